@@ -1,0 +1,12 @@
+use Rattle.std.proofs.Common.{rules}
+use Rattle.dn_base.proofs.Told.{Added-tail, Added-front}
+use Rattle.dn_base.proofs.whole.write_whole.Goals as goal
+
+pub loop-at-preserved : goal.loop-at-preserved
+loop-at-preserved g c = record {
+  within = search rules;
+  added = Added-tail _ _ _ _ _ _ c.loop-at.invariant.added c.in_ok-at.ensures.added;
+  never_falls = search rules;
+  same_sure = search rules;
+  steady = search rules;
+}

@@ -1,0 +1,31 @@
+use Rattle.std.specs.Prelude.{ℕ, ◌+◌, ◌-◌, ◌^◌, List, [], ◌∷◌, Bool, true, false, nat_lt, if◌then◌else◌, Result, Ok, Err}
+use Rattle.dn_base.specs.declared.sink.WriteFault.{WriteFault}
+use Rattle.dn_base.specs.declared.sink.WriteFault.TheVariants.{Failed, OutOfMemory}
+
+-- bytes in memory: what is left, at most how many a call gives, the number of the next call, the faults, and which calls fail
+pub record SourceState : Type 0 where
+  pub left : List ℕ
+  pub most : ℕ
+  pub call : ℕ
+  pub faults : ℕ
+  pub failing : List ℕ
+
+-- the number of a call stays at its last value
+abbrev pub next_call : ℕ → ℕ
+next_call n = if nat_lt n (2 ^ 64 - 1) then n + 1 else n
+
+abbrev pub is_nil : List ℕ → Bool
+is_nil [] = true
+is_nil (x ∷ xs) = false
+
+-- a sink in memory: what was written, the number of the next call, the faults, and which calls fail
+pub record SinkState : Type 0 where
+  pub written : List ℕ
+  pub call : ℕ
+  pub faults : ℕ
+  pub failing : List ℕ
+
+-- a write failed by a fault
+abbrev pub is_fault : Result ℕ WriteFault → Bool
+is_fault (Err Failed) = true
+is_fault _ = false

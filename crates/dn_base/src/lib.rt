@@ -1,0 +1,20 @@
+//! The outside of the program, as traits whose meanings contracts can name, and the small list and
+//! text types that all crates share.
+//!
+//! A [`source::Source`] gives bytes and a [`sink::Sink`] takes them. Each tells a contract what it has
+//! left or what it holds, where it can, and counts its faults; an answer that is a fault comes only
+//! where that count rose. [`memory`] has both in memory, with a list of calls that fail, [`streams`]
+//! has both over the system's readers and writers, and [`whole`] reads a whole text and writes one.
+#![tactic(auto)]
+
+pub mod items;
+pub mod memory;
+pub mod sink;
+pub mod source;
+pub mod streams;
+#[cfg(test)]
+mod tests;
+pub mod text;
+pub mod whole;
+
+pub use std::alloc::AllocError as OutOfMemory;
