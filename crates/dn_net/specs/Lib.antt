@@ -1,0 +1,5 @@
+pub mod Chain
+pub mod Decode
+pub mod Names
+pub mod Parts
+pub mod Rules

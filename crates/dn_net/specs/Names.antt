@@ -1,0 +1,55 @@
+-- Sets of names as ascending lists, and the names that a name comes to.
+use Rattle.std.specs.Prelude.{ℕ, zero, suc, Bool, if◌then◌else◌, ◌&&◌, ◌||◌, nat_lt, ◌==◌, List, [], ◌∷◌, ◌++◌, ◌↔◌}
+use Rattle.dn_net.specs.declared.node.Name.{Name}
+use Rattle.dn_net.specs.declared.node.NodeDecl.{NodeDecl}
+use Rattle.dn_net.specs.Chain.{Member, Chain}
+use Rattle.dn_net.specs.Decode.{is_accepted, steps, step_limit, Step, Resolves}
+
+-- names are ordered by node, and then by address
+abbrev pub name_lt : Name → Name → Bool
+name_lt x y = nat_lt x.node y.node || ((x.node == y.node) && nat_lt x.addr y.addr)
+
+abbrev pub name_eq : Name → Name → Bool
+name_eq x y = (x.node == y.node) && (x.addr == y.addr)
+
+-- the name put into an ascending list, which it leaves as it is where it is there
+abbrev pub with_name : Name → List Name → List Name
+with_name x [] = x ∷ []
+with_name x (y ∷ ys) = if name_lt x y then x ∷ (y ∷ ys) else (if name_eq x y then y ∷ ys else y ∷ with_name x ys)
+
+-- the names of a list, ascending and each once
+abbrev pub sorted_names : List Name → List Name
+sorted_names [] = []
+sorted_names (x ∷ xs) = with_name x (sorted_names xs)
+
+-- the names of a list that pass a test
+abbrev pub passing : (Name → Bool) → List Name → List Name
+passing p [] = []
+passing p (x ∷ xs) = if p x then x ∷ passing p xs else passing p xs
+
+-- the names one step on from those of a list
+abbrev pub each_step : (Name → List Name) → List Name → List Name
+each_step f [] = []
+each_step f (x ∷ xs) = f x ++ each_step f xs
+
+-- the names that are reached in exactly so many steps
+abbrev pub after_steps : (Name → List Name) → ℕ → List Name → List Name
+after_steps f zero xs = xs
+after_steps f (suc n) xs = after_steps f n (each_step f xs)
+
+-- the names that are reached in at most so many steps
+abbrev pub reached : (Name → List Name) → ℕ → List Name → List Name
+reached f zero xs = xs
+reached f (suc n) xs = xs ++ reached f n (each_step f xs)
+
+-- what a name resolves to, ascending
+abbrev pub resolved : List NodeDecl → Name → List Name
+resolved net x = sorted_names (passing (is_accepted net) (reached (steps net) step_limit (x ∷ [])))
+
+-- The list has exactly the names of the resolution.
+abbrev pub ResolvedIsResolution : Type 0
+ResolvedIsResolution = (net : List NodeDecl) (x y : Name) → Member y (resolved net x) ↔ Resolves net x y
+
+-- The names that are reached in exactly so many steps are the ends of the chains of that length.
+abbrev pub ReachedIsChain : Type 0
+ReachedIsChain = (net : List NodeDecl) (n : ℕ) (x y : Name) → Member y (after_steps (steps net) n (x ∷ [])) ↔ Chain (Step net) n x y

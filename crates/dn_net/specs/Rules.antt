@@ -1,0 +1,117 @@
+-- The node rules, each as a test of one node, and the first that a net breaks.
+use Rattle.std.specs.Prelude.{◌≡◌, ℕ, zero, suc, ◌+◌, ◌-◌, ◌≤◌, Bool, true, false, if◌then◌else◌, ◌&&◌, ◌||◌, not, nat_le, nat_lt, ◌==◌, List, [], ◌∷◌, ◌++◌, map, length, filter, count_by, Option, Some, None, IsSome, IsTrue}
+use Rattle.std.specs.List.{list_all, list_any}
+use Rattle.std.specs.Option.{is_some}
+use Rattle.dn_net.specs.declared.node.Block.{Block}
+use Rattle.dn_net.specs.declared.node.Dest.{Dest}
+use Rattle.dn_net.specs.declared.node.Entry.{Entry}
+use Rattle.dn_net.specs.declared.node.Role.{Role}
+use Rattle.dn_net.specs.declared.node.Role.TheVariants.{Plain, Agent, Vectors, Unit as UnitRole}
+use Rattle.dn_net.specs.declared.node.Unit.{Unit as UnitPart}
+use Rattle.dn_net.specs.declared.node.NodeDecl.{NodeDecl}
+use Rattle.dn_net.specs.declared.rules.NodeFault.{NodeFault}
+use Rattle.dn_net.specs.declared.rules.NodeFault.TheVariants.{Range, Overlap, Repeat, VectorSpace, OutOfMemory}
+use Rattle.dn_net.specs.Decode.{top, within, in_some_block}
+
+-- Range: a block runs from its first address to its last, at or below the top, and so do the addresses to which it is sent.
+abbrev pub block_in_range : Block → Bool
+block_in_range b = nat_le b.lo b.hi && nat_le b.hi top
+
+abbrev pub dest_in_range : Block → Dest → Bool
+dest_in_range b d = nat_le (d.addr + (b.hi - b.lo)) top
+
+abbrev pub entry_in_range : Entry → Bool
+entry_in_range e = block_in_range e.block && list_all (dest_in_range e.block) e.dests
+
+abbrev pub is_in_range : NodeDecl → Bool
+is_in_range n = list_all block_in_range n.accepts && list_all entry_in_range n.entries
+
+-- Overlap: the address lies in two map blocks, or in a map block and an accept block.
+abbrev pub map_blocks_at : NodeDecl → ℕ → ℕ
+map_blocks_at n a = count_by (λ e. within a e.block) n.entries
+
+abbrev pub overlaps : NodeDecl → ℕ → Bool
+overlaps n a = nat_lt 1 (map_blocks_at n a) || (nat_lt 0 (map_blocks_at n a) && in_some_block a n.accepts)
+
+-- the first addresses of the blocks
+abbrev pub firsts : NodeDecl → List ℕ
+firsts n = map (λ e. e.block.lo) n.entries ++ map (λ b. b.lo) n.accepts
+
+abbrev pub lesser : ℕ → Option ℕ → Option ℕ
+lesser a None = Some a
+lesser a (Some b) = Some (if nat_le a b then a else b)
+
+abbrev pub least : List ℕ → Option ℕ
+least [] = None
+least (a ∷ as') = lesser a (least as')
+
+-- the least address that overlaps: it is the first address of a block
+abbrev pub least_overlap : NodeDecl → Option ℕ
+least_overlap n = least (filter (overlaps n) (firsts n))
+
+-- an address overlaps, and none below it does
+pub record IsLeastOverlap (n : NodeDecl) (a : ℕ) : Type 0 where
+  pub overlap : overlaps n a ≡ true
+  pub none_less : (b : ℕ) → overlaps n b ≡ true → a ≤ b
+
+-- `least_overlap` is the least address that overlaps, where there is one.
+abbrev pub LeastOverlapIsLeast : Type 0
+LeastOverlapIsLeast = (n : NodeDecl) → ((a : ℕ) → least_overlap n ≡ Some a → IsLeastOverlap n a) × ((a : ℕ) → overlaps n a ≡ true → IsSome (least_overlap n))
+
+-- Repeat: an entry has two equal destinations, or a unit names a port twice.
+abbrev pub same_dest : Dest → Dest → Bool
+same_dest d e = (d.node == e.node) && (d.addr == e.addr)
+
+abbrev pub dests_repeat : List Dest → Bool
+dests_repeat [] = false
+dests_repeat (d ∷ ds) = list_any (same_dest d) ds || dests_repeat ds
+
+abbrev pub ports_repeat : List ℕ → Bool
+ports_repeat [] = false
+ports_repeat (p ∷ ps) = list_any (λ q. p == q) ps || ports_repeat ps
+
+abbrev pub unit_repeats : Option UnitPart → Bool
+unit_repeats None = false
+unit_repeats (Some u) = ports_repeat u.ports
+
+abbrev pub repeats : NodeDecl → Bool
+repeats n = list_any (λ e. dests_repeat e.dests) n.entries || unit_repeats n.unit
+
+-- VectorSpace: a `vectors` node has a map or an `over`, or accepts more than 4,096 different addresses.
+-- how many of the first so many addresses pass a test; no proof unfolds it at a numeral
+unfoldable pub count_below : (ℕ → Bool) → ℕ → ℕ
+count_below p zero = 0
+count_below p (suc k) = count_below p k + (if p k then 1 else 0)
+
+abbrev pub is_vectors : Role → Bool
+is_vectors Vectors = true
+is_vectors Plain = false
+is_vectors Agent = false
+is_vectors UnitRole = false
+
+-- how many addresses the node accepts
+abbrev pub accepted_count : NodeDecl → ℕ
+accepted_count n = count_below (λ a. in_some_block a n.accepts) (top + 1)
+
+abbrev pub passes_vector_space : NodeDecl → Bool
+passes_vector_space n = not (is_vectors n.role) || ((nat_le (length n.entries) 0 && not (is_some n.over)) && nat_le (accepted_count n) 4096)
+
+-- the first rule that the node of this number breaks
+abbrev pub later_fault : ℕ → NodeDecl → Option ℕ → Option NodeFault
+later_fault number n (Some a) = Some (Overlap number a)
+later_fault number n None = if repeats n then Some (Repeat number) else (if passes_vector_space n then None else Some (VectorSpace number))
+
+abbrev pub fault_of_node : ℕ → NodeDecl → Option NodeFault
+fault_of_node number n = if is_in_range n then later_fault number n (least_overlap n) else Some (Range number)
+
+abbrev pub first_fault : Option NodeFault → Option NodeFault → Option NodeFault
+first_fault (Some f) g = Some f
+first_fault None g = g
+
+abbrev pub node_fault_from : ℕ → List NodeDecl → Option NodeFault
+node_fault_from number [] = None
+node_fault_from number (n ∷ ns) = first_fault (fault_of_node number n) (node_fault_from (number + 1) ns)
+
+-- the first node rule that is broken, node by node
+abbrev pub node_fault : List NodeDecl → Option NodeFault
+node_fault net = node_fault_from 0 net

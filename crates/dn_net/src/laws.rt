@@ -1,0 +1,19 @@
+//! Laws on the definitions of the net, each the contract of a function that does nothing.
+
+ghost use Rattle.dn_net.specs.Names.{ResolvedIsResolution, ReachedIsChain};
+ghost use Rattle.dn_net.specs.Rules.{LeastOverlapIsLeast};
+
+/// The list of the names that a name resolves to has exactly the names of its resolution.
+pub fn resolved_is_resolution()
+    ensures { ResolvedIsResolution }
+{}
+
+/// The names reached in a number of steps are the ends of the chains of that many steps.
+pub fn reached_is_chain()
+    ensures { ReachedIsChain }
+{}
+
+/// The least overlap is the least address that lies in two map blocks, or in a map block and an accept block.
+pub fn least_overlap_is_least()
+    ensures { LeastOverlapIsLeast }
+{}

@@ -1,0 +1,13 @@
+//! The decoding net: nodes that accept addresses and translate others to names of other nodes.
+//!
+//! A name is a node and an address. [`net::Net`] keeps the nodes and their full names,
+//! [`step`] decodes one name by one step, and [`rules`] has the rules of a node.
+#![tactic(auto)]
+
+pub mod laws;
+pub mod net;
+pub mod node;
+pub mod rules;
+pub mod step;
+
+pub use dn_base::OutOfMemory;

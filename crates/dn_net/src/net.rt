@@ -1,0 +1,166 @@
+//! The nodes of a net, with their full names and numbers.
+
+ghost use Rattle.std.specs.Prelude.{◌≡◌, ◌≢◌, ◌↔◌, [], ◌∷◌, ◌++◌, OnOk, OnErr, IfOk, IfErr, Err, length, slice_get, map, option_map, position, false, true, Some, None, ◌<◌, ℕ, IsTrue, Option};
+ghost use Rattle.std.specs.List.{list_any, list_all};
+ghost use Rattle.std.specs.Str.{bytes_eq};
+ghost use Rattle.std.specs.Option.{option_copied};
+ghost use Rattle.dn_net.specs.Decode.{is_formed};
+
+use crate::node::{Block, Dest, Entry, NodeDecl, Role, Unit};
+use dn_base::items::Items;
+use indexmap::IndexMap;
+use std::alloc::{AllocError, Global};
+use std::marker::Model;
+
+/// What a net keeps of a node beside its full name.
+#[derive(Drop)]
+pub struct Parts {
+    role: Role,
+    accepts: Items<Block>,
+    entries: Items<Entry>,
+    /// The node that serves the rest, as a destination at address 0.
+    over: Option<Dest>,
+    unit: Option<Unit>,
+}
+
+/// A decoding net: up to 1,024 nodes, numbered from 0 in the order in which they were added.
+/// Contracts see the list of their declarations.
+#[derive(Drop)]
+pub struct Net {
+    nodes: IndexMap<String, Parts>,
+}
+
+impl Model for Net {
+    ghost use Rattle.std.specs.Prelude.{List, ◌<◌, ◌≤◌, length, map, IsTrue};
+    ghost use Rattle.std.specs.List.{list_all};
+    ghost use Rattle.dn_net.specs.Decode.{is_formed};
+    ghost use Rattle.std.specs.String.{string_bytes};
+    ghost use Rattle.dn_net.specs.declared.node.NodeDecl.{NodeDecl};
+    ghost use Rattle.dn_net.specs.Parts.{declared_by};
+
+    ghost Value = { List NodeDecl };
+
+    ghost view = { λ n. map (declared_by (λ s. string_bytes s)) n.nodes.entries };
+
+    ghost invariant = { λ n. record { small : length n.nodes.entries ≤ 1024; formed : IsTrue (list_all is_formed (map (declared_by (λ s. string_bytes s)) n.nodes.entries)) } };
+}
+
+impl Net {
+    /// The empty net, which takes no memory.
+    pub fn new(alloc: Global) -> Net
+        ensures { result ≡ [] }
+    {
+        Net {
+            nodes: IndexMap::new(alloc),
+        }
+    }
+
+    /// Adds a node and answers its number. For want of memory the net is unchanged.
+    pub fn add(&mut self, decl: NodeDecl) -> Result<u16, AllocError>
+        requires room { length self.old < 1024 }
+        requires formed { IsTrue (is_formed decl) }
+        requires new_name { list_any (λ d. bytes_eq decl.text d.text) self.old ≡ false }
+        ensures ok { IfOk result (λ n. (n ≡ length self.old) × (self.new ≡ self.old ++ decl ∷ [])) }
+        ensures err { OnErr result (self.new ≡ self.old) }
+    {
+        let number = self.nodes();
+        let NodeDecl {
+            text,
+            role,
+            accepts,
+            entries,
+            over,
+            unit,
+        } = decl;
+        let over = over.map(|node| Dest { node, addr: 0 });
+        let parts = Parts {
+            role,
+            accepts,
+            entries,
+            over,
+            unit,
+        };
+        let _ = self.nodes.insert(text.into_string(), parts)?;
+        Ok(number)
+    }
+
+    /// How many nodes there are.
+    pub fn nodes(&self) -> u16
+        ensures { result ≡ length self.now }
+    {
+        self.nodes.len() as u16
+    }
+
+    /// The number of the node with this full name. `None` exactly where there is none.
+    pub fn find(&self, text: &str) -> Option<u16>
+        ensures { result ≡ position (λ d. bytes_eq text.now d.text) self.now }
+    {
+        match self.nodes.get_index_of(text) {
+            Some(number) => Some(number as u16),
+            None => None,
+        }
+    }
+
+    /// The role of a node.
+    pub fn role(&self, node: u16) -> Role
+        requires { node < length self.now }
+        ensures { option_map (λ d. d.role) (slice_get self.now node) ≡ Some result }
+    {
+        self.parts(node).role
+    }
+
+    /// The full name of a node.
+    pub fn text(&self, node: u16) -> &str
+        requires { node < length self.now }
+        ensures { option_map (λ d. d.text) (slice_get self.now node) ≡ Some result.now }
+    {
+        match self.nodes.get_index(usize::from(node)) {
+            Some((text, _)) => text.as_str(),
+            None => unreachable!(),
+        }
+    }
+
+    /// The accept blocks of a node.
+    pub fn accepts(&self, node: u16) -> &[Block]
+        requires { node < length self.now }
+        ensures { option_map (λ d. d.accepts) (slice_get self.now node) ≡ Some result.now }
+    {
+        self.parts(node).accepts.as_slice()
+    }
+
+    /// The map entries of a node.
+    pub fn entries(&self, node: u16) -> &[Entry]
+        requires { node < length self.now }
+        ensures { option_map (λ d. d.entries) (slice_get self.now node) ≡ Some result.now }
+    {
+        self.parts(node).entries.as_slice()
+    }
+
+    /// The node that serves what a node neither accepts nor maps. `None` exactly where it has no `over`.
+    pub fn over(&self, node: u16) -> Option<u16>
+        requires { node < length self.now }
+        ensures { option_map (λ d. d.over) (slice_get self.now node) ≡ Some result }
+    {
+        match self.parts(node).over {
+            Some(dest) => Some(dest.node),
+            None => None,
+        }
+    }
+
+    /// The unit that a node is. `None` exactly where it is no unit.
+    pub fn unit(&self, node: u16) -> Option<&Unit>
+        requires { node < length self.now }
+        ensures { option_map (λ d. d.unit) (slice_get self.now node) ≡ Some (option_copied result) }
+    {
+        self.parts(node).unit.as_ref()
+    }
+
+    fn parts(&self, node: u16) -> &Parts
+        requires { node < length self.now }
+    {
+        match self.nodes.get_index(usize::from(node)) {
+            Some((_, parts)) => parts,
+            None => unreachable!(),
+        }
+    }
+}
