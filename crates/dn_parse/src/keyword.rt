@@ -1,9 +1,15 @@
 //! The reserved words by their spellings.
 
+ghost use Rattle.std.specs.Prelude.{◌≡◌, length};
+ghost use Rattle.dn_parse.specs.Token.{reserved};
+ghost use Rattle.dn_parse.specs.Lexing.{keyword_among, of_length, reserved_word};
+
 use crate::token::Keyword;
 
 /// The reserved word that a word is, if it is one.
-pub fn keyword_of(word: &str) -> Option<Keyword> {
+pub fn keyword_of(word: &str) -> Option<Keyword>
+    ensures { result ≡ reserved_word word.now }
+{
     match word.len() {
         2 => of_two(word),
         3 => of_three(word),
@@ -15,7 +21,9 @@ pub fn keyword_of(word: &str) -> Option<Keyword> {
     }
 }
 
-fn of_two(word: &str) -> Option<Keyword> {
+fn of_two(word: &str) -> Option<Keyword>
+    ensures { result ≡ keyword_among (of_length 2 reserved) word.now }
+{
     match word {
         "in" => Some(Keyword::In),
         "is" => Some(Keyword::Is),
@@ -26,7 +34,9 @@ fn of_two(word: &str) -> Option<Keyword> {
     }
 }
 
-fn of_three(word: &str) -> Option<Keyword> {
+fn of_three(word: &str) -> Option<Keyword>
+    ensures { result ≡ keyword_among (of_length 3 reserved) word.now }
+{
     match word {
         "use" => Some(Keyword::Use),
         "for" => Some(Keyword::For),
@@ -38,7 +48,9 @@ fn of_three(word: &str) -> Option<Keyword> {
     }
 }
 
-fn of_four(word: &str) -> Option<Keyword> {
+fn of_four(word: &str) -> Option<Keyword>
+    ensures { result ≡ keyword_among (of_length 4 reserved) word.now }
+{
     match word {
         "unit" => Some(Keyword::Unit),
         "over" => Some(Keyword::Over),
@@ -51,7 +63,9 @@ fn of_four(word: &str) -> Option<Keyword> {
     }
 }
 
-fn of_five(word: &str) -> Option<Keyword> {
+fn of_five(word: &str) -> Option<Keyword>
+    ensures { result ≡ keyword_among (of_length 5 reserved) word.now }
+{
     match word {
         "agent" => Some(Keyword::Agent),
         "begin" => Some(Keyword::Begin),
@@ -64,7 +78,9 @@ fn of_five(word: &str) -> Option<Keyword> {
     }
 }
 
-fn of_six(word: &str) -> Option<Keyword> {
+fn of_six(word: &str) -> Option<Keyword>
+    ensures { result ≡ keyword_among (of_length 6 reserved) word.now }
+{
     match word {
         "module" => Some(Keyword::Module),
         "accept" => Some(Keyword::Accept),
@@ -75,7 +91,9 @@ fn of_six(word: &str) -> Option<Keyword> {
     }
 }
 
-fn of_seven(word: &str) -> Option<Keyword> {
+fn of_seven(word: &str) -> Option<Keyword>
+    ensures { result ≡ keyword_among (of_length 7 reserved) word.now }
+{
     match word {
         "vectors" => Some(Keyword::Vectors),
         "resolve" => Some(Keyword::Resolve),

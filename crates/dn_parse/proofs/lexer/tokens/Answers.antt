@@ -1,0 +1,34 @@
+use Rattle.std.proofs.Common.{◌≡◌, ◌∙◌, ap, sym, subst, rules, tests, true, false, [], ◌∷◌, ◌++◌, map, List}
+use Rattle.std.proofs.lemmas.List.{map-append}
+use Rattle.dn_parse.specs.Token.{Token, is_line_feed, is_blank}
+use Rattle.dn_parse.specs.Lexing.{token_of, begins_comment}
+use Rattle.dn_parse.proofs.Lexed.{Before, at_same, at_start, at_line, at_blank, at_comment, at_token, at_bad, at_end}
+use Rattle.dn_parse.proofs.lexer.tokens.Goals as goal
+
+pub text-init : goal.text-init
+text-init c =
+    let none : [] ≡ map token_of c.new-found.result.items = search rules in
+    subst (λ (found : List Token). Before c.args.text.now found 1 c.args.text.now) none (at_start c.args.text.now)
+
+pub text-preserved-then-byte-eq10 : goal.text-preserved-then-byte-eq10
+text-preserved-then-byte-eq10 c =
+    let line : is_line_feed c.in-Some.byte ≡ true = search (rules, tests) in
+    at_line (at_same c.text.invariant c.in-Some.ensures) line
+
+pub text-preserved-then-is_blank : goal.text-preserved-then-is_blank
+text-preserved-then-is_blank c =
+    let no_line : is_line_feed c.in-Some.byte ≡ false = search (rules, tests) in
+    let blank : is_blank c.in-Some.byte ≡ true = search rules in
+    at_blank (at_same c.text.invariant c.in-Some.ensures) no_line blank
+
+pub text-preserved-then-is_comment : goal.text-preserved-then-is_comment
+text-preserved-then-is_comment c = ?
+
+pub returns-in_default-front-clause-err : goal.returns-in_default-front-clause-err
+returns-in_default-front-clause-err c = ?
+
+pub text-preserved : goal.text-preserved
+text-preserved c = ?
+
+pub returns-clause-ok : goal.returns-clause-ok
+returns-clause-ok c = ?
