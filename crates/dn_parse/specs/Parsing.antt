@@ -3,8 +3,15 @@ use Rattle.std.specs.Prelude.{◌≡◌, List, map, Option, Some, None, Result, 
 use Rattle.dn_parse.specs.declared.token.Token.{Token as CodeToken}
 use Rattle.dn_parse.specs.declared.parser.ParseFault.{ParseFault}
 use Rattle.dn_parse.specs.declared.parser.ParseFault.TheVariants.{Form, OutOfMemory}
+use Rattle.dn_parse.specs.declared.lexer.TokenFault.{TokenFault}
+use Rattle.dn_parse.specs.declared.lexer.TokenFault.TheVariants.{Bad, OutOfMemory as TokenMemory}
 use Rattle.dn_parse.specs.Token.{Lexeme}
 use Rattle.dn_parse.specs.Lexing.{lexeme_of}
+
+-- the fault of the parser that a fault of the tokenizer is
+abbrev pub fault_of : TokenFault → ParseFault
+fault_of (Bad line) = Form
+fault_of TokenMemory = OutOfMemory
 
 -- the lexemes of tokens
 abbrev pub seen : List CodeToken → List Lexeme

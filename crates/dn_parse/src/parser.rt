@@ -34,6 +34,11 @@ impl From<AllocError> for ParseFault {
 }
 
 impl From<TokenFault> for ParseFault {
+    ghost use Rattle.std.specs.Prelude.{◌≡◌};
+    ghost use Rattle.dn_parse.specs.Parsing.{fault_of};
+
+    ghost from_gives = { λ f e. e ≡ fault_of f };
+
     fn from(fault: TokenFault) -> ParseFault {
         match fault {
             TokenFault::Bad { .. } => ParseFault::Form,
@@ -83,7 +88,11 @@ fn nodes<'a>(alloc: Global, tokens: &'a [Token<'a>]) -> Read<'a, Items<Decl>>
     ensures { Gives (λ p. (p.0, seen p.1.now)) result (row_at next_node_at (seen tokens.now)) }
 {
     let mut nodes = Items::new(alloc);
-    let mut rest = tokens;
+    let Some((first, after)) = next_node(alloc, tokens)? else {
+        return Ok((nodes, tokens));
+    };
+    nodes.push(first)?;
+    let mut rest = after;
     'nodes: while let Some((node, after)) = next_node(alloc, rest)? {
         nodes.push(node)?;
         rest = after;
@@ -113,23 +122,14 @@ fn commands<'a>(alloc: Global, tokens: &'a [Token<'a>]) -> Result<Items<Cmd>, Pa
     if is_end(tokens) {
         return Ok(Items::new(alloc));
     }
-    let rest = keyword(tokens, Keyword::Begin)?;
-    let rest = sign(rest, Sign::Semicolon)?;
-    let (commands, _) = all_commands(alloc, rest)?;
-    Ok(commands)
-}
-
-/// `{ command ";" }`
-fn all_commands<'a>(alloc: Global, tokens: &'a [Token<'a>]) -> Read<'a, Items<Cmd>>
-    ensures { Gives (λ p. (p.0, seen p.1.now)) result (row_at next_command_at (seen tokens.now)) }
-{
+    let after = keyword(tokens, Keyword::Begin)?;
+    let mut rest = sign(after, Sign::Semicolon)?;
     let mut commands = Items::new(alloc);
-    let mut rest = tokens;
     'commands: while let Some((command, after)) = next_command(alloc, rest)? {
         commands.push(command)?;
         rest = after;
     }
-    Ok((commands, rest))
+    Ok(commands)
 }
 
 /// `[ command ";" ]`, where nothing but a command may come
@@ -216,7 +216,7 @@ fn blocks<'a>(alloc: Global, tokens: &'a [Token<'a>]) -> Read<'a, Items<BlockExp
     let mut blocks = Items::new(alloc);
     blocks.push(first)?;
     let mut rest = after;
-    'blocks: while let Some((block, after)) = next_block(rest)? {
+    'parts: while let Some((block, after)) = next_block(rest)? {
         blocks.push(block)?;
         rest = after;
     }
