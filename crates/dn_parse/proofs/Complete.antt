@@ -1,7 +1,7 @@
 -- Each spelling is read, as the value that it spells.
-use Rattle.std.proofs.Common.{◌≡◌, ◌∙◌, ap, refl, sym, subst, ℕ, zero, suc, ◌+◌, ◌<◌, ◌≤◌, Bool, true, false, List, [], ◌∷◌, ◌++◌, length, Option, Some, None, if◌then◌else◌, inl, inr, arith}
-use Rattle.dn_parse.specs.declared.token.Keyword.TheVariants.{Agent, Begin, Is, Accept, Map, To, At, Over, Resolve}
-use Rattle.dn_parse.specs.declared.token.Sign.TheVariants.{Semicolon, Comma, OpenBracket, CloseBracket, Minus}
+use Rattle.std.proofs.Common.{◌≡◌, ◌∙◌, ap, refl, sym, ℕ, zero, suc, ◌<◌, ◌≤◌, Bool, true, false, List, [], ◌∷◌, length, Option, Some, None, if◌then◌else◌, inl, inr, arith}
+use Rattle.dn_parse.specs.declared.token.Keyword.TheVariants.{Begin, Is, Accept, Map, To, At, Over, Resolve}
+use Rattle.dn_parse.specs.declared.token.Sign.TheVariants.{Semicolon, Comma, CloseBracket, Minus}
 use Rattle.dn_parse.specs.declared.tree.Decl.{Decl}
 use Rattle.dn_parse.specs.declared.tree.BlockExpr.{BlockExpr}
 use Rattle.dn_parse.specs.declared.tree.EntryExpr.{EntryExpr}
@@ -9,7 +9,7 @@ use Rattle.dn_parse.specs.declared.tree.Cmd.{Cmd}
 use Rattle.dn_parse.specs.declared.tree.Tree.{Tree}
 use Rattle.dn_parse.specs.Token.{Lexeme, word, keyword, number, sign}
 use Rattle.dn_parse.specs.Grammar.{spell_upto, spell_block, spell_at, spell_entry, spell_more_blocks, spell_accept, spell_more_entries, spell_map, spell_over, spell_agent, spell_node, spell_nodes, spell_commands, Spells}
-use Rattle.dn_parse.specs.Parts.{◌>>=◌, optional, after, after_sign, after_keyword, word_at, number_at, is_end, with_front, row_from, row, row_at, upto_at, block_at, next_block_at, blocks_at, bracketed, accept_at, addr_at, entry_at, next_entry_at, entries_at, map_at, over_at, agent_from, agent_at, node_at, begins_node, next_node_at, command_at, next_command_at, commands_at}
+use Rattle.dn_parse.specs.Parts.{◌>>=◌, optional, after_sign, after_keyword, word_at, number_at, is_end, with_front, row_from, row, row_at, upto_at, block_at, next_block_at, blocks_at, bracketed, accept_at, addr_at, entry_at, next_entry_at, entries_at, map_at, over_at, agent_at, node_at, begins_node, next_node_at, command_at, next_command_at, commands_at}
 use Rattle.dn_parse.specs.Reading.{tree_of}
 use Rattle.dn_parse.proofs.Sound.{rows, then_semicolon}
 

@@ -1,5 +1,5 @@
 -- The loop of the tokenizer: the tokens so far, and what the rest of the text adds to them.
-use Rattle.std.proofs.Common.{◌≡◌, ◌∙◌, ap, refl, sym, subst, ℕ, zero, suc, ◌+◌, ◌<◌, ◌≤◌, Bool, true, false, ◌&&◌, not, List, [], ◌∷◌, ◌++◌, length, length-drop, map, Result, Ok, Err, append_assoc, append-nil, arith}
+use Rattle.std.proofs.Common.{◌≡◌, ◌∙◌, ap, refl, sym, subst, ℕ, zero, suc, ◌+◌, ◌<◌, ◌≤◌, true, false, ◌&&◌, not, List, [], ◌∷◌, ◌++◌, length, length-drop, Result, Ok, Err, append_assoc, append-nil, arith}
 use Rattle.std.specs.List.{prefix_len}
 use Rattle.dn_parse.specs.Token.{Lexeme, Token, Front, taken, bad, tokens, tokens_from, with_token, then_tokens, front, is_line_feed, is_blank, is_slash, begins_with, after_comment}
 use Rattle.dn_parse.specs.Lexing.{begins_comment}
@@ -66,8 +66,10 @@ pub at_token : {text : List ℕ} {found : List Token} {line b : ℕ} {s rest : L
 at_token {text} {found} {line} {b} {s} {rest} {l} before no_line no_blank no_comment is shorter = go before.fuel before.enough before.read where
   t : Token
   t = record { lexeme = l; line = line }
+
   turn : (n : ℕ) → tokens_from (suc n) line (b ∷ s) ≡ with_token (record { lexeme = l; line = line }) (tokens_from n line rest)
   turn n = turn_front n line b s no_line no_blank no_comment ∙ ap (λ (f : Front). then_tokens line f (tokens_from n line)) is
+
   go : (n : ℕ) → length (b ∷ s) < n → tokens text ≡ with_tokens found (tokens_from n line (b ∷ s)) → Before text (found ++ record { lexeme = l; line = line } ∷ []) line rest
   go zero lt e = absurd (omega (arith, lt))
   go (suc n) lt e = record { fuel = n; enough = omega (arith, lt, shorter); read = e ∙ ap (with_tokens found) (turn n) ∙ with_one found (record { lexeme = l; line = line }) (tokens_from n line rest); lines = omega (arith, shorter, before.lines) }

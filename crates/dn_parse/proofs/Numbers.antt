@@ -1,10 +1,10 @@
 -- Numbers: what a digit more makes of the number so far.
-use Rattle.std.proofs.Common.{◌≡◌, ◌∙◌, ap, refl, sym, ℕ, ◌+◌, ◌*◌, ◌^◌, ◌<◌, ◌≤◌, Bool, true, false, List, [], ◌∷◌, length, get_or, drop, suc, Option, Some, None, nat_lt, arith, rules, tests}
+use Rattle.std.proofs.Common.{◌≡◌, ◌∙◌, ap, refl, ℕ, ◌+◌, ◌*◌, ◌^◌, ◌<◌, ◌≤◌, List, [], ◌∷◌, length, get_or, drop, suc, Option, Some, None, arith}
 use Rattle.std.proofs.Math.Nat.{mul-le-mul_right}
 use Rattle.std.proofs.lemmas.Bool.{le-ltb, lt-ltb}
 use Rattle.std.proofs.lemmas.List.{drop_all}
 use Rattle.std.proofs.Math.Seq.{drop-cons}
-use Rattle.dn_parse.specs.Token.{spelled_from, next_value, with_digit, fitting, digits_number}
+use Rattle.dn_parse.specs.Token.{spelled_from, with_digit, fitting, digits_number}
 
 -- no number comes back
 none_stays : (base : ℕ) (value : ℕ → Option ℕ) (s : List ℕ) → spelled_from base value None s ≡ None
@@ -50,5 +50,5 @@ stopped base value s n i some within before stop =
 pub finished : (base : ℕ) (value : ℕ → Option ℕ) (s : List ℕ) (n i : ℕ) → 0 < length s → length s ≤ i → n < 2 ^ 64 → fitting (spelled_from base value (Some 0) s) ≡ fitting (spelled_from base value (Some n) (drop i s)) → fitting (digits_number base value s) ≡ Some n
 finished base value s n i some past fits before =
     ap fitting (some_digits base value s some) ∙ before ∙ ap (λ (t : List ℕ). fitting (spelled_from base value (Some n) t)) (drop_all i s past) ∙ fits_is n fits where
-  fits_is : (m : ℕ) → m < 2 ^ 64 → fitting (Some m) ≡ Some m
-  fits_is m fits = let e = lt-ltb m (2 ^ 64) fits in rw e refl
+      fits_is : (m : ℕ) → m < 2 ^ 64 → fitting (Some m) ≡ Some m
+      fits_is m fits = let e = lt-ltb m (2 ^ 64) fits in rw e refl

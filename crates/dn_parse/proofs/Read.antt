@@ -1,5 +1,5 @@
 -- A text is read by its length, its tokens, and then its tree.
-use Rattle.std.proofs.Common.{◌≡◌, ◌∙◌, ap, refl, sym, ℕ, ◌<◌, ◌≤◌, nat_le, List, [], ◌∷◌, length, map, Option, Some, None, Result, Ok, Err, IfOk, IsErrOf}
+use Rattle.std.proofs.Common.{◌≡◌, ◌∙◌, ap, refl, ℕ, ◌<◌, ◌≤◌, List, [], ◌∷◌, length, map, Option, Some, None, Result, Ok, Err, IfOk}
 use Rattle.std.proofs.lemmas.Bool.{le-leb, lt-leb}
 use Rattle.dn_parse.specs.declared.lexer.TokenFault.{TokenFault}
 use Rattle.dn_parse.specs.declared.lexer.TokenFault.TheVariants.{Bad, OutOfMemory as TokenMemory}
@@ -7,7 +7,7 @@ use Rattle.dn_parse.specs.declared.parser.ParseFault.{ParseFault}
 use Rattle.dn_parse.specs.declared.parser.ParseFault.TheVariants.{Form, OutOfMemory}
 use Rattle.dn_parse.specs.declared.token.Token.{Token as CodeToken}
 use Rattle.dn_parse.specs.declared.tree.Tree.{Tree}
-use Rattle.dn_parse.specs.Token.{Lexeme, Token, tokens}
+use Rattle.dn_parse.specs.Token.{Lexeme, tokens}
 use Rattle.dn_parse.specs.Lexing.{token_of, IsFaultOf}
 use Rattle.dn_parse.specs.Parsing.{seen, fault_of, Gives}
 use Rattle.dn_parse.specs.Reading.{tree_of, tree_of_tokens, read_of}
@@ -39,3 +39,10 @@ pub gives_form : (r : Result Tree ParseFault) (text : List ℕ) (o : Option Tree
 gives_form (Ok t) text o e is form = cc
 gives_form (Err Form) text o e is form = e ∙ is
 gives_form (Err OutOfMemory) text o e is form = cc
+
+abbrev fault_or : ParseFault → Result Tree ParseFault → ParseFault
+fault_or f (Ok t) = f
+fault_or f (Err e) = e
+
+pub same_err : {e f : ParseFault} → ◌≡◌ {A = Result Tree ParseFault} (Err e) (Err f) → e ≡ f
+same_err {e} {f} is = ap (fault_or e) is

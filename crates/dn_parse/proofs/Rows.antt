@@ -1,5 +1,5 @@
 -- Rows of parts: the values so far, and what the rest of the lexemes adds to them.
-use Rattle.std.proofs.Common.{◌≡◌, ◌∙◌, ap, refl, sym, ℕ, zero, suc, ◌+◌, ◌<◌, ◌≤◌, false, List, [], ◌∷◌, ◌++◌, length, Option, Some, None, append_assoc, append-nil, arith}
+use Rattle.std.proofs.Common.{◌≡◌, ◌∙◌, ap, refl, sym, ℕ, zero, suc, ◌<◌, false, List, [], ◌∷◌, ◌++◌, length, Option, Some, None, append_assoc, append-nil, arith}
 use Rattle.dn_parse.specs.Token.{Lexeme}
 use Rattle.dn_parse.specs.declared.parser.ParseFault.{ParseFault}
 use Rattle.dn_parse.specs.declared.parser.ParseFault.TheVariants.{Form, OutOfMemory}

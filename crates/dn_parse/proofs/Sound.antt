@@ -14,7 +14,7 @@ use Rattle.dn_parse.specs.declared.tree.Cmd.{Cmd}
 use Rattle.dn_parse.specs.declared.tree.Tree.{Tree}
 use Rattle.dn_parse.specs.Token.{Lexeme, word, keyword, number, sign}
 use Rattle.dn_parse.specs.Grammar.{spell_upto, spell_block, spell_at, spell_entry, spell_more_blocks, spell_accept, spell_more_entries, spell_map, spell_over, spell_agent, spell_node, spell_nodes, spell_commands, Spells}
-use Rattle.dn_parse.specs.Parts.{◌>>=◌, optional, is_sign, is_keyword, after, after_sign, after_keyword, word_of, number_of, word_at, number_at, is_end, with_front, row_from, row, row_at, upto_at, block_at, next_block_at, blocks_at, bracketed, accept_at, addr_at, entry_at, next_entry_at, entries_at, map_at, over_at, agent_from, agent_at, node_at, begins_node, next_node_at, command_at, next_command_at, commands_at}
+use Rattle.dn_parse.specs.Parts.{◌>>=◌, optional, is_sign, is_keyword, after, after_sign, after_keyword, word_at, number_at, is_end, with_front, row_from, row, row_at, upto_at, block_at, next_block_at, blocks_at, bracketed, accept_at, addr_at, entry_at, next_entry_at, entries_at, map_at, over_at, agent_from, agent_at, node_at, begins_node, next_node_at, command_at, next_command_at, commands_at}
 use Rattle.dn_parse.specs.Reading.{tree_of}
 
 -- what a step after another needs
@@ -102,6 +102,7 @@ row_is next spell one zero ts p e = cc
 row_is {X} next spell one (suc n) ts p e = go (next ts) refl e (row_is next spell one n) where
   More : Type 0
   More = (ts : List Lexeme) (p : List X × List Lexeme) → row next n ts ≡ Some p → Row next spell ts p
+
   go : (o : Option (Option (X × List Lexeme))) → next ts ≡ o → (o >>= λ found. row_from ts found (row next n)) ≡ Some p → ((ts : List Lexeme) (p : List X × List Lexeme) → row next n ts ≡ Some p → Row next spell ts p) → Row next spell ts p
   go None is e more = cc
   go (Some None) is e more =
@@ -117,7 +118,7 @@ pub upto_is : (ts : List Lexeme) (p : Option ℕ × List Lexeme) → upto_at ts 
 unfolding upto_at
 upto_is ts p e = optional_is (after_sign Minus ts) (λ rest. number_at rest >>= λ hi. Some (Some hi.0, hi.1)) (Some (None, ts)) p (ts ≡ spell_upto p.0 p.1) e
     (λ rest at e. let (hi, is, same) = bind_some (number_at rest) (λ hi. Some (Some hi.0, hi.1)) p e in
-        after_sign_is Minus ts rest at ∙ ap (λ (r : List Lexeme). sign Minus ∷ r) (number_is rest hi is) ∙ ap (λ (q : Option ℕ × List Lexeme). spell_upto q.0 q.1) (some_is same))
+    after_sign_is Minus ts rest at ∙ ap (λ (r : List Lexeme). sign Minus ∷ r) (number_is rest hi is) ∙ ap (λ (q : Option ℕ × List Lexeme). spell_upto q.0 q.1) (some_is same))
     (λ e. ap (λ (q : Option ℕ × List Lexeme). spell_upto q.0 q.1) (some_is e))
 
 pub block_is : (ts : List Lexeme) (p : BlockExpr × List Lexeme) → block_at ts ≡ Some p → ts ≡ spell_block p.0 p.1
@@ -131,7 +132,7 @@ next_block_is : (ts : List Lexeme) (b : BlockExpr) (rest : List Lexeme) → next
 unfolding next_block_at
 next_block_is ts b rest e = optional_is (after_sign Comma ts) (λ r. block_at r >>= λ b. Some (Some b)) (Some None) (Some (b, rest)) (ts ≡ sign Comma ∷ spell_block b rest) e
     (λ r at e. let (q, is, same) = bind_some (block_at r) _ _ e in
-        after_sign_is Comma ts r at ∙ ap (λ (r : List Lexeme). sign Comma ∷ r) (block_is r q is ∙ ap (λ (q : BlockExpr × List Lexeme). spell_block q.0 q.1) (some_is (some_is same))))
+    after_sign_is Comma ts r at ∙ ap (λ (r : List Lexeme). sign Comma ∷ r) (block_is r q is ∙ ap (λ (q : BlockExpr × List Lexeme). spell_block q.0 q.1) (some_is (some_is same))))
     (λ e. cc)
 
 more_blocks_is : (bs : List BlockExpr) (rest : List Lexeme) → rows (λ b r. sign Comma ∷ spell_block b r) bs rest ≡ spell_more_blocks bs rest
@@ -150,19 +151,19 @@ pub accept_is : (ts : List Lexeme) (p : List BlockExpr × List Lexeme) → accep
 unfolding accept_at
 accept_is ts p e = optional_is (after_keyword Accept ts) (bracketed blocks_at) (Some ([], ts)) p (ts ≡ spell_accept p.0 p.1) e
     (λ rest at e.
-        let (inner, is_inner, e1) = bind_some (after_sign OpenBracket rest) _ p e in
-        let (found, is_found, e2) = bind_some (blocks_at inner) _ p e1 in
-        let (last, is_last, e3) = bind_some (after_sign CloseBracket found.1) _ p e2 in
-        let (b, bs, cons, is) = blocks_is inner found is_found in
-        after_keyword_is Accept ts rest at ∙ ap (λ (r : List Lexeme). keyword Accept ∷ r) (after_sign_is OpenBracket rest inner is_inner ∙ ap (λ (r : List Lexeme). sign OpenBracket ∷ r) (is ∙ ap (λ (r : List Lexeme). spell_block b (spell_more_blocks bs r)) (after_sign_is CloseBracket found.1 last is_last)))
-            ∙ ap (λ (l : List BlockExpr). spell_accept l last) (sym cons) ∙ ap (λ (q : List BlockExpr × List Lexeme). spell_accept q.0 q.1) (some_is e3))
+    let (inner, is_inner, e1) = bind_some (after_sign OpenBracket rest) _ p e in
+    let (found, is_found, e2) = bind_some (blocks_at inner) _ p e1 in
+    let (last, is_last, e3) = bind_some (after_sign CloseBracket found.1) _ p e2 in
+    let (b, bs, cons, is) = blocks_is inner found is_found in
+    after_keyword_is Accept ts rest at ∙ ap (λ (r : List Lexeme). keyword Accept ∷ r) (after_sign_is OpenBracket rest inner is_inner ∙ ap (λ (r : List Lexeme). sign OpenBracket ∷ r) (is ∙ ap (λ (r : List Lexeme). spell_block b (spell_more_blocks bs r)) (after_sign_is CloseBracket found.1 last is_last)))
+    ∙ ap (λ (l : List BlockExpr). spell_accept l last) (sym cons) ∙ ap (λ (q : List BlockExpr × List Lexeme). spell_accept q.0 q.1) (some_is e3))
     (λ e. ap (λ (q : List BlockExpr × List Lexeme). spell_accept q.0 q.1) (some_is e))
 
 pub addr_is : (ts : List Lexeme) (p : Option ℕ × List Lexeme) → addr_at ts ≡ Some p → ts ≡ spell_at p.0 p.1
 unfolding addr_at
 addr_is ts p e = optional_is (after_keyword At ts) (λ rest. number_at rest >>= λ addr. Some (Some addr.0, addr.1)) (Some (None, ts)) p (ts ≡ spell_at p.0 p.1) e
     (λ rest at e. let (addr, is, same) = bind_some (number_at rest) (λ addr. Some (Some addr.0, addr.1)) p e in
-        after_keyword_is At ts rest at ∙ ap (λ (r : List Lexeme). keyword At ∷ r) (number_is rest addr is) ∙ ap (λ (q : Option ℕ × List Lexeme). spell_at q.0 q.1) (some_is same))
+    after_keyword_is At ts rest at ∙ ap (λ (r : List Lexeme). keyword At ∷ r) (number_is rest addr is) ∙ ap (λ (q : Option ℕ × List Lexeme). spell_at q.0 q.1) (some_is same))
     (λ e. ap (λ (q : Option ℕ × List Lexeme). spell_at q.0 q.1) (some_is e))
 
 pub entry_is : (ts : List Lexeme) (p : EntryExpr × List Lexeme) → entry_at ts ≡ Some p → ts ≡ spell_entry p.0 p.1
@@ -173,14 +174,14 @@ entry_is ts p e =
     let (to, is_to, e3) = bind_some (word_at rest) _ p e2 in
     let (addr, is_addr, e4) = bind_some (addr_at to.1) _ p e3 in
     block_is ts block is_block
-        ∙ ap (spell_block block.0) (after_keyword_is To block.1 rest is_rest ∙ ap (λ (r : List Lexeme). keyword To ∷ r) (word_is rest to is_to ∙ ap (λ (r : List Lexeme). word to.0 ∷ r) (addr_is to.1 addr is_addr)))
-        ∙ ap (λ (q : EntryExpr × List Lexeme). spell_entry q.0 q.1) (some_is e4)
+    ∙ ap (spell_block block.0) (after_keyword_is To block.1 rest is_rest ∙ ap (λ (r : List Lexeme). keyword To ∷ r) (word_is rest to is_to ∙ ap (λ (r : List Lexeme). word to.0 ∷ r) (addr_is to.1 addr is_addr)))
+    ∙ ap (λ (q : EntryExpr × List Lexeme). spell_entry q.0 q.1) (some_is e4)
 
 next_entry_is : (ts : List Lexeme) (x : EntryExpr) (rest : List Lexeme) → next_entry_at ts ≡ Some (Some (x, rest)) → ts ≡ sign Comma ∷ spell_entry x rest
 unfolding next_entry_at
 next_entry_is ts x rest e = optional_is (after_sign Comma ts) (λ r. entry_at r >>= λ e. Some (Some e)) (Some None) (Some (x, rest)) (ts ≡ sign Comma ∷ spell_entry x rest) e
     (λ r at e. let (q, is, same) = bind_some (entry_at r) _ _ e in
-        after_sign_is Comma ts r at ∙ ap (λ (r : List Lexeme). sign Comma ∷ r) (entry_is r q is ∙ ap (λ (q : EntryExpr × List Lexeme). spell_entry q.0 q.1) (some_is (some_is same))))
+    after_sign_is Comma ts r at ∙ ap (λ (r : List Lexeme). sign Comma ∷ r) (entry_is r q is ∙ ap (λ (q : EntryExpr × List Lexeme). spell_entry q.0 q.1) (some_is (some_is same))))
     (λ e. cc)
 
 more_entries_is : (es : List EntryExpr) (rest : List Lexeme) → rows (λ e r. sign Comma ∷ spell_entry e r) es rest ≡ spell_more_entries es rest
@@ -199,19 +200,19 @@ pub map_is : (ts : List Lexeme) (p : List EntryExpr × List Lexeme) → map_at t
 unfolding map_at
 map_is ts p e = optional_is (after_keyword Map ts) (bracketed entries_at) (Some ([], ts)) p (ts ≡ spell_map p.0 p.1) e
     (λ rest at e.
-        let (inner, is_inner, e1) = bind_some (after_sign OpenBracket rest) _ p e in
-        let (found, is_found, e2) = bind_some (entries_at inner) _ p e1 in
-        let (last, is_last, e3) = bind_some (after_sign CloseBracket found.1) _ p e2 in
-        let (x, xs, cons, is) = entries_is inner found is_found in
-        after_keyword_is Map ts rest at ∙ ap (λ (r : List Lexeme). keyword Map ∷ r) (after_sign_is OpenBracket rest inner is_inner ∙ ap (λ (r : List Lexeme). sign OpenBracket ∷ r) (is ∙ ap (λ (r : List Lexeme). spell_entry x (spell_more_entries xs r)) (after_sign_is CloseBracket found.1 last is_last)))
-            ∙ ap (λ (l : List EntryExpr). spell_map l last) (sym cons) ∙ ap (λ (q : List EntryExpr × List Lexeme). spell_map q.0 q.1) (some_is e3))
+    let (inner, is_inner, e1) = bind_some (after_sign OpenBracket rest) _ p e in
+    let (found, is_found, e2) = bind_some (entries_at inner) _ p e1 in
+    let (last, is_last, e3) = bind_some (after_sign CloseBracket found.1) _ p e2 in
+    let (x, xs, cons, is) = entries_is inner found is_found in
+    after_keyword_is Map ts rest at ∙ ap (λ (r : List Lexeme). keyword Map ∷ r) (after_sign_is OpenBracket rest inner is_inner ∙ ap (λ (r : List Lexeme). sign OpenBracket ∷ r) (is ∙ ap (λ (r : List Lexeme). spell_entry x (spell_more_entries xs r)) (after_sign_is CloseBracket found.1 last is_last)))
+    ∙ ap (λ (l : List EntryExpr). spell_map l last) (sym cons) ∙ ap (λ (q : List EntryExpr × List Lexeme). spell_map q.0 q.1) (some_is e3))
     (λ e. ap (λ (q : List EntryExpr × List Lexeme). spell_map q.0 q.1) (some_is e))
 
 pub over_is : (ts : List Lexeme) (p : Option (List ℕ) × List Lexeme) → over_at ts ≡ Some p → ts ≡ spell_over p.0 p.1
 unfolding over_at
 over_is ts p e = optional_is (after_keyword Over ts) (λ rest. word_at rest >>= λ name. Some (Some name.0, name.1)) (Some (None, ts)) p (ts ≡ spell_over p.0 p.1) e
     (λ rest at e. let (name, is, same) = bind_some (word_at rest) (λ name. Some (Some name.0, name.1)) p e in
-        after_keyword_is Over ts rest at ∙ ap (λ (r : List Lexeme). keyword Over ∷ r) (word_is rest name is) ∙ ap (λ (q : Option (List ℕ) × List Lexeme). spell_over q.0 q.1) (some_is same))
+    after_keyword_is Over ts rest at ∙ ap (λ (r : List Lexeme). keyword Over ∷ r) (word_is rest name is) ∙ ap (λ (q : Option (List ℕ) × List Lexeme). spell_over q.0 q.1) (some_is same))
     (λ e. ap (λ (q : Option (List ℕ) × List Lexeme). spell_over q.0 q.1) (some_is e))
 
 agent_is : (ts : List Lexeme) → ts ≡ spell_agent (agent_at ts).0 (agent_at ts).1
@@ -230,9 +231,9 @@ node_is ts p e =
     let (entries, is_entries, e4) = bind_some (map_at accepts.1) _ p e3 in
     let (over, is_over, e5) = bind_some (over_at entries.1) _ p e4 in
     agent_is ts
-        ∙ ap (spell_agent (agent_at ts).0) (word_is (agent_at ts).1 name is_name ∙ ap (λ (r : List Lexeme). word name.0 ∷ r) (after_keyword_is Is name.1 rest is_rest
-            ∙ ap (λ (r : List Lexeme). keyword Is ∷ r) (accept_is rest accepts is_accepts ∙ ap (spell_accept accepts.0) (map_is accepts.1 entries is_entries ∙ ap (spell_map entries.0) (over_is entries.1 over is_over)))))
-        ∙ ap (λ (q : Decl × List Lexeme). spell_node q.0 q.1) (some_is e5)
+    ∙ ap (spell_agent (agent_at ts).0) (word_is (agent_at ts).1 name is_name ∙ ap (λ (r : List Lexeme). word name.0 ∷ r) (after_keyword_is Is name.1 rest is_rest
+    ∙ ap (λ (r : List Lexeme). keyword Is ∷ r) (accept_is rest accepts is_accepts ∙ ap (spell_accept accepts.0) (map_is accepts.1 entries is_entries ∙ ap (spell_map entries.0) (over_is entries.1 over is_over)))))
+    ∙ ap (λ (q : Decl × List Lexeme). spell_node q.0 q.1) (some_is e5)
 
 -- a part and the semicolon after it
 abbrev pub then_semicolon : {X : Type 0} → X × List Lexeme → Option (Option (X × List Lexeme))
@@ -266,8 +267,8 @@ command_is ts p rest e is_rest =
     let (name, is_name, e2) = bind_some (word_at r) _ p e1 in
     let (addr, is_addr, e3) = bind_some (number_at name.1) _ p e2 in
     after_keyword_is Resolve ts r is_r ∙ ap (λ (r : List Lexeme). keyword Resolve ∷ r) (word_is r name is_name ∙ ap (λ (r : List Lexeme). word name.0 ∷ r) (number_is name.1 addr is_addr))
-        ∙ ap (λ (q : Cmd × List Lexeme). keyword Resolve ∷ word q.0.name ∷ number q.0.addr ∷ q.1) (some_is e3)
-        ∙ ap (λ (r : List Lexeme). keyword Resolve ∷ word p.0.name ∷ number p.0.addr ∷ r) (after_sign_is Semicolon p.1 rest is_rest)
+    ∙ ap (λ (q : Cmd × List Lexeme). keyword Resolve ∷ word q.0.name ∷ number q.0.addr ∷ q.1) (some_is e3)
+    ∙ ap (λ (r : List Lexeme). keyword Resolve ∷ word p.0.name ∷ number p.0.addr ∷ r) (after_sign_is Semicolon p.1 rest is_rest)
 
 next_command_is : (ts : List Lexeme) (c : Cmd) (rest : List Lexeme) → next_command_at ts ≡ Some (Some (c, rest)) → ts ≡ spell_command c rest
 unfolding next_command_at
@@ -308,7 +309,7 @@ commands_is ts cs e = go (is_end ts) refl e where
       let (p, is_p, e3) = bind_some (row_at next_command_at rest) _ cs e2 in
       let row = row_is next_command_at spell_command next_command_is (suc (length rest)) rest p is_p in
       inr (after_keyword_is Begin ts begun is_begun ∙ ap (λ (r : List Lexeme). keyword Begin ∷ r) (after_sign_is Semicolon begun rest is_rest)
-          ∙ ap (λ (r : List Lexeme). keyword Begin ∷ sign Semicolon ∷ r) (row.spelled ∙ ap (rows spell_command p.0) (command_end p.1 row.ends) ∙ command_rows p.0 ∙ ap spell_commands (some_is e3)))
+      ∙ ap (λ (r : List Lexeme). keyword Begin ∷ sign Semicolon ∷ r) (row.spelled ∙ ap (rows spell_command p.0) (command_end p.1 row.ends) ∙ command_rows p.0 ∙ ap spell_commands (some_is e3)))
 
 pub tree_is : (ts : List Lexeme) (tree : Tree) → tree_of ts ≡ Some tree → Spells ts tree
 unfolding tree_of
@@ -318,6 +319,6 @@ tree_is ts tree e =
     let spelled = nodes_is ts nodes is_nodes in
     let same = some_is e2 in
     elim (commands_is nodes.1 commands is_commands) [
-      inl last ↦ inl (spelled ∙ ap (spell_nodes nodes.0) last.0 ∙ ap (λ (t : Tree). spell_nodes t.nodes []) same, sym (ap (λ (t : Tree). t.commands) same) ∙ last.1)
-    | inr more ↦ inr (spelled ∙ ap (spell_nodes nodes.0) more ∙ ap (λ (t : Tree). spell_nodes t.nodes (keyword Begin ∷ sign Semicolon ∷ spell_commands t.commands)) same)
+      | inl last ↦ inl (spelled ∙ ap (spell_nodes nodes.0) last.0 ∙ ap (λ (t : Tree). spell_nodes t.nodes []) same, sym (ap (λ (t : Tree). t.commands) same) ∙ last.1)
+      | inr more ↦ inr (spelled ∙ ap (spell_nodes nodes.0) more ∙ ap (λ (t : Tree). spell_nodes t.nodes (keyword Begin ∷ sign Semicolon ∷ spell_commands t.commands)) same)
     ]

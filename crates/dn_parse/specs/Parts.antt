@@ -1,5 +1,5 @@
 -- Each part of the grammar, read from the front of a list of lexemes: its value and the lexemes after it, or nothing.
-use Rattle.std.specs.Prelude.{◌≡◌, ◌==◌, ℕ, zero, suc, Bool, true, false, ◌||◌, if◌then◌else◌, List, [], ◌∷◌, ◌++◌, length, Option, Some, None, option_and_then}
+use Rattle.std.specs.Prelude.{ℕ, zero, suc, Bool, true, false, ◌||◌, if◌then◌else◌, List, [], ◌∷◌, ◌++◌, length, Option, Some, None, option_and_then}
 use denote.Enum.Bare.{sameb}
 use Rattle.dn_parse.specs.contracts.token.Sign.{the_type as the_signs}
 use Rattle.dn_parse.specs.contracts.token.Keyword.{the_type as the_keywords}

@@ -1,4 +1,4 @@
-use Rattle.std.proofs.Common.{◌∙◌, sym, rules}
+use Rattle.std.proofs.Common.{◌∙◌, rules}
 use Rattle.dn_parse.specs.Lexing.{reserved_word}
 use Rattle.dn_parse.proofs.Words.{by_length}
 use Rattle.dn_parse.proofs.keyword.keyword_of.Goals as goal

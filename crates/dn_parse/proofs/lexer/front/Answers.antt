@@ -1,4 +1,4 @@
-use Rattle.std.proofs.Common.{◌∙◌, ap, sym, subst, rules}
+use Rattle.std.proofs.Common.{sym, subst}
 use Rattle.std.specs.Str.{IsAscii}
 use Rattle.dn_parse.proofs.Words.{run_ascii}
 use Rattle.dn_parse.proofs.lexer.front.Goals as goal

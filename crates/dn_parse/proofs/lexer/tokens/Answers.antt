@@ -1,7 +1,7 @@
-use Rattle.std.proofs.Common.{◌≡◌, ◌∙◌, ap, sym, subst, rules, tests, true, false, [], ◌∷◌, ◌++◌, map, List, ℕ, ◌<◌, length}
+use Rattle.std.proofs.Common.{◌≡◌, ◌∙◌, ap, sym, subst, rules, tests, true, false, [], map, List, ℕ, ◌<◌, length}
 use Rattle.std.proofs.lemmas.List.{map-append}
-use Rattle.dn_parse.specs.Token.{Token, is_line_feed, is_blank, after_comment}
-use Rattle.dn_parse.specs.Lexing.{token_of, lexeme_of, begins_comment, front_of}
+use Rattle.dn_parse.specs.Token.{Token, is_line_feed}
+use Rattle.dn_parse.specs.Lexing.{token_of, begins_comment, front_of}
 use Rattle.dn_parse.proofs.Lexed.{Before, at_same, at_start, at_line, at_blank, at_comment, at_token, at_bad, at_end}
 use Rattle.dn_parse.proofs.lexer.tokens.Goals as goal
 

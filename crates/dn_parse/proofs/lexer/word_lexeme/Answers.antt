@@ -1,7 +1,6 @@
-use Rattle.std.proofs.Common.{◌≡◌, ◌∙◌, ap, sym, Some, None, rules}
+use Rattle.std.proofs.Common.{◌∙◌, ap}
 use Rattle.std.proofs.lemmas.Str.{IsUtf8-from_ascii}
-use Rattle.dn_parse.specs.Token.{word_lexeme, word}
-use Rattle.dn_parse.specs.Lexing.{reserved_word}
+use Rattle.dn_parse.specs.Token.{word_lexeme}
 use Rattle.dn_parse.proofs.Words.{is_reserved, is_word}
 use Rattle.dn_parse.proofs.lexer.word_lexeme.Goals as goal
 

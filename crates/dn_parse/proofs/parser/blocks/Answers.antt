@@ -1,4 +1,4 @@
-use Rattle.std.proofs.Common.{◌≡◌, ◌∙◌, ap, sym, subst, ◌<◌, [], ◌∷◌, ◌++◌, List, length, Option, Some, None, option_map, IfSome, arith, rules}
+use Rattle.std.proofs.Common.{◌≡◌, ◌∙◌, ap, sym, subst, ◌<◌, [], ◌∷◌, ◌++◌, List, length, Some, option_map, IfSome, arith}
 use Rattle.std.proofs.lemmas.Result.{err_from_is_err_and}
 use Rattle.dn_parse.specs.declared.tree.BlockExpr.{BlockExpr}
 use Rattle.dn_parse.specs.Parsing.{seen}

@@ -1,4 +1,4 @@
-use Rattle.std.proofs.Common.{◌≡◌, ◌∙◌, ap, sym, subst, ◌<◌, false, [], ◌∷◌, ◌++◌, List, length, Option, Some, option_map, IfSome, rules}
+use Rattle.std.proofs.Common.{◌≡◌, ◌∙◌, ap, sym, subst, ◌<◌, false, List, length, Some, option_map, IfSome}
 use Rattle.dn_parse.specs.declared.tree.Cmd.{Cmd}
 use Rattle.dn_parse.specs.Parsing.{seen}
 use Rattle.dn_parse.specs.Parts.{is_end}
