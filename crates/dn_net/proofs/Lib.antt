@@ -1,2 +1,4 @@
-mod Places
-mod Steps
+pub mod Names
+pub mod Least
+pub mod Places
+pub mod Steps

@@ -1,14 +1,13 @@
 -- What a node that is there says of the step of a name.
-use Rattle.std.proofs.Common.{◌≡◌, ◌∙◌, ap, sym, refl, subst, ℕ, zero, suc, ◌+◌, ◌-◌, ◌≤◌, List, [], ◌∷◌, map, true, false, Bool, not, ◌&&◌, ◌||◌, nat_le, nat_lt, length, arith, slice_get, Option, None, Some, option_map, is_some, rules, IsTrue, leb-true, if◌then◌else◌}
+use Rattle.std.proofs.Common.{◌≡◌, refl, subst, ℕ, ◌+◌, ◌-◌, ◌≤◌, List, [], ◌∷◌, true, false, Bool, not, ◌&&◌, nat_le, nat_lt, length, arith, slice_get, Option, None, Some, option_map, is_some, IsTrue, leb-true, if◌then◌else◌}
 use Rattle.std.proofs.lemmas.Bool.{le-leb}
 use Rattle.std.specs.List.{list_all}
-use Rattle.dn_net.specs.declared.node.Name.{Name}
 use Rattle.dn_net.specs.declared.node.Block.{Block}
 use Rattle.dn_net.specs.declared.node.Dest.{Dest}
 use Rattle.dn_net.specs.declared.node.Entry.{Entry}
 use Rattle.dn_net.specs.declared.node.NodeDecl.{NodeDecl}
 use Rattle.dn_net.specs.declared.node.Unit.{Unit as UnitPart}
-use Rattle.dn_net.specs.Decode.{top, within, in_some_block, mapped, is_formed, formed_by, is_bare, is_unit, unit_at, unit_of, is_accepted, is_accepted_at, steps, decoded, refers_within, over_within, ports_within, is_closed}
+use Rattle.dn_net.specs.Decode.{top, within, in_some_block, mapped, is_formed, formed_by, is_bare, is_unit, unit_of, is_accepted_at, decoded, refers_within, over_within, ports_within}
 use Rattle.dn_net.specs.Rules.{is_in_range, block_in_range, entry_in_range, dest_in_range}
 use Rattle.dn_net.specs.Parts.{over_dests}
 use Rattle.dn_net.proofs.Places.{both, list_all-at, list_all-implied}

@@ -12,7 +12,7 @@ use Rattle.dn_net.specs.declared.node.Role.TheVariants.{Plain, Agent, Vectors, U
 use Rattle.dn_net.specs.declared.node.Unit.{Unit as UnitPart}
 use Rattle.dn_net.specs.declared.node.NodeDecl.{NodeDecl}
 use Rattle.dn_net.specs.declared.step.Step.{Step as StepCase}
-use Rattle.dn_net.specs.declared.step.Step.TheVariants.{Accepted, Stop, To, Nothing}
+use Rattle.dn_net.specs.declared.step.Step.TheVariants.{To}
 use Rattle.dn_net.specs.Chain.{Member, ReachesWithin}
 
 -- the last address

@@ -1,7 +1,4 @@
-use Rattle.std.proofs.Common.{rules, IsTrue, subst, sym, nat_le, ◌+◌, arith, List}
 use Rattle.std.specs.List.{list_all}
-use Rattle.dn_net.specs.declared.node.Dest.{Dest}
-use Rattle.dn_net.specs.Decode.{top}
 use Rattle.dn_net.specs.Rules.{entry_in_range, block_in_range, dest_in_range}
 use Rattle.dn_net.proofs.Places.{both}
 use Rattle.dn_net.proofs.Steps.{dests_reach, over_reaches}

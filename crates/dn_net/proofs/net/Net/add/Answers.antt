@@ -1,4 +1,4 @@
-use Rattle.std.proofs.Common.{rules, ◌≡◌, ◌∙◌, sym, ap, map, true, false, List, ◌∷◌, ◌++◌, [], length, refl, arith, ◌+◌, ◌<◌, ◌≤◌, IsTrue}
+use Rattle.std.proofs.Common.{◌∙◌, ap, map, length, refl, arith, ◌<◌}
 use Rattle.std.specs.String.{string_bytes, string_eq}
 use Rattle.std.specs.Str.{bytes_eq}
 use Rattle.dn_net.specs.Parts.{declared_by, over_is_based}

@@ -1,4 +1,4 @@
-use Rattle.std.proofs.Common.{rules, ◌∙◌, sym, refl}
+use Rattle.std.proofs.Common.{◌∙◌, refl}
 use Rattle.std.specs.String.{string_bytes}
 use Rattle.std.specs.Str.{bytes_eq}
 use Rattle.dn_net.specs.Parts.{declared_by}

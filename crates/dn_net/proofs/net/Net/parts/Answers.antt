@@ -1,4 +1,4 @@
-use Rattle.std.proofs.Common.{rules, sym}
+use Rattle.std.proofs.Common.{sym}
 use Rattle.dn_net.specs.Parts.{over_is_based}
 use Rattle.dn_net.proofs.Places.{list_all-at}
 use Rattle.dn_net.proofs.net.Net.parts.Goals as goal

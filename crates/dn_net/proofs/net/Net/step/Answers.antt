@@ -1,4 +1,4 @@
-use Rattle.std.proofs.Common.{rules, IsTrue, sym, ◌∙◌, true≢false, length, slice_get}
+use Rattle.std.proofs.Common.{sym, ◌∙◌, true≢false, length, slice_get}
 use Rattle.dn_net.specs.Decode.{is_formed, refers_within}
 use Rattle.dn_net.specs.Rules.{is_in_range}
 use Rattle.dn_net.proofs.Steps.{unit_is_bare, node_at, entries_in_range, entries_closed, over_closed}
