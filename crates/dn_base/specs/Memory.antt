@@ -1,6 +1,7 @@
-use Rattle.std.specs.Prelude.{ℕ, ◌+◌, ◌-◌, ◌^◌, List, [], ◌∷◌, Bool, true, false, nat_lt, if◌then◌else◌, Result, Ok, Err}
+use Rattle.std.specs.Prelude.{ℕ, List, [], ◌∷◌, Bool, true, false, Result, Ok, Err}
 use Rattle.dn_base.specs.declared.sink.WriteFault.{WriteFault}
 use Rattle.dn_base.specs.declared.sink.WriteFault.TheVariants.{Failed, OutOfMemory}
+use Rattle.dn_base.specs.Outside.{next_count}
 
 -- bytes in memory: what is left, at most how many a call gives, the number of the next call, the faults, and which calls fail
 pub record SourceState : Type 0 where
@@ -12,8 +13,9 @@ pub record SourceState : Type 0 where
 
 -- the number of a call stays at its last value
 abbrev pub next_call : ℕ → ℕ
-next_call n = if nat_lt n (2 ^ 64 - 1) then n + 1 else n
+next_call n = next_count n
 
+-- no call is to fail
 abbrev pub is_nil : List ℕ → Bool
 is_nil [] = true
 is_nil (x ∷ xs) = false

@@ -1,10 +1,12 @@
-//! Objects in memory, which fail at stated calls.
+//! A source and a sink in memory, which fail at stated calls.
+//!
+//! The calls of each object are numbered from 0. The number is kept in a `u64` and stays at its last
+//! value. A call fails exactly where its number stands in the object's list `failing`, so a call past
+//! number 2^32 - 1 never fails, and with an empty list none does.
 
-ghost use Rattle.std.specs.Prelude.{◌≡◌, ◌≢◌, ℕ, ◌+◌, ◌<◌, ◌≤◌, ◌^◌, ◌↔◌, Some, List, [], length, take, drop, IsErr, IfOk, OnOk, OnErr, IsErrOf, IsOk, Contains, Err, true, false, vec_len};
-ghost use Rattle.dn_base.specs.Outside.{Rose, Taken, AtEnd, Added};
-ghost use Rattle.std.specs.Prelude.{◌==◌};
+ghost use Rattle.std.specs.Prelude.{◌≡◌, ◌≢◌, ◌==◌, ℕ, ◌+◌, ◌<◌, ◌≤◌, ◌^◌, ◌↔◌, min, Some, [], length, take, IfOk, OnOk, OnErr, IsErrOf, IsOk, Err, true, is_err};
+ghost use Rattle.dn_base.specs.Outside.{Rose, Taken, Added};
 ghost use Rattle.std.specs.List.{list_any};
-ghost use Rattle.std.specs.Result.{is_err};
 ghost use Rattle.dn_base.specs.Memory.{next_call, is_nil, is_fault};
 
 use crate::sink::{Sink, WriteFault};
@@ -12,7 +14,7 @@ use crate::source::{ReadFault, Source};
 use std::alloc::Global;
 use std::marker::Model;
 
-/// Bytes in memory, given at most `most` a call.
+/// Bytes in memory, given at most `most` bytes a call.
 #[derive(Drop)]
 pub struct MemSource {
     bytes: Vec<u8>,
@@ -34,6 +36,7 @@ impl Model for MemSource {
     ghost invariant = { λ s. (s.at ≤ vec_len s.bytes) × (0 < s.most) × (s.faults ≤ s.call) × (s.faults ≤ 2 ^ 32) };
 }
 
+/// Whether the call of that number is to fail.
 fn is_failing(failing: &[u32], call: u64) -> bool
     ensures value { result ≡ list_any (λ n. n == call) failing.now }
     ensures small { result ≡ true → call < 2 ^ 32 }
@@ -47,6 +50,8 @@ fn is_failing(failing: &[u32], call: u64) -> bool
 }
 
 impl MemSource {
+    /// The source of the bytes, which gives at most `most` bytes a read and fails at the calls
+    /// whose numbers `failing` lists, in any order.
     pub fn new(bytes: Vec<u8>, most: usize, failing: Vec<u32>) -> MemSource
         requires { 0 < most }
         ensures { result ≡ record { left = bytes.items; most = most; call = 0; faults = 0; failing = failing.items } }
@@ -69,12 +74,21 @@ impl Source for MemSource {
 
     ghost sure = { λ s. is_nil s.failing };
 
+    /// Gives as many bytes as are left, up to `most` and to the room of the piece.
+    ///
+    /// # Errors
+    ///
+    /// `Failed` exactly where the call's number is listed. It raises the count of faults by one.
     fn read(&mut self, into: &mut [u8]) -> Result<usize, ReadFault>
         ensures within { IfOk result (λ n. n ≤ length into.old) }
         ensures taken { IfOk result (λ n. Taken (Some self.old.left) (Some self.new.left) (take n into.new)) }
+        ensures count { IfOk result (λ n. n ≡ min (min (length self.old.left) self.old.most) (length into.old)) }
         ensures end { IfOk result (λ n. 0 < length into.old → n ≡ 0 → self.new.left ≡ []) }
+        ensures only_end { IfOk result (λ n. 0 < length into.old → n ≡ 0 ↔ self.old.left ≡ []) }
         ensures untaken { OnErr result (self.new.left ≡ self.old.left) }
         ensures rose { OnErr result (Rose self.old.faults self.new.faults) }
+        ensures raised { OnErr result (self.new.faults ≡ self.old.faults + 1) }
+        ensures few { self.new.faults ≤ 2 ^ 32 }
         ensures never_falls { self.old.faults ≤ self.new.faults }
         ensures same_sure { is_nil self.new.failing ≡ is_nil self.old.failing }
         ensures succeeds { is_nil self.old.failing ≡ true → IsOk result × (self.new.faults ≡ self.old.faults) }
@@ -97,7 +111,7 @@ impl Source for MemSource {
     }
 }
 
-/// Keeps what is written.
+/// A sink that keeps what is written, in memory.
 #[derive(Drop)]
 pub struct MemSink {
     bytes: Vec<u8>,
@@ -118,6 +132,8 @@ impl Model for MemSink {
 }
 
 impl MemSink {
+    /// The sink with nothing written yet, which fails at the calls whose numbers `failing` lists,
+    /// in any order. It keeps the allocator, and takes no memory yet.
     pub fn new(alloc: Global, failing: Vec<u32>) -> MemSink
         ensures { result ≡ record { written = []; call = 0; faults = 0; failing = failing.items } }
     {
@@ -129,6 +145,7 @@ impl MemSink {
         }
     }
 
+    /// What was written so far.
     pub fn written(&self) -> &[u8]
         ensures { result.now ≡ self.now.written }
     {
@@ -143,12 +160,20 @@ impl Sink for MemSink {
 
     ghost sure = { λ s. is_nil s.failing };
 
+    /// Takes the whole piece.
+    ///
+    /// # Errors
+    ///
+    /// `Failed` exactly where the call's number is listed; it raises the count of faults by one.
+    /// `OutOfMemory` where there is no memory to keep the piece in. Neither takes a byte.
     fn write(&mut self, piece: &[u8]) -> Result<usize, WriteFault>
         ensures within { IfOk result (λ n. n ≡ length piece.now) }
         ensures some { IfOk result (λ n. 0 < length piece.now → 0 < n) }
         ensures added { IfOk result (λ n. Added (Some self.old.written) (Some self.new.written) (take n piece.now)) }
         ensures untaken { OnErr result (self.new.written ≡ self.old.written) }
         ensures rose { IsErrOf result WriteFault.Failed → Rose self.old.faults self.new.faults }
+        ensures raised { IsErrOf result WriteFault.Failed → self.new.faults ≡ self.old.faults + 1 }
+        ensures few { self.new.faults ≤ 2 ^ 32 }
         ensures never_falls { self.old.faults ≤ self.new.faults }
         ensures same_sure { is_nil self.new.failing ≡ is_nil self.old.failing }
         ensures succeeds { is_nil self.old.failing ≡ true → (result ≢ Err WriteFault.Failed) × (self.new.faults ≡ self.old.faults) }
