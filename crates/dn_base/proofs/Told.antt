@@ -1,7 +1,9 @@
 use Rattle.std.proofs.Common.{◌≡◌, ◌∙◌, ap, sym, subst, ℕ, ◌+◌, ◌-◌, List, ◌++◌, length, take, drop, Option, None, Some, append_assoc, append-nil, refl}
 use Rattle.std.proofs.lemmas.List.{take_rest, take_at, take-append-drop}
 use Rattle.std.proofs.Math.Seq.{take-add, take-length}
-use Rattle.dn_base.specs.Outside.{Taken, Added, AddedFront}
+use Rattle.std.proofs.Common.{◌≤◌, ◌<◌, IfSome, arith, length-append}
+use Rattle.std.proofs.lemmas.Grind.{common_steps}
+use Rattle.dn_base.specs.Outside.{Taken, TakenAtMost, Added, AddedFront, AtEnd}
 
 -- what was added in two steps was added
 pub Added-then : (a b c : Option (List ℕ)) (x y : List ℕ) → Added a b x → Added b c y → Added a c (x ++ y)
@@ -47,3 +49,13 @@ pub front_then : (a b c : Option (List ℕ)) (done x rest all : List ℕ) → Ad
 front_then a b c done x rest all p (k, q) e =
     let whole : (done ++ take k x) ++ (drop k x ++ rest) ≡ all = append_assoc done (take k x) (drop k x ++ rest) ∙ ap (λ (l : List ℕ). done ++ l) (sym (append_assoc (take k x) (drop k x) rest) ∙ ap (λ (l : List ℕ). l ++ rest) (take-append-drop k x)) ∙ e in
     front_by a c (done ++ take k x) (drop k x ++ rest) all (Added-then a b c done (take k x) p q) whole
+
+-- what was taken up to a limit, or to the end, is the front of what was told
+pub front_told : (limit : ℕ) (before after : Option (List ℕ)) (text : List ℕ) → Taken before after text → length text ≤ limit → (length text < limit → AtEnd after) → IfSome before (λ told. text ≡ take limit told)
+front_told limit None after text t small end = tt
+front_told limit (Some told) None text t small end = cc
+front_told limit (Some told) (Some rest) text t small end = grind (arith, common_steps, append-nil)
+
+-- after two takes no more was taken than both allow
+pub TakenAtMost-then : (limit : ℕ) (a b c : Option (List ℕ)) (x y : List ℕ) → Taken a b x → Taken b c y → length x + length y ≤ limit → TakenAtMost limit a c
+TakenAtMost-then limit a b c x y p q small = (x ++ y, simp length-append small, Taken-then a b c x y p q)
