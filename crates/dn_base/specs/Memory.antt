@@ -3,6 +3,12 @@ use Rattle.dn_base.specs.declared.sink.WriteFault.{WriteFault}
 use Rattle.dn_base.specs.declared.sink.WriteFault.TheVariants.{Failed, OutOfMemory}
 use Rattle.dn_base.specs.Outside.{next_count}
 
+-- the calls of an object: the number of the next one, the faults, and which calls fail
+pub record CallState : Type 0 where
+  pub call : ℕ
+  pub faults : ℕ
+  pub failing : List ℕ
+
 -- bytes in memory: what is left, at most how many a call gives, the number of the next call, the faults, and which calls fail
 pub record SourceState : Type 0 where
   pub left : List ℕ

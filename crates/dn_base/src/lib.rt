@@ -7,6 +7,7 @@
 //! has both over the system's readers and writers, and [`whole`] reads a whole text and writes one.
 #![tactic(auto)]
 
+mod calls;
 pub mod items;
 pub mod memory;
 pub mod sink;

@@ -9,6 +9,7 @@ ghost use Rattle.dn_base.specs.Outside.{Rose, Taken, Added};
 ghost use Rattle.std.specs.List.{list_any};
 ghost use Rattle.dn_base.specs.Memory.{next_call, is_nil, is_fault};
 
+use crate::calls::Calls;
 use crate::sink::{Sink, WriteFault};
 use crate::source::{ReadFault, Source};
 use std::alloc::Global;
@@ -20,9 +21,7 @@ pub struct MemSource {
     bytes: Vec<u8>,
     at: usize,
     most: usize,
-    call: u64,
-    faults: u64,
-    failing: Vec<u32>,
+    calls: Calls,
 }
 
 impl Model for MemSource {
@@ -31,22 +30,9 @@ impl Model for MemSource {
 
     ghost Value = { SourceState };
 
-    ghost view = { λ s. record { left = drop s.at s.bytes.items; most = s.most; call = s.call; faults = s.faults; failing = s.failing.items } };
+    ghost view = { λ s. record { left = drop s.at s.bytes.items; most = s.most; call = s.calls.call; faults = s.calls.faults; failing = s.calls.failing } };
 
-    ghost invariant = { λ s. (s.at ≤ vec_len s.bytes) × (0 < s.most) × (s.faults ≤ s.call) × (s.faults ≤ 2 ^ 32) };
-}
-
-/// Whether the call of that number is to fail.
-fn is_failing(failing: &[u32], call: u64) -> bool
-    ensures value { result ≡ list_any (λ n. n == call) failing.now }
-    ensures small { result ≡ true → call < 2 ^ 32 }
-{
-    for n in failing {
-        if u64::from(*n) == call {
-            return true;
-        }
-    }
-    false
+    ghost invariant = { λ s. (s.at ≤ vec_len s.bytes) × (0 < s.most) };
 }
 
 impl MemSource {
@@ -60,9 +46,7 @@ impl MemSource {
             bytes,
             at: 0,
             most,
-            call: 0,
-            faults: 0,
-            failing,
+            calls: Calls::new(failing),
         }
     }
 }
@@ -97,10 +81,7 @@ impl Source for MemSource {
         ensures steady { OnOk result (self.new.faults ≡ self.old.faults) }
         ensures same { (self.new.most ≡ self.old.most) × (self.new.failing ≡ self.old.failing) }
     {
-        let failing = is_failing(&self.failing, self.call);
-        self.call = self.call.saturating_add(1);
-        if failing {
-            self.faults += 1;
+        if self.calls.fails() {
             return Err(ReadFault::Failed);
         }
         let count = (self.bytes.len() - self.at).min(self.most).min(into.len());
@@ -115,9 +96,7 @@ impl Source for MemSource {
 #[derive(Drop)]
 pub struct MemSink {
     bytes: Vec<u8>,
-    call: u64,
-    faults: u64,
-    failing: Vec<u32>,
+    calls: Calls,
 }
 
 impl Model for MemSink {
@@ -126,9 +105,7 @@ impl Model for MemSink {
 
     ghost Value = { SinkState };
 
-    ghost view = { λ s. record { written = s.bytes.items; call = s.call; faults = s.faults; failing = s.failing.items } };
-
-    ghost invariant = { λ s. (s.faults ≤ s.call) × (s.faults ≤ 2 ^ 32) };
+    ghost view = { λ s. record { written = s.bytes.items; call = s.calls.call; faults = s.calls.faults; failing = s.calls.failing } };
 }
 
 impl MemSink {
@@ -139,9 +116,7 @@ impl MemSink {
     {
         MemSink {
             bytes: Vec::new(alloc),
-            call: 0,
-            faults: 0,
-            failing,
+            calls: Calls::new(failing),
         }
     }
 
@@ -182,10 +157,7 @@ impl Sink for MemSink {
         ensures steady { (result ≢ Err WriteFault.Failed) → self.new.faults ≡ self.old.faults }
         ensures same { self.new.failing ≡ self.old.failing }
     {
-        let failing = is_failing(&self.failing, self.call);
-        self.call = self.call.saturating_add(1);
-        if failing {
-            self.faults += 1;
+        if self.calls.fails() {
             return Err(WriteFault::Failed);
         }
         if self.bytes.extend_from_slice(piece).is_err() {
