@@ -1,6 +1,6 @@
 -- What follows from what sources and sinks tell: laws of Taken, Added, AddedFront, Rose and IfSome for
 -- this crate and those above it. In each, `a` is what was told first, and `b` and `c` what was told later.
-use Rattle.std.proofs.Common.{◌≡◌, ◌≤◌, ◌<◌, ◌∙◌, ap, sym, subst, ℕ, ◌+◌, ◌-◌, List, [], ◌++◌, length, take, drop, Option, None, Some, IfSome, is_some, inl, inr, append_assoc, append-nil, length-append, refl, arith}
+use Rattle.std.proofs.Common.{◌≡◌, ◌≤◌, ◌<◌, ◌∙◌, ap, sym, subst, ℕ, ◌+◌, ◌-◌, List, [], ◌++◌, length, take, drop, Option, None, Some, IfSome, is_some, append_assoc, append-nil, length-append, refl, arith}
 use Rattle.std.specs.Option.{option_map}
 use Rattle.std.proofs.lemmas.Grind.{common_steps}
 use Rattle.std.proofs.lemmas.List.{take_rest, take_at, take-append-drop}

@@ -1,6 +1,7 @@
-use Rattle.std.specs.Prelude.{ℕ, List, [], ◌∷◌, Bool, true, false, Result, Ok, Err}
+-- What contracts see of the objects in memory and of the numbers of their calls.
+use Rattle.std.specs.Prelude.{ℕ, List, [], ◌∷◌, Bool, true, false, Result, Err}
 use Rattle.dn_base.specs.declared.sink.WriteFault.{WriteFault}
-use Rattle.dn_base.specs.declared.sink.WriteFault.TheVariants.{Failed, OutOfMemory}
+use Rattle.dn_base.specs.declared.sink.WriteFault.TheVariants.{Failed}
 use Rattle.dn_base.specs.Outside.{next_count}
 
 -- the calls of an object: the number of the next one, the faults, and which calls fail

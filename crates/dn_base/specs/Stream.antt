@@ -1,3 +1,4 @@
+-- What contracts see of the adapters over streams of the system.
 use Rattle.std.specs.Prelude.{ℕ}
 
 -- a reader or a writer of the system, and how many of its calls were faults

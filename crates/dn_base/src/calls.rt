@@ -1,6 +1,6 @@
 //! The numbers of an object's calls, and which of them fail.
 
-ghost use Rattle.std.specs.Prelude.{◌≡◌, ◌==◌, ℕ, ◌+◌, ◌<◌, ◌≤◌, ◌^◌, true, false};
+ghost use Rattle.std.specs.Prelude.{◌≡◌, ◌==◌, ◌+◌, ◌<◌, ◌≤◌, ◌^◌, true, false};
 ghost use Rattle.dn_base.specs.Memory.{next_call};
 ghost use Rattle.std.specs.List.{list_any};
 
@@ -18,7 +18,7 @@ pub struct Calls {
 }
 
 impl Model for Calls {
-    ghost use Rattle.std.specs.Prelude.{ℕ, ◌≤◌, ◌^◌};
+    ghost use Rattle.std.specs.Prelude.{◌≤◌, ◌^◌};
     ghost use Rattle.dn_base.specs.Memory.{CallState};
 
     ghost Value = { CallState };
@@ -56,6 +56,7 @@ impl Calls {
     /// Numbers the next call and answers whether it fails, which is then counted as a fault.
     pub fn fails(&mut self) -> bool
         ensures listed { result ≡ list_any (λ n. n == self.old.call) self.old.failing }
+        ensures late { 2 ^ 32 ≤ self.old.call → result ≡ false }
         ensures counted { self.new.call ≡ next_call self.old.call }
         ensures raised { result ≡ true → self.new.faults ≡ self.old.faults + 1 }
         ensures steady { result ≡ false → self.new.faults ≡ self.old.faults }

@@ -25,7 +25,7 @@ pub struct MemSource {
 }
 
 impl Model for MemSource {
-    ghost use Rattle.std.specs.Prelude.{ℕ, ◌<◌, ◌≤◌, ◌^◌, drop, vec_len};
+    ghost use Rattle.std.specs.Prelude.{◌<◌, ◌≤◌, drop, vec_len};
     ghost use Rattle.dn_base.specs.Memory.{SourceState};
 
     ghost Value = { SourceState };
@@ -76,6 +76,7 @@ impl Source for MemSource {
         ensures never_falls { self.old.faults ≤ self.new.faults }
         ensures same_sure { is_nil self.new.failing ≡ is_nil self.old.failing }
         ensures succeeds { is_nil self.old.failing ≡ true → IsOk result × (self.new.faults ≡ self.old.faults) }
+        ensures late { 2 ^ 32 ≤ self.old.call → IsOk result }
         ensures fails { is_err result ≡ list_any (λ n. n == self.old.call) self.old.failing }
         ensures counted { self.new.call ≡ next_call self.old.call }
         ensures steady { OnOk result (self.new.faults ≡ self.old.faults) }
@@ -100,7 +101,6 @@ pub struct MemSink {
 }
 
 impl Model for MemSink {
-    ghost use Rattle.std.specs.Prelude.{ℕ, ◌<◌, ◌≤◌, ◌^◌};
     ghost use Rattle.dn_base.specs.Memory.{SinkState};
 
     ghost Value = { SinkState };
@@ -152,6 +152,7 @@ impl Sink for MemSink {
         ensures never_falls { self.old.faults ≤ self.new.faults }
         ensures same_sure { is_nil self.new.failing ≡ is_nil self.old.failing }
         ensures succeeds { is_nil self.old.failing ≡ true → (result ≢ Err WriteFault.Failed) × (self.new.faults ≡ self.old.faults) }
+        ensures late { 2 ^ 32 ≤ self.old.call → result ≢ Err WriteFault.Failed }
         ensures fails { is_fault result ≡ list_any (λ n. n == self.old.call) self.old.failing }
         ensures counted { self.new.call ≡ next_call self.old.call }
         ensures steady { (result ≢ Err WriteFault.Failed) → self.new.faults ≡ self.old.faults }

@@ -1,5 +1,4 @@
-use Rattle.std.proofs.Common.{rules, arith, ◌≡◌, ◌≤◌, ◌<◌, length, take, vec_len}
-use Rattle.dn_base.specs.Outside.{AtEnd, Taken}
+use Rattle.std.proofs.Common.{rules}
 use Rattle.dn_base.proofs.Told.{front_told, TakenAtMost-then}
 use Rattle.dn_base.proofs.whole.read_whole.Goals as goal
 

@@ -1,5 +1,4 @@
-use Rattle.std.proofs.Common.{rules, ap, Some, ◌∙◌, sym, ◌≡◌, ◌≤◌, ◌+◌, length, arith}
-use Rattle.dn_base.specs.Memory.{SourceState}
+use Rattle.std.proofs.Common.{rules, ap, Some, ◌≤◌, ◌+◌, length}
 use Rattle.dn_base.proofs.Parts.{piece_taken}
 use Rattle.dn_base.proofs.memory.MemSourceSource.read.Goals as goal
 
