@@ -102,8 +102,8 @@ after_in f (suc n) xs z =
     let ih = after_in f n (each_step f xs) z in
     ((λ m. let r = ih.0 m in let p = (each_in f xs r.0).0 r.1 in (p.0, p.1, (r.0, p.2, r.2))), (λ m. ih.1 (m.2.0, (each_in f xs m.2.0).1 (m.0, m.1, m.2.1), m.2.2)))
 
-pub reached_is_chain : (net : List NodeDecl) (n : ℕ) (x y : Name) → Member y (after_steps (steps net) n (x ∷ [])) ↔ Chain (Step net) n x y
-reached_is_chain net n x y =
+pub after_steps_is_chain : (net : List NodeDecl) (n : ℕ) (x y : Name) → Member y (after_steps (steps net) n (x ∷ [])) ↔ Chain (Step net) n x y
+after_steps_is_chain net n x y =
     let a = after_in (steps net) n (x ∷ []) y in (
       (λ m. let q = a.0 m in elim q.1 [ inl s ↦ subst (λ w. Chain (Step net) n w y) (sym s) q.2 | inr z ↦ absurd z ]),
       (λ c. a.1 (x, inl refl, c)),
@@ -121,3 +121,11 @@ resolved_within net n x y =
 -- the list has the names that the relation has
 pub resolved_is_resolution : (net : List NodeDecl) (x y : Name) → Member y (resolved net x) ↔ Resolves net x y
 resolved_is_resolution net x y = resolved_within net step_limit x y
+
+-- the names that are reached in at most so many steps are the ends of the chains of at most that length
+pub reached_is_within : (net : List NodeDecl) (n : ℕ) (x y : Name) → Member y (reached (steps net) n (x ∷ [])) ↔ ReachesWithin (Step net) n x y
+reached_is_within net n x y =
+    let a = reached_in (steps net) n (x ∷ []) y in (
+      (λ m. let q = a.0 m in elim q.1 [ inl s ↦ subst (λ w. ReachesWithin (Step net) n w y) (sym s) q.2 | inr z ↦ absurd z ]),
+      (λ c. a.1 (x, inl refl, c)),
+    )

@@ -1,8 +1,8 @@
 -- Sets of names as ascending lists, and the names that a name comes to.
-use Rattle.std.specs.Prelude.{ℕ, zero, suc, Bool, if◌then◌else◌, ◌&&◌, ◌||◌, nat_lt, ◌==◌, List, [], ◌∷◌, ◌++◌, ◌↔◌}
+use Rattle.std.specs.Prelude.{ℕ, zero, suc, Bool, if◌then◌else◌, ◌&&◌, ◌||◌, nat_lt, ◌==◌, List, [], ◌∷◌, ◌++◌, ◌↔◌, IsTrue, true}
 use Rattle.dn_net.specs.declared.node.Name.{Name}
 use Rattle.dn_net.specs.declared.node.NodeDecl.{NodeDecl}
-use Rattle.dn_net.specs.Chain.{Member, Chain}
+use Rattle.dn_net.specs.Chain.{Member, Chain, ReachesWithin}
 use Rattle.dn_net.specs.Decode.{is_accepted, steps, step_limit, Step, Resolves}
 
 -- names are ordered by node, and then by address
@@ -50,6 +50,23 @@ resolved net x = sorted_names (passing (is_accepted net) (reached (steps net) st
 abbrev pub ResolvedIsResolution : Type 0
 ResolvedIsResolution = (net : List NodeDecl) (x y : Name) → Member y (resolved net x) ↔ Resolves net x y
 
+-- The names that are reached in at most so many steps are the ends of the chains of at most that length.
+abbrev pub ReachedIsWithin : Type 0
+ReachedIsWithin = (net : List NodeDecl) (n : ℕ) (x y : Name) → Member y (reached (steps net) n (x ∷ [])) ↔ ReachesWithin (Step net) n x y
+
+-- a list of names ascends
+abbrev pub ascends_from : Name → List Name → Bool
+ascends_from x [] = true
+ascends_from x (y ∷ ys) = name_lt x y && ascends_from y ys
+
+abbrev pub ascends : List Name → Bool
+ascends [] = true
+ascends (x ∷ xs) = ascends_from x xs
+
+-- The list ascends, so it has each name once.
+abbrev pub ResolvedAscends : Type 0
+ResolvedAscends = (net : List NodeDecl) (x : Name) → IsTrue (ascends (resolved net x))
+
 -- The names that are reached in exactly so many steps are the ends of the chains of that length.
-abbrev pub ReachedIsChain : Type 0
-ReachedIsChain = (net : List NodeDecl) (n : ℕ) (x y : Name) → Member y (after_steps (steps net) n (x ∷ [])) ↔ Chain (Step net) n x y
+abbrev pub AfterStepsIsChain : Type 0
+AfterStepsIsChain = (net : List NodeDecl) (n : ℕ) (x y : Name) → Member y (after_steps (steps net) n (x ∷ [])) ↔ Chain (Step net) n x y

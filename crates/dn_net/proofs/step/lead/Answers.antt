@@ -1,7 +1,7 @@
 use Rattle.std.specs.List.{list_all}
 use Rattle.dn_net.specs.Rules.{entry_in_range, block_in_range, dest_in_range}
 use Rattle.dn_net.proofs.Places.{both}
-use Rattle.dn_net.proofs.Steps.{dests_reach, over_reaches}
+use Rattle.dn_net.proofs.Steps.{dests_reach}
 use Rattle.dn_net.proofs.step.lead.Goals as goal
 
 pub returns-in-Some-clause-reach : goal.returns-in-Some-clause-reach
@@ -9,6 +9,3 @@ returns-in-Some-clause-reach c =
     let entry = c.in-Some.entry.now in
     let range = both (block_in_range entry.block) (list_all (dest_in_range entry.block) entry.dests) (c.in-Some.ensures.each entry_in_range c.requires.in_range) in
     rw c.as_slice.ensures (dests_reach entry.block c.args.addr entry.dests c.in-Some.ensures.covers range.1)
-
-pub returns-in-None-clause-reach : goal.returns-in-None-clause-reach
-returns-in-None-clause-reach c = over_reaches c.args.addr c.args.over.now c.requires.addr c.requires.based

@@ -13,6 +13,10 @@ pub returns-then-is_unit-clause-steps : goal.returns-then-is_unit-clause-steps
 returns-then-is_unit-clause-steps c =
     sym (unit_is_bare (slice_get c.args.self.now c.args.name.node) c.args.name.addr (node_at is_formed c.args.self.now c.args.name.node c.if-is_unit.ensures.formed) (sym c.if-is_unit.ensures.unit)).1
 
+pub returns-then-is_unit-clause-sent : goal.returns-then-is_unit-clause-sent
+returns-then-is_unit-clause-sent c =
+    sym (unit_is_bare (slice_get c.args.self.now c.args.name.node) c.args.name.addr (node_at is_formed c.args.self.now c.args.name.node c.if-is_unit.ensures.formed) (sym c.if-is_unit.ensures.unit)).2
+
 pub lead-requires-clause-in_range : goal.lead-requires-clause-in_range
 lead-requires-clause-in_range c = entries_in_range (slice_get c.args.self.now c.args.name.node) _ (node_at is_in_range c.args.self.now c.args.name.node c.requires.in_range) c.entries.ensures
 

@@ -1,5 +1,0 @@
-use Rattle.dn_net.proofs.Names.{reached_is_chain}
-use Rattle.dn_net.proofs.laws.reached_is_chain.Goals as goal
-
-pub returns : goal.returns
-returns c = reached_is_chain
