@@ -1,5 +1,5 @@
 -- The net and the commands of a tree, and the rules on its names and its size.
-use Rattle.std.specs.Prelude.{◌≡◌, ℕ, ◌+◌, Bool, true, false, if◌then◌else◌, ◌&&◌, ◌||◌, nat_lt, nat_le, not, List, [], ◌∷◌, map, length, sum, count_by, position, Option, Some, None, option_map}
+use Rattle.std.specs.Prelude.{ℕ, ◌+◌, Bool, true, false, if◌then◌else◌, ◌&&◌, ◌||◌, nat_lt, not, List, [], ◌∷◌, map, length, sum, count_by, position, Option, Some, None, option_map}
 use Rattle.std.specs.List.{list_all, list_any, position_or_len}
 use Rattle.std.specs.Option.{unwrap_or, is_some}
 use Rattle.std.specs.Str.{bytes_eq}
@@ -55,6 +55,14 @@ command_of known c = Resolve (record { text = c.name; node = position (bytes_eq 
 abbrev pub commands_of : Tree → List Command
 commands_of tree = map (command_of (names tree)) tree.commands
 
+-- the node that a command names is one of so many, or it names none
+abbrev pub node_within : ℕ → Option ℕ → Bool
+node_within count None = true
+node_within count (Some number) = nat_lt number count
+
+abbrev pub names_within : ℕ → Command → Bool
+names_within count (Resolve target a) = node_within count target.node
+
 -- Duplicate: a node's name was there before.
 abbrev pub has_duplicate : List (List ℕ) → Bool
 has_duplicate [] = false
@@ -68,12 +76,18 @@ over_known known (Some text) = is_known known text
 abbrev pub refers_to_known : List (List ℕ) → Decl → Bool
 refers_to_known known d = list_all (λ e. is_known known e.to) d.entries && over_known known d.over
 
+abbrev pub all_known : List (List ℕ) → List Decl → Bool
+all_known known decls = list_all (refers_to_known known) decls
+
 abbrev pub has_unknown : Tree → Bool
-has_unknown tree = not (list_all (refers_to_known (names tree)) tree.nodes)
+has_unknown tree = not (all_known (names tree) tree.nodes)
 
 -- TooMany: more than 1,024 nodes, 64 agents or 16,384 parts. An accept block, a map entry and an `over` are one part each.
 abbrev pub parts_of : Decl → ℕ
 parts_of d = length d.accepts + (length d.entries + (if is_some d.over then 1 else 0))
 
+abbrev pub is_too_large : List Decl → Bool
+is_too_large decls = nat_lt 1024 (length decls) || (nat_lt 64 (count_by (λ d. d.agent) decls) || nat_lt 16384 (sum (map parts_of decls)))
+
 abbrev pub has_too_many : Tree → Bool
-has_too_many tree = nat_lt 1024 (length tree.nodes) || (nat_lt 64 (count_by (λ d. d.agent) tree.nodes) || nat_lt 16384 (sum (map parts_of tree.nodes)))
+has_too_many tree = is_too_large tree.nodes

@@ -1,5 +1,5 @@
 -- What a text comes to: the first rule that it breaks, or its net and commands.
-use Rattle.std.specs.Prelude.{◌≡◌, ℕ, Bool, if◌then◌else◌, List, [], ◌∷◌, codes, Option, Some, None}
+use Rattle.std.specs.Prelude.{◌≡◌, ℕ, if◌then◌else◌, List, codes, Option, Some, None}
 use Rattle.dn_parse.specs.declared.tree.Tree.{Tree}
 use Rattle.dn_parse.specs.Reading.{read_of}
 use Rattle.dn_net.specs.declared.node.NodeDecl.{NodeDecl}

@@ -1,6 +1,6 @@
 //! The names of a text's nodes, with their numbers.
 
-ghost use Rattle.std.specs.Prelude.{◌≡◌, [], ◌∷◌, ◌++◌, OnErr, OnOk, length, ◌<◌, position, false};
+ghost use Rattle.std.specs.Prelude.{◌≡◌, [], ◌∷◌, ◌++◌, if◌then◌else◌, not, IfOk, OnErr, length, ◌<◌, position};
 ghost use Rattle.std.specs.List.{list_any};
 ghost use Rattle.std.specs.Str.{bytes_eq};
 
@@ -36,13 +36,6 @@ impl NameTable {
         }
     }
 
-    /// How many names there are.
-    pub fn len(&self) -> usize
-        ensures { result ≡ length self.now }
-    {
-        self.names.len()
-    }
-
     /// The number of a name. `None` exactly where it is not there.
     pub fn find(&self, text: &str) -> Option<u16>
         ensures { result ≡ position (bytes_eq text.now) self.now }
@@ -53,15 +46,16 @@ impl NameTable {
         }
     }
 
-    /// Adds a name. For want of memory the names are unchanged.
-    pub fn add(&mut self, alloc: Global, text: &str) -> Result<(), AllocError>
-        requires new_name { list_any (bytes_eq text.now) self.old ≡ false }
+    /// Adds a name, and answers whether it is new. One that is there already is not added again, and for
+    /// want of memory the names are unchanged.
+    pub fn add(&mut self, alloc: Global, text: &str) -> Result<bool, AllocError>
         requires room { length self.old < 1024 }
-        ensures ok { OnOk result (self.new ≡ self.old ++ text.now ∷ []) }
+        ensures is_new { IfOk result (λ is_new. is_new ≡ not (list_any (bytes_eq text.now) self.old)) }
+        ensures added { IfOk result (λ is_new. self.new ≡ (if is_new then self.old ++ text.now ∷ [] else self.old)) }
         ensures err { OnErr result (self.new ≡ self.old) }
     {
         let name = String::from_str(alloc, text)?;
-        let _ = self.names.insert(name)?;
-        Ok(())
+        let is_new = self.names.insert(name)?;
+        Ok(is_new)
     }
 }

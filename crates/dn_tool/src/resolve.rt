@@ -1,5 +1,11 @@
 //! What a name comes to, step by step.
 
+ghost use Rattle.std.specs.Prelude.{◌≡◌, ◌+◌, ◌<◌, ◌^◌, length, IsTrue};
+ghost use Rattle.std.specs.List.{list_all};
+ghost use Rattle.dn_net.specs.Decode.{is_closed, moved};
+ghost use Rattle.dn_net.specs.Rules.{is_in_range};
+ghost use Rattle.dn_tool.specs.Reply.{IsFound, IsFoundWithin};
+
 use dn_net::net::Net;
 use dn_net::node::{Dest, Name};
 use dn_net::step::Step;
@@ -21,9 +27,15 @@ pub enum Found {
 }
 
 /// Follows a name to what it comes to.
-pub fn follow(net: &Net, name: Name) -> Found {
+pub fn follow(net: &Net, name: Name) -> Found
+    requires there { name.node < length net.now }
+    requires closed { IsTrue (is_closed net.now) }
+    requires in_range { IsTrue (list_all is_in_range net.now) }
+    ensures found { IsFound net.now name result }
+    ensures there { IsFoundWithin (length net.now) result }
+{
     let mut at = name;
-    for _ in 0..STEP_LIMIT {
+    'steps: for _ in 0..STEP_LIMIT {
         match net.step(at) {
             Step::Accepted => return Found::Accepted(at),
             Step::Stop | Step::Nothing => return Found::Nothing,
@@ -38,7 +50,10 @@ pub fn follow(net: &Net, name: Name) -> Found {
 }
 
 /// The destination, its address raised by the offset.
-fn moved(dest: Dest, offset: u64) -> Name {
+fn moved(dest: Dest, offset: u64) -> Name
+    requires { dest.addr + offset < 2 ^ 64 }
+    ensures { result ≡ moved offset dest }
+{
     Name {
         node: dest.node,
         addr: dest.addr + offset,
