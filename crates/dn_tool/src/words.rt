@@ -22,7 +22,7 @@ impl Model for Words {
 }
 
 impl Words {
-    /// No words. It takes no memory.
+    /// No words. It keeps the allocator and takes no memory.
     pub fn new(alloc: Global) -> Words
         ensures { result ≡ [] }
     {
@@ -32,10 +32,11 @@ impl Words {
     }
 
     /// Appends a word. For want of memory the words are unchanged.
-    pub fn push(&mut self, alloc: Global, word: &str) -> Result<(), AllocError>
+    pub fn push(&mut self, word: &str) -> Result<(), AllocError>
         ensures ok { OnOk result (self.new ≡ self.old ++ word.now ∷ []) }
         ensures err { OnErr result (self.new ≡ self.old) }
     {
+        let alloc = *self.list.allocator();
         let text = String::from_str(alloc, word)?;
         self.list.push(text)?;
         Ok(())

@@ -37,7 +37,7 @@ impl From<io::Error> for WordsFault {
 fn words_of<R: Env + AllocGlobal>(rt: &R) -> Result<Words, WordsFault> {
     let mut words = Words::new(rt.alloc());
     for word in env::args(rt)?.skip(1) {
-        words.push(rt.alloc(), word.as_str())?;
+        words.push(word.as_str())?;
     }
     Ok(words)
 }
