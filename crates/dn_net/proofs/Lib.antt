@@ -1,3 +1,6 @@
+pub mod Ascending
+pub mod Blocks
+pub mod Faults
 pub mod Least
 pub mod Places
 pub mod Resolution

@@ -1,14 +1,14 @@
 -- One pass over the blocks of a node in the order of their first addresses.
-use Rattle.std.proofs.Common.{◌≡◌, ℕ, zero, suc, ◌+◌, ◌-◌, ◌<◌, ◌≤◌, ◌⊎◌, inl, inr, Bool, true, false, cond, if◌then◌else◌, ◌&&◌, ◌||◌, not, nat_le, nat_lt, List, [], ◌∷◌, Option, Some, None, count_by, refl, sym, ap, ◌∙◌, subst, arith, rules, leb-true, ltb-true, IsTrue, All, length, get_or, drop, drop-cons}
-use Rattle.std.proofs.lemmas.Bool.{cases_lt, le-leb, lt-ltb, leb-false, ltb-false, le-ltb, lt-leb}
+use Rattle.std.proofs.Common.{◌≡◌, ℕ, zero, suc, ◌+◌, ◌<◌, ◌≤◌, ◌⊎◌, inl, inr, Bool, true, false, cond, if◌then◌else◌, ◌&&◌, ◌||◌, not, nat_le, nat_lt, List, [], ◌∷◌, Option, Some, None, refl, sym, ap, ◌∙◌, subst, arith, leb-true, ltb-true, IsTrue, All, length, get_or, drop, drop-cons}
+use Rattle.std.proofs.lemmas.Bool.{cases_lt, lt-ltb, leb-false, ltb-false, lt-leb}
 use Rattle.std.proofs.lemmas.List.Sums.{sum_by-cons}
 use Rattle.dn_net.specs.declared.node.Block.{Block}
 use Rattle.dn_net.specs.declared.spans.Span.{Span}
 use Rattle.std.specs.List.Sorted.{IsNonDecreasingBy}
 use Rattle.dn_net.specs.Decode.{within, top}
 use Rattle.dn_net.specs.Rules.{block_in_range}
-use Rattle.dn_net.specs.Spans.{maps_in, accepts_in, overlaps_in, is_accepted_in}
-use Rattle.dn_net.proofs.Least.{within_to, within_from, both_true, either_true, true_left, true_right, true_both}
+use Rattle.dn_net.specs.Spans.{maps_in, accepts_in, overlaps_in}
+use Rattle.dn_net.proofs.Least.{within_from, both_true, either_true, true_left, true_right, true_both}
 
 -- the first span that meets what lies before it, where the map blocks and the accept blocks so far end before these addresses
 abbrev pub meets : ℕ → ℕ → Span → Bool

@@ -1,6 +1,6 @@
 -- How many addresses lie in accept blocks, counted in one pass.
-use Rattle.std.proofs.Common.{◌≡◌, ℕ, zero, suc, ◌+◌, ◌-◌, ◌<◌, ◌≤◌, ◌⊎◌, inl, inr, Bool, true, false, cond, if◌then◌else◌, ◌&&◌, ◌||◌, not, nat_le, nat_lt, List, [], ◌∷◌, refl, sym, ap, ◌∙◌, subst, arith, rules, leb-true, ltb-true, IsTrue, All, length, get_or}
-use Rattle.std.proofs.lemmas.Bool.{cases_lt, le-leb, lt-ltb, leb-false, ltb-false, le-ltb, lt-leb}
+use Rattle.std.proofs.Common.{◌≡◌, ℕ, zero, suc, ◌+◌, ◌-◌, ◌<◌, ◌≤◌, ◌⊎◌, inl, inr, Bool, true, false, if◌then◌else◌, ◌&&◌, not, nat_le, nat_lt, List, [], ◌∷◌, refl, sym, ap, ◌∙◌, arith, leb-true, ltb-true, IsTrue, All}
+use Rattle.std.proofs.lemmas.Bool.{cases_lt, le-leb, leb-false, ltb-false}
 use Rattle.std.specs.List.Sorted.{IsNonDecreasingBy}
 use Rattle.dn_net.specs.declared.spans.Span.{Span}
 use Rattle.dn_net.specs.Decode.{within, top}
@@ -13,7 +13,6 @@ use Rattle.dn_net.proofs.Sweep.{Rising, rising, early, one_if, accepts_in-cons, 
 abbrev pub tally : ℕ → List Span → ℕ
 tally past [] = 0
 tally past (s ∷ ss) = if not s.mapped && nat_le past s.block.hi then (s.block.hi + 1 - (if nat_lt past s.block.lo then s.block.lo else past)) + tally (s.block.hi + 1) ss else tally past ss
-
 
 pub count_below-suc : (p : ℕ → Bool) (k : ℕ) → count_below p (suc k) ≡ count_below p k + one_if (p k)
 unfolding count_below

@@ -1,5 +1,5 @@
 -- Sets of names as ascending lists, and the names that a name comes to.
-use Rattle.std.specs.Prelude.{ℕ, zero, suc, Bool, if◌then◌else◌, ◌&&◌, ◌||◌, nat_lt, ◌==◌, ◌+◌, ◌<◌, length, slice_index_or, IsTrue, List, [], ◌∷◌, ◌++◌, ◌↔◌}
+use Rattle.std.specs.Prelude.{ℕ, zero, suc, Bool, if◌then◌else◌, ◌&&◌, ◌||◌, nat_lt, ◌==◌, true, List, [], ◌∷◌, ◌++◌, ◌↔◌}
 use Rattle.dn_net.specs.declared.node.Name.{Name}
 use Rattle.dn_net.specs.declared.node.NodeDecl.{NodeDecl}
 use Rattle.dn_net.specs.Chain.{Member, Chain}
@@ -12,9 +12,14 @@ name_lt x y = nat_lt x.node y.node || ((x.node == y.node) && nat_lt x.addr y.add
 abbrev pub name_eq : Name → Name → Bool
 name_eq x y = (x.node == y.node) && (x.addr == y.addr)
 
--- each name comes before the next
-abbrev pub AreAscending : List Name → Type 0
-AreAscending xs = (k : ℕ) (d : Name) → k + 1 < length xs → IsTrue (name_lt (slice_index_or xs k d) (slice_index_or xs (k + 1) d))
+-- each name of the list comes before the next
+abbrev pub is_before_first : Name → List Name → Bool
+is_before_first x [] = true
+is_before_first x (y ∷ ys) = name_lt x y
+
+abbrev pub is_ascending : List Name → Bool
+is_ascending [] = true
+is_ascending (x ∷ xs) = is_before_first x xs && is_ascending xs
 
 -- the name put into an ascending list, which it leaves as it is where it is there
 abbrev pub with_name : Name → List Name → List Name

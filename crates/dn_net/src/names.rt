@@ -1,12 +1,12 @@
 //! Sets of names.
 
-ghost use Rattle.std.specs.Prelude.{◌≡◌, [], OnOk, OnErr};
-ghost use Rattle.dn_net.specs.Names.{with_name, name_lt};
+ghost use Rattle.std.specs.Prelude.{◌≡◌, ◌↔◌, ◌<◌, ◌≤◌, ℕ, [], false, Some, length, slice_get, slice_index_or, OnOk, OnErr, IsTrue};
+ghost use Rattle.dn_net.specs.declared.node.Name.{Name};
+ghost use Rattle.dn_net.specs.Names.{with_name, name_lt, is_ascending};
 
 use crate::OutOfMemory;
 use crate::node::Name;
 use std::alloc::Global;
-use std::cmp::Ordering;
 use std::marker::Model;
 
 /// A set of names, which contracts see as the list of its names, ascending by node and then by
@@ -17,15 +17,15 @@ pub struct Names {
 }
 
 impl Model for Names {
-    ghost use Rattle.std.specs.Prelude.{List};
+    ghost use Rattle.std.specs.Prelude.{List, IsTrue};
     ghost use Rattle.dn_net.specs.declared.node.Name.{Name};
-    ghost use Rattle.dn_net.specs.Names.{AreAscending};
+    ghost use Rattle.dn_net.specs.Names.{is_ascending};
 
     ghost Value = { List Name };
 
     ghost view = { λ s. s.names.items };
 
-    ghost invariant = { λ s. AreAscending s.names.items };
+    ghost invariant = { λ s. IsTrue (is_ascending s.names.items) };
 }
 
 impl Names {
@@ -43,8 +43,9 @@ impl Names {
         ensures ok { OnOk result (self.new ≡ with_name name self.old) }
         ensures err { OnErr result (self.new ≡ self.old) }
     {
-        let place = self.names.partition_point(|other| comes_before(*other, name));
-        if self.names.get(place) == Some(&name) {
+        let names = self.names.as_slice();
+        let place = place_of(names, name);
+        if is_at(names, place, name) {
             return Ok(());
         }
         self.names.insert(place, name)?;
@@ -56,6 +57,25 @@ impl Names {
         ensures { result.now ≡ self.now }
     {
         self.names.as_slice()
+    }
+}
+
+/// How many names of an ascending list come before the name.
+fn place_of(names: &[Name], name: Name) -> usize
+    requires { IsTrue (is_ascending names.now) }
+    ensures bound { result ≤ length names.now }
+    ensures before { (k : ℕ) (d : Name) → k < result → IsTrue (name_lt (slice_index_or names.now k d) name) }
+    ensures after { (k : ℕ) (d : Name) → result ≤ k → k < length names.now → name_lt (slice_index_or names.now k d) name ≡ false }
+{
+    names.partition_point(|other| comes_before(*other, name))
+}
+
+fn is_at(names: &[Name], place: usize, name: Name) -> bool
+    ensures { IsTrue result ↔ (slice_get names.now place ≡ Some name) }
+{
+    match names.get(place) {
+        Some(other) => *other == name,
+        None => false,
     }
 }
 

@@ -1,14 +1,17 @@
 //! The rules that each node of a net keeps.
 
-ghost use Rattle.std.specs.Prelude.{◌≡◌, ◌≢◌, ◌<◌, ◌+◌, ◌&&◌, ◌||◌, None, Some, not, nat_le, OnOk, IfErr, IsTrue, length, slice_get, Option};
+ghost use Rattle.std.specs.Prelude.{◌≡◌, ◌≢◌, ◌<◌, ◌+◌, ◌&&◌, ◌||◌, None, Some, not, nat_le, OnOk, IfErr, IsTrue, All, length, slice_get, Option};
 ghost use Rattle.std.specs.List.{list_all, list_any};
 ghost use Rattle.std.specs.Option.{option_copied, is_some};
+ghost use Rattle.std.specs.List.Sorted.{IsNonDecreasingBy};
+ghost use Rattle.dn_net.specs.Decode.{top};
+ghost use Rattle.dn_net.specs.Spans.{is_accepted_in};
 ghost use Rattle.dn_net.specs.declared.node.NodeDecl.{NodeDecl};
-ghost use Rattle.dn_net.specs.Rules.{node_fault, is_in_range, fault_of_node, block_in_range, dest_in_range, entry_in_range, same_dest, dests_repeat, ports_repeat, unit_repeats};
+ghost use Rattle.dn_net.specs.Rules.{node_fault, is_in_range, fault_of_node, is_vectors, count_below, block_in_range, dest_in_range, entry_in_range, same_dest, dests_repeat, ports_repeat, unit_repeats};
 
 use crate::net::Net;
 use crate::node::{Block, Dest, Entry, Role, TOP, Unit};
-use crate::spans::{accepted_addresses, first_overlap, sorted_spans};
+use crate::spans::{Span, accepted_addresses, first_overlap, sorted_spans};
 use std::alloc::Global;
 use thiserror::Error;
 
@@ -68,19 +71,24 @@ impl Net {
         if has_repeat(entries, self.unit(node)) {
             return Err(NodeFault::Repeat { node });
         }
-        let is_vectors = self.role(node) == Role::Vectors;
-        if is_vectors && !(self.is_unmapped(node) && accepted_addresses(&spans) <= MAX_VECTORS) {
+        if !has_vector_space(self.role(node), entries, self.over(node), &spans) {
             return Err(NodeFault::VectorSpace { node });
         }
         Ok(())
     }
+}
 
-    /// Whether the node has neither a map nor an `over`.
-    fn is_unmapped(&self, node: u16) -> bool
-        requires { node < length self.now }
-        ensures { (d : NodeDecl) → slice_get self.now node ≡ Some d → result ≡ (nat_le (length d.entries) 0 && not (is_some d.over)) }
-    {
-        self.entries(node).is_empty() && self.over(node).is_none()
+/// Whether a node with these parts is no `vectors` node, or has no map, no `over` and not too many addresses.
+fn has_vector_space(role: Role, entries: &[Entry], over: Option<u16>, spans: &[Span]) -> bool
+    requires in_range { All (λ s. IsTrue (block_in_range s.block)) spans.now }
+    requires sorted { IsNonDecreasingBy (λ s. s.block.lo) spans.now }
+    ensures { result ≡ (not (is_vectors role) || ((nat_le (length entries.now) 0 && not (is_some over)) && nat_le (count_below (is_accepted_in spans.now) (top + 1)) 4096)) }
+{
+    match role {
+        Role::Vectors => {
+            entries.is_empty() && over.is_none() && accepted_addresses(spans) <= MAX_VECTORS
+        }
+        _ => true,
     }
 }
 
@@ -105,7 +113,9 @@ fn are_entries_in_range(entries: &[Entry]) -> bool
     ensures { result ≡ list_all entry_in_range entries.now }
 {
     for entry in entries {
-        if !(is_block_in_range(entry.block) && are_dests_in_range(entry.block, entry.dests.as_slice())) {
+        if !(is_block_in_range(entry.block)
+            && are_dests_in_range(entry.block, entry.dests.as_slice()))
+        {
             return false;
         }
     }

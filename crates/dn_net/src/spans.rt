@@ -1,9 +1,10 @@
 //! The blocks of a node in the order of their first addresses, and what one pass over them finds.
 
 ghost use Rattle.std.specs.Prelude.{◌≡◌, ℕ, ◌+◌, ◌<◌, ◌≤◌, ◌&&◌, ◌||◌, nat_lt, false, IfOk, IfSome, IfNone, IsTrue, All};
+ghost use Rattle.std.specs.List.{list_all};
 ghost use Rattle.std.specs.List.Sorted.{IsPermutation, IsNonDecreasingBy};
 ghost use Rattle.dn_net.specs.Decode.{top};
-ghost use Rattle.dn_net.specs.Rules.{block_in_range, count_below};
+ghost use Rattle.dn_net.specs.Rules.{block_in_range, entry_in_range, count_below};
 ghost use Rattle.dn_net.specs.Spans.{node_spans, overlaps_in, is_accepted_in};
 
 use crate::node::{Block, Entry};
@@ -35,25 +36,28 @@ pub(crate) fn sorted_spans(
 ) -> Result<Vec<Span>, AllocError>
     ensures same { IfOk result (λ v. IsPermutation (node_spans entries.now accepts.now) v.items) }
     ensures sorted { IfOk result (λ v. IsNonDecreasingBy (λ s. s.block.lo) v.items) }
+    ensures in_range { IfOk result (λ v. IsTrue (list_all block_in_range accepts.now && list_all entry_in_range entries.now) → All (λ s. IsTrue (block_in_range s.block)) v.items) }
 {
     let mut spans = all_spans(alloc, entries, accepts)?;
     spans.sort_unstable_by_key(|span| span.block.lo);
     Ok(spans)
 }
 
-fn all_spans(
-    alloc: Global,
-    entries: &[Entry],
-    accepts: &[Block],
-) -> Result<Vec<Span>, AllocError>
+fn all_spans(alloc: Global, entries: &[Entry], accepts: &[Block]) -> Result<Vec<Span>, AllocError>
     ensures { IfOk result (λ v. v.items ≡ node_spans entries.now accepts.now) }
 {
     let mut spans = Vec::new(alloc);
     for entry in entries {
-        spans.push(Span { block: entry.block, mapped: true })?;
+        spans.push(Span {
+            block: entry.block,
+            mapped: true,
+        })?;
     }
     for block in accepts {
-        spans.push(Span { block: *block, mapped: false })?;
+        spans.push(Span {
+            block: *block,
+            mapped: false,
+        })?;
     }
     Ok(spans)
 }

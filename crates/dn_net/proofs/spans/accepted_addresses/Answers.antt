@@ -1,4 +1,4 @@
-use Rattle.std.proofs.Common.{◌≡◌, ◌∙◌, ◌+◌, sym, refl, arith, rules}
+use Rattle.std.proofs.Common.{arith}
 use Rattle.std.proofs.lemmas.List.{at_drop_all}
 use Rattle.dn_net.proofs.Tally.{tally, accepted_tally}
 use Rattle.dn_net.proofs.spans.accepted_addresses.Goals as goal

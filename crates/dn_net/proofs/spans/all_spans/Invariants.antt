@@ -1,4 +1,4 @@
-use Rattle.std.proofs.Common.{◌≡◌, take, drop, []}
+use Rattle.std.proofs.Common.{◌≡◌, take, []}
 use Rattle.dn_net.specs.Spans.{node_spans}
 use Rattle.dn_net.proofs.spans.all_spans.Given as goal
 

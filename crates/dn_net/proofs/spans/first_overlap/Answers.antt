@@ -1,4 +1,4 @@
-use Rattle.std.proofs.Common.{◌≡◌, ◌∙◌, sym, refl, rules}
+use Rattle.std.proofs.Common.{◌∙◌, sym}
 use Rattle.std.proofs.lemmas.List.{at_drop_all}
 use Rattle.dn_net.proofs.Sweep.{sweep, sweep_at, found_overlap, no_overlap}
 use Rattle.dn_net.proofs.spans.first_overlap.Goals as goal
