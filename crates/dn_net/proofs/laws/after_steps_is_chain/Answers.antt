@@ -1,4 +1,4 @@
-use Rattle.dn_net.proofs.Names.{after_steps_is_chain}
+use Rattle.dn_net.proofs.Resolution.{after_steps_is_chain}
 use Rattle.dn_net.proofs.laws.after_steps_is_chain.Goals as goal
 
 pub returns : goal.returns

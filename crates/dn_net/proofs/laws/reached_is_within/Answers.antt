@@ -1,4 +1,4 @@
-use Rattle.dn_net.proofs.Names.{reached_is_within}
+use Rattle.dn_net.proofs.Resolution.{reached_is_within}
 use Rattle.dn_net.proofs.laws.reached_is_within.Goals as goal
 
 pub returns : goal.returns

@@ -1,4 +1,4 @@
-use Rattle.dn_net.proofs.Ascend.{resolved_ascends}
+use Rattle.dn_net.proofs.Ascending.{resolved_ascends}
 use Rattle.dn_net.proofs.laws.resolved_ascends.Goals as goal
 
 pub returns : goal.returns

@@ -1,4 +1,4 @@
-use Rattle.dn_net.proofs.Names.{resolved_is_resolution}
+use Rattle.dn_net.proofs.Resolution.{resolved_is_resolution}
 use Rattle.dn_net.proofs.laws.resolved_is_resolution.Goals as goal
 
 pub returns : goal.returns
