@@ -52,3 +52,24 @@ pub enum Sign {
     Dot,
     Dots,
 }
+
+/// What a token says.
+#[derive(Clone, Copy, Debug)]
+pub enum Lexeme<'a> {
+    /// A word that is not reserved.
+    Word(&'a str),
+    /// A reserved word.
+    Keyword(Keyword),
+    /// A number.
+    Number(u64),
+    /// A sign.
+    Sign(Sign),
+}
+
+/// A token, whose word borrows the text.
+#[derive(Clone, Copy, Debug)]
+pub struct Token<'a> {
+    pub lexeme: Lexeme<'a>,
+    /// The line in which the token begins, counted from 1.
+    pub line: u32,
+}
