@@ -1,6 +1,14 @@
-use Rattle.std.specs.Prelude.{ℕ, ◌+◌, ◌-◌, ◌^◌, List, [], ◌∷◌, Bool, true, false, nat_lt, if◌then◌else◌, Result, Ok, Err}
+-- What contracts see of the objects in memory and of the numbers of their calls.
+use Rattle.std.specs.Prelude.{ℕ, List, [], ◌∷◌, Bool, true, false, Result, Err}
 use Rattle.dn_base.specs.declared.sink.WriteFault.{WriteFault}
-use Rattle.dn_base.specs.declared.sink.WriteFault.TheVariants.{Failed, OutOfMemory}
+use Rattle.dn_base.specs.declared.sink.WriteFault.TheVariants.{Failed}
+use Rattle.dn_base.specs.Outside.{next_count}
+
+-- the calls of an object: the number of the next one, the faults, and which calls fail
+pub record CallState : Type 0 where
+  pub call : ℕ
+  pub faults : ℕ
+  pub failing : List ℕ
 
 -- bytes in memory: what is left, at most how many a call gives, the number of the next call, the faults, and which calls fail
 pub record SourceState : Type 0 where
@@ -12,8 +20,9 @@ pub record SourceState : Type 0 where
 
 -- the number of a call stays at its last value
 abbrev pub next_call : ℕ → ℕ
-next_call n = if nat_lt n (2 ^ 64 - 1) then n + 1 else n
+next_call n = next_count n
 
+-- no call is to fail
 abbrev pub is_nil : List ℕ → Bool
 is_nil [] = true
 is_nil (x ∷ xs) = false

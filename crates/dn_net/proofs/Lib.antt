@@ -1,0 +1,9 @@
+pub mod Ascending
+pub mod Blocks
+pub mod Faults
+pub mod Least
+pub mod Places
+pub mod Resolution
+pub mod Steps
+pub mod Sweep
+pub mod Tally

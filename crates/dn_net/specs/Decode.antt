@@ -12,7 +12,7 @@ use Rattle.dn_net.specs.declared.node.Role.TheVariants.{Plain, Agent, Vectors, U
 use Rattle.dn_net.specs.declared.node.Unit.{Unit as UnitPart}
 use Rattle.dn_net.specs.declared.node.NodeDecl.{NodeDecl}
 use Rattle.dn_net.specs.declared.step.Step.{Step as StepCase}
-use Rattle.dn_net.specs.declared.step.Step.TheVariants.{Accepted, Stop, To, Nothing}
+use Rattle.dn_net.specs.declared.step.Step.TheVariants.{To}
 use Rattle.dn_net.specs.Chain.{Member, ReachesWithin}
 
 -- the last address
@@ -63,7 +63,7 @@ abbrev pub mapped : ℕ → Option ℕ → List Entry → List Name
 mapped a over [] = by_over a over
 mapped a over (e ∷ es) = if within a e.block then map (moved (a - e.block.lo)) e.dests else mapped a over es
 
--- a unit has no step of its own; another node has those of its entries or its `over`, for what it does not accept
+-- a node has the steps of its entries or its `over`, for what it does not accept; a unit has neither, so it has no step
 abbrev pub decoded : ℕ → Option NodeDecl → List Name
 decoded a None = []
 decoded a (Some n) = if nat_le a top then (if in_some_block a n.accepts then [] else mapped a n.over n.entries) else []
@@ -86,6 +86,24 @@ Resolves net x y = IsTrue (is_accepted net y) × ReachesWithin (Step net) step_l
 -- the stops of a name: the names in units that end such a chain
 abbrev pub StopsAt : List NodeDecl → Name → Name → Type 0
 StopsAt net x y = IsTrue (is_stop net y) × ReachesWithin (Step net) step_limit x y
+
+-- the destinations and the offset of the case that holds, where one of them leads on
+abbrev pub sent_over : ℕ → Option ℕ → Option (List Dest × ℕ)
+sent_over a None = None
+sent_over a (Some m) = Some (record { node = m; addr = 0 } ∷ [], a)
+
+abbrev pub sent : ℕ → Option ℕ → List Entry → Option (List Dest × ℕ)
+sent a over [] = sent_over a over
+sent a over (e ∷ es) = if within a e.block then Some (e.dests, a - e.block.lo) else sent a over es
+
+abbrev pub sent_from : ℕ → Option NodeDecl → Option (List Dest × ℕ)
+sent_from a None = None
+sent_from a (Some n) = if nat_le a top then (if in_some_block a n.accepts then None else sent a n.over n.entries) else None
+
+-- the destinations and the offset that the answer of `step` has
+abbrev pub told_by : StepCase → Option (List Dest × ℕ)
+told_by (To dests offset) = Some (dests.now, offset)
+told_by _ = None
 
 -- the names to which the answer of `step` leads
 abbrev pub leads_to : StepCase → List Name

@@ -3,3 +3,4 @@ pub mod Decode
 pub mod Names
 pub mod Parts
 pub mod Rules
+pub mod Spans

@@ -1,8 +1,8 @@
 -- Sets of names as ascending lists, and the names that a name comes to.
-use Rattle.std.specs.Prelude.{ℕ, zero, suc, Bool, if◌then◌else◌, ◌&&◌, ◌||◌, nat_lt, ◌==◌, List, [], ◌∷◌, ◌++◌, ◌↔◌}
+use Rattle.std.specs.Prelude.{◌≡◌, ℕ, zero, suc, Bool, if◌then◌else◌, ◌&&◌, ◌||◌, nat_lt, ◌==◌, true, List, [], ◌∷◌, ◌++◌, ◌↔◌}
 use Rattle.dn_net.specs.declared.node.Name.{Name}
 use Rattle.dn_net.specs.declared.node.NodeDecl.{NodeDecl}
-use Rattle.dn_net.specs.Chain.{Member, Chain}
+use Rattle.dn_net.specs.Chain.{Member, Chain, ReachesWithin}
 use Rattle.dn_net.specs.Decode.{is_accepted, steps, step_limit, Step, Resolves}
 
 -- names are ordered by node, and then by address
@@ -11,6 +11,15 @@ name_lt x y = nat_lt x.node y.node || ((x.node == y.node) && nat_lt x.addr y.add
 
 abbrev pub name_eq : Name → Name → Bool
 name_eq x y = (x.node == y.node) && (x.addr == y.addr)
+
+-- each name of the list comes before the next
+abbrev pub is_before_first : Name → List Name → Bool
+is_before_first x [] = true
+is_before_first x (y ∷ ys) = name_lt x y
+
+abbrev pub is_ascending : List Name → Bool
+is_ascending [] = true
+is_ascending (x ∷ xs) = is_before_first x xs && is_ascending xs
 
 -- the name put into an ascending list, which it leaves as it is where it is there
 abbrev pub with_name : Name → List Name → List Name
@@ -50,6 +59,14 @@ resolved net x = sorted_names (passing (is_accepted net) (reached (steps net) st
 abbrev pub ResolvedIsResolution : Type 0
 ResolvedIsResolution = (net : List NodeDecl) (x y : Name) → Member y (resolved net x) ↔ Resolves net x y
 
+-- The names that are reached in at most so many steps are the ends of the chains of at most that length.
+abbrev pub ReachedIsWithin : Type 0
+ReachedIsWithin = (net : List NodeDecl) (n : ℕ) (x y : Name) → Member y (reached (steps net) n (x ∷ [])) ↔ ReachesWithin (Step net) n x y
+
+-- The list ascends, so it has each name once.
+abbrev pub ResolvedAscends : Type 0
+ResolvedAscends = (net : List NodeDecl) (x : Name) → is_ascending (resolved net x) ≡ true
+
 -- The names that are reached in exactly so many steps are the ends of the chains of that length.
-abbrev pub ReachedIsChain : Type 0
-ReachedIsChain = (net : List NodeDecl) (n : ℕ) (x y : Name) → Member y (after_steps (steps net) n (x ∷ [])) ↔ Chain (Step net) n x y
+abbrev pub AfterStepsIsChain : Type 0
+AfterStepsIsChain = (net : List NodeDecl) (n : ℕ) (x y : Name) → Member y (after_steps (steps net) n (x ∷ [])) ↔ Chain (Step net) n x y

@@ -5,9 +5,11 @@
 #![tactic(auto)]
 
 pub mod laws;
+pub mod names;
 pub mod net;
 pub mod node;
 pub mod rules;
+mod spans;
 pub mod step;
 
 pub use dn_base::OutOfMemory;

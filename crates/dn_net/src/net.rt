@@ -3,8 +3,9 @@
 ghost use Rattle.std.specs.Prelude.{◌≡◌, ◌≢◌, ◌↔◌, [], ◌∷◌, ◌++◌, OnOk, OnErr, IfOk, IfErr, Err, length, slice_get, map, option_map, position, false, true, Some, None, ◌<◌, ℕ, IsTrue, Option};
 ghost use Rattle.std.specs.List.{list_any, list_all};
 ghost use Rattle.std.specs.Str.{bytes_eq};
-ghost use Rattle.std.specs.Option.{option_copied};
-ghost use Rattle.dn_net.specs.Decode.{is_formed};
+ghost use Rattle.std.specs.Option.{option_copied, is_some};
+ghost use Rattle.dn_net.specs.Decode.{is_formed, unit_at};
+ghost use Rattle.dn_net.specs.Parts.{over_dests, over_is_based};
 
 use crate::node::{Block, Dest, Entry, NodeDecl, Role, Unit};
 use dn_base::items::Items;
@@ -36,13 +37,13 @@ impl Model for Net {
     ghost use Rattle.dn_net.specs.Decode.{is_formed};
     ghost use Rattle.std.specs.String.{string_bytes};
     ghost use Rattle.dn_net.specs.declared.node.NodeDecl.{NodeDecl};
-    ghost use Rattle.dn_net.specs.Parts.{declared_by};
+    ghost use Rattle.dn_net.specs.Parts.{declared_by, over_is_based};
 
     ghost Value = { List NodeDecl };
 
     ghost view = { λ n. map (declared_by (λ s. string_bytes s)) n.nodes.entries };
 
-    ghost invariant = { λ n. record { small : length n.nodes.entries ≤ 1024; formed : IsTrue (list_all is_formed (map (declared_by (λ s. string_bytes s)) n.nodes.entries)) } };
+    ghost invariant = { λ n. record { small : length n.nodes.entries ≤ 1024; formed : IsTrue (list_all is_formed (map (declared_by (λ s. string_bytes s)) n.nodes.entries)); based : IsTrue (list_all (λ e. over_is_based e.1.over) n.nodes.entries) } };
 }
 
 impl Net {
@@ -72,12 +73,11 @@ impl Net {
             over,
             unit,
         } = decl;
-        let over = over.map(|node| Dest { node, addr: 0 });
         let parts = Parts {
             role,
             accepts,
             entries,
-            over,
+            over: based_at_zero(over),
             unit,
         };
         let _ = self.nodes.insert(text.into_string(), parts)?;
@@ -155,12 +155,47 @@ impl Net {
         self.parts(node).unit.as_ref()
     }
 
+    /// The destination of what a node neither accepts nor maps: none, or the node of its `over` at address 0.
+    pub(crate) fn over_dests(&self, node: u16) -> &[Dest]
+        requires { node < length self.now }
+        ensures { option_map (λ d. over_dests d.over) (slice_get self.now node) ≡ Some result.now }
+    {
+        self.parts(node).over.as_slice()
+    }
+
+    /// Whether the node is a unit.
+    pub(crate) fn is_unit(&self, node: u16) -> bool
+        requires { node < length self.now }
+        ensures unit { result ≡ is_some (unit_at self.now node) }
+        ensures formed { IsTrue (list_all is_formed self.now) }
+    {
+        self.parts(node).unit.is_some()
+    }
+
     fn parts(&self, node: u16) -> &Parts
         requires { node < length self.now }
+        ensures role { option_map (λ d. d.role) (slice_get self.now node) ≡ Some result.now.role }
+        ensures accepts { option_map (λ d. d.accepts) (slice_get self.now node) ≡ Some result.now.accepts }
+        ensures entries { option_map (λ d. d.entries) (slice_get self.now node) ≡ Some result.now.entries }
+        ensures over { option_map (λ d. d.over) (slice_get self.now node) ≡ Some (option_map (λ d. d.node) result.now.over) }
+        ensures unit { option_map (λ d. d.unit) (slice_get self.now node) ≡ Some result.now.unit }
+        ensures based { IsTrue (over_is_based result.now.over) }
+        ensures formed { IsTrue (list_all is_formed self.now) }
     {
         match self.nodes.get_index(usize::from(node)) {
             Some((_, parts)) => parts,
             None => unreachable!(),
         }
+    }
+}
+
+/// The node of an `over` as a destination.
+fn based_at_zero(over: Option<u16>) -> Option<Dest>
+    ensures node { option_map (λ d. d.node) result ≡ over }
+    ensures based { IsTrue (over_is_based result) }
+{
+    match over {
+        Some(node) => Some(Dest { node, addr: 0 }),
+        None => None,
     }
 }

@@ -1,5 +1,8 @@
 //! Names, and the parts of a node's declaration.
 
+ghost use Rattle.std.specs.Prelude.{◌≡◌};
+ghost use Rattle.dn_net.specs.Decode.{within};
+
 use dn_base::items::Items;
 use dn_base::text::Text;
 
@@ -23,6 +26,15 @@ pub struct Name {
 pub struct Block {
     pub lo: u64,
     pub hi: u64,
+}
+
+impl Block {
+    /// Whether the address is one of the block's.
+    pub fn has(self, addr: u64) -> bool
+        ensures { result ≡ within addr self }
+    {
+        self.lo <= addr && addr <= self.hi
+    }
 }
 
 /// Where a map block is sent: its first address goes to `addr` of `node`.

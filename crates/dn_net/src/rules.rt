@@ -1,24 +1,40 @@
 //! The rules that each node of a net keeps.
 
-ghost use Rattle.std.specs.Prelude.{◌≡◌, ◌≢◌, None, Some, OnOk, IfErr, IsTrue};
-ghost use Rattle.std.specs.List.{list_all};
-ghost use Rattle.dn_net.specs.Rules.{node_fault, is_in_range};
+ghost use Rattle.std.specs.Prelude.{◌≡◌, ◌≢◌, ◌<◌, ◌+◌, ◌&&◌, ◌||◌, None, Some, not, nat_le, OnOk, IfErr, IsTrue, All, length, slice_get, Option};
+ghost use Rattle.std.specs.List.{list_all, list_any};
+ghost use Rattle.std.specs.Option.{option_copied, is_some};
+ghost use Rattle.std.specs.List.Sorted.{IsNonDecreasingBy};
+ghost use Rattle.dn_net.specs.Decode.{top};
+ghost use Rattle.dn_net.specs.Spans.{is_accepted_in};
+ghost use Rattle.dn_net.specs.declared.node.NodeDecl.{NodeDecl};
+ghost use Rattle.dn_net.specs.Rules.{node_fault, is_in_range, fault_of_node, is_vectors, count_below, block_in_range, dest_in_range, entry_in_range, same_dest, dests_repeat, ports_repeat, unit_repeats};
 
 use crate::net::Net;
+use crate::node::{Block, Dest, Entry, Role, TOP, Unit};
+use crate::spans::{Span, accepted_addresses, first_overlap, sorted_spans};
 use std::alloc::Global;
+use thiserror::Error;
+
+/// The most different addresses that a `vectors` node accepts.
+const MAX_VECTORS: u64 = 4096;
 
 /// The first node rule that a net breaks, node by node, or want of memory.
-#[derive(Clone, Copy, Debug, PartialEq, Eq)]
+#[derive(Clone, Copy, Debug, PartialEq, Eq, Error)]
 pub enum NodeFault {
     /// A block has `lo > hi` or `hi` past the top, or is sent past the top.
+    #[error("Range")]
     Range { node: u16 },
     /// An address lies in two map blocks, or in a map block and an accept block; the least such address.
+    #[error("Overlap")]
     Overlap { node: u16, addr: u64 },
     /// An entry has two equal destinations, or a unit names one port twice.
+    #[error("Repeat")]
     Repeat { node: u16 },
     /// A `vectors` node has a map or an `over`, or accepts more than 4,096 different addresses.
+    #[error("VectorSpace")]
     VectorSpace { node: u16 },
     /// There was no memory for the check.
+    #[error("OutOfMemory")]
     OutOfMemory,
 }
 
@@ -29,6 +45,151 @@ impl Net {
         ensures in_range { OnOk result (IsTrue (list_all is_in_range self.now)) }
         ensures fault { IfErr result (λ e. e ≢ NodeFault.OutOfMemory → node_fault self.now ≡ Some e) }
     {
-        Err(NodeFault::OutOfMemory)
+        for node in 0..self.nodes() {
+            self.check_node(alloc, node)?;
+        }
+        Ok(())
     }
+
+    /// Tests the rules of one node.
+    fn check_node(&self, alloc: Global, node: u16) -> Result<(), NodeFault>
+        requires { node < length self.now }
+        ensures ok { OnOk result ((d : NodeDecl) → slice_get self.now node ≡ Some d → fault_of_node node d ≡ None) }
+        ensures fault { IfErr result (λ e. e ≢ NodeFault.OutOfMemory → (d : NodeDecl) → slice_get self.now node ≡ Some d → fault_of_node node d ≡ Some e) }
+    {
+        let accepts = self.accepts(node);
+        let entries = self.entries(node);
+        if !are_in_range(accepts, entries) {
+            return Err(NodeFault::Range { node });
+        }
+        let Ok(spans) = sorted_spans(alloc, entries, accepts) else {
+            return Err(NodeFault::OutOfMemory);
+        };
+        if let Some(addr) = first_overlap(&spans) {
+            return Err(NodeFault::Overlap { node, addr });
+        }
+        if has_repeat(entries, self.unit(node)) {
+            return Err(NodeFault::Repeat { node });
+        }
+        if !has_vector_space(self.role(node), entries, self.over(node), &spans) {
+            return Err(NodeFault::VectorSpace { node });
+        }
+        Ok(())
+    }
+}
+
+/// Whether a node with these parts is no `vectors` node, or has no map, no `over` and not too many addresses.
+fn has_vector_space(role: Role, entries: &[Entry], over: Option<u16>, spans: &[Span]) -> bool
+    requires in_range { All (λ s. IsTrue (block_in_range s.block)) spans.now }
+    requires sorted { IsNonDecreasingBy (λ s. s.block.lo) spans.now }
+    ensures { result ≡ (not (is_vectors role) || ((nat_le (length entries.now) 0 && not (is_some over)) && nat_le (count_below (is_accepted_in spans.now) (top + 1)) 4096)) }
+{
+    match role {
+        Role::Vectors => {
+            entries.is_empty() && over.is_none() && accepted_addresses(spans) <= MAX_VECTORS
+        }
+        _ => true,
+    }
+}
+
+fn are_in_range(accepts: &[Block], entries: &[Entry]) -> bool
+    ensures { result ≡ (list_all block_in_range accepts.now && list_all entry_in_range entries.now) }
+{
+    are_blocks_in_range(accepts) && are_entries_in_range(entries)
+}
+
+fn are_blocks_in_range(blocks: &[Block]) -> bool
+    ensures { result ≡ list_all block_in_range blocks.now }
+{
+    for block in blocks {
+        if !is_block_in_range(*block) {
+            return false;
+        }
+    }
+    true
+}
+
+fn are_entries_in_range(entries: &[Entry]) -> bool
+    ensures { result ≡ list_all entry_in_range entries.now }
+{
+    for entry in entries {
+        if !(is_block_in_range(entry.block)
+            && are_dests_in_range(entry.block, entry.dests.as_slice()))
+        {
+            return false;
+        }
+    }
+    true
+}
+
+fn is_block_in_range(block: Block) -> bool
+    ensures { result ≡ block_in_range block }
+{
+    block.lo <= block.hi && block.hi <= TOP
+}
+
+fn are_dests_in_range(block: Block, dests: &[Dest]) -> bool
+    requires { IsTrue (block_in_range block) }
+    ensures { result ≡ list_all (dest_in_range block) dests.now }
+{
+    let last = block.hi - block.lo;
+    for dest in dests {
+        if TOP - last < dest.addr {
+            return false;
+        }
+    }
+    true
+}
+
+fn has_repeat(entries: &[Entry], unit: Option<&Unit>) -> bool
+    ensures { result ≡ (list_any (λ e. dests_repeat e.dests) entries.now || unit_repeats (option_copied unit.entry)) }
+{
+    for entry in entries {
+        if do_dests_repeat(entry.dests.as_slice()) {
+            return true;
+        }
+    }
+    match unit {
+        Some(unit) => do_ports_repeat(unit.ports.as_slice()),
+        None => false,
+    }
+}
+
+/// Whether two destinations are equal. An entry has at most 8, so each is compared with each.
+fn do_dests_repeat(dests: &[Dest]) -> bool
+    ensures { result ≡ dests_repeat dests.now }
+{
+    let mut rest = dests;
+    while let [dest, after @ ..] = rest {
+        if has_dest(after, *dest) {
+            return true;
+        }
+        rest = after;
+    }
+    false
+}
+
+fn has_dest(dests: &[Dest], dest: Dest) -> bool
+    ensures { result ≡ list_any (same_dest dest) dests.now }
+{
+    for other in dests {
+        if dest.node == other.node && dest.addr == other.addr {
+            return true;
+        }
+    }
+    false
+}
+
+/// Whether two ports are equal. A unit has few, so each is compared with each.
+fn do_ports_repeat(ports: &[u16]) -> bool
+    ensures { result ≡ ports_repeat ports.now }
+{
+    let mut rest = ports;
+    while let [port, after @ ..] = rest {
+        if after.contains(port) {
+            return true;
+        }
+        rest = after;
+    }
+    false
 }

@@ -1,12 +1,13 @@
 //! One step of decoding.
 
-ghost use Rattle.std.specs.Prelude.{◌≡◌, ◌↔◌, length, ◌<◌, IsTrue};
+ghost use Rattle.std.specs.Prelude.{◌≡◌, ◌≢◌, ◌↔◌, ℕ, Bool, Option, length, map, ◌-◌, ◌<◌, ◌≤◌, IfNone, IfSome, nat_lt, nat_le, IsTrue, slice_get, Some};
 ghost use Rattle.std.specs.List.{list_all};
-ghost use Rattle.dn_net.specs.Decode.{is_accepted, is_stop, steps, leads_to, leads_within, leads_in_range, is_closed};
-ghost use Rattle.dn_net.specs.Rules.{is_in_range};
+ghost use Rattle.dn_net.specs.Decode.{is_accepted, is_stop, steps, leads_to, leads_within, leads_in_range, is_closed, sent, sent_over, sent_from, told_by, top, within, in_some_block, moved, mapped, by_over, over_within};
+ghost use Rattle.dn_net.specs.Parts.{over_dests};
+ghost use Rattle.dn_net.specs.Rules.{is_in_range, entry_in_range};
 
 use crate::net::Net;
-use crate::node::{Dest, Name};
+use crate::node::{Block, Dest, Entry, Name, TOP};
 
 /// To what one name decodes.
 #[derive(Clone, Copy)]
@@ -29,10 +30,84 @@ impl Net {
         requires in_range { IsTrue (list_all is_in_range self.now) }
         ensures accepted { result ≡ Step.Accepted ↔ IsTrue (is_accepted self.now name) }
         ensures stop { result ≡ Step.Stop ↔ IsTrue (is_stop self.now name) }
+        ensures sent { told_by result ≡ sent_from name.addr (slice_get self.now name.node) }
         ensures steps { leads_to result ≡ steps self.now name }
         ensures reach { IsTrue (leads_in_range result) }
         ensures closed { IsTrue (is_closed self.now) → IsTrue (leads_within (length self.now) result) }
     {
-        Step::Nothing
+        if name.addr > TOP {
+            return Step::Nothing;
+        }
+        if self.is_unit(name.node) {
+            return Step::Stop;
+        }
+        if is_in_some_block(self.accepts(name.node), name.addr) {
+            return Step::Accepted;
+        }
+        let over = self.over_dests(name.node);
+        lead(self.entries(name.node), over, name.addr)
     }
+}
+
+/// The step of an address that is not accepted: by the map entry that has it, and else by `over`.
+fn lead<'a>(entries: &'a [Entry], over: &'a [Dest], addr: u64) -> Step<'a>
+    requires addr { addr ≤ top }
+    requires in_range { IsTrue (list_all entry_in_range entries.now) }
+    requires based { IsTrue (list_all (λ d. nat_le d.addr 0) over.now) }
+    ensures accepted { result ≢ Step.Accepted }
+    ensures stop { result ≢ Step.Stop }
+    ensures sent { (o : Option ℕ) → over.now ≡ over_dests o → told_by result ≡ sent addr o entries.now }
+    ensures steps { (o : Option ℕ) → over.now ≡ over_dests o → leads_to result ≡ mapped addr o entries.now }
+    ensures reach { IsTrue (leads_in_range result) }
+    ensures closed { (count : ℕ) → IsTrue (list_all (λ e. list_all (λ d. nat_lt d.node count) e.dests) entries.now) → IsTrue (list_all (λ d. nat_lt d.node count) over.now) → IsTrue (leads_within count result) }
+{
+    match entry_at(entries, addr) {
+        Some(entry) => Step::To(entry.dests.as_slice(), addr - entry.block.lo),
+        None => over_step(over, addr),
+    }
+}
+
+/// The step of an address that the node's `over` serves, if there is one.
+fn over_step(over: &[Dest], addr: u64) -> Step<'_>
+    requires addr { addr ≤ top }
+    requires based { IsTrue (list_all (λ d. nat_le d.addr 0) over.now) }
+    ensures accepted { result ≢ Step.Accepted }
+    ensures stop { result ≢ Step.Stop }
+    ensures sent { (o : Option ℕ) → over.now ≡ over_dests o → told_by result ≡ sent_over addr o }
+    ensures steps { (o : Option ℕ) → over.now ≡ over_dests o → leads_to result ≡ by_over addr o }
+    ensures reach { IsTrue (leads_in_range result) }
+    ensures closed { (count : ℕ) → IsTrue (list_all (λ d. nat_lt d.node count) over.now) → IsTrue (leads_within count result) }
+{
+    match over {
+        [] => Step::Nothing,
+        _ => Step::To(over, addr),
+    }
+}
+
+/// The first map entry that has the address.
+fn entry_at(entries: &[Entry], addr: u64) -> Option<&Entry>
+    ensures none { IfNone result ((over : Option ℕ) → mapped addr over entries.now ≡ by_over addr over) }
+    ensures none_sent { IfNone result ((over : Option ℕ) → sent addr over entries.now ≡ sent_over addr over) }
+    ensures covers { IfSome result (λ e. IsTrue (within addr e.now.block)) }
+    ensures found_sent { IfSome result (λ e. (over : Option ℕ) → sent addr over entries.now ≡ Some (e.now.dests, addr - e.now.block.lo)) }
+    ensures found { IfSome result (λ e. (over : Option ℕ) → mapped addr over entries.now ≡ map (moved (addr - e.now.block.lo)) e.now.dests) }
+    ensures each { IfSome result (λ e. (P : Entry → Bool) → IsTrue (list_all P entries.now) → IsTrue (P e.now)) }
+{
+    for entry in entries {
+        if entry.block.has(addr) {
+            return Some(entry);
+        }
+    }
+    None
+}
+
+fn is_in_some_block(blocks: &[Block], addr: u64) -> bool
+    ensures { result ≡ in_some_block addr blocks.now }
+{
+    for block in blocks {
+        if block.has(addr) {
+            return true;
+        }
+    }
+    false
 }

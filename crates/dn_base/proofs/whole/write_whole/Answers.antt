@@ -1,5 +1,5 @@
 use Rattle.std.proofs.Common.{rules}
-use Rattle.dn_base.proofs.Told.{Added-tail, Added-front}
+use Rattle.dn_base.proofs.Told.{Added-tail}
 use Rattle.dn_base.proofs.whole.write_whole.Goals as goal
 
 pub loop-at-preserved : goal.loop-at-preserved

@@ -1,5 +1,4 @@
-use Rattle.std.proofs.Common.{rules, ap, Some, ◌∙◌, sym, ◌≡◌, ◌≤◌, ◌+◌, length, arith}
-use Rattle.dn_base.specs.Memory.{SourceState}
+use Rattle.std.proofs.Common.{rules, ap, Some, ◌≤◌, ◌+◌, length}
 use Rattle.dn_base.proofs.Parts.{piece_taken}
 use Rattle.dn_base.proofs.memory.MemSourceSource.read.Goals as goal
 
@@ -8,4 +7,4 @@ returns-clause-taken c =
     let s = c.copy_from_slice.ensures.after in
     let room : c.self.inside.at + c.min-count.result ≤ length c.self.inside.bytes.items = search rules in
     rw (← c.self.view_is)
-    (ap Some (piece_taken c.self.inside.bytes.items c.args.into.now c.copy_from_slice.new.self c.self.inside.at c.min-count.result room (rw c.deref-2.ensures.value at s)))
+    (ap Some (piece_taken c.self.inside.bytes.items c.args.into.now c.copy_from_slice.new.self c.self.inside.at c.min-count.result room (rw c.deref.ensures.value at s)))

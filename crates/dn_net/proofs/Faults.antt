@@ -1,0 +1,122 @@
+-- The first rule that a node breaks, from what its parts say.
+use Rattle.std.proofs.Common.{◌≡◌, ℕ, zero, suc, ◌+◌, ◌<◌, ◌≤◌, Bool, true, false, ◌&&◌, ◌||◌, not, nat_le, List, [], ◌∷◌, Option, Some, None, option_map, is_some, IsSome, refl, sym, ap, ◌∙◌, subst, arith, IsTrue, length, slice_get, drop, if◌then◌else◌}
+use Rattle.std.specs.List.{list_all, list_any}
+use Rattle.std.specs.List.Sorted.{IsPermutation}
+use Rattle.dn_net.specs.declared.node.Block.{Block}
+use Rattle.dn_net.specs.declared.node.Entry.{Entry}
+use Rattle.dn_net.specs.declared.node.Role.{Role}
+use Rattle.dn_net.specs.declared.node.Unit.{Unit as UnitPart}
+use Rattle.dn_net.specs.declared.node.NodeDecl.{NodeDecl}
+use Rattle.dn_net.specs.declared.spans.Span.{Span}
+use Rattle.dn_net.specs.declared.rules.NodeFault.{NodeFault}
+use Rattle.dn_net.specs.declared.rules.NodeFault.TheVariants.{Range, Overlap, Repeat, VectorSpace}
+use Rattle.dn_net.specs.Decode.{top}
+use Rattle.dn_net.specs.Spans.{node_spans, overlaps_in, is_accepted_in}
+use Rattle.dn_net.specs.Rules.{is_in_range, block_in_range, entry_in_range, dests_repeat, unit_repeats, is_vectors, count_below, overlaps, least_overlap, repeats, passes_vector_space, later_fault, fault_of_node, first_fault, node_fault_from}
+use Rattle.dn_net.proofs.Least.{least_overlap_is_least}
+use Rattle.dn_net.proofs.Blocks.{spans_overlap, spans_count}
+
+-- a part of a node that is there
+pub part_is : {Y : Type 0} (f : NodeDecl → Y) (o : Option NodeDecl) (d : NodeDecl) (y : Y) → o ≡ Some d → option_map f o ≡ Some y → f d ≡ y
+part_is f None d y e g = cc
+part_is f (Some n) d y e g = let s : n ≡ d = cc in let t : f n ≡ y = cc in ap f (sym s) ∙ t
+
+same_least : (a b : ℕ) → a ≤ b → b ≤ a → a ≡ b
+same_least a b l m = omega arith
+
+-- the least address that overlaps is the only one
+pub least_is : (d : NodeDecl) (x : ℕ) → overlaps d x ≡ true → ((b : ℕ) → overlaps d b ≡ true → x ≤ b) → least_overlap d ≡ Some x
+least_is d x h least = by (least_overlap d) refl ((least_overlap_is_least d).1 x h)
+  where
+    by : (o : Option ℕ) → least_overlap d ≡ o → IsSome (least_overlap d) → o ≡ Some x
+    by None e some = cc
+    by (Some y) e some = let r = (least_overlap_is_least d).0 y e in ap (λ n. Some n) (same_least y x (r.none_less x h) (least y r.overlap))
+
+pub least_is_none : (d : NodeDecl) → ((b : ℕ) → overlaps d b ≡ false) → least_overlap d ≡ None
+least_is_none d none = by (least_overlap d) refl
+  where
+    by : (o : Option ℕ) → least_overlap d ≡ o → o ≡ None
+    by None e = refl
+    by (Some y) e = let r = (least_overlap_is_least d).0 y e in let f : true ≡ false = sym r.overlap ∙ none y in cc
+
+-- what the parts of a node and its blocks in any order say of its rules
+module _ (d : NodeDecl) (accepts : List Block) (entries : List Entry) (acc : d.accepts ≡ accepts) (ent : d.entries ≡ entries) where
+  pub range_is : (b : Bool) → (list_all block_in_range accepts && list_all entry_in_range entries) ≡ b → is_in_range d ≡ b
+  range_is b h = (λ i. list_all block_in_range (acc i) && list_all entry_in_range (ent i)) ∙ h
+
+  pub repeats_is : (b : Bool) (u : Option UnitPart) → d.unit ≡ u → (list_any (λ e. dests_repeat e.dests) entries || unit_repeats u) ≡ b → repeats d ≡ b
+  repeats_is b u e h = (λ i. list_any (λ e. dests_repeat e.dests) (ent i) || unit_repeats (e i)) ∙ h
+
+  module _ (spans : List Span) (same : IsPermutation (node_spans entries accepts) spans) where
+    of_node : IsPermutation (node_spans d.entries d.accepts) spans
+    of_node = subst (λ l. IsPermutation (node_spans l d.accepts) spans) (sym ent) (subst (λ l. IsPermutation (node_spans entries l) spans) (sym acc) same)
+
+    pub overlap_is : (x : ℕ) → IsTrue (overlaps_in spans x) → ((b : ℕ) → IsTrue (overlaps_in spans b) → x ≤ b) → least_overlap d ≡ Some x
+    overlap_is x h least = least_is d x (sym (spans_overlap d spans of_node x) ∙ h) (λ b k. least b (spans_overlap d spans of_node b ∙ k))
+
+    pub no_overlap_is : ((b : ℕ) → overlaps_in spans b ≡ false) → least_overlap d ≡ None
+    no_overlap_is none = least_is_none d (λ b. sym (spans_overlap d spans of_node b) ∙ none b)
+
+    pub space_is : (b : Bool) (role : Role) (over : Option ℕ) → d.role ≡ role → d.over ≡ over → (not (is_vectors role) || ((nat_le (length entries) 0 && not (is_some over)) && nat_le (count_below (is_accepted_in spans) (top + 1)) 4096)) ≡ b → passes_vector_space d ≡ b
+    space_is b role over r o h = (λ i. not (is_vectors (r i)) || ((nat_le (length (ent i)) 0 && not (is_some (o i))) && nat_le (sym (spans_count d spans of_node) i) 4096)) ∙ h
+
+pub fault_range : (number : ℕ) (d : NodeDecl) → is_in_range d ≡ false → fault_of_node number d ≡ Some (Range number)
+fault_range number d range = rw range refl
+
+pub fault_overlap : (number : ℕ) (d : NodeDecl) (x : ℕ) → is_in_range d ≡ true → least_overlap d ≡ Some x → fault_of_node number d ≡ Some (Overlap number x)
+fault_overlap number d x range least = rw (range, least) refl
+
+pub fault_repeat : (number : ℕ) (d : NodeDecl) → is_in_range d ≡ true → least_overlap d ≡ None → repeats d ≡ true → fault_of_node number d ≡ Some (Repeat number)
+fault_repeat number d range least again = rw (range, least, again) refl
+
+pub fault_space : (number : ℕ) (d : NodeDecl) → is_in_range d ≡ true → least_overlap d ≡ None → repeats d ≡ false → passes_vector_space d ≡ false → fault_of_node number d ≡ Some (VectorSpace number)
+fault_space number d range least again space = rw (range, least, again, space) refl
+
+pub no_fault : (number : ℕ) (d : NodeDecl) → is_in_range d ≡ true → least_overlap d ≡ None → repeats d ≡ false → passes_vector_space d ≡ true → fault_of_node number d ≡ None
+no_fault number d range least again space = rw (range, least, again, space) refl
+
+-- a node that is there
+pub node_there : (net : List NodeDecl) (i : ℕ) → i < length net → (d : NodeDecl) × (slice_get net i ≡ Some d)
+node_there [] i h = absurd (omega arith)
+node_there (d ∷ net) zero h = (d, refl)
+node_there (d ∷ net) (suc i) h = node_there net i (omega arith)
+
+drop_there : (net : List NodeDecl) (i : ℕ) (d : NodeDecl) → slice_get net i ≡ Some d → drop i net ≡ d ∷ drop (suc i) net
+drop_there [] i d at = cc
+drop_there (x ∷ net) zero d at = let s : x ≡ d = cc in ap (λ y. y ∷ net) s
+drop_there (x ∷ net) (suc i) d at = drop_there net i d at
+
+-- the first fault from a node on
+pub fault_from : (number : ℕ) (net : List NodeDecl) (d : NodeDecl) → slice_get net number ≡ Some d → node_fault_from number (drop number net) ≡ first_fault (fault_of_node number d) (node_fault_from (number + 1) (drop (number + 1) net))
+fault_from number net d at =
+    let e : suc number ≡ number + 1 = omega arith in
+    let f = subst (λ n. drop number net ≡ d ∷ drop n net) e (drop_there net number d at) in
+    ap (λ l. node_fault_from number l) f
+
+pub fault_here : (number : ℕ) (net : List NodeDecl) (e : NodeFault) → number < length net → ((d : NodeDecl) → slice_get net number ≡ Some d → fault_of_node number d ≡ Some e) → node_fault_from number (drop number net) ≡ Some e
+fault_here number net e h broken =
+    let d = node_there net number h in
+    fault_from number net d.0 d.1 ∙ ap (λ f. first_fault f (node_fault_from (number + 1) (drop (number + 1) net))) (broken d.0 d.1)
+
+pub fault_later : (number : ℕ) (net : List NodeDecl) → number < length net → ((d : NodeDecl) → slice_get net number ≡ Some d → fault_of_node number d ≡ None) → node_fault_from number (drop number net) ≡ node_fault_from (number + 1) (drop (number + 1) net)
+fault_later number net h kept =
+    let d = node_there net number h in
+    fault_from number net d.0 d.1 ∙ ap (λ f. first_fault f (node_fault_from (number + 1) (drop (number + 1) net))) (kept d.0 d.1)
+
+-- a net that breaks no rule is in range
+fault_free : (number : ℕ) (d : NodeDecl) (rest : Option NodeFault) → first_fault (fault_of_node number d) rest ≡ None → IsTrue (is_in_range d) × (rest ≡ None)
+fault_free number d rest h = by (is_in_range d) refl h
+  where
+    passed : (o : Option NodeFault) → first_fault o rest ≡ None → rest ≡ None
+    passed None h = h
+    passed (Some f) h = cc
+
+    by : (b : Bool) → is_in_range d ≡ b → first_fault (if b then later_fault number d (least_overlap d) else Some (Range number)) rest ≡ None → IsTrue (is_in_range d) × (rest ≡ None)
+    by true e h = (e, passed _ h)
+    by false e h = cc
+
+pub all_in_range : (number : ℕ) (net : List NodeDecl) → node_fault_from number net ≡ None → IsTrue (list_all is_in_range net)
+all_in_range number [] h = refl
+all_in_range number (d ∷ net) h =
+    let f = fault_free number d (node_fault_from (number + 1) net) h in
+    rw (f.0, all_in_range (number + 1) net f.1) refl

@@ -1,0 +1,73 @@
+-- Where a full name stands in the entries that a net keeps, and what is true of each item of a list.
+use Rattle.std.proofs.Common.{◌≡◌, ◌∙◌, ap, sym, refl, ℕ, zero, suc, ◌+◌, List, [], ◌∷◌, ◌++◌, map, true, false, Bool, not, ◌&&◌, ◌||◌, length, arith, position, slice_get, Option, Some, IsTrue, option_map}
+use Rattle.std.specs.List.{list_any, list_all, prefix_len}
+use Rattle.std.specs.Map.{keys_of}
+use Rattle.indexmap.specs.IndexMap.{insert_entry}
+use Rattle.dn_net.specs.declared.node.Dest.{Dest}
+use Rattle.dn_net.specs.declared.node.NodeDecl.{NodeDecl}
+use Rattle.dn_net.specs.Parts.{declared_by}
+
+pub length-map : {X Y : Type 0} (f : X → Y) (xs : List X) → length (map f xs) ≡ length xs
+length-map f [] = refl
+length-map f (x ∷ xs) = simp (length-map f xs)
+
+prefix_len-keys : {K V Y : Type 0} (f : K × V → Y) (p : Y → Bool) (q : K → Bool) → ((e : K × V) → q e.0 ≡ p (f e)) → (es : List (K × V)) → prefix_len q (keys_of es) ≡ prefix_len p (map f es)
+prefix_len-keys f p q same [] = refl
+prefix_len-keys f p q same (e ∷ es) = simp (same e, prefix_len-keys f p q same es)
+
+length-keys : {K V : Type 0} (es : List (K × V)) → length (keys_of es) ≡ length es
+length-keys [] = refl
+length-keys (e ∷ es) = simp (length-keys es)
+
+-- the place of a key is that of what is shown of its entry
+pub position-keys : {K V Y : Type 0} (f : K × V → Y) (p : Y → Bool) (q : K → Bool) → ((e : K × V) → q e.0 ≡ p (f e)) → (es : List (K × V)) → position q (keys_of es) ≡ position p (map f es)
+position-keys f p q same es = simp (prefix_len-keys f (λ y. not (p y)) (λ k. not (q k)) (λ e. ap not (same e)) es, length-map f es, length-keys es)
+
+either_false : (a b : Bool) → (a || b) ≡ false → (a ≡ false) × (b ≡ false)
+either_false true b e = cc
+either_false false b e = (refl, e)
+
+-- an entry of a new key goes last
+pub insert_entry-new : {K V Y : Type 0} (f : K × V → Y) (p : Y → Bool) (eq : K → K → Bool) (k : K) (v : V) → ((e : K × V) → eq k e.0 ≡ p (f e)) → (es : List (K × V)) → list_any p (map f es) ≡ false → insert_entry eq es k v ≡ es ++ (k, v) ∷ []
+insert_entry-new f p eq k v same [] h = refl
+insert_entry-new f p eq k v same (e ∷ es) h =
+    let parts = either_false (p (f e)) (list_any p (map f es)) h in
+    simp (same e, parts.0, insert_entry-new f p eq k v same es parts.1)
+
+pub both : (a b : Bool) → IsTrue (a && b) → IsTrue a × IsTrue b
+both true true e = (refl, refl)
+both true false e = cc
+both false b e = cc
+
+-- what is true of each item is true of the one at a place
+pub list_all-at : {X : Type 0} (p : X → Bool) (xs : List X) (i : ℕ) (x : X) → IsTrue (list_all p xs) → slice_get xs i ≡ Some x → IsTrue (p x)
+list_all-at p [] i x all at = cc
+list_all-at p (y ∷ ys) zero x all at = let s : y ≡ x = cc in ap p (sym s) ∙ (both (p y) (list_all p ys) all).0
+list_all-at p (y ∷ ys) (suc i) x all at = list_all-at p ys i x (both (p y) (list_all p ys) all).1 at
+
+-- where each item that passes one test passes another
+pub list_all-implied : {X : Type 0} (p q : X → Bool) → ((x : X) → IsTrue (p x) → IsTrue (q x)) → (xs : List X) → IsTrue (list_all p xs) → IsTrue (list_all q xs)
+list_all-implied p q implies [] all = refl
+list_all-implied p q implies (x ∷ xs) all =
+    let b = both (p x) (list_all p xs) all in
+    rw (implies x b.0) (list_all-implied p q implies xs b.1)
+
+-- the declaration of an added node is shown as it was given
+pub declared_new : {S : Type 0} (text : S → List ℕ) (k : S) (decl : NodeDecl) (over : Option Dest) → text k ≡ decl.text → option_map (λ d. d.node) over ≡ decl.over → declared_by text (k, record { role = decl.role; accepts = decl.accepts; entries = decl.entries; over = over; unit = decl.unit }) ≡ decl
+declared_new text k decl over e f = λ i. record { text = e i; role = decl.role; accepts = decl.accepts; entries = decl.entries; over = f i; unit = decl.unit }
+
+-- an item that passes, put last
+pub list_all-last : {X : Type 0} (p : X → Bool) (xs : List X) (x : X) → IsTrue (list_all p xs) → IsTrue (p x) → IsTrue (list_all p (xs ++ x ∷ []))
+list_all-last p [] x all e = rw e refl
+list_all-last p (y ∷ ys) x all e =
+    let b = both (p y) (list_all p ys) all in
+    rw (b.0, list_all-last p ys x b.1 e) refl
+
+-- one item more
+pub length-last : {X : Type 0} (xs : List X) (x : X) → length (xs ++ x ∷ []) ≡ length xs + 1
+length-last [] x = refl
+length-last (y ∷ ys) x = grind (arith, length-last ys x)
+
+pub map-last : {X Y : Type 0} (f : X → Y) (xs : List X) (x : X) → map f (xs ++ x ∷ []) ≡ map f xs ++ f x ∷ []
+map-last f [] x = refl
+map-last f (y ∷ ys) x = simp (map-last f ys x)

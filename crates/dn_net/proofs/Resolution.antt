@@ -1,0 +1,131 @@
+-- The lists of names have the names that the relations have.
+use Rattle.std.proofs.Common.{◌≡◌, ℕ, zero, suc, ◌≤◌, ◌⊎◌, ◌↔◌, inl, inr, Bool, true, false, if◌then◌else◌, ◌&&◌, ◌==◌, List, [], ◌∷◌, ◌++◌, refl, sym, ap, ◌∙◌, subst, arith, IsTrue, eqb-true}
+use Rattle.dn_net.specs.declared.node.Name.{Name}
+use Rattle.dn_net.specs.declared.node.NodeDecl.{NodeDecl}
+use Rattle.dn_net.specs.Chain.{Member, Chain, ReachesWithin}
+use Rattle.dn_net.specs.Decode.{is_accepted, steps, Step, step_limit, Resolves}
+use Rattle.dn_net.specs.Names.{name_lt, name_eq, with_name, sorted_names, passing, each_step, after_steps, reached, resolved}
+
+pub member_left : {X : Type 0} (a b : List X) (x : X) → Member x a → Member x (a ++ b)
+member_left [] b x m = absurd m
+member_left (y ∷ a) b x (inl e) = inl e
+member_left (y ∷ a) b x (inr m) = inr (member_left a b x m)
+
+pub member_right : {X : Type 0} (a b : List X) (x : X) → Member x b → Member x (a ++ b)
+member_right [] b x m = m
+member_right (y ∷ a) b x m = inr (member_right a b x m)
+
+pub member_split : {X : Type 0} (a b : List X) (x : X) → Member x (a ++ b) → Member x a ⊎ Member x b
+member_split [] b x m = inr m
+member_split (y ∷ a) b x (inl e) = inl (inl e)
+member_split (y ∷ a) b x (inr m) = elim (member_split a b x m) [ inl n ↦ inl (inr n) | inr n ↦ inr n ]
+
+name_same : (x y : Name) → name_eq x y ≡ true → x ≡ y
+name_same x y e = go ((x.node == y.node)) ((x.addr == y.addr)) refl refl e
+  where
+    go : (a b : Bool) → (x.node == y.node) ≡ a → (x.addr == y.addr) ≡ b → (a && b) ≡ true → x ≡ y
+    go true true p q f = ap (λ n. record { node = n; addr = x.addr }) (eqb-true x.node y.node p) ∙ ap (λ n. record { node = y.node; addr = n }) (eqb-true x.addr y.addr q)
+    go true false p q f = cc
+    go false b p q f = cc
+
+with_in : (x : Name) (ys : List Name) (z : Name) → Member z (with_name x ys) → (x ≡ z) ⊎ Member z ys
+with_in x [] z (inl e) = inl e
+with_in x [] z (inr m) = absurd m
+with_in x (y ∷ ys) z m = go (with_in x ys z) (name_lt x y) (name_eq x y) m
+  where
+    go : (Member z (with_name x ys) → (x ≡ z) ⊎ Member z ys) → (a b : Bool) → Member z (if a then x ∷ (y ∷ ys) else (if b then y ∷ ys else y ∷ with_name x ys)) → (x ≡ z) ⊎ Member z (y ∷ ys)
+    go ih true b m = m
+    go ih false true m = inr m
+    go ih false false (inl e) = inr (inl e)
+    go ih false false (inr m) = elim (ih m) [ inl e ↦ inl e | inr n ↦ inr (inr n) ]
+
+with_has : (x : Name) (ys : List Name) (z : Name) → (x ≡ z) ⊎ Member z ys → Member z (with_name x ys)
+with_has x [] z m = m
+with_has x (y ∷ ys) z m = go (with_has x ys z) (name_lt x y) (name_eq x y) refl m
+  where
+    go : ((x ≡ z) ⊎ Member z ys → Member z (with_name x ys)) → (a b : Bool) → name_eq x y ≡ b → (x ≡ z) ⊎ Member z (y ∷ ys) → Member z (if a then x ∷ (y ∷ ys) else (if b then y ∷ ys else y ∷ with_name x ys))
+    go ih true b e m = m
+    go ih false true e (inl f) = inl (sym (name_same x y e) ∙ f)
+    go ih false true e (inr m) = m
+    go ih false false e (inl f) = inr (ih (inl f))
+    go ih false false e (inr (inl f)) = inl f
+    go ih false false e (inr (inr m)) = inr (ih (inr m))
+
+names_in : (xs : List Name) (z : Name) → Member z (sorted_names xs) ↔ Member z xs
+names_in [] z = ((λ m. m), (λ m. m))
+names_in (x ∷ xs) z =
+    let ih = names_in xs z in
+    ((λ m. elim (with_in x (sorted_names xs) z m) [ inl e ↦ inl e | inr n ↦ inr (ih.0 n) ]), (λ m. with_has x (sorted_names xs) z (elim m [ inl e ↦ inl e | inr n ↦ inr (ih.1 n) ])))
+
+passing_in : (p : Name → Bool) (xs : List Name) (z : Name) → Member z (passing p xs) ↔ (IsTrue (p z) × Member z xs)
+passing_in p [] z = ((λ m. absurd m), (λ m. m.1))
+passing_in p (x ∷ xs) z = go (passing_in p xs z) (p x) refl
+  where
+    go : Member z (passing p xs) ↔ (IsTrue (p z) × Member z xs) → (b : Bool) → p x ≡ b → Member z (if b then x ∷ passing p xs else passing p xs) ↔ (IsTrue (p z) × Member z (x ∷ xs))
+    go ih true e = ((λ m. elim m [ inl s ↦ (subst (λ w. IsTrue (p w)) s e, inl s) | inr n ↦ (let r = ih.0 n in (r.0, inr r.1)) ]), (λ m. elim m.1 [ inl s ↦ inl s | inr n ↦ inr (ih.1 (m.0, n)) ]))
+    go ih false e = ((λ m. let r = ih.0 m in (r.0, inr r.1)), (λ m. elim m.1 [ inl s ↦ (let f : p x ≡ true = subst (λ w. IsTrue (p w)) (sym s) m.0 in let g : false ≡ true = sym e ∙ f in cc) | inr n ↦ ih.1 (m.0, n) ]))
+
+each_in : (f : Name → List Name) (xs : List Name) (z : Name) → Member z (each_step f xs) ↔ ((x : Name) × Member x xs × Member z (f x))
+each_in f [] z = ((λ m. absurd m), (λ m. absurd m.1))
+each_in f (x ∷ xs) z =
+    let ih = each_in f xs z in
+    ((λ m. elim (member_split (f x) (each_step f xs) z m) [ inl n ↦ (x, inl refl, n) | inr n ↦ (let r = ih.0 n in (r.0, inr r.1, r.2)) ]), (λ m. elim m.1 [ inl s ↦ member_left (f x) (each_step f xs) z (subst (λ w. Member z (f w)) (sym s) m.2) | inr n ↦ member_right (f x) (each_step f xs) z (ih.1 (m.0, n, m.2)) ]))
+
+reached_in : (f : Name → List Name) (n : ℕ) (xs : List Name) (z : Name) → Member z (reached f n xs) ↔ ((x : Name) × Member x xs × ReachesWithin (λ a b. Member b (f a)) n x z)
+reached_in f zero xs z = ((λ m. (z, m, (0, (omega arith), refl))), (λ m. go m.0 m.1 m.2.0 m.2.1 m.2.2))
+  where
+    go : (x : Name) → Member x xs → (k : ℕ) → k ≤ 0 → Chain (λ a b. Member b (f a)) k x z → Member z xs
+    go x m zero l c = subst (λ w. Member w xs) c m
+    go x m (suc k) l c = absurd (omega arith)
+reached_in f (suc n) xs z = (down (reached_in f n (each_step f xs) z), up (reached_in f n (each_step f xs) z))
+  where
+    S : Name → Name → Type 0
+    S a b = Member b (f a)
+
+    down : Member z (reached f n (each_step f xs)) ↔ ((x : Name) × Member x (each_step f xs) × ReachesWithin S n x z) → Member z (xs ++ reached f n (each_step f xs)) → (x : Name) × Member x xs × ReachesWithin S (suc n) x z
+    down ih m = elim (member_split xs (reached f n (each_step f xs)) z m) [
+      | inl k ↦ (z, k, (0, (omega arith), refl))
+      | inr k ↦ (let r = ih.0 k in let p = (each_in f xs r.0).0 r.1 in let l : r.2.0 ≤ n = r.2.1 in (p.0, p.1, (suc r.2.0, (omega arith), (r.0, p.2, r.2.2))))
+    ]
+
+    up : Member z (reached f n (each_step f xs)) ↔ ((x : Name) × Member x (each_step f xs) × ReachesWithin S n x z) → ((x : Name) × Member x xs × ReachesWithin S (suc n) x z) → Member z (xs ++ reached f n (each_step f xs))
+    up ih m = go m.0 m.1 m.2.0 m.2.1 m.2.2
+      where
+        go : (x : Name) → Member x xs → (k : ℕ) → k ≤ suc n → Chain S k x z → Member z (xs ++ reached f n (each_step f xs))
+        go x i zero l c = member_left xs (reached f n (each_step f xs)) z (subst (λ w. Member w xs) c i)
+        go x i (suc k) l c = member_right xs (reached f n (each_step f xs)) z (ih.1 (c.0, (each_in f xs c.0).1 (x, i, c.1), (k, (omega arith), c.2)))
+
+-- the names after exactly so many steps are the ends of the chains of that length
+after_in : (f : Name → List Name) (n : ℕ) (xs : List Name) (z : Name) → Member z (after_steps f n xs) ↔ ((x : Name) × Member x xs × Chain (λ a b. Member b (f a)) n x z)
+after_in f zero xs z = ((λ m. (z, m, refl)), (λ m. subst (λ w. Member w xs) m.2 m.1))
+after_in f (suc n) xs z =
+    let ih = after_in f n (each_step f xs) z in
+    ((λ m. let r = ih.0 m in let p = (each_in f xs r.0).0 r.1 in (p.0, p.1, (r.0, p.2, r.2))), (λ m. ih.1 (m.2.0, (each_in f xs m.2.0).1 (m.0, m.1, m.2.1), m.2.2)))
+
+pub after_steps_is_chain : (net : List NodeDecl) (n : ℕ) (x y : Name) → Member y (after_steps (steps net) n (x ∷ [])) ↔ Chain (Step net) n x y
+after_steps_is_chain net n x y =
+    let a = after_in (steps net) n (x ∷ []) y in (
+      (λ m. let q = a.0 m in elim q.1 [ inl s ↦ subst (λ w. Chain (Step net) n w y) (sym s) q.2 | inr z ↦ absurd z ]),
+      (λ c. a.1 (x, inl refl, c)),
+    )
+
+resolved_within : (net : List NodeDecl) (n : ℕ) (x y : Name) → Member y (sorted_names (passing (is_accepted net) (reached (steps net) n (x ∷ [])))) ↔ (IsTrue (is_accepted net y) × ReachesWithin (Step net) n x y)
+resolved_within net n x y =
+    let a = names_in (passing (is_accepted net) (reached (steps net) n (x ∷ []))) y in
+    let b = passing_in (is_accepted net) (reached (steps net) n (x ∷ [])) y in
+    let c = reached_in (steps net) n (x ∷ []) y in (
+      (λ m. let p = b.0 (a.0 m) in let q = c.0 p.1 in (p.0, elim q.1 [ inl s ↦ subst (λ w. ReachesWithin (Step net) n w y) (sym s) q.2 | inr z ↦ absurd z ])),
+      (λ m. a.1 (b.1 (m.0, c.1 (x, inl refl, m.1)))),
+    )
+
+-- the list has the names that the relation has
+pub resolved_is_resolution : (net : List NodeDecl) (x y : Name) → Member y (resolved net x) ↔ Resolves net x y
+resolved_is_resolution net x y = resolved_within net step_limit x y
+
+-- the names that are reached in at most so many steps are the ends of the chains of at most that length
+pub reached_is_within : (net : List NodeDecl) (n : ℕ) (x y : Name) → Member y (reached (steps net) n (x ∷ [])) ↔ ReachesWithin (Step net) n x y
+reached_is_within net n x y =
+    let a = reached_in (steps net) n (x ∷ []) y in (
+      (λ m. let q = a.0 m in elim q.1 [ inl s ↦ subst (λ w. ReachesWithin (Step net) n w y) (sym s) q.2 | inr z ↦ absurd z ]),
+      (λ c. a.1 (x, inl refl, c)),
+    )

@@ -1,0 +1,25 @@
+use Rattle.std.proofs.Common.{◌∙◌, ap, map, length, refl, arith, ◌<◌}
+use Rattle.std.specs.String.{string_bytes, string_eq}
+use Rattle.std.specs.Str.{bytes_eq}
+use Rattle.dn_net.specs.Parts.{declared_by, over_is_based}
+use Rattle.dn_net.specs.Decode.{is_formed}
+use Rattle.dn_net.proofs.Places.{insert_entry-new, declared_new, list_all-last, length-last, map-last, length-map}
+use Rattle.dn_net.proofs.net.Net.add.Goals as goal
+
+pub invariant_of-self-2 : goal.invariant_of-self-2
+invariant_of-self-2 c =
+    let new = insert_entry-new (declared_by (λ s. string_bytes s)) (λ d. bytes_eq c.args.decl.text d.text) string_eq c.into_string.result record { role = c.args.decl.role; accepts = c.args.decl.accepts; entries = c.args.decl.entries; over = c.based_at_zero.result; unit = c.args.decl.unit } (λ e. ap (λ t. bytes_eq t (string_bytes e.0)) c.into_string.ensures) c.self.inside.nodes.entries (rw (← c.self.view_is) at c.requires.new_name) in
+    let shown = declared_new (λ s. string_bytes s) c.into_string.result c.args.decl c.based_at_zero.result c.into_string.ensures c.based_at_zero.ensures.node in
+    let room : length (map (declared_by (λ s. string_bytes s)) c.self.inside.nodes.entries) < 1024 = rw (← c.self.view_is) at c.requires.room in
+    let same = length-map (declared_by (λ s. string_bytes s)) c.self.inside.nodes.entries in
+    rw (c.in_ok-insert.ensures.entries, new) record {
+      small = rw (length-last c.self.inside.nodes.entries) (omega (arith, room, same));
+      formed = rw (map-last (declared_by (λ s. string_bytes s)) c.self.inside.nodes.entries, shown) (list_all-last is_formed (map (declared_by (λ s. string_bytes s)) c.self.inside.nodes.entries) c.args.decl c.self.invariant.formed c.requires.formed);
+      based = list_all-last (λ e. over_is_based e.1.over) c.self.inside.nodes.entries _ c.self.invariant.based c.based_at_zero.ensures.based;
+    }
+
+pub returns-clause-ok : goal.returns-clause-ok
+returns-clause-ok c =
+    let new = insert_entry-new (declared_by (λ s. string_bytes s)) (λ d. bytes_eq c.args.decl.text d.text) string_eq c.into_string.result record { role = c.args.decl.role; accepts = c.args.decl.accepts; entries = c.args.decl.entries; over = c.based_at_zero.result; unit = c.args.decl.unit } (λ e. ap (λ t. bytes_eq t (string_bytes e.0)) c.into_string.ensures) c.self.inside.nodes.entries (rw (← c.self.view_is) at c.requires.new_name) in
+    let shown = declared_new (λ s. string_bytes s) c.into_string.result c.args.decl c.based_at_zero.result c.into_string.ensures c.based_at_zero.ensures.node in
+    (c.nodes-number.ensures, ap (map (declared_by (λ s. string_bytes s))) (c.in_ok-insert.ensures.entries ∙ new) ∙ map-last (declared_by (λ s. string_bytes s)) c.self.inside.nodes.entries _ ∙ rw (shown, c.self.view_is) refl)

@@ -1,0 +1,24 @@
+-- The blocks of a node as one list, and what lies in them.
+use Rattle.std.specs.Prelude.{ℕ, Bool, true, false, ◌&&◌, ◌||◌, not, nat_lt, List, ◌++◌, map, count_by}
+use Rattle.dn_net.specs.declared.node.Block.{Block}
+use Rattle.dn_net.specs.declared.node.Entry.{Entry}
+use Rattle.dn_net.specs.declared.spans.Span.{Span}
+use Rattle.dn_net.specs.Decode.{within}
+
+-- the map blocks and then the accept blocks
+abbrev pub node_spans : List Entry → List Block → List Span
+node_spans entries accepts = map (λ e. record { block = e.block; mapped = true }) entries ++ map (λ b. record { block = b; mapped = false }) accepts
+
+-- how many map blocks, and how many accept blocks, have the address
+abbrev pub maps_in : List Span → ℕ → ℕ
+maps_in spans a = count_by (λ s. s.mapped && within a s.block) spans
+
+abbrev pub accepts_in : List Span → ℕ → ℕ
+accepts_in spans a = count_by (λ s. not s.mapped && within a s.block) spans
+
+abbrev pub overlaps_in : List Span → ℕ → Bool
+overlaps_in spans a = nat_lt 1 (maps_in spans a) || (nat_lt 0 (maps_in spans a) && nat_lt 0 (accepts_in spans a))
+
+-- an accept block has the address
+abbrev pub is_accepted_in : List Span → ℕ → Bool
+is_accepted_in spans a = nat_lt 0 (accepts_in spans a)

@@ -1,0 +1,14 @@
+-- The replies to the first commands, and those to the rest.
+use Rattle.std.proofs.Common.{◌≡◌, ◌∙◌, ap, sym, ℕ, ◌+◌, ◌<◌, List, ◌∷◌, ◌++◌, length, drop, get_or, add-one}
+use Rattle.std.proofs.Math.Seq.{drop-cons}
+use Rattle.dn_net.specs.declared.node.NodeDecl.{NodeDecl}
+use Rattle.dn_tool.specs.declared.command.Command.{Command}
+use Rattle.dn_tool.specs.Reply.{reply, replies}
+
+-- one more reply
+pub replies_step : (net : List NodeDecl) (cs : List Command) (i : ℕ) (c : Command) (done text all : List ℕ) → i < length cs → c ≡ get_or cs i c → done ++ replies net (drop i cs) ≡ all → text ≡ reply net c → done ++ (text ++ replies net (drop (i + 1) cs)) ≡ all
+replies_step net cs i c done text all h at e r =
+    ap (λ (t : List ℕ). done ++ (t ++ replies net (drop (i + 1) cs))) (r ∙ ap (λ (d : Command). reply net d) at)
+    ∙ ap (λ (n : ℕ). done ++ (reply net (get_or cs i c) ++ replies net (drop n cs))) (add-one i)
+    ∙ ap (λ (l : List Command). done ++ replies net l) (sym (drop-cons cs i c h))
+    ∙ e

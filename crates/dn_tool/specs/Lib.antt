@@ -1,0 +1,5 @@
+pub mod Build
+pub mod Refused
+pub mod Compiled
+pub mod Reply
+pub mod Answer

@@ -1,0 +1,18 @@
+//! The tool: it compiles a text, answers its commands, and is the one call that the program makes.
+//!
+//! [`compile::compile`] gives the platform of a text or the rule that it breaks, [`resolve`] finds what
+//! a name comes to, [`reply`] spells the answers, and [`run::run`] goes from the bytes of a source to
+//! those of a sink.
+#![tactic(auto)]
+
+pub mod build;
+pub mod command;
+pub mod compile;
+pub mod names;
+pub mod refusal;
+pub mod reply;
+pub mod resolve;
+pub mod run;
+#[cfg(test)]
+mod tests;
+pub mod words;
