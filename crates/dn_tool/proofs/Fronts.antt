@@ -1,7 +1,7 @@
 -- What is answered to a text of which no more was read than the limit.
-use Rattle.std.proofs.Common.{◌≡◌, ◌≤◌, ◌<◌, ◌∙◌, ap, sym, subst, ℕ, ◌+◌, List, [], ◌∷◌, ◌++◌, length, Option, None, Some, true, false, Bool, arith, rules, append-nil, length-append, cond, ◌⊎◌, inl, inr, nat_lt, nat_le, refl}
+use Rattle.std.proofs.Common.{◌≡◌, ◌<◌, ◌∙◌, ap, sym, subst, ℕ, List, [], ◌++◌, length, Option, None, Some, true, false, arith, rules, append-nil, length-append, ◌⊎◌, inl, inr, nat_le, refl}
 use Rattle.std.specs.Option.{IfSome}
-use Rattle.dn_base.specs.Outside.{Taken, AtEnd, Added, AddedFront}
+use Rattle.dn_base.specs.Outside.{Taken, AtEnd, AddedFront}
 use Rattle.dn_parse.specs.Reading.{read_of}
 use Rattle.dn_tool.specs.Compiled.{Compiled, compiled, compiled_reading, refused, legal}
 use Rattle.dn_tool.specs.declared.refusal.Rule.TheVariants.{Form}

@@ -1,6 +1,6 @@
 pub mod Closed
+pub mod Fronts
 pub mod Known
 pub mod Places
-pub mod Fronts
 pub mod Replies
 pub mod Walk

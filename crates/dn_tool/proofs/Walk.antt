@@ -1,17 +1,17 @@
 -- Following a name step by step, and what it comes to.
-use Rattle.std.proofs.Common.{◌≡◌, ◌∙◌, ap, sym, subst, refl, cond, ℕ, zero, suc, ◌+◌, ◌-◌, ◌<◌, Bool, true, false, nat_lt, List, [], ◌∷◌, ◌++◌, length, arith, rules, nat_le, lt-ltb, ltb-true, ◌≤◌, ◌⊎◌, inl, inr, Bor, map, get_or, IsTrue, ◌↔◌, ◌&&◌, ◌||◌, append-nil, Option, None, Some, slice_get}
+use Rattle.std.proofs.Common.{◌≡◌, ◌∙◌, ap, sym, subst, refl, cond, ℕ, zero, suc, ◌+◌, ◌-◌, ◌<◌, Bool, true, false, nat_lt, List, [], ◌∷◌, ◌++◌, length, arith, rules, nat_le, lt-ltb, ltb-true, ◌≤◌, ◌⊎◌, inl, inr, Bor, map, get_or, ◌&&◌, ◌||◌, Option, None, Some, slice_get}
 use Rattle.std.specs.List.{list_any, list_all}
 use Rattle.dn_net.specs.declared.node.Name.{Name}
 use Rattle.dn_net.specs.declared.node.NodeDecl.{NodeDecl}
 use Rattle.dn_net.specs.Decode.{is_accepted, is_accepted_at, decoded, steps, step_limit, top, in_some_block, mapped}
-use Rattle.dn_net.specs.Names.{each_step, after_steps, reached, passing, sorted_names, resolved}
+use Rattle.dn_net.specs.Names.{after_steps, reached, passing, sorted_names}
 use Rattle.dn_net.specs.declared.node.Dest.{Dest}
 use Rattle.dn_net.specs.declared.step.Step.{Step as StepCase}
 use Rattle.dn_net.specs.declared.step.Step.TheVariants.{Accepted as Here, Stop, To, Nothing as NoStep}
-use Rattle.dn_net.specs.Decode.{leads_to, leads_within, leads_in_range, moved}
+use Rattle.dn_net.specs.Decode.{leads_to, moved}
 use Rattle.dn_tool.specs.declared.resolve.Found.{Found}
 use Rattle.dn_tool.specs.declared.resolve.Found.TheVariants.{Accepted, Nothing, Several, Deep}
-use Rattle.dn_tool.specs.Reply.{meets_several, goes_on, IsFound, ResolvesTo}
+use Rattle.dn_tool.specs.Reply.{meets_several, IsFound}
 
 -- what the first name one step on comes to, if there is no other
 abbrev pub alone : List Name → Found → Found

@@ -1,5 +1,5 @@
 -- The answer of the program: a status, and what is written.
-use Rattle.std.specs.Prelude.{◌≡◌, ℕ, Bool, true, false, if◌then◌else◌, List, [], ◌∷◌, ◌++◌, codes}
+use Rattle.std.specs.Prelude.{ℕ, Bool, false, if◌then◌else◌, List, [], ◌∷◌, ◌++◌, codes}
 use Rattle.std.specs.Str.{bytes_eq}
 use Rattle.dn_tool.specs.Compiled.{Compiled, refused, legal, compiled, refusal_line}
 use Rattle.dn_tool.specs.Reply.{replies}

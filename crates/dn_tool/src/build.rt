@@ -229,3 +229,78 @@ fn commands_of(alloc: Global, names: &NameTable, commands: &[Cmd]) -> Result<Com
     }
     Ok(Items::from_vec(made))
 }
+
+#[cfg(test)]
+mod tests {
+    use super::BuildFault;
+    use crate::command::Command;
+    use dn_base::items::Items;
+    use dn_base::text::Text;
+    use dn_parse::tree::{BlockExpr, Cmd, Decl, EntryExpr, Tree};
+    use std::alloc::{AllocError, Global};
+    use std::test::Fail;
+
+    /// A core that sends its first addresses to the node of this name, and a memory.
+    fn board(alloc: Global, to: &str) -> Result<Items<Decl>, AllocError> {
+        let block = BlockExpr {
+            lo: 16,
+            hi: Some(31),
+        };
+        let mut entries = Items::new(alloc);
+        entries.push(EntryExpr {
+            block,
+            to: Text::of(alloc, to)?,
+            at: None,
+        })?;
+        let mut accepts = Items::new(alloc);
+        accepts.push(block)?;
+        let mut nodes = Items::new(alloc);
+        nodes.push(Decl {
+            agent: true,
+            name: Text::of(alloc, "core")?,
+            accepts: Items::new(alloc),
+            entries,
+            over: Some(Text::of(alloc, "memory")?),
+        })?;
+        nodes.push(Decl {
+            agent: false,
+            name: Text::of(alloc, "memory")?,
+            accepts,
+            entries: Items::new(alloc),
+            over: None,
+        })?;
+        Ok(nodes)
+    }
+
+    #[test]
+    fn builds_a_board(rt: HostRuntime) -> Result<(), Fail> {
+        let mut commands = Items::new(rt.alloc());
+        commands.push(Cmd {
+            name: Text::of(rt.alloc(), "memory")?,
+            addr: 16,
+        })?;
+        let tree = Tree {
+            nodes: board(rt.alloc(), "memory")?,
+            commands,
+        };
+        let platform = super::build(rt.alloc(), &tree)?;
+        assert_eq!(rt; platform.net.nodes(), 2);
+        assert_eq!(rt; platform.net.text(0), "core");
+        assert_eq!(rt; platform.commands.as_slice().len(), 1);
+        for Command::Resolve(target, addr) in platform.commands.as_slice() {
+            assert_eq!(rt; target.node, Some(1));
+            assert_eq!(rt; *addr, 16);
+        }
+        Ok(())
+    }
+
+    #[test]
+    fn refuses_an_unknown_node(rt: HostRuntime) -> Result<(), Fail> {
+        let tree = Tree {
+            nodes: board(rt.alloc(), "bridge")?,
+            commands: Items::new(rt.alloc()),
+        };
+        assert!(rt; matches!(super::build(rt.alloc(), &tree), Err(BuildFault::Form)));
+        Ok(())
+    }
+}

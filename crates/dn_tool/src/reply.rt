@@ -29,12 +29,7 @@ pub fn reply(alloc: Global, net: &Net, command: &Command) -> Result<String, Allo
 }
 
 /// The reply to `resolve`.
-fn resolve_reply(
-    alloc: Global,
-    net: &Net,
-    target: &Target,
-    addr: u64,
-) -> Result<String, AllocError>
+fn resolve_reply(alloc: Global, net: &Net, target: &Target, addr: u64) -> Result<String, AllocError>
     requires closed { IsTrue (is_closed net.now) }
     requires in_range { IsTrue (list_all is_in_range net.now) }
     requires known { IsTrue (over_within (length net.now) target.now.node) }
@@ -47,12 +42,7 @@ fn resolve_reply(
 }
 
 /// What the address of a node comes to, where there is such a node.
-fn target_text(
-    alloc: Global,
-    net: &Net,
-    node: Option<u16>,
-    addr: u64,
-) -> Result<String, AllocError>
+fn target_text(alloc: Global, net: &Net, node: Option<u16>, addr: u64) -> Result<String, AllocError>
     requires closed { IsTrue (is_closed net.now) }
     requires in_range { IsTrue (list_all is_in_range net.now) }
     requires known { IsTrue (over_within (length net.now) node) }

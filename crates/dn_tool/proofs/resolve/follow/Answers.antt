@@ -1,5 +1,5 @@
-use Rattle.std.proofs.Common.{rules, arith, ◌≡◌, ◌<◌, length, IsTrue, ℕ, ◌-◌, ◌≤◌, List, subst}
-use Rattle.dn_net.specs.Decode.{is_closed, moved, leads_within}
+use Rattle.std.proofs.Common.{arith, length, IsTrue, subst}
+use Rattle.dn_net.specs.Decode.{leads_within}
 use Rattle.dn_net.specs.declared.step.Step.{Step as StepCase}
 use Rattle.dn_net.specs.declared.step.Step.TheVariants.{To}
 use Rattle.dn_tool.proofs.Walk.{Standing, ends_here, ends_nowhere, ends_empty, ends_several, ends_deep, goes_from, stays_within}

@@ -1,6 +1,6 @@
-use Rattle.std.proofs.Common.{rules, ◌≡◌, ◌≢◌, ℕ, List, ◌<◌, ◌⊎◌, true, false, length}
+use Rattle.std.proofs.Common.{rules, ◌≡◌, ◌≢◌, ◌<◌, true, false, length}
 use Rattle.dn_base.specs.Outside.{Added, AddedFront, Taken, AtEnd}
-use Rattle.dn_tool.specs.Answer.{Answer, answer, of_text, is_run}
+use Rattle.dn_tool.specs.Answer.{Answer, is_run}
 use Rattle.dn_tool.proofs.Fronts.{if_some, told, usage_told}
 use Rattle.dn_tool.proofs.run.run.Goals as goal
 
