@@ -1,6 +1,6 @@
 //! One step of decoding.
 
-ghost use Rattle.std.specs.Prelude.{◌≡◌, ◌≢◌, ◌↔◌, ℕ, Bool, Option, length, map, ◌-◌, ◌<◌, ◌≤◌, IfNone, IfSome, nat_lt, nat_le, IsTrue};
+ghost use Rattle.std.specs.Prelude.{◌≡◌, ◌≢◌, ◌↔◌, ◌+◌, false, [], ℕ, Bool, Option, length, map, ◌-◌, ◌<◌, ◌≤◌, IfNone, IfSome, nat_lt, nat_le, IsTrue};
 ghost use Rattle.std.specs.List.{list_all};
 ghost use Rattle.dn_net.specs.Decode.{is_accepted, is_stop, steps, leads_to, leads_within, leads_in_range, is_closed, top, within, in_some_block, moved, mapped, by_over, over_within};
 ghost use Rattle.dn_net.specs.Parts.{over_dests};
@@ -30,6 +30,7 @@ impl Net {
         requires in_range { IsTrue (list_all is_in_range self.now) }
         ensures accepted { result ≡ Step.Accepted ↔ IsTrue (is_accepted self.now name) }
         ensures stop { result ≡ Step.Stop ↔ IsTrue (is_stop self.now name) }
+        ensures nothing { result ≡ Step.Nothing ↔ ((is_accepted self.now name ≡ false) × (is_stop self.now name ≡ false) × (steps self.now name ≡ [])) }
         ensures steps { leads_to result ≡ steps self.now name }
         ensures reach { IsTrue (leads_in_range result) }
         ensures closed { IsTrue (is_closed self.now) → IsTrue (leads_within (length self.now) result) }
@@ -55,14 +56,30 @@ fn lead<'a>(entries: &'a [Entry], over: &'a [Dest], addr: u64) -> Step<'a>
     requires based { IsTrue (list_all (λ d. nat_le d.addr 0) over.now) }
     ensures accepted { result ≢ Step.Accepted }
     ensures stop { result ≢ Step.Stop }
+    ensures nothing { (o : Option ℕ) → over.now ≡ over_dests o → (result ≡ Step.Nothing ↔ (mapped addr o entries.now ≡ [])) }
     ensures steps { (o : Option ℕ) → over.now ≡ over_dests o → leads_to result ≡ mapped addr o entries.now }
     ensures reach { IsTrue (leads_in_range result) }
     ensures closed { (count : ℕ) → IsTrue (list_all (λ e. list_all (λ d. nat_lt d.node count) e.dests) entries.now) → IsTrue (list_all (λ d. nat_lt d.node count) over.now) → IsTrue (leads_within count result) }
 {
     match entry_at(entries, addr) {
-        Some(entry) => Step::To(entry.dests.as_slice(), addr - entry.block.lo),
-        None => Step::To(over, addr),
+        Some(entry) => step_to(entry.dests.as_slice(), addr - entry.block.lo),
+        None => step_to(over, addr),
     }
+}
+
+/// The step to these destinations, their addresses raised by the number.
+fn step_to(dests: &[Dest], offset: u64) -> Step<'_>
+    ensures accepted { result ≢ Step.Accepted }
+    ensures stop { result ≢ Step.Stop }
+    ensures nothing { result ≡ Step.Nothing ↔ (dests.now ≡ []) }
+    ensures steps { leads_to result ≡ map (moved offset) dests.now }
+    ensures reach { IsTrue (list_all (λ d. nat_le (d.addr + offset) top) dests.now) → IsTrue (leads_in_range result) }
+    ensures closed { (count : ℕ) → IsTrue (list_all (λ d. nat_lt d.node count) dests.now) → IsTrue (leads_within count result) }
+{
+    if dests.is_empty() {
+        return Step::Nothing;
+    }
+    Step::To(dests, offset)
 }
 
 /// The first map entry that has the address.

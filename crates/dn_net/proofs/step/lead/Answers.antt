@@ -8,7 +8,7 @@ pub returns-in-Some-clause-reach : goal.returns-in-Some-clause-reach
 returns-in-Some-clause-reach c =
     let entry = c.in-Some.entry.now in
     let range = both (block_in_range entry.block) (list_all (dest_in_range entry.block) entry.dests) (c.in-Some.ensures.each entry_in_range c.requires.in_range) in
-    rw c.as_slice.ensures (dests_reach entry.block c.args.addr entry.dests c.in-Some.ensures.covers range.1)
+    c.step_to.ensures.reach (rw c.as_slice.ensures (dests_reach entry.block c.args.addr entry.dests c.in-Some.ensures.covers range.1))
 
 pub returns-in-None-clause-reach : goal.returns-in-None-clause-reach
-returns-in-None-clause-reach c = over_reaches c.args.addr c.args.over.now c.requires.addr c.requires.based
+returns-in-None-clause-reach c = c.step_to-in-None.ensures.reach (over_reaches c.args.addr c.args.over.now c.requires.addr c.requires.based)
