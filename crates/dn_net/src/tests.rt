@@ -1,8 +1,8 @@
 //! Nets and sets of names made by hand.
 
-ghost use Rattle.std.specs.Prelude.{IfOk, IsTrue};
+ghost use Rattle.std.specs.Prelude.{◌≡◌, false, IfOk, IsTrue};
 ghost use Rattle.std.specs.List.{list_all};
-ghost use Rattle.dn_net.specs.Decode.{is_formed};
+ghost use Rattle.dn_net.specs.Decode.{is_formed, is_unit};
 ghost use Rattle.dn_net.specs.Rules.{is_in_range};
 
 use crate::names::Names;
@@ -15,58 +15,46 @@ use dn_base::text::Text;
 use std::alloc::{AllocError, Global};
 use std::test::Fail;
 
-/// The parts of a node that is no unit.
+/// A part of a node. A mapped block goes to an address of node 0, or to none.
 #[derive(Clone, Copy)]
-struct Shape<'a> {
-    vectors: bool,
-    accepts: &'a [(u64, u64)],
-    maps: &'a [(u64, u64, &'a [(u16, u64)])],
-    over: Option<u16>,
+enum Part {
+    Absent,
+    Accept(u64, u64),
+    Map(u64, u64),
+    Sent(u64, u64, u64),
 }
 
-fn block(ends: (u64, u64)) -> Block {
-    Block {
-        lo: ends.0,
-        hi: ends.1,
-    }
-}
-
-fn dests(alloc: Global, names: &[(u16, u64)]) -> Result<Items<Dest>, AllocError> {
+fn entry(alloc: Global, block: Block, addrs: &[u64]) -> Result<Entry, AllocError> {
     let mut dests = Items::new(alloc);
-    for (node, addr) in names {
+    for addr in addrs {
         dests.push(Dest {
-            node: *node,
+            node: 0,
             addr: *addr,
         })?;
     }
-    Ok(dests)
+    Ok(Entry { block, dests })
 }
 
-fn node(alloc: Global, title: &str, shape: Shape<'_>) -> Result<NodeDecl, AllocError>
+fn node(alloc: Global, title: &str, role: Role, parts: &[Part]) -> Result<NodeDecl, AllocError>
+    requires { is_unit role ≡ false }
     ensures { IfOk result (λ d. IsTrue (is_formed d)) }
 {
     let mut accepts = Items::new(alloc);
-    for ends in shape.accepts {
-        accepts.push(block(*ends))?;
-    }
     let mut entries = Items::new(alloc);
-    for (lo, hi, names) in shape.maps {
-        entries.push(Entry {
-            block: block((*lo, *hi)),
-            dests: dests(alloc, names)?,
-        })?;
+    for part in parts {
+        match *part {
+            Part::Absent => {}
+            Part::Accept(lo, hi) => accepts.push(Block { lo, hi })?,
+            Part::Map(lo, hi) => entries.push(entry(alloc, Block { lo, hi }, &[])?)?,
+            Part::Sent(lo, hi, addr) => entries.push(entry(alloc, Block { lo, hi }, &[addr])?)?,
+        }
     }
-    let role = if shape.vectors {
-        Role::Vectors
-    } else {
-        Role::Plain
-    };
     Ok(NodeDecl {
         text: Text::of(alloc, title)?,
         role,
         accepts,
         entries,
-        over: shape.over,
+        over: None,
         unit: None,
     })
 }
@@ -102,19 +90,27 @@ fn add_new(net: &mut Net, decl: NodeDecl) -> Result<Option<u16>, AllocError>
     Ok(Some(number))
 }
 
-const PLAIN: Shape<'_> = Shape {
-    vectors: false,
-    accepts: &[],
-    maps: &[],
-    over: None,
-};
+/// The fault of a net of this one node.
+fn fault_of(alloc: Global, decl: NodeDecl) -> Result<Option<NodeFault>, AllocError>
+    requires { IsTrue (is_formed decl) }
+{
+    let mut net = Net::new(alloc);
+    let _ = add_new(&mut net, decl)?;
+    Ok(net.check_nodes(alloc).err())
+}
 
 #[test]
 fn adds_and_lists(rt: HostRuntime) -> Result<(), Fail> {
     let alloc = rt.alloc();
     let mut net = Net::new(alloc);
-    assert_eq!(rt; add_new(&mut net, node(alloc, "first", PLAIN)?)?, Some(0));
-    assert_eq!(rt; add_new(&mut net, node(alloc, "second", PLAIN)?)?, Some(1));
+    assert_eq!(rt;
+        add_new(&mut net, node(alloc, "first", Role::Plain, &[])?)?,
+        Some(0)
+    );
+    assert_eq!(rt;
+        add_new(&mut net, node(alloc, "second", Role::Plain, &[])?)?,
+        Some(1)
+    );
     assert_eq!(rt; net.find("second"), Some(1));
     assert_eq!(rt; net.check_nodes(alloc), Ok(()));
     let mut names = Names::new(alloc);
@@ -125,5 +121,51 @@ fn adds_and_lists(rt: HostRuntime) -> Result<(), Fail> {
         names.list(),
         [Name { node: 0, addr: 5 }, Name { node: 1, addr: 0 }].as_slice()
     );
+    Ok(())
+}
+
+#[test]
+fn the_least_overlap_is_named(rt: HostRuntime) -> Result<(), Fail> {
+    let alloc = rt.alloc();
+    let none = Part::Absent;
+    let cases = [
+        ([Part::Map(10, 19), Part::Map(0, 9), none, none], None),
+        (
+            [Part::Map(0, 9), Part::Map(20, 29), Part::Map(5, 6), none],
+            Some(5),
+        ),
+        (
+            [
+                Part::Map(50, 60),
+                Part::Map(0, 5),
+                Part::Map(55, 70),
+                Part::Map(5, 5),
+            ],
+            Some(5),
+        ),
+        ([Part::Accept(0, 9), Part::Accept(5, 15), none, none], None),
+        ([Part::Accept(0, 9), Part::Map(9, 12), none, none], Some(9)),
+        (
+            [
+                Part::Accept(0, 100),
+                Part::Accept(2, 3),
+                Part::Map(50, 51),
+                none,
+            ],
+            Some(50),
+        ),
+        (
+            [Part::Map(TOP, TOP), Part::Accept(0, TOP), none, none],
+            Some(TOP),
+        ),
+    ];
+    for (parts, addr) in cases {
+        let fault = addr.map(|addr| NodeFault::Overlap { node: 0, addr });
+        assert_eq!(rt;
+            fault_of(alloc, node(alloc, "node", Role::Plain, &parts)?)?,
+            fault,
+            "{addr:?}"
+        );
+    }
     Ok(())
 }
