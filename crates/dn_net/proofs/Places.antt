@@ -1,5 +1,6 @@
 -- Where a full name stands in the entries that a net keeps, and what is true of each item of a list.
-use Rattle.std.proofs.Common.{◌≡◌, ◌∙◌, ap, sym, refl, ℕ, zero, suc, ◌+◌, List, [], ◌∷◌, ◌++◌, map, true, false, Bool, not, ◌&&◌, ◌||◌, length, arith, position, slice_get, Option, Some, IsTrue, option_map}
+use Rattle.std.proofs.Common.{◌≡◌, ◌∙◌, ap, sym, refl, ℕ, zero, suc, ◌+◌, ◌<◌, nat_lt, cond, None, is_some, List, [], ◌∷◌, ◌++◌, map, true, false, Bool, not, ◌&&◌, ◌||◌, length, arith, position, slice_get, Option, Some, IsTrue, option_map}
+use Rattle.std.proofs.lemmas.Bool.{ltb-false}
 use Rattle.std.specs.List.{list_any, list_all, prefix_len}
 use Rattle.std.specs.Map.{keys_of}
 use Rattle.indexmap.specs.IndexMap.{insert_entry}
@@ -71,3 +72,20 @@ length-last (y ∷ ys) x = grind (arith, length-last ys x)
 pub map-last : {X Y : Type 0} (f : X → Y) (xs : List X) (x : X) → map f (xs ++ x ∷ []) ≡ map f xs ++ f x ∷ []
 map-last f [] x = refl
 map-last f (y ∷ ys) x = simp (map-last f ys x)
+
+found_within : {X : Type 0} (p : X → Bool) (xs : List X) → list_any p xs ≡ true → prefix_len (λ x. not (p x)) xs < length xs
+found_within p [] h = cc
+found_within p (x ∷ xs) h = by (p x) refl (found_within p xs) h
+  where
+    by : (b : Bool) → p x ≡ b → (list_any p xs ≡ true → prefix_len (λ x. not (p x)) xs < length xs) → (b || list_any p xs) ≡ true → prefix_len (λ x. not (p x)) (x ∷ xs) < length (x ∷ xs)
+    by true e ih h = rw e (omega arith)
+    by false e ih h = let k = ih h in rw e (omega arith)
+
+-- what has no place in a list is not there
+pub not_there : {X : Type 0} (p : X → Bool) (xs : List X) → is_some (position p xs) ≡ false → list_any p xs ≡ false
+not_there p xs none = by (list_any p xs) refl (nat_lt (prefix_len (λ x. not (p x)) xs) (length xs)) refl none
+  where
+    by : (b : Bool) → list_any p xs ≡ b → (c : Bool) → nat_lt (prefix_len (λ x. not (p x)) xs) (length xs) ≡ c → is_some (cond c (Some (prefix_len (λ x. not (p x)) xs)) None) ≡ false → b ≡ false
+    by false e c f none = refl
+    by true e true f none = none
+    by true e false f none = let l = ltb-false _ _ f in let m = found_within p xs e in absurd (omega arith)

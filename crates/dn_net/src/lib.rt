@@ -11,5 +11,7 @@ pub mod node;
 pub mod rules;
 mod spans;
 pub mod step;
+#[cfg(test)]
+mod tests;
 
 pub use dn_base::OutOfMemory;
