@@ -9,13 +9,16 @@ use crate::keyword::keyword_of;
 use crate::number::number_of;
 use crate::token::{Lexeme, Sign, Token};
 use std::alloc::{AllocError, AllocFailed, Global};
+use thiserror::Error;
 
 /// Why a text has no list of tokens.
-#[derive(Clone, Copy, Debug, PartialEq, Eq, Drop)]
+#[derive(Clone, Copy, Debug, PartialEq, Eq, Error)]
 pub enum TokenFault {
     /// The first bad place stands in this line, counted from 1.
+    #[error("Bad")]
     Bad { line: u32 },
     /// There was no memory for the tokens.
+    #[error("OutOfMemory")]
     OutOfMemory,
 }
 

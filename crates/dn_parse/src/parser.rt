@@ -12,13 +12,16 @@ use crate::tree::{BlockExpr, Cmd, Decl, EntryExpr, Tree};
 use dn_base::items::Items;
 use dn_base::text::Text;
 use std::alloc::{AllocError, Global};
+use thiserror::Error;
 
 /// Why a text is not read.
-#[derive(Clone, Copy, Debug, PartialEq, Eq, Drop)]
+#[derive(Clone, Copy, Debug, PartialEq, Eq, Error)]
 pub enum ParseFault {
     /// The text is longer than 4,194,304 bytes, is no list of tokens, or is no spelling of the grammar.
+    #[error("Form")]
     Form,
     /// There was no memory for the tree.
+    #[error("OutOfMemory")]
     OutOfMemory,
 }
 
