@@ -22,7 +22,7 @@ abbrev pub optional : {A B : Type 0} → Option A → (A → Option B) → Optio
 optional None present absent = absent
 optional (Some rest) present absent = present rest
 
--- one lexeme
+-- one lexeme; `sameb` says whether two values of an enum with no fields are the same
 abbrev pub is_sign : Sign → Lexeme → Bool
 is_sign s (sign t) = sameb the_signs t s
 is_sign s _ = false

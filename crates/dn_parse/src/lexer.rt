@@ -44,7 +44,9 @@ impl<T: Drop> From<AllocFailed<T>> for TokenFault {
     }
 }
 
-/// The tokens of a text, whose words borrow it, or the line of its first bad place.
+/// The tokens of a text, whose words borrow it, or the line of its first bad place: a byte that
+/// begins no token, or a number that is misspelled or past 2^64 - 1. The caller keeps the text
+/// short enough for its lines to fit.
 pub fn tokens<'a>(alloc: Global, text: &'a [u8]) -> Result<Vec<Token<'a>>, TokenFault>
     requires { length text.now + 1 < 2 ^ 32 }
     ensures ok { IfOk result (λ found. tokens text.now ≡ Ok (map token_of found.items)) }

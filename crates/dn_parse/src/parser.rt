@@ -59,7 +59,8 @@ type Read<'a, T> = Result<(T, &'a [Token<'a>]), ParseFault>;
 /// A part that may be left out, and the tokens after it.
 type Next<'a, T> = Result<Option<(T, &'a [Token<'a>])>, ParseFault>;
 
-/// Reads a text.
+/// Reads a text to its tree, by its tokens. The text is refused where it is longer than 4,194,304
+/// bytes, has a bad token, or spells no tree.
 pub fn read(alloc: Global, text: &[u8]) -> Result<Tree, ParseFault>
     ensures tree { IfOk result (λ tree. read_of text.now ≡ Some tree) }
     ensures form { IsErrOf result ParseFault.Form → read_of text.now ≡ None }
