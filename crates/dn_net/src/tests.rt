@@ -1,8 +1,8 @@
 //! Nets and sets of names made by hand.
 
-ghost use Rattle.std.specs.Prelude.{◌≡◌, false, IfOk, IsTrue};
+ghost use Rattle.std.specs.Prelude.{◌≢◌, IfOk, IsTrue};
 ghost use Rattle.std.specs.List.{list_all};
-ghost use Rattle.dn_net.specs.Decode.{is_formed, is_unit};
+ghost use Rattle.dn_net.specs.Decode.{is_formed};
 ghost use Rattle.dn_net.specs.Rules.{is_in_range};
 
 use crate::names::Names;
@@ -36,7 +36,7 @@ fn entry(alloc: Global, block: Block, addrs: &[u64]) -> Result<Entry, AllocError
 }
 
 fn node(alloc: Global, title: &str, role: Role, parts: &[Part]) -> Result<NodeDecl, AllocError>
-    requires { is_unit role ≡ false }
+    requires { role ≢ Role.Unit }
     ensures { IfOk result (λ d. IsTrue (is_formed d)) }
 {
     let mut accepts = Items::new(alloc);
@@ -166,6 +166,30 @@ fn the_least_overlap_is_named(rt: HostRuntime) -> Result<(), Fail> {
             fault,
             "{addr:?}"
         );
+    }
+    Ok(())
+}
+
+#[test]
+fn each_rule_has_its_fault(rt: HostRuntime) -> Result<(), Fail> {
+    let alloc = rt.alloc();
+    let range = Some(NodeFault::Range { node: 0 });
+    let space = Some(NodeFault::VectorSpace { node: 0 });
+    let none = Part::Absent;
+    let cases = [
+        (Role::Plain, [Part::Accept(0, TOP), none], None),
+        (Role::Plain, [Part::Accept(1, 0), none], range),
+        (Role::Plain, [Part::Accept(0, TOP + 1), none], range),
+        (Role::Plain, [Part::Sent(2, 3, TOP - 1), none], None),
+        (Role::Plain, [Part::Sent(2, 3, TOP), none], range),
+        (Role::Vectors, [Part::Accept(1, 4096), Part::Accept(10, 20)], None),
+        (Role::Vectors, [Part::Accept(5, 4096), Part::Accept(0, 4095)], space),
+        (Role::Vectors, [Part::Map(0, 0), none], space),
+    ];
+    for (role, parts, fault) in cases {
+        if role != Role::Unit {
+            assert_eq!(rt; fault_of(alloc, node(alloc, "node", role, &parts)?)?, fault);
+        }
     }
     Ok(())
 }
