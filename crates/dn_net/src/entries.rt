@@ -103,10 +103,13 @@ fn entry_at<'a>(entries: &'a [Entry], order: &[Place], addr: u64) -> Option<&'a 
     let Some(place) = latest(order, addr) else {
         return None;
     };
-    match entries.get(place.entry) {
-        Some(entry) if entry.block.has(addr) => Some(entry),
-        _ => None,
+    let Some(entry) = entries.get(place.entry) else {
+        return None;
+    };
+    if !entry.block.has(addr) {
+        return None;
     }
+    Some(entry)
 }
 
 /// The last place whose block begins at or before the address.
@@ -114,11 +117,12 @@ fn latest(order: &[Place], addr: u64) -> Option<&Place>
     requires { IsNonDecreasingBy (λ p. p.first) order.now }
     ensures none { IfNone result (All (λ p. addr < p.first) order.now) }
     ensures there { IfSome result (λ p. Contains order.now p.now) }
+    ensures begun { IfSome result (λ p. p.now.first ≤ addr) }
     ensures last { IfSome result (λ p. All (λ q. q.first ≤ addr → q.first ≤ p.now.first) order.now) }
 {
     let after = order.partition_point(|place| place.first <= addr);
     if after == 0 {
         return None;
     }
-    order.get(after - 1)
+    Some(&order[after - 1])
 }

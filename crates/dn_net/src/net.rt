@@ -10,6 +10,7 @@ ghost use Rattle.dn_net.specs.Parts.{over_dests, over_is_based};
 use crate::accepts::AcceptList;
 use crate::entries::EntryList;
 use crate::node::{Block, Dest, Entry, NodeDecl, Role, Unit};
+use dn_base::items::Items;
 use indexmap::IndexMap;
 use std::alloc::{AllocError, Global};
 use std::marker::Model;
@@ -30,6 +31,35 @@ pub struct Parts {
 #[derive(Drop)]
 pub struct Net {
     nodes: IndexMap<String, Parts>,
+}
+
+impl Parts {
+    /// These parts, with the orders in which addresses are sought.
+    fn new(
+        alloc: Global,
+        role: Role,
+        accepts: Items<Block>,
+        entries: Items<Entry>,
+        over: Option<u16>,
+        unit: Option<Unit>,
+    ) -> Result<Parts, AllocError>
+        ensures role { IfOk result (λ p. p.role ≡ role) }
+        ensures accepts { IfOk result (λ p. p.accepts ≡ accepts) }
+        ensures entries { IfOk result (λ p. p.entries ≡ entries) }
+        ensures over { IfOk result (λ p. option_map (λ d. d.node) p.over ≡ over) }
+        ensures based { IfOk result (λ p. IsTrue (over_is_based p.over)) }
+        ensures unit { IfOk result (λ p. p.unit ≡ unit) }
+    {
+        let accepts = AcceptList::new(alloc, accepts)?;
+        let entries = EntryList::new(alloc, entries)?;
+        Ok(Parts {
+            role,
+            accepts,
+            entries,
+            over: based_at_zero(over),
+            unit,
+        })
+    }
 }
 
 impl Model for Net {
@@ -75,13 +105,7 @@ impl Net {
             over,
             unit,
         } = decl;
-        let parts = Parts {
-            role,
-            accepts: AcceptList::new(alloc, accepts)?,
-            entries: EntryList::new(alloc, entries)?,
-            over: based_at_zero(over),
-            unit,
-        };
+        let parts = Parts::new(alloc, role, accepts, entries, over, unit)?;
         let _ = self.nodes.insert(text.into_string(), parts)?;
         Ok(number)
     }
