@@ -1,9 +1,12 @@
 pub mod Ascending
 pub mod Blocks
+pub mod Checked
 pub mod Faults
+pub mod Latest
 pub mod Least
 pub mod Places
 pub mod Resolution
 pub mod Steps
+pub mod Stretch
 pub mod Sweep
 pub mod Tally

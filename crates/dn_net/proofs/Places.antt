@@ -6,6 +6,7 @@ use Rattle.std.specs.Map.{keys_of}
 use Rattle.indexmap.specs.IndexMap.{insert_entry}
 use Rattle.dn_net.specs.declared.node.Dest.{Dest}
 use Rattle.dn_net.specs.declared.node.NodeDecl.{NodeDecl}
+use Rattle.dn_net.specs.declared.net.Parts.{Parts}
 use Rattle.dn_net.specs.Parts.{declared_by}
 
 pub length-map : {X Y : Type 0} (f : X → Y) (xs : List X) → length (map f xs) ≡ length xs
@@ -54,8 +55,8 @@ list_all-implied p q implies (x ∷ xs) all =
     rw (implies x b.0) (list_all-implied p q implies xs b.1)
 
 -- the declaration of an added node is shown as it was given
-pub declared_new : {S : Type 0} (text : S → List ℕ) (k : S) (decl : NodeDecl) (over : Option Dest) → text k ≡ decl.text → option_map (λ d. d.node) over ≡ decl.over → declared_by text (k, record { role = decl.role; accepts = decl.accepts; entries = decl.entries; over = over; unit = decl.unit }) ≡ decl
-declared_new text k decl over e f = λ i. record { text = e i; role = decl.role; accepts = decl.accepts; entries = decl.entries; over = f i; unit = decl.unit }
+pub declared_new : {S : Type 0} (text : S → List ℕ) (k : S) (decl : NodeDecl) (parts : Parts) → text k ≡ decl.text → parts.role ≡ decl.role → parts.accepts ≡ decl.accepts → parts.entries ≡ decl.entries → option_map (λ (d : Dest). d.node) parts.over ≡ decl.over → parts.unit ≡ decl.unit → declared_by text (k, parts) ≡ decl
+declared_new text k decl parts t r a e o u = λ i. record { text = t i; role = r i; accepts = a i; entries = e i; over = o i; unit = u i }
 
 -- an item that passes, put last
 pub list_all-last : {X : Type 0} (p : X → Bool) (xs : List X) (x : X) → IsTrue (list_all p xs) → IsTrue (p x) → IsTrue (list_all p (xs ++ x ∷ []))

@@ -1,6 +1,7 @@
 pub mod Chain
 pub mod Decode
 pub mod Names
+pub mod Order
 pub mod Parts
 pub mod Rules
 pub mod Spans

@@ -4,6 +4,8 @@
 //! [`step`] decodes one name by one step, and [`rules`] has the rules of a node.
 #![tactic(auto)]
 
+mod accepts;
+mod entries;
 pub mod laws;
 pub mod names;
 pub mod net;

@@ -4,9 +4,11 @@ ghost use Rattle.std.specs.Prelude.{◌≡◌, ◌≢◌, ◌↔◌, [], ◌∷�
 ghost use Rattle.std.specs.List.{list_any, list_all};
 ghost use Rattle.std.specs.Str.{bytes_eq};
 ghost use Rattle.std.specs.Option.{option_copied, is_some};
-ghost use Rattle.dn_net.specs.Decode.{is_formed, unit_at};
+ghost use Rattle.dn_net.specs.Decode.{is_formed, unit_at, in_some_block};
 ghost use Rattle.dn_net.specs.Parts.{over_dests, over_is_based};
 
+use crate::accepts::AcceptList;
+use crate::entries::EntryList;
 use crate::node::{Block, Dest, Entry, NodeDecl, Role, Unit};
 use dn_base::items::Items;
 use indexmap::IndexMap;
@@ -17,8 +19,8 @@ use std::marker::Model;
 #[derive(Drop)]
 pub struct Parts {
     role: Role,
-    accepts: Items<Block>,
-    entries: Items<Entry>,
+    accepts: AcceptList,
+    entries: EntryList,
     /// The node that serves the rest, as a destination at address 0.
     over: Option<Dest>,
     unit: Option<Unit>,
@@ -29,6 +31,35 @@ pub struct Parts {
 #[derive(Drop)]
 pub struct Net {
     nodes: IndexMap<String, Parts>,
+}
+
+impl Parts {
+    /// These parts, with the orders in which addresses are sought.
+    fn new(
+        alloc: Global,
+        role: Role,
+        accepts: Items<Block>,
+        entries: Items<Entry>,
+        over: Option<u16>,
+        unit: Option<Unit>,
+    ) -> Result<Parts, AllocError>
+        ensures role { IfOk result (λ p. p.role ≡ role) }
+        ensures accepts { IfOk result (λ p. p.accepts ≡ accepts) }
+        ensures entries { IfOk result (λ p. p.entries ≡ entries) }
+        ensures over { IfOk result (λ p. option_map (λ d. d.node) p.over ≡ over) }
+        ensures based { IfOk result (λ p. IsTrue (over_is_based p.over)) }
+        ensures unit { IfOk result (λ p. p.unit ≡ unit) }
+    {
+        let accepts = AcceptList::new(alloc, accepts)?;
+        let entries = EntryList::new(alloc, entries)?;
+        Ok(Parts {
+            role,
+            accepts,
+            entries,
+            over: based_at_zero(over),
+            unit,
+        })
+    }
 }
 
 impl Model for Net {
@@ -65,6 +96,7 @@ impl Net {
         ensures err { OnErr result (self.new ≡ self.old) }
     {
         let number = self.nodes();
+        let alloc = *self.nodes.allocator();
         let NodeDecl {
             text,
             role,
@@ -73,13 +105,7 @@ impl Net {
             over,
             unit,
         } = decl;
-        let parts = Parts {
-            role,
-            accepts,
-            entries,
-            over: based_at_zero(over),
-            unit,
-        };
+        let parts = Parts::new(alloc, role, accepts, entries, over, unit)?;
         let _ = self.nodes.insert(text.into_string(), parts)?;
         Ok(number)
     }
@@ -153,6 +179,22 @@ impl Net {
         ensures { option_map (λ d. d.unit) (slice_get self.now node) ≡ Some (option_copied result) }
     {
         self.parts(node).unit.as_ref()
+    }
+
+    /// Whether an accept block of a node has the address.
+    pub(crate) fn is_accepting(&self, node: u16, addr: u64) -> bool
+        requires { node < length self.now }
+        ensures { option_map (λ d. in_some_block addr d.accepts) (slice_get self.now node) ≡ Some result }
+    {
+        self.parts(node).accepts.has(addr)
+    }
+
+    /// The map entries of a node, where an address is sought.
+    pub(crate) fn entry_list(&self, node: u16) -> &EntryList
+        requires { node < length self.now }
+        ensures { option_map (λ d. d.entries) (slice_get self.now node) ≡ Some result.now }
+    {
+        &self.parts(node).entries
     }
 
     /// The destination of what a node neither accepts nor maps: none, or the node of its `over` at address 0.

@@ -1,13 +1,14 @@
 //! One step of decoding.
 
 ghost use Rattle.std.specs.Prelude.{◌≡◌, ◌≢◌, ◌↔◌, ℕ, Bool, Option, length, map, ◌-◌, ◌<◌, ◌≤◌, IfNone, IfSome, nat_lt, nat_le, IsTrue, slice_get, Some};
-ghost use Rattle.std.specs.List.{list_all};
+ghost use Rattle.std.specs.List.{list_all, count_by};
 ghost use Rattle.dn_net.specs.Decode.{is_accepted, is_stop, steps, leads_to, leads_within, leads_in_range, is_closed, sent, sent_over, sent_from, told_by, top, within, in_some_block, moved, mapped, by_over, over_within};
 ghost use Rattle.dn_net.specs.Parts.{over_dests};
-ghost use Rattle.dn_net.specs.Rules.{is_in_range, entry_in_range};
+ghost use Rattle.dn_net.specs.Rules.{node_fault, entry_in_range};
 
+use crate::entries::EntryList;
 use crate::net::Net;
-use crate::node::{Block, Dest, Entry, Name, TOP};
+use crate::node::{Dest, Name, TOP};
 
 /// To what one name decodes.
 #[derive(Clone, Copy)]
@@ -27,7 +28,7 @@ impl Net {
     /// Decodes a name by one step.
     pub fn step(&self, name: Name) -> Step<'_>
         requires there { name.node < length self.now }
-        requires in_range { IsTrue (list_all is_in_range self.now) }
+        requires checked { node_fault self.now ≡ None }
         ensures accepted { result ≡ Step.Accepted ↔ IsTrue (is_accepted self.now name) }
         ensures stop { result ≡ Step.Stop ↔ IsTrue (is_stop self.now name) }
         ensures sent { told_by result ≡ sent_from name.addr (slice_get self.now name.node) }
@@ -41,18 +42,19 @@ impl Net {
         if self.is_unit(name.node) {
             return Step::Stop;
         }
-        if is_in_some_block(self.accepts(name.node), name.addr) {
+        if self.is_accepting(name.node, name.addr) {
             return Step::Accepted;
         }
         let over = self.over_dests(name.node);
-        lead(self.entries(name.node), over, name.addr)
+        lead(self.entry_list(name.node), over, name.addr)
     }
 }
 
 /// The step of an address that is not accepted: by the map entry that has it, and else by `over`.
-fn lead<'a>(entries: &'a [Entry], over: &'a [Dest], addr: u64) -> Step<'a>
+fn lead<'a>(entries: &'a EntryList, over: &'a [Dest], addr: u64) -> Step<'a>
     requires addr { addr ≤ top }
     requires in_range { IsTrue (list_all entry_in_range entries.now) }
+    requires apart { (a : ℕ) → count_by (λ e. within a e.block) entries.now ≤ 1 }
     requires based { IsTrue (list_all (λ d. nat_le d.addr 0) over.now) }
     ensures accepted { result ≢ Step.Accepted }
     ensures stop { result ≢ Step.Stop }
@@ -61,7 +63,7 @@ fn lead<'a>(entries: &'a [Entry], over: &'a [Dest], addr: u64) -> Step<'a>
     ensures reach { IsTrue (leads_in_range result) }
     ensures closed { (count : ℕ) → IsTrue (list_all (λ e. list_all (λ d. nat_lt d.node count) e.dests) entries.now) → IsTrue (list_all (λ d. nat_lt d.node count) over.now) → IsTrue (leads_within count result) }
 {
-    match entry_at(entries, addr) {
+    match entries.at(addr) {
         Some(entry) => Step::To(entry.dests.as_slice(), addr - entry.block.lo),
         None => over_step(over, addr),
     }
@@ -82,32 +84,4 @@ fn over_step(over: &[Dest], addr: u64) -> Step<'_>
         [] => Step::Nothing,
         _ => Step::To(over, addr),
     }
-}
-
-/// The first map entry that has the address.
-fn entry_at(entries: &[Entry], addr: u64) -> Option<&Entry>
-    ensures none { IfNone result ((over : Option ℕ) → mapped addr over entries.now ≡ by_over addr over) }
-    ensures none_sent { IfNone result ((over : Option ℕ) → sent addr over entries.now ≡ sent_over addr over) }
-    ensures covers { IfSome result (λ e. IsTrue (within addr e.now.block)) }
-    ensures found_sent { IfSome result (λ e. (over : Option ℕ) → sent addr over entries.now ≡ Some (e.now.dests, addr - e.now.block.lo)) }
-    ensures found { IfSome result (λ e. (over : Option ℕ) → mapped addr over entries.now ≡ map (moved (addr - e.now.block.lo)) e.now.dests) }
-    ensures each { IfSome result (λ e. (P : Entry → Bool) → IsTrue (list_all P entries.now) → IsTrue (P e.now)) }
-{
-    for entry in entries {
-        if entry.block.has(addr) {
-            return Some(entry);
-        }
-    }
-    None
-}
-
-fn is_in_some_block(blocks: &[Block], addr: u64) -> bool
-    ensures { result ≡ in_some_block addr blocks.now }
-{
-    for block in blocks {
-        if block.has(addr) {
-            return true;
-        }
-    }
-    false
 }

@@ -3,7 +3,7 @@
 ghost use Rattle.std.specs.Prelude.{◌≡◌, ◌<◌, ◌≤◌, ℕ, Bool, true, false, IsTrue, length, map, sum, nat_lt, IfOk, IsErrOf};
 ghost use Rattle.std.specs.List.{list_all};
 ghost use Rattle.dn_net.specs.Decode.{is_closed};
-ghost use Rattle.dn_net.specs.Rules.{is_in_range};
+ghost use Rattle.dn_net.specs.Rules.{node_fault};
 ghost use Rattle.dn_tool.specs.Build.{number_of, is_known, all_known, refers_to_known, block_of, entry_of, node_of, command_of, has_duplicate, is_too_large, parts_of, names_within};
 ghost use Rattle.dn_tool.specs.Compiled.{compiled_tree, legal, refused};
 ghost use Rattle.dn_tool.specs.declared.refusal.Rule.TheVariants.{Form as form};
@@ -57,7 +57,7 @@ pub fn build(alloc: Global, tree: &Tree) -> Result<Platform, BuildFault>
     ensures form { IsErrOf result BuildFault.Form → compiled_tree tree.now ≡ refused form }
     // Each node to which the platform refers is there, and each address to which it sends is at or below the top.
     ensures closed { IfOk result (λ p. IsTrue (is_closed p.net)) }
-    ensures in_range { IfOk result (λ p. IsTrue (list_all is_in_range p.net)) }
+    ensures checked { IfOk result (λ p. node_fault p.net ≡ None) }
     ensures known { IfOk result (λ p. IsTrue (list_all (names_within (length p.net)) p.commands)) }
 {
     if is_too_large(tree.nodes.as_slice()) {

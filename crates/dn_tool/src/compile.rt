@@ -3,7 +3,7 @@
 ghost use Rattle.std.specs.Prelude.{◌≡◌, IfOk, IfErr, IsTrue, length};
 ghost use Rattle.std.specs.List.{list_all};
 ghost use Rattle.dn_net.specs.Decode.{is_closed};
-ghost use Rattle.dn_net.specs.Rules.{is_in_range};
+ghost use Rattle.dn_net.specs.Rules.{node_fault};
 ghost use Rattle.dn_tool.specs.Build.{names_within};
 ghost use Rattle.dn_tool.specs.Compiled.{Compiled, compiled, legal, refused, IsRefusedBy};
 
@@ -38,7 +38,7 @@ pub fn compile(alloc: Global, text: &[u8]) -> Result<Platform, CompileFault>
     ensures refused { IfErr result (λ e. IsRefusedBy (compiled text.now) e) }
     // Each node to which the platform refers is there, and each address to which it sends is at or below the top.
     ensures closed { IfOk result (λ p. IsTrue (is_closed p.net)) }
-    ensures in_range { IfOk result (λ p. IsTrue (list_all is_in_range p.net)) }
+    ensures checked { IfOk result (λ p. node_fault p.net ≡ None) }
     ensures known { IfOk result (λ p. IsTrue (list_all (names_within (length p.net)) p.commands)) }
 {
     let tree = match parser::read(alloc, text) {

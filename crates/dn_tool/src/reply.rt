@@ -5,7 +5,7 @@ ghost use Rattle.std.specs.List.{list_all};
 ghost use Rattle.std.specs.Option.{IfSome};
 ghost use Rattle.std.specs.String.{string_bytes};
 ghost use Rattle.dn_net.specs.Decode.{is_closed, over_within};
-ghost use Rattle.dn_net.specs.Rules.{is_in_range};
+ghost use Rattle.dn_net.specs.Rules.{node_fault};
 ghost use Rattle.dn_tool.specs.Build.{names_within};
 ghost use Rattle.dn_tool.specs.Reply.{reply, target_text, name_text, resolve_text};
 
@@ -19,7 +19,7 @@ use std::alloc::{AllocError, Global};
 /// The reply to a command, a line.
 pub fn reply(alloc: Global, net: &Net, command: &Command) -> Result<String, AllocError>
     requires closed { IsTrue (is_closed net.now) }
-    requires in_range { IsTrue (list_all is_in_range net.now) }
+    requires checked { node_fault net.now ≡ None }
     requires known { IsTrue (names_within (length net.now) command.now) }
     ensures { IfOk result (λ s. string_bytes s ≡ reply net.now command.now) }
 {
@@ -31,7 +31,7 @@ pub fn reply(alloc: Global, net: &Net, command: &Command) -> Result<String, Allo
 /// The reply to `resolve`.
 fn resolve_reply(alloc: Global, net: &Net, target: &Target, addr: u64) -> Result<String, AllocError>
     requires closed { IsTrue (is_closed net.now) }
-    requires in_range { IsTrue (list_all is_in_range net.now) }
+    requires checked { node_fault net.now ≡ None }
     requires known { IsTrue (over_within (length net.now) target.now.node) }
     ensures { IfOk result (λ s. string_bytes s ≡ resolve_text net.now target.now addr) }
 {
@@ -44,7 +44,7 @@ fn resolve_reply(alloc: Global, net: &Net, target: &Target, addr: u64) -> Result
 /// What the address of a node comes to, where there is such a node.
 fn target_text(alloc: Global, net: &Net, node: Option<u16>, addr: u64) -> Result<String, AllocError>
     requires closed { IsTrue (is_closed net.now) }
-    requires in_range { IsTrue (list_all is_in_range net.now) }
+    requires checked { node_fault net.now ≡ None }
     requires known { IsTrue (over_within (length net.now) node) }
     ensures { IfOk result (λ s. string_bytes s ≡ target_text net.now node addr) }
 {

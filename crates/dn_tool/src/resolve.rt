@@ -3,7 +3,7 @@
 ghost use Rattle.std.specs.Prelude.{◌≡◌, ◌+◌, ◌<◌, ◌^◌, length, IsTrue};
 ghost use Rattle.std.specs.List.{list_all};
 ghost use Rattle.dn_net.specs.Decode.{is_closed, moved};
-ghost use Rattle.dn_net.specs.Rules.{is_in_range};
+ghost use Rattle.dn_net.specs.Rules.{node_fault};
 ghost use Rattle.dn_tool.specs.Reply.{IsFound, IsFoundWithin};
 
 use dn_net::net::Net;
@@ -30,7 +30,7 @@ pub enum Found {
 pub fn follow(net: &Net, name: Name) -> Found
     requires there { name.node < length net.now }
     requires closed { IsTrue (is_closed net.now) }
-    requires in_range { IsTrue (list_all is_in_range net.now) }
+    requires checked { node_fault net.now ≡ None }
     ensures found { IsFound net.now name result }
     ensures there { IsFoundWithin (length net.now) result }
 {

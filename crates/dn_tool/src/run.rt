@@ -5,7 +5,7 @@ ghost use Rattle.std.specs.List.{list_all};
 ghost use Rattle.std.specs.Option.{IfSome};
 ghost use Rattle.dn_base.specs.Outside.{Rose, Added, AddedFront, AtEnd, Taken, TakenAtMost};
 ghost use Rattle.dn_net.specs.Decode.{is_closed};
-ghost use Rattle.dn_net.specs.Rules.{is_in_range};
+ghost use Rattle.dn_net.specs.Rules.{node_fault};
 ghost use Rattle.dn_tool.specs.Answer.{answer, of_text, is_run};
 ghost use Rattle.dn_tool.specs.Build.{names_within};
 ghost use Rattle.dn_tool.specs.Reply.{replies};
@@ -127,7 +127,7 @@ fn refuse<K: Sink>(alloc: Global, refusal: &Refusal, sink: &mut K) -> u8
 /// Answers each command in order; each reply is written before the next command begins.
 fn answer_all<K: Sink>(alloc: Global, platform: &Platform, sink: &mut K) -> u8
     requires closed { IsTrue (is_closed platform.now.net) }
-    requires in_range { IsTrue (list_all is_in_range platform.now.net) }
+    requires checked { node_fault platform.now.net ≡ None }
     requires known { IsTrue (list_all (names_within (length platform.now.net)) platform.now.commands) }
     ensures exact { (result ≢ WRITE_FAULT) → (result ≢ NO_MEMORY) → (result ≡ DONE) × Added (K.written sink.old) (K.written sink.new) (replies platform.now.net platform.now.commands) }
     ensures front { AddedFront (K.written sink.old) (K.written sink.new) (replies platform.now.net platform.now.commands) }

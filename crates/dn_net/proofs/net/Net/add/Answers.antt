@@ -8,18 +8,18 @@ use Rattle.dn_net.proofs.net.Net.add.Goals as goal
 
 pub invariant_of-self-2 : goal.invariant_of-self-2
 invariant_of-self-2 c =
-    let new = insert_entry-new (declared_by (λ s. string_bytes s)) (λ d. bytes_eq c.args.decl.text d.text) string_eq c.into_string.result record { role = c.args.decl.role; accepts = c.args.decl.accepts; entries = c.args.decl.entries; over = c.based_at_zero.result; unit = c.args.decl.unit } (λ e. ap (λ t. bytes_eq t (string_bytes e.0)) c.into_string.ensures) c.self.inside.nodes.entries (rw (← c.self.view_is) at c.requires.new_name) in
-    let shown = declared_new (λ s. string_bytes s) c.into_string.result c.args.decl c.based_at_zero.result c.into_string.ensures c.based_at_zero.ensures.node in
+    let new = insert_entry-new (declared_by (λ s. string_bytes s)) (λ d. bytes_eq c.args.decl.text d.text) string_eq c.into_string.result c.in_ok-parts.parts (λ e. ap (λ t. bytes_eq t (string_bytes e.0)) c.into_string.ensures) c.self.inside.nodes.entries (rw (← c.self.view_is) at c.requires.new_name) in
+    let shown = declared_new (λ s. string_bytes s) c.into_string.result c.args.decl c.in_ok-parts.parts c.into_string.ensures c.in_ok-parts.ensures.role c.in_ok-parts.ensures.accepts c.in_ok-parts.ensures.entries c.in_ok-parts.ensures.over c.in_ok-parts.ensures.unit in
     let room : length (map (declared_by (λ s. string_bytes s)) c.self.inside.nodes.entries) < 1024 = rw (← c.self.view_is) at c.requires.room in
     let same = length-map (declared_by (λ s. string_bytes s)) c.self.inside.nodes.entries in
     rw (c.in_ok-insert.ensures.entries, new) record {
       small = rw (length-last c.self.inside.nodes.entries) (omega (arith, room, same));
       formed = rw (map-last (declared_by (λ s. string_bytes s)) c.self.inside.nodes.entries, shown) (list_all-last is_formed (map (declared_by (λ s. string_bytes s)) c.self.inside.nodes.entries) c.args.decl c.self.invariant.formed c.requires.formed);
-      based = list_all-last (λ e. over_is_based e.1.over) c.self.inside.nodes.entries _ c.self.invariant.based c.based_at_zero.ensures.based;
+      based = list_all-last (λ e. over_is_based e.1.over) c.self.inside.nodes.entries _ c.self.invariant.based c.in_ok-parts.ensures.based;
     }
 
 pub returns-clause-ok : goal.returns-clause-ok
 returns-clause-ok c =
-    let new = insert_entry-new (declared_by (λ s. string_bytes s)) (λ d. bytes_eq c.args.decl.text d.text) string_eq c.into_string.result record { role = c.args.decl.role; accepts = c.args.decl.accepts; entries = c.args.decl.entries; over = c.based_at_zero.result; unit = c.args.decl.unit } (λ e. ap (λ t. bytes_eq t (string_bytes e.0)) c.into_string.ensures) c.self.inside.nodes.entries (rw (← c.self.view_is) at c.requires.new_name) in
-    let shown = declared_new (λ s. string_bytes s) c.into_string.result c.args.decl c.based_at_zero.result c.into_string.ensures c.based_at_zero.ensures.node in
+    let new = insert_entry-new (declared_by (λ s. string_bytes s)) (λ d. bytes_eq c.args.decl.text d.text) string_eq c.into_string.result c.in_ok-parts.parts (λ e. ap (λ t. bytes_eq t (string_bytes e.0)) c.into_string.ensures) c.self.inside.nodes.entries (rw (← c.self.view_is) at c.requires.new_name) in
+    let shown = declared_new (λ s. string_bytes s) c.into_string.result c.args.decl c.in_ok-parts.parts c.into_string.ensures c.in_ok-parts.ensures.role c.in_ok-parts.ensures.accepts c.in_ok-parts.ensures.entries c.in_ok-parts.ensures.over c.in_ok-parts.ensures.unit in
     (c.nodes-number.ensures, ap (map (declared_by (λ s. string_bytes s))) (c.in_ok-insert.ensures.entries ∙ new) ∙ map-last (declared_by (λ s. string_bytes s)) c.self.inside.nodes.entries _ ∙ rw (shown, c.self.view_is) refl)

@@ -1,0 +1,103 @@
+//! The accept blocks of a node, where an address is sought by binary search.
+
+ghost use Rattle.std.specs.Prelude.{◌≡◌, ℕ, IfOk, slice_get, nat_le, nat_lt, if◌then◌else◌};
+ghost use Rattle.std.specs.List.Sorted.{IsNonDecreasingBy};
+ghost use Rattle.dn_net.specs.Decode.{in_some_block};
+
+use crate::node::Block;
+use dn_base::items::Items;
+use std::alloc::{AllocError, Global};
+use std::marker::Model;
+
+/// The accept blocks of a node, which contracts see as their list in the order of the text.
+#[derive(Drop)]
+pub(crate) struct AcceptList {
+    blocks: Items<Block>,
+    /// The blocks by their first addresses, each stretched to the last address of those before it.
+    rows: Vec<Block>,
+}
+
+impl Model for AcceptList {
+    ghost use Rattle.std.specs.Prelude.{List, ◌≡◌, ℕ};
+    ghost use Rattle.std.specs.List.Sorted.{IsNonDecreasingBy};
+    ghost use Rattle.dn_net.specs.Decode.{in_some_block};
+    ghost use Rattle.dn_net.specs.declared.node.Block.{Block};
+
+    ghost Value = { List Block };
+
+    ghost view = { λ s. s.blocks };
+
+    ghost invariant = { λ s. record { firsts : IsNonDecreasingBy (λ b. b.lo) s.rows.items; lasts : IsNonDecreasingBy (λ b. b.hi) s.rows.items; same : (a : ℕ) → in_some_block a s.rows.items ≡ in_some_block a s.blocks } };
+}
+
+impl AcceptList {
+    /// The list of these blocks.
+    pub(crate) fn new(alloc: Global, blocks: Items<Block>) -> Result<AcceptList, AllocError>
+        ensures { IfOk result (λ l. l ≡ blocks) }
+    {
+        let rows = rows_of(alloc, blocks.as_slice())?;
+        Ok(AcceptList { blocks, rows })
+    }
+
+    /// The blocks, in the order of the text.
+    pub(crate) fn as_slice(&self) -> &[Block]
+        ensures { result.now ≡ self.now }
+    {
+        self.blocks.as_slice()
+    }
+
+    /// Whether one of the blocks has the address.
+    pub(crate) fn has(&self, addr: u64) -> bool
+        ensures { result ≡ in_some_block addr self.now }
+    {
+        is_in_rows(&self.rows, addr)
+    }
+}
+
+/// Blocks that have the same addresses, whose first and last addresses ascend.
+fn rows_of(alloc: Global, blocks: &[Block]) -> Result<Vec<Block>, AllocError>
+    ensures firsts { IfOk result (λ v. IsNonDecreasingBy (λ b. b.lo) v.items) }
+    ensures lasts { IfOk result (λ v. IsNonDecreasingBy (λ b. b.hi) v.items) }
+    ensures same { IfOk result (λ v. (a : ℕ) → in_some_block a v.items ≡ in_some_block a blocks.now) }
+{
+    let mut sorted = Vec::from_slice(alloc, blocks)?;
+    sorted.sort_unstable_by_key(|block| block.lo);
+    stretched(alloc, &sorted)
+}
+
+/// Each block from its first address to the greatest last address so far.
+fn stretched(alloc: Global, blocks: &[Block]) -> Result<Vec<Block>, AllocError>
+    requires sorted { IsNonDecreasingBy (λ b. b.lo) blocks.now }
+    ensures firsts { IfOk result (λ v. IsNonDecreasingBy (λ b. b.lo) v.items) }
+    ensures lasts { IfOk result (λ v. IsNonDecreasingBy (λ b. b.hi) v.items) }
+    ensures same { IfOk result (λ v. (a : ℕ) → in_some_block a v.items ≡ in_some_block a blocks.now) }
+{
+    let mut rows = Vec::with_capacity(alloc, blocks.len())?;
+    let mut reach = 0;
+    for block in blocks {
+        reach = greater(reach, block.hi);
+        rows.push(Block {
+            lo: block.lo,
+            hi: reach,
+        })?;
+    }
+    Ok(rows)
+}
+
+fn greater(one: u64, other: u64) -> u64
+    ensures { result ≡ (if nat_lt one other then other else one) }
+{
+    if one < other { other } else { one }
+}
+
+/// Whether a row has the address: only the first that ends at or past it can.
+fn is_in_rows(rows: &[Block], addr: u64) -> bool
+    requires firsts { IsNonDecreasingBy (λ b. b.lo) rows.now }
+    requires lasts { IsNonDecreasingBy (λ b. b.hi) rows.now }
+    ensures { result ≡ in_some_block addr rows.now }
+{
+    match rows.get(rows.partition_point(|row| row.hi < addr)) {
+        Some(row) => row.lo <= addr,
+        None => false,
+    }
+}

@@ -1,0 +1,128 @@
+//! The map entries of a node, where an address is sought by binary search.
+
+ghost use Rattle.std.specs.Prelude.{◌≡◌, ◌≤◌, ◌<◌, ◌-◌, ℕ, Bool, Option, Some, map, IfOk, IfNone, IfSome, IsTrue, All, Contains};
+ghost use Rattle.std.specs.List.{list_all, count_by};
+ghost use Rattle.std.specs.List.Sorted.{IsNonDecreasingBy, IsPermutation};
+ghost use Rattle.dn_net.specs.Decode.{within, mapped, moved, by_over, sent, sent_over};
+ghost use Rattle.dn_net.specs.Rules.{entry_in_range};
+ghost use Rattle.dn_net.specs.Order.{places_from};
+ghost use Rattle.dn_net.specs.declared.node.Entry.{Entry};
+
+use crate::node::Entry;
+use dn_base::items::Items;
+use std::alloc::{AllocError, Global};
+use std::marker::Model;
+
+/// The first address of a map block, and the place of its entry.
+#[derive(Clone, Copy)]
+pub(crate) struct Place {
+    first: u64,
+    entry: usize,
+}
+
+/// The map entries of a node, which contracts see as their list in the order of the text.
+#[derive(Drop)]
+pub(crate) struct EntryList {
+    entries: Items<Entry>,
+    /// The places of the entries, by the first addresses of their blocks.
+    order: Vec<Place>,
+}
+
+impl Model for EntryList {
+    ghost use Rattle.std.specs.Prelude.{List};
+    ghost use Rattle.std.specs.List.Sorted.{IsNonDecreasingBy, IsPermutation};
+    ghost use Rattle.dn_net.specs.declared.node.Entry.{Entry};
+    ghost use Rattle.dn_net.specs.Order.{places_from};
+
+    ghost Value = { List Entry };
+
+    ghost view = { λ s. s.entries };
+
+    ghost invariant = { λ s. record { every : IsPermutation (places_from 0 s.entries) s.order.items; sorted : IsNonDecreasingBy (λ p. p.first) s.order.items } };
+}
+
+impl EntryList {
+    /// The list of these entries.
+    pub(crate) fn new(alloc: Global, entries: Items<Entry>) -> Result<EntryList, AllocError>
+        ensures { IfOk result (λ l. l ≡ entries) }
+    {
+        let mut order = places(alloc, entries.as_slice())?;
+        order.sort_unstable_by_key(|place| place.first);
+        Ok(EntryList { entries, order })
+    }
+
+    /// The entries, in the order of the text.
+    pub(crate) fn as_slice(&self) -> &[Entry]
+        ensures { result.now ≡ self.now }
+    {
+        self.entries.as_slice()
+    }
+
+    /// The map entry that has the address.
+    pub(crate) fn at(&self, addr: u64) -> Option<&Entry>
+        requires in_range { IsTrue (list_all entry_in_range self.now) }
+        requires apart { (a : ℕ) → count_by (λ e. within a e.block) self.now ≤ 1 }
+        ensures none { IfNone result ((over : Option ℕ) → mapped addr over self.now ≡ by_over addr over) }
+        ensures none_sent { IfNone result ((over : Option ℕ) → sent addr over self.now ≡ sent_over addr over) }
+        ensures covers { IfSome result (λ e. IsTrue (within addr e.now.block)) }
+        ensures found_sent { IfSome result (λ e. (over : Option ℕ) → sent addr over self.now ≡ Some (e.now.dests, addr - e.now.block.lo)) }
+        ensures found { IfSome result (λ e. (over : Option ℕ) → mapped addr over self.now ≡ map (moved (addr - e.now.block.lo)) e.now.dests) }
+        ensures each { IfSome result (λ e. (P : Entry → Bool) → IsTrue (list_all P self.now) → IsTrue (P e.now)) }
+    {
+        entry_at(self.entries.as_slice(), &self.order, addr)
+    }
+}
+
+fn places(alloc: Global, entries: &[Entry]) -> Result<Vec<Place>, AllocError>
+    ensures { IfOk result (λ v. v.items ≡ places_from 0 entries.now) }
+{
+    let mut order = Vec::with_capacity(alloc, entries.len())?;
+    for (place, entry) in entries.iter().enumerate() {
+        order.push(Place {
+            first: entry.block.lo,
+            entry: place,
+        })?;
+    }
+    Ok(order)
+}
+
+/// The entry that has the address: only the one whose block begins last, of those that begin at or
+/// before the address, can.
+fn entry_at<'a>(entries: &'a [Entry], order: &[Place], addr: u64) -> Option<&'a Entry>
+    requires every { IsPermutation (places_from 0 entries.now) order.now }
+    requires sorted { IsNonDecreasingBy (λ p. p.first) order.now }
+    requires in_range { IsTrue (list_all entry_in_range entries.now) }
+    requires apart { (a : ℕ) → count_by (λ e. within a e.block) entries.now ≤ 1 }
+    ensures none { IfNone result ((over : Option ℕ) → mapped addr over entries.now ≡ by_over addr over) }
+    ensures none_sent { IfNone result ((over : Option ℕ) → sent addr over entries.now ≡ sent_over addr over) }
+    ensures covers { IfSome result (λ e. IsTrue (within addr e.now.block)) }
+    ensures found_sent { IfSome result (λ e. (over : Option ℕ) → sent addr over entries.now ≡ Some (e.now.dests, addr - e.now.block.lo)) }
+    ensures found { IfSome result (λ e. (over : Option ℕ) → mapped addr over entries.now ≡ map (moved (addr - e.now.block.lo)) e.now.dests) }
+    ensures each { IfSome result (λ e. (P : Entry → Bool) → IsTrue (list_all P entries.now) → IsTrue (P e.now)) }
+{
+    let Some(place) = latest(order, addr) else {
+        return None;
+    };
+    let Some(entry) = entries.get(place.entry) else {
+        return None;
+    };
+    if !entry.block.has(addr) {
+        return None;
+    }
+    Some(entry)
+}
+
+/// The last place whose block begins at or before the address.
+fn latest(order: &[Place], addr: u64) -> Option<&Place>
+    requires { IsNonDecreasingBy (λ p. p.first) order.now }
+    ensures none { IfNone result (All (λ p. addr < p.first) order.now) }
+    ensures there { IfSome result (λ p. Contains order.now p.now) }
+    ensures begun { IfSome result (λ p. p.now.first ≤ addr) }
+    ensures last { IfSome result (λ p. All (λ q. q.first ≤ addr → q.first ≤ p.now.first) order.now) }
+{
+    let after = order.partition_point(|place| place.first <= addr);
+    if after == 0 {
+        return None;
+    }
+    Some(&order[after - 1])
+}
