@@ -2,7 +2,9 @@
 
 ghost use Rattle.std.specs.Prelude.{◌≢◌, IfOk, IsTrue};
 ghost use Rattle.std.specs.List.{list_all};
+ghost use Rattle.std.specs.List.{list_all};
 ghost use Rattle.dn_net.specs.Decode.{is_formed};
+ghost use Rattle.dn_net.specs.Rules.{is_in_range};
 ghost use Rattle.dn_net.specs.Rules.{is_in_range};
 
 use crate::names::Names;
@@ -22,6 +24,7 @@ enum Part {
     Accept(u64, u64),
     Map(u64, u64),
     Sent(u64, u64, u64),
+    Over(u16),
 }
 
 fn entry(alloc: Global, block: Block, addrs: &[u64]) -> Result<Entry, AllocError> {
@@ -41,9 +44,11 @@ fn node(alloc: Global, title: &str, role: Role, parts: &[Part]) -> Result<NodeDe
 {
     let mut accepts = Items::new(alloc);
     let mut entries = Items::new(alloc);
+    let mut over = None;
     for part in parts {
         match *part {
             Part::Absent => {}
+            Part::Over(node) => over = Some(node),
             Part::Accept(lo, hi) => accepts.push(Block { lo, hi })?,
             Part::Map(lo, hi) => entries.push(entry(alloc, Block { lo, hi }, &[])?)?,
             Part::Sent(lo, hi, addr) => entries.push(entry(alloc, Block { lo, hi }, &[addr])?)?,
@@ -54,7 +59,7 @@ fn node(alloc: Global, title: &str, role: Role, parts: &[Part]) -> Result<NodeDe
         role,
         accepts,
         entries,
-        over: None,
+        over,
         unit: None,
     })
 }
@@ -97,6 +102,47 @@ fn fault_of(alloc: Global, decl: NodeDecl) -> Result<Option<NodeFault>, AllocErr
     let mut net = Net::new(alloc);
     let _ = add_new(&mut net, decl)?;
     Ok(net.check_nodes(alloc).err())
+}
+
+/// A node with one map block to these addresses of node 0.
+fn sent(alloc: Global, addrs: &[u64]) -> Result<NodeDecl, AllocError>
+    ensures { IfOk result (λ d. IsTrue (is_formed d)) }
+{
+    let mut entries = Items::new(alloc);
+    entries.push(entry(alloc, Block { lo: 0, hi: 0 }, addrs)?)?;
+    Ok(NodeDecl {
+        text: Text::of(alloc, "sent")?,
+        role: Role::Plain,
+        accepts: Items::new(alloc),
+        entries,
+        over: None,
+        unit: None,
+    })
+}
+
+/// The step of a name, and the first name to which it leads, or the first of all.
+fn step_of(net: &Net, node: u16, addr: u64) -> (&'static str, Name)
+    requires { IsTrue (list_all is_in_range net.now) }
+{
+    let none = Name { node: 0, addr: 0 };
+    if node >= net.nodes() {
+        return ("no such node", none);
+    }
+    match net.step(Name { node, addr }) {
+        Step::Accepted => ("accepted", none),
+        Step::Stop => ("stop", none),
+        Step::Nothing => ("nothing", none),
+        Step::To(dests, offset) => match dests.first() {
+            Some(dest) => (
+                "to",
+                Name {
+                    node: dest.node,
+                    addr: dest.addr.wrapping_add(offset),
+                },
+            ),
+            None => ("nowhere", none),
+        },
+    }
 }
 
 #[test]
@@ -182,14 +228,86 @@ fn each_rule_has_its_fault(rt: HostRuntime) -> Result<(), Fail> {
         (Role::Plain, [Part::Accept(0, TOP + 1), none], range),
         (Role::Plain, [Part::Sent(2, 3, TOP - 1), none], None),
         (Role::Plain, [Part::Sent(2, 3, TOP), none], range),
-        (Role::Vectors, [Part::Accept(1, 4096), Part::Accept(10, 20)], None),
-        (Role::Vectors, [Part::Accept(5, 4096), Part::Accept(0, 4095)], space),
+        (
+            Role::Vectors,
+            [Part::Accept(1, 4096), Part::Accept(10, 20)],
+            None,
+        ),
+        (
+            Role::Vectors,
+            [Part::Accept(5, 4096), Part::Accept(0, 4095)],
+            space,
+        ),
         (Role::Vectors, [Part::Map(0, 0), none], space),
+        (Role::Vectors, [Part::Over(0), none], space),
     ];
     for (role, parts, fault) in cases {
         if role != Role::Unit {
             assert_eq!(rt; fault_of(alloc, node(alloc, "node", role, &parts)?)?, fault);
         }
+    }
+    Ok(())
+}
+
+#[test]
+fn nothing_is_named_twice(rt: HostRuntime) -> Result<(), Fail> {
+    let alloc = rt.alloc();
+    let repeat = Some(NodeFault::Repeat { node: 0 });
+    assert_eq!(rt; fault_of(alloc, sent(alloc, &[1, 2, 3])?)?, None);
+    assert_eq!(rt; fault_of(alloc, sent(alloc, &[1, 2, 1])?)?, repeat);
+    assert_eq!(rt;
+        fault_of(alloc, sent(alloc, &[7, 7, 7, 7, 7, 7, 7, 7])?)?,
+        repeat
+    );
+    assert_eq!(rt; fault_of(alloc, unit(alloc, "unit", &[3, 1, 2])?)?, None);
+    assert_eq!(rt; fault_of(alloc, unit(alloc, "unit", &[3, 1, 1])?)?, repeat);
+    let text = format!(in alloc; "{}", NodeFault::Repeat { node: 0 })?;
+    assert_eq!(rt; text.as_str(), "Repeat");
+    Ok(())
+}
+
+#[test]
+fn decodes_by_one_step(rt: HostRuntime) -> Result<(), Fail> {
+    let alloc = rt.alloc();
+    let mut net = Net::new(alloc);
+    let parts = [Part::Accept(0, 9), Part::Sent(10, 19, 100), Part::Over(1)];
+    let _ = add_new(&mut net, node(alloc, "bus", Role::Agent, &parts)?)?;
+    let _ = add_new(&mut net, unit(alloc, "mmu", &[2])?)?;
+    let cases = [
+        (0, 9, "accepted 0@0"),
+        (0, 10, "to 0@100"),
+        (0, 19, "to 0@109"),
+        (0, 20, "to 1@20"),
+        (0, TOP + 1, "nothing 0@0"),
+        (1, TOP, "stop 0@0"),
+        (1, TOP + 1, "nothing 0@0"),
+    ];
+    let checked = net.check_nodes(alloc);
+    assert_eq!(rt; checked, Ok(()));
+    if checked.is_ok() {
+        for (node, addr, step) in cases {
+            let found = step_of(&net, node, addr);
+            let text = format!(in alloc; "{} {}@{}", found.0, found.1.node, found.1.addr)?;
+            assert_eq!(rt; text.as_str(), step);
+        }
+    }
+    Ok(())
+}
+
+#[test]
+fn shows_what_was_added(rt: HostRuntime) -> Result<(), Fail> {
+    let alloc = rt.alloc();
+    let mut net = Net::new(alloc);
+    let parts = [Part::Accept(1, 2), Part::Map(3, 4), Part::Over(0)];
+    let _ = add_new(&mut net, node(alloc, "node", Role::Agent, &parts)?)?;
+    assert_eq!(rt; net.nodes(), 1);
+    if net.nodes() == 1 {
+        assert_eq!(rt; net.role(0), Role::Agent);
+        assert_eq!(rt; net.text(0), "node");
+        assert_eq!(rt; net.accepts(0), [Block { lo: 1, hi: 2 }].as_slice());
+        assert_eq!(rt; net.entries(0).len(), 1);
+        assert_eq!(rt; net.over(0), Some(0));
+        assert!(rt; net.unit(0).is_none());
     }
     Ok(())
 }
