@@ -27,6 +27,6 @@ returns-clause-last c k d h begun =
     let some = c.if-after-eq0.false in
     let bound = c.partition_point-after.ensures.bound in
     elim (cases_lt k after) [
-      inl l ↦ (let z : Place = record { first = 0; entry = 0 } in let s : get_or order k d ≡ get_or order k z = get_or_from_slice_get order k (get_or order k z) d (slice_get-get_or order k z h) in let e = ap (λ (p : Place). p.first) s in let u = c.requires k (after - 1) z (omega arith) (omega (arith, some, bound)) in omega (arith, e, u))
-    | inr l ↦ (let late : c.args.addr < (get_or order k d).first = leb-false _ _ (split.1 k d l h) in absurd (omega (arith, late, begun)))
+      | inl l ↦ (let z : Place = record { first = 0; entry = 0 } in let s : get_or order k d ≡ get_or order k z = get_or_from_slice_get order k (get_or order k z) d (slice_get-get_or order k z h) in let e = ap (λ (p : Place). p.first) s in let u = c.requires k (after - 1) z (omega arith) (omega (arith, some, bound)) in omega (arith, e, u))
+      | inr l ↦ (let late : c.args.addr < (get_or order k d).first = leb-false _ _ (split.1 k d l h) in absurd (omega (arith, late, begun)))
     ]
