@@ -1,6 +1,6 @@
 //! From a tree to its net and commands.
 
-ghost use Rattle.std.specs.Prelude.{◌≡◌, ◌<◌, ◌≤◌, ℕ, Bool, true, false, IsTrue, length, map, sum, nat_lt, IfOk, IsErrOf};
+ghost use Rattle.std.specs.Prelude.{◌≡◌, None, ◌<◌, ◌≤◌, ℕ, Bool, true, false, IsTrue, length, map, sum, nat_lt, IfOk, IsErrOf};
 ghost use Rattle.std.specs.List.{list_all};
 ghost use Rattle.dn_net.specs.Decode.{is_closed};
 ghost use Rattle.dn_net.specs.Rules.{node_fault};

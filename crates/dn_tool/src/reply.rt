@@ -1,7 +1,6 @@
 //! The reply to each command, as it is printed.
 
-ghost use Rattle.std.specs.Prelude.{◌≡◌, ℕ, ◌<◌, length, IfOk, IsTrue};
-ghost use Rattle.std.specs.List.{list_all};
+ghost use Rattle.std.specs.Prelude.{◌≡◌, None, ℕ, ◌<◌, length, IfOk, IsTrue};
 ghost use Rattle.std.specs.Option.{IfSome};
 ghost use Rattle.std.specs.String.{string_bytes};
 ghost use Rattle.dn_net.specs.Decode.{is_closed, over_within};

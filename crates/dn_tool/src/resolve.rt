@@ -1,7 +1,6 @@
 //! What a name comes to, step by step.
 
-ghost use Rattle.std.specs.Prelude.{◌≡◌, ◌+◌, ◌<◌, ◌^◌, length, IsTrue};
-ghost use Rattle.std.specs.List.{list_all};
+ghost use Rattle.std.specs.Prelude.{◌≡◌, None, ◌+◌, ◌<◌, ◌^◌, length, IsTrue};
 ghost use Rattle.dn_net.specs.Decode.{is_closed, moved};
 ghost use Rattle.dn_net.specs.Rules.{node_fault};
 ghost use Rattle.dn_tool.specs.Reply.{IsFound, IsFoundWithin};

@@ -1,6 +1,6 @@
 //! The top call: from the words and the bytes of a source to those of a sink, and a status.
 
-ghost use Rattle.std.specs.Prelude.{◌≡◌, ◌≢◌, ℕ, List, ◌<◌, ◌≤◌, ◌⊎◌, ◌++◌, true, false, codes, length, IsTrue, take};
+ghost use Rattle.std.specs.Prelude.{◌≡◌, None, ◌≢◌, ℕ, List, ◌<◌, ◌≤◌, ◌⊎◌, ◌++◌, true, false, codes, length, IsTrue, take};
 ghost use Rattle.std.specs.List.{list_all};
 ghost use Rattle.std.specs.Option.{IfSome};
 ghost use Rattle.dn_base.specs.Outside.{Rose, Added, AddedFront, AtEnd, Taken, TakenAtMost};
