@@ -1,12 +1,11 @@
 -- What the nodes of a net that breaks no rule keep.
-use Rattle.std.proofs.Common.{◌≡◌, ℕ, zero, suc, ◌+◌, ◌<◌, ◌≤◌, ◌⊎◌, inl, inr, Bool, true, false, if◌then◌else◌, ◌&&◌, ◌||◌, nat_lt, List, [], ◌∷◌, Option, Some, None, option_map, IsSome, refl, sym, ◌∙◌, subst, arith, IsTrue, slice_get}
-use Rattle.std.proofs.lemmas.Bool.{cases_lt, lt-ltb, ltb-false}
+use Rattle.std.proofs.Common.{◌≡◌, ℕ, zero, suc, ◌+◌, ◌<◌, ◌≤◌, ◌⊎◌, inl, inr, Bool, true, false, if◌then◌else◌, List, [], ◌∷◌, Option, Some, None, option_map, IsSome, refl, subst, IsTrue, slice_get}
+use Rattle.std.proofs.lemmas.Bool.{cases_lt, lt-ltb}
 use Rattle.dn_net.specs.declared.node.Entry.{Entry}
 use Rattle.dn_net.specs.declared.node.NodeDecl.{NodeDecl}
 use Rattle.dn_net.specs.declared.rules.NodeFault.{NodeFault}
-use Rattle.dn_net.specs.declared.rules.NodeFault.TheVariants.{Range, Overlap, Repeat, VectorSpace}
-use Rattle.dn_net.specs.Decode.{in_some_block}
-use Rattle.dn_net.specs.Rules.{is_in_range, map_blocks_at, overlaps, least_overlap, later_fault, fault_of_node, first_fault, node_fault_from, node_fault}
+use Rattle.dn_net.specs.declared.rules.NodeFault.TheVariants.{Range}
+use Rattle.dn_net.specs.Rules.{is_in_range, map_blocks_at, least_overlap, later_fault, fault_of_node, first_fault, node_fault_from, node_fault}
 use Rattle.dn_net.proofs.Least.{maps_at, least_overlap_is_least, true_left}
 
 -- a node keeps the rules of ranges and of overlaps

@@ -1,5 +1,5 @@
 -- Where a full name stands in the entries that a net keeps, and what is true of each item of a list.
-use Rattle.std.proofs.Common.{◌≡◌, ◌∙◌, ap, sym, refl, ℕ, zero, suc, ◌+◌, ◌<◌, nat_lt, cond, None, is_some, List, [], ◌∷◌, ◌++◌, map, true, false, Bool, not, ◌&&◌, ◌||◌, length, arith, position, slice_get, Option, Some, IsTrue, option_map}
+use Rattle.std.proofs.Common.{◌≡◌, ◌∙◌, ap, sym, refl, ℕ, zero, suc, ◌+◌, ◌<◌, nat_lt, cond, None, is_some, List, [], ◌∷◌, ◌++◌, map, true, false, Bool, not, ◌&&◌, ◌||◌, length, arith, position, slice_get, Some, IsTrue, option_map}
 use Rattle.std.proofs.lemmas.Bool.{ltb-false}
 use Rattle.std.specs.List.{list_any, list_all, prefix_len}
 use Rattle.std.specs.Map.{keys_of}

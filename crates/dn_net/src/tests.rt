@@ -1,11 +1,8 @@
 //! Nets and sets of names made by hand.
 
-ghost use Rattle.std.specs.Prelude.{◌≢◌, IfOk, IsTrue};
-ghost use Rattle.std.specs.List.{list_all};
-ghost use Rattle.std.specs.List.{list_all};
+ghost use Rattle.std.specs.Prelude.{◌≡◌, ◌≢◌, IfOk, IsTrue, None};
 ghost use Rattle.dn_net.specs.Decode.{is_formed};
-ghost use Rattle.dn_net.specs.Rules.{is_in_range};
-ghost use Rattle.dn_net.specs.Rules.{is_in_range};
+ghost use Rattle.dn_net.specs.Rules.{node_fault};
 
 use crate::names::Names;
 use crate::net::Net;
@@ -122,7 +119,7 @@ fn sent(alloc: Global, addrs: &[u64]) -> Result<NodeDecl, AllocError>
 
 /// The step of a name, and the first name to which it leads, or the first of all.
 fn step_of(net: &Net, node: u16, addr: u64) -> (&'static str, Name)
-    requires { IsTrue (list_all is_in_range net.now) }
+    requires { node_fault net.now ≡ None }
 {
     let none = Name { node: 0, addr: 0 };
     if node >= net.nodes() {

@@ -1,4 +1,4 @@
-use Rattle.std.proofs.Common.{◌≡◌, ◌∙◌, sym, ap, is_some}
+use Rattle.std.proofs.Common.{◌∙◌, sym, ap, is_some}
 use Rattle.std.specs.Str.{bytes_eq}
 use Rattle.dn_net.proofs.Places.{not_there}
 use Rattle.dn_net.proofs.tests.add_new.Goals as goal
