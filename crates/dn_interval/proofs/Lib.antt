@@ -1,0 +1,14 @@
+pub mod Ends
+pub mod Following
+pub mod Joining
+pub mod Least
+pub mod Membership
+pub mod Names
+pub mod Normal
+pub mod Order
+pub mod Passes
+pub mod Pieces
+pub mod Places
+pub mod RowPlaces
+pub mod Standing
+pub mod Sweep

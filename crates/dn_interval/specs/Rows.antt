@@ -1,0 +1,69 @@
+-- The names that segments give, and normal rows of a function from addresses to sets of names.
+use Rattle.std.specs.Prelude.{◌≡◌, ℕ, suc, ◌+◌, ◌-◌, ◌≤◌, ◌⊎◌, ◌↔◌, Bool, cond, ◌&&◌, ◌||◌, nat_lt, nat_eq, List, [], ◌∷◌, map, IsTrue}
+use Rattle.dn_interval.specs.declared.row.Seg.{Seg}
+use Rattle.dn_interval.specs.declared.row.End.{End}
+use Rattle.dn_interval.specs.declared.row.Row.{Row}
+use Rattle.dn_interval.specs.declared.span.TheConstants.{TOP}
+use Rattle.dn_interval.specs.Spans.{in_span}
+
+-- the value stands in the list
+abbrev pub Member : {X : Type 0} → X → List X → Type 0
+Member y [] = ⊥
+Member y (x ∷ xs) = (x ≡ y) ⊎ Member y xs
+
+-- the name that a segment gives to an address of its span
+abbrev pub name_at : Seg → ℕ → End
+name_at s a = record { node = s.node; base = s.base + (a - s.span.lo) }
+
+-- the names that segments give to an address
+abbrev pub names_at : List Seg → ℕ → List End
+names_at [] a = []
+names_at (s ∷ rest) a = cond (in_span s.span a) (name_at s a ∷ names_at rest a) (names_at rest a)
+
+abbrev pub SegmentsGive : List Seg → ℕ → End → Type 0
+SegmentsGive segs a y = Member y (names_at segs a)
+
+-- the name so many addresses further
+abbrev pub moved : ℕ → End → End
+moved d e = record { node = e.node; base = e.base + d }
+
+-- the order of names: by node, and then by address
+abbrev pub end_lt : End → End → Bool
+end_lt x y = nat_lt x.node y.node || (nat_eq x.node y.node && nat_lt x.base y.base)
+
+abbrev pub AllAbove : End → List End → Type 0
+AllAbove x [] = Unit {0}
+AllAbove x (y ∷ ys) = IsTrue (end_lt x y) × AllAbove x ys
+
+abbrev pub Ascending : List End → Type 0
+Ascending [] = Unit {0}
+Ascending (x ∷ xs) = AllAbove x xs × Ascending xs
+
+abbrev pub HasEnds : List End → Type 0
+HasEnds [] = ⊥
+HasEnds (x ∷ xs) = Unit {0}
+
+-- the next row, where it touches, does not go on with the names of this one
+abbrev pub Parted : Row → List Row → Type 0
+Parted r [] = Unit {0}
+Parted r (s ∷ rest) = s.span.lo ≡ suc r.span.hi → s.ends ≡ map (moved (suc r.span.hi - r.span.lo)) r.ends → ⊥
+
+-- the rows stand at an address or above it, one above the other, each with names that ascend, and two
+-- that touch do not go on with one another
+abbrev pub Apart : ℕ → List Row → Type 0
+Apart from [] = Unit {0}
+Apart from (r ∷ rest) = (from ≤ r.span.lo) × HasEnds r.ends × Ascending r.ends × Parted r rest × Apart (suc r.span.hi) rest
+
+-- the rows give the name to the address
+abbrev pub GivenBy : List Row → ℕ → End → Type 0
+GivenBy [] a y = ⊥
+GivenBy (r ∷ rest) a y = (IsTrue (in_span r.span a) × Member y (map (moved (a - r.span.lo)) r.ends)) ⊎ GivenBy rest a y
+
+-- the rows give to every address the names that a function gives, and are the fewest that do
+pub record AreNormal (f : ℕ → End → Type 0) (rows : List Row) : Type 0 where
+  pub apart : Apart 0 rows
+  pub exact : (a : ℕ) (y : End) → a ≤ TOP → f a y ↔ GivenBy rows a y
+
+-- two lists of rows that are normal for one function are one list
+abbrev pub OneListOfRows : Type 0
+OneListOfRows = (rows others : List Row) → Apart 0 rows → Apart 0 others → ((a : ℕ) (y : End) → a ≤ TOP → GivenBy rows a y ↔ GivenBy others a y) → rows ≡ others

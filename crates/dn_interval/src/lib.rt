@@ -1,0 +1,21 @@
+//! Spans of addresses, sets of them, and normal rows.
+//!
+//! An address is a number up to [`TOP`]. A [`Span`] is a run of addresses, and a [`SpanSet`] a set of
+//! addresses, which contracts see as the ascending list of its maximal spans. A [`Seg`] gives each
+//! address of a span a name, and [`Rows`] are the normal rows of what segments give.
+#![tactic(auto)]
+
+pub mod laws;
+pub mod row;
+pub mod rows;
+pub mod span;
+pub mod span_set;
+mod strand;
+mod strands;
+#[cfg(test)]
+mod tests;
+
+pub use row::{End, Row, Seg};
+pub use rows::Rows;
+pub use span::{Span, TOP};
+pub use span_set::SpanSet;
