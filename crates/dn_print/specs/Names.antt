@@ -1,0 +1,31 @@
+-- The text of an address, of a name and of a list of names.
+use Rattle.std.specs.Prelude.{ℕ, Bool, false, nat_lt, List, [], ◌∷◌, ◌++◌, codes, slice_get, Option, Some, None}
+use Rattle.std.specs.List.{list_all}
+use Rattle.std.specs.Fmt.{digits}
+use Rattle.dn_net.specs.declared.node.Name.{Name}
+use Rattle.dn_net.specs.declared.node.NodeDecl.{NodeDecl}
+
+-- an address in lower-case hexadecimal
+abbrev pub address_text : ℕ → List ℕ
+address_text a = codes "0x" ++ digits 16 false a
+
+abbrev pub node_text : Option NodeDecl → List ℕ
+node_text None = []
+node_text (Some n) = n.text
+
+-- a name: the node's full name, `@` and the address
+abbrev pub name_text : List NodeDecl → Name → List ℕ
+name_text net x = node_text (slice_get net x.node) ++ (codes "@" ++ address_text x.addr)
+
+abbrev pub more_names_text : List NodeDecl → List Name → List ℕ
+more_names_text net [] = []
+more_names_text net (x ∷ xs) = codes ", " ++ (name_text net x ++ more_names_text net xs)
+
+-- the names joined by `, `, or `nothing`
+abbrev pub names_text : List NodeDecl → List Name → List ℕ
+names_text net [] = codes "nothing"
+names_text net (x ∷ xs) = name_text net x ++ more_names_text net xs
+
+-- each name is in one of so many nodes
+abbrev pub names_exist : ℕ → List Name → Bool
+names_exist count xs = list_all (λ x. nat_lt x.node count) xs
