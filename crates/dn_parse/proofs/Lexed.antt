@@ -35,19 +35,19 @@ moved {text} {found} {line} {line'} {b} {s} {s'} before turn shorter lines = go 
   go zero lt e = absurd (omega (arith, lt))
   go (suc n) lt e = record { fuel = n; enough = omega (arith, lt, shorter); read = e ∙ ap (with_tokens found) (turn n); lines = omega (arith, lines, before.lines) }
 
-turn_line : (n line b : ℕ) (s : List ℕ) → is_line_feed b ≡ true → tokens_from (suc n) line (b ∷ s) ≡ tokens_from n (line + 1) s
+pub turn_line : (n line b : ℕ) (s : List ℕ) → is_line_feed b ≡ true → tokens_from (suc n) line (b ∷ s) ≡ tokens_from n (line + 1) s
 unfolding tokens_from
 turn_line n line b s is = rw is refl
 
-turn_blank : (n line b : ℕ) (s : List ℕ) → is_line_feed b ≡ false → is_blank b ≡ true → tokens_from (suc n) line (b ∷ s) ≡ tokens_from n line s
+pub turn_blank : (n line b : ℕ) (s : List ℕ) → is_line_feed b ≡ false → is_blank b ≡ true → tokens_from (suc n) line (b ∷ s) ≡ tokens_from n line s
 unfolding tokens_from
 turn_blank n line b s no_line is = rw (no_line, is) refl
 
-turn_comment : (n line b : ℕ) (s : List ℕ) → is_line_feed b ≡ false → is_blank b ≡ false → (is_slash b && begins_with is_slash s) ≡ true → tokens_from (suc n) line (b ∷ s) ≡ tokens_from n line (after_comment s)
+pub turn_comment : (n line b : ℕ) (s : List ℕ) → is_line_feed b ≡ false → is_blank b ≡ false → (is_slash b && begins_with is_slash s) ≡ true → tokens_from (suc n) line (b ∷ s) ≡ tokens_from n line (after_comment s)
 unfolding tokens_from
 turn_comment n line b s no_line no_blank is = rw (no_line, no_blank, is) refl
 
-turn_front : (n line b : ℕ) (s : List ℕ) → is_line_feed b ≡ false → is_blank b ≡ false → (is_slash b && begins_with is_slash s) ≡ false → tokens_from (suc n) line (b ∷ s) ≡ then_tokens line (front b s) (tokens_from n line)
+pub turn_front : (n line b : ℕ) (s : List ℕ) → is_line_feed b ≡ false → is_blank b ≡ false → (is_slash b && begins_with is_slash s) ≡ false → tokens_from (suc n) line (b ∷ s) ≡ then_tokens line (front b s) (tokens_from n line)
 unfolding tokens_from
 turn_front n line b s no_line no_blank no_comment = rw (no_line, no_blank, no_comment) refl
 

@@ -1,15 +1,24 @@
-//! The reader: from the bytes of a text to its tree.
+//! The reader: from the bytes of a text to its tree, or to the first fault with its line.
 //!
-//! [`token`] has what a token is, [`lexer::tokens`] gives the tokens of a text with their lines,
-//! [`tree`] has the tree of a text, and [`parser::read`] gives the tree exactly where the text
-//! spells one.
+//! [`token`] has what a token is and [`lexer::tokens`] gives the tokens of a text with their lines;
+//! [`syntax`] has the tree. [`expressions`], [`nodes`] and [`statements`] read the parts of a
+//! statement, [`blocks`] puts statements into the blocks that are open, and
+//! [`reader::read_syntax`] reads a text. [`laws`] ties all of it to the grammar.
 #![tactic(auto)]
 
+pub mod blocks;
+mod cursor;
+pub mod expressions;
 mod keyword;
+pub mod laws;
 pub mod lexer;
+pub mod nodes;
 mod number;
-pub mod parser;
+pub mod reader;
+#[cfg(test)]
+mod reader_tests;
+pub mod statements;
+pub mod syntax;
 #[cfg(test)]
 mod tests;
 pub mod token;
-pub mod tree;

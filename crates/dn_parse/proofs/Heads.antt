@@ -1,0 +1,464 @@
+-- What is read of each statement is what the machine does with its form.
+use Rattle.std.proofs.Common.{◌≡◌, ◌∙◌, ap, sym, refl, subst, ℕ, zero, suc, ◌+◌, ◌-◌, ◌<◌, ◌≤◌, Bool, true, false, cond, List, [], ◌∷◌, ◌++◌, length, Option, Some, None, Result, Ok, Err, arith}
+use denote.Enum.Bare.{same_true}
+use Rattle.dn_parse.specs.contracts.token.Sign.{the_type as the_signs}
+use Rattle.dn_parse.specs.contracts.token.Keyword.{the_type as the_keywords}
+use Rattle.dn_parse.specs.declared.token.Keyword.{Keyword}
+use Rattle.dn_parse.specs.declared.token.Keyword.TheVariants.{Agent, Vectors, Unit as UnitWord, Module, Use, For, In, End, Begin, Is, Accept, Map, To, And, At, Over, Kind, Page, Slots, Reach, As, Num, Node, Resolve, Lookup, View, Grant, Route, Revoke, Dump, Split, Absorb}
+use Rattle.dn_parse.specs.declared.token.Sign.{Sign}
+use Rattle.dn_parse.specs.declared.token.Sign.TheVariants.{Semicolon, Comma, OpenBracket, CloseBracket, OpenParenthesis, CloseParenthesis, Minus, Plus, Times, Dot, Dots}
+use Rattle.dn_parse.specs.Token.{Lexeme, Token, word, keyword, number, sign}
+use Rattle.dn_parse.specs.Tree.{Expression, Part, Role, plain_role, agent_role, vectors_role, Spec, Param, number_param, node_param, Arg, number_arg, node_arg, Declaration, node, unit, Order, resolve, lookup, view, grant, route, revoke, dump, split, absorb, Statement, declares, heads_module, uses, heads_loop, ends, begins, orders}
+use Rattle.dn_parse.specs.Actions.{Value, Action, perform, text, expression, name, names, spec, param, params, arg, args, statement, first_name, next_name, make_number_param, make_node_param, no_params, first_param, next_param, make_number_arg, make_node_arg, no_args, first_arg, next_arg, make_plain, make_agent, make_vectors, make_unit, make_module, make_use, make_loop, make_end, make_begin, make_resolve, make_lookup, make_view, make_grant, make_route, make_revoke, make_dump, make_split, make_absorb}
+use Rattle.dn_parse.specs.Forms.{Form, takes, does, either, many, a_word, any_word, the_keyword, the_sign, is, is_sign, kept}
+use Rattle.dn_parse.specs.Forms.{and_then as both}
+use Rattle.dn_parse.specs.Syntax.{the, mark, factor, more_factors, term, more_terms, expr, part_form, name_form, spec_form, more_names, param_form, more_params, params_form, arg_form, more_args, args_form, plain_form, agent_form, vectors_form, unit_form, module_form, use_form, loop_form, command_form, statement_form}
+use Rattle.dn_parse.specs.Machine.{Stop, Move, to, skips, refuses, taken, followed, or_else, move, Fed, on, stuck, fed, inside, run, go, go_in, feed, is_deep, parentheses, stopped, refused}
+use Rattle.dn_parse.specs.Descent.{and_then, optional, Read, Next, Reader, sign_at, keyword_at, word_at, any_word_at, row_at, row, with_front, after, after_sign, after_keyword, name_at, expr_at, spec_at, param_at, next_param_at, params_at, closed_params_at, arg_at, next_arg_at, args_at, closed_args_at, next_port_at, ports_at, node_at, measure_at, unit_at, module_at, use_at, loop_at, query_at, grant_at, route_at, order_at, as_declared, keyword_statement_at, statement_by, statement_at}
+use Rattle.dn_parse.proofs.Does.{Does, Goes, Row, does_by, seq, pass, last, act, keyword_counts, sign_counts, keyword_after, sign_after, word_does, any_word_does, if_keyword, if_sign, seq_on, pass_last, does_same, assoc, row_does, most_row_does}
+use Rattle.dn_parse.proofs.Readers.{bind_same, step_does, expr_read, expr_does, name_read, name_does, spec_does}
+use Rattle.dn_parse.proofs.Turns.{run_then, run_does, run_fed}
+
+-- a value made of what was read
+pub mapped : {X Y : Type 0} {f : Form} {n m : ℕ} {ts : List Token} {ws : List Value} (val : Y → Value) (g : X → Y) (r : Read X) → Does f n m ts ws (λ x. val (g x)) r → Does f n m ts ws val (and_then r (λ p. Ok (g p.0, p.1)))
+mapped val g (Ok p) h = record { it = h.it }
+mapped val g (Err z) h = record { it = h.it }
+
+-- a list that may be empty, before a closing parenthesis
+abbrev close_list : {X : Type 0} → List X × List Token → Read (List X)
+close_list l = and_then (sign_at CloseParenthesis l.1) (λ rest. Ok (l.0, rest))
+
+abbrev Listed : {X Y : Type 0} → Form → Action → Form → List Token → List Value → (Y → Value) → Reader (List X) → (List X × List Token → Read Y) → Option (List Token) → Type 0
+Listed P a M ts ws val reader fin o = Does (both (either P (does a)) (both (mark CloseParenthesis) M)) 1 0 ts ws val (and_then (optional o (λ rest. Ok ([], rest)) (and_then (reader ts) close_list)) fin)
+
+record ClosedList {X Y : Type 0} (P M : Form) (a : Action) (listV : List X → Value) (ws : List Value) (val : Y → Value) (reader : Reader (List X)) (fin : List X × List Token → Read Y) : Type 0 where
+  pub reads : (ts : List Token) → Does P 1 1 ts [] listV (reader ts)
+  pub empties : (vs : List Value) → perform a vs ≡ listV [] ∷ vs
+  pub refusing : (vs : List Value) → move P vs (sign CloseParenthesis) ≡ refuses
+  pub ending : (xs : List X) (ts : List Token) → Does M 0 0 ts (listV xs ∷ ws) val (fin (xs, ts))
+
+some_listed : {X Y : Type 0} (P M : Form) (a : Action) (listV : List X → Value) (ws : List Value) (val : Y → Value) (reader : Reader (List X)) (fin : List X × List Token → Read Y) → ClosedList P M a listV ws val reader fin → (ts : List Token) → Does (both P (both (mark CloseParenthesis) M)) 1 0 ts ws val (and_then (and_then (reader ts) close_list) fin)
+some_listed P M a listV ws val reader fin c ts =
+    let same = bind_same (reader ts) _ _ (λ l. assoc (sign_at CloseParenthesis l.1) (λ rest. Ok (l.0, rest)) fin) ∙ assoc (reader ts) close_list fin in
+    does_same _ _ same (seq (reader ts) _ (c.reads ts) (λ xs rest. pass (sign_at CloseParenthesis rest) _ (sign_after CloseParenthesis 1 0 rest refl refl) (λ r. c.ending xs r)))
+
+feeds_alike : (m : Move) (a : Action) (M : Form) (k : List Form) (vs : List Value) (l : Lexeme) → is (the_sign CloseParenthesis) l ≡ false → fed (followed (or_else m (move (does a) vs l)) (both (mark CloseParenthesis) M) (λ us. move (both (mark CloseParenthesis) M) us l)) k (λ us. feed k us l) ≡ fed (followed m (both (mark CloseParenthesis) M) (λ us. move (both (mark CloseParenthesis) M) us l)) k (λ us. feed k us l)
+feeds_alike (to j us) a M k vs l e = refl
+feeds_alike (skips us) a M k vs l e = refl
+feeds_alike refuses a M k vs l e = ap (λ b. fed (followed (taken b [] (perform a vs)) M (λ us. move M us l)) k (λ us. feed k us l)) e
+
+listed_token : {X Y : Type 0} (P M : Form) (a : Action) (listV : List X → Value) (ws : List Value) (val : Y → Value) (reader : Reader (List X)) (fin : List X × List Token → Read Y) → ClosedList P M a listV ws val reader fin → (t : Token) (ts : List Token) (b : Bool) → is_sign CloseParenthesis t.lexeme ≡ b → Listed P a M (t ∷ ts) ws val reader fin (cond b (Some ts) None)
+listed_token P M a listV ws val reader fin c t ts true e =
+    let l : t.lexeme ≡ sign CloseParenthesis = close_told t.lexeme e in
+    does_by (both (either P (does a)) (both (mark CloseParenthesis) M)) M 1 0 0 (t ∷ ts) ts ws (listV [] ∷ ws) val (fin ([], ts))
+    (λ line k vs. ap (λ u. go (feed (both (either P (does a)) (both (mark CloseParenthesis) M) ∷ k) (ws ++ vs) u) line 1 u (suc (length ts)) (λ p. run p ts)) l ∙ ap (λ m. go (fed (followed (or_else m (move (does a) (ws ++ vs) (sign CloseParenthesis))) (both (mark CloseParenthesis) M) (λ us. move (both (mark CloseParenthesis) M) us (sign CloseParenthesis))) k (λ us. feed k us (sign CloseParenthesis))) line 1 (sign CloseParenthesis) (suc (length ts)) (λ p. run p ts)) (c.refusing (ws ++ vs)) ∙ ap (λ us. run (inside line 0 (M ∷ k) us) ts) (c.empties (ws ++ vs)))
+    (omega arith)
+    (c.ending [] ts)
+  where
+    close_told : (l : Lexeme) → is_sign CloseParenthesis l ≡ true → l ≡ sign CloseParenthesis
+    close_told (word w) e = cc
+    close_told (keyword j) e = cc
+    close_told (number x) e = cc
+    close_told (sign u) e = ap sign (same_true the_signs tt u CloseParenthesis e)
+listed_token P M a listV ws val reader fin c t ts false e =
+    does_by (both (either P (does a)) (both (mark CloseParenthesis) M)) (both P (both (mark CloseParenthesis) M)) 1 1 0 (t ∷ ts) (t ∷ ts) ws ws val (and_then (and_then (reader (t ∷ ts)) close_list) fin)
+    (λ line k vs. run_fed line 1 (both (either P (does a)) (both (mark CloseParenthesis) M) ∷ k) (both P (both (mark CloseParenthesis) M) ∷ k) (ws ++ vs) (ws ++ vs) t ts (feeds_alike (move P (ws ++ vs) t.lexeme) a M k (ws ++ vs) t.lexeme e))
+    (omega arith)
+    (some_listed P M a listV ws val reader fin c (t ∷ ts))
+
+listed : {X Y : Type 0} (P M : Form) (a : Action) (listV : List X → Value) (ws : List Value) (val : Y → Value) (reader : Reader (List X)) (fin : List X × List Token → Read Y) → ClosedList P M a listV ws val reader fin → (ts : List Token) → Listed P a M ts ws val reader fin (after_sign CloseParenthesis ts)
+unfolding after_sign
+listed P M a listV ws val reader fin c [] = does_by (both (either P (does a)) (both (mark CloseParenthesis) M)) (both P (both (mark CloseParenthesis) M)) 1 1 0 [] [] ws ws val (and_then (and_then (reader []) close_list) fin) (λ line k vs. refl) (omega arith) (some_listed P M a listV ws val reader fin c [])
+listed P M a listV ws val reader fin c (t ∷ ts) = listed_token P M a listV ws val reader fin c t ts (is_sign CloseParenthesis t.lexeme) refl
+
+-- parameters and modules
+param_does : (ts : List Token) → Does param_form 1 1 ts [] param (param_at ts)
+unfolding param_form param_at
+param_does ts = if_keyword _ _ Num ts (λ r. seq (word_at r) _ (word_does 1 r) (λ w r'. last _ make_number_param (λ vs. refl))) (pass (keyword_at Node ts) _ (keyword_after Node 1 ts) (λ r. seq (word_at r) _ (word_does 1 r) (λ w r'. last _ make_node_param (λ vs. refl))))
+
+param_row : Row (the_sign Comma) (both param_form (does next_param)) 1 params param_at next_param_at
+unfolding next_param_at after_sign
+param_row = record {
+  counts = sign_counts Comma 1 1 refl refl;
+  keeps = λ l vs. refl;
+  nexts = λ ts. refl;
+  steps = step_does param_form 1 param params param_at next_param param_does (λ es x vs. refl);
+}
+
+abbrev some_params : Form
+some_params = both param_form (both (does first_param) more_params)
+
+params_does : (ts : List Token) → Does (both param_form (both (does first_param) more_params)) 1 1 ts [] params (params_at ts)
+unfolding more_params params_at
+params_does ts = seq (param_at ts) _ (param_does ts) (λ e rest. act (params (e ∷ []) ∷ []) first_param _ (λ vs. refl) (row_does (the_sign Comma) _ 1 params param_at next_param_at param_row rest (e ∷ [])))
+
+params_refuse : (vs : List Value) → move (both param_form (both (does first_param) more_params)) vs (sign CloseParenthesis) ≡ refuses
+unfolding param_form
+params_refuse vs = refl
+
+abbrev module_end : List ℕ → List Param × List Token → Read Statement
+module_end w ps = Ok (heads_module w ps.0, ps.1)
+
+module_list : (w : List ℕ) → ClosedList (both param_form (both (does first_param) more_params)) (does make_module) no_params params (text w ∷ []) statement params_at (module_end w)
+module_list w = record {
+  reads = params_does;
+  empties = λ vs. refl;
+  refusing = params_refuse;
+  ending = λ ps ts. last _ make_module (λ vs. refl);
+}
+
+abbrev after_module : Form
+after_module = both (takes a_word) (both (mark OpenParenthesis) (both params_form (both (mark CloseParenthesis) (does make_module))))
+
+module_does : (ts : List Token) → Does after_module 0 0 ts [] statement (module_at ts)
+unfolding params_form module_at closed_params_at
+module_does ts = seq (word_at ts) _ (word_does 0 ts) (λ w rest. pass (sign_at OpenParenthesis rest) _ (sign_after OpenParenthesis 0 1 rest refl refl) (λ r. listed (both param_form (both (does first_param) more_params)) (does make_module) no_params params (text w ∷ []) statement params_at (module_end w) (module_list w) r))
+
+-- arguments and instances
+abbrev number_arg_form : Form
+number_arg_form = both expr (does make_number_arg)
+
+abbrev node_arg_form : Form
+node_arg_form = both name_form (does make_node_arg)
+
+abbrev arg_by : Option (List Token) → List Token → Read Arg
+arg_by o ts = optional o (λ rest. and_then (name_at 31 rest) (λ n. Ok (node_arg n.0, n.1))) (and_then (expr_at 31 ts) (λ e. Ok (number_arg e.0, e.1)))
+
+number_arg_does : (ts : List Token) → Does number_arg_form 1 1 ts [] arg (and_then (expr_at 31 ts) (λ e. Ok (number_arg e.0, e.1)))
+number_arg_does ts = seq (expr_at 31 ts) _ (expr_read 31 1 refl ts) (λ e r. last _ make_number_arg (λ vs. refl))
+
+no_expr_at_node : (vs : List Value) → move number_arg_form vs (keyword Node) ≡ refuses
+unfolding expr term factor
+no_expr_at_node vs = refl
+
+arg_alike : (m : Move) (k : List Form) (vs : List Value) (l : Lexeme) → is (the_keyword Node) l ≡ false → fed (or_else m (move (both (the Node) node_arg_form) vs l)) k (λ us. feed k us l) ≡ fed m k (λ us. feed k us l)
+arg_alike (to j us) k vs l e = refl
+arg_alike (skips us) k vs l e = refl
+arg_alike refuses k vs l e = ap (λ b. fed (followed (taken b [] vs) node_arg_form (λ us. move node_arg_form us l)) k (λ us. feed k us l)) e
+
+node_told : (l : Lexeme) → is (the_keyword Node) l ≡ true → l ≡ keyword Node
+node_told (word w) e = cc
+node_told (keyword j) e = ap keyword (same_true the_keywords tt j Node e)
+node_told (number x) e = cc
+node_told (sign u) e = cc
+
+arg_token : (t : Token) (ts : List Token) (b : Bool) → is (the_keyword Node) t.lexeme ≡ b → Does (either number_arg_form (both (the Node) node_arg_form)) 1 1 (t ∷ ts) [] arg (arg_by (cond b (Some ts) None) (t ∷ ts))
+arg_token t ts true e =
+    does_by (either number_arg_form (both (the Node) node_arg_form)) node_arg_form 1 1 1 (t ∷ ts) ts [] [] arg (and_then (name_at 31 ts) (λ n. Ok (node_arg n.0, n.1)))
+    (λ line k vs. ap (λ u. go (feed (either number_arg_form (both (the Node) node_arg_form) ∷ k) vs u) line 1 u (suc (length ts)) (λ p. run p ts)) (node_told t.lexeme e) ∙ ap (λ m. go (fed (or_else m (move (both (the Node) node_arg_form) vs (keyword Node))) k (λ us. feed k us (keyword Node))) line 1 (keyword Node) (suc (length ts)) (λ p. run p ts)) (no_expr_at_node vs))
+    (omega arith)
+    (seq (name_at 31 ts) _ (name_read 1 31 refl ts) (λ n r. last _ make_node_arg (λ vs. refl)))
+arg_token t ts false e =
+    does_by (either number_arg_form (both (the Node) node_arg_form)) number_arg_form 1 1 1 (t ∷ ts) (t ∷ ts) [] [] arg (and_then (expr_at 31 (t ∷ ts)) (λ x. Ok (number_arg x.0, x.1)))
+    (λ line k vs. run_fed line 1 (either number_arg_form (both (the Node) node_arg_form) ∷ k) (number_arg_form ∷ k) vs vs t ts (arg_alike (move number_arg_form vs t.lexeme) k vs t.lexeme e))
+    (omega arith)
+    (number_arg_does (t ∷ ts))
+
+arg_does : (ts : List Token) → Does arg_form 1 1 ts [] arg (arg_at ts)
+unfolding arg_form arg_at after_keyword
+arg_does [] = does_by (either number_arg_form (both (the Node) node_arg_form)) number_arg_form 1 1 1 [] [] [] [] arg (and_then (expr_at 31 []) (λ x. Ok (number_arg x.0, x.1))) (λ line k vs. refl) (omega arith) (number_arg_does [])
+arg_does (t ∷ ts) = arg_token t ts (is (the_keyword Node) t.lexeme) refl
+
+arg_row : Row (the_sign Comma) (both arg_form (does next_arg)) 1 args arg_at next_arg_at
+unfolding next_arg_at after_sign
+arg_row = record {
+  counts = sign_counts Comma 1 1 refl refl;
+  keeps = λ l vs. refl;
+  nexts = λ ts. refl;
+  steps = step_does arg_form 1 arg args arg_at next_arg arg_does (λ es x vs. refl);
+}
+
+args_does : (ts : List Token) → Does (both arg_form (both (does first_arg) more_args)) 1 1 ts [] args (args_at ts)
+unfolding more_args args_at
+args_does ts = seq (arg_at ts) _ (arg_does ts) (λ e rest. act (args (e ∷ []) ∷ []) first_arg _ (λ vs. refl) (row_does (the_sign Comma) _ 1 args arg_at next_arg_at arg_row rest (e ∷ [])))
+
+args_refuse : (vs : List Value) → move (both arg_form (both (does first_arg) more_args)) vs (sign CloseParenthesis) ≡ refuses
+unfolding arg_form expr term factor
+args_refuse vs = refl
+
+abbrev use_end : List ℕ → List Arg × List Token → Read Statement
+use_end w xs = and_then (keyword_at As xs.1) (λ rest. and_then (name_at 32 rest) (λ prefix. Ok (uses w xs.0 prefix.0, prefix.1)))
+
+use_list : (w : List ℕ) → ClosedList (both arg_form (both (does first_arg) more_args)) (both (the As) (both name_form (does make_use))) no_args args (text w ∷ []) statement args_at (use_end w)
+use_list w = record {
+  reads = args_does;
+  empties = λ vs. refl;
+  refusing = args_refuse;
+  ending = λ xs ts. pass (keyword_at As ts) _ (keyword_after As 0 ts) (λ r. seq (name_at 32 r) _ (name_does r) (λ n r'. last _ make_use (λ vs. refl)));
+}
+
+abbrev after_use : Form
+after_use = both (takes a_word) (both (mark OpenParenthesis) (both args_form (both (mark CloseParenthesis) (both (the As) (both name_form (does make_use))))))
+
+use_does : (ts : List Token) → Does after_use 0 0 ts [] statement (use_at ts)
+unfolding args_form use_at closed_args_at
+use_does ts = seq (word_at ts) _ (word_does 0 ts) (λ w rest. pass (sign_at OpenParenthesis rest) _ (sign_after OpenParenthesis 0 1 rest refl refl) (λ r. listed (both arg_form (both (does first_arg) more_args)) (both (the As) (both name_form (does make_use))) no_args args (text w ∷ []) statement args_at (use_end w) (use_list w) r))
+
+-- nodes
+abbrev node_rest : Action → Form
+node_rest a = both name_form (both (the Is) (both spec_form (does a)))
+
+node_does : (role : Role) (a : Action) → ((n : List Part) (s : Spec) (vs : List Value) → perform a (spec s ∷ name n ∷ vs) ≡ statement (declares (node role n s)) ∷ vs) → (ts : List Token) → Does (node_rest a) 0 0 ts [] statement (as_declared (node_at role ts))
+unfolding node_at
+node_does role a e ts = mapped statement declares (node_at role ts) (seq (name_at 32 ts) _ (name_does ts) (λ n r. pass (keyword_at Is r) _ (keyword_after Is 0 r) (λ r'. seq (spec_at r') _ (spec_does r') (λ s r''. last _ a (λ vs. e n s vs)))))
+
+-- units
+measure_seq : {X : Type 0} {g : Form} {ws : List Value} {val : X → Value} (k : Keyword) (ts : List Token) (next : Expression × List Token → Read X) → ((e : Expression) (rest : List Token) → Does g 0 0 rest (expression e ∷ ws) val (next (e, rest))) → Does (both (the k) (both expr g)) 0 0 ts ws val (and_then (measure_at k ts) next)
+unfolding measure_at
+measure_seq k ts next h = does_same _ _ (assoc (keyword_at k ts) (λ rest. expr_at 32 rest) next) (pass (keyword_at k ts) _ (keyword_after k 0 ts) (λ r. seq (expr_at 32 r) _ (expr_does r) h))
+
+port_row : Row (the_sign Comma) (both name_form (does next_name)) 0 names (name_at 32) next_port_at
+unfolding next_port_at after_sign
+port_row = record {
+  counts = sign_counts Comma 0 0 refl refl;
+  keeps = λ l vs. refl;
+  nexts = λ ts. refl;
+  steps = step_does name_form 0 name names (name_at 32) next_name name_does (λ es x vs. refl);
+}
+
+abbrev unit_with : List Part → List ℕ → Expression → Expression → Expression → List (List Part) × List Token → Read Declaration
+unit_with n kind page slots reach ps = Ok (unit n kind page slots reach ps.0, ps.1)
+
+ports_same : (f : List (List Part) × List Token → Read Declaration) (ts : List Token) → and_then (name_at 32 ts) (λ first. and_then (with_front (first.0 ∷ []) (row next_port_at 7 first.1)) f) ≡ and_then (ports_at ts) f
+unfolding ports_at
+ports_same f ts = assoc (name_at 32 ts) _ _
+
+abbrev declared_statement : Declaration → Value
+declared_statement d = statement (declares d)
+
+ports_does : (n : List Part) (kind : List ℕ) (page slots reach : Expression) (ts : List Token) → Does (both name_form (both (does first_name) (both (more_names 7) (does make_unit)))) 0 0 ts (expression reach ∷ expression slots ∷ expression page ∷ text kind ∷ name n ∷ []) declared_statement (and_then (ports_at ts) (unit_with n kind page slots reach))
+unfolding more_names
+ports_does n kind page slots reach ts = does_same _ _ (ports_same (unit_with n kind page slots reach) ts) (seq (name_at 32 ts) _ (name_does ts) (λ p rest. act (names (p ∷ []) ∷ expression reach ∷ expression slots ∷ expression page ∷ text kind ∷ name n ∷ []) first_name _ (λ vs. refl) (seq_on (with_front (p ∷ []) (row next_port_at 7 rest)) _ (most_row_does (the_sign Comma) _ 0 names (name_at 32) next_port_at port_row 7 rest (p ∷ [])) (λ ps r. last _ make_unit (λ vs. refl)))))
+
+abbrev after_unit : Form
+after_unit = both name_form (both (the Kind) (both (takes any_word) (both (the Page) (both expr (both (the Slots) (both expr (both (the Reach) (both expr (both (the To) (both name_form (both (does first_name) (both (more_names 7) (does make_unit)))))))))))))
+
+unit_does : (ts : List Token) → Does after_unit 0 0 ts [] statement (as_declared (unit_at ts))
+unfolding unit_at
+unit_does ts = mapped statement declares (unit_at ts) (seq (name_at 32 ts) _ (name_does ts) (λ n r. pass (keyword_at Kind r) _ (keyword_after Kind 0 r) (λ r1. seq (any_word_at r1) _ (any_word_does 0 r1) (λ kind r2. measure_seq Page r2 _ (λ page r3. measure_seq Slots r3 _ (λ slots r4. measure_seq Reach r4 _ (λ reach r5. pass (keyword_at To r5) _ (keyword_after To 0 r5) (λ r6. ports_does n kind page slots reach r6))))))))
+
+-- loops
+abbrev after_for : Form
+after_for = both (takes a_word) (both (the In) (both expr (both (mark Dots) (both expr (does make_loop)))))
+
+loop_does : (ts : List Token) → Does after_for 0 0 ts [] statement (loop_at ts)
+unfolding loop_at
+loop_does ts = seq (word_at ts) _ (word_does 0 ts) (λ w r. measure_seq In r _ (λ from r1. pass (sign_at Dots r1) _ (sign_after Dots 0 0 r1 refl refl) (λ r2. seq (expr_at 32 r2) _ (expr_does r2) (λ upto r3. last _ make_loop (λ vs. refl)))))
+
+-- commands
+abbrev ordered : Order → Value
+ordered o = statement (orders o)
+
+query_does : (a : Action) (g : List Part × Expression → Order) → ((n : List Part) (e : Expression) (vs : List Value) → perform a (expression e ∷ name n ∷ vs) ≡ ordered (g (n, e)) ∷ vs) → (ts : List Token) → Does (both name_form (both expr (does a))) 0 0 ts [] ordered (and_then (query_at ts) (λ q. Ok (g q.0, q.1)))
+unfolding query_at
+query_does a g e ts = mapped ordered g (query_at ts) (seq (name_at 32 ts) _ (name_does ts) (λ n r. seq (expr_at 32 r) _ (expr_does r) (λ x r'. last _ a (λ vs. e n x vs))))
+
+name_order : (a : Action) (g : List Part → Order) → ((n : List Part) (vs : List Value) → perform a (name n ∷ vs) ≡ ordered (g n) ∷ vs) → (ts : List Token) → Does (both name_form (does a)) 0 0 ts [] ordered (and_then (name_at 32 ts) (λ n. Ok (g n.0, n.1)))
+name_order a g e ts = seq (name_at 32 ts) _ (name_does ts) (λ n r. last _ a (λ vs. e n vs))
+
+grant_does : (ts : List Token) → Does (both (takes a_word) (both name_form (both name_form (both expr (both expr (does make_grant)))))) 0 0 ts [] ordered (grant_at ts)
+unfolding grant_at
+grant_does ts = seq (word_at ts) _ (word_does 0 ts) (λ w r. seq (name_at 32 r) _ (name_does r) (λ a r1. seq (name_at 32 r1) _ (name_does r1) (λ n r2. seq (expr_at 32 r2) _ (expr_does r2) (λ b r3. seq (expr_at 32 r3) _ (expr_does r3) (λ z r4. last _ make_grant (λ vs. refl))))))
+
+route_does : (ts : List Token) → Does (both (takes a_word) (both name_form (both expr (both name_form (does make_route))))) 0 0 ts [] ordered (route_at ts)
+unfolding route_at
+route_does ts = seq (word_at ts) _ (word_does 0 ts) (λ w r. seq (name_at 32 r) _ (name_does r) (λ a r1. seq (expr_at 32 r1) _ (expr_does r1) (λ x r2. seq (name_at 32 r2) _ (name_does r2) (λ n r3. last _ make_route (λ vs. refl)))))
+
+revoke_does : (ts : List Token) → Does (both (takes a_word) (does make_revoke)) 0 0 ts [] ordered (and_then (word_at ts) (λ w. Ok (revoke w.0, w.1)))
+revoke_does ts = seq (word_at ts) _ (word_does 0 ts) (λ w r. last _ make_revoke (λ vs. refl))
+
+-- the statement that a first token begins
+by_word : (f : Form) (j : Keyword) (t : Token) (ts : List Token) (r : Read Statement) → t.lexeme ≡ keyword j → ((k : List Form) (vs : List Value) → feed (statement_form ∷ k) vs (keyword j) ≡ on (f ∷ k) vs) → Does f 0 0 ts [] statement r → Does statement_form 0 0 (t ∷ ts) [] statement r
+by_word f j t ts r e h d = does_by statement_form f 0 0 0 (t ∷ ts) ts [] [] statement r (λ line k vs. ap (λ u. go (feed (statement_form ∷ k) vs u) line 0 u (suc (length ts)) (λ p. run p ts)) e ∙ ap (λ (x : Fed). go x line 0 (keyword j) (suc (length ts)) (λ p. run p ts)) (h k vs)) (omega arith) d
+
+refused_word : (l : Lexeme) (t : Token) (ts : List Token) → t.lexeme ≡ l → ((k : List Form) (vs : List Value) → feed (statement_form ∷ k) vs l ≡ stuck) → Does statement_form 0 0 (t ∷ ts) [] statement (Err (refused (suc (length ts))))
+refused_word l t ts e h = record { it = λ line k vs. ap (λ u. go (feed (statement_form ∷ k) vs u) line 0 u (suc (length ts)) (λ p. run p ts)) e ∙ ap (λ (x : Fed). go x line 0 l (suc (length ts)) (λ p. run p ts)) (h k vs) }
+
+order_word : (f : Form) (j : Keyword) (t : Token) (ts : List Token) (r : Read Order) → t.lexeme ≡ keyword j → ((k : List Form) (vs : List Value) → feed (statement_form ∷ k) vs (keyword j) ≡ on (f ∷ k) vs) → Does f 0 0 ts [] ordered r → Does statement_form 0 0 (t ∷ ts) [] statement (and_then r (λ o. Ok (orders o.0, o.1)))
+order_word f j t ts r e h d = by_word f j t ts (and_then r (λ o. Ok (orders o.0, o.1))) e h (mapped statement orders r d)
+
+plain_first : (w : List ℕ) (t : Token) (ts : List Token) → t.lexeme ≡ word w → (line : ℕ) (k : List Form) (vs : List Value) → run (inside line 0 (statement_form ∷ k) vs) (t ∷ ts) ≡ run (inside line 0 (node_rest make_plain ∷ k) vs) (t ∷ ts)
+unfolding statement_form plain_form agent_form vectors_form unit_form module_form use_form loop_form command_form name_form part_form
+plain_first w t ts e line k vs = run_fed line 0 (statement_form ∷ k) (node_rest make_plain ∷ k) vs vs t ts (ap (feed (statement_form ∷ k) vs) e ∙ ap (feed (node_rest make_plain ∷ k) vs) (sym e))
+
+feeds_agent : (k : List Form) (vs : List Value) → feed (statement_form ∷ k) vs (keyword Agent) ≡ on (node_rest make_agent ∷ k) vs
+unfolding statement_form plain_form agent_form vectors_form unit_form module_form use_form loop_form command_form name_form part_form
+feeds_agent k vs = refl
+
+feeds_vectors : (k : List Form) (vs : List Value) → feed (statement_form ∷ k) vs (keyword Vectors) ≡ on (node_rest make_vectors ∷ k) vs
+unfolding statement_form plain_form agent_form vectors_form unit_form module_form use_form loop_form command_form name_form part_form
+feeds_vectors k vs = refl
+
+feeds_unit : (k : List Form) (vs : List Value) → feed (statement_form ∷ k) vs (keyword UnitWord) ≡ on (after_unit ∷ k) vs
+unfolding statement_form plain_form agent_form vectors_form unit_form module_form use_form loop_form command_form name_form part_form
+feeds_unit k vs = refl
+
+feeds_module : (k : List Form) (vs : List Value) → feed (statement_form ∷ k) vs (keyword Module) ≡ on (after_module ∷ k) vs
+unfolding statement_form plain_form agent_form vectors_form unit_form module_form use_form loop_form command_form name_form part_form
+feeds_module k vs = refl
+
+feeds_use : (k : List Form) (vs : List Value) → feed (statement_form ∷ k) vs (keyword Use) ≡ on (after_use ∷ k) vs
+unfolding statement_form plain_form agent_form vectors_form unit_form module_form use_form loop_form command_form name_form part_form
+feeds_use k vs = refl
+
+feeds_for : (k : List Form) (vs : List Value) → feed (statement_form ∷ k) vs (keyword For) ≡ on (after_for ∷ k) vs
+unfolding statement_form plain_form agent_form vectors_form unit_form module_form use_form loop_form command_form name_form part_form
+feeds_for k vs = refl
+
+feeds_in : (k : List Form) (vs : List Value) → feed (statement_form ∷ k) vs (keyword In) ≡ stuck
+unfolding statement_form plain_form agent_form vectors_form unit_form module_form use_form loop_form command_form name_form part_form
+feeds_in k vs = refl
+
+feeds_end : (k : List Form) (vs : List Value) → feed (statement_form ∷ k) vs (keyword End) ≡ on ((does make_end) ∷ k) vs
+unfolding statement_form plain_form agent_form vectors_form unit_form module_form use_form loop_form command_form name_form part_form
+feeds_end k vs = refl
+
+feeds_begin : (k : List Form) (vs : List Value) → feed (statement_form ∷ k) vs (keyword Begin) ≡ on ((does make_begin) ∷ k) vs
+unfolding statement_form plain_form agent_form vectors_form unit_form module_form use_form loop_form command_form name_form part_form
+feeds_begin k vs = refl
+
+feeds_is : (k : List Form) (vs : List Value) → feed (statement_form ∷ k) vs (keyword Is) ≡ stuck
+unfolding statement_form plain_form agent_form vectors_form unit_form module_form use_form loop_form command_form name_form part_form
+feeds_is k vs = refl
+
+feeds_accept : (k : List Form) (vs : List Value) → feed (statement_form ∷ k) vs (keyword Accept) ≡ stuck
+unfolding statement_form plain_form agent_form vectors_form unit_form module_form use_form loop_form command_form name_form part_form
+feeds_accept k vs = refl
+
+feeds_map : (k : List Form) (vs : List Value) → feed (statement_form ∷ k) vs (keyword Map) ≡ stuck
+unfolding statement_form plain_form agent_form vectors_form unit_form module_form use_form loop_form command_form name_form part_form
+feeds_map k vs = refl
+
+feeds_to : (k : List Form) (vs : List Value) → feed (statement_form ∷ k) vs (keyword To) ≡ stuck
+unfolding statement_form plain_form agent_form vectors_form unit_form module_form use_form loop_form command_form name_form part_form
+feeds_to k vs = refl
+
+feeds_and : (k : List Form) (vs : List Value) → feed (statement_form ∷ k) vs (keyword And) ≡ stuck
+unfolding statement_form plain_form agent_form vectors_form unit_form module_form use_form loop_form command_form name_form part_form
+feeds_and k vs = refl
+
+feeds_at : (k : List Form) (vs : List Value) → feed (statement_form ∷ k) vs (keyword At) ≡ stuck
+unfolding statement_form plain_form agent_form vectors_form unit_form module_form use_form loop_form command_form name_form part_form
+feeds_at k vs = refl
+
+feeds_over : (k : List Form) (vs : List Value) → feed (statement_form ∷ k) vs (keyword Over) ≡ stuck
+unfolding statement_form plain_form agent_form vectors_form unit_form module_form use_form loop_form command_form name_form part_form
+feeds_over k vs = refl
+
+feeds_kind : (k : List Form) (vs : List Value) → feed (statement_form ∷ k) vs (keyword Kind) ≡ stuck
+unfolding statement_form plain_form agent_form vectors_form unit_form module_form use_form loop_form command_form name_form part_form
+feeds_kind k vs = refl
+
+feeds_page : (k : List Form) (vs : List Value) → feed (statement_form ∷ k) vs (keyword Page) ≡ stuck
+unfolding statement_form plain_form agent_form vectors_form unit_form module_form use_form loop_form command_form name_form part_form
+feeds_page k vs = refl
+
+feeds_slots : (k : List Form) (vs : List Value) → feed (statement_form ∷ k) vs (keyword Slots) ≡ stuck
+unfolding statement_form plain_form agent_form vectors_form unit_form module_form use_form loop_form command_form name_form part_form
+feeds_slots k vs = refl
+
+feeds_reach : (k : List Form) (vs : List Value) → feed (statement_form ∷ k) vs (keyword Reach) ≡ stuck
+unfolding statement_form plain_form agent_form vectors_form unit_form module_form use_form loop_form command_form name_form part_form
+feeds_reach k vs = refl
+
+feeds_as : (k : List Form) (vs : List Value) → feed (statement_form ∷ k) vs (keyword As) ≡ stuck
+unfolding statement_form plain_form agent_form vectors_form unit_form module_form use_form loop_form command_form name_form part_form
+feeds_as k vs = refl
+
+feeds_num : (k : List Form) (vs : List Value) → feed (statement_form ∷ k) vs (keyword Num) ≡ stuck
+unfolding statement_form plain_form agent_form vectors_form unit_form module_form use_form loop_form command_form name_form part_form
+feeds_num k vs = refl
+
+feeds_node : (k : List Form) (vs : List Value) → feed (statement_form ∷ k) vs (keyword Node) ≡ stuck
+unfolding statement_form plain_form agent_form vectors_form unit_form module_form use_form loop_form command_form name_form part_form
+feeds_node k vs = refl
+
+feeds_resolve : (k : List Form) (vs : List Value) → feed (statement_form ∷ k) vs (keyword Resolve) ≡ on ((both name_form (both expr (does make_resolve))) ∷ k) vs
+unfolding statement_form plain_form agent_form vectors_form unit_form module_form use_form loop_form command_form name_form part_form
+feeds_resolve k vs = refl
+
+feeds_lookup : (k : List Form) (vs : List Value) → feed (statement_form ∷ k) vs (keyword Lookup) ≡ on ((both name_form (both expr (does make_lookup))) ∷ k) vs
+unfolding statement_form plain_form agent_form vectors_form unit_form module_form use_form loop_form command_form name_form part_form
+feeds_lookup k vs = refl
+
+feeds_view : (k : List Form) (vs : List Value) → feed (statement_form ∷ k) vs (keyword View) ≡ on ((both name_form (does make_view)) ∷ k) vs
+unfolding statement_form plain_form agent_form vectors_form unit_form module_form use_form loop_form command_form name_form part_form
+feeds_view k vs = refl
+
+feeds_grant : (k : List Form) (vs : List Value) → feed (statement_form ∷ k) vs (keyword Grant) ≡ on ((both (takes a_word) (both name_form (both name_form (both expr (both expr (does make_grant)))))) ∷ k) vs
+unfolding statement_form plain_form agent_form vectors_form unit_form module_form use_form loop_form command_form name_form part_form
+feeds_grant k vs = refl
+
+feeds_route : (k : List Form) (vs : List Value) → feed (statement_form ∷ k) vs (keyword Route) ≡ on ((both (takes a_word) (both name_form (both expr (both name_form (does make_route))))) ∷ k) vs
+unfolding statement_form plain_form agent_form vectors_form unit_form module_form use_form loop_form command_form name_form part_form
+feeds_route k vs = refl
+
+feeds_revoke : (k : List Form) (vs : List Value) → feed (statement_form ∷ k) vs (keyword Revoke) ≡ on ((both (takes a_word) (does make_revoke)) ∷ k) vs
+unfolding statement_form plain_form agent_form vectors_form unit_form module_form use_form loop_form command_form name_form part_form
+feeds_revoke k vs = refl
+
+feeds_dump : (k : List Form) (vs : List Value) → feed (statement_form ∷ k) vs (keyword Dump) ≡ on ((does make_dump) ∷ k) vs
+unfolding statement_form plain_form agent_form vectors_form unit_form module_form use_form loop_form command_form name_form part_form
+feeds_dump k vs = refl
+
+feeds_split : (k : List Form) (vs : List Value) → feed (statement_form ∷ k) vs (keyword Split) ≡ on ((does make_split) ∷ k) vs
+unfolding statement_form plain_form agent_form vectors_form unit_form module_form use_form loop_form command_form name_form part_form
+feeds_split k vs = refl
+
+feeds_absorb : (k : List Form) (vs : List Value) → feed (statement_form ∷ k) vs (keyword Absorb) ≡ on ((both name_form (does make_absorb)) ∷ k) vs
+unfolding statement_form plain_form agent_form vectors_form unit_form module_form use_form loop_form command_form name_form part_form
+feeds_absorb k vs = refl
+
+feeds_number : (x : ℕ) (k : List Form) (vs : List Value) → feed (statement_form ∷ k) vs (number x) ≡ stuck
+unfolding statement_form plain_form agent_form vectors_form unit_form module_form use_form loop_form command_form name_form part_form
+feeds_number x k vs = refl
+
+feeds_sign : (s : Sign) (k : List Form) (vs : List Value) → feed (statement_form ∷ k) vs (sign s) ≡ stuck
+unfolding statement_form plain_form agent_form vectors_form unit_form module_form use_form loop_form command_form name_form part_form
+feeds_sign s k vs = refl
+
+keyword_token : (j : Keyword) (t : Token) (ts : List Token) → t.lexeme ≡ keyword j → Does statement_form 0 0 (t ∷ ts) [] statement (keyword_statement_at j (t ∷ ts) ts)
+unfolding keyword_statement_at order_at
+keyword_token Agent t ts e = by_word (node_rest make_agent) Agent t ts _ e feeds_agent (node_does agent_role make_agent (λ n s vs. refl) ts)
+keyword_token Vectors t ts e = by_word (node_rest make_vectors) Vectors t ts _ e feeds_vectors (node_does vectors_role make_vectors (λ n s vs. refl) ts)
+keyword_token UnitWord t ts e = by_word (after_unit) UnitWord t ts _ e feeds_unit (unit_does ts)
+keyword_token Module t ts e = by_word (after_module) Module t ts _ e feeds_module (module_does ts)
+keyword_token Use t ts e = by_word (after_use) Use t ts _ e feeds_use (use_does ts)
+keyword_token For t ts e = by_word (after_for) For t ts _ e feeds_for (loop_does ts)
+keyword_token In t ts e = refused_word (keyword In) t ts e feeds_in
+keyword_token End t ts e = by_word (does make_end) End t ts _ e feeds_end (last _ make_end (λ vs. refl))
+keyword_token Begin t ts e = by_word (does make_begin) Begin t ts _ e feeds_begin (last _ make_begin (λ vs. refl))
+keyword_token Is t ts e = refused_word (keyword Is) t ts e feeds_is
+keyword_token Accept t ts e = refused_word (keyword Accept) t ts e feeds_accept
+keyword_token Map t ts e = refused_word (keyword Map) t ts e feeds_map
+keyword_token To t ts e = refused_word (keyword To) t ts e feeds_to
+keyword_token And t ts e = refused_word (keyword And) t ts e feeds_and
+keyword_token At t ts e = refused_word (keyword At) t ts e feeds_at
+keyword_token Over t ts e = refused_word (keyword Over) t ts e feeds_over
+keyword_token Kind t ts e = refused_word (keyword Kind) t ts e feeds_kind
+keyword_token Page t ts e = refused_word (keyword Page) t ts e feeds_page
+keyword_token Slots t ts e = refused_word (keyword Slots) t ts e feeds_slots
+keyword_token Reach t ts e = refused_word (keyword Reach) t ts e feeds_reach
+keyword_token As t ts e = refused_word (keyword As) t ts e feeds_as
+keyword_token Num t ts e = refused_word (keyword Num) t ts e feeds_num
+keyword_token Node t ts e = refused_word (keyword Node) t ts e feeds_node
+keyword_token Resolve t ts e = order_word (both name_form (both expr (does make_resolve))) Resolve t ts _ e feeds_resolve (query_does make_resolve (λ q. resolve q.0 q.1) (λ n e vs. refl) ts)
+keyword_token Lookup t ts e = order_word (both name_form (both expr (does make_lookup))) Lookup t ts _ e feeds_lookup (query_does make_lookup (λ q. lookup q.0 q.1) (λ n e vs. refl) ts)
+keyword_token View t ts e = order_word (both name_form (does make_view)) View t ts _ e feeds_view (name_order make_view view (λ n vs. refl) ts)
+keyword_token Grant t ts e = order_word (both (takes a_word) (both name_form (both name_form (both expr (both expr (does make_grant)))))) Grant t ts _ e feeds_grant (grant_does ts)
+keyword_token Route t ts e = order_word (both (takes a_word) (both name_form (both expr (both name_form (does make_route))))) Route t ts _ e feeds_route (route_does ts)
+keyword_token Revoke t ts e = order_word (both (takes a_word) (does make_revoke)) Revoke t ts _ e feeds_revoke (revoke_does ts)
+keyword_token Dump t ts e = order_word (does make_dump) Dump t ts _ e feeds_dump (last _ make_dump (λ vs. refl))
+keyword_token Split t ts e = order_word (does make_split) Split t ts _ e feeds_split (last _ make_split (λ vs. refl))
+keyword_token Absorb t ts e = order_word (both name_form (does make_absorb)) Absorb t ts _ e feeds_absorb (name_order make_absorb absorb (λ n vs. refl) ts)
+
+by_token : (l : Lexeme) (t : Token) (ts : List Token) → t.lexeme ≡ l → Does statement_form 0 0 (t ∷ ts) [] statement (statement_by l (t ∷ ts) ts)
+by_token (word w) t ts e = does_by statement_form (node_rest make_plain) 0 0 0 (t ∷ ts) (t ∷ ts) [] [] statement (as_declared (node_at plain_role (t ∷ ts))) (λ line k vs. plain_first w t ts e line k vs) (omega arith) (node_does plain_role make_plain (λ n s vs. refl) (t ∷ ts))
+by_token (keyword j) t ts e = keyword_token j t ts e
+by_token (number x) t ts e = refused_word (number x) t ts e (feeds_number x)
+by_token (sign s) t ts e = refused_word (sign s) t ts e (feeds_sign s)
+
+pub statement_does : (ts : List Token) → Does statement_form 0 0 ts [] statement (statement_at ts)
+unfolding statement_at
+statement_does [] = record { it = λ line k vs. refl }
+statement_does (t ∷ ts) = by_token t.lexeme t ts refl

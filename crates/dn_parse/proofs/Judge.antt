@@ -1,0 +1,184 @@
+-- What is still to be said of a text, one statement after the other.
+use Rattle.std.proofs.Common.{◌≡◌, ◌∙◌, ap, sym, refl, subst, ℕ, zero, suc, ◌-◌, ◌<◌, ◌≤◌, Bool, true, false, cond, List, [], ◌∷◌, ◌++◌, length, Option, Some, None, Result, Ok, Err, arith, map, reverse, drop, get_or, nat_le, le-leb, leb-true}
+use Rattle.std.proofs.lemmas.List.{length-map, length-reverse, map-append, reverse-append}
+use Rattle.dn_parse.specs.declared.token.Sign.TheVariants.{Semicolon}
+use Rattle.dn_parse.specs.Token.{Lexeme, Token, tokens}
+use Rattle.dn_parse.specs.Tree.{Statement, Placed, Tree, items}
+use Rattle.dn_parse.specs.Actions.{Value, statement}
+use Rattle.dn_parse.specs.Forms.{is_sign}
+use Rattle.dn_parse.specs.Syntax.{statement_form, statement_of}
+use Rattle.dn_parse.specs.Machine.{Stop, whole, refused, deep, Outcome, stopped, with_statement, between, inside, run, go, closed}
+use Rattle.dn_parse.specs.Whole.{Fault, block_fault, Frame, Blocks, Step, going, by_step, step, at_stop, judged, judge, without_frame, closed_block, line_of, line_at, reading, no_blocks_yet, last_line, too_long, bad_token, of_reading, of_token_list, text_reading}
+use Rattle.dn_parse.specs.Descent.{and_then, Read, or_refused, after_sign, sign_at, statement_at, whole_statement_at}
+use Rattle.dn_parse.specs.declared.cursor.Halt.{Halt}
+use Rattle.dn_parse.specs.declared.cursor.Halt.TheVariants.{Refused, Deep as DeepHalt, OutOfMemory as HaltMemory}
+use Rattle.dn_parse.specs.declared.blocks.Misplaced.{Misplaced}
+use Rattle.dn_parse.specs.declared.blocks.Misplaced.TheVariants.{Forbidden, Crowded, OutOfMemory as NoRoom}
+use Rattle.dn_parse.specs.declared.blocks.Blocks.{Blocks as CodeBlocks}
+use Rattle.dn_parse.specs.declared.blocks.Frame.{Frame as CodeFrame}
+use Rattle.dn_parse.specs.declared.token.Token.{Token as CodeToken}
+use Rattle.dn_parse.specs.Lexing.{token_of}
+use Rattle.dn_parse.specs.declared.syntax.Syntax.{Syntax}
+use Rattle.dn_parse.specs.declared.reader.SyntaxFault.{SyntaxFault}
+use Rattle.dn_parse.specs.declared.reader.SyntaxFault.TheVariants.{Length, Token as BadToken, Statement as StatementFault, Block as BlockFault, Nesting as NestingFault, OutOfMemory as SyntaxMemory}
+use Rattle.dn_parse.specs.Giving.{Halts}
+use Rattle.dn_parse.specs.Seen.{seen, frame_of, blocks_seen, item_of, command_of}
+use Rattle.dn_parse.specs.Placing.{Steps, IsFault, IsReading, IsTextReading, StartsAt, halted_fault, misplaced_fault}
+use Rattle.dn_parse.proofs.Does.{Does, DoesBy}
+use Rattle.dn_parse.proofs.Heads.{statement_does}
+
+-- what a whole statement is to the machine
+abbrev Whole : Token → List Token → Read Statement → Type 0
+Whole t ts (Ok p) = (run between (t ∷ ts) ≡ with_statement (record { line = t.line; statement = p.0 }) (run between p.1)) × (length p.1 < length (t ∷ ts))
+Whole t ts (Err s) = run between (t ∷ ts) ≡ stopped s
+
+at_semicolon : (line : ℕ) (s : Statement) (u : Token) (us : List Token) (b : Bool) → is_sign Semicolon u.lexeme ≡ b → (t : Token) (ts : List Token) → line ≡ t.line → length (u ∷ us) ≤ length (t ∷ ts) → run between (t ∷ ts) ≡ run (inside line 0 [] (statement s ∷ [])) (u ∷ us) → Whole t ts (and_then (or_refused (cond b (Some us) None) (u ∷ us)) (λ rest. Ok (s, rest)))
+at_semicolon line s u us true e t ts l h g =
+    (g ∙ ap (λ b. go (closed b (statement s ∷ [])) line 0 u.lexeme (suc (length us)) (λ q. run q us)) e ∙ ap (λ (j : ℕ). with_statement (record { line = j; statement = s }) (run between us)) l, (omega arith))
+at_semicolon line s u us false e t ts l h g = g ∙ ap (λ b. go (closed b (statement s ∷ [])) line 0 u.lexeme (suc (length us)) (λ q. run q us)) e
+
+after_statement : (t : Token) (ts : List Token) (r : Read Statement) → DoesBy statement_form 0 0 (t ∷ ts) [] statement r → Whole t ts (and_then r (λ p. and_then (sign_at Semicolon p.1) (λ rest. Ok (p.0, rest))))
+unfolding sign_at after_sign
+after_statement t ts (Ok (s, [])) h = h.runs t.line [] []
+after_statement t ts (Ok (s, u ∷ us)) h = at_semicolon t.line s u us (is_sign Semicolon u.lexeme) refl t ts refl h.no_longer (h.runs t.line [] [])
+after_statement t ts (Err z) h = h t.line [] []
+
+whole_does : (t : Token) (ts : List Token) → Whole t ts (whole_statement_at (t ∷ ts))
+unfolding whole_statement_at
+whole_does t ts = after_statement t ts (statement_at (t ∷ ts)) (statement_does (t ∷ ts)).it
+
+whole_by : (t : Token) (ts : List Token) (r : Read Statement) → whole_statement_at (t ∷ ts) ≡ r → Whole t ts r
+whole_by t ts r e = subst (Whole t ts) e (whole_does t ts)
+
+-- the next statement
+pub judge_step : (last : ℕ) (all : List Token) (b : Blocks) (t : Token) (ts : List Token) (s : Statement) (after : List Token) → whole_statement_at (t ∷ ts) ≡ Ok (s, after) → judge last all b (t ∷ ts) ≡ by_step (step b (record { line = t.line; statement = s })) t.line (λ c. judge last all c after)
+unfolding judge
+judge_step last all b t ts s after e = ap (λ (o : Outcome). judged o.statements (at_stop o.stop last all) b) (whole_by t ts (Ok (s, after)) e).0
+
+pub judge_stop : (last : ℕ) (all : List Token) (b : Blocks) (t : Token) (ts : List Token) (z : Stop) → whole_statement_at (t ∷ ts) ≡ Err z → judge last all b (t ∷ ts) ≡ at_stop z last all b
+unfolding judge
+judge_stop last all b t ts z e = ap (λ (o : Outcome). judged o.statements (at_stop o.stop last all) b) (whole_by t ts (Err z) e)
+
+pub judge_end : (last : ℕ) (all : List Token) (b : Blocks) → judge last all b [] ≡ at_stop whole last all b
+unfolding judge
+judge_end last all b = refl
+
+pub statement_shorter : (t : Token) (ts : List Token) (s : Statement) (after : List Token) → whole_statement_at (t ∷ ts) ≡ Ok (s, after) → length after < length (t ∷ ts)
+statement_shorter t ts s after e = (whole_by t ts (Ok (s, after)) e).1
+
+no_longer_by : (ts : List Token) (r : Read Statement) → DoesBy statement_form 0 0 ts [] statement r → (s : Statement) (rest : List Token) → r ≡ Ok (s, rest) → length rest ≤ length ts
+no_longer_by ts (Ok p) h s rest e = let same : p.1 ≡ rest = cc in subst (λ (l : List Token). length l ≤ length ts) same h.no_longer
+no_longer_by ts (Err z) h s rest e = cc
+
+pub statement_no_longer : (ts : List Token) (s : Statement) (rest : List Token) → statement_at ts ≡ Ok (s, rest) → length rest ≤ length ts
+statement_no_longer ts s rest e = no_longer_by ts (statement_at ts) (statement_does ts).it s rest e
+
+-- the next statement, where the tokens are known up to an equation
+pub next_step : (last : ℕ) (all : List Token) (b : Blocks) (ts : List Token) (line : ℕ) (s : Statement) (after : List Token) → StartsAt ts line → whole_statement_at ts ≡ Ok (s, after) → judge last all b ts ≡ by_step (step b (record { line = line; statement = s })) line (λ c. judge last all c after)
+next_step last all b [] line s after h e = absurd h
+next_step last all b (t ∷ ts) line s after h e = judge_step last all b t ts s after e ∙ ap (λ (j : ℕ). by_step (step b (record { line = j; statement = s })) j (λ c. judge last all c after)) h
+
+pub next_stop : (last : ℕ) (all : List Token) (b : Blocks) (ts : List Token) (line : ℕ) (z : Stop) → StartsAt ts line → whole_statement_at ts ≡ Err z → judge last all b ts ≡ at_stop z last all b
+next_stop last all b [] line z h e = absurd h
+next_stop last all b (t ∷ ts) line z h e = judge_stop last all b t ts z e
+
+-- the faults of the code
+pub fault_halted : (last : ℕ) (all : List Token) (b : Blocks) (ts : List Token) (line : ℕ) (h : Halt) → StartsAt ts line → Halts h (whole_statement_at ts) → IsFault (halted_fault h last all) (judge last all b ts)
+fault_halted last all b ts line (Refused n) s e = next_stop last all b ts line (refused n) s e
+fault_halted last all b ts line (DeepHalt n) s e = next_stop last all b ts line (deep n) s e
+fault_halted last all b ts line HaltMemory s e = tt
+
+pub step_going : (r : Result CodeBlocks Misplaced) (b : CodeBlocks) (s : Step) → Steps r s → r ≡ Ok b → s ≡ going (blocks_seen b)
+step_going (Ok c) b s h e = let same : c ≡ b = cc in h ∙ ap (λ (d : CodeBlocks). going (blocks_seen d)) same
+step_going (Err m) b s h e = cc
+
+misplaced_by : (m : Misplaced) (s : Step) (line : ℕ) (next : Blocks → Result Tree Fault) → Steps (Err m) s → IsFault (misplaced_fault m line) (by_step s line next)
+misplaced_by Forbidden s line next h = ap (λ (x : Step). by_step x line next) h
+misplaced_by Crowded s line next h = ap (λ (x : Step). by_step x line next) h
+misplaced_by NoRoom s line next h = tt
+
+pub fault_misplaced : (last : ℕ) (all : List Token) (b : Blocks) (ts : List Token) (line : ℕ) (s : Statement) (after : List Token) (r : Result CodeBlocks Misplaced) (m : Misplaced) → StartsAt ts line → whole_statement_at ts ≡ Ok (s, after) → Steps r (step b (record { line = line; statement = s })) → r ≡ Err m → IsFault (misplaced_fault m line) (judge last all b ts)
+fault_misplaced last all b ts line s after r m h e st is =
+    let stepped = subst (λ (x : Result CodeBlocks Misplaced). Steps x (step b (record { line = line; statement = s }))) is st in
+    subst (IsFault (misplaced_fault m line)) (sym (next_step last all b ts line s after h e)) (misplaced_by m (step b (record { line = line; statement = s })) line (λ c. judge last all c after) stepped)
+
+pub placed_on : (last : ℕ) (all : List Token) (b : Blocks) (ts : List Token) (line : ℕ) (s : Statement) (after : List Token) (r : Result CodeBlocks Misplaced) (c : CodeBlocks) → StartsAt ts line → whole_statement_at ts ≡ Ok (s, after) → Steps r (step b (record { line = line; statement = s })) → r ≡ Ok c → judge last all b ts ≡ judge last all (blocks_seen c) after
+placed_on last all b ts line s after r c h e st is =
+    next_step last all b ts line s after h e ∙ ap (λ (x : Step). by_step x line (λ d. judge last all d after)) (step_going r c (step b (record { line = line; statement = s })) st is)
+
+-- the open blocks at the end
+reverse_none : (fs : List CodeFrame) → length fs ≡ 0 → reverse (map frame_of fs) ≡ []
+reverse_none [] e = refl
+reverse_none (f ∷ fs) e = absurd (omega arith)
+
+pub finished_seen : (b : CodeBlocks) (last : ℕ) (ts : List Token) → length b.frames.items ≡ 0 → at_stop whole last ts (blocks_seen b) ≡ Ok (record { body = items (map item_of b.body.items); commands = map command_of b.commands })
+finished_seen b last ts e = finished_by (reverse (map frame_of b.frames.items)) (reverse_none b.frames.items e)
+  where
+    finished_by : (fs : List Frame) → fs ≡ [] → at_stop whole last ts (record { frames = fs; body = map item_of b.body.items; begun = b.begun; commands = map command_of b.commands }) ≡ Ok (record { body = items (map item_of b.body.items); commands = map command_of b.commands })
+    finished_by [] e = refl
+    finished_by (f ∷ fs) e = cc
+
+unfinished_by : (b : Blocks) (last : ℕ) (ts : List Token) → 0 < length b.frames → at_stop whole last ts b ≡ Err (block_fault last)
+unfinished_by b last ts h = go b.frames h
+  where
+    go : (fs : List Frame) → 0 < length fs → at_stop whole last ts (record { frames = fs; body = b.body; begun = b.begun; commands = b.commands }) ≡ Err (block_fault last)
+    go [] h = absurd (omega arith)
+    go (f ∷ fs) h = refl
+
+pub unfinished_seen : (b : CodeBlocks) (last : ℕ) (ts : List Token) → 0 < length b.frames.items → at_stop whole last ts (blocks_seen b) ≡ Err (block_fault last)
+unfinished_seen b last ts h = unfinished_by (blocks_seen b) last ts (omega (arith, length-reverse (map frame_of b.frames.items), length-map b.frames.items frame_of))
+
+-- the innermost block closed
+pub without_last : (b : Blocks) (front : List CodeFrame) (f : CodeFrame) (frames : List CodeFrame) → frames ≡ front ++ f ∷ [] → without_frame b (reverse (map frame_of frames)) ≡ going (record { frames = reverse (map frame_of front); body = (frame_of f).before ++ closed_block (frame_of f) b.body ∷ []; begun = b.begun; commands = b.commands })
+without_last b front f frames e =
+    let turned : reverse (map frame_of frames) ≡ frame_of f ∷ reverse (map frame_of front) = ap (λ (l : List CodeFrame). reverse (map frame_of l)) e ∙ ap reverse (map-append frame_of front (f ∷ [])) ∙ reverse-append (map frame_of front) (frame_of f ∷ []) in
+    ap (without_frame b) turned
+
+-- the line of a token
+pub line_drop : (last : ℕ) (ts : List CodeToken) (i : ℕ) → i < length ts → (t : CodeToken) → t ≡ get_or ts i t → t.line ≡ line_of last (drop i (seen ts))
+line_drop last [] i h t e = absurd (omega arith)
+line_drop last (x ∷ ts) zero h t e = ap (λ (u : CodeToken). u.line) e
+line_drop last (x ∷ ts) (suc i) h t e = line_drop last ts i (omega arith) t e
+
+pub line_found : (last : ℕ) (ts : List CodeToken) (left i : ℕ) → i ≡ length ts - left → i < length ts → (t : CodeToken) → t ≡ get_or ts i t → t.line ≡ line_at last (seen ts) left
+line_found last ts left i e h t f =
+    let long : length (seen ts) ≡ length ts = length-map ts token_of in
+    let same : i ≡ length (seen ts) - left = omega (arith, long, e) in
+    line_drop last ts i h t f ∙ ap (λ (j : ℕ). line_of last (drop j (seen ts))) same
+
+-- a whole text
+of_tokens_read : (r : Result Syntax SyntaxFault) (q : Result Tree Fault) → IsReading r q → IsTextReading r (of_reading q)
+of_tokens_read (Ok s) q h = ap of_reading h
+of_tokens_read (Err Length) q h = absurd h
+of_tokens_read (Err (BadToken line)) q h = absurd h
+of_tokens_read (Err (StatementFault line)) q h = ap of_reading h
+of_tokens_read (Err (BlockFault line)) q h = ap of_reading h
+of_tokens_read (Err (NestingFault line)) q h = ap of_reading h
+of_tokens_read (Err SyntaxMemory) q h = tt
+
+short_enough : (text : List ℕ) → length text ≤ 4194304 → text_reading text ≡ of_token_list (last_line text) (tokens text)
+unfolding text_reading
+short_enough text h = ap (λ b. cond b (of_token_list (last_line text) (tokens text)) (Err too_long)) (le-leb (length text) 4194304 h)
+
+leb_no : (n m : ℕ) → m < n → nat_le n m ≡ false
+leb_no n m h = go (nat_le n m) refl
+  where
+    go : (b : Bool) → nat_le n m ≡ b → b ≡ false
+    go true e = let same = leb-true n m e in absurd (omega arith)
+    go false e = refl
+
+pub text_too_long : (text : List ℕ) → 4194304 < length text → text_reading text ≡ Err too_long
+unfolding text_reading
+text_too_long text h = ap (λ b. cond b (of_token_list (last_line text) (tokens text)) (Err too_long)) (leb_no (length text) 4194304 h)
+
+reading_judged : (last : ℕ) (ts : List Token) → reading last ts ≡ judge last ts no_blocks_yet ts
+unfolding reading judge
+reading_judged last ts = refl
+
+pub text_reads : (text : List ℕ) (ts : List Token) (last : ℕ) (r : Result Syntax SyntaxFault) → length text ≤ 4194304 → tokens text ≡ Ok ts → last ≡ last_line text → IsReading r (judge last ts no_blocks_yet ts) → IsTextReading r (text_reading text)
+text_reads text ts last r short e l h =
+    let same : text_reading text ≡ of_reading (judge last ts no_blocks_yet ts) = short_enough text short ∙ ap (of_token_list (last_line text)) e ∙ ap (λ (n : ℕ). of_reading (reading n ts)) (sym l) ∙ ap of_reading (reading_judged last ts) in
+    subst (IsTextReading r) (sym same) (of_tokens_read r (judge last ts no_blocks_yet ts) h)
+
+pub text_bad : (text : List ℕ) (line : ℕ) → length text ≤ 4194304 → tokens text ≡ Err line → text_reading text ≡ Err (bad_token line)
+text_bad text line short e = short_enough text short ∙ ap (of_token_list (last_line text)) e

@@ -1,0 +1,49 @@
+use Rattle.std.proofs.Common.{◌<◌, ◌+◌, ◌*◌, length, map}
+use Rattle.dn_parse.specs.Seen.{seen, expr_of}
+use Rattle.dn_parse.specs.Descent.{next_factor_at, factors_at, next_term_at, terms_at}
+use Rattle.dn_parse.proofs.Series.{Found}
+use Rattle.dn_parse.proofs.expressions.+expressions.Given as goal
+
+abbrev pub decreases-factor : goal.decreases-factor
+decreases-factor l = 10 * l.depth + 1
+
+abbrev pub decreases-next_factor : goal.decreases-next_factor
+decreases-next_factor l = 10 * l.depth + 2
+
+abbrev pub decreases-factors : goal.decreases-factors
+decreases-factors l = 10 * l.depth + 3
+
+abbrev pub decreases-term : goal.decreases-term
+decreases-term l = 10 * l.depth + 4
+
+abbrev pub decreases-next_term : goal.decreases-next_term
+decreases-next_term l = 10 * l.depth + 5
+
+abbrev pub decreases-terms : goal.decreases-terms
+decreases-terms l = 10 * l.depth + 6
+
+abbrev pub decreases-expr : goal.decreases-expr
+decreases-expr l = 10 * l.depth + 7
+
+abbrev pub decreases-after_open : goal.decreases-after_open
+decreases-after_open l = 10 * l.depth + 8
+
+abbrev pub invariant-factors-factors : goal.invariant-factors-factors
+invariant-factors-factors l = record {
+  some : 0 < length l.members.items;
+  shorter : length (seen l.rest) < length (seen l.fn.tokens);
+  before : Found (next_factor_at l.fn.depth) (factors_at l.fn.depth (seen l.fn.tokens)) (map expr_of l.members.items) (seen l.rest);
+}
+
+abbrev pub decreases-factors-factors : goal.decreases-factors-factors
+decreases-factors-factors l = length (seen l.rest)
+
+abbrev pub invariant-terms-terms : goal.invariant-terms-terms
+invariant-terms-terms l = record {
+  some : 0 < length l.members.items;
+  shorter : length (seen l.rest) < length (seen l.fn.tokens);
+  before : Found (next_term_at l.fn.depth) (terms_at l.fn.depth (seen l.fn.tokens)) (map expr_of l.members.items) (seen l.rest);
+}
+
+abbrev pub decreases-terms-terms : goal.decreases-terms-terms
+decreases-terms-terms l = length (seen l.rest)

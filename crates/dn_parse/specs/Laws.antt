@@ -1,0 +1,43 @@
+-- The laws that tie the machine to the grammar: with them its stops are the places that the grammar names.
+use Rattle.std.specs.Prelude.{◌≡◌, ◌⊎◌, ℕ, suc, List, [], ◌∷◌, ◌++◌, length}
+use Rattle.dn_parse.specs.declared.token.Sign.TheVariants.{OpenParenthesis}
+use Rattle.dn_parse.specs.Token.{Token, sign}
+use Rattle.dn_parse.specs.Tree.{Placed}
+use Rattle.dn_parse.specs.Syntax.{SpellsText, Viable}
+use Rattle.dn_parse.specs.Machine.{Stop, whole, refused, deep, Place, between, run, parentheses}
+
+-- What is refused at a token, or nested too deep there, is so whatever follows it.
+abbrev pub StopIsFinal : Type 0
+StopIsFinal = (p : Place) (front : List Token) (t : Token) (r r' : List Token) → ((run p (front ++ t ∷ r)).stop ≡ refused (suc (length r)) → (run p (front ++ t ∷ r')).stop ≡ refused (suc (length r')))
+    × ((run p (front ++ t ∷ r)).stop ≡ deep (suc (length r)) → (run p (front ++ t ∷ r')).stop ≡ deep (suc (length r')))
+
+-- What is read to its end is a spelling of the statements that were read.
+abbrev pub ReadIsSpelled : Type 0
+ReadIsSpelled = (ts : List Token) → (run between ts).stop ≡ whole → SpellsText ts (run between ts).statements
+
+-- Each spelling is read as its statements, unless a parenthesis in it is nested too deep.
+abbrev pub IsDeep : Stop → Type 0
+IsDeep whole = ⊥
+IsDeep (refused n) = ⊥
+IsDeep (deep n) = Unit {0}
+
+abbrev pub SpelledIsRead : Type 0
+SpelledIsRead = (ts : List Token) (ss : List Placed) → SpellsText ts ss → (((run between ts).stop ≡ whole) × ((run between ts).statements ≡ ss)) ⊎ IsDeep (run between ts).stop
+
+-- with one token more, or at its end, a list is no spelling, nor the front of one
+abbrev pub IsEnded : List Token → List Token → Type 0
+IsEnded front [] = (ss : List Placed) → SpellsText front ss → ⊥
+IsEnded front (t ∷ rest) = Viable (front ++ t ∷ []) → ⊥
+
+-- The place of a refusal: the tokens before it are viable, and with the token there they are not; at the end of the text they are no spelling.
+abbrev pub RefusedIsFirst : Type 0
+RefusedIsFirst = (ts : List Token) (n : ℕ) → (run between ts).stop ≡ refused n → (front : List Token) × (rest : List Token) × (ts ≡ front ++ rest) × (n ≡ length rest) × Viable front × IsEnded front rest
+
+-- the parentheses that are open at the end of a list
+abbrev pub opened : ℕ → List Token → ℕ
+opened n [] = n
+opened n (t ∷ ts) = opened (parentheses n t.lexeme) ts
+
+-- The place of a nesting: a parenthesis that a form allows there, before which 32 are open.
+abbrev pub DeepIsFirst : Type 0
+DeepIsFirst = (ts : List Token) (n : ℕ) → (run between ts).stop ≡ deep n → (front : List Token) × (t : Token) × (rest : List Token) × (ts ≡ front ++ t ∷ rest) × (n ≡ suc (length rest)) × Viable (front ++ t ∷ []) × (t.lexeme ≡ sign OpenParenthesis) × (opened 0 front ≡ 32)

@@ -1,0 +1,116 @@
+-- A machine that reads tokens one by one, by the forms that may still come.
+use Rattle.std.specs.Prelude.{ℕ, zero, suc, ◌+◌, ◌-◌, ◌==◌, Bool, true, false, if◌then◌else◌, ◌&&◌, List, [], ◌∷◌, ◌++◌, length}
+use Rattle.dn_parse.specs.declared.token.Sign.TheVariants.{Semicolon, OpenParenthesis, CloseParenthesis}
+use Rattle.dn_parse.specs.Token.{Lexeme, Token}
+use Rattle.dn_parse.specs.Tree.{Placed}
+use Rattle.dn_parse.specs.Actions.{Value, perform}
+use Rattle.dn_parse.specs.Forms.{Form, takes, does, and_then, either, many, parenthesised, Sort, is, is_sign, kept}
+use Rattle.dn_parse.specs.Syntax.{statement_form, after_open, statement_of}
+
+-- what a form does at a token: it takes it, and then these forms follow, with these values; it may be left out, with these values; or it allows no such token
+pub data Move : Type 0 where
+  to : List Form → List Value → Move
+  skips : List Value → Move
+  refuses : Move
+
+abbrev pub taken : Bool → List Form → List Value → Move
+taken true k vs = to k vs
+taken false k vs = refuses
+
+-- one form and then another
+abbrev pub followed : Move → Form → (List Value → Move) → Move
+followed (to k vs) g next = to (k ++ g ∷ []) vs
+followed (skips vs) g next = next vs
+followed refuses g next = refuses
+
+-- one form or else another
+abbrev pub or_else : Move → Move → Move
+or_else (to k vs) m = to k vs
+or_else (skips vs) m = skips vs
+or_else refuses m = m
+
+-- a form again and again
+abbrev pub repeated : Move → Form → List Value → Move
+repeated (to k ws) f vs = to (k ++ f ∷ []) ws
+repeated (skips ws) f vs = skips vs
+repeated refuses f vs = skips vs
+
+abbrev pub move : Form → List Value → Lexeme → Move
+move (takes s) vs l = taken (is s l) [] (kept s l vs)
+move (does a) vs l = skips (perform a vs)
+move (and_then f g) vs l = followed (move f vs l) g (λ ws. move g ws l)
+move (either f g) vs l = or_else (move f vs l) (move g vs l)
+move (many f) vs l = repeated (move f vs l) (many f) vs
+move parenthesised vs l = taken (is_sign OpenParenthesis l) (after_open ∷ []) vs
+
+-- what a token does to the forms that may still come, and to the values; where none is left a `;` ends the statement
+pub data Fed : Type 0 where
+  on : List Form → List Value → Fed
+  over : List Value → Fed
+  stuck : Fed
+
+abbrev pub closed : Bool → List Value → Fed
+closed true vs = over vs
+closed false vs = stuck
+
+abbrev pub fed : Move → List Form → (List Value → Fed) → Fed
+fed (to k' vs) k next = on (k' ++ k) vs
+fed (skips vs) k next = next vs
+fed refuses k next = stuck
+
+abbrev pub feed : List Form → List Value → Lexeme → Fed
+feed [] vs l = closed (is_sign Semicolon l) vs
+feed (f ∷ k) vs l = fed (move f vs l) k (λ ws. feed k ws l)
+
+-- the parentheses that are open after a token; behind a `;`, which ends a statement, there is none
+abbrev pub parentheses : ℕ → Lexeme → ℕ
+parentheses n l = if is_sign OpenParenthesis l then n + 1 else (if is_sign CloseParenthesis l then n - 1 else (if is_sign Semicolon l then 0 else n))
+
+-- a 33rd parenthesis is opened
+abbrev pub is_deep : ℕ → Lexeme → Bool
+is_deep n l = is_sign OpenParenthesis l && (n == 32)
+
+-- where the reading stops: at the end of the text, between statements; at the first token that no form allows, or at the end inside a statement; or at a 33rd parenthesis.
+-- The number is that of the tokens that are left, the token at which it stops among them.
+pub data Stop : Type 0 where
+  whole : Stop
+  refused : ℕ → Stop
+  deep : ℕ → Stop
+
+-- the statements that were read, and where the reading stopped
+pub record Outcome : Type 0 where
+  pub statements : List Placed
+  pub stop : Stop
+
+abbrev pub stopped : Stop → Outcome
+stopped s = record { statements = []; stop = s }
+
+abbrev pub with_statement : Placed → Outcome → Outcome
+with_statement p o = record { statements = p ∷ o.statements; stop = o.stop }
+
+-- the machine stands between statements, or in one that began in a line, with so many parentheses open, and these forms may still come
+pub data Place : Type 0 where
+  between : Place
+  inside : ℕ → ℕ → List Form → List Value → Place
+
+abbrev pub at_end : Place → Outcome
+at_end between = stopped whole
+at_end (inside line opened k vs) = stopped (refused 0)
+
+abbrev pub go_in : Bool → Place → ℕ → (Place → Outcome) → Outcome
+go_in true p left next = stopped (deep left)
+go_in false p left next = next p
+
+abbrev pub go : Fed → ℕ → ℕ → Lexeme → ℕ → (Place → Outcome) → Outcome
+go (on k vs) line opened l left next = go_in (is_deep opened l) (inside line (parentheses opened l) k vs) left next
+go (over vs) line opened l left next = with_statement (record { line = line; statement = statement_of vs }) (next between)
+go stuck line opened l left next = stopped (refused left)
+
+-- a token at a place
+abbrev pub turn : Place → Token → ℕ → (Place → Outcome) → Outcome
+turn between t left next = go (feed (statement_form ∷ []) [] t.lexeme) t.line 0 t.lexeme left next
+turn (inside line opened k vs) t left next = go (feed k vs t.lexeme) line opened t.lexeme left next
+
+abbrev pub run : Place → List Token → Outcome
+run p [] = at_end p
+run p (t ∷ ts) = turn p t (suc (length ts)) (λ q. run q ts)

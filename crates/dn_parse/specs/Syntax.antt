@@ -1,0 +1,214 @@
+-- The grammar of a text, line for line. Beside each form stands what it adds to the tree.
+use Rattle.std.specs.Prelude.{◌≡◌, ℕ, zero, suc, List, [], ◌∷◌, ◌++◌, map}
+use Rattle.dn_parse.specs.declared.token.Keyword.{Keyword}
+use Rattle.dn_parse.specs.declared.token.Keyword.TheVariants.{Agent, Vectors, Unit as UnitWord, Module, Use, For, In, End, Begin, Is, Accept, Map, To, And, At, Over, Kind, Page, Slots, Reach, As, Num, Node, Resolve, Lookup, View, Grant, Route, Revoke, Dump, Split, Absorb}
+use Rattle.dn_parse.specs.declared.token.Sign.{Sign}
+use Rattle.dn_parse.specs.declared.token.Sign.TheVariants.{Semicolon, Comma, OpenBracket, CloseBracket, OpenParenthesis, CloseParenthesis, Minus, Plus, Times, Dot, Dots}
+use Rattle.dn_parse.specs.Token.{Token, sign}
+use Rattle.dn_parse.specs.Tree.{Statement, Placed, ends}
+use Rattle.dn_parse.specs.Actions.{Value, statement, Action, keep, make_variable, first_member, next_member, make_sum, make_product, make_difference, no_expression, some_expression, make_part, first_part, next_part, no_name, some_name, first_name, next_name, make_block, no_blocks, first_block, next_block, make_dest, first_dest, next_dest, make_entry, no_entries, first_entry, next_entry, make_spec, make_number_param, make_node_param, no_params, first_param, next_param, make_number_arg, make_node_arg, no_args, first_arg, next_arg, make_plain, make_agent, make_vectors, make_unit, make_module, make_use, make_loop, make_end, make_begin, make_resolve, make_lookup, make_view, make_grant, make_route, make_revoke, make_dump, make_split, make_absorb}
+use Rattle.dn_parse.specs.Forms.{Form, takes, does, many, parenthesised, either, and_then, a_word, any_word, a_number, the_keyword, the_sign, in_order, one_of, Spells}
+
+abbrev pub the : Keyword → Form
+the k = takes (the_keyword k)
+
+abbrev pub mark : Sign → Form
+mark s = takes (the_sign s)
+
+-- [ f ], where nothing is made if it is left out
+abbrev pub optional : Form → Form
+optional f = either f (does keep)
+
+-- a form at most so many times
+abbrev pub at_most : ℕ → Form → Form
+at_most zero f = does keep
+at_most (suc n) f = optional (and_then f (at_most n f))
+
+-- factor = number | word | "(" expr [ "-" expr ] ")"
+unfoldable pub factor : Form
+factor = one_of (takes a_number) (and_then (takes a_word) (does make_variable) ∷ parenthesised ∷ [])
+
+-- term = factor { "*" factor }
+unfoldable pub more_factors : Form
+more_factors = many (in_order (mark Times) (factor ∷ does next_member ∷ []))
+
+unfoldable pub term : Form
+term = in_order factor (does first_member ∷ more_factors ∷ does make_product ∷ [])
+
+-- expr = term { "+" term }
+unfoldable pub more_terms : Form
+more_terms = many (in_order (mark Plus) (term ∷ does next_member ∷ []))
+
+unfoldable pub expr : Form
+expr = in_order term (does first_member ∷ more_terms ∷ does make_sum ∷ [])
+
+-- expr [ "-" expr ] ")"
+unfoldable pub less : Form
+less = in_order (mark Minus) (expr ∷ does make_difference ∷ [])
+
+unfoldable pub after_open : Form
+after_open = in_order expr (optional less ∷ mark CloseParenthesis ∷ [])
+
+abbrev pub in_parentheses : Form
+in_parentheses = and_then (mark OpenParenthesis) after_open
+
+-- an expression that may be left out, behind what begins it
+abbrev pub perhaps_expr : Form → List Form → Form
+perhaps_expr f fs = either (in_order f (expr ∷ fs)) (does no_expression)
+
+-- part = word [ "[" expr "]" ]
+unfoldable pub index : Form
+index = perhaps_expr (mark OpenBracket) (does some_expression ∷ mark CloseBracket ∷ [])
+
+unfoldable pub part_form : Form
+part_form = in_order (takes a_word) (index ∷ does make_part ∷ [])
+
+-- name = part { "." part }
+unfoldable pub more_parts : Form
+more_parts = many (in_order (mark Dot) (part_form ∷ does next_part ∷ []))
+
+unfoldable pub name_form : Form
+name_form = in_order part_form (does first_part ∷ more_parts ∷ [])
+
+-- block = expr [ "-" expr ]
+unfoldable pub upper : Form
+upper = perhaps_expr (mark Minus) (does some_expression ∷ [])
+
+unfoldable pub block_form : Form
+block_form = in_order expr (upper ∷ does make_block ∷ [])
+
+-- dest = name [ "at" expr ]
+unfoldable pub at_addr : Form
+at_addr = perhaps_expr (the At) (does some_expression ∷ [])
+
+unfoldable pub dest_form : Form
+dest_form = in_order name_form (at_addr ∷ does make_dest ∷ [])
+
+-- entry = block "to" dest { "and" dest }          (1 to 8 dest)
+unfoldable pub more_dests : ℕ → Form
+more_dests n = at_most n (in_order (the And) (dest_form ∷ does next_dest ∷ []))
+
+unfoldable pub entry_form : Form
+entry_form = in_order block_form (the To ∷ dest_form ∷ does first_dest ∷ more_dests 7 ∷ does make_entry ∷ [])
+
+-- spec = [ "accept" "[" block { "," block } "]" ] [ "map" "[" entry { "," entry } "]" ] [ "over" name ]
+unfoldable pub more_blocks : Form
+more_blocks = many (in_order (mark Comma) (block_form ∷ does next_block ∷ []))
+
+unfoldable pub accept : Form
+accept = either (in_order (the Accept) (mark OpenBracket ∷ block_form ∷ does first_block ∷ more_blocks ∷ mark CloseBracket ∷ [])) (does no_blocks)
+
+unfoldable pub more_entries : Form
+more_entries = many (in_order (mark Comma) (entry_form ∷ does next_entry ∷ []))
+
+unfoldable pub map_form : Form
+map_form = either (in_order (the Map) (mark OpenBracket ∷ entry_form ∷ does first_entry ∷ more_entries ∷ mark CloseBracket ∷ [])) (does no_entries)
+
+unfoldable pub over : Form
+over = either (in_order (the Over) (name_form ∷ does some_name ∷ [])) (does no_name)
+
+unfoldable pub spec_form : Form
+spec_form = in_order accept (map_form ∷ over ∷ does make_spec ∷ [])
+
+-- plain = name "is" spec
+unfoldable pub plain_form : Form
+plain_form = in_order name_form (the Is ∷ spec_form ∷ does make_plain ∷ [])
+
+-- agent = "agent" name "is" spec
+unfoldable pub agent_form : Form
+agent_form = in_order (the Agent) (name_form ∷ the Is ∷ spec_form ∷ does make_agent ∷ [])
+
+-- vectors = "vectors" name "is" spec
+unfoldable pub vectors_form : Form
+vectors_form = in_order (the Vectors) (name_form ∷ the Is ∷ spec_form ∷ does make_vectors ∷ [])
+
+-- unit = "unit" name "kind" any "page" expr "slots" expr "reach" expr "to" name { "," name }    (1 to 8 names)
+unfoldable pub more_names : ℕ → Form
+more_names n = at_most n (in_order (mark Comma) (name_form ∷ does next_name ∷ []))
+
+unfoldable pub unit_form : Form
+unit_form = in_order (the UnitWord) (name_form ∷ the Kind ∷ takes any_word ∷ the Page ∷ expr ∷ the Slots ∷ expr ∷ the Reach ∷ expr ∷ the To ∷ name_form ∷ does first_name ∷ more_names 7 ∷ does make_unit ∷ [])
+
+-- module = "module" word "(" [ param { "," param } ] ")"
+-- param = ( "num" | "node" ) word
+unfoldable pub param_form : Form
+param_form = one_of (in_order (the Num) (takes a_word ∷ does make_number_param ∷ [])) (in_order (the Node) (takes a_word ∷ does make_node_param ∷ []) ∷ [])
+
+unfoldable pub more_params : Form
+more_params = many (in_order (mark Comma) (param_form ∷ does next_param ∷ []))
+
+unfoldable pub params_form : Form
+params_form = either (in_order param_form (does first_param ∷ more_params ∷ [])) (does no_params)
+
+unfoldable pub module_form : Form
+module_form = in_order (the Module) (takes a_word ∷ mark OpenParenthesis ∷ params_form ∷ mark CloseParenthesis ∷ does make_module ∷ [])
+
+-- instance = "use" word "(" [ arg { "," arg } ] ")" "as" name
+-- arg = expr | "node" name
+unfoldable pub arg_form : Form
+arg_form = one_of (in_order expr (does make_number_arg ∷ [])) (in_order (the Node) (name_form ∷ does make_node_arg ∷ []) ∷ [])
+
+unfoldable pub more_args : Form
+more_args = many (in_order (mark Comma) (arg_form ∷ does next_arg ∷ []))
+
+unfoldable pub args_form : Form
+args_form = either (in_order arg_form (does first_arg ∷ more_args ∷ [])) (does no_args)
+
+unfoldable pub use_form : Form
+use_form = in_order (the Use) (takes a_word ∷ mark OpenParenthesis ∷ args_form ∷ mark CloseParenthesis ∷ the As ∷ name_form ∷ does make_use ∷ [])
+
+-- loop = "for" word "in" expr ".." expr
+unfoldable pub loop_form : Form
+loop_form = in_order (the For) (takes a_word ∷ the In ∷ expr ∷ mark Dots ∷ expr ∷ does make_loop ∷ [])
+
+-- command = "resolve" name expr | "lookup" name expr | "view" name
+--         | "grant" word name name expr expr
+--         | "route" word name expr name
+--         | "revoke" word | "dump" | "split" | "absorb" name
+unfoldable pub command_form : Form
+command_form =
+    one_of (in_order (the Resolve) (name_form ∷ expr ∷ does make_resolve ∷ []))
+    (in_order (the Lookup) (name_form ∷ expr ∷ does make_lookup ∷ [])
+    ∷ in_order (the View) (name_form ∷ does make_view ∷ [])
+    ∷ in_order (the Grant) (takes a_word ∷ name_form ∷ name_form ∷ expr ∷ expr ∷ does make_grant ∷ [])
+    ∷ in_order (the Route) (takes a_word ∷ name_form ∷ expr ∷ name_form ∷ does make_route ∷ [])
+    ∷ in_order (the Revoke) (takes a_word ∷ does make_revoke ∷ [])
+    ∷ in_order (the Dump) (does make_dump ∷ [])
+    ∷ in_order (the Split) (does make_split ∷ [])
+    ∷ in_order (the Absorb) (name_form ∷ does make_absorb ∷ [])
+    ∷ [])
+
+-- statement = plain | agent | vectors | unit | module | instance | loop
+--           | "end" | "begin" | command
+unfoldable pub statement_form : Form
+statement_form =
+    one_of plain_form
+    (agent_form ∷ vectors_form ∷ unit_form ∷ module_form ∷ use_form ∷ loop_form
+    ∷ in_order (the End) (does make_end ∷ [])
+    ∷ in_order (the Begin) (does make_begin ∷ [])
+    ∷ command_form
+    ∷ [])
+
+-- an expression in parentheses, with fewer than so many open at once in it
+abbrev pub Parenthesised : ℕ → List Token → List Value → List Value → Type 0
+Parenthesised zero ts vs vs' = ⊥
+Parenthesised (suc d) ts vs vs' = Spells (Parenthesised d) in_parentheses ts vs vs'
+
+-- the statement that the values are, of which there is one
+abbrev pub statement_of : List Value → Statement
+statement_of (statement s ∷ vs) = s
+statement_of vs = ends
+
+-- these tokens spell this statement, with parentheses as deep as may be
+abbrev pub SpellsStatement : List Token → Statement → Type 0
+SpellsStatement ts s = (d : ℕ) × (vs : List Value) × Spells (Parenthesised d) statement_form ts [] vs × (s ≡ statement_of vs)
+
+-- text = { statement ";" }
+-- these tokens spell these statements, each with the line of its first token
+abbrev pub SpellsText : List Token → List Placed → Type 0
+SpellsText ts [] = ts ≡ []
+SpellsText ts (s ∷ ss) = (first : Token) × (xs : List Token) × (stop : Token) × (ys : List Token) × (ts ≡ first ∷ xs ++ stop ∷ ys) × (s.line ≡ first.line) × SpellsStatement (first ∷ xs) s.statement × (stop.lexeme ≡ sign Semicolon) × SpellsText ys ss
+
+-- a list of tokens that is the front of a spelling
+abbrev pub Viable : List Token → Type 0
+Viable ts = (more : List Token) × (ss : List Placed) × SpellsText (ts ++ more) ss

@@ -1,0 +1,270 @@
+//! The blocks of a text while it is read: what is open, what stands where, and what is forbidden.
+
+ghost use Rattle.std.specs.Prelude.{◌≡◌, List, map, IfOk};
+ghost use Rattle.dn_parse.specs.Tree.{Item};
+ghost use Rattle.dn_parse.specs.Whole.{no_blocks_yet, closed_block, step, with_item, with_frame, without_frame, before_begin, after_begin};
+ghost use Rattle.dn_parse.specs.Seen.{item_of, statement_seen, frame_of, opener_of, blocks_seen};
+ghost use Rattle.dn_parse.specs.Placing.{Steps};
+
+use crate::statements::Statement;
+use crate::syntax::{Body, Command, Expr, Param, Stmt};
+use dn_base::items::Items;
+use dn_base::text::Text;
+use std::alloc::{AllocError, AllocFailed, Global};
+
+/// What opens a block.
+#[derive(Drop)]
+pub enum Opener {
+    Module {
+        title: Text,
+        params: Items<Param>,
+    },
+    Loop {
+        variable: Text,
+        from: Expr,
+        upto: Expr,
+    },
+}
+
+/// An open block: what opened it with its line, and the statements before it.
+#[derive(Drop)]
+pub struct Frame {
+    pub line: u32,
+    pub opener: Opener,
+    pub before: Body,
+}
+
+/// What the statements so far came to.
+#[derive(Drop)]
+pub struct Blocks {
+    /// The open blocks, the innermost last.
+    pub frames: Vec<Frame>,
+    /// The statements in the innermost block.
+    pub body: Body,
+    /// Whether `begin` was there.
+    pub begun: bool,
+    pub commands: Items<Command>,
+}
+
+/// Why a statement is not placed.
+#[derive(Clone, Copy, Debug, PartialEq, Eq)]
+pub enum Misplaced {
+    /// It stands where it is forbidden.
+    Forbidden,
+    /// It opens a 17th block.
+    Crowded,
+    /// There was no memory.
+    OutOfMemory,
+}
+
+impl From<AllocError> for Misplaced {
+    ghost use Rattle.std.specs.Prelude.{◌≡◌};
+    ghost use Rattle.dn_parse.specs.declared.blocks.Misplaced.TheVariants.{OutOfMemory as no_memory};
+
+    ghost from_gives = { λ _ e. e ≡ no_memory };
+
+    fn from(_error: AllocError) -> Misplaced {
+        Misplaced::OutOfMemory
+    }
+}
+
+impl<T: Drop> From<AllocFailed<T>> for Misplaced {
+    ghost use Rattle.std.specs.Prelude.{◌≡◌};
+    ghost use Rattle.dn_parse.specs.declared.blocks.Misplaced.TheVariants.{OutOfMemory as no_memory};
+
+    ghost from_gives = { λ _ e. e ≡ no_memory };
+
+    fn from(_error: AllocFailed<T>) -> Misplaced {
+        Misplaced::OutOfMemory
+    }
+}
+
+/// The most blocks that may be open.
+const MOST_BLOCKS: usize = 16;
+
+/// No statement.
+pub fn none(alloc: Global) -> Blocks
+    ensures { blocks_seen result ≡ no_blocks_yet }
+{
+    Blocks {
+        frames: Vec::new(alloc),
+        body: Vec::new(alloc),
+        begun: false,
+        commands: Items::new(alloc),
+    }
+}
+
+/// The blocks with one statement more in the innermost.
+fn with_item(blocks: Blocks, item: Stmt) -> Result<Blocks, Misplaced>
+    ensures { Steps result (with_item (blocks_seen blocks) (item_of item)) }
+{
+    let mut blocks = blocks;
+    blocks.body.push(item)?;
+    Ok(blocks)
+}
+
+/// The blocks with one more open.
+fn opened(alloc: Global, blocks: Blocks, line: u32, opener: Opener) -> Result<Blocks, Misplaced>
+    ensures { Steps result (with_frame (blocks_seen blocks) line (opener_of opener)) }
+{
+    if blocks.frames.len() >= MOST_BLOCKS {
+        return Err(Misplaced::Crowded);
+    }
+    let Blocks {
+        frames,
+        body,
+        begun,
+        commands,
+    } = blocks;
+    let mut frames = frames;
+    frames.push(Frame {
+        line,
+        opener,
+        before: body,
+    })?;
+    Ok(Blocks {
+        frames,
+        body: Vec::new(alloc),
+        begun,
+        commands,
+    })
+}
+
+/// A block that is closed, as one statement.
+fn closed(alloc: Global, line: u32, opener: Opener, body: Body) -> Result<Stmt, AllocError>
+    ensures { IfOk result (λ s. (before : List Item) → item_of s ≡ closed_block (record { line = line; opener = opener_of opener; before = before }) (map item_of body.items)) }
+{
+    match opener {
+        Opener::Module { title, params } => Ok(Stmt::Module {
+            line,
+            title,
+            params,
+            body,
+        }),
+        Opener::Loop {
+            variable,
+            from,
+            upto,
+        } => Ok(Stmt::Loop {
+            line,
+            variable,
+            from: Box::new(alloc, from)?,
+            upto: Box::new(alloc, upto)?,
+            body,
+        }),
+    }
+}
+
+/// The blocks with the innermost closed.
+fn ended(alloc: Global, blocks: Blocks) -> Result<Blocks, Misplaced>
+    ensures { Steps result (without_frame (blocks_seen blocks) (blocks_seen blocks).frames) }
+{
+    let Blocks {
+        frames,
+        body,
+        begun,
+        commands,
+    } = blocks;
+    let mut frames = frames;
+    let Some(frame) = frames.pop() else {
+        return Err(Misplaced::Forbidden);
+    };
+    let Frame {
+        line,
+        opener,
+        before,
+    } = frame;
+    let mut before = before;
+    before.push(closed(alloc, line, opener, body)?)?;
+    Ok(Blocks {
+        frames,
+        body: before,
+        begun,
+        commands,
+    })
+}
+
+/// A statement before `begin`.
+fn before_begin(
+    alloc: Global,
+    blocks: Blocks,
+    line: u32,
+    statement: Statement,
+) -> Result<Blocks, Misplaced>
+    ensures { Steps result (before_begin (blocks_seen blocks) line (statement_seen statement)) }
+{
+    match statement {
+        Statement::Decl(decl) => with_item(blocks, Stmt::Decl { line, decl }),
+        Statement::Module { title, params } => {
+            if !blocks.frames.is_empty() {
+                return Err(Misplaced::Forbidden);
+            }
+            opened(alloc, blocks, line, Opener::Module { title, params })
+        }
+        Statement::Instance {
+            title,
+            args,
+            prefix,
+        } => with_item(
+            blocks,
+            Stmt::Instance {
+                line,
+                title,
+                args,
+                prefix,
+            },
+        ),
+        Statement::Loop {
+            variable,
+            from,
+            upto,
+        } => opened(
+            alloc,
+            blocks,
+            line,
+            Opener::Loop {
+                variable,
+                from,
+                upto,
+            },
+        ),
+        Statement::End => ended(alloc, blocks),
+        Statement::Begin => {
+            if !blocks.frames.is_empty() {
+                return Err(Misplaced::Forbidden);
+            }
+            let mut blocks = blocks;
+            blocks.begun = true;
+            Ok(blocks)
+        }
+        Statement::Order(_) => Err(Misplaced::Forbidden),
+    }
+}
+
+/// A statement after `begin`.
+fn after_begin(blocks: Blocks, line: u32, statement: Statement) -> Result<Blocks, Misplaced>
+    ensures { Steps result (after_begin (blocks_seen blocks) line (statement_seen statement)) }
+{
+    let Statement::Order(order) = statement else {
+        return Err(Misplaced::Forbidden);
+    };
+    let mut blocks = blocks;
+    blocks.commands.push(Command { line, order })?;
+    Ok(blocks)
+}
+
+/// The blocks with one statement more, which begins in this line.
+pub fn placed(
+    alloc: Global,
+    blocks: Blocks,
+    line: u32,
+    statement: Statement,
+) -> Result<Blocks, Misplaced>
+    ensures { Steps result (step (blocks_seen blocks) (record { line = line; statement = statement_seen statement })) }
+{
+    if blocks.begun {
+        after_begin(blocks, line, statement)
+    } else {
+        before_begin(alloc, blocks, line, statement)
+    }
+}

@@ -1,0 +1,166 @@
+//! Expressions.
+
+ghost use Rattle.std.specs.Prelude.{◌≡◌, ◌∷◌, [], ◌<◌, ◌≤◌, length, map, option_map, IfOk, IfSome, vec_len};
+ghost use Rattle.dn_parse.specs.Actions.{summed, multiplied};
+ghost use Rattle.dn_parse.specs.Seen.{seen, expr_of};
+ghost use Rattle.dn_parse.specs.Descent.{factor_at, next_factor_at, factors_at, term_at, next_term_at, terms_at, expr_at, after_open_at};
+ghost use Rattle.dn_parse.specs.Giving.{Gives};
+
+use crate::cursor::{Halt, Next, Read, after_sign, next, refusal, sign};
+use crate::syntax::Expr;
+use crate::token::{Lexeme, Sign, Token};
+use dn_base::text::Text;
+use std::alloc::Global;
+
+/// The sum of the members, or the only one.
+fn summed(members: Vec<Expr>) -> Expr
+    requires { 0 < vec_len members }
+    ensures { expr_of result ≡ summed (map expr_of members.items) }
+{
+    let mut members = members;
+    if members.len() == 1 {
+        members.remove(0)
+    } else {
+        Expr::Sum(members)
+    }
+}
+
+/// The product of the members, or the only one.
+fn multiplied(members: Vec<Expr>) -> Expr
+    requires { 0 < vec_len members }
+    ensures { expr_of result ≡ multiplied (map expr_of members.items) }
+{
+    let mut members = members;
+    if members.len() == 1 {
+        members.remove(0)
+    } else {
+        Expr::Product(members)
+    }
+}
+
+/// `number | word | "(" expr [ "-" expr ] ")"`, where so many parentheses may still be opened.
+#[cycle(expressions)]
+#[tactic(auto, unfolding(crate::specs::Descent::factor_at))]
+fn factor<'a>(alloc: Global, tokens: &'a [Token<'a>], depth: u8) -> Read<'a, Expr>
+    ensures gives { Gives (λ p. (expr_of p.0, seen p.1.now)) result (factor_at depth (seen tokens.now)) }
+    ensures shorter { IfOk result (λ p. length (seen p.1.now) < length (seen tokens.now)) }
+{
+    let Some((token, rest)) = next(tokens) else {
+        return Err(refusal(tokens));
+    };
+    match token.lexeme {
+        Lexeme::Number(number) => Ok((Expr::Number(number), rest)),
+        Lexeme::Word(word) => Ok((Expr::Variable(Text::of(alloc, word)?), rest)),
+        Lexeme::Sign(Sign::OpenParenthesis) => {
+            if depth == 0 {
+                return Err(Halt::Deep(tokens.len()));
+            }
+            after_open(alloc, rest, depth - 1)
+        }
+        _ => Err(refusal(tokens)),
+    }
+}
+
+/// `expr [ "-" expr ] ")"`
+#[cycle(expressions)]
+#[tactic(auto, unfolding(crate::specs::Descent::after_open_at))]
+fn after_open<'a>(alloc: Global, tokens: &'a [Token<'a>], depth: u8) -> Read<'a, Expr>
+    ensures gives { Gives (λ p. (expr_of p.0, seen p.1.now)) result (after_open_at depth (seen tokens.now)) }
+    ensures shorter { IfOk result (λ p. length (seen p.1.now) < length (seen tokens.now)) }
+{
+    let (first, rest) = expr(alloc, tokens, depth)?;
+    let Some(rest) = after_sign(rest, Sign::Minus) else {
+        let rest = sign(rest, Sign::CloseParenthesis)?;
+        return Ok((first, rest));
+    };
+    let (second, rest) = expr(alloc, rest, depth)?;
+    let rest = sign(rest, Sign::CloseParenthesis)?;
+    let difference = Expr::Minus(Box::new(alloc, first)?, Box::new(alloc, second)?);
+    Ok((difference, rest))
+}
+
+/// `[ "*" factor ]`
+#[cycle(expressions)]
+#[tactic(auto, unfolding(crate::specs::Descent::next_factor_at))]
+fn next_factor<'a>(alloc: Global, tokens: &'a [Token<'a>], depth: u8) -> Next<'a, Expr>
+    ensures gives { Gives (λ o. option_map (λ p. (expr_of p.0, seen p.1.now)) o) result (next_factor_at depth (seen tokens.now)) }
+    ensures shorter { IfOk result (λ o. IfSome o (λ p. length (seen p.1.now) < length (seen tokens.now))) }
+{
+    let Some(rest) = after_sign(tokens, Sign::Times) else {
+        return Ok(None);
+    };
+    let (factor, rest) = factor(alloc, rest, depth)?;
+    Ok(Some((factor, rest)))
+}
+
+/// `factor { "*" factor }`
+#[cycle(expressions)]
+fn factors<'a>(alloc: Global, tokens: &'a [Token<'a>], depth: u8) -> Read<'a, Vec<Expr>>
+    ensures gives { Gives (λ p. (map expr_of p.0.items, seen p.1.now)) result (factors_at depth (seen tokens.now)) }
+    ensures some { IfOk result (λ p. 0 < vec_len p.0) }
+    ensures shorter { IfOk result (λ p. length (seen p.1.now) < length (seen tokens.now)) }
+{
+    let (first, after) = factor(alloc, tokens, depth)?;
+    let mut members = Vec::new(alloc);
+    members.push(first)?;
+    let mut rest = after;
+    'factors: while let Some((factor, after)) = next_factor(alloc, rest, depth)? {
+        members.push(factor)?;
+        rest = after;
+    }
+    Ok((members, rest))
+}
+
+/// `factor { "*" factor }`, as one expression
+#[cycle(expressions)]
+#[tactic(auto, unfolding(crate::specs::Descent::term_at))]
+fn term<'a>(alloc: Global, tokens: &'a [Token<'a>], depth: u8) -> Read<'a, Expr>
+    ensures gives { Gives (λ p. (expr_of p.0, seen p.1.now)) result (term_at depth (seen tokens.now)) }
+    ensures shorter { IfOk result (λ p. length (seen p.1.now) < length (seen tokens.now)) }
+{
+    let (members, rest) = factors(alloc, tokens, depth)?;
+    Ok((multiplied(members), rest))
+}
+
+/// `[ "+" term ]`
+#[cycle(expressions)]
+#[tactic(auto, unfolding(crate::specs::Descent::next_term_at))]
+fn next_term<'a>(alloc: Global, tokens: &'a [Token<'a>], depth: u8) -> Next<'a, Expr>
+    ensures gives { Gives (λ o. option_map (λ p. (expr_of p.0, seen p.1.now)) o) result (next_term_at depth (seen tokens.now)) }
+    ensures shorter { IfOk result (λ o. IfSome o (λ p. length (seen p.1.now) < length (seen tokens.now))) }
+{
+    let Some(rest) = after_sign(tokens, Sign::Plus) else {
+        return Ok(None);
+    };
+    let (term, rest) = term(alloc, rest, depth)?;
+    Ok(Some((term, rest)))
+}
+
+/// `term { "+" term }`
+#[cycle(expressions)]
+fn terms<'a>(alloc: Global, tokens: &'a [Token<'a>], depth: u8) -> Read<'a, Vec<Expr>>
+    ensures gives { Gives (λ p. (map expr_of p.0.items, seen p.1.now)) result (terms_at depth (seen tokens.now)) }
+    ensures some { IfOk result (λ p. 0 < vec_len p.0) }
+    ensures shorter { IfOk result (λ p. length (seen p.1.now) < length (seen tokens.now)) }
+{
+    let (first, after) = term(alloc, tokens, depth)?;
+    let mut members = Vec::new(alloc);
+    members.push(first)?;
+    let mut rest = after;
+    'terms: while let Some((term, after)) = next_term(alloc, rest, depth)? {
+        members.push(term)?;
+        rest = after;
+    }
+    Ok((members, rest))
+}
+
+/// `term { "+" term }`, as one expression
+#[cycle(expressions)]
+#[tactic(auto, unfolding(crate::specs::Descent::expr_at))]
+pub fn expr<'a>(alloc: Global, tokens: &'a [Token<'a>], depth: u8) -> Read<'a, Expr>
+    ensures gives { Gives (λ p. (expr_of p.0, seen p.1.now)) result (expr_at depth (seen tokens.now)) }
+    ensures shorter { IfOk result (λ p. length (seen p.1.now) < length (seen tokens.now)) }
+{
+    let (members, rest) = terms(alloc, tokens, depth)?;
+    Ok((summed(members), rest))
+}

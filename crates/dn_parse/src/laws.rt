@@ -1,0 +1,35 @@
+//! Laws on the tokens of a text, and those that tie the machine of the reading to the grammar.
+
+ghost use Rattle.dn_parse.specs.Going.{TokensGoOn};
+ghost use Rattle.dn_parse.specs.Laws.{StopIsFinal, ReadIsSpelled, SpelledIsRead, RefusedIsFirst, DeepIsFirst};
+
+/// What is refused at a token, or is nested too deep there, is so whatever follows it.
+pub fn stop_is_final()
+    ensures { StopIsFinal }
+{}
+
+/// What is read to its end is a spelling of the statements that were read.
+pub fn read_is_spelled()
+    ensures { ReadIsSpelled }
+{}
+
+/// Each spelling is read as its statements, unless a parenthesis in it is nested too deep.
+pub fn spelled_is_read()
+    ensures { SpelledIsRead }
+{}
+
+/// The place of a refusal is the first token that ends a list which is not viable, or the end of a
+/// list that is viable and no spelling.
+pub fn refused_is_first()
+    ensures { RefusedIsFirst }
+{}
+
+/// The place of a nesting is a parenthesis that the grammar allows there and before which 32 are open.
+pub fn deep_is_first()
+    ensures { DeepIsFirst }
+{}
+
+/// What stands first in a text decides, and the rest is read alike.
+pub fn tokens_go_on()
+    ensures { TokensGoOn }
+{}

@@ -1,0 +1,279 @@
+//! Names, and the parts of a node.
+
+ghost use Rattle.std.specs.Prelude.{◌≡◌, ◌∷◌, [], ◌<◌, ◌≤◌, length, map, option_map, IfOk, IfSome};
+ghost use Rattle.dn_parse.specs.Seen.{seen, expr_of, maybe_of, part_of, name_of, block_of, dest_of, entry_of, maybe_name_of, spec_of};
+ghost use Rattle.dn_parse.specs.Descent.{index_at, part_at, next_part_at, name_at, upper_at, block_at, next_block_at, blocks_at, addr_at, dest_at, next_dest_at, dests_at, entry_at, next_entry_at, entries_at, accept_at, map_at, over_at, spec_at};
+ghost use Rattle.dn_parse.specs.Giving.{Gives};
+
+use crate::cursor::{Next, Read, after_keyword, after_sign, keyword, sign, word};
+use crate::expressions::expr;
+use crate::syntax::{DestExpr, Expr, Mapping, NameExpr, PartExpr, Range, Spec};
+use crate::token::{Keyword, Sign, Token};
+use dn_base::items::Items;
+use std::alloc::Global;
+
+/// The most parentheses that may be open at once.
+const MOST_OPEN: u8 = 32;
+
+/// `[ "[" expr "]" ]`, where so many parentheses may still be opened
+#[tactic(auto, unfolding(crate::specs::Descent::index_at))]
+fn index<'a>(alloc: Global, tokens: &'a [Token<'a>], depth: u8) -> Read<'a, Option<Expr>>
+    ensures gives { Gives (λ p. (maybe_of p.0, seen p.1.now)) result (index_at depth (seen tokens.now)) }
+    ensures shorter { IfOk result (λ p. length (seen p.1.now) ≤ length (seen tokens.now)) }
+{
+    let Some(rest) = after_sign(tokens, Sign::OpenBracket) else {
+        return Ok((None, tokens));
+    };
+    let (index, rest) = expr(alloc, rest, depth)?;
+    let rest = sign(rest, Sign::CloseBracket)?;
+    Ok((Some(index), rest))
+}
+
+/// `word [ "[" expr "]" ]`
+#[tactic(auto, unfolding(crate::specs::Descent::part_at))]
+fn part<'a>(alloc: Global, tokens: &'a [Token<'a>], depth: u8) -> Read<'a, PartExpr>
+    ensures gives { Gives (λ p. (part_of p.0, seen p.1.now)) result (part_at depth (seen tokens.now)) }
+    ensures shorter { IfOk result (λ p. length (seen p.1.now) < length (seen tokens.now)) }
+{
+    let (title, rest) = word(alloc, tokens)?;
+    let (index, rest) = index(alloc, rest, depth)?;
+    Ok((PartExpr { title, index }, rest))
+}
+
+/// `[ "." part ]`
+#[tactic(auto, unfolding(crate::specs::Descent::next_part_at))]
+fn next_part<'a>(alloc: Global, tokens: &'a [Token<'a>], depth: u8) -> Next<'a, PartExpr>
+    ensures gives { Gives (λ o. option_map (λ p. (part_of p.0, seen p.1.now)) o) result (next_part_at depth (seen tokens.now)) }
+    ensures shorter { IfOk result (λ o. IfSome o (λ p. length (seen p.1.now) < length (seen tokens.now))) }
+{
+    let Some(rest) = after_sign(tokens, Sign::Dot) else {
+        return Ok(None);
+    };
+    let (part, rest) = part(alloc, rest, depth)?;
+    Ok(Some((part, rest)))
+}
+
+/// `part { "." part }`
+pub fn name<'a>(alloc: Global, tokens: &'a [Token<'a>], depth: u8) -> Read<'a, NameExpr>
+    ensures gives { Gives (λ p. (name_of p.0, seen p.1.now)) result (name_at depth (seen tokens.now)) }
+    ensures shorter { IfOk result (λ p. length (seen p.1.now) < length (seen tokens.now)) }
+{
+    let (first, after) = part(alloc, tokens, depth)?;
+    let mut parts = Items::new(alloc);
+    parts.push(first)?;
+    let mut rest = after;
+    'parts: while let Some((part, after)) = next_part(alloc, rest, depth)? {
+        parts.push(part)?;
+        rest = after;
+    }
+    Ok((parts, rest))
+}
+
+/// `[ "-" expr ]`
+#[tactic(auto, unfolding(crate::specs::Descent::upper_at))]
+fn upper<'a>(alloc: Global, tokens: &'a [Token<'a>]) -> Read<'a, Option<Expr>>
+    ensures gives { Gives (λ p. (maybe_of p.0, seen p.1.now)) result (upper_at (seen tokens.now)) }
+    ensures shorter { IfOk result (λ p. length (seen p.1.now) ≤ length (seen tokens.now)) }
+{
+    let Some(rest) = after_sign(tokens, Sign::Minus) else {
+        return Ok((None, tokens));
+    };
+    let (hi, rest) = expr(alloc, rest, MOST_OPEN)?;
+    Ok((Some(hi), rest))
+}
+
+/// `expr [ "-" expr ]`
+#[tactic(auto, unfolding(crate::specs::Descent::block_at))]
+fn block<'a>(alloc: Global, tokens: &'a [Token<'a>]) -> Read<'a, Range>
+    ensures gives { Gives (λ p. (block_of p.0, seen p.1.now)) result (block_at (seen tokens.now)) }
+    ensures shorter { IfOk result (λ p. length (seen p.1.now) < length (seen tokens.now)) }
+{
+    let (lo, rest) = expr(alloc, tokens, MOST_OPEN)?;
+    let (hi, rest) = upper(alloc, rest)?;
+    Ok((Range { lo, hi }, rest))
+}
+
+/// `[ "," block ]`
+#[tactic(auto, unfolding(crate::specs::Descent::next_block_at))]
+fn next_block<'a>(alloc: Global, tokens: &'a [Token<'a>]) -> Next<'a, Range>
+    ensures gives { Gives (λ o. option_map (λ p. (block_of p.0, seen p.1.now)) o) result (next_block_at (seen tokens.now)) }
+    ensures shorter { IfOk result (λ o. IfSome o (λ p. length (seen p.1.now) < length (seen tokens.now))) }
+{
+    let Some(rest) = after_sign(tokens, Sign::Comma) else {
+        return Ok(None);
+    };
+    let (block, rest) = block(alloc, rest)?;
+    Ok(Some((block, rest)))
+}
+
+/// `block { "," block }`
+fn blocks<'a>(alloc: Global, tokens: &'a [Token<'a>]) -> Read<'a, Items<Range>>
+    ensures gives { Gives (λ p. (map block_of p.0, seen p.1.now)) result (blocks_at (seen tokens.now)) }
+    ensures shorter { IfOk result (λ p. length (seen p.1.now) < length (seen tokens.now)) }
+{
+    let (first, after) = block(alloc, tokens)?;
+    let mut blocks = Items::new(alloc);
+    blocks.push(first)?;
+    let mut rest = after;
+    'list: while let Some((block, after)) = next_block(alloc, rest)? {
+        blocks.push(block)?;
+        rest = after;
+    }
+    Ok((blocks, rest))
+}
+
+/// `[ "at" expr ]`
+#[tactic(auto, unfolding(crate::specs::Descent::addr_at))]
+fn addr<'a>(alloc: Global, tokens: &'a [Token<'a>]) -> Read<'a, Option<Expr>>
+    ensures gives { Gives (λ p. (maybe_of p.0, seen p.1.now)) result (addr_at (seen tokens.now)) }
+    ensures shorter { IfOk result (λ p. length (seen p.1.now) ≤ length (seen tokens.now)) }
+{
+    let Some(rest) = after_keyword(tokens, Keyword::At) else {
+        return Ok((None, tokens));
+    };
+    let (addr, rest) = expr(alloc, rest, MOST_OPEN)?;
+    Ok((Some(addr), rest))
+}
+
+/// `name [ "at" expr ]`
+#[tactic(auto, unfolding(crate::specs::Descent::dest_at))]
+fn dest<'a>(alloc: Global, tokens: &'a [Token<'a>]) -> Read<'a, DestExpr>
+    ensures gives { Gives (λ p. (dest_of p.0, seen p.1.now)) result (dest_at (seen tokens.now)) }
+    ensures shorter { IfOk result (λ p. length (seen p.1.now) < length (seen tokens.now)) }
+{
+    let (name, rest) = name(alloc, tokens, MOST_OPEN)?;
+    let (addr, rest) = addr(alloc, rest)?;
+    Ok((DestExpr { name, addr }, rest))
+}
+
+/// `[ "and" dest ]`
+#[tactic(auto, unfolding(crate::specs::Descent::next_dest_at))]
+fn next_dest<'a>(alloc: Global, tokens: &'a [Token<'a>]) -> Next<'a, DestExpr>
+    ensures gives { Gives (λ o. option_map (λ p. (dest_of p.0, seen p.1.now)) o) result (next_dest_at (seen tokens.now)) }
+    ensures shorter { IfOk result (λ o. IfSome o (λ p. length (seen p.1.now) < length (seen tokens.now))) }
+{
+    let Some(rest) = after_keyword(tokens, Keyword::And) else {
+        return Ok(None);
+    };
+    let (dest, rest) = dest(alloc, rest)?;
+    Ok(Some((dest, rest)))
+}
+
+/// `dest { "and" dest }`, at most eight: a ninth is left where it stands.
+fn dests<'a>(alloc: Global, tokens: &'a [Token<'a>]) -> Read<'a, Items<DestExpr>>
+    ensures gives { Gives (λ p. (map dest_of p.0, seen p.1.now)) result (dests_at (seen tokens.now)) }
+    ensures shorter { IfOk result (λ p. length (seen p.1.now) < length (seen tokens.now)) }
+{
+    let (first, after) = dest(alloc, tokens)?;
+    let mut dests = Items::new(alloc);
+    dests.push(first)?;
+    let mut rest = after;
+    let mut left = 7_u8;
+    'dests: while left > 0 {
+        let next = next_dest(alloc, rest)?;
+        let Some((dest, after)) = next else {
+            return Ok((dests, rest));
+        };
+        dests.push(dest)?;
+        rest = after;
+        left -= 1;
+    }
+    Ok((dests, rest))
+}
+
+/// `block "to" dest { "and" dest }`
+#[tactic(auto, unfolding(crate::specs::Descent::entry_at))]
+fn entry<'a>(alloc: Global, tokens: &'a [Token<'a>]) -> Read<'a, Mapping>
+    ensures gives { Gives (λ p. (entry_of p.0, seen p.1.now)) result (entry_at (seen tokens.now)) }
+    ensures shorter { IfOk result (λ p. length (seen p.1.now) < length (seen tokens.now)) }
+{
+    let (block, rest) = block(alloc, tokens)?;
+    let rest = keyword(rest, Keyword::To)?;
+    let (dests, rest) = dests(alloc, rest)?;
+    Ok((Mapping { block, dests }, rest))
+}
+
+/// `[ "," entry ]`
+#[tactic(auto, unfolding(crate::specs::Descent::next_entry_at))]
+fn next_entry<'a>(alloc: Global, tokens: &'a [Token<'a>]) -> Next<'a, Mapping>
+    ensures gives { Gives (λ o. option_map (λ p. (entry_of p.0, seen p.1.now)) o) result (next_entry_at (seen tokens.now)) }
+    ensures shorter { IfOk result (λ o. IfSome o (λ p. length (seen p.1.now) < length (seen tokens.now))) }
+{
+    let Some(rest) = after_sign(tokens, Sign::Comma) else {
+        return Ok(None);
+    };
+    let (entry, rest) = entry(alloc, rest)?;
+    Ok(Some((entry, rest)))
+}
+
+/// `entry { "," entry }`
+fn entries<'a>(alloc: Global, tokens: &'a [Token<'a>]) -> Read<'a, Items<Mapping>>
+    ensures gives { Gives (λ p. (map entry_of p.0, seen p.1.now)) result (entries_at (seen tokens.now)) }
+    ensures shorter { IfOk result (λ p. length (seen p.1.now) < length (seen tokens.now)) }
+{
+    let (first, after) = entry(alloc, tokens)?;
+    let mut entries = Items::new(alloc);
+    entries.push(first)?;
+    let mut rest = after;
+    'entries: while let Some((entry, after)) = next_entry(alloc, rest)? {
+        entries.push(entry)?;
+        rest = after;
+    }
+    Ok((entries, rest))
+}
+
+/// `[ "accept" "[" block { "," block } "]" ]`
+#[tactic(auto, unfolding(crate::specs::Descent::accept_at))]
+fn accept<'a>(alloc: Global, tokens: &'a [Token<'a>]) -> Read<'a, Items<Range>>
+    ensures gives { Gives (λ p. (map block_of p.0, seen p.1.now)) result (accept_at (seen tokens.now)) }
+{
+    let Some(rest) = after_keyword(tokens, Keyword::Accept) else {
+        return Ok((Items::new(alloc), tokens));
+    };
+    let rest = sign(rest, Sign::OpenBracket)?;
+    let (blocks, rest) = blocks(alloc, rest)?;
+    let rest = sign(rest, Sign::CloseBracket)?;
+    Ok((blocks, rest))
+}
+
+/// `[ "map" "[" entry { "," entry } "]" ]`
+#[tactic(auto, unfolding(crate::specs::Descent::map_at))]
+fn map<'a>(alloc: Global, tokens: &'a [Token<'a>]) -> Read<'a, Items<Mapping>>
+    ensures gives { Gives (λ p. (map entry_of p.0, seen p.1.now)) result (map_at (seen tokens.now)) }
+{
+    let Some(rest) = after_keyword(tokens, Keyword::Map) else {
+        return Ok((Items::new(alloc), tokens));
+    };
+    let rest = sign(rest, Sign::OpenBracket)?;
+    let (entries, rest) = entries(alloc, rest)?;
+    let rest = sign(rest, Sign::CloseBracket)?;
+    Ok((entries, rest))
+}
+
+/// `[ "over" name ]`
+#[tactic(auto, unfolding(crate::specs::Descent::over_at))]
+fn over<'a>(alloc: Global, tokens: &'a [Token<'a>]) -> Read<'a, Option<NameExpr>>
+    ensures gives { Gives (λ p. (maybe_name_of p.0, seen p.1.now)) result (over_at (seen tokens.now)) }
+{
+    let Some(rest) = after_keyword(tokens, Keyword::Over) else {
+        return Ok((None, tokens));
+    };
+    let (name, rest) = name(alloc, rest, MOST_OPEN)?;
+    Ok((Some(name), rest))
+}
+
+/// `[ accept ] [ map ] [ over ]`
+#[tactic(auto, unfolding(crate::specs::Descent::spec_at))]
+pub fn spec<'a>(alloc: Global, tokens: &'a [Token<'a>]) -> Read<'a, Spec>
+    ensures gives { Gives (λ p. (spec_of p.0, seen p.1.now)) result (spec_at (seen tokens.now)) }
+{
+    let (accepts, rest) = accept(alloc, tokens)?;
+    let (entries, rest) = map(alloc, rest)?;
+    let (over, rest) = over(alloc, rest)?;
+    let spec = Spec {
+        accepts,
+        entries,
+        over,
+    };
+    Ok((spec, rest))
+}

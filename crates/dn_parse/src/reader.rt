@@ -1,0 +1,215 @@
+//! The reading of a whole text: its tree, or the first fault with its line.
+
+ghost use Rattle.std.specs.Prelude.{◌≡◌, ◌∷◌, [], ◌+◌, ◌^◌, ◌<◌, List, ℕ, length, IfOk, IfErr, MatchOption};
+ghost use Rattle.dn_parse.specs.Token.{Token as SpecToken};
+ghost use Rattle.dn_parse.specs.Machine.{whole};
+ghost use Rattle.dn_parse.specs.Whole.{line_at, last_line, at_stop, judge, no_blocks_yet, text_reading};
+ghost use Rattle.dn_parse.specs.Descent.{whole_statement_at};
+ghost use Rattle.dn_parse.specs.Seen.{seen, statement_seen, blocks_seen, tree_seen};
+ghost use Rattle.dn_parse.specs.Giving.{Gives};
+ghost use Rattle.dn_parse.specs.Placing.{IsFault, IsReading, IsTextReading, StartsAt, halted_fault, misplaced_fault, trouble_fault};
+
+use crate::blocks::{Blocks, Misplaced, none, placed};
+use crate::cursor::{Halt, Read, sign};
+use crate::lexer::{TokenFault, tokens};
+use crate::statements::{Statement, read_statement};
+use crate::syntax::Syntax;
+use crate::token::{Sign, Token};
+use std::alloc::Global;
+use thiserror::Error;
+
+/// Why a text is not read: the first fault, with its line, counted from 1.
+#[derive(Clone, Copy, Debug, PartialEq, Eq, Error)]
+pub enum SyntaxFault {
+    /// The text has more than 4,194,304 bytes.
+    #[error("Length")]
+    Length,
+    /// The text is no list of tokens: the first bad place.
+    #[error("Token")]
+    Token { line: u32 },
+    /// The first token that no form of a statement allows there, or the end of the text inside one.
+    #[error("Statement")]
+    Statement { line: u32 },
+    /// A whole statement stands where it is forbidden, or a block is open at the end of the text.
+    #[error("Block")]
+    Block { line: u32 },
+    /// A 33rd open parenthesis, or a 17th open block.
+    #[error("Nesting")]
+    Nesting { line: u32 },
+    /// There was no memory for the tree.
+    #[error("OutOfMemory")]
+    OutOfMemory,
+}
+
+/// The most bytes that a text may have.
+const MAX_TEXT: usize = 4_194_304;
+
+/// Reads a text.
+pub fn read_syntax(alloc: Global, text: &[u8]) -> Result<Syntax, SyntaxFault>
+    ensures { IsTextReading result (text_reading text.now) }
+{
+    if text.len() > MAX_TEXT {
+        return Err(SyntaxFault::Length);
+    }
+    let last = last_line(text);
+    match tokens(alloc, text) {
+        Ok(tokens) => statements(alloc, tokens.as_slice(), last),
+        Err(TokenFault::Bad { line }) => Err(SyntaxFault::Token { line }),
+        Err(TokenFault::OutOfMemory) => Err(SyntaxFault::OutOfMemory),
+    }
+}
+
+/// The first byte, and those after it.
+fn first(text: &[u8]) -> Option<(u8, &[u8])>
+    ensures { MatchOption result (text.now ≡ []) (λ found. text.now ≡ found.0 ∷ found.1.now) }
+{
+    match text {
+        [] => None,
+        [byte, rest @ ..] => Some((*byte, rest)),
+    }
+}
+
+/// The line of the end of a text.
+#[tactic(auto, unfolding(crate::specs::Whole::last_line))]
+fn last_line(text: &[u8]) -> u32
+    requires { length text.now + 1 < 2 ^ 32 }
+    ensures { result ≡ last_line text.now }
+{
+    let mut line = 1;
+    let mut rest = text;
+    'text: while let Some((byte, after)) = first(rest) {
+        if byte == b'\n' {
+            line += 1;
+        }
+        rest = after;
+    }
+    line
+}
+
+/// The line of the token with so many left from it on.
+fn line_at(tokens: &[Token], last: u32, left: usize) -> u32
+    ensures { result ≡ line_at last (seen tokens.now) left }
+{
+    match tokens.get(tokens.len().saturating_sub(left)) {
+        Some(token) => token.line,
+        None => last,
+    }
+}
+
+/// The fault of a reading that stops.
+fn fault_of(halt: Halt, tokens: &[Token], last: u32) -> SyntaxFault
+    ensures { result ≡ halted_fault halt last (seen tokens.now) }
+{
+    match halt {
+        Halt::Refused(left) => SyntaxFault::Statement {
+            line: line_at(tokens, last, left),
+        },
+        Halt::Deep(left) => SyntaxFault::Nesting {
+            line: line_at(tokens, last, left),
+        },
+        Halt::OutOfMemory => SyntaxFault::OutOfMemory,
+    }
+}
+
+/// A statement and its `;`.
+#[tactic(auto, unfolding(crate::specs::Descent::whole_statement_at))]
+fn whole_statement<'a>(alloc: Global, tokens: &'a [Token<'a>]) -> Read<'a, Statement>
+    ensures gives { Gives (λ p. (statement_seen p.0, seen p.1.now)) result (whole_statement_at (seen tokens.now)) }
+    ensures shorter { IfOk result (λ p. length (seen p.1.now) < length (seen tokens.now)) }
+{
+    let (statement, rest) = read_statement(alloc, tokens)?;
+    let rest = sign(rest, Sign::Semicolon)?;
+    Ok((statement, rest))
+}
+
+/// The fault of a statement that is misplaced.
+fn misplaced_fault(misplaced: Misplaced, line: u32) -> SyntaxFault
+    ensures { result ≡ misplaced_fault misplaced line }
+{
+    match misplaced {
+        Misplaced::Forbidden => SyntaxFault::Block { line },
+        Misplaced::Crowded => SyntaxFault::Nesting { line },
+        Misplaced::OutOfMemory => SyntaxFault::OutOfMemory,
+    }
+}
+
+/// Why the statements are not all placed.
+enum Trouble {
+    Halted(Halt),
+    /// A statement is misplaced, which begins in this line.
+    Misplaced(Misplaced, u32),
+}
+
+/// The line of the next token.
+fn first_line(tokens: &[Token]) -> Option<u32>
+    ensures { MatchOption result (seen tokens.now ≡ []) (λ line. StartsAt (seen tokens.now) line) }
+{
+    match tokens {
+        [] => None,
+        [token, ..] => Some(token.line),
+    }
+}
+
+/// The blocks with the next statement, which begins in this line, and the tokens after it.
+fn next_place<'a>(
+    alloc: Global,
+    blocks: Blocks,
+    rest: &'a [Token<'a>],
+    line: u32,
+) -> Result<(Blocks, &'a [Token<'a>]), Trouble>
+    requires { StartsAt (seen rest.now) line }
+    ensures ok { IfOk result (λ p. (last : ℕ) (all : List SpecToken) → judge last all (blocks_seen blocks) (seen rest.now) ≡ judge last all (blocks_seen p.0) (seen p.1.now)) }
+    ensures shorter { IfOk result (λ p. length (seen p.1.now) < length (seen rest.now)) }
+    ensures err { IfErr result (λ e. (last : ℕ) (all : List SpecToken) → IsFault (trouble_fault e last all) (judge last all (blocks_seen blocks) (seen rest.now))) }
+{
+    match whole_statement(alloc, rest) {
+        Err(halt) => Err(Trouble::Halted(halt)),
+        Ok((statement, after)) => match placed(alloc, blocks, line, statement) {
+            Ok(blocks) => Ok((blocks, after)),
+            Err(misplaced) => Err(Trouble::Misplaced(misplaced, line)),
+        },
+    }
+}
+
+/// The blocks that the tokens come to, up to their end.
+fn all_placed<'a>(alloc: Global, tokens: &'a [Token<'a>]) -> Result<Blocks, Trouble>
+    ensures ok { IfOk result (λ b. (last : ℕ) (all : List SpecToken) → judge last all no_blocks_yet (seen tokens.now) ≡ at_stop whole last all (blocks_seen b)) }
+    ensures err { IfErr result (λ e. (last : ℕ) (all : List SpecToken) → IsFault (trouble_fault e last all) (judge last all no_blocks_yet (seen tokens.now))) }
+{
+    let Some(line) = first_line(tokens) else {
+        return Ok(none(alloc));
+    };
+    let (first, after) = next_place(alloc, none(alloc), tokens, line)?;
+    let mut blocks = first;
+    let mut rest = after;
+    'statements: while let Some(line) = first_line(rest) {
+        let (more, after) = next_place(alloc, blocks, rest, line)?;
+        blocks = more;
+        rest = after;
+    }
+    Ok(blocks)
+}
+
+/// The tree, where no block is open at the end.
+fn finished(blocks: Blocks, last: u32) -> Result<Syntax, SyntaxFault>
+    ensures { (ts : List SpecToken) → IsReading result (at_stop whole last ts (blocks_seen blocks)) }
+{
+    if !blocks.frames.is_empty() {
+        return Err(SyntaxFault::Block { line: last });
+    }
+    Ok(Syntax {
+        body: blocks.body,
+        commands: blocks.commands,
+    })
+}
+
+/// The tree of a list of tokens, or its first fault; the last line is that of the end of the text.
+fn statements<'a>(alloc: Global, tokens: &'a [Token<'a>], last: u32) -> Result<Syntax, SyntaxFault>
+    ensures { IsReading result (judge last (seen tokens.now) no_blocks_yet (seen tokens.now)) }
+{
+    match all_placed(alloc, tokens) {
+        Ok(blocks) => finished(blocks, last),
+        Err(Trouble::Halted(halt)) => Err(fault_of(halt, tokens, last)),
+        Err(Trouble::Misplaced(misplaced, line)) => Err(misplaced_fault(misplaced, line)),
+    }
+}

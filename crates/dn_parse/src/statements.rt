@@ -1,0 +1,466 @@
+//! Statements, each up to its `;`.
+
+ghost use Rattle.std.specs.Prelude.{◌≡◌, ◌∷◌, [], ◌<◌, ◌≤◌, length, map, option_map, IfOk, IfSome};
+ghost use Rattle.dn_parse.specs.Words.{spelling};
+ghost use Rattle.dn_parse.specs.Seen.{seen, expr_of, name_of, param_of, arg_of, role_of, declaration_of, order_of, statement_seen};
+ghost use Rattle.dn_parse.specs.Descent.{any_word_at, param_at, next_param_at, params_at, closed_params_at, arg_at, next_arg_at, args_at, closed_args_at, next_port_at, ports_at, node_at, measure_at, unit_at, module_at, use_at, loop_at, query_at, grant_at, route_at, order_at, keyword_statement_at, statement_at};
+ghost use Rattle.dn_parse.specs.Giving.{Gives};
+
+use crate::cursor::{Next, Read, after_keyword, after_sign, keyword, next, refusal, sign, word};
+use crate::expressions::expr;
+use crate::nodes::{name, spec};
+use crate::syntax::{Arg, DeclRole, Declaration, Expr, NameExpr, Order, Param};
+use crate::token::{Keyword, Lexeme, Sign, Token};
+use dn_base::items::Items;
+use dn_base::text::Text;
+use std::alloc::Global;
+
+/// The most parentheses that may be open at once.
+const MOST_OPEN: u8 = 32;
+
+/// The most that may be opened inside the parentheses of a `use`.
+const MOST_INSIDE: u8 = 31;
+
+/// A statement as it stands between two `;`: a module or a loop is its head.
+#[derive(Drop)]
+pub enum Statement {
+    Decl(Declaration),
+    Module {
+        title: Text,
+        params: Items<Param>,
+    },
+    Instance {
+        title: Text,
+        args: Items<Arg>,
+        prefix: NameExpr,
+    },
+    Loop {
+        variable: Text,
+        from: Expr,
+        upto: Expr,
+    },
+    End,
+    Begin,
+    Order(Order),
+}
+
+/// The text of a reserved word.
+#[tactic(auto, unfolding(crate::specs::Words::spelling))]
+fn spelling(word: Keyword) -> &'static str
+    ensures { result.now ≡ spelling word }
+{
+    match word {
+        Keyword::Agent => "agent",
+        Keyword::Vectors => "vectors",
+        Keyword::Unit => "unit",
+        Keyword::Module => "module",
+        Keyword::Use => "use",
+        Keyword::For => "for",
+        Keyword::In => "in",
+        Keyword::End => "end",
+        Keyword::Begin => "begin",
+        Keyword::Is => "is",
+        Keyword::Accept => "accept",
+        Keyword::Map => "map",
+        Keyword::To => "to",
+        Keyword::And => "and",
+        Keyword::At => "at",
+        Keyword::Over => "over",
+        Keyword::Kind => "kind",
+        Keyword::Page => "page",
+        Keyword::Slots => "slots",
+        Keyword::Reach => "reach",
+        Keyword::As => "as",
+        Keyword::Num => "num",
+        Keyword::Node => "node",
+        Keyword::Resolve => "resolve",
+        Keyword::Lookup => "lookup",
+        Keyword::View => "view",
+        Keyword::Grant => "grant",
+        Keyword::Route => "route",
+        Keyword::Revoke => "revoke",
+        Keyword::Dump => "dump",
+        Keyword::Split => "split",
+        Keyword::Absorb => "absorb",
+    }
+}
+
+/// A word of either sort.
+#[tactic(auto, unfolding(crate::specs::Descent::any_word_at))]
+fn any_word<'a>(alloc: Global, tokens: &'a [Token<'a>]) -> Read<'a, Text>
+    ensures gives { Gives (λ p. (p.0, seen p.1.now)) result (any_word_at (seen tokens.now)) }
+{
+    let Some((token, rest)) = next(tokens) else {
+        return Err(refusal(tokens));
+    };
+    match token.lexeme {
+        Lexeme::Word(word) => Ok((Text::of(alloc, word)?, rest)),
+        Lexeme::Keyword(word) => Ok((Text::of(alloc, spelling(word))?, rest)),
+        _ => Err(refusal(tokens)),
+    }
+}
+
+/// `"num" word | "node" word`
+#[tactic(auto, unfolding(crate::specs::Descent::param_at))]
+fn param<'a>(alloc: Global, tokens: &'a [Token<'a>]) -> Read<'a, Param>
+    ensures gives { Gives (λ p. (param_of p.0, seen p.1.now)) result (param_at (seen tokens.now)) }
+    ensures shorter { IfOk result (λ p. length (seen p.1.now) < length (seen tokens.now)) }
+{
+    let Some(rest) = after_keyword(tokens, Keyword::Num) else {
+        let rest = keyword(tokens, Keyword::Node)?;
+        let (name, rest) = word(alloc, rest)?;
+        return Ok((Param::Node(name), rest));
+    };
+    let (name, rest) = word(alloc, rest)?;
+    Ok((Param::Num(name), rest))
+}
+
+/// `[ "," param ]`
+#[tactic(auto, unfolding(crate::specs::Descent::next_param_at))]
+fn next_param<'a>(alloc: Global, tokens: &'a [Token<'a>]) -> Next<'a, Param>
+    ensures gives { Gives (λ o. option_map (λ p. (param_of p.0, seen p.1.now)) o) result (next_param_at (seen tokens.now)) }
+    ensures shorter { IfOk result (λ o. IfSome o (λ p. length (seen p.1.now) < length (seen tokens.now))) }
+{
+    let Some(rest) = after_sign(tokens, Sign::Comma) else {
+        return Ok(None);
+    };
+    let (param, rest) = param(alloc, rest)?;
+    Ok(Some((param, rest)))
+}
+
+/// `param { "," param }`
+fn some_params<'a>(alloc: Global, tokens: &'a [Token<'a>]) -> Read<'a, Items<Param>>
+    ensures gives { Gives (λ p. (map param_of p.0, seen p.1.now)) result (params_at (seen tokens.now)) }
+    ensures shorter { IfOk result (λ p. length (seen p.1.now) < length (seen tokens.now)) }
+{
+    let (first, after) = param(alloc, tokens)?;
+    let mut params = Items::new(alloc);
+    params.push(first)?;
+    let mut rest = after;
+    'params: while let Some((param, after)) = next_param(alloc, rest)? {
+        params.push(param)?;
+        rest = after;
+    }
+    Ok((params, rest))
+}
+
+/// `[ param { "," param } ] ")"`
+#[tactic(auto, unfolding(crate::specs::Descent::closed_params_at))]
+fn params<'a>(alloc: Global, tokens: &'a [Token<'a>]) -> Read<'a, Items<Param>>
+    ensures gives { Gives (λ p. (map param_of p.0, seen p.1.now)) result (closed_params_at (seen tokens.now)) }
+{
+    if let Some(rest) = after_sign(tokens, Sign::CloseParenthesis) {
+        return Ok((Items::new(alloc), rest));
+    }
+    let (params, rest) = some_params(alloc, tokens)?;
+    let rest = sign(rest, Sign::CloseParenthesis)?;
+    Ok((params, rest))
+}
+
+/// `expr | "node" name`
+#[tactic(auto, unfolding(crate::specs::Descent::arg_at))]
+fn arg<'a>(alloc: Global, tokens: &'a [Token<'a>]) -> Read<'a, Arg>
+    ensures gives { Gives (λ p. (arg_of p.0, seen p.1.now)) result (arg_at (seen tokens.now)) }
+    ensures shorter { IfOk result (λ p. length (seen p.1.now) < length (seen tokens.now)) }
+{
+    let Some(rest) = after_keyword(tokens, Keyword::Node) else {
+        let (value, rest) = expr(alloc, tokens, MOST_INSIDE)?;
+        return Ok((Arg::Num(value), rest));
+    };
+    let (node, rest) = name(alloc, rest, MOST_INSIDE)?;
+    Ok((Arg::Node(node), rest))
+}
+
+/// `[ "," arg ]`
+#[tactic(auto, unfolding(crate::specs::Descent::next_arg_at))]
+fn next_arg<'a>(alloc: Global, tokens: &'a [Token<'a>]) -> Next<'a, Arg>
+    ensures gives { Gives (λ o. option_map (λ p. (arg_of p.0, seen p.1.now)) o) result (next_arg_at (seen tokens.now)) }
+    ensures shorter { IfOk result (λ o. IfSome o (λ p. length (seen p.1.now) < length (seen tokens.now))) }
+{
+    let Some(rest) = after_sign(tokens, Sign::Comma) else {
+        return Ok(None);
+    };
+    let (arg, rest) = arg(alloc, rest)?;
+    Ok(Some((arg, rest)))
+}
+
+/// `arg { "," arg }`
+fn some_args<'a>(alloc: Global, tokens: &'a [Token<'a>]) -> Read<'a, Items<Arg>>
+    ensures gives { Gives (λ p. (map arg_of p.0, seen p.1.now)) result (args_at (seen tokens.now)) }
+    ensures shorter { IfOk result (λ p. length (seen p.1.now) < length (seen tokens.now)) }
+{
+    let (first, after) = arg(alloc, tokens)?;
+    let mut args = Items::new(alloc);
+    args.push(first)?;
+    let mut rest = after;
+    'list: while let Some((arg, after)) = next_arg(alloc, rest)? {
+        args.push(arg)?;
+        rest = after;
+    }
+    Ok((args, rest))
+}
+
+/// `[ arg { "," arg } ] ")"`
+#[tactic(auto, unfolding(crate::specs::Descent::closed_args_at))]
+fn args<'a>(alloc: Global, tokens: &'a [Token<'a>]) -> Read<'a, Items<Arg>>
+    ensures gives { Gives (λ p. (map arg_of p.0, seen p.1.now)) result (closed_args_at (seen tokens.now)) }
+{
+    if let Some(rest) = after_sign(tokens, Sign::CloseParenthesis) {
+        return Ok((Items::new(alloc), rest));
+    }
+    let (args, rest) = some_args(alloc, tokens)?;
+    let rest = sign(rest, Sign::CloseParenthesis)?;
+    Ok((args, rest))
+}
+
+/// `[ "," name ]`
+#[tactic(auto, unfolding(crate::specs::Descent::next_port_at))]
+fn next_port<'a>(alloc: Global, tokens: &'a [Token<'a>]) -> Next<'a, NameExpr>
+    ensures gives { Gives (λ o. option_map (λ p. (name_of p.0, seen p.1.now)) o) result (next_port_at (seen tokens.now)) }
+    ensures shorter { IfOk result (λ o. IfSome o (λ p. length (seen p.1.now) < length (seen tokens.now))) }
+{
+    let Some(rest) = after_sign(tokens, Sign::Comma) else {
+        return Ok(None);
+    };
+    let (port, rest) = name(alloc, rest, MOST_OPEN)?;
+    Ok(Some((port, rest)))
+}
+
+/// `name { "," name }`, at most eight: a ninth is left where it stands.
+fn ports<'a>(alloc: Global, tokens: &'a [Token<'a>]) -> Read<'a, Items<NameExpr>>
+    ensures gives { Gives (λ p. (map name_of p.0, seen p.1.now)) result (ports_at (seen tokens.now)) }
+    ensures shorter { IfOk result (λ p. length (seen p.1.now) < length (seen tokens.now)) }
+{
+    let (first, after) = name(alloc, tokens, MOST_OPEN)?;
+    let mut ports = Items::new(alloc);
+    ports.push(first)?;
+    let mut rest = after;
+    let mut left = 7_u8;
+    'ports: while left > 0 {
+        let next = next_port(alloc, rest)?;
+        let Some((port, after)) = next else {
+            return Ok((ports, rest));
+        };
+        ports.push(port)?;
+        rest = after;
+        left -= 1;
+    }
+    Ok((ports, rest))
+}
+
+/// `name "is" spec`
+#[tactic(auto, unfolding(crate::specs::Descent::node_at))]
+fn node<'a>(alloc: Global, tokens: &'a [Token<'a>], role: DeclRole) -> Read<'a, Declaration>
+    ensures gives { Gives (λ p. (declaration_of p.0, seen p.1.now)) result (node_at (role_of role) (seen tokens.now)) }
+{
+    let (name, rest) = name(alloc, tokens, MOST_OPEN)?;
+    let rest = keyword(rest, Keyword::Is)?;
+    let (spec, rest) = spec(alloc, rest)?;
+    Ok((Declaration::Node { role, name, spec }, rest))
+}
+
+/// A reserved word, and then an expression.
+#[tactic(auto, unfolding(crate::specs::Descent::measure_at))]
+fn measure<'a>(alloc: Global, tokens: &'a [Token<'a>], word: Keyword) -> Read<'a, Expr>
+    ensures gives { Gives (λ p. (expr_of p.0, seen p.1.now)) result (measure_at word (seen tokens.now)) }
+{
+    let rest = keyword(tokens, word)?;
+    expr(alloc, rest, MOST_OPEN)
+}
+
+/// `name "kind" any "page" expr "slots" expr "reach" expr "to" name { "," name }`
+#[tactic(auto, unfolding(crate::specs::Descent::unit_at))]
+fn unit<'a>(alloc: Global, tokens: &'a [Token<'a>]) -> Read<'a, Declaration>
+    ensures gives { Gives (λ p. (declaration_of p.0, seen p.1.now)) result (unit_at (seen tokens.now)) }
+{
+    let (name, rest) = name(alloc, tokens, MOST_OPEN)?;
+    let rest = keyword(rest, Keyword::Kind)?;
+    let (kind, rest) = any_word(alloc, rest)?;
+    let (page, rest) = measure(alloc, rest, Keyword::Page)?;
+    let (slots, rest) = measure(alloc, rest, Keyword::Slots)?;
+    let (reach, rest) = measure(alloc, rest, Keyword::Reach)?;
+    let rest = keyword(rest, Keyword::To)?;
+    let (ports, rest) = ports(alloc, rest)?;
+    let unit = Declaration::Unit {
+        name,
+        kind,
+        page,
+        slots,
+        reach,
+        ports,
+    };
+    Ok((unit, rest))
+}
+
+/// `word "(" [ param { "," param } ] ")"`
+#[tactic(auto, unfolding(crate::specs::Descent::module_at))]
+fn module<'a>(alloc: Global, tokens: &'a [Token<'a>]) -> Read<'a, Statement>
+    ensures gives { Gives (λ p. (statement_seen p.0, seen p.1.now)) result (module_at (seen tokens.now)) }
+{
+    let (title, rest) = word(alloc, tokens)?;
+    let rest = sign(rest, Sign::OpenParenthesis)?;
+    let (params, rest) = params(alloc, rest)?;
+    Ok((Statement::Module { title, params }, rest))
+}
+
+/// `word "(" [ arg { "," arg } ] ")" "as" name`
+#[tactic(auto, unfolding(crate::specs::Descent::use_at))]
+fn instance<'a>(alloc: Global, tokens: &'a [Token<'a>]) -> Read<'a, Statement>
+    ensures gives { Gives (λ p. (statement_seen p.0, seen p.1.now)) result (use_at (seen tokens.now)) }
+{
+    let (title, rest) = word(alloc, tokens)?;
+    let rest = sign(rest, Sign::OpenParenthesis)?;
+    let (args, rest) = args(alloc, rest)?;
+    let rest = keyword(rest, Keyword::As)?;
+    let (prefix, rest) = name(alloc, rest, MOST_OPEN)?;
+    let instance = Statement::Instance {
+        title,
+        args,
+        prefix,
+    };
+    Ok((instance, rest))
+}
+
+/// `word "in" expr ".." expr`
+#[tactic(auto, unfolding(crate::specs::Descent::loop_at))]
+fn loop_head<'a>(alloc: Global, tokens: &'a [Token<'a>]) -> Read<'a, Statement>
+    ensures gives { Gives (λ p. (statement_seen p.0, seen p.1.now)) result (loop_at (seen tokens.now)) }
+{
+    let (variable, rest) = word(alloc, tokens)?;
+    let (from, rest) = measure(alloc, rest, Keyword::In)?;
+    let rest = sign(rest, Sign::Dots)?;
+    let (upto, rest) = expr(alloc, rest, MOST_OPEN)?;
+    let head = Statement::Loop {
+        variable,
+        from,
+        upto,
+    };
+    Ok((head, rest))
+}
+
+/// `name expr`
+#[tactic(auto, unfolding(crate::specs::Descent::query_at))]
+fn query<'a>(alloc: Global, tokens: &'a [Token<'a>]) -> Read<'a, (NameExpr, Expr)>
+    ensures gives { Gives (λ p. ((name_of p.0.0, expr_of p.0.1), seen p.1.now)) result (query_at (seen tokens.now)) }
+{
+    let (name, rest) = name(alloc, tokens, MOST_OPEN)?;
+    let (addr, rest) = expr(alloc, rest, MOST_OPEN)?;
+    Ok(((name, addr), rest))
+}
+
+/// `word name name expr expr`
+#[tactic(auto, unfolding(crate::specs::Descent::grant_at))]
+fn grant<'a>(alloc: Global, tokens: &'a [Token<'a>]) -> Read<'a, Order>
+    ensures gives { Gives (λ p. (order_of p.0, seen p.1.now)) result (grant_at (seen tokens.now)) }
+{
+    let (id, rest) = word(alloc, tokens)?;
+    let (agent, rest) = name(alloc, rest, MOST_OPEN)?;
+    let (node, rest) = name(alloc, rest, MOST_OPEN)?;
+    let (base, rest) = expr(alloc, rest, MOST_OPEN)?;
+    let (size, rest) = expr(alloc, rest, MOST_OPEN)?;
+    Ok((Order::Grant(id, agent, node, base, size), rest))
+}
+
+/// `word name expr name`
+#[tactic(auto, unfolding(crate::specs::Descent::route_at))]
+fn route<'a>(alloc: Global, tokens: &'a [Token<'a>]) -> Read<'a, Order>
+    ensures gives { Gives (λ p. (order_of p.0, seen p.1.now)) result (route_at (seen tokens.now)) }
+{
+    let (id, rest) = word(alloc, tokens)?;
+    let (agent, rest) = name(alloc, rest, MOST_OPEN)?;
+    let (line, rest) = expr(alloc, rest, MOST_OPEN)?;
+    let (node, rest) = name(alloc, rest, MOST_OPEN)?;
+    Ok((Order::Route(id, agent, line, node), rest))
+}
+
+/// What follows the word of a command; `whole` begins with the word.
+#[tactic(auto, unfolding(crate::specs::Descent::order_at))]
+fn order<'a>(
+    alloc: Global,
+    word_of: Keyword,
+    whole: &'a [Token<'a>],
+    tokens: &'a [Token<'a>],
+) -> Read<'a, Order>
+    ensures gives { Gives (λ p. (order_of p.0, seen p.1.now)) result (order_at word_of (seen whole.now) (seen tokens.now)) }
+{
+    match word_of {
+        Keyword::Resolve => {
+            let ((name, addr), rest) = query(alloc, tokens)?;
+            Ok((Order::Resolve(name, addr), rest))
+        }
+        Keyword::Lookup => {
+            let ((name, addr), rest) = query(alloc, tokens)?;
+            Ok((Order::Lookup(name, addr), rest))
+        }
+        Keyword::View => {
+            let (name, rest) = name(alloc, tokens, MOST_OPEN)?;
+            Ok((Order::View(name), rest))
+        }
+        Keyword::Grant => grant(alloc, tokens),
+        Keyword::Route => route(alloc, tokens),
+        Keyword::Revoke => {
+            let (id, rest) = word(alloc, tokens)?;
+            Ok((Order::Revoke(id), rest))
+        }
+        Keyword::Dump => Ok((Order::Dump, tokens)),
+        Keyword::Split => Ok((Order::Split, tokens)),
+        Keyword::Absorb => {
+            let (name, rest) = name(alloc, tokens, MOST_OPEN)?;
+            Ok((Order::Absorb(name), rest))
+        }
+        _ => Err(refusal(whole)),
+    }
+}
+
+/// A statement that begins with a reserved word; `whole` begins with the word.
+#[tactic(auto, unfolding(crate::specs::Descent::keyword_statement_at))]
+fn keyword_statement<'a>(
+    alloc: Global,
+    word: Keyword,
+    whole: &'a [Token<'a>],
+    tokens: &'a [Token<'a>],
+) -> Read<'a, Statement>
+    ensures gives { Gives (λ p. (statement_seen p.0, seen p.1.now)) result (keyword_statement_at word (seen whole.now) (seen tokens.now)) }
+{
+    match word {
+        Keyword::Agent => {
+            let (node, rest) = node(alloc, tokens, DeclRole::Agent)?;
+            Ok((Statement::Decl(node), rest))
+        }
+        Keyword::Vectors => {
+            let (node, rest) = node(alloc, tokens, DeclRole::Vectors)?;
+            Ok((Statement::Decl(node), rest))
+        }
+        Keyword::Unit => {
+            let (unit, rest) = unit(alloc, tokens)?;
+            Ok((Statement::Decl(unit), rest))
+        }
+        Keyword::Module => module(alloc, tokens),
+        Keyword::Use => instance(alloc, tokens),
+        Keyword::For => loop_head(alloc, tokens),
+        Keyword::End => Ok((Statement::End, tokens)),
+        Keyword::Begin => Ok((Statement::Begin, tokens)),
+        _ => {
+            let (order, rest) = order(alloc, word, whole, tokens)?;
+            Ok((Statement::Order(order), rest))
+        }
+    }
+}
+
+/// A statement, up to its `;`.
+#[tactic(auto, unfolding(crate::specs::Descent::statement_at))]
+pub fn read_statement<'a>(alloc: Global, tokens: &'a [Token<'a>]) -> Read<'a, Statement>
+    ensures gives { Gives (λ p. (statement_seen p.0, seen p.1.now)) result (statement_at (seen tokens.now)) }
+{
+    let Some((token, rest)) = next(tokens) else {
+        return Err(refusal(tokens));
+    };
+    match token.lexeme {
+        Lexeme::Word(_) => {
+            let (node, rest) = node(alloc, tokens, DeclRole::Plain)?;
+            Ok((Statement::Decl(node), rest))
+        }
+        Lexeme::Keyword(word) => keyword_statement(alloc, word, tokens, rest),
+        _ => Err(refusal(tokens)),
+    }
+}
