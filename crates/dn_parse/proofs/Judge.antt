@@ -18,9 +18,9 @@ use Rattle.dn_parse.specs.declared.blocks.Blocks.{Blocks as CodeBlocks}
 use Rattle.dn_parse.specs.declared.blocks.Frame.{Frame as CodeFrame}
 use Rattle.dn_parse.specs.declared.token.Token.{Token as CodeToken}
 use Rattle.dn_parse.specs.Lexing.{token_of}
-use Rattle.dn_parse.specs.declared.syntax.Syntax.{Syntax}
-use Rattle.dn_parse.specs.declared.reader.SyntaxFault.{SyntaxFault}
-use Rattle.dn_parse.specs.declared.reader.SyntaxFault.TheVariants.{Length, Token as BadToken, Statement as StatementFault, Block as BlockFault, Nesting as NestingFault, OutOfMemory as SyntaxMemory}
+use Rattle.dn_parse.specs.declared.syntax.Tree.{Tree as CodeTree}
+use Rattle.dn_parse.specs.declared.reader.ParseFault.{ParseFault}
+use Rattle.dn_parse.specs.declared.reader.ParseFault.TheVariants.{Length, Token as BadToken, Statement as StatementFault, Block as BlockFault, Nesting as NestingFault, OutOfMemory as SyntaxMemory}
 use Rattle.dn_parse.specs.Giving.{Halts}
 use Rattle.dn_parse.specs.Seen.{seen, frame_of, blocks_seen, item_of, command_of}
 use Rattle.dn_parse.specs.Placing.{Steps, IsFault, IsReading, IsTextReading, StartsAt, halted_fault, misplaced_fault}
@@ -147,7 +147,7 @@ line_found last ts left i e h t f =
     line_drop last ts i h t f ∙ ap (λ (j : ℕ). line_of last (drop j (seen ts))) same
 
 -- a whole text
-of_tokens_read : (r : Result Syntax SyntaxFault) (q : Result Tree Fault) → IsReading r q → IsTextReading r (of_reading q)
+of_tokens_read : (r : Result CodeTree ParseFault) (q : Result Tree Fault) → IsReading r q → IsTextReading r (of_reading q)
 of_tokens_read (Ok s) q h = ap of_reading h
 of_tokens_read (Err Length) q h = absurd h
 of_tokens_read (Err (BadToken line)) q h = absurd h
@@ -175,7 +175,7 @@ reading_judged : (last : ℕ) (ts : List Token) → reading last ts ≡ judge la
 unfolding reading judge
 reading_judged last ts = refl
 
-pub text_reads : (text : List ℕ) (ts : List Token) (last : ℕ) (r : Result Syntax SyntaxFault) → length text ≤ 4194304 → tokens text ≡ Ok ts → last ≡ last_line text → IsReading r (judge last ts no_blocks_yet ts) → IsTextReading r (text_reading text)
+pub text_reads : (text : List ℕ) (ts : List Token) (last : ℕ) (r : Result CodeTree ParseFault) → length text ≤ 4194304 → tokens text ≡ Ok ts → last ≡ last_line text → IsReading r (judge last ts no_blocks_yet ts) → IsTextReading r (text_reading text)
 text_reads text ts last r short e l h =
     let same : text_reading text ≡ of_reading (judge last ts no_blocks_yet ts) = short_enough text short ∙ ap (of_token_list (last_line text)) e ∙ ap (λ (n : ℕ). of_reading (reading n ts)) (sym l) ∙ ap of_reading (reading_judged last ts) in
     subst (IsTextReading r) (sym same) (of_tokens_read r (judge last ts no_blocks_yet ts) h)

@@ -5,9 +5,9 @@ use Rattle.dn_parse.specs.declared.syntax.Expr.{Expr}
 use Rattle.dn_parse.specs.declared.syntax.Expr.TheOpen.{Expr-F, Number, Variable, Sum, Product, Minus}
 use Rattle.dn_parse.specs.declared.syntax.Expr.TheFolds.{fold-Expr}
 use Rattle.dn_parse.specs.declared.syntax.PartExpr.{PartExpr}
-use Rattle.dn_parse.specs.declared.syntax.Range.{Range}
+use Rattle.dn_parse.specs.declared.syntax.BlockExpr.{BlockExpr}
 use Rattle.dn_parse.specs.declared.syntax.DestExpr.{DestExpr}
-use Rattle.dn_parse.specs.declared.syntax.Mapping.{Mapping}
+use Rattle.dn_parse.specs.declared.syntax.EntryExpr.{EntryExpr}
 use Rattle.dn_parse.specs.declared.syntax.Spec.{Spec as CodeSpec}
 use Rattle.dn_parse.specs.declared.syntax.Param.{Param as CodeParam}
 use Rattle.dn_parse.specs.declared.syntax.Param.TheVariants.{Num as NumParam, Node as NodeParam}
@@ -15,8 +15,8 @@ use Rattle.dn_parse.specs.declared.syntax.Arg.{Arg as CodeArg}
 use Rattle.dn_parse.specs.declared.syntax.Arg.TheVariants.{Num as NumArg, Node as NodeArg}
 use Rattle.dn_parse.specs.declared.syntax.DeclRole.{DeclRole}
 use Rattle.dn_parse.specs.declared.syntax.DeclRole.TheVariants.{Plain, Agent, Vectors}
-use Rattle.dn_parse.specs.declared.syntax.Declaration.{Declaration as CodeDeclaration}
-use Rattle.dn_parse.specs.declared.syntax.Declaration.TheVariants.{Node, Unit as UnitCase}
+use Rattle.dn_parse.specs.declared.syntax.Decl.{Decl as CodeDeclaration}
+use Rattle.dn_parse.specs.declared.syntax.Decl.TheVariants.{Node, Unit as UnitCase}
 use Rattle.dn_parse.specs.declared.syntax.Order.{Order as CodeOrder}
 use Rattle.dn_parse.specs.declared.syntax.Order.TheVariants.{Resolve, Lookup, View, Grant, Route, Revoke, Dump, Split, Absorb}
 use Rattle.dn_parse.specs.declared.statements.Statement.{Statement as CodeStatement}
@@ -24,8 +24,8 @@ use Rattle.dn_parse.specs.declared.statements.Statement.TheVariants.{Decl as Dec
 use Rattle.dn_parse.specs.declared.syntax.Stmt.{Stmt}
 use Rattle.dn_parse.specs.declared.syntax.Stmt.TheOpen.{Stmt-F, Decl as StmtDecl, Module as StmtModule, Instance as StmtInstance, Loop as StmtLoop}
 use Rattle.dn_parse.specs.declared.syntax.Stmt.TheFolds.{fold-Stmt}
-use Rattle.dn_parse.specs.declared.syntax.Command.{Command as CodeCommand}
-use Rattle.dn_parse.specs.declared.syntax.Syntax.{Syntax}
+use Rattle.dn_parse.specs.declared.syntax.Cmd.{Cmd as CodeCommand}
+use Rattle.dn_parse.specs.declared.syntax.Tree.{Tree as CodeTree}
 use Rattle.dn_parse.specs.declared.blocks.Opener.{Opener as CodeOpener}
 use Rattle.dn_parse.specs.declared.blocks.Opener.TheVariants.{Module as OpenerModule, Loop as OpenerLoop}
 use Rattle.dn_parse.specs.declared.blocks.Frame.{Frame as CodeFrame}
@@ -59,13 +59,13 @@ part_of p = record { title = p.title; index = maybe_of p.index }
 abbrev pub name_of : List PartExpr → List Part
 name_of ps = map part_of ps
 
-abbrev pub block_of : Range → Block
+abbrev pub block_of : BlockExpr → Block
 block_of b = record { lo = expr_of b.lo; hi = maybe_of b.hi }
 
 abbrev pub dest_of : DestExpr → Dest
 dest_of d = record { name = name_of d.name; addr = maybe_of d.addr }
 
-abbrev pub entry_of : Mapping → Entry
+abbrev pub entry_of : EntryExpr → Entry
 entry_of m = record { block = block_of m.block; dests = map dest_of m.dests }
 
 abbrev pub maybe_name_of : Option (List PartExpr) → Option (List Part)
@@ -124,7 +124,7 @@ item_of = fold-Stmt Item stmt_step
 abbrev pub command_of : CodeCommand → Command
 command_of c = record { line = c.line; order = order_of c.order }
 
-abbrev pub tree_seen : Syntax → Tree
+abbrev pub tree_seen : CodeTree → Tree
 tree_seen s = record { body = items (map item_of s.body.items); commands = map command_of s.commands }
 
 -- the open blocks: the code keeps the innermost last

@@ -7,7 +7,7 @@ ghost use Rattle.dn_parse.specs.Seen.{item_of, statement_seen, frame_of, opener_
 ghost use Rattle.dn_parse.specs.Placing.{Steps};
 
 use crate::statements::Statement;
-use crate::syntax::{Body, Command, Expr, Param, Stmt};
+use crate::syntax::{Body, Cmd, Expr, Param, Stmt};
 use dn_base::items::Items;
 use dn_base::text::Text;
 use std::alloc::{AllocError, AllocFailed, Global};
@@ -43,7 +43,7 @@ pub struct Blocks {
     pub body: Body,
     /// Whether `begin` was there.
     pub begun: bool,
-    pub commands: Items<Command>,
+    pub commands: Items<Cmd>,
 }
 
 /// Why a statement is not placed.
@@ -249,7 +249,7 @@ fn after_begin(blocks: Blocks, line: u32, statement: Statement) -> Result<Blocks
         return Err(Misplaced::Forbidden);
     };
     let mut blocks = blocks;
-    blocks.commands.push(Command { line, order })?;
+    blocks.commands.push(Cmd { line, order })?;
     Ok(blocks)
 }
 

@@ -3,7 +3,7 @@
 //! [`token`] has what a token is and [`lexer::tokens`] gives the tokens of a text with their lines;
 //! [`syntax`] has the tree. [`expressions`], [`nodes`] and [`statements`] read the parts of a
 //! statement, [`blocks`] puts statements into the blocks that are open, and
-//! [`reader::read_syntax`] reads a text. [`laws`] ties all of it to the grammar.
+//! [`reader::read`] reads a text. [`laws`] ties all of it to the grammar.
 #![tactic(auto)]
 
 pub mod blocks;

@@ -7,7 +7,7 @@ ghost use Rattle.dn_parse.specs.Giving.{Gives};
 
 use crate::cursor::{Next, Read, after_keyword, after_sign, keyword, sign, word};
 use crate::expressions::expr;
-use crate::syntax::{DestExpr, Expr, Mapping, NameExpr, PartExpr, Range, Spec};
+use crate::syntax::{BlockExpr, DestExpr, EntryExpr, Expr, NameExpr, PartExpr, Spec};
 use crate::token::{Keyword, Sign, Token};
 use dn_base::items::Items;
 use std::alloc::Global;
@@ -84,18 +84,18 @@ fn upper<'a>(alloc: Global, tokens: &'a [Token<'a>]) -> Read<'a, Option<Expr>>
 
 /// `expr [ "-" expr ]`
 #[tactic(auto, unfolding(crate::specs::Descent::block_at))]
-fn block<'a>(alloc: Global, tokens: &'a [Token<'a>]) -> Read<'a, Range>
+fn block<'a>(alloc: Global, tokens: &'a [Token<'a>]) -> Read<'a, BlockExpr>
     ensures gives { Gives (λ p. (block_of p.0, seen p.1.now)) result (block_at (seen tokens.now)) }
     ensures shorter { IfOk result (λ p. length (seen p.1.now) < length (seen tokens.now)) }
 {
     let (lo, rest) = expr(alloc, tokens, MOST_OPEN)?;
     let (hi, rest) = upper(alloc, rest)?;
-    Ok((Range { lo, hi }, rest))
+    Ok((BlockExpr { lo, hi }, rest))
 }
 
 /// `[ "," block ]`
 #[tactic(auto, unfolding(crate::specs::Descent::next_block_at))]
-fn next_block<'a>(alloc: Global, tokens: &'a [Token<'a>]) -> Next<'a, Range>
+fn next_block<'a>(alloc: Global, tokens: &'a [Token<'a>]) -> Next<'a, BlockExpr>
     ensures gives { Gives (λ o. option_map (λ p. (block_of p.0, seen p.1.now)) o) result (next_block_at (seen tokens.now)) }
     ensures shorter { IfOk result (λ o. IfSome o (λ p. length (seen p.1.now) < length (seen tokens.now))) }
 {
@@ -107,7 +107,7 @@ fn next_block<'a>(alloc: Global, tokens: &'a [Token<'a>]) -> Next<'a, Range>
 }
 
 /// `block { "," block }`
-fn blocks<'a>(alloc: Global, tokens: &'a [Token<'a>]) -> Read<'a, Items<Range>>
+fn blocks<'a>(alloc: Global, tokens: &'a [Token<'a>]) -> Read<'a, Items<BlockExpr>>
     ensures gives { Gives (λ p. (map block_of p.0, seen p.1.now)) result (blocks_at (seen tokens.now)) }
     ensures shorter { IfOk result (λ p. length (seen p.1.now) < length (seen tokens.now)) }
 {
@@ -183,19 +183,19 @@ fn dests<'a>(alloc: Global, tokens: &'a [Token<'a>]) -> Read<'a, Items<DestExpr>
 
 /// `block "to" dest { "and" dest }`
 #[tactic(auto, unfolding(crate::specs::Descent::entry_at))]
-fn entry<'a>(alloc: Global, tokens: &'a [Token<'a>]) -> Read<'a, Mapping>
+fn entry<'a>(alloc: Global, tokens: &'a [Token<'a>]) -> Read<'a, EntryExpr>
     ensures gives { Gives (λ p. (entry_of p.0, seen p.1.now)) result (entry_at (seen tokens.now)) }
     ensures shorter { IfOk result (λ p. length (seen p.1.now) < length (seen tokens.now)) }
 {
     let (block, rest) = block(alloc, tokens)?;
     let rest = keyword(rest, Keyword::To)?;
     let (dests, rest) = dests(alloc, rest)?;
-    Ok((Mapping { block, dests }, rest))
+    Ok((EntryExpr { block, dests }, rest))
 }
 
 /// `[ "," entry ]`
 #[tactic(auto, unfolding(crate::specs::Descent::next_entry_at))]
-fn next_entry<'a>(alloc: Global, tokens: &'a [Token<'a>]) -> Next<'a, Mapping>
+fn next_entry<'a>(alloc: Global, tokens: &'a [Token<'a>]) -> Next<'a, EntryExpr>
     ensures gives { Gives (λ o. option_map (λ p. (entry_of p.0, seen p.1.now)) o) result (next_entry_at (seen tokens.now)) }
     ensures shorter { IfOk result (λ o. IfSome o (λ p. length (seen p.1.now) < length (seen tokens.now))) }
 {
@@ -207,7 +207,7 @@ fn next_entry<'a>(alloc: Global, tokens: &'a [Token<'a>]) -> Next<'a, Mapping>
 }
 
 /// `entry { "," entry }`
-fn entries<'a>(alloc: Global, tokens: &'a [Token<'a>]) -> Read<'a, Items<Mapping>>
+fn entries<'a>(alloc: Global, tokens: &'a [Token<'a>]) -> Read<'a, Items<EntryExpr>>
     ensures gives { Gives (λ p. (map entry_of p.0, seen p.1.now)) result (entries_at (seen tokens.now)) }
     ensures shorter { IfOk result (λ p. length (seen p.1.now) < length (seen tokens.now)) }
 {
@@ -224,7 +224,7 @@ fn entries<'a>(alloc: Global, tokens: &'a [Token<'a>]) -> Read<'a, Items<Mapping
 
 /// `[ "accept" "[" block { "," block } "]" ]`
 #[tactic(auto, unfolding(crate::specs::Descent::accept_at))]
-fn accept<'a>(alloc: Global, tokens: &'a [Token<'a>]) -> Read<'a, Items<Range>>
+fn accept<'a>(alloc: Global, tokens: &'a [Token<'a>]) -> Read<'a, Items<BlockExpr>>
     ensures gives { Gives (λ p. (map block_of p.0, seen p.1.now)) result (accept_at (seen tokens.now)) }
 {
     let Some(rest) = after_keyword(tokens, Keyword::Accept) else {
@@ -238,7 +238,7 @@ fn accept<'a>(alloc: Global, tokens: &'a [Token<'a>]) -> Read<'a, Items<Range>>
 
 /// `[ "map" "[" entry { "," entry } "]" ]`
 #[tactic(auto, unfolding(crate::specs::Descent::map_at))]
-fn map<'a>(alloc: Global, tokens: &'a [Token<'a>]) -> Read<'a, Items<Mapping>>
+fn map<'a>(alloc: Global, tokens: &'a [Token<'a>]) -> Read<'a, Items<EntryExpr>>
     ensures gives { Gives (λ p. (map entry_of p.0, seen p.1.now)) result (map_at (seen tokens.now)) }
 {
     let Some(rest) = after_keyword(tokens, Keyword::Map) else {

@@ -13,14 +13,14 @@ use crate::blocks::{Blocks, Misplaced, none, placed};
 use crate::cursor::{Halt, Read, sign};
 use crate::lexer::{TokenFault, tokens};
 use crate::statements::{Statement, read_statement};
-use crate::syntax::Syntax;
+use crate::syntax::Tree;
 use crate::token::{Sign, Token};
 use std::alloc::Global;
 use thiserror::Error;
 
 /// Why a text is not read: the first fault, with its line, counted from 1.
 #[derive(Clone, Copy, Debug, PartialEq, Eq, Error)]
-pub enum SyntaxFault {
+pub enum ParseFault {
     /// The text has more than 4,194,304 bytes.
     #[error("Length")]
     Length,
@@ -45,17 +45,17 @@ pub enum SyntaxFault {
 const MAX_TEXT: usize = 4_194_304;
 
 /// Reads a text.
-pub fn read_syntax(alloc: Global, text: &[u8]) -> Result<Syntax, SyntaxFault>
+pub fn read(alloc: Global, text: &[u8]) -> Result<Tree, ParseFault>
     ensures { IsTextReading result (text_reading text.now) }
 {
     if text.len() > MAX_TEXT {
-        return Err(SyntaxFault::Length);
+        return Err(ParseFault::Length);
     }
     let last = last_line(text);
     match tokens(alloc, text) {
         Ok(tokens) => statements(alloc, tokens.as_slice(), last),
-        Err(TokenFault::Bad { line }) => Err(SyntaxFault::Token { line }),
-        Err(TokenFault::OutOfMemory) => Err(SyntaxFault::OutOfMemory),
+        Err(TokenFault::Bad { line }) => Err(ParseFault::Token { line }),
+        Err(TokenFault::OutOfMemory) => Err(ParseFault::OutOfMemory),
     }
 }
 
@@ -97,17 +97,17 @@ fn line_at(tokens: &[Token], last: u32, left: usize) -> u32
 }
 
 /// The fault of a reading that stops.
-fn fault_of(halt: Halt, tokens: &[Token], last: u32) -> SyntaxFault
+fn fault_of(halt: Halt, tokens: &[Token], last: u32) -> ParseFault
     ensures { result ≡ halted_fault halt last (seen tokens.now) }
 {
     match halt {
-        Halt::Refused(left) => SyntaxFault::Statement {
+        Halt::Refused(left) => ParseFault::Statement {
             line: line_at(tokens, last, left),
         },
-        Halt::Deep(left) => SyntaxFault::Nesting {
+        Halt::Deep(left) => ParseFault::Nesting {
             line: line_at(tokens, last, left),
         },
-        Halt::OutOfMemory => SyntaxFault::OutOfMemory,
+        Halt::OutOfMemory => ParseFault::OutOfMemory,
     }
 }
 
@@ -123,13 +123,13 @@ fn whole_statement<'a>(alloc: Global, tokens: &'a [Token<'a>]) -> Read<'a, State
 }
 
 /// The fault of a statement that is misplaced.
-fn misplaced_fault(misplaced: Misplaced, line: u32) -> SyntaxFault
+fn misplaced_fault(misplaced: Misplaced, line: u32) -> ParseFault
     ensures { result ≡ misplaced_fault misplaced line }
 {
     match misplaced {
-        Misplaced::Forbidden => SyntaxFault::Block { line },
-        Misplaced::Crowded => SyntaxFault::Nesting { line },
-        Misplaced::OutOfMemory => SyntaxFault::OutOfMemory,
+        Misplaced::Forbidden => ParseFault::Block { line },
+        Misplaced::Crowded => ParseFault::Nesting { line },
+        Misplaced::OutOfMemory => ParseFault::OutOfMemory,
     }
 }
 
@@ -191,20 +191,20 @@ fn all_placed<'a>(alloc: Global, tokens: &'a [Token<'a>]) -> Result<Blocks, Trou
 }
 
 /// The tree, where no block is open at the end.
-fn finished(blocks: Blocks, last: u32) -> Result<Syntax, SyntaxFault>
+fn finished(blocks: Blocks, last: u32) -> Result<Tree, ParseFault>
     ensures { (ts : List SpecToken) → IsReading result (at_stop whole last ts (blocks_seen blocks)) }
 {
     if !blocks.frames.is_empty() {
-        return Err(SyntaxFault::Block { line: last });
+        return Err(ParseFault::Block { line: last });
     }
-    Ok(Syntax {
+    Ok(Tree {
         body: blocks.body,
         commands: blocks.commands,
     })
 }
 
 /// The tree of a list of tokens, or its first fault; the last line is that of the end of the text.
-fn statements<'a>(alloc: Global, tokens: &'a [Token<'a>], last: u32) -> Result<Syntax, SyntaxFault>
+fn statements<'a>(alloc: Global, tokens: &'a [Token<'a>], last: u32) -> Result<Tree, ParseFault>
     ensures { IsReading result (judge last (seen tokens.now) no_blocks_yet (seen tokens.now)) }
 {
     match all_placed(alloc, tokens) {

@@ -9,7 +9,7 @@ ghost use Rattle.dn_parse.specs.Giving.{Gives};
 use crate::cursor::{Next, Read, after_keyword, after_sign, keyword, next, refusal, sign, word};
 use crate::expressions::expr;
 use crate::nodes::{name, spec};
-use crate::syntax::{Arg, DeclRole, Declaration, Expr, NameExpr, Order, Param};
+use crate::syntax::{Arg, Decl, DeclRole, Expr, NameExpr, Order, Param};
 use crate::token::{Keyword, Lexeme, Sign, Token};
 use dn_base::items::Items;
 use dn_base::text::Text;
@@ -24,7 +24,7 @@ const MOST_INSIDE: u8 = 31;
 /// A statement as it stands between two `;`: a module or a loop is its head.
 #[derive(Drop)]
 pub enum Statement {
-    Decl(Declaration),
+    Decl(Decl),
     Module {
         title: Text,
         params: Items<Param>,
@@ -250,13 +250,13 @@ fn ports<'a>(alloc: Global, tokens: &'a [Token<'a>]) -> Read<'a, Items<NameExpr>
 
 /// `name "is" spec`
 #[tactic(auto, unfolding(crate::specs::Descent::node_at))]
-fn node<'a>(alloc: Global, tokens: &'a [Token<'a>], role: DeclRole) -> Read<'a, Declaration>
+fn node<'a>(alloc: Global, tokens: &'a [Token<'a>], role: DeclRole) -> Read<'a, Decl>
     ensures gives { Gives (λ p. (declaration_of p.0, seen p.1.now)) result (node_at (role_of role) (seen tokens.now)) }
 {
     let (name, rest) = name(alloc, tokens, MOST_OPEN)?;
     let rest = keyword(rest, Keyword::Is)?;
     let (spec, rest) = spec(alloc, rest)?;
-    Ok((Declaration::Node { role, name, spec }, rest))
+    Ok((Decl::Node { role, name, spec }, rest))
 }
 
 /// A reserved word, and then an expression.
@@ -270,7 +270,7 @@ fn measure<'a>(alloc: Global, tokens: &'a [Token<'a>], word: Keyword) -> Read<'a
 
 /// `name "kind" any "page" expr "slots" expr "reach" expr "to" name { "," name }`
 #[tactic(auto, unfolding(crate::specs::Descent::unit_at))]
-fn unit<'a>(alloc: Global, tokens: &'a [Token<'a>]) -> Read<'a, Declaration>
+fn unit<'a>(alloc: Global, tokens: &'a [Token<'a>]) -> Read<'a, Decl>
     ensures gives { Gives (λ p. (declaration_of p.0, seen p.1.now)) result (unit_at (seen tokens.now)) }
 {
     let (name, rest) = name(alloc, tokens, MOST_OPEN)?;
@@ -281,7 +281,7 @@ fn unit<'a>(alloc: Global, tokens: &'a [Token<'a>]) -> Read<'a, Declaration>
     let (reach, rest) = measure(alloc, rest, Keyword::Reach)?;
     let rest = keyword(rest, Keyword::To)?;
     let (ports, rest) = ports(alloc, rest)?;
-    let unit = Declaration::Unit {
+    let unit = Decl::Unit {
         name,
         kind,
         page,

@@ -5,9 +5,9 @@ use dn_base::text::Text;
 
 /// A text: its statements before `begin`, and its commands.
 #[derive(Drop)]
-pub struct Syntax {
+pub struct Tree {
     pub body: Body,
-    pub commands: Items<Command>,
+    pub commands: Items<Cmd>,
 }
 
 /// The statements of a text, of a module or of a loop, in their order.
@@ -18,7 +18,7 @@ pub type Body = Vec<Stmt>;
 pub enum Stmt {
     Decl {
         line: u32,
-        decl: Declaration,
+        decl: Decl,
     },
     Module {
         line: u32,
@@ -43,7 +43,7 @@ pub enum Stmt {
 
 /// The declaration of a node or of a unit.
 #[derive(Drop)]
-pub enum Declaration {
+pub enum Decl {
     Node {
         role: DeclRole,
         name: NameExpr,
@@ -70,8 +70,8 @@ pub enum DeclRole {
 /// The parts of a node, of which each may be left out.
 #[derive(Drop)]
 pub struct Spec {
-    pub accepts: Items<Range>,
-    pub entries: Items<Mapping>,
+    pub accepts: Items<BlockExpr>,
+    pub entries: Items<EntryExpr>,
     pub over: Option<NameExpr>,
 }
 
@@ -101,15 +101,15 @@ pub struct PartExpr {
 
 /// A block: one expression is its first and its last address.
 #[derive(Drop)]
-pub struct Range {
+pub struct BlockExpr {
     pub lo: Expr,
     pub hi: Option<Expr>,
 }
 
 /// A map entry, with one to eight destinations.
 #[derive(Drop)]
-pub struct Mapping {
-    pub block: Range,
+pub struct EntryExpr {
+    pub block: BlockExpr,
     pub dests: Items<DestExpr>,
 }
 
@@ -132,7 +132,7 @@ pub enum Expr {
 
 /// A command, with the line of its first token, counted from 1.
 #[derive(Drop)]
-pub struct Command {
+pub struct Cmd {
     pub line: u32,
     pub order: Order,
 }

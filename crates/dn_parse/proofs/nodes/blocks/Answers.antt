@@ -1,7 +1,7 @@
 use Rattle.std.proofs.Common.{◌≡◌, ◌∙◌, ap, sym, subst, ◌<◌, [], ◌∷◌, ◌++◌, List, length, map, Ok, option_map, IfSome, arith}
 use Rattle.std.proofs.lemmas.List.{map-append}
 use Rattle.std.proofs.lemmas.Result.{err_from_is_err_and}
-use Rattle.dn_parse.specs.declared.syntax.Range.{Range}
+use Rattle.dn_parse.specs.declared.syntax.BlockExpr.{BlockExpr}
 use Rattle.dn_parse.specs.Seen.{seen, block_of}
 use Rattle.dn_parse.specs.Descent.{next_block_at, blocks_at}
 use Rattle.dn_parse.proofs.Series.{Found, halted, found_first, found_more}
@@ -15,7 +15,7 @@ returns-in_err-first-clause-gives c =
 
 pub list-init : goal.list-init
 list-init c =
-    let one : block_of c.in_ok-first.first ∷ [] ≡ map block_of c.push.new.self = ap (map block_of) (sym (c.in_ok-push.ensures.ok ∙ ap (λ (l : List Range). l ++ c.in_ok-first.first ∷ []) c.new-blocks.ensures)) in
+    let one : block_of c.in_ok-first.first ∷ [] ≡ map block_of c.push.new.self = ap (map block_of) (sym (c.in_ok-push.ensures.ok ∙ ap (λ (l : List BlockExpr). l ++ c.in_ok-first.first ∷ []) c.new-blocks.ensures)) in
     record {
       shorter = c.in_ok-first.ensures.shorter;
       before = subst (λ l. Found next_block_at (blocks_at (seen c.args.tokens.now)) l (seen c.in_ok-first.after.now)) one (found_first _ _ _ (blocks_first _ _ _ c.in_ok-first.ensures.gives));

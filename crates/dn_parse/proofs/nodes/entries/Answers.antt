@@ -1,7 +1,7 @@
 use Rattle.std.proofs.Common.{◌≡◌, ◌∙◌, ap, sym, subst, ◌<◌, [], ◌∷◌, ◌++◌, List, length, map, Ok, option_map, IfSome, arith}
 use Rattle.std.proofs.lemmas.List.{map-append}
 use Rattle.std.proofs.lemmas.Result.{err_from_is_err_and}
-use Rattle.dn_parse.specs.declared.syntax.Mapping.{Mapping}
+use Rattle.dn_parse.specs.declared.syntax.EntryExpr.{EntryExpr}
 use Rattle.dn_parse.specs.Seen.{seen, entry_of}
 use Rattle.dn_parse.specs.Descent.{next_entry_at, entries_at}
 use Rattle.dn_parse.proofs.Series.{Found, halted, found_first, found_more}
@@ -15,7 +15,7 @@ returns-in_err-first-clause-gives c =
 
 pub entries-init : goal.entries-init
 entries-init c =
-    let one : entry_of c.in_ok-first.first ∷ [] ≡ map entry_of c.push.new.self = ap (map entry_of) (sym (c.in_ok-push.ensures.ok ∙ ap (λ (l : List Mapping). l ++ c.in_ok-first.first ∷ []) c.new-entries.ensures)) in
+    let one : entry_of c.in_ok-first.first ∷ [] ≡ map entry_of c.push.new.self = ap (map entry_of) (sym (c.in_ok-push.ensures.ok ∙ ap (λ (l : List EntryExpr). l ++ c.in_ok-first.first ∷ []) c.new-entries.ensures)) in
     record {
       shorter = c.in_ok-first.ensures.shorter;
       before = subst (λ l. Found next_entry_at (entries_at (seen c.args.tokens.now)) l (seen c.in_ok-first.after.now)) one (found_first _ _ _ (entries_first _ _ _ c.in_ok-first.ensures.gives));

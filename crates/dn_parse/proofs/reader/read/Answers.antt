@@ -7,7 +7,7 @@ use Rattle.dn_parse.specs.Whole.{judge, no_blocks_yet, bad_token}
 use Rattle.dn_parse.specs.Seen.{seen}
 use Rattle.dn_parse.specs.Placing.{IsReading}
 use Rattle.dn_parse.proofs.Judge.{text_too_long, text_reads, text_bad}
-use Rattle.dn_parse.proofs.reader.read_syntax.Goals as goal
+use Rattle.dn_parse.proofs.reader.read.Goals as goal
 
 pub returns-then-text-gt-MAX_TEXT : goal.returns-then-text-gt-MAX_TEXT
 returns-then-text-gt-MAX_TEXT c = text_too_long c.args.text.now (omega arith)
