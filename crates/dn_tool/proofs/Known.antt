@@ -8,10 +8,10 @@ use Rattle.std.proofs.lemmas.List.Quantifiers.{position-Some}
 use Rattle.std.proofs.lemmas.List.{map_more, map-append, take-append-drop}
 use Rattle.std.specs.List.{list_any, prefix_len}
 use Rattle.std.specs.Str.{bytes_eq}
-use Rattle.dn_parse.specs.declared.tree.Decl.{Decl}
+use Rattle.dn_tool.specs.declared.draft.Draft.{Draft}
 use Rattle.dn_net.specs.declared.node.NodeDecl.{NodeDecl}
 use Rattle.dn_tool.proofs.Places.{list_any-map}
-use Rattle.dn_tool.specs.Build.{has_duplicate, is_known, node_of}
+use Rattle.dn_tool.specs.Build.{has_duplicate, is_known, node_in}
 
 -- the first place at which a test passes is within the list exactly where it passes at some place
 pub prefix_len-any : {X : Type 0} (p : X → Bool) (xs : List X) → nat_lt (prefix_len (λ x. not (p x)) xs) (length xs) ≡ list_any p xs
@@ -56,36 +56,36 @@ duplicate-push (x ∷ xs) y =
     ∙ shuffle (bytes_eq y x) b (is_known xs y) (has_duplicate xs)
 
 -- the names before a declaration and its own
-duplicate_more : (nodes : List Decl) (i : ℕ) (node : Decl) → i < length nodes → node ≡ get_or nodes i node → has_duplicate (map (λ d. d.name) (take (i + 1) nodes)) ≡ (is_known (map (λ d. d.name) (take i nodes)) node.name || has_duplicate (map (λ d. d.name) (take i nodes)))
+duplicate_more : (nodes : List Draft) (i : ℕ) (node : Draft) → i < length nodes → node ≡ get_or nodes i node → has_duplicate (map (λ d. d.name) (take (i + 1) nodes)) ≡ (is_known (map (λ d. d.name) (take i nodes)) node.name || has_duplicate (map (λ d. d.name) (take i nodes)))
 duplicate_more nodes i node h e =
-    ap has_duplicate (map_more (λ (d : Decl). d.name) nodes i node h)
+    ap has_duplicate (map_more (λ (d : Draft). d.name) nodes i node h)
     ∙ duplicate-push (map (λ d. d.name) (take i nodes)) (get_or nodes i node).name
-    ∙ ap (λ (d : Decl). is_known (map (λ d. d.name) (take i nodes)) d.name || has_duplicate (map (λ d. d.name) (take i nodes))) (sym e)
+    ∙ ap (λ (d : Draft). is_known (map (λ d. d.name) (take i nodes)) d.name || has_duplicate (map (λ d. d.name) (take i nodes))) (sym e)
 
-duplicate_front : (nodes : List Decl) (i : ℕ) → has_duplicate (map (λ d. d.name) (take i nodes)) ≡ true → has_duplicate (map (λ d. d.name) nodes) ≡ true
+duplicate_front : (nodes : List Draft) (i : ℕ) → has_duplicate (map (λ d. d.name) (take i nodes)) ≡ true → has_duplicate (map (λ d. d.name) nodes) ≡ true
 duplicate_front nodes i h =
-    let parts : map (λ (d : Decl). d.name) nodes ≡ map (λ d. d.name) (take i nodes) ++ map (λ d. d.name) (drop i nodes) = ap (map (λ (d : Decl). d.name)) (sym (take-append-drop i nodes)) ∙ map-append (λ (d : Decl). d.name) (take i nodes) (drop i nodes) in
+    let parts : map (λ (d : Draft). d.name) nodes ≡ map (λ d. d.name) (take i nodes) ++ map (λ d. d.name) (drop i nodes) = ap (map (λ (d : Draft). d.name)) (sym (take-append-drop i nodes)) ∙ map-append (λ (d : Draft). d.name) (take i nodes) (drop i nodes) in
     ap has_duplicate parts ∙ duplicate-append (map (λ d. d.name) (take i nodes)) (map (λ d. d.name) (drop i nodes)) h
 
 -- a name that was there before comes twice
-pub met_before : (nodes : List Decl) (i : ℕ) (node : Decl) → i < length nodes → node ≡ get_or nodes i node → is_known (map (λ d. d.name) (take i nodes)) node.name ≡ true → has_duplicate (map (λ d. d.name) nodes) ≡ true
+pub met_before : (nodes : List Draft) (i : ℕ) (node : Draft) → i < length nodes → node ≡ get_or nodes i node → is_known (map (λ d. d.name) (take i nodes)) node.name ≡ true → has_duplicate (map (λ d. d.name) nodes) ≡ true
 met_before nodes i node h e k =
     duplicate_front nodes (i + 1) (duplicate_more nodes i node h e ∙ ap (λ b. b || has_duplicate (map (λ d. d.name) (take i nodes))) k)
 
 -- a name that was not there before comes once
-pub not_met : (nodes : List Decl) (i : ℕ) (node : Decl) → i < length nodes → node ≡ get_or nodes i node → is_known (map (λ d. d.name) (take i nodes)) node.name ≡ false → has_duplicate (map (λ d. d.name) (take i nodes)) ≡ false → has_duplicate (map (λ d. d.name) (take (i + 1) nodes)) ≡ false
+pub not_met : (nodes : List Draft) (i : ℕ) (node : Draft) → i < length nodes → node ≡ get_or nodes i node → is_known (map (λ d. d.name) (take i nodes)) node.name ≡ false → has_duplicate (map (λ d. d.name) (take i nodes)) ≡ false → has_duplicate (map (λ d. d.name) (take (i + 1) nodes)) ≡ false
 not_met nodes i node h e k l = duplicate_more nodes i node h e ∙ rw (k, l) refl
 
-not_known : (nodes : List Decl) (i : ℕ) (node : Decl) (b : Bool) → i < length nodes → node ≡ get_or nodes i node → has_duplicate (map (λ d. d.name) nodes) ≡ false → is_known (map (λ d. d.name) (take i nodes)) node.name ≡ b → is_known (map (λ d. d.name) (take i nodes)) node.name ≡ false
+not_known : (nodes : List Draft) (i : ℕ) (node : Draft) (b : Bool) → i < length nodes → node ≡ get_or nodes i node → has_duplicate (map (λ d. d.name) nodes) ≡ false → is_known (map (λ d. d.name) (take i nodes)) node.name ≡ b → is_known (map (λ d. d.name) (take i nodes)) node.name ≡ false
 not_known nodes i node false h e d k = k
 not_known nodes i node true h e d k = absurd (false≢true (sym d ∙ met_before nodes i node h e k))
 
 -- where no name comes twice, that of a declaration is new to the net of those before it
-pub new_name : (known : List (List ℕ)) (nodes : List Decl) (i : ℕ) (node : Decl) (decl : NodeDecl) (net : List NodeDecl) → i < length nodes → node ≡ get_or nodes i node → has_duplicate (map (λ d. d.name) nodes) ≡ false → decl ≡ node_of known node → net ≡ map (node_of known) (take i nodes) → list_any (λ d. bytes_eq decl.text d.text) net ≡ false
+pub new_name : (known : List (List ℕ)) (nodes : List Draft) (i : ℕ) (node : Draft) (decl : NodeDecl) (net : List NodeDecl) → i < length nodes → node ≡ get_or nodes i node → has_duplicate (map (λ d. d.name) nodes) ≡ false → decl ≡ node_in known node → net ≡ map (node_in known) (take i nodes) → list_any (λ d. bytes_eq decl.text d.text) net ≡ false
 new_name known nodes i node decl net h e d is net_is =
     let before = take i nodes in
-    let at : list_any (λ d. bytes_eq node.name d.text) (map (node_of known) before) ≡ is_known (map (λ d. d.name) before) node.name =
-    list_any-map (node_of known) (λ d. bytes_eq node.name d.text) before ∙ sym (list_any-map (λ (d : Decl). d.name) (bytes_eq node.name) before) in
+    let at : list_any (λ d. bytes_eq node.name d.text) (map (node_in known) before) ≡ is_known (map (λ d. d.name) before) node.name =
+    list_any-map (node_in known) (λ d. bytes_eq node.name d.text) before ∙ sym (list_any-map (λ (d : Draft). d.name) (bytes_eq node.name) before) in
     ap (λ (n : NodeDecl). list_any (λ d. bytes_eq n.text d.text) net) is
     ∙ ap (list_any (λ (d : NodeDecl). bytes_eq node.name d.text)) net_is
     ∙ at ∙ not_known nodes i node _ h e d refl

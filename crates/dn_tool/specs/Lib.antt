@@ -1,4 +1,8 @@
+pub mod Evaluate
+pub mod Given
+pub mod Draft
 pub mod Build
+pub mod Commands
 pub mod Refused
 pub mod Compiled
 pub mod Reply

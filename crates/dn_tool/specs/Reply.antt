@@ -1,37 +1,16 @@
 -- The reply to each command.
 use Rattle.std.specs.Prelude.{◌≡◌, ℕ, ◌-◌, ◌<◌, Bool, true, false, if◌then◌else◌, nat_lt, List, [], ◌∷◌, ◌++◌, length, codes, slice_get, Option, Some, None}
 use Rattle.std.specs.List.{list_any}
-use Rattle.std.specs.Fmt.{digits}
 use Rattle.dn_net.specs.declared.node.Name.{Name}
 use Rattle.dn_net.specs.declared.node.NodeDecl.{NodeDecl}
 use Rattle.dn_net.specs.Decode.{steps, step_limit}
 use Rattle.dn_net.specs.Names.{reached, after_steps, resolved}
+use Rattle.dn_print.specs.Names.{address_text, names_text}
 use Rattle.dn_tool.specs.declared.command.Command.{Command}
-use Rattle.dn_tool.specs.declared.command.Command.TheVariants.{Resolve}
+use Rattle.dn_tool.specs.declared.command.Command.TheVariants.{Resolve, Lookup, View, Grant, Route, Revoke, Dump, Split, Absorb}
 use Rattle.dn_tool.specs.declared.command.Target.{Target}
 use Rattle.dn_tool.specs.declared.resolve.Found.{Found}
 use Rattle.dn_tool.specs.declared.resolve.Found.TheVariants.{Accepted, Nothing, Several, Deep}
-
--- an address in lower-case hexadecimal
-abbrev pub address_text : ℕ → List ℕ
-address_text a = codes "0x" ++ digits 16 false a
-
-abbrev pub node_text : Option NodeDecl → List ℕ
-node_text None = []
-node_text (Some n) = n.text
-
--- a name: the node's full name, `@` and the address
-abbrev pub name_text : List NodeDecl → Name → List ℕ
-name_text net x = node_text (slice_get net x.node) ++ (codes "@" ++ address_text x.addr)
-
-abbrev pub more_names_text : List NodeDecl → List Name → List ℕ
-more_names_text net [] = []
-more_names_text net (x ∷ xs) = codes ", " ++ (name_text net x ++ more_names_text net xs)
-
--- the names joined by `, `, or `nothing`
-abbrev pub names_text : List NodeDecl → List Name → List ℕ
-names_text net [] = codes "nothing"
-names_text net (x ∷ xs) = name_text net x ++ more_names_text net xs
 
 -- before the step past so many, a name with two or more steps is met
 abbrev pub meets_several : List NodeDecl → ℕ → Name → Bool
@@ -69,9 +48,21 @@ target_text net (Some n) a = found_text net (record { node = n; addr = a })
 abbrev pub resolve_text : List NodeDecl → Target → ℕ → List ℕ
 resolve_text net target a = target.text ++ (codes "@" ++ (address_text a ++ (codes ": " ++ (target_text net target.node a ++ codes "\n"))))
 
+-- the reply to a command of this word that is not answered so far
+abbrev pub later_text : List ℕ → List ℕ
+later_text word = word ++ codes " refused: later\n"
+
 -- the reply to a command, a line
 abbrev pub reply : List NodeDecl → Command → List ℕ
 reply net (Resolve target a) = resolve_text net target a
+reply net (Lookup target a) = later_text (codes "lookup")
+reply net (View target) = later_text (codes "view")
+reply net (Grant id from target base size) = later_text (codes "grant")
+reply net (Route id from line target) = later_text (codes "route")
+reply net (Revoke id) = later_text (codes "revoke")
+reply net Dump = later_text (codes "dump")
+reply net Split = later_text (codes "split")
+reply net (Absorb target) = later_text (codes "absorb")
 
 -- the replies to commands in order
 abbrev pub replies : List NodeDecl → List Command → List ℕ

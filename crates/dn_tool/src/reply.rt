@@ -5,14 +5,16 @@ ghost use Rattle.std.specs.Option.{IfSome};
 ghost use Rattle.std.specs.String.{string_bytes};
 ghost use Rattle.dn_net.specs.Decode.{is_closed, over_within};
 ghost use Rattle.dn_net.specs.Rules.{node_fault};
-ghost use Rattle.dn_tool.specs.Build.{names_within};
-ghost use Rattle.dn_tool.specs.Reply.{reply, target_text, name_text, resolve_text};
+ghost use Rattle.dn_tool.specs.Commands.{names_within};
+ghost use Rattle.dn_print.specs.Names.{name_text};
+ghost use Rattle.dn_tool.specs.Reply.{reply, target_text, resolve_text, later_text};
 
 use crate::command::{Command, Target};
 use crate::resolve;
 use crate::resolve::Found;
 use dn_net::net::Net;
 use dn_net::node::Name;
+use dn_print::names;
 use std::alloc::{AllocError, Global};
 
 /// The reply to a command, a line.
@@ -24,7 +26,22 @@ pub fn reply(alloc: Global, net: &Net, command: &Command) -> Result<String, Allo
 {
     match command {
         Command::Resolve(target, addr) => resolve_reply(alloc, net, target, *addr),
+        Command::Lookup(..) => later(alloc, "lookup"),
+        Command::View(..) => later(alloc, "view"),
+        Command::Grant(..) => later(alloc, "grant"),
+        Command::Route(..) => later(alloc, "route"),
+        Command::Revoke(..) => later(alloc, "revoke"),
+        Command::Dump => later(alloc, "dump"),
+        Command::Split => later(alloc, "split"),
+        Command::Absorb(..) => later(alloc, "absorb"),
     }
+}
+
+/// The reply to a command of this word that is not answered so far.
+fn later(alloc: Global, word: &str) -> Result<String, AllocError>
+    ensures { IfOk result (λ s. string_bytes s ≡ later_text word.now) }
+{
+    format!(in alloc; "{word} refused: later\n")
 }
 
 /// The reply to `resolve`.
@@ -63,7 +80,7 @@ fn name_text(alloc: Global, net: &Net, name: Name) -> Result<String, AllocError>
     requires { name.node < length net.now }
     ensures { IfOk result (λ s. string_bytes s ≡ name_text net.now name) }
 {
-    let text = net.text(name.node);
-    let addr = name.addr;
-    format!(in alloc; "{text}@0x{addr:x}")
+    let mut text = String::new(alloc);
+    names::push_name(&mut text, net, name)?;
+    Ok(text)
 }

@@ -25,22 +25,22 @@ const SHORT: &str = "a is over a; begin; resolve a 1; resolve b 2;";
 
 /// Which calls of the source and of the sink fail.
 #[derive(Clone, Copy)]
-struct Failing<'a> {
+pub(crate) struct Failing<'a> {
     reads: &'a [u32],
     writes: &'a [u32],
 }
 
 /// No call fails.
-const NONE: Failing<'static> = Failing {
+pub(crate) const NONE: Failing<'static> = Failing {
     reads: &[],
     writes: &[],
 };
 
 /// Runs the words over the text, and answers the status and the sink.
-fn answer(
+pub(crate) fn answer(
     alloc: Global,
     words: &[&str],
-    text: &str,
+    text: &[u8],
     most: usize,
     failing: Failing<'_>,
 ) -> Result<(u8, MemSink), AllocError>
@@ -50,7 +50,7 @@ fn answer(
     for word in words {
         given.push(word)?;
     }
-    let bytes = text.as_bytes().to_vec(alloc)?;
+    let bytes = text.to_vec(alloc)?;
     let mut source = MemSource::new(bytes, most, failing.reads.to_vec(alloc)?);
     let mut sink = MemSink::new(alloc, failing.writes.to_vec(alloc)?);
     let status = run::run(alloc, &given, &mut source, &mut sink);
@@ -83,7 +83,7 @@ fn resolves_what_a_core_asks_of_a_bus(rt: HostRuntime) -> Result<(), Fail> {
     for (commands, output) in rows {
         let text = format!(in alloc; "{BOARD}{commands}")?;
         for most in PIECES {
-            let (status, sink) = answer(alloc, &["run"], text.as_str(), most, NONE)?;
+            let (status, sink) = answer(alloc, &["run"], text.as_bytes(), most, NONE)?;
             assert_eq!(rt; status, DONE, "{commands} by {most}");
             assert_eq!(rt; sink.written(), output.as_bytes(), "{commands} by {most}");
         }
@@ -102,14 +102,14 @@ fn answers_short_texts(rt: HostRuntime) -> Result<(), Fail> {
             "a@0xc0: nothing\na@0xbf: deep\n",
         ),
         (SHORT, DONE, "a@0x1: deep\nb@0x2: no such node\n"),
-        ("for i in 0..1;", REFUSED, "refused: Form\n"),
+        ("for i in 0..1; end;", REFUSED, "refused: Form\n"),
         ("a is over b;", REFUSED, "refused: Form\n"),
         ("a is; a is;", REFUSED, "refused: Form\n"),
-        ("a is accept [2-1];", REFUSED, "refused: Form\n"),
+        ("a is accept [2-1];", REFUSED, "refused: Range a\n"),
     ];
     for (text, wanted, output) in rows {
         for most in PIECES {
-            let (status, sink) = answer(alloc, &["run"], text, most, NONE)?;
+            let (status, sink) = answer(alloc, &["run"], text.as_bytes(), most, NONE)?;
             assert_eq!(rt; status, wanted, "{text} by {most}");
             assert_eq!(rt; sink.written(), output.as_bytes(), "{text} by {most}");
         }
@@ -119,15 +119,16 @@ fn answers_short_texts(rt: HostRuntime) -> Result<(), Fail> {
 
 #[test]
 fn tells_the_usage_to_other_words(rt: HostRuntime) -> Result<(), Fail> {
-    let rows: [&[&str]; 9] = [
+    let rows: [&[&str]; 10] = [
         &[],
         &["frob"],
         &["run", "extra"],
         &["--help"],
         &["ru"],
         &["runs"],
-        &["check"],
+        &["chec"],
         &["check", "extra"],
+        &["check", "run"],
         &["demo", "0"],
     ];
     let unread = Failing {
@@ -135,7 +136,7 @@ fn tells_the_usage_to_other_words(rt: HostRuntime) -> Result<(), Fail> {
         writes: &[],
     };
     for words in rows {
-        let (status, sink) = answer(rt.alloc(), words, SHORT, 16, unread)?;
+        let (status, sink) = answer(rt.alloc(), words, SHORT.as_bytes(), 16, unread)?;
         assert_eq!(rt; status, WRONG_WORDS, "{words:?}");
         let usage = b"usage: netconf COMMAND [N]\n";
         assert_eq!(rt; sink.written(), usage.as_slice(), "{words:?}");
@@ -152,7 +153,7 @@ fn writes_nothing_where_a_read_fails(rt: HostRuntime) -> Result<(), Fail> {
             reads: &[call],
             writes: &[],
         };
-        let (status, sink) = answer(rt.alloc(), &["run"], SHORT, 16, failing)?;
+        let (status, sink) = answer(rt.alloc(), &["run"], SHORT.as_bytes(), 16, failing)?;
         assert_eq!(rt; status, wanted, "read {call}");
         assert_eq!(rt; sink.written().is_empty(), call < 4, "read {call}");
     }
@@ -180,7 +181,7 @@ fn stops_where_a_write_fails(rt: HostRuntime) -> Result<(), Fail> {
             reads: &[],
             writes: &[call],
         };
-        let (status, sink) = answer(alloc, words, text, 4096, failing)?;
+        let (status, sink) = answer(alloc, words, text.as_bytes(), 4096, failing)?;
         assert_eq!(rt; status, wanted, "{text} at write {call}");
         assert_eq!(rt; sink.written(), output.as_bytes(), "{text} at write {call}");
     }

@@ -1,10 +1,19 @@
 //! The words after the program's name.
 
 ghost use Rattle.std.specs.Prelude.{◌≡◌, [], ◌∷◌, ◌++◌, OnOk, OnErr};
-ghost use Rattle.dn_tool.specs.Answer.{is_run};
+ghost use Rattle.dn_tool.specs.Answer.{task_of, task_of_word};
 
 use std::alloc::{AllocError, Global};
 use std::marker::Model;
+
+/// What the words ask for.
+#[derive(Clone, Copy, Debug, PartialEq, Eq)]
+pub enum Task {
+    /// To answer the commands of the text: `run`.
+    Run,
+    /// To print the net of the text: `check`.
+    Check,
+}
 
 /// The words after the program's name, which contracts see as a list of texts.
 #[derive(Drop)]
@@ -42,13 +51,26 @@ impl Words {
         Ok(())
     }
 
-    /// Whether the words are `run` alone.
-    pub fn is_run(&self) -> bool
-        ensures { result ≡ is_run self.now }
+    /// What the words ask for. `None` exactly where they are of none of the forms.
+    pub fn task(&self) -> Option<Task>
+        ensures { result ≡ task_of self.now }
     {
         match self.list.as_slice() {
-            [word] => word.as_str() == "run",
-            _ => false,
+            [word] => task_of_word(word.as_str()),
+            _ => None,
         }
+    }
+}
+
+/// What a single word asks for.
+fn task_of_word(word: &str) -> Option<Task>
+    ensures { result ≡ task_of_word word.now }
+{
+    if word == "run" {
+        Some(Task::Run)
+    } else if word == "check" {
+        Some(Task::Check)
+    } else {
+        None
     }
 }
