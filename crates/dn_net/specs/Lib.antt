@@ -5,3 +5,5 @@ pub mod Order
 pub mod Parts
 pub mod Rules
 pub mod Spans
+pub mod WalkRules
+pub mod Walks

@@ -1,0 +1,42 @@
+-- Normal rows as a list that is made address by address, from the last address to the first.
+use Rattle.std.specs.Prelude.{◌≡◌, ℕ, zero, suc, ◌+◌, ◌-◌, ◌≤◌, Bool, true, false, if◌then◌else◌, ◌&&◌, ◌==◌, List, [], ◌∷◌, map}
+use Rattle.dn_interval.specs.declared.row.End.{End}
+use Rattle.dn_interval.specs.declared.row.Row.{Row}
+use Rattle.dn_interval.specs.declared.span.TheConstants.{TOP}
+use Rattle.dn_interval.specs.Rows.{Member, moved, Ascending, AreNormal}
+
+-- a row as it is read: its first and its last address, and the names of the first
+pub record Seen : Type 0 where
+  pub lo : ℕ
+  pub hi : ℕ
+  pub ends : List End
+
+abbrev pub seen_by : Row → Seen
+seen_by r = record { lo = r.span.lo; hi = r.span.hi; ends = r.ends }
+
+abbrev pub same_end : End → End → Bool
+same_end x y = (x.node == y.node) && (x.base == y.base)
+
+abbrev pub same_ends : List End → List End → Bool
+same_ends [] [] = true
+same_ends (x ∷ xs) (y ∷ ys) = if same_end x y then same_ends xs ys else false
+same_ends _ _ = false
+
+-- the names of an address in front of the rows above it: the next row is gone on with where it begins at the next address, with the names moved on by one
+abbrev pub in_front : ℕ → List End → List Seen → List Seen
+in_front a [] rows = rows
+in_front a (e ∷ es) [] = record { lo = a; hi = a; ends = e ∷ es } ∷ []
+in_front a (e ∷ es) (r ∷ rows) = if (r.lo == suc a) && same_ends r.ends (map (moved 1) (e ∷ es)) then record { lo = a; hi = r.hi; ends = e ∷ es } ∷ rows else record { lo = a; hi = a; ends = e ∷ es } ∷ (r ∷ rows)
+
+-- the rows of so many addresses from one on
+unfoldable pub rows_from : (ℕ → List End) → ℕ → ℕ → List Seen
+rows_from names zero a = []
+rows_from names (suc k) a = in_front a (names a) (rows_from names k (suc a))
+
+-- the normal rows of what is given to each address; no proof unfolds it
+unfoldable pub listed_rows : (ℕ → List End) → List Seen
+listed_rows names = rows_from names (TOP + 1) 0
+
+-- Rows that are normal for a function are that list.
+abbrev pub NormalRowsAreListed : Type 0
+NormalRowsAreListed = (names : ℕ → List End) → ((a : ℕ) → Ascending (names a)) → (rows : List Row) → AreNormal (λ a y. Member y (names a)) rows → map seen_by rows ≡ listed_rows names

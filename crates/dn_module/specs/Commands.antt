@@ -1,0 +1,68 @@
+-- The commands of a tree, with the values of their expressions and the numbers of the nodes that they name.
+use Rattle.std.specs.Prelude.{ℕ, Bool, true, ◌&&◌, nat_lt, List, position, Option, Some, None, Result, Ok, Err}
+use Rattle.std.specs.Str.{bytes_eq}
+use Rattle.dn_parse.specs.Tree.{Part, Order, resolve, lookup, view, grant, route, revoke, dump, split, absorb, Command as CommandOf}
+use Rattle.dn_module.specs.declared.command.Command.{Command}
+use Rattle.dn_module.specs.declared.command.Command.TheVariants.{Resolve, Lookup, View, Grant, Route, Revoke, Dump, Split, Absorb}
+use Rattle.dn_module.specs.declared.command.Target.{Target}
+use Rattle.dn_module.specs.declared.fault.ExpandFault.{ExpandFault}
+use Rattle.dn_module.specs.Values.{Flaw, ◌>>=◌, each, value, full_name}
+use Rattle.dn_module.specs.Drafts.{at_line, number_in}
+
+-- a node as a command names it, with its number where it is there
+abbrev pub target_of : List (List ℕ) → List Part → Result Target Flaw
+target_of known name = do
+  text ← full_name name
+  Ok (record { text = text; node = number_in known text })
+
+-- a command, its expressions taken from left to right
+abbrev pub command_of : List (List ℕ) → Order → Result Command Flaw
+command_of known (resolve name e) = do
+  target ← target_of known name
+  addr ← value e
+  Ok (Resolve target addr)
+command_of known (lookup name e) = do
+  target ← target_of known name
+  addr ← value e
+  Ok (Lookup target addr)
+command_of known (view name) = do
+  target ← target_of known name
+  Ok (View target)
+command_of known (grant id agent name e f) = do
+  from ← target_of known agent
+  target ← target_of known name
+  base ← value e
+  size ← value f
+  Ok (Grant id from target base size)
+command_of known (route id agent e name) = do
+  from ← target_of known agent
+  line ← value e
+  target ← target_of known name
+  Ok (Route id from line target)
+command_of known (revoke id) = Ok (Revoke id)
+command_of known dump = Ok Dump
+command_of known split = Ok Split
+command_of known (absorb name) = do
+  target ← target_of known name
+  Ok (Absorb target)
+
+-- the commands of a tree, or the first fault
+abbrev pub commands_of : List (List ℕ) → List CommandOf → Result (List Command) ExpandFault
+commands_of known commands = each (λ c. at_line c.line (command_of known c.order)) commands
+
+-- the node that a command names is one of so many, or it names none
+abbrev pub node_within : ℕ → Option ℕ → Bool
+node_within count None = true
+node_within count (Some number) = nat_lt number count
+
+-- each node that a command names is one of so many
+abbrev pub names_within : ℕ → Command → Bool
+names_within count (Resolve target a) = node_within count target.node
+names_within count (Lookup target a) = node_within count target.node
+names_within count (View target) = node_within count target.node
+names_within count (Grant id from target base size) = node_within count from.node && node_within count target.node
+names_within count (Route id from line target) = node_within count from.node && node_within count target.node
+names_within count (Revoke id) = true
+names_within count Dump = true
+names_within count Split = true
+names_within count (Absorb target) = node_within count target.node

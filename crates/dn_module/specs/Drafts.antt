@@ -1,0 +1,143 @@
+-- The nodes that declarations make, with the values of their expressions, and with the names of the nodes to which they refer.
+use Rattle.std.specs.Prelude.{ℕ, ◌+◌, Bool, true, false, if◌then◌else◌, ◌&&◌, nat_le, nat_lt, List, [], ◌∷◌, ◌++◌, map, length, sum, count_by, position, Option, Some, None, option_map, Result, Ok, Err}
+use Rattle.std.specs.List.{list_all, list_any, position_or_len}
+use Rattle.std.specs.Option.{is_some}
+use Rattle.std.specs.Str.{bytes_eq}
+use Rattle.dn_parse.specs.Tree.{Part, Block as BlockOf, Dest as DestOf, Entry as EntryOf, Role as RoleOf, plain_role, agent_role, vectors_role, Spec, Declaration, node, unit}
+use Rattle.dn_net.specs.declared.node.Block.{Block}
+use Rattle.dn_net.specs.declared.node.Dest.{Dest}
+use Rattle.dn_net.specs.declared.node.Entry.{Entry}
+use Rattle.dn_net.specs.declared.node.NodeDecl.{NodeDecl}
+use Rattle.dn_net.specs.declared.node.Role.{Role}
+use Rattle.dn_net.specs.declared.node.Role.TheVariants.{Plain, Agent, Vectors}
+use Rattle.dn_module.specs.declared.draft.Draft.{Draft}
+use Rattle.dn_module.specs.declared.draft.DraftEntry.{DraftEntry}
+use Rattle.dn_module.specs.declared.draft.DraftDest.{DraftDest}
+use Rattle.dn_module.specs.declared.fault.ExpandFault.{ExpandFault}
+use Rattle.dn_module.specs.declared.fault.ExpandFault.TheVariants.{Duplicate, Unknown, Arguments, Value, TooMany}
+use Rattle.dn_module.specs.Values.{Flaw, unknown_variable, out_of_range, ◌>>=◌, each, value, value_or, full_name, full_name_or_none}
+
+-- the flaw of an expression is a fault of its statement
+abbrev pub at_line : {A : Type 0} → ℕ → Result A Flaw → Result A ExpandFault
+at_line line (Ok a) = Ok a
+at_line line (Err unknown_variable) = Err (Unknown line)
+at_line line (Err out_of_range) = Err (Value line)
+
+-- a block of one expression has that value as its first and its last address
+abbrev pub block_of : BlockOf → Result Block Flaw
+block_of b = do
+  lo ← value b.lo
+  hi ← value_or lo b.hi
+  Ok (record { lo = lo; hi = hi })
+
+-- a destination without `at` has the block's own first address
+abbrev pub dest_of : ℕ → DestOf → Result DraftDest Flaw
+dest_of lo d = do
+  to ← full_name d.name
+  addr ← value_or lo d.addr
+  Ok (record { to = to; addr = addr })
+
+abbrev pub entry_of : EntryOf → Result DraftEntry Flaw
+entry_of e = do
+  block ← block_of e.block
+  dests ← each (dest_of block.lo) e.dests
+  Ok (record { block = block; dests = dests })
+
+abbrev pub role_of : RoleOf → Role
+role_of plain_role = Plain
+role_of agent_role = Agent
+role_of vectors_role = Vectors
+
+-- a node, its expressions and the indices of its references taken from left to right
+abbrev pub draft_of : ℕ → RoleOf → List Part → Spec → Result Draft Flaw
+draft_of line role name spec = do
+  text ← full_name name
+  accepts ← each block_of spec.accepts
+  entries ← each entry_of spec.entries
+  over ← full_name_or_none spec.over
+  Ok (record { line = line; role = role_of role; name = text; accepts = accepts; entries = entries; over = over })
+
+-- no kind of unit exists so far, and the kind stands behind the name
+abbrev pub unit_of : ℕ → List Part → Result Draft ExpandFault
+unit_of line name = do
+  text ← at_line line (full_name name)
+  Err (Unknown line)
+
+abbrev pub declared_by : ℕ → Declaration → Result Draft ExpandFault
+declared_by line (node role name spec) = at_line line (draft_of line role name spec)
+declared_by line (unit name kind page slots reach ports) = unit_of line name
+
+-- the names of the nodes, in order
+abbrev pub names : List Draft → List (List ℕ)
+names drafts = map (λ d. d.name) drafts
+
+abbrev pub is_known : List (List ℕ) → List ℕ → Bool
+is_known known text = list_any (bytes_eq text) known
+
+abbrev pub is_agent : Role → Bool
+is_agent Agent = true
+is_agent _ = false
+
+abbrev pub agents_of : List Draft → ℕ
+agents_of drafts = count_by (λ d. is_agent d.role) drafts
+
+-- an accept block, a map entry and an `over` are one part each
+abbrev pub parts_of : Draft → ℕ
+parts_of d = length d.accepts + (length d.entries + (if is_some d.over then 1 else 0))
+
+abbrev pub all_parts : List Draft → ℕ
+all_parts drafts = sum (map parts_of drafts)
+
+-- the limit that one more node passes: nodes, then agents, then parts
+abbrev pub limit_passed : List Draft → Draft → Option ℕ
+limit_passed drafts d =
+    if nat_lt 1024 (length drafts + 1) then Some 1024
+    else (if is_agent d.role && nat_lt 64 (agents_of drafts + 1) then Some 64
+    else (if nat_lt 16384 (all_parts drafts + parts_of d) then Some 16384 else None))
+
+abbrev pub by_limit : Option ℕ → List Draft → Draft → Result (List Draft) ExpandFault
+by_limit (Some limit) drafts d = Err (TooMany d.line limit)
+by_limit None drafts d = Ok (drafts ++ d ∷ [])
+
+-- the nodes with one more: its name was not there before, and no limit is passed
+abbrev pub with_draft : List Draft → Draft → Result (List Draft) ExpandFault
+with_draft drafts d = if is_known (names drafts) d.name then Err (Duplicate d.line) else by_limit (limit_passed drafts d) drafts d
+
+-- the node with a name, where it is there
+abbrev pub number_in : List (List ℕ) → List ℕ → Option ℕ
+number_in known text = position (bytes_eq text) known
+
+-- each node to which one refers is there
+abbrev pub dests_known : List (List ℕ) → List DraftDest → Bool
+dests_known known dests = list_all (λ d. is_known known d.to) dests
+
+abbrev pub over_known : List (List ℕ) → Option (List ℕ) → Bool
+over_known known None = true
+over_known known (Some text) = is_known known text
+
+abbrev pub refers_to_known : List (List ℕ) → Draft → Bool
+refers_to_known known d = list_all (λ e. dests_known known e.dests) d.entries && over_known known d.over
+
+-- the node of a draft, with the numbers of the nodes to which it refers
+abbrev pub number_of : List (List ℕ) → List ℕ → ℕ
+number_of known text = position_or_len (bytes_eq text) known
+
+abbrev pub dest_in : List (List ℕ) → DraftDest → Dest
+dest_in known d = record { node = number_of known d.to; addr = d.addr }
+
+abbrev pub entry_in : List (List ℕ) → DraftEntry → Entry
+entry_in known e = record { block = e.block; dests = map (dest_in known) e.dests }
+
+abbrev pub node_in : List (List ℕ) → Draft → NodeDecl
+node_in known d = record {
+  text = d.name;
+  role = d.role;
+  accepts = d.accepts;
+  entries = map (entry_in known) d.entries;
+  over = option_map (number_of known) d.over;
+  unit = None;
+}
+
+-- Unknown: a node to which another refers does not exist
+abbrev pub linked : List (List ℕ) → Draft → Result NodeDecl ExpandFault
+linked known d = if refers_to_known known d then Ok (node_in known d) else Err (Unknown d.line)

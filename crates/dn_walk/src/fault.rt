@@ -1,0 +1,39 @@
+//! The rules on walks that a net can break.
+
+ghost use Rattle.std.specs.Prelude.{◌≡◌};
+ghost use Rattle.dn_walk.specs.declared.fault.WalkFault.TheVariants.{OutOfMemory as no_memory};
+
+use dn_base::items::Items;
+use dn_net::node::Name;
+use std::alloc::{AllocError, AllocFailed};
+
+/// The first rule on walks that a net breaks, or want of memory.
+#[derive(Drop)]
+pub enum WalkFault {
+    /// There are more than 1,048,576 live walks. Walks longer than the shortest cycle are not counted.
+    Wide,
+    /// An address comes back to itself within 64 steps. The names are those of a shortest cycle, from its
+    /// start back to its start; the least such list in the order of names.
+    Loop { cycle: Items<Name> },
+    /// An address can be followed for 65 steps. The names are the 66 of such a path; the least such list in
+    /// the order of names.
+    Deep { path: Items<Name> },
+    /// There was no memory for the walks.
+    OutOfMemory,
+}
+
+impl From<AllocError> for WalkFault {
+    ghost from_gives = { λ _ e. e ≡ no_memory };
+
+    fn from(_error: AllocError) -> WalkFault {
+        WalkFault::OutOfMemory
+    }
+}
+
+impl<T: Drop> From<AllocFailed<T>> for WalkFault {
+    ghost from_gives = { λ _ e. e ≡ no_memory };
+
+    fn from(_error: AllocFailed<T>) -> WalkFault {
+        WalkFault::OutOfMemory
+    }
+}
