@@ -130,11 +130,11 @@ used_body m givens prefix = in_items (record { numbers = numbers_of (map word_of
 -- a use becomes the body of its module
 abbrev pub use_of : ℕ → List Arg → List Part → Option (ℕ × Module) → Result (List Work) ExpandFault
 use_of line args prefix None = Err (Unknown line)
-use_of line args prefix (Some (number, m)) =
+use_of line args prefix (Some (place, m)) =
     if fit m.params args then (do
       givens ← at_line line (each given_by args)
       text ← at_line line (full_name prefix)
-      Ok (statements (within_module number) (used_body m givens text)))
+      Ok (statements (within_module place) (used_body m givens text)))
     else Err (Arguments line)
 
 -- a loop becomes its turns, if it has any

@@ -16,6 +16,16 @@ pub data Naming : Type 0 where
   as_they_stand : Naming
   under : (prefix : List ℕ) (nodes : List (List ℕ × List ℕ)) → Naming
 
+-- the full name of the use, where there is one
+abbrev pub prefix_of : Naming → Option (List ℕ)
+prefix_of as_they_stand = None
+prefix_of (under prefix nodes) = Some prefix
+
+-- the naming of a body with the full name of its use and its node parameters, or outside of modules
+abbrev pub naming_by : Option (List ℕ × List (List ℕ × List ℕ)) → Naming
+naming_by None = as_they_stand
+naming_by (Some names) = under names.0 names.1
+
 -- what is replaced: variables by numbers, and names
 pub record Replacement : Type 0 where
   pub numbers : List (List ℕ × ℕ)

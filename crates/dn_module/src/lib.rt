@@ -9,5 +9,6 @@ pub mod command;
 pub mod draft;
 pub mod expand;
 pub mod fault;
+pub mod scope;
 
 pub use dn_base::OutOfMemory;
