@@ -1,0 +1,8 @@
+//! Laws on live walks and on the rules on them, each the contract of a function that does nothing.
+
+ghost use Rattle.dn_net.specs.WalkRules.{ChainIsWalk};
+
+/// A chain of a number of steps is a live walk of as many choices that its first name follows, and back.
+pub fn chain_is_walk()
+    ensures { ChainIsWalk }
+{}
