@@ -2,3 +2,5 @@ pub mod Apart
 pub mod Chains
 pub mod Choices
 pub mod Gaps
+pub mod Legs
+pub mod Members
