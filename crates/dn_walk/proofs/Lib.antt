@@ -3,4 +3,5 @@ pub mod Chains
 pub mod Choices
 pub mod Gaps
 pub mod Legs
+pub mod Levels
 pub mod Members
