@@ -2,6 +2,7 @@ pub mod Apart
 pub mod Chains
 pub mod Choices
 pub mod Cycles
+pub mod Firsts
 pub mod Gaps
 pub mod Legs
 pub mod Levels
