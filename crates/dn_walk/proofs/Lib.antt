@@ -7,3 +7,4 @@ pub mod Gaps
 pub mod Legs
 pub mod Levels
 pub mod Members
+pub mod Ways

@@ -1,6 +1,6 @@
 //! Laws on live walks and on the rules on them, each the contract of a function that does nothing.
 
-ghost use Rattle.dn_net.specs.WalkRules.{ChainIsWalk, CycleIsRow, ShortestCycleIsShortest};
+ghost use Rattle.dn_net.specs.WalkRules.{ChainIsWalk, CycleIsLeast, CycleIsRow, PathIsLeast, ShortestCycleIsShortest};
 
 /// A chain of a number of steps is a live walk of as many choices that its first name follows, and back.
 pub fn chain_is_walk()
@@ -15,4 +15,15 @@ pub fn cycle_is_row()
 /// The shortest cycle is the least number of steps, from 1 to 64, in which a name comes to itself.
 pub fn shortest_cycle_is_shortest()
     ensures { ShortestCycleIsShortest }
+{}
+
+/// The names that `Loop` carries are a cycle of the shortest length, and of all such lists the least.
+pub fn cycle_is_least()
+    ensures { CycleIsLeast }
+{}
+
+/// The names that `Deep` carries are a path of 65 steps, and of all such lists the least; there are none exactly
+/// where there is no chain of 65 steps.
+pub fn path_is_least()
+    ensures { PathIsLeast }
 {}
