@@ -1,6 +1,11 @@
 //! Laws on live walks and on the rules on them, each the contract of a function that does nothing.
 
-ghost use Rattle.dn_net.specs.WalkRules.{ChainIsWalk, CycleIsLeast, CycleIsRow, PathIsLeast, ShortestCycleIsShortest};
+ghost use Rattle.dn_net.specs.WalkRules.{ChainIsWalk, CycleIsLeast, CycleIsRow, EndlessIsRefused, LiveWalksAreAll, NoFaultIsShallow, PathIsLeast, ShortestCycleIsShortest};
+
+/// The list has exactly the live walks of 1 to k choices.
+pub fn live_walks_are_all()
+    ensures { LiveWalksAreAll }
+{}
 
 /// A chain of a number of steps is a live walk of as many choices that its first name follows, and back.
 pub fn chain_is_walk()
@@ -26,4 +31,14 @@ pub fn cycle_is_least()
 /// where there is no chain of 65 steps.
 pub fn path_is_least()
     ensures { PathIsLeast }
+{}
+
+/// A name with a chain that never ends breaks a rule on walks.
+pub fn endless_is_refused()
+    ensures { EndlessIsRefused }
+{}
+
+/// In a net that breaks no rule on walks no chain has 65 steps.
+pub fn no_fault_is_shallow()
+    ensures { NoFaultIsShallow }
 {}
