@@ -5,6 +5,7 @@ pub mod Cycles
 pub mod Endless
 pub mod Firsts
 pub mod Gaps
+pub mod Holes
 pub mod Legs
 pub mod Levels
 pub mod Listed
