@@ -10,4 +10,6 @@ pub mod Legs
 pub mod Levels
 pub mod Listed
 pub mod Members
+pub mod Order
+pub mod Pairs
 pub mod Ways

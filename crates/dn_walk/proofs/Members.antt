@@ -46,7 +46,7 @@ flat_map_member f [] x y m n = absurd m
 flat_map_member f (z ∷ xs) x y (inl e) n = member_left (f z) (flat_map f xs) y (subst (λ w. Member y (f w)) (sym e) n)
 flat_map_member f (z ∷ xs) x y (inr m) n = member_right (f z) (flat_map f xs) y (flat_map_member f xs x y m n)
 
-member_put : {X : Type 0} (before : X → X → Bool) (x : X) (ys : List X) (z : X) → Member z (put_in before x ys) → (x ≡ z) ⊎ Member z ys
+pub member_put : {X : Type 0} (before : X → X → Bool) (x : X) (ys : List X) (z : X) → Member z (put_in before x ys) → (x ≡ z) ⊎ Member z ys
 member_put before x [] z m = m
 member_put before x (y ∷ ys) z m = by (member_put before x ys z) (before y x) m
   where

@@ -1,10 +1,15 @@
 //! Laws on live walks and on the rules on them, each the contract of a function that does nothing.
 
-ghost use Rattle.dn_net.specs.WalkRules.{ChainIsWalk, CycleIsLeast, CycleIsRow, EndlessIsRefused, LiveWalksAreAll, NoFaultIsShallow, PathIsLeast, ShortestCycleIsShortest};
+ghost use Rattle.dn_net.specs.WalkRules.{ChainIsWalk, CycleIsLeast, CycleIsRow, EndlessIsRefused, LiveWalksAreAll, LiveWalksAreInOrder, NoFaultIsShallow, PathIsLeast, ShortestCycleIsShortest};
 
 /// The list has exactly the live walks of 1 to k choices.
 pub fn live_walks_are_all()
     ensures { LiveWalksAreAll }
+{}
+
+/// Each of them comes before those behind it, in the order of length, start, span and choices; so each stands once.
+pub fn live_walks_are_in_order()
+    ensures { LiveWalksAreInOrder }
 {}
 
 /// A chain of a number of steps is a live walk of as many choices that its first name follows, and back.
