@@ -1,6 +1,6 @@
 -- The live walks stand in order of length, start, span and choices, each once.
 use Rattle.std.proofs.Common.{◌≡◌, ℕ, zero, suc, ◌+◌, ◌-◌, ◌<◌, ◌≤◌, ◌⊎◌, inl, inr, Bool, true, false, if◌then◌else◌, ◌&&◌, ◌||◌, ◌==◌, not, nat_le, nat_lt, List, [], ◌∷◌, ◌++◌, map, filter, length, slice_get, Option, Some, None, refl, sym, ap, ◌∙◌, subst, arith, IsTrue, ltb-true, eqb-true}
-use Rattle.std.proofs.lemmas.Bool.{lt-ltb, eq-eqb, le-leb}
+use Rattle.std.proofs.lemmas.Bool.{lt-ltb, le-ltb, eq-eqb, ltb-false}
 use Rattle.std.specs.List.{flat_map}
 use Rattle.dn_net.specs.declared.node.Block.{Block}
 use Rattle.dn_net.specs.declared.node.Dest.{Dest}
@@ -14,11 +14,14 @@ use Rattle.dn_net.proofs.Least.{within_from, within_to, either_true, both_true, 
 use Rattle.dn_walk.proofs.Apart.{IsApart, node_apart}
 use Rattle.dn_walk.proofs.Choices.{free_parts}
 use Rattle.dn_walk.proofs.Gaps.{Stand, gaps_stand, stand_member, gap_of_member}
-use Rattle.dn_walk.proofs.Legs.{dest_leg, gap_leg, member_dest_legs, member_entry_legs, member_gap_legs, leads_of_leg}
+use Rattle.dn_walk.proofs.Legs.{dest_leg, gap_leg, member_dest_legs, member_entry_legs, member_gap_legs, leads_in_range, leads_of_leg}
 use Rattle.dn_walk.proofs.Levels.{IsRow, level_is_row, onto_within}
 use Rattle.dn_walk.proofs.Listed.{level_of_listed}
 use Rattle.dn_walk.proofs.Members.{member_map, member_filter, member_order}
 use Rattle.dn_walk.proofs.Pairs.{Pairwise, NotBefore, pair_at, pairs_more, pairs_append, pairs_map, pairs_filter, pairs_flat_map, pairs_order, order_sorted, pairs_both}
+
+some_same : {X : Type 0} (x y : X) → ◌≡◌ {A = Option X} (Some x) (Some y) → x ≡ y
+some_same x y e = cc
 
 -- where two legs share an address, they are of one entry, and the first of an earlier destination
 abbrev pub LegBefore : Leg → Leg → Type 0
@@ -64,9 +67,6 @@ gap_legs_ordered (Some m) bs h = pairs_map LegBefore (gap_leg m) bs (pairs_more 
 in_an_entry : (es : List Entry) (i a : ℕ) (e : Entry) → slice_get es i ≡ Some e → IsTrue (within a e.block) → in_some_entry a es ≡ true
 in_an_entry [] i a e at w = cc
 in_an_entry (f ∷ es) zero a e at w = let s : f ≡ e = some_same f e at in true_left (within a f.block) (in_some_entry a es) (ap (λ x. within a x.block) s ∙ w)
-  where
-    some_same : (x y : Entry) → ◌≡◌ {A = Option Entry} (Some x) (Some y) → x ≡ y
-    some_same x y e = cc
 in_an_entry (f ∷ es) (suc i) a e at w = true_right (within a f.block) (in_some_entry a es) (in_an_entry es i a e at w)
 
 -- the legs of a node are in order
@@ -90,6 +90,37 @@ legs_ordered n apart = pairs_order LegBefore (λ l m. nat_lt l.block.lo m.block.
           let t = in_an_entry n.entries r.entry a r.e r.is_entry u in
           let z : true ≡ false = sym t ∙ f in
           cc))
+
+-- neither the first nor the last addresses of the legs fall
+abbrev pub Rises : Leg → Leg → Type 0
+Rises l m = (l.block.lo ≤ m.block.lo) × (l.block.hi ≤ m.block.hi)
+
+abbrev leg_before : Leg → Leg → Bool
+leg_before l m = nat_lt l.block.lo m.block.lo
+
+rise_by : (l m : Leg) → m.block.lo ≤ m.block.hi → l.block.lo ≤ m.block.lo → LegBefore l m → (l.block.hi < m.block.lo) ⊎ (m.block.lo ≤ l.block.hi) → Rises l m
+rise_by l m o k before (inl h) = (k, (omega arith))
+rise_by l m o k before (inr h) =
+    let e : l.block.hi ≡ m.block.hi = ap (λ (b : Block). b.hi) (before m.block.lo (within_from m.block.lo l.block k h) (within_from m.block.lo m.block (omega arith) o)).1 in
+    (k, (omega arith))
+
+pub legs_rise : (n : NodeDecl) → IsApart n → Pairwise Rises (legs n)
+legs_rise n apart = pairs_more (λ l m. NotBefore leg_before l m × LegBefore l m) Rises (legs n) each (pairs_both (NotBefore leg_before) LegBefore (legs n) sorted (legs_ordered n apart))
+  where
+    turned : (l m : Leg) → leg_before l m ≡ true → leg_before m l ≡ false
+    turned l m h = let k = ltb-true l.block.lo m.block.lo h in le-ltb m.block.lo l.block.lo (omega arith)
+
+    still : (l m r : Leg) → leg_before m l ≡ false → leg_before r m ≡ false → leg_before r l ≡ false
+    still l m r p q = let k = ltb-false m.block.lo l.block.lo p in let h = ltb-false r.block.lo m.block.lo q in le-ltb r.block.lo l.block.lo (omega arith)
+
+    sorted : Pairwise (NotBefore leg_before) (legs n)
+    sorted = order_sorted leg_before turned still (entry_legs 0 n.entries ++ gap_legs n.over (gaps n))
+
+    order : (a b : ℕ) → (a < b) ⊎ (b ≤ a)
+    order a b = grind arith
+
+    each : (l m : Leg) → Member l (legs n) → Member m (legs n) → NotBefore leg_before l m × LegBefore l m → Rises l m
+    each l m x y p = rise_by l m (leads_in_range (Some n) (λ k e. subst (λ j. IsApart j) (some_same n k e) apart) m.choice m.block m.to (leads_of_leg (Some n) (λ k e. subst (λ j. IsApart j) (some_same n k e) apart) m y)).0 (ltb-false m.block.lo l.block.lo p.0) p.1 (order l.block.hi m.block.lo)
 
 legs_of_ordered : (o : Option NodeDecl) → ((n : NodeDecl) → o ≡ Some n → IsApart n) → Pairwise LegBefore (legs_of o)
 legs_of_ordered None apart = tt

@@ -1,6 +1,8 @@
 -- What holds of each two items of a list, the earlier one first.
-use Rattle.std.proofs.Common.{◌≡◌, ℕ, zero, suc, ◌<◌, ◌⊎◌, inl, inr, Bool, true, false, if◌then◌else◌, List, [], ◌∷◌, ◌++◌, map, filter, slice_get, Option, Some, refl, sym, ap, ◌∙◌, subst, arith}
+use Rattle.std.proofs.Common.{◌≡◌, ℕ, zero, suc, ◌<◌, ◌≤◌, ◌⊎◌, inl, inr, Bool, true, false, if◌then◌else◌, List, [], ◌∷◌, ◌++◌, map, filter, slice_get, get_or, length, Option, Some, refl, sym, ap, ◌∙◌, subst, arith}
+use Rattle.std.proofs.lemmas.Option.{slice_get-get_or}
 use Rattle.std.specs.List.{flat_map}
+use Rattle.std.specs.List.Sorted.{IsNonDecreasingBy}
 use Rattle.dn_net.specs.Chain.{Member}
 use Rattle.dn_net.specs.Walks.{put_in, in_order}
 use Rattle.dn_net.proofs.Resolution.{member_split}
@@ -82,3 +84,11 @@ module _ {X : Type 0} (before : X → X → Bool) (turned : (x y : X) → before
 pub pairs_both : {X : Type 0} (R Q : X → X → Type 0) (xs : List X) → Pairwise R xs → Pairwise Q xs → Pairwise (λ x y. R x y × Q x y) xs
 pairs_both R Q [] p q = tt
 pairs_both R Q (x ∷ xs) p q = ((λ y m. (p.0 y m, q.0 y m)), pairs_both R Q xs p.1 q.1)
+
+-- a number that never falls from an item to a later one
+pub pairs_rise : {X : Type 0} (n : X → ℕ) (xs : List X) → Pairwise (λ x y. n x ≤ n y) xs → IsNonDecreasingBy n xs
+pairs_rise n [] p i j d l h = absurd (omega arith)
+pairs_rise n (x ∷ xs) p zero zero d l h = omega arith
+pairs_rise n (x ∷ xs) p zero (suc j) d l h = p.0 (get_or xs j d) (member_at xs j (get_or xs j d) (slice_get-get_or xs j d (omega arith)))
+pairs_rise n (x ∷ xs) p (suc i) zero d l h = absurd (omega arith)
+pairs_rise n (x ∷ xs) p (suc i) (suc j) d l h = pairs_rise n xs p.1 i j d (omega arith) (omega arith)

@@ -32,8 +32,8 @@ pub fn cycle_is_least()
     ensures { CycleIsLeast }
 {}
 
-/// The names that `Deep` carries are a path of 65 steps, and of all such lists the least; there are none exactly
-/// where there is no chain of 65 steps.
+/// The names that `Deep` carries are a path of the length that is asked for, and of all such lists the least;
+/// where there are none, there is no chain of that length.
 pub fn path_is_least()
     ensures { PathIsLeast }
 {}
