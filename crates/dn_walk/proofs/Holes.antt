@@ -1,9 +1,8 @@
 -- Maximal spans that have exactly the addresses of no block are the gaps between the blocks.
-use Rattle.std.proofs.Common.{◌≡◌, ℕ, ◌+◌, ◌≤◌, Bool, true, false, not, ◌&&◌, ◌||◌, nat_le, List, [], ◌∷◌, ◌++◌, map, refl, sym, ap, ◌∙◌, arith, IsTrue, le-leb}
-use Rattle.std.specs.List.{list_all, list_any}
+use Rattle.std.proofs.Common.{◌≡◌, ℕ, ◌+◌, ◌≤◌, Bool, not, ◌&&◌, ◌||◌, nat_le, List, [], ◌∷◌, map, refl, sym, ap, ◌∙◌, arith, IsTrue, le-leb}
+use Rattle.std.specs.List.{list_all}
 use Rattle.dn_interval.specs.declared.span.Span.{Span}
-use Rattle.dn_interval.specs.declared.span.TheConstants.{TOP}
-use Rattle.dn_interval.specs.Spans.{in_span, has, StandFrom, AreMaximal}
+use Rattle.dn_interval.specs.Spans.{has, StandFrom, AreMaximal}
 use Rattle.dn_interval.proofs.Standing.{one_list}
 use Rattle.dn_net.specs.declared.node.Block.{Block}
 use Rattle.dn_net.specs.Decode.{top, within, in_some_block}

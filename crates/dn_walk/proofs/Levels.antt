@@ -1,20 +1,17 @@
 -- The walks of a level are the live walks of so many choices, each with the addresses that follow it.
-use Rattle.std.proofs.Common.{◌≡◌, ℕ, zero, suc, ◌+◌, ◌-◌, ◌<◌, ◌≤◌, ◌⊎◌, ◌↔◌, inl, inr, Bool, true, false, if◌then◌else◌, ◌&&◌, nat_le, nat_lt, List, [], ◌∷◌, ◌++◌, map, filter, length, slice_get, Option, Some, None, refl, sym, ap, ◌∙◌, subst, arith, IsTrue, ltb-true, leb-true, le-leb}
+use Rattle.std.proofs.Common.{◌≡◌, ℕ, zero, suc, ◌+◌, ◌-◌, ◌<◌, ◌≤◌, ◌⊎◌, ◌↔◌, inl, inr, Bool, true, false, if◌then◌else◌, nat_le, nat_lt, List, [], ◌∷◌, ◌++◌, filter, length, slice_get, Some, refl, sym, ap, ◌∙◌, subst, arith, IsTrue, ltb-true, leb-true, le-leb}
 use Rattle.std.proofs.lemmas.Bool.{ltb-false}
 use Rattle.std.proofs.lemmas.List.{append-nil, append_assoc, length-append}
-use Rattle.std.proofs.lemmas.Option.{slice_get_within}
-use Rattle.std.specs.List.{list_all, flat_map}
 use Rattle.dn_net.specs.declared.node.Block.{Block}
 use Rattle.dn_net.specs.declared.node.Name.{Name}
 use Rattle.dn_net.specs.declared.node.NodeDecl.{NodeDecl}
-use Rattle.dn_net.specs.Chain.{Member, Chain}
-use Rattle.dn_net.specs.Decode.{top, within, Step, refers_within, is_closed}
+use Rattle.dn_net.specs.Chain.{Member}
+use Rattle.dn_net.specs.Decode.{top, within, refers_within}
 use Rattle.dn_net.specs.Walks.{Choice, Leads, Follows, IsLive, moved_name, whole, Leg, legs_of, Walk, last_out, meets, greater, lesser_of, onto, extended, still, stills, level}
-use Rattle.dn_net.specs.WalkRules.{IsChecked, CycleIsRow}
+use Rattle.dn_net.specs.WalkRules.{IsChecked}
 use Rattle.dn_net.proofs.Least.{within_from, within_to, true_both, both_true}
 use Rattle.dn_net.proofs.Places.{list_all-at}
 use Rattle.dn_walk.proofs.Apart.{IsApart, node_apart}
-use Rattle.dn_walk.proofs.Choices.{choices_of_chain, chain_of_choices}
 use Rattle.dn_walk.proofs.Legs.{leads_of_leg, leg_of_leads, leads_once, leads_in_range, leads_within}
 use Rattle.dn_walk.proofs.Members.{member_map, map_member, member_filter, filter_member, member_flat_map, flat_map_member}
 

@@ -1,16 +1,14 @@
 -- The list of live walks has exactly the live walks.
-use Rattle.std.proofs.Common.{◌≡◌, ℕ, zero, suc, ◌+◌, ◌<◌, ◌≤◌, ◌⊎◌, ◌↔◌, inl, inr, List, [], ◌∷◌, ◌++◌, length, slice_get, Option, Some, None, refl, sym, ap, ◌∙◌, subst, arith, IsTrue}
-use Rattle.std.proofs.lemmas.Option.{slice_get_within}
+use Rattle.std.proofs.Common.{◌≡◌, ℕ, zero, suc, ◌≤◌, ◌⊎◌, inl, inr, List, length, sym, subst, arith}
 use Rattle.dn_net.specs.declared.node.Name.{Name}
 use Rattle.dn_net.specs.declared.node.NodeDecl.{NodeDecl}
 use Rattle.dn_net.specs.Chain.{Member}
-use Rattle.dn_net.specs.Decode.{top}
-use Rattle.dn_net.specs.Walks.{Choice, Follows, IsLive, Walk, in_order, starts_before, level, live_walks}
-use Rattle.dn_net.specs.WalkRules.{IsChecked, IsListed, LiveWalksAreAll}
+use Rattle.dn_net.specs.Walks.{Choice, IsLive, Walk, in_order, starts_before, level, live_walks}
+use Rattle.dn_net.specs.WalkRules.{IsListed, LiveWalksAreAll}
 use Rattle.dn_net.proofs.Resolution.{member_left, member_right, member_split}
 use Rattle.dn_walk.proofs.Choices.{chain_of_choices}
 use Rattle.dn_walk.proofs.Cycles.{stepping_in_range}
-use Rattle.dn_walk.proofs.Levels.{IsRow, level_is_row, live_of_row, row_of_choices}
+use Rattle.dn_walk.proofs.Levels.{level_is_row, live_of_row, row_of_choices}
 use Rattle.dn_walk.proofs.Members.{member_order}
 
 -- a walk of the list is one of a level

@@ -1,14 +1,13 @@
 -- The live walks stand in order of length, start, span and choices, each once.
-use Rattle.std.proofs.Common.{◌≡◌, ℕ, zero, suc, ◌+◌, ◌-◌, ◌<◌, ◌≤◌, ◌⊎◌, inl, inr, Bool, true, false, if◌then◌else◌, ◌&&◌, ◌||◌, ◌==◌, not, nat_le, nat_lt, List, [], ◌∷◌, ◌++◌, map, filter, length, slice_get, Option, Some, None, refl, sym, ap, ◌∙◌, subst, arith, IsTrue, ltb-true, eqb-true}
+use Rattle.std.proofs.Common.{◌≡◌, ℕ, zero, suc, ◌+◌, ◌-◌, ◌<◌, ◌≤◌, ◌⊎◌, inl, inr, Bool, true, false, ◌&&◌, ◌||◌, ◌==◌, nat_lt, List, [], ◌∷◌, ◌++◌, filter, length, slice_get, Option, Some, None, refl, sym, ap, ◌∙◌, subst, arith, IsTrue, ltb-true, eqb-true}
 use Rattle.std.proofs.lemmas.Bool.{lt-ltb, le-ltb, eq-eqb, ltb-false}
-use Rattle.std.specs.List.{flat_map}
 use Rattle.dn_net.specs.declared.node.Block.{Block}
 use Rattle.dn_net.specs.declared.node.Dest.{Dest}
 use Rattle.dn_net.specs.declared.node.Entry.{Entry}
 use Rattle.dn_net.specs.declared.node.NodeDecl.{NodeDecl}
 use Rattle.dn_net.specs.Chain.{Member}
-use Rattle.dn_net.specs.Decode.{top, within}
-use Rattle.dn_net.specs.Walks.{Choice, in_some_entry, is_free, gaps, Leg, dest_legs, entry_legs, gap_legs, legs, legs_of, in_order, Walk, meets, onto, extended, still, stills, level, starts_before, live_walks, earlier_dest, ChooseBefore, SameSpan, Precedes}
+use Rattle.dn_net.specs.Decode.{within}
+use Rattle.dn_net.specs.Walks.{Choice, in_some_entry, gaps, Leg, dest_legs, entry_legs, gap_legs, legs, legs_of, in_order, Walk, meets, onto, extended, still, stills, level, starts_before, live_walks, earlier_dest, ChooseBefore, SameSpan, Precedes}
 use Rattle.dn_net.specs.WalkRules.{IsChecked, LiveWalksAreInOrder}
 use Rattle.dn_net.proofs.Least.{within_from, within_to, either_true, both_true, true_left, true_right, true_both}
 use Rattle.dn_walk.proofs.Apart.{IsApart, node_apart}
@@ -17,11 +16,8 @@ use Rattle.dn_walk.proofs.Gaps.{Stand, gaps_stand, stand_member, gap_of_member}
 use Rattle.dn_walk.proofs.Legs.{dest_leg, gap_leg, member_dest_legs, member_entry_legs, member_gap_legs, leads_in_range, leads_of_leg}
 use Rattle.dn_walk.proofs.Levels.{IsRow, level_is_row, onto_within}
 use Rattle.dn_walk.proofs.Listed.{level_of_listed}
-use Rattle.dn_walk.proofs.Members.{member_map, member_filter, member_order}
+use Rattle.dn_walk.proofs.Members.{member_map, member_filter, member_order, some_same}
 use Rattle.dn_walk.proofs.Pairs.{Pairwise, NotBefore, pair_at, pairs_more, pairs_append, pairs_map, pairs_filter, pairs_flat_map, pairs_order, order_sorted, pairs_both}
-
-some_same : {X : Type 0} (x y : X) → ◌≡◌ {A = Option X} (Some x) (Some y) → x ≡ y
-some_same x y e = cc
 
 -- where two legs share an address, they are of one entry, and the first of an earlier destination
 abbrev pub LegBefore : Leg → Leg → Type 0
@@ -85,11 +81,11 @@ legs_ordered n apart = pairs_order LegBefore (λ l m. nat_lt l.block.lo m.block.
         let s = member_gap_legs n.over (gaps n) m y in
         let g = gap_of_member n apart s.gap s.is_gap in
         subst (λ k. LegBefore k m) r.leg (subst (λ k. LegBefore (dest_leg (0 + r.entry) r.dest r.e.block r.d) k) s.leg (λ a u v.
-          let w = within_to a s.gap v in
-          let f = (free_parts n a (g.free a w.0 w.1)).1 in
-          let t = in_an_entry n.entries r.entry a r.e r.is_entry u in
-          let z : true ≡ false = sym t ∙ f in
-          cc))
+        let w = within_to a s.gap v in
+        let f = (free_parts n a (g.free a w.0 w.1)).1 in
+        let t = in_an_entry n.entries r.entry a r.e r.is_entry u in
+        let z : true ≡ false = sym t ∙ f in
+        cc))
 
 -- neither the first nor the last addresses of the legs fall
 abbrev pub Rises : Leg → Leg → Type 0
