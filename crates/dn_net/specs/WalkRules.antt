@@ -4,17 +4,18 @@ use Rattle.std.specs.List.{list_any}
 use Rattle.std.specs.Option.{is_some}
 use Rattle.dn_net.specs.declared.node.Name.{Name}
 use Rattle.dn_net.specs.declared.node.NodeDecl.{NodeDecl}
-use Rattle.dn_net.specs.Chain.{Member, Chain}
+use Rattle.dn_net.specs.Chain.{Member, Chain, Reaches, ReachesWithin}
 use Rattle.dn_net.specs.Decode.{top, within, steps, step_limit, Step, is_closed}
 use Rattle.dn_net.specs.Names.{name_lt, name_eq, sorted_names, after_steps}
 use Rattle.dn_net.specs.Rules.{node_fault}
-use Rattle.dn_net.specs.Walks.{Choice, Follows, IsLive, Walk, moved_name, live_walks, level, Precedes}
+use Rattle.dn_net.specs.Walks.{Choice, Follows, IsLive, IsGap, gaps, Walk, moved_name, live_walks, level, Precedes}
 
--- the first of the numbers below a bound that passes a test; no proof unfolds it at a numeral
+-- one value, or another where there is none
 abbrev pub or_else : {A : Type 0} → Option A → Option A → Option A
 or_else (Some a) other = Some a
 or_else None other = other
 
+-- the first of the numbers below a bound that passes a test; no proof unfolds it at a numeral
 unfoldable pub first_below : (ℕ → Bool) → ℕ → Option ℕ
 first_below p zero = None
 first_below p (suc n) = or_else (first_below p n) (if p n then Some n else None)
@@ -30,13 +31,13 @@ least_below p (suc n) = or_else (least_below p n) (least_in p n)
 abbrev pub least_name : List NodeDecl → (Name → Bool) → Option Name
 least_name net p = least_below p (length net)
 
+abbrev pub first_of : List Name → Option Name
+first_of [] = None
+first_of (x ∷ xs) = Some x
+
 -- so many steps can be taken from a name
 abbrev pub goes_on : List NodeDecl → ℕ → Name → Bool
-goes_on net k x = is_some (head_of (after_steps (steps net) k (x ∷ [])))
-  where
-    head_of : List Name → Option Name
-    head_of [] = None
-    head_of (y ∷ ys) = Some y
+goes_on net k x = is_some (first_of (after_steps (steps net) k (x ∷ [])))
 
 -- so many steps can lead from a name to another
 abbrev pub comes_to : List NodeDecl → Name → ℕ → Name → Bool
@@ -59,10 +60,6 @@ unfoldable pub shortest_cycle : List NodeDecl → Option ℕ
 shortest_cycle net = shortest_within net (step_limit - 1)
 
 -- the names behind a name, one step after another: at each place the least step from which the rest can be taken
-abbrev pub first_of : List Name → Option Name
-first_of [] = None
-first_of (x ∷ xs) = Some x
-
 abbrev pub behind : Option Name → (Name → List Name) → List Name
 behind None rest = []
 behind (Some z) rest = z ∷ rest z
@@ -185,6 +182,14 @@ PathIsLeast = (net : List NodeDecl) → IsChecked net → (k : ℕ) → ((xs : L
 -- A name with a chain that never ends breaks a rule on walks.
 abbrev pub EndlessIsRefused : Type 0
 EndlessIsRefused = (net : List NodeDecl) → IsChecked net → (f : ℕ → Name) → ((i : ℕ) → Step net (f i) (f (suc i))) → IsSome (walk_fault net)
+
+-- The gaps of a node are exactly the gaps that are listed.
+abbrev pub GapsAreAll : Type 0
+GapsAreAll = (net : List NodeDecl) → IsChecked net → (i : ℕ) (n : NodeDecl) → slice_get net i ≡ Some n → (lo hi : ℕ) → Member (record { lo = lo; hi = hi }) (gaps n) ↔ IsGap n lo hi
+
+-- In a net that breaks no rule on walks what is reached at all is reached within 65 steps, so that the bound of resolution cuts nothing.
+abbrev pub ReachIsWithin : Type 0
+ReachIsWithin = (net : List NodeDecl) → IsChecked net → walk_fault net ≡ None → (x y : Name) → Reaches (Step net) x y → ReachesWithin (Step net) step_limit x y
 
 -- In a net that breaks no rule on walks no chain has 65 steps.
 abbrev pub NoFaultIsShallow : Type 0

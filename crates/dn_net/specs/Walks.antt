@@ -168,14 +168,14 @@ live_walks net zero = []
 live_walks net (suc k) = live_walks net k ++ in_order starts_before (level net (suc k))
 
 -- of two lists of choices, at the first place where they differ, both choose the same entry, and the first an earlier destination of it
-abbrev pub earlier_dest : Choice → Choice → Type 0
-earlier_dest (mapped_by i j) (mapped_by k l) = (i ≡ k) × (j < l)
-earlier_dest _ _ = ⊥
+abbrev pub EarlierDest : Choice → Choice → Type 0
+EarlierDest (mapped_by i j) (mapped_by k l) = (i ≡ k) × (j < l)
+EarlierDest _ _ = ⊥
 
 abbrev pub ChooseBefore : List Choice → List Choice → Type 0
 ChooseBefore [] ds = ⊥
 ChooseBefore (c ∷ cs) [] = ⊥
-ChooseBefore (c ∷ cs) (d ∷ ds) = (earlier_dest c d) ⊎ ((c ≡ d) × ChooseBefore cs ds)
+ChooseBefore (c ∷ cs) (d ∷ ds) = (EarlierDest c d) ⊎ ((c ≡ d) × ChooseBefore cs ds)
 
 -- the order of walks, in full: by length, start, span, choices
 abbrev pub SameSpan : Walk → Walk → Type 0

@@ -11,7 +11,8 @@ use Rattle.dn_net.specs.Rules.{block_in_range}
 use Rattle.dn_net.specs.Walks.{in_some_entry, is_free, IsGap, below, above, cut_out, cut_each, whole, gaps}
 use Rattle.dn_net.proofs.Least.{within_from, within_to, true_both, both_true, true_left, either_true}
 use Rattle.dn_net.proofs.Places.{both}
-use Rattle.dn_walk.proofs.Apart.{IsApart}
+use Rattle.dn_net.specs.WalkRules.{GapsAreAll}
+use Rattle.dn_walk.proofs.Apart.{IsApart, node_apart}
 
 -- the blocks stand at an address or above it, in range, ascending, and leave out at least one address between two
 abbrev pub Stand : ℕ → List Block → Type 0
@@ -365,3 +366,9 @@ member_of_gap n apart lo hi g =
     let r = has_member lo (gaps n) h in
     let s = gap_once n r.0.lo r.0.hi lo hi lo (gap_of_member n apart r.0 r.1) g r.2 r.3 k o in
     subst (λ b. Member b (gaps n)) (λ i. record { lo = s.0 i; hi = s.1 i }) r.1
+
+pub gaps_are_all : GapsAreAll
+gaps_are_all net checked i n e lo hi = (
+  λ m. gap_of_member n (node_apart net checked.1 i n e) (record { lo = lo; hi = hi }) m,
+  λ g. member_of_gap n (node_apart net checked.1 i n e) lo hi g,
+)

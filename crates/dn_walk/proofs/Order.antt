@@ -7,7 +7,7 @@ use Rattle.dn_net.specs.declared.node.Entry.{Entry}
 use Rattle.dn_net.specs.declared.node.NodeDecl.{NodeDecl}
 use Rattle.dn_net.specs.Chain.{Member}
 use Rattle.dn_net.specs.Decode.{within}
-use Rattle.dn_net.specs.Walks.{Choice, in_some_entry, gaps, Leg, dest_legs, entry_legs, gap_legs, legs, legs_of, in_order, Walk, meets, onto, extended, still, stills, level, starts_before, live_walks, earlier_dest, ChooseBefore, SameSpan, Precedes}
+use Rattle.dn_net.specs.Walks.{Choice, in_some_entry, gaps, Leg, dest_legs, entry_legs, gap_legs, legs, legs_of, in_order, Walk, meets, onto, extended, still, stills, level, starts_before, live_walks, EarlierDest, ChooseBefore, SameSpan, Precedes}
 use Rattle.dn_net.specs.WalkRules.{IsChecked, LiveWalksAreInOrder}
 use Rattle.dn_net.proofs.Least.{within_from, within_to, either_true, both_true, true_left, true_right, true_both}
 use Rattle.dn_walk.proofs.Apart.{IsApart, node_apart}
@@ -21,7 +21,7 @@ use Rattle.dn_walk.proofs.Pairs.{Pairwise, NotBefore, pair_at, pairs_more, pairs
 
 -- where two legs share an address, they are of one entry, and the first of an earlier destination
 abbrev pub LegBefore : Leg → Leg → Type 0
-LegBefore l m = (a : ℕ) → IsTrue (within a l.block) → IsTrue (within a m.block) → earlier_dest l.choice m.choice × (l.block ≡ m.block)
+LegBefore l m = (a : ℕ) → IsTrue (within a l.block) → IsTrue (within a m.block) → EarlierDest l.choice m.choice × (l.block ≡ m.block)
 
 dest_legs_ordered : (i j : ℕ) (b : Block) (ds : List Dest) → Pairwise LegBefore (dest_legs i j b ds)
 dest_legs_ordered i j b [] = tt
@@ -123,7 +123,7 @@ legs_of_ordered None apart = tt
 legs_of_ordered (Some n) apart = legs_ordered n (apart n refl)
 
 -- lists of choices with the same front, and with more behind them
-choose_behind : (cs : List Choice) (c d : Choice) → earlier_dest c d → ChooseBefore (cs ++ c ∷ []) (cs ++ d ∷ [])
+choose_behind : (cs : List Choice) (c d : Choice) → EarlierDest c d → ChooseBefore (cs ++ c ∷ []) (cs ++ d ∷ [])
 choose_behind [] c d h = inl h
 choose_behind (b ∷ cs) c d h = inr (refl, choose_behind cs c d h)
 

@@ -1,6 +1,6 @@
 //! Laws on live walks and on the rules on them, each the contract of a function that does nothing.
 
-ghost use Rattle.dn_net.specs.WalkRules.{ChainIsWalk, CycleIsLeast, CycleIsRow, EndlessIsRefused, LiveWalksAreAll, LiveWalksAreInOrder, NoFaultIsShallow, PathIsLeast, ShortestCycleIsShortest};
+ghost use Rattle.dn_net.specs.WalkRules.{ChainIsWalk, CycleIsLeast, CycleIsRow, EndlessIsRefused, GapsAreAll, LiveWalksAreAll, LiveWalksAreInOrder, NoFaultIsShallow, PathIsLeast, ReachIsWithin, ShortestCycleIsShortest};
 
 /// The list has exactly the live walks of 1 to k choices.
 pub fn live_walks_are_all()
@@ -46,4 +46,14 @@ pub fn endless_is_refused()
 /// In a net that breaks no rule on walks no chain has 65 steps.
 pub fn no_fault_is_shallow()
     ensures { NoFaultIsShallow }
+{}
+
+/// The gaps that are listed of a node are exactly its gaps.
+pub fn gaps_are_all()
+    ensures { GapsAreAll }
+{}
+
+/// In a net that breaks no rule on walks what is reached at all is reached within 65 steps.
+pub fn reach_is_within()
+    ensures { ReachIsWithin }
 {}

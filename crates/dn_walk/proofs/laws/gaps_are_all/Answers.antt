@@ -1,0 +1,5 @@
+use Rattle.dn_walk.proofs.Gaps.{gaps_are_all}
+use Rattle.dn_walk.proofs.laws.gaps_are_all.Goals as goal
+
+pub returns : goal.returns
+returns c = gaps_are_all
