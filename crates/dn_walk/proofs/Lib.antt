@@ -12,4 +12,5 @@ pub mod Listed
 pub mod Members
 pub mod Order
 pub mod Pairs
+pub mod Starts
 pub mod Ways
