@@ -1,5 +1,6 @@
 pub mod Ends
 pub mod Following
+pub mod Fronts
 pub mod Joining
 pub mod Least
 pub mod Listing

@@ -13,11 +13,11 @@ use Rattle.dn_interval.proofs.Normal.{same_names, moved_ascending, moved_none, n
 
 -- the test that two lists of names are one
 
-is_same : (xs : List End) → same_ends xs xs ≡ true
+pub is_same : (xs : List End) → same_ends xs xs ≡ true
 is_same [] = refl
 is_same (x ∷ xs) = ap (λ b. cond b (same_ends xs xs) false) (and_from (nat_eq x.node x.node) (nat_eq x.base x.base) (eq-eqb x.node x.node refl) (eq-eqb x.base x.base refl)) ∙ is_same xs
 
-one_list_of_ends : (xs ys : List End) → same_ends xs ys ≡ true → xs ≡ ys
+pub one_list_of_ends : (xs ys : List End) → same_ends xs ys ≡ true → xs ≡ ys
 one_list_of_ends [] [] e = refl
 one_list_of_ends [] (y ∷ ys) e = absurd (false≢true e)
 one_list_of_ends (x ∷ xs) [] e = absurd (false≢true e)
@@ -29,7 +29,7 @@ one_list_of_ends (x ∷ xs) (y ∷ ys) e = go (same_end x y) refl e (one_list_of
 
 -- names moved on by one and then by more
 
-moved_more : (k : ℕ) (xs : List End) → map (moved k) (map (moved 1) xs) ≡ map (moved (suc k)) xs
+pub moved_more : (k : ℕ) (xs : List End) → map (moved k) (map (moved 1) xs) ≡ map (moved (suc k)) xs
 moved_more k [] = refl
 moved_more k (x ∷ xs) =
     let e : (x.base + 1) + k ≡ x.base + suc k = omega arith in

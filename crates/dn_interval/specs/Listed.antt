@@ -1,9 +1,9 @@
 -- Normal rows as a list that is made address by address, from the last address to the first.
-use Rattle.std.specs.Prelude.{◌≡◌, ℕ, zero, suc, ◌+◌, ◌-◌, ◌≤◌, Bool, true, false, if◌then◌else◌, ◌&&◌, ◌==◌, List, [], ◌∷◌, map}
+use Rattle.std.specs.Prelude.{◌≡◌, ℕ, zero, suc, ◌+◌, ◌-◌, ◌≤◌, ◌⊎◌, ◌↔◌, Bool, true, false, if◌then◌else◌, ◌&&◌, ◌==◌, List, [], ◌∷◌, map}
 use Rattle.dn_interval.specs.declared.row.End.{End}
 use Rattle.dn_interval.specs.declared.row.Row.{Row}
 use Rattle.dn_interval.specs.declared.span.TheConstants.{TOP}
-use Rattle.dn_interval.specs.Rows.{Member, moved, Ascending, AreNormal}
+use Rattle.dn_interval.specs.Rows.{Member, moved, Ascending, HasEnds, AreNormal}
 
 -- a row as it is read: its first and its last address, and the names of the first
 pub record Seen : Type 0 where
@@ -40,3 +40,22 @@ listed_rows names = rows_from names (TOP + 1) 0
 -- Rows that are normal for a function are that list.
 abbrev pub NormalRowsAreListed : Type 0
 NormalRowsAreListed = (names : ℕ → List End) → ((a : ℕ) → Ascending (names a)) → (rows : List Row) → AreNormal (λ a y. Member y (names a)) rows → map seen_by rows ≡ listed_rows names
+
+-- the next row, where it touches, does not go on with the names of this one
+abbrev pub SeenParted : Seen → List Seen → Type 0
+SeenParted r [] = Unit {0}
+SeenParted r (s ∷ rest) = s.lo ≡ suc r.hi → s.ends ≡ map (moved (suc r.hi - r.lo)) r.ends → ⊥
+
+-- the rows stand at an address or above it, one above the other and none above the last address, each with names that ascend, and two that touch do not go on with one another
+abbrev pub SeenApart : ℕ → List Seen → Type 0
+SeenApart from [] = Unit {0}
+SeenApart from (r ∷ rest) = (from ≤ r.lo) × (r.lo ≤ r.hi) × (r.hi ≤ TOP) × HasEnds r.ends × Ascending r.ends × SeenParted r rest × SeenApart (suc r.hi) rest
+
+-- the rows give the name to the address
+abbrev pub SeenGive : List Seen → ℕ → End → Type 0
+SeenGive [] a y = ⊥
+SeenGive (r ∷ rest) a y = ((r.lo ≤ a) × (a ≤ r.hi) × Member y (map (moved (a - r.lo)) r.ends)) ⊎ SeenGive rest a y
+
+-- The listed rows are normal: they stand apart, and give to every address exactly its names.
+abbrev pub ListedRowsAreNormal : Type 0
+ListedRowsAreNormal = (names : ℕ → List End) → ((a : ℕ) → Ascending (names a)) → SeenApart 0 (listed_rows names) × ((a : ℕ) (y : End) → a ≤ TOP → Member y (names a) ↔ SeenGive (listed_rows names) a y)

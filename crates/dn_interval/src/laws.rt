@@ -1,6 +1,6 @@
 //! Laws on span sets and normal rows, each on a function that does nothing.
 
-ghost use Rattle.dn_interval.specs.Listed.{NormalRowsAreListed};
+ghost use Rattle.dn_interval.specs.Listed.{ListedRowsAreNormal, NormalRowsAreListed};
 ghost use Rattle.dn_interval.specs.Rows.{OneListOfRows};
 ghost use Rattle.dn_interval.specs.Spans.{OneListOfSpans};
 
@@ -17,4 +17,10 @@ pub fn one_list_of_rows()
 /// Rows that are normal for a function are the list that is made address by address.
 pub fn normal_rows_are_listed()
     ensures { NormalRowsAreListed }
+{}
+
+/// The list that is made address by address is normal: its rows stand apart, and give to every address
+/// exactly its names.
+pub fn listed_rows_are_normal()
+    ensures { ListedRowsAreNormal }
 {}
