@@ -1,5 +1,5 @@
 -- What stands in front of the rows above an address keeps them normal, so the rows that are made address by address are.
-use Rattle.std.proofs.Common.{◌≡◌, ℕ, zero, suc, ◌+◌, ◌-◌, ◌<◌, ◌≤◌, ◌⊎◌, ◌↔◌, inl, inr, Bool, true, false, ◌&&◌, cond, nat_eq, List, [], ◌∷◌, map, refl, sym, ap, ◌∙◌, subst, arith, eqb-true, eq-eqb}
+use Rattle.std.proofs.Common.{◌≡◌, ℕ, zero, suc, ◌+◌, ◌-◌, ◌<◌, ◌≤◌, ◌↔◌, inl, inr, Bool, true, false, ◌&&◌, cond, nat_eq, List, [], ◌∷◌, map, refl, sym, ap, ◌∙◌, subst, arith, eqb-true, eq-eqb}
 use Rattle.std.proofs.lemmas.Bool.{and_parts, and_from, cases_lt, false≢true}
 use Rattle.dn_interval.specs.declared.row.End.{End}
 use Rattle.dn_interval.specs.declared.span.TheConstants.{TOP}
@@ -29,8 +29,7 @@ onward names a es rows others n v here above b y l t = elim (cases_lt a b) [
   | inl m ↦ (λ g. (above b y m).0 ((v.exact b y m t).0 g), λ g. (v.exact b y m t).1 ((above b y m).1 g))
   | inr m ↦
       let e : a ≡ b = omega arith in
-      let f : names b ≡ es = ap names (sym e) ∙ n in
-      (
+      let f : names b ≡ es = ap names (sym e) ∙ n in (
         (λ g. subst (λ c. SeenGive others c y) e ((here y).0 (subst (Member y) f g))),
         (λ g. subst (Member y) (sym f) ((here y).1 (subst (λ c. SeenGive others c y) (sym e) g))),
       )
@@ -41,17 +40,18 @@ no_front : (names : ℕ → List End) (a : ℕ) (rows : List Seen) → names a �
 no_front names a rows n v = record {
   apart = apart_from (suc a) a rows v.apart (omega arith);
   exact = onward names a [] rows rows n v
-  (λ y. ((λ m. absurd m), (λ g. none_below (suc a) rows v.apart a y (omega arith) g)))
-  (λ b y l. ((λ g. g), (λ g. g)));
+      (λ y. ((λ m. absurd m), (λ g. none_below (suc a) rows v.apart a y (omega arith) g)))
+      (λ b y l. ((λ g. g), (λ g. g)));
 }
+
+-- names that are not moved
+unmoved : (a : ℕ) (es : List End) → map (moved (a - a)) es ≡ es
+unmoved a es = let z : a - a ≡ 0 = omega arith in ap (λ k. map (moved k) es) z ∙ moved_none es
 
 -- the address has a row of its own
 module _ (names : ℕ → List End) (a : ℕ) (es : List End) (rows : List Seen) where
   abbrev own : Seen
   own = record { lo = a; hi = a; ends = es }
-
-  unmoved : map (moved (a - a)) es ≡ es
-  unmoved = let z : a - a ≡ 0 = omega arith in ap (λ k. map (moved k) es) z ∙ moved_none es
 
   own_front : names a ≡ es → HasEnds es → Ascending es → a ≤ TOP → SeenParted own rows → Made names (suc a) rows → Made names a (own ∷ rows)
   own_front n h up top p v = record {
@@ -60,10 +60,10 @@ module _ (names : ℕ → List End) (a : ℕ) (es : List End) (rows : List Seen)
   }
     where
       here : (y : End) → Member y es → SeenGive (own ∷ rows) a y
-      here y m = inl (omega arith, omega arith, subst (Member y) (sym unmoved) m)
+      here y m = inl (omega arith, omega arith, subst (Member y) (sym (unmoved a es)) m)
 
       back : (y : End) → SeenGive (own ∷ rows) a y → Member y es
-      back y (inl g) = subst (Member y) unmoved g.2
+      back y (inl g) = subst (Member y) (unmoved a es) g.2
       back y (inr g) = absurd (none_below (suc a) rows v.apart a y (omega arith) g)
 
       above : (b : ℕ) (y : End) → a < b → SeenGive (own ∷ rows) b y → SeenGive rows b y
@@ -78,8 +78,8 @@ module _ (names : ℕ → List End) (a : ℕ) (es : List End) (r : Seen) (rows :
   longer_parted : (rs : List Seen) → r.lo ≡ suc a → r.lo ≤ r.hi → r.ends ≡ map (moved 1) es → SeenParted r rs → SeenParted longer rs
   longer_parted [] e o f p = tt
   longer_parted (s ∷ ss) e o f p = λ l n.
-    let k : suc (suc r.hi - r.lo) ≡ suc r.hi - a = omega (arith, e, o) in
-    p l (n ∙ ap (λ t. map (moved t) es) (sym k) ∙ sym (moved_more (suc r.hi - r.lo) es) ∙ ap (map (moved (suc r.hi - r.lo))) (sym f))
+      let k : suc (suc r.hi - r.lo) ≡ suc r.hi - a = omega (arith, e, o) in
+      p l (n ∙ ap (λ t. map (moved t) es) (sym k) ∙ sym (moved_more (suc r.hi - r.lo) es) ∙ ap (map (moved (suc r.hi - r.lo))) (sym f))
 
   on : (b : ℕ) → r.lo ≡ suc a → r.ends ≡ map (moved 1) es → suc a ≤ b → map (moved (b - r.lo)) r.ends ≡ map (moved (b - a)) es
   on b e f l =
@@ -92,14 +92,11 @@ module _ (names : ℕ → List End) (a : ℕ) (es : List End) (r : Seen) (rows :
     exact = onward names a es (r ∷ rows) (longer ∷ rows) n v (λ y. ((λ m. here y m), (λ g. back y g))) (λ b y l. ((λ g. there b y l g), (λ g. above b y l g)));
   }
     where
-      unmoved_longer : map (moved (a - a)) es ≡ es
-      unmoved_longer = let z : a - a ≡ 0 = omega arith in ap (λ k. map (moved k) es) z ∙ moved_none es
-
       here : (y : End) → Member y es → SeenGive (longer ∷ rows) a y
-      here y m = inl (omega arith, omega (arith, e, v.apart.1), subst (Member y) (sym unmoved_longer) m)
+      here y m = inl (omega arith, omega (arith, e, v.apart.1), subst (Member y) (sym (unmoved a es)) m)
 
       back : (y : End) → SeenGive (longer ∷ rows) a y → Member y es
-      back y (inl g) = subst (Member y) unmoved_longer g.2
+      back y (inl g) = subst (Member y) (unmoved a es) g.2
       back y (inr g) = absurd (none_below (suc r.hi) rows v.apart.6 a y (omega (arith, e, v.apart.1)) g)
 
       there : (b : ℕ) (y : End) → a < b → SeenGive (r ∷ rows) b y → SeenGive (longer ∷ rows) b y
