@@ -48,8 +48,8 @@ impl Model for Scope {
     ghost Value = { Replacement };
 
     ghost view = { λ s. record {
-        numbers = reverse (map (λ n. (n.word, n.number)) s.loops.items) ++ map (λ n. (n.word, n.number)) s.params.items;
-        naming = naming_by (option_map (λ n. (n.prefix, map (λ b. (b.word, b.text)) n.nodes.items)) s.names);
+      numbers = reverse (map (λ n. (n.word, n.number)) s.loops.items) ++ map (λ n. (n.word, n.number)) s.params.items;
+      naming = naming_by (option_map (λ n. (n.prefix, map (λ b. (b.word, b.text)) n.nodes.items)) s.names);
     } };
 }
 

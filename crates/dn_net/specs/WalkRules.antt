@@ -121,8 +121,8 @@ pub record IsListed (net : List NodeDecl) (w : Walk) : Type 0 where
 
 abbrev pub LiveWalksAreAll : Type 0
 LiveWalksAreAll = (net : List NodeDecl) → IsChecked net → (k : ℕ) →
-  ((w : Walk) → Member w (live_walks net k) → IsListed net w × (1 ≤ length w.choices) × (length w.choices ≤ k))
-  × ((start : ℕ) (choices : List Choice) → IsLive net start choices → 1 ≤ length choices → length choices ≤ k → (w : Walk) × Member w (live_walks net k) × (w.start ≡ start) × (w.choices ≡ choices))
+    ((w : Walk) → Member w (live_walks net k) → IsListed net w × (1 ≤ length w.choices) × (length w.choices ≤ k))
+    × ((start : ℕ) (choices : List Choice) → IsLive net start choices → 1 ≤ length choices → length choices ≤ k → (w : Walk) × Member w (live_walks net k) × (w.start ≡ start) × (w.choices ≡ choices))
 
 -- Each comes before those behind it, in the order of length, start, span and choices; so each stands once.
 abbrev pub LiveWalksAreInOrder : Type 0
