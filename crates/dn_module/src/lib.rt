@@ -10,5 +10,6 @@ pub mod draft;
 pub mod expand;
 pub mod fault;
 pub mod scope;
+pub mod values;
 
 pub use dn_base::OutOfMemory;
