@@ -9,6 +9,7 @@ pub mod command;
 pub mod draft;
 pub mod expand;
 pub mod fault;
+pub mod nodes;
 pub mod scope;
 pub mod values;
 

@@ -13,7 +13,7 @@ use crate::fault::ExpandFault;
 use crate::scope::Scope;
 use dn_base::text::Text;
 use dn_parse::syntax::{Expr, PartExpr};
-use std::alloc::{AllocError, Global};
+use std::alloc::{AllocError, AllocFailed, Global};
 
 /// One more than the largest value.
 const LIMIT: u128 = 1 << 64;
@@ -61,6 +61,14 @@ impl From<AllocError> for NameFault {
     ghost from_gives = { λ _ e. e ≡ no_memory };
 
     fn from(_error: AllocError) -> NameFault {
+        NameFault::OutOfMemory
+    }
+}
+
+impl<T: Drop> From<AllocFailed<T>> for NameFault {
+    ghost from_gives = { λ _ e. e ≡ no_memory };
+
+    fn from(_error: AllocFailed<T>) -> NameFault {
         NameFault::OutOfMemory
     }
 }
