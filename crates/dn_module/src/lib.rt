@@ -6,9 +6,12 @@
 #![tactic(auto)]
 
 pub mod command;
+pub mod commands;
 pub mod draft;
 pub mod expand;
 pub mod fault;
+pub mod link;
+pub mod names;
 pub mod nodes;
 pub mod scope;
 pub mod values;
