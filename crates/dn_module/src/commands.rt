@@ -39,11 +39,7 @@ pub fn commands(
 }
 
 /// A command, or the fault of its statement.
-fn command_at(
-    alloc: Global,
-    names: &NameTable,
-    asked: &syntax::Cmd,
-) -> Result<Command, ExpandFault>
+fn command_at(alloc: Global, names: &NameTable, asked: &syntax::Cmd) -> Result<Command, ExpandFault>
     ensures made { Gives result (at_line asked.now.line (command_of names.now (order_of asked.now.order))) }
     ensures known { IfOk result (λ c. IsTrue (names_within (length names.now) c)) }
 {

@@ -14,6 +14,8 @@ pub mod link;
 pub mod names;
 pub mod nodes;
 pub mod scope;
+#[cfg(test)]
+mod value_tests;
 pub mod values;
 
 pub use dn_base::OutOfMemory;

@@ -121,11 +121,7 @@ fn dest_of(names: &NameTable, dest: &DraftDest) -> Result<Dest, LinkFault>
     })
 }
 
-fn dests_of(
-    alloc: Global,
-    names: &NameTable,
-    dests: &[DraftDest],
-) -> Result<Items<Dest>, LinkFault>
+fn dests_of(alloc: Global, names: &NameTable, dests: &[DraftDest]) -> Result<Items<Dest>, LinkFault>
     ensures dests { IfOk result (λ made. made ≡ map (dest_in names.now) dests.now) }
     ensures known { IfOk result (λ _. dests_known names.now dests.now ≡ true) }
     ensures unknown { IsErrOf result LinkFault.Unknown → dests_known names.now dests.now ≡ false }
