@@ -4,3 +4,4 @@ pub mod Drafts
 pub mod Commands
 pub mod Expand
 pub mod Told
+pub mod Flaws

@@ -6,9 +6,16 @@
 #![tactic(auto)]
 
 pub mod command;
+pub mod commands;
 pub mod draft;
 pub mod expand;
 pub mod fault;
+pub mod link;
+pub mod names;
+pub mod nodes;
 pub mod scope;
+#[cfg(test)]
+mod value_tests;
+pub mod values;
 
 pub use dn_base::OutOfMemory;
