@@ -4,6 +4,7 @@
 //! one statement for each node, in the order of their numbers.
 #![tactic(auto)]
 
+pub mod laws;
 pub mod names;
 pub mod net;
 mod parts;
