@@ -6,7 +6,7 @@ use Rattle.std.specs.List.{list_all}
 use Rattle.dn_parse.specs.Token.{hex_value, decimal_value, spelled_from, digits_number, fitting, is_hexadecimal, number_of, is_word_byte, is_digit}
 use Rattle.dn_parse.proofs.Numbers.{some_digits}
 
-both : (a b : Bool) → IsTrue (a && b) → IsTrue a × IsTrue b
+pub both : (a b : Bool) → IsTrue (a && b) → IsTrue a × IsTrue b
 both true b e = (refl, e)
 both false b e = cc
 
