@@ -1,5 +1,7 @@
 use Rattle.dn_print.proofs.laws.printed_net_is_read_back.Goals as goal
-use Rattle.dn_print.proofs.Lexes.{dot_closed}
+use Rattle.dn_print.proofs.Labels.{name_shown}
+use Rattle.dn_print.proofs.Shown.{most_shown}
+use Rattle.dn_print.proofs.Titles.{full_both}
 
 pub returns : goal.returns
-returns c = let x = dot_closed in ?
+returns c = let x = name_shown in ?
