@@ -6,3 +6,5 @@ pub mod Lexes
 pub mod Shown
 pub mod Titles
 pub mod Labels
+pub mod Formed
+pub mod Pieces

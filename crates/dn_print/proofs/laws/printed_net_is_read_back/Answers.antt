@@ -1,7 +1,5 @@
 use Rattle.dn_print.proofs.laws.printed_net_is_read_back.Goals as goal
-use Rattle.dn_print.proofs.Labels.{name_shown}
-use Rattle.dn_print.proofs.Shown.{most_shown}
-use Rattle.dn_print.proofs.Titles.{full_both}
+use Rattle.dn_print.proofs.Pieces.{entries_shown}
 
 pub returns : goal.returns
-returns c = let x = name_shown in ?
+returns c = let x = entries_shown in ?
