@@ -59,7 +59,7 @@ close_closed line = record { it = λ rest h. (close_open line).it rest }
 close_quiet : Quiet (codes "]")
 close_quiet = record { it = λ rest h. refl }
 
-part_by_shown : (line : ℕ) (w : List ℕ) (i : Option ℕ) → Title w → IsSmall i → Shown line (label_by w i) (part_at 32) PartEnd part_text (label_by w i)
+pub part_by_shown : (line : ℕ) (w : List ℕ) (i : Option ℕ) → Title w → IsSmall i → Shown line (label_by w i) (part_at 32) PartEnd part_text (label_by w i)
 part_by_shown line w None t h = record {
   tokens = word_token line w ∷ [];
   tree = record { title = w; index = None };

@@ -8,3 +8,4 @@ pub mod Titles
 pub mod Labels
 pub mod Formed
 pub mod Pieces
+pub mod Nodes
