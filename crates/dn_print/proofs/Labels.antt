@@ -59,7 +59,7 @@ close_closed line = record { it = λ rest h. (close_open line).it rest }
 close_quiet : Quiet (codes "]")
 close_quiet = record { it = λ rest h. refl }
 
-pub part_by_shown : (line : ℕ) (w : List ℕ) (i : Option ℕ) → Title w → IsSmall i → Shown line (label_by w i) (part_at 32) PartEnd part_text (label_by w i)
+part_by_shown : (line : ℕ) (w : List ℕ) (i : Option ℕ) → Title w → IsSmall i → Shown line (label_by w i) (part_at 32) PartEnd part_text (label_by w i)
 part_by_shown line w None t h = record {
   tokens = word_token line w ∷ [];
   tree = record { title = w; index = None };
@@ -126,3 +126,15 @@ name_shown line text full =
       read = s.read;
       valued = let v = s.valued in rw v (ap (λ (t : List ℕ). Ok t) (sym e));
     }
+
+-- the first token of a name is a word
+first_by : (line : ℕ) (w : List ℕ) (i : Option ℕ) (t : Title w) (h : IsSmall i) → (ts : List Token) × ((part_by_shown line w i t h).tokens ≡ word_token line w ∷ ts)
+unfolding part_by_shown
+first_by line w None t h = ([], refl)
+first_by line w (Some n) t h = (sign_token line OpenBracket ∷ number_token line n ∷ sign_token line CloseBracket ∷ [], refl)
+
+pub name_first : (line : ℕ) (text : List ℕ) (full : IsFull text) → (ts : List Token) × ((name_shown line text full).tokens ≡ word_token line full.first.title ∷ ts)
+unfolding name_shown first_shown part_shown
+name_first line text full =
+    let f = first_by line full.first.title full.first.index full.one.0 full.one.1 in
+    (f.0 ++ (more_shown line full.more full.all).tokens, ap (λ (l : List Token). l ++ (more_shown line full.more full.all).tokens) f.1)

@@ -9,17 +9,18 @@ use Rattle.dn_parse.specs.Descent.{Reader, after_sign, after_keyword, sign_at, k
 use Rattle.dn_parse.proofs.Lexed.{with_tokens}
 use Rattle.dn_net.specs.declared.node.Block.{Block}
 use Rattle.dn_net.specs.declared.node.NodeDecl.{NodeDecl}
+use Rattle.dn_net.specs.declared.node.Role.{Role}
 use Rattle.dn_module.specs.declared.draft.Draft.{Draft}
 use Rattle.dn_module.specs.declared.draft.DraftEntry.{DraftEntry}
 use Rattle.dn_module.specs.Values.{each, full_name, full_name_or_none}
 use Rattle.dn_module.specs.Drafts.{block_of, entry_of, role_of, draft_of, declared_by, over_known, refers_to_known, number_of, entry_in, node_in}
 use Rattle.dn_print.specs.Statement.{node_name, accept_text, map_text, over_text, parts_text, role_text, statement_text, blocks_text, entries_text}
 use Rattle.dn_print.proofs.Digits.{both}
-use Rattle.dn_print.proofs.Titles.{IsFull, Label, label_by, IsSmall, Title}
+use Rattle.dn_print.proofs.Titles.{IsFull}
 use Rattle.dn_print.proofs.Formed.{Each, Maybe, GoodBlock, GoodEntry, GoodDraft}
 use Rattle.dn_print.proofs.Lexes.{word_token, sign_token, keyword_token, Closed, Open, Quiet, closed_then, open_then, quiet_then, quiet_none, closed_none, accept_open, map_open, over_open, agent_open, vectors_open, close_open, is_word_closed, end_open, with_both}
-use Rattle.dn_print.proofs.Shown.{Shown, first_shown}
-use Rattle.dn_print.proofs.Labels.{NumberEnd, NameEnd, part_by_shown, part_shown, name_shown}
+use Rattle.dn_print.proofs.Shown.{Shown}
+use Rattle.dn_print.proofs.Labels.{NumberEnd, NameEnd, name_shown, name_first}
 use Rattle.dn_print.proofs.Pieces.{Named, BlocksEnd, EntriesEnd, blocks_shown, entries_known, entries_shown}
 
 -- what may follow the blocks, the entries and the `over` of a node
@@ -207,24 +208,123 @@ node_read role line name spec xs ys rest e f =
     let whole = ap (name_at 32) (append_assoc xs (keyword_token line Is ∷ ys) rest) ∙ e in
     rw (whole, f) refl
 
--- the first token of a name is a word
-first_by : (line : ℕ) (w : List ℕ) (i : Option ℕ) (t : Title w) (h : IsSmall i) → (ts : List Token) × ((part_by_shown line w i t h).tokens ≡ word_token line w ∷ ts)
-unfolding part_by_shown
-first_by line w None t h = ([], refl)
-first_by line w (Some n) t h = (_, refl)
+record Body (line : ℕ) (text : List ℕ) (d : Draft) : Type 0 where
+  word : List ℕ
+  more : List Token
+  name : List Part
+  spec : Spec
+  lexed : Closed line text (word_token line word ∷ more)
+  read : (role : RoleOf) (rest : List Token) → SpecEnd rest → node_at role (word_token line word ∷ (more ++ rest)) ≡ Ok (node role name spec, rest)
+  named : full_name name ≡ Ok d.name
+  accepts : each block_of spec.accepts ≡ Ok d.accepts
+  entries : each entry_of spec.entries ≡ Ok d.entries
+  over : full_name_or_none spec.over ≡ Ok d.over
 
-name_first : (line : ℕ) (text : List ℕ) (full : IsFull text) → (ts : List Token) × ((name_shown line text full).tokens ≡ word_token line full.first.title ∷ ts)
-unfolding name_shown first_shown part_shown
-name_first line text full =
-    let f = first_by line full.first.title full.first.index full.one.0 full.one.1 in
-    (_, ap (λ (l : List Token). l ++ _) f.1)
+abbrev rest_text : List NodeDecl → List (List ℕ) → Draft → List ℕ
+rest_text net known d = codes " is" ++ (accept_text d.accepts ++ (map_text net (map (entry_in known) d.entries) ++ over_text net (option_map (number_of known) d.over)))
 
--- a line of the printed net: its tokens, the declaration that is read from them, and the node that this makes
-pub record Said (line : ℕ) (text : List ℕ) (d : Draft) : Type 0 where
+body_shown : (net : List NodeDecl) (known : List (List ℕ)) → Named net known → (line : ℕ) (d : Draft) → GoodDraft d → IsTrue (refers_to_known known d) → Body line (d.name ++ rest_text net known d) d
+body_shown net known named line d h k =
+    let n = name_shown line d.name h.name in
+    let f = name_first line d.name h.name in
+    let s = spec_shown net known named line d h k in
+    let tokens = n.tokens ++ (keyword_token line Is ∷ s.tokens) in
+    let more = f.0 ++ (keyword_token line Is ∷ s.tokens) in
+    let same : n.tokens ++ (keyword_token line Is ∷ s.tokens) ≡ word_token line h.name.first.title ∷ (f.0 ++ (keyword_token line Is ∷ s.tokens)) = ap (λ (l : List Token). l ++ (keyword_token line Is ∷ s.tokens)) f.1 in
+    record {
+      word = h.name.first.title;
+      more = f.0 ++ (keyword_token line Is ∷ s.tokens);
+      name = n.tree;
+      spec = s.tree;
+      lexed = subst (λ (l : List Token). Closed line (d.name ++ rest_text net known d) l) same (closed_then n.lexed (is_quiet (accept_text d.accepts ++ (map_text net (map (entry_in known) d.entries) ++ over_text net (option_map (number_of known) d.over)))) (closed_then (is_word_closed line) s.quiet s.lexed));
+      read = λ role rest e. ap (λ (l : List Token). node_at role (l ++ rest)) (sym same) ∙ node_read role line n.tree s.tree n.tokens s.tokens rest (n.read (keyword_token line Is ∷ (s.tokens ++ rest)) (is_ends_name line (s.tokens ++ rest))) (s.read rest e);
+      named = n.valued;
+      accepts = s.accepts;
+      entries = s.entries;
+      over = s.over;
+    }
+
+-- A line of the printed net: its tokens, the declaration that is read from them, and the node that this makes.
+pub record Said (line : ℕ) (text : List ℕ) (role : Role) (d : Draft) : Type 0 where
   pub first : Token
   pub more : List Token
   pub begins : first.line ≡ line
   pub declaration : Declaration
   pub lexed : (rest : List ℕ) → tokens_of line (text ++ rest) ≡ with_tokens (first ∷ more) (tokens_of (line + 1) rest)
   pub read : (rest : List Token) → whole_statement_at (first ∷ (more ++ rest)) ≡ Ok (declares declaration, rest)
-  pub declared : declared_by line declaration ≡ Ok (record { line = line; role = d.role; name = d.name; accepts = d.accepts; entries = d.entries; over = d.over })
+  pub declared : declared_by line declaration ≡ Ok (record { line = line; role = role; name = d.name; accepts = d.accepts; entries = d.entries; over = d.over })
+
+semicolon_ends : (line : ℕ) (rest : List Token) → SpecEnd (sign_token line Semicolon ∷ rest)
+unfolding after_sign after_keyword
+semicolon_ends line rest = ((refl, refl), refl, refl, refl)
+
+end_lexed : (line : ℕ) (p q : List ℕ) (ts : List Token) → Closed line (p ++ q) ts → (rest : List ℕ) → tokens_of line ((p ++ (q ++ codes ";\n")) ++ rest) ≡ with_tokens (ts ++ (sign_token line Semicolon ∷ [])) (tokens_of (line + 1) rest)
+end_lexed line p q ts c rest =
+    ap (tokens_of line) (append_assoc p (q ++ codes ";\n") rest ∙ ap (λ (l : List ℕ). p ++ l) (append_assoc q (codes ";\n") rest) ∙ sym (append_assoc p q (codes ";\n" ++ rest)))
+    ∙ c.it (codes ";\n" ++ rest) refl
+    ∙ ap (with_tokens ts) (end_open line rest)
+    ∙ with_both ts (sign_token line Semicolon ∷ []) (tokens_of (line + 1) rest)
+
+marked_lexed : (line : ℕ) (p q : List ℕ) (t : Token) (ts : List Token) → Open line p (t ∷ []) → (rest : List ℕ) → tokens_of line (q ++ rest) ≡ with_tokens ts (tokens_of (line + 1) rest) → tokens_of line ((p ++ q) ++ rest) ≡ with_tokens (t ∷ ts) (tokens_of (line + 1) rest)
+marked_lexed line p q t ts o rest e =
+    ap (tokens_of line) (append_assoc p q rest) ∙ o.it (q ++ rest) ∙ ap (with_tokens (t ∷ [])) e ∙ with_both (t ∷ []) ts (tokens_of (line + 1) rest)
+
+plain_read : (line : ℕ) (w : List ℕ) (ts rest : List Token) (d : Declaration) → node_at plain_role (word_token line w ∷ ts) ≡ Ok (d, sign_token line Semicolon ∷ rest) → whole_statement_at (word_token line w ∷ ts) ≡ Ok (declares d, rest)
+unfolding whole_statement_at statement_at sign_at after_sign
+plain_read line w ts rest d e = rw e refl
+
+agent_read : (line : ℕ) (ts rest : List Token) (d : Declaration) → node_at agent_role ts ≡ Ok (d, sign_token line Semicolon ∷ rest) → whole_statement_at (keyword_token line Agent ∷ ts) ≡ Ok (declares d, rest)
+unfolding whole_statement_at statement_at keyword_statement_at sign_at after_sign
+agent_read line ts rest d e = rw e refl
+
+vectors_read : (line : ℕ) (ts rest : List Token) (d : Declaration) → node_at vectors_role ts ≡ Ok (d, sign_token line Semicolon ∷ rest) → whole_statement_at (keyword_token line Vectors ∷ ts) ≡ Ok (declares d, rest)
+unfolding whole_statement_at statement_at keyword_statement_at sign_at after_sign
+vectors_read line ts rest d e = rw e refl
+
+-- the tokens of a body and then the semicolon
+body_read : (line : ℕ) (text : List ℕ) (d : Draft) (b : Body line text d) (role : RoleOf) (rest : List Token) → node_at role (word_token line b.word ∷ ((b.more ++ (sign_token line Semicolon ∷ [])) ++ rest)) ≡ Ok (node role b.name b.spec, sign_token line Semicolon ∷ rest)
+body_read line text d b role rest =
+    ap (λ (l : List Token). node_at role (word_token line b.word ∷ l)) (append_assoc b.more (sign_token line Semicolon ∷ []) rest)
+    ∙ b.read role (sign_token line Semicolon ∷ rest) (semicolon_ends line rest)
+
+body_declared : (line : ℕ) (text : List ℕ) (d : Draft) (b : Body line text d) (role : RoleOf) → declared_by line (node role b.name b.spec) ≡ Ok (record { line = line; role = role_of role; name = d.name; accepts = d.accepts; entries = d.entries; over = d.over })
+body_declared line text d b role =
+    let n = b.named in
+    let a = b.accepts in
+    let e = b.entries in
+    let o = b.over in
+    rw (n, a, e, o) refl
+
+said_by : (net : List NodeDecl) (known : List (List ℕ)) (line : ℕ) (d : Draft) → Body line (d.name ++ rest_text net known d) d → (role : RoleOf) → Said line (role_text (role_of role) ++ (d.name ++ (rest_text net known d ++ codes ";\n"))) (role_of role) d
+said_by net known line d b plain_role = record {
+  first = word_token line b.word;
+  more = b.more ++ (sign_token line Semicolon ∷ []);
+  begins = refl;
+  declaration = node plain_role b.name b.spec;
+  lexed = λ rest. end_lexed line d.name (rest_text net known d) (word_token line b.word ∷ b.more) b.lexed rest;
+  read = λ rest. plain_read line b.word ((b.more ++ (sign_token line Semicolon ∷ [])) ++ rest) rest (node plain_role b.name b.spec) (body_read line (d.name ++ rest_text net known d) d b plain_role rest);
+  declared = body_declared line (d.name ++ rest_text net known d) d b plain_role;
+}
+said_by net known line d b agent_role = record {
+  first = keyword_token line Agent;
+  more = word_token line b.word ∷ (b.more ++ (sign_token line Semicolon ∷ []));
+  begins = refl;
+  declaration = node agent_role b.name b.spec;
+  lexed = λ rest. marked_lexed line (codes "agent ") (d.name ++ (rest_text net known d ++ codes ";\n")) (keyword_token line Agent) (word_token line b.word ∷ (b.more ++ (sign_token line Semicolon ∷ []))) (agent_open line) rest (end_lexed line d.name (rest_text net known d) (word_token line b.word ∷ b.more) b.lexed rest);
+  read = λ rest. agent_read line (word_token line b.word ∷ ((b.more ++ (sign_token line Semicolon ∷ [])) ++ rest)) rest (node agent_role b.name b.spec) (body_read line (d.name ++ rest_text net known d) d b agent_role rest);
+  declared = body_declared line (d.name ++ rest_text net known d) d b agent_role;
+}
+said_by net known line d b vectors_role = record {
+  first = keyword_token line Vectors;
+  more = word_token line b.word ∷ (b.more ++ (sign_token line Semicolon ∷ []));
+  begins = refl;
+  declaration = node vectors_role b.name b.spec;
+  lexed = λ rest. marked_lexed line (codes "vectors ") (d.name ++ (rest_text net known d ++ codes ";\n")) (keyword_token line Vectors) (word_token line b.word ∷ (b.more ++ (sign_token line Semicolon ∷ []))) (vectors_open line) rest (end_lexed line d.name (rest_text net known d) (word_token line b.word ∷ b.more) b.lexed rest);
+  read = λ rest. vectors_read line (word_token line b.word ∷ ((b.more ++ (sign_token line Semicolon ∷ [])) ++ rest)) rest (node vectors_role b.name b.spec) (body_read line (d.name ++ rest_text net known d) d b vectors_role rest);
+  declared = body_declared line (d.name ++ rest_text net known d) d b vectors_role;
+}
+
+-- the line of a node
+pub statement_said : (net : List NodeDecl) (known : List (List ℕ)) → Named net known → (line : ℕ) (d : Draft) → GoodDraft d → IsTrue (refers_to_known known d) → Said line (statement_text [] net (node_in known d)) d.role d
+statement_said net known named line d h k =
+    subst (λ (r : Role). Said line (role_text r ++ (d.name ++ (rest_text net known d ++ codes ";\n"))) r d) (sym h.roles) (said_by net known line d (body_shown net known named line d h k) h.role)

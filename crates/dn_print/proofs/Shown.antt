@@ -69,7 +69,7 @@ row_cons {X} {Y} {line} {text} {tail_text} {reader} {next} {Fit} {End} {value} {
   reads (suc n) l rest h = row_step next reader t item.tokens tail.tokens rest item.tree tail.trees n (one ((item.tokens ++ tail.tokens) ++ rest)) (item.read (tail.tokens ++ rest) (tail.heads rest h)) (tail.read n (omega (arith, l)) rest h)
 
 -- the first piece, and those behind it
-pub first_shown : {X Y : Type 0} {line : ℕ} {text tail_text : List ℕ} {reader : Reader X} {next : List Token → Next X} {Fit End : List Token → Type 0} {value : X → Result Y Flaw} {y : Y} {ys : List Y} → Shown line text reader Fit value y → Row line tail_text next Fit End value ys → Shown line (text ++ tail_text) (first_and reader next) End (each value) (y ∷ ys)
+unfoldable pub first_shown : {X Y : Type 0} {line : ℕ} {text tail_text : List ℕ} {reader : Reader X} {next : List Token → Next X} {Fit End : List Token → Type 0} {value : X → Result Y Flaw} {y : Y} {ys : List Y} → Shown line text reader Fit value y → Row line tail_text next Fit End value ys → Shown line (text ++ tail_text) (first_and reader next) End (each value) (y ∷ ys)
 unfolding row_at
 first_shown {X} {Y} {line} {text} {tail_text} {reader} {next} {Fit} {End} {value} {y} {ys} item tail = record {
   tokens = item.tokens ++ tail.tokens;
