@@ -9,3 +9,5 @@ pub mod Labels
 pub mod Formed
 pub mod Pieces
 pub mod Nodes
+pub mod Grown
+pub mod Again

@@ -1,5 +1,5 @@
 use Rattle.dn_print.proofs.laws.printed_net_is_read_back.Goals as goal
-use Rattle.dn_print.proofs.Nodes.{statement_said}
+use Rattle.dn_print.proofs.Again.{given_back}
 
 pub returns : goal.returns
-returns c = let x = statement_said in ?
+returns c = let x = given_back in ?
