@@ -11,3 +11,6 @@ pub mod Pieces
 pub mod Nodes
 pub mod Grown
 pub mod Again
+pub mod Proper
+pub mod Trees
+pub mod Read
