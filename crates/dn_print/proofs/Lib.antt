@@ -14,3 +14,4 @@ pub mod Again
 pub mod Proper
 pub mod Trees
 pub mod Read
+pub mod Judged
