@@ -15,3 +15,5 @@ pub mod Proper
 pub mod Trees
 pub mod Read
 pub mod Judged
+pub mod Kept
+pub mod Made
