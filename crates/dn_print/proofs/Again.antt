@@ -1,10 +1,10 @@
 -- The text of a net is read as its nodes, one a line, and they make the net again.
-use Rattle.std.proofs.Common.{◌≡◌, ◌∙◌, ap, sym, refl, subst, ℕ, zero, suc, ◌+◌, ◌<◌, ◌≤◌, Bool, true, false, cond, not, ◌&&◌, ◌||◌, nat_le, List, [], ◌∷◌, ◌++◌, map, flat_map, length, slice_get, Option, Some, None, Result, Ok, Err, IsTrue, arith, append_assoc, append-nil, bytes_eq, le-leb}
+use Rattle.std.proofs.Common.{◌≡◌, ◌∙◌, ap, sym, refl, subst, ℕ, zero, suc, ◌+◌, ◌≤◌, Bool, true, false, cond, not, ◌||◌, List, [], ◌∷◌, ◌++◌, map, flat_map, length, slice_get, Result, Ok, Err, IsTrue, arith, append_assoc, append-nil, bytes_eq, le-leb}
 use Rattle.std.specs.List.{list_any, prefix_len}
 use Rattle.std.proofs.lemmas.Slice.Eq.{bytes_eq-Decides}
 use Rattle.dn_parse.specs.Token.{Token, tokens}
-use Rattle.dn_parse.specs.Tree.{Statement, declares, Declaration, Item, declared, Items, items, Tree}
-use Rattle.dn_parse.specs.Whole.{Blocks, Fault, by_step, step, at_stop, judge, reading, no_blocks_yet, last_line, too_long, of_reading, of_token_list, text_reading}
+use Rattle.dn_parse.specs.Tree.{declares, Declaration, Item, declared, Items, items, Tree}
+use Rattle.dn_parse.specs.Whole.{Blocks, judge, reading, no_blocks_yet, last_line, too_long, of_reading, of_token_list, text_reading}
 use Rattle.dn_parse.specs.Descent.{whole_statement_at}
 use Rattle.dn_parse.specs.Going.{tokens_of}
 use Rattle.dn_parse.proofs.Going.{tokens_go_on}
@@ -12,13 +12,12 @@ use Rattle.dn_parse.proofs.Lexed.{with_tokens}
 use Rattle.dn_parse.proofs.Judge.{judge_step, judge_end}
 use Rattle.dn_net.specs.declared.node.NodeDecl.{NodeDecl}
 use Rattle.dn_module.specs.declared.draft.Draft.{Draft}
-use Rattle.dn_module.specs.declared.fault.ExpandFault.{ExpandFault}
 use Rattle.dn_module.specs.declared.fault.ExpandFault.TheVariants.{Unknown}
 use Rattle.dn_module.specs.Values.{each, ◌>>=◌}
-use Rattle.dn_module.specs.Drafts.{names, is_known, number_of, refers_to_known, node_in, linked, with_draft, declared_by}
-use Rattle.dn_module.specs.Expand.{State, outside, statements, all_rewritten, Outcome, expanded, most_steps, nothing_yet}
+use Rattle.dn_module.specs.Drafts.{names, refers_to_known, node_in, linked, with_draft, declared_by}
+use Rattle.dn_module.specs.Expand.{outside, statements, all_rewritten, expanded, most_steps, nothing_yet}
 use Rattle.dn_print.specs.Names.{node_text}
-use Rattle.dn_print.specs.Statement.{node_name, statement_text, net_text}
+use Rattle.dn_print.specs.Statement.{statement_text, net_text}
 use Rattle.dn_print.proofs.Formed.{Each, GoodDraft}
 use Rattle.dn_print.proofs.Grown.{bare, reline, relined, names_relined, Grown, grown_few, fits_alike, fits_added, map_bare_more}
 use Rattle.dn_print.proofs.Nodes.{Said, statement_said}
@@ -154,7 +153,8 @@ given_back ds net good grown e short =
     let lexed : tokens (net_text [] net) ≡ Ok lines.found = tokens_go_on.whole (net_text [] net) ∙ ap (tokens_of 1) (sym text) ∙ lines.lexed in
     let few = grown_few [] ds grown (omega arith) in
     let steps = enough_steps in
-    let made = lines.made [] [] refl grown most_steps (omega (arith, few, steps)) in
-    (record { body = items lines.trees; commands = [] },
-     reads (net_text [] net) lines.found (record { body = items lines.trees; commands = [] }) short lexed (lines.read (last_line (net_text [] net)) lines.found []),
-     expands (items lines.trees) ds (relined 1 ds) net made (names_relined 1 ds) (linked_again (names ds) 1 ds l.0 ∙ ap (λ (n : List NodeDecl). Ok n) (sym same)))
+    let made = lines.made [] [] refl grown most_steps (omega (arith, few, steps)) in (
+      record { body = items lines.trees; commands = [] },
+      reads (net_text [] net) lines.found (record { body = items lines.trees; commands = [] }) short lexed (lines.read (last_line (net_text [] net)) lines.found []),
+      expands (items lines.trees) ds (relined 1 ds) net made (names_relined 1 ds) (linked_again (names ds) 1 ds l.0 ∙ ap (λ (n : List NodeDecl). Ok n) (sym same)),
+    )

@@ -1,5 +1,5 @@
 -- Numbers as they are printed: the tokenizer takes them back, and each byte of them is one of a word.
-use Rattle.std.proofs.Common.{◌≡◌, ◌∙◌, ap, sym, refl, subst, ℕ, zero, suc, ◌+◌, ◌*◌, ◌/◌, ◌%◌, ◌^◌, ◌<◌, ◌≤◌, Bool, true, false, cond, ◌&&◌, eqb, List, [], ◌∷◌, ◌++◌, length, take, drop, codes, Option, Some, None, IsTrue, arith, tests, mod-lt, pow-suc, div-lt_iff_lt-mul, div-add-mod', eqb-true, lt-ltb, bytes_eq}
+use Rattle.std.proofs.Common.{◌≡◌, ◌∙◌, ap, sym, refl, subst, ℕ, zero, suc, ◌+◌, ◌*◌, ◌/◌, ◌%◌, ◌^◌, ◌<◌, ◌≤◌, Bool, true, false, cond, ◌&&◌, eqb, List, [], ◌∷◌, ◌++◌, length, codes, Option, Some, IsTrue, arith, tests, mod-lt, pow-suc, div-lt_iff_lt-mul, div-add-mod', eqb-true, lt-ltb}
 use Rattle.std.proofs.Math.Nat.{pow-zero}
 use Rattle.std.specs.Fmt.{digits, digits_onto, digit_glyph, decimal}
 use Rattle.std.specs.List.{list_all}

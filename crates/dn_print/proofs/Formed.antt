@@ -1,5 +1,5 @@
 -- Nodes whose names are full names and whose numbers fit in 64 bits: those that a text makes.
-use Rattle.std.proofs.Common.{◌≡◌, ℕ, ◌<◌, ◌≤◌, ◌^◌, List, [], ◌∷◌, length, Option, Some, None}
+use Rattle.std.proofs.Common.{◌≡◌, ◌<◌, ◌≤◌, ◌^◌, List, [], ◌∷◌, length, Option, Some, None}
 use Rattle.dn_parse.specs.Tree.{Role as RoleOf}
 use Rattle.dn_net.specs.declared.node.Block.{Block}
 use Rattle.dn_module.specs.declared.draft.Draft.{Draft}

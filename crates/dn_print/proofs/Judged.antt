@@ -1,15 +1,15 @@
 -- The tree of a text is well formed.
-use Rattle.std.proofs.Common.{◌≡◌, ◌∙◌, ap, sym, refl, subst, ℕ, zero, suc, ◌<◌, ◌+◌, Bool, true, false, cond, nat_le, nat_lt, List, [], ◌∷◌, ◌++◌, length, Option, Some, None, Result, Ok, Err, arith}
+use Rattle.std.proofs.Common.{◌≡◌, ◌∙◌, sym, refl, subst, ℕ, zero, suc, ◌<◌, Bool, true, false, cond, nat_le, nat_lt, List, [], ◌∷◌, ◌++◌, length, Result, Ok, Err, arith}
 use Rattle.dn_parse.specs.Token.{Token, tokens}
-use Rattle.dn_parse.specs.Tree.{Expression, Statement, declares, heads_module, uses, heads_loop, ends, begins, orders, Placed, Item, Items, items, Command, Tree, Param}
+use Rattle.dn_parse.specs.Tree.{Statement, declares, heads_module, uses, heads_loop, ends, begins, orders, Placed, Item, items, Command, Tree}
 use Rattle.dn_parse.specs.Machine.{Stop, whole, refused, deep}
 use Rattle.dn_parse.specs.Descent.{Read, whole_statement_at}
-use Rattle.dn_parse.specs.Whole.{Opener, opens_module, opens_loop, Frame, Blocks, no_blocks_yet, closed_block, Step, going, forbidden, crowded, with_item, with_frame, without_frame, outside_blocks, before_begin, after_begin, step, Fault, at_stop, by_step, judge, reading, of_reading, TextFault, too_long, of_tokens, of_token_list, last_line, text_reading}
+use Rattle.dn_parse.specs.Whole.{Opener, opens_module, opens_loop, Frame, Blocks, no_blocks_yet, closed_block, Step, going, forbidden, crowded, with_item, with_frame, without_frame, outside_blocks, before_begin, after_begin, step, Fault, at_stop, by_step, judge, reading, of_reading, too_long, of_token_list, last_line, text_reading}
 use Rattle.dn_parse.proofs.Judge.{judge_step, judge_stop, judge_end, statement_shorter}
 use Rattle.dn_print.proofs.Formed.{Each}
 use Rattle.dn_print.proofs.Proper.{Proper, tokens_proper}
 use Rattle.dn_print.proofs.Trees.{Small, GoodStatement, GoodItem, GoodItems}
-use Rattle.dn_print.proofs.Read.{Reads, ReadsBy, whole_statement_reads}
+use Rattle.dn_print.proofs.Read.{Reads, whole_statement_reads}
 
 abbrev GoodOpener : Opener → Type 0
 GoodOpener (opens_module w ps) = Unit {0}

@@ -1,8 +1,8 @@
 -- Replacing numbers for variables and full names for names keeps a tree well formed.
-use Rattle.std.proofs.Common.{◌≡◌, ◌⊎◌, inl, inr, ap, refl, ℕ, ◌<◌, ◌≤◌, ◌^◌, Bool, true, false, cond, not, List, [], ◌∷◌, ◌++◌, map, filter, length, Option, Some, None, option_map, bytes_eq, arith, subst, sym}
+use Rattle.std.proofs.Common.{inl, inr, ap, refl, ℕ, ◌<◌, ◌^◌, Bool, true, false, cond, not, List, [], ◌∷◌, map, Option, Some, None, option_map, bytes_eq, arith}
 use Rattle.std.proofs.lemmas.List.{length-map}
 use Rattle.dn_parse.specs.Tree.{Expression, constant, variable, sum, product, minus, Expressions, no_expressions, and_expression, Part, Block, Dest, Entry, Spec, Arg, number_arg, node_arg, Declaration, node, unit, Item, declared, module_of, instance, loop, Items, no_items, and_item}
-use Rattle.dn_module.specs.Replace.{looked_up, without, Naming, as_they_stand, under, Replacement, hiding, number_or, in_expression, in_expressions, in_option, in_part, whole_name, prefixed, in_declared, word_by, word_of, node_by, named_or, in_reference, in_block, in_dest, in_entry, in_spec, in_arg, in_declaration, in_item, in_items}
+use Rattle.dn_module.specs.Replace.{looked_up, without, Naming, as_they_stand, under, Replacement, hiding, number_or, in_expression, in_expressions, in_option, in_part, prefixed, in_declared, word_of, node_by, named_or, in_reference, in_block, in_dest, in_entry, in_spec, in_arg, in_declaration, in_item, in_items}
 use Rattle.dn_print.proofs.Titles.{IsFull}
 use Rattle.dn_print.proofs.Formed.{Each, Maybe}
 use Rattle.dn_print.proofs.Trees.{Small, AllSmall, GoodPart, Some1, GoodName, SmallBlock, NamedDest, NamedEntry, GoodSpec, GoodDeclaration, GoodArg, GoodItem, GoodItems}
@@ -116,10 +116,11 @@ entry_kept r g e h =
     (block_kept r.numbers g.0 e.block h.0, each_map NamedDest NamedDest (in_dest r) e.dests (dest_kept r g) h.1, omega (arith, same, some), omega (arith, same, few))
 
 spec_kept : (r : Replacement) → GoodReplacement r → (s : Spec) → GoodSpec s → GoodSpec (in_spec r s)
-spec_kept r g s h =
-    (each_map SmallBlock SmallBlock (in_block r.numbers) s.accepts (block_kept r.numbers g.0) h.0,
-     each_map NamedEntry NamedEntry (in_entry r) s.entries (entry_kept r g) h.1,
-     maybe_map GoodName GoodName (in_reference r) s.over (reference_kept r g) h.2)
+spec_kept r g s h = (
+  each_map SmallBlock SmallBlock (in_block r.numbers) s.accepts (block_kept r.numbers g.0) h.0,
+  each_map NamedEntry NamedEntry (in_entry r) s.entries (entry_kept r g) h.1,
+  maybe_map GoodName GoodName (in_reference r) s.over (reference_kept r g) h.2,
+)
 
 arg_kept : (r : Replacement) → GoodReplacement r → (a : Arg) → GoodArg a → GoodArg (in_arg r a)
 arg_kept r g (number_arg e) h = expression_kept r.numbers g.0 e h

@@ -1,14 +1,14 @@
 -- Numbers and full names as they are printed: their tokens, and what is read from them.
-use Rattle.std.proofs.Common.{◌≡◌, ◌∙◌, ap, sym, refl, subst, ℕ, ◌<◌, ◌^◌, true, false, ◌==◌, List, [], ◌∷◌, ◌++◌, map, codes, Option, Some, None, Result, Ok, Err, IsTrue, arith, tests, append_assoc}
+use Rattle.std.proofs.Common.{◌≡◌, ◌∙◌, ap, sym, refl, subst, ℕ, ◌<◌, ◌^◌, true, false, ◌==◌, List, [], ◌∷◌, ◌++◌, map, codes, Option, Some, None, Ok, arith, tests, append_assoc}
 use Rattle.std.specs.Fmt.{decimal}
 use Rattle.dn_parse.specs.declared.token.Sign.TheVariants.{OpenBracket, CloseBracket, Plus, Times, Dot}
 use Rattle.dn_parse.specs.Token.{Token, word, is_letter, begins_with}
-use Rattle.dn_parse.specs.Tree.{Expression, constant, Part}
-use Rattle.dn_parse.specs.Descent.{Reader, one_more, after_sign, sign_at, word_at, row_at, factor_at, next_factor_at, factors_at, term_at, next_term_at, terms_at, expr_at, index_at, part_at, next_part_at, name_at}
-use Rattle.dn_module.specs.Values.{Flaw, each, value, part_text, dotted, after_dots, full_name}
+use Rattle.dn_parse.specs.Tree.{constant}
+use Rattle.dn_parse.specs.Descent.{one_more, after_sign, sign_at, word_at, row_at, factor_at, next_factor_at, factors_at, term_at, next_term_at, terms_at, expr_at, index_at, part_at, next_part_at, name_at}
+use Rattle.dn_module.specs.Values.{value, part_text, after_dots, full_name}
 use Rattle.dn_print.specs.Names.{address_text}
 use Rattle.dn_print.proofs.Titles.{Title, Label, label_by, label_text, IsSmall, IsLabel, AreLabels, IsFull}
-use Rattle.dn_print.proofs.Lexes.{word_token, number_token, sign_token, Closed, Quiet, closed_then, open_then, quiet_none, closed_none, word_closed, decimal_closed, address_closed, bracket_open, close_open, dot_closed}
+use Rattle.dn_print.proofs.Lexes.{word_token, number_token, sign_token, Closed, Quiet, closed_then, open_then, word_closed, decimal_closed, address_closed, bracket_open, close_open, dot_closed}
 use Rattle.dn_print.proofs.Shown.{Shown, Row, row_none, row_cons, first_shown}
 
 -- what may follow a number

@@ -1,22 +1,17 @@
 -- The nodes that a well-formed tree makes have full names, numbers that fit in 64 bits, and were added one after another.
-use Rattle.std.proofs.Common.{◌≡◌, ◌∙◌, ◌⊎◌, inl, inr, ap, sym, refl, subst, ℕ, zero, suc, ◌+◌, ◌-◌, ◌*◌, ◌<◌, ◌≤◌, ◌^◌, Bool, true, false, cond, ◌||◌, nat_le, nat_lt, List, [], ◌∷◌, ◌++◌, map, take, length, codes, Option, Some, None, Result, Ok, Err, arith, append-nil, ltb-true, leb-true, bytes_eq}
-use Rattle.std.specs.List.{list_any}
-use Rattle.std.specs.Fmt.{decimal}
-use Rattle.dn_parse.specs.Tree.{Expression, constant, variable, sum, product, minus, Part, Block as BlockOf, Dest as DestOf, Entry as EntryOf, Spec, Role as RoleOf, Param, Arg, number_arg, node_arg, Declaration, node, unit, Item, declared, module_of, instance, loop, Items, no_items, and_item, Tree}
-use Rattle.dn_net.specs.declared.node.Block.{Block}
+use Rattle.std.proofs.Common.{◌≡◌, inl, inr, ap, sym, refl, subst, ℕ, zero, suc, ◌+◌, ◌-◌, ◌<◌, ◌≤◌, ◌^◌, Bool, true, false, cond, ◌||◌, nat_le, nat_lt, List, [], ◌∷◌, ◌++◌, map, take, length, Option, Some, None, Result, Ok, Err, arith, append-nil, ltb-true, leb-true, bytes_eq}
+use Rattle.dn_parse.specs.Tree.{Expression, constant, variable, sum, product, minus, Part, Block as BlockOf, Dest as DestOf, Entry as EntryOf, Spec, Role as RoleOf, Arg, number_arg, node_arg, Declaration, node, unit, Item, declared, module_of, instance, loop, Items, no_items, and_item, Tree}
 use Rattle.dn_net.specs.declared.node.NodeDecl.{NodeDecl}
 use Rattle.dn_module.specs.declared.draft.Draft.{Draft}
-use Rattle.dn_module.specs.declared.draft.DraftEntry.{DraftEntry}
-use Rattle.dn_module.specs.declared.draft.DraftDest.{DraftDest}
 use Rattle.dn_module.specs.declared.command.Command.{Command}
 use Rattle.dn_module.specs.declared.fault.ExpandFault.{ExpandFault}
-use Rattle.dn_module.specs.declared.fault.ExpandFault.TheVariants.{Duplicate, Unknown, Arguments, TooMany}
+use Rattle.dn_module.specs.declared.fault.ExpandFault.TheVariants.{Duplicate, Arguments, TooMany}
 use Rattle.dn_module.specs.Values.{Flaw, unknown_variable, out_of_range, ◌>>=◌, each, fitting, difference, value, values, value_or, sum_of, product_of, part_by, part_text, after_dots, dotted, full_name, full_name_or_none}
-use Rattle.dn_module.specs.Drafts.{at_line, block_of, dest_of, entry_of, draft_of, unit_of, declared_by, names, with_draft, linked}
+use Rattle.dn_module.specs.Drafts.{at_line, block_of, dest_of, entry_of, draft_of, declared_by, names, with_draft, linked}
 use Rattle.dn_module.specs.Commands.{commands_of}
 use Rattle.dn_module.specs.Replace.{under, one_number, in_items}
-use Rattle.dn_module.specs.Expand.{Module, State, nothing_yet, Scope, outside, within_module, Work, statement, turns, statements, line_of, word_of_param, has_twice, is_module, with_module, usable, module_from, fit, Given, number, named, given_by, number_pair, node_pair, numbers_of, nodes_of, used_body, use_of, loop_of, turn_of, with_drafts, item_rewritten, rewritten, all_rewritten, most_steps, Outcome, expanded}
-use Rattle.dn_print.proofs.Titles.{Title, Label, label_text, IsFull, full_one, full_both}
+use Rattle.dn_module.specs.Expand.{Module, State, nothing_yet, Scope, outside, within_module, Work, statement, turns, statements, word_of_param, has_twice, is_module, with_module, usable, module_from, fit, Given, number, named, given_by, number_pair, node_pair, numbers_of, nodes_of, used_body, use_of, loop_of, turn_of, item_rewritten, rewritten, all_rewritten, most_steps, Outcome, expanded}
+use Rattle.dn_print.proofs.Titles.{Title, IsFull, full_one, full_both}
 use Rattle.dn_print.proofs.Formed.{Each, Maybe, GoodBlock, GoodDest, GoodEntry, GoodDraft}
 use Rattle.dn_print.proofs.Trees.{Small, GoodPart, Some1, GoodName, SmallBlock, NamedDest, NamedEntry, GoodSpec, GoodDeclaration, GoodArg, GoodItem, GoodItems}
 use Rattle.dn_print.proofs.Judged.{each_both}

@@ -1,11 +1,11 @@
 -- The statement of a node as it is printed: its tokens, what is read from them, and the node that this declares.
-use Rattle.std.proofs.Common.{◌≡◌, ◌∙◌, ap, sym, refl, subst, ℕ, ◌+◌, Bool, ◌&&◌, List, [], ◌∷◌, ◌++◌, map, codes, Option, Some, None, option_map, Result, Ok, Err, IsTrue, append_assoc, append-nil}
+use Rattle.std.proofs.Common.{◌≡◌, ◌∙◌, ap, sym, refl, subst, ℕ, ◌+◌, List, [], ◌∷◌, ◌++◌, map, codes, Option, Some, None, option_map, Ok, IsTrue, append_assoc}
 use Rattle.dn_parse.specs.declared.token.Keyword.TheVariants.{Agent, Vectors, Is, Accept, Map, Over}
 use Rattle.dn_parse.specs.declared.token.Sign.TheVariants.{Semicolon, OpenBracket, CloseBracket}
 use Rattle.dn_parse.specs.Token.{Token}
-use Rattle.dn_parse.specs.Tree.{Part, Block as BlockOf, Entry as EntryOf, Spec, Role as RoleOf, plain_role, agent_role, vectors_role, Declaration, node, Statement, declares}
+use Rattle.dn_parse.specs.Tree.{Part, Block as BlockOf, Entry as EntryOf, Spec, Role as RoleOf, plain_role, agent_role, vectors_role, Declaration, node, declares}
 use Rattle.dn_parse.specs.Going.{tokens_of}
-use Rattle.dn_parse.specs.Descent.{Reader, after_sign, after_keyword, sign_at, keyword_at, name_at, blocks_at, entries_at, accept_at, map_at, over_at, spec_at, node_at, keyword_statement_at, statement_at, whole_statement_at}
+use Rattle.dn_parse.specs.Descent.{after_sign, after_keyword, sign_at, keyword_at, name_at, blocks_at, entries_at, accept_at, map_at, over_at, spec_at, node_at, keyword_statement_at, statement_at, whole_statement_at}
 use Rattle.dn_parse.proofs.Lexed.{with_tokens}
 use Rattle.dn_net.specs.declared.node.Block.{Block}
 use Rattle.dn_net.specs.declared.node.NodeDecl.{NodeDecl}
@@ -13,14 +13,14 @@ use Rattle.dn_net.specs.declared.node.Role.{Role}
 use Rattle.dn_module.specs.declared.draft.Draft.{Draft}
 use Rattle.dn_module.specs.declared.draft.DraftEntry.{DraftEntry}
 use Rattle.dn_module.specs.Values.{each, full_name, full_name_or_none}
-use Rattle.dn_module.specs.Drafts.{block_of, entry_of, role_of, draft_of, declared_by, over_known, refers_to_known, number_of, entry_in, node_in}
-use Rattle.dn_print.specs.Statement.{node_name, accept_text, map_text, over_text, parts_text, role_text, statement_text, blocks_text, entries_text}
+use Rattle.dn_module.specs.Drafts.{block_of, entry_of, role_of, declared_by, over_known, refers_to_known, number_of, entry_in, node_in}
+use Rattle.dn_print.specs.Statement.{accept_text, map_text, over_text, role_text, statement_text}
 use Rattle.dn_print.proofs.Digits.{both}
 use Rattle.dn_print.proofs.Titles.{IsFull}
 use Rattle.dn_print.proofs.Formed.{Each, Maybe, GoodBlock, GoodEntry, GoodDraft}
 use Rattle.dn_print.proofs.Lexes.{word_token, sign_token, keyword_token, Closed, Open, Quiet, closed_then, open_then, quiet_then, quiet_none, closed_none, accept_open, map_open, over_open, agent_open, vectors_open, close_open, is_word_closed, end_open, with_both}
 use Rattle.dn_print.proofs.Shown.{Shown}
-use Rattle.dn_print.proofs.Labels.{NumberEnd, NameEnd, name_shown, name_first}
+use Rattle.dn_print.proofs.Labels.{NameEnd, name_shown, name_first}
 use Rattle.dn_print.proofs.Pieces.{Named, BlocksEnd, EntriesEnd, blocks_shown, entries_known, entries_shown}
 
 -- what may follow the blocks, the entries and the `over` of a node

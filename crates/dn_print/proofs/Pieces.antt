@@ -1,19 +1,19 @@
 -- Blocks, destinations and entries as they are printed: their tokens, and what is read from them.
-use Rattle.std.proofs.Common.{◌≡◌, ◌∙◌, ap, sym, refl, subst, ℕ, suc, ◌<◌, ◌≤◌, ◌^◌, Bool, ◌&&◌, List, [], ◌∷◌, ◌++◌, map, length, codes, Option, Some, None, Result, Ok, Err, IsTrue, arith, append_assoc}
+use Rattle.std.proofs.Common.{◌≡◌, ◌∙◌, ap, sym, refl, subst, ℕ, ◌≤◌, Bool, List, [], ◌∷◌, ◌++◌, map, length, codes, Some, None, Ok, IsTrue, arith, append_assoc}
 use Rattle.std.specs.List.{list_all}
 use Rattle.dn_parse.specs.declared.token.Keyword.TheVariants.{To, And, At}
 use Rattle.dn_parse.specs.declared.token.Sign.TheVariants.{Comma, Minus}
 use Rattle.dn_parse.specs.Token.{Token}
 use Rattle.dn_parse.specs.Tree.{constant, Part, Block as BlockOf, Dest as DestOf}
-use Rattle.dn_parse.specs.Descent.{one_more, after_sign, after_keyword, keyword_at, expr_at, name_at, upper_at, block_at, next_block_at, blocks_at, addr_at, dest_at, next_dest_at, dests_at, entry_at, next_entry_at, entries_at}
+use Rattle.dn_parse.specs.Descent.{one_more, after_sign, after_keyword, keyword_at, name_at, upper_at, block_at, next_block_at, blocks_at, addr_at, dest_at, next_dest_at, dests_at, entry_at, next_entry_at, entries_at}
 use Rattle.dn_net.specs.declared.node.Block.{Block}
 use Rattle.dn_net.specs.declared.node.NodeDecl.{NodeDecl}
 use Rattle.dn_module.specs.declared.draft.DraftEntry.{DraftEntry}
 use Rattle.dn_module.specs.declared.draft.DraftDest.{DraftDest}
-use Rattle.dn_module.specs.Values.{each, value, full_name}
+use Rattle.dn_module.specs.Values.{each}
 use Rattle.dn_module.specs.Drafts.{block_of, dest_of, entry_of, is_known, dests_known, number_of, dest_in, entry_in}
 use Rattle.dn_print.specs.Names.{address_text}
-use Rattle.dn_print.specs.Statement.{marked, joined, block_text, blocks_text, node_name, dest_text, dests_text, entry_text, entries_text}
+use Rattle.dn_print.specs.Statement.{marked, block_text, blocks_text, node_name, dest_text, dests_text, entry_text, entries_text}
 use Rattle.dn_print.proofs.Digits.{both}
 use Rattle.dn_print.proofs.Formed.{Each, GoodBlock, GoodDest, GoodEntry}
 use Rattle.dn_print.proofs.Lexes.{number_token, sign_token, keyword_token, Closed, Quiet, closed_then, open_then, address_closed, at_open, to_open, and_open, comma_open, minus_open}

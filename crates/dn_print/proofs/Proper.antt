@@ -1,5 +1,5 @@
 -- The tokens of a text: a word that is not reserved begins with a letter, and a number fits in 64 bits.
-use Rattle.std.proofs.Common.{◌≡◌, ◌∙◌, ◌⊎◌, inl, inr, ap, sym, refl, subst, ℕ, zero, suc, ◌+◌, ◌<◌, ◌^◌, Bool, true, false, cond, ◌&&◌, ◌==◌, List, [], ◌∷◌, ◌++◌, take, drop, Option, Some, None, Result, Ok, Err, IsTrue, arith, ltb-true, nat_lt, bytes_eq}
+use Rattle.std.proofs.Common.{◌≡◌, ◌∙◌, ◌⊎◌, inl, inr, ap, sym, refl, subst, ℕ, zero, suc, ◌+◌, ◌<◌, ◌^◌, Bool, true, false, cond, ◌&&◌, ◌==◌, List, [], ◌∷◌, take, drop, Option, Some, None, Result, Ok, Err, IsTrue, arith, ltb-true, nat_lt, bytes_eq}
 use Rattle.std.specs.List.{list_all, prefix_len}
 use Rattle.dn_parse.specs.declared.token.Keyword.{Keyword}
 use Rattle.dn_parse.specs.declared.token.Sign.{Sign}

@@ -1,7 +1,7 @@
 -- A piece of a printed text: its tokens, what is read from them, and the value of that. Rows of such pieces.
-use Rattle.std.proofs.Common.{◌≡◌, ◌∙◌, ap, sym, refl, subst, ℕ, zero, suc, ◌+◌, ◌<◌, ◌≤◌, List, [], ◌∷◌, ◌++◌, length, length-append, Option, Some, None, Result, Ok, Err, arith, append_assoc}
+use Rattle.std.proofs.Common.{◌≡◌, ◌∙◌, ap, refl, ℕ, zero, suc, ◌≤◌, List, [], ◌∷◌, ◌++◌, length, length-append, None, Result, Ok, arith, append_assoc}
 use Rattle.dn_parse.specs.Token.{Token}
-use Rattle.dn_parse.specs.Descent.{and_then, Read, Next, Reader, with_front, row, row_from, row_at, one_more, first_and, first_and_most}
+use Rattle.dn_parse.specs.Descent.{and_then, Next, Reader, with_front, row, row_from, row_at, one_more, first_and, first_and_most}
 use Rattle.dn_parse.proofs.Series.{first_read, most_read}
 use Rattle.dn_module.specs.Values.{Flaw, each}
 use Rattle.dn_print.proofs.Lexes.{Closed, Quiet, closed_then, closed_none, quiet_none}

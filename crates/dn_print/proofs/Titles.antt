@@ -1,9 +1,9 @@
 -- Full names: words that are not reserved, each with or without an index, joined by dots.
-use Rattle.std.proofs.Common.{◌≡◌, ◌∙◌, ap, sym, refl, subst, ℕ, ◌<◌, ◌^◌, true, List, [], ◌∷◌, ◌++◌, map, codes, Option, Some, None, IsTrue, append_assoc, append-nil}
+use Rattle.std.proofs.Common.{◌≡◌, ◌∙◌, ap, sym, refl, ℕ, ◌<◌, ◌^◌, true, List, [], ◌∷◌, ◌++◌, map, codes, Option, Some, None, IsTrue, append_assoc, append-nil}
 use Rattle.std.specs.Fmt.{decimal}
 use Rattle.std.specs.List.{list_all}
 use Rattle.dn_parse.specs.Token.{word, word_lexeme, is_letter, is_word_byte}
-use Rattle.dn_module.specs.Values.{dotted, after_dots}
+use Rattle.dn_module.specs.Values.{after_dots}
 
 -- a word that is not reserved
 abbrev pub Title : List ℕ → Type 0
