@@ -144,8 +144,6 @@ expands body ds ds' net e n l =
 pub given_back : (ds : List Draft) (net : List NodeDecl) → Each GoodDraft ds → Grown [] ds → each (linked (names ds)) ds ≡ Ok net → length (net_text [] net) ≤ 4194304 → (again : Tree) × (text_reading (net_text [] net) ≡ Ok again) × (expanded again ≡ Ok (record { net = net; commands = [] }))
 given_back ds net good grown e short =
     let l = linked_all (names ds) ds net e in
-    let known = names ds in
-    let all = map (node_in (names ds)) ds in
     let same : net ≡ map (node_in (names ds)) ds = l.1 in
     let named = subst (λ (n : List NodeDecl). Named n (names ds)) (sym same) (all_named ds) in
     let lines = lines_of net (names ds) named 1 ds good l.0 in

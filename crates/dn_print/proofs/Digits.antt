@@ -5,10 +5,7 @@ use Rattle.std.specs.Fmt.{digits, digits_onto, digit_glyph, decimal}
 use Rattle.std.specs.List.{list_all}
 use Rattle.dn_parse.specs.Token.{hex_value, decimal_value, spelled_from, digits_number, fitting, is_hexadecimal, number_of, is_word_byte, is_digit}
 use Rattle.dn_parse.proofs.Numbers.{some_digits}
-
-pub both : (a b : Bool) → IsTrue (a && b) → IsTrue a × IsTrue b
-both true b e = (refl, e)
-both false b e = cc
+use Rattle.dn_print.proofs.Closed.{both}
 
 hex_glyph : (d : ℕ) → d < 16 → hex_value (digit_glyph false d) ≡ Some d
 hex_glyph d h = grind (arith, tests)
@@ -99,7 +96,6 @@ no_prefix (a ∷ b ∷ s) h =
 pub decimal_number : (n : ℕ) → n < 2 ^ 64 → number_of (decimal n) ≡ Some n
 unfolding number_of digits
 decimal_number n h =
-    let text = digits_onto 64 10 false n [] in
     let plain : is_hexadecimal (digits_onto 64 10 false n []) ≡ false = no_prefix (digits_onto 64 10 false n []) (all_pass is_digit 10 (omega arith) digit_glyph_digit 64 n [] refl) in
     let read : digits_number 10 decimal_value (digits_onto 64 10 false n []) ≡ Some n = some_digits 10 decimal_value (digits_onto 64 10 false n []) (some_digit 10 63 n []) ∙ spelled 10 decimal_value (omega arith) decimal_glyph 64 n (below_decimal n h) [] in
     rw plain (ap fitting read ∙ fits_is n h)

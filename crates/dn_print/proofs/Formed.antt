@@ -1,5 +1,5 @@
 -- Nodes whose names are full names and whose numbers fit in 64 bits: those that a text makes.
-use Rattle.std.proofs.Common.{◌≡◌, ◌<◌, ◌≤◌, ◌^◌, List, [], ◌∷◌, length, Option, Some, None}
+use Rattle.std.proofs.Common.{◌≡◌, ◌<◌, ◌≤◌, ◌^◌, List, [], ◌∷◌, ◌++◌, length, Option, Some, None}
 use Rattle.dn_parse.specs.Tree.{Role as RoleOf}
 use Rattle.dn_net.specs.declared.node.Block.{Block}
 use Rattle.dn_module.specs.declared.draft.Draft.{Draft}
@@ -12,6 +12,10 @@ use Rattle.dn_print.proofs.Titles.{IsFull}
 abbrev pub Each : {X : Type 0} → (X → Type 0) → List X → Type 0
 Each P [] = Unit {0}
 Each P (x ∷ xs) = P x × Each P xs
+
+pub each_both : {X : Type 0} (P : X → Type 0) (xs ys : List X) → Each P xs → Each P ys → Each P (xs ++ ys)
+each_both P [] ys h g = g
+each_both P (x ∷ xs) ys h g = (h.0, each_both P xs ys h.1 g)
 
 -- what may be left out is so, where it is there
 abbrev pub Maybe : {X : Type 0} → (X → Type 0) → Option X → Type 0

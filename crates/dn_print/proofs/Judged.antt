@@ -6,7 +6,7 @@ use Rattle.dn_parse.specs.Machine.{Stop, whole, refused, deep}
 use Rattle.dn_parse.specs.Descent.{Read, whole_statement_at}
 use Rattle.dn_parse.specs.Whole.{Opener, opens_module, opens_loop, Frame, Blocks, no_blocks_yet, closed_block, Step, going, forbidden, crowded, with_item, with_frame, without_frame, outside_blocks, before_begin, after_begin, step, Fault, at_stop, by_step, judge, reading, of_reading, too_long, of_token_list, last_line, text_reading}
 use Rattle.dn_parse.proofs.Judge.{judge_step, judge_stop, judge_end, statement_shorter}
-use Rattle.dn_print.proofs.Formed.{Each}
+use Rattle.dn_print.proofs.Formed.{Each, each_both}
 use Rattle.dn_print.proofs.Proper.{Proper, tokens_proper}
 use Rattle.dn_print.proofs.Trees.{Small, GoodStatement, GoodItem, GoodItems}
 use Rattle.dn_print.proofs.Read.{Reads, whole_statement_reads}
@@ -25,10 +25,6 @@ abbrev GoodStep : Step → Type 0
 GoodStep (going b) = GoodBlocks b
 GoodStep forbidden = Unit {0}
 GoodStep crowded = Unit {0}
-
-pub each_both : {X : Type 0} (P : X → Type 0) (xs ys : List X) → Each P xs → Each P ys → Each P (xs ++ ys)
-each_both P [] ys h g = g
-each_both P (x ∷ xs) ys h g = (h.0, each_both P xs ys h.1 g)
 
 items_good : (is : List Item) → Each GoodItem is → GoodItems (items is)
 items_good [] h = tt

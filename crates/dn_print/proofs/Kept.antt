@@ -5,7 +5,7 @@ use Rattle.dn_parse.specs.Tree.{Expression, constant, variable, sum, product, mi
 use Rattle.dn_module.specs.Replace.{looked_up, without, Naming, as_they_stand, under, Replacement, hiding, number_or, in_expression, in_expressions, in_option, in_part, prefixed, in_declared, word_of, node_by, named_or, in_reference, in_block, in_dest, in_entry, in_spec, in_arg, in_declaration, in_item, in_items}
 use Rattle.dn_print.proofs.Titles.{IsFull}
 use Rattle.dn_print.proofs.Formed.{Each, Maybe}
-use Rattle.dn_print.proofs.Trees.{Small, AllSmall, GoodPart, Some1, GoodName, SmallBlock, NamedDest, NamedEntry, GoodSpec, GoodDeclaration, GoodArg, GoodItem, GoodItems}
+use Rattle.dn_print.proofs.Trees.{Small, AllSmall, GoodPart, Some1, GoodName, SmallBlock, NamedDest, NamedEntry, GoodSpec, GoodDeclaration, GoodArg, GoodItem, GoodItems, some_each}
 
 -- what is put in for variables and for names
 abbrev pub Standing : {A : Type 0} → (A → Type 0) → List (List ℕ × A) → Type 0
@@ -51,10 +51,6 @@ some_map P Q f (x ∷ xs) k h = (k x h.0, each_map P Q f xs k h.1)
 maybe_map : {X Y : Type 0} (P : X → Type 0) (Q : Y → Type 0) (f : X → Y) (o : Option X) → ((x : X) → P x → Q (f x)) → Maybe P o → Maybe Q (option_map f o)
 maybe_map P Q f None k h = tt
 maybe_map P Q f (Some x) k h = k x h
-
-some_each : {X : Type 0} (P : X → Type 0) (xs : List X) → Some1 P xs → Each P xs
-some_each P [] h = tt
-some_each P (x ∷ xs) h = h
 
 number_good : (w : List ℕ) (o : Option ℕ) → Maybe IsSmallNumber o → Small (number_or w o)
 number_good w None h = tt

@@ -53,10 +53,10 @@ bracketed_read line n w rest =
 index_quiet : (n : ℕ) → Quiet (codes "[" ++ (decimal n ++ codes "]"))
 index_quiet n = record { it = λ rest h. refl }
 
-close_closed : (line : ℕ) → Closed line (codes "]") (sign_token line CloseBracket ∷ [])
+pub close_closed : (line : ℕ) → Closed line (codes "]") (sign_token line CloseBracket ∷ [])
 close_closed line = record { it = λ rest h. (close_open line).it rest }
 
-close_quiet : Quiet (codes "]")
+pub close_quiet : Quiet (codes "]")
 close_quiet = record { it = λ rest h. refl }
 
 part_by_shown : (line : ℕ) (w : List ℕ) (i : Option ℕ) → Title w → IsSmall i → Shown line (label_by w i) (part_at 32) PartEnd part_text (label_by w i)

@@ -11,7 +11,8 @@ use Rattle.dn_parse.specs.Going.{tokens_of}
 use Rattle.dn_parse.proofs.Going.{enough, tokens_go_on}
 use Rattle.dn_parse.proofs.Lexed.{with_tokens}
 use Rattle.dn_print.specs.Names.{address_text}
-use Rattle.dn_print.proofs.Digits.{both, decimal_number, hexadecimal_number, decimal_digits, decimal_word, hexadecimal_word, decimal_some}
+use Rattle.dn_print.proofs.Digits.{decimal_number, hexadecimal_number, decimal_digits, decimal_word, hexadecimal_word, decimal_some}
+use Rattle.dn_print.proofs.Closed.{both}
 
 -- a token of a line
 abbrev pub word_token : ℕ → List ℕ → Token
@@ -90,7 +91,7 @@ letter_blank b h = grind (arith, tests)
 letter_slash : (b : ℕ) → is_word_byte b ≡ true → is_slash b ≡ false
 letter_slash b h = grind (arith, tests)
 
-letter_word : (b : ℕ) → is_letter b ≡ true → is_word_byte b ≡ true
+pub letter_word : (b : ℕ) → is_letter b ≡ true → is_word_byte b ≡ true
 letter_word b h = rw h refl
 
 digit_word : (b : ℕ) → is_digit b ≡ true → is_word_byte b ≡ true

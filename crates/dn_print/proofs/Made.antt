@@ -12,9 +12,8 @@ use Rattle.dn_module.specs.Commands.{commands_of}
 use Rattle.dn_module.specs.Replace.{under, one_number, in_items}
 use Rattle.dn_module.specs.Expand.{Module, State, nothing_yet, Scope, outside, within_module, Work, statement, turns, statements, word_of_param, has_twice, is_module, with_module, usable, module_from, fit, Given, number, named, given_by, number_pair, node_pair, numbers_of, nodes_of, used_body, use_of, loop_of, turn_of, item_rewritten, rewritten, all_rewritten, most_steps, Outcome, expanded}
 use Rattle.dn_print.proofs.Titles.{Title, IsFull, full_one, full_both}
-use Rattle.dn_print.proofs.Formed.{Each, Maybe, GoodBlock, GoodDest, GoodEntry, GoodDraft}
+use Rattle.dn_print.proofs.Formed.{Each, Maybe, GoodBlock, GoodDest, GoodEntry, GoodDraft, each_both}
 use Rattle.dn_print.proofs.Trees.{Small, GoodPart, Some1, GoodName, SmallBlock, NamedDest, NamedEntry, GoodSpec, GoodDeclaration, GoodArg, GoodItem, GoodItems}
-use Rattle.dn_print.proofs.Judged.{each_both}
 use Rattle.dn_print.proofs.Grown.{Grown, grown_more, added_fits}
 use Rattle.dn_print.proofs.Kept.{Standing, IsSmallNumber, items_kept}
 

@@ -15,12 +15,12 @@ use Rattle.dn_module.specs.declared.draft.DraftEntry.{DraftEntry}
 use Rattle.dn_module.specs.Values.{each, full_name, full_name_or_none}
 use Rattle.dn_module.specs.Drafts.{block_of, entry_of, role_of, declared_by, over_known, refers_to_known, number_of, entry_in, node_in}
 use Rattle.dn_print.specs.Statement.{accept_text, map_text, over_text, role_text, statement_text}
-use Rattle.dn_print.proofs.Digits.{both}
+use Rattle.dn_print.proofs.Closed.{both}
 use Rattle.dn_print.proofs.Titles.{IsFull}
 use Rattle.dn_print.proofs.Formed.{Each, Maybe, GoodBlock, GoodEntry, GoodDraft}
 use Rattle.dn_print.proofs.Lexes.{word_token, sign_token, keyword_token, Closed, Open, Quiet, closed_then, open_then, quiet_then, quiet_none, closed_none, accept_open, map_open, over_open, agent_open, vectors_open, close_open, is_word_closed, end_open, with_both}
 use Rattle.dn_print.proofs.Shown.{Shown}
-use Rattle.dn_print.proofs.Labels.{NameEnd, name_shown, name_first}
+use Rattle.dn_print.proofs.Labels.{NameEnd, name_shown, name_first, close_closed, close_quiet}
 use Rattle.dn_print.proofs.Pieces.{Named, BlocksEnd, EntriesEnd, blocks_shown, entries_known, entries_shown}
 
 -- what may follow the blocks, the entries and the `over` of a node
@@ -32,12 +32,6 @@ MapEnd rest = after_keyword Map rest ≡ None
 
 abbrev pub SpecEnd : List Token → Type 0
 SpecEnd rest = NameEnd rest × (after_keyword Over rest ≡ None) × MapEnd rest × AcceptEnd rest
-
-close_closed : (line : ℕ) → Closed line (codes "]") (sign_token line CloseBracket ∷ [])
-close_closed line = record { it = λ rest h. (close_open line).it rest }
-
-close_quiet : Quiet (codes "]")
-close_quiet = record { it = λ rest h. refl }
 
 -- what a node accepts
 no_accept : (rest : List Token) → AcceptEnd rest → accept_at rest ≡ Ok ([], rest)
@@ -228,8 +222,6 @@ body_shown net known named line d h k =
     let n = name_shown line d.name h.name in
     let f = name_first line d.name h.name in
     let s = spec_shown net known named line d h k in
-    let tokens = n.tokens ++ (keyword_token line Is ∷ s.tokens) in
-    let more = f.0 ++ (keyword_token line Is ∷ s.tokens) in
     let same : n.tokens ++ (keyword_token line Is ∷ s.tokens) ≡ word_token line h.name.first.title ∷ (f.0 ++ (keyword_token line Is ∷ s.tokens)) = ap (λ (l : List Token). l ++ (keyword_token line Is ∷ s.tokens)) f.1 in
     record {
       word = h.name.first.title;

@@ -14,7 +14,7 @@ use Rattle.dn_module.specs.Values.{each}
 use Rattle.dn_module.specs.Drafts.{block_of, dest_of, entry_of, is_known, dests_known, number_of, dest_in, entry_in}
 use Rattle.dn_print.specs.Names.{address_text}
 use Rattle.dn_print.specs.Statement.{marked, block_text, blocks_text, node_name, dest_text, dests_text, entry_text, entries_text}
-use Rattle.dn_print.proofs.Digits.{both}
+use Rattle.dn_print.proofs.Closed.{both}
 use Rattle.dn_print.proofs.Formed.{Each, GoodBlock, GoodDest, GoodEntry}
 use Rattle.dn_print.proofs.Lexes.{number_token, sign_token, keyword_token, Closed, Quiet, closed_then, open_then, address_closed, at_open, to_open, and_open, comma_open, minus_open}
 use Rattle.dn_print.proofs.Labels.{NumberEnd, NameEnd, number_read, name_shown}

@@ -7,6 +7,7 @@ use Rattle.dn_parse.specs.declared.token.Sign.TheVariants.{Dots}
 use Rattle.dn_parse.specs.Token.{Lexeme, Token, word, keyword, number, sign, Front, taken, bad, tokens, tokens_from, with_token, then_tokens, front, run, after_run, number_of, number_front, sign_front, sign_of, dots_or_sign, word_among, word_lexeme, reserved, fitting, is_hexadecimal, digits_number, hex_value, decimal_value, is_word_byte, is_letter, is_digit, is_line_feed, is_blank, is_slash, begins_with, after_comment}
 use Rattle.dn_print.proofs.Titles.{Title}
 use Rattle.dn_print.proofs.Formed.{Each}
+use Rattle.dn_print.proofs.Lexes.{letter_word}
 
 abbrev pub ProperLexeme : Lexeme → Type 0
 ProperLexeme (word w) = Title w
@@ -51,9 +52,6 @@ run_first : (b : ℕ) (s : List ℕ) → is_word_byte b ≡ true → run (b ∷ 
 run_first b s h =
     let n : 1 + prefix_len is_word_byte s ≡ suc (prefix_len is_word_byte s) = omega arith in
     ap (λ (t : Bool). take (cond t (1 + prefix_len is_word_byte s) 0) (b ∷ s)) h ∙ ap (λ (k : ℕ). take k (b ∷ s)) n
-
-letter_word : (b : ℕ) → is_letter b ≡ true → is_word_byte b ≡ true
-letter_word b h = rw h refl
 
 fitting_small : (o : Option ℕ) (n : ℕ) → fitting o ≡ Some n → n < 2 ^ 64
 fitting_small None n e = cc

@@ -13,7 +13,7 @@ use Rattle.dn_parse.specs.Descent.{and_then, word_of, any_of, Read, Next, Reader
 use Rattle.dn_print.proofs.Titles.{Title}
 use Rattle.dn_print.proofs.Formed.{Each, Maybe}
 use Rattle.dn_print.proofs.Proper.{ProperLexeme, Proper}
-use Rattle.dn_print.proofs.Trees.{Small, AllSmall, GoodPart, Some1, GoodName, SmallBlock, NamedDest, NamedEntry, GoodSpec, GoodDeclaration, GoodArg, GoodStatement}
+use Rattle.dn_print.proofs.Trees.{Small, AllSmall, GoodPart, Some1, GoodName, SmallBlock, NamedDest, NamedEntry, GoodSpec, GoodDeclaration, GoodArg, GoodStatement, some_each}
 
 -- what is read is so, and the tokens behind it are proper
 abbrev pub ReadsBy : {X : Type 0} → (X → Type 0) → Read X → Type 0
@@ -153,10 +153,6 @@ first_reads reader next good more ts h = bind (reader ts) _ (good ts h) (λ x re
 
 most_reads : {X : Type 0} {P : X → Type 0} (n : ℕ) (reader : Reader X) (next : List Token → Next X) → ((ts : List Token) → Proper ts → Reads P (reader ts)) → ((ts : List Token) → Proper ts → Nexts P (next ts)) → (ts : List Token) → Proper ts → Reads (λ xs. Some1 P xs × (1 ≤ length xs) × (length xs ≤ suc n)) (first_and_most n reader next ts)
 most_reads n reader next good more ts h = bind (reader ts) _ (good ts h) (λ x rest p q. some_with n x (row next n rest) p (row_reads next more n rest q))
-
-some_each : {X : Type 0} (P : X → Type 0) (xs : List X) → Some1 P xs → Each P xs
-some_each P [] h = tt
-some_each P (x ∷ xs) h = h
 
 -- expressions
 all_small : (es : List Expression) → Each Small es → AllSmall (expressions es)

@@ -47,7 +47,6 @@ row_none line next Fit End value none heads = record {
 
 row_step : {X : Type 0} (next : List Token → Next X) (reader : Reader X) (t : Token) (a b rest : List Token) (x : X) (xs : List X) (n : ℕ) → next (t ∷ ((a ++ b) ++ rest)) ≡ one_more (reader ((a ++ b) ++ rest)) → reader (a ++ (b ++ rest)) ≡ Ok (x, b ++ rest) → row next n (b ++ rest) ≡ Ok (xs, rest) → row next (suc n) (t ∷ ((a ++ b) ++ rest)) ≡ Ok (x ∷ xs, rest)
 row_step next reader t a b rest x xs n one read more =
-    let all = t ∷ ((a ++ b) ++ rest) in
     let found = one ∙ ap (λ l. one_more (reader l)) (append_assoc a b rest) ∙ ap one_more read in
     ap (λ r. and_then r (λ f. row_from (t ∷ ((a ++ b) ++ rest)) f (row next n))) found ∙ ap (with_front (x ∷ [])) more
 

@@ -25,6 +25,10 @@ abbrev pub Some1 : {X : Type 0} → (X → Type 0) → List X → Type 0
 Some1 P [] = ⊥
 Some1 P (x ∷ xs) = P x × Each P xs
 
+pub some_each : {X : Type 0} (P : X → Type 0) (xs : List X) → Some1 P xs → Each P xs
+some_each P [] h = tt
+some_each P (x ∷ xs) h = h
+
 abbrev pub GoodName : List Part → Type 0
 GoodName ps = Some1 GoodPart ps
 
