@@ -18,7 +18,7 @@ use Rattle.dn_print.specs.Statement.{accept_text, map_text, over_text, role_text
 use Rattle.dn_print.proofs.Closed.{both}
 use Rattle.dn_print.proofs.Titles.{IsFull}
 use Rattle.dn_print.proofs.Formed.{Each, Maybe, GoodBlock, GoodEntry, GoodDraft}
-use Rattle.dn_print.proofs.Lexes.{word_token, sign_token, keyword_token, Closed, Open, Quiet, closed_then, open_then, quiet_then, quiet_none, closed_none, accept_open, map_open, over_open, agent_open, vectors_open, close_open, is_word_closed, end_open, with_both}
+use Rattle.dn_print.proofs.Lexes.{word_token, sign_token, keyword_token, Closed, Open, Quiet, closed_then, open_then, quiet_then, quiet_none, closed_none, accept_open, map_open, over_open, agent_open, vectors_open, is_word_closed, end_open, with_both}
 use Rattle.dn_print.proofs.Shown.{Shown}
 use Rattle.dn_print.proofs.Labels.{NameEnd, name_shown, name_first, close_closed, close_quiet}
 use Rattle.dn_print.proofs.Pieces.{Named, BlocksEnd, EntriesEnd, blocks_shown, entries_known, entries_shown}
