@@ -7,7 +7,8 @@ use Rattle.dn_net.specs.declared.node.NodeDecl.{NodeDecl}
 use Rattle.dn_net.specs.declared.node.Unit.{Unit as UnitPart}
 use Rattle.dn_net.specs.Decode.{is_closed, refers_within, over_within, ports_within}
 
-both : (a b : Bool) → IsTrue (a && b) → IsTrue a × IsTrue b
+-- each of two tests holds
+pub both : (a b : Bool) → IsTrue (a && b) → IsTrue a × IsTrue b
 both true b e = (refl, e)
 both false b e = cc
 

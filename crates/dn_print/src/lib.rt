@@ -4,6 +4,7 @@
 //! [`net::net_text`] prints a net as one statement for each node, in the order of their numbers.
 #![tactic(auto)]
 
+pub mod laws;
 pub mod names;
 pub mod net;
 mod parts;

@@ -1,0 +1,245 @@
+-- Pieces of a printed text and the tokens that they are, whatever follows.
+use Rattle.std.proofs.Common.{◌≡◌, ◌∙◌, ap, ap₂, sym, refl, subst, ℕ, suc, ◌+◌, ◌<◌, ◌^◌, Bool, true, false, cond, ◌==◌, List, [], ◌∷◌, ◌++◌, length, take_at, drop_at, codes, Some, Result, Ok, Err, IsTrue, arith, tests, append_assoc}
+use Rattle.std.specs.Fmt.{digits, decimal}
+use Rattle.std.specs.List.{list_all, prefix_len}
+use Rattle.dn_parse.specs.declared.token.Keyword.{Keyword}
+use Rattle.dn_parse.specs.declared.token.Keyword.TheVariants.{Agent, Vectors, Is, Accept, Map, To, And, At, Over}
+use Rattle.dn_parse.specs.declared.token.Sign.{Sign}
+use Rattle.dn_parse.specs.declared.token.Sign.TheVariants.{Semicolon, Comma, OpenBracket, CloseBracket, Minus, Dot}
+use Rattle.dn_parse.specs.Token.{Lexeme, Token, word, keyword, number, sign, taken, tokens_from, with_token, then_tokens, front, run, after_run, number_of, number_front, word_lexeme, is_word_byte, is_letter, is_digit, is_line_feed, is_blank, is_slash, begins_with}
+use Rattle.dn_parse.specs.Going.{tokens_of}
+use Rattle.dn_parse.proofs.Going.{enough, tokens_go_on}
+use Rattle.dn_parse.proofs.Lexed.{with_tokens}
+use Rattle.dn_print.specs.Names.{address_text}
+use Rattle.dn_print.proofs.Digits.{decimal_number, hexadecimal_number, decimal_digits, decimal_word, hexadecimal_word, decimal_some}
+use Rattle.dn_print.proofs.Closed.{both}
+
+-- a token of a line
+abbrev pub word_token : ℕ → List ℕ → Token
+word_token line w = record { lexeme = word w; line = line }
+
+abbrev pub number_token : ℕ → ℕ → Token
+number_token line n = record { lexeme = number n; line = line }
+
+abbrev pub keyword_token : ℕ → Keyword → Token
+keyword_token line k = record { lexeme = keyword k; line = line }
+
+abbrev pub sign_token : ℕ → Sign → Token
+sign_token line s = record { lexeme = sign s; line = line }
+
+-- what may follow a word or a number
+abbrev pub Stops : List ℕ → Type 0
+Stops rest = begins_with is_word_byte rest ≡ false
+
+-- a piece is these tokens, where no letter, digit or `_` follows
+pub record Closed (line : ℕ) (text : List ℕ) (ts : List Token) : Type 0 where
+  pub it : (rest : List ℕ) → Stops rest → tokens_of line (text ++ rest) ≡ with_tokens ts (tokens_of line rest)
+
+-- the same, whatever follows
+pub record Open (line : ℕ) (text : List ℕ) (ts : List Token) : Type 0 where
+  pub it : (rest : List ℕ) → tokens_of line (text ++ rest) ≡ with_tokens ts (tokens_of line rest)
+
+-- a piece that may follow a word or a number
+pub record Quiet (text : List ℕ) : Type 0 where
+  pub it : (rest : List ℕ) → Stops rest → Stops (text ++ rest)
+
+pub with_both : (xs ys : List Token) (r : Result (List Token) ℕ) → with_tokens xs (with_tokens ys r) ≡ with_tokens (xs ++ ys) r
+with_both xs ys (Ok ts) = ap (λ (l : List Token). Ok l) (sym (append_assoc xs ys ts))
+with_both xs ys (Err line) = refl
+
+pub with_none : (r : Result (List Token) ℕ) → r ≡ with_tokens [] r
+with_none (Ok ts) = refl
+with_none (Err line) = refl
+
+with_one : (t : Token) (r : Result (List Token) ℕ) → with_token t r ≡ with_tokens (t ∷ []) r
+with_one t (Ok ts) = refl
+with_one t (Err line) = refl
+
+-- pieces one after another
+pub closed_then : {line : ℕ} {p q : List ℕ} {ts us : List Token} → Closed line p ts → Quiet q → Closed line q us → Closed line (p ++ q) (ts ++ us)
+closed_then {line} {p} {q} {ts} {us} c quiet d = record {
+  it = λ rest h. ap (tokens_of line) (append_assoc p q rest) ∙ c.it (q ++ rest) (quiet.it rest h) ∙ ap (with_tokens ts) (d.it rest h) ∙ with_both ts us (tokens_of line rest);
+}
+
+pub open_then : {line : ℕ} {p q : List ℕ} {ts us : List Token} → Open line p ts → Closed line q us → Closed line (p ++ q) (ts ++ us)
+open_then {line} {p} {q} {ts} {us} c d = record {
+  it = λ rest h. ap (tokens_of line) (append_assoc p q rest) ∙ c.it (q ++ rest) ∙ ap (with_tokens ts) (d.it rest h) ∙ with_both ts us (tokens_of line rest);
+}
+
+pub quiet_then : {p q : List ℕ} → Quiet p → Quiet q → Quiet (p ++ q)
+quiet_then {p} {q} a b = record { it = λ rest h. subst Stops (sym (append_assoc p q rest)) (a.it (q ++ rest) (b.it rest h)) }
+
+pub quiet_none : Quiet []
+quiet_none = record { it = λ rest h. h }
+
+pub closed_none : (line : ℕ) → Closed line [] []
+closed_none line = record { it = λ rest h. with_none (tokens_of line rest) }
+
+-- one token
+token_step : (line b : ℕ) (s : List ℕ) (l : Lexeme) (rest : List ℕ) → is_line_feed b ≡ false → is_blank b ≡ false → is_slash b ≡ false → front b s ≡ taken l rest → tokens_of line (b ∷ s) ≡ with_tokens (record { lexeme = l; line = line } ∷ []) (tokens_of line rest)
+token_step line b s l rest p q r e =
+    tokens_go_on.more line b s
+    ∙ rw (p, q, r) (ap (λ f. then_tokens line f (tokens_of line)) e)
+    ∙ with_one (record { lexeme = l; line = line }) (tokens_of line rest)
+
+letter_line : (b : ℕ) → is_word_byte b ≡ true → is_line_feed b ≡ false
+letter_line b h = grind (arith, tests)
+
+letter_blank : (b : ℕ) → is_word_byte b ≡ true → is_blank b ≡ false
+letter_blank b h = grind (arith, tests)
+
+letter_slash : (b : ℕ) → is_word_byte b ≡ true → is_slash b ≡ false
+letter_slash b h = grind (arith, tests)
+
+pub letter_word : (b : ℕ) → is_letter b ≡ true → is_word_byte b ≡ true
+letter_word b h = rw h refl
+
+digit_word : (b : ℕ) → is_digit b ≡ true → is_word_byte b ≡ true
+digit_word b h = grind (arith, tests)
+
+digit_letter : (b : ℕ) → is_digit b ≡ true → is_letter b ≡ false
+digit_letter b h = grind (arith, tests)
+
+-- the bytes of a word up to its end
+prefix_none : (p : ℕ → Bool) (rest : List ℕ) → begins_with p rest ≡ false → prefix_len p rest ≡ 0
+prefix_none p [] h = refl
+prefix_none p (b ∷ s) h = rw h refl
+
+prefix_all : (p : ℕ → Bool) (w rest : List ℕ) → IsTrue (list_all p w) → begins_with p rest ≡ false → prefix_len p (w ++ rest) ≡ length w
+prefix_all p [] rest all h = prefix_none p rest h
+prefix_all p (b ∷ w) rest all h =
+    let parts = both (p b) (list_all p w) all in
+    let more = prefix_all p w rest parts.1 h in
+    rw (parts.0, more) (omega arith)
+
+run_is : (w rest : List ℕ) → IsTrue (list_all is_word_byte w) → Stops rest → run (w ++ rest) ≡ w
+run_is w rest all h = take_at w rest (prefix_len is_word_byte (w ++ rest)) (sym (prefix_all is_word_byte w rest all h))
+
+after_is : (w rest : List ℕ) → IsTrue (list_all is_word_byte w) → Stops rest → after_run (w ++ rest) ≡ rest
+after_is w rest all h = drop_at w rest (prefix_len is_word_byte (w ++ rest)) (sym (prefix_all is_word_byte w rest all h))
+
+with_first : (b : ℕ) (w : List ℕ) → is_word_byte b ≡ true → IsTrue (list_all is_word_byte w) → IsTrue (list_all is_word_byte (b ∷ w))
+with_first b w h all = rw h all
+
+cond_true : {X : Type 0} (p : Bool) (x y : X) → p ≡ true → cond p x y ≡ x
+cond_true p x y e = ap (λ q. cond q x y) e
+
+cond_false : {X : Type 0} (p : Bool) (x y : X) → p ≡ false → cond p x y ≡ y
+cond_false p x y e = ap (λ q. cond q x y) e
+
+word_front : (b : ℕ) (w : List ℕ) (l : Lexeme) (rest : List ℕ) → is_letter b ≡ true → IsTrue (list_all is_word_byte (b ∷ w)) → word_lexeme (b ∷ w) ≡ l → Stops rest → front b (w ++ rest) ≡ taken l rest
+word_front b w l rest letter whole e h =
+    let r = run_is (b ∷ w) rest whole h in
+    let a = after_is (b ∷ w) rest whole h in
+    cond_true (is_letter b) _ _ letter ∙ ap₂ (λ m t. taken (word_lexeme m) t) r a ∙ ap (λ m. taken m rest) e
+
+number_at : (b : ℕ) (w : List ℕ) (n : ℕ) (rest : List ℕ) → is_digit b ≡ true → IsTrue (list_all is_word_byte (b ∷ w)) → number_of (b ∷ w) ≡ Some n → Stops rest → front b (w ++ rest) ≡ taken (number n) rest
+number_at b w n rest digit whole e h =
+    let letter = digit_letter b digit in
+    let r = run_is (b ∷ w) rest whole h in
+    let a = after_is (b ∷ w) rest whole h in
+    cond_false (is_letter b) _ _ letter ∙ cond_true (is_digit b) _ _ digit ∙ ap₂ (λ m t. number_front (number_of m) t) r a ∙ ap (λ m. number_front m rest) e
+
+-- a word, reserved or not
+pub word_closed : (line b : ℕ) (w : List ℕ) (l : Lexeme) → is_letter b ≡ true → IsTrue (list_all is_word_byte w) → word_lexeme (b ∷ w) ≡ l → Closed line (b ∷ w) (record { lexeme = l; line = line } ∷ [])
+word_closed line b w l letter all e =
+    let byte = letter_word b letter in
+    let whole = with_first b w byte all in
+    record { it = λ rest h. token_step line b (w ++ rest) l rest (letter_line b byte) (letter_blank b byte) (letter_slash b byte) (word_front b w l rest letter whole e h) }
+
+-- a number
+number_closed : (line b : ℕ) (w : List ℕ) (n : ℕ) → is_digit b ≡ true → IsTrue (list_all is_word_byte w) → number_of (b ∷ w) ≡ Some n → Closed line (b ∷ w) (number_token line n ∷ [])
+number_closed line b w n digit all e =
+    let byte = digit_word b digit in
+    let whole = with_first b w byte all in
+    record { it = λ rest h. token_step line b (w ++ rest) (number n) rest (letter_line b byte) (letter_blank b byte) (letter_slash b byte) (number_at b w n rest digit whole e h) }
+
+digits_closed : (line n : ℕ) (s : List ℕ) → 0 < length s → IsTrue (list_all is_digit s) → IsTrue (list_all is_word_byte s) → number_of s ≡ Some n → Closed line s (number_token line n ∷ [])
+digits_closed line n [] some digits all e = absurd (omega (arith, some))
+digits_closed line n (b ∷ w) some digits all e = number_closed line b w n (both (is_digit b) (list_all is_digit w) digits).0 (both (is_word_byte b) (list_all is_word_byte w) all).1 e
+
+pub decimal_closed : (line n : ℕ) → n < 2 ^ 64 → Closed line (decimal n) (number_token line n ∷ [])
+decimal_closed line n h = digits_closed line n (decimal n) (decimal_some n) (decimal_digits n) (decimal_word n) (decimal_number n h)
+
+pub address_closed : (line n : ℕ) → n < 2 ^ 64 → Closed line (address_text n) (number_token line n ∷ [])
+address_closed line n h = number_closed line 48 (120 ∷ digits 16 false n) n refl (hexadecimal_word n) (hexadecimal_number n h)
+
+-- what is written between names and numbers
+one_open : (t : Token) (n line : ℕ) (rest : List ℕ) → length rest < n → with_token t (tokens_from n line rest) ≡ with_tokens (t ∷ []) (tokens_of line rest)
+one_open t n line rest h = ap (with_token t) (enough n (suc (length rest)) line rest h (omega arith)) ∙ with_one t (tokens_of line rest)
+
+two_open : (t u : Token) (n line : ℕ) (rest : List ℕ) → length rest < n → with_token t (with_token u (tokens_from n line rest)) ≡ with_tokens (t ∷ u ∷ []) (tokens_of line rest)
+two_open t u n line rest h = ap (with_token t) (one_open u n line rest h) ∙ with_one t (with_tokens (u ∷ []) (tokens_of line rest)) ∙ with_both (t ∷ []) (u ∷ []) (tokens_of line rest)
+
+pub at_open : (line : ℕ) → Open line (codes " at ") (keyword_token line At ∷ [])
+unfolding tokens_from word_lexeme
+at_open line = record { it = λ rest. one_open (keyword_token line At) (suc (suc (length rest))) line rest (omega arith) }
+
+pub to_open : (line : ℕ) → Open line (codes " to ") (keyword_token line To ∷ [])
+unfolding tokens_from word_lexeme
+to_open line = record { it = λ rest. one_open (keyword_token line To) (suc (suc (length rest))) line rest (omega arith) }
+
+pub and_open : (line : ℕ) → Open line (codes " and ") (keyword_token line And ∷ [])
+unfolding tokens_from word_lexeme
+and_open line = record { it = λ rest. one_open (keyword_token line And) (suc (suc (suc (length rest)))) line rest (omega arith) }
+
+pub over_open : (line : ℕ) → Open line (codes " over ") (keyword_token line Over ∷ [])
+unfolding tokens_from word_lexeme
+over_open line = record { it = λ rest. one_open (keyword_token line Over) (suc (suc (suc (suc (length rest))))) line rest (omega arith) }
+
+pub agent_open : (line : ℕ) → Open line (codes "agent ") (keyword_token line Agent ∷ [])
+unfolding tokens_from word_lexeme
+agent_open line = record { it = λ rest. one_open (keyword_token line Agent) (suc (suc (suc (suc (suc (length rest)))))) line rest (omega arith) }
+
+pub vectors_open : (line : ℕ) → Open line (codes "vectors ") (keyword_token line Vectors ∷ [])
+unfolding tokens_from word_lexeme
+vectors_open line = record { it = λ rest. one_open (keyword_token line Vectors) (suc (suc (suc (suc (suc (suc (suc (length rest)))))))) line rest (omega arith) }
+
+pub accept_open : (line : ℕ) → Open line (codes " accept [") (keyword_token line Accept ∷ sign_token line OpenBracket ∷ [])
+unfolding tokens_from word_lexeme
+accept_open line = record { it = λ rest. two_open (keyword_token line Accept) (sign_token line OpenBracket) (suc (suc (suc (suc (suc (suc (length rest))))))) line rest (omega arith) }
+
+pub map_open : (line : ℕ) → Open line (codes " map [") (keyword_token line Map ∷ sign_token line OpenBracket ∷ [])
+unfolding tokens_from word_lexeme
+map_open line = record { it = λ rest. two_open (keyword_token line Map) (sign_token line OpenBracket) (suc (suc (suc (length rest)))) line rest (omega arith) }
+
+pub comma_open : (line : ℕ) → Open line (codes ", ") (sign_token line Comma ∷ [])
+unfolding tokens_from word_lexeme
+comma_open line = record { it = λ rest. one_open (sign_token line Comma) (suc (length rest)) line rest (omega arith) }
+
+pub minus_open : (line : ℕ) → Open line (codes "-") (sign_token line Minus ∷ [])
+unfolding tokens_from word_lexeme
+minus_open line = record { it = λ rest. one_open (sign_token line Minus) (suc (length rest)) line rest (omega arith) }
+
+pub bracket_open : (line : ℕ) → Open line (codes "[") (sign_token line OpenBracket ∷ [])
+unfolding tokens_from word_lexeme
+bracket_open line = record { it = λ rest. one_open (sign_token line OpenBracket) (suc (length rest)) line rest (omega arith) }
+
+pub close_open : (line : ℕ) → Open line (codes "]") (sign_token line CloseBracket ∷ [])
+unfolding tokens_from word_lexeme
+close_open line = record { it = λ rest. one_open (sign_token line CloseBracket) (suc (length rest)) line rest (omega arith) }
+
+blank_open : (line : ℕ) → Open line (codes " ") []
+unfolding tokens_from
+blank_open line = record { it = λ rest. with_none (tokens_of line rest) }
+
+is_closed : (line : ℕ) → Closed line (codes "is") (keyword_token line Is ∷ [])
+unfolding word_lexeme
+is_closed line = word_closed line 105 (115 ∷ []) (keyword Is) refl refl refl
+
+pub is_word_closed : (line : ℕ) → Closed line (codes " is") (keyword_token line Is ∷ [])
+is_word_closed line = open_then (blank_open line) (is_closed line)
+
+-- the end of a statement and of its line
+pub end_open : (line : ℕ) (rest : List ℕ) → tokens_of line (codes ";\n" ++ rest) ≡ with_tokens (sign_token line Semicolon ∷ []) (tokens_of (line + 1) rest)
+unfolding tokens_from word_lexeme
+end_open line rest = one_open (sign_token line Semicolon) (suc (length rest)) (line + 1) rest (omega arith)
+
+dot_at : (s : List ℕ) → begins_with (λ c. c == 46) s ≡ false → front 46 s ≡ taken (sign Dot) s
+dot_at s h = rw h refl
+
+-- a dot before a name
+pub dot_closed : (line : ℕ) (p : List ℕ) (ts : List Token) → ((rest : List ℕ) → begins_with (λ c. c == 46) (p ++ rest) ≡ false) → Closed line p ts → Closed line (codes "." ++ p) (sign_token line Dot ∷ ts)
+dot_closed line p ts no_dot c = record {
+  it = λ rest h. token_step line 46 (p ++ rest) (sign Dot) (p ++ rest) refl refl refl (dot_at (p ++ rest) (no_dot rest)) ∙ ap (with_tokens (sign_token line Dot ∷ [])) (c.it rest h) ∙ with_both (sign_token line Dot ∷ []) ts (tokens_of line rest);
+}
