@@ -7,6 +7,11 @@
 #![tactic(auto)]
 
 pub mod fault;
+mod legs;
+mod levels;
+#[cfg(test)]
+mod tests;
 pub mod walks;
+mod ways;
 
 pub use dn_base::OutOfMemory;

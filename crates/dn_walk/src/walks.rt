@@ -7,10 +7,16 @@ ghost use Rattle.dn_net.specs.WalkRules.{walk_fault};
 ghost use Rattle.dn_walk.specs.Rows.{AreWalksOf, IsBroken};
 
 use crate::fault::WalkFault;
+use crate::legs::net_legs;
+use crate::levels::{Levels, WALK_LIMIT};
+use crate::ways::{Goal, least_start, way};
 use dn_interval::Span;
 use dn_net::net::Net;
-use std::alloc::Global;
+use std::alloc::{AllocError, Global};
 use std::marker::Model;
+
+/// The most steps that a chain may have.
+const LONGEST: usize = 64;
 
 /// A live walk: the address `a` of its span goes from the node `start` in `len` steps to the address
 /// `base + (a - span.lo)` of the node `end`.
@@ -59,5 +65,31 @@ pub fn walks(alloc: Global, net: &Net) -> Result<WalkTable, WalkFault>
     ensures rows { IfOk result (λ table. AreWalksOf net.now table) }
     ensures fault { IfErr result (λ e. IsBroken (walk_fault net.now) e) }
 {
-    Err(WalkFault::OutOfMemory)
+    let legs = net_legs(alloc, net)?;
+    let mut levels = Levels::new(alloc, net.nodes())?;
+    for _ in 0..LONGEST {
+        levels = levels.grown(alloc, &legs)?;
+        if levels.newest.is_empty() {
+            return Ok(table(alloc, &levels)?);
+        }
+        if let Some(first) = least_start(&levels.newest, true) {
+            let cycle = way(alloc, net, &levels.sorted, first, Goal::To(first))?;
+            return Err(WalkFault::Loop { cycle });
+        }
+    }
+    levels = levels.grown(alloc, &legs)?;
+    if let Some(first) = least_start(&levels.newest, false) {
+        let path = way(alloc, net, &levels.sorted, first, Goal::Anywhere)?;
+        return Err(WalkFault::Deep { path });
+    }
+    Ok(table(alloc, &levels)?)
+}
+
+/// The rows of the sorted levels but the first.
+fn table(alloc: Global, levels: &Levels) -> Result<WalkTable, AllocError> {
+    let mut rows = Vec::with_capacity(alloc, WALK_LIMIT - levels.room)?;
+    for level in &levels.sorted[1..] {
+        rows.extend_from_slice(level.as_slice())?;
+    }
+    Ok(WalkTable { rows })
 }

@@ -1,0 +1,128 @@
+//! The live walks of a net, level by level: those of each length from those of one choice fewer.
+
+use crate::fault::WalkFault;
+use crate::legs::Leg;
+use crate::walks::WalkRow;
+use dn_base::items::Items;
+use dn_interval::{Span, TOP};
+use std::alloc::{AllocError, Global};
+
+/// The most live walks.
+pub(crate) const WALK_LIMIT: usize = 1_048_576;
+
+/// The levels of walks that have been made, from that of the walks of no choice on.
+#[derive(Drop)]
+pub(crate) struct Levels {
+    /// Each level but the newest, by start and by the first and the last address of the span.
+    pub sorted: Vec<Items<WalkRow>>,
+    /// The newest level, in the order in which it was made.
+    pub newest: Vec<WalkRow>,
+    /// How many more walks there may be.
+    pub room: usize,
+}
+
+impl Levels {
+    /// The level of the walks of no choice.
+    pub(crate) fn new(alloc: Global, nodes: u16) -> Result<Levels, AllocError> {
+        Ok(Levels {
+            sorted: Vec::new(alloc),
+            newest: still_rows(alloc, nodes)?,
+            room: WALK_LIMIT,
+        })
+    }
+
+    /// These levels and the next one. `Wide` exactly where there is no room for it.
+    pub(crate) fn grown(self, alloc: Global, legs: &[Items<Leg>]) -> Result<Levels, WalkFault> {
+        let Levels {
+            mut sorted,
+            newest,
+            room,
+        } = self;
+        let next = extended(alloc, legs, &newest, room)?;
+        sorted.push(in_order(newest)?)?;
+        let room = room - next.len();
+        Ok(Levels {
+            sorted,
+            newest: next,
+            room,
+        })
+    }
+}
+
+/// The walk of no choice from each node: each address comes to itself.
+fn still_rows(alloc: Global, nodes: u16) -> Result<Vec<WalkRow>, AllocError> {
+    let mut rows = Vec::with_capacity(alloc, usize::from(nodes))?;
+    for node in 0..nodes {
+        rows.push(WalkRow {
+            start: node,
+            span: Span { lo: 0, hi: TOP },
+            end: node,
+            base: 0,
+            len: 0,
+        })?;
+    }
+    Ok(rows)
+}
+
+/// The rows by start and by the first and the last address of the span. Where these are equal they stay
+/// in the order in which they come.
+fn in_order(mut rows: Vec<WalkRow>) -> Result<Items<WalkRow>, AllocError> {
+    rows.sort_by_key(|row| (row.start, row.span.lo, row.span.hi))?;
+    Ok(Items::from_vec(rows))
+}
+
+/// Each walk that goes on from a row by one more choice. `Wide` exactly where there are more than `room`.
+fn extended(
+    alloc: Global,
+    legs: &[Items<Leg>],
+    rows: &[WalkRow],
+    room: usize,
+) -> Result<Vec<WalkRow>, WalkFault> {
+    let mut out = Vec::new(alloc);
+    for row in rows {
+        let met = met_by(row, legs[usize::from(row.end)].as_slice());
+        if room - out.len() < met.len() {
+            return Err(WalkFault::Wide);
+        }
+        extend_row(row, met, &mut out)?;
+    }
+    Ok(out)
+}
+
+/// The legs of the end node that have an address at which the walk comes out.
+fn met_by<'a>(row: &WalkRow, legs: &'a [Leg]) -> &'a [Leg] {
+    let base = row.base;
+    let last = last_out(row);
+    let first = legs.partition_point(|leg| leg.hi < base);
+    let end = legs.partition_point(|leg| leg.lo <= last);
+    &legs[first..end]
+}
+
+/// Appends the walk with each of the legs as one more choice.
+fn extend_row(row: &WalkRow, met: &[Leg], out: &mut Vec<WalkRow>) -> Result<(), AllocError> {
+    for leg in met {
+        out.push(onto(row, leg))?;
+    }
+    Ok(())
+}
+
+/// The last address at which the walk comes out.
+fn last_out(row: &WalkRow) -> u64 {
+    row.base + (row.span.hi - row.span.lo)
+}
+
+/// The walk with one more choice, for the addresses that go on by its leg.
+fn onto(row: &WalkRow, leg: &Leg) -> WalkRow {
+    let lo = row.base.max(leg.lo);
+    let hi = last_out(row).min(leg.hi);
+    WalkRow {
+        start: row.start,
+        span: Span {
+            lo: row.span.lo + (lo - row.base),
+            hi: row.span.lo + (hi - row.base),
+        },
+        end: leg.node,
+        base: leg.addr + (lo - leg.lo),
+        len: row.len + 1,
+    }
+}

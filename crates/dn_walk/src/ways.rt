@@ -1,0 +1,124 @@
+//! The names of a cycle or a path: at each place the least name from which the rest can be taken.
+
+use crate::walks::WalkRow;
+use dn_base::items::Items;
+use dn_net::net::Net;
+use dn_net::node::{Dest, Name};
+use dn_net::step::Step;
+use std::alloc::{AllocError, Global};
+
+/// Where a way is to lead.
+#[derive(Clone, Copy)]
+pub(crate) enum Goal {
+    Anywhere,
+    To(Name),
+}
+
+/// The least name that follows one of the rows; where `back` is set, of those that come back to where
+/// they began.
+pub(crate) fn least_start(rows: &[WalkRow], back: bool) -> Option<Name> {
+    let mut least = None;
+    for row in rows {
+        if !back || is_cycle(row) {
+            least = lesser(
+                least,
+                Name {
+                    node: row.start,
+                    addr: row.span.lo,
+                },
+            );
+        }
+    }
+    least
+}
+
+/// Whether each address of the walk comes to itself.
+fn is_cycle(row: &WalkRow) -> bool {
+    row.start == row.end && row.base == row.span.lo
+}
+
+/// The lesser of two names.
+fn lesser(least: Option<Name>, name: Name) -> Option<Name> {
+    match least {
+        Some(other) if !comes_before(name, other) => least,
+        _ => Some(name),
+    }
+}
+
+/// Whether a name comes before another, by node and by address.
+fn comes_before(name: Name, other: Name) -> bool {
+    name.node < other.node || (name.node == other.node && name.addr < other.addr)
+}
+
+/// The names from the first one on, as many steps as there are levels: at each place the least step from
+/// which a row of the level of what is left leads to the goal.
+pub(crate) fn way(
+    alloc: Global,
+    net: &Net,
+    levels: &[Items<WalkRow>],
+    first: Name,
+    goal: Goal,
+) -> Result<Items<Name>, AllocError> {
+    let mut names = Items::new(alloc);
+    names.push(first)?;
+    let mut name = first;
+    let mut left = levels.len();
+    while left > 0 {
+        left -= 1;
+        let Some(next) = least_step(net, name, levels[left].as_slice(), goal) else {
+            return Ok(names);
+        };
+        names.push(next)?;
+        name = next;
+    }
+    Ok(names)
+}
+
+/// The least step of a name from which a row of the level leads to the goal.
+fn least_step(net: &Net, name: Name, level: &[WalkRow], goal: Goal) -> Option<Name> {
+    match net.step(name) {
+        Step::To(dests, offset) => least_leading(dests, offset, level, goal),
+        Step::Accepted | Step::Stop | Step::Nothing => None,
+    }
+}
+
+fn least_leading(dests: &[Dest], offset: u64, level: &[WalkRow], goal: Goal) -> Option<Name> {
+    let mut least = None;
+    for dest in dests {
+        let name = Name {
+            node: dest.node,
+            addr: dest.addr + offset,
+        };
+        if does_lead(level, name, goal) {
+            least = lesser(least, name);
+        }
+    }
+    least
+}
+
+/// Whether a row of the level leads from the name to the goal. The rows stand by start.
+fn does_lead(level: &[WalkRow], name: Name, goal: Goal) -> bool {
+    let first = level.partition_point(|row| row.start < name.node);
+    let end = level.partition_point(|row| row.start <= name.node);
+    for row in &level[first..end] {
+        if leads(row, name, goal) {
+            return true;
+        }
+    }
+    false
+}
+
+/// Whether the row leads from an address of its start to the goal.
+fn leads(row: &WalkRow, name: Name, goal: Goal) -> bool {
+    if row.start != name.node || !row.span.contains(name.addr) {
+        return false;
+    }
+    match goal {
+        Goal::Anywhere => true,
+        Goal::To(to) => {
+            row.end == to.node
+                && row.base <= to.addr
+                && to.addr - row.base == name.addr - row.span.lo
+        }
+    }
+}
