@@ -1,5 +1,16 @@
 //! The names of a cycle or a path: at each place the least name from which the rest can be taken.
 
+ghost use Rattle.std.specs.Prelude.{◌≡◌, ℕ, ◌+◌, ◌≤◌, ◌<◌, ◌∷◌, map, filter, length, IfOk, IfSome, IsTrue, None, nat_le};
+ghost use Rattle.std.specs.List.{All, list_all};
+ghost use Rattle.std.specs.List.Sorted.{IsNonDecreasingBy};
+ghost use Rattle.dn_net.specs.Decode.{steps, moved, is_closed, top};
+ghost use Rattle.dn_net.specs.Names.{name_lt};
+ghost use Rattle.dn_net.specs.Rules.{node_fault};
+ghost use Rattle.dn_net.specs.WalkRules.{way_by};
+ghost use Rattle.dn_walk.specs.declared.walks.WalkRow.{WalkRow};
+ghost use Rattle.dn_walk.specs.Rows.{told_by_row};
+ghost use Rattle.dn_walk.specs.Ways.{least_of, lesser_name, start_names, is_cyclic, told_leads, level_leads, levels_lead};
+
 use crate::walks::WalkRow;
 use dn_base::items::Items;
 use dn_net::net::Net;
@@ -16,7 +27,9 @@ pub(crate) enum Goal {
 
 /// The least name that follows one of the rows; where `back` is set, of those that come back to where
 /// they began.
-pub(crate) fn least_start(rows: &[WalkRow], back: bool) -> Option<Name> {
+pub(crate) fn least_start(rows: &[WalkRow], back: bool) -> Option<Name>
+    ensures { result ≡ least_of (start_names back (map told_by_row rows.now)) }
+{
     let mut least = None;
     for row in rows {
         if !back || is_cycle(row) {
@@ -33,12 +46,16 @@ pub(crate) fn least_start(rows: &[WalkRow], back: bool) -> Option<Name> {
 }
 
 /// Whether each address of the walk comes to itself.
-fn is_cycle(row: &WalkRow) -> bool {
+fn is_cycle(row: &WalkRow) -> bool
+    ensures { result ≡ is_cyclic (told_by_row row.now) }
+{
     row.start == row.end && row.base == row.span.lo
 }
 
 /// The lesser of two names.
-fn lesser(least: Option<Name>, name: Name) -> Option<Name> {
+fn lesser(least: Option<Name>, name: Name) -> Option<Name>
+    ensures { result ≡ lesser_name least name }
+{
     match least {
         Some(other) if !comes_before(name, other) => least,
         _ => Some(name),
@@ -46,7 +63,9 @@ fn lesser(least: Option<Name>, name: Name) -> Option<Name> {
 }
 
 /// Whether a name comes before another, by node and by address.
-fn comes_before(name: Name, other: Name) -> bool {
+fn comes_before(name: Name, other: Name) -> bool
+    ensures { result ≡ name_lt name other }
+{
     name.node < other.node || (name.node == other.node && name.addr < other.addr)
 }
 
@@ -58,7 +77,13 @@ pub(crate) fn way(
     levels: &[Items<WalkRow>],
     first: Name,
     goal: Goal,
-) -> Result<Items<Name>, AllocError> {
+) -> Result<Items<Name>, AllocError>
+    requires closed { IsTrue (is_closed net.now) }
+    requires checked { node_fault net.now ≡ None }
+    requires there { first.node < length net.now }
+    requires sorted { All (λ level. IsNonDecreasingBy (λ (r : WalkRow). r.start) level) levels.now }
+    ensures { IfOk result (λ names. names ≡ first ∷ way_by (steps net.now) (levels_lead goal (map (map told_by_row) levels.now)) (length levels.now) first) }
+{
     let mut names = Items::new(alloc);
     names.push(first)?;
     let mut name = first;
@@ -75,14 +100,23 @@ pub(crate) fn way(
 }
 
 /// The least step of a name from which a row of the level leads to the goal.
-fn least_step(net: &Net, name: Name, level: &[WalkRow], goal: Goal) -> Option<Name> {
+fn least_step(net: &Net, name: Name, level: &[WalkRow], goal: Goal) -> Option<Name>
+    requires checked { node_fault net.now ≡ None }
+    requires there { name.node < length net.now }
+    requires sorted { IsNonDecreasingBy (λ (r : WalkRow). r.start) level.now }
+    ensures { result ≡ least_of (filter (level_leads goal (map told_by_row level.now)) (steps net.now name)) }
+{
     match net.step(name) {
         Step::To(dests, offset) => least_leading(dests, offset, level, goal),
         Step::Accepted | Step::Stop | Step::Nothing => None,
     }
 }
 
-fn least_leading(dests: &[Dest], offset: u64, level: &[WalkRow], goal: Goal) -> Option<Name> {
+fn least_leading(dests: &[Dest], offset: u64, level: &[WalkRow], goal: Goal) -> Option<Name>
+    requires reach { IsTrue (list_all (λ d. nat_le (d.addr + offset) top) dests.now) }
+    requires sorted { IsNonDecreasingBy (λ (r : WalkRow). r.start) level.now }
+    ensures { result ≡ least_of (filter (level_leads goal (map told_by_row level.now)) (map (moved offset) dests.now)) }
+{
     let mut least = None;
     for dest in dests {
         let name = Name {
@@ -97,7 +131,10 @@ fn least_leading(dests: &[Dest], offset: u64, level: &[WalkRow], goal: Goal) -> 
 }
 
 /// Whether a row of the level leads from the name to the goal. The rows stand by start.
-fn does_lead(level: &[WalkRow], name: Name, goal: Goal) -> bool {
+fn does_lead(level: &[WalkRow], name: Name, goal: Goal) -> bool
+    requires { IsNonDecreasingBy (λ (r : WalkRow). r.start) level.now }
+    ensures { result ≡ level_leads goal (map told_by_row level.now) name }
+{
     let first = level.partition_point(|row| row.start < name.node);
     let end = level.partition_point(|row| row.start <= name.node);
     for row in &level[first..end] {
@@ -109,7 +146,9 @@ fn does_lead(level: &[WalkRow], name: Name, goal: Goal) -> bool {
 }
 
 /// Whether the row leads from an address of its start to the goal.
-fn leads(row: &WalkRow, name: Name, goal: Goal) -> bool {
+fn leads(row: &WalkRow, name: Name, goal: Goal) -> bool
+    ensures { result ≡ told_leads goal name (told_by_row row.now) }
+{
     if row.start != name.node || !row.span.contains(name.addr) {
         return false;
     }
