@@ -9,7 +9,7 @@ use Rattle.dn_net.specs.declared.node.NodeDecl.{NodeDecl}
 use Rattle.dn_net.specs.Decode.{top}
 use Rattle.dn_net.specs.Walks.{Leg as NetLeg, in_order, cut_each, whole, legs}
 use Rattle.dn_interval.specs.declared.span.Span.{Span}
-use Rattle.dn_walk.specs.declared.legs.Leg.{Leg}
+use Rattle.dn_walk.specs.declared.leg.Leg.{Leg}
 
 abbrev pub told_leg : NetLeg → Leg
 told_leg l = record { lo = l.block.lo; hi = l.block.hi; node = l.to.node; addr = l.to.addr }

@@ -4,8 +4,8 @@ use Rattle.std.specs.List.{flat_map}
 use Rattle.dn_net.specs.Decode.{top}
 use Rattle.dn_net.specs.Walks.{in_order, greater, lesser_of}
 use Rattle.dn_net.specs.WalkRules.{walk_limit}
-use Rattle.dn_walk.specs.declared.legs.Leg.{Leg}
-use Rattle.dn_walk.specs.declared.levels.Levels.{Levels}
+use Rattle.dn_walk.specs.declared.leg.Leg.{Leg}
+use Rattle.dn_walk.specs.declared.level.Levels.{Levels}
 use Rattle.dn_walk.specs.declared.walks.WalkRow.{WalkRow}
 use Rattle.dn_walk.specs.declared.fault.WalkFault.{WalkFault}
 use Rattle.dn_walk.specs.declared.fault.WalkFault.TheVariants.{Wide, Loop, Deep, OutOfMemory}

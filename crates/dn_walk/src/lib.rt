@@ -7,11 +7,11 @@
 #![tactic(auto)]
 
 pub mod fault;
-mod legs;
-mod levels;
+mod leg;
+mod level;
 #[cfg(test)]
 mod tests;
 pub mod walks;
-mod ways;
+mod way;
 
 pub use dn_base::OutOfMemory;

@@ -6,17 +6,17 @@ ghost use Rattle.std.specs.List.Sorted.{IsNonDecreasingBy};
 ghost use Rattle.dn_net.specs.Decode.{is_closed};
 ghost use Rattle.dn_net.specs.Rules.{node_fault};
 ghost use Rattle.dn_net.specs.WalkRules.{walk_fault};
-ghost use Rattle.dn_walk.specs.declared.legs.Leg.{Leg};
-ghost use Rattle.dn_walk.specs.declared.levels.TheConstants.{WALK_LIMIT};
+ghost use Rattle.dn_walk.specs.declared.leg.Leg.{Leg};
+ghost use Rattle.dn_walk.specs.declared.level.TheConstants.{WALK_LIMIT};
 ghost use Rattle.dn_walk.specs.declared.walks.WalkRow.{WalkRow};
 ghost use Rattle.dn_walk.specs.Rows.{AreWalksOf, IsBroken, told_by_row};
 ghost use Rattle.dn_walk.specs.Levels.{AreLevels, told_walks};
 ghost use Rattle.dn_walk.specs.Ways.{told_cycle, told_path, IsLoopBy, IsDeepBy};
 
 use crate::fault::WalkFault;
-use crate::legs::net_legs;
-use crate::levels::{Levels, WALK_LIMIT};
-use crate::ways::{Goal, least_start, way};
+use crate::leg::net_legs;
+use crate::level::{Levels, WALK_LIMIT};
+use crate::way::{Goal, least_start, way};
 use dn_interval::Span;
 use dn_net::net::Net;
 use std::alloc::{AllocError, Global};
@@ -25,16 +25,16 @@ use std::marker::Model;
 /// The most steps that a chain may have.
 const LONGEST: usize = 64;
 
-/// A live walk: the address `a` of its span goes from the node `start` in `len` steps to the address
+/// A live walk, in 32 bytes: the address `a` of its span goes from the node `start` in `len` steps to the address
 /// `base + (a - span.lo)` of the node `end`.
 #[derive(Clone, Copy, Debug, PartialEq, Eq)]
 pub struct WalkRow {
-    pub start: u16,
     /// The addresses that follow all of the walk.
     pub span: Span,
-    pub end: u16,
     /// The address to which the span's first one goes.
     pub base: u64,
+    pub start: u16,
+    pub end: u16,
     /// How many choices the walk has, 1 to 65.
     pub len: u8,
 }

@@ -1,0 +1,13 @@
+pub mod Apart
+pub mod Chains
+pub mod Choices
+pub mod Cycles
+pub mod Firsts
+pub mod Gaps
+pub mod Legs
+pub mod Levels
+pub mod Members
+pub mod Meets
+pub mod Orders
+pub mod Picks
+pub mod Sorting
