@@ -1,8 +1,7 @@
 -- What the node rules say of the blocks of one node.
-use Rattle.std.proofs.Common.{◌≡◌, ℕ, zero, suc, ◌+◌, ◌-◌, ◌<◌, ◌≤◌, ◌⊎◌, inl, inr, Bool, true, false, if◌then◌else◌, ◌&&◌, ◌||◌, nat_le, nat_lt, List, [], ◌∷◌, Option, Some, None, IsSome, refl, sym, ap, ◌∙◌, subst, arith, IsTrue, leb-true, slice_get}
+use Rattle.std.proofs.Common.{◌≡◌, ℕ, zero, suc, ◌+◌, ◌-◌, ◌<◌, ◌≤◌, ◌⊎◌, inl, inr, Bool, true, false, if◌then◌else◌, nat_le, nat_lt, List, [], ◌∷◌, Option, Some, None, IsSome, refl, ap, ◌∙◌, arith, IsTrue, leb-true, slice_get}
 use Rattle.std.proofs.lemmas.Bool.{lt-ltb}
 use Rattle.std.specs.List.{list_all}
-use Rattle.dn_net.specs.declared.node.Block.{Block}
 use Rattle.dn_net.specs.declared.node.Dest.{Dest}
 use Rattle.dn_net.specs.declared.node.Entry.{Entry}
 use Rattle.dn_net.specs.declared.node.NodeDecl.{NodeDecl}
@@ -11,6 +10,7 @@ use Rattle.dn_net.specs.Rules.{overlaps, least_overlap, block_in_range, dest_in_
 use Rattle.dn_net.proofs.Checked.{IsChecked, checked_at}
 use Rattle.dn_net.proofs.Least.{least_overlap_is_least, maps_at, maps_at-cons, true_left, true_right, true_both}
 use Rattle.dn_net.proofs.Places.{both, list_all-at}
+use Rattle.dn_walk.proofs.Members.{some_same}
 
 -- the blocks of a node are in range, and no address lies in two map blocks, or in a map block and an accept block
 pub record IsApart (n : NodeDecl) : Type 0 where
@@ -19,9 +19,6 @@ pub record IsApart (n : NodeDecl) : Type 0 where
   pub dest : (i j : ℕ) (e : Entry) (d : Dest) → slice_get n.entries i ≡ Some e → slice_get e.dests j ≡ Some d → d.addr + (e.block.hi - e.block.lo) ≤ top
   pub accept_apart : (i a : ℕ) (e : Entry) → slice_get n.entries i ≡ Some e → IsTrue (within a e.block) → in_some_block a n.accepts ≡ false
   pub map_apart : (i j a : ℕ) (e f : Entry) → slice_get n.entries i ≡ Some e → slice_get n.entries j ≡ Some f → IsTrue (within a e.block) → IsTrue (within a f.block) → i ≡ j
-
-some_same : {X : Type 0} (x y : X) → ◌≡◌ {A = Option X} (Some x) (Some y) → x ≡ y
-some_same x y e = cc
 
 -- an entry that has an address is counted
 counted : (es : List Entry) (i a : ℕ) (e : Entry) → slice_get es i ≡ Some e → IsTrue (within a e.block) → 1 ≤ maps_at es a

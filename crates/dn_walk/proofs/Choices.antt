@@ -9,12 +9,10 @@ use Rattle.dn_net.specs.Chain.{Member, Chain}
 use Rattle.dn_net.specs.Decode.{top, within, in_some_block, by_over, mapped, moved, decoded, Step}
 use Rattle.dn_net.specs.Rules.{node_fault}
 use Rattle.dn_net.specs.Walks.{Choice, mapped_by, over_gap, in_some_entry, is_free, IsGap, Leads, Follows, moved_name}
-use Rattle.dn_net.specs.WalkRules.{IsChecked, ChainIsWalk}
+use Rattle.dn_net.specs.WalkRules.{ChainIsWalk}
 use Rattle.dn_net.proofs.Least.{within_from, within_to}
 use Rattle.dn_walk.proofs.Apart.{IsApart, node_apart}
-
-some_same : {X : Type 0} (x y : X) → ◌≡◌ {A = Option X} (Some x) (Some y) → x ≡ y
-some_same x y e = cc
+use Rattle.dn_walk.proofs.Members.{some_same}
 
 -- a free address lies in a gap: its end below
 gap_below : (n : NodeDecl) (a : ℕ) → is_free n a ≡ true → (lo : ℕ) × (lo ≤ a) × ((b : ℕ) → lo ≤ b → b ≤ a → is_free n b ≡ true) × ((b : ℕ) → lo ≡ suc b → is_free n b ≡ false)

@@ -1,5 +1,5 @@
 -- Chains and cycles of steps as walks of a level, and the tests of them.
-use Rattle.std.proofs.Common.{◌≡◌, ℕ, zero, suc, ◌+◌, ◌-◌, ◌<◌, ◌≤◌, ◌⊎◌, ◌↔◌, inl, inr, Bool, true, false, ◌&&◌, ◌||◌, ◌==◌, List, [], ◌∷◌, length, slice_get, Option, Some, None, refl, sym, ap, ◌∙◌, subst, arith, IsTrue, eqb-true}
+use Rattle.std.proofs.Common.{◌≡◌, ℕ, ◌+◌, ◌-◌, ◌<◌, ◌≤◌, ◌↔◌, inl, inr, true, false, ◌==◌, List, [], ◌∷◌, length, slice_get, Option, Some, None, refl, sym, ap, ◌∙◌, subst, arith, IsTrue, eqb-true}
 use Rattle.std.proofs.lemmas.Bool.{eq-eqb}
 use Rattle.std.proofs.lemmas.Option.{slice_get_within}
 use Rattle.std.specs.List.{list_any}
@@ -16,7 +16,7 @@ use Rattle.dn_net.proofs.Resolution.{after_steps_is_chain}
 use Rattle.dn_walk.proofs.Apart.{node_apart}
 use Rattle.dn_walk.proofs.Choices.{choices_of_chain, chain_of_choices}
 use Rattle.dn_walk.proofs.Legs.{leads_in_range}
-use Rattle.dn_walk.proofs.Levels.{IsRow, level_is_row, row_of_choices}
+use Rattle.dn_walk.proofs.Levels.{level_is_row, row_of_choices}
 
 -- a walk of a level that leads a name to another
 pub record IsLed (net : List NodeDecl) (k : ℕ) (x y : Name) (w : Walk) : Type 0 where

@@ -1,5 +1,5 @@
 -- The first number and the least name that pass a test, and the shortest cycle.
-use Rattle.std.proofs.Common.{◌≡◌, ℕ, zero, suc, ◌+◌, ◌-◌, ◌<◌, ◌≤◌, ◌⊎◌, inl, inr, Bool, true, false, if◌then◌else◌, ◌&&◌, ◌||◌, ◌==◌, nat_lt, List, length, Option, Some, None, option_map, is_some, refl, sym, ap, ◌∙◌, subst, arith, IsTrue}
+use Rattle.std.proofs.Common.{◌≡◌, ℕ, zero, suc, ◌+◌, ◌-◌, ◌<◌, ◌≤◌, ◌⊎◌, inl, inr, Bool, true, false, if◌then◌else◌, nat_lt, List, length, Option, Some, None, option_map, is_some, refl, sym, ap, ◌∙◌, subst, arith, IsTrue}
 use Rattle.std.proofs.lemmas.Bool.{lt-ltb, eq-eqb}
 use Rattle.dn_net.specs.declared.node.Name.{Name}
 use Rattle.dn_net.specs.declared.node.NodeDecl.{NodeDecl}
@@ -9,9 +9,6 @@ use Rattle.dn_net.specs.Names.{name_lt}
 use Rattle.dn_net.specs.WalkRules.{or_else, first_below, least_in, least_below, least_name, comes_back, has_cycle, shortest_within, shortest_cycle, IsChecked, IsShortestCycle, ShortestCycleIsShortest}
 use Rattle.dn_net.proofs.Least.{true_left, true_right, true_both}
 use Rattle.dn_walk.proofs.Cycles.{comes_to_is_chain, stepping_in_range}
-
-some_same : {X : Type 0} (x y : X) → ◌≡◌ {A = Option X} (Some x) (Some y) → x ≡ y
-some_same x y e = cc
 
 first_below-zero : (p : ℕ → Bool) → first_below p 0 ≡ None
 unfolding first_below

@@ -1,7 +1,7 @@
 -- The list of a node's gaps ascends, leaves out an address between two, and has exactly the addresses that are free.
-use Rattle.std.proofs.Common.{◌≡◌, ℕ, zero, suc, ◌+◌, ◌-◌, ◌<◌, ◌≤◌, ◌⊎◌, ◌↔◌, inl, inr, Bool, true, false, if◌then◌else◌, not, ◌&&◌, ◌||◌, nat_le, nat_lt, List, [], ◌∷◌, ◌++◌, map, slice_get, Some, refl, sym, ap, ◌∙◌, subst, arith, IsTrue, leb-true, le-leb, ltb-true}
+use Rattle.std.proofs.Common.{◌≡◌, ℕ, zero, suc, ◌+◌, ◌-◌, ◌<◌, ◌≤◌, ◌⊎◌, inl, inr, Bool, true, false, if◌then◌else◌, not, ◌&&◌, ◌||◌, nat_le, nat_lt, List, [], ◌∷◌, ◌++◌, map, slice_get, Some, refl, sym, ap, ◌∙◌, subst, arith, IsTrue, leb-true, le-leb, ltb-true}
 use Rattle.std.proofs.lemmas.Bool.{lt-ltb, ltb-false, leb-false}
-use Rattle.std.specs.List.{list_all, flat_map}
+use Rattle.std.specs.List.{list_all}
 use Rattle.dn_net.specs.declared.node.Block.{Block}
 use Rattle.dn_net.specs.declared.node.Entry.{Entry}
 use Rattle.dn_net.specs.declared.node.NodeDecl.{NodeDecl}
@@ -51,15 +51,15 @@ cut_stands b from [] o h = tt
 cut_stands b from (s ∷ ss) o h = cut_front b s from (cut_out b ss) o h.0 h.1 h.2 (cut_stands b (s.hi + 2) ss o h.3)
 
 -- each block runs upwards
-abbrev Upward : List Block → Type 0
+abbrev pub Upward : List Block → Type 0
 Upward [] = Unit {0}
 Upward (b ∷ bs) = (b.lo ≤ b.hi) × Upward bs
 
-cut_each_stands : (bs : List Block) (from : ℕ) (ss : List Block) → Upward bs → Stand from ss → Stand from (cut_each bs ss)
+pub cut_each_stands : (bs : List Block) (from : ℕ) (ss : List Block) → Upward bs → Stand from ss → Stand from (cut_each bs ss)
 cut_each_stands [] from ss u h = h
 cut_each_stands (b ∷ bs) from ss u h = cut_stands b from (cut_each bs ss) u.0 (cut_each_stands bs from ss u.1 h)
 
-accepts_upward : (bs : List Block) → IsTrue (list_all block_in_range bs) → Upward bs
+pub accepts_upward : (bs : List Block) → IsTrue (list_all block_in_range bs) → Upward bs
 accepts_upward [] all = tt
 accepts_upward (b ∷ bs) all =
     let r = both (block_in_range b) (list_all block_in_range bs) all in
@@ -236,7 +236,7 @@ free_is true false = refl
 free_is false true = refl
 free_is false false = refl
 
-whole_has : (a : ℕ) → in_some_block a (whole ∷ []) ≡ nat_le a top
+pub whole_has : (a : ℕ) → in_some_block a (whole ∷ []) ≡ nat_le a top
 whole_has a = same_test _ _ (λ h. let r = one_in a whole h in le-leb a top r.1) (λ h. let l : a ≤ top = leb-true a top h in let z : 0 ≤ a = omega arith in true_left (within a whole) false (within_from a whole z l))
 
 -- the gaps have exactly the addresses that are free

@@ -1,5 +1,5 @@
 -- The legs of a node are its choices, each with the addresses that it leads on.
-use Rattle.std.proofs.Common.{◌≡◌, ℕ, zero, suc, ◌+◌, ◌-◌, ◌<◌, ◌≤◌, ◌⊎◌, inl, inr, Bool, true, ◌&&◌, nat_lt, List, [], ◌∷◌, ◌++◌, map, length, slice_get, Option, Some, None, refl, sym, ap, ◌∙◌, subst, arith, IsTrue, ltb-true}
+use Rattle.std.proofs.Common.{◌≡◌, ℕ, zero, suc, ◌+◌, ◌-◌, ◌<◌, ◌≤◌, ◌⊎◌, inl, inr, Bool, ◌&&◌, nat_lt, List, [], ◌∷◌, ◌++◌, slice_get, Option, Some, None, refl, sym, ap, ◌∙◌, subst, arith, IsTrue, ltb-true}
 use Rattle.std.specs.List.{list_all}
 use Rattle.dn_net.specs.declared.node.Block.{Block}
 use Rattle.dn_net.specs.declared.node.Dest.{Dest}
@@ -8,15 +8,12 @@ use Rattle.dn_net.specs.declared.node.Name.{Name}
 use Rattle.dn_net.specs.declared.node.NodeDecl.{NodeDecl}
 use Rattle.dn_net.specs.Chain.{Member}
 use Rattle.dn_net.specs.Decode.{top, refers_within, over_within, ports_within}
-use Rattle.dn_net.specs.Walks.{Choice, mapped_by, over_gap, IsGap, Leads, gaps, Leg, dest_legs, entry_legs, gap_legs, legs, legs_of}
+use Rattle.dn_net.specs.Walks.{Choice, mapped_by, over_gap, IsGap, Leads, gaps, Leg, dest_legs, entry_legs, gap_legs, legs_of}
 use Rattle.dn_net.proofs.Places.{both, list_all-at}
 use Rattle.dn_net.proofs.Resolution.{member_left, member_right, member_split}
 use Rattle.dn_walk.proofs.Apart.{IsApart}
 use Rattle.dn_walk.proofs.Gaps.{gap_of_member, member_of_gap}
-use Rattle.dn_walk.proofs.Members.{member_map, map_member, member_order}
-
-some_same : {X : Type 0} (x y : X) → ◌≡◌ {A = Option X} (Some x) (Some y) → x ≡ y
-some_same x y e = cc
+use Rattle.dn_walk.proofs.Members.{member_map, map_member, member_order, some_same}
 
 -- the leg of an entry's destination, and of a gap
 abbrev pub dest_leg : ℕ → ℕ → Block → Dest → Leg
@@ -93,7 +90,6 @@ leads_of n apart l (inr m) =
 pub leads_of_leg : (o : Option NodeDecl) → ((n : NodeDecl) → o ≡ Some n → IsApart n) → (l : Leg) → Member l (legs_of o) → Leads o l.choice l.block l.to
 leads_of_leg None apart l m = absurd m
 leads_of_leg (Some n) apart l m =
-    let all = entry_legs 0 n.entries ++ gap_legs n.over (gaps n) in
     leads_of n (apart n refl) l (member_split (entry_legs 0 n.entries) (gap_legs n.over (gaps n)) l ((member_order (λ l m. nat_lt l.block.lo m.block.lo) (entry_legs 0 n.entries ++ gap_legs n.over (gaps n)) l).0 m))
 
 -- each choice of a node has its leg

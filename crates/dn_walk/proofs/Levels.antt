@@ -1,20 +1,17 @@
 -- The walks of a level are the live walks of so many choices, each with the addresses that follow it.
-use Rattle.std.proofs.Common.{◌≡◌, ℕ, zero, suc, ◌+◌, ◌-◌, ◌<◌, ◌≤◌, ◌⊎◌, ◌↔◌, inl, inr, Bool, true, false, if◌then◌else◌, ◌&&◌, nat_le, nat_lt, List, [], ◌∷◌, ◌++◌, map, filter, length, slice_get, Option, Some, None, refl, sym, ap, ◌∙◌, subst, arith, IsTrue, ltb-true, leb-true, le-leb}
+use Rattle.std.proofs.Common.{◌≡◌, ℕ, zero, suc, ◌+◌, ◌-◌, ◌<◌, ◌≤◌, ◌⊎◌, ◌↔◌, inl, inr, Bool, true, false, if◌then◌else◌, nat_le, nat_lt, List, [], ◌∷◌, ◌++◌, filter, length, slice_get, Some, refl, sym, ap, ◌∙◌, subst, arith, IsTrue, ltb-true, leb-true, le-leb}
 use Rattle.std.proofs.lemmas.Bool.{ltb-false}
 use Rattle.std.proofs.lemmas.List.{append-nil, append_assoc, length-append}
-use Rattle.std.proofs.lemmas.Option.{slice_get_within}
-use Rattle.std.specs.List.{list_all, flat_map}
 use Rattle.dn_net.specs.declared.node.Block.{Block}
 use Rattle.dn_net.specs.declared.node.Name.{Name}
 use Rattle.dn_net.specs.declared.node.NodeDecl.{NodeDecl}
-use Rattle.dn_net.specs.Chain.{Member, Chain}
-use Rattle.dn_net.specs.Decode.{top, within, Step, refers_within, is_closed}
+use Rattle.dn_net.specs.Chain.{Member}
+use Rattle.dn_net.specs.Decode.{top, within, refers_within}
 use Rattle.dn_net.specs.Walks.{Choice, Leads, Follows, IsLive, moved_name, whole, Leg, legs_of, Walk, last_out, meets, greater, lesser_of, onto, extended, still, stills, level}
-use Rattle.dn_net.specs.WalkRules.{IsChecked, CycleIsRow}
+use Rattle.dn_net.specs.WalkRules.{IsChecked}
 use Rattle.dn_net.proofs.Least.{within_from, within_to, true_both, both_true}
 use Rattle.dn_net.proofs.Places.{list_all-at}
 use Rattle.dn_walk.proofs.Apart.{IsApart, node_apart}
-use Rattle.dn_walk.proofs.Choices.{choices_of_chain, chain_of_choices}
 use Rattle.dn_walk.proofs.Legs.{leads_of_leg, leg_of_leads, leads_once, leads_in_range, leads_within}
 use Rattle.dn_walk.proofs.Members.{member_map, map_member, member_filter, filter_member, member_flat_map, flat_map_member}
 
@@ -89,6 +86,18 @@ module _ (net : List NodeDecl) (checked : IsChecked net) where
   closed_at : (i : ℕ) (n : NodeDecl) → slice_get net i ≡ Some n → IsTrue (refers_within (length net) n)
   closed_at i n at = list_all-at (refers_within (length net)) net i n checked.0 at
 
+  -- an address of a walk with one more leg follows the walk, and then the leg
+  pub onto_within : (k : ℕ) (w : Walk) → IsRow net k w → (l : Leg) → Leads (slice_get net w.to.node) l.choice l.block l.to → IsTrue (meets w l) → (a : ℕ) → IsTrue (within a (onto w l).span) → IsTrue (within a w.span) × IsTrue (within (w.to.addr + (a - w.span.lo)) l.block)
+  onto_within k w r l leads met a inside =
+      let g = greater_is w.to.addr l.block.lo in
+      let h = lesser_is (last_out w) l.block.hi in
+      let c = within_to a (onto w l).span inside in
+      let m = both_true (nat_le w.to.addr l.block.hi) (nat_le l.block.lo (last_out w)) met in
+      let range = leads_in_range (slice_get net w.to.node) (λ n e. apart_at w.to.node n e) l.choice l.block l.to leads in
+      let o = cut_order w.span.lo w.span.hi w.to.addr l.block.lo l.block.hi (greater w.to.addr l.block.lo) (lesser_of (last_out w) l.block.hi) g.2 h.2 r.order range.0 (leb-true _ _ m.0) (leb-true _ _ m.1) in
+      let b = cut_back w.span.lo w.span.hi w.to.addr l.block.lo l.block.hi (greater w.to.addr l.block.lo) (lesser_of (last_out w) l.block.hi) a g.0 g.1 h.0 h.1 o.1 r.order c.0 c.1 in
+      (within_from a w.span b.0 b.1, within_from (w.to.addr + (a - w.span.lo)) l.block b.2 b.3)
+
   -- the addresses of a walk with one more leg
   more_addresses : (k : ℕ) (w : Walk) → IsRow net k w → (l : Leg) → Leads (slice_get net w.to.node) l.choice l.block l.to → IsTrue (meets w l) → (a : ℕ) (y : Name) → a ≤ top → Follows net (record { node = w.start; addr = a }) (w.choices ++ l.choice ∷ []) y ↔ (IsTrue (within a (onto w l).span) × (moved_name (a - (onto w l).span.lo) (onto w l).to ≡ y))
   more_addresses k w r l leads met a y below = (there, back)
@@ -117,13 +126,10 @@ module _ (net : List NodeDecl) (checked : IsChecked net) where
       back : IsTrue (within a (onto w l).span) × (moved_name (a - (onto w l).span.lo) (onto w l).to ≡ y) → Follows net (record { node = w.start; addr = a }) (w.choices ++ l.choice ∷ []) y
       back f =
           let c = within_to a (onto w l).span f.0 in
-          let m = both_true (nat_le w.to.addr l.block.hi) (nat_le l.block.lo (last_out w)) met in
-          let range = leads_in_range (slice_get net w.to.node) (λ n e. apart_at w.to.node n e) l.choice l.block l.to leads in
-          let o = cut_order w.span.lo w.span.hi w.to.addr l.block.lo l.block.hi (greater w.to.addr l.block.lo) (lesser_of (last_out w) l.block.hi) g.2 h.2 r.order range.0 (leb-true _ _ m.0) (leb-true _ _ m.1) in
-          let b = cut_back w.span.lo w.span.hi w.to.addr l.block.lo l.block.hi (greater w.to.addr l.block.lo) (lesser_of (last_out w) l.block.hi) a g.0 g.1 h.0 h.1 o.1 r.order c.0 c.1 in
+          let b = onto_within k w r l leads met a f.0 in
           let z : Name = moved_name (a - w.span.lo) w.to in
-          let first : Follows net (record { node = w.start; addr = a }) w.choices z = (r.follows a z below).1 (within_from a w.span b.0 b.1, refl) in
-          let last : Follows net z (l.choice ∷ []) y = (l.block, l.to, leads, within_from (w.to.addr + (a - w.span.lo)) l.block b.2 b.3, sym (name c.0) ∙ f.1) in
+          let first : Follows net (record { node = w.start; addr = a }) w.choices z = (r.follows a z below).1 (b.0, refl) in
+          let last : Follows net z (l.choice ∷ []) y = (l.block, l.to, leads, b.1, sym (name c.0) ∙ f.1) in
           follows_join net w.choices (l.choice ∷ []) (record { node = w.start; addr = a }) y z first last
 
   onto_is_row : (k : ℕ) (w : Walk) → IsRow net k w → (l : Leg) → Leads (slice_get net w.to.node) l.choice l.block l.to → IsTrue (meets w l) → IsRow net (suc k) (onto w l)

@@ -1,9 +1,13 @@
 -- Members of lists that are made of others.
-use Rattle.std.proofs.Common.{◌≡◌, ◌⊎◌, ◌↔◌, inl, inr, Bool, true, false, if◌then◌else◌, List, [], ◌∷◌, ◌++◌, map, filter, refl, sym, ap, ◌∙◌, subst, IsTrue}
-use Rattle.std.specs.List.{flat_map, list_any}
+use Rattle.std.proofs.Common.{◌≡◌, ◌⊎◌, ◌↔◌, inl, inr, Bool, true, false, if◌then◌else◌, List, [], ◌∷◌, map, filter, Option, Some, refl, sym, ap, ◌∙◌, subst}
+use Rattle.std.specs.List.{flat_map}
 use Rattle.dn_net.specs.Chain.{Member}
 use Rattle.dn_net.specs.Walks.{put_in, in_order}
 use Rattle.dn_net.proofs.Resolution.{member_left, member_right, member_split}
+
+-- what two options have is one
+pub some_same : {X : Type 0} (x y : X) → ◌≡◌ {A = Option X} (Some x) (Some y) → x ≡ y
+some_same x y e = cc
 
 pub member_map : {X Y : Type 0} (f : X → Y) (xs : List X) (y : Y) → Member y (map f xs) → (x : X) × Member x xs × (f x ≡ y)
 member_map f [] y m = absurd m
@@ -46,7 +50,7 @@ flat_map_member f [] x y m n = absurd m
 flat_map_member f (z ∷ xs) x y (inl e) n = member_left (f z) (flat_map f xs) y (subst (λ w. Member y (f w)) (sym e) n)
 flat_map_member f (z ∷ xs) x y (inr m) n = member_right (f z) (flat_map f xs) y (flat_map_member f xs x y m n)
 
-member_put : {X : Type 0} (before : X → X → Bool) (x : X) (ys : List X) (z : X) → Member z (put_in before x ys) → (x ≡ z) ⊎ Member z ys
+pub member_put : {X : Type 0} (before : X → X → Bool) (x : X) (ys : List X) (z : X) → Member z (put_in before x ys) → (x ≡ z) ⊎ Member z ys
 member_put before x [] z m = m
 member_put before x (y ∷ ys) z m = by (member_put before x ys z) (before y x) m
   where

@@ -7,6 +7,7 @@
 #![tactic(auto)]
 
 pub mod fault;
+pub mod laws;
 mod leg;
 mod level;
 #[cfg(test)]

@@ -3,7 +3,7 @@ use Rattle.std.proofs.Common.{◌∙◌, ap, rules, map}
 use Rattle.std.proofs.lemmas.List.Sorted.{answers_always}
 use Rattle.dn_walk.specs.declared.walks.WalkRow.{WalkRow}
 use Rattle.dn_walk.specs.Rows.{told_by_row}
-use Rattle.dn_walk.proofs.Orders.{rows_in_order}
+use Rattle.dn_walk.proofs.Keys.{rows_in_order}
 use Rattle.dn_walk.proofs.level.in_order.Goals as goal
 
 pub returns : goal.returns
