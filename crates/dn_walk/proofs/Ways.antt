@@ -11,7 +11,7 @@ use Rattle.dn_walk.proofs.Cycles.{name_same, comes_to_is_chain, goes_on_is_chain
 use Rattle.dn_walk.proofs.Firsts.{NoLater, lower_node, lower_addr, IsLeastName, least_name_is, IsShortest, shortest_cycle_is}
 use Rattle.dn_walk.proofs.Members.{member_filter, filter_member, some_same}
 
-lower_is : (x y : Name) → IsTrue (name_lt x y) → (x.node < y.node) ⊎ ((x.node ≡ y.node) × (x.addr < y.addr))
+pub lower_is : (x y : Name) → IsTrue (name_lt x y) → (x.node < y.node) ⊎ ((x.node ≡ y.node) × (x.addr < y.addr))
 lower_is x y h = elim (either_true (nat_lt x.node y.node) ((x.node == y.node) && nat_lt x.addr y.addr) h) [
   | inl e ↦ inl (ltb-true _ _ e)
   | inr e ↦ (let b = both_true (x.node == y.node) (nat_lt x.addr y.addr) e in inr (eqb-true _ _ b.0, ltb-true _ _ b.1))
@@ -37,7 +37,7 @@ no_later_still x y z (inr e) (inl q) = inl (subst (λ w. IsTrue (name_lt w z)) (
 no_later_still x y z (inr e) (inr f) = inr (e ∙ f)
 
 -- of two names one comes no later than the other
-either_way : (x y : Name) → IsTrue (name_lt x y) ⊎ NoLater y x
+pub either_way : (x y : Name) → IsTrue (name_lt x y) ⊎ NoLater y x
 either_way x y = by (order x.node y.node) (order x.addr y.addr)
   where
     order : (a b : ℕ) → (a ≡ b) ⊎ ((a < b) ⊎ (b < a))

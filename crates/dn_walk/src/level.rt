@@ -139,6 +139,7 @@ fn extend_row(row: &WalkRow, met: &[Leg], out: &mut Vec<WalkRow>) -> Result<(), 
     requires reach { row.now.base + (row.now.span.hi - row.now.span.lo) ≤ TOP }
     requires short { row.now.len ≤ 64 }
     requires meet { All (λ l. IsTrue (told_meets (told_by_row row.now) l)) met.now }
+    requires order { All (λ (l : Leg). l.lo ≤ l.hi) met.now }
     requires low { All (λ (l : Leg). l.hi ≤ TOP) met.now }
     requires far { All (λ (l : Leg). l.addr + (l.hi - l.lo) ≤ TOP) met.now }
     ensures { OnOk result (map told_by_row out.new.items ≡ map told_by_row out.old.items ++ map (told_onto (told_by_row row.now)) met.now) }
@@ -162,6 +163,7 @@ fn onto(row: &WalkRow, leg: &Leg) -> WalkRow
     requires reach { row.now.base + (row.now.span.hi - row.now.span.lo) ≤ TOP }
     requires short { row.now.len ≤ 64 }
     requires meet { IsTrue (told_meets (told_by_row row.now) leg.now) }
+    requires order { leg.now.lo ≤ leg.now.hi }
     requires low { leg.now.hi ≤ TOP }
     requires far { leg.now.addr + (leg.now.hi - leg.now.lo) ≤ TOP }
     ensures { told_by_row result ≡ told_onto (told_by_row row.now) leg.now }

@@ -1,6 +1,6 @@
 //! The names of a cycle or a path: at each place the least name from which the rest can be taken.
 
-ghost use Rattle.std.specs.Prelude.{◌≡◌, ℕ, ◌+◌, ◌≤◌, ◌<◌, ◌∷◌, map, filter, length, IfOk, IfSome, IsTrue, None, nat_le};
+ghost use Rattle.std.specs.Prelude.{◌≡◌, ℕ, ◌+◌, ◌≤◌, ◌<◌, ◌∷◌, ◌||◌, not, map, filter, length, IfOk, IfSome, IsTrue, None, nat_le};
 ghost use Rattle.std.specs.List.{All, list_all};
 ghost use Rattle.std.specs.List.Sorted.{IsNonDecreasingBy};
 ghost use Rattle.dn_net.specs.Decode.{steps, moved, is_closed, top};
@@ -32,7 +32,7 @@ pub(crate) fn least_start(rows: &[WalkRow], back: bool) -> Option<Name>
 {
     let mut least = None;
     for row in rows {
-        if !back || is_cycle(row) {
+        if counts(row, back) {
             least = lesser(
                 least,
                 Name {
@@ -43,6 +43,13 @@ pub(crate) fn least_start(rows: &[WalkRow], back: bool) -> Option<Name>
         }
     }
     least
+}
+
+/// Whether the row is sought: any, or where `back` is set one that comes back.
+fn counts(row: &WalkRow, back: bool) -> bool
+    ensures { result ≡ (not back || is_cyclic (told_by_row row.now)) }
+{
+    !back || is_cycle(row)
 }
 
 /// Whether each address of the walk comes to itself.
