@@ -121,9 +121,9 @@ start_left back rows i r least l e h k =
     ∙ ap (λ l. least_of (start_names back l)) (sym (rows_more rows i r l e))
 
 -- and over destinations
-dests_more : (test : Name → Bool) (offset : ℕ) (ds : List Dest) (i : ℕ) (d : Dest) → i < length ds → d ≡ get_or ds i d → filter test (map (moved offset) (take (i + 1) ds)) ≡ filter test (map (moved offset) (take i ds)) ++ filter test (moved offset d ∷ [])
-dests_more test offset ds i d l e =
-    ap (λ l. filter test (map (moved offset) l)) (take_more ds i d l ∙ ap (λ x. take i ds ++ x ∷ []) (sym e))
+dests_more : (test : Name → Bool) (offset : ℕ) (ds : List Dest) (i : ℕ) (z d : Dest) → i < length ds → d ≡ get_or ds i z → filter test (map (moved offset) (take (i + 1) ds)) ≡ filter test (map (moved offset) (take i ds)) ++ filter test (moved offset d ∷ [])
+dests_more test offset ds i z d l e =
+    ap (λ l. filter test (map (moved offset) l)) (take_more ds i z l ∙ ap (λ x. take i ds ++ x ∷ []) (sym e))
     ∙ ap (filter test) (map-append (moved offset) (take i ds) (d ∷ []))
     ∙ filter-append test (map (moved offset) (take i ds)) (moved offset d ∷ [])
 
@@ -133,16 +133,16 @@ one_passed test x e = rw e refl
 none_passed : (test : Name → Bool) (x : Name) → test x ≡ false → filter test (x ∷ []) ≡ []
 none_passed test x e = rw e refl
 
-pub dest_taken : (test : Name → Bool) (offset : ℕ) (ds : List Dest) (i : ℕ) (d : Dest) (least : Option Name) → i < length ds → d ≡ get_or ds i d → test (moved offset d) ≡ true → least ≡ least_of (filter test (map (moved offset) (take i ds))) → lesser_name least (moved offset d) ≡ least_of (filter test (map (moved offset) (take (i + 1) ds)))
-dest_taken test offset ds i d least l e h k =
+pub dest_taken : (test : Name → Bool) (offset : ℕ) (ds : List Dest) (i : ℕ) (z d : Dest) (least : Option Name) → i < length ds → d ≡ get_or ds i z → test (moved offset d) ≡ true → least ≡ least_of (filter test (map (moved offset) (take i ds))) → lesser_name least (moved offset d) ≡ least_of (filter test (map (moved offset) (take (i + 1) ds)))
+dest_taken test offset ds i z d least l e h k =
     ap (λ o. lesser_name o (moved offset d)) k
     ∙ sym (least_more (filter test (map (moved offset) (take i ds))) (moved offset d))
     ∙ ap (λ ys. least_of (filter test (map (moved offset) (take i ds)) ++ ys)) (sym (one_passed test (moved offset d) h))
-    ∙ ap least_of (sym (dests_more test offset ds i d l e))
+    ∙ ap least_of (sym (dests_more test offset ds i z d l e))
 
-pub dest_left : (test : Name → Bool) (offset : ℕ) (ds : List Dest) (i : ℕ) (d : Dest) (least : Option Name) → i < length ds → d ≡ get_or ds i d → test (moved offset d) ≡ false → least ≡ least_of (filter test (map (moved offset) (take i ds))) → least ≡ least_of (filter test (map (moved offset) (take (i + 1) ds)))
-dest_left test offset ds i d least l e h k =
+pub dest_left : (test : Name → Bool) (offset : ℕ) (ds : List Dest) (i : ℕ) (z d : Dest) (least : Option Name) → i < length ds → d ≡ get_or ds i z → test (moved offset d) ≡ false → least ≡ least_of (filter test (map (moved offset) (take i ds))) → least ≡ least_of (filter test (map (moved offset) (take (i + 1) ds)))
+dest_left test offset ds i z d least l e h k =
     k
     ∙ ap least_of (sym (append-nil (filter test (map (moved offset) (take i ds)))))
     ∙ ap (λ ys. least_of (filter test (map (moved offset) (take i ds)) ++ ys)) (sym (none_passed test (moved offset d) h))
-    ∙ ap least_of (sym (dests_more test offset ds i d l e))
+    ∙ ap least_of (sym (dests_more test offset ds i z d l e))

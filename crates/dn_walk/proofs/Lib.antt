@@ -12,10 +12,12 @@ pub mod Levels
 pub mod Listed
 pub mod Meets
 pub mod Members
+pub mod Nodes
 pub mod Order
 pub mod Keys
 pub mod Pairs
 pub mod Picks
 pub mod Sorting
+pub mod Starts
 pub mod Told
 pub mod Ways

@@ -1,8 +1,8 @@
 -- Levels without the choices: what each row of them keeps, and how the next one is made.
 use Rattle.std.proofs.Common.{◌≡◌, ℕ, zero, suc, ◌+◌, ◌-◌, ◌<◌, ◌≤◌, ◌⊎◌, inl, inr, Bool, true, false, cond, ◌&&◌, nat_le, List, [], ◌∷◌, ◌++◌, map, length, get_or, take, drop, refl, sym, ap, ◌∙◌, subst, arith, IsTrue}
 use Rattle.std.specs.List.{All, filter, flat_map}
-use Rattle.std.proofs.lemmas.List.{take_more, map-append, append_assoc, length-append, take-map, length-map, get_or-map}
-use Rattle.std.proofs.lemmas.List.Elements.{filter-append}
+use Rattle.std.proofs.lemmas.List.{take_more, map-append, append_assoc, length-append, take-map, length-map, get_or-map, get_or_default, append-nil, drop-append-le}
+use Rattle.std.proofs.lemmas.List.Elements.{All-filter, filter_passes}
 use Rattle.std.proofs.lemmas.Grind.{flat_map-append}
 use Rattle.std.proofs.lemmas.List.Folds.{length-flat_map-take}
 use Rattle.dn_net.specs.Chain.{Member}
@@ -132,9 +132,78 @@ extended_more legs rows i r l e =
 -- and there are no fewer in all
 pub extended_least : (legs : List (List Leg)) (rows : List WalkRow) (i : ℕ) (r : WalkRow) → i < length rows → r ≡ get_or rows i r → length (flat_map (told_extended legs) (map told_by_row (take i rows))) + length (told_extended legs (told_by_row r)) ≤ length (flat_map (told_extended legs) (map told_by_row rows))
 extended_least legs rows i r l e =
-    let n : length (map told_by_row rows) ≡ length rows = length-map told_by_row rows in
+    let n : length (map told_by_row rows) ≡ length rows = length-map rows told_by_row in
     let h = length-flat_map-take (told_extended legs) (map told_by_row rows) i (told_by_row r) (omega arith) in
     let a : get_or (map told_by_row rows) i (told_by_row r) ≡ told_by_row r = get_or-map told_by_row rows i r (told_by_row r) l ∙ ap told_by_row (sym e) in
     let b : take i (map told_by_row rows) ≡ map told_by_row (take i rows) = take-map told_by_row i rows in
     subst (λ x. length (flat_map (told_extended legs) x) + length (told_extended legs (told_by_row r)) ≤ length (flat_map (told_extended legs) (map told_by_row rows))) b
     (subst (λ x. length (flat_map (told_extended legs) (take i (map told_by_row rows))) + length (told_extended legs x) ≤ length (flat_map (told_extended legs) (map told_by_row rows))) a h)
+
+-- the legs of a node, by its number
+pub legs_there : (legs : List (List Leg)) → All (AreLegs (length legs)) legs → (end k : ℕ) (ls ls' : List Leg) → end < length legs → k ≡ end → ls ≡ get_or legs k ls → ls' ≡ ls → AreLegs (length legs) ls'
+legs_there legs all end k ls ls' l s e f = subst (AreLegs (length legs)) (sym (f ∙ e ∙ ap (λ i. get_or legs i ls) s)) (all end ls l)
+
+pub legs_same : (legs : List (List Leg)) (end k : ℕ) (ls ls' : List Leg) → end < length legs → k ≡ end → ls ≡ get_or legs k ls → ls' ≡ ls → ls' ≡ get_or legs end []
+legs_same legs end k ls ls' l s e f = f ∙ e ∙ ap (λ i. get_or legs i ls) s ∙ get_or_default legs end ls [] l
+
+-- what the legs that a walk meets keep
+pub met_meet : (t : Told) (ls met : List Leg) → met ≡ filter (told_meets t) ls → All (λ l. IsTrue (told_meets t l)) met
+met_meet t ls met e = subst (All (λ l. IsTrue (told_meets t l))) (sym e) (filter_passes (told_meets t) ls)
+
+pub met_keep : (P : Leg → Type 0) (t : Told) (ls met : List Leg) → met ≡ filter (told_meets t) ls → All P ls → All P met
+met_keep P t ls met e all = subst (All P) (sym e) (All-filter (told_meets t) P ls all)
+
+-- the next level, and how many walks there are with it
+pub grown_wide : (legs : List (List Leg)) (k room : ℕ) (newest : List Told) → newest ≡ told_level legs k → room + length (told_walks legs k) ≡ walk_limit → room < length (flat_map (told_extended legs) newest) → walk_limit < length (told_walks legs (k + 1))
+grown_wide legs k room newest e r l =
+    let a : k + 1 ≡ suc k = omega arith in
+    let b : length (flat_map (told_extended legs) newest) ≡ length (told_level legs (suc k)) = ap (λ x. length (flat_map (told_extended legs) x)) e ∙ ap length (sym (level-suc legs k)) in
+    let c = length_walks legs k in
+    subst (λ n. walk_limit < length (told_walks legs n)) (sym a) (omega arith)
+
+pub grown_room : (legs : List (List Leg)) (k room n : ℕ) (newest next : List Told) → newest ≡ told_level legs k → next ≡ flat_map (told_extended legs) newest → room + length (told_walks legs k) ≡ walk_limit → n ≡ length next → n ≤ room → (room - n) + length (told_walks legs (k + 1)) ≡ walk_limit
+grown_room legs k room n newest next e f r s l =
+    let a : k + 1 ≡ suc k = omega arith in
+    let b : length next ≡ length (told_level legs (suc k)) = ap length (f ∙ ap (flat_map (told_extended legs)) e ∙ sym (level-suc legs k)) in
+    let c = length_walks legs k in
+    subst (λ m. (room - n) + length (told_walks legs m) ≡ walk_limit) (sym a) (omega arith)
+
+pub grown_level : (legs : List (List Leg)) (k : ℕ) (newest next : List Told) → newest ≡ told_level legs k → next ≡ flat_map (told_extended legs) newest → next ≡ told_level legs (k + 1)
+grown_level legs k newest next e f =
+    let a : suc k ≡ k + 1 = omega arith in
+    f ∙ ap (flat_map (told_extended legs)) e ∙ sym (level-suc legs k) ∙ ap (told_level legs) a
+
+pub grown_sorted : (legs : List (List Leg)) (k : ℕ) (sorted : List (List WalkRow)) (rows last : List WalkRow) → map (map told_by_row) sorted ≡ told_levels legs k → map told_by_row rows ≡ told_level legs k → map told_by_row last ≡ in_order told_before (map told_by_row rows) → map (map told_by_row) (sorted ++ last ∷ []) ≡ told_levels legs (k + 1)
+grown_sorted legs k sorted rows last s e f =
+    let a : suc k ≡ k + 1 = omega arith in
+    map-append (map told_by_row) sorted (last ∷ [])
+    ∙ ap (λ x. x ++ map told_by_row last ∷ []) s
+    ∙ ap (λ x. told_levels legs k ++ x ∷ []) (f ∙ ap (in_order told_before) e)
+    ∙ sym (levels-suc legs k)
+    ∙ ap (told_levels legs) a
+
+-- the walks of the sorted levels but the first
+walks_of : (legs : List (List Leg)) (k : ℕ) → flat_map (λ x. x) (drop 1 (told_levels legs (suc k))) ≡ told_walks legs k
+walks_of legs zero = ap (λ l. flat_map (λ x. x) (drop 1 l)) (levels-suc legs 0 ∙ ap (λ l. l ++ in_order told_before (told_level legs 0) ∷ []) (levels-zero legs)) ∙ sym (walks-zero legs)
+walks_of legs (suc k) =
+    let n = length_levels legs (suc k) in
+    ap (λ l. flat_map (λ x. x) (drop 1 l)) (levels-suc legs (suc k))
+    ∙ ap (flat_map (λ x. x)) (drop-append-le 1 (told_levels legs (suc k)) (in_order told_before (told_level legs (suc k)) ∷ []) (omega arith))
+    ∙ flat_map-append (λ x. x) (drop 1 (told_levels legs (suc k))) (in_order told_before (told_level legs (suc k)) ∷ [])
+    ∙ ap (λ l. l ++ flat_map (λ x. x) (in_order told_before (told_level legs (suc k)) ∷ [])) (walks_of legs k)
+    ∙ ap (λ l. told_walks legs k ++ l) (append-nil (in_order told_before (told_level legs (suc k))))
+    ∙ sym (walks-suc legs k)
+
+map_flat : (xss : List (List WalkRow)) → map told_by_row (flat_map (λ x. x) xss) ≡ flat_map (λ x. x) (map (map told_by_row) xss)
+map_flat [] = refl
+map_flat (xs ∷ xss) = map-append told_by_row xs (flat_map (λ x. x) xss) ∙ ap (λ l. map told_by_row xs ++ l) (map_flat xss)
+
+pub table_is : (legs : List (List Leg)) (k : ℕ) (sorted : List (List WalkRow)) → 0 < k → map (map told_by_row) sorted ≡ told_levels legs k → map told_by_row (flat_map (λ x. x) (drop 1 sorted)) ≡ told_walks legs (k - 1)
+table_is legs zero sorted l s = absurd (omega arith)
+table_is legs (suc k) sorted l s =
+    let a : k ≡ suc k - 1 = omega arith in
+    map_flat (drop 1 sorted) ∙ ap (flat_map (λ x. x)) (dropped sorted ∙ ap (drop 1) s) ∙ walks_of legs k ∙ ap (told_walks legs) a
+  where
+    dropped : (xss : List (List WalkRow)) → map (map told_by_row) (drop 1 xss) ≡ drop 1 (map (map told_by_row) xss)
+    dropped [] = refl
+    dropped (xs ∷ xss) = refl

@@ -1,0 +1,101 @@
+-- The rows of one start stand together.
+use Rattle.std.proofs.Common.{◌≡◌, ℕ, zero, suc, ◌+◌, ◌-◌, ◌<◌, ◌≤◌, ◌⊎◌, inl, inr, Bool, true, false, ◌&&◌, ◌||◌, ◌==◌, ◌++◌, nat_le, ltb, leb, List, [], ◌∷◌, map, length, get_or, take, drop, refl, sym, ap, ◌∙◌, subst, arith, ltb-true, leb-true, le-leb, eqb-true}
+use Rattle.std.proofs.lemmas.Bool.{ltb-false, lt-leb, leb-false, cases_lt}
+use Rattle.std.proofs.lemmas.List.{take_more, map-append}
+use Rattle.std.specs.List.{filter, list_any}
+use Rattle.std.specs.List.Sorted.{IsPartitionPoint}
+use Rattle.dn_net.specs.declared.node.Name.{Name}
+use Rattle.dn_walk.specs.declared.walks.WalkRow.{WalkRow}
+use Rattle.dn_walk.specs.declared.way.Goal.{Goal}
+use Rattle.dn_walk.specs.Rows.{Told, told_by_row}
+use Rattle.dn_walk.specs.Ways.{told_leads, level_leads, has_addr, meets_goal}
+use Rattle.dn_walk.proofs.Picks.{Between, between_is, any_picked}
+
+abbrev pub Starts : ℕ → List WalkRow → ℕ → Type 0
+Starts node rows i = IsPartitionPoint (λ (r : WalkRow). ltb r.start node ≡ true) (λ (r : WalkRow). ltb r.start node ≡ false) rows i
+
+abbrev pub Started : ℕ → List WalkRow → ℕ → Type 0
+Started node rows j = IsPartitionPoint (λ (r : WalkRow). leb r.start node ≡ true) (λ (r : WalkRow). leb r.start node ≡ false) rows j
+
+pub starts_in_turn : (node : ℕ) (rows : List WalkRow) (i j : ℕ) → i ≤ length rows → Starts node rows i → Started node rows j → i ≤ j
+starts_in_turn node [] i j w e b = omega arith
+starts_in_turn node (r ∷ rows) i j w e b = by (cases_lt j i)
+  where
+    by : (j < i) ⊎ (i ≤ j) → i ≤ j
+    by (inr l) = l
+    by (inl l) =
+        let g = get_or (r ∷ rows) j r in
+        let p : g.start < node = ltb-true _ _ (e.0 j r (omega arith) l) in
+        let q : node < g.start = leb-false _ _ (b.1 j r (omega arith) (omega arith)) in
+        absurd (omega arith)
+
+abbrev is_of : ℕ → WalkRow → Bool
+is_of node r = nat_le node r.start && nat_le r.start node
+
+not_below : (a b : ℕ) → ltb a b ≡ false → nat_le b a ≡ true
+not_below a b e = le-leb b a (ltb-false a b e)
+
+below : (a b : ℕ) → ltb a b ≡ true → nat_le b a ≡ false
+below a b e = lt-leb b a (ltb-true a b e)
+
+between : (node : ℕ) (rows : List WalkRow) (i j : ℕ) → i ≤ length rows → j ≤ length rows → Starts node rows i → Started node rows j → take (j - i) (drop i rows) ≡ filter (is_of node) rows
+between node rows i j w v e b =
+    between_is (λ (r : WalkRow). nat_le node r.start) (λ (r : WalkRow). nat_le r.start node) rows i j (starts_in_turn node rows i j w e b) v
+    record {
+      low = λ k d l. below _ _ (e.0 k d (omega arith) l);
+      high = λ k d l m. not_below _ _ (e.1 k d l m);
+      begun = λ k d l. b.0 k d (omega arith) l;
+      over = λ k d l m. b.1 k d l m;
+    }
+
+leads_of : (goal : Goal) (x : Name) (r : WalkRow) → told_leads goal x (told_by_row r) ≡ true → is_of x.node r ≡ true
+leads_of goal x r h = by (r.start == x.node) refl h
+  where
+    both : (a b : ℕ) → a ≡ b → (nat_le b a && nat_le a b) ≡ true
+    both a b e = rw (le-leb b a (omega arith), le-leb a b (omega arith)) refl
+
+    by : (b : Bool) → (r.start == x.node) ≡ b → (b && (has_addr (told_by_row r) x.addr && meets_goal goal x.addr (told_by_row r))) ≡ true → is_of x.node r ≡ true
+    by true e k = both r.start x.node (eqb-true r.start x.node e)
+    by false e k = cc
+
+any_map : {X Y : Type 0} (p : Y → Bool) (f : X → Y) (xs : List X) → list_any p (map f xs) ≡ list_any (λ x. p (f x)) xs
+any_map p f [] = refl
+any_map p f (x ∷ xs) = ap (λ b. p (f x) || b) (any_map p f xs)
+
+-- only they can lead on from a name of the start
+pub leads_between : (goal : Goal) (x : Name) (rows : List WalkRow) (i j : ℕ) → i ≤ length rows → j ≤ length rows → Starts x.node rows i → Started x.node rows j → level_leads goal (map told_by_row (take (j - i) (drop i rows))) x ≡ level_leads goal (map told_by_row rows) x
+leads_between goal x rows i j w v e b =
+    ap (λ l. level_leads goal (map told_by_row l) x) (between x.node rows i j w v e b)
+    ∙ any_map (told_leads goal x) told_by_row (filter (is_of x.node) rows)
+    ∙ any_picked (λ r. told_leads goal x (told_by_row r)) (is_of x.node) (leads_of goal x) rows
+    ∙ sym (any_map (told_leads goal x) told_by_row rows)
+
+-- one more row
+any_append : {X : Type 0} (p : X → Bool) (xs : List X) (x : X) → list_any p (xs ++ x ∷ []) ≡ (list_any p xs || p x)
+any_append p [] x = by (p x)
+  where
+    by : (b : Bool) → (b || false) ≡ b
+    by true = refl
+    by false = refl
+any_append p (y ∷ xs) x = by (p y) (any_append p xs x)
+  where
+    by : (b : Bool) → list_any p (xs ++ x ∷ []) ≡ (list_any p xs || p x) → (b || list_any p (xs ++ x ∷ [])) ≡ ((b || list_any p xs) || p x)
+    by true e = refl
+    by false e = e
+
+row_more : (goal : Goal) (x : Name) (rows : List WalkRow) (i : ℕ) (r : WalkRow) → i < length rows → r ≡ get_or rows i r → level_leads goal (map told_by_row (take (i + 1) rows)) x ≡ (level_leads goal (map told_by_row (take i rows)) x || told_leads goal x (told_by_row r))
+row_more goal x rows i r l e =
+    ap (λ l. level_leads goal l x) (ap (map told_by_row) (take_more rows i r l ∙ ap (λ y. take i rows ++ y ∷ []) (sym e)) ∙ map-append told_by_row (take i rows) (r ∷ []))
+    ∙ any_append (told_leads goal x) (map told_by_row (take i rows)) (told_by_row r)
+
+pub none_more : (goal : Goal) (x : Name) (rows : List WalkRow) (i : ℕ) (r : WalkRow) → i < length rows → r ≡ get_or rows i r → level_leads goal (map told_by_row (take i rows)) x ≡ false → told_leads goal x (told_by_row r) ≡ false → level_leads goal (map told_by_row (take (i + 1) rows)) x ≡ false
+none_more goal x rows i r l e p q = row_more goal x rows i r l e ∙ ap (λ b. b || told_leads goal x (told_by_row r)) p ∙ q
+
+pub one_leads : (goal : Goal) (x : Name) (rows : List WalkRow) (i : ℕ) (r : WalkRow) → i < length rows → r ≡ get_or rows i r → told_leads goal x (told_by_row r) ≡ true → level_leads goal (map told_by_row rows) x ≡ true
+one_leads goal x [] i r l e h = absurd (omega arith)
+one_leads goal x (s ∷ rows) zero r l e h = ap (λ b. b || level_leads goal (map told_by_row rows) x) (ap (λ y. told_leads goal x (told_by_row y)) (sym e) ∙ h)
+one_leads goal x (s ∷ rows) (suc i) r l e h = by (told_leads goal x (told_by_row s)) (one_leads goal x rows i r (omega arith) e h)
+  where
+    by : (b : Bool) → level_leads goal (map told_by_row rows) x ≡ true → (b || level_leads goal (map told_by_row rows) x) ≡ true
+    by true k = refl
+    by false k = k

@@ -1,0 +1,4 @@
+use Rattle.dn_walk.proofs.walks.table.Goals as goal
+
+pub returns : goal.returns
+returns c = ?
