@@ -13,7 +13,9 @@ use Rattle.dn_walk.specs.declared.leg.Leg.{Leg}
 use Rattle.dn_walk.specs.declared.walks.WalkRow.{WalkRow}
 use Rattle.dn_walk.specs.Rows.{Told, told_by_row}
 use Rattle.dn_walk.specs.Legs.{AreLegs, IsLegOf}
-use Rattle.dn_walk.specs.Levels.{told_last, told_meets, told_onto, told_on, told_extended, told_still, told_stills, told_level, told_walks, told_levels, told_before, IsRowOf}
+use Rattle.dn_walk.specs.Levels.{told_last, told_meets, told_onto, told_on, told_extended, told_still, told_stills, told_level, told_walks, told_levels, told_before, IsRowOf, IsWideWhere}
+use Rattle.dn_walk.specs.declared.fault.WalkFault.{WalkFault}
+use Rattle.dn_walk.specs.declared.fault.WalkFault.TheVariants.{Wide, Loop, Deep, OutOfMemory}
 use Rattle.dn_walk.proofs.Members.{member_map, map_member, member_filter, member_flat_map}
 use Rattle.dn_walk.proofs.Meets.{meets_parts, max_is, min_is}
 use Rattle.dn_walk.proofs.Sorting.{length_in_order}
@@ -207,3 +209,10 @@ table_is legs (suc k) sorted l s =
     dropped : (xss : List (List WalkRow)) → map (map told_by_row) (drop 1 xss) ≡ drop 1 (map (map told_by_row) xss)
     dropped [] = refl
     dropped (xs ∷ xss) = refl
+
+-- what `Wide` stands for may be weakened
+pub wide_weaker : (P Q : Type 0) (e : WalkFault) → (P → Q) → IsWideWhere P e → IsWideWhere Q e
+wide_weaker P Q Wide f h = f h
+wide_weaker P Q (Loop cycle) f h = h
+wide_weaker P Q (Deep path) f h = h
+wide_weaker P Q OutOfMemory f h = h
