@@ -13,6 +13,7 @@ pub mod Listed
 pub mod Meets
 pub mod Members
 pub mod Nodes
+pub mod Onward
 pub mod Order
 pub mod Keys
 pub mod Pairs
