@@ -32,7 +32,7 @@ never_both x y p q = by (lower_is x y p) (after q)
     by (inr l) (inl (inr m)) = let e = l.1 in let f = m.1 in omega arith
     by (inr l) (inr m) = let e = l.1 in let f = m.1 in omega arith
 
-same_place : (x y : Name) → NoLater x y → NoLater y x → x ≡ y
+pub same_place : (x y : Name) → NoLater x y → NoLater y x → x ≡ y
 same_place x y (inr e) q = e
 same_place x y (inl p) q = absurd (never_both x y p q)
 

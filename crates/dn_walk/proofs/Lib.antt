@@ -1,4 +1,5 @@
 pub mod Apart
+pub mod Bridge
 pub mod Chains
 pub mod Choices
 pub mod Cycles
