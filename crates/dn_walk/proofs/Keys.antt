@@ -76,7 +76,7 @@ lex_weak {X} f r o = record { one_way = one_way; chain = chain }
         by (inr a) (inl b) = let e = a.0 in inl (omega arith)
         by (inr a) (inr b) = inr (a.0 ∙ b.0, o.chain x y z a.1 b.1)
 
-told_weak : {X : Type 0} (g : X → Told) → IsStrictWeakOrder (λ x y. told_before (g x) (g y))
+pub told_weak : {X : Type 0} (g : X → Told) → IsStrictWeakOrder (λ x y. told_before (g x) (g y))
 told_weak g = lex_weak (λ x. (g x).start) (λ x y. nat_lt (g x).lo (g y).lo || (((g x).lo == (g y).lo) && nat_lt (g x).hi (g y).hi)) (lex_weak (λ x. (g x).lo) (λ x y. nat_lt (g x).hi (g y).hi) (IsStrictWeakOrder-by_number (λ x. (g x).hi)))
 
 -- the order of the three numbers as one

@@ -22,4 +22,5 @@ pub mod Picks
 pub mod Sorting
 pub mod Starts
 pub mod Told
+pub mod Verdict
 pub mod Ways

@@ -14,7 +14,7 @@ use Rattle.dn_net.specs.Decode.{top, in_some_block, within, is_closed, refers_wi
 use Rattle.dn_net.specs.Rules.{node_fault, block_in_range, entry_in_range, is_in_range}
 use Rattle.dn_net.specs.Walks.{Leg as NetLeg, in_order, dest_legs, entry_legs, gap_legs, gaps, legs}
 use Rattle.dn_net.proofs.Checked.{checked_at}
-use Rattle.dn_net.proofs.Places.{both, list_all-at}
+use Rattle.dn_net.proofs.Places.{both, list_all-at, length-map}
 use Rattle.dn_net.proofs.Steps.{node_at}
 use Rattle.dn_interval.specs.declared.span.Span.{Span}
 use Rattle.dn_interval.specs.Spans.{has, in_span, AreMaximal}
@@ -126,6 +126,9 @@ all_legs net closed checked = λ k d l.
         let s : ◌≡◌ {A = Option NodeDecl} (Some (get_or net k n)) (Some n) = sym (slice_get-get_or net k n l) ∙ u in
         let g : get_or net k n ≡ n = cc in
         subst (λ x. AreLegs (length net) x) (sym (get_or-map told_legs net k n d l ∙ ap told_legs g)) (legs_of_node net closed checked k n u)
+
+pub all_legs_of : (net : List NodeDecl) → IsTrue (is_closed net) → node_fault net ≡ None → (xs : List (List Leg)) → xs ≡ map told_legs net → All (AreLegs (length xs)) xs
+all_legs_of net closed checked xs e = subst (λ x. All (AreLegs (length x)) x) (sym e) (subst (λ n. All (AreLegs n) (map told_legs net)) (sym (length-map told_legs net)) (all_legs net closed checked))
 
 -- the gaps between blocks, from the spans that they leave out
 any_blocks : (a : ℕ) (spans : List Span) → has spans a ≡ in_some_block a (map block_of spans)

@@ -1,9 +1,11 @@
 -- What a stable sort makes is the list in order.
-use Rattle.std.proofs.Common.{◌≡◌, ℕ, zero, suc, ◌+◌, ◌<◌, ◌≤◌, Bool, true, false, cond, if◌then◌else◌, not, ◌&&◌, List, [], ◌∷◌, map, length, get_or, refl, sym, ap, ◌∙◌, subst, arith}
+use Rattle.std.proofs.Common.{◌≡◌, ℕ, zero, suc, ◌+◌, ◌<◌, ◌≤◌, ◌⊎◌, inl, inr, Bool, true, false, cond, if◌then◌else◌, not, ◌&&◌, List, [], ◌∷◌, map, length, get_or, refl, sym, ap, ◌∙◌, subst, arith}
 use Rattle.std.specs.Cmp.{IsStrictWeakOrder}
 use Rattle.std.specs.List.{filter}
 use Rattle.std.specs.List.Sorted.{IsSortedBy, IsStableBy, ties}
+use Rattle.dn_net.specs.Chain.{Member}
 use Rattle.dn_net.specs.Walks.{put_in, in_order}
+use Rattle.dn_walk.proofs.Pairs.{Pairwise}
 
 -- a fact on each item, by recursion
 abbrev Each : {X : Type 0} → (X → Type 0) → List X → Type 0
@@ -174,3 +176,16 @@ length_put lt x (y ∷ ys) = by (lt y x) (length_put lt x ys)
 pub length_in_order : {X : Type 0} (lt : X → X → Bool) (xs : List X) → length (in_order lt xs) ≡ length xs
 length_in_order lt [] = refl
 length_in_order lt (x ∷ xs) = length_put lt x (in_order lt xs) ∙ ap suc (length_in_order lt xs)
+
+each_member : {X : Type 0} (P : X → Type 0) (xs : List X) → Each P xs → (y : X) → Member y xs → P y
+each_member P [] h y m = absurd m
+each_member P (x ∷ xs) h y (inl e) = subst P e h.0
+each_member P (x ∷ xs) h y (inr m) = each_member P xs h.1 y m
+
+-- none of its items comes before an earlier one
+pub in_order_pairs : {X : Type 0} (lt : X → X → Bool) → IsStrictWeakOrder lt → (xs : List X) → Pairwise (λ x y. lt y x ≡ false) (in_order lt xs)
+in_order_pairs {X} lt o xs = pairs (in_order lt xs) (rises_in_order lt o xs)
+  where
+    pairs : (ys : List X) → Rises lt ys → Pairwise (λ x y. lt y x ≡ false) ys
+    pairs [] h = tt
+    pairs (y ∷ ys) h = ((λ z m. each_member (λ z. lt z y ≡ false) ys h.0 z m), pairs ys h.1)

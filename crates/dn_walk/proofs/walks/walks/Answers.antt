@@ -1,6 +1,7 @@
 -- The verdict.
 use Rattle.std.proofs.Common.{◌≡◌}
-use Rattle.dn_walk.proofs.Bridge.{walks_told, least_back, least_onward, leads_to_name, leads_anywhere}
+use Rattle.dn_walk.proofs.Nodes.{all_legs_of}
+use Rattle.dn_walk.proofs.Verdict.{wide_is, loop_is, deep_is, legal_is, sorted_by_start}
 use Rattle.dn_walk.proofs.walks.walks.Goals as goal
 
 pub grown-requires-clause-legs : goal.grown-requires-clause-legs
