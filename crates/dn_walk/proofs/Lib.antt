@@ -1,4 +1,5 @@
 pub mod Apart
+pub mod Bridge
 pub mod Chains
 pub mod Choices
 pub mod Cycles
@@ -6,11 +7,21 @@ pub mod Endless
 pub mod Firsts
 pub mod Gaps
 pub mod Holes
+pub mod Least
 pub mod Legs
 pub mod Levels
 pub mod Listed
+pub mod Meets
 pub mod Members
+pub mod Nodes
+pub mod Onward
 pub mod Order
+pub mod Keys
 pub mod Pairs
 pub mod Starts
+pub mod Picks
+pub mod Sorting
+pub mod Starts
+pub mod Told
+pub mod Verdict
 pub mod Ways

@@ -37,7 +37,7 @@ no_later_still x y z (inr e) (inl q) = inl (subst (λ w. IsTrue (name_lt w z)) (
 no_later_still x y z (inr e) (inr f) = inr (e ∙ f)
 
 -- of two names one comes no later than the other
-either_way : (x y : Name) → IsTrue (name_lt x y) ⊎ NoLater y x
+pub either_way : (x y : Name) → IsTrue (name_lt x y) ⊎ NoLater y x
 either_way x y = by (order x.node y.node) (order x.addr y.addr)
   where
     order : (a b : ℕ) → (a ≡ b) ⊎ ((a < b) ⊎ (b < a))

@@ -8,6 +8,11 @@
 
 pub mod fault;
 pub mod laws;
+mod leg;
+mod level;
+#[cfg(test)]
+mod tests;
 pub mod walks;
+mod way;
 
 pub use dn_base::OutOfMemory;

@@ -1,27 +1,40 @@
 //! The table of the live walks of a net.
 
-ghost use Rattle.std.specs.Prelude.{◌≡◌, IfOk, IfErr, IsTrue, None};
+ghost use Rattle.std.specs.Prelude.{◌≡◌, ◌<◌, ◌≤◌, ◌-◌, List, map, length, IfOk, IfErr, OnOk, IsTrue, None};
+ghost use Rattle.std.specs.List.{All};
+ghost use Rattle.std.specs.List.Sorted.{IsNonDecreasingBy};
 ghost use Rattle.dn_net.specs.Decode.{is_closed};
 ghost use Rattle.dn_net.specs.Rules.{node_fault};
 ghost use Rattle.dn_net.specs.WalkRules.{walk_fault};
-ghost use Rattle.dn_walk.specs.Rows.{AreWalksOf, IsBroken};
+ghost use Rattle.dn_walk.specs.declared.leg.Leg.{Leg};
+ghost use Rattle.dn_walk.specs.declared.level.TheConstants.{WALK_LIMIT};
+ghost use Rattle.dn_walk.specs.declared.walks.WalkRow.{WalkRow};
+ghost use Rattle.dn_walk.specs.Rows.{AreWalksOf, IsBroken, told_by_row};
+ghost use Rattle.dn_walk.specs.Levels.{AreLevels, told_walks};
+ghost use Rattle.dn_walk.specs.Ways.{told_cycle, told_path, IsLoopBy, IsDeepBy};
 
 use crate::fault::WalkFault;
+use crate::leg::net_legs;
+use crate::level::{Levels, WALK_LIMIT};
+use crate::way::{Goal, least_start, way};
 use dn_interval::Span;
 use dn_net::net::Net;
-use std::alloc::Global;
+use std::alloc::{AllocError, Global};
 use std::marker::Model;
 
-/// A live walk: the address `a` of its span goes from the node `start` in `len` steps to the address
+/// The most steps that a chain may have.
+const LONGEST: usize = 64;
+
+/// A live walk, in 32 bytes: the address `a` of its span goes from the node `start` in `len` steps to the address
 /// `base + (a - span.lo)` of the node `end`.
 #[derive(Clone, Copy, Debug, PartialEq, Eq)]
 pub struct WalkRow {
-    pub start: u16,
     /// The addresses that follow all of the walk.
     pub span: Span,
-    pub end: u16,
     /// The address to which the span's first one goes.
     pub base: u64,
+    pub start: u16,
+    pub end: u16,
     /// How many choices the walk has, 1 to 65.
     pub len: u8,
 }
@@ -59,5 +72,58 @@ pub fn walks(alloc: Global, net: &Net) -> Result<WalkTable, WalkFault>
     ensures rows { IfOk result (λ table. AreWalksOf net.now table) }
     ensures fault { IfErr result (λ e. IsBroken (walk_fault net.now) e) }
 {
-    Err(WalkFault::OutOfMemory)
+    let legs = net_legs(alloc, net)?;
+    let mut levels = Levels::new(alloc, net.nodes())?;
+    'levels: while levels.sorted.len() < LONGEST && !levels.newest.is_empty() {
+        levels = levels.grown(alloc, &legs)?;
+        check_cycles(alloc, net, &levels)?;
+    }
+    levels = levels.grown(alloc, &legs)?;
+    check_depth(alloc, net, &levels)?;
+    Ok(table(alloc, &levels)?)
+}
+
+/// Refuses the newest level where a walk of it comes back to where it began.
+fn check_cycles(alloc: Global, net: &Net, levels: &Levels) -> Result<(), WalkFault>
+    requires closed { IsTrue (is_closed net.now) }
+    requires checked { node_fault net.now ≡ None }
+    requires there { All (λ (r : WalkRow). r.start < length net.now) levels.now.newest.items }
+    requires sorted { All (λ level. IsNonDecreasingBy (λ (r : WalkRow). r.start) level) levels.now.sorted.items }
+    ensures ok { OnOk result (told_cycle net.now (map (map told_by_row) levels.now.sorted.items) (map told_by_row levels.now.newest.items) ≡ None) }
+    ensures err { IfErr result (IsLoopBy (told_cycle net.now (map (map told_by_row) levels.now.sorted.items) (map told_by_row levels.now.newest.items))) }
+{
+    let Some(first) = least_start(&levels.newest, true) else {
+        return Ok(());
+    };
+    let cycle = way(alloc, net, &levels.sorted, first, Goal::To(first))?;
+    Err(WalkFault::Loop { cycle })
+}
+
+/// Refuses the newest level where it has a walk.
+fn check_depth(alloc: Global, net: &Net, levels: &Levels) -> Result<(), WalkFault>
+    requires closed { IsTrue (is_closed net.now) }
+    requires checked { node_fault net.now ≡ None }
+    requires there { All (λ (r : WalkRow). r.start < length net.now) levels.now.newest.items }
+    requires sorted { All (λ level. IsNonDecreasingBy (λ (r : WalkRow). r.start) level) levels.now.sorted.items }
+    ensures ok { OnOk result (told_path net.now (map (map told_by_row) levels.now.sorted.items) (map told_by_row levels.now.newest.items) ≡ None) }
+    ensures err { IfErr result (IsDeepBy (told_path net.now (map (map told_by_row) levels.now.sorted.items) (map told_by_row levels.now.newest.items))) }
+{
+    let Some(first) = least_start(&levels.newest, false) else {
+        return Ok(());
+    };
+    let path = way(alloc, net, &levels.sorted, first, Goal::Anywhere)?;
+    Err(WalkFault::Deep { path })
+}
+
+/// The rows of the sorted levels but the first.
+fn table(alloc: Global, levels: &Levels) -> Result<WalkTable, AllocError>
+    requires some { 0 < length levels.now.sorted.items }
+    requires room { levels.now.room ≤ WALK_LIMIT }
+    ensures { IfOk result (λ table. (legs : List (List Leg)) → AreLevels legs levels.now → map told_by_row table ≡ told_walks legs (length levels.now.sorted.items - 1)) }
+{
+    let mut rows = Vec::with_capacity(alloc, WALK_LIMIT - levels.room)?;
+    for level in &levels.sorted[1..] {
+        rows.extend_from_slice(level.as_slice())?;
+    }
+    Ok(WalkTable { rows })
 }

@@ -1,0 +1,67 @@
+-- The legs that a walk meets stand together, and what it makes of one of them.
+use Rattle.std.proofs.Common.{◌≡◌, ℕ, ◌+◌, ◌-◌, ◌<◌, ◌≤◌, ◌⊎◌, inl, inr, Bool, true, false, ◌&&◌, if◌then◌else◌, nat_le, nat_lt, ltb, leb, min, max, List, length, get_or, take, drop, refl, sym, ap, ◌∙◌, subst, arith, IsTrue, ltb-true, leb-true, le-leb}
+use Rattle.std.proofs.lemmas.Bool.{ltb-false, lt-ltb, lt-leb, leb-false, cases_lt}
+use Rattle.std.specs.List.{All, filter}
+use Rattle.std.specs.List.Sorted.{IsPartitionPoint, IsNonDecreasingBy}
+use Rattle.dn_net.specs.Walks.{greater, lesser_of}
+use Rattle.dn_walk.specs.declared.leg.Leg.{Leg}
+use Rattle.dn_walk.specs.Rows.{Told}
+use Rattle.dn_walk.specs.Levels.{told_last, told_meets, told_onto}
+use Rattle.dn_walk.proofs.Picks.{Between, between_is}
+
+abbrev pub Ends : ℕ → List Leg → ℕ → Type 0
+Ends base legs i = IsPartitionPoint (λ l. ltb l.hi base ≡ true) (λ l. ltb l.hi base ≡ false) legs i
+
+abbrev pub Begins : ℕ → List Leg → ℕ → Type 0
+Begins last legs j = IsPartitionPoint (λ l. leb l.lo last ≡ true) (λ l. leb l.lo last ≡ false) legs j
+
+pub in_turn : (base last : ℕ) (legs : List Leg) (i j : ℕ) → base ≤ last → All (λ l. l.lo ≤ l.hi) legs → i ≤ length legs → Ends base legs i → Begins last legs j → i ≤ j
+in_turn base last legs i j o order w e b = by (cases_lt j i)
+  where
+    by : (j < i) ⊎ (i ≤ j) → i ≤ j
+    by (inr l) = l
+    by (inl l) =
+        let d : Leg = record { lo = 0; hi = 0; node = 0; addr = 0 } in
+        let g = get_or legs j d in
+        let p : g.hi < base = ltb-true _ _ (e.0 j d (omega arith) l) in
+        let q : last < g.lo = leb-false _ _ (b.1 j d (omega arith) (omega arith)) in
+        let r : g.lo ≤ g.hi = order j d (omega arith) in
+        absurd (omega arith)
+
+not_ended : (a b : ℕ) → ltb a b ≡ false → nat_le b a ≡ true
+not_ended a b e = le-leb b a (ltb-false a b e)
+
+ended : (a b : ℕ) → ltb a b ≡ true → nat_le b a ≡ false
+ended a b e = lt-leb b a (ltb-true a b e)
+
+pub met_is : (t : Told) (legs : List Leg) (i j : ℕ) → All (λ l. l.lo ≤ l.hi) legs → i ≤ length legs → j ≤ length legs → Ends t.base legs i → Begins (told_last t) legs j → take (j - i) (drop i legs) ≡ filter (told_meets t) legs
+met_is t legs i j order w v e b =
+    between_is (λ (l : Leg). nat_le t.base l.hi) (λ (l : Leg). nat_le l.lo (told_last t)) legs i j (in_turn t.base (told_last t) legs i j (omega arith) order w e b) v
+    record {
+      low = λ k d l. ended _ _ (e.0 k d (omega arith) l);
+      high = λ k d l m. not_ended _ _ (e.1 k d l m);
+      begun = λ k d l. b.0 k d (omega arith) l;
+      over = λ k d l m. b.1 k d l m;
+    }
+
+pub meets_parts : (t : Told) (l : Leg) → IsTrue (told_meets t l) → (t.base ≤ l.hi) × (l.lo ≤ told_last t)
+meets_parts t l h = by (nat_le t.base l.hi) (nat_le l.lo (told_last t)) refl refl h
+  where
+    by : (a b : Bool) → nat_le t.base l.hi ≡ a → nat_le l.lo (told_last t) ≡ b → IsTrue (a && b) → (t.base ≤ l.hi) × (l.lo ≤ told_last t)
+    by true true e f h = (leb-true _ _ e, leb-true _ _ f)
+    by true false e f h = cc
+    by false b e f h = cc
+
+pub max_is : (a b : ℕ) → max a b ≡ greater a b
+max_is a b = by (nat_lt a b) refl
+  where
+    by : (c : Bool) → nat_lt a b ≡ c → max a b ≡ (if c then b else a)
+    by true e = let l = ltb-true a b e in omega arith
+    by false e = let l = ltb-false a b e in omega arith
+
+pub min_is : (a b : ℕ) → min a b ≡ lesser_of a b
+min_is a b = by (nat_lt b a) refl
+  where
+    by : (c : Bool) → nat_lt b a ≡ c → min a b ≡ (if c then b else a)
+    by true e = let l = ltb-true b a e in omega arith
+    by false e = let l = ltb-false b a e in omega arith

@@ -1,0 +1,164 @@
+-- The legs of a node of a checked net, without the choices.
+use Rattle.std.proofs.Common.{◌≡◌, ℕ, zero, suc, ◌+◌, ◌-◌, ◌<◌, ◌≤◌, Bool, true, false, not, ◌&&◌, ◌||◌, nat_le, nat_lt, List, [], ◌∷◌, ◌++◌, map, length, get_or, take, slice_get, Option, Some, None, option_map, refl, sym, ap, ◌∙◌, subst, arith, IsTrue, le-leb}
+use Rattle.std.specs.List.{All, list_all, list_any, flat_map}
+use Rattle.std.specs.List.Sorted.{IsPermutation, IsNonDecreasingBy}
+use Rattle.std.proofs.lemmas.List.{take_more, map-append, get_or-map}
+use Rattle.std.proofs.lemmas.List.Sorted.{list_any-IsPermutation}
+use Rattle.std.proofs.lemmas.Option.{slice_get_within, slice_get-get_or}
+use Rattle.dn_net.specs.declared.node.Block.{Block}
+use Rattle.dn_net.specs.declared.node.Dest.{Dest}
+use Rattle.dn_net.specs.declared.node.Entry.{Entry}
+use Rattle.dn_net.specs.declared.node.NodeDecl.{NodeDecl}
+use Rattle.dn_net.specs.Chain.{Member}
+use Rattle.dn_net.specs.Decode.{top, in_some_block, within, is_closed, refers_within}
+use Rattle.dn_net.specs.Rules.{node_fault, block_in_range, entry_in_range, is_in_range}
+use Rattle.dn_net.specs.Walks.{Leg as NetLeg, in_order, dest_legs, entry_legs, gap_legs, gaps, legs}
+use Rattle.dn_net.proofs.Checked.{checked_at}
+use Rattle.dn_net.proofs.Places.{both, list_all-at, length-map}
+use Rattle.dn_net.proofs.Steps.{node_at}
+use Rattle.dn_interval.specs.declared.span.Span.{Span}
+use Rattle.dn_interval.specs.Spans.{has, in_span, AreMaximal}
+use Rattle.dn_walk.specs.declared.leg.Leg.{Leg}
+use Rattle.dn_walk.specs.Legs.{told_leg, told_legs, dest_leg, plain_entry_legs, gap_leg, plain_gap_legs, leg_before, legs_by, gaps_by, block_of, IsLegOf, AreLegs}
+use Rattle.dn_walk.proofs.Apart.{node_apart}
+use Rattle.dn_walk.proofs.Holes.{spans_are_left}
+use Rattle.dn_walk.proofs.Legs.{leads_of_leg, leads_in_range, leads_within}
+use Rattle.dn_walk.proofs.Members.{member_map}
+use Rattle.dn_walk.proofs.Order.{legs_rise}
+use Rattle.dn_walk.proofs.Pairs.{Pairwise, pairs_map, pairs_more, pairs_rise}
+use Rattle.dn_walk.proofs.Sorting.{map_in_order}
+use Rattle.dn_walk.proofs.Told.{at_member}
+
+told_dests : (i j : ℕ) (b : Block) (ds : List Dest) → map told_leg (dest_legs i j b ds) ≡ map (dest_leg b) ds
+told_dests i j b [] = refl
+told_dests i j b (d ∷ ds) = ap (λ l. dest_leg b d ∷ l) (told_dests i (suc j) b ds)
+
+told_entries : (i : ℕ) (es : List Entry) → map told_leg (entry_legs i es) ≡ plain_entry_legs es
+told_entries i [] = refl
+told_entries i (e ∷ es) = map-append told_leg (dest_legs i 0 e.block e.dests) (entry_legs (suc i) es) ∙ ap (λ l. l ++ map told_leg (entry_legs (suc i) es)) (told_dests i 0 e.block e.dests) ∙ ap (λ l. map (dest_leg e.block) e.dests ++ l) (told_entries (suc i) es)
+
+told_gaps : (o : Option ℕ) (spans : List Block) → map told_leg (gap_legs o spans) ≡ plain_gap_legs o spans
+told_gaps None spans = refl
+told_gaps (Some m) spans = each spans
+  where
+    each : (spans : List Block) → map told_leg (gap_legs (Some m) spans) ≡ map (gap_leg m) spans
+    each [] = refl
+    each (b ∷ spans) = ap (λ l. gap_leg m b ∷ l) (each spans)
+
+pub legs_are : (n : NodeDecl) → told_legs n ≡ legs_by n.accepts n.entries n.over
+legs_are n =
+    map_in_order told_leg (λ l m. nat_lt l.block.lo m.block.lo) leg_before (λ l m. refl) (entry_legs 0 n.entries ++ gap_legs n.over (gaps n))
+    ∙ ap (in_order leg_before) (map-append told_leg (entry_legs 0 n.entries) (gap_legs n.over (gaps n)) ∙ ap (λ l. l ++ map told_leg (gap_legs n.over (gaps n))) (told_entries 0 n.entries) ∙ ap (λ l. plain_entry_legs n.entries ++ l) (told_gaps n.over (gaps n)))
+
+-- the legs of a node, from its parts as they are read
+pub legs_at : (net : List NodeDecl) (i : ℕ) (accepts : List Block) (entries : List Entry) (over : Option ℕ) → i < length net → option_map (λ d. d.accepts) (slice_get net i) ≡ Some accepts → option_map (λ d. d.entries) (slice_get net i) ≡ Some entries → option_map (λ d. d.over) (slice_get net i) ≡ Some over → map told_legs (take (i + 1) net) ≡ map told_legs (take i net) ++ legs_by accepts entries over ∷ []
+legs_at net i accepts entries over l a e o = by (slice_get net i) refl a e o
+  where
+    by : (u : Option NodeDecl) → slice_get net i ≡ u → option_map (λ d. d.accepts) u ≡ Some accepts → option_map (λ d. d.entries) u ≡ Some entries → option_map (λ d. d.over) u ≡ Some over → map told_legs (take (i + 1) net) ≡ map told_legs (take i net) ++ legs_by accepts entries over ∷ []
+    by None u a e o = cc
+    by (Some n) u a e o =
+        let a' : n.accepts ≡ accepts = cc in
+        let e' : n.entries ≡ entries = cc in
+        let o' : n.over ≡ over = cc in
+        let s : ◌≡◌ {A = Option NodeDecl} (Some (get_or net i n)) (Some n) = sym (slice_get-get_or net i n l) ∙ u in
+        let g : get_or net i n ≡ n = cc in
+        ap (map told_legs) (take_more net i n l ∙ ap (λ x. take i net ++ x ∷ []) g)
+        ∙ map-append told_legs (take i net) (n ∷ [])
+        ∙ ap (λ x. map told_legs (take i net) ++ x ∷ []) (legs_are n ∙ ap (λ x. legs_by x n.entries n.over) a' ∙ ap (λ x. legs_by accepts x n.over) e' ∙ ap (λ x. legs_by accepts entries x) o')
+
+pub accepts_in_range : (net : List NodeDecl) (i : ℕ) (accepts : List Block) → node_fault net ≡ None → option_map (λ d. d.accepts) (slice_get net i) ≡ Some accepts → IsTrue (list_all block_in_range accepts)
+accepts_in_range net i accepts h a = by (slice_get net i) refl a
+  where
+    by : (u : Option NodeDecl) → slice_get net i ≡ u → option_map (λ d. d.accepts) u ≡ Some accepts → IsTrue (list_all block_in_range accepts)
+    by None u a = cc
+    by (Some n) u a =
+        let a' : n.accepts ≡ accepts = cc in
+        subst (λ l. IsTrue (list_all block_in_range l)) a' (both (list_all block_in_range n.accepts) (list_all entry_in_range n.entries) (checked_at net i h n u).in_range).0
+
+pub entries_in_range : (net : List NodeDecl) (i : ℕ) (entries : List Entry) → node_fault net ≡ None → option_map (λ d. d.entries) (slice_get net i) ≡ Some entries → IsTrue (list_all entry_in_range entries)
+entries_in_range net i entries h a = by (slice_get net i) refl a
+  where
+    by : (u : Option NodeDecl) → slice_get net i ≡ u → option_map (λ d. d.entries) u ≡ Some entries → IsTrue (list_all entry_in_range entries)
+    by None u a = cc
+    by (Some n) u a =
+        let a' : n.entries ≡ entries = cc in
+        subst (λ l. IsTrue (list_all entry_in_range l)) a' (both (list_all block_in_range n.accepts) (list_all entry_in_range n.entries) (checked_at net i h n u).in_range).1
+
+-- they lead on in range, and neither their first nor their last addresses descend
+pub legs_of_node : (net : List NodeDecl) → IsTrue (is_closed net) → node_fault net ≡ None → (i : ℕ) (n : NodeDecl) → slice_get net i ≡ Some n → AreLegs (length net) (told_legs n)
+legs_of_node net closed checked i n at =
+    let apart = node_apart net checked i n at in
+    let rise = legs_rise n apart in
+    record {
+      firsts = pairs_rise (λ (l : Leg). l.lo) (told_legs n) (pairs_map (λ (l m : Leg). l.lo ≤ m.lo) told_leg (legs n) (pairs_more (λ (l m : NetLeg). (l.block.lo ≤ m.block.lo) × (l.block.hi ≤ m.block.hi)) (λ (l m : NetLeg). l.block.lo ≤ m.block.lo) (legs n) (λ l m a b r. r.0) rise));
+      lasts = pairs_rise (λ (l : Leg). l.hi) (told_legs n) (pairs_map (λ (l m : Leg). l.hi ≤ m.hi) told_leg (legs n) (pairs_more (λ (l m : NetLeg). (l.block.lo ≤ m.block.lo) × (l.block.hi ≤ m.block.hi)) (λ (l m : NetLeg). l.block.hi ≤ m.block.hi) (legs n) (λ l m a b r. r.1) rise));
+      each = λ k d l. member_is (get_or (told_legs n) k d) (at_member (told_legs n) k d l);
+    }
+  where
+    one : (l : NetLeg) → Member l (legs n) → IsLegOf (length net) (told_leg l)
+    one l m =
+        let f = leads_of_leg (Some n) (λ k e. node_apart net checked i k (at ∙ e)) l m in
+        let r = leads_in_range (Some n) (λ k e. node_apart net checked i k (at ∙ e)) l.choice l.block l.to f in
+        let w = leads_within (length net) (Some n) (λ k e. node_at (refers_within (length net)) net i closed k (at ∙ e)) l.choice l.block l.to f in
+        record { order = r.0; low = r.1; node = w; reach = r.2 }
+
+    member_is : (l : Leg) → Member l (told_legs n) → IsLegOf (length net) l
+    member_is l m = let r = member_map told_leg (legs n) l m in subst (λ k. IsLegOf (length net) k) r.2 (one r.0 r.1)
+
+pub all_legs : (net : List NodeDecl) → IsTrue (is_closed net) → node_fault net ≡ None → All (AreLegs (length net)) (map told_legs net)
+all_legs net closed checked = λ k d l.
+    let n = map_length net in
+    let k' : k < length net = omega arith in
+    at k d k' (slice_get net k) refl
+  where
+    map_length : (ns : List NodeDecl) → length (map told_legs ns) ≡ length ns
+    map_length [] = refl
+    map_length (n ∷ ns) = ap suc (map_length ns)
+
+    at : (k : ℕ) (d : List Leg) → k < length net → (u : Option NodeDecl) → slice_get net k ≡ u → AreLegs (length net) (get_or (map told_legs net) k d)
+    at k d l None u = absurd (there net k l u)
+      where
+        there : (ns : List NodeDecl) (k : ℕ) → k < length ns → slice_get ns k ≡ None → ⊥
+        there [] k l e = absurd (omega arith)
+        there (n ∷ ns) zero l e = cc
+        there (n ∷ ns) (suc k) l e = there ns k (omega arith) e
+    at k d l (Some n) u =
+        let s : ◌≡◌ {A = Option NodeDecl} (Some (get_or net k n)) (Some n) = sym (slice_get-get_or net k n l) ∙ u in
+        let g : get_or net k n ≡ n = cc in
+        subst (λ x. AreLegs (length net) x) (sym (get_or-map told_legs net k n d l ∙ ap told_legs g)) (legs_of_node net closed checked k n u)
+
+pub all_legs_of : (net : List NodeDecl) → IsTrue (is_closed net) → node_fault net ≡ None → (xs : List (List Leg)) → xs ≡ map told_legs net → All (AreLegs (length xs)) xs
+all_legs_of net closed checked xs e = subst (λ x. All (AreLegs (length x)) x) (sym e) (subst (λ n. All (AreLegs n) (map told_legs net)) (sym (length-map told_legs net)) (all_legs net closed checked))
+
+-- the gaps between blocks, from the spans that they leave out
+any_blocks : (a : ℕ) (spans : List Span) → has spans a ≡ in_some_block a (map block_of spans)
+any_blocks a [] = refl
+any_blocks a (s ∷ spans) = ap (λ b. in_span s a || b) (any_blocks a spans)
+
+swapped : (a : ℕ) (xs ys : List Block) → in_some_block a (xs ++ ys) ≡ in_some_block a (ys ++ xs)
+swapped a xs ys = split xs ys ∙ turned (in_some_block a xs) (in_some_block a ys) ∙ sym (split ys xs)
+  where
+    assoc : (p q r : Bool) → (p || (q || r)) ≡ ((p || q) || r)
+    assoc true q r = refl
+    assoc false q r = refl
+
+    split : (xs ys : List Block) → in_some_block a (xs ++ ys) ≡ (in_some_block a xs || in_some_block a ys)
+    split [] ys = refl
+    split (x ∷ xs) ys = ap (λ b. within a x || b) (split xs ys) ∙ assoc (within a x) (in_some_block a xs) (in_some_block a ys)
+
+    turned : (p q : Bool) → (p || q) ≡ (q || p)
+    turned true true = refl
+    turned true false = refl
+    turned false true = refl
+    turned false false = refl
+
+blocks_in_range : (entries : List Entry) (accepts : List Block) → IsTrue (list_all entry_in_range entries) → IsTrue (list_all block_in_range accepts) → IsTrue (list_all block_in_range (map (λ e. e.block) entries ++ accepts))
+blocks_in_range [] accepts e a = a
+blocks_in_range (x ∷ xs) accepts e a =
+    let r = both (entry_in_range x) (list_all entry_in_range xs) e in
+    let b = (both (block_in_range x.block) (list_all (λ d. nat_le (d.addr + (x.block.hi - x.block.lo)) top) x.dests) r.0).0 in
+    rw b (blocks_in_range xs accepts r.1 a)
+
+pub gaps_are : (accepts : List Block) (entries : List Entry) (blocks sorted covered rest : List Span) → IsTrue (list_all block_in_range accepts) → IsTrue (list_all entry_in_range entries) → map block_of blocks ≡ accepts ++ map (λ e. e.block) entries → IsPermutation blocks sorted → ((a : ℕ) → has covered a ≡ has sorted a) → AreMaximal rest → ((a : ℕ) → a ≤ top → has rest a ≡ not (has covered a)) → map block_of rest ≡ gaps_by accepts entries
+gaps_are accepts entries blocks sorted covered rest ar er is perm cov maximal same =
+    spans_are_left (map (λ e. e.block) entries ++ accepts) (blocks_in_range entries accepts er ar) rest maximal (λ a l. same a l ∙ ap not (cov a ∙ sym (list_any-IsPermutation (λ s. in_span s a) blocks sorted perm) ∙ any_blocks a blocks ∙ ap (in_some_block a) is ∙ swapped a accepts (map (λ e. e.block) entries)))

@@ -1,0 +1,218 @@
+-- Levels without the choices: what each row of them keeps, and how the next one is made.
+use Rattle.std.proofs.Common.{◌≡◌, ℕ, zero, suc, ◌+◌, ◌-◌, ◌<◌, ◌≤◌, ◌⊎◌, inl, inr, Bool, true, false, cond, ◌&&◌, nat_le, List, [], ◌∷◌, ◌++◌, map, length, get_or, take, drop, refl, sym, ap, ◌∙◌, subst, arith, IsTrue}
+use Rattle.std.specs.List.{All, filter, flat_map}
+use Rattle.std.proofs.lemmas.List.{take_more, map-append, append_assoc, length-append, take-map, length-map, get_or-map, get_or_default, append-nil, drop-append-le}
+use Rattle.std.proofs.lemmas.List.Elements.{All-filter, filter_passes}
+use Rattle.std.proofs.lemmas.Grind.{flat_map-append}
+use Rattle.std.proofs.lemmas.List.Folds.{length-flat_map-take}
+use Rattle.dn_net.specs.Chain.{Member}
+use Rattle.dn_net.specs.Decode.{top}
+use Rattle.dn_net.specs.Walks.{in_order, greater, lesser_of}
+use Rattle.dn_net.specs.WalkRules.{walk_limit}
+use Rattle.dn_walk.specs.declared.leg.Leg.{Leg}
+use Rattle.dn_walk.specs.declared.walks.WalkRow.{WalkRow}
+use Rattle.dn_walk.specs.Rows.{Told, told_by_row}
+use Rattle.dn_walk.specs.Legs.{AreLegs, IsLegOf}
+use Rattle.dn_walk.specs.Levels.{told_last, told_meets, told_onto, told_on, told_extended, told_still, told_stills, told_level, told_walks, told_levels, told_before, IsRowOf, IsWideWhere}
+use Rattle.dn_walk.specs.declared.fault.WalkFault.{WalkFault}
+use Rattle.dn_walk.specs.declared.fault.WalkFault.TheVariants.{Wide, Loop, Deep, OutOfMemory}
+use Rattle.dn_walk.proofs.Members.{member_map, map_member, member_filter, member_flat_map}
+use Rattle.dn_walk.proofs.Meets.{meets_parts, max_is, min_is}
+use Rattle.dn_walk.proofs.Sorting.{length_in_order}
+
+-- the definitions, one step each
+pub level-zero : (legs : List (List Leg)) → told_level legs 0 ≡ told_stills 0 (length legs)
+unfolding told_level
+level-zero legs = refl
+
+pub level-suc : (legs : List (List Leg)) (k : ℕ) → told_level legs (suc k) ≡ flat_map (told_extended legs) (told_level legs k)
+unfolding told_level
+level-suc legs k = refl
+
+pub walks-zero : (legs : List (List Leg)) → told_walks legs 0 ≡ []
+unfolding told_walks
+walks-zero legs = refl
+
+pub walks-suc : (legs : List (List Leg)) (k : ℕ) → told_walks legs (suc k) ≡ told_walks legs k ++ in_order told_before (told_level legs (suc k))
+unfolding told_walks
+walks-suc legs k = refl
+
+pub levels-zero : (legs : List (List Leg)) → told_levels legs 0 ≡ []
+unfolding told_levels
+levels-zero legs = refl
+
+pub levels-suc : (legs : List (List Leg)) (k : ℕ) → told_levels legs (suc k) ≡ told_levels legs k ++ in_order told_before (told_level legs k) ∷ []
+unfolding told_levels
+levels-suc legs k = refl
+
+pub length_levels : (legs : List (List Leg)) (k : ℕ) → length (told_levels legs k) ≡ k
+length_levels legs zero = ap length (levels-zero legs)
+length_levels legs (suc k) =
+    let ih = length_levels legs k in
+    ap length (levels-suc legs k) ∙ length-append (told_levels legs k) (in_order told_before (told_level legs k) ∷ []) ∙ omega (arith, ih)
+
+-- how many walks there are
+pub length_walks : (legs : List (List Leg)) (k : ℕ) → length (told_walks legs (suc k)) ≡ length (told_walks legs k) + length (told_level legs (suc k))
+length_walks legs k = ap length (walks-suc legs k) ∙ length-append (told_walks legs k) (in_order told_before (told_level legs (suc k))) ∙ ap (λ n. length (told_walks legs k) + n) (length_in_order told_before (told_level legs (suc k)))
+
+-- items of lists
+pub at_member : {X : Type 0} (xs : List X) (k : ℕ) (d : X) → k < length xs → Member (get_or xs k d) xs
+at_member [] k d l = absurd (omega arith)
+at_member (x ∷ xs) zero d l = inl refl
+at_member (x ∷ xs) (suc k) d l = inr (at_member xs k d (omega arith))
+
+pub member_of_all : {X : Type 0} (P : X → Type 0) (xs : List X) (x : X) → All P xs → Member x xs → P x
+member_of_all P [] x all m = absurd m
+member_of_all P (y ∷ xs) x all (inl e) = subst P e (all 0 y (omega arith))
+member_of_all P (y ∷ xs) x all (inr m) = member_of_all P xs x (λ k d l. all (suc k) d (omega arith)) m
+
+-- stills
+pub stills_more : (n k : ℕ) → told_stills n (suc k) ≡ told_stills n k ++ told_still (n + k) ∷ []
+stills_more n zero = let e : n ≡ n + 0 = omega arith in ap (λ m. told_still m ∷ []) e
+stills_more n (suc k) = let e : suc n + k ≡ n + suc k = omega arith in ap (λ l. told_still n ∷ l) (stills_more (suc n) k ∙ ap (λ m. told_stills (suc n) k ++ told_still m ∷ []) e)
+
+still_is : (count n k : ℕ) (t : Told) → n + k ≤ count → Member t (told_stills n k) → IsRowOf count 0 t
+still_is count n zero t l m = absurd m
+still_is count n (suc k) t l (inl e) = subst (λ u. IsRowOf count 0 u) e record { order = omega arith; low = omega arith; start = omega arith; end = omega arith; reach = omega arith; len = omega arith }
+still_is count n (suc k) t l (inr m) = still_is count (suc n) k t (omega arith) m
+
+onto_is : (count k : ℕ) (t : Told) (l : Leg) → IsRowOf count k t → IsLegOf count l → IsTrue (told_meets t l) → IsRowOf count (suc k) (told_onto t l)
+onto_is count k t l r g h =
+    let m = meets_parts t l h in
+    let m0 : t.base ≤ l.hi = m.0 in
+    let m1 : l.lo ≤ told_last t = m.1 in
+    let o = r.order in
+    let p = r.low in
+    let q = r.reach in
+    let u = g.order in
+    let v = g.low in
+    let w = g.reach in
+    let n = r.len in
+    let a = max_is t.base l.lo in
+    let b = min_is (told_last t) l.hi in
+    record {
+      order = omega (arith, a, b);
+      low = omega (arith, a, b);
+      start = r.start;
+      end = g.node;
+      reach = omega (arith, a, b);
+      len = omega arith;
+    }
+
+-- each walk of a level
+pub level_is : (legs : List (List Leg)) → All (AreLegs (length legs)) legs → (k : ℕ) (t : Told) → Member t (told_level legs k) → IsRowOf (length legs) k t
+level_is legs all zero t m = still_is (length legs) 0 (length legs) t (omega arith) (subst (λ l. Member t l) (level-zero legs) m)
+level_is legs all (suc k) t m =
+    let p = member_flat_map (told_extended legs) (told_level legs k) t (subst (λ l. Member t l) (level-suc legs k) m) in
+    let r = level_is legs all k p.0 p.1 in
+    let ls = get_or legs p.0.end [] in
+    let are : AreLegs (length legs) ls = all p.0.end [] r.end in
+    let q = member_map (told_onto p.0) (filter (told_meets p.0) ls) t p.2 in
+    let f = member_filter (told_meets p.0) ls q.0 q.1 in
+    subst (λ u. IsRowOf (length legs) (suc k) u) q.2 (onto_is (length legs) k p.0 q.0 r (member_of_all (IsLegOf (length legs)) ls q.0 are.each f.0) f.1)
+
+row_of_more : (count k n : ℕ) (t : Told) → k ≤ n → IsRowOf count k t → IsRowOf count n t
+row_of_more count k n t l r = let m = r.len in record { order = r.order; low = r.low; start = r.start; end = r.end; reach = r.reach; len = omega arith }
+
+-- the rows of a level
+pub rows_are : (legs : List (List Leg)) → All (AreLegs (length legs)) legs → (k n : ℕ) → k ≤ n → (rows : List WalkRow) → map told_by_row rows ≡ told_level legs k → All (λ r. IsRowOf (length legs) n (told_by_row r)) rows
+rows_are legs all k n l rows e = λ j d b.
+    row_of_more (length legs) k n (told_by_row (get_or rows j d)) l (level_is legs all k (told_by_row (get_or rows j d)) (subst (λ x. Member (told_by_row (get_or rows j d)) x) e (map_member told_by_row rows (get_or rows j d) (at_member rows j d b))))
+
+-- one more row goes on
+pub extended_more : (legs : List (List Leg)) (rows : List WalkRow) (i : ℕ) (r : WalkRow) → i < length rows → r ≡ get_or rows i r → flat_map (told_extended legs) (map told_by_row (take (i + 1) rows)) ≡ flat_map (told_extended legs) (map told_by_row (take i rows)) ++ told_extended legs (told_by_row r)
+extended_more legs rows i r l e =
+    ap (λ x. flat_map (told_extended legs) (map told_by_row x)) (take_more rows i r l ∙ ap (λ x. take i rows ++ x ∷ []) (sym e))
+    ∙ ap (flat_map (told_extended legs)) (map-append told_by_row (take i rows) (r ∷ []))
+    ∙ flat_map-append (told_extended legs) (map told_by_row (take i rows)) (told_by_row r ∷ [])
+    ∙ ap (λ x. flat_map (told_extended legs) (map told_by_row (take i rows)) ++ x) (nothing_behind (told_extended legs (told_by_row r)))
+  where
+    nothing_behind : (xs : List Told) → xs ++ [] ≡ xs
+    nothing_behind [] = refl
+    nothing_behind (x ∷ xs) = ap (λ l. x ∷ l) (nothing_behind xs)
+
+-- and there are no fewer in all
+pub extended_least : (legs : List (List Leg)) (rows : List WalkRow) (i : ℕ) (r : WalkRow) → i < length rows → r ≡ get_or rows i r → length (flat_map (told_extended legs) (map told_by_row (take i rows))) + length (told_extended legs (told_by_row r)) ≤ length (flat_map (told_extended legs) (map told_by_row rows))
+extended_least legs rows i r l e =
+    let n : length (map told_by_row rows) ≡ length rows = length-map rows told_by_row in
+    let h = length-flat_map-take (told_extended legs) (map told_by_row rows) i (told_by_row r) (omega arith) in
+    let a : get_or (map told_by_row rows) i (told_by_row r) ≡ told_by_row r = get_or-map told_by_row rows i r (told_by_row r) l ∙ ap told_by_row (sym e) in
+    let b : take i (map told_by_row rows) ≡ map told_by_row (take i rows) = take-map told_by_row i rows in
+    subst (λ x. length (flat_map (told_extended legs) x) + length (told_extended legs (told_by_row r)) ≤ length (flat_map (told_extended legs) (map told_by_row rows))) b
+    (subst (λ x. length (flat_map (told_extended legs) (take i (map told_by_row rows))) + length (told_extended legs x) ≤ length (flat_map (told_extended legs) (map told_by_row rows))) a h)
+
+-- the legs of a node, by its number
+pub legs_there : (legs : List (List Leg)) → All (AreLegs (length legs)) legs → (end k : ℕ) (ls ls' : List Leg) → end < length legs → k ≡ end → ls ≡ get_or legs k ls → ls' ≡ ls → AreLegs (length legs) ls'
+legs_there legs all end k ls ls' l s e f = subst (AreLegs (length legs)) (sym (f ∙ e ∙ ap (λ i. get_or legs i ls) s)) (all end ls l)
+
+pub legs_same : (legs : List (List Leg)) (end k : ℕ) (ls ls' : List Leg) → end < length legs → k ≡ end → ls ≡ get_or legs k ls → ls' ≡ ls → ls' ≡ get_or legs end []
+legs_same legs end k ls ls' l s e f = f ∙ e ∙ ap (λ i. get_or legs i ls) s ∙ get_or_default legs end ls [] l
+
+-- what the legs that a walk meets keep
+pub met_meet : (t : Told) (ls met : List Leg) → met ≡ filter (told_meets t) ls → All (λ l. IsTrue (told_meets t l)) met
+met_meet t ls met e = subst (All (λ l. IsTrue (told_meets t l))) (sym e) (filter_passes (told_meets t) ls)
+
+pub met_keep : (P : Leg → Type 0) (t : Told) (ls met : List Leg) → met ≡ filter (told_meets t) ls → All P ls → All P met
+met_keep P t ls met e all = subst (All P) (sym e) (All-filter (told_meets t) P ls all)
+
+-- the next level, and how many walks there are with it
+pub grown_wide : (legs : List (List Leg)) (k room : ℕ) (newest : List Told) → newest ≡ told_level legs k → room + length (told_walks legs k) ≡ walk_limit → room < length (flat_map (told_extended legs) newest) → walk_limit < length (told_walks legs (k + 1))
+grown_wide legs k room newest e r l =
+    let a : k + 1 ≡ suc k = omega arith in
+    let b : length (flat_map (told_extended legs) newest) ≡ length (told_level legs (suc k)) = ap (λ x. length (flat_map (told_extended legs) x)) e ∙ ap length (sym (level-suc legs k)) in
+    let c = length_walks legs k in
+    subst (λ n. walk_limit < length (told_walks legs n)) (sym a) (omega arith)
+
+pub grown_room : (legs : List (List Leg)) (k room n : ℕ) (newest next : List Told) → newest ≡ told_level legs k → next ≡ flat_map (told_extended legs) newest → room + length (told_walks legs k) ≡ walk_limit → n ≡ length next → n ≤ room → (room - n) + length (told_walks legs (k + 1)) ≡ walk_limit
+grown_room legs k room n newest next e f r s l =
+    let a : k + 1 ≡ suc k = omega arith in
+    let b : length next ≡ length (told_level legs (suc k)) = ap length (f ∙ ap (flat_map (told_extended legs)) e ∙ sym (level-suc legs k)) in
+    let c = length_walks legs k in
+    subst (λ m. (room - n) + length (told_walks legs m) ≡ walk_limit) (sym a) (omega arith)
+
+pub grown_level : (legs : List (List Leg)) (k : ℕ) (newest next : List Told) → newest ≡ told_level legs k → next ≡ flat_map (told_extended legs) newest → next ≡ told_level legs (k + 1)
+grown_level legs k newest next e f =
+    let a : suc k ≡ k + 1 = omega arith in
+    f ∙ ap (flat_map (told_extended legs)) e ∙ sym (level-suc legs k) ∙ ap (told_level legs) a
+
+pub grown_sorted : (legs : List (List Leg)) (k : ℕ) (sorted : List (List WalkRow)) (rows last : List WalkRow) → map (map told_by_row) sorted ≡ told_levels legs k → map told_by_row rows ≡ told_level legs k → map told_by_row last ≡ in_order told_before (map told_by_row rows) → map (map told_by_row) (sorted ++ last ∷ []) ≡ told_levels legs (k + 1)
+grown_sorted legs k sorted rows last s e f =
+    let a : suc k ≡ k + 1 = omega arith in
+    map-append (map told_by_row) sorted (last ∷ [])
+    ∙ ap (λ x. x ++ map told_by_row last ∷ []) s
+    ∙ ap (λ x. told_levels legs k ++ x ∷ []) (f ∙ ap (in_order told_before) e)
+    ∙ sym (levels-suc legs k)
+    ∙ ap (told_levels legs) a
+
+-- the walks of the sorted levels but the first
+walks_of : (legs : List (List Leg)) (k : ℕ) → flat_map (λ x. x) (drop 1 (told_levels legs (suc k))) ≡ told_walks legs k
+walks_of legs zero = ap (λ l. flat_map (λ x. x) (drop 1 l)) (levels-suc legs 0 ∙ ap (λ l. l ++ in_order told_before (told_level legs 0) ∷ []) (levels-zero legs)) ∙ sym (walks-zero legs)
+walks_of legs (suc k) =
+    let n = length_levels legs (suc k) in
+    ap (λ l. flat_map (λ x. x) (drop 1 l)) (levels-suc legs (suc k))
+    ∙ ap (flat_map (λ x. x)) (drop-append-le 1 (told_levels legs (suc k)) (in_order told_before (told_level legs (suc k)) ∷ []) (omega arith))
+    ∙ flat_map-append (λ x. x) (drop 1 (told_levels legs (suc k))) (in_order told_before (told_level legs (suc k)) ∷ [])
+    ∙ ap (λ l. l ++ flat_map (λ x. x) (in_order told_before (told_level legs (suc k)) ∷ [])) (walks_of legs k)
+    ∙ ap (λ l. told_walks legs k ++ l) (append-nil (in_order told_before (told_level legs (suc k))))
+    ∙ sym (walks-suc legs k)
+
+map_flat : (xss : List (List WalkRow)) → map told_by_row (flat_map (λ x. x) xss) ≡ flat_map (λ x. x) (map (map told_by_row) xss)
+map_flat [] = refl
+map_flat (xs ∷ xss) = map-append told_by_row xs (flat_map (λ x. x) xss) ∙ ap (λ l. map told_by_row xs ++ l) (map_flat xss)
+
+pub table_is : (legs : List (List Leg)) (k : ℕ) (sorted : List (List WalkRow)) → 0 < k → map (map told_by_row) sorted ≡ told_levels legs k → map told_by_row (flat_map (λ x. x) (drop 1 sorted)) ≡ told_walks legs (k - 1)
+table_is legs zero sorted l s = absurd (omega arith)
+table_is legs (suc k) sorted l s =
+    let a : k ≡ suc k - 1 = omega arith in
+    map_flat (drop 1 sorted) ∙ ap (flat_map (λ x. x)) (dropped sorted ∙ ap (drop 1) s) ∙ walks_of legs k ∙ ap (told_walks legs) a
+  where
+    dropped : (xss : List (List WalkRow)) → map (map told_by_row) (drop 1 xss) ≡ drop 1 (map (map told_by_row) xss)
+    dropped [] = refl
+    dropped (xs ∷ xss) = refl
+
+-- what `Wide` stands for may be weakened
+pub wide_weaker : (P Q : Type 0) (e : WalkFault) → (P → Q) → IsWideWhere P e → IsWideWhere Q e
+wide_weaker P Q Wide f h = f h
+wide_weaker P Q (Loop cycle) f h = h
+wide_weaker P Q (Deep path) f h = h
+wide_weaker P Q OutOfMemory f h = h

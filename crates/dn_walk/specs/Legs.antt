@@ -1,0 +1,59 @@
+-- The legs of nodes without their choices.
+use Rattle.std.specs.Prelude.{◌≡◌, ℕ, ◌+◌, ◌-◌, ◌<◌, ◌≤◌, Bool, nat_lt, List, [], ◌∷◌, ◌++◌, map, Option, Some, None}
+use Rattle.std.specs.List.{All, flat_map}
+use Rattle.std.specs.List.Sorted.{IsNonDecreasingBy}
+use Rattle.dn_net.specs.declared.node.Block.{Block}
+use Rattle.dn_net.specs.declared.node.Dest.{Dest}
+use Rattle.dn_net.specs.declared.node.Entry.{Entry}
+use Rattle.dn_net.specs.declared.node.NodeDecl.{NodeDecl}
+use Rattle.dn_net.specs.Decode.{top}
+use Rattle.dn_net.specs.Walks.{Leg as NetLeg, in_order, cut_each, whole, legs}
+use Rattle.dn_interval.specs.declared.span.Span.{Span}
+use Rattle.dn_walk.specs.declared.leg.Leg.{Leg}
+
+abbrev pub told_leg : NetLeg → Leg
+told_leg l = record { lo = l.block.lo; hi = l.block.hi; node = l.to.node; addr = l.to.addr }
+
+-- the legs of a node, without the choices
+abbrev pub told_legs : NodeDecl → List Leg
+told_legs n = map told_leg (legs n)
+
+abbrev pub dest_leg : Block → Dest → Leg
+dest_leg b d = record { lo = b.lo; hi = b.hi; node = d.node; addr = d.addr }
+
+abbrev pub plain_entry_legs : List Entry → List Leg
+plain_entry_legs entries = flat_map (λ e. map (dest_leg e.block) e.dests) entries
+
+abbrev pub gap_leg : ℕ → Block → Leg
+gap_leg m b = record { lo = b.lo; hi = b.hi; node = m; addr = b.lo }
+
+abbrev pub plain_gap_legs : Option ℕ → List Block → List Leg
+plain_gap_legs None spans = []
+plain_gap_legs (Some m) spans = map (gap_leg m) spans
+
+abbrev pub leg_before : Leg → Leg → Bool
+leg_before l m = nat_lt l.lo m.lo
+
+-- the gaps between blocks
+abbrev pub gaps_by : List Block → List Entry → List Block
+gaps_by accepts entries = cut_each (map (λ e. e.block) entries ++ accepts) (whole ∷ [])
+
+-- the legs of a node of these parts, made without choices
+abbrev pub legs_by : List Block → List Entry → Option ℕ → List Leg
+legs_by accepts entries over = in_order leg_before (plain_entry_legs entries ++ plain_gap_legs over (gaps_by accepts entries))
+
+abbrev pub block_of : Span → Block
+block_of s = record { lo = s.lo; hi = s.hi }
+
+-- the leg leads on some addresses, to addresses of one of so many nodes
+pub record IsLegOf (count : ℕ) (l : Leg) : Type 0 where
+  pub order : l.lo ≤ l.hi
+  pub low : l.hi ≤ top
+  pub node : l.node < count
+  pub reach : l.addr + (l.hi - l.lo) ≤ top
+
+-- legs of a node of a net of so many nodes: neither their first nor their last addresses descend
+pub record AreLegs (count : ℕ) (ls : List Leg) : Type 0 where
+  pub firsts : IsNonDecreasingBy (λ (l : Leg). l.lo) ls
+  pub lasts : IsNonDecreasingBy (λ (l : Leg). l.hi) ls
+  pub each : All (IsLegOf count) ls

@@ -1,0 +1,78 @@
+-- The levels of walks as lists of what is told of each walk.
+use Rattle.std.specs.Prelude.{◌≡◌, ℕ, zero, suc, ◌+◌, ◌-◌, ◌<◌, ◌≤◌, Bool, true, false, if◌then◌else◌, ◌&&◌, ◌||◌, nat_lt, nat_le, ◌==◌, List, [], ◌∷◌, ◌++◌, map, filter, length, get_or, slice_index_or}
+use Rattle.std.specs.List.{flat_map}
+use Rattle.dn_net.specs.Decode.{top}
+use Rattle.dn_net.specs.Walks.{in_order, greater, lesser_of}
+use Rattle.dn_net.specs.WalkRules.{walk_limit}
+use Rattle.dn_walk.specs.declared.leg.Leg.{Leg}
+use Rattle.dn_walk.specs.declared.level.Levels.{Levels}
+use Rattle.dn_walk.specs.declared.walks.WalkRow.{WalkRow}
+use Rattle.dn_walk.specs.declared.fault.WalkFault.{WalkFault}
+use Rattle.dn_walk.specs.declared.fault.WalkFault.TheVariants.{Wide, Loop, Deep, OutOfMemory}
+use Rattle.dn_walk.specs.Rows.{Told, told_by_row}
+
+abbrev pub told_last : Told → ℕ
+told_last t = t.base + (t.hi - t.lo)
+
+abbrev pub told_meets : Told → Leg → Bool
+told_meets t l = nat_le t.base l.hi && nat_le l.lo (told_last t)
+
+abbrev pub told_onto : Told → Leg → Told
+told_onto t l = cut (greater t.base l.lo) (lesser_of (told_last t) l.hi)
+  where
+    cut : ℕ → ℕ → Told
+    cut lo hi = record { start = t.start; lo = t.lo + (lo - t.base); hi = t.lo + (hi - t.base); end = l.node; base = l.addr + (lo - l.lo); len = t.len + 1 }
+
+-- what goes on by one of the legs
+abbrev pub told_on : List Leg → Told → List Told
+told_on ls t = map (told_onto t) (filter (told_meets t) ls)
+
+abbrev pub told_extended : List (List Leg) → Told → List Told
+told_extended legs t = told_on (slice_index_or legs t.end []) t
+
+abbrev pub told_still : ℕ → Told
+told_still n = record { start = n; lo = 0; hi = top; end = n; base = 0; len = 0 }
+
+abbrev pub told_stills : ℕ → ℕ → List Told
+told_stills n zero = []
+told_stills n (suc k) = told_still n ∷ told_stills (suc n) k
+
+-- the walks of so many choices, in the order in which they are made from the legs of the nodes
+unfoldable pub told_level : List (List Leg) → ℕ → List Told
+told_level legs zero = told_stills 0 (length legs)
+told_level legs (suc k) = flat_map (told_extended legs) (told_level legs k)
+
+abbrev pub told_before : Told → Told → Bool
+told_before t u = nat_lt t.start u.start || ((t.start == u.start) && (nat_lt t.lo u.lo || ((t.lo == u.lo) && nat_lt t.hi u.hi)))
+
+-- the walks of 1 to so many choices
+unfoldable pub told_walks : List (List Leg) → ℕ → List Told
+told_walks legs zero = []
+told_walks legs (suc k) = told_walks legs k ++ in_order told_before (told_level legs (suc k))
+
+-- the levels from that of no choice on, each in order
+unfoldable pub told_levels : List (List Leg) → ℕ → List (List Told)
+told_levels legs zero = []
+told_levels legs (suc k) = told_levels legs k ++ in_order told_before (told_level legs k) ∷ []
+
+-- the levels that have been made, from the legs of the nodes
+pub record AreLevels (legs : List (List Leg)) (l : Levels) : Type 0 where
+  pub sorted : map (map told_by_row) l.sorted.items ≡ told_levels legs (length l.sorted.items)
+  pub newest : map told_by_row l.newest.items ≡ told_level legs (length l.sorted.items)
+  pub room : l.room + length (told_walks legs (length l.sorted.items)) ≡ walk_limit
+
+-- want of memory, or `Wide`, and then the fact holds
+abbrev pub IsWideWhere : Type 0 → WalkFault → Type 0
+IsWideWhere P Wide = P
+IsWideWhere P (Loop cycle) = ⊥
+IsWideWhere P (Deep path) = ⊥
+IsWideWhere P OutOfMemory = Unit {0}
+
+-- a row of a net of so many nodes, with at most so many choices
+pub record IsRowOf (count most : ℕ) (t : Told) : Type 0 where
+  pub order : t.lo ≤ t.hi
+  pub low : t.hi ≤ top
+  pub start : t.start < count
+  pub end : t.end < count
+  pub reach : t.base + (t.hi - t.lo) ≤ top
+  pub len : t.len ≤ most

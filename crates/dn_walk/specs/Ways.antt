@@ -1,0 +1,71 @@
+-- The least names that follow rows, and where rows lead.
+use Rattle.std.specs.Prelude.{◌≡◌, ℕ, ◌+◌, ◌-◌, Bool, true, false, if◌then◌else◌, ◌&&◌, ◌||◌, not, nat_le, ◌==◌, List, [], ◌∷◌, map, filter, slice_index_or, length, Option, Some, None, option_map}
+use Rattle.std.specs.List.{list_any}
+use Rattle.dn_net.specs.declared.node.Name.{Name}
+use Rattle.dn_net.specs.Names.{name_lt, sorted_names}
+use Rattle.dn_net.specs.WalkRules.{first_of, way_by}
+use Rattle.dn_net.specs.declared.node.NodeDecl.{NodeDecl}
+use Rattle.dn_net.specs.Decode.{steps}
+use Rattle.dn_walk.specs.declared.fault.WalkFault.{WalkFault}
+use Rattle.dn_walk.specs.declared.fault.WalkFault.TheVariants.{Wide, Loop, Deep, OutOfMemory}
+use Rattle.dn_walk.specs.declared.walks.WalkRow.{WalkRow}
+use Rattle.dn_walk.specs.declared.way.Goal.{Goal}
+use Rattle.dn_walk.specs.declared.way.Goal.TheVariants.{Anywhere, To}
+use Rattle.dn_walk.specs.Rows.{Told, told_by_row}
+
+-- the least of names
+abbrev pub least_of : List Name → Option Name
+least_of names = first_of (sorted_names names)
+
+abbrev pub lesser_name : Option Name → Name → Option Name
+lesser_name None x = Some x
+lesser_name (Some y) x = Some (if name_lt x y then x else y)
+
+-- each address of the walk comes to itself
+abbrev pub is_cyclic : Told → Bool
+is_cyclic t = (t.start == t.end) && (t.base == t.lo)
+
+abbrev pub start_name : Told → Name
+start_name t = record { node = t.start; addr = t.lo }
+
+-- the first names that follow the walks; where `back` is set, those that come back
+abbrev pub start_names : Bool → List Told → List Name
+start_names back rows = map start_name (filter (λ t. not back || is_cyclic t) rows)
+
+abbrev pub has_addr : Told → ℕ → Bool
+has_addr t a = nat_le t.lo a && nat_le a t.hi
+
+abbrev pub meets_goal : Goal → ℕ → Told → Bool
+meets_goal Anywhere a t = true
+meets_goal (To y) a t = (t.end == y.node) && ((t.base + (a - t.lo)) == y.addr)
+
+-- the walk leads from the name to the goal
+abbrev pub told_leads : Goal → Name → Told → Bool
+told_leads goal x t = (t.start == x.node) && (has_addr t x.addr && meets_goal goal x.addr t)
+
+abbrev pub level_leads : Goal → List Told → Name → Bool
+level_leads goal level x = list_any (told_leads goal x) level
+
+abbrev pub levels_lead : Goal → List (List Told) → ℕ → Name → Bool
+levels_lead goal levels k x = level_leads goal (slice_index_or levels k []) x
+
+-- the names of the cycle, or of the path, that these levels show: the newest has one more choice than there are sorted levels before it
+abbrev pub told_cycle : List NodeDecl → List (List Told) → List Told → Option (List Name)
+told_cycle net sorted newest = option_map (λ x. x ∷ way_by (steps net) (levels_lead (To x) sorted) (length sorted) x) (least_of (start_names true newest))
+
+abbrev pub told_path : List NodeDecl → List (List Told) → List Told → Option (List Name)
+told_path net sorted newest = option_map (λ x. x ∷ way_by (steps net) (levels_lead Anywhere sorted) (length sorted) x) (least_of (start_names false newest))
+
+-- want of memory, or the names of the cycle
+abbrev pub IsLoopBy : Option (List Name) → WalkFault → Type 0
+IsLoopBy cycle Wide = ⊥
+IsLoopBy cycle (Loop names) = cycle ≡ Some names
+IsLoopBy cycle (Deep names) = ⊥
+IsLoopBy cycle OutOfMemory = Unit {0}
+
+-- want of memory, or the names of the path
+abbrev pub IsDeepBy : Option (List Name) → WalkFault → Type 0
+IsDeepBy path Wide = ⊥
+IsDeepBy path (Loop names) = ⊥
+IsDeepBy path (Deep names) = path ≡ Some names
+IsDeepBy path OutOfMemory = Unit {0}

@@ -1,0 +1,183 @@
+//! The live walks of a net, level by level: those of each length from those of one choice fewer.
+
+ghost use Rattle.std.specs.Prelude.{◌≡◌, ℕ, ◌+◌, ◌-◌, ◌≤◌, ◌<◌, ◌++◌, ◌∷◌, [], map, filter, length, vec_len, IfOk, IfErr, OnOk, IsTrue, List};
+ghost use Rattle.std.specs.List.{All, flat_map};
+ghost use Rattle.std.specs.List.Sorted.{IsNonDecreasingBy};
+ghost use Rattle.dn_net.specs.Walks.{in_order};
+ghost use Rattle.dn_net.specs.WalkRules.{walk_limit};
+ghost use Rattle.dn_walk.specs.declared.leg.Leg.{Leg};
+ghost use Rattle.dn_walk.specs.Rows.{told_by_row};
+ghost use Rattle.dn_walk.specs.Legs.{AreLegs, IsLegOf};
+ghost use Rattle.dn_walk.specs.Levels.{told_last, told_meets, told_onto, told_extended, told_stills, told_before, told_walks, AreLevels, IsRowOf, IsWideWhere};
+
+use crate::fault::WalkFault;
+use crate::leg::Leg;
+use crate::walks::WalkRow;
+use dn_base::items::Items;
+use dn_interval::{Span, TOP};
+use std::alloc::{AllocError, Global};
+
+/// The most live walks.
+pub(crate) const WALK_LIMIT: usize = 1_048_576;
+
+/// The levels of walks that have been made, from that of the walks of no choice on.
+#[derive(Drop)]
+pub(crate) struct Levels {
+    /// Each level but the newest, by start and by the first and the last address of the span.
+    pub sorted: Vec<Items<WalkRow>>,
+    /// The newest level, in the order in which it was made.
+    pub newest: Vec<WalkRow>,
+    /// How many more walks there may be.
+    pub room: usize,
+}
+
+impl Levels {
+    /// The level of the walks of no choice.
+    pub(crate) fn new(alloc: Global, nodes: u16) -> Result<Levels, AllocError>
+        ensures begun { IfOk result (λ l. length l.sorted.items ≡ 0) }
+        ensures levels { IfOk result (λ l. (legs : List (List Leg)) → length legs ≡ nodes → AreLevels legs l) }
+    {
+        Ok(Levels {
+            sorted: Vec::new(alloc),
+            newest: still_rows(alloc, nodes)?,
+            room: WALK_LIMIT,
+        })
+    }
+
+    /// These levels and the next one. `Wide` exactly where there is no room for it.
+    pub(crate) fn grown(self, alloc: Global, legs: &[Items<Leg>]) -> Result<Levels, WalkFault>
+        requires legs { All (AreLegs (length legs.now)) legs.now }
+        requires levels { AreLevels legs.now self }
+        requires shallow { length self.sorted.items ≤ 64 }
+        ensures levels { IfOk result (λ l. AreLevels legs.now l) }
+        ensures one_more { IfOk result (λ l. length l.sorted.items ≡ length self.sorted.items + 1) }
+        ensures wide { IfErr result (IsWideWhere (walk_limit < length (told_walks legs.now (length self.sorted.items + 1)))) }
+    {
+        let Levels {
+            mut sorted,
+            newest,
+            room,
+        } = self;
+        let next = extended(alloc, legs, &newest, room)?;
+        sorted.push(in_order(newest)?)?;
+        let room = room - next.len();
+        Ok(Levels {
+            sorted,
+            newest: next,
+            room,
+        })
+    }
+}
+
+/// The walk of no choice from each node: each address comes to itself.
+fn still_rows(alloc: Global, nodes: u16) -> Result<Vec<WalkRow>, AllocError>
+    ensures { IfOk result (λ v. map told_by_row v.items ≡ told_stills 0 nodes) }
+{
+    let mut rows = Vec::with_capacity(alloc, usize::from(nodes))?;
+    for node in 0..nodes {
+        rows.push(WalkRow {
+            start: node,
+            span: Span { lo: 0, hi: TOP },
+            end: node,
+            base: 0,
+            len: 0,
+        })?;
+    }
+    Ok(rows)
+}
+
+/// The rows by start and by the first and the last address of the span. Where these are equal they stay
+/// in the order in which they come.
+fn in_order(mut rows: Vec<WalkRow>) -> Result<Items<WalkRow>, AllocError>
+    ensures { IfOk result (λ l. map told_by_row l ≡ in_order told_before (map told_by_row rows.items)) }
+{
+    rows.sort_by_key(|row| (row.start, row.span.lo, row.span.hi))?;
+    Ok(Items::from_vec(rows))
+}
+
+/// Each walk that goes on from a row by one more choice. `Wide` exactly where there are more than `room`.
+fn extended(
+    alloc: Global,
+    legs: &[Items<Leg>],
+    rows: &[WalkRow],
+    room: usize,
+) -> Result<Vec<WalkRow>, WalkFault>
+    requires legs { All (AreLegs (length legs.now)) legs.now }
+    requires rows { All (λ r. IsRowOf (length legs.now) 64 (told_by_row r)) rows.now }
+    ensures made { IfOk result (λ v. map told_by_row v.items ≡ flat_map (told_extended legs.now) (map told_by_row rows.now)) }
+    ensures fits { IfOk result (λ v. vec_len v ≤ room) }
+    ensures wide { IfErr result (IsWideWhere (room < length (flat_map (told_extended legs.now) (map told_by_row rows.now)))) }
+{
+    let mut out = Vec::new(alloc);
+    for row in rows {
+        let met = met_by(row, legs[usize::from(row.end)].as_slice());
+        if room - out.len() < met.len() {
+            return Err(WalkFault::Wide);
+        }
+        extend_row(row, met, &mut out)?;
+    }
+    Ok(out)
+}
+
+/// The legs of the end node that have an address at which the walk comes out.
+fn met_by<'a>(row: &WalkRow, legs: &'a [Leg]) -> &'a [Leg]
+    requires reach { row.now.base + (row.now.span.hi - row.now.span.lo) ≤ TOP }
+    requires firsts { IsNonDecreasingBy (λ (l : Leg). l.lo) legs.now }
+    requires lasts { IsNonDecreasingBy (λ (l : Leg). l.hi) legs.now }
+    requires order { All (λ (l : Leg). l.lo ≤ l.hi) legs.now }
+    ensures { result.now ≡ filter (told_meets (told_by_row row.now)) legs.now }
+{
+    let base = row.base;
+    let last = last_out(row);
+    let first = legs.partition_point(|leg| leg.hi < base);
+    let end = legs.partition_point(|leg| leg.lo <= last);
+    &legs[first..end]
+}
+
+/// Appends the walk with each of the legs as one more choice.
+fn extend_row(row: &WalkRow, met: &[Leg], out: &mut Vec<WalkRow>) -> Result<(), AllocError>
+    requires reach { row.now.base + (row.now.span.hi - row.now.span.lo) ≤ TOP }
+    requires short { row.now.len ≤ 64 }
+    requires meet { All (λ l. IsTrue (told_meets (told_by_row row.now) l)) met.now }
+    requires order { All (λ (l : Leg). l.lo ≤ l.hi) met.now }
+    requires low { All (λ (l : Leg). l.hi ≤ TOP) met.now }
+    requires far { All (λ (l : Leg). l.addr + (l.hi - l.lo) ≤ TOP) met.now }
+    ensures { OnOk result (map told_by_row out.new.items ≡ map told_by_row out.old.items ++ map (told_onto (told_by_row row.now)) met.now) }
+{
+    for leg in met {
+        out.push(onto(row, leg))?;
+    }
+    Ok(())
+}
+
+/// The last address at which the walk comes out.
+fn last_out(row: &WalkRow) -> u64
+    requires { row.now.base + (row.now.span.hi - row.now.span.lo) ≤ TOP }
+    ensures { result ≡ told_last (told_by_row row.now) }
+{
+    row.base + (row.span.hi - row.span.lo)
+}
+
+/// The walk with one more choice, for the addresses that go on by its leg.
+fn onto(row: &WalkRow, leg: &Leg) -> WalkRow
+    requires reach { row.now.base + (row.now.span.hi - row.now.span.lo) ≤ TOP }
+    requires short { row.now.len ≤ 64 }
+    requires meet { IsTrue (told_meets (told_by_row row.now) leg.now) }
+    requires order { leg.now.lo ≤ leg.now.hi }
+    requires low { leg.now.hi ≤ TOP }
+    requires far { leg.now.addr + (leg.now.hi - leg.now.lo) ≤ TOP }
+    ensures { told_by_row result ≡ told_onto (told_by_row row.now) leg.now }
+{
+    let lo = row.base.max(leg.lo);
+    let hi = last_out(row).min(leg.hi);
+    WalkRow {
+        start: row.start,
+        span: Span {
+            lo: row.span.lo + (lo - row.base),
+            hi: row.span.lo + (hi - row.base),
+        },
+        end: leg.node,
+        base: leg.addr + (lo - leg.lo),
+        len: row.len + 1,
+    }
+}
