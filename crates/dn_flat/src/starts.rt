@@ -1,0 +1,29 @@
+//! The walks of a length from a start, in the table of walks.
+
+ghost use Rattle.std.specs.Prelude.{◌≡◌, ◌<◌, ◌≤◌, ◌+◌, ◌&&◌, ◌||◌, Bool, true, false, nat_lt, nat_eq, length, IsTrue};
+ghost use Rattle.std.specs.List.{list_any, list_all};
+ghost use Rattle.std.specs.List.Sorted.{IsPartitionPoint};
+ghost use Rattle.dn_flat.specs.Found.{comes_first, AreSorted};
+ghost use Rattle.dn_walk.specs.declared.walks.WalkRow.{WalkRow};
+
+use dn_walk::walks::WalkRow;
+
+/// The walks of a length from a start, which stand together: two binary searches.
+pub(crate) fn walks_from(rows: &[WalkRow], len: u8, start: u16) -> &[WalkRow]
+    requires sorted { AreSorted rows.now }
+    requires room { start < 65535 }
+    ensures those { (P : WalkRow → Bool) → list_any P result.now ≡ list_any (λ (r : WalkRow). (nat_eq r.len len && nat_eq r.start start) && P r) rows.now }
+{
+    let first = place(rows, len, start);
+    let last = place(rows, len, start + 1);
+    &rows[first..last]
+}
+
+/// How many walks come before those of a length and a start.
+fn place(rows: &[WalkRow], len: u8, start: u16) -> usize
+    requires { AreSorted rows.now }
+    ensures within { result ≤ length rows.now }
+    ensures place { IsPartitionPoint (λ (r : WalkRow). comes_first len start r ≡ true) (λ (r : WalkRow). comes_first len start r ≡ false) rows.now result }
+{
+    rows.partition_point(|row| row.len < len || (row.len == len && row.start < start))
+}
