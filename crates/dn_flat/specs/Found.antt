@@ -1,6 +1,7 @@
 -- What rows of walks lead to, as tests; their order; and sets of accepted addresses.
 use Rattle.std.specs.Prelude.{◌≡◌, ℕ, ◌+◌, ◌-◌, ◌≤◌, ◌<◌, Bool, true, ◌&&◌, ◌||◌, nat_le, nat_lt, nat_eq, List, [], slice_index_or, length}
 use Rattle.std.specs.List.{list_any}
+use Rattle.std.specs.List.Sorted.{IsPartitionedBy}
 use Rattle.dn_interval.specs.declared.row.End.{End}
 use Rattle.dn_interval.specs.declared.span.Span.{Span}
 use Rattle.dn_interval.specs.declared.span.TheConstants.{TOP}
@@ -28,9 +29,9 @@ goes_by rows limit node a y = list_any (λ r. (nat_lt r.len limit && nat_eq r.st
 abbrev pub comes_first : ℕ → ℕ → WalkRow → Bool
 comes_first len start r = nat_lt r.len len || (nat_eq r.len len && nat_lt r.start start)
 
--- what comes before a walk comes before those behind it
+-- the walks come by length, and those of one length by start
 abbrev pub AreSorted : List WalkRow → Type 0
-AreSorted rows = (len start i j : ℕ) (d : WalkRow) → i ≤ j → j < length rows → comes_first len start (slice_index_or rows j d) ≡ true → comes_first len start (slice_index_or rows i d) ≡ true
+AreSorted rows = (len start : ℕ) → IsPartitionedBy (comes_first len start) rows
 
 -- the walk ends in one of so many nodes, at or below the top, and has 1 to 65 choices
 abbrev pub IsLed : ℕ → WalkRow → Type 0

@@ -76,7 +76,8 @@ fn push_accepted(segs: &mut Vec<Seg>, spans: &[Span], seg: Seg) -> Result<(), Ou
     ensures { OnOk result ((a : ℕ) (y : End) → segs_give segs.new.items a y ≡ (segs_give segs.old.items a y || (seg_gives seg a y && has spans.now y.base))) }
 {
     let last = last_out(seg);
-    for span in &spans[ended_before(spans, seg.base)..] {
+    let rest = &spans[ended_before(spans, seg.base)..];
+    for span in rest {
         if last < span.lo {
             return Ok(());
         }

@@ -1,9 +1,9 @@
 //! The walks of a length from a start, in the table of walks.
 
-ghost use Rattle.std.specs.Prelude.{◌≡◌, ◌<◌, ◌≤◌, ◌+◌, ◌&&◌, ◌||◌, Bool, true, false, nat_lt, nat_eq, length, IsTrue};
-ghost use Rattle.std.specs.List.{list_any, list_all};
+ghost use Rattle.std.specs.Prelude.{◌≡◌, ◌<◌, ◌≤◌, ◌+◌, ◌&&◌, ◌||◌, ℕ, Bool, true, false, nat_lt, nat_eq, length, All};
+ghost use Rattle.std.specs.List.{list_any};
 ghost use Rattle.std.specs.List.Sorted.{IsPartitionPoint};
-ghost use Rattle.dn_flat.specs.Found.{comes_first, AreSorted};
+ghost use Rattle.dn_flat.specs.Found.{comes_first, AreSorted, IsLed};
 ghost use Rattle.dn_walk.specs.declared.walks.WalkRow.{WalkRow};
 
 use dn_walk::walks::WalkRow;
@@ -12,6 +12,7 @@ use dn_walk::walks::WalkRow;
 pub(crate) fn walks_from(rows: &[WalkRow], len: u8, start: u16) -> &[WalkRow]
     requires sorted { AreSorted rows.now }
     requires room { start < 65535 }
+    ensures led { (count : ℕ) → All (IsLed count) rows.now → All (IsLed count) result.now }
     ensures those { (P : WalkRow → Bool) → list_any P result.now ≡ list_any (λ (r : WalkRow). (nat_eq r.len len && nat_eq r.start start) && P r) rows.now }
 {
     let first = place(rows, len, start);
