@@ -116,9 +116,10 @@ walk_fault net = if nat_lt walk_limit (length (live_walks net (counted_length (s
 abbrev pub IsChecked : List NodeDecl → Type 0
 IsChecked net = IsTrue (is_closed net) × (node_fault net ≡ None)
 
--- The list has exactly the live walks of 1 to k choices: the walks in it are live, and their spans have exactly the addresses that follow them, each to where the walk says.
+-- The list has exactly the live walks of 1 to k choices: the walks in it are live, and their spans end at or below the top and have exactly the addresses that follow them, each to where the walk says.
 pub record IsListed (net : List NodeDecl) (w : Walk) : Type 0 where
   pub live : IsLive net w.start w.choices
+  pub high : w.span.hi ≤ top
   pub follows : (a : ℕ) (y : Name) → a ≤ top → Follows net (record { node = w.start; addr = a }) w.choices y ↔ (IsTrue (within a w.span) × (moved_name (a - w.span.lo) w.to ≡ y))
 
 abbrev pub LiveWalksAreAll : Type 0

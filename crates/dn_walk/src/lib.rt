@@ -7,6 +7,7 @@
 #![tactic(auto)]
 
 pub mod fault;
+pub mod laws;
 pub mod walks;
 
 pub use dn_base::OutOfMemory;

@@ -1,0 +1,15 @@
+pub mod Apart
+pub mod Chains
+pub mod Choices
+pub mod Cycles
+pub mod Endless
+pub mod Firsts
+pub mod Gaps
+pub mod Holes
+pub mod Legs
+pub mod Levels
+pub mod Listed
+pub mod Members
+pub mod Order
+pub mod Pairs
+pub mod Ways
