@@ -27,13 +27,13 @@ part_any t p (x ∷ xs) (suc f) n a b c =
 -- what the tests of order say
 
 module _ (len start : ℕ) (r : WalkRow) where
-  first_means : comes_first len start r ≡ true → (r.len < len) ⊎ ((r.len ≡ len) × (r.start < start))
+  pub first_means : comes_first len start r ≡ true → (r.len < len) ⊎ ((r.len ≡ len) × (r.start < start))
   first_means e = elim (or_cases (nat_lt r.len len) (nat_eq r.len len && nat_lt r.start start) e) [
     | inl a ↦ inl (ltb-true r.len len a)
     | inr b ↦ let p = and_parts (nat_eq r.len len) (nat_lt r.start start) b in inr (eqb-true r.len len p.0, ltb-true r.start start p.1)
   ]
 
-  first_from : (r.len < len) ⊎ ((r.len ≡ len) × (r.start < start)) → comes_first len start r ≡ true
+  pub first_from : (r.len < len) ⊎ ((r.len ≡ len) × (r.start < start)) → comes_first len start r ≡ true
   first_from (inl l) = or_left (nat_lt r.len len) (nat_eq r.len len && nat_lt r.start start) (lt-ltb r.len len l)
   first_from (inr p) = or_right (nat_lt r.len len) (nat_eq r.len len && nat_lt r.start start) (and_from (nat_eq r.len len) (nat_lt r.start start) (eq-eqb r.len len p.0) (lt-ltb r.start start p.1))
 
