@@ -1,4 +1,5 @@
 pub mod Blocks
+pub mod Closed
 pub mod Cutting
 pub mod Lengths
 pub mod Resolving

@@ -108,10 +108,10 @@ module _ (net : List NodeDecl) (checked : IsChecked net) (rows : List WalkRow) (
   pub back : (stays node a y || goes_by rows 66 node a y) ≡ true → ReachesWithin (Step net) step_limit here (name_of_end y)
   back e = elim (or_cases (stays node a y) (goes_by rows 66 node a y) e) [
     | inl s ↦ (
-      let p = and_parts (nat_le a TOP) (nat_eq node y.node && nat_eq a y.base) s in
-      let q = and_parts (nat_eq node y.node) (nat_eq a y.base) p.1 in
-      (0, omega arith, name_same node y.node a y.base (eqb-true node y.node q.0) (eqb-true a y.base q.1))
-    )
+        let p = and_parts (nat_le a TOP) (nat_eq node y.node && nat_eq a y.base) s in
+        let q = and_parts (nat_eq node y.node) (nat_eq a y.base) p.1 in
+        (0, omega arith, name_same node y.node a y.base (eqb-true node y.node q.0) (eqb-true a y.base q.1))
+        )
     | inr g ↦ by_row (any_member (λ r. (nat_lt r.len 66 && nat_eq r.start node) && comes r a y) rows g)
   ]
     where
@@ -129,10 +129,13 @@ module _ (net : List NodeDecl) (checked : IsChecked net) (rows : List WalkRow) (
 
 -- the rows of segments that give what is reached and passes a test
 pub rows_of_reached : (net : List NodeDecl) → IsChecked net → (table : List WalkRow) → AreWalksOf net table → (node : ℕ) (ends : End → Bool) (segs : List Seg) (rows : List Row) → ((a : ℕ) (y : End) → segs_give segs a y ≡ ((stays node a y || goes_by table 66 node a y) && ends y)) → AreNormal (SegmentsGive segs) rows → AreNormal (λ a y. IsTrue (ends y) × ReachesWithin (Step net) step_limit (record { node = node; addr = a }) (name_of_end y)) rows
-rows_of_reached net checked table are node ends segs rows gives n = normal_like (SegmentsGive segs) (λ a y. IsTrue (ends y) × ReachesWithin (Step net) step_limit (record { node = node; addr = a }) (name_of_end y)) rows (λ a y t. ((λ m.
-    let p = and_parts (stays node a y || goes_by table 66 node a y) (ends y) (sym (gives a y) ∙ segs_from segs a y m) in
-    (p.1, back net checked table are node a y t p.0)
-), (λ h. segs_to segs a y (gives a y ∙ and_from (stays node a y || goes_by table 66 node a y) (ends y) (goes net checked table are node a y t h.1) h.0)))) n
+rows_of_reached net checked table are node ends segs rows gives n = normal_like (SegmentsGive segs) (λ a y. IsTrue (ends y) × ReachesWithin (Step net) step_limit (record { node = node; addr = a }) (name_of_end y)) rows (λ a y t. (
+  (λ m.
+      let p = and_parts (stays node a y || goes_by table 66 node a y) (ends y) (sym (gives a y) ∙ segs_from segs a y m) in
+      (p.1, back net checked table are node a y t p.0)
+      ),
+  (λ h. segs_to segs a y (gives a y ∙ and_from (stays node a y || goes_by table 66 node a y) (ends y) (goes net checked table are node a y t h.1) h.0)),
+)) n
 
 -- the nodes of the names
 

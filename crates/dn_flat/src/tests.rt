@@ -26,26 +26,31 @@ enum Part {
     Over(u16),
 }
 
-/// A bus with memory and a device, and an agent in front of it; beside it an agent behind a unit.
-const MACHINE: [&[Part]; 6] = [
-    &[Part::Accept(0, 0x3fff_ffff)],
-    &[Part::Accept(0, 0xfff)],
-    &[
-        Part::Map(0x1000_0000, 0x1000_0fff, 1, 0),
-        Part::Map(0x8000_0000, 0xbfff_ffff, 0, 0),
-    ],
-    &[Part::Over(2)],
-    &[Part::Map(0, 0xffff, 5, 0)],
-    &[],
+/// A bus with memory and a device, and an agent in front of it; beside it an agent behind a unit, the node 5.
+const MACHINE: [(u16, Part); 6] = [
+    (0, Part::Accept(0, 0x3fff_ffff)),
+    (1, Part::Accept(0, 0xfff)),
+    (2, Part::Map(0x1000_0000, 0x1000_0fff, 1, 0)),
+    (2, Part::Map(0x8000_0000, 0xbfff_ffff, 0, 0)),
+    (3, Part::Over(2)),
+    (4, Part::Map(0, 0xffff, 5, 0)),
 ];
 
 /// Blocks that overlap and touch, two ways to one name, neighbours that go on and neighbours that break.
-const SMALL: [&[Part]; 5] = [
-    &[Part::Accept(8, 20), Part::Accept(0, 3), Part::Accept(4, 10)],
-    &[Part::Map(0, 9, 0, 0), Part::Map(10, 19, 0, 10), Part::Map(20, 29, 0, 10)],
-    &[Part::Map(0, 9, 0, 2), Part::Accept(15, 16)],
-    &[Part::Fork(2, 11, 1, 2, 0), Part::Map(12, 15, 1, 16), Part::Accept(0, 0)],
-    &[Part::Map(5, 9, 3, 8), Part::Over(3)],
+const SMALL: [(u16, Part); 13] = [
+    (0, Part::Accept(8, 20)),
+    (0, Part::Accept(0, 3)),
+    (0, Part::Accept(4, 10)),
+    (1, Part::Map(0, 9, 0, 0)),
+    (1, Part::Map(10, 19, 0, 10)),
+    (1, Part::Map(20, 29, 0, 10)),
+    (2, Part::Map(0, 9, 0, 2)),
+    (2, Part::Accept(15, 16)),
+    (3, Part::Fork(2, 11, 1, 2, 0)),
+    (3, Part::Map(12, 15, 1, 16)),
+    (3, Part::Accept(0, 0)),
+    (4, Part::Map(5, 9, 3, 8)),
+    (4, Part::Over(3)),
 ];
 
 fn to_one(alloc: Global, node: u16, addr: u64) -> Result<Items<Dest>, AllocError> {
@@ -113,17 +118,28 @@ fn unit(alloc: Global, title: Text) -> Result<NodeDecl, AllocError>
     })
 }
 
-/// The net of these nodes, where one with no part is a unit.
-fn net_of(alloc: Global, nodes: &[&[Part]]) -> Result<Net, AllocError> {
+/// The parts of one node.
+fn parts_of(alloc: Global, rows: &[(u16, Part)], number: u16) -> Result<Vec<Part>, AllocError> {
+    let mut parts = Vec::new(alloc);
+    for (node, part) in rows {
+        if *node == number {
+            parts.push(*part)?;
+        }
+    }
+    Ok(parts)
+}
+
+/// The net of so many nodes of these parts, where one with no part is a unit.
+fn net_of(alloc: Global, count: u16, rows: &[(u16, Part)]) -> Result<Net, AllocError> {
     let mut net = Net::new(alloc);
-    for parts in nodes {
-        let number = net.nodes();
+    for number in 0..count {
         let text = format!(in alloc; "node{number}")?;
         let title = Text::of(alloc, text.as_str())?;
+        let parts = parts_of(alloc, rows, number)?;
         if parts.is_empty() {
             add_new(&mut net, unit(alloc, title)?)?;
         } else {
-            add_new(&mut net, node(alloc, title, parts)?)?;
+            add_new(&mut net, node(alloc, title, &parts)?)?;
         }
     }
     Ok(net)
@@ -296,7 +312,7 @@ fn resolved(alloc: Global, net: &Net, node: u16, addr: u64) -> Result<Vec<End>, 
 #[test]
 fn flattens_a_machine(rt: HostRuntime) -> Result<(), Fail> {
     let alloc = rt.alloc();
-    let net = net_of(alloc, &MACHINE)?;
+    let net = net_of(alloc, 6, &MACHINE)?;
     let cases = [
         (3, "268435456-268439551 1@0;2147483648-3221225471 0@0;", ""),
         (4, "", "0-65535 5@0;"),
@@ -318,13 +334,16 @@ fn flattens_a_machine(rt: HostRuntime) -> Result<(), Fail> {
 #[test]
 fn flattens_a_small_net(rt: HostRuntime) -> Result<(), Fail> {
     let alloc = rt.alloc();
-    let net = net_of(alloc, &SMALL)?;
+    let net = net_of(alloc, 5, &SMALL)?;
     let cases = [
         (0, "0-20 0@0;"),
         (1, "0-19 0@0;20-29 0@10;"),
         (2, "0-9 0@2;15-16 2@15;"),
         (3, "0-0 3@0;2-11 0@0 0@2;12-15 0@16;"),
-        (4, "0-0 3@0;2-4 0@0 0@2;5-8 0@6 0@8;9-9 0@16;10-11 0@8 0@10;12-15 0@16;"),
+        (
+            4,
+            "0-0 3@0;2-4 0@0 0@2;5-8 0@6 0@8;9-9 0@16;10-11 0@8 0@10;12-15 0@16;",
+        ),
     ];
     for (node, accepts) in cases {
         match view(alloc, &net, node)? {
@@ -333,7 +352,10 @@ fn flattens_a_small_net(rt: HostRuntime) -> Result<(), Fail> {
                 assert_eq!(rt; told(alloc, &flat.stops)?.as_str(), "");
                 for addr in 0..32 {
                     let names = resolved(alloc, &net, node, addr)?;
-                    assert_eq!(rt; names_at(alloc, &flat.accepts, addr)?.as_slice(), names.as_slice());
+                    assert_eq!(rt;
+                        names_at(alloc, &flat.accepts, addr)?.as_slice(),
+                        names.as_slice()
+                    );
                 }
             }
             None => assert!(rt; false, "no view"),
