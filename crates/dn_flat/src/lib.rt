@@ -3,6 +3,11 @@
 //! [`flat::flatten`] takes the walks that begin at the node, and what is accepted where they end.
 #![tactic(auto)]
 
+mod accepted;
 pub mod flat;
+mod found;
+mod starts;
+#[cfg(test)]
+mod tests;
 
 pub use dn_base::OutOfMemory;

@@ -41,7 +41,7 @@ names_at-append (s ∷ rest) more a = go (in_span s.span a) (names_at-append res
 
 -- segments
 
-segs_from : (segs : List Seg) (a : ℕ) (y : End) → Member y (names_at segs a) → segs_give segs a y ≡ true
+pub segs_from : (segs : List Seg) (a : ℕ) (y : End) → Member y (names_at segs a) → segs_give segs a y ≡ true
 segs_from [] a y m = absurd m
 segs_from (s ∷ rest) a y m = go (in_span s.span a) refl m (segs_from rest a y)
   where
@@ -50,7 +50,7 @@ segs_from (s ∷ rest) a y m = go (in_span s.span a) refl m (segs_from rest a y)
     go true e (inr n) g = or_right (seg_gives s a y) (segs_give rest a y) (g n)
     go false e n g = or_right (seg_gives s a y) (segs_give rest a y) (g n)
 
-segs_to : (segs : List Seg) (a : ℕ) (y : End) → segs_give segs a y ≡ true → Member y (names_at segs a)
+pub segs_to : (segs : List Seg) (a : ℕ) (y : End) → segs_give segs a y ≡ true → Member y (names_at segs a)
 segs_to [] a y e = absurd (false≢true e)
 segs_to (s ∷ rest) a y e = go (in_span s.span a) refl (or_cases (seg_gives s a y) (segs_give rest a y) e) (segs_to rest a y)
   where

@@ -108,7 +108,7 @@ row_end r h = go r.ends h
     go [] h = absurd h
     go (e ∷ es) h = (e, inl refl)
 
-member_moved : (k : ℕ) (es : List End) (e : End) → Member e es → Member (moved k e) (map (moved k) es)
+pub member_moved : (k : ℕ) (es : List End) (e : End) → Member e es → Member (moved k e) (map (moved k) es)
 member_moved k [] e m = absurd m
 member_moved k (d ∷ es) e (inl s) = inl (ap (moved k) s)
 member_moved k (d ∷ es) e (inr m) = inr (member_moved k es e m)
