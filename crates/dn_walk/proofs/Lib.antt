@@ -21,7 +21,6 @@ pub mod Pairs
 pub mod Starts
 pub mod Picks
 pub mod Sorting
-pub mod Starts
 pub mod Told
 pub mod Verdict
 pub mod Ways
