@@ -9,6 +9,5 @@ pub mod command;
 pub mod draft;
 pub mod expand;
 pub mod fault;
-pub mod scope;
 
 pub use dn_base::OutOfMemory;
