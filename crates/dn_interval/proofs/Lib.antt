@@ -2,6 +2,7 @@ pub mod Ends
 pub mod Following
 pub mod Joining
 pub mod Least
+pub mod Listing
 pub mod Membership
 pub mod Names
 pub mod Normal

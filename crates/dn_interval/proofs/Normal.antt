@@ -79,11 +79,11 @@ moved_above : (k : ℕ) (x : End) (ys : List End) → AllAbove x ys → AllAbove
 moved_above k x [] a = tt
 moved_above k x (y ∷ ys) a = (moved_lt k x y a.0, moved_above k x ys a.1)
 
-moved_ascending : (k : ℕ) (xs : List End) → Ascending xs → Ascending (map (moved k) xs)
+pub moved_ascending : (k : ℕ) (xs : List End) → Ascending xs → Ascending (map (moved k) xs)
 moved_ascending k [] a = tt
 moved_ascending k (x ∷ xs) a = (moved_above k x xs a.0, moved_ascending k xs a.1)
 
-moved_none : (xs : List End) → map (moved 0) xs ≡ xs
+pub moved_none : (xs : List End) → map (moved 0) xs ≡ xs
 moved_none [] = refl
 moved_none (x ∷ xs) =
     let e : x.base + 0 ≡ x.base = omega arith in
@@ -95,7 +95,7 @@ moved_none (x ∷ xs) =
     cons_same p q = cc
 
 -- below the first row nothing is given
-nothing_below : (from : ℕ) (rs : List Row) → Apart from rs → (a : ℕ) (y : End) → a < from → GivenBy rs a y → ⊥
+pub nothing_below : (from : ℕ) (rs : List Row) → Apart from rs → (a : ℕ) (y : End) → a < from → GivenBy rs a y → ⊥
 nothing_below from [] ap' a y l g = g
 nothing_below from (r ∷ rs) ap' a y l (inl g) = let p : from ≤ r.span.lo = ap'.0 in let q : r.span.lo ≤ a = lo_of r.span a g.0 in omega arith
 nothing_below from (r ∷ rs) ap' a y l (inr g) = nothing_below (suc r.span.hi) rs ap'.4 a y (let p : from ≤ r.span.lo = ap'.0 in let q : r.span.lo ≤ r.span.hi = r.span.ordered in omega arith) g
@@ -114,12 +114,12 @@ member_moved k (d ∷ es) e (inl s) = inl (ap (moved k) s)
 member_moved k (d ∷ es) e (inr m) = inr (member_moved k es e m)
 
 -- before the first row nothing is given
-nothing_before : (from : ℕ) (r : Row) (rs : List Row) → Apart from (r ∷ rs) → (a : ℕ) (y : End) → a < r.span.lo → GivenBy (r ∷ rs) a y → ⊥
+pub nothing_before : (from : ℕ) (r : Row) (rs : List Row) → Apart from (r ∷ rs) → (a : ℕ) (y : End) → a < r.span.lo → GivenBy (r ∷ rs) a y → ⊥
 nothing_before from r rs p a y l (inl g) = let q : r.span.lo ≤ a = lo_of r.span a g.0 in omega arith
 nothing_before from r rs p a y l (inr g) = nothing_below (suc r.span.hi) rs p.4 a y (let q : r.span.lo ≤ r.span.hi = r.span.ordered in omega arith) g
 
 -- within the first row, its moved ends and no more
-within_first : (from : ℕ) (r : Row) (rs : List Row) → Apart from (r ∷ rs) → (a : ℕ) (y : End) → r.span.lo ≤ a → a ≤ r.span.hi → GivenBy (r ∷ rs) a y ↔ Member y (map (moved (a - r.span.lo)) r.ends)
+pub within_first : (from : ℕ) (r : Row) (rs : List Row) → Apart from (r ∷ rs) → (a : ℕ) (y : End) → r.span.lo ≤ a → a ≤ r.span.hi → GivenBy (r ∷ rs) a y ↔ Member y (map (moved (a - r.span.lo)) r.ends)
 within_first from r rs p a y lo hi = (down, (λ m. inl (in_from r.span a lo hi, m)))
   where
     down : GivenBy (r ∷ rs) a y → Member y (map (moved (a - r.span.lo)) r.ends)
@@ -127,7 +127,7 @@ within_first from r rs p a y lo hi = (down, (λ m. inl (in_from r.span a lo hi, 
     down (inr g) = absurd (nothing_below (suc r.span.hi) rs p.4 a y (omega arith) g)
 
 -- behind the first row, what the others give
-behind_first : (r : Row) (rs : List Row) (a : ℕ) (y : End) → r.span.hi < a → GivenBy (r ∷ rs) a y → GivenBy rs a y
+pub behind_first : (r : Row) (rs : List Row) (a : ℕ) (y : End) → r.span.hi < a → GivenBy (r ∷ rs) a y → GivenBy rs a y
 behind_first r rs a y l (inl g) = let q : a ≤ r.span.hi = hi_of r.span a g.0 in absurd (omega arith)
 behind_first r rs a y l (inr g) = g
 

@@ -1,5 +1,6 @@
 //! Laws on span sets and normal rows, each on a function that does nothing.
 
+ghost use Rattle.dn_interval.specs.Listed.{NormalRowsAreListed};
 ghost use Rattle.dn_interval.specs.Rows.{OneListOfRows};
 ghost use Rattle.dn_interval.specs.Spans.{OneListOfSpans};
 
@@ -11,4 +12,9 @@ pub fn one_list_of_spans()
 /// Two lists of rows that are normal for one function are one list.
 pub fn one_list_of_rows()
     ensures { OneListOfRows }
+{}
+
+/// Rows that are normal for a function are the list that is made address by address.
+pub fn normal_rows_are_listed()
+    ensures { NormalRowsAreListed }
 {}

@@ -1,12 +1,13 @@
-//! The printed texts: names, and a net in its one normal form.
+//! The printed texts: names, rows, and a net in its one normal form.
 //!
-//! [`names::names_text`] prints names as replies show them, and [`net::net_text`] prints a net as
-//! one statement for each node, in the order of their numbers.
+//! [`names::names_text`] prints names as replies show them, [`rows::rows_text`] prints rows as lines, and
+//! [`net::net_text`] prints a net as one statement for each node, in the order of their numbers.
 #![tactic(auto)]
 
 pub mod names;
 pub mod net;
 mod parts;
+pub mod rows;
 #[cfg(test)]
 mod tests;
 

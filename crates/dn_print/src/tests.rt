@@ -5,11 +5,14 @@ ghost use Rattle.std.specs.List.{list_all};
 ghost use Rattle.std.specs.Option.{option_copied};
 ghost use Rattle.dn_net.specs.declared.node.NodeDecl.{NodeDecl};
 ghost use Rattle.dn_net.specs.Decode.{is_formed, is_closed, over_within, ports_within, refers_within};
+ghost use Rattle.dn_interval.specs.declared.row.End.{End};
 ghost use Rattle.dn_print.specs.Names.{names_exist};
+ghost use Rattle.dn_print.specs.Rows.{ends_exist};
 
-use crate::{names, net};
+use crate::{names, net, rows};
 use dn_base::items::Items;
 use dn_base::text::Text;
+use dn_interval::{End, Row, Rows, Seg, Span};
 use dn_net::net::Net;
 use dn_net::node::{Block, Dest, Entry, Name, NodeDecl, Role, TOP, Unit};
 use std::alloc::{AllocError, Global};
@@ -224,6 +227,23 @@ fn are_names_there(count: u16, list: &[Name]) -> bool
     list.iter().all(|name| name.node < count)
 }
 
+fn are_ends_there(count: u16, list: &[End]) -> bool
+    ensures { result ≡ list_all (λ (e : End). nat_lt e.node count) list.now }
+{
+    list.iter().all(|end| end.node < count)
+}
+
+fn are_rows_there(count: u16, list: &[Row]) -> bool
+    ensures { result ≡ ends_exist count list.now }
+{
+    for row in list {
+        if !are_ends_there(count, row.ends()) {
+            return false;
+        }
+    }
+    true
+}
+
 /// The text of a net of these nodes, where those to which they refer are among them.
 fn printed_net(alloc: Global, nodes: &[(&str, Shape<'_>)]) -> Result<Vec<u8>, AllocError> {
     let net = net_of(alloc, nodes)?;
@@ -240,6 +260,16 @@ fn printed_names(alloc: Global, net: &Net, list: &[Name]) -> Result<Vec<u8>, All
         names::names_text(alloc, net, list)
     } else {
         b"not there".to_vec(alloc)
+    }
+}
+
+/// The text of the rows of these segments, where their nodes are the net's.
+fn printed_rows(alloc: Global, net: &Net, segs: &[Seg]) -> Result<String, AllocError> {
+    let list = Rows::normal(alloc, segs)?;
+    if are_rows_there(net.nodes(), list.rows()) {
+        rows::rows_text(alloc, net, &list)
+    } else {
+        String::from_str(alloc, "not there")
     }
 }
 
@@ -295,5 +325,46 @@ fn prints_names_or_nothing(rt: HostRuntime) -> Result<(), Fail> {
         let printed = printed_names(alloc, &net, &list)?;
         assert_eq!(rt; printed.as_slice(), text.as_bytes(), "{text}");
     }
+    Ok(())
+}
+
+#[test]
+fn prints_a_line_for_each_row(rt: HostRuntime) -> Result<(), Fail> {
+    let alloc = rt.alloc();
+    let net = net_of(alloc, &[("dram", PLAIN), ("uart", PLAIN)])?;
+    let device = Span {
+        lo: 0x10000000,
+        hi: 0x10000fff,
+    };
+    let uart = Seg {
+        span: device,
+        node: 1,
+        base: 0,
+    };
+    let dram = Seg {
+        span: Span {
+            lo: 0x80000000,
+            hi: 0xbfffffff,
+        },
+        node: 0,
+        base: 0,
+    };
+    let both = Seg {
+        span: device,
+        node: 0,
+        base: 0x40000000,
+    };
+    let none = printed_rows(alloc, &net, &[])?;
+    assert_eq!(rt; none.as_str(), "");
+    let two = printed_rows(alloc, &net, &[dram, uart])?;
+    assert_eq!(rt;
+        two.as_str(),
+        "0x10000000-0x10000fff uart@0x0\n0x80000000-0xbfffffff dram@0x0\n"
+    );
+    let joined = printed_rows(alloc, &net, &[uart, both])?;
+    assert_eq!(rt;
+        joined.as_str(),
+        "0x10000000-0x10000fff dram@0x40000000, uart@0x0\n"
+    );
     Ok(())
 }
