@@ -1,11 +1,4 @@
-pub mod Closed
-pub mod Each
 pub mod Fronts
-pub mod Known
 pub mod NodeFaults
-pub mod Places
 pub mod Refusals
 pub mod Replies
-pub mod Roles
-pub mod Totals
-pub mod Walk
