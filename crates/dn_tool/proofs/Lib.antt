@@ -2,3 +2,4 @@ pub mod Fronts
 pub mod NodeFaults
 pub mod Refusals
 pub mod Replies
+pub mod Sets

@@ -91,8 +91,9 @@ fn set_of(alloc: Global, mut names: Vec<Name>) -> Result<Names, AllocError>
     ensures { IfOk result (λ set. set ≡ sorted_names names.items) }
 {
     names.sort_unstable_by_key(|name| (name.node, name.addr));
+    let sorted = names.as_slice();
     let mut set = Names::new(alloc);
-    for name in names.as_slice() {
+    for name in sorted {
         set.insert(*name)?;
     }
     Ok(set)
