@@ -1,3 +1,4 @@
+pub mod Exists
 pub mod Fronts
 pub mod NodeFaults
 pub mod Refusals

@@ -2,7 +2,7 @@
 use Rattle.std.proofs.Common.{◌≡◌, ◌∙◌, ap, sym, ℕ, ◌+◌, ◌<◌, List, ◌++◌, length, drop, get_or, add-one}
 use Rattle.std.proofs.Math.Seq.{drop-cons}
 use Rattle.dn_net.specs.declared.node.NodeDecl.{NodeDecl}
-use Rattle.dn_tool.specs.declared.command.Command.{Command}
+use Rattle.dn_module.specs.declared.command.Command.{Command}
 use Rattle.dn_tool.specs.Reply.{reply, replies}
 
 -- one more reply
