@@ -8,6 +8,8 @@
 
 pub mod compile;
 #[cfg(test)]
+mod expand_tests;
+#[cfg(test)]
 mod fault_tests;
 pub mod refusal;
 pub mod reply;
@@ -17,4 +19,6 @@ pub mod run;
 mod tests;
 #[cfg(test)]
 mod text_tests;
+#[cfg(test)]
+mod walk_tests;
 pub mod words;
