@@ -1,5 +1,5 @@
 -- The nodes of the names to which steps lead, and of those that a broken rule names, are there.
-use Rattle.std.proofs.Common.{◌≡◌, ◌≢◌, ◌∙◌, ap, sym, subst, refl, rules, arith, ℕ, zero, suc, ◌-◌, ◌<◌, ◌≤◌, if◌then◌else◌, Bool, true, false, ◌&&◌, nat_le, nat_lt, List, [], ◌∷◌, ◌++◌, map, filter, length, slice_get, Option, Some, None, option_map, IsTrue, lt-ltb}
+use Rattle.std.proofs.Common.{◌≡◌, ◌∙◌, ap, subst, refl, arith, ℕ, zero, suc, ◌-◌, ◌<◌, if◌then◌else◌, Bool, true, false, ◌&&◌, nat_le, nat_lt, List, [], ◌∷◌, ◌++◌, map, filter, length, slice_get, Option, Some, None, option_map, IsTrue, lt-ltb}
 use Rattle.std.proofs.lemmas.Option.{none-some, same_Some}
 use Rattle.std.specs.List.{list_all}
 use Rattle.dn_net.specs.declared.node.Name.{Name}
@@ -8,43 +8,31 @@ use Rattle.dn_net.specs.declared.node.Entry.{Entry}
 use Rattle.dn_net.specs.declared.node.NodeDecl.{NodeDecl}
 use Rattle.dn_net.specs.Decode.{top, within, moved, by_over, mapped, in_some_block, decoded, steps, step_limit, is_accepted, is_accepted_at, refers_within, over_within, ports_within, is_closed}
 use Rattle.dn_net.specs.Names.{name_lt, name_eq, with_name, sorted_names, each_step, passing, reached, resolved}
-use Rattle.dn_net.specs.WalkRules.{Broken, is_wide, has_loop, is_deep, or_else, first_below, least_in, least_below, least_name, goes_on, comes_to, comes_back, shortest_cycle, counted_length, first_of, behind, way_by, cycle_from, cycle_names, path_from, path_names, endless_fault, walk_limit, walk_fault}
+use Rattle.dn_net.specs.WalkRules.{Broken, is_wide, has_loop, is_deep, or_else, first_below, least_below, least_name, goes_on, comes_to, comes_back, shortest_cycle, counted_length, first_of, behind, way_by, cycle_from, cycle_names, path_from, path_names, endless_fault, walk_limit, walk_fault}
 use Rattle.dn_net.specs.Walks.{live_walks}
+use Rattle.dn_net.proofs.Least.{true_both}
+use Rattle.dn_net.proofs.Places.{both, list_all-at}
 use Rattle.dn_walk.specs.declared.fault.WalkFault.{WalkFault}
 use Rattle.dn_walk.specs.declared.fault.WalkFault.TheVariants.{Wide, Loop, Deep, OutOfMemory}
 use Rattle.dn_walk.specs.Rows.{IsBroken}
 use Rattle.dn_print.specs.Names.{names_exist}
 use Rattle.dn_tool.specs.Refused.{IsWalkFaultWithin}
 
-pub both : (a b : Bool) → IsTrue (a && b) → IsTrue a × IsTrue b
-both true true e = (refl, refl)
-both true false e = cc
-both false b e = cc
-
-pub and_both : (a b : Bool) → IsTrue a → IsTrue b → IsTrue (a && b)
-and_both true b e f = f
-and_both false b e f = cc
-
-at_place : {X : Type 0} (p : X → Bool) (xs : List X) (i : ℕ) (x : X) → IsTrue (list_all p xs) → slice_get xs i ≡ Some x → IsTrue (p x)
-at_place p [] i x all at = cc
-at_place p (y ∷ ys) zero x all at = let s : y ≡ x = cc in ap p (sym s) ∙ (both (p y) (list_all p ys) all).0
-at_place p (y ∷ ys) (suc i) x all at = at_place p ys i x (both (p y) (list_all p ys) all).1 at
-
 exist_append : (count : ℕ) (xs ys : List Name) → IsTrue (names_exist count xs) → IsTrue (names_exist count ys) → IsTrue (names_exist count (xs ++ ys))
 exist_append count [] ys h k = k
 exist_append count (x ∷ xs) ys h k =
     let b = both (nat_lt x.node count) (names_exist count xs) h in
-    and_both (nat_lt x.node count) (names_exist count (xs ++ ys)) b.0 (exist_append count xs ys b.1 k)
+    true_both _ _ b.0 (exist_append count xs ys b.1 k)
 
 moved_exist : (count offset : ℕ) (ds : List Dest) → IsTrue (list_all (λ d. nat_lt d.node count) ds) → IsTrue (names_exist count (map (moved offset) ds))
 moved_exist count offset [] h = refl
 moved_exist count offset (d ∷ ds) h =
     let b = both (nat_lt d.node count) (list_all (λ (d : Dest). nat_lt d.node count) ds) h in
-    and_both (nat_lt d.node count) (names_exist count (map (moved offset) ds)) b.0 (moved_exist count offset ds b.1)
+    true_both _ _ b.0 (moved_exist count offset ds b.1)
 
 over_exist : (count a : ℕ) (over : Option ℕ) → IsTrue (over_within count over) → IsTrue (names_exist count (by_over a over))
 over_exist count a None h = refl
-over_exist count a (Some m) h = and_both (nat_lt m count) true h refl
+over_exist count a (Some m) h = true_both _ _ h refl
 
 mapped_exist : (count a : ℕ) (over : Option ℕ) (es : List Entry) → IsTrue (list_all (λ e. list_all (λ d. nat_lt d.node count) e.dests) es) → IsTrue (over_within count over) → IsTrue (names_exist count (mapped a over es))
 mapped_exist count a over [] h k = over_exist count a over k
@@ -71,23 +59,23 @@ decoded_exist count a (Some n) closed = go (nat_le a top) (in_some_block a n.acc
 
 -- a step leads to nodes that are there
 pub steps_exist : (net : List NodeDecl) (x : Name) → IsTrue (is_closed net) → IsTrue (names_exist (length net) (steps net x))
-steps_exist net x closed = decoded_exist (length net) x.addr (slice_get net x.node) (λ n e. at_place (refers_within (length net)) net x.node n closed e)
+steps_exist net x closed = decoded_exist (length net) x.addr (slice_get net x.node) (λ n e. list_all-at (refers_within (length net)) net x.node n closed e)
 
 pub each_exist : (net : List NodeDecl) (xs : List Name) → IsTrue (is_closed net) → IsTrue (names_exist (length net) (each_step (steps net) xs))
 each_exist net [] closed = refl
 each_exist net (x ∷ xs) closed = exist_append (length net) (steps net x) (each_step (steps net) xs) (steps_exist net x closed) (each_exist net xs closed)
 
 with_exist : (count : ℕ) (x : Name) (ys : List Name) → IsTrue (nat_lt x.node count) → IsTrue (names_exist count ys) → IsTrue (names_exist count (with_name x ys))
-with_exist count x [] h k = and_both (nat_lt x.node count) true h refl
+with_exist count x [] h k = true_both _ _ h refl
 with_exist count x (y ∷ ys) h k = go (with_exist count x ys h b.1) (name_lt x y) (name_eq x y)
   where
     b : IsTrue (nat_lt y.node count) × IsTrue (names_exist count ys)
     b = both (nat_lt y.node count) (names_exist count ys) k
 
     go : IsTrue (names_exist count (with_name x ys)) → (p q : Bool) → IsTrue (names_exist count (if p then x ∷ (y ∷ ys) else (if q then y ∷ ys else y ∷ with_name x ys)))
-    go later true q = and_both (nat_lt x.node count) (names_exist count (y ∷ ys)) h k
+    go later true q = true_both _ _ h k
     go later false true = k
-    go later false false = and_both (nat_lt y.node count) (names_exist count (with_name x ys)) b.0 later
+    go later false false = true_both _ _ b.0 later
 
 pub sorted_exist : (count : ℕ) (xs : List Name) → IsTrue (names_exist count xs) → IsTrue (names_exist count (sorted_names xs))
 sorted_exist count [] h = refl
@@ -113,7 +101,7 @@ passing_exist net [] = refl
 passing_exist net (x ∷ xs) = go (passing_exist net xs) (is_accepted net x) refl
   where
     go : IsTrue (names_exist (length net) (passing (is_accepted net) xs)) → (b : Bool) → is_accepted net x ≡ b → IsTrue (names_exist (length net) (if b then x ∷ passing (is_accepted net) xs else passing (is_accepted net) xs))
-    go later true e = and_both (nat_lt x.node (length net)) (names_exist (length net) (passing (is_accepted net) xs)) (accepted_there net x e) later
+    go later true e = true_both _ _ (accepted_there net x e) later
     go later false e = later
 
 pub resolved_exist : (net : List NodeDecl) (x : Name) → IsTrue (names_exist (length net) (resolved net x))
@@ -128,19 +116,19 @@ filter_exist count p (x ∷ xs) h = go (filter_exist count p xs b.1) (p x) refl
     b = both (nat_lt x.node count) (names_exist count xs) h
 
     go : IsTrue (names_exist count (filter p xs)) → (q : Bool) → p x ≡ q → IsTrue (names_exist count (filter p (x ∷ xs)))
-    go later true e = rw e (and_both (nat_lt x.node count) (names_exist count (filter p xs)) b.0 later)
+    go later true e = rw e (true_both _ _ b.0 later)
     go later false e = rw e later
 
 behind_exist : (count : ℕ) (xs : List Name) (rest : Name → List Name) → IsTrue (names_exist count xs) → ((z : Name) → IsTrue (names_exist count (rest z))) → IsTrue (names_exist count (behind (first_of xs) rest))
 behind_exist count [] rest h later = refl
-behind_exist count (x ∷ xs) rest h later = and_both (nat_lt x.node count) (names_exist count (rest x)) (both (nat_lt x.node count) (names_exist count xs) h).0 (later x)
+behind_exist count (x ∷ xs) rest h later = true_both _ _ (both (nat_lt x.node count) (names_exist count xs) h).0 (later x)
 
 way_exist : (net : List NodeDecl) → IsTrue (is_closed net) → (leads : ℕ → Name → Bool) (k : ℕ) (x : Name) → IsTrue (names_exist (length net) (way_by (steps net) leads k x))
 way_exist net closed leads zero x = refl
 way_exist net closed leads (suc k) x =
     behind_exist (length net) (sorted_names (filter (leads k) (steps net x))) (λ z. way_by (steps net) leads k z)
-      (sorted_exist (length net) (filter (leads k) (steps net x)) (filter_exist (length net) (leads k) (steps net x) (steps_exist net x closed)))
-      (λ z. way_exist net closed leads k z)
+    (sorted_exist (length net) (filter (leads k) (steps net x)) (filter_exist (length net) (leads k) (steps net x) (steps_exist net x closed)))
+    (λ z. way_exist net closed leads k z)
 
 -- the least name is in a node below the bound
 least_there : (p : Name → Bool) (n : ℕ) (x : Name) → least_below p n ≡ Some x → x.node < n
@@ -163,7 +151,7 @@ cycle_exist net closed c = go (least_name net (comes_back net c)) refl
   where
     go : (o : Option Name) → least_name net (comes_back net c) ≡ o → IsTrue (names_exist (length net) (cycle_from net c o))
     go None at = refl
-    go (Some x) at = and_both (nat_lt x.node (length net)) (names_exist (length net) (way_by (steps net) (comes_to net x) c x)) (least_name_there net (comes_back net c) x at) (way_exist net closed (comes_to net x) c x)
+    go (Some x) at = true_both _ _ (least_name_there net (comes_back net c) x at) (way_exist net closed (comes_to net x) c x)
 
 -- the names that a broken rule carries are in nodes that are there
 abbrev pub BrokenExists : ℕ → Broken → Type 0
@@ -178,7 +166,7 @@ path_exist net closed k b e = go (least_name net (goes_on net k)) refl e
     go None at f = absurd (none-some b f)
     go (Some x) at f =
         let xs : List Name = x ∷ way_by (steps net) (goes_on net) k x in
-        subst (BrokenExists (length net)) (same_Some (is_deep xs) b f) (and_both (nat_lt x.node (length net)) (names_exist (length net) (way_by (steps net) (goes_on net) k x)) (least_name_there net (goes_on net k) x at) (way_exist net closed (goes_on net) k x))
+        subst (BrokenExists (length net)) (same_Some (is_deep xs) b f) (true_both _ _ (least_name_there net (goes_on net k) x at) (way_exist net closed (goes_on net) k x))
 
 endless_exist : (net : List NodeDecl) → IsTrue (is_closed net) → (o : Option ℕ) (b : Broken) → endless_fault net o ≡ Some b → BrokenExists (length net) b
 endless_exist net closed (Some c) b e = subst (BrokenExists (length net)) (same_Some (has_loop (cycle_names net c)) b e) (cycle_exist net closed c)

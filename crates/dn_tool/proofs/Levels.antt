@@ -1,8 +1,7 @@
 -- Names level by level: each level has the names one step on from those of the level before it.
-use Rattle.std.proofs.Common.{◌≡◌, ◌∙◌, ap, sym, subst, refl, arith, ℕ, zero, suc, ◌+◌, ◌-◌, ◌<◌, ◌≤◌, ◌⊎◌, ◌↔◌, ◌==◌, eqb-true, inl, inr, Bool, true, false, if◌then◌else◌, List, [], ◌∷◌, ◌++◌, length, append_assoc, append-nil, IsTrue, Result, Ok, Err, IfOk}
+use Rattle.std.proofs.Common.{◌≡◌, ◌∙◌, ap, sym, subst, refl, arith, ℕ, zero, suc, ◌+◌, ◌-◌, ◌<◌, ◌≤◌, ◌==◌, eqb-true, inl, inr, Bool, true, false, if◌then◌else◌, List, [], ◌∷◌, ◌++◌, length, append_assoc, append-nil, IsTrue, Result, Ok, Err, IfOk}
 use Rattle.dn_net.specs.declared.node.Name.{Name}
 use Rattle.dn_net.specs.declared.node.NodeDecl.{NodeDecl}
-use Rattle.dn_net.specs.Chain.{Member}
 use Rattle.dn_net.specs.Decode.{is_accepted, steps, step_limit}
 use Rattle.dn_net.specs.Names.{sorted_names, passing, each_step, reached, resolved}
 use Rattle.dn_net.proofs.Resolution.{member_left, member_right, member_split, names_in, passing_in, each_in}

@@ -1,5 +1,5 @@
 -- What a text comes to where it is refused.
-use Rattle.std.proofs.Common.{◌≡◌, ◌≢◌, ◌∙◌, ap, sym, refl, Option, Some, None, List, ℕ, Result, Ok, Err, IfOk, IfErr}
+use Rattle.std.proofs.Common.{◌≡◌, ◌≢◌, ◌∙◌, ap, sym, refl, Option, Some, None, List, ℕ, Result, Ok, Err, IfOk}
 use Rattle.dn_parse.specs.declared.reader.ParseFault.{ParseFault}
 use Rattle.dn_parse.specs.declared.reader.ParseFault.TheVariants.{Length, Token, Statement, Block, Nesting, OutOfMemory as NoMemory}
 use Rattle.dn_parse.specs.Tree.{Tree}

@@ -1,11 +1,10 @@
 -- The rows of a view: what a node's addresses resolve to, made address by address.
-use Rattle.std.proofs.Common.{◌≡◌, ◌∙◌, ap, sym, subst, refl, ℕ, ◌≤◌, ◌⊎◌, ◌↔◌, inl, inr, List, [], ◌∷◌, map, length, true, IsTrue}
+use Rattle.std.proofs.Common.{◌≡◌, ◌∙◌, ap, sym, refl, ℕ, ◌↔◌, inl, inr, List, [], ◌∷◌, map, length, true}
 use Rattle.std.proofs.lemmas.List.{length-map}
 use Rattle.dn_interval.specs.declared.row.End.{End}
 use Rattle.dn_interval.specs.declared.row.Row.{Row}
-use Rattle.dn_interval.specs.declared.span.TheConstants.{TOP}
-use Rattle.dn_interval.specs.Rows.{Member as EndIn, AllAbove, Ascending, GivenBy, AreNormal, end_lt}
-use Rattle.dn_interval.specs.Listed.{Seen, seen_by, listed_rows}
+use Rattle.dn_interval.specs.Rows.{Member as EndIn, AllAbove, Ascending, AreNormal}
+use Rattle.dn_interval.specs.Listed.{seen_by}
 use Rattle.dn_interval.proofs.Listing.{normal_are_listed}
 use Rattle.dn_net.specs.declared.node.Name.{Name}
 use Rattle.dn_net.specs.declared.node.NodeDecl.{NodeDecl}

@@ -1,5 +1,5 @@
 -- A refusal: the rule that a text breaks, and the line that says so, without its end.
-use Rattle.std.specs.Prelude.{ℕ, ◌<◌, List, ◌++◌, codes, length, IsTrue}
+use Rattle.std.specs.Prelude.{ℕ, ◌<◌, List, ◌++◌, codes, IsTrue}
 use Rattle.std.specs.Fmt.{decimal}
 use Rattle.dn_parse.specs.declared.reader.ParseFault.{ParseFault}
 use Rattle.dn_parse.specs.declared.reader.ParseFault.TheVariants.{Length as TooLong, Token as BadToken, Statement as BadStatement, Block as BadBlock, Nesting as TooDeep, OutOfMemory as NoMemory}

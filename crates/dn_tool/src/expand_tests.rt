@@ -42,8 +42,8 @@ fn prints_what_modules_and_loops_stand_for(rt: HostRuntime) -> Result<(), Fail> 
             "a[2] is;\nb[1] is;\n",
         ),
         (
-            "for i in 1..2; for j in i..2; a[i][j] is; end; end;",
-            "a[1][1] is;\na[1][2] is;\na[2][2] is;\n",
+            "for i in 1..2; for j in i..2; a[i].b[j] is; end; end;",
+            "a[1].b[1] is;\na[1].b[2] is;\na[2].b[2] is;\n",
         ),
         (
             "module m(node x, num k); y is over x; z is over x[k]; x[k] is; end; s is; use m(node s, 1) as p;",
@@ -62,7 +62,10 @@ fn prints_what_modules_and_loops_stand_for(rt: HostRuntime) -> Result<(), Fail> 
             "p.q.x is over p.t;\np.t is;\n",
         ),
         ("module m(node n); end; use m(node a) as b;", ""),
-        ("a[01] is; b[2*3] is over a[1];", "a[1] is;\nb[6] is over a[1];\n"),
+        (
+            "a[01] is; b[2*3] is over a[1];",
+            "a[1] is;\nb[6] is over a[1];\n",
+        ),
     ];
     for (text, output) in rows {
         let (status, sink) = answer(rt.alloc(), &["check"], text.as_bytes(), 4096, NONE)?;
@@ -74,7 +77,8 @@ fn prints_what_modules_and_loops_stand_for(rt: HostRuntime) -> Result<(), Fail> 
 
 #[test]
 fn names_nodes_of_modules_in_commands(rt: HostRuntime) -> Result<(), Fail> {
-    let commands = "begin; resolve c[1].core 0x21004; resolve c[0+1].core 0x20; resolve c[2].core 0; view c[1].core;";
+    let commands =
+        "begin; resolve c[1].core 0x21004; resolve c[0+1].core 0x20; resolve c[2].core 0; view c[1].core;";
     let output = "c[1].core@0x21004: c[1].local@0x4
 c[1].core@0x20: sys@0x20
 c[2].core@0x0: no such node
@@ -177,7 +181,10 @@ fn takes_faults_in_their_order(rt: HostRuntime) -> Result<(), Fail> {
             "module m(num n); end; use m((0-1), x) as a;",
             "line 1 Arguments",
         ),
-        ("module m(num n); end; use m((0-1)) as a[x];", "line 1 Value"),
+        (
+            "module m(num n); end; use m((0-1)) as a[x];",
+            "line 1 Value",
+        ),
         (
             "module m(node n); end; use m(node a[x]) as b[(0-1)];",
             "line 1 Unknown",
@@ -237,10 +244,7 @@ fn refuses_a_text_one_past_each_limit(rt: HostRuntime) -> Result<(), Fail> {
         // A turn has the line of its loop, and the steps are tried first at each statement.
         ("\nfor i in 0..65535; end;", "line 2 TooMany 65536"),
         ("for i in 0..65534; end;\na is;", "line 2 TooMany 65536"),
-        (
-            "a is;\nfor i in 1..65534;\nb is; end;",
-            "line 3 Duplicate",
-        ),
+        ("a is;\nfor i in 1..65534;\nb is; end;", "line 3 Duplicate"),
         (
             "for i in 0..65534; end;\nuse m(1) as a;",
             "line 2 TooMany 65536",
@@ -257,10 +261,7 @@ fn refuses_a_text_one_past_each_limit(rt: HostRuntime) -> Result<(), Fail> {
             "for i in 0..1024; n[i] is accept [0x0]; end;",
             "line 1 TooMany 1024",
         ),
-        (
-            "for i in 0..64;\nagent n[i] is; end;",
-            "line 2 TooMany 64",
-        ),
+        ("for i in 0..64;\nagent n[i] is; end;", "line 2 TooMany 64"),
         (
             "for i in 0..1022; n[i] is accept [0, 1, 2, 3, 4, 5, 6, 7, 8, 9, 10, 11, 12, 13, 14, 15]; end;
 a is accept [0, 1, 2, 3, 4, 5, 6, 7, 8, 9, 10, 11, 12, 13] map [14 to n[0], 15 to n[0]] over n[0];",
@@ -308,7 +309,10 @@ fn counts_modules(rt: HostRuntime) -> Result<(), Fail> {
     // The limit is tried before the name.
     text.push_str("module m0(); end;")?;
     let (status, sink) = answer(alloc, &["check"], text.as_bytes(), 4096, NONE)?;
-    assert_eq!(rt; sink.written(), b"refused: line 257 TooMany 256\n".as_slice());
+    assert_eq!(rt;
+        sink.written(),
+        b"refused: line 257 TooMany 256\n".as_slice()
+    );
     assert_eq!(rt; status, REFUSED);
     Ok(())
 }

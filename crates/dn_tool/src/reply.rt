@@ -19,11 +19,7 @@ use dn_print::{names, rows};
 use std::alloc::{AllocError, Global};
 
 /// The reply to a command: a line, and below that of `view` a line for each row. `Err` is want of memory.
-pub fn reply(
-    alloc: Global,
-    platform: &Platform,
-    command: &Command,
-) -> Result<String, AllocError>
+pub fn reply(alloc: Global, platform: &Platform, command: &Command) -> Result<String, AllocError>
     requires closed { IsTrue (is_closed platform.now.net) }
     requires checked { node_fault platform.now.net ≡ None }
     requires walkable { walk_fault platform.now.net ≡ None }
@@ -112,12 +108,7 @@ fn no_agent(alloc: Global, text: &str) -> Result<String, AllocError>
 }
 
 /// What a node sees, below a heading with this text and the number of rows.
-fn viewed(
-    alloc: Global,
-    platform: &Platform,
-    text: &str,
-    node: u16,
-) -> Result<String, AllocError>
+fn viewed(alloc: Global, platform: &Platform, text: &str, node: u16) -> Result<String, AllocError>
     requires closed { IsTrue (is_closed platform.now.net) }
     requires checked { node_fault platform.now.net ≡ None }
     requires walkable { walk_fault platform.now.net ≡ None }

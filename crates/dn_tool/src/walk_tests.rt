@@ -91,7 +91,8 @@ fn line_of_nodes(
 #[test]
 fn counts_the_steps_of_chains_and_rings(rt: HostRuntime) -> Result<(), Fail> {
     let alloc = rt.alloc();
-    let chain = "for i in 0..63; c[i] is over c[i+1]; end; c[64] is accept [0]; begin; resolve c[0] 0;";
+    let chain =
+        "for i in 0..63; c[i] is over c[i+1]; end; c[64] is accept [0]; begin; resolve c[0] 0;";
     let (status, sink) = answer(alloc, &["run"], chain.as_bytes(), 4096, NONE)?;
     assert_eq!(rt; sink.written(), b"c[0]@0x0: c[64]@0x0\n".as_slice());
     assert_eq!(rt; status, DONE);
@@ -143,15 +144,20 @@ fn shows_the_names_of_a_deep_path(rt: HostRuntime) -> Result<(), Fail> {
 fn counts_live_walks(rt: HostRuntime) -> Result<(), Fail> {
     // Two nodes a level, each sent to both of the next, have 2 * (2^19 - 38) walks where there are 17 such levels,
     // and 2 * (2^21 - 42) where there are 19. Each node over `e` has one walk more.
-    let ladder = "for i in 0..16; a[i] is map [0x0-0xff to a[i+1] and b[i+1]]; b[i] is map [0x0-0xff to a[i+1] and b[i+1]]; end;
+    let ladder =
+        "for i in 0..16; a[i] is map [0x0-0xff to a[i+1] and b[i+1]]; b[i] is map [0x0-0xff to a[i+1] and b[i+1]]; end;
 a[17] is accept [0x0-0xff]; b[17] is accept [0x0-0xff]; e is;
 for i in 1..";
-    let higher = "for i in 0..18; a[i] is map [0x0-0xff to a[i+1] and b[i+1]]; b[i] is map [0x0-0xff to a[i+1] and b[i+1]]; end;
+    let higher =
+        "for i in 0..18; a[i] is map [0x0-0xff to a[i+1] and b[i+1]]; b[i] is map [0x0-0xff to a[i+1] and b[i+1]]; end;
 a[19] is accept [0x0-0xff]; b[19] is accept [0x0-0xff];";
     let alloc = rt.alloc();
     let text = format!(in alloc; "{ladder}76; w[i] is over e; end; begin; resolve a[0] 7;")?;
     let (status, sink) = answer(alloc, &["run"], text.as_bytes(), 4096, NONE)?;
-    assert_eq!(rt; sink.written(), b"a[0]@0x7: a[17]@0x7, b[17]@0x7\n".as_slice());
+    assert_eq!(rt;
+        sink.written(),
+        b"a[0]@0x7: a[17]@0x7, b[17]@0x7\n".as_slice()
+    );
     assert_eq!(rt; status, DONE);
     let text = format!(in alloc; "{ladder}77; w[i] is over e; end;")?;
     for text in [text.as_str(), higher] {
@@ -162,7 +168,10 @@ a[19] is accept [0x0-0xff]; b[19] is accept [0x0-0xff];";
     // A shorter ring is met before the walks longer than it are counted.
     let text = format!(in alloc; "{higher} z is over z;")?;
     let (status, sink) = answer(alloc, &["run"], text.as_bytes(), 4096, NONE)?;
-    assert_eq!(rt; sink.written(), b"refused: Loop z@0x0 -> z@0x0\n".as_slice());
+    assert_eq!(rt;
+        sink.written(),
+        b"refused: Loop z@0x0 -> z@0x0\n".as_slice()
+    );
     assert_eq!(rt; status, REFUSED);
     Ok(())
 }

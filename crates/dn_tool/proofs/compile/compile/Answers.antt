@@ -1,4 +1,4 @@
-use Rattle.std.proofs.Common.{rules, ◌≡◌, subst, Ok, IfOk, IfErr}
+use Rattle.std.proofs.Common.{◌≡◌, subst, Ok, IfOk, IfErr}
 use Rattle.dn_parse.specs.Seen.{tree_seen}
 use Rattle.dn_module.specs.Told.{outcome_of}
 use Rattle.dn_tool.specs.Compiled.{Compiled, compiled, compiled_outcome, legal, IsRefusedBy}

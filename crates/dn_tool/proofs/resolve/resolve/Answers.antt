@@ -1,9 +1,9 @@
-use Rattle.std.proofs.Common.{rules, arith, ◌≡◌, ◌∙◌, ◌≤◌, ◌++◌, [], ◌∷◌, ap, sym, subst, suc, ◌-◌, length, List, IsTrue}
+use Rattle.std.proofs.Common.{rules, arith, ◌≡◌, ◌∙◌, ◌++◌, [], ◌∷◌, ap, sym, subst, suc, ◌-◌, length, List, IsTrue}
 use Rattle.dn_net.specs.declared.node.Name.{Name}
 use Rattle.dn_net.specs.Decode.{is_accepted, steps, step_limit}
 use Rattle.dn_net.specs.Names.{each_step, passing, sorted_names, resolved}
 use Rattle.dn_print.specs.Names.{names_exist}
-use Rattle.dn_tool.proofs.Exists.{and_both, resolved_exist}
+use Rattle.dn_tool.proofs.Exists.{resolved_exist}
 use Rattle.dn_tool.proofs.Levels.{is_empty, resolved_by, resolved_at_start, resolved_next, resolved_at_empty, resolved_at_end, set_resolves, resolved_within}
 use Rattle.dn_tool.proofs.resolve.resolve.Goals as goal
 use Rattle.dn_tool.proofs.resolve.resolve.Goals.{else-loop-test, then-loop-test+then-is_empty}

@@ -1,4 +1,4 @@
-use Rattle.std.proofs.Common.{rules, arith, ◌≡◌, ◌∙◌, ◌≤◌, sym, ap, take, get_or, length, List, ℕ}
+use Rattle.std.proofs.Common.{arith, ◌∙◌, ◌≤◌, sym, ap, get_or, length}
 use Rattle.std.proofs.lemmas.List.{take_all}
 use Rattle.dn_net.specs.declared.node.Name.{Name}
 use Rattle.dn_net.specs.Names.{sorted_names, with_name}
