@@ -130,6 +130,21 @@ fn refuses_by_the_first_fault_of_expansion(rt: HostRuntime) -> Result<(), Fail> 
             "module m();\nx is over y;\nend;\ny is; use m() as p;",
             "line 2 Unknown",
         ),
+    ];
+    for (text, line) in rows {
+        let wanted = format!(in rt.alloc(); "refused: {line}\n")?;
+        for word in WORDS {
+            let (status, sink) = answer(rt.alloc(), &[word], text.as_bytes(), 4096, NONE)?;
+            assert_eq!(rt; sink.written(), wanted.as_bytes(), "{text} by {word}");
+            assert_eq!(rt; status, REFUSED, "{text} by {word}");
+        }
+    }
+    Ok(())
+}
+
+#[test]
+fn refuses_other_arguments_and_values(rt: HostRuntime) -> Result<(), Fail> {
+    let rows = [
         ("module m(num x); end;\nuse m() as a;", "line 2 Arguments"),
         ("module m(node n); end; use m(1) as a;", "line 1 Arguments"),
         (
@@ -154,7 +169,7 @@ fn refuses_by_the_first_fault_of_expansion(rt: HostRuntime) -> Result<(), Fail> 
 }
 
 #[test]
-fn takes_faults_in_their_order(rt: HostRuntime) -> Result<(), Fail> {
+fn takes_faults_of_a_statement_in_their_order(rt: HostRuntime) -> Result<(), Fail> {
     let rows = [
         // In a statement from left to right, a sum once its members are known, and then its name.
         ("a is;\na is accept [x];", "line 2 Unknown"),
@@ -189,6 +204,21 @@ fn takes_faults_in_their_order(rt: HostRuntime) -> Result<(), Fail> {
             "module m(node n); end; use m(node a[x]) as b[(0-1)];",
             "line 1 Unknown",
         ),
+    ];
+    for (text, line) in rows {
+        let wanted = format!(in rt.alloc(); "refused: {line}\n")?;
+        for word in WORDS {
+            let (status, sink) = answer(rt.alloc(), &[word], text.as_bytes(), 4096, NONE)?;
+            assert_eq!(rt; sink.written(), wanted.as_bytes(), "{text} by {word}");
+            assert_eq!(rt; status, REFUSED, "{text} by {word}");
+        }
+    }
+    Ok(())
+}
+
+#[test]
+fn takes_faults_of_the_parts_of_a_text_in_their_order(rt: HostRuntime) -> Result<(), Fail> {
+    let rows = [
         // An earlier statement first, and what is behind a fault is not reached.
         ("a is accept [x];\nb is; b is;", "line 1 Unknown"),
         ("a is; a is;\nbegin; resolve a x;", "line 1 Duplicate"),

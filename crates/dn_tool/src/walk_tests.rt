@@ -140,33 +140,52 @@ fn shows_the_names_of_a_deep_path(rt: HostRuntime) -> Result<(), Fail> {
     Ok(())
 }
 
-#[test]
-fn counts_live_walks(rt: HostRuntime) -> Result<(), Fail> {
-    // Two nodes a level, each sent to both of the next, have 2 * (2^19 - 38) walks where there are 17 such levels,
-    // and 2 * (2^21 - 42) where there are 19. Each node over `e` has one walk more.
-    let ladder =
-        "for i in 0..16; a[i] is map [0x0-0xff to a[i+1] and b[i+1]]; b[i] is map [0x0-0xff to a[i+1] and b[i+1]]; end;
+/// Two nodes a level, each sent to both of the next: 2 * (2^19 - 38) walks, which is 1,048,500.
+const LADDER: &str = "for i in 0..16;
+a[i] is map [0x0-0xff to a[i+1] and b[i+1]]; b[i] is map [0x0-0xff to a[i+1] and b[i+1]];
+end;
 a[17] is accept [0x0-0xff]; b[17] is accept [0x0-0xff]; e is;
-for i in 1..";
-    let higher =
-        "for i in 0..18; a[i] is map [0x0-0xff to a[i+1] and b[i+1]]; b[i] is map [0x0-0xff to a[i+1] and b[i+1]]; end;
-a[19] is accept [0x0-0xff]; b[19] is accept [0x0-0xff];";
+";
+
+/// The same with 19 such levels: 2 * (2^21 - 42) walks.
+const HIGHER_LADDER: &str = "for i in 0..18;
+a[i] is map [0x0-0xff to a[i+1] and b[i+1]]; b[i] is map [0x0-0xff to a[i+1] and b[i+1]];
+end;
+a[19] is accept [0x0-0xff]; b[19] is accept [0x0-0xff];
+";
+
+#[test]
+fn takes_as_many_live_walks_as_the_limit(rt: HostRuntime) -> Result<(), Fail> {
     let alloc = rt.alloc();
-    let text = format!(in alloc; "{ladder}76; w[i] is over e; end; begin; resolve a[0] 7;")?;
+    // Each node over `e` has one walk.
+    let more = "for i in 1..76; w[i] is over e; end; begin; resolve a[0] 7;";
+    let text = format!(in alloc; "{LADDER}{more}")?;
     let (status, sink) = answer(alloc, &["run"], text.as_bytes(), 4096, NONE)?;
     assert_eq!(rt;
         sink.written(),
         b"a[0]@0x7: a[17]@0x7, b[17]@0x7\n".as_slice()
     );
     assert_eq!(rt; status, DONE);
-    let text = format!(in alloc; "{ladder}77; w[i] is over e; end;")?;
-    for text in [text.as_str(), higher] {
-        let (status, sink) = answer(alloc, &["run"], text.as_bytes(), 4096, NONE)?;
-        assert_eq!(rt; sink.written(), b"refused: Wide 1048576\n".as_slice());
-        assert_eq!(rt; status, REFUSED);
-    }
-    // A shorter ring is met before the walks longer than it are counted.
-    let text = format!(in alloc; "{higher} z is over z;")?;
+    Ok(())
+}
+
+#[test]
+fn refuses_more_live_walks(rt: HostRuntime) -> Result<(), Fail> {
+    let alloc = rt.alloc();
+    let text = format!(in alloc; "{LADDER}for i in 1..77; w[i] is over e; end;")?;
+    let (status, sink) = answer(alloc, &["run"], text.as_bytes(), 4096, NONE)?;
+    assert_eq!(rt; sink.written(), b"refused: Wide 1048576\n".as_slice());
+    assert_eq!(rt; status, REFUSED);
+    let (status, sink) = answer(alloc, &["run"], HIGHER_LADDER.as_bytes(), 4096, NONE)?;
+    assert_eq!(rt; sink.written(), b"refused: Wide 1048576\n".as_slice());
+    assert_eq!(rt; status, REFUSED);
+    Ok(())
+}
+
+#[test]
+fn meets_a_short_ring_before_it_counts_longer_walks(rt: HostRuntime) -> Result<(), Fail> {
+    let alloc = rt.alloc();
+    let text = format!(in alloc; "{HIGHER_LADDER}z is over z;")?;
     let (status, sink) = answer(alloc, &["run"], text.as_bytes(), 4096, NONE)?;
     assert_eq!(rt;
         sink.written(),
