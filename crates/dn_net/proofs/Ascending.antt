@@ -26,7 +26,7 @@ not_before x y never = by (name_lt x y) refl
     by true e = absurd (never (comes x y e))
     by false e = refl
 
-transitive : (x y z : Name) → name_lt x y ≡ true → name_lt y z ≡ true → name_lt x z ≡ true
+pub transitive : (x y z : Name) → name_lt x y ≡ true → name_lt y z ≡ true → name_lt x z ≡ true
 transitive x y z p q = before x z (by (comes x y p) (comes y z q))
   where
     by : (x.node < y.node) ⊎ ((x.node ≡ y.node) × (x.addr < y.addr)) → (y.node < z.node) ⊎ ((y.node ≡ z.node) × (y.addr < z.addr)) → (x.node < z.node) ⊎ ((x.node ≡ z.node) × (x.addr < z.addr))
@@ -35,7 +35,7 @@ transitive x y z p q = before x z (by (comes x y p) (comes y z q))
     by (inr a) (inl b) = let e = a.0 in inl (omega arith)
     by (inr a) (inr b) = let e = a.0 in let f = b.0 in let g = a.1 in let h = b.1 in inr (omega arith, omega arith)
 
-turned : (x y : Name) → name_lt x y ≡ true → name_lt y x ≡ false
+pub turned : (x y : Name) → name_lt x y ≡ true → name_lt y x ≡ false
 turned x y p = not_before y x (λ q. by (comes x y p) q)
   where
     by : (x.node < y.node) ⊎ ((x.node ≡ y.node) × (x.addr < y.addr)) → (y.node < x.node) ⊎ ((y.node ≡ x.node) × (y.addr < x.addr)) → ⊥
@@ -55,14 +55,14 @@ unequal y x p = by (name_eq x y) refl
     by true e = let h = both_true (x.node == y.node) (x.addr == y.addr) e in absurd (go (comes y x p) (eqb-true _ _ h.0) (eqb-true _ _ h.1))
     by false e = refl
 
-itself : (x : Name) → name_lt x x ≡ false
+pub itself : (x : Name) → name_lt x x ≡ false
 itself x = not_before x x by
   where
     by : (x.node < x.node) ⊎ ((x.node ≡ x.node) × (x.addr < x.addr)) → ⊥
     by (inl a) = omega arith
     by (inr a) = let g = a.1 in omega arith
 
-equal : (x : Name) → name_eq x x ≡ true
+pub equal : (x : Name) → name_eq x x ≡ true
 equal x = true_both _ _ (eq-eqb x.node x.node refl) (eq-eqb x.addr x.addr refl)
 
 -- of two names that differ, one comes before the other
@@ -141,7 +141,7 @@ with_ascending x (y ∷ ys) up = by (name_lt x y) (name_eq x y) refl refl (with_
     by false true e f ih = up
     by false false e f ih = true_both _ _ (before_with y x ys (total y x e (λ s. let g : true ≡ false = sym (equal y) ∙ subst (λ z. name_eq z y ≡ false) s f in cc)) parts.0) ih
 
-sorted_ascending : (xs : List Name) → is_ascending (sorted_names xs) ≡ true
+pub sorted_ascending : (xs : List Name) → is_ascending (sorted_names xs) ≡ true
 sorted_ascending [] = refl
 sorted_ascending (x ∷ xs) = with_ascending x (sorted_names xs) (sorted_ascending xs)
 

@@ -20,7 +20,7 @@ member_split [] b x m = inr m
 member_split (y ∷ a) b x (inl e) = inl (inl e)
 member_split (y ∷ a) b x (inr m) = elim (member_split a b x m) [ inl n ↦ inl (inr n) | inr n ↦ inr n ]
 
-name_same : (x y : Name) → name_eq x y ≡ true → x ≡ y
+pub name_same : (x y : Name) → name_eq x y ≡ true → x ≡ y
 name_same x y e = go ((x.node == y.node)) ((x.addr == y.addr)) refl refl e
   where
     go : (a b : Bool) → (x.node == y.node) ≡ a → (x.addr == y.addr) ≡ b → (a && b) ≡ true → x ≡ y
@@ -28,7 +28,7 @@ name_same x y e = go ((x.node == y.node)) ((x.addr == y.addr)) refl refl e
     go true false p q f = cc
     go false b p q f = cc
 
-with_in : (x : Name) (ys : List Name) (z : Name) → Member z (with_name x ys) → (x ≡ z) ⊎ Member z ys
+pub with_in : (x : Name) (ys : List Name) (z : Name) → Member z (with_name x ys) → (x ≡ z) ⊎ Member z ys
 with_in x [] z (inl e) = inl e
 with_in x [] z (inr m) = absurd m
 with_in x (y ∷ ys) z m = go (with_in x ys z) (name_lt x y) (name_eq x y) m
@@ -39,7 +39,7 @@ with_in x (y ∷ ys) z m = go (with_in x ys z) (name_lt x y) (name_eq x y) m
     go ih false false (inl e) = inr (inl e)
     go ih false false (inr m) = elim (ih m) [ inl e ↦ inl e | inr n ↦ inr (inr n) ]
 
-with_has : (x : Name) (ys : List Name) (z : Name) → (x ≡ z) ⊎ Member z ys → Member z (with_name x ys)
+pub with_has : (x : Name) (ys : List Name) (z : Name) → (x ≡ z) ⊎ Member z ys → Member z (with_name x ys)
 with_has x [] z m = m
 with_has x (y ∷ ys) z m = go (with_has x ys z) (name_lt x y) (name_eq x y) refl m
   where
@@ -51,13 +51,13 @@ with_has x (y ∷ ys) z m = go (with_has x ys z) (name_lt x y) (name_eq x y) ref
     go ih false false e (inr (inl f)) = inl f
     go ih false false e (inr (inr m)) = inr (ih (inr m))
 
-names_in : (xs : List Name) (z : Name) → Member z (sorted_names xs) ↔ Member z xs
+pub names_in : (xs : List Name) (z : Name) → Member z (sorted_names xs) ↔ Member z xs
 names_in [] z = ((λ m. m), (λ m. m))
 names_in (x ∷ xs) z =
     let ih = names_in xs z in
     ((λ m. elim (with_in x (sorted_names xs) z m) [ inl e ↦ inl e | inr n ↦ inr (ih.0 n) ]), (λ m. with_has x (sorted_names xs) z (elim m [ inl e ↦ inl e | inr n ↦ inr (ih.1 n) ])))
 
-passing_in : (p : Name → Bool) (xs : List Name) (z : Name) → Member z (passing p xs) ↔ (IsTrue (p z) × Member z xs)
+pub passing_in : (p : Name → Bool) (xs : List Name) (z : Name) → Member z (passing p xs) ↔ (IsTrue (p z) × Member z xs)
 passing_in p [] z = ((λ m. absurd m), (λ m. m.1))
 passing_in p (x ∷ xs) z = go (passing_in p xs z) (p x) refl
   where
@@ -65,7 +65,7 @@ passing_in p (x ∷ xs) z = go (passing_in p xs z) (p x) refl
     go ih true e = ((λ m. elim m [ inl s ↦ (subst (λ w. IsTrue (p w)) s e, inl s) | inr n ↦ (let r = ih.0 n in (r.0, inr r.1)) ]), (λ m. elim m.1 [ inl s ↦ inl s | inr n ↦ inr (ih.1 (m.0, n)) ]))
     go ih false e = ((λ m. let r = ih.0 m in (r.0, inr r.1)), (λ m. elim m.1 [ inl s ↦ (let f : p x ≡ true = subst (λ w. IsTrue (p w)) (sym s) m.0 in let g : false ≡ true = sym e ∙ f in cc) | inr n ↦ ih.1 (m.0, n) ]))
 
-each_in : (f : Name → List Name) (xs : List Name) (z : Name) → Member z (each_step f xs) ↔ ((x : Name) × Member x xs × Member z (f x))
+pub each_in : (f : Name → List Name) (xs : List Name) (z : Name) → Member z (each_step f xs) ↔ ((x : Name) × Member x xs × Member z (f x))
 each_in f [] z = ((λ m. absurd m), (λ m. absurd m.1))
 each_in f (x ∷ xs) z =
     let ih = each_in f xs z in

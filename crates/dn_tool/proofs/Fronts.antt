@@ -5,7 +5,7 @@ use Rattle.dn_base.specs.Outside.{Taken, AtEnd, AddedFront}
 use Rattle.dn_parse.specs.Whole.{text_reading, too_long}
 use Rattle.dn_tool.specs.Compiled.{Compiled, compiled, compiled_reading, refused, legal}
 use Rattle.dn_tool.specs.Refused.{text_refusal}
-use Rattle.dn_tool.specs.declared.command.Command.{Command}
+use Rattle.dn_module.specs.declared.command.Command.{Command}
 use Rattle.dn_tool.specs.declared.words.Task.{Task}
 use Rattle.dn_net.specs.declared.node.NodeDecl.{NodeDecl}
 use Rattle.dn_tool.specs.Answer.{Answer, answer, of_task, of_text, of_compiled, told, usage, task_of}

@@ -1,11 +1,8 @@
-pub mod Closed
-pub mod Each
+pub mod Exists
 pub mod Fronts
-pub mod Known
+pub mod Levels
 pub mod NodeFaults
-pub mod Places
 pub mod Refusals
 pub mod Replies
-pub mod Roles
-pub mod Totals
-pub mod Walk
+pub mod Sets
+pub mod Views

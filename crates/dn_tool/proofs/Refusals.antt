@@ -8,10 +8,16 @@ use Rattle.dn_parse.specs.Placing.{IsTextFault}
 use Rattle.dn_net.specs.declared.rules.NodeFault.{NodeFault}
 use Rattle.dn_net.specs.declared.rules.NodeFault.TheVariants.{OutOfMemory}
 use Rattle.dn_net.specs.Rules.{node_fault}
-use Rattle.dn_tool.specs.declared.compile.Platform.{Platform}
-use Rattle.dn_tool.specs.declared.refusal.Rule.TheVariants.{Form}
-use Rattle.dn_tool.specs.Refused.{Refused, fault_of, by_text, text_refusal, node_refusal}
-use Rattle.dn_tool.specs.Compiled.{compiled, compiled_reading, compiled_platform, by_node_rules, built, refused, legal}
+use Rattle.dn_net.specs.WalkRules.{Broken, walk_fault}
+use Rattle.dn_module.specs.declared.fault.ExpandFault.{ExpandFault}
+use Rattle.dn_module.specs.declared.fault.ExpandFault.TheVariants.{Duplicate, Unknown, Arguments, Value, TooMany, OutOfMemory as NoRoom}
+use Rattle.dn_module.specs.Expand.{Outcome, expanded}
+use Rattle.dn_module.specs.Told.{IsFault}
+use Rattle.dn_walk.specs.declared.fault.WalkFault.{WalkFault}
+use Rattle.dn_walk.specs.declared.fault.WalkFault.TheVariants.{Wide, Loop, Deep, OutOfMemory as NoSpace}
+use Rattle.dn_walk.specs.Rows.{IsBroken}
+use Rattle.dn_tool.specs.Refused.{Refused, fault_of, broken_of, text_refusal, expand_refusal, node_refusal, walk_refusal}
+use Rattle.dn_tool.specs.Compiled.{compiled, compiled_reading, compiled_outcome, by_node_rules, by_walk_rules, refused, legal}
 
 -- the fault that the reader answered, where it is none of memory
 told_fault : (e : ParseFault) (r : Result Tree TextFault) → e ≢ NoMemory → IsTextFault e r → r ≡ Err (fault_of e)
@@ -28,20 +34,43 @@ unfolding compiled
 text_refused text e (Ok x) read is broken = ap compiled_reading (told_fault e (text_reading text) broken read) ∙ ap refused (sym is)
 text_refused text e (Err y) read is broken = tt
 
--- nothing was built
-pub form_refused : {E : Type 0} (text : List ℕ) (tree : Tree) (r : Result Refused E) → text_reading text ≡ Ok tree → built tree ≡ None → IfOk r (λ x. x ≡ by_text Form) → IfOk r (λ x. compiled text ≡ refused x)
+-- the fault that the expansion answered, where it is none of memory
+told_expansion : (e : ExpandFault) (r : Result Outcome ExpandFault) → e ≢ NoRoom → IsFault e r → r ≡ Err e
+told_expansion (Duplicate line) r n h = h
+told_expansion (Unknown line) r n h = h
+told_expansion (Arguments line) r n h = h
+told_expansion (Value line) r n h = h
+told_expansion (TooMany line limit) r n h = h
+told_expansion NoRoom r n h = absurd (n refl)
+
+-- it expands to no net
+pub expansion_refused : {E : Type 0} (text : List ℕ) (tree : Tree) (e : ExpandFault) (r : Result Refused E) → text_reading text ≡ Ok tree → IsFault e (expanded tree) → IfOk r (λ x. x ≡ expand_refusal e) → IfOk r (λ _. e ≢ NoRoom) → IfOk r (λ x. compiled text ≡ refused x)
 unfolding compiled
-form_refused text tree (Ok x) read none is = ap compiled_reading read ∙ ap compiled_platform none ∙ ap refused (sym is)
-form_refused text tree (Err y) read none is = tt
+expansion_refused text tree e (Ok x) read fault is broken = ap compiled_reading read ∙ ap compiled_outcome (told_expansion e (expanded tree) broken fault) ∙ ap refused (sym is)
+expansion_refused text tree e (Err y) read fault is broken = tt
+
+-- what its net comes to is what it comes to
+pub outcome_compiled : (text : List ℕ) (tree : Tree) (o : Outcome) → text_reading text ≡ Ok tree → expanded tree ≡ Ok o → compiled_outcome (Ok o) ≡ compiled text
+unfolding compiled
+outcome_compiled text tree o read made = sym (ap compiled_reading read ∙ ap compiled_outcome made)
 
 -- a node breaks a rule
-pub nodes_refused : {E : Type 0} (text : List ℕ) (tree : Tree) (p : Platform) (e : NodeFault) (r : Result Refused E) → text_reading text ≡ Ok tree → built tree ≡ Some p → (e ≢ OutOfMemory → node_fault p.net ≡ Some e) → IfOk r (λ x. x ≡ node_refusal p.net e) → IfOk r (λ _. e ≢ OutOfMemory) → IfOk r (λ x. compiled text ≡ refused x)
-unfolding compiled
-nodes_refused text tree p e (Ok x) read made fault is broken =
-    ap compiled_reading read ∙ ap compiled_platform made ∙ ap (by_node_rules p) (fault broken) ∙ ap refused (sym is)
-nodes_refused text tree p e (Err y) read made fault is broken = tt
+pub nodes_refused : {E : Type 0} (o : Outcome) (e : NodeFault) (r : Result Refused E) → (e ≢ OutOfMemory → node_fault o.net ≡ Some e) → IfOk r (λ x. x ≡ node_refusal o.net e) → IfOk r (λ _. e ≢ OutOfMemory) → IfOk r (λ x. compiled_outcome (Ok o) ≡ refused x)
+nodes_refused o e (Ok x) fault is broken = ap (by_node_rules o) (fault broken) ∙ ap refused (sym is)
+nodes_refused o e (Err y) fault is broken = tt
 
--- no node breaks a rule
-pub is_legal : (text : List ℕ) (tree : Tree) (p : Platform) → text_reading text ≡ Ok tree → built tree ≡ Some p → node_fault p.net ≡ None → compiled text ≡ legal p.net p.commands
-unfolding compiled
-is_legal text tree p read made none = ap compiled_reading read ∙ ap compiled_platform made ∙ ap (by_node_rules p) none
+-- the rule on walks that was answered, where it is none of memory
+told_broken : (e : WalkFault) (b : Option Broken) → e ≢ NoSpace → IsBroken b e → b ≡ Some (broken_of e)
+told_broken Wide b n h = h
+told_broken (Loop cycle) b n h = h
+told_broken (Deep path) b n h = h
+told_broken NoSpace b n h = absurd (n refl)
+
+-- a walk breaks a rule
+pub walks_refused : {E : Type 0} (o : Outcome) (e : WalkFault) (r : Result Refused E) → node_fault o.net ≡ None → IsBroken (walk_fault o.net) e → IfOk r (λ x. x ≡ walk_refusal o.net (broken_of e)) → IfOk r (λ _. e ≢ NoSpace) → IfOk r (λ x. compiled_outcome (Ok o) ≡ refused x)
+walks_refused o e (Ok x) checked fault is broken = ap (by_node_rules o) checked ∙ ap (by_walk_rules o) (told_broken e (walk_fault o.net) broken fault) ∙ ap refused (sym is)
+walks_refused o e (Err y) checked fault is broken = tt
+
+-- nothing breaks a rule
+pub is_legal : (o : Outcome) → node_fault o.net ≡ None → walk_fault o.net ≡ None → compiled_outcome (Ok o) ≡ legal o.net o.commands
+is_legal o checked walkable = ap (by_node_rules o) checked ∙ ap (by_walk_rules o) walkable

@@ -3,7 +3,7 @@ use Rattle.std.specs.Prelude.{ℕ, if◌then◌else◌, List, [], ◌∷◌, ◌
 use Rattle.std.specs.Str.{bytes_eq}
 use Rattle.dn_net.specs.declared.node.NodeDecl.{NodeDecl}
 use Rattle.dn_print.specs.Statement.{net_text}
-use Rattle.dn_tool.specs.declared.command.Command.{Command}
+use Rattle.dn_module.specs.declared.command.Command.{Command}
 use Rattle.dn_tool.specs.declared.words.Task.{Task}
 use Rattle.dn_tool.specs.declared.words.Task.TheVariants.{Run, Check}
 use Rattle.dn_tool.specs.Compiled.{Compiled, refused, legal, compiled}

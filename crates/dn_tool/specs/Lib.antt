@@ -1,8 +1,3 @@
-pub mod Evaluate
-pub mod Given
-pub mod Draft
-pub mod Build
-pub mod Commands
 pub mod Refused
 pub mod Compiled
 pub mod Reply

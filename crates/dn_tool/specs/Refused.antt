@@ -1,16 +1,22 @@
 -- A refusal: the rule that a text breaks, and the line that says so, without its end.
-use Rattle.std.specs.Prelude.{ℕ, ◌<◌, List, ◌++◌, codes}
+use Rattle.std.specs.Prelude.{ℕ, ◌<◌, List, ◌++◌, codes, IsTrue}
 use Rattle.std.specs.Fmt.{decimal}
 use Rattle.dn_parse.specs.declared.reader.ParseFault.{ParseFault}
 use Rattle.dn_parse.specs.declared.reader.ParseFault.TheVariants.{Length as TooLong, Token as BadToken, Statement as BadStatement, Block as BadBlock, Nesting as TooDeep, OutOfMemory as NoMemory}
 use Rattle.dn_parse.specs.Whole.{Fault, statement_fault, block_fault, nesting_fault, TextFault, too_long, bad_token, of_tokens}
+use Rattle.dn_net.specs.declared.node.Name.{Name}
 use Rattle.dn_net.specs.declared.node.NodeDecl.{NodeDecl}
 use Rattle.dn_net.specs.declared.rules.NodeFault.{NodeFault}
 use Rattle.dn_net.specs.declared.rules.NodeFault.TheVariants.{Range as BrokenRange, Overlap as BrokenOverlap, Repeat as BrokenRepeat, VectorSpace as BrokenSpace, OutOfMemory}
-use Rattle.dn_print.specs.Names.{name_text}
-use Rattle.dn_print.specs.Statement.{node_name}
+use Rattle.dn_net.specs.WalkRules.{Broken, is_wide, has_loop, is_deep}
+use Rattle.dn_module.specs.declared.fault.ExpandFault.{ExpandFault}
+use Rattle.dn_module.specs.declared.fault.ExpandFault.TheVariants.{Duplicate as MetTwice, Unknown as MetNever, Arguments as OtherArguments, Value as OutOfRange, TooMany as PastLimit, OutOfMemory as NoRoom}
+use Rattle.dn_walk.specs.declared.fault.WalkFault.{WalkFault}
+use Rattle.dn_walk.specs.declared.fault.WalkFault.TheVariants.{Wide as TooWide, Loop as Looping, Deep as Descending, OutOfMemory as NoSpace}
+use Rattle.dn_print.specs.Names.{name_text, names_exist}
+use Rattle.dn_print.specs.Statement.{node_name, joined}
 use Rattle.dn_tool.specs.declared.refusal.Rule.{Rule}
-use Rattle.dn_tool.specs.declared.refusal.Rule.TheVariants.{Length, Token, Statement, Block, Nesting, Form, Range, Overlap, Repeat, VectorSpace}
+use Rattle.dn_tool.specs.declared.refusal.Rule.TheVariants.{Length, Token, Statement, Block, Nesting, Duplicate, Unknown, Arguments, Value, TooMany, Range, Overlap, Repeat, VectorSpace, Wide, Loop, Deep}
 
 pub record Refused : Type 0 where
   pub rule : Rule
@@ -23,11 +29,18 @@ rule_name Token = codes "Token"
 rule_name Statement = codes "Statement"
 rule_name Block = codes "Block"
 rule_name Nesting = codes "Nesting"
-rule_name Form = codes "Form"
+rule_name Duplicate = codes "Duplicate"
+rule_name Unknown = codes "Unknown"
+rule_name Arguments = codes "Arguments"
+rule_name Value = codes "Value"
+rule_name TooMany = codes "TooMany"
 rule_name Range = codes "Range"
 rule_name Overlap = codes "Overlap"
 rule_name Repeat = codes "Repeat"
 rule_name VectorSpace = codes "VectorSpace"
+rule_name Wide = codes "Wide"
+rule_name Loop = codes "Loop"
+rule_name Deep = codes "Deep"
 
 -- a rule that is broken by the text as a whole
 abbrev pub by_text : Rule → Refused
@@ -37,9 +50,13 @@ by_text rule = record { rule = rule; text = codes "refused: " ++ rule_name rule 
 abbrev pub by_line : Rule → ℕ → Refused
 by_line rule line = record { rule = rule; text = codes "refused: line " ++ (decimal line ++ (codes " " ++ rule_name rule)) }
 
--- a rule that is broken by a node, or at a name of it
-abbrev pub by_node : Rule → List ℕ → Refused
-by_node rule text = record { rule = rule; text = codes "refused: " ++ (rule_name rule ++ (codes " " ++ text)) }
+-- a limit that is passed at a line
+abbrev pub by_limit : ℕ → ℕ → Refused
+by_limit line limit = record { rule = TooMany; text = codes "refused: line " ++ (decimal line ++ (codes " TooMany " ++ decimal limit)) }
+
+-- a rule that is broken by what is shown after it: a node, a name, the names of a chain, or a limit
+abbrev pub showing : Rule → List ℕ → Refused
+showing rule text = record { rule = rule; text = codes "refused: " ++ (rule_name rule ++ (codes " " ++ text)) }
 
 abbrev pub statement_refusal : Fault → Refused
 statement_refusal (statement_fault line) = by_line Statement line
@@ -61,13 +78,39 @@ fault_of (BadBlock line) = of_tokens (block_fault line)
 fault_of (TooDeep line) = of_tokens (nesting_fault line)
 fault_of NoMemory = too_long
 
--- the refusal of a net, by the names of its nodes; want of memory is no broken rule
+-- the refusal of a tree that expands to no net; want of memory is no broken rule, and never what a tree expands to
+abbrev pub expand_refusal : ExpandFault → Refused
+expand_refusal (MetTwice line) = by_line Duplicate line
+expand_refusal (MetNever line) = by_line Unknown line
+expand_refusal (OtherArguments line) = by_line Arguments line
+expand_refusal (OutOfRange line) = by_line Value line
+expand_refusal (PastLimit line limit) = by_limit line limit
+expand_refusal NoRoom = by_text Length
+
+-- the refusal of a net by a node rule, by the names of its nodes; want of memory is no broken rule
 abbrev pub node_refusal : List NodeDecl → NodeFault → Refused
-node_refusal net (BrokenRange node) = by_node Range (node_name net node)
-node_refusal net (BrokenOverlap node addr) = by_node Overlap (name_text net (record { node = node; addr = addr }))
-node_refusal net (BrokenRepeat node) = by_node Repeat (node_name net node)
-node_refusal net (BrokenSpace node) = by_node VectorSpace (node_name net node)
-node_refusal net OutOfMemory = by_text Form
+node_refusal net (BrokenRange node) = showing Range (node_name net node)
+node_refusal net (BrokenOverlap node addr) = showing Overlap (name_text net (record { node = node; addr = addr }))
+node_refusal net (BrokenRepeat node) = showing Repeat (node_name net node)
+node_refusal net (BrokenSpace node) = showing VectorSpace (node_name net node)
+node_refusal net OutOfMemory = by_text Length
+
+-- the names of a chain, from its first to its last
+abbrev pub chain_text : List NodeDecl → List Name → List ℕ
+chain_text net xs = joined (codes " -> ") (name_text net) xs
+
+-- the refusal of a net by a rule on walks
+abbrev pub walk_refusal : List NodeDecl → Broken → Refused
+walk_refusal net is_wide = showing Wide (codes "1048576")
+walk_refusal net (has_loop cycle) = showing Loop (chain_text net cycle)
+walk_refusal net (is_deep path) = showing Deep (chain_text net path)
+
+-- the broken rule that an answer says; want of memory says none
+abbrev pub broken_of : WalkFault → Broken
+broken_of TooWide = is_wide
+broken_of (Looping cycle) = has_loop cycle
+broken_of (Descending path) = is_deep path
+broken_of NoSpace = is_wide
 
 -- the node that a fault names is one of so many
 abbrev pub IsFaultWithin : ℕ → NodeFault → Type 0
@@ -76,3 +119,9 @@ IsFaultWithin count (BrokenOverlap node addr) = node < count
 IsFaultWithin count (BrokenRepeat node) = node < count
 IsFaultWithin count (BrokenSpace node) = node < count
 IsFaultWithin count OutOfMemory = Unit {0}
+
+-- each node that a fault names is one of so many
+abbrev pub IsWalkFaultWithin : ℕ → WalkFault → Type 0
+IsWalkFaultWithin count (Looping cycle) = IsTrue (names_exist count cycle)
+IsWalkFaultWithin count (Descending path) = IsTrue (names_exist count path)
+IsWalkFaultWithin count _ = Unit {0}

@@ -1,15 +1,18 @@
 //! The refusal of a text: the rule that it breaks, and the line that says so.
 
-ghost use Rattle.std.specs.Prelude.{◌≡◌, ◌≢◌, ◌<◌, length, IfOk};
-ghost use Rattle.dn_print.specs.Names.{name_text};
-ghost use Rattle.dn_tool.specs.Refused.{fault_of, rule_name, by_text, by_line, by_node, text_refusal, node_refusal, IsFaultWithin};
+ghost use Rattle.std.specs.Prelude.{◌≡◌, ◌≢◌, ◌<◌, ◌++◌, length, IfOk, OnOk, IsTrue};
+ghost use Rattle.std.specs.String.{string_bytes};
+ghost use Rattle.dn_print.specs.Names.{name_text, names_exist};
+ghost use Rattle.dn_tool.specs.Refused.{fault_of, broken_of, rule_name, by_text, by_line, by_limit, showing, text_refusal, expand_refusal, node_refusal, walk_refusal, chain_text, IsFaultWithin, IsWalkFaultWithin};
 
 use dn_base::text::Text;
+use dn_module::fault::ExpandFault;
 use dn_net::net::Net;
 use dn_net::node::Name;
 use dn_net::rules::NodeFault;
 use dn_parse::reader::ParseFault;
 use dn_print::names;
+use dn_walk::fault::WalkFault;
 use std::alloc::{AllocError, Global};
 use std::marker::Model;
 
@@ -26,9 +29,16 @@ pub enum Rule {
     Block,
     /// A parenthesis or a block is nested too deep.
     Nesting,
-    /// A statement, a name or an expression is not taken so far, a name is met twice or is no node's, or
-    /// there are too many nodes, agents or parts.
-    Form,
+    /// The name of a module, of one of its parameters or of a node was there before.
+    Duplicate,
+    /// A variable, a module, a kind or a node that is referred to does not exist.
+    Unknown,
+    /// The arguments of a use are not those that its module takes.
+    Arguments,
+    /// A number is not from 0 to 2^64 - 1.
+    Value,
+    /// There are more steps, modules, nodes, agents or parts than the limit.
+    TooMany,
     /// A block, or what it is sent to, is past the top, or ends before it begins.
     Range,
     /// An address lies in two map blocks, or in a map block and an accept block.
@@ -37,6 +47,12 @@ pub enum Rule {
     Repeat,
     /// A `vectors` node has a map, an `over` or more than 4,096 addresses.
     VectorSpace,
+    /// There are more than 1,048,576 live walks.
+    Wide,
+    /// An address comes back to itself within 64 steps.
+    Loop,
+    /// An address can be followed for 65 steps.
+    Deep,
 }
 
 impl Rule {
@@ -50,11 +66,18 @@ impl Rule {
             Rule::Statement => "Statement",
             Rule::Block => "Block",
             Rule::Nesting => "Nesting",
-            Rule::Form => "Form",
+            Rule::Duplicate => "Duplicate",
+            Rule::Unknown => "Unknown",
+            Rule::Arguments => "Arguments",
+            Rule::Value => "Value",
+            Rule::TooMany => "TooMany",
             Rule::Range => "Range",
             Rule::Overlap => "Overlap",
             Rule::Repeat => "Repeat",
             Rule::VectorSpace => "VectorSpace",
+            Rule::Wide => "Wide",
+            Rule::Loop => "Loop",
+            Rule::Deep => "Deep",
         }
     }
 }
@@ -94,12 +117,21 @@ impl Refusal {
         Ok(Refusal { rule, text })
     }
 
-    /// The refusal of a node with this full name, or at this name of it.
-    pub fn of_node(alloc: Global, rule: Rule, node: &str) -> Result<Refusal, AllocError>
-        ensures { IfOk result (λ r. r ≡ by_node rule node.now) }
+    /// The refusal at a line, counted from 1, that passes a limit.
+    pub fn past_limit(alloc: Global, line: u32, limit: u32) -> Result<Refusal, AllocError>
+        ensures { IfOk result (λ r. r ≡ by_limit line limit) }
+    {
+        let rule = Rule::TooMany;
+        let text = Text::from_string(format!(in alloc; "refused: line {line} TooMany {limit}")?);
+        Ok(Refusal { rule, text })
+    }
+
+    /// The refusal whose line shows this behind the rule: a node, a name, the names of a chain, or a limit.
+    pub fn showing(alloc: Global, rule: Rule, what: &str) -> Result<Refusal, AllocError>
+        ensures { IfOk result (λ r. r ≡ showing rule what.now) }
     {
         let name = rule.name();
-        let text = Text::from_string(format!(in alloc; "refused: {name} {node}")?);
+        let text = Text::from_string(format!(in alloc; "refused: {name} {what}")?);
         Ok(Refusal { rule, text })
     }
 
@@ -133,6 +165,21 @@ pub fn text_refusal(alloc: Global, fault: ParseFault) -> Result<Refusal, AllocEr
     }
 }
 
+/// The refusal of a tree that expands to no net. Want of memory is handed on.
+pub fn expand_refusal(alloc: Global, fault: ExpandFault) -> Result<Refusal, AllocError>
+    ensures refusal { IfOk result (λ r. r ≡ expand_refusal fault) }
+    ensures broken { IfOk result (λ _. fault ≢ ExpandFault.OutOfMemory) }
+{
+    match fault {
+        ExpandFault::Duplicate { line } => Refusal::at_line(alloc, Rule::Duplicate, line),
+        ExpandFault::Unknown { line } => Refusal::at_line(alloc, Rule::Unknown, line),
+        ExpandFault::Arguments { line } => Refusal::at_line(alloc, Rule::Arguments, line),
+        ExpandFault::Value { line } => Refusal::at_line(alloc, Rule::Value, line),
+        ExpandFault::TooMany { line, limit } => Refusal::past_limit(alloc, line, limit),
+        ExpandFault::OutOfMemory => Err(AllocError),
+    }
+}
+
 /// The refusal of a net by a node rule. Want of memory is handed on.
 pub fn node_refusal(alloc: Global, net: &Net, fault: NodeFault) -> Result<Refusal, AllocError>
     requires { IsFaultWithin (length net.now) fault }
@@ -140,11 +187,11 @@ pub fn node_refusal(alloc: Global, net: &Net, fault: NodeFault) -> Result<Refusa
     ensures broken { IfOk result (λ _. fault ≢ NodeFault.OutOfMemory) }
 {
     match fault {
-        NodeFault::Range { node } => Refusal::of_node(alloc, Rule::Range, net.text(node)),
+        NodeFault::Range { node } => Refusal::showing(alloc, Rule::Range, net.text(node)),
         NodeFault::Overlap { node, addr } => overlap_refusal(alloc, net, Name { node, addr }),
-        NodeFault::Repeat { node } => Refusal::of_node(alloc, Rule::Repeat, net.text(node)),
+        NodeFault::Repeat { node } => Refusal::showing(alloc, Rule::Repeat, net.text(node)),
         NodeFault::VectorSpace { node } => {
-            Refusal::of_node(alloc, Rule::VectorSpace, net.text(node))
+            Refusal::showing(alloc, Rule::VectorSpace, net.text(node))
         }
         NodeFault::OutOfMemory => Err(AllocError),
     }
@@ -153,9 +200,54 @@ pub fn node_refusal(alloc: Global, net: &Net, fault: NodeFault) -> Result<Refusa
 /// The refusal of an overlap, whose line has the name at which it is.
 fn overlap_refusal(alloc: Global, net: &Net, name: Name) -> Result<Refusal, AllocError>
     requires { name.node < length net.now }
-    ensures { IfOk result (λ r. r ≡ by_node Rule.Overlap (name_text net.now name)) }
+    ensures { IfOk result (λ r. r ≡ showing Rule.Overlap (name_text net.now name)) }
 {
     let mut text = String::new(alloc);
     names::push_name(&mut text, net, name)?;
-    Refusal::of_node(alloc, Rule::Overlap, text.as_str())
+    Refusal::showing(alloc, Rule::Overlap, text.as_str())
+}
+
+/// The refusal of a net by a rule on walks. Want of memory is handed on.
+pub fn walk_refusal(alloc: Global, net: &Net, fault: &WalkFault) -> Result<Refusal, AllocError>
+    requires { IsWalkFaultWithin (length net.now) fault.now }
+    ensures refusal { IfOk result (λ r. r ≡ walk_refusal net.now (broken_of fault.now)) }
+    ensures broken { IfOk result (λ _. fault.now ≢ WalkFault.OutOfMemory) }
+{
+    match fault {
+        WalkFault::Wide => Refusal::showing(alloc, Rule::Wide, "1048576"),
+        WalkFault::Loop { cycle } => chain_refusal(alloc, Rule::Loop, net, cycle.as_slice()),
+        WalkFault::Deep { path } => chain_refusal(alloc, Rule::Deep, net, path.as_slice()),
+        WalkFault::OutOfMemory => Err(AllocError),
+    }
+}
+
+/// The refusal whose line shows the names of a chain.
+fn chain_refusal(
+    alloc: Global,
+    rule: Rule,
+    net: &Net,
+    names: &[Name],
+) -> Result<Refusal, AllocError>
+    requires { IsTrue (names_exist (length net.now) names.now) }
+    ensures { IfOk result (λ r. r ≡ showing rule (chain_text net.now names.now)) }
+{
+    let mut text = String::new(alloc);
+    push_chain(&mut text, net, names)?;
+    Refusal::showing(alloc, rule, text.as_str())
+}
+
+/// Appends the names with ` -> ` between each two. For want of memory a part may have been appended.
+fn push_chain(out: &mut String, net: &Net, names: &[Name]) -> Result<(), AllocError>
+    requires { IsTrue (names_exist (length net.now) names.now) }
+    ensures { OnOk result (string_bytes out.new ≡ string_bytes out.old ++ chain_text net.now names.now) }
+{
+    let [first, rest @ ..] = names else {
+        return Ok(());
+    };
+    names::push_name(out, net, *first)?;
+    for name in rest {
+        out.push_str(" -> ")?;
+        names::push_name(out, net, *name)?;
+    }
+    Ok(())
 }

@@ -1,33 +1,36 @@
 //! The reply to each command, as it is printed.
 
-ghost use Rattle.std.specs.Prelude.{◌≡◌, None, ℕ, ◌<◌, length, IfOk, IsTrue};
-ghost use Rattle.std.specs.Option.{IfSome};
+ghost use Rattle.std.specs.Prelude.{◌≡◌, None, ◌<◌, length, slice_get, IfOk, IsTrue};
 ghost use Rattle.std.specs.String.{string_bytes};
 ghost use Rattle.dn_net.specs.Decode.{is_closed, over_within};
 ghost use Rattle.dn_net.specs.Rules.{node_fault};
-ghost use Rattle.dn_tool.specs.Commands.{names_within};
-ghost use Rattle.dn_print.specs.Names.{name_text};
-ghost use Rattle.dn_tool.specs.Reply.{reply, target_text, resolve_text, later_text};
+ghost use Rattle.dn_net.specs.WalkRules.{walk_fault};
+ghost use Rattle.dn_module.specs.Commands.{names_within};
+ghost use Rattle.dn_walk.specs.Rows.{AreWalksOf};
+ghost use Rattle.dn_tool.specs.Reply.{reply, target_text, resolve_text, is_agent_at, viewed_text, view_rows, no_agent_text, view_text, later_text};
 
-use crate::command::{Command, Target};
+use crate::compile::Platform;
 use crate::resolve;
-use crate::resolve::Found;
+use dn_flat::flat;
+use dn_module::command::{Command, Target};
 use dn_net::net::Net;
-use dn_net::node::Name;
-use dn_print::names;
+use dn_net::node::{Name, Role};
+use dn_print::{names, rows};
 use std::alloc::{AllocError, Global};
 
-/// The reply to a command, a line.
-pub fn reply(alloc: Global, net: &Net, command: &Command) -> Result<String, AllocError>
-    requires closed { IsTrue (is_closed net.now) }
-    requires checked { node_fault net.now ≡ None }
-    requires known { IsTrue (names_within (length net.now) command.now) }
-    ensures { IfOk result (λ s. string_bytes s ≡ reply net.now command.now) }
+/// The reply to a command: a line, and below that of `view` a line for each row. `Err` is want of memory.
+pub fn reply(alloc: Global, platform: &Platform, command: &Command) -> Result<String, AllocError>
+    requires closed { IsTrue (is_closed platform.now.net) }
+    requires checked { node_fault platform.now.net ≡ None }
+    requires walkable { walk_fault platform.now.net ≡ None }
+    requires walks { AreWalksOf platform.now.net platform.now.walks }
+    requires known { IsTrue (names_within (length platform.now.net) command.now) }
+    ensures { IfOk result (λ s. string_bytes s ≡ reply platform.now.net command.now) }
 {
     match command {
-        Command::Resolve(target, addr) => resolve_reply(alloc, net, target, *addr),
+        Command::Resolve(target, addr) => resolve_reply(alloc, &platform.net, target, *addr),
         Command::Lookup(..) => later(alloc, "lookup"),
-        Command::View(..) => later(alloc, "view"),
+        Command::View(target) => view_reply(alloc, platform, target),
         Command::Grant(..) => later(alloc, "grant"),
         Command::Route(..) => later(alloc, "route"),
         Command::Revoke(..) => later(alloc, "revoke"),
@@ -57,30 +60,65 @@ fn resolve_reply(alloc: Global, net: &Net, target: &Target, addr: u64) -> Result
     format!(in alloc; "{text}@0x{addr:x}: {found}\n")
 }
 
-/// What the address of a node comes to, where there is such a node.
+/// The names to which the address of a node resolves, where there is such a node.
 fn target_text(alloc: Global, net: &Net, node: Option<u16>, addr: u64) -> Result<String, AllocError>
     requires closed { IsTrue (is_closed net.now) }
     requires checked { node_fault net.now ≡ None }
     requires known { IsTrue (over_within (length net.now) node) }
     ensures { IfOk result (λ s. string_bytes s ≡ target_text net.now node addr) }
 {
-    match node {
-        None => String::from_str(alloc, "no such node"),
-        Some(node) => match resolve::follow(net, Name { node, addr }) {
-            Found::Accepted(name) => name_text(alloc, net, name),
-            Found::Nothing => String::from_str(alloc, "nothing"),
-            Found::Several => String::from_str(alloc, "several"),
-            Found::Deep => String::from_str(alloc, "deep"),
-        },
+    let Some(node) = node else {
+        return String::from_str(alloc, "no such node");
+    };
+    let found = resolve::resolve(alloc, net, Name { node, addr })?;
+    let mut text = String::new(alloc);
+    names::push_names(&mut text, net, found.list())?;
+    Ok(text)
+}
+
+/// The reply to `view`.
+fn view_reply(alloc: Global, platform: &Platform, target: &Target) -> Result<String, AllocError>
+    requires closed { IsTrue (is_closed platform.now.net) }
+    requires checked { node_fault platform.now.net ≡ None }
+    requires walkable { walk_fault platform.now.net ≡ None }
+    requires walks { AreWalksOf platform.now.net platform.now.walks }
+    requires known { IsTrue (over_within (length platform.now.net) target.now.node) }
+    ensures { IfOk result (λ s. string_bytes s ≡ view_text platform.now.net target.now) }
+{
+    let text = target.text.as_str();
+    match target.node {
+        Some(node) if is_agent(&platform.net, node) => viewed(alloc, platform, text, node),
+        _ => no_agent(alloc, text),
     }
 }
 
-/// A name: the node's full name, `@` and the address in hexadecimal.
-fn name_text(alloc: Global, net: &Net, name: Name) -> Result<String, AllocError>
-    requires { name.node < length net.now }
-    ensures { IfOk result (λ s. string_bytes s ≡ name_text net.now name) }
+/// Whether a node is an agent.
+fn is_agent(net: &Net, node: u16) -> bool
+    requires { node < length net.now }
+    ensures { result ≡ is_agent_at (slice_get net.now node) }
 {
-    let mut text = String::new(alloc);
-    names::push_name(&mut text, net, name)?;
-    Ok(text)
+    net.role(node) == Role::Agent
+}
+
+/// The reply to a view of what is no agent.
+fn no_agent(alloc: Global, text: &str) -> Result<String, AllocError>
+    ensures { IfOk result (λ s. string_bytes s ≡ no_agent_text text.now) }
+{
+    format!(in alloc; "view {text} refused: NoAgent\n")
+}
+
+/// What a node sees, below a heading with this text and the number of rows.
+fn viewed(alloc: Global, platform: &Platform, text: &str, node: u16) -> Result<String, AllocError>
+    requires closed { IsTrue (is_closed platform.now.net) }
+    requires checked { node_fault platform.now.net ≡ None }
+    requires walkable { walk_fault platform.now.net ≡ None }
+    requires walks { AreWalksOf platform.now.net platform.now.walks }
+    requires there { node < length platform.now.net }
+    ensures { IfOk result (λ s. string_bytes s ≡ viewed_text platform.now.net text.now (view_rows platform.now.net node)) }
+{
+    let flat = flat::flatten(alloc, &platform.net, &platform.walks, node)?;
+    let count = flat.accepts.rows().len();
+    let mut out = format!(in alloc; "view {text} rows {count}\n")?;
+    rows::push_rows(&mut out, &platform.net, &flat.accepts)?;
+    Ok(out)
 }

@@ -1,51 +1,78 @@
-//! What a name comes to, step by step.
+//! To what a name resolves, level by level.
 
-ghost use Rattle.std.specs.Prelude.{◌≡◌, None, ◌+◌, ◌<◌, ◌^◌, length, IsTrue};
-ghost use Rattle.dn_net.specs.Decode.{is_closed, moved};
+ghost use Rattle.std.specs.Prelude.{◌≡◌, ◌++◌, None, ◌+◌, ◌<◌, ◌^◌, length, map, nat_le, nat_lt, IfOk, OnOk, IsTrue};
+ghost use Rattle.std.specs.List.{list_all};
+ghost use Rattle.dn_net.specs.Decode.{is_accepted, is_closed, moved, steps, top};
+ghost use Rattle.dn_net.specs.Names.{each_step, passing, resolved, sorted_names};
 ghost use Rattle.dn_net.specs.Rules.{node_fault};
-ghost use Rattle.dn_tool.specs.Reply.{IsFound, IsFoundWithin};
+ghost use Rattle.dn_print.specs.Names.{names_exist};
 
+use dn_net::names::Names;
 use dn_net::net::Net;
 use dn_net::node::{Dest, Name};
 use dn_net::step::Step;
+use std::alloc::{AllocError, Global};
 
-/// The most steps that are followed.
-const STEP_LIMIT: u8 = 65;
+/// How many levels of names there are: the name itself, and those after each of 1 to 65 steps.
+const LEVELS: u8 = 66;
 
-/// What a name comes to.
-#[derive(Clone, Copy, Debug, PartialEq, Eq)]
-pub enum Found {
-    /// It resolves to this name.
-    Accepted(Name),
-    /// It resolves to nothing.
-    Nothing,
-    /// A name with two or more steps was met.
-    Several,
-    /// There was a 65th step.
-    Deep,
-}
-
-/// Follows a name to what it comes to.
-pub fn follow(net: &Net, name: Name) -> Found
+/// The accepted names that a name reaches in at most 65 steps. `Err` is want of memory.
+///
+/// A level has each of its names once, so names that many ways reach are followed once.
+pub fn resolve(alloc: Global, net: &Net, name: Name) -> Result<Names, AllocError>
     requires there { name.node < length net.now }
     requires closed { IsTrue (is_closed net.now) }
     requires checked { node_fault net.now ≡ None }
-    ensures found { IsFound net.now name result }
-    ensures there { IsFoundWithin (length net.now) result }
+    ensures resolved { IfOk result (λ names. names ≡ resolved net.now name) }
+    // Each of them is in a node that is there.
+    ensures there { IfOk result (λ names. IsTrue (names_exist (length net.now) names)) }
 {
-    let mut at = name;
-    'steps: for _ in 0..STEP_LIMIT {
-        match net.step(at) {
-            Step::Accepted => return Found::Accepted(at),
-            Step::Stop | Step::Nothing => return Found::Nothing,
-            Step::To(dests, offset) => match dests {
-                [] => return Found::Nothing,
-                [dest] => at = moved(*dest, offset),
-                _ => return Found::Several,
-            },
+    let mut accepted = Vec::new(alloc);
+    let mut level = Names::new(alloc);
+    level.insert(name)?;
+    for _ in 0..LEVELS {
+        if level.list().is_empty() {
+            break;
+        }
+        level = next_level(alloc, net, level.list(), &mut accepted)?;
+    }
+    set_of(alloc, accepted)
+}
+
+/// The names one step on from those of a level. Those of the level that are accepted are appended.
+fn next_level(
+    alloc: Global,
+    net: &Net,
+    level: &[Name],
+    accepted: &mut Vec<Name>,
+) -> Result<Names, AllocError>
+    requires there { IsTrue (names_exist (length net.now) level.now) }
+    requires closed { IsTrue (is_closed net.now) }
+    requires checked { node_fault net.now ≡ None }
+    ensures accepted { OnOk result (accepted.new.items ≡ accepted.old.items ++ passing (is_accepted net.now) level.now) }
+    ensures next { IfOk result (λ names. names ≡ sorted_names (each_step (steps net.now) level.now)) }
+    ensures there { IfOk result (λ names. IsTrue (names_exist (length net.now) names)) }
+{
+    let mut next = Vec::new(alloc);
+    for name in level {
+        match net.step(*name) {
+            Step::Accepted => accepted.push(*name)?,
+            Step::To(dests, offset) => push_moved(&mut next, dests, offset)?,
+            Step::Stop | Step::Nothing => {}
         }
     }
-    Found::Deep
+    set_of(alloc, next)
+}
+
+/// Appends the destinations, the address of each raised by the offset.
+fn push_moved(next: &mut Vec<Name>, dests: &[Dest], offset: u64) -> Result<(), AllocError>
+    requires { IsTrue (list_all (λ d. nat_le (d.addr + offset) top) dests.now) }
+    ensures { OnOk result (next.new.items ≡ next.old.items ++ map (moved offset) dests.now) }
+{
+    for dest in dests {
+        next.push(moved(*dest, offset))?;
+    }
+    Ok(())
 }
 
 /// The destination, its address raised by the offset.
@@ -57,4 +84,17 @@ fn moved(dest: Dest, offset: u64) -> Name
         node: dest.node,
         addr: dest.addr + offset,
     }
+}
+
+/// The set of these names: once they are sorted, each is put behind those that were put in before it.
+fn set_of(alloc: Global, mut names: Vec<Name>) -> Result<Names, AllocError>
+    ensures { IfOk result (λ set. set ≡ sorted_names names.items) }
+{
+    names.sort_unstable_by_key(|name| (name.node, name.addr));
+    let sorted = names.as_slice();
+    let mut set = Names::new(alloc);
+    for name in sorted {
+        set.insert(*name)?;
+    }
+    Ok(set)
 }

@@ -6,12 +6,13 @@ ghost use Rattle.std.specs.Option.{IfSome};
 ghost use Rattle.dn_base.specs.Outside.{Rose, Added, AddedFront, AtEnd, Taken, TakenAtMost};
 ghost use Rattle.dn_net.specs.Decode.{is_closed};
 ghost use Rattle.dn_net.specs.Rules.{node_fault};
+ghost use Rattle.dn_net.specs.WalkRules.{walk_fault};
+ghost use Rattle.dn_walk.specs.Rows.{AreWalksOf};
 ghost use Rattle.dn_tool.specs.Answer.{answer, of_text, told, task_of};
-ghost use Rattle.dn_tool.specs.Commands.{names_within};
+ghost use Rattle.dn_module.specs.Commands.{names_within};
 ghost use Rattle.dn_print.specs.Statement.{net_text};
 ghost use Rattle.dn_tool.specs.Reply.{replies};
 
-use crate::command::Command;
 use crate::compile::{CompileFault, Platform};
 use crate::refusal::Refusal;
 use crate::words::{Task, Words};
@@ -97,6 +98,8 @@ fn answer_text<K: Sink>(alloc: Global, task: Task, text: &[u8], sink: &mut K) ->
 fn tell<K: Sink>(alloc: Global, task: Task, platform: &Platform, sink: &mut K) -> u8
     requires closed { IsTrue (is_closed platform.now.net) }
     requires checked { node_fault platform.now.net ≡ None }
+    requires walkable { walk_fault platform.now.net ≡ None }
+    requires walks { AreWalksOf platform.now.net platform.now.walks }
     requires known { IsTrue (list_all (names_within (length platform.now.net)) platform.now.commands) }
     ensures exact { (result ≢ WRITE_FAULT) → (result ≢ NO_MEMORY) → (result ≡ DONE) × Added (K.written sink.old) (K.written sink.new) (told task platform.now.net platform.now.commands) }
     ensures front { AddedFront (K.written sink.old) (K.written sink.new) (told task platform.now.net platform.now.commands) }
@@ -161,6 +164,8 @@ fn refuse<K: Sink>(alloc: Global, refusal: &Refusal, sink: &mut K) -> u8
 fn answer_all<K: Sink>(alloc: Global, platform: &Platform, sink: &mut K) -> u8
     requires closed { IsTrue (is_closed platform.now.net) }
     requires checked { node_fault platform.now.net ≡ None }
+    requires walkable { walk_fault platform.now.net ≡ None }
+    requires walks { AreWalksOf platform.now.net platform.now.walks }
     requires known { IsTrue (list_all (names_within (length platform.now.net)) platform.now.commands) }
     ensures exact { (result ≢ WRITE_FAULT) → (result ≢ NO_MEMORY) → (result ≡ DONE) × Added (K.written sink.old) (K.written sink.new) (replies platform.now.net platform.now.commands) }
     ensures front { AddedFront (K.written sink.old) (K.written sink.new) (replies platform.now.net platform.now.commands) }
@@ -169,7 +174,7 @@ fn answer_all<K: Sink>(alloc: Global, platform: &Platform, sink: &mut K) -> u8
     ensures sure { K.sure sink.old ≡ true → result ≢ WRITE_FAULT }
 {
     for command in platform.commands.as_slice() {
-        let Ok(line) = reply::reply(alloc, &platform.net, command) else {
+        let Ok(line) = reply::reply(alloc, platform, command) else {
             return NO_MEMORY;
         };
         let status = finish(sink, line.as_bytes(), DONE);

@@ -21,7 +21,7 @@ begin;
 ";
 
 /// A text of two commands, which is read in four reads of 16 bytes, the last of which gives none.
-const SHORT: &str = "a is over a; begin; resolve a 1; resolve b 2;";
+const SHORT: &str = "a is; begin; resolve a 1; resolve b 2;";
 
 /// Which calls of the source and of the sink fail.
 #[derive(Clone, Copy)]
@@ -58,7 +58,7 @@ pub(crate) fn answer(
 }
 
 #[test]
-fn resolves_what_a_core_asks_of_a_bus(rt: HostRuntime) -> Result<(), Fail> {
+fn answers_what_is_asked_of_a_board(rt: HostRuntime) -> Result<(), Fail> {
     let alloc = rt.alloc();
     let rows = [
         (
@@ -79,6 +79,14 @@ fn resolves_what_a_core_asks_of_a_bus(rt: HostRuntime) -> Result<(), Fail> {
             "resolve dram 10; resolve uart 0x1000;",
             "dram@0xa: dram@0xa\nuart@0x1000: nothing\n",
         ),
+        (
+            "view core0;",
+            "view core0 rows 2\n0x10000000-0x10000fff uart@0x0\n0x80000000-0xbfffffff dram@0x0\n",
+        ),
+        (
+            "view bus; view gpu;",
+            "view bus refused: NoAgent\nview gpu refused: NoAgent\n",
+        ),
     ];
     for (commands, output) in rows {
         let text = format!(in alloc; "{BOARD}{commands}")?;
@@ -97,14 +105,14 @@ fn answers_short_texts(rt: HostRuntime) -> Result<(), Fail> {
     let rows = [
         ("", DONE, ""),
         (
-            "a is map [0x0-0xff to a at 0x1]; begin; resolve a 0xc0; resolve a 0xbf;",
+            "a is map [0x0-0xff to a at 0x10]; begin; resolve a 0xc0; resolve a 0xf1;",
             DONE,
-            "a@0xc0: nothing\na@0xbf: deep\n",
+            "a@0xc0: nothing\na@0xf1: nothing\n",
         ),
-        (SHORT, DONE, "a@0x1: deep\nb@0x2: no such node\n"),
-        ("for i in 0..1; end;", REFUSED, "refused: Form\n"),
-        ("a is over b;", REFUSED, "refused: Form\n"),
-        ("a is; a is;", REFUSED, "refused: Form\n"),
+        (SHORT, DONE, "a@0x1: nothing\nb@0x2: no such node\n"),
+        ("for i in 0..1; end;", DONE, ""),
+        ("a is over b;", REFUSED, "refused: line 1 Unknown\n"),
+        ("a is; a is;", REFUSED, "refused: line 1 Duplicate\n"),
         ("a is accept [2-1];", REFUSED, "refused: Range a\n"),
     ];
     for (text, wanted, output) in rows {
@@ -165,13 +173,13 @@ fn stops_where_a_write_fails(rt: HostRuntime) -> Result<(), Fail> {
     let alloc = rt.alloc();
     let rows: [(&[&str], &str, u32, u8, &str); 5] = [
         (&["run"], SHORT, 0, WRITE_FAULT, ""),
-        (&["run"], SHORT, 1, WRITE_FAULT, "a@0x1: deep\n"),
+        (&["run"], SHORT, 1, WRITE_FAULT, "a@0x1: nothing\n"),
         (
             &["run"],
             SHORT,
             2,
             DONE,
-            "a@0x1: deep\nb@0x2: no such node\n",
+            "a@0x1: nothing\nb@0x2: no such node\n",
         ),
         (&["run"], "?", 0, WRITE_FAULT, ""),
         (&["frob"], SHORT, 0, WRITE_FAULT, ""),

@@ -68,7 +68,7 @@ fn answers_each_command(rt: HostRuntime) -> Result<(), Fail> {
     let rows = [
         (
             "a is accept [0x0-(0x8 - 1)] map [8 to b and c at 2*3+1]; b is; c is; begin; resolve a 8;",
-            "a@0x8: several\n",
+            "a@0x8: nothing\n",
         ),
         (
             "a is accept [0x0-(0x8 - 1)]; begin; resolve a 2*3+1; resolve a 2*(3+1);",
@@ -76,7 +76,7 @@ fn answers_each_command(rt: HostRuntime) -> Result<(), Fail> {
         ),
         (
             "begin; lookup a 1; view a; grant g a b 0 1; route r a 3 b;",
-            "lookup refused: later\nview refused: later\ngrant refused: later\nroute refused: later\n",
+            "lookup refused: later\nview a refused: NoAgent\ngrant refused: later\nroute refused: later\n",
         ),
         (
             "begin; revoke g; dump; split; absorb a;",
@@ -106,7 +106,8 @@ fn answers_each_cut_of_a_text(rt: HostRuntime) -> Result<(), Fail> {
     }
     let (status, sink) = answer(rt.alloc(), &["run"], text, 1, NONE)?;
     assert_eq!(rt; status, REFUSED);
-    assert_eq!(rt; sink.written(), b"refused: Form\n".as_slice());
+    // No kind of unit exists so far.
+    assert_eq!(rt; sink.written(), b"refused: line 6 Unknown\n".as_slice());
     Ok(())
 }
 

@@ -1,9 +1,0 @@
-use Rattle.std.proofs.Common.{◌≡◌, map, drop}
-use Rattle.dn_parse.specs.Seen.{dest_of as dest_seen}
-use Rattle.dn_tool.specs.Draft.{dest_of}
-use Rattle.dn_tool.specs.Evaluate.{each}
-use Rattle.dn_tool.proofs.Each.{followed}
-use Rattle.dn_tool.proofs.draft.dests.Given as goal
-
-abbrev pub invariant-loop-expr : goal.invariant-loop-expr
-invariant-loop-expr l = each (dest_of l.lo) (map dest_seen l.dests) ≡ followed l.made.items (each (dest_of l.lo) (map dest_seen (drop l.expr-index l.dests)))
