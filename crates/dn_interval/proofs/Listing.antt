@@ -1,15 +1,14 @@
 -- Rows that are normal are made address by address, from the last address to the first.
-use Rattle.std.proofs.Common.{◌≡◌, ℕ, zero, suc, ◌+◌, ◌-◌, ◌<◌, ◌≤◌, ◌⊎◌, ◌↔◌, inl, inr, Bool, true, false, ◌&&◌, cond, nat_eq, List, [], ◌∷◌, map, refl, sym, ap, ◌∙◌, subst, arith, eqb-true, eq-eqb}
-use Rattle.std.proofs.lemmas.Bool.{and_parts, and_from, cases_lt, cases_order, false≢true}
+use Rattle.std.proofs.Common.{◌≡◌, ℕ, zero, suc, ◌+◌, ◌-◌, ◌<◌, ◌≤◌, ◌↔◌, inl, inr, Bool, true, false, ◌&&◌, cond, nat_eq, List, [], ◌∷◌, map, refl, sym, ap, ◌∙◌, subst, arith, eqb-true, eq-eqb}
+use Rattle.std.proofs.lemmas.Bool.{and_parts, and_from, cases_lt, false≢true}
 use Rattle.dn_interval.specs.declared.row.End.{End}
 use Rattle.dn_interval.specs.declared.row.Row.{Row}
-use Rattle.dn_interval.specs.declared.span.Span.{Span}
 use Rattle.dn_interval.specs.declared.span.TheConstants.{TOP}
-use Rattle.dn_interval.specs.Rows.{Member, moved, Ascending, HasEnds, Parted, Apart, GivenBy, AreNormal}
+use Rattle.dn_interval.specs.Rows.{Member, moved, Ascending, HasEnds, Parted, Apart, GivenBy}
 use Rattle.dn_interval.specs.Listed.{Seen, seen_by, same_end, same_ends, in_front, rows_from, listed_rows, NormalRowsAreListed}
 use Rattle.dn_interval.proofs.Membership.{never_true, in_from, hi_of}
 use Rattle.dn_interval.proofs.Ends.{one_end}
-use Rattle.dn_interval.proofs.Normal.{same_names, moved_ascending, moved_none, nothing_below, nothing_before, within_first, behind_first}
+use Rattle.dn_interval.proofs.Normal.{same_names, moved_ascending, moved_none, nothing_before, within_first, behind_first}
 
 -- the test that two lists of names are one
 
