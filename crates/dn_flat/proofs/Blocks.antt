@@ -1,7 +1,7 @@
 -- Sets of addresses that are made from accept blocks.
-use Rattle.std.proofs.Common.{◌≡◌, ℕ, zero, suc, ◌+◌, ◌<◌, ◌≤◌, ◌⊎◌, inl, inr, Bool, true, false, ◌&&◌, ◌||◌, nat_le, List, [], ◌∷◌, ◌++◌, drop, length, get_or, slice_get, Option, Some, None, option_map, IsTrue, refl, sym, ap, ◌∙◌, subst, arith, leb-true, le-leb, All}
+use Rattle.std.proofs.Common.{◌≡◌, ℕ, zero, suc, ◌+◌, ◌<◌, ◌≤◌, inl, inr, Bool, true, false, ◌&&◌, ◌||◌, nat_le, List, [], ◌∷◌, drop, length, get_or, slice_get, Option, Some, None, option_map, IsTrue, refl, sym, ap, ◌∙◌, subst, arith, leb-true, le-leb, All}
 use Rattle.std.specs.List.{list_all}
-use Rattle.std.proofs.lemmas.Bool.{or_cases, and_parts, and_from, false≢true, cases_lt}
+use Rattle.std.proofs.lemmas.Bool.{or_cases, and_parts, false≢true, cases_lt}
 use Rattle.std.proofs.lemmas.List.{get_or_past}
 use Rattle.std.proofs.lemmas.List.Elements.{All-nil, All-cons}
 use Rattle.dn_interval.specs.declared.span.Span.{Span}
@@ -12,7 +12,7 @@ use Rattle.dn_net.specs.declared.node.Block.{Block}
 use Rattle.dn_net.specs.declared.node.NodeDecl.{NodeDecl}
 use Rattle.dn_net.specs.Decode.{top, within, in_some_block, is_accepted_at}
 use Rattle.dn_net.specs.Rules.{block_in_range, is_in_range, node_fault}
-use Rattle.dn_net.proofs.Checked.{IsChecked, checked_at}
+use Rattle.dn_net.proofs.Checked.{checked_at}
 
 -- a block runs from its first address to its last, at or below the top
 abbrev pub IsSpan : Block → Type 0

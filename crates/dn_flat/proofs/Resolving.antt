@@ -1,6 +1,6 @@
 -- What an address of a node comes to by the rows of walks is what it reaches by chains of steps.
-use Rattle.std.proofs.Common.{◌≡◌, ℕ, zero, suc, ◌+◌, ◌-◌, ◌<◌, ◌≤◌, ◌⊎◌, ◌↔◌, inl, inr, Bool, true, false, ◌&&◌, ◌||◌, nat_le, nat_lt, nat_eq, List, [], ◌∷◌, map, length, slice_get, Option, Some, None, refl, sym, ap, ◌∙◌, subst, arith, IsTrue, eqb-true, eq-eqb, ltb-true, lt-ltb, leb-true, le-leb}
-use Rattle.std.specs.List.{list_any, list_all}
+use Rattle.std.proofs.Common.{◌≡◌, ℕ, zero, suc, ◌+◌, ◌-◌, ◌<◌, ◌≤◌, inl, inr, Bool, true, ◌&&◌, ◌||◌, nat_le, nat_lt, nat_eq, List, [], ◌∷◌, length, slice_get, Option, Some, None, refl, sym, ap, ◌∙◌, subst, arith, IsTrue, eqb-true, eq-eqb, lt-ltb, le-leb}
+use Rattle.std.specs.List.{list_all}
 use Rattle.std.proofs.lemmas.Bool.{or_cases, and_parts, and_from, false≢true}
 use Rattle.std.proofs.lemmas.Option.{slice_get_within}
 use Rattle.dn_interval.specs.declared.row.End.{End}
@@ -15,9 +15,8 @@ use Rattle.dn_interval.proofs.Names.{segs_from, segs_to}
 use Rattle.dn_interval.proofs.Normal.{normal_like, member_moved}
 use Rattle.dn_net.specs.declared.node.Name.{Name}
 use Rattle.dn_net.specs.declared.node.NodeDecl.{NodeDecl}
-use Rattle.dn_net.specs.declared.node.Unit.{Unit as UnitPart}
 use Rattle.dn_net.specs.Chain.{Member, Chain, ReachesWithin}
-use Rattle.dn_net.specs.Decode.{top, within, step_limit, Step, is_accepted, is_accepted_at, is_stop, is_stop_at, unit_of}
+use Rattle.dn_net.specs.Decode.{within, step_limit, Step, is_accepted, is_accepted_at, is_stop, is_stop_at, unit_of}
 use Rattle.dn_net.specs.Walks.{Choice, Follows, Walk, live_walks, moved_name}
 use Rattle.dn_net.specs.WalkRules.{IsChecked, IsListed}
 use Rattle.dn_net.proofs.Least.{within_from, within_to}

@@ -1,8 +1,8 @@
 -- The rows of a table of walks are the live walks: they are sorted, and end in nodes that are there.
-use Rattle.std.proofs.Common.{◌≡◌, ℕ, zero, suc, ◌+◌, ◌-◌, ◌<◌, ◌≤◌, ◌⊎◌, inl, inr, Bool, true, false, ◌&&◌, ◌||◌, ◌==◌, nat_lt, List, [], ◌∷◌, map, length, get_or, slice_get, Option, Some, None, refl, sym, ap, ◌∙◌, subst, arith, IsTrue, eqb-true, ltb-true, All}
+use Rattle.std.proofs.Common.{◌≡◌, ℕ, zero, suc, ◌+◌, ◌-◌, ◌<◌, ◌≤◌, ◌⊎◌, inl, inr, Bool, true, ◌&&◌, ◌||◌, ◌==◌, nat_lt, List, [], ◌∷◌, map, length, get_or, slice_get, Some, refl, sym, ap, ◌∙◌, subst, arith, IsTrue, eqb-true, ltb-true, All}
 use Rattle.std.specs.List.{list_any}
 use Rattle.std.proofs.lemmas.Bool.{or_cases, and_parts, false≢true, cases_order}
-use Rattle.std.proofs.lemmas.Option.{slice_get-get_or, slice_get_within}
+use Rattle.std.proofs.lemmas.Option.{slice_get-get_or}
 use Rattle.dn_interval.specs.declared.span.TheConstants.{TOP}
 use Rattle.dn_interval.proofs.Membership.{or_left, or_right}
 use Rattle.dn_net.specs.declared.node.NodeDecl.{NodeDecl}
@@ -13,7 +13,7 @@ use Rattle.dn_net.specs.WalkRules.{IsChecked}
 use Rattle.dn_walk.specs.declared.walks.WalkRow.{WalkRow}
 use Rattle.dn_walk.specs.Rows.{told_by_row, told_by_walk, AreWalksOf}
 use Rattle.dn_walk.proofs.Levels.{IsRow, level_is_row}
-use Rattle.dn_walk.proofs.Listed.{level_of_listed, live_walks_are_all}
+use Rattle.dn_walk.proofs.Listed.{level_of_listed}
 use Rattle.dn_walk.proofs.Members.{some_same}
 use Rattle.dn_walk.proofs.Order.{live_walks_are_in_order}
 use Rattle.dn_walk.proofs.Pairs.{member_at}

@@ -1,5 +1,5 @@
 -- Past the last node nothing is accepted.
-use Rattle.std.proofs.Common.{◌≡◌, ℕ, ◌<◌, ◌≤◌, arith}
+use Rattle.std.proofs.Common.{arith}
 use Rattle.dn_flat.proofs.Blocks.{every_set}
 use Rattle.dn_flat.proofs.accepted.accepted_sets.Goals as goal
 

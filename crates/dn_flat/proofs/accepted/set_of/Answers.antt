@@ -1,5 +1,5 @@
 -- The sorted blocks are the same blocks.
-use Rattle.std.proofs.Common.{◌≡◌, ℕ, ◌∙◌, ap, rules}
+use Rattle.std.proofs.Common.{◌≡◌, ℕ, ◌∙◌, ap}
 use Rattle.std.proofs.lemmas.List.Sorted.{All-permutation}
 use Rattle.std.proofs.lemmas.Result.{IfOk-weaker}
 use Rattle.dn_interval.specs.Spans.{has}

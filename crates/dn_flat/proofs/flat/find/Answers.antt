@@ -1,5 +1,5 @@
 -- Each turn adds the walks of one more length.
-use Rattle.std.proofs.Common.{◌≡◌, ℕ, ◌+◌, ◌∙◌, ◌||◌, ◌&&◌, ap, sym, refl, length, subst, arith}
+use Rattle.std.proofs.Common.{◌≡◌, ℕ, ◌+◌, ◌∙◌, ◌||◌, ◌&&◌, ap, sym, length, arith}
 use Rattle.dn_interval.specs.declared.row.End.{End}
 use Rattle.dn_interval.specs.Strands.{seg_gives, segs_give}
 use Rattle.dn_net.specs.Decode.{is_accepted, is_stop}

@@ -1,6 +1,5 @@
 -- The segments give what the chains of steps give, since live walks are the chains.
-use Rattle.std.proofs.Common.{◌≡◌, ℕ, ◌∙◌, ap, sym, length, subst, All}
-use Rattle.dn_interval.specs.declared.row.End.{End}
+use Rattle.std.proofs.Common.{sym, length, subst, All}
 use Rattle.dn_interval.specs.Rows.{AreNormal, SegmentsGive}
 use Rattle.dn_net.specs.Decode.{is_accepted, is_stop}
 use Rattle.dn_walk.specs.Rows.{AreWalksOf}

@@ -1,5 +1,5 @@
 -- What is left of the spans ends before the segment comes out, or begins behind it.
-use Rattle.std.proofs.Common.{◌+◌, ◌-◌, ◌<◌, arith}
+use Rattle.std.proofs.Common.{arith}
 use Rattle.dn_flat.proofs.Cutting.{all_cut, rest_behind}
 use Rattle.dn_flat.proofs.found.push_accepted.Goals as goal
 

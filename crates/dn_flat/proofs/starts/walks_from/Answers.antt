@@ -1,5 +1,5 @@
 -- The walks between the two places are those of the length and the start.
-use Rattle.std.proofs.Common.{◌≡◌, ◌≤◌, ◌-◌, ◌&&◌, nat_eq, arith, take, drop, subst, Bool}
+use Rattle.std.proofs.Common.{◌≡◌, ◌-◌, ◌&&◌, nat_eq, take, drop, subst, Bool}
 use Rattle.std.specs.List.{list_any}
 use Rattle.std.proofs.lemmas.List.Elements.{All-take, All-drop}
 use Rattle.dn_walk.specs.declared.walks.WalkRow.{WalkRow}
