@@ -1,11 +1,11 @@
 //! Walks of small nets, worked out by hand.
 
-ghost use Rattle.std.specs.Prelude.{◌≡◌, IfOk, IsTrue, None};
-ghost use Rattle.dn_net.specs.Decode.{is_formed, is_closed};
-ghost use Rattle.dn_net.specs.Rules.{node_fault};
+ghost use Rattle.std.specs.Prelude.{◌≡◌, nat_lt, IfOk, IsTrue};
+ghost use Rattle.std.specs.List.{list_all};
+ghost use Rattle.dn_net.specs.Decode.{is_formed, is_closed, over_within};
 
 use crate::fault::WalkFault;
-use crate::walks::{WalkRow, walks};
+use crate::walks::{WalkRow, WalkTable, walks};
 use dn_base::items::Items;
 use dn_base::text::Text;
 use dn_net::net::Net;
@@ -28,8 +28,10 @@ fn entry(alloc: Global, block: Block, dest: Dest) -> Result<Entry, AllocError> {
     Ok(Entry { block, dests })
 }
 
-/// Adds a node of these parts, where its name is new.
-fn add(alloc: Global, net: &mut Net, title: &str, parts: &[Part]) -> Result<(), AllocError> {
+/// A node of these parts.
+fn node(alloc: Global, title: &str, parts: &[Part]) -> Result<NodeDecl, AllocError>
+    ensures { IfOk result (λ d. IsTrue (is_formed d)) }
+{
     let mut accepts = Items::new(alloc);
     let mut entries = Items::new(alloc);
     let mut over = None;
@@ -42,17 +44,83 @@ fn add(alloc: Global, net: &mut Net, title: &str, parts: &[Part]) -> Result<(), 
             }
         }
     }
-    if net.find(title).is_none() && net.nodes() < 1024 {
-        let _ = net.add(NodeDecl {
-            text: Text::of(alloc, title)?,
-            role: Role::Plain,
-            accepts,
-            entries,
-            over,
-            unit: None,
-        })?;
+    Ok(NodeDecl {
+        text: Text::of(alloc, title)?,
+        role: Role::Plain,
+        accepts,
+        entries,
+        over,
+        unit: None,
+    })
+}
+
+/// Adds a node, where its name is new.
+fn add_new(net: &mut Net, decl: NodeDecl) -> Result<(), AllocError>
+    requires { IsTrue (is_formed decl) }
+{
+    if net.find(decl.text.as_str()).is_some() || net.nodes() >= 1024 {
+        return Ok(());
     }
+    let _ = net.add(decl)?;
     Ok(())
+}
+
+/// Adds a node of these parts.
+fn add(alloc: Global, net: &mut Net, title: &str, parts: &[Part]) -> Result<(), AllocError> {
+    let decl = node(alloc, title, parts)?;
+    add_new(net, decl)
+}
+
+/// Whether each destination is one of so many nodes.
+fn are_within(dests: &[Dest], count: u16) -> bool
+    ensures { result ≡ list_all (λ d. nat_lt d.node count) dests.now }
+{
+    for dest in dests {
+        if dest.node >= count {
+            return false;
+        }
+    }
+    true
+}
+
+/// The same of each entry.
+fn do_entries_stay(entries: &[Entry], count: u16) -> bool
+    ensures { result ≡ list_all (λ e. list_all (λ d. nat_lt d.node count) e.dests) entries.now }
+{
+    for entry in entries {
+        if !are_within(entry.dests.as_slice(), count) {
+            return false;
+        }
+    }
+    true
+}
+
+fn does_over_stay(over: Option<u16>, count: u16) -> bool
+    ensures { result ≡ over_within count over }
+{
+    match over {
+        Some(node) => node < count,
+        None => true,
+    }
+}
+
+/// Whether each node to which a node refers exists, and no node is a unit.
+fn is_whole(net: &Net) -> bool
+    ensures { IsTrue result → IsTrue (is_closed net.now) }
+{
+    let count = net.nodes();
+    for node in 0..count {
+        if !do_entries_stay(net.entries(node), count) {
+            return false;
+        }
+        if !does_over_stay(net.over(node), count) {
+            return false;
+        }
+        if net.unit(node).is_some() {
+            return false;
+        }
+    }
+    true
 }
 
 /// Nodes that each send an address to the next, from address 0 to address 0, and at last to a node that accepts it.
@@ -73,36 +141,36 @@ fn chain(alloc: Global, steps: u16, back: bool) -> Result<Net, AllocError> {
     Ok(net)
 }
 
-/// What `walks` answers, in words: the rows as `start lo-hi end base len`, or the names of the fault.
+/// What `walks` answers, in words: the rows as `start lo-hi end@base len`, or the names of the fault.
 fn told(alloc: Global, net: &Net) -> Result<String, AllocError> {
+    if !is_whole(net) {
+        return String::from_str(alloc, "a node is missing");
+    }
+    match net.check_nodes(alloc) {
+        Ok(()) => answer(alloc, walks(alloc, net)),
+        Err(fault) => format!(in alloc; "{fault}"),
+    }
+}
+
+fn answer(alloc: Global, walks: Result<WalkTable, WalkFault>) -> Result<String, AllocError> {
+    match walks {
+        Ok(table) => rows(alloc, table.rows()),
+        Err(WalkFault::Wide) => String::from_str(alloc, "Wide"),
+        Err(WalkFault::OutOfMemory) => String::from_str(alloc, "no memory"),
+        Err(WalkFault::Loop { cycle }) => names(alloc, "Loop", cycle.as_slice()),
+        Err(WalkFault::Deep { path }) => names(alloc, "Deep", path.as_slice()),
+    }
+}
+
+fn rows(alloc: Global, rows: &[WalkRow]) -> Result<String, AllocError> {
     let mut text = String::new(alloc);
-    match walks(alloc, net) {
-        Ok(table) => {
-            for row in table.rows() {
-                let WalkRow {
-                    start,
-                    span,
-                    end,
-                    base,
-                    len,
-                } = *row;
-                let (lo, hi) = (span.lo, span.hi);
-                let line = format!(in alloc; "{start} {lo}-{hi} {end}@{base} {len};")?;
-                text.push_str(line.as_str())?;
-            }
-        }
-        Err(WalkFault::Wide) => text.push_str("Wide")?,
-        Err(WalkFault::OutOfMemory) => text.push_str("no memory")?,
-        Err(WalkFault::Loop { cycle }) => text.push_str(names(
-            alloc,
-            "Loop",
-            cycle.as_slice(),
-        )?.as_str())?,
-        Err(WalkFault::Deep { path }) => text.push_str(names(
-            alloc,
-            "Deep",
-            path.as_slice(),
-        )?.as_str())?,
+    for row in rows {
+        let (lo, hi) = (row.span.lo, row.span.hi);
+        let line = format!(in alloc;
+            "{} {lo}-{hi} {}@{} {};",
+            row.start, row.end, row.base, row.len
+        )?;
+        text.push_str(line.as_str())?;
     }
     Ok(text)
 }

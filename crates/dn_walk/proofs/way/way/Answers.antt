@@ -34,7 +34,7 @@ loop-left-preserved c =
       within = omega (arith, c.loop-left.invariant.within);
       there = step_there c.args.net.now c.requires.closed c.requires.checked (leads k) c.loop-left.name z some;
       way = ap (λ l. l ++ way_by (steps c.args.net.now) leads k z) c.in_ok-push-2.ensures.ok
-        ∙ append_assoc c.loop-left.names (z ∷ []) (way_by (steps c.args.net.now) leads k z)
-        ∙ ap (λ l. c.loop-left.names ++ l) (sym (way_goes (steps c.args.net.now) leads c.loop-left.left k c.loop-left.name z left some))
-        ∙ c.loop-left.invariant.way;
+          ∙ append_assoc c.loop-left.names (z ∷ []) (way_by (steps c.args.net.now) leads k z)
+          ∙ ap (λ l. c.loop-left.names ++ l) (sym (way_goes (steps c.args.net.now) leads c.loop-left.left k c.loop-left.name z left some))
+          ∙ c.loop-left.invariant.way;
     }
