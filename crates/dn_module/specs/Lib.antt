@@ -4,3 +4,6 @@ pub mod Drafts
 pub mod Commands
 pub mod Expand
 pub mod Told
+pub mod Flaws
+pub mod Stack
+pub mod Machine

@@ -7,8 +7,20 @@
 
 pub mod command;
 pub mod draft;
+pub mod drafts;
 pub mod expand;
 pub mod fault;
+pub mod machine;
+pub mod modules;
+pub mod names;
+pub mod nodes;
 pub mod scope;
+pub mod stack;
+pub mod uses;
+pub mod values;
+pub mod words;
+
+#[cfg(test)]
+mod tests;
 
 pub use dn_base::OutOfMemory;

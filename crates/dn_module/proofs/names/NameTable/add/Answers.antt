@@ -1,0 +1,14 @@
+use Rattle.std.proofs.Common.{rules, ◌≡◌, ◌∙◌, sym, ap, not, List, ℕ}
+use Rattle.std.specs.String.{string_bytes}
+use Rattle.std.specs.List.{list_any}
+use Rattle.std.specs.Str.{bytes_eq}
+use Rattle.dn_module.proofs.Places.{list_any-map}
+use Rattle.dn_module.proofs.names.NameTable.add.Goals as goal
+
+pub returns-clause-is_new : goal.returns-clause-is_new
+returns-clause-is_new c =
+    let keys = c.self.inside.names.keys in
+    let bytes : string_bytes c.in_ok-name.name ≡ c.args.text.now = search rules in
+    c.in_ok-is_new.ensures.added
+    ∙ ap (λ (t : List ℕ). not (list_any (λ k. bytes_eq t (string_bytes k)) keys)) bytes
+    ∙ ap not (sym (list_any-map (λ s. string_bytes s) (bytes_eq c.args.text.now) keys) ∙ ap (list_any (bytes_eq c.args.text.now)) c.self.view_is)

@@ -1,0 +1,61 @@
+//! The names of a text's nodes, with their numbers.
+
+ghost use Rattle.std.specs.Prelude.{◌≡◌, [], ◌∷◌, ◌++◌, if◌then◌else◌, not, IfOk, OnErr, length, ◌<◌, position};
+ghost use Rattle.std.specs.List.{list_any};
+ghost use Rattle.std.specs.Str.{bytes_eq};
+
+use indexmap::IndexSet;
+use std::alloc::{AllocError, Global};
+use std::marker::Model;
+
+/// Different names, numbered in the order in which they were added, at most 1,024. Contracts see the
+/// list of their bytes.
+#[derive(Drop)]
+pub struct NameTable {
+    names: IndexSet<String>,
+}
+
+impl Model for NameTable {
+    ghost use Rattle.std.specs.Prelude.{List, ℕ, map, length, ◌≤◌};
+    ghost use Rattle.std.specs.String.{string_bytes};
+
+    ghost Value = { List (List ℕ) };
+
+    ghost view = { λ n. map (λ s. string_bytes s) n.names.keys };
+
+    ghost invariant = { λ n. length n.names.keys ≤ 1024 };
+}
+
+impl NameTable {
+    /// No names. It takes no memory.
+    pub fn new(alloc: Global) -> NameTable
+        ensures { result ≡ [] }
+    {
+        NameTable {
+            names: IndexSet::new(alloc),
+        }
+    }
+
+    /// The number of a name. `None` exactly where it is not there.
+    pub fn find(&self, text: &str) -> Option<u16>
+        ensures { result ≡ position (bytes_eq text.now) self.now }
+    {
+        match self.names.get_index_of(text) {
+            Some(number) => Some(number as u16),
+            None => None,
+        }
+    }
+
+    /// Adds a name, and answers whether it is new. One that is there already is not added again, and for
+    /// want of memory the names are unchanged.
+    pub fn add(&mut self, alloc: Global, text: &str) -> Result<bool, AllocError>
+        requires room { length self.old < 1024 }
+        ensures is_new { IfOk result (λ is_new. is_new ≡ not (list_any (bytes_eq text.now) self.old)) }
+        ensures added { IfOk result (λ is_new. self.new ≡ (if is_new then self.old ++ text.now ∷ [] else self.old)) }
+        ensures err { OnErr result (self.new ≡ self.old) }
+    {
+        let name = String::from_str(alloc, text)?;
+        let is_new = self.names.insert(name)?;
+        Ok(is_new)
+    }
+}

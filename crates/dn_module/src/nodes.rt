@@ -1,0 +1,181 @@
+//! The nodes that declarations make.
+
+ghost use Rattle.std.specs.Prelude.{◌≡◌, map, not, true, IfOk, option_map};
+ghost use Rattle.dn_parse.specs.Tree.{Declaration};
+ghost use Rattle.dn_parse.specs.Seen.{name_of, maybe_name_of, block_of as block_seen, dest_of as dest_seen, entry_of as entry_seen, spec_of, role_of as role_seen, declaration_of};
+ghost use Rattle.dn_net.specs.Decode.{is_unit};
+ghost use Rattle.dn_module.specs.Values.{each, full_name_or_none};
+ghost use Rattle.dn_module.specs.Replace.{in_block, in_dest, in_entry, in_reference, in_declared, in_spec, in_declaration};
+ghost use Rattle.dn_module.specs.Drafts.{block_of, dest_of, entry_of, role_of, draft_of, declared_by, unit_of};
+ghost use Rattle.dn_module.specs.Flaws.{told, GivesPart};
+ghost use Rattle.dn_module.specs.Told.{Gives};
+
+use crate::draft::{Draft, DraftDest, DraftEntry};
+use crate::fault::ExpandFault;
+use crate::scope::Scope;
+use crate::values::{Flaw, NameFault, declared_name, reference, value, value_or};
+use dn_base::items::Items;
+use dn_base::text::Text;
+use dn_net::node::{Block, Role};
+use dn_parse::syntax::{BlockExpr, Decl, DeclRole, DestExpr, EntryExpr, NameExpr, Spec};
+use std::alloc::Global;
+
+/// The node that a declaration makes, with this line. No kind of unit exists, so a unit is a fault.
+pub fn declared(alloc: Global, scope: &Scope, line: u32, decl: &Decl) -> Result<Draft, ExpandFault>
+    ensures made { Gives result (declared_by line (in_declaration scope.now (declaration_of decl.now))) }
+    // It is no unit.
+    ensures no_unit { IfOk result (λ d. not (is_unit d.role) ≡ true) }
+{
+    match decl {
+        Decl::Node { role, name, spec } => node_at(alloc, scope, line, *role, name, spec),
+        Decl::Unit { name, .. } => match declared_name(alloc, scope, name.as_slice()) {
+            Ok(_) => Err(ExpandFault::Unknown { line }),
+            Err(fault) => Err(fault.at(line)),
+        },
+    }
+}
+
+/// A node with its parts, or the fault of its statement.
+fn node_at(
+    alloc: Global,
+    scope: &Scope,
+    line: u32,
+    role: DeclRole,
+    name: &NameExpr,
+    spec: &Spec,
+) -> Result<Draft, ExpandFault>
+    ensures made { Gives result (declared_by line (in_declaration scope.now (Declaration.node (role_seen role) (name_of name.now) (spec_of spec.now)))) }
+    ensures no_unit { IfOk result (λ d. not (is_unit d.role) ≡ true) }
+{
+    match node(alloc, scope, line, role, name, spec) {
+        Ok(draft) => Ok(draft),
+        Err(fault) => Err(fault.at(line)),
+    }
+}
+
+/// A node with its parts.
+fn node(
+    alloc: Global,
+    scope: &Scope,
+    line: u32,
+    role: DeclRole,
+    name: &NameExpr,
+    spec: &Spec,
+) -> Result<Draft, NameFault>
+    ensures made { GivesPart result (draft_of line (role_seen role) (in_declared scope.now (name_of name.now)) (in_spec scope.now (spec_of spec.now))) }
+    ensures no_unit { IfOk result (λ d. not (is_unit d.role) ≡ true) }
+{
+    let name = declared_name(alloc, scope, name.as_slice())?;
+    let accepts = blocks(alloc, scope, spec.accepts.as_slice())?;
+    let entries = entries(alloc, scope, spec.entries.as_slice())?;
+    let over = over(alloc, scope, &spec.over)?;
+    Ok(Draft {
+        line,
+        role: role_of(role),
+        name,
+        accepts,
+        entries,
+        over,
+    })
+}
+
+fn role_of(role: DeclRole) -> Role
+    ensures role { result ≡ role_of (role_seen role) }
+    ensures no_unit { not (is_unit result) ≡ true }
+{
+    match role {
+        DeclRole::Plain => Role::Plain,
+        DeclRole::Agent => Role::Agent,
+        DeclRole::Vectors => Role::Vectors,
+    }
+}
+
+/// The full name of the node that serves the rest, where there is one.
+fn over(
+    alloc: Global,
+    scope: &Scope,
+    name: &Option<NameExpr>,
+) -> Result<Option<Text>, NameFault>
+    ensures { GivesPart result (full_name_or_none (option_map (in_reference scope.now) (maybe_name_of name.now))) }
+{
+    match name {
+        None => Ok(None),
+        Some(name) => {
+            let text = reference(alloc, scope, name.as_slice())?;
+            Ok(Some(text))
+        }
+    }
+}
+
+/// A block: one expression is its first and its last address.
+fn block(scope: &Scope, range: &BlockExpr) -> Result<Block, Flaw>
+    ensures { told result ≡ block_of (in_block scope.now.numbers (block_seen range.now)) }
+{
+    let lo = value(scope, &range.lo)?;
+    let hi = value_or(scope, lo, &range.hi)?;
+    Ok(Block { lo, hi })
+}
+
+fn blocks(alloc: Global, scope: &Scope, ranges: &[BlockExpr]) -> Result<Items<Block>, NameFault>
+    ensures { GivesPart result (each block_of (map (in_block scope.now.numbers) (map block_seen ranges.now))) }
+{
+    let mut made = Vec::with_capacity(alloc, ranges.len())?;
+    for range in ranges {
+        let block = block(scope, range)?;
+        made.push(block)?;
+    }
+    Ok(Items::from_vec(made))
+}
+
+/// A destination of a block with this first address, which is its own where none is given.
+fn dest(
+    alloc: Global,
+    scope: &Scope,
+    lo: u64,
+    dest: &DestExpr,
+) -> Result<DraftDest, NameFault>
+    ensures { GivesPart result (dest_of lo (in_dest scope.now (dest_seen dest.now))) }
+{
+    let to = reference(alloc, scope, dest.name.as_slice())?;
+    let addr = value_or(scope, lo, &dest.addr)?;
+    Ok(DraftDest { to, addr })
+}
+
+fn dests(
+    alloc: Global,
+    scope: &Scope,
+    lo: u64,
+    dests: &[DestExpr],
+) -> Result<Items<DraftDest>, NameFault>
+    ensures { GivesPart result (each (dest_of lo) (map (in_dest scope.now) (map dest_seen dests.now))) }
+{
+    let mut made = Vec::with_capacity(alloc, dests.len())?;
+    for expr in dests {
+        let dest = dest(alloc, scope, lo, expr)?;
+        made.push(dest)?;
+    }
+    Ok(Items::from_vec(made))
+}
+
+fn entry(alloc: Global, scope: &Scope, mapping: &EntryExpr) -> Result<DraftEntry, NameFault>
+    ensures { GivesPart result (entry_of (in_entry scope.now (entry_seen mapping.now))) }
+{
+    let block = block(scope, &mapping.block)?;
+    let dests = dests(alloc, scope, block.lo, mapping.dests.as_slice())?;
+    Ok(DraftEntry { block, dests })
+}
+
+fn entries(
+    alloc: Global,
+    scope: &Scope,
+    mappings: &[EntryExpr],
+) -> Result<Items<DraftEntry>, NameFault>
+    ensures { GivesPart result (each entry_of (map (in_entry scope.now) (map entry_seen mappings.now))) }
+{
+    let mut made = Vec::with_capacity(alloc, mappings.len())?;
+    for mapping in mappings {
+        let entry = entry(alloc, scope, mapping)?;
+        made.push(entry)?;
+    }
+    Ok(Items::from_vec(made))
+}

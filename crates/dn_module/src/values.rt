@@ -1,0 +1,243 @@
+//! The values of expressions and the full names of nodes, under what stands for the words of a body.
+
+ghost use Rattle.std.specs.Prelude.{◌≡◌, ◌++◌, ◌^◌, if◌then◌else◌, nat_lt, map, Option, option_map};
+ghost use Rattle.std.specs.String.{string_bytes};
+ghost use Rattle.dn_parse.specs.Tree.{Expression, Expressions, expressions, variable as variable_of, sum as sum_expression, product as product_expression};
+ghost use Rattle.dn_parse.specs.Seen.{expr_of, maybe_of, part_of, name_of};
+ghost use Rattle.dn_module.specs.Values.{value, value_or, fitting, difference, part_text, full_name};
+ghost use Rattle.dn_module.specs.Replace.{in_expression, in_option, in_part, in_declared, in_reference, node_by, word_of};
+ghost use Rattle.dn_module.specs.Flaws.{told, GivesPart, Appends, fault_at, dots_before};
+ghost use Rattle.dn_module.specs.declared.values.NameFault.TheVariants.{OutOfMemory as no_memory, Flawed as flawed};
+
+use crate::fault::ExpandFault;
+use crate::scope::Scope;
+use dn_base::text::Text;
+use dn_parse::syntax::{Expr, PartExpr};
+use std::alloc::{AllocError, AllocFailed, Global};
+
+/// One more than the largest value.
+const LIMIT: u128 = 1 << 64;
+
+/// Why an expression has no value.
+#[derive(Clone, Copy, Debug, PartialEq, Eq)]
+pub enum Flaw {
+    /// It has a variable for which no number stands.
+    Unknown,
+    /// A sum or a product in it is above 2^64 - 1, or a difference below 0.
+    Range,
+}
+
+/// Why a name has no text, or a statement's part is not made.
+#[derive(Clone, Copy, Debug, PartialEq, Eq)]
+pub enum NameFault {
+    /// An expression in it has no value.
+    Flawed(Flaw),
+    /// There was no memory for it.
+    OutOfMemory,
+}
+
+impl NameFault {
+    /// The fault of the statement with this line.
+    pub fn at(self, line: u32) -> ExpandFault
+        ensures { result ≡ fault_at line self }
+    {
+        match self {
+            NameFault::Flawed(Flaw::Unknown) => ExpandFault::Unknown { line },
+            NameFault::Flawed(Flaw::Range) => ExpandFault::Value { line },
+            NameFault::OutOfMemory => ExpandFault::OutOfMemory,
+        }
+    }
+}
+
+impl From<Flaw> for NameFault {
+    ghost from_gives = { λ f e. e ≡ flawed f };
+
+    fn from(flaw: Flaw) -> NameFault {
+        NameFault::Flawed(flaw)
+    }
+}
+
+impl From<AllocError> for NameFault {
+    ghost from_gives = { λ _ e. e ≡ no_memory };
+
+    fn from(_error: AllocError) -> NameFault {
+        NameFault::OutOfMemory
+    }
+}
+
+impl<T: Drop> From<AllocFailed<T>> for NameFault {
+    ghost from_gives = { λ _ e. e ≡ no_memory };
+
+    fn from(_error: AllocFailed<T>) -> NameFault {
+        NameFault::OutOfMemory
+    }
+}
+
+/// The value of an expression in whole numbers. The members of a sum or a product are evaluated from left
+/// to right, and then it is judged whole.
+#[cycle(value)]
+pub fn value(scope: &Scope, expr: &Expr) -> Result<u64, Flaw>
+    ensures { told result ≡ value (in_expression scope.now.numbers (expr_of expr.now)) }
+{
+    match expr {
+        Expr::Number(number) => Ok(*number),
+        Expr::Variable(word) => variable(scope, word.as_str()),
+        Expr::Sum(members) => sum(scope, members.as_slice()),
+        Expr::Product(members) => product(scope, members.as_slice()),
+        Expr::Minus(from, less) => difference(value(scope, from)?, value(scope, less)?),
+    }
+}
+
+/// The number that stands for a variable.
+fn variable(scope: &Scope, word: &str) -> Result<u64, Flaw>
+    ensures { told result ≡ value (in_expression scope.now.numbers (variable_of word.now)) }
+{
+    match scope.number(word) {
+        Some(number) => Ok(number),
+        None => Err(Flaw::Unknown),
+    }
+}
+
+/// The values together. A number past the limit is kept as the limit, since a later member can be unknown.
+#[cycle(value)]
+fn sum(scope: &Scope, members: &[Expr]) -> Result<u64, Flaw>
+    ensures { told result ≡ value (in_expression scope.now.numbers (sum_expression (expressions (map expr_of members.now)))) }
+{
+    let mut total: u128 = 0;
+    for member in members {
+        let more = value(scope, member)?;
+        total = limited(total + u128::from(more));
+    }
+    fitting(total)
+}
+
+/// The product of the values. A number past the limit is kept as the limit, since a later value can be 0.
+#[cycle(value)]
+fn product(scope: &Scope, members: &[Expr]) -> Result<u64, Flaw>
+    ensures { told result ≡ value (in_expression scope.now.numbers (product_expression (expressions (map expr_of members.now)))) }
+{
+    let mut total: u128 = 1;
+    for member in members {
+        let factor = value(scope, member)?;
+        total = limited(total * u128::from(factor));
+    }
+    fitting(total)
+}
+
+/// The number, or the limit where it is past it.
+fn limited(number: u128) -> u128
+    ensures { result ≡ (if nat_lt number (2 ^ 64) then number else 2 ^ 64) }
+{
+    if number < LIMIT { number } else { LIMIT }
+}
+
+/// The number as a value, if it is one.
+fn fitting(number: u128) -> Result<u64, Flaw>
+    ensures { told result ≡ fitting number }
+{
+    if number < LIMIT {
+        Ok(number as u64)
+    } else {
+        Err(Flaw::Range)
+    }
+}
+
+/// The number from which another is taken away, if it is no less than the other.
+fn difference(from: u64, less: u64) -> Result<u64, Flaw>
+    ensures { told result ≡ difference from less }
+{
+    if less <= from {
+        Ok(from - less)
+    } else {
+        Err(Flaw::Range)
+    }
+}
+
+/// The value of an expression that may be left out, for which another value stands then.
+pub fn value_or(scope: &Scope, other: u64, expr: &Option<Expr>) -> Result<u64, Flaw>
+    ensures { told result ≡ value_or other (in_option scope.now.numbers (maybe_of expr.now)) }
+{
+    match expr {
+        None => Ok(other),
+        Some(expr) => value(scope, expr),
+    }
+}
+
+/// The full name that a declared name spells: inside of a module the full name of the use stands before it.
+pub fn declared_name(
+    alloc: Global,
+    scope: &Scope,
+    name: &[PartExpr],
+) -> Result<Text, NameFault>
+    ensures { GivesPart result (full_name (in_declared scope.now (name_of name.now))) }
+{
+    let mut text = String::new(alloc);
+    match scope.prefix() {
+        Some(prefix) => {
+            text.push_str(prefix)?;
+            push_after_dots(&mut text, scope, name)?;
+        }
+        None => push_dotted(&mut text, scope, name)?,
+    }
+    Ok(Text::from_string(text))
+}
+
+/// The full name to which a name refers: one part without an index that spells a node parameter is the
+/// argument's, and any other is as a declared name.
+pub fn reference(alloc: Global, scope: &Scope, name: &[PartExpr]) -> Result<Text, NameFault>
+    ensures { GivesPart result (full_name (in_reference scope.now (name_of name.now))) }
+{
+    match argument(scope, name) {
+        Some(text) => Ok(Text::of(alloc, text)?),
+        None => declared_name(alloc, scope, name),
+    }
+}
+
+/// The full name that stands for a name of one part without an index. `None` exactly where it spells no
+/// node parameter.
+fn argument<'a>(scope: &'a Scope, name: &[PartExpr]) -> Option<&'a str>
+    ensures { option_map (λ t. t.now) result ≡ node_by scope.now.naming (word_of (name_of name.now)) }
+{
+    match name {
+        [part] => match part.index {
+            None => scope.node(part.title.as_str()),
+            Some(_) => None,
+        },
+        _ => None,
+    }
+}
+
+/// Appends the parts joined by `.`.
+fn push_dotted(out: &mut String, scope: &Scope, parts: &[PartExpr]) -> Result<(), NameFault>
+    ensures { Appends result (string_bytes out.old) (string_bytes out.new) (full_name (map (in_part scope.now.numbers) (name_of parts.now))) }
+{
+    let [first, rest @ ..] = parts else {
+        return Ok(());
+    };
+    push_part(out, scope, first)?;
+    push_after_dots(out, scope, rest)
+}
+
+/// Appends the parts, each with a `.` before it.
+fn push_after_dots(out: &mut String, scope: &Scope, parts: &[PartExpr]) -> Result<(), NameFault>
+    ensures { Appends result (string_bytes out.old) (string_bytes out.new) (dots_before (map (in_part scope.now.numbers) (name_of parts.now))) }
+{
+    for part in parts {
+        out.push_str(".")?;
+        push_part(out, scope, part)?;
+    }
+    Ok(())
+}
+
+/// Appends a part, with the value of its index in brackets where it has one. After a fault a part of it may
+/// have been appended.
+fn push_part(out: &mut String, scope: &Scope, part: &PartExpr) -> Result<(), NameFault>
+    ensures { Appends result (string_bytes out.old) (string_bytes out.new) (part_text (in_part scope.now.numbers (part_of part.now))) }
+{
+    out.push_str(part.title.as_str())?;
+    if let Some(index) = &part.index {
+        let number = value(scope, index)?;
+        write!(out, "[{number}]")?;
+    }
+    Ok(())
+}
