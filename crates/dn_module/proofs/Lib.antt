@@ -1,3 +1,9 @@
+pub mod Closed
 pub mod Each
+pub mod Known
+pub mod Outside
 pub mod Places
+pub mod Replaced
+pub mod Scopes
 pub mod Totals
+pub mod Works

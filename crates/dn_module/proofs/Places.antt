@@ -1,7 +1,8 @@
 -- The place of a value in a list of views.
-use Rattle.std.proofs.Common.{◌≡◌, refl, List, [], ◌∷◌, map, Bool, not, position}
+use Rattle.std.proofs.Common.{◌≡◌, ap, refl, List, [], ◌∷◌, ◌++◌, map, true, false, Bool, not, ◌||◌, position}
 use Rattle.std.proofs.lemmas.List.{length-map}
 use Rattle.std.specs.List.{list_any, prefix_len}
+use Rattle.indexmap.specs.IndexMap.{insert_entry}
 
 prefix_len-map : {X Y : Type 0} (f : X → Y) (p : Y → Bool) (xs : List X) → prefix_len p (map f xs) ≡ prefix_len (λ x. p (f x)) xs
 prefix_len-map f p [] = refl
@@ -14,3 +15,19 @@ position-map f p xs = simp (prefix_len-map f (λ y. not (p y)) xs, length-map xs
 pub list_any-map : {X Y : Type 0} (f : X → Y) (p : Y → Bool) (xs : List X) → list_any p (map f xs) ≡ list_any (λ x. p (f x)) xs
 list_any-map f p [] = refl
 list_any-map f p (x ∷ xs) = simp (list_any-map f p xs)
+
+either_false : (a b : Bool) → (a || b) ≡ false → (a ≡ false) × (b ≡ false)
+either_false true b e = cc
+either_false false b e = (refl, e)
+
+-- an entry of a new key goes last
+pub insert_entry-new : {K V Y : Type 0} (f : K × V → Y) (p : Y → Bool) (eq : K → K → Bool) (k : K) (v : V) → ((e : K × V) → eq k e.0 ≡ p (f e)) → (es : List (K × V)) → list_any p (map f es) ≡ false → insert_entry eq es k v ≡ es ++ (k, v) ∷ []
+insert_entry-new f p eq k v same [] h = refl
+insert_entry-new f p eq k v same (e ∷ es) h =
+    let parts = either_false (p (f e)) (list_any p (map f es)) h in
+    simp (same e, parts.0, insert_entry-new f p eq k v same es parts.1)
+
+-- an item that is put last
+pub map-last : {X Y : Type 0} (f : X → Y) (xs : List X) (x : X) → map f (xs ++ x ∷ []) ≡ map f xs ++ f x ∷ []
+map-last f [] x = refl
+map-last f (y ∷ ys) x = simp (map-last f ys x)

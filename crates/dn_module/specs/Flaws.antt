@@ -1,5 +1,5 @@
 -- What a call on a part of one statement answers: what is made, or the flaw. The line is not known there.
-use Rattle.std.specs.Prelude.{◌≡◌, ℕ, List, ◌++◌, Result, Ok, Err}
+use Rattle.std.specs.Prelude.{◌≡◌, ℕ, List, [], ◌++◌, Result, Ok, Err}
 use Rattle.dn_module.specs.declared.values.Flaw.{Flaw as CodeFlaw}
 use Rattle.dn_module.specs.declared.values.Flaw.TheVariants.{Unknown, Range}
 use Rattle.dn_module.specs.declared.values.NameFault.{NameFault}
@@ -7,6 +7,7 @@ use Rattle.dn_module.specs.declared.values.NameFault.TheVariants.{Flawed, OutOfM
 use Rattle.dn_module.specs.declared.fault.ExpandFault.{ExpandFault}
 use Rattle.dn_module.specs.declared.fault.ExpandFault.TheVariants.{Unknown as UnknownAt, Value as ValueAt, OutOfMemory as no_memory}
 use Rattle.dn_parse.specs.Tree.{Part}
+use Rattle.dn_module.specs.Replace.{Replacement, as_they_stand}
 use Rattle.dn_module.specs.Values.{Flaw, unknown_variable, out_of_range, ◌>>=◌, each, part_text, after_dots}
 
 abbrev pub flaw_of : CodeFlaw → Flaw
@@ -50,3 +51,7 @@ abbrev pub dots_before : List Part → Result (List ℕ) Flaw
 dots_before ps = do
   ts ← each part_text ps
   Ok (after_dots ts)
+
+-- what is replaced outside of modules and loops
+abbrev pub nothing_replaced : Replacement
+nothing_replaced = record { numbers = []; naming = as_they_stand }

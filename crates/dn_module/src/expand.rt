@@ -9,7 +9,10 @@ ghost use Rattle.dn_module.specs.Expand.{expanded};
 ghost use Rattle.dn_module.specs.Told.{GivesBy, outcome_of};
 
 use crate::command::Commands;
+use crate::commands::commands;
 use crate::fault::ExpandFault;
+use crate::link::linked_net;
+use crate::machine::expand_body;
 use dn_net::net::Net;
 use dn_parse::syntax::Tree;
 use std::alloc::Global;
@@ -29,5 +32,9 @@ pub fn expand(alloc: Global, tree: &Tree) -> Result<Expanded, ExpandFault>
     ensures closed { IfOk result (λ e. IsTrue (is_closed e.net)) }
     ensures known { IfOk result (λ e. IsTrue (list_all (names_within (length e.net)) e.commands)) }
 {
-    Err(ExpandFault::OutOfMemory)
+    let made = expand_body(alloc, tree.body.as_slice())?;
+    let drafts = &made.drafts;
+    let commands = commands(alloc, drafts.names(), tree.commands.as_slice())?;
+    let net = linked_net(alloc, drafts.names(), drafts.as_slice())?;
+    Ok(Expanded { net, commands })
 }

@@ -91,11 +91,7 @@ fn role_of(role: DeclRole) -> Role
 }
 
 /// The full name of the node that serves the rest, where there is one.
-fn over(
-    alloc: Global,
-    scope: &Scope,
-    name: &Option<NameExpr>,
-) -> Result<Option<Text>, NameFault>
+fn over(alloc: Global, scope: &Scope, name: &Option<NameExpr>) -> Result<Option<Text>, NameFault>
     ensures { GivesPart result (full_name_or_none (option_map (in_reference scope.now) (maybe_name_of name.now))) }
 {
     match name {
@@ -128,12 +124,7 @@ fn blocks(alloc: Global, scope: &Scope, ranges: &[BlockExpr]) -> Result<Items<Bl
 }
 
 /// A destination of a block with this first address, which is its own where none is given.
-fn dest(
-    alloc: Global,
-    scope: &Scope,
-    lo: u64,
-    dest: &DestExpr,
-) -> Result<DraftDest, NameFault>
+fn dest(alloc: Global, scope: &Scope, lo: u64, dest: &DestExpr) -> Result<DraftDest, NameFault>
     ensures { GivesPart result (dest_of lo (in_dest scope.now (dest_seen dest.now))) }
 {
     let to = reference(alloc, scope, dest.name.as_slice())?;

@@ -27,8 +27,8 @@ fn takes_bodies_in_their_order(rt: HostRuntime) -> Result<(), Fail> {
         ("for i in 2..4; a[i] is; end; begin;", " a[2] a[3] a[4]"),
         ("for i in 3..2; a[i] is; end; b is; begin;", " b"),
         (
-            "for i in 0..1; for j in i..1; a[i][j] is; end; b[i] is; end; begin;",
-            " a[0][0] a[0][1] b[0] a[1][1] b[1]",
+            "for i in 0..1; for j in i..1; a[i].c[j] is; end; b[i] is; end; begin;",
+            " a[0].c[0] a[0].c[1] b[0] a[1].c[1] b[1]",
         ),
         (
             "for i in 0..1; for i in 5..6; a[i] is; end; b[i] is; end; begin;",
@@ -55,8 +55,8 @@ fn takes_bodies_in_their_order(rt: HostRuntime) -> Result<(), Fail> {
             "Unknown { line: 2 }",
         ),
         ("module m(num k);\nend; use m(node k) as z; begin;", "Arguments { line: 2 }"),
-        ("module m(num k);\nend; use m(i) as z[0-1]; begin;", "Unknown { line: 2 }"),
-        ("module m(num k);\nend; use m(1) as z[0-1]; begin;", "Value { line: 2 }"),
+        ("module m(num k);\nend; use m(i) as z[(0-1)]; begin;", "Unknown { line: 2 }"),
+        ("module m(num k);\nend; use m(1) as z[(0-1)]; begin;", "Value { line: 2 }"),
         ("module m(num k, node k); end; begin;", "Duplicate { line: 1 }"),
     ];
     for (text, wanted) in rows {

@@ -164,11 +164,7 @@ pub fn value_or(scope: &Scope, other: u64, expr: &Option<Expr>) -> Result<u64, F
 }
 
 /// The full name that a declared name spells: inside of a module the full name of the use stands before it.
-pub fn declared_name(
-    alloc: Global,
-    scope: &Scope,
-    name: &[PartExpr],
-) -> Result<Text, NameFault>
+pub fn declared_name(alloc: Global, scope: &Scope, name: &[PartExpr]) -> Result<Text, NameFault>
     ensures { GivesPart result (full_name (in_declared scope.now (name_of name.now))) }
 {
     let mut text = String::new(alloc);

@@ -1,0 +1,45 @@
+-- What a stack still has to do, through the moves of the machine.
+use Rattle.std.proofs.Common.{◌≡◌, ◌∙◌, ap, sym, refl, ℕ, suc, List, [], ◌∷◌, ◌++◌, map, reverse, drop, true, false, Bool, Option, None, Some, cond, nat_lt}
+use Rattle.std.proofs.lemmas.List.{append_assoc, reverse-append}
+use Rattle.dn_parse.specs.Tree.{Items}
+use Rattle.dn_module.specs.declared.stack.Turns.{Turns}
+use Rattle.dn_module.specs.declared.stack.Rest.{Rest}
+use Rattle.dn_module.specs.declared.stack.Use.{Use}
+use Rattle.dn_module.specs.declared.stack.Stack.{Stack}
+use Rattle.dn_module.specs.Expand.{Scope, Work, turns, statements, turn_of}
+use Rattle.dn_module.specs.Replace.{Replacement, one_number, hiding, in_items}
+use Rattle.dn_module.specs.Stack.{seen_body, loop_body, turns_works, after_works, turn_works, rest_works, outside_of, bodies_works, use_works, uses_works, stack_works}
+use Rattle.dn_module.proofs.Replaced.{one_more}
+
+-- a body that is at its end goes
+pub bodies_left : (s : Scope) (r : Replacement) (b x : Rest) (bs : List Rest) → rest_works s r b ≡ [] → bodies_works s r (b ∷ reverse (bs ++ x ∷ [])) ≡ bodies_works s (outside_of r) (x ∷ reverse bs)
+bodies_left s r b x bs none =
+    ap (λ ws. ws ++ bodies_works s (outside_of r) (reverse (bs ++ x ∷ []))) none
+    ∙ ap (bodies_works s (outside_of r)) (reverse-append bs (x ∷ []))
+
+-- a use that is at its end goes
+pub uses_left : (u x : Use) (us : List Use) → use_works u ≡ [] → uses_works (u ∷ reverse (us ++ x ∷ [])) ≡ uses_works (x ∷ reverse us)
+uses_left u x us none =
+    ap (λ ws. ws ++ uses_works (reverse (us ++ x ∷ []))) none
+    ∙ ap uses_works (reverse-append us (x ∷ []))
+
+-- one use more
+pub uses_more : (u x : Use) (us : List Use) → uses_works (x ∷ reverse (us ++ u ∷ [])) ≡ use_works x ++ uses_works (u ∷ reverse us)
+uses_more u x us = ap (λ l. use_works x ++ uses_works l) (reverse-append us (u ∷ []))
+
+-- a turn is gone into: its body, the turns after it, and what was there before
+pub turn_entered : (s : Scope) (r : Replacement) (t : Turns) (inner pushed now : Rest) (bs : List Rest) → rest_works s r inner ≡ statements s (in_items r (seen_body inner.statements.now))
+    → rest_works s r pushed ≡ after_works s r t ++ statements s (in_items r (seen_body inner.statements.now))
+    → rest_works s (record { numbers = (t.variable.now, t.next) ∷ r.numbers; naming = r.naming }) now ≡ statements s (in_items (record { numbers = (t.variable.now, t.next) ∷ r.numbers; naming = r.naming }) (seen_body t.body.now))
+    → bodies_works s (record { numbers = (t.variable.now, t.next) ∷ r.numbers; naming = r.naming }) (now ∷ reverse (bs ++ pushed ∷ [])) ≡ turn_works s r t ++ bodies_works s r (inner ∷ reverse bs)
+turn_entered s r t inner pushed now bs before after body =
+    let entered : Replacement = record { numbers = (t.variable.now, t.next) ∷ r.numbers; naming = r.naming } in
+    let rest = bodies_works s (outside_of r) (reverse bs) in
+    let here = statements s (in_items r (seen_body inner.statements.now)) in
+    let turn = statements s (in_items (one_number t.variable.now t.next) (loop_body r t)) in
+    ap (λ l. rest_works s entered now ++ bodies_works s r l) (reverse-append bs (pushed ∷ []))
+    ∙ ap (λ ws. ws ++ (rest_works s r pushed ++ rest)) (body ∙ ap (statements s) (sym (one_more t.variable.now t.next r (seen_body t.body.now))))
+    ∙ ap (λ ws. turn ++ (ws ++ rest)) after
+    ∙ ap (λ ws. turn ++ ws) (append_assoc (after_works s r t) here rest)
+    ∙ sym (append_assoc turn (after_works s r t) (here ++ rest))
+    ∙ ap (λ ws. turn_works s r t ++ (ws ++ rest)) (sym before)

@@ -1,0 +1,1 @@
+use Rattle.dn_module.proofs.Works.{bodies_left}

@@ -1,0 +1,186 @@
+//! From the commands of a tree to those of a script. They stand outside of modules and loops.
+
+ghost use Rattle.std.specs.Prelude.{◌≡◌, map, length, Ok, IfOk, IsTrue};
+ghost use Rattle.std.specs.List.{list_all};
+ghost use Rattle.dn_parse.specs.Tree.{resolve as asks_resolve, lookup as asks_lookup, view as asks_view, grant as asks_grant, route as asks_route, absorb as asks_absorb};
+ghost use Rattle.dn_parse.specs.Seen.{name_of, expr_of, order_of, command_of as command_seen};
+ghost use Rattle.dn_module.specs.Commands.{target_of, command_of, commands_of, node_within, names_within};
+ghost use Rattle.dn_module.specs.Values.{value, full_name};
+ghost use Rattle.dn_module.specs.Drafts.{at_line};
+ghost use Rattle.dn_module.specs.Flaws.{told, GivesPart};
+ghost use Rattle.dn_module.specs.Told.{Gives};
+
+use crate::command::{Command, Commands, Target};
+use crate::fault::ExpandFault;
+use crate::names::NameTable;
+use crate::scope::Scope;
+use crate::values::{Flaw, NameFault, declared_name, value};
+use dn_base::items::Items;
+use dn_base::text::Text;
+use dn_parse::syntax;
+use dn_parse::syntax::{Expr, NameExpr, Order};
+use std::alloc::Global;
+
+/// The commands, with the nodes that they name by their numbers, or the first fault.
+pub fn commands(
+    alloc: Global,
+    names: &NameTable,
+    commands: &[syntax::Cmd],
+) -> Result<Commands, ExpandFault>
+    ensures made { Gives result (commands_of names.now (map command_seen commands.now)) }
+    ensures known { IfOk result (λ made. IsTrue (list_all (names_within (length names.now)) made)) }
+{
+    let mut made = Vec::with_capacity(alloc, commands.len())?;
+    for asked in commands {
+        let command = command_at(alloc, names, asked)?;
+        made.push(command)?;
+    }
+    Ok(Items::from_vec(made))
+}
+
+/// A command, or the fault of its statement.
+fn command_at(alloc: Global, names: &NameTable, asked: &syntax::Cmd) -> Result<Command, ExpandFault>
+    ensures made { Gives result (at_line asked.now.line (command_of names.now (order_of asked.now.order))) }
+    ensures known { IfOk result (λ c. IsTrue (names_within (length names.now) c)) }
+{
+    match command(alloc, names, &asked.order) {
+        Ok(command) => Ok(command),
+        Err(fault) => Err(fault.at(asked.line)),
+    }
+}
+
+/// A command, with the nodes that it names by their numbers.
+fn command(alloc: Global, names: &NameTable, order: &Order) -> Result<Command, NameFault>
+    ensures made { GivesPart result (command_of names.now (order_of order.now)) }
+    ensures known { IfOk result (λ c. IsTrue (names_within (length names.now) c)) }
+{
+    match order {
+        Order::Resolve(name, expr) => resolve(alloc, names, name, expr),
+        Order::Lookup(name, expr) => lookup(alloc, names, name, expr),
+        Order::View(name) => view(alloc, names, name),
+        Order::Grant(id, agent, name, base, size) => {
+            grant(alloc, names, id, agent, name, base, size)
+        }
+        Order::Route(id, agent, line, name) => route(alloc, names, id, agent, line, name),
+        Order::Revoke(id) => revoke(alloc, id),
+        Order::Dump => Ok(Command::Dump),
+        Order::Split => Ok(Command::Split),
+        Order::Absorb(name) => absorb(alloc, names, name),
+    }
+}
+
+/// A node as a command names it, with its number where it is there.
+fn target(alloc: Global, names: &NameTable, name: &NameExpr) -> Result<Target, NameFault>
+    ensures made { GivesPart result (target_of names.now (name_of name.now)) }
+    ensures known { IfOk result (λ t. IsTrue (node_within (length names.now) t.node)) }
+{
+    let text = full_name(alloc, name)?;
+    let node = names.find(text.as_str());
+    Ok(Target { text, node })
+}
+
+/// The full name that a name spells.
+#[tactic(auto, using(crate::proofs::Outside::name_stays))]
+fn full_name(alloc: Global, name: &NameExpr) -> Result<Text, NameFault>
+    ensures { GivesPart result (full_name (name_of name.now)) }
+{
+    declared_name(alloc, &Scope::outside(alloc), name.as_slice())
+}
+
+/// The value of an expression.
+#[tactic(auto, using(crate::proofs::Outside::expression_stays))]
+fn number(alloc: Global, expr: &Expr) -> Result<u64, Flaw>
+    ensures { told result ≡ value (expr_of expr.now) }
+{
+    value(&Scope::outside(alloc), expr)
+}
+
+fn resolve(
+    alloc: Global,
+    names: &NameTable,
+    name: &NameExpr,
+    expr: &Expr,
+) -> Result<Command, NameFault>
+    ensures made { GivesPart result (command_of names.now (asks_resolve (name_of name.now) (expr_of expr.now))) }
+    ensures known { IfOk result (λ c. IsTrue (names_within (length names.now) c)) }
+{
+    let target = target(alloc, names, name)?;
+    let addr = number(alloc, expr)?;
+    Ok(Command::Resolve(target, addr))
+}
+
+fn lookup(
+    alloc: Global,
+    names: &NameTable,
+    name: &NameExpr,
+    expr: &Expr,
+) -> Result<Command, NameFault>
+    ensures made { GivesPart result (command_of names.now (asks_lookup (name_of name.now) (expr_of expr.now))) }
+    ensures known { IfOk result (λ c. IsTrue (names_within (length names.now) c)) }
+{
+    let target = target(alloc, names, name)?;
+    let addr = number(alloc, expr)?;
+    Ok(Command::Lookup(target, addr))
+}
+
+fn view(alloc: Global, names: &NameTable, name: &NameExpr) -> Result<Command, NameFault>
+    ensures made { GivesPart result (command_of names.now (asks_view (name_of name.now))) }
+    ensures known { IfOk result (λ c. IsTrue (names_within (length names.now) c)) }
+{
+    let target = target(alloc, names, name)?;
+    Ok(Command::View(target))
+}
+
+fn absorb(alloc: Global, names: &NameTable, name: &NameExpr) -> Result<Command, NameFault>
+    ensures made { GivesPart result (command_of names.now (asks_absorb (name_of name.now))) }
+    ensures known { IfOk result (λ c. IsTrue (names_within (length names.now) c)) }
+{
+    let target = target(alloc, names, name)?;
+    Ok(Command::Absorb(target))
+}
+
+/// A grant to the first node named, of addresses of the second.
+fn grant(
+    alloc: Global,
+    names: &NameTable,
+    id: &Text,
+    agent: &NameExpr,
+    name: &NameExpr,
+    base: &Expr,
+    size: &Expr,
+) -> Result<Command, NameFault>
+    ensures made { GivesPart result (command_of names.now (asks_grant id.now (name_of agent.now) (name_of name.now) (expr_of base.now) (expr_of size.now))) }
+    ensures known { IfOk result (λ c. IsTrue (names_within (length names.now) c)) }
+{
+    let agent = target(alloc, names, agent)?;
+    let node = target(alloc, names, name)?;
+    let base = number(alloc, base)?;
+    let size = number(alloc, size)?;
+    let id = Text::of(alloc, id.as_str())?;
+    Ok(Command::Grant(id, agent, node, base, size))
+}
+
+/// A route of a line of the first node named to the second.
+fn route(
+    alloc: Global,
+    names: &NameTable,
+    id: &Text,
+    agent: &NameExpr,
+    line: &Expr,
+    name: &NameExpr,
+) -> Result<Command, NameFault>
+    ensures made { GivesPart result (command_of names.now (asks_route id.now (name_of agent.now) (expr_of line.now) (name_of name.now))) }
+    ensures known { IfOk result (λ c. IsTrue (names_within (length names.now) c)) }
+{
+    let agent = target(alloc, names, agent)?;
+    let line = number(alloc, line)?;
+    let node = target(alloc, names, name)?;
+    let id = Text::of(alloc, id.as_str())?;
+    Ok(Command::Route(id, agent, line, node))
+}
+
+fn revoke(alloc: Global, id: &Text) -> Result<Command, NameFault>
+    ensures { GivesPart result (Ok (Command.Revoke id.now)) }
+{
+    Ok(Command::Revoke(Text::of(alloc, id.as_str())?))
+}
