@@ -6,4 +6,5 @@ pub mod Places
 pub mod Replaced
 pub mod Scopes
 pub mod Totals
+pub mod Unreplaced
 pub mod Works

@@ -43,3 +43,7 @@ turn_entered s r t inner pushed now bs before after body =
     ∙ ap (λ ws. turn ++ ws) (append_assoc (after_works s r t) here rest)
     ∙ sym (append_assoc turn (after_works s r t) (here ++ rest))
     ∙ ap (λ ws. turn_works s r t ++ (ws ++ rest)) (sym before)
+
+-- a body with no turns to do
+pub free_rest : (s : Scope) (r : Replacement) (b : Rest) → b.turns ≡ None → rest_works s r b ≡ statements s (in_items r (seen_body b.statements.now))
+free_rest s r b none = ap (λ t. turns_works s r t ++ statements s (in_items r (seen_body b.statements.now))) none
