@@ -10,7 +10,7 @@ abbrev Numbers : Type 0
 Numbers = List (List ℕ × ℕ)
 
 -- what was found, or what another list has
-abbrev or_else : {A : Type 0} → Option A → Option A → Option A
+abbrev pub or_else : {A : Type 0} → Option A → Option A → Option A
 or_else None o = o
 or_else (Some a) o = Some a
 
@@ -157,7 +157,7 @@ mutual
   in_items-again ns ms ks both nm no_items = refl
   in_items-again ns ms ks both nm (and_item i is) = λ j. and_item (in_item-again ns ms ks both nm i j) (in_items-again ns ms ks both nm is j)
 
-looked_up-append : {A : Type 0} (v : List ℕ) (xs ys : List (List ℕ × A)) → looked_up v (xs ++ ys) ≡ or_else (looked_up v xs) (looked_up v ys)
+pub looked_up-append : {A : Type 0} (v : List ℕ) (xs ys : List (List ℕ × A)) → looked_up v (xs ++ ys) ≡ or_else (looked_up v xs) (looked_up v ys)
 looked_up-append v [] ys = refl
 looked_up-append v (b ∷ bs) ys = go (bytes_eq v b.0) (looked_up-append v bs ys) where
   go : (t : Bool) → looked_up v (bs ++ ys) ≡ or_else (looked_up v bs) (looked_up v ys) → cond t (Some b.1) (looked_up v (bs ++ ys)) ≡ or_else (cond t (Some b.1) (looked_up v bs)) (looked_up v ys)

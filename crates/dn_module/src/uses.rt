@@ -37,7 +37,7 @@ pub fn used<'a>(
     args: &[Arg],
     prefix: &[PartExpr],
 ) -> Result<Use<'a>, ExpandFault>
-    requires different { IfSome found.entry (λ m. has_twice (map word_of_param (map param_of m.1.params.now)) ≡ false) }
+    requires different { IfSome found (λ m. has_twice (map word_of_param (map param_of m.1.params.now)) ≡ false) }
     ensures { GivesBy use_works result (use_of line (map (in_arg scope.now) (map arg_of args.now)) (in_declared scope.now (name_of prefix.now)) (option_map pair_seen found.entry)) }
 {
     let Some((number, module)) = found else {
