@@ -1,10 +1,12 @@
 pub mod Closed
 pub mod Each
 pub mod Known
+pub mod Limits
 pub mod Outside
 pub mod Places
 pub mod Replaced
 pub mod Scopes
+pub mod Titles
 pub mod Totals
 pub mod Unreplaced
 pub mod Works

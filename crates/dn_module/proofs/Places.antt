@@ -1,5 +1,5 @@
 -- The place of a value in a list of views.
-use Rattle.std.proofs.Common.{◌≡◌, ap, refl, List, [], ◌∷◌, ◌++◌, map, true, false, Bool, not, ◌||◌, position}
+use Rattle.std.proofs.Common.{◌≡◌, ap, refl, List, [], ◌∷◌, ◌++◌, map, true, false, Bool, not, ◌||◌, ◌+◌, arith, length, position}
 use Rattle.std.proofs.lemmas.List.{length-map}
 use Rattle.std.specs.List.{list_any, prefix_len}
 use Rattle.indexmap.specs.IndexMap.{insert_entry}
@@ -26,6 +26,11 @@ insert_entry-new f p eq k v same [] h = refl
 insert_entry-new f p eq k v same (e ∷ es) h =
     let parts = either_false (p (f e)) (list_any p (map f es)) h in
     simp (same e, parts.0, insert_entry-new f p eq k v same es parts.1)
+
+-- one item more
+pub length-last : {X : Type 0} (xs : List X) (x : X) → length (xs ++ x ∷ []) ≡ length xs + 1
+length-last [] x = refl
+length-last (y ∷ ys) x = let h = length-last ys x in omega arith
 
 -- an item that is put last
 pub map-last : {X Y : Type 0} (f : X → Y) (xs : List X) (x : X) → map f (xs ++ x ∷ []) ≡ map f xs ++ f x ∷ []

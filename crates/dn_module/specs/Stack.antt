@@ -1,5 +1,5 @@
 -- What the machine of expansion still has to do, read off its stack.
-use Rattle.std.specs.Prelude.{ℕ, suc, ◌+◌, if◌then◌else◌, nat_lt, List, [], ◌∷◌, ◌++◌, map, reverse, drop, Option, Some, None, Result, Ok}
+use Rattle.std.specs.Prelude.{ℕ, suc, ◌+◌, Bool, true, if◌then◌else◌, nat_lt, List, [], ◌∷◌, ◌++◌, map, reverse, drop, Option, Some, None, Result, Ok}
 use Rattle.dn_parse.specs.declared.syntax.Stmt.{Stmt}
 use Rattle.dn_parse.specs.Tree.{Items, items, Arg}
 use Rattle.dn_parse.specs.Seen.{item_of, param_of}
@@ -19,6 +19,11 @@ use Rattle.dn_module.specs.Replace.{Replacement, one_number, hiding, in_item, in
 abbrev pub scope_of : Visible → Scope
 scope_of All = outside
 scope_of (First count) = within_module count
+
+-- whether a statement may use the module with this number
+abbrev pub sees : Scope → ℕ → Bool
+sees outside number = true
+sees (within_module before) number = nat_lt number before
 
 abbrev pub seen_body : List Stmt → Items
 seen_body body = items (map item_of body)

@@ -1,13 +1,13 @@
 //! The nodes that are made, within the limits of a net.
 
-ghost use Rattle.std.specs.Prelude.{◌≡◌, [], ◌+◌, ◌≤◌, length, not, false, true, IsTrue};
+ghost use Rattle.std.specs.Prelude.{◌≡◌, [], ◌∷◌, ◌++◌, ◌+◌, ◌<◌, ◌≤◌, length, not, false, true, OnOk, OnErr, IfErr, IfSome, IfNone, None, Err};
 ghost use Rattle.std.specs.List.{list_all};
-ghost use Rattle.std.specs.Option.{is_some};
 ghost use Rattle.dn_net.specs.Decode.{is_unit};
-ghost use Rattle.dn_module.specs.Drafts.{with_draft, is_agent, parts_of, names, agents_of, all_parts, limit_passed};
+ghost use Rattle.dn_module.specs.Drafts.{with_draft, is_known, is_agent, parts_of, names, limit_passed};
 ghost use Rattle.dn_module.specs.Expand.{has_twice};
 ghost use Rattle.dn_module.specs.Machine.{limit_by};
 ghost use Rattle.dn_module.specs.Told.{GivesBy};
+ghost use Rattle.dn_module.specs.declared.fault.ExpandFault.TheVariants.{OutOfMemory as no_memory};
 
 use crate::draft::Draft;
 use crate::fault::ExpandFault;
@@ -91,26 +91,60 @@ impl Drafts {
     }
 
     /// Adds a node: its full name was not there before, and no limit is passed. The limits are those on
-    /// nodes, on agents and on parts, in this order.
+    /// nodes, on agents and on parts, in this order. After a fault the nodes are unchanged.
     pub fn add(&mut self, alloc: Global, draft: Draft) -> Result<(), ExpandFault>
         requires no_unit { not (is_unit draft.role) ≡ true }
-        ensures { GivesBy (λ _. self.new) result (with_draft self.old draft) }
+        ensures added { GivesBy (λ _. self.new) result (with_draft self.old draft) }
+        ensures err { OnErr result (self.new ≡ self.old) }
+    {
+        if let Some(fault) = self.fault(&draft) {
+            return Err(fault);
+        }
+        let agents = self.agents + usize::from(is_agent(draft.role));
+        let parts = self.parts + parts_of(&draft);
+        put(alloc, &mut self.drafts, &mut self.known, draft)?;
+        self.agents = agents;
+        self.parts = parts;
+        Ok(())
+    }
+
+    /// Why a node cannot be added. `None` exactly where it can.
+    fn fault(&self, draft: &Draft) -> Option<ExpandFault>
+        ensures fault { IfSome result (λ e. with_draft self.now draft.now ≡ Err e) }
+        ensures new_name { IfNone result (is_known (names self.now) draft.now.name ≡ false) }
+        ensures within { IfNone result (limit_passed self.now draft.now ≡ None) }
     {
         let line = draft.line;
         if self.known.find(draft.name.as_str()).is_some() {
-            return Err(ExpandFault::Duplicate { line });
+            return Some(ExpandFault::Duplicate { line });
         }
         let agents = self.agents + usize::from(is_agent(draft.role));
-        let more = parts_of(&draft);
-        if let Some(limit) = passed(self.drafts.len(), agents, self.parts, more) {
-            return Err(ExpandFault::TooMany { line, limit });
+        match passed(self.drafts.len(), agents, self.parts, parts_of(draft)) {
+            Some(limit) => Some(ExpandFault::TooMany { line, limit }),
+            None => None,
         }
-        let _ = self.known.add(alloc, draft.name.as_str())?;
-        self.drafts.push(draft)?;
-        self.agents = agents;
-        self.parts += more;
-        Ok(())
     }
+}
+
+/// Puts a node and its full name last. For want of memory both lists are unchanged.
+fn put(
+    alloc: Global,
+    drafts: &mut Vec<Draft>,
+    known: &mut NameTable,
+    draft: Draft,
+) -> Result<(), ExpandFault>
+    requires room { length known.old < 1024 }
+    requires new_name { is_known known.old draft.name ≡ false }
+    ensures drafts { OnOk result (drafts.new.items ≡ drafts.old.items ++ draft ∷ []) }
+    ensures known { OnOk result (known.new ≡ known.old ++ draft.name ∷ []) }
+    ensures drafts_err { OnErr result (drafts.new.items ≡ drafts.old.items) }
+    ensures known_err { OnErr result (known.new ≡ known.old) }
+    ensures err { IfErr result (λ e. e ≡ no_memory) }
+{
+    drafts.reserve(1)?;
+    let _ = known.add(alloc, draft.name.as_str())?;
+    drafts.push(draft)?;
+    Ok(())
 }
 
 /// The limit that one node more passes, where there are so many nodes and parts before it, so many agents

@@ -43,6 +43,20 @@ pub struct Modules<'a> {
     ghost different: { IsTrue (list_all (λ m. not (has_twice (map (λ p. word_of_param (param_of p)) m.params.now))) modules.items) },
 }
 
+impl Visible {
+    ghost use Rattle.dn_module.specs.Stack.{scope_of, sees};
+
+    /// Whether a statement may use the module with this number, which is known.
+    fn includes(self, number: u16) -> bool
+        ensures { result ≡ sees (scope_of self) number }
+    {
+        match self {
+            Visible::All => true,
+            Visible::First(count) => number < count,
+        }
+    }
+}
+
 impl<'a> Modules<'a> {
     ghost use Rattle.dn_module.specs.Stack.{module_seen, modules_seen, scope_of};
 
@@ -63,7 +77,10 @@ impl<'a> Modules<'a> {
         if self.modules.len() >= MAX_MODULES {
             return Err(ExpandFault::TooMany { line, limit: 256 });
         }
-        if self.names.find(module.title).is_some() || has_twice(alloc, module.params)? {
+        if self.names.find(module.title).is_some() {
+            return Err(ExpandFault::Duplicate { line });
+        }
+        if has_twice(alloc, module.params)? {
             return Err(ExpandFault::Duplicate { line });
         }
         let _ = self.names.add(alloc, module.title)?;
@@ -78,21 +95,13 @@ impl<'a> Modules<'a> {
         ensures different { IfSome result (λ m. has_twice (map word_of_param (map param_of m.1.params.now)) ≡ false) }
     {
         let number = self.names.find(title)?;
-        if !is_visible(visible, number) {
+        if !visible.includes(number) {
             return None;
         }
         match self.modules.get(usize::from(number)) {
             Some(module) => Some((number, *module)),
             None => None,
         }
-    }
-}
-
-/// Whether a statement may use the module with this number, which is known.
-fn is_visible(visible: Visible, number: u16) -> bool {
-    match visible {
-        Visible::All => true,
-        Visible::First(count) => number < count,
     }
 }
 
