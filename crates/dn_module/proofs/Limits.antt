@@ -84,7 +84,7 @@ within_step nodes all parts more false false u false n a p few e =
 pub within_limits : (ds : List Draft) (d : Draft) → agents_of ds ≤ 64 → limit_passed ds d ≡ None → AreWithin (length ds + 1) (agents_of ds + one_if (is_agent d.role)) (all_parts ds + parts_of d)
 within_limits ds d few none = within_step (length ds) (agents_of ds) (all_parts ds) (parts_of d) (is_agent d.role) _ _ _ refl refl refl few none
 
-found_is : (known : List (List ℕ)) (text : List ℕ) (r : Option ℕ) → r ≡ position (bytes_eq text) known → is_known known text ≡ is_some r
+pub found_is : (known : List (List ℕ)) (text : List ℕ) (r : Option ℕ) → r ≡ position (bytes_eq text) known → is_known known text ≡ is_some r
 found_is known text None e = is_known-None known text (sym e)
 found_is known text (Some n) e = is_known-Some known text n (sym e)
 

@@ -1,7 +1,7 @@
 -- The place of a value in a list of views.
-use Rattle.std.proofs.Common.{◌≡◌, ap, refl, List, [], ◌∷◌, ◌++◌, map, true, false, Bool, not, ◌||◌, ◌+◌, arith, length, position}
+use Rattle.std.proofs.Common.{◌≡◌, ap, refl, List, [], ◌∷◌, ◌++◌, map, true, false, Bool, not, ◌||◌, ◌+◌, arith, length, position, ℕ, zero, suc, ◌∙◌, sym, ◌&&◌, IsTrue, slice_get, Option, Some, None}
 use Rattle.std.proofs.lemmas.List.{length-map}
-use Rattle.std.specs.List.{list_any, prefix_len}
+use Rattle.std.specs.List.{list_any, list_all, prefix_len}
 use Rattle.indexmap.specs.IndexMap.{insert_entry}
 
 prefix_len-map : {X Y : Type 0} (f : X → Y) (p : Y → Bool) (xs : List X) → prefix_len p (map f xs) ≡ prefix_len (λ x. p (f x)) xs
@@ -36,3 +36,14 @@ length-last (y ∷ ys) x = let h = length-last ys x in omega arith
 pub map-last : {X Y : Type 0} (f : X → Y) (xs : List X) (x : X) → map f (xs ++ x ∷ []) ≡ map f xs ++ f x ∷ []
 map-last f [] x = refl
 map-last f (y ∷ ys) x = simp (map-last f ys x)
+
+both : (a b : Bool) → IsTrue (a && b) → IsTrue a × IsTrue b
+both true true e = (refl, refl)
+both true false e = cc
+both false b e = cc
+
+-- what is true of each item is true of the one at a place
+pub list_all-at : {X : Type 0} (p : X → Bool) (xs : List X) (i : ℕ) (x : X) → IsTrue (list_all p xs) → slice_get xs i ≡ Some x → IsTrue (p x)
+list_all-at p [] i x all at = cc
+list_all-at p (y ∷ ys) zero x all at = let s : y ≡ x = cc in ap p (sym s) ∙ (both (p y) (list_all p ys) all).0
+list_all-at p (y ∷ ys) (suc i) x all at = list_all-at p ys i x (both (p y) (list_all p ys) all).1 at

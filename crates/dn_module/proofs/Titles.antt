@@ -1,14 +1,19 @@
 -- Modules by their names, and the words of their parameters.
-use Rattle.std.proofs.Common.{◌≡◌, ◌∙◌, ap, sym, refl, arith, ℕ, zero, suc, ◌+◌, ◌<◌, ◌≤◌, nat_lt, Bool, true, false, not, ◌||◌, cond, List, [], ◌∷◌, ◌++◌, length, map, take, drop, get_or, slice_get, position, Option, Some, None, is_some}
+use Rattle.std.proofs.Common.{◌≡◌, ◌∙◌, ap, sym, refl, arith, ℕ, zero, suc, ◌+◌, ◌<◌, ◌≤◌, nat_lt, Bool, true, false, not, ◌||◌, cond, List, [], ◌∷◌, ◌++◌, length, map, take, drop, get_or, slice_get, position, Option, Some, None, IsTrue, Ok, Err}
+use Rattle.std.proofs.lemmas.Bool.Decides.{nat_tests}
 use Rattle.std.proofs.lemmas.Bool.{ltb-false, ltb-true, cases_lt}
-use Rattle.std.proofs.lemmas.List.{length-map, map_more, map-append, take-append-drop}
+use Rattle.std.proofs.lemmas.List.{length-map, map_more, map-append, take-append-drop, take_all}
 use Rattle.std.specs.List.{prefix_len, list_any}
 use Rattle.std.specs.Str.{bytes_eq}
+use Rattle.dn_parse.specs.declared.syntax.Param.{Param as CodeParam}
+use Rattle.dn_parse.specs.Seen.{param_of}
 use Rattle.dn_module.specs.declared.modules.Module.{Module as CodeModule}
-use Rattle.dn_module.specs.Expand.{Module, Scope, outside, within_module, module_from, usable, has_twice, is_module}
+use Rattle.dn_module.specs.Expand.{Module, Scope, outside, within_module, module_from, usable, has_twice, is_module, word_of_param, with_module}
+use Rattle.dn_module.specs.declared.fault.ExpandFault.TheVariants.{Duplicate}
 use Rattle.dn_module.specs.Drafts.{is_known}
 use Rattle.dn_module.specs.Stack.{sees, module_seen}
 use Rattle.dn_module.proofs.Known.{twice-push, twice-append}
+use Rattle.dn_module.proofs.Places.{list_any-map}
 
 -- the place of the first module with a name, or past them all
 place : List ℕ → List Module → ℕ
@@ -94,7 +99,7 @@ module _ (title : List ℕ) where
     unfolding place
     past_all e =
         let more = ltb-false _ _ (none_at _ _ e) in
-        let same = length-map (λ (m : Module). m.title) ms in
+        let same = length-map ms (λ (m : Module). m.title) in
         omega arith
 
     pub no_module : (s : Scope) → position (bytes_eq title) titles ≡ None → module_from 0 title (usable s ms) ≡ None
@@ -112,3 +117,76 @@ titles_are (m ∷ ms) = ap (λ l. m.title.now ∷ l) (titles_are ms)
 pub is_module-titles : (ms : List Module) (title : List ℕ) → is_module ms title ≡ is_known (map (λ m. m.title) ms) title
 is_module-titles [] title = refl
 is_module-titles (m ∷ ms) title = ap (λ b. bytes_eq title m.title || b) (is_module-titles ms title)
+
+pub is_once : (b : Bool) → IsTrue (not b) → b ≡ false
+is_once true h = cc
+is_once false h = refl
+
+-- the words of parameters
+abbrev pub param_words : List CodeParam → List (List ℕ)
+param_words ps = map (λ p. word_of_param (param_of p)) ps
+
+pub words_are : (ps : List CodeParam) → map word_of_param (map param_of ps) ≡ param_words ps
+words_are [] = refl
+words_are (p ∷ ps) = ap (λ l. word_of_param (param_of p) ∷ l) (words_are ps)
+
+words_more : (ps : List CodeParam) (i : ℕ) (p : CodeParam) → i < length ps → p ≡ get_or ps i p → has_twice (param_words (take (i + 1) ps)) ≡ (is_known (param_words (take i ps)) (word_of_param (param_of p)) || has_twice (param_words (take i ps)))
+words_more ps i p h e =
+    ap has_twice (map_more (λ (q : CodeParam). word_of_param (param_of q)) ps i p h)
+    ∙ twice-push (param_words (take i ps)) (word_of_param (param_of (get_or ps i p)))
+    ∙ ap (λ (q : CodeParam). is_known (param_words (take i ps)) (word_of_param (param_of q)) || has_twice (param_words (take i ps))) (sym e)
+
+-- a word that was there before comes twice
+pub word_met : (ps : List CodeParam) (i : ℕ) (p : CodeParam) → i < length ps → p ≡ get_or ps i p → is_known (param_words (take i ps)) (word_of_param (param_of p)) ≡ true → has_twice (param_words ps) ≡ true
+word_met ps i p h e k =
+    let front : has_twice (param_words (take (i + 1) ps)) ≡ true = words_more ps i p h e ∙ ap (λ b. b || has_twice (param_words (take i ps))) k in
+    let parts : param_words ps ≡ param_words (take (i + 1) ps) ++ param_words (drop (i + 1) ps) =
+      ap param_words (sym (take-append-drop (i + 1) ps)) ∙ map-append (λ (q : CodeParam). word_of_param (param_of q)) (take (i + 1) ps) (drop (i + 1) ps) in
+    ap has_twice parts ∙ twice-append (param_words (take (i + 1) ps)) (param_words (drop (i + 1) ps)) front
+
+-- one that was not there comes once
+pub word_new : (ps : List CodeParam) (i : ℕ) (p : CodeParam) → i < length ps → p ≡ get_or ps i p → is_known (param_words (take i ps)) (word_of_param (param_of p)) ≡ false → has_twice (param_words (take i ps)) ≡ false → has_twice (param_words (take (i + 1) ps)) ≡ false
+word_new ps i p h e k l = words_more ps i p h e ∙ ap (λ b. b || has_twice (param_words (take i ps))) k ∙ l
+
+-- a word that was put among others, by the answer of the set that keeps them
+module _ {S : Type 0} (text : S → List ℕ) (keys : List S) (key : S) where
+  pub was_known : (words : List (List ℕ)) (w : List ℕ) (is_new : Bool) → is_new ≡ not (list_any (λ k. bytes_eq (text key) (text k)) keys) → text key ≡ w → map text keys ≡ words → is_known words w ≡ not is_new
+  was_known words w is_new e t k =
+      ap (is_known words) (sym t)
+      ∙ ap (λ l. is_known l (text key)) (sym k)
+      ∙ list_any-map text (bytes_eq (text key)) keys
+      ∙ twice_not (list_any (λ k. bytes_eq (text key) (text k)) keys)
+      ∙ ap not (sym e)
+    where
+      twice_not : (b : Bool) → b ≡ not (not b)
+      twice_not true = refl
+      twice_not false = refl
+
+  pub put_last : (now : List S) (is_new : Bool) → is_new ≡ not (list_any (λ k. bytes_eq (text key) (text k)) keys) → is_new ≡ true → now ≡ cond (list_any (λ k. bytes_eq (text key) (text k)) keys) keys (keys ++ key ∷ []) → map text now ≡ map text keys ++ text key ∷ []
+  put_last now is_new e n is = go (list_any (λ k. bytes_eq (text key) (text k)) keys) e is where
+    go : (b : Bool) → is_new ≡ not b → now ≡ cond b keys (keys ++ key ∷ []) → map text now ≡ map text keys ++ text key ∷ []
+    go true e is = cc
+    go false e is = ap (map text) is ∙ map-append text keys (key ∷ [])
+
+-- the words of the parameters so far, and one more
+pub words_put : (ps : List CodeParam) (i : ℕ) (p : CodeParam) → i < length ps → p ≡ get_or ps i p → param_words (take i ps) ++ word_of_param (param_of p) ∷ [] ≡ param_words (take (i + 1) ps)
+words_put ps i p h e =
+    ap (λ (q : CodeParam). param_words (take i ps) ++ word_of_param (param_of q) ∷ []) e
+    ∙ sym (map_more (λ (q : CodeParam). word_of_param (param_of q)) ps i p h)
+
+pub words_all : (ps : List CodeParam) (i : ℕ) → length ps ≤ i → param_words (take i ps) ≡ map word_of_param (map param_of ps)
+words_all ps i h = ap param_words (take_all i ps h) ∙ sym (words_are ps)
+
+-- one more module: the limit, what is there already, and what becomes of it
+pub few_modules : (n : ℕ) → n < 256 → nat_lt 256 (n + 1) ≡ false
+few_modules n h = grind (arith, nat_tests)
+
+pub module_twice : (ms : List Module) (line : ℕ) (m : Module) → nat_lt 256 (length ms + 1) ≡ false → (is_module ms m.title || has_twice (map word_of_param m.params)) ≡ true → with_module ms line m ≡ Err (Duplicate line)
+module_twice ms line m n h = rw (n, h) refl
+
+pub module_added : (ms : List Module) (line : ℕ) (m : Module) → nat_lt 256 (length ms + 1) ≡ false → (is_module ms m.title || has_twice (map word_of_param m.params)) ≡ false → with_module ms line m ≡ Ok (ms ++ m ∷ [])
+module_added ms line m n h = rw (n, h) refl
+
+pub either : (a b : Bool) → b ≡ true → (a || b) ≡ true
+either true b e = refl
+either false b e = e

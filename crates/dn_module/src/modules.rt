@@ -1,10 +1,12 @@
 //! The modules that were declared.
 
-ghost use Rattle.std.specs.Prelude.{◌≡◌, [], map, length, IfOk, IfSome, option_map, false, ◌≤◌, IsTrue, not};
-ghost use Rattle.std.specs.List.{list_all};
+ghost use Rattle.std.specs.Prelude.{◌≡◌, [], ◌∷◌, ◌++◌, ◌<◌, ◌≤◌, map, length, IfOk, IfErr, IfSome, OnOk, OnErr, option_map, false, IsTrue, not};
+ghost use Rattle.std.specs.List.{list_all, list_any};
+ghost use Rattle.std.specs.Str.{bytes_eq};
 ghost use Rattle.dn_parse.specs.Seen.{param_of};
 ghost use Rattle.dn_module.specs.Expand.{has_twice, word_of_param, with_module, module_from, usable};
 ghost use Rattle.dn_module.specs.Told.{GivesBy};
+ghost use Rattle.dn_module.specs.declared.fault.ExpandFault.TheVariants.{OutOfMemory as no_memory};
 
 use crate::fault::ExpandFault;
 use crate::names::NameTable;
@@ -83,8 +85,7 @@ impl<'a> Modules<'a> {
         if has_twice(alloc, module.params)? {
             return Err(ExpandFault::Duplicate { line });
         }
-        let _ = self.names.add(alloc, module.title)?;
-        self.modules.push(module)?;
+        put(alloc, &mut self.names, &mut self.modules, module)?;
         Ok(())
     }
 
@@ -103,6 +104,27 @@ impl<'a> Modules<'a> {
             None => None,
         }
     }
+}
+
+/// Puts a module and its name last. For want of memory both lists are unchanged.
+fn put<'a>(
+    alloc: Global,
+    names: &mut NameTable,
+    modules: &mut Vec<Module<'a>>,
+    module: Module<'a>,
+) -> Result<(), ExpandFault>
+    requires room { length names.old < 1024 }
+    requires new_name { list_any (bytes_eq «module».title.now) names.old ≡ false }
+    ensures names { OnOk result (names.new ≡ names.old ++ «module».entry.title.now ∷ []) }
+    ensures modules { OnOk result (modules.new.items ≡ modules.old.items ++ «module».entry ∷ []) }
+    ensures names_err { OnErr result (names.new ≡ names.old) }
+    ensures modules_err { OnErr result (modules.new.items ≡ modules.old.items) }
+    ensures err { IfErr result (λ e. e ≡ no_memory) }
+{
+    modules.reserve(1)?;
+    let _ = names.add(alloc, module.title)?;
+    modules.push(module)?;
+    Ok(())
 }
 
 /// Whether two of the parameters have one name.
