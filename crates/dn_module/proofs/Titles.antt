@@ -1,5 +1,5 @@
 -- Modules by their names, and the words of their parameters.
-use Rattle.std.proofs.Common.{◌≡◌, ◌∙◌, ap, sym, refl, arith, ℕ, zero, suc, ◌+◌, ◌<◌, ◌≤◌, nat_lt, Bool, true, false, not, ◌||◌, cond, List, [], ◌∷◌, ◌++◌, length, map, take, drop, get_or, slice_get, position, Option, Some, None, IsTrue, Ok, Err}
+use Rattle.std.proofs.Common.{◌≡◌, ◌∙◌, ap, sym, refl, arith, ℕ, zero, suc, ◌+◌, ◌<◌, ◌≤◌, nat_lt, Bool, true, false, not, ◌||◌, cond, List, [], ◌∷◌, ◌++◌, length, map, take, drop, get_or, slice_get, position, Option, Some, None, IsTrue, Result, Ok, Err, OnOk, OnErr}
 use Rattle.std.proofs.lemmas.Bool.Decides.{nat_tests}
 use Rattle.std.proofs.lemmas.Bool.{ltb-false, ltb-true, cases_lt}
 use Rattle.std.proofs.lemmas.List.{length-map, map_more, map-append, take-append-drop, take_all}
@@ -190,3 +190,8 @@ module_added ms line m n h = rw (n, h) refl
 pub either : (a b : Bool) → b ≡ true → (a || b) ≡ true
 either true b e = refl
 either false b e = e
+
+-- by what a call answered
+pub by_answer : {T E G A A' B B' : Type 0} (r : Result T E) → OnOk r A → OnOk r A' → OnErr r B → OnErr r B' → (A → A' → G) → (B → B' → G) → G
+by_answer (Ok x) a a' b b' f g = f a a'
+by_answer (Err e) a a' b b' f g = g b b'
