@@ -1,3 +1,4 @@
+pub mod Bindings
 pub mod Closed
 pub mod Each
 pub mod Known

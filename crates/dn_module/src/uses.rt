@@ -1,6 +1,6 @@
 //! The use of a module.
 
-ghost use Rattle.std.specs.Prelude.{◌≡◌, ◌++◌, map, option_map, IfSome, IfOk, OnOk, false, true};
+ghost use Rattle.std.specs.Prelude.{◌≡◌, map, option_map, length, IfSome, false};
 ghost use Rattle.std.specs.List.{list_any};
 ghost use Rattle.std.specs.Str.{bytes_eq};
 ghost use Rattle.dn_parse.specs.Seen.{param_of, arg_of, name_of};
@@ -52,7 +52,7 @@ pub fn used<'a>(
     }
 }
 
-/// What stands for the words of a module's body under arguments that fit its parameters.
+/// What stands for the words of a module's body, with an argument for each parameter.
 fn inner_scope(
     alloc: Global,
     scope: &Scope,
@@ -61,7 +61,7 @@ fn inner_scope(
     prefix: &[PartExpr],
 ) -> Result<Scope, NameFault>
     requires different { has_twice (map word_of_param (map param_of params.now)) ≡ false }
-    requires fit { fit (map param_of params.now) (map arg_of args.now) ≡ true }
+    requires count { length params.now ≡ length args.now }
     ensures { GivesPart result (replaced_by (map word_of_param (map param_of params.now)) (map (in_arg scope.now) (map arg_of args.now)) (in_declared scope.now (name_of prefix.now))) }
 {
     let given = give_all(alloc, scope, params, args)?;
@@ -70,7 +70,7 @@ fn inner_scope(
     Ok(Scope::of_use(alloc, text, numbers, nodes))
 }
 
-/// What stands for the parameters, from the arguments, which fit them.
+/// What stands for the parameters, from an argument for each.
 fn give_all(
     alloc: Global,
     scope: &Scope,
@@ -78,15 +78,15 @@ fn give_all(
     args: &[Arg],
 ) -> Result<Given, NameFault>
     requires different { has_twice (map word_of_param (map param_of params.now)) ≡ false }
-    requires fit { fit (map param_of params.now) (map arg_of args.now) ≡ true }
+    requires count { length params.now ≡ length args.now }
     ensures { GivesPartBy given_seen result (bound (map word_of_param (map param_of params.now)) (map (in_arg scope.now) (map arg_of args.now))) }
 {
     let mut given = Given {
         numbers: Words::new(alloc),
         nodes: Words::new(alloc),
     };
-    for (param, arg) in params.iter().zip(args) {
-        give(alloc, scope, &mut given, word_of(param), arg)?;
+    for i in 0..params.len() {
+        give(alloc, scope, &mut given, word_of(&params[i]), &args[i])?;
     }
     Ok(given)
 }
@@ -123,8 +123,8 @@ fn fit(params: &[Param], args: &[Arg]) -> bool
     if params.len() != args.len() {
         return false;
     }
-    for (param, arg) in params.iter().zip(args) {
-        if !fits(param, arg) {
+    for i in 0..params.len() {
+        if !fits(&params[i], &args[i]) {
             return false;
         }
     }
