@@ -17,9 +17,9 @@ use Rattle.dn_module.specs.declared.values.NameFault.TheVariants.{Flawed, OutOfM
 use Rattle.dn_module.specs.Values.{Flaw, unknown_variable, out_of_range, ◌>>=◌, each, full_name}
 use Rattle.dn_module.specs.Drafts.{at_line}
 use Rattle.dn_module.specs.Expand.{Module, Work, statements, within_module, fit, fits_param, word_of_param, has_twice, Given, number, named, given_by, number_pair, node_pair, numbers_of, nodes_of, used_body, use_of}
-use Rattle.dn_module.specs.Flaws.{IsFlaw, fault_at}
+use Rattle.dn_module.specs.Flaws.{IsFlaw, fault_at, flaw_of}
 use Rattle.dn_module.specs.Machine.{bound, given_more, replaced_by}
-use Rattle.dn_module.specs.Replace.{Replacement, under, in_items}
+use Rattle.dn_module.specs.Replace.{Replacement, under, in_items, in_arg}
 use Rattle.dn_module.specs.Told.{IsFault}
 use Rattle.dn_module.proofs.Each.{drop_next}
 
@@ -60,11 +60,19 @@ given_start (Err e) = refl
 pub given_end : (given : Pairs) → given_after given (bound [] []) ≡ Ok given
 given_end given = λ i. Ok (append-nil given.0 i, append-nil given.1 i)
 
+abbrev more_by : List ℕ → Pairs → Given → Result Pairs Flaw
+more_by w old g = Ok (old.0 ++ number_pair w g, old.1 ++ node_pair w g)
+
+abbrev collected : List (List ℕ) → List Given → Result Pairs Flaw
+collected ws gs = Ok (numbers_of ws gs, nodes_of ws gs)
+
+abbrev joined : Result Given Flaw → Result (List Given) Flaw → Result (List Given) Flaw
+joined g gs = g >>= (λ y. gs >>= (λ ys. Ok (y ∷ ys)))
+
 module _ (w : List ℕ) (ws : List (List ℕ)) (x : Arg) (xs : List Arg) (old : Pairs) where
   pub give_next : (new : Pairs) → given_more w old x ≡ Ok new → given_after old (bound (w ∷ ws) (x ∷ xs)) ≡ given_after new (bound ws xs)
   give_next new h = go (given_by x) h (each given_by xs) where
-    go : (g : Result Given Flaw) → (g >>= (λ g. Ok (old.0 ++ number_pair w g, old.1 ++ node_pair w g))) ≡ Ok new → (gs : Result (List Given) Flaw)
-        → given_after old ((g >>= (λ g. gs >>= (λ gs. Ok (g ∷ gs)))) >>= (λ gs. Ok (numbers_of (w ∷ ws) gs, nodes_of (w ∷ ws) gs))) ≡ given_after new (gs >>= (λ gs. Ok (numbers_of ws gs, nodes_of ws gs)))
+    go : (g : Result Given Flaw) → (g >>= more_by w old) ≡ Ok new → (gs : Result (List Given) Flaw) → given_after old (joined g gs >>= collected (w ∷ ws)) ≡ given_after new (gs >>= collected ws)
     go (Err e) h gs = cc
     go (Ok g) h (Err e) = refl
     go (Ok g) h (Ok gs) =
@@ -74,8 +82,7 @@ module _ (w : List ℕ) (ws : List (List ℕ)) (x : Arg) (xs : List Arg) (old : 
 
   pub give_err : (e : Flaw) → given_more w old x ≡ Err e → given_after old (bound (w ∷ ws) (x ∷ xs)) ≡ Err e
   give_err e h = go (given_by x) h where
-    go : (g : Result Given Flaw) → (g >>= (λ g. Ok (old.0 ++ number_pair w g, old.1 ++ node_pair w g))) ≡ Err e
-        → given_after old ((g >>= (λ g. each given_by xs >>= (λ gs. Ok (g ∷ gs)))) >>= (λ gs. Ok (numbers_of (w ∷ ws) gs, nodes_of (w ∷ ws) gs))) ≡ Err e
+    go : (g : Result Given Flaw) → (g >>= more_by w old) ≡ Err e → given_after old (joined g (each given_by xs) >>= collected (w ∷ ws)) ≡ Err e
     go (Err f) h = let s : f ≡ e = cc in ap (λ e. Err e) s
     go (Ok g) h = cc
 
@@ -113,12 +120,12 @@ pub record AreFresh (given : Pairs) (ws : List (List ℕ)) : Type 0 where
   pub no_node : list_all (is_fresh given.1) ws ≡ true
   pub once : has_twice ws ≡ false
 
-all_fresh : {A : Type 0} (ws : List (List ℕ)) → list_all (is_fresh {A = A} []) ws ≡ true
-all_fresh [] = refl
-all_fresh (w ∷ ws) = all_fresh ws
+all_fresh : (A : Type 0) (ws : List (List ℕ)) → list_all (is_fresh {A = A} []) ws ≡ true
+all_fresh A [] = refl
+all_fresh A (w ∷ ws) = all_fresh A ws
 
 pub fresh_start : (ws : List (List ℕ)) → has_twice ws ≡ false → AreFresh ([], []) ws
-fresh_start ws once = record { no_number = all_fresh ws; no_node = all_fresh ws; once = once }
+fresh_start ws once = record { no_number = all_fresh ℕ ws; no_node = all_fresh (List ℕ) ws; once = once }
 
 not_true : (b : Bool) → not b ≡ true → b ≡ false
 not_true true e = cc
@@ -152,15 +159,24 @@ module _ (given : Pairs) (w : List ℕ) (ws : List (List ℕ)) (fresh : AreFresh
       subst (λ p. AreFresh p ws) same (record { no_number = rw (append-nil given.0) numbers; no_node = still_fresh given.1 w text ws nodes apart.0; once = apart.1 })
 
 -- the body of a use, by what is replaced in it
-pub use_is : (line : ℕ) (xs : List Arg) (prefix : List Part) (place : ℕ) (m : Module) → fit m.params xs ≡ true
-    → use_of line xs prefix (Some (place, m)) ≡ (at_line line (replaced_by (map word_of_param m.params) xs prefix) >>= (λ r. Ok (statements (within_module place) (in_items r m.body))))
-use_is line xs prefix place m fits = rw fits (go (each given_by xs) (full_name prefix)) where
-  words : List (List ℕ)
-  words = map word_of_param m.params
+abbrev named_by : List ℕ → Pairs → Replacement
+named_by text given = record { numbers = given.0; naming = under text given.1 }
 
+abbrev pub body_works : ℕ → Module → Replacement → Result (List Work) ExpandFault
+body_works place m r = Ok (statements (within_module place) (in_items r m.body))
+
+abbrev naming_of : Result (List ℕ) Flaw → Pairs → Result Replacement Flaw
+naming_of t given = t >>= (λ text. Ok (named_by text given))
+
+abbrev used_works : ℕ → Module → List Given → List ℕ → Result (List Work) ExpandFault
+used_works place m gs text = Ok (statements (within_module place) (used_body m gs text))
+
+pub use_is : (line : ℕ) (xs : List Arg) (prefix : List Part) (place : ℕ) (m : Module) → fit m.params xs ≡ true
+    → use_of line xs prefix (Some (place, m)) ≡ (at_line line (replaced_by (map word_of_param m.params) xs prefix) >>= body_works place m)
+use_is line xs prefix place m fits = rw fits (go (each given_by xs) (full_name prefix)) where
   go : (gs : Result (List Given) Flaw) (t : Result (List ℕ) Flaw)
-      → (at_line line gs >>= (λ givens. at_line line t >>= (λ text. Ok (statements (within_module place) (used_body m givens text)))))
-      ≡ (at_line line ((gs >>= (λ gs. Ok (numbers_of (map word_of_param m.params) gs, nodes_of (map word_of_param m.params) gs))) >>= (λ given. t >>= (λ text. Ok (record { numbers = given.0; naming = under text given.1 })))) >>= (λ r. Ok (statements (within_module place) (in_items r m.body))))
+      → (at_line line gs >>= (λ givens. at_line line t >>= used_works place m givens))
+      ≡ (at_line line ((gs >>= collected (map word_of_param m.params)) >>= naming_of t) >>= body_works place m)
   go (Err unknown_variable) t = refl
   go (Err out_of_range) t = refl
   go (Ok gs) (Err unknown_variable) = refl
@@ -175,3 +191,41 @@ pub flaw_at : {X Y : Type 0} (line : ℕ) (fault : NameFault) (made : Result X F
 flaw_at line (Flawed Unknown) made f whole e is = e ∙ ap (λ m. at_line line m >>= f) is
 flaw_at line (Flawed Range) made f whole e is = e ∙ ap (λ m. at_line line m >>= f) is
 flaw_at line OutOfMemory made f whole e is = tt
+
+-- the words of parameters, and arguments with what is replaced in them
+abbrev pub words_of : List CodeParam → List (List ℕ)
+words_of ps = map word_of_param (map param_of ps)
+
+abbrev pub args_in : Replacement → List CodeArg → List Arg
+args_in r xs = map (in_arg r) (map arg_of xs)
+
+-- a step of the loop over parameters and their arguments
+module _ (r : Replacement) (ps : List CodeParam) (xs : List CodeArg) (i : ℕ) (p : CodeParam) (x : CodeArg) (hp : i < length ps) (hx : i < length xs) (ep : p ≡ get_or ps i p) (ex : x ≡ get_or xs i x) (given : Pairs) where
+  -- the word, and its argument with what is replaced in it
+  abbrev word_here : List ℕ
+  word_here = word_of_param (param_of p)
+
+  abbrev arg_here : Arg
+  arg_here = in_arg r (arg_of x)
+
+  words_next : words_of (drop i ps) ≡ word_here ∷ words_of (drop (i + 1) ps)
+  words_next = ap words_of (drop_next ps i p hp ep)
+
+  args_next : args_in r (drop i xs) ≡ arg_here ∷ args_in r (drop (i + 1) xs)
+  args_next = ap (args_in r) (drop_next xs i x hx ex)
+
+  pub fresh_here : AreFresh given (words_of (drop i ps)) → AreFresh given (word_here ∷ words_of (drop (i + 1) ps))
+  fresh_here fresh = subst (AreFresh given) words_next fresh
+
+  pub fresh_step : (new : Pairs) → AreFresh given (words_of (drop i ps)) → given_more word_here given arg_here ≡ Ok new → AreFresh new (words_of (drop (i + 1) ps))
+  fresh_step new fresh h = fresh_next given word_here (words_of (drop (i + 1) ps)) (fresh_here fresh) arg_here new h
+
+  bound_here : bound (words_of (drop i ps)) (args_in r (drop i xs)) ≡ bound (word_here ∷ words_of (drop (i + 1) ps)) (arg_here ∷ args_in r (drop (i + 1) xs))
+  bound_here = λ j. bound (words_next j) (args_next j)
+
+  pub given_step : (whole : Result Pairs Flaw) (new : Pairs) → whole ≡ given_after given (bound (words_of (drop i ps)) (args_in r (drop i xs))) → given_more word_here given arg_here ≡ Ok new → whole ≡ given_after new (bound (words_of (drop (i + 1) ps)) (args_in r (drop (i + 1) xs)))
+  given_step whole new so_far h = so_far ∙ ap (given_after given) bound_here ∙ give_next word_here (words_of (drop (i + 1) ps)) arg_here (args_in r (drop (i + 1) xs)) given new h
+
+  pub flaw_step : (whole : Result Pairs Flaw) (fault : NameFault) → whole ≡ given_after given (bound (words_of (drop i ps)) (args_in r (drop i xs))) → IsFlaw fault (given_more word_here given arg_here) → IsFlaw fault whole
+  flaw_step whole (Flawed f) so_far is = so_far ∙ ap (given_after given) bound_here ∙ give_err word_here (words_of (drop (i + 1) ps)) arg_here (args_in r (drop (i + 1) xs)) given (flaw_of f) is
+  flaw_step whole OutOfMemory so_far is = tt
