@@ -7,7 +7,7 @@ use Rattle.std.specs.List.{list_any, list_all}
 use Rattle.std.specs.Str.{bytes_eq}
 use Rattle.dn_parse.specs.declared.syntax.Param.{Param as CodeParam}
 use Rattle.dn_parse.specs.declared.syntax.Arg.{Arg as CodeArg}
-use Rattle.dn_parse.specs.Tree.{Param, Arg, Part, Items}
+use Rattle.dn_parse.specs.Tree.{Param, number_param, node_param, Arg, number_arg, node_arg, Part, Items}
 use Rattle.dn_parse.specs.Seen.{param_of, arg_of}
 use Rattle.dn_module.specs.declared.fault.ExpandFault.{ExpandFault}
 use Rattle.dn_module.specs.declared.fault.ExpandFault.TheVariants.{Arguments}
@@ -38,6 +38,19 @@ unfit ps xs differ = go (fit ps xs) refl where
   go : (b : Bool) → fit ps xs ≡ b → false ≡ b
   go true e = absurd (differ (fit_length ps xs e))
   go false e = refl
+
+-- what is replaced in an argument leaves its sort
+fits_in : (r : Replacement) (p : Param) (x : Arg) → fits_param p (in_arg r x) ≡ fits_param p x
+fits_in r (number_param w) (number_arg e) = refl
+fits_in r (number_param w) (node_arg ps) = refl
+fits_in r (node_param w) (number_arg e) = refl
+fits_in r (node_param w) (node_arg ps) = refl
+
+pub fit_in : (r : Replacement) (ps : List Param) (xs : List Arg) → fit ps (map (in_arg r) xs) ≡ fit ps xs
+fit_in r [] [] = refl
+fit_in r [] (x ∷ xs) = refl
+fit_in r (p ∷ ps) [] = refl
+fit_in r (p ∷ ps) (x ∷ xs) = λ i. cond (fits_in r p x i) (fit_in r ps xs i) false
 
 -- one parameter and its argument
 pub fit_next : (ps : List CodeParam) (xs : List CodeArg) (i : ℕ) (p : CodeParam) (x : CodeArg) → i < length ps → i < length xs → p ≡ get_or ps i p → x ≡ get_or xs i x

@@ -1,6 +1,7 @@
-use Rattle.std.proofs.Common.{◌≡◌, ◌∙◌, sym, ap, refl, arith, ◌<◌, length, drop}
-use Rattle.dn_parse.specs.Seen.{param_of, arg_of}
-use Rattle.dn_module.specs.Expand.{word_of_param}
+use Rattle.std.proofs.Common.{◌≡◌, ◌∙◌, sym, ap, refl, arith, ◌<◌, length, subst}
+use Rattle.std.proofs.lemmas.Result.{err_from_is_err_and}
+use Rattle.dn_parse.specs.Seen.{arg_of}
+use Rattle.dn_module.specs.Flaws.{IsFlaw}
 use Rattle.dn_module.specs.Machine.{bound, given_more, given_seen}
 use Rattle.dn_module.specs.Replace.{in_arg}
 use Rattle.dn_module.proofs.Bindings.{fresh_start, given_start, fresh_step, given_step, flaw_step, words_of, args_in}
@@ -18,11 +19,18 @@ pub returns-in_err-give : goal.returns-in_err-give
 returns-in_err-give c =
     let ps = c.args.params.now in
     let xs = c.args.args.now in
+    let r = c.args.scope.now in
+    let i = c.loop-i.i in
+    let p = c.index-params-i.result in
+    let x = c.index-args-i.result in
+    let old = given_seen c.loop-i.given in
     let count = c.loop-i.invariant.count in
     let end = c.loop-i.invariant.end in
-    let inside : c.loop-i.i < length ps = omega arith in
-    let within : c.loop-i.i < length xs = omega arith in
-    ?
+    let inside : i < length ps = omega arith in
+    let within : i < length xs = omega arith in
+    let flaw = subst (λ w. IsFlaw c.in_err-give.field-0.0 (given_more w old (in_arg r (arg_of x)))) c.word_of.ensures c.in_err-give.ensures in
+    let q = err_from_is_err_and c.from_residual.result c.from_residual.ensures.1 in
+    rw (q.1, q.2) (flaw_step r ps xs i p x inside within c.index-params-i.is c.index-args-i.is old _ c.in_err-give.field-0.0 c.loop-i.invariant.so_far flaw)
 
 pub loop-i-preserved : goal.loop-i-preserved
 loop-i-preserved c =
