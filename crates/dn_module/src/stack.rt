@@ -1,9 +1,10 @@
 //! What is still to be done while a tree is expanded.
 
-ghost use Rattle.std.specs.Prelude.{◌≡◌, ◌∷◌, [], ◌++◌, IfSome, IfNone, OnOk, None};
+ghost use Rattle.std.specs.Prelude.{◌≡◌, ◌∷◌, [], ◌++◌, IfSome, IfNone, IfErr, OnOk, None};
 ghost use Rattle.dn_module.specs.Expand.{Scope as Visibility, outside, statements};
 ghost use Rattle.dn_module.specs.Replace.{Replacement, in_items};
 ghost use Rattle.dn_module.specs.Stack.{scope_of, seen_body, rest_works, first_works, turns_works, turn_works, after_works, use_works, stack_works, work_seen};
+ghost use Rattle.dn_module.specs.declared.fault.ExpandFault.TheVariants.{OutOfMemory as no_memory};
 
 use crate::fault::ExpandFault;
 use crate::modules::Visible;
@@ -97,7 +98,8 @@ impl<'a> Use<'a> {
     /// Goes into the turn of a loop that is next in the innermost body.
     pub fn enter_turn(&mut self, alloc: Global, turns: Turns<'a>) -> Result<(), ExpandFault>
         requires free { self.old.inner.turns ≡ None }
-        ensures { OnOk result (use_works self.new ≡ turn_works (scope_of self.old.visible) self.old.scope turns.entry ++ use_works self.old) }
+        ensures err { IfErr result (λ e. e ≡ no_memory) }
+        ensures entered { OnOk result (use_works self.new ≡ turn_works (scope_of self.old.visible) self.old.scope turns.entry ++ use_works self.old) }
     {
         self.scope.enter(alloc, turns.variable, turns.next)?;
         self.outer.push(Rest {
@@ -142,7 +144,8 @@ impl<'a> Stack<'a> {
 
     /// Goes into a use.
     pub fn enter(&mut self, inner: Use<'a>) -> Result<(), ExpandFault>
-        ensures { OnOk result (stack_works self.new ≡ use_works inner.entry ++ stack_works self.old) }
+        ensures err { IfErr result (λ e. e ≡ no_memory) }
+        ensures entered { OnOk result (stack_works self.new ≡ use_works inner.entry ++ stack_works self.old) }
     {
         let outer = mem::replace(&mut self.inner, inner);
         self.outer.push(outer)?;

@@ -5,8 +5,8 @@ use Rattle.dn_module.specs.Stack.{scope_of, seen_body}
 use Rattle.dn_module.proofs.Works.{turn_entered, free_rest}
 use Rattle.dn_module.proofs.stack.Use.enter_turn.Goals as goal
 
-pub returns : goal.returns
-returns c =
+pub returns-clause-entered : goal.returns-clause-entered
+returns-clause-entered c =
     let at = c.args.self.now in
     let s = scope_of at.visible in
     rw (c.in_ok-enter.ensures.ok, c.in_ok-push.ensures.items)

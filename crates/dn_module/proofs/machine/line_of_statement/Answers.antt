@@ -1,1 +1,0 @@
-use Rattle.dn_module.proofs.Works.{bodies_left}
