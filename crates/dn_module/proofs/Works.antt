@@ -8,7 +8,7 @@ use Rattle.dn_module.specs.declared.stack.Use.{Use}
 use Rattle.dn_module.specs.declared.stack.Stack.{Stack}
 use Rattle.dn_module.specs.declared.fault.ExpandFault.{ExpandFault}
 use Rattle.dn_module.specs.declared.fault.ExpandFault.TheVariants.{Duplicate, Unknown, Arguments, Value, TooMany, OutOfMemory}
-use Rattle.dn_module.specs.Expand.{Scope, State, Work, line_of, turns, statements, turn_of, rewritten, all_rewritten}
+use Rattle.dn_module.specs.Expand.{Scope, State, Work, line_of, turns, statements, turn_of, rewritten, all_rewritten, most_steps}
 use Rattle.dn_module.specs.Machine.{in_front}
 use Rattle.dn_module.specs.Told.{IsFault}
 use Rattle.dn_module.specs.Values.{◌>>=◌}
@@ -87,3 +87,11 @@ module _ (left : ℕ) (w : Work) (ws : List Work) (st : State) where
 -- no step is left
 pub steps_out : (left : ℕ) (w : Work) (ws : List Work) (st : State) → left ≡ 0 → all_rewritten left (w ∷ ws) st ≡ Err (TooMany (line_of w) 65536)
 steps_out left w ws st none = rw none refl
+
+pub most_steps_are : most_steps ≡ 65536
+unfolding most_steps
+most_steps_are = refl
+
+-- the beginning
+pub begun : (n m : ℕ) (ws vs : List Work) (st tt' : State) → n ≡ m → ws ≡ vs → st ≡ tt' → all_rewritten n ws st ≡ all_rewritten m vs tt'
+begun n m ws vs st tt' e f g = λ i. all_rewritten (e i) (f i) (g i)
