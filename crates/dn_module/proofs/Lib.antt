@@ -11,3 +11,4 @@ pub mod Titles
 pub mod Totals
 pub mod Unreplaced
 pub mod Works
+pub mod Whole

@@ -7,3 +7,4 @@ pub mod Told
 pub mod Flaws
 pub mod Stack
 pub mod Machine
+pub mod Finish
