@@ -34,7 +34,7 @@ twice_step false true d e k l = refl
 twice_step false false d e k l = k l
 
 -- a name that comes twice in a front comes twice in the whole
-twice-append : (xs ys : List (List ℕ)) → has_twice xs ≡ true → has_twice (xs ++ ys) ≡ true
+pub twice-append : (xs ys : List (List ℕ)) → has_twice xs ≡ true → has_twice (xs ++ ys) ≡ true
 twice-append [] ys h = absurd (false≢true h)
 twice-append (x ∷ xs) ys h =
     ap (λ w. w || has_twice (xs ++ ys)) (list_any-append (bytes_eq x) xs ys) ∙ twice_step (list_any (bytes_eq x) xs) (list_any (bytes_eq x) ys) (has_twice xs) (has_twice (xs ++ ys)) (twice-append xs ys) h

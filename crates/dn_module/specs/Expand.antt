@@ -64,11 +64,11 @@ has_twice (w ∷ ws) = list_any (bytes_eq w) ws || has_twice ws
 abbrev pub is_module : List Module → List ℕ → Bool
 is_module modules title = list_any (λ m. bytes_eq title m.title) modules
 
-abbrev pub with_module : State → ℕ → Module → Result State ExpandFault
-with_module state line m =
-    if nat_lt 256 (length state.modules + 1) then Err (TooMany line 256)
-    else (if is_module state.modules m.title || has_twice (map word_of_param m.params) then Err (Duplicate line)
-    else Ok (record { modules = state.modules ++ m ∷ []; drafts = state.drafts }))
+abbrev pub with_module : List Module → ℕ → Module → Result (List Module) ExpandFault
+with_module modules line m =
+    if nat_lt 256 (length modules + 1) then Err (TooMany line 256)
+    else (if is_module modules m.title || has_twice (map word_of_param m.params) then Err (Duplicate line)
+    else Ok (modules ++ m ∷ []))
 
 -- the modules that a statement may use
 abbrev pub usable : Scope → List Module → List Module
@@ -151,6 +151,9 @@ turn_of s line w a b body = statements s (in_items (one_number w a) body) ++ (if
 abbrev pub with_drafts : State → List Draft → State
 with_drafts state drafts = record { modules = state.modules; drafts = drafts }
 
+abbrev pub with_modules : State → List Module → State
+with_modules state modules = record { modules = modules; drafts = state.drafts }
+
 -- one rewriting: what takes the place of the first statement, and the state behind it
 abbrev pub item_rewritten : Scope → State → Item → Result (List Work × State) ExpandFault
 item_rewritten s state (declared line d) = do
@@ -158,8 +161,8 @@ item_rewritten s state (declared line d) = do
   drafts ← with_draft state.drafts draft
   Ok ([], with_drafts state drafts)
 item_rewritten s state (module_of line title params body) = do
-  next ← with_module state line (record { title = title; params = params; body = body })
-  Ok ([], next)
+  modules ← with_module state.modules line (record { title = title; params = params; body = body })
+  Ok ([], with_modules state modules)
 item_rewritten s state (instance line title args prefix) = do
   works ← use_of line args prefix (module_from 0 title (usable s state.modules))
   Ok (works, state)

@@ -5,3 +5,6 @@ pub mod Commands
 pub mod Expand
 pub mod Told
 pub mod Flaws
+pub mod Stack
+pub mod Machine
+pub mod Finish

@@ -1,17 +1,22 @@
 //! The net and the commands of a tree.
 
-ghost use Rattle.std.specs.Prelude.{◌≡◌, IfOk, IsTrue, length, not};
+ghost use Rattle.std.specs.Prelude.{◌≡◌, IfOk, IsTrue, length, map};
 ghost use Rattle.std.specs.List.{list_all};
-ghost use Rattle.dn_parse.specs.Seen.{tree_seen};
+ghost use Rattle.dn_parse.specs.Seen.{command_of, tree_seen};
 ghost use Rattle.dn_net.specs.Decode.{is_closed};
 ghost use Rattle.dn_module.specs.Commands.{names_within};
 ghost use Rattle.dn_module.specs.Expand.{expanded};
+ghost use Rattle.dn_module.specs.Finish.{finished};
 ghost use Rattle.dn_module.specs.Told.{GivesBy, outcome_of};
 
 use crate::command::Commands;
+use crate::commands::commands;
+use crate::drafts::Drafts;
 use crate::fault::ExpandFault;
+use crate::link::linked_net;
+use crate::machine::expand_body;
 use dn_net::net::Net;
-use dn_parse::syntax::Tree;
+use dn_parse::syntax::{Cmd, Tree};
 use std::alloc::Global;
 
 /// A net, and the commands of its text.
@@ -29,5 +34,17 @@ pub fn expand(alloc: Global, tree: &Tree) -> Result<Expanded, ExpandFault>
     ensures closed { IfOk result (λ e. IsTrue (is_closed e.net)) }
     ensures known { IfOk result (λ e. IsTrue (list_all (names_within (length e.net)) e.commands)) }
 {
-    Err(ExpandFault::OutOfMemory)
+    let made = expand_body(alloc, tree.body.as_slice())?;
+    finish(alloc, &made.drafts, tree.commands.as_slice())
+}
+
+/// The commands, and then the net of the nodes that were made.
+fn finish(alloc: Global, drafts: &Drafts, asked: &[Cmd]) -> Result<Expanded, ExpandFault>
+    ensures finished { GivesBy outcome_of result (finished drafts.now (map command_of asked.now)) }
+    ensures closed { IfOk result (λ e. IsTrue (is_closed e.net)) }
+    ensures known { IfOk result (λ e. IsTrue (list_all (names_within (length e.net)) e.commands)) }
+{
+    let commands = commands(alloc, drafts.names(), asked)?;
+    let net = linked_net(alloc, drafts.names(), drafts.as_slice())?;
+    Ok(Expanded { net, commands })
 }

@@ -8,14 +8,22 @@
 pub mod command;
 pub mod commands;
 pub mod draft;
+pub mod drafts;
 pub mod expand;
 pub mod fault;
 pub mod link;
+pub mod machine;
+pub mod modules;
 pub mod names;
 pub mod nodes;
 pub mod scope;
+pub mod stack;
+#[cfg(test)]
+mod tests;
+pub mod uses;
 #[cfg(test)]
 mod value_tests;
 pub mod values;
+pub mod words;
 
 pub use dn_base::OutOfMemory;

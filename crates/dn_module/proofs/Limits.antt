@@ -1,0 +1,109 @@
+-- The limits on nodes, on agents and on parts, as one node more is added.
+use Rattle.std.proofs.Common.{◌≡◌, ◌∙◌, ap, sym, refl, arith, ℕ, ◌+◌, ◌<◌, ◌≤◌, nat_lt, ◌&&◌, IsTrue, Bool, true, false, cond, List, [], ◌∷◌, ◌++◌, length, map, Option, Some, None, Err, Ok, sum, position, is_some}
+use Rattle.std.proofs.lemmas.Bool.Decides.{nat_tests}
+use Rattle.std.proofs.lemmas.Bool.{ltb-false}
+use Rattle.std.proofs.lemmas.List.{map-append}
+use Rattle.std.proofs.lemmas.List.Sums.{sum_by-append}
+use Rattle.std.specs.List.{list_all}
+use Rattle.std.specs.Str.{bytes_eq}
+use mir.Val.{bool_byte}
+use Rattle.dn_module.specs.declared.draft.Draft.{Draft}
+use Rattle.dn_module.specs.declared.fault.ExpandFault.TheVariants.{Duplicate, TooMany}
+use Rattle.dn_module.specs.Drafts.{is_agent, agents_of, parts_of, all_parts, limit_passed, by_limit, with_draft, is_known, names}
+use Rattle.dn_module.specs.Machine.{limit_by}
+use Rattle.dn_module.proofs.Known.{is_known-Some, is_known-None}
+
+abbrev pub one_if : Bool → ℕ
+one_if true = 1
+one_if false = 0
+
+from_zero : (n : ℕ) → 0 + n ≡ n
+from_zero n = omega arith
+
+counted : (b : Bool) → cond b 1 0 ≡ one_if b
+counted true = refl
+counted false = refl
+
+-- a test as a number
+pub as_number : (b : Bool) → bool_byte b ≡ one_if b
+as_number true = refl
+as_number false = refl
+
+pub agents_more : (ds : List Draft) (d : Draft) → agents_of (ds ++ d ∷ []) ≡ agents_of ds + one_if (is_agent d.role)
+agents_more ds d =
+    sum_by-append (λ (e : Draft). cond (is_agent e.role) 1 0) ds (d ∷ [])
+    ∙ ap (λ n. agents_of ds + n) (from_zero (cond (is_agent d.role) 1 0) ∙ counted (is_agent d.role))
+
+pub parts_more : (ds : List Draft) (d : Draft) → all_parts (ds ++ d ∷ []) ≡ all_parts ds + parts_of d
+parts_more ds d =
+    ap sum (map-append parts_of ds (d ∷ []))
+    ∙ sum_by-append (λ n. n) (map parts_of ds) (parts_of d ∷ [])
+    ∙ ap (λ n. all_parts ds + n) (from_zero (parts_of d))
+
+-- the limit on agents counts in an agent alone
+agents_test : (b : Bool) (agents all : ℕ) → all ≤ 64 → agents ≡ all + one_if b → nat_lt 64 agents ≡ (b && nat_lt 64 (all + 1))
+agents_test true agents all few is = ap (nat_lt 64) is
+agents_test false agents all few is = grind (arith, nat_tests)
+
+pub limit_is : (ds : List Draft) (d : Draft) (nodes agents parts : ℕ) → nodes ≡ length ds → agents_of ds ≤ 64 → agents ≡ agents_of ds + one_if (is_agent d.role) → parts ≡ all_parts ds
+    → limit_by nodes agents parts (parts_of d) ≡ limit_passed ds d
+limit_is ds d nodes agents parts n few a p =
+    rw (n, p, agents_test (is_agent d.role) agents (agents_of ds) few a) refl
+
+pub known_fault : (ds : List Draft) (d : Draft) → is_known (names ds) d.name ≡ true → with_draft ds d ≡ Err (Duplicate d.line)
+known_fault ds d e = rw e refl
+
+pub limit_fault : (ds : List Draft) (d : Draft) (limit : ℕ) → is_known (names ds) d.name ≡ false → limit_passed ds d ≡ Some limit → with_draft ds d ≡ Err (TooMany d.line limit)
+limit_fault ds d limit e l = rw (e, l) refl
+
+pub no_fault : (ds : List Draft) (d : Draft) → is_known (names ds) d.name ≡ false → limit_passed ds d ≡ None → with_draft ds d ≡ Ok (ds ++ d ∷ [])
+no_fault ds d e l = rw (e, l) refl
+
+-- no limit is passed
+pub record AreWithin (nodes agents parts : ℕ) : Type 0 where
+  pub nodes_fit : nodes ≤ 1024
+  pub agents_fit : agents ≤ 64
+  pub parts_fit : parts ≤ 16384
+
+within_step : (nodes all parts more : ℕ) (b t u v : Bool) → nat_lt 1024 (nodes + 1) ≡ t → nat_lt 64 (all + 1) ≡ u → nat_lt 16384 (parts + more) ≡ v → all ≤ 64
+    → cond {A = Option ℕ} t (Some 1024) (cond {A = Option ℕ} (b && u) (Some 64) (cond {A = Option ℕ} v (Some 16384) None)) ≡ None → AreWithin (nodes + 1) (all + one_if b) (parts + more)
+within_step nodes all parts more b true u v n a p few e = cc
+within_step nodes all parts more true false true v n a p few e = cc
+within_step nodes all parts more true false false true n a p few e = cc
+within_step nodes all parts more false false u true n a p few e = cc
+within_step nodes all parts more true false false false n a p few e =
+    let f = ltb-false _ _ n in
+    let g = ltb-false _ _ a in
+    let h = ltb-false _ _ p in
+    record { nodes_fit = omega arith; agents_fit = omega arith; parts_fit = omega arith }
+within_step nodes all parts more false false u false n a p few e =
+    let f = ltb-false _ _ n in
+    let h = ltb-false _ _ p in
+    record { nodes_fit = omega arith; agents_fit = omega arith; parts_fit = omega arith }
+
+pub within_limits : (ds : List Draft) (d : Draft) → agents_of ds ≤ 64 → limit_passed ds d ≡ None → AreWithin (length ds + 1) (agents_of ds + one_if (is_agent d.role)) (all_parts ds + parts_of d)
+within_limits ds d few none = within_step (length ds) (agents_of ds) (all_parts ds) (parts_of d) (is_agent d.role) _ _ _ refl refl refl few none
+
+pub found_is : (known : List (List ℕ)) (text : List ℕ) (r : Option ℕ) → r ≡ position (bytes_eq text) known → is_known known text ≡ is_some r
+found_is known text None e = is_known-None known text (sym e)
+found_is known text (Some n) e = is_known-Some known text n (sym e)
+
+-- whether a full name is there, by the table of names
+pub known_test : (now items : List Draft) (known : List (List ℕ)) (name text : List ℕ) (r : Option ℕ) → items ≡ now → known ≡ names items → text ≡ name → r ≡ position (bytes_eq text) known → is_known (names now) name ≡ is_some r
+known_test now items known name text r i k t e =
+    ap (λ ds. is_known (names ds) name) (sym i)
+    ∙ ap (λ l. is_known l name) (sym k)
+    ∙ ap (is_known known) (sym t)
+    ∙ found_is known text r e
+
+both : (a b : Bool) → IsTrue (a && b) → IsTrue a × IsTrue b
+both true true e = (refl, refl)
+both true false e = cc
+both false b e = cc
+
+-- an item that passes, put last
+pub list_all-last : {X : Type 0} (p : X → Bool) (xs : List X) (x : X) → IsTrue (list_all p xs) → IsTrue (p x) → IsTrue (list_all p (xs ++ x ∷ []))
+list_all-last p [] x all e = rw e refl
+list_all-last p (y ∷ ys) x all e =
+    let b = both (p y) (list_all p ys) all in
+    rw (b.0, list_all-last p ys x b.1 e) refl

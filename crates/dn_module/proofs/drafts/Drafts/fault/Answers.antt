@@ -1,0 +1,31 @@
+use Rattle.std.proofs.Common.{rules, ◌≡◌, ◌∙◌, sym, ap, length, ◌+◌, ◌≤◌}
+use Rattle.dn_module.specs.Drafts.{is_agent, agents_of, all_parts}
+use Rattle.dn_module.specs.Machine.{limit_by}
+use Rattle.dn_module.proofs.Limits.{limit_is, known_test, known_fault, limit_fault, one_if, as_number}
+use Rattle.dn_module.proofs.drafts.Drafts.fault.Goals as goal
+
+pub returns-then-is_some-clause-fault : goal.returns-then-is_some-clause-fault
+returns-then-is_some-clause-fault c =
+    let met = known_test c.args.self.now _ _ c.args.draft.now.name _ _ c.self.view_is c.self.invariant.names_are c.as_str.ensures c.find.ensures in
+    known_fault c.args.self.now c.args.draft.now (met ∙ sym c.is_some.ensures ∙ c.if-is_some.true)
+
+pub returns-in-Some-clause-fault : goal.returns-in-Some-clause-fault
+returns-in-Some-clause-fault c =
+    let met = known_test c.args.self.now _ _ c.args.draft.now.name _ _ c.self.view_is c.self.invariant.names_are c.as_str.ensures c.find.ensures in
+    let now = c.args.self.now in
+    let d = c.args.draft.now in
+    let inside = c.self.inside in
+    let one : c.from.result ≡ one_if (is_agent d.role) = c.from.ensures ∙ as_number c.is_agent.result ∙ ap one_if c.is_agent.ensures in
+    let agents : inside.agents ≡ agents_of now = c.self.invariant.agents_are ∙ ap agents_of c.self.view_is in
+    let few : agents_of now ≤ 64 = rw agents at c.self.invariant.few_agents in
+    let count : c.len.result ≡ length inside.drafts.items = search rules in
+    let nodes : c.len.result ≡ length now = count ∙ ap length c.self.view_is in
+    let parts : inside.parts ≡ all_parts now = c.self.invariant.parts_are ∙ ap all_parts c.self.view_is in
+    let same = limit_is now d c.len.result (inside.agents + c.from.result) inside.parts nodes few (λ i. agents i + one i) parts in
+    let limit = sym same ∙ ap (limit_by c.len.result (inside.agents + c.from.result) inside.parts) (sym c.parts_of.ensures) ∙ sym c.passed.ensures ∙ c.in-Some.is in
+    limit_fault now d c.in-Some.limit (met ∙ sym c.is_some.ensures ∙ c.if-is_some.false) limit
+
+pub returns-in-None-clause-new_name : goal.returns-in-None-clause-new_name
+returns-in-None-clause-new_name c =
+    let met = known_test c.args.self.now _ _ c.args.draft.now.name _ _ c.self.view_is c.self.invariant.names_are c.as_str.ensures c.find.ensures in
+    met ∙ sym c.is_some.ensures ∙ c.if-is_some.false

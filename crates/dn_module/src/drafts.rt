@@ -1,0 +1,183 @@
+//! The nodes that are made, within the limits of a net.
+
+ghost use Rattle.std.specs.Prelude.{◌≡◌, [], ◌∷◌, ◌++◌, ◌+◌, ◌<◌, ◌≤◌, length, not, false, true, OnOk, OnErr, IfErr, IfSome, IfNone, None, Err};
+ghost use Rattle.std.specs.List.{list_all};
+ghost use Rattle.dn_net.specs.Decode.{is_unit};
+ghost use Rattle.dn_module.specs.Drafts.{with_draft, is_known, is_agent, parts_of, names, limit_passed};
+ghost use Rattle.dn_module.specs.Expand.{has_twice};
+ghost use Rattle.dn_module.specs.Machine.{limit_by};
+ghost use Rattle.dn_module.specs.Told.{GivesBy};
+ghost use Rattle.dn_module.specs.declared.fault.ExpandFault.TheVariants.{OutOfMemory as no_memory};
+
+use crate::draft::Draft;
+use crate::fault::ExpandFault;
+use crate::names::NameTable;
+use dn_net::node::Role;
+use std::alloc::Global;
+use std::marker::Model;
+
+/// The most nodes of a net.
+const MAX_NODES: usize = 1_024;
+
+/// The most agents of a net.
+const MAX_AGENTS: usize = 64;
+
+/// The most parts of a net: an accept block, a map entry and an `over` are one each.
+const MAX_PARTS: usize = 16_384;
+
+/// The nodes that are made, in order: at most 1,024 with different full names, of which 64 are agents, with
+/// 16,384 parts in all. Contracts see the list of them.
+#[derive(Drop)]
+pub struct Drafts {
+    drafts: Vec<Draft>,
+    /// Their full names.
+    known: NameTable,
+    agents: usize,
+    parts: usize,
+}
+
+impl Model for Drafts {
+    ghost use Rattle.std.specs.Prelude.{List, ◌≡◌, ◌≤◌, length, IsTrue, not, false};
+    ghost use Rattle.std.specs.List.{list_all};
+    ghost use Rattle.dn_net.specs.Decode.{is_unit};
+    ghost use Rattle.dn_module.specs.declared.draft.Draft.{Draft};
+    ghost use Rattle.dn_module.specs.Drafts.{names, agents_of, all_parts};
+    ghost use Rattle.dn_module.specs.Expand.{has_twice};
+
+    ghost Value = { List Draft };
+
+    ghost view = { λ s. s.drafts.items };
+
+    ghost invariant = { λ s. record {
+        names_are : s.known ≡ names s.drafts.items;
+        agents_are : s.agents ≡ agents_of s.drafts.items;
+        parts_are : s.parts ≡ all_parts s.drafts.items;
+        few : length s.drafts.items ≤ 1024;
+        few_agents : s.agents ≤ 64;
+        few_parts : s.parts ≤ 16384;
+        different : has_twice (names s.drafts.items) ≡ false;
+        no_unit : IsTrue (list_all (λ d. not (is_unit d.role)) s.drafts.items)
+    } };
+}
+
+impl Drafts {
+    /// No nodes. It takes no memory.
+    pub fn new(alloc: Global) -> Drafts
+        ensures { result ≡ [] }
+    {
+        Drafts {
+            drafts: Vec::new(alloc),
+            known: NameTable::new(alloc),
+            agents: 0,
+            parts: 0,
+        }
+    }
+
+    /// The nodes, in order.
+    pub fn as_slice(&self) -> &[Draft]
+        ensures nodes { result.now ≡ self.now }
+        ensures few { length self.now ≤ 1024 }
+        ensures different { has_twice (names self.now) ≡ false }
+        ensures no_unit { list_all (λ d. not (is_unit d.role)) self.now ≡ true }
+    {
+        self.drafts.as_slice()
+    }
+
+    /// The full names of the nodes, in order.
+    pub fn names(&self) -> &NameTable
+        ensures { result.now ≡ names self.now }
+    {
+        &self.known
+    }
+
+    /// Adds a node: its full name was not there before, and no limit is passed. The limits are those on
+    /// nodes, on agents and on parts, in this order. After a fault the nodes are unchanged.
+    pub fn add(&mut self, alloc: Global, draft: Draft) -> Result<(), ExpandFault>
+        requires no_unit { not (is_unit draft.role) ≡ true }
+        ensures added { GivesBy (λ _. self.new) result (with_draft self.old draft) }
+        ensures err { OnErr result (self.new ≡ self.old) }
+    {
+        if let Some(fault) = self.fault(&draft) {
+            return Err(fault);
+        }
+        let agents = self.agents + usize::from(is_agent(draft.role));
+        let parts = self.parts + parts_of(&draft);
+        put(alloc, &mut self.drafts, &mut self.known, draft)?;
+        self.agents = agents;
+        self.parts = parts;
+        Ok(())
+    }
+
+    /// Why a node cannot be added. `None` exactly where it can.
+    fn fault(&self, draft: &Draft) -> Option<ExpandFault>
+        ensures fault { IfSome result (λ e. with_draft self.now draft.now ≡ Err e) }
+        ensures new_name { IfNone result (is_known (names self.now) draft.now.name ≡ false) }
+        ensures within { IfNone result (limit_passed self.now draft.now ≡ None) }
+    {
+        let line = draft.line;
+        if self.known.find(draft.name.as_str()).is_some() {
+            return Some(ExpandFault::Duplicate { line });
+        }
+        let agents = self.agents + usize::from(is_agent(draft.role));
+        match passed(self.drafts.len(), agents, self.parts, parts_of(draft)) {
+            Some(limit) => Some(ExpandFault::TooMany { line, limit }),
+            None => None,
+        }
+    }
+}
+
+/// Puts a node and its full name last. For want of memory both lists are unchanged.
+fn put(
+    alloc: Global,
+    drafts: &mut Vec<Draft>,
+    known: &mut NameTable,
+    draft: Draft,
+) -> Result<(), ExpandFault>
+    requires room { length known.old < 1024 }
+    requires new_name { is_known known.old draft.name ≡ false }
+    ensures drafts { OnOk result (drafts.new.items ≡ drafts.old.items ++ draft ∷ []) }
+    ensures known { OnOk result (known.new ≡ known.old ++ draft.name ∷ []) }
+    ensures drafts_err { OnErr result (drafts.new.items ≡ drafts.old.items) }
+    ensures known_err { OnErr result (known.new ≡ known.old) }
+    ensures err { IfErr result (λ e. e ≡ no_memory) }
+{
+    drafts.reserve(1)?;
+    let _ = known.add(alloc, draft.name.as_str())?;
+    drafts.push(draft)?;
+    Ok(())
+}
+
+/// The limit that one node more passes, where there are so many nodes and parts before it, so many agents
+/// with it, and so many parts in it.
+fn passed(nodes: usize, agents: usize, parts: usize, more: usize) -> Option<u32>
+    requires few_parts { parts ≤ 16384 }
+    ensures { result ≡ limit_by nodes agents parts more }
+{
+    if nodes >= MAX_NODES {
+        return Some(1_024);
+    }
+    if agents > MAX_AGENTS {
+        return Some(64);
+    }
+    if more > MAX_PARTS - parts {
+        return Some(16_384);
+    }
+    None
+}
+
+fn is_agent(role: Role) -> bool
+    ensures { result ≡ is_agent role }
+{
+    match role {
+        Role::Agent => true,
+        _ => false,
+    }
+}
+
+/// How many parts a node has.
+fn parts_of(draft: &Draft) -> usize
+    ensures { result ≡ parts_of draft.now }
+{
+    let over = usize::from(draft.over.is_some());
+    draft.accepts.as_slice().len() + (draft.entries.as_slice().len() + over)
+}

@@ -1,0 +1,199 @@
+//! The expansion of the statements of a text, a step at a time.
+
+ghost use Rattle.std.specs.Prelude.{◌≡◌, None};
+ghost use Rattle.dn_parse.specs.Seen.{declaration_of, expr_of, item_of};
+ghost use Rattle.dn_module.specs.Drafts.{at_line};
+ghost use Rattle.dn_module.specs.Expand.{nothing_yet, statements, outside, Scope as Visibility, line_of, line_of_item, loop_of, rewritten, item_rewritten, all_rewritten, most_steps};
+ghost use Rattle.dn_module.specs.Replace.{Replacement, in_declaration, in_expression, in_item, in_items, hiding};
+ghost use Rattle.dn_module.specs.Stack.{scope_of, seen_body, turns_works, stack_works, work_seen};
+ghost use Rattle.dn_module.specs.Machine.{state_of, in_front, drafted};
+ghost use Rattle.dn_module.specs.Values.{value};
+ghost use Rattle.dn_module.specs.Told.{Gives, GivesBy};
+
+use crate::drafts::Drafts;
+use crate::fault::ExpandFault;
+use crate::modules::{Module, Modules};
+use crate::nodes::declared;
+use crate::scope::Scope;
+use crate::stack::{Stack, Turns, Use, Work};
+use crate::uses::used;
+use crate::values::{NameFault, value};
+use dn_base::text::Text;
+use dn_parse::syntax::{Decl, Expr, Stmt};
+use std::alloc::Global;
+
+/// The most steps: each statement that is reached is one, and each turn of a loop.
+const MOST_STEPS: u32 = 65_536;
+
+/// What the statements so far have made: the modules that are known, and the nodes.
+#[derive(Drop)]
+pub struct Made<'a> {
+    pub modules: Modules<'a>,
+    pub drafts: Drafts,
+}
+
+/// What the statements of a text make, or the first fault.
+pub fn expand_body<'a>(alloc: Global, body: &'a [Stmt]) -> Result<Made<'a>, ExpandFault>
+    ensures { GivesBy state_of result (all_rewritten most_steps (statements outside (seen_body body.now)) nothing_yet) }
+{
+    let mut stack = Stack::new(alloc, body);
+    let mut made = Made {
+        modules: Modules::new(alloc),
+        drafts: Drafts::new(alloc),
+    };
+    let mut left = MOST_STEPS;
+    while let Some(work) = stack.next() {
+        if left == 0 {
+            return Err(ExpandFault::TooMany {
+                line: line_of(work),
+                limit: MOST_STEPS,
+            });
+        }
+        left -= 1;
+        step(alloc, &mut stack, &mut made, work)?;
+    }
+    Ok(made)
+}
+
+/// The line of the statement, or of the loop.
+fn line_of(work: Work) -> u32
+    ensures { (s : Visibility) (r : Replacement) → result ≡ line_of (work_seen s r work.entry) }
+{
+    match work {
+        Work::Statement(statement) => line_of_statement(statement),
+        Work::Turn(turns) => turns.line,
+    }
+}
+
+fn line_of_statement(statement: &Stmt) -> u32
+    ensures { (r : Replacement) → result ≡ line_of_item (in_item r (item_of statement.now)) }
+{
+    match statement {
+        Stmt::Decl { line, .. } => *line,
+        Stmt::Module { line, .. } => *line,
+        Stmt::Instance { line, .. } => *line,
+        Stmt::Loop { line, .. } => *line,
+    }
+}
+
+/// One step: what is next is taken, and what it stands for comes in its place.
+fn step<'a>(
+    alloc: Global,
+    stack: &mut Stack<'a>,
+    made: &mut Made<'a>,
+    work: Work<'a>,
+) -> Result<(), ExpandFault>
+    requires free { stack.old.inner.inner.turns ≡ None }
+    ensures { GivesBy (λ _. (stack_works stack.new, state_of made.new)) result (in_front (stack_works stack.old) (rewritten (state_of made.old) (work_seen (scope_of stack.old.inner.visible) stack.old.inner.scope work.entry))) }
+{
+    match work {
+        Work::Statement(statement) => take(alloc, stack, made, statement),
+        Work::Turn(turns) => {
+            stack.inner.enter_turn(alloc, turns)?;
+            Ok(())
+        }
+    }
+}
+
+/// Takes a statement.
+fn take<'a>(
+    alloc: Global,
+    stack: &mut Stack<'a>,
+    made: &mut Made<'a>,
+    statement: &'a Stmt,
+) -> Result<(), ExpandFault>
+    requires free { stack.old.inner.inner.turns ≡ None }
+    ensures { GivesBy (λ _. (stack_works stack.new, state_of made.new)) result (in_front (stack_works stack.old) (item_rewritten (scope_of stack.old.inner.visible) (state_of made.old) (in_item stack.old.inner.scope (item_of statement.now)))) }
+{
+    match statement {
+        Stmt::Decl { line, decl } => {
+            declare(alloc, &stack.inner.scope, &mut made.drafts, *line, decl)
+        }
+        Stmt::Module {
+            line,
+            title,
+            params,
+            body,
+        } => {
+            let module = Module {
+                title: title.as_str(),
+                params: params.as_slice(),
+                body: body.as_slice(),
+            };
+            made.modules.add(alloc, *line, module)
+        }
+        Stmt::Instance {
+            line,
+            title,
+            args,
+            prefix,
+        } => {
+            let found = made.modules.find(stack.inner.visible, title.as_str());
+            let scope = &stack.inner.scope;
+            let inner = used(alloc, scope, *line, found, args.as_slice(), prefix.as_slice())?;
+            stack.enter(inner)?;
+            Ok(())
+        }
+        Stmt::Loop {
+            line,
+            variable,
+            from,
+            upto,
+            body,
+        } => {
+            let scope = &stack.inner.scope;
+            let turns = turns(scope, *line, variable.as_str(), from, upto, body.as_slice())?;
+            stack.inner.inner.turns = turns;
+            Ok(())
+        }
+    }
+}
+
+/// Makes the node that a statement declares.
+fn declare(
+    alloc: Global,
+    scope: &Scope,
+    drafts: &mut Drafts,
+    line: u32,
+    decl: &Decl,
+) -> Result<(), ExpandFault>
+    ensures { GivesBy (λ _. drafts.new) result (drafted drafts.old line (in_declaration scope.now (declaration_of decl.now))) }
+{
+    let draft = declared(alloc, scope, line, decl)?;
+    drafts.add(alloc, draft)
+}
+
+/// The turns of a loop, if it has any.
+fn turns<'a>(
+    scope: &Scope,
+    line: u32,
+    variable: &'a str,
+    from: &Expr,
+    upto: &Expr,
+    body: &'a [Stmt],
+) -> Result<Option<Turns<'a>>, ExpandFault>
+    ensures { (s : Visibility) → GivesBy (turns_works s scope.now) result (loop_of s line variable.now (in_expression scope.now.numbers (expr_of from.now)) (in_expression scope.now.numbers (expr_of upto.now)) (in_items (hiding variable.now scope.now) (seen_body body.now))) }
+{
+    let next = value_at(scope, line, from)?;
+    let last = value_at(scope, line, upto)?;
+    if next > last {
+        return Ok(None);
+    }
+    Ok(Some(Turns {
+        line,
+        variable,
+        next,
+        last,
+        body,
+    }))
+}
+
+/// The value of an expression in the statement with this line.
+fn value_at(scope: &Scope, line: u32, expr: &Expr) -> Result<u64, ExpandFault>
+    ensures { Gives result (at_line line (value (in_expression scope.now.numbers (expr_of expr.now)))) }
+{
+    match value(scope, expr) {
+        Ok(value) => Ok(value),
+        Err(flaw) => Err(NameFault::Flawed(flaw).at(line)),
+    }
+}

@@ -1,0 +1,152 @@
+//! The modules that were declared.
+
+ghost use Rattle.std.specs.Prelude.{◌≡◌, [], ◌∷◌, ◌++◌, ◌<◌, ◌≤◌, map, length, IfOk, IfErr, IfSome, OnOk, OnErr, option_map, false, IsTrue, not};
+ghost use Rattle.std.specs.List.{list_all, list_any};
+ghost use Rattle.std.specs.Str.{bytes_eq};
+ghost use Rattle.dn_parse.specs.Seen.{param_of};
+ghost use Rattle.dn_module.specs.Expand.{has_twice, word_of_param, with_module, module_from, usable};
+ghost use Rattle.dn_module.specs.Told.{GivesBy};
+ghost use Rattle.dn_module.specs.declared.fault.ExpandFault.TheVariants.{OutOfMemory as no_memory};
+
+use crate::fault::ExpandFault;
+use crate::names::NameTable;
+use dn_parse::syntax::{Param, Stmt};
+use indexmap::IndexSet;
+use std::alloc::{AllocError, Global};
+
+/// The most modules of a text.
+const MAX_MODULES: usize = 256;
+
+/// A module that was declared.
+#[derive(Clone, Copy)]
+pub struct Module<'a> {
+    pub title: &'a str,
+    pub params: &'a [Param],
+    pub body: &'a [Stmt],
+}
+
+/// Which modules a statement may use.
+#[derive(Clone, Copy, Debug, PartialEq, Eq)]
+pub enum Visible {
+    /// All that are known: it stands outside of modules.
+    All,
+    /// So many of the first: those declared before the module in whose body it stands.
+    First(u16),
+}
+
+/// The modules that are known, in the order in which they were declared, at most 256. No two have one name,
+/// and no module has two parameters of one name.
+#[derive(Drop)]
+pub struct Modules<'a> {
+    names: NameTable,
+    modules: Vec<Module<'a>>,
+    ghost same: { names ≡ map (λ m. m.title.now) modules.items },
+    ghost few: { length modules.items ≤ 256 },
+    ghost different: { IsTrue (list_all (λ m. not (has_twice (map (λ p. word_of_param (param_of p)) m.params.now))) modules.items) },
+}
+
+impl Visible {
+    ghost use Rattle.dn_module.specs.Stack.{scope_of, sees};
+
+    /// Whether a statement may use the module with this number, which is known.
+    fn includes(self, number: u16) -> bool
+        ensures { result ≡ sees (scope_of self) number }
+    {
+        match self {
+            Visible::All => true,
+            Visible::First(count) => number < count,
+        }
+    }
+}
+
+impl<'a> Modules<'a> {
+    ghost use Rattle.dn_module.specs.Stack.{module_seen, modules_seen, scope_of};
+
+    /// No modules. It takes no memory.
+    pub fn new(alloc: Global) -> Modules<'a>
+        ensures { modules_seen result ≡ [] }
+    {
+        Modules {
+            names: NameTable::new(alloc),
+            modules: Vec::new(alloc),
+        }
+    }
+
+    /// Adds the module that a statement with this line declares.
+    pub fn add(&mut self, alloc: Global, line: u32, module: Module<'a>) -> Result<(), ExpandFault>
+        ensures { GivesBy (λ _. modules_seen self.new) result (with_module (modules_seen self.old) line (module_seen «module».entry)) }
+    {
+        if self.modules.len() >= MAX_MODULES {
+            return Err(ExpandFault::TooMany { line, limit: 256 });
+        }
+        if self.names.find(module.title).is_some() {
+            return Err(ExpandFault::Duplicate { line });
+        }
+        if has_twice(alloc, module.params)? {
+            return Err(ExpandFault::Duplicate { line });
+        }
+        put(alloc, &mut self.names, &mut self.modules, module)?;
+        Ok(())
+    }
+
+    /// The module with this name among those that a statement may use, and its number. `None` exactly where
+    /// none of them has it.
+    pub fn find(&self, visible: Visible, title: &str) -> Option<(u16, Module<'a>)>
+        ensures found { option_map (λ m. (m.0, module_seen m.1)) result ≡ module_from 0 title.now (usable (scope_of visible) (modules_seen self.now)) }
+        ensures different { IfSome result (λ m. has_twice (map word_of_param (map param_of m.1.params.now)) ≡ false) }
+    {
+        let number = self.names.find(title)?;
+        if !visible.includes(number) {
+            return None;
+        }
+        match self.modules.get(usize::from(number)) {
+            Some(module) => Some((number, *module)),
+            None => None,
+        }
+    }
+}
+
+/// Puts a module and its name last. For want of memory both lists are unchanged.
+fn put<'a>(
+    alloc: Global,
+    names: &mut NameTable,
+    modules: &mut Vec<Module<'a>>,
+    module: Module<'a>,
+) -> Result<(), ExpandFault>
+    requires room { length names.old < 1024 }
+    requires new_name { list_any (bytes_eq «module».title.now) names.old ≡ false }
+    ensures names { OnOk result (names.new ≡ names.old ++ «module».entry.title.now ∷ []) }
+    ensures modules { OnOk result (modules.new.items ≡ modules.old.items ++ «module».entry ∷ []) }
+    ensures names_err { OnErr result (names.new ≡ names.old) }
+    ensures modules_err { OnErr result (modules.new.items ≡ modules.old.items) }
+    ensures err { IfErr result (λ e. e ≡ no_memory) }
+{
+    modules.reserve(1)?;
+    let _ = names.add(alloc, module.title)?;
+    modules.push(module)?;
+    Ok(())
+}
+
+/// Whether two of the parameters have one name.
+fn has_twice(alloc: Global, params: &[Param]) -> Result<bool, AllocError>
+    ensures { IfOk result (λ b. b ≡ has_twice (map word_of_param (map param_of params.now))) }
+{
+    let mut words: IndexSet<String> = IndexSet::new(alloc);
+    for param in params {
+        let word = String::from_str(alloc, word_of(param))?;
+        if !words.insert(word)? {
+            return Ok(true);
+        }
+    }
+    Ok(false)
+}
+
+/// The word of a parameter.
+pub fn word_of(param: &Param) -> &str
+    ensures { result.now ≡ word_of_param (param_of param.now) }
+{
+    match param {
+        Param::Num(word) => word.as_str(),
+        Param::Node(word) => word.as_str(),
+    }
+}

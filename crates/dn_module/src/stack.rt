@@ -1,0 +1,192 @@
+//! What is still to be done while a tree is expanded.
+
+ghost use Rattle.std.specs.Prelude.{◌≡◌, ◌∷◌, [], ◌++◌, IfSome, IfNone, IfErr, OnOk, None};
+ghost use Rattle.dn_module.specs.Expand.{Scope as Visibility, outside, statements};
+ghost use Rattle.dn_module.specs.Replace.{Replacement, in_items};
+ghost use Rattle.dn_module.specs.Stack.{scope_of, seen_body, rest_works, first_works, turns_works, turn_works, after_works, use_works, stack_works, work_seen};
+ghost use Rattle.dn_module.specs.declared.fault.ExpandFault.TheVariants.{OutOfMemory as no_memory};
+
+use crate::fault::ExpandFault;
+use crate::modules::Visible;
+use crate::scope::Scope;
+use dn_parse::syntax::Stmt;
+use std::alloc::Global;
+use std::mem;
+
+/// The turns of a loop that are left: from one number to another, which is no less.
+#[derive(Clone, Copy)]
+pub struct Turns<'a> {
+    /// The line of the loop.
+    pub line: u32,
+    pub variable: &'a str,
+    pub next: u64,
+    pub last: u64,
+    pub body: &'a [Stmt],
+}
+
+/// What is left of a body: the turns of the loop that is at work in it, and then the statements after it.
+#[derive(Clone, Copy)]
+pub struct Rest<'a> {
+    pub turns: Option<Turns<'a>>,
+    pub statements: &'a [Stmt],
+}
+
+/// What is next: a statement, or the next turn of a loop.
+#[derive(Clone, Copy)]
+pub enum Work<'a> {
+    Statement(&'a Stmt),
+    Turn(Turns<'a>),
+}
+
+/// A use of a module that is not at its end, or the text itself.
+#[derive(Drop)]
+pub struct Use<'a> {
+    /// What stands for the words of its innermost body.
+    pub scope: Scope,
+    pub visible: Visible,
+    /// What is left of its innermost body.
+    pub inner: Rest<'a>,
+    /// What is left of the bodies round it, the innermost last. Each body but the outermost is a turn of a
+    /// loop.
+    pub outer: Vec<Rest<'a>>,
+}
+
+/// The uses that are not at their ends.
+#[derive(Drop)]
+pub struct Stack<'a> {
+    /// The innermost.
+    pub inner: Use<'a>,
+    /// Those round it, the innermost last.
+    pub outer: Vec<Use<'a>>,
+}
+
+impl<'a> Use<'a> {
+    /// A use at its beginning. It takes no memory.
+    pub fn new(alloc: Global, scope: Scope, visible: Visible, body: &'a [Stmt]) -> Use<'a>
+        ensures { use_works result ≡ statements (scope_of visible) (in_items scope (seen_body body.now)) }
+    {
+        Use {
+            scope,
+            visible,
+            inner: Rest {
+                turns: None,
+                statements: body,
+            },
+            outer: Vec::new(alloc),
+        }
+    }
+
+    /// What is next in the use, whose rest stays. `None` exactly where it is at its end.
+    fn next(&mut self) -> Option<Work<'a>>
+        ensures some { IfSome result (λ w. use_works self.old ≡ work_seen (scope_of self.new.visible) self.new.scope w ∷ use_works self.new) }
+        ensures none { IfNone result (use_works self.old ≡ []) }
+        ensures free { IfSome result (λ _. self.new.inner.turns ≡ None) }
+    {
+        loop {
+            if let Some((work, rest)) = first(self.inner) {
+                self.inner = rest;
+                return Some(work);
+            }
+            let Some(outer) = self.outer.pop() else {
+                return None;
+            };
+            self.inner = outer;
+            self.scope.leave();
+        }
+    }
+
+    /// Goes into the turn of a loop that is next in the innermost body.
+    pub fn enter_turn(&mut self, alloc: Global, turns: Turns<'a>) -> Result<(), ExpandFault>
+        requires free { self.old.inner.turns ≡ None }
+        ensures err { IfErr result (λ e. e ≡ no_memory) }
+        ensures entered { OnOk result (use_works self.new ≡ turn_works (scope_of self.old.visible) self.old.scope turns.entry ++ use_works self.old) }
+    {
+        self.scope.enter(alloc, turns.variable, turns.next)?;
+        self.outer.push(Rest {
+            turns: after(turns),
+            statements: self.inner.statements,
+        })?;
+        self.inner = Rest {
+            turns: None,
+            statements: turns.body,
+        };
+        Ok(())
+    }
+}
+
+impl<'a> Stack<'a> {
+    /// The stack of a text at its beginning. It takes no memory.
+    pub fn new(alloc: Global, body: &'a [Stmt]) -> Stack<'a>
+        ensures { stack_works result ≡ statements outside (seen_body body.now) }
+    {
+        Stack {
+            inner: Use::new(alloc, Scope::outside(alloc), Visible::All, body),
+            outer: Vec::new(alloc),
+        }
+    }
+
+    /// What is next, which then is in the innermost use. `None` exactly where all is done.
+    pub fn next(&mut self) -> Option<Work<'a>>
+        ensures some { IfSome result (λ w. stack_works self.old ≡ work_seen (scope_of self.new.inner.visible) self.new.inner.scope w ∷ stack_works self.new) }
+        ensures none { IfNone result (stack_works self.old ≡ []) }
+        ensures free { IfSome result (λ _. self.new.inner.inner.turns ≡ None) }
+    {
+        loop {
+            if let Some(work) = self.inner.next() {
+                return Some(work);
+            }
+            let Some(outer) = self.outer.pop() else {
+                return None;
+            };
+            self.inner = outer;
+        }
+    }
+
+    /// Goes into a use.
+    pub fn enter(&mut self, inner: Use<'a>) -> Result<(), ExpandFault>
+        ensures err { IfErr result (λ e. e ≡ no_memory) }
+        ensures entered { OnOk result (stack_works self.new ≡ use_works inner.entry ++ stack_works self.old) }
+    {
+        let outer = mem::replace(&mut self.inner, inner);
+        self.outer.push(outer)?;
+        Ok(())
+    }
+}
+
+/// What is first in a body, and what is left of the body then. `None` exactly where it is at its end.
+fn first<'a>(rest: Rest<'a>) -> Option<(Work<'a>, Rest<'a>)>
+    ensures works { (s : Visibility) (r : Replacement) → rest_works s r rest.entry ≡ first_works s r result }
+    ensures free { IfSome result (λ f. f.1.turns ≡ None) }
+{
+    if let Some(turns) = rest.turns {
+        let after = Rest {
+            turns: None,
+            statements: rest.statements,
+        };
+        return Some((Work::Turn(turns), after));
+    }
+    let Some((statement, statements)) = rest.statements.split_first() else {
+        return None;
+    };
+    let after = Rest {
+        turns: None,
+        statements,
+    };
+    Some((Work::Statement(statement), after))
+}
+
+/// The turns after the next one, if there are any.
+fn after<'a>(turns: Turns<'a>) -> Option<Turns<'a>>
+    ensures { (s : Visibility) (r : Replacement) → turns_works s r result ≡ after_works s r turns.entry }
+{
+    if turns.next >= turns.last {
+        return None;
+    }
+    Some(Turns {
+        line: turns.line,
+        variable: turns.variable,
+        next: turns.next + 1,
+        last: turns.last,
+        body: turns.body,
+    })
+}
