@@ -5,16 +5,10 @@ pub mod Outside
 pub mod Places
 pub mod Totals
 pub mod Bindings
-pub mod Closed
-pub mod Each
-pub mod Known
 pub mod Limits
-pub mod Outside
-pub mod Places
 pub mod Replaced
 pub mod Scopes
 pub mod Titles
-pub mod Totals
 pub mod Unreplaced
 pub mod Works
 pub mod Whole
