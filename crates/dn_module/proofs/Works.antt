@@ -8,7 +8,7 @@ use Rattle.dn_module.specs.declared.stack.Use.{Use}
 use Rattle.dn_module.specs.declared.stack.Stack.{Stack}
 use Rattle.dn_module.specs.declared.fault.ExpandFault.{ExpandFault}
 use Rattle.dn_module.specs.declared.fault.ExpandFault.TheVariants.{Duplicate, Unknown, Arguments, Value, TooMany, OutOfMemory}
-use Rattle.dn_module.specs.Expand.{Scope, State, Work, line_of, turns, statements, turn_of, rewritten, all_rewritten, most_steps}
+use Rattle.dn_module.specs.Expand.{Visibility, State, Work, line_of, turns, statements, turn_of, rewritten, all_rewritten, most_steps}
 use Rattle.dn_module.specs.Machine.{in_front}
 use Rattle.dn_module.specs.Told.{IsFault}
 use Rattle.dn_module.specs.Values.{◌>>=◌}
@@ -17,7 +17,7 @@ use Rattle.dn_module.specs.Stack.{seen_body, loop_body, turns_works, after_works
 use Rattle.dn_module.proofs.Replaced.{one_more}
 
 -- a body that is at its end goes
-pub bodies_left : (s : Scope) (r : Replacement) (b x : Rest) (bs : List Rest) → rest_works s r b ≡ [] → bodies_works s r (b ∷ reverse (bs ++ x ∷ [])) ≡ bodies_works s (outside_of r) (x ∷ reverse bs)
+pub bodies_left : (s : Visibility) (r : Replacement) (b x : Rest) (bs : List Rest) → rest_works s r b ≡ [] → bodies_works s r (b ∷ reverse (bs ++ x ∷ [])) ≡ bodies_works s (outside_of r) (x ∷ reverse bs)
 bodies_left s r b x bs none =
     ap (λ ws. ws ++ bodies_works s (outside_of r) (reverse (bs ++ x ∷ []))) none
     ∙ ap (bodies_works s (outside_of r)) (reverse-append bs (x ∷ []))
@@ -33,7 +33,7 @@ pub uses_more : (u x : Use) (us : List Use) → uses_works (x ∷ reverse (us ++
 uses_more u x us = ap (λ l. use_works x ++ uses_works l) (reverse-append us (u ∷ []))
 
 -- a turn is gone into: its body, the turns after it, and what was there before
-pub turn_entered : (s : Scope) (r : Replacement) (t : Turns) (inner pushed now : Rest) (bs : List Rest) → rest_works s r inner ≡ statements s (in_items r (seen_body inner.statements.now))
+pub turn_entered : (s : Visibility) (r : Replacement) (t : Turns) (inner pushed now : Rest) (bs : List Rest) → rest_works s r inner ≡ statements s (in_items r (seen_body inner.statements.now))
     → rest_works s r pushed ≡ after_works s r t ++ statements s (in_items r (seen_body inner.statements.now))
     → rest_works s (record { numbers = (t.variable.now, t.next) ∷ r.numbers; naming = r.naming }) now ≡ statements s (in_items (record { numbers = (t.variable.now, t.next) ∷ r.numbers; naming = r.naming }) (seen_body t.body.now))
     → bodies_works s (record { numbers = (t.variable.now, t.next) ∷ r.numbers; naming = r.naming }) (now ∷ reverse (bs ++ pushed ∷ [])) ≡ turn_works s r t ++ bodies_works s r (inner ∷ reverse bs)
@@ -50,7 +50,7 @@ turn_entered s r t inner pushed now bs before after body =
     ∙ ap (λ ws. turn_works s r t ++ (ws ++ rest)) (sym before)
 
 -- a body with no turns to do
-pub free_rest : (s : Scope) (r : Replacement) (b : Rest) → b.turns ≡ None → rest_works s r b ≡ statements s (in_items r (seen_body b.statements.now))
+pub free_rest : (s : Visibility) (r : Replacement) (b : Rest) → b.turns ≡ None → rest_works s r b ≡ statements s (in_items r (seen_body b.statements.now))
 free_rest s r b none = ap (λ t. turns_works s r t ++ statements s (in_items r (seen_body b.statements.now))) none
 
 -- a step, by what comes in the place of the first work

@@ -28,16 +28,16 @@ abbrev pub nothing_yet : State
 nothing_yet = record { modules = []; drafts = [] }
 
 -- which modules a statement may use: all that are known, or those declared before the module in whose body it stands
-pub data Scope : Type 0 where
-  outside : Scope
-  within_module : (before : ℕ) → Scope
+pub data Visibility : Type 0 where
+  outside : Visibility
+  within_module : (before : ℕ) → Visibility
 
 -- what is still to be done: a statement, or the turns of a loop from one number to another
 pub data Work : Type 0 where
-  statement : Scope → Item → Work
-  turns : Scope → (line : ℕ) → (variable : List ℕ) → (from upto : ℕ) → Items → Work
+  statement : Visibility → Item → Work
+  turns : Visibility → (line : ℕ) → (variable : List ℕ) → (from upto : ℕ) → Items → Work
 
-abbrev pub statements : Scope → Items → List Work
+abbrev pub statements : Visibility → Items → List Work
 statements s no_items = []
 statements s (and_item i is) = statement s i ∷ statements s is
 
@@ -71,7 +71,7 @@ with_module modules line m =
     else Ok (modules ++ m ∷ []))
 
 -- the modules that a statement may use
-abbrev pub usable : Scope → List Module → List Module
+abbrev pub usable : Visibility → List Module → List Module
 usable outside modules = modules
 usable (within_module before) modules = take before modules
 
@@ -138,14 +138,14 @@ use_of line args prefix (Some (place, m)) =
     else Err (Arguments line)
 
 -- a loop becomes its turns, if it has any
-abbrev pub loop_of : Scope → ℕ → List ℕ → Expression → Expression → Items → Result (List Work) ExpandFault
+abbrev pub loop_of : Visibility → ℕ → List ℕ → Expression → Expression → Items → Result (List Work) ExpandFault
 loop_of s line w from upto body = do
   a ← at_line line (value from)
   b ← at_line line (value upto)
   Ok (if nat_le a b then turns s line w a b body ∷ [] else [])
 
 -- the turns become the body with the variable replaced, and then the turns from the next number on
-abbrev pub turn_of : Scope → ℕ → List ℕ → ℕ → ℕ → Items → List Work
+abbrev pub turn_of : Visibility → ℕ → List ℕ → ℕ → ℕ → Items → List Work
 turn_of s line w a b body = statements s (in_items (one_number w a) body) ++ (if nat_lt a b then turns s line w (suc a) b body ∷ [] else [])
 
 abbrev pub with_drafts : State → List Draft → State
@@ -155,7 +155,7 @@ abbrev pub with_modules : State → List Module → State
 with_modules state modules = record { modules = modules; drafts = state.drafts }
 
 -- one rewriting: what takes the place of the first statement, and the state behind it
-abbrev pub item_rewritten : Scope → State → Item → Result (List Work × State) ExpandFault
+abbrev pub item_rewritten : Visibility → State → Item → Result (List Work × State) ExpandFault
 item_rewritten s state (declared line d) = do
   draft ← declared_by line d
   drafts ← with_draft state.drafts draft

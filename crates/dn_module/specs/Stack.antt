@@ -13,15 +13,15 @@ use Rattle.dn_module.specs.declared.stack.Work.{Work as CodeWork}
 use Rattle.dn_module.specs.declared.stack.Work.TheVariants.{Statement, Turn}
 use Rattle.dn_module.specs.declared.stack.Use.{Use}
 use Rattle.dn_module.specs.declared.stack.Stack.{Stack}
-use Rattle.dn_module.specs.Expand.{Module, Scope, outside, within_module, Work, statement, turns, statements, turn_of}
+use Rattle.dn_module.specs.Expand.{Module, Visibility, outside, within_module, Work, statement, turns, statements, turn_of}
 use Rattle.dn_module.specs.Replace.{Replacement, one_number, hiding, in_item, in_items}
 
-abbrev pub scope_of : Visible → Scope
+abbrev pub scope_of : Visible → Visibility
 scope_of All = outside
 scope_of (First count) = within_module count
 
 -- whether a statement may use the module with this number
-abbrev pub sees : Scope → ℕ → Bool
+abbrev pub sees : Visibility → ℕ → Bool
 sees outside number = true
 sees (within_module before) number = nat_lt number before
 
@@ -38,30 +38,30 @@ modules_seen ms = map module_seen ms.modules.items
 abbrev pub loop_body : Replacement → Turns → Items
 loop_body r t = in_items (hiding t.variable.now r) (seen_body t.body.now)
 
-abbrev pub turns_seen : Scope → Replacement → Turns → Work
+abbrev pub turns_seen : Visibility → Replacement → Turns → Work
 turns_seen s r t = turns s t.line t.variable.now t.next t.last (loop_body r t)
 
-abbrev pub turns_works : Scope → Replacement → Option Turns → List Work
+abbrev pub turns_works : Visibility → Replacement → Option Turns → List Work
 turns_works s r None = []
 turns_works s r (Some t) = turns_seen s r t ∷ []
 
 -- the turns after the next one
-abbrev pub after_works : Scope → Replacement → Turns → List Work
+abbrev pub after_works : Visibility → Replacement → Turns → List Work
 after_works s r t = if nat_lt t.next t.last then turns s t.line t.variable.now (suc t.next) t.last (loop_body r t) ∷ [] else []
 
 -- what the next turn becomes
-abbrev pub turn_works : Scope → Replacement → Turns → List Work
+abbrev pub turn_works : Visibility → Replacement → Turns → List Work
 turn_works s r t = turn_of s t.line t.variable.now t.next t.last (loop_body r t)
 
-abbrev pub work_seen : Scope → Replacement → CodeWork → Work
+abbrev pub work_seen : Visibility → Replacement → CodeWork → Work
 work_seen s r (Statement i) = statement s (in_item r (item_of i.now))
 work_seen s r (Turn t) = turns_seen s r t
 
-abbrev pub rest_works : Scope → Replacement → Rest → List Work
+abbrev pub rest_works : Visibility → Replacement → Rest → List Work
 rest_works s r b = turns_works s r b.turns ++ statements s (in_items r (seen_body b.statements.now))
 
 -- a body from its first
-abbrev pub first_works : Scope → Replacement → Option (CodeWork × Rest) → List Work
+abbrev pub first_works : Visibility → Replacement → Option (CodeWork × Rest) → List Work
 first_works s r None = []
 first_works s r (Some f) = work_seen s r f.0 ∷ rest_works s r f.1
 
@@ -70,7 +70,7 @@ abbrev pub outside_of : Replacement → Replacement
 outside_of r = record { numbers = drop 1 r.numbers; naming = r.naming }
 
 -- bodies in one another, the innermost first
-abbrev pub bodies_works : Scope → Replacement → List Rest → List Work
+abbrev pub bodies_works : Visibility → Replacement → List Rest → List Work
 bodies_works s r [] = []
 bodies_works s r (b ∷ bs) = rest_works s r b ++ bodies_works s (outside_of r) bs
 

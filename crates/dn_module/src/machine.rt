@@ -3,7 +3,7 @@
 ghost use Rattle.std.specs.Prelude.{◌≡◌, None};
 ghost use Rattle.dn_parse.specs.Seen.{declaration_of, expr_of, item_of};
 ghost use Rattle.dn_module.specs.Drafts.{at_line};
-ghost use Rattle.dn_module.specs.Expand.{nothing_yet, statements, outside, Scope as Visibility, line_of, line_of_item, loop_of, rewritten, item_rewritten, all_rewritten, most_steps};
+ghost use Rattle.dn_module.specs.Expand.{nothing_yet, statements, outside, Visibility, line_of, line_of_item, loop_of, rewritten, item_rewritten, all_rewritten, most_steps};
 ghost use Rattle.dn_module.specs.Replace.{Replacement, in_declaration, in_expression, in_item, in_items, hiding};
 ghost use Rattle.dn_module.specs.Stack.{scope_of, seen_body, turns_works, stack_works, work_seen};
 ghost use Rattle.dn_module.specs.Machine.{state_of, in_front, drafted};
@@ -130,7 +130,14 @@ fn take<'a>(
         } => {
             let found = made.modules.find(stack.inner.visible, title.as_str());
             let scope = &stack.inner.scope;
-            let inner = used(alloc, scope, *line, found, args.as_slice(), prefix.as_slice())?;
+            let inner = used(
+                alloc,
+                scope,
+                *line,
+                found,
+                args.as_slice(),
+                prefix.as_slice(),
+            )?;
             stack.enter(inner)?;
             Ok(())
         }

@@ -1,7 +1,7 @@
 //! What is still to be done while a tree is expanded.
 
 ghost use Rattle.std.specs.Prelude.{◌≡◌, ◌∷◌, [], ◌++◌, IfSome, IfNone, IfErr, OnOk, None};
-ghost use Rattle.dn_module.specs.Expand.{Scope as Visibility, outside, statements};
+ghost use Rattle.dn_module.specs.Expand.{Visibility, outside, statements};
 ghost use Rattle.dn_module.specs.Replace.{Replacement, in_items};
 ghost use Rattle.dn_module.specs.Stack.{scope_of, seen_body, rest_works, first_works, turns_works, turn_works, after_works, use_works, stack_works, work_seen};
 ghost use Rattle.dn_module.specs.declared.fault.ExpandFault.TheVariants.{OutOfMemory as no_memory};

@@ -54,10 +54,22 @@ fn takes_bodies_in_their_order(rt: HostRuntime) -> Result<(), Fail> {
             "module m();\nx[i] is; end; for i in 0..1; use m() as z[i]; end; begin;",
             "Unknown { line: 2 }",
         ),
-        ("module m(num k);\nend; use m(node k) as z; begin;", "Arguments { line: 2 }"),
-        ("module m(num k);\nend; use m(i) as z[(0-1)]; begin;", "Unknown { line: 2 }"),
-        ("module m(num k);\nend; use m(1) as z[(0-1)]; begin;", "Value { line: 2 }"),
-        ("module m(num k, node k); end; begin;", "Duplicate { line: 1 }"),
+        (
+            "module m(num k);\nend; use m(node k) as z; begin;",
+            "Arguments { line: 2 }",
+        ),
+        (
+            "module m(num k);\nend; use m(i) as z[(0-1)]; begin;",
+            "Unknown { line: 2 }",
+        ),
+        (
+            "module m(num k);\nend; use m(1) as z[(0-1)]; begin;",
+            "Value { line: 2 }",
+        ),
+        (
+            "module m(num k, node k); end; begin;",
+            "Duplicate { line: 1 }",
+        ),
     ];
     for (text, wanted) in rows {
         let names = names(alloc, text)?;
@@ -72,9 +84,18 @@ fn counts_each_statement_and_each_turn(rt: HostRuntime) -> Result<(), Fail> {
     let rows = [
         ("for i in 0..65534;\nend; begin;", ""),
         ("for i in 0..65533;\nend; a is; begin;", " a"),
-        ("for i in 0..65534;\nend;\na is; begin;", "TooMany { line: 3, limit: 65536 }"),
-        ("\nfor i in 0..65535;\nend; begin;", "TooMany { line: 2, limit: 65536 }"),
-        ("for i in 0xffffffffffffffff..0xffffffffffffffff; a is; end; begin;", " a"),
+        (
+            "for i in 0..65534;\nend;\na is; begin;",
+            "TooMany { line: 3, limit: 65536 }",
+        ),
+        (
+            "\nfor i in 0..65535;\nend; begin;",
+            "TooMany { line: 2, limit: 65536 }",
+        ),
+        (
+            "for i in 0xffffffffffffffff..0xffffffffffffffff; a is; end; begin;",
+            " a",
+        ),
     ];
     for (text, wanted) in rows {
         let names = names(alloc, text)?;

@@ -10,7 +10,7 @@ use Rattle.dn_module.specs.Values.{Flaw, unknown_variable, out_of_range, ◌>>=�
 use Rattle.dn_module.specs.Drafts.{at_line, block_of, dest_of, entry_of, draft_of, declared_by, names, with_draft, linked}
 use Rattle.dn_module.specs.Commands.{commands_of}
 use Rattle.dn_module.specs.Replace.{under, one_number, in_items}
-use Rattle.dn_module.specs.Expand.{Module, State, nothing_yet, Scope, outside, within_module, Work, statement, turns, statements, word_of_param, has_twice, is_module, with_module, usable, module_from, fit, Given, number, named, given_by, number_pair, node_pair, numbers_of, nodes_of, used_body, use_of, loop_of, turn_of, item_rewritten, rewritten, all_rewritten, most_steps, Outcome, expanded}
+use Rattle.dn_module.specs.Expand.{Module, State, nothing_yet, Visibility, outside, within_module, Work, statement, turns, statements, word_of_param, has_twice, is_module, with_module, usable, module_from, fit, Given, number, named, given_by, number_pair, node_pair, numbers_of, nodes_of, used_body, use_of, loop_of, turn_of, item_rewritten, rewritten, all_rewritten, most_steps, Outcome, expanded}
 use Rattle.dn_print.proofs.Titles.{Title, IsFull, full_one, full_both}
 use Rattle.dn_print.proofs.Formed.{Each, Maybe, GoodBlock, GoodDest, GoodEntry, GoodDraft, each_both}
 use Rattle.dn_print.proofs.Trees.{Small, GoodPart, Some1, GoodName, SmallBlock, NamedDest, NamedEntry, GoodSpec, GoodDeclaration, GoodArg, GoodItem, GoodItems}
@@ -161,7 +161,7 @@ module_yields state line m h g = go (nat_lt 256 (length state.modules + 1)) (is_
     go false true = record { it = tt }
     go false false = record { it = (each_both GoodModule state.modules (m ∷ []) h.0 (g, tt), h.1) }
 
-statements_good : (s : Scope) (is : Items) → GoodItems is → Each GoodWork (statements s is)
+statements_good : (s : Visibility) (is : Items) → GoodItems is → Each GoodWork (statements s is)
 statements_good s no_items h = tt
 statements_good s (and_item i is) h = (h.0, statements_good s is h.1)
 
@@ -170,7 +170,7 @@ take_good zero ms h = tt
 take_good (suc n) [] h = tt
 take_good (suc n) (m ∷ ms) h = (h.0, take_good n ms h.1)
 
-usable_good : (s : Scope) (ms : List Module) → Each GoodModule ms → Each GoodModule (usable s ms)
+usable_good : (s : Visibility) (ms : List Module) → Each GoodModule ms → Each GoodModule (usable s ms)
 usable_good outside ms h = h
 usable_good (within_module before) ms h = take_good before ms h
 
@@ -227,20 +227,20 @@ use_yields line args prefix (Some p) h g f = go (fit p.1.params args)
     go false = record { it = tt }
 
 -- loops
-turns_good : (s : Scope) (line : ℕ) (w : List ℕ) (a b : ℕ) (body : Items) (t : Bool) → (t ≡ true → a ≤ b) → b < 2 ^ 64 → GoodItems body → Each GoodWork (cond t (turns s line w a b body ∷ []) [])
+turns_good : (s : Visibility) (line : ℕ) (w : List ℕ) (a b : ℕ) (body : Items) (t : Bool) → (t ≡ true → a ≤ b) → b < 2 ^ 64 → GoodItems body → Each GoodWork (cond t (turns s line w a b body ∷ []) [])
 turns_good s line w a b body true l h g = ((l refl, h, g), tt)
 turns_good s line w a b body false l h g = tt
 
-loop_yields : (s : Scope) (line : ℕ) (w : List ℕ) (from upto : Expression) (body : Items) → Small from → Small upto → GoodItems body → Yields (Each GoodWork) (loop_of s line w from upto body)
+loop_yields : (s : Visibility) (line : ℕ) (w : List ℕ) (from upto : Expression) (body : Items) → Small from → Small upto → GoodItems body → Yields (Each GoodWork) (loop_of s line w from upto body)
 loop_yields s line w from upto body f u g = bind (at_line line (value from)) _ (any (at_line line (value from))) (λ a p. bind (at_line line (value upto)) _ (at_yields IsSmallNumber line (value upto) (value_yields upto u)) (λ b q. given (turns_good s line w a b body (nat_le a b) (λ e. leb-true a b e) q g)))
 
-turn_good : (s : Scope) (line : ℕ) (w : List ℕ) (a b : ℕ) (body : Items) → a ≤ b → b < 2 ^ 64 → GoodItems body → Each GoodWork (turn_of s line w a b body)
+turn_good : (s : Visibility) (line : ℕ) (w : List ℕ) (a b : ℕ) (body : Items) → a ≤ b → b < 2 ^ 64 → GoodItems body → Each GoodWork (turn_of s line w a b body)
 turn_good s line w a b body l h g =
     let small : a < 2 ^ 64 = omega (arith, l, h) in
     each_both GoodWork (statements s (in_items (one_number w a) body)) _ (statements_good s (in_items (one_number w a) body) (items_kept body (one_number w a) ((small, tt), tt) g)) (turns_good s line w (suc a) b body (nat_lt a b) (λ e. ltb-true a b e) h g)
 
 -- one rewriting, and all
-item_yields : (s : Scope) (state : State) (i : Item) → GoodState state → GoodItem i → Yields GoodNext (item_rewritten s state i)
+item_yields : (s : Visibility) (state : State) (i : Item) → GoodState state → GoodItem i → Yields GoodNext (item_rewritten s state i)
 item_yields s state (declared line d) h g = bind (declared_by line d) _ (declared_yields line d g) (λ draft p. bind (with_draft state.drafts draft) _ (added_yields state.drafts draft h.1 p) (λ ds q. given (tt, (h.0, q))))
 item_yields s state (module_of line title params body) h g = bind (with_module state line (record { title = title; params = params; body = body })) _ (module_yields state line (record { title = title; params = params; body = body }) h g) (λ next p. given (tt, p))
 item_yields s state (instance line title args prefix) h g = bind (use_of line args prefix (module_from 0 title (usable s state.modules))) _ (use_yields line args prefix (module_from 0 title (usable s state.modules)) g.0 g.1 (found_good 0 title (usable s state.modules) (usable_good s state.modules h.0))) (λ works p. given (p, h))
