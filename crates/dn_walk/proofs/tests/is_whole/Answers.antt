@@ -51,7 +51,7 @@ loop-node-preserved c =
     let over : c.does_over_stay.result ≡ true = search rules in
     let none : is_some c.unit.result ≡ false = search rules in
     whole_more net c.loop-node.node c.entries.result.now c.over.result (option_copied c.unit.result) there c.entries.ensures c.over.ensures c.unit.ensures
-        (ap (λ n. list_all (λ e. list_all (λ d. nat_lt d.node n) e.dests) c.entries.result.now) (sym count) ∙ sym c.do_entries_stay.ensures ∙ stay)
-        (ap (λ n. over_within n c.over.result) (sym count) ∙ sym c.does_over_stay.ensures ∙ over)
-        (no_unit c.unit.result none)
-        c.loop-node.invariant
+    (ap (λ n. list_all (λ e. list_all (λ d. nat_lt d.node n) e.dests) c.entries.result.now) (sym count) ∙ sym c.do_entries_stay.ensures ∙ stay)
+    (ap (λ n. over_within n c.over.result) (sym count) ∙ sym c.does_over_stay.ensures ∙ over)
+    (no_unit c.unit.result none)
+    c.loop-node.invariant

@@ -1,5 +1,5 @@
 -- The rows of the name's node stand together; only they can lead on.
-use Rattle.std.proofs.Common.{◌≡◌, ◌∙◌, ◌-◌, sym, ap, rules, ltb, leb, length, true, false, map, take, drop, arith}
+use Rattle.std.proofs.Common.{◌≡◌, ◌∙◌, ◌-◌, sym, ap, rules, ltb, leb, map, take, drop}
 use Rattle.std.proofs.lemmas.List.Sorted.{IsPartitionPoint-from_clause, IsPartitionedBy-ltb, IsPartitionedBy-leb}
 use Rattle.std.proofs.lemmas.List.{take_all}
 use Rattle.dn_walk.specs.declared.walks.WalkRow.{WalkRow}
