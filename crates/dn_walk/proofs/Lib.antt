@@ -20,7 +20,7 @@ pub mod Keys
 pub mod Pairs
 pub mod Picks
 pub mod Sorting
-pub mod Starts
+pub mod Runs
 pub mod Told
 pub mod Verdict
 pub mod Ways
