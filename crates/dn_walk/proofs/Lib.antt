@@ -7,6 +7,7 @@ pub mod Endless
 pub mod Firsts
 pub mod Gaps
 pub mod Holes
+pub mod Keys
 pub mod Least
 pub mod Legs
 pub mod Levels
@@ -16,11 +17,10 @@ pub mod Members
 pub mod Nodes
 pub mod Onward
 pub mod Order
-pub mod Keys
 pub mod Pairs
 pub mod Picks
-pub mod Sorting
 pub mod Runs
+pub mod Sorting
 pub mod Told
 pub mod Verdict
 pub mod Ways
