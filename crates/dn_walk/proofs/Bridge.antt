@@ -1,31 +1,29 @@
 -- The levels that the code makes are those of the net, and the tests over rows are the tests over names.
-use Rattle.std.proofs.Common.{◌≡◌, ℕ, zero, suc, ◌+◌, ◌-◌, ◌<◌, ◌≤◌, ◌⊎◌, ◌↔◌, inl, inr, Bool, true, false, cond, not, ◌&&◌, ◌||◌, ◌==◌, nat_le, List, [], ◌∷◌, ◌++◌, map, length, get_or, slice_get, Option, Some, None, refl, sym, ap, ◌∙◌, subst, arith, IsTrue, le-leb, eqb-true}
+use Rattle.std.proofs.Common.{◌≡◌, ℕ, zero, suc, ◌+◌, ◌-◌, ◌<◌, ◌≤◌, ◌⊎◌, inl, inr, Bool, true, false, cond, not, ◌&&◌, ◌||◌, ◌==◌, List, [], ◌∷◌, ◌++◌, map, length, get_or, slice_get, Option, Some, None, refl, sym, ap, ◌∙◌, subst, arith, eqb-true}
 use Rattle.std.specs.List.{filter, flat_map, list_any}
 use Rattle.std.proofs.lemmas.Bool.{eq-eqb}
 use Rattle.std.proofs.lemmas.List.{map-append, length_push}
 use Rattle.dn_net.specs.declared.node.Name.{Name}
 use Rattle.dn_net.specs.declared.node.NodeDecl.{NodeDecl}
 use Rattle.dn_net.specs.Chain.{Member}
-use Rattle.dn_net.specs.Decode.{top, within, steps}
-use Rattle.dn_net.specs.Walks.{Leg as NetLeg, legs_of, in_order, Walk, moved_name, meets, onto, extended, still, stills, level, starts_before, live_walks}
+use Rattle.dn_net.specs.Decode.{top}
+use Rattle.dn_net.specs.Walks.{Leg as NetLeg, legs_of, in_order, Walk, meets, onto, extended, stills, level, starts_before, live_walks}
 use Rattle.dn_net.specs.WalkRules.{IsChecked, least_name, comes_to, comes_back, goes_on}
 use Rattle.dn_net.proofs.Least.{within_to, within_from, true_both, both_true, either_true, true_left, true_right}
 use Rattle.dn_walk.specs.declared.leg.Leg.{Leg}
-use Rattle.dn_walk.specs.declared.way.Goal.{Goal}
 use Rattle.dn_walk.specs.declared.way.Goal.TheVariants.{Anywhere, To}
 use Rattle.dn_walk.specs.Rows.{Told, told_by_walk}
 use Rattle.dn_walk.specs.Legs.{told_leg, told_legs}
 use Rattle.dn_walk.specs.Levels.{told_meets, told_onto, told_on, told_extended, told_still, told_stills, told_level, told_before, told_walks}
 use Rattle.dn_walk.specs.Ways.{least_of, start_name, start_names, is_cyclic, told_leads, level_leads, has_addr, meets_goal}
 use Rattle.dn_walk.proofs.Cycles.{IsLed, HasName, comes_to_is_row, goes_on_is_row}
-use Rattle.dn_walk.proofs.Firsts.{NoLater, lower_addr, IsLeastName, IsLeastNameOr, least_name_is}
+use Rattle.dn_walk.proofs.Firsts.{NoLater, lower_addr, IsLeastNameOr, least_name_is}
 use Rattle.dn_walk.proofs.Gaps.{same_test}
 use Rattle.dn_walk.proofs.Least.{same_place, least_is, least_none}
 use Rattle.dn_walk.proofs.Levels.{level_is_row}
 use Rattle.dn_walk.proofs.Members.{member_map, map_member, member_filter, filter_member, member_order}
 use Rattle.dn_walk.proofs.Sorting.{map_in_order}
 use Rattle.dn_walk.proofs.Told.{level-zero, level-suc, walks-zero, walks-suc}
-use Rattle.dn_walk.proofs.Ways.{IsFirstName}
 
 -- the first level
 told_firsts : (n : ℕ) (net : List NodeDecl) → told_stills n (length (map told_legs net)) ≡ map told_by_walk (stills n net)

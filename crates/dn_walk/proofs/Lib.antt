@@ -7,6 +7,7 @@ pub mod Endless
 pub mod Firsts
 pub mod Gaps
 pub mod Holes
+pub mod Keys
 pub mod Least
 pub mod Legs
 pub mod Levels
@@ -16,10 +17,9 @@ pub mod Members
 pub mod Nodes
 pub mod Onward
 pub mod Order
-pub mod Keys
 pub mod Pairs
-pub mod Starts
 pub mod Picks
+pub mod Runs
 pub mod Sorting
 pub mod Told
 pub mod Verdict

@@ -1,13 +1,13 @@
 -- The legs that a walk meets stand together, and what it makes of one of them.
-use Rattle.std.proofs.Common.{◌≡◌, ℕ, ◌+◌, ◌-◌, ◌<◌, ◌≤◌, ◌⊎◌, inl, inr, Bool, true, false, ◌&&◌, if◌then◌else◌, nat_le, nat_lt, ltb, leb, min, max, List, length, get_or, take, drop, refl, sym, ap, ◌∙◌, subst, arith, IsTrue, ltb-true, leb-true, le-leb}
-use Rattle.std.proofs.lemmas.Bool.{ltb-false, lt-ltb, lt-leb, leb-false, cases_lt}
+use Rattle.std.proofs.Common.{◌≡◌, ℕ, ◌-◌, ◌<◌, ◌≤◌, ◌⊎◌, inl, inr, Bool, true, false, ◌&&◌, if◌then◌else◌, nat_le, nat_lt, ltb, leb, min, max, List, length, get_or, take, drop, refl, arith, IsTrue, ltb-true, leb-true, le-leb}
+use Rattle.std.proofs.lemmas.Bool.{ltb-false, lt-leb, leb-false, cases_lt}
 use Rattle.std.specs.List.{All, filter}
-use Rattle.std.specs.List.Sorted.{IsPartitionPoint, IsNonDecreasingBy}
+use Rattle.std.specs.List.Sorted.{IsPartitionPoint}
 use Rattle.dn_net.specs.Walks.{greater, lesser_of}
 use Rattle.dn_walk.specs.declared.leg.Leg.{Leg}
 use Rattle.dn_walk.specs.Rows.{Told}
-use Rattle.dn_walk.specs.Levels.{told_last, told_meets, told_onto}
-use Rattle.dn_walk.proofs.Picks.{Between, between_is}
+use Rattle.dn_walk.specs.Levels.{told_last, told_meets}
+use Rattle.dn_walk.proofs.Picks.{between_is}
 
 abbrev pub Ends : ℕ → List Leg → ℕ → Type 0
 Ends base legs i = IsPartitionPoint (λ l. ltb l.hi base ≡ true) (λ l. ltb l.hi base ≡ false) legs i

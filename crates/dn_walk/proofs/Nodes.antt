@@ -1,20 +1,20 @@
 -- The legs of a node of a checked net, without the choices.
-use Rattle.std.proofs.Common.{◌≡◌, ℕ, zero, suc, ◌+◌, ◌-◌, ◌<◌, ◌≤◌, Bool, true, false, not, ◌&&◌, ◌||◌, nat_le, nat_lt, List, [], ◌∷◌, ◌++◌, map, length, get_or, take, slice_get, Option, Some, None, option_map, refl, sym, ap, ◌∙◌, subst, arith, IsTrue, le-leb}
-use Rattle.std.specs.List.{All, list_all, list_any, flat_map}
-use Rattle.std.specs.List.Sorted.{IsPermutation, IsNonDecreasingBy}
+use Rattle.std.proofs.Common.{◌≡◌, ℕ, zero, suc, ◌+◌, ◌-◌, ◌<◌, ◌≤◌, Bool, true, false, not, ◌||◌, nat_le, nat_lt, List, [], ◌∷◌, ◌++◌, map, length, get_or, take, slice_get, Option, Some, None, option_map, refl, sym, ap, ◌∙◌, subst, arith, IsTrue}
+use Rattle.std.specs.List.{All, list_all}
+use Rattle.std.specs.List.Sorted.{IsPermutation}
 use Rattle.std.proofs.lemmas.List.{take_more, map-append, get_or-map}
 use Rattle.std.proofs.lemmas.List.Sorted.{list_any-IsPermutation}
-use Rattle.std.proofs.lemmas.Option.{slice_get_within, slice_get-get_or}
+use Rattle.std.proofs.lemmas.Option.{slice_get-get_or}
 use Rattle.dn_net.specs.declared.node.Block.{Block}
 use Rattle.dn_net.specs.declared.node.Dest.{Dest}
 use Rattle.dn_net.specs.declared.node.Entry.{Entry}
 use Rattle.dn_net.specs.declared.node.NodeDecl.{NodeDecl}
 use Rattle.dn_net.specs.Chain.{Member}
 use Rattle.dn_net.specs.Decode.{top, in_some_block, within, is_closed, refers_within}
-use Rattle.dn_net.specs.Rules.{node_fault, block_in_range, entry_in_range, is_in_range}
+use Rattle.dn_net.specs.Rules.{node_fault, block_in_range, entry_in_range}
 use Rattle.dn_net.specs.Walks.{Leg as NetLeg, in_order, dest_legs, entry_legs, gap_legs, gaps, legs}
 use Rattle.dn_net.proofs.Checked.{checked_at}
-use Rattle.dn_net.proofs.Places.{both, list_all-at, length-map}
+use Rattle.dn_net.proofs.Places.{both, length-map}
 use Rattle.dn_net.proofs.Steps.{node_at}
 use Rattle.dn_interval.specs.declared.span.Span.{Span}
 use Rattle.dn_interval.specs.Spans.{has, in_span, AreMaximal}
@@ -25,7 +25,7 @@ use Rattle.dn_walk.proofs.Holes.{spans_are_left}
 use Rattle.dn_walk.proofs.Legs.{leads_of_leg, leads_in_range, leads_within}
 use Rattle.dn_walk.proofs.Members.{member_map}
 use Rattle.dn_walk.proofs.Order.{legs_rise}
-use Rattle.dn_walk.proofs.Pairs.{Pairwise, pairs_map, pairs_more, pairs_rise}
+use Rattle.dn_walk.proofs.Pairs.{pairs_map, pairs_more, pairs_rise}
 use Rattle.dn_walk.proofs.Sorting.{map_in_order}
 use Rattle.dn_walk.proofs.Told.{at_member}
 

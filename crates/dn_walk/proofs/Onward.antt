@@ -1,15 +1,13 @@
 -- A way goes on by its least step, or ends.
-use Rattle.std.proofs.Common.{◌≡◌, ℕ, zero, suc, ◌+◌, ◌-◌, ◌<◌, ◌≤◌, Bool, true, false, not, ◌||◌, List, [], ◌∷◌, ◌++◌, map, length, get_or, Option, Some, None, refl, sym, ap, ◌∙◌, subst, arith, IsTrue, ltb-true}
-use Rattle.std.specs.List.{filter, All, list_all}
-use Rattle.std.proofs.lemmas.List.{get_or-map, get_or_default, append_assoc, append-nil}
-use Rattle.std.proofs.lemmas.Option.{slice_get_within}
+use Rattle.std.proofs.Common.{◌≡◌, ℕ, suc, ◌+◌, ◌-◌, ◌<◌, ◌≤◌, Bool, not, ◌||◌, List, [], ◌∷◌, map, length, get_or, Some, None, refl, sym, ap, ◌∙◌, subst, arith, IsTrue}
+use Rattle.std.specs.List.{filter, All}
+use Rattle.std.proofs.lemmas.List.{get_or-map}
 use Rattle.dn_net.specs.declared.node.Name.{Name}
 use Rattle.dn_net.specs.declared.node.NodeDecl.{NodeDecl}
 use Rattle.dn_net.specs.Chain.{Member, Chain}
 use Rattle.dn_net.specs.Decode.{steps, is_closed, top, Step}
 use Rattle.dn_net.specs.Rules.{node_fault}
-use Rattle.dn_net.specs.WalkRules.{first_of, behind, way_by, IsChecked}
-use Rattle.dn_net.specs.Names.{sorted_names}
+use Rattle.dn_net.specs.WalkRules.{behind, way_by, IsChecked}
 use Rattle.dn_walk.specs.declared.walks.WalkRow.{WalkRow}
 use Rattle.dn_walk.specs.declared.way.Goal.{Goal}
 use Rattle.dn_walk.specs.Rows.{Told, told_by_row}

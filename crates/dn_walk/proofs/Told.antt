@@ -1,19 +1,18 @@
 -- Levels without the choices: what each row of them keeps, and how the next one is made.
-use Rattle.std.proofs.Common.{◌≡◌, ℕ, zero, suc, ◌+◌, ◌-◌, ◌<◌, ◌≤◌, ◌⊎◌, inl, inr, Bool, true, false, cond, ◌&&◌, nat_le, List, [], ◌∷◌, ◌++◌, map, length, get_or, take, drop, refl, sym, ap, ◌∙◌, subst, arith, IsTrue}
+use Rattle.std.proofs.Common.{◌≡◌, ℕ, zero, suc, ◌+◌, ◌-◌, ◌<◌, ◌≤◌, inl, inr, List, [], ◌∷◌, ◌++◌, map, length, get_or, take, drop, refl, sym, ap, ◌∙◌, subst, arith, IsTrue}
 use Rattle.std.specs.List.{All, filter, flat_map}
-use Rattle.std.proofs.lemmas.List.{take_more, map-append, append_assoc, length-append, take-map, length-map, get_or-map, get_or_default, append-nil, drop-append-le}
+use Rattle.std.proofs.lemmas.List.{take_more, map-append, length-append, take-map, length-map, get_or-map, get_or_default, append-nil, drop-append-le}
 use Rattle.std.proofs.lemmas.List.Elements.{All-filter, filter_passes}
 use Rattle.std.proofs.lemmas.Grind.{flat_map-append}
 use Rattle.std.proofs.lemmas.List.Folds.{length-flat_map-take}
 use Rattle.dn_net.specs.Chain.{Member}
-use Rattle.dn_net.specs.Decode.{top}
-use Rattle.dn_net.specs.Walks.{in_order, greater, lesser_of}
+use Rattle.dn_net.specs.Walks.{in_order}
 use Rattle.dn_net.specs.WalkRules.{walk_limit}
 use Rattle.dn_walk.specs.declared.leg.Leg.{Leg}
 use Rattle.dn_walk.specs.declared.walks.WalkRow.{WalkRow}
 use Rattle.dn_walk.specs.Rows.{Told, told_by_row}
 use Rattle.dn_walk.specs.Legs.{AreLegs, IsLegOf}
-use Rattle.dn_walk.specs.Levels.{told_last, told_meets, told_onto, told_on, told_extended, told_still, told_stills, told_level, told_walks, told_levels, told_before, IsRowOf, IsWideWhere}
+use Rattle.dn_walk.specs.Levels.{told_last, told_meets, told_onto, told_extended, told_still, told_stills, told_level, told_walks, told_levels, told_before, IsRowOf, IsWideWhere}
 use Rattle.dn_walk.specs.declared.fault.WalkFault.{WalkFault}
 use Rattle.dn_walk.specs.declared.fault.WalkFault.TheVariants.{Wide, Loop, Deep, OutOfMemory}
 use Rattle.dn_walk.proofs.Members.{member_map, map_member, member_filter, member_flat_map}

@@ -1,5 +1,5 @@
 -- From the levels to the rule on walks that a net breaks.
-use Rattle.std.proofs.Common.{◌≡◌, ℕ, zero, suc, ◌+◌, ◌-◌, ◌<◌, ◌≤◌, ◌⊎◌, inl, inr, Bool, true, false, cond, if◌then◌else◌, ◌&&◌, ◌||◌, ◌==◌, nat_lt, List, [], ◌∷◌, ◌++◌, map, length, get_or, Option, Some, None, option_map, is_some, refl, sym, ap, ◌∙◌, subst, arith, IsTrue}
+use Rattle.std.proofs.Common.{◌≡◌, ℕ, zero, suc, ◌+◌, ◌-◌, ◌<◌, ◌≤◌, ◌⊎◌, inl, inr, Bool, true, false, cond, if◌then◌else◌, ◌&&◌, ◌||◌, ◌==◌, nat_lt, List, [], ◌∷◌, ◌++◌, map, length, get_or, Option, Some, None, option_map, is_some, refl, sym, ap, ◌∙◌, subst, arith}
 use Rattle.std.specs.List.{filter, flat_map, All}
 use Rattle.std.specs.List.Sorted.{IsNonDecreasingBy}
 use Rattle.std.proofs.lemmas.Bool.{lt-ltb, le-ltb, cases_lt}
@@ -10,11 +10,10 @@ use Rattle.dn_net.specs.Chain.{Member}
 use Rattle.dn_net.specs.Decode.{top, steps, step_limit}
 use Rattle.dn_net.specs.Names.{sorted_names}
 use Rattle.dn_net.specs.Walks.{in_order, level, live_walks, starts_before}
-use Rattle.dn_net.specs.WalkRules.{IsChecked, Broken, is_wide, has_loop, is_deep, walk_limit, walk_fault, counted_length, endless_fault, shortest_cycle, shortest_within, has_cycle, or_else, first_of, behind, way_by, comes_to, comes_back, goes_on, least_name, cycle_from, cycle_names, path_from, path_names}
+use Rattle.dn_net.specs.WalkRules.{IsChecked, is_wide, has_loop, is_deep, walk_limit, walk_fault, counted_length, endless_fault, shortest_cycle, shortest_within, has_cycle, or_else, first_of, behind, way_by, comes_to, goes_on, cycle_from, cycle_names, path_from, path_names}
 use Rattle.dn_net.proofs.Places.{length-map}
 use Rattle.dn_walk.specs.declared.leg.Leg.{Leg}
 use Rattle.dn_walk.specs.declared.walks.WalkRow.{WalkRow}
-use Rattle.dn_walk.specs.declared.way.Goal.{Goal}
 use Rattle.dn_walk.specs.declared.way.Goal.TheVariants.{Anywhere, To}
 use Rattle.dn_walk.specs.Rows.{Told, told_by_row, told_by_walk}
 use Rattle.dn_walk.specs.Legs.{told_legs}
@@ -24,7 +23,7 @@ use Rattle.dn_walk.proofs.Bridge.{walks_told, least_back, least_onward, leads_to
 use Rattle.dn_walk.proofs.Keys.{told_weak}
 use Rattle.dn_walk.proofs.Least.{none_least}
 use Rattle.dn_walk.proofs.Onward.{step_in_range}
-use Rattle.dn_walk.proofs.Pairs.{Pairwise, pairs_more, pairs_rise}
+use Rattle.dn_walk.proofs.Pairs.{pairs_more, pairs_rise}
 use Rattle.dn_walk.proofs.Sorting.{in_order_pairs}
 use Rattle.dn_walk.proofs.Told.{level-suc, walks-suc, levels-suc, length_levels}
 

@@ -1,10 +1,10 @@
 -- The legs of the entries and of the gaps, sorted.
-use Rattle.std.proofs.Common.{◌≡◌, ◌∙◌, ◌++◌, [], sym, ap, rules, Some, None, map}
+use Rattle.std.proofs.Common.{◌≡◌, ◌∙◌, ◌++◌, sym, ap, rules, map}
 use Rattle.std.proofs.lemmas.List.{append-nil}
 use Rattle.std.proofs.lemmas.List.Sorted.{answers_always}
 use Rattle.dn_net.specs.Walks.{in_order}
 use Rattle.dn_walk.specs.declared.leg.Leg.{Leg}
-use Rattle.dn_walk.specs.Legs.{plain_entry_legs, plain_gap_legs, gap_leg, leg_before, legs_by, gaps_by, block_of}
+use Rattle.dn_walk.specs.Legs.{plain_entry_legs, plain_gap_legs, gap_leg, leg_before, gaps_by, block_of}
 use Rattle.dn_walk.proofs.Keys.{legs_in_order}
 use Rattle.dn_walk.proofs.leg.node_legs.Goals as goal
 use Rattle.dn_walk.proofs.leg.node_legs.Goals.{in-Some+in_ok-gaps+in_ok-push_gaps, in_default}

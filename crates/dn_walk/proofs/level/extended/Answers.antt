@@ -1,10 +1,10 @@
 -- Each row goes on by the legs that it meets, of its end node.
-use Rattle.std.proofs.Common.{◌≡◌, ◌∙◌, ◌+◌, ◌-◌, ◌<◌, ◌≤◌, ◌++◌, sym, ap, map, length, get_or, [], take, vec_len, arith, rules, subst}
+use Rattle.std.proofs.Common.{◌≡◌, ◌∙◌, ◌+◌, ◌-◌, ◌≤◌, ◌++◌, sym, ap, map, length, get_or, [], take, vec_len, arith, rules, subst}
 use Rattle.std.specs.List.{filter, flat_map}
 use Rattle.std.proofs.lemmas.List.{length-append}
 use Rattle.dn_net.proofs.Places.{length-map}
 use Rattle.dn_walk.specs.declared.leg.Leg.{Leg}
-use Rattle.dn_walk.specs.Legs.{AreLegs, IsLegOf}
+use Rattle.dn_walk.specs.Legs.{AreLegs}
 use Rattle.dn_walk.specs.Rows.{told_by_row}
 use Rattle.dn_walk.specs.Levels.{IsRowOf, told_meets, told_onto, told_extended}
 use Rattle.dn_walk.proofs.Told.{legs_there, legs_same, met_meet, met_keep, extended_more, extended_least}

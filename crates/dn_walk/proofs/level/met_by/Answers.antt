@@ -1,10 +1,8 @@
 -- The legs that end before the walk's addresses come first, and those that begin behind them last.
-use Rattle.std.proofs.Common.{◌≡◌, ◌∙◌, ap, rules, ltb, leb, arith, length, take, drop, subst, sym}
-use Rattle.std.specs.List.{filter}
+use Rattle.std.proofs.Common.{rules, ltb, leb, arith, subst}
 use Rattle.std.proofs.lemmas.List.Sorted.{IsPartitionPoint-from_clause, IsPartitionedBy-ltb, IsPartitionedBy-leb}
 use Rattle.dn_walk.specs.declared.leg.Leg.{Leg}
 use Rattle.dn_walk.specs.Rows.{told_by_row}
-use Rattle.dn_walk.specs.Levels.{told_last, told_meets}
 use Rattle.dn_walk.proofs.Meets.{Ends, Begins, in_turn, met_is}
 use Rattle.dn_walk.proofs.level.met_by.Goals as goal
 

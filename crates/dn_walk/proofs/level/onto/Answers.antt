@@ -1,7 +1,6 @@
 -- The addresses that go on lie in the span and in the leg.
 use Rattle.std.proofs.Common.{◌≤◌, ◌+◌, ◌-◌, arith}
 use Rattle.dn_walk.specs.Rows.{told_by_row}
-use Rattle.dn_walk.specs.Levels.{told_last}
 use Rattle.dn_walk.proofs.Meets.{meets_parts}
 use Rattle.dn_walk.proofs.level.onto.Goals as goal
 

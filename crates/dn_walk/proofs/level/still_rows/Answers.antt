@@ -1,5 +1,5 @@
 -- One node more.
-use Rattle.std.proofs.Common.{◌≡◌, ◌∙◌, ◌+◌, ◌++◌, ◌∷◌, [], zero, suc, sym, ap, map, arith}
+use Rattle.std.proofs.Common.{◌≡◌, ◌∙◌, ◌+◌, ◌++◌, ◌∷◌, [], suc, sym, ap, map, arith}
 use Rattle.std.proofs.lemmas.List.{map-append}
 use Rattle.dn_walk.specs.Rows.{told_by_row}
 use Rattle.dn_walk.specs.Levels.{told_still, told_stills}

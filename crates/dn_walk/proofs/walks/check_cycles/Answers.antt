@@ -1,5 +1,5 @@
 -- The least start is a node of the net.
-use Rattle.std.proofs.Common.{◌≡◌, ◌∙◌, sym, ap, map, length, true}
+use Rattle.std.proofs.Common.{◌∙◌, sym, ap, map, length, true}
 use Rattle.dn_walk.specs.Rows.{told_by_row}
 use Rattle.dn_walk.specs.Ways.{least_of, start_names}
 use Rattle.dn_walk.proofs.Onward.{start_there}

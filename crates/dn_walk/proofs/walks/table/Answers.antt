@@ -1,5 +1,5 @@
 -- The levels but the first, one behind the other.
-use Rattle.std.proofs.Common.{◌≡◌, ◌∙◌, ◌+◌, ◌-◌, ◌<◌, ◌≤◌, sym, ap, subst, map, length, take, drop, arith, []}
+use Rattle.std.proofs.Common.{◌≡◌, ◌∙◌, ◌-◌, ap, map, length, take, drop}
 use Rattle.std.specs.List.{flat_map}
 use Rattle.std.proofs.lemmas.List.{take_all, take_rest}
 use Rattle.dn_walk.specs.Rows.{told_by_row}

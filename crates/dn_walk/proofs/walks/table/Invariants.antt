@@ -1,5 +1,5 @@
 -- The rows of the levels so far.
-use Rattle.std.proofs.Common.{◌≡◌, map, take, drop}
+use Rattle.std.proofs.Common.{◌≡◌, take}
 use Rattle.std.specs.List.{flat_map}
 use Rattle.dn_walk.proofs.walks.table.Given as goal
 

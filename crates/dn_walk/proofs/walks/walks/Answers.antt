@@ -1,6 +1,6 @@
 -- The levels of the code are those of the net, so what they show is the rule that the net breaks.
 use Rattle.std.proofs.Common.{◌≡◌, ◌∙◌, ℕ, Option, get_or, IsTrue, refl, suc, ◌+◌, ◌-◌, ◌<◌, ◌≤◌, ◌⊎◌, inl, inr, List, [], ◌∷◌, map, length, vec_len, true, false, None, Some, sym, ap, subst, arith, rules}
-use Rattle.std.specs.List.{All, flat_map}
+use Rattle.std.specs.List.{All}
 use Rattle.std.specs.List.Sorted.{IsNonDecreasingBy}
 use Rattle.std.proofs.lemmas.Bool.Decides.{nat_tests}
 use Rattle.std.proofs.lemmas.Result.{err_from_is_err_and}
@@ -14,14 +14,14 @@ use Rattle.dn_walk.specs.declared.fault.WalkFault.TheVariants.{Wide, Loop, Deep,
 use Rattle.dn_walk.specs.declared.leg.Leg.{Leg}
 use Rattle.dn_walk.specs.declared.level.Levels.{Levels}
 use Rattle.dn_walk.specs.declared.walks.WalkRow.{WalkRow}
-use Rattle.dn_walk.specs.Rows.{Told, told_by_row, IsBroken}
-use Rattle.dn_walk.specs.Legs.{told_legs, AreLegs}
-use Rattle.dn_walk.specs.Levels.{AreLevels, IsRowOf, IsWideWhere, told_level, told_levels, told_walks, told_extended}
+use Rattle.dn_walk.specs.Rows.{told_by_row, IsBroken}
+use Rattle.dn_walk.specs.Legs.{told_legs}
+use Rattle.dn_walk.specs.Levels.{AreLevels, IsWideWhere, told_level, told_levels, told_walks}
 use Rattle.dn_walk.specs.Ways.{least_of, start_names, told_cycle, told_path, IsLoopBy, IsDeepBy}
 use Rattle.dn_net.proofs.Places.{length-map}
-use Rattle.dn_walk.proofs.Nodes.{all_legs_of, all_legs}
-use Rattle.dn_walk.proofs.Told.{rows_are, level-suc}
-use Rattle.dn_walk.proofs.Verdict.{Acyclic, steps_are, limit_is, wide_is, loop_is, deep_is, Legal, legal_is, cycle_told, path_told, sorted_by_start, empty_on}
+use Rattle.dn_walk.proofs.Nodes.{all_legs_of}
+use Rattle.dn_walk.proofs.Told.{rows_are}
+use Rattle.dn_walk.proofs.Verdict.{Acyclic, steps_are, limit_is, wide_is, loop_is, deep_is, legal_is, cycle_told, path_told, sorted_by_start, empty_on}
 use Rattle.dn_walk.proofs.walks.walks.Goals as goal
 use Rattle.dn_walk.proofs.walks.walks.Goals.{then-levels-test+else-not-is_empty, else-levels-test}
 

@@ -1,6 +1,5 @@
 -- The levels so far, and that none of them has a cycle.
-use Rattle.std.proofs.Common.{◌≡◌, ℕ, ◌≤◌, ◌<◌, ◌-◌, length, true, None, map}
-use Rattle.std.specs.List.{list_any}
+use Rattle.std.proofs.Common.{◌≡◌, ℕ, ◌≤◌, ◌-◌, length, true, None, map}
 use Rattle.dn_walk.specs.Legs.{told_legs}
 use Rattle.dn_walk.specs.Levels.{AreLevels, told_level}
 use Rattle.dn_walk.specs.Ways.{least_of, start_names}

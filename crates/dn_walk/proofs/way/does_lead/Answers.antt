@@ -1,11 +1,11 @@
 -- The rows of the name's node stand together; only they can lead on.
-use Rattle.std.proofs.Common.{◌≡◌, ◌∙◌, ◌-◌, sym, ap, rules, ltb, leb, length, true, false, map, take, drop, arith}
+use Rattle.std.proofs.Common.{◌≡◌, ◌∙◌, ◌-◌, sym, ap, rules, ltb, leb, map, take, drop}
 use Rattle.std.proofs.lemmas.List.Sorted.{IsPartitionPoint-from_clause, IsPartitionedBy-ltb, IsPartitionedBy-leb}
 use Rattle.std.proofs.lemmas.List.{take_all}
 use Rattle.dn_walk.specs.declared.walks.WalkRow.{WalkRow}
 use Rattle.dn_walk.specs.Rows.{told_by_row}
 use Rattle.dn_walk.specs.Ways.{level_leads}
-use Rattle.dn_walk.proofs.Starts.{Starts, Started, starts_in_turn, leads_between, none_more, one_leads}
+use Rattle.dn_walk.proofs.Runs.{Starts, Started, starts_in_turn, leads_between, none_more, one_leads}
 use Rattle.dn_walk.proofs.way.does_lead.Goals as goal
 
 pub slice_bounds-row-items-count : goal.slice_bounds-row-items-count

@@ -1,5 +1,5 @@
 -- The destination's name is one more, or none.
-use Rattle.std.proofs.Common.{◌≡◌, ◌∙◌, sym, ap, map, get_or, refl}
+use Rattle.std.proofs.Common.{◌∙◌, sym, map, get_or, refl}
 use Rattle.dn_net.specs.declared.node.Dest.{Dest}
 use Rattle.dn_walk.specs.Rows.{told_by_row}
 use Rattle.dn_walk.specs.Ways.{level_leads}

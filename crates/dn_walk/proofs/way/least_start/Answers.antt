@@ -1,6 +1,5 @@
 -- The row's name is one more, or none.
-use Rattle.std.proofs.Common.{◌≡◌, ◌∙◌, sym, ap}
-use Rattle.dn_walk.specs.Rows.{told_by_row}
+use Rattle.std.proofs.Common.{◌∙◌, sym}
 use Rattle.dn_walk.proofs.Least.{start_taken, start_left}
 use Rattle.dn_walk.proofs.way.least_start.Goals.{then-counts, else-counts}
 use Rattle.dn_walk.proofs.way.least_start.Goals as goal

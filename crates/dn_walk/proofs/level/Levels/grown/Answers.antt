@@ -1,10 +1,9 @@
 -- One level more, and as many walks less room.
-use Rattle.std.proofs.Common.{◌≡◌, ◌∙◌, ◌+◌, ◌-◌, ◌<◌, ◌≤◌, ◌++◌, ◌∷◌, [], sym, ap, map, length, vec_len, arith, rules, subst}
-use Rattle.std.specs.List.{flat_map}
+use Rattle.std.proofs.Common.{◌≡◌, ◌∙◌, ◌+◌, ◌-◌, sym, ap, map, length, vec_len, arith, rules, subst}
 use Rattle.std.proofs.lemmas.List.{length_push}
 use Rattle.dn_net.proofs.Places.{length-map}
 use Rattle.dn_walk.specs.Rows.{told_by_row}
-use Rattle.dn_walk.specs.Levels.{AreLevels, told_levels, told_level, told_walks, told_extended}
+use Rattle.dn_walk.specs.Levels.{told_levels, told_level, told_walks}
 use Rattle.dn_net.specs.WalkRules.{walk_limit}
 use Rattle.std.proofs.lemmas.Result.{err_from_is_err_and}
 use Rattle.dn_walk.proofs.Told.{rows_are, wide_weaker, grown_wide, grown_room, grown_level, grown_sorted}

@@ -1,8 +1,8 @@
 -- No level is sorted yet, and there is all of the room.
-use Rattle.std.proofs.Common.{◌≡◌, ◌∙◌, ◌+◌, sym, ap, subst, map, length, [], refl, arith}
+use Rattle.std.proofs.Common.{◌≡◌, ◌∙◌, ◌+◌, sym, ap, subst, map, length, [], refl}
 use Rattle.dn_net.specs.WalkRules.{walk_limit}
 use Rattle.dn_walk.specs.Rows.{told_by_row}
-use Rattle.dn_walk.specs.Levels.{AreLevels, told_level, told_levels, told_walks, told_stills}
+use Rattle.dn_walk.specs.Levels.{told_level, told_levels, told_walks, told_stills}
 use Rattle.dn_walk.proofs.Told.{level-zero, walks-zero, levels-zero}
 use Rattle.dn_walk.proofs.level.Levels.new.Goals as goal
 

@@ -1,5 +1,5 @@
 -- The rows of one start stand together.
-use Rattle.std.proofs.Common.{◌≡◌, ℕ, zero, suc, ◌+◌, ◌-◌, ◌<◌, ◌≤◌, ◌⊎◌, inl, inr, Bool, true, false, ◌&&◌, ◌||◌, ◌==◌, ◌++◌, nat_le, ltb, leb, List, [], ◌∷◌, map, length, get_or, take, drop, refl, sym, ap, ◌∙◌, subst, arith, ltb-true, leb-true, le-leb, eqb-true}
+use Rattle.std.proofs.Common.{◌≡◌, ℕ, zero, suc, ◌+◌, ◌-◌, ◌<◌, ◌≤◌, ◌⊎◌, inl, inr, Bool, true, false, ◌&&◌, ◌||◌, ◌==◌, ◌++◌, nat_le, ltb, leb, List, [], ◌∷◌, map, length, get_or, take, drop, refl, sym, ap, ◌∙◌, arith, ltb-true, le-leb, eqb-true}
 use Rattle.std.proofs.lemmas.Bool.{ltb-false, lt-leb, leb-false, cases_lt}
 use Rattle.std.proofs.lemmas.List.{take_more, map-append}
 use Rattle.std.specs.List.{filter, list_any}
@@ -7,9 +7,9 @@ use Rattle.std.specs.List.Sorted.{IsPartitionPoint}
 use Rattle.dn_net.specs.declared.node.Name.{Name}
 use Rattle.dn_walk.specs.declared.walks.WalkRow.{WalkRow}
 use Rattle.dn_walk.specs.declared.way.Goal.{Goal}
-use Rattle.dn_walk.specs.Rows.{Told, told_by_row}
+use Rattle.dn_walk.specs.Rows.{told_by_row}
 use Rattle.dn_walk.specs.Ways.{told_leads, level_leads, has_addr, meets_goal}
-use Rattle.dn_walk.proofs.Picks.{Between, between_is, any_picked}
+use Rattle.dn_walk.proofs.Picks.{between_is, any_picked}
 
 abbrev pub Starts : ℕ → List WalkRow → ℕ → Type 0
 Starts node rows i = IsPartitionPoint (λ (r : WalkRow). ltb r.start node ≡ true) (λ (r : WalkRow). ltb r.start node ≡ false) rows i
