@@ -89,9 +89,9 @@ module _ (w : List ℕ) (ws : List (List ℕ)) (x : Arg) (xs : List Arg) (old : 
     go (Err e) h gs = cc
     go (Ok g) h (Err e) = refl
     go (Ok g) h (Ok gs) =
-      let same : (old.0 ++ number_pair w g, old.1 ++ node_pair w g) ≡ new = cc in
-      (λ i. Ok (sym (append_assoc old.0 (number_pair w g) (numbers_of ws gs)) i, sym (append_assoc old.1 (node_pair w g) (nodes_of ws gs)) i))
-      ∙ ap (λ (p : Pairs). Ok (p.0 ++ numbers_of ws gs, p.1 ++ nodes_of ws gs)) same
+        let same : (old.0 ++ number_pair w g, old.1 ++ node_pair w g) ≡ new = cc in
+        (λ i. Ok (sym (append_assoc old.0 (number_pair w g) (numbers_of ws gs)) i, sym (append_assoc old.1 (node_pair w g) (nodes_of ws gs)) i))
+        ∙ ap (λ (p : Pairs). Ok (p.0 ++ numbers_of ws gs, p.1 ++ nodes_of ws gs)) same
 
   pub give_err : (e : Flaw) → given_more w old x ≡ Err e → given_after old (bound (w ∷ ws) (x ∷ xs)) ≡ Err e
   give_err e h = go (given_by x) h where
@@ -124,7 +124,7 @@ still_fresh ns w a (v ∷ vs) all other =
     let b = both (is_fresh ns v) (list_all (is_fresh ns) vs) all in
     let n = neither (bytes_eq w v) (list_any (bytes_eq w) vs) other in
     let here : is_fresh (ns ++ (w, a) ∷ []) v ≡ true =
-      ap not (list_any-append (λ b. bytes_eq v b.0) ns ((w, a) ∷ [])) ∙ one_fresh (list_any (λ b. bytes_eq v b.0) ns) (bytes_eq v w) b.0 (nat_list_eq_equiv.symm v w ∙ n.0) in
+    ap not (list_any-append (λ b. bytes_eq v b.0) ns ((w, a) ∷ [])) ∙ one_fresh (list_any (λ b. bytes_eq v b.0) ns) (bytes_eq v w) b.0 (nat_list_eq_equiv.symm v w ∙ n.0) in
     rw (here, still_fresh ns w a vs b.1 n.1) refl
 
 -- the words that are left: nothing stands for them, and they are different
@@ -165,11 +165,11 @@ module _ (given : Pairs) (w : List ℕ) (ws : List (List ℕ)) (fresh : AreFresh
     go : (g : Result Given Flaw) → (g >>= (λ g. Ok (given.0 ++ number_pair w g, given.1 ++ node_pair w g))) ≡ Ok new → AreFresh new ws
     go (Err e) h = cc
     go (Ok (number n)) h =
-      let same : (given.0 ++ (w, n) ∷ [], given.1 ++ []) ≡ new = cc in
-      subst (λ p. AreFresh p ws) same (record { no_number = still_fresh given.0 w n ws numbers apart.0; no_node = rw (append-nil given.1) nodes; once = apart.1 })
+        let same : (given.0 ++ (w, n) ∷ [], given.1 ++ []) ≡ new = cc in
+        subst (λ p. AreFresh p ws) same (record { no_number = still_fresh given.0 w n ws numbers apart.0; no_node = rw (append-nil given.1) nodes; once = apart.1 })
     go (Ok (named text)) h =
-      let same : (given.0 ++ [], given.1 ++ (w, text) ∷ []) ≡ new = cc in
-      subst (λ p. AreFresh p ws) same (record { no_number = rw (append-nil given.0) numbers; no_node = still_fresh given.1 w text ws nodes apart.0; once = apart.1 })
+        let same : (given.0 ++ [], given.1 ++ (w, text) ∷ []) ≡ new = cc in
+        subst (λ p. AreFresh p ws) same (record { no_number = rw (append-nil given.0) numbers; no_node = still_fresh given.1 w text ws nodes apart.0; once = apart.1 })
 
 -- the body of a use, by what is replaced in it
 abbrev named_by : List ℕ → Pairs → Replacement

@@ -99,7 +99,7 @@ module _ (ns ms ks : Numbers) (both : AreBoth ns ms ks) where
     in_spec-again s = λ i. record {
       accepts = map_again (in_block ms) (in_block ns) (in_block ks) in_block-again s.accepts i;
       entries = map_again (in_entry then) (in_entry first) (in_entry whole) in_entry-again s.entries i;
-      over = option_again (in_reference then) (in_reference first) (in_reference whole) in_reference-again s.over i
+      over = option_again (in_reference then) (in_reference first) (in_reference whole) in_reference-again s.over i;
     }
 
     in_arg-again : (a : Arg) → in_arg then (in_arg first a) ≡ in_arg whole a
@@ -109,7 +109,7 @@ module _ (ns ms ks : Numbers) (both : AreBoth ns ms ks) where
     in_declaration-again : (d : Declaration) → in_declaration then (in_declaration first d) ≡ in_declaration whole d
     in_declaration-again (node role name spec) = λ i. node role (in_declared-again name i) (in_spec-again spec i)
     in_declaration-again (unit name kind page slots reach ports) = λ i.
-      unit (in_declared-again name i) kind (in_expression-again ns ms ks both page i) (in_expression-again ns ms ks both slots i) (in_expression-again ns ms ks both reach i)
+        unit (in_declared-again name i) kind (in_expression-again ns ms ks both page i) (in_expression-again ns ms ks both slots i) (in_expression-again ns ms ks both reach i)
         (map_again (in_reference then) (in_reference first) (in_reference whole) in_reference-again ports i)
 
 -- a word is not among those that it hides
@@ -138,10 +138,10 @@ looked_up-without w v (b ∷ bs) = go (bytes_eq w b.0) refl (looked_up-without w
 both_without : (w : List ℕ) (ns ms ks : Numbers) → AreBoth ns ms ks → AreBoth (without w ns) (without w ms) (without w ks)
 both_without w ns ms ks both = record {
   each = λ v.
-    looked_up-without w v ks
-    ∙ ap (λ o. cond (bytes_eq w v) None o) (both.each v)
-    ∙ sym (looked_up-without w v (ns ++ ms))
-    ∙ ap (looked_up v) (filter-append (λ b. not (bytes_eq w b.0)) ns ms)
+      looked_up-without w v ks
+      ∙ ap (λ o. cond (bytes_eq w v) None o) (both.each v)
+      ∙ sym (looked_up-without w v (ns ++ ms))
+      ∙ ap (looked_up v) (filter-append (λ b. not (bytes_eq w b.0)) ns ms);
 }
 
 mutual
@@ -149,9 +149,9 @@ mutual
   in_item-again ns ms ks both nm (declared line d) = ap (declared line) (in_declaration-again ns ms ks both nm d)
   in_item-again ns ms ks both nm (module_of line title params body) = refl
   in_item-again ns ms ks both nm (instance line title args text) = λ i.
-    instance line title (map_again (in_arg (then ns ms ks both nm)) (in_arg (first ns ms ks both nm)) (in_arg (whole ns ms ks both nm)) (in_arg-again ns ms ks both nm) args i) (in_declared-again ns ms ks both nm text i)
+      instance line title (map_again (in_arg (then ns ms ks both nm)) (in_arg (first ns ms ks both nm)) (in_arg (whole ns ms ks both nm)) (in_arg-again ns ms ks both nm) args i) (in_declared-again ns ms ks both nm text i)
   in_item-again ns ms ks both nm (loop line w from upto body) = λ i.
-    loop line w (in_expression-again ns ms ks both from i) (in_expression-again ns ms ks both upto i) (in_items-again (without w ns) (without w ms) (without w ks) (both_without w ns ms ks both) nm body i)
+      loop line w (in_expression-again ns ms ks both from i) (in_expression-again ns ms ks both upto i) (in_items-again (without w ns) (without w ms) (without w ks) (both_without w ns ms ks both) nm body i)
 
   pub in_items-again : (ns ms ks : Numbers) → AreBoth ns ms ks → (nm : Naming) (is : Items) → in_items (record { numbers = ms; naming = as_they_stand }) (in_items (record { numbers = ns; naming = nm }) is) ≡ in_items (record { numbers = ks; naming = nm }) is
   in_items-again ns ms ks both nm no_items = refl

@@ -141,7 +141,7 @@ pub word_met : (ps : List CodeParam) (i : ℕ) (p : CodeParam) → i < length ps
 word_met ps i p h e k =
     let front : has_twice (param_words (take (i + 1) ps)) ≡ true = words_more ps i p h e ∙ ap (λ b. b || has_twice (param_words (take i ps))) k in
     let parts : param_words ps ≡ param_words (take (i + 1) ps) ++ param_words (drop (i + 1) ps) =
-      ap param_words (sym (take-append-drop (i + 1) ps)) ∙ map-append (λ (q : CodeParam). word_of_param (param_of q)) (take (i + 1) ps) (drop (i + 1) ps) in
+    ap param_words (sym (take-append-drop (i + 1) ps)) ∙ map-append (λ (q : CodeParam). word_of_param (param_of q)) (take (i + 1) ps) (drop (i + 1) ps) in
     ap has_twice parts ∙ twice-append (param_words (take (i + 1) ps)) (param_words (drop (i + 1) ps)) front
 
 -- one that was not there comes once

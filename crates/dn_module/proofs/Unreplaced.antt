@@ -46,7 +46,7 @@ spec_same : (s : Spec) → in_spec nothing_replaced s ≡ s
 spec_same s = λ i. record {
   accepts = map_same (in_block []) block_same s.accepts i;
   entries = map_same (in_entry nothing_replaced) entry_same s.entries i;
-  over = option_same (in_reference nothing_replaced) name_same s.over i
+  over = option_same (in_reference nothing_replaced) name_same s.over i;
 }
 
 arg_same : (a : Arg) → in_arg nothing_replaced a ≡ a

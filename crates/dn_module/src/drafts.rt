@@ -49,14 +49,14 @@ impl Model for Drafts {
     ghost view = { λ s. s.drafts.items };
 
     ghost invariant = { λ s. record {
-        names_are : s.known ≡ names s.drafts.items;
-        agents_are : s.agents ≡ agents_of s.drafts.items;
-        parts_are : s.parts ≡ all_parts s.drafts.items;
-        few : length s.drafts.items ≤ 1024;
-        few_agents : s.agents ≤ 64;
-        few_parts : s.parts ≤ 16384;
-        different : has_twice (names s.drafts.items) ≡ false;
-        no_unit : IsTrue (list_all (λ d. not (is_unit d.role)) s.drafts.items)
+      names_are : s.known ≡ names s.drafts.items;
+      agents_are : s.agents ≡ agents_of s.drafts.items;
+      parts_are : s.parts ≡ all_parts s.drafts.items;
+      few : length s.drafts.items ≤ 1024;
+      few_agents : s.agents ≤ 64;
+      few_parts : s.parts ≤ 16384;
+      different : has_twice (names s.drafts.items) ≡ false;
+      no_unit : IsTrue (list_all (λ d. not (is_unit d.role)) s.drafts.items);
     } };
 }
 

@@ -130,7 +130,14 @@ fn take<'a>(
         } => {
             let found = made.modules.find(stack.inner.visible, title.as_str());
             let scope = &stack.inner.scope;
-            let inner = used(alloc, scope, *line, found, args.as_slice(), prefix.as_slice())?;
+            let inner = used(
+                alloc,
+                scope,
+                *line,
+                found,
+                args.as_slice(),
+                prefix.as_slice(),
+            )?;
             stack.enter(inner)?;
             Ok(())
         }

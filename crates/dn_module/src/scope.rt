@@ -41,8 +41,8 @@ impl Model for Scope {
     ghost Value = { Replacement };
 
     ghost view = { λ s. record {
-        numbers = reverse (map (λ n. (n.word, n.number)) s.loops.items) ++ s.params;
-        naming = naming_by (option_map (λ n. (n.prefix, n.nodes)) s.names);
+      numbers = reverse (map (λ n. (n.word, n.number)) s.loops.items) ++ s.params;
+      naming = naming_by (option_map (λ n. (n.prefix, n.nodes)) s.names);
     } };
 }
 

@@ -8,7 +8,7 @@ use Rattle.dn_module.proofs.machine.expand_body.Goals as goal
 pub loop-work-init : goal.loop-work-init
 loop-work-init c =
     begun most_steps 65536 (statements outside (seen_body c.args.body.now)) (stack_works c.new-stack.result) nothing_yet _
-      most_steps_are (sym c.new-stack.ensures) (λ i. record { modules = sym c.new.ensures i; drafts = sym c.new-2.ensures i })
+    most_steps_are (sym c.new-stack.ensures) (λ i. record { modules = sym c.new.ensures i; drafts = sym c.new-2.ensures i })
 
 pub loop-work-preserved : goal.loop-work-preserved
 loop-work-preserved c =

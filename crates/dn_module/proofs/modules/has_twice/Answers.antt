@@ -22,8 +22,8 @@ loop-param-preserved c =
     let known = was_known (λ s. string_bytes s) c.loop-param.words.keys c.in_ok-word.word _ _ c.in_ok-insert.field-0 c.in_ok-insert.ensures.added (bytes ∙ c.word_of.ensures) c.loop-param.invariant.keys in
     record {
       keys = put_last (λ s. string_bytes s) c.loop-param.words.keys c.in_ok-word.word c.insert.new.self.keys c.in_ok-insert.field-0 c.in_ok-insert.ensures.added c.if-not-branch.false c.in_ok-insert.ensures.keys
-        ∙ (λ j. c.loop-param.invariant.keys j ++ (bytes ∙ c.word_of.ensures) j ∷ [])
-        ∙ words_put ps i p c.loop-param-test.true c.param-item.is;
+          ∙ (λ j. c.loop-param.invariant.keys j ++ (bytes ∙ c.word_of.ensures) j ∷ [])
+          ∙ words_put ps i p c.loop-param-test.true c.param-item.is;
       once = word_new ps i p c.loop-param-test.true c.param-item.is (known ∙ ap not c.if-not-branch.false) c.loop-param.invariant.once;
     }
 

@@ -12,8 +12,8 @@ returns-then-eq c =
     let within = c.loop-left.invariant.within in
     let word = nat_list_eq_equiv.symm w n.word ∙ ap (λ t. bytes_eq t w) (sym c.as_str.ensures) ∙ sym c.eq.ensures ∙ c.if-eq.true in
     sym (c.loop-left.invariant.same
-      ∙ innermost_first w c.args.loops.now c.loop-left.left n (omega arith) (omega arith) c.index-loops-left.is
-      ∙ ap (λ (b : Bool). cond b (Some n.number) (looked_up w (reverse (map numbered (take (c.loop-left.left - 1) c.args.loops.now))))) word)
+    ∙ innermost_first w c.args.loops.now c.loop-left.left n (omega arith) (omega arith) c.index-loops-left.is
+    ∙ ap (λ (b : Bool). cond b (Some n.number) (looked_up w (reverse (map numbered (take (c.loop-left.left - 1) c.args.loops.now))))) word)
 
 pub loop-left-preserved : goal.loop-left-preserved
 loop-left-preserved c =
@@ -24,6 +24,6 @@ loop-left-preserved c =
     record {
       within = omega arith;
       same = c.loop-left.invariant.same
-        ∙ innermost_first w c.args.loops.now c.loop-left.left n (omega arith) (omega arith) c.index-loops-left.is
-        ∙ ap (λ (b : Bool). cond b (Some n.number) (looked_up w (reverse (map numbered (take (c.loop-left.left - 1) c.args.loops.now))))) word;
+          ∙ innermost_first w c.args.loops.now c.loop-left.left n (omega arith) (omega arith) c.index-loops-left.is
+          ∙ ap (λ (b : Bool). cond b (Some n.number) (looked_up w (reverse (map numbered (take (c.loop-left.left - 1) c.args.loops.now))))) word;
     }

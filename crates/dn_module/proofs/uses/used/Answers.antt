@@ -43,6 +43,6 @@ returns-in-Err c =
     let prefix = in_declared r (name_of c.args.prefix.now) in
     let m = module_seen c.in-Some.module in
     rw c.at.ensures (flaw_at c.args.line c.in-Err.fault (replaced_by (map word_of_param m.params) xs prefix) (body_works c.in-Some.number m) _
-      (ap (λ f. use_of c.args.line xs prefix (option_map pair_seen f)) c.in-Some.is
-      ∙ use_is c.args.line xs prefix c.in-Some.number m (fit_in r m.params (map arg_of c.args.args.now) ∙ sym c.fit.ensures ∙ c.if-not-fit.false))
-      c.in-Err.ensures)
+    (ap (λ f. use_of c.args.line xs prefix (option_map pair_seen f)) c.in-Some.is
+    ∙ use_is c.args.line xs prefix c.in-Some.number m (fit_in r m.params (map arg_of c.args.args.now) ∙ sym c.fit.ensures ∙ c.if-not-fit.false))
+    c.in-Err.ensures)

@@ -16,9 +16,9 @@ returns-then-is_some c =
     let count : length (modules_seen self) ≡ length self.modules.items = length-map self.modules.items module_seen in
     let room = few_modules (length (modules_seen self)) (omega arith) in
     let known : is_module (modules_seen self) m.title ≡ is_some c.find.result =
-      is_module-titles (modules_seen self) m.title ∙ ap (λ l. is_known l m.title) (titles_are self.modules.items ∙ sym self.same) ∙ found_is self.names m.title c.find.result c.find.ensures in
+    is_module-titles (modules_seen self) m.title ∙ ap (λ l. is_known l m.title) (titles_are self.modules.items ∙ sym self.same) ∙ found_is self.names m.title c.find.result c.find.ensures in
     module_twice (modules_seen self) c.args.line m room
-      (ap (λ b. b || has_twice (map word_of_param m.params)) (known ∙ sym c.is_some.ensures ∙ c.if-is_some.true))
+    (ap (λ b. b || has_twice (map word_of_param m.params)) (known ∙ sym c.is_some.ensures ∙ c.if-is_some.true))
 
 pub returns-then-branch : goal.returns-then-branch
 returns-then-branch c =
@@ -27,7 +27,7 @@ returns-then-branch c =
     let count : length (modules_seen self) ≡ length self.modules.items = length-map self.modules.items module_seen in
     let room = few_modules (length (modules_seen self)) (omega arith) in
     module_twice (modules_seen self) c.args.line m room
-      (either (is_module (modules_seen self) m.title) (has_twice (map word_of_param m.params)) (sym c.in_ok-has_twice.ensures ∙ c.if-branch.true))
+    (either (is_module (modules_seen self) m.title) (has_twice (map word_of_param m.params)) (sym c.in_ok-has_twice.ensures ∙ c.if-branch.true))
 
 pub put-requires-clause-new_name : goal.put-requires-clause-new_name
 put-requires-clause-new_name c =
@@ -39,16 +39,16 @@ invariant_of-self c =
     let m = c.args.module in
     let ms = self.modules.items in
     by_answer c.put.result c.put.ensures.names c.put.ensures.modules c.put.ensures.names_err c.put.ensures.modules_err
-      (λ names modules. record {
-        same = names ∙ ap (λ l. l ++ m.title.now ∷ []) self.same ∙ sym (map-append (λ (n : CodeModule). n.title.now) ms (m ∷ [])) ∙ ap (map (λ (n : CodeModule). n.title.now)) (sym modules);
-        few = rw modules (rw (length-last ms m) (omega arith));
-        different = rw modules (list_all-last (λ (n : CodeModule). not (has_twice (param_words n.params.now))) ms m self.different (ap not (ap has_twice (sym (words_are m.params.now)) ∙ sym c.in_ok-has_twice.ensures ∙ c.if-branch.false)));
-      })
-      (λ names modules. record {
-        same = names ∙ self.same ∙ ap (map (λ (n : CodeModule). n.title.now)) (sym modules);
-        few = rw modules self.few;
-        different = rw modules self.different;
-      })
+    (λ names modules. record {
+      same = names ∙ ap (λ l. l ++ m.title.now ∷ []) self.same ∙ sym (map-append (λ (n : CodeModule). n.title.now) ms (m ∷ [])) ∙ ap (map (λ (n : CodeModule). n.title.now)) (sym modules);
+      few = rw modules (rw (length-last ms m) (omega arith));
+      different = rw modules (list_all-last (λ (n : CodeModule). not (has_twice (param_words n.params.now))) ms m self.different (ap not (ap has_twice (sym (words_are m.params.now)) ∙ sym c.in_ok-has_twice.ensures ∙ c.if-branch.false)));
+    })
+    (λ names modules. record {
+      same = names ∙ self.same ∙ ap (map (λ (n : CodeModule). n.title.now)) (sym modules);
+      few = rw modules self.few;
+      different = rw modules self.different;
+    })
 
 pub returns : goal.returns
 returns c =
@@ -57,7 +57,7 @@ returns c =
     let count : length (modules_seen self) ≡ length self.modules.items = length-map self.modules.items module_seen in
     let room = few_modules (length (modules_seen self)) (omega arith) in
     let known : is_module (modules_seen self) m.title ≡ is_some c.find.result =
-      is_module-titles (modules_seen self) m.title ∙ ap (λ l. is_known l m.title) (titles_are self.modules.items ∙ sym self.same) ∙ found_is self.names m.title c.find.result c.find.ensures in
+    is_module-titles (modules_seen self) m.title ∙ ap (λ l. is_known l m.title) (titles_are self.modules.items ∙ sym self.same) ∙ found_is self.names m.title c.find.result c.find.ensures in
     module_added (modules_seen self) c.args.line m room
-      (ap (λ b. b || has_twice (map word_of_param m.params)) (known ∙ sym c.is_some.ensures ∙ c.if-is_some.false) ∙ sym c.in_ok-has_twice.ensures ∙ c.if-branch.false)
+    (ap (λ b. b || has_twice (map word_of_param m.params)) (known ∙ sym c.is_some.ensures ∙ c.if-is_some.false) ∙ sym c.in_ok-has_twice.ensures ∙ c.if-branch.false)
     ∙ ap (λ l. Ok l) (sym (map-append module_seen self.modules.items (c.args.module ∷ [])) ∙ ap (map module_seen) (sym c.in_ok-put.ensures.modules))

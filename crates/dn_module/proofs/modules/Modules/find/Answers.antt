@@ -26,18 +26,18 @@ returns-in-Some-clause-found c =
     let self = c.args.self.now in
     let titles = self.same ∙ sym (titles_are self.modules.items) in
     let at : slice_get self.modules.items c.in_ok-number.number ≡ Some c.in-Some.module.now =
-      (λ i. slice_get (sym c.deref.ensures.value i) (sym c.from.ensures i))
-      ∙ slice_get_read c.deref.result.now _ c.from.result c.in-Some.module.now refl (ltb-true _ _ (sym c.in-Some.ensures.lookup.0)) c.in-Some.ensures.lookup.1 in
+    (λ i. slice_get (sym c.deref.ensures.value i) (sym c.from.ensures i))
+    ∙ slice_get_read c.deref.result.now _ c.from.result c.in-Some.module.now refl (ltb-true _ _ (sym c.in-Some.ensures.lookup.0)) c.in-Some.ensures.lookup.1 in
     sym (found_module c.args.title.now (modules_seen self) (scope_of c.args.visible) c.in_ok-number.number (module_seen c.in-Some.module.now)
-      (ap (position (bytes_eq c.args.title.now)) (sym titles) ∙ sym c.find.ensures ∙ c.in_ok-number.was)
-      (slice_get-map module_seen self.modules.items c.in_ok-number.number ∙ ap (option_map module_seen) at)
-      (sym c.includes.ensures ∙ c.if-not-includes.false))
+    (ap (position (bytes_eq c.args.title.now)) (sym titles) ∙ sym c.find.ensures ∙ c.in_ok-number.was)
+    (slice_get-map module_seen self.modules.items c.in_ok-number.number ∙ ap (option_map module_seen) at)
+    (sym c.includes.ensures ∙ c.if-not-includes.false))
 
 pub returns-in-Some-clause-different : goal.returns-in-Some-clause-different
 returns-in-Some-clause-different c =
     let self = c.args.self.now in
     let at : slice_get self.modules.items c.in_ok-number.number ≡ Some c.in-Some.module.now =
-      (λ i. slice_get (sym c.deref.ensures.value i) (sym c.from.ensures i))
-      ∙ slice_get_read c.deref.result.now _ c.from.result c.in-Some.module.now refl (ltb-true _ _ (sym c.in-Some.ensures.lookup.0)) c.in-Some.ensures.lookup.1 in
+    (λ i. slice_get (sym c.deref.ensures.value i) (sym c.from.ensures i))
+    ∙ slice_get_read c.deref.result.now _ c.from.result c.in-Some.module.now refl (ltb-true _ _ (sym c.in-Some.ensures.lookup.0)) c.in-Some.ensures.lookup.1 in
     ap has_twice (words_are c.in-Some.module.now.params.now)
     ∙ is_once _ (list_all-at (λ (m : CodeModule). not (has_twice (param_words m.params.now))) self.modules.items c.in_ok-number.number c.in-Some.module.now self.different at)

@@ -9,7 +9,7 @@ use Rattle.dn_module.proofs.stack.Stack.new.Goals as goal
 pub returns : goal.returns
 returns c =
     rw c.new-2.ensures.items
-      (append-nil (use_works c.new.result)
-      ∙ c.new.ensures
-      ∙ ap (λ r. statements outside (in_items r (seen_body c.args.body.now))) c.outside.ensures
-      ∙ ap (statements outside) (items_same (seen_body c.args.body.now)))
+    (append-nil (use_works c.new.result)
+    ∙ c.new.ensures
+    ∙ ap (λ r. statements outside (in_items r (seen_body c.args.body.now))) c.outside.ensures
+    ∙ ap (statements outside) (items_same (seen_body c.args.body.now)))
