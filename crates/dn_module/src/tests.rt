@@ -1,8 +1,10 @@
 //! Tests of expansion: worked texts, the limit on steps, and the order of faults.
 
+use crate::expand::expand;
+use crate::fault::ExpandFault;
 use crate::machine::expand_body;
 use dn_parse::reader::read;
-use std::alloc::Global;
+use std::alloc::{AllocError, Global};
 use std::test::Fail;
 
 /// The names of the nodes that a text's statements make, each behind a space, or the first fault.
@@ -100,6 +102,60 @@ fn counts_each_statement_and_each_turn(rt: HostRuntime) -> Result<(), Fail> {
     for (text, wanted) in rows {
         let names = names(alloc, text)?;
         assert_eq!(rt; names.as_str(), wanted);
+    }
+    Ok(())
+}
+
+/// A module of a processor, and two uses of it.
+const BOARD: &str = "module cpu(node bus, num base);
+local is accept [0x0-0xfff];
+agent core is map [base-base+0xfff to local at 0x0] over bus;
+end;
+sys is accept [0x0-0xffff];
+for i in 0..1;
+use cpu(node sys, 0x20000+i*0x1000) as c[i];
+end;
+begin;
+";
+
+#[test]
+fn expands_a_board(rt: HostRuntime) -> Result<(), Fail> {
+    let alloc = rt.alloc();
+    let names = names(alloc, BOARD)?;
+    assert_eq!(rt;
+        names.as_str(),
+        " sys c[0].local c[0].core c[1].local c[1].core"
+    );
+    let tree = read(alloc, BOARD.as_bytes())?;
+    let Ok(expanded) = expand(alloc, &tree) else {
+        return Err(Fail::from(AllocError));
+    };
+    assert_eq!(rt; expanded.net.nodes(), 5);
+    assert_eq!(rt; expanded.net.find("c[1].core"), Some(4));
+    Ok(())
+}
+
+#[test]
+fn takes_commands_before_references(rt: HostRuntime) -> Result<(), Fail> {
+    let alloc = rt.alloc();
+    let rows = [
+        (
+            "a is over b; begin;\nview a[i];",
+            ExpandFault::Unknown { line: 2 },
+        ),
+        (
+            "a is over b; begin;\nview a[(0-1)];",
+            ExpandFault::Value { line: 2 },
+        ),
+        (
+            "\na is over b; begin; view c;",
+            ExpandFault::Unknown { line: 2 },
+        ),
+    ];
+    for (text, wanted) in rows {
+        let tree = read(alloc, text.as_bytes())?;
+        let fault = expand(alloc, &tree).err();
+        assert_eq!(rt; fault, Some(wanted));
     }
     Ok(())
 }
