@@ -153,13 +153,13 @@ added_yields ds d h g = go (with_draft ds d) refl
         record { it = subst GoodDrafts (sym a.1) (each_both GoodDraft ds (d ∷ []) h.0 (g, tt), grown_more [] ds d h.1 a.0) }
     go (Err f) e = record { it = tt }
 
-module_yields : (state : State) (line : ℕ) (m : Module) → GoodState state → GoodModule m → Yields GoodState (with_module state line m)
-module_yields state line m h g = go (nat_lt 256 (length state.modules + 1)) (is_module state.modules m.title || has_twice (map word_of_param m.params))
+module_yields : (modules : List Module) (line : ℕ) (m : Module) → Each GoodModule modules → GoodModule m → Yields (Each GoodModule) (with_module modules line m)
+module_yields modules line m h g = go (nat_lt 256 (length modules + 1)) (is_module modules m.title || has_twice (map word_of_param m.params))
   where
-    go : (a b : Bool) → Yields GoodState (cond a (Err (TooMany line 256)) (cond b (Err (Duplicate line)) (Ok (record { modules = state.modules ++ m ∷ []; drafts = state.drafts }))))
+    go : (a b : Bool) → Yields (Each GoodModule) (cond a (Err (TooMany line 256)) (cond b (Err (Duplicate line)) (Ok (modules ++ m ∷ []))))
     go true b = record { it = tt }
     go false true = record { it = tt }
-    go false false = record { it = (each_both GoodModule state.modules (m ∷ []) h.0 (g, tt), h.1) }
+    go false false = record { it = each_both GoodModule modules (m ∷ []) h (g, tt) }
 
 statements_good : (s : Visibility) (is : Items) → GoodItems is → Each GoodWork (statements s is)
 statements_good s no_items h = tt
@@ -242,7 +242,7 @@ turn_good s line w a b body l h g =
 -- one rewriting, and all
 item_yields : (s : Visibility) (state : State) (i : Item) → GoodState state → GoodItem i → Yields GoodNext (item_rewritten s state i)
 item_yields s state (declared line d) h g = bind (declared_by line d) _ (declared_yields line d g) (λ draft p. bind (with_draft state.drafts draft) _ (added_yields state.drafts draft h.1 p) (λ ds q. given (tt, (h.0, q))))
-item_yields s state (module_of line title params body) h g = bind (with_module state line (record { title = title; params = params; body = body })) _ (module_yields state line (record { title = title; params = params; body = body }) h g) (λ next p. given (tt, p))
+item_yields s state (module_of line title params body) h g = bind (with_module state.modules line (record { title = title; params = params; body = body })) _ (module_yields state.modules line (record { title = title; params = params; body = body }) h.0 g) (λ next p. given (tt, (p, h.1)))
 item_yields s state (instance line title args prefix) h g = bind (use_of line args prefix (module_from 0 title (usable s state.modules))) _ (use_yields line args prefix (module_from 0 title (usable s state.modules)) g.0 g.1 (found_good 0 title (usable s state.modules) (usable_good s state.modules h.0))) (λ works p. given (p, h))
 item_yields s state (loop line w from upto body) h g = bind (loop_of s line w from upto body) _ (loop_yields s line w from upto body g.0 g.1 g.2) (λ works p. given (p, h))
 
