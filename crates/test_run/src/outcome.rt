@@ -44,7 +44,8 @@ pub fn answer(
     requires { 0 < most }
     // A status of 0, 1 or 4 is that of the answer, and exactly its output was written.
     ensures exact { OnOk result (λ o. (o.status ≢ 2) → (o.status ≢ 3) → (o.status ≢ 7) →
-        (o.status ≡ (answer_of words.now text.now).status) × (o.sink.written ≡ (answer_of words.now text.now).output)) }
+        (o.status ≡ (answer_of words.now text.now).status)
+        × (o.sink.written ≡ (answer_of words.now text.now).output)) }
     // Where no call is to fail, no fault is answered.
     ensures sure_source { is_nil failing.reads.now ≡ true → OnOk result (λ o. o.status ≢ 2) }
     ensures sure_sink { is_nil failing.writes.now ≡ true → OnOk result (λ o. o.status ≢ 3) }
