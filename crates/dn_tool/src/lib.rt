@@ -7,18 +7,8 @@
 #![tactic(auto)]
 
 pub mod compile;
-#[cfg(test)]
-mod expand_tests;
-#[cfg(test)]
-mod fault_tests;
 pub mod refusal;
 pub mod reply;
 pub mod resolve;
 pub mod run;
-#[cfg(test)]
-mod tests;
-#[cfg(test)]
-mod text_tests;
-#[cfg(test)]
-mod walk_tests;
 pub mod words;

@@ -1,0 +1,80 @@
+//! Comparing a run with what was worked out by hand.
+
+ghost use Rattle.std.specs.Prelude.{◌<◌};
+
+use crate::outcome::{Failing, NONE, answer};
+use dn_tool::run::{DONE, REFUSED};
+use dn_tool::words::Words;
+use std::alloc::{AllocError, Global};
+use std::process::Abort;
+use std::test::Fail;
+
+/// The words, as the program has them after its name.
+pub(crate) fn words_of(alloc: Global, list: &[&str]) -> Result<Words, AllocError> {
+    let mut words = Words::new(alloc);
+    for word in list {
+        words.push(word)?;
+    }
+    Ok(words)
+}
+
+/// Runs the words over the text, and compares the status and what was written.
+pub(crate) fn comes_to<R: Abort + AllocGlobal>(
+    rt: &R,
+    list: &[&str],
+    text: &str,
+    most: usize,
+    failing: Failing<'_>,
+    status: u8,
+    output: &str,
+) -> Result<(), Fail>
+    requires { 0 < most }
+{
+    let alloc = rt.alloc();
+    let words = words_of(alloc, list)?;
+    let outcome = answer(alloc, &words, text.as_bytes(), most, failing)?;
+    assert_eq!(rt;
+        outcome.sink.written(),
+        output.as_bytes(),
+        "{list:?} over {text} by {most}"
+    );
+    assert_eq!(rt; outcome.status, status, "{list:?} over {text} by {most}");
+    Ok(())
+}
+
+/// `run` answers the commands of the text by this output.
+pub(crate) fn answers<R: Abort + AllocGlobal>(
+    rt: &R,
+    text: &str,
+    most: usize,
+    output: &str,
+) -> Result<(), Fail>
+    requires { 0 < most }
+{
+    comes_to(rt, &["run"], text, most, NONE, DONE, output)
+}
+
+/// `check` prints this net.
+pub(crate) fn prints<R: Abort + AllocGlobal>(
+    rt: &R,
+    text: &str,
+    most: usize,
+    output: &str,
+) -> Result<(), Fail>
+    requires { 0 < most }
+{
+    comes_to(rt, &["check"], text, most, NONE, DONE, output)
+}
+
+/// Both words refuse the text by this line.
+pub(crate) fn refuses<R: Abort + AllocGlobal>(
+    rt: &R,
+    text: &str,
+    most: usize,
+    line: &str,
+) -> Result<(), Fail>
+    requires { 0 < most }
+{
+    comes_to(rt, &["run"], text, most, NONE, REFUSED, line)?;
+    comes_to(rt, &["check"], text, most, NONE, REFUSED, line)
+}
