@@ -15,8 +15,6 @@ pub mod memory;
 pub mod sink;
 pub mod source;
 pub mod streams;
-#[cfg(test)]
-mod tests;
 pub mod text;
 pub mod whole;
 

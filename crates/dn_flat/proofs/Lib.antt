@@ -1,5 +1,4 @@
 pub mod Blocks
-pub mod Closed
 pub mod Cutting
 pub mod Lengths
 pub mod Resolving

@@ -7,7 +7,5 @@ mod accepted;
 pub mod flat;
 mod found;
 mod starts;
-#[cfg(test)]
-mod tests;
 
 pub use dn_base::OutOfMemory;

@@ -12,8 +12,6 @@ pub mod span;
 pub mod span_set;
 mod strand;
 mod strands;
-#[cfg(test)]
-mod tests;
 
 pub use row::{End, Row, Seg};
 pub use rows::Rows;

@@ -18,11 +18,7 @@ pub mod names;
 pub mod nodes;
 pub mod scope;
 pub mod stack;
-#[cfg(test)]
-mod tests;
 pub mod uses;
-#[cfg(test)]
-mod value_tests;
 pub mod values;
 pub mod words;
 

@@ -13,7 +13,5 @@ pub mod node;
 pub mod rules;
 mod spans;
 pub mod step;
-#[cfg(test)]
-mod tests;
 
 pub use dn_base::OutOfMemory;

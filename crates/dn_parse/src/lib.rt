@@ -15,10 +15,6 @@ pub mod lexer;
 pub mod nodes;
 mod number;
 pub mod reader;
-#[cfg(test)]
-mod reader_tests;
 pub mod statements;
 pub mod syntax;
-#[cfg(test)]
-mod tests;
 pub mod token;

@@ -1,5 +1,5 @@
 -- In a net in which each node that is referred to exists, what a node at a number refers to exists.
-use Rattle.std.proofs.Common.{◌≡◌, ◌∙◌, ap, sym, subst, ℕ, zero, suc, ◌<◌, ◌+◌, List, [], ◌∷◌, Bool, true, false, ◌&&◌, nat_lt, length, take, slice_get, Option, Some, None, option_map, IsTrue, refl, arith}
+use Rattle.std.proofs.Common.{◌≡◌, ◌∙◌, ap, sym, subst, ℕ, zero, suc, List, [], ◌∷◌, Bool, true, false, ◌&&◌, nat_lt, length, slice_get, Option, Some, None, option_map, IsTrue, refl}
 use Rattle.std.specs.List.{list_all}
 use Rattle.dn_net.specs.declared.node.Dest.{Dest}
 use Rattle.dn_net.specs.declared.node.Entry.{Entry}
@@ -63,17 +63,3 @@ over_exists net i over closed at = over_of (length net) (slice_get net i) over (
 -- the ports of a unit exist
 pub ports_exist : (net : List NodeDecl) (i : ℕ) (u : UnitPart) → IsTrue (is_closed net) → option_map (λ (d : NodeDecl). d.unit) (slice_get net i) ≡ Some (Some u) → IsTrue (list_all (λ p. nat_lt p (length net)) u.ports)
 ports_exist net i u closed at = ports_of (length net) (slice_get net i) u (λ n h. refers_at net i n closed h) at
-
-closed_step : (count : ℕ) (xs : List NodeDecl) (i : ℕ) → i < length xs → IsTrue (list_all (refers_within count) (take i xs)) → ((n : NodeDecl) → slice_get xs i ≡ Some n → IsTrue (refers_within count n)) → IsTrue (list_all (refers_within count) (take (suc i) xs))
-closed_step count [] i below all next = absurd (omega arith)
-closed_step count (x ∷ xs) zero below all next = rw (next x refl) refl
-closed_step count (x ∷ xs) (suc i) below all next =
-    let k : i < length xs = omega arith in
-    let b = both (refers_within count x) (list_all (refers_within count) (take i xs)) all in
-    rw (b.0, closed_step count xs i k b.1 next) refl
-
--- the nodes of a list refer to nodes that exist, and the next one does too
-pub closed_more : (count : ℕ) (xs : List NodeDecl) (i : ℕ) → i < length xs → IsTrue (list_all (refers_within count) (take i xs)) → ((n : NodeDecl) → slice_get xs i ≡ Some n → IsTrue (refers_within count n)) → IsTrue (list_all (refers_within count) (take (i + 1) xs))
-closed_more count xs i below all next =
-    let one : i + 1 ≡ suc i = omega arith in
-    subst (λ (n : ℕ). IsTrue (list_all (refers_within count) (take n xs))) (sym one) (closed_step count xs i below all next)

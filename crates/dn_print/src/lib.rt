@@ -10,7 +10,5 @@ pub mod names;
 pub mod net;
 mod parts;
 pub mod rows;
-#[cfg(test)]
-mod tests;
 
 pub use dn_base::OutOfMemory;

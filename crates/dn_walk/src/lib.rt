@@ -10,8 +10,6 @@ pub mod fault;
 pub mod laws;
 mod leg;
 mod level;
-#[cfg(test)]
-mod tests;
 pub mod walks;
 mod way;
 

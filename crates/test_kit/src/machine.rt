@@ -1,0 +1,104 @@
+//! A net that keeps all rules.
+
+ghost use Rattle.std.specs.Prelude.{◌≡◌, IfOk, IsTrue, None, length};
+ghost use Rattle.dn_net.specs.Decode.{is_closed};
+ghost use Rattle.dn_net.specs.Rules.{node_fault};
+ghost use Rattle.dn_flat.specs.Views.{ends_within};
+ghost use Rattle.dn_print.specs.Names.{names_exist};
+
+use crate::unmade::Unmade;
+use dn_flat::flat::{Flat, flatten};
+use dn_net::names::Names;
+use dn_net::net::Net;
+use dn_net::node::Name;
+use dn_tool::compile::{CompileFault, compile};
+use dn_tool::resolve::resolve;
+use dn_walk::walks::{WalkTable, walks};
+use std::alloc::Global;
+use std::marker::Model;
+
+/// A net in which each node that is referred to exists, and which keeps the rules on nodes and on walks, with its
+/// live walks. Contracts see the list of the nodes' declarations.
+#[derive(Drop)]
+pub struct Machine {
+    net: Net,
+    walks: WalkTable,
+}
+
+impl Model for Machine {
+    ghost use Rattle.std.specs.Prelude.{◌≡◌, List, IsTrue, None};
+    ghost use Rattle.dn_net.specs.declared.node.NodeDecl.{NodeDecl};
+    ghost use Rattle.dn_net.specs.Decode.{is_closed};
+    ghost use Rattle.dn_net.specs.Rules.{node_fault};
+    ghost use Rattle.dn_net.specs.WalkRules.{walk_fault};
+    ghost use Rattle.dn_walk.specs.Rows.{AreWalksOf};
+
+    ghost Value = { List NodeDecl };
+
+    ghost view = { λ m. m.net };
+
+    ghost invariant = { λ m. record {
+      closed : IsTrue (is_closed m.net);
+      checked : node_fault m.net ≡ None;
+      walkable : walk_fault m.net ≡ None;
+      walks : AreWalksOf m.net m.walks;
+    } };
+}
+
+impl Machine {
+    /// The machine of a text.
+    pub fn of_text(alloc: Global, text: &str) -> Result<Machine, Unmade> {
+        match compile(alloc, text.as_bytes()) {
+            Ok(platform) => Ok(Machine {
+                net: platform.net,
+                walks: platform.walks,
+            }),
+            Err(CompileFault::Refused(_)) => Err(Unmade::Refused),
+            Err(CompileFault::OutOfMemory) => Err(Unmade::OutOfMemory),
+        }
+    }
+
+    /// The machine of a net.
+    pub fn of_net(alloc: Global, net: Net) -> Result<Machine, Unmade>
+        requires closed { IsTrue (is_closed net) }
+        ensures same { IfOk result (λ m. m ≡ net) }
+    {
+        if net.check_nodes(alloc).is_err() {
+            return Err(Unmade::Refused);
+        }
+        match walks(alloc, &net) {
+            Ok(walks) => Ok(Machine { net, walks }),
+            Err(_) => Err(Unmade::Refused),
+        }
+    }
+
+    /// The net.
+    pub fn net(&self) -> &Net
+        ensures net { result.now ≡ self.now }
+        ensures closed { IsTrue (is_closed self.now) }
+        ensures checked { node_fault self.now ≡ None }
+    {
+        &self.net
+    }
+
+    /// The accepted names to which a name resolves. A name in a node that is not there is refused.
+    pub fn resolved(&self, alloc: Global, name: Name) -> Result<Names, Unmade>
+        ensures there { IfOk result (λ names. IsTrue (names_exist (length self.now) names)) }
+    {
+        if name.node >= self.net.nodes() {
+            return Err(Unmade::Refused);
+        }
+        Ok(resolve(alloc, &self.net, name)?)
+    }
+
+    /// What a node sees. A node that is not there is refused.
+    pub fn flat(&self, alloc: Global, node: u16) -> Result<Flat, Unmade>
+        ensures within { IfOk result (λ flat. IsTrue (ends_within (length self.now) flat.accepts)) }
+        ensures stops_within { IfOk result (λ flat. IsTrue (ends_within (length self.now) flat.stops)) }
+    {
+        if node >= self.net.nodes() {
+            return Err(Unmade::Refused);
+        }
+        Ok(flatten(alloc, &self.net, &self.walks, node)?)
+    }
+}

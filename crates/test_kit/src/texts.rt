@@ -1,0 +1,19 @@
+//! The nets of texts.
+
+ghost use Rattle.std.specs.Prelude.{IfOk, IsTrue};
+ghost use Rattle.dn_net.specs.Decode.{is_closed};
+
+use crate::unmade::Unmade;
+use dn_module::expand::expand;
+use dn_net::net::Net;
+use dn_parse::reader::read;
+use std::alloc::Global;
+
+/// The net of a text. It may break the rules on nodes and those on walks.
+pub fn net_of(alloc: Global, text: &str) -> Result<Net, Unmade>
+    ensures closed { IfOk result (λ net. IsTrue (is_closed net)) }
+{
+    let tree = read(alloc, text.as_bytes())?;
+    let expanded = expand(alloc, &tree)?;
+    Ok(expanded.net)
+}

@@ -1,0 +1,50 @@
+//! What a net shows of its nodes, and sets of names.
+
+use dn_net::names::Names;
+use dn_net::net::Net;
+use dn_net::node::{Block, Dest, Name, Role};
+use std::test::Fail;
+use test_kit::texts::net_of;
+use test_kit::units::{add_sender, add_unit};
+
+#[test]
+fn numbers_nodes_in_their_order(rt: HostRuntime) -> Result<(), Fail> {
+    let alloc = rt.alloc();
+    let mut net = Net::new(alloc);
+    assert_eq!(rt; net.nodes(), 0);
+    assert_eq!(rt; add_unit(alloc, &mut net, "first", &[])?, 0);
+    let block = Block { lo: 1, hi: 2 };
+    let dest = Dest { node: 0, addr: 3 };
+    assert_eq!(rt; add_sender(alloc, &mut net, "second", block, dest)?, 1);
+    assert_eq!(rt; net.find("second"), Some(1));
+    assert_eq!(rt; net.find("third"), None);
+    assert_eq!(rt; net.check_nodes(alloc), Ok(()));
+    Ok(())
+}
+
+#[test]
+fn shows_the_parts_of_a_node(rt: HostRuntime) -> Result<(), Fail> {
+    let alloc = rt.alloc();
+    let net = net_of(alloc, "agent a is accept [1-2] map [3-4 to a at 5] over a;")?;
+    assert_eq!(rt; net.nodes(), 1);
+    if net.nodes() == 1 {
+        assert_eq!(rt; net.role(0), Role::Agent);
+        assert_eq!(rt; net.text(0), "a");
+        assert_eq!(rt; net.accepts(0), [Block { lo: 1, hi: 2 }].as_slice());
+        assert_eq!(rt; net.entries(0).len(), 1);
+        assert_eq!(rt; net.over(0), Some(0));
+        assert!(rt; net.unit(0).is_none());
+    }
+    Ok(())
+}
+
+#[test]
+fn keeps_names_in_order(rt: HostRuntime) -> Result<(), Fail> {
+    let mut names = Names::new(rt.alloc());
+    names.insert(Name { node: 1, addr: 0 })?;
+    names.insert(Name { node: 0, addr: 5 })?;
+    names.insert(Name { node: 1, addr: 0 })?;
+    let wanted = [Name { node: 0, addr: 5 }, Name { node: 1, addr: 0 }];
+    assert_eq!(rt; names.list(), wanted.as_slice());
+    Ok(())
+}

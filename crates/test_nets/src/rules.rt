@@ -1,0 +1,110 @@
+//! The rules on nodes: the fault of the first node that breaks one.
+
+use crate::fault_of;
+use dn_net::net::Net;
+use dn_net::node::TOP;
+use dn_net::rules::NodeFault;
+use std::alloc::Global;
+use std::test::Fail;
+use test_kit::texts::net_of;
+use test_kit::units::add_unit;
+
+#[test]
+fn names_the_least_overlap(rt: HostRuntime) -> Result<(), Fail> {
+    let alloc = rt.alloc();
+    let rows = [
+        ("a is map [10-19 to a, 0-9 to a];", None),
+        ("a is map [0-9 to a, 20-29 to a, 5-6 to a];", Some(5)),
+        (
+            "a is map [50-60 to a, 0-5 to a, 55-70 to a, 5 to a];",
+            Some(5),
+        ),
+        ("a is accept [0-9, 5-15];", None),
+        ("a is accept [0-9] map [9-12 to a];", Some(9)),
+        ("a is accept [0-100, 2-3] map [50-51 to a];", Some(50)),
+        (
+            "a is accept [0-0xffffffffffffff] map [0xffffffffffffff to a];",
+            Some(TOP),
+        ),
+    ];
+    for (text, addr) in rows {
+        let net = net_of(alloc, text)?;
+        let fault = addr.map(|addr| NodeFault::Overlap { node: 0, addr });
+        assert_eq!(rt; fault_of(alloc, &net), fault, "{text}");
+    }
+    Ok(())
+}
+
+#[test]
+fn keeps_addresses_in_range(rt: HostRuntime) -> Result<(), Fail> {
+    let alloc = rt.alloc();
+    let range = Some(NodeFault::Range { node: 0 });
+    let rows = [
+        ("a is accept [0-0xffffffffffffff];", None),
+        ("a is accept [1-0];", range),
+        ("a is accept [0-0x100000000000000];", range),
+        ("a is map [2-3 to a at 0xfffffffffffffe];", None),
+        ("a is map [2-3 to a at 0xffffffffffffff];", range),
+    ];
+    for (text, fault) in rows {
+        let net = net_of(alloc, text)?;
+        assert_eq!(rt; fault_of(alloc, &net), fault, "{text}");
+    }
+    Ok(())
+}
+
+#[test]
+fn keeps_vectors_apart(rt: HostRuntime) -> Result<(), Fail> {
+    let alloc = rt.alloc();
+    let space = Some(NodeFault::VectorSpace { node: 0 });
+    let rows = [
+        ("vectors a is accept [1-4096, 10-20];", None),
+        ("vectors a is accept [5-4096, 0-4095];", space),
+        ("vectors a is map [0 to a];", space),
+        ("vectors a is over a;", space),
+    ];
+    for (text, fault) in rows {
+        let net = net_of(alloc, text)?;
+        assert_eq!(rt; fault_of(alloc, &net), fault, "{text}");
+    }
+    Ok(())
+}
+
+#[test]
+fn names_no_destination_twice(rt: HostRuntime) -> Result<(), Fail> {
+    let alloc = rt.alloc();
+    let repeat = Some(NodeFault::Repeat { node: 0 });
+    let rows = [
+        ("a is map [0 to a at 1 and a at 2 and a at 3];", None),
+        ("a is map [0 to a at 1 and a at 2 and a at 1];", repeat),
+        (
+            "a is map [0 to a and a and a and a and a and a and a and a];",
+            repeat,
+        ),
+    ];
+    for (text, fault) in rows {
+        let net = net_of(alloc, text)?;
+        assert_eq!(rt; fault_of(alloc, &net), fault, "{text}");
+    }
+    Ok(())
+}
+
+/// A net of four nodes and a unit with these ports.
+fn with_ports(alloc: Global, ports: &[u16]) -> Result<Net, Fail> {
+    let mut net = net_of(alloc, "a is; b is; c is; d is;")?;
+    let _ = add_unit(alloc, &mut net, "unit", ports)?;
+    Ok(net)
+}
+
+#[test]
+fn names_no_port_twice(rt: HostRuntime) -> Result<(), Fail> {
+    let alloc = rt.alloc();
+    let net = with_ports(alloc, &[3, 1, 2])?;
+    assert_eq!(rt; fault_of(alloc, &net), None);
+    let net = with_ports(alloc, &[3, 1, 1])?;
+    let fault = NodeFault::Repeat { node: 4 };
+    assert_eq!(rt; fault_of(alloc, &net), Some(fault));
+    let text = format!(in alloc; "{fault}")?;
+    assert_eq!(rt; text.as_str(), "Repeat");
+    Ok(())
+}

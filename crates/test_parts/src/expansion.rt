@@ -1,0 +1,161 @@
+//! Expansion: worked texts, the limit on steps, and the order of faults.
+
+use dn_module::expand::expand;
+use dn_module::fault::ExpandFault;
+use dn_module::machine::expand_body;
+use dn_parse::reader::read;
+use std::alloc::{AllocError, Global};
+use std::test::Fail;
+
+/// The names of the nodes that a text's statements make, each behind a space, or the first fault.
+fn names(alloc: Global, text: &str) -> Result<String, Fail> {
+    let tree = read(alloc, text.as_bytes())?;
+    let made = match expand_body(alloc, tree.body.as_slice()) {
+        Ok(made) => made,
+        Err(fault) => return Ok(format!(in alloc; "{fault:?}")?),
+    };
+    let mut names = String::new(alloc);
+    for draft in made.drafts.as_slice() {
+        names.push_str(" ")?;
+        names.push_str(draft.name.as_str())?;
+    }
+    Ok(names)
+}
+
+#[test]
+fn takes_bodies_in_their_order(rt: HostRuntime) -> Result<(), Fail> {
+    let alloc = rt.alloc();
+    let rows = [
+        ("for i in 2..4; a[i] is; end; begin;", " a[2] a[3] a[4]"),
+        ("for i in 3..2; a[i] is; end; b is; begin;", " b"),
+        (
+            "for i in 0..1; for j in i..1; a[i].c[j] is; end; b[i] is; end; begin;",
+            " a[0].c[0] a[0].c[1] b[0] a[1].c[1] b[1]",
+        ),
+        (
+            "for i in 0..1; for i in 5..6; a[i] is; end; b[i] is; end; begin;",
+            "Duplicate { line: 1 }",
+        ),
+        (
+            "module m(num k); x[k] is; end; use m(2) as p; use m(3) as q[1]; begin;",
+            " p.x[2] q[1].x[3]",
+        ),
+        (
+            "module m(); x is; end; module n(); use m() as y; end; for i in 0..1; use n() as c[i]; end; begin;",
+            " c[0].y.x c[1].y.x",
+        ),
+        (
+            "for i in 0..1;\nfor j in 2..1; a[j] is; end; end; b[i] is; begin;",
+            "Unknown { line: 2 }",
+        ),
+        (
+            "module m();\nuse n() as y; end; module n(); end; use m() as z; begin;",
+            "Unknown { line: 2 }",
+        ),
+        (
+            "module m();\nx[i] is; end; for i in 0..1; use m() as z[i]; end; begin;",
+            "Unknown { line: 2 }",
+        ),
+        (
+            "module m(num k);\nend; use m(node k) as z; begin;",
+            "Arguments { line: 2 }",
+        ),
+        (
+            "module m(num k);\nend; use m(i) as z[(0-1)]; begin;",
+            "Unknown { line: 2 }",
+        ),
+        (
+            "module m(num k);\nend; use m(1) as z[(0-1)]; begin;",
+            "Value { line: 2 }",
+        ),
+        (
+            "module m(num k, node k); end; begin;",
+            "Duplicate { line: 1 }",
+        ),
+    ];
+    for (text, wanted) in rows {
+        let names = names(alloc, text)?;
+        assert_eq!(rt; names.as_str(), wanted);
+    }
+    Ok(())
+}
+
+#[test]
+fn counts_each_statement_and_each_turn(rt: HostRuntime) -> Result<(), Fail> {
+    let alloc = rt.alloc();
+    let rows = [
+        ("for i in 0..65534;\nend; begin;", ""),
+        ("for i in 0..65533;\nend; a is; begin;", " a"),
+        (
+            "for i in 0..65534;\nend;\na is; begin;",
+            "TooMany { line: 3, limit: 65536 }",
+        ),
+        (
+            "\nfor i in 0..65535;\nend; begin;",
+            "TooMany { line: 2, limit: 65536 }",
+        ),
+        (
+            "for i in 0xffffffffffffffff..0xffffffffffffffff; a is; end; begin;",
+            " a",
+        ),
+    ];
+    for (text, wanted) in rows {
+        let names = names(alloc, text)?;
+        assert_eq!(rt; names.as_str(), wanted);
+    }
+    Ok(())
+}
+
+/// A module of a processor, and two uses of it.
+const BOARD: &str = "module cpu(node bus, num base);
+local is accept [0x0-0xfff];
+agent core is map [base-base+0xfff to local at 0x0] over bus;
+end;
+sys is accept [0x0-0xffff];
+for i in 0..1;
+use cpu(node sys, 0x20000+i*0x1000) as c[i];
+end;
+begin;
+";
+
+#[test]
+fn expands_a_board(rt: HostRuntime) -> Result<(), Fail> {
+    let alloc = rt.alloc();
+    let names = names(alloc, BOARD)?;
+    assert_eq!(rt;
+        names.as_str(),
+        " sys c[0].local c[0].core c[1].local c[1].core"
+    );
+    let tree = read(alloc, BOARD.as_bytes())?;
+    let Ok(expanded) = expand(alloc, &tree) else {
+        return Err(Fail::from(AllocError));
+    };
+    assert_eq!(rt; expanded.net.nodes(), 5);
+    assert_eq!(rt; expanded.net.find("c[1].core"), Some(4));
+    Ok(())
+}
+
+#[test]
+fn takes_commands_before_references(rt: HostRuntime) -> Result<(), Fail> {
+    let alloc = rt.alloc();
+    let rows = [
+        (
+            "a is over b; begin;\nview a[i];",
+            ExpandFault::Unknown { line: 2 },
+        ),
+        (
+            "a is over b; begin;\nview a[(0-1)];",
+            ExpandFault::Value { line: 2 },
+        ),
+        (
+            "\na is over b; begin; view c;",
+            ExpandFault::Unknown { line: 2 },
+        ),
+    ];
+    for (text, wanted) in rows {
+        let tree = read(alloc, text.as_bytes())?;
+        let fault = expand(alloc, &tree).err();
+        assert_eq!(rt; fault, Some(wanted));
+    }
+    Ok(())
+}

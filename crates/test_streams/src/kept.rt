@@ -1,0 +1,42 @@
+//! The words of each fault, and the lists and texts that structs keep.
+
+use dn_base::items::Items;
+use dn_base::sink::WriteFault;
+use dn_base::source::ReadFault;
+use dn_base::text::Text;
+use dn_base::whole::InputFault;
+use std::test::Fail;
+
+#[test]
+fn names_each_fault(rt: HostRuntime) -> Result<(), Fail> {
+    let alloc = rt.alloc();
+    let printed = format!(in alloc;
+        "{} {} {} {} {}",
+        ReadFault::Failed,
+        WriteFault::Failed,
+        WriteFault::OutOfMemory,
+        InputFault::Failed,
+        InputFault::OutOfMemory
+    )?;
+    assert_eq!(rt;
+        printed.as_str(),
+        "Failed Failed OutOfMemory Failed OutOfMemory"
+    );
+    Ok(())
+}
+
+#[test]
+fn keeps_items_and_texts(rt: HostRuntime) -> Result<(), Fail> {
+    let alloc = rt.alloc();
+    let mut items = Items::new(alloc);
+    items.push(1)?;
+    items.push(2)?;
+    assert_eq!(rt; items.as_slice(), [1, 2].as_slice());
+    let again = Items::from_vec(items.into_vec());
+    assert_eq!(rt; again.as_slice(), [1, 2].as_slice());
+    let text = Text::of(alloc, "núcleo")?;
+    assert_eq!(rt; text.as_str(), "núcleo");
+    let again = Text::from_string(text.into_string());
+    assert_eq!(rt; again.as_str(), "núcleo");
+    Ok(())
+}

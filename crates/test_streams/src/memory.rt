@@ -1,0 +1,73 @@
+//! Reads and writes over objects in memory, and whole texts over them.
+
+use crate::source_of;
+use dn_base::memory::MemSink;
+use dn_base::sink::{Sink, WriteFault};
+use dn_base::source::{ReadFault, Source};
+use dn_base::whole;
+use dn_base::whole::InputFault;
+use std::test::Fail;
+
+#[test]
+fn reads_three_bytes_by_two(rt: HostRuntime) -> Result<(), Fail> {
+    let mut source = source_of(rt.alloc(), &[7, 8, 9], 2, &[])?;
+    let mut piece = [0; 4];
+    for answer in [Ok(2), Ok(1), Ok(0)] {
+        assert_eq!(rt; source.read(&mut piece), answer);
+    }
+    Ok(())
+}
+
+#[test]
+fn fails_at_a_listed_read(rt: HostRuntime) -> Result<(), Fail> {
+    let mut source = source_of(rt.alloc(), &[7, 8, 9], 2, &[1])?;
+    let mut piece = [0; 4];
+    for answer in [Ok(2), Err(ReadFault::Failed), Ok(1)] {
+        assert_eq!(rt; source.read(&mut piece), answer);
+    }
+    Ok(())
+}
+
+#[test]
+fn reads_a_whole_text_in_pieces(rt: HostRuntime) -> Result<(), Fail> {
+    let alloc = rt.alloc();
+    for most in [1, 2, 4096] {
+        let mut source = source_of(alloc, &[7, 8, 9], most, &[])?;
+        let text = whole::read_whole(alloc, &mut source)?;
+        assert_eq!(rt; text.as_slice(), [7, 8, 9].as_slice(), "by {most}");
+    }
+    Ok(())
+}
+
+#[test]
+fn reads_no_text_where_a_read_fails(rt: HostRuntime) -> Result<(), Fail> {
+    let alloc = rt.alloc();
+    for call in 0..3 {
+        let mut source = source_of(alloc, &[7, 8, 9], 2, &[call])?;
+        let read = whole::read_whole(alloc, &mut source);
+        assert!(rt; matches!(&read, Err(InputFault::Failed)), "call {call}");
+    }
+    Ok(())
+}
+
+#[test]
+fn writes_what_it_is_given(rt: HostRuntime) -> Result<(), Fail> {
+    let alloc = rt.alloc();
+    let mut sink = MemSink::new(alloc, [1].to_vec(alloc)?);
+    assert_eq!(rt; sink.write(b"ab"), Ok(2));
+    assert_eq!(rt; sink.write(b"cd"), Err(WriteFault::Failed));
+    assert_eq!(rt; sink.write(b""), Ok(0));
+    assert_eq!(rt; whole::write_whole(&mut sink, b"ef"), Ok(()));
+    assert_eq!(rt; sink.written(), b"abef".as_slice());
+    Ok(())
+}
+
+#[test]
+fn writes_nothing_where_the_first_write_fails(rt: HostRuntime) -> Result<(), Fail> {
+    let alloc = rt.alloc();
+    let mut broken = MemSink::new(alloc, [0].to_vec(alloc)?);
+    let written = whole::write_whole(&mut broken, b"hi");
+    assert_eq!(rt; written, Err(WriteFault::Failed));
+    assert!(rt; broken.written().is_empty());
+    Ok(())
+}

@@ -1,0 +1,135 @@
+//! What each node of a net sees, printed as rows, and compared with what its names resolve to.
+
+use crate::name_after;
+use dn_interval::Rows;
+use dn_net::node::{Block, Dest, Name};
+use dn_print::rows::rows_text;
+use std::alloc::{AllocError, Global};
+use std::test::Fail;
+use test_kit::texts::net_of;
+use test_kit::units::{add_sender, add_unit};
+use test_kit::{Machine, Unmade};
+
+/// A bus with a memory and a device, and an agent in front of it.
+const BOARD: &str = "dram is accept [0-0x3fffffff];
+uart is accept [0-0xfff];
+bus is map [0x10000000-0x10000fff to uart at 0, 0x80000000-0xbfffffff to dram at 0];
+agent core is over bus;
+";
+
+/// Blocks that overlap and touch, two ways to one name, neighbours that go on and neighbours that break.
+const SMALL: &str = "a is accept [8-20, 0-3, 4-10];
+b is map [0-9 to a at 0, 10-19 to a at 10, 20-29 to a at 10];
+c is accept [15-16] map [0-9 to a at 2];
+d is accept [0] map [2-11 to b at 0 and c at 0, 12-15 to b at 16];
+e is map [5-9 to d at 8] over d;
+";
+
+/// The board, and beside it an agent behind a unit, which is node 4.
+fn board(alloc: Global) -> Result<Machine, Unmade> {
+    let mut net = net_of(alloc, BOARD)?;
+    let unit = add_unit(alloc, &mut net, "mmu", &[2])?;
+    let block = Block { lo: 0, hi: 0xffff };
+    let dest = Dest {
+        node: unit,
+        addr: 0,
+    };
+    let _ = add_sender(alloc, &mut net, "engine", block, dest)?;
+    Machine::of_net(alloc, net)
+}
+
+/// What a node sees: the accepted names, and those in units.
+fn seen(alloc: Global, machine: &Machine, node: u16) -> Result<(String, String), Fail> {
+    let flat = machine.flat(alloc, node)?;
+    let accepts = rows_text(alloc, machine.net(), &flat.accepts)?;
+    let stops = rows_text(alloc, machine.net(), &flat.stops)?;
+    Ok((accepts, stops))
+}
+
+#[test]
+fn sees_memories_and_devices(rt: HostRuntime) -> Result<(), Fail> {
+    let alloc = rt.alloc();
+    let machine = board(alloc)?;
+    let rows = [
+        (
+            3,
+            "0x10000000-0x10000fff uart@0x0\n0x80000000-0xbfffffff dram@0x0\n",
+        ),
+        (5, ""),
+        (1, "0x0-0xfff uart@0x0\n"),
+        (4, ""),
+    ];
+    for (node, wanted) in rows {
+        let (accepts, _) = seen(alloc, &machine, node)?;
+        assert_eq!(rt; accepts.as_str(), wanted, "node {node}");
+    }
+    Ok(())
+}
+
+#[test]
+fn stops_in_units(rt: HostRuntime) -> Result<(), Fail> {
+    let alloc = rt.alloc();
+    let machine = board(alloc)?;
+    let rows = [
+        (3, ""),
+        (5, "0x0-0xffff mmu@0x0\n"),
+        (1, ""),
+        (4, "0x0-0xffffffffffffff mmu@0x0\n"),
+    ];
+    for (node, wanted) in rows {
+        let (_, stops) = seen(alloc, &machine, node)?;
+        assert_eq!(rt; stops.as_str(), wanted, "node {node}");
+    }
+    Ok(())
+}
+
+#[test]
+fn joins_and_breaks_rows(rt: HostRuntime) -> Result<(), Fail> {
+    let alloc = rt.alloc();
+    let machine = Machine::of_text(alloc, SMALL)?;
+    let rows = [
+        (0, "0x0-0x14 a@0x0\n"),
+        (1, "0x0-0x13 a@0x0\n0x14-0x1d a@0xa\n"),
+        (2, "0x0-0x9 a@0x2\n0xf-0x10 c@0xf\n"),
+        (3, "0x0-0x0 d@0x0\n0x2-0xb a@0x0, a@0x2\n0xc-0xf a@0x10\n"),
+        (
+            4,
+            "0x0-0x0 d@0x0\n0x2-0x4 a@0x0, a@0x2\n0x5-0x8 a@0x6, a@0x8\n0x9-0x9 a@0x10\n0xa-0xb a@0x8, a@0xa\n0xc-0xf a@0x10\n",
+        ),
+    ];
+    for (node, wanted) in rows {
+        let (accepts, stops) = seen(alloc, &machine, node)?;
+        assert_eq!(rt; accepts.as_str(), wanted, "node {node}");
+        assert_eq!(rt; stops.as_str(), "", "node {node}");
+    }
+    Ok(())
+}
+
+/// The names that rows give to an address.
+fn names_at(alloc: Global, rows: &Rows, addr: u64) -> Result<Vec<Name>, AllocError> {
+    let mut names = Vec::new(alloc);
+    if let Some(row) = rows.at(addr) {
+        let moved = addr.wrapping_sub(row.span().lo);
+        for end in row.ends() {
+            if let Some(name) = name_after(*end, moved) {
+                names.push(name)?;
+            }
+        }
+    }
+    Ok(names)
+}
+
+#[test]
+fn sees_what_its_names_resolve_to(rt: HostRuntime) -> Result<(), Fail> {
+    let alloc = rt.alloc();
+    let machine = Machine::of_text(alloc, SMALL)?;
+    for node in 0..5 {
+        let flat = machine.flat(alloc, node)?;
+        for addr in 0..32 {
+            let given = names_at(alloc, &flat.accepts, addr)?;
+            let names = machine.resolved(alloc, Name { node, addr })?;
+            assert_eq!(rt; given.as_slice(), names.list(), "{node}@{addr}");
+        }
+    }
+    Ok(())
+}
