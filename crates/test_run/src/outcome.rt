@@ -1,6 +1,6 @@
 //! What words over a text come to, with a source and a sink in memory.
 
-ghost use Rattle.std.specs.Prelude.{◌≡◌, ◌≢◌, ◌<◌, true, OnOk};
+ghost use Rattle.std.specs.Prelude.{◌≡◌, ◌≢◌, ◌<◌, true, IfOk};
 ghost use Rattle.dn_base.specs.Memory.{is_nil};
 ghost use Rattle.dn_tool.specs.Answer.{answer as answer_of};
 
@@ -43,12 +43,12 @@ pub fn answer(
 ) -> Result<Outcome, AllocError>
     requires { 0 < most }
     // A status of 0, 1 or 4 is that of the answer, and exactly its output was written.
-    ensures exact { OnOk result (λ o. (o.status ≢ 2) → (o.status ≢ 3) → (o.status ≢ 7) →
+    ensures exact { IfOk result (λ o. (o.status ≢ 2) → (o.status ≢ 3) → (o.status ≢ 7) →
         (o.status ≡ (answer_of words.now text.now).status)
         × (o.sink.written ≡ (answer_of words.now text.now).output)) }
     // Where no call is to fail, no fault is answered.
-    ensures sure_source { is_nil failing.reads.now ≡ true → OnOk result (λ o. o.status ≢ 2) }
-    ensures sure_sink { is_nil failing.writes.now ≡ true → OnOk result (λ o. o.status ≢ 3) }
+    ensures sure_source { is_nil failing.entry.reads.now ≡ true → IfOk result (λ o. o.status ≢ 2) }
+    ensures sure_sink { is_nil failing.entry.writes.now ≡ true → IfOk result (λ o. o.status ≢ 3) }
 {
     let bytes = text.to_vec(alloc)?;
     let mut source = MemSource::new(bytes, most, failing.reads.to_vec(alloc)?);
