@@ -12,3 +12,7 @@ pub add-requires-clause-new_name : goal.add-requires-clause-new_name
 add-requires-clause-new_name c =
     not_there (λ (d : NodeDecl). bytes_eq c.args.decl.text d.text) c.args.net.now
     (ap is_some (sym (c.find.ensures ∙ ap (λ (t : List ℕ). position (λ (d : NodeDecl). bytes_eq t d.text) c.args.net.now) c.as_str.ensures)) ∙ sym c.is_some.ensures ∙ c.if-is_some.false)
+
+pub returns-clause-closed : goal.returns-clause-closed
+returns-clause-closed c =
+    subst (λ (n : List NodeDecl). IsTrue (is_closed n)) (sym c.in_ok-number.ensures.ok.1) (closed_with c.args.net.now c.args.decl c.requires.closed c.requires.refers)
