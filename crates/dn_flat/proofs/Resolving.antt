@@ -22,8 +22,8 @@ use Rattle.dn_net.specs.WalkRules.{IsChecked, IsListed}
 use Rattle.dn_net.proofs.Least.{within_from, within_to}
 use Rattle.dn_walk.specs.declared.walks.WalkRow.{WalkRow}
 use Rattle.dn_walk.specs.Rows.{told_by_row, told_by_walk, AreWalksOf}
-use Rattle.dn_walk.proofs.Choices.{chain_is_walk}
-use Rattle.dn_walk.proofs.Listed.{live_walks_are_all}
+use Rattle.dn_net.proofs.Choices.{chain_is_walk}
+use Rattle.dn_net.proofs.Listed.{live_walks_are_all}
 use Rattle.dn_flat.specs.Found.{comes, stays, goes_by}
 use Rattle.dn_flat.specs.Views.{name_of_end, ends_within}
 use Rattle.dn_flat.proofs.Tables.{limit_is, same_member, any_member, member_any}

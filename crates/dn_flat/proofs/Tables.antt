@@ -12,11 +12,11 @@ use Rattle.dn_net.specs.Walks.{Walk, live_walks, starts_before, Precedes}
 use Rattle.dn_net.specs.WalkRules.{IsChecked}
 use Rattle.dn_walk.specs.declared.walks.WalkRow.{WalkRow}
 use Rattle.dn_walk.specs.Rows.{told_by_row, told_by_walk, AreWalksOf}
-use Rattle.dn_walk.proofs.Levels.{IsRow, level_is_row}
-use Rattle.dn_walk.proofs.Listed.{level_of_listed}
-use Rattle.dn_walk.proofs.Members.{some_same}
-use Rattle.dn_walk.proofs.Order.{live_walks_are_in_order}
-use Rattle.dn_walk.proofs.Pairs.{member_at}
+use Rattle.dn_net.proofs.Levels.{IsRow, level_is_row}
+use Rattle.dn_net.proofs.Listed.{level_of_listed}
+use Rattle.dn_net.proofs.Members.{some_same}
+use Rattle.dn_net.proofs.Order.{live_walks_are_in_order}
+use Rattle.dn_net.proofs.Pairs.{member_at}
 use Rattle.dn_flat.specs.Found.{comes_first, AreSorted, IsLed}
 use Rattle.dn_flat.proofs.Stretch.{first_means, first_from}
 

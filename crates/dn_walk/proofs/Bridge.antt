@@ -16,12 +16,12 @@ use Rattle.dn_walk.specs.Rows.{Told, told_by_walk}
 use Rattle.dn_walk.specs.Legs.{told_leg, told_legs}
 use Rattle.dn_walk.specs.Levels.{told_meets, told_onto, told_on, told_extended, told_still, told_stills, told_level, told_before, told_walks}
 use Rattle.dn_walk.specs.Ways.{least_of, start_name, start_names, is_cyclic, told_leads, level_leads, has_addr, meets_goal}
-use Rattle.dn_walk.proofs.Cycles.{IsLed, HasName, comes_to_is_row, goes_on_is_row}
-use Rattle.dn_walk.proofs.Firsts.{NoLater, lower_addr, IsLeastNameOr, least_name_is}
-use Rattle.dn_walk.proofs.Gaps.{same_test}
+use Rattle.dn_net.proofs.Cycles.{IsLed, HasName, comes_to_is_row, goes_on_is_row}
+use Rattle.dn_net.proofs.Firsts.{NoLater, lower_addr, IsLeastNameOr, least_name_is}
+use Rattle.dn_net.proofs.Gaps.{same_test}
 use Rattle.dn_walk.proofs.Least.{same_place, least_is, least_none}
-use Rattle.dn_walk.proofs.Levels.{level_is_row}
-use Rattle.dn_walk.proofs.Members.{member_map, map_member, member_filter, filter_member, member_order}
+use Rattle.dn_net.proofs.Levels.{level_is_row}
+use Rattle.dn_net.proofs.Members.{member_map, map_member, member_filter, filter_member, member_order}
 use Rattle.dn_walk.proofs.Sorting.{map_in_order}
 use Rattle.dn_walk.proofs.Told.{level-zero, level-suc, walks-zero, walks-suc}
 

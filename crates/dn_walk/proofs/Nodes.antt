@@ -20,12 +20,12 @@ use Rattle.dn_interval.specs.declared.span.Span.{Span}
 use Rattle.dn_interval.specs.Spans.{has, in_span, AreMaximal}
 use Rattle.dn_walk.specs.declared.leg.Leg.{Leg}
 use Rattle.dn_walk.specs.Legs.{told_leg, told_legs, dest_leg, plain_entry_legs, gap_leg, plain_gap_legs, leg_before, legs_by, gaps_by, block_of, IsLegOf, AreLegs}
-use Rattle.dn_walk.proofs.Apart.{node_apart}
+use Rattle.dn_net.proofs.Apart.{node_apart}
 use Rattle.dn_walk.proofs.Holes.{spans_are_left}
-use Rattle.dn_walk.proofs.Legs.{leads_of_leg, leads_in_range, leads_within}
-use Rattle.dn_walk.proofs.Members.{member_map}
-use Rattle.dn_walk.proofs.Order.{legs_rise}
-use Rattle.dn_walk.proofs.Pairs.{pairs_map, pairs_more, pairs_rise}
+use Rattle.dn_net.proofs.Legs.{leads_of_leg, leads_in_range, leads_within}
+use Rattle.dn_net.proofs.Members.{member_map}
+use Rattle.dn_net.proofs.Order.{legs_rise}
+use Rattle.dn_net.proofs.Pairs.{pairs_map, pairs_more, pairs_rise}
 use Rattle.dn_walk.proofs.Sorting.{map_in_order}
 use Rattle.dn_walk.proofs.Told.{at_member}
 

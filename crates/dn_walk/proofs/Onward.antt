@@ -12,12 +12,12 @@ use Rattle.dn_walk.specs.declared.walks.WalkRow.{WalkRow}
 use Rattle.dn_walk.specs.declared.way.Goal.{Goal}
 use Rattle.dn_walk.specs.Rows.{Told, told_by_row}
 use Rattle.dn_walk.specs.Ways.{least_of, level_leads, levels_lead, start_names, start_name, is_cyclic}
-use Rattle.dn_walk.proofs.Cycles.{row_of_chain, stepping_in_range}
-use Rattle.dn_walk.proofs.Levels.{level_is_row}
+use Rattle.dn_net.proofs.Cycles.{row_of_chain, stepping_in_range}
+use Rattle.dn_net.proofs.Levels.{level_is_row}
 use Rattle.dn_walk.proofs.Least.{least_first}
 use Rattle.dn_walk.proofs.Told.{member_of_all}
 use Rattle.dn_net.proofs.Least.{within_to}
-use Rattle.dn_walk.proofs.Members.{member_filter, member_map}
+use Rattle.dn_net.proofs.Members.{member_filter, member_map}
 
 pub way_ends : (f : Name → List Name) (leads : ℕ → Name → Bool) (left k : ℕ) (x : Name) → left ≡ suc k → least_of (filter (leads k) (f x)) ≡ None → way_by f leads left x ≡ []
 way_ends f leads left k x e h = ap (λ n. way_by f leads n x) e ∙ ap (λ o. behind o (λ z. way_by f leads k z)) h

@@ -23,7 +23,7 @@ use Rattle.dn_walk.proofs.Bridge.{walks_told, least_back, least_onward, leads_to
 use Rattle.dn_walk.proofs.Keys.{told_weak}
 use Rattle.dn_walk.proofs.Least.{none_least}
 use Rattle.dn_walk.proofs.Onward.{step_in_range}
-use Rattle.dn_walk.proofs.Pairs.{pairs_more, pairs_rise}
+use Rattle.dn_net.proofs.Pairs.{pairs_more, pairs_rise}
 use Rattle.dn_walk.proofs.Sorting.{in_order_pairs}
 use Rattle.dn_walk.proofs.Told.{level-suc, walks-suc, levels-suc, length_levels}
 

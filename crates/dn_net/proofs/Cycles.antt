@@ -13,10 +13,10 @@ use Rattle.dn_net.specs.Walks.{Choice, Leads, Follows, moved_name, Walk, level}
 use Rattle.dn_net.specs.WalkRules.{IsChecked, CycleIsRow, comes_to, goes_on}
 use Rattle.dn_net.proofs.Least.{within_to, true_both, both_true, true_left, true_right, either_true}
 use Rattle.dn_net.proofs.Resolution.{after_steps_is_chain}
-use Rattle.dn_walk.proofs.Apart.{node_apart}
-use Rattle.dn_walk.proofs.Choices.{choices_of_chain, chain_of_choices}
-use Rattle.dn_walk.proofs.Legs.{leads_in_range}
-use Rattle.dn_walk.proofs.Levels.{level_is_row, row_of_choices}
+use Rattle.dn_net.proofs.Apart.{node_apart}
+use Rattle.dn_net.proofs.Choices.{choices_of_chain, chain_of_choices}
+use Rattle.dn_net.proofs.Legs.{leads_in_range}
+use Rattle.dn_net.proofs.Levels.{level_is_row, row_of_choices}
 
 -- a walk of a level that leads a name to another
 pub record IsLed (net : List NodeDecl) (k : ℕ) (x y : Name) (w : Walk) : Type 0 where

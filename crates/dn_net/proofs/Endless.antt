@@ -6,9 +6,9 @@ use Rattle.dn_net.specs.Chain.{Chain, Reaches, ReachesWithin}
 use Rattle.dn_net.specs.Decode.{step_limit, Step}
 use Rattle.dn_net.specs.Walks.{live_walks}
 use Rattle.dn_net.specs.WalkRules.{Broken, is_wide, is_deep, counted_length, shortest_cycle, path_names, endless_fault, walk_limit, walk_fault, IsChecked, EndlessIsRefused, NoFaultIsShallow, ReachIsWithin}
-use Rattle.dn_walk.proofs.Chains.{chain_from_endless, chain_front}
-use Rattle.dn_walk.proofs.Firsts.{some_steps}
-use Rattle.dn_walk.proofs.Ways.{path_is_least}
+use Rattle.dn_net.proofs.Chains.{chain_from_endless, chain_front}
+use Rattle.dn_net.proofs.Firsts.{some_steps}
+use Rattle.dn_net.proofs.Ways.{path_is_least}
 
 -- whether there are too many walks
 abbrev pub is_wide_net : List NodeDecl → Bool

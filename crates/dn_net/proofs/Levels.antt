@@ -11,9 +11,9 @@ use Rattle.dn_net.specs.Walks.{Choice, Leads, Follows, IsLive, moved_name, whole
 use Rattle.dn_net.specs.WalkRules.{IsChecked}
 use Rattle.dn_net.proofs.Least.{within_from, within_to, true_both, both_true}
 use Rattle.dn_net.proofs.Places.{list_all-at}
-use Rattle.dn_walk.proofs.Apart.{IsApart, node_apart}
-use Rattle.dn_walk.proofs.Legs.{leads_of_leg, leg_of_leads, leads_once, leads_in_range, leads_within}
-use Rattle.dn_walk.proofs.Members.{member_map, map_member, member_filter, filter_member, member_flat_map, flat_map_member}
+use Rattle.dn_net.proofs.Apart.{IsApart, node_apart}
+use Rattle.dn_net.proofs.Legs.{leads_of_leg, leg_of_leads, leads_once, leads_in_range, leads_within}
+use Rattle.dn_net.proofs.Members.{member_map, map_member, member_filter, filter_member, member_flat_map, flat_map_member}
 
 -- what each walk of a level keeps
 pub record IsRow (net : List NodeDecl) (k : ℕ) (w : Walk) : Type 0 where

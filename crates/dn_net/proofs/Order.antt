@@ -10,14 +10,14 @@ use Rattle.dn_net.specs.Decode.{within}
 use Rattle.dn_net.specs.Walks.{Choice, in_some_entry, gaps, Leg, dest_legs, entry_legs, gap_legs, legs, legs_of, in_order, Walk, meets, onto, extended, still, stills, level, starts_before, live_walks, EarlierDest, ChooseBefore, SameSpan, Precedes}
 use Rattle.dn_net.specs.WalkRules.{IsChecked, LiveWalksAreInOrder}
 use Rattle.dn_net.proofs.Least.{within_from, within_to, either_true, both_true, true_left, true_right, true_both}
-use Rattle.dn_walk.proofs.Apart.{IsApart, node_apart}
-use Rattle.dn_walk.proofs.Choices.{free_parts}
-use Rattle.dn_walk.proofs.Gaps.{Stand, gaps_stand, stand_member, gap_of_member}
-use Rattle.dn_walk.proofs.Legs.{dest_leg, gap_leg, member_dest_legs, member_entry_legs, member_gap_legs, leads_in_range, leads_of_leg}
-use Rattle.dn_walk.proofs.Levels.{IsRow, level_is_row, onto_within}
-use Rattle.dn_walk.proofs.Listed.{level_of_listed}
-use Rattle.dn_walk.proofs.Members.{member_map, member_filter, member_order, some_same}
-use Rattle.dn_walk.proofs.Pairs.{Pairwise, NotBefore, pair_at, pairs_more, pairs_append, pairs_map, pairs_filter, pairs_flat_map, pairs_order, order_sorted, pairs_both}
+use Rattle.dn_net.proofs.Apart.{IsApart, node_apart}
+use Rattle.dn_net.proofs.Choices.{free_parts}
+use Rattle.dn_net.proofs.Gaps.{Stand, gaps_stand, stand_member, gap_of_member}
+use Rattle.dn_net.proofs.Legs.{dest_leg, gap_leg, member_dest_legs, member_entry_legs, member_gap_legs, leads_in_range, leads_of_leg}
+use Rattle.dn_net.proofs.Levels.{IsRow, level_is_row, onto_within}
+use Rattle.dn_net.proofs.Listed.{level_of_listed}
+use Rattle.dn_net.proofs.Members.{member_map, member_filter, member_order, some_same}
+use Rattle.dn_net.proofs.Pairs.{Pairwise, NotBefore, pair_at, pairs_more, pairs_append, pairs_map, pairs_filter, pairs_flat_map, pairs_order, order_sorted, pairs_both}
 
 -- where two legs share an address, they are of one entry, and the first of an earlier destination
 abbrev pub LegBefore : Leg → Leg → Type 0

@@ -11,8 +11,8 @@ use Rattle.dn_net.specs.Rules.{node_fault}
 use Rattle.dn_net.specs.Walks.{Choice, mapped_by, over_gap, in_some_entry, is_free, IsGap, Leads, Follows, moved_name}
 use Rattle.dn_net.specs.WalkRules.{ChainIsWalk}
 use Rattle.dn_net.proofs.Least.{within_from, within_to}
-use Rattle.dn_walk.proofs.Apart.{IsApart, node_apart}
-use Rattle.dn_walk.proofs.Members.{some_same}
+use Rattle.dn_net.proofs.Apart.{IsApart, node_apart}
+use Rattle.dn_net.proofs.Members.{some_same}
 
 -- a free address lies in a gap: its end below
 gap_below : (n : NodeDecl) (a : ℕ) → is_free n a ≡ true → (lo : ℕ) × (lo ≤ a) × ((b : ℕ) → lo ≤ b → b ≤ a → is_free n b ≡ true) × ((b : ℕ) → lo ≡ suc b → is_free n b ≡ false)

@@ -8,7 +8,7 @@ use Rattle.dn_net.specs.Decode.{top, step_limit, Step}
 use Rattle.dn_net.specs.Names.{name_lt}
 use Rattle.dn_net.specs.WalkRules.{or_else, first_below, least_in, least_below, least_name, comes_back, has_cycle, shortest_within, shortest_cycle, IsChecked, IsShortestCycle, ShortestCycleIsShortest}
 use Rattle.dn_net.proofs.Least.{true_left, true_right, true_both}
-use Rattle.dn_walk.proofs.Cycles.{comes_to_is_chain, stepping_in_range}
+use Rattle.dn_net.proofs.Cycles.{comes_to_is_chain, stepping_in_range}
 
 first_below-zero : (p : ℕ → Bool) → first_below p 0 ≡ None
 unfolding first_below

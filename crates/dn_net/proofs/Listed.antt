@@ -6,10 +6,10 @@ use Rattle.dn_net.specs.Chain.{Member}
 use Rattle.dn_net.specs.Walks.{Choice, IsLive, Walk, in_order, starts_before, level, live_walks}
 use Rattle.dn_net.specs.WalkRules.{IsListed, LiveWalksAreAll}
 use Rattle.dn_net.proofs.Resolution.{member_left, member_right, member_split}
-use Rattle.dn_walk.proofs.Choices.{chain_of_choices}
-use Rattle.dn_walk.proofs.Cycles.{stepping_in_range}
-use Rattle.dn_walk.proofs.Levels.{level_is_row, live_of_row, row_of_choices}
-use Rattle.dn_walk.proofs.Members.{member_order}
+use Rattle.dn_net.proofs.Choices.{chain_of_choices}
+use Rattle.dn_net.proofs.Cycles.{stepping_in_range}
+use Rattle.dn_net.proofs.Levels.{level_is_row, live_of_row, row_of_choices}
+use Rattle.dn_net.proofs.Members.{member_order}
 
 -- a walk of the list is one of a level
 pub level_of_listed : (net : List NodeDecl) (k : ℕ) (w : Walk) → Member w (live_walks net k) → (j : ℕ) × (1 ≤ j) × (j ≤ k) × Member w (level net j)

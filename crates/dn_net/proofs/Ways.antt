@@ -7,9 +7,9 @@ use Rattle.dn_net.specs.Decode.{top, steps, step_limit, Step}
 use Rattle.dn_net.specs.Names.{name_lt, name_eq, with_name, sorted_names}
 use Rattle.dn_net.specs.WalkRules.{first_of, behind, way_by, least_name, comes_to, comes_back, goes_on, cycle_from, path_from, path_names, NotAfter, Along, IsChecked, IsLeastCycle, CycleIsLeast, IsLeastPath, PathIsLeast}
 use Rattle.dn_net.proofs.Least.{both_true, either_true}
-use Rattle.dn_walk.proofs.Cycles.{name_same, comes_to_is_chain, goes_on_is_chain, stepping_in_range}
-use Rattle.dn_walk.proofs.Firsts.{NoLater, lower_node, lower_addr, IsLeastName, least_name_is, IsShortest, shortest_cycle_is}
-use Rattle.dn_walk.proofs.Members.{member_filter, filter_member, some_same}
+use Rattle.dn_net.proofs.Cycles.{name_same, comes_to_is_chain, goes_on_is_chain, stepping_in_range}
+use Rattle.dn_net.proofs.Firsts.{NoLater, lower_node, lower_addr, IsLeastName, least_name_is, IsShortest, shortest_cycle_is}
+use Rattle.dn_net.proofs.Members.{member_filter, filter_member, some_same}
 
 pub lower_is : (x y : Name) → IsTrue (name_lt x y) → (x.node < y.node) ⊎ ((x.node ≡ y.node) × (x.addr < y.addr))
 lower_is x y h = elim (either_true (nat_lt x.node y.node) ((x.node == y.node) && nat_lt x.addr y.addr) h) [

@@ -12,7 +12,7 @@ use Rattle.dn_net.specs.Walks.{in_some_entry, is_free, IsGap, below, above, cut_
 use Rattle.dn_net.proofs.Least.{within_from, within_to, true_both, both_true, true_left, either_true}
 use Rattle.dn_net.proofs.Places.{both}
 use Rattle.dn_net.specs.WalkRules.{GapsAreAll}
-use Rattle.dn_walk.proofs.Apart.{IsApart, node_apart}
+use Rattle.dn_net.proofs.Apart.{IsApart, node_apart}
 
 -- the blocks stand at an address or above it, in range, ascending, and leave out at least one address between two
 abbrev pub Stand : ℕ → List Block → Type 0

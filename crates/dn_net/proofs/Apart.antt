@@ -10,7 +10,7 @@ use Rattle.dn_net.specs.Rules.{overlaps, least_overlap, block_in_range, dest_in_
 use Rattle.dn_net.proofs.Checked.{IsChecked, checked_at}
 use Rattle.dn_net.proofs.Least.{least_overlap_is_least, maps_at, maps_at-cons, true_left, true_right, true_both}
 use Rattle.dn_net.proofs.Places.{both, list_all-at}
-use Rattle.dn_walk.proofs.Members.{some_same}
+use Rattle.dn_net.proofs.Members.{some_same}
 
 -- the blocks of a node are in range, and no address lies in two map blocks, or in a map block and an accept block
 pub record IsApart (n : NodeDecl) : Type 0 where
