@@ -369,6 +369,6 @@ member_of_gap n apart lo hi g =
 
 pub gaps_are_all : GapsAreAll
 gaps_are_all net checked i n e lo hi = (
-  λ m. gap_of_member n (node_apart net checked.1 i n e) (record { lo = lo; hi = hi }) m,
-  λ g. member_of_gap n (node_apart net checked.1 i n e) lo hi g,
+  λ m. gap_of_member n (node_apart net checked.each i n e) (record { lo = lo; hi = hi }) m,
+  λ g. member_of_gap n (node_apart net checked.each i n e) lo hi g,
 )

@@ -2,15 +2,16 @@ pub mod Apart
 pub mod Ascending
 pub mod Blocks
 pub mod Chains
-pub mod Checked
 pub mod Choices
 pub mod Cycles
 pub mod Endless
 pub mod Faults
 pub mod Firsts
 pub mod Gaps
+pub mod Kept
 pub mod Latest
 pub mod Least
+pub mod Legal
 pub mod Legs
 pub mod Levels
 pub mod Listed

@@ -1,5 +1,6 @@
 //! Laws on the definitions of the net, each the contract of a function that does nothing.
 
+ghost use Rattle.dn_net.specs.Legal.{LegalBreaksNoRule};
 ghost use Rattle.dn_net.specs.Names.{ResolvedIsResolution, ResolvedAscends, ReachedIsWithin, AfterStepsIsChain};
 ghost use Rattle.dn_net.specs.Rules.{LeastOverlapIsLeast};
 ghost use Rattle.dn_net.specs.WalkRules.{CycleIsLeast, EndlessIsRefused, NoFaultIsShallow, PathIsLeast, ReachIsWithin, ShortestCycleIsShortest};
@@ -45,17 +46,22 @@ pub fn path_is_least()
     ensures { PathIsLeast }
 {}
 
-/// A name with a chain that never ends breaks a rule on walks.
+/// A name with a chain that never ends breaks `Wide`, `Loop` or `Deep`.
 pub fn endless_is_refused()
     ensures { EndlessIsRefused }
 {}
 
-/// In a net that breaks no rule on walks no chain has 65 steps.
+/// In a net that breaks none of these three no chain has 65 steps.
 pub fn no_fault_is_shallow()
     ensures { NoFaultIsShallow }
 {}
 
-/// In a net that breaks no rule on walks what is reached at all is reached within 65 steps.
+/// In a net that breaks none of these three what is reached at all is reached within 65 steps.
 pub fn reach_is_within()
     ensures { ReachIsWithin }
+{}
+
+/// A net with each node to which it refers breaks neither a node rule nor a rule on walks exactly where it is legal.
+pub fn legal_breaks_no_rule()
+    ensures { LegalBreaksNoRule }
 {}
