@@ -1,15 +1,11 @@
 -- The names that segments give, and normal rows of a function from addresses to sets of names.
 use Rattle.std.specs.Prelude.{◌≡◌, ℕ, suc, ◌+◌, ◌-◌, ◌≤◌, ◌⊎◌, ◌↔◌, Bool, cond, ◌&&◌, ◌||◌, nat_lt, nat_eq, List, [], ◌∷◌, map, IsTrue}
+pub use Rattle.dn_base.specs.Members.{Member}
 use Rattle.dn_interval.specs.declared.row.Seg.{Seg}
 use Rattle.dn_interval.specs.declared.row.End.{End}
 use Rattle.dn_interval.specs.declared.row.Row.{Row}
 use Rattle.dn_interval.specs.declared.span.TheConstants.{TOP}
 use Rattle.dn_interval.specs.Spans.{in_span}
-
--- the value stands in the list
-abbrev pub Member : {X : Type 0} → X → List X → Type 0
-Member y [] = ⊥
-Member y (x ∷ xs) = (x ≡ y) ⊎ Member y xs
 
 -- the name that a segment gives to an address of its span
 abbrev pub name_at : Seg → ℕ → End

@@ -6,7 +6,7 @@ use Rattle.std.specs.List.Sorted.{IsPartitionedBy}
 use Rattle.dn_net.specs.declared.node.Name.{Name}
 use Rattle.dn_net.specs.declared.node.NodeDecl.{NodeDecl}
 use Rattle.dn_net.specs.Decode.{is_accepted, steps, step_limit}
-use Rattle.dn_net.specs.Names.{name_lt, name_eq, with_name, is_before_first, is_ascending, sorted_names, passing, reached, resolved}
+use Rattle.dn_net.specs.Names.{name_lt, name_eq, with_name, is_before_first, is_ascending, sorted_names, passing, reached, end_names}
 use Rattle.dn_net.proofs.Least.{either_true, both_true, true_left, true_right, true_both}
 
 comes : (x y : Name) → name_lt x y ≡ true → (x.node < y.node) ⊎ ((x.node ≡ y.node) × (x.addr < y.addr))
@@ -145,5 +145,6 @@ pub sorted_ascending : (xs : List Name) → is_ascending (sorted_names xs) ≡ t
 sorted_ascending [] = refl
 sorted_ascending (x ∷ xs) = with_ascending x (sorted_names xs) (sorted_ascending xs)
 
-pub resolved_ascends : (net : List NodeDecl) (x : Name) → is_ascending (resolved net x) ≡ true
-resolved_ascends net x = sorted_ascending (passing (is_accepted net) (reached (steps net) step_limit (x ∷ [])))
+-- and so does the list of those that pass and end a chain
+pub end_names_ascend : (f : Name → List Name) (passes : Name → Bool) (n : ℕ) (x : Name) → is_ascending (end_names f passes n x) ≡ true
+end_names_ascend f passes n x = sorted_ascending (passing passes (reached f n (x ∷ [])))
