@@ -9,7 +9,7 @@ use Rattle.dn_net.specs.Chain.{Member}
 use Rattle.dn_net.specs.Names.{name_lt, name_eq, with_name, is_before_first, is_ascending, sorted_names}
 use Rattle.dn_net.proofs.Ascending.{transitive, turned, itself, equal, sorted_ascending, with_ascending}
 use Rattle.dn_net.proofs.Least.{both_true}
-use Rattle.dn_net.proofs.Resolution.{member_left, member_right, member_split, name_same, with_in, with_has, names_in}
+use Rattle.dn_net.proofs.Resolution.{member_left, member_right, member_cases, name_same, with_in, with_has, names_in}
 
 -- the lists have the same names
 abbrev pub Same : List Name → List Name → Type 0
@@ -67,7 +67,7 @@ sorted_same xs ys s =
 pub sorted_push : (xs : List Name) (x : Name) → sorted_names (xs ++ x ∷ []) ≡ with_name x (sorted_names xs)
 sorted_push xs x =
     ascending_same (sorted_names (xs ++ x ∷ [])) (with_name x (sorted_names xs)) (sorted_ascending (xs ++ x ∷ [])) (with_ascending x (sorted_names xs) (sorted_ascending xs)) (λ z. (
-      (λ m. elim (member_split xs (x ∷ []) z ((names_in (xs ++ x ∷ []) z).0 m)) [ inl n ↦ with_has x (sorted_names xs) z (inr ((names_in xs z).1 n)) | inr n ↦ elim n [ inl e ↦ with_has x (sorted_names xs) z (inl e) | inr o ↦ absurd o ] ]),
+      (λ m. elim (member_cases xs (x ∷ []) z ((names_in (xs ++ x ∷ []) z).0 m)) [ inl n ↦ with_has x (sorted_names xs) z (inr ((names_in xs z).1 n)) | inr n ↦ elim n [ inl e ↦ with_has x (sorted_names xs) z (inl e) | inr o ↦ absurd o ] ]),
       (λ m. (names_in (xs ++ x ∷ []) z).1 (elim (with_in x (sorted_names xs) z m) [ inl e ↦ member_right xs (x ∷ []) z (inl e) | inr n ↦ member_left xs (x ∷ []) z ((names_in xs z).0 n) ])),
     ))
 

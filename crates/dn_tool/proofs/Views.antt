@@ -9,10 +9,11 @@ use Rattle.dn_interval.proofs.Listing.{normal_are_listed}
 use Rattle.dn_net.specs.declared.node.Name.{Name}
 use Rattle.dn_net.specs.declared.node.NodeDecl.{NodeDecl}
 use Rattle.dn_net.specs.Chain.{Member}
-use Rattle.dn_net.specs.Names.{name_lt, is_before_first, is_ascending, resolved}
-use Rattle.dn_net.proofs.Ascending.{resolved_ascends}
+use Rattle.dn_net.specs.Decode.{is_accepted, steps, step_limit}
+use Rattle.dn_net.specs.Names.{name_lt, is_before_first, is_ascending, resolved_names}
+use Rattle.dn_net.proofs.Ascending.{end_names_ascend}
 use Rattle.dn_net.proofs.Least.{both_true}
-use Rattle.dn_net.proofs.Resolution.{resolved_is_resolution}
+use Rattle.dn_net.proofs.Resolution.{end_names_are_ends}
 use Rattle.dn_flat.specs.Views.{name_of_end, ResolvesFrom}
 use Rattle.dn_tool.specs.Reply.{end_of, view_rows}
 use Rattle.dn_tool.proofs.Sets.{first_before}
@@ -37,19 +38,19 @@ ends_ascend (x ∷ xs) up = (all_above x xs (λ z m. first_before x z xs up m), 
 
 -- the ends that an address of a node resolves to
 abbrev pub ends_at : List NodeDecl → ℕ → ℕ → List End
-ends_at net n a = map end_of (resolved net (record { node = n; addr = a }))
+ends_at net n a = map end_of (resolved_names net (record { node = n; addr = a }))
 
 resolves_end : (net : List NodeDecl) (n a : ℕ) (y : End) → EndIn y (ends_at net n a) ↔ ResolvesFrom net n a y
 resolves_end net n a y =
     let x : Name = record { node = n; addr = a } in
-    let in_list = end_in (resolved net x) y in
-    let law = resolved_is_resolution net x (name_of_end y) in
+    let in_list = end_in (resolved_names net x) y in
+    let law = end_names_are_ends (steps net) (is_accepted net) step_limit x (name_of_end y) in
     ((λ m. law.0 (in_list.0 m)), (λ r. in_list.1 (law.1 r)))
 
 -- rows that are normal for the resolution are the rows of the view
 pub rows_are_view : (net : List NodeDecl) (n : ℕ) (rows : List Row) → AreNormal (ResolvesFrom net n) rows → map seen_by rows ≡ view_rows net n
 rows_are_view net n rows normal =
-    normal_are_listed (ends_at net n) (λ a. ends_ascend (resolved net (record { node = n; addr = a })) (resolved_ascends net (record { node = n; addr = a }))) rows (record {
+    normal_are_listed (ends_at net n) (λ a. ends_ascend (resolved_names net (record { node = n; addr = a })) (end_names_ascend (steps net) (is_accepted net) step_limit (record { node = n; addr = a }))) rows (record {
       apart = normal.apart;
       exact = λ a y h. ((λ m. (normal.exact a y h).0 ((resolves_end net n a y).0 m)), (λ g. (resolves_end net n a y).1 ((normal.exact a y h).1 g)));
     })
