@@ -10,8 +10,23 @@ use Rattle.dn_net.specs.declared.node.Role.TheVariants.{Plain, Agent, Vectors, U
 use Rattle.dn_net.specs.declared.node.Unit.{Unit as UnitPart}
 use Rattle.dn_net.specs.declared.node.NodeDecl.{NodeDecl}
 use Rattle.dn_net.specs.declared.rules.NodeFault.{NodeFault}
-use Rattle.dn_net.specs.declared.rules.NodeFault.TheVariants.{Range, Overlap, Repeat, VectorSpace}
+use Rattle.dn_net.specs.declared.rules.NodeFault.TheVariants.{Range, Overlap, Repeat, VectorSpace, OutOfMemory}
 use Rattle.dn_net.specs.Decode.{top, within, in_some_block, is_closed}
+
+-- a broken node rule, with the number of the node, and for an overlap with its least address
+pub data BrokenNode : Type 0 where
+  out_of_range : ℕ → BrokenNode
+  overlapping : (node addr : ℕ) → BrokenNode
+  repeating : ℕ → BrokenNode
+  past_space : ℕ → BrokenNode
+
+-- the broken rule that a fault says; allocation failure says none
+abbrev pub node_fault_view : NodeFault → Option BrokenNode
+node_fault_view (Range node) = Some (out_of_range node)
+node_fault_view (Overlap node addr) = Some (overlapping node addr)
+node_fault_view (Repeat node) = Some (repeating node)
+node_fault_view (VectorSpace node) = Some (past_space node)
+node_fault_view OutOfMemory = None
 
 -- Range: a block runs from its first address to its last, at or below the top, and so do the addresses to which it is sent.
 abbrev pub block_in_range : Block → Bool
@@ -96,24 +111,30 @@ accepted_count n = count_below (λ a. in_some_block a n.accepts) (top + 1)
 abbrev pub passes_vector_space : NodeDecl → Bool
 passes_vector_space n = not (is_vectors n.role) || ((nat_le (length n.entries) 0 && not (is_some n.over)) && nat_le (accepted_count n) 4096)
 
+-- the first rule behind the range that the node of this number breaks, where its least overlap is known
+abbrev pub later_fault : ℕ → NodeDecl → Option ℕ → Option BrokenNode
+later_fault number n (Some a) = Some (overlapping number a)
+later_fault number n None =
+    if repeats n then Some (repeating number)
+    else (if passes_vector_space n then None else Some (past_space number))
+
 -- the first rule that the node of this number breaks
-abbrev pub later_fault : ℕ → NodeDecl → Option ℕ → Option NodeFault
-later_fault number n (Some a) = Some (Overlap number a)
-later_fault number n None = if repeats n then Some (Repeat number) else (if passes_vector_space n then None else Some (VectorSpace number))
+abbrev pub fault_of_node : ℕ → NodeDecl → Option BrokenNode
+fault_of_node number n =
+    if is_in_range n then later_fault number n (least_overlap n) else Some (out_of_range number)
 
-abbrev pub fault_of_node : ℕ → NodeDecl → Option NodeFault
-fault_of_node number n = if is_in_range n then later_fault number n (least_overlap n) else Some (Range number)
-
-abbrev pub first_fault : Option NodeFault → Option NodeFault → Option NodeFault
+-- one fault, or another where there is none
+abbrev pub first_fault : Option BrokenNode → Option BrokenNode → Option BrokenNode
 first_fault (Some f) g = Some f
 first_fault None g = g
 
-abbrev pub node_fault_from : ℕ → List NodeDecl → Option NodeFault
+-- the first rule that is broken by nodes of which the first has this number
+abbrev pub node_fault_from : ℕ → List NodeDecl → Option BrokenNode
 node_fault_from number [] = None
 node_fault_from number (n ∷ ns) = first_fault (fault_of_node number n) (node_fault_from (number + 1) ns)
 
 -- the first node rule that is broken, node by node
-abbrev pub node_fault : List NodeDecl → Option NodeFault
+abbrev pub node_fault : List NodeDecl → Option BrokenNode
 node_fault net = node_fault_from 0 net
 
 -- what the node rules leave of a node: its blocks are in range and apart, it names nothing twice, and a vectors node has room

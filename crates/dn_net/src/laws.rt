@@ -1,6 +1,6 @@
 //! Laws on the definitions of the net, each the contract of a function that does nothing.
 
-ghost use Rattle.dn_net.specs.Legal.{LegalBreaksNoRule};
+ghost use Rattle.dn_net.specs.Legal.{AreLimits, LegalBreaksNoRule};
 ghost use Rattle.dn_net.specs.Names.{EndNamesAreEnds, EndNamesAscend, ReachedIsWithin, AfterStepsIsChain};
 ghost use Rattle.dn_net.specs.Rules.{LeastOverlapIsLeast};
 ghost use Rattle.dn_net.specs.WalkRules.{CycleIsLeast, EndlessIsRefused, NoFaultIsShallow, PathIsLeast, ReachIsWithin, ShortestCycleIsShortest};
@@ -65,4 +65,9 @@ pub fn reach_is_within()
 /// A net with each node to which it refers breaks neither a node rule nor a rule on walks exactly where it is legal.
 pub fn legal_breaks_no_rule()
     ensures { LegalBreaksNoRule }
+{}
+
+/// The limits in numbers.
+pub fn limits()
+    ensures { AreLimits }
 {}

@@ -54,7 +54,8 @@ impl Names {
 
     /// The names, ascending by node and then by address.
     pub fn list(&self) -> &[Name]
-        ensures { result.now ≡ self.now }
+        ensures value { result.now ≡ self.now }
+        ensures ascends { IsTrue (is_ascending self.now) }
     {
         self.names.as_slice()
     }

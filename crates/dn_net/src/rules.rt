@@ -1,13 +1,14 @@
 //! The rules that each node of a net keeps.
 
-ghost use Rattle.std.specs.Prelude.{◌≡◌, ◌≢◌, ◌<◌, ◌+◌, ◌&&◌, ◌||◌, None, Some, not, nat_le, OnOk, IfErr, IsTrue, All, length, slice_get, Option};
+ghost use Rattle.std.specs.Prelude.{◌≡◌, ◌<◌, ◌+◌, ◌&&◌, ◌||◌, None, Some, not, nat_le, OnOk, IsTrue, All, length, slice_get, Option};
 ghost use Rattle.std.specs.List.{list_all, list_any};
 ghost use Rattle.std.specs.Option.{option_copied, is_some};
 ghost use Rattle.std.specs.List.Sorted.{IsNonDecreasingBy};
+ghost use Rattle.dn_base.specs.Answers.{Checks};
 ghost use Rattle.dn_net.specs.Decode.{top};
 ghost use Rattle.dn_net.specs.Spans.{is_accepted_in};
 ghost use Rattle.dn_net.specs.declared.node.NodeDecl.{NodeDecl};
-ghost use Rattle.dn_net.specs.Rules.{node_fault, KeepsRules, is_in_range, fault_of_node, is_vectors, count_below, block_in_range, dest_in_range, entry_in_range, same_dest, dests_repeat, ports_repeat, unit_repeats};
+ghost use Rattle.dn_net.specs.Rules.{node_fault, node_fault_view, KeepsRules, fault_of_node, is_vectors, count_below, block_in_range, dest_in_range, entry_in_range, same_dest, dests_repeat, ports_repeat, unit_repeats};
 
 use crate::net::Net;
 use crate::node::{Block, Dest, Entry, Role, TOP, Unit};
@@ -41,10 +42,8 @@ pub enum NodeFault {
 impl Net {
     /// Tests the node rules, node by node.
     pub fn check_nodes(&self, alloc: Global) -> Result<(), NodeFault>
-        ensures ok { OnOk result (node_fault self.now ≡ None) }
+        ensures checks { Checks node_fault_view result (node_fault self.now) }
         ensures rules { OnOk result (All KeepsRules self.now) }
-        ensures in_range { OnOk result (IsTrue (list_all is_in_range self.now)) }
-        ensures fault { IfErr result (λ e. e ≢ NodeFault.OutOfMemory → node_fault self.now ≡ Some e) }
     {
         for node in 0..self.nodes() {
             self.check_node(alloc, node)?;
@@ -55,8 +54,7 @@ impl Net {
     /// Tests the rules of one node.
     fn check_node(&self, alloc: Global, node: u16) -> Result<(), NodeFault>
         requires { node < length self.now }
-        ensures ok { OnOk result ((d : NodeDecl) → slice_get self.now node ≡ Some d → fault_of_node node d ≡ None) }
-        ensures fault { IfErr result (λ e. e ≢ NodeFault.OutOfMemory → (d : NodeDecl) → slice_get self.now node ≡ Some d → fault_of_node node d ≡ Some e) }
+        ensures { (d : NodeDecl) → slice_get self.now node ≡ Some d → Checks node_fault_view result (fault_of_node node d) }
     {
         let accepts = self.accepts(node);
         let entries = self.entries(node);

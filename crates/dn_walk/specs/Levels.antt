@@ -1,14 +1,14 @@
 -- The levels of walks as lists of what is told of each walk.
 use Rattle.std.specs.Prelude.{◌≡◌, ℕ, zero, suc, ◌+◌, ◌-◌, ◌<◌, ◌≤◌, Bool, ◌&&◌, ◌||◌, nat_lt, nat_le, ◌==◌, List, [], ◌∷◌, ◌++◌, map, filter, length, slice_index_or}
 use Rattle.std.specs.List.{flat_map}
+use Rattle.std.specs.Option.{IfSome}
 use Rattle.dn_net.specs.Decode.{top}
 use Rattle.dn_net.specs.Walks.{in_order, greater, lesser_of}
-use Rattle.dn_net.specs.WalkRules.{walk_limit}
+use Rattle.dn_net.specs.WalkRules.{walk_limit, is_wide}
 use Rattle.dn_walk.specs.declared.leg.Leg.{Leg}
 use Rattle.dn_walk.specs.declared.level.Levels.{Levels}
 use Rattle.dn_walk.specs.declared.fault.WalkFault.{WalkFault}
-use Rattle.dn_walk.specs.declared.fault.WalkFault.TheVariants.{Wide, Loop, Deep, OutOfMemory}
-use Rattle.dn_walk.specs.Rows.{Told, told_by_row}
+use Rattle.dn_walk.specs.Rows.{Told, told_by_row, walk_fault_view}
 
 abbrev pub told_last : Told → ℕ
 told_last t = t.base + (t.hi - t.lo)
@@ -60,12 +60,9 @@ pub record AreLevels (legs : List (List Leg)) (l : Levels) : Type 0 where
   pub newest : map told_by_row l.newest.items ≡ told_level legs (length l.sorted.items)
   pub room : l.room + length (told_walks legs (length l.sorted.items)) ≡ walk_limit
 
--- want of memory, or `Wide`, and then the fact holds
+-- the rule that a fault says is `Wide`, and then the fact holds
 abbrev pub IsWideWhere : Type 0 → WalkFault → Type 0
-IsWideWhere P Wide = P
-IsWideWhere P (Loop cycle) = ⊥
-IsWideWhere P (Deep path) = ⊥
-IsWideWhere P OutOfMemory = Unit {0}
+IsWideWhere P fault = IfSome (walk_fault_view fault) (λ broken. (broken ≡ is_wide) × P)
 
 -- a row of a net of so many nodes, with at most so many choices
 pub record IsRowOf (count most : ℕ) (t : Told) : Type 0 where

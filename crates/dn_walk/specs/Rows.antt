@@ -1,5 +1,5 @@
 -- What the rows of the code are: the live walks of a net, without their choices.
-use Rattle.std.specs.Prelude.{◌≡◌, ℕ, List, map, length, Option, Some}
+use Rattle.std.specs.Prelude.{◌≡◌, ℕ, List, map, length, Option, Some, None}
 use Rattle.dn_net.specs.declared.node.NodeDecl.{NodeDecl}
 use Rattle.dn_net.specs.Decode.{step_limit}
 use Rattle.dn_net.specs.Legal.{IsLegalNet}
@@ -18,9 +18,11 @@ pub record Told : Type 0 where
   pub base : ℕ
   pub len : ℕ
 
+-- what a row of the code tells
 abbrev pub told_by_row : WalkRow → Told
 told_by_row r = record { start = r.start; lo = r.span.lo; hi = r.span.hi; end = r.end; base = r.base; len = r.len }
 
+-- what a walk tells, without its choices
 abbrev pub told_by_walk : Walk → Told
 told_by_walk w = record { start = w.start; lo = w.span.lo; hi = w.span.hi; end = w.to.node; base = w.to.addr; len = length w.choices }
 
@@ -29,9 +31,9 @@ pub record AreWalksOf (net : List NodeDecl) (rows : List WalkRow) : Type 0 where
   pub legal : IsLegalNet net
   pub same : map told_by_row rows ≡ map told_by_walk (live_walks net step_limit)
 
--- the fault is want of memory, or the broken rule with what it carries
-abbrev pub IsBroken : Option Broken → WalkFault → Type 0
-IsBroken broken Wide = broken ≡ Some is_wide
-IsBroken broken (Loop cycle) = broken ≡ Some (has_loop cycle)
-IsBroken broken (Deep path) = broken ≡ Some (is_deep path)
-IsBroken broken OutOfMemory = Unit {0}
+-- the broken rule that a fault says, with what it carries; allocation failure says none
+abbrev pub walk_fault_view : WalkFault → Option Broken
+walk_fault_view Wide = Some is_wide
+walk_fault_view (Loop cycle) = Some (has_loop cycle)
+walk_fault_view (Deep path) = Some (is_deep path)
+walk_fault_view OutOfMemory = None

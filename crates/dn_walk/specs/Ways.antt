@@ -6,8 +6,6 @@ use Rattle.dn_net.specs.Names.{name_lt, sorted_names}
 use Rattle.dn_net.specs.WalkRules.{first_of, way_by}
 use Rattle.dn_net.specs.declared.node.NodeDecl.{NodeDecl}
 use Rattle.dn_net.specs.Decode.{steps}
-use Rattle.dn_walk.specs.declared.fault.WalkFault.{WalkFault}
-use Rattle.dn_walk.specs.declared.fault.WalkFault.TheVariants.{Wide, Loop, Deep, OutOfMemory}
 use Rattle.dn_walk.specs.declared.way.Goal.{Goal}
 use Rattle.dn_walk.specs.declared.way.Goal.TheVariants.{Anywhere, To}
 use Rattle.dn_walk.specs.Rows.{Told}
@@ -54,17 +52,3 @@ told_cycle net sorted newest = option_map (λ x. x ∷ way_by (steps net) (level
 
 abbrev pub told_path : List NodeDecl → List (List Told) → List Told → Option (List Name)
 told_path net sorted newest = option_map (λ x. x ∷ way_by (steps net) (levels_lead Anywhere sorted) (length sorted) x) (least_of (start_names false newest))
-
--- want of memory, or the names of the cycle
-abbrev pub IsLoopBy : Option (List Name) → WalkFault → Type 0
-IsLoopBy cycle Wide = ⊥
-IsLoopBy cycle (Loop names) = cycle ≡ Some names
-IsLoopBy cycle (Deep names) = ⊥
-IsLoopBy cycle OutOfMemory = Unit {0}
-
--- want of memory, or the names of the path
-abbrev pub IsDeepBy : Option (List Name) → WalkFault → Type 0
-IsDeepBy path Wide = ⊥
-IsDeepBy path (Loop names) = ⊥
-IsDeepBy path (Deep names) = path ≡ Some names
-IsDeepBy path OutOfMemory = Unit {0}

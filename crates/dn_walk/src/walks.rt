@@ -1,16 +1,17 @@
 //! The table of the live walks of a net.
 
-ghost use Rattle.std.specs.Prelude.{◌≡◌, ◌<◌, ◌≤◌, ◌-◌, List, map, length, IfOk, IfErr, OnOk, IsTrue, None};
+ghost use Rattle.std.specs.Prelude.{◌≡◌, ◌<◌, ◌≤◌, ◌-◌, List, map, length, IfOk, option_map};
 ghost use Rattle.std.specs.List.{All};
 ghost use Rattle.std.specs.List.Sorted.{IsNonDecreasingBy};
+ghost use Rattle.dn_base.specs.Answers.{Checks};
 ghost use Rattle.dn_net.specs.Rules.{KeepsNodeRules};
-ghost use Rattle.dn_net.specs.WalkRules.{walk_fault};
+ghost use Rattle.dn_net.specs.WalkRules.{walk_fault, has_loop, is_deep};
 ghost use Rattle.dn_walk.specs.declared.leg.Leg.{Leg};
 ghost use Rattle.dn_walk.specs.declared.level.TheConstants.{WALK_LIMIT};
 ghost use Rattle.dn_walk.specs.declared.walks.WalkRow.{WalkRow};
-ghost use Rattle.dn_walk.specs.Rows.{AreWalksOf, IsBroken, told_by_row};
+ghost use Rattle.dn_walk.specs.Rows.{AreWalksOf, walk_fault_view, told_by_row};
 ghost use Rattle.dn_walk.specs.Levels.{AreLevels, told_walks};
-ghost use Rattle.dn_walk.specs.Ways.{told_cycle, told_path, IsLoopBy, IsDeepBy};
+ghost use Rattle.dn_walk.specs.Ways.{told_cycle, told_path};
 
 use crate::fault::WalkFault;
 use crate::leg::net_legs;
@@ -66,9 +67,8 @@ impl WalkTable {
 /// The live walks of a net, or the first rule on walks that it breaks.
 pub fn walks(alloc: Global, net: &Net) -> Result<WalkTable, WalkFault>
     requires rules { KeepsNodeRules net.now }
-    ensures legal { IfOk result (λ table. walk_fault net.now ≡ None) }
+    ensures checks { Checks walk_fault_view result (walk_fault net.now) }
     ensures rows { IfOk result (λ table. AreWalksOf net.now table) }
-    ensures fault { IfErr result (λ e. IsBroken (walk_fault net.now) e) }
 {
     net.facts();
     let legs = net_legs(alloc, net)?;
@@ -87,8 +87,8 @@ fn check_cycles(alloc: Global, net: &Net, levels: &Levels) -> Result<(), WalkFau
     requires rules { KeepsNodeRules net.now }
     requires there { All (λ (r : WalkRow). r.start < length net.now) levels.now.newest.items }
     requires sorted { All (λ level. IsNonDecreasingBy (λ (r : WalkRow). r.start) level) levels.now.sorted.items }
-    ensures ok { OnOk result (told_cycle net.now (map (map told_by_row) levels.now.sorted.items) (map told_by_row levels.now.newest.items) ≡ None) }
-    ensures err { IfErr result (IsLoopBy (told_cycle net.now (map (map told_by_row) levels.now.sorted.items) (map told_by_row levels.now.newest.items))) }
+    ensures { Checks walk_fault_view result (option_map has_loop
+        (told_cycle net.now (map (map told_by_row) levels.now.sorted.items) (map told_by_row levels.now.newest.items))) }
 {
     let Some(first) = least_start(&levels.newest, true) else {
         return Ok(());
@@ -102,8 +102,8 @@ fn check_depth(alloc: Global, net: &Net, levels: &Levels) -> Result<(), WalkFaul
     requires rules { KeepsNodeRules net.now }
     requires there { All (λ (r : WalkRow). r.start < length net.now) levels.now.newest.items }
     requires sorted { All (λ level. IsNonDecreasingBy (λ (r : WalkRow). r.start) level) levels.now.sorted.items }
-    ensures ok { OnOk result (told_path net.now (map (map told_by_row) levels.now.sorted.items) (map told_by_row levels.now.newest.items) ≡ None) }
-    ensures err { IfErr result (IsDeepBy (told_path net.now (map (map told_by_row) levels.now.sorted.items) (map told_by_row levels.now.newest.items))) }
+    ensures { Checks walk_fault_view result (option_map is_deep
+        (told_path net.now (map (map told_by_row) levels.now.sorted.items) (map told_by_row levels.now.newest.items))) }
 {
     let Some(first) = least_start(&levels.newest, false) else {
         return Ok(());
