@@ -1,5 +1,5 @@
 -- The nodes of the names to which steps lead, and of those that a broken rule names, are there.
-use Rattle.std.proofs.Common.{◌≡◌, ◌∙◌, ap, sym, subst, refl, arith, ℕ, zero, suc, ◌-◌, ◌<◌, if◌then◌else◌, Bool, true, false, ◌&&◌, nat_le, nat_lt, List, [], ◌∷◌, ◌++◌, map, filter, length, slice_get, Option, Some, None, option_map, IsTrue, lt-ltb}
+use Rattle.std.proofs.Common.{◌≡◌, ◌∙◌, ap, sym, subst, refl, arith, ℕ, zero, suc, ◌-◌, ◌<◌, if◌then◌else◌, Bool, true, false, ◌&&◌, nat_le, nat_lt, List, [], ◌∷◌, ◌++◌, map, filter, length, slice_get, Option, IfSome, Some, None, option_map, IsTrue, lt-ltb}
 use Rattle.std.proofs.lemmas.Option.{none-some, same_Some}
 use Rattle.std.specs.List.{list_all}
 use Rattle.dn_net.specs.declared.node.Name.{Name}
@@ -14,11 +14,8 @@ use Rattle.dn_net.proofs.Latest.{sent_by}
 use Rattle.dn_net.proofs.Least.{true_both}
 use Rattle.dn_net.proofs.Legal.{first_part}
 use Rattle.dn_net.proofs.Places.{both, list_all-at}
-use Rattle.dn_walk.specs.declared.fault.WalkFault.{WalkFault}
-use Rattle.dn_walk.specs.declared.fault.WalkFault.TheVariants.{Wide, Loop, Deep, OutOfMemory}
-use Rattle.dn_walk.specs.Rows.{IsBroken}
 use Rattle.dn_print.specs.Names.{names_exist}
-use Rattle.dn_tool.specs.Refused.{IsWalkFaultWithin}
+use Rattle.dn_tool.specs.Refused.{AreNodesWithin}
 
 exist_append : (count : ℕ) (xs ys : List Name) → IsTrue (names_exist count xs) → IsTrue (names_exist count ys) → IsTrue (names_exist count (xs ++ ys))
 exist_append count [] ys h k = k
@@ -155,35 +152,27 @@ cycle_exist net closed c = go (least_name net (comes_back net c)) refl
     go None at = refl
     go (Some x) at = true_both _ _ (least_name_there net (comes_back net c) x at) (way_exist net closed (comes_to net x) c x)
 
--- the names that a broken rule carries are in nodes that are there
-abbrev pub BrokenExists : ℕ → Broken → Type 0
-BrokenExists count is_wide = Unit {0}
-BrokenExists count (has_loop xs) = IsTrue (names_exist count xs)
-BrokenExists count (is_deep xs) = IsTrue (names_exist count xs)
-
-path_exist : (net : List NodeDecl) → IsTrue (is_closed net) → (k : ℕ) (b : Broken) → option_map is_deep (path_names net k) ≡ Some b → BrokenExists (length net) b
+path_exist : (net : List NodeDecl) → IsTrue (is_closed net) → (k : ℕ) (b : Broken) → option_map is_deep (path_names net k) ≡ Some b → AreNodesWithin (length net) b
 path_exist net closed k b e = go (least_name net (goes_on net k)) refl e
   where
-    go : (o : Option Name) → least_name net (goes_on net k) ≡ o → option_map is_deep (path_from net k o) ≡ Some b → BrokenExists (length net) b
+    go : (o : Option Name) → least_name net (goes_on net k) ≡ o → option_map is_deep (path_from net k o) ≡ Some b → AreNodesWithin (length net) b
     go None at f = absurd (none-some b f)
     go (Some x) at f =
         let xs : List Name = x ∷ way_by (steps net) (goes_on net) k x in
-        subst (BrokenExists (length net)) (same_Some (is_deep xs) b f) (true_both _ _ (least_name_there net (goes_on net k) x at) (way_exist net closed (goes_on net) k x))
+        subst (AreNodesWithin (length net)) (same_Some (is_deep xs) b f) (true_both _ _ (least_name_there net (goes_on net k) x at) (way_exist net closed (goes_on net) k x))
 
-endless_exist : (net : List NodeDecl) → IsTrue (is_closed net) → (o : Option ℕ) (b : Broken) → cycle_or_path net o ≡ Some b → BrokenExists (length net) b
-endless_exist net closed (Some c) b e = subst (BrokenExists (length net)) (same_Some (has_loop (cycle_names net c)) b e) (cycle_exist net closed c)
+endless_exist : (net : List NodeDecl) → IsTrue (is_closed net) → (o : Option ℕ) (b : Broken) → cycle_or_path net o ≡ Some b → AreNodesWithin (length net) b
+endless_exist net closed (Some c) b e = subst (AreNodesWithin (length net)) (same_Some (has_loop (cycle_names net c)) b e) (cycle_exist net closed c)
 endless_exist net closed None b e = path_exist net closed step_limit b e
 
-walk_exist : (net : List NodeDecl) → IsTrue (is_closed net) → (b : Broken) → walk_fault net ≡ Some b → BrokenExists (length net) b
+walk_exist : (net : List NodeDecl) → IsTrue (is_closed net) → (b : Broken) → walk_fault net ≡ Some b → AreNodesWithin (length net) b
 walk_exist net closed b e = go (is_wide_net net) (sym (endless_fault_is net) ∙ sym (first_part net) ∙ e)
   where
-    go : (w : Bool) → (if w then Some is_wide else cycle_or_path net (shortest_cycle net)) ≡ Some b → BrokenExists (length net) b
-    go true f = subst (BrokenExists (length net)) (same_Some is_wide b f) tt
+    go : (w : Bool) → (if w then Some is_wide else cycle_or_path net (shortest_cycle net)) ≡ Some b → AreNodesWithin (length net) b
+    go true f = subst (AreNodesWithin (length net)) (same_Some is_wide b f) tt
     go false f = endless_exist net closed (shortest_cycle net) b f
 
--- the nodes that the answer of `walks` names are there
-pub walk_fault_within : (net : List NodeDecl) (e : WalkFault) → IsTrue (is_closed net) → IsBroken (walk_fault net) e → IsWalkFaultWithin (length net) e
-walk_fault_within net Wide closed h = tt
-walk_fault_within net (Loop cycle) closed h = walk_exist net closed (has_loop cycle) h
-walk_fault_within net (Deep path) closed h = walk_exist net closed (is_deep path) h
-walk_fault_within net OutOfMemory closed h = tt
+-- the nodes that the broken rule names are there
+pub walk_fault_within : (net : List NodeDecl) (v : Option Broken) → IsTrue (is_closed net) → IfSome v (λ b. walk_fault net ≡ Some b) → IfSome v (AreNodesWithin (length net))
+walk_fault_within net None closed h = tt
+walk_fault_within net (Some b) closed h = walk_exist net closed b h
