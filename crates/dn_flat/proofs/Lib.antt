@@ -1,6 +1,6 @@
-pub mod Blocks
 pub mod Cutting
 pub mod Lengths
 pub mod Resolving
+pub mod Rows
 pub mod Stretch
 pub mod Tables

@@ -8,7 +8,7 @@ use Rattle.dn_interval.specs.declared.row.Row.{Row}
 use Rattle.dn_interval.specs.declared.row.Seg.{Seg}
 use Rattle.dn_interval.specs.declared.span.TheConstants.{TOP}
 use Rattle.dn_interval.specs.Spans.{in_span}
-use Rattle.dn_interval.specs.Rows.{Member as Named, SegmentsGive, GivenBy, AreNormal}
+use Rattle.dn_interval.specs.Rows.{Member as Named, SegmentsGive, GivenBy, AreNormal, ends_within}
 use Rattle.dn_interval.specs.Strands.{segs_give}
 use Rattle.dn_interval.proofs.Membership.{or_left, or_right, in_from, lo_of, hi_of}
 use Rattle.dn_interval.proofs.Names.{segs_from, segs_to}
@@ -18,15 +18,16 @@ use Rattle.dn_net.specs.declared.node.NodeDecl.{NodeDecl}
 use Rattle.dn_net.specs.Chain.{Member, Chain, ReachesWithin}
 use Rattle.dn_net.specs.Decode.{within, step_limit, Step, is_accepted, is_accepted_at, is_stop, is_stop_at, unit_of}
 use Rattle.dn_net.specs.Walks.{Choice, Follows, Walk, live_walks, moved_name}
-use Rattle.dn_net.specs.WalkRules.{IsChecked, IsListed}
+use Rattle.dn_net.specs.WalkRules.{IsListed}
+use Rattle.dn_net.specs.Rules.{KeepsNodeRules}
 use Rattle.dn_net.proofs.Least.{within_from, within_to}
 use Rattle.dn_walk.specs.declared.walks.WalkRow.{WalkRow}
-use Rattle.dn_walk.specs.Rows.{told_by_row, told_by_walk, AreWalksOf}
-use Rattle.dn_walk.proofs.Choices.{chain_is_walk}
-use Rattle.dn_walk.proofs.Listed.{live_walks_are_all}
+use Rattle.dn_walk.specs.Rows.{told_by_row, told_by_walk}
+use Rattle.dn_net.proofs.Choices.{chain_is_walk}
+use Rattle.dn_net.proofs.Listed.{live_walks_are_all}
 use Rattle.dn_flat.specs.Found.{comes, stays, goes_by}
-use Rattle.dn_flat.specs.Views.{name_of_end, ends_within}
-use Rattle.dn_flat.proofs.Tables.{limit_is, same_member, any_member, member_any}
+use Rattle.dn_flat.specs.Views.{name_of_end}
+use Rattle.dn_flat.proofs.Tables.{AreRowsOf, limit_is, same_member, any_member, member_any}
 
 -- what the tests of a row say
 
@@ -72,7 +73,7 @@ walk_of_come r w a y e c =
     let same : r.base + (a - r.span.lo) ≡ w.to.addr + (a - w.span.lo) = λ i. base i + (a - lo i) in
     (within_from a w.span (omega arith) (omega arith), name_same w.to.node y.node (w.to.addr + (a - w.span.lo)) y.base (sym end ∙ c.node) (sym same ∙ c.base))
 
-module _ (net : List NodeDecl) (checked : IsChecked net) (rows : List WalkRow) (are : AreWalksOf net rows) (node a : ℕ) (y : End) (low : a ≤ TOP) where
+module _ (net : List NodeDecl) (checked : KeepsNodeRules net) (rows : List WalkRow) (are : AreRowsOf net rows) (node a : ℕ) (y : End) (low : a ≤ TOP) where
   abbrev here : Name
   here = record { node = node; addr = a }
 
@@ -127,7 +128,7 @@ module _ (net : List NodeDecl) (checked : IsChecked net) (rows : List WalkRow) (
           (length w.0.choices, all.2, (chain_is_walk net checked (length w.0.choices) here (name_of_end y)).1 (w.0.choices, refl, g))
 
 -- the rows of segments that give what is reached and passes a test
-pub rows_of_reached : (net : List NodeDecl) → IsChecked net → (table : List WalkRow) → AreWalksOf net table → (node : ℕ) (ends : End → Bool) (segs : List Seg) (rows : List Row) → ((a : ℕ) (y : End) → segs_give segs a y ≡ ((stays node a y || goes_by table 66 node a y) && ends y)) → AreNormal (SegmentsGive segs) rows → AreNormal (λ a y. IsTrue (ends y) × ReachesWithin (Step net) step_limit (record { node = node; addr = a }) (name_of_end y)) rows
+pub rows_of_reached : (net : List NodeDecl) → KeepsNodeRules net → (table : List WalkRow) → AreRowsOf net table → (node : ℕ) (ends : End → Bool) (segs : List Seg) (rows : List Row) → ((a : ℕ) (y : End) → segs_give segs a y ≡ ((stays node a y || goes_by table 66 node a y) && ends y)) → AreNormal (SegmentsGive segs) rows → AreNormal (λ a y. IsTrue (ends y) × ReachesWithin (Step net) step_limit (record { node = node; addr = a }) (name_of_end y)) rows
 rows_of_reached net checked table are node ends segs rows gives n = normal_like (SegmentsGive segs) (λ a y. IsTrue (ends y) × ReachesWithin (Step net) step_limit (record { node = node; addr = a }) (name_of_end y)) rows (λ a y t. (
   (λ m.
       let p = and_parts (stays node a y || goes_by table 66 node a y) (ends y) (sym (gives a y) ∙ segs_from segs a y m) in

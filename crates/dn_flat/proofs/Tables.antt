@@ -9,20 +9,24 @@ use Rattle.dn_net.specs.declared.node.NodeDecl.{NodeDecl}
 use Rattle.dn_net.specs.Chain.{Member}
 use Rattle.dn_net.specs.Decode.{top, step_limit}
 use Rattle.dn_net.specs.Walks.{Walk, live_walks, starts_before, Precedes}
-use Rattle.dn_net.specs.WalkRules.{IsChecked}
+use Rattle.dn_net.specs.Rules.{KeepsNodeRules}
 use Rattle.dn_walk.specs.declared.walks.WalkRow.{WalkRow}
-use Rattle.dn_walk.specs.Rows.{told_by_row, told_by_walk, AreWalksOf}
-use Rattle.dn_walk.proofs.Levels.{IsRow, level_is_row}
-use Rattle.dn_walk.proofs.Listed.{level_of_listed}
-use Rattle.dn_walk.proofs.Members.{some_same}
-use Rattle.dn_walk.proofs.Order.{live_walks_are_in_order}
-use Rattle.dn_walk.proofs.Pairs.{member_at}
+use Rattle.dn_walk.specs.Rows.{told_by_row, told_by_walk}
+use Rattle.dn_net.proofs.Levels.{IsRow, level_is_row}
+use Rattle.dn_net.proofs.Listed.{level_of_listed}
+use Rattle.dn_net.proofs.Members.{some_same}
+use Rattle.dn_net.proofs.Order.{live_walks_are_in_order}
+use Rattle.dn_net.proofs.Pairs.{member_at}
 use Rattle.dn_flat.specs.Found.{comes_first, AreSorted, IsLed}
 use Rattle.dn_flat.proofs.Stretch.{first_means, first_from}
 
 pub limit_is : step_limit ≡ 65
 unfolding step_limit
 limit_is = refl
+
+-- the rows tell what the live walks tell
+abbrev pub AreRowsOf : List NodeDecl → List WalkRow → Type 0
+AreRowsOf net rows = map told_by_row rows ≡ map told_by_walk (live_walks net step_limit)
 
 -- two lists that tell the same tell the same at each place
 
@@ -83,7 +87,7 @@ earlier_first len start x y o e = go o (first_means len start y e)
     go (inr a) (inl b) = first_from len start x (inl (omega (arith, a.0)))
     go (inr a) (inr b) = first_from len start x (inr (a.0 ∙ b.0, omega (arith, a.1, b.1)))
 
-module _ (net : List NodeDecl) (checked : IsChecked net) (rows : List WalkRow) (are : AreWalksOf net rows) where
+module _ (net : List NodeDecl) (checked : KeepsNodeRules net) (rows : List WalkRow) (are : AreRowsOf net rows) where
   pub sorted : AreSorted rows
   sorted len start i j d l h e = elim (cases_order i j) [
     | inl s ↦ subst (λ n. comes_first len start (get_or rows n d) ≡ true) (sym s) e
