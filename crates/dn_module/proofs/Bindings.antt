@@ -8,7 +8,7 @@ use Rattle.std.specs.Str.{bytes_eq}
 use Rattle.dn_parse.specs.declared.syntax.Param.{Param as CodeParam}
 use Rattle.dn_parse.specs.declared.syntax.Arg.{Arg as CodeArg}
 use Rattle.dn_parse.specs.Tree.{Param, number_param, node_param, Arg, number_arg, node_arg, Part, Items}
-use Rattle.dn_parse.specs.Seen.{param_of, arg_of}
+use Rattle.dn_parse.specs.Views.{param_view, arg_view}
 use Rattle.dn_module.specs.declared.fault.ExpandFault.{ExpandFault}
 use Rattle.dn_module.specs.declared.fault.ExpandFault.TheVariants.{Arguments}
 use Rattle.dn_module.specs.declared.values.Flaw.TheVariants.{Unknown, Range}
@@ -54,8 +54,8 @@ fit_in r (p ∷ ps) (x ∷ xs) = λ i. cond (fits_in r p x i) (fit_in r ps xs i)
 
 -- one parameter and its argument
 pub fit_next : (ps : List CodeParam) (xs : List CodeArg) (i : ℕ) (p : CodeParam) (x : CodeArg) → i < length ps → i < length xs → p ≡ get_or ps i p → x ≡ get_or xs i x
-    → fit (map param_of (drop i ps)) (map arg_of (drop i xs)) ≡ cond (fits_param (param_of p) (arg_of x)) (fit (map param_of (drop (i + 1) ps)) (map arg_of (drop (i + 1) xs))) false
-fit_next ps xs i p x hp hx ep ex = λ j. fit (map param_of (drop_next ps i p hp ep j)) (map arg_of (drop_next xs i x hx ex j))
+    → fit (map param_view (drop i ps)) (map arg_view (drop i xs)) ≡ cond (fits_param (param_view p) (arg_view x)) (fit (map param_view (drop (i + 1) ps)) (map arg_view (drop (i + 1) xs))) false
+fit_next ps xs i p x hp hx ep ex = λ j. fit (map param_view (drop_next ps i p hp ep j)) (map arg_view (drop_next xs i x hx ex j))
 
 abbrev pub Pairs : Type 0
 Pairs = List (List ℕ × ℕ) × List (List ℕ × List ℕ)
@@ -207,19 +207,19 @@ flaw_at line OutOfMemory made f whole e is = tt
 
 -- the words of parameters, and arguments with what is replaced in them
 abbrev pub words_of : List CodeParam → List (List ℕ)
-words_of ps = map word_of_param (map param_of ps)
+words_of ps = map word_of_param (map param_view ps)
 
 abbrev pub args_in : Replacement → List CodeArg → List Arg
-args_in r xs = map (in_arg r) (map arg_of xs)
+args_in r xs = map (in_arg r) (map arg_view xs)
 
 -- a step of the loop over parameters and their arguments
 module _ (r : Replacement) (ps : List CodeParam) (xs : List CodeArg) (i : ℕ) (p : CodeParam) (x : CodeArg) (hp : i < length ps) (hx : i < length xs) (ep : p ≡ get_or ps i p) (ex : x ≡ get_or xs i x) (given : Pairs) where
   -- the word, and its argument with what is replaced in it
   abbrev word_here : List ℕ
-  word_here = word_of_param (param_of p)
+  word_here = word_of_param (param_view p)
 
   abbrev arg_here : Arg
-  arg_here = in_arg r (arg_of x)
+  arg_here = in_arg r (arg_view x)
 
   words_next : words_of (drop i ps) ≡ word_here ∷ words_of (drop (i + 1) ps)
   words_next = ap words_of (drop_next ps i p hp ep)

@@ -6,7 +6,7 @@ use Rattle.std.proofs.lemmas.List.{length-map, map_more, map-append, take-append
 use Rattle.std.specs.List.{prefix_len, list_any}
 use Rattle.std.specs.Str.{bytes_eq}
 use Rattle.dn_parse.specs.declared.syntax.Param.{Param as CodeParam}
-use Rattle.dn_parse.specs.Seen.{param_of}
+use Rattle.dn_parse.specs.Views.{param_view}
 use Rattle.dn_module.specs.declared.modules.Module.{Module as CodeModule}
 use Rattle.dn_module.specs.Expand.{Module, Visibility, outside, within_module, module_from, usable, has_twice, is_module, word_of_param, with_module}
 use Rattle.dn_module.specs.declared.fault.ExpandFault.TheVariants.{Duplicate}
@@ -124,28 +124,28 @@ is_once false h = refl
 
 -- the words of parameters
 abbrev pub param_words : List CodeParam → List (List ℕ)
-param_words ps = map (λ p. word_of_param (param_of p)) ps
+param_words ps = map (λ p. word_of_param (param_view p)) ps
 
-pub words_are : (ps : List CodeParam) → map word_of_param (map param_of ps) ≡ param_words ps
+pub words_are : (ps : List CodeParam) → map word_of_param (map param_view ps) ≡ param_words ps
 words_are [] = refl
-words_are (p ∷ ps) = ap (λ l. word_of_param (param_of p) ∷ l) (words_are ps)
+words_are (p ∷ ps) = ap (λ l. word_of_param (param_view p) ∷ l) (words_are ps)
 
-words_more : (ps : List CodeParam) (i : ℕ) (p : CodeParam) → i < length ps → p ≡ get_or ps i p → has_twice (param_words (take (i + 1) ps)) ≡ (is_known (param_words (take i ps)) (word_of_param (param_of p)) || has_twice (param_words (take i ps)))
+words_more : (ps : List CodeParam) (i : ℕ) (p : CodeParam) → i < length ps → p ≡ get_or ps i p → has_twice (param_words (take (i + 1) ps)) ≡ (is_known (param_words (take i ps)) (word_of_param (param_view p)) || has_twice (param_words (take i ps)))
 words_more ps i p h e =
-    ap has_twice (map_more (λ (q : CodeParam). word_of_param (param_of q)) ps i p h)
-    ∙ twice-push (param_words (take i ps)) (word_of_param (param_of (get_or ps i p)))
-    ∙ ap (λ (q : CodeParam). is_known (param_words (take i ps)) (word_of_param (param_of q)) || has_twice (param_words (take i ps))) (sym e)
+    ap has_twice (map_more (λ (q : CodeParam). word_of_param (param_view q)) ps i p h)
+    ∙ twice-push (param_words (take i ps)) (word_of_param (param_view (get_or ps i p)))
+    ∙ ap (λ (q : CodeParam). is_known (param_words (take i ps)) (word_of_param (param_view q)) || has_twice (param_words (take i ps))) (sym e)
 
 -- a word that was there before comes twice
-pub word_met : (ps : List CodeParam) (i : ℕ) (p : CodeParam) → i < length ps → p ≡ get_or ps i p → is_known (param_words (take i ps)) (word_of_param (param_of p)) ≡ true → has_twice (param_words ps) ≡ true
+pub word_met : (ps : List CodeParam) (i : ℕ) (p : CodeParam) → i < length ps → p ≡ get_or ps i p → is_known (param_words (take i ps)) (word_of_param (param_view p)) ≡ true → has_twice (param_words ps) ≡ true
 word_met ps i p h e k =
     let front : has_twice (param_words (take (i + 1) ps)) ≡ true = words_more ps i p h e ∙ ap (λ b. b || has_twice (param_words (take i ps))) k in
     let parts : param_words ps ≡ param_words (take (i + 1) ps) ++ param_words (drop (i + 1) ps) =
-    ap param_words (sym (take-append-drop (i + 1) ps)) ∙ map-append (λ (q : CodeParam). word_of_param (param_of q)) (take (i + 1) ps) (drop (i + 1) ps) in
+    ap param_words (sym (take-append-drop (i + 1) ps)) ∙ map-append (λ (q : CodeParam). word_of_param (param_view q)) (take (i + 1) ps) (drop (i + 1) ps) in
     ap has_twice parts ∙ twice-append (param_words (take (i + 1) ps)) (param_words (drop (i + 1) ps)) front
 
 -- one that was not there comes once
-pub word_new : (ps : List CodeParam) (i : ℕ) (p : CodeParam) → i < length ps → p ≡ get_or ps i p → is_known (param_words (take i ps)) (word_of_param (param_of p)) ≡ false → has_twice (param_words (take i ps)) ≡ false → has_twice (param_words (take (i + 1) ps)) ≡ false
+pub word_new : (ps : List CodeParam) (i : ℕ) (p : CodeParam) → i < length ps → p ≡ get_or ps i p → is_known (param_words (take i ps)) (word_of_param (param_view p)) ≡ false → has_twice (param_words (take i ps)) ≡ false → has_twice (param_words (take (i + 1) ps)) ≡ false
 word_new ps i p h e k l = words_more ps i p h e ∙ ap (λ b. b || has_twice (param_words (take i ps))) k ∙ l
 
 -- a word that was put among others, by the answer of the set that keeps them
@@ -169,12 +169,12 @@ module _ {S : Type 0} (text : S → List ℕ) (keys : List S) (key : S) where
     go false e is = ap (map text) is ∙ map-append text keys (key ∷ [])
 
 -- the words of the parameters so far, and one more
-pub words_put : (ps : List CodeParam) (i : ℕ) (p : CodeParam) → i < length ps → p ≡ get_or ps i p → param_words (take i ps) ++ word_of_param (param_of p) ∷ [] ≡ param_words (take (i + 1) ps)
+pub words_put : (ps : List CodeParam) (i : ℕ) (p : CodeParam) → i < length ps → p ≡ get_or ps i p → param_words (take i ps) ++ word_of_param (param_view p) ∷ [] ≡ param_words (take (i + 1) ps)
 words_put ps i p h e =
-    ap (λ (q : CodeParam). param_words (take i ps) ++ word_of_param (param_of q) ∷ []) e
-    ∙ sym (map_more (λ (q : CodeParam). word_of_param (param_of q)) ps i p h)
+    ap (λ (q : CodeParam). param_words (take i ps) ++ word_of_param (param_view q) ∷ []) e
+    ∙ sym (map_more (λ (q : CodeParam). word_of_param (param_view q)) ps i p h)
 
-pub words_all : (ps : List CodeParam) (i : ℕ) → length ps ≤ i → param_words (take i ps) ≡ map word_of_param (map param_of ps)
+pub words_all : (ps : List CodeParam) (i : ℕ) → length ps ≤ i → param_words (take i ps) ≡ map word_of_param (map param_view ps)
 words_all ps i h = ap param_words (take_all i ps h) ∙ sym (words_are ps)
 
 -- one more module: the limit, what is there already, and what becomes of it

@@ -2,7 +2,7 @@
 use Rattle.std.specs.Prelude.{ℕ, suc, ◌+◌, Bool, true, if◌then◌else◌, nat_lt, List, [], ◌∷◌, ◌++◌, map, reverse, drop, Option, Some, None, Result, Ok}
 use Rattle.dn_parse.specs.declared.syntax.Stmt.{Stmt}
 use Rattle.dn_parse.specs.Tree.{Items, items, Arg}
-use Rattle.dn_parse.specs.Seen.{item_of, param_of}
+use Rattle.dn_parse.specs.Views.{item_view, param_view}
 use Rattle.dn_module.specs.declared.modules.Module.{Module as CodeModule}
 use Rattle.dn_module.specs.declared.modules.Modules.{Modules}
 use Rattle.dn_module.specs.declared.modules.Visible.{Visible}
@@ -26,10 +26,10 @@ sees outside number = true
 sees (within_module before) number = nat_lt number before
 
 abbrev pub seen_body : List Stmt → Items
-seen_body body = items (map item_of body)
+seen_body body = items (map item_view body)
 
 abbrev pub module_seen : CodeModule → Module
-module_seen m = record { title = m.title.now; params = map param_of m.params.now; body = seen_body m.body.now }
+module_seen m = record { title = m.title.now; params = map param_view m.params.now; body = seen_body m.body.now }
 
 abbrev pub modules_seen : Modules → List Module
 modules_seen ms = map module_seen ms.modules.items
@@ -54,7 +54,7 @@ abbrev pub turn_works : Visibility → Replacement → Turns → List Work
 turn_works s r t = turn_of s t.line t.variable.now t.next t.last (loop_body r t)
 
 abbrev pub work_seen : Visibility → Replacement → CodeWork → Work
-work_seen s r (Statement i) = statement s (in_item r (item_of i.now))
+work_seen s r (Statement i) = statement s (in_item r (item_view i.now))
 work_seen s r (Turn t) = turns_seen s r t
 
 abbrev pub rest_works : Visibility → Replacement → Rest → List Work

@@ -2,7 +2,7 @@
 
 ghost use Rattle.std.specs.Prelude.{◌≡◌, IfOk, IsTrue, length, map};
 ghost use Rattle.std.specs.List.{list_all};
-ghost use Rattle.dn_parse.specs.Seen.{command_of, tree_seen};
+ghost use Rattle.dn_parse.specs.Views.{command_view, tree_view};
 ghost use Rattle.dn_net.specs.Decode.{is_closed};
 ghost use Rattle.dn_module.specs.Commands.{names_within};
 ghost use Rattle.dn_module.specs.Expand.{expanded};
@@ -29,7 +29,7 @@ pub struct Expanded {
 /// Expands a tree. The node rules are not tested.
 pub fn expand(alloc: Global, tree: &Tree) -> Result<Expanded, ExpandFault>
     // It gives what replacing text gives, or the first fault.
-    ensures expanded { GivesBy outcome_of result (expanded (tree_seen tree.now)) }
+    ensures expanded { GivesBy outcome_of result (expanded (tree_view tree.now)) }
     // Each node to which the net or a command refers is there.
     ensures closed { IfOk result (λ e. IsTrue (is_closed e.net)) }
     ensures known { IfOk result (λ e. IsTrue (list_all (names_within (length e.net)) e.commands)) }
@@ -40,7 +40,7 @@ pub fn expand(alloc: Global, tree: &Tree) -> Result<Expanded, ExpandFault>
 
 /// The commands, and then the net of the nodes that were made.
 fn finish(alloc: Global, drafts: &Drafts, asked: &[Cmd]) -> Result<Expanded, ExpandFault>
-    ensures finished { GivesBy outcome_of result (finished drafts.now (map command_of asked.now)) }
+    ensures finished { GivesBy outcome_of result (finished drafts.now (map command_view asked.now)) }
     ensures closed { IfOk result (λ e. IsTrue (is_closed e.net)) }
     ensures known { IfOk result (λ e. IsTrue (list_all (names_within (length e.net)) e.commands)) }
 {

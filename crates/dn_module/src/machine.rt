@@ -1,7 +1,7 @@
 //! The expansion of the statements of a text, a step at a time.
 
 ghost use Rattle.std.specs.Prelude.{◌≡◌, None};
-ghost use Rattle.dn_parse.specs.Seen.{declaration_of, expr_of, item_of};
+ghost use Rattle.dn_parse.specs.Views.{declaration_view, expr_view, item_view};
 ghost use Rattle.dn_module.specs.Drafts.{at_line};
 ghost use Rattle.dn_module.specs.Expand.{nothing_yet, statements, outside, Visibility, line_of, line_of_item, loop_of, rewritten, item_rewritten, all_rewritten, most_steps};
 ghost use Rattle.dn_module.specs.Replace.{Replacement, in_declaration, in_expression, in_item, in_items, hiding};
@@ -66,7 +66,7 @@ fn line_of(work: Work) -> u32
 }
 
 fn line_of_statement(statement: &Stmt) -> u32
-    ensures { (r : Replacement) → result ≡ line_of_item (in_item r (item_of statement.now)) }
+    ensures { (r : Replacement) → result ≡ line_of_item (in_item r (item_view statement.now)) }
 {
     match statement {
         Stmt::Decl { line, .. } => *line,
@@ -103,7 +103,7 @@ fn take<'a>(
     statement: &'a Stmt,
 ) -> Result<(), ExpandFault>
     requires free { stack.old.inner.inner.turns ≡ None }
-    ensures { GivesBy (λ _. (stack_works stack.new, state_of made.new)) result (in_front (stack_works stack.old) (item_rewritten (scope_of stack.old.inner.visible) (state_of made.old) (in_item stack.old.inner.scope (item_of statement.now)))) }
+    ensures { GivesBy (λ _. (stack_works stack.new, state_of made.new)) result (in_front (stack_works stack.old) (item_rewritten (scope_of stack.old.inner.visible) (state_of made.old) (in_item stack.old.inner.scope (item_view statement.now)))) }
 {
     match statement {
         Stmt::Decl { line, decl } => {
@@ -164,7 +164,7 @@ fn declare(
     line: u32,
     decl: &Decl,
 ) -> Result<(), ExpandFault>
-    ensures { GivesBy (λ _. drafts.new) result (drafted drafts.old line (in_declaration scope.now (declaration_of decl.now))) }
+    ensures { GivesBy (λ _. drafts.new) result (drafted drafts.old line (in_declaration scope.now (declaration_view decl.now))) }
 {
     let draft = declared(alloc, scope, line, decl)?;
     drafts.add(alloc, draft)
@@ -179,7 +179,7 @@ fn turns<'a>(
     upto: &Expr,
     body: &'a [Stmt],
 ) -> Result<Option<Turns<'a>>, ExpandFault>
-    ensures { (s : Visibility) → GivesBy (turns_works s scope.now) result (loop_of s line variable.now (in_expression scope.now.numbers (expr_of from.now)) (in_expression scope.now.numbers (expr_of upto.now)) (in_items (hiding variable.now scope.now) (seen_body body.now))) }
+    ensures { (s : Visibility) → GivesBy (turns_works s scope.now) result (loop_of s line variable.now (in_expression scope.now.numbers (expr_view from.now)) (in_expression scope.now.numbers (expr_view upto.now)) (in_items (hiding variable.now scope.now) (seen_body body.now))) }
 {
     let next = value_at(scope, line, from)?;
     let last = value_at(scope, line, upto)?;
@@ -197,7 +197,7 @@ fn turns<'a>(
 
 /// The value of an expression in the statement with this line.
 fn value_at(scope: &Scope, line: u32, expr: &Expr) -> Result<u64, ExpandFault>
-    ensures { Gives result (at_line line (value (in_expression scope.now.numbers (expr_of expr.now)))) }
+    ensures { Gives result (at_line line (value (in_expression scope.now.numbers (expr_view expr.now)))) }
 {
     match value(scope, expr) {
         Ok(value) => Ok(value),

@@ -3,7 +3,7 @@
 ghost use Rattle.std.specs.Prelude.{◌≡◌, [], ◌∷◌, ◌++◌, ◌<◌, ◌≤◌, map, length, IfOk, IfErr, IfSome, OnOk, OnErr, option_map, false, IsTrue, not};
 ghost use Rattle.std.specs.List.{list_all, list_any};
 ghost use Rattle.std.specs.Str.{bytes_eq};
-ghost use Rattle.dn_parse.specs.Seen.{param_of};
+ghost use Rattle.dn_parse.specs.Views.{param_view};
 ghost use Rattle.dn_module.specs.Expand.{has_twice, word_of_param, with_module, module_from, usable};
 ghost use Rattle.dn_module.specs.Told.{GivesBy};
 ghost use Rattle.dn_module.specs.declared.fault.ExpandFault.TheVariants.{OutOfMemory as no_memory};
@@ -42,7 +42,7 @@ pub struct Modules<'a> {
     modules: Vec<Module<'a>>,
     ghost same: { names ≡ map (λ m. m.title.now) modules.items },
     ghost few: { length modules.items ≤ 256 },
-    ghost different: { IsTrue (list_all (λ m. not (has_twice (map (λ p. word_of_param (param_of p)) m.params.now))) modules.items) },
+    ghost different: { IsTrue (list_all (λ m. not (has_twice (map (λ p. word_of_param (param_view p)) m.params.now))) modules.items) },
 }
 
 impl Visible {
@@ -93,7 +93,7 @@ impl<'a> Modules<'a> {
     /// none of them has it.
     pub fn find(&self, visible: Visible, title: &str) -> Option<(u16, Module<'a>)>
         ensures found { option_map (λ m. (m.0, module_seen m.1)) result ≡ module_from 0 title.now (usable (scope_of visible) (modules_seen self.now)) }
-        ensures different { IfSome result (λ m. has_twice (map word_of_param (map param_of m.1.params.now)) ≡ false) }
+        ensures different { IfSome result (λ m. has_twice (map word_of_param (map param_view m.1.params.now)) ≡ false) }
     {
         let number = self.names.find(title)?;
         if !visible.includes(number) {
@@ -129,7 +129,7 @@ fn put<'a>(
 
 /// Whether two of the parameters have one name.
 fn has_twice(alloc: Global, params: &[Param]) -> Result<bool, AllocError>
-    ensures { IfOk result (λ b. b ≡ has_twice (map word_of_param (map param_of params.now))) }
+    ensures { IfOk result (λ b. b ≡ has_twice (map word_of_param (map param_view params.now))) }
 {
     let mut words: IndexSet<String> = IndexSet::new(alloc);
     for param in params {
@@ -143,7 +143,7 @@ fn has_twice(alloc: Global, params: &[Param]) -> Result<bool, AllocError>
 
 /// The word of a parameter.
 pub fn word_of(param: &Param) -> &str
-    ensures { result.now ≡ word_of_param (param_of param.now) }
+    ensures { result.now ≡ word_of_param (param_view param.now) }
 {
     match param {
         Param::Num(word) => word.as_str(),

@@ -17,12 +17,12 @@ use Rattle.dn_parse.specs.declared.blocks.Misplaced.TheVariants.{Forbidden, Crow
 use Rattle.dn_parse.specs.declared.blocks.Blocks.{Blocks as CodeBlocks}
 use Rattle.dn_parse.specs.declared.blocks.Frame.{Frame as CodeFrame}
 use Rattle.dn_parse.specs.declared.token.Token.{Token as CodeToken}
-use Rattle.dn_parse.specs.Lexing.{token_of}
+use Rattle.dn_parse.specs.Lexing.{token_view}
 use Rattle.dn_parse.specs.declared.syntax.Tree.{Tree as CodeTree}
 use Rattle.dn_parse.specs.declared.reader.ParseFault.{ParseFault}
 use Rattle.dn_parse.specs.declared.reader.ParseFault.TheVariants.{Length, Token as BadToken, Statement as StatementFault, Block as BlockFault, Nesting as NestingFault, OutOfMemory as SyntaxMemory}
 use Rattle.dn_parse.specs.Giving.{Halts}
-use Rattle.dn_parse.specs.Seen.{seen, frame_of, blocks_seen, item_of, command_of}
+use Rattle.dn_parse.specs.Views.{token_views, frame_view, blocks_view, item_view, command_view}
 use Rattle.dn_parse.specs.Placing.{Steps, IsFault, IsReading, IsTextReading, StartsAt, halted_fault, misplaced_fault}
 use Rattle.dn_parse.proofs.Does.{Does, DoesBy}
 use Rattle.dn_parse.proofs.Heads.{statement_does}
@@ -88,8 +88,8 @@ fault_halted last all b ts line (Refused n) s e = next_stop last all b ts line (
 fault_halted last all b ts line (DeepHalt n) s e = next_stop last all b ts line (deep n) s e
 fault_halted last all b ts line HaltMemory s e = tt
 
-pub step_going : (r : Result CodeBlocks Misplaced) (b : CodeBlocks) (s : Step) → Steps r s → r ≡ Ok b → s ≡ going (blocks_seen b)
-step_going (Ok c) b s h e = let same : c ≡ b = cc in h ∙ ap (λ (d : CodeBlocks). going (blocks_seen d)) same
+pub step_going : (r : Result CodeBlocks Misplaced) (b : CodeBlocks) (s : Step) → Steps r s → r ≡ Ok b → s ≡ going (blocks_view b)
+step_going (Ok c) b s h e = let same : c ≡ b = cc in h ∙ ap (λ (d : CodeBlocks). going (blocks_view d)) same
 step_going (Err m) b s h e = cc
 
 misplaced_by : (m : Misplaced) (s : Step) (line : ℕ) (next : Blocks → Result Tree Fault) → Steps (Err m) s → IsFault (misplaced_fault m line) (by_step s line next)
@@ -102,19 +102,19 @@ fault_misplaced last all b ts line s after r m h e st is =
     let stepped = subst (λ (x : Result CodeBlocks Misplaced). Steps x (step b (record { line = line; statement = s }))) is st in
     subst (IsFault (misplaced_fault m line)) (sym (next_step last all b ts line s after h e)) (misplaced_by m (step b (record { line = line; statement = s })) line (λ c. judge last all c after) stepped)
 
-pub placed_on : (last : ℕ) (all : List Token) (b : Blocks) (ts : List Token) (line : ℕ) (s : Statement) (after : List Token) (r : Result CodeBlocks Misplaced) (c : CodeBlocks) → StartsAt ts line → whole_statement_at ts ≡ Ok (s, after) → Steps r (step b (record { line = line; statement = s })) → r ≡ Ok c → judge last all b ts ≡ judge last all (blocks_seen c) after
+pub placed_on : (last : ℕ) (all : List Token) (b : Blocks) (ts : List Token) (line : ℕ) (s : Statement) (after : List Token) (r : Result CodeBlocks Misplaced) (c : CodeBlocks) → StartsAt ts line → whole_statement_at ts ≡ Ok (s, after) → Steps r (step b (record { line = line; statement = s })) → r ≡ Ok c → judge last all b ts ≡ judge last all (blocks_view c) after
 placed_on last all b ts line s after r c h e st is =
     next_step last all b ts line s after h e ∙ ap (λ (x : Step). by_step x line (λ d. judge last all d after)) (step_going r c (step b (record { line = line; statement = s })) st is)
 
 -- the open blocks at the end
-reverse_none : (fs : List CodeFrame) → length fs ≡ 0 → reverse (map frame_of fs) ≡ []
+reverse_none : (fs : List CodeFrame) → length fs ≡ 0 → reverse (map frame_view fs) ≡ []
 reverse_none [] e = refl
 reverse_none (f ∷ fs) e = absurd (omega arith)
 
-pub finished_seen : (b : CodeBlocks) (last : ℕ) (ts : List Token) → length b.frames.items ≡ 0 → at_stop whole last ts (blocks_seen b) ≡ Ok (record { body = items (map item_of b.body.items); commands = map command_of b.commands })
-finished_seen b last ts e = finished_by (reverse (map frame_of b.frames.items)) (reverse_none b.frames.items e)
+pub finished_seen : (b : CodeBlocks) (last : ℕ) (ts : List Token) → length b.frames.items ≡ 0 → at_stop whole last ts (blocks_view b) ≡ Ok (record { body = items (map item_view b.body.items); commands = map command_view b.commands })
+finished_seen b last ts e = finished_by (reverse (map frame_view b.frames.items)) (reverse_none b.frames.items e)
   where
-    finished_by : (fs : List Frame) → fs ≡ [] → at_stop whole last ts (record { frames = fs; body = map item_of b.body.items; begun = b.begun; commands = map command_of b.commands }) ≡ Ok (record { body = items (map item_of b.body.items); commands = map command_of b.commands })
+    finished_by : (fs : List Frame) → fs ≡ [] → at_stop whole last ts (record { frames = fs; body = map item_view b.body.items; begun = b.begun; commands = map command_view b.commands }) ≡ Ok (record { body = items (map item_view b.body.items); commands = map command_view b.commands })
     finished_by [] e = refl
     finished_by (f ∷ fs) e = cc
 
@@ -125,26 +125,26 @@ unfinished_by b last ts h = go b.frames h
     go [] h = absurd (omega arith)
     go (f ∷ fs) h = refl
 
-pub unfinished_seen : (b : CodeBlocks) (last : ℕ) (ts : List Token) → 0 < length b.frames.items → at_stop whole last ts (blocks_seen b) ≡ Err (block_fault last)
-unfinished_seen b last ts h = unfinished_by (blocks_seen b) last ts (omega (arith, length-reverse (map frame_of b.frames.items), length-map b.frames.items frame_of))
+pub unfinished_seen : (b : CodeBlocks) (last : ℕ) (ts : List Token) → 0 < length b.frames.items → at_stop whole last ts (blocks_view b) ≡ Err (block_fault last)
+unfinished_seen b last ts h = unfinished_by (blocks_view b) last ts (omega (arith, length-reverse (map frame_view b.frames.items), length-map b.frames.items frame_view))
 
 -- the innermost block closed
-pub without_last : (b : Blocks) (front : List CodeFrame) (f : CodeFrame) (frames : List CodeFrame) → frames ≡ front ++ f ∷ [] → without_frame b (reverse (map frame_of frames)) ≡ going (record { frames = reverse (map frame_of front); body = (frame_of f).before ++ closed_block (frame_of f) b.body ∷ []; begun = b.begun; commands = b.commands })
+pub without_last : (b : Blocks) (front : List CodeFrame) (f : CodeFrame) (frames : List CodeFrame) → frames ≡ front ++ f ∷ [] → without_frame b (reverse (map frame_view frames)) ≡ going (record { frames = reverse (map frame_view front); body = (frame_view f).before ++ closed_block (frame_view f) b.body ∷ []; begun = b.begun; commands = b.commands })
 without_last b front f frames e =
-    let turned : reverse (map frame_of frames) ≡ frame_of f ∷ reverse (map frame_of front) = ap (λ (l : List CodeFrame). reverse (map frame_of l)) e ∙ ap reverse (map-append frame_of front (f ∷ [])) ∙ reverse-append (map frame_of front) (frame_of f ∷ []) in
+    let turned : reverse (map frame_view frames) ≡ frame_view f ∷ reverse (map frame_view front) = ap (λ (l : List CodeFrame). reverse (map frame_view l)) e ∙ ap reverse (map-append frame_view front (f ∷ [])) ∙ reverse-append (map frame_view front) (frame_view f ∷ []) in
     ap (without_frame b) turned
 
 -- the line of a token
-pub line_drop : (last : ℕ) (ts : List CodeToken) (i : ℕ) → i < length ts → (t : CodeToken) → t ≡ get_or ts i t → t.line ≡ line_of last (drop i (seen ts))
+pub line_drop : (last : ℕ) (ts : List CodeToken) (i : ℕ) → i < length ts → (t : CodeToken) → t ≡ get_or ts i t → t.line ≡ line_of last (drop i (token_views ts))
 line_drop last [] i h t e = absurd (omega arith)
 line_drop last (x ∷ ts) zero h t e = ap (λ (u : CodeToken). u.line) e
 line_drop last (x ∷ ts) (suc i) h t e = line_drop last ts i (omega arith) t e
 
-pub line_found : (last : ℕ) (ts : List CodeToken) (left i : ℕ) → i ≡ length ts - left → i < length ts → (t : CodeToken) → t ≡ get_or ts i t → t.line ≡ line_at last (seen ts) left
+pub line_found : (last : ℕ) (ts : List CodeToken) (left i : ℕ) → i ≡ length ts - left → i < length ts → (t : CodeToken) → t ≡ get_or ts i t → t.line ≡ line_at last (token_views ts) left
 line_found last ts left i e h t f =
-    let long : length (seen ts) ≡ length ts = length-map ts token_of in
-    let same : i ≡ length (seen ts) - left = omega (arith, long, e) in
-    line_drop last ts i h t f ∙ ap (λ (j : ℕ). line_of last (drop j (seen ts))) same
+    let long : length (token_views ts) ≡ length ts = length-map ts token_view in
+    let same : i ≡ length (token_views ts) - left = omega (arith, long, e) in
+    line_drop last ts i h t f ∙ ap (λ (j : ℕ). line_of last (drop j (token_views ts))) same
 
 -- a whole text
 of_tokens_read : (r : Result CodeTree ParseFault) (q : Result Tree Fault) → IsReading r q → IsTextReading r (of_reading q)

@@ -11,15 +11,15 @@ use Rattle.dn_parse.specs.declared.lexer.TokenFault.TheVariants.{Bad, OutOfMemor
 use Rattle.dn_parse.specs.Token.{Lexeme, Token, Front, word, keyword, number, sign, bad, front, reserved, dots_or_sign, is_slash, begins_with}
 
 -- the lexeme of the subject that a lexeme of the code is
-abbrev pub lexeme_of : CodeLexeme → Lexeme
-lexeme_of (WordCase w) = word w.now
-lexeme_of (KeywordCase k) = keyword k
-lexeme_of (NumberCase n) = number n
-lexeme_of (SignCase s) = sign s
+abbrev pub lexeme_view : CodeLexeme → Lexeme
+lexeme_view (WordCase w) = word w.now
+lexeme_view (KeywordCase k) = keyword k
+lexeme_view (NumberCase n) = number n
+lexeme_view (SignCase s) = sign s
 
 -- the token of the subject that a token of the code is
-abbrev pub token_of : CodeToken → Token
-token_of t = record { lexeme = lexeme_of t.lexeme; line = t.line }
+abbrev pub token_view : CodeToken → Token
+token_view t = record { lexeme = lexeme_view t.lexeme; line = t.line }
 
 -- a fault is the one that the text has; memory can run out at any text
 abbrev pub IsFaultOf : TokenFault → Result (List Token) ℕ → Type 0

@@ -5,7 +5,7 @@ pub mod Tree
 pub mod Actions
 pub mod Forms
 pub mod Syntax
-pub mod Seen
+pub mod Views
 pub mod Machine
 pub mod Whole
 pub mod Laws

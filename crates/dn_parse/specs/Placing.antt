@@ -13,11 +13,11 @@ use Rattle.dn_parse.specs.declared.syntax.Tree.{Tree as CodeTree}
 use Rattle.dn_parse.specs.Token.{Token}
 use Rattle.dn_parse.specs.Tree.{Tree}
 use Rattle.dn_parse.specs.Whole.{Step, going, forbidden, crowded, Fault, statement_fault, block_fault, nesting_fault, line_at, TextFault, too_long, bad_token, of_tokens}
-use Rattle.dn_parse.specs.Seen.{blocks_seen, tree_seen}
+use Rattle.dn_parse.specs.Views.{blocks_view, tree_view}
 
 -- what a function made of the blocks is the step
 abbrev pub Steps : Result CodeBlocks Misplaced → Step → Type 0
-Steps (Ok b) s = s ≡ going (blocks_seen b)
+Steps (Ok b) s = s ≡ going (blocks_view b)
 Steps (Err e) s = misplaces e
   where
     misplaces : Misplaced → Type 0
@@ -36,7 +36,7 @@ IsFault OutOfMemory r = Unit {0}
 
 -- a tree or a fault is what the tokens come to
 abbrev pub IsReading : Result CodeTree ParseFault → Result Tree Fault → Type 0
-IsReading (Ok s) r = r ≡ Ok (tree_seen s)
+IsReading (Ok s) r = r ≡ Ok (tree_view s)
 IsReading (Err e) r = IsFault e r
 
 -- a tree or a fault is what the text comes to
@@ -49,7 +49,7 @@ IsTextFault (Nesting line) r = r ≡ Err (of_tokens (nesting_fault line))
 IsTextFault OutOfMemory r = Unit {0}
 
 abbrev pub IsTextReading : Result CodeTree ParseFault → Result Tree TextFault → Type 0
-IsTextReading (Ok s) r = r ≡ Ok (tree_seen s)
+IsTextReading (Ok s) r = r ≡ Ok (tree_view s)
 IsTextReading (Err e) r = IsTextFault e r
 
 -- the first token of a list stands in this line

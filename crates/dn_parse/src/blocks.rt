@@ -3,7 +3,7 @@
 ghost use Rattle.std.specs.Prelude.{◌≡◌, List, map, IfOk};
 ghost use Rattle.dn_parse.specs.Tree.{Item};
 ghost use Rattle.dn_parse.specs.Whole.{no_blocks_yet, closed_block, step, with_item, with_frame, without_frame, before_begin, after_begin};
-ghost use Rattle.dn_parse.specs.Seen.{item_of, statement_seen, frame_of, opener_of, blocks_seen};
+ghost use Rattle.dn_parse.specs.Views.{item_view, statement_view, frame_view, opener_view, blocks_view};
 ghost use Rattle.dn_parse.specs.Placing.{Steps};
 
 use crate::statements::Statement;
@@ -84,7 +84,7 @@ const MOST_BLOCKS: usize = 16;
 
 /// No statement.
 pub fn none(alloc: Global) -> Blocks
-    ensures { blocks_seen result ≡ no_blocks_yet }
+    ensures { blocks_view result ≡ no_blocks_yet }
 {
     Blocks {
         frames: Vec::new(alloc),
@@ -96,7 +96,7 @@ pub fn none(alloc: Global) -> Blocks
 
 /// The blocks with one statement more in the innermost.
 fn with_item(blocks: Blocks, item: Stmt) -> Result<Blocks, Misplaced>
-    ensures { Steps result (with_item (blocks_seen blocks) (item_of item)) }
+    ensures { Steps result (with_item (blocks_view blocks) (item_view item)) }
 {
     let mut blocks = blocks;
     blocks.body.push(item)?;
@@ -105,7 +105,7 @@ fn with_item(blocks: Blocks, item: Stmt) -> Result<Blocks, Misplaced>
 
 /// The blocks with one more open.
 fn opened(alloc: Global, blocks: Blocks, line: u32, opener: Opener) -> Result<Blocks, Misplaced>
-    ensures { Steps result (with_frame (blocks_seen blocks) line (opener_of opener)) }
+    ensures { Steps result (with_frame (blocks_view blocks) line (opener_view opener)) }
 {
     if blocks.frames.len() >= MOST_BLOCKS {
         return Err(Misplaced::Crowded);
@@ -132,7 +132,7 @@ fn opened(alloc: Global, blocks: Blocks, line: u32, opener: Opener) -> Result<Bl
 
 /// A block that is closed, as one statement.
 fn closed(alloc: Global, line: u32, opener: Opener, body: Body) -> Result<Stmt, AllocError>
-    ensures { IfOk result (λ s. (before : List Item) → item_of s ≡ closed_block (record { line = line; opener = opener_of opener; before = before }) (map item_of body.items)) }
+    ensures { IfOk result (λ s. (before : List Item) → item_view s ≡ closed_block (record { line = line; opener = opener_view opener; before = before }) (map item_view body.items)) }
 {
     match opener {
         Opener::Module { title, params } => Ok(Stmt::Module {
@@ -157,7 +157,7 @@ fn closed(alloc: Global, line: u32, opener: Opener, body: Body) -> Result<Stmt, 
 
 /// The blocks with the innermost closed.
 fn ended(alloc: Global, blocks: Blocks) -> Result<Blocks, Misplaced>
-    ensures { Steps result (without_frame (blocks_seen blocks) (blocks_seen blocks).frames) }
+    ensures { Steps result (without_frame (blocks_view blocks) (blocks_view blocks).frames) }
 {
     let Blocks {
         frames,
@@ -191,7 +191,7 @@ fn before_begin(
     line: u32,
     statement: Statement,
 ) -> Result<Blocks, Misplaced>
-    ensures { Steps result (before_begin (blocks_seen blocks) line (statement_seen statement)) }
+    ensures { Steps result (before_begin (blocks_view blocks) line (statement_view statement)) }
 {
     match statement {
         Statement::Decl(decl) => with_item(blocks, Stmt::Decl { line, decl }),
@@ -243,7 +243,7 @@ fn before_begin(
 
 /// A statement after `begin`.
 fn after_begin(blocks: Blocks, line: u32, statement: Statement) -> Result<Blocks, Misplaced>
-    ensures { Steps result (after_begin (blocks_seen blocks) line (statement_seen statement)) }
+    ensures { Steps result (after_begin (blocks_view blocks) line (statement_view statement)) }
 {
     let Statement::Order(order) = statement else {
         return Err(Misplaced::Forbidden);
@@ -260,7 +260,7 @@ pub fn placed(
     line: u32,
     statement: Statement,
 ) -> Result<Blocks, Misplaced>
-    ensures { Steps result (step (blocks_seen blocks) (record { line = line; statement = statement_seen statement })) }
+    ensures { Steps result (step (blocks_view blocks) (record { line = line; statement = statement_view statement })) }
 {
     if blocks.begun {
         after_begin(blocks, line, statement)

@@ -5,7 +5,7 @@ ghost use Rattle.dn_parse.specs.Token.{Token as SpecToken};
 ghost use Rattle.dn_parse.specs.Machine.{whole};
 ghost use Rattle.dn_parse.specs.Whole.{line_at, last_line, at_stop, judge, no_blocks_yet, text_reading};
 ghost use Rattle.dn_parse.specs.Descent.{whole_statement_at};
-ghost use Rattle.dn_parse.specs.Seen.{seen, statement_seen, blocks_seen, tree_seen};
+ghost use Rattle.dn_parse.specs.Views.{token_views, statement_view, blocks_view, tree_view};
 ghost use Rattle.dn_parse.specs.Giving.{Gives};
 ghost use Rattle.dn_parse.specs.Placing.{IsFault, IsReading, IsTextReading, StartsAt, halted_fault, misplaced_fault, trouble_fault};
 
@@ -88,7 +88,7 @@ fn last_line(text: &[u8]) -> u32
 
 /// The line of the token with so many left from it on.
 fn line_at(tokens: &[Token], last: u32, left: usize) -> u32
-    ensures { result ≡ line_at last (seen tokens.now) left }
+    ensures { result ≡ line_at last (token_views tokens.now) left }
 {
     match tokens.get(tokens.len().saturating_sub(left)) {
         Some(token) => token.line,
@@ -98,7 +98,7 @@ fn line_at(tokens: &[Token], last: u32, left: usize) -> u32
 
 /// The fault of a reading that stops.
 fn fault_of(halt: Halt, tokens: &[Token], last: u32) -> ParseFault
-    ensures { result ≡ halted_fault halt last (seen tokens.now) }
+    ensures { result ≡ halted_fault halt last (token_views tokens.now) }
 {
     match halt {
         Halt::Refused(left) => ParseFault::Statement {
@@ -114,8 +114,8 @@ fn fault_of(halt: Halt, tokens: &[Token], last: u32) -> ParseFault
 /// A statement and its `;`.
 #[tactic(auto, unfolding(crate::specs::Descent::whole_statement_at))]
 fn whole_statement<'a>(alloc: Global, tokens: &'a [Token<'a>]) -> Read<'a, Statement>
-    ensures gives { Gives (λ p. (statement_seen p.0, seen p.1.now)) result (whole_statement_at (seen tokens.now)) }
-    ensures shorter { IfOk result (λ p. length (seen p.1.now) < length (seen tokens.now)) }
+    ensures gives { Gives (λ p. (statement_view p.0, token_views p.1.now)) result (whole_statement_at (token_views tokens.now)) }
+    ensures shorter { IfOk result (λ p. length (token_views p.1.now) < length (token_views tokens.now)) }
 {
     let (statement, rest) = read_statement(alloc, tokens)?;
     let rest = sign(rest, Sign::Semicolon)?;
@@ -142,7 +142,7 @@ enum Trouble {
 
 /// The line of the next token.
 fn first_line(tokens: &[Token]) -> Option<u32>
-    ensures { MatchOption result (seen tokens.now ≡ []) (λ line. StartsAt (seen tokens.now) line) }
+    ensures { MatchOption result (token_views tokens.now ≡ []) (λ line. StartsAt (token_views tokens.now) line) }
 {
     match tokens {
         [] => None,
@@ -157,10 +157,10 @@ fn next_place<'a>(
     rest: &'a [Token<'a>],
     line: u32,
 ) -> Result<(Blocks, &'a [Token<'a>]), Trouble>
-    requires { StartsAt (seen rest.now) line }
-    ensures ok { IfOk result (λ p. (last : ℕ) (all : List SpecToken) → judge last all (blocks_seen blocks) (seen rest.now) ≡ judge last all (blocks_seen p.0) (seen p.1.now)) }
-    ensures shorter { IfOk result (λ p. length (seen p.1.now) < length (seen rest.now)) }
-    ensures err { IfErr result (λ e. (last : ℕ) (all : List SpecToken) → IsFault (trouble_fault e last all) (judge last all (blocks_seen blocks) (seen rest.now))) }
+    requires { StartsAt (token_views rest.now) line }
+    ensures ok { IfOk result (λ p. (last : ℕ) (all : List SpecToken) → judge last all (blocks_view blocks) (token_views rest.now) ≡ judge last all (blocks_view p.0) (token_views p.1.now)) }
+    ensures shorter { IfOk result (λ p. length (token_views p.1.now) < length (token_views rest.now)) }
+    ensures err { IfErr result (λ e. (last : ℕ) (all : List SpecToken) → IsFault (trouble_fault e last all) (judge last all (blocks_view blocks) (token_views rest.now))) }
 {
     match whole_statement(alloc, rest) {
         Err(halt) => Err(Trouble::Halted(halt)),
@@ -173,8 +173,8 @@ fn next_place<'a>(
 
 /// The blocks that the tokens come to, up to their end.
 fn all_placed<'a>(alloc: Global, tokens: &'a [Token<'a>]) -> Result<Blocks, Trouble>
-    ensures ok { IfOk result (λ b. (last : ℕ) (all : List SpecToken) → judge last all no_blocks_yet (seen tokens.now) ≡ at_stop whole last all (blocks_seen b)) }
-    ensures err { IfErr result (λ e. (last : ℕ) (all : List SpecToken) → IsFault (trouble_fault e last all) (judge last all no_blocks_yet (seen tokens.now))) }
+    ensures ok { IfOk result (λ b. (last : ℕ) (all : List SpecToken) → judge last all no_blocks_yet (token_views tokens.now) ≡ at_stop whole last all (blocks_view b)) }
+    ensures err { IfErr result (λ e. (last : ℕ) (all : List SpecToken) → IsFault (trouble_fault e last all) (judge last all no_blocks_yet (token_views tokens.now))) }
 {
     let Some(line) = first_line(tokens) else {
         return Ok(none(alloc));
@@ -192,7 +192,7 @@ fn all_placed<'a>(alloc: Global, tokens: &'a [Token<'a>]) -> Result<Blocks, Trou
 
 /// The tree, where no block is open at the end.
 fn finished(blocks: Blocks, last: u32) -> Result<Tree, ParseFault>
-    ensures { (ts : List SpecToken) → IsReading result (at_stop whole last ts (blocks_seen blocks)) }
+    ensures { (ts : List SpecToken) → IsReading result (at_stop whole last ts (blocks_view blocks)) }
 {
     if !blocks.frames.is_empty() {
         return Err(ParseFault::Block { line: last });
@@ -205,7 +205,7 @@ fn finished(blocks: Blocks, last: u32) -> Result<Tree, ParseFault>
 
 /// The tree of a list of tokens, or its first fault; the last line is that of the end of the text.
 fn statements<'a>(alloc: Global, tokens: &'a [Token<'a>], last: u32) -> Result<Tree, ParseFault>
-    ensures { IsReading result (judge last (seen tokens.now) no_blocks_yet (seen tokens.now)) }
+    ensures { IsReading result (judge last (token_views tokens.now) no_blocks_yet (token_views tokens.now)) }
 {
     match all_placed(alloc, tokens) {
         Ok(blocks) => finished(blocks, last),

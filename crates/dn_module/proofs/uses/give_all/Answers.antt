@@ -1,6 +1,6 @@
 use Rattle.std.proofs.Common.{◌≡◌, ◌∙◌, sym, ap, refl, arith, ◌<◌, length, subst}
 use Rattle.std.proofs.lemmas.Result.{err_from_is_err_and}
-use Rattle.dn_parse.specs.Seen.{arg_of}
+use Rattle.dn_parse.specs.Views.{arg_view}
 use Rattle.dn_module.specs.Flaws.{IsFlaw}
 use Rattle.dn_module.specs.Machine.{bound, given_more, given_seen}
 use Rattle.dn_module.specs.Replace.{in_arg}
@@ -28,7 +28,7 @@ returns-in_err-give c =
     let end = c.loop-i.invariant.end in
     let inside : i < length ps = omega arith in
     let within : i < length xs = omega arith in
-    let flaw = subst (λ w. IsFlaw c.in_err-give.field-0.0 (given_more w old (in_arg r (arg_of x)))) c.word_of.ensures c.in_err-give.ensures in
+    let flaw = subst (λ w. IsFlaw c.in_err-give.field-0.0 (given_more w old (in_arg r (arg_view x)))) c.word_of.ensures c.in_err-give.ensures in
     let q = err_from_is_err_and c.from_residual.result c.from_residual.ensures.1 in
     rw (q.1, q.2) (flaw_step r ps xs i p x inside within c.index-params-i.is c.index-args-i.is old _ c.in_err-give.field-0.0 c.loop-i.invariant.so_far flaw)
 
@@ -46,7 +46,7 @@ loop-i-preserved c =
     let end = c.loop-i.invariant.end in
     let inside : i < length ps = omega arith in
     let within : i < length xs = omega arith in
-    let more = ap (λ w. given_more w old (in_arg r (arg_of x))) (sym c.word_of.ensures) ∙ c.in_ok-give.ensures in
+    let more = ap (λ w. given_more w old (in_arg r (arg_view x))) (sym c.word_of.ensures) ∙ c.in_ok-give.ensures in
     record {
       end = end;
       count = count;
