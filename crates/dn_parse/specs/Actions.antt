@@ -1,6 +1,6 @@
 -- How the tree is made while a statement is read: the values so far, the last one first, and what each action makes of them.
 use Rattle.std.specs.Prelude.{ℕ, List, [], ◌∷◌, ◌++◌, Option, Some, None}
-use Rattle.dn_parse.specs.Tree.{Expression, variable, sum, product, minus, expressions, Part, Block, Dest, Entry, plain_role, agent_role, vectors_role, Spec, Param, number_param, node_param, Arg, number_arg, node_arg, node, unit, Order, resolve, lookup, view, grant, route, revoke, dump, split, absorb, Statement, declares, heads_module, uses, heads_loop, ends, begins, orders}
+use Rattle.dn_parse.specs.Tree.{Expression, variable, sum, product, minus, expressions, Part, Block, Dest, Entry, plain_role, agent_role, vectors_role, Spec, Param, number_param, node_param, Arg, number_arg, node_arg, node, unit, resolve, lookup, view, grant, route, revoke, dump, split, absorb, Statement, declares, heads_module, uses, heads_loop, ends, begins, orders}
 
 -- a value: a part of the tree, or the list of such parts so far
 pub data Value : Type 0 where

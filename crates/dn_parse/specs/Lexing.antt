@@ -1,13 +1,11 @@
 -- What the tokenizer's functions say: its tokens as tokens of a text, and the parts of the way there.
-use Rattle.std.specs.Prelude.{◌≡◌, ℕ, ◌==◌, Bool, false, ◌&&◌, if◌then◌else◌, List, [], ◌∷◌, length, Option, Some, None, Result, Err}
+use Rattle.std.specs.Prelude.{ℕ, ◌==◌, Bool, false, ◌&&◌, if◌then◌else◌, List, [], ◌∷◌, length, Option, Some, None}
 use Rattle.std.specs.List.{filter}
 use Rattle.std.specs.Str.{bytes_eq}
 use Rattle.dn_parse.specs.declared.token.Keyword.{Keyword}
 use Rattle.dn_parse.specs.declared.token.Lexeme.{Lexeme as CodeLexeme}
 use Rattle.dn_parse.specs.declared.token.Lexeme.TheVariants.{Word as WordCase, Keyword as KeywordCase, Number as NumberCase, Sign as SignCase}
 use Rattle.dn_parse.specs.declared.token.Token.{Token as CodeToken}
-use Rattle.dn_parse.specs.declared.lexer.TokenFault.{TokenFault}
-use Rattle.dn_parse.specs.declared.lexer.TokenFault.TheVariants.{Bad, OutOfMemory}
 use Rattle.dn_parse.specs.Token.{Lexeme, Token, Front, word, keyword, number, sign, bad, front, reserved, dots_or_sign, is_slash, begins_with}
 
 -- the lexeme of the subject that a lexeme of the code is
@@ -20,11 +18,6 @@ lexeme_view (SignCase s) = sign s
 -- the token of the subject that a token of the code is
 abbrev pub token_view : CodeToken → Token
 token_view t = record { lexeme = lexeme_view t.lexeme; line = t.line }
-
--- a fault is the one that the text has; memory can run out at any text
-abbrev pub IsFaultOf : TokenFault → Result (List Token) ℕ → Type 0
-IsFaultOf (Bad line) read = read ≡ Err line
-IsFaultOf OutOfMemory read = Unit {0}
 
 -- what stands at the front of a text
 abbrev pub front_of : List ℕ → Front

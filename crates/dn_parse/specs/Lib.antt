@@ -10,6 +10,5 @@ pub mod Machine
 pub mod Whole
 pub mod Laws
 pub mod Descent
-pub mod Giving
-pub mod Placing
+pub mod Faults
 pub mod Going

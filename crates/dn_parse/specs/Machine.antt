@@ -1,10 +1,10 @@
 -- A machine that reads tokens one by one, by the forms that may still come.
-use Rattle.std.specs.Prelude.{ℕ, zero, suc, ◌+◌, ◌-◌, ◌==◌, Bool, true, false, if◌then◌else◌, ◌&&◌, List, [], ◌∷◌, ◌++◌, length}
+use Rattle.std.specs.Prelude.{ℕ, suc, ◌+◌, ◌-◌, ◌==◌, Bool, true, false, if◌then◌else◌, ◌&&◌, List, [], ◌∷◌, ◌++◌, length}
 use Rattle.dn_parse.specs.declared.token.Sign.TheVariants.{Semicolon, OpenParenthesis, CloseParenthesis}
 use Rattle.dn_parse.specs.Token.{Lexeme, Token}
 use Rattle.dn_parse.specs.Tree.{Placed}
 use Rattle.dn_parse.specs.Actions.{Value, perform}
-use Rattle.dn_parse.specs.Forms.{Form, takes, does, and_then, either, many, parenthesised, Sort, is, is_sign, kept}
+use Rattle.dn_parse.specs.Forms.{Form, takes, does, and_then, either, many, parenthesised, is, is_sign, kept}
 use Rattle.dn_parse.specs.Syntax.{statement_form, after_open, statement_of}
 
 -- what a form does at a token: it takes it, and then these forms follow, with these values; it may be left out, with these values; or it allows no such token

@@ -1,5 +1,5 @@
 -- The tree that the code's tree is.
-use Rattle.std.specs.Prelude.{ℕ, List, map, reverse, Option, option_map}
+use Rattle.std.specs.Prelude.{List, map, reverse, Option, option_map}
 use Rattle.dn_parse.specs.declared.token.Token.{Token as CodeToken}
 use Rattle.dn_parse.specs.declared.syntax.Expr.{Expr}
 use Rattle.dn_parse.specs.declared.syntax.Expr.TheOpen.{Expr-F, Number, Variable, Sum, Product, Minus}

@@ -3,8 +3,9 @@
 ghost use Rattle.std.specs.Prelude.{◌≡◌, List, map, IfOk};
 ghost use Rattle.dn_parse.specs.Tree.{Item};
 ghost use Rattle.dn_parse.specs.Whole.{no_blocks_yet, closed_block, step, with_item, with_frame, without_frame, before_begin, after_begin};
-ghost use Rattle.dn_parse.specs.Views.{item_view, statement_view, frame_view, opener_view, blocks_view};
-ghost use Rattle.dn_parse.specs.Placing.{Steps};
+ghost use Rattle.dn_parse.specs.Views.{item_view, statement_view, opener_view, blocks_view};
+ghost use Rattle.dn_base.specs.Answers.{Answers};
+ghost use Rattle.dn_parse.specs.Faults.{misplaced_view};
 
 use crate::statements::Statement;
 use crate::syntax::{Body, Cmd, Expr, Param, Stmt};
@@ -96,7 +97,7 @@ pub fn none(alloc: Global) -> Blocks
 
 /// The blocks with one statement more in the innermost.
 fn with_item(blocks: Blocks, item: Stmt) -> Result<Blocks, Misplaced>
-    ensures { Steps result (with_item (blocks_view blocks) (item_view item)) }
+    ensures { Answers blocks_view misplaced_view result (with_item (blocks_view blocks) (item_view item)) }
 {
     let mut blocks = blocks;
     blocks.body.push(item)?;
@@ -105,7 +106,7 @@ fn with_item(blocks: Blocks, item: Stmt) -> Result<Blocks, Misplaced>
 
 /// The blocks with one more open.
 fn opened(alloc: Global, blocks: Blocks, line: u32, opener: Opener) -> Result<Blocks, Misplaced>
-    ensures { Steps result (with_frame (blocks_view blocks) line (opener_view opener)) }
+    ensures { Answers blocks_view misplaced_view result (with_frame (blocks_view blocks) line (opener_view opener)) }
 {
     if blocks.frames.len() >= MOST_BLOCKS {
         return Err(Misplaced::Crowded);
@@ -157,7 +158,7 @@ fn closed(alloc: Global, line: u32, opener: Opener, body: Body) -> Result<Stmt, 
 
 /// The blocks with the innermost closed.
 fn ended(alloc: Global, blocks: Blocks) -> Result<Blocks, Misplaced>
-    ensures { Steps result (without_frame (blocks_view blocks) (blocks_view blocks).frames) }
+    ensures { Answers blocks_view misplaced_view result (without_frame (blocks_view blocks) (blocks_view blocks).frames) }
 {
     let Blocks {
         frames,
@@ -191,7 +192,7 @@ fn before_begin(
     line: u32,
     statement: Statement,
 ) -> Result<Blocks, Misplaced>
-    ensures { Steps result (before_begin (blocks_view blocks) line (statement_view statement)) }
+    ensures { Answers blocks_view misplaced_view result (before_begin (blocks_view blocks) line (statement_view statement)) }
 {
     match statement {
         Statement::Decl(decl) => with_item(blocks, Stmt::Decl { line, decl }),
@@ -243,7 +244,7 @@ fn before_begin(
 
 /// A statement after `begin`.
 fn after_begin(blocks: Blocks, line: u32, statement: Statement) -> Result<Blocks, Misplaced>
-    ensures { Steps result (after_begin (blocks_view blocks) line (statement_view statement)) }
+    ensures { Answers blocks_view misplaced_view result (after_begin (blocks_view blocks) line (statement_view statement)) }
 {
     let Statement::Order(order) = statement else {
         return Err(Misplaced::Forbidden);
@@ -260,7 +261,7 @@ pub fn placed(
     line: u32,
     statement: Statement,
 ) -> Result<Blocks, Misplaced>
-    ensures { Steps result (step (blocks_view blocks) (record { line = line; statement = statement_view statement })) }
+    ensures { Answers blocks_view misplaced_view result (step (blocks_view blocks) (record { line = line; statement = statement_view statement })) }
 {
     if blocks.begun {
         after_begin(blocks, line, statement)

@@ -5,7 +5,8 @@ ghost use Rattle.dn_parse.specs.declared.cursor.Halt.TheVariants.{Refused};
 ghost use Rattle.dn_parse.specs.Lexing.{token_view};
 ghost use Rattle.dn_parse.specs.Views.{token_views};
 ghost use Rattle.dn_parse.specs.Descent.{after_sign, after_keyword, sign_at, keyword_at, word_at};
-ghost use Rattle.dn_parse.specs.Giving.{Gives};
+ghost use Rattle.dn_base.specs.Answers.{Answers};
+ghost use Rattle.dn_parse.specs.Faults.{halt_view};
 
 use crate::token::{Keyword, Lexeme, Sign, Token};
 use dn_base::text::Text;
@@ -97,7 +98,7 @@ pub fn refusal<'a>(tokens: &'a [Token<'a>]) -> Halt
 /// The tokens after this sign.
 #[tactic(auto, unfolding(crate::specs::Descent::sign_at))]
 pub fn sign<'a>(tokens: &'a [Token<'a>], sign: Sign) -> Result<&'a [Token<'a>], Halt>
-    ensures gives { Gives (λ rest. token_views rest.now) result (sign_at sign (token_views tokens.now)) }
+    ensures gives { Answers (λ rest. token_views rest.now) halt_view result (sign_at sign (token_views tokens.now)) }
     ensures shorter { IfOk result (λ rest. length (token_views rest.now) < length (token_views tokens.now)) }
 {
     match after_sign(tokens, sign) {
@@ -109,7 +110,7 @@ pub fn sign<'a>(tokens: &'a [Token<'a>], sign: Sign) -> Result<&'a [Token<'a>], 
 /// The tokens after this reserved word.
 #[tactic(auto, unfolding(crate::specs::Descent::keyword_at))]
 pub fn keyword<'a>(tokens: &'a [Token<'a>], word: Keyword) -> Result<&'a [Token<'a>], Halt>
-    ensures gives { Gives (λ rest. token_views rest.now) result (keyword_at word (token_views tokens.now)) }
+    ensures gives { Answers (λ rest. token_views rest.now) halt_view result (keyword_at word (token_views tokens.now)) }
     ensures shorter { IfOk result (λ rest. length (token_views rest.now) < length (token_views tokens.now)) }
 {
     match after_keyword(tokens, word) {
@@ -121,7 +122,7 @@ pub fn keyword<'a>(tokens: &'a [Token<'a>], word: Keyword) -> Result<&'a [Token<
 /// A word that is not reserved.
 #[tactic(auto, unfolding(crate::specs::Descent::word_at))]
 pub fn word<'a>(alloc: Global, tokens: &'a [Token<'a>]) -> Read<'a, Text>
-    ensures gives { Gives (λ p. (p.0, token_views p.1.now)) result (word_at (token_views tokens.now)) }
+    ensures gives { Answers (λ p. (p.0, token_views p.1.now)) halt_view result (word_at (token_views tokens.now)) }
     ensures shorter { IfOk result (λ p. length (token_views p.1.now) < length (token_views tokens.now)) }
 {
     let Some((token, rest)) = next(tokens) else {

@@ -1,10 +1,11 @@
 //! Expressions.
 
-ghost use Rattle.std.specs.Prelude.{◌≡◌, ◌∷◌, [], ◌<◌, ◌≤◌, length, map, option_map, IfOk, IfSome, vec_len};
+ghost use Rattle.std.specs.Prelude.{◌≡◌, ◌<◌, length, map, option_map, IfOk, IfSome, vec_len};
 ghost use Rattle.dn_parse.specs.Actions.{summed, multiplied};
 ghost use Rattle.dn_parse.specs.Views.{token_views, expr_view};
 ghost use Rattle.dn_parse.specs.Descent.{factor_at, next_factor_at, factors_at, term_at, next_term_at, terms_at, expr_at, after_open_at};
-ghost use Rattle.dn_parse.specs.Giving.{Gives};
+ghost use Rattle.dn_base.specs.Answers.{Answers};
+ghost use Rattle.dn_parse.specs.Faults.{halt_view};
 
 use crate::cursor::{Halt, Next, Read, after_sign, next, refusal, sign};
 use crate::syntax::Expr;
@@ -42,7 +43,7 @@ fn multiplied(members: Vec<Expr>) -> Expr
 #[cycle(expressions)]
 #[tactic(auto, unfolding(crate::specs::Descent::factor_at))]
 fn factor<'a>(alloc: Global, tokens: &'a [Token<'a>], depth: u8) -> Read<'a, Expr>
-    ensures gives { Gives (λ p. (expr_view p.0, token_views p.1.now)) result (factor_at depth (token_views tokens.now)) }
+    ensures gives { Answers (λ p. (expr_view p.0, token_views p.1.now)) halt_view result (factor_at depth (token_views tokens.now)) }
     ensures shorter { IfOk result (λ p. length (token_views p.1.now) < length (token_views tokens.now)) }
 {
     let Some((token, rest)) = next(tokens) else {
@@ -65,7 +66,7 @@ fn factor<'a>(alloc: Global, tokens: &'a [Token<'a>], depth: u8) -> Read<'a, Exp
 #[cycle(expressions)]
 #[tactic(auto, unfolding(crate::specs::Descent::after_open_at))]
 fn after_open<'a>(alloc: Global, tokens: &'a [Token<'a>], depth: u8) -> Read<'a, Expr>
-    ensures gives { Gives (λ p. (expr_view p.0, token_views p.1.now)) result (after_open_at depth (token_views tokens.now)) }
+    ensures gives { Answers (λ p. (expr_view p.0, token_views p.1.now)) halt_view result (after_open_at depth (token_views tokens.now)) }
     ensures shorter { IfOk result (λ p. length (token_views p.1.now) < length (token_views tokens.now)) }
 {
     let (first, rest) = expr(alloc, tokens, depth)?;
@@ -83,7 +84,7 @@ fn after_open<'a>(alloc: Global, tokens: &'a [Token<'a>], depth: u8) -> Read<'a,
 #[cycle(expressions)]
 #[tactic(auto, unfolding(crate::specs::Descent::next_factor_at))]
 fn next_factor<'a>(alloc: Global, tokens: &'a [Token<'a>], depth: u8) -> Next<'a, Expr>
-    ensures gives { Gives (λ o. option_map (λ p. (expr_view p.0, token_views p.1.now)) o) result (next_factor_at depth (token_views tokens.now)) }
+    ensures gives { Answers (λ o. option_map (λ p. (expr_view p.0, token_views p.1.now)) o) halt_view result (next_factor_at depth (token_views tokens.now)) }
     ensures shorter { IfOk result (λ o. IfSome o (λ p. length (token_views p.1.now) < length (token_views tokens.now))) }
 {
     let Some(rest) = after_sign(tokens, Sign::Times) else {
@@ -96,7 +97,7 @@ fn next_factor<'a>(alloc: Global, tokens: &'a [Token<'a>], depth: u8) -> Next<'a
 /// `factor { "*" factor }`
 #[cycle(expressions)]
 fn factors<'a>(alloc: Global, tokens: &'a [Token<'a>], depth: u8) -> Read<'a, Vec<Expr>>
-    ensures gives { Gives (λ p. (map expr_view p.0.items, token_views p.1.now)) result (factors_at depth (token_views tokens.now)) }
+    ensures gives { Answers (λ p. (map expr_view p.0.items, token_views p.1.now)) halt_view result (factors_at depth (token_views tokens.now)) }
     ensures some { IfOk result (λ p. 0 < vec_len p.0) }
     ensures shorter { IfOk result (λ p. length (token_views p.1.now) < length (token_views tokens.now)) }
 {
@@ -115,7 +116,7 @@ fn factors<'a>(alloc: Global, tokens: &'a [Token<'a>], depth: u8) -> Read<'a, Ve
 #[cycle(expressions)]
 #[tactic(auto, unfolding(crate::specs::Descent::term_at))]
 fn term<'a>(alloc: Global, tokens: &'a [Token<'a>], depth: u8) -> Read<'a, Expr>
-    ensures gives { Gives (λ p. (expr_view p.0, token_views p.1.now)) result (term_at depth (token_views tokens.now)) }
+    ensures gives { Answers (λ p. (expr_view p.0, token_views p.1.now)) halt_view result (term_at depth (token_views tokens.now)) }
     ensures shorter { IfOk result (λ p. length (token_views p.1.now) < length (token_views tokens.now)) }
 {
     let (members, rest) = factors(alloc, tokens, depth)?;
@@ -126,7 +127,7 @@ fn term<'a>(alloc: Global, tokens: &'a [Token<'a>], depth: u8) -> Read<'a, Expr>
 #[cycle(expressions)]
 #[tactic(auto, unfolding(crate::specs::Descent::next_term_at))]
 fn next_term<'a>(alloc: Global, tokens: &'a [Token<'a>], depth: u8) -> Next<'a, Expr>
-    ensures gives { Gives (λ o. option_map (λ p. (expr_view p.0, token_views p.1.now)) o) result (next_term_at depth (token_views tokens.now)) }
+    ensures gives { Answers (λ o. option_map (λ p. (expr_view p.0, token_views p.1.now)) o) halt_view result (next_term_at depth (token_views tokens.now)) }
     ensures shorter { IfOk result (λ o. IfSome o (λ p. length (token_views p.1.now) < length (token_views tokens.now))) }
 {
     let Some(rest) = after_sign(tokens, Sign::Plus) else {
@@ -139,7 +140,7 @@ fn next_term<'a>(alloc: Global, tokens: &'a [Token<'a>], depth: u8) -> Next<'a, 
 /// `term { "+" term }`
 #[cycle(expressions)]
 fn terms<'a>(alloc: Global, tokens: &'a [Token<'a>], depth: u8) -> Read<'a, Vec<Expr>>
-    ensures gives { Gives (λ p. (map expr_view p.0.items, token_views p.1.now)) result (terms_at depth (token_views tokens.now)) }
+    ensures gives { Answers (λ p. (map expr_view p.0.items, token_views p.1.now)) halt_view result (terms_at depth (token_views tokens.now)) }
     ensures some { IfOk result (λ p. 0 < vec_len p.0) }
     ensures shorter { IfOk result (λ p. length (token_views p.1.now) < length (token_views tokens.now)) }
 {
@@ -158,7 +159,7 @@ fn terms<'a>(alloc: Global, tokens: &'a [Token<'a>], depth: u8) -> Read<'a, Vec<
 #[cycle(expressions)]
 #[tactic(auto, unfolding(crate::specs::Descent::expr_at))]
 pub fn expr<'a>(alloc: Global, tokens: &'a [Token<'a>], depth: u8) -> Read<'a, Expr>
-    ensures gives { Gives (λ p. (expr_view p.0, token_views p.1.now)) result (expr_at depth (token_views tokens.now)) }
+    ensures gives { Answers (λ p. (expr_view p.0, token_views p.1.now)) halt_view result (expr_at depth (token_views tokens.now)) }
     ensures shorter { IfOk result (λ p. length (token_views p.1.now) < length (token_views tokens.now)) }
 {
     let (members, rest) = terms(alloc, tokens, depth)?;

@@ -1,9 +1,11 @@
 //! The tokenizer: from the bytes of a text to its tokens.
 
-ghost use Rattle.std.specs.Prelude.{◌≡◌, ◌+◌, ◌^◌, ◌<◌, [], ◌∷◌, length, map, Ok, IfOk, IfErr, IfSome, MatchOption};
+ghost use Rattle.std.specs.Prelude.{◌≡◌, ◌+◌, ◌^◌, ◌<◌, [], ◌∷◌, length, map, IfSome, MatchOption};
 ghost use Rattle.std.specs.Str.{IsAscii};
 ghost use Rattle.dn_parse.specs.Token.{tokens, is_letter, is_digit, is_blank, after_comment, run, after_run, word_lexeme, sign_of, taken, bad};
-ghost use Rattle.dn_parse.specs.Lexing.{begins_comment, front_of, sign_front_of, lexeme_view, token_view, IsFaultOf};
+ghost use Rattle.dn_parse.specs.Lexing.{begins_comment, front_of, sign_front_of, lexeme_view, token_view};
+ghost use Rattle.dn_base.specs.Answers.{Answers};
+ghost use Rattle.dn_parse.specs.Faults.{token_fault_view};
 
 use crate::keyword::keyword_of;
 use crate::number::number_of;
@@ -49,8 +51,7 @@ impl<T: Drop> From<AllocFailed<T>> for TokenFault {
 /// short enough for its lines to fit.
 pub fn tokens<'a>(alloc: Global, text: &'a [u8]) -> Result<Vec<Token<'a>>, TokenFault>
     requires { length text.now + 1 < 2 ^ 32 }
-    ensures ok { IfOk result (λ found. tokens text.now ≡ Ok (map token_view found.items)) }
-    ensures err { IfErr result (λ fault. IsFaultOf fault (tokens text.now)) }
+    ensures { Answers (λ found. map token_view found.items) token_fault_view result (tokens text.now) }
 {
     let mut found = Vec::new(alloc);
     let mut line = 1;

@@ -4,7 +4,7 @@ use Rattle.std.specs.List.{list_any, prefix_len}
 use Rattle.std.proofs.lemmas.Slice.Eq.{bytes_eq-Decides}
 use Rattle.dn_parse.specs.Token.{Token, tokens}
 use Rattle.dn_parse.specs.Tree.{declares, Declaration, Item, declared, Items, items, Tree}
-use Rattle.dn_parse.specs.Whole.{Blocks, judge, reading, no_blocks_yet, last_line, too_long, of_reading, of_token_list, text_reading}
+use Rattle.dn_parse.specs.Whole.{Blocks, judge, reading, no_blocks_yet, last_line, too_long, of_token_list, text_reading}
 use Rattle.dn_parse.specs.Descent.{whole_statement_at}
 use Rattle.dn_parse.specs.Going.{tokens_of}
 use Rattle.dn_parse.proofs.Going.{tokens_go_on}
@@ -128,7 +128,7 @@ unfolding text_reading reading judge
 reads text found tree short e j =
     ap (λ b. cond b (of_token_list (last_line text) (tokens text)) (Err too_long)) (le-leb (length text) 4194304 short)
     ∙ ap (of_token_list (last_line text)) e
-    ∙ ap of_reading j
+    ∙ j
 
 enough_steps : 1024 ≤ most_steps
 unfolding most_steps

@@ -1,10 +1,10 @@
 -- What a text comes to where it is refused.
-use Rattle.std.proofs.Common.{◌≡◌, ◌≢◌, ◌∙◌, ap, sym, refl, Option, Some, None, List, ℕ, Result, Ok, Err, IfOk}
+use Rattle.std.proofs.Common.{◌≡◌, ◌≢◌, ◌∙◌, ap, sym, refl, Option, Some, None, IfSome, List, ℕ, Result, Ok, Err, IfOk}
+use Rattle.std.specs.Option.{option_map}
 use Rattle.dn_parse.specs.declared.reader.ParseFault.{ParseFault}
-use Rattle.dn_parse.specs.declared.reader.ParseFault.TheVariants.{Length, Token, Statement, Block, Nesting, OutOfMemory as NoMemory}
 use Rattle.dn_parse.specs.Tree.{Tree}
 use Rattle.dn_parse.specs.Whole.{TextFault, text_reading}
-use Rattle.dn_parse.specs.Placing.{IsTextFault}
+use Rattle.dn_parse.specs.Faults.{parse_fault_view}
 use Rattle.dn_net.specs.declared.rules.NodeFault.{NodeFault}
 use Rattle.dn_net.specs.declared.rules.NodeFault.TheVariants.{OutOfMemory}
 use Rattle.dn_net.specs.Rules.{node_fault}
@@ -16,23 +16,18 @@ use Rattle.dn_module.specs.Told.{IsFault}
 use Rattle.dn_walk.specs.declared.fault.WalkFault.{WalkFault}
 use Rattle.dn_walk.specs.declared.fault.WalkFault.TheVariants.{Wide, Loop, Deep, OutOfMemory as NoSpace}
 use Rattle.dn_walk.specs.Rows.{IsBroken}
-use Rattle.dn_tool.specs.Refused.{Refused, fault_of, broken_of, text_refusal, expand_refusal, node_refusal, walk_refusal}
+use Rattle.dn_tool.specs.Refused.{Refused, broken_of, text_refusal, expand_refusal, node_refusal, walk_refusal}
 use Rattle.dn_tool.specs.Compiled.{compiled, compiled_reading, compiled_outcome, by_node_rules, by_walk_rules, refused, legal}
 
--- the fault that the reader answered, where it is none of memory
-told_fault : (e : ParseFault) (r : Result Tree TextFault) → e ≢ NoMemory → IsTextFault e r → r ≡ Err (fault_of e)
-told_fault Length r n h = h
-told_fault (Token line) r n h = h
-told_fault (Statement line) r n h = h
-told_fault (Block line) r n h = h
-told_fault (Nesting line) r n h = h
-told_fault NoMemory r n h = absurd (n refl)
-
 -- the reader refused it
-pub text_refused : {E : Type 0} (text : List ℕ) (e : ParseFault) (r : Result Refused E) → IsTextFault e (text_reading text) → IfOk r (λ x. x ≡ text_refusal (fault_of e)) → IfOk r (λ _. e ≢ NoMemory) → IfOk r (λ x. compiled text ≡ refused x)
+pub text_refused : {E : Type 0} (text : List ℕ) (e : ParseFault) (r : Result Refused E) → IfSome (parse_fault_view e) (λ f. text_reading text ≡ Err f) → IfOk r (λ x. option_map text_refusal (parse_fault_view e) ≡ Some x) → IfOk r (λ x. compiled text ≡ refused x)
 unfolding compiled
-text_refused text e (Ok x) read is broken = ap compiled_reading (told_fault e (text_reading text) broken read) ∙ ap refused (sym is)
-text_refused text e (Err y) read is broken = tt
+text_refused text e (Ok x) read is = go (parse_fault_view e) read is
+  where
+    go : (o : Option TextFault) → IfSome o (λ f. text_reading text ≡ Err f) → option_map text_refusal o ≡ Some x → compiled_reading (text_reading text) ≡ refused x
+    go None read is = cc
+    go (Some f) read is = let same : text_refusal f ≡ x = cc in ap compiled_reading read ∙ ap refused same
+text_refused text e (Err y) read is = tt
 
 -- the fault that the expansion answered, where it is none of memory
 told_expansion : (e : ExpandFault) (r : Result Outcome ExpandFault) → e ≢ NoRoom → IsFault e r → r ≡ Err e

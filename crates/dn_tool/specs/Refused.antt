@@ -1,9 +1,7 @@
 -- A refusal: the rule that a text breaks, and the line that says so, without its end.
 use Rattle.std.specs.Prelude.{ℕ, ◌<◌, List, ◌++◌, codes, IsTrue}
 use Rattle.std.specs.Fmt.{decimal}
-use Rattle.dn_parse.specs.declared.reader.ParseFault.{ParseFault}
-use Rattle.dn_parse.specs.declared.reader.ParseFault.TheVariants.{Length as TooLong, Token as BadToken, Statement as BadStatement, Block as BadBlock, Nesting as TooDeep, OutOfMemory as NoMemory}
-use Rattle.dn_parse.specs.Whole.{Fault, statement_fault, block_fault, nesting_fault, TextFault, too_long, bad_token, of_tokens}
+use Rattle.dn_parse.specs.Whole.{TextFault, too_long, bad_token, statement_fault, block_fault, nesting_fault}
 use Rattle.dn_net.specs.declared.node.Name.{Name}
 use Rattle.dn_net.specs.declared.node.NodeDecl.{NodeDecl}
 use Rattle.dn_net.specs.declared.rules.NodeFault.{NodeFault}
@@ -58,25 +56,13 @@ by_limit line limit = record { rule = TooMany; text = codes "refused: line " ++ 
 abbrev pub showing : Rule → List ℕ → Refused
 showing rule text = record { rule = rule; text = codes "refused: " ++ (rule_name rule ++ (codes " " ++ text)) }
 
-abbrev pub statement_refusal : Fault → Refused
-statement_refusal (statement_fault line) = by_line Statement line
-statement_refusal (block_fault line) = by_line Block line
-statement_refusal (nesting_fault line) = by_line Nesting line
-
 -- the refusal of a text that spells no tree
 abbrev pub text_refusal : TextFault → Refused
 text_refusal too_long = by_text Length
 text_refusal (bad_token line) = by_line Token line
-text_refusal (of_tokens fault) = statement_refusal fault
-
--- the fault of a text that the reader's answer says; want of memory says none
-abbrev pub fault_of : ParseFault → TextFault
-fault_of TooLong = too_long
-fault_of (BadToken line) = bad_token line
-fault_of (BadStatement line) = of_tokens (statement_fault line)
-fault_of (BadBlock line) = of_tokens (block_fault line)
-fault_of (TooDeep line) = of_tokens (nesting_fault line)
-fault_of NoMemory = too_long
+text_refusal (statement_fault line) = by_line Statement line
+text_refusal (block_fault line) = by_line Block line
+text_refusal (nesting_fault line) = by_line Nesting line
 
 -- the refusal of a tree that expands to no net; want of memory is no broken rule, and never what a tree expands to
 abbrev pub expand_refusal : ExpandFault → Refused

@@ -1,9 +1,10 @@
 //! The refusal of a text: the rule that it breaks, and the line that says so.
 
-ghost use Rattle.std.specs.Prelude.{◌≡◌, ◌≢◌, ◌<◌, ◌++◌, length, IfOk, OnOk, IsTrue};
+ghost use Rattle.std.specs.Prelude.{◌≡◌, ◌≢◌, ◌<◌, ◌++◌, length, option_map, Some, IfOk, OnOk, IsTrue};
+ghost use Rattle.dn_parse.specs.Faults.{parse_fault_view};
 ghost use Rattle.std.specs.String.{string_bytes};
 ghost use Rattle.dn_print.specs.Names.{name_text, names_exist};
-ghost use Rattle.dn_tool.specs.Refused.{fault_of, broken_of, rule_name, by_text, by_line, by_limit, showing, text_refusal, expand_refusal, node_refusal, walk_refusal, chain_text, IsFaultWithin, IsWalkFaultWithin};
+ghost use Rattle.dn_tool.specs.Refused.{broken_of, rule_name, by_text, by_line, by_limit, showing, text_refusal, expand_refusal, node_refusal, walk_refusal, chain_text, IsFaultWithin, IsWalkFaultWithin};
 
 use dn_base::text::Text;
 use dn_module::fault::ExpandFault;
@@ -152,8 +153,7 @@ impl Refusal {
 
 /// The refusal of a text that the reader refuses. Want of memory is handed on.
 pub fn text_refusal(alloc: Global, fault: ParseFault) -> Result<Refusal, AllocError>
-    ensures refusal { IfOk result (λ r. r ≡ text_refusal (fault_of fault)) }
-    ensures broken { IfOk result (λ _. fault ≢ ParseFault.OutOfMemory) }
+    ensures { IfOk result (λ r. option_map text_refusal (parse_fault_view fault) ≡ Some r) }
 {
     match fault {
         ParseFault::Length => Refusal::of_text(alloc, Rule::Length),

@@ -4,7 +4,8 @@ use Rattle.std.proofs.lemmas.Result.{err_from_is_err_and}
 use Rattle.dn_parse.specs.declared.token.Sign.TheVariants.{OpenParenthesis}
 use Rattle.dn_parse.specs.Token.{sign}
 use Rattle.dn_parse.specs.Lexing.{lexeme_view, token_view}
-use Rattle.dn_parse.specs.Giving.{Gives}
+use Rattle.dn_base.specs.Answers.{Answers}
+use Rattle.dn_parse.specs.Faults.{halt_view}
 use Rattle.dn_parse.specs.Views.{token_views, expr_view}
 use Rattle.dn_parse.specs.Descent.{factor_at, next_factor_at, factors_at, term_at, next_term_at, terms_at}
 use Rattle.dn_parse.proofs.Series.{Found, halted, found_first, found_more}
@@ -67,4 +68,4 @@ factor-returns-else-depth-eq0-clause-gives t c =
     let some : 0 < d = omega arith in
     let opens : token_views c.args.tokens.now ≡ token_view c.in-Some.token ∷ token_views c.in-Some.rest.now = search rules in
     let opened : lexeme_view c.in-Some.token.lexeme ≡ sign OpenParenthesis = search rules in
-    subst (λ r. Gives (λ p. (expr_view p.0, token_views p.1.now)) c.after_open.result r) (sym (factor_nested d (token_views c.args.tokens.now) (token_view c.in-Some.token) (token_views c.in-Some.rest.now) opens opened some)) c.after_open.ensures.gives
+    subst (λ r. Answers (λ p. (expr_view p.0, token_views p.1.now)) halt_view c.after_open.result r) (sym (factor_nested d (token_views c.args.tokens.now) (token_view c.in-Some.token) (token_views c.in-Some.rest.now) opens opened some)) c.after_open.ensures.gives

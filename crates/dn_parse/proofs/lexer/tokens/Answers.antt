@@ -26,8 +26,8 @@ text-preserved-then-is_comment c =
     let comment = ap begins_comment (sym c.in-Some.ensures) ∙ sym c.if-is_comment.ensures in
     at_same (at_comment (at_same c.text.invariant c.in-Some.ensures) no_line (sym c.if-is_blank.ensures) comment) (sym c.after_comment-rest.ensures)
 
-pub returns-in_default-front-clause-err : goal.returns-in_default-front-clause-err
-returns-in_default-front-clause-err c =
+pub returns-in_default-front : goal.returns-in_default-front
+returns-in_default-front c =
     let no_line : is_line_feed c.in-Some.byte ≡ false = search (rules, tests) in
     let no_comment = ap begins_comment (sym c.in-Some.ensures) ∙ sym c.if-is_comment.ensures in
     at_bad (at_same c.text.invariant c.in-Some.ensures) no_line (sym c.if-is_blank.ensures) no_comment (ap front_of (sym c.in-Some.ensures) ∙ c.in_default-front.ensures.seen)
@@ -40,5 +40,5 @@ text-preserved c =
     let shorter = subst (λ (s : List ℕ). length c.in-Some-front.after.now < length s) c.in-Some.ensures c.in-Some-front.ensures.shorter in
     subst (λ (found : List Token). Before c.args.text.now found c.text.line c.in-Some-front.after.now) (sym items) (at_token (at_same c.text.invariant c.in-Some.ensures) no_line (sym c.if-is_blank.ensures) no_comment (ap front_of (sym c.in-Some.ensures) ∙ c.in-Some-front.ensures.seen) shorter)
 
-pub returns-clause-ok : goal.returns-clause-ok
-returns-clause-ok c = at_end (at_same c.text.invariant c.in_default.ensures)
+pub returns : goal.returns
+returns c = at_end (at_same c.text.invariant c.in_default.ensures)

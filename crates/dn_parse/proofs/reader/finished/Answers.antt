@@ -1,4 +1,4 @@
-use Rattle.std.proofs.Common.{length, ◌<◌, arith, rules}
+use Rattle.std.proofs.Common.{arith}
 use Rattle.dn_parse.proofs.Judge.{unfinished_seen}
 use Rattle.dn_parse.proofs.reader.finished.Goals as goal
 

@@ -1,4 +1,4 @@
-use Rattle.std.proofs.Common.{length, ◌<◌, arith}
+use Rattle.std.proofs.Common.{arith}
 use Rattle.dn_parse.specs.Views.{token_views}
 use Rattle.dn_parse.proofs.Judge.{statement_no_longer}
 use Rattle.dn_parse.proofs.reader.whole_statement.Goals as goal

@@ -7,7 +7,7 @@ use Rattle.dn_tool.proofs.compile.compile.Goals as goal
 
 pub returns-in-Err-clause-refused : goal.returns-in-Err-clause-refused
 returns-in-Err-clause-refused c =
-    c.told.ensures (compiled c.args.text.now) (text_refused c.args.text.now c.in-Err.fault c.text_refusal.result c.in-Err.ensures c.text_refusal.ensures.refusal c.text_refusal.ensures.broken)
+    c.told.ensures (compiled c.args.text.now) (text_refused c.args.text.now c.in-Err.fault c.text_refusal.result c.in-Err.ensures c.text_refusal.ensures)
 
 pub returns-in-Ok-expand-clause-legal : goal.returns-in-Ok-expand-clause-legal
 returns-in-Ok-expand-clause-legal c =
