@@ -1,5 +1,9 @@
--- The faults of the code as those of the definitions. Want of memory is none of them: it may befall any call.
-use Rattle.std.specs.Prelude.{ℕ, List, Option, None, Some, option_map}
+-- The faults of the code as those of the definitions, and what a call that reads a part answers.
+-- Want of memory is none of the faults: it may befall any call.
+use denote.Ref.{Bor}
+use Rattle.std.specs.Prelude.{ℕ, ◌<◌, ◌≤◌, List, length, Option, None, Some, option_map, Result}
+use Rattle.dn_base.specs.Answers.{Answers}
+use Rattle.dn_parse.specs.declared.token.Token.{Token as CodeToken}
 use Rattle.dn_parse.specs.declared.lexer.TokenFault.{TokenFault}
 use Rattle.dn_parse.specs.declared.lexer.TokenFault.TheVariants.{Bad, OutOfMemory as NoTokens}
 use Rattle.dn_parse.specs.declared.cursor.Halt.{Halt}
@@ -12,6 +16,8 @@ use Rattle.dn_parse.specs.declared.reader.ParseFault.{ParseFault}
 use Rattle.dn_parse.specs.declared.reader.ParseFault.TheVariants.{Length, Token as BadToken, Statement, Block, Nesting, OutOfMemory}
 use Rattle.dn_parse.specs.Token.{Token}
 use Rattle.dn_parse.specs.Machine.{Stop, refused, deep}
+use Rattle.dn_parse.specs.Descent.{Read, Next}
+use Rattle.dn_parse.specs.Views.{token_views}
 use Rattle.dn_parse.specs.Whole.{Misplacement, forbidden, crowded, TextFault, too_long, bad_token, statement_fault, block_fault, nesting_fault, stop_fault, misplacement_fault}
 
 -- the line of the first bad place
@@ -24,6 +30,22 @@ abbrev pub halt_view : Halt → Option Stop
 halt_view (Refused n) = Some (refused n)
 halt_view (Deep n) = Some (deep n)
 halt_view NoParts = None
+
+-- a part was read, and these tokens follow it; or this is where the reading stops
+abbrev pub Reads : {X Y : Type 0} → (X → Y) → Result (X × Bor (List CodeToken)) Halt → Read Y → Type 0
+Reads view result read = Answers (λ p. (view p.0, token_views p.1.now)) halt_view result read
+
+-- the same of a part that may be left out
+abbrev pub ReadsNext : {X Y : Type 0} → (X → Y) → Result (Option (X × Bor (List CodeToken))) Halt → Next Y → Type 0
+ReadsNext view result next = Answers (λ o. option_map (λ p. (view p.0, token_views p.1.now)) o) halt_view result next
+
+-- fewer tokens are left
+abbrev pub IsShorter : List CodeToken → List CodeToken → Type 0
+IsShorter rest tokens = length (token_views rest) < length (token_views tokens)
+
+-- no more tokens are left
+abbrev pub IsNoLonger : List CodeToken → List CodeToken → Type 0
+IsNoLonger rest tokens = length (token_views rest) ≤ length (token_views tokens)
 
 -- why a statement is not placed
 abbrev pub misplaced_view : Misplaced → Option Misplacement

@@ -22,6 +22,7 @@ IsDeep whole = ⊥
 IsDeep (refused n) = ⊥
 IsDeep (deep n) = Unit {0}
 
+-- each spelling is read as its statements, unless a parenthesis in it is nested too deep
 abbrev pub SpelledIsRead : Type 0
 SpelledIsRead = (ts : List Token) (ss : List Placed) → SpellsText ts ss → (((run between ts).stop ≡ whole) × ((run between ts).statements ≡ ss)) ⊎ IsDeep (run between ts).stop
 

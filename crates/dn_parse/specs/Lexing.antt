@@ -24,6 +24,7 @@ abbrev pub front_of : List ℕ → Front
 front_of [] = bad
 front_of (b ∷ s) = front b s
 
+-- the sign at the front of a text, the longer one first
 abbrev pub sign_front_of : List ℕ → Front
 sign_front_of [] = bad
 sign_front_of (b ∷ s) = dots_or_sign b s
@@ -38,6 +39,7 @@ abbrev pub keyword_among : List (List ℕ × Keyword) → List ℕ → Option Ke
 keyword_among [] w = None
 keyword_among (r ∷ rs) w = if bytes_eq w r.0 then Some r.1 else keyword_among rs w
 
+-- the reserved word that a word is, where it is one
 unfoldable pub reserved_word : List ℕ → Option Keyword
 reserved_word w = keyword_among reserved w
 

@@ -47,50 +47,64 @@ expr_step (Sum v) = sum (expressions v.items)
 expr_step (Product v) = product (expressions v.items)
 expr_step (Minus a b) = minus a.value b.value
 
+-- an expression
 abbrev pub expr_view : Expr → Expression
 expr_view = fold-Expr Expression expr_step
 
+-- an expression that may be left out
 abbrev pub maybe_expr_view : Option Expr → Option Expression
 maybe_expr_view o = option_map expr_view o
 
+-- a part of a name
 abbrev pub part_view : PartExpr → Part
 part_view p = record { title = p.title; index = maybe_expr_view p.index }
 
+-- a name
 abbrev pub name_view : List PartExpr → List Part
 name_view ps = map part_view ps
 
+-- a block
 abbrev pub block_view : BlockExpr → Block
 block_view b = record { lo = expr_view b.lo; hi = maybe_expr_view b.hi }
 
+-- a destination
 abbrev pub dest_view : DestExpr → Dest
 dest_view d = record { name = name_view d.name; addr = maybe_expr_view d.addr }
 
+-- a map entry
 abbrev pub entry_view : EntryExpr → Entry
 entry_view m = record { block = block_view m.block; dests = map dest_view m.dests }
 
+-- a name that may be left out
 abbrev pub maybe_name_view : Option (List PartExpr) → Option (List Part)
 maybe_name_view o = option_map name_view o
 
+-- the parts of a node
 abbrev pub spec_view : CodeSpec → Spec
 spec_view s = record { accepts = map block_view s.accepts; entries = map entry_view s.entries; over = maybe_name_view s.over }
 
+-- a parameter of a module
 abbrev pub param_view : CodeParam → Param
 param_view (NumParam w) = number_param w
 param_view (NodeParam w) = node_param w
 
+-- an argument of a use
 abbrev pub arg_view : CodeArg → Arg
 arg_view (NumArg e) = number_arg (expr_view e)
 arg_view (NodeArg n) = node_arg (name_view n)
 
+-- what a node is declared as
 abbrev pub role_view : DeclRole → Role
 role_view Plain = plain_role
 role_view Agent = agent_role
 role_view Vectors = vectors_role
 
+-- a declaration
 abbrev pub declaration_view : CodeDeclaration → Declaration
 declaration_view (Node role name spec) = node (role_view role) (name_view name) (spec_view spec)
 declaration_view (UnitCase name kind page slots reach ports) = unit (name_view name) kind (expr_view page) (expr_view slots) (expr_view reach) (map name_view ports)
 
+-- what a command asks for
 abbrev pub order_view : CodeOrder → Order
 order_view (Resolve n e) = resolve (name_view n) (expr_view e)
 order_view (Lookup n e) = lookup (name_view n) (expr_view e)
@@ -102,6 +116,7 @@ order_view Dump = dump
 order_view Split = split
 order_view (Absorb n) = absorb (name_view n)
 
+-- one statement
 abbrev pub statement_view : CodeStatement → Statement
 statement_view (DeclCase d) = declares (declaration_view d)
 statement_view (ModuleCase w ps) = heads_module w (map param_view ps)
@@ -118,12 +133,15 @@ stmt_step (StmtModule line w ps body) = module_of line w (map param_view ps) (it
 stmt_step (StmtInstance line w xs n) = instance line w (map arg_view xs) (name_view n)
 stmt_step (StmtLoop line w from upto body) = loop line w (expr_view from.value) (expr_view upto.value) (items body.items)
 
+-- a statement of the tree
 abbrev pub item_view : Stmt → Item
 item_view = fold-Stmt Item stmt_step
 
+-- a command, with its line
 abbrev pub command_view : CodeCommand → Command
 command_view c = record { line = c.line; order = order_view c.order }
 
+-- the tree of a text
 abbrev pub tree_view : CodeTree → Tree
 tree_view s = record { body = items (map item_view s.body.items); commands = map command_view s.commands }
 
@@ -132,8 +150,10 @@ abbrev pub opener_view : CodeOpener → Opener
 opener_view (OpenerModule w ps) = opens_module w (map param_view ps)
 opener_view (OpenerLoop w from upto) = opens_loop w (expr_view from) (expr_view upto)
 
+-- an open block
 abbrev pub frame_view : CodeFrame → Frame
 frame_view f = record { line = f.line; opener = opener_view f.opener; before = map item_view f.before.items }
 
+-- the open blocks, of which the code keeps the innermost last
 abbrev pub blocks_view : CodeBlocks → Blocks
 blocks_view b = record { frames = reverse (map frame_view b.frames.items); body = map item_view b.body.items; begun = b.begun; commands = map command_view b.commands }

@@ -9,6 +9,7 @@ pub data Opener : Type 0 where
   opens_module : List ℕ → List Param → Opener
   opens_loop : List ℕ → Expression → Expression → Opener
 
+-- an open block: what opened it with its line, and the statements before it
 pub record Frame : Type 0 where
   pub line : ℕ
   pub opener : Opener
@@ -21,9 +22,11 @@ pub record Blocks : Type 0 where
   pub begun : Bool
   pub commands : List Command
 
+-- no statement was read
 abbrev pub no_blocks_yet : Blocks
 no_blocks_yet = record { frames = []; body = []; begun = false; commands = [] }
 
+-- a block that is closed, as one statement
 abbrev pub closed_block : Frame → List Item → Item
 closed_block f body = closed_by f.opener f.line (items body)
   where
@@ -40,16 +43,24 @@ pub data Misplacement : Type 0 where
 abbrev pub Step : Type 0
 Step = Result Blocks Misplacement
 
+-- one statement more in the innermost block
 abbrev pub with_item : Blocks → Item → Step
 with_item b i = Ok (record { frames = b.frames; body = b.body ++ i ∷ []; begun = b.begun; commands = b.commands })
 
+-- one block more is open, of which there may be 16
 abbrev pub with_frame : Blocks → ℕ → Opener → Step
 with_frame b line o = if nat_lt (length b.frames) 16 then Ok (record { frames = record { line = line; opener = o; before = b.body } ∷ b.frames; body = []; begun = b.begun; commands = b.commands }) else Err crowded
 
+-- the innermost block is closed
 abbrev pub without_frame : Blocks → List Frame → Step
 without_frame b [] = Err forbidden
 without_frame b (f ∷ fs) = Ok (record { frames = fs; body = f.before ++ closed_block f b.body ∷ []; begun = b.begun; commands = b.commands })
 
+-- the commands begin
+abbrev pub with_begin : Blocks → Step
+with_begin b = Ok (record { frames = b.frames; body = b.body; begun = true; commands = b.commands })
+
+-- a statement that is forbidden in a block
 abbrev pub outside_blocks : List Frame → Step → Step
 outside_blocks [] s = s
 outside_blocks (f ∷ fs) s = Err forbidden
@@ -61,7 +72,7 @@ before_begin b line (heads_module w ps) = outside_blocks b.frames (with_frame b 
 before_begin b line (uses w xs n) = with_item b (instance line w xs n)
 before_begin b line (heads_loop w from upto) = with_frame b line (opens_loop w from upto)
 before_begin b line ends = without_frame b b.frames
-before_begin b line begins = outside_blocks b.frames (Ok (record { frames = b.frames; body = b.body; begun = true; commands = b.commands }))
+before_begin b line begins = outside_blocks b.frames (with_begin b)
 before_begin b line (orders o) = Err forbidden
 
 -- after `begin` any statement but a command is forbidden
@@ -69,6 +80,7 @@ abbrev pub after_begin : Blocks → ℕ → Statement → Step
 after_begin b line (orders o) = Ok (record { frames = b.frames; body = b.body; begun = b.begun; commands = b.commands ++ record { line = line; order = o } ∷ [] })
 after_begin b line _ = Err forbidden
 
+-- what a whole statement does, before `begin` or after it
 abbrev pub step : Blocks → Placed → Step
 step b p = if b.begun then after_begin b p.line p.statement else before_begin b p.line p.statement
 
@@ -120,6 +132,7 @@ abbrev pub by_step : Step → ℕ → (Blocks → Result Tree TextFault) → Res
 by_step (Ok b) line next = next b
 by_step (Err m) line next = Err (misplacement_fault m line)
 
+-- the statements one after another, and then where the reading stopped
 abbrev pub judged : List Placed → (Blocks → Result Tree TextFault) → Blocks → Result Tree TextFault
 judged [] at b = at b
 judged (p ∷ ps) at b = by_step (step b p) p.line (judged ps at)
@@ -137,6 +150,7 @@ abbrev pub line_feeds : List ℕ → ℕ
 line_feeds [] = 0
 line_feeds (b ∷ s) = if is_line_feed b then 1 + line_feeds s else line_feeds s
 
+-- the line of the end of a text
 unfoldable pub last_line : List ℕ → ℕ
 last_line text = 1 + line_feeds text
 

@@ -2,8 +2,8 @@
 
 ghost use Rattle.std.specs.Prelude.{◌≡◌, List, map, IfOk};
 ghost use Rattle.dn_parse.specs.Tree.{Item};
-ghost use Rattle.dn_parse.specs.Whole.{no_blocks_yet, closed_block, step, with_item, with_frame, without_frame, before_begin, after_begin};
-ghost use Rattle.dn_parse.specs.Views.{item_view, statement_view, opener_view, blocks_view};
+ghost use Rattle.dn_parse.specs.Whole.{no_blocks_yet, closed_block, step, with_item, with_frame, with_begin, without_frame, outside_blocks, opens_module, before_begin, after_begin};
+ghost use Rattle.dn_parse.specs.Views.{item_view, param_view, statement_view, opener_view, blocks_view};
 ghost use Rattle.dn_base.specs.Answers.{Answers};
 ghost use Rattle.dn_parse.specs.Faults.{misplaced_view};
 
@@ -97,7 +97,8 @@ pub fn none(alloc: Global) -> Blocks
 
 /// The blocks with one statement more in the innermost.
 fn with_item(blocks: Blocks, item: Stmt) -> Result<Blocks, Misplaced>
-    ensures { Answers blocks_view misplaced_view result (with_item (blocks_view blocks) (item_view item)) }
+    ensures { Answers blocks_view misplaced_view result
+        (with_item (blocks_view blocks) (item_view item)) }
 {
     let mut blocks = blocks;
     blocks.body.push(item)?;
@@ -105,8 +106,9 @@ fn with_item(blocks: Blocks, item: Stmt) -> Result<Blocks, Misplaced>
 }
 
 /// The blocks with one more open.
-fn opened(alloc: Global, blocks: Blocks, line: u32, opener: Opener) -> Result<Blocks, Misplaced>
-    ensures { Answers blocks_view misplaced_view result (with_frame (blocks_view blocks) line (opener_view opener)) }
+fn with_frame(alloc: Global, blocks: Blocks, line: u32, opener: Opener) -> Result<Blocks, Misplaced>
+    ensures { Answers blocks_view misplaced_view result
+        (with_frame (blocks_view blocks) line (opener_view opener)) }
 {
     if blocks.frames.len() >= MOST_BLOCKS {
         return Err(Misplaced::Crowded);
@@ -132,8 +134,10 @@ fn opened(alloc: Global, blocks: Blocks, line: u32, opener: Opener) -> Result<Bl
 }
 
 /// A block that is closed, as one statement.
-fn closed(alloc: Global, line: u32, opener: Opener, body: Body) -> Result<Stmt, AllocError>
-    ensures { IfOk result (λ s. (before : List Item) → item_view s ≡ closed_block (record { line = line; opener = opener_view opener; before = before }) (map item_view body.items)) }
+fn closed_block(alloc: Global, line: u32, opener: Opener, body: Body) -> Result<Stmt, AllocError>
+    ensures { IfOk result (λ s. (before : List Item) → item_view s ≡
+        closed_block (record { line = line; opener = opener_view opener; before = before })
+        (map item_view body.items)) }
 {
     match opener {
         Opener::Module { title, params } => Ok(Stmt::Module {
@@ -157,8 +161,9 @@ fn closed(alloc: Global, line: u32, opener: Opener, body: Body) -> Result<Stmt, 
 }
 
 /// The blocks with the innermost closed.
-fn ended(alloc: Global, blocks: Blocks) -> Result<Blocks, Misplaced>
-    ensures { Answers blocks_view misplaced_view result (without_frame (blocks_view blocks) (blocks_view blocks).frames) }
+fn without_frame(alloc: Global, blocks: Blocks) -> Result<Blocks, Misplaced>
+    ensures { Answers blocks_view misplaced_view result
+        (without_frame (blocks_view blocks) (blocks_view blocks).frames) }
 {
     let Blocks {
         frames,
@@ -176,13 +181,44 @@ fn ended(alloc: Global, blocks: Blocks) -> Result<Blocks, Misplaced>
         before,
     } = frame;
     let mut before = before;
-    before.push(closed(alloc, line, opener, body)?)?;
+    before.push(closed_block(alloc, line, opener, body)?)?;
     Ok(Blocks {
         frames,
         body: before,
         begun,
         commands,
     })
+}
+
+/// The blocks with a module open, which stands in no other block.
+fn with_module(
+    alloc: Global,
+    blocks: Blocks,
+    line: u32,
+    title: Text,
+    params: Items<Param>,
+) -> Result<Blocks, Misplaced>
+    ensures { Answers blocks_view misplaced_view result
+        (outside_blocks (blocks_view blocks).frames
+        (with_frame (blocks_view blocks) line (opens_module title (map param_view params)))) }
+{
+    if !blocks.frames.is_empty() {
+        return Err(Misplaced::Forbidden);
+    }
+    with_frame(alloc, blocks, line, Opener::Module { title, params })
+}
+
+/// The blocks after `begin`, which stands in no block.
+fn with_begin(blocks: Blocks) -> Result<Blocks, Misplaced>
+    ensures { Answers blocks_view misplaced_view result
+        (outside_blocks (blocks_view blocks).frames (with_begin (blocks_view blocks))) }
+{
+    if !blocks.frames.is_empty() {
+        return Err(Misplaced::Forbidden);
+    }
+    let mut blocks = blocks;
+    blocks.begun = true;
+    Ok(blocks)
 }
 
 /// A statement before `begin`.
@@ -192,16 +228,12 @@ fn before_begin(
     line: u32,
     statement: Statement,
 ) -> Result<Blocks, Misplaced>
-    ensures { Answers blocks_view misplaced_view result (before_begin (blocks_view blocks) line (statement_view statement)) }
+    ensures { Answers blocks_view misplaced_view result
+        (before_begin (blocks_view blocks) line (statement_view statement)) }
 {
     match statement {
         Statement::Decl(decl) => with_item(blocks, Stmt::Decl { line, decl }),
-        Statement::Module { title, params } => {
-            if !blocks.frames.is_empty() {
-                return Err(Misplaced::Forbidden);
-            }
-            opened(alloc, blocks, line, Opener::Module { title, params })
-        }
+        Statement::Module { title, params } => with_module(alloc, blocks, line, title, params),
         Statement::Instance {
             title,
             args,
@@ -219,7 +251,7 @@ fn before_begin(
             variable,
             from,
             upto,
-        } => opened(
+        } => with_frame(
             alloc,
             blocks,
             line,
@@ -229,22 +261,16 @@ fn before_begin(
                 upto,
             },
         ),
-        Statement::End => ended(alloc, blocks),
-        Statement::Begin => {
-            if !blocks.frames.is_empty() {
-                return Err(Misplaced::Forbidden);
-            }
-            let mut blocks = blocks;
-            blocks.begun = true;
-            Ok(blocks)
-        }
+        Statement::End => without_frame(alloc, blocks),
+        Statement::Begin => with_begin(blocks),
         Statement::Order(_) => Err(Misplaced::Forbidden),
     }
 }
 
 /// A statement after `begin`.
 fn after_begin(blocks: Blocks, line: u32, statement: Statement) -> Result<Blocks, Misplaced>
-    ensures { Answers blocks_view misplaced_view result (after_begin (blocks_view blocks) line (statement_view statement)) }
+    ensures { Answers blocks_view misplaced_view result
+        (after_begin (blocks_view blocks) line (statement_view statement)) }
 {
     let Statement::Order(order) = statement else {
         return Err(Misplaced::Forbidden);
@@ -255,13 +281,15 @@ fn after_begin(blocks: Blocks, line: u32, statement: Statement) -> Result<Blocks
 }
 
 /// The blocks with one statement more, which begins in this line.
-pub fn placed(
+pub fn with_statement(
     alloc: Global,
     blocks: Blocks,
     line: u32,
     statement: Statement,
 ) -> Result<Blocks, Misplaced>
-    ensures { Answers blocks_view misplaced_view result (step (blocks_view blocks) (record { line = line; statement = statement_view statement })) }
+    ensures { Answers blocks_view misplaced_view result
+        (step (blocks_view blocks)
+        (record { line = line; statement = statement_view statement })) }
 {
     if blocks.begun {
         after_begin(blocks, line, statement)

@@ -1,11 +1,10 @@
 //! Expressions.
 
-ghost use Rattle.std.specs.Prelude.{◌≡◌, ◌<◌, length, map, option_map, IfOk, IfSome, vec_len};
+ghost use Rattle.std.specs.Prelude.{◌≡◌, ◌<◌, map, IfOk, IfSome, vec_len};
 ghost use Rattle.dn_parse.specs.Actions.{summed, multiplied};
 ghost use Rattle.dn_parse.specs.Views.{token_views, expr_view};
 ghost use Rattle.dn_parse.specs.Descent.{factor_at, next_factor_at, factors_at, term_at, next_term_at, terms_at, expr_at, after_open_at};
-ghost use Rattle.dn_base.specs.Answers.{Answers};
-ghost use Rattle.dn_parse.specs.Faults.{halt_view};
+ghost use Rattle.dn_parse.specs.Faults.{Reads, ReadsNext, IsShorter};
 
 use crate::cursor::{Halt, Next, Read, after_sign, next, refusal, sign};
 use crate::syntax::Expr;
@@ -14,7 +13,7 @@ use dn_base::text::Text;
 use std::alloc::Global;
 
 /// The sum of the members, or the only one.
-fn summed(members: Vec<Expr>) -> Expr
+fn sum_of(members: Vec<Expr>) -> Expr
     requires { 0 < vec_len members }
     ensures { expr_view result ≡ summed (map expr_view members.items) }
 {
@@ -27,7 +26,7 @@ fn summed(members: Vec<Expr>) -> Expr
 }
 
 /// The product of the members, or the only one.
-fn multiplied(members: Vec<Expr>) -> Expr
+fn product_of(members: Vec<Expr>) -> Expr
     requires { 0 < vec_len members }
     ensures { expr_view result ≡ multiplied (map expr_view members.items) }
 {
@@ -43,8 +42,8 @@ fn multiplied(members: Vec<Expr>) -> Expr
 #[cycle(expressions)]
 #[tactic(auto, unfolding(crate::specs::Descent::factor_at))]
 fn factor<'a>(alloc: Global, tokens: &'a [Token<'a>], depth: u8) -> Read<'a, Expr>
-    ensures gives { Answers (λ p. (expr_view p.0, token_views p.1.now)) halt_view result (factor_at depth (token_views tokens.now)) }
-    ensures shorter { IfOk result (λ p. length (token_views p.1.now) < length (token_views tokens.now)) }
+    ensures gives { Reads expr_view result (factor_at depth (token_views tokens.now)) }
+    ensures shorter { IfOk result (λ p. IsShorter p.1.now tokens.now) }
 {
     let Some((token, rest)) = next(tokens) else {
         return Err(refusal(tokens));
@@ -66,8 +65,8 @@ fn factor<'a>(alloc: Global, tokens: &'a [Token<'a>], depth: u8) -> Read<'a, Exp
 #[cycle(expressions)]
 #[tactic(auto, unfolding(crate::specs::Descent::after_open_at))]
 fn after_open<'a>(alloc: Global, tokens: &'a [Token<'a>], depth: u8) -> Read<'a, Expr>
-    ensures gives { Answers (λ p. (expr_view p.0, token_views p.1.now)) halt_view result (after_open_at depth (token_views tokens.now)) }
-    ensures shorter { IfOk result (λ p. length (token_views p.1.now) < length (token_views tokens.now)) }
+    ensures gives { Reads expr_view result (after_open_at depth (token_views tokens.now)) }
+    ensures shorter { IfOk result (λ p. IsShorter p.1.now tokens.now) }
 {
     let (first, rest) = expr(alloc, tokens, depth)?;
     let Some(rest) = after_sign(rest, Sign::Minus) else {
@@ -84,8 +83,8 @@ fn after_open<'a>(alloc: Global, tokens: &'a [Token<'a>], depth: u8) -> Read<'a,
 #[cycle(expressions)]
 #[tactic(auto, unfolding(crate::specs::Descent::next_factor_at))]
 fn next_factor<'a>(alloc: Global, tokens: &'a [Token<'a>], depth: u8) -> Next<'a, Expr>
-    ensures gives { Answers (λ o. option_map (λ p. (expr_view p.0, token_views p.1.now)) o) halt_view result (next_factor_at depth (token_views tokens.now)) }
-    ensures shorter { IfOk result (λ o. IfSome o (λ p. length (token_views p.1.now) < length (token_views tokens.now))) }
+    ensures gives { ReadsNext expr_view result (next_factor_at depth (token_views tokens.now)) }
+    ensures shorter { IfOk result (λ o. IfSome o (λ p. IsShorter p.1.now tokens.now)) }
 {
     let Some(rest) = after_sign(tokens, Sign::Times) else {
         return Ok(None);
@@ -97,9 +96,10 @@ fn next_factor<'a>(alloc: Global, tokens: &'a [Token<'a>], depth: u8) -> Next<'a
 /// `factor { "*" factor }`
 #[cycle(expressions)]
 fn factors<'a>(alloc: Global, tokens: &'a [Token<'a>], depth: u8) -> Read<'a, Vec<Expr>>
-    ensures gives { Answers (λ p. (map expr_view p.0.items, token_views p.1.now)) halt_view result (factors_at depth (token_views tokens.now)) }
+    ensures gives { Reads (λ v. map expr_view v.items) result
+        (factors_at depth (token_views tokens.now)) }
     ensures some { IfOk result (λ p. 0 < vec_len p.0) }
-    ensures shorter { IfOk result (λ p. length (token_views p.1.now) < length (token_views tokens.now)) }
+    ensures shorter { IfOk result (λ p. IsShorter p.1.now tokens.now) }
 {
     let (first, after) = factor(alloc, tokens, depth)?;
     let mut members = Vec::new(alloc);
@@ -116,19 +116,19 @@ fn factors<'a>(alloc: Global, tokens: &'a [Token<'a>], depth: u8) -> Read<'a, Ve
 #[cycle(expressions)]
 #[tactic(auto, unfolding(crate::specs::Descent::term_at))]
 fn term<'a>(alloc: Global, tokens: &'a [Token<'a>], depth: u8) -> Read<'a, Expr>
-    ensures gives { Answers (λ p. (expr_view p.0, token_views p.1.now)) halt_view result (term_at depth (token_views tokens.now)) }
-    ensures shorter { IfOk result (λ p. length (token_views p.1.now) < length (token_views tokens.now)) }
+    ensures gives { Reads expr_view result (term_at depth (token_views tokens.now)) }
+    ensures shorter { IfOk result (λ p. IsShorter p.1.now tokens.now) }
 {
     let (members, rest) = factors(alloc, tokens, depth)?;
-    Ok((multiplied(members), rest))
+    Ok((product_of(members), rest))
 }
 
 /// `[ "+" term ]`
 #[cycle(expressions)]
 #[tactic(auto, unfolding(crate::specs::Descent::next_term_at))]
 fn next_term<'a>(alloc: Global, tokens: &'a [Token<'a>], depth: u8) -> Next<'a, Expr>
-    ensures gives { Answers (λ o. option_map (λ p. (expr_view p.0, token_views p.1.now)) o) halt_view result (next_term_at depth (token_views tokens.now)) }
-    ensures shorter { IfOk result (λ o. IfSome o (λ p. length (token_views p.1.now) < length (token_views tokens.now))) }
+    ensures gives { ReadsNext expr_view result (next_term_at depth (token_views tokens.now)) }
+    ensures shorter { IfOk result (λ o. IfSome o (λ p. IsShorter p.1.now tokens.now)) }
 {
     let Some(rest) = after_sign(tokens, Sign::Plus) else {
         return Ok(None);
@@ -140,9 +140,10 @@ fn next_term<'a>(alloc: Global, tokens: &'a [Token<'a>], depth: u8) -> Next<'a, 
 /// `term { "+" term }`
 #[cycle(expressions)]
 fn terms<'a>(alloc: Global, tokens: &'a [Token<'a>], depth: u8) -> Read<'a, Vec<Expr>>
-    ensures gives { Answers (λ p. (map expr_view p.0.items, token_views p.1.now)) halt_view result (terms_at depth (token_views tokens.now)) }
+    ensures gives { Reads (λ v. map expr_view v.items) result
+        (terms_at depth (token_views tokens.now)) }
     ensures some { IfOk result (λ p. 0 < vec_len p.0) }
-    ensures shorter { IfOk result (λ p. length (token_views p.1.now) < length (token_views tokens.now)) }
+    ensures shorter { IfOk result (λ p. IsShorter p.1.now tokens.now) }
 {
     let (first, after) = term(alloc, tokens, depth)?;
     let mut members = Vec::new(alloc);
@@ -159,9 +160,9 @@ fn terms<'a>(alloc: Global, tokens: &'a [Token<'a>], depth: u8) -> Read<'a, Vec<
 #[cycle(expressions)]
 #[tactic(auto, unfolding(crate::specs::Descent::expr_at))]
 pub fn expr<'a>(alloc: Global, tokens: &'a [Token<'a>], depth: u8) -> Read<'a, Expr>
-    ensures gives { Answers (λ p. (expr_view p.0, token_views p.1.now)) halt_view result (expr_at depth (token_views tokens.now)) }
-    ensures shorter { IfOk result (λ p. length (token_views p.1.now) < length (token_views tokens.now)) }
+    ensures gives { Reads expr_view result (expr_at depth (token_views tokens.now)) }
+    ensures shorter { IfOk result (λ p. IsShorter p.1.now tokens.now) }
 {
     let (members, rest) = terms(alloc, tokens, depth)?;
-    Ok((summed(members), rest))
+    Ok((sum_of(members), rest))
 }

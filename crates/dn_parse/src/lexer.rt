@@ -51,7 +51,8 @@ impl<T: Drop> From<AllocFailed<T>> for TokenFault {
 /// short enough for its lines to fit.
 pub fn tokens<'a>(alloc: Global, text: &'a [u8]) -> Result<Vec<Token<'a>>, TokenFault>
     requires { length text.now + 1 < 2 ^ 32 }
-    ensures { Answers (λ found. map token_view found.items) token_fault_view result (tokens text.now) }
+    ensures { Answers (λ found. map token_view found.items) token_fault_view result
+        (tokens text.now) }
 {
     let mut found = Vec::new(alloc);
     let mut line = 1;
@@ -135,7 +136,8 @@ fn split_run(text: &[u8]) -> (&[u8], &[u8])
 
 /// The token at the front of a text that is not blank there, and what follows it.
 fn front<'a>(text: &'a [u8]) -> Option<(Lexeme<'a>, &'a [u8])>
-    ensures seen { MatchOption result (front_of text.now ≡ bad) (λ found. front_of text.now ≡ taken (lexeme_view found.0) found.1.now) }
+    ensures seen { MatchOption result (front_of text.now ≡ bad)
+        (λ found. front_of text.now ≡ taken (lexeme_view found.0) found.1.now) }
     ensures shorter { IfSome result (λ found. length found.1.now < length text.now) }
 {
     let byte = *text.first()?;
@@ -166,7 +168,8 @@ fn word_lexeme<'a>(run: &'a [u8]) -> Lexeme<'a>
 
 /// The sign at the front, the longer one first.
 fn sign_front<'a>(text: &'a [u8]) -> Option<(Lexeme<'a>, &'a [u8])>
-    ensures seen { MatchOption result (sign_front_of text.now ≡ bad) (λ found. sign_front_of text.now ≡ taken (lexeme_view found.0) found.1.now) }
+    ensures seen { MatchOption result (sign_front_of text.now ≡ bad)
+        (λ found. sign_front_of text.now ≡ taken (lexeme_view found.0) found.1.now) }
     ensures shorter { IfSome result (λ found. length found.1.now < length text.now) }
 {
     match text {

@@ -7,9 +7,9 @@ ghost use Rattle.dn_parse.specs.Whole.{line_at, last_line, first_line, at_stop, 
 ghost use Rattle.dn_parse.specs.Descent.{whole_statement_at};
 ghost use Rattle.dn_parse.specs.Views.{token_views, statement_view, blocks_view, tree_view};
 ghost use Rattle.dn_base.specs.Answers.{Answers};
-ghost use Rattle.dn_parse.specs.Faults.{halt_view, parse_fault_view, halt_fault, misplaced_fault, trouble_view};
+ghost use Rattle.dn_parse.specs.Faults.{parse_fault_view, halt_fault, misplaced_fault, trouble_view, Reads, IsShorter};
 
-use crate::blocks::{Blocks, Misplaced, none, placed};
+use crate::blocks::{Blocks, Misplaced, none, with_statement};
 use crate::cursor::{Halt, Read, sign};
 use crate::lexer::{TokenFault, tokens};
 use crate::statements::{Statement, read_statement};
@@ -114,8 +114,8 @@ fn fault_of(halt: Halt, tokens: &[Token], last: u32) -> ParseFault
 /// A statement and its `;`.
 #[tactic(auto, unfolding(crate::specs::Descent::whole_statement_at))]
 fn whole_statement<'a>(alloc: Global, tokens: &'a [Token<'a>]) -> Read<'a, Statement>
-    ensures gives { Answers (λ p. (statement_view p.0, token_views p.1.now)) halt_view result (whole_statement_at (token_views tokens.now)) }
-    ensures shorter { IfOk result (λ p. length (token_views p.1.now) < length (token_views tokens.now)) }
+    ensures gives { Reads statement_view result (whole_statement_at (token_views tokens.now)) }
+    ensures shorter { IfOk result (λ p. IsShorter p.1.now tokens.now) }
 {
     let (statement, rest) = read_statement(alloc, tokens)?;
     let rest = sign(rest, Sign::Semicolon)?;
@@ -158,13 +158,17 @@ fn next_place<'a>(
     line: u32,
 ) -> Result<(Blocks, &'a [Token<'a>]), Trouble>
     requires { first_line (token_views rest.now) ≡ Some line }
-    ensures ok { IfOk result (λ p. (last : ℕ) (all : List SpecToken) → judge last all (blocks_view blocks) (token_views rest.now) ≡ judge last all (blocks_view p.0) (token_views p.1.now)) }
-    ensures shorter { IfOk result (λ p. length (token_views p.1.now) < length (token_views rest.now)) }
-    ensures err { IfErr result (λ e. (last : ℕ) (all : List SpecToken) → IfSome (trouble_view e last all) (λ f. judge last all (blocks_view blocks) (token_views rest.now) ≡ Err f)) }
+    ensures ok { IfOk result (λ p. (last : ℕ) (all : List SpecToken) →
+        judge last all (blocks_view blocks) (token_views rest.now)
+        ≡ judge last all (blocks_view p.0) (token_views p.1.now)) }
+    ensures shorter { IfOk result (λ p. IsShorter p.1.now rest.now) }
+    ensures err { IfErr result (λ e. (last : ℕ) (all : List SpecToken) →
+        IfSome (trouble_view e last all)
+        (λ f. judge last all (blocks_view blocks) (token_views rest.now) ≡ Err f)) }
 {
     match whole_statement(alloc, rest) {
         Err(halt) => Err(Trouble::Halted(halt)),
-        Ok((statement, after)) => match placed(alloc, blocks, line, statement) {
+        Ok((statement, after)) => match with_statement(alloc, blocks, line, statement) {
             Ok(blocks) => Ok((blocks, after)),
             Err(misplaced) => Err(Trouble::Misplaced(misplaced, line)),
         },
@@ -173,8 +177,12 @@ fn next_place<'a>(
 
 /// The blocks that the tokens come to, up to their end.
 fn all_placed<'a>(alloc: Global, tokens: &'a [Token<'a>]) -> Result<Blocks, Trouble>
-    ensures ok { IfOk result (λ b. (last : ℕ) (all : List SpecToken) → judge last all no_blocks_yet (token_views tokens.now) ≡ at_stop whole last all (blocks_view b)) }
-    ensures err { IfErr result (λ e. (last : ℕ) (all : List SpecToken) → IfSome (trouble_view e last all) (λ f. judge last all no_blocks_yet (token_views tokens.now) ≡ Err f)) }
+    ensures ok { IfOk result (λ b. (last : ℕ) (all : List SpecToken) →
+        judge last all no_blocks_yet (token_views tokens.now)
+        ≡ at_stop whole last all (blocks_view b)) }
+    ensures err { IfErr result (λ e. (last : ℕ) (all : List SpecToken) →
+        IfSome (trouble_view e last all)
+        (λ f. judge last all no_blocks_yet (token_views tokens.now) ≡ Err f)) }
 {
     let Some(line) = first_line(tokens) else {
         return Ok(none(alloc));
@@ -191,8 +199,9 @@ fn all_placed<'a>(alloc: Global, tokens: &'a [Token<'a>]) -> Result<Blocks, Trou
 }
 
 /// The tree, where no block is open at the end.
-fn finished(blocks: Blocks, last: u32) -> Result<Tree, ParseFault>
-    ensures { (all : List SpecToken) → Answers tree_view parse_fault_view result (at_stop whole last all (blocks_view blocks)) }
+fn finished_tree(blocks: Blocks, last: u32) -> Result<Tree, ParseFault>
+    ensures { (all : List SpecToken) →
+        Answers tree_view parse_fault_view result (at_stop whole last all (blocks_view blocks)) }
 {
     if !blocks.frames.is_empty() {
         return Err(ParseFault::Block { line: last });
@@ -205,10 +214,11 @@ fn finished(blocks: Blocks, last: u32) -> Result<Tree, ParseFault>
 
 /// The tree of a list of tokens, or its first fault; the last line is that of the end of the text.
 fn statements<'a>(alloc: Global, tokens: &'a [Token<'a>], last: u32) -> Result<Tree, ParseFault>
-    ensures { Answers tree_view parse_fault_view result (judge last (token_views tokens.now) no_blocks_yet (token_views tokens.now)) }
+    ensures { Answers tree_view parse_fault_view result
+        (judge last (token_views tokens.now) no_blocks_yet (token_views tokens.now)) }
 {
     match all_placed(alloc, tokens) {
-        Ok(blocks) => finished(blocks, last),
+        Ok(blocks) => finished_tree(blocks, last),
         Err(Trouble::Halted(halt)) => Err(fault_of(halt, tokens, last)),
         Err(Trouble::Misplaced(misplaced, line)) => Err(misplaced_fault(misplaced, line)),
     }

@@ -6,7 +6,7 @@ use Rattle.dn_parse.specs.Views.{token_views, tree_view}
 use Rattle.dn_parse.proofs.reader.statements.Goals as goal
 
 pub returns-in-Ok : goal.returns-in-Ok
-returns-in-Ok c = subst (Answers tree_view parse_fault_view c.finished.result) (sym (c.in-Ok.ensures.ok c.args.last (token_views c.args.tokens.now))) (c.finished.ensures (token_views c.args.tokens.now))
+returns-in-Ok c = subst (Answers tree_view parse_fault_view c.finished_tree.result) (sym (c.in-Ok.ensures.ok c.args.last (token_views c.args.tokens.now))) (c.finished_tree.ensures (token_views c.args.tokens.now))
 
 pub returns-in-Err-Halted : goal.returns-in-Err-Halted
 returns-in-Err-Halted c =
