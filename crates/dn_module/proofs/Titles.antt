@@ -1,7 +1,7 @@
 -- Modules by their names, and the words of their parameters.
-use Rattle.std.proofs.Common.{◌≡◌, ◌∙◌, ap, sym, refl, arith, ℕ, zero, suc, ◌+◌, ◌<◌, ◌≤◌, nat_lt, Bool, true, false, not, ◌||◌, cond, List, [], ◌∷◌, ◌++◌, length, map, take, drop, get_or, slice_get, position, Option, Some, None, IsTrue, Result, Ok, Err, OnOk, OnErr}
+use Rattle.std.proofs.Common.{◌≡◌, ◌∙◌, ap, sym, refl, arith, ℕ, zero, suc, ◌+◌, ◌<◌, ◌≤◌, nat_lt, Bool, true, false, not, ◌||◌, cond, List, [], ◌∷◌, ◌++◌, length, map, take, drop, get_or, slice_get, position, Some, None, IsTrue, Result, Ok, Err, OnOk, OnErr}
 use Rattle.std.proofs.lemmas.Bool.Decides.{nat_tests}
-use Rattle.std.proofs.lemmas.Bool.{ltb-false, ltb-true, cases_lt}
+use Rattle.std.proofs.lemmas.Bool.{ltb-false, ltb-true}
 use Rattle.std.proofs.lemmas.List.{length-map, map_more, map-append, take-append-drop, take_all}
 use Rattle.std.specs.List.{prefix_len, list_any}
 use Rattle.std.specs.Str.{bytes_eq}
@@ -9,11 +9,11 @@ use Rattle.dn_parse.specs.declared.syntax.Param.{Param as CodeParam}
 use Rattle.dn_parse.specs.Views.{param_view}
 use Rattle.dn_module.specs.declared.modules.Module.{Module as CodeModule}
 use Rattle.dn_module.specs.Expand.{Module, Visibility, outside, within_module, module_from, usable, has_twice, is_module, word_of_param, with_module}
-use Rattle.dn_module.specs.declared.fault.ExpandFault.TheVariants.{Duplicate}
 use Rattle.dn_module.specs.Drafts.{is_known}
-use Rattle.dn_module.specs.Stack.{sees, module_seen}
+use Rattle.dn_module.specs.Stack.{sees, module_view}
 use Rattle.dn_module.proofs.Known.{twice-push, twice-append}
 use Rattle.dn_module.proofs.Places.{list_any-map}
+use Rattle.dn_module.specs.Faults.{is_duplicate}
 
 -- the place of the first module with a name, or past them all
 place : List ℕ → List Module → ℕ
@@ -110,7 +110,7 @@ module _ (title : List ℕ) where
       go false t = cut ms 0 before (ltb-false _ _ t)
 
 -- the names of the modules that are kept
-pub titles_are : (ms : List CodeModule) → map (λ m. m.title) (map module_seen ms) ≡ map (λ m. m.title.now) ms
+pub titles_are : (ms : List CodeModule) → map (λ m. m.title) (map module_view ms) ≡ map (λ m. m.title.now) ms
 titles_are [] = refl
 titles_are (m ∷ ms) = ap (λ l. m.title.now ∷ l) (titles_are ms)
 
@@ -181,7 +181,7 @@ words_all ps i h = ap param_words (take_all i ps h) ∙ sym (words_are ps)
 pub few_modules : (n : ℕ) → n < 256 → nat_lt 256 (n + 1) ≡ false
 few_modules n h = grind (arith, nat_tests)
 
-pub module_twice : (ms : List Module) (line : ℕ) (m : Module) → nat_lt 256 (length ms + 1) ≡ false → (is_module ms m.title || has_twice (map word_of_param m.params)) ≡ true → with_module ms line m ≡ Err (Duplicate line)
+pub module_twice : (ms : List Module) (line : ℕ) (m : Module) → nat_lt 256 (length ms + 1) ≡ false → (is_module ms m.title || has_twice (map word_of_param m.params)) ≡ true → with_module ms line m ≡ Err (is_duplicate line)
 module_twice ms line m n h = rw (n, h) refl
 
 pub module_added : (ms : List Module) (line : ℕ) (m : Module) → nat_lt 256 (length ms + 1) ≡ false → (is_module ms m.title || has_twice (map word_of_param m.params)) ≡ false → with_module ms line m ≡ Ok (ms ++ m ∷ [])

@@ -7,9 +7,9 @@ ghost use Rattle.dn_parse.specs.Views.{param_view, arg_view, name_view};
 ghost use Rattle.dn_module.specs.Replace.{in_arg, in_declared};
 ghost use Rattle.dn_module.specs.Expand.{has_twice, word_of_param, fits_param, fit, use_of};
 ghost use Rattle.dn_module.specs.Stack.{use_works};
-ghost use Rattle.dn_module.specs.Machine.{pair_seen, bound, given_seen, given_more, replaced_by, GivesPartBy};
-ghost use Rattle.dn_module.specs.Flaws.{GivesPart};
-ghost use Rattle.dn_module.specs.Told.{GivesBy};
+ghost use Rattle.dn_module.specs.Machine.{pair_view, bound, given_view, given_more, replaced_by};
+ghost use Rattle.dn_base.specs.Answers.{Answers};
+ghost use Rattle.dn_module.specs.Faults.{expand_fault_view, name_fault_view};
 
 use crate::fault::ExpandFault;
 use crate::modules::{Module, Visible, word_of};
@@ -37,8 +37,11 @@ pub fn used<'a>(
     args: &[Arg],
     prefix: &[PartExpr],
 ) -> Result<Use<'a>, ExpandFault>
-    requires different { IfSome found (λ m. has_twice (map word_of_param (map param_view m.1.params.now)) ≡ false) }
-    ensures { GivesBy use_works result (use_of line (map (in_arg scope.now) (map arg_view args.now)) (in_declared scope.now (name_view prefix.now)) (option_map pair_seen found.entry)) }
+    requires different { IfSome found (λ m. has_twice
+        (map word_of_param (map param_view m.1.params.now)) ≡ false) }
+    ensures { Answers use_works expand_fault_view result
+        (use_of line (map (in_arg scope.now) (map arg_view args.now))
+        (in_declared scope.now (name_view prefix.now)) (option_map pair_view found.entry)) }
 {
     let Some((number, module)) = found else {
         return Err(ExpandFault::Unknown { line });
@@ -62,7 +65,10 @@ fn inner_scope(
 ) -> Result<Scope, NameFault>
     requires different { has_twice (map word_of_param (map param_view params.now)) ≡ false }
     requires count { length params.now ≡ length args.now }
-    ensures { GivesPart result (replaced_by (map word_of_param (map param_view params.now)) (map (in_arg scope.now) (map arg_view args.now)) (in_declared scope.now (name_view prefix.now))) }
+    ensures { Answers (λ x. x) name_fault_view result
+        (replaced_by (map word_of_param (map param_view params.now))
+        (map (in_arg scope.now) (map arg_view args.now))
+        (in_declared scope.now (name_view prefix.now))) }
 {
     let given = give_all(alloc, scope, params, args)?;
     let text = declared_name(alloc, scope, prefix)?;
@@ -79,7 +85,9 @@ fn give_all(
 ) -> Result<Given, NameFault>
     requires different { has_twice (map word_of_param (map param_view params.now)) ≡ false }
     requires count { length params.now ≡ length args.now }
-    ensures { GivesPartBy given_seen result (bound (map word_of_param (map param_view params.now)) (map (in_arg scope.now) (map arg_view args.now))) }
+    ensures { Answers given_view name_fault_view result
+        (bound (map word_of_param (map param_view params.now))
+        (map (in_arg scope.now) (map arg_view args.now))) }
 {
     let mut given = Given {
         numbers: Words::new(alloc),
@@ -101,7 +109,8 @@ fn give(
 ) -> Result<(), NameFault>
     requires new_number { list_any (λ b. bytes_eq word.now b.0) given.old.numbers ≡ false }
     requires new_node { list_any (λ b. bytes_eq word.now b.0) given.old.nodes ≡ false }
-    ensures { GivesPartBy (λ _. given_seen given.new) result (given_more word.now (given_seen given.old) (in_arg scope.now (arg_view arg.now))) }
+    ensures { Answers (λ _. given_view given.new) name_fault_view result
+        (given_more word.now (given_view given.old) (in_arg scope.now (arg_view arg.now))) }
 {
     match arg {
         Arg::Num(expr) => {

@@ -10,9 +10,8 @@ use Rattle.dn_net.specs.declared.rules.NodeFault.TheVariants.{OutOfMemory}
 use Rattle.dn_net.specs.Rules.{node_fault}
 use Rattle.dn_net.specs.WalkRules.{Broken, walk_fault}
 use Rattle.dn_module.specs.declared.fault.ExpandFault.{ExpandFault}
-use Rattle.dn_module.specs.declared.fault.ExpandFault.TheVariants.{Duplicate, Unknown, Arguments, Value, TooMany, OutOfMemory as NoRoom}
 use Rattle.dn_module.specs.Expand.{Outcome, expanded}
-use Rattle.dn_module.specs.Told.{IsFault}
+use Rattle.dn_module.specs.Faults.{ExpansionFault, expand_fault_view}
 use Rattle.dn_walk.specs.declared.fault.WalkFault.{WalkFault}
 use Rattle.dn_walk.specs.declared.fault.WalkFault.TheVariants.{Wide, Loop, Deep, OutOfMemory as NoSpace}
 use Rattle.dn_walk.specs.Rows.{IsBroken}
@@ -29,20 +28,15 @@ text_refused text e (Ok x) read is = go (parse_fault_view e) read is
     go (Some f) read is = let same : text_refusal f ≡ x = cc in ap compiled_reading read ∙ ap refused same
 text_refused text e (Err y) read is = tt
 
--- the fault that the expansion answered, where it is none of memory
-told_expansion : (e : ExpandFault) (r : Result Outcome ExpandFault) → e ≢ NoRoom → IsFault e r → r ≡ Err e
-told_expansion (Duplicate line) r n h = h
-told_expansion (Unknown line) r n h = h
-told_expansion (Arguments line) r n h = h
-told_expansion (Value line) r n h = h
-told_expansion (TooMany line limit) r n h = h
-told_expansion NoRoom r n h = absurd (n refl)
-
 -- it expands to no net
-pub expansion_refused : {E : Type 0} (text : List ℕ) (tree : Tree) (e : ExpandFault) (r : Result Refused E) → text_reading text ≡ Ok tree → IsFault e (expanded tree) → IfOk r (λ x. x ≡ expand_refusal e) → IfOk r (λ _. e ≢ NoRoom) → IfOk r (λ x. compiled text ≡ refused x)
+pub expansion_refused : {E : Type 0} (text : List ℕ) (tree : Tree) (e : ExpandFault) (r : Result Refused E) → text_reading text ≡ Ok tree → IfSome (expand_fault_view e) (λ f. expanded tree ≡ Err f) → IfOk r (λ x. option_map expand_refusal (expand_fault_view e) ≡ Some x) → IfOk r (λ x. compiled text ≡ refused x)
 unfolding compiled
-expansion_refused text tree e (Ok x) read fault is broken = ap compiled_reading read ∙ ap compiled_outcome (told_expansion e (expanded tree) broken fault) ∙ ap refused (sym is)
-expansion_refused text tree e (Err y) read fault is broken = tt
+expansion_refused text tree e (Ok x) read fault is = go (expand_fault_view e) fault is
+  where
+    go : (o : Option ExpansionFault) → IfSome o (λ f. expanded tree ≡ Err f) → option_map expand_refusal o ≡ Some x → compiled_reading (text_reading text) ≡ refused x
+    go None fault is = cc
+    go (Some f) fault is = let same : expand_refusal f ≡ x = cc in ap compiled_reading read ∙ ap compiled_outcome fault ∙ ap refused same
+expansion_refused text tree e (Err y) read fault is = tt
 
 -- what its net comes to is what it comes to
 pub outcome_compiled : (text : List ℕ) (tree : Tree) (o : Outcome) → text_reading text ≡ Ok tree → expanded tree ≡ Ok o → compiled_outcome (Ok o) ≡ compiled text

@@ -7,8 +7,7 @@ use Rattle.dn_net.specs.declared.node.NodeDecl.{NodeDecl}
 use Rattle.dn_net.specs.declared.rules.NodeFault.{NodeFault}
 use Rattle.dn_net.specs.declared.rules.NodeFault.TheVariants.{Range as BrokenRange, Overlap as BrokenOverlap, Repeat as BrokenRepeat, VectorSpace as BrokenSpace, OutOfMemory}
 use Rattle.dn_net.specs.WalkRules.{Broken, is_wide, has_loop, is_deep}
-use Rattle.dn_module.specs.declared.fault.ExpandFault.{ExpandFault}
-use Rattle.dn_module.specs.declared.fault.ExpandFault.TheVariants.{Duplicate as MetTwice, Unknown as MetNever, Arguments as OtherArguments, Value as OutOfRange, TooMany as PastLimit, OutOfMemory as NoRoom}
+use Rattle.dn_module.specs.Faults.{ExpansionFault, is_duplicate, is_unknown, has_other_arguments, has_no_value, passes_limit}
 use Rattle.dn_walk.specs.declared.fault.WalkFault.{WalkFault}
 use Rattle.dn_walk.specs.declared.fault.WalkFault.TheVariants.{Wide as TooWide, Loop as Looping, Deep as Descending, OutOfMemory as NoSpace}
 use Rattle.dn_print.specs.Names.{name_text, names_exist}
@@ -64,14 +63,13 @@ text_refusal (statement_fault line) = by_line Statement line
 text_refusal (block_fault line) = by_line Block line
 text_refusal (nesting_fault line) = by_line Nesting line
 
--- the refusal of a tree that expands to no net; want of memory is no broken rule, and never what a tree expands to
-abbrev pub expand_refusal : ExpandFault → Refused
-expand_refusal (MetTwice line) = by_line Duplicate line
-expand_refusal (MetNever line) = by_line Unknown line
-expand_refusal (OtherArguments line) = by_line Arguments line
-expand_refusal (OutOfRange line) = by_line Value line
-expand_refusal (PastLimit line limit) = by_limit line limit
-expand_refusal NoRoom = by_text Length
+-- the refusal of a tree that expands to no net
+abbrev pub expand_refusal : ExpansionFault → Refused
+expand_refusal (is_duplicate line) = by_line Duplicate line
+expand_refusal (is_unknown line) = by_line Unknown line
+expand_refusal (has_other_arguments line) = by_line Arguments line
+expand_refusal (has_no_value line) = by_line Value line
+expand_refusal (passes_limit line limit) = by_limit line limit
 
 -- the refusal of a net by a node rule, by the names of its nodes; want of memory is no broken rule
 abbrev pub node_refusal : List NodeDecl → NodeFault → Refused

@@ -2,6 +2,7 @@
 
 ghost use Rattle.std.specs.Prelude.{◌≡◌, ◌≢◌, ◌<◌, ◌++◌, length, option_map, Some, IfOk, OnOk, IsTrue};
 ghost use Rattle.dn_parse.specs.Faults.{parse_fault_view};
+ghost use Rattle.dn_module.specs.Faults.{expand_fault_view};
 ghost use Rattle.std.specs.String.{string_bytes};
 ghost use Rattle.dn_print.specs.Names.{name_text, names_exist};
 ghost use Rattle.dn_tool.specs.Refused.{broken_of, rule_name, by_text, by_line, by_limit, showing, text_refusal, expand_refusal, node_refusal, walk_refusal, chain_text, IsFaultWithin, IsWalkFaultWithin};
@@ -167,8 +168,7 @@ pub fn text_refusal(alloc: Global, fault: ParseFault) -> Result<Refusal, AllocEr
 
 /// The refusal of a tree that expands to no net. Want of memory is handed on.
 pub fn expand_refusal(alloc: Global, fault: ExpandFault) -> Result<Refusal, AllocError>
-    ensures refusal { IfOk result (λ r. r ≡ expand_refusal fault) }
-    ensures broken { IfOk result (λ _. fault ≢ ExpandFault.OutOfMemory) }
+    ensures { IfOk result (λ r. option_map expand_refusal (expand_fault_view fault) ≡ Some r) }
 {
     match fault {
         ExpandFault::Duplicate { line } => Refusal::at_line(alloc, Rule::Duplicate, line),
