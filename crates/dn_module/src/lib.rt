@@ -8,18 +8,18 @@
 pub mod command;
 pub mod commands;
 pub mod draft;
-pub mod drafts;
+mod drafts;
 pub mod expand;
 pub mod fault;
-pub mod link;
+mod link;
 pub mod machine;
-pub mod modules;
+mod modules;
 pub mod names;
 pub mod nodes;
 pub mod scope;
-pub mod stack;
-pub mod uses;
-pub mod values;
-pub mod words;
+mod stack;
+mod uses;
+mod values;
+mod words;
 
 pub use dn_base::OutOfMemory;

@@ -6,15 +6,15 @@
 //! [`reader::read`] reads a text. [`laws`] ties all of it to the grammar.
 #![tactic(auto)]
 
-pub mod blocks;
+mod blocks;
 mod cursor;
-pub mod expressions;
+mod expressions;
 mod keyword;
 pub mod laws;
 pub mod lexer;
-pub mod nodes;
+mod nodes;
 mod number;
 pub mod reader;
-pub mod statements;
+mod statements;
 pub mod syntax;
 pub mod token;

@@ -6,7 +6,7 @@ ghost use Rattle.dn_net.specs.Decode.{is_closed};
 ghost use Rattle.dn_net.specs.Rules.{node_fault};
 ghost use Rattle.dn_net.specs.WalkRules.{walk_fault};
 ghost use Rattle.dn_module.specs.Commands.{names_within};
-ghost use Rattle.dn_module.specs.Told.{outcome_of};
+ghost use Rattle.dn_module.specs.Finish.{outcome_view};
 ghost use Rattle.dn_walk.specs.Rows.{AreWalksOf};
 ghost use Rattle.dn_tool.specs.Compiled.{Compiled, compiled, compiled_outcome, legal, refused, IsRefusedBy};
 
@@ -64,8 +64,8 @@ pub fn compile(alloc: Global, text: &[u8]) -> Result<Platform, CompileFault>
 fn platform_of(alloc: Global, expanded: Expanded) -> Result<Platform, CompileFault>
     requires closed { IsTrue (is_closed expanded.net) }
     requires known { IsTrue (list_all (names_within (length expanded.net)) expanded.commands) }
-    ensures legal { IfOk result (λ p. compiled_outcome (Ok (outcome_of expanded)) ≡ legal p.net p.commands) }
-    ensures refused { IfErr result (λ e. IsRefusedBy (compiled_outcome (Ok (outcome_of expanded))) e) }
+    ensures legal { IfOk result (λ p. compiled_outcome (Ok (outcome_view expanded)) ≡ legal p.net p.commands) }
+    ensures refused { IfErr result (λ e. IsRefusedBy (compiled_outcome (Ok (outcome_view expanded))) e) }
     ensures closed { IfOk result (λ p. IsTrue (is_closed p.net)) }
     ensures checked { IfOk result (λ p. node_fault p.net ≡ None) }
     ensures walkable { IfOk result (λ p. walk_fault p.net ≡ None) }
