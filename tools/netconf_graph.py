@@ -156,10 +156,11 @@ def table_text(table):
     count = len(table.rows)
     columns = 1 if count <= 24 else 2 if count <= 60 else 3
     height = -(-count // columns)
-    lines = [f'<TR><TD COLSPAN="{2 * columns}"><B>{escape(table.title)}</B></TD></TR>']
+    lines = [f'<TR><TD COLSPAN="{3 * columns - 1}"><B>{escape(table.title)}</B></TD></TR>']
     for row in range(height):
         cells = []
         for name, windows in table.rows[row::height]:
+            cells += ['<TD WIDTH="12"></TD>'] if cells else []
             cells.append(f'<TD ALIGN="LEFT" BALIGN="LEFT">{font(windows) if windows else ""}</TD>')
             cells.append(f'<TD ALIGN="LEFT" BALIGN="LEFT">{"<BR/>".join(escape(line) for line in wrapped(name))}</TD>')
         lines.append("<TR>" + "".join(cells) + "</TR>")

@@ -7,7 +7,7 @@ that see the same share one map."""
 import colorsys
 import math
 import zlib
-from dataclasses import dataclass, field
+from dataclasses import dataclass
 from xml.sax.saxutils import escape
 
 from netconf_source import TOP
@@ -19,6 +19,8 @@ LETTER = 6.7
 """The width of a letter of 11 pixels in the font of addresses."""
 BOX = 290
 """The width of a row's box."""
+BEHIND = 96
+"""The room behind a box, for its size."""
 LEAST = 16
 """The least height of a row, which holds one line of text."""
 LINE = 14
@@ -113,14 +115,12 @@ class Piece:
 
 @dataclass
 class Map:
-    """The map of agents that see the same: its pieces in columns, and its place and size."""
-    agents: list
+    """The map of agents that see the same: its pieces in columns, the width of the addresses in each, title and size."""
     columns: list
-    rows: int
-    gutter: float = 0.0
-    width: float = 0.0
-    height: float = 0.0
-    title: list = field(default_factory=list)
+    gutters: list
+    title: list
+    width: float
+    height: float
 
 
 def pieces_of(rows):
@@ -161,13 +161,12 @@ def title_lines(agents, rows, width):
 
 def map_of(agents, rows):
     """The map of agents that see the same rows."""
-    pieces = pieces_of(rows)
-    made = Map(agents, columns_of(pieces), len(rows))
-    made.gutter = LETTER * max(len(piece.addresses()) for piece in pieces) + 8
-    made.width = len(made.columns) * (made.gutter + BOX + 96)
-    made.title = title_lines(agents, len(rows), made.width)
-    made.height = 18 * len(made.title) + 12 + max(sum(piece.height() for piece in column) for column in made.columns)
-    return made
+    columns = columns_of(pieces_of(rows))
+    gutters = [LETTER * max(len(piece.addresses()) for piece in column) + 8 for column in columns]
+    width = sum(gutters) + len(columns) * (BOX + BEHIND)
+    title = title_lines(agents, len(rows), width)
+    height = 18 * len(title) + 12 + max(sum(piece.height() for piece in column) for column in columns)
+    return Map(columns, gutters, title, width, height)
 
 
 def draw_row(picture, piece, x, y):
@@ -204,11 +203,13 @@ def draw_map(picture, made, x, y):
         last = number == len(made.title) - 1
         picture.text(x, y + 14 + 18 * number, line, "start", 11 if last else 13, SANS, "#555555" if last else "#000000",
                      "normal" if last else "bold")
-    for number, column in enumerate(made.columns):
-        left, top = x + number * (made.gutter + BOX + 96), y + 18 * len(made.title) + 6
+    left = x
+    for column, gutter in zip(made.columns, made.gutters):
+        top = y + 18 * len(made.title) + 6
         for piece in column:
-            draw_piece(picture, piece, left, top, made.gutter)
+            draw_piece(picture, piece, left, top, gutter)
             top += piece.height()
+        left += gutter + BOX + BEHIND
 
 
 def draw_key(picture, x, y):
