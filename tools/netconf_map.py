@@ -46,7 +46,7 @@ def height_of(size):
 def colour_of(node):
     """The colour of a node: the same in each picture, light enough for black text."""
     seed = zlib.crc32(node.encode())
-    hue, light, strength = seed % 360 / 360, (0.74, 0.80, 0.86)[seed // 360 % 3], (0.5, 0.65, 0.8)[seed // 1080 % 3]
+    hue, light, strength = seed % 360 / 360, (0.77, 0.82, 0.87)[seed // 360 % 3], (0.5, 0.65, 0.8)[seed // 1080 % 3]
     return "#%02x%02x%02x" % tuple(round(255 * part) for part in colorsys.hls_to_rgb(hue, light, strength))
 
 
