@@ -1,9 +1,9 @@
-"""The manual pages: mandoc finds nothing in them, and they name each word, option and status."""
+"""The documents of the tools: what they show is what is printed, and mandoc finds nothing in the manual pages."""
 
 import os
 import re
 
-from checks import TOP, outcome
+from checks import TOOLS, TOP, outcome
 
 NAMED = {
     "netconf.1": ["run", "check", "accept", "map", "over", "agent", "vectors", "module", "use", "for", "begin", "resolve", "view"],
@@ -30,10 +30,25 @@ def check_examples(checks):
         checks.equal(outcome(os.environ["NETCONF"], word, text=text), (0, output, ""), f"manual: what netconf {word} prints")
 
 
+def check_page(checks):
+    """What the page of the tools and the page of lint show is what netconf-lint prints, and the picture is what is drawn."""
+    page = (TOP / "docs/tools.md").read_text()
+    shown = re.findall(r"^\$ tools/(netconf-lint) (\S+)\n(.+?)^```", page, re.S | re.M)
+    checks.that(len(shown) == 2, "documents: what the page of the tools shows", shown)
+    for tool, path, output in shown:
+        checks.equal(outcome(TOOLS / tool, path), (1, output, ""), f"documents: what {tool} {path} prints")
+    manual = (TOP / "docs/netconf-lint.1").read_text()
+    path, output = re.search(r"^\$ netconf-lint (\S+)\n(.*?)^\.Ed", manual, re.S | re.M).groups()
+    checks.equal(outcome(TOOLS / "netconf-lint", path, folder=TOP / "examples"), (1, output, ""), "manual: what netconf-lint prints")
+    picture = outcome(TOOLS / "netconf-draw", "--views", "examples/first_board.net")[1]
+    checks.that(picture == (TOP / "docs/pictures/first_board.views.svg").read_text(), "documents: the picture of the first board")
+
+
 def run(checks):
     """All of this part."""
     check_statuses(checks)
     check_examples(checks)
+    check_page(checks)
     if not checks.has("mandoc", "mandoc"):
         return
     for path in sorted((TOP / "docs").glob("*.1")):

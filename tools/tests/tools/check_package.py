@@ -26,7 +26,7 @@ def wanted_files():
 def wanted_documents():
     """The documents and examples of the package."""
     examples = [path for path in EXAMPLES.rglob("*") if path.is_file() and path.name != "check" and "__pycache__" not in path.parts]
-    files = [f"{path.relative_to(TOP)}" for path in [*examples, *(TOP / "docs").glob("*.md")]]
+    files = [f"{path.relative_to(TOP)}" for path in [*examples, *(TOP / "docs").glob("*.md"), *(TOP / "docs/pictures").iterdir()]]
     return sorted(f"usr/share/doc/netconf/{name}" for name in [*files, "README.md", "copyright", "changelog.gz"])
 
 
