@@ -173,7 +173,8 @@ def draw_row(picture, piece, x, y):
     """The box of a row: a stripe for each name, and the names."""
     names, height = piece.row.names, piece.height()
     for number, (node, _) in enumerate(names):
-        picture.box(x + number * BOX / len(names), y, BOX / len(names), height, colour_of(node))
+        picture.box(x + number * BOX / len(names), y, BOX / len(names), height, colour_of(node), "none")
+    picture.box(x, y, BOX, height, "none")
     texts = [f"{node}@{at:#x}" for node, at in names]
     texts = texts if len(texts) <= NAMES else texts[:NAMES] + [f"and {len(texts) - NAMES} more"]
     base = y + height / 2 - LINE * len(texts) / 2 + 11
