@@ -134,6 +134,7 @@ def check_troubles(checks, folder):
         ("views of no agent", ["--views", one], {}, f"{one}: there is no agent, so no view"),
         ("no program", [made], {"NETCONF": f"{folder}/none"}, f"{folder}/none: no such program (it is named by the variable NETCONF)"),
         ("a program that fails", [made], {"NETCONF": "/bin/false"}, "netconf check ended with status 1"),
+        ("a program that is another", [made], {"NETCONF": "/bin/echo"}, f"{made}: netconf printed no net: the text ends inside a statement"),
         ("no dot", ["--svg", made], {"PATH": empty}, "the program dot is missing: install graphviz, or leave out --svg"),
     ]
     for what, words, variables, wanted in troubles:

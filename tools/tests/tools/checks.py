@@ -4,25 +4,28 @@ import os
 import pathlib
 import shutil
 import subprocess
+import threading
 
 TOP = pathlib.Path(__file__).resolve().parents[3]
 TOOLS = TOP / "tools"
 EXAMPLES = TOP / "examples"
+INSTALLING = threading.Lock()
 
 
 class Checks:
-    """How many checks passed, failed and were skipped so far."""
+    """How many checks of a part passed, failed and were skipped, and what is to be said of them."""
 
     def __init__(self):
         self.passed = self.failed = self.skipped = 0
+        self.lines = []
 
     def that(self, holds, what, shown=""):
-        """Counts one check, and prints what failed with what was seen."""
+        """Counts one check, and says what failed with what was seen."""
         if holds:
             self.passed += 1
         else:
             self.failed += 1
-            print(f"FAILED: {what}" + (f"\n{str(shown)[:2000]}" if shown else ""))
+            self.lines.append(f"FAILED: {what}" + (f"\n{str(shown)[:2000]}" if shown else ""))
 
     def equal(self, seen, wanted, what):
         """Counts the check that two values are equal."""
@@ -30,12 +33,13 @@ class Checks:
 
     def has(self, command, package):
         """Whether a command is there, after its Debian package was installed where it was missing."""
-        if shutil.which(command) is None:
-            install(package)
+        with INSTALLING:
+            if shutil.which(command) is None:
+                install(package)
         if shutil.which(command):
             return True
         self.skipped += 1
-        print(f"skipped: {command} is missing, and the package {package} cannot be installed")
+        self.lines.append(f"skipped: {command} is missing, and the package {package} cannot be installed")
         return False
 
 
