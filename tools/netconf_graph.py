@@ -85,7 +85,7 @@ def windows_of(node):
 
 def window_text(entry, at):
     """A window as a line: its addresses, and where they are sent unless they stay as they are."""
-    copies = "" if len(entry.destinations) == 1 else f" (one of {len(entry.destinations)})"
+    copies = "" if len(entry.destinations) == 1 else f" (copied to {len(entry.destinations)})"
     return Block.__str__(entry) + (f" at {at:#x}" if at != entry.lo else "") + copies
 
 

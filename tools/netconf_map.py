@@ -63,6 +63,7 @@ class Picture:
 
     def __init__(self):
         self.elements = []
+        self.widths = set()
 
     def text(self, x, y, words, anchor="start", size=11, font=SANS, colour="#000000", weight="normal"):
         """A line of text whose base line is at `y`."""
@@ -75,10 +76,18 @@ class Picture:
                              f'fill="{colour}" stroke="{line}" stroke-width="0.8"/>')
 
     def teeth(self, x, y, width):
-        """A line with teeth: the edge of a break."""
-        teeth = round(width / 7)
-        points = " ".join(f"{x + i * width / teeth:.1f},{y + (2.5 if i % 2 else -2.5):.1f}" for i in range(teeth + 1))
-        self.elements.append(f'<polyline points="{points}" fill="none" stroke="#999999" stroke-width="0.8"/>')
+        """A line with teeth: the edge of a break. Lines of one width are one shape, used again."""
+        self.widths.add(width)
+        self.elements.append(f'<use href="#teeth{width}" x="{x:.1f}" y="{y:.1f}"/>')
+
+    def shapes(self):
+        """The lines with teeth that are used."""
+        lines = []
+        for width in sorted(self.widths):
+            teeth = round(width / 7)
+            points = " ".join(f"{i * width / teeth:.1f},{2.5 if i % 2 else -2.5}" for i in range(teeth + 1))
+            lines.append(f'<polyline id="teeth{width}" points="{points}" fill="none" stroke="#999999" stroke-width="0.8"/>')
+        return "<defs>\n" + "\n".join(lines) + "\n</defs>\n"
 
     def group(self, title):
         """Opens a group with a text that is shown when the pointer rests on it."""
@@ -92,7 +101,7 @@ class Picture:
         """The picture as a text."""
         head = (f'<svg xmlns="http://www.w3.org/2000/svg" width="{width:.0f}" height="{height:.0f}" '
                 f'viewBox="0 0 {width:.0f} {height:.0f}">\n<rect width="100%" height="100%" fill="#ffffff"/>\n')
-        return '<?xml version="1.0" encoding="UTF-8"?>\n' + head + "\n".join(self.elements) + "\n</svg>\n"
+        return '<?xml version="1.0" encoding="UTF-8"?>\n' + head + self.shapes() + "\n".join(self.elements) + "\n</svg>\n"
 
 
 @dataclass
@@ -236,7 +245,7 @@ def svg_of(views):
     """The picture of views: for each agent its rows. Agents with the same rows share a map."""
     alike = {}
     for agent, rows in views.items():
-        alike.setdefault(tuple((row.lo, row.hi, row.names) for row in rows), ([], rows))[0].append(agent)
+        alike.setdefault(tuple(rows), ([], rows))[0].append(agent)
     picture = Picture()
     x, y, wide, tall = MARGIN, MARGIN, 0.0, 0.0
     y += draw_key(picture, x, y) + 16

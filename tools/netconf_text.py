@@ -7,6 +7,7 @@ import shutil
 import subprocess
 import sys
 from dataclasses import dataclass
+from typing import NamedTuple
 
 UNITS = ("B", "KiB", "MiB", "GiB", "TiB", "PiB")
 REFUSED = re.compile(r"refused: (?:line (?P<line>\d+) )?(?P<rule>\w+)(?: (?P<detail>.*))?\n?")
@@ -18,8 +19,7 @@ class Trouble(Exception):
     """Something that a user can mend, in one line."""
 
 
-@dataclass
-class Row:
+class Row(NamedTuple):
     """Adjacent addresses of a view, `lo` to `hi`, and the names to which `lo` comes, each a node and an address."""
     lo: int
     hi: int
@@ -42,9 +42,10 @@ def program():
     """The built program: that of the variable NETCONF, else the one built in this tree, else the one on the PATH."""
     named = os.environ.get("NETCONF")
     if named:
-        if shutil.which(named) is None:
+        found = shutil.which(named)
+        if found is None:
             raise Trouble(f"{named}: no such program (it is named by the variable NETCONF)")
-        return named
+        return found
     built = pathlib.Path(__file__).resolve().parent.parent / "crates/netconf/out/netconf"
     found = str(built) if os.access(built, os.X_OK) else shutil.which("netconf")
     if found is None:
@@ -85,15 +86,28 @@ def name_of(text):
     return node, int(at, 16)
 
 
+def row_of(line):
+    """The row that a line prints."""
+    row = ROW.fullmatch(line)
+    if row is None:
+        raise Trouble(f"netconf printed no row, but {line[:60]!r}")
+    return Row(int(row["lo"], 16), int(row["hi"], 16), tuple(name_of(name) for name in row["names"].split(", ")))
+
+
 def views_of(output):
-    """The views in an output of `netconf run`: the rows of each agent. Replies to other commands are passed over."""
-    views, rows = {}, []
-    for line in output.splitlines():
-        view, row = VIEW.fullmatch(line), ROW.fullmatch(line)
+    """The views in an output of `netconf run`: the rows of each agent, in one list for agents that see the same.
+
+    Replies to other commands are passed over."""
+    lines, at, views, known = output.splitlines(), 0, {}, {}
+    while at < len(lines):
+        view = VIEW.fullmatch(lines[at])
+        at += 1
         if view:
-            rows = views[view["agent"]] = []
-        elif row:
-            rows.append(Row(int(row["lo"], 16), int(row["hi"], 16), tuple(name_of(n) for n in row["names"].split(", "))))
+            rows = tuple(lines[at:at + int(view["rows"])])
+            at += len(rows)
+            if rows not in known:
+                known[rows] = [row_of(line) for line in rows]
+            views[view["agent"]] = known[rows]
     return views
 
 

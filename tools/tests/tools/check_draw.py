@@ -142,7 +142,7 @@ def check_troubles(checks, folder):
         checks.equal(seen, (1, "", f"netconf-draw: {wanted}\n"), f"draw: {what}")
     checks.equal(outcome(DRAW)[0], 2, "draw: no file")
     status, dot, _ = outcome(DRAW, "-", text="a is map [0x0-0xf to b and c at 0x0]; b is; c is accept [0x0-0xf];")
-    checks.that(status == 0 and re.search("0x0-0xf .one of 2.", dot), "draw: standard input, and an entry with two destinations", dot)
+    checks.that(status == 0 and re.search("0x0-0xf .copied to 2.", dot), "draw: standard input, and an entry with two destinations", dot)
 
 
 def run(checks):
