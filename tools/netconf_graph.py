@@ -1,0 +1,225 @@
+"""The net of a description as a graph in the language of Graphviz.
+
+Nodes are boxes by their role, windows are labels of edges. What would make the picture of a real board unreadable is
+drawn together: the windows from one node to another share an edge, the devices that one bus alone maps share a table,
+and so do the agents that are over one bus and have nothing else."""
+
+from dataclasses import dataclass
+from xml.sax.saxutils import escape
+
+from netconf_source import Block
+from netconf_text import size_text
+
+ROLES = {
+    "agent": ("agent", "#cfe2ff", "rounded,filled"),
+    "device": ("memory or device: it accepts", "#d9f2d0", "filled"),
+    "bus": ("bus or bridge: it maps", "#ececec", "filled"),
+    "both": ("it accepts and maps", "#fff2bf", "filled"),
+    "vectors": ("interrupt vectors", "#ffdcb8", "filled"),
+    "unit": ("unit of translation", "#e6d5f5", "filled"),
+    "none": ("node without a part", "#ffffff", "filled,dashed"),
+}
+"""For each role its words in the legend, the colour and the style of its box."""
+
+WIDTH = 30
+"""The longest line of a name, in characters."""
+WINDOWS = 4
+"""How many windows an edge shows at most."""
+TOGETHER = 6
+"""From how many on devices of one bus, or agents over one bus, are drawn as one table."""
+TABLE = 96
+"""The most rows of one table."""
+MONO = 'FACE="DejaVu Sans Mono,monospace" POINT-SIZE="9"'
+"""The font of addresses."""
+
+
+@dataclass
+class Table:
+    """Nodes that are drawn as one box: `title`, and for each node its name and what stands before it."""
+    key: str
+    title: str
+    role: str
+    rows: list
+
+
+def role_of(node):
+    """The role of a node, as in `ROLES`."""
+    if node.role:
+        return node.role
+    maps = bool(node.entries or node.over)
+    return ("both" if maps else "device") if node.accepts else "bus" if maps else "none"
+
+
+def quoted(text):
+    """A text as an identifier of Graphviz."""
+    return '"' + text.replace("\\", "\\\\").replace('"', '\\"') + '"'
+
+
+def wrapped(name):
+    """A name in lines of at most `WIDTH` characters, broken behind a dot or an underscore where there is one."""
+    lines = []
+    while len(name) > WIDTH:
+        cut = max(name.rfind(sign, WIDTH // 3, WIDTH) for sign in "._") + 1 or WIDTH
+        lines.append(name[:cut])
+        name = name[cut:]
+    return lines + [name]
+
+
+def covered(blocks):
+    """How many addresses lie in some of the blocks."""
+    total, end = 0, -1
+    for block in sorted(blocks, key=lambda b: b.lo):
+        total += max(0, block.hi - max(block.lo, end + 1) + 1)
+        end = max(end, block.hi)
+    return total
+
+
+def windows_of(node):
+    """For each node to which a node sends addresses, its windows: the entries, each with the address it is sent to."""
+    windows = {}
+    for entry in node.entries:
+        for name, at in entry.destinations:
+            windows.setdefault(name, []).append((entry, at))
+    return windows
+
+
+def window_text(entry, at):
+    """A window as a line: its addresses, and where they are sent unless they stay as they are."""
+    copies = "" if len(entry.destinations) == 1 else f" (copied to {len(entry.destinations)})"
+    return Block.__str__(entry) + (f" at {at:#x}" if at != entry.lo else "") + copies
+
+
+def lines_of(windows, most=WINDOWS):
+    """The windows of an edge as lines: all, or the first and how many more there are."""
+    texts = [window_text(entry, at) for entry, at in sorted(windows, key=lambda w: w[0].lo)]
+    return texts if len(texts) <= most else texts[:most - 1] + [f"and {len(texts) - most + 1} more windows"]
+
+
+def font(lines, extra=""):
+    """Lines as the inside of a label, in the font of addresses."""
+    return f"<FONT {MONO}{extra}>" + '<BR ALIGN="LEFT"/>'.join(escape(line) for line in lines) + '<BR ALIGN="LEFT"/></FONT>'
+
+
+def reached(nodes, starts):
+    """The nodes that some way from the starts passes, in their order."""
+    found, left = set(starts), list(starts)
+    while left:
+        node = nodes[left.pop()]
+        for name in [n for e in node.entries for n, _ in e.destinations] + ([node.over] if node.over else []) + node.ports:
+            if name not in found:
+                found.add(name)
+                left.append(name)
+    return {name: node for name, node in nodes.items() if name in found}
+
+
+def sources_of(nodes):
+    """For each node the names of those that lead to it."""
+    sources = {name: set() for name in nodes}
+    for name, node in nodes.items():
+        for other in list(windows_of(node)) + ([node.over] if node.over else []) + node.ports:
+            sources[other].add(name)
+    return sources
+
+
+def device_tables(nodes):
+    """The tables of devices: of each bus that alone maps many nodes which lead nowhere themselves."""
+    sources, tables = sources_of(nodes), []
+    for name, node in nodes.items():
+        windows = windows_of(node)
+        leaves = [n for n in windows if sources[n] == {name} and role_of(nodes[n]) in ("device", "none", "vectors") and n != node.over]
+        if len(leaves) < TOGETHER:
+            continue
+        leaves.sort(key=lambda n: min(entry.lo for entry, _ in windows[n]))
+        parts = [leaves[i:i + TABLE] for i in range(0, len(leaves), TABLE)]
+        for number, part in enumerate(parts):
+            place = f", part {number + 1} of {len(parts)}" if len(parts) > 1 else ""
+            rows = [(n, lines_of(windows[n], 2)) for n in part]
+            tables.append(Table(f"devices {number} of {name}", f"{len(part)} devices of {name}{place}", "device", rows))
+    return tables
+
+
+def agent_tables(nodes):
+    """The tables of agents: of those that are over one node and have no other part."""
+    alike, tables = {}, []
+    sources = sources_of(nodes)
+    for name, node in nodes.items():
+        if node.role == "agent" and node.over and not node.accepts and not node.entries and not sources[name]:
+            alike.setdefault(node.over, []).append(name)
+    for over, names in alike.items():
+        if len(names) >= TOGETHER:
+            tables.append(Table(f"agents over {over}", f"{len(names)} agents over {over}", "agent", [(n, []) for n in names]))
+    return tables
+
+
+def table_text(table):
+    """A table as a box: one, two or three columns of rows."""
+    count = len(table.rows)
+    columns = 1 if count <= 24 else 2 if count <= 60 else 3
+    height = -(-count // columns)
+    lines = [f'<TR><TD COLSPAN="{3 * columns - 1}"><B>{escape(table.title)}</B></TD></TR>']
+    for row in range(height):
+        cells = []
+        for name, windows in table.rows[row::height]:
+            cells += ['<TD WIDTH="12"></TD>'] if cells else []
+            cells.append(f'<TD ALIGN="LEFT" BALIGN="LEFT">{font(windows) if windows else ""}</TD>')
+            cells.append(f'<TD ALIGN="LEFT" BALIGN="LEFT">{"<BR/>".join(escape(line) for line in wrapped(name))}</TD>')
+        lines.append("<TR>" + "".join(cells) + "</TR>")
+    body = "\n".join(lines)
+    colour = ROLES[table.role][1]
+    return (f'{quoted(table.key)} [shape=plain, label=<<TABLE BORDER="1" CELLBORDER="0" CELLSPACING="0" CELLPADDING="3" '
+            f'BGCOLOR="{colour}">\n{body}\n</TABLE>>];')
+
+
+def node_text(name, node):
+    """A node as a box with its name, and the number of bytes that it accepts."""
+    _, colour, style = ROLES[role_of(node)]
+    lines = ["<B>" + escape(line) + "</B>" for line in wrapped(name)]
+    if node.accepts:
+        lines.append(f'<FONT POINT-SIZE="9">{size_text(covered(node.accepts))}</FONT>')
+    return f'{quoted(name)} [label=<{"<BR/>".join(lines)}>, fillcolor="{colour}", style="{style}"];'
+
+
+def edge_texts(name, node, box):
+    """The edges of a node; `box` gives the box in which a node is drawn."""
+    here, edges, tables = box.get(name, name), [], {}
+    for other, windows in windows_of(node).items():
+        if other in box:
+            tables.setdefault(box[other], []).extend(windows)
+        else:
+            edges.append(f"{quoted(here)} -> {quoted(other)} [label=<{font(lines_of(windows))}>];")
+    for table, windows in tables.items():
+        blocks = [entry for entry, _ in windows]
+        span = Block(min(b.lo for b in blocks), max(b.hi for b in blocks), 0)
+        edges.append(f"{quoted(here)} -> {quoted(table)} [label=<{font([f'{len(blocks)} windows in', str(span)])}>];")
+    if node.over and here == name:
+        edges.append(f'{quoted(name)} -> {quoted(box.get(node.over, node.over))} [style=dashed, label="over"];')
+    return edges + [f'{quoted(name)} -> {quoted(box.get(port, port))} [style=bold, label="port"];' for port in node.ports]
+
+
+def legend_text(roles):
+    """The legend: the roles that are drawn, and what the edges mean."""
+    rows = [f'<TR><TD BGCOLOR="{colour}" BORDER="1" WIDTH="24"></TD><TD ALIGN="LEFT">{escape(words)}</TD></TR>'
+            for role, (words, colour, _) in ROLES.items() if role in roles]
+    notes = ["edge: addresses of the source,", "sent to `at` of the target,", "or to the same addresses", "dashed: every other address"]
+    rows += [f'<TR><TD COLSPAN="2" ALIGN="LEFT">{escape(note)}</TD></TR>' for note in notes]
+    return ('legend [shape=plain, label=<<TABLE BORDER="1" COLOR="#999999" CELLBORDER="0" CELLSPACING="2" CELLPADDING="2">\n'
+            + "\n".join(rows) + "\n</TABLE>>];")
+
+
+def dot_of(nodes):
+    """The graph of a net."""
+    tables = device_tables(nodes) + agent_tables(nodes)
+    box = {name: table.key for table in tables for name, _ in table.rows}
+    lines = ["digraph net {", "rankdir=LR; nodesep=0.2; ranksep=0.9;",
+             'node [shape=box, fontname="DejaVu Sans,sans-serif", fontsize=11, margin="0.12,0.06"];',
+             'edge [fontname="DejaVu Sans,sans-serif", fontsize=9, color="#555555", arrowsize=0.7];',
+             legend_text({role_of(node) for node in nodes.values()})]
+    lines += [table_text(table) for table in tables]
+    lines += [node_text(name, node) for name, node in nodes.items() if name not in box]
+    for name, node in nodes.items():
+        lines += edge_texts(name, node, box)
+    for table in tables:
+        if table.role == "agent":
+            over = nodes[table.rows[0][0]].over
+            lines.append(f'{quoted(table.key)} -> {quoted(box.get(over, over))} [style=dashed, label="over"];')
+    return "\n".join(lines) + "\n}\n"

@@ -1,0 +1,54 @@
+"""The completion of bash: sourced in a shell, and asked for the words that it would offer."""
+
+import pathlib
+import tempfile
+
+from checks import TOOLS, outcome
+
+ASK = r"""
+source "$1"
+shift
+COMP_WORDS=("$@")
+COMP_CWORD=$(($# - 1))
+words=($(complete -p "$1"))
+"${words[2]}" "$1" "${COMP_WORDS[COMP_CWORD]}" "${COMP_WORDS[COMP_CWORD - 1]}"
+printf '%s\n' "${COMPREPLY[@]}" | sort
+"""
+IMPORT = ["--agent", "--explain", "--help", "--only", "--strict", "--views"]
+CASES = [
+    (["netconf", ""], ["check", "run"]),
+    (["netconf", "r"], ["run"]),
+    (["netconf", "x"], []),
+    (["netconf", "run", ""], []),
+    (["netconf", "run", "<", ""], ["boards", "four.net"]),
+    (["netconf", "run", "<", "fo"], ["four.net"]),
+    (["netconf", "run", "<", "four.net", ">", "o"], ["old.txt"]),
+    (["netconf-draw", "-"], ["--agent", "--help", "--svg", "--views"]),
+    (["netconf-draw", "--v"], ["--views"]),
+    (["netconf-draw", "--agent", ""], []),
+    (["netconf-draw", "--svg", ""], ["boards", "four.net"]),
+    (["netconf-draw", "--svg", "four.net", ">", ""], ["board.dtb", "board.dts", "boards", "four.net", "old.txt"]),
+    (["netconf-lint", "--"], ["--help"]),
+    (["netconf-lint", "four.net", ""], ["boards", "four.net"]),
+    (["netconf-import", "-"], IMPORT),
+    (["netconf-import", "--only", "/soc"], []),
+    (["netconf-import", "--views", "b"], ["board.dtb", "board.dts", "boards"]),
+]
+"""The words of a command line, the last one being completed, and what is offered."""
+
+
+def run(checks):
+    """All of this part."""
+    with tempfile.TemporaryDirectory() as folder:
+        for name in ("four.net", "old.txt", "board.dtb", "board.dts"):
+            pathlib.Path(folder, name).touch()
+        pathlib.Path(folder, "boards").mkdir()
+        for words, wanted in CASES:
+            status, output, errors = outcome("bash", "-c", ASK, "ask", TOOLS / "completion/netconf", *words, folder=folder)
+            checks.equal((status, output.split(), errors), (0, wanted, ""), f"completion: {' '.join(words)}")
+    for tool, function in (("netconf-draw", "_netconf_draw"), ("netconf-lint", "_netconf_lint")):
+        options = outcome("bash", "-c", f'source "$1"; declare -f {function}', "ask", TOOLS / "completion/netconf")[1]
+        help_text = outcome(TOOLS / tool, "--help")[1]
+        offered = [word.strip("'") for word in options.split() if word.strip("'").startswith("--")]
+        named = {word for word in help_text.replace(",", " ").replace("[", " ").replace("]", " ").split() if word.startswith("--")}
+        checks.equal(sorted(set(offered)), sorted(named), f"completion: the options of {tool} are those of its help")

@@ -1,0 +1,157 @@
+"""netconf-draw over the examples and a made board of 200 nodes: graphs that Graphviz takes, maps with every address."""
+
+import colorsys
+import html
+import os
+import pathlib
+import re
+import tempfile
+import xml.etree.ElementTree as tree
+
+from checks import EXAMPLES, TOOLS, descriptions, outcome
+from netconf_map import colour_of, height_of
+from netconf_source import nodes_of
+from netconf_text import run as program_output
+from netconf_text import size_text, views_of
+
+DRAW = TOOLS / "netconf-draw"
+SVG = "{http://www.w3.org/2000/svg}"
+
+
+def board(devices=180):
+    """A made board: four buses with many devices, memory, eight cores, eight DMA engines behind a window."""
+    lines = ["ddr is accept [0x0-0x1ffffffff];", "boot_rom is accept [0x0-0xffff];"]
+    for bus in range(4):
+        windows = []
+        for number in range(devices // 4):
+            base = 0xf0000000 + (bus << 24) + number * 0x4000
+            name = f"peripheral_bus_{bus}_controller_with_a_long_name_{base:x}"
+            lines.append(f"{name} is accept [0x0-{(0xff, 0xfff, 0x3fff)[number % 3]:#x}];")
+            windows.append(f"{base:#x}-{base + (0xff, 0xfff, 0x3fff)[number % 3]:#x} to {name} at 0x0")
+        lines.append(f"peripherals[{bus}] is map [{', '.join(windows)}];")
+    spans = ", ".join(f"{0xf0000000 + (b << 24):#x}-{0xf0ffffff + (b << 24):#x} to peripherals[{b}]" for b in range(4))
+    lines.append(f"interconnect is map [0x0-0xefffffff to ddr at 0x0, {spans}, 0xffff0000-0xffffffff to boot_rom at 0x0];")
+    lines.append("dma_window is map [0x40000000-0x7fffffff to interconnect at 0x0];")
+    lines += [f"agent cpu[{n}] is over interconnect;" for n in range(8)]
+    return "\n".join(lines + [f"agent engine[{n}].dma is over dma_window;" for n in range(8)]) + "\n"
+
+
+def texts_of(picture):
+    """The texts of an SVG picture, each in one line, and one string of all."""
+    texts = ["".join(element.itertext()) for element in tree.fromstring(picture).iter(f"{SVG}text")]
+    return texts, "\n".join(texts)
+
+
+def check_graph(checks, path):
+    """The graph of a description: taken by Graphviz without a word, with each node's name; its SVG is well formed."""
+    status, dot, errors = outcome(DRAW, path)
+    checks.equal((status, errors), (0, ""), f"draw: the graph of {path.name}")
+    names = nodes_of(program_output("check", path.read_bytes())[1])
+    plain = html.unescape(dot.replace("<BR/>", "").replace("</B>", "").replace("<B>", ""))
+    checks.equal([name for name in names if name not in plain], [], f"draw: each node is in the graph of {path.name}")
+    if not checks.has("dot", "graphviz"):
+        return
+    status, _, errors = outcome("dot", "-Tcanon", text=dot)
+    checks.equal((status, errors), (0, ""), f"draw: Graphviz takes the graph of {path.name}")
+    status, picture, errors = outcome(DRAW, "--svg", path)
+    checks.equal((status, errors), (0, ""), f"draw: the SVG of {path.name}")
+    checks.that(tree.fromstring(picture).tag == f"{SVG}svg", f"draw: the SVG of {path.name} is well formed")
+
+
+def check_views(checks, path):
+    """The maps of a description: well formed, with each row's addresses, names and size."""
+    agents = [node.name for node in nodes_of(path.read_text("latin-1")).values() if node.role == "agent"]
+    status, picture, errors = outcome(DRAW, "--views", path)
+    if not agents:
+        checks.equal((status, errors), (1, f"netconf-draw: {path}: there is no agent, so no view\n"), f"draw: no agent in {path.name}")
+        return
+    checks.equal((status, errors), (0, ""), f"draw: the views of {path.name}")
+    declarations = program_output("check", path.read_bytes())[1]
+    views = views_of(program_output("run", (declarations + "begin;" + "".join(f"view {a};" for a in agents)).encode())[1])
+    texts, whole = texts_of(picture)
+    titles = [element.text for element in tree.fromstring(picture).iter(f"{SVG}title")]
+    for agent, rows in views.items():
+        checks.that(agent in whole, f"draw: the agent {agent} of {path.name}")
+        missing = [row for row in rows if f"{row.lo:#x}-{row.hi:#x}" not in texts or
+                   f"{row.lo:#x}-{row.hi:#x} {row.text()} ({size_text(row.hi - row.lo + 1)})" not in titles]
+        checks.equal(missing, [], f"draw: each row of {agent} of {path.name} stands in the map")
+
+
+def check_board(checks, folder):
+    """A made board of 200 nodes: both pictures are there, and no larger than can be looked at."""
+    path = pathlib.Path(folder, "made_board.net")
+    path.write_text(board())
+    check_graph(checks, path)
+    check_views(checks, path)
+    _, picture, _ = outcome(DRAW, "--views", path)
+    size = [float(tree.fromstring(picture).get(side)) for side in ("width", "height")]
+    checks.that(max(size) < 6000, "draw: the maps of a board of 200 nodes are of a size to be looked at", size)
+    if checks.has("dot", "graphviz"):
+        _, picture, _ = outcome(DRAW, "--svg", path)
+        size = [float(tree.fromstring(picture).get(side).removesuffix("pt")) for side in ("width", "height")]
+        checks.that(max(size) < 4000, "draw: the graph of a board of 200 nodes is of a size to be looked at", size)
+    _, dot, _ = outcome(DRAW, path)
+    checks.that(dot.count("\n\"") < 60, "draw: the graph of a board of 200 nodes has few boxes and edges", dot.count("\n\""))
+    _, dot, _ = outcome(DRAW, "--agent", "engine[0].dma", path)
+    checks.that("cpu[0]" not in dot and "ddr" in dot, "draw: what an agent leads to")
+
+
+def check_readable(checks):
+    """Black text stands out on each colour, colours are those of the names, and the scale shows small beside large."""
+    def part(value):
+        return value / 12.92 if value <= 0.04045 else ((value + 0.055) / 1.055) ** 2.4
+
+    colours = [colour_of(f"device_{n}") for n in range(2000)]
+    light = [sum(w * part(int(c[i:i + 2], 16) / 255) for w, i in ((0.2126, 1), (0.7152, 3), (0.0722, 5))) for c in colours]
+    checks.that(min(light) > 0.3, "draw: black text has a contrast of 7 to 1 on each colour", min(light))
+    hues = {round(colorsys.rgb_to_hls(*(int(c[i:i + 2], 16) / 255 for i in (1, 3, 5)))[0], 2) for c in colours}
+    checks.that(len(hues) > 80, "draw: the colours of names differ", len(hues))
+    block, memory = height_of(1 << 12), height_of(1 << 32)
+    checks.that(16 <= height_of(1) <= block < memory < 4 * block, "draw: 4 KiB stands readable beside 4 GiB", (block, memory))
+    checks.equal([size_text(n) for n in (1, 512, 4096, 0xfe0, 1536, 1 << 32, (1 << 56) - 1)],
+                 ["1 B", "512 B", "4 KiB", "~4 KiB", "1.5 KiB", "4 GiB", "~64 PiB"], "draw: sizes")
+
+
+def check_stable(checks):
+    """The same description gives the same bytes, whatever the order in which Python keeps sets."""
+    for options in ([], ["--views"]):
+        pictures = {outcome(DRAW, *options, EXAMPLES / "raspi3b.net", PYTHONHASHSEED=seed)[1] for seed in ("1", "2", "3")}
+        checks.equal(len(pictures), 1, f"draw: the same picture each time {options}")
+
+
+def check_troubles(checks, folder):
+    """Bad input: one clear line on standard error, nothing on standard output, status 1."""
+    made, one = EXAMPLES / "four_cores.net", pathlib.Path(folder, "one.net")
+    one.write_text("a is accept [0x0];\n")
+    refused = EXAMPLES / "overlapping_windows.net"
+    empty = os.path.join(folder, "empty")
+    os.mkdir(empty)
+    troubles = [
+        ("a missing file", ["none.net"], {}, "none.net: No such file or directory"),
+        ("a folder", [folder], {}, f"{folder}: Is a directory"),
+        ("a refused description", [refused], {}, f"{refused}: refused: Overlap bus@0x1800 (netconf-lint shows the place)"),
+        ("an agent that is none", ["--agent", "dram", one], {}, f"{one}: dram is no agent; the agents are: none"),
+        ("views of no agent", ["--views", one], {}, f"{one}: there is no agent, so no view"),
+        ("no program", [made], {"NETCONF": f"{folder}/none"}, f"{folder}/none: no such program (it is named by the variable NETCONF)"),
+        ("a program that fails", [made], {"NETCONF": "/bin/false"}, "netconf check ended with status 1"),
+        ("a program that is another", [made], {"NETCONF": "/bin/echo"}, f"{made}: netconf printed no net: the text ends inside a statement"),
+        ("no dot", ["--svg", made], {"PATH": empty}, "the program dot is missing: install graphviz, or leave out --svg"),
+    ]
+    for what, words, variables, wanted in troubles:
+        seen = outcome(os.sys.executable, DRAW, *words, folder=folder, **variables)
+        checks.equal(seen, (1, "", f"netconf-draw: {wanted}\n"), f"draw: {what}")
+    checks.equal(outcome(DRAW)[0], 2, "draw: no file")
+    status, dot, _ = outcome(DRAW, "-", text="a is map [0x0-0xf to b and c at 0x0]; b is; c is accept [0x0-0xf];")
+    checks.that(status == 0 and re.search("0x0-0xf .copied to 2.", dot), "draw: standard input, and an entry with two destinations", dot)
+
+
+def run(checks):
+    """All of this part."""
+    for path in descriptions():
+        check_graph(checks, path)
+        check_views(checks, path)
+    check_readable(checks)
+    check_stable(checks)
+    with tempfile.TemporaryDirectory() as folder:
+        check_board(checks, folder)
+        check_troubles(checks, folder)

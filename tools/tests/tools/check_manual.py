@@ -1,0 +1,59 @@
+"""The documents of the tools: what they show is what is printed, and mandoc finds nothing in the manual pages."""
+
+import os
+import re
+
+from checks import TOOLS, TOP, outcome
+
+NAMED = {
+    "netconf.1": ["run", "check", "accept", "map", "over", "agent", "vectors", "module", "use", "for", "begin", "resolve", "view"],
+    "netconf-lint.1": ["--help", "NETCONF", "Overlap", "Range", "Repeat", "VectorSpace", "Loop", "Deep", "Duplicate"],
+    "netconf-draw.1": ["--svg", "--views", "--agent", "--help", "NETCONF"],
+}
+
+
+def check_statuses(checks):
+    """The page of the program has the statuses of the language's page."""
+    table = (TOP / "docs/language.md").read_text().split("## Statuses")[1]
+    wanted = re.findall(r"^\| (\d+) \|", table, re.M)
+    page = (TOP / "docs/netconf.1").read_text().split(".Sh EXIT STATUS")[1].split(".Sh")[0]
+    checks.equal(re.findall(r"^\.It (\d+)", page, re.M), wanted, "manual: the statuses of netconf")
+
+
+def check_examples(checks):
+    """What the page of the program shows is what the program prints."""
+    page = (TOP / "docs/netconf.1").read_text()
+    blocks = re.findall(r"^\.Bd -literal.*?\n(.*?)^\.Ed", page, re.S | re.M)
+    text, answer = blocks[0].split("$ cat board.net\n")[1].split("$ netconf run < board.net\n")
+    wanted = {"run": answer, "check": blocks[1].split("$ netconf check < board.net\n")[1]}
+    for word, output in wanted.items():
+        checks.equal(outcome(os.environ["NETCONF"], word, text=text), (0, output, ""), f"manual: what netconf {word} prints")
+
+
+def check_page(checks):
+    """What the page of the tools and the page of lint show is what netconf-lint prints, and the picture is what is drawn."""
+    page = (TOP / "docs/tools.md").read_text()
+    shown = re.findall(r"^\$ tools/(netconf-lint) (\S+)\n(.+?)^```", page, re.S | re.M)
+    checks.that(len(shown) == 2, "documents: what the page of the tools shows", shown)
+    for tool, path, output in shown:
+        checks.equal(outcome(TOOLS / tool, path), (1, output, ""), f"documents: what {tool} {path} prints")
+    manual = (TOP / "docs/netconf-lint.1").read_text()
+    path, output = re.search(r"^\$ netconf-lint (\S+)\n(.*?)^\.Ed", manual, re.S | re.M).groups()
+    checks.equal(outcome(TOOLS / "netconf-lint", path, folder=TOP / "examples"), (1, output, ""), "manual: what netconf-lint prints")
+    picture = outcome(TOOLS / "netconf-draw", "--views", "examples/first_board.net")[1]
+    checks.that(picture == (TOP / "docs/pictures/first_board.views.svg").read_text(), "documents: the picture of the first board")
+
+
+def run(checks):
+    """All of this part."""
+    check_statuses(checks)
+    check_examples(checks)
+    check_page(checks)
+    if not checks.has("mandoc", "mandoc"):
+        return
+    for path in sorted((TOP / "docs").glob("*.1")):
+        status, output, errors = outcome("mandoc", "-T", "lint", path)
+        checks.equal((status, output), (0, ""), f"manual: mandoc -T lint {path.name}")
+    for name, words in NAMED.items():
+        page = re.sub(r"(.)\x08", "", outcome("mandoc", "-T", "ascii", TOP / "docs" / name)[1])
+        checks.equal([word for word in words if word not in page], [], f"manual: what {name} names")

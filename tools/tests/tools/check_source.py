@@ -1,0 +1,56 @@
+"""The small reader of the tools against the program: both expand a description to the same nodes."""
+
+import netconf_text
+from checks import descriptions
+from netconf_source import Unreadable, nodes_of
+
+TEXTS = {
+    "an inner variable hides an outer one":
+        "for i in 0..0; a[i] is; for i in 5..6; b[i] is accept [i*2]; end; c[i] is; end;",
+    "a loop without a turn": "for i in 3..2; a[i] is; end; b is;",
+    "a node parameter stands for a reference of one part alone":
+        "module m(node bus); a is over bus; b is over bus.x; bus.x is; bus is accept [0x1]; end; main is; use m(node main) as c;",
+    "a module in a module, with the argument of the outer one":
+        "module inner(node n, num k); d[k] is over n; end; module outer(node n); use inner(node n, 2) as i; "
+        "use inner(node own, 3) as j; own is accept [0x2]; end; root is; use outer(node root) as o[1+1];",
+    "the index of a node argument is that of the caller":
+        "module m(node n); a is over n; end; for i in 0..1; b[i] is accept [i]; use m(node b[i]) as u[i]; end;",
+    "a number parameter and a node parameter":
+        "module m(num k, node n); a is map [k*0x1000-k*0x1000+0xfff to n at (k-1)]; end; t is accept [0x0-0xffff]; use m(3, node t) as c;",
+    "sums, products and differences": "a is accept [2+3*(7-2)*2-0x1000, 0xfFfF];",
+    "an entry without `at`": "b is; c is; a is map [0x8-0xf to b and c at 0x1, 0x20 to b] over c;",
+    "comments of any bytes, and 007": "a is accept [007]; // \xff ; end\n// b is;\nvectors v is accept [0x20-0x2f];",
+    "one sort of name does not hide the other":
+        "module m(node i); for i in 1..2; a[i] is over i; end; end; t is; use m(node t) as c;",
+}
+"""Descriptions that ask how names, variables and arguments are replaced."""
+
+
+def normal(nodes):
+    """The nodes as `netconf check` prints them."""
+    lines = []
+    for node in nodes.values():
+        line = (node.role + " " if node.role else "") + node.name + " is"
+        line += f" accept [{', '.join(map(str, node.accepts))}]" if node.accepts else ""
+        line += f" map [{', '.join(map(str, node.entries))}]" if node.entries else ""
+        lines.append(line + (f" over {node.over}" if node.over else "") + ";\n")
+    return "".join(lines)
+
+
+def compare(checks, what, text):
+    """Compares the two over one text."""
+    status, output = netconf_text.run("check", text.encode("latin-1"))
+    try:
+        checks.equal((0, normal(nodes_of(text))), (status, output), f"the reader of the tools: {what}")
+    except Unreadable as error:
+        checks.that(False, f"the reader of the tools: {what}", error)
+
+
+def run(checks):
+    """Compares the two over the texts above and the examples, and looks at the lines of a node."""
+    for what, text in TEXTS.items():
+        compare(checks, what, text)
+    for path in descriptions():
+        compare(checks, path.name, path.read_text("latin-1"))
+    node = nodes_of("module m();\na is\naccept [0x0,\n0x8-0x9];\nend;\n\nuse m()\nas x;")["x.a"]
+    checks.equal((node.line, [b.line for b in node.accepts], node.uses), (2, [3, 4], ((7, "m", "x"),)), "the lines of a node")

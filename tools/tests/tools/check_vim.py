@@ -1,0 +1,66 @@
+"""The files of the editor vim: their keywords are those of the language, and vim colours a description by them."""
+
+import pathlib
+import re
+import tempfile
+
+from checks import TOOLS, TOP, outcome
+
+TEXT = """// 0x10 words
+agent cpu[3].core is accept [0x1F-007] map [0x8 to node_b at i*2] over bus;
+resolve a 0xg;
+"""
+PLACES = {(1, 4): "netconfComment", (2, 1): "netconfDeclaration", (2, 7): "netconfIndexed", (2, 11): "netconfNumber",
+          (2, 20): "netconfPart", (2, 31): "netconfNumber", (2, 36): "netconfNumber", (2, 53): "", (2, 63): "netconfOperator",
+          (3, 1): "netconfCommand", (3, 9): "", (3, 11): "netconfBadNumber"}
+"""Lines and columns of the text, and the group by which each is coloured."""
+
+
+def keywords():
+    """The keywords in the syntax file, in the language's page, and in the source of the program."""
+    syntax = (TOOLS / "vim/syntax/netconf.vim").read_text()
+    lines = re.findall(r"^syntax keyword netconf(?:Declaration|Part|Sort|Command) (.*)$", syntax, re.M)
+    page = (TOP / "docs/language.md").read_text()
+    reserved = re.search(r"^These words are reserved and name nothing: (.*)$", page, re.M)[1]
+    source = (TOP / "crates/dn_parse/src/keyword.rt").read_text()
+    return sorted(" ".join(lines).split()), sorted(re.findall(r"`(\w+)`", reserved)), sorted(re.findall(r'^\s*"(\w+)" =>', source, re.M))
+
+
+def places(folder):
+    """The groups that vim gives to the places of the text, and the type and settings of the file."""
+    path, seen = pathlib.Path(folder, "board.net"), pathlib.Path(folder, "seen")
+    path.write_text(TEXT)
+    lines = ["let seen = [&filetype, &commentstring, &makeprg]"]
+    lines += [f"call add(seen, synIDattr(synID({line}, {column}, 1), 'name'))" for line, column in PLACES]
+    script = pathlib.Path(folder, "ask.vim")
+    script.write_text(f"set nocompatible\nset runtimepath^={TOOLS}/vim\nfiletype plugin on\nsyntax on\nedit {path}\n"
+                      + "\n".join(lines) + f"\ncall writefile(seen, '{seen}')\nqall!\n")
+    outcome("vim", "-e", "-s", "-n", "-N", "-u", "NONE", "-i", "NONE", "-S", script)
+    return seen.read_text().split("\n")[:-1] if seen.exists() else []
+
+
+def errors_of_lint(folder):
+    """What vim lists behind `:make` over a description that is refused, as file:line:text."""
+    path, seen = pathlib.Path(folder, "twice.net"), pathlib.Path(folder, "errors")
+    path.write_text("a is;\na is;\n")
+    script = pathlib.Path(folder, "make.vim")
+    script.write_text(f"set nocompatible\nset runtimepath^={TOOLS}/vim\nfiletype plugin on\ncd {folder}\nedit twice.net\n"
+                      f"let $PATH = '{TOOLS}:' . $PATH\nsilent make!\n"
+                      "let seen = map(getqflist(), {_, e -> bufname(e.bufnr) . ':' . e.lnum . ':' . e.text})\n"
+                      f"call writefile(seen, '{seen}')\nqall!\n")
+    outcome("vim", "-e", "-s", "-n", "-N", "-u", "NONE", "-i", "NONE", "-S", script)
+    return seen.read_text().split("\n")[:-1] if seen.exists() else []
+
+
+def run(checks):
+    """All of this part."""
+    syntax, page, source = keywords()
+    checks.equal(syntax, page, "vim: the keywords of the syntax file are those of the language's page")
+    checks.equal(syntax, source, "vim: the keywords of the syntax file are those of the program's source")
+    if not checks.has("vim", "vim"):
+        return
+    with tempfile.TemporaryDirectory() as folder:
+        wanted = ["netconf", "// %s", "netconf-lint %:S", *PLACES.values()]
+        checks.equal(places(folder), wanted, "vim: the type of a file and the groups of its places")
+        wanted = ["twice.net:2:Duplicate: this name is there already", "twice.net:1:a is declared here first"]
+        checks.equal(errors_of_lint(folder), wanted, "vim: what :make lists")

@@ -1,0 +1,2 @@
+" Files of netconf's description language.
+autocmd BufRead,BufNewFile *.net setfiletype netconf
