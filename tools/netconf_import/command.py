@@ -46,15 +46,20 @@ def refuse_conflicts(platform):
 
 
 def run(arguments):
-    """What is to be written to standard output, and the lines for standard error."""
-    platform = Platform(read_tree(arguments.tree), arguments.only)
-    agent = platform.agent(arguments.agent) if arguments.agent else None
-    if arguments.strict:
-        refuse_conflicts(platform)
-    notes = [f"{note.path}: {note.reason}" for note in platform.notes]
-    if arguments.explain:
-        return explained(platform), notes
-    return described(platform, os.path.basename(arguments.tree), arguments.views, agent), notes
+    """What is to be written to standard output, and the lines on what cannot be said."""
+    tree = read_tree(arguments.tree)
+    try:
+        platform = Platform(tree, arguments.only)
+        agent = platform.agent(arguments.agent) if arguments.agent else None
+        if arguments.strict:
+            refuse_conflicts(platform)
+        if arguments.explain:
+            output = explained(platform)
+        else:
+            output = described(platform, os.path.basename(arguments.tree), arguments.views, agent)
+    except Fault as fault:
+        raise Fault("\n".join(f"{arguments.tree}: {line}" for line in str(fault).split("\n"))) from None
+    return output, [f"{arguments.tree}: {note.path}: {note.reason}" for note in platform.notes]
 
 
 def say(lines):

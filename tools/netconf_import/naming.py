@@ -58,8 +58,8 @@ def _after(suffix):
 
 def _bases(tree, tree_nodes):
     """A name for each node of the tree, each another one."""
-    bases, depth = {}, 0
-    waiting = list(tree_nodes)
+    bases, depth = {tree.root: ROOT_NAME}, 0
+    waiting = [node for node in tree_nodes if node is not tree.root]
     while waiting:
         groups = {}
         for node in waiting:
@@ -78,8 +78,6 @@ def _bases(tree, tree_nodes):
 
 def _base(tree, node, depth):
     """The name of a node with the names of up to ``depth`` nodes above it."""
-    if node.parent is None:
-        return ROOT_NAME
     if node.path in tree.labels:
         return word(tree.labels[node.path])
     above = [place.name for place in node.above() if place.parent is not None][:depth]
