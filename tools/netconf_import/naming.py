@@ -9,8 +9,8 @@ RESERVED = frozenset(
     "agent vectors unit module use for in end begin is accept map to and at over kind page slots reach as num node "
     "resolve lookup view grant route revoke dump split absorb".split())
 
-# The names of what comes of a bus or a master, after the name of the node of the tree and a dot.
-PARTS = frozenset(("bus", "dma", "config", "io", "memory"))
+# What else may follow the name of a node of the tree and a dot: the bus that a device is, and the way of its accesses.
+PARTS = frozenset(("bus", "dma"))
 
 ROOT_NAME = "system"
 

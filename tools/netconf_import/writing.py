@@ -21,6 +21,8 @@ def described(platform, source, views=False, agent=None):
 
 def _clean(line):
     """A text of the tree on one line."""
+    if line.isprintable():
+        return line
     return "".join(letter if letter.isprintable() else "?" for letter in line)
 
 
