@@ -2,6 +2,7 @@
 
 The modules, in the order in which a tree goes through them:
 
+- ``blob``: whether a blob is whole
 - ``tree``: reads a blob or a source into nodes with their properties
 - ``cells``: the numbers of ``reg``, ``ranges`` and their like
 - ``spans``: sets of addresses

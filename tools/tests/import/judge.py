@@ -19,7 +19,7 @@ class Blob:
 
     def __init__(self, data):
         self.fdt = libfdt.FdtRo(data)
-        self.parent, self.path, self.order, self.properties = {}, {}, [], {}
+        self.parent, self.path, self.order, self.properties, self.found = {}, {}, [], {}, {}
         offset, depth, above = 0, 0, []
         while offset >= 0 and depth >= 0:
             above = above[:depth]
@@ -79,18 +79,23 @@ class Blob:
 
     def entries(self, bus, name):
         """The entries of ``ranges``: space and first address inside, space and first address outside, size."""
+        if (bus, name) not in self.found:
+            self.found[bus, name] = list(self._entries(bus, name))
+        return self.found[bus, name]
+
+    def _entries(self, bus, name):
+        """The entries, read anew."""
         inner = self.cells(bus, "#address-cells")[0]
         outer = self.cells(self.parent[bus], "#address-cells")[0]
         size = self.cells(bus, "#size-cells")[0]
-        words, found = self.cells(bus, name), []
+        words = self.cells(bus, name)
         for i in range(0, len(words), inner + outer + size):
             line = words[i:i + inner + outer + size]
             number = 0
             for cell in line[inner + outer:]:
                 number = number * 2**32 + cell
-            found.append((*self.address(bus, line[:inner]),
-                          *self.address(self.parent[bus], line[inner:inner + outer]), number))
-        return found
+            yield (*self.address(bus, line[:inner]),
+                   *self.address(self.parent[bus], line[inner:inner + outer]), number)
 
 
 def outward(blob, bus, name, space, first, last):
