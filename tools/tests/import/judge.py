@@ -68,10 +68,12 @@ class Blob:
             self.value(bus, "device_type") in (b"pci\0", b"pciex\0") or self.base(bus) == "pcie")
 
     def address(self, bus, cells):
-        """An address of a bus as a pair: the space that it is in, and its number."""
+        """An address of a bus as a pair: the space that it is in, and its number. A third cell is a tag."""
         space = "plain"
         if self.is_pci(bus):
             space, cells = ("config", "io", "memory", "memory")[(cells[0] >> 24) & 3], cells[1:]
+        elif len(cells) == 3:
+            space, cells = f"tag {cells[0]}", cells[1:]
         number = 0
         for cell in cells:
             number = number * 2**32 + cell
