@@ -212,7 +212,8 @@ class Reader:
         spaces = list(bus.claims) + list(bus.identities) + (list(bus.reach) if bus.is_host() else [])
         for space in dict.fromkeys([""] + spaces if bus.outer is None else spaces):
             path = bus.tree_node.path
-            has_registers = any(device.tree_node is bus.tree_node for device in bus.outer.devices) if bus.outer else False
+            on_bus = bus.outer.devices if bus.outer else []
+            has_registers = any(device.tree_node is bus.tree_node for device in on_bus)
             node = NetNode(bus.tree_node, space or ("bus" if has_registers else ""), path)
             claims, identities = bus.claims.get(space, []), bus.identities.get(space, [])
             where = path + (f" ({space})" if space else "")

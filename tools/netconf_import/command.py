@@ -25,10 +25,11 @@ def words():
     """The reader of the program's words."""
     parser = Words(prog="netconf-import", description=DESCRIPTION, epilog=EPILOG, allow_abbrev=False)
     parser.add_argument("tree", metavar="TREE", help="a .dtb, or a .dts (read through dtc)")
-    parser.add_argument("--agent", metavar="AGENT", help="ask where one agent sees each thing; AGENT is its name in the "
-                        "description, or its path, alias or label in the tree")
+    parser.add_argument("--agent", metavar="AGENT", help="ask where one agent sees each thing; AGENT is its name in "
+                        "the description, or its path, alias or label in the tree")
     parser.add_argument("--only", metavar="PATH", help="take one part of the tree, and what leads to it")
-    parser.add_argument("--views", action="store_true", help="ask for the view of each agent, or of the one that is named")
+    parser.add_argument("--views", action="store_true",
+                        help="ask for the view of each agent, or of the one that is named")
     parser.add_argument("--explain", action="store_true",
                         help="write instead where a processor sees each device, step by step")
     parser.add_argument("--strict", action="store_true", help="refuse a tree in which two devices claim one address")

@@ -47,11 +47,6 @@ def shifted(spans, by):
     return [(first + by, last + by) for first, last in spans]
 
 
-def size(spans):
-    """How many addresses there are in spans that do not overlap."""
-    return sum(last - first + 1 for first, last in spans)
-
-
 def text(first, last):
     """A span as the language writes it."""
     return f"{first:#x}-{last:#x}"

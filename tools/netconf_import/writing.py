@@ -81,7 +81,8 @@ def _remarks(platform):
     """The comments on what the statements do not say."""
     lines = []
     for node, register in platform.reserved:
-        place = text(register.first, register.first + register.size - 1) if register and register.size else "no address yet"
+        known = register and register.size
+        place = text(register.first, register.first + register.size - 1) if known else "no address yet"
         lines.append(f"reserved memory: {node.path}, {place}")
     lines += platform.units
     lines += [f"left out: {note.path}: {note.reason}" for note in platform.notes]
