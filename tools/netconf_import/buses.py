@@ -14,6 +14,13 @@ from .spans import TOP, meet, shifted, text, union, without
 ROOT_SPACES = {"": [(0, TOP)]}
 
 
+def why_unmapped(bus):
+    """Why the devices on a bus have no addresses of the machine."""
+    if not cells.has_sizes(bus):
+        return "numbers and no sizes"
+    return "behind a bus that is not mapped" if bus.has("ranges") else "no ranges"
+
+
 class Note(NamedTuple):
     """Something that the description does not say, or says in part: the path that it is about, and why."""
 
@@ -124,13 +131,15 @@ class Reader:
             self._note_unmapped(child)
 
     def _note_unmapped(self, node):
-        """One note for each bus below a node that is not mapped, with the devices on it."""
-        for bus in node.walk():
-            named = [child.name for child in bus.children
-                     if self.keeps(child) and child.has("reg") and child.has("compatible") and child.status() == "okay"]
+        """One note for each enabled bus at or below a node that is not mapped, with the devices on it."""
+        pending = [node]
+        while pending:
+            bus = pending.pop()
+            enabled = [child for child in bus.children if self.keeps(child) and child.status() == "okay"]
+            named = [child.name for child in enabled if child.has("reg") and child.has("compatible")]
             if named:
-                why = "no ranges" if cells.has_sizes(bus) else "numbers and no sizes"
-                self.note(bus, f"{len(named)} on it not mapped ({why}): " + ", ".join(named))
+                self.note(bus, f"{len(named)} on it not mapped ({why_unmapped(bus)}): " + ", ".join(named))
+            pending.extend(reversed(enabled))
 
     def _read_registers(self, bus, child):
         """Makes a node of each window of a device that can be reached, and claims its span of the bus."""
