@@ -2,8 +2,8 @@
 
 An address has a space and a number in it. Most buses have one space, written as the empty text. A PCI bus has three:
 the first of the three cells of its addresses says which (the two codes for memory are one space, as in Linux). An ISA
-bus has two, by the lowest bit of its first cell. On any other bus with three cells the first is a tag; tags that are
-not 0 are spaces of their own.
+bus has two, by the lowest bit of its first cell. On a Marvell MBUS, and on any other bus with three cells, the first
+cell is a tag (of a target, as a memory or a bus); tags that are not 0 are spaces of their own.
 """
 from typing import NamedTuple
 
@@ -51,13 +51,15 @@ class Piece(NamedTuple):
 
 
 def kind(bus):
-    """Which form the addresses of a bus have: "pci", "isa", or "" for plain numbers."""
+    """Which form the addresses of a bus have: "pci", "isa", "tagged", or "" for plain numbers."""
     if bus.has("#address-cells"):
         cells = bus.word("#address-cells")
         if cells == 3 and (bus.string("device_type") in ("pci", "pciex", "vci") or bus.base == "pcie"):
             return "pci"
         if cells == 2 and bus.base == "isa":
             return "isa"
+        if cells == 3 or cells == 2 and any(name.endswith("-mbus") for name in bus.strings("compatible")):
+            return "tagged"
     return ""
 
 
@@ -85,7 +87,7 @@ def _address(form, cells):
         return PCI_SPACES[cells[0] >> 24 & 3], _number(cells[1:])
     if form == "isa":
         return "io" if cells[0] & 1 else "memory", _number(cells[1:])
-    if len(cells) == 3:
+    if form == "tagged":
         return f"space_{cells[0]:x}" if cells[0] else "", _number(cells[1:])
     return "", _number(cells)
 

@@ -68,11 +68,11 @@ class Blob:
             self.value(bus, "device_type") in (b"pci\0", b"pciex\0") or self.base(bus) == "pcie")
 
     def address(self, bus, cells):
-        """An address of a bus as a pair: the space that it is in, and its number. A third cell is a tag."""
+        """An address of a bus as a pair: the space that it is in, and its number. A third cell is a tag, and the first on an MBUS."""
         space = "plain"
         if self.is_pci(bus):
             space, cells = ("config", "io", "memory", "memory")[(cells[0] >> 24) & 3], cells[1:]
-        elif len(cells) == 3:
+        elif len(cells) == 3 or b"-mbus\0" in (self.value(bus, "compatible") or b"") and len(cells) == 2:
             space, cells = f"tag {cells[0]}", cells[1:]
         number = 0
         for cell in cells:
