@@ -11,8 +11,8 @@ use Rattle.dn_interval.proofs.Pieces.{drop_at, drop_past}
 use Rattle.dn_net.specs.declared.node.Block.{Block}
 use Rattle.dn_net.specs.declared.node.NodeDecl.{NodeDecl}
 use Rattle.dn_net.specs.Decode.{top, within, in_some_block, is_accepted_at}
-use Rattle.dn_net.specs.Rules.{block_in_range, is_in_range, node_fault}
-use Rattle.dn_net.proofs.Checked.{checked_at}
+use Rattle.dn_net.specs.Rules.{block_in_range, is_in_range, KeepsRules}
+use Rattle.dn_net.proofs.Kept.{kept_at}
 
 -- a block runs from its first address to its last, at or below the top
 abbrev pub IsSpan : Block → Type 0
@@ -37,14 +37,14 @@ below_top (b ∷ bs) a e f =
     ]
 
 -- the blocks of a node that breaks no rule are in range
-pub blocks_in_range : (net : List NodeDecl) (i : ℕ) (bs : List Block) → node_fault net ≡ None → option_map (λ (d : NodeDecl). d.accepts) (slice_get net i) ≡ Some bs → IsTrue (list_all block_in_range bs)
+pub blocks_in_range : (net : List NodeDecl) (i : ℕ) (bs : List Block) → All KeepsRules net → option_map (λ (d : NodeDecl). d.accepts) (slice_get net i) ≡ Some bs → IsTrue (list_all block_in_range bs)
 blocks_in_range net i bs checked at = go (slice_get net i) refl at
   where
     go : (o : Option NodeDecl) → slice_get net i ≡ o → option_map (λ (d : NodeDecl). d.accepts) o ≡ Some bs → IsTrue (list_all block_in_range bs)
     go None e f = cc
     go (Some d) e f =
         let same : d.accepts ≡ bs = cc in
-        let range : IsTrue (is_in_range d) = (checked_at net i checked d e).in_range in
+        let range : IsTrue (is_in_range d) = (kept_at net i checked d e).in_range in
         subst (λ l. IsTrue (list_all block_in_range l)) same (and_parts _ _ range).0
 
 -- a set of the addresses of a node's accept blocks has what the node accepts

@@ -5,7 +5,7 @@ ghost use Rattle.std.specs.List.{list_all};
 ghost use Rattle.dn_interval.specs.declared.span.TheConstants.{TOP};
 ghost use Rattle.dn_interval.specs.Spans.{has};
 ghost use Rattle.dn_net.specs.Decode.{in_some_block, is_accepted_at};
-ghost use Rattle.dn_net.specs.Rules.{node_fault, block_in_range};
+ghost use Rattle.dn_net.specs.Rules.{KeepsNodeRules, block_in_range};
 ghost use Rattle.dn_flat.specs.Found.{AreAccepted};
 
 use dn_base::OutOfMemory;
@@ -16,7 +16,7 @@ use std::alloc::Global;
 
 /// For each node of a net, by its number, the addresses that it accepts.
 pub(crate) fn accepted_sets(alloc: Global, net: &Net) -> Result<Vec<SpanSet>, OutOfMemory>
-    requires checked { node_fault net.now ≡ None }
+    requires rules { KeepsNodeRules net.now }
     ensures every { IfOk result (λ sets. length sets.items ≡ length net.now) }
     ensures same { IfOk result (λ sets. AreAccepted net.now sets.items) }
 {
@@ -30,7 +30,7 @@ pub(crate) fn accepted_sets(alloc: Global, net: &Net) -> Result<Vec<SpanSet>, Ou
 
 /// The addresses that a node accepts.
 fn accepted_set(alloc: Global, net: &Net, node: u16) -> Result<SpanSet, OutOfMemory>
-    requires checked { node_fault net.now ≡ None }
+    requires rules { KeepsNodeRules net.now }
     requires there { node < length net.now }
     ensures { IfOk result (λ set. (a : ℕ) → has set a ≡ is_accepted_at a (slice_get net.now node)) }
 {

@@ -4,9 +4,8 @@ ghost use Rattle.std.specs.Prelude.{◌≡◌, ◌<◌, ◌≤◌, ◌&&◌, ◌
 ghost use Rattle.dn_interval.specs.declared.row.End.{End};
 ghost use Rattle.dn_interval.specs.Rows.{AreNormal};
 ghost use Rattle.dn_interval.specs.Strands.{seg_gives, segs_give};
-ghost use Rattle.dn_net.specs.Decode.{is_closed, is_accepted, is_stop};
-ghost use Rattle.dn_net.specs.Rules.{node_fault};
-ghost use Rattle.dn_net.specs.WalkRules.{walk_fault};
+ghost use Rattle.dn_net.specs.Decode.{is_accepted, is_stop};
+ghost use Rattle.dn_net.specs.Rules.{KeepsNodeRules};
 ghost use Rattle.dn_walk.specs.Rows.{AreWalksOf};
 ghost use Rattle.dn_flat.specs.Views.{ResolvesFrom, StopsFrom, ends_within, name_of_end};
 ghost use Rattle.dn_flat.specs.Found.{stays, goes_by, AreSorted, IsLed};
@@ -32,9 +31,6 @@ pub struct Flat {
 /// Flattens a node, with the live walks of its net: time of the walks from the node and of what is accepted
 /// where they come out, beside one pass over what the net accepts.
 pub fn flatten(alloc: Global, net: &Net, walks: &WalkTable, node: u16) -> Result<Flat, OutOfMemory>
-    requires closed { IsTrue (is_closed net.now) }
-    requires checked { node_fault net.now ≡ None }
-    requires legal { walk_fault net.now ≡ None }
     requires walks { AreWalksOf net.now walks.now }
     requires there { node < length net.now }
     ensures accepts { IfOk result (λ flat. AreNormal (ResolvesFrom net.now node) flat.accepts) }
@@ -51,7 +47,7 @@ pub fn flatten(alloc: Global, net: &Net, walks: &WalkTable, node: u16) -> Result
 
 /// The segments of a node: its own addresses, and those of each walk from it, by the number of choices.
 fn find(alloc: Global, net: &Net, rows: &[WalkRow], node: u16) -> Result<Found, OutOfMemory>
-    requires checked { node_fault net.now ≡ None }
+    requires rules { KeepsNodeRules net.now }
     requires there { node < length net.now }
     requires sorted { AreSorted rows.now }
     requires led { All (IsLed (length net.now)) rows.now }

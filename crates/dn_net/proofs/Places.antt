@@ -1,7 +1,10 @@
 -- Where a full name stands in the entries that a net keeps, and what is true of each item of a list.
-use Rattle.std.proofs.Common.{◌≡◌, ◌∙◌, ap, sym, refl, ℕ, zero, suc, ◌+◌, ◌<◌, nat_lt, cond, None, is_some, List, [], ◌∷◌, ◌++◌, map, true, false, Bool, not, ◌&&◌, ◌||◌, length, arith, position, slice_get, Some, IsTrue, option_map}
+use Rattle.std.proofs.Common.{◌≡◌, ◌≢◌, get_or, true≢false, ◌∙◌, ap, sym, refl, ℕ, zero, suc, ◌+◌, ◌<◌, nat_lt, cond, None, is_some, List, [], ◌∷◌, ◌++◌, map, true, false, Bool, not, ◌&&◌, ◌||◌, length, arith, position, slice_get, Some, IsTrue, option_map}
 use Rattle.std.proofs.lemmas.Bool.{ltb-false}
-use Rattle.std.specs.List.{list_any, list_all, prefix_len}
+use Rattle.std.proofs.lemmas.List.Quantifiers.{all_pairs_push}
+use Rattle.std.proofs.lemmas.Slice.Eq.{bytes_eq-Decides}
+use Rattle.std.specs.List.{AllPairs, list_any, list_all, prefix_len}
+use Rattle.std.specs.Str.{bytes_eq}
 use Rattle.std.specs.Map.{keys_of}
 use Rattle.indexmap.specs.IndexMap.{insert_entry}
 use Rattle.dn_net.specs.declared.node.Dest.{Dest}
@@ -90,3 +93,15 @@ not_there p xs none = by (list_any p xs) refl (nat_lt (prefix_len (λ x. not (p 
     by false e c f none = refl
     by true e true f none = none
     by true e false f none = let l = ltb-false _ _ f in let m = found_within p xs e in absurd (omega arith)
+
+any_false-at : {X : Type 0} (p : X → Bool) (xs : List X) (k : ℕ) (d : X) → list_any p xs ≡ false → k < length xs → p (get_or xs k d) ≡ false
+any_false-at p [] k d h l = absurd (omega arith)
+any_false-at p (x ∷ xs) zero d h l = (either_false (p x) (list_any p xs) h).0
+any_false-at p (x ∷ xs) (suc k) d h l = any_false-at p xs k d (either_false (p x) (list_any p xs) h).1 (omega arith)
+
+-- the name of a node that is added last differs from those before it
+pub names_still_differ : (net : List NodeDecl) (decl : NodeDecl) → AllPairs (λ (n m : NodeDecl). n.text ≢ m.text) net → list_any (λ (d : NodeDecl). bytes_eq decl.text d.text) net ≡ false → AllPairs (λ (n m : NodeDecl). n.text ≢ m.text) (net ++ decl ∷ [])
+names_still_differ net decl differ new = all_pairs_push (λ (n m : NodeDecl). n.text ≢ m.text) net decl differ (λ k d l e. true≢false (sym (same (get_or net k d).text e) ∙ any_false-at (λ (d : NodeDecl). bytes_eq decl.text d.text) net k d new l))
+  where
+    same : (text : List ℕ) → text ≡ decl.text → bytes_eq decl.text text ≡ true
+    same text e = (bytes_eq-Decides decl.text text).1 (sym e)

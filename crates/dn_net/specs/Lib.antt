@@ -1,5 +1,6 @@
 pub mod Chain
 pub mod Decode
+pub mod Legal
 pub mod Names
 pub mod Order
 pub mod Parts

@@ -1,6 +1,6 @@
 -- The node rules, each as a test of one node, and the first that a net breaks.
-use Rattle.std.specs.Prelude.{◌≡◌, ℕ, zero, suc, ◌+◌, ◌-◌, ◌≤◌, Bool, true, false, if◌then◌else◌, ◌&&◌, ◌||◌, not, nat_le, nat_lt, ◌==◌, List, [], ◌∷◌, ◌++◌, map, length, filter, count_by, Option, Some, None, IsSome}
-use Rattle.std.specs.List.{list_all, list_any}
+use Rattle.std.specs.Prelude.{◌≡◌, ℕ, zero, suc, ◌+◌, ◌-◌, ◌≤◌, Bool, true, false, if◌then◌else◌, ◌&&◌, ◌||◌, not, nat_le, nat_lt, ◌==◌, List, [], ◌∷◌, ◌++◌, map, length, filter, count_by, Option, Some, None, IsSome, IsTrue}
+use Rattle.std.specs.List.{All, list_all, list_any}
 use Rattle.std.specs.Option.{is_some}
 use Rattle.dn_net.specs.declared.node.Block.{Block}
 use Rattle.dn_net.specs.declared.node.Dest.{Dest}
@@ -11,7 +11,7 @@ use Rattle.dn_net.specs.declared.node.Unit.{Unit as UnitPart}
 use Rattle.dn_net.specs.declared.node.NodeDecl.{NodeDecl}
 use Rattle.dn_net.specs.declared.rules.NodeFault.{NodeFault}
 use Rattle.dn_net.specs.declared.rules.NodeFault.TheVariants.{Range, Overlap, Repeat, VectorSpace}
-use Rattle.dn_net.specs.Decode.{top, within, in_some_block}
+use Rattle.dn_net.specs.Decode.{top, within, in_some_block, is_closed}
 
 -- Range: a block runs from its first address to its last, at or below the top, and so do the addresses to which it is sent.
 abbrev pub block_in_range : Block → Bool
@@ -115,3 +115,15 @@ node_fault_from number (n ∷ ns) = first_fault (fault_of_node number n) (node_f
 -- the first node rule that is broken, node by node
 abbrev pub node_fault : List NodeDecl → Option NodeFault
 node_fault net = node_fault_from 0 net
+
+-- what the node rules leave of a node: its blocks are in range and apart, it names nothing twice, and a vectors node has room
+pub record KeepsRules (n : NodeDecl) : Type 0 where
+  pub in_range : IsTrue (is_in_range n)
+  pub apart : (a : ℕ) → overlaps n a ≡ false
+  pub once : repeats n ≡ false
+  pub space : IsTrue (passes_vector_space n)
+
+-- each node keeps the node rules, and each node to which one refers is there
+pub record KeepsNodeRules (net : List NodeDecl) : Type 0 where
+  pub closed : IsTrue (is_closed net)
+  pub each : All KeepsRules net

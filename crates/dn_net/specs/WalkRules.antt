@@ -1,13 +1,13 @@
--- The rules on walks, in their order: `Wide`, `Loop`, `Deep`; and the laws that tie walks to chains of steps.
+-- The rules on walks, in their order: `Wide`, `Loop`, `Deep`, and then those on units; and the laws that tie walks to chains of steps.
 use Rattle.std.specs.Prelude.{◌≡◌, ℕ, zero, suc, ◌+◌, ◌-◌, ◌<◌, ◌≤◌, ◌↔◌, ◌⊎◌, Bool, true, false, if◌then◌else◌, nat_lt, List, [], ◌∷◌, length, filter, slice_get, Option, Some, None, option_map, IsSome, IsTrue}
 use Rattle.std.specs.List.{list_any}
 use Rattle.std.specs.Option.{is_some}
 use Rattle.dn_net.specs.declared.node.Name.{Name}
 use Rattle.dn_net.specs.declared.node.NodeDecl.{NodeDecl}
 use Rattle.dn_net.specs.Chain.{Member, Chain, Reaches, ReachesWithin}
-use Rattle.dn_net.specs.Decode.{top, within, steps, step_limit, Step, is_closed}
+use Rattle.dn_net.specs.Decode.{top, within, steps, step_limit, Step}
 use Rattle.dn_net.specs.Names.{name_lt, name_eq, sorted_names, after_steps}
-use Rattle.dn_net.specs.Rules.{node_fault}
+use Rattle.dn_net.specs.Rules.{KeepsNodeRules}
 use Rattle.dn_net.specs.Walks.{Choice, Follows, IsLive, IsGap, gaps, Walk, moved_name, live_walks, level, Precedes}
 
 -- one value, or another where there is none
@@ -99,20 +99,24 @@ abbrev pub counted_length : Option ℕ → ℕ
 counted_length (Some c) = c
 counted_length None = step_limit
 
--- Loop and then Deep
-abbrev pub endless_fault : List NodeDecl → Option ℕ → Option Broken
-endless_fault net (Some c) = Some (has_loop (cycle_names net c))
-endless_fault net None = option_map is_deep (path_names net step_limit)
+-- Loop and then Deep, where the shortest cycle is known
+abbrev pub cycle_or_path : List NodeDecl → Option ℕ → Option Broken
+cycle_or_path net (Some c) = Some (has_loop (cycle_names net c))
+cycle_or_path net None = option_map is_deep (path_names net step_limit)
 
--- Wide, Loop and Deep, in this order
-unfoldable pub walk_fault : List NodeDecl → Option Broken
-walk_fault net = if nat_lt walk_limit (length (live_walks net (counted_length (shortest_cycle net)))) then Some is_wide else endless_fault net (shortest_cycle net)
+-- the first part, on walks that have no end: Wide, Loop and Deep, in this order
+unfoldable pub endless_fault : List NodeDecl → Option Broken
+endless_fault net = if nat_lt walk_limit (length (live_walks net (counted_length (shortest_cycle net)))) then Some is_wide else cycle_or_path net (shortest_cycle net)
+
+-- the second part, on the units that walks meet: no rule so far, since no walk leads on from a unit
+abbrev pub unit_fault : List NodeDecl → Option Broken
+unit_fault net = None
+
+-- the first rule on walks that is broken: of the first part, or else of the second
+abbrev pub walk_fault : List NodeDecl → Option Broken
+walk_fault net = or_else (endless_fault net) (unit_fault net)
 
 -- THE LAWS
--- nets that keep the node rules, with each node to which they refer
-abbrev pub IsChecked : List NodeDecl → Type 0
-IsChecked net = IsTrue (is_closed net) × (node_fault net ≡ None)
-
 -- The list has exactly the live walks of 1 to k choices: the walks in it are live, and their spans end at or below the top and have exactly the addresses that follow them, each to where the walk says.
 pub record IsListed (net : List NodeDecl) (w : Walk) : Type 0 where
   pub live : IsLive net w.start w.choices
@@ -120,21 +124,21 @@ pub record IsListed (net : List NodeDecl) (w : Walk) : Type 0 where
   pub follows : (a : ℕ) (y : Name) → a ≤ top → Follows net (record { node = w.start; addr = a }) w.choices y ↔ (IsTrue (within a w.span) × (moved_name (a - w.span.lo) w.to ≡ y))
 
 abbrev pub LiveWalksAreAll : Type 0
-LiveWalksAreAll = (net : List NodeDecl) → IsChecked net → (k : ℕ) →
+LiveWalksAreAll = (net : List NodeDecl) → KeepsNodeRules net → (k : ℕ) →
     ((w : Walk) → Member w (live_walks net k) → IsListed net w × (1 ≤ length w.choices) × (length w.choices ≤ k))
     × ((start : ℕ) (choices : List Choice) → IsLive net start choices → 1 ≤ length choices → length choices ≤ k → (w : Walk) × Member w (live_walks net k) × (w.start ≡ start) × (w.choices ≡ choices))
 
 -- Each comes before those behind it, in the order of length, start, span and choices; so each stands once.
 abbrev pub LiveWalksAreInOrder : Type 0
-LiveWalksAreInOrder = (net : List NodeDecl) → IsChecked net → (k i j : ℕ) (w v : Walk) → slice_get (live_walks net k) i ≡ Some w → slice_get (live_walks net k) j ≡ Some v → i < j → Precedes w v
+LiveWalksAreInOrder = (net : List NodeDecl) → KeepsNodeRules net → (k i j : ℕ) (w v : Walk) → slice_get (live_walks net k) i ≡ Some w → slice_get (live_walks net k) j ≡ Some v → i < j → Precedes w v
 
 -- A chain of k steps is a live walk of k choices that its first name follows, and back.
 abbrev pub ChainIsWalk : Type 0
-ChainIsWalk = (net : List NodeDecl) → IsChecked net → (k : ℕ) (x y : Name) → Chain (Step net) k x y ↔ ((choices : List Choice) × (length choices ≡ k) × Follows net x choices y)
+ChainIsWalk = (net : List NodeDecl) → KeepsNodeRules net → (k : ℕ) (x y : Name) → Chain (Step net) k x y ↔ ((choices : List Choice) × (length choices ≡ k) × Follows net x choices y)
 
 -- A cycle of k steps is a row of the walks of k choices whose base is its own start.
 abbrev pub CycleIsRow : Type 0
-CycleIsRow = (net : List NodeDecl) → IsChecked net → (k : ℕ) (x : Name) → 1 ≤ k → Chain (Step net) k x x ↔ ((w : Walk) × Member w (level net k) × (w.start ≡ x.node) × IsTrue (within x.addr w.span) × (w.to ≡ record { node = w.start; addr = w.span.lo }))
+CycleIsRow = (net : List NodeDecl) → KeepsNodeRules net → (k : ℕ) (x : Name) → 1 ≤ k → Chain (Step net) k x x ↔ ((w : Walk) × Member w (level net k) × (w.start ≡ x.node) × IsTrue (within x.addr w.span) × (w.to ≡ record { node = w.start; addr = w.span.lo }))
 
 -- The shortest cycle is the least number of steps, from 1 to 64, in which a name comes to itself.
 pub record IsShortestCycle (net : List NodeDecl) (c : ℕ) : Type 0 where
@@ -144,7 +148,7 @@ pub record IsShortestCycle (net : List NodeDecl) (c : ℕ) : Type 0 where
   pub none_less : (k : ℕ) (x : Name) → 1 ≤ k → k < c → Chain (Step net) k x x → ⊥
 
 abbrev pub ShortestCycleIsShortest : Type 0
-ShortestCycleIsShortest = (net : List NodeDecl) → IsChecked net → ((c : ℕ) → shortest_cycle net ≡ Some c → IsShortestCycle net c) × (shortest_cycle net ≡ None → (k : ℕ) (x : Name) → 1 ≤ k → k < step_limit → Chain (Step net) k x x → ⊥)
+ShortestCycleIsShortest = (net : List NodeDecl) → KeepsNodeRules net → ((c : ℕ) → shortest_cycle net ≡ Some c → IsShortestCycle net c) × (shortest_cycle net ≡ None → (k : ℕ) (x : Name) → 1 ≤ k → k < step_limit → Chain (Step net) k x x → ⊥)
 
 -- lists of names are compared from the front
 abbrev pub NotAfter : List Name → List Name → Type 0
@@ -169,7 +173,7 @@ pub record IsLeastCycle (net : List NodeDecl) (c : ℕ) (xs : List Name) : Type 
 
 -- The names that `Loop` carries are a cycle of the shortest length, and of all such lists the least.
 abbrev pub CycleIsLeast : Type 0
-CycleIsLeast = (net : List NodeDecl) → IsChecked net → (c : ℕ) → shortest_cycle net ≡ Some c → IsLeastCycle net c (cycle_names net c)
+CycleIsLeast = (net : List NodeDecl) → KeepsNodeRules net → (c : ℕ) → shortest_cycle net ≡ Some c → IsLeastCycle net c (cycle_names net c)
 
 -- The names that `Deep` carries are a path of 65 steps, and of all such lists the least; there are none exactly where there is no chain of 65 steps.
 pub record IsLeastPath (net : List NodeDecl) (k : ℕ) (xs : List Name) : Type 0 where
@@ -177,20 +181,20 @@ pub record IsLeastPath (net : List NodeDecl) (k : ℕ) (xs : List Name) : Type 0
   pub least : (ys : List Name) (y : Name) → Along net k ys y → NotAfter xs ys
 
 abbrev pub PathIsLeast : Type 0
-PathIsLeast = (net : List NodeDecl) → IsChecked net → (k : ℕ) → ((xs : List Name) → path_names net k ≡ Some xs → IsLeastPath net k xs) × (path_names net k ≡ None → (x y : Name) → Chain (Step net) k x y → 1 ≤ k → ⊥)
+PathIsLeast = (net : List NodeDecl) → KeepsNodeRules net → (k : ℕ) → ((xs : List Name) → path_names net k ≡ Some xs → IsLeastPath net k xs) × (path_names net k ≡ None → (x y : Name) → Chain (Step net) k x y → 1 ≤ k → ⊥)
 
--- A name with a chain that never ends breaks a rule on walks.
+-- A name with a chain that never ends breaks a rule of the first part.
 abbrev pub EndlessIsRefused : Type 0
-EndlessIsRefused = (net : List NodeDecl) → IsChecked net → (f : ℕ → Name) → ((i : ℕ) → Step net (f i) (f (suc i))) → IsSome (walk_fault net)
+EndlessIsRefused = (net : List NodeDecl) → KeepsNodeRules net → (f : ℕ → Name) → ((i : ℕ) → Step net (f i) (f (suc i))) → IsSome (endless_fault net)
 
 -- The gaps of a node are exactly the gaps that are listed.
 abbrev pub GapsAreAll : Type 0
-GapsAreAll = (net : List NodeDecl) → IsChecked net → (i : ℕ) (n : NodeDecl) → slice_get net i ≡ Some n → (lo hi : ℕ) → Member (record { lo = lo; hi = hi }) (gaps n) ↔ IsGap n lo hi
+GapsAreAll = (net : List NodeDecl) → KeepsNodeRules net → (i : ℕ) (n : NodeDecl) → slice_get net i ≡ Some n → (lo hi : ℕ) → Member (record { lo = lo; hi = hi }) (gaps n) ↔ IsGap n lo hi
 
--- In a net that breaks no rule on walks what is reached at all is reached within 65 steps, so that the bound of resolution cuts nothing.
+-- In a net that breaks no rule of the first part what is reached at all is reached within 65 steps, so that the bound of resolution cuts nothing.
 abbrev pub ReachIsWithin : Type 0
-ReachIsWithin = (net : List NodeDecl) → IsChecked net → walk_fault net ≡ None → (x y : Name) → Reaches (Step net) x y → ReachesWithin (Step net) step_limit x y
+ReachIsWithin = (net : List NodeDecl) → KeepsNodeRules net → endless_fault net ≡ None → (x y : Name) → Reaches (Step net) x y → ReachesWithin (Step net) step_limit x y
 
--- In a net that breaks no rule on walks no chain has 65 steps.
+-- In a net that breaks no rule of the first part no chain has 65 steps.
 abbrev pub NoFaultIsShallow : Type 0
-NoFaultIsShallow = (net : List NodeDecl) → IsChecked net → walk_fault net ≡ None → (x y : Name) → Chain (Step net) step_limit x y → ⊥
+NoFaultIsShallow = (net : List NodeDecl) → KeepsNodeRules net → endless_fault net ≡ None → (x y : Name) → Chain (Step net) step_limit x y → ⊥

@@ -1,7 +1,9 @@
 //! Laws on the definitions of the net, each the contract of a function that does nothing.
 
+ghost use Rattle.dn_net.specs.Legal.{LegalBreaksNoRule};
 ghost use Rattle.dn_net.specs.Names.{ResolvedIsResolution, ResolvedAscends, ReachedIsWithin, AfterStepsIsChain};
 ghost use Rattle.dn_net.specs.Rules.{LeastOverlapIsLeast};
+ghost use Rattle.dn_net.specs.WalkRules.{CycleIsLeast, EndlessIsRefused, NoFaultIsShallow, PathIsLeast, ReachIsWithin, ShortestCycleIsShortest};
 
 /// The list of the names that a name resolves to has exactly the names of its resolution.
 pub fn resolved_is_resolution()
@@ -26,4 +28,40 @@ pub fn after_steps_is_chain()
 /// The least overlap is the least address that lies in two map blocks, or in a map block and an accept block.
 pub fn least_overlap_is_least()
     ensures { LeastOverlapIsLeast }
+{}
+
+/// The shortest cycle is the least number of steps, from 1 to 64, in which a name comes to itself.
+pub fn shortest_cycle_is_shortest()
+    ensures { ShortestCycleIsShortest }
+{}
+
+/// The names that `Loop` carries are a cycle of the shortest length, and of all such lists the least.
+pub fn cycle_is_least()
+    ensures { CycleIsLeast }
+{}
+
+/// The names that `Deep` carries are a path of the length that is asked for, and of all such lists the least;
+/// where there are none, there is no chain of that length.
+pub fn path_is_least()
+    ensures { PathIsLeast }
+{}
+
+/// A name with a chain that never ends breaks `Wide`, `Loop` or `Deep`.
+pub fn endless_is_refused()
+    ensures { EndlessIsRefused }
+{}
+
+/// In a net that breaks none of these three no chain has 65 steps.
+pub fn no_fault_is_shallow()
+    ensures { NoFaultIsShallow }
+{}
+
+/// In a net that breaks none of these three what is reached at all is reached within 65 steps.
+pub fn reach_is_within()
+    ensures { ReachIsWithin }
+{}
+
+/// A net with each node to which it refers breaks neither a node rule nor a rule on walks exactly where it is legal.
+pub fn legal_breaks_no_rule()
+    ensures { LegalBreaksNoRule }
 {}

@@ -5,6 +5,7 @@ ghost use Rattle.std.specs.List.{list_any, list_all};
 ghost use Rattle.std.specs.Str.{bytes_eq};
 ghost use Rattle.std.specs.Option.{option_copied, is_some};
 ghost use Rattle.dn_net.specs.Decode.{is_formed, unit_at, in_some_block};
+ghost use Rattle.dn_net.specs.Legal.{node_limit, IsNet};
 ghost use Rattle.dn_net.specs.Parts.{over_dests, over_is_based};
 
 use crate::accepts::AcceptList;
@@ -63,18 +64,19 @@ impl Parts {
 }
 
 impl Model for Net {
-    ghost use Rattle.std.specs.Prelude.{List, ◌<◌, ◌≤◌, length, map, IsTrue};
-    ghost use Rattle.std.specs.List.{list_all};
+    ghost use Rattle.std.specs.Prelude.{List, ◌≢◌, ◌≤◌, length, map, IsTrue};
+    ghost use Rattle.std.specs.List.{AllPairs, list_all};
     ghost use Rattle.dn_net.specs.Decode.{is_formed};
     ghost use Rattle.std.specs.String.{string_bytes};
     ghost use Rattle.dn_net.specs.declared.node.NodeDecl.{NodeDecl};
+    ghost use Rattle.dn_net.specs.Legal.{node_limit};
     ghost use Rattle.dn_net.specs.Parts.{declared_by, over_is_based};
 
     ghost Value = { List NodeDecl };
 
     ghost view = { λ n. map (declared_by (λ s. string_bytes s)) n.nodes.entries };
 
-    ghost invariant = { λ n. record { small : length n.nodes.entries ≤ 1024; formed : IsTrue (list_all is_formed (map (declared_by (λ s. string_bytes s)) n.nodes.entries)); based : IsTrue (list_all (λ e. over_is_based e.1.over) n.nodes.entries) } };
+    ghost invariant = { λ n. record { small : length n.nodes.entries ≤ node_limit; formed : IsTrue (list_all is_formed (map (declared_by (λ s. string_bytes s)) n.nodes.entries)); names_differ : AllPairs (λ (d e : NodeDecl). d.text ≢ e.text) (map (declared_by (λ s. string_bytes s)) n.nodes.entries); based : IsTrue (list_all (λ e. over_is_based e.1.over) n.nodes.entries) } };
 }
 
 impl Net {
@@ -87,9 +89,17 @@ impl Net {
         }
     }
 
+    /// What every net is, for a proof of its caller: at most 1,024 nodes, each of them formed, and no two with
+    /// one full name. It does nothing.
+    pub fn facts(&self)
+        ensures { IsNet self.now }
+    {
+        let _nodes = &self.nodes;
+    }
+
     /// Adds a node and answers its number. For want of memory the net is unchanged.
     pub fn add(&mut self, decl: NodeDecl) -> Result<u16, AllocError>
-        requires room { length self.old < 1024 }
+        requires room { length self.old < node_limit }
         requires formed { IsTrue (is_formed decl) }
         requires new_name { list_any (λ d. bytes_eq decl.text d.text) self.old ≡ false }
         ensures ok { IfOk result (λ n. (n ≡ length self.old) × (self.new ≡ self.old ++ decl ∷ [])) }

@@ -7,7 +7,7 @@ ghost use Rattle.std.specs.List.Sorted.{IsNonDecreasingBy};
 ghost use Rattle.dn_net.specs.Decode.{top};
 ghost use Rattle.dn_net.specs.Spans.{is_accepted_in};
 ghost use Rattle.dn_net.specs.declared.node.NodeDecl.{NodeDecl};
-ghost use Rattle.dn_net.specs.Rules.{node_fault, is_in_range, fault_of_node, is_vectors, count_below, block_in_range, dest_in_range, entry_in_range, same_dest, dests_repeat, ports_repeat, unit_repeats};
+ghost use Rattle.dn_net.specs.Rules.{node_fault, KeepsRules, is_in_range, fault_of_node, is_vectors, count_below, block_in_range, dest_in_range, entry_in_range, same_dest, dests_repeat, ports_repeat, unit_repeats};
 
 use crate::net::Net;
 use crate::node::{Block, Dest, Entry, Role, TOP, Unit};
@@ -42,6 +42,7 @@ impl Net {
     /// Tests the node rules, node by node.
     pub fn check_nodes(&self, alloc: Global) -> Result<(), NodeFault>
         ensures ok { OnOk result (node_fault self.now ≡ None) }
+        ensures rules { OnOk result (All KeepsRules self.now) }
         ensures in_range { OnOk result (IsTrue (list_all is_in_range self.now)) }
         ensures fault { IfErr result (λ e. e ≢ NodeFault.OutOfMemory → node_fault self.now ≡ Some e) }
     {

@@ -1,10 +1,10 @@
 //! One step of decoding.
 
 ghost use Rattle.std.specs.Prelude.{◌≡◌, ◌≢◌, ◌↔◌, ℕ, Bool, Option, length, map, ◌-◌, ◌<◌, ◌≤◌, IfNone, IfSome, nat_lt, nat_le, IsTrue, slice_get, Some};
-ghost use Rattle.std.specs.List.{list_all, count_by};
+ghost use Rattle.std.specs.List.{All, list_all, count_by};
 ghost use Rattle.dn_net.specs.Decode.{is_accepted, is_stop, steps, leads_to, leads_within, leads_in_range, is_closed, sent, sent_over, sent_from, told_by, top, within, in_some_block, moved, mapped, by_over, over_within};
 ghost use Rattle.dn_net.specs.Parts.{over_dests};
-ghost use Rattle.dn_net.specs.Rules.{node_fault, entry_in_range};
+ghost use Rattle.dn_net.specs.Rules.{KeepsRules, entry_in_range};
 
 use crate::entries::EntryList;
 use crate::net::Net;
@@ -28,7 +28,7 @@ impl Net {
     /// Decodes a name by one step.
     pub fn step(&self, name: Name) -> Step<'_>
         requires there { name.node < length self.now }
-        requires checked { node_fault self.now ≡ None }
+        requires rules { All KeepsRules self.now }
         ensures accepted { result ≡ Step.Accepted ↔ IsTrue (is_accepted self.now name) }
         ensures stop { result ≡ Step.Stop ↔ IsTrue (is_stop self.now name) }
         ensures sent { told_by result ≡ sent_from name.addr (slice_get self.now name.node) }

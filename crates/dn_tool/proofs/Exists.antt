@@ -1,5 +1,5 @@
 -- The nodes of the names to which steps lead, and of those that a broken rule names, are there.
-use Rattle.std.proofs.Common.{◌≡◌, ◌∙◌, ap, subst, refl, arith, ℕ, zero, suc, ◌-◌, ◌<◌, if◌then◌else◌, Bool, true, false, ◌&&◌, nat_le, nat_lt, List, [], ◌∷◌, ◌++◌, map, filter, length, slice_get, Option, Some, None, option_map, IsTrue, lt-ltb}
+use Rattle.std.proofs.Common.{◌≡◌, ◌∙◌, ap, sym, subst, refl, arith, ℕ, zero, suc, ◌-◌, ◌<◌, if◌then◌else◌, Bool, true, false, ◌&&◌, nat_le, nat_lt, List, [], ◌∷◌, ◌++◌, map, filter, length, slice_get, Option, Some, None, option_map, IsTrue, lt-ltb}
 use Rattle.std.proofs.lemmas.Option.{none-some, same_Some}
 use Rattle.std.specs.List.{list_all}
 use Rattle.dn_net.specs.declared.node.Name.{Name}
@@ -8,9 +8,10 @@ use Rattle.dn_net.specs.declared.node.Entry.{Entry}
 use Rattle.dn_net.specs.declared.node.NodeDecl.{NodeDecl}
 use Rattle.dn_net.specs.Decode.{top, within, moved, by_over, mapped, in_some_block, decoded, steps, step_limit, is_accepted, is_accepted_at, refers_within, over_within, ports_within, is_closed}
 use Rattle.dn_net.specs.Names.{name_lt, name_eq, with_name, sorted_names, each_step, passing, reached, resolved}
-use Rattle.dn_net.specs.WalkRules.{Broken, is_wide, has_loop, is_deep, or_else, first_below, least_below, least_name, goes_on, comes_to, comes_back, shortest_cycle, counted_length, first_of, behind, way_by, cycle_from, cycle_names, path_from, path_names, endless_fault, walk_limit, walk_fault}
-use Rattle.dn_net.specs.Walks.{live_walks}
+use Rattle.dn_net.specs.WalkRules.{Broken, is_wide, has_loop, is_deep, or_else, first_below, least_below, least_name, goes_on, comes_to, comes_back, shortest_cycle, first_of, behind, way_by, cycle_from, cycle_names, path_from, path_names, cycle_or_path, walk_fault}
+use Rattle.dn_net.proofs.Endless.{is_wide_net, endless_fault_is}
 use Rattle.dn_net.proofs.Least.{true_both}
+use Rattle.dn_net.proofs.Legal.{first_part}
 use Rattle.dn_net.proofs.Places.{both, list_all-at}
 use Rattle.dn_walk.specs.declared.fault.WalkFault.{WalkFault}
 use Rattle.dn_walk.specs.declared.fault.WalkFault.TheVariants.{Wide, Loop, Deep, OutOfMemory}
@@ -168,15 +169,14 @@ path_exist net closed k b e = go (least_name net (goes_on net k)) refl e
         let xs : List Name = x ∷ way_by (steps net) (goes_on net) k x in
         subst (BrokenExists (length net)) (same_Some (is_deep xs) b f) (true_both _ _ (least_name_there net (goes_on net k) x at) (way_exist net closed (goes_on net) k x))
 
-endless_exist : (net : List NodeDecl) → IsTrue (is_closed net) → (o : Option ℕ) (b : Broken) → endless_fault net o ≡ Some b → BrokenExists (length net) b
+endless_exist : (net : List NodeDecl) → IsTrue (is_closed net) → (o : Option ℕ) (b : Broken) → cycle_or_path net o ≡ Some b → BrokenExists (length net) b
 endless_exist net closed (Some c) b e = subst (BrokenExists (length net)) (same_Some (has_loop (cycle_names net c)) b e) (cycle_exist net closed c)
 endless_exist net closed None b e = path_exist net closed step_limit b e
 
 walk_exist : (net : List NodeDecl) → IsTrue (is_closed net) → (b : Broken) → walk_fault net ≡ Some b → BrokenExists (length net) b
-unfolding walk_fault
-walk_exist net closed b e = go (nat_lt walk_limit (length (live_walks net (counted_length (shortest_cycle net))))) e
+walk_exist net closed b e = go (is_wide_net net) (sym (endless_fault_is net) ∙ sym (first_part net) ∙ e)
   where
-    go : (w : Bool) → (if w then Some is_wide else endless_fault net (shortest_cycle net)) ≡ Some b → BrokenExists (length net) b
+    go : (w : Bool) → (if w then Some is_wide else cycle_or_path net (shortest_cycle net)) ≡ Some b → BrokenExists (length net) b
     go true f = subst (BrokenExists (length net)) (same_Some is_wide b f) tt
     go false f = endless_exist net closed (shortest_cycle net) b f
 

@@ -1,10 +1,9 @@
 //! The reply to each command, as it is printed.
 
-ghost use Rattle.std.specs.Prelude.{◌≡◌, None, ◌<◌, length, slice_get, IfOk, IsTrue};
+ghost use Rattle.std.specs.Prelude.{◌≡◌, ◌<◌, length, slice_get, IfOk, IsTrue};
 ghost use Rattle.std.specs.String.{string_bytes};
-ghost use Rattle.dn_net.specs.Decode.{is_closed, over_within};
-ghost use Rattle.dn_net.specs.Rules.{node_fault};
-ghost use Rattle.dn_net.specs.WalkRules.{walk_fault};
+ghost use Rattle.dn_net.specs.Decode.{over_within};
+ghost use Rattle.dn_net.specs.Rules.{KeepsNodeRules};
 ghost use Rattle.dn_module.specs.Commands.{names_within};
 ghost use Rattle.dn_walk.specs.Rows.{AreWalksOf};
 ghost use Rattle.dn_tool.specs.Reply.{reply, target_text, resolve_text, is_agent_at, viewed_text, view_rows, no_agent_text, view_text, later_text};
@@ -20,9 +19,6 @@ use std::alloc::{AllocError, Global};
 
 /// The reply to a command: a line, and below that of `view` a line for each row. `Err` is want of memory.
 pub fn reply(alloc: Global, platform: &Platform, command: &Command) -> Result<String, AllocError>
-    requires closed { IsTrue (is_closed platform.now.net) }
-    requires checked { node_fault platform.now.net ≡ None }
-    requires walkable { walk_fault platform.now.net ≡ None }
     requires walks { AreWalksOf platform.now.net platform.now.walks }
     requires known { IsTrue (names_within (length platform.now.net) command.now) }
     ensures { IfOk result (λ s. string_bytes s ≡ reply platform.now.net command.now) }
@@ -49,8 +45,7 @@ fn later(alloc: Global, word: &str) -> Result<String, AllocError>
 
 /// The reply to `resolve`.
 fn resolve_reply(alloc: Global, net: &Net, target: &Target, addr: u64) -> Result<String, AllocError>
-    requires closed { IsTrue (is_closed net.now) }
-    requires checked { node_fault net.now ≡ None }
+    requires rules { KeepsNodeRules net.now }
     requires known { IsTrue (over_within (length net.now) target.now.node) }
     ensures { IfOk result (λ s. string_bytes s ≡ resolve_text net.now target.now addr) }
 {
@@ -62,8 +57,7 @@ fn resolve_reply(alloc: Global, net: &Net, target: &Target, addr: u64) -> Result
 
 /// The names to which the address of a node resolves, where there is such a node.
 fn target_text(alloc: Global, net: &Net, node: Option<u16>, addr: u64) -> Result<String, AllocError>
-    requires closed { IsTrue (is_closed net.now) }
-    requires checked { node_fault net.now ≡ None }
+    requires rules { KeepsNodeRules net.now }
     requires known { IsTrue (over_within (length net.now) node) }
     ensures { IfOk result (λ s. string_bytes s ≡ target_text net.now node addr) }
 {
@@ -78,9 +72,6 @@ fn target_text(alloc: Global, net: &Net, node: Option<u16>, addr: u64) -> Result
 
 /// The reply to `view`.
 fn view_reply(alloc: Global, platform: &Platform, target: &Target) -> Result<String, AllocError>
-    requires closed { IsTrue (is_closed platform.now.net) }
-    requires checked { node_fault platform.now.net ≡ None }
-    requires walkable { walk_fault platform.now.net ≡ None }
     requires walks { AreWalksOf platform.now.net platform.now.walks }
     requires known { IsTrue (over_within (length platform.now.net) target.now.node) }
     ensures { IfOk result (λ s. string_bytes s ≡ view_text platform.now.net target.now) }
@@ -109,9 +100,6 @@ fn no_agent(alloc: Global, text: &str) -> Result<String, AllocError>
 
 /// What a node sees, below a heading with this text and the number of rows.
 fn viewed(alloc: Global, platform: &Platform, text: &str, node: u16) -> Result<String, AllocError>
-    requires closed { IsTrue (is_closed platform.now.net) }
-    requires checked { node_fault platform.now.net ≡ None }
-    requires walkable { walk_fault platform.now.net ≡ None }
     requires walks { AreWalksOf platform.now.net platform.now.walks }
     requires there { node < length platform.now.net }
     ensures { IfOk result (λ s. string_bytes s ≡ viewed_text platform.now.net text.now (view_rows platform.now.net node)) }

@@ -1,10 +1,10 @@
 //! To what a name resolves, level by level.
 
-ghost use Rattle.std.specs.Prelude.{◌≡◌, ◌++◌, None, ◌+◌, ◌<◌, ◌^◌, length, map, nat_le, nat_lt, IfOk, OnOk, IsTrue};
+ghost use Rattle.std.specs.Prelude.{◌≡◌, ◌++◌, ◌+◌, ◌<◌, ◌^◌, length, map, nat_le, nat_lt, IfOk, OnOk, IsTrue};
 ghost use Rattle.std.specs.List.{list_all};
-ghost use Rattle.dn_net.specs.Decode.{is_accepted, is_closed, moved, steps, top};
+ghost use Rattle.dn_net.specs.Decode.{is_accepted, moved, steps, top};
 ghost use Rattle.dn_net.specs.Names.{each_step, passing, resolved, sorted_names};
-ghost use Rattle.dn_net.specs.Rules.{node_fault};
+ghost use Rattle.dn_net.specs.Rules.{KeepsNodeRules};
 ghost use Rattle.dn_print.specs.Names.{names_exist};
 
 use dn_net::names::Names;
@@ -21,8 +21,7 @@ const LEVELS: u8 = 66;
 /// A level has each of its names once, so names that many ways reach are followed once.
 pub fn resolve(alloc: Global, net: &Net, name: Name) -> Result<Names, AllocError>
     requires there { name.node < length net.now }
-    requires closed { IsTrue (is_closed net.now) }
-    requires checked { node_fault net.now ≡ None }
+    requires rules { KeepsNodeRules net.now }
     ensures resolved { IfOk result (λ names. names ≡ resolved net.now name) }
     // Each of them is in a node that is there.
     ensures there { IfOk result (λ names. IsTrue (names_exist (length net.now) names)) }
@@ -47,8 +46,7 @@ fn next_level(
     accepted: &mut Vec<Name>,
 ) -> Result<Names, AllocError>
     requires there { IsTrue (names_exist (length net.now) level.now) }
-    requires closed { IsTrue (is_closed net.now) }
-    requires checked { node_fault net.now ≡ None }
+    requires rules { KeepsNodeRules net.now }
     ensures accepted { OnOk result (accepted.new.items ≡ accepted.old.items ++ passing (is_accepted net.now) level.now) }
     ensures next { IfOk result (λ names. names ≡ sorted_names (each_step (steps net.now) level.now)) }
     ensures there { IfOk result (λ names. IsTrue (names_exist (length net.now) names)) }

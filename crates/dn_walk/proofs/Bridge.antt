@@ -8,7 +8,8 @@ use Rattle.dn_net.specs.declared.node.NodeDecl.{NodeDecl}
 use Rattle.dn_net.specs.Chain.{Member}
 use Rattle.dn_net.specs.Decode.{top}
 use Rattle.dn_net.specs.Walks.{Leg as NetLeg, legs_of, in_order, Walk, meets, onto, extended, stills, level, starts_before, live_walks}
-use Rattle.dn_net.specs.WalkRules.{IsChecked, least_name, comes_to, comes_back, goes_on}
+use Rattle.dn_net.specs.WalkRules.{least_name, comes_to, comes_back, goes_on}
+use Rattle.dn_net.specs.Rules.{KeepsNodeRules}
 use Rattle.dn_net.proofs.Least.{within_to, within_from, true_both, both_true, either_true, true_left, true_right}
 use Rattle.dn_walk.specs.declared.leg.Leg.{Leg}
 use Rattle.dn_walk.specs.declared.way.Goal.TheVariants.{Anywhere, To}
@@ -16,12 +17,12 @@ use Rattle.dn_walk.specs.Rows.{Told, told_by_walk}
 use Rattle.dn_walk.specs.Legs.{told_leg, told_legs}
 use Rattle.dn_walk.specs.Levels.{told_meets, told_onto, told_on, told_extended, told_still, told_stills, told_level, told_before, told_walks}
 use Rattle.dn_walk.specs.Ways.{least_of, start_name, start_names, is_cyclic, told_leads, level_leads, has_addr, meets_goal}
-use Rattle.dn_walk.proofs.Cycles.{IsLed, HasName, comes_to_is_row, goes_on_is_row}
-use Rattle.dn_walk.proofs.Firsts.{NoLater, lower_addr, IsLeastNameOr, least_name_is}
-use Rattle.dn_walk.proofs.Gaps.{same_test}
+use Rattle.dn_net.proofs.Cycles.{IsLed, HasName, comes_to_is_row, goes_on_is_row}
+use Rattle.dn_net.proofs.Firsts.{NoLater, lower_addr, IsLeastNameOr, least_name_is}
+use Rattle.dn_net.proofs.Gaps.{same_test}
 use Rattle.dn_walk.proofs.Least.{same_place, least_is, least_none}
-use Rattle.dn_walk.proofs.Levels.{level_is_row}
-use Rattle.dn_walk.proofs.Members.{member_map, map_member, member_filter, filter_member, member_order}
+use Rattle.dn_net.proofs.Levels.{level_is_row}
+use Rattle.dn_net.proofs.Members.{member_map, map_member, member_filter, filter_member, member_order}
 use Rattle.dn_walk.proofs.Sorting.{map_in_order}
 use Rattle.dn_walk.proofs.Told.{level-zero, level-suc, walks-zero, walks-suc}
 
@@ -136,7 +137,7 @@ start_to : (b : Bool) (rows : List Told) (t : Told) → Member t rows → (not b
 start_to b rows t m h = map_member start_name (filter (λ t. not b || is_cyclic t) rows) t (filter_member (λ t. not b || is_cyclic t) rows t m h)
 
 -- of the names that come back
-pub least_back : (net : List NodeDecl) → IsChecked net → (k : ℕ) → least_name net (comes_back net k) ≡ least_of (start_names true (told_level (map told_legs net) k))
+pub least_back : (net : List NodeDecl) → KeepsNodeRules net → (k : ℕ) → least_name net (comes_back net k) ≡ least_of (start_names true (told_level (map told_legs net) k))
 least_back net checked k = least_name_of net (comes_back net k) (start_names true (told_level (map told_legs net) k)) record { passes = passes; covers = covers }
   where
     back : (w : Walk) → Member w (level net k) → is_cyclic (told_by_walk w) ≡ true → (comes_back net k (start_name (told_by_walk w)) ≡ true) × (w.start < length net) × (w.span.lo ≤ top)
@@ -175,7 +176,7 @@ least_back net checked k = least_name_of net (comes_back net k) (start_names tru
         (y, start_to true (told_level (map told_legs net) k) (told_by_walk w) (row_of net k w r.1.row) (cyclic_from (told_by_walk w) (s ∙ sym n) b), subst (λ m. NoLater (record { node = m; addr = w.span.lo }) x) (sym s) (no_later x w.span.lo lo))
 
 -- of the names from which so many steps go on
-pub least_onward : (net : List NodeDecl) → IsChecked net → (k : ℕ) → least_name net (goes_on net k) ≡ least_of (start_names false (told_level (map told_legs net) k))
+pub least_onward : (net : List NodeDecl) → KeepsNodeRules net → (k : ℕ) → least_name net (goes_on net k) ≡ least_of (start_names false (told_level (map told_legs net) k))
 least_onward net checked k = least_name_of net (goes_on net k) (start_names false (told_level (map told_legs net) k)) record { passes = passes; covers = covers }
   where
     on : (w : Walk) → Member w (level net k) → (goes_on net k (start_name (told_by_walk w)) ≡ true) × (w.start < length net) × (w.span.lo ≤ top)
@@ -223,7 +224,7 @@ row_among net k t m = walk_of net k t ((member_order told_before (told_level (ma
 among_row : (net : List NodeDecl) (k : ℕ) (w : Walk) → Member w (level net k) → Member (told_by_walk w) (in_order told_before (told_level (map told_legs net) k))
 among_row net k w m = (member_order told_before (told_level (map told_legs net) k) (told_by_walk w)).1 (row_of net k w m)
 
-pub leads_to_name : (net : List NodeDecl) → IsChecked net → (k : ℕ) (x y : Name) → x.node < length net → x.addr ≤ top → level_leads (To y) (in_order told_before (told_level (map told_legs net) k)) x ≡ comes_to net y k x
+pub leads_to_name : (net : List NodeDecl) → KeepsNodeRules net → (k : ℕ) (x y : Name) → x.node < length net → x.addr ≤ top → level_leads (To y) (in_order told_before (told_level (map told_legs net) k)) x ≡ comes_to net y k x
 leads_to_name net checked k x y l t = same_test (level_leads (To y) rows x) (comes_to net y k x) there back
   where
     rows : List Told
@@ -249,7 +250,7 @@ leads_to_name net checked k x y l t = same_test (level_leads (To y) rows x) (com
         let goal = true_both (w.to.node == y.node) ((w.to.addr + (x.addr - w.span.lo)) == y.addr) (eq-eqb _ _ (ap (λ n. n.node) r.1.to)) (eq-eqb _ _ (ap (λ n. n.addr) r.1.to)) in
         member_any (told_leads (To y) x) rows (told_by_walk w) (among_row net k w r.1.row) (true_both (w.start == x.node) (has_addr (told_by_walk w) x.addr && meets_goal (To y) x.addr (told_by_walk w)) (eq-eqb _ _ r.1.start) (true_both (has_addr (told_by_walk w) x.addr) (meets_goal (To y) x.addr (told_by_walk w)) r.1.inside goal))
 
-pub leads_anywhere : (net : List NodeDecl) → IsChecked net → (k : ℕ) (x : Name) → x.node < length net → x.addr ≤ top → level_leads Anywhere (in_order told_before (told_level (map told_legs net) k)) x ≡ goes_on net k x
+pub leads_anywhere : (net : List NodeDecl) → KeepsNodeRules net → (k : ℕ) (x : Name) → x.node < length net → x.addr ≤ top → level_leads Anywhere (in_order told_before (told_level (map told_legs net) k)) x ≡ goes_on net k x
 leads_anywhere net checked k x l t = same_test (level_leads Anywhere rows x) (goes_on net k x) there back
   where
     rows : List Told

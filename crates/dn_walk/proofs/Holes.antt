@@ -8,7 +8,7 @@ use Rattle.dn_net.specs.declared.node.Block.{Block}
 use Rattle.dn_net.specs.Decode.{top, within, in_some_block}
 use Rattle.dn_net.specs.Rules.{block_in_range}
 use Rattle.dn_net.specs.Walks.{cut_each, whole}
-use Rattle.dn_walk.proofs.Gaps.{Stand, cut_each_stands, accepts_upward, cut_each_has, whole_has}
+use Rattle.dn_net.proofs.Gaps.{Stand, cut_each_stands, accepts_upward, cut_each_has, whole_has}
 
 abbrev pub block_of_span : Span → Block
 block_of_span s = record { lo = s.lo; hi = s.hi }

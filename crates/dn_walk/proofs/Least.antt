@@ -12,8 +12,8 @@ use Rattle.dn_net.proofs.Resolution.{member_left, member_right, member_split}
 use Rattle.dn_walk.specs.declared.walks.WalkRow.{WalkRow}
 use Rattle.dn_walk.specs.Rows.{Told, told_by_row}
 use Rattle.dn_walk.specs.Ways.{least_of, lesser_name, start_name, start_names, is_cyclic}
-use Rattle.dn_walk.proofs.Firsts.{NoLater}
-use Rattle.dn_walk.proofs.Ways.{IsFirstName, IsFirstNameOr, first_sorted, no_later_still, either_way, lower_is}
+use Rattle.dn_net.proofs.Firsts.{NoLater}
+use Rattle.dn_net.proofs.Ways.{IsFirstName, IsFirstNameOr, first_sorted, no_later_still, either_way, lower_is}
 
 -- a name is not before itself, nor before one that is before it
 never_both : (x y : Name) → IsTrue (name_lt x y) → NoLater y x → ⊥

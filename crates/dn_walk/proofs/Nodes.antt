@@ -10,22 +10,22 @@ use Rattle.dn_net.specs.declared.node.Dest.{Dest}
 use Rattle.dn_net.specs.declared.node.Entry.{Entry}
 use Rattle.dn_net.specs.declared.node.NodeDecl.{NodeDecl}
 use Rattle.dn_net.specs.Chain.{Member}
-use Rattle.dn_net.specs.Decode.{top, in_some_block, within, is_closed, refers_within}
-use Rattle.dn_net.specs.Rules.{node_fault, block_in_range, entry_in_range}
+use Rattle.dn_net.specs.Decode.{top, in_some_block, within, refers_within}
+use Rattle.dn_net.specs.Rules.{block_in_range, entry_in_range, KeepsRules, KeepsNodeRules}
 use Rattle.dn_net.specs.Walks.{Leg as NetLeg, in_order, dest_legs, entry_legs, gap_legs, gaps, legs}
-use Rattle.dn_net.proofs.Checked.{checked_at}
+use Rattle.dn_net.proofs.Kept.{kept_at}
 use Rattle.dn_net.proofs.Places.{both, length-map}
 use Rattle.dn_net.proofs.Steps.{node_at}
 use Rattle.dn_interval.specs.declared.span.Span.{Span}
 use Rattle.dn_interval.specs.Spans.{has, in_span, AreMaximal}
 use Rattle.dn_walk.specs.declared.leg.Leg.{Leg}
 use Rattle.dn_walk.specs.Legs.{told_leg, told_legs, dest_leg, plain_entry_legs, gap_leg, plain_gap_legs, leg_before, legs_by, gaps_by, block_of, IsLegOf, AreLegs}
-use Rattle.dn_walk.proofs.Apart.{node_apart}
+use Rattle.dn_net.proofs.Apart.{node_apart}
 use Rattle.dn_walk.proofs.Holes.{spans_are_left}
-use Rattle.dn_walk.proofs.Legs.{leads_of_leg, leads_in_range, leads_within}
-use Rattle.dn_walk.proofs.Members.{member_map}
-use Rattle.dn_walk.proofs.Order.{legs_rise}
-use Rattle.dn_walk.proofs.Pairs.{pairs_map, pairs_more, pairs_rise}
+use Rattle.dn_net.proofs.Legs.{leads_of_leg, leads_in_range, leads_within}
+use Rattle.dn_net.proofs.Members.{member_map}
+use Rattle.dn_net.proofs.Order.{legs_rise}
+use Rattle.dn_net.proofs.Pairs.{pairs_map, pairs_more, pairs_rise}
 use Rattle.dn_walk.proofs.Sorting.{map_in_order}
 use Rattle.dn_walk.proofs.Told.{at_member}
 
@@ -66,28 +66,28 @@ legs_at net i accepts entries over l a e o = by (slice_get net i) refl a e o
         ∙ map-append told_legs (take i net) (n ∷ [])
         ∙ ap (λ x. map told_legs (take i net) ++ x ∷ []) (legs_are n ∙ ap (λ x. legs_by x n.entries n.over) a' ∙ ap (λ x. legs_by accepts x n.over) e' ∙ ap (λ x. legs_by accepts entries x) o')
 
-pub accepts_in_range : (net : List NodeDecl) (i : ℕ) (accepts : List Block) → node_fault net ≡ None → option_map (λ d. d.accepts) (slice_get net i) ≡ Some accepts → IsTrue (list_all block_in_range accepts)
+pub accepts_in_range : (net : List NodeDecl) (i : ℕ) (accepts : List Block) → All KeepsRules net → option_map (λ d. d.accepts) (slice_get net i) ≡ Some accepts → IsTrue (list_all block_in_range accepts)
 accepts_in_range net i accepts h a = by (slice_get net i) refl a
   where
     by : (u : Option NodeDecl) → slice_get net i ≡ u → option_map (λ d. d.accepts) u ≡ Some accepts → IsTrue (list_all block_in_range accepts)
     by None u a = cc
     by (Some n) u a =
         let a' : n.accepts ≡ accepts = cc in
-        subst (λ l. IsTrue (list_all block_in_range l)) a' (both (list_all block_in_range n.accepts) (list_all entry_in_range n.entries) (checked_at net i h n u).in_range).0
+        subst (λ l. IsTrue (list_all block_in_range l)) a' (both (list_all block_in_range n.accepts) (list_all entry_in_range n.entries) (kept_at net i h n u).in_range).0
 
-pub entries_in_range : (net : List NodeDecl) (i : ℕ) (entries : List Entry) → node_fault net ≡ None → option_map (λ d. d.entries) (slice_get net i) ≡ Some entries → IsTrue (list_all entry_in_range entries)
+pub entries_in_range : (net : List NodeDecl) (i : ℕ) (entries : List Entry) → All KeepsRules net → option_map (λ d. d.entries) (slice_get net i) ≡ Some entries → IsTrue (list_all entry_in_range entries)
 entries_in_range net i entries h a = by (slice_get net i) refl a
   where
     by : (u : Option NodeDecl) → slice_get net i ≡ u → option_map (λ d. d.entries) u ≡ Some entries → IsTrue (list_all entry_in_range entries)
     by None u a = cc
     by (Some n) u a =
         let a' : n.entries ≡ entries = cc in
-        subst (λ l. IsTrue (list_all entry_in_range l)) a' (both (list_all block_in_range n.accepts) (list_all entry_in_range n.entries) (checked_at net i h n u).in_range).1
+        subst (λ l. IsTrue (list_all entry_in_range l)) a' (both (list_all block_in_range n.accepts) (list_all entry_in_range n.entries) (kept_at net i h n u).in_range).1
 
 -- they lead on in range, and neither their first nor their last addresses descend
-pub legs_of_node : (net : List NodeDecl) → IsTrue (is_closed net) → node_fault net ≡ None → (i : ℕ) (n : NodeDecl) → slice_get net i ≡ Some n → AreLegs (length net) (told_legs n)
-legs_of_node net closed checked i n at =
-    let apart = node_apart net checked i n at in
+pub legs_of_node : (net : List NodeDecl) → KeepsNodeRules net → (i : ℕ) (n : NodeDecl) → slice_get net i ≡ Some n → AreLegs (length net) (told_legs n)
+legs_of_node net rules i n at =
+    let apart = node_apart net rules.each i n at in
     let rise = legs_rise n apart in
     record {
       firsts = pairs_rise (λ (l : Leg). l.lo) (told_legs n) (pairs_map (λ (l m : Leg). l.lo ≤ m.lo) told_leg (legs n) (pairs_more (λ (l m : NetLeg). (l.block.lo ≤ m.block.lo) × (l.block.hi ≤ m.block.hi)) (λ (l m : NetLeg). l.block.lo ≤ m.block.lo) (legs n) (λ l m a b r. r.0) rise));
@@ -97,16 +97,16 @@ legs_of_node net closed checked i n at =
   where
     one : (l : NetLeg) → Member l (legs n) → IsLegOf (length net) (told_leg l)
     one l m =
-        let f = leads_of_leg (Some n) (λ k e. node_apart net checked i k (at ∙ e)) l m in
-        let r = leads_in_range (Some n) (λ k e. node_apart net checked i k (at ∙ e)) l.choice l.block l.to f in
-        let w = leads_within (length net) (Some n) (λ k e. node_at (refers_within (length net)) net i closed k (at ∙ e)) l.choice l.block l.to f in
+        let f = leads_of_leg (Some n) (λ k e. node_apart net rules.each i k (at ∙ e)) l m in
+        let r = leads_in_range (Some n) (λ k e. node_apart net rules.each i k (at ∙ e)) l.choice l.block l.to f in
+        let w = leads_within (length net) (Some n) (λ k e. node_at (refers_within (length net)) net i rules.closed k (at ∙ e)) l.choice l.block l.to f in
         record { order = r.0; low = r.1; node = w; reach = r.2 }
 
     member_is : (l : Leg) → Member l (told_legs n) → IsLegOf (length net) l
     member_is l m = let r = member_map told_leg (legs n) l m in subst (λ k. IsLegOf (length net) k) r.2 (one r.0 r.1)
 
-pub all_legs : (net : List NodeDecl) → IsTrue (is_closed net) → node_fault net ≡ None → All (AreLegs (length net)) (map told_legs net)
-all_legs net closed checked = λ k d l.
+pub all_legs : (net : List NodeDecl) → KeepsNodeRules net → All (AreLegs (length net)) (map told_legs net)
+all_legs net rules = λ k d l.
     let n = map_length net in
     let k' : k < length net = omega arith in
     at k d k' (slice_get net k) refl
@@ -125,10 +125,10 @@ all_legs net closed checked = λ k d l.
     at k d l (Some n) u =
         let s : ◌≡◌ {A = Option NodeDecl} (Some (get_or net k n)) (Some n) = sym (slice_get-get_or net k n l) ∙ u in
         let g : get_or net k n ≡ n = cc in
-        subst (λ x. AreLegs (length net) x) (sym (get_or-map told_legs net k n d l ∙ ap told_legs g)) (legs_of_node net closed checked k n u)
+        subst (λ x. AreLegs (length net) x) (sym (get_or-map told_legs net k n d l ∙ ap told_legs g)) (legs_of_node net rules k n u)
 
-pub all_legs_of : (net : List NodeDecl) → IsTrue (is_closed net) → node_fault net ≡ None → (xs : List (List Leg)) → xs ≡ map told_legs net → All (AreLegs (length xs)) xs
-all_legs_of net closed checked xs e = subst (λ x. All (AreLegs (length x)) x) (sym e) (subst (λ n. All (AreLegs n) (map told_legs net)) (sym (length-map told_legs net)) (all_legs net closed checked))
+pub all_legs_of : (net : List NodeDecl) → KeepsNodeRules net → (xs : List (List Leg)) → xs ≡ map told_legs net → All (AreLegs (length xs)) xs
+all_legs_of net rules xs e = subst (λ x. All (AreLegs (length x)) x) (sym e) (subst (λ n. All (AreLegs n) (map told_legs net)) (sym (length-map told_legs net)) (all_legs net rules))
 
 -- the gaps between blocks, from the spans that they leave out
 any_blocks : (a : ℕ) (spans : List Span) → has spans a ≡ in_some_block a (map block_of spans)

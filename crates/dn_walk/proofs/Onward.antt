@@ -5,19 +5,19 @@ use Rattle.std.proofs.lemmas.List.{get_or-map}
 use Rattle.dn_net.specs.declared.node.Name.{Name}
 use Rattle.dn_net.specs.declared.node.NodeDecl.{NodeDecl}
 use Rattle.dn_net.specs.Chain.{Member, Chain}
-use Rattle.dn_net.specs.Decode.{steps, is_closed, top, Step}
-use Rattle.dn_net.specs.Rules.{node_fault}
-use Rattle.dn_net.specs.WalkRules.{behind, way_by, IsChecked}
+use Rattle.dn_net.specs.Decode.{steps, top, Step}
+use Rattle.dn_net.specs.Rules.{KeepsNodeRules}
+use Rattle.dn_net.specs.WalkRules.{behind, way_by}
 use Rattle.dn_walk.specs.declared.walks.WalkRow.{WalkRow}
 use Rattle.dn_walk.specs.declared.way.Goal.{Goal}
 use Rattle.dn_walk.specs.Rows.{Told, told_by_row}
 use Rattle.dn_walk.specs.Ways.{least_of, level_leads, levels_lead, start_names, start_name, is_cyclic}
-use Rattle.dn_walk.proofs.Cycles.{row_of_chain, stepping_in_range}
-use Rattle.dn_walk.proofs.Levels.{level_is_row}
+use Rattle.dn_net.proofs.Cycles.{row_of_chain, stepping_in_range}
+use Rattle.dn_net.proofs.Levels.{level_is_row}
 use Rattle.dn_walk.proofs.Least.{least_first}
 use Rattle.dn_walk.proofs.Told.{member_of_all}
 use Rattle.dn_net.proofs.Least.{within_to}
-use Rattle.dn_walk.proofs.Members.{member_filter, member_map}
+use Rattle.dn_net.proofs.Members.{member_filter, member_map}
 
 pub way_ends : (f : Name → List Name) (leads : ℕ → Name → Bool) (left k : ℕ) (x : Name) → left ≡ suc k → least_of (filter (leads k) (f x)) ≡ None → way_by f leads left x ≡ []
 way_ends f leads left k x e h = ap (λ n. way_by f leads n x) e ∙ ap (λ o. behind o (λ z. way_by f leads k z)) h
@@ -30,7 +30,7 @@ pub level_at : (goal : Goal) (levels : List (List WalkRow)) (k : ℕ) (level : L
 level_at goal levels k level now l e f = ap (λ x. level_leads goal (map told_by_row x)) (f ∙ e) ∙ ap (level_leads goal) (sym (get_or-map (map told_by_row) levels k level [] l))
 
 -- a step leads to an address of a node of the net
-pub step_in_range : (net : List NodeDecl) → IsChecked net → (x y : Name) → Member y (steps net x) → (y.node < length net) × (y.addr ≤ top)
+pub step_in_range : (net : List NodeDecl) → KeepsNodeRules net → (x y : Name) → Member y (steps net x) → (y.node < length net) × (y.addr ≤ top)
 step_in_range net checked x y m =
     let c : Chain (Step net) 1 x y = (y, m, refl) in
     let i = stepping_in_range net checked 1 x y (omega arith) c in
@@ -43,8 +43,8 @@ step_in_range net checked x y m =
     let a : r.0.to.addr + (x.addr - r.0.span.lo) ≡ y.addr = ap (λ n. n.addr) r.1.to in
     (subst (λ n. n < length net) (ap (λ n. n.node) r.1.to) q.node, omega arith)
 
-pub step_there : (net : List NodeDecl) → IsTrue (is_closed net) → node_fault net ≡ None → (test : Name → Bool) (x z : Name) → least_of (filter test (steps net x)) ≡ Some z → z.node < length net
-step_there net closed checked test x z h = (step_in_range net (closed, checked) x z (member_filter test (steps net x) z (least_first (filter test (steps net x)) z h).member).0).0
+pub step_there : (net : List NodeDecl) → KeepsNodeRules net → (test : Name → Bool) (x z : Name) → least_of (filter test (steps net x)) ≡ Some z → z.node < length net
+step_there net rules test x z h = (step_in_range net rules x z (member_filter test (steps net x) z (least_first (filter test (steps net x)) z h).member).0).0
 
 -- the least start is the start of a row
 pub start_row : (back : Bool) (rows : List Told) (x : Name) → least_of (start_names back rows) ≡ Some x → (t : Told) × Member t rows × (start_name t ≡ x)

@@ -5,7 +5,7 @@ use Rattle.std.specs.List.{filter}
 use Rattle.std.specs.List.Sorted.{IsSortedBy, IsStableBy, ties}
 use Rattle.dn_net.specs.Chain.{Member}
 use Rattle.dn_net.specs.Walks.{put_in, in_order}
-use Rattle.dn_walk.proofs.Pairs.{Pairwise}
+use Rattle.dn_net.proofs.Pairs.{Pairwise}
 
 -- a fact on each item, by recursion
 abbrev Each : {X : Type 0} → (X → Type 0) → List X → Type 0

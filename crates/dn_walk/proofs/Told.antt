@@ -15,7 +15,7 @@ use Rattle.dn_walk.specs.Legs.{AreLegs, IsLegOf}
 use Rattle.dn_walk.specs.Levels.{told_last, told_meets, told_onto, told_extended, told_still, told_stills, told_level, told_walks, told_levels, told_before, IsRowOf, IsWideWhere}
 use Rattle.dn_walk.specs.declared.fault.WalkFault.{WalkFault}
 use Rattle.dn_walk.specs.declared.fault.WalkFault.TheVariants.{Wide, Loop, Deep, OutOfMemory}
-use Rattle.dn_walk.proofs.Members.{member_map, map_member, member_filter, member_flat_map}
+use Rattle.dn_net.proofs.Members.{member_map, map_member, member_filter, member_flat_map}
 use Rattle.dn_walk.proofs.Meets.{meets_parts, max_is, min_is}
 use Rattle.dn_walk.proofs.Sorting.{length_in_order}
 

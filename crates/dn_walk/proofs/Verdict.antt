@@ -10,7 +10,10 @@ use Rattle.dn_net.specs.Chain.{Member}
 use Rattle.dn_net.specs.Decode.{top, steps, step_limit}
 use Rattle.dn_net.specs.Names.{sorted_names}
 use Rattle.dn_net.specs.Walks.{in_order, level, live_walks, starts_before}
-use Rattle.dn_net.specs.WalkRules.{IsChecked, is_wide, has_loop, is_deep, walk_limit, walk_fault, counted_length, endless_fault, shortest_cycle, shortest_within, has_cycle, or_else, first_of, behind, way_by, comes_to, goes_on, cycle_from, cycle_names, path_from, path_names}
+use Rattle.dn_net.specs.WalkRules.{is_wide, has_loop, is_deep, walk_limit, walk_fault, counted_length, cycle_or_path, shortest_cycle, shortest_within, has_cycle, or_else, first_of, behind, way_by, comes_to, goes_on, cycle_from, cycle_names, path_from, path_names}
+use Rattle.dn_net.specs.Rules.{KeepsNodeRules}
+use Rattle.dn_net.proofs.Endless.{endless_fault_is}
+use Rattle.dn_net.proofs.Legal.{first_part}
 use Rattle.dn_net.proofs.Places.{length-map}
 use Rattle.dn_walk.specs.declared.leg.Leg.{Leg}
 use Rattle.dn_walk.specs.declared.walks.WalkRow.{WalkRow}
@@ -23,7 +26,7 @@ use Rattle.dn_walk.proofs.Bridge.{walks_told, least_back, least_onward, leads_to
 use Rattle.dn_walk.proofs.Keys.{told_weak}
 use Rattle.dn_walk.proofs.Least.{none_least}
 use Rattle.dn_walk.proofs.Onward.{step_in_range}
-use Rattle.dn_walk.proofs.Pairs.{pairs_more, pairs_rise}
+use Rattle.dn_net.proofs.Pairs.{pairs_more, pairs_rise}
 use Rattle.dn_walk.proofs.Sorting.{in_order_pairs}
 use Rattle.dn_walk.proofs.Told.{level-suc, walks-suc, levels-suc, length_levels}
 
@@ -35,9 +38,8 @@ pub limit_is : walk_limit ≡ 1048576
 unfolding walk_limit
 limit_is = refl
 
-fault_is : (net : List NodeDecl) → walk_fault net ≡ (if nat_lt walk_limit (length (live_walks net (counted_length (shortest_cycle net)))) then Some is_wide else endless_fault net (shortest_cycle net))
-unfolding walk_fault
-fault_is net = refl
+fault_is : (net : List NodeDecl) → walk_fault net ≡ (if nat_lt walk_limit (length (live_walks net (counted_length (shortest_cycle net)))) then Some is_wide else cycle_or_path net (shortest_cycle net))
+fault_is net = first_part net ∙ endless_fault_is net
 
 shortest_is : (net : List NodeDecl) → shortest_cycle net ≡ shortest_within net (step_limit - 1)
 unfolding shortest_cycle
@@ -47,19 +49,19 @@ shortest_is net = refl
 abbrev pub Acyclic : List NodeDecl → ℕ → Type 0
 Acyclic net k = (j : ℕ) → 1 ≤ j → j ≤ k → least_of (start_names true (told_level (map told_legs net) j)) ≡ None
 
-cycle_none : (net : List NodeDecl) → IsChecked net → (j : ℕ) → least_of (start_names true (told_level (map told_legs net) j)) ≡ None → has_cycle net j ≡ false
+cycle_none : (net : List NodeDecl) → KeepsNodeRules net → (j : ℕ) → least_of (start_names true (told_level (map told_legs net) j)) ≡ None → has_cycle net j ≡ false
 cycle_none net checked j e = ap is_some (least_back net checked j ∙ e)
 
-cycle_some : (net : List NodeDecl) → IsChecked net → (j : ℕ) (x : Name) → least_of (start_names true (told_level (map told_legs net) j)) ≡ Some x → has_cycle net j ≡ true
+cycle_some : (net : List NodeDecl) → KeepsNodeRules net → (j : ℕ) (x : Name) → least_of (start_names true (told_level (map told_legs net) j)) ≡ Some x → has_cycle net j ≡ true
 cycle_some net checked j x e = ap is_some (least_back net checked j ∙ e)
 
-none_within : (net : List NodeDecl) → IsChecked net → (n : ℕ) → Acyclic net n → shortest_within net n ≡ None
+none_within : (net : List NodeDecl) → KeepsNodeRules net → (n : ℕ) → Acyclic net n → shortest_within net n ≡ None
 none_within net checked zero a = refl
 none_within net checked (suc n) a =
     ap (λ o. or_else o (if has_cycle net (suc n) then Some (suc n) else None)) (none_within net checked n (λ j l m. a j l (omega arith)))
     ∙ ap (λ b. if b then Some (suc n) else None) (cycle_none net checked (suc n) (a (suc n) (omega arith) (omega arith)))
 
-first_within : (net : List NodeDecl) → IsChecked net → (k n : ℕ) (x : Name) → Acyclic net k → least_of (start_names true (told_level (map told_legs net) (suc k))) ≡ Some x → suc k ≤ n → shortest_within net n ≡ Some (suc k)
+first_within : (net : List NodeDecl) → KeepsNodeRules net → (k n : ℕ) (x : Name) → Acyclic net k → least_of (start_names true (told_level (map told_legs net) (suc k))) ≡ Some x → suc k ≤ n → shortest_within net n ≡ Some (suc k)
 first_within net checked k zero x a e l = absurd (omega arith)
 first_within net checked k (suc n) x a e l = by (last k n l) (first_within net checked k n x a e)
   where
@@ -100,7 +102,7 @@ count_is : (net : List NodeDecl) (k : ℕ) → length (told_walks (map told_legs
 count_is net k = ap length (walks_told net k) ∙ length-map told_by_walk (live_walks net k)
 
 -- too many walks
-pub wide_is : (net : List NodeDecl) → IsChecked net → (k : ℕ) → Acyclic net k → k ≤ 64 → walk_limit < length (told_walks (map told_legs net) (k + 1)) → walk_fault net ≡ Some is_wide
+pub wide_is : (net : List NodeDecl) → KeepsNodeRules net → (k : ℕ) → Acyclic net k → k ≤ 64 → walk_limit < length (told_walks (map told_legs net) (k + 1)) → walk_fault net ≡ Some is_wide
 wide_is net checked k a l w = fault_is net ∙ by (shortest_cycle net) refl
   where
     many : (c : ℕ) → k + 1 ≤ c → nat_lt walk_limit (length (live_walks net c)) ≡ true
@@ -113,18 +115,18 @@ wide_is net checked k a l w = fault_is net ∙ by (shortest_cycle net) refl
     order : (c : ℕ) → (c ≤ k) ⊎ (k + 1 ≤ c)
     order c = grind arith
 
-    by : (o : Option ℕ) → shortest_cycle net ≡ o → (if nat_lt walk_limit (length (live_walks net (counted_length o))) then Some is_wide else endless_fault net o) ≡ Some is_wide
-    by None e = ap (λ b. if b then Some is_wide else endless_fault net None) (many step_limit (let s = steps_are in omega arith))
+    by : (o : Option ℕ) → shortest_cycle net ≡ o → (if nat_lt walk_limit (length (live_walks net (counted_length o))) then Some is_wide else cycle_or_path net o) ≡ Some is_wide
+    by None e = ap (λ b. if b then Some is_wide else cycle_or_path net None) (many step_limit (let s = steps_are in omega arith))
     by (Some c) e =
         let f = found_within net (step_limit - 1) c (sym (shortest_is net) ∙ e) in
-        ap (λ b. if b then Some is_wide else endless_fault net (Some c)) (many c (later c f.0 f.1 (order c)))
+        ap (λ b. if b then Some is_wide else cycle_or_path net (Some c)) (many c (later c f.0 f.1 (order c)))
 
 -- ways by tests that agree are one
 filter_same : (p q : Name → Bool) (xs : List Name) → ((z : Name) → Member z xs → p z ≡ q z) → filter p xs ≡ filter q xs
 filter_same p q [] f = refl
 filter_same p q (x ∷ xs) f = ap (λ b. cond b (x ∷ filter p xs) (filter p xs)) (f x (inl refl)) ∙ ap (λ l. cond (q x) (x ∷ l) l) (filter_same p q xs (λ z m. f z (inr m)))
 
-way_same : (net : List NodeDecl) → IsChecked net → (l l' : ℕ → Name → Bool) (n : ℕ) → ((j : ℕ) (z : Name) → j < n → z.node < length net → z.addr ≤ top → l j z ≡ l' j z) → (k : ℕ) → k ≤ n → (x : Name) → way_by (steps net) l k x ≡ way_by (steps net) l' k x
+way_same : (net : List NodeDecl) → KeepsNodeRules net → (l l' : ℕ → Name → Bool) (n : ℕ) → ((j : ℕ) (z : Name) → j < n → z.node < length net → z.addr ≤ top → l j z ≡ l' j z) → (k : ℕ) → k ≤ n → (x : Name) → way_by (steps net) l k x ≡ way_by (steps net) l' k x
 way_same net checked l l' n f zero m x = refl
 way_same net checked l l' n f (suc k) m x =
     let e = filter_same (l k) (l' k) (steps net x) (λ z h. let r = step_in_range net checked x z h in f k z (omega arith) r.0 r.1) in
@@ -153,20 +155,20 @@ level_among legs (suc n) j d l = ap (λ x. get_or x j d) (levels-suc legs n) ∙
     by (inl e) ih = get_seam (told_levels legs n) (in_order told_before (told_level legs n)) j d (e ∙ sym (length_levels legs n)) ∙ ap (λ m. in_order told_before (told_level legs m)) (sym e)
     by (inr m) ih = let s = length_levels legs n in get_front (told_levels legs n) (in_order told_before (told_level legs n) ∷ []) j d (omega arith) ∙ ih m
 
-lead_to : (net : List NodeDecl) → IsChecked net → (y : Name) (n j : ℕ) (z : Name) → j < n → z.node < length net → z.addr ≤ top → levels_lead (To y) (told_levels (map told_legs net) n) j z ≡ comes_to net y j z
+lead_to : (net : List NodeDecl) → KeepsNodeRules net → (y : Name) (n j : ℕ) (z : Name) → j < n → z.node < length net → z.addr ≤ top → levels_lead (To y) (told_levels (map told_legs net) n) j z ≡ comes_to net y j z
 lead_to net checked y n j z l h t = ap (λ rows. level_leads (To y) rows z) (level_among (map told_legs net) n j [] l) ∙ leads_to_name net checked j z y h t
 
-lead_on : (net : List NodeDecl) → IsChecked net → (n j : ℕ) (z : Name) → j < n → z.node < length net → z.addr ≤ top → levels_lead Anywhere (told_levels (map told_legs net) n) j z ≡ goes_on net j z
+lead_on : (net : List NodeDecl) → KeepsNodeRules net → (n j : ℕ) (z : Name) → j < n → z.node < length net → z.addr ≤ top → levels_lead Anywhere (told_levels (map told_legs net) n) j z ≡ goes_on net j z
 lead_on net checked n j z l h t = ap (λ rows. level_leads Anywhere rows z) (level_among (map told_legs net) n j [] l) ∙ leads_anywhere net checked j z h t
 
 -- the names of the cycle
-cycle_names_are : (net : List NodeDecl) → IsChecked net → (c : ℕ) (x : Name) → least_of (start_names true (told_level (map told_legs net) c)) ≡ Some x → x ∷ way_by (steps net) (levels_lead (To x) (told_levels (map told_legs net) c)) (length (told_levels (map told_legs net) c)) x ≡ cycle_names net c
+cycle_names_are : (net : List NodeDecl) → KeepsNodeRules net → (c : ℕ) (x : Name) → least_of (start_names true (told_level (map told_legs net) c)) ≡ Some x → x ∷ way_by (steps net) (levels_lead (To x) (told_levels (map told_legs net) c)) (length (told_levels (map told_legs net) c)) x ≡ cycle_names net c
 cycle_names_are net checked c x e =
     ap (λ n. x ∷ way_by (steps net) (levels_lead (To x) (told_levels (map told_legs net) c)) n x) (length_levels (map told_legs net) c)
     ∙ ap (λ l. x ∷ l) (way_same net checked (levels_lead (To x) (told_levels (map told_legs net) c)) (comes_to net x) c (lead_to net checked x c) c (omega arith) x)
     ∙ ap (cycle_from net c) (sym (least_back net checked c ∙ e))
 
-path_names_are : (net : List NodeDecl) → IsChecked net → (c : ℕ) (x : Name) → least_of (start_names false (told_level (map told_legs net) c)) ≡ Some x → Some (x ∷ way_by (steps net) (levels_lead Anywhere (told_levels (map told_legs net) c)) (length (told_levels (map told_legs net) c)) x) ≡ path_names net c
+path_names_are : (net : List NodeDecl) → KeepsNodeRules net → (c : ℕ) (x : Name) → least_of (start_names false (told_level (map told_legs net) c)) ≡ Some x → Some (x ∷ way_by (steps net) (levels_lead Anywhere (told_levels (map told_legs net) c)) (length (told_levels (map told_legs net) c)) x) ≡ path_names net c
 path_names_are net checked c x e =
     ap (λ n. Some (x ∷ way_by (steps net) (levels_lead Anywhere (told_levels (map told_legs net) c)) n x)) (length_levels (map told_legs net) c)
     ∙ ap (λ l. Some (x ∷ l)) (way_same net checked (levels_lead Anywhere (told_levels (map told_legs net) c)) (goes_on net) c (lead_on net checked c) c (omega arith) x)
@@ -187,7 +189,7 @@ pub path_told : (net : List NodeDecl) (sorted : List (List Told)) (newest : List
 path_told net sorted newest e = told_none (λ x. x ∷ way_by (steps net) (levels_lead Anywhere sorted) (length sorted) x) (least_of (start_names false newest)) e
 
 -- a walk that comes back
-pub loop_is : (net : List NodeDecl) → IsChecked net → (k c : ℕ) (names : List Name) → c ≡ suc k → Acyclic net k → c ≤ 64 → length (told_walks (map told_legs net) c) ≤ walk_limit → told_cycle net (told_levels (map told_legs net) c) (told_level (map told_legs net) c) ≡ Some names → walk_fault net ≡ Some (has_loop names)
+pub loop_is : (net : List NodeDecl) → KeepsNodeRules net → (k c : ℕ) (names : List Name) → c ≡ suc k → Acyclic net k → c ≤ 64 → length (told_walks (map told_legs net) c) ≤ walk_limit → told_cycle net (told_levels (map told_legs net) c) (told_level (map told_legs net) c) ≡ Some names → walk_fault net ≡ Some (has_loop names)
 loop_is net checked k c names s a l m told = subst (λ d. d ≤ 64 → length (told_walks (map told_legs net) d) ≤ walk_limit → told_cycle net (told_levels (map told_legs net) d) (told_level (map told_legs net) d) ≡ Some names → walk_fault net ≡ Some (has_loop names)) (sym s) at l m told
   where
     at : suc k ≤ 64 → length (told_walks (map told_legs net) (suc k)) ≤ walk_limit → told_cycle net (told_levels (map told_legs net) (suc k)) (told_level (map told_legs net) (suc k)) ≡ Some names → walk_fault net ≡ Some (has_loop names)
@@ -200,19 +202,19 @@ loop_is net checked k c names s a l m told = subst (λ d. d ≤ 64 → length (t
             let short : shortest_cycle net ≡ Some (suc k) = shortest_is net ∙ first_within net checked k (step_limit - 1) x a e (omega arith) in
             let same : x ∷ way_by (steps net) (levels_lead (To x) (told_levels (map told_legs net) (suc k))) (length (told_levels (map told_legs net) (suc k))) x ≡ names = cc in
             fault_is net
-            ∙ ap (λ o. if nat_lt walk_limit (length (live_walks net (counted_length o))) then Some is_wide else endless_fault net o) short
-            ∙ ap (λ b. if b then Some is_wide else endless_fault net (Some (suc k))) (not_many net (suc k) m)
+            ∙ ap (λ o. if nat_lt walk_limit (length (live_walks net (counted_length o))) then Some is_wide else cycle_or_path net o) short
+            ∙ ap (λ b. if b then Some is_wide else cycle_or_path net (Some (suc k))) (not_many net (suc k) m)
             ∙ ap (λ l. Some (has_loop l)) (sym (cycle_names_are net checked (suc k) x e) ∙ same)
 
 -- the verdict where no walk of up to 64 choices comes back
-endless_is : (net : List NodeDecl) → IsChecked net → Acyclic net (step_limit - 1) → length (told_walks (map told_legs net) step_limit) ≤ walk_limit → walk_fault net ≡ option_map is_deep (path_names net step_limit)
+endless_is : (net : List NodeDecl) → KeepsNodeRules net → Acyclic net (step_limit - 1) → length (told_walks (map told_legs net) step_limit) ≤ walk_limit → walk_fault net ≡ option_map is_deep (path_names net step_limit)
 endless_is net checked a m =
     fault_is net
-    ∙ ap (λ o. if nat_lt walk_limit (length (live_walks net (counted_length o))) then Some is_wide else endless_fault net o) (shortest_is net ∙ none_within net checked (step_limit - 1) a)
-    ∙ ap (λ b. if b then Some is_wide else endless_fault net None) (not_many net step_limit m)
+    ∙ ap (λ o. if nat_lt walk_limit (length (live_walks net (counted_length o))) then Some is_wide else cycle_or_path net o) (shortest_is net ∙ none_within net checked (step_limit - 1) a)
+    ∙ ap (λ b. if b then Some is_wide else cycle_or_path net None) (not_many net step_limit m)
 
 -- a walk of 65 choices
-pub deep_is : (net : List NodeDecl) → IsChecked net → (c : ℕ) (names : List Name) → c ≡ step_limit → Acyclic net (step_limit - 1) → length (told_walks (map told_legs net) c) ≤ walk_limit → told_path net (told_levels (map told_legs net) c) (told_level (map told_legs net) c) ≡ Some names → walk_fault net ≡ Some (is_deep names)
+pub deep_is : (net : List NodeDecl) → KeepsNodeRules net → (c : ℕ) (names : List Name) → c ≡ step_limit → Acyclic net (step_limit - 1) → length (told_walks (map told_legs net) c) ≤ walk_limit → told_path net (told_levels (map told_legs net) c) (told_level (map told_legs net) c) ≡ Some names → walk_fault net ≡ Some (is_deep names)
 deep_is net checked c names s a m told = by (least_of (start_names false (told_level (map told_legs net) c))) refl told
   where
     by : (o : Option Name) → least_of (start_names false (told_level (map told_legs net) c)) ≡ o → option_map (λ x. x ∷ way_by (steps net) (levels_lead Anywhere (told_levels (map told_legs net) c)) (length (told_levels (map told_legs net) c)) x) o ≡ Some names → walk_fault net ≡ Some (is_deep names)
@@ -265,7 +267,7 @@ pub record Legal (net : List NodeDecl) (k : ℕ) : Type 0 where
   pub none : walk_fault net ≡ None
   pub rows : told_walks (map told_legs net) k ≡ map told_by_walk (live_walks net step_limit)
 
-pub legal_is : (net : List NodeDecl) → IsChecked net → (k c : ℕ) → c ≡ suc k → Acyclic net k → k ≤ 64 → length (told_walks (map told_legs net) c) ≤ walk_limit → least_of (start_names false (told_level (map told_legs net) c)) ≡ None → Legal net k
+pub legal_is : (net : List NodeDecl) → KeepsNodeRules net → (k c : ℕ) → c ≡ suc k → Acyclic net k → k ≤ 64 → length (told_walks (map told_legs net) c) ≤ walk_limit → least_of (start_names false (told_level (map told_legs net) c)) ≡ None → Legal net k
 legal_is net checked k c s a l m e = record { none = none; rows = rows }
   where
     legs : List (List Leg)

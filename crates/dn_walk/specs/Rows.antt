@@ -2,6 +2,7 @@
 use Rattle.std.specs.Prelude.{◌≡◌, ℕ, List, map, length, Option, Some}
 use Rattle.dn_net.specs.declared.node.NodeDecl.{NodeDecl}
 use Rattle.dn_net.specs.Decode.{step_limit}
+use Rattle.dn_net.specs.Legal.{IsLegalNet}
 use Rattle.dn_net.specs.Walks.{Walk, live_walks}
 use Rattle.dn_net.specs.WalkRules.{Broken, is_wide, has_loop, is_deep}
 use Rattle.dn_walk.specs.declared.walks.WalkRow.{WalkRow}
@@ -23,9 +24,10 @@ told_by_row r = record { start = r.start; lo = r.span.lo; hi = r.span.hi; end = 
 abbrev pub told_by_walk : Walk → Told
 told_by_walk w = record { start = w.start; lo = w.span.lo; hi = w.span.hi; end = w.to.node; base = w.to.addr; len = length w.choices }
 
--- the rows are the live walks of 1 to 65 choices, in their order
-abbrev pub AreWalksOf : List NodeDecl → List WalkRow → Type 0
-AreWalksOf net rows = map told_by_row rows ≡ map told_by_walk (live_walks net step_limit)
+-- the rows are the live walks of a legal net, of 1 to 65 choices, in their order
+pub record AreWalksOf (net : List NodeDecl) (rows : List WalkRow) : Type 0 where
+  pub legal : IsLegalNet net
+  pub same : map told_by_row rows ≡ map told_by_walk (live_walks net step_limit)
 
 -- the fault is want of memory, or the broken rule with what it carries
 abbrev pub IsBroken : Option Broken → WalkFault → Type 0

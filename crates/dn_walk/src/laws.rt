@@ -1,6 +1,6 @@
-//! Laws on live walks and on the rules on them, each the contract of a function that does nothing.
+//! Laws on live walks and on gaps, each the contract of a function that does nothing.
 
-ghost use Rattle.dn_net.specs.WalkRules.{ChainIsWalk, CycleIsLeast, CycleIsRow, EndlessIsRefused, GapsAreAll, LiveWalksAreAll, LiveWalksAreInOrder, NoFaultIsShallow, PathIsLeast, ReachIsWithin, ShortestCycleIsShortest};
+ghost use Rattle.dn_net.specs.WalkRules.{ChainIsWalk, CycleIsRow, GapsAreAll, LiveWalksAreAll, LiveWalksAreInOrder};
 
 /// The list has exactly the live walks of 1 to k choices.
 pub fn live_walks_are_all()
@@ -22,38 +22,7 @@ pub fn cycle_is_row()
     ensures { CycleIsRow }
 {}
 
-/// The shortest cycle is the least number of steps, from 1 to 64, in which a name comes to itself.
-pub fn shortest_cycle_is_shortest()
-    ensures { ShortestCycleIsShortest }
-{}
-
-/// The names that `Loop` carries are a cycle of the shortest length, and of all such lists the least.
-pub fn cycle_is_least()
-    ensures { CycleIsLeast }
-{}
-
-/// The names that `Deep` carries are a path of the length that is asked for, and of all such lists the least;
-/// where there are none, there is no chain of that length.
-pub fn path_is_least()
-    ensures { PathIsLeast }
-{}
-
-/// A name with a chain that never ends breaks a rule on walks.
-pub fn endless_is_refused()
-    ensures { EndlessIsRefused }
-{}
-
-/// In a net that breaks no rule on walks no chain has 65 steps.
-pub fn no_fault_is_shallow()
-    ensures { NoFaultIsShallow }
-{}
-
 /// The gaps that are listed of a node are exactly its gaps.
 pub fn gaps_are_all()
     ensures { GapsAreAll }
-{}
-
-/// In a net that breaks no rule on walks what is reached at all is reached within 65 steps.
-pub fn reach_is_within()
-    ensures { ReachIsWithin }
 {}

@@ -2,8 +2,7 @@
 
 ghost use Rattle.std.specs.Prelude.{◌≡◌, ℕ, ◌++◌, ◌||◌, map, IfOk, OnOk, IsTrue, ◌<◌, length};
 ghost use Rattle.std.specs.List.{All, list_all};
-ghost use Rattle.dn_net.specs.Decode.{is_closed};
-ghost use Rattle.dn_net.specs.Rules.{node_fault, block_in_range, entry_in_range};
+ghost use Rattle.dn_net.specs.Rules.{KeepsNodeRules, block_in_range, entry_in_range};
 ghost use Rattle.dn_interval.specs.Spans.{has};
 ghost use Rattle.dn_walk.specs.Legs.{AreLegs, told_legs, legs_by, gaps_by, plain_entry_legs, dest_leg, gap_leg, block_of};
 
@@ -25,8 +24,7 @@ pub(crate) struct Leg {
 
 /// The legs of each node of a net.
 pub(crate) fn net_legs(alloc: Global, net: &Net) -> Result<Vec<Items<Leg>>, OutOfMemory>
-    requires closed { IsTrue (is_closed net.now) }
-    requires checked { node_fault net.now ≡ None }
+    requires rules { KeepsNodeRules net.now }
     ensures legs { IfOk result (λ v. v.items ≡ map told_legs net.now) }
     ensures each { IfOk result (λ v. All (AreLegs (length net.now)) v.items) }
 {

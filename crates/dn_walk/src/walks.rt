@@ -3,8 +3,7 @@
 ghost use Rattle.std.specs.Prelude.{◌≡◌, ◌<◌, ◌≤◌, ◌-◌, List, map, length, IfOk, IfErr, OnOk, IsTrue, None};
 ghost use Rattle.std.specs.List.{All};
 ghost use Rattle.std.specs.List.Sorted.{IsNonDecreasingBy};
-ghost use Rattle.dn_net.specs.Decode.{is_closed};
-ghost use Rattle.dn_net.specs.Rules.{node_fault};
+ghost use Rattle.dn_net.specs.Rules.{KeepsNodeRules};
 ghost use Rattle.dn_net.specs.WalkRules.{walk_fault};
 ghost use Rattle.dn_walk.specs.declared.leg.Leg.{Leg};
 ghost use Rattle.dn_walk.specs.declared.level.TheConstants.{WALK_LIMIT};
@@ -66,12 +65,12 @@ impl WalkTable {
 
 /// The live walks of a net, or the first rule on walks that it breaks.
 pub fn walks(alloc: Global, net: &Net) -> Result<WalkTable, WalkFault>
-    requires closed { IsTrue (is_closed net.now) }
-    requires checked { node_fault net.now ≡ None }
+    requires rules { KeepsNodeRules net.now }
     ensures legal { IfOk result (λ table. walk_fault net.now ≡ None) }
     ensures rows { IfOk result (λ table. AreWalksOf net.now table) }
     ensures fault { IfErr result (λ e. IsBroken (walk_fault net.now) e) }
 {
+    net.facts();
     let legs = net_legs(alloc, net)?;
     let mut levels = Levels::new(alloc, net.nodes())?;
     'levels: while levels.sorted.len() < LONGEST && !levels.newest.is_empty() {
@@ -85,8 +84,7 @@ pub fn walks(alloc: Global, net: &Net) -> Result<WalkTable, WalkFault>
 
 /// Refuses the newest level where a walk of it comes back to where it began.
 fn check_cycles(alloc: Global, net: &Net, levels: &Levels) -> Result<(), WalkFault>
-    requires closed { IsTrue (is_closed net.now) }
-    requires checked { node_fault net.now ≡ None }
+    requires rules { KeepsNodeRules net.now }
     requires there { All (λ (r : WalkRow). r.start < length net.now) levels.now.newest.items }
     requires sorted { All (λ level. IsNonDecreasingBy (λ (r : WalkRow). r.start) level) levels.now.sorted.items }
     ensures ok { OnOk result (told_cycle net.now (map (map told_by_row) levels.now.sorted.items) (map told_by_row levels.now.newest.items) ≡ None) }
@@ -101,8 +99,7 @@ fn check_cycles(alloc: Global, net: &Net, levels: &Levels) -> Result<(), WalkFau
 
 /// Refuses the newest level where it has a walk.
 fn check_depth(alloc: Global, net: &Net, levels: &Levels) -> Result<(), WalkFault>
-    requires closed { IsTrue (is_closed net.now) }
-    requires checked { node_fault net.now ≡ None }
+    requires rules { KeepsNodeRules net.now }
     requires there { All (λ (r : WalkRow). r.start < length net.now) levels.now.newest.items }
     requires sorted { All (λ level. IsNonDecreasingBy (λ (r : WalkRow). r.start) level) levels.now.sorted.items }
     ensures ok { OnOk result (told_path net.now (map (map told_by_row) levels.now.sorted.items) (map told_by_row levels.now.newest.items) ≡ None) }

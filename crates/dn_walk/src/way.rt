@@ -3,9 +3,9 @@
 ghost use Rattle.std.specs.Prelude.{◌≡◌, ℕ, ◌+◌, ◌≤◌, ◌<◌, ◌∷◌, ◌||◌, not, map, filter, length, IfOk, IfSome, IsTrue, None, nat_le};
 ghost use Rattle.std.specs.List.{All, list_all};
 ghost use Rattle.std.specs.List.Sorted.{IsNonDecreasingBy};
-ghost use Rattle.dn_net.specs.Decode.{steps, moved, is_closed, top};
+ghost use Rattle.dn_net.specs.Decode.{steps, moved, top};
 ghost use Rattle.dn_net.specs.Names.{name_lt};
-ghost use Rattle.dn_net.specs.Rules.{node_fault};
+ghost use Rattle.dn_net.specs.Rules.{KeepsNodeRules};
 ghost use Rattle.dn_net.specs.WalkRules.{way_by};
 ghost use Rattle.dn_walk.specs.declared.walks.WalkRow.{WalkRow};
 ghost use Rattle.dn_walk.specs.Rows.{told_by_row};
@@ -85,8 +85,7 @@ pub(crate) fn way(
     first: Name,
     goal: Goal,
 ) -> Result<Items<Name>, AllocError>
-    requires closed { IsTrue (is_closed net.now) }
-    requires checked { node_fault net.now ≡ None }
+    requires rules { KeepsNodeRules net.now }
     requires there { first.node < length net.now }
     requires sorted { All (λ level. IsNonDecreasingBy (λ (r : WalkRow). r.start) level) levels.now }
     ensures { IfOk result (λ names. names ≡ first ∷ way_by (steps net.now) (levels_lead goal (map (map told_by_row) levels.now)) (length levels.now) first) }
@@ -108,7 +107,7 @@ pub(crate) fn way(
 
 /// The least step of a name from which a row of the level leads to the goal.
 fn least_step(net: &Net, name: Name, level: &[WalkRow], goal: Goal) -> Option<Name>
-    requires checked { node_fault net.now ≡ None }
+    requires rules { KeepsNodeRules net.now }
     requires there { name.node < length net.now }
     requires sorted { IsNonDecreasingBy (λ (r : WalkRow). r.start) level.now }
     ensures { result ≡ least_of (filter (level_leads goal (map told_by_row level.now)) (steps net.now name)) }

@@ -11,4 +11,4 @@ pub returns-clause-there : goal.returns-clause-there
 returns-clause-there c =
     let over : length c.args.level.now ≤ c.loop-name.name-index = let b = c.loop-name-test.false in omega arith in
     let given : c.loop-name.next.items ≡ each_step (steps c.args.net.now) c.args.level.now = sym (append-nil c.loop-name.next.items) ∙ ap (λ (l : List Name). c.loop-name.next.items ++ each_step (steps c.args.net.now) l) (sym (drop_of_length-le c.args.level.now over)) ∙ c.loop-name.invariant.next in
-    set_exists (length c.args.net.now) c.loop-name.next.items (each_step (steps c.args.net.now) c.args.level.now) c.set_of.result given (each_exist c.args.net.now c.args.level.now c.requires.closed) c.set_of.ensures
+    set_exists (length c.args.net.now) c.loop-name.next.items (each_step (steps c.args.net.now) c.args.level.now) c.set_of.result given (each_exist c.args.net.now c.args.level.now c.requires.rules.closed) c.set_of.ensures

@@ -1,4 +1,4 @@
-use Rattle.dn_walk.proofs.Cycles.{cycle_is_row}
+use Rattle.dn_net.proofs.Cycles.{cycle_is_row}
 use Rattle.dn_walk.proofs.laws.cycle_is_row.Goals as goal
 
 pub returns : goal.returns

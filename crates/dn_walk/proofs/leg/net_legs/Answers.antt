@@ -7,10 +7,10 @@ use Rattle.dn_walk.proofs.Nodes.{legs_at, all_legs, accepts_in_range, entries_in
 use Rattle.dn_walk.proofs.leg.net_legs.Goals as goal
 
 pub node_legs-requires-clause-accepts : goal.node_legs-requires-clause-accepts
-node_legs-requires-clause-accepts c = accepts_in_range c.args.net.now c.loop-node.node c.accepts.result.now c.requires.checked c.accepts.ensures
+node_legs-requires-clause-accepts c = accepts_in_range c.args.net.now c.loop-node.node c.accepts.result.now c.requires.rules.each c.accepts.ensures
 
 pub node_legs-requires-clause-entries : goal.node_legs-requires-clause-entries
-node_legs-requires-clause-entries c = entries_in_range c.args.net.now c.loop-node.node c.entries.result.now c.requires.checked c.entries.ensures
+node_legs-requires-clause-entries c = entries_in_range c.args.net.now c.loop-node.node c.entries.result.now c.requires.rules.each c.entries.ensures
 
 pub loop-node-preserved : goal.loop-node-preserved
 loop-node-preserved c =
@@ -24,4 +24,4 @@ pub returns-clause-each : goal.returns-clause-each
 returns-clause-each c =
     let all : take c.loop-node.node c.args.net.now ≡ c.args.net.now = take_all c.loop-node.node c.args.net.now (omega (arith, c.nodes-node-end.ensures, c.loop-node-test.false)) in
     let is : c.loop-node.all.items ≡ map told_legs c.args.net.now = c.loop-node.invariant ∙ ap (map told_legs) all in
-    subst (All (AreLegs (length c.args.net.now))) (sym is) (all_legs c.args.net.now c.requires.closed c.requires.checked)
+    subst (All (AreLegs (length c.args.net.now))) (sym is) (all_legs c.args.net.now c.requires.rules)

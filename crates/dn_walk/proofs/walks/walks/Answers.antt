@@ -4,9 +4,9 @@ use Rattle.std.specs.List.{All}
 use Rattle.std.specs.List.Sorted.{IsNonDecreasingBy}
 use Rattle.std.proofs.lemmas.Bool.Decides.{nat_tests}
 use Rattle.std.proofs.lemmas.Result.{err_from_is_err_and}
-use Rattle.dn_net.specs.Decode.{step_limit, is_closed}
-use Rattle.dn_net.specs.Rules.{node_fault}
-use Rattle.dn_net.specs.WalkRules.{IsChecked, walk_limit, walk_fault, is_wide, has_loop, is_deep}
+use Rattle.dn_net.specs.Decode.{step_limit}
+use Rattle.dn_net.specs.Rules.{KeepsNodeRules}
+use Rattle.dn_net.specs.WalkRules.{walk_limit, walk_fault, is_wide, has_loop, is_deep}
 use Rattle.dn_net.specs.declared.node.NodeDecl.{NodeDecl}
 use Rattle.dn_net.specs.declared.node.Name.{Name}
 use Rattle.dn_walk.specs.declared.fault.WalkFault.{WalkFault}
@@ -18,6 +18,8 @@ use Rattle.dn_walk.specs.Rows.{told_by_row, IsBroken}
 use Rattle.dn_walk.specs.Legs.{told_legs}
 use Rattle.dn_walk.specs.Levels.{AreLevels, IsWideWhere, told_level, told_levels, told_walks}
 use Rattle.dn_walk.specs.Ways.{least_of, start_names, told_cycle, told_path, IsLoopBy, IsDeepBy}
+use Rattle.dn_net.proofs.Kept.{none_broken}
+use Rattle.dn_net.proofs.Legal.{legal_breaks_no_rule}
 use Rattle.dn_net.proofs.Places.{length-map}
 use Rattle.dn_walk.proofs.Nodes.{all_legs_of}
 use Rattle.dn_walk.proofs.Told.{rows_are}
@@ -48,9 +50,9 @@ deep_broken net o o' (Deep names) s f h = f names (sym s ∙ h)
 deep_broken net o o' OutOfMemory s f h = tt
 
 -- the rows of the newest level begin at nodes of the net
-starts_there : (net : List NodeDecl) → IsTrue (is_closed net) → node_fault net ≡ None → (l : Levels) → AreLevels (map told_legs net) l → length l.sorted.items ≤ 65 → All (λ (r : WalkRow). r.start < length net) l.newest.items
-starts_there net closed checked l h m = λ k d b.
-    let r = rows_are (map told_legs net) (all_legs_of net closed checked (map told_legs net) refl) (length l.sorted.items) 65 m l.newest.items h.newest k d b in
+starts_there : (net : List NodeDecl) → KeepsNodeRules net → (l : Levels) → AreLevels (map told_legs net) l → length l.sorted.items ≤ 65 → All (λ (r : WalkRow). r.start < length net) l.newest.items
+starts_there net rules l h m = λ k d b.
+    let r = rows_are (map told_legs net) (all_legs_of net rules (map told_legs net) refl) (length l.sorted.items) 65 m l.newest.items h.newest k d b in
     subst (λ n. (get_or l.newest.items k d).start < n) (length-map told_legs net) r.start
 
 sorted_starts : (net : List NodeDecl) (l : Levels) → AreLevels (map told_legs net) l → All (λ level. IsNonDecreasingBy (λ (r : WalkRow). r.start) level) l.sorted.items
@@ -84,7 +86,7 @@ nothing (x ∷ xs) e = absurd (omega arith)
 abbrev Ended : List NodeDecl → ℕ → Type 0
 Ended net k = (64 ≤ k) ⊎ (told_level (map told_legs net) k ≡ [])
 
-deep_at : (net : List NodeDecl) → IsChecked net → (k c : ℕ) (names : List Name) → c ≡ k + 1 → k ≤ 64 → Ended net k → Acyclic net k → length (told_walks (map told_legs net) c) ≤ walk_limit → told_path net (told_levels (map told_legs net) c) (told_level (map told_legs net) c) ≡ Some names → walk_fault net ≡ Some (is_deep names)
+deep_at : (net : List NodeDecl) → KeepsNodeRules net → (k c : ℕ) (names : List Name) → c ≡ k + 1 → k ≤ 64 → Ended net k → Acyclic net k → length (told_walks (map told_legs net) c) ≤ walk_limit → told_path net (told_levels (map told_legs net) c) (told_level (map told_legs net) c) ≡ Some names → walk_fault net ≡ Some (is_deep names)
 deep_at net checked k c names s l (inl m) a w told =
     let u = steps_are in
     let t : c ≡ step_limit = omega arith in
@@ -97,11 +99,11 @@ deep_at net checked k c names s l (inr e) a w told =
 
 pub grown-requires-clause-legs : goal.grown-requires-clause-legs
 grown-requires-clause-legs c =
-    all_legs_of c.args.net.now c.requires.closed c.requires.checked c.deref.result.now (c.deref.ensures.value ∙ c.in_ok-legs.ensures.legs)
+    all_legs_of c.args.net.now c.requires.rules c.deref.result.now (c.deref.ensures.value ∙ c.in_ok-legs.ensures.legs)
 
 pub grown-requires-2-clause-legs : goal.grown-requires-2-clause-legs
 grown-requires-2-clause-legs c =
-    all_legs_of c.args.net.now c.requires.closed c.requires.checked c.deref-2.result.now (c.deref-2.ensures.value ∙ c.in_ok-legs.ensures.legs)
+    all_legs_of c.args.net.now c.requires.rules c.deref-2.result.now (c.deref-2.ensures.value ∙ c.in_ok-legs.ensures.legs)
 
 pub levels-preserved : goal.levels-preserved
 levels-preserved c =
@@ -125,7 +127,7 @@ returns-in_err-levels-2-clause-fault c =
     let net = c.args.net.now in
     let old = c.levels.levels in
     let inv = c.levels.invariant in
-    let wide : walk_limit < length (told_walks c.deref.result.now (length old.sorted.items + 1)) → walk_fault net ≡ Some is_wide = λ w. wide_is net (c.requires.closed, c.requires.checked) (length old.sorted.items) inv.acyclic inv.shallow (subst (λ x. walk_limit < length (told_walks x (length old.sorted.items + 1))) (c.deref.ensures.value ∙ c.in_ok-legs.ensures.legs) w) in
+    let wide : walk_limit < length (told_walks c.deref.result.now (length old.sorted.items + 1)) → walk_fault net ≡ Some is_wide = λ w. wide_is net c.requires.rules (length old.sorted.items) inv.acyclic inv.shallow (subst (λ x. walk_limit < length (told_walks x (length old.sorted.items + 1))) (c.deref.ensures.value ∙ c.in_ok-legs.ensures.legs) w) in
     let p = err_from_is_err_and c.from_residual-in_err-levels-2.result c.from_residual-in_err-levels-2.ensures.1 in
     rw (p.1, p.2) (wide_broken net _ c.in_err-levels-2.field-0.0 wide c.in_err-levels-2.ensures.wide)
 
@@ -134,7 +136,7 @@ returns-in_err-levels-3-clause-fault c =
     let net = c.args.net.now in
     let old = c.levels.levels in
     let inv = c.levels.invariant in
-    let wide : walk_limit < length (told_walks c.deref-2.result.now (length old.sorted.items + 1)) → walk_fault net ≡ Some is_wide = λ w. wide_is net (c.requires.closed, c.requires.checked) (length old.sorted.items) inv.acyclic inv.shallow (subst (λ x. walk_limit < length (told_walks x (length old.sorted.items + 1))) (c.deref-2.ensures.value ∙ c.in_ok-legs.ensures.legs) w) in
+    let wide : walk_limit < length (told_walks c.deref-2.result.now (length old.sorted.items + 1)) → walk_fault net ≡ Some is_wide = λ w. wide_is net c.requires.rules (length old.sorted.items) inv.acyclic inv.shallow (subst (λ x. walk_limit < length (told_walks x (length old.sorted.items + 1))) (c.deref-2.ensures.value ∙ c.in_ok-legs.ensures.legs) w) in
     let p = err_from_is_err_and c.from_residual-in_err-levels-3.result c.from_residual-in_err-levels-3.ensures.1 in
     rw (p.1, p.2) (wide_broken net _ c.in_err-levels-3.field-0.0 wide c.in_err-levels-3.ensures.wide)
 
@@ -148,7 +150,7 @@ check_cycles-requires-clause-there c =
     let one = c.in_ok-levels-2.ensures.one_more in
     let size : vec_len old.sorted ≡ length old.sorted.items = search rules in
     let k : length old.sorted.items < 64 = omega (arith, c.len.ensures, c.levels-test.true) in
-    starts_there net c.requires.closed c.requires.checked l h (omega arith)
+    starts_there net c.requires.rules l h (omega arith)
 
 pub check_cycles-requires-clause-sorted : goal.check_cycles-requires-clause-sorted
 check_cycles-requires-clause-sorted c =
@@ -171,7 +173,7 @@ check_depth-requires-clause-there c =
     let h = same_levels net c.in_ok-legs.legs.items c.deref-2.result.now l c.deref-2.ensures.value c.in_ok-legs.ensures.legs c.in_ok-levels-3.ensures.levels in
     let one = c.in_ok-levels-3.ensures.one_more in
     let k = inv.shallow in
-    starts_there net c.requires.closed c.requires.checked l h (omega arith)
+    starts_there net c.requires.rules l h (omega arith)
 
 pub check_depth-requires-clause-sorted : goal.check_depth-requires-clause-sorted
 check_depth-requires-clause-sorted c =
@@ -195,7 +197,7 @@ returns-in_err-check_cycles-clause-fault c =
     let size : vec_len old.sorted ≡ length old.sorted.items = search rules in
     let k : length old.sorted.items < 64 = omega (arith, c.len.ensures, c.levels-test.true) in
     let suc_is : length l.sorted.items ≡ suc (length old.sorted.items) = omega arith in
-    let loop : (names : List Name) → told_cycle net (told_levels (map told_legs net) (length l.sorted.items)) (told_level (map told_legs net) (length l.sorted.items)) ≡ Some names → walk_fault net ≡ Some (has_loop names) = λ names told. loop_is net (c.requires.closed, c.requires.checked) (length old.sorted.items) (length l.sorted.items) names suc_is inv.acyclic (omega arith) (few net l h) told in
+    let loop : (names : List Name) → told_cycle net (told_levels (map told_legs net) (length l.sorted.items)) (told_level (map told_legs net) (length l.sorted.items)) ≡ Some names → walk_fault net ≡ Some (has_loop names) = λ names told. loop_is net c.requires.rules (length old.sorted.items) (length l.sorted.items) names suc_is inv.acyclic (omega arith) (few net l h) told in
     let p = err_from_is_err_and c.from_residual-in_err-check_cycles.result c.from_residual-in_err-check_cycles.ensures.1 in
     rw (p.1, p.2) (loop_broken net _ _ c.in_err-check_cycles.field-0.0 (cycle_same net l h) loop c.in_err-check_cycles.ensures.err)
 
@@ -213,7 +215,7 @@ returns-in_err-check_depth-clause-fault c =
       | then-levels-test+else-not-is_empty w ↦ (let none : length old.newest.items ≡ 0 = grind (arith, nat_tests, w.is_empty.ensures, w.if-not-is_empty.false) in inr (sym inv.levels.newest ∙ ap (map told_by_row) (nothing old.newest.items none)))
       | else-levels-test w ↦ inl (omega (arith, c.len.ensures, w.levels-test.false))
     ] in
-    let deep : (names : List Name) → told_path net (told_levels (map told_legs net) (length l.sorted.items)) (told_level (map told_legs net) (length l.sorted.items)) ≡ Some names → walk_fault net ≡ Some (is_deep names) = λ names told. deep_at net (c.requires.closed, c.requires.checked) (length old.sorted.items) (length l.sorted.items) names one k ended inv.acyclic (few net l h) told in
+    let deep : (names : List Name) → told_path net (told_levels (map told_legs net) (length l.sorted.items)) (told_level (map told_legs net) (length l.sorted.items)) ≡ Some names → walk_fault net ≡ Some (is_deep names) = λ names told. deep_at net c.requires.rules (length old.sorted.items) (length l.sorted.items) names one k ended inv.acyclic (few net l h) told in
     let p = err_from_is_err_and c.from_residual-in_err-check_depth.result c.from_residual-in_err-check_depth.ensures.1 in
     rw (p.1, p.2) (deep_broken net _ _ c.in_err-check_depth.field-0.0 (path_same net l h) deep c.in_err-check_depth.ensures.err)
 
@@ -239,7 +241,7 @@ returns-clause-legal c =
     let k = inv.shallow in
     let suc_is : length l.sorted.items ≡ suc (length old.sorted.items) = omega arith in
     let none = path_told net (map (map told_by_row) l.sorted.items) (map told_by_row l.newest.items) c.in_ok-check_depth.ensures.ok in
-    let legal = legal_is net (c.requires.closed, c.requires.checked) (length old.sorted.items) (length l.sorted.items) suc_is inv.acyclic k (few net l h) (ap (λ rows. least_of (start_names false rows)) (sym h.newest) ∙ none) in
+    let legal = legal_is net c.requires.rules (length old.sorted.items) (length l.sorted.items) suc_is inv.acyclic k (few net l h) (ap (λ rows. least_of (start_names false rows)) (sym h.newest) ∙ none) in
     legal.none
 
 pub returns-clause-rows : goal.returns-clause-rows
@@ -253,6 +255,9 @@ returns-clause-rows c =
     let k = inv.shallow in
     let suc_is : length l.sorted.items ≡ suc (length old.sorted.items) = omega arith in
     let none = path_told net (map (map told_by_row) l.sorted.items) (map told_by_row l.newest.items) c.in_ok-check_depth.ensures.ok in
-    let legal = legal_is net (c.requires.closed, c.requires.checked) (length old.sorted.items) (length l.sorted.items) suc_is inv.acyclic k (few net l h) (ap (λ rows. least_of (start_names false rows)) (sym h.newest) ∙ none) in
+    let legal = legal_is net c.requires.rules (length old.sorted.items) (length l.sorted.items) suc_is inv.acyclic k (few net l h) (ap (λ rows. least_of (start_names false rows)) (sym h.newest) ∙ none) in
     let pred : length l.sorted.items - 1 ≡ length old.sorted.items = omega arith in
-    c.in_ok-table.ensures (map told_legs net) h ∙ ap (told_walks (map told_legs net)) pred ∙ legal.rows
+    record {
+      legal = (legal_breaks_no_rule net c.facts.ensures c.requires.rules.closed).0 (none_broken net c.requires.rules.each, legal.none);
+      same = c.in_ok-table.ensures (map told_legs net) h ∙ ap (told_walks (map told_legs net)) pred ∙ legal.rows;
+    }

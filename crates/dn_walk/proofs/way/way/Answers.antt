@@ -32,7 +32,7 @@ loop-left-preserved c =
     let some : least_of (filter (leads k) (steps c.args.net.now c.loop-left.name)) ≡ Some z = ap (λ t. least_of (filter t (steps c.args.net.now c.loop-left.name))) (sym at) ∙ sym c.least_step.ensures ∙ c.in-Some.is in
     record {
       within = omega (arith, c.loop-left.invariant.within);
-      there = step_there c.args.net.now c.requires.closed c.requires.checked (leads k) c.loop-left.name z some;
+      there = step_there c.args.net.now c.requires.rules (leads k) c.loop-left.name z some;
       way = ap (λ l. l ++ way_by (steps c.args.net.now) leads k z) c.in_ok-push-2.ensures.ok
           ∙ append_assoc c.loop-left.names (z ∷ []) (way_by (steps c.args.net.now) leads k z)
           ∙ ap (λ l. c.loop-left.names ++ l) (sym (way_goes (steps c.args.net.now) leads c.loop-left.left k c.loop-left.name z left some))

@@ -3,6 +3,7 @@ use Rattle.std.proofs.lemmas.Result.{err_from_is_err_and}
 use Rattle.std.proofs.lemmas.List.{at_drop_all}
 use Rattle.dn_net.specs.Rules.{node_fault_from}
 use Rattle.dn_net.proofs.Faults.{fault_here, fault_later, all_in_range}
+use Rattle.dn_net.proofs.Kept.{each_kept}
 use Rattle.dn_net.proofs.net.Net.check_nodes.Goals as goal
 
 pub returns-in_err-check_node-clause-fault : goal.returns-in_err-check_node-clause-fault
@@ -23,3 +24,8 @@ pub returns-clause-in_range : goal.returns-clause-in_range
 returns-clause-in_range c =
     let last = c.loop-node.invariant.last in
     all_in_range 0 c.args.self.now (c.loop-node.invariant.same ∙ at_drop_all (λ l. node_fault_from c.loop-node.node l) c.args.self.now c.loop-node.node (omega (arith, last)))
+
+pub returns-clause-rules : goal.returns-clause-rules
+returns-clause-rules c =
+    let last = c.loop-node.invariant.last in
+    each_kept c.args.self.now (c.loop-node.invariant.same ∙ at_drop_all (λ l. node_fault_from c.loop-node.node l) c.args.self.now c.loop-node.node (omega (arith, last)))

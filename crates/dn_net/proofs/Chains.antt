@@ -12,3 +12,19 @@ pub chain_front : {X : Type 0} (S : X → X → Type 0) (n k : ℕ) (x y : X) �
 chain_front S zero k x y l c = (x, refl)
 chain_front S (suc n) zero x y l c = absurd (omega arith)
 chain_front S (suc n) (suc k) x y l c = let r = chain_front S n k c.0 y (omega arith) c.2 in (r.0, (c.0, c.1, r.1))
+
+chain_join : {X : Type 0} (S : X → X → Type 0) (j k : ℕ) (x y z : X) → Chain S j x y → Chain S k y z → Chain S (j + k) x z
+chain_join S zero k x y z c d =
+    let e : k ≡ 0 + k = omega arith in
+    subst (λ n. Chain S n x z) e (subst (λ w. Chain S k w z) (sym c) d)
+chain_join S (suc j) k x y z c d =
+    let e : suc (j + k) ≡ suc j + k = omega arith in
+    subst (λ n. Chain S n x z) e (c.0, c.1, chain_join S j k c.0 y z c.2 d)
+
+-- a cycle goes round as often as is asked for
+pub chain_round : {X : Type 0} (S : X → X → Type 0) (c : ℕ) (x : X) → 1 ≤ c → Chain S c x x → (n : ℕ) → (m : ℕ) × (n ≤ m) × Chain S m x x
+chain_round S c x l r zero = (0, (omega arith), refl)
+chain_round S c x l r (suc n) =
+    let p = chain_round S c x l r n in
+    let q : n ≤ p.0 = p.1 in
+    (c + p.0, (omega arith), chain_join S c p.0 x x x r p.2)

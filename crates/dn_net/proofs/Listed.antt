@@ -6,10 +6,10 @@ use Rattle.dn_net.specs.Chain.{Member}
 use Rattle.dn_net.specs.Walks.{Choice, IsLive, Walk, in_order, starts_before, level, live_walks}
 use Rattle.dn_net.specs.WalkRules.{IsListed, LiveWalksAreAll}
 use Rattle.dn_net.proofs.Resolution.{member_left, member_right, member_split}
-use Rattle.dn_walk.proofs.Choices.{chain_of_choices}
-use Rattle.dn_walk.proofs.Cycles.{stepping_in_range}
-use Rattle.dn_walk.proofs.Levels.{level_is_row, live_of_row, row_of_choices}
-use Rattle.dn_walk.proofs.Members.{member_order}
+use Rattle.dn_net.proofs.Choices.{chain_of_choices}
+use Rattle.dn_net.proofs.Cycles.{stepping_in_range}
+use Rattle.dn_net.proofs.Levels.{level_is_row, live_of_row, row_of_choices}
+use Rattle.dn_net.proofs.Members.{member_order}
 
 -- a walk of the list is one of a level
 pub level_of_listed : (net : List NodeDecl) (k : ℕ) (w : Walk) → Member w (live_walks net k) → (j : ℕ) × (1 ≤ j) × (j ≤ k) × Member w (level net j)
@@ -43,6 +43,6 @@ live_walks_are_all net checked k = (listed, all)
     all : (start : ℕ) (choices : List Choice) → IsLive net start choices → 1 ≤ length choices → length choices ≤ k → (w : Walk) × Member w (live_walks net k) × (w.start ≡ start) × (w.choices ≡ choices)
     all start choices live l h =
         let x : Name = record { node = start; addr = live.0 } in
-        let i = stepping_in_range net checked (length choices) x live.1 l (chain_of_choices net checked.1 choices x live.1 live.3) in
+        let i = stepping_in_range net checked (length choices) x live.1 l (chain_of_choices net checked.each choices x live.1 live.3) in
         let r = row_of_choices net checked x live.1 choices i.0 i.1 live.3 in
         (r.0, listed_of_level net k (length choices) r.0 l h r.1, r.2, r.3)

@@ -8,16 +8,17 @@ use Rattle.dn_net.specs.declared.node.NodeDecl.{NodeDecl}
 use Rattle.dn_net.specs.Chain.{Member}
 use Rattle.dn_net.specs.Decode.{within}
 use Rattle.dn_net.specs.Walks.{Choice, in_some_entry, gaps, Leg, dest_legs, entry_legs, gap_legs, legs, legs_of, in_order, Walk, meets, onto, extended, still, stills, level, starts_before, live_walks, EarlierDest, ChooseBefore, SameSpan, Precedes}
-use Rattle.dn_net.specs.WalkRules.{IsChecked, LiveWalksAreInOrder}
+use Rattle.dn_net.specs.WalkRules.{LiveWalksAreInOrder}
+use Rattle.dn_net.specs.Rules.{KeepsNodeRules}
 use Rattle.dn_net.proofs.Least.{within_from, within_to, either_true, both_true, true_left, true_right, true_both}
-use Rattle.dn_walk.proofs.Apart.{IsApart, node_apart}
-use Rattle.dn_walk.proofs.Choices.{free_parts}
-use Rattle.dn_walk.proofs.Gaps.{Stand, gaps_stand, stand_member, gap_of_member}
-use Rattle.dn_walk.proofs.Legs.{dest_leg, gap_leg, member_dest_legs, member_entry_legs, member_gap_legs, leads_in_range, leads_of_leg}
-use Rattle.dn_walk.proofs.Levels.{IsRow, level_is_row, onto_within}
-use Rattle.dn_walk.proofs.Listed.{level_of_listed}
-use Rattle.dn_walk.proofs.Members.{member_map, member_filter, member_order, some_same}
-use Rattle.dn_walk.proofs.Pairs.{Pairwise, NotBefore, pair_at, pairs_more, pairs_append, pairs_map, pairs_filter, pairs_flat_map, pairs_order, order_sorted, pairs_both}
+use Rattle.dn_net.proofs.Apart.{IsApart, node_apart}
+use Rattle.dn_net.proofs.Choices.{free_parts}
+use Rattle.dn_net.proofs.Gaps.{Stand, gaps_stand, stand_member, gap_of_member}
+use Rattle.dn_net.proofs.Legs.{dest_leg, gap_leg, member_dest_legs, member_entry_legs, member_gap_legs, leads_in_range, leads_of_leg}
+use Rattle.dn_net.proofs.Levels.{IsRow, level_is_row, onto_within}
+use Rattle.dn_net.proofs.Listed.{level_of_listed}
+use Rattle.dn_net.proofs.Members.{member_map, member_filter, member_order, some_same}
+use Rattle.dn_net.proofs.Pairs.{Pairwise, NotBefore, pair_at, pairs_more, pairs_append, pairs_map, pairs_filter, pairs_flat_map, pairs_order, order_sorted, pairs_both}
 
 -- where two legs share an address, they are of one entry, and the first of an earlier destination
 abbrev pub LegBefore : Leg → Leg → Type 0
@@ -167,9 +168,9 @@ goes_on_by net w u m =
     let f = member_filter (meets w) (legs_of (slice_get net w.to.node)) q.0 q.1 in
     record { leg = q.0; is_leg = f.0; met = f.1; same = q.2 }
 
-module _ (net : List NodeDecl) (checked : IsChecked net) where
+module _ (net : List NodeDecl) (checked : KeepsNodeRules net) where
   apart_at : (i : ℕ) (n : NodeDecl) → slice_get net i ≡ Some n → IsApart n
-  apart_at i n at = node_apart net checked.1 i n at
+  apart_at i n at = node_apart net checked.each i n at
 
   inside : (k : ℕ) (w : Walk) → Member w (level net k) → (l : Leg) → Member l (legs_of (slice_get net w.to.node)) → meets w l ≡ true → (a : ℕ) → IsTrue (within a (onto w l).span) → IsTrue (within a w.span) × IsTrue (within (w.to.addr + (a - w.span.lo)) l.block)
   inside k w m l n met a h = onto_within net checked k w (level_is_row net checked k w m) l (leads_of_leg (slice_get net w.to.node) (λ n e. apart_at w.to.node n e) l n) met a h
@@ -285,7 +286,7 @@ strictly x y h = elim (before_is x y h) [
 abbrev SpanBefore : Walk → Walk → Type 0
 SpanBefore w v = SameSpan w v → ChooseBefore w.choices v.choices
 
-in_level : (net : List NodeDecl) → IsChecked net → (k : ℕ) → Pairwise Precedes (in_order starts_before (level net k))
+in_level : (net : List NodeDecl) → KeepsNodeRules net → (k : ℕ) → Pairwise Precedes (in_order starts_before (level net k))
 in_level net checked k = pairs_more (λ w v. NotBefore starts_before w v × SpanBefore w v) Precedes (in_order starts_before (level net k)) each (pairs_both (NotBefore starts_before) SpanBefore (in_order starts_before (level net k)) sorted spans)
   where
     sorted : Pairwise (NotBefore starts_before) (in_order starts_before (level net k))
@@ -327,7 +328,7 @@ in_level net checked k = pairs_more (λ w v. NotBefore starts_before w v × Span
         by true e = inl e
         by false e = let s = equal (later_of w v p.0) (later_of v w e) in inr (s, p.1 s)
 
-live_ordered : (net : List NodeDecl) → IsChecked net → (k : ℕ) → Pairwise Precedes (live_walks net k)
+live_ordered : (net : List NodeDecl) → KeepsNodeRules net → (k : ℕ) → Pairwise Precedes (live_walks net k)
 live_ordered net checked zero = tt
 live_ordered net checked (suc k) = pairs_append Precedes (live_walks net k) (in_order starts_before (level net (suc k))) (live_ordered net checked k) (in_level net checked (suc k)) across
   where

@@ -1,16 +1,16 @@
 -- What the node rules say of the blocks of one node.
-use Rattle.std.proofs.Common.{◌≡◌, ℕ, zero, suc, ◌+◌, ◌-◌, ◌<◌, ◌≤◌, ◌⊎◌, inl, inr, Bool, true, false, if◌then◌else◌, nat_le, nat_lt, List, [], ◌∷◌, Option, Some, None, IsSome, refl, ap, ◌∙◌, arith, IsTrue, leb-true, slice_get}
+use Rattle.std.proofs.Common.{◌≡◌, ℕ, zero, suc, ◌+◌, ◌-◌, ◌<◌, ◌≤◌, ◌⊎◌, inl, inr, Bool, true, false, if◌then◌else◌, nat_le, nat_lt, List, [], ◌∷◌, Option, Some, None, IsSome, refl, sym, ap, ◌∙◌, arith, IsTrue, leb-true, true≢false, slice_get}
 use Rattle.std.proofs.lemmas.Bool.{lt-ltb}
-use Rattle.std.specs.List.{list_all}
+use Rattle.std.specs.List.{All, list_all}
 use Rattle.dn_net.specs.declared.node.Dest.{Dest}
 use Rattle.dn_net.specs.declared.node.Entry.{Entry}
 use Rattle.dn_net.specs.declared.node.NodeDecl.{NodeDecl}
 use Rattle.dn_net.specs.Decode.{top, within, in_some_block}
-use Rattle.dn_net.specs.Rules.{overlaps, least_overlap, block_in_range, dest_in_range, entry_in_range, node_fault}
-use Rattle.dn_net.proofs.Checked.{IsChecked, checked_at}
-use Rattle.dn_net.proofs.Least.{least_overlap_is_least, maps_at, maps_at-cons, true_left, true_right, true_both}
+use Rattle.dn_net.specs.Rules.{overlaps, block_in_range, dest_in_range, entry_in_range, KeepsRules}
+use Rattle.dn_net.proofs.Kept.{kept_at, few_maps}
+use Rattle.dn_net.proofs.Least.{maps_at, maps_at-cons, true_left, true_right, true_both}
 use Rattle.dn_net.proofs.Places.{both, list_all-at}
-use Rattle.dn_walk.proofs.Members.{some_same}
+use Rattle.dn_net.proofs.Members.{some_same}
 
 -- the blocks of a node are in range, and no address lies in two map blocks, or in a map block and an accept block
 pub record IsApart (n : NodeDecl) : Type 0 where
@@ -60,26 +60,8 @@ counted_twice (g ∷ es) (suc i) (suc j) a e f few at bt w v = ap suc (counted_t
     fewer : (x y z : ℕ) → z ≡ x + y → z ≤ 1 → y ≤ 1
     fewer x y z e l = omega arith
 
--- no address overlaps in a node that keeps the rules
-none_overlaps : (n : NodeDecl) → least_overlap n ≡ None → (a : ℕ) → overlaps n a ≡ true → ⊥
-none_overlaps n none a h = some (least_overlap n) none ((least_overlap_is_least n).1 a h)
-  where
-    some : (o : Option ℕ) → o ≡ None → IsSome o → ⊥
-    some None e h = cc
-    some (Some x) e h = cc
-
-few_maps : (n : NodeDecl) → least_overlap n ≡ None → (a : ℕ) → maps_at n.entries a ≤ 1
-few_maps n none a = by (nat_lt 1 (maps_at n.entries a)) refl (order 1 (maps_at n.entries a))
-  where
-    order : (x y : ℕ) → (x < y) ⊎ (y ≤ x)
-    order x y = grind arith
-
-    by : (b : Bool) → nat_lt 1 (maps_at n.entries a) ≡ b → (1 < maps_at n.entries a) ⊎ (maps_at n.entries a ≤ 1) → maps_at n.entries a ≤ 1
-    by b e (inr l) = l
-    by b e (inl l) = absurd (none_overlaps n none a (true_left _ _ (lt-ltb _ _ l)))
-
-apart_of_checked : (n : NodeDecl) → IsChecked n → IsApart n
-apart_of_checked n c = record { accepts = parts.0; block = block; dest = dest; accept_apart = accept_apart; map_apart = map_apart }
+apart_of_kept : (n : NodeDecl) → KeepsRules n → IsApart n
+apart_of_kept n c = record { accepts = parts.0; block = block; dest = dest; accept_apart = accept_apart; map_apart = map_apart }
   where
     parts : IsTrue (list_all block_in_range n.accepts) × IsTrue (list_all entry_in_range n.entries)
     parts = both (list_all block_in_range n.accepts) (list_all entry_in_range n.entries) c.in_range
@@ -100,11 +82,11 @@ apart_of_checked n c = record { accepts = parts.0; block = block; dest = dest; a
       where
         by : (b : Bool) → in_some_block a n.accepts ≡ b → b ≡ false
         by false f = refl
-        by true f = absurd (none_overlaps n c.apart a (true_right (nat_lt 1 (maps_at n.entries a)) _ (true_both (nat_lt 0 (maps_at n.entries a)) (in_some_block a n.accepts) (lt-ltb 0 (maps_at n.entries a) (counted n.entries i a e at w)) f)))
+        by true f = absurd (true≢false (sym (true_right (nat_lt 1 (maps_at n.entries a)) _ (true_both (nat_lt 0 (maps_at n.entries a)) (in_some_block a n.accepts) (lt-ltb 0 (maps_at n.entries a) (counted n.entries i a e at w)) f)) ∙ c.apart a))
 
     map_apart : (i j a : ℕ) (e f : Entry) → slice_get n.entries i ≡ Some e → slice_get n.entries j ≡ Some f → IsTrue (within a e.block) → IsTrue (within a f.block) → i ≡ j
-    map_apart i j a e f at bt w v = counted_twice n.entries i j a e f (few_maps n c.apart a) at bt w v
+    map_apart i j a e f at bt w v = counted_twice n.entries i j a e f (few_maps n c a) at bt w v
 
 -- each node of a net that keeps the node rules
-pub node_apart : (net : List NodeDecl) → node_fault net ≡ None → (i : ℕ) (n : NodeDecl) → slice_get net i ≡ Some n → IsApart n
-node_apart net none i n at = apart_of_checked n (checked_at net i none n at)
+pub node_apart : (net : List NodeDecl) → All KeepsRules net → (i : ℕ) (n : NodeDecl) → slice_get net i ≡ Some n → IsApart n
+node_apart net each i n at = apart_of_kept n (kept_at net i each n at)

@@ -8,12 +8,12 @@ use Rattle.dn_net.specs.declared.node.NodeDecl.{NodeDecl}
 use Rattle.dn_net.specs.Chain.{Member}
 use Rattle.dn_net.specs.Decode.{top, within, refers_within}
 use Rattle.dn_net.specs.Walks.{Choice, Leads, Follows, IsLive, moved_name, whole, Leg, legs_of, Walk, last_out, meets, greater, lesser_of, onto, extended, still, stills, level}
-use Rattle.dn_net.specs.WalkRules.{IsChecked}
+use Rattle.dn_net.specs.Rules.{KeepsNodeRules}
 use Rattle.dn_net.proofs.Least.{within_from, within_to, true_both, both_true}
 use Rattle.dn_net.proofs.Places.{list_all-at}
-use Rattle.dn_walk.proofs.Apart.{IsApart, node_apart}
-use Rattle.dn_walk.proofs.Legs.{leads_of_leg, leg_of_leads, leads_once, leads_in_range, leads_within}
-use Rattle.dn_walk.proofs.Members.{member_map, map_member, member_filter, filter_member, member_flat_map, flat_map_member}
+use Rattle.dn_net.proofs.Apart.{IsApart, node_apart}
+use Rattle.dn_net.proofs.Legs.{leads_of_leg, leg_of_leads, leads_once, leads_in_range, leads_within}
+use Rattle.dn_net.proofs.Members.{member_map, map_member, member_filter, filter_member, member_flat_map, flat_map_member}
 
 -- what each walk of a level keeps
 pub record IsRow (net : List NodeDecl) (k : ℕ) (w : Walk) : Type 0 where
@@ -79,12 +79,12 @@ cut_order s u t p q l h (inr e) (inr f) b c d g = ((omega arith), (omega arith))
 cut_range : (s u t p q l h d limit : ℕ) → u ≤ limit → d + (q - p) ≤ limit → s ≤ u → t ≤ l → p ≤ l → l ≤ h → h ≤ q → h ≤ t + (u - s) → (s + (l - t) ≤ s + (h - t)) × (s + (h - t) ≤ limit) × (d + (l - p) + (s + (h - t) - (s + (l - t))) ≤ limit)
 cut_range s u t p q l h d limit a b c e f g i j = ((omega arith), (omega arith), (omega arith))
 
-module _ (net : List NodeDecl) (checked : IsChecked net) where
+module _ (net : List NodeDecl) (checked : KeepsNodeRules net) where
   apart_at : (i : ℕ) (n : NodeDecl) → slice_get net i ≡ Some n → IsApart n
-  apart_at i n at = node_apart net checked.1 i n at
+  apart_at i n at = node_apart net checked.each i n at
 
   closed_at : (i : ℕ) (n : NodeDecl) → slice_get net i ≡ Some n → IsTrue (refers_within (length net) n)
-  closed_at i n at = list_all-at (refers_within (length net)) net i n checked.0 at
+  closed_at i n at = list_all-at (refers_within (length net)) net i n checked.closed at
 
   -- an address of a walk with one more leg follows the walk, and then the leg
   pub onto_within : (k : ℕ) (w : Walk) → IsRow net k w → (l : Leg) → Leads (slice_get net w.to.node) l.choice l.block l.to → IsTrue (meets w l) → (a : ℕ) → IsTrue (within a (onto w l).span) → IsTrue (within a w.span) × IsTrue (within (w.to.addr + (a - w.span.lo)) l.block)

@@ -6,9 +6,10 @@ use Rattle.dn_net.specs.declared.node.NodeDecl.{NodeDecl}
 use Rattle.dn_net.specs.Chain.{Chain}
 use Rattle.dn_net.specs.Decode.{top, step_limit, Step}
 use Rattle.dn_net.specs.Names.{name_lt}
-use Rattle.dn_net.specs.WalkRules.{or_else, first_below, least_in, least_below, least_name, comes_back, has_cycle, shortest_within, shortest_cycle, IsChecked, IsShortestCycle, ShortestCycleIsShortest}
+use Rattle.dn_net.specs.WalkRules.{or_else, first_below, least_in, least_below, least_name, comes_back, has_cycle, shortest_within, shortest_cycle, IsShortestCycle, ShortestCycleIsShortest}
+use Rattle.dn_net.specs.Rules.{KeepsNodeRules}
 use Rattle.dn_net.proofs.Least.{true_left, true_right, true_both}
-use Rattle.dn_walk.proofs.Cycles.{comes_to_is_chain, stepping_in_range}
+use Rattle.dn_net.proofs.Cycles.{comes_to_is_chain, stepping_in_range}
 
 first_below-zero : (p : ℕ → Bool) → first_below p 0 ≡ None
 unfolding first_below
@@ -116,7 +117,7 @@ pub least_name_is : (net : List NodeDecl) (p : Name → Bool) (o : Option Name) 
 least_name_is net p o e = subst (λ o. IsLeastNameOr p (length net) o) e (least_below_is p (length net))
 
 -- whether some name comes back
-no_cycle : (net : List NodeDecl) → IsChecked net → (k : ℕ) → 1 ≤ k → has_cycle net k ≡ false → (x : Name) → Chain (Step net) k x x → ⊥
+no_cycle : (net : List NodeDecl) → KeepsNodeRules net → (k : ℕ) → 1 ≤ k → has_cycle net k ≡ false → (x : Name) → Chain (Step net) k x x → ⊥
 no_cycle net checked k l h x c = by (least_name net (comes_back net k)) refl h
   where
     by : (o : Option Name) → least_name net (comes_back net k) ≡ o → is_some o ≡ false → ⊥
@@ -141,7 +142,7 @@ abbrev pub IsShortestOr : List NodeDecl → ℕ → Option ℕ → Type 0
 IsShortestOr net n None = (k : ℕ) (x : Name) → 1 ≤ k → k ≤ n → Chain (Step net) k x x → ⊥
 IsShortestOr net n (Some c) = IsShortest net n c
 
-pub shortest_within_is : (net : List NodeDecl) → IsChecked net → (n : ℕ) → IsShortestOr net n (shortest_within net n)
+pub shortest_within_is : (net : List NodeDecl) → KeepsNodeRules net → (n : ℕ) → IsShortestOr net n (shortest_within net n)
 shortest_within_is net checked zero = λ k x l m c. absurd (omega arith)
 shortest_within_is net checked (suc n) = by (shortest_within net n) (shortest_within_is net checked n) (has_cycle net (suc n)) refl
   where
@@ -165,7 +166,7 @@ pub some_steps : 1 ≤ step_limit
 unfolding step_limit
 some_steps = omega arith
 
-pub shortest_cycle_is : (net : List NodeDecl) → IsChecked net → (o : Option ℕ) → shortest_cycle net ≡ o → IsShortestOr net (step_limit - 1) o
+pub shortest_cycle_is : (net : List NodeDecl) → KeepsNodeRules net → (o : Option ℕ) → shortest_cycle net ≡ o → IsShortestOr net (step_limit - 1) o
 shortest_cycle_is net checked o e = subst (λ u. IsShortestOr net (step_limit - 1) u) (sym (shortest_is net) ∙ e) (shortest_within_is net checked (step_limit - 1))
 
 pub shortest_cycle_is_shortest : ShortestCycleIsShortest

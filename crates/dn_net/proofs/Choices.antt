@@ -1,5 +1,5 @@
 -- A chain of steps is a list of choices that its first name follows, and back.
-use Rattle.std.proofs.Common.{◌≡◌, ℕ, zero, suc, ◌+◌, ◌-◌, ◌<◌, ◌≤◌, ◌⊎◌, inl, inr, Bool, true, false, if◌then◌else◌, not, ◌&&◌, ◌||◌, List, [], ◌∷◌, length, map, Option, Some, None, refl, sym, ap, ◌∙◌, subst, arith, nat_le, slice_get, IsTrue, leb-true, le-leb}
+use Rattle.std.proofs.Common.{All, ◌≡◌, ℕ, zero, suc, ◌+◌, ◌-◌, ◌<◌, ◌≤◌, ◌⊎◌, inl, inr, Bool, true, false, if◌then◌else◌, not, ◌&&◌, ◌||◌, List, [], ◌∷◌, length, map, Option, Some, None, refl, sym, ap, ◌∙◌, subst, arith, nat_le, slice_get, IsTrue, leb-true, le-leb}
 use Rattle.dn_net.specs.declared.node.Block.{Block}
 use Rattle.dn_net.specs.declared.node.Dest.{Dest}
 use Rattle.dn_net.specs.declared.node.Entry.{Entry}
@@ -7,12 +7,12 @@ use Rattle.dn_net.specs.declared.node.Name.{Name}
 use Rattle.dn_net.specs.declared.node.NodeDecl.{NodeDecl}
 use Rattle.dn_net.specs.Chain.{Member, Chain}
 use Rattle.dn_net.specs.Decode.{top, within, in_some_block, by_over, mapped, moved, decoded, Step}
-use Rattle.dn_net.specs.Rules.{node_fault}
+use Rattle.dn_net.specs.Rules.{KeepsRules}
 use Rattle.dn_net.specs.Walks.{Choice, mapped_by, over_gap, in_some_entry, is_free, IsGap, Leads, Follows, moved_name}
 use Rattle.dn_net.specs.WalkRules.{ChainIsWalk}
 use Rattle.dn_net.proofs.Least.{within_from, within_to}
-use Rattle.dn_walk.proofs.Apart.{IsApart, node_apart}
-use Rattle.dn_walk.proofs.Members.{some_same}
+use Rattle.dn_net.proofs.Apart.{IsApart, node_apart}
+use Rattle.dn_net.proofs.Members.{some_same}
 
 -- a free address lies in a gap: its end below
 gap_below : (n : NodeDecl) (a : ℕ) → is_free n a ≡ true → (lo : ℕ) × (lo ≤ a) × ((b : ℕ) → lo ≤ b → b ≤ a → is_free n b ≡ true) × ((b : ℕ) → lo ≡ suc b → is_free n b ≡ false)
@@ -251,7 +251,7 @@ step_of_choice (Some n) apart a c b d e w = by c e
         decodes low f.0 (subst (λ o. Member y (mapped a o n.entries)) (sym e.1) (subst (λ l. Member y l) (sym (no_entry a e.0 n.entries f.1)) (inl yz)))
 
 -- a name that follows choices makes as many steps
-pub chain_of_choices : (net : List NodeDecl) → node_fault net ≡ None → (cs : List Choice) (x y : Name) → Follows net x cs y → Chain (Step net) (length cs) x y
+pub chain_of_choices : (net : List NodeDecl) → All KeepsRules net → (cs : List Choice) (x y : Name) → Follows net x cs y → Chain (Step net) (length cs) x y
 chain_of_choices net none [] x y f = f
 chain_of_choices net none (c ∷ cs) x y f =
     let z : Name = moved_name (x.addr - f.0.lo) f.1 in
@@ -259,4 +259,4 @@ chain_of_choices net none (c ∷ cs) x y f =
     (z, s, chain_of_choices net none cs z y f.4)
 
 pub chain_is_walk : ChainIsWalk
-chain_is_walk net checked k x y = ((λ c. choices_of_chain net k x y c), (λ w. subst (λ n. Chain (Step net) n x y) w.1 (chain_of_choices net checked.1 w.0 x y w.2)))
+chain_is_walk net checked k x y = ((λ c. choices_of_chain net k x y c), (λ w. subst (λ n. Chain (Step net) n x y) w.1 (chain_of_choices net checked.each w.0 x y w.2)))

@@ -6,7 +6,7 @@ use Rattle.std.specs.List.Sorted.{IsNonDecreasingBy}
 use Rattle.dn_net.specs.Chain.{Member}
 use Rattle.dn_net.specs.Walks.{put_in, in_order}
 use Rattle.dn_net.proofs.Resolution.{member_split}
-use Rattle.dn_walk.proofs.Members.{member_map, member_filter, member_flat_map, member_put, member_order, some_same}
+use Rattle.dn_net.proofs.Members.{member_map, member_filter, member_flat_map, member_put, member_order, some_same}
 
 abbrev pub Pairwise : {X : Type 0} → (X → X → Type 0) → List X → Type 0
 Pairwise R [] = Unit {0}

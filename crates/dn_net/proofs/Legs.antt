@@ -11,9 +11,9 @@ use Rattle.dn_net.specs.Decode.{top, refers_within, over_within, ports_within}
 use Rattle.dn_net.specs.Walks.{Choice, mapped_by, over_gap, IsGap, Leads, gaps, Leg, dest_legs, entry_legs, gap_legs, legs_of}
 use Rattle.dn_net.proofs.Places.{both, list_all-at}
 use Rattle.dn_net.proofs.Resolution.{member_left, member_right, member_split}
-use Rattle.dn_walk.proofs.Apart.{IsApart}
-use Rattle.dn_walk.proofs.Gaps.{gap_of_member, member_of_gap}
-use Rattle.dn_walk.proofs.Members.{member_map, map_member, member_order, some_same}
+use Rattle.dn_net.proofs.Apart.{IsApart}
+use Rattle.dn_net.proofs.Gaps.{gap_of_member, member_of_gap}
+use Rattle.dn_net.proofs.Members.{member_map, map_member, member_order, some_same}
 
 -- the leg of an entry's destination, and of a gap
 abbrev pub dest_leg : ℕ → ℕ → Block → Dest → Leg

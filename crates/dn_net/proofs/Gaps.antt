@@ -12,7 +12,7 @@ use Rattle.dn_net.specs.Walks.{in_some_entry, is_free, IsGap, below, above, cut_
 use Rattle.dn_net.proofs.Least.{within_from, within_to, true_both, both_true, true_left, either_true}
 use Rattle.dn_net.proofs.Places.{both}
 use Rattle.dn_net.specs.WalkRules.{GapsAreAll}
-use Rattle.dn_walk.proofs.Apart.{IsApart, node_apart}
+use Rattle.dn_net.proofs.Apart.{IsApart, node_apart}
 
 -- the blocks stand at an address or above it, in range, ascending, and leave out at least one address between two
 abbrev pub Stand : ℕ → List Block → Type 0
@@ -369,6 +369,6 @@ member_of_gap n apart lo hi g =
 
 pub gaps_are_all : GapsAreAll
 gaps_are_all net checked i n e lo hi = (
-  λ m. gap_of_member n (node_apart net checked.1 i n e) (record { lo = lo; hi = hi }) m,
-  λ g. member_of_gap n (node_apart net checked.1 i n e) lo hi g,
+  λ m. gap_of_member n (node_apart net checked.each i n e) (record { lo = lo; hi = hi }) m,
+  λ g. member_of_gap n (node_apart net checked.each i n e) lo hi g,
 )

@@ -5,11 +5,12 @@ use Rattle.dn_net.specs.declared.node.NodeDecl.{NodeDecl}
 use Rattle.dn_net.specs.Chain.{Member, Chain}
 use Rattle.dn_net.specs.Decode.{top, steps, step_limit, Step}
 use Rattle.dn_net.specs.Names.{name_lt, name_eq, with_name, sorted_names}
-use Rattle.dn_net.specs.WalkRules.{first_of, behind, way_by, least_name, comes_to, comes_back, goes_on, cycle_from, path_from, path_names, NotAfter, Along, IsChecked, IsLeastCycle, CycleIsLeast, IsLeastPath, PathIsLeast}
+use Rattle.dn_net.specs.WalkRules.{first_of, behind, way_by, least_name, comes_to, comes_back, goes_on, cycle_from, path_from, path_names, NotAfter, Along, IsLeastCycle, CycleIsLeast, IsLeastPath, PathIsLeast}
+use Rattle.dn_net.specs.Rules.{KeepsNodeRules}
 use Rattle.dn_net.proofs.Least.{both_true, either_true}
-use Rattle.dn_walk.proofs.Cycles.{name_same, comes_to_is_chain, goes_on_is_chain, stepping_in_range}
-use Rattle.dn_walk.proofs.Firsts.{NoLater, lower_node, lower_addr, IsLeastName, least_name_is, IsShortest, shortest_cycle_is}
-use Rattle.dn_walk.proofs.Members.{member_filter, filter_member, some_same}
+use Rattle.dn_net.proofs.Cycles.{name_same, comes_to_is_chain, goes_on_is_chain, stepping_in_range}
+use Rattle.dn_net.proofs.Firsts.{NoLater, lower_node, lower_addr, IsLeastName, least_name_is, IsShortest, shortest_cycle_is}
+use Rattle.dn_net.proofs.Members.{member_filter, filter_member, some_same}
 
 pub lower_is : (x y : Name) → IsTrue (name_lt x y) → (x.node < y.node) ⊎ ((x.node ≡ y.node) × (x.addr < y.addr))
 lower_is x y h = elim (either_true (nat_lt x.node y.node) ((x.node == y.node) && nat_lt x.addr y.addr) h) [
@@ -167,7 +168,7 @@ front n z e = by z.addr refl
     by zero f = inr (λ i. record { node = sym e i; addr = sym f i })
     by (suc a) f = inl (lower_addr (record { node = n; addr = 0 }) z (sym e) (omega arith))
 
-least_of_all : (net : List NodeDecl) → IsChecked net → (k : ℕ) (x z y : Name) → IsLeastName (goes_on net k) (length net) x → Chain (Step net) k z y → NoLater x z
+least_of_all : (net : List NodeDecl) → KeepsNodeRules net → (k : ℕ) (x z y : Name) → IsLeastName (goes_on net k) (length net) x → Chain (Step net) k z y → NoLater x z
 least_of_all net checked zero x z y name c = by (order z.node (length net))
   where
     order : (a b : ℕ) → (a < b) ⊎ (b ≤ a)

@@ -10,13 +10,14 @@ use Rattle.dn_net.specs.Chain.{Member, Chain}
 use Rattle.dn_net.specs.Decode.{top, within, steps, Step}
 use Rattle.dn_net.specs.Names.{name_eq, after_steps}
 use Rattle.dn_net.specs.Walks.{Choice, Leads, Follows, moved_name, Walk, level}
-use Rattle.dn_net.specs.WalkRules.{IsChecked, CycleIsRow, comes_to, goes_on}
+use Rattle.dn_net.specs.WalkRules.{CycleIsRow, comes_to, goes_on}
+use Rattle.dn_net.specs.Rules.{KeepsNodeRules}
 use Rattle.dn_net.proofs.Least.{within_to, true_both, both_true, true_left, true_right, either_true}
 use Rattle.dn_net.proofs.Resolution.{after_steps_is_chain}
-use Rattle.dn_walk.proofs.Apart.{node_apart}
-use Rattle.dn_walk.proofs.Choices.{choices_of_chain, chain_of_choices}
-use Rattle.dn_walk.proofs.Legs.{leads_in_range}
-use Rattle.dn_walk.proofs.Levels.{level_is_row, row_of_choices}
+use Rattle.dn_net.proofs.Apart.{node_apart}
+use Rattle.dn_net.proofs.Choices.{choices_of_chain, chain_of_choices}
+use Rattle.dn_net.proofs.Legs.{leads_in_range}
+use Rattle.dn_net.proofs.Levels.{level_is_row, row_of_choices}
 
 -- a walk of a level that leads a name to another
 pub record IsLed (net : List NodeDecl) (k : ℕ) (x y : Name) (w : Walk) : Type 0 where
@@ -30,28 +31,28 @@ there_is None c b d f = absurd f
 there_is (Some n) c b d f = (n, refl)
 
 -- a name that makes a step has a node and an address
-pub stepping_in_range : (net : List NodeDecl) → IsChecked net → (k : ℕ) (x y : Name) → 1 ≤ k → Chain (Step net) k x y → (x.node < length net) × (x.addr ≤ top)
+pub stepping_in_range : (net : List NodeDecl) → KeepsNodeRules net → (k : ℕ) (x y : Name) → 1 ≤ k → Chain (Step net) k x y → (x.node < length net) × (x.addr ≤ top)
 stepping_in_range net checked k x y l c = by (choices_of_chain net k x y c).0 (choices_of_chain net k x y c).1 (choices_of_chain net k x y c).2
   where
     by : (cs : List Choice) → length cs ≡ k → Follows net x cs y → (x.node < length net) × (x.addr ≤ top)
     by [] e f = let z : 0 ≡ k = e in absurd (omega arith)
     by (h ∷ cs) e f =
         let t = there_is (slice_get net x.node) h f.0 f.1 f.2 in
-        let r = leads_in_range (slice_get net x.node) (λ n e. node_apart net checked.1 x.node n e) h f.0 f.1 f.2 in
+        let r = leads_in_range (slice_get net x.node) (λ n e. node_apart net checked.each x.node n e) h f.0 f.1 f.2 in
         let w = within_to x.addr f.0 f.3 in
         let p : x.addr ≤ f.0.hi = w.1 in
         let q : f.0.hi ≤ top = r.1 in
         (slice_get_within net x.node t.0 t.1, (omega arith))
 
 -- a chain is a walk of its level
-pub row_of_chain : (net : List NodeDecl) → IsChecked net → (k : ℕ) (x y : Name) → x.node < length net → x.addr ≤ top → Chain (Step net) k x y → (w : Walk) × IsLed net k x y w
+pub row_of_chain : (net : List NodeDecl) → KeepsNodeRules net → (k : ℕ) (x y : Name) → x.node < length net → x.addr ≤ top → Chain (Step net) k x y → (w : Walk) × IsLed net k x y w
 row_of_chain net checked k x y l t c =
     let s = choices_of_chain net k x y c in
     let r = row_of_choices net checked x y s.0 l t s.2 in
     (r.0, record { row = subst (λ n. Member r.0 (level net n)) s.1 r.1; start = r.2; inside = r.4; to = r.5 })
 
 -- and back
-pub chain_of_row : (net : List NodeDecl) → IsChecked net → (k : ℕ) (x y : Name) (w : Walk) → IsLed net k x y w → (x.node < length net) × (x.addr ≤ top) × Chain (Step net) k x y
+pub chain_of_row : (net : List NodeDecl) → KeepsNodeRules net → (k : ℕ) (x y : Name) (w : Walk) → IsLed net k x y w → (x.node < length net) × (x.addr ≤ top) × Chain (Step net) k x y
 chain_of_row net checked k x y w h =
     let r = level_is_row net checked k w h.row in
     let i = within_to x.addr w.span h.inside in
@@ -60,7 +61,7 @@ chain_of_row net checked k x y w h =
     let t : x.addr ≤ top = omega arith in
     let f = (r.follows x.addr y t).1 (h.inside, h.to) in
     let f1 : Follows net x w.choices y = subst (λ n. Follows net (record { node = n; addr = x.addr }) w.choices y) h.start f in
-    (subst (λ n. n < length net) h.start r.start, t, subst (λ n. Chain (Step net) n x y) r.long (chain_of_choices net checked.1 w.choices x y f1))
+    (subst (λ n. n < length net) h.start r.start, t, subst (λ n. Chain (Step net) n x y) r.long (chain_of_choices net checked.each w.choices x y f1))
 
 -- the name to which a walk sends a name of its own start is that name exactly where its base is its own first address
 base_is : (w : Walk) (x : Name) → w.start ≡ x.node → IsTrue (within x.addr w.span) → moved_name (x.addr - w.span.lo) w.to ≡ x → w.to ≡ record { node = w.start; addr = w.span.lo }
@@ -133,7 +134,7 @@ goes_on_is_chain net k x = by (after_steps (steps net) k (x ∷ [])) refl
     by (y ∷ ys) e = ((λ h. (y, (after_steps_is_chain net k x y).0 (subst (λ l. Member y l) (sym e) (inl refl)))), (λ c. goes_somewhere net k x y ys e))
 
 -- `comes_to` is true exactly where a walk of the level leads from the one name to the other
-pub comes_to_is_row : (net : List NodeDecl) → IsChecked net → (k : ℕ) (x y : Name) → x.node < length net → x.addr ≤ top → (comes_to net y k x ≡ true) ↔ ((w : Walk) × IsLed net k x y w)
+pub comes_to_is_row : (net : List NodeDecl) → KeepsNodeRules net → (k : ℕ) (x y : Name) → x.node < length net → x.addr ≤ top → (comes_to net y k x ≡ true) ↔ ((w : Walk) × IsLed net k x y w)
 comes_to_is_row net checked k x y l t =
     let a = comes_to_is_chain net k x y in
     ((λ h. row_of_chain net checked k x y l t (a.0 h)), (λ r. a.1 (chain_of_row net checked k x y r.0 r.1).2))
@@ -145,7 +146,7 @@ pub record HasName (net : List NodeDecl) (k : ℕ) (x : Name) (w : Walk) : Type 
   pub inside : IsTrue (within x.addr w.span)
 
 -- `goes_on` is true exactly where a walk of the level has the name
-pub goes_on_is_row : (net : List NodeDecl) → IsChecked net → (k : ℕ) (x : Name) → x.node < length net → x.addr ≤ top → (goes_on net k x ≡ true) ↔ ((w : Walk) × HasName net k x w)
+pub goes_on_is_row : (net : List NodeDecl) → KeepsNodeRules net → (k : ℕ) (x : Name) → x.node < length net → x.addr ≤ top → (goes_on net k x ≡ true) ↔ ((w : Walk) × HasName net k x w)
 goes_on_is_row net checked k x l t = (there, back)
   where
     there : goes_on net k x ≡ true → (w : Walk) × HasName net k x w

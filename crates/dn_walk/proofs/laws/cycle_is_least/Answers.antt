@@ -1,5 +1,0 @@
-use Rattle.dn_walk.proofs.Ways.{cycle_is_least}
-use Rattle.dn_walk.proofs.laws.cycle_is_least.Goals as goal
-
-pub returns : goal.returns
-returns c = cycle_is_least

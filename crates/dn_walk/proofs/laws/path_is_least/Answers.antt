@@ -1,5 +1,0 @@
-use Rattle.dn_walk.proofs.Ways.{path_is_least}
-use Rattle.dn_walk.proofs.laws.path_is_least.Goals as goal
-
-pub returns : goal.returns
-returns c = path_is_least
