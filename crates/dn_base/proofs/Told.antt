@@ -134,6 +134,10 @@ written_all a b x p = record { whole = λ e. p; less = λ e. cc; front = Added-p
 pub written_less : (a b : Option (List ℕ)) (x : List ℕ) → AddedLess a b x → IsWritten a b false true x
 written_less a b x p = record { whole = λ e. cc; less = λ e. p; front = (p.0, p.2) }
 
+-- what is said of a failed write is said of any stop
+pub written_stopped : (a b : Option (List ℕ)) (failed : Bool) (x : List ℕ) → IsWritten a b false true x → IsWritten a b false failed x
+written_stopped a b failed x w = record { whole = λ e. cc; less = λ e. w.less refl; front = w.front }
+
 -- nothing of it
 pub written_none : (a b : Option (List ℕ)) (x : List ℕ) → b ≡ a → IsWritten a b false false x
 written_none a b x p = record { whole = λ e. cc; less = λ e. cc; front = prefix_none a b x p }
@@ -177,6 +181,10 @@ written_so_far a b done rest all p e = record {
   };
   stopped = pieces_so_far a b done rest all p e;
 }
+
+-- nothing was written yet
+pub pieces_none : (a b : Option (List ℕ)) (all : List (List ℕ)) → b ≡ a → AreWritten a b false false all
+pieces_none a b all p = written_so_far a b [] all all (Added-none a b p) refl
 
 -- all of them
 pub written_whole : (a b : Option (List ℕ)) (all : List (List ℕ)) → Added a b (concat all) → AreWritten a b true false all

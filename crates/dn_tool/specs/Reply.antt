@@ -69,7 +69,25 @@ reply net Dump = later_text (codes "dump")
 reply net Split = later_text (codes "split")
 reply net (Absorb target) = later_text (codes "absorb")
 
--- the replies to commands in order
-abbrev pub replies : List NodeDecl → List Command → List ℕ
-replies net [] = []
-replies net (c ∷ cs) = reply net c ++ replies net cs
+-- what commands are answered by, and what they may change: the net, which none changes so far
+pub record State : Type 0 where
+  pub net : List NodeDecl
+
+-- what a command gives: its reply, and the next state
+pub record Turn : Type 0 where
+  pub reply : List ℕ
+  pub next : State
+
+-- the turn of a command in a state
+abbrev pub turn : State → Command → Turn
+turn s c = record { reply = reply s.net c; next = s }
+
+-- the replies to commands in order, each in the state that those before it left
+abbrev pub replies : State → List Command → List (List ℕ)
+replies s [] = []
+replies s (c ∷ cs) = (turn s c).reply ∷ replies (turn s c).next cs
+
+-- the state that commands in order leave
+abbrev pub state_after : State → List Command → State
+state_after s [] = s
+state_after s (c ∷ cs) = state_after (turn s c).next cs

@@ -1,13 +1,11 @@
 //! From a text to its platform, or to the rule that it breaks.
 
-ghost use Rattle.std.specs.Prelude.{◌≡◌, IfOk, IfErr, IsTrue, None, Ok, length};
+ghost use Rattle.std.specs.Prelude.{◌≡◌, IfOk, IfErr, IsTrue, Ok, length};
 ghost use Rattle.std.specs.List.{list_all};
 ghost use Rattle.dn_net.specs.Decode.{is_closed};
-ghost use Rattle.dn_net.specs.Rules.{node_fault};
-ghost use Rattle.dn_net.specs.WalkRules.{walk_fault};
 ghost use Rattle.dn_module.specs.Commands.{names_within};
 ghost use Rattle.dn_module.specs.Told.{outcome_of};
-ghost use Rattle.dn_walk.specs.Rows.{AreWalksOf};
+ghost use Rattle.dn_tool.specs.Platform.{IsPlatform};
 ghost use Rattle.dn_tool.specs.Compiled.{Compiled, compiled, compiled_outcome, legal, refused, IsRefusedBy};
 
 use crate::refusal;
@@ -20,6 +18,7 @@ use dn_parse::reader;
 use dn_walk::walks;
 use dn_walk::walks::WalkTable;
 use std::alloc::{AllocError, Global};
+use std::marker::Model;
 
 /// Why a text is not compiled.
 #[derive(Drop)]
@@ -31,24 +30,41 @@ pub enum CompileFault {
 }
 
 /// A compiled text: its net, the live walks of that net, and its commands.
+///
+/// The net is legal, the walks are its live walks, and each node that a command names is there.
 #[derive(Drop)]
 pub struct Platform {
+    /// The net.
     pub net: Net,
+    /// The live walks of the net.
     pub walks: WalkTable,
+    /// The commands, in order.
     pub commands: Commands,
+}
+
+impl Model for Platform {
+    ghost use Rattle.dn_tool.specs.Platform.{IsPlatform, PlatformState};
+
+    ghost Value = { PlatformState };
+
+    ghost view = { λ p. record { net = p.net; walks = p.walks; commands = p.commands } };
+
+    ghost invariant = { λ p. IsPlatform (record { net = p.net; walks = p.walks; commands = p.commands }) };
+}
+
+impl Platform {
+    /// What every platform is, for a proof of its caller. It does nothing.
+    pub fn facts(&self)
+        ensures { IsPlatform self.now }
+    {
+        let _net = &self.net;
+    }
 }
 
 /// Compiles a text. It is refused exactly where it breaks a rule.
 pub fn compile(alloc: Global, text: &[u8]) -> Result<Platform, CompileFault>
     ensures legal { IfOk result (λ p. compiled text.now ≡ legal p.net p.commands) }
     ensures refused { IfErr result (λ e. IsRefusedBy (compiled text.now) e) }
-    // Each node to which the platform refers is there, and the net keeps the node rules and those on walks.
-    ensures closed { IfOk result (λ p. IsTrue (is_closed p.net)) }
-    ensures checked { IfOk result (λ p. node_fault p.net ≡ None) }
-    ensures walkable { IfOk result (λ p. walk_fault p.net ≡ None) }
-    // The walks are those of the net.
-    ensures walks { IfOk result (λ p. AreWalksOf p.net p.walks) }
-    ensures known { IfOk result (λ p. IsTrue (list_all (names_within (length p.net)) p.commands)) }
 {
     let tree = match reader::read(alloc, text) {
         Ok(tree) => tree,
@@ -64,13 +80,10 @@ pub fn compile(alloc: Global, text: &[u8]) -> Result<Platform, CompileFault>
 fn platform_of(alloc: Global, expanded: Expanded) -> Result<Platform, CompileFault>
     requires closed { IsTrue (is_closed expanded.net) }
     requires known { IsTrue (list_all (names_within (length expanded.net)) expanded.commands) }
-    ensures legal { IfOk result (λ p. compiled_outcome (Ok (outcome_of expanded)) ≡ legal p.net p.commands) }
-    ensures refused { IfErr result (λ e. IsRefusedBy (compiled_outcome (Ok (outcome_of expanded))) e) }
-    ensures closed { IfOk result (λ p. IsTrue (is_closed p.net)) }
-    ensures checked { IfOk result (λ p. node_fault p.net ≡ None) }
-    ensures walkable { IfOk result (λ p. walk_fault p.net ≡ None) }
-    ensures walks { IfOk result (λ p. AreWalksOf p.net p.walks) }
-    ensures known { IfOk result (λ p. IsTrue (list_all (names_within (length p.net)) p.commands)) }
+    ensures legal { IfOk result (λ p.
+        compiled_outcome (Ok (outcome_of expanded)) ≡ legal p.net p.commands) }
+    ensures refused { IfErr result (λ e.
+        IsRefusedBy (compiled_outcome (Ok (outcome_of expanded))) e) }
 {
     let Expanded { net, commands } = expanded;
     if let Err(fault) = net.check_nodes(alloc) {
