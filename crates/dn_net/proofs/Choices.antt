@@ -6,12 +6,13 @@ use Rattle.dn_net.specs.declared.node.Entry.{Entry}
 use Rattle.dn_net.specs.declared.node.Name.{Name}
 use Rattle.dn_net.specs.declared.node.NodeDecl.{NodeDecl}
 use Rattle.dn_net.specs.Chain.{Member, Chain}
-use Rattle.dn_net.specs.Decode.{top, within, in_some_block, by_over, mapped, moved, decoded, Step}
+use Rattle.dn_net.specs.Decode.{top, within, in_some_block, by_over, by_entries, sent, sent_names, moved, Step}
 use Rattle.dn_net.specs.Rules.{KeepsRules}
 use Rattle.dn_net.specs.Walks.{Choice, mapped_by, over_gap, in_some_entry, is_free, IsGap, Leads, Follows, moved_name}
 use Rattle.dn_net.specs.WalkRules.{ChainIsWalk}
 use Rattle.dn_net.proofs.Least.{within_from, within_to}
 use Rattle.dn_net.proofs.Apart.{IsApart, node_apart}
+use Rattle.dn_net.proofs.Latest.{sent_by}
 use Rattle.dn_net.proofs.Members.{some_same}
 
 -- a free address lies in a gap: its end below
@@ -105,16 +106,20 @@ record ByOver (a : ℕ) (over : Option ℕ) (es : List Entry) (y : Name) : Type 
   none : in_some_entry a es ≡ false
   to : ◌≡◌ {A = Name} (record { node = node; addr = a }) y
 
-by_mapped : (a : ℕ) (over : Option ℕ) (es : List Entry) (y : Name) → Member y (mapped a over es) → ByEntry a es y ⊎ ByOver a over es y
+-- by `over` it goes to the same address
+over_moved : (a m : ℕ) → ◌≡◌ {A = Name} (moved a (record { node = m; addr = 0 })) (record { node = m; addr = a })
+over_moved a m = let e : 0 + a ≡ a = omega arith in λ i. record { node = m; addr = e i }
+
+by_mapped : (a : ℕ) (over : Option ℕ) (es : List Entry) (y : Name) → Member y (sent_names (by_entries a over es)) → ByEntry a es y ⊎ ByOver a over es y
 by_mapped a over [] y m = go over m
   where
-    go : (v : Option ℕ) → Member y (by_over a v) → ByEntry a [] y ⊎ ByOver a v [] y
+    go : (v : Option ℕ) → Member y (sent_names (by_over a v)) → ByEntry a [] y ⊎ ByOver a v [] y
     go None m = elim m [ ]
     go (Some n) (inr m) = elim m [ ]
-    go (Some n) (inl e) = inr (record { node = n; is_over = refl; none = refl; to = e })
+    go (Some n) (inl e) = inr (record { node = n; is_over = refl; none = refl; to = (sym (over_moved a n) ∙ e) })
 by_mapped a over (e ∷ es) y m = go (by_mapped a over es y) (within a e.block) refl m
   where
-    go : (Member y (mapped a over es) → ByEntry a es y ⊎ ByOver a over es y) → (b : Bool) → within a e.block ≡ b → Member y (if b then map (moved (a - e.block.lo)) e.dests else mapped a over es) → ByEntry a (e ∷ es) y ⊎ ByOver a over (e ∷ es) y
+    go : (Member y (sent_names (by_entries a over es)) → ByEntry a es y ⊎ ByOver a over es y) → (b : Bool) → within a e.block ≡ b → Member y (sent_names (if b then sent_by a e else by_entries a over es)) → ByEntry a (e ∷ es) y ⊎ ByOver a over (e ∷ es) y
     go ih true eb m =
         let r = member_moved y (a - e.block.lo) e.dests m in
         inl (record { entry = 0; dest = r.0; e = e; d = r.1; is_entry = refl; is_dest = r.2; inside = eb; to = r.3 })
@@ -133,7 +138,7 @@ pub record ChosenBy (o : Option NodeDecl) (a : ℕ) (y : Name) : Type 0 where
   pub to : moved_name (a - block.lo) name ≡ y
 
 -- a step is a choice that the address follows
-pub choice_of_step : (o : Option NodeDecl) (a : ℕ) (y : Name) → Member y (decoded a o) → ChosenBy o a y
+pub choice_of_step : (o : Option NodeDecl) (a : ℕ) (y : Name) → Member y (sent_names (sent a o)) → ChosenBy o a y
 choice_of_step None a y m = elim m [ ]
 choice_of_step (Some n) a y m = tests (nat_le a top) (in_some_block a n.accepts) refl refl m
   where
@@ -154,7 +159,7 @@ choice_of_step (Some n) a y m = tests (nat_le a top) (in_some_block a n.accepts)
           to = (ap (λ c. record { node = r.node; addr = c }) e ∙ r.to);
         }
 
-    tests : (b c : Bool) → nat_le a top ≡ b → in_some_block a n.accepts ≡ c → Member y (if b then (if c then [] else mapped a n.over n.entries) else []) → ChosenBy (Some n) a y
+    tests : (b c : Bool) → nat_le a top ≡ b → in_some_block a n.accepts ≡ c → Member y (sent_names (if b then (if c then None else by_entries a n.over n.entries) else None)) → ChosenBy (Some n) a y
     tests false c eb ec m = elim m [ ]
     tests true true eb ec m = elim m [ ]
     tests true false eb ec m = elim (by_mapped a n.over n.entries y m) [
@@ -176,27 +181,27 @@ moved_member k (x ∷ ds) zero d e = inl (ap (moved k) (some_same x d e))
 moved_member k (x ∷ ds) (suc j) d e = inr (moved_member k ds j d e)
 
 -- the entry that has an address is the one that maps it, where no two do
-by_entry : (a : ℕ) (over : Option ℕ) (es : List Entry) (i j : ℕ) (e : Entry) (d : Dest) → ((p q : ℕ) (f g : Entry) → slice_get es p ≡ Some f → slice_get es q ≡ Some g → IsTrue (within a f.block) → IsTrue (within a g.block) → p ≡ q) → slice_get es i ≡ Some e → slice_get e.dests j ≡ Some d → IsTrue (within a e.block) → Member (moved (a - e.block.lo) d) (mapped a over es)
+by_entry : (a : ℕ) (over : Option ℕ) (es : List Entry) (i j : ℕ) (e : Entry) (d : Dest) → ((p q : ℕ) (f g : Entry) → slice_get es p ≡ Some f → slice_get es q ≡ Some g → IsTrue (within a f.block) → IsTrue (within a g.block) → p ≡ q) → slice_get es i ≡ Some e → slice_get e.dests j ≡ Some d → IsTrue (within a e.block) → Member (moved (a - e.block.lo) d) (sent_names (by_entries a over es))
 by_entry a over [] i j e d apart ei ed w = cc
 by_entry a over (f ∷ es) zero j e d apart ei ed w =
     let s : f ≡ e = some_same f e ei in
     let m : Member (moved (a - e.block.lo) d) (map (moved (a - e.block.lo)) e.dests) = moved_member (a - e.block.lo) e.dests j d ed in
     let w' : within a f.block ≡ true = ap (λ t. within a t.block) s ∙ w in
-    subst (λ b. Member (moved (a - e.block.lo) d) (if b then map (moved (a - f.block.lo)) f.dests else mapped a over es)) (sym w') (subst (λ t. Member (moved (a - e.block.lo) d) (map (moved (a - t.block.lo)) t.dests)) (sym s) m)
+    subst (λ b. Member (moved (a - e.block.lo) d) (sent_names (if b then sent_by a f else by_entries a over es))) (sym w') (subst (λ t. Member (moved (a - e.block.lo) d) (map (moved (a - t.block.lo)) t.dests)) (sym s) m)
 by_entry a over (f ∷ es) (suc i) j e d apart ei ed w = go (by_entry a over es i j e d (λ p q g k x y u v. suc_same p q (apart (suc p) (suc q) g k x y u v)) ei ed w) (within a f.block) refl
   where
     suc_same : (p q : ℕ) → suc p ≡ suc q → p ≡ q
     suc_same p q e = omega arith
 
-    go : Member (moved (a - e.block.lo) d) (mapped a over es) → (b : Bool) → within a f.block ≡ b → Member (moved (a - e.block.lo) d) (if b then map (moved (a - f.block.lo)) f.dests else mapped a over es)
+    go : Member (moved (a - e.block.lo) d) (sent_names (by_entries a over es)) → (b : Bool) → within a f.block ≡ b → Member (moved (a - e.block.lo) d) (sent_names (if b then sent_by a f else by_entries a over es))
     go m false eb = m
     go m true eb = (let z : 0 ≡ suc i = apart 0 (suc i) f e refl ei eb w in absurd (omega arith))
 
-no_entry : (a : ℕ) (m : ℕ) (es : List Entry) → in_some_entry a es ≡ false → mapped a (Some m) es ≡ record { node = m; addr = a } ∷ []
-no_entry a m [] e = refl
+no_entry : (a : ℕ) (m : ℕ) (es : List Entry) → in_some_entry a es ≡ false → sent_names (by_entries a (Some m) es) ≡ record { node = m; addr = a } ∷ []
+no_entry a m [] e = ap (λ (x : Name). x ∷ []) (over_moved a m)
 no_entry a m (f ∷ es) e = go (no_entry a m es) (within a f.block) e
   where
-    go : (in_some_entry a es ≡ false → mapped a (Some m) es ≡ record { node = m; addr = a } ∷ []) → (b : Bool) → (b || in_some_entry a es) ≡ false → (if b then map (moved (a - f.block.lo)) f.dests else mapped a (Some m) es) ≡ record { node = m; addr = a } ∷ []
+    go : (in_some_entry a es ≡ false → sent_names (by_entries a (Some m) es) ≡ record { node = m; addr = a } ∷ []) → (b : Bool) → (b || in_some_entry a es) ≡ false → sent_names (if b then sent_by a f else by_entries a (Some m) es) ≡ record { node = m; addr = a } ∷ []
     go ih true x = cc
     go ih false x = ih x
 
@@ -210,7 +215,7 @@ free_parts n a f = by (in_some_block a n.accepts) (in_some_entry a n.entries) f
     by true q x = cc
 
 -- a choice that an address follows is a step, in a node whose blocks are apart
-step_of_choice : (o : Option NodeDecl) → ((n : NodeDecl) → o ≡ Some n → IsApart n) → (a : ℕ) (c : Choice) (b : Block) (d : Name) → Leads o c b d → IsTrue (within a b) → Member (moved_name (a - b.lo) d) (decoded a o)
+step_of_choice : (o : Option NodeDecl) → ((n : NodeDecl) → o ≡ Some n → IsApart n) → (a : ℕ) (c : Choice) (b : Block) (d : Name) → Leads o c b d → IsTrue (within a b) → Member (moved_name (a - b.lo) d) (sent_names (sent a o))
 step_of_choice None apart a c b d e w = absurd e
 step_of_choice (Some n) apart a c b d e w = by c e
   where
@@ -220,10 +225,10 @@ step_of_choice (Some n) apart a c b d e w = by c e
     parts : (b.lo ≤ a) × (a ≤ b.hi)
     parts = within_to a b w
 
-    decodes : nat_le a top ≡ true → in_some_block a n.accepts ≡ false → Member y (mapped a n.over n.entries) → Member y (decoded a (Some n))
-    decodes low acc m = subst (λ p. Member y (if p then (if in_some_block a n.accepts then [] else mapped a n.over n.entries) else [])) (sym low) (subst (λ p. Member y (if p then [] else mapped a n.over n.entries)) (sym acc) m)
+    decodes : nat_le a top ≡ true → in_some_block a n.accepts ≡ false → Member y (sent_names (by_entries a n.over n.entries)) → Member y (sent_names (sent a (Some n)))
+    decodes low acc m = subst (λ p. Member y (sent_names (if p then (if in_some_block a n.accepts then None else by_entries a n.over n.entries) else None))) (sym low) (subst (λ p. Member y (sent_names (if p then None else by_entries a n.over n.entries))) (sym acc) m)
 
-    by : (c : Choice) → Leads (Some n) c b d → Member y (decoded a (Some n))
+    by : (c : Choice) → Leads (Some n) c b d → Member y (sent_names (sent a (Some n)))
     by (mapped_by i j) e =
         let r = apart n refl in
         let hi : a ≤ b.hi = parts.1 in
@@ -233,8 +238,8 @@ step_of_choice (Some n) apart a c b d e w = by c e
         let we : IsTrue (within a e.0.block) = subst (λ t. IsTrue (within a t)) e.4 w in
         let acc : in_some_block a n.accepts ≡ false = r.accept_apart i a e.0 e.2 we in
         let m = by_entry a n.over n.entries i j e.0 e.1 (λ p q f g s t u v. r.map_apart p q a f g s t u v) e.2 e.3 we in
-        let m1 : Member (moved_name (a - e.0.block.lo) d) (mapped a n.over n.entries) = subst (λ z. Member (moved_name (a - e.0.block.lo) z) (mapped a n.over n.entries)) (sym e.5) m in
-        decodes low acc (subst (λ t. Member (moved_name (a - t.lo) d) (mapped a n.over n.entries)) (sym e.4) m1)
+        let m1 : Member (moved_name (a - e.0.block.lo) d) (sent_names (by_entries a n.over n.entries)) = subst (λ z. Member (moved_name (a - e.0.block.lo) z) (sent_names (by_entries a n.over n.entries))) (sym e.5) m in
+        decodes low acc (subst (λ t. Member (moved_name (a - t.lo) d) (sent_names (by_entries a n.over n.entries))) (sym e.4) m1)
     by (over_gap lo hi) e =
         let g : IsGap n lo hi = e.2 in
         let bl : b.lo ≡ lo = ap (λ t. t.lo) e.3 in
@@ -248,7 +253,7 @@ step_of_choice (Some n) apart a c b d e w = by c e
         let da : d.addr ≡ lo = ap (λ t. t.addr) e.4 in
         let s : d.addr + (a - b.lo) ≡ a = omega arith in
         let yz : record { node = e.0; addr = a } ≡ y = ap (λ t. record { node = t; addr = a }) (sym dn) ∙ ap (λ t. record { node = d.node; addr = t }) (sym s) in
-        decodes low f.0 (subst (λ o. Member y (mapped a o n.entries)) (sym e.1) (subst (λ l. Member y l) (sym (no_entry a e.0 n.entries f.1)) (inl yz)))
+        decodes low f.0 (subst (λ o. Member y (sent_names (by_entries a o n.entries))) (sym e.1) (subst (λ l. Member y l) (sym (no_entry a e.0 n.entries f.1)) (inl yz)))
 
 -- a name that follows choices makes as many steps
 pub chain_of_choices : (net : List NodeDecl) → All KeepsRules net → (cs : List Choice) (x y : Name) → Follows net x cs y → Chain (Step net) (length cs) x y

@@ -116,7 +116,7 @@ member_any y (x ∷ xs) (inr m) = true_right (name_eq y x) (list_any (name_eq y)
 -- `comes_to` is true exactly where there is a chain
 pub comes_to_is_chain : (net : List NodeDecl) (k : ℕ) (x y : Name) → (comes_to net y k x ≡ true) ↔ Chain (Step net) k x y
 comes_to_is_chain net k x y =
-    let a = after_steps_is_chain net k x y in
+    let a = after_steps_is_chain (steps net) k x y in
     ((λ h. a.0 (any_member y (after_steps (steps net) k (x ∷ [])) h)), (λ c. member_any y (after_steps (steps net) k (x ∷ [])) (a.1 c)))
 
 -- `goes_on` is true exactly where there is a chain to some name
@@ -130,8 +130,8 @@ pub goes_on_is_chain : (net : List NodeDecl) (k : ℕ) (x : Name) → (goes_on n
 goes_on_is_chain net k x = by (after_steps (steps net) k (x ∷ [])) refl
   where
     by : (l : List Name) → after_steps (steps net) k (x ∷ []) ≡ l → (goes_on net k x ≡ true) ↔ ((y : Name) × Chain (Step net) k x y)
-    by [] e = ((λ h. let f : true ≡ false = sym h ∙ goes_nowhere net k x e in cc), (λ c. absurd (subst (λ l. Member c.0 l) e ((after_steps_is_chain net k x c.0).1 c.1))))
-    by (y ∷ ys) e = ((λ h. (y, (after_steps_is_chain net k x y).0 (subst (λ l. Member y l) (sym e) (inl refl)))), (λ c. goes_somewhere net k x y ys e))
+    by [] e = ((λ h. let f : true ≡ false = sym h ∙ goes_nowhere net k x e in cc), (λ c. absurd (subst (λ l. Member c.0 l) e ((after_steps_is_chain (steps net) k x c.0).1 c.1))))
+    by (y ∷ ys) e = ((λ h. (y, (after_steps_is_chain (steps net) k x y).0 (subst (λ l. Member y l) (sym e) (inl refl)))), (λ c. goes_somewhere net k x y ys e))
 
 -- `comes_to` is true exactly where a walk of the level leads from the one name to the other
 pub comes_to_is_row : (net : List NodeDecl) → KeepsNodeRules net → (k : ℕ) (x y : Name) → x.node < length net → x.addr ≤ top → (comes_to net y k x ≡ true) ↔ ((w : Walk) × IsLed net k x y w)

@@ -1,5 +1,5 @@
 -- The first rule that a node breaks, from what its parts say.
-use Rattle.std.proofs.Common.{◌≡◌, ℕ, zero, suc, ◌+◌, ◌<◌, ◌≤◌, Bool, true, false, ◌&&◌, ◌||◌, not, nat_le, List, [], ◌∷◌, Option, Some, None, option_map, is_some, IsSome, refl, sym, ap, ◌∙◌, subst, arith, IsTrue, length, slice_get, drop, if◌then◌else◌}
+use Rattle.std.proofs.Common.{◌≡◌, ℕ, zero, suc, ◌+◌, ◌<◌, ◌≤◌, Bool, true, false, ◌&&◌, ◌||◌, not, nat_le, List, [], ◌∷◌, Option, Some, None, option_map, is_some, IsSome, IfSome, refl, sym, ap, ◌∙◌, subst, arith, IsTrue, length, slice_get, drop, if◌then◌else◌}
 use Rattle.std.specs.List.{list_all, list_any}
 use Rattle.std.specs.List.Sorted.{IsPermutation}
 use Rattle.dn_net.specs.declared.node.Block.{Block}
@@ -8,11 +8,9 @@ use Rattle.dn_net.specs.declared.node.Role.{Role}
 use Rattle.dn_net.specs.declared.node.Unit.{Unit as UnitPart}
 use Rattle.dn_net.specs.declared.node.NodeDecl.{NodeDecl}
 use Rattle.dn_net.specs.declared.spans.Span.{Span}
-use Rattle.dn_net.specs.declared.rules.NodeFault.{NodeFault}
-use Rattle.dn_net.specs.declared.rules.NodeFault.TheVariants.{Range, Overlap, Repeat, VectorSpace}
 use Rattle.dn_net.specs.Decode.{top}
 use Rattle.dn_net.specs.Spans.{node_spans, overlaps_in, is_accepted_in}
-use Rattle.dn_net.specs.Rules.{is_in_range, block_in_range, entry_in_range, dests_repeat, unit_repeats, is_vectors, count_below, overlaps, least_overlap, repeats, passes_vector_space, later_fault, fault_of_node, first_fault, node_fault_from}
+use Rattle.dn_net.specs.Rules.{BrokenNode, out_of_range, overlapping, repeating, past_space, is_in_range, block_in_range, entry_in_range, dests_repeat, unit_repeats, is_vectors, count_below, overlaps, least_overlap, repeats, passes_vector_space, later_fault, fault_of_node, first_fault, node_fault_from}
 use Rattle.dn_net.proofs.Least.{least_overlap_is_least}
 use Rattle.dn_net.proofs.Blocks.{spans_overlap, spans_count}
 
@@ -60,16 +58,16 @@ module _ (d : NodeDecl) (accepts : List Block) (entries : List Entry) (acc : d.a
     pub space_is : (b : Bool) (role : Role) (over : Option ℕ) → d.role ≡ role → d.over ≡ over → (not (is_vectors role) || ((nat_le (length entries) 0 && not (is_some over)) && nat_le (count_below (is_accepted_in spans) (top + 1)) 4096)) ≡ b → passes_vector_space d ≡ b
     space_is b role over r o h = (λ i. not (is_vectors (r i)) || ((nat_le (length (ent i)) 0 && not (is_some (o i))) && nat_le (sym (spans_count d spans of_node) i) 4096)) ∙ h
 
-pub fault_range : (number : ℕ) (d : NodeDecl) → is_in_range d ≡ false → fault_of_node number d ≡ Some (Range number)
+pub fault_range : (number : ℕ) (d : NodeDecl) → is_in_range d ≡ false → fault_of_node number d ≡ Some (out_of_range number)
 fault_range number d range = rw range refl
 
-pub fault_overlap : (number : ℕ) (d : NodeDecl) (x : ℕ) → is_in_range d ≡ true → least_overlap d ≡ Some x → fault_of_node number d ≡ Some (Overlap number x)
+pub fault_overlap : (number : ℕ) (d : NodeDecl) (x : ℕ) → is_in_range d ≡ true → least_overlap d ≡ Some x → fault_of_node number d ≡ Some (overlapping number x)
 fault_overlap number d x range least = rw (range, least) refl
 
-pub fault_repeat : (number : ℕ) (d : NodeDecl) → is_in_range d ≡ true → least_overlap d ≡ None → repeats d ≡ true → fault_of_node number d ≡ Some (Repeat number)
+pub fault_repeat : (number : ℕ) (d : NodeDecl) → is_in_range d ≡ true → least_overlap d ≡ None → repeats d ≡ true → fault_of_node number d ≡ Some (repeating number)
 fault_repeat number d range least again = rw (range, least, again) refl
 
-pub fault_space : (number : ℕ) (d : NodeDecl) → is_in_range d ≡ true → least_overlap d ≡ None → repeats d ≡ false → passes_vector_space d ≡ false → fault_of_node number d ≡ Some (VectorSpace number)
+pub fault_space : (number : ℕ) (d : NodeDecl) → is_in_range d ≡ true → least_overlap d ≡ None → repeats d ≡ false → passes_vector_space d ≡ false → fault_of_node number d ≡ Some (past_space number)
 fault_space number d range least again space = rw (range, least, again, space) refl
 
 pub no_fault : (number : ℕ) (d : NodeDecl) → is_in_range d ≡ true → least_overlap d ≡ None → repeats d ≡ false → passes_vector_space d ≡ true → fault_of_node number d ≡ None
@@ -93,30 +91,13 @@ fault_from number net d at =
     let f = subst (λ n. drop number net ≡ d ∷ drop n net) e (drop_there net number d at) in
     ap (λ l. node_fault_from number l) f
 
-pub fault_here : (number : ℕ) (net : List NodeDecl) (e : NodeFault) → number < length net → ((d : NodeDecl) → slice_get net number ≡ Some d → fault_of_node number d ≡ Some e) → node_fault_from number (drop number net) ≡ Some e
-fault_here number net e h broken =
+pub fault_here : (number : ℕ) (net : List NodeDecl) (whole : Option BrokenNode) (o : Option BrokenNode) → whole ≡ node_fault_from number (drop number net) → number < length net → ((d : NodeDecl) → slice_get net number ≡ Some d → IfSome o (λ f. fault_of_node number d ≡ Some f)) → IfSome o (λ f. whole ≡ Some f)
+fault_here number net whole None same h broken = tt
+fault_here number net whole (Some e) same h broken =
     let d = node_there net number h in
-    fault_from number net d.0 d.1 ∙ ap (λ f. first_fault f (node_fault_from (number + 1) (drop (number + 1) net))) (broken d.0 d.1)
+    same ∙ fault_from number net d.0 d.1 ∙ ap (λ f. first_fault f (node_fault_from (number + 1) (drop (number + 1) net))) (broken d.0 d.1)
 
 pub fault_later : (number : ℕ) (net : List NodeDecl) → number < length net → ((d : NodeDecl) → slice_get net number ≡ Some d → fault_of_node number d ≡ None) → node_fault_from number (drop number net) ≡ node_fault_from (number + 1) (drop (number + 1) net)
 fault_later number net h kept =
     let d = node_there net number h in
     fault_from number net d.0 d.1 ∙ ap (λ f. first_fault f (node_fault_from (number + 1) (drop (number + 1) net))) (kept d.0 d.1)
-
--- a net that breaks no rule is in range
-fault_free : (number : ℕ) (d : NodeDecl) (rest : Option NodeFault) → first_fault (fault_of_node number d) rest ≡ None → IsTrue (is_in_range d) × (rest ≡ None)
-fault_free number d rest h = by (is_in_range d) refl h
-  where
-    passed : (o : Option NodeFault) → first_fault o rest ≡ None → rest ≡ None
-    passed None h = h
-    passed (Some f) h = cc
-
-    by : (b : Bool) → is_in_range d ≡ b → first_fault (if b then later_fault number d (least_overlap d) else Some (Range number)) rest ≡ None → IsTrue (is_in_range d) × (rest ≡ None)
-    by true e h = (e, passed _ h)
-    by false e h = cc
-
-pub all_in_range : (number : ℕ) (net : List NodeDecl) → node_fault_from number net ≡ None → IsTrue (list_all is_in_range net)
-all_in_range number [] h = refl
-all_in_range number (d ∷ net) h =
-    let f = fault_free number d (node_fault_from (number + 1) net) h in
-    rw (f.0, all_in_range (number + 1) net f.1) refl

@@ -4,9 +4,7 @@ use Rattle.std.proofs.lemmas.Bool.{cases_lt, lt-ltb}
 use Rattle.std.proofs.lemmas.Option.{get_or_from_slice_get, slice_get_within, slice_get-get_or}
 use Rattle.dn_net.specs.declared.node.Entry.{Entry}
 use Rattle.dn_net.specs.declared.node.NodeDecl.{NodeDecl}
-use Rattle.dn_net.specs.declared.rules.NodeFault.{NodeFault}
-use Rattle.dn_net.specs.declared.rules.NodeFault.TheVariants.{Range, Repeat, VectorSpace}
-use Rattle.dn_net.specs.Rules.{is_in_range, overlaps, map_blocks_at, least_overlap, repeats, passes_vector_space, later_fault, fault_of_node, first_fault, node_fault_from, node_fault, KeepsRules}
+use Rattle.dn_net.specs.Rules.{BrokenNode, out_of_range, repeating, past_space, is_in_range, overlaps, map_blocks_at, least_overlap, repeats, passes_vector_space, later_fault, fault_of_node, first_fault, node_fault_from, node_fault, KeepsRules}
 use Rattle.dn_net.proofs.Faults.{least_is_none, no_fault}
 use Rattle.dn_net.proofs.Least.{least_overlap_is_least, maps_at, true_left}
 
@@ -44,11 +42,11 @@ none_overlaps d none a = by (overlaps d a) refl
 node_kept : (number : ℕ) (d : NodeDecl) → fault_of_node number d ≡ None → KeepsRules d
 node_kept number d h = in_range (is_in_range d) refl h
   where
-    space : is_in_range d ≡ true → least_overlap d ≡ None → repeats d ≡ false → (b : Bool) → passes_vector_space d ≡ b → (if b then None else Some (VectorSpace number)) ≡ None → KeepsRules d
+    space : is_in_range d ≡ true → least_overlap d ≡ None → repeats d ≡ false → (b : Bool) → passes_vector_space d ≡ b → (if b then None else Some (past_space number)) ≡ None → KeepsRules d
     space r o t true e h = record { in_range = r; apart = none_overlaps d o; once = t; space = e }
     space r o t false e h = cc
 
-    once : is_in_range d ≡ true → least_overlap d ≡ None → (b : Bool) → repeats d ≡ b → (if b then Some (Repeat number) else (if passes_vector_space d then None else Some (VectorSpace number))) ≡ None → KeepsRules d
+    once : is_in_range d ≡ true → least_overlap d ≡ None → (b : Bool) → repeats d ≡ b → (if b then Some (repeating number) else (if passes_vector_space d then None else Some (past_space number))) ≡ None → KeepsRules d
     once r o true e h = cc
     once r o false e h = space r o e (passes_vector_space d) refl h
 
@@ -56,11 +54,11 @@ node_kept number d h = in_range (is_in_range d) refl h
     apart r None e h = once r e (repeats d) refl h
     apart r (Some a) e h = cc
 
-    in_range : (b : Bool) → is_in_range d ≡ b → (if b then later_fault number d (least_overlap d) else Some (Range number)) ≡ None → KeepsRules d
+    in_range : (b : Bool) → is_in_range d ≡ b → (if b then later_fault number d (least_overlap d) else Some (out_of_range number)) ≡ None → KeepsRules d
     in_range true e h = apart e (least_overlap d) refl h
     in_range false e h = cc
 
-first_none : (f g : Option NodeFault) → first_fault f g ≡ None → (f ≡ None) × (g ≡ None)
+first_none : (f g : Option BrokenNode) → first_fault f g ≡ None → (f ≡ None) × (g ≡ None)
 first_none None g h = (refl, h)
 first_none (Some f) g h = cc
 

@@ -8,7 +8,7 @@ use Rattle.std.specs.List.Sorted.{IsPermutation}
 use Rattle.dn_net.specs.declared.node.Dest.{Dest}
 use Rattle.dn_net.specs.declared.node.Entry.{Entry}
 use Rattle.dn_net.specs.declared.entries.Place.{Place}
-use Rattle.dn_net.specs.Decode.{top, within, mapped, moved, by_over, sent, sent_over}
+use Rattle.dn_net.specs.Decode.{top, within, Sent, by_over, by_entries}
 use Rattle.dn_net.specs.Rules.{block_in_range, entry_in_range, dest_in_range}
 use Rattle.dn_net.specs.Order.{places_from}
 use Rattle.dn_net.proofs.Least.{maps_at, maps_at-cons, both_true, true_both}
@@ -71,22 +71,26 @@ only_one a (x ∷ es) (suc i) (suc j) e f one at there v w =
     let c = maps_at-cons x es a in
     ap suc (only_one a es i j e f (omega (arith, c, one)) at there v w)
 
+-- an address of an entry's block goes on by that entry
+abbrev pub sent_by : ℕ → Entry → Option Sent
+sent_by a e = Some (record { dests = e.dests; offset = a - e.block.lo })
+
 -- the entry that has the address is the first that has it
-pub mapped_by : (a : ℕ) (es : List Entry) (i : ℕ) (e : Entry) → maps_at es a ≤ 1 → slice_get es i ≡ Some e → within a e.block ≡ true → (over : Option ℕ) → (mapped a over es ≡ map (moved (a - e.block.lo)) e.dests) × (sent a over es ≡ Some (e.dests, a - e.block.lo))
-mapped_by a [] i e one at w over = cc
-mapped_by a (x ∷ es) zero e one at w over =
+pub found_by : (a : ℕ) (es : List Entry) (i : ℕ) (e : Entry) → maps_at es a ≤ 1 → slice_get es i ≡ Some e → within a e.block ≡ true → (over : Option ℕ) → by_entries a over es ≡ sent_by a e
+found_by a [] i e one at w over = cc
+found_by a (x ∷ es) zero e one at w over =
     let s : x ≡ e = cc in
-    subst (λ (y : Entry). (mapped a over (y ∷ es) ≡ map (moved (a - e.block.lo)) e.dests) × (sent a over (y ∷ es) ≡ Some (e.dests, a - e.block.lo))) (sym s) (rw w (refl, refl))
-mapped_by a (x ∷ es) (suc i) e one at w over = by (within a x.block) refl (mapped_by a es i e (let c = maps_at-cons x es a in omega (arith, c, one)) at w over)
+    subst (λ (y : Entry). by_entries a over (y ∷ es) ≡ sent_by a e) (sym s) (rw w refl)
+found_by a (x ∷ es) (suc i) e one at w over = by (within a x.block) refl (found_by a es i e (let c = maps_at-cons x es a in omega (arith, c, one)) at w over)
   where
-    by : (b : Bool) → within a x.block ≡ b → (mapped a over es ≡ map (moved (a - e.block.lo)) e.dests) × (sent a over es ≡ Some (e.dests, a - e.block.lo)) → ((if b then map (moved (a - x.block.lo)) x.dests else mapped a over es) ≡ map (moved (a - e.block.lo)) e.dests) × (◌≡◌ {A = Option (List Dest × ℕ)} (if b then Some (x.dests, a - x.block.lo) else sent a over es) (Some (e.dests, a - e.block.lo)))
+    by : (b : Bool) → within a x.block ≡ b → by_entries a over es ≡ sent_by a e → ◌≡◌ {A = Option Sent} (if b then sent_by a x else by_entries a over es) (sent_by a e)
     by true v more = let z : 0 ≡ suc i = only_one a (x ∷ es) 0 (suc i) x e one refl at v w in absurd (omega (arith, z))
     by false v more = more
 
 -- no entry has the address
-pub not_mapped : (a : ℕ) (es : List Entry) → ((i : ℕ) (e : Entry) → slice_get es i ≡ Some e → within a e.block ≡ false) → (over : Option ℕ) → (mapped a over es ≡ by_over a over) × (sent a over es ≡ sent_over a over)
-not_mapped a [] none over = (refl, refl)
-not_mapped a (x ∷ es) none over = rw (none 0 x refl) (not_mapped a es (λ i e at. none (suc i) e at) over)
+pub not_found : (a : ℕ) (es : List Entry) → ((i : ℕ) (e : Entry) → slice_get es i ≡ Some e → within a e.block ≡ false) → (over : Option ℕ) → by_entries a over es ≡ by_over a over
+not_found a [] none over = refl
+not_found a (x ∷ es) none over = rw (none 0 x refl) (not_found a es (λ i e at. none (suc i) e at) over)
 
 -- the places of the entries in the order of their first addresses
 module _ (es : List Entry) (order : List Place) (every : IsPermutation (places_from 0 es) order) where

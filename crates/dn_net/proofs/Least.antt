@@ -8,7 +8,7 @@ use Rattle.dn_net.specs.declared.node.NodeDecl.{NodeDecl}
 use Rattle.dn_net.specs.Chain.{Member}
 use Rattle.dn_net.specs.Decode.{within, in_some_block}
 use Rattle.dn_net.specs.Rules.{map_blocks_at, overlaps, firsts, lesser, least, LeastOverlapIsLeast}
-use Rattle.dn_net.proofs.Resolution.{member_left, member_right}
+use Rattle.dn_base.proofs.Members.{member_left, member_right}
 
 pub either_true : (p q : Bool) → (p || q) ≡ true → (p ≡ true) ⊎ (q ≡ true)
 either_true true q e = inl refl

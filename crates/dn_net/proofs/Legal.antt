@@ -8,7 +8,7 @@ use Rattle.dn_net.specs.Decode.{step_limit, Step}
 use Rattle.dn_net.specs.Rules.{KeepsNodeRules}
 use Rattle.dn_net.specs.Walks.{live_walks}
 use Rattle.dn_net.specs.WalkRules.{Broken, is_wide, has_loop, is_deep, or_else, counted_length, shortest_cycle, cycle_names, path_names, cycle_or_path, endless_fault, walk_limit, walk_fault, Along, IsShortestCycle, IsLeastPath}
-use Rattle.dn_net.specs.Legal.{KeepsWalkRules, LegalBreaksNoRule}
+use Rattle.dn_net.specs.Legal.{AreLimits, KeepsWalkRules, LegalBreaksNoRule}
 use Rattle.dn_net.proofs.Chains.{chain_front, chain_round}
 use Rattle.dn_net.proofs.Endless.{is_wide_net, endless_fault_is, no_fault_is_shallow}
 use Rattle.dn_net.proofs.Firsts.{shortest_cycle_is_shortest}
@@ -72,3 +72,7 @@ legal_breaks_no_rule net is_net closed = (
   (λ h. let rules : KeepsNodeRules net = record { closed = closed; each = each_kept net h.0 } in record { is_net = is_net; nodes = rules; walks = walks_kept net rules h.1 }),
   (λ l. (none_broken net l.nodes.each, walks_unbroken net l.nodes l.walks)),
 )
+
+pub limits : AreLimits
+unfolding step_limit walk_limit
+limits = record { last_address = refl; nodes = refl; chain_steps = refl; live_walks = refl }

@@ -10,7 +10,7 @@ use Rattle.dn_net.specs.Chain.{Member}
 use Rattle.dn_net.specs.Decode.{top, refers_within, over_within, ports_within}
 use Rattle.dn_net.specs.Walks.{Choice, mapped_by, over_gap, IsGap, Leads, gaps, Leg, dest_legs, entry_legs, gap_legs, legs_of}
 use Rattle.dn_net.proofs.Places.{both, list_all-at}
-use Rattle.dn_net.proofs.Resolution.{member_left, member_right, member_split}
+use Rattle.dn_base.proofs.Members.{member_left, member_right, member_cases}
 use Rattle.dn_net.proofs.Apart.{IsApart}
 use Rattle.dn_net.proofs.Gaps.{gap_of_member, member_of_gap}
 use Rattle.dn_net.proofs.Members.{member_map, map_member, member_order, some_same}
@@ -47,7 +47,7 @@ pub record OfEntry (i : ℕ) (es : List Entry) (l : Leg) : Type 0 where
 
 pub member_entry_legs : (i : ℕ) (es : List Entry) (l : Leg) → Member l (entry_legs i es) → OfEntry i es l
 member_entry_legs i [] l m = absurd m
-member_entry_legs i (e ∷ es) l m = elim (member_split (dest_legs i 0 e.block e.dests) (entry_legs (suc i) es) l m) [
+member_entry_legs i (e ∷ es) l m = elim (member_cases (dest_legs i 0 e.block e.dests) (entry_legs (suc i) es) l m) [
   | inl n ↦ (let r = member_dest_legs i 0 e.block e.dests l n in let s : i + 0 ≡ i = omega arith in let t : r.0 ≡ 0 + r.0 = omega arith in record { entry = 0; dest = r.0; e = e; d = r.1; is_entry = refl; is_dest = r.2; leg = (ap (λ n. dest_leg n r.0 e.block r.1) s ∙ (ap (λ n. dest_leg i n e.block r.1) t ∙ r.3)) })
   | inr n ↦ (let r = member_entry_legs (suc i) es l n in let s : i + suc r.entry ≡ suc i + r.entry = omega arith in record { entry = suc r.entry; dest = r.dest; e = r.e; d = r.d; is_entry = r.is_entry; is_dest = r.is_dest; leg = (ap (λ n. dest_leg n r.dest r.e.block r.d) s ∙ r.leg) })
 ]
@@ -90,7 +90,7 @@ leads_of n apart l (inr m) =
 pub leads_of_leg : (o : Option NodeDecl) → ((n : NodeDecl) → o ≡ Some n → IsApart n) → (l : Leg) → Member l (legs_of o) → Leads o l.choice l.block l.to
 leads_of_leg None apart l m = absurd m
 leads_of_leg (Some n) apart l m =
-    leads_of n (apart n refl) l (member_split (entry_legs 0 n.entries) (gap_legs n.over (gaps n)) l ((member_order (λ l m. nat_lt l.block.lo m.block.lo) (entry_legs 0 n.entries ++ gap_legs n.over (gaps n)) l).0 m))
+    leads_of n (apart n refl) l (member_cases (entry_legs 0 n.entries) (gap_legs n.over (gaps n)) l ((member_order (λ l m. nat_lt l.block.lo m.block.lo) (entry_legs 0 n.entries ++ gap_legs n.over (gaps n)) l).0 m))
 
 -- each choice of a node has its leg
 leg_among : (n : NodeDecl) → IsApart n → (c : Choice) (b : Block) (d : Name) → Leads (Some n) c b d → Member (record { choice = c; block = b; to = d }) (entry_legs 0 n.entries ++ gap_legs n.over (gaps n))

@@ -5,7 +5,7 @@ use Rattle.dn_net.specs.declared.node.NodeDecl.{NodeDecl}
 use Rattle.dn_net.specs.Chain.{Member}
 use Rattle.dn_net.specs.Walks.{Choice, IsLive, Walk, in_order, starts_before, level, live_walks}
 use Rattle.dn_net.specs.WalkRules.{IsListed, LiveWalksAreAll}
-use Rattle.dn_net.proofs.Resolution.{member_left, member_right, member_split}
+use Rattle.dn_base.proofs.Members.{member_left, member_right, member_cases}
 use Rattle.dn_net.proofs.Choices.{chain_of_choices}
 use Rattle.dn_net.proofs.Cycles.{stepping_in_range}
 use Rattle.dn_net.proofs.Levels.{level_is_row, live_of_row, row_of_choices}
@@ -14,7 +14,7 @@ use Rattle.dn_net.proofs.Members.{member_order}
 -- a walk of the list is one of a level
 pub level_of_listed : (net : List NodeDecl) (k : ℕ) (w : Walk) → Member w (live_walks net k) → (j : ℕ) × (1 ≤ j) × (j ≤ k) × Member w (level net j)
 level_of_listed net zero w m = absurd m
-level_of_listed net (suc k) w m = elim (member_split (live_walks net k) (in_order starts_before (level net (suc k))) w m) [
+level_of_listed net (suc k) w m = elim (member_cases (live_walks net k) (in_order starts_before (level net (suc k))) w m) [
   | inl n ↦ (let r = level_of_listed net k w n in let l : r.0 ≤ k = r.2 in (r.0, r.1, (omega arith), r.3))
   | inr n ↦ (suc k, (omega arith), (omega arith), (member_order starts_before (level net (suc k)) w).0 n)
 ]

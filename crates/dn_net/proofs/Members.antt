@@ -3,7 +3,7 @@ use Rattle.std.proofs.Common.{◌≡◌, ◌⊎◌, ◌↔◌, inl, inr, Bool, t
 use Rattle.std.specs.List.{flat_map}
 use Rattle.dn_net.specs.Chain.{Member}
 use Rattle.dn_net.specs.Walks.{put_in, in_order}
-use Rattle.dn_net.proofs.Resolution.{member_left, member_right, member_split}
+use Rattle.dn_base.proofs.Members.{member_left, member_right, member_cases}
 
 -- what two options have is one
 pub some_same : {X : Type 0} (x y : X) → ◌≡◌ {A = Option X} (Some x) (Some y) → x ≡ y
@@ -40,7 +40,7 @@ filter_member p (z ∷ xs) x m h = by (filter_member p xs x) (p z) refl m
 
 pub member_flat_map : {X Y : Type 0} (f : X → List Y) (xs : List X) (y : Y) → Member y (flat_map f xs) → (x : X) × Member x xs × Member y (f x)
 member_flat_map f [] y m = absurd m
-member_flat_map f (x ∷ xs) y m = elim (member_split (f x) (flat_map f xs) y m) [
+member_flat_map f (x ∷ xs) y m = elim (member_cases (f x) (flat_map f xs) y m) [
   | inl n ↦ (x, inl refl, n)
   | inr n ↦ (let r = member_flat_map f xs y n in (r.0, inr r.1, r.2))
 ]

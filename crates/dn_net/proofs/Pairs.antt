@@ -5,7 +5,7 @@ use Rattle.std.specs.List.{flat_map}
 use Rattle.std.specs.List.Sorted.{IsNonDecreasingBy}
 use Rattle.dn_net.specs.Chain.{Member}
 use Rattle.dn_net.specs.Walks.{put_in, in_order}
-use Rattle.dn_net.proofs.Resolution.{member_split}
+use Rattle.dn_base.proofs.Members.{member_cases}
 use Rattle.dn_net.proofs.Members.{member_map, member_filter, member_flat_map, member_put, member_order, some_same}
 
 abbrev pub Pairwise : {X : Type 0} → (X → X → Type 0) → List X → Type 0
@@ -30,7 +30,7 @@ pairs_more R Q (x ∷ xs) f p = ((λ y m. f x y (inl refl) (inr m) (p.0 y m)), p
 
 pub pairs_append : {X : Type 0} (R : X → X → Type 0) (xs ys : List X) → Pairwise R xs → Pairwise R ys → ((x y : X) → Member x xs → Member y ys → R x y) → Pairwise R (xs ++ ys)
 pairs_append R [] ys p q f = q
-pairs_append R (x ∷ xs) ys p q f = ((λ y m. elim (member_split xs ys y m) [ inl n ↦ p.0 y n | inr n ↦ f x y (inl refl) n ]), pairs_append R xs ys p.1 q (λ y z m n. f y z (inr m) n))
+pairs_append R (x ∷ xs) ys p q f = ((λ y m. elim (member_cases xs ys y m) [ inl n ↦ p.0 y n | inr n ↦ f x y (inl refl) n ]), pairs_append R xs ys p.1 q (λ y z m n. f y z (inr m) n))
 
 pub pairs_map : {X Y : Type 0} (R : Y → Y → Type 0) (f : X → Y) (xs : List X) → Pairwise (λ x y. R (f x) (f y)) xs → Pairwise R (map f xs)
 pairs_map R f [] p = tt

@@ -1,24 +1,9 @@
 -- The lists of names have the names that the relations have.
 use Rattle.std.proofs.Common.{◌≡◌, ℕ, zero, suc, ◌≤◌, ◌⊎◌, ◌↔◌, inl, inr, Bool, true, false, if◌then◌else◌, ◌&&◌, ◌==◌, List, [], ◌∷◌, ◌++◌, refl, sym, ap, ◌∙◌, subst, arith, IsTrue, eqb-true}
+pub use Rattle.dn_base.proofs.Members.{member_left, member_right, member_cases}
 use Rattle.dn_net.specs.declared.node.Name.{Name}
-use Rattle.dn_net.specs.declared.node.NodeDecl.{NodeDecl}
-use Rattle.dn_net.specs.Chain.{Member, Chain, ReachesWithin}
-use Rattle.dn_net.specs.Decode.{is_accepted, steps, Step, step_limit, Resolves}
-use Rattle.dn_net.specs.Names.{name_lt, name_eq, with_name, sorted_names, passing, each_step, after_steps, reached, resolved}
-
-pub member_left : {X : Type 0} (a b : List X) (x : X) → Member x a → Member x (a ++ b)
-member_left [] b x m = absurd m
-member_left (y ∷ a) b x (inl e) = inl e
-member_left (y ∷ a) b x (inr m) = inr (member_left a b x m)
-
-pub member_right : {X : Type 0} (a b : List X) (x : X) → Member x b → Member x (a ++ b)
-member_right [] b x m = m
-member_right (y ∷ a) b x m = inr (member_right a b x m)
-
-pub member_split : {X : Type 0} (a b : List X) (x : X) → Member x (a ++ b) → Member x a ⊎ Member x b
-member_split [] b x m = inr m
-member_split (y ∷ a) b x (inl e) = inl (inl e)
-member_split (y ∷ a) b x (inr m) = elim (member_split a b x m) [ inl n ↦ inl (inr n) | inr n ↦ inr n ]
+use Rattle.dn_net.specs.Chain.{Member, Chain, ReachesWithin, Ends}
+use Rattle.dn_net.specs.Names.{name_lt, name_eq, with_name, sorted_names, passing, each_step, after_steps, reached, end_names}
 
 pub name_same : (x y : Name) → name_eq x y ≡ true → x ≡ y
 name_same x y e = go ((x.node == y.node)) ((x.addr == y.addr)) refl refl e
@@ -69,7 +54,7 @@ pub each_in : (f : Name → List Name) (xs : List Name) (z : Name) → Member z 
 each_in f [] z = ((λ m. absurd m), (λ m. absurd m.1))
 each_in f (x ∷ xs) z =
     let ih = each_in f xs z in
-    ((λ m. elim (member_split (f x) (each_step f xs) z m) [ inl n ↦ (x, inl refl, n) | inr n ↦ (let r = ih.0 n in (r.0, inr r.1, r.2)) ]), (λ m. elim m.1 [ inl s ↦ member_left (f x) (each_step f xs) z (subst (λ w. Member z (f w)) (sym s) m.2) | inr n ↦ member_right (f x) (each_step f xs) z (ih.1 (m.0, n, m.2)) ]))
+    ((λ m. elim (member_cases (f x) (each_step f xs) z m) [ inl n ↦ (x, inl refl, n) | inr n ↦ (let r = ih.0 n in (r.0, inr r.1, r.2)) ]), (λ m. elim m.1 [ inl s ↦ member_left (f x) (each_step f xs) z (subst (λ w. Member z (f w)) (sym s) m.2) | inr n ↦ member_right (f x) (each_step f xs) z (ih.1 (m.0, n, m.2)) ]))
 
 reached_in : (f : Name → List Name) (n : ℕ) (xs : List Name) (z : Name) → Member z (reached f n xs) ↔ ((x : Name) × Member x xs × ReachesWithin (λ a b. Member b (f a)) n x z)
 reached_in f zero xs z = ((λ m. (z, m, (0, (omega arith), refl))), (λ m. go m.0 m.1 m.2.0 m.2.1 m.2.2))
@@ -83,7 +68,7 @@ reached_in f (suc n) xs z = (down (reached_in f n (each_step f xs) z), up (reach
     S a b = Member b (f a)
 
     down : Member z (reached f n (each_step f xs)) ↔ ((x : Name) × Member x (each_step f xs) × ReachesWithin S n x z) → Member z (xs ++ reached f n (each_step f xs)) → (x : Name) × Member x xs × ReachesWithin S (suc n) x z
-    down ih m = elim (member_split xs (reached f n (each_step f xs)) z m) [
+    down ih m = elim (member_cases xs (reached f n (each_step f xs)) z m) [
       | inl k ↦ (z, k, (0, (omega arith), refl))
       | inr k ↦ (let r = ih.0 k in let p = (each_in f xs r.0).0 r.1 in let l : r.2.0 ≤ n = r.2.1 in (p.0, p.1, (suc r.2.0, (omega arith), (r.0, p.2, r.2.2))))
     ]
@@ -102,30 +87,27 @@ after_in f (suc n) xs z =
     let ih = after_in f n (each_step f xs) z in
     ((λ m. let r = ih.0 m in let p = (each_in f xs r.0).0 r.1 in (p.0, p.1, (r.0, p.2, r.2))), (λ m. ih.1 (m.2.0, (each_in f xs m.2.0).1 (m.0, m.1, m.2.1), m.2.2)))
 
-pub after_steps_is_chain : (net : List NodeDecl) (n : ℕ) (x y : Name) → Member y (after_steps (steps net) n (x ∷ [])) ↔ Chain (Step net) n x y
-after_steps_is_chain net n x y =
-    let a = after_in (steps net) n (x ∷ []) y in (
-      (λ m. let q = a.0 m in elim q.1 [ inl s ↦ subst (λ w. Chain (Step net) n w y) (sym s) q.2 | inr z ↦ absurd z ]),
+pub after_steps_is_chain : (f : Name → List Name) (n : ℕ) (x y : Name) → Member y (after_steps f n (x ∷ [])) ↔ Chain (λ a b. Member b (f a)) n x y
+after_steps_is_chain f n x y =
+    let a = after_in f n (x ∷ []) y in (
+      (λ m. let q = a.0 m in elim q.1 [ inl s ↦ subst (λ w. Chain (λ a b. Member b (f a)) n w y) (sym s) q.2 | inr z ↦ absurd z ]),
       (λ c. a.1 (x, inl refl, c)),
     )
 
-resolved_within : (net : List NodeDecl) (n : ℕ) (x y : Name) → Member y (sorted_names (passing (is_accepted net) (reached (steps net) n (x ∷ [])))) ↔ (IsTrue (is_accepted net y) × ReachesWithin (Step net) n x y)
-resolved_within net n x y =
-    let a = names_in (passing (is_accepted net) (reached (steps net) n (x ∷ []))) y in
-    let b = passing_in (is_accepted net) (reached (steps net) n (x ∷ [])) y in
-    let c = reached_in (steps net) n (x ∷ []) y in (
-      (λ m. let p = b.0 (a.0 m) in let q = c.0 p.1 in (p.0, elim q.1 [ inl s ↦ subst (λ w. ReachesWithin (Step net) n w y) (sym s) q.2 | inr z ↦ absurd z ])),
+-- the list has the names that pass and end a chain
+pub end_names_are_ends : (f : Name → List Name) (passes : Name → Bool) (n : ℕ) (x y : Name) → Member y (end_names f passes n x) ↔ Ends f passes n x y
+end_names_are_ends f passes n x y =
+    let a = names_in (passing passes (reached f n (x ∷ []))) y in
+    let b = passing_in passes (reached f n (x ∷ [])) y in
+    let c = reached_in f n (x ∷ []) y in (
+      (λ m. let p = b.0 (a.0 m) in let q = c.0 p.1 in (p.0, elim q.1 [ inl s ↦ subst (λ w. ReachesWithin (λ a b. Member b (f a)) n w y) (sym s) q.2 | inr z ↦ absurd z ])),
       (λ m. a.1 (b.1 (m.0, c.1 (x, inl refl, m.1)))),
     )
 
--- the list has the names that the relation has
-pub resolved_is_resolution : (net : List NodeDecl) (x y : Name) → Member y (resolved net x) ↔ Resolves net x y
-resolved_is_resolution net x y = resolved_within net step_limit x y
-
 -- the names that are reached in at most so many steps are the ends of the chains of at most that length
-pub reached_is_within : (net : List NodeDecl) (n : ℕ) (x y : Name) → Member y (reached (steps net) n (x ∷ [])) ↔ ReachesWithin (Step net) n x y
-reached_is_within net n x y =
-    let a = reached_in (steps net) n (x ∷ []) y in (
-      (λ m. let q = a.0 m in elim q.1 [ inl s ↦ subst (λ w. ReachesWithin (Step net) n w y) (sym s) q.2 | inr z ↦ absurd z ]),
+pub reached_is_within : (f : Name → List Name) (n : ℕ) (x y : Name) → Member y (reached f n (x ∷ [])) ↔ ReachesWithin (λ a b. Member b (f a)) n x y
+reached_is_within f n x y =
+    let a = reached_in f n (x ∷ []) y in (
+      (λ m. let q = a.0 m in elim q.1 [ inl s ↦ subst (λ w. ReachesWithin (λ a b. Member b (f a)) n w y) (sym s) q.2 | inr z ↦ absurd z ]),
       (λ c. a.1 (x, inl refl, c)),
     )

@@ -4,7 +4,7 @@ use Rattle.std.specs.List.{AllPairs, list_all}
 use Rattle.dn_net.specs.declared.node.Name.{Name}
 use Rattle.dn_net.specs.declared.node.NodeDecl.{NodeDecl}
 use Rattle.dn_net.specs.Chain.{Chain}
-use Rattle.dn_net.specs.Decode.{Step, step_limit, is_formed, is_closed}
+use Rattle.dn_net.specs.Decode.{top, Step, step_limit, is_formed, is_closed}
 use Rattle.dn_net.specs.Rules.{KeepsNodeRules, node_fault}
 use Rattle.dn_net.specs.Walks.{live_walks}
 use Rattle.dn_net.specs.WalkRules.{walk_limit, walk_fault}
@@ -34,3 +34,11 @@ pub record IsLegalNet (net : List NodeDecl) : Type 0 where
 abbrev pub LegalBreaksNoRule : Type 0
 LegalBreaksNoRule = (net : List NodeDecl) → IsNet net → IsTrue (is_closed net) →
     ((node_fault net ≡ None) × (walk_fault net ≡ None)) ↔ IsLegalNet net
+
+-- The limits in numbers: the last address is 2^56 - 1, a net has at most 1,024 nodes, a chain that resolution follows has at
+-- most 65 steps, so that a path has 66 names, and there are at most 1,048,576 live walks.
+pub record AreLimits : Type 0 where
+  pub last_address : top ≡ 72057594037927935
+  pub nodes : node_limit ≡ 1024
+  pub chain_steps : step_limit ≡ 65
+  pub live_walks : walk_limit ≡ 1048576

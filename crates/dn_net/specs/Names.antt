@@ -2,13 +2,14 @@
 use Rattle.std.specs.Prelude.{◌≡◌, ℕ, zero, suc, Bool, if◌then◌else◌, ◌&&◌, ◌||◌, nat_lt, ◌==◌, true, List, [], ◌∷◌, ◌++◌, ◌↔◌}
 use Rattle.dn_net.specs.declared.node.Name.{Name}
 use Rattle.dn_net.specs.declared.node.NodeDecl.{NodeDecl}
-use Rattle.dn_net.specs.Chain.{Member, Chain, ReachesWithin}
-use Rattle.dn_net.specs.Decode.{is_accepted, steps, step_limit, Step, Resolves}
+use Rattle.dn_net.specs.Chain.{Member, Chain, ReachesWithin, Ends}
+use Rattle.dn_net.specs.Decode.{is_accepted, is_stop, steps, step_limit}
 
 -- names are ordered by node, and then by address
 abbrev pub name_lt : Name → Name → Bool
 name_lt x y = nat_lt x.node y.node || ((x.node == y.node) && nat_lt x.addr y.addr)
 
+-- two names are one
 abbrev pub name_eq : Name → Name → Bool
 name_eq x y = (x.node == y.node) && (x.addr == y.addr)
 
@@ -17,6 +18,7 @@ abbrev pub is_before_first : Name → List Name → Bool
 is_before_first x [] = true
 is_before_first x (y ∷ ys) = name_lt x y
 
+-- each name of the list comes before the next
 abbrev pub is_ascending : List Name → Bool
 is_ascending [] = true
 is_ascending (x ∷ xs) = is_before_first x xs && is_ascending xs
@@ -51,22 +53,34 @@ abbrev pub reached : (Name → List Name) → ℕ → List Name → List Name
 reached f zero xs = xs
 reached f (suc n) xs = xs ++ reached f n (each_step f xs)
 
--- what a name resolves to, ascending
-abbrev pub resolved : List NodeDecl → Name → List Name
-resolved net x = sorted_names (passing (is_accepted net) (reached (steps net) step_limit (x ∷ [])))
+-- the names that pass a test among those reached in at most so many steps, ascending
+abbrev pub end_names : (Name → List Name) → (Name → Bool) → ℕ → Name → List Name
+end_names f passes n x = sorted_names (passing passes (reached f n (x ∷ [])))
 
--- The list has exactly the names of the resolution.
-abbrev pub ResolvedIsResolution : Type 0
-ResolvedIsResolution = (net : List NodeDecl) (x y : Name) → Member y (resolved net x) ↔ Resolves net x y
+-- what a name resolves to, ascending
+abbrev pub resolved_names : List NodeDecl → Name → List Name
+resolved_names net x = end_names (steps net) (is_accepted net) step_limit x
+
+-- the stops of a name, ascending
+abbrev pub stop_names : List NodeDecl → Name → List Name
+stop_names net x = end_names (steps net) (is_stop net) step_limit x
+
+-- The list has exactly the names that pass the test and end a chain of at most so many steps.
+abbrev pub EndNamesAreEnds : Type 0
+EndNamesAreEnds = (f : Name → List Name) (passes : Name → Bool) (n : ℕ) (x y : Name) →
+    Member y (end_names f passes n x) ↔ Ends f passes n x y
+
+-- The list ascends, so it has each name once.
+abbrev pub EndNamesAscend : Type 0
+EndNamesAscend = (f : Name → List Name) (passes : Name → Bool) (n : ℕ) (x : Name) →
+    is_ascending (end_names f passes n x) ≡ true
 
 -- The names that are reached in at most so many steps are the ends of the chains of at most that length.
 abbrev pub ReachedIsWithin : Type 0
-ReachedIsWithin = (net : List NodeDecl) (n : ℕ) (x y : Name) → Member y (reached (steps net) n (x ∷ [])) ↔ ReachesWithin (Step net) n x y
-
--- The list ascends, so it has each name once.
-abbrev pub ResolvedAscends : Type 0
-ResolvedAscends = (net : List NodeDecl) (x : Name) → is_ascending (resolved net x) ≡ true
+ReachedIsWithin = (f : Name → List Name) (n : ℕ) (x y : Name) →
+    Member y (reached f n (x ∷ [])) ↔ ReachesWithin (λ a b. Member b (f a)) n x y
 
 -- The names that are reached in exactly so many steps are the ends of the chains of that length.
 abbrev pub AfterStepsIsChain : Type 0
-AfterStepsIsChain = (net : List NodeDecl) (n : ℕ) (x y : Name) → Member y (after_steps (steps net) n (x ∷ [])) ↔ Chain (Step net) n x y
+AfterStepsIsChain = (f : Name → List Name) (n : ℕ) (x y : Name) →
+    Member y (after_steps f n (x ∷ [])) ↔ Chain (λ a b. Member b (f a)) n x y

@@ -1,9 +1,9 @@
 //! The map entries of a node, where an address is sought by binary search.
 
-ghost use Rattle.std.specs.Prelude.{◌≡◌, ◌≤◌, ◌<◌, ◌-◌, ℕ, Bool, Option, Some, map, IfOk, IfNone, IfSome, IsTrue, All, Contains};
+ghost use Rattle.std.specs.Prelude.{◌≡◌, ◌≤◌, ◌<◌, ◌-◌, ℕ, Bool, Option, Some, IfOk, IfNone, IfSome, IsTrue, All, Contains};
 ghost use Rattle.std.specs.List.{list_all, count_by};
 ghost use Rattle.std.specs.List.Sorted.{IsNonDecreasingBy, IsPermutation};
-ghost use Rattle.dn_net.specs.Decode.{within, mapped, moved, by_over, sent, sent_over};
+ghost use Rattle.dn_net.specs.Decode.{within, by_over, by_entries};
 ghost use Rattle.dn_net.specs.Rules.{entry_in_range};
 ghost use Rattle.dn_net.specs.Order.{places_from};
 ghost use Rattle.dn_net.specs.declared.node.Entry.{Entry};
@@ -62,12 +62,13 @@ impl EntryList {
     pub(crate) fn at(&self, addr: u64) -> Option<&Entry>
         requires in_range { IsTrue (list_all entry_in_range self.now) }
         requires apart { (a : ℕ) → count_by (λ e. within a e.block) self.now ≤ 1 }
-        ensures none { IfNone result ((over : Option ℕ) → mapped addr over self.now ≡ by_over addr over) }
-        ensures none_sent { IfNone result ((over : Option ℕ) → sent addr over self.now ≡ sent_over addr over) }
+        ensures none { IfNone result ((over : Option ℕ) → by_entries addr over self.now
+            ≡ by_over addr over) }
         ensures covers { IfSome result (λ e. IsTrue (within addr e.now.block)) }
-        ensures found_sent { IfSome result (λ e. (over : Option ℕ) → sent addr over self.now ≡ Some (e.now.dests, addr - e.now.block.lo)) }
-        ensures found { IfSome result (λ e. (over : Option ℕ) → mapped addr over self.now ≡ map (moved (addr - e.now.block.lo)) e.now.dests) }
-        ensures each { IfSome result (λ e. (P : Entry → Bool) → IsTrue (list_all P self.now) → IsTrue (P e.now)) }
+        ensures found { IfSome result (λ e. (over : Option ℕ) → by_entries addr over self.now
+            ≡ Some (record { dests = e.now.dests; offset = addr - e.now.block.lo })) }
+        ensures each { IfSome result (λ e. (P : Entry → Bool) → IsTrue (list_all P self.now)
+            → IsTrue (P e.now)) }
     {
         entry_at(self.entries.as_slice(), &self.order, addr)
     }
@@ -93,12 +94,13 @@ fn entry_at<'a>(entries: &'a [Entry], order: &[Place], addr: u64) -> Option<&'a 
     requires sorted { IsNonDecreasingBy (λ p. p.first) order.now }
     requires in_range { IsTrue (list_all entry_in_range entries.now) }
     requires apart { (a : ℕ) → count_by (λ e. within a e.block) entries.now ≤ 1 }
-    ensures none { IfNone result ((over : Option ℕ) → mapped addr over entries.now ≡ by_over addr over) }
-    ensures none_sent { IfNone result ((over : Option ℕ) → sent addr over entries.now ≡ sent_over addr over) }
+    ensures none { IfNone result ((over : Option ℕ) → by_entries addr over entries.now
+        ≡ by_over addr over) }
     ensures covers { IfSome result (λ e. IsTrue (within addr e.now.block)) }
-    ensures found_sent { IfSome result (λ e. (over : Option ℕ) → sent addr over entries.now ≡ Some (e.now.dests, addr - e.now.block.lo)) }
-    ensures found { IfSome result (λ e. (over : Option ℕ) → mapped addr over entries.now ≡ map (moved (addr - e.now.block.lo)) e.now.dests) }
-    ensures each { IfSome result (λ e. (P : Entry → Bool) → IsTrue (list_all P entries.now) → IsTrue (P e.now)) }
+    ensures found { IfSome result (λ e. (over : Option ℕ) → by_entries addr over entries.now
+        ≡ Some (record { dests = e.now.dests; offset = addr - e.now.block.lo })) }
+    ensures each { IfSome result (λ e. (P : Entry → Bool) → IsTrue (list_all P entries.now)
+        → IsTrue (P e.now)) }
 {
     let Some(place) = latest(order, addr) else {
         return None;
@@ -118,7 +120,8 @@ fn latest(order: &[Place], addr: u64) -> Option<&Place>
     ensures none { IfNone result (All (λ p. addr < p.first) order.now) }
     ensures there { IfSome result (λ p. Contains order.now p.now) }
     ensures begun { IfSome result (λ p. p.now.first ≤ addr) }
-    ensures last { IfSome result (λ p. All (λ q. q.first ≤ addr → q.first ≤ p.now.first) order.now) }
+    ensures last { IfSome result (λ p. All (λ q. q.first ≤ addr
+        → q.first ≤ p.now.first) order.now) }
 {
     let after = order.partition_point(|place| place.first <= addr);
     if after == 0 {

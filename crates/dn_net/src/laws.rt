@@ -1,18 +1,19 @@
 //! Laws on the definitions of the net, each the contract of a function that does nothing.
 
-ghost use Rattle.dn_net.specs.Legal.{LegalBreaksNoRule};
-ghost use Rattle.dn_net.specs.Names.{ResolvedIsResolution, ResolvedAscends, ReachedIsWithin, AfterStepsIsChain};
+ghost use Rattle.dn_net.specs.Legal.{AreLimits, LegalBreaksNoRule};
+ghost use Rattle.dn_net.specs.Names.{EndNamesAreEnds, EndNamesAscend, ReachedIsWithin, AfterStepsIsChain};
 ghost use Rattle.dn_net.specs.Rules.{LeastOverlapIsLeast};
 ghost use Rattle.dn_net.specs.WalkRules.{CycleIsLeast, EndlessIsRefused, NoFaultIsShallow, PathIsLeast, ReachIsWithin, ShortestCycleIsShortest};
 
-/// The list of the names that a name resolves to has exactly the names of its resolution.
-pub fn resolved_is_resolution()
-    ensures { ResolvedIsResolution }
+/// The names that are listed are exactly those that pass a test and end a chain of at most so many steps. What a name
+/// resolves to is so listed, and so are its stops.
+pub fn end_names_are_ends()
+    ensures { EndNamesAreEnds }
 {}
 
 /// That list ascends, so it has each name once.
-pub fn resolved_ascends()
-    ensures { ResolvedAscends }
+pub fn end_names_ascend()
+    ensures { EndNamesAscend }
 {}
 
 /// The names reached in at most a number of steps are the ends of the chains of at most that many steps.
@@ -64,4 +65,9 @@ pub fn reach_is_within()
 /// A net with each node to which it refers breaks neither a node rule nor a rule on walks exactly where it is legal.
 pub fn legal_breaks_no_rule()
     ensures { LegalBreaksNoRule }
+{}
+
+/// The limits in numbers.
+pub fn limits()
+    ensures { AreLimits }
 {}

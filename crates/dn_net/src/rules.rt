@@ -1,13 +1,14 @@
 //! The rules that each node of a net keeps.
 
-ghost use Rattle.std.specs.Prelude.{◌≡◌, ◌≢◌, ◌<◌, ◌+◌, ◌&&◌, ◌||◌, None, Some, not, nat_le, OnOk, IfErr, IsTrue, All, length, slice_get, Option};
+ghost use Rattle.std.specs.Prelude.{◌≡◌, ◌<◌, ◌+◌, ◌&&◌, ◌||◌, None, Some, not, nat_le, OnOk, IsTrue, All, length, slice_get, Option};
 ghost use Rattle.std.specs.List.{list_all, list_any};
 ghost use Rattle.std.specs.Option.{option_copied, is_some};
 ghost use Rattle.std.specs.List.Sorted.{IsNonDecreasingBy};
+ghost use Rattle.dn_base.specs.Answers.{Checks};
 ghost use Rattle.dn_net.specs.Decode.{top};
 ghost use Rattle.dn_net.specs.Spans.{is_accepted_in};
 ghost use Rattle.dn_net.specs.declared.node.NodeDecl.{NodeDecl};
-ghost use Rattle.dn_net.specs.Rules.{node_fault, KeepsRules, is_in_range, fault_of_node, is_vectors, count_below, block_in_range, dest_in_range, entry_in_range, same_dest, dests_repeat, ports_repeat, unit_repeats};
+ghost use Rattle.dn_net.specs.Rules.{node_fault, node_fault_view, KeepsRules, fault_of_node, is_vectors, count_below, block_in_range, dest_in_range, entry_in_range, same_dest, dests_repeat, ports_repeat, unit_repeats};
 
 use crate::net::Net;
 use crate::node::{Block, Dest, Entry, Role, TOP, Unit};
@@ -41,10 +42,8 @@ pub enum NodeFault {
 impl Net {
     /// Tests the node rules, node by node.
     pub fn check_nodes(&self, alloc: Global) -> Result<(), NodeFault>
-        ensures ok { OnOk result (node_fault self.now ≡ None) }
+        ensures checks { Checks node_fault_view result (node_fault self.now) }
         ensures rules { OnOk result (All KeepsRules self.now) }
-        ensures in_range { OnOk result (IsTrue (list_all is_in_range self.now)) }
-        ensures fault { IfErr result (λ e. e ≢ NodeFault.OutOfMemory → node_fault self.now ≡ Some e) }
     {
         for node in 0..self.nodes() {
             self.check_node(alloc, node)?;
@@ -55,8 +54,8 @@ impl Net {
     /// Tests the rules of one node.
     fn check_node(&self, alloc: Global, node: u16) -> Result<(), NodeFault>
         requires { node < length self.now }
-        ensures ok { OnOk result ((d : NodeDecl) → slice_get self.now node ≡ Some d → fault_of_node node d ≡ None) }
-        ensures fault { IfErr result (λ e. e ≢ NodeFault.OutOfMemory → (d : NodeDecl) → slice_get self.now node ≡ Some d → fault_of_node node d ≡ Some e) }
+        ensures { (d : NodeDecl) → slice_get self.now node ≡ Some d
+            → Checks node_fault_view result (fault_of_node node d) }
     {
         let accepts = self.accepts(node);
         let entries = self.entries(node);
@@ -83,7 +82,8 @@ impl Net {
 fn has_vector_space(role: Role, entries: &[Entry], over: Option<u16>, spans: &[Span]) -> bool
     requires in_range { All (λ s. IsTrue (block_in_range s.block)) spans.now }
     requires sorted { IsNonDecreasingBy (λ s. s.block.lo) spans.now }
-    ensures { result ≡ (not (is_vectors role) || ((nat_le (length entries.now) 0 && not (is_some over)) && nat_le (count_below (is_accepted_in spans.now) (top + 1)) 4096)) }
+    ensures { result ≡ (not (is_vectors role) || ((nat_le (length entries.now) 0
+        && not (is_some over)) && nat_le (count_below (is_accepted_in spans.now) (top + 1)) 4096)) }
 {
     match role {
         Role::Vectors => {
@@ -94,7 +94,8 @@ fn has_vector_space(role: Role, entries: &[Entry], over: Option<u16>, spans: &[S
 }
 
 fn are_in_range(accepts: &[Block], entries: &[Entry]) -> bool
-    ensures { result ≡ (list_all block_in_range accepts.now && list_all entry_in_range entries.now) }
+    ensures { result ≡ (list_all block_in_range accepts.now
+        && list_all entry_in_range entries.now) }
 {
     are_blocks_in_range(accepts) && are_entries_in_range(entries)
 }
@@ -143,7 +144,8 @@ fn are_dests_in_range(block: Block, dests: &[Dest]) -> bool
 }
 
 fn has_repeat(entries: &[Entry], unit: Option<&Unit>) -> bool
-    ensures { result ≡ (list_any (λ e. dests_repeat e.dests) entries.now || unit_repeats (option_copied unit.entry)) }
+    ensures { result ≡ (list_any (λ e. dests_repeat e.dests) entries.now
+        || unit_repeats (option_copied unit.entry)) }
 {
     for entry in entries {
         if do_dests_repeat(entry.dests.as_slice()) {

@@ -2,7 +2,7 @@
 
 ghost use Rattle.std.specs.Prelude.{◌≡◌, ◌≢◌, ◌↔◌, ℕ, Bool, Option, length, map, ◌-◌, ◌<◌, ◌≤◌, IfNone, IfSome, nat_lt, nat_le, IsTrue, slice_get, Some};
 ghost use Rattle.std.specs.List.{All, list_all, count_by};
-ghost use Rattle.dn_net.specs.Decode.{is_accepted, is_stop, steps, leads_to, leads_within, leads_in_range, is_closed, sent, sent_over, sent_from, told_by, top, within, in_some_block, moved, mapped, by_over, over_within};
+ghost use Rattle.dn_net.specs.Decode.{is_accepted, is_stop, steps, step_view, leads_within, leads_in_range, is_closed, sent, sent_names, by_over, by_entries, top, within, in_some_block, over_within};
 ghost use Rattle.dn_net.specs.Parts.{over_dests};
 ghost use Rattle.dn_net.specs.Rules.{KeepsRules, entry_in_range};
 
@@ -31,10 +31,11 @@ impl Net {
         requires rules { All KeepsRules self.now }
         ensures accepted { result ≡ Step.Accepted ↔ IsTrue (is_accepted self.now name) }
         ensures stop { result ≡ Step.Stop ↔ IsTrue (is_stop self.now name) }
-        ensures sent { told_by result ≡ sent_from name.addr (slice_get self.now name.node) }
-        ensures steps { leads_to result ≡ steps self.now name }
+        ensures sent { step_view result ≡ sent name.addr (slice_get self.now name.node) }
+        ensures steps { sent_names (step_view result) ≡ steps self.now name }
         ensures reach { IsTrue (leads_in_range result) }
-        ensures closed { IsTrue (is_closed self.now) → IsTrue (leads_within (length self.now) result) }
+        ensures closed { IsTrue (is_closed self.now)
+            → IsTrue (leads_within (length self.now) result) }
     {
         if name.addr > TOP {
             return Step::Nothing;
@@ -58,10 +59,13 @@ fn lead<'a>(entries: &'a EntryList, over: &'a [Dest], addr: u64) -> Step<'a>
     requires based { IsTrue (list_all (λ d. nat_le d.addr 0) over.now) }
     ensures accepted { result ≢ Step.Accepted }
     ensures stop { result ≢ Step.Stop }
-    ensures sent { (o : Option ℕ) → over.now ≡ over_dests o → told_by result ≡ sent addr o entries.now }
-    ensures steps { (o : Option ℕ) → over.now ≡ over_dests o → leads_to result ≡ mapped addr o entries.now }
+    ensures sent { (o : Option ℕ) → over.now ≡ over_dests o → step_view result
+        ≡ by_entries addr o entries.now }
     ensures reach { IsTrue (leads_in_range result) }
-    ensures closed { (count : ℕ) → IsTrue (list_all (λ e. list_all (λ d. nat_lt d.node count) e.dests) entries.now) → IsTrue (list_all (λ d. nat_lt d.node count) over.now) → IsTrue (leads_within count result) }
+    ensures closed { (count : ℕ)
+        → IsTrue (list_all (λ e. list_all (λ d. nat_lt d.node count) e.dests) entries.now)
+        → IsTrue (list_all (λ d. nat_lt d.node count) over.now)
+        → IsTrue (leads_within count result) }
 {
     match entries.at(addr) {
         Some(entry) => Step::To(entry.dests.as_slice(), addr - entry.block.lo),
@@ -75,10 +79,10 @@ fn over_step(over: &[Dest], addr: u64) -> Step<'_>
     requires based { IsTrue (list_all (λ d. nat_le d.addr 0) over.now) }
     ensures accepted { result ≢ Step.Accepted }
     ensures stop { result ≢ Step.Stop }
-    ensures sent { (o : Option ℕ) → over.now ≡ over_dests o → told_by result ≡ sent_over addr o }
-    ensures steps { (o : Option ℕ) → over.now ≡ over_dests o → leads_to result ≡ by_over addr o }
+    ensures sent { (o : Option ℕ) → over.now ≡ over_dests o → step_view result ≡ by_over addr o }
     ensures reach { IsTrue (leads_in_range result) }
-    ensures closed { (count : ℕ) → IsTrue (list_all (λ d. nat_lt d.node count) over.now) → IsTrue (leads_within count result) }
+    ensures closed { (count : ℕ) → IsTrue (list_all (λ d. nat_lt d.node count) over.now)
+        → IsTrue (leads_within count result) }
 {
     match over {
         [] => Step::Nothing,

@@ -1,23 +1,21 @@
 -- The nodes of the names to which steps lead, and of those that a broken rule names, are there.
-use Rattle.std.proofs.Common.{◌≡◌, ◌∙◌, ap, sym, subst, refl, arith, ℕ, zero, suc, ◌-◌, ◌<◌, if◌then◌else◌, Bool, true, false, ◌&&◌, nat_le, nat_lt, List, [], ◌∷◌, ◌++◌, map, filter, length, slice_get, Option, Some, None, option_map, IsTrue, lt-ltb}
+use Rattle.std.proofs.Common.{◌≡◌, ◌∙◌, ap, sym, subst, refl, arith, ℕ, zero, suc, ◌-◌, ◌<◌, if◌then◌else◌, Bool, true, false, ◌&&◌, nat_le, nat_lt, List, [], ◌∷◌, ◌++◌, map, filter, length, slice_get, Option, IfSome, Some, None, option_map, IsTrue, lt-ltb}
 use Rattle.std.proofs.lemmas.Option.{none-some, same_Some}
 use Rattle.std.specs.List.{list_all}
 use Rattle.dn_net.specs.declared.node.Name.{Name}
 use Rattle.dn_net.specs.declared.node.Dest.{Dest}
 use Rattle.dn_net.specs.declared.node.Entry.{Entry}
 use Rattle.dn_net.specs.declared.node.NodeDecl.{NodeDecl}
-use Rattle.dn_net.specs.Decode.{top, within, moved, by_over, mapped, in_some_block, decoded, steps, step_limit, is_accepted, is_accepted_at, refers_within, over_within, ports_within, is_closed}
-use Rattle.dn_net.specs.Names.{name_lt, name_eq, with_name, sorted_names, each_step, passing, reached, resolved}
+use Rattle.dn_net.specs.Decode.{top, within, moved, by_over, by_entries, sent, sent_names, in_some_block, steps, step_limit, is_accepted, is_accepted_at, refers_within, over_within, ports_within, is_closed}
+use Rattle.dn_net.specs.Names.{name_lt, name_eq, with_name, sorted_names, each_step, passing, reached, resolved_names}
 use Rattle.dn_net.specs.WalkRules.{Broken, is_wide, has_loop, is_deep, or_else, first_below, least_below, least_name, goes_on, comes_to, comes_back, shortest_cycle, first_of, behind, way_by, cycle_from, cycle_names, path_from, path_names, cycle_or_path, walk_fault}
 use Rattle.dn_net.proofs.Endless.{is_wide_net, endless_fault_is}
+use Rattle.dn_net.proofs.Latest.{sent_by}
 use Rattle.dn_net.proofs.Least.{true_both}
 use Rattle.dn_net.proofs.Legal.{first_part}
 use Rattle.dn_net.proofs.Places.{both, list_all-at}
-use Rattle.dn_walk.specs.declared.fault.WalkFault.{WalkFault}
-use Rattle.dn_walk.specs.declared.fault.WalkFault.TheVariants.{Wide, Loop, Deep, OutOfMemory}
-use Rattle.dn_walk.specs.Rows.{IsBroken}
 use Rattle.dn_print.specs.Names.{names_exist}
-use Rattle.dn_tool.specs.Refused.{IsWalkFaultWithin}
+use Rattle.dn_tool.specs.Refused.{AreNodesWithin}
 
 exist_append : (count : ℕ) (xs ys : List Name) → IsTrue (names_exist count xs) → IsTrue (names_exist count ys) → IsTrue (names_exist count (xs ++ ys))
 exist_append count [] ys h k = k
@@ -31,36 +29,36 @@ moved_exist count offset (d ∷ ds) h =
     let b = both (nat_lt d.node count) (list_all (λ (d : Dest). nat_lt d.node count) ds) h in
     true_both _ _ b.0 (moved_exist count offset ds b.1)
 
-over_exist : (count a : ℕ) (over : Option ℕ) → IsTrue (over_within count over) → IsTrue (names_exist count (by_over a over))
+over_exist : (count a : ℕ) (over : Option ℕ) → IsTrue (over_within count over) → IsTrue (names_exist count (sent_names (by_over a over)))
 over_exist count a None h = refl
 over_exist count a (Some m) h = true_both _ _ h refl
 
-mapped_exist : (count a : ℕ) (over : Option ℕ) (es : List Entry) → IsTrue (list_all (λ e. list_all (λ d. nat_lt d.node count) e.dests) es) → IsTrue (over_within count over) → IsTrue (names_exist count (mapped a over es))
-mapped_exist count a over [] h k = over_exist count a over k
-mapped_exist count a over (e ∷ es) h k = go (mapped_exist count a over es b.1 k) (within a e.block)
+entries_exist : (count a : ℕ) (over : Option ℕ) (es : List Entry) → IsTrue (list_all (λ e. list_all (λ d. nat_lt d.node count) e.dests) es) → IsTrue (over_within count over) → IsTrue (names_exist count (sent_names (by_entries a over es)))
+entries_exist count a over [] h k = over_exist count a over k
+entries_exist count a over (e ∷ es) h k = go (entries_exist count a over es b.1 k) (within a e.block)
   where
     b : IsTrue (list_all (λ d. nat_lt d.node count) e.dests) × IsTrue (list_all (λ e. list_all (λ d. nat_lt d.node count) e.dests) es)
     b = both (list_all (λ (d : Dest). nat_lt d.node count) e.dests) (list_all (λ (e : Entry). list_all (λ d. nat_lt d.node count) e.dests) es) h
 
-    go : IsTrue (names_exist count (mapped a over es)) → (w : Bool) → IsTrue (names_exist count (if w then map (moved (a - e.block.lo)) e.dests else mapped a over es))
+    go : IsTrue (names_exist count (sent_names (by_entries a over es))) → (w : Bool) → IsTrue (names_exist count (sent_names (if w then sent_by a e else by_entries a over es)))
     go later true = moved_exist count (a - e.block.lo) e.dests b.0
     go later false = later
 
-decoded_exist : (count a : ℕ) (o : Option NodeDecl) → ((n : NodeDecl) → o ≡ Some n → IsTrue (refers_within count n)) → IsTrue (names_exist count (decoded a o))
-decoded_exist count a None closed = refl
-decoded_exist count a (Some n) closed = go (nat_le a top) (in_some_block a n.accepts)
+sent_exist : (count a : ℕ) (o : Option NodeDecl) → ((n : NodeDecl) → o ≡ Some n → IsTrue (refers_within count n)) → IsTrue (names_exist count (sent_names (sent a o)))
+sent_exist count a None closed = refl
+sent_exist count a (Some n) closed = go (nat_le a top) (in_some_block a n.accepts)
   where
     first : IsTrue (list_all (λ e. list_all (λ d. nat_lt d.node count) e.dests) n.entries) × IsTrue (over_within count n.over && ports_within count n.unit)
     first = both (list_all (λ (e : Entry). list_all (λ d. nat_lt d.node count) e.dests) n.entries) (over_within count n.over && ports_within count n.unit) (closed n refl)
 
-    go : (p q : Bool) → IsTrue (names_exist count (if p then (if q then [] else mapped a n.over n.entries) else []))
+    go : (p q : Bool) → IsTrue (names_exist count (sent_names (if p then (if q then None else by_entries a n.over n.entries) else None)))
     go false q = refl
     go true true = refl
-    go true false = mapped_exist count a n.over n.entries first.0 (both (over_within count n.over) (ports_within count n.unit) first.1).0
+    go true false = entries_exist count a n.over n.entries first.0 (both (over_within count n.over) (ports_within count n.unit) first.1).0
 
 -- a step leads to nodes that are there
 pub steps_exist : (net : List NodeDecl) (x : Name) → IsTrue (is_closed net) → IsTrue (names_exist (length net) (steps net x))
-steps_exist net x closed = decoded_exist (length net) x.addr (slice_get net x.node) (λ n e. list_all-at (refers_within (length net)) net x.node n closed e)
+steps_exist net x closed = sent_exist (length net) x.addr (slice_get net x.node) (λ n e. list_all-at (refers_within (length net)) net x.node n closed e)
 
 pub each_exist : (net : List NodeDecl) (xs : List Name) → IsTrue (is_closed net) → IsTrue (names_exist (length net) (each_step (steps net) xs))
 each_exist net [] closed = refl
@@ -105,7 +103,7 @@ passing_exist net (x ∷ xs) = go (passing_exist net xs) (is_accepted net x) ref
     go later true e = true_both _ _ (accepted_there net x e) later
     go later false e = later
 
-pub resolved_exist : (net : List NodeDecl) (x : Name) → IsTrue (names_exist (length net) (resolved net x))
+pub resolved_exist : (net : List NodeDecl) (x : Name) → IsTrue (names_exist (length net) (resolved_names net x))
 resolved_exist net x = sorted_exist (length net) (passing (is_accepted net) (reached (steps net) step_limit (x ∷ []))) (passing_exist net (reached (steps net) step_limit (x ∷ [])))
 
 -- the names of a way
@@ -154,35 +152,27 @@ cycle_exist net closed c = go (least_name net (comes_back net c)) refl
     go None at = refl
     go (Some x) at = true_both _ _ (least_name_there net (comes_back net c) x at) (way_exist net closed (comes_to net x) c x)
 
--- the names that a broken rule carries are in nodes that are there
-abbrev pub BrokenExists : ℕ → Broken → Type 0
-BrokenExists count is_wide = Unit {0}
-BrokenExists count (has_loop xs) = IsTrue (names_exist count xs)
-BrokenExists count (is_deep xs) = IsTrue (names_exist count xs)
-
-path_exist : (net : List NodeDecl) → IsTrue (is_closed net) → (k : ℕ) (b : Broken) → option_map is_deep (path_names net k) ≡ Some b → BrokenExists (length net) b
+path_exist : (net : List NodeDecl) → IsTrue (is_closed net) → (k : ℕ) (b : Broken) → option_map is_deep (path_names net k) ≡ Some b → AreNodesWithin (length net) b
 path_exist net closed k b e = go (least_name net (goes_on net k)) refl e
   where
-    go : (o : Option Name) → least_name net (goes_on net k) ≡ o → option_map is_deep (path_from net k o) ≡ Some b → BrokenExists (length net) b
+    go : (o : Option Name) → least_name net (goes_on net k) ≡ o → option_map is_deep (path_from net k o) ≡ Some b → AreNodesWithin (length net) b
     go None at f = absurd (none-some b f)
     go (Some x) at f =
         let xs : List Name = x ∷ way_by (steps net) (goes_on net) k x in
-        subst (BrokenExists (length net)) (same_Some (is_deep xs) b f) (true_both _ _ (least_name_there net (goes_on net k) x at) (way_exist net closed (goes_on net) k x))
+        subst (AreNodesWithin (length net)) (same_Some (is_deep xs) b f) (true_both _ _ (least_name_there net (goes_on net k) x at) (way_exist net closed (goes_on net) k x))
 
-endless_exist : (net : List NodeDecl) → IsTrue (is_closed net) → (o : Option ℕ) (b : Broken) → cycle_or_path net o ≡ Some b → BrokenExists (length net) b
-endless_exist net closed (Some c) b e = subst (BrokenExists (length net)) (same_Some (has_loop (cycle_names net c)) b e) (cycle_exist net closed c)
+endless_exist : (net : List NodeDecl) → IsTrue (is_closed net) → (o : Option ℕ) (b : Broken) → cycle_or_path net o ≡ Some b → AreNodesWithin (length net) b
+endless_exist net closed (Some c) b e = subst (AreNodesWithin (length net)) (same_Some (has_loop (cycle_names net c)) b e) (cycle_exist net closed c)
 endless_exist net closed None b e = path_exist net closed step_limit b e
 
-walk_exist : (net : List NodeDecl) → IsTrue (is_closed net) → (b : Broken) → walk_fault net ≡ Some b → BrokenExists (length net) b
+walk_exist : (net : List NodeDecl) → IsTrue (is_closed net) → (b : Broken) → walk_fault net ≡ Some b → AreNodesWithin (length net) b
 walk_exist net closed b e = go (is_wide_net net) (sym (endless_fault_is net) ∙ sym (first_part net) ∙ e)
   where
-    go : (w : Bool) → (if w then Some is_wide else cycle_or_path net (shortest_cycle net)) ≡ Some b → BrokenExists (length net) b
-    go true f = subst (BrokenExists (length net)) (same_Some is_wide b f) tt
+    go : (w : Bool) → (if w then Some is_wide else cycle_or_path net (shortest_cycle net)) ≡ Some b → AreNodesWithin (length net) b
+    go true f = subst (AreNodesWithin (length net)) (same_Some is_wide b f) tt
     go false f = endless_exist net closed (shortest_cycle net) b f
 
--- the nodes that the answer of `walks` names are there
-pub walk_fault_within : (net : List NodeDecl) (e : WalkFault) → IsTrue (is_closed net) → IsBroken (walk_fault net) e → IsWalkFaultWithin (length net) e
-walk_fault_within net Wide closed h = tt
-walk_fault_within net (Loop cycle) closed h = walk_exist net closed (has_loop cycle) h
-walk_fault_within net (Deep path) closed h = walk_exist net closed (is_deep path) h
-walk_fault_within net OutOfMemory closed h = tt
+-- the nodes that the broken rule names are there
+pub walk_fault_within : (net : List NodeDecl) (v : Option Broken) → IsTrue (is_closed net) → IfSome v (λ b. walk_fault net ≡ Some b) → IfSome v (AreNodesWithin (length net))
+walk_fault_within net None closed h = tt
+walk_fault_within net (Some b) closed h = walk_exist net closed b h

@@ -3,8 +3,8 @@ use Rattle.std.proofs.Common.{◌≡◌, ◌∙◌, ap, sym, subst, refl, arith,
 use Rattle.dn_net.specs.declared.node.Name.{Name}
 use Rattle.dn_net.specs.declared.node.NodeDecl.{NodeDecl}
 use Rattle.dn_net.specs.Decode.{is_accepted, steps, step_limit}
-use Rattle.dn_net.specs.Names.{sorted_names, passing, each_step, reached, resolved}
-use Rattle.dn_net.proofs.Resolution.{member_left, member_right, member_split, names_in, passing_in, each_in}
+use Rattle.dn_net.specs.Names.{sorted_names, passing, each_step, reached, resolved_names}
+use Rattle.dn_net.proofs.Resolution.{member_left, member_right, member_cases, names_in, passing_in, each_in}
 use Rattle.dn_print.specs.Names.{names_exist}
 use Rattle.dn_tool.proofs.Exists.{sorted_exist}
 use Rattle.dn_tool.proofs.Sets.{Same, same_refl, sorted_same}
@@ -25,8 +25,8 @@ reached_levels f (suc n) xs = ap (λ (l : List Name). xs ++ l) (reached_levels f
 
 same_append : (xs ys vs ws : List Name) → Same xs vs → Same ys ws → Same (xs ++ ys) (vs ++ ws)
 same_append xs ys vs ws s t z = (
-  (λ m. elim (member_split xs ys z m) [ inl n ↦ member_left vs ws z ((s z).0 n) | inr n ↦ member_right vs ws z ((t z).0 n) ]),
-  (λ m. elim (member_split vs ws z m) [ inl n ↦ member_left xs ys z ((s z).1 n) | inr n ↦ member_right xs ys z ((t z).1 n) ]),
+  (λ m. elim (member_cases xs ys z m) [ inl n ↦ member_left vs ws z ((s z).0 n) | inr n ↦ member_right vs ws z ((t z).0 n) ]),
+  (λ m. elim (member_cases vs ws z m) [ inl n ↦ member_left xs ys z ((s z).1 n) | inr n ↦ member_right xs ys z ((t z).1 n) ]),
 )
 
 same_each : (f : Name → List Name) (xs ys : List Name) → Same xs ys → Same (each_step f xs) (each_step f ys)
@@ -53,11 +53,11 @@ passing_append p (x ∷ xs) ys = go (passing_append p xs ys) (p x)
     go e true = ap (λ (l : List Name). x ∷ l) e
     go e false = e
 
--- what is resolved to, where some accepted names are known and the rest are those of so many levels more
+-- what is resolved_names to, where some accepted names are known and the rest are those of so many levels more
 abbrev pub resolved_by : List NodeDecl → ℕ → List Name → List Name → List Name
 resolved_by net n accepted level = sorted_names (accepted ++ passing (is_accepted net) (levels (steps net) n level))
 
-pub resolved_at_start : (net : List NodeDecl) (x : Name) → resolved_by net (suc step_limit - 0) [] (x ∷ []) ≡ resolved net x
+pub resolved_at_start : (net : List NodeDecl) (x : Name) → resolved_by net (suc step_limit - 0) [] (x ∷ []) ≡ resolved_names net x
 resolved_at_start net x =
     let e : suc step_limit - 0 ≡ suc step_limit = omega arith in
     ap (λ n. resolved_by net n [] (x ∷ [])) e ∙ ap (λ l. sorted_names (passing (is_accepted net) l)) (sym (reached_levels (steps net) step_limit (x ∷ [])))
@@ -105,7 +105,7 @@ pub set_exists : {E : Type 0} (count : ℕ) (given xs : List Name) (r : Result (
 set_exists count given xs (Ok s) e h is = subst (λ (l : List Name). IsTrue (names_exist count l)) (sym (is ∙ ap sorted_names e)) (sorted_exist count xs h)
 set_exists count given xs (Err x) e h is = tt
 
--- the set of these names is what is resolved to
+-- the set of these names is what is resolved_names to
 pub set_resolves : {E : Type 0} (given result : List Name) (r : Result (List Name) E) → sorted_names given ≡ result → IfOk r (λ s. s ≡ sorted_names given) → IfOk r (λ s. s ≡ result)
 set_resolves given result (Ok s) e is = is ∙ e
 set_resolves given result (Err x) e is = tt

@@ -6,4 +6,3 @@ pub mod NodeFaults
 pub mod Refusals
 pub mod Replies
 pub mod Sets
-pub mod Views

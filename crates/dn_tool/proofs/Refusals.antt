@@ -1,22 +1,18 @@
 -- What a text comes to where it is refused.
-use Rattle.std.proofs.Common.{◌≡◌, ◌≢◌, ◌∙◌, ap, sym, refl, Option, Some, None, List, ℕ, Result, Ok, Err, IfOk}
+use Rattle.std.proofs.Common.{◌≡◌, ◌≢◌, ◌∙◌, ap, sym, refl, Option, option_map, IfSome, Some, None, List, ℕ, Result, Ok, Err, IfOk}
+use Rattle.std.proofs.lemmas.Option.{same_Some}
 use Rattle.dn_parse.specs.declared.reader.ParseFault.{ParseFault}
 use Rattle.dn_parse.specs.declared.reader.ParseFault.TheVariants.{Length, Token, Statement, Block, Nesting, OutOfMemory as NoMemory}
 use Rattle.dn_parse.specs.Tree.{Tree}
 use Rattle.dn_parse.specs.Whole.{TextFault, text_reading}
 use Rattle.dn_parse.specs.Placing.{IsTextFault}
-use Rattle.dn_net.specs.declared.rules.NodeFault.{NodeFault}
-use Rattle.dn_net.specs.declared.rules.NodeFault.TheVariants.{OutOfMemory}
-use Rattle.dn_net.specs.Rules.{node_fault}
+use Rattle.dn_net.specs.Rules.{BrokenNode, node_fault}
 use Rattle.dn_net.specs.WalkRules.{Broken, walk_fault}
 use Rattle.dn_module.specs.declared.fault.ExpandFault.{ExpandFault}
 use Rattle.dn_module.specs.declared.fault.ExpandFault.TheVariants.{Duplicate, Unknown, Arguments, Value, TooMany, OutOfMemory as NoRoom}
 use Rattle.dn_module.specs.Expand.{Outcome, expanded}
 use Rattle.dn_module.specs.Told.{IsFault}
-use Rattle.dn_walk.specs.declared.fault.WalkFault.{WalkFault}
-use Rattle.dn_walk.specs.declared.fault.WalkFault.TheVariants.{Wide, Loop, Deep, OutOfMemory as NoSpace}
-use Rattle.dn_walk.specs.Rows.{IsBroken}
-use Rattle.dn_tool.specs.Refused.{Refused, fault_of, broken_of, text_refusal, expand_refusal, node_refusal, walk_refusal}
+use Rattle.dn_tool.specs.Refused.{Refused, fault_of, text_refusal, expand_refusal, node_refusal, walk_refusal}
 use Rattle.dn_tool.specs.Compiled.{compiled, compiled_reading, compiled_outcome, by_node_rules, by_walk_rules, refused, legal}
 
 -- the fault that the reader answered, where it is none of memory
@@ -55,21 +51,16 @@ unfolding compiled
 outcome_compiled text tree o read made = sym (ap compiled_reading read ∙ ap compiled_outcome made)
 
 -- a node breaks a rule
-pub nodes_refused : {E : Type 0} (o : Outcome) (e : NodeFault) (r : Result Refused E) → (e ≢ OutOfMemory → node_fault o.net ≡ Some e) → IfOk r (λ x. x ≡ node_refusal o.net e) → IfOk r (λ _. e ≢ OutOfMemory) → IfOk r (λ x. compiled_outcome (Ok o) ≡ refused x)
-nodes_refused o e (Ok x) fault is broken = ap (by_node_rules o) (fault broken) ∙ ap refused (sym is)
-nodes_refused o e (Err y) fault is broken = tt
-
--- the rule on walks that was answered, where it is none of memory
-told_broken : (e : WalkFault) (b : Option Broken) → e ≢ NoSpace → IsBroken b e → b ≡ Some (broken_of e)
-told_broken Wide b n h = h
-told_broken (Loop cycle) b n h = h
-told_broken (Deep path) b n h = h
-told_broken NoSpace b n h = absurd (n refl)
+pub nodes_refused : {E : Type 0} (o : Outcome) (v : Option BrokenNode) (r : Result Refused E) → IfSome v (λ b. node_fault o.net ≡ Some b) → IfOk r (λ x. option_map (node_refusal o.net) v ≡ Some x) → IfOk r (λ x. compiled_outcome (Ok o) ≡ refused x)
+nodes_refused o None (Ok x) fault is = cc
+nodes_refused o (Some b) (Ok x) fault is = ap (by_node_rules o) fault ∙ ap refused (same_Some (node_refusal o.net b) x is)
+nodes_refused o v (Err y) fault is = tt
 
 -- a walk breaks a rule
-pub walks_refused : {E : Type 0} (o : Outcome) (e : WalkFault) (r : Result Refused E) → node_fault o.net ≡ None → IsBroken (walk_fault o.net) e → IfOk r (λ x. x ≡ walk_refusal o.net (broken_of e)) → IfOk r (λ _. e ≢ NoSpace) → IfOk r (λ x. compiled_outcome (Ok o) ≡ refused x)
-walks_refused o e (Ok x) checked fault is broken = ap (by_node_rules o) checked ∙ ap (by_walk_rules o) (told_broken e (walk_fault o.net) broken fault) ∙ ap refused (sym is)
-walks_refused o e (Err y) checked fault is broken = tt
+pub walks_refused : {E : Type 0} (o : Outcome) (v : Option Broken) (r : Result Refused E) → node_fault o.net ≡ None → IfSome v (λ b. walk_fault o.net ≡ Some b) → IfOk r (λ x. option_map (walk_refusal o.net) v ≡ Some x) → IfOk r (λ x. compiled_outcome (Ok o) ≡ refused x)
+walks_refused o None (Ok x) checked fault is = cc
+walks_refused o (Some b) (Ok x) checked fault is = ap (by_node_rules o) checked ∙ ap (by_walk_rules o) fault ∙ ap refused (same_Some (walk_refusal o.net b) x is)
+walks_refused o v (Err y) checked fault is = tt
 
 -- nothing breaks a rule
 pub is_legal : (o : Outcome) → node_fault o.net ≡ None → walk_fault o.net ≡ None → compiled_outcome (Ok o) ≡ legal o.net o.commands

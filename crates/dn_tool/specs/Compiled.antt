@@ -3,8 +3,7 @@ use Rattle.std.specs.Prelude.{◌≡◌, ℕ, List, Option, Some, None, Result, 
 use Rattle.dn_parse.specs.Tree.{Tree}
 use Rattle.dn_parse.specs.Whole.{TextFault, text_reading}
 use Rattle.dn_net.specs.declared.node.NodeDecl.{NodeDecl}
-use Rattle.dn_net.specs.declared.rules.NodeFault.{NodeFault}
-use Rattle.dn_net.specs.Rules.{node_fault}
+use Rattle.dn_net.specs.Rules.{BrokenNode, node_fault}
 use Rattle.dn_net.specs.WalkRules.{Broken, walk_fault}
 use Rattle.dn_module.specs.declared.command.Command.{Command}
 use Rattle.dn_module.specs.declared.fault.ExpandFault.{ExpandFault}
@@ -22,7 +21,7 @@ abbrev pub by_walk_rules : Outcome → Option Broken → Compiled
 by_walk_rules o (Some broken) = refused (walk_refusal o.net broken)
 by_walk_rules o None = legal o.net o.commands
 
-abbrev pub by_node_rules : Outcome → Option NodeFault → Compiled
+abbrev pub by_node_rules : Outcome → Option BrokenNode → Compiled
 by_node_rules o (Some fault) = refused (node_refusal o.net fault)
 by_node_rules o None = by_walk_rules o (walk_fault o.net)
 

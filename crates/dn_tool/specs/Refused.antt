@@ -6,13 +6,10 @@ use Rattle.dn_parse.specs.declared.reader.ParseFault.TheVariants.{Length as TooL
 use Rattle.dn_parse.specs.Whole.{Fault, statement_fault, block_fault, nesting_fault, TextFault, too_long, bad_token, of_tokens}
 use Rattle.dn_net.specs.declared.node.Name.{Name}
 use Rattle.dn_net.specs.declared.node.NodeDecl.{NodeDecl}
-use Rattle.dn_net.specs.declared.rules.NodeFault.{NodeFault}
-use Rattle.dn_net.specs.declared.rules.NodeFault.TheVariants.{Range as BrokenRange, Overlap as BrokenOverlap, Repeat as BrokenRepeat, VectorSpace as BrokenSpace, OutOfMemory}
+use Rattle.dn_net.specs.Rules.{BrokenNode, out_of_range, overlapping, repeating, past_space}
 use Rattle.dn_net.specs.WalkRules.{Broken, is_wide, has_loop, is_deep}
 use Rattle.dn_module.specs.declared.fault.ExpandFault.{ExpandFault}
 use Rattle.dn_module.specs.declared.fault.ExpandFault.TheVariants.{Duplicate as MetTwice, Unknown as MetNever, Arguments as OtherArguments, Value as OutOfRange, TooMany as PastLimit, OutOfMemory as NoRoom}
-use Rattle.dn_walk.specs.declared.fault.WalkFault.{WalkFault}
-use Rattle.dn_walk.specs.declared.fault.WalkFault.TheVariants.{Wide as TooWide, Loop as Looping, Deep as Descending, OutOfMemory as NoSpace}
 use Rattle.dn_print.specs.Names.{name_text, names_exist}
 use Rattle.dn_print.specs.Statement.{node_name, joined}
 use Rattle.dn_tool.specs.declared.refusal.Rule.{Rule}
@@ -87,13 +84,12 @@ expand_refusal (OutOfRange line) = by_line Value line
 expand_refusal (PastLimit line limit) = by_limit line limit
 expand_refusal NoRoom = by_text Length
 
--- the refusal of a net by a node rule, by the names of its nodes; want of memory is no broken rule
-abbrev pub node_refusal : List NodeDecl → NodeFault → Refused
-node_refusal net (BrokenRange node) = showing Range (node_name net node)
-node_refusal net (BrokenOverlap node addr) = showing Overlap (name_text net (record { node = node; addr = addr }))
-node_refusal net (BrokenRepeat node) = showing Repeat (node_name net node)
-node_refusal net (BrokenSpace node) = showing VectorSpace (node_name net node)
-node_refusal net OutOfMemory = by_text Length
+-- the refusal of a net by a node rule, by the names of its nodes
+abbrev pub node_refusal : List NodeDecl → BrokenNode → Refused
+node_refusal net (out_of_range node) = showing Range (node_name net node)
+node_refusal net (overlapping node addr) = showing Overlap (name_text net (record { node = node; addr = addr }))
+node_refusal net (repeating node) = showing Repeat (node_name net node)
+node_refusal net (past_space node) = showing VectorSpace (node_name net node)
 
 -- the names of a chain, from its first to its last
 abbrev pub chain_text : List NodeDecl → List Name → List ℕ
@@ -105,23 +101,15 @@ walk_refusal net is_wide = showing Wide (codes "1048576")
 walk_refusal net (has_loop cycle) = showing Loop (chain_text net cycle)
 walk_refusal net (is_deep path) = showing Deep (chain_text net path)
 
--- the broken rule that an answer says; want of memory says none
-abbrev pub broken_of : WalkFault → Broken
-broken_of TooWide = is_wide
-broken_of (Looping cycle) = has_loop cycle
-broken_of (Descending path) = is_deep path
-broken_of NoSpace = is_wide
+-- the node that a broken rule names is one of so many
+abbrev pub IsNodeWithin : ℕ → BrokenNode → Type 0
+IsNodeWithin count (out_of_range node) = node < count
+IsNodeWithin count (overlapping node addr) = node < count
+IsNodeWithin count (repeating node) = node < count
+IsNodeWithin count (past_space node) = node < count
 
--- the node that a fault names is one of so many
-abbrev pub IsFaultWithin : ℕ → NodeFault → Type 0
-IsFaultWithin count (BrokenRange node) = node < count
-IsFaultWithin count (BrokenOverlap node addr) = node < count
-IsFaultWithin count (BrokenRepeat node) = node < count
-IsFaultWithin count (BrokenSpace node) = node < count
-IsFaultWithin count OutOfMemory = Unit {0}
-
--- each node that a fault names is one of so many
-abbrev pub IsWalkFaultWithin : ℕ → WalkFault → Type 0
-IsWalkFaultWithin count (Looping cycle) = IsTrue (names_exist count cycle)
-IsWalkFaultWithin count (Descending path) = IsTrue (names_exist count path)
-IsWalkFaultWithin count _ = Unit {0}
+-- each node that a broken rule on walks names is one of so many
+abbrev pub AreNodesWithin : ℕ → Broken → Type 0
+AreNodesWithin count is_wide = Unit {0}
+AreNodesWithin count (has_loop cycle) = IsTrue (names_exist count cycle)
+AreNodesWithin count (is_deep path) = IsTrue (names_exist count path)

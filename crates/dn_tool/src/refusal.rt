@@ -1,9 +1,11 @@
 //! The refusal of a text: the rule that it breaks, and the line that says so.
 
-ghost use Rattle.std.specs.Prelude.{◌≡◌, ◌≢◌, ◌<◌, ◌++◌, length, IfOk, OnOk, IsTrue};
+ghost use Rattle.std.specs.Prelude.{◌≡◌, ◌≢◌, ◌<◌, ◌++◌, length, option_map, Some, IfOk, IfSome, OnOk, IsTrue};
 ghost use Rattle.std.specs.String.{string_bytes};
+ghost use Rattle.dn_net.specs.Rules.{node_fault_view};
+ghost use Rattle.dn_walk.specs.Rows.{walk_fault_view};
 ghost use Rattle.dn_print.specs.Names.{name_text, names_exist};
-ghost use Rattle.dn_tool.specs.Refused.{fault_of, broken_of, rule_name, by_text, by_line, by_limit, showing, text_refusal, expand_refusal, node_refusal, walk_refusal, chain_text, IsFaultWithin, IsWalkFaultWithin};
+ghost use Rattle.dn_tool.specs.Refused.{fault_of, rule_name, by_text, by_line, by_limit, showing, text_refusal, expand_refusal, node_refusal, walk_refusal, chain_text, IsNodeWithin, AreNodesWithin};
 
 use dn_base::text::Text;
 use dn_module::fault::ExpandFault;
@@ -182,9 +184,8 @@ pub fn expand_refusal(alloc: Global, fault: ExpandFault) -> Result<Refusal, Allo
 
 /// The refusal of a net by a node rule. Want of memory is handed on.
 pub fn node_refusal(alloc: Global, net: &Net, fault: NodeFault) -> Result<Refusal, AllocError>
-    requires { IsFaultWithin (length net.now) fault }
-    ensures refusal { IfOk result (λ r. r ≡ node_refusal net.now fault) }
-    ensures broken { IfOk result (λ _. fault ≢ NodeFault.OutOfMemory) }
+    requires { IfSome (node_fault_view fault) (IsNodeWithin (length net.now)) }
+    ensures { IfOk result (λ r. option_map (node_refusal net.now) (node_fault_view fault) ≡ Some r) }
 {
     match fault {
         NodeFault::Range { node } => Refusal::showing(alloc, Rule::Range, net.text(node)),
@@ -209,9 +210,8 @@ fn overlap_refusal(alloc: Global, net: &Net, name: Name) -> Result<Refusal, Allo
 
 /// The refusal of a net by a rule on walks. Want of memory is handed on.
 pub fn walk_refusal(alloc: Global, net: &Net, fault: &WalkFault) -> Result<Refusal, AllocError>
-    requires { IsWalkFaultWithin (length net.now) fault.now }
-    ensures refusal { IfOk result (λ r. r ≡ walk_refusal net.now (broken_of fault.now)) }
-    ensures broken { IfOk result (λ _. fault.now ≢ WalkFault.OutOfMemory) }
+    requires { IfSome (walk_fault_view fault.now) (AreNodesWithin (length net.now)) }
+    ensures { IfOk result (λ r. option_map (walk_refusal net.now) (walk_fault_view fault.now) ≡ Some r) }
 {
     match fault {
         WalkFault::Wide => Refusal::showing(alloc, Rule::Wide, "1048576"),

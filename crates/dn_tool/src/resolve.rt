@@ -3,7 +3,7 @@
 ghost use Rattle.std.specs.Prelude.{◌≡◌, ◌++◌, ◌+◌, ◌<◌, ◌^◌, length, map, nat_le, nat_lt, IfOk, OnOk, IsTrue};
 ghost use Rattle.std.specs.List.{list_all};
 ghost use Rattle.dn_net.specs.Decode.{is_accepted, moved, steps, top};
-ghost use Rattle.dn_net.specs.Names.{each_step, passing, resolved, sorted_names};
+ghost use Rattle.dn_net.specs.Names.{each_step, passing, resolved_names, sorted_names};
 ghost use Rattle.dn_net.specs.Rules.{KeepsNodeRules};
 ghost use Rattle.dn_print.specs.Names.{names_exist};
 
@@ -22,7 +22,7 @@ const LEVELS: u8 = 66;
 pub fn resolve(alloc: Global, net: &Net, name: Name) -> Result<Names, AllocError>
     requires there { name.node < length net.now }
     requires rules { KeepsNodeRules net.now }
-    ensures resolved { IfOk result (λ names. names ≡ resolved net.now name) }
+    ensures resolved { IfOk result (λ names. names ≡ resolved_names net.now name) }
     // Each of them is in a node that is there.
     ensures there { IfOk result (λ names. IsTrue (names_exist (length net.now) names)) }
 {

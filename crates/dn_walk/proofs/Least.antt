@@ -8,7 +8,7 @@ use Rattle.dn_net.specs.declared.node.Name.{Name}
 use Rattle.dn_net.specs.Chain.{Member}
 use Rattle.dn_net.specs.Decode.{moved}
 use Rattle.dn_net.specs.Names.{name_lt}
-use Rattle.dn_net.proofs.Resolution.{member_left, member_right, member_split}
+use Rattle.dn_base.proofs.Members.{member_left, member_right, member_cases}
 use Rattle.dn_walk.specs.declared.walks.WalkRow.{WalkRow}
 use Rattle.dn_walk.specs.Rows.{Told, told_by_row}
 use Rattle.dn_walk.specs.Ways.{least_of, lesser_name, start_name, start_names, is_cyclic}
@@ -71,7 +71,7 @@ least_more xs x = by (least_of xs) refl
         kept : NoLater m x → IsFirstName (xs ++ x ∷ []) m
         kept l = record {
           member = member_left xs (x ∷ []) m f.member;
-          least = λ z n. elim (member_split xs (x ∷ []) z n) [
+          least = λ z n. elim (member_cases xs (x ∷ []) z n) [
             | inl k ↦ f.least z k
             | inr k ↦ elim k [ inl s ↦ subst (λ w. NoLater m w) s l | inr n ↦ absurd n ]
           ];
@@ -80,7 +80,7 @@ least_more xs x = by (least_of xs) refl
         lesser : (b : Bool) → name_lt x m ≡ b → least_of (xs ++ x ∷ []) ≡ Some (if b then x else m)
         lesser true g = least_is (xs ++ x ∷ []) x record {
           member = member_right xs (x ∷ []) x (inl refl);
-          least = λ z n. elim (member_split xs (x ∷ []) z n) [
+          least = λ z n. elim (member_cases xs (x ∷ []) z n) [
             | inl k ↦ no_later_still x m z (inl g) (f.least z k)
             | inr k ↦ elim k [ inl s ↦ inr s | inr n ↦ absurd n ]
           ];

@@ -1,5 +1,5 @@
 -- Levels without the choices: what each row of them keeps, and how the next one is made.
-use Rattle.std.proofs.Common.{◌≡◌, ℕ, zero, suc, ◌+◌, ◌-◌, ◌<◌, ◌≤◌, inl, inr, List, [], ◌∷◌, ◌++◌, map, length, get_or, take, drop, refl, sym, ap, ◌∙◌, subst, arith, IsTrue}
+use Rattle.std.proofs.Common.{◌≡◌, ℕ, zero, suc, ◌+◌, ◌-◌, ◌<◌, ◌≤◌, inl, inr, List, [], ◌∷◌, ◌++◌, map, length, get_or, take, drop, Option, Some, None, IfSome, refl, sym, ap, ◌∙◌, subst, arith, IsTrue}
 use Rattle.std.specs.List.{All, filter, flat_map}
 use Rattle.std.proofs.lemmas.List.{take_more, map-append, length-append, take-map, length-map, get_or-map, get_or_default, append-nil, drop-append-le}
 use Rattle.std.proofs.lemmas.List.Elements.{All-filter, filter_passes}
@@ -7,14 +7,12 @@ use Rattle.std.proofs.lemmas.Grind.{flat_map-append}
 use Rattle.std.proofs.lemmas.List.Folds.{length-flat_map-take}
 use Rattle.dn_net.specs.Chain.{Member}
 use Rattle.dn_net.specs.Walks.{in_order}
-use Rattle.dn_net.specs.WalkRules.{walk_limit}
+use Rattle.dn_net.specs.WalkRules.{Broken, is_wide, walk_limit}
 use Rattle.dn_walk.specs.declared.leg.Leg.{Leg}
 use Rattle.dn_walk.specs.declared.walks.WalkRow.{WalkRow}
 use Rattle.dn_walk.specs.Rows.{Told, told_by_row}
 use Rattle.dn_walk.specs.Legs.{AreLegs, IsLegOf}
-use Rattle.dn_walk.specs.Levels.{told_last, told_meets, told_onto, told_extended, told_still, told_stills, told_level, told_walks, told_levels, told_before, IsRowOf, IsWideWhere}
-use Rattle.dn_walk.specs.declared.fault.WalkFault.{WalkFault}
-use Rattle.dn_walk.specs.declared.fault.WalkFault.TheVariants.{Wide, Loop, Deep, OutOfMemory}
+use Rattle.dn_walk.specs.Levels.{told_last, told_meets, told_onto, told_extended, told_still, told_stills, told_level, told_walks, told_levels, told_before, IsRowOf}
 use Rattle.dn_net.proofs.Members.{member_map, map_member, member_filter, member_flat_map}
 use Rattle.dn_walk.proofs.Meets.{meets_parts, max_is, min_is}
 use Rattle.dn_walk.proofs.Sorting.{length_in_order}
@@ -210,8 +208,6 @@ table_is legs (suc k) sorted l s =
     dropped (xs ∷ xss) = refl
 
 -- what `Wide` stands for may be weakened
-pub wide_weaker : (P Q : Type 0) (e : WalkFault) → (P → Q) → IsWideWhere P e → IsWideWhere Q e
-wide_weaker P Q Wide f h = f h
-wide_weaker P Q (Loop cycle) f h = h
-wide_weaker P Q (Deep path) f h = h
-wide_weaker P Q OutOfMemory f h = h
+pub wide_weaker : (P Q : Type 0) (o : Option Broken) → (P → Q) → IfSome o (λ b. (b ≡ is_wide) × P) → IfSome o (λ b. (b ≡ is_wide) × Q)
+wide_weaker P Q None f h = tt
+wide_weaker P Q (Some b) f h = (h.0, f h.1)

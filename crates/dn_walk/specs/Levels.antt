@@ -1,21 +1,24 @@
 -- The levels of walks as lists of what is told of each walk.
 use Rattle.std.specs.Prelude.{◌≡◌, ℕ, zero, suc, ◌+◌, ◌-◌, ◌<◌, ◌≤◌, Bool, ◌&&◌, ◌||◌, nat_lt, nat_le, ◌==◌, List, [], ◌∷◌, ◌++◌, map, filter, length, slice_index_or}
 use Rattle.std.specs.List.{flat_map}
+use Rattle.std.specs.Option.{IfSome}
 use Rattle.dn_net.specs.Decode.{top}
 use Rattle.dn_net.specs.Walks.{in_order, greater, lesser_of}
-use Rattle.dn_net.specs.WalkRules.{walk_limit}
+use Rattle.dn_net.specs.WalkRules.{walk_limit, is_wide}
 use Rattle.dn_walk.specs.declared.leg.Leg.{Leg}
 use Rattle.dn_walk.specs.declared.level.Levels.{Levels}
 use Rattle.dn_walk.specs.declared.fault.WalkFault.{WalkFault}
-use Rattle.dn_walk.specs.declared.fault.WalkFault.TheVariants.{Wide, Loop, Deep, OutOfMemory}
-use Rattle.dn_walk.specs.Rows.{Told, told_by_row}
+use Rattle.dn_walk.specs.Rows.{Told, told_by_row, walk_fault_view}
 
+-- the last address at which it comes out
 abbrev pub told_last : Told → ℕ
 told_last t = t.base + (t.hi - t.lo)
 
+-- some address at which it comes out goes on by the leg
 abbrev pub told_meets : Told → Leg → Bool
 told_meets t l = nat_le t.base l.hi && nat_le l.lo (told_last t)
 
+-- it, with one more leg, for the addresses that go on by it
 abbrev pub told_onto : Told → Leg → Told
 told_onto t l = cut (greater t.base l.lo) (lesser_of (told_last t) l.hi)
   where
@@ -26,12 +29,15 @@ told_onto t l = cut (greater t.base l.lo) (lesser_of (told_last t) l.hi)
 abbrev pub told_on : List Leg → Told → List Told
 told_on ls t = map (told_onto t) (filter (told_meets t) ls)
 
+-- what goes on from it by the legs of its end node
 abbrev pub told_extended : List (List Leg) → Told → List Told
 told_extended legs t = told_on (slice_index_or legs t.end []) t
 
+-- the walk of no choice from a node
 abbrev pub told_still : ℕ → Told
 told_still n = record { start = n; lo = 0; hi = top; end = n; base = 0; len = 0 }
 
+-- the walks of no choice of so many nodes, from a number on
 abbrev pub told_stills : ℕ → ℕ → List Told
 told_stills n zero = []
 told_stills n (suc k) = told_still n ∷ told_stills (suc n) k
@@ -41,6 +47,7 @@ unfoldable pub told_level : List (List Leg) → ℕ → List Told
 told_level legs zero = told_stills 0 (length legs)
 told_level legs (suc k) = flat_map (told_extended legs) (told_level legs k)
 
+-- the order by start, and by the first and the last address
 abbrev pub told_before : Told → Told → Bool
 told_before t u = nat_lt t.start u.start || ((t.start == u.start) && (nat_lt t.lo u.lo || ((t.lo == u.lo) && nat_lt t.hi u.hi)))
 
@@ -60,12 +67,9 @@ pub record AreLevels (legs : List (List Leg)) (l : Levels) : Type 0 where
   pub newest : map told_by_row l.newest.items ≡ told_level legs (length l.sorted.items)
   pub room : l.room + length (told_walks legs (length l.sorted.items)) ≡ walk_limit
 
--- want of memory, or `Wide`, and then the fact holds
+-- the rule that a fault says is `Wide`, and then the fact holds
 abbrev pub IsWideWhere : Type 0 → WalkFault → Type 0
-IsWideWhere P Wide = P
-IsWideWhere P (Loop cycle) = ⊥
-IsWideWhere P (Deep path) = ⊥
-IsWideWhere P OutOfMemory = Unit {0}
+IsWideWhere P fault = IfSome (walk_fault_view fault) (λ broken. (broken ≡ is_wide) × P)
 
 -- a row of a net of so many nodes, with at most so many choices
 pub record IsRowOf (count most : ℕ) (t : Told) : Type 0 where

@@ -8,16 +8,16 @@ use Rattle.dn_tool.proofs.Refusals.{nodes_refused, walks_refused}
 use Rattle.dn_tool.proofs.compile.platform_of.Goals as goal
 
 pub node_refusal-requires : goal.node_refusal-requires
-node_refusal-requires c = fault_within c.args.expanded.net c.in-Err.fault c.in-Err.ensures.fault
+node_refusal-requires c = fault_within c.args.expanded.net _ c.in-Err.ensures.checks
 
 pub returns-in-Err-clause-refused : goal.returns-in-Err-clause-refused
 returns-in-Err-clause-refused c =
-    c.told.ensures (compiled_outcome (Ok (outcome_of c.args.expanded))) (nodes_refused (outcome_of c.args.expanded) c.in-Err.fault c.node_refusal.result c.in-Err.ensures.fault c.node_refusal.ensures.refusal c.node_refusal.ensures.broken)
+    c.told.ensures (compiled_outcome (Ok (outcome_of c.args.expanded))) (nodes_refused (outcome_of c.args.expanded) _ c.node_refusal.result c.in-Err.ensures.checks c.node_refusal.ensures)
 
 pub walk_refusal-requires : goal.walk_refusal-requires
-walk_refusal-requires c = walk_fault_within c.args.expanded.net c.in-Err-walks.fault c.requires.closed c.in-Err-walks.ensures.fault
+walk_refusal-requires c = walk_fault_within c.args.expanded.net _ c.requires.closed c.in-Err-walks.ensures.checks
 
 pub returns-in-Err-walks-clause-refused : goal.returns-in-Err-walks-clause-refused
 returns-in-Err-walks-clause-refused c =
     let checked : node_fault c.args.expanded.net ≡ None = search rules in
-    c.told-in-Err-walks.ensures (compiled_outcome (Ok (outcome_of c.args.expanded))) (walks_refused (outcome_of c.args.expanded) c.in-Err-walks.fault c.walk_refusal.result checked c.in-Err-walks.ensures.fault c.walk_refusal.ensures.refusal c.walk_refusal.ensures.broken)
+    c.told-in-Err-walks.ensures (compiled_outcome (Ok (outcome_of c.args.expanded))) (walks_refused (outcome_of c.args.expanded) _ c.walk_refusal.result checked c.in-Err-walks.ensures.checks c.walk_refusal.ensures)

@@ -1,5 +1,5 @@
 -- Each row goes on by the legs that it meets, of its end node.
-use Rattle.std.proofs.Common.{◌≡◌, ◌∙◌, ◌+◌, ◌-◌, ◌≤◌, ◌++◌, sym, ap, map, length, get_or, [], take, vec_len, arith, rules, subst}
+use Rattle.std.proofs.Common.{refl, ◌≡◌, ◌∙◌, ◌+◌, ◌-◌, ◌≤◌, ◌++◌, sym, ap, map, length, get_or, [], take, vec_len, arith, rules, subst}
 use Rattle.std.specs.List.{filter, flat_map}
 use Rattle.std.proofs.lemmas.List.{length-append}
 use Rattle.dn_net.proofs.Places.{length-map}
@@ -46,7 +46,7 @@ returns-then-room-len-clause-wide c =
     let have : length c.loop-row.out.items ≡ length (flat_map (told_extended legs) (map told_by_row (take c.loop-row.row-index c.args.rows.now))) = sym (length-map told_by_row c.loop-row.out.items) ∙ ap length c.loop-row.invariant.made in
     let least = extended_least legs c.args.rows.now c.loop-row.row-index row c.loop-row-test.true c.row-item.is in
     let size : vec_len c.loop-row.out ≡ length c.loop-row.out.items = search rules in
-    omega (arith, c.len.ensures, c.if-room-len.true, c.loop-row.invariant.fits)
+    (refl, omega (arith, c.len.ensures, c.if-room-len.true, c.loop-row.invariant.fits))
 
 pub extend_row-requires-clause-meet : goal.extend_row-requires-clause-meet
 extend_row-requires-clause-meet c =

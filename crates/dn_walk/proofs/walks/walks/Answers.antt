@@ -1,23 +1,21 @@
 -- The levels of the code are those of the net, so what they show is the rule that the net breaks.
-use Rattle.std.proofs.Common.{◌≡◌, ◌∙◌, ℕ, Option, get_or, IsTrue, refl, suc, ◌+◌, ◌-◌, ◌<◌, ◌≤◌, ◌⊎◌, inl, inr, List, [], ◌∷◌, map, length, vec_len, true, false, None, Some, sym, ap, subst, arith, rules}
+use Rattle.std.proofs.Common.{◌≡◌, ◌∙◌, ℕ, Option, option_map, IfSome, get_or, IsTrue, refl, suc, ◌+◌, ◌-◌, ◌<◌, ◌≤◌, ◌⊎◌, inl, inr, List, [], ◌∷◌, map, length, vec_len, true, false, None, Some, sym, ap, subst, arith, rules}
 use Rattle.std.specs.List.{All}
 use Rattle.std.specs.List.Sorted.{IsNonDecreasingBy}
 use Rattle.std.proofs.lemmas.Bool.Decides.{nat_tests}
 use Rattle.std.proofs.lemmas.Result.{err_from_is_err_and}
 use Rattle.dn_net.specs.Decode.{step_limit}
 use Rattle.dn_net.specs.Rules.{KeepsNodeRules}
-use Rattle.dn_net.specs.WalkRules.{walk_limit, walk_fault, is_wide, has_loop, is_deep}
+use Rattle.dn_net.specs.WalkRules.{Broken, walk_limit, walk_fault, is_wide, has_loop, is_deep}
 use Rattle.dn_net.specs.declared.node.NodeDecl.{NodeDecl}
 use Rattle.dn_net.specs.declared.node.Name.{Name}
-use Rattle.dn_walk.specs.declared.fault.WalkFault.{WalkFault}
-use Rattle.dn_walk.specs.declared.fault.WalkFault.TheVariants.{Wide, Loop, Deep, OutOfMemory}
 use Rattle.dn_walk.specs.declared.leg.Leg.{Leg}
 use Rattle.dn_walk.specs.declared.level.Levels.{Levels}
 use Rattle.dn_walk.specs.declared.walks.WalkRow.{WalkRow}
-use Rattle.dn_walk.specs.Rows.{told_by_row, IsBroken}
+use Rattle.dn_walk.specs.Rows.{told_by_row}
 use Rattle.dn_walk.specs.Legs.{told_legs}
-use Rattle.dn_walk.specs.Levels.{AreLevels, IsWideWhere, told_level, told_levels, told_walks}
-use Rattle.dn_walk.specs.Ways.{least_of, start_names, told_cycle, told_path, IsLoopBy, IsDeepBy}
+use Rattle.dn_walk.specs.Levels.{AreLevels, told_level, told_levels, told_walks}
+use Rattle.dn_walk.specs.Ways.{least_of, start_names, told_cycle, told_path}
 use Rattle.dn_net.proofs.Kept.{none_broken}
 use Rattle.dn_net.proofs.Legal.{legal_breaks_no_rule}
 use Rattle.dn_net.proofs.Places.{length-map}
@@ -31,23 +29,19 @@ use Rattle.dn_walk.proofs.walks.walks.Goals.{then-levels-test+else-not-is_empty,
 same_levels : (net : List NodeDecl) (legs now : List (List Leg)) (l : Levels) → now ≡ legs → legs ≡ map told_legs net → AreLevels now l → AreLevels (map told_legs net) l
 same_levels net legs now l e f h = subst (λ x. AreLevels x l) (e ∙ f) h
 
-wide_broken : (net : List NodeDecl) (P : Type 0) (e : WalkFault) → (P → walk_fault net ≡ Some is_wide) → IsWideWhere P e → IsBroken (walk_fault net) e
-wide_broken net P Wide f h = f h
-wide_broken net P (Loop cycle) f h = absurd h
-wide_broken net P (Deep path) f h = absurd h
-wide_broken net P OutOfMemory f h = tt
+wide_broken : (P : Type 0) (found o : Option Broken) → (P → found ≡ Some is_wide) → IfSome o (λ b. (b ≡ is_wide) × P) → IfSome o (λ b. found ≡ Some b)
+wide_broken P found None f h = tt
+wide_broken P found (Some b) f h = f h.1 ∙ ap (λ x. Some x) (sym h.0)
 
-loop_broken : (net : List NodeDecl) (o o' : Option (List Name)) (e : WalkFault) → o ≡ o' → ((names : List Name) → o' ≡ Some names → walk_fault net ≡ Some (has_loop names)) → IsLoopBy o e → IsBroken (walk_fault net) e
-loop_broken net o o' Wide s f h = absurd h
-loop_broken net o o' (Loop names) s f h = f names (sym s ∙ h)
-loop_broken net o o' (Deep names) s f h = absurd h
-loop_broken net o o' OutOfMemory s f h = tt
+-- the names of a cycle or of a path are those that the broken rule carries
+names_broken : (carries : List Name → Broken) (found : Option Broken) (o o' : Option (List Name)) (v : Option Broken) → o ≡ o' → ((names : List Name) → o' ≡ Some names → found ≡ Some (carries names)) → IfSome v (λ b. option_map carries o ≡ Some b) → IfSome v (λ b. found ≡ Some b)
+names_broken carries found o o' None s f h = tt
+names_broken carries found None o' (Some b) s f h = cc
+names_broken carries found (Some names) o' (Some b) s f h = f names (sym s) ∙ h
 
-deep_broken : (net : List NodeDecl) (o o' : Option (List Name)) (e : WalkFault) → o ≡ o' → ((names : List Name) → o' ≡ Some names → walk_fault net ≡ Some (is_deep names)) → IsDeepBy o e → IsBroken (walk_fault net) e
-deep_broken net o o' Wide s f h = absurd h
-deep_broken net o o' (Loop names) s f h = absurd h
-deep_broken net o o' (Deep names) s f h = f names (sym s ∙ h)
-deep_broken net o o' OutOfMemory s f h = tt
+no_names : (carries : List Name → Broken) (o : Option (List Name)) → option_map carries o ≡ None → o ≡ None
+no_names carries None h = refl
+no_names carries (Some names) h = cc
 
 -- the rows of the newest level begin at nodes of the net
 starts_there : (net : List NodeDecl) → KeepsNodeRules net → (l : Levels) → AreLevels (map told_legs net) l → length l.sorted.items ≤ 65 → All (λ (r : WalkRow). r.start < length net) l.newest.items
@@ -115,30 +109,30 @@ levels-preserved c =
     let one = c.in_ok-levels-2.ensures.one_more in
     let size : vec_len old.sorted ≡ length old.sorted.items = search rules in
     let k : length old.sorted.items < 64 = omega (arith, c.len.ensures, c.levels-test.true) in
-    let none = cycle_told net (map (map told_by_row) l.sorted.items) (map told_by_row l.newest.items) c.in_ok-check_cycles.ensures.ok in
+    let none = cycle_told net (map (map told_by_row) l.sorted.items) (map told_by_row l.newest.items) (no_names has_loop _ c.in_ok-check_cycles.ensures) in
     record {
       levels = h;
       shallow = omega arith;
       acyclic = acyclic_more net (length old.sorted.items) (length l.sorted.items) one inv.acyclic (ap (λ rows. least_of (start_names true rows)) (sym h.newest) ∙ none);
     }
 
-pub returns-in_err-levels-2-clause-fault : goal.returns-in_err-levels-2-clause-fault
-returns-in_err-levels-2-clause-fault c =
+pub returns-in_err-levels-2-clause-checks : goal.returns-in_err-levels-2-clause-checks
+returns-in_err-levels-2-clause-checks c =
     let net = c.args.net.now in
     let old = c.levels.levels in
     let inv = c.levels.invariant in
     let wide : walk_limit < length (told_walks c.deref.result.now (length old.sorted.items + 1)) → walk_fault net ≡ Some is_wide = λ w. wide_is net c.requires.rules (length old.sorted.items) inv.acyclic inv.shallow (subst (λ x. walk_limit < length (told_walks x (length old.sorted.items + 1))) (c.deref.ensures.value ∙ c.in_ok-legs.ensures.legs) w) in
     let p = err_from_is_err_and c.from_residual-in_err-levels-2.result c.from_residual-in_err-levels-2.ensures.1 in
-    rw (p.1, p.2) (wide_broken net _ c.in_err-levels-2.field-0.0 wide c.in_err-levels-2.ensures.wide)
+    rw (p.1, p.2) (wide_broken _ _ _ wide c.in_err-levels-2.ensures.wide)
 
-pub returns-in_err-levels-3-clause-fault : goal.returns-in_err-levels-3-clause-fault
-returns-in_err-levels-3-clause-fault c =
+pub returns-in_err-levels-3-clause-checks : goal.returns-in_err-levels-3-clause-checks
+returns-in_err-levels-3-clause-checks c =
     let net = c.args.net.now in
     let old = c.levels.levels in
     let inv = c.levels.invariant in
     let wide : walk_limit < length (told_walks c.deref-2.result.now (length old.sorted.items + 1)) → walk_fault net ≡ Some is_wide = λ w. wide_is net c.requires.rules (length old.sorted.items) inv.acyclic inv.shallow (subst (λ x. walk_limit < length (told_walks x (length old.sorted.items + 1))) (c.deref-2.ensures.value ∙ c.in_ok-legs.ensures.legs) w) in
     let p = err_from_is_err_and c.from_residual-in_err-levels-3.result c.from_residual-in_err-levels-3.ensures.1 in
-    rw (p.1, p.2) (wide_broken net _ c.in_err-levels-3.field-0.0 wide c.in_err-levels-3.ensures.wide)
+    rw (p.1, p.2) (wide_broken _ _ _ wide c.in_err-levels-3.ensures.wide)
 
 pub check_cycles-requires-clause-there : goal.check_cycles-requires-clause-there
 check_cycles-requires-clause-there c =
@@ -186,8 +180,8 @@ check_depth-requires-clause-sorted c =
     let k = inv.shallow in
     sorted_starts net l h
 
-pub returns-in_err-check_cycles-clause-fault : goal.returns-in_err-check_cycles-clause-fault
-returns-in_err-check_cycles-clause-fault c =
+pub returns-in_err-check_cycles-clause-checks : goal.returns-in_err-check_cycles-clause-checks
+returns-in_err-check_cycles-clause-checks c =
     let net = c.args.net.now in
     let old = c.levels.levels in
     let inv = c.levels.invariant in
@@ -199,10 +193,10 @@ returns-in_err-check_cycles-clause-fault c =
     let suc_is : length l.sorted.items ≡ suc (length old.sorted.items) = omega arith in
     let loop : (names : List Name) → told_cycle net (told_levels (map told_legs net) (length l.sorted.items)) (told_level (map told_legs net) (length l.sorted.items)) ≡ Some names → walk_fault net ≡ Some (has_loop names) = λ names told. loop_is net c.requires.rules (length old.sorted.items) (length l.sorted.items) names suc_is inv.acyclic (omega arith) (few net l h) told in
     let p = err_from_is_err_and c.from_residual-in_err-check_cycles.result c.from_residual-in_err-check_cycles.ensures.1 in
-    rw (p.1, p.2) (loop_broken net _ _ c.in_err-check_cycles.field-0.0 (cycle_same net l h) loop c.in_err-check_cycles.ensures.err)
+    rw (p.1, p.2) (names_broken has_loop _ _ _ _ (cycle_same net l h) loop c.in_err-check_cycles.ensures)
 
-pub returns-in_err-check_depth-clause-fault : goal.returns-in_err-check_depth-clause-fault
-returns-in_err-check_depth-clause-fault c =
+pub returns-in_err-check_depth-clause-checks : goal.returns-in_err-check_depth-clause-checks
+returns-in_err-check_depth-clause-checks c =
     let net = c.args.net.now in
     let old = c.levels.levels in
     let inv = c.levels.invariant in
@@ -217,10 +211,10 @@ returns-in_err-check_depth-clause-fault c =
     ] in
     let deep : (names : List Name) → told_path net (told_levels (map told_legs net) (length l.sorted.items)) (told_level (map told_legs net) (length l.sorted.items)) ≡ Some names → walk_fault net ≡ Some (is_deep names) = λ names told. deep_at net c.requires.rules (length old.sorted.items) (length l.sorted.items) names one k ended inv.acyclic (few net l h) told in
     let p = err_from_is_err_and c.from_residual-in_err-check_depth.result c.from_residual-in_err-check_depth.ensures.1 in
-    rw (p.1, p.2) (deep_broken net _ _ c.in_err-check_depth.field-0.0 (path_same net l h) deep c.in_err-check_depth.ensures.err)
+    rw (p.1, p.2) (names_broken is_deep _ _ _ _ (path_same net l h) deep c.in_err-check_depth.ensures)
 
-pub table-requires-clause-room : goal.table-requires-clause-room
-table-requires-clause-room c =
+pub table_rows-requires-clause-room : goal.table_rows-requires-clause-room
+table_rows-requires-clause-room c =
     let net = c.args.net.now in
     let old = c.levels.levels in
     let inv = c.levels.invariant in
@@ -230,8 +224,8 @@ table-requires-clause-room c =
     let k = inv.shallow in
     let r = h.room in let e = limit_is in omega arith
 
-pub returns-clause-legal : goal.returns-clause-legal
-returns-clause-legal c =
+pub returns-clause-checks : goal.returns-clause-checks
+returns-clause-checks c =
     let net = c.args.net.now in
     let old = c.levels.levels in
     let inv = c.levels.invariant in
@@ -240,12 +234,12 @@ returns-clause-legal c =
     let one = c.in_ok-levels-3.ensures.one_more in
     let k = inv.shallow in
     let suc_is : length l.sorted.items ≡ suc (length old.sorted.items) = omega arith in
-    let none = path_told net (map (map told_by_row) l.sorted.items) (map told_by_row l.newest.items) c.in_ok-check_depth.ensures.ok in
+    let none = path_told net (map (map told_by_row) l.sorted.items) (map told_by_row l.newest.items) (no_names is_deep _ c.in_ok-check_depth.ensures) in
     let legal = legal_is net c.requires.rules (length old.sorted.items) (length l.sorted.items) suc_is inv.acyclic k (few net l h) (ap (λ rows. least_of (start_names false rows)) (sym h.newest) ∙ none) in
     legal.none
 
-pub returns-clause-rows : goal.returns-clause-rows
-returns-clause-rows c =
+pub returns-clause-walks : goal.returns-clause-walks
+returns-clause-walks c =
     let net = c.args.net.now in
     let old = c.levels.levels in
     let inv = c.levels.invariant in
@@ -254,10 +248,11 @@ returns-clause-rows c =
     let one = c.in_ok-levels-3.ensures.one_more in
     let k = inv.shallow in
     let suc_is : length l.sorted.items ≡ suc (length old.sorted.items) = omega arith in
-    let none = path_told net (map (map told_by_row) l.sorted.items) (map told_by_row l.newest.items) c.in_ok-check_depth.ensures.ok in
+    let none = path_told net (map (map told_by_row) l.sorted.items) (map told_by_row l.newest.items) (no_names is_deep _ c.in_ok-check_depth.ensures) in
     let legal = legal_is net c.requires.rules (length old.sorted.items) (length l.sorted.items) suc_is inv.acyclic k (few net l h) (ap (λ rows. least_of (start_names false rows)) (sym h.newest) ∙ none) in
     let pred : length l.sorted.items - 1 ≡ length old.sorted.items = omega arith in
     record {
       legal = (legal_breaks_no_rule net c.facts.ensures c.requires.rules.closed).0 (none_broken net c.requires.rules.each, legal.none);
-      same = c.in_ok-table.ensures (map told_legs net) h ∙ ap (told_walks (map told_legs net)) pred ∙ legal.rows;
+      same = c.in_ok-table_rows.ensures (map told_legs net) h ∙ ap (told_walks (map told_legs net)) pred ∙ legal.rows;
+      accepted = c.in_ok-accepted_sets.ensures;
     }

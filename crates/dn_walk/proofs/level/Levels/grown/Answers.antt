@@ -19,7 +19,7 @@ returns-in_err-next-clause-wide c =
     let newest : map told_by_row c.deref.result.now ≡ told_level legs (length c.args.self.sorted.items) = ap (map told_by_row) c.deref.ensures.value ∙ c.requires.levels.newest in
     let wide = grown_wide legs (length c.args.self.sorted.items) c.args.self.room (map told_by_row c.deref.result.now) newest c.requires.levels.room in
     let p = err_from_is_err_and c.from_residual.result c.from_residual.ensures.1 in
-    rw (p.1, p.2) (wide_weaker _ _ c.in_err-next.field-0.0 wide c.in_err-next.ensures.wide)
+    rw (p.1, p.2) (wide_weaker _ _ _ wide c.in_err-next.ensures.wide)
 
 pub returns-clause-levels : goal.returns-clause-levels
 returns-clause-levels c =
