@@ -1,27 +1,24 @@
 -- What stands for the parameters of a module, argument by argument.
-use Rattle.std.proofs.Common.{◌≡◌, ◌∙◌, ap, sym, subst, refl, arith, ℕ, suc, ◌+◌, ◌<◌, ◌≤◌, Bool, true, false, not, ◌||◌, ◌&&◌, cond, List, [], ◌∷◌, ◌++◌, length, map, drop, get_or, Option, Some, None, Result, Ok, Err}
-use Rattle.std.proofs.lemmas.List.{append_assoc, append-nil, length-map}
+use Rattle.std.proofs.Common.{◌≡◌, ◌∙◌, ap, sym, subst, refl, ℕ, suc, ◌+◌, ◌<◌, Bool, true, false, not, ◌||◌, ◌&&◌, cond, List, [], ◌∷◌, ◌++◌, length, map, drop, get_or, Some, IfSome, Result, Ok, Err}
+use Rattle.std.specs.Option.{option_map}
+use Rattle.std.proofs.lemmas.List.{append_assoc, append-nil}
 use Rattle.std.proofs.lemmas.List.Folds.{list_any-append}
 use Rattle.std.proofs.lemmas.Cmp.{nat_list_eq_equiv}
 use Rattle.std.specs.List.{list_any, list_all}
 use Rattle.std.specs.Str.{bytes_eq}
 use Rattle.dn_parse.specs.declared.syntax.Param.{Param as CodeParam}
 use Rattle.dn_parse.specs.declared.syntax.Arg.{Arg as CodeArg}
-use Rattle.dn_parse.specs.Tree.{Param, number_param, node_param, Arg, number_arg, node_arg, Part, Items}
-use Rattle.dn_parse.specs.Seen.{param_of, arg_of}
-use Rattle.dn_module.specs.declared.fault.ExpandFault.{ExpandFault}
-use Rattle.dn_module.specs.declared.fault.ExpandFault.TheVariants.{Arguments}
-use Rattle.dn_module.specs.declared.values.Flaw.TheVariants.{Unknown, Range}
+use Rattle.dn_parse.specs.Tree.{Param, number_param, node_param, Arg, number_arg, node_arg, Part}
+use Rattle.dn_parse.specs.Views.{param_view, arg_view}
 use Rattle.dn_module.specs.declared.values.NameFault.{NameFault}
 use Rattle.dn_module.specs.declared.values.NameFault.TheVariants.{Flawed, OutOfMemory}
 use Rattle.dn_module.specs.Values.{Flaw, unknown_variable, out_of_range, ◌>>=◌, each, full_name}
 use Rattle.dn_module.specs.Drafts.{at_line}
 use Rattle.dn_module.specs.Expand.{Module, Work, statements, within_module, fit, fits_param, word_of_param, has_twice, Given, number, named, given_by, number_pair, node_pair, numbers_of, nodes_of, used_body, use_of}
-use Rattle.dn_module.specs.Flaws.{IsFlaw, fault_at, flaw_of}
 use Rattle.dn_module.specs.Machine.{bound, given_more, replaced_by}
 use Rattle.dn_module.specs.Replace.{Replacement, under, in_items, in_arg}
-use Rattle.dn_module.specs.Told.{IsFault}
 use Rattle.dn_module.proofs.Each.{drop_next}
+use Rattle.dn_module.specs.Faults.{ExpansionFault, has_other_arguments, flaw_fault, flaw_view, name_fault_view}
 
 -- arguments that fit are as many as the parameters
 pub fit_length : (ps : List Param) (xs : List Arg) → fit ps xs ≡ true → length ps ≡ length xs
@@ -54,8 +51,8 @@ fit_in r (p ∷ ps) (x ∷ xs) = λ i. cond (fits_in r p x i) (fit_in r ps xs i)
 
 -- one parameter and its argument
 pub fit_next : (ps : List CodeParam) (xs : List CodeArg) (i : ℕ) (p : CodeParam) (x : CodeArg) → i < length ps → i < length xs → p ≡ get_or ps i p → x ≡ get_or xs i x
-    → fit (map param_of (drop i ps)) (map arg_of (drop i xs)) ≡ cond (fits_param (param_of p) (arg_of x)) (fit (map param_of (drop (i + 1) ps)) (map arg_of (drop (i + 1) xs))) false
-fit_next ps xs i p x hp hx ep ex = λ j. fit (map param_of (drop_next ps i p hp ep j)) (map arg_of (drop_next xs i x hx ex j))
+    → fit (map param_view (drop i ps)) (map arg_view (drop i xs)) ≡ cond (fits_param (param_view p) (arg_view x)) (fit (map param_view (drop (i + 1) ps)) (map arg_view (drop (i + 1) xs))) false
+fit_next ps xs i p x hp hx ep ex = λ j. fit (map param_view (drop_next ps i p hp ep j)) (map arg_view (drop_next xs i x hx ex j))
 
 abbrev pub Pairs : Type 0
 Pairs = List (List ℕ × ℕ) × List (List ℕ × List ℕ)
@@ -175,13 +172,13 @@ module _ (given : Pairs) (w : List ℕ) (ws : List (List ℕ)) (fresh : AreFresh
 abbrev named_by : List ℕ → Pairs → Replacement
 named_by text given = record { numbers = given.0; naming = under text given.1 }
 
-abbrev pub body_works : ℕ → Module → Replacement → Result (List Work) ExpandFault
+abbrev pub body_works : ℕ → Module → Replacement → Result (List Work) ExpansionFault
 body_works place m r = Ok (statements (within_module place) (in_items r m.body))
 
 abbrev naming_of : Result (List ℕ) Flaw → Pairs → Result Replacement Flaw
 naming_of t given = t >>= (λ text. Ok (named_by text given))
 
-abbrev used_works : ℕ → Module → List Given → List ℕ → Result (List Work) ExpandFault
+abbrev used_works : ℕ → Module → List Given → List ℕ → Result (List Work) ExpansionFault
 used_works place m gs text = Ok (statements (within_module place) (used_body m gs text))
 
 pub use_is : (line : ℕ) (xs : List Arg) (prefix : List Part) (place : ℕ) (m : Module) → fit m.params xs ≡ true
@@ -196,30 +193,29 @@ use_is line xs prefix place m fits = rw fits (go (each given_by xs) (full_name p
   go (Ok gs) (Err out_of_range) = refl
   go (Ok gs) (Ok text) = refl
 
-pub unfit_use : (line : ℕ) (xs : List Arg) (prefix : List Part) (place : ℕ) (m : Module) → fit m.params xs ≡ false → use_of line xs prefix (Some (place, m)) ≡ Err (Arguments line)
+pub unfit_use : (line : ℕ) (xs : List Arg) (prefix : List Part) (place : ℕ) (m : Module) → fit m.params xs ≡ false → use_of line xs prefix (Some (place, m)) ≡ Err (has_other_arguments line)
 unfit_use line xs prefix place m fits = rw fits refl
 
 -- the flaw of a part is a fault of its statement
-pub flaw_at : {X Y : Type 0} (line : ℕ) (fault : NameFault) (made : Result X Flaw) (f : X → Result Y ExpandFault) (whole : Result Y ExpandFault) → whole ≡ (at_line line made >>= f) → IsFlaw fault made → IsFault (fault_at line fault) whole
-flaw_at line (Flawed Unknown) made f whole e is = e ∙ ap (λ m. at_line line m >>= f) is
-flaw_at line (Flawed Range) made f whole e is = e ∙ ap (λ m. at_line line m >>= f) is
+pub flaw_at : {X Y : Type 0} (line : ℕ) (fault : NameFault) (made : Result X Flaw) (f : X → Result Y ExpansionFault) (whole : Result Y ExpansionFault) → whole ≡ (at_line line made >>= f) → IfSome (name_fault_view fault) (λ g. made ≡ Err g) → IfSome (option_map (flaw_fault line) (name_fault_view fault)) (λ g. whole ≡ Err g)
+flaw_at line (Flawed g) made f whole e is = e ∙ ap (λ m. at_line line m >>= f) is
 flaw_at line OutOfMemory made f whole e is = tt
 
 -- the words of parameters, and arguments with what is replaced in them
 abbrev pub words_of : List CodeParam → List (List ℕ)
-words_of ps = map word_of_param (map param_of ps)
+words_of ps = map word_of_param (map param_view ps)
 
 abbrev pub args_in : Replacement → List CodeArg → List Arg
-args_in r xs = map (in_arg r) (map arg_of xs)
+args_in r xs = map (in_arg r) (map arg_view xs)
 
 -- a step of the loop over parameters and their arguments
 module _ (r : Replacement) (ps : List CodeParam) (xs : List CodeArg) (i : ℕ) (p : CodeParam) (x : CodeArg) (hp : i < length ps) (hx : i < length xs) (ep : p ≡ get_or ps i p) (ex : x ≡ get_or xs i x) (given : Pairs) where
   -- the word, and its argument with what is replaced in it
   abbrev word_here : List ℕ
-  word_here = word_of_param (param_of p)
+  word_here = word_of_param (param_view p)
 
   abbrev arg_here : Arg
-  arg_here = in_arg r (arg_of x)
+  arg_here = in_arg r (arg_view x)
 
   words_next : words_of (drop i ps) ≡ word_here ∷ words_of (drop (i + 1) ps)
   words_next = ap words_of (drop_next ps i p hp ep)
@@ -239,6 +235,6 @@ module _ (r : Replacement) (ps : List CodeParam) (xs : List CodeArg) (i : ℕ) (
   pub given_step : (whole : Result Pairs Flaw) (new : Pairs) → whole ≡ given_after given (bound (words_of (drop i ps)) (args_in r (drop i xs))) → given_more word_here given arg_here ≡ Ok new → whole ≡ given_after new (bound (words_of (drop (i + 1) ps)) (args_in r (drop (i + 1) xs)))
   given_step whole new so_far h = so_far ∙ ap (given_after given) bound_here ∙ give_next word_here (words_of (drop (i + 1) ps)) arg_here (args_in r (drop (i + 1) xs)) given new h
 
-  pub flaw_step : (whole : Result Pairs Flaw) (fault : NameFault) → whole ≡ given_after given (bound (words_of (drop i ps)) (args_in r (drop i xs))) → IsFlaw fault (given_more word_here given arg_here) → IsFlaw fault whole
-  flaw_step whole (Flawed f) so_far is = so_far ∙ ap (given_after given) bound_here ∙ give_err word_here (words_of (drop (i + 1) ps)) arg_here (args_in r (drop (i + 1) xs)) given (flaw_of f) is
+  pub flaw_step : (whole : Result Pairs Flaw) (fault : NameFault) → whole ≡ given_after given (bound (words_of (drop i ps)) (args_in r (drop i xs))) → IfSome (name_fault_view fault) (λ g. given_more word_here given arg_here ≡ Err g) → IfSome (name_fault_view fault) (λ g. whole ≡ Err g)
+  flaw_step whole (Flawed f) so_far is = so_far ∙ ap (given_after given) bound_here ∙ give_err word_here (words_of (drop (i + 1) ps)) arg_here (args_in r (drop (i + 1) xs)) given (flaw_view f) is
   flaw_step whole OutOfMemory so_far is = tt

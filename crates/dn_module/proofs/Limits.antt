@@ -1,5 +1,5 @@
 -- The limits on nodes, on agents and on parts, as one node more is added.
-use Rattle.std.proofs.Common.{◌≡◌, ◌∙◌, ap, sym, refl, arith, ℕ, ◌+◌, ◌<◌, ◌≤◌, nat_lt, ◌&&◌, IsTrue, Bool, true, false, cond, List, [], ◌∷◌, ◌++◌, length, map, Option, Some, None, Err, Ok, sum, position, is_some}
+use Rattle.std.proofs.Common.{◌≡◌, ◌∙◌, ap, sym, refl, arith, ℕ, ◌+◌, ◌≤◌, nat_lt, ◌&&◌, IsTrue, Bool, true, false, cond, List, [], ◌∷◌, ◌++◌, length, map, Option, Some, None, Err, Ok, sum, position, is_some}
 use Rattle.std.proofs.lemmas.Bool.Decides.{nat_tests}
 use Rattle.std.proofs.lemmas.Bool.{ltb-false}
 use Rattle.std.proofs.lemmas.List.{map-append}
@@ -8,10 +8,10 @@ use Rattle.std.specs.List.{list_all}
 use Rattle.std.specs.Str.{bytes_eq}
 use mir.Val.{bool_byte}
 use Rattle.dn_module.specs.declared.draft.Draft.{Draft}
-use Rattle.dn_module.specs.declared.fault.ExpandFault.TheVariants.{Duplicate, TooMany}
-use Rattle.dn_module.specs.Drafts.{is_agent, agents_of, parts_of, all_parts, limit_passed, by_limit, with_draft, is_known, names}
+use Rattle.dn_module.specs.Drafts.{is_agent, agents_of, parts_of, all_parts, limit_passed, with_draft, is_known, names}
 use Rattle.dn_module.specs.Machine.{limit_by}
 use Rattle.dn_module.proofs.Known.{is_known-Some, is_known-None}
+use Rattle.dn_module.specs.Faults.{is_duplicate, passes_limit}
 
 abbrev pub one_if : Bool → ℕ
 one_if true = 1
@@ -50,10 +50,10 @@ pub limit_is : (ds : List Draft) (d : Draft) (nodes agents parts : ℕ) → node
 limit_is ds d nodes agents parts n few a p =
     rw (n, p, agents_test (is_agent d.role) agents (agents_of ds) few a) refl
 
-pub known_fault : (ds : List Draft) (d : Draft) → is_known (names ds) d.name ≡ true → with_draft ds d ≡ Err (Duplicate d.line)
+pub known_fault : (ds : List Draft) (d : Draft) → is_known (names ds) d.name ≡ true → with_draft ds d ≡ Err (is_duplicate d.line)
 known_fault ds d e = rw e refl
 
-pub limit_fault : (ds : List Draft) (d : Draft) (limit : ℕ) → is_known (names ds) d.name ≡ false → limit_passed ds d ≡ Some limit → with_draft ds d ≡ Err (TooMany d.line limit)
+pub limit_fault : (ds : List Draft) (d : Draft) (limit : ℕ) → is_known (names ds) d.name ≡ false → limit_passed ds d ≡ Some limit → with_draft ds d ≡ Err (passes_limit d.line limit)
 limit_fault ds d limit e l = rw (e, l) refl
 
 pub no_fault : (ds : List Draft) (d : Draft) → is_known (names ds) d.name ≡ false → limit_passed ds d ≡ None → with_draft ds d ≡ Ok (ds ++ d ∷ [])

@@ -1,19 +1,19 @@
 -- Modules by their names, and the words of their parameters.
-use Rattle.std.proofs.Common.{◌≡◌, ◌∙◌, ap, sym, refl, arith, ℕ, zero, suc, ◌+◌, ◌<◌, ◌≤◌, nat_lt, Bool, true, false, not, ◌||◌, cond, List, [], ◌∷◌, ◌++◌, length, map, take, drop, get_or, slice_get, position, Option, Some, None, IsTrue, Result, Ok, Err, OnOk, OnErr}
+use Rattle.std.proofs.Common.{◌≡◌, ◌∙◌, ap, sym, refl, arith, ℕ, zero, suc, ◌+◌, ◌<◌, ◌≤◌, nat_lt, Bool, true, false, not, ◌||◌, cond, List, [], ◌∷◌, ◌++◌, length, map, take, drop, get_or, slice_get, position, Some, None, IsTrue, Result, Ok, Err, OnOk, OnErr}
 use Rattle.std.proofs.lemmas.Bool.Decides.{nat_tests}
-use Rattle.std.proofs.lemmas.Bool.{ltb-false, ltb-true, cases_lt}
+use Rattle.std.proofs.lemmas.Bool.{ltb-false, ltb-true}
 use Rattle.std.proofs.lemmas.List.{length-map, map_more, map-append, take-append-drop, take_all}
 use Rattle.std.specs.List.{prefix_len, list_any}
 use Rattle.std.specs.Str.{bytes_eq}
 use Rattle.dn_parse.specs.declared.syntax.Param.{Param as CodeParam}
-use Rattle.dn_parse.specs.Seen.{param_of}
+use Rattle.dn_parse.specs.Views.{param_view}
 use Rattle.dn_module.specs.declared.modules.Module.{Module as CodeModule}
 use Rattle.dn_module.specs.Expand.{Module, Visibility, outside, within_module, module_from, usable, has_twice, is_module, word_of_param, with_module}
-use Rattle.dn_module.specs.declared.fault.ExpandFault.TheVariants.{Duplicate}
 use Rattle.dn_module.specs.Drafts.{is_known}
-use Rattle.dn_module.specs.Stack.{sees, module_seen}
+use Rattle.dn_module.specs.Stack.{sees, module_view}
 use Rattle.dn_module.proofs.Known.{twice-push, twice-append}
 use Rattle.dn_module.proofs.Places.{list_any-map}
+use Rattle.dn_module.specs.Faults.{is_duplicate}
 
 -- the place of the first module with a name, or past them all
 place : List ℕ → List Module → ℕ
@@ -110,7 +110,7 @@ module _ (title : List ℕ) where
       go false t = cut ms 0 before (ltb-false _ _ t)
 
 -- the names of the modules that are kept
-pub titles_are : (ms : List CodeModule) → map (λ m. m.title) (map module_seen ms) ≡ map (λ m. m.title.now) ms
+pub titles_are : (ms : List CodeModule) → map (λ m. m.title) (map module_view ms) ≡ map (λ m. m.title.now) ms
 titles_are [] = refl
 titles_are (m ∷ ms) = ap (λ l. m.title.now ∷ l) (titles_are ms)
 
@@ -124,28 +124,28 @@ is_once false h = refl
 
 -- the words of parameters
 abbrev pub param_words : List CodeParam → List (List ℕ)
-param_words ps = map (λ p. word_of_param (param_of p)) ps
+param_words ps = map (λ p. word_of_param (param_view p)) ps
 
-pub words_are : (ps : List CodeParam) → map word_of_param (map param_of ps) ≡ param_words ps
+pub words_are : (ps : List CodeParam) → map word_of_param (map param_view ps) ≡ param_words ps
 words_are [] = refl
-words_are (p ∷ ps) = ap (λ l. word_of_param (param_of p) ∷ l) (words_are ps)
+words_are (p ∷ ps) = ap (λ l. word_of_param (param_view p) ∷ l) (words_are ps)
 
-words_more : (ps : List CodeParam) (i : ℕ) (p : CodeParam) → i < length ps → p ≡ get_or ps i p → has_twice (param_words (take (i + 1) ps)) ≡ (is_known (param_words (take i ps)) (word_of_param (param_of p)) || has_twice (param_words (take i ps)))
+words_more : (ps : List CodeParam) (i : ℕ) (p : CodeParam) → i < length ps → p ≡ get_or ps i p → has_twice (param_words (take (i + 1) ps)) ≡ (is_known (param_words (take i ps)) (word_of_param (param_view p)) || has_twice (param_words (take i ps)))
 words_more ps i p h e =
-    ap has_twice (map_more (λ (q : CodeParam). word_of_param (param_of q)) ps i p h)
-    ∙ twice-push (param_words (take i ps)) (word_of_param (param_of (get_or ps i p)))
-    ∙ ap (λ (q : CodeParam). is_known (param_words (take i ps)) (word_of_param (param_of q)) || has_twice (param_words (take i ps))) (sym e)
+    ap has_twice (map_more (λ (q : CodeParam). word_of_param (param_view q)) ps i p h)
+    ∙ twice-push (param_words (take i ps)) (word_of_param (param_view (get_or ps i p)))
+    ∙ ap (λ (q : CodeParam). is_known (param_words (take i ps)) (word_of_param (param_view q)) || has_twice (param_words (take i ps))) (sym e)
 
 -- a word that was there before comes twice
-pub word_met : (ps : List CodeParam) (i : ℕ) (p : CodeParam) → i < length ps → p ≡ get_or ps i p → is_known (param_words (take i ps)) (word_of_param (param_of p)) ≡ true → has_twice (param_words ps) ≡ true
+pub word_met : (ps : List CodeParam) (i : ℕ) (p : CodeParam) → i < length ps → p ≡ get_or ps i p → is_known (param_words (take i ps)) (word_of_param (param_view p)) ≡ true → has_twice (param_words ps) ≡ true
 word_met ps i p h e k =
     let front : has_twice (param_words (take (i + 1) ps)) ≡ true = words_more ps i p h e ∙ ap (λ b. b || has_twice (param_words (take i ps))) k in
     let parts : param_words ps ≡ param_words (take (i + 1) ps) ++ param_words (drop (i + 1) ps) =
-    ap param_words (sym (take-append-drop (i + 1) ps)) ∙ map-append (λ (q : CodeParam). word_of_param (param_of q)) (take (i + 1) ps) (drop (i + 1) ps) in
+    ap param_words (sym (take-append-drop (i + 1) ps)) ∙ map-append (λ (q : CodeParam). word_of_param (param_view q)) (take (i + 1) ps) (drop (i + 1) ps) in
     ap has_twice parts ∙ twice-append (param_words (take (i + 1) ps)) (param_words (drop (i + 1) ps)) front
 
 -- one that was not there comes once
-pub word_new : (ps : List CodeParam) (i : ℕ) (p : CodeParam) → i < length ps → p ≡ get_or ps i p → is_known (param_words (take i ps)) (word_of_param (param_of p)) ≡ false → has_twice (param_words (take i ps)) ≡ false → has_twice (param_words (take (i + 1) ps)) ≡ false
+pub word_new : (ps : List CodeParam) (i : ℕ) (p : CodeParam) → i < length ps → p ≡ get_or ps i p → is_known (param_words (take i ps)) (word_of_param (param_view p)) ≡ false → has_twice (param_words (take i ps)) ≡ false → has_twice (param_words (take (i + 1) ps)) ≡ false
 word_new ps i p h e k l = words_more ps i p h e ∙ ap (λ b. b || has_twice (param_words (take i ps))) k ∙ l
 
 -- a word that was put among others, by the answer of the set that keeps them
@@ -169,19 +169,19 @@ module _ {S : Type 0} (text : S → List ℕ) (keys : List S) (key : S) where
     go false e is = ap (map text) is ∙ map-append text keys (key ∷ [])
 
 -- the words of the parameters so far, and one more
-pub words_put : (ps : List CodeParam) (i : ℕ) (p : CodeParam) → i < length ps → p ≡ get_or ps i p → param_words (take i ps) ++ word_of_param (param_of p) ∷ [] ≡ param_words (take (i + 1) ps)
+pub words_put : (ps : List CodeParam) (i : ℕ) (p : CodeParam) → i < length ps → p ≡ get_or ps i p → param_words (take i ps) ++ word_of_param (param_view p) ∷ [] ≡ param_words (take (i + 1) ps)
 words_put ps i p h e =
-    ap (λ (q : CodeParam). param_words (take i ps) ++ word_of_param (param_of q) ∷ []) e
-    ∙ sym (map_more (λ (q : CodeParam). word_of_param (param_of q)) ps i p h)
+    ap (λ (q : CodeParam). param_words (take i ps) ++ word_of_param (param_view q) ∷ []) e
+    ∙ sym (map_more (λ (q : CodeParam). word_of_param (param_view q)) ps i p h)
 
-pub words_all : (ps : List CodeParam) (i : ℕ) → length ps ≤ i → param_words (take i ps) ≡ map word_of_param (map param_of ps)
+pub words_all : (ps : List CodeParam) (i : ℕ) → length ps ≤ i → param_words (take i ps) ≡ map word_of_param (map param_view ps)
 words_all ps i h = ap param_words (take_all i ps h) ∙ sym (words_are ps)
 
 -- one more module: the limit, what is there already, and what becomes of it
 pub few_modules : (n : ℕ) → n < 256 → nat_lt 256 (n + 1) ≡ false
 few_modules n h = grind (arith, nat_tests)
 
-pub module_twice : (ms : List Module) (line : ℕ) (m : Module) → nat_lt 256 (length ms + 1) ≡ false → (is_module ms m.title || has_twice (map word_of_param m.params)) ≡ true → with_module ms line m ≡ Err (Duplicate line)
+pub module_twice : (ms : List Module) (line : ℕ) (m : Module) → nat_lt 256 (length ms + 1) ≡ false → (is_module ms m.title || has_twice (map word_of_param m.params)) ≡ true → with_module ms line m ≡ Err (is_duplicate line)
 module_twice ms line m n h = rw (n, h) refl
 
 pub module_added : (ms : List Module) (line : ℕ) (m : Module) → nat_lt 256 (length ms + 1) ≡ false → (is_module ms m.title || has_twice (map word_of_param m.params)) ≡ false → with_module ms line m ≡ Ok (ms ++ m ∷ [])

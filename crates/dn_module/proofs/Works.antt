@@ -1,20 +1,16 @@
 -- What a stack still has to do, through the moves of the machine.
-use Rattle.std.proofs.Common.{◌≡◌, ◌∙◌, ap, sym, refl, arith, ℕ, zero, suc, ◌-◌, ◌<◌, Result, Ok, Err, List, [], ◌∷◌, ◌++◌, map, reverse, drop, true, false, Bool, Option, None, Some, cond, nat_lt}
+use Rattle.std.proofs.Common.{◌≡◌, ◌∙◌, ap, sym, refl, arith, ℕ, zero, suc, ◌-◌, ◌<◌, Result, Ok, Err, List, [], ◌∷◌, ◌++◌, reverse, Option, None, Some, IfSome}
 use Rattle.std.proofs.lemmas.List.{append_assoc, reverse-append}
-use Rattle.dn_parse.specs.Tree.{Items}
 use Rattle.dn_module.specs.declared.stack.Turns.{Turns}
 use Rattle.dn_module.specs.declared.stack.Rest.{Rest}
 use Rattle.dn_module.specs.declared.stack.Use.{Use}
-use Rattle.dn_module.specs.declared.stack.Stack.{Stack}
-use Rattle.dn_module.specs.declared.fault.ExpandFault.{ExpandFault}
-use Rattle.dn_module.specs.declared.fault.ExpandFault.TheVariants.{Duplicate, Unknown, Arguments, Value, TooMany, OutOfMemory}
-use Rattle.dn_module.specs.Expand.{Visibility, State, Work, line_of, turns, statements, turn_of, rewritten, all_rewritten, most_steps}
+use Rattle.dn_module.specs.Expand.{Visibility, State, Work, line_of, turns, statements, rewritten, all_rewritten, most_steps}
 use Rattle.dn_module.specs.Machine.{in_front}
-use Rattle.dn_module.specs.Told.{IsFault}
 use Rattle.dn_module.specs.Values.{◌>>=◌}
-use Rattle.dn_module.specs.Replace.{Replacement, one_number, hiding, in_items}
-use Rattle.dn_module.specs.Stack.{seen_body, loop_body, turns_works, after_works, turn_works, rest_works, outside_of, bodies_works, use_works, uses_works, stack_works}
+use Rattle.dn_module.specs.Replace.{Replacement, one_number, in_items}
+use Rattle.dn_module.specs.Stack.{body_view, loop_body, turns_works, after_works, turn_works, rest_works, outside_of, bodies_works, use_works, uses_works}
 use Rattle.dn_module.proofs.Replaced.{one_more}
+use Rattle.dn_module.specs.Faults.{ExpansionFault, passes_limit}
 
 -- a body that is at its end goes
 pub bodies_left : (s : Visibility) (r : Replacement) (b x : Rest) (bs : List Rest) → rest_works s r b ≡ [] → bodies_works s r (b ∷ reverse (bs ++ x ∷ [])) ≡ bodies_works s (outside_of r) (x ∷ reverse bs)
@@ -33,31 +29,31 @@ pub uses_more : (u x : Use) (us : List Use) → uses_works (x ∷ reverse (us ++
 uses_more u x us = ap (λ l. use_works x ++ uses_works l) (reverse-append us (u ∷ []))
 
 -- a turn is gone into: its body, the turns after it, and what was there before
-pub turn_entered : (s : Visibility) (r : Replacement) (t : Turns) (inner pushed now : Rest) (bs : List Rest) → rest_works s r inner ≡ statements s (in_items r (seen_body inner.statements.now))
-    → rest_works s r pushed ≡ after_works s r t ++ statements s (in_items r (seen_body inner.statements.now))
-    → rest_works s (record { numbers = (t.variable.now, t.next) ∷ r.numbers; naming = r.naming }) now ≡ statements s (in_items (record { numbers = (t.variable.now, t.next) ∷ r.numbers; naming = r.naming }) (seen_body t.body.now))
+pub turn_entered : (s : Visibility) (r : Replacement) (t : Turns) (inner pushed now : Rest) (bs : List Rest) → rest_works s r inner ≡ statements s (in_items r (body_view inner.statements.now))
+    → rest_works s r pushed ≡ after_works s r t ++ statements s (in_items r (body_view inner.statements.now))
+    → rest_works s (record { numbers = (t.variable.now, t.next) ∷ r.numbers; naming = r.naming }) now ≡ statements s (in_items (record { numbers = (t.variable.now, t.next) ∷ r.numbers; naming = r.naming }) (body_view t.body.now))
     → bodies_works s (record { numbers = (t.variable.now, t.next) ∷ r.numbers; naming = r.naming }) (now ∷ reverse (bs ++ pushed ∷ [])) ≡ turn_works s r t ++ bodies_works s r (inner ∷ reverse bs)
 turn_entered s r t inner pushed now bs before after body =
     let entered : Replacement = record { numbers = (t.variable.now, t.next) ∷ r.numbers; naming = r.naming } in
     let rest = bodies_works s (outside_of r) (reverse bs) in
-    let here = statements s (in_items r (seen_body inner.statements.now)) in
+    let here = statements s (in_items r (body_view inner.statements.now)) in
     let turn = statements s (in_items (one_number t.variable.now t.next) (loop_body r t)) in
     ap (λ l. rest_works s entered now ++ bodies_works s r l) (reverse-append bs (pushed ∷ []))
-    ∙ ap (λ ws. ws ++ (rest_works s r pushed ++ rest)) (body ∙ ap (statements s) (sym (one_more t.variable.now t.next r (seen_body t.body.now))))
+    ∙ ap (λ ws. ws ++ (rest_works s r pushed ++ rest)) (body ∙ ap (statements s) (sym (one_more t.variable.now t.next r (body_view t.body.now))))
     ∙ ap (λ ws. turn ++ (ws ++ rest)) after
     ∙ ap (λ ws. turn ++ ws) (append_assoc (after_works s r t) here rest)
     ∙ sym (append_assoc turn (after_works s r t) (here ++ rest))
     ∙ ap (λ ws. turn_works s r t ++ (ws ++ rest)) (sym before)
 
 -- a body with no turns to do
-pub free_rest : (s : Visibility) (r : Replacement) (b : Rest) → b.turns ≡ None → rest_works s r b ≡ statements s (in_items r (seen_body b.statements.now))
-free_rest s r b none = ap (λ t. turns_works s r t ++ statements s (in_items r (seen_body b.statements.now))) none
+pub free_rest : (s : Visibility) (r : Replacement) (b : Rest) → b.turns ≡ None → rest_works s r b ≡ statements s (in_items r (body_view b.statements.now))
+free_rest s r b none = ap (λ t. turns_works s r t ++ statements s (in_items r (body_view b.statements.now))) none
 
 -- a step, by what comes in the place of the first work
 module _ (left : ℕ) (w : Work) (ws : List Work) (st : State) where
   pub step_on : (next : List Work × State) → 0 < left → in_front ws (rewritten st w) ≡ Ok next → all_rewritten left (w ∷ ws) st ≡ all_rewritten (left - 1) next.0 next.1
   step_on next more h = go left more where
-    by : (k : ℕ) (r : Result (List Work × State) ExpandFault) → in_front ws r ≡ Ok next → (r >>= (λ n. all_rewritten k (n.0 ++ ws) n.1)) ≡ all_rewritten k next.0 next.1
+    by : (k : ℕ) (r : Result (List Work × State) ExpansionFault) → in_front ws r ≡ Ok next → (r >>= (λ n. all_rewritten k (n.0 ++ ws) n.1)) ≡ all_rewritten k next.0 next.1
     by k (Err e) h = cc
     by k (Ok n) h = let same : (n.0 ++ ws, n.1) ≡ next = cc in ap (λ m. all_rewritten k m.0 m.1) same
 
@@ -65,9 +61,9 @@ module _ (left : ℕ) (w : Work) (ws : List Work) (st : State) where
     go zero more = absurd (omega arith)
     go (suc k) more = by k (rewritten st w) h ∙ ap (λ j. all_rewritten j next.0 next.1) (omega arith)
 
-  pub step_err : (e : ExpandFault) → 0 < left → in_front ws (rewritten st w) ≡ Err e → all_rewritten left (w ∷ ws) st ≡ Err e
+  pub step_err : (e : ExpansionFault) → 0 < left → in_front ws (rewritten st w) ≡ Err e → all_rewritten left (w ∷ ws) st ≡ Err e
   step_err e more h = go left more where
-    by : (k : ℕ) (r : Result (List Work × State) ExpandFault) → in_front ws r ≡ Err e → (r >>= (λ n. all_rewritten k (n.0 ++ ws) n.1)) ≡ Err e
+    by : (k : ℕ) (r : Result (List Work × State) ExpansionFault) → in_front ws r ≡ Err e → (r >>= (λ n. all_rewritten k (n.0 ++ ws) n.1)) ≡ Err e
     by k (Err f) h = let same : f ≡ e = cc in ap (λ e. Err e) same
     by k (Ok n) h = cc
 
@@ -76,16 +72,12 @@ module _ (left : ℕ) (w : Work) (ws : List Work) (st : State) where
     go (suc k) more = by k (rewritten st w) h
 
   -- a fault of a step is one of the whole
-  pub fault_on : (fault : ExpandFault) (whole : Result State ExpandFault) → 0 < left → whole ≡ all_rewritten left (w ∷ ws) st → IsFault fault (in_front ws (rewritten st w)) → IsFault fault whole
-  fault_on OutOfMemory whole more same is = tt
-  fault_on (Duplicate line) whole more same is = same ∙ step_err (Duplicate line) more is
-  fault_on (Unknown line) whole more same is = same ∙ step_err (Unknown line) more is
-  fault_on (Arguments line) whole more same is = same ∙ step_err (Arguments line) more is
-  fault_on (Value line) whole more same is = same ∙ step_err (Value line) more is
-  fault_on (TooMany line limit) whole more same is = same ∙ step_err (TooMany line limit) more is
+  pub fault_on : (fault : Option ExpansionFault) (whole : Result State ExpansionFault) → 0 < left → whole ≡ all_rewritten left (w ∷ ws) st → IfSome fault (λ g. in_front ws (rewritten st w) ≡ Err g) → IfSome fault (λ g. whole ≡ Err g)
+  fault_on None whole more same is = tt
+  fault_on (Some g) whole more same is = same ∙ step_err g more is
 
 -- no step is left
-pub steps_out : (left : ℕ) (w : Work) (ws : List Work) (st : State) → left ≡ 0 → all_rewritten left (w ∷ ws) st ≡ Err (TooMany (line_of w) 65536)
+pub steps_out : (left : ℕ) (w : Work) (ws : List Work) (st : State) → left ≡ 0 → all_rewritten left (w ∷ ws) st ≡ Err (passes_limit (line_of w) 65536)
 steps_out left w ws st none = rw none refl
 
 pub most_steps_are : most_steps ≡ 65536

@@ -1,13 +1,12 @@
 -- The commands of a tree, with the values of their expressions and the numbers of the nodes that they name.
-use Rattle.std.specs.Prelude.{ℕ, Bool, true, ◌&&◌, nat_lt, List, position, Option, Some, None, Result, Ok, Err}
-use Rattle.std.specs.Str.{bytes_eq}
+use Rattle.std.specs.Prelude.{ℕ, Bool, true, ◌&&◌, nat_lt, List, Option, Some, None, Result, Ok}
 use Rattle.dn_parse.specs.Tree.{Part, Order, resolve, lookup, view, grant, route, revoke, dump, split, absorb, Command as CommandOf}
 use Rattle.dn_module.specs.declared.command.Command.{Command}
 use Rattle.dn_module.specs.declared.command.Command.TheVariants.{Resolve, Lookup, View, Grant, Route, Revoke, Dump, Split, Absorb}
 use Rattle.dn_module.specs.declared.command.Target.{Target}
-use Rattle.dn_module.specs.declared.fault.ExpandFault.{ExpandFault}
-use Rattle.dn_module.specs.Values.{Flaw, ◌>>=◌, each, value, full_name}
+use Rattle.dn_module.specs.Values.{◌>>=◌, Flaw, each, value, full_name}
 use Rattle.dn_module.specs.Drafts.{at_line, number_in}
+use Rattle.dn_module.specs.Faults.{ExpansionFault}
 
 -- a node as a command names it, with its number where it is there
 abbrev pub target_of : List (List ℕ) → List Part → Result Target Flaw
@@ -47,7 +46,7 @@ command_of known (absorb name) = do
   Ok (Absorb target)
 
 -- the commands of a tree, or the first fault
-abbrev pub commands_of : List (List ℕ) → List CommandOf → Result (List Command) ExpandFault
+abbrev pub commands_of : List (List ℕ) → List CommandOf → Result (List Command) ExpansionFault
 commands_of known commands = each (λ c. at_line c.line (command_of known c.order)) commands
 
 -- the node that a command names is one of so many, or it names none

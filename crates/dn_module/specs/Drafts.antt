@@ -1,5 +1,5 @@
 -- The nodes that declarations make, with the values of their expressions, and with the names of the nodes to which they refer.
-use Rattle.std.specs.Prelude.{ℕ, ◌+◌, Bool, true, false, if◌then◌else◌, ◌&&◌, nat_le, nat_lt, List, [], ◌∷◌, ◌++◌, map, length, sum, count_by, position, Option, Some, None, option_map, Result, Ok, Err}
+use Rattle.std.specs.Prelude.{ℕ, ◌+◌, Bool, true, false, if◌then◌else◌, ◌&&◌, nat_lt, List, [], ◌∷◌, ◌++◌, map, length, sum, count_by, position, Option, Some, None, option_map, Result, Ok, Err}
 use Rattle.std.specs.List.{list_all, list_any, position_or_len}
 use Rattle.std.specs.Option.{is_some}
 use Rattle.std.specs.Str.{bytes_eq}
@@ -13,15 +13,13 @@ use Rattle.dn_net.specs.declared.node.Role.TheVariants.{Plain, Agent, Vectors}
 use Rattle.dn_module.specs.declared.draft.Draft.{Draft}
 use Rattle.dn_module.specs.declared.draft.DraftEntry.{DraftEntry}
 use Rattle.dn_module.specs.declared.draft.DraftDest.{DraftDest}
-use Rattle.dn_module.specs.declared.fault.ExpandFault.{ExpandFault}
-use Rattle.dn_module.specs.declared.fault.ExpandFault.TheVariants.{Duplicate, Unknown, Arguments, Value, TooMany}
-use Rattle.dn_module.specs.Values.{Flaw, unknown_variable, out_of_range, ◌>>=◌, each, value, value_or, full_name, full_name_or_none}
+use Rattle.dn_module.specs.Values.{◌>>=◌, Flaw, each, value, value_or, full_name, full_name_or_none}
+use Rattle.dn_module.specs.Faults.{flaw_fault, ExpansionFault, is_duplicate, is_unknown, passes_limit}
 
 -- the flaw of an expression is a fault of its statement
-abbrev pub at_line : {A : Type 0} → ℕ → Result A Flaw → Result A ExpandFault
+abbrev pub at_line : {A : Type 0} → ℕ → Result A Flaw → Result A ExpansionFault
 at_line line (Ok a) = Ok a
-at_line line (Err unknown_variable) = Err (Unknown line)
-at_line line (Err out_of_range) = Err (Value line)
+at_line line (Err f) = Err (flaw_fault line f)
 
 -- a block of one expression has that value as its first and its last address
 abbrev pub block_of : BlockOf → Result Block Flaw
@@ -37,12 +35,14 @@ dest_of lo d = do
   addr ← value_or lo d.addr
   Ok (record { to = to; addr = addr })
 
+-- an entry: its block, and then its destinations
 abbrev pub entry_of : EntryOf → Result DraftEntry Flaw
 entry_of e = do
   block ← block_of e.block
   dests ← each (dest_of block.lo) e.dests
   Ok (record { block = block; dests = dests })
 
+-- what a node is declared as
 abbrev pub role_of : RoleOf → Role
 role_of plain_role = Plain
 role_of agent_role = Agent
@@ -58,12 +58,13 @@ draft_of line role name spec = do
   Ok (record { line = line; role = role_of role; name = text; accepts = accepts; entries = entries; over = over })
 
 -- no kind of unit exists so far, and the kind stands behind the name
-abbrev pub unit_of : ℕ → List Part → Result Draft ExpandFault
+abbrev pub unit_of : ℕ → List Part → Result Draft ExpansionFault
 unit_of line name = do
   text ← at_line line (full_name name)
-  Err (Unknown line)
+  Err (is_unknown line)
 
-abbrev pub declared_by : ℕ → Declaration → Result Draft ExpandFault
+-- the draft of a declaration
+abbrev pub declared_by : ℕ → Declaration → Result Draft ExpansionFault
 declared_by line (node role name spec) = at_line line (draft_of line role name spec)
 declared_by line (unit name kind page slots reach ports) = unit_of line name
 
@@ -71,13 +72,16 @@ declared_by line (unit name kind page slots reach ports) = unit_of line name
 abbrev pub names : List Draft → List (List ℕ)
 names drafts = map (λ d. d.name) drafts
 
+-- a name is among these
 abbrev pub is_known : List (List ℕ) → List ℕ → Bool
 is_known known text = list_any (bytes_eq text) known
 
+-- a node is an agent
 abbrev pub is_agent : Role → Bool
 is_agent Agent = true
 is_agent _ = false
 
+-- how many are agents
 abbrev pub agents_of : List Draft → ℕ
 agents_of drafts = count_by (λ d. is_agent d.role) drafts
 
@@ -85,6 +89,7 @@ agents_of drafts = count_by (λ d. is_agent d.role) drafts
 abbrev pub parts_of : Draft → ℕ
 parts_of d = length d.accepts + (length d.entries + (if is_some d.over then 1 else 0))
 
+-- the parts of all of them
 abbrev pub all_parts : List Draft → ℕ
 all_parts drafts = sum (map parts_of drafts)
 
@@ -95,13 +100,14 @@ limit_passed drafts d =
     else (if is_agent d.role && nat_lt 64 (agents_of drafts + 1) then Some 64
     else (if nat_lt 16384 (all_parts drafts + parts_of d) then Some 16384 else None))
 
-abbrev pub by_limit : Option ℕ → List Draft → Draft → Result (List Draft) ExpandFault
-by_limit (Some limit) drafts d = Err (TooMany d.line limit)
+-- one draft more, or the limit that it passes
+abbrev pub by_limit : Option ℕ → List Draft → Draft → Result (List Draft) ExpansionFault
+by_limit (Some limit) drafts d = Err (passes_limit d.line limit)
 by_limit None drafts d = Ok (drafts ++ d ∷ [])
 
 -- the nodes with one more: its name was not there before, and no limit is passed
-abbrev pub with_draft : List Draft → Draft → Result (List Draft) ExpandFault
-with_draft drafts d = if is_known (names drafts) d.name then Err (Duplicate d.line) else by_limit (limit_passed drafts d) drafts d
+abbrev pub with_draft : List Draft → Draft → Result (List Draft) ExpansionFault
+with_draft drafts d = if is_known (names drafts) d.name then Err (is_duplicate d.line) else by_limit (limit_passed drafts d) drafts d
 
 -- the node with a name, where it is there
 abbrev pub number_in : List (List ℕ) → List ℕ → Option ℕ
@@ -111,10 +117,12 @@ number_in known text = position (bytes_eq text) known
 abbrev pub dests_known : List (List ℕ) → List DraftDest → Bool
 dests_known known dests = list_all (λ d. is_known known d.to) dests
 
+-- the node that it lies over is there
 abbrev pub over_known : List (List ℕ) → Option (List ℕ) → Bool
 over_known known None = true
 over_known known (Some text) = is_known known text
 
+-- each node to which a draft refers is there
 abbrev pub refers_to_known : List (List ℕ) → Draft → Bool
 refers_to_known known d = list_all (λ e. dests_known known e.dests) d.entries && over_known known d.over
 
@@ -122,12 +130,15 @@ refers_to_known known d = list_all (λ e. dests_known known e.dests) d.entries &
 abbrev pub number_of : List (List ℕ) → List ℕ → ℕ
 number_of known text = position_or_len (bytes_eq text) known
 
+-- a destination, by the number of its node
 abbrev pub dest_in : List (List ℕ) → DraftDest → Dest
 dest_in known d = record { node = number_of known d.to; addr = d.addr }
 
+-- an entry, by the numbers of its destinations
 abbrev pub entry_in : List (List ℕ) → DraftEntry → Entry
 entry_in known e = record { block = e.block; dests = map (dest_in known) e.dests }
 
+-- a node, by the numbers of the nodes to which it refers
 abbrev pub node_in : List (List ℕ) → Draft → NodeDecl
 node_in known d = record {
   text = d.name;
@@ -139,5 +150,5 @@ node_in known d = record {
 }
 
 -- Unknown: a node to which another refers does not exist
-abbrev pub linked : List (List ℕ) → Draft → Result NodeDecl ExpandFault
-linked known d = if refers_to_known known d then Ok (node_in known d) else Err (Unknown d.line)
+abbrev pub linked : List (List ℕ) → Draft → Result NodeDecl ExpansionFault
+linked known d = if refers_to_known known d then Ok (node_in known d) else Err (is_unknown d.line)

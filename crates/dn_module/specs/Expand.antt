@@ -2,16 +2,15 @@
 use Rattle.std.specs.Prelude.{ℕ, zero, suc, ◌+◌, Bool, true, false, if◌then◌else◌, ◌||◌, nat_le, nat_lt, List, [], ◌∷◌, ◌++◌, map, length, take, Option, Some, None, Result, Ok, Err}
 use Rattle.std.specs.List.{list_any}
 use Rattle.std.specs.Str.{bytes_eq}
-use Rattle.dn_parse.specs.Tree.{Expression, Part, Param, number_param, node_param, Arg, number_arg, node_arg, Declaration, Item, declared, module_of, instance, loop, Items, no_items, and_item, Tree}
+use Rattle.dn_parse.specs.Tree.{Expression, Part, Param, number_param, node_param, Arg, number_arg, node_arg, Item, declared, module_of, instance, loop, Items, no_items, and_item, Tree}
 use Rattle.dn_net.specs.declared.node.NodeDecl.{NodeDecl}
 use Rattle.dn_module.specs.declared.draft.Draft.{Draft}
 use Rattle.dn_module.specs.declared.command.Command.{Command}
-use Rattle.dn_module.specs.declared.fault.ExpandFault.{ExpandFault}
-use Rattle.dn_module.specs.declared.fault.ExpandFault.TheVariants.{Duplicate, Unknown, Arguments, TooMany}
-use Rattle.dn_module.specs.Values.{Flaw, ◌>>=◌, each, value, full_name}
-use Rattle.dn_module.specs.Replace.{Replacement, under, one_number, in_item, in_items}
+use Rattle.dn_module.specs.Values.{◌>>=◌, Flaw, each, value, full_name}
+use Rattle.dn_module.specs.Replace.{under, one_number, in_items}
 use Rattle.dn_module.specs.Drafts.{at_line, declared_by, with_draft, names, linked}
 use Rattle.dn_module.specs.Commands.{commands_of}
+use Rattle.dn_module.specs.Faults.{ExpansionFault, is_duplicate, is_unknown, has_other_arguments, passes_limit}
 
 -- a module that was declared
 pub record Module : Type 0 where
@@ -24,6 +23,7 @@ pub record State : Type 0 where
   pub modules : List Module
   pub drafts : List Draft
 
+-- no module and no node
 abbrev pub nothing_yet : State
 nothing_yet = record { modules = []; drafts = [] }
 
@@ -37,6 +37,7 @@ pub data Work : Type 0 where
   statement : Visibility → Item → Work
   turns : Visibility → (line : ℕ) → (variable : List ℕ) → (from upto : ℕ) → Items → Work
 
+-- statements that are still to be done
 abbrev pub statements : Visibility → Items → List Work
 statements s no_items = []
 statements s (and_item i is) = statement s i ∷ statements s is
@@ -48,6 +49,7 @@ line_of_item (module_of line title params body) = line
 line_of_item (instance line title args prefix) = line
 line_of_item (loop line w from upto body) = line
 
+-- the line of a work; a turn has the line of its loop
 abbrev pub line_of : Work → ℕ
 line_of (statement s i) = line_of_item i
 line_of (turns s line w from upto body) = line
@@ -57,17 +59,20 @@ abbrev pub word_of_param : Param → List ℕ
 word_of_param (number_param w) = w
 word_of_param (node_param w) = w
 
+-- two of these words are one
 abbrev pub has_twice : List (List ℕ) → Bool
 has_twice [] = false
 has_twice (w ∷ ws) = list_any (bytes_eq w) ws || has_twice ws
 
+-- a module has this name
 abbrev pub is_module : List Module → List ℕ → Bool
 is_module modules title = list_any (λ m. bytes_eq title m.title) modules
 
-abbrev pub with_module : List Module → ℕ → Module → Result (List Module) ExpandFault
+-- one module more: no limit is passed, and its name and its parameters were not there before
+abbrev pub with_module : List Module → ℕ → Module → Result (List Module) ExpansionFault
 with_module modules line m =
-    if nat_lt 256 (length modules + 1) then Err (TooMany line 256)
-    else (if is_module modules m.title || has_twice (map word_of_param m.params) then Err (Duplicate line)
+    if nat_lt 256 (length modules + 1) then Err (passes_limit line 256)
+    else (if is_module modules m.title || has_twice (map word_of_param m.params) then Err (is_duplicate line)
     else Ok (modules ++ m ∷ []))
 
 -- the modules that a statement may use
@@ -86,6 +91,7 @@ fits_param (number_param w) (number_arg e) = true
 fits_param (node_param w) (node_arg ps) = true
 fits_param _ _ = false
 
+-- the arguments are as many as the parameters, and of their sorts
 abbrev pub fit : List Param → List Arg → Bool
 fit [] [] = true
 fit (p ∷ ps) (a ∷ as') = if fits_param p a then fit ps as' else false
@@ -96,6 +102,7 @@ pub data Given : Type 0 where
   number : ℕ → Given
   named : List ℕ → Given
 
+-- what an argument gives
 abbrev pub given_by : Arg → Result Given Flaw
 given_by (number_arg e) = do
   n ← value e
@@ -109,15 +116,18 @@ abbrev pub number_pair : List ℕ → Given → List (List ℕ × ℕ)
 number_pair w (number n) = (w, n) ∷ []
 number_pair w (named text) = []
 
+-- the full name that stands for a parameter
 abbrev pub node_pair : List ℕ → Given → List (List ℕ × List ℕ)
 node_pair w (number n) = []
 node_pair w (named text) = (w, text) ∷ []
 
+-- the numbers that stand for parameters
 abbrev pub numbers_of : List (List ℕ) → List Given → List (List ℕ × ℕ)
 numbers_of [] gs = []
 numbers_of (w ∷ ws) [] = []
 numbers_of (w ∷ ws) (g ∷ gs) = number_pair w g ++ numbers_of ws gs
 
+-- the full names that stand for parameters
 abbrev pub nodes_of : List (List ℕ) → List Given → List (List ℕ × List ℕ)
 nodes_of [] gs = []
 nodes_of (w ∷ ws) [] = []
@@ -128,17 +138,17 @@ abbrev pub used_body : Module → List Given → List ℕ → Items
 used_body m givens prefix = in_items (record { numbers = numbers_of (map word_of_param m.params) givens; naming = under prefix (nodes_of (map word_of_param m.params) givens) }) m.body
 
 -- a use becomes the body of its module
-abbrev pub use_of : ℕ → List Arg → List Part → Option (ℕ × Module) → Result (List Work) ExpandFault
-use_of line args prefix None = Err (Unknown line)
+abbrev pub use_of : ℕ → List Arg → List Part → Option (ℕ × Module) → Result (List Work) ExpansionFault
+use_of line args prefix None = Err (is_unknown line)
 use_of line args prefix (Some (place, m)) =
     if fit m.params args then (do
       givens ← at_line line (each given_by args)
       text ← at_line line (full_name prefix)
       Ok (statements (within_module place) (used_body m givens text)))
-    else Err (Arguments line)
+    else Err (has_other_arguments line)
 
 -- a loop becomes its turns, if it has any
-abbrev pub loop_of : Visibility → ℕ → List ℕ → Expression → Expression → Items → Result (List Work) ExpandFault
+abbrev pub loop_of : Visibility → ℕ → List ℕ → Expression → Expression → Items → Result (List Work) ExpansionFault
 loop_of s line w from upto body = do
   a ← at_line line (value from)
   b ← at_line line (value upto)
@@ -148,14 +158,16 @@ loop_of s line w from upto body = do
 abbrev pub turn_of : Visibility → ℕ → List ℕ → ℕ → ℕ → Items → List Work
 turn_of s line w a b body = statements s (in_items (one_number w a) body) ++ (if nat_lt a b then turns s line w (suc a) b body ∷ [] else [])
 
+-- a state with other nodes
 abbrev pub with_drafts : State → List Draft → State
 with_drafts state drafts = record { modules = state.modules; drafts = drafts }
 
+-- a state with other modules
 abbrev pub with_modules : State → List Module → State
 with_modules state modules = record { modules = modules; drafts = state.drafts }
 
 -- one rewriting: what takes the place of the first statement, and the state behind it
-abbrev pub item_rewritten : Visibility → State → Item → Result (List Work × State) ExpandFault
+abbrev pub item_rewritten : Visibility → State → Item → Result (List Work × State) ExpansionFault
 item_rewritten s state (declared line d) = do
   draft ← declared_by line d
   drafts ← with_draft state.drafts draft
@@ -170,14 +182,15 @@ item_rewritten s state (loop line w from upto body) = do
   works ← loop_of s line w from upto body
   Ok (works, state)
 
-abbrev pub rewritten : State → Work → Result (List Work × State) ExpandFault
+-- one rewriting of a statement or of a turn
+abbrev pub rewritten : State → Work → Result (List Work × State) ExpansionFault
 rewritten state (statement s i) = item_rewritten s state i
 rewritten state (turns s line w a b body) = Ok (turn_of s line w a b body, state)
 
 -- All rewritings. Each is a step, and no more than so many are left: each statement taken, and each turn.
-abbrev pub all_rewritten : ℕ → List Work → State → Result State ExpandFault
+abbrev pub all_rewritten : ℕ → List Work → State → Result State ExpansionFault
 all_rewritten left [] state = Ok state
-all_rewritten zero (w ∷ ws) state = Err (TooMany (line_of w) 65536)
+all_rewritten zero (w ∷ ws) state = Err (passes_limit (line_of w) 65536)
 all_rewritten (suc left) (w ∷ ws) state = do
   next ← rewritten state w
   all_rewritten left (next.0 ++ ws) next.1
@@ -192,7 +205,7 @@ pub record Outcome : Type 0 where
   pub commands : List Command
 
 -- what a tree expands to, or its first fault: those of the declarations, of the commands' expressions, and of the nodes' references
-unfoldable pub expanded : Tree → Result Outcome ExpandFault
+unfoldable pub expanded : Tree → Result Outcome ExpansionFault
 expanded tree = do
   state ← all_rewritten most_steps (statements outside tree.body) nothing_yet
   commands ← commands_of (names state.drafts) tree.commands

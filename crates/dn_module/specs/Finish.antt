@@ -1,15 +1,21 @@
 -- What is left to do once the statements are rewritten: the commands' expressions, and then the nodes' references.
-use Rattle.std.specs.Prelude.{ℕ, List, Result, Ok}
+use Rattle.std.specs.Prelude.{List, Result, Ok}
 use Rattle.dn_parse.specs.Tree.{Command}
 use Rattle.dn_module.specs.declared.draft.Draft.{Draft}
-use Rattle.dn_module.specs.declared.fault.ExpandFault.{ExpandFault}
+use Rattle.dn_module.specs.declared.expand.Expanded.{Expanded}
 use Rattle.dn_module.specs.Commands.{commands_of}
 use Rattle.dn_module.specs.Drafts.{names, linked}
 use Rattle.dn_module.specs.Expand.{Outcome}
 use Rattle.dn_module.specs.Values.{◌>>=◌, each}
+use Rattle.dn_module.specs.Faults.{ExpansionFault}
 
-abbrev pub finished : List Draft → List Command → Result Outcome ExpandFault
+-- the commands, and then the net of the drafts
+abbrev pub finished : List Draft → List Command → Result Outcome ExpansionFault
 finished drafts commands = do
   made ← commands_of (names drafts) commands
   net ← each (linked (names drafts)) drafts
   Ok (record { net = net; commands = made })
+
+-- a net, and the commands of its text
+abbrev pub outcome_view : Expanded → Outcome
+outcome_view e = record { net = e.net; commands = e.commands }

@@ -1,9 +1,9 @@
 pub mod Values
+pub mod Faults
 pub mod Replace
 pub mod Drafts
 pub mod Commands
 pub mod Expand
-pub mod Told
 pub mod Flaws
 pub mod Stack
 pub mod Machine

@@ -8,6 +8,7 @@ abbrev pub looked_up : {A : Type 0} → List ℕ → List (List ℕ × A) → Op
 looked_up w [] = None
 looked_up w (b ∷ bs) = if bytes_eq w b.0 then Some b.1 else looked_up w bs
 
+-- the pairs without those of a word
 abbrev pub without : {A : Type 0} → List ℕ → List (List ℕ × A) → List (List ℕ × A)
 without w bs = filter (λ b. not (bytes_eq w b.0)) bs
 
@@ -39,10 +40,12 @@ one_number w n = record { numbers = (w, n) ∷ []; naming = as_they_stand }
 abbrev pub hiding : List ℕ → Replacement → Replacement
 hiding w r = record { numbers = without w r.numbers; naming = r.naming }
 
+-- the number that stands for a variable, or the variable
 abbrev pub number_or : List ℕ → Option ℕ → Expression
 number_or w None = variable w
 number_or w (Some n) = constant n
 
+-- in an expression, and in several
 abbrev mutual
   pub in_expression : List (List ℕ × ℕ) → Expression → Expression
   in_expression ns (constant n) = constant n
@@ -55,9 +58,11 @@ abbrev mutual
   in_expressions ns no_expressions = no_expressions
   in_expressions ns (and_expression e es) = and_expression (in_expression ns e) (in_expressions ns es)
 
+-- in an expression that may be left out
 abbrev pub in_option : List (List ℕ × ℕ) → Option Expression → Option Expression
 in_option ns e = option_map (in_expression ns) e
 
+-- in a part of a name
 abbrev pub in_part : List (List ℕ × ℕ) → Part → Part
 in_part ns p = record { title = p.title; index = in_option ns p.index }
 
@@ -65,6 +70,7 @@ in_part ns p = record { title = p.title; index = in_option ns p.index }
 abbrev pub whole_name : List ℕ → List Part
 whole_name text = record { title = text; index = None } ∷ []
 
+-- the full name of the use before a name
 abbrev pub prefixed : Naming → List Part → List Part
 prefixed as_they_stand ps = ps
 prefixed (under prefix nodes) ps = record { title = prefix; index = None } ∷ ps
@@ -78,6 +84,7 @@ abbrev pub word_by : List ℕ → Option Expression → Option (List ℕ)
 word_by w None = Some w
 word_by w (Some e) = None
 
+-- the word of a name of one part without an index
 abbrev pub word_of : List Part → Option (List ℕ)
 word_of (p ∷ []) = word_by p.title p.index
 word_of _ = None
@@ -88,6 +95,7 @@ node_by (under prefix nodes) (Some w) = looked_up w nodes
 node_by (under prefix nodes) None = None
 node_by as_they_stand w = None
 
+-- the full name that stands for a name, or the name
 abbrev pub named_or : Option (List ℕ) → List Part → List Part
 named_or None ps = ps
 named_or (Some text) ps = whole_name text
@@ -96,22 +104,28 @@ named_or (Some text) ps = whole_name text
 abbrev pub in_reference : Replacement → List Part → List Part
 in_reference r ps = named_or (node_by r.naming (word_of ps)) (in_declared r ps)
 
+-- in a block
 abbrev pub in_block : List (List ℕ × ℕ) → Block → Block
 in_block ns b = record { lo = in_expression ns b.lo; hi = in_option ns b.hi }
 
+-- in a destination
 abbrev pub in_dest : Replacement → Dest → Dest
 in_dest r d = record { name = in_reference r d.name; addr = in_option r.numbers d.addr }
 
+-- in an entry
 abbrev pub in_entry : Replacement → Entry → Entry
 in_entry r e = record { block = in_block r.numbers e.block; dests = map (in_dest r) e.dests }
 
+-- in the parts of a node
 abbrev pub in_spec : Replacement → Spec → Spec
 in_spec r s = record { accepts = map (in_block r.numbers) s.accepts; entries = map (in_entry r) s.entries; over = option_map (in_reference r) s.over }
 
+-- in an argument
 abbrev pub in_arg : Replacement → Arg → Arg
 in_arg r (number_arg e) = number_arg (in_expression r.numbers e)
 in_arg r (node_arg ps) = node_arg (in_reference r ps)
 
+-- in a declaration
 abbrev pub in_declaration : Replacement → Declaration → Declaration
 in_declaration r (node role name spec) = node role (in_declared r name) (in_spec r spec)
 in_declaration r (unit name kind page slots reach ports) = unit (in_declared r name) kind (in_expression r.numbers page) (in_expression r.numbers slots) (in_expression r.numbers reach) (map (in_reference r) ports)

@@ -10,6 +10,7 @@ pub data Flaw : Type 0 where
 
 -- what follows, where there is no fault
 infixl 10 ◌>>=◌
+-- what follows, where there is no fault
 abbrev pub ◌>>=◌ : {A B E : Type 0} → Result A E → (A → Result B E) → Result B E
 Err e >>= f = Err e
 Ok a >>= f = f a
@@ -22,16 +23,20 @@ each f (x ∷ xs) = do
   ys ← each f xs
   Ok (y ∷ ys)
 
+-- a number that is at most 2^64 - 1
 abbrev pub fitting : ℕ → Result ℕ Flaw
 fitting n = if nat_lt n (2 ^ 64) then Ok n else Err out_of_range
 
+-- a number less another, where it is not below 0
 abbrev pub difference : ℕ → ℕ → Result ℕ Flaw
 difference a b = if nat_le b a then Ok (a - b) else Err out_of_range
 
+-- the sum of these
 abbrev pub sum_of : List ℕ → ℕ
 sum_of [] = 0
 sum_of (n ∷ ns) = n + sum_of ns
 
+-- the product of these
 abbrev pub product_of : List ℕ → ℕ
 product_of [] = 1
 product_of (n ∷ ns) = n * product_of ns
@@ -71,6 +76,7 @@ part_by title (Some e) = do
   n ← value e
   Ok (title ++ (codes "[" ++ (decimal n ++ codes "]")))
 
+-- the text of a part of a name
 abbrev pub part_text : Part → Result (List ℕ) Flaw
 part_text p = part_by p.title p.index
 
@@ -79,6 +85,7 @@ abbrev pub after_dots : List (List ℕ) → List ℕ
 after_dots [] = []
 after_dots (t ∷ ts) = codes "." ++ (t ++ after_dots ts)
 
+-- texts with a `.` between each two
 abbrev pub dotted : List (List ℕ) → List ℕ
 dotted [] = []
 dotted (t ∷ ts) = t ++ after_dots ts
@@ -89,6 +96,7 @@ full_name ps = do
   ts ← each part_text ps
   Ok (dotted ts)
 
+-- the full name that a name spells, where there is one
 abbrev pub full_name_or_none : Option (List Part) → Result (Option (List ℕ)) Flaw
 full_name_or_none None = Ok None
 full_name_or_none (Some ps) = do

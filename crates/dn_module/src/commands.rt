@@ -1,14 +1,14 @@
 //! From the commands of a tree to those of a script. They stand outside of modules and loops.
 
-ghost use Rattle.std.specs.Prelude.{◌≡◌, map, length, Ok, IfOk, IsTrue};
+ghost use Rattle.std.specs.Prelude.{map, length, Ok, IfOk, IsTrue};
 ghost use Rattle.std.specs.List.{list_all};
 ghost use Rattle.dn_parse.specs.Tree.{resolve as asks_resolve, lookup as asks_lookup, view as asks_view, grant as asks_grant, route as asks_route, absorb as asks_absorb};
-ghost use Rattle.dn_parse.specs.Seen.{name_of, expr_of, order_of, command_of as command_seen};
+ghost use Rattle.dn_parse.specs.Views.{name_view, expr_view, order_view, command_view};
 ghost use Rattle.dn_module.specs.Commands.{target_of, command_of, commands_of, node_within, names_within};
 ghost use Rattle.dn_module.specs.Values.{value, full_name};
 ghost use Rattle.dn_module.specs.Drafts.{at_line};
-ghost use Rattle.dn_module.specs.Flaws.{told, GivesPart};
-ghost use Rattle.dn_module.specs.Told.{Gives};
+ghost use Rattle.dn_base.specs.Answers.{Answers};
+ghost use Rattle.dn_module.specs.Faults.{expand_fault_view, name_fault_view, some_flaw};
 
 use crate::command::{Command, Commands, Target};
 use crate::fault::ExpandFault;
@@ -27,7 +27,8 @@ pub fn commands(
     names: &NameTable,
     commands: &[syntax::Cmd],
 ) -> Result<Commands, ExpandFault>
-    ensures made { Gives result (commands_of names.now (map command_seen commands.now)) }
+    ensures made { Answers (λ x. x) expand_fault_view result
+        (commands_of names.now (map command_view commands.now)) }
     ensures known { IfOk result (λ made. IsTrue (list_all (names_within (length names.now)) made)) }
 {
     let mut made = Vec::with_capacity(alloc, commands.len())?;
@@ -40,7 +41,8 @@ pub fn commands(
 
 /// A command, or the fault of its statement.
 fn command_at(alloc: Global, names: &NameTable, asked: &syntax::Cmd) -> Result<Command, ExpandFault>
-    ensures made { Gives result (at_line asked.now.line (command_of names.now (order_of asked.now.order))) }
+    ensures made { Answers (λ x. x) expand_fault_view result
+        (at_line asked.now.line (command_of names.now (order_view asked.now.order))) }
     ensures known { IfOk result (λ c. IsTrue (names_within (length names.now) c)) }
 {
     match command(alloc, names, &asked.order) {
@@ -51,7 +53,8 @@ fn command_at(alloc: Global, names: &NameTable, asked: &syntax::Cmd) -> Result<C
 
 /// A command, with the nodes that it names by their numbers.
 fn command(alloc: Global, names: &NameTable, order: &Order) -> Result<Command, NameFault>
-    ensures made { GivesPart result (command_of names.now (order_of order.now)) }
+    ensures made { Answers (λ x. x) name_fault_view result
+        (command_of names.now (order_view order.now)) }
     ensures known { IfOk result (λ c. IsTrue (names_within (length names.now) c)) }
 {
     match order {
@@ -71,7 +74,8 @@ fn command(alloc: Global, names: &NameTable, order: &Order) -> Result<Command, N
 
 /// A node as a command names it, with its number where it is there.
 fn target(alloc: Global, names: &NameTable, name: &NameExpr) -> Result<Target, NameFault>
-    ensures made { GivesPart result (target_of names.now (name_of name.now)) }
+    ensures made { Answers (λ x. x) name_fault_view result
+        (target_of names.now (name_view name.now)) }
     ensures known { IfOk result (λ t. IsTrue (node_within (length names.now) t.node)) }
 {
     let text = full_name(alloc, name)?;
@@ -82,7 +86,7 @@ fn target(alloc: Global, names: &NameTable, name: &NameExpr) -> Result<Target, N
 /// The full name that a name spells.
 #[tactic(auto, using(crate::proofs::Outside::name_stays))]
 fn full_name(alloc: Global, name: &NameExpr) -> Result<Text, NameFault>
-    ensures { GivesPart result (full_name (name_of name.now)) }
+    ensures { Answers (λ x. x) name_fault_view result (full_name (name_view name.now)) }
 {
     declared_name(alloc, &Scope::outside(alloc), name.as_slice())
 }
@@ -90,7 +94,7 @@ fn full_name(alloc: Global, name: &NameExpr) -> Result<Text, NameFault>
 /// The value of an expression.
 #[tactic(auto, using(crate::proofs::Outside::expression_stays))]
 fn number(alloc: Global, expr: &Expr) -> Result<u64, Flaw>
-    ensures { told result ≡ value (expr_of expr.now) }
+    ensures { Answers (λ x. x) some_flaw result (value (expr_view expr.now)) }
 {
     value(&Scope::outside(alloc), expr)
 }
@@ -101,7 +105,8 @@ fn resolve(
     name: &NameExpr,
     expr: &Expr,
 ) -> Result<Command, NameFault>
-    ensures made { GivesPart result (command_of names.now (asks_resolve (name_of name.now) (expr_of expr.now))) }
+    ensures made { Answers (λ x. x) name_fault_view result
+        (command_of names.now (asks_resolve (name_view name.now) (expr_view expr.now))) }
     ensures known { IfOk result (λ c. IsTrue (names_within (length names.now) c)) }
 {
     let target = target(alloc, names, name)?;
@@ -115,7 +120,8 @@ fn lookup(
     name: &NameExpr,
     expr: &Expr,
 ) -> Result<Command, NameFault>
-    ensures made { GivesPart result (command_of names.now (asks_lookup (name_of name.now) (expr_of expr.now))) }
+    ensures made { Answers (λ x. x) name_fault_view result
+        (command_of names.now (asks_lookup (name_view name.now) (expr_view expr.now))) }
     ensures known { IfOk result (λ c. IsTrue (names_within (length names.now) c)) }
 {
     let target = target(alloc, names, name)?;
@@ -124,7 +130,8 @@ fn lookup(
 }
 
 fn view(alloc: Global, names: &NameTable, name: &NameExpr) -> Result<Command, NameFault>
-    ensures made { GivesPart result (command_of names.now (asks_view (name_of name.now))) }
+    ensures made { Answers (λ x. x) name_fault_view result
+        (command_of names.now (asks_view (name_view name.now))) }
     ensures known { IfOk result (λ c. IsTrue (names_within (length names.now) c)) }
 {
     let target = target(alloc, names, name)?;
@@ -132,7 +139,8 @@ fn view(alloc: Global, names: &NameTable, name: &NameExpr) -> Result<Command, Na
 }
 
 fn absorb(alloc: Global, names: &NameTable, name: &NameExpr) -> Result<Command, NameFault>
-    ensures made { GivesPart result (command_of names.now (asks_absorb (name_of name.now))) }
+    ensures made { Answers (λ x. x) name_fault_view result
+        (command_of names.now (asks_absorb (name_view name.now))) }
     ensures known { IfOk result (λ c. IsTrue (names_within (length names.now) c)) }
 {
     let target = target(alloc, names, name)?;
@@ -149,7 +157,9 @@ fn grant(
     base: &Expr,
     size: &Expr,
 ) -> Result<Command, NameFault>
-    ensures made { GivesPart result (command_of names.now (asks_grant id.now (name_of agent.now) (name_of name.now) (expr_of base.now) (expr_of size.now))) }
+    ensures made { Answers (λ x. x) name_fault_view result
+        (command_of names.now (asks_grant id.now (name_view agent.now) (name_view name.now)
+        (expr_view base.now) (expr_view size.now))) }
     ensures known { IfOk result (λ c. IsTrue (names_within (length names.now) c)) }
 {
     let agent = target(alloc, names, agent)?;
@@ -169,7 +179,9 @@ fn route(
     line: &Expr,
     name: &NameExpr,
 ) -> Result<Command, NameFault>
-    ensures made { GivesPart result (command_of names.now (asks_route id.now (name_of agent.now) (expr_of line.now) (name_of name.now))) }
+    ensures made { Answers (λ x. x) name_fault_view result
+        (command_of names.now (asks_route id.now (name_view agent.now) (expr_view line.now)
+        (name_view name.now))) }
     ensures known { IfOk result (λ c. IsTrue (names_within (length names.now) c)) }
 {
     let agent = target(alloc, names, agent)?;
@@ -180,7 +192,7 @@ fn route(
 }
 
 fn revoke(alloc: Global, id: &Text) -> Result<Command, NameFault>
-    ensures { GivesPart result (Ok (Command.Revoke id.now)) }
+    ensures { Answers (λ x. x) name_fault_view result (Ok (Command.Revoke id.now)) }
 {
     Ok(Command::Revoke(Text::of(alloc, id.as_str())?))
 }

@@ -1,13 +1,14 @@
 //! The nodes that are made, within the limits of a net.
 
-ghost use Rattle.std.specs.Prelude.{◌≡◌, [], ◌∷◌, ◌++◌, ◌+◌, ◌<◌, ◌≤◌, length, not, false, true, OnOk, OnErr, IfErr, IfSome, IfNone, None, Err};
+ghost use Rattle.std.specs.Prelude.{◌≡◌, [], ◌∷◌, ◌++◌, ◌+◌, ◌<◌, ◌≤◌, length, not, false, true, OnOk, OnErr, IfErr, IfSome, IfNone, None, Some, Err, option_map};
 ghost use Rattle.std.specs.List.{list_all};
 ghost use Rattle.dn_net.specs.Decode.{is_unit};
 ghost use Rattle.dn_module.specs.Drafts.{with_draft, is_known, is_agent, parts_of, names, limit_passed};
 ghost use Rattle.dn_module.specs.Expand.{has_twice};
 ghost use Rattle.dn_module.specs.Machine.{limit_by};
-ghost use Rattle.dn_module.specs.Told.{GivesBy};
 ghost use Rattle.dn_module.specs.declared.fault.ExpandFault.TheVariants.{OutOfMemory as no_memory};
+ghost use Rattle.dn_base.specs.Answers.{Answers};
+ghost use Rattle.dn_module.specs.Faults.{expand_fault_view};
 
 use crate::draft::Draft;
 use crate::fault::ExpandFault;
@@ -94,7 +95,8 @@ impl Drafts {
     /// nodes, on agents and on parts, in this order. After a fault the nodes are unchanged.
     pub fn add(&mut self, alloc: Global, draft: Draft) -> Result<(), ExpandFault>
         requires no_unit { not (is_unit draft.role) ≡ true }
-        ensures added { GivesBy (λ _. self.new) result (with_draft self.old draft) }
+        ensures added { Answers (λ _. self.new) expand_fault_view result
+            (with_draft self.old draft) }
         ensures err { OnErr result (self.new ≡ self.old) }
     {
         if let Some(fault) = self.fault(&draft) {
@@ -110,7 +112,8 @@ impl Drafts {
 
     /// Why a node cannot be added. `None` exactly where it can.
     fn fault(&self, draft: &Draft) -> Option<ExpandFault>
-        ensures fault { IfSome result (λ e. with_draft self.now draft.now ≡ Err e) }
+        ensures fault { IfSome result (λ e. option_map (λ f. Err f) (expand_fault_view e) ≡ Some
+            (with_draft self.now draft.now)) }
         ensures new_name { IfNone result (is_known (names self.now) draft.now.name ≡ false) }
         ensures within { IfNone result (limit_passed self.now draft.now ≡ None) }
     {

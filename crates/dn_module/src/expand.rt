@@ -1,13 +1,14 @@
 //! The net and the commands of a tree.
 
-ghost use Rattle.std.specs.Prelude.{◌≡◌, IfOk, IsTrue, length, map};
+ghost use Rattle.std.specs.Prelude.{IfOk, IsTrue, length, map};
 ghost use Rattle.std.specs.List.{list_all};
-ghost use Rattle.dn_parse.specs.Seen.{command_of, tree_seen};
+ghost use Rattle.dn_parse.specs.Views.{command_view, tree_view};
 ghost use Rattle.dn_net.specs.Decode.{is_closed};
 ghost use Rattle.dn_module.specs.Commands.{names_within};
 ghost use Rattle.dn_module.specs.Expand.{expanded};
-ghost use Rattle.dn_module.specs.Finish.{finished};
-ghost use Rattle.dn_module.specs.Told.{GivesBy, outcome_of};
+ghost use Rattle.dn_module.specs.Finish.{finished, outcome_view};
+ghost use Rattle.dn_base.specs.Answers.{Answers};
+ghost use Rattle.dn_module.specs.Faults.{expand_fault_view};
 
 use crate::command::Commands;
 use crate::commands::commands;
@@ -29,7 +30,8 @@ pub struct Expanded {
 /// Expands a tree. The node rules are not tested.
 pub fn expand(alloc: Global, tree: &Tree) -> Result<Expanded, ExpandFault>
     // It gives what replacing text gives, or the first fault.
-    ensures expanded { GivesBy outcome_of result (expanded (tree_seen tree.now)) }
+    ensures expanded { Answers outcome_view expand_fault_view result
+        (expanded (tree_view tree.now)) }
     // Each node to which the net or a command refers is there.
     ensures closed { IfOk result (λ e. IsTrue (is_closed e.net)) }
     ensures known { IfOk result (λ e. IsTrue (list_all (names_within (length e.net)) e.commands)) }
@@ -40,7 +42,8 @@ pub fn expand(alloc: Global, tree: &Tree) -> Result<Expanded, ExpandFault>
 
 /// The commands, and then the net of the nodes that were made.
 fn finish(alloc: Global, drafts: &Drafts, asked: &[Cmd]) -> Result<Expanded, ExpandFault>
-    ensures finished { GivesBy outcome_of result (finished drafts.now (map command_of asked.now)) }
+    ensures finished { Answers outcome_view expand_fault_view result
+        (finished drafts.now (map command_view asked.now)) }
     ensures closed { IfOk result (λ e. IsTrue (is_closed e.net)) }
     ensures known { IfOk result (λ e. IsTrue (list_all (names_within (length e.net)) e.commands)) }
 {

@@ -8,22 +8,22 @@
 pub mod command;
 pub mod commands;
 pub mod draft;
-pub mod drafts;
+mod drafts;
 pub mod expand;
 pub mod fault;
-pub mod link;
+mod link;
 pub mod machine;
-pub mod modules;
+mod modules;
 pub mod names;
 pub mod nodes;
 pub mod scope;
-pub mod stack;
+mod stack;
 #[cfg(test)]
 mod tests;
-pub mod uses;
+mod uses;
 #[cfg(test)]
 mod value_tests;
-pub mod values;
-pub mod words;
+mod values;
+mod words;
 
 pub use dn_base::OutOfMemory;

@@ -6,8 +6,9 @@ ghost use Rattle.dn_net.specs.Decode.{is_closed, is_unit};
 ghost use Rattle.dn_module.specs.Values.{each};
 ghost use Rattle.dn_module.specs.Drafts.{names as names_in, number_of, is_known, dests_known, refers_to_known, dest_in, entry_in, node_in, linked};
 ghost use Rattle.dn_module.specs.Expand.{has_twice};
-ghost use Rattle.dn_module.specs.Told.{Gives};
 ghost use Rattle.dn_module.specs.declared.link.LinkFault.TheVariants.{OutOfMemory as no_memory};
+ghost use Rattle.dn_base.specs.Answers.{Answers};
+ghost use Rattle.dn_module.specs.Faults.{expand_fault_view};
 
 use crate::draft::{Draft, DraftDest, DraftEntry};
 use crate::fault::ExpandFault;
@@ -50,7 +51,7 @@ pub fn linked_net(alloc: Global, names: &NameTable, drafts: &[Draft]) -> Result<
     requires named { names.now ≡ names_in drafts.now }
     requires different { has_twice (names_in drafts.now) ≡ false }
     requires no_unit { list_all (λ d. not (is_unit d.role)) drafts.now ≡ true }
-    ensures made { Gives result (each (linked names.now) drafts.now) }
+    ensures made { Answers (λ x. x) expand_fault_view result (each (linked names.now) drafts.now) }
     // Each node to which one refers is there.
     ensures closed { IfOk result (λ net. IsTrue (is_closed net)) }
     ensures count { IfOk result (λ net. length net ≡ length names.now) }
@@ -65,7 +66,7 @@ pub fn linked_net(alloc: Global, names: &NameTable, drafts: &[Draft]) -> Result<
 
 /// The node of a draft, or the fault of its statement.
 fn linked(alloc: Global, names: &NameTable, draft: &Draft) -> Result<NodeDecl, ExpandFault>
-    ensures made { Gives result (linked names.now draft.now) }
+    ensures made { Answers (λ x. x) expand_fault_view result (linked names.now draft.now) }
     ensures node { IfOk result (λ n. n ≡ node_in names.now draft.now) }
     ensures known { IfOk result (λ _. refers_to_known names.now draft.now ≡ true) }
 {
@@ -80,7 +81,8 @@ fn linked(alloc: Global, names: &NameTable, draft: &Draft) -> Result<NodeDecl, E
 fn node_of(alloc: Global, names: &NameTable, draft: &Draft) -> Result<NodeDecl, LinkFault>
     ensures node { IfOk result (λ n. n ≡ node_in names.now draft.now) }
     ensures known { IfOk result (λ _. refers_to_known names.now draft.now ≡ true) }
-    ensures unknown { IsErrOf result LinkFault.Unknown → refers_to_known names.now draft.now ≡ false }
+    ensures unknown { IsErrOf result LinkFault.Unknown → refers_to_known names.now draft.now ≡
+        false }
 {
     let over = match &draft.over {
         Some(text) => Some(number_of(names, text.as_str())?),
@@ -137,7 +139,8 @@ fn dests_of(alloc: Global, names: &NameTable, dests: &[DraftDest]) -> Result<Ite
 fn entry_of(alloc: Global, names: &NameTable, entry: &DraftEntry) -> Result<Entry, LinkFault>
     ensures entry { IfOk result (λ e. e ≡ entry_in names.now entry.now) }
     ensures known { IfOk result (λ _. dests_known names.now entry.now.dests ≡ true) }
-    ensures unknown { IsErrOf result LinkFault.Unknown → dests_known names.now entry.now.dests ≡ false }
+    ensures unknown { IsErrOf result LinkFault.Unknown → dests_known names.now entry.now.dests ≡
+        false }
 {
     Ok(Entry {
         block: entry.block,
@@ -151,8 +154,10 @@ fn entries_of(
     entries: &[DraftEntry],
 ) -> Result<Items<Entry>, LinkFault>
     ensures entries { IfOk result (λ made. made ≡ map (entry_in names.now) entries.now) }
-    ensures known { IfOk result (λ _. list_all (λ e. dests_known names.now e.dests) entries.now ≡ true) }
-    ensures unknown { IsErrOf result LinkFault.Unknown → list_all (λ e. dests_known names.now e.dests) entries.now ≡ false }
+    ensures known { IfOk result (λ _. list_all (λ e. dests_known names.now e.dests) entries.now ≡
+        true) }
+    ensures unknown { IsErrOf result LinkFault.Unknown → list_all
+        (λ e. dests_known names.now e.dests) entries.now ≡ false }
 {
     let mut made = Vec::with_capacity(alloc, entries.len())?;
     for entry in entries {

@@ -1,14 +1,15 @@
 //! The expansion of the statements of a text, a step at a time.
 
 ghost use Rattle.std.specs.Prelude.{◌≡◌, None};
-ghost use Rattle.dn_parse.specs.Seen.{declaration_of, expr_of, item_of};
+ghost use Rattle.dn_parse.specs.Views.{declaration_view, expr_view, item_view};
 ghost use Rattle.dn_module.specs.Drafts.{at_line};
 ghost use Rattle.dn_module.specs.Expand.{nothing_yet, statements, outside, Visibility, line_of, line_of_item, loop_of, rewritten, item_rewritten, all_rewritten, most_steps};
 ghost use Rattle.dn_module.specs.Replace.{Replacement, in_declaration, in_expression, in_item, in_items, hiding};
-ghost use Rattle.dn_module.specs.Stack.{scope_of, seen_body, turns_works, stack_works, work_seen};
-ghost use Rattle.dn_module.specs.Machine.{state_of, in_front, drafted};
+ghost use Rattle.dn_module.specs.Stack.{visibility_view, body_view, turns_works, stack_works, work_view};
+ghost use Rattle.dn_module.specs.Machine.{state_view, in_front, drafted};
 ghost use Rattle.dn_module.specs.Values.{value};
-ghost use Rattle.dn_module.specs.Told.{Gives, GivesBy};
+ghost use Rattle.dn_base.specs.Answers.{Answers};
+ghost use Rattle.dn_module.specs.Faults.{expand_fault_view};
 
 use crate::drafts::Drafts;
 use crate::fault::ExpandFault;
@@ -34,7 +35,8 @@ pub struct Made<'a> {
 
 /// What the statements of a text make, or the first fault.
 pub fn expand_body<'a>(alloc: Global, body: &'a [Stmt]) -> Result<Made<'a>, ExpandFault>
-    ensures { GivesBy state_of result (all_rewritten most_steps (statements outside (seen_body body.now)) nothing_yet) }
+    ensures { Answers state_view expand_fault_view result
+        (all_rewritten most_steps (statements outside (body_view body.now)) nothing_yet) }
 {
     let mut stack = Stack::new(alloc, body);
     let mut made = Made {
@@ -57,7 +59,7 @@ pub fn expand_body<'a>(alloc: Global, body: &'a [Stmt]) -> Result<Made<'a>, Expa
 
 /// The line of the statement, or of the loop.
 fn line_of(work: Work) -> u32
-    ensures { (s : Visibility) (r : Replacement) → result ≡ line_of (work_seen s r work.entry) }
+    ensures { (s : Visibility) (r : Replacement) → result ≡ line_of (work_view s r work.entry) }
 {
     match work {
         Work::Statement(statement) => line_of_statement(statement),
@@ -66,7 +68,7 @@ fn line_of(work: Work) -> u32
 }
 
 fn line_of_statement(statement: &Stmt) -> u32
-    ensures { (r : Replacement) → result ≡ line_of_item (in_item r (item_of statement.now)) }
+    ensures { (r : Replacement) → result ≡ line_of_item (in_item r (item_view statement.now)) }
 {
     match statement {
         Stmt::Decl { line, .. } => *line,
@@ -84,7 +86,9 @@ fn step<'a>(
     work: Work<'a>,
 ) -> Result<(), ExpandFault>
     requires free { stack.old.inner.inner.turns ≡ None }
-    ensures { GivesBy (λ _. (stack_works stack.new, state_of made.new)) result (in_front (stack_works stack.old) (rewritten (state_of made.old) (work_seen (scope_of stack.old.inner.visible) stack.old.inner.scope work.entry))) }
+    ensures { Answers (λ _. (stack_works stack.new, state_view made.new)) expand_fault_view result
+        (in_front (stack_works stack.old) (rewritten (state_view made.old)
+        (work_view (visibility_view stack.old.inner.visible) stack.old.inner.scope work.entry))) }
 {
     match work {
         Work::Statement(statement) => take(alloc, stack, made, statement),
@@ -103,7 +107,9 @@ fn take<'a>(
     statement: &'a Stmt,
 ) -> Result<(), ExpandFault>
     requires free { stack.old.inner.inner.turns ≡ None }
-    ensures { GivesBy (λ _. (stack_works stack.new, state_of made.new)) result (in_front (stack_works stack.old) (item_rewritten (scope_of stack.old.inner.visible) (state_of made.old) (in_item stack.old.inner.scope (item_of statement.now)))) }
+    ensures { Answers (λ _. (stack_works stack.new, state_view made.new)) expand_fault_view result
+        (in_front (stack_works stack.old) (item_rewritten (visibility_view stack.old.inner.visible)
+        (state_view made.old) (in_item stack.old.inner.scope (item_view statement.now)))) }
 {
     match statement {
         Stmt::Decl { line, decl } => {
@@ -164,7 +170,8 @@ fn declare(
     line: u32,
     decl: &Decl,
 ) -> Result<(), ExpandFault>
-    ensures { GivesBy (λ _. drafts.new) result (drafted drafts.old line (in_declaration scope.now (declaration_of decl.now))) }
+    ensures { Answers (λ _. drafts.new) expand_fault_view result
+        (drafted drafts.old line (in_declaration scope.now (declaration_view decl.now))) }
 {
     let draft = declared(alloc, scope, line, decl)?;
     drafts.add(alloc, draft)
@@ -179,7 +186,10 @@ fn turns<'a>(
     upto: &Expr,
     body: &'a [Stmt],
 ) -> Result<Option<Turns<'a>>, ExpandFault>
-    ensures { (s : Visibility) → GivesBy (turns_works s scope.now) result (loop_of s line variable.now (in_expression scope.now.numbers (expr_of from.now)) (in_expression scope.now.numbers (expr_of upto.now)) (in_items (hiding variable.now scope.now) (seen_body body.now))) }
+    ensures { (s : Visibility) → Answers (turns_works s scope.now) expand_fault_view result
+        (loop_of s line variable.now (in_expression scope.now.numbers (expr_view from.now))
+        (in_expression scope.now.numbers (expr_view upto.now))
+        (in_items (hiding variable.now scope.now) (body_view body.now))) }
 {
     let next = value_at(scope, line, from)?;
     let last = value_at(scope, line, upto)?;
@@ -197,7 +207,8 @@ fn turns<'a>(
 
 /// The value of an expression in the statement with this line.
 fn value_at(scope: &Scope, line: u32, expr: &Expr) -> Result<u64, ExpandFault>
-    ensures { Gives result (at_line line (value (in_expression scope.now.numbers (expr_of expr.now)))) }
+    ensures { Answers (λ x. x) expand_fault_view result
+        (at_line line (value (in_expression scope.now.numbers (expr_view expr.now)))) }
 {
     match value(scope, expr) {
         Ok(value) => Ok(value),

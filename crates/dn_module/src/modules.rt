@@ -3,10 +3,11 @@
 ghost use Rattle.std.specs.Prelude.{◌≡◌, [], ◌∷◌, ◌++◌, ◌<◌, ◌≤◌, map, length, IfOk, IfErr, IfSome, OnOk, OnErr, option_map, false, IsTrue, not};
 ghost use Rattle.std.specs.List.{list_all, list_any};
 ghost use Rattle.std.specs.Str.{bytes_eq};
-ghost use Rattle.dn_parse.specs.Seen.{param_of};
+ghost use Rattle.dn_parse.specs.Views.{param_view};
 ghost use Rattle.dn_module.specs.Expand.{has_twice, word_of_param, with_module, module_from, usable};
-ghost use Rattle.dn_module.specs.Told.{GivesBy};
 ghost use Rattle.dn_module.specs.declared.fault.ExpandFault.TheVariants.{OutOfMemory as no_memory};
+ghost use Rattle.dn_base.specs.Answers.{Answers};
+ghost use Rattle.dn_module.specs.Faults.{expand_fault_view};
 
 use crate::fault::ExpandFault;
 use crate::names::NameTable;
@@ -42,15 +43,15 @@ pub struct Modules<'a> {
     modules: Vec<Module<'a>>,
     ghost same: { names ≡ map (λ m. m.title.now) modules.items },
     ghost few: { length modules.items ≤ 256 },
-    ghost different: { IsTrue (list_all (λ m. not (has_twice (map (λ p. word_of_param (param_of p)) m.params.now))) modules.items) },
+    ghost different: { IsTrue (list_all (λ m. not (has_twice (map (λ p. word_of_param (param_view p)) m.params.now))) modules.items) },
 }
 
 impl Visible {
-    ghost use Rattle.dn_module.specs.Stack.{scope_of, sees};
+    ghost use Rattle.dn_module.specs.Stack.{visibility_view, sees};
 
     /// Whether a statement may use the module with this number, which is known.
     fn includes(self, number: u16) -> bool
-        ensures { result ≡ sees (scope_of self) number }
+        ensures { result ≡ sees (visibility_view self) number }
     {
         match self {
             Visible::All => true,
@@ -60,11 +61,11 @@ impl Visible {
 }
 
 impl<'a> Modules<'a> {
-    ghost use Rattle.dn_module.specs.Stack.{module_seen, modules_seen, scope_of};
+    ghost use Rattle.dn_module.specs.Stack.{module_view, module_views, visibility_view};
 
     /// No modules. It takes no memory.
     pub fn new(alloc: Global) -> Modules<'a>
-        ensures { modules_seen result ≡ [] }
+        ensures { module_views result ≡ [] }
     {
         Modules {
             names: NameTable::new(alloc),
@@ -72,9 +73,11 @@ impl<'a> Modules<'a> {
         }
     }
 
-    /// Adds the module that a statement with this line declares.
+    /// Adds the module that a statement with this line declares. After a fault the modules are unchanged.
     pub fn add(&mut self, alloc: Global, line: u32, module: Module<'a>) -> Result<(), ExpandFault>
-        ensures { GivesBy (λ _. modules_seen self.new) result (with_module (modules_seen self.old) line (module_seen «module».entry)) }
+        ensures added { Answers (λ _. module_views self.new) expand_fault_view result
+            (with_module (module_views self.old) line (module_view «module».entry)) }
+        ensures unchanged { OnErr result (module_views self.new ≡ module_views self.old) }
     {
         if self.modules.len() >= MAX_MODULES {
             return Err(ExpandFault::TooMany { line, limit: 256 });
@@ -92,8 +95,10 @@ impl<'a> Modules<'a> {
     /// The module with this name among those that a statement may use, and its number. `None` exactly where
     /// none of them has it.
     pub fn find(&self, visible: Visible, title: &str) -> Option<(u16, Module<'a>)>
-        ensures found { option_map (λ m. (m.0, module_seen m.1)) result ≡ module_from 0 title.now (usable (scope_of visible) (modules_seen self.now)) }
-        ensures different { IfSome result (λ m. has_twice (map word_of_param (map param_of m.1.params.now)) ≡ false) }
+        ensures found { option_map (λ m. (m.0, module_view m.1)) result ≡ module_from 0 title.now
+            (usable (visibility_view visible) (module_views self.now)) }
+        ensures different { IfSome result (λ m. has_twice
+            (map word_of_param (map param_view m.1.params.now)) ≡ false) }
     {
         let number = self.names.find(title)?;
         if !visible.includes(number) {
@@ -129,7 +134,7 @@ fn put<'a>(
 
 /// Whether two of the parameters have one name.
 fn has_twice(alloc: Global, params: &[Param]) -> Result<bool, AllocError>
-    ensures { IfOk result (λ b. b ≡ has_twice (map word_of_param (map param_of params.now))) }
+    ensures { IfOk result (λ b. b ≡ has_twice (map word_of_param (map param_view params.now))) }
 {
     let mut words: IndexSet<String> = IndexSet::new(alloc);
     for param in params {
@@ -143,7 +148,7 @@ fn has_twice(alloc: Global, params: &[Param]) -> Result<bool, AllocError>
 
 /// The word of a parameter.
 pub fn word_of(param: &Param) -> &str
-    ensures { result.now ≡ word_of_param (param_of param.now) }
+    ensures { result.now ≡ word_of_param (param_view param.now) }
 {
     match param {
         Param::Num(word) => word.as_str(),

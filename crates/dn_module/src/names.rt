@@ -50,8 +50,10 @@ impl NameTable {
     /// want of memory the names are unchanged.
     pub fn add(&mut self, alloc: Global, text: &str) -> Result<bool, AllocError>
         requires room { length self.old < 1024 }
-        ensures is_new { IfOk result (λ is_new. is_new ≡ not (list_any (bytes_eq text.now) self.old)) }
-        ensures added { IfOk result (λ is_new. self.new ≡ (if is_new then self.old ++ text.now ∷ [] else self.old)) }
+        ensures is_new { IfOk result (λ is_new. is_new ≡ not
+            (list_any (bytes_eq text.now) self.old)) }
+        ensures added { IfOk result (λ is_new. self.new ≡
+            (if is_new then self.old ++ text.now ∷ [] else self.old)) }
         ensures err { OnErr result (self.new ≡ self.old) }
     {
         let name = String::from_str(alloc, text)?;

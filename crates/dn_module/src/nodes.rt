@@ -2,13 +2,13 @@
 
 ghost use Rattle.std.specs.Prelude.{◌≡◌, map, not, true, IfOk, option_map};
 ghost use Rattle.dn_parse.specs.Tree.{Declaration};
-ghost use Rattle.dn_parse.specs.Seen.{name_of, maybe_name_of, block_of as block_seen, dest_of as dest_seen, entry_of as entry_seen, spec_of, role_of as role_seen, declaration_of};
+ghost use Rattle.dn_parse.specs.Views.{name_view, maybe_name_view, block_view, dest_view, entry_view, spec_view, role_view, declaration_view};
 ghost use Rattle.dn_net.specs.Decode.{is_unit};
 ghost use Rattle.dn_module.specs.Values.{each, full_name_or_none};
 ghost use Rattle.dn_module.specs.Replace.{in_block, in_dest, in_entry, in_reference, in_declared, in_spec, in_declaration};
-ghost use Rattle.dn_module.specs.Drafts.{block_of, dest_of, entry_of, role_of, draft_of, declared_by, unit_of};
-ghost use Rattle.dn_module.specs.Flaws.{told, GivesPart};
-ghost use Rattle.dn_module.specs.Told.{Gives};
+ghost use Rattle.dn_module.specs.Drafts.{block_of, dest_of, entry_of, role_of, draft_of, declared_by};
+ghost use Rattle.dn_base.specs.Answers.{Answers};
+ghost use Rattle.dn_module.specs.Faults.{expand_fault_view, name_fault_view, some_flaw};
 
 use crate::draft::{Draft, DraftDest, DraftEntry};
 use crate::fault::ExpandFault;
@@ -22,7 +22,8 @@ use std::alloc::Global;
 
 /// The node that a declaration makes, with this line. No kind of unit exists, so a unit is a fault.
 pub fn declared(alloc: Global, scope: &Scope, line: u32, decl: &Decl) -> Result<Draft, ExpandFault>
-    ensures made { Gives result (declared_by line (in_declaration scope.now (declaration_of decl.now))) }
+    ensures made { Answers (λ x. x) expand_fault_view result
+        (declared_by line (in_declaration scope.now (declaration_view decl.now))) }
     // It is no unit.
     ensures no_unit { IfOk result (λ d. not (is_unit d.role) ≡ true) }
 {
@@ -44,7 +45,9 @@ fn node_at(
     name: &NameExpr,
     spec: &Spec,
 ) -> Result<Draft, ExpandFault>
-    ensures made { Gives result (declared_by line (in_declaration scope.now (Declaration.node (role_seen role) (name_of name.now) (spec_of spec.now)))) }
+    ensures made { Answers (λ x. x) expand_fault_view result
+        (declared_by line (in_declaration scope.now
+        (Declaration.node (role_view role) (name_view name.now) (spec_view spec.now)))) }
     ensures no_unit { IfOk result (λ d. not (is_unit d.role) ≡ true) }
 {
     match node(alloc, scope, line, role, name, spec) {
@@ -62,7 +65,9 @@ fn node(
     name: &NameExpr,
     spec: &Spec,
 ) -> Result<Draft, NameFault>
-    ensures made { GivesPart result (draft_of line (role_seen role) (in_declared scope.now (name_of name.now)) (in_spec scope.now (spec_of spec.now))) }
+    ensures made { Answers (λ x. x) name_fault_view result
+        (draft_of line (role_view role) (in_declared scope.now (name_view name.now))
+        (in_spec scope.now (spec_view spec.now))) }
     ensures no_unit { IfOk result (λ d. not (is_unit d.role) ≡ true) }
 {
     let name = declared_name(alloc, scope, name.as_slice())?;
@@ -80,7 +85,7 @@ fn node(
 }
 
 fn role_of(role: DeclRole) -> Role
-    ensures role { result ≡ role_of (role_seen role) }
+    ensures role { result ≡ role_of (role_view role) }
     ensures no_unit { not (is_unit result) ≡ true }
 {
     match role {
@@ -92,7 +97,8 @@ fn role_of(role: DeclRole) -> Role
 
 /// The full name of the node that serves the rest, where there is one.
 fn over(alloc: Global, scope: &Scope, name: &Option<NameExpr>) -> Result<Option<Text>, NameFault>
-    ensures { GivesPart result (full_name_or_none (option_map (in_reference scope.now) (maybe_name_of name.now))) }
+    ensures { Answers (λ x. x) name_fault_view result
+        (full_name_or_none (option_map (in_reference scope.now) (maybe_name_view name.now))) }
 {
     match name {
         None => Ok(None),
@@ -105,7 +111,8 @@ fn over(alloc: Global, scope: &Scope, name: &Option<NameExpr>) -> Result<Option<
 
 /// A block: one expression is its first and its last address.
 fn block(scope: &Scope, range: &BlockExpr) -> Result<Block, Flaw>
-    ensures { told result ≡ block_of (in_block scope.now.numbers (block_seen range.now)) }
+    ensures { Answers (λ x. x) some_flaw result
+        (block_of (in_block scope.now.numbers (block_view range.now))) }
 {
     let lo = value(scope, &range.lo)?;
     let hi = value_or(scope, lo, &range.hi)?;
@@ -113,7 +120,8 @@ fn block(scope: &Scope, range: &BlockExpr) -> Result<Block, Flaw>
 }
 
 fn blocks(alloc: Global, scope: &Scope, ranges: &[BlockExpr]) -> Result<Items<Block>, NameFault>
-    ensures { GivesPart result (each block_of (map (in_block scope.now.numbers) (map block_seen ranges.now))) }
+    ensures { Answers (λ x. x) name_fault_view result
+        (each block_of (map (in_block scope.now.numbers) (map block_view ranges.now))) }
 {
     let mut made = Vec::with_capacity(alloc, ranges.len())?;
     for range in ranges {
@@ -125,7 +133,8 @@ fn blocks(alloc: Global, scope: &Scope, ranges: &[BlockExpr]) -> Result<Items<Bl
 
 /// A destination of a block with this first address, which is its own where none is given.
 fn dest(alloc: Global, scope: &Scope, lo: u64, dest: &DestExpr) -> Result<DraftDest, NameFault>
-    ensures { GivesPart result (dest_of lo (in_dest scope.now (dest_seen dest.now))) }
+    ensures { Answers (λ x. x) name_fault_view result
+        (dest_of lo (in_dest scope.now (dest_view dest.now))) }
 {
     let to = reference(alloc, scope, dest.name.as_slice())?;
     let addr = value_or(scope, lo, &dest.addr)?;
@@ -138,7 +147,8 @@ fn dests(
     lo: u64,
     dests: &[DestExpr],
 ) -> Result<Items<DraftDest>, NameFault>
-    ensures { GivesPart result (each (dest_of lo) (map (in_dest scope.now) (map dest_seen dests.now))) }
+    ensures { Answers (λ x. x) name_fault_view result
+        (each (dest_of lo) (map (in_dest scope.now) (map dest_view dests.now))) }
 {
     let mut made = Vec::with_capacity(alloc, dests.len())?;
     for expr in dests {
@@ -149,7 +159,8 @@ fn dests(
 }
 
 fn entry(alloc: Global, scope: &Scope, mapping: &EntryExpr) -> Result<DraftEntry, NameFault>
-    ensures { GivesPart result (entry_of (in_entry scope.now (entry_seen mapping.now))) }
+    ensures { Answers (λ x. x) name_fault_view result
+        (entry_of (in_entry scope.now (entry_view mapping.now))) }
 {
     let block = block(scope, &mapping.block)?;
     let dests = dests(alloc, scope, block.lo, mapping.dests.as_slice())?;
@@ -161,7 +172,8 @@ fn entries(
     scope: &Scope,
     mappings: &[EntryExpr],
 ) -> Result<Items<DraftEntry>, NameFault>
-    ensures { GivesPart result (each entry_of (map (in_entry scope.now) (map entry_seen mappings.now))) }
+    ensures { Answers (λ x. x) name_fault_view result
+        (each entry_of (map (in_entry scope.now) (map entry_view mappings.now))) }
 {
     let mut made = Vec::with_capacity(alloc, mappings.len())?;
     for mapping in mappings {

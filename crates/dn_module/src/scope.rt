@@ -1,6 +1,6 @@
 //! What stands for the words of a body: numbers for variables, and full names for names.
 
-ghost use Rattle.std.specs.Prelude.{◌≡◌, [], ◌∷◌, ◌++◌, ◌<◌, length, drop, map, reverse, OnOk, OnErr, Option, Some, None, option_map};
+ghost use Rattle.std.specs.Prelude.{◌≡◌, [], ◌∷◌, ◌++◌, ◌<◌, drop, map, reverse, OnOk, OnErr, Option, Some, None, option_map};
 ghost use Rattle.dn_module.specs.Replace.{looked_up, node_by, as_they_stand, under, prefix_of};
 
 use crate::words::Words;
@@ -73,7 +73,8 @@ impl Scope {
     /// Goes into a turn of a loop: its variable with its number becomes the innermost. For want of memory
     /// the scope is unchanged.
     pub fn enter(&mut self, alloc: Global, word: &str, number: u64) -> Result<(), AllocError>
-        ensures ok { OnOk result (self.new ≡ record { numbers = (word.now, number) ∷ self.old.numbers; naming = self.old.naming }) }
+        ensures ok { OnOk result (self.new ≡ record
+            { numbers = (word.now, number) ∷ self.old.numbers; naming = self.old.naming }) }
         ensures err { OnErr result (self.new ≡ self.old) }
     {
         let word = Text::of(alloc, word)?;

@@ -1,9 +1,9 @@
 //! What is still to be done while a tree is expanded.
 
-ghost use Rattle.std.specs.Prelude.{◌≡◌, ◌∷◌, [], ◌++◌, IfSome, IfNone, IfErr, OnOk, None};
+ghost use Rattle.std.specs.Prelude.{◌≡◌, ◌∷◌, [], ◌++◌, IfSome, IfNone, IfErr, OnOk, OnErr, None};
 ghost use Rattle.dn_module.specs.Expand.{Visibility, outside, statements};
 ghost use Rattle.dn_module.specs.Replace.{Replacement, in_items};
-ghost use Rattle.dn_module.specs.Stack.{scope_of, seen_body, rest_works, first_works, turns_works, turn_works, after_works, use_works, stack_works, work_seen};
+ghost use Rattle.dn_module.specs.Stack.{visibility_view, body_view, rest_works, first_works, turns_works, turn_works, after_works, use_works, stack_works, work_view};
 ghost use Rattle.dn_module.specs.declared.fault.ExpandFault.TheVariants.{OutOfMemory as no_memory};
 
 use crate::fault::ExpandFault;
@@ -63,7 +63,8 @@ pub struct Stack<'a> {
 impl<'a> Use<'a> {
     /// A use at its beginning. It takes no memory.
     pub fn new(alloc: Global, scope: Scope, visible: Visible, body: &'a [Stmt]) -> Use<'a>
-        ensures { use_works result ≡ statements (scope_of visible) (in_items scope (seen_body body.now)) }
+        ensures { use_works result ≡ statements (visibility_view visible)
+            (in_items scope (body_view body.now)) }
     {
         Use {
             scope,
@@ -78,8 +79,10 @@ impl<'a> Use<'a> {
 
     /// What is next in the use, whose rest stays. `None` exactly where it is at its end.
     fn next(&mut self) -> Option<Work<'a>>
-        ensures some { IfSome result (λ w. use_works self.old ≡ work_seen (scope_of self.new.visible) self.new.scope w ∷ use_works self.new) }
+        ensures some { IfSome result (λ w. use_works self.old ≡ work_view
+            (visibility_view self.new.visible) self.new.scope w ∷ use_works self.new) }
         ensures none { IfNone result (use_works self.old ≡ []) }
+        ensures done { IfNone result (use_works self.new ≡ []) }
         ensures free { IfSome result (λ _. self.new.inner.turns ≡ None) }
     {
         loop {
@@ -95,12 +98,15 @@ impl<'a> Use<'a> {
         }
     }
 
-    /// Goes into the turn of a loop that is next in the innermost body.
+    /// Goes into the turn of a loop that is next in the innermost body. For want of memory the use is unchanged.
     pub fn enter_turn(&mut self, alloc: Global, turns: Turns<'a>) -> Result<(), ExpandFault>
         requires free { self.old.inner.turns ≡ None }
         ensures err { IfErr result (λ e. e ≡ no_memory) }
-        ensures entered { OnOk result (use_works self.new ≡ turn_works (scope_of self.old.visible) self.old.scope turns.entry ++ use_works self.old) }
+        ensures unchanged { OnErr result (use_works self.new ≡ use_works self.old) }
+        ensures entered { OnOk result (use_works self.new ≡ turn_works
+            (visibility_view self.old.visible) self.old.scope turns.entry ++ use_works self.old) }
     {
+        self.outer.reserve(1)?;
         self.scope.enter(alloc, turns.variable, turns.next)?;
         self.outer.push(Rest {
             turns: after(turns),
@@ -117,7 +123,7 @@ impl<'a> Use<'a> {
 impl<'a> Stack<'a> {
     /// The stack of a text at its beginning. It takes no memory.
     pub fn new(alloc: Global, body: &'a [Stmt]) -> Stack<'a>
-        ensures { stack_works result ≡ statements outside (seen_body body.now) }
+        ensures { stack_works result ≡ statements outside (body_view body.now) }
     {
         Stack {
             inner: Use::new(alloc, Scope::outside(alloc), Visible::All, body),
@@ -127,8 +133,10 @@ impl<'a> Stack<'a> {
 
     /// What is next, which then is in the innermost use. `None` exactly where all is done.
     pub fn next(&mut self) -> Option<Work<'a>>
-        ensures some { IfSome result (λ w. stack_works self.old ≡ work_seen (scope_of self.new.inner.visible) self.new.inner.scope w ∷ stack_works self.new) }
+        ensures some { IfSome result (λ w. stack_works self.old ≡ work_view
+            (visibility_view self.new.inner.visible) self.new.inner.scope w ∷ stack_works self.new) }
         ensures none { IfNone result (stack_works self.old ≡ []) }
+        ensures done { IfNone result (stack_works self.new ≡ []) }
         ensures free { IfSome result (λ _. self.new.inner.inner.turns ≡ None) }
     {
         loop {
@@ -142,11 +150,14 @@ impl<'a> Stack<'a> {
         }
     }
 
-    /// Goes into a use.
+    /// Goes into a use. For want of memory the stack is unchanged.
     pub fn enter(&mut self, inner: Use<'a>) -> Result<(), ExpandFault>
         ensures err { IfErr result (λ e. e ≡ no_memory) }
-        ensures entered { OnOk result (stack_works self.new ≡ use_works inner.entry ++ stack_works self.old) }
+        ensures unchanged { OnErr result (stack_works self.new ≡ stack_works self.old) }
+        ensures entered { OnOk result (stack_works self.new ≡ use_works inner.entry ++ stack_works
+            self.old) }
     {
+        self.outer.reserve(1)?;
         let outer = mem::replace(&mut self.inner, inner);
         self.outer.push(outer)?;
         Ok(())
@@ -155,7 +166,8 @@ impl<'a> Stack<'a> {
 
 /// What is first in a body, and what is left of the body then. `None` exactly where it is at its end.
 fn first<'a>(rest: Rest<'a>) -> Option<(Work<'a>, Rest<'a>)>
-    ensures works { (s : Visibility) (r : Replacement) → rest_works s r rest.entry ≡ first_works s r result }
+    ensures works { (s : Visibility) (r : Replacement) → rest_works s r rest.entry ≡ first_works s
+        r result }
     ensures free { IfSome result (λ f. f.1.turns ≡ None) }
 {
     if let Some(turns) = rest.turns {
@@ -177,7 +189,8 @@ fn first<'a>(rest: Rest<'a>) -> Option<(Work<'a>, Rest<'a>)>
 
 /// The turns after the next one, if there are any.
 fn after<'a>(turns: Turns<'a>) -> Option<Turns<'a>>
-    ensures { (s : Visibility) (r : Replacement) → turns_works s r result ≡ after_works s r turns.entry }
+    ensures { (s : Visibility) (r : Replacement) → turns_works s r result ≡ after_works s r
+        turns.entry }
 {
     if turns.next >= turns.last {
         return None;

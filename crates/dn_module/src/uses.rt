@@ -3,13 +3,13 @@
 ghost use Rattle.std.specs.Prelude.{◌≡◌, map, option_map, length, IfSome, false};
 ghost use Rattle.std.specs.List.{list_any};
 ghost use Rattle.std.specs.Str.{bytes_eq};
-ghost use Rattle.dn_parse.specs.Seen.{param_of, arg_of, name_of};
+ghost use Rattle.dn_parse.specs.Views.{param_view, arg_view, name_view};
 ghost use Rattle.dn_module.specs.Replace.{in_arg, in_declared};
 ghost use Rattle.dn_module.specs.Expand.{has_twice, word_of_param, fits_param, fit, use_of};
 ghost use Rattle.dn_module.specs.Stack.{use_works};
-ghost use Rattle.dn_module.specs.Machine.{pair_seen, bound, given_seen, given_more, replaced_by, GivesPartBy};
-ghost use Rattle.dn_module.specs.Flaws.{GivesPart};
-ghost use Rattle.dn_module.specs.Told.{GivesBy};
+ghost use Rattle.dn_module.specs.Machine.{pair_view, bound, given_view, given_more, replaced_by};
+ghost use Rattle.dn_base.specs.Answers.{Answers};
+ghost use Rattle.dn_module.specs.Faults.{expand_fault_view, name_fault_view};
 
 use crate::fault::ExpandFault;
 use crate::modules::{Module, Visible, word_of};
@@ -37,8 +37,11 @@ pub fn used<'a>(
     args: &[Arg],
     prefix: &[PartExpr],
 ) -> Result<Use<'a>, ExpandFault>
-    requires different { IfSome found (λ m. has_twice (map word_of_param (map param_of m.1.params.now)) ≡ false) }
-    ensures { GivesBy use_works result (use_of line (map (in_arg scope.now) (map arg_of args.now)) (in_declared scope.now (name_of prefix.now)) (option_map pair_seen found.entry)) }
+    requires different { IfSome found (λ m. has_twice
+        (map word_of_param (map param_view m.1.params.now)) ≡ false) }
+    ensures { Answers use_works expand_fault_view result
+        (use_of line (map (in_arg scope.now) (map arg_view args.now))
+        (in_declared scope.now (name_view prefix.now)) (option_map pair_view found.entry)) }
 {
     let Some((number, module)) = found else {
         return Err(ExpandFault::Unknown { line });
@@ -60,9 +63,12 @@ fn inner_scope(
     args: &[Arg],
     prefix: &[PartExpr],
 ) -> Result<Scope, NameFault>
-    requires different { has_twice (map word_of_param (map param_of params.now)) ≡ false }
+    requires different { has_twice (map word_of_param (map param_view params.now)) ≡ false }
     requires count { length params.now ≡ length args.now }
-    ensures { GivesPart result (replaced_by (map word_of_param (map param_of params.now)) (map (in_arg scope.now) (map arg_of args.now)) (in_declared scope.now (name_of prefix.now))) }
+    ensures { Answers (λ x. x) name_fault_view result
+        (replaced_by (map word_of_param (map param_view params.now))
+        (map (in_arg scope.now) (map arg_view args.now))
+        (in_declared scope.now (name_view prefix.now))) }
 {
     let given = give_all(alloc, scope, params, args)?;
     let text = declared_name(alloc, scope, prefix)?;
@@ -77,9 +83,11 @@ fn give_all(
     params: &[Param],
     args: &[Arg],
 ) -> Result<Given, NameFault>
-    requires different { has_twice (map word_of_param (map param_of params.now)) ≡ false }
+    requires different { has_twice (map word_of_param (map param_view params.now)) ≡ false }
     requires count { length params.now ≡ length args.now }
-    ensures { GivesPartBy given_seen result (bound (map word_of_param (map param_of params.now)) (map (in_arg scope.now) (map arg_of args.now))) }
+    ensures { Answers given_view name_fault_view result
+        (bound (map word_of_param (map param_view params.now))
+        (map (in_arg scope.now) (map arg_view args.now))) }
 {
     let mut given = Given {
         numbers: Words::new(alloc),
@@ -101,7 +109,8 @@ fn give(
 ) -> Result<(), NameFault>
     requires new_number { list_any (λ b. bytes_eq word.now b.0) given.old.numbers ≡ false }
     requires new_node { list_any (λ b. bytes_eq word.now b.0) given.old.nodes ≡ false }
-    ensures { GivesPartBy (λ _. given_seen given.new) result (given_more word.now (given_seen given.old) (in_arg scope.now (arg_of arg.now))) }
+    ensures { Answers (λ _. given_view given.new) name_fault_view result
+        (given_more word.now (given_view given.old) (in_arg scope.now (arg_view arg.now))) }
 {
     match arg {
         Arg::Num(expr) => {
@@ -118,7 +127,7 @@ fn give(
 
 /// Whether the arguments are as many as the parameters, and of their sorts.
 fn fit(params: &[Param], args: &[Arg]) -> bool
-    ensures { result ≡ fit (map param_of params.now) (map arg_of args.now) }
+    ensures { result ≡ fit (map param_view params.now) (map arg_view args.now) }
 {
     if params.len() != args.len() {
         return false;
@@ -133,7 +142,7 @@ fn fit(params: &[Param], args: &[Arg]) -> bool
 
 /// Whether an argument is of its parameter's sort.
 fn fits(param: &Param, arg: &Arg) -> bool
-    ensures { result ≡ fits_param (param_of param.now) (arg_of arg.now) }
+    ensures { result ≡ fits_param (param_view param.now) (arg_view arg.now) }
 {
     match param {
         Param::Num(_) => matches!(arg, Arg::Num(_)),

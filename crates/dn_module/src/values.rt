@@ -1,13 +1,15 @@
 //! The values of expressions and the full names of nodes, under what stands for the words of a body.
 
-ghost use Rattle.std.specs.Prelude.{◌≡◌, ◌++◌, ◌^◌, if◌then◌else◌, nat_lt, map, Option, option_map};
+ghost use Rattle.std.specs.Prelude.{◌≡◌, ◌^◌, if◌then◌else◌, nat_lt, map, Option, option_map};
 ghost use Rattle.std.specs.String.{string_bytes};
-ghost use Rattle.dn_parse.specs.Tree.{Expression, Expressions, expressions, variable as variable_of, sum as sum_expression, product as product_expression};
-ghost use Rattle.dn_parse.specs.Seen.{expr_of, maybe_of, part_of, name_of};
+ghost use Rattle.dn_parse.specs.Tree.{expressions, variable as variable_of, sum as sum_expression, product as product_expression};
+ghost use Rattle.dn_parse.specs.Views.{expr_view, maybe_expr_view, part_view, name_view};
 ghost use Rattle.dn_module.specs.Values.{value, value_or, fitting, difference, part_text, full_name};
 ghost use Rattle.dn_module.specs.Replace.{in_expression, in_option, in_part, in_declared, in_reference, node_by, word_of};
-ghost use Rattle.dn_module.specs.Flaws.{told, GivesPart, Appends, fault_at, dots_before};
+ghost use Rattle.dn_module.specs.Flaws.{Appends, dots_before};
 ghost use Rattle.dn_module.specs.declared.values.NameFault.TheVariants.{OutOfMemory as no_memory, Flawed as flawed};
+ghost use Rattle.dn_base.specs.Answers.{Answers};
+ghost use Rattle.dn_module.specs.Faults.{expand_fault_view, name_fault_view, some_flaw, flaw_fault};
 
 use crate::fault::ExpandFault;
 use crate::scope::Scope;
@@ -39,7 +41,7 @@ pub enum NameFault {
 impl NameFault {
     /// The fault of the statement with this line.
     pub fn at(self, line: u32) -> ExpandFault
-        ensures { result ≡ fault_at line self }
+        ensures { expand_fault_view result ≡ option_map (flaw_fault line) (name_fault_view self) }
     {
         match self {
             NameFault::Flawed(Flaw::Unknown) => ExpandFault::Unknown { line },
@@ -77,7 +79,8 @@ impl<T: Drop> From<AllocFailed<T>> for NameFault {
 /// to right, and then it is judged whole.
 #[cycle(value)]
 pub fn value(scope: &Scope, expr: &Expr) -> Result<u64, Flaw>
-    ensures { told result ≡ value (in_expression scope.now.numbers (expr_of expr.now)) }
+    ensures { Answers (λ x. x) some_flaw result
+        (value (in_expression scope.now.numbers (expr_view expr.now))) }
 {
     match expr {
         Expr::Number(number) => Ok(*number),
@@ -90,7 +93,8 @@ pub fn value(scope: &Scope, expr: &Expr) -> Result<u64, Flaw>
 
 /// The number that stands for a variable.
 fn variable(scope: &Scope, word: &str) -> Result<u64, Flaw>
-    ensures { told result ≡ value (in_expression scope.now.numbers (variable_of word.now)) }
+    ensures { Answers (λ x. x) some_flaw result
+        (value (in_expression scope.now.numbers (variable_of word.now))) }
 {
     match scope.number(word) {
         Some(number) => Ok(number),
@@ -101,7 +105,9 @@ fn variable(scope: &Scope, word: &str) -> Result<u64, Flaw>
 /// The values together. A number past the limit is kept as the limit, since a later member can be unknown.
 #[cycle(value)]
 fn sum(scope: &Scope, members: &[Expr]) -> Result<u64, Flaw>
-    ensures { told result ≡ value (in_expression scope.now.numbers (sum_expression (expressions (map expr_of members.now)))) }
+    ensures { Answers (λ x. x) some_flaw result
+        (value (in_expression scope.now.numbers (sum_expression
+        (expressions (map expr_view members.now))))) }
 {
     let mut total: u128 = 0;
     for member in members {
@@ -114,7 +120,9 @@ fn sum(scope: &Scope, members: &[Expr]) -> Result<u64, Flaw>
 /// The product of the values. A number past the limit is kept as the limit, since a later value can be 0.
 #[cycle(value)]
 fn product(scope: &Scope, members: &[Expr]) -> Result<u64, Flaw>
-    ensures { told result ≡ value (in_expression scope.now.numbers (product_expression (expressions (map expr_of members.now)))) }
+    ensures { Answers (λ x. x) some_flaw result
+        (value (in_expression scope.now.numbers (product_expression
+        (expressions (map expr_view members.now))))) }
 {
     let mut total: u128 = 1;
     for member in members {
@@ -133,7 +141,7 @@ fn limited(number: u128) -> u128
 
 /// The number as a value, if it is one.
 fn fitting(number: u128) -> Result<u64, Flaw>
-    ensures { told result ≡ fitting number }
+    ensures { Answers (λ x. x) some_flaw result (fitting number) }
 {
     if number < LIMIT {
         Ok(number as u64)
@@ -144,7 +152,7 @@ fn fitting(number: u128) -> Result<u64, Flaw>
 
 /// The number from which another is taken away, if it is no less than the other.
 fn difference(from: u64, less: u64) -> Result<u64, Flaw>
-    ensures { told result ≡ difference from less }
+    ensures { Answers (λ x. x) some_flaw result (difference from less) }
 {
     if less <= from {
         Ok(from - less)
@@ -155,7 +163,8 @@ fn difference(from: u64, less: u64) -> Result<u64, Flaw>
 
 /// The value of an expression that may be left out, for which another value stands then.
 pub fn value_or(scope: &Scope, other: u64, expr: &Option<Expr>) -> Result<u64, Flaw>
-    ensures { told result ≡ value_or other (in_option scope.now.numbers (maybe_of expr.now)) }
+    ensures { Answers (λ x. x) some_flaw result
+        (value_or other (in_option scope.now.numbers (maybe_expr_view expr.now))) }
 {
     match expr {
         None => Ok(other),
@@ -165,7 +174,8 @@ pub fn value_or(scope: &Scope, other: u64, expr: &Option<Expr>) -> Result<u64, F
 
 /// The full name that a declared name spells: inside of a module the full name of the use stands before it.
 pub fn declared_name(alloc: Global, scope: &Scope, name: &[PartExpr]) -> Result<Text, NameFault>
-    ensures { GivesPart result (full_name (in_declared scope.now (name_of name.now))) }
+    ensures { Answers (λ x. x) name_fault_view result
+        (full_name (in_declared scope.now (name_view name.now))) }
 {
     let mut text = String::new(alloc);
     match scope.prefix() {
@@ -181,7 +191,8 @@ pub fn declared_name(alloc: Global, scope: &Scope, name: &[PartExpr]) -> Result<
 /// The full name to which a name refers: one part without an index that spells a node parameter is the
 /// argument's, and any other is as a declared name.
 pub fn reference(alloc: Global, scope: &Scope, name: &[PartExpr]) -> Result<Text, NameFault>
-    ensures { GivesPart result (full_name (in_reference scope.now (name_of name.now))) }
+    ensures { Answers (λ x. x) name_fault_view result
+        (full_name (in_reference scope.now (name_view name.now))) }
 {
     match argument(scope, name) {
         Some(text) => Ok(Text::of(alloc, text)?),
@@ -192,7 +203,8 @@ pub fn reference(alloc: Global, scope: &Scope, name: &[PartExpr]) -> Result<Text
 /// The full name that stands for a name of one part without an index. `None` exactly where it spells no
 /// node parameter.
 fn argument<'a>(scope: &'a Scope, name: &[PartExpr]) -> Option<&'a str>
-    ensures { option_map (λ t. t.now) result ≡ node_by scope.now.naming (word_of (name_of name.now)) }
+    ensures { option_map (λ t. t.now) result ≡ node_by scope.now.naming
+        (word_of (name_view name.now)) }
 {
     match name {
         [part] => match part.index {
@@ -205,7 +217,8 @@ fn argument<'a>(scope: &'a Scope, name: &[PartExpr]) -> Option<&'a str>
 
 /// Appends the parts joined by `.`.
 fn push_dotted(out: &mut String, scope: &Scope, parts: &[PartExpr]) -> Result<(), NameFault>
-    ensures { Appends result (string_bytes out.old) (string_bytes out.new) (full_name (map (in_part scope.now.numbers) (name_of parts.now))) }
+    ensures { Appends result (string_bytes out.old) (string_bytes out.new)
+        (full_name (map (in_part scope.now.numbers) (name_view parts.now))) }
 {
     let [first, rest @ ..] = parts else {
         return Ok(());
@@ -216,7 +229,8 @@ fn push_dotted(out: &mut String, scope: &Scope, parts: &[PartExpr]) -> Result<()
 
 /// Appends the parts, each with a `.` before it.
 fn push_after_dots(out: &mut String, scope: &Scope, parts: &[PartExpr]) -> Result<(), NameFault>
-    ensures { Appends result (string_bytes out.old) (string_bytes out.new) (dots_before (map (in_part scope.now.numbers) (name_of parts.now))) }
+    ensures { Appends result (string_bytes out.old) (string_bytes out.new)
+        (dots_before (map (in_part scope.now.numbers) (name_view parts.now))) }
 {
     for part in parts {
         out.push_str(".")?;
@@ -228,7 +242,8 @@ fn push_after_dots(out: &mut String, scope: &Scope, parts: &[PartExpr]) -> Resul
 /// Appends a part, with the value of its index in brackets where it has one. After a fault a part of it may
 /// have been appended.
 fn push_part(out: &mut String, scope: &Scope, part: &PartExpr) -> Result<(), NameFault>
-    ensures { Appends result (string_bytes out.old) (string_bytes out.new) (part_text (in_part scope.now.numbers (part_of part.now))) }
+    ensures { Appends result (string_bytes out.old) (string_bytes out.new)
+        (part_text (in_part scope.now.numbers (part_view part.now))) }
 {
     out.push_str(part.title.as_str())?;
     if let Some(index) = &part.index {

@@ -12,7 +12,7 @@ use Rattle.dn_parse.proofs.Reach.{ReachedAt, reached}
 use Rattle.dn_parse.proofs.Whole.{spelled_is_read}
 
 -- a stop is at one of the tokens
-abbrev Within : Stop → ℕ → Type 0
+abbrev pub Within : Stop → ℕ → Type 0
 Within whole m = Unit {0}
 Within (refused n) m = n ≤ m
 Within (deep n) m = n ≤ m
@@ -31,7 +31,7 @@ within_go (on k vs) line n l ts h = within_go_in (is_deep n l) (inside line (par
 within_go (over vs) line n l ts h = within_more (run between ts).stop (length ts) (h between)
 within_go stuck line n l ts h = omega arith
 
-within : (ts : List Token) (p : Place) → Within (run p ts).stop (length ts)
+pub within : (ts : List Token) (p : Place) → Within (run p ts).stop (length ts)
 within [] between = tt
 within [] (inside line n k vs) = omega arith
 within (t ∷ ts) between = within_go (feed (statement_form ∷ []) [] t.lexeme) t.line 0 t.lexeme ts (within ts)

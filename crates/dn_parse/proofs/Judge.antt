@@ -1,14 +1,14 @@
 -- What is still to be said of a text, one statement after the other.
-use Rattle.std.proofs.Common.{◌≡◌, ◌∙◌, ap, sym, refl, subst, ℕ, zero, suc, ◌-◌, ◌<◌, ◌≤◌, Bool, true, false, cond, List, [], ◌∷◌, ◌++◌, length, Option, Some, None, Result, Ok, Err, arith, map, reverse, drop, get_or, nat_le, le-leb, leb-true}
+use Rattle.std.proofs.Common.{◌≡◌, ◌∙◌, ap, sym, refl, subst, ℕ, zero, suc, ◌-◌, ◌<◌, ◌≤◌, Bool, true, false, cond, List, [], ◌∷◌, ◌++◌, length, Some, None, IfSome, Result, Ok, Err, arith, map, reverse, drop, get_or, nat_le, le-leb, leb-true}
 use Rattle.std.proofs.lemmas.List.{length-map, length-reverse, map-append, reverse-append}
 use Rattle.dn_parse.specs.declared.token.Sign.TheVariants.{Semicolon}
-use Rattle.dn_parse.specs.Token.{Lexeme, Token, tokens}
-use Rattle.dn_parse.specs.Tree.{Statement, Placed, Tree, items}
-use Rattle.dn_parse.specs.Actions.{Value, statement}
+use Rattle.dn_parse.specs.Token.{Token, tokens}
+use Rattle.dn_parse.specs.Tree.{Statement, Tree, items}
+use Rattle.dn_parse.specs.Actions.{statement}
 use Rattle.dn_parse.specs.Forms.{is_sign}
-use Rattle.dn_parse.specs.Syntax.{statement_form, statement_of}
+use Rattle.dn_parse.specs.Syntax.{statement_form}
 use Rattle.dn_parse.specs.Machine.{Stop, whole, refused, deep, Outcome, stopped, with_statement, between, inside, run, go, closed}
-use Rattle.dn_parse.specs.Whole.{Fault, block_fault, Frame, Blocks, Step, going, by_step, step, at_stop, judged, judge, without_frame, closed_block, line_of, line_at, reading, no_blocks_yet, last_line, too_long, bad_token, of_reading, of_token_list, text_reading}
+use Rattle.dn_parse.specs.Whole.{TextFault, block_fault, first_line, Frame, Blocks, Step, by_step, step, at_stop, judged, judge, without_frame, closed_block, line_of, line_at, reading, no_blocks_yet, last_line, too_long, bad_token, of_token_list, text_reading}
 use Rattle.dn_parse.specs.Descent.{and_then, Read, or_refused, after_sign, sign_at, statement_at, whole_statement_at}
 use Rattle.dn_parse.specs.declared.cursor.Halt.{Halt}
 use Rattle.dn_parse.specs.declared.cursor.Halt.TheVariants.{Refused, Deep as DeepHalt, OutOfMemory as HaltMemory}
@@ -17,14 +17,13 @@ use Rattle.dn_parse.specs.declared.blocks.Misplaced.TheVariants.{Forbidden, Crow
 use Rattle.dn_parse.specs.declared.blocks.Blocks.{Blocks as CodeBlocks}
 use Rattle.dn_parse.specs.declared.blocks.Frame.{Frame as CodeFrame}
 use Rattle.dn_parse.specs.declared.token.Token.{Token as CodeToken}
-use Rattle.dn_parse.specs.Lexing.{token_of}
+use Rattle.dn_parse.specs.Lexing.{token_view}
 use Rattle.dn_parse.specs.declared.syntax.Tree.{Tree as CodeTree}
 use Rattle.dn_parse.specs.declared.reader.ParseFault.{ParseFault}
-use Rattle.dn_parse.specs.declared.reader.ParseFault.TheVariants.{Length, Token as BadToken, Statement as StatementFault, Block as BlockFault, Nesting as NestingFault, OutOfMemory as SyntaxMemory}
-use Rattle.dn_parse.specs.Giving.{Halts}
-use Rattle.dn_parse.specs.Seen.{seen, frame_of, blocks_seen, item_of, command_of}
-use Rattle.dn_parse.specs.Placing.{Steps, IsFault, IsReading, IsTextReading, StartsAt, halted_fault, misplaced_fault}
-use Rattle.dn_parse.proofs.Does.{Does, DoesBy}
+use Rattle.dn_base.specs.Answers.{Answers}
+use Rattle.dn_parse.specs.Views.{token_views, frame_view, blocks_view, item_view, command_view, tree_view}
+use Rattle.dn_parse.specs.Faults.{halt_view, misplaced_view, parse_fault_view, halt_fault, misplaced_fault}
+use Rattle.dn_parse.proofs.Does.{DoesBy}
 use Rattle.dn_parse.proofs.Heads.{statement_does}
 
 -- what a whole statement is to the machine
@@ -74,47 +73,49 @@ pub statement_no_longer : (ts : List Token) (s : Statement) (rest : List Token) 
 statement_no_longer ts s rest e = no_longer_by ts (statement_at ts) (statement_does ts).it s rest e
 
 -- the next statement, where the tokens are known up to an equation
-pub next_step : (last : ℕ) (all : List Token) (b : Blocks) (ts : List Token) (line : ℕ) (s : Statement) (after : List Token) → StartsAt ts line → whole_statement_at ts ≡ Ok (s, after) → judge last all b ts ≡ by_step (step b (record { line = line; statement = s })) line (λ c. judge last all c after)
-next_step last all b [] line s after h e = absurd h
-next_step last all b (t ∷ ts) line s after h e = judge_step last all b t ts s after e ∙ ap (λ (j : ℕ). by_step (step b (record { line = j; statement = s })) j (λ c. judge last all c after)) h
+pub next_step : (last : ℕ) (all : List Token) (b : Blocks) (ts : List Token) (line : ℕ) (s : Statement) (after : List Token) → first_line ts ≡ Some line → whole_statement_at ts ≡ Ok (s, after) → judge last all b ts ≡ by_step (step b (record { line = line; statement = s })) line (λ c. judge last all c after)
+next_step last all b [] line s after h e = cc
+next_step last all b (t ∷ ts) line s after h e =
+    let same : t.line ≡ line = cc in
+    judge_step last all b t ts s after e ∙ ap (λ (j : ℕ). by_step (step b (record { line = j; statement = s })) j (λ c. judge last all c after)) same
 
-pub next_stop : (last : ℕ) (all : List Token) (b : Blocks) (ts : List Token) (line : ℕ) (z : Stop) → StartsAt ts line → whole_statement_at ts ≡ Err z → judge last all b ts ≡ at_stop z last all b
-next_stop last all b [] line z h e = absurd h
+pub next_stop : (last : ℕ) (all : List Token) (b : Blocks) (ts : List Token) (line : ℕ) (z : Stop) → first_line ts ≡ Some line → whole_statement_at ts ≡ Err z → judge last all b ts ≡ at_stop z last all b
+next_stop last all b [] line z h e = cc
 next_stop last all b (t ∷ ts) line z h e = judge_stop last all b t ts z e
 
 -- the faults of the code
-pub fault_halted : (last : ℕ) (all : List Token) (b : Blocks) (ts : List Token) (line : ℕ) (h : Halt) → StartsAt ts line → Halts h (whole_statement_at ts) → IsFault (halted_fault h last all) (judge last all b ts)
+pub fault_halted : (last : ℕ) (all : List Token) (b : Blocks) (ts : List Token) (line : ℕ) (h : Halt) → first_line ts ≡ Some line → IfSome (halt_view h) (λ z. whole_statement_at ts ≡ Err z) → IfSome (halt_fault h last all) (λ f. judge last all b ts ≡ Err f)
 fault_halted last all b ts line (Refused n) s e = next_stop last all b ts line (refused n) s e
 fault_halted last all b ts line (DeepHalt n) s e = next_stop last all b ts line (deep n) s e
 fault_halted last all b ts line HaltMemory s e = tt
 
-pub step_going : (r : Result CodeBlocks Misplaced) (b : CodeBlocks) (s : Step) → Steps r s → r ≡ Ok b → s ≡ going (blocks_seen b)
-step_going (Ok c) b s h e = let same : c ≡ b = cc in h ∙ ap (λ (d : CodeBlocks). going (blocks_seen d)) same
+pub step_going : (r : Result CodeBlocks Misplaced) (b : CodeBlocks) (s : Step) → Answers blocks_view misplaced_view r s → r ≡ Ok b → s ≡ Ok (blocks_view b)
+step_going (Ok c) b s h e = let same : c ≡ b = cc in h ∙ ap (λ (d : CodeBlocks). Ok (blocks_view d)) same
 step_going (Err m) b s h e = cc
 
-misplaced_by : (m : Misplaced) (s : Step) (line : ℕ) (next : Blocks → Result Tree Fault) → Steps (Err m) s → IsFault (misplaced_fault m line) (by_step s line next)
+misplaced_by : (m : Misplaced) (s : Step) (line : ℕ) (next : Blocks → Result Tree TextFault) → IfSome (misplaced_view m) (λ r. s ≡ Err r) → IfSome (misplaced_fault m line) (λ f. by_step s line next ≡ Err f)
 misplaced_by Forbidden s line next h = ap (λ (x : Step). by_step x line next) h
 misplaced_by Crowded s line next h = ap (λ (x : Step). by_step x line next) h
 misplaced_by NoRoom s line next h = tt
 
-pub fault_misplaced : (last : ℕ) (all : List Token) (b : Blocks) (ts : List Token) (line : ℕ) (s : Statement) (after : List Token) (r : Result CodeBlocks Misplaced) (m : Misplaced) → StartsAt ts line → whole_statement_at ts ≡ Ok (s, after) → Steps r (step b (record { line = line; statement = s })) → r ≡ Err m → IsFault (misplaced_fault m line) (judge last all b ts)
+pub fault_misplaced : (last : ℕ) (all : List Token) (b : Blocks) (ts : List Token) (line : ℕ) (s : Statement) (after : List Token) (r : Result CodeBlocks Misplaced) (m : Misplaced) → first_line ts ≡ Some line → whole_statement_at ts ≡ Ok (s, after) → Answers blocks_view misplaced_view r (step b (record { line = line; statement = s })) → r ≡ Err m → IfSome (misplaced_fault m line) (λ f. judge last all b ts ≡ Err f)
 fault_misplaced last all b ts line s after r m h e st is =
-    let stepped = subst (λ (x : Result CodeBlocks Misplaced). Steps x (step b (record { line = line; statement = s }))) is st in
-    subst (IsFault (misplaced_fault m line)) (sym (next_step last all b ts line s after h e)) (misplaced_by m (step b (record { line = line; statement = s })) line (λ c. judge last all c after) stepped)
+    let stepped = subst (λ (x : Result CodeBlocks Misplaced). Answers blocks_view misplaced_view x (step b (record { line = line; statement = s }))) is st in
+    subst (λ (q : Result Tree TextFault). IfSome (misplaced_fault m line) (λ f. q ≡ Err f)) (sym (next_step last all b ts line s after h e)) (misplaced_by m (step b (record { line = line; statement = s })) line (λ c. judge last all c after) stepped)
 
-pub placed_on : (last : ℕ) (all : List Token) (b : Blocks) (ts : List Token) (line : ℕ) (s : Statement) (after : List Token) (r : Result CodeBlocks Misplaced) (c : CodeBlocks) → StartsAt ts line → whole_statement_at ts ≡ Ok (s, after) → Steps r (step b (record { line = line; statement = s })) → r ≡ Ok c → judge last all b ts ≡ judge last all (blocks_seen c) after
+pub placed_on : (last : ℕ) (all : List Token) (b : Blocks) (ts : List Token) (line : ℕ) (s : Statement) (after : List Token) (r : Result CodeBlocks Misplaced) (c : CodeBlocks) → first_line ts ≡ Some line → whole_statement_at ts ≡ Ok (s, after) → Answers blocks_view misplaced_view r (step b (record { line = line; statement = s })) → r ≡ Ok c → judge last all b ts ≡ judge last all (blocks_view c) after
 placed_on last all b ts line s after r c h e st is =
     next_step last all b ts line s after h e ∙ ap (λ (x : Step). by_step x line (λ d. judge last all d after)) (step_going r c (step b (record { line = line; statement = s })) st is)
 
 -- the open blocks at the end
-reverse_none : (fs : List CodeFrame) → length fs ≡ 0 → reverse (map frame_of fs) ≡ []
+reverse_none : (fs : List CodeFrame) → length fs ≡ 0 → reverse (map frame_view fs) ≡ []
 reverse_none [] e = refl
 reverse_none (f ∷ fs) e = absurd (omega arith)
 
-pub finished_seen : (b : CodeBlocks) (last : ℕ) (ts : List Token) → length b.frames.items ≡ 0 → at_stop whole last ts (blocks_seen b) ≡ Ok (record { body = items (map item_of b.body.items); commands = map command_of b.commands })
-finished_seen b last ts e = finished_by (reverse (map frame_of b.frames.items)) (reverse_none b.frames.items e)
+pub finished_seen : (b : CodeBlocks) (last : ℕ) (ts : List Token) → length b.frames.items ≡ 0 → at_stop whole last ts (blocks_view b) ≡ Ok (record { body = items (map item_view b.body.items); commands = map command_view b.commands })
+finished_seen b last ts e = finished_by (reverse (map frame_view b.frames.items)) (reverse_none b.frames.items e)
   where
-    finished_by : (fs : List Frame) → fs ≡ [] → at_stop whole last ts (record { frames = fs; body = map item_of b.body.items; begun = b.begun; commands = map command_of b.commands }) ≡ Ok (record { body = items (map item_of b.body.items); commands = map command_of b.commands })
+    finished_by : (fs : List Frame) → fs ≡ [] → at_stop whole last ts (record { frames = fs; body = map item_view b.body.items; begun = b.begun; commands = map command_view b.commands }) ≡ Ok (record { body = items (map item_view b.body.items); commands = map command_view b.commands })
     finished_by [] e = refl
     finished_by (f ∷ fs) e = cc
 
@@ -125,37 +126,28 @@ unfinished_by b last ts h = go b.frames h
     go [] h = absurd (omega arith)
     go (f ∷ fs) h = refl
 
-pub unfinished_seen : (b : CodeBlocks) (last : ℕ) (ts : List Token) → 0 < length b.frames.items → at_stop whole last ts (blocks_seen b) ≡ Err (block_fault last)
-unfinished_seen b last ts h = unfinished_by (blocks_seen b) last ts (omega (arith, length-reverse (map frame_of b.frames.items), length-map b.frames.items frame_of))
+pub unfinished_seen : (b : CodeBlocks) (last : ℕ) (ts : List Token) → 0 < length b.frames.items → at_stop whole last ts (blocks_view b) ≡ Err (block_fault last)
+unfinished_seen b last ts h = unfinished_by (blocks_view b) last ts (omega (arith, length-reverse (map frame_view b.frames.items), length-map b.frames.items frame_view))
 
 -- the innermost block closed
-pub without_last : (b : Blocks) (front : List CodeFrame) (f : CodeFrame) (frames : List CodeFrame) → frames ≡ front ++ f ∷ [] → without_frame b (reverse (map frame_of frames)) ≡ going (record { frames = reverse (map frame_of front); body = (frame_of f).before ++ closed_block (frame_of f) b.body ∷ []; begun = b.begun; commands = b.commands })
+pub without_last : (b : Blocks) (front : List CodeFrame) (f : CodeFrame) (frames : List CodeFrame) → frames ≡ front ++ f ∷ [] → without_frame b (reverse (map frame_view frames)) ≡ Ok (record { frames = reverse (map frame_view front); body = (frame_view f).before ++ closed_block (frame_view f) b.body ∷ []; begun = b.begun; commands = b.commands })
 without_last b front f frames e =
-    let turned : reverse (map frame_of frames) ≡ frame_of f ∷ reverse (map frame_of front) = ap (λ (l : List CodeFrame). reverse (map frame_of l)) e ∙ ap reverse (map-append frame_of front (f ∷ [])) ∙ reverse-append (map frame_of front) (frame_of f ∷ []) in
+    let turned : reverse (map frame_view frames) ≡ frame_view f ∷ reverse (map frame_view front) = ap (λ (l : List CodeFrame). reverse (map frame_view l)) e ∙ ap reverse (map-append frame_view front (f ∷ [])) ∙ reverse-append (map frame_view front) (frame_view f ∷ []) in
     ap (without_frame b) turned
 
 -- the line of a token
-pub line_drop : (last : ℕ) (ts : List CodeToken) (i : ℕ) → i < length ts → (t : CodeToken) → t ≡ get_or ts i t → t.line ≡ line_of last (drop i (seen ts))
+pub line_drop : (last : ℕ) (ts : List CodeToken) (i : ℕ) → i < length ts → (t : CodeToken) → t ≡ get_or ts i t → t.line ≡ line_of last (drop i (token_views ts))
 line_drop last [] i h t e = absurd (omega arith)
 line_drop last (x ∷ ts) zero h t e = ap (λ (u : CodeToken). u.line) e
 line_drop last (x ∷ ts) (suc i) h t e = line_drop last ts i (omega arith) t e
 
-pub line_found : (last : ℕ) (ts : List CodeToken) (left i : ℕ) → i ≡ length ts - left → i < length ts → (t : CodeToken) → t ≡ get_or ts i t → t.line ≡ line_at last (seen ts) left
+pub line_found : (last : ℕ) (ts : List CodeToken) (left i : ℕ) → i ≡ length ts - left → i < length ts → (t : CodeToken) → t ≡ get_or ts i t → t.line ≡ line_at last (token_views ts) left
 line_found last ts left i e h t f =
-    let long : length (seen ts) ≡ length ts = length-map ts token_of in
-    let same : i ≡ length (seen ts) - left = omega (arith, long, e) in
-    line_drop last ts i h t f ∙ ap (λ (j : ℕ). line_of last (drop j (seen ts))) same
+    let long : length (token_views ts) ≡ length ts = length-map ts token_view in
+    let same : i ≡ length (token_views ts) - left = omega (arith, long, e) in
+    line_drop last ts i h t f ∙ ap (λ (j : ℕ). line_of last (drop j (token_views ts))) same
 
 -- a whole text
-of_tokens_read : (r : Result CodeTree ParseFault) (q : Result Tree Fault) → IsReading r q → IsTextReading r (of_reading q)
-of_tokens_read (Ok s) q h = ap of_reading h
-of_tokens_read (Err Length) q h = absurd h
-of_tokens_read (Err (BadToken line)) q h = absurd h
-of_tokens_read (Err (StatementFault line)) q h = ap of_reading h
-of_tokens_read (Err (BlockFault line)) q h = ap of_reading h
-of_tokens_read (Err (NestingFault line)) q h = ap of_reading h
-of_tokens_read (Err SyntaxMemory) q h = tt
-
 short_enough : (text : List ℕ) → length text ≤ 4194304 → text_reading text ≡ of_token_list (last_line text) (tokens text)
 unfolding text_reading
 short_enough text h = ap (λ b. cond b (of_token_list (last_line text) (tokens text)) (Err too_long)) (le-leb (length text) 4194304 h)
@@ -175,10 +167,10 @@ reading_judged : (last : ℕ) (ts : List Token) → reading last ts ≡ judge la
 unfolding reading judge
 reading_judged last ts = refl
 
-pub text_reads : (text : List ℕ) (ts : List Token) (last : ℕ) (r : Result CodeTree ParseFault) → length text ≤ 4194304 → tokens text ≡ Ok ts → last ≡ last_line text → IsReading r (judge last ts no_blocks_yet ts) → IsTextReading r (text_reading text)
+pub text_reads : (text : List ℕ) (ts : List Token) (last : ℕ) (r : Result CodeTree ParseFault) → length text ≤ 4194304 → tokens text ≡ Ok ts → last ≡ last_line text → Answers tree_view parse_fault_view r (judge last ts no_blocks_yet ts) → Answers tree_view parse_fault_view r (text_reading text)
 text_reads text ts last r short e l h =
-    let same : text_reading text ≡ of_reading (judge last ts no_blocks_yet ts) = short_enough text short ∙ ap (of_token_list (last_line text)) e ∙ ap (λ (n : ℕ). of_reading (reading n ts)) (sym l) ∙ ap of_reading (reading_judged last ts) in
-    subst (IsTextReading r) (sym same) (of_tokens_read r (judge last ts no_blocks_yet ts) h)
+    let same : text_reading text ≡ judge last ts no_blocks_yet ts = short_enough text short ∙ ap (of_token_list (last_line text)) e ∙ ap (λ (n : ℕ). reading n ts) (sym l) ∙ reading_judged last ts in
+    subst (Answers tree_view parse_fault_view r) (sym same) h
 
 pub text_bad : (text : List ℕ) (line : ℕ) → length text ≤ 4194304 → tokens text ≡ Err line → text_reading text ≡ Err (bad_token line)
 text_bad text line short e = short_enough text short ∙ ap (of_token_list (last_line text)) e

@@ -6,6 +6,9 @@ pub mod Spelled
 pub mod Whole
 pub mod Reach
 pub mod Final
+pub mod Free
+pub mod Stopped
+pub mod Shallow
 pub mod Lexed
 pub mod Numbers
 pub mod Words

@@ -42,7 +42,7 @@ sign_told Times e = cc
 sign_told Dot e = cc
 sign_told Dots e = cc
 
-semicolon_told : (l : Lexeme) → is_sign Semicolon l ≡ true → l ≡ sign Semicolon
+pub semicolon_told : (l : Lexeme) → is_sign Semicolon l ≡ true → l ≡ sign Semicolon
 semicolon_told (word w) e = cc
 semicolon_told (keyword k) e = cc
 semicolon_told (number n) e = cc
@@ -61,7 +61,7 @@ open_told Times e = cc
 open_told Dot e = cc
 open_told Dots e = cc
 
-parenthesis_told : (l : Lexeme) → is_sign OpenParenthesis l ≡ true → l ≡ sign OpenParenthesis
+pub parenthesis_told : (l : Lexeme) → is_sign OpenParenthesis l ≡ true → l ≡ sign OpenParenthesis
 parenthesis_told (word w) e = cc
 parenthesis_told (keyword k) e = cc
 parenthesis_told (number n) e = cc
@@ -156,13 +156,13 @@ statement_spelled t xs us stop ys more s semi text =
     (t, xs, stop, ys, refl, refl, (b.0, us, b.1, refl), semi, text)
 
 -- one token back
-abbrev Back : Place → Place → Token → (List Placed → List Placed) → Type 0
+abbrev pub Back : Place → Place → Token → (List Placed → List Placed) → Type 0
 Back p q t f = (ts : List Token) (ss : List Placed) → SpellsFrom q ts ss → SpellsFrom p (t ∷ ts) (f ss)
 
-back_on : (line n m : ℕ) (k k' : List Form) (vs ws : List Value) (t : Token) → SaysAll Deep k vs t (on k' ws) → Back (inside line n k vs) (inside line m k' ws) t (λ ss. ss)
+pub back_on : (line n m : ℕ) (k k' : List Form) (vs ws : List Value) (t : Token) → SaysAll Deep k vs t (on k' ws) → Back (inside line n k vs) (inside line m k' ws) t (λ ss. ss)
 back_on line n m k k' vs ws t h ts ss (xs, stop, ys, us, more, e, s, semi, l, text) = (t ∷ xs, stop, ys, us, more, ap (λ (j : List Token). t ∷ j) e, h xs us s, semi, l, text)
 
-back_over : (line n : ℕ) (k : List Form) (vs ws : List Value) (t : Token) → SaysAll Deep k vs t (over ws) → Back (inside line n k vs) between t (λ ss. record { line = line; statement = statement_of ws } ∷ ss)
+pub back_over : (line n : ℕ) (k : List Form) (vs ws : List Value) (t : Token) → SaysAll Deep k vs t (over ws) → Back (inside line n k vs) between t (λ ss. record { line = line; statement = statement_of ws } ∷ ss)
 back_over line n k vs ws t h ts ss text = ([], t, ts, ws, ss, refl, h.0, semicolon_told t.lexeme h.1, refl, text)
 
 -- a statement begins as one inside it

@@ -1,10 +1,10 @@
 -- Rows of parts, where a part may be refused: the values so far, and what the rest of the tokens adds to them.
-use Rattle.std.proofs.Common.{◌≡◌, ◌∙◌, ap, refl, sym, subst, ℕ, zero, suc, ◌-◌, ◌<◌, ◌≤◌, List, [], ◌∷◌, ◌++◌, length, Option, Some, None, Result, Ok, Err, append_assoc, append-nil, arith}
+use Rattle.std.proofs.Common.{◌≡◌, ◌∙◌, ap, refl, sym, ℕ, zero, suc, ◌-◌, ◌<◌, List, [], ◌∷◌, ◌++◌, length, Some, None, IfSome, Result, Ok, Err, append_assoc, append-nil, arith}
 use Rattle.dn_parse.specs.Token.{Token}
 use Rattle.dn_parse.specs.declared.cursor.Halt.{Halt}
 use Rattle.dn_parse.specs.declared.cursor.Halt.TheVariants.{Refused, Deep, OutOfMemory}
 use Rattle.dn_parse.specs.Machine.{Stop, refused, deep}
-use Rattle.dn_parse.specs.Giving.{Halts}
+use Rattle.dn_parse.specs.Faults.{halt_view}
 use Rattle.dn_parse.specs.Descent.{and_then, Read, Next, Reader, with_front, row, row_from, row_at, first_and, first_and_most}
 
 -- The values found are those of the whole up to the rest.
@@ -45,7 +45,7 @@ module _ {X : Type 0} {next : List Token → Next X} where
     go (suc n) lt e = e ∙ ap (λ (o : Next X). with_front found (and_then o (λ f. row_from rest f (row next n)))) is
 
 -- a halt stays one, where more stops with it
-pub halted : {A B : Type 0} (e : Halt) (r : Result A Stop) (r' : Result B Stop) → Halts e r → ((s : Stop) → r ≡ Err s → r' ≡ Err s) → Halts e r'
+pub halted : {A B : Type 0} (e : Halt) (r : Result A Stop) (r' : Result B Stop) → IfSome (halt_view e) (λ s. r ≡ Err s) → ((s : Stop) → r ≡ Err s → r' ≡ Err s) → IfSome (halt_view e) (λ s. r' ≡ Err s)
 halted (Refused n) r r' is stays = stays (refused n) is
 halted (Deep n) r r' is stays = stays (deep n) is
 halted OutOfMemory r r' is stays = tt

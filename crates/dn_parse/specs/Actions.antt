@@ -1,6 +1,6 @@
 -- How the tree is made while a statement is read: the values so far, the last one first, and what each action makes of them.
 use Rattle.std.specs.Prelude.{ℕ, List, [], ◌∷◌, ◌++◌, Option, Some, None}
-use Rattle.dn_parse.specs.Tree.{Expression, variable, sum, product, minus, expressions, Part, Block, Dest, Entry, plain_role, agent_role, vectors_role, Spec, Param, number_param, node_param, Arg, number_arg, node_arg, node, unit, Order, resolve, lookup, view, grant, route, revoke, dump, split, absorb, Statement, declares, heads_module, uses, heads_loop, ends, begins, orders}
+use Rattle.dn_parse.specs.Tree.{Expression, variable, sum, product, minus, expressions, Part, Block, Dest, Entry, plain_role, agent_role, vectors_role, Spec, Param, number_param, node_param, Arg, number_arg, node_arg, node, unit, resolve, lookup, view, grant, route, revoke, dump, split, absorb, Statement, declares, heads_module, uses, heads_loop, ends, begins, orders}
 
 -- a value: a part of the tree, or the list of such parts so far
 pub data Value : Type 0 where
@@ -30,10 +30,12 @@ abbrev pub summed : List Expression → Expression
 summed (e ∷ []) = e
 summed es = sum (expressions es)
 
+-- a product of one member is that member
 abbrev pub multiplied : List Expression → Expression
 multiplied (e ∷ []) = e
 multiplied es = product (expressions es)
 
+-- what a form does to the values without taking a token
 pub data Action : Type 0 where
   keep : Action
   make_variable : Action
@@ -97,26 +99,32 @@ abbrev pub make_variable_of : List Value → List Value
 make_variable_of (text w ∷ vs) = expression (variable w) ∷ vs
 make_variable_of vs = vs
 
+-- the first member of a sum or a product
 abbrev pub first_member_of : List Value → List Value
 first_member_of (expression e ∷ vs) = members (e ∷ []) ∷ vs
 first_member_of vs = vs
 
+-- one member more of a sum or a product
 abbrev pub next_member_of : List Value → List Value
 next_member_of (expression e ∷ members es ∷ vs) = members (es ++ e ∷ []) ∷ vs
 next_member_of vs = vs
 
+-- the members as a sum
 abbrev pub make_sum_of : List Value → List Value
 make_sum_of (members es ∷ vs) = expression (summed es) ∷ vs
 make_sum_of vs = vs
 
+-- the members as a product
 abbrev pub make_product_of : List Value → List Value
 make_product_of (members es ∷ vs) = expression (multiplied es) ∷ vs
 make_product_of vs = vs
 
+-- one expression less another
 abbrev pub make_difference_of : List Value → List Value
 make_difference_of (expression b ∷ expression a ∷ vs) = expression (minus a b) ∷ vs
 make_difference_of vs = vs
 
+-- an expression that could have been left out
 abbrev pub some_expression_of : List Value → List Value
 some_expression_of (expression e ∷ vs) = perhaps (Some e) ∷ vs
 some_expression_of vs = vs
@@ -126,22 +134,27 @@ abbrev pub make_part_of : List Value → List Value
 make_part_of (perhaps i ∷ text w ∷ vs) = part (record { title = w; index = i }) ∷ vs
 make_part_of vs = vs
 
+-- the first part of a name
 abbrev pub first_part_of : List Value → List Value
 first_part_of (part p ∷ vs) = name (p ∷ []) ∷ vs
 first_part_of vs = vs
 
+-- one part more of a name
 abbrev pub next_part_of : List Value → List Value
 next_part_of (part p ∷ name ps ∷ vs) = name (ps ++ p ∷ []) ∷ vs
 next_part_of vs = vs
 
+-- a name that could have been left out
 abbrev pub some_name_of : List Value → List Value
 some_name_of (name n ∷ vs) = perhaps_name (Some n) ∷ vs
 some_name_of vs = vs
 
+-- the first of several names
 abbrev pub first_name_of : List Value → List Value
 first_name_of (name n ∷ vs) = names (n ∷ []) ∷ vs
 first_name_of vs = vs
 
+-- one name more
 abbrev pub next_name_of : List Value → List Value
 next_name_of (name n ∷ names ns ∷ vs) = names (ns ++ n ∷ []) ∷ vs
 next_name_of vs = vs
@@ -151,38 +164,47 @@ abbrev pub make_block_of : List Value → List Value
 make_block_of (perhaps hi ∷ expression lo ∷ vs) = block (record { lo = lo; hi = hi }) ∷ vs
 make_block_of vs = vs
 
+-- the first accept block
 abbrev pub first_block_of : List Value → List Value
 first_block_of (block b ∷ vs) = blocks (b ∷ []) ∷ vs
 first_block_of vs = vs
 
+-- one accept block more
 abbrev pub next_block_of : List Value → List Value
 next_block_of (block b ∷ blocks bs ∷ vs) = blocks (bs ++ b ∷ []) ∷ vs
 next_block_of vs = vs
 
+-- a destination: its name, and its address where it is given
 abbrev pub make_dest_of : List Value → List Value
 make_dest_of (perhaps a ∷ name n ∷ vs) = dest (record { name = n; addr = a }) ∷ vs
 make_dest_of vs = vs
 
+-- the first destination of an entry
 abbrev pub first_dest_of : List Value → List Value
 first_dest_of (dest d ∷ vs) = dests (d ∷ []) ∷ vs
 first_dest_of vs = vs
 
+-- one destination more
 abbrev pub next_dest_of : List Value → List Value
 next_dest_of (dest d ∷ dests ds ∷ vs) = dests (ds ++ d ∷ []) ∷ vs
 next_dest_of vs = vs
 
+-- a map entry: its block and its destinations
 abbrev pub make_entry_of : List Value → List Value
 make_entry_of (dests ds ∷ block b ∷ vs) = entry (record { block = b; dests = ds }) ∷ vs
 make_entry_of vs = vs
 
+-- the first map entry
 abbrev pub first_entry_of : List Value → List Value
 first_entry_of (entry e ∷ vs) = entries (e ∷ []) ∷ vs
 first_entry_of vs = vs
 
+-- one map entry more
 abbrev pub next_entry_of : List Value → List Value
 next_entry_of (entry e ∷ entries es ∷ vs) = entries (es ++ e ∷ []) ∷ vs
 next_entry_of vs = vs
 
+-- the parts of a node: what it accepts, its entries, and what it lies over
 abbrev pub make_spec_of : List Value → List Value
 make_spec_of (perhaps_name o ∷ entries es ∷ blocks bs ∷ vs) = spec (record { accepts = bs; entries = es; over = o }) ∷ vs
 make_spec_of vs = vs
@@ -192,30 +214,37 @@ abbrev pub make_number_param_of : List Value → List Value
 make_number_param_of (text w ∷ vs) = param (number_param w) ∷ vs
 make_number_param_of vs = vs
 
+-- a parameter that is a node
 abbrev pub make_node_param_of : List Value → List Value
 make_node_param_of (text w ∷ vs) = param (node_param w) ∷ vs
 make_node_param_of vs = vs
 
+-- the first parameter of a module
 abbrev pub first_param_of : List Value → List Value
 first_param_of (param p ∷ vs) = params (p ∷ []) ∷ vs
 first_param_of vs = vs
 
+-- one parameter more
 abbrev pub next_param_of : List Value → List Value
 next_param_of (param p ∷ params ps ∷ vs) = params (ps ++ p ∷ []) ∷ vs
 next_param_of vs = vs
 
+-- an argument that is a number
 abbrev pub make_number_arg_of : List Value → List Value
 make_number_arg_of (expression e ∷ vs) = arg (number_arg e) ∷ vs
 make_number_arg_of vs = vs
 
+-- an argument that is a node
 abbrev pub make_node_arg_of : List Value → List Value
 make_node_arg_of (name n ∷ vs) = arg (node_arg n) ∷ vs
 make_node_arg_of vs = vs
 
+-- the first argument of a use
 abbrev pub first_arg_of : List Value → List Value
 first_arg_of (arg a ∷ vs) = args (a ∷ []) ∷ vs
 first_arg_of vs = vs
 
+-- one argument more
 abbrev pub next_arg_of : List Value → List Value
 next_arg_of (arg a ∷ args xs ∷ vs) = args (xs ++ a ∷ []) ∷ vs
 next_arg_of vs = vs
@@ -225,26 +254,32 @@ abbrev pub make_plain_of : List Value → List Value
 make_plain_of (spec s ∷ name n ∷ vs) = statement (declares (node plain_role n s)) ∷ vs
 make_plain_of vs = vs
 
+-- the declaration of an agent
 abbrev pub make_agent_of : List Value → List Value
 make_agent_of (spec s ∷ name n ∷ vs) = statement (declares (node agent_role n s)) ∷ vs
 make_agent_of vs = vs
 
+-- the declaration of a space of vectors
 abbrev pub make_vectors_of : List Value → List Value
 make_vectors_of (spec s ∷ name n ∷ vs) = statement (declares (node vectors_role n s)) ∷ vs
 make_vectors_of vs = vs
 
+-- the declaration of a unit
 abbrev pub make_unit_of : List Value → List Value
 make_unit_of (names ports ∷ expression reach ∷ expression slots ∷ expression page ∷ text kind ∷ name n ∷ vs) = statement (declares (unit n kind page slots reach ports)) ∷ vs
 make_unit_of vs = vs
 
+-- the head of a module
 abbrev pub make_module_of : List Value → List Value
 make_module_of (params ps ∷ text w ∷ vs) = statement (heads_module w ps) ∷ vs
 make_module_of vs = vs
 
+-- a use of a module
 abbrev pub make_use_of : List Value → List Value
 make_use_of (name n ∷ args xs ∷ text w ∷ vs) = statement (uses w xs n) ∷ vs
 make_use_of vs = vs
 
+-- the head of a loop
 abbrev pub make_loop_of : List Value → List Value
 make_loop_of (expression upto ∷ expression from ∷ text w ∷ vs) = statement (heads_loop w from upto) ∷ vs
 make_loop_of vs = vs
@@ -254,26 +289,32 @@ abbrev pub make_resolve_of : List Value → List Value
 make_resolve_of (expression e ∷ name n ∷ vs) = statement (orders (resolve n e)) ∷ vs
 make_resolve_of vs = vs
 
+-- the command `lookup`
 abbrev pub make_lookup_of : List Value → List Value
 make_lookup_of (expression e ∷ name n ∷ vs) = statement (orders (lookup n e)) ∷ vs
 make_lookup_of vs = vs
 
+-- the command `view`
 abbrev pub make_view_of : List Value → List Value
 make_view_of (name n ∷ vs) = statement (orders (view n)) ∷ vs
 make_view_of vs = vs
 
+-- the command `grant`
 abbrev pub make_grant_of : List Value → List Value
 make_grant_of (expression size ∷ expression base ∷ name n ∷ name agent ∷ text w ∷ vs) = statement (orders (grant w agent n base size)) ∷ vs
 make_grant_of vs = vs
 
+-- the command `route`
 abbrev pub make_route_of : List Value → List Value
 make_route_of (name n ∷ expression line ∷ name agent ∷ text w ∷ vs) = statement (orders (route w agent line n)) ∷ vs
 make_route_of vs = vs
 
+-- the command `revoke`
 abbrev pub make_revoke_of : List Value → List Value
 make_revoke_of (text w ∷ vs) = statement (orders (revoke w)) ∷ vs
 make_revoke_of vs = vs
 
+-- the command `absorb`
 abbrev pub make_absorb_of : List Value → List Value
 make_absorb_of (name n ∷ vs) = statement (orders (absorb n)) ∷ vs
 make_absorb_of vs = vs

@@ -11,11 +11,13 @@ use Rattle.dn_parse.specs.Actions.{summed, multiplied}
 use Rattle.dn_parse.specs.Forms.{is_sign, is_keyword}
 use Rattle.dn_parse.specs.Machine.{Stop, refused, deep}
 
+-- what follows a part that is read; a stop is final
 abbrev pub and_then : {A B : Type 0} → Result A Stop → (A → Result B Stop) → Result B Stop
 and_then (Ok a) f = f a
 and_then (Err s) f = Err s
 
 infixl 10 ◌>>=◌
+-- the same between two readings
 abbrev pub ◌>>=◌ : {A B : Type 0} → Result A Stop → (A → Result B Stop) → Result B Stop
 r >>= f = and_then r f
 
@@ -27,9 +29,11 @@ Read X = Result (X × List Token) Stop
 abbrev pub Next : Type 0 → Type 0
 Next X = Result (Option (X × List Token)) Stop
 
+-- the reading of a part from a list of tokens
 abbrev pub Reader : Type 0 → Type 0
 Reader X = List Token → Read X
 
+-- the first of these tokens is refused, or the end where none is left
 abbrev pub refuses_at : {A : Type 0} → List Token → Result A Stop
 refuses_at ts = Err (refused (length ts))
 
@@ -43,42 +47,53 @@ abbrev pub after : (Lexeme → Bool) → List Token → Option (List Token)
 after test [] = None
 after test (t ∷ ts) = if test t.lexeme then Some ts else None
 
+-- what follows this sign, if it is the first token
 unfoldable pub after_sign : Sign → List Token → Option (List Token)
 after_sign s ts = after (is_sign s) ts
 
+-- what follows this reserved word, if it is the first token
 unfoldable pub after_keyword : Keyword → List Token → Option (List Token)
 after_keyword k ts = after (is_keyword k) ts
 
+-- the tokens that were found, or the refusal of the first one
 abbrev pub or_refused : Option (List Token) → List Token → Result (List Token) Stop
 or_refused None ts = refuses_at ts
 or_refused (Some rest) ts = Ok rest
 
+-- this sign
 unfoldable pub sign_at : Sign → List Token → Result (List Token) Stop
 sign_at s ts = or_refused (after_sign s ts) ts
 
+-- this reserved word
 unfoldable pub keyword_at : Keyword → List Token → Result (List Token) Stop
 keyword_at k ts = or_refused (after_keyword k ts) ts
 
+-- the text of a word that is not reserved
 abbrev pub word_of : Lexeme → Option (List ℕ)
 word_of (word w) = Some w
 word_of _ = None
 
+-- the text of a word, reserved or not
 abbrev pub any_of : Lexeme → Option (List ℕ)
 any_of (word w) = Some w
 any_of (keyword k) = Some (spelling k)
 any_of _ = None
 
+-- a value with the tokens after it, or the refusal of the first token
 abbrev pub value_or : {A : Type 0} → Option A → List Token → List Token → Read A
 value_or None rest ts = refuses_at ts
 value_or (Some a) rest ts = Ok (a, rest)
 
+-- the value of the first token, where it has one
 abbrev pub value_at : {A : Type 0} → (Lexeme → Option A) → Reader A
 value_at value [] = refuses_at []
 value_at value (t ∷ ts) = value_or (value t.lexeme) ts (t ∷ ts)
 
+-- a word that is not reserved
 unfoldable pub word_at : Reader (List ℕ)
 word_at ts = value_at word_of ts
 
+-- a word, reserved or not
 unfoldable pub any_word_at : Reader (List ℕ)
 any_word_at ts = value_at any_of ts
 
@@ -87,6 +102,7 @@ abbrev pub with_front : {X : Type 0} → List X → Read (List X) → Read (List
 with_front front (Err s) = Err s
 with_front front (Ok r) = Ok (front ++ r.0, r.1)
 
+-- the part that was found and then the rest of the row, or its end
 abbrev pub row_from : {X : Type 0} → List Token → Option (X × List Token) → Reader (List X) → Read (List X)
 row_from ts None more = Ok ([], ts)
 row_from ts (Some x) more = with_front (x.0 ∷ []) (more x.1)
@@ -100,9 +116,11 @@ row next (suc n) ts = next ts >>= λ found. row_from ts found (row next n)
 unfoldable pub row_at : {X : Type 0} → (List Token → Next X) → Reader (List X)
 row_at next ts = row next (suc (length ts)) ts
 
+-- a part that is there
 abbrev pub one_more : {X : Type 0} → Read X → Next X
 one_more r = r >>= λ x. Ok (Some x)
 
+-- a part behind a `,`, or none
 abbrev pub after_comma : {X : Type 0} → Reader X → List Token → Next X
 after_comma reader ts = optional (after_sign Comma ts) (λ rest. one_more (reader rest)) (Ok None)
 
@@ -114,6 +132,7 @@ first_and reader next ts = reader ts >>= λ first. with_front (first.0 ∷ []) (
 abbrev pub next_by : Sign → Reader Expression → List Token → Next Expression
 next_by s reader ts = optional (after_sign s ts) (λ rest. one_more (reader rest)) (Ok None)
 
+-- a term, where the reading of a factor is given
 abbrev pub term_with : Reader Expression → Reader Expression
 term_with factor ts = first_and factor (next_by Times factor) ts >>= λ members. Ok (multiplied members.0, members.1)
 
@@ -128,6 +147,7 @@ less_with expr first ts = do
   rest ← sign_at CloseParenthesis second.1
   Ok (minus first second.0, rest)
 
+-- what follows a parenthesis, where the reading of an expression is given
 abbrev pub after_open_with : Reader Expression → Reader Expression
 after_open_with expr ts = do
   first ← expr ts
@@ -138,12 +158,14 @@ abbrev pub at_sign : Bool → List Token → Read Expression → Read Expression
 at_sign true ts inner = inner
 at_sign false ts inner = refuses_at ts
 
+-- the factor that begins with this lexeme
 abbrev pub factor_of : Lexeme → List Token → List Token → Read Expression → Read Expression
 factor_of (number n) rest ts inner = Ok (constant n, rest)
 factor_of (word w) rest ts inner = Ok (variable w, rest)
 factor_of (keyword k) rest ts inner = refuses_at ts
 factor_of (sign s) rest ts inner = at_sign (is_sign OpenParenthesis (sign s)) ts inner
 
+-- a factor, where the reading behind a parenthesis is given
 abbrev pub factor_with : (List Token → List Token → Read Expression) → Reader Expression
 factor_with inner [] = refuses_at []
 factor_with inner (t ∷ ts) = factor_of t.lexeme ts (t ∷ ts) (inner (t ∷ ts) ts)
@@ -153,27 +175,35 @@ abbrev pub nested_at : ℕ → List Token → List Token → Read Expression
 nested_at zero ts rest = Err (deep (length ts))
 nested_at (suc d) ts rest = after_open_with (expr_with (term_with (factor_with (nested_at d)))) rest
 
+-- number | word | "(" .., where so many parentheses may still be opened
 unfoldable pub factor_at : ℕ → Reader Expression
 factor_at d ts = factor_with (nested_at d) ts
 
+-- [ "*" factor ]
 unfoldable pub next_factor_at : ℕ → List Token → Next Expression
 next_factor_at d ts = next_by Times (factor_at d) ts
 
+-- factor { "*" factor }, member by member
 unfoldable pub factors_at : ℕ → Reader (List Expression)
 factors_at d ts = first_and (factor_at d) (next_factor_at d) ts
 
+-- factor { "*" factor }, as one expression
 unfoldable pub term_at : ℕ → Reader Expression
 term_at d ts = factors_at d ts >>= λ members. Ok (multiplied members.0, members.1)
 
+-- [ "+" term ]
 unfoldable pub next_term_at : ℕ → List Token → Next Expression
 next_term_at d ts = next_by Plus (term_at d) ts
 
+-- term { "+" term }, member by member
 unfoldable pub terms_at : ℕ → Reader (List Expression)
 terms_at d ts = first_and (term_at d) (next_term_at d) ts
 
+-- term { "+" term }, as one expression
 unfoldable pub expr_at : ℕ → Reader Expression
 expr_at d ts = terms_at d ts >>= λ members. Ok (summed members.0, members.1)
 
+-- expr [ "-" expr ] ")"
 unfoldable pub after_open_at : ℕ → Reader Expression
 after_open_at d ts = after_open_with (expr_at d) ts
 
@@ -193,9 +223,11 @@ in_brackets reader ts = do
   rest ← sign_at CloseBracket found.1
   Ok (found.0, rest)
 
+-- [ "[" expr "]" ]
 unfoldable pub index_at : ℕ → Reader (Option Expression)
 index_at d ts = optional (after_sign OpenBracket ts) (λ inner. expr_at d inner >>= λ e. sign_at CloseBracket e.1 >>= λ rest. Ok (Some e.0, rest)) (Ok (None, ts))
 
+-- word [ "[" expr "]" ]
 unfoldable pub part_at : ℕ → Reader Part
 part_at d ts = do
   title ← word_at ts
@@ -206,6 +238,7 @@ part_at d ts = do
 unfoldable pub next_part_at : ℕ → List Token → Next Part
 next_part_at d ts = optional (after_sign Dot ts) (λ rest. one_more (part_at d rest)) (Ok None)
 
+-- part { "." part }
 unfoldable pub name_at : ℕ → Reader (List Part)
 name_at d ts = first_and (part_at d) (next_part_at d) ts
 
@@ -213,15 +246,18 @@ name_at d ts = first_and (part_at d) (next_part_at d) ts
 unfoldable pub upper_at : Reader (Option Expression)
 upper_at ts = expr_after (expr_at 32) (after_sign Minus ts) ts
 
+-- expr [ "-" expr ]
 unfoldable pub block_at : Reader Block
 block_at ts = do
   lo ← expr_at 32 ts
   hi ← upper_at lo.1
   Ok (record { lo = lo.0; hi = hi.0 }, hi.1)
 
+-- [ "," block ]
 unfoldable pub next_block_at : List Token → Next Block
 next_block_at ts = after_comma block_at ts
 
+-- block { "," block }
 unfoldable pub blocks_at : Reader (List Block)
 blocks_at ts = first_and block_at next_block_at ts
 
@@ -229,6 +265,7 @@ blocks_at ts = first_and block_at next_block_at ts
 unfoldable pub addr_at : Reader (Option Expression)
 addr_at ts = expr_after (expr_at 32) (after_keyword At ts) ts
 
+-- name [ "at" expr ]
 unfoldable pub dest_at : Reader Dest
 dest_at ts = do
   name ← name_at 32 ts
@@ -239,6 +276,7 @@ dest_at ts = do
 unfoldable pub next_dest_at : List Token → Next Dest
 next_dest_at ts = optional (after_keyword And ts) (λ rest. one_more (dest_at rest)) (Ok None)
 
+-- dest { "and" dest }, at most eight
 unfoldable pub dests_at : Reader (List Dest)
 dests_at ts = first_and_most 7 dest_at next_dest_at ts
 
@@ -250,9 +288,11 @@ entry_at ts = do
   dests ← dests_at rest
   Ok (record { block = block.0; dests = dests.0 }, dests.1)
 
+-- [ "," entry ]
 unfoldable pub next_entry_at : List Token → Next Entry
 next_entry_at ts = after_comma entry_at ts
 
+-- entry { "," entry }
 unfoldable pub entries_at : Reader (List Entry)
 entries_at ts = first_and entry_at next_entry_at ts
 
@@ -260,12 +300,15 @@ entries_at ts = first_and entry_at next_entry_at ts
 unfoldable pub accept_at : Reader (List Block)
 accept_at ts = optional (after_keyword Accept ts) (in_brackets blocks_at) (Ok ([], ts))
 
+-- [ "map" "[" entry { "," entry } "]" ]
 unfoldable pub map_at : Reader (List Entry)
 map_at ts = optional (after_keyword Map ts) (in_brackets entries_at) (Ok ([], ts))
 
+-- [ "over" name ]
 unfoldable pub over_at : Reader (Option (List Part))
 over_at ts = optional (after_keyword Over ts) (λ rest. name_at 32 rest >>= λ name. Ok (Some name.0, name.1)) (Ok (None, ts))
 
+-- the parts of a node, of which each may be left out
 unfoldable pub spec_at : Reader Spec
 spec_at ts = do
   accepts ← accept_at ts
@@ -281,9 +324,11 @@ param_at ts = optional (after_keyword Num ts) (λ rest. word_at rest >>= λ w. O
 unfoldable pub next_param_at : List Token → Next Param
 next_param_at ts = after_comma param_at ts
 
+-- param { "," param }
 unfoldable pub params_at : Reader (List Param)
 params_at ts = first_and param_at next_param_at ts
 
+-- [ param { "," param } ] ")"
 unfoldable pub closed_params_at : Reader (List Param)
 closed_params_at ts = optional (after_sign CloseParenthesis ts) (λ rest. Ok ([], rest)) (params_at ts >>= λ ps. sign_at CloseParenthesis ps.1 >>= λ rest. Ok (ps.0, rest))
 
@@ -295,9 +340,11 @@ arg_at ts = optional (after_keyword Node ts) (λ rest. name_at 31 rest >>= λ n.
 unfoldable pub next_arg_at : List Token → Next Arg
 next_arg_at ts = after_comma arg_at ts
 
+-- arg { "," arg }
 unfoldable pub args_at : Reader (List Arg)
 args_at ts = first_and arg_at next_arg_at ts
 
+-- [ arg { "," arg } ] ")"
 unfoldable pub closed_args_at : Reader (List Arg)
 closed_args_at ts = optional (after_sign CloseParenthesis ts) (λ rest. Ok ([], rest)) (args_at ts >>= λ xs. sign_at CloseParenthesis xs.1 >>= λ rest. Ok (xs.0, rest))
 
@@ -305,6 +352,7 @@ closed_args_at ts = optional (after_sign CloseParenthesis ts) (λ rest. Ok ([], 
 unfoldable pub next_port_at : List Token → Next (List Part)
 next_port_at ts = after_comma (name_at 32) ts
 
+-- name { "," name }, at most eight
 unfoldable pub ports_at : Reader (List (List Part))
 ports_at ts = first_and_most 7 (name_at 32) next_port_at ts
 
@@ -320,6 +368,7 @@ node_at role ts = do
 unfoldable pub measure_at : Keyword → Reader Expression
 measure_at k ts = keyword_at k ts >>= λ rest. expr_at 32 rest
 
+-- name "kind" any "page" expr "slots" expr "reach" expr "to" name { "," name }
 unfoldable pub unit_at : Reader Declaration
 unit_at ts = do
   name ← name_at 32 ts
@@ -366,6 +415,7 @@ query_at ts = do
   addr ← expr_at 32 name.1
   Ok ((name.0, addr.0), addr.1)
 
+-- word name name expr expr
 unfoldable pub grant_at : Reader Order
 grant_at ts = do
   id ← word_at ts
@@ -375,6 +425,7 @@ grant_at ts = do
   size ← expr_at 32 base.1
   Ok (grant id.0 agent.0 name.0 base.0 size.0, size.1)
 
+-- word name expr name
 unfoldable pub route_at : Reader Order
 route_at ts = do
   id ← word_at ts
@@ -383,6 +434,7 @@ route_at ts = do
   name ← name_at 32 line.1
   Ok (route id.0 agent.0 line.0 name.0, name.1)
 
+-- the command that this reserved word begins
 unfoldable pub order_at : Keyword → List Token → Reader Order
 order_at Resolve ts rest = query_at rest >>= λ q. Ok (resolve q.0.0 q.0.1, q.1)
 order_at Lookup ts rest = query_at rest >>= λ q. Ok (lookup q.0.0 q.0.1, q.1)
@@ -395,9 +447,11 @@ order_at Split ts rest = Ok (split, rest)
 order_at Absorb ts rest = name_at 32 rest >>= λ n. Ok (absorb n.0, n.1)
 order_at _ ts rest = refuses_at ts
 
+-- a declaration as a statement
 abbrev pub as_declared : Read Declaration → Read Statement
 as_declared r = r >>= λ d. Ok (declares d.0, d.1)
 
+-- the statement that this reserved word begins
 unfoldable pub keyword_statement_at : Keyword → List Token → Reader Statement
 keyword_statement_at Agent ts rest = as_declared (node_at agent_role rest)
 keyword_statement_at Vectors ts rest = as_declared (node_at vectors_role rest)
@@ -409,12 +463,14 @@ keyword_statement_at End ts rest = Ok (ends, rest)
 keyword_statement_at Begin ts rest = Ok (begins, rest)
 keyword_statement_at k ts rest = order_at k ts rest >>= λ o. Ok (orders o.0, o.1)
 
+-- the statement that begins with this lexeme
 abbrev pub statement_by : Lexeme → List Token → Reader Statement
 statement_by (word w) ts rest = as_declared (node_at plain_role ts)
 statement_by (keyword k) ts rest = keyword_statement_at k ts rest
 statement_by (number n) ts rest = refuses_at ts
 statement_by (sign s) ts rest = refuses_at ts
 
+-- a statement without its `;`
 unfoldable pub statement_at : Reader Statement
 statement_at [] = refuses_at []
 statement_at (t ∷ ts) = statement_by t.lexeme (t ∷ ts) ts

@@ -1,8 +1,7 @@
 -- What a grammar is made of, and what it is to spell a form: the tokens, and what they add to the values of the tree.
-use Rattle.std.specs.Prelude.{◌≡◌, ◌⊎◌, ℕ, zero, suc, Bool, true, false, ◌==◌, List, [], ◌∷◌, ◌++◌, Option, Some, None}
+use Rattle.std.specs.Prelude.{◌≡◌, ◌⊎◌, ℕ, zero, suc, Bool, true, false, List, [], ◌∷◌, ◌++◌}
 use Rattle.dn_parse.specs.declared.token.Keyword.{Keyword}
 use Rattle.dn_parse.specs.declared.token.Sign.{Sign}
-use Rattle.dn_parse.specs.declared.token.Sign.TheVariants.{OpenParenthesis}
 use Rattle.dn_parse.specs.Token.{Lexeme, Token, word, keyword, number, sign}
 use Rattle.dn_parse.specs.Actions.{Action, Value, perform, text, expression}
 use Rattle.dn_parse.specs.Words.{same_keyword, same_sign, spelling}
@@ -16,23 +15,28 @@ pub data Sort : Type 0 where
   the_keyword : Keyword → Sort
   the_sign : Sign → Sort
 
+-- a word that is not reserved
 abbrev pub is_word : Lexeme → Bool
 is_word (word w) = true
 is_word _ = false
 
+-- a word, reserved or not
 abbrev pub is_any : Lexeme → Bool
 is_any (word w) = true
 is_any (keyword k) = true
 is_any _ = false
 
+-- a number
 abbrev pub is_number : Lexeme → Bool
 is_number (number n) = true
 is_number _ = false
 
+-- this reserved word
 abbrev pub is_keyword : Keyword → Lexeme → Bool
 is_keyword k (keyword l) = same_keyword k l
 is_keyword k _ = false
 
+-- this sign
 abbrev pub is_sign : Sign → Lexeme → Bool
 is_sign s (sign u) = same_sign s u
 is_sign s _ = false
@@ -52,6 +56,7 @@ with_text (keyword k) vs = text (spelling k) ∷ vs
 with_text (number n) vs = expression (constant n) ∷ vs
 with_text (sign s) vs = vs
 
+-- what a token of this sort adds to the values
 abbrev pub kept : Sort → Lexeme → List Value → List Value
 kept a_word l vs = with_text l vs
 kept any_word l vs = with_text l vs
@@ -88,6 +93,7 @@ abbrev pub in_order : Form → List Form → Form
 in_order f [] = f
 in_order f (g ∷ gs) = and_then f (in_order g gs)
 
+-- a choice between forms
 abbrev pub one_of : Form → List Form → Form
 one_of f [] = f
 one_of f (g ∷ gs) = either f (one_of g gs)

@@ -1,10 +1,11 @@
 -- The laws that tie the machine to the grammar: with them its stops are the places that the grammar names.
-use Rattle.std.specs.Prelude.{◌≡◌, ◌⊎◌, ℕ, suc, List, [], ◌∷◌, ◌++◌, length}
-use Rattle.dn_parse.specs.declared.token.Sign.TheVariants.{OpenParenthesis}
+use Rattle.std.specs.Prelude.{◌≡◌, ◌≤◌, ◌⊎◌, ℕ, suc, false, List, [], ◌∷◌, ◌++◌, length, All}
+use Rattle.dn_parse.specs.declared.token.Sign.TheVariants.{OpenParenthesis, Semicolon}
 use Rattle.dn_parse.specs.Token.{Token, sign}
 use Rattle.dn_parse.specs.Tree.{Placed}
 use Rattle.dn_parse.specs.Syntax.{SpellsText, Viable}
-use Rattle.dn_parse.specs.Machine.{Stop, whole, refused, deep, Place, between, run, parentheses}
+use Rattle.dn_parse.specs.Forms.{is_sign}
+use Rattle.dn_parse.specs.Machine.{Stop, whole, refused, deep, Outcome, Place, between, run, parentheses}
 
 -- What is refused at a token, or nested too deep there, is so whatever follows it.
 abbrev pub StopIsFinal : Type 0
@@ -21,6 +22,7 @@ IsDeep whole = ⊥
 IsDeep (refused n) = ⊥
 IsDeep (deep n) = Unit {0}
 
+-- each spelling is read as its statements, unless a parenthesis in it is nested too deep
 abbrev pub SpelledIsRead : Type 0
 SpelledIsRead = (ts : List Token) (ss : List Placed) → SpellsText ts ss → (((run between ts).stop ≡ whole) × ((run between ts).statements ≡ ss)) ⊎ IsDeep (run between ts).stop
 
@@ -41,3 +43,38 @@ opened n (t ∷ ts) = opened (parentheses n t.lexeme) ts
 -- The place of a nesting: a parenthesis that a form allows there, before which 32 are open.
 abbrev pub DeepIsFirst : Type 0
 DeepIsFirst = (ts : List Token) (n : ℕ) → (run between ts).stop ≡ deep n → (front : List Token) × (t : Token) × (rest : List Token) × (ts ≡ front ++ t ∷ rest) × (n ≡ suc (length rest)) × Viable (front ++ t ∷ []) × (t.lexeme ≡ sign OpenParenthesis) × (opened 0 front ≡ 32)
+
+-- so many tokens are left where the reading stops
+abbrev pub left_at : Stop → ℕ
+left_at whole = 0
+left_at (refused n) = n
+left_at (deep n) = n
+
+-- the token ends no statement
+abbrev pub IsInside : Token → Type 0
+IsInside t = is_sign Semicolon t.lexeme ≡ false
+
+-- Before the place where the reading stops stand the tokens of the statements that were read, and then those of a
+-- statement that has begun: no `;` is among these, and so no whole statement.
+abbrev pub IsStoppedIn : List Token → Outcome → Type 0
+IsStoppedIn ts o = (before : List Token) × (inside : List Token) × (rest : List Token)
+    × (ts ≡ before ++ inside ++ rest) × (left_at o.stop ≡ length rest)
+    × SpellsText before o.statements × All IsInside inside
+
+-- Wherever the reading stops, the statements that were read are kept, and none is passed over.
+abbrev pub StopKeepsStatements : Type 0
+StopKeepsStatements = (ts : List Token) → IsStoppedIn ts (run between ts)
+
+-- at no place in a list are more than 32 parentheses open
+abbrev pub IsShallow : List Token → Type 0
+IsShallow ts = (front rest : List Token) → ts ≡ front ++ rest → opened 0 front ≤ 32
+
+-- The first 33rd parenthesis that a form allows stops the reading there.
+abbrev pub DeepStops : Type 0
+DeepStops = (front : List Token) (t : Token) (rest : List Token) → IsShallow front → Viable (front ++ t ∷ []) →
+    t.lexeme ≡ sign OpenParenthesis → opened 0 front ≡ 32 → (run between (front ++ t ∷ rest)).stop ≡ deep (suc (length rest))
+
+-- Each spelling with at most 32 parentheses open at once is read as its statements.
+abbrev pub ShallowIsRead : Type 0
+ShallowIsRead = (ts : List Token) (ss : List Placed) → SpellsText ts ss → IsShallow ts →
+    ((run between ts).stop ≡ whole) × ((run between ts).statements ≡ ss)

@@ -5,11 +5,10 @@ pub mod Tree
 pub mod Actions
 pub mod Forms
 pub mod Syntax
-pub mod Seen
+pub mod Views
 pub mod Machine
 pub mod Whole
 pub mod Laws
 pub mod Descent
-pub mod Giving
-pub mod Placing
+pub mod Faults
 pub mod Going

@@ -1,10 +1,10 @@
 -- A machine that reads tokens one by one, by the forms that may still come.
-use Rattle.std.specs.Prelude.{ℕ, zero, suc, ◌+◌, ◌-◌, ◌==◌, Bool, true, false, if◌then◌else◌, ◌&&◌, List, [], ◌∷◌, ◌++◌, length}
+use Rattle.std.specs.Prelude.{ℕ, suc, ◌+◌, ◌-◌, ◌==◌, Bool, true, false, if◌then◌else◌, ◌&&◌, List, [], ◌∷◌, ◌++◌, length}
 use Rattle.dn_parse.specs.declared.token.Sign.TheVariants.{Semicolon, OpenParenthesis, CloseParenthesis}
 use Rattle.dn_parse.specs.Token.{Lexeme, Token}
 use Rattle.dn_parse.specs.Tree.{Placed}
 use Rattle.dn_parse.specs.Actions.{Value, perform}
-use Rattle.dn_parse.specs.Forms.{Form, takes, does, and_then, either, many, parenthesised, Sort, is, is_sign, kept}
+use Rattle.dn_parse.specs.Forms.{Form, takes, does, and_then, either, many, parenthesised, is, is_sign, kept}
 use Rattle.dn_parse.specs.Syntax.{statement_form, after_open, statement_of}
 
 -- what a form does at a token: it takes it, and then these forms follow, with these values; it may be left out, with these values; or it allows no such token
@@ -13,6 +13,7 @@ pub data Move : Type 0 where
   skips : List Value → Move
   refuses : Move
 
+-- a token is taken, and these forms follow it, or it is refused
 abbrev pub taken : Bool → List Form → List Value → Move
 taken true k vs = to k vs
 taken false k vs = refuses
@@ -35,6 +36,7 @@ repeated (to k ws) f vs = to (k ++ f ∷ []) ws
 repeated (skips ws) f vs = skips vs
 repeated refuses f vs = skips vs
 
+-- what a form does at a token
 abbrev pub move : Form → List Value → Lexeme → Move
 move (takes s) vs l = taken (is s l) [] (kept s l vs)
 move (does a) vs l = skips (perform a vs)
@@ -49,15 +51,18 @@ pub data Fed : Type 0 where
   over : List Value → Fed
   stuck : Fed
 
+-- the statement ends at a `;`, and at no other token
 abbrev pub closed : Bool → List Value → Fed
 closed true vs = over vs
 closed false vs = stuck
 
+-- what a move of the first form makes of all of them
 abbrev pub fed : Move → List Form → (List Value → Fed) → Fed
 fed (to k' vs) k next = on (k' ++ k) vs
 fed (skips vs) k next = next vs
 fed refuses k next = stuck
 
+-- what a token does to the forms that may still come
 abbrev pub feed : List Form → List Value → Lexeme → Fed
 feed [] vs l = closed (is_sign Semicolon l) vs
 feed (f ∷ k) vs l = fed (move f vs l) k (λ ws. feed k ws l)
@@ -82,9 +87,11 @@ pub record Outcome : Type 0 where
   pub statements : List Placed
   pub stop : Stop
 
+-- nothing was read before the stop
 abbrev pub stopped : Stop → Outcome
 stopped s = record { statements = []; stop = s }
 
+-- one statement more before what was read
 abbrev pub with_statement : Placed → Outcome → Outcome
 with_statement p o = record { statements = p ∷ o.statements; stop = o.stop }
 
@@ -93,14 +100,17 @@ pub data Place : Type 0 where
   between : Place
   inside : ℕ → ℕ → List Form → List Value → Place
 
+-- the end of the text
 abbrev pub at_end : Place → Outcome
 at_end between = stopped whole
 at_end (inside line opened k vs) = stopped (refused 0)
 
+-- the reading goes on inside a statement, unless a parenthesis there is nested too deep
 abbrev pub go_in : Bool → Place → ℕ → (Place → Outcome) → Outcome
 go_in true p left next = stopped (deep left)
 go_in false p left next = next p
 
+-- the reading goes on, or stops, by what a token did to the forms
 abbrev pub go : Fed → ℕ → ℕ → Lexeme → ℕ → (Place → Outcome) → Outcome
 go (on k vs) line opened l left next = go_in (is_deep opened l) (inside line (parentheses opened l) k vs) left next
 go (over vs) line opened l left next = with_statement (record { line = line; statement = statement_of vs }) (next between)
@@ -111,6 +121,7 @@ abbrev pub turn : Place → Token → ℕ → (Place → Outcome) → Outcome
 turn between t left next = go (feed (statement_form ∷ []) [] t.lexeme) t.line 0 t.lexeme left next
 turn (inside line opened k vs) t left next = go (feed k vs t.lexeme) line opened t.lexeme left next
 
+-- the reading from a place to the end, or to where it stops
 abbrev pub run : Place → List Token → Outcome
 run p [] = at_end p
 run p (t ∷ ts) = turn p t (suc (length ts)) (λ q. run q ts)

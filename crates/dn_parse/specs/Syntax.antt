@@ -6,12 +6,14 @@ use Rattle.dn_parse.specs.declared.token.Sign.{Sign}
 use Rattle.dn_parse.specs.declared.token.Sign.TheVariants.{Semicolon, Comma, OpenBracket, CloseBracket, OpenParenthesis, CloseParenthesis, Minus, Plus, Times, Dot, Dots}
 use Rattle.dn_parse.specs.Token.{Token, sign}
 use Rattle.dn_parse.specs.Tree.{Statement, Placed, ends}
-use Rattle.dn_parse.specs.Actions.{Value, statement, Action, keep, make_variable, first_member, next_member, make_sum, make_product, make_difference, no_expression, some_expression, make_part, first_part, next_part, no_name, some_name, first_name, next_name, make_block, no_blocks, first_block, next_block, make_dest, first_dest, next_dest, make_entry, no_entries, first_entry, next_entry, make_spec, make_number_param, make_node_param, no_params, first_param, next_param, make_number_arg, make_node_arg, no_args, first_arg, next_arg, make_plain, make_agent, make_vectors, make_unit, make_module, make_use, make_loop, make_end, make_begin, make_resolve, make_lookup, make_view, make_grant, make_route, make_revoke, make_dump, make_split, make_absorb}
+use Rattle.dn_parse.specs.Actions.{Value, statement, keep, make_variable, first_member, next_member, make_sum, make_product, make_difference, no_expression, some_expression, make_part, first_part, next_part, no_name, some_name, first_name, next_name, make_block, no_blocks, first_block, next_block, make_dest, first_dest, next_dest, make_entry, no_entries, first_entry, next_entry, make_spec, make_number_param, make_node_param, no_params, first_param, next_param, make_number_arg, make_node_arg, no_args, first_arg, next_arg, make_plain, make_agent, make_vectors, make_unit, make_module, make_use, make_loop, make_end, make_begin, make_resolve, make_lookup, make_view, make_grant, make_route, make_revoke, make_dump, make_split, make_absorb}
 use Rattle.dn_parse.specs.Forms.{Form, takes, does, many, parenthesised, either, and_then, a_word, any_word, a_number, the_keyword, the_sign, in_order, one_of, Spells}
 
+-- one reserved word
 abbrev pub the : Keyword → Form
 the k = takes (the_keyword k)
 
+-- one sign
 abbrev pub mark : Sign → Form
 mark s = takes (the_sign s)
 
@@ -32,6 +34,7 @@ factor = one_of (takes a_number) (and_then (takes a_word) (does make_variable) �
 unfoldable pub more_factors : Form
 more_factors = many (in_order (mark Times) (factor ∷ does next_member ∷ []))
 
+-- term = factor { "*" factor }
 unfoldable pub term : Form
 term = in_order factor (does first_member ∷ more_factors ∷ does make_product ∷ [])
 
@@ -39,6 +42,7 @@ term = in_order factor (does first_member ∷ more_factors ∷ does make_product
 unfoldable pub more_terms : Form
 more_terms = many (in_order (mark Plus) (term ∷ does next_member ∷ []))
 
+-- expr = term { "+" term }
 unfoldable pub expr : Form
 expr = in_order term (does first_member ∷ more_terms ∷ does make_sum ∷ [])
 
@@ -46,9 +50,11 @@ expr = in_order term (does first_member ∷ more_terms ∷ does make_sum ∷ [])
 unfoldable pub less : Form
 less = in_order (mark Minus) (expr ∷ does make_difference ∷ [])
 
+-- expr [ "-" expr ] ")"
 unfoldable pub after_open : Form
 after_open = in_order expr (optional less ∷ mark CloseParenthesis ∷ [])
 
+-- "(" expr [ "-" expr ] ")"
 abbrev pub in_parentheses : Form
 in_parentheses = and_then (mark OpenParenthesis) after_open
 
@@ -60,6 +66,7 @@ perhaps_expr f fs = either (in_order f (expr ∷ fs)) (does no_expression)
 unfoldable pub index : Form
 index = perhaps_expr (mark OpenBracket) (does some_expression ∷ mark CloseBracket ∷ [])
 
+-- part = word [ "[" expr "]" ]
 unfoldable pub part_form : Form
 part_form = in_order (takes a_word) (index ∷ does make_part ∷ [])
 
@@ -67,6 +74,7 @@ part_form = in_order (takes a_word) (index ∷ does make_part ∷ [])
 unfoldable pub more_parts : Form
 more_parts = many (in_order (mark Dot) (part_form ∷ does next_part ∷ []))
 
+-- name = part { "." part }
 unfoldable pub name_form : Form
 name_form = in_order part_form (does first_part ∷ more_parts ∷ [])
 
@@ -74,6 +82,7 @@ name_form = in_order part_form (does first_part ∷ more_parts ∷ [])
 unfoldable pub upper : Form
 upper = perhaps_expr (mark Minus) (does some_expression ∷ [])
 
+-- block = expr [ "-" expr ]
 unfoldable pub block_form : Form
 block_form = in_order expr (upper ∷ does make_block ∷ [])
 
@@ -81,6 +90,7 @@ block_form = in_order expr (upper ∷ does make_block ∷ [])
 unfoldable pub at_addr : Form
 at_addr = perhaps_expr (the At) (does some_expression ∷ [])
 
+-- dest = name [ "at" expr ]
 unfoldable pub dest_form : Form
 dest_form = in_order name_form (at_addr ∷ does make_dest ∷ [])
 
@@ -88,6 +98,7 @@ dest_form = in_order name_form (at_addr ∷ does make_dest ∷ [])
 unfoldable pub more_dests : ℕ → Form
 more_dests n = at_most n (in_order (the And) (dest_form ∷ does next_dest ∷ []))
 
+-- entry = block "to" dest { "and" dest }          (1 to 8 dest)
 unfoldable pub entry_form : Form
 entry_form = in_order block_form (the To ∷ dest_form ∷ does first_dest ∷ more_dests 7 ∷ does make_entry ∷ [])
 
@@ -95,18 +106,23 @@ entry_form = in_order block_form (the To ∷ dest_form ∷ does first_dest ∷ m
 unfoldable pub more_blocks : Form
 more_blocks = many (in_order (mark Comma) (block_form ∷ does next_block ∷ []))
 
+-- [ "accept" "[" block { "," block } "]" ]
 unfoldable pub accept : Form
 accept = either (in_order (the Accept) (mark OpenBracket ∷ block_form ∷ does first_block ∷ more_blocks ∷ mark CloseBracket ∷ [])) (does no_blocks)
 
+-- { "," entry }
 unfoldable pub more_entries : Form
 more_entries = many (in_order (mark Comma) (entry_form ∷ does next_entry ∷ []))
 
+-- [ "map" "[" entry { "," entry } "]" ]
 unfoldable pub map_form : Form
 map_form = either (in_order (the Map) (mark OpenBracket ∷ entry_form ∷ does first_entry ∷ more_entries ∷ mark CloseBracket ∷ [])) (does no_entries)
 
+-- [ "over" name ]
 unfoldable pub over : Form
 over = either (in_order (the Over) (name_form ∷ does some_name ∷ [])) (does no_name)
 
+-- spec = [ "accept" "[" block { "," block } "]" ] [ "map" "[" entry { "," entry } "]" ] [ "over" name ]
 unfoldable pub spec_form : Form
 spec_form = in_order accept (map_form ∷ over ∷ does make_spec ∷ [])
 
@@ -126,6 +142,7 @@ vectors_form = in_order (the Vectors) (name_form ∷ the Is ∷ spec_form ∷ do
 unfoldable pub more_names : ℕ → Form
 more_names n = at_most n (in_order (mark Comma) (name_form ∷ does next_name ∷ []))
 
+-- unit = "unit" name "kind" any "page" expr "slots" expr "reach" expr "to" name { "," name }    (1 to 8 names)
 unfoldable pub unit_form : Form
 unit_form = in_order (the UnitWord) (name_form ∷ the Kind ∷ takes any_word ∷ the Page ∷ expr ∷ the Slots ∷ expr ∷ the Reach ∷ expr ∷ the To ∷ name_form ∷ does first_name ∷ more_names 7 ∷ does make_unit ∷ [])
 
@@ -134,12 +151,15 @@ unit_form = in_order (the UnitWord) (name_form ∷ the Kind ∷ takes any_word �
 unfoldable pub param_form : Form
 param_form = one_of (in_order (the Num) (takes a_word ∷ does make_number_param ∷ [])) (in_order (the Node) (takes a_word ∷ does make_node_param ∷ []) ∷ [])
 
+-- { "," param }
 unfoldable pub more_params : Form
 more_params = many (in_order (mark Comma) (param_form ∷ does next_param ∷ []))
 
+-- [ param { "," param } ]
 unfoldable pub params_form : Form
 params_form = either (in_order param_form (does first_param ∷ more_params ∷ [])) (does no_params)
 
+-- module = "module" word "(" [ param { "," param } ] ")"
 unfoldable pub module_form : Form
 module_form = in_order (the Module) (takes a_word ∷ mark OpenParenthesis ∷ params_form ∷ mark CloseParenthesis ∷ does make_module ∷ [])
 
@@ -148,12 +168,15 @@ module_form = in_order (the Module) (takes a_word ∷ mark OpenParenthesis ∷ p
 unfoldable pub arg_form : Form
 arg_form = one_of (in_order expr (does make_number_arg ∷ [])) (in_order (the Node) (name_form ∷ does make_node_arg ∷ []) ∷ [])
 
+-- { "," arg }
 unfoldable pub more_args : Form
 more_args = many (in_order (mark Comma) (arg_form ∷ does next_arg ∷ []))
 
+-- [ arg { "," arg } ]
 unfoldable pub args_form : Form
 args_form = either (in_order arg_form (does first_arg ∷ more_args ∷ [])) (does no_args)
 
+-- instance = "use" word "(" [ arg { "," arg } ] ")" "as" name
 unfoldable pub use_form : Form
 use_form = in_order (the Use) (takes a_word ∷ mark OpenParenthesis ∷ args_form ∷ mark CloseParenthesis ∷ the As ∷ name_form ∷ does make_use ∷ [])
 

@@ -14,6 +14,7 @@ mutual
     no_expressions : Expressions
     and_expression : Expression → Expressions → Expressions
 
+-- a list of expressions
 abbrev pub expressions : List Expression → Expressions
 expressions [] = no_expressions
 expressions (e ∷ es) = and_expression e (expressions es)
@@ -23,36 +24,44 @@ pub record Part : Type 0 where
   pub title : List ℕ
   pub index : Option Expression
 
+-- a block: one expression is its first and its last address
 pub record Block : Type 0 where
   pub lo : Expression
   pub hi : Option Expression
 
+-- a destination; with no address it is that of the block
 pub record Dest : Type 0 where
   pub name : List Part
   pub addr : Option Expression
 
+-- a map entry
 pub record Entry : Type 0 where
   pub block : Block
   pub dests : List Dest
 
+-- what a node is declared as
 pub data Role : Type 0 where
   plain_role : Role
   agent_role : Role
   vectors_role : Role
 
+-- the parts of a node, of which each may be left out
 pub record Spec : Type 0 where
   pub accepts : List Block
   pub entries : List Entry
   pub over : Option (List Part)
 
+-- a parameter of a module: a number or a node
 pub data Param : Type 0 where
   number_param : List ℕ → Param
   node_param : List ℕ → Param
 
+-- an argument of a use
 pub data Arg : Type 0 where
   number_arg : Expression → Arg
   node_arg : List Part → Arg
 
+-- what a command asks for
 pub data Order : Type 0 where
   resolve : List Part → Expression → Order
   lookup : List Part → Expression → Order
@@ -96,14 +105,17 @@ mutual
     no_items : Items
     and_item : Item → Items → Items
 
+-- a list of statements
 abbrev pub items : List Item → Items
 items [] = no_items
 items (i ∷ is) = and_item i (items is)
 
+-- a command with the line of its first token
 pub record Command : Type 0 where
   pub line : ℕ
   pub order : Order
 
+-- a text: its statements before `begin`, and its commands
 pub record Tree : Type 0 where
   pub body : Items
   pub commands : List Command

@@ -1,14 +1,15 @@
 -- The whole reading of a text: its tree, or the first fault with its line.
-use Rattle.std.specs.Prelude.{ℕ, ◌+◌, ◌-◌, Bool, true, false, if◌then◌else◌, nat_le, nat_lt, List, [], ◌∷◌, ◌++◌, length, drop, Result, Ok, Err}
+use Rattle.std.specs.Prelude.{ℕ, ◌+◌, ◌-◌, Bool, true, false, if◌then◌else◌, nat_le, nat_lt, List, [], ◌∷◌, ◌++◌, length, drop, Option, None, Some, Result, Ok, Err}
 use Rattle.dn_parse.specs.Token.{Token, tokens, is_line_feed}
-use Rattle.dn_parse.specs.Tree.{Statement, declares, heads_module, uses, heads_loop, ends, begins, orders, Placed, Item, declared, module_of, instance, loop, Items, items, Command, Order, Tree, Param, Expression}
-use Rattle.dn_parse.specs.Machine.{Stop, whole, refused, deep, Outcome, between, run}
+use Rattle.dn_parse.specs.Tree.{Statement, declares, heads_module, uses, heads_loop, ends, begins, orders, Placed, Item, declared, module_of, instance, loop, Items, items, Command, Tree, Param, Expression}
+use Rattle.dn_parse.specs.Machine.{Stop, whole, refused, deep, between, run}
 
 -- an open block: what opened it with its line, and the statements before it
 pub data Opener : Type 0 where
   opens_module : List ℕ → List Param → Opener
   opens_loop : List ℕ → Expression → Expression → Opener
 
+-- an open block: what opened it with its line, and the statements before it
 pub record Frame : Type 0 where
   pub line : ℕ
   pub opener : Opener
@@ -21,9 +22,11 @@ pub record Blocks : Type 0 where
   pub begun : Bool
   pub commands : List Command
 
+-- no statement was read
 abbrev pub no_blocks_yet : Blocks
 no_blocks_yet = record { frames = []; body = []; begun = false; commands = [] }
 
+-- a block that is closed, as one statement
 abbrev pub closed_block : Frame → List Item → Item
 closed_block f body = closed_by f.opener f.line (items body)
   where
@@ -31,25 +34,36 @@ closed_block f body = closed_by f.opener f.line (items body)
     closed_by (opens_module w ps) line is = module_of line w ps is
     closed_by (opens_loop w from upto) line is = loop line w from upto is
 
--- what a whole statement does to the blocks; it may stand where it is forbidden, or open a 17th block
-pub data Step : Type 0 where
-  going : Blocks → Step
-  forbidden : Step
-  crowded : Step
+-- why a whole statement is not placed: it stands where it is forbidden, or it opens a 17th block
+pub data Misplacement : Type 0 where
+  forbidden : Misplacement
+  crowded : Misplacement
 
+-- what a whole statement does to the blocks
+abbrev pub Step : Type 0
+Step = Result Blocks Misplacement
+
+-- one statement more in the innermost block
 abbrev pub with_item : Blocks → Item → Step
-with_item b i = going (record { frames = b.frames; body = b.body ++ i ∷ []; begun = b.begun; commands = b.commands })
+with_item b i = Ok (record { frames = b.frames; body = b.body ++ i ∷ []; begun = b.begun; commands = b.commands })
 
+-- one block more is open, of which there may be 16
 abbrev pub with_frame : Blocks → ℕ → Opener → Step
-with_frame b line o = if nat_lt (length b.frames) 16 then going (record { frames = record { line = line; opener = o; before = b.body } ∷ b.frames; body = []; begun = b.begun; commands = b.commands }) else crowded
+with_frame b line o = if nat_lt (length b.frames) 16 then Ok (record { frames = record { line = line; opener = o; before = b.body } ∷ b.frames; body = []; begun = b.begun; commands = b.commands }) else Err crowded
 
+-- the innermost block is closed
 abbrev pub without_frame : Blocks → List Frame → Step
-without_frame b [] = forbidden
-without_frame b (f ∷ fs) = going (record { frames = fs; body = f.before ++ closed_block f b.body ∷ []; begun = b.begun; commands = b.commands })
+without_frame b [] = Err forbidden
+without_frame b (f ∷ fs) = Ok (record { frames = fs; body = f.before ++ closed_block f b.body ∷ []; begun = b.begun; commands = b.commands })
 
+-- the commands begin
+abbrev pub with_begin : Blocks → Step
+with_begin b = Ok (record { frames = b.frames; body = b.body; begun = true; commands = b.commands })
+
+-- a statement that is forbidden in a block
 abbrev pub outside_blocks : List Frame → Step → Step
 outside_blocks [] s = s
-outside_blocks (f ∷ fs) s = forbidden
+outside_blocks (f ∷ fs) s = Err forbidden
 
 -- before `begin`: `end` with no open block, `module` or `begin` with an open block, and a command are forbidden
 abbrev pub before_begin : Blocks → ℕ → Statement → Step
@@ -58,22 +72,30 @@ before_begin b line (heads_module w ps) = outside_blocks b.frames (with_frame b 
 before_begin b line (uses w xs n) = with_item b (instance line w xs n)
 before_begin b line (heads_loop w from upto) = with_frame b line (opens_loop w from upto)
 before_begin b line ends = without_frame b b.frames
-before_begin b line begins = outside_blocks b.frames (going (record { frames = b.frames; body = b.body; begun = true; commands = b.commands }))
-before_begin b line (orders o) = forbidden
+before_begin b line begins = outside_blocks b.frames (with_begin b)
+before_begin b line (orders o) = Err forbidden
 
 -- after `begin` any statement but a command is forbidden
 abbrev pub after_begin : Blocks → ℕ → Statement → Step
-after_begin b line (orders o) = going (record { frames = b.frames; body = b.body; begun = b.begun; commands = b.commands ++ record { line = line; order = o } ∷ [] })
-after_begin b line _ = forbidden
+after_begin b line (orders o) = Ok (record { frames = b.frames; body = b.body; begun = b.begun; commands = b.commands ++ record { line = line; order = o } ∷ [] })
+after_begin b line _ = Err forbidden
 
+-- what a whole statement does, before `begin` or after it
 abbrev pub step : Blocks → Placed → Step
 step b p = if b.begun then after_begin b p.line p.statement else before_begin b p.line p.statement
 
--- the first fault, with its line
-pub data Fault : Type 0 where
-  statement_fault : ℕ → Fault
-  block_fault : ℕ → Fault
-  nesting_fault : ℕ → Fault
+-- why a text is not read: it is too long, it is no list of tokens, or its tokens are no tree; each fault but the first has its line
+pub data TextFault : Type 0 where
+  too_long : TextFault
+  bad_token : ℕ → TextFault
+  statement_fault : ℕ → TextFault
+  block_fault : ℕ → TextFault
+  nesting_fault : ℕ → TextFault
+
+-- the line of the first token, where there is one
+abbrev pub first_line : List Token → Option ℕ
+first_line [] = None
+first_line (t ∷ ts) = Some t.line
 
 -- the line of the token with which a list begins; the last line, where there is none
 abbrev pub line_of : ℕ → List Token → ℕ
@@ -84,32 +106,43 @@ line_of last (t ∷ ts) = t.line
 abbrev pub line_at : ℕ → List Token → ℕ → ℕ
 line_at last ts left = line_of last (drop (length ts - left) ts)
 
+-- the fault of a reading that stops there; at the end of the text it is that of a block that is open
+abbrev pub stop_fault : Stop → ℕ → List Token → TextFault
+stop_fault (refused left) last ts = statement_fault (line_at last ts left)
+stop_fault (deep left) last ts = nesting_fault (line_at last ts left)
+stop_fault whole last ts = block_fault last
+
 -- all statements were read without a block fault: what follows from where the reading stopped
-abbrev pub at_stop : Stop → ℕ → List Token → Blocks → Result Tree Fault
-at_stop (refused left) last ts b = Err (statement_fault (line_at last ts left))
-at_stop (deep left) last ts b = Err (nesting_fault (line_at last ts left))
+abbrev pub at_stop : Stop → ℕ → List Token → Blocks → Result Tree TextFault
+at_stop (refused left) last ts b = Err (stop_fault (refused left) last ts)
+at_stop (deep left) last ts b = Err (stop_fault (deep left) last ts)
 at_stop whole last ts b = ended b.frames
   where
-    ended : List Frame → Result Tree Fault
+    ended : List Frame → Result Tree TextFault
     ended [] = Ok (record { body = items b.body; commands = b.commands })
-    ended (f ∷ fs) = Err (block_fault last)
+    ended (f ∷ fs) = Err (stop_fault whole last ts)
+
+-- the fault of a statement that begins in a line and is not placed
+abbrev pub misplacement_fault : Misplacement → ℕ → TextFault
+misplacement_fault forbidden line = block_fault line
+misplacement_fault crowded line = nesting_fault line
 
 -- the statements one by one: a block fault counts at the `;` of its statement, and so before the place where the reading stopped
-abbrev pub by_step : Step → ℕ → (Blocks → Result Tree Fault) → Result Tree Fault
-by_step (going b) line next = next b
-by_step forbidden line next = Err (block_fault line)
-by_step crowded line next = Err (nesting_fault line)
+abbrev pub by_step : Step → ℕ → (Blocks → Result Tree TextFault) → Result Tree TextFault
+by_step (Ok b) line next = next b
+by_step (Err m) line next = Err (misplacement_fault m line)
 
-abbrev pub judged : List Placed → (Blocks → Result Tree Fault) → Blocks → Result Tree Fault
+-- the statements one after another, and then where the reading stopped
+abbrev pub judged : List Placed → (Blocks → Result Tree TextFault) → Blocks → Result Tree TextFault
 judged [] at b = at b
 judged (p ∷ ps) at b = by_step (step b p) p.line (judged ps at)
 
 -- the tree of a list of tokens, or its first fault; the last line is that of the end of the text
-unfoldable pub reading : ℕ → List Token → Result Tree Fault
+unfoldable pub reading : ℕ → List Token → Result Tree TextFault
 reading last ts = judged (run between ts).statements (at_stop (run between ts).stop last ts) no_blocks_yet
 
 -- what is still to be said, from a place between statements on, with these blocks so far
-unfoldable pub judge : ℕ → List Token → Blocks → List Token → Result Tree Fault
+unfoldable pub judge : ℕ → List Token → Blocks → List Token → Result Tree TextFault
 judge last ts b rest = judged (run between rest).statements (at_stop (run between rest).stop last ts) b
 
 -- the line of the end of a text
@@ -117,22 +150,15 @@ abbrev pub line_feeds : List ℕ → ℕ
 line_feeds [] = 0
 line_feeds (b ∷ s) = if is_line_feed b then 1 + line_feeds s else line_feeds s
 
+-- the line of the end of a text
 unfoldable pub last_line : List ℕ → ℕ
 last_line text = 1 + line_feeds text
 
--- the reading of a text: it is not too long, it is a list of tokens, and these are a tree; or the first fault
-pub data TextFault : Type 0 where
-  too_long : TextFault
-  bad_token : ℕ → TextFault
-  of_tokens : Fault → TextFault
-
-abbrev pub of_reading : Result Tree Fault → Result Tree TextFault
-of_reading (Ok tree) = Ok tree
-of_reading (Err f) = Err (of_tokens f)
-
+-- the tree of what the tokenizer gives, or the first fault
 abbrev pub of_token_list : ℕ → Result (List Token) ℕ → Result Tree TextFault
-of_token_list last (Ok ts) = of_reading (reading last ts)
+of_token_list last (Ok ts) = reading last ts
 of_token_list last (Err line) = Err (bad_token line)
 
+-- the reading of a text: it is not too long, it is a list of tokens, and these are a tree; or the first fault
 unfoldable pub text_reading : List ℕ → Result Tree TextFault
 text_reading text = if nat_le (length text) 4194304 then of_token_list (last_line text) (tokens text) else Err too_long

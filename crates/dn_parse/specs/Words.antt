@@ -11,6 +11,7 @@ use Rattle.dn_parse.specs.declared.token.Sign.{Sign}
 abbrev pub same_keyword : Keyword → Keyword → Bool
 same_keyword k l = sameb the_keywords l k
 
+-- whether the second sign is the first
 abbrev pub same_sign : Sign → Sign → Bool
 same_sign s u = sameb the_signs u s
 

@@ -2,9 +2,10 @@
 
 ghost use Rattle.std.specs.Prelude.{◌≡◌, List, map, IfOk};
 ghost use Rattle.dn_parse.specs.Tree.{Item};
-ghost use Rattle.dn_parse.specs.Whole.{no_blocks_yet, closed_block, step, with_item, with_frame, without_frame, before_begin, after_begin};
-ghost use Rattle.dn_parse.specs.Seen.{item_of, statement_seen, frame_of, opener_of, blocks_seen};
-ghost use Rattle.dn_parse.specs.Placing.{Steps};
+ghost use Rattle.dn_parse.specs.Whole.{no_blocks_yet, closed_block, step, with_item, with_frame, with_begin, without_frame, outside_blocks, opens_module, before_begin, after_begin};
+ghost use Rattle.dn_parse.specs.Views.{item_view, param_view, statement_view, opener_view, blocks_view};
+ghost use Rattle.dn_base.specs.Answers.{Answers};
+ghost use Rattle.dn_parse.specs.Faults.{misplaced_view};
 
 use crate::statements::Statement;
 use crate::syntax::{Body, Cmd, Expr, Param, Stmt};
@@ -84,7 +85,7 @@ const MOST_BLOCKS: usize = 16;
 
 /// No statement.
 pub fn none(alloc: Global) -> Blocks
-    ensures { blocks_seen result ≡ no_blocks_yet }
+    ensures { blocks_view result ≡ no_blocks_yet }
 {
     Blocks {
         frames: Vec::new(alloc),
@@ -96,7 +97,8 @@ pub fn none(alloc: Global) -> Blocks
 
 /// The blocks with one statement more in the innermost.
 fn with_item(blocks: Blocks, item: Stmt) -> Result<Blocks, Misplaced>
-    ensures { Steps result (with_item (blocks_seen blocks) (item_of item)) }
+    ensures { Answers blocks_view misplaced_view result
+        (with_item (blocks_view blocks) (item_view item)) }
 {
     let mut blocks = blocks;
     blocks.body.push(item)?;
@@ -104,8 +106,9 @@ fn with_item(blocks: Blocks, item: Stmt) -> Result<Blocks, Misplaced>
 }
 
 /// The blocks with one more open.
-fn opened(alloc: Global, blocks: Blocks, line: u32, opener: Opener) -> Result<Blocks, Misplaced>
-    ensures { Steps result (with_frame (blocks_seen blocks) line (opener_of opener)) }
+fn with_frame(alloc: Global, blocks: Blocks, line: u32, opener: Opener) -> Result<Blocks, Misplaced>
+    ensures { Answers blocks_view misplaced_view result
+        (with_frame (blocks_view blocks) line (opener_view opener)) }
 {
     if blocks.frames.len() >= MOST_BLOCKS {
         return Err(Misplaced::Crowded);
@@ -131,8 +134,10 @@ fn opened(alloc: Global, blocks: Blocks, line: u32, opener: Opener) -> Result<Bl
 }
 
 /// A block that is closed, as one statement.
-fn closed(alloc: Global, line: u32, opener: Opener, body: Body) -> Result<Stmt, AllocError>
-    ensures { IfOk result (λ s. (before : List Item) → item_of s ≡ closed_block (record { line = line; opener = opener_of opener; before = before }) (map item_of body.items)) }
+fn closed_block(alloc: Global, line: u32, opener: Opener, body: Body) -> Result<Stmt, AllocError>
+    ensures { IfOk result (λ s. (before : List Item) → item_view s ≡
+        closed_block (record { line = line; opener = opener_view opener; before = before })
+        (map item_view body.items)) }
 {
     match opener {
         Opener::Module { title, params } => Ok(Stmt::Module {
@@ -156,8 +161,9 @@ fn closed(alloc: Global, line: u32, opener: Opener, body: Body) -> Result<Stmt, 
 }
 
 /// The blocks with the innermost closed.
-fn ended(alloc: Global, blocks: Blocks) -> Result<Blocks, Misplaced>
-    ensures { Steps result (without_frame (blocks_seen blocks) (blocks_seen blocks).frames) }
+fn without_frame(alloc: Global, blocks: Blocks) -> Result<Blocks, Misplaced>
+    ensures { Answers blocks_view misplaced_view result
+        (without_frame (blocks_view blocks) (blocks_view blocks).frames) }
 {
     let Blocks {
         frames,
@@ -175,13 +181,44 @@ fn ended(alloc: Global, blocks: Blocks) -> Result<Blocks, Misplaced>
         before,
     } = frame;
     let mut before = before;
-    before.push(closed(alloc, line, opener, body)?)?;
+    before.push(closed_block(alloc, line, opener, body)?)?;
     Ok(Blocks {
         frames,
         body: before,
         begun,
         commands,
     })
+}
+
+/// The blocks with a module open, which stands in no other block.
+fn with_module(
+    alloc: Global,
+    blocks: Blocks,
+    line: u32,
+    title: Text,
+    params: Items<Param>,
+) -> Result<Blocks, Misplaced>
+    ensures { Answers blocks_view misplaced_view result
+        (outside_blocks (blocks_view blocks).frames
+        (with_frame (blocks_view blocks) line (opens_module title (map param_view params)))) }
+{
+    if !blocks.frames.is_empty() {
+        return Err(Misplaced::Forbidden);
+    }
+    with_frame(alloc, blocks, line, Opener::Module { title, params })
+}
+
+/// The blocks after `begin`, which stands in no block.
+fn with_begin(blocks: Blocks) -> Result<Blocks, Misplaced>
+    ensures { Answers blocks_view misplaced_view result
+        (outside_blocks (blocks_view blocks).frames (with_begin (blocks_view blocks))) }
+{
+    if !blocks.frames.is_empty() {
+        return Err(Misplaced::Forbidden);
+    }
+    let mut blocks = blocks;
+    blocks.begun = true;
+    Ok(blocks)
 }
 
 /// A statement before `begin`.
@@ -191,16 +228,12 @@ fn before_begin(
     line: u32,
     statement: Statement,
 ) -> Result<Blocks, Misplaced>
-    ensures { Steps result (before_begin (blocks_seen blocks) line (statement_seen statement)) }
+    ensures { Answers blocks_view misplaced_view result
+        (before_begin (blocks_view blocks) line (statement_view statement)) }
 {
     match statement {
         Statement::Decl(decl) => with_item(blocks, Stmt::Decl { line, decl }),
-        Statement::Module { title, params } => {
-            if !blocks.frames.is_empty() {
-                return Err(Misplaced::Forbidden);
-            }
-            opened(alloc, blocks, line, Opener::Module { title, params })
-        }
+        Statement::Module { title, params } => with_module(alloc, blocks, line, title, params),
         Statement::Instance {
             title,
             args,
@@ -218,7 +251,7 @@ fn before_begin(
             variable,
             from,
             upto,
-        } => opened(
+        } => with_frame(
             alloc,
             blocks,
             line,
@@ -228,22 +261,16 @@ fn before_begin(
                 upto,
             },
         ),
-        Statement::End => ended(alloc, blocks),
-        Statement::Begin => {
-            if !blocks.frames.is_empty() {
-                return Err(Misplaced::Forbidden);
-            }
-            let mut blocks = blocks;
-            blocks.begun = true;
-            Ok(blocks)
-        }
+        Statement::End => without_frame(alloc, blocks),
+        Statement::Begin => with_begin(blocks),
         Statement::Order(_) => Err(Misplaced::Forbidden),
     }
 }
 
 /// A statement after `begin`.
 fn after_begin(blocks: Blocks, line: u32, statement: Statement) -> Result<Blocks, Misplaced>
-    ensures { Steps result (after_begin (blocks_seen blocks) line (statement_seen statement)) }
+    ensures { Answers blocks_view misplaced_view result
+        (after_begin (blocks_view blocks) line (statement_view statement)) }
 {
     let Statement::Order(order) = statement else {
         return Err(Misplaced::Forbidden);
@@ -254,13 +281,15 @@ fn after_begin(blocks: Blocks, line: u32, statement: Statement) -> Result<Blocks
 }
 
 /// The blocks with one statement more, which begins in this line.
-pub fn placed(
+pub fn with_statement(
     alloc: Global,
     blocks: Blocks,
     line: u32,
     statement: Statement,
 ) -> Result<Blocks, Misplaced>
-    ensures { Steps result (step (blocks_seen blocks) (record { line = line; statement = statement_seen statement })) }
+    ensures { Answers blocks_view misplaced_view result
+        (step (blocks_view blocks)
+        (record { line = line; statement = statement_view statement })) }
 {
     if blocks.begun {
         after_begin(blocks, line, statement)

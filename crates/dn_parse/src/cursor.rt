@@ -2,10 +2,11 @@
 
 ghost use Rattle.std.specs.Prelude.{◌≡◌, ◌∷◌, [], ◌<◌, length, option_map, Ok, Err, IfSome, IfOk, MatchOption};
 ghost use Rattle.dn_parse.specs.declared.cursor.Halt.TheVariants.{Refused};
-ghost use Rattle.dn_parse.specs.Lexing.{token_of};
-ghost use Rattle.dn_parse.specs.Seen.{seen};
+ghost use Rattle.dn_parse.specs.Lexing.{token_view};
+ghost use Rattle.dn_parse.specs.Views.{token_views};
 ghost use Rattle.dn_parse.specs.Descent.{after_sign, after_keyword, sign_at, keyword_at, word_at};
-ghost use Rattle.dn_parse.specs.Giving.{Gives};
+ghost use Rattle.dn_base.specs.Answers.{Answers};
+ghost use Rattle.dn_parse.specs.Faults.{halt_view, Reads, IsShorter};
 
 use crate::token::{Keyword, Lexeme, Sign, Token};
 use dn_base::text::Text;
@@ -53,7 +54,8 @@ pub type Next<'a, T> = Result<Option<(T, &'a [Token<'a>])>, Halt>;
 
 /// The next token, and those after it.
 pub fn next<'a>(tokens: &'a [Token<'a>]) -> Option<(Token<'a>, &'a [Token<'a>])>
-    ensures { MatchOption result (seen tokens.now ≡ []) (λ p. seen tokens.now ≡ token_of p.0 ∷ seen p.1.now) }
+    ensures { MatchOption result (token_views tokens.now ≡ [])
+        (λ p. token_views tokens.now ≡ token_view p.0 ∷ token_views p.1.now) }
 {
     match tokens {
         [] => None,
@@ -64,8 +66,9 @@ pub fn next<'a>(tokens: &'a [Token<'a>]) -> Option<(Token<'a>, &'a [Token<'a>])>
 /// The tokens after this sign, if it is the next token.
 #[tactic(auto, unfolding(crate::specs::Descent::after_sign))]
 pub fn after_sign<'a>(tokens: &'a [Token<'a>], sign: Sign) -> Option<&'a [Token<'a>]>
-    ensures gives { after_sign sign (seen tokens.now) ≡ option_map (λ rest. seen rest.now) result }
-    ensures shorter { IfSome result (λ rest. length (seen rest.now) < length (seen tokens.now)) }
+    ensures gives { after_sign sign (token_views tokens.now)
+        ≡ option_map (λ rest. token_views rest.now) result }
+    ensures shorter { IfSome result (λ rest. IsShorter rest.now tokens.now) }
 {
     let (token, rest) = next(tokens)?;
     match token.lexeme {
@@ -77,8 +80,9 @@ pub fn after_sign<'a>(tokens: &'a [Token<'a>], sign: Sign) -> Option<&'a [Token<
 /// The tokens after this reserved word, if it is the next token.
 #[tactic(auto, unfolding(crate::specs::Descent::after_keyword))]
 pub fn after_keyword<'a>(tokens: &'a [Token<'a>], word: Keyword) -> Option<&'a [Token<'a>]>
-    ensures gives { after_keyword word (seen tokens.now) ≡ option_map (λ rest. seen rest.now) result }
-    ensures shorter { IfSome result (λ rest. length (seen rest.now) < length (seen tokens.now)) }
+    ensures gives { after_keyword word (token_views tokens.now)
+        ≡ option_map (λ rest. token_views rest.now) result }
+    ensures shorter { IfSome result (λ rest. IsShorter rest.now tokens.now) }
 {
     let (token, rest) = next(tokens)?;
     match token.lexeme {
@@ -89,7 +93,7 @@ pub fn after_keyword<'a>(tokens: &'a [Token<'a>], word: Keyword) -> Option<&'a [
 
 /// The refusal of the next token, or of the end.
 pub fn refusal<'a>(tokens: &'a [Token<'a>]) -> Halt
-    ensures { result ≡ Refused (length (seen tokens.now)) }
+    ensures { result ≡ Refused (length (token_views tokens.now)) }
 {
     Halt::Refused(tokens.len())
 }
@@ -97,8 +101,9 @@ pub fn refusal<'a>(tokens: &'a [Token<'a>]) -> Halt
 /// The tokens after this sign.
 #[tactic(auto, unfolding(crate::specs::Descent::sign_at))]
 pub fn sign<'a>(tokens: &'a [Token<'a>], sign: Sign) -> Result<&'a [Token<'a>], Halt>
-    ensures gives { Gives (λ rest. seen rest.now) result (sign_at sign (seen tokens.now)) }
-    ensures shorter { IfOk result (λ rest. length (seen rest.now) < length (seen tokens.now)) }
+    ensures gives { Answers (λ rest. token_views rest.now) halt_view result
+        (sign_at sign (token_views tokens.now)) }
+    ensures shorter { IfOk result (λ rest. IsShorter rest.now tokens.now) }
 {
     match after_sign(tokens, sign) {
         Some(rest) => Ok(rest),
@@ -109,8 +114,9 @@ pub fn sign<'a>(tokens: &'a [Token<'a>], sign: Sign) -> Result<&'a [Token<'a>], 
 /// The tokens after this reserved word.
 #[tactic(auto, unfolding(crate::specs::Descent::keyword_at))]
 pub fn keyword<'a>(tokens: &'a [Token<'a>], word: Keyword) -> Result<&'a [Token<'a>], Halt>
-    ensures gives { Gives (λ rest. seen rest.now) result (keyword_at word (seen tokens.now)) }
-    ensures shorter { IfOk result (λ rest. length (seen rest.now) < length (seen tokens.now)) }
+    ensures gives { Answers (λ rest. token_views rest.now) halt_view result
+        (keyword_at word (token_views tokens.now)) }
+    ensures shorter { IfOk result (λ rest. IsShorter rest.now tokens.now) }
 {
     match after_keyword(tokens, word) {
         Some(rest) => Ok(rest),
@@ -121,8 +127,8 @@ pub fn keyword<'a>(tokens: &'a [Token<'a>], word: Keyword) -> Result<&'a [Token<
 /// A word that is not reserved.
 #[tactic(auto, unfolding(crate::specs::Descent::word_at))]
 pub fn word<'a>(alloc: Global, tokens: &'a [Token<'a>]) -> Read<'a, Text>
-    ensures gives { Gives (λ p. (p.0, seen p.1.now)) result (word_at (seen tokens.now)) }
-    ensures shorter { IfOk result (λ p. length (seen p.1.now) < length (seen tokens.now)) }
+    ensures gives { Reads (λ x. x) result (word_at (token_views tokens.now)) }
+    ensures shorter { IfOk result (λ p. IsShorter p.1.now tokens.now) }
 {
     let Some((token, rest)) = next(tokens) else {
         return Err(refusal(tokens));

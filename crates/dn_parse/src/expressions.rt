@@ -1,10 +1,10 @@
 //! Expressions.
 
-ghost use Rattle.std.specs.Prelude.{◌≡◌, ◌∷◌, [], ◌<◌, ◌≤◌, length, map, option_map, IfOk, IfSome, vec_len};
+ghost use Rattle.std.specs.Prelude.{◌≡◌, ◌<◌, map, IfOk, IfSome, vec_len};
 ghost use Rattle.dn_parse.specs.Actions.{summed, multiplied};
-ghost use Rattle.dn_parse.specs.Seen.{seen, expr_of};
+ghost use Rattle.dn_parse.specs.Views.{token_views, expr_view};
 ghost use Rattle.dn_parse.specs.Descent.{factor_at, next_factor_at, factors_at, term_at, next_term_at, terms_at, expr_at, after_open_at};
-ghost use Rattle.dn_parse.specs.Giving.{Gives};
+ghost use Rattle.dn_parse.specs.Faults.{Reads, ReadsNext, IsShorter};
 
 use crate::cursor::{Halt, Next, Read, after_sign, next, refusal, sign};
 use crate::syntax::Expr;
@@ -13,9 +13,9 @@ use dn_base::text::Text;
 use std::alloc::Global;
 
 /// The sum of the members, or the only one.
-fn summed(members: Vec<Expr>) -> Expr
+fn sum_of(members: Vec<Expr>) -> Expr
     requires { 0 < vec_len members }
-    ensures { expr_of result ≡ summed (map expr_of members.items) }
+    ensures { expr_view result ≡ summed (map expr_view members.items) }
 {
     let mut members = members;
     if members.len() == 1 {
@@ -26,9 +26,9 @@ fn summed(members: Vec<Expr>) -> Expr
 }
 
 /// The product of the members, or the only one.
-fn multiplied(members: Vec<Expr>) -> Expr
+fn product_of(members: Vec<Expr>) -> Expr
     requires { 0 < vec_len members }
-    ensures { expr_of result ≡ multiplied (map expr_of members.items) }
+    ensures { expr_view result ≡ multiplied (map expr_view members.items) }
 {
     let mut members = members;
     if members.len() == 1 {
@@ -42,8 +42,8 @@ fn multiplied(members: Vec<Expr>) -> Expr
 #[cycle(expressions)]
 #[tactic(auto, unfolding(crate::specs::Descent::factor_at))]
 fn factor<'a>(alloc: Global, tokens: &'a [Token<'a>], depth: u8) -> Read<'a, Expr>
-    ensures gives { Gives (λ p. (expr_of p.0, seen p.1.now)) result (factor_at depth (seen tokens.now)) }
-    ensures shorter { IfOk result (λ p. length (seen p.1.now) < length (seen tokens.now)) }
+    ensures gives { Reads expr_view result (factor_at depth (token_views tokens.now)) }
+    ensures shorter { IfOk result (λ p. IsShorter p.1.now tokens.now) }
 {
     let Some((token, rest)) = next(tokens) else {
         return Err(refusal(tokens));
@@ -65,8 +65,8 @@ fn factor<'a>(alloc: Global, tokens: &'a [Token<'a>], depth: u8) -> Read<'a, Exp
 #[cycle(expressions)]
 #[tactic(auto, unfolding(crate::specs::Descent::after_open_at))]
 fn after_open<'a>(alloc: Global, tokens: &'a [Token<'a>], depth: u8) -> Read<'a, Expr>
-    ensures gives { Gives (λ p. (expr_of p.0, seen p.1.now)) result (after_open_at depth (seen tokens.now)) }
-    ensures shorter { IfOk result (λ p. length (seen p.1.now) < length (seen tokens.now)) }
+    ensures gives { Reads expr_view result (after_open_at depth (token_views tokens.now)) }
+    ensures shorter { IfOk result (λ p. IsShorter p.1.now tokens.now) }
 {
     let (first, rest) = expr(alloc, tokens, depth)?;
     let Some(rest) = after_sign(rest, Sign::Minus) else {
@@ -83,8 +83,8 @@ fn after_open<'a>(alloc: Global, tokens: &'a [Token<'a>], depth: u8) -> Read<'a,
 #[cycle(expressions)]
 #[tactic(auto, unfolding(crate::specs::Descent::next_factor_at))]
 fn next_factor<'a>(alloc: Global, tokens: &'a [Token<'a>], depth: u8) -> Next<'a, Expr>
-    ensures gives { Gives (λ o. option_map (λ p. (expr_of p.0, seen p.1.now)) o) result (next_factor_at depth (seen tokens.now)) }
-    ensures shorter { IfOk result (λ o. IfSome o (λ p. length (seen p.1.now) < length (seen tokens.now))) }
+    ensures gives { ReadsNext expr_view result (next_factor_at depth (token_views tokens.now)) }
+    ensures shorter { IfOk result (λ o. IfSome o (λ p. IsShorter p.1.now tokens.now)) }
 {
     let Some(rest) = after_sign(tokens, Sign::Times) else {
         return Ok(None);
@@ -96,9 +96,10 @@ fn next_factor<'a>(alloc: Global, tokens: &'a [Token<'a>], depth: u8) -> Next<'a
 /// `factor { "*" factor }`
 #[cycle(expressions)]
 fn factors<'a>(alloc: Global, tokens: &'a [Token<'a>], depth: u8) -> Read<'a, Vec<Expr>>
-    ensures gives { Gives (λ p. (map expr_of p.0.items, seen p.1.now)) result (factors_at depth (seen tokens.now)) }
+    ensures gives { Reads (λ v. map expr_view v.items) result
+        (factors_at depth (token_views tokens.now)) }
     ensures some { IfOk result (λ p. 0 < vec_len p.0) }
-    ensures shorter { IfOk result (λ p. length (seen p.1.now) < length (seen tokens.now)) }
+    ensures shorter { IfOk result (λ p. IsShorter p.1.now tokens.now) }
 {
     let (first, after) = factor(alloc, tokens, depth)?;
     let mut members = Vec::new(alloc);
@@ -115,19 +116,19 @@ fn factors<'a>(alloc: Global, tokens: &'a [Token<'a>], depth: u8) -> Read<'a, Ve
 #[cycle(expressions)]
 #[tactic(auto, unfolding(crate::specs::Descent::term_at))]
 fn term<'a>(alloc: Global, tokens: &'a [Token<'a>], depth: u8) -> Read<'a, Expr>
-    ensures gives { Gives (λ p. (expr_of p.0, seen p.1.now)) result (term_at depth (seen tokens.now)) }
-    ensures shorter { IfOk result (λ p. length (seen p.1.now) < length (seen tokens.now)) }
+    ensures gives { Reads expr_view result (term_at depth (token_views tokens.now)) }
+    ensures shorter { IfOk result (λ p. IsShorter p.1.now tokens.now) }
 {
     let (members, rest) = factors(alloc, tokens, depth)?;
-    Ok((multiplied(members), rest))
+    Ok((product_of(members), rest))
 }
 
 /// `[ "+" term ]`
 #[cycle(expressions)]
 #[tactic(auto, unfolding(crate::specs::Descent::next_term_at))]
 fn next_term<'a>(alloc: Global, tokens: &'a [Token<'a>], depth: u8) -> Next<'a, Expr>
-    ensures gives { Gives (λ o. option_map (λ p. (expr_of p.0, seen p.1.now)) o) result (next_term_at depth (seen tokens.now)) }
-    ensures shorter { IfOk result (λ o. IfSome o (λ p. length (seen p.1.now) < length (seen tokens.now))) }
+    ensures gives { ReadsNext expr_view result (next_term_at depth (token_views tokens.now)) }
+    ensures shorter { IfOk result (λ o. IfSome o (λ p. IsShorter p.1.now tokens.now)) }
 {
     let Some(rest) = after_sign(tokens, Sign::Plus) else {
         return Ok(None);
@@ -139,9 +140,10 @@ fn next_term<'a>(alloc: Global, tokens: &'a [Token<'a>], depth: u8) -> Next<'a, 
 /// `term { "+" term }`
 #[cycle(expressions)]
 fn terms<'a>(alloc: Global, tokens: &'a [Token<'a>], depth: u8) -> Read<'a, Vec<Expr>>
-    ensures gives { Gives (λ p. (map expr_of p.0.items, seen p.1.now)) result (terms_at depth (seen tokens.now)) }
+    ensures gives { Reads (λ v. map expr_view v.items) result
+        (terms_at depth (token_views tokens.now)) }
     ensures some { IfOk result (λ p. 0 < vec_len p.0) }
-    ensures shorter { IfOk result (λ p. length (seen p.1.now) < length (seen tokens.now)) }
+    ensures shorter { IfOk result (λ p. IsShorter p.1.now tokens.now) }
 {
     let (first, after) = term(alloc, tokens, depth)?;
     let mut members = Vec::new(alloc);
@@ -158,9 +160,9 @@ fn terms<'a>(alloc: Global, tokens: &'a [Token<'a>], depth: u8) -> Read<'a, Vec<
 #[cycle(expressions)]
 #[tactic(auto, unfolding(crate::specs::Descent::expr_at))]
 pub fn expr<'a>(alloc: Global, tokens: &'a [Token<'a>], depth: u8) -> Read<'a, Expr>
-    ensures gives { Gives (λ p. (expr_of p.0, seen p.1.now)) result (expr_at depth (seen tokens.now)) }
-    ensures shorter { IfOk result (λ p. length (seen p.1.now) < length (seen tokens.now)) }
+    ensures gives { Reads expr_view result (expr_at depth (token_views tokens.now)) }
+    ensures shorter { IfOk result (λ p. IsShorter p.1.now tokens.now) }
 {
     let (members, rest) = terms(alloc, tokens, depth)?;
-    Ok((summed(members), rest))
+    Ok((sum_of(members), rest))
 }

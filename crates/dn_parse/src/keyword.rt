@@ -1,6 +1,6 @@
 //! The reserved words by their spellings.
 
-ghost use Rattle.std.specs.Prelude.{◌≡◌, length};
+ghost use Rattle.std.specs.Prelude.{◌≡◌};
 ghost use Rattle.dn_parse.specs.Token.{reserved};
 ghost use Rattle.dn_parse.specs.Lexing.{keyword_among, of_length, reserved_word};
 

@@ -1,7 +1,7 @@
 //! Laws on the tokens of a text, and those that tie the machine of the reading to the grammar.
 
 ghost use Rattle.dn_parse.specs.Going.{TokensGoOn};
-ghost use Rattle.dn_parse.specs.Laws.{StopIsFinal, ReadIsSpelled, SpelledIsRead, RefusedIsFirst, DeepIsFirst};
+ghost use Rattle.dn_parse.specs.Laws.{StopIsFinal, ReadIsSpelled, SpelledIsRead, ShallowIsRead, RefusedIsFirst, DeepIsFirst, DeepStops, StopKeepsStatements};
 
 /// What is refused at a token, or is nested too deep there, is so whatever follows it.
 pub fn stop_is_final()
@@ -18,6 +18,11 @@ pub fn spelled_is_read()
     ensures { SpelledIsRead }
 {}
 
+/// Each spelling with at most 32 parentheses open at once is read as its statements.
+pub fn shallow_is_read()
+    ensures { ShallowIsRead }
+{}
+
 /// The place of a refusal is the first token that ends a list which is not viable, or the end of a
 /// list that is viable and no spelling.
 pub fn refused_is_first()
@@ -27,6 +32,17 @@ pub fn refused_is_first()
 /// The place of a nesting is a parenthesis that the grammar allows there and before which 32 are open.
 pub fn deep_is_first()
     ensures { DeepIsFirst }
+{}
+
+/// The first 33rd parenthesis that a form allows stops the reading there.
+pub fn deep_stops()
+    ensures { DeepStops }
+{}
+
+/// Wherever the reading stops, the statements that were read are those that the tokens before the
+/// last statement begun spell, and no `;` stands between them and that place.
+pub fn stop_keeps_statements()
+    ensures { StopKeepsStatements }
 {}
 
 /// What stands first in a text decides, and the rest is read alike.

@@ -1,9 +1,11 @@
 //! The tokenizer: from the bytes of a text to its tokens.
 
-ghost use Rattle.std.specs.Prelude.{◌≡◌, ◌+◌, ◌^◌, ◌<◌, [], ◌∷◌, length, map, Ok, IfOk, IfErr, IfSome, MatchOption};
+ghost use Rattle.std.specs.Prelude.{◌≡◌, ◌+◌, ◌^◌, ◌<◌, [], ◌∷◌, length, map, IfSome, MatchOption};
 ghost use Rattle.std.specs.Str.{IsAscii};
 ghost use Rattle.dn_parse.specs.Token.{tokens, is_letter, is_digit, is_blank, after_comment, run, after_run, word_lexeme, sign_of, taken, bad};
-ghost use Rattle.dn_parse.specs.Lexing.{begins_comment, front_of, sign_front_of, lexeme_of, token_of, IsFaultOf};
+ghost use Rattle.dn_parse.specs.Lexing.{begins_comment, front_of, sign_front_of, lexeme_view, token_view};
+ghost use Rattle.dn_base.specs.Answers.{Answers};
+ghost use Rattle.dn_parse.specs.Faults.{token_fault_view};
 
 use crate::keyword::keyword_of;
 use crate::number::number_of;
@@ -49,8 +51,8 @@ impl<T: Drop> From<AllocFailed<T>> for TokenFault {
 /// short enough for its lines to fit.
 pub fn tokens<'a>(alloc: Global, text: &'a [u8]) -> Result<Vec<Token<'a>>, TokenFault>
     requires { length text.now + 1 < 2 ^ 32 }
-    ensures ok { IfOk result (λ found. tokens text.now ≡ Ok (map token_of found.items)) }
-    ensures err { IfErr result (λ fault. IsFaultOf fault (tokens text.now)) }
+    ensures { Answers (λ found. map token_view found.items) token_fault_view result
+        (tokens text.now) }
 {
     let mut found = Vec::new(alloc);
     let mut line = 1;
@@ -134,7 +136,8 @@ fn split_run(text: &[u8]) -> (&[u8], &[u8])
 
 /// The token at the front of a text that is not blank there, and what follows it.
 fn front<'a>(text: &'a [u8]) -> Option<(Lexeme<'a>, &'a [u8])>
-    ensures seen { MatchOption result (front_of text.now ≡ bad) (λ found. front_of text.now ≡ taken (lexeme_of found.0) found.1.now) }
+    ensures seen { MatchOption result (front_of text.now ≡ bad)
+        (λ found. front_of text.now ≡ taken (lexeme_view found.0) found.1.now) }
     ensures shorter { IfSome result (λ found. length found.1.now < length text.now) }
 {
     let byte = *text.first()?;
@@ -152,7 +155,7 @@ fn front<'a>(text: &'a [u8]) -> Option<(Lexeme<'a>, &'a [u8])>
 /// What a run is that begins with a letter.
 fn word_lexeme<'a>(run: &'a [u8]) -> Lexeme<'a>
     requires { IsAscii run.now }
-    ensures { lexeme_of result ≡ word_lexeme run.now }
+    ensures { lexeme_view result ≡ word_lexeme run.now }
 {
     let Ok(word) = str::from_utf8(run) else {
         unreachable!()
@@ -165,7 +168,8 @@ fn word_lexeme<'a>(run: &'a [u8]) -> Lexeme<'a>
 
 /// The sign at the front, the longer one first.
 fn sign_front<'a>(text: &'a [u8]) -> Option<(Lexeme<'a>, &'a [u8])>
-    ensures seen { MatchOption result (sign_front_of text.now ≡ bad) (λ found. sign_front_of text.now ≡ taken (lexeme_of found.0) found.1.now) }
+    ensures seen { MatchOption result (sign_front_of text.now ≡ bad)
+        (λ found. sign_front_of text.now ≡ taken (lexeme_view found.0) found.1.now) }
     ensures shorter { IfSome result (λ found. length found.1.now < length text.now) }
 {
     match text {

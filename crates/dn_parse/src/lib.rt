@@ -6,18 +6,18 @@
 //! [`reader::read`] reads a text. [`laws`] ties all of it to the grammar.
 #![tactic(auto)]
 
-pub mod blocks;
+mod blocks;
 mod cursor;
-pub mod expressions;
+mod expressions;
 mod keyword;
 pub mod laws;
 pub mod lexer;
-pub mod nodes;
+mod nodes;
 mod number;
 pub mod reader;
 #[cfg(test)]
 mod reader_tests;
-pub mod statements;
+mod statements;
 pub mod syntax;
 #[cfg(test)]
 mod tests;

@@ -1,9 +1,9 @@
 //! Names, and the parts of a node.
 
-ghost use Rattle.std.specs.Prelude.{◌≡◌, ◌∷◌, [], ◌<◌, ◌≤◌, length, map, option_map, IfOk, IfSome};
-ghost use Rattle.dn_parse.specs.Seen.{seen, expr_of, maybe_of, part_of, name_of, block_of, dest_of, entry_of, maybe_name_of, spec_of};
+ghost use Rattle.std.specs.Prelude.{◌<◌, map, IfOk, IfSome};
+ghost use Rattle.dn_parse.specs.Views.{token_views, maybe_expr_view, part_view, name_view, block_view, dest_view, entry_view, maybe_name_view, spec_view};
 ghost use Rattle.dn_parse.specs.Descent.{index_at, part_at, next_part_at, name_at, upper_at, block_at, next_block_at, blocks_at, addr_at, dest_at, next_dest_at, dests_at, entry_at, next_entry_at, entries_at, accept_at, map_at, over_at, spec_at};
-ghost use Rattle.dn_parse.specs.Giving.{Gives};
+ghost use Rattle.dn_parse.specs.Faults.{Reads, ReadsNext, IsShorter, IsNoLonger};
 
 use crate::cursor::{Next, Read, after_keyword, after_sign, keyword, sign, word};
 use crate::expressions::expr;
@@ -18,8 +18,8 @@ const MOST_OPEN: u8 = 32;
 /// `[ "[" expr "]" ]`, where so many parentheses may still be opened
 #[tactic(auto, unfolding(crate::specs::Descent::index_at))]
 fn index<'a>(alloc: Global, tokens: &'a [Token<'a>], depth: u8) -> Read<'a, Option<Expr>>
-    ensures gives { Gives (λ p. (maybe_of p.0, seen p.1.now)) result (index_at depth (seen tokens.now)) }
-    ensures shorter { IfOk result (λ p. length (seen p.1.now) ≤ length (seen tokens.now)) }
+    ensures gives { Reads maybe_expr_view result (index_at depth (token_views tokens.now)) }
+    ensures shorter { IfOk result (λ p. IsNoLonger p.1.now tokens.now) }
 {
     let Some(rest) = after_sign(tokens, Sign::OpenBracket) else {
         return Ok((None, tokens));
@@ -32,8 +32,8 @@ fn index<'a>(alloc: Global, tokens: &'a [Token<'a>], depth: u8) -> Read<'a, Opti
 /// `word [ "[" expr "]" ]`
 #[tactic(auto, unfolding(crate::specs::Descent::part_at))]
 fn part<'a>(alloc: Global, tokens: &'a [Token<'a>], depth: u8) -> Read<'a, PartExpr>
-    ensures gives { Gives (λ p. (part_of p.0, seen p.1.now)) result (part_at depth (seen tokens.now)) }
-    ensures shorter { IfOk result (λ p. length (seen p.1.now) < length (seen tokens.now)) }
+    ensures gives { Reads part_view result (part_at depth (token_views tokens.now)) }
+    ensures shorter { IfOk result (λ p. IsShorter p.1.now tokens.now) }
 {
     let (title, rest) = word(alloc, tokens)?;
     let (index, rest) = index(alloc, rest, depth)?;
@@ -43,8 +43,8 @@ fn part<'a>(alloc: Global, tokens: &'a [Token<'a>], depth: u8) -> Read<'a, PartE
 /// `[ "." part ]`
 #[tactic(auto, unfolding(crate::specs::Descent::next_part_at))]
 fn next_part<'a>(alloc: Global, tokens: &'a [Token<'a>], depth: u8) -> Next<'a, PartExpr>
-    ensures gives { Gives (λ o. option_map (λ p. (part_of p.0, seen p.1.now)) o) result (next_part_at depth (seen tokens.now)) }
-    ensures shorter { IfOk result (λ o. IfSome o (λ p. length (seen p.1.now) < length (seen tokens.now))) }
+    ensures gives { ReadsNext part_view result (next_part_at depth (token_views tokens.now)) }
+    ensures shorter { IfOk result (λ o. IfSome o (λ p. IsShorter p.1.now tokens.now)) }
 {
     let Some(rest) = after_sign(tokens, Sign::Dot) else {
         return Ok(None);
@@ -55,8 +55,8 @@ fn next_part<'a>(alloc: Global, tokens: &'a [Token<'a>], depth: u8) -> Next<'a, 
 
 /// `part { "." part }`
 pub fn name<'a>(alloc: Global, tokens: &'a [Token<'a>], depth: u8) -> Read<'a, NameExpr>
-    ensures gives { Gives (λ p. (name_of p.0, seen p.1.now)) result (name_at depth (seen tokens.now)) }
-    ensures shorter { IfOk result (λ p. length (seen p.1.now) < length (seen tokens.now)) }
+    ensures gives { Reads name_view result (name_at depth (token_views tokens.now)) }
+    ensures shorter { IfOk result (λ p. IsShorter p.1.now tokens.now) }
 {
     let (first, after) = part(alloc, tokens, depth)?;
     let mut parts = Items::new(alloc);
@@ -72,8 +72,8 @@ pub fn name<'a>(alloc: Global, tokens: &'a [Token<'a>], depth: u8) -> Read<'a, N
 /// `[ "-" expr ]`
 #[tactic(auto, unfolding(crate::specs::Descent::upper_at))]
 fn upper<'a>(alloc: Global, tokens: &'a [Token<'a>]) -> Read<'a, Option<Expr>>
-    ensures gives { Gives (λ p. (maybe_of p.0, seen p.1.now)) result (upper_at (seen tokens.now)) }
-    ensures shorter { IfOk result (λ p. length (seen p.1.now) ≤ length (seen tokens.now)) }
+    ensures gives { Reads maybe_expr_view result (upper_at (token_views tokens.now)) }
+    ensures shorter { IfOk result (λ p. IsNoLonger p.1.now tokens.now) }
 {
     let Some(rest) = after_sign(tokens, Sign::Minus) else {
         return Ok((None, tokens));
@@ -85,8 +85,8 @@ fn upper<'a>(alloc: Global, tokens: &'a [Token<'a>]) -> Read<'a, Option<Expr>>
 /// `expr [ "-" expr ]`
 #[tactic(auto, unfolding(crate::specs::Descent::block_at))]
 fn block<'a>(alloc: Global, tokens: &'a [Token<'a>]) -> Read<'a, BlockExpr>
-    ensures gives { Gives (λ p. (block_of p.0, seen p.1.now)) result (block_at (seen tokens.now)) }
-    ensures shorter { IfOk result (λ p. length (seen p.1.now) < length (seen tokens.now)) }
+    ensures gives { Reads block_view result (block_at (token_views tokens.now)) }
+    ensures shorter { IfOk result (λ p. IsShorter p.1.now tokens.now) }
 {
     let (lo, rest) = expr(alloc, tokens, MOST_OPEN)?;
     let (hi, rest) = upper(alloc, rest)?;
@@ -96,8 +96,8 @@ fn block<'a>(alloc: Global, tokens: &'a [Token<'a>]) -> Read<'a, BlockExpr>
 /// `[ "," block ]`
 #[tactic(auto, unfolding(crate::specs::Descent::next_block_at))]
 fn next_block<'a>(alloc: Global, tokens: &'a [Token<'a>]) -> Next<'a, BlockExpr>
-    ensures gives { Gives (λ o. option_map (λ p. (block_of p.0, seen p.1.now)) o) result (next_block_at (seen tokens.now)) }
-    ensures shorter { IfOk result (λ o. IfSome o (λ p. length (seen p.1.now) < length (seen tokens.now))) }
+    ensures gives { ReadsNext block_view result (next_block_at (token_views tokens.now)) }
+    ensures shorter { IfOk result (λ o. IfSome o (λ p. IsShorter p.1.now tokens.now)) }
 {
     let Some(rest) = after_sign(tokens, Sign::Comma) else {
         return Ok(None);
@@ -108,8 +108,8 @@ fn next_block<'a>(alloc: Global, tokens: &'a [Token<'a>]) -> Next<'a, BlockExpr>
 
 /// `block { "," block }`
 fn blocks<'a>(alloc: Global, tokens: &'a [Token<'a>]) -> Read<'a, Items<BlockExpr>>
-    ensures gives { Gives (λ p. (map block_of p.0, seen p.1.now)) result (blocks_at (seen tokens.now)) }
-    ensures shorter { IfOk result (λ p. length (seen p.1.now) < length (seen tokens.now)) }
+    ensures gives { Reads (map block_view) result (blocks_at (token_views tokens.now)) }
+    ensures shorter { IfOk result (λ p. IsShorter p.1.now tokens.now) }
 {
     let (first, after) = block(alloc, tokens)?;
     let mut blocks = Items::new(alloc);
@@ -125,8 +125,8 @@ fn blocks<'a>(alloc: Global, tokens: &'a [Token<'a>]) -> Read<'a, Items<BlockExp
 /// `[ "at" expr ]`
 #[tactic(auto, unfolding(crate::specs::Descent::addr_at))]
 fn addr<'a>(alloc: Global, tokens: &'a [Token<'a>]) -> Read<'a, Option<Expr>>
-    ensures gives { Gives (λ p. (maybe_of p.0, seen p.1.now)) result (addr_at (seen tokens.now)) }
-    ensures shorter { IfOk result (λ p. length (seen p.1.now) ≤ length (seen tokens.now)) }
+    ensures gives { Reads maybe_expr_view result (addr_at (token_views tokens.now)) }
+    ensures shorter { IfOk result (λ p. IsNoLonger p.1.now tokens.now) }
 {
     let Some(rest) = after_keyword(tokens, Keyword::At) else {
         return Ok((None, tokens));
@@ -138,8 +138,8 @@ fn addr<'a>(alloc: Global, tokens: &'a [Token<'a>]) -> Read<'a, Option<Expr>>
 /// `name [ "at" expr ]`
 #[tactic(auto, unfolding(crate::specs::Descent::dest_at))]
 fn dest<'a>(alloc: Global, tokens: &'a [Token<'a>]) -> Read<'a, DestExpr>
-    ensures gives { Gives (λ p. (dest_of p.0, seen p.1.now)) result (dest_at (seen tokens.now)) }
-    ensures shorter { IfOk result (λ p. length (seen p.1.now) < length (seen tokens.now)) }
+    ensures gives { Reads dest_view result (dest_at (token_views tokens.now)) }
+    ensures shorter { IfOk result (λ p. IsShorter p.1.now tokens.now) }
 {
     let (name, rest) = name(alloc, tokens, MOST_OPEN)?;
     let (addr, rest) = addr(alloc, rest)?;
@@ -149,8 +149,8 @@ fn dest<'a>(alloc: Global, tokens: &'a [Token<'a>]) -> Read<'a, DestExpr>
 /// `[ "and" dest ]`
 #[tactic(auto, unfolding(crate::specs::Descent::next_dest_at))]
 fn next_dest<'a>(alloc: Global, tokens: &'a [Token<'a>]) -> Next<'a, DestExpr>
-    ensures gives { Gives (λ o. option_map (λ p. (dest_of p.0, seen p.1.now)) o) result (next_dest_at (seen tokens.now)) }
-    ensures shorter { IfOk result (λ o. IfSome o (λ p. length (seen p.1.now) < length (seen tokens.now))) }
+    ensures gives { ReadsNext dest_view result (next_dest_at (token_views tokens.now)) }
+    ensures shorter { IfOk result (λ o. IfSome o (λ p. IsShorter p.1.now tokens.now)) }
 {
     let Some(rest) = after_keyword(tokens, Keyword::And) else {
         return Ok(None);
@@ -161,8 +161,8 @@ fn next_dest<'a>(alloc: Global, tokens: &'a [Token<'a>]) -> Next<'a, DestExpr>
 
 /// `dest { "and" dest }`, at most eight: a ninth is left where it stands.
 fn dests<'a>(alloc: Global, tokens: &'a [Token<'a>]) -> Read<'a, Items<DestExpr>>
-    ensures gives { Gives (λ p. (map dest_of p.0, seen p.1.now)) result (dests_at (seen tokens.now)) }
-    ensures shorter { IfOk result (λ p. length (seen p.1.now) < length (seen tokens.now)) }
+    ensures gives { Reads (map dest_view) result (dests_at (token_views tokens.now)) }
+    ensures shorter { IfOk result (λ p. IsShorter p.1.now tokens.now) }
 {
     let (first, after) = dest(alloc, tokens)?;
     let mut dests = Items::new(alloc);
@@ -184,8 +184,8 @@ fn dests<'a>(alloc: Global, tokens: &'a [Token<'a>]) -> Read<'a, Items<DestExpr>
 /// `block "to" dest { "and" dest }`
 #[tactic(auto, unfolding(crate::specs::Descent::entry_at))]
 fn entry<'a>(alloc: Global, tokens: &'a [Token<'a>]) -> Read<'a, EntryExpr>
-    ensures gives { Gives (λ p. (entry_of p.0, seen p.1.now)) result (entry_at (seen tokens.now)) }
-    ensures shorter { IfOk result (λ p. length (seen p.1.now) < length (seen tokens.now)) }
+    ensures gives { Reads entry_view result (entry_at (token_views tokens.now)) }
+    ensures shorter { IfOk result (λ p. IsShorter p.1.now tokens.now) }
 {
     let (block, rest) = block(alloc, tokens)?;
     let rest = keyword(rest, Keyword::To)?;
@@ -196,8 +196,8 @@ fn entry<'a>(alloc: Global, tokens: &'a [Token<'a>]) -> Read<'a, EntryExpr>
 /// `[ "," entry ]`
 #[tactic(auto, unfolding(crate::specs::Descent::next_entry_at))]
 fn next_entry<'a>(alloc: Global, tokens: &'a [Token<'a>]) -> Next<'a, EntryExpr>
-    ensures gives { Gives (λ o. option_map (λ p. (entry_of p.0, seen p.1.now)) o) result (next_entry_at (seen tokens.now)) }
-    ensures shorter { IfOk result (λ o. IfSome o (λ p. length (seen p.1.now) < length (seen tokens.now))) }
+    ensures gives { ReadsNext entry_view result (next_entry_at (token_views tokens.now)) }
+    ensures shorter { IfOk result (λ o. IfSome o (λ p. IsShorter p.1.now tokens.now)) }
 {
     let Some(rest) = after_sign(tokens, Sign::Comma) else {
         return Ok(None);
@@ -208,8 +208,8 @@ fn next_entry<'a>(alloc: Global, tokens: &'a [Token<'a>]) -> Next<'a, EntryExpr>
 
 /// `entry { "," entry }`
 fn entries<'a>(alloc: Global, tokens: &'a [Token<'a>]) -> Read<'a, Items<EntryExpr>>
-    ensures gives { Gives (λ p. (map entry_of p.0, seen p.1.now)) result (entries_at (seen tokens.now)) }
-    ensures shorter { IfOk result (λ p. length (seen p.1.now) < length (seen tokens.now)) }
+    ensures gives { Reads (map entry_view) result (entries_at (token_views tokens.now)) }
+    ensures shorter { IfOk result (λ p. IsShorter p.1.now tokens.now) }
 {
     let (first, after) = entry(alloc, tokens)?;
     let mut entries = Items::new(alloc);
@@ -225,7 +225,7 @@ fn entries<'a>(alloc: Global, tokens: &'a [Token<'a>]) -> Read<'a, Items<EntryEx
 /// `[ "accept" "[" block { "," block } "]" ]`
 #[tactic(auto, unfolding(crate::specs::Descent::accept_at))]
 fn accept<'a>(alloc: Global, tokens: &'a [Token<'a>]) -> Read<'a, Items<BlockExpr>>
-    ensures gives { Gives (λ p. (map block_of p.0, seen p.1.now)) result (accept_at (seen tokens.now)) }
+    ensures gives { Reads (map block_view) result (accept_at (token_views tokens.now)) }
 {
     let Some(rest) = after_keyword(tokens, Keyword::Accept) else {
         return Ok((Items::new(alloc), tokens));
@@ -239,7 +239,7 @@ fn accept<'a>(alloc: Global, tokens: &'a [Token<'a>]) -> Read<'a, Items<BlockExp
 /// `[ "map" "[" entry { "," entry } "]" ]`
 #[tactic(auto, unfolding(crate::specs::Descent::map_at))]
 fn map<'a>(alloc: Global, tokens: &'a [Token<'a>]) -> Read<'a, Items<EntryExpr>>
-    ensures gives { Gives (λ p. (map entry_of p.0, seen p.1.now)) result (map_at (seen tokens.now)) }
+    ensures gives { Reads (map entry_view) result (map_at (token_views tokens.now)) }
 {
     let Some(rest) = after_keyword(tokens, Keyword::Map) else {
         return Ok((Items::new(alloc), tokens));
@@ -253,7 +253,7 @@ fn map<'a>(alloc: Global, tokens: &'a [Token<'a>]) -> Read<'a, Items<EntryExpr>>
 /// `[ "over" name ]`
 #[tactic(auto, unfolding(crate::specs::Descent::over_at))]
 fn over<'a>(alloc: Global, tokens: &'a [Token<'a>]) -> Read<'a, Option<NameExpr>>
-    ensures gives { Gives (λ p. (maybe_name_of p.0, seen p.1.now)) result (over_at (seen tokens.now)) }
+    ensures gives { Reads maybe_name_view result (over_at (token_views tokens.now)) }
 {
     let Some(rest) = after_keyword(tokens, Keyword::Over) else {
         return Ok((None, tokens));
@@ -265,7 +265,7 @@ fn over<'a>(alloc: Global, tokens: &'a [Token<'a>]) -> Read<'a, Option<NameExpr>
 /// `[ accept ] [ map ] [ over ]`
 #[tactic(auto, unfolding(crate::specs::Descent::spec_at))]
 pub fn spec<'a>(alloc: Global, tokens: &'a [Token<'a>]) -> Read<'a, Spec>
-    ensures gives { Gives (λ p. (spec_of p.0, seen p.1.now)) result (spec_at (seen tokens.now)) }
+    ensures gives { Reads spec_view result (spec_at (token_views tokens.now)) }
 {
     let (accepts, rest) = accept(alloc, tokens)?;
     let (entries, rest) = map(alloc, rest)?;

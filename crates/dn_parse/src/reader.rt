@@ -1,15 +1,15 @@
 //! The reading of a whole text: its tree, or the first fault with its line.
 
-ghost use Rattle.std.specs.Prelude.{◌≡◌, ◌∷◌, [], ◌+◌, ◌^◌, ◌<◌, List, ℕ, length, IfOk, IfErr, MatchOption};
+ghost use Rattle.std.specs.Prelude.{◌≡◌, ◌∷◌, [], ◌+◌, ◌^◌, ◌<◌, List, ℕ, length, Some, Err, IfSome, IfOk, IfErr, MatchOption};
 ghost use Rattle.dn_parse.specs.Token.{Token as SpecToken};
 ghost use Rattle.dn_parse.specs.Machine.{whole};
-ghost use Rattle.dn_parse.specs.Whole.{line_at, last_line, at_stop, judge, no_blocks_yet, text_reading};
+ghost use Rattle.dn_parse.specs.Whole.{line_at, last_line, first_line, at_stop, judge, no_blocks_yet, text_reading};
 ghost use Rattle.dn_parse.specs.Descent.{whole_statement_at};
-ghost use Rattle.dn_parse.specs.Seen.{seen, statement_seen, blocks_seen, tree_seen};
-ghost use Rattle.dn_parse.specs.Giving.{Gives};
-ghost use Rattle.dn_parse.specs.Placing.{IsFault, IsReading, IsTextReading, StartsAt, halted_fault, misplaced_fault, trouble_fault};
+ghost use Rattle.dn_parse.specs.Views.{token_views, statement_view, blocks_view, tree_view};
+ghost use Rattle.dn_base.specs.Answers.{Answers};
+ghost use Rattle.dn_parse.specs.Faults.{parse_fault_view, halt_fault, misplaced_fault, trouble_view, Reads, IsShorter};
 
-use crate::blocks::{Blocks, Misplaced, none, placed};
+use crate::blocks::{Blocks, Misplaced, none, with_statement};
 use crate::cursor::{Halt, Read, sign};
 use crate::lexer::{TokenFault, tokens};
 use crate::statements::{Statement, read_statement};
@@ -46,7 +46,7 @@ const MAX_TEXT: usize = 4_194_304;
 
 /// Reads a text.
 pub fn read(alloc: Global, text: &[u8]) -> Result<Tree, ParseFault>
-    ensures { IsTextReading result (text_reading text.now) }
+    ensures { Answers tree_view parse_fault_view result (text_reading text.now) }
 {
     if text.len() > MAX_TEXT {
         return Err(ParseFault::Length);
@@ -88,7 +88,7 @@ fn last_line(text: &[u8]) -> u32
 
 /// The line of the token with so many left from it on.
 fn line_at(tokens: &[Token], last: u32, left: usize) -> u32
-    ensures { result ≡ line_at last (seen tokens.now) left }
+    ensures { result ≡ line_at last (token_views tokens.now) left }
 {
     match tokens.get(tokens.len().saturating_sub(left)) {
         Some(token) => token.line,
@@ -98,7 +98,7 @@ fn line_at(tokens: &[Token], last: u32, left: usize) -> u32
 
 /// The fault of a reading that stops.
 fn fault_of(halt: Halt, tokens: &[Token], last: u32) -> ParseFault
-    ensures { result ≡ halted_fault halt last (seen tokens.now) }
+    ensures { parse_fault_view result ≡ halt_fault halt last (token_views tokens.now) }
 {
     match halt {
         Halt::Refused(left) => ParseFault::Statement {
@@ -114,8 +114,8 @@ fn fault_of(halt: Halt, tokens: &[Token], last: u32) -> ParseFault
 /// A statement and its `;`.
 #[tactic(auto, unfolding(crate::specs::Descent::whole_statement_at))]
 fn whole_statement<'a>(alloc: Global, tokens: &'a [Token<'a>]) -> Read<'a, Statement>
-    ensures gives { Gives (λ p. (statement_seen p.0, seen p.1.now)) result (whole_statement_at (seen tokens.now)) }
-    ensures shorter { IfOk result (λ p. length (seen p.1.now) < length (seen tokens.now)) }
+    ensures gives { Reads statement_view result (whole_statement_at (token_views tokens.now)) }
+    ensures shorter { IfOk result (λ p. IsShorter p.1.now tokens.now) }
 {
     let (statement, rest) = read_statement(alloc, tokens)?;
     let rest = sign(rest, Sign::Semicolon)?;
@@ -124,7 +124,7 @@ fn whole_statement<'a>(alloc: Global, tokens: &'a [Token<'a>]) -> Read<'a, State
 
 /// The fault of a statement that is misplaced.
 fn misplaced_fault(misplaced: Misplaced, line: u32) -> ParseFault
-    ensures { result ≡ misplaced_fault misplaced line }
+    ensures { parse_fault_view result ≡ misplaced_fault misplaced line }
 {
     match misplaced {
         Misplaced::Forbidden => ParseFault::Block { line },
@@ -142,7 +142,7 @@ enum Trouble {
 
 /// The line of the next token.
 fn first_line(tokens: &[Token]) -> Option<u32>
-    ensures { MatchOption result (seen tokens.now ≡ []) (λ line. StartsAt (seen tokens.now) line) }
+    ensures { result ≡ first_line (token_views tokens.now) }
 {
     match tokens {
         [] => None,
@@ -157,14 +157,18 @@ fn next_place<'a>(
     rest: &'a [Token<'a>],
     line: u32,
 ) -> Result<(Blocks, &'a [Token<'a>]), Trouble>
-    requires { StartsAt (seen rest.now) line }
-    ensures ok { IfOk result (λ p. (last : ℕ) (all : List SpecToken) → judge last all (blocks_seen blocks) (seen rest.now) ≡ judge last all (blocks_seen p.0) (seen p.1.now)) }
-    ensures shorter { IfOk result (λ p. length (seen p.1.now) < length (seen rest.now)) }
-    ensures err { IfErr result (λ e. (last : ℕ) (all : List SpecToken) → IsFault (trouble_fault e last all) (judge last all (blocks_seen blocks) (seen rest.now))) }
+    requires { first_line (token_views rest.now) ≡ Some line }
+    ensures ok { IfOk result (λ p. (last : ℕ) (all : List SpecToken) →
+        judge last all (blocks_view blocks) (token_views rest.now)
+        ≡ judge last all (blocks_view p.0) (token_views p.1.now)) }
+    ensures shorter { IfOk result (λ p. IsShorter p.1.now rest.now) }
+    ensures err { IfErr result (λ e. (last : ℕ) (all : List SpecToken) →
+        IfSome (trouble_view e last all)
+        (λ f. judge last all (blocks_view blocks) (token_views rest.now) ≡ Err f)) }
 {
     match whole_statement(alloc, rest) {
         Err(halt) => Err(Trouble::Halted(halt)),
-        Ok((statement, after)) => match placed(alloc, blocks, line, statement) {
+        Ok((statement, after)) => match with_statement(alloc, blocks, line, statement) {
             Ok(blocks) => Ok((blocks, after)),
             Err(misplaced) => Err(Trouble::Misplaced(misplaced, line)),
         },
@@ -173,8 +177,12 @@ fn next_place<'a>(
 
 /// The blocks that the tokens come to, up to their end.
 fn all_placed<'a>(alloc: Global, tokens: &'a [Token<'a>]) -> Result<Blocks, Trouble>
-    ensures ok { IfOk result (λ b. (last : ℕ) (all : List SpecToken) → judge last all no_blocks_yet (seen tokens.now) ≡ at_stop whole last all (blocks_seen b)) }
-    ensures err { IfErr result (λ e. (last : ℕ) (all : List SpecToken) → IsFault (trouble_fault e last all) (judge last all no_blocks_yet (seen tokens.now))) }
+    ensures ok { IfOk result (λ b. (last : ℕ) (all : List SpecToken) →
+        judge last all no_blocks_yet (token_views tokens.now)
+        ≡ at_stop whole last all (blocks_view b)) }
+    ensures err { IfErr result (λ e. (last : ℕ) (all : List SpecToken) →
+        IfSome (trouble_view e last all)
+        (λ f. judge last all no_blocks_yet (token_views tokens.now) ≡ Err f)) }
 {
     let Some(line) = first_line(tokens) else {
         return Ok(none(alloc));
@@ -191,8 +199,9 @@ fn all_placed<'a>(alloc: Global, tokens: &'a [Token<'a>]) -> Result<Blocks, Trou
 }
 
 /// The tree, where no block is open at the end.
-fn finished(blocks: Blocks, last: u32) -> Result<Tree, ParseFault>
-    ensures { (ts : List SpecToken) → IsReading result (at_stop whole last ts (blocks_seen blocks)) }
+fn finished_tree(blocks: Blocks, last: u32) -> Result<Tree, ParseFault>
+    ensures { (all : List SpecToken) →
+        Answers tree_view parse_fault_view result (at_stop whole last all (blocks_view blocks)) }
 {
     if !blocks.frames.is_empty() {
         return Err(ParseFault::Block { line: last });
@@ -205,10 +214,11 @@ fn finished(blocks: Blocks, last: u32) -> Result<Tree, ParseFault>
 
 /// The tree of a list of tokens, or its first fault; the last line is that of the end of the text.
 fn statements<'a>(alloc: Global, tokens: &'a [Token<'a>], last: u32) -> Result<Tree, ParseFault>
-    ensures { IsReading result (judge last (seen tokens.now) no_blocks_yet (seen tokens.now)) }
+    ensures { Answers tree_view parse_fault_view result
+        (judge last (token_views tokens.now) no_blocks_yet (token_views tokens.now)) }
 {
     match all_placed(alloc, tokens) {
-        Ok(blocks) => finished(blocks, last),
+        Ok(blocks) => finished_tree(blocks, last),
         Err(Trouble::Halted(halt)) => Err(fault_of(halt, tokens, last)),
         Err(Trouble::Misplaced(misplaced, line)) => Err(misplaced_fault(misplaced, line)),
     }

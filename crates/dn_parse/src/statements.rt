@@ -1,10 +1,10 @@
 //! Statements, each up to its `;`.
 
-ghost use Rattle.std.specs.Prelude.{◌≡◌, ◌∷◌, [], ◌<◌, ◌≤◌, length, map, option_map, IfOk, IfSome};
+ghost use Rattle.std.specs.Prelude.{◌≡◌, ◌<◌, map, IfOk, IfSome};
 ghost use Rattle.dn_parse.specs.Words.{spelling};
-ghost use Rattle.dn_parse.specs.Seen.{seen, expr_of, name_of, param_of, arg_of, role_of, declaration_of, order_of, statement_seen};
+ghost use Rattle.dn_parse.specs.Views.{token_views, expr_view, name_view, param_view, arg_view, role_view, declaration_view, order_view, statement_view};
 ghost use Rattle.dn_parse.specs.Descent.{any_word_at, param_at, next_param_at, params_at, closed_params_at, arg_at, next_arg_at, args_at, closed_args_at, next_port_at, ports_at, node_at, measure_at, unit_at, module_at, use_at, loop_at, query_at, grant_at, route_at, order_at, keyword_statement_at, statement_at};
-ghost use Rattle.dn_parse.specs.Giving.{Gives};
+ghost use Rattle.dn_parse.specs.Faults.{Reads, ReadsNext, IsShorter};
 
 use crate::cursor::{Next, Read, after_keyword, after_sign, keyword, next, refusal, sign, word};
 use crate::expressions::expr;
@@ -88,7 +88,7 @@ fn spelling(word: Keyword) -> &'static str
 /// A word of either sort.
 #[tactic(auto, unfolding(crate::specs::Descent::any_word_at))]
 fn any_word<'a>(alloc: Global, tokens: &'a [Token<'a>]) -> Read<'a, Text>
-    ensures gives { Gives (λ p. (p.0, seen p.1.now)) result (any_word_at (seen tokens.now)) }
+    ensures gives { Reads (λ x. x) result (any_word_at (token_views tokens.now)) }
 {
     let Some((token, rest)) = next(tokens) else {
         return Err(refusal(tokens));
@@ -103,8 +103,8 @@ fn any_word<'a>(alloc: Global, tokens: &'a [Token<'a>]) -> Read<'a, Text>
 /// `"num" word | "node" word`
 #[tactic(auto, unfolding(crate::specs::Descent::param_at))]
 fn param<'a>(alloc: Global, tokens: &'a [Token<'a>]) -> Read<'a, Param>
-    ensures gives { Gives (λ p. (param_of p.0, seen p.1.now)) result (param_at (seen tokens.now)) }
-    ensures shorter { IfOk result (λ p. length (seen p.1.now) < length (seen tokens.now)) }
+    ensures gives { Reads param_view result (param_at (token_views tokens.now)) }
+    ensures shorter { IfOk result (λ p. IsShorter p.1.now tokens.now) }
 {
     let Some(rest) = after_keyword(tokens, Keyword::Num) else {
         let rest = keyword(tokens, Keyword::Node)?;
@@ -118,8 +118,8 @@ fn param<'a>(alloc: Global, tokens: &'a [Token<'a>]) -> Read<'a, Param>
 /// `[ "," param ]`
 #[tactic(auto, unfolding(crate::specs::Descent::next_param_at))]
 fn next_param<'a>(alloc: Global, tokens: &'a [Token<'a>]) -> Next<'a, Param>
-    ensures gives { Gives (λ o. option_map (λ p. (param_of p.0, seen p.1.now)) o) result (next_param_at (seen tokens.now)) }
-    ensures shorter { IfOk result (λ o. IfSome o (λ p. length (seen p.1.now) < length (seen tokens.now))) }
+    ensures gives { ReadsNext param_view result (next_param_at (token_views tokens.now)) }
+    ensures shorter { IfOk result (λ o. IfSome o (λ p. IsShorter p.1.now tokens.now)) }
 {
     let Some(rest) = after_sign(tokens, Sign::Comma) else {
         return Ok(None);
@@ -130,8 +130,8 @@ fn next_param<'a>(alloc: Global, tokens: &'a [Token<'a>]) -> Next<'a, Param>
 
 /// `param { "," param }`
 fn some_params<'a>(alloc: Global, tokens: &'a [Token<'a>]) -> Read<'a, Items<Param>>
-    ensures gives { Gives (λ p. (map param_of p.0, seen p.1.now)) result (params_at (seen tokens.now)) }
-    ensures shorter { IfOk result (λ p. length (seen p.1.now) < length (seen tokens.now)) }
+    ensures gives { Reads (map param_view) result (params_at (token_views tokens.now)) }
+    ensures shorter { IfOk result (λ p. IsShorter p.1.now tokens.now) }
 {
     let (first, after) = param(alloc, tokens)?;
     let mut params = Items::new(alloc);
@@ -147,7 +147,7 @@ fn some_params<'a>(alloc: Global, tokens: &'a [Token<'a>]) -> Read<'a, Items<Par
 /// `[ param { "," param } ] ")"`
 #[tactic(auto, unfolding(crate::specs::Descent::closed_params_at))]
 fn params<'a>(alloc: Global, tokens: &'a [Token<'a>]) -> Read<'a, Items<Param>>
-    ensures gives { Gives (λ p. (map param_of p.0, seen p.1.now)) result (closed_params_at (seen tokens.now)) }
+    ensures gives { Reads (map param_view) result (closed_params_at (token_views tokens.now)) }
 {
     if let Some(rest) = after_sign(tokens, Sign::CloseParenthesis) {
         return Ok((Items::new(alloc), rest));
@@ -160,8 +160,8 @@ fn params<'a>(alloc: Global, tokens: &'a [Token<'a>]) -> Read<'a, Items<Param>>
 /// `expr | "node" name`
 #[tactic(auto, unfolding(crate::specs::Descent::arg_at))]
 fn arg<'a>(alloc: Global, tokens: &'a [Token<'a>]) -> Read<'a, Arg>
-    ensures gives { Gives (λ p. (arg_of p.0, seen p.1.now)) result (arg_at (seen tokens.now)) }
-    ensures shorter { IfOk result (λ p. length (seen p.1.now) < length (seen tokens.now)) }
+    ensures gives { Reads arg_view result (arg_at (token_views tokens.now)) }
+    ensures shorter { IfOk result (λ p. IsShorter p.1.now tokens.now) }
 {
     let Some(rest) = after_keyword(tokens, Keyword::Node) else {
         let (value, rest) = expr(alloc, tokens, MOST_INSIDE)?;
@@ -174,8 +174,8 @@ fn arg<'a>(alloc: Global, tokens: &'a [Token<'a>]) -> Read<'a, Arg>
 /// `[ "," arg ]`
 #[tactic(auto, unfolding(crate::specs::Descent::next_arg_at))]
 fn next_arg<'a>(alloc: Global, tokens: &'a [Token<'a>]) -> Next<'a, Arg>
-    ensures gives { Gives (λ o. option_map (λ p. (arg_of p.0, seen p.1.now)) o) result (next_arg_at (seen tokens.now)) }
-    ensures shorter { IfOk result (λ o. IfSome o (λ p. length (seen p.1.now) < length (seen tokens.now))) }
+    ensures gives { ReadsNext arg_view result (next_arg_at (token_views tokens.now)) }
+    ensures shorter { IfOk result (λ o. IfSome o (λ p. IsShorter p.1.now tokens.now)) }
 {
     let Some(rest) = after_sign(tokens, Sign::Comma) else {
         return Ok(None);
@@ -186,8 +186,8 @@ fn next_arg<'a>(alloc: Global, tokens: &'a [Token<'a>]) -> Next<'a, Arg>
 
 /// `arg { "," arg }`
 fn some_args<'a>(alloc: Global, tokens: &'a [Token<'a>]) -> Read<'a, Items<Arg>>
-    ensures gives { Gives (λ p. (map arg_of p.0, seen p.1.now)) result (args_at (seen tokens.now)) }
-    ensures shorter { IfOk result (λ p. length (seen p.1.now) < length (seen tokens.now)) }
+    ensures gives { Reads (map arg_view) result (args_at (token_views tokens.now)) }
+    ensures shorter { IfOk result (λ p. IsShorter p.1.now tokens.now) }
 {
     let (first, after) = arg(alloc, tokens)?;
     let mut args = Items::new(alloc);
@@ -203,7 +203,7 @@ fn some_args<'a>(alloc: Global, tokens: &'a [Token<'a>]) -> Read<'a, Items<Arg>>
 /// `[ arg { "," arg } ] ")"`
 #[tactic(auto, unfolding(crate::specs::Descent::closed_args_at))]
 fn args<'a>(alloc: Global, tokens: &'a [Token<'a>]) -> Read<'a, Items<Arg>>
-    ensures gives { Gives (λ p. (map arg_of p.0, seen p.1.now)) result (closed_args_at (seen tokens.now)) }
+    ensures gives { Reads (map arg_view) result (closed_args_at (token_views tokens.now)) }
 {
     if let Some(rest) = after_sign(tokens, Sign::CloseParenthesis) {
         return Ok((Items::new(alloc), rest));
@@ -216,8 +216,8 @@ fn args<'a>(alloc: Global, tokens: &'a [Token<'a>]) -> Read<'a, Items<Arg>>
 /// `[ "," name ]`
 #[tactic(auto, unfolding(crate::specs::Descent::next_port_at))]
 fn next_port<'a>(alloc: Global, tokens: &'a [Token<'a>]) -> Next<'a, NameExpr>
-    ensures gives { Gives (λ o. option_map (λ p. (name_of p.0, seen p.1.now)) o) result (next_port_at (seen tokens.now)) }
-    ensures shorter { IfOk result (λ o. IfSome o (λ p. length (seen p.1.now) < length (seen tokens.now))) }
+    ensures gives { ReadsNext name_view result (next_port_at (token_views tokens.now)) }
+    ensures shorter { IfOk result (λ o. IfSome o (λ p. IsShorter p.1.now tokens.now)) }
 {
     let Some(rest) = after_sign(tokens, Sign::Comma) else {
         return Ok(None);
@@ -228,8 +228,8 @@ fn next_port<'a>(alloc: Global, tokens: &'a [Token<'a>]) -> Next<'a, NameExpr>
 
 /// `name { "," name }`, at most eight: a ninth is left where it stands.
 fn ports<'a>(alloc: Global, tokens: &'a [Token<'a>]) -> Read<'a, Items<NameExpr>>
-    ensures gives { Gives (λ p. (map name_of p.0, seen p.1.now)) result (ports_at (seen tokens.now)) }
-    ensures shorter { IfOk result (λ p. length (seen p.1.now) < length (seen tokens.now)) }
+    ensures gives { Reads (map name_view) result (ports_at (token_views tokens.now)) }
+    ensures shorter { IfOk result (λ p. IsShorter p.1.now tokens.now) }
 {
     let (first, after) = name(alloc, tokens, MOST_OPEN)?;
     let mut ports = Items::new(alloc);
@@ -251,7 +251,8 @@ fn ports<'a>(alloc: Global, tokens: &'a [Token<'a>]) -> Read<'a, Items<NameExpr>
 /// `name "is" spec`
 #[tactic(auto, unfolding(crate::specs::Descent::node_at))]
 fn node<'a>(alloc: Global, tokens: &'a [Token<'a>], role: DeclRole) -> Read<'a, Decl>
-    ensures gives { Gives (λ p. (declaration_of p.0, seen p.1.now)) result (node_at (role_of role) (seen tokens.now)) }
+    ensures gives { Reads declaration_view result
+        (node_at (role_view role) (token_views tokens.now)) }
 {
     let (name, rest) = name(alloc, tokens, MOST_OPEN)?;
     let rest = keyword(rest, Keyword::Is)?;
@@ -262,7 +263,7 @@ fn node<'a>(alloc: Global, tokens: &'a [Token<'a>], role: DeclRole) -> Read<'a, 
 /// A reserved word, and then an expression.
 #[tactic(auto, unfolding(crate::specs::Descent::measure_at))]
 fn measure<'a>(alloc: Global, tokens: &'a [Token<'a>], word: Keyword) -> Read<'a, Expr>
-    ensures gives { Gives (λ p. (expr_of p.0, seen p.1.now)) result (measure_at word (seen tokens.now)) }
+    ensures gives { Reads expr_view result (measure_at word (token_views tokens.now)) }
 {
     let rest = keyword(tokens, word)?;
     expr(alloc, rest, MOST_OPEN)
@@ -271,7 +272,7 @@ fn measure<'a>(alloc: Global, tokens: &'a [Token<'a>], word: Keyword) -> Read<'a
 /// `name "kind" any "page" expr "slots" expr "reach" expr "to" name { "," name }`
 #[tactic(auto, unfolding(crate::specs::Descent::unit_at))]
 fn unit<'a>(alloc: Global, tokens: &'a [Token<'a>]) -> Read<'a, Decl>
-    ensures gives { Gives (λ p. (declaration_of p.0, seen p.1.now)) result (unit_at (seen tokens.now)) }
+    ensures gives { Reads declaration_view result (unit_at (token_views tokens.now)) }
 {
     let (name, rest) = name(alloc, tokens, MOST_OPEN)?;
     let rest = keyword(rest, Keyword::Kind)?;
@@ -295,7 +296,7 @@ fn unit<'a>(alloc: Global, tokens: &'a [Token<'a>]) -> Read<'a, Decl>
 /// `word "(" [ param { "," param } ] ")"`
 #[tactic(auto, unfolding(crate::specs::Descent::module_at))]
 fn module<'a>(alloc: Global, tokens: &'a [Token<'a>]) -> Read<'a, Statement>
-    ensures gives { Gives (λ p. (statement_seen p.0, seen p.1.now)) result (module_at (seen tokens.now)) }
+    ensures gives { Reads statement_view result (module_at (token_views tokens.now)) }
 {
     let (title, rest) = word(alloc, tokens)?;
     let rest = sign(rest, Sign::OpenParenthesis)?;
@@ -306,7 +307,7 @@ fn module<'a>(alloc: Global, tokens: &'a [Token<'a>]) -> Read<'a, Statement>
 /// `word "(" [ arg { "," arg } ] ")" "as" name`
 #[tactic(auto, unfolding(crate::specs::Descent::use_at))]
 fn instance<'a>(alloc: Global, tokens: &'a [Token<'a>]) -> Read<'a, Statement>
-    ensures gives { Gives (λ p. (statement_seen p.0, seen p.1.now)) result (use_at (seen tokens.now)) }
+    ensures gives { Reads statement_view result (use_at (token_views tokens.now)) }
 {
     let (title, rest) = word(alloc, tokens)?;
     let rest = sign(rest, Sign::OpenParenthesis)?;
@@ -324,7 +325,7 @@ fn instance<'a>(alloc: Global, tokens: &'a [Token<'a>]) -> Read<'a, Statement>
 /// `word "in" expr ".." expr`
 #[tactic(auto, unfolding(crate::specs::Descent::loop_at))]
 fn loop_head<'a>(alloc: Global, tokens: &'a [Token<'a>]) -> Read<'a, Statement>
-    ensures gives { Gives (λ p. (statement_seen p.0, seen p.1.now)) result (loop_at (seen tokens.now)) }
+    ensures gives { Reads statement_view result (loop_at (token_views tokens.now)) }
 {
     let (variable, rest) = word(alloc, tokens)?;
     let (from, rest) = measure(alloc, rest, Keyword::In)?;
@@ -341,7 +342,8 @@ fn loop_head<'a>(alloc: Global, tokens: &'a [Token<'a>]) -> Read<'a, Statement>
 /// `name expr`
 #[tactic(auto, unfolding(crate::specs::Descent::query_at))]
 fn query<'a>(alloc: Global, tokens: &'a [Token<'a>]) -> Read<'a, (NameExpr, Expr)>
-    ensures gives { Gives (λ p. ((name_of p.0.0, expr_of p.0.1), seen p.1.now)) result (query_at (seen tokens.now)) }
+    ensures gives { Reads (λ q. (name_view q.0, expr_view q.1)) result
+        (query_at (token_views tokens.now)) }
 {
     let (name, rest) = name(alloc, tokens, MOST_OPEN)?;
     let (addr, rest) = expr(alloc, rest, MOST_OPEN)?;
@@ -351,7 +353,7 @@ fn query<'a>(alloc: Global, tokens: &'a [Token<'a>]) -> Read<'a, (NameExpr, Expr
 /// `word name name expr expr`
 #[tactic(auto, unfolding(crate::specs::Descent::grant_at))]
 fn grant<'a>(alloc: Global, tokens: &'a [Token<'a>]) -> Read<'a, Order>
-    ensures gives { Gives (λ p. (order_of p.0, seen p.1.now)) result (grant_at (seen tokens.now)) }
+    ensures gives { Reads order_view result (grant_at (token_views tokens.now)) }
 {
     let (id, rest) = word(alloc, tokens)?;
     let (agent, rest) = name(alloc, rest, MOST_OPEN)?;
@@ -364,7 +366,7 @@ fn grant<'a>(alloc: Global, tokens: &'a [Token<'a>]) -> Read<'a, Order>
 /// `word name expr name`
 #[tactic(auto, unfolding(crate::specs::Descent::route_at))]
 fn route<'a>(alloc: Global, tokens: &'a [Token<'a>]) -> Read<'a, Order>
-    ensures gives { Gives (λ p. (order_of p.0, seen p.1.now)) result (route_at (seen tokens.now)) }
+    ensures gives { Reads order_view result (route_at (token_views tokens.now)) }
 {
     let (id, rest) = word(alloc, tokens)?;
     let (agent, rest) = name(alloc, rest, MOST_OPEN)?;
@@ -381,7 +383,8 @@ fn order<'a>(
     whole: &'a [Token<'a>],
     tokens: &'a [Token<'a>],
 ) -> Read<'a, Order>
-    ensures gives { Gives (λ p. (order_of p.0, seen p.1.now)) result (order_at word_of (seen whole.now) (seen tokens.now)) }
+    ensures gives { Reads order_view result
+        (order_at word_of (token_views whole.now) (token_views tokens.now)) }
 {
     match word_of {
         Keyword::Resolve => {
@@ -420,7 +423,8 @@ fn keyword_statement<'a>(
     whole: &'a [Token<'a>],
     tokens: &'a [Token<'a>],
 ) -> Read<'a, Statement>
-    ensures gives { Gives (λ p. (statement_seen p.0, seen p.1.now)) result (keyword_statement_at word (seen whole.now) (seen tokens.now)) }
+    ensures gives { Reads statement_view result
+        (keyword_statement_at word (token_views whole.now) (token_views tokens.now)) }
 {
     match word {
         Keyword::Agent => {
@@ -450,7 +454,7 @@ fn keyword_statement<'a>(
 /// A statement, up to its `;`.
 #[tactic(auto, unfolding(crate::specs::Descent::statement_at))]
 pub fn read_statement<'a>(alloc: Global, tokens: &'a [Token<'a>]) -> Read<'a, Statement>
-    ensures gives { Gives (λ p. (statement_seen p.0, seen p.1.now)) result (statement_at (seen tokens.now)) }
+    ensures gives { Reads statement_view result (statement_at (token_views tokens.now)) }
 {
     let Some((token, rest)) = next(tokens) else {
         return Err(refusal(tokens));

@@ -4,7 +4,7 @@ use Rattle.std.specs.List.{list_any, prefix_len}
 use Rattle.std.proofs.lemmas.Slice.Eq.{bytes_eq-Decides}
 use Rattle.dn_parse.specs.Token.{Token, tokens}
 use Rattle.dn_parse.specs.Tree.{declares, Declaration, Item, declared, Items, items, Tree}
-use Rattle.dn_parse.specs.Whole.{Blocks, judge, reading, no_blocks_yet, last_line, too_long, of_reading, of_token_list, text_reading}
+use Rattle.dn_parse.specs.Whole.{Blocks, judge, reading, no_blocks_yet, last_line, too_long, of_token_list, text_reading}
 use Rattle.dn_parse.specs.Descent.{whole_statement_at}
 use Rattle.dn_parse.specs.Going.{tokens_of}
 use Rattle.dn_parse.proofs.Going.{tokens_go_on}
@@ -12,7 +12,6 @@ use Rattle.dn_parse.proofs.Lexed.{with_tokens}
 use Rattle.dn_parse.proofs.Judge.{judge_step, judge_end}
 use Rattle.dn_net.specs.declared.node.NodeDecl.{NodeDecl}
 use Rattle.dn_module.specs.declared.draft.Draft.{Draft}
-use Rattle.dn_module.specs.declared.fault.ExpandFault.TheVariants.{Unknown}
 use Rattle.dn_module.specs.Values.{each, ◌>>=◌}
 use Rattle.dn_module.specs.Drafts.{names, refers_to_known, node_in, linked, with_draft, declared_by}
 use Rattle.dn_module.specs.Expand.{outside, statements, all_rewritten, expanded, most_steps, nothing_yet}
@@ -22,6 +21,7 @@ use Rattle.dn_print.proofs.Formed.{Each, GoodDraft}
 use Rattle.dn_print.proofs.Grown.{bare, reline, relined, names_relined, Grown, grown_few, fits_alike, fits_added, map_bare_more}
 use Rattle.dn_print.proofs.Nodes.{Said, statement_said}
 use Rattle.dn_print.proofs.Pieces.{Named}
+use Rattle.dn_module.specs.Faults.{is_unknown}
 
 -- the node of a known name has that name
 named_from : (known : List (List ℕ)) (ds : List Draft) (t : List ℕ) → IsTrue (list_any (bytes_eq t) (names ds)) → node_text (slice_get (map (node_in known) ds) (prefix_len (λ x. not (bytes_eq t x)) (names ds))) ≡ t
@@ -52,7 +52,7 @@ each_head {A} {B} {E} f x xs ys e = go (f x) refl (each f xs) refl e
 linked_by : (known : List (List ℕ)) (d : Draft) (n : NodeDecl) → linked known d ≡ Ok n → Refers known d × (n ≡ node_in known d)
 linked_by known d n e = go (refers_to_known known d) refl e
   where
-    go : (b : Bool) → refers_to_known known d ≡ b → cond b (Ok (node_in known d)) (Err (Unknown d.line)) ≡ Ok n → Refers known d × (n ≡ node_in known d)
+    go : (b : Bool) → refers_to_known known d ≡ b → cond b (Ok (node_in known d)) (Err (is_unknown d.line)) ≡ Ok n → Refers known d × (n ≡ node_in known d)
     go true p g = (p, (let s : node_in known d ≡ n = cc in sym s))
     go false p g = cc
 
@@ -65,7 +65,7 @@ linked_all known (d ∷ ds) net e =
     ((one.0, more.0), h.4 ∙ ap (λ (n : NodeDecl). n ∷ h.1) one.1 ∙ ap (λ (l : List NodeDecl). node_in known d ∷ l) more.1)
 
 linked_one : (known : List (List ℕ)) (line : ℕ) (d : Draft) → Refers known d → linked known (reline line d) ≡ Ok (node_in known d)
-linked_one known line d h = ap (λ b. cond b (Ok (node_in known d)) (Err (Unknown line))) h
+linked_one known line d h = ap (λ b. cond b (Ok (node_in known d)) (Err (is_unknown line))) h
 
 linked_again : (known : List (List ℕ)) (line : ℕ) (ds : List Draft) → Each (Refers known) ds → each (linked known) (relined line ds) ≡ Ok (map (node_in known) ds)
 linked_again known line [] h = refl
@@ -128,7 +128,7 @@ unfolding text_reading reading judge
 reads text found tree short e j =
     ap (λ b. cond b (of_token_list (last_line text) (tokens text)) (Err too_long)) (le-leb (length text) 4194304 short)
     ∙ ap (of_token_list (last_line text)) e
-    ∙ ap of_reading j
+    ∙ j
 
 enough_steps : 1024 ≤ most_steps
 unfolding most_steps

@@ -2,8 +2,8 @@
 use Rattle.std.proofs.Common.{◌≡◌, ◌∙◌, ap, ap₂, sym, refl, subst, ℕ, ◌+◌, ◌≤◌, Bool, true, false, cond, ◌&&◌, if◌then◌else◌, nat_lt, List, [], ◌∷◌, ◌++◌, map, length, length-append, fold, Option, Some, None, Ok, Err, arith, append_assoc, append-nil, ltb-false}
 use Rattle.std.proofs.lemmas.List.{length-map, map-append}
 use Rattle.dn_module.specs.declared.draft.Draft.{Draft}
-use Rattle.dn_module.specs.declared.fault.ExpandFault.TheVariants.{Duplicate}
 use Rattle.dn_module.specs.Drafts.{names, is_known, is_agent, agents_of, parts_of, all_parts, limit_passed, by_limit, with_draft}
+use Rattle.dn_module.specs.Faults.{is_duplicate}
 
 -- a node without its line, and with another
 abbrev pub bare : Draft → Draft
@@ -77,7 +77,7 @@ fits_added acc d h = rw (h.0, h.1) refl
 pub added_fits : (acc ds : List Draft) (d : Draft) → with_draft acc d ≡ Ok ds → Fits acc d × (ds ≡ acc ++ d ∷ [])
 added_fits acc ds d e = go (is_known (names acc) d.name) refl (limit_passed acc d) refl e
   where
-    go : (b : Bool) → is_known (names acc) d.name ≡ b → (o : Option ℕ) → limit_passed acc d ≡ o → cond b (Err (Duplicate d.line)) (by_limit o acc d) ≡ Ok ds → Fits acc d × (ds ≡ acc ++ d ∷ [])
+    go : (b : Bool) → is_known (names acc) d.name ≡ b → (o : Option ℕ) → limit_passed acc d ≡ o → cond b (Err (is_duplicate d.line)) (by_limit o acc d) ≡ Ok ds → Fits acc d × (ds ≡ acc ++ d ∷ [])
     go true p o q g = cc
     go false p None q g = ((p, q), (let s : acc ++ d ∷ [] ≡ ds = cc in sym s))
     go false p (Some n) q g = cc

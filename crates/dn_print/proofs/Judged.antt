@@ -4,7 +4,7 @@ use Rattle.dn_parse.specs.Token.{Token, tokens}
 use Rattle.dn_parse.specs.Tree.{Statement, declares, heads_module, uses, heads_loop, ends, begins, orders, Placed, Item, items, Command, Tree}
 use Rattle.dn_parse.specs.Machine.{Stop, whole, refused, deep}
 use Rattle.dn_parse.specs.Descent.{Read, whole_statement_at}
-use Rattle.dn_parse.specs.Whole.{Opener, opens_module, opens_loop, Frame, Blocks, no_blocks_yet, closed_block, Step, going, forbidden, crowded, with_item, with_frame, without_frame, outside_blocks, before_begin, after_begin, step, Fault, at_stop, by_step, judge, reading, of_reading, too_long, of_token_list, last_line, text_reading}
+use Rattle.dn_parse.specs.Whole.{Opener, opens_module, opens_loop, Frame, Blocks, no_blocks_yet, closed_block, Step, crowded, with_item, with_frame, without_frame, outside_blocks, before_begin, after_begin, step, TextFault, at_stop, by_step, judge, reading, too_long, of_token_list, last_line, text_reading}
 use Rattle.dn_parse.proofs.Judge.{judge_step, judge_stop, judge_end, statement_shorter}
 use Rattle.dn_print.proofs.Formed.{Each, each_both}
 use Rattle.dn_print.proofs.Proper.{Proper, tokens_proper}
@@ -22,9 +22,8 @@ abbrev GoodBlocks : Blocks → Type 0
 GoodBlocks b = Each GoodFrame b.frames × Each GoodItem b.body
 
 abbrev GoodStep : Step → Type 0
-GoodStep (going b) = GoodBlocks b
-GoodStep forbidden = Unit {0}
-GoodStep crowded = Unit {0}
+GoodStep (Ok b) = GoodBlocks b
+GoodStep (Err m) = Unit {0}
 
 items_good : (is : List Item) → Each GoodItem is → GoodItems (items is)
 items_good [] h = tt
@@ -40,7 +39,7 @@ with_item_good b i h g = (h.0, each_both GoodItem b.body (i ∷ []) h.1 (g, tt))
 with_frame_good : (b : Blocks) (line : ℕ) (o : Opener) → GoodBlocks b → GoodOpener o → GoodStep (with_frame b line o)
 with_frame_good b line o h g = go (nat_lt (length b.frames) 16)
   where
-    go : (t : Bool) → GoodStep (cond t (going (record { frames = record { line = line; opener = o; before = b.body } ∷ b.frames; body = []; begun = b.begun; commands = b.commands })) crowded)
+    go : (t : Bool) → GoodStep (cond t (Ok (record { frames = record { line = line; opener = o; before = b.body } ∷ b.frames; body = []; begun = b.begun; commands = b.commands })) (Err crowded))
     go true = (((g, h.1), h.0), tt)
     go false = tt
 
@@ -58,7 +57,7 @@ before_good b line (heads_module w ps) h g = outside_good b.frames _ (with_frame
 before_good b line (uses w xs n) h g = with_item_good b _ h g
 before_good b line (heads_loop w from upto) h g = with_frame_good b line (opens_loop w from upto) h g
 before_good b line ends h g = without_frame_good b b.frames h.0 h.1
-before_good b line begins h g = outside_good b.frames (going (record { frames = b.frames; body = b.body; begun = true; commands = b.commands })) h
+before_good b line begins h g = outside_good b.frames (Ok (record { frames = b.frames; body = b.body; begun = true; commands = b.commands })) h
 before_good b line (orders o) h g = tt
 
 after_good : (b : Blocks) (line : ℕ) (s : Statement) → GoodBlocks b → GoodStep (after_begin b line s)
@@ -82,10 +81,9 @@ stop_good whole last all b tree h e = whole_good last all b.frames b.body b.begu
 stop_good (refused n) last all b tree h e = cc
 stop_good (deep n) last all b tree h e = cc
 
-by_good : (s : Step) (line : ℕ) (next : Blocks → Result Tree Fault) (tree : Tree) → GoodStep s → ((b : Blocks) → GoodBlocks b → next b ≡ Ok tree → GoodItems tree.body) → by_step s line next ≡ Ok tree → GoodItems tree.body
-by_good (going b) line next tree h more e = more b h e
-by_good forbidden line next tree h more e = cc
-by_good crowded line next tree h more e = cc
+by_good : (s : Step) (line : ℕ) (next : Blocks → Result Tree TextFault) (tree : Tree) → GoodStep s → ((b : Blocks) → GoodBlocks b → next b ≡ Ok tree → GoodItems tree.body) → by_step s line next ≡ Ok tree → GoodItems tree.body
+by_good (Ok b) line next tree h more e = more b h e
+by_good (Err m) line next tree h more e = cc
 
 judged_good : (n last : ℕ) (all ts : List Token) (b : Blocks) (tree : Tree) → length ts < n → Proper ts → GoodBlocks b → judge last all b ts ≡ Ok tree → GoodItems tree.body
 judged_good zero last all ts b tree l p h e = absurd (omega (arith, l))
@@ -102,14 +100,8 @@ reading_is : (last : ℕ) (ts : List Token) → judge last ts no_blocks_yet ts �
 unfolding reading judge
 reading_is last ts = refl
 
-of_good : (last : ℕ) (ts : List Token) (tree : Tree) → Proper ts → of_reading (reading last ts) ≡ Ok tree → GoodItems tree.body
-of_good last ts tree p e = go (reading last ts) refl e
-  where
-    go : (r : Result Tree Fault) → reading last ts ≡ r → of_reading r ≡ Ok tree → GoodItems tree.body
-    go (Ok found) is f =
-        let same : found ≡ tree = cc in
-        subst (λ (t : Tree). GoodItems t.body) same (judged_good (suc (length ts)) last ts ts no_blocks_yet found (omega arith) p (tt, tt) (reading_is last ts ∙ is))
-    go (Err z) is f = cc
+of_good : (last : ℕ) (ts : List Token) (tree : Tree) → Proper ts → reading last ts ≡ Ok tree → GoodItems tree.body
+of_good last ts tree p e = judged_good (suc (length ts)) last ts ts no_blocks_yet tree (omega arith) p (tt, tt) (reading_is last ts ∙ e)
 
 list_good : (last : ℕ) (text : List ℕ) (r : Result (List Token) ℕ) (tree : Tree) → tokens text ≡ r → of_token_list last r ≡ Ok tree → GoodItems tree.body
 list_good last text (Ok ts) tree is e = of_good last ts tree (tokens_proper text ts is) e

@@ -4,8 +4,6 @@ use Rattle.dn_parse.specs.Tree.{Expression, constant, variable, sum, product, mi
 use Rattle.dn_net.specs.declared.node.NodeDecl.{NodeDecl}
 use Rattle.dn_module.specs.declared.draft.Draft.{Draft}
 use Rattle.dn_module.specs.declared.command.Command.{Command}
-use Rattle.dn_module.specs.declared.fault.ExpandFault.{ExpandFault}
-use Rattle.dn_module.specs.declared.fault.ExpandFault.TheVariants.{Duplicate, Arguments, TooMany}
 use Rattle.dn_module.specs.Values.{Flaw, unknown_variable, out_of_range, ◌>>=◌, each, fitting, difference, value, values, value_or, sum_of, product_of, part_by, part_text, after_dots, dotted, full_name, full_name_or_none}
 use Rattle.dn_module.specs.Drafts.{at_line, block_of, dest_of, entry_of, draft_of, declared_by, names, with_draft, linked}
 use Rattle.dn_module.specs.Commands.{commands_of}
@@ -16,6 +14,7 @@ use Rattle.dn_print.proofs.Formed.{Each, Maybe, GoodBlock, GoodDest, GoodEntry, 
 use Rattle.dn_print.proofs.Trees.{Small, GoodPart, Some1, GoodName, SmallBlock, NamedDest, NamedEntry, GoodSpec, GoodDeclaration, GoodArg, GoodItem, GoodItems}
 use Rattle.dn_print.proofs.Grown.{Grown, grown_more, added_fits}
 use Rattle.dn_print.proofs.Kept.{Standing, IsSmallNumber, items_kept}
+use Rattle.dn_module.specs.Faults.{ExpansionFault, is_duplicate, has_other_arguments, passes_limit}
 
 -- what is given, where there is no fault
 abbrev YieldsBy : {A E : Type 0} → (A → Type 0) → Result A E → Type 0
@@ -147,7 +146,7 @@ GoodNext p = Each GoodWork p.0 × GoodState p.1
 added_yields : (ds : List Draft) (d : Draft) → GoodDrafts ds → GoodDraft d → Yields GoodDrafts (with_draft ds d)
 added_yields ds d h g = go (with_draft ds d) refl
   where
-    go : (r : Result (List Draft) ExpandFault) → with_draft ds d ≡ r → Yields GoodDrafts r
+    go : (r : Result (List Draft) ExpansionFault) → with_draft ds d ≡ r → Yields GoodDrafts r
     go (Ok es) e =
         let a = added_fits ds es d e in
         record { it = subst GoodDrafts (sym a.1) (each_both GoodDraft ds (d ∷ []) h.0 (g, tt), grown_more [] ds d h.1 a.0) }
@@ -156,7 +155,7 @@ added_yields ds d h g = go (with_draft ds d) refl
 module_yields : (modules : List Module) (line : ℕ) (m : Module) → Each GoodModule modules → GoodModule m → Yields (Each GoodModule) (with_module modules line m)
 module_yields modules line m h g = go (nat_lt 256 (length modules + 1)) (is_module modules m.title || has_twice (map word_of_param m.params))
   where
-    go : (a b : Bool) → Yields (Each GoodModule) (cond a (Err (TooMany line 256)) (cond b (Err (Duplicate line)) (Ok (modules ++ m ∷ []))))
+    go : (a b : Bool) → Yields (Each GoodModule) (cond a (Err (passes_limit line 256)) (cond b (Err (is_duplicate line)) (Ok (modules ++ m ∷ []))))
     go true b = record { it = tt }
     go false true = record { it = tt }
     go false false = record { it = each_both GoodModule modules (m ∷ []) h (g, tt) }
@@ -222,7 +221,7 @@ use_yields line args prefix (Some p) h g f = go (fit p.1.params args)
     works : Yields (Each GoodWork) (at_line line (each given_by args) >>= λ givens. at_line line (full_name prefix) >>= λ text. Ok (statements (within_module p.0) (used_body p.1 givens text)))
     works = bind (at_line line (each given_by args)) _ (at_yields (Each GoodGiven) line (each given_by args) (only_each GoodArg GoodGiven given_by arg_yields args h)) (λ gs u. bind (at_line line (full_name prefix)) _ (at_yields IsFull line (full_name prefix) (name_yields prefix g)) (λ t v. given (statements_good (within_module p.0) (used_body p.1 gs t) (used_good p.1 gs t f u v))))
 
-    go : (b : Bool) → Yields (Each GoodWork) (cond b (at_line line (each given_by args) >>= λ givens. at_line line (full_name prefix) >>= λ text. Ok (statements (within_module p.0) (used_body p.1 givens text))) (Err (Arguments line)))
+    go : (b : Bool) → Yields (Each GoodWork) (cond b (at_line line (each given_by args) >>= λ givens. at_line line (full_name prefix) >>= λ text. Ok (statements (within_module p.0) (used_body p.1 givens text))) (Err (has_other_arguments line)))
     go true = works
     go false = record { it = tt }
 
@@ -263,12 +262,12 @@ pub record From (net : List NodeDecl) : Type 0 where
   pub grown : Grown [] drafts
   pub linked_is : each (linked (names drafts)) drafts ≡ Ok net
 
-net_from : (state : State) (commands : Result (List Command) ExpandFault) (net : Result (List NodeDecl) ExpandFault) (made : Outcome) → GoodState state → each (linked (names state.drafts)) state.drafts ≡ net → (commands >>= λ cs. net >>= λ n. Ok (record { net = n; commands = cs })) ≡ Ok made → From made.net
+net_from : (state : State) (commands : Result (List Command) ExpansionFault) (net : Result (List NodeDecl) ExpansionFault) (made : Outcome) → GoodState state → each (linked (names state.drafts)) state.drafts ≡ net → (commands >>= λ cs. net >>= λ n. Ok (record { net = n; commands = cs })) ≡ Ok made → From made.net
 net_from state (Ok cs) (Ok n) made h is e = let same : record { net = n; commands = cs } ≡ made = cc in subst (λ (o : Outcome). From o.net) same (record { drafts = state.drafts; good = h.1.0; grown = h.1.1; linked_is = is })
 net_from state (Ok cs) (Err f) made h is e = cc
 net_from state (Err f) net made h is e = cc
 
-state_from : (r : Result State ExpandFault) (tree : Tree) (made : Outcome) → Yields GoodState r → (r >>= λ state. commands_of (names state.drafts) tree.commands >>= λ cs. each (linked (names state.drafts)) state.drafts >>= λ n. Ok (record { net = n; commands = cs })) ≡ Ok made → From made.net
+state_from : (r : Result State ExpansionFault) (tree : Tree) (made : Outcome) → Yields GoodState r → (r >>= λ state. commands_of (names state.drafts) tree.commands >>= λ cs. each (linked (names state.drafts)) state.drafts >>= λ n. Ok (record { net = n; commands = cs })) ≡ Ok made → From made.net
 state_from (Ok state) tree made h e = net_from state (commands_of (names state.drafts) tree.commands) (each (linked (names state.drafts)) state.drafts) made h.it refl e
 state_from (Err f) tree made h e = cc
 

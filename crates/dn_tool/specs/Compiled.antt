@@ -6,7 +6,7 @@ use Rattle.dn_net.specs.declared.node.NodeDecl.{NodeDecl}
 use Rattle.dn_net.specs.Rules.{BrokenNode, node_fault}
 use Rattle.dn_net.specs.WalkRules.{Broken, walk_fault}
 use Rattle.dn_module.specs.declared.command.Command.{Command}
-use Rattle.dn_module.specs.declared.fault.ExpandFault.{ExpandFault}
+use Rattle.dn_module.specs.Faults.{ExpansionFault}
 use Rattle.dn_module.specs.Expand.{Outcome, expanded}
 use Rattle.dn_tool.specs.declared.refusal.Rule.{Rule}
 use Rattle.dn_tool.specs.declared.compile.CompileFault.{CompileFault}
@@ -26,7 +26,7 @@ by_node_rules o (Some fault) = refused (node_refusal o.net fault)
 by_node_rules o None = by_walk_rules o (walk_fault o.net)
 
 -- the node rules, and then the rules on walks
-abbrev pub compiled_outcome : Result Outcome ExpandFault → Compiled
+abbrev pub compiled_outcome : Result Outcome ExpansionFault → Compiled
 compiled_outcome (Err fault) = refused (expand_refusal fault)
 compiled_outcome (Ok o) = by_node_rules o (node_fault o.net)
 

@@ -1,15 +1,12 @@
 -- A refusal: the rule that a text breaks, and the line that says so, without its end.
 use Rattle.std.specs.Prelude.{ℕ, ◌<◌, List, ◌++◌, codes, IsTrue}
 use Rattle.std.specs.Fmt.{decimal}
-use Rattle.dn_parse.specs.declared.reader.ParseFault.{ParseFault}
-use Rattle.dn_parse.specs.declared.reader.ParseFault.TheVariants.{Length as TooLong, Token as BadToken, Statement as BadStatement, Block as BadBlock, Nesting as TooDeep, OutOfMemory as NoMemory}
-use Rattle.dn_parse.specs.Whole.{Fault, statement_fault, block_fault, nesting_fault, TextFault, too_long, bad_token, of_tokens}
+use Rattle.dn_parse.specs.Whole.{TextFault, too_long, bad_token, statement_fault, block_fault, nesting_fault}
 use Rattle.dn_net.specs.declared.node.Name.{Name}
 use Rattle.dn_net.specs.declared.node.NodeDecl.{NodeDecl}
 use Rattle.dn_net.specs.Rules.{BrokenNode, out_of_range, overlapping, repeating, past_space}
 use Rattle.dn_net.specs.WalkRules.{Broken, is_wide, has_loop, is_deep}
-use Rattle.dn_module.specs.declared.fault.ExpandFault.{ExpandFault}
-use Rattle.dn_module.specs.declared.fault.ExpandFault.TheVariants.{Duplicate as MetTwice, Unknown as MetNever, Arguments as OtherArguments, Value as OutOfRange, TooMany as PastLimit, OutOfMemory as NoRoom}
+use Rattle.dn_module.specs.Faults.{ExpansionFault, is_duplicate, is_unknown, has_other_arguments, has_no_value, passes_limit}
 use Rattle.dn_print.specs.Names.{name_text, names_exist}
 use Rattle.dn_print.specs.Statement.{node_name, joined}
 use Rattle.dn_tool.specs.declared.refusal.Rule.{Rule}
@@ -55,34 +52,21 @@ by_limit line limit = record { rule = TooMany; text = codes "refused: line " ++ 
 abbrev pub showing : Rule → List ℕ → Refused
 showing rule text = record { rule = rule; text = codes "refused: " ++ (rule_name rule ++ (codes " " ++ text)) }
 
-abbrev pub statement_refusal : Fault → Refused
-statement_refusal (statement_fault line) = by_line Statement line
-statement_refusal (block_fault line) = by_line Block line
-statement_refusal (nesting_fault line) = by_line Nesting line
-
 -- the refusal of a text that spells no tree
 abbrev pub text_refusal : TextFault → Refused
 text_refusal too_long = by_text Length
 text_refusal (bad_token line) = by_line Token line
-text_refusal (of_tokens fault) = statement_refusal fault
+text_refusal (statement_fault line) = by_line Statement line
+text_refusal (block_fault line) = by_line Block line
+text_refusal (nesting_fault line) = by_line Nesting line
 
--- the fault of a text that the reader's answer says; want of memory says none
-abbrev pub fault_of : ParseFault → TextFault
-fault_of TooLong = too_long
-fault_of (BadToken line) = bad_token line
-fault_of (BadStatement line) = of_tokens (statement_fault line)
-fault_of (BadBlock line) = of_tokens (block_fault line)
-fault_of (TooDeep line) = of_tokens (nesting_fault line)
-fault_of NoMemory = too_long
-
--- the refusal of a tree that expands to no net; want of memory is no broken rule, and never what a tree expands to
-abbrev pub expand_refusal : ExpandFault → Refused
-expand_refusal (MetTwice line) = by_line Duplicate line
-expand_refusal (MetNever line) = by_line Unknown line
-expand_refusal (OtherArguments line) = by_line Arguments line
-expand_refusal (OutOfRange line) = by_line Value line
-expand_refusal (PastLimit line limit) = by_limit line limit
-expand_refusal NoRoom = by_text Length
+-- the refusal of a tree that expands to no net
+abbrev pub expand_refusal : ExpansionFault → Refused
+expand_refusal (is_duplicate line) = by_line Duplicate line
+expand_refusal (is_unknown line) = by_line Unknown line
+expand_refusal (has_other_arguments line) = by_line Arguments line
+expand_refusal (has_no_value line) = by_line Value line
+expand_refusal (passes_limit line limit) = by_limit line limit
 
 -- the refusal of a net by a node rule, by the names of its nodes
 abbrev pub node_refusal : List NodeDecl → BrokenNode → Refused

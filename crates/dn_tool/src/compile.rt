@@ -4,7 +4,7 @@ ghost use Rattle.std.specs.Prelude.{◌≡◌, IfOk, IfErr, IsTrue, Ok, length};
 ghost use Rattle.std.specs.List.{list_all};
 ghost use Rattle.dn_net.specs.Decode.{is_closed};
 ghost use Rattle.dn_module.specs.Commands.{names_within};
-ghost use Rattle.dn_module.specs.Told.{outcome_of};
+ghost use Rattle.dn_module.specs.Finish.{outcome_view};
 ghost use Rattle.dn_tool.specs.Platform.{IsPlatform};
 ghost use Rattle.dn_tool.specs.Compiled.{Compiled, compiled, compiled_outcome, legal, refused, IsRefusedBy};
 
@@ -81,9 +81,9 @@ fn platform_of(alloc: Global, expanded: Expanded) -> Result<Platform, CompileFau
     requires closed { IsTrue (is_closed expanded.net) }
     requires known { IsTrue (list_all (names_within (length expanded.net)) expanded.commands) }
     ensures legal { IfOk result (λ p.
-        compiled_outcome (Ok (outcome_of expanded)) ≡ legal p.net p.commands) }
+        compiled_outcome (Ok (outcome_view expanded)) ≡ legal p.net p.commands) }
     ensures refused { IfErr result (λ e.
-        IsRefusedBy (compiled_outcome (Ok (outcome_of expanded))) e) }
+        IsRefusedBy (compiled_outcome (Ok (outcome_view expanded))) e) }
 {
     let Expanded { net, commands } = expanded;
     if let Err(fault) = net.check_nodes(alloc) {

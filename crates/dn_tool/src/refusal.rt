@@ -1,11 +1,13 @@
 //! The refusal of a text: the rule that it breaks, and the line that says so.
 
-ghost use Rattle.std.specs.Prelude.{◌≡◌, ◌≢◌, ◌<◌, ◌++◌, length, option_map, Some, IfOk, IfSome, OnOk, IsTrue};
+ghost use Rattle.std.specs.Prelude.{◌≡◌, ◌<◌, ◌++◌, length, option_map, Some, IfOk, IfSome, OnOk, IsTrue};
+ghost use Rattle.dn_parse.specs.Faults.{parse_fault_view};
+ghost use Rattle.dn_module.specs.Faults.{expand_fault_view};
 ghost use Rattle.std.specs.String.{string_bytes};
 ghost use Rattle.dn_net.specs.Rules.{node_fault_view};
 ghost use Rattle.dn_walk.specs.Rows.{walk_fault_view};
 ghost use Rattle.dn_print.specs.Names.{name_text, names_exist};
-ghost use Rattle.dn_tool.specs.Refused.{fault_of, rule_name, by_text, by_line, by_limit, showing, text_refusal, expand_refusal, node_refusal, walk_refusal, chain_text, IsNodeWithin, AreNodesWithin};
+ghost use Rattle.dn_tool.specs.Refused.{rule_name, by_text, by_line, by_limit, showing, text_refusal, expand_refusal, node_refusal, walk_refusal, chain_text, IsNodeWithin, AreNodesWithin};
 
 use dn_base::text::Text;
 use dn_module::fault::ExpandFault;
@@ -154,8 +156,7 @@ impl Refusal {
 
 /// The refusal of a text that the reader refuses. Want of memory is handed on.
 pub fn text_refusal(alloc: Global, fault: ParseFault) -> Result<Refusal, AllocError>
-    ensures refusal { IfOk result (λ r. r ≡ text_refusal (fault_of fault)) }
-    ensures broken { IfOk result (λ _. fault ≢ ParseFault.OutOfMemory) }
+    ensures { IfOk result (λ r. option_map text_refusal (parse_fault_view fault) ≡ Some r) }
 {
     match fault {
         ParseFault::Length => Refusal::of_text(alloc, Rule::Length),
@@ -169,8 +170,7 @@ pub fn text_refusal(alloc: Global, fault: ParseFault) -> Result<Refusal, AllocEr
 
 /// The refusal of a tree that expands to no net. Want of memory is handed on.
 pub fn expand_refusal(alloc: Global, fault: ExpandFault) -> Result<Refusal, AllocError>
-    ensures refusal { IfOk result (λ r. r ≡ expand_refusal fault) }
-    ensures broken { IfOk result (λ _. fault ≢ ExpandFault.OutOfMemory) }
+    ensures { IfOk result (λ r. option_map expand_refusal (expand_fault_view fault) ≡ Some r) }
 {
     match fault {
         ExpandFault::Duplicate { line } => Refusal::at_line(alloc, Rule::Duplicate, line),

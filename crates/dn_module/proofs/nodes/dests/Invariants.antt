@@ -1,5 +1,5 @@
 use Rattle.std.proofs.Common.{◌≡◌, map, drop}
-use Rattle.dn_parse.specs.Seen.{dest_of as dest_seen}
+use Rattle.dn_parse.specs.Views.{dest_view}
 use Rattle.dn_module.specs.Drafts.{dest_of}
 use Rattle.dn_module.specs.Values.{each}
 use Rattle.dn_module.specs.Replace.{in_dest}
@@ -7,4 +7,4 @@ use Rattle.dn_module.proofs.Each.{followed}
 use Rattle.dn_module.proofs.nodes.dests.Given as goal
 
 abbrev pub invariant-loop-expr : goal.invariant-loop-expr
-invariant-loop-expr l = each (dest_of l.lo) (map (in_dest l.scope) (map dest_seen l.dests)) ≡ followed l.made.items (each (dest_of l.lo) (map (in_dest l.scope) (map dest_seen (drop l.expr-index l.dests))))
+invariant-loop-expr l = each (dest_of l.lo) (map (in_dest l.scope) (map dest_view l.dests)) ≡ followed l.made.items (each (dest_of l.lo) (map (in_dest l.scope) (map dest_view (drop l.expr-index l.dests))))

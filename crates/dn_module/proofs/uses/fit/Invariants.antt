@@ -1,5 +1,5 @@
 use Rattle.std.proofs.Common.{◌≡◌, length, map, drop}
-use Rattle.dn_parse.specs.Seen.{param_of, arg_of}
+use Rattle.dn_parse.specs.Views.{param_view, arg_view}
 use Rattle.dn_module.specs.Expand.{fit}
 use Rattle.dn_module.proofs.uses.fit.Given as goal
 
@@ -7,5 +7,5 @@ abbrev pub invariant-loop-i : goal.invariant-loop-i
 invariant-loop-i l = record {
   end : l.i-end ≡ length l.params;
   count : length l.params ≡ length l.args;
-  same : fit (map param_of l.params) (map arg_of l.args) ≡ fit (map param_of (drop l.i l.params)) (map arg_of (drop l.i l.args));
+  same : fit (map param_view l.params) (map arg_view l.args) ≡ fit (map param_view (drop l.i l.params)) (map arg_view (drop l.i l.args));
 }

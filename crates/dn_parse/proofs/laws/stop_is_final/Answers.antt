@@ -1,4 +1,3 @@
-use Rattle.dn_parse.proofs.Judge.{judge_step}
 use Rattle.dn_parse.proofs.Final.{final}
 use Rattle.dn_parse.proofs.laws.stop_is_final.Goals as goal
 

@@ -1,13 +1,13 @@
 use Rattle.std.proofs.Common.{◌≡◌, ◌∙◌, ap, sym, subst, rules, tests, true, false, [], map, List, ℕ, ◌<◌, length}
 use Rattle.std.proofs.lemmas.List.{map-append}
 use Rattle.dn_parse.specs.Token.{Token, is_line_feed}
-use Rattle.dn_parse.specs.Lexing.{token_of, begins_comment, front_of}
+use Rattle.dn_parse.specs.Lexing.{token_view, begins_comment, front_of}
 use Rattle.dn_parse.proofs.Lexed.{Before, at_same, at_start, at_line, at_blank, at_comment, at_token, at_bad, at_end}
 use Rattle.dn_parse.proofs.lexer.tokens.Goals as goal
 
 pub text-init : goal.text-init
 text-init c =
-    let none : [] ≡ map token_of c.new-found.result.items = search rules in
+    let none : [] ≡ map token_view c.new-found.result.items = search rules in
     subst (λ (found : List Token). Before c.args.text.now found 1 c.args.text.now) none (at_start c.args.text.now)
 
 pub text-preserved-then-byte-eq10 : goal.text-preserved-then-byte-eq10
@@ -26,8 +26,8 @@ text-preserved-then-is_comment c =
     let comment = ap begins_comment (sym c.in-Some.ensures) ∙ sym c.if-is_comment.ensures in
     at_same (at_comment (at_same c.text.invariant c.in-Some.ensures) no_line (sym c.if-is_blank.ensures) comment) (sym c.after_comment-rest.ensures)
 
-pub returns-in_default-front-clause-err : goal.returns-in_default-front-clause-err
-returns-in_default-front-clause-err c =
+pub returns-in_default-front : goal.returns-in_default-front
+returns-in_default-front c =
     let no_line : is_line_feed c.in-Some.byte ≡ false = search (rules, tests) in
     let no_comment = ap begins_comment (sym c.in-Some.ensures) ∙ sym c.if-is_comment.ensures in
     at_bad (at_same c.text.invariant c.in-Some.ensures) no_line (sym c.if-is_blank.ensures) no_comment (ap front_of (sym c.in-Some.ensures) ∙ c.in_default-front.ensures.seen)
@@ -36,9 +36,9 @@ pub text-preserved : goal.text-preserved
 text-preserved c =
     let no_line : is_line_feed c.in-Some.byte ≡ false = search (rules, tests) in
     let no_comment = ap begins_comment (sym c.in-Some.ensures) ∙ sym c.if-is_comment.ensures in
-    let items = ap (map token_of) c.in_ok-push.ensures.items ∙ map-append token_of _ _ in
+    let items = ap (map token_view) c.in_ok-push.ensures.items ∙ map-append token_view _ _ in
     let shorter = subst (λ (s : List ℕ). length c.in-Some-front.after.now < length s) c.in-Some.ensures c.in-Some-front.ensures.shorter in
     subst (λ (found : List Token). Before c.args.text.now found c.text.line c.in-Some-front.after.now) (sym items) (at_token (at_same c.text.invariant c.in-Some.ensures) no_line (sym c.if-is_blank.ensures) no_comment (ap front_of (sym c.in-Some.ensures) ∙ c.in-Some-front.ensures.seen) shorter)
 
-pub returns-clause-ok : goal.returns-clause-ok
-returns-clause-ok c = at_end (at_same c.text.invariant c.in_default.ensures)
+pub returns : goal.returns
+returns c = at_end (at_same c.text.invariant c.in_default.ensures)

@@ -1,4 +1,4 @@
-use Rattle.std.proofs.Common.{◌≡◌, length, ◌<◌, arith, rules, get_or}
+use Rattle.std.proofs.Common.{◌≡◌, length, ◌<◌, rules, get_or}
 use Rattle.dn_parse.proofs.Judge.{line_found}
 use Rattle.dn_parse.proofs.reader.line_at.Goals as goal
 

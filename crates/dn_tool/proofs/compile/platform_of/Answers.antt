@@ -1,6 +1,6 @@
 use Rattle.std.proofs.Common.{rules, ◌≡◌, None, Ok}
 use Rattle.dn_net.specs.Rules.{node_fault}
-use Rattle.dn_module.specs.Told.{outcome_of}
+use Rattle.dn_module.specs.Finish.{outcome_view}
 use Rattle.dn_tool.specs.Compiled.{compiled_outcome}
 use Rattle.dn_tool.proofs.Exists.{walk_fault_within}
 use Rattle.dn_tool.proofs.NodeFaults.{fault_within}
@@ -12,7 +12,7 @@ node_refusal-requires c = fault_within c.args.expanded.net _ c.in-Err.ensures.ch
 
 pub returns-in-Err-clause-refused : goal.returns-in-Err-clause-refused
 returns-in-Err-clause-refused c =
-    c.told.ensures (compiled_outcome (Ok (outcome_of c.args.expanded))) (nodes_refused (outcome_of c.args.expanded) _ c.node_refusal.result c.in-Err.ensures.checks c.node_refusal.ensures)
+    c.told.ensures (compiled_outcome (Ok (outcome_view c.args.expanded))) (nodes_refused (outcome_view c.args.expanded) _ c.node_refusal.result c.in-Err.ensures.checks c.node_refusal.ensures)
 
 pub walk_refusal-requires : goal.walk_refusal-requires
 walk_refusal-requires c = walk_fault_within c.args.expanded.net _ c.requires.closed c.in-Err-walks.ensures.checks
@@ -20,4 +20,4 @@ walk_refusal-requires c = walk_fault_within c.args.expanded.net _ c.requires.clo
 pub returns-in-Err-walks-clause-refused : goal.returns-in-Err-walks-clause-refused
 returns-in-Err-walks-clause-refused c =
     let checked : node_fault c.args.expanded.net ≡ None = search rules in
-    c.told-in-Err-walks.ensures (compiled_outcome (Ok (outcome_of c.args.expanded))) (walks_refused (outcome_of c.args.expanded) _ c.walk_refusal.result checked c.in-Err-walks.ensures.checks c.walk_refusal.ensures)
+    c.told-in-Err-walks.ensures (compiled_outcome (Ok (outcome_view c.args.expanded))) (walks_refused (outcome_view c.args.expanded) _ c.walk_refusal.result checked c.in-Err-walks.ensures.checks c.walk_refusal.ensures)

@@ -1,4 +1,4 @@
-use Rattle.std.proofs.Common.{rules, ◌≡◌, ◌∙◌, sym, ap, length, ◌+◌, ◌≤◌}
+use Rattle.std.proofs.Common.{rules, ◌≡◌, ◌∙◌, sym, ap, length, ◌+◌, ◌≤◌, Some}
 use Rattle.dn_module.specs.Drafts.{is_agent, agents_of, all_parts}
 use Rattle.dn_module.specs.Machine.{limit_by}
 use Rattle.dn_module.proofs.Limits.{limit_is, known_test, known_fault, limit_fault, one_if, as_number}
@@ -7,7 +7,7 @@ use Rattle.dn_module.proofs.drafts.Drafts.fault.Goals as goal
 pub returns-then-is_some-clause-fault : goal.returns-then-is_some-clause-fault
 returns-then-is_some-clause-fault c =
     let met = known_test c.args.self.now _ _ c.args.draft.now.name _ _ c.self.view_is c.self.invariant.names_are c.as_str.ensures c.find.ensures in
-    known_fault c.args.self.now c.args.draft.now (met ∙ sym c.is_some.ensures ∙ c.if-is_some.true)
+    ap (λ r. Some r) (sym (known_fault c.args.self.now c.args.draft.now (met ∙ sym c.is_some.ensures ∙ c.if-is_some.true)))
 
 pub returns-in-Some-clause-fault : goal.returns-in-Some-clause-fault
 returns-in-Some-clause-fault c =
@@ -23,7 +23,7 @@ returns-in-Some-clause-fault c =
     let parts : inside.parts ≡ all_parts now = c.self.invariant.parts_are ∙ ap all_parts c.self.view_is in
     let same = limit_is now d c.len.result (inside.agents + c.from.result) inside.parts nodes few (λ i. agents i + one i) parts in
     let limit = sym same ∙ ap (limit_by c.len.result (inside.agents + c.from.result) inside.parts) (sym c.parts_of.ensures) ∙ sym c.passed.ensures ∙ c.in-Some.is in
-    limit_fault now d c.in-Some.limit (met ∙ sym c.is_some.ensures ∙ c.if-is_some.false) limit
+    ap (λ r. Some r) (sym (limit_fault now d c.in-Some.limit (met ∙ sym c.is_some.ensures ∙ c.if-is_some.false) limit))
 
 pub returns-in-None-clause-new_name : goal.returns-in-None-clause-new_name
 returns-in-None-clause-new_name c =

@@ -1,33 +1,33 @@
-use Rattle.std.proofs.Common.{rules, ◌≡◌, ◌∙◌, sym, ap, arith, refl, length, map, not, ◌||◌, ◌<◌, is_some, [], ◌∷◌, ◌++◌, true, false, Ok}
+use Rattle.std.proofs.Common.{◌≡◌, ◌∙◌, sym, ap, arith, length, map, not, ◌||◌, is_some, [], ◌∷◌, ◌++◌, Ok}
 use Rattle.std.proofs.lemmas.List.{length-map, map-append}
 use Rattle.dn_module.specs.declared.modules.Module.{Module as CodeModule}
 use Rattle.dn_module.specs.Drafts.{is_known}
 use Rattle.dn_module.specs.Expand.{is_module, has_twice, word_of_param}
-use Rattle.dn_module.specs.Stack.{module_seen, modules_seen}
+use Rattle.dn_module.specs.Stack.{module_view, module_views}
 use Rattle.dn_module.proofs.Limits.{found_is, list_all-last}
 use Rattle.dn_module.proofs.Places.{length-last}
 use Rattle.dn_module.proofs.Titles.{few_modules, module_twice, module_added, is_module-titles, titles_are, either, by_answer, words_are, param_words}
 use Rattle.dn_module.proofs.modules.Modules.add.Goals as goal
 
-pub returns-then-is_some : goal.returns-then-is_some
-returns-then-is_some c =
+pub returns-then-is_some-clause-added : goal.returns-then-is_some-clause-added
+returns-then-is_some-clause-added c =
     let self = c.args.self.now in
-    let m = module_seen c.args.module in
-    let count : length (modules_seen self) ≡ length self.modules.items = length-map self.modules.items module_seen in
-    let room = few_modules (length (modules_seen self)) (omega arith) in
-    let known : is_module (modules_seen self) m.title ≡ is_some c.find.result =
-    is_module-titles (modules_seen self) m.title ∙ ap (λ l. is_known l m.title) (titles_are self.modules.items ∙ sym self.same) ∙ found_is self.names m.title c.find.result c.find.ensures in
-    module_twice (modules_seen self) c.args.line m room
+    let m = module_view c.args.module in
+    let count : length (module_views self) ≡ length self.modules.items = length-map self.modules.items module_view in
+    let room = few_modules (length (module_views self)) (omega arith) in
+    let known : is_module (module_views self) m.title ≡ is_some c.find.result =
+    is_module-titles (module_views self) m.title ∙ ap (λ l. is_known l m.title) (titles_are self.modules.items ∙ sym self.same) ∙ found_is self.names m.title c.find.result c.find.ensures in
+    module_twice (module_views self) c.args.line m room
     (ap (λ b. b || has_twice (map word_of_param m.params)) (known ∙ sym c.is_some.ensures ∙ c.if-is_some.true))
 
-pub returns-then-branch : goal.returns-then-branch
-returns-then-branch c =
+pub returns-then-branch-clause-added : goal.returns-then-branch-clause-added
+returns-then-branch-clause-added c =
     let self = c.args.self.now in
-    let m = module_seen c.args.module in
-    let count : length (modules_seen self) ≡ length self.modules.items = length-map self.modules.items module_seen in
-    let room = few_modules (length (modules_seen self)) (omega arith) in
-    module_twice (modules_seen self) c.args.line m room
-    (either (is_module (modules_seen self) m.title) (has_twice (map word_of_param m.params)) (sym c.in_ok-has_twice.ensures ∙ c.if-branch.true))
+    let m = module_view c.args.module in
+    let count : length (module_views self) ≡ length self.modules.items = length-map self.modules.items module_view in
+    let room = few_modules (length (module_views self)) (omega arith) in
+    module_twice (module_views self) c.args.line m room
+    (either (is_module (module_views self) m.title) (has_twice (map word_of_param m.params)) (sym c.in_ok-has_twice.ensures ∙ c.if-branch.true))
 
 pub put-requires-clause-new_name : goal.put-requires-clause-new_name
 put-requires-clause-new_name c =
@@ -50,14 +50,14 @@ invariant_of-self c =
       different = rw modules self.different;
     })
 
-pub returns : goal.returns
-returns c =
+pub returns-clause-added : goal.returns-clause-added
+returns-clause-added c =
     let self = c.args.self.now in
-    let m = module_seen c.args.module in
-    let count : length (modules_seen self) ≡ length self.modules.items = length-map self.modules.items module_seen in
-    let room = few_modules (length (modules_seen self)) (omega arith) in
-    let known : is_module (modules_seen self) m.title ≡ is_some c.find.result =
-    is_module-titles (modules_seen self) m.title ∙ ap (λ l. is_known l m.title) (titles_are self.modules.items ∙ sym self.same) ∙ found_is self.names m.title c.find.result c.find.ensures in
-    module_added (modules_seen self) c.args.line m room
+    let m = module_view c.args.module in
+    let count : length (module_views self) ≡ length self.modules.items = length-map self.modules.items module_view in
+    let room = few_modules (length (module_views self)) (omega arith) in
+    let known : is_module (module_views self) m.title ≡ is_some c.find.result =
+    is_module-titles (module_views self) m.title ∙ ap (λ l. is_known l m.title) (titles_are self.modules.items ∙ sym self.same) ∙ found_is self.names m.title c.find.result c.find.ensures in
+    module_added (module_views self) c.args.line m room
     (ap (λ b. b || has_twice (map word_of_param m.params)) (known ∙ sym c.is_some.ensures ∙ c.if-is_some.false) ∙ sym c.in_ok-has_twice.ensures ∙ c.if-branch.false)
-    ∙ ap (λ l. Ok l) (sym (map-append module_seen self.modules.items (c.args.module ∷ [])) ∙ ap (map module_seen) (sym c.in_ok-put.ensures.modules))
+    ∙ ap (λ l. Ok l) (sym (map-append module_view self.modules.items (c.args.module ∷ [])) ∙ ap (map module_view) (sym c.in_ok-put.ensures.modules))

@@ -1,16 +1,17 @@
-use Rattle.std.proofs.Common.{◌++◌, ap, refl, None}
+use Rattle.std.proofs.Common.{rules, ◌≡◌, ◌++◌, ap, refl, None}
 use Rattle.dn_module.specs.Expand.{statements}
 use Rattle.dn_module.specs.Replace.{in_items}
-use Rattle.dn_module.specs.Stack.{scope_of, seen_body}
+use Rattle.dn_module.specs.Stack.{visibility_view, body_view}
 use Rattle.dn_module.proofs.Works.{turn_entered, free_rest}
 use Rattle.dn_module.proofs.stack.Use.enter_turn.Goals as goal
 
 pub returns-clause-entered : goal.returns-clause-entered
 returns-clause-entered c =
     let at = c.args.self.now in
-    let s = scope_of at.visible in
-    rw (c.in_ok-enter.ensures.ok, c.in_ok-push.ensures.items)
+    let s = visibility_view at.visible in
+    let outer : c.reserve.new.self.items ≡ at.outer.items = search rules in
+    rw (c.in_ok-enter.ensures.ok, c.in_ok-push.ensures.items, outer)
     (turn_entered s at.scope c.args.turns at.inner (record { turns = c.after.result; statements = at.inner.statements }) (record { turns = None; statements = c.args.turns.body }) at.outer.items
     (free_rest s at.scope at.inner c.requires.free)
-    (ap (λ ws. ws ++ statements s (in_items at.scope (seen_body at.inner.statements.now))) (c.after.ensures s at.scope))
+    (ap (λ ws. ws ++ statements s (in_items at.scope (body_view at.inner.statements.now))) (c.after.ensures s at.scope))
     refl)

@@ -1,0 +1,15 @@
+use Rattle.std.proofs.Common.{◌≡◌, ◌∙◌, ap, sym, map, reverse, List, [], ◌∷◌, ◌++◌, Ok}
+use Rattle.std.proofs.lemmas.List.{map-append}
+use Rattle.std.specs.Option.{option_to_list}
+use Rattle.dn_parse.specs.Tree.{Item}
+use Rattle.dn_parse.specs.Whole.{closed_block}
+use Rattle.dn_parse.specs.Views.{frame_view, item_view, command_view, blocks_view}
+use Rattle.dn_parse.proofs.Judge.{without_last}
+use Rattle.dn_parse.proofs.blocks.without_frame.Goals as goal
+
+pub returns : goal.returns
+returns c =
+    let f = c.in-Some.frame in
+    let frames : c.args.blocks.frames.items ≡ c.pop.new.self.items ++ f ∷ [] = c.pop.ensures.items ∙ ap (λ o. c.pop.new.self.items ++ option_to_list o) c.in-Some.is in
+    let body : (frame_view f).before ++ closed_block (frame_view f) (map item_view c.args.blocks.body.items) ∷ [] ≡ map item_view c.push.new.self.items = ap (λ (i : Item). map item_view f.before.items ++ i ∷ []) (sym (c.in_ok-closed_block.ensures (map item_view f.before.items))) ∙ sym (ap (map item_view) c.in_ok-push.ensures.items ∙ map-append item_view _ _) in
+    without_last (blocks_view c.args.blocks) c.pop.new.self.items f c.args.blocks.frames.items frames ∙ ap (λ (l : List Item). Ok (record { frames = reverse (map frame_view c.pop.new.self.items); body = l; begun = c.args.blocks.begun; commands = map command_view c.args.blocks.commands })) body

@@ -1,0 +1,76 @@
+-- The faults of the code as those of the definitions, and what a call that reads a part answers.
+-- Want of memory is none of the faults: it may befall any call.
+use denote.Ref.{Bor}
+use Rattle.std.specs.Prelude.{ℕ, ◌<◌, ◌≤◌, List, length, Option, None, Some, option_map, Result}
+use Rattle.dn_base.specs.Answers.{Answers}
+use Rattle.dn_parse.specs.declared.token.Token.{Token as CodeToken}
+use Rattle.dn_parse.specs.declared.lexer.TokenFault.{TokenFault}
+use Rattle.dn_parse.specs.declared.lexer.TokenFault.TheVariants.{Bad, OutOfMemory as NoTokens}
+use Rattle.dn_parse.specs.declared.cursor.Halt.{Halt}
+use Rattle.dn_parse.specs.declared.cursor.Halt.TheVariants.{Refused, Deep, OutOfMemory as NoParts}
+use Rattle.dn_parse.specs.declared.blocks.Misplaced.{Misplaced}
+use Rattle.dn_parse.specs.declared.blocks.Misplaced.TheVariants.{Forbidden, Crowded, OutOfMemory as NoBlocks}
+use Rattle.dn_parse.specs.declared.reader.Trouble.{Trouble}
+use Rattle.dn_parse.specs.declared.reader.Trouble.TheVariants.{Halted, Misplaced as MisplacedAt}
+use Rattle.dn_parse.specs.declared.reader.ParseFault.{ParseFault}
+use Rattle.dn_parse.specs.declared.reader.ParseFault.TheVariants.{Length, Token as BadToken, Statement, Block, Nesting, OutOfMemory}
+use Rattle.dn_parse.specs.Token.{Token}
+use Rattle.dn_parse.specs.Machine.{Stop, refused, deep}
+use Rattle.dn_parse.specs.Descent.{Read, Next}
+use Rattle.dn_parse.specs.Views.{token_views}
+use Rattle.dn_parse.specs.Whole.{Misplacement, forbidden, crowded, TextFault, too_long, bad_token, statement_fault, block_fault, nesting_fault, stop_fault, misplacement_fault}
+
+-- the line of the first bad place
+abbrev pub token_fault_view : TokenFault → Option ℕ
+token_fault_view (Bad line) = Some line
+token_fault_view NoTokens = None
+
+-- where the reading of a part stops
+abbrev pub halt_view : Halt → Option Stop
+halt_view (Refused n) = Some (refused n)
+halt_view (Deep n) = Some (deep n)
+halt_view NoParts = None
+
+-- a part was read, and these tokens follow it; or this is where the reading stops
+abbrev pub Reads : {X Y : Type 0} → (X → Y) → Result (X × Bor (List CodeToken)) Halt → Read Y → Type 0
+Reads view result read = Answers (λ p. (view p.0, token_views p.1.now)) halt_view result read
+
+-- the same of a part that may be left out
+abbrev pub ReadsNext : {X Y : Type 0} → (X → Y) → Result (Option (X × Bor (List CodeToken))) Halt → Next Y → Type 0
+ReadsNext view result next = Answers (λ o. option_map (λ p. (view p.0, token_views p.1.now)) o) halt_view result next
+
+-- fewer tokens are left
+abbrev pub IsShorter : List CodeToken → List CodeToken → Type 0
+IsShorter rest tokens = length (token_views rest) < length (token_views tokens)
+
+-- no more tokens are left
+abbrev pub IsNoLonger : List CodeToken → List CodeToken → Type 0
+IsNoLonger rest tokens = length (token_views rest) ≤ length (token_views tokens)
+
+-- why a statement is not placed
+abbrev pub misplaced_view : Misplaced → Option Misplacement
+misplaced_view Forbidden = Some forbidden
+misplaced_view Crowded = Some crowded
+misplaced_view NoBlocks = None
+
+-- why a text is not read
+abbrev pub parse_fault_view : ParseFault → Option TextFault
+parse_fault_view Length = Some too_long
+parse_fault_view (BadToken line) = Some (bad_token line)
+parse_fault_view (Statement line) = Some (statement_fault line)
+parse_fault_view (Block line) = Some (block_fault line)
+parse_fault_view (Nesting line) = Some (nesting_fault line)
+parse_fault_view OutOfMemory = None
+
+-- the fault of a list of tokens whose part stops so
+abbrev pub halt_fault : Halt → ℕ → List Token → Option TextFault
+halt_fault h last ts = option_map (λ s. stop_fault s last ts) (halt_view h)
+
+-- the fault of a statement that begins in a line and is misplaced so
+abbrev pub misplaced_fault : Misplaced → ℕ → Option TextFault
+misplaced_fault m line = option_map (λ r. misplacement_fault r line) (misplaced_view m)
+
+-- the fault of a list of tokens whose statements are not all placed
+abbrev pub trouble_view : Trouble → ℕ → List Token → Option TextFault
+trouble_view (Halted h) last ts = halt_fault h last ts
+trouble_view (MisplacedAt m line) last ts = misplaced_fault m line
