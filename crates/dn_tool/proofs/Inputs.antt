@@ -1,35 +1,29 @@
 -- The answer to what was read of a text is the answer to the whole text.
-use Rattle.std.proofs.Common.{rules, arith, ◌≡◌, ◌∙◌, ap, sym, subst, ℕ, ◌<◌, ◌⊎◌, inl, inr, nat_le, true, false, List, [], ◌∷◌, ◌++◌, length, Option, Some, None, Err, append-nil, length-append, refl}
+use Rattle.std.proofs.Common.{arith, ◌≡◌, ◌∙◌, ap, sym, subst, ℕ, ◌<◌, ◌⊎◌, inl, inr, true, false, List, [], ◌∷◌, ◌++◌, length, Option, Some, None, Result, Ok, Err, append-nil, length-append, refl}
 use Rattle.dn_base.specs.Outside.{Taken, AtEnd, input_limit}
-use Rattle.dn_parse.specs.Whole.{text_reading, too_long}
-use Rattle.dn_tool.specs.Compiled.{Compiled, compiled, compiled_reading, refused, legal}
-use Rattle.dn_tool.specs.Refused.{text_refusal}
-use Rattle.dn_module.specs.declared.command.Command.{Command}
+use Rattle.dn_parse.specs.Whole.{too_long}
+use Rattle.dn_parse.proofs.Judge.{text_too_long}
+use Rattle.dn_module.specs.Expand.{Outcome}
+use Rattle.dn_tool.specs.Compiled.{compilation, reading_compilation, with_refusal}
+use Rattle.dn_tool.specs.Refused.{Refused, of_text, refusal_of}
 use Rattle.dn_tool.specs.declared.words.Task.{Task}
-use Rattle.dn_net.specs.declared.node.NodeDecl.{NodeDecl}
 use Rattle.dn_tool.specs.declared.words.Task.TheVariants.{Run, Check}
 use Rattle.dn_tool.specs.Answer.{Answer, IsInput, answer, compiled_answer, reads, some_task_reads, task_answer, task_of, task_reads, text_answer, usage}
 
-past : (n : ℕ) → 4194304 < n → nat_le n 4194304 ≡ false
-past n l = search (rules, arith)
-
--- a text that is longer than the limit is at fault by that alone
-too_long_read : (text : List ℕ) → 4194304 < length text → text_reading text ≡ Err too_long
-unfolding text_reading
-too_long_read text l = rw (past (length text) l) refl
-
-long_refused : (text : List ℕ) → 4194304 < length text → compiled text ≡ refused (text_refusal too_long)
-unfolding compiled
-long_refused text l = ap compiled_reading (too_long_read text l)
+-- a text that is longer than the limit is refused by that alone
+long_refused : (text : List ℕ) → 4194304 < length text → compilation text ≡ Err (of_text too_long)
+unfolding compilation
+long_refused text l = ap reading_compilation (text_too_long text l)
 
 -- a text that was read as far as the limit comes to what the whole comes to
-same_compiled : (text rest : List ℕ) → (length text < input_limit → rest ≡ []) → (length text < input_limit) ⊎ (4194304 < length text) → compiled (text ++ rest) ≡ compiled text
-same_compiled text rest end (inl l) = ap compiled (ap (λ (r : List ℕ). text ++ r) (end l) ∙ append-nil text)
+same_compiled : (text rest : List ℕ) → (length text < input_limit → rest ≡ []) → (length text < input_limit) ⊎ (4194304 < length text) → compilation (text ++ rest) ≡ compilation text
+same_compiled text rest end (inl l) = ap compilation (ap (λ (r : List ℕ). text ++ r) (end l) ∙ append-nil text)
 same_compiled text rest end (inr l) =
     let m : 4194304 < length (text ++ rest) = simp length-append (omega (arith, l)) in
     long_refused (text ++ rest) m ∙ sym (long_refused text l)
 
-pub same_text : (text rest : List ℕ) → (length text < input_limit → rest ≡ []) → compiled (text ++ rest) ≡ compiled text
+-- the same, whichever it is
+pub same_text : (text rest : List ℕ) → (length text < input_limit → rest ≡ []) → compilation (text ++ rest) ≡ compilation text
 same_text text rest end = same_compiled text rest end (grind arith)
 
 -- each task reads the source
@@ -53,7 +47,7 @@ input_answer left after w task text whole P asked taken end input p = go left af
     go l None taken end told = cc
     go l (Some rest) taken end told =
         let joined : whole ≡ text ++ rest = cc in
-        let same : compiled_answer task (compiled text) ≡ compiled_answer task (compiled whole) = ap (compiled_answer task) (sym (same_text text rest end) ∙ ap compiled (sym joined)) in
+        let same : text_answer task text ≡ text_answer task whole = ap (λ c. compiled_answer task (with_refusal c)) (sym (same_text text rest end) ∙ ap compilation (sym joined)) in
         let all : text_answer task whole ≡ answer w whole = ap (λ o. task_answer o whole) (sym asked) in
         subst P (same ∙ all) p
 
@@ -62,13 +56,9 @@ pub usage_answer : (w : List (List ℕ)) (text : List ℕ) (P : Answer → Type 
 usage_answer w text P e p = let same : record { status = 1; pieces = usage ∷ [] } ≡ answer w text = ap (λ o. task_answer o text) (sym e) in subst P same p
 
 -- a text with a net is no longer than the limit
-pub legal_short : (text : List ℕ) (net : List NodeDecl) (commands : List Command) → compiled text ≡ legal net commands → length text < input_limit
-legal_short text net commands e = short (grind arith)
+pub legal_short : (text : List ℕ) (o : Outcome) → with_refusal (compilation text) ≡ Ok o → length text < input_limit
+legal_short text o e = short (grind arith)
   where
     short : (length text < input_limit) ⊎ (4194304 < length text) → length text < input_limit
     short (inl l) = l
-    short (inr l) = let f : refused (text_refusal too_long) ≡ legal net commands = sym (long_refused text l) ∙ e in absurd (cc)
-
--- what holds of the answer to what a text comes to holds of the answer to the text
-pub compiled_holds : (task : Task) (text : List ℕ) (c : Compiled) (P : Answer → Type 0) → compiled text ≡ c → P (compiled_answer task c) → P (text_answer task text)
-compiled_holds task text c P e p = subst (λ k. P (compiled_answer task k)) (sym e) p
+    short (inr l) = let f : ◌≡◌ {A = Result Outcome Refused} (Err (refusal_of (of_text too_long))) (Ok o) = sym (ap with_refusal (long_refused text l)) ∙ e in absurd (cc)

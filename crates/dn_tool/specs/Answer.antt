@@ -1,12 +1,14 @@
 -- The answer of the program: a status, and what is written, piece by piece.
-use Rattle.std.specs.Prelude.{◌≡◌, ℕ, ◌==◌, Bool, true, false, ◌||◌, if◌then◌else◌, List, [], ◌∷◌, ◌++◌, codes, Option, Some, None}
+use Rattle.std.specs.Prelude.{◌≡◌, ℕ, ◌==◌, Bool, true, false, ◌||◌, if◌then◌else◌, List, [], ◌∷◌, ◌++◌, codes, Option, Some, None, Result, Ok, Err}
 use Rattle.std.specs.Str.{bytes_eq}
 use Rattle.dn_net.specs.declared.node.NodeDecl.{NodeDecl}
 use Rattle.dn_print.specs.Statement.{net_text}
 use Rattle.dn_module.specs.declared.command.Command.{Command}
 use Rattle.dn_tool.specs.declared.words.Task.{Task}
 use Rattle.dn_tool.specs.declared.words.Task.TheVariants.{Run, Check}
-use Rattle.dn_tool.specs.Compiled.{Compiled, refused, legal, compiled}
+use Rattle.dn_module.specs.Expand.{Outcome}
+use Rattle.dn_tool.specs.Compiled.{compilation, with_refusal}
+use Rattle.dn_tool.specs.Refused.{Refused}
 use Rattle.dn_tool.specs.Reply.{replies}
 
 -- a status, and the pieces that are written one after the other: to commands, the reply to each
@@ -57,13 +59,13 @@ task_pieces Run net commands = replies (record { net = net }) commands
 task_pieces Check net commands = net_text [] net ∷ []
 
 -- the answer to what a text comes to: the line of its refusal, or what the task makes of it
-abbrev pub compiled_answer : Task → Compiled → Answer
-compiled_answer task (refused r) = record { status = 4; pieces = (r.text ++ codes "\n") ∷ [] }
-compiled_answer task (legal net commands) = record { status = 0; pieces = task_pieces task net commands }
+abbrev pub compiled_answer : Task → Result Outcome Refused → Answer
+compiled_answer task (Err r) = record { status = 4; pieces = (r.text ++ codes "\n") ∷ [] }
+compiled_answer task (Ok o) = record { status = 0; pieces = task_pieces task o.net o.commands }
 
 -- the answer to a text
 abbrev pub text_answer : Task → List ℕ → Answer
-text_answer task text = compiled_answer task (compiled text)
+text_answer task text = compiled_answer task (with_refusal (compilation text))
 
 -- the answer to what is asked for, and the usage line where nothing is
 abbrev pub task_answer : Option Task → List ℕ → Answer

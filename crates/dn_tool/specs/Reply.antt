@@ -17,6 +17,7 @@ abbrev pub target_text : List NodeDecl → Option ℕ → ℕ → List ℕ
 target_text net None a = codes "no such node"
 target_text net (Some n) a = names_text net (resolved_names net (record { node = n; addr = a }))
 
+-- the reply to `resolve`: the address as it was asked for, and the names
 abbrev pub resolve_text : List NodeDecl → Target → ℕ → List ℕ
 resolve_text net target a = target.text ++ (codes "@" ++ (address_text a ++ (codes ": " ++ (target_text net target.node a ++ codes "\n"))))
 
@@ -24,9 +25,11 @@ resolve_text net target a = target.text ++ (codes "@" ++ (address_text a ++ (cod
 abbrev pub viewed_text : List NodeDecl → List ℕ → List Seen → List ℕ
 viewed_text net text rows = codes "view " ++ (text ++ (codes " rows " ++ (decimal (length rows) ++ (codes "\n" ++ rows_text net rows))))
 
+-- the reply to a view of what is no agent
 abbrev pub no_agent_text : List ℕ → List ℕ
 no_agent_text text = codes "view " ++ (text ++ codes " refused: NoAgent\n")
 
+-- the view of a node that is an agent, and of nothing else
 abbrev pub view_by : List NodeDecl → List ℕ → Option ℕ → List ℕ
 view_by net text None = no_agent_text text
 view_by net text (Some n) = if is_agent_at (slice_get net n) then viewed_text net text (view_rows net n) else no_agent_text text

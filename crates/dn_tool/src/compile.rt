@@ -1,12 +1,15 @@
 //! From a text to its platform, or to the rule that it breaks.
 
-ghost use Rattle.std.specs.Prelude.{◌≡◌, IfOk, IfErr, IsTrue, Ok, length};
+ghost use Rattle.std.specs.Prelude.{◌≡◌, IfOk, IfSome, IsTrue, Result, Ok, Err, length};
 ghost use Rattle.std.specs.List.{list_all};
 ghost use Rattle.dn_net.specs.Decode.{is_closed};
 ghost use Rattle.dn_module.specs.Commands.{names_within};
 ghost use Rattle.dn_module.specs.Finish.{outcome_view};
 ghost use Rattle.dn_tool.specs.Platform.{IsPlatform};
-ghost use Rattle.dn_tool.specs.Compiled.{Compiled, compiled, compiled_outcome, legal, refused, IsRefusedBy};
+ghost use Rattle.dn_base.specs.Answers.{Answers};
+ghost use Rattle.dn_module.specs.Expand.{Outcome};
+ghost use Rattle.dn_tool.specs.Compiled.{compilation, compile_fault_view, expansion_compilation, platform_view, with_refusal};
+ghost use Rattle.dn_tool.specs.Refused.{Refused};
 
 use crate::refusal;
 use crate::refusal::Refusal;
@@ -63,16 +66,16 @@ impl Platform {
 
 /// Compiles a text. It is refused exactly where it breaks a rule.
 pub fn compile(alloc: Global, text: &[u8]) -> Result<Platform, CompileFault>
-    ensures legal { IfOk result (λ p. compiled text.now ≡ legal p.net p.commands) }
-    ensures refused { IfErr result (λ e. IsRefusedBy (compiled text.now) e) }
+    ensures { Answers platform_view compile_fault_view result
+        (with_refusal (compilation text.now)) }
 {
     let tree = match reader::read(alloc, text) {
         Ok(tree) => tree,
-        Err(fault) => return Err(told(refusal::text_refusal(alloc, fault))),
+        Err(fault) => return Err(fault_of(refusal::text_refusal(alloc, fault))),
     };
     match expand::expand(alloc, &tree) {
         Ok(expanded) => platform_of(alloc, expanded),
-        Err(fault) => Err(told(refusal::expand_refusal(alloc, fault))),
+        Err(fault) => Err(fault_of(refusal::expand_refusal(alloc, fault))),
     }
 }
 
@@ -80,14 +83,12 @@ pub fn compile(alloc: Global, text: &[u8]) -> Result<Platform, CompileFault>
 fn platform_of(alloc: Global, expanded: Expanded) -> Result<Platform, CompileFault>
     requires closed { IsTrue (is_closed expanded.net) }
     requires known { IsTrue (list_all (names_within (length expanded.net)) expanded.commands) }
-    ensures legal { IfOk result (λ p.
-        compiled_outcome (Ok (outcome_view expanded)) ≡ legal p.net p.commands) }
-    ensures refused { IfErr result (λ e.
-        IsRefusedBy (compiled_outcome (Ok (outcome_view expanded))) e) }
+    ensures { Answers platform_view compile_fault_view result
+        (with_refusal (expansion_compilation (Ok (outcome_view expanded)))) }
 {
     let Expanded { net, commands } = expanded;
     if let Err(fault) = net.check_nodes(alloc) {
-        return Err(told(refusal::node_refusal(alloc, &net, fault)));
+        return Err(fault_of(refusal::node_refusal(alloc, &net, fault)));
     }
     match walks::walks(alloc, &net) {
         Ok(walks) => Ok(Platform {
@@ -95,13 +96,14 @@ fn platform_of(alloc: Global, expanded: Expanded) -> Result<Platform, CompileFau
             walks,
             commands,
         }),
-        Err(fault) => Err(told(refusal::walk_refusal(alloc, &net, &fault))),
+        Err(fault) => Err(fault_of(refusal::walk_refusal(alloc, &net, &fault))),
     }
 }
 
 /// The fault that a refusal is.
-fn told(refusal: Result<Refusal, AllocError>) -> CompileFault
-    ensures { (c : Compiled) → IfOk refusal (λ r. c ≡ refused r) → IsRefusedBy c result }
+fn fault_of(refusal: Result<Refusal, AllocError>) -> CompileFault
+    ensures { (made : Result Outcome Refused) → IfOk refusal (λ r. made ≡ Err r) →
+        IfSome (compile_fault_view result) (λ r. made ≡ Err r) }
 {
     match refusal {
         Ok(refusal) => CompileFault::Refused(refusal),

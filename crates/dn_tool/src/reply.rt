@@ -83,7 +83,7 @@ fn view_reply(alloc: Global, platform: &Platform, target: &Target) -> Result<Str
 {
     let text = target.text.as_str();
     match target.node {
-        Some(node) if is_agent(&platform.net, node) => viewed(alloc, platform, text, node),
+        Some(node) if is_agent(&platform.net, node) => agent_view(alloc, platform, text, node),
         _ => no_agent(alloc, text),
     }
 }
@@ -104,7 +104,12 @@ fn no_agent(alloc: Global, text: &str) -> Result<String, AllocError>
 }
 
 /// What a node sees, below a heading with this text and the number of rows.
-fn viewed(alloc: Global, platform: &Platform, text: &str, node: u16) -> Result<String, AllocError>
+fn agent_view(
+    alloc: Global,
+    platform: &Platform,
+    text: &str,
+    node: u16,
+) -> Result<String, AllocError>
     requires { node < length platform.now.net }
     ensures { IfOk result (λ s. string_bytes s ≡
         viewed_text platform.now.net text.now (view_rows platform.now.net node)) }

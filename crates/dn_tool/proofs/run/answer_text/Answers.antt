@@ -1,5 +1,6 @@
+use Rattle.dn_tool.specs.Compiled.{platform_view}
 use Rattle.dn_tool.proofs.Inputs.{legal_short}
 use Rattle.dn_tool.proofs.run.answer_text.Goals as goal
 
 pub returns-in_ok-answer_task-in-Ok-clause-short : goal.returns-in_ok-answer_task-in-Ok-clause-short
-returns-in_ok-answer_task-in-Ok-clause-short g c e = legal_short c.args.text.now c.in-Ok.platform.net c.in-Ok.platform.commands c.in-Ok.ensures.legal
+returns-in_ok-answer_task-in-Ok-clause-short g c e = legal_short c.args.text.now (platform_view c.in-Ok.platform) c.in-Ok.ensures

@@ -6,7 +6,7 @@ use Rattle.dn_print.specs.Rows.{rows_text}
 use Rattle.dn_flat.specs.Views.{view_rows}
 use Rattle.dn_tool.proofs.Replies.{viewed_told}
 use Rattle.dn_flat.proofs.Rows.{rows_are_view, rows_count}
-use Rattle.dn_tool.proofs.reply.viewed.Goals as goal
+use Rattle.dn_tool.proofs.reply.agent_view.Goals as goal
 
 pub returns : goal.returns
 returns c =
