@@ -1,5 +1,5 @@
 -- Laws of lists: an item that is put last, the rest from a place on, what passes a test and where.
-use Rattle.std.proofs.Common.{◌≡◌, ◌∙◌, ap, sym, refl, ℕ, zero, suc, ◌+◌, ◌<◌, ◌≤◌, nat_lt, Bool, true, false, not, ◌&&◌, List, [], ◌∷◌, ◌++◌, map, drop, get_or, length, position, Option, Some, None, is_some, IsTrue, slice_get, add-one, arith}
+use Rattle.std.proofs.Common.{◌≡◌, ◌∙◌, ap, sym, refl, ℕ, zero, suc, ◌+◌, ◌<◌, ◌≤◌, nat_lt, Bool, true, false, not, ◌&&◌, List, [], ◌∷◌, ◌++◌, map, take, drop, get_or, length, position, Option, Some, None, is_some, IsTrue, slice_get, add-one, arith}
 use Rattle.std.specs.List.{list_any, list_all, prefix_len}
 use Rattle.std.proofs.Math.Seq.{drop-cons}
 use Rattle.std.proofs.lemmas.Bool.{and_parts}
@@ -34,6 +34,13 @@ drop_at xs i x h at =
     drop-cons xs i x h
     ∙ ap (λ z. z ∷ drop (suc i) xs) (sym at)
     ∙ ap (λ n. x ∷ drop n xs) (sym (add-one i))
+
+-- so many items, where there are no more
+pub take_past : {X : Type 0} (xs : List X) (n : ℕ) → length xs ≤ n → take n xs ≡ xs
+take_past [] zero l = refl
+take_past [] (suc n) l = refl
+take_past (x ∷ xs) zero l = absurd (omega arith)
+take_past (x ∷ xs) (suc n) l = ap (λ t. x ∷ t) (take_past xs n (omega arith))
 
 -- the item at a place is found there
 pub slice_get-at : {X : Type 0} (xs : List X) (i : ℕ) (x : X) → i < length xs → x ≡ get_or xs i x → Some x ≡ slice_get xs i

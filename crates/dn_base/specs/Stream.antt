@@ -1,7 +1,12 @@
 -- What contracts see of the adapters over streams of the system.
-use Rattle.std.specs.Prelude.{ℕ}
+use Rattle.std.specs.Prelude.{ℕ, true, false}
+use Rattle.dn_base.specs.Outside.{Faults}
 
 -- a reader or a writer of the system, and how many of its calls were faults
 pub record Stream (S : Type 0) : Type 0 where
   pub inner : S
   pub faults : ℕ
+
+-- any call of the system may fail, and each fault is answered by its call
+abbrev pub stream_faults : {S : Type 0} → Stream S → Faults
+stream_faults s = record { count = s.faults; never = false; answered = true }

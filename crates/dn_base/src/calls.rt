@@ -1,7 +1,8 @@
 //! The numbers of an object's calls, and which of them fail.
 
 ghost use Rattle.std.specs.Prelude.{◌≡◌, ◌==◌, ◌+◌, ◌<◌, ◌≤◌, ◌^◌, true, false};
-ghost use Rattle.dn_base.specs.Memory.{next_call};
+ghost use Rattle.dn_base.specs.Memory.{faults_of, no_calls};
+ghost use Rattle.dn_base.specs.Outside.{IsCounted, next_count};
 ghost use Rattle.std.specs.List.{list_any};
 
 use std::marker::Model;
@@ -44,7 +45,7 @@ fn is_failing(failing: &[u32], call: u64) -> bool
 impl Calls {
     /// No call yet. The calls whose numbers are listed will fail, in whatever order they stand.
     pub fn new(failing: Vec<u32>) -> Calls
-        ensures { result ≡ record { call = 0; faults = 0; failing = failing.items } }
+        ensures { result ≡ no_calls failing.items }
     {
         Calls {
             call: 0,
@@ -57,9 +58,9 @@ impl Calls {
     pub fn fails(&mut self) -> bool
         ensures listed { result ≡ list_any (λ n. n == self.old.call) self.old.failing }
         ensures late { 2 ^ 32 ≤ self.old.call → result ≡ false }
-        ensures counted { self.new.call ≡ next_call self.old.call }
+        ensures numbered { self.new.call ≡ next_count self.old.call }
+        ensures counted { IsCounted (faults_of self.old) (faults_of self.new) result }
         ensures raised { result ≡ true → self.new.faults ≡ self.old.faults + 1 }
-        ensures steady { result ≡ false → self.new.faults ≡ self.old.faults }
         ensures few { self.new.faults ≤ 2 ^ 32 }
         ensures same { self.new.failing ≡ self.old.failing }
     {

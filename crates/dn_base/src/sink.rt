@@ -1,7 +1,8 @@
 //! What bytes go to, and the faults of a write.
 
-ghost use Rattle.std.specs.Prelude.{◌≡◌, ◌≢◌, ℕ, ◌<◌, ◌≤◌, Option, Bool, true, List, length, take, IfOk, OnErr, IsErrOf, Err};
-ghost use Rattle.dn_base.specs.Outside.{Rose, Added};
+ghost use Rattle.std.specs.Prelude.{◌≡◌, ℕ, ◌<◌, ◌≤◌, Option, List, length, take, IfOk, OnErr};
+ghost use Rattle.dn_base.specs.Faults.{is_write_fault};
+ghost use Rattle.dn_base.specs.Outside.{Faults, IsCounted, Added};
 
 use thiserror::Error;
 
@@ -21,11 +22,8 @@ pub trait Sink {
     /// The bytes that were written, where the sink tells them.
     ghost written: { Self → Option (List ℕ) };
 
-    /// How many faults there were so far: a count that never falls.
-    ghost faults: { Self → ℕ };
-
-    /// Whether it is known that no write fails but for want of memory, now and from now on.
-    ghost sure: { Self → Bool };
+    /// What the sink tells of its faults.
+    ghost faults: { Self → Faults };
 
     /// Takes a prefix of the piece and answers its length, which is at least 1 where the piece is
     /// not empty. Whether the bytes are told is the same after each call.
@@ -38,10 +36,8 @@ pub trait Sink {
     fn write(&mut self, piece: &[u8]) -> Result<usize, WriteFault>
         ensures within { IfOk result (λ n. n ≤ length piece.now) }
         ensures some { IfOk result (λ n. 0 < length piece.now → 0 < n) }
-        ensures added { IfOk result (λ n. Added (written self.old) (written self.new) (take n piece.now)) }
+        ensures added { IfOk result (λ n.
+            Added (written self.old) (written self.new) (take n piece.now)) }
         ensures untaken { OnErr result (written self.new ≡ written self.old) }
-        ensures rose { IsErrOf result WriteFault.Failed → Rose (faults self.old) (faults self.new) }
-        ensures never_falls { faults self.old ≤ faults self.new }
-        ensures same_sure { sure self.new ≡ sure self.old }
-        ensures succeeds { sure self.old ≡ true → (result ≢ Err WriteFault.Failed) × (faults self.new ≡ faults self.old) };
+        ensures counted { IsCounted (faults self.old) (faults self.new) (is_write_fault result) };
 }

@@ -1,7 +1,7 @@
 //! What bytes come from, and the fault of a read.
 
-ghost use Rattle.std.specs.Prelude.{◌≡◌, ℕ, ◌<◌, ◌≤◌, ◌↔◌, Option, Bool, true, List, [], length, take, IfOk, IfSome, OnErr, IsOk};
-ghost use Rattle.dn_base.specs.Outside.{Rose, Taken, AtEnd};
+ghost use Rattle.std.specs.Prelude.{◌≡◌, ℕ, ◌<◌, ◌≤◌, ◌↔◌, Option, List, [], length, take, IfOk, IfSome, OnErr, is_err};
+ghost use Rattle.dn_base.specs.Outside.{Faults, IsCounted, Taken, AtEnd};
 
 use thiserror::Error;
 
@@ -18,11 +18,8 @@ pub trait Source {
     /// The bytes that are left, where the source tells them.
     ghost left: { Self → Option (List ℕ) };
 
-    /// How many faults there were so far: a count that never falls.
-    ghost faults: { Self → ℕ };
-
-    /// Whether it is known that no read fails, now and from now on.
-    ghost sure: { Self → Bool };
+    /// What the source tells of its faults.
+    ghost faults: { Self → Faults };
 
     /// Fills a prefix of `into` with the next bytes and answers their number.
     ///
@@ -38,10 +35,8 @@ pub trait Source {
         ensures within { IfOk result (λ n. n ≤ length into.old) }
         ensures taken { IfOk result (λ n. Taken (left self.old) (left self.new) (take n into.new)) }
         ensures end { IfOk result (λ n. 0 < length into.old → n ≡ 0 → AtEnd (left self.new)) }
-        ensures only_end { IfOk result (λ n. 0 < length into.old → IfSome (left self.old) (λ rest. n ≡ 0 ↔ rest ≡ [])) }
+        ensures only_end { IfOk result (λ n. 0 < length into.old →
+            IfSome (left self.old) (λ rest. n ≡ 0 ↔ rest ≡ [])) }
         ensures untaken { OnErr result (left self.new ≡ left self.old) }
-        ensures rose { OnErr result (Rose (faults self.old) (faults self.new)) }
-        ensures never_falls { faults self.old ≤ faults self.new }
-        ensures same_sure { sure self.new ≡ sure self.old }
-        ensures succeeds { sure self.old ≡ true → IsOk result × (faults self.new ≡ faults self.old) };
+        ensures counted { IsCounted (faults self.old) (faults self.new) (is_err result) };
 }

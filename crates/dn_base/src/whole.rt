@@ -1,8 +1,8 @@
 //! Reading a source to its end, and writing a whole piece.
 
-ghost use Rattle.std.specs.Prelude.{◌≡◌, ◌≢◌, ℕ, ◌<◌, ◌≤◌, true, length, take, drop, IfOk, IfSome, OnOk, OnErr, IsErrOf, vec_len, Err};
-ghost use Rattle.std.specs.Option.{option_map};
-ghost use Rattle.dn_base.specs.Outside.{Rose, Taken, TakenAtMost, AtEnd, Added, AddedFront};
+ghost use Rattle.std.specs.Prelude.{◌≡◌, ◌-◌, ◌<◌, ◌≤◌, [], take, IfOk, IfSome, IsErrOf, is_err, is_ok, vec_len};
+ghost use Rattle.dn_base.specs.Faults.{is_input_fault, is_write_fault};
+ghost use Rattle.dn_base.specs.Outside.{AtEnd, IsCounted, IsWritten, Taken, TakenAtMost, input_limit};
 ghost use Rattle.dn_base.specs.declared.whole.InputFault.TheVariants.{OutOfMemory as no_memory, Failed as failed};
 
 use crate::sink::{Sink, WriteFault};
@@ -44,23 +44,27 @@ impl From<ReadFault> for InputFault {
     }
 }
 
-/// Reads until the source ends or [`INPUT_LIMIT`] bytes are taken, and answers what was taken.
+/// Reads until the source ends or [`INPUT_LIMIT`] bytes are taken, and answers what was taken. No read is
+/// made once they are taken.
 ///
 /// # Errors
 ///
 /// `Failed` at the first read that fails, only where the source's count of faults rose in this call,
 /// or stands at the last value of its counter. `OutOfMemory` for want of memory. After both the
 /// bytes that were taken before are lost.
+#[tactic(auto, using(crate::proofs::Counts::counted_then))]
 pub fn read_whole<S: Source>(alloc: Global, source: &mut S) -> Result<Vec<u8>, InputFault>
-    ensures within { IfOk result (λ text. vec_len text ≤ INPUT_LIMIT) }
+    ensures within { IfOk result (λ text. vec_len text ≤ input_limit) }
     ensures taken { IfOk result (λ text. Taken (S.left source.old) (S.left source.new) text.items) }
-    ensures end { IfOk result (λ text. vec_len text < INPUT_LIMIT → AtEnd (S.left source.new)) }
-    ensures front { IfOk result (λ text. IfSome (S.left source.old) (λ told. text.items ≡ take INPUT_LIMIT told)) }
-    ensures at_most { TakenAtMost INPUT_LIMIT (S.left source.old) (S.left source.new) }
-    ensures rose { IsErrOf result InputFault.Failed → Rose (S.faults source.old) (S.faults source.new) }
-    ensures never_falls { S.faults source.old ≤ S.faults source.new }
-    ensures same_sure { S.sure source.new ≡ S.sure source.old }
-    ensures succeeds { S.sure source.old ≡ true → (result ≢ Err InputFault.Failed) × (S.faults source.new ≡ S.faults source.old) }
+    ensures end { IfOk result (λ text. vec_len text < input_limit → AtEnd (S.left source.new)) }
+    ensures front { IfOk result (λ text.
+        IfSome (S.left source.old) (λ told. text.items ≡ take input_limit told)) }
+    ensures at_most { TakenAtMost input_limit (S.left source.old) (S.left source.new) }
+    // A fault comes only before the limit was taken: no read is made after that.
+    ensures before_limit { IsErrOf result InputFault.Failed →
+        TakenAtMost (input_limit - 1) (S.left source.old) (S.left source.new) }
+    ensures counted { IsCounted (S.faults source.old)
+        (S.faults source.new) (is_input_fault result) }
 {
     let mut text = Vec::new(alloc);
     let mut piece = [0u8; PIECE];
@@ -81,14 +85,14 @@ pub fn read_whole<S: Source>(alloc: Global, source: &mut S) -> Result<Vec<u8>, I
 ///
 /// The fault of the first write that fails: `Failed` only where the sink's count of faults rose in
 /// this call, or stands at the last value of its counter, and `OutOfMemory` for want of memory. After
-/// both a front of the bytes was written, and nothing else.
+/// both a prefix of the bytes was written, less than all of them, and nothing else.
+#[tactic(auto, using(crate::proofs::Counts::counted_then))]
 pub fn write_whole<K: Sink>(sink: &mut K, bytes: &[u8]) -> Result<(), WriteFault>
-    ensures ok { OnOk result (Added (K.written sink.old) (K.written sink.new) bytes.now) }
-    ensures front { AddedFront (K.written sink.old) (K.written sink.new) bytes.now }
-    ensures rose { IsErrOf result WriteFault.Failed → Rose (K.faults sink.old) (K.faults sink.new) }
-    ensures never_falls { K.faults sink.old ≤ K.faults sink.new }
-    ensures same_sure { K.sure sink.new ≡ K.sure sink.old }
-    ensures succeeds { K.sure sink.old ≡ true → (result ≢ Err WriteFault.Failed) × (K.faults sink.new ≡ K.faults sink.old) }
+    ensures written { IsWritten (K.written sink.old) (K.written sink.new)
+        (is_ok result) (is_err result) bytes.now }
+    // Where there is no byte no write is made.
+    ensures untouched { bytes.now ≡ [] → sink.new ≡ sink.old }
+    ensures counted { IsCounted (K.faults sink.old) (K.faults sink.new) (is_write_fault result) }
 {
     let mut at = 0;
     while at < bytes.len() {

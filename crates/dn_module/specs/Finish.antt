@@ -2,7 +2,7 @@
 use Rattle.std.specs.Prelude.{List, Result, Ok}
 use Rattle.dn_parse.specs.Tree.{Command}
 use Rattle.dn_module.specs.declared.draft.Draft.{Draft}
-use Rattle.dn_module.specs.declared.expand.Expanded.{Expanded}
+use Rattle.dn_module.specs.declared.expansion.Expanded.{Expanded}
 use Rattle.dn_module.specs.Commands.{commands_of}
 use Rattle.dn_module.specs.Drafts.{names, linked}
 use Rattle.dn_module.specs.Expand.{Outcome}

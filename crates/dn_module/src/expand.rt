@@ -10,22 +10,14 @@ ghost use Rattle.dn_module.specs.Finish.{finished, outcome_view};
 ghost use Rattle.dn_base.specs.Answers.{Answers};
 ghost use Rattle.dn_module.specs.Faults.{expand_fault_view};
 
-use crate::command::Commands;
 use crate::commands::commands;
 use crate::drafts::Drafts;
+pub use crate::expansion::Expanded;
 use crate::fault::ExpandFault;
 use crate::link::linked_net;
 use crate::machine::expand_body;
-use dn_net::net::Net;
 use dn_parse::syntax::{Cmd, Tree};
 use std::alloc::Global;
-
-/// A net, and the commands of its text.
-#[derive(Drop)]
-pub struct Expanded {
-    pub net: Net,
-    pub commands: Commands,
-}
 
 /// Expands a tree. The node rules are not tested.
 pub fn expand(alloc: Global, tree: &Tree) -> Result<Expanded, ExpandFault>

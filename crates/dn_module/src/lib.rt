@@ -10,6 +10,7 @@ pub mod commands;
 pub mod draft;
 mod drafts;
 pub mod expand;
+mod expansion;
 pub mod fault;
 mod link;
 pub mod machine;

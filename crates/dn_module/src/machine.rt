@@ -120,14 +120,9 @@ fn take<'a>(
             title,
             params,
             body,
-        } => {
-            let module = Module {
-                title: title.as_str(),
-                params: params.as_slice(),
-                body: body.as_slice(),
-            };
-            made.modules.add(alloc, *line, module)
-        }
+        } => made
+            .modules
+            .add(alloc, *line, Module::new(title, params, body)),
         Stmt::Instance {
             line,
             title,
@@ -136,16 +131,9 @@ fn take<'a>(
         } => {
             let found = made.modules.find(stack.inner.visible, title.as_str());
             let scope = &stack.inner.scope;
-            let inner = used(
-                alloc,
-                scope,
-                *line,
-                found,
-                args.as_slice(),
-                prefix.as_slice(),
-            )?;
-            stack.enter(inner)?;
-            Ok(())
+            let (args, prefix) = (args.as_slice(), prefix.as_slice());
+            let inner = used(alloc, scope, *line, found, args, prefix)?;
+            stack.enter(inner)
         }
         Stmt::Loop {
             line,

@@ -11,7 +11,9 @@ ghost use Rattle.dn_module.specs.Faults.{expand_fault_view};
 
 use crate::fault::ExpandFault;
 use crate::names::NameTable;
-use dn_parse::syntax::{Param, Stmt};
+use dn_base::items::Items;
+use dn_base::text::Text;
+use dn_parse::syntax::{Body, Param, Stmt};
 use indexmap::IndexSet;
 use std::alloc::{AllocError, Global};
 
@@ -24,6 +26,26 @@ pub struct Module<'a> {
     pub title: &'a str,
     pub params: &'a [Param],
     pub body: &'a [Stmt],
+}
+
+impl<'a> Module<'a> {
+    ghost use Rattle.dn_module.specs.Stack.{body_view, module_view};
+
+    /// The module that has these parts.
+    pub fn new(title: &'a Text, params: &'a Items<Param>, body: &'a Body) -> Module<'a>
+        ensures { module_view result ≡ record {
+          title = title.now;
+          params = map param_view
+              params.now;
+          body = body_view body.now.items;
+        } }
+    {
+        Module {
+            title: title.as_str(),
+            params: params.as_slice(),
+            body: body.as_slice(),
+        }
+    }
 }
 
 /// Which modules a statement may use.

@@ -84,7 +84,8 @@ impl Scope {
 
     /// Comes out of a turn of a loop: the innermost number goes. Outside of loops that is the first parameter's.
     pub fn leave(&mut self)
-        ensures { self.new ≡ record { numbers = drop 1 self.old.numbers; naming = self.old.naming } }
+        ensures { self.new ≡
+            record { numbers = drop 1 self.old.numbers; naming = self.old.naming } }
     {
         if self.loops.pop().is_none() {
             self.params.without_first();

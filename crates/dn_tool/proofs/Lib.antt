@@ -1,5 +1,6 @@
 pub mod Exists
-pub mod Fronts
+pub mod Endings
+pub mod Inputs
 pub mod Levels
 pub mod NodeFaults
 pub mod Refusals

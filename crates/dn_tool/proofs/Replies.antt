@@ -1,20 +1,50 @@
 -- The replies to the first commands, and those to the rest.
-use Rattle.std.proofs.Common.{◌≡◌, ◌∙◌, ap, sym, ℕ, ◌+◌, ◌<◌, List, ◌++◌, length, drop, get_or, codes, add-one, append_assoc}
-use Rattle.std.proofs.Math.Seq.{drop-cons}
+use Rattle.std.proofs.Common.{◌≡◌, ◌≤◌, ◌∙◌, ap, sym, refl, ℕ, ◌+◌, ◌<◌, List, [], ◌∷◌, ◌++◌, length, take, drop, get_or, codes, append_assoc, append-nil}
+use Rattle.std.specs.List.{concat}
+use Rattle.std.proofs.lemmas.List.{take_more, take-append-drop}
+use Rattle.std.proofs.lemmas.List.Folds.{concat-append}
+use Rattle.dn_base.proofs.Lists.{drop_at, take_past}
 use Rattle.dn_net.specs.declared.node.NodeDecl.{NodeDecl}
 use Rattle.dn_module.specs.declared.command.Command.{Command}
 use Rattle.std.specs.Fmt.{decimal}
 use Rattle.dn_interval.specs.Listed.{Seen}
 use Rattle.dn_print.specs.Rows.{rows_text}
-use Rattle.dn_tool.specs.Reply.{reply, replies, viewed_text}
+use Rattle.dn_tool.specs.Reply.{State, reply, replies, state_after, viewed_text}
+
+-- commands change no net so far
+net_stays : (s : State) (cs : List Command) → (state_after s cs).net ≡ s.net
+net_stays s [] = refl
+net_stays s (c ∷ cs) = net_stays s cs
+
+-- the replies to the first commands, and then those to the rest in the state that the first left
+replies-append : (s : State) (cs ds : List Command) → replies s (cs ++ ds) ≡ replies s cs ++ replies (state_after s cs) ds
+replies-append s [] ds = refl
+replies-append s (c ∷ cs) ds = ap (λ (l : List (List ℕ)). reply s.net c ∷ l) (replies-append s cs ds)
+
+-- the same, at a place
+pub replies_split : (s : State) (cs : List Command) (i : ℕ) → replies s (take i cs) ++ replies (state_after s (take i cs)) (drop i cs) ≡ replies s cs
+replies_split s cs i = sym (replies-append s (take i cs) (drop i cs)) ∙ ap (replies s) (take-append-drop i cs)
+
+-- the reply to the command at a place comes next
+pub replies_next : (s : State) (cs : List Command) (i : ℕ) (c : Command) (text : List ℕ) → i < length cs → c ≡ get_or cs i c → text ≡ reply s.net c → replies s (take i cs) ++ text ∷ replies (state_after s (take i cs)) (drop (i + 1) cs) ≡ replies s cs
+replies_next s cs i c text h at is =
+    ap (λ (t : List ℕ). replies s (take i cs) ++ t ∷ replies (state_after s (take i cs)) (drop (i + 1) cs)) (is ∙ ap (λ (n : List NodeDecl). reply n c) (sym (net_stays s (take i cs))))
+    ∙ ap (λ (l : List Command). replies s (take i cs) ++ replies (state_after s (take i cs)) l) (sym (drop_at cs i c h at))
+    ∙ replies_split s cs i
 
 -- one more reply
-pub replies_step : (net : List NodeDecl) (cs : List Command) (i : ℕ) (c : Command) (done text all : List ℕ) → i < length cs → c ≡ get_or cs i c → done ++ replies net (drop i cs) ≡ all → text ≡ reply net c → done ++ (text ++ replies net (drop (i + 1) cs)) ≡ all
-replies_step net cs i c done text all h at e r =
-    ap (λ (t : List ℕ). done ++ (t ++ replies net (drop (i + 1) cs))) (r ∙ ap (λ (d : Command). reply net d) at)
-    ∙ ap (λ (n : ℕ). done ++ (reply net (get_or cs i c) ++ replies net (drop n cs))) (add-one i)
-    ∙ ap (λ (l : List Command). done ++ replies net l) (sym (drop-cons cs i c h))
-    ∙ e
+pub replies_more : (s : State) (cs : List Command) (i : ℕ) (c : Command) (text : List ℕ) → i < length cs → c ≡ get_or cs i c → text ≡ reply s.net c → concat (replies s (take (i + 1) cs)) ≡ concat (replies s (take i cs)) ++ text
+replies_more s cs i c text h at is =
+    ap (λ (l : List Command). concat (replies s l)) (take_more cs i c h ∙ ap (λ (d : Command). take i cs ++ d ∷ []) (sym at))
+    ∙ ap concat (replies-append s (take i cs) (c ∷ []))
+    ∙ concat-append (replies s (take i cs)) (reply (state_after s (take i cs)).net c ∷ [])
+    ∙ ap (λ (l : List ℕ). concat (replies s (take i cs)) ++ l) (append-nil (reply (state_after s (take i cs)).net c))
+    ∙ ap (λ (n : List NodeDecl). concat (replies s (take i cs)) ++ reply n c) (net_stays s (take i cs))
+    ∙ ap (λ (l : List ℕ). concat (replies s (take i cs)) ++ l) (sym is)
+
+-- the replies to all of the commands
+pub replies_all : (s : State) (cs : List Command) (i : ℕ) → length cs ≤ i → replies s (take i cs) ≡ replies s cs
+replies_all s cs i h = ap (replies s) (take_past cs i h)
 
 -- rows below their heading
 pub viewed_told : (net : List NodeDecl) (text heading out : List ℕ) (count : ℕ) (rows : List Seen) → heading ≡ codes "view " ++ (text ++ (codes " rows " ++ (decimal count ++ codes "\n"))) → count ≡ length rows → out ≡ heading ++ rows_text net rows → out ≡ viewed_text net text rows

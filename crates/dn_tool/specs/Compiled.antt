@@ -1,59 +1,67 @@
--- What a text comes to: the first rule that it breaks, or its net and commands.
+-- What a text comes to: its net and commands, or the first rule that it breaks.
 use Rattle.std.specs.Prelude.{◌≡◌, ℕ, List, Option, Some, None, Result, Ok, Err}
 use Rattle.dn_parse.specs.Tree.{Tree}
 use Rattle.dn_parse.specs.Whole.{TextFault, text_reading}
-use Rattle.dn_net.specs.declared.node.NodeDecl.{NodeDecl}
 use Rattle.dn_net.specs.Rules.{BrokenNode, node_fault}
 use Rattle.dn_net.specs.WalkRules.{Broken, walk_fault}
-use Rattle.dn_module.specs.declared.command.Command.{Command}
 use Rattle.dn_module.specs.Faults.{ExpansionFault}
 use Rattle.dn_module.specs.Expand.{Outcome, expanded}
-use Rattle.dn_tool.specs.declared.refusal.Rule.{Rule}
 use Rattle.dn_tool.specs.declared.compile.CompileFault.{CompileFault}
 use Rattle.dn_tool.specs.declared.compile.CompileFault.TheVariants.{Refused as RefusedBy, OutOfMemory}
-use Rattle.dn_tool.specs.Refused.{Refused, text_refusal, expand_refusal, node_refusal, walk_refusal}
+use Rattle.dn_tool.specs.Platform.{PlatformState}
+use Rattle.dn_tool.specs.Refused.{BrokenRule, Refused, of_expansion, of_nodes, of_text, of_walks, refusal_of}
 
-pub data Compiled : Type 0 where
-  refused : Refused → Compiled
-  legal : List NodeDecl → List Command → Compiled
+-- a net and commands, or a broken rule
+abbrev pub Compilation : Type 0
+Compilation = Result Outcome BrokenRule
 
-abbrev pub by_walk_rules : Outcome → Option Broken → Compiled
-by_walk_rules o (Some broken) = refused (walk_refusal o.net broken)
-by_walk_rules o None = legal o.net o.commands
+-- the rules on walks come last
+abbrev pub by_walk_rules : Outcome → Option Broken → Compilation
+by_walk_rules o (Some fault) = Err (of_walks o.net fault)
+by_walk_rules o None = Ok o
 
-abbrev pub by_node_rules : Outcome → Option BrokenNode → Compiled
-by_node_rules o (Some fault) = refused (node_refusal o.net fault)
+-- the node rules come before them
+abbrev pub by_node_rules : Outcome → Option BrokenNode → Compilation
+by_node_rules o (Some fault) = Err (of_nodes o.net fault)
 by_node_rules o None = by_walk_rules o (walk_fault o.net)
 
--- the node rules, and then the rules on walks
-abbrev pub compiled_outcome : Result Outcome ExpansionFault → Compiled
-compiled_outcome (Err fault) = refused (expand_refusal fault)
-compiled_outcome (Ok o) = by_node_rules o (node_fault o.net)
+-- what an expansion comes to: the node rules, and then the rules on walks
+abbrev pub expansion_compilation : Result Outcome ExpansionFault → Compilation
+expansion_compilation (Err fault) = Err (of_expansion fault)
+expansion_compilation (Ok o) = by_node_rules o (node_fault o.net)
 
--- the rules on what a tree expands to first
-abbrev pub compiled_tree : Tree → Compiled
-compiled_tree tree = compiled_outcome (expanded tree)
+-- what a reading comes to: the rules on what a tree expands to, and then those on the net
+abbrev pub reading_compilation : Result Tree TextFault → Compilation
+reading_compilation (Err fault) = Err (of_text fault)
+reading_compilation (Ok tree) = expansion_compilation (expanded tree)
 
-abbrev pub compiled_reading : Result Tree TextFault → Compiled
-compiled_reading (Err fault) = refused (text_refusal fault)
-compiled_reading (Ok tree) = compiled_tree tree
+-- what a text comes to: the reader's faults first, and then the rules
+unfoldable pub compilation : List ℕ → Compilation
+compilation text = reading_compilation (text_reading text)
 
--- the reader's faults first, and then the rules
-unfoldable pub compiled : List ℕ → Compiled
-compiled text = compiled_reading (text_reading text)
+-- the broken rule, where there is one
+abbrev pub broken_rule : Compilation → Option BrokenRule
+broken_rule (Err broken) = Some broken
+broken_rule (Ok o) = None
 
-abbrev pub fault_in : Compiled → Option Rule
-fault_in (refused r) = Some r.rule
-fault_in (legal net commands) = None
+-- the first rule that a text breaks with all that it carries, or none
+abbrev pub fault : List ℕ → Option BrokenRule
+fault text = broken_rule (compilation text)
 
--- the first rule that a text breaks, or none
-abbrev pub fault : List ℕ → Option Rule
-fault text = fault_in (compiled text)
-
+-- a text that breaks none
 abbrev pub IsLegal : List ℕ → Type 0
 IsLegal text = fault text ≡ None
 
--- the fault of `compile` is want of memory, or the refusal of the text
-abbrev pub IsRefusedBy : Compiled → CompileFault → Type 0
-IsRefusedBy c OutOfMemory = Unit {0}
-IsRefusedBy c (RefusedBy r) = c ≡ refused r
+-- a broken rule as its refusal: the rule and its line
+abbrev pub with_refusal : Compilation → Result Outcome Refused
+with_refusal (Err broken) = Err (refusal_of broken)
+with_refusal (Ok o) = Ok o
+
+-- a platform as the net and commands of the definitions; its walks are those of the net
+abbrev pub platform_view : PlatformState → Outcome
+platform_view p = record { net = p.net; commands = p.commands }
+
+-- the fault of `compile` as the refusal that it is; want of memory is none
+abbrev pub compile_fault_view : CompileFault → Option Refused
+compile_fault_view (RefusedBy r) = Some r
+compile_fault_view OutOfMemory = None

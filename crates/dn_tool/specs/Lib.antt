@@ -2,3 +2,5 @@ pub mod Refused
 pub mod Compiled
 pub mod Reply
 pub mod Answer
+pub mod Halt
+pub mod Platform

@@ -12,6 +12,7 @@ use Rattle.dn_print.specs.Statement.{node_name, joined}
 use Rattle.dn_tool.specs.declared.refusal.Rule.{Rule}
 use Rattle.dn_tool.specs.declared.refusal.Rule.TheVariants.{Length, Token, Statement, Block, Nesting, Duplicate, Unknown, Arguments, Value, TooMany, Range, Overlap, Repeat, VectorSpace, Wide, Loop, Deep}
 
+-- the rule that is broken, and the line
 pub record Refused : Type 0 where
   pub rule : Rule
   pub text : List ℕ
@@ -84,6 +85,20 @@ abbrev pub walk_refusal : List NodeDecl → Broken → Refused
 walk_refusal net is_wide = showing Wide (codes "1048576")
 walk_refusal net (has_loop cycle) = showing Loop (chain_text net cycle)
 walk_refusal net (is_deep path) = showing Deep (chain_text net path)
+
+-- the first rule that a text breaks, with all that the rule carries: lines and limits, and nodes and names of a net
+pub data BrokenRule : Type 0 where
+  of_text : TextFault → BrokenRule
+  of_expansion : ExpansionFault → BrokenRule
+  of_nodes : List NodeDecl → BrokenNode → BrokenRule
+  of_walks : List NodeDecl → Broken → BrokenRule
+
+-- the refusal of a text by the rule that it breaks
+abbrev pub refusal_of : BrokenRule → Refused
+refusal_of (of_text fault) = text_refusal fault
+refusal_of (of_expansion fault) = expand_refusal fault
+refusal_of (of_nodes net fault) = node_refusal net fault
+refusal_of (of_walks net fault) = walk_refusal net fault
 
 -- the node that a broken rule names is one of so many
 abbrev pub IsNodeWithin : ℕ → BrokenNode → Type 0

@@ -17,6 +17,7 @@ abbrev pub target_text : List NodeDecl → Option ℕ → ℕ → List ℕ
 target_text net None a = codes "no such node"
 target_text net (Some n) a = names_text net (resolved_names net (record { node = n; addr = a }))
 
+-- the reply to `resolve`: the address as it was asked for, and the names
 abbrev pub resolve_text : List NodeDecl → Target → ℕ → List ℕ
 resolve_text net target a = target.text ++ (codes "@" ++ (address_text a ++ (codes ": " ++ (target_text net target.node a ++ codes "\n"))))
 
@@ -24,9 +25,11 @@ resolve_text net target a = target.text ++ (codes "@" ++ (address_text a ++ (cod
 abbrev pub viewed_text : List NodeDecl → List ℕ → List Seen → List ℕ
 viewed_text net text rows = codes "view " ++ (text ++ (codes " rows " ++ (decimal (length rows) ++ (codes "\n" ++ rows_text net rows))))
 
+-- the reply to a view of what is no agent
 abbrev pub no_agent_text : List ℕ → List ℕ
 no_agent_text text = codes "view " ++ (text ++ codes " refused: NoAgent\n")
 
+-- the view of a node that is an agent, and of nothing else
 abbrev pub view_by : List NodeDecl → List ℕ → Option ℕ → List ℕ
 view_by net text None = no_agent_text text
 view_by net text (Some n) = if is_agent_at (slice_get net n) then viewed_text net text (view_rows net n) else no_agent_text text
@@ -51,7 +54,25 @@ reply net Dump = later_text (codes "dump")
 reply net Split = later_text (codes "split")
 reply net (Absorb target) = later_text (codes "absorb")
 
--- the replies to commands in order
-abbrev pub replies : List NodeDecl → List Command → List ℕ
-replies net [] = []
-replies net (c ∷ cs) = reply net c ++ replies net cs
+-- what commands are answered by, and what they may change: the net, which none changes so far
+pub record State : Type 0 where
+  pub net : List NodeDecl
+
+-- what a command gives: its reply, and the next state
+pub record Turn : Type 0 where
+  pub reply : List ℕ
+  pub next : State
+
+-- the turn of a command in a state
+abbrev pub turn : State → Command → Turn
+turn s c = record { reply = reply s.net c; next = s }
+
+-- the replies to commands in order, each in the state that those before it left
+abbrev pub replies : State → List Command → List (List ℕ)
+replies s [] = []
+replies s (c ∷ cs) = (turn s c).reply ∷ replies (turn s c).next cs
+
+-- the state that commands in order leave
+abbrev pub state_after : State → List Command → State
+state_after s [] = s
+state_after s (c ∷ cs) = state_after (turn s c).next cs

@@ -1,14 +1,15 @@
 //! From a text to its platform, or to the rule that it breaks.
 
-ghost use Rattle.std.specs.Prelude.{◌≡◌, IfOk, IfErr, IsTrue, None, Ok, length};
+ghost use Rattle.std.specs.Prelude.{◌≡◌, IfOk, IfSome, IsTrue, Result, Ok, Err, length};
 ghost use Rattle.std.specs.List.{list_all};
 ghost use Rattle.dn_net.specs.Decode.{is_closed};
-ghost use Rattle.dn_net.specs.Rules.{node_fault};
-ghost use Rattle.dn_net.specs.WalkRules.{walk_fault};
 ghost use Rattle.dn_module.specs.Commands.{names_within};
 ghost use Rattle.dn_module.specs.Finish.{outcome_view};
-ghost use Rattle.dn_walk.specs.Rows.{AreWalksOf};
-ghost use Rattle.dn_tool.specs.Compiled.{Compiled, compiled, compiled_outcome, legal, refused, IsRefusedBy};
+ghost use Rattle.dn_tool.specs.Platform.{IsPlatform};
+ghost use Rattle.dn_base.specs.Answers.{Answers};
+ghost use Rattle.dn_module.specs.Expand.{Outcome};
+ghost use Rattle.dn_tool.specs.Compiled.{compilation, compile_fault_view, expansion_compilation, platform_view, with_refusal};
+ghost use Rattle.dn_tool.specs.Refused.{Refused};
 
 use crate::refusal;
 use crate::refusal::Refusal;
@@ -20,6 +21,7 @@ use dn_parse::reader;
 use dn_walk::walks;
 use dn_walk::walks::WalkTable;
 use std::alloc::{AllocError, Global};
+use std::marker::Model;
 
 /// Why a text is not compiled.
 #[derive(Drop)]
@@ -31,32 +33,49 @@ pub enum CompileFault {
 }
 
 /// A compiled text: its net, the live walks of that net, and its commands.
+///
+/// The net is legal, the walks are its live walks, and each node that a command names is there.
 #[derive(Drop)]
 pub struct Platform {
+    /// The net.
     pub net: Net,
+    /// The live walks of the net.
     pub walks: WalkTable,
+    /// The commands, in order.
     pub commands: Commands,
+}
+
+impl Model for Platform {
+    ghost use Rattle.dn_tool.specs.Platform.{IsPlatform, PlatformState};
+
+    ghost Value = { PlatformState };
+
+    ghost view = { λ p. record { net = p.net; walks = p.walks; commands = p.commands } };
+
+    ghost invariant = { λ p. IsPlatform (record { net = p.net; walks = p.walks; commands = p.commands }) };
+}
+
+impl Platform {
+    /// What every platform is, for a proof of its caller. It does nothing.
+    pub fn facts(&self)
+        ensures { IsPlatform self.now }
+    {
+        let _net = &self.net;
+    }
 }
 
 /// Compiles a text. It is refused exactly where it breaks a rule.
 pub fn compile(alloc: Global, text: &[u8]) -> Result<Platform, CompileFault>
-    ensures legal { IfOk result (λ p. compiled text.now ≡ legal p.net p.commands) }
-    ensures refused { IfErr result (λ e. IsRefusedBy (compiled text.now) e) }
-    // Each node to which the platform refers is there, and the net keeps the node rules and those on walks.
-    ensures closed { IfOk result (λ p. IsTrue (is_closed p.net)) }
-    ensures checked { IfOk result (λ p. node_fault p.net ≡ None) }
-    ensures walkable { IfOk result (λ p. walk_fault p.net ≡ None) }
-    // The walks are those of the net.
-    ensures walks { IfOk result (λ p. AreWalksOf p.net p.walks) }
-    ensures known { IfOk result (λ p. IsTrue (list_all (names_within (length p.net)) p.commands)) }
+    ensures { Answers platform_view compile_fault_view result
+        (with_refusal (compilation text.now)) }
 {
     let tree = match reader::read(alloc, text) {
         Ok(tree) => tree,
-        Err(fault) => return Err(told(refusal::text_refusal(alloc, fault))),
+        Err(fault) => return Err(fault_of(refusal::text_refusal(alloc, fault))),
     };
     match expand::expand(alloc, &tree) {
         Ok(expanded) => platform_of(alloc, expanded),
-        Err(fault) => Err(told(refusal::expand_refusal(alloc, fault))),
+        Err(fault) => Err(fault_of(refusal::expand_refusal(alloc, fault))),
     }
 }
 
@@ -64,17 +83,12 @@ pub fn compile(alloc: Global, text: &[u8]) -> Result<Platform, CompileFault>
 fn platform_of(alloc: Global, expanded: Expanded) -> Result<Platform, CompileFault>
     requires closed { IsTrue (is_closed expanded.net) }
     requires known { IsTrue (list_all (names_within (length expanded.net)) expanded.commands) }
-    ensures legal { IfOk result (λ p. compiled_outcome (Ok (outcome_view expanded)) ≡ legal p.net p.commands) }
-    ensures refused { IfErr result (λ e. IsRefusedBy (compiled_outcome (Ok (outcome_view expanded))) e) }
-    ensures closed { IfOk result (λ p. IsTrue (is_closed p.net)) }
-    ensures checked { IfOk result (λ p. node_fault p.net ≡ None) }
-    ensures walkable { IfOk result (λ p. walk_fault p.net ≡ None) }
-    ensures walks { IfOk result (λ p. AreWalksOf p.net p.walks) }
-    ensures known { IfOk result (λ p. IsTrue (list_all (names_within (length p.net)) p.commands)) }
+    ensures { Answers platform_view compile_fault_view result
+        (with_refusal (expansion_compilation (Ok (outcome_view expanded)))) }
 {
     let Expanded { net, commands } = expanded;
     if let Err(fault) = net.check_nodes(alloc) {
-        return Err(told(refusal::node_refusal(alloc, &net, fault)));
+        return Err(fault_of(refusal::node_refusal(alloc, &net, fault)));
     }
     match walks::walks(alloc, &net) {
         Ok(walks) => Ok(Platform {
@@ -82,13 +96,14 @@ fn platform_of(alloc: Global, expanded: Expanded) -> Result<Platform, CompileFau
             walks,
             commands,
         }),
-        Err(fault) => Err(told(refusal::walk_refusal(alloc, &net, &fault))),
+        Err(fault) => Err(fault_of(refusal::walk_refusal(alloc, &net, &fault))),
     }
 }
 
 /// The fault that a refusal is.
-fn told(refusal: Result<Refusal, AllocError>) -> CompileFault
-    ensures { (c : Compiled) → IfOk refusal (λ r. c ≡ refused r) → IsRefusedBy c result }
+fn fault_of(refusal: Result<Refusal, AllocError>) -> CompileFault
+    ensures { (made : Result Outcome Refused) → IfOk refusal (λ r. made ≡ Err r) →
+        IfSome (compile_fault_view result) (λ r. made ≡ Err r) }
 {
     match refusal {
         Ok(refusal) => CompileFault::Refused(refusal),

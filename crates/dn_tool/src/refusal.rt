@@ -1,6 +1,6 @@
 //! The refusal of a text: the rule that it breaks, and the line that says so.
 
-ghost use Rattle.std.specs.Prelude.{◌≡◌, ◌≢◌, ◌<◌, ◌++◌, length, option_map, Some, IfOk, IfSome, OnOk, IsTrue};
+ghost use Rattle.std.specs.Prelude.{◌≡◌, ◌<◌, ◌++◌, length, option_map, Some, IfOk, IfSome, OnOk, IsTrue};
 ghost use Rattle.dn_parse.specs.Faults.{parse_fault_view};
 ghost use Rattle.dn_module.specs.Faults.{expand_fault_view};
 ghost use Rattle.std.specs.String.{string_bytes};
@@ -185,7 +185,8 @@ pub fn expand_refusal(alloc: Global, fault: ExpandFault) -> Result<Refusal, Allo
 /// The refusal of a net by a node rule. Want of memory is handed on.
 pub fn node_refusal(alloc: Global, net: &Net, fault: NodeFault) -> Result<Refusal, AllocError>
     requires { IfSome (node_fault_view fault) (IsNodeWithin (length net.now)) }
-    ensures { IfOk result (λ r. option_map (node_refusal net.now) (node_fault_view fault) ≡ Some r) }
+    ensures { IfOk result (λ r.
+        option_map (node_refusal net.now) (node_fault_view fault) ≡ Some r) }
 {
     match fault {
         NodeFault::Range { node } => Refusal::showing(alloc, Rule::Range, net.text(node)),
@@ -211,7 +212,8 @@ fn overlap_refusal(alloc: Global, net: &Net, name: Name) -> Result<Refusal, Allo
 /// The refusal of a net by a rule on walks. Want of memory is handed on.
 pub fn walk_refusal(alloc: Global, net: &Net, fault: &WalkFault) -> Result<Refusal, AllocError>
     requires { IfSome (walk_fault_view fault.now) (AreNodesWithin (length net.now)) }
-    ensures { IfOk result (λ r. option_map (walk_refusal net.now) (walk_fault_view fault.now) ≡ Some r) }
+    ensures { IfOk result (λ r.
+        option_map (walk_refusal net.now) (walk_fault_view fault.now) ≡ Some r) }
 {
     match fault {
         WalkFault::Wide => Refusal::showing(alloc, Rule::Wide, "1048576"),
@@ -239,7 +241,8 @@ fn chain_refusal(
 /// Appends the names with ` -> ` between each two. For want of memory a part may have been appended.
 fn push_chain(out: &mut String, net: &Net, names: &[Name]) -> Result<(), AllocError>
     requires { IsTrue (names_exist (length net.now) names.now) }
-    ensures { OnOk result (string_bytes out.new ≡ string_bytes out.old ++ chain_text net.now names.now) }
+    ensures { OnOk result (string_bytes out.new ≡
+        string_bytes out.old ++ chain_text net.now names.now) }
 {
     let [first, rest @ ..] = names else {
         return Ok(());

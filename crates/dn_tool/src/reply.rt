@@ -3,9 +3,7 @@
 ghost use Rattle.std.specs.Prelude.{◌≡◌, ◌<◌, length, slice_get, IfOk, IsTrue};
 ghost use Rattle.std.specs.String.{string_bytes};
 ghost use Rattle.dn_net.specs.Decode.{is_agent_at, over_within};
-ghost use Rattle.dn_net.specs.Rules.{KeepsNodeRules};
 ghost use Rattle.dn_module.specs.Commands.{names_within};
-ghost use Rattle.dn_walk.specs.Rows.{AreWalksOf};
 ghost use Rattle.dn_flat.specs.Views.{view_rows};
 ghost use Rattle.dn_tool.specs.Reply.{reply, target_text, resolve_text, viewed_text, no_agent_text, view_text, later_text};
 
@@ -20,12 +18,11 @@ use std::alloc::{AllocError, Global};
 
 /// The reply to a command: a line, and below that of `view` a line for each row. `Err` is want of memory.
 pub fn reply(alloc: Global, platform: &Platform, command: &Command) -> Result<String, AllocError>
-    requires walks { AreWalksOf platform.now.net platform.now.walks }
-    requires known { IsTrue (names_within (length platform.now.net) command.now) }
+    requires { IsTrue (names_within (length platform.now.net) command.now) }
     ensures { IfOk result (λ s. string_bytes s ≡ reply platform.now.net command.now) }
 {
     match command {
-        Command::Resolve(target, addr) => resolve_reply(alloc, &platform.net, target, *addr),
+        Command::Resolve(target, addr) => resolve_reply(alloc, platform, target, *addr),
         Command::Lookup(..) => later(alloc, "lookup"),
         Command::View(target) => view_reply(alloc, platform, target),
         Command::Grant(..) => later(alloc, "grant"),
@@ -45,41 +42,48 @@ fn later(alloc: Global, word: &str) -> Result<String, AllocError>
 }
 
 /// The reply to `resolve`.
-fn resolve_reply(alloc: Global, net: &Net, target: &Target, addr: u64) -> Result<String, AllocError>
-    requires rules { KeepsNodeRules net.now }
-    requires known { IsTrue (over_within (length net.now) target.now.node) }
-    ensures { IfOk result (λ s. string_bytes s ≡ resolve_text net.now target.now addr) }
+fn resolve_reply(
+    alloc: Global,
+    platform: &Platform,
+    target: &Target,
+    addr: u64,
+) -> Result<String, AllocError>
+    requires { IsTrue (over_within (length platform.now.net) target.now.node) }
+    ensures { IfOk result (λ s. string_bytes s ≡ resolve_text platform.now.net target.now addr) }
 {
     let text = target.text.as_str();
-    let found = target_text(alloc, net, target.node, addr)?;
+    let found = target_text(alloc, platform, target.node, addr)?;
     let found = found.as_str();
     format!(in alloc; "{text}@0x{addr:x}: {found}\n")
 }
 
 /// The names to which the address of a node resolves, where there is such a node.
-fn target_text(alloc: Global, net: &Net, node: Option<u16>, addr: u64) -> Result<String, AllocError>
-    requires rules { KeepsNodeRules net.now }
-    requires known { IsTrue (over_within (length net.now) node) }
-    ensures { IfOk result (λ s. string_bytes s ≡ target_text net.now node addr) }
+fn target_text(
+    alloc: Global,
+    platform: &Platform,
+    node: Option<u16>,
+    addr: u64,
+) -> Result<String, AllocError>
+    requires { IsTrue (over_within (length platform.now.net) node) }
+    ensures { IfOk result (λ s. string_bytes s ≡ target_text platform.now.net node addr) }
 {
     let Some(node) = node else {
         return String::from_str(alloc, "no such node");
     };
-    let found = resolve::resolve(alloc, net, Name { node, addr })?;
+    let found = resolve::resolve(alloc, &platform.net, Name { node, addr })?;
     let mut text = String::new(alloc);
-    names::push_names(&mut text, net, found.list())?;
+    names::push_names(&mut text, &platform.net, found.list())?;
     Ok(text)
 }
 
 /// The reply to `view`.
 fn view_reply(alloc: Global, platform: &Platform, target: &Target) -> Result<String, AllocError>
-    requires walks { AreWalksOf platform.now.net platform.now.walks }
-    requires known { IsTrue (over_within (length platform.now.net) target.now.node) }
+    requires { IsTrue (over_within (length platform.now.net) target.now.node) }
     ensures { IfOk result (λ s. string_bytes s ≡ view_text platform.now.net target.now) }
 {
     let text = target.text.as_str();
     match target.node {
-        Some(node) if is_agent(&platform.net, node) => viewed(alloc, platform, text, node),
+        Some(node) if is_agent(&platform.net, node) => agent_view(alloc, platform, text, node),
         _ => no_agent(alloc, text),
     }
 }
@@ -100,10 +104,15 @@ fn no_agent(alloc: Global, text: &str) -> Result<String, AllocError>
 }
 
 /// What a node sees, below a heading with this text and the number of rows.
-fn viewed(alloc: Global, platform: &Platform, text: &str, node: u16) -> Result<String, AllocError>
-    requires walks { AreWalksOf platform.now.net platform.now.walks }
-    requires there { node < length platform.now.net }
-    ensures { IfOk result (λ s. string_bytes s ≡ viewed_text platform.now.net text.now (view_rows platform.now.net node)) }
+fn agent_view(
+    alloc: Global,
+    platform: &Platform,
+    text: &str,
+    node: u16,
+) -> Result<String, AllocError>
+    requires { node < length platform.now.net }
+    ensures { IfOk result (λ s. string_bytes s ≡
+        viewed_text platform.now.net text.now (view_rows platform.now.net node)) }
 {
     let flat = flat::flatten(alloc, &platform.net, &platform.walks, node)?;
     let count = flat.accepts.rows().len();

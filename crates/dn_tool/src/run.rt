@@ -1,15 +1,11 @@
 //! The top call: from the words and the bytes of a source to those of a sink, and a status.
 
-ghost use Rattle.std.specs.Prelude.{◌≡◌, ◌≢◌, ℕ, List, ◌<◌, ◌≤◌, ◌⊎◌, ◌++◌, [], true, false, codes, length, IsTrue, IsSome, None, take};
-ghost use Rattle.std.specs.List.{list_all};
+ghost use Rattle.std.specs.Prelude.{◌≡◌, ◌≢◌, ℕ, List, ◌==◌, ◌-◌, ◌<◌, ◌⊎◌, ◌∷◌, ◌++◌, [], true, false, codes, length, not, IfOk, None, take, is_ok};
 ghost use Rattle.std.specs.Option.{IfSome};
-ghost use Rattle.dn_base.specs.Outside.{Rose, Added, AddedFront, AtEnd, Taken, TakenAtMost};
-ghost use Rattle.dn_net.specs.Decode.{is_closed};
-ghost use Rattle.dn_net.specs.Rules.{node_fault};
-ghost use Rattle.dn_net.specs.WalkRules.{walk_fault};
-ghost use Rattle.dn_walk.specs.Rows.{AreWalksOf};
-ghost use Rattle.dn_tool.specs.Answer.{answer, of_text, told, task_of};
-ghost use Rattle.dn_module.specs.Commands.{names_within};
+ghost use Rattle.dn_base.specs.Outside.{AreWritten, AtEnd, IsCounted, IsWritten, Taken, TakenAtMost, input_limit};
+ghost use Rattle.dn_tool.specs.Answer.{IsInput, answer, is_free, reads, task_of, task_pieces, text_answer, usage};
+ghost use Rattle.dn_tool.specs.Halt.{ending_status, is_write_halt};
+ghost use Rattle.dn_tool.specs.declared.run.Halt.TheVariants.{NoMemory as no_memory};
 ghost use Rattle.dn_print.specs.Statement.{net_text};
 ghost use Rattle.dn_tool.specs.Reply.{replies};
 
@@ -20,9 +16,8 @@ use crate::{compile, reply};
 use dn_base::sink::{Sink, WriteFault};
 use dn_base::source::Source;
 use dn_base::whole;
-use dn_base::whole::{INPUT_LIMIT, InputFault};
-use dn_net::net::Net;
-use std::alloc::Global;
+use dn_base::whole::InputFault;
+use std::alloc::{AllocError, Global};
 
 /// The input was read to its end and every command was answered.
 pub const DONE: u8 = 0;
@@ -37,150 +32,179 @@ pub const REFUSED: u8 = 4;
 /// There was no memory.
 pub const NO_MEMORY: u8 = 7;
 
+/// Why the writing of an answer stops before its end.
+#[derive(Clone, Copy, Debug, PartialEq, Eq)]
+enum Halt {
+    /// A write failed. The sink counts it.
+    WriteFault,
+    /// There was no memory for the next piece, or to keep it in.
+    NoMemory,
+}
+
+impl From<AllocError> for Halt {
+    ghost from_gives = { λ _ e. e ≡ no_memory };
+
+    fn from(_e: AllocError) -> Halt {
+        Halt::NoMemory
+    }
+}
+
+/// The status of an answer that was written whole, or of the halt before that.
+fn status_of(ended: Result<u8, Halt>) -> u8
+    ensures { result ≡ ending_status ended }
+{
+    match ended {
+        Ok(status) => status,
+        Err(Halt::WriteFault) => WRITE_FAULT,
+        Err(Halt::NoMemory) => NO_MEMORY,
+    }
+}
+
 /// Answers the words: reads the source's text, writes what it comes to, and gives the status.
 ///
-/// The forms of words are `run` and `check`. Nothing is read where the words are of no form.
+/// The forms of words are `run` and `check`, and both read. Nothing is read where the words are of
+/// no form.
 pub fn run<S: Source, K: Sink>(alloc: Global, words: &Words, source: &mut S, sink: &mut K) -> u8
-    // A status of 0, 1 or 4 is that of the answer, and exactly its output was written.
-    ensures exact { IfSome (S.left source.old) (λ text. (result ≢ 2) → (result ≢ 3) → (result ≢ 7) →
-        (result ≡ (answer words.now text).status) × Added (K.written sink.old) (K.written sink.new) (answer words.now text).output) }
-    // At every status what was written is a front of the output, and at status 2 it is empty.
-    ensures front { IfSome (S.left source.old) (λ text. AddedFront (K.written sink.old) (K.written sink.new) (answer words.now text).output) }
+    // A status that is not free is that of the answer: to the text that the source tells where the
+    // words read it, and else to any text.
+    ensures exact { (text : List ℕ) → IsInput words.now (S.left source.old) text →
+        is_free result ≡ false → result ≡ (answer words.now text).status }
+    // At such a status exactly the answer's output was written. At any other so many of its pieces
+    // were written whole, and then a prefix of the next; at status 3 not all of them.
+    ensures written { (text : List ℕ) → IsInput words.now (S.left source.old) text →
+        AreWritten (K.written sink.old) (K.written sink.new)
+        (not (is_free result)) (result == 3) (answer words.now text).pieces }
     ensures nothing_written { result ≡ 2 → K.written sink.new ≡ K.written sink.old }
-    // Status 2 or 3 comes only where the count of the source or of the sink rose in this call.
-    ensures read_fault { result ≡ 2 → Rose (S.faults source.old) (S.faults source.new) }
-    ensures write_fault { result ≡ 3 → Rose (K.faults sink.old) (K.faults sink.new) }
     ensures statuses { (result < 5) ⊎ (result ≡ 7) }
-    // At status 0 the source is at its end.
-    ensures end { result ≡ 0 → AtEnd (S.left source.new) }
-    // With other words nothing is read, and the answer is the usage line whether or not the source tells its bytes.
-    ensures unread { task_of words.now ≡ None → (S.left source.new ≡ S.left source.old) × (S.faults source.new ≡ S.faults source.old) }
-    ensures words_exact { task_of words.now ≡ None → (text : List ℕ) → (result ≢ 3) → (result ≢ 7) →
-        (result ≡ (answer words.now text).status) × Added (K.written sink.old) (K.written sink.new) (answer words.now text).output }
-    ensures words_front { task_of words.now ≡ None → (text : List ℕ) → AddedFront (K.written sink.old) (K.written sink.new) (answer words.now text).output }
     ensures wrong_words { result ≡ 1 → task_of words.now ≡ None }
-    // The source is read to its end, or until 4,194,305 bytes were taken.
-    ensures read_through { IsSome (task_of words.now) → (result ≢ 2) → (result ≢ 7) →
-        IfSome (S.left source.old) (λ text. Taken (S.left source.old) (S.left source.new) (take INPUT_LIMIT text)) }
-    ensures at_most { TakenAtMost INPUT_LIMIT (S.left source.old) (S.left source.new) }
-    // A source and a sink that never fail have no fault answered.
-    ensures sure_source { S.sure source.old ≡ true → result ≢ 2 }
-    ensures sure_sink { K.sure sink.old ≡ true → result ≢ 3 }
+    // Where the words do not read the source it is as it was, and so it has no fault.
+    ensures unread { reads words.now ≡ false → (result ≢ 2) × (source.new ≡ source.old) }
+    // Where they do, it is at its end at status 0, and was read to its end or to the limit of
+    // 4,194,305 bytes wherever the run came past reading.
+    ensures end { reads words.now ≡ true → result ≡ 0 → AtEnd (S.left source.new) }
+    ensures read_through { reads words.now ≡ true → (result ≢ 2) → (result ≢ 7) →
+        IfSome (S.left source.old) (λ text.
+        Taken (S.left source.old) (S.left source.new) (take input_limit text)) }
+    ensures at_most { TakenAtMost input_limit (S.left source.old) (S.left source.new) }
+    // A fault of the source comes only before the limit was taken.
+    ensures before_limit { result ≡ 2 →
+        TakenAtMost (input_limit - 1) (S.left source.old) (S.left source.new) }
+    // Status 2 or 3 comes only where the count of the source or of the sink rose in this call, and
+    // never over a source or a sink that never fails. At every other status the count is as it was,
+    // over one that answers each fault by the call in which it comes.
+    ensures source_counted { IsCounted (S.faults source.old) (S.faults source.new) (result == 2) }
+    ensures sink_counted { IsCounted (K.faults sink.old) (K.faults sink.new) (result == 3) }
 {
     let Some(task) = words.task() else {
-        return finish(sink, "usage: netconf COMMAND [N]\n".as_bytes(), WRONG_WORDS);
+        return status_of(refuse_words(sink));
     };
     let text = match whole::read_whole(alloc, source) {
         Ok(text) => text,
         Err(InputFault::Failed) => return READ_FAULT,
         Err(InputFault::OutOfMemory) => return NO_MEMORY,
     };
-    answer_text(alloc, task, &text, sink)
+    status_of(answer_text(alloc, task, &text, sink))
 }
 
-/// Compiles a text, and writes what it comes to.
-fn answer_text<K: Sink>(alloc: Global, task: Task, text: &[u8], sink: &mut K) -> u8
-    ensures exact { (result ≢ WRITE_FAULT) → (result ≢ NO_MEMORY) → (result ≡ (of_text task text.now).status) × Added (K.written sink.old) (K.written sink.new) (of_text task text.now).output }
-    ensures front { AddedFront (K.written sink.old) (K.written sink.new) (of_text task text.now).output }
-    ensures which { (result ≡ DONE) ⊎ (result ≡ REFUSED) ⊎ (result ≡ WRITE_FAULT) ⊎ (result ≡ NO_MEMORY) }
-    ensures rose { result ≡ WRITE_FAULT → Rose (K.faults sink.old) (K.faults sink.new) }
-    ensures sure { K.sure sink.old ≡ true → result ≢ WRITE_FAULT }
-    ensures done { result ≡ DONE → length text.now < INPUT_LIMIT }
+/// Writes the line that says how the program is used.
+#[tactic(auto, using(dn_base::proofs::Told::pieces_one))]
+fn refuse_words<K: Sink>(sink: &mut K) -> Result<u8, Halt>
+    ensures status { IfOk result (λ s. s ≡ 1) }
+    ensures written { AreWritten (K.written sink.old) (K.written sink.new)
+        (is_ok result) (is_write_halt result) (usage ∷ []) }
+    ensures counted { IsCounted (K.faults sink.old) (K.faults sink.new) (is_write_halt result) }
+{
+    write_output(sink, "usage: netconf COMMAND [N]\n".as_bytes())?;
+    Ok(WRONG_WORDS)
+}
+
+/// Compiles a text, writes what it comes to, and answers the status of that.
+fn answer_text<K: Sink>(alloc: Global, task: Task, text: &[u8], sink: &mut K) -> Result<u8, Halt>
+    ensures status { IfOk result (λ s. s ≡ (text_answer task text.now).status) }
+    ensures which { IfOk result (λ s. (s ≡ 0) ⊎ (s ≡ 4)) }
+    ensures written { AreWritten (K.written sink.old) (K.written sink.new)
+        (is_ok result) (is_write_halt result) (text_answer task text.now).pieces }
+    ensures counted { IsCounted (K.faults sink.old) (K.faults sink.new) (is_write_halt result) }
+    ensures short { IfOk result (λ s. s ≡ 0 → length text.now < input_limit) }
 {
     match compile::compile(alloc, text) {
-        Ok(platform) => tell(alloc, task, &platform, sink),
-        Err(CompileFault::Refused(refusal)) => refuse(alloc, &refusal, sink),
-        Err(CompileFault::OutOfMemory) => NO_MEMORY,
+        Ok(platform) => {
+            answer_task(alloc, task, &platform, sink)?;
+            Ok(DONE)
+        }
+        Err(CompileFault::Refused(refusal)) => {
+            refuse(alloc, &refusal, sink)?;
+            Ok(REFUSED)
+        }
+        Err(CompileFault::OutOfMemory) => Err(Halt::NoMemory),
     }
 }
 
 /// Does what the words ask for with a platform: answers its commands, or prints its net.
-fn tell<K: Sink>(alloc: Global, task: Task, platform: &Platform, sink: &mut K) -> u8
-    requires closed { IsTrue (is_closed platform.now.net) }
-    requires checked { node_fault platform.now.net ≡ None }
-    requires walkable { walk_fault platform.now.net ≡ None }
-    requires walks { AreWalksOf platform.now.net platform.now.walks }
-    requires known { IsTrue (list_all (names_within (length platform.now.net)) platform.now.commands) }
-    ensures exact { (result ≢ WRITE_FAULT) → (result ≢ NO_MEMORY) → (result ≡ DONE) × Added (K.written sink.old) (K.written sink.new) (told task platform.now.net platform.now.commands) }
-    ensures front { AddedFront (K.written sink.old) (K.written sink.new) (told task platform.now.net platform.now.commands) }
-    ensures which { (result ≡ DONE) ⊎ (result ≡ WRITE_FAULT) ⊎ (result ≡ NO_MEMORY) }
-    ensures rose { result ≡ WRITE_FAULT → Rose (K.faults sink.old) (K.faults sink.new) }
-    ensures sure { K.sure sink.old ≡ true → result ≢ WRITE_FAULT }
+fn answer_task<K: Sink>(
+    alloc: Global,
+    task: Task,
+    platform: &Platform,
+    sink: &mut K,
+) -> Result<(), Halt>
+    ensures written { AreWritten (K.written sink.old) (K.written sink.new)
+        (is_ok result) (is_write_halt result)
+        (task_pieces task platform.now.net platform.now.commands) }
+    ensures counted { IsCounted (K.faults sink.old) (K.faults sink.new) (is_write_halt result) }
 {
     match task {
         Task::Run => answer_all(alloc, platform, sink),
-        Task::Check => print_net(alloc, &platform.net, sink),
+        Task::Check => print_net(alloc, platform, sink),
     }
 }
 
 /// Writes the net, a statement for each node.
-fn print_net<K: Sink>(alloc: Global, net: &Net, sink: &mut K) -> u8
-    requires closed { IsTrue (is_closed net.now) }
-    ensures exact { (result ≢ WRITE_FAULT) → (result ≢ NO_MEMORY) → (result ≡ DONE) × Added (K.written sink.old) (K.written sink.new) (net_text [] net.now) }
-    ensures front { AddedFront (K.written sink.old) (K.written sink.new) (net_text [] net.now) }
-    ensures which { (result ≡ DONE) ⊎ (result ≡ WRITE_FAULT) ⊎ (result ≡ NO_MEMORY) }
-    ensures rose { result ≡ WRITE_FAULT → Rose (K.faults sink.old) (K.faults sink.new) }
-    ensures sure { K.sure sink.old ≡ true → result ≢ WRITE_FAULT }
+#[tactic(auto, using(dn_base::proofs::Told::pieces_one, dn_base::proofs::Told::pieces_none))]
+fn print_net<K: Sink>(alloc: Global, platform: &Platform, sink: &mut K) -> Result<(), Halt>
+    ensures written { AreWritten (K.written sink.old) (K.written sink.new)
+        (is_ok result) (is_write_halt result) (net_text [] platform.now.net ∷ []) }
+    ensures counted { IsCounted (K.faults sink.old) (K.faults sink.new) (is_write_halt result) }
 {
-    match dn_print::net::net_text(alloc, net) {
-        Ok(text) => finish(sink, text.as_slice(), DONE),
-        Err(_) => NO_MEMORY,
-    }
-}
-
-/// Writes the output, and gives the status of that.
-fn finish<K: Sink>(sink: &mut K, output: &[u8], status: u8) -> u8
-    ensures exact { (result ≢ WRITE_FAULT) → (result ≢ NO_MEMORY) → (result ≡ status) × Added (K.written sink.old) (K.written sink.new) output.now }
-    ensures front { AddedFront (K.written sink.old) (K.written sink.new) output.now }
-    ensures which { (result ≡ status) ⊎ (result ≡ WRITE_FAULT) ⊎ (result ≡ NO_MEMORY) }
-    ensures rose { status ≢ WRITE_FAULT → result ≡ WRITE_FAULT → Rose (K.faults sink.old) (K.faults sink.new) }
-    ensures never_falls { K.faults sink.old ≤ K.faults sink.new }
-    ensures same_sure { K.sure sink.new ≡ K.sure sink.old }
-    ensures sure { status ≢ WRITE_FAULT → K.sure sink.old ≡ true → result ≢ WRITE_FAULT }
-{
-    match whole::write_whole(sink, output) {
-        Ok(()) => status,
-        Err(WriteFault::Failed) => WRITE_FAULT,
-        Err(WriteFault::OutOfMemory) => NO_MEMORY,
-    }
+    let text = dn_print::net::net_text(alloc, &platform.net)?;
+    write_output(sink, text.as_slice())
 }
 
 /// Writes the line of a refusal.
-fn refuse<K: Sink>(alloc: Global, refusal: &Refusal, sink: &mut K) -> u8
-    ensures exact { (result ≢ WRITE_FAULT) → (result ≢ NO_MEMORY) → (result ≡ REFUSED) × Added (K.written sink.old) (K.written sink.new) (refusal.now.text ++ codes "\n") }
-    ensures front { AddedFront (K.written sink.old) (K.written sink.new) (refusal.now.text ++ codes "\n") }
-    ensures which { (result ≡ REFUSED) ⊎ (result ≡ WRITE_FAULT) ⊎ (result ≡ NO_MEMORY) }
-    ensures rose { result ≡ WRITE_FAULT → Rose (K.faults sink.old) (K.faults sink.new) }
-    ensures sure { K.sure sink.old ≡ true → result ≢ WRITE_FAULT }
+#[tactic(auto, using(dn_base::proofs::Told::pieces_one, dn_base::proofs::Told::pieces_none))]
+fn refuse<K: Sink>(alloc: Global, refusal: &Refusal, sink: &mut K) -> Result<(), Halt>
+    ensures written { AreWritten (K.written sink.old) (K.written sink.new)
+        (is_ok result) (is_write_halt result) ((refusal.now.text ++ codes "\n") ∷ []) }
+    ensures counted { IsCounted (K.faults sink.old) (K.faults sink.new) (is_write_halt result) }
 {
     let text = refusal.text();
-    match format!(in alloc; "{text}\n") {
-        Ok(line) => finish(sink, line.as_bytes(), REFUSED),
-        Err(_) => NO_MEMORY,
-    }
+    let line = format!(in alloc; "{text}\n")?;
+    write_output(sink, line.as_bytes())
 }
 
 /// Answers each command in order; each reply is written before the next command begins.
-fn answer_all<K: Sink>(alloc: Global, platform: &Platform, sink: &mut K) -> u8
-    requires closed { IsTrue (is_closed platform.now.net) }
-    requires checked { node_fault platform.now.net ≡ None }
-    requires walkable { walk_fault platform.now.net ≡ None }
-    requires walks { AreWalksOf platform.now.net platform.now.walks }
-    requires known { IsTrue (list_all (names_within (length platform.now.net)) platform.now.commands) }
-    ensures exact { (result ≢ WRITE_FAULT) → (result ≢ NO_MEMORY) → (result ≡ DONE) × Added (K.written sink.old) (K.written sink.new) (replies platform.now.net platform.now.commands) }
-    ensures front { AddedFront (K.written sink.old) (K.written sink.new) (replies platform.now.net platform.now.commands) }
-    ensures which { (result ≡ DONE) ⊎ (result ≡ WRITE_FAULT) ⊎ (result ≡ NO_MEMORY) }
-    ensures rose { result ≡ WRITE_FAULT → Rose (K.faults sink.old) (K.faults sink.new) }
-    ensures sure { K.sure sink.old ≡ true → result ≢ WRITE_FAULT }
+fn answer_all<K: Sink>(alloc: Global, platform: &Platform, sink: &mut K) -> Result<(), Halt>
+    ensures written { AreWritten (K.written sink.old) (K.written sink.new)
+        (is_ok result) (is_write_halt result)
+        (replies (record { net = platform.now.net }) platform.now.commands) }
+    ensures counted { IsCounted (K.faults sink.old) (K.faults sink.new) (is_write_halt result) }
 {
     for command in platform.commands.as_slice() {
-        let Ok(line) = reply::reply(alloc, platform, command) else {
-            return NO_MEMORY;
-        };
-        let status = finish(sink, line.as_bytes(), DONE);
-        if status != DONE {
-            return status;
-        }
+        let line = reply::reply(alloc, platform, command)?;
+        write_output(sink, line.as_bytes())?;
     }
-    DONE
+    Ok(())
+}
+
+/// Writes the output.
+#[tactic(auto, using(dn_base::proofs::Told::written_stopped))]
+fn write_output<K: Sink>(sink: &mut K, output: &[u8]) -> Result<(), Halt>
+    ensures written { IsWritten (K.written sink.old) (K.written sink.new)
+        (is_ok result) (is_write_halt result) output.now }
+    ensures counted { IsCounted (K.faults sink.old) (K.faults sink.new) (is_write_halt result) }
+{
+    match whole::write_whole(sink, output) {
+        Ok(()) => Ok(()),
+        Err(WriteFault::Failed) => Err(Halt::WriteFault),
+        Err(WriteFault::OutOfMemory) => Err(Halt::NoMemory),
+    }
 }

@@ -1,4 +1,5 @@
 use Rattle.std.proofs.Common.{rules}
+use Rattle.dn_base.proofs.Counts.{counted_then}
 use Rattle.dn_base.proofs.Told.{Added-tail}
 use Rattle.dn_base.proofs.whole.write_whole.Goals as goal
 
@@ -6,7 +7,6 @@ pub loop-at-preserved : goal.loop-at-preserved
 loop-at-preserved g c = record {
   within = search rules;
   added = Added-tail _ _ _ _ _ _ c.loop-at.invariant.added c.in_ok-at.ensures.added;
-  never_falls = search rules;
-  same_sure = search rules;
-  steady = search rules;
+  untouched = search rules;
+  counted = counted_then _ _ _ _ c.loop-at.invariant.counted c.in_ok-at.ensures.counted;
 }

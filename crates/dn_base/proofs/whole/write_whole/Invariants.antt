@@ -1,5 +1,5 @@
-use Rattle.std.proofs.Common.{length, take, ◌-◌, ◌≡◌, ◌≤◌, true}
-use Rattle.dn_base.specs.Outside.{Added}
+use Rattle.std.proofs.Common.{length, take, ◌-◌, ◌≡◌, ◌≤◌, false}
+use Rattle.dn_base.specs.Outside.{Added, IsCounted}
 use Rattle.dn_base.proofs.whole.write_whole.Given as goal
 
 abbrev pub invariant-loop-at : goal.invariant-loop-at
@@ -8,9 +8,8 @@ invariant-loop-at g l =
     record {
       within : l.at ≤ length l.bytes;
       added : Added (sink.written l.fn.sink) (sink.written l.sink) (take l.at l.bytes);
-      never_falls : sink.faults l.fn.sink ≤ sink.faults l.sink;
-      same_sure : sink.sure l.sink ≡ sink.sure l.fn.sink;
-      steady : sink.sure l.fn.sink ≡ true → sink.faults l.sink ≡ sink.faults l.fn.sink;
+      untouched : l.at ≡ 0 → l.sink ≡ l.fn.sink;
+      counted : IsCounted (sink.faults l.fn.sink) (sink.faults l.sink) false;
     }
 
 abbrev pub decreases-loop-at : goal.decreases-loop-at

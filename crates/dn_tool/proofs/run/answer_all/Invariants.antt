@@ -1,5 +1,6 @@
-use Rattle.std.proofs.Common.{◌≡◌, ◌≤◌, List, ℕ, ◌++◌, drop}
-use Rattle.dn_base.specs.Outside.{Added}
+use Rattle.std.proofs.Common.{false, take}
+use Rattle.std.specs.List.{concat}
+use Rattle.dn_base.specs.Outside.{Added, IsCounted}
 use Rattle.dn_tool.specs.Reply.{replies}
 use Rattle.dn_tool.proofs.run.answer_all.Given as goal
 
@@ -7,7 +8,6 @@ abbrev pub invariant-loop-command : goal.invariant-loop-command
 invariant-loop-command g l =
     let sink = g.K.Sink in
     record {
-      never_falls : sink.faults l.fn.sink ≤ sink.faults l.sink;
-      same_sure : sink.sure l.sink ≡ sink.sure l.fn.sink;
-      so_far : (done : List ℕ) × Added (sink.written l.fn.sink) (sink.written l.sink) done × (done ++ replies l.platform.net (drop l.command-index l.platform.commands) ≡ replies l.platform.net l.platform.commands);
+      so_far : Added (sink.written l.fn.sink) (sink.written l.sink) (concat (replies (record { net = l.platform.net }) (take l.command-index l.platform.commands)));
+      counted : IsCounted (sink.faults l.fn.sink) (sink.faults l.sink) false;
     }

@@ -1,0 +1,18 @@
+//! What a tree expands to.
+
+ghost use Rattle.std.specs.Prelude.{IsTrue, length};
+ghost use Rattle.std.specs.List.{list_all};
+ghost use Rattle.dn_net.specs.Decode.{is_closed};
+ghost use Rattle.dn_module.specs.Commands.{names_within};
+
+use crate::command::Commands;
+use dn_net::net::Net;
+
+/// A net, and the commands of its text. Each node to which the net or a command refers is there.
+#[derive(Drop)]
+pub struct Expanded {
+    pub net: Net,
+    pub commands: Commands,
+    ghost closed: { IsTrue (is_closed net) },
+    ghost known: { IsTrue (list_all (names_within (length net)) commands) },
+}

@@ -1,0 +1,94 @@
+"""The words of the program, and what it writes where."""
+import argparse
+import os
+import sys
+
+from .explain import explained
+from .fault import Fault
+from .platform import Platform
+from .spans import text
+from .tree import read_tree
+from .writing import described
+
+DESCRIPTION = "Writes a description for netconf from a flattened device tree (.dtb) or its source (.dts)."
+EPILOG = "What of the tree cannot be said is listed on standard error. Status 0, or 1 where the tree is refused."
+
+
+class Words(argparse.ArgumentParser):
+    """The reader of the words, whose errors are one line and status 1 like all others."""
+
+    def error(self, message):
+        raise Fault(f"{message} (netconf-import --help says more)")
+
+
+def words():
+    """The reader of the program's words."""
+    parser = Words(prog="netconf-import", description=DESCRIPTION, epilog=EPILOG, allow_abbrev=False)
+    parser.add_argument("tree", metavar="TREE", help="a .dtb, or a .dts (read through dtc)")
+    parser.add_argument("--agent", metavar="AGENT", help="ask where one agent sees each thing; AGENT is its name in "
+                        "the description, or its path, alias or label in the tree")
+    parser.add_argument("--only", metavar="PATH", help="take one part of the tree, and what leads to it")
+    parser.add_argument("--views", action="store_true",
+                        help="ask for the view of each agent, or of the one that is named")
+    parser.add_argument("--explain", action="store_true",
+                        help="write instead where a processor sees each device, step by step")
+    parser.add_argument("--strict", action="store_true", help="refuse a tree in which two devices claim one address")
+    return parser
+
+
+def refuse_conflicts(platform):
+    """Refuses a platform in which two or more claim one address, with a line for each such span."""
+    shown = []
+    for bus, entry in platform.conflicts():
+        sides = " and by ".join(entry.sources())
+        shown.append(f"{text(entry.first, entry.last)} on {bus} is claimed by {sides}")
+    if shown:
+        raise Fault("\n".join(shown))
+
+
+def run(arguments):
+    """What is to be written to standard output, and the lines on what cannot be said."""
+    tree = read_tree(arguments.tree)
+    try:
+        platform = Platform(tree, arguments.only)
+        agent = platform.agent(arguments.agent) if arguments.agent else None
+        if arguments.strict:
+            refuse_conflicts(platform)
+        if arguments.explain:
+            output = explained(platform)
+        else:
+            output = described(platform, os.path.basename(arguments.tree), arguments.views, agent)
+    except Fault as fault:
+        raise Fault("\n".join(f"{arguments.tree}: {line}" for line in str(fault).split("\n"))) from None
+    return output, [f"{arguments.tree}: {note.path}: {note.reason}" for note in platform.notes]
+
+
+def say(lines):
+    """Writes lines to standard error, each with the program's name."""
+    for line in lines:
+        print(f"netconf-import: {line}", file=sys.stderr)
+
+
+def main(given):
+    """Runs the program over its words, and gives its status."""
+    for stream in (sys.stdout, sys.stderr):
+        stream.reconfigure(errors="backslashreplace")
+    try:
+        output, notes = run(words().parse_args(given))
+    except Fault as fault:
+        say(str(fault).split("\n"))
+        return 1
+    except RecursionError:
+        say(["the tree is nested too deep"])
+        return 1
+    say(notes)
+    try:
+        sys.stdout.write(output)
+        sys.stdout.flush()
+    except BrokenPipeError:
+        os.dup2(os.open(os.devnull, os.O_WRONLY), sys.stdout.fileno())
+        return 1
+    except OSError as error:
+        say([f"standard output: {error.strerror}"])
+        return 1
+    return 0

@@ -1,0 +1,106 @@
+"""The way of each master's own accesses, by ``dma-ranges``.
+
+A tree does not say which devices access memory by themselves. A device counts as a master where one of its properties
+says so (``MASTER_PROPERTIES``), or where it has one of the generic names of such devices (``MASTER_NAMES``). It is an
+agent of its own where the bus that it is on has ``dma-ranges``; a PCI host bridge is one also where it has
+``dma-ranges`` itself, for the functions behind it.
+"""
+from . import cells
+from .net import Claim, Entry, NetNode
+from .spans import text
+
+MASTER_PROPERTIES = ("iommus", "iommu-map", "dma-coherent", "dma-noncoherent", "#dma-cells", "memory-region")
+MASTER_NAMES = frozenset(("dma", "dma-controller", "ethernet", "gpu", "mmc", "pci", "pcie", "sata", "usb"))
+
+
+def dma_bus(tree, node):
+    """The bus that a device's accesses go over: its parent, or the interconnect that is named as "dma-mem"."""
+    names = node.strings("interconnect-names")
+    if "dma-mem" in names:
+        found = interconnects(tree, node)
+        place = names.index("dma-mem")
+        if place < len(found) and found[place] is not None:
+            return found[place]
+    return node.parent
+
+
+def interconnects(tree, node):
+    """The nodes that ``interconnects`` names, each once for its specifier; it ends at one that is not there."""
+    words, found, at = node.words("interconnects"), [], 0
+    while at < len(words):
+        target = tree.by_phandle.get(words[at])
+        if target is None:
+            break
+        found.append(target)
+        at += 1 + (target.word("#interconnect-cells") or 0)
+    return found
+
+
+def is_master(node):
+    """Whether a device accesses memory by itself, as far as its node tells."""
+    if cells.kind(node) == "pci":
+        return True
+    if any(node.has(name) for name in MASTER_PROPERTIES):
+        return True
+    return node.base in MASTER_NAMES and not node.has("ranges") and node.has("compatible") and node.has("reg")
+
+
+class Ways:
+    """The ways of a tree's masters to the root, each bus with ``dma-ranges`` a node that maps outwards."""
+
+    def __init__(self, tree, reader, system):
+        self.tree = tree
+        self.reader = reader
+        self.ways = {tree.root: system}
+        self.buses = []
+        self.agents = []
+
+    def read(self):
+        """Makes the agents of all masters that are wanted."""
+        for node in self.tree.root.walk():
+            if self._is_wanted(node):
+                self._read_master(node)
+
+    def _is_wanted(self, node):
+        """Whether a node is an enabled device in an enabled part of the tree that accesses memory by itself."""
+        return node.parent is not None and self.reader.keeps(node) and is_master(node) \
+            and all(place.status() == "okay" for place in [node, *node.above()])
+
+    def _read_master(self, node):
+        """Makes the agent of one master, where its way is said."""
+        bus = dma_bus(self.tree, node)
+        if cells.kind(bus) == "pci":
+            return
+        if cells.kind(node) == "pci" and node.properties.get("dma-ranges"):
+            way = self._way(node)
+            way.agent = True
+            way.source = f"{node.path} dma-ranges, for what is behind it"
+            self.buses.remove(way)
+            self.agents.append(way)
+        elif bus.has("dma-ranges"):
+            agent = NetNode(node, "dma", node.path, over=self._way(bus), agent=True)
+            self.agents.append(agent)
+
+    def _way(self, bus):
+        """The node over which the masters on a bus go; 1:1 where ``dma-ranges`` says nothing."""
+        if bus not in self.ways:
+            outside = self._way(bus.parent)
+            if bus.properties.get("dma-ranges"):
+                outside = self._mapped(bus, outside)
+                self.buses.append(outside)
+            self.ways[bus] = outside
+        return self.ways[bus]
+
+    def _mapped(self, bus, outside):
+        """The node that maps by the ``dma-ranges`` of a bus."""
+        node = NetNode(bus, "dma", f"{bus.path} dma-ranges")
+        found = cells.pieces(cells.ranges(bus, "dma-ranges"),
+                             lambda index, why: self.reader.note(bus, f"dma-ranges {index} {why}"))
+        for piece in sorted(found, key=lambda piece: piece.first):
+            if piece.space not in ("", "memory") or piece.outer_space not in ("", "memory"):
+                place = text(piece.first, piece.last)
+                self.reader.note(bus, f"dma-ranges {piece.index}, {place}, is not in the space of memory")
+                continue
+            claim = Claim(piece.first, piece.last, outside, piece.outer, f"{bus.path} dma-ranges {piece.index}")
+            node.entries.append(Entry(piece.first, piece.last, (claim,)))
+        return node

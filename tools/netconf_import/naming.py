@@ -1,0 +1,94 @@
+"""A readable name for each node of the description, from the labels and the paths of the tree.
+
+A node of the tree is called by its label where the tree keeps labels, and else by its name with its unit address, as
+``serial_7e201000``. Where two would have one name, the names of the nodes above are put before it until they differ.
+"""
+import re
+
+RESERVED = frozenset(
+    "agent vectors unit module use for in end begin is accept map to and at over kind page slots reach as num node "
+    "resolve lookup view grant route revoke dump split absorb".split())
+
+# What else may follow the name of a node of the tree and a dot: the bus that a device is, and the way of its accesses.
+PARTS = frozenset(("bus", "dma"))
+
+ROOT_NAME = "system"
+
+
+def word(text):
+    """A text as a word of the language that is not reserved."""
+    plain = re.sub(r"[^A-Za-z0-9_]", "_", text) or "_"
+    if plain[0].isdigit():
+        plain = "_" + plain
+    return plain + "_" if plain in RESERVED else plain
+
+
+def register_suffixes(node, count):
+    """What tells apart the ``count`` windows of a node: nothing for one, else their names, or their numbers."""
+    if count == 1:
+        return [""]
+    names = node.strings("reg-names")
+    words = {word(name) for name in names}
+    if len(names) == count == len(words) and not words & PARTS:
+        return names
+    return list(range(count))
+
+
+def assign(tree, net_nodes):
+    """Gives each node of the description its name; all names differ."""
+    tree_nodes = list(dict.fromkeys(node.tree_node for node in net_nodes))
+    bases = _bases(tree, tree_nodes)
+    taken = set()
+    for node in net_nodes:
+        name = wanted = bases[node.tree_node] + _after(node.suffix)
+        number = 2
+        while name in taken:
+            name = f"{wanted}_{number}"
+            number += 1
+        taken.add(name)
+        node.name = name
+
+
+def _after(suffix):
+    """What follows the name of the tree's node."""
+    if suffix == "":
+        return ""
+    return f"[{suffix}]" if isinstance(suffix, int) else "." + word(suffix)
+
+
+def _bases(tree, tree_nodes):
+    """A name for each node of the tree, each another one."""
+    bases, depth = {tree.root: ROOT_NAME}, 0
+    waiting = [node for node in tree_nodes if node is not tree.root]
+    while waiting:
+        groups = {}
+        for node in waiting:
+            groups.setdefault(_base(tree, node, depth), []).append(node)
+        used, waiting = set(bases.values()), []
+        for name, group in groups.items():
+            if len(group) == 1 and name not in used:
+                bases[group[0]] = name
+            elif depth < max(len(list(node.above())) for node in group):
+                waiting += group
+            else:
+                _number(group, name, bases)
+        depth += 1
+    return bases
+
+
+def _base(tree, node, depth):
+    """The name of a node with the names of up to ``depth`` nodes above it."""
+    if node.path in tree.labels:
+        return word(tree.labels[node.path])
+    above = [place.name for place in node.above() if place.parent is not None][:depth]
+    return word("_".join(reversed([node.name] + above)))
+
+
+def _number(group, name, bases):
+    """Names that nothing else tells apart, by numbers."""
+    number = 1
+    for node in group:
+        while f"{name}_{number}" in bases.values():
+            number += 1
+        bases[node] = f"{name}_{number}"
+        number += 1

@@ -1,0 +1,281 @@
+"""Says by plain arithmetic what a processor and a master see, from a blob alone.
+
+This is the judge of the importer, and shares no code with it: it reads the blob over libfdt, and follows ``reg``,
+``ranges`` and ``dma-ranges`` address by address, from a device outwards, as Linux does (the first entry that fits).
+It knows a node of the description only by the comment behind its statement.
+"""
+import re
+
+import libfdt
+
+QUIET = (libfdt.NOTFOUND,)
+TOP = (1 << 56) - 1
+NAMED = re.compile(r"^(agent )?(\S+) is(?: .*?)?\s// (/.*)$")
+REPLY = re.compile(r"^(\S+)@(0x[0-9a-f]+): (.*)$")
+
+
+class Blob:
+    """A blob, with its nodes in the order of the tree."""
+
+    def __init__(self, data):
+        self.fdt = libfdt.FdtRo(data)
+        self.parent, self.path, self.order, self.properties, self.found = {}, {}, [], {}, {}
+        offset, depth, above = 0, 0, []
+        while offset >= 0 and depth >= 0:
+            above = above[:depth]
+            self.parent[offset] = above[-1] if above else None
+            name = self.fdt.get_name(offset)
+            self.path[offset] = "/" if not above else (self.path[above[-1]] + "/" + name).replace("//", "/")
+            self.order.append(offset)
+            self.properties[offset] = self._properties(offset)
+            above.append(offset)
+            offset, depth = self.fdt.next_node(offset, depth, QUIET)
+        self.at = {path: offset for offset, path in self.path.items()}
+
+    def _properties(self, node):
+        """All properties of a node. (To ask libfdt for one that is not there ends the interpreter after some times.)"""
+        found, at = {}, self.fdt.first_property_offset(node, QUIET)
+        while at >= 0:
+            value = self.fdt.get_property_by_offset(at)
+            found[value.name] = bytes(value)
+            at = self.fdt.next_property_offset(at, QUIET)
+        return found
+
+    def value(self, node, name):
+        """The bytes of a property, or None."""
+        return self.properties[node].get(name)
+
+    def cells(self, node, name):
+        """The cells of a property."""
+        data = self.value(node, name) or b""
+        return [int.from_bytes(data[i:i + 4], "big") for i in range(0, len(data), 4)]
+
+    def enabled(self, node):
+        """Whether a node and all above it are enabled."""
+        while node is not None:
+            if self.value(node, "status") not in (None, b"okay\0", b"ok\0"):
+                return False
+            node = self.parent[node]
+        return True
+
+    def base(self, node):
+        """A node's name without its unit address."""
+        return self.path[node].rsplit("/", 1)[1].split("@")[0]
+
+    def is_pci(self, bus):
+        """Whether a bus has the three-cell addresses of PCI."""
+        return self.cells(bus, "#address-cells") == [3] and (
+            self.value(bus, "device_type") in (b"pci\0", b"pciex\0") or self.base(bus) == "pcie")
+
+    def address(self, bus, cells):
+        """An address of a bus as a pair: the space that it is in, and its number. A third cell is a tag, and the first on an MBUS."""
+        space = "plain"
+        if self.is_pci(bus):
+            space, cells = ("config", "io", "memory", "memory")[(cells[0] >> 24) & 3], cells[1:]
+        elif len(cells) == 3 or b"-mbus\0" in (self.value(bus, "compatible") or b"") and len(cells) == 2:
+            space, cells = f"tag {cells[0]}", cells[1:]
+        number = 0
+        for cell in cells:
+            number = number * 2**32 + cell
+        return space, number
+
+    def entries(self, bus, name):
+        """The entries of ``ranges``: space and first address inside, space and first address outside, size."""
+        if (bus, name) not in self.found:
+            self.found[bus, name] = list(self._entries(bus, name))
+        return self.found[bus, name]
+
+    def _entries(self, bus, name):
+        """The entries, read anew."""
+        inner = self.cells(bus, "#address-cells")[0]
+        outer = self.cells(self.parent[bus], "#address-cells")[0]
+        size = self.cells(bus, "#size-cells")[0]
+        words = self.cells(bus, name)
+        for i in range(0, len(words), inner + outer + size):
+            line = words[i:i + inner + outer + size]
+            number = 0
+            for cell in line[inner + outer:]:
+                number = number * 2**32 + cell
+            yield (*self.address(bus, line[:inner]),
+                   *self.address(self.parent[bus], line[inner:inner + outer]), number)
+
+
+def outward(blob, bus, name, space, first, last):
+    """Where the addresses of a bus are outside of it, as ``(first, last, space, first outside)``: first match wins."""
+    if not blob.value(bus, name):
+        return [(first, last, space, first)]
+    found, waiting = [], [(first, last)]
+    for inside, low, outside, to, size in blob.entries(bus, name):
+        rest = []
+        for a, b in waiting:
+            lo, hi = max(a, low), min(b, low + size - 1)
+            if inside != space or lo > hi:
+                rest.append((a, b))
+                continue
+            found.append((lo, hi, outside, to + lo - low))
+            rest += [part for part in ((a, lo - 1), (hi + 1, b)) if part[0] <= part[1]]
+        waiting = rest
+    return found
+
+
+def at_root(blob, bus, name, space, first, last):
+    """Where the addresses of a bus are at the root: ``(first on the bus, first at the root, how many)``."""
+    if blob.parent[bus] is None:
+        return [(first, first, last - first + 1)]
+    found = []
+    for low, high, outside, to in outward(blob, bus, name, space, first, last):
+        for start, root, count in at_root(blob, blob.parent[bus], name, outside, to, to + high - low):
+            found.append((low + start - to, root, count))
+    return found
+
+
+def mapped(blob, node):
+    """Whether a node is a bus that is reached from the root by ``ranges`` alone."""
+    while blob.parent[node] is not None:
+        if blob.value(node, "ranges") is None or blob.path[node] == "/reserved-memory":
+            return False
+        node = blob.parent[node]
+    return True
+
+
+def seen(blob):
+    """What is at the root: ``(first, last, source, address there)``, the source as comments name it."""
+    found = []
+    for node in blob.order:
+        bus = blob.parent[node]
+        if bus is None or not blob.enabled(node) or not mapped(blob, bus):
+            continue
+        if blob.cells(bus, "#size-cells") == [0]:
+            continue
+        for index, (space, first, size) in enumerate(registers(blob, node, bus)):
+            for start, root, count in at_root(blob, bus, "ranges", space, first, first + size - 1) if size else ():
+                if root <= TOP and start <= TOP:
+                    found.append((root, min(root + count - 1, TOP), f"{blob.path[node]} reg {index}", start - first))
+    return found + windows(blob, found)
+
+
+def registers(blob, node, bus):
+    """The windows of ``reg``: space, first address, size."""
+    if blob.value(node, "reg") is None:
+        return
+    width, sizes = blob.cells(bus, "#address-cells")[0], blob.cells(bus, "#size-cells")[0]
+    words = blob.cells(node, "reg")
+    for i in range(0, len(words), width + sizes):
+        yield (*blob.address(bus, words[i:i + width]),
+               int("0" + "".join(f"{cell:08x}" for cell in words[i + width:i + width + sizes]), 16))
+
+
+def windows(blob, devices):
+    """The windows of the PCI host bridges, where no device of the tree is in them."""
+    found = []
+    for node in blob.order:
+        bus = blob.parent[node]
+        if bus is None or not blob.is_pci(node) or blob.is_pci(bus) or not blob.value(node, "ranges"):
+            continue
+        if not blob.enabled(node) or not mapped(blob, node):
+            continue
+        under = [(a, b) for a, b, source, _at in devices if source.startswith(blob.path[node] + "/")]
+        for space, low, _outside, _to, size in blob.entries(node, "ranges"):
+            for start, root, count in at_root(blob, node, "ranges", space, low, low + size - 1) if size else ():
+                for a, b in minus(root, min(root + count - 1, TOP), under):
+                    row = (a, b, f"{blob.path[node]} {space} windows", start + a - root)
+                    if row not in found:
+                        found.append(row)
+    return found
+
+
+def minus(first, last, taken):
+    """The parts of a span that are in none of the others."""
+    for a, b in sorted(taken):
+        if a > last or b < first:
+            continue
+        if first < a:
+            yield first, a - 1
+        first = b + 1
+    if first <= last:
+        yield first, last
+
+
+def statements(description):
+    """The names of the description by what their comments say, and the agents: name to path."""
+    names, agents = {}, {}
+    for line in description.splitlines():
+        hit = NAMED.match(line)
+        if hit and hit.group(1):
+            agents[hit.group(2)] = hit.group(3)
+        elif hit:
+            names[hit.group(3)] = hit.group(2)
+    return names, agents
+
+
+def expected(rows, names, address):
+    """The names to which an address of the root comes, as `resolve` writes them."""
+    return {f"{names.get(source, source)}@{start + address - first:#x}"
+            for first, last, source, start in rows if first <= address <= last}
+
+
+def edges(spans):
+    """The first and last addresses of spans, and those just outside."""
+    near = {place for first, last in spans for place in (first - 1, first, last, last + 1)}
+    return sorted(place for place in near if 0 <= place <= TOP)
+
+
+def master_bus(blob, node):
+    """The bus that a master's accesses go over, and whether the master is a host bridge for what is behind it."""
+    if blob.is_pci(node) and blob.value(node, "dma-ranges"):
+        return node
+    words, names = blob.cells(node, "interconnects"), blob.value(node, "interconnect-names") or b""
+    if names.split(b"\0")[0] == b"dma-mem":
+        return blob.fdt.node_offset_by_phandle(words[0])
+    return blob.parent[node]
+
+
+def master_questions(blob, node):
+    """Addresses of a master and where each is at the root, or None where it is nowhere."""
+    bus = master_bus(blob, node)
+    space = "memory" if blob.is_pci(bus) else "plain"
+    place, spans = bus, [(0, TOP)]
+    while blob.parent[place] is not None and not blob.value(place, "dma-ranges"):
+        place = blob.parent[place]
+    if blob.parent[place] is not None:
+        spans = [(low, low + size - 1) for _in, low, _out, _to, size in blob.entries(place, "dma-ranges") if size]
+    asked = set(edges(spans)) | {(first + last) // 2 for first, last in spans} | {0x80000000, 0x1000}
+    for address in sorted(asked):
+        found = at_root(blob, bus, "dma-ranges", space, address, address)
+        yield address, found[0][1] if found and found[0][1] <= TOP else None
+
+
+def questions(data, description):
+    """The questions to `netconf` over a description: ``(command, set of names that are due)``."""
+    blob = Blob(data)
+    names, agents = statements(description)
+    rows = seen(blob)
+    processors = [name for name, path in agents.items() if path.startswith("/cpus/")]
+    spans = [(first, last) for first, last, _source, _start in rows]
+    if processors:
+        for address in edges(spans):
+            yield f"resolve {processors[0]} {address:#x};", expected(rows, names, address)
+    for name, path in agents.items():
+        if not path.startswith("/cpus/"):
+            node = blob.at[path.split(" ")[0]]
+            for address, root in master_questions(blob, node):
+                due = expected(rows, names, root) if root is not None else set()
+                yield f"resolve {name} {address:#x};", due
+
+
+def answers(output):
+    """The sets of names in what `netconf run` printed, in order."""
+    for line in output.splitlines():
+        hit = REPLY.match(line)
+        yield set(hit.group(3).split(", ")) - {"nothing"} if hit else {line}
+
+
+def wrong(data, description, run):
+    """What is wrong with a description of a blob: lines, none where all is right. ``run`` gives the program's output."""
+    asked = list(questions(data, description))
+    output = run(description + "\nbegin;\n" + "\n".join(command for command, _due in asked) + "\n")
+    found = list(answers(output))
+    if len(found) != len(asked):
+        return [f"{len(asked)} questions, {len(found)} answers: {output[:200]}"]
+    return [f"{command} is {sorted(answer)}, and {sorted(due)} is due"
+            for (command, due), answer in zip(asked, found) if answer != due]
