@@ -41,10 +41,13 @@ impl Machine {
     /// The machine of a text.
     pub fn of_text(alloc: Global, text: &str) -> Result<Machine, Unmade> {
         match compile(alloc, text.as_bytes()) {
-            Ok(platform) => Ok(Machine {
-                net: platform.net,
-                walks: platform.walks,
-            }),
+            Ok(platform) => {
+                platform.facts();
+                Ok(Machine {
+                    net: platform.net,
+                    walks: platform.walks,
+                })
+            }
             Err(CompileFault::Refused(_)) => Err(Unmade::Refused),
             Err(CompileFault::OutOfMemory) => Err(Unmade::OutOfMemory),
         }
