@@ -84,7 +84,11 @@ fn makes_no_write_of_no_byte(rt: HostRuntime) -> Result<(), Fail> {
 }
 
 /// How many bytes are read of a text of so many, by 4,096 a read, where only one call fails.
-fn taken(alloc: Global, size: usize, failing: u32) -> Result<Result<usize, InputFault>, AllocError> {
+fn taken(
+    alloc: Global,
+    size: usize,
+    failing: u32,
+) -> Result<Result<usize, InputFault>, AllocError> {
     let text = b"a".repeat(alloc, size)?;
     let mut source = source_of(alloc, &text, 4096, &[failing])?;
     match whole::read_whole(alloc, &mut source) {
