@@ -1,0 +1,5 @@
+pub mod Kind
+pub mod Rights
+pub mod Tables
+pub mod Units
+pub mod Ways

@@ -1,0 +1,1 @@
+//! Laws on the definitions, each the contract of a function that does nothing.

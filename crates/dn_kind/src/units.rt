@@ -1,0 +1,1 @@
+//! The rule on the shape of each unit.
