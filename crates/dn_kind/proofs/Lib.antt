@@ -1,0 +1,3 @@
+pub mod Allowed
+pub mod Shapes
+pub mod Ways
