@@ -34,3 +34,9 @@ pub fn chain_passes_slots()
 pub fn one_row_of_slots()
     ensures { OneRowOfSlots }
 {}
+
+/// The law of access: what a name resolves to for an access is what it resolves to under the tables in which the slots
+/// whose records do not allow it have words 0.
+pub fn law_of_access()
+    ensures { LawOfAccess }
+{}
