@@ -1,13 +1,10 @@
-// A library with one function.
+//! The kinds of units that the program knows: [`pages::Pages`], [`remap::Remap`] and [`vectors::Vectors`].
+//!
+//! Each has its layout in its own page. In all three bit 0 of the last word is the gate, and bits 4 and 5 of that word
+//! deny reading and writing; a record that allows both has neither bit.
 #![tactic(auto)]
 
-ghost use Rattle.std.specs.Prelude.{◌≡◌};
-ghost use Rattle.dn_kinds.specs.Echo.{echo_of};
-
-// The `ensures` clause is the contract: what `echo` returns is `echo_of` of its argument, a definition
-// in `specs/Echo.antt`, which a caller's clause can cite too.
-pub fn echo(x: usize) -> usize
-    ensures { result ≡ echo_of x }
-{
-    x
-}
+mod layout;
+pub mod pages;
+pub mod remap;
+pub mod vectors;
