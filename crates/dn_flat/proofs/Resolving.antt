@@ -8,7 +8,7 @@ use Rattle.dn_interval.specs.declared.row.Row.{Row}
 use Rattle.dn_interval.specs.declared.row.Seg.{Seg}
 use Rattle.dn_interval.specs.declared.span.TheConstants.{TOP}
 use Rattle.dn_interval.specs.Spans.{in_span}
-use Rattle.dn_interval.specs.Rows.{Member as Named, SegmentsGive, GivenBy, AreNormal}
+use Rattle.dn_interval.specs.Rows.{Member as Named, SegmentsGive, GivenBy, AreNormal, ends_within}
 use Rattle.dn_interval.specs.Strands.{segs_give}
 use Rattle.dn_interval.proofs.Membership.{or_left, or_right, in_from, lo_of, hi_of}
 use Rattle.dn_interval.proofs.Names.{segs_from, segs_to}
@@ -22,12 +22,12 @@ use Rattle.dn_net.specs.WalkRules.{IsListed}
 use Rattle.dn_net.specs.Rules.{KeepsNodeRules}
 use Rattle.dn_net.proofs.Least.{within_from, within_to}
 use Rattle.dn_walk.specs.declared.walks.WalkRow.{WalkRow}
-use Rattle.dn_walk.specs.Rows.{told_by_row, told_by_walk, AreWalksOf}
+use Rattle.dn_walk.specs.Rows.{told_by_row, told_by_walk}
 use Rattle.dn_net.proofs.Choices.{chain_is_walk}
 use Rattle.dn_net.proofs.Listed.{live_walks_are_all}
 use Rattle.dn_flat.specs.Found.{comes, stays, goes_by}
-use Rattle.dn_flat.specs.Views.{name_of_end, ends_within}
-use Rattle.dn_flat.proofs.Tables.{limit_is, same_member, any_member, member_any}
+use Rattle.dn_flat.specs.Views.{name_of_end}
+use Rattle.dn_flat.proofs.Tables.{AreRowsOf, limit_is, same_member, any_member, member_any}
 
 -- what the tests of a row say
 
@@ -73,7 +73,7 @@ walk_of_come r w a y e c =
     let same : r.base + (a - r.span.lo) ≡ w.to.addr + (a - w.span.lo) = λ i. base i + (a - lo i) in
     (within_from a w.span (omega arith) (omega arith), name_same w.to.node y.node (w.to.addr + (a - w.span.lo)) y.base (sym end ∙ c.node) (sym same ∙ c.base))
 
-module _ (net : List NodeDecl) (checked : KeepsNodeRules net) (rows : List WalkRow) (are : AreWalksOf net rows) (node a : ℕ) (y : End) (low : a ≤ TOP) where
+module _ (net : List NodeDecl) (checked : KeepsNodeRules net) (rows : List WalkRow) (are : AreRowsOf net rows) (node a : ℕ) (y : End) (low : a ≤ TOP) where
   abbrev here : Name
   here = record { node = node; addr = a }
 
@@ -89,7 +89,7 @@ module _ (net : List NodeDecl) (checked : KeepsNodeRules net) (rows : List WalkR
       let i : IsListed net w.0 = (all.0 w.0 w.1).0 in
       let g : Follows net (record { node = w.0.start; addr = a }) w.0.choices (name_of_end y) = subst (λ n. Follows net (record { node = n; addr = a }) w.0.choices (name_of_end y)) (sym w.2) (subst (λ cs. Follows net here cs (name_of_end y)) (sym w.3) f) in
       let t = (i.follows a (name_of_end y) low).0 g in
-      let r = same_member told_by_walk told_by_row (live_walks net step_limit) rows (sym are.same) w.0 w.1 in
+      let r = same_member told_by_walk told_by_row (live_walks net step_limit) rows (sym are) w.0 w.1 in
       let len : r.0.len ≡ length w.0.choices = ap (λ t. t.len) (sym r.2) in
       let long : length w.0.choices ≡ length choices = ap length w.3 in
       let limit : step_limit ≡ 65 = limit_is in
@@ -119,7 +119,7 @@ module _ (net : List NodeDecl) (checked : KeepsNodeRules net) (rows : List WalkR
       by_row (r, m, e) =
           let p = and_parts (nat_lt r.len 66 && nat_eq r.start node) (comes r a y) e in
           let q = and_parts (nat_lt r.len 66) (nat_eq r.start node) p.0 in
-          let w = same_member told_by_row told_by_walk rows (live_walks net step_limit) are.same r m in
+          let w = same_member told_by_row told_by_walk rows (live_walks net step_limit) are r m in
           let all = (live_walks_are_all net checked step_limit).0 w.0 w.1 in
           let t = walk_of_come r w.0 a y w.2 (come_means r a y p.1) in
           let f = (all.0.follows a (name_of_end y) low).1 t in
@@ -128,7 +128,7 @@ module _ (net : List NodeDecl) (checked : KeepsNodeRules net) (rows : List WalkR
           (length w.0.choices, all.2, (chain_is_walk net checked (length w.0.choices) here (name_of_end y)).1 (w.0.choices, refl, g))
 
 -- the rows of segments that give what is reached and passes a test
-pub rows_of_reached : (net : List NodeDecl) → KeepsNodeRules net → (table : List WalkRow) → AreWalksOf net table → (node : ℕ) (ends : End → Bool) (segs : List Seg) (rows : List Row) → ((a : ℕ) (y : End) → segs_give segs a y ≡ ((stays node a y || goes_by table 66 node a y) && ends y)) → AreNormal (SegmentsGive segs) rows → AreNormal (λ a y. IsTrue (ends y) × ReachesWithin (Step net) step_limit (record { node = node; addr = a }) (name_of_end y)) rows
+pub rows_of_reached : (net : List NodeDecl) → KeepsNodeRules net → (table : List WalkRow) → AreRowsOf net table → (node : ℕ) (ends : End → Bool) (segs : List Seg) (rows : List Row) → ((a : ℕ) (y : End) → segs_give segs a y ≡ ((stays node a y || goes_by table 66 node a y) && ends y)) → AreNormal (SegmentsGive segs) rows → AreNormal (λ a y. IsTrue (ends y) × ReachesWithin (Step net) step_limit (record { node = node; addr = a }) (name_of_end y)) rows
 rows_of_reached net checked table are node ends segs rows gives n = normal_like (SegmentsGive segs) (λ a y. IsTrue (ends y) × ReachesWithin (Step net) step_limit (record { node = node; addr = a }) (name_of_end y)) rows (λ a y t. (
   (λ m.
       let p = and_parts (stays node a y || goes_by table 66 node a y) (ends y) (sym (gives a y) ∙ segs_from segs a y m) in

@@ -1,4 +1,4 @@
--- What rows of walks lead to, as tests; their order; and sets of accepted addresses.
+-- What rows of walks lead to, as tests; and their order.
 use Rattle.std.specs.Prelude.{◌≡◌, ℕ, ◌+◌, ◌-◌, ◌≤◌, ◌<◌, Bool, ◌&&◌, ◌||◌, nat_le, nat_lt, nat_eq, List, [], slice_index_or}
 use Rattle.std.specs.List.{list_any}
 use Rattle.std.specs.List.Sorted.{IsPartitionedBy}
@@ -14,6 +14,7 @@ use Rattle.dn_walk.specs.declared.walks.WalkRow.{WalkRow}
 abbrev pub comes : WalkRow → ℕ → End → Bool
 comes r a y = in_span r.span a && (nat_eq r.end y.node && nat_eq (r.base + (a - r.span.lo)) y.base)
 
+-- the address follows one of the walks to the name
 abbrev pub come_by : List WalkRow → ℕ → End → Bool
 come_by rows a y = list_any (λ r. comes r a y) rows
 
@@ -36,7 +37,3 @@ AreSorted rows = (len start : ℕ) → IsPartitionedBy (comes_first len start) r
 -- the walk ends in one of so many nodes, at or below the top, and has 1 to 65 choices
 abbrev pub IsLed : ℕ → WalkRow → Type 0
 IsLed count r = (r.base + (r.span.hi - r.span.lo) ≤ TOP) × (r.end < count) × (1 ≤ r.len) × (r.len ≤ 65)
-
--- each set has what its node accepts
-abbrev pub AreAccepted : List NodeDecl → List (List Span) → Type 0
-AreAccepted net sets = (node a : ℕ) → has (slice_index_or sets node []) a ≡ is_accepted net (record { node = node; addr = a })

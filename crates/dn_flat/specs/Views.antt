@@ -1,14 +1,20 @@
--- What the rows of a node give: at each address its resolution, or its stops.
-use Rattle.std.specs.Prelude.{ℕ, Bool, nat_lt, List}
-use Rattle.std.specs.List.{list_all}
+-- What the rows of a node give: at each address its resolution, or its stops; and the rows of a view.
+use Rattle.std.specs.Prelude.{ℕ, ◌≤◌, ◌↔◌, List, map}
 use Rattle.dn_interval.specs.declared.row.End.{End}
-use Rattle.dn_interval.specs.declared.row.Row.{Row}
+use Rattle.dn_interval.specs.declared.span.TheConstants.{TOP}
+use Rattle.dn_interval.specs.Listed.{Seen, listed_rows, SeenApart, SeenGive}
 use Rattle.dn_net.specs.declared.node.Name.{Name}
 use Rattle.dn_net.specs.declared.node.NodeDecl.{NodeDecl}
 use Rattle.dn_net.specs.Decode.{Resolves, StopsAt}
+use Rattle.dn_net.specs.Names.{resolved_names}
 
+-- the name that an end of a row is
 abbrev pub name_of_end : End → Name
 name_of_end e = record { node = e.node; addr = e.base }
+
+-- a name, as rows have it
+abbrev pub end_of : Name → End
+end_of x = record { node = x.node; base = x.addr }
 
 -- the address of the node resolves to the name
 abbrev pub ResolvesFrom : List NodeDecl → ℕ → ℕ → End → Type 0
@@ -18,6 +24,16 @@ ResolvesFrom net node a y = Resolves net (record { node = node; addr = a }) (nam
 abbrev pub StopsFrom : List NodeDecl → ℕ → ℕ → End → Type 0
 StopsFrom net node a y = StopsAt net (record { node = node; addr = a }) (name_of_end y)
 
--- each name of the rows is in one of so many nodes
-abbrev pub ends_within : ℕ → List Row → Bool
-ends_within count rows = list_all (λ r. list_all (λ e. nat_lt e.node count) r.ends) rows
+-- to what the addresses of a node resolve, as the fewest rows
+abbrev pub view_rows : List NodeDecl → ℕ → List Seen
+view_rows net n = listed_rows (λ a. map end_of (resolved_names net (record { node = n; addr = a })))
+
+-- The rows of a view are normal rows of the resolution of its node: they stand apart, two that touch do not go on with
+-- one another, and they give to every address exactly the names to which it resolves.
+pub record AreViewRows (net : List NodeDecl) (n : ℕ) : Type 0 where
+  pub apart : SeenApart 0 (view_rows net n)
+  pub exact : (a : ℕ) (y : End) → a ≤ TOP → ResolvesFrom net n a y ↔ SeenGive (view_rows net n) a y
+
+-- So it is for each node of each net.
+abbrev pub ViewRowsAreNormal : Type 0
+ViewRowsAreNormal = (net : List NodeDecl) (n : ℕ) → AreViewRows net n

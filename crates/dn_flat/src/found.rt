@@ -10,7 +10,8 @@ ghost use Rattle.dn_interval.specs.Spans.{has, in_span, AreMaximal};
 ghost use Rattle.dn_interval.specs.Strands.{seg_gives, segs_give};
 ghost use Rattle.dn_net.specs.Decode.{is_accepted, is_stop};
 ghost use Rattle.dn_flat.specs.Views.{name_of_end};
-ghost use Rattle.dn_flat.specs.Found.{come_by, AreAccepted, IsLed};
+ghost use Rattle.dn_flat.specs.Found.{come_by, IsLed};
+ghost use Rattle.dn_walk.specs.Rows.{AreAccepted};
 
 use dn_base::OutOfMemory;
 use dn_interval::{Seg, Span, SpanSet};
@@ -33,11 +34,14 @@ pub(crate) fn push_walks(
     sets: &[SpanSet],
     rows: &[WalkRow],
 ) -> Result<(), OutOfMemory>
-    requires every { length sets.now ≡ length net.now }
-    requires same { AreAccepted net.now sets.now }
+    requires accepted { AreAccepted net.now sets.now }
     requires led { All (IsLed (length net.now)) rows.now }
-    ensures accepts { OnOk result ((a : ℕ) (y : End) → segs_give found.new.accepts.items a y ≡ (segs_give found.old.accepts.items a y || (come_by rows.now a y && is_accepted net.now (name_of_end y)))) }
-    ensures stops { OnOk result ((a : ℕ) (y : End) → segs_give found.new.stops.items a y ≡ (segs_give found.old.stops.items a y || (come_by rows.now a y && is_stop net.now (name_of_end y)))) }
+    ensures accepts { OnOk result ((a : ℕ) (y : End) → segs_give found.new.accepts.items a y
+        ≡ (segs_give found.old.accepts.items a y || (come_by rows.now a y
+        && is_accepted net.now (name_of_end y)))) }
+    ensures stops { OnOk result ((a : ℕ) (y : End) → segs_give found.new.stops.items a y
+        ≡ (segs_give found.old.stops.items a y || (come_by rows.now a y
+        && is_stop net.now (name_of_end y)))) }
 {
     for row in rows {
         let seg = Seg {
@@ -57,11 +61,14 @@ pub(crate) fn push(
     sets: &[SpanSet],
     seg: Seg,
 ) -> Result<(), OutOfMemory>
-    requires every { length sets.now ≡ length net.now }
-    requires same { AreAccepted net.now sets.now }
+    requires accepted { AreAccepted net.now sets.now }
     requires there { seg.node < length net.now }
-    ensures accepts { OnOk result ((a : ℕ) (y : End) → segs_give found.new.accepts.items a y ≡ (segs_give found.old.accepts.items a y || (seg_gives seg a y && is_accepted net.now (name_of_end y)))) }
-    ensures stops { OnOk result ((a : ℕ) (y : End) → segs_give found.new.stops.items a y ≡ (segs_give found.old.stops.items a y || (seg_gives seg a y && is_stop net.now (name_of_end y)))) }
+    ensures accepts { OnOk result ((a : ℕ) (y : End) → segs_give found.new.accepts.items a y
+        ≡ (segs_give found.old.accepts.items a y || (seg_gives seg a y
+        && is_accepted net.now (name_of_end y)))) }
+    ensures stops { OnOk result ((a : ℕ) (y : End) → segs_give found.new.stops.items a y
+        ≡ (segs_give found.old.stops.items a y || (seg_gives seg a y
+        && is_stop net.now (name_of_end y)))) }
 {
     if net.unit(seg.node).is_some() {
         found.stops.push(seg)?;
@@ -73,7 +80,8 @@ pub(crate) fn push(
 /// Adds the parts of a segment that come out in spans.
 fn push_accepted(segs: &mut Vec<Seg>, spans: &[Span], seg: Seg) -> Result<(), OutOfMemory>
     requires { AreMaximal spans.now }
-    ensures { OnOk result ((a : ℕ) (y : End) → segs_give segs.new.items a y ≡ (segs_give segs.old.items a y || (seg_gives seg a y && has spans.now y.base))) }
+    ensures { OnOk result ((a : ℕ) (y : End) → segs_give segs.new.items a y
+        ≡ (segs_give segs.old.items a y || (seg_gives seg a y && has spans.now y.base))) }
 {
     let last = last_out(seg);
     let rest = &spans[ended_before(spans, seg.base)..];
@@ -106,7 +114,8 @@ fn last_out(seg: Seg) -> u64
 fn cut(seg: Seg, span: Span) -> Seg
     requires begins { span.lo ≤ seg.base + (seg.span.hi - seg.span.lo) }
     requires ends { seg.base ≤ span.hi }
-    ensures { (a : ℕ) (y : End) → seg_gives result a y ≡ (seg_gives seg a y && in_span span y.base) }
+    ensures { (a : ℕ) (y : End) → seg_gives result a y ≡ (seg_gives seg a y
+        && in_span span y.base) }
 {
     let first = seg.base.max(span.lo);
     let last = last_out(seg).min(span.hi);

@@ -3,9 +3,9 @@
 //! [`flat::flatten`] takes the walks that begin at the node, and what is accepted where they end.
 #![tactic(auto)]
 
-mod accepted;
 pub mod flat;
 mod found;
+pub mod laws;
 mod starts;
 #[cfg(test)]
 mod tests;

@@ -12,7 +12,8 @@ use dn_walk::walks::WalkRow;
 pub(crate) fn walks_from(rows: &[WalkRow], len: u8, start: u16) -> &[WalkRow]
     requires sorted { AreSorted rows.now }
     ensures led { (count : ℕ) → All (IsLed count) rows.now → All (IsLed count) result.now }
-    ensures those { (P : WalkRow → Bool) → list_any P result.now ≡ list_any (λ (r : WalkRow). (nat_eq r.len len && nat_eq r.start start) && P r) rows.now }
+    ensures those { (P : WalkRow → Bool) → list_any P result.now
+        ≡ list_any (λ (r : WalkRow). (nat_eq r.len len && nat_eq r.start start) && P r) rows.now }
 {
     let start = u32::from(start);
     let first = place(rows, len, start);
@@ -24,7 +25,8 @@ pub(crate) fn walks_from(rows: &[WalkRow], len: u8, start: u16) -> &[WalkRow]
 fn place(rows: &[WalkRow], len: u8, start: u32) -> usize
     requires { AreSorted rows.now }
     ensures within { result ≤ length rows.now }
-    ensures place { IsPartitionPoint (λ (r : WalkRow). comes_first len start r ≡ true) (λ (r : WalkRow). comes_first len start r ≡ false) rows.now result }
+    ensures place { IsPartitionPoint (λ (r : WalkRow). comes_first len start r
+        ≡ true) (λ (r : WalkRow). comes_first len start r ≡ false) rows.now result }
 {
     rows.partition_point(|row| row.len < len || (row.len == len && u32::from(row.start) < start))
 }

@@ -11,12 +11,15 @@ pub record Seen : Type 0 where
   pub hi : ℕ
   pub ends : List End
 
+-- a row of the code, as it is read
 abbrev pub seen_by : Row → Seen
 seen_by r = record { lo = r.span.lo; hi = r.span.hi; ends = r.ends }
 
+-- two names are one
 abbrev pub same_end : End → End → Bool
 same_end x y = (x.node == y.node) && (x.base == y.base)
 
+-- two lists of names are one
 abbrev pub same_ends : List End → List End → Bool
 same_ends [] [] = true
 same_ends (x ∷ xs) (y ∷ ys) = if same_end x y then same_ends xs ys else false

@@ -1,6 +1,7 @@
 -- The names that segments give, and normal rows of a function from addresses to sets of names.
 use Rattle.std.specs.Prelude.{◌≡◌, ℕ, suc, ◌+◌, ◌-◌, ◌≤◌, ◌⊎◌, ◌↔◌, Bool, cond, ◌&&◌, ◌||◌, nat_lt, nat_eq, List, [], ◌∷◌, map, IsTrue}
 pub use Rattle.dn_base.specs.Members.{Member}
+use Rattle.std.specs.List.{list_all}
 use Rattle.dn_interval.specs.declared.row.Seg.{Seg}
 use Rattle.dn_interval.specs.declared.row.End.{End}
 use Rattle.dn_interval.specs.declared.row.Row.{Row}
@@ -16,6 +17,7 @@ abbrev pub names_at : List Seg → ℕ → List End
 names_at [] a = []
 names_at (s ∷ rest) a = cond (in_span s.span a) (name_at s a ∷ names_at rest a) (names_at rest a)
 
+-- the segments give the name to the address
 abbrev pub SegmentsGive : List Seg → ℕ → End → Type 0
 SegmentsGive segs a y = Member y (names_at segs a)
 
@@ -27,14 +29,17 @@ moved d e = record { node = e.node; base = e.base + d }
 abbrev pub end_lt : End → End → Bool
 end_lt x y = nat_lt x.node y.node || (nat_eq x.node y.node && nat_lt x.base y.base)
 
+-- each name of the list comes after this one
 abbrev pub AllAbove : End → List End → Type 0
 AllAbove x [] = Unit {0}
 AllAbove x (y ∷ ys) = IsTrue (end_lt x y) × AllAbove x ys
 
+-- each name of the list comes before those behind it
 abbrev pub Ascending : List End → Type 0
 Ascending [] = Unit {0}
 Ascending (x ∷ xs) = AllAbove x xs × Ascending xs
 
+-- there is a name
 abbrev pub HasEnds : List End → Type 0
 HasEnds [] = ⊥
 HasEnds (x ∷ xs) = Unit {0}
@@ -63,3 +68,7 @@ pub record AreNormal (f : ℕ → End → Type 0) (rows : List Row) : Type 0 whe
 -- two lists of rows that are normal for one function are one list
 abbrev pub OneListOfRows : Type 0
 OneListOfRows = (rows others : List Row) → Apart 0 rows → Apart 0 others → ((a : ℕ) (y : End) → a ≤ TOP → GivenBy rows a y ↔ GivenBy others a y) → rows ≡ others
+
+-- each name of the rows is in one of so many nodes
+abbrev pub ends_within : ℕ → List Row → Bool
+ends_within count rows = list_all (λ r. list_all (λ e. nat_lt e.node count) r.ends) rows

@@ -15,9 +15,11 @@ use Rattle.dn_interval.specs.Spans.{in_span}
 abbrev pub slid : ℕ → ℕ → ℕ → End → Bool
 slid node slide a y = nat_eq node y.node && nat_eq (slide + a) (y.base + TOP)
 
+-- the strand gives the name to the address
 abbrev pub strand_gives : Strand → ℕ → End → Bool
 strand_gives s a y = in_span s.span a && slid s.node s.slide a y
 
+-- one of the strands gives the name to the address
 abbrev pub strands_give : List Strand → ℕ → End → Bool
 strands_give strands a y = list_any (λ s. strand_gives s a y) strands
 
@@ -25,9 +27,11 @@ strands_give strands a y = list_any (λ s. strand_gives s a y) strands
 abbrev pub slides_give : List Strand → ℕ → End → Bool
 slides_give strands a y = list_any (λ s. slid s.node s.slide a y) strands
 
+-- the segment gives the name to the address
 abbrev pub seg_gives : Seg → ℕ → End → Bool
 seg_gives s a y = in_span s.span a && (nat_eq s.node y.node && nat_eq (s.base + (a - s.span.lo)) y.base)
 
+-- one of the segments gives the name to the address
 abbrev pub segs_give : List Seg → ℕ → End → Bool
 segs_give segs a y = list_any (λ s. seg_gives s a y) segs
 
@@ -35,9 +39,11 @@ segs_give segs a y = list_any (λ s. seg_gives s a y) segs
 abbrev pub ends_give : List End → ℕ → ℕ → End → Bool
 ends_give ends from a y = list_any (λ e. nat_eq e.node y.node && nat_eq (e.base + (a - from)) y.base) ends
 
+-- the row gives the name to the address
 abbrev pub row_gives : Row → ℕ → End → Bool
 row_gives r a y = in_span r.span a && ends_give r.ends r.span.lo a y
 
+-- one of the rows gives the name to the address
 abbrev pub rows_give : List Row → ℕ → End → Bool
 rows_give rows a y = list_any (λ r. row_gives r a y) rows
 

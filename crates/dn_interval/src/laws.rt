@@ -1,5 +1,7 @@
 //! Laws on span sets and normal rows, each on a function that does nothing.
 
+ghost use Rattle.std.specs.Prelude.{◌≡◌, ◌-◌, ◌^◌};
+ghost use Rattle.dn_interval.specs.declared.span.TheConstants.{TOP};
 ghost use Rattle.dn_interval.specs.Listed.{ListedRowsAreNormal, NormalRowsAreListed};
 ghost use Rattle.dn_interval.specs.Rows.{OneListOfRows};
 ghost use Rattle.dn_interval.specs.Spans.{OneListOfSpans};
@@ -23,4 +25,9 @@ pub fn normal_rows_are_listed()
 /// exactly its names.
 pub fn listed_rows_are_normal()
     ensures { ListedRowsAreNormal }
+{}
+
+/// The last address is 2^56 - 1.
+pub fn last_address()
+    ensures { TOP ≡ 2 ^ 56 - 1 }
 {}

@@ -44,7 +44,8 @@ impl Rows {
     /// and of ends.
     pub fn normal(alloc: Global, segs: &[Seg]) -> Result<Rows, OutOfMemory>
         ensures normal { IfOk result (λ rows. AreNormal (SegmentsGive segs.now) rows) }
-        ensures covers { IfOk result (λ rows. (a : ℕ) → list_any (λ (r : Row). in_span r.span a) rows
+        ensures covers { IfOk result (λ rows. (a : ℕ)
+            → list_any (λ (r : Row). in_span r.span a) rows
             ≡ list_any (λ (s : Seg). in_span s.span a) segs.now) }
     {
         let strands = strands::strands_of(alloc, segs)?;
@@ -54,7 +55,8 @@ impl Rows {
 
     /// The row that has the address: a binary search. None exactly where no row has it.
     pub fn at(&self, a: u64) -> Option<&Row>
-        ensures found { IfSome result (λ row. Contains self.now row.now × IsTrue (in_span row.now.span a)) }
+        ensures found { IfSome result (λ row. Contains self.now row.now
+            × IsTrue (in_span row.now.span a)) }
         ensures none { is_some result ≡ list_any (λ (r : Row). in_span r.span a) self.now }
     {
         let rows = self.rows();
@@ -85,7 +87,8 @@ fn ended_before(rows: &[Row], a: u64) -> usize
 fn sweep(alloc: Global, strands: &[Strand]) -> Result<Vec<Row>, OutOfMemory>
     requires maximal { All (IsMaximal (strands_give strands.now)) strands.now }
     requires sorted { IsNonDecreasingBy (λ (s : Strand). s.span.lo) strands.now }
-    ensures same { IfOk result (λ rows. (a : ℕ) (y : End) → rows_give rows.items a y ≡ strands_give strands.now a y) }
+    ensures same { IfOk result (λ rows. (a : ℕ) (y : End) → rows_give rows.items a y
+        ≡ strands_give strands.now a y) }
     ensures apart { IfOk result (λ rows. Apart 0 rows.items) }
 {
     let mut rows = Vec::new(alloc);
@@ -111,7 +114,8 @@ fn first_address(running: &[Strand], rest: &[Strand], from: u64) -> u64
     requires later { All (λ (s : Strand). from ≤ s.span.lo) rest.now }
     requires sorted { IsNonDecreasingBy (λ (s : Strand). s.span.lo) rest.now }
     ensures runs { 0 < length running.now → result ≡ from }
-    ensures begins { (d : Strand) → length running.now ≡ 0 → (slice_index_or rest.now 0 d).span.lo ≡ result }
+    ensures begins { (d : Strand) → length running.now ≡ 0
+        → (slice_index_or rest.now 0 d).span.lo ≡ result }
     ensures onward { from ≤ result }
     ensures rest_stays { All (λ (s : Strand). result ≤ s.span.lo) rest.now }
 {
@@ -143,7 +147,8 @@ fn before(rest: &[Strand]) -> u64
     requires later { All (λ (s : Strand). 0 < s.span.lo) rest.now }
     requires sorted { IsNonDecreasingBy (λ (s : Strand). s.span.lo) rest.now }
     ensures below { All (λ (s : Strand). result < s.span.lo) rest.now }
-    ensures begins { (d : Strand) → 0 < length rest.now → (slice_index_or rest.now 0 d).span.lo ≡ result + 1 }
+    ensures begins { (d : Strand) → 0 < length rest.now → (slice_index_or rest.now 0 d).span.lo
+        ≡ result + 1 }
     ensures none { length rest.now ≡ 0 → result ≡ TOP }
 {
     if rest.is_empty() {
@@ -177,7 +182,8 @@ fn row(alloc: Global, from: u64, hi: u64, running: &[Strand]) -> Result<Row, Out
     requires running { All (λ (s : Strand). (s.span.lo ≤ from) × (hi ≤ s.span.hi)) running.now }
     ensures lo { IfOk result (λ row. row.span.lo ≡ from) }
     ensures hi { IfOk result (λ row. row.span.hi ≡ hi) }
-    ensures gives { IfOk result (λ row. (a : ℕ) (y : End) → from ≤ a → ends_give row.ends from a y ≡ slides_give running.now a y) }
+    ensures gives { IfOk result (λ row. (a : ℕ) (y : End) → from ≤ a
+        → ends_give row.ends from a y ≡ slides_give running.now a y) }
     ensures ascending { IfOk result (λ row. Ascending row.ends) }
     ensures some { IfOk result (λ row. HasEnds row.ends) }
 {
@@ -193,7 +199,8 @@ fn row(alloc: Global, from: u64, hi: u64, running: &[Strand]) -> Result<Row, Out
 /// The name that each strand gives to an address.
 fn ends_at(alloc: Global, from: u64, running: &[Strand]) -> Result<Vec<End>, OutOfMemory>
     requires { All (λ (s : Strand). (s.span.lo ≤ from) × (from ≤ s.span.hi)) running.now }
-    ensures gives { IfOk result (λ ends. (a : ℕ) (y : End) → from ≤ a → ends_give ends.items from a y ≡ slides_give running.now a y) }
+    ensures gives { IfOk result (λ ends. (a : ℕ) (y : End) → from ≤ a
+        → ends_give ends.items from a y ≡ slides_give running.now a y) }
     ensures len { IfOk result (λ ends. length ends.items ≡ length running.now) }
 {
     let mut ends = Vec::with_capacity(alloc, running.len())?;

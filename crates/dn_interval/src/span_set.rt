@@ -74,7 +74,8 @@ impl SpanSet {
 
     /// The addresses that are in both sets.
     pub fn meet(&self, alloc: Global, other: &SpanSet) -> Result<SpanSet, OutOfMemory>
-        ensures same { IfOk result (λ met. (a : ℕ) → has met a ≡ (has self.now a && has other.now a)) }
+        ensures same { IfOk result (λ met. (a : ℕ) → has met a ≡ (has self.now a
+            && has other.now a)) }
         ensures maximal { IfOk result (λ met. AreMaximal met) }
     {
         let spans = common(alloc, self.spans(), other.spans())?;
@@ -130,7 +131,8 @@ fn join(span: Span, touched: &[Span]) -> Span
 fn put(spans: &mut Vec<Span>, first: usize, last: usize, span: Span) -> Result<(), OutOfMemory>
     requires ordered { first ≤ last }
     requires within { last ≤ vec_len spans.old }
-    ensures ok { OnOk result (spans.new.items ≡ take first spans.old.items ++ span ∷ drop last spans.old.items) }
+    ensures ok { OnOk result (spans.new.items
+        ≡ take first spans.old.items ++ span ∷ drop last spans.old.items) }
     ensures err { OnErr result (spans.new.items ≡ spans.old.items) }
 {
     if first == last {
@@ -146,7 +148,8 @@ fn put(spans: &mut Vec<Span>, first: usize, last: usize, span: Span) -> Result<(
 fn common(alloc: Global, ours: &[Span], theirs: &[Span]) -> Result<Vec<Span>, OutOfMemory>
     requires ours { AreMaximal ours.now }
     requires theirs { AreMaximal theirs.now }
-    ensures same { IfOk result (λ met. (a : ℕ) → has met.items a ≡ (has ours.now a && has theirs.now a)) }
+    ensures same { IfOk result (λ met. (a : ℕ) → has met.items a ≡ (has ours.now a
+        && has theirs.now a)) }
     ensures maximal { IfOk result (λ met. AreMaximal met.items) }
 {
     let mut met = Vec::new(alloc);
@@ -171,7 +174,8 @@ fn common(alloc: Global, ours: &[Span], theirs: &[Span]) -> Result<Vec<Span>, Ou
 /// The maximal spans of the addresses up to [`TOP`] that a list leaves out.
 fn holes(alloc: Global, spans: &[Span]) -> Result<Vec<Span>, OutOfMemory>
     requires { AreMaximal spans.now }
-    ensures same { IfOk result (λ holes. (a : ℕ) → a ≤ TOP → has holes.items a ≡ not (has spans.now a)) }
+    ensures same { IfOk result (λ holes. (a : ℕ) → a ≤ TOP → has holes.items a
+        ≡ not (has spans.now a)) }
     ensures maximal { IfOk result (λ holes. AreMaximal holes.items) }
 {
     let mut holes = Vec::new(alloc);

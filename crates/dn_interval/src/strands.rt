@@ -17,7 +17,8 @@ use std::alloc::Global;
 /// The strands of segments, in the order of their first addresses. No strand goes on where another
 /// one of the same names begins.
 pub fn strands_of(alloc: Global, segs: &[Seg]) -> Result<Vec<Strand>, OutOfMemory>
-    ensures same { IfOk result (λ strands. (a : ℕ) (y : End) → strands_give strands.items a y ≡ segs_give segs.now a y) }
+    ensures same { IfOk result (λ strands. (a : ℕ) (y : End) → strands_give strands.items a y
+        ≡ segs_give segs.now a y) }
     ensures maximal { IfOk result (λ strands. All (IsMaximal (strands_give strands.items)) strands.items) }
     ensures sorted { IfOk result (λ strands. IsNonDecreasingBy (λ (s : Strand). s.span.lo) strands.items) }
 {
@@ -30,7 +31,8 @@ pub fn strands_of(alloc: Global, segs: &[Seg]) -> Result<Vec<Strand>, OutOfMemor
 
 /// A strand for each segment.
 fn each_alone(alloc: Global, segs: &[Seg]) -> Result<Vec<Strand>, OutOfMemory>
-    ensures { IfOk result (λ strands. (a : ℕ) (y : End) → strands_give strands.items a y ≡ segs_give segs.now a y) }
+    ensures { IfOk result (λ strands. (a : ℕ) (y : End) → strands_give strands.items a y
+        ≡ segs_give segs.now a y) }
 {
     let mut strands = Vec::with_capacity(alloc, segs.len())?;
     for seg in segs {
@@ -54,7 +56,8 @@ fn strand_of(seg: &Seg) -> Strand
 /// slide and by first address.
 fn joined(alloc: Global, strands: &[Strand]) -> Result<Vec<Strand>, OutOfMemory>
     requires { IsSorted strand_cmp strands.now }
-    ensures same { IfOk result (λ out. (a : ℕ) (y : End) → strands_give out.items a y ≡ strands_give strands.now a y) }
+    ensures same { IfOk result (λ out. (a : ℕ) (y : End) → strands_give out.items a y
+        ≡ strands_give strands.now a y) }
     ensures maximal { IfOk result (λ out. All (IsMaximal (strands_give out.items)) out.items) }
 {
     let mut out = Vec::new(alloc);

@@ -4,8 +4,7 @@ use Rattle.std.proofs.lemmas.Bool.{cases_order, lt-ltb, eq-eqb}
 use Rattle.std.specs.List.{insert}
 use Rattle.std.specs.List.Sorted.{IsPartitionedBy}
 use Rattle.dn_net.specs.declared.node.Name.{Name}
-use Rattle.dn_net.specs.declared.node.NodeDecl.{NodeDecl}
-use Rattle.dn_net.specs.Decode.{is_accepted, steps, step_limit}
+use Rattle.dn_net.specs.Chain.{Member}
 use Rattle.dn_net.specs.Names.{name_lt, name_eq, with_name, is_before_first, is_ascending, sorted_names, passing, reached, end_names}
 use Rattle.dn_net.proofs.Least.{either_true, both_true, true_left, true_right, true_both}
 
@@ -144,6 +143,18 @@ with_ascending x (y ∷ ys) up = by (name_lt x y) (name_eq x y) refl refl (with_
 pub sorted_ascending : (xs : List Name) → is_ascending (sorted_names xs) ≡ true
 sorted_ascending [] = refl
 sorted_ascending (x ∷ xs) = with_ascending x (sorted_names xs) (sorted_ascending xs)
+
+-- the first of an ascending list comes before the others
+pub before_members : (x z : Name) (xs : List Name) → is_ascending (x ∷ xs) ≡ true → Member z xs → name_lt x z ≡ true
+before_members x z [] up m = absurd m
+before_members x z (y ∷ ys) up m = go (before_members y z ys parts.1) m
+  where
+    parts : (name_lt x y ≡ true) × (is_ascending (y ∷ ys) ≡ true)
+    parts = both_true (name_lt x y) (is_ascending (y ∷ ys)) up
+
+    go : (Member z ys → name_lt y z ≡ true) → Member z (y ∷ ys) → name_lt x z ≡ true
+    go later (inl e) = subst (λ w. name_lt x w ≡ true) e parts.0
+    go later (inr n) = transitive x y z parts.0 (later n)
 
 -- and so does the list of those that pass and end a chain
 pub end_names_ascend : (f : Name → List Name) (passes : Name → Bool) (n : ℕ) (x : Name) → is_ascending (end_names f passes n x) ≡ true

@@ -9,6 +9,7 @@ use Rattle.dn_net.specs.Decode.{is_accepted, is_stop, steps, step_limit}
 abbrev pub name_lt : Name → Name → Bool
 name_lt x y = nat_lt x.node y.node || ((x.node == y.node) && nat_lt x.addr y.addr)
 
+-- two names are one
 abbrev pub name_eq : Name → Name → Bool
 name_eq x y = (x.node == y.node) && (x.addr == y.addr)
 
@@ -17,6 +18,7 @@ abbrev pub is_before_first : Name → List Name → Bool
 is_before_first x [] = true
 is_before_first x (y ∷ ys) = name_lt x y
 
+-- each name of the list comes before the next
 abbrev pub is_ascending : List Name → Bool
 is_ascending [] = true
 is_ascending (x ∷ xs) = is_before_first x xs && is_ascending xs

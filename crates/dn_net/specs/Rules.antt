@@ -32,12 +32,15 @@ node_fault_view OutOfMemory = None
 abbrev pub block_in_range : Block → Bool
 block_in_range b = nat_le b.lo b.hi && nat_le b.hi top
 
+-- the last address of the block is sent to one at or below the top
 abbrev pub dest_in_range : Block → Dest → Bool
 dest_in_range b d = nat_le (d.addr + (b.hi - b.lo)) top
 
+-- the block of an entry is in range, and so is where it is sent
 abbrev pub entry_in_range : Entry → Bool
 entry_in_range e = block_in_range e.block && list_all (dest_in_range e.block) e.dests
 
+-- the blocks and the entries of a node are in range
 abbrev pub is_in_range : NodeDecl → Bool
 is_in_range n = list_all block_in_range n.accepts && list_all entry_in_range n.entries
 
@@ -45,6 +48,7 @@ is_in_range n = list_all block_in_range n.accepts && list_all entry_in_range n.e
 abbrev pub map_blocks_at : NodeDecl → ℕ → ℕ
 map_blocks_at n a = count_by (λ e. within a e.block) n.entries
 
+-- the address lies in two map blocks, or in a map block and an accept block
 abbrev pub overlaps : NodeDecl → ℕ → Bool
 overlaps n a = nat_lt 1 (map_blocks_at n a) || (nat_lt 0 (map_blocks_at n a) && in_some_block a n.accepts)
 
@@ -52,10 +56,12 @@ overlaps n a = nat_lt 1 (map_blocks_at n a) || (nat_lt 0 (map_blocks_at n a) && 
 abbrev pub firsts : NodeDecl → List ℕ
 firsts n = map (λ e. e.block.lo) n.entries ++ map (λ b. b.lo) n.accepts
 
+-- the lesser of a number and one that may be there
 abbrev pub lesser : ℕ → Option ℕ → Option ℕ
 lesser a None = Some a
 lesser a (Some b) = Some (if nat_le a b then a else b)
 
+-- the least of some numbers
 abbrev pub least : List ℕ → Option ℕ
 least [] = None
 least (a ∷ as') = lesser a (least as')
@@ -77,18 +83,22 @@ LeastOverlapIsLeast = (n : NodeDecl) → ((a : ℕ) → least_overlap n ≡ Some
 abbrev pub same_dest : Dest → Dest → Bool
 same_dest d e = (d.node == e.node) && (d.addr == e.addr)
 
+-- two destinations of a list are equal
 abbrev pub dests_repeat : List Dest → Bool
 dests_repeat [] = false
 dests_repeat (d ∷ ds) = list_any (same_dest d) ds || dests_repeat ds
 
+-- a list names a port twice
 abbrev pub ports_repeat : List ℕ → Bool
 ports_repeat [] = false
 ports_repeat (p ∷ ps) = list_any (λ q. p == q) ps || ports_repeat ps
 
+-- a unit is there that names a port twice
 abbrev pub unit_repeats : Option UnitPart → Bool
 unit_repeats None = false
 unit_repeats (Some u) = ports_repeat u.ports
 
+-- a node names a destination or a port twice
 abbrev pub repeats : NodeDecl → Bool
 repeats n = list_any (λ e. dests_repeat e.dests) n.entries || unit_repeats n.unit
 
@@ -98,6 +108,7 @@ unfoldable pub count_below : (ℕ → Bool) → ℕ → ℕ
 count_below p zero = 0
 count_below p (suc k) = count_below p k + (if p k then 1 else 0)
 
+-- the role is that of interrupt vectors
 abbrev pub is_vectors : Role → Bool
 is_vectors Vectors = true
 is_vectors Plain = false
@@ -108,6 +119,7 @@ is_vectors UnitRole = false
 abbrev pub accepted_count : NodeDecl → ℕ
 accepted_count n = count_below (λ a. in_some_block a n.accepts) (top + 1)
 
+-- a node is no `vectors` node, or has neither a map nor an `over`, and not too many addresses
 abbrev pub passes_vector_space : NodeDecl → Bool
 passes_vector_space n = not (is_vectors n.role) || ((nat_le (length n.entries) 0 && not (is_some n.over)) && nat_le (accepted_count n) 4096)
 

@@ -13,9 +13,11 @@ node_spans entries accepts = map (λ e. record { block = e.block; mapped = true 
 abbrev pub maps_in : List Span → ℕ → ℕ
 maps_in spans a = count_by (λ s. s.mapped && within a s.block) spans
 
+-- how many accept blocks have the address
 abbrev pub accepts_in : List Span → ℕ → ℕ
 accepts_in spans a = count_by (λ s. not s.mapped && within a s.block) spans
 
+-- the address lies in two map blocks, or in a map block and an accept block
 abbrev pub overlaps_in : List Span → ℕ → Bool
 overlaps_in spans a = nat_lt 1 (maps_in spans a) || (nat_lt 0 (maps_in spans a) && nat_lt 0 (accepts_in spans a))
 

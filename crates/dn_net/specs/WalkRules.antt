@@ -24,13 +24,16 @@ first_below p (suc n) = or_else (first_below p n) (if p n then Some n else None)
 abbrev pub least_in : (Name → Bool) → ℕ → Option Name
 least_in p n = option_map (λ a. record { node = n; addr = a }) (first_below (λ a. p (record { node = n; addr = a })) (top + 1))
 
+-- the least name that passes a test, in the first so many nodes
 abbrev pub least_below : (Name → Bool) → ℕ → Option Name
 least_below p zero = None
 least_below p (suc n) = or_else (least_below p n) (least_in p n)
 
+-- the least name of a net that passes a test
 abbrev pub least_name : List NodeDecl → (Name → Bool) → Option Name
 least_name net p = least_below p (length net)
 
+-- the first of a list
 abbrev pub first_of : List Name → Option Name
 first_of [] = None
 first_of (x ∷ xs) = Some x
@@ -47,6 +50,7 @@ comes_to net y k x = list_any (name_eq y) (after_steps (steps net) k (x ∷ []))
 abbrev pub comes_back : List NodeDecl → ℕ → Name → Bool
 comes_back net k x = comes_to net x k x
 
+-- some name comes to itself in so many steps
 abbrev pub has_cycle : List NodeDecl → ℕ → Bool
 has_cycle net k = is_some (least_name net (comes_back net k))
 
@@ -64,6 +68,7 @@ abbrev pub behind : Option Name → (Name → List Name) → List Name
 behind None rest = []
 behind (Some z) rest = z ∷ rest z
 
+-- the names behind a name, each the least step from which the rest can be taken
 abbrev pub way_by : (Name → List Name) → (ℕ → Name → Bool) → ℕ → Name → List Name
 way_by f leads zero x = []
 way_by f leads (suc k) x = behind (first_of (sorted_names (filter (leads k) (f x)))) (λ z. way_by f leads k z)
@@ -73,6 +78,7 @@ abbrev pub cycle_from : List NodeDecl → ℕ → Option Name → List Name
 cycle_from net c None = []
 cycle_from net c (Some x) = x ∷ way_by (steps net) (comes_to net x) c x
 
+-- the names of the least cycle of so many steps
 abbrev pub cycle_names : List NodeDecl → ℕ → List Name
 cycle_names net c = cycle_from net c (least_name net (comes_back net c))
 
@@ -81,6 +87,7 @@ abbrev pub path_from : List NodeDecl → ℕ → Option Name → Option (List Na
 path_from net k None = None
 path_from net k (Some x) = Some (x ∷ way_by (steps net) (goes_on net) k x)
 
+-- the names of the least path of so many steps
 abbrev pub path_names : List NodeDecl → ℕ → Option (List Name)
 path_names net k = path_from net k (least_name net (goes_on net k))
 
@@ -123,6 +130,7 @@ pub record IsListed (net : List NodeDecl) (w : Walk) : Type 0 where
   pub high : w.span.hi ≤ top
   pub follows : (a : ℕ) (y : Name) → a ≤ top → Follows net (record { node = w.start; addr = a }) w.choices y ↔ (IsTrue (within a w.span) × (moved_name (a - w.span.lo) w.to ≡ y))
 
+-- What is listed is a live walk of 1 to k choices, and each such walk is listed.
 abbrev pub LiveWalksAreAll : Type 0
 LiveWalksAreAll = (net : List NodeDecl) → KeepsNodeRules net → (k : ℕ) →
     ((w : Walk) → Member w (live_walks net k) → IsListed net w × (1 ≤ length w.choices) × (length w.choices ≤ k))
@@ -147,6 +155,7 @@ pub record IsShortestCycle (net : List NodeDecl) (c : ℕ) : Type 0 where
   pub cycle : (x : Name) × Chain (Step net) c x x
   pub none_less : (k : ℕ) (x : Name) → 1 ≤ k → k < c → Chain (Step net) k x x → ⊥
 
+-- The shortest cycle is the least, and where there is none no name comes to itself.
 abbrev pub ShortestCycleIsShortest : Type 0
 ShortestCycleIsShortest = (net : List NodeDecl) → KeepsNodeRules net → ((c : ℕ) → shortest_cycle net ≡ Some c → IsShortestCycle net c) × (shortest_cycle net ≡ None → (k : ℕ) (x : Name) → 1 ≤ k → k < step_limit → Chain (Step net) k x x → ⊥)
 
@@ -167,6 +176,7 @@ Along net (suc k) (x ∷ xs) y = Next (first_of xs) × Along net k xs y
     Next None = ⊥
     Next (Some z) = Step net x z
 
+-- the names are a cycle of so many steps, and no such list of names comes before them
 pub record IsLeastCycle (net : List NodeDecl) (c : ℕ) (xs : List Name) : Type 0 where
   pub along : (x : Name) × (first_of xs ≡ Some x) × Along net c xs x
   pub least : (ys : List Name) (y : Name) → first_of ys ≡ Some y → Along net c ys y → NotAfter xs ys
@@ -180,6 +190,7 @@ pub record IsLeastPath (net : List NodeDecl) (k : ℕ) (xs : List Name) : Type 0
   pub along : (y : Name) × Along net k xs y
   pub least : (ys : List Name) (y : Name) → Along net k ys y → NotAfter xs ys
 
+-- The names of a path are the least such list; where there are none, there is no chain of that length.
 abbrev pub PathIsLeast : Type 0
 PathIsLeast = (net : List NodeDecl) → KeepsNodeRules net → (k : ℕ) → ((xs : List Name) → path_names net k ≡ Some xs → IsLeastPath net k xs) × (path_names net k ≡ None → (x y : Name) → Chain (Step net) k x y → 1 ≤ k → ⊥)
 

@@ -53,6 +53,7 @@ IsLive net start choices = (a : ℕ) × (y : Name) × (a ≤ top) × Follows net
 abbrev pub below : Block → Block → List Block
 below b s = if nat_lt s.lo b.lo then record { lo = s.lo; hi = if nat_lt s.hi b.lo then s.hi else b.lo - 1 } ∷ [] else []
 
+-- what is left of a span of addresses above a block
 abbrev pub above : Block → Block → List Block
 above b s = if nat_lt b.hi s.hi then record { lo = if nat_lt b.hi s.lo then s.lo else b.hi + 1; hi = s.hi } ∷ [] else []
 
@@ -60,6 +61,7 @@ above b s = if nat_lt b.hi s.hi then record { lo = if nat_lt b.hi s.lo then s.lo
 abbrev pub cut_out : Block → List Block → List Block
 cut_out b spans = flat_map (λ s. below b s ++ above b s) spans
 
+-- what is left of spans when each of some blocks is cut out
 abbrev pub cut_each : List Block → List Block → List Block
 cut_each [] spans = spans
 cut_each (b ∷ bs) spans = cut_out b (cut_each bs spans)
@@ -78,14 +80,17 @@ pub record Leg : Type 0 where
   pub block : Block
   pub to : Name
 
+-- a leg for each destination of a block, from a place on
 abbrev pub dest_legs : ℕ → ℕ → Block → List Dest → List Leg
 dest_legs i j b [] = []
 dest_legs i j b (d ∷ ds) = record { choice = mapped_by i j; block = b; to = record { node = d.node; addr = d.addr } } ∷ dest_legs i (suc j) b ds
 
+-- the legs of entries, from a place on
 abbrev pub entry_legs : ℕ → List Entry → List Leg
 entry_legs i [] = []
 entry_legs i (e ∷ es) = dest_legs i 0 e.block e.dests ++ entry_legs (suc i) es
 
+-- a leg for each gap, to the same addresses of the node of the `over`, where there is one
 abbrev pub gap_legs : Option ℕ → List Block → List Leg
 gap_legs None spans = []
 gap_legs (Some m) spans = map (λ b. record { choice = over_gap b.lo b.hi; block = b; to = record { node = m; addr = b.lo } }) spans
@@ -104,6 +109,7 @@ in_order before (x ∷ xs) = put_in before x (in_order before xs)
 abbrev pub legs : NodeDecl → List Leg
 legs n = in_order (λ l m. nat_lt l.block.lo m.block.lo) (entry_legs 0 n.entries ++ gap_legs n.over (gaps n))
 
+-- the legs of a node that is there
 abbrev pub legs_of : Option NodeDecl → List Leg
 legs_of None = []
 legs_of (Some n) = legs n
@@ -123,9 +129,11 @@ last_out w = w.to.addr + (w.span.hi - w.span.lo)
 abbrev pub meets : Walk → Leg → Bool
 meets w l = nat_le w.to.addr l.block.hi && nat_le l.block.lo (last_out w)
 
+-- the greater of two numbers
 abbrev pub greater : ℕ → ℕ → ℕ
 greater a b = if nat_lt a b then b else a
 
+-- the lesser of two numbers
 abbrev pub lesser_of : ℕ → ℕ → ℕ
 lesser_of a b = if nat_lt b a then b else a
 
@@ -149,6 +157,7 @@ extended net w = map (onto w) (filter (meets w) (legs_of (slice_get net w.to.nod
 abbrev pub still : ℕ → Walk
 still n = record { start = n; choices = []; span = whole; to = record { node = n; addr = 0 } }
 
+-- the walks of no choice of nodes, of which the first has this number
 abbrev pub stills : ℕ → List NodeDecl → List Walk
 stills n [] = []
 stills n (d ∷ ds) = still n ∷ stills (suc n) ds
@@ -172,6 +181,7 @@ abbrev pub EarlierDest : Choice → Choice → Type 0
 EarlierDest (mapped_by i j) (mapped_by k l) = (i ≡ k) × (j < l)
 EarlierDest _ _ = ⊥
 
+-- where two lists of choices first differ, the first has an earlier destination
 abbrev pub ChooseBefore : List Choice → List Choice → Type 0
 ChooseBefore [] ds = ⊥
 ChooseBefore (c ∷ cs) [] = ⊥
@@ -181,5 +191,6 @@ ChooseBefore (c ∷ cs) (d ∷ ds) = (EarlierDest c d) ⊎ ((c ≡ d) × ChooseB
 abbrev pub SameSpan : Walk → Walk → Type 0
 SameSpan w v = (w.start ≡ v.start) × (w.span.lo ≡ v.span.lo) × (w.span.hi ≡ v.span.hi)
 
+-- the walk comes before the other, by length, start, span and choices
 abbrev pub Precedes : Walk → Walk → Type 0
 Precedes w v = (length w.choices < length v.choices) ⊎ ((length w.choices ≡ length v.choices) × (IsTrue (starts_before w v) ⊎ (SameSpan w v × ChooseBefore w.choices v.choices)))

@@ -58,7 +58,8 @@ impl AcceptList {
 fn rows_of(alloc: Global, blocks: &[Block]) -> Result<Vec<Block>, AllocError>
     ensures firsts { IfOk result (λ v. IsNonDecreasingBy (λ b. b.lo) v.items) }
     ensures lasts { IfOk result (λ v. IsNonDecreasingBy (λ b. b.hi) v.items) }
-    ensures same { IfOk result (λ v. (a : ℕ) → in_some_block a v.items ≡ in_some_block a blocks.now) }
+    ensures same { IfOk result (λ v. (a : ℕ) → in_some_block a v.items
+        ≡ in_some_block a blocks.now) }
 {
     let mut sorted = Vec::from_slice(alloc, blocks)?;
     sorted.sort_unstable_by_key(|block| block.lo);
@@ -70,7 +71,8 @@ fn stretched(alloc: Global, blocks: &[Block]) -> Result<Vec<Block>, AllocError>
     requires sorted { IsNonDecreasingBy (λ b. b.lo) blocks.now }
     ensures firsts { IfOk result (λ v. IsNonDecreasingBy (λ b. b.lo) v.items) }
     ensures lasts { IfOk result (λ v. IsNonDecreasingBy (λ b. b.hi) v.items) }
-    ensures same { IfOk result (λ v. (a : ℕ) → in_some_block a v.items ≡ in_some_block a blocks.now) }
+    ensures same { IfOk result (λ v. (a : ℕ) → in_some_block a v.items
+        ≡ in_some_block a blocks.now) }
 {
     let mut rows = Vec::with_capacity(alloc, blocks.len())?;
     let mut reach = 0;

@@ -62,11 +62,13 @@ impl EntryList {
     pub(crate) fn at(&self, addr: u64) -> Option<&Entry>
         requires in_range { IsTrue (list_all entry_in_range self.now) }
         requires apart { (a : ℕ) → count_by (λ e. within a e.block) self.now ≤ 1 }
-        ensures none { IfNone result ((over : Option ℕ) → by_entries addr over self.now ≡ by_over addr over) }
+        ensures none { IfNone result ((over : Option ℕ) → by_entries addr over self.now
+            ≡ by_over addr over) }
         ensures covers { IfSome result (λ e. IsTrue (within addr e.now.block)) }
         ensures found { IfSome result (λ e. (over : Option ℕ) → by_entries addr over self.now
             ≡ Some (record { dests = e.now.dests; offset = addr - e.now.block.lo })) }
-        ensures each { IfSome result (λ e. (P : Entry → Bool) → IsTrue (list_all P self.now) → IsTrue (P e.now)) }
+        ensures each { IfSome result (λ e. (P : Entry → Bool) → IsTrue (list_all P self.now)
+            → IsTrue (P e.now)) }
     {
         entry_at(self.entries.as_slice(), &self.order, addr)
     }
@@ -92,11 +94,13 @@ fn entry_at<'a>(entries: &'a [Entry], order: &[Place], addr: u64) -> Option<&'a 
     requires sorted { IsNonDecreasingBy (λ p. p.first) order.now }
     requires in_range { IsTrue (list_all entry_in_range entries.now) }
     requires apart { (a : ℕ) → count_by (λ e. within a e.block) entries.now ≤ 1 }
-    ensures none { IfNone result ((over : Option ℕ) → by_entries addr over entries.now ≡ by_over addr over) }
+    ensures none { IfNone result ((over : Option ℕ) → by_entries addr over entries.now
+        ≡ by_over addr over) }
     ensures covers { IfSome result (λ e. IsTrue (within addr e.now.block)) }
     ensures found { IfSome result (λ e. (over : Option ℕ) → by_entries addr over entries.now
         ≡ Some (record { dests = e.now.dests; offset = addr - e.now.block.lo })) }
-    ensures each { IfSome result (λ e. (P : Entry → Bool) → IsTrue (list_all P entries.now) → IsTrue (P e.now)) }
+    ensures each { IfSome result (λ e. (P : Entry → Bool) → IsTrue (list_all P entries.now)
+        → IsTrue (P e.now)) }
 {
     let Some(place) = latest(order, addr) else {
         return None;
@@ -116,7 +120,8 @@ fn latest(order: &[Place], addr: u64) -> Option<&Place>
     ensures none { IfNone result (All (λ p. addr < p.first) order.now) }
     ensures there { IfSome result (λ p. Contains order.now p.now) }
     ensures begun { IfSome result (λ p. p.now.first ≤ addr) }
-    ensures last { IfSome result (λ p. All (λ q. q.first ≤ addr → q.first ≤ p.now.first) order.now) }
+    ensures last { IfSome result (λ p. All (λ q. q.first ≤ addr
+        → q.first ≤ p.now.first) order.now) }
 {
     let after = order.partition_point(|place| place.first <= addr);
     if after == 0 {

@@ -65,8 +65,10 @@ impl Names {
 fn place_of(names: &[Name], name: Name) -> usize
     requires { IsTrue (is_ascending names.now) }
     ensures bound { result ≤ length names.now }
-    ensures before { (k : ℕ) (d : Name) → k < result → IsTrue (name_lt (slice_index_or names.now k d) name) }
-    ensures after { (k : ℕ) (d : Name) → result ≤ k → k < length names.now → name_lt (slice_index_or names.now k d) name ≡ false }
+    ensures before { (k : ℕ) (d : Name) → k < result
+        → IsTrue (name_lt (slice_index_or names.now k d) name) }
+    ensures after { (k : ℕ) (d : Name) → result ≤ k → k < length names.now
+        → name_lt (slice_index_or names.now k d) name ≡ false }
 {
     names.partition_point(|other| comes_before(*other, name))
 }

@@ -194,7 +194,8 @@ impl Net {
     /// Whether an accept block of a node has the address.
     pub(crate) fn is_accepting(&self, node: u16, addr: u64) -> bool
         requires { node < length self.now }
-        ensures { option_map (λ d. in_some_block addr d.accepts) (slice_get self.now node) ≡ Some result }
+        ensures { option_map (λ d. in_some_block addr d.accepts) (slice_get self.now node)
+            ≡ Some result }
     {
         self.parts(node).accepts.has(addr)
     }
@@ -227,9 +228,12 @@ impl Net {
     fn parts(&self, node: u16) -> &Parts
         requires { node < length self.now }
         ensures role { option_map (λ d. d.role) (slice_get self.now node) ≡ Some result.now.role }
-        ensures accepts { option_map (λ d. d.accepts) (slice_get self.now node) ≡ Some result.now.accepts }
-        ensures entries { option_map (λ d. d.entries) (slice_get self.now node) ≡ Some result.now.entries }
-        ensures over { option_map (λ d. d.over) (slice_get self.now node) ≡ Some (option_map (λ d. d.node) result.now.over) }
+        ensures accepts { option_map (λ d. d.accepts) (slice_get self.now node)
+            ≡ Some result.now.accepts }
+        ensures entries { option_map (λ d. d.entries) (slice_get self.now node)
+            ≡ Some result.now.entries }
+        ensures over { option_map (λ d. d.over) (slice_get self.now node)
+            ≡ Some (option_map (λ d. d.node) result.now.over) }
         ensures unit { option_map (λ d. d.unit) (slice_get self.now node) ≡ Some result.now.unit }
         ensures based { IsTrue (over_is_based result.now.over) }
         ensures formed { IsTrue (list_all is_formed self.now) }

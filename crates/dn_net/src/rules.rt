@@ -54,7 +54,8 @@ impl Net {
     /// Tests the rules of one node.
     fn check_node(&self, alloc: Global, node: u16) -> Result<(), NodeFault>
         requires { node < length self.now }
-        ensures { (d : NodeDecl) → slice_get self.now node ≡ Some d → Checks node_fault_view result (fault_of_node node d) }
+        ensures { (d : NodeDecl) → slice_get self.now node ≡ Some d
+            → Checks node_fault_view result (fault_of_node node d) }
     {
         let accepts = self.accepts(node);
         let entries = self.entries(node);
@@ -81,7 +82,8 @@ impl Net {
 fn has_vector_space(role: Role, entries: &[Entry], over: Option<u16>, spans: &[Span]) -> bool
     requires in_range { All (λ s. IsTrue (block_in_range s.block)) spans.now }
     requires sorted { IsNonDecreasingBy (λ s. s.block.lo) spans.now }
-    ensures { result ≡ (not (is_vectors role) || ((nat_le (length entries.now) 0 && not (is_some over)) && nat_le (count_below (is_accepted_in spans.now) (top + 1)) 4096)) }
+    ensures { result ≡ (not (is_vectors role) || ((nat_le (length entries.now) 0
+        && not (is_some over)) && nat_le (count_below (is_accepted_in spans.now) (top + 1)) 4096)) }
 {
     match role {
         Role::Vectors => {
@@ -92,7 +94,8 @@ fn has_vector_space(role: Role, entries: &[Entry], over: Option<u16>, spans: &[S
 }
 
 fn are_in_range(accepts: &[Block], entries: &[Entry]) -> bool
-    ensures { result ≡ (list_all block_in_range accepts.now && list_all entry_in_range entries.now) }
+    ensures { result ≡ (list_all block_in_range accepts.now
+        && list_all entry_in_range entries.now) }
 {
     are_blocks_in_range(accepts) && are_entries_in_range(entries)
 }
@@ -141,7 +144,8 @@ fn are_dests_in_range(block: Block, dests: &[Dest]) -> bool
 }
 
 fn has_repeat(entries: &[Entry], unit: Option<&Unit>) -> bool
-    ensures { result ≡ (list_any (λ e. dests_repeat e.dests) entries.now || unit_repeats (option_copied unit.entry)) }
+    ensures { result ≡ (list_any (λ e. dests_repeat e.dests) entries.now
+        || unit_repeats (option_copied unit.entry)) }
 {
     for entry in entries {
         if do_dests_repeat(entry.dests.as_slice()) {

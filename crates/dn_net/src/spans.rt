@@ -21,7 +21,8 @@ impl Span {
     /// Whether its first address lies in an earlier block with which it must have none in common,
     /// where the earlier map blocks and the earlier accept blocks end before these addresses.
     fn meets(self, past_maps: u64, past_accepts: u64) -> bool
-        ensures { result ≡ (nat_lt self.block.lo past_maps || (self.mapped && nat_lt self.block.lo past_accepts)) }
+        ensures { result ≡ (nat_lt self.block.lo past_maps || (self.mapped
+            && nat_lt self.block.lo past_accepts)) }
     {
         let lo = self.block.lo;
         lo < past_maps || (self.mapped && lo < past_accepts)
@@ -36,7 +37,9 @@ pub(crate) fn sorted_spans(
 ) -> Result<Vec<Span>, AllocError>
     ensures same { IfOk result (λ v. IsPermutation (node_spans entries.now accepts.now) v.items) }
     ensures sorted { IfOk result (λ v. IsNonDecreasingBy (λ s. s.block.lo) v.items) }
-    ensures in_range { IfOk result (λ v. IsTrue (list_all block_in_range accepts.now && list_all entry_in_range entries.now) → All (λ s. IsTrue (block_in_range s.block)) v.items) }
+    ensures in_range { IfOk result (λ v. IsTrue (list_all block_in_range accepts.now
+        && list_all entry_in_range entries.now)
+        → All (λ s. IsTrue (block_in_range s.block)) v.items) }
 {
     let mut spans = all_spans(alloc, entries, accepts)?;
     spans.sort_unstable_by_key(|span| span.block.lo);

@@ -34,7 +34,8 @@ impl Net {
         ensures sent { step_view result ≡ sent name.addr (slice_get self.now name.node) }
         ensures steps { sent_names (step_view result) ≡ steps self.now name }
         ensures reach { IsTrue (leads_in_range result) }
-        ensures closed { IsTrue (is_closed self.now) → IsTrue (leads_within (length self.now) result) }
+        ensures closed { IsTrue (is_closed self.now)
+            → IsTrue (leads_within (length self.now) result) }
     {
         if name.addr > TOP {
             return Step::Nothing;
@@ -58,9 +59,13 @@ fn lead<'a>(entries: &'a EntryList, over: &'a [Dest], addr: u64) -> Step<'a>
     requires based { IsTrue (list_all (λ d. nat_le d.addr 0) over.now) }
     ensures accepted { result ≢ Step.Accepted }
     ensures stop { result ≢ Step.Stop }
-    ensures sent { (o : Option ℕ) → over.now ≡ over_dests o → step_view result ≡ by_entries addr o entries.now }
+    ensures sent { (o : Option ℕ) → over.now ≡ over_dests o → step_view result
+        ≡ by_entries addr o entries.now }
     ensures reach { IsTrue (leads_in_range result) }
-    ensures closed { (count : ℕ) → IsTrue (list_all (λ e. list_all (λ d. nat_lt d.node count) e.dests) entries.now) → IsTrue (list_all (λ d. nat_lt d.node count) over.now) → IsTrue (leads_within count result) }
+    ensures closed { (count : ℕ)
+        → IsTrue (list_all (λ e. list_all (λ d. nat_lt d.node count) e.dests) entries.now)
+        → IsTrue (list_all (λ d. nat_lt d.node count) over.now)
+        → IsTrue (leads_within count result) }
 {
     match entries.at(addr) {
         Some(entry) => Step::To(entry.dests.as_slice(), addr - entry.block.lo),
@@ -76,7 +81,8 @@ fn over_step(over: &[Dest], addr: u64) -> Step<'_>
     ensures stop { result ≢ Step.Stop }
     ensures sent { (o : Option ℕ) → over.now ≡ over_dests o → step_view result ≡ by_over addr o }
     ensures reach { IsTrue (leads_in_range result) }
-    ensures closed { (count : ℕ) → IsTrue (list_all (λ d. nat_lt d.node count) over.now) → IsTrue (leads_within count result) }
+    ensures closed { (count : ℕ) → IsTrue (list_all (λ d. nat_lt d.node count) over.now)
+        → IsTrue (leads_within count result) }
 {
     match over {
         [] => Step::Nothing,

@@ -1,9 +1,9 @@
 -- The text of rows: a line for each, with its addresses and the names of the first.
-use Rattle.std.specs.Prelude.{ℕ, Bool, nat_lt, List, ◌++◌, codes}
-use Rattle.std.specs.List.{flat_map, list_all}
+use Rattle.std.specs.Prelude.{ℕ, List, ◌++◌, codes}
+use Rattle.std.specs.List.{flat_map}
 use Rattle.dn_interval.specs.declared.row.End.{End}
-use Rattle.dn_interval.specs.declared.row.Row.{Row}
 use Rattle.dn_interval.specs.Listed.{Seen}
+pub use Rattle.dn_interval.specs.Rows.{ends_within as ends_exist}
 use Rattle.dn_net.specs.declared.node.NodeDecl.{NodeDecl}
 use Rattle.dn_print.specs.Names.{address_text, name_text}
 use Rattle.dn_print.specs.Statement.{joined}
@@ -21,7 +21,3 @@ row_text net r = address_text r.lo ++ (codes "-" ++ (address_text r.hi ++ (codes
 
 abbrev pub rows_text : List NodeDecl → List Seen → List ℕ
 rows_text net rows = flat_map (row_text net) rows
-
--- each name of the rows is in one of so many nodes
-abbrev pub ends_exist : ℕ → List Row → Bool
-ends_exist count rows = list_all (λ r. list_all (λ e. nat_lt e.node count) r.ends) rows

@@ -5,4 +5,3 @@ pub mod NodeFaults
 pub mod Refusals
 pub mod Replies
 pub mod Sets
-pub mod Views

@@ -7,7 +7,7 @@ use Rattle.std.specs.List.Sorted.{IsPermutation}
 use Rattle.dn_net.specs.declared.node.Name.{Name}
 use Rattle.dn_net.specs.Chain.{Member}
 use Rattle.dn_net.specs.Names.{name_lt, name_eq, with_name, is_before_first, is_ascending, sorted_names}
-use Rattle.dn_net.proofs.Ascending.{transitive, turned, itself, equal, sorted_ascending, with_ascending}
+use Rattle.dn_net.proofs.Ascending.{before_members, transitive, turned, itself, equal, sorted_ascending, with_ascending}
 use Rattle.dn_net.proofs.Least.{both_true}
 use Rattle.dn_net.proofs.Resolution.{member_left, member_right, member_cases, name_same, with_in, with_has, names_in}
 
@@ -21,18 +21,6 @@ same_refl xs z = ((λ m. m), (λ m. m))
 pub same_sym : (xs ys : List Name) → Same xs ys → Same ys xs
 same_sym xs ys s z = ((s z).1, (s z).0)
 
--- the first of an ascending list comes before the others
-pub first_before : (x z : Name) (xs : List Name) → is_ascending (x ∷ xs) ≡ true → Member z xs → name_lt x z ≡ true
-first_before x z [] up m = absurd m
-first_before x z (y ∷ ys) up m = go (first_before y z ys parts.1) m
-  where
-    parts : (name_lt x y ≡ true) × (is_ascending (y ∷ ys) ≡ true)
-    parts = both_true (name_lt x y) (is_ascending (y ∷ ys)) up
-
-    go : (Member z ys → name_lt y z ≡ true) → Member z (y ∷ ys) → name_lt x z ≡ true
-    go later (inl e) = subst (λ w. name_lt x w ≡ true) e parts.0
-    go later (inr n) = transitive x y z parts.0 (later n)
-
 not_itself : (x z : Name) → x ≡ z → name_lt x z ≡ true → ⊥
 not_itself x z e l = let f : name_lt x x ≡ true = subst (λ w. name_lt x w ≡ true) (sym e) l in let g : false ≡ true = sym (itself x) ∙ f in cc
 
@@ -43,11 +31,11 @@ not_turned x y l m = let g : false ≡ true = sym (turned x y l) ∙ m in cc
 same_first : (x y : Name) (xs ys : List Name) → is_ascending (x ∷ xs) ≡ true → is_ascending (y ∷ ys) ≡ true → (y ≡ x) ⊎ Member x ys → (x ≡ y) ⊎ Member y xs → x ≡ y
 same_first x y xs ys up down (inl e) n = sym e
 same_first x y xs ys up down (inr m) (inl e) = e
-same_first x y xs ys up down (inr m) (inr n) = absurd (not_turned x y (first_before x y xs up n) (first_before y x ys down m))
+same_first x y xs ys up down (inr m) (inr n) = absurd (not_turned x y (before_members x y xs up n) (before_members y x ys down m))
 
 -- what is in the rest of one is in the rest of the other
 rest_in : (x y z : Name) (xs ys : List Name) → x ≡ y → is_ascending (x ∷ xs) ≡ true → Member z xs → (y ≡ z) ⊎ Member z ys → Member z ys
-rest_in x y z xs ys e up m (inl f) = absurd (not_itself x z (e ∙ f) (first_before x z xs up m))
+rest_in x y z xs ys e up m (inl f) = absurd (not_itself x z (e ∙ f) (before_members x z xs up m))
 rest_in x y z xs ys e up m (inr n) = n
 
 pub ascending_same : (xs ys : List Name) → is_ascending xs ≡ true → is_ascending ys ≡ true → Same xs ys → xs ≡ ys

@@ -1,12 +1,11 @@
 -- The reply to each command.
 use Rattle.std.specs.Prelude.{ℕ, Bool, true, false, if◌then◌else◌, List, [], ◌∷◌, ◌++◌, map, length, codes, slice_get, Option, Some, None}
 use Rattle.std.specs.Fmt.{decimal}
-use Rattle.dn_interval.specs.declared.row.End.{End}
-use Rattle.dn_interval.specs.Listed.{Seen, listed_rows}
-use Rattle.dn_net.specs.declared.node.Name.{Name}
+use Rattle.dn_interval.specs.Listed.{Seen}
 use Rattle.dn_net.specs.declared.node.NodeDecl.{NodeDecl}
 use Rattle.dn_net.specs.Decode.{is_agent_at}
 use Rattle.dn_net.specs.Names.{resolved_names}
+use Rattle.dn_flat.specs.Views.{view_rows}
 use Rattle.dn_module.specs.declared.command.Command.{Command}
 use Rattle.dn_module.specs.declared.command.Command.TheVariants.{Resolve, Lookup, View, Grant, Route, Revoke, Dump, Split, Absorb}
 use Rattle.dn_module.specs.declared.command.Target.{Target}
@@ -20,14 +19,6 @@ target_text net (Some n) a = names_text net (resolved_names net (record { node =
 
 abbrev pub resolve_text : List NodeDecl → Target → ℕ → List ℕ
 resolve_text net target a = target.text ++ (codes "@" ++ (address_text a ++ (codes ": " ++ (target_text net target.node a ++ codes "\n"))))
-
--- a name, as rows have it
-abbrev pub end_of : Name → End
-end_of x = record { node = x.node; base = x.addr }
-
--- to what the addresses of a node resolve, as the fewest rows
-abbrev pub view_rows : List NodeDecl → ℕ → List Seen
-view_rows net n = listed_rows (λ a. map end_of (resolved_names net (record { node = n; addr = a })))
 
 -- the rows of a view below a heading that has their number
 abbrev pub viewed_text : List NodeDecl → List ℕ → List Seen → List ℕ

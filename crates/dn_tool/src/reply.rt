@@ -6,7 +6,8 @@ ghost use Rattle.dn_net.specs.Decode.{is_agent_at, over_within};
 ghost use Rattle.dn_net.specs.Rules.{KeepsNodeRules};
 ghost use Rattle.dn_module.specs.Commands.{names_within};
 ghost use Rattle.dn_walk.specs.Rows.{AreWalksOf};
-ghost use Rattle.dn_tool.specs.Reply.{reply, target_text, resolve_text, viewed_text, view_rows, no_agent_text, view_text, later_text};
+ghost use Rattle.dn_flat.specs.Views.{view_rows};
+ghost use Rattle.dn_tool.specs.Reply.{reply, target_text, resolve_text, viewed_text, no_agent_text, view_text, later_text};
 
 use crate::compile::Platform;
 use crate::resolve;

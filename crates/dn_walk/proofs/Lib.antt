@@ -1,3 +1,4 @@
+pub mod Accepts
 pub mod Bridge
 pub mod Holes
 pub mod Keys

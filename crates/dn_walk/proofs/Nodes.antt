@@ -1,9 +1,7 @@
 -- The legs of a node of a checked net, without the choices.
 use Rattle.std.proofs.Common.{◌≡◌, ℕ, zero, suc, ◌+◌, ◌-◌, ◌<◌, ◌≤◌, Bool, true, false, not, ◌||◌, nat_le, nat_lt, List, [], ◌∷◌, ◌++◌, map, length, get_or, take, slice_get, Option, Some, None, option_map, refl, sym, ap, ◌∙◌, subst, arith, IsTrue}
 use Rattle.std.specs.List.{All, list_all}
-use Rattle.std.specs.List.Sorted.{IsPermutation}
 use Rattle.std.proofs.lemmas.List.{take_more, map-append, get_or-map}
-use Rattle.std.proofs.lemmas.List.Sorted.{list_any-IsPermutation}
 use Rattle.std.proofs.lemmas.Option.{slice_get-get_or}
 use Rattle.dn_net.specs.declared.node.Block.{Block}
 use Rattle.dn_net.specs.declared.node.Dest.{Dest}
@@ -131,7 +129,7 @@ pub all_legs_of : (net : List NodeDecl) → KeepsNodeRules net → (xs : List (L
 all_legs_of net rules xs e = subst (λ x. All (AreLegs (length x)) x) (sym e) (subst (λ n. All (AreLegs n) (map told_legs net)) (sym (length-map told_legs net)) (all_legs net rules))
 
 -- the gaps between blocks, from the spans that they leave out
-any_blocks : (a : ℕ) (spans : List Span) → has spans a ≡ in_some_block a (map block_of spans)
+pub any_blocks : (a : ℕ) (spans : List Span) → has spans a ≡ in_some_block a (map block_of spans)
 any_blocks a [] = refl
 any_blocks a (s ∷ spans) = ap (λ b. in_span s a || b) (any_blocks a spans)
 
@@ -159,6 +157,6 @@ blocks_in_range (x ∷ xs) accepts e a =
     let b = (both (block_in_range x.block) (list_all (λ d. nat_le (d.addr + (x.block.hi - x.block.lo)) top) x.dests) r.0).0 in
     rw b (blocks_in_range xs accepts r.1 a)
 
-pub gaps_are : (accepts : List Block) (entries : List Entry) (blocks sorted covered rest : List Span) → IsTrue (list_all block_in_range accepts) → IsTrue (list_all entry_in_range entries) → map block_of blocks ≡ accepts ++ map (λ e. e.block) entries → IsPermutation blocks sorted → ((a : ℕ) → has covered a ≡ has sorted a) → AreMaximal rest → ((a : ℕ) → a ≤ top → has rest a ≡ not (has covered a)) → map block_of rest ≡ gaps_by accepts entries
-gaps_are accepts entries blocks sorted covered rest ar er is perm cov maximal same =
-    spans_are_left (map (λ e. e.block) entries ++ accepts) (blocks_in_range entries accepts er ar) rest maximal (λ a l. same a l ∙ ap not (cov a ∙ sym (list_any-IsPermutation (λ s. in_span s a) blocks sorted perm) ∙ any_blocks a blocks ∙ ap (in_some_block a) is ∙ swapped a accepts (map (λ e. e.block) entries)))
+pub gaps_are : (accepts : List Block) (entries : List Entry) (blocks covered rest : List Span) → IsTrue (list_all block_in_range accepts) → IsTrue (list_all entry_in_range entries) → map block_of blocks ≡ accepts ++ map (λ e. e.block) entries → ((a : ℕ) → has covered a ≡ has blocks a) → AreMaximal rest → ((a : ℕ) → a ≤ top → has rest a ≡ not (has covered a)) → map block_of rest ≡ gaps_by accepts entries
+gaps_are accepts entries blocks covered rest ar er is cov maximal same =
+    spans_are_left (map (λ e. e.block) entries ++ accepts) (blocks_in_range entries accepts er ar) rest maximal (λ a l. same a l ∙ ap not (cov a ∙ any_blocks a blocks ∙ ap (in_some_block a) is ∙ swapped a accepts (map (λ e. e.block) entries)))

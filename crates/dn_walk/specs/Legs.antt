@@ -11,6 +11,7 @@ use Rattle.dn_net.specs.Walks.{Leg as NetLeg, in_order, cut_each, whole, legs}
 use Rattle.dn_interval.specs.declared.span.Span.{Span}
 use Rattle.dn_walk.specs.declared.leg.Leg.{Leg}
 
+-- a leg without its choice
 abbrev pub told_leg : NetLeg → Leg
 told_leg l = record { lo = l.block.lo; hi = l.block.hi; node = l.to.node; addr = l.to.addr }
 
@@ -18,19 +19,24 @@ told_leg l = record { lo = l.block.lo; hi = l.block.hi; node = l.to.node; addr =
 abbrev pub told_legs : NodeDecl → List Leg
 told_legs n = map told_leg (legs n)
 
+-- the leg of a block to a destination
 abbrev pub dest_leg : Block → Dest → Leg
 dest_leg b d = record { lo = b.lo; hi = b.hi; node = d.node; addr = d.addr }
 
+-- the legs of entries, without their choices
 abbrev pub plain_entry_legs : List Entry → List Leg
 plain_entry_legs entries = flat_map (λ e. map (dest_leg e.block) e.dests) entries
 
+-- the leg of a gap, to the same addresses of a node
 abbrev pub gap_leg : ℕ → Block → Leg
 gap_leg m b = record { lo = b.lo; hi = b.hi; node = m; addr = b.lo }
 
+-- the legs of gaps, without their choices
 abbrev pub plain_gap_legs : Option ℕ → List Block → List Leg
 plain_gap_legs None spans = []
 plain_gap_legs (Some m) spans = map (gap_leg m) spans
 
+-- legs are ordered by their first addresses
 abbrev pub leg_before : Leg → Leg → Bool
 leg_before l m = nat_lt l.lo m.lo
 
@@ -42,6 +48,7 @@ gaps_by accepts entries = cut_each (map (λ e. e.block) entries ++ accepts) (who
 abbrev pub legs_by : List Block → List Entry → Option ℕ → List Leg
 legs_by accepts entries over = in_order leg_before (plain_entry_legs entries ++ plain_gap_legs over (gaps_by accepts entries))
 
+-- a span as a block
 abbrev pub block_of : Span → Block
 block_of s = record { lo = s.lo; hi = s.hi }
 

@@ -10,12 +10,15 @@ use Rattle.dn_walk.specs.declared.level.Levels.{Levels}
 use Rattle.dn_walk.specs.declared.fault.WalkFault.{WalkFault}
 use Rattle.dn_walk.specs.Rows.{Told, told_by_row, walk_fault_view}
 
+-- the last address at which it comes out
 abbrev pub told_last : Told → ℕ
 told_last t = t.base + (t.hi - t.lo)
 
+-- some address at which it comes out goes on by the leg
 abbrev pub told_meets : Told → Leg → Bool
 told_meets t l = nat_le t.base l.hi && nat_le l.lo (told_last t)
 
+-- it, with one more leg, for the addresses that go on by it
 abbrev pub told_onto : Told → Leg → Told
 told_onto t l = cut (greater t.base l.lo) (lesser_of (told_last t) l.hi)
   where
@@ -26,12 +29,15 @@ told_onto t l = cut (greater t.base l.lo) (lesser_of (told_last t) l.hi)
 abbrev pub told_on : List Leg → Told → List Told
 told_on ls t = map (told_onto t) (filter (told_meets t) ls)
 
+-- what goes on from it by the legs of its end node
 abbrev pub told_extended : List (List Leg) → Told → List Told
 told_extended legs t = told_on (slice_index_or legs t.end []) t
 
+-- the walk of no choice from a node
 abbrev pub told_still : ℕ → Told
 told_still n = record { start = n; lo = 0; hi = top; end = n; base = 0; len = 0 }
 
+-- the walks of no choice of so many nodes, from a number on
 abbrev pub told_stills : ℕ → ℕ → List Told
 told_stills n zero = []
 told_stills n (suc k) = told_still n ∷ told_stills (suc n) k
@@ -41,6 +47,7 @@ unfoldable pub told_level : List (List Leg) → ℕ → List Told
 told_level legs zero = told_stills 0 (length legs)
 told_level legs (suc k) = flat_map (told_extended legs) (told_level legs k)
 
+-- the order by start, and by the first and the last address
 abbrev pub told_before : Told → Told → Bool
 told_before t u = nat_lt t.start u.start || ((t.start == u.start) && (nat_lt t.lo u.lo || ((t.lo == u.lo) && nat_lt t.hi u.hi)))
 

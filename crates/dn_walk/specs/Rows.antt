@@ -1,7 +1,9 @@
 -- What the rows of the code are: the live walks of a net, without their choices.
-use Rattle.std.specs.Prelude.{◌≡◌, ℕ, List, map, length, Option, Some, None}
+use Rattle.std.specs.Prelude.{◌≡◌, ℕ, List, [], map, length, slice_index_or, Option, Some, None}
 use Rattle.dn_net.specs.declared.node.NodeDecl.{NodeDecl}
-use Rattle.dn_net.specs.Decode.{step_limit}
+use Rattle.dn_interval.specs.declared.span.Span.{Span}
+use Rattle.dn_interval.specs.Spans.{has}
+use Rattle.dn_net.specs.Decode.{step_limit, is_accepted}
 use Rattle.dn_net.specs.Legal.{IsLegalNet}
 use Rattle.dn_net.specs.Walks.{Walk, live_walks}
 use Rattle.dn_net.specs.WalkRules.{Broken, is_wide, has_loop, is_deep}
@@ -26,10 +28,21 @@ told_by_row r = record { start = r.start; lo = r.span.lo; hi = r.span.hi; end = 
 abbrev pub told_by_walk : Walk → Told
 told_by_walk w = record { start = w.start; lo = w.span.lo; hi = w.span.hi; end = w.to.node; base = w.to.addr; len = length w.choices }
 
--- the rows are the live walks of a legal net, of 1 to 65 choices, in their order
-pub record AreWalksOf (net : List NodeDecl) (rows : List WalkRow) : Type 0 where
+-- a table of walks: its rows, and for each node the spans of the addresses that it accepts
+pub record Table : Type 0 where
+  pub rows : List WalkRow
+  pub accepted : List (List Span)
+
+-- each set has what its node accepts
+pub record AreAccepted (net : List NodeDecl) (sets : List (List Span)) : Type 0 where
+  pub every : length sets ≡ length net
+  pub same : (node a : ℕ) → has (slice_index_or sets node []) a ≡ is_accepted net (record { node = node; addr = a })
+
+-- the rows are the live walks of a legal net, of 1 to 65 choices, in their order, and the sets are those of its nodes
+pub record AreWalksOf (net : List NodeDecl) (table : Table) : Type 0 where
   pub legal : IsLegalNet net
-  pub same : map told_by_row rows ≡ map told_by_walk (live_walks net step_limit)
+  pub same : map told_by_row table.rows ≡ map told_by_walk (live_walks net step_limit)
+  pub accepted : AreAccepted net table.accepted
 
 -- the broken rule that a fault says, with what it carries; allocation failure says none
 abbrev pub walk_fault_view : WalkFault → Option Broken

@@ -14,6 +14,7 @@ use Rattle.dn_walk.specs.Rows.{Told}
 abbrev pub least_of : List Name → Option Name
 least_of names = first_of (sorted_names names)
 
+-- the lesser of a name that may be there and another
 abbrev pub lesser_name : Option Name → Name → Option Name
 lesser_name None x = Some x
 lesser_name (Some y) x = Some (if name_lt x y then x else y)
@@ -22,6 +23,7 @@ lesser_name (Some y) x = Some (if name_lt x y then x else y)
 abbrev pub is_cyclic : Told → Bool
 is_cyclic t = (t.start == t.end) && (t.base == t.lo)
 
+-- the first name that follows it
 abbrev pub start_name : Told → Name
 start_name t = record { node = t.start; addr = t.lo }
 
@@ -29,9 +31,11 @@ start_name t = record { node = t.start; addr = t.lo }
 abbrev pub start_names : Bool → List Told → List Name
 start_names back rows = map start_name (filter (λ t. not back || is_cyclic t) rows)
 
+-- the address follows it
 abbrev pub has_addr : Told → ℕ → Bool
 has_addr t a = nat_le t.lo a && nat_le a t.hi
 
+-- the address comes to the goal
 abbrev pub meets_goal : Goal → ℕ → Told → Bool
 meets_goal Anywhere a t = true
 meets_goal (To y) a t = (t.end == y.node) && ((t.base + (a - t.lo)) == y.addr)
@@ -40,9 +44,11 @@ meets_goal (To y) a t = (t.end == y.node) && ((t.base + (a - t.lo)) == y.addr)
 abbrev pub told_leads : Goal → Name → Told → Bool
 told_leads goal x t = (t.start == x.node) && (has_addr t x.addr && meets_goal goal x.addr t)
 
+-- a walk of the level leads from the name to the goal
 abbrev pub level_leads : Goal → List Told → Name → Bool
 level_leads goal level x = list_any (told_leads goal x) level
 
+-- a walk of the level of so many choices leads from the name to the goal
 abbrev pub levels_lead : Goal → List (List Told) → ℕ → Name → Bool
 levels_lead goal levels k x = level_leads goal (slice_index_or levels k []) x
 
@@ -50,5 +56,6 @@ levels_lead goal levels k x = level_leads goal (slice_index_or levels k []) x
 abbrev pub told_cycle : List NodeDecl → List (List Told) → List Told → Option (List Name)
 told_cycle net sorted newest = option_map (λ x. x ∷ way_by (steps net) (levels_lead (To x) sorted) (length sorted) x) (least_of (start_names true newest))
 
+-- the names of the path that these levels show
 abbrev pub told_path : List NodeDecl → List (List Told) → List Told → Option (List Name)
 told_path net sorted newest = option_map (λ x. x ∷ way_by (steps net) (levels_lead Anywhere sorted) (length sorted) x) (least_of (start_names false newest))

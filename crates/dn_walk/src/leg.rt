@@ -3,9 +3,9 @@
 ghost use Rattle.std.specs.Prelude.{◌≡◌, ℕ, ◌++◌, ◌||◌, map, IfOk, OnOk, IsTrue, ◌<◌, length};
 ghost use Rattle.std.specs.List.{All, list_all};
 ghost use Rattle.dn_net.specs.Rules.{KeepsNodeRules, block_in_range, entry_in_range};
-ghost use Rattle.dn_interval.specs.Spans.{has};
 ghost use Rattle.dn_walk.specs.Legs.{AreLegs, told_legs, legs_by, gaps_by, plain_entry_legs, dest_leg, gap_leg, block_of};
 
+use crate::spans::{block_spans, covered};
 use dn_base::OutOfMemory;
 use dn_base::items::Items;
 use dn_interval::{Span, SpanSet};
@@ -83,7 +83,8 @@ fn push_dests(legs: &mut Vec<Leg>, block: Block, dests: &[Dest]) -> Result<(), O
 
 /// A leg for each gap, to the same addresses of the node.
 fn push_gaps(legs: &mut Vec<Leg>, node: u16, gaps: &[Span]) -> Result<(), OutOfMemory>
-    ensures { OnOk result (legs.new.items ≡ legs.old.items ++ map (gap_leg node) (map block_of gaps.now)) }
+    ensures { OnOk result (legs.new.items
+        ≡ legs.old.items ++ map (gap_leg node) (map block_of gaps.now)) }
 {
     for gap in gaps {
         legs.push(Leg {
@@ -102,40 +103,5 @@ fn gaps(alloc: Global, accepts: &[Block], entries: &[Entry]) -> Result<SpanSet, 
     requires entries { IsTrue (list_all entry_in_range entries.now) }
     ensures { IfOk result (λ s. map block_of s ≡ gaps_by accepts.now entries.now) }
 {
-    let mut blocks = block_spans(alloc, accepts, entries)?;
-    blocks.sort_unstable_by_key(|span| span.lo);
-    covered(alloc, &blocks)?.complement(alloc)
-}
-
-/// The blocks, as spans.
-fn block_spans(
-    alloc: Global,
-    accepts: &[Block],
-    entries: &[Entry],
-) -> Result<Vec<Span>, OutOfMemory>
-    requires accepts { IsTrue (list_all block_in_range accepts.now) }
-    requires entries { IsTrue (list_all entry_in_range entries.now) }
-    ensures { IfOk result (λ v. map block_of v.items ≡ accepts.now ++ map (λ e. e.block) entries.now) }
-{
-    let mut spans = Vec::with_capacity(alloc, accepts.len())?;
-    for block in accepts {
-        let Block { lo, hi } = *block;
-        spans.push(Span { lo, hi })?;
-    }
-    for entry in entries {
-        let Block { lo, hi } = entry.block;
-        spans.push(Span { lo, hi })?;
-    }
-    Ok(spans)
-}
-
-/// The addresses of spans.
-fn covered(alloc: Global, spans: &[Span]) -> Result<SpanSet, OutOfMemory>
-    ensures { IfOk result (λ s. (a : ℕ) → has s a ≡ has spans.now a) }
-{
-    let mut covered = SpanSet::new(alloc);
-    for span in spans {
-        covered.insert(*span)?;
-    }
-    Ok(covered)
+    covered(alloc, block_spans(alloc, accepts, entries)?)?.complement(alloc)
 }

@@ -35,7 +35,8 @@ impl Levels {
     /// The level of the walks of no choice.
     pub(crate) fn new(alloc: Global, nodes: u16) -> Result<Levels, AllocError>
         ensures begun { IfOk result (λ l. length l.sorted.items ≡ 0) }
-        ensures levels { IfOk result (λ l. (legs : List (List Leg)) → length legs ≡ nodes → AreLevels legs l) }
+        ensures levels { IfOk result (λ l. (legs : List (List Leg)) → length legs ≡ nodes
+            → AreLevels legs l) }
     {
         Ok(Levels {
             sorted: Vec::new(alloc),
@@ -89,7 +90,8 @@ fn still_rows(alloc: Global, nodes: u16) -> Result<Vec<WalkRow>, AllocError>
 /// The rows by start and by the first and the last address of the span. Where these are equal they stay
 /// in the order in which they come.
 fn in_order(mut rows: Vec<WalkRow>) -> Result<Items<WalkRow>, AllocError>
-    ensures { IfOk result (λ l. map told_by_row l ≡ in_order told_before (map told_by_row rows.items)) }
+    ensures { IfOk result (λ l. map told_by_row l
+        ≡ in_order told_before (map told_by_row rows.items)) }
 {
     rows.sort_by_key(|row| (row.start, row.span.lo, row.span.hi))?;
     Ok(Items::from_vec(rows))
@@ -104,7 +106,8 @@ fn extended(
 ) -> Result<Vec<WalkRow>, WalkFault>
     requires legs { All (AreLegs (length legs.now)) legs.now }
     requires rows { All (λ r. IsRowOf (length legs.now) 64 (told_by_row r)) rows.now }
-    ensures made { IfOk result (λ v. map told_by_row v.items ≡ flat_map (told_extended legs.now) (map told_by_row rows.now)) }
+    ensures made { IfOk result (λ v. map told_by_row v.items
+        ≡ flat_map (told_extended legs.now) (map told_by_row rows.now)) }
     ensures fits { IfOk result (λ v. vec_len v ≤ room) }
     ensures wide { IfErr result (IsWideWhere (room < length (flat_map (told_extended legs.now) (map told_by_row rows.now)))) }
 {
@@ -142,7 +145,8 @@ fn extend_row(row: &WalkRow, met: &[Leg], out: &mut Vec<WalkRow>) -> Result<(), 
     requires order { All (λ (l : Leg). l.lo ≤ l.hi) met.now }
     requires low { All (λ (l : Leg). l.hi ≤ TOP) met.now }
     requires far { All (λ (l : Leg). l.addr + (l.hi - l.lo) ≤ TOP) met.now }
-    ensures { OnOk result (map told_by_row out.new.items ≡ map told_by_row out.old.items ++ map (told_onto (told_by_row row.now)) met.now) }
+    ensures { OnOk result (map told_by_row out.new.items
+        ≡ map told_by_row out.old.items ++ map (told_onto (told_by_row row.now)) met.now) }
 {
     for leg in met {
         out.push(onto(row, leg))?;

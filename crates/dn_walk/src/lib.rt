@@ -6,10 +6,12 @@
 //! or a chain of 65 steps.
 #![tactic(auto)]
 
+mod accepted;
 pub mod fault;
 pub mod laws;
 mod leg;
 mod level;
+mod spans;
 #[cfg(test)]
 mod tests;
 pub mod walks;

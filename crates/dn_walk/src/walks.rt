@@ -13,11 +13,12 @@ ghost use Rattle.dn_walk.specs.Rows.{AreWalksOf, walk_fault_view, told_by_row};
 ghost use Rattle.dn_walk.specs.Levels.{AreLevels, told_walks};
 ghost use Rattle.dn_walk.specs.Ways.{told_cycle, told_path};
 
+use crate::accepted::accepted_sets;
 use crate::fault::WalkFault;
 use crate::leg::net_legs;
 use crate::level::{Levels, WALK_LIMIT};
 use crate::way::{Goal, least_start, way};
-use dn_interval::Span;
+use dn_interval::{Span, SpanSet};
 use dn_net::net::Net;
 use std::alloc::{AllocError, Global};
 use std::marker::Model;
@@ -39,28 +40,35 @@ pub struct WalkRow {
     pub len: u8,
 }
 
-/// The live walks of a net, by length, start, span and choices.
+/// The live walks of a net, by length, start, span and choices, and what its nodes accept.
 #[derive(Drop)]
 pub struct WalkTable {
     rows: Vec<WalkRow>,
+    accepted: Vec<SpanSet>,
 }
 
 impl Model for WalkTable {
-    ghost use Rattle.std.specs.Prelude.{List};
-    ghost use Rattle.dn_walk.specs.declared.walks.WalkRow.{WalkRow};
+    ghost use Rattle.dn_walk.specs.Rows.{Table};
 
-    ghost Value = { List WalkRow };
+    ghost Value = { Table };
 
-    ghost view = { λ t. t.rows.items };
+    ghost view = { λ t. record { rows = t.rows.items; accepted = t.accepted.items } };
 }
 
 impl WalkTable {
     /// The live walks, by length, then by start, then by the first and the last address of the span, and then
     /// by their choices: of one entry the destination that stands earlier in it comes first.
     pub fn rows(&self) -> &[WalkRow]
-        ensures { result.now ≡ self.now }
+        ensures { result.now ≡ self.now.rows }
     {
         self.rows.as_slice()
+    }
+
+    /// For each node, by its number, the addresses that it accepts.
+    pub fn accepted(&self) -> &[SpanSet]
+        ensures { result.now ≡ self.now.accepted }
+    {
+        self.accepted.as_slice()
     }
 }
 
@@ -68,7 +76,7 @@ impl WalkTable {
 pub fn walks(alloc: Global, net: &Net) -> Result<WalkTable, WalkFault>
     requires rules { KeepsNodeRules net.now }
     ensures checks { Checks walk_fault_view result (walk_fault net.now) }
-    ensures rows { IfOk result (λ table. AreWalksOf net.now table) }
+    ensures walks { IfOk result (λ table. AreWalksOf net.now table) }
 {
     net.facts();
     let legs = net_legs(alloc, net)?;
@@ -79,7 +87,10 @@ pub fn walks(alloc: Global, net: &Net) -> Result<WalkTable, WalkFault>
     }
     levels = levels.grown(alloc, &legs)?;
     check_depth(alloc, net, &levels)?;
-    Ok(table(alloc, &levels)?)
+    Ok(WalkTable {
+        rows: table_rows(alloc, &levels)?,
+        accepted: accepted_sets(alloc, net)?,
+    })
 }
 
 /// Refuses the newest level where a walk of it comes back to where it began.
@@ -113,14 +124,15 @@ fn check_depth(alloc: Global, net: &Net, levels: &Levels) -> Result<(), WalkFaul
 }
 
 /// The rows of the sorted levels but the first.
-fn table(alloc: Global, levels: &Levels) -> Result<WalkTable, AllocError>
+fn table_rows(alloc: Global, levels: &Levels) -> Result<Vec<WalkRow>, AllocError>
     requires some { 0 < length levels.now.sorted.items }
     requires room { levels.now.room ≤ WALK_LIMIT }
-    ensures { IfOk result (λ table. (legs : List (List Leg)) → AreLevels legs levels.now → map told_by_row table ≡ told_walks legs (length levels.now.sorted.items - 1)) }
+    ensures { IfOk result (λ rows. (legs : List (List Leg)) → AreLevels legs levels.now
+        → map told_by_row rows.items ≡ told_walks legs (length levels.now.sorted.items - 1)) }
 {
     let mut rows = Vec::with_capacity(alloc, WALK_LIMIT - levels.room)?;
     for level in &levels.sorted[1..] {
         rows.extend_from_slice(level.as_slice())?;
     }
-    Ok(WalkTable { rows })
+    Ok(rows)
 }

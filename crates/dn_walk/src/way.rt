@@ -88,7 +88,8 @@ pub(crate) fn way(
     requires rules { KeepsNodeRules net.now }
     requires there { first.node < length net.now }
     requires sorted { All (λ level. IsNonDecreasingBy (λ (r : WalkRow). r.start) level) levels.now }
-    ensures { IfOk result (λ names. names ≡ first ∷ way_by (steps net.now) (levels_lead goal (map (map told_by_row) levels.now)) (length levels.now) first) }
+    ensures { IfOk result (λ names. names
+        ≡ first ∷ way_by (steps net.now) (levels_lead goal (map (map told_by_row) levels.now)) (length levels.now) first) }
 {
     let mut names = Items::new(alloc);
     names.push(first)?;

@@ -3,9 +3,9 @@ use Rattle.std.specs.Fmt.{decimal}
 use Rattle.std.specs.String.{string_bytes}
 use Rattle.dn_interval.specs.Listed.{Seen, seen_by}
 use Rattle.dn_print.specs.Rows.{rows_text}
-use Rattle.dn_tool.specs.Reply.{view_rows}
+use Rattle.dn_flat.specs.Views.{view_rows}
 use Rattle.dn_tool.proofs.Replies.{viewed_told}
-use Rattle.dn_tool.proofs.Views.{rows_are_view, rows_count}
+use Rattle.dn_flat.proofs.Rows.{rows_are_view, rows_count}
 use Rattle.dn_tool.proofs.reply.viewed.Goals as goal
 
 pub returns : goal.returns

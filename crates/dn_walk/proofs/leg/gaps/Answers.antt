@@ -1,7 +1,6 @@
 -- What the blocks leave out are the gaps.
 use Rattle.std.proofs.Common.{◌≡◌, ◌∙◌, ℕ, ◌++◌, ◌≤◌, ap, Ok, Err, Result, List, map, not, IsTrue}
 use Rattle.std.specs.List.{list_all}
-use Rattle.std.specs.List.Sorted.{IsPermutation}
 use Rattle.std.specs.Result.{IfOk}
 use Rattle.dn_net.specs.declared.node.Block.{Block}
 use Rattle.dn_net.specs.declared.node.Entry.{Entry}
@@ -13,11 +12,10 @@ use Rattle.dn_walk.specs.Legs.{block_of, gaps_by}
 use Rattle.dn_walk.proofs.Nodes.{gaps_are}
 use Rattle.dn_walk.proofs.leg.gaps.Goals as goal
 
-left : {E : Type 0} (accepts : List Block) (entries : List Entry) (blocks sorted covered : List Span) → IsTrue (list_all block_in_range accepts) → IsTrue (list_all entry_in_range entries) → map block_of blocks ≡ accepts ++ map (λ e. e.block) entries → IsPermutation blocks sorted → ((a : ℕ) → has covered a ≡ has sorted a) → (r : Result (List Span) E) → IfOk r (λ rest. (a : ℕ) → a ≤ top → has rest a ≡ not (has covered a)) → IfOk r (λ rest. AreMaximal rest) → IfOk r (λ rest. map block_of rest ≡ gaps_by accepts entries)
-left accepts entries blocks sorted covered ar er is perm cov (Ok rest) same maximal = gaps_are accepts entries blocks sorted covered rest ar er is perm cov maximal same
-left accepts entries blocks sorted covered ar er is perm cov (Err e) same maximal = tt
+left : {E : Type 0} (accepts : List Block) (entries : List Entry) (blocks covered : List Span) → IsTrue (list_all block_in_range accepts) → IsTrue (list_all entry_in_range entries) → map block_of blocks ≡ accepts ++ map (λ e. e.block) entries → ((a : ℕ) → has covered a ≡ has blocks a) → (r : Result (List Span) E) → IfOk r (λ rest. (a : ℕ) → a ≤ top → has rest a ≡ not (has covered a)) → IfOk r (λ rest. AreMaximal rest) → IfOk r (λ rest. map block_of rest ≡ gaps_by accepts entries)
+left accepts entries blocks covered ar er is cov (Ok rest) same maximal = gaps_are accepts entries blocks covered rest ar er is cov maximal same
+left accepts entries blocks covered ar er is cov (Err e) same maximal = tt
 
 pub returns : goal.returns
 returns c =
-    let sorted = c.sort_unstable_by_key.new.self.items in
-    left c.args.accepts.now c.args.entries.now c.in_ok-blocks.blocks.items sorted c.in_ok-covered.field-0 c.requires.accepts c.requires.entries c.in_ok-blocks.ensures c.sort_unstable_by_key.ensures.permutation (λ a. c.in_ok-covered.ensures a ∙ ap (λ l. has l a) c.deref.ensures.value) c.complement-2.result c.complement-2.ensures.same c.complement-2.ensures.maximal
+    left c.args.accepts.now c.args.entries.now c.in_ok-block_spans.field-0.items c.in_ok-covered.field-0 c.requires.accepts c.requires.entries c.in_ok-block_spans.ensures c.in_ok-covered.ensures c.complement-2.result c.complement-2.ensures.same c.complement-2.ensures.maximal

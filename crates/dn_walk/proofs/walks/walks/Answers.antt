@@ -213,8 +213,8 @@ returns-in_err-check_depth-clause-checks c =
     let p = err_from_is_err_and c.from_residual-in_err-check_depth.result c.from_residual-in_err-check_depth.ensures.1 in
     rw (p.1, p.2) (names_broken is_deep _ _ _ _ (path_same net l h) deep c.in_err-check_depth.ensures)
 
-pub table-requires-clause-room : goal.table-requires-clause-room
-table-requires-clause-room c =
+pub table_rows-requires-clause-room : goal.table_rows-requires-clause-room
+table_rows-requires-clause-room c =
     let net = c.args.net.now in
     let old = c.levels.levels in
     let inv = c.levels.invariant in
@@ -238,8 +238,8 @@ returns-clause-checks c =
     let legal = legal_is net c.requires.rules (length old.sorted.items) (length l.sorted.items) suc_is inv.acyclic k (few net l h) (ap (λ rows. least_of (start_names false rows)) (sym h.newest) ∙ none) in
     legal.none
 
-pub returns-clause-rows : goal.returns-clause-rows
-returns-clause-rows c =
+pub returns-clause-walks : goal.returns-clause-walks
+returns-clause-walks c =
     let net = c.args.net.now in
     let old = c.levels.levels in
     let inv = c.levels.invariant in
@@ -253,5 +253,6 @@ returns-clause-rows c =
     let pred : length l.sorted.items - 1 ≡ length old.sorted.items = omega arith in
     record {
       legal = (legal_breaks_no_rule net c.facts.ensures c.requires.rules.closed).0 (none_broken net c.requires.rules.each, legal.none);
-      same = c.in_ok-table.ensures (map told_legs net) h ∙ ap (told_walks (map told_legs net)) pred ∙ legal.rows;
+      same = c.in_ok-table_rows.ensures (map told_legs net) h ∙ ap (told_walks (map told_legs net)) pred ∙ legal.rows;
+      accepted = c.in_ok-accepted_sets.ensures;
     }

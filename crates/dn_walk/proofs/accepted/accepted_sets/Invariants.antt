@@ -2,7 +2,7 @@
 use Rattle.std.proofs.Common.{◌≡◌, ℕ, ◌<◌, [], length, get_or, slice_get}
 use Rattle.dn_interval.specs.Spans.{has}
 use Rattle.dn_net.specs.Decode.{is_accepted_at}
-use Rattle.dn_flat.proofs.accepted.accepted_sets.Given as goal
+use Rattle.dn_walk.proofs.accepted.accepted_sets.Given as goal
 
 abbrev pub invariant-loop-node : goal.invariant-loop-node
 invariant-loop-node l = record {

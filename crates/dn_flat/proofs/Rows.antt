@@ -5,18 +5,17 @@ use Rattle.dn_interval.specs.declared.row.End.{End}
 use Rattle.dn_interval.specs.declared.row.Row.{Row}
 use Rattle.dn_interval.specs.Rows.{Member as EndIn, AllAbove, Ascending, AreNormal}
 use Rattle.dn_interval.specs.Listed.{seen_by}
+use Rattle.dn_interval.proofs.Fronts.{listed_are_normal}
 use Rattle.dn_interval.proofs.Listing.{normal_are_listed}
 use Rattle.dn_net.specs.declared.node.Name.{Name}
 use Rattle.dn_net.specs.declared.node.NodeDecl.{NodeDecl}
 use Rattle.dn_net.specs.Chain.{Member}
 use Rattle.dn_net.specs.Decode.{is_accepted, steps, step_limit}
 use Rattle.dn_net.specs.Names.{name_lt, is_before_first, is_ascending, resolved_names}
-use Rattle.dn_net.proofs.Ascending.{end_names_ascend}
+use Rattle.dn_net.proofs.Ascending.{end_names_ascend, before_members}
 use Rattle.dn_net.proofs.Least.{both_true}
 use Rattle.dn_net.proofs.Resolution.{end_names_are_ends}
-use Rattle.dn_flat.specs.Views.{name_of_end, ResolvesFrom}
-use Rattle.dn_tool.specs.Reply.{end_of, view_rows}
-use Rattle.dn_tool.proofs.Sets.{first_before}
+use Rattle.dn_flat.specs.Views.{name_of_end, end_of, ResolvesFrom, view_rows, ViewRowsAreNormal}
 
 -- a name stands in a list exactly where its end stands in the list of their ends
 end_in : (xs : List Name) (y : End) → EndIn y (map end_of xs) ↔ Member (name_of_end y) xs
@@ -34,7 +33,7 @@ all_above x (y ∷ ys) before = (before y (inl refl), all_above x ys (λ z m. be
 
 ends_ascend : (xs : List Name) → is_ascending xs ≡ true → Ascending (map end_of xs)
 ends_ascend [] up = tt
-ends_ascend (x ∷ xs) up = (all_above x xs (λ z m. first_before x z xs up m), ends_ascend xs (both_true (is_before_first x xs) (is_ascending xs) up).1)
+ends_ascend (x ∷ xs) up = (all_above x xs (λ z m. before_members x z xs up m), ends_ascend xs (both_true (is_before_first x xs) (is_ascending xs) up).1)
 
 -- the ends that an address of a node resolves to
 abbrev pub ends_at : List NodeDecl → ℕ → ℕ → List End
@@ -58,3 +57,12 @@ rows_are_view net n rows normal =
 -- and there are as many
 pub rows_count : (net : List NodeDecl) (n : ℕ) (rows : List Row) → map seen_by rows ≡ view_rows net n → length rows ≡ length (view_rows net n)
 rows_count net n rows e = sym (length-map rows seen_by) ∙ ap length e
+
+-- the rows of the view are normal for the resolution
+pub view_rows_are_normal : ViewRowsAreNormal
+view_rows_are_normal net n =
+    let law = listed_are_normal (ends_at net n) (λ a. ends_ascend (resolved_names net (record { node = n; addr = a })) (end_names_ascend (steps net) (is_accepted net) step_limit (record { node = n; addr = a }))) in
+    record {
+      apart = law.0;
+      exact = λ a y h. ((λ r. (law.1 a y h).0 ((resolves_end net n a y).1 r)), (λ g. (resolves_end net n a y).0 ((law.1 a y h).1 g)));
+    }

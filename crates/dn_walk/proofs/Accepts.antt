@@ -1,4 +1,4 @@
--- Sets of addresses that are made from accept blocks.
+-- Sets of addresses that are made from accept blocks, and those of all nodes.
 use Rattle.std.proofs.Common.{◌≡◌, ℕ, zero, suc, ◌+◌, ◌<◌, ◌≤◌, inl, inr, Bool, true, false, ◌&&◌, ◌||◌, nat_le, List, [], ◌∷◌, drop, length, get_or, slice_get, Option, Some, None, option_map, IsTrue, refl, sym, ap, ◌∙◌, subst, arith, leb-true, le-leb, All}
 use Rattle.std.specs.List.{list_all}
 use Rattle.std.proofs.lemmas.Bool.{or_cases, and_parts, false≢true, cases_lt}
@@ -14,17 +14,6 @@ use Rattle.dn_net.specs.Decode.{top, within, in_some_block, is_accepted_at}
 use Rattle.dn_net.specs.Rules.{block_in_range, is_in_range, KeepsRules}
 use Rattle.dn_net.proofs.Kept.{kept_at}
 
--- a block runs from its first address to its last, at or below the top
-abbrev pub IsSpan : Block → Type 0
-IsSpan b = (b.lo ≤ b.hi) × (b.hi ≤ TOP)
-
-pub are_spans : (bs : List Block) → IsTrue (list_all block_in_range bs) → All IsSpan bs
-are_spans [] e = All-nil IsSpan
-are_spans (b ∷ bs) e =
-    let p = and_parts (block_in_range b) (list_all block_in_range bs) e in
-    let q = and_parts (nat_le b.lo b.hi) (nat_le b.hi top) p.0 in
-    All-cons IsSpan b bs (leb-true b.lo b.hi q.0, leb-true b.hi top q.1) (are_spans bs p.1)
-
 below_top : (bs : List Block) (a : ℕ) → IsTrue (list_all block_in_range bs) → in_some_block a bs ≡ true → a ≤ top
 below_top [] a e f = absurd (false≢true f)
 below_top (b ∷ bs) a e f =
@@ -35,17 +24,6 @@ below_top (b ∷ bs) a e f =
       | inl g ↦ let h : a ≤ b.hi = leb-true a b.hi (and_parts (nat_le b.lo a) (nat_le a b.hi) g).1 in omega arith
       | inr g ↦ below_top bs a p.1 g
     ]
-
--- the blocks of a node that breaks no rule are in range
-pub blocks_in_range : (net : List NodeDecl) (i : ℕ) (bs : List Block) → All KeepsRules net → option_map (λ (d : NodeDecl). d.accepts) (slice_get net i) ≡ Some bs → IsTrue (list_all block_in_range bs)
-blocks_in_range net i bs checked at = go (slice_get net i) refl at
-  where
-    go : (o : Option NodeDecl) → slice_get net i ≡ o → option_map (λ (d : NodeDecl). d.accepts) o ≡ Some bs → IsTrue (list_all block_in_range bs)
-    go None e f = cc
-    go (Some d) e f =
-        let same : d.accepts ≡ bs = cc in
-        let range : IsTrue (is_in_range d) = (kept_at net i checked d e).in_range in
-        subst (λ l. IsTrue (list_all block_in_range l)) same (and_parts _ _ range).0
 
 -- a set of the addresses of a node's accept blocks has what the node accepts
 pub accepted_by : (o : Option NodeDecl) (bs : List Block) (set : List Span) → IsTrue (list_all block_in_range bs) → option_map (λ (d : NodeDecl). d.accepts) o ≡ Some bs → ((a : ℕ) → has set a ≡ in_some_block a bs) → (a : ℕ) → has set a ≡ is_accepted_at a o
@@ -61,26 +39,6 @@ accepted_by (Some d) bs set range at same a =
         none : (t : Bool) → (t && false) ≡ false
         none true = refl
         none false = refl
-
--- one more block
-pub block_added : (bs : List Block) (i : ℕ) (b : Block) (old new : List Span) (whole : Bool) (a : ℕ) → i < length bs → b ≡ get_or bs i b → has new a ≡ (within a b || has old a) → (has old a || in_some_block a (drop i bs)) ≡ whole → (has new a || in_some_block a (drop (i + 1) bs)) ≡ whole
-block_added bs i b old new whole a l e f g =
-    ap (λ t. t || in_some_block a (drop (i + 1) bs)) f
-    ∙ go (within a b) (has old a) (in_some_block a (drop (i + 1) bs))
-    ∙ ap (λ t. has old a || in_some_block a t) (sym (drop_at bs i b l e))
-    ∙ g
-  where
-    go : (p q r : Bool) → ((p || q) || r) ≡ (q || (p || r))
-    go true true r = refl
-    go true false r = refl
-    go false q r = refl
-
-pub blocks_ended : (bs : List Block) (i : ℕ) (set : List Span) → length bs ≤ i → ((a : ℕ) → (has set a || in_some_block a (drop i bs)) ≡ in_some_block a bs) → (a : ℕ) → has set a ≡ in_some_block a bs
-blocks_ended bs i set l f a = sym (go (has set a)) ∙ ap (λ t. has set a || in_some_block a t) (sym (drop_past bs i l)) ∙ f a
-  where
-    go : (b : Bool) → (b || false) ≡ b
-    go true = refl
-    go false = refl
 
 none_past : (net : List NodeDecl) (n a : ℕ) → length net ≤ n → is_accepted_at a (slice_get net n) ≡ false
 none_past [] n a l = refl

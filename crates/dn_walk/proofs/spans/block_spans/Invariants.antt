@@ -1,10 +1,7 @@
 -- The spans of the blocks so far.
 use Rattle.std.proofs.Common.{◌≡◌, ◌++◌, map, take}
 use Rattle.dn_walk.specs.Legs.{block_of}
-use Rattle.dn_walk.proofs.leg.block_spans.Given as goal
-
-abbrev pub invariant-loop-block : goal.invariant-loop-block
-invariant-loop-block l = map block_of l.spans.items ≡ take l.block-index l.accepts
+use Rattle.dn_walk.proofs.spans.block_spans.Given as goal
 
 abbrev pub invariant-loop-entry : goal.invariant-loop-entry
 invariant-loop-entry l = map block_of l.spans.items ≡ l.fn.accepts ++ map (λ e. e.block) (take l.entry-index l.entries)

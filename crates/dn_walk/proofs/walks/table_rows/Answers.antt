@@ -4,7 +4,7 @@ use Rattle.std.specs.List.{flat_map}
 use Rattle.std.proofs.lemmas.List.{take_all, take_rest}
 use Rattle.dn_walk.specs.Rows.{told_by_row}
 use Rattle.dn_walk.proofs.Told.{table_is}
-use Rattle.dn_walk.proofs.walks.table.Goals as goal
+use Rattle.dn_walk.proofs.walks.table_rows.Goals as goal
 
 pub returns : goal.returns
 returns c = λ legs h.

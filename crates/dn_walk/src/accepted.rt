@@ -1,0 +1,35 @@
+//! What the nodes of a net accept, as sets of addresses.
+
+ghost use Rattle.std.specs.Prelude.{◌≡◌, ◌<◌, ℕ, length, slice_get, IfOk};
+ghost use Rattle.dn_interval.specs.Spans.{has};
+ghost use Rattle.dn_net.specs.Decode.{is_accepted_at};
+ghost use Rattle.dn_net.specs.Rules.{KeepsNodeRules};
+ghost use Rattle.dn_walk.specs.Rows.{AreAccepted};
+
+use crate::spans::{accept_spans, covered};
+use dn_base::OutOfMemory;
+use dn_interval::SpanSet;
+use dn_net::net::Net;
+use std::alloc::Global;
+
+/// For each node of a net, by its number, the addresses that it accepts.
+pub(crate) fn accepted_sets(alloc: Global, net: &Net) -> Result<Vec<SpanSet>, OutOfMemory>
+    requires rules { KeepsNodeRules net.now }
+    ensures { IfOk result (λ sets. AreAccepted net.now sets.items) }
+{
+    let count = net.nodes();
+    let mut sets = Vec::with_capacity(alloc, usize::from(count))?;
+    for node in 0..count {
+        sets.push(accepted_set(alloc, net, node)?)?;
+    }
+    Ok(sets)
+}
+
+/// The addresses that a node accepts.
+fn accepted_set(alloc: Global, net: &Net, node: u16) -> Result<SpanSet, OutOfMemory>
+    requires rules { KeepsNodeRules net.now }
+    requires there { node < length net.now }
+    ensures { IfOk result (λ set. (a : ℕ) → has set a ≡ is_accepted_at a (slice_get net.now node)) }
+{
+    covered(alloc, accept_spans(alloc, net.accepts(node))?)
+}
