@@ -6,6 +6,7 @@ use Rattle.std.proofs.lemmas.List.{at_drop_all}
 use Rattle.dn_net.specs.declared.node.NodeDecl.{NodeDecl}
 use Rattle.dn_net.specs.declared.node.Unit.{Unit as UnitPart}
 use Rattle.dn_net.specs.Decode.{unit_of, unit_at}
+use Rattle.dn_net.proofs.Members.{some_same}
 use Rattle.dn_kind.specs.Kind.{Meaning}
 use Rattle.dn_kind.specs.Units.{is_shaped, has_shape, has_kind, shape_fault_from, shape_fault, KeepsUnitShape, IsFirstMisshapen, ShapeFaultIsFirst}
 
@@ -43,9 +44,6 @@ fault_here kinds number net o at broken =
 -- and past the last node there is none
 pub fault_past : (kinds : List Meaning) (number : ℕ) (net : List NodeDecl) → length net ≤ number → shape_fault_from kinds number (drop number net) ≡ None
 fault_past kinds number net l = at_drop_all (λ ns. shape_fault_from kinds number ns) net number l
-
-some_same : {X : Type 0} (x y : X) → ◌≡◌ {A = Option X} (Some x) (Some y) → x ≡ y
-some_same x y e = cc
 
 -- what holds of a unit, where it holds of the node that is one
 shaped_at : (kinds : List Meaning) (o p : Option UnitPart) → o ≡ p → (b : Bool) → has_shape kinds p ≡ b → (u : UnitPart) → o ≡ Some u → is_shaped kinds u ≡ b

@@ -1,11 +1,12 @@
 -- More records take no name away, and a name that reaches a unit has one way to it.
 use Rattle.std.proofs.Common.{◌≡◌, ℕ, zero, suc, ◌+◌, ◌/◌, ◌^◌, ◌≤◌, ◌⊎◌, inl, inr, Bool, true, false, if◌then◌else◌, ◌&&◌, List, [], ◌∷◌, ◌++◌, length, Option, Some, None, is_some, refl, sym, ap, ◌∙◌, subst, arith, zero-add, nat_le, slice_get, IsTrue}
 use Rattle.std.specs.List.{list_all}
+use Rattle.std.proofs.lemmas.Bool.{and_parts}
 use Rattle.dn_net.specs.declared.node.Name.{Name}
 use Rattle.dn_net.specs.declared.node.NodeDecl.{NodeDecl}
 use Rattle.dn_net.specs.declared.node.Unit.{Unit as UnitPart}
 use Rattle.dn_net.specs.Chain.{Member, Chain, Reaches}
-use Rattle.dn_net.specs.Decode.{top, in_some_block, is_formed, is_accepted, is_accepted_at, is_stop, is_stop_at, unit_of, unit_at, sent, sent_names, steps, Step}
+use Rattle.dn_net.specs.Decode.{top, in_some_block, is_formed, is_accepted, is_accepted_at, is_stop, is_stop_at, unit_of, unit_at, steps, Step}
 use Rattle.dn_net.proofs.Steps.{unit_is_bare, node_at}
 use Rattle.dn_kind.specs.Tables.{Held, to_port, output, steps_by_unit, steps_under, StepUnder, ResolvesUnder, Extends, MoreRecordsKeepNames}
 use Rattle.dn_kind.specs.Ways.{NoFork, Slot, slot_in, PassesIn, Passes, OneWayToUnit, ChainPassesSlots, OneRowOfSlots}
@@ -127,17 +128,14 @@ reaches_stop net h (suc k) x y s rest p = go (unit_at net x.node) refl p.2 p.3 (
 ends_here : (net : List NodeDecl) (h : Held) → IsTrue (list_all is_formed net) → (x : Name) → IsTrue (is_accepted net x) → steps_under net h x ≡ []
 ends_here net h formed x is = go (unit_at net x.node) refl
   where
-    fixed : (o : Option NodeDecl) → IsTrue (is_accepted_at x.addr o) → sent_names (sent x.addr o) ≡ []
-    fixed None a = refl
-    fixed (Some n) a = by (nat_le x.addr top) (in_some_block x.addr n.accepts) a
-      where
-        by : (b c : Bool) → IsTrue (b && c) → sent_names (if b then (if c then None else Rattle.dn_net.specs.Decode.by_entries x.addr n.over n.entries) else None) ≡ []
-        by true true a = refl
-        by true false a = cc
-        by false c a = refl
+    fixed : (o : Option NodeDecl) → slice_get net x.node ≡ o → IsTrue (is_accepted_at x.addr o) → steps net x ≡ []
+    fixed None e a = rw e refl
+    fixed (Some n) e a =
+        let b = and_parts (nat_le x.addr top) (in_some_block x.addr n.accepts) a in
+        rw (e, b.0, b.1) refl
 
     go : (v : Option UnitPart) → unit_at net x.node ≡ v → steps_by_unit net h x v ≡ []
-    go None e = fixed (slice_get net x.node) is
+    go None e = fixed (slice_get net x.node) refl is
     go (Some u) e =
         let some : is_some (unit_of (slice_get net x.node)) ≡ true = ap is_some e in
         let bare = unit_is_bare (slice_get net x.node) x.addr (λ n at. node_at is_formed net x.node formed n at) some in

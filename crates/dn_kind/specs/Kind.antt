@@ -1,5 +1,5 @@
 -- Kinds of units: shapes, records, and what a kind means.
-use Rattle.std.specs.Prelude.{◌≡◌, ℕ, ◌+◌, ◌-◌, ◌%◌, ◌^◌, ◌<◌, ◌≤◌, Bool, ◌&&◌, nat_le, nat_lt, List, [], ◌∷◌, length, Option, Some, None, IsTrue}
+use Rattle.std.specs.Prelude.{◌≡◌, ℕ, ◌-◌, ◌%◌, ◌^◌, ◌≤◌, Bool, ◌&&◌, nat_le, nat_lt, List, [], ◌∷◌, length, Option, Some, None, IsTrue}
 use Rattle.dn_kind.specs.declared.shape.Shape.{Shape}
 use Rattle.dn_kind.specs.declared.unit_kind.Record.{Record}
 use Rattle.dn_kind.specs.Rights.{are_rights}
@@ -16,8 +16,8 @@ is_plain shape =
 abbrev pub is_within : Shape → Record → Bool
 is_within shape r = nat_lt r.port shape.ports && nat_lt r.page (2 ^ (shape.reach - shape.page))
 
--- what a kind means: its name, the number of words of a record, whether it fits a shape, the words of a record in a
--- shape, and the record that words spell
+-- what a kind means: its name, the number of words of a record, whether it fits a shape, the words
+-- of a record in a shape, and the record that words spell
 pub record Meaning : Type 0 where
   pub name : List ℕ
   pub words : ℕ
@@ -38,12 +38,17 @@ gate_word [] = 0
 gate_word (w ∷ []) = w
 gate_word (w ∷ v ∷ ws) = gate_word (v ∷ ws)
 
--- A lawful kind has one to four words. The words of a record are so many and spell that record, and where bit 0 of the
--- last word is clear no record is spelled. A record that is spelled allows reading, writing or both.
+-- A lawful kind has one to four words. The words of a record are so many and spell that record, and
+-- where bit 0 of the last word is clear no record is spelled. A record that is spelled allows
+-- reading, writing or both.
 pub record IsLawful (kind : Meaning) : Type 0 where
   pub least : 1 ≤ kind.words
   pub most : kind.words ≤ 4
-  pub width : (shape : Shape) (r : Record) → IsPackable kind shape r → length (kind.pack shape r) ≡ kind.words
-  pub reads_back : (shape : Shape) (r : Record) → IsPackable kind shape r → kind.unpack (kind.pack shape r) ≡ Some r
-  pub shut : (ws : List ℕ) → length ws ≡ kind.words → gate_word ws % 2 ≡ 0 → kind.unpack ws ≡ None
-  pub rights : (ws : List ℕ) (r : Record) → kind.unpack ws ≡ Some r → IsTrue (are_rights r.rights)
+  pub width : (shape : Shape) (r : Record) → IsPackable kind shape r →
+      length (kind.pack shape r) ≡ kind.words
+  pub reads_back : (shape : Shape) (r : Record) → IsPackable kind shape r →
+      kind.unpack (kind.pack shape r) ≡ Some r
+  pub shut : (ws : List ℕ) → length ws ≡ kind.words → gate_word ws % 2 ≡ 0 →
+      kind.unpack ws ≡ None
+  pub rights : (ws : List ℕ) (r : Record) → kind.unpack ws ≡ Some r →
+      IsTrue (are_rights r.rights)

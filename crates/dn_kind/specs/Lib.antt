@@ -1,3 +1,4 @@
+pub mod Cleared
 pub mod Kind
 pub mod Rights
 pub mod Tables

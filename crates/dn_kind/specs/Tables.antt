@@ -1,15 +1,15 @@
 -- Tables: the words of units, the records that they spell, and what names come to under records.
-use Rattle.std.specs.Prelude.{◌≡◌, ℕ, zero, suc, ◌+◌, ◌*◌, ◌/◌, ◌%◌, ◌^◌, ◌↔◌, Bool, true, false, if◌then◌else◌, nat_le, nat_lt, List, [], ◌∷◌, ◌++◌, length, take, drop, replicate, slice_get, Option, Some, None, IsTrue}
+use Rattle.std.specs.Prelude.{◌≡◌, ℕ, ◌+◌, ◌*◌, ◌/◌, ◌%◌, ◌^◌, ◌<◌, ◌↔◌, if◌then◌else◌, nat_le, nat_lt, List, [], ◌∷◌, length, take, drop, slice_get, Option, Some, None, IsTrue}
 use Rattle.std.specs.List.{All}
 use Rattle.dn_net.specs.declared.node.Name.{Name}
 use Rattle.dn_net.specs.declared.node.NodeDecl.{NodeDecl}
 use Rattle.dn_net.specs.declared.node.Unit.{Unit as UnitPart}
 use Rattle.dn_net.specs.Chain.{Member, Ends}
 use Rattle.dn_net.specs.Decode.{top, is_accepted, unit_at, steps}
-use Rattle.dn_net.specs.Names.{end_names, is_ascending}
+use Rattle.dn_net.specs.Names.{end_names}
 use Rattle.dn_kind.specs.declared.rights.Access.{Access}
 use Rattle.dn_kind.specs.declared.unit_kind.Record.{Record}
-use Rattle.dn_kind.specs.Rights.{allows}
+use Rattle.dn_kind.specs.Rights.{allows, are_rights}
 use Rattle.dn_kind.specs.Kind.{Meaning, IsLawful, is_within}
 use Rattle.dn_kind.specs.Units.{unit_shape}
 
@@ -21,7 +21,7 @@ Held = ℕ → ℕ → Option Record
 abbrev pub slot_words : ℕ → List ℕ → ℕ → List ℕ
 slot_words width ws slot = take width (drop (slot * width) ws)
 
--- the record, where the unit can hold it: the port is one of its, and the output is below its reach
+-- the record, where the unit can hold it: it has the port, and the output is below its reach
 abbrev pub record_within : UnitPart → Option Record → Option Record
 record_within u None = None
 record_within u (Some r) = if is_within (unit_shape u) r then Some r else None
@@ -31,21 +31,25 @@ abbrev pub record_spelled : Option Meaning → UnitPart → Option (List ℕ) �
 record_spelled None u ws slot = None
 record_spelled (Some kind) u None slot = None
 record_spelled (Some kind) u (Some ws) slot =
-    if nat_lt slot u.slots then record_within u (kind.unpack (slot_words kind.words ws slot)) else None
+    if nat_lt slot u.slots then record_within u (kind.unpack (slot_words kind.words ws slot))
+    else None
 
 -- the record that a slot of a node holds, where the node is a unit
 abbrev pub record_of_unit : List Meaning → Option UnitPart → Option (List ℕ) → ℕ → Option Record
 record_of_unit kinds None ws slot = None
 record_of_unit kinds (Some u) ws slot = record_spelled (slice_get kinds u.kind) u ws slot
 
--- the records that tables hold. Tables are a list of words for each node, by the node's number; that of a node that is no
--- unit counts for nothing
+-- the records that tables hold: tables are a list of words for each node, by the node's number, and
+-- that of a node that is no unit counts for nothing
 abbrev pub record_held : List NodeDecl → List Meaning → List (List ℕ) → Held
-record_held net kinds words node slot = record_of_unit kinds (unit_at net node) (slice_get words node) slot
+record_held net kinds words node slot =
+    record_of_unit kinds (unit_at net node) (slice_get words node) slot
 
 -- the list of words of each unit has the words of its slots, and no more
 pub record AreTables (net : List NodeDecl) (kinds : List Meaning) (words : List (List ℕ)) : Type 0 where
-  pub sized : (node : ℕ) (u : UnitPart) (kind : Meaning) (ws : List ℕ) → unit_at net node ≡ Some u → slice_get kinds u.kind ≡ Some kind → slice_get words node ≡ Some ws → length ws ≡ u.slots * kind.words
+  pub sized : (node : ℕ) (u : UnitPart) (kind : Meaning) (ws : List ℕ) →
+      unit_at net node ≡ Some u → slice_get kinds u.kind ≡ Some kind → slice_get words node ≡ Some ws →
+      length ws ≡ u.slots * kind.words
 
 -- the record, where it allows the access
 abbrev pub record_allowing : Access → Option Record → Option Record
@@ -61,17 +65,19 @@ abbrev pub to_port : Option ℕ → ℕ → List Name
 to_port None a = []
 to_port (Some node) a = record { node = node; addr = a } ∷ []
 
--- the output of a slot for an address: the output page, and the offset in the slot
+-- the output of a slot for an address: on the output page, at the address's offset in its slot
 abbrev pub output : UnitPart → Option Record → ℕ → List Name
 output u None a = []
 output u (Some r) a = to_port (slice_get u.ports r.port) (r.page * 2 ^ u.page + a % 2 ^ u.page)
 
--- one step of a name whose node is this unit, or none
+-- the names to which a name decodes in one step, where its node is this unit, or none
 abbrev pub steps_by_unit : List NodeDecl → Held → Name → Option UnitPart → List Name
 steps_by_unit net h x None = steps net x
-steps_by_unit net h x (Some u) = if nat_le x.addr top then output u (h x.node (x.addr / 2 ^ u.page)) x.addr else []
+steps_by_unit net h x (Some u) =
+    if nat_le x.addr top then output u (h x.node (x.addr / 2 ^ u.page)) x.addr else []
 
--- the names to which a name decodes in one step under records: in a unit by the record of its slot, elsewhere as in the net
+-- the names to which a name decodes in one step under records: in a unit by the record of its slot,
+-- elsewhere as in the net
 abbrev pub steps_under : List NodeDecl → Held → Name → List Name
 steps_under net h x = steps_by_unit net h x (unit_at net x.node)
 
@@ -79,68 +85,46 @@ steps_under net h x = steps_by_unit net h x (unit_at net x.node)
 abbrev pub StepUnder : List NodeDecl → Held → Name → Name → Type 0
 StepUnder net h x y = Member y (steps_under net h x)
 
--- the longest chain that resolution under records follows: four runs through the net of up to 64 steps, and three units between them; no proof unfolds it
-unfoldable pub under_limit : ℕ
-under_limit = 259
+-- the longest chain that resolution under records follows: up to 64 steps of the net before, between
+-- and behind three units, and one in each unit; no proof unfolds it
+unfoldable pub step_limit_under : ℕ
+step_limit_under = 259
 
 -- resolution under records: the accepted names that end a chain of at most so many steps
 abbrev pub ResolvesUnder : List NodeDecl → Held → Name → Name → Type 0
-ResolvesUnder net h x y = Ends (steps_under net h) (is_accepted net) under_limit x y
+ResolvesUnder net h x y = Ends (steps_under net h) (is_accepted net) step_limit_under x y
 
 -- what a name resolves to under records, ascending
 abbrev pub resolved_names_under : List NodeDecl → Held → Name → List Name
-resolved_names_under net h x = end_names (steps_under net h) (is_accepted net) under_limit x
+resolved_names_under net h x = end_names (steps_under net h) (is_accepted net) step_limit_under x
 
 -- resolution under tables for an access
 abbrev pub ResolvesFor : List NodeDecl → List Meaning → List (List ℕ) → Access → Name → Name → Type 0
-ResolvesFor net kinds words access x y = ResolvesUnder net (allowing access (record_held net kinds words)) x y
+ResolvesFor net kinds words access x y =
+    ResolvesUnder net (allowing access (record_held net kinds words)) x y
 
 -- each record of the first stands in the second
 abbrev pub Extends : Held → Held → Type 0
 Extends h h' = (node slot : ℕ) (r : Record) → h node slot ≡ Some r → h' node slot ≡ Some r
 
--- the words of slots from a number on, so many: those of a slot that is not kept are 0
-abbrev pub kept_slots : (ℕ → Bool) → ℕ → ℕ → ℕ → List ℕ → List ℕ
-kept_slots kept width slot zero ws = ws
-kept_slots kept width slot (suc count) ws =
-    (if kept slot then take width ws else replicate width 0) ++ kept_slots kept width (suc slot) count (drop width ws)
+-- a record stands in a slot of a unit that can hold it, and allows reading, writing or both
+pub record IsHeld (net : List NodeDecl) (node slot : ℕ) (r : Record) : Type 0 where
+  pub unit : (u : UnitPart) × (unit_at net node ≡ Some u) × (slot < u.slots)
+      × IsTrue (is_within (unit_shape u) r)
+  pub rights : IsTrue (are_rights r.rights)
 
--- the words of a unit, where those of slots that are not kept are 0
-abbrev pub kept_by_kind : (ℕ → Bool) → UnitPart → Option Meaning → List ℕ → List ℕ
-kept_by_kind kept u None ws = ws
-kept_by_kind kept u (Some kind) ws = kept_slots kept kind.words 0 u.slots ws
+-- Each record that tables hold stands in a slot of a unit that can hold it.
+abbrev pub HeldRecordsFit : Type 0
+HeldRecordsFit = (net : List NodeDecl) (kinds : List Meaning) (words : List (List ℕ)) →
+    All IsLawful kinds → (node slot : ℕ) (r : Record) → record_held net kinds words node slot ≡ Some r →
+    IsHeld net node slot r
 
--- the words of a node, where those of slots of a unit that are not kept are 0
-abbrev pub kept_words : List Meaning → (ℕ → Bool) → Option UnitPart → List ℕ → List ℕ
-kept_words kinds kept None ws = ws
-kept_words kinds kept (Some u) ws = kept_by_kind kept u (slice_get kinds u.kind) ws
-
--- the words of nodes from a number on, where those of slots that are not kept are 0
-abbrev pub kept_tables : List NodeDecl → List Meaning → (ℕ → ℕ → Bool) → ℕ → List (List ℕ) → List (List ℕ)
-kept_tables net kinds kept node [] = []
-kept_tables net kinds kept node (ws ∷ rest) = kept_words kinds (kept node) (unit_at net node) ws ∷ kept_tables net kinds kept (suc node) rest
-
--- a slot holds no record, or one that allows the access
-abbrev pub is_kept : Access → Option Record → Bool
-is_kept access None = true
-is_kept access (Some r) = allows r.rights access
-
--- tables in which every slot whose record does not allow the access has words 0
-abbrev pub words_allowing : List NodeDecl → List Meaning → Access → List (List ℕ) → List (List ℕ)
-words_allowing net kinds access words = kept_tables net kinds (λ node slot. is_kept access (record_held net kinds words node slot)) 0 words
-
--- THE LAWS
--- The names that are listed are those to which a name resolves under records, and they ascend.
-pub record NamesUnderAreResolved : Type 0 where
-  pub names : (net : List NodeDecl) (h : Held) (x y : Name) → Member y (resolved_names_under net h x) ↔ ResolvesUnder net h x y
-  pub ascending : (net : List NodeDecl) (h : Held) (x : Name) → is_ascending (resolved_names_under net h x) ≡ true
-
--- The law of access. Tables in which the slots whose records do not allow an access have words 0 hold the records that
--- allow it, and no others; so what a name resolves to for the access is what it resolves to under these tables.
-pub record LawOfAccess : Type 0 where
-  pub records : (net : List NodeDecl) (kinds : List Meaning) (words : List (List ℕ)) (access : Access) → All IsLawful kinds → AreTables net kinds words → (node slot : ℕ) → record_held net kinds (words_allowing net kinds access words) node slot ≡ allowing access (record_held net kinds words) node slot
-  pub resolution : (net : List NodeDecl) (kinds : List Meaning) (words : List (List ℕ)) (access : Access) → All IsLawful kinds → AreTables net kinds words → (x y : Name) → ResolvesFor net kinds words access x y ↔ ResolvesUnder net (record_held net kinds (words_allowing net kinds access words)) x y
+-- The list of names has exactly those to which a name resolves under records.
+abbrev pub NamesUnderAreResolved : Type 0
+NamesUnderAreResolved = (net : List NodeDecl) (h : Held) (x y : Name) →
+    Member y (resolved_names_under net h x) ↔ ResolvesUnder net h x y
 
 -- More records in slots that hold none take no name away.
 abbrev pub MoreRecordsKeepNames : Type 0
-MoreRecordsKeepNames = (net : List NodeDecl) (h h' : Held) → Extends h h' → (x y : Name) → ResolvesUnder net h x y → ResolvesUnder net h' x y
+MoreRecordsKeepNames = (net : List NodeDecl) (h h' : Held) → Extends h h' →
+    (x y : Name) → ResolvesUnder net h x y → ResolvesUnder net h' x y

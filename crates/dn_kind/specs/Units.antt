@@ -34,9 +34,11 @@ has_kind count (Some u) = nat_lt u.kind count
 -- the first node that breaks UnitShape among nodes of which the first has this number
 abbrev pub shape_fault_from : List Meaning → ℕ → List NodeDecl → Option ℕ
 shape_fault_from kinds number [] = None
-shape_fault_from kinds number (n ∷ ns) = if has_shape kinds n.unit then shape_fault_from kinds (number + 1) ns else Some number
+shape_fault_from kinds number (n ∷ ns) =
+    if has_shape kinds n.unit then shape_fault_from kinds (number + 1) ns else Some number
 
--- UnitShape: the first node that is a unit and has no shape that a unit may have, or one that its kind does not fit
+-- UnitShape: the first node that is a unit and has no shape that a unit may have, or one that its
+-- kind does not fit
 abbrev pub shape_fault : List Meaning → List NodeDecl → Option ℕ
 shape_fault kinds net = shape_fault_from kinds 0 net
 
@@ -51,9 +53,11 @@ pub record KeepsUnitShape (kinds : List Meaning) (net : List NodeDecl) : Type 0 
 -- a unit breaks the rule, and none before it does
 pub record IsFirstMisshapen (kinds : List Meaning) (net : List NodeDecl) (n : ℕ) : Type 0 where
   pub broken : (u : UnitPart) × (unit_at net n ≡ Some u) × (is_shaped kinds u ≡ false)
-  pub none_less : (m : ℕ) (u : UnitPart) → m < n → unit_at net m ≡ Some u → IsTrue (is_shaped kinds u)
+  pub none_less : (m : ℕ) (u : UnitPart) → m < n → unit_at net m ≡ Some u →
+      IsTrue (is_shaped kinds u)
 
--- A net has no fault exactly where each of its units is shaped, and a fault is the first unit that is not.
+-- A net has no fault exactly where each of its units is shaped, and a fault is the first unit that
+-- is not.
 abbrev pub ShapeFaultIsFirst : Type 0
 ShapeFaultIsFirst = (kinds : List Meaning) (net : List NodeDecl) →
     ((shape_fault kinds net ≡ None) ↔ KeepsUnitShape kinds net)

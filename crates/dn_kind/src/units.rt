@@ -25,7 +25,8 @@ pub enum UnitFault {
 pub fn check_units(net: &Net, kinds: &Kinds) -> Result<(), UnitFault>
     requires lawful { All (λ k. IsLawful (meaning k)) kinds.now.list.items }
     requires known { IsTrue (list_all (λ n. has_kind (length kinds.now.list.items) n.unit) net.now) }
-    ensures { Checks unit_fault_view result (shape_fault (map (λ k. meaning k) kinds.now.list.items) net.now) }
+    ensures { Checks unit_fault_view result
+        (shape_fault (map (λ k. meaning k) kinds.now.list.items) net.now) }
 {
     for node in 0..net.nodes() {
         if !is_node_shaped(net.unit(node), kinds) {
@@ -39,7 +40,8 @@ pub fn check_units(net: &Net, kinds: &Kinds) -> Result<(), UnitFault>
 fn is_node_shaped(unit: Option<&Unit>, kinds: &Kinds) -> bool
     requires lawful { All (λ k. IsLawful (meaning k)) kinds.now.list.items }
     requires known { IsTrue (has_kind (length kinds.now.list.items) (option_copied unit)) }
-    ensures { result ≡ has_shape (map (λ k. meaning k) kinds.now.list.items) (option_copied unit.entry) }
+    ensures { result ≡ has_shape (map (λ k. meaning k) kinds.now.list.items)
+        (option_copied unit.entry) }
 {
     match unit {
         Some(unit) => is_unit_shaped(unit, kinds),
