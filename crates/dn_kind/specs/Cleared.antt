@@ -29,7 +29,8 @@ kept_words kinds is_kept None ws = ws
 kept_words kinds is_kept (Some u) ws = kept_of_kind is_kept u (slice_get kinds u.kind) ws
 
 -- the words of nodes from a number on, where those of slots that are not kept are 0
-abbrev pub kept_tables : List NodeDecl → List Meaning → (ℕ → ℕ → Bool) → ℕ → List (List ℕ) → List (List ℕ)
+abbrev pub kept_tables : List NodeDecl → List Meaning → (ℕ → ℕ → Bool) → ℕ → List (List ℕ) →
+    List (List ℕ)
 kept_tables net kinds is_kept node [] = []
 kept_tables net kinds is_kept node (ws ∷ rest) =
     kept_words kinds (is_kept node) (unit_at net node) ws
@@ -57,8 +58,8 @@ ClearedTablesAllow = (net : List NodeDecl) (kinds : List Meaning) (words : List 
     record_held net kinds (words_allowing net kinds access words) node slot
     ≡ allowing access (record_held net kinds words) node slot
 
--- The law of access: what a name resolves to for an access is what it resolves to under the tables in
--- which the slots whose records do not allow it have words 0.
+-- The law of access: what a name resolves to for an access is what it resolves to under the tables
+-- in which the slots whose records do not allow it have words 0.
 abbrev pub LawOfAccess : Type 0
 LawOfAccess = (net : List NodeDecl) (kinds : List Meaning) (words : List (List ℕ))
     (access : Access) → All IsLawful kinds → AreTables net kinds words → (x y : Name) →

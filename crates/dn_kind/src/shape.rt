@@ -32,8 +32,8 @@ pub struct Shape {
 }
 
 impl Shape {
-    /// Whether a unit may have this shape, whatever its kind: a page of at most [`MAX_PAGE`], 1 to [`MAX_SLOTS`] slots,
-    /// a reach from the page to [`MAX_REACH`], and 1 to [`MAX_PORTS`] ports.
+    /// Whether a unit may have this shape, whatever its kind: a page of at most [`MAX_PAGE`], 1 to
+    /// [`MAX_SLOTS`] slots, a reach from the page to [`MAX_REACH`], and 1 to [`MAX_PORTS`] ports.
     pub fn is_plain(self) -> bool
         ensures { result ≡ is_plain self }
     {

@@ -1,7 +1,7 @@
 //! Records, and the kinds of units as trait objects.
 
-ghost use Rattle.std.specs.Prelude.{◌≡◌, ◌-◌, ◌++◌, length, replicate};
-ghost use Rattle.dn_kind.specs.Kind.{Meaning, IsPackable};
+ghost use Rattle.std.specs.Prelude.{◌≡◌, ◌-◌, ◌++◌, length, replicate, IsTrue};
+ghost use Rattle.dn_kind.specs.Kind.{Meaning, IsPackable, is_plain, is_within};
 
 use crate::rights::Rights;
 use crate::shape::Shape;
@@ -11,10 +11,22 @@ use crate::shape::Shape;
 pub struct Record {
     /// The port to whose node it sends, by its place among the unit's ports.
     pub port: u8,
-    /// The output page: an input goes to `page * 2^p` plus its offset in its slot, where `p` is the unit's page.
+    /// The output page: an input goes to `page * 2^p` plus its offset in its slot, where `p` is the
+    /// unit's page.
     pub page: u64,
     /// The accesses that it lets through.
     pub rights: Rights,
+}
+
+impl Record {
+    /// Whether a unit of this shape can hold the record: the port is one of its, and the output page
+    /// is below `2^(reach - page)`.
+    pub fn is_within(self, shape: Shape) -> bool
+        requires { IsTrue (is_plain shape) }
+        ensures { result ≡ is_within shape self }
+    {
+        self.port < shape.ports && self.page < 1 << (shape.reach - shape.page)
+    }
 }
 
 /// A kind of unit: which words spell which record.
@@ -37,9 +49,10 @@ pub trait UnitKind: Drop {
     /// Leaves the words of the record in the first places, and 0 in the others.
     fn pack(&self, shape: Shape, record: Record, out: &mut [u64; 4])
         requires { IsPackable (meaning self.now) shape «record» }
-        ensures { out.new ≡ (meaning self.now).pack shape «record» ++ replicate (4 - (meaning self.now).words) 0 };
+        ensures { out.new
+            ≡ (meaning self.now).pack shape «record» ++ replicate (4 - (meaning self.now).words) 0 };
 
-    /// The record that the words spell. `None` where they spell none.
+    /// The record that the words spell. `None` exactly where they spell none.
     fn unpack(&self, words: &[u64]) -> Option<Record>
         requires { length words.now ≡ (meaning self.now).words }
         ensures { result ≡ (meaning self.now).unpack words.now };
