@@ -46,10 +46,11 @@ record_held net kinds words node slot =
     record_of_unit kinds (unit_at net node) (slice_get words node) slot
 
 -- the list of words of each unit has the words of its slots, and no more
-pub record AreTables (net : List NodeDecl) (kinds : List Meaning) (words : List (List ℕ)) : Type 0 where
+pub record AreTables (net : List NodeDecl) (kinds : List Meaning) (words : List (List ℕ))
+    : Type 0 where
   pub sized : (node : ℕ) (u : UnitPart) (kind : Meaning) (ws : List ℕ) →
-      unit_at net node ≡ Some u → slice_get kinds u.kind ≡ Some kind → slice_get words node ≡ Some ws →
-      length ws ≡ u.slots * kind.words
+      unit_at net node ≡ Some u → slice_get kinds u.kind ≡ Some kind →
+      slice_get words node ≡ Some ws → length ws ≡ u.slots * kind.words
 
 -- the record, where it allows the access
 abbrev pub record_allowing : Access → Option Record → Option Record
@@ -85,8 +86,8 @@ steps_under net h x = steps_by_unit net h x (unit_at net x.node)
 abbrev pub StepUnder : List NodeDecl → Held → Name → Name → Type 0
 StepUnder net h x y = Member y (steps_under net h x)
 
--- the longest chain that resolution under records follows: up to 64 steps of the net before, between
--- and behind three units, and one in each unit; no proof unfolds it
+-- the longest chain that resolution under records follows: up to 64 steps of the net before,
+-- between and behind three units, and one in each unit; no proof unfolds it
 unfoldable pub step_limit_under : ℕ
 step_limit_under = 259
 
@@ -99,7 +100,8 @@ abbrev pub resolved_names_under : List NodeDecl → Held → Name → List Name
 resolved_names_under net h x = end_names (steps_under net h) (is_accepted net) step_limit_under x
 
 -- resolution under tables for an access
-abbrev pub ResolvesFor : List NodeDecl → List Meaning → List (List ℕ) → Access → Name → Name → Type 0
+abbrev pub ResolvesFor : List NodeDecl → List Meaning → List (List ℕ) → Access → Name → Name →
+    Type 0
 ResolvesFor net kinds words access x y =
     ResolvesUnder net (allowing access (record_held net kinds words)) x y
 
@@ -116,8 +118,8 @@ pub record IsHeld (net : List NodeDecl) (node slot : ℕ) (r : Record) : Type 0 
 -- Each record that tables hold stands in a slot of a unit that can hold it.
 abbrev pub HeldRecordsFit : Type 0
 HeldRecordsFit = (net : List NodeDecl) (kinds : List Meaning) (words : List (List ℕ)) →
-    All IsLawful kinds → (node slot : ℕ) (r : Record) → record_held net kinds words node slot ≡ Some r →
-    IsHeld net node slot r
+    All IsLawful kinds → (node slot : ℕ) (r : Record) →
+    record_held net kinds words node slot ≡ Some r → IsHeld net node slot r
 
 -- The list of names has exactly those to which a name resolves under records.
 abbrev pub NamesUnderAreResolved : Type 0

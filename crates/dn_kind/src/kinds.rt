@@ -7,8 +7,8 @@ ghost use Rattle.dn_kind.specs.Kind.{IsLawful};
 use crate::unit_kind::UnitKind;
 use std::alloc::{AllocError, Global};
 
-/// The kinds of units that a program knows, in order. Each call that takes them asks that each keeps
-/// the laws of kinds; a list that is made by [`Kinds::none`] and [`Kinds::add`] has only such kinds.
+/// The kinds of units that a program knows, in order. Each call that takes them asks that each
+/// keeps the laws of kinds; a list made by [`Kinds::none`] and [`Kinds::add`] has only such kinds.
 #[derive(Drop)]
 pub struct Kinds {
     list: Vec<Box<dyn UnitKind>>,

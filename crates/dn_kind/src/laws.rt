@@ -33,8 +33,8 @@ pub fn more_records_keep_names()
     ensures { MoreRecordsKeepNames }
 {}
 
-/// Tables in which the slots whose records do not allow an access have words 0 hold the records that
-/// allow it, and no others.
+/// Tables in which the slots whose records do not allow an access have words 0 hold the records
+/// that allow it, and no others.
 pub fn cleared_tables_allow()
     ensures { ClearedTablesAllow }
 {}
@@ -46,8 +46,8 @@ pub fn law_of_access()
 {}
 
 /// Where no name forks on its way to a unit, a name that reaches a unit under records has one way
-/// to it: of two chains from the name, of which the first ends in a unit, one goes on where the other
-/// ends.
+/// to it: of two chains from the name, of which the first ends in a unit, one goes on where the
+/// other ends.
 pub fn one_way_to_unit()
     ensures { OneWayToUnit }
 {}
@@ -58,8 +58,8 @@ pub fn chain_passes_slots()
     ensures { ChainPassesSlots }
 {}
 
-/// Where no name forks on its way to a unit, a name has one row of slots: to whatever accepted names
-/// it comes, it goes through the same slots in the same order.
+/// Where no name forks on its way to a unit, a name has one row of slots: to whatever accepted
+/// names it comes, it goes through the same slots in the same order.
 pub fn one_row_of_slots()
     ensures { OneRowOfSlots }
 {}

@@ -2,10 +2,10 @@
 //! names come to under them.
 //!
 //! A unit divides its input into slots. A slot holds a record, which is a port, an output page and
-//! rights, in one to four 64-bit words; which words spell which record is told by the unit's kind, a
-//! [`unit_kind::UnitKind`]. [`kinds`] has the list of kinds, [`units`] the rule on the shape of each
-//! unit, [`slots`] the record that a slot holds, and [`laws`] the laws on what names come to under
-//! the records of tables.
+//! rights, in one to four 64-bit words; which words spell which record is told by the unit's kind,
+//! a [`unit_kind::UnitKind`]. [`kinds`] has the list of kinds, [`units`] the rule on the shape of
+//! each unit, [`slots`] the record that a slot holds, and [`laws`] the laws on what names come to
+//! under the records of tables.
 #![tactic(auto)]
 
 pub mod kinds;

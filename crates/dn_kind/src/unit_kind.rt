@@ -19,8 +19,8 @@ pub struct Record {
 }
 
 impl Record {
-    /// Whether a unit of this shape can hold the record: the port is one of its, and the output page
-    /// is below `2^(reach - page)`.
+    /// Whether a unit of this shape can hold the record: the port is one of its, and the output
+    /// page is below `2^(reach - page)`.
     pub fn is_within(self, shape: Shape) -> bool
         requires { IsTrue (is_plain shape) }
         ensures { result ≡ is_within shape self }
@@ -49,8 +49,8 @@ pub trait UnitKind: Drop {
     /// Leaves the words of the record in the first places, and 0 in the others.
     fn pack(&self, shape: Shape, record: Record, out: &mut [u64; 4])
         requires { IsPackable (meaning self.now) shape «record» }
-        ensures { out.new
-            ≡ (meaning self.now).pack shape «record» ++ replicate (4 - (meaning self.now).words) 0 };
+        ensures { out.new ≡ (meaning self.now).pack shape «record»
+            ++ replicate (4 - (meaning self.now).words) 0 };
 
     /// The record that the words spell. `None` exactly where they spell none.
     fn unpack(&self, words: &[u64]) -> Option<Record>

@@ -24,7 +24,8 @@ pub enum UnitFault {
 /// Tests the shape of each unit, in the order of the nodes. It takes no memory.
 pub fn check_units(net: &Net, kinds: &Kinds) -> Result<(), UnitFault>
     requires lawful { All (λ k. IsLawful (meaning k)) kinds.now.list.items }
-    requires known { IsTrue (list_all (λ n. has_kind (length kinds.now.list.items) n.unit) net.now) }
+    requires known { IsTrue
+        (list_all (λ n. has_kind (length kinds.now.list.items) n.unit) net.now) }
     ensures { Checks unit_fault_view result
         (shape_fault (map (λ k. meaning k) kinds.now.list.items) net.now) }
 {

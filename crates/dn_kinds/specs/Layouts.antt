@@ -20,10 +20,11 @@ denied access rights = if allows rights access then 0 else 1
 abbrev pub denials : Rights → ℕ
 denials rights = 2 ^ 4 * denied Read rights + 2 ^ 5 * denied Write rights
 
--- the rights to read alone, and to write alone
+-- reading alone
 abbrev pub reading : Rights
 reading = record { 0 = 1 }
 
+-- writing alone
 abbrev pub writing : Rights
 writing = record { 0 = 2 }
 
@@ -39,11 +40,12 @@ abbrev pub record_with : ℕ → ℕ → Option Rights → Option Record
 record_with port page None = None
 record_with port page (Some rights) = Some (record { port = port; page = page; rights = rights })
 
--- `pages`: bit 0 the gate, bits 1 to 3 zero, bits 4 and 5 the denials, bits 6 and 7 zero, bits 8 to 63 the output page.
--- The port is 0.
+-- the word of a record of `pages`: bit 0 the gate, bits 1 to 3 zero, bits 4 and 5 the denials, bits
+-- 6 and 7 zero, bits 8 to 63 the output page; the port is 0
 abbrev pub pack_pages : Shape → Record → List ℕ
 pack_pages shape r = (1 + denials r.rights + 2 ^ 8 * r.page) ∷ []
 
+-- the record that a word spells in `pages`
 abbrev pub unpack_pages : List ℕ → Option Record
 unpack_pages [] = None
 unpack_pages (w ∷ []) =
@@ -52,6 +54,7 @@ unpack_pages (w ∷ []) =
     else None
 unpack_pages (w ∷ v ∷ ws) = None
 
+-- the kind `pages`
 abbrev pub pages : Meaning
 pages = record {
   name = codes "pages";
@@ -61,10 +64,11 @@ pages = record {
   unpack = unpack_pages;
 }
 
--- `remap`: as `pages`, but for the port in bits 1 to 3
+-- the word of a record of `remap`: as in `pages`, but for the port in bits 1 to 3
 abbrev pub pack_remap : Shape → Record → List ℕ
 pack_remap shape r = (1 + 2 ^ 1 * r.port + denials r.rights + 2 ^ 8 * r.page) ∷ []
 
+-- the record that a word spells in `remap`
 abbrev pub unpack_remap : List ℕ → Option Record
 unpack_remap [] = None
 unpack_remap (w ∷ []) =
@@ -73,6 +77,7 @@ unpack_remap (w ∷ []) =
     else None
 unpack_remap (w ∷ v ∷ ws) = None
 
+-- the kind `remap`
 abbrev pub remap : Meaning
 remap = record {
   name = codes "remap";
@@ -82,10 +87,12 @@ remap = record {
   unpack = unpack_remap;
 }
 
--- `vectors`: word 0 the output address; word 1 bit 0 the gate, bits 1 to 3 the port, bits 4 and 5 the denials, bits 6 to 63 zero
+-- the words of a record of `vectors`: word 0 the output address; in word 1 bit 0 the gate, bits 1
+-- to 3 the port, bits 4 and 5 the denials, bits 6 to 63 zero
 abbrev pub pack_vectors : Shape → Record → List ℕ
 pack_vectors shape r = r.page ∷ (1 + 2 ^ 1 * r.port + denials r.rights) ∷ []
 
+-- the record that two words spell in `vectors`
 abbrev pub unpack_vectors : List ℕ → Option Record
 unpack_vectors [] = None
 unpack_vectors (a ∷ []) = None
@@ -95,6 +102,7 @@ unpack_vectors (a ∷ w ∷ []) =
     else None
 unpack_vectors (a ∷ w ∷ v ∷ ws) = None
 
+-- the kind `vectors`
 abbrev pub vectors : Meaning
 vectors = record {
   name = codes "vectors";

@@ -18,8 +18,9 @@ use dn_kind::unit_kind::{Record, UnitKind};
 /// +-------------------------------------+---+---+---+-----+-+
 /// ```
 ///
-/// Bit 0 is the gate. R denies reading, and W denies writing. An input goes to `output page * 2^page` of port 0, plus
-/// its offset in its slot. A word with a clear gate, with a bit that must be zero, or with both R and W is no record.
+/// Bit 0 is the gate. R denies reading, and W denies writing. An input goes to
+/// `output page * 2^page` of port 0, plus its offset in its slot. A word with a clear gate, with a
+/// bit that must be zero, or with both R and W is no record.
 #[derive(Drop)]
 pub struct Pages;
 

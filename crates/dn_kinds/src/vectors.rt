@@ -8,7 +8,8 @@ use crate::layout::{GATE, PORT, bits, denials, rights_left};
 use dn_kind::shape::{MAX_PORTS, Shape};
 use dn_kind::unit_kind::{Record, UnitKind};
 
-/// The kind `vectors`: a table of 1 to 8 ports whose slots are single addresses, with two words for each record.
+/// The kind `vectors`: a table of 1 to 8 ports whose slots are single addresses, with two words for
+/// each record.
 ///
 /// ```text
 ///          63                                                 0
@@ -20,8 +21,9 @@ use dn_kind::unit_kind::{Record, UnitKind};
 ///          63                          6  5   4  3    1    0
 /// ```
 ///
-/// Bit 0 of word 1 is the gate. R denies reading, and W denies writing. An input goes to the output address of the port.
-/// Words with a clear gate, with a bit that must be zero, or with both R and W are no record.
+/// Bit 0 of word 1 is the gate. R denies reading, and W denies writing. An input goes to the output
+/// address of the port. Words with a clear gate, with a bit that must be zero, or with both R and W
+/// are no record.
 #[derive(Drop)]
 pub struct Vectors;
 
