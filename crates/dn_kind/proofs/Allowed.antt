@@ -1,16 +1,13 @@
 -- The law of access: tables in which the slots that do not allow an access have words 0 hold the records that allow it.
-use Rattle.std.proofs.Common.{◌≡◌, ℕ, zero, suc, ◌+◌, ◌*◌, ◌%◌, ◌<◌, ◌≤◌, ◌↔◌, Bool, true, false, if◌then◌else◌, nat_lt, List, [], ◌∷◌, ◌++◌, length, take, drop, replicate, slice_get, Option, Some, None, option_map, refl, sym, ap, ◌∙◌, subst, arith, length-drop, suc-mul, ltb-true}
+use Rattle.std.proofs.Common.{◌≡◌, ℕ, zero, suc, ◌+◌, ◌*◌, ◌%◌, ◌<◌, ◌≤◌, Bool, true, false, if◌then◌else◌, nat_lt, List, [], ◌∷◌, ◌++◌, length, take, drop, replicate, slice_get, Option, Some, None, option_map, refl, sym, ap, ◌∙◌, subst, arith, length-drop, suc-mul, ltb-true}
 use Rattle.std.specs.List.{All}
 use Rattle.std.proofs.lemmas.List.{take_at, drop_at, drop-drop, length-replicate, length-take-le}
-use Rattle.dn_net.specs.declared.node.Name.{Name}
 use Rattle.dn_net.specs.declared.node.NodeDecl.{NodeDecl}
 use Rattle.dn_net.specs.declared.node.Unit.{Unit as UnitPart}
 use Rattle.dn_net.specs.Decode.{unit_at}
 use Rattle.dn_kind.specs.declared.rights.Access.{Access}
 use Rattle.dn_kind.specs.declared.unit_kind.Record.{Record}
-use Rattle.dn_kind.specs.Rights.{allows}
-use Rattle.dn_kind.specs.Kind.{Meaning, IsLawful, gate_word, is_within}
-use Rattle.dn_kind.specs.Units.{unit_shape}
+use Rattle.dn_kind.specs.Kind.{Meaning, IsLawful, gate_word}
 use Rattle.dn_kind.specs.Tables.{Held, slot_words, record_within, record_spelled, record_of_unit, record_held, AreTables, record_allowing, allowing, ResolvesUnder}
 use Rattle.dn_kind.specs.Cleared.{kept_slots, kept_of_kind, kept_words, kept_tables, is_open, is_open_in, words_allowing, ClearedTablesAllow, LawOfAccess}
 use Rattle.dn_kind.proofs.Held.{kind_lawful}

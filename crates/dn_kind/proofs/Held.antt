@@ -1,5 +1,5 @@
 -- What is known of the records that tables hold, and of the kinds that spell them.
-use Rattle.std.proofs.Common.{◌≡◌, ℕ, ◌<◌, Bool, true, false, if◌then◌else◌, nat_lt, List, slice_get, Option, Some, None, IsTrue, refl, sym, ap, ◌∙◌, subst}
+use Rattle.std.proofs.Common.{◌≡◌, ℕ, Bool, true, false, if◌then◌else◌, nat_lt, List, slice_get, Option, Some, None, IsTrue, refl, subst}
 use Rattle.std.specs.List.{All}
 use Rattle.std.proofs.lemmas.Bool.{ltb-true}
 use Rattle.std.proofs.lemmas.List.Elements.{All-get_or}
@@ -9,7 +9,6 @@ use Rattle.dn_net.specs.declared.node.Unit.{Unit as UnitPart}
 use Rattle.dn_net.specs.Decode.{unit_at}
 use Rattle.dn_net.proofs.Members.{some_same}
 use Rattle.dn_kind.specs.declared.unit_kind.Record.{Record}
-use Rattle.dn_kind.specs.Rights.{are_rights}
 use Rattle.dn_kind.specs.Kind.{Meaning, IsLawful, is_within}
 use Rattle.dn_kind.specs.Units.{unit_shape}
 use Rattle.dn_kind.specs.Tables.{slot_words, record_within, record_spelled, record_of_unit, IsHeld, HeldRecordsFit}

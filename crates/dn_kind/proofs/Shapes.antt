@@ -1,14 +1,14 @@
 -- The rule on units, node by node.
-use Rattle.std.proofs.Common.{◌≡◌, ℕ, zero, suc, ◌+◌, ◌<◌, ◌≤◌, ◌↔◌, Bool, true, false, if◌then◌else◌, ◌&&◌, List, [], ◌∷◌, drop, length, slice_get, Option, Some, None, option_map, IsTrue, refl, sym, ap, ◌∙◌, subst, arith}
+use Rattle.std.proofs.Common.{◌≡◌, ℕ, zero, suc, ◌+◌, ◌<◌, ◌≤◌, Bool, true, false, if◌then◌else◌, List, [], ◌∷◌, drop, length, slice_get, Option, Some, None, option_map, IsTrue, refl, sym, ap, ◌∙◌, subst, arith}
 use Rattle.std.specs.List.{list_all}
 use Rattle.std.proofs.lemmas.Bool.{and_parts}
 use Rattle.std.proofs.lemmas.List.{at_drop_all}
 use Rattle.dn_net.specs.declared.node.NodeDecl.{NodeDecl}
 use Rattle.dn_net.specs.declared.node.Unit.{Unit as UnitPart}
-use Rattle.dn_net.specs.Decode.{unit_of, unit_at}
+use Rattle.dn_net.specs.Decode.{unit_at}
 use Rattle.dn_net.proofs.Members.{some_same}
 use Rattle.dn_kind.specs.Kind.{Meaning}
-use Rattle.dn_kind.specs.Units.{is_shaped, has_shape, has_kind, shape_fault_from, shape_fault, KeepsUnitShape, IsFirstMisshapen, ShapeFaultIsFirst}
+use Rattle.dn_kind.specs.Units.{is_shaped, has_shape, has_kind, shape_fault_from, IsFirstMisshapen, ShapeFaultIsFirst}
 
 -- the unit of a node has one of the kinds where that of each node has
 pub kind_known : (count : ℕ) (net : List NodeDecl) (i : ℕ) (o : Option UnitPart) → IsTrue (list_all (λ n. has_kind count n.unit) net) → option_map (λ d. d.unit) (slice_get net i) ≡ Some o → IsTrue (has_kind count o)

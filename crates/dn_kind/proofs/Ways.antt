@@ -1,5 +1,5 @@
 -- More records take no name away, and a name that reaches a unit has one way to it.
-use Rattle.std.proofs.Common.{◌≡◌, ℕ, zero, suc, ◌+◌, ◌/◌, ◌^◌, ◌≤◌, ◌⊎◌, inl, inr, Bool, true, false, if◌then◌else◌, ◌&&◌, List, [], ◌∷◌, ◌++◌, length, Option, Some, None, is_some, refl, sym, ap, ◌∙◌, subst, arith, zero-add, nat_le, slice_get, IsTrue}
+use Rattle.std.proofs.Common.{◌≡◌, ℕ, zero, suc, ◌+◌, ◌/◌, ◌^◌, ◌≤◌, ◌⊎◌, inl, inr, Bool, true, false, if◌then◌else◌, List, [], ◌∷◌, ◌++◌, length, Option, Some, None, is_some, refl, sym, ap, ◌∙◌, subst, arith, zero-add, nat_le, slice_get, IsTrue}
 use Rattle.std.specs.List.{list_all}
 use Rattle.std.proofs.lemmas.Bool.{and_parts}
 use Rattle.dn_net.specs.declared.node.Name.{Name}
@@ -8,8 +8,8 @@ use Rattle.dn_net.specs.declared.node.Unit.{Unit as UnitPart}
 use Rattle.dn_net.specs.Chain.{Member, Chain, Reaches}
 use Rattle.dn_net.specs.Decode.{top, in_some_block, is_formed, is_accepted, is_accepted_at, is_stop, is_stop_at, unit_of, unit_at, steps, Step}
 use Rattle.dn_net.proofs.Steps.{unit_is_bare, node_at}
-use Rattle.dn_kind.specs.Tables.{Held, to_port, output, steps_by_unit, steps_under, StepUnder, ResolvesUnder, Extends, MoreRecordsKeepNames}
-use Rattle.dn_kind.specs.Ways.{NoFork, Slot, slot_in, PassesIn, Passes, OneWayToUnit, ChainPassesSlots, OneRowOfSlots}
+use Rattle.dn_kind.specs.Tables.{Held, to_port, output, steps_by_unit, steps_under, StepUnder, Extends, MoreRecordsKeepNames}
+use Rattle.dn_kind.specs.Ways.{NoFork, Slot, slot_in, PassesIn, OneWayToUnit, ChainPassesSlots, OneRowOfSlots}
 
 -- chains of a relation are chains of a wider one
 chain_more : {X : Type 0} (S Q : X → X → Type 0) → ((x y : X) → S x y → Q x y) → (k : ℕ) (x y : X) → Chain S k x y → Chain Q k x y

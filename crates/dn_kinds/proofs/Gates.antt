@@ -1,5 +1,5 @@
 -- Gate words: their bits, and the rights that they leave.
-use Rattle.std.proofs.Common.{◌≡◌, ℕ, zero, suc, ◌+◌, ◌*◌, ◌/◌, ◌%◌, ◌^◌, ◌-◌, ◌<◌, ◌≤◌, Bool, true, false, ◌&&◌, if◌then◌else◌, ◌==◌, nat_le, nat_lt, List, [], ◌∷◌, length, Option, Some, None, IsTrue, refl, sym, ap, ◌∙◌, subst, arith}
+use Rattle.std.proofs.Common.{◌≡◌, ℕ, zero, suc, ◌+◌, ◌*◌, ◌%◌, ◌^◌, ◌-◌, ◌<◌, ◌≤◌, Bool, true, false, if◌then◌else◌, ◌==◌, Option, Some, None, IsTrue, refl, subst, arith}
 use Rattle.std.proofs.Math.Pow.{pow_mono}
 use Rattle.std.proofs.lemmas.Bool.{and_parts, leb-true, ltb-true}
 use Rattle.dn_kind.specs.declared.rights.Access.{Access}
@@ -8,8 +8,8 @@ use Rattle.dn_kind.specs.declared.rights.Rights.{Rights}
 use Rattle.dn_kind.specs.declared.shape.Shape.{Shape}
 use Rattle.dn_kind.specs.declared.unit_kind.Record.{Record}
 use Rattle.dn_kind.specs.Rights.{allows, are_rights, both_rights}
-use Rattle.dn_kind.specs.Kind.{Meaning, IsPackable, is_plain, is_within}
-use Rattle.dn_kinds.specs.Layouts.{bits, denied, denials, reading, writing, rights_left, record_with}
+use Rattle.dn_kind.specs.Kind.{Meaning, IsPackable, is_plain}
+use Rattle.dn_kinds.specs.Layouts.{bits, denied, reading, writing, rights_left, record_with}
 
 -- a shape that a unit may have has at most 8 ports, and outputs below 2^56
 pub few_ports : (shape : Shape) → IsTrue (is_plain shape) → shape.ports ≤ 8
