@@ -22,7 +22,7 @@ use Rattle.dn_net.specs.WalkRules.{IsListed}
 use Rattle.dn_net.specs.Rules.{KeepsNodeRules}
 use Rattle.dn_net.proofs.Least.{within_from, within_to}
 use Rattle.dn_walk.specs.declared.walks.WalkRow.{WalkRow}
-use Rattle.dn_walk.specs.Rows.{told_by_row, told_by_walk}
+use Rattle.dn_walk.specs.Rows.{row_view, told_by_walk}
 use Rattle.dn_net.proofs.Choices.{chain_is_walk}
 use Rattle.dn_net.proofs.Listed.{live_walks_are_all}
 use Rattle.dn_flat.specs.Found.{comes, stays, goes_by}
@@ -47,7 +47,7 @@ come_from : (r : WalkRow) (a : ℕ) (y : End) → Come r a y → comes r a y ≡
 come_from r a y c = and_from (in_span r.span a) (nat_eq r.end y.node && nat_eq (r.base + (a - r.span.lo)) y.base) (in_from r.span a c.lo c.hi) (and_from (nat_eq r.end y.node) (nat_eq (r.base + (a - r.span.lo)) y.base) (eq-eqb r.end y.node c.node) (eq-eqb (r.base + (a - r.span.lo)) y.base c.base))
 
 -- a row and its walk lead an address to the same name
-come_of_walk : (r : WalkRow) (w : Walk) (a : ℕ) (y : End) → told_by_row r ≡ told_by_walk w → IsTrue (within a w.span) → moved_name (a - w.span.lo) w.to ≡ name_of_end y → Come r a y
+come_of_walk : (r : WalkRow) (w : Walk) (a : ℕ) (y : End) → row_view r ≡ told_by_walk w → IsTrue (within a w.span) → moved_name (a - w.span.lo) w.to ≡ name_of_end y → Come r a y
 come_of_walk r w a y e i m =
     let b = within_to a w.span i in
     let lo : r.span.lo ≡ w.span.lo = ap (λ t. t.lo) e in
@@ -62,7 +62,7 @@ come_of_walk r w a y e i m =
 name_same : (m n b c : ℕ) → m ≡ n → b ≡ c → ◌≡◌ {A = Name} (record { node = m; addr = b }) (record { node = n; addr = c })
 name_same m n b c e f = λ i. record { node = e i; addr = f i }
 
-walk_of_come : (r : WalkRow) (w : Walk) (a : ℕ) (y : End) → told_by_row r ≡ told_by_walk w → Come r a y → IsTrue (within a w.span) × (moved_name (a - w.span.lo) w.to ≡ name_of_end y)
+walk_of_come : (r : WalkRow) (w : Walk) (a : ℕ) (y : End) → row_view r ≡ told_by_walk w → Come r a y → IsTrue (within a w.span) × (moved_name (a - w.span.lo) w.to ≡ name_of_end y)
 walk_of_come r w a y e c =
     let lo : r.span.lo ≡ w.span.lo = ap (λ t. t.lo) e in
     let hi : r.span.hi ≡ w.span.hi = ap (λ t. t.hi) e in
@@ -89,7 +89,7 @@ module _ (net : List NodeDecl) (checked : KeepsNodeRules net) (rows : List WalkR
       let i : IsListed net w.0 = (all.0 w.0 w.1).0 in
       let g : Follows net (record { node = w.0.start; addr = a }) w.0.choices (name_of_end y) = subst (λ n. Follows net (record { node = n; addr = a }) w.0.choices (name_of_end y)) (sym w.2) (subst (λ cs. Follows net here cs (name_of_end y)) (sym w.3) f) in
       let t = (i.follows a (name_of_end y) low).0 g in
-      let r = same_member told_by_walk told_by_row (live_walks net step_limit) rows (sym are) w.0 w.1 in
+      let r = same_member told_by_walk row_view (live_walks net step_limit) rows (sym are) w.0 w.1 in
       let len : r.0.len ≡ length w.0.choices = ap (λ t. t.len) (sym r.2) in
       let long : length w.0.choices ≡ length choices = ap length w.3 in
       let limit : step_limit ≡ 65 = limit_is in
@@ -119,7 +119,7 @@ module _ (net : List NodeDecl) (checked : KeepsNodeRules net) (rows : List WalkR
       by_row (r, m, e) =
           let p = and_parts (nat_lt r.len 66 && nat_eq r.start node) (comes r a y) e in
           let q = and_parts (nat_lt r.len 66) (nat_eq r.start node) p.0 in
-          let w = same_member told_by_row told_by_walk rows (live_walks net step_limit) are r m in
+          let w = same_member row_view told_by_walk rows (live_walks net step_limit) are r m in
           let all = (live_walks_are_all net checked step_limit).0 w.0 w.1 in
           let t = walk_of_come r w.0 a y w.2 (come_means r a y p.1) in
           let f = (all.0.follows a (name_of_end y) low).1 t in

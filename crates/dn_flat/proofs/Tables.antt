@@ -11,7 +11,7 @@ use Rattle.dn_net.specs.Decode.{top, step_limit}
 use Rattle.dn_net.specs.Walks.{Walk, live_walks, starts_before, Precedes}
 use Rattle.dn_net.specs.Rules.{KeepsNodeRules}
 use Rattle.dn_walk.specs.declared.walks.WalkRow.{WalkRow}
-use Rattle.dn_walk.specs.Rows.{told_by_row, told_by_walk}
+use Rattle.dn_walk.specs.Rows.{row_view, told_by_walk}
 use Rattle.dn_net.proofs.Levels.{IsRow, level_is_row}
 use Rattle.dn_net.proofs.Listed.{level_of_listed}
 use Rattle.dn_net.proofs.Members.{some_same}
@@ -26,7 +26,7 @@ limit_is = refl
 
 -- the rows tell what the live walks tell
 abbrev pub AreRowsOf : List NodeDecl → List WalkRow → Type 0
-AreRowsOf net rows = map told_by_row rows ≡ map told_by_walk (live_walks net step_limit)
+AreRowsOf net rows = map row_view rows ≡ map told_by_walk (live_walks net step_limit)
 
 -- two lists that tell the same tell the same at each place
 
@@ -96,8 +96,8 @@ module _ (net : List NodeDecl) (checked : KeepsNodeRules net) (rows : List WalkR
     where
       before : i < j → comes_first len start (get_or rows i d) ≡ true
       before k =
-          let v = same_at told_by_row told_by_walk rows (live_walks net step_limit) are i (get_or rows i d) (slice_get-get_or rows i d (omega arith)) in
-          let w = same_at told_by_row told_by_walk rows (live_walks net step_limit) are j (get_or rows j d) (slice_get-get_or rows j d h) in
+          let v = same_at row_view told_by_walk rows (live_walks net step_limit) are i (get_or rows i d) (slice_get-get_or rows i d (omega arith)) in
+          let w = same_at row_view told_by_walk rows (live_walks net step_limit) are j (get_or rows j d) (slice_get-get_or rows j d h) in
           let p = precedes_means v.0 w.0 (live_walks_are_in_order net checked step_limit i j v.0 w.0 v.1 w.1 k) in
           let vl : (get_or rows i d).len ≡ length v.0.choices = ap (λ t. t.len) v.2 in
           let wl : (get_or rows j d).len ≡ length w.0.choices = ap (λ t. t.len) w.2 in
@@ -107,7 +107,7 @@ module _ (net : List NodeDecl) (checked : KeepsNodeRules net) (rows : List WalkR
 
   pub led : All (IsLed (length net)) rows
   led k d l =
-      let w = same_at told_by_row told_by_walk rows (live_walks net step_limit) are k (get_or rows k d) (slice_get-get_or rows k d l) in
+      let w = same_at row_view told_by_walk rows (live_walks net step_limit) are k (get_or rows k d) (slice_get-get_or rows k d l) in
       let g = level_of_listed net step_limit w.0 (member_at (live_walks net step_limit) k w.0 w.1) in
       let r : IsRow net g.0 w.0 = level_is_row net checked g.0 w.0 g.3 in
       let node : w.0.to.node < length net = r.node in

@@ -1,6 +1,6 @@
 //! The flattened view of a node.
 
-ghost use Rattle.std.specs.Prelude.{◌≡◌, ◌<◌, ◌≤◌, ◌&&◌, ◌||◌, ℕ, IfOk, IsTrue, None, length, All};
+ghost use Rattle.std.specs.Prelude.{◌≡◌, ◌<◌, ◌≤◌, ◌&&◌, ◌||◌, ℕ, IfOk, IsTrue, length, All};
 ghost use Rattle.dn_interval.specs.declared.row.End.{End};
 ghost use Rattle.dn_interval.specs.Rows.{AreNormal, ends_within};
 ghost use Rattle.dn_interval.specs.Strands.{seg_gives, segs_give};

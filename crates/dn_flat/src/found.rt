@@ -2,7 +2,6 @@
 //! that come out in a unit.
 
 ghost use Rattle.std.specs.Prelude.{◌≡◌, ◌<◌, ◌≤◌, ◌+◌, ◌-◌, ◌&&◌, ◌||◌, ℕ, length, OnOk, All};
-ghost use Rattle.std.specs.List.{list_any};
 ghost use Rattle.std.specs.List.Sorted.{IsPartitionPoint};
 ghost use Rattle.dn_interval.specs.declared.row.End.{End};
 ghost use Rattle.dn_interval.specs.declared.span.Span.{Span};
@@ -98,7 +97,8 @@ fn push_accepted(segs: &mut Vec<Seg>, spans: &[Span], seg: Seg) -> Result<(), Ou
 fn ended_before(spans: &[Span], a: u64) -> usize
     requires { AreMaximal spans.now }
     ensures within { result ≤ length spans.now }
-    ensures place { IsPartitionPoint (λ (s : Span). s.hi < a) (λ (s : Span). a ≤ s.hi) spans.now result }
+    ensures place { IsPartitionPoint (λ (s : Span). s.hi < a)
+        (λ (s : Span). a ≤ s.hi) spans.now result }
 {
     spans.partition_point(|span| span.hi < a)
 }

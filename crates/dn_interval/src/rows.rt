@@ -77,7 +77,8 @@ impl Rows {
 fn ended_before(rows: &[Row], a: u64) -> usize
     requires { Apart 0 rows.now }
     ensures within { result ≤ length rows.now }
-    ensures place { IsPartitionPoint (λ (r : Row). r.span.hi < a) (λ (r : Row). a ≤ r.span.hi) rows.now result }
+    ensures place { IsPartitionPoint (λ (r : Row). r.span.hi < a)
+        (λ (r : Row). a ≤ r.span.hi) rows.now result }
 {
     rows.partition_point(|row| row.span.hi < a)
 }

@@ -96,7 +96,8 @@ impl SpanSet {
 fn ended_before(spans: &[Span], a: u64) -> usize
     requires { AreMaximal spans.now }
     ensures within { result ≤ length spans.now }
-    ensures place { IsPartitionPoint (λ (s : Span). s.hi < a) (λ (s : Span). a ≤ s.hi) spans.now result }
+    ensures place { IsPartitionPoint (λ (s : Span). s.hi < a)
+        (λ (s : Span). a ≤ s.hi) spans.now result }
 {
     spans.partition_point(|span| span.hi < a)
 }
@@ -105,7 +106,8 @@ fn ended_before(spans: &[Span], a: u64) -> usize
 fn begun_by(spans: &[Span], a: u64) -> usize
     requires { AreMaximal spans.now }
     ensures within { result ≤ length spans.now }
-    ensures place { IsPartitionPoint (λ (s : Span). s.lo ≤ a) (λ (s : Span). a < s.lo) spans.now result }
+    ensures place { IsPartitionPoint (λ (s : Span). s.lo ≤ a)
+        (λ (s : Span). a < s.lo) spans.now result }
 {
     spans.partition_point(|span| span.lo <= a)
 }

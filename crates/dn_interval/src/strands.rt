@@ -1,6 +1,6 @@
 //! The strands of segments.
 
-ghost use Rattle.std.specs.Prelude.{◌≡◌, ℕ, ◌+◌, ◌-◌, ◌≤◌, ◌<◌, ◌||◌, ◌&&◌, nat_eq, nat_le, not, IfOk};
+ghost use Rattle.std.specs.Prelude.{◌≡◌, ℕ, ◌+◌, ◌-◌, ◌≤◌, ◌<◌, ◌||◌, ◌&&◌, nat_eq, nat_le, IfOk};
 ghost use Rattle.std.specs.List.{All};
 ghost use Rattle.std.specs.List.Sorted.{IsSorted, IsNonDecreasingBy};
 ghost use Rattle.dn_interval.specs.declared.row.Seg.{Seg};
@@ -19,8 +19,10 @@ use std::alloc::Global;
 pub fn strands_of(alloc: Global, segs: &[Seg]) -> Result<Vec<Strand>, OutOfMemory>
     ensures same { IfOk result (λ strands. (a : ℕ) (y : End) → strands_give strands.items a y
         ≡ segs_give segs.now a y) }
-    ensures maximal { IfOk result (λ strands. All (IsMaximal (strands_give strands.items)) strands.items) }
-    ensures sorted { IfOk result (λ strands. IsNonDecreasingBy (λ (s : Strand). s.span.lo) strands.items) }
+    ensures maximal { IfOk result
+        (λ strands. All (IsMaximal (strands_give strands.items)) strands.items) }
+    ensures sorted { IfOk result (λ strands. IsNonDecreasingBy
+        (λ (s : Strand). s.span.lo) strands.items) }
 {
     let mut single = each_alone(alloc, segs)?;
     single.sort_unstable_by_key(|strand| (strand.node, strand.slide, strand.span.lo));

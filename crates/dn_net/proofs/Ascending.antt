@@ -5,7 +5,7 @@ use Rattle.std.specs.List.{insert}
 use Rattle.std.specs.List.Sorted.{IsPartitionedBy}
 use Rattle.dn_net.specs.declared.node.Name.{Name}
 use Rattle.dn_net.specs.Chain.{Member}
-use Rattle.dn_net.specs.Names.{name_lt, name_eq, with_name, is_before_first, is_ascending, sorted_names, passing, reached, end_names}
+use Rattle.dn_net.specs.Names.{name_lt, name_eq, with_name, is_before_first, is_ascending, sorted_names, passing_names, reached_names, end_names}
 use Rattle.dn_net.proofs.Least.{either_true, both_true, true_left, true_right, true_both}
 
 comes : (x y : Name) → name_lt x y ≡ true → (x.node < y.node) ⊎ ((x.node ≡ y.node) × (x.addr < y.addr))
@@ -158,4 +158,4 @@ before_members x z (y ∷ ys) up m = go (before_members y z ys parts.1) m
 
 -- and so does the list of those that pass and end a chain
 pub end_names_ascend : (f : Name → List Name) (passes : Name → Bool) (n : ℕ) (x : Name) → is_ascending (end_names f passes n x) ≡ true
-end_names_ascend f passes n x = sorted_ascending (passing passes (reached f n (x ∷ [])))
+end_names_ascend f passes n x = sorted_ascending (passing_names passes (reached_names f n (x ∷ [])))

@@ -6,7 +6,7 @@ use Rattle.dn_net.specs.declared.node.Entry.{Entry}
 use Rattle.dn_net.specs.declared.node.Name.{Name}
 use Rattle.dn_net.specs.declared.node.NodeDecl.{NodeDecl}
 use Rattle.dn_net.specs.Chain.{Member, Chain}
-use Rattle.dn_net.specs.Decode.{top, within, in_some_block, by_over, by_entries, sent, sent_names, moved, Step}
+use Rattle.dn_net.specs.Decode.{top, within, in_some_block, by_over, by_entries, decode, sent_names, moved, Step}
 use Rattle.dn_net.specs.Rules.{KeepsRules}
 use Rattle.dn_net.specs.Walks.{Choice, mapped_by, over_gap, in_some_entry, is_free, IsGap, Leads, Follows, moved_name}
 use Rattle.dn_net.specs.WalkRules.{ChainIsWalk}
@@ -138,7 +138,7 @@ pub record ChosenBy (o : Option NodeDecl) (a : ℕ) (y : Name) : Type 0 where
   pub to : moved_name (a - block.lo) name ≡ y
 
 -- a step is a choice that the address follows
-pub choice_of_step : (o : Option NodeDecl) (a : ℕ) (y : Name) → Member y (sent_names (sent a o)) → ChosenBy o a y
+pub choice_of_step : (o : Option NodeDecl) (a : ℕ) (y : Name) → Member y (sent_names (decode a o)) → ChosenBy o a y
 choice_of_step None a y m = elim m [ ]
 choice_of_step (Some n) a y m = tests (nat_le a top) (in_some_block a n.accepts) refl refl m
   where
@@ -215,7 +215,7 @@ free_parts n a f = by (in_some_block a n.accepts) (in_some_entry a n.entries) f
     by true q x = cc
 
 -- a choice that an address follows is a step, in a node whose blocks are apart
-step_of_choice : (o : Option NodeDecl) → ((n : NodeDecl) → o ≡ Some n → IsApart n) → (a : ℕ) (c : Choice) (b : Block) (d : Name) → Leads o c b d → IsTrue (within a b) → Member (moved_name (a - b.lo) d) (sent_names (sent a o))
+step_of_choice : (o : Option NodeDecl) → ((n : NodeDecl) → o ≡ Some n → IsApart n) → (a : ℕ) (c : Choice) (b : Block) (d : Name) → Leads o c b d → IsTrue (within a b) → Member (moved_name (a - b.lo) d) (sent_names (decode a o))
 step_of_choice None apart a c b d e w = absurd e
 step_of_choice (Some n) apart a c b d e w = by c e
   where
@@ -225,10 +225,10 @@ step_of_choice (Some n) apart a c b d e w = by c e
     parts : (b.lo ≤ a) × (a ≤ b.hi)
     parts = within_to a b w
 
-    decodes : nat_le a top ≡ true → in_some_block a n.accepts ≡ false → Member y (sent_names (by_entries a n.over n.entries)) → Member y (sent_names (sent a (Some n)))
+    decodes : nat_le a top ≡ true → in_some_block a n.accepts ≡ false → Member y (sent_names (by_entries a n.over n.entries)) → Member y (sent_names (decode a (Some n)))
     decodes low acc m = subst (λ p. Member y (sent_names (if p then (if in_some_block a n.accepts then None else by_entries a n.over n.entries) else None))) (sym low) (subst (λ p. Member y (sent_names (if p then None else by_entries a n.over n.entries))) (sym acc) m)
 
-    by : (c : Choice) → Leads (Some n) c b d → Member y (sent_names (sent a (Some n)))
+    by : (c : Choice) → Leads (Some n) c b d → Member y (sent_names (decode a (Some n)))
     by (mapped_by i j) e =
         let r = apart n refl in
         let hi : a ≤ b.hi = parts.1 in

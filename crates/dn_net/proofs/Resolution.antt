@@ -3,7 +3,7 @@ use Rattle.std.proofs.Common.{◌≡◌, ℕ, zero, suc, ◌≤◌, ◌⊎◌, �
 pub use Rattle.dn_base.proofs.Members.{member_left, member_right, member_cases}
 use Rattle.dn_net.specs.declared.node.Name.{Name}
 use Rattle.dn_net.specs.Chain.{Member, Chain, ReachesWithin, Ends}
-use Rattle.dn_net.specs.Names.{name_lt, name_eq, with_name, sorted_names, passing, each_step, after_steps, reached, end_names}
+use Rattle.dn_net.specs.Names.{name_lt, name_eq, with_name, sorted_names, passing_names, each_step, after_steps, reached_names, end_names}
 
 pub name_same : (x y : Name) → name_eq x y ≡ true → x ≡ y
 name_same x y e = go ((x.node == y.node)) ((x.addr == y.addr)) refl refl e
@@ -42,11 +42,11 @@ names_in (x ∷ xs) z =
     let ih = names_in xs z in
     ((λ m. elim (with_in x (sorted_names xs) z m) [ inl e ↦ inl e | inr n ↦ inr (ih.0 n) ]), (λ m. with_has x (sorted_names xs) z (elim m [ inl e ↦ inl e | inr n ↦ inr (ih.1 n) ])))
 
-pub passing_in : (p : Name → Bool) (xs : List Name) (z : Name) → Member z (passing p xs) ↔ (IsTrue (p z) × Member z xs)
+pub passing_in : (p : Name → Bool) (xs : List Name) (z : Name) → Member z (passing_names p xs) ↔ (IsTrue (p z) × Member z xs)
 passing_in p [] z = ((λ m. absurd m), (λ m. m.1))
 passing_in p (x ∷ xs) z = go (passing_in p xs z) (p x) refl
   where
-    go : Member z (passing p xs) ↔ (IsTrue (p z) × Member z xs) → (b : Bool) → p x ≡ b → Member z (if b then x ∷ passing p xs else passing p xs) ↔ (IsTrue (p z) × Member z (x ∷ xs))
+    go : Member z (passing_names p xs) ↔ (IsTrue (p z) × Member z xs) → (b : Bool) → p x ≡ b → Member z (if b then x ∷ passing_names p xs else passing_names p xs) ↔ (IsTrue (p z) × Member z (x ∷ xs))
     go ih true e = ((λ m. elim m [ inl s ↦ (subst (λ w. IsTrue (p w)) s e, inl s) | inr n ↦ (let r = ih.0 n in (r.0, inr r.1)) ]), (λ m. elim m.1 [ inl s ↦ inl s | inr n ↦ inr (ih.1 (m.0, n)) ]))
     go ih false e = ((λ m. let r = ih.0 m in (r.0, inr r.1)), (λ m. elim m.1 [ inl s ↦ (let f : p x ≡ true = subst (λ w. IsTrue (p w)) (sym s) m.0 in let g : false ≡ true = sym e ∙ f in cc) | inr n ↦ ih.1 (m.0, n) ]))
 
@@ -56,7 +56,7 @@ each_in f (x ∷ xs) z =
     let ih = each_in f xs z in
     ((λ m. elim (member_cases (f x) (each_step f xs) z m) [ inl n ↦ (x, inl refl, n) | inr n ↦ (let r = ih.0 n in (r.0, inr r.1, r.2)) ]), (λ m. elim m.1 [ inl s ↦ member_left (f x) (each_step f xs) z (subst (λ w. Member z (f w)) (sym s) m.2) | inr n ↦ member_right (f x) (each_step f xs) z (ih.1 (m.0, n, m.2)) ]))
 
-reached_in : (f : Name → List Name) (n : ℕ) (xs : List Name) (z : Name) → Member z (reached f n xs) ↔ ((x : Name) × Member x xs × ReachesWithin (λ a b. Member b (f a)) n x z)
+reached_in : (f : Name → List Name) (n : ℕ) (xs : List Name) (z : Name) → Member z (reached_names f n xs) ↔ ((x : Name) × Member x xs × ReachesWithin (λ a b. Member b (f a)) n x z)
 reached_in f zero xs z = ((λ m. (z, m, (0, (omega arith), refl))), (λ m. go m.0 m.1 m.2.0 m.2.1 m.2.2))
   where
     go : (x : Name) → Member x xs → (k : ℕ) → k ≤ 0 → Chain (λ a b. Member b (f a)) k x z → Member z xs
@@ -67,18 +67,18 @@ reached_in f (suc n) xs z = (down (reached_in f n (each_step f xs) z), up (reach
     S : Name → Name → Type 0
     S a b = Member b (f a)
 
-    down : Member z (reached f n (each_step f xs)) ↔ ((x : Name) × Member x (each_step f xs) × ReachesWithin S n x z) → Member z (xs ++ reached f n (each_step f xs)) → (x : Name) × Member x xs × ReachesWithin S (suc n) x z
-    down ih m = elim (member_cases xs (reached f n (each_step f xs)) z m) [
+    down : Member z (reached_names f n (each_step f xs)) ↔ ((x : Name) × Member x (each_step f xs) × ReachesWithin S n x z) → Member z (xs ++ reached_names f n (each_step f xs)) → (x : Name) × Member x xs × ReachesWithin S (suc n) x z
+    down ih m = elim (member_cases xs (reached_names f n (each_step f xs)) z m) [
       | inl k ↦ (z, k, (0, (omega arith), refl))
       | inr k ↦ (let r = ih.0 k in let p = (each_in f xs r.0).0 r.1 in let l : r.2.0 ≤ n = r.2.1 in (p.0, p.1, (suc r.2.0, (omega arith), (r.0, p.2, r.2.2))))
     ]
 
-    up : Member z (reached f n (each_step f xs)) ↔ ((x : Name) × Member x (each_step f xs) × ReachesWithin S n x z) → ((x : Name) × Member x xs × ReachesWithin S (suc n) x z) → Member z (xs ++ reached f n (each_step f xs))
+    up : Member z (reached_names f n (each_step f xs)) ↔ ((x : Name) × Member x (each_step f xs) × ReachesWithin S n x z) → ((x : Name) × Member x xs × ReachesWithin S (suc n) x z) → Member z (xs ++ reached_names f n (each_step f xs))
     up ih m = go m.0 m.1 m.2.0 m.2.1 m.2.2
       where
-        go : (x : Name) → Member x xs → (k : ℕ) → k ≤ suc n → Chain S k x z → Member z (xs ++ reached f n (each_step f xs))
-        go x i zero l c = member_left xs (reached f n (each_step f xs)) z (subst (λ w. Member w xs) c i)
-        go x i (suc k) l c = member_right xs (reached f n (each_step f xs)) z (ih.1 (c.0, (each_in f xs c.0).1 (x, i, c.1), (k, (omega arith), c.2)))
+        go : (x : Name) → Member x xs → (k : ℕ) → k ≤ suc n → Chain S k x z → Member z (xs ++ reached_names f n (each_step f xs))
+        go x i zero l c = member_left xs (reached_names f n (each_step f xs)) z (subst (λ w. Member w xs) c i)
+        go x i (suc k) l c = member_right xs (reached_names f n (each_step f xs)) z (ih.1 (c.0, (each_in f xs c.0).1 (x, i, c.1), (k, (omega arith), c.2)))
 
 -- the names after exactly so many steps are the ends of the chains of that length
 after_in : (f : Name → List Name) (n : ℕ) (xs : List Name) (z : Name) → Member z (after_steps f n xs) ↔ ((x : Name) × Member x xs × Chain (λ a b. Member b (f a)) n x z)
@@ -97,15 +97,15 @@ after_steps_is_chain f n x y =
 -- the list has the names that pass and end a chain
 pub end_names_are_ends : (f : Name → List Name) (passes : Name → Bool) (n : ℕ) (x y : Name) → Member y (end_names f passes n x) ↔ Ends f passes n x y
 end_names_are_ends f passes n x y =
-    let a = names_in (passing passes (reached f n (x ∷ []))) y in
-    let b = passing_in passes (reached f n (x ∷ [])) y in
+    let a = names_in (passing_names passes (reached_names f n (x ∷ []))) y in
+    let b = passing_in passes (reached_names f n (x ∷ [])) y in
     let c = reached_in f n (x ∷ []) y in (
       (λ m. let p = b.0 (a.0 m) in let q = c.0 p.1 in (p.0, elim q.1 [ inl s ↦ subst (λ w. ReachesWithin (λ a b. Member b (f a)) n w y) (sym s) q.2 | inr z ↦ absurd z ])),
       (λ m. a.1 (b.1 (m.0, c.1 (x, inl refl, m.1)))),
     )
 
 -- the names that are reached in at most so many steps are the ends of the chains of at most that length
-pub reached_is_within : (f : Name → List Name) (n : ℕ) (x y : Name) → Member y (reached f n (x ∷ [])) ↔ ReachesWithin (λ a b. Member b (f a)) n x y
+pub reached_is_within : (f : Name → List Name) (n : ℕ) (x y : Name) → Member y (reached_names f n (x ∷ [])) ↔ ReachesWithin (λ a b. Member b (f a)) n x y
 reached_is_within f n x y =
     let a = reached_in f n (x ∷ []) y in (
       (λ m. let q = a.0 m in elim q.1 [ inl s ↦ subst (λ w. ReachesWithin (λ a b. Member b (f a)) n w y) (sym s) q.2 | inr z ↦ absurd z ]),

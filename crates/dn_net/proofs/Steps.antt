@@ -7,7 +7,7 @@ use Rattle.dn_net.specs.declared.node.Dest.{Dest}
 use Rattle.dn_net.specs.declared.node.Entry.{Entry}
 use Rattle.dn_net.specs.declared.node.NodeDecl.{NodeDecl}
 use Rattle.dn_net.specs.declared.node.Unit.{Unit as UnitPart}
-use Rattle.dn_net.specs.Decode.{top, within, in_some_block, Sent, by_entries, is_formed, formed_by, is_bare, is_unit, unit_of, is_accepted_at, refers_within, over_within, ports_within, sent}
+use Rattle.dn_net.specs.Decode.{top, within, in_some_block, Sent, by_entries, is_formed, formed_by, is_bare, is_unit, unit_of, is_accepted_at, refers_within, over_within, ports_within, decode}
 use Rattle.dn_net.specs.Rules.{is_in_range, block_in_range, entry_in_range, dest_in_range}
 use Rattle.dn_net.specs.Parts.{over_dests}
 use Rattle.dn_net.proofs.Places.{both, list_all-at, list_all-implied}
@@ -49,18 +49,18 @@ bare_parts here a (x ∷ xs) entries over e f g = cc
 bare_parts here a [] (x ∷ xs) over e f g = cc
 bare_parts here a [] [] (Some m) e f g = cc
 
-bare_node : (n : NodeDecl) (a : ℕ) → IsTrue (is_bare n) → (is_accepted_at a (Some n) ≡ false) × (sent a (Some n) ≡ None)
+bare_node : (n : NodeDecl) (a : ℕ) → IsTrue (is_bare n) → (is_accepted_at a (Some n) ≡ false) × (decode a (Some n) ≡ None)
 bare_node n a bare =
     let first = both (nat_le (length n.accepts) 0) (nat_le (length n.entries) 0 && not (is_some n.over)) bare in
     let second = both (nat_le (length n.entries) 0) (not (is_some n.over)) first.1 in
     bare_parts (nat_le a top) a n.accepts n.entries n.over (nothing n.accepts first.0) (nothing n.entries second.0) (absent n.over second.1)
 
-unit_node : (n : NodeDecl) (a : ℕ) (u : Option UnitPart) → n.unit ≡ u → IsTrue (formed_by n u) → is_some u ≡ true → (is_accepted_at a (Some n) ≡ false) × (sent a (Some n) ≡ None)
+unit_node : (n : NodeDecl) (a : ℕ) (u : Option UnitPart) → n.unit ≡ u → IsTrue (formed_by n u) → is_some u ≡ true → (is_accepted_at a (Some n) ≡ false) × (decode a (Some n) ≡ None)
 unit_node n a None is formed some = cc
 unit_node n a (Some u) is formed some = bare_node n a (both (is_unit n.role) (is_bare n) formed).1
 
 -- a node that is a unit neither accepts nor leads anywhere
-pub unit_is_bare : (o : Option NodeDecl) (a : ℕ) → ((n : NodeDecl) → o ≡ Some n → IsTrue (is_formed n)) → is_some (unit_of o) ≡ true → (is_accepted_at a o ≡ false) × (sent a o ≡ None)
+pub unit_is_bare : (o : Option NodeDecl) (a : ℕ) → ((n : NodeDecl) → o ≡ Some n → IsTrue (is_formed n)) → is_some (unit_of o) ≡ true → (is_accepted_at a o ≡ false) × (decode a o ≡ None)
 unit_is_bare None a formed some = cc
 unit_is_bare (Some n) a formed some = unit_node n a n.unit refl (formed n refl) some
 

@@ -78,9 +78,9 @@ by_entries a over (e ∷ es) =
     else by_entries a over es
 
 -- where a node sends an address that it does not accept; a unit has neither entries nor `over`
-abbrev pub sent : ℕ → Option NodeDecl → Option Sent
-sent a None = None
-sent a (Some n) =
+abbrev pub decode : ℕ → Option NodeDecl → Option Sent
+decode a None = None
+decode a (Some n) =
     if nat_le a top then (if in_some_block a n.accepts then None else by_entries a n.over n.entries)
     else None
 
@@ -91,7 +91,7 @@ sent_names (Some s) = map (moved s.offset) s.dests
 
 -- the names to which a name decodes in one step
 abbrev pub steps : List NodeDecl → Name → List Name
-steps net x = sent_names (sent x.addr (slice_get net x.node))
+steps net x = sent_names (decode x.addr (slice_get net x.node))
 
 -- one step from a name to another
 abbrev pub Step : List NodeDecl → Name → Name → Type 0

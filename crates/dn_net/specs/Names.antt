@@ -34,9 +34,9 @@ sorted_names [] = []
 sorted_names (x ∷ xs) = with_name x (sorted_names xs)
 
 -- the names of a list that pass a test
-abbrev pub passing : (Name → Bool) → List Name → List Name
-passing p [] = []
-passing p (x ∷ xs) = if p x then x ∷ passing p xs else passing p xs
+abbrev pub passing_names : (Name → Bool) → List Name → List Name
+passing_names p [] = []
+passing_names p (x ∷ xs) = if p x then x ∷ passing_names p xs else passing_names p xs
 
 -- the names one step on from those of a list
 abbrev pub each_step : (Name → List Name) → List Name → List Name
@@ -49,13 +49,13 @@ after_steps f zero xs = xs
 after_steps f (suc n) xs = after_steps f n (each_step f xs)
 
 -- the names that are reached in at most so many steps
-abbrev pub reached : (Name → List Name) → ℕ → List Name → List Name
-reached f zero xs = xs
-reached f (suc n) xs = xs ++ reached f n (each_step f xs)
+abbrev pub reached_names : (Name → List Name) → ℕ → List Name → List Name
+reached_names f zero xs = xs
+reached_names f (suc n) xs = xs ++ reached_names f n (each_step f xs)
 
 -- the names that pass a test among those reached in at most so many steps, ascending
 abbrev pub end_names : (Name → List Name) → (Name → Bool) → ℕ → Name → List Name
-end_names f passes n x = sorted_names (passing passes (reached f n (x ∷ [])))
+end_names f passes n x = sorted_names (passing_names passes (reached_names f n (x ∷ [])))
 
 -- what a name resolves to, ascending
 abbrev pub resolved_names : List NodeDecl → Name → List Name
@@ -78,7 +78,7 @@ EndNamesAscend = (f : Name → List Name) (passes : Name → Bool) (n : ℕ) (x 
 -- The names that are reached in at most so many steps are the ends of the chains of at most that length.
 abbrev pub ReachedIsWithin : Type 0
 ReachedIsWithin = (f : Name → List Name) (n : ℕ) (x y : Name) →
-    Member y (reached f n (x ∷ [])) ↔ ReachesWithin (λ a b. Member b (f a)) n x y
+    Member y (reached_names f n (x ∷ [])) ↔ ReachesWithin (λ a b. Member b (f a)) n x y
 
 -- The names that are reached in exactly so many steps are the ends of the chains of that length.
 abbrev pub AfterStepsIsChain : Type 0

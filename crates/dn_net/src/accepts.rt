@@ -1,6 +1,6 @@
 //! The accept blocks of a node, where an address is sought by binary search.
 
-ghost use Rattle.std.specs.Prelude.{◌≡◌, ℕ, IfOk, slice_get, nat_le, nat_lt, if◌then◌else◌};
+ghost use Rattle.std.specs.Prelude.{◌≡◌, ℕ, IfOk, nat_lt, if◌then◌else◌};
 ghost use Rattle.std.specs.List.Sorted.{IsNonDecreasingBy};
 ghost use Rattle.dn_net.specs.Decode.{in_some_block};
 

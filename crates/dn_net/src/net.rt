@@ -1,6 +1,6 @@
 //! The nodes of a net, with their full names and numbers.
 
-ghost use Rattle.std.specs.Prelude.{◌≡◌, ◌≢◌, ◌↔◌, [], ◌∷◌, ◌++◌, OnOk, OnErr, IfOk, IfErr, Err, length, slice_get, map, option_map, position, false, true, Some, None, ◌<◌, ℕ, IsTrue, Option};
+ghost use Rattle.std.specs.Prelude.{◌≡◌, ◌≢◌, ◌↔◌, [], ◌∷◌, ◌++◌, OnErr, IfOk, length, slice_get, map, option_map, position, false, Some, None, ◌<◌, IsTrue, Option};
 ghost use Rattle.std.specs.List.{list_any, list_all};
 ghost use Rattle.std.specs.Str.{bytes_eq};
 ghost use Rattle.std.specs.Option.{option_copied, is_some};

@@ -1,8 +1,8 @@
 //! One step of decoding.
 
-ghost use Rattle.std.specs.Prelude.{◌≡◌, ◌≢◌, ◌↔◌, ℕ, Bool, Option, length, map, ◌-◌, ◌<◌, ◌≤◌, IfNone, IfSome, nat_lt, nat_le, IsTrue, slice_get, Some};
+ghost use Rattle.std.specs.Prelude.{◌≡◌, ◌≢◌, ◌↔◌, ℕ, Option, length, map, ◌-◌, ◌<◌, ◌≤◌, nat_lt, nat_le, IsTrue, slice_get, Some};
 ghost use Rattle.std.specs.List.{All, list_all, count_by};
-ghost use Rattle.dn_net.specs.Decode.{is_accepted, is_stop, steps, step_view, leads_within, leads_in_range, is_closed, sent, sent_names, by_over, by_entries, top, within, in_some_block, over_within};
+ghost use Rattle.dn_net.specs.Decode.{is_accepted, is_stop, steps, step_view, leads_within, leads_in_range, is_closed, decode, sent_names, by_over, by_entries, top, within};
 ghost use Rattle.dn_net.specs.Parts.{over_dests};
 ghost use Rattle.dn_net.specs.Rules.{KeepsRules, entry_in_range};
 
@@ -31,7 +31,7 @@ impl Net {
         requires rules { All KeepsRules self.now }
         ensures accepted { result ≡ Step.Accepted ↔ IsTrue (is_accepted self.now name) }
         ensures stop { result ≡ Step.Stop ↔ IsTrue (is_stop self.now name) }
-        ensures sent { step_view result ≡ sent name.addr (slice_get self.now name.node) }
+        ensures sent { step_view result ≡ decode name.addr (slice_get self.now name.node) }
         ensures steps { sent_names (step_view result) ≡ steps self.now name }
         ensures reach { IsTrue (leads_in_range result) }
         ensures closed { IsTrue (is_closed self.now)

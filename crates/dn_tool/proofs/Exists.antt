@@ -6,8 +6,8 @@ use Rattle.dn_net.specs.declared.node.Name.{Name}
 use Rattle.dn_net.specs.declared.node.Dest.{Dest}
 use Rattle.dn_net.specs.declared.node.Entry.{Entry}
 use Rattle.dn_net.specs.declared.node.NodeDecl.{NodeDecl}
-use Rattle.dn_net.specs.Decode.{top, within, moved, by_over, by_entries, sent, sent_names, in_some_block, steps, step_limit, is_accepted, is_accepted_at, refers_within, over_within, ports_within, is_closed}
-use Rattle.dn_net.specs.Names.{name_lt, name_eq, with_name, sorted_names, each_step, passing, reached, resolved_names}
+use Rattle.dn_net.specs.Decode.{top, within, moved, by_over, by_entries, decode, sent_names, in_some_block, steps, step_limit, is_accepted, is_accepted_at, refers_within, over_within, ports_within, is_closed}
+use Rattle.dn_net.specs.Names.{name_lt, name_eq, with_name, sorted_names, each_step, passing_names, reached_names, resolved_names}
 use Rattle.dn_net.specs.WalkRules.{Broken, is_wide, has_loop, is_deep, or_else, first_below, least_below, least_name, goes_on, comes_to, comes_back, shortest_cycle, first_of, behind, way_by, cycle_from, cycle_names, path_from, path_names, cycle_or_path, walk_fault}
 use Rattle.dn_net.proofs.Endless.{is_wide_net, endless_fault_is}
 use Rattle.dn_net.proofs.Latest.{sent_by}
@@ -44,7 +44,7 @@ entries_exist count a over (e ∷ es) h k = go (entries_exist count a over es b.
     go later true = moved_exist count (a - e.block.lo) e.dests b.0
     go later false = later
 
-sent_exist : (count a : ℕ) (o : Option NodeDecl) → ((n : NodeDecl) → o ≡ Some n → IsTrue (refers_within count n)) → IsTrue (names_exist count (sent_names (sent a o)))
+sent_exist : (count a : ℕ) (o : Option NodeDecl) → ((n : NodeDecl) → o ≡ Some n → IsTrue (refers_within count n)) → IsTrue (names_exist count (sent_names (decode a o)))
 sent_exist count a None closed = refl
 sent_exist count a (Some n) closed = go (nat_le a top) (in_some_block a n.accepts)
   where
@@ -95,16 +95,16 @@ accepted_there net y e = go (slice_get net y.node) refl e
     go None at h = cc
     go (Some n) at h = lt-ltb y.node (length net) (there net y.node n at)
 
-passing_exist : (net : List NodeDecl) (xs : List Name) → IsTrue (names_exist (length net) (passing (is_accepted net) xs))
+passing_exist : (net : List NodeDecl) (xs : List Name) → IsTrue (names_exist (length net) (passing_names (is_accepted net) xs))
 passing_exist net [] = refl
 passing_exist net (x ∷ xs) = go (passing_exist net xs) (is_accepted net x) refl
   where
-    go : IsTrue (names_exist (length net) (passing (is_accepted net) xs)) → (b : Bool) → is_accepted net x ≡ b → IsTrue (names_exist (length net) (if b then x ∷ passing (is_accepted net) xs else passing (is_accepted net) xs))
+    go : IsTrue (names_exist (length net) (passing_names (is_accepted net) xs)) → (b : Bool) → is_accepted net x ≡ b → IsTrue (names_exist (length net) (if b then x ∷ passing_names (is_accepted net) xs else passing_names (is_accepted net) xs))
     go later true e = true_both _ _ (accepted_there net x e) later
     go later false e = later
 
 pub resolved_exist : (net : List NodeDecl) (x : Name) → IsTrue (names_exist (length net) (resolved_names net x))
-resolved_exist net x = sorted_exist (length net) (passing (is_accepted net) (reached (steps net) step_limit (x ∷ []))) (passing_exist net (reached (steps net) step_limit (x ∷ [])))
+resolved_exist net x = sorted_exist (length net) (passing_names (is_accepted net) (reached_names (steps net) step_limit (x ∷ []))) (passing_exist net (reached_names (steps net) step_limit (x ∷ [])))
 
 -- the names of a way
 filter_exist : (count : ℕ) (p : Name → Bool) (xs : List Name) → IsTrue (names_exist count xs) → IsTrue (names_exist count (filter p xs))

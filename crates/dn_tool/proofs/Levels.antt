@@ -3,7 +3,7 @@ use Rattle.std.proofs.Common.{◌≡◌, ◌∙◌, ap, sym, subst, refl, arith,
 use Rattle.dn_net.specs.declared.node.Name.{Name}
 use Rattle.dn_net.specs.declared.node.NodeDecl.{NodeDecl}
 use Rattle.dn_net.specs.Decode.{is_accepted, steps, step_limit}
-use Rattle.dn_net.specs.Names.{sorted_names, passing, each_step, reached, resolved_names}
+use Rattle.dn_net.specs.Names.{sorted_names, passing_names, each_step, reached_names, resolved_names}
 use Rattle.dn_net.proofs.Resolution.{member_left, member_right, member_cases, names_in, passing_in, each_in}
 use Rattle.dn_print.specs.Names.{names_exist}
 use Rattle.dn_tool.proofs.Exists.{sorted_exist}
@@ -19,7 +19,7 @@ levels_none f zero = refl
 levels_none f (suc n) = levels_none f n
 
 -- what is reached in so many steps is one level more
-reached_levels : (f : Name → List Name) (n : ℕ) (xs : List Name) → reached f n xs ≡ levels f (suc n) xs
+reached_levels : (f : Name → List Name) (n : ℕ) (xs : List Name) → reached_names f n xs ≡ levels f (suc n) xs
 reached_levels f zero xs = sym (append-nil xs)
 reached_levels f (suc n) xs = ap (λ (l : List Name). xs ++ l) (reached_levels f n (each_step f xs))
 
@@ -39,45 +39,45 @@ same_levels : (f : Name → List Name) (n : ℕ) (xs ys : List Name) → Same xs
 same_levels f zero xs ys s = same_refl []
 same_levels f (suc n) xs ys s = same_append xs (levels f n (each_step f xs)) ys (levels f n (each_step f ys)) s (same_levels f n (each_step f xs) (each_step f ys) (same_each f xs ys s))
 
-same_passing : (p : Name → Bool) (xs ys : List Name) → Same xs ys → Same (passing p xs) (passing p ys)
+same_passing : (p : Name → Bool) (xs ys : List Name) → Same xs ys → Same (passing_names p xs) (passing_names p ys)
 same_passing p xs ys s z = (
   (λ m. let r = (passing_in p xs z).0 m in (passing_in p ys z).1 (r.0, (s z).0 r.1)),
   (λ m. let r = (passing_in p ys z).0 m in (passing_in p xs z).1 (r.0, (s z).1 r.1)),
 )
 
-passing_append : (p : Name → Bool) (xs ys : List Name) → passing p (xs ++ ys) ≡ passing p xs ++ passing p ys
+passing_append : (p : Name → Bool) (xs ys : List Name) → passing_names p (xs ++ ys) ≡ passing_names p xs ++ passing_names p ys
 passing_append p [] ys = refl
 passing_append p (x ∷ xs) ys = go (passing_append p xs ys) (p x)
   where
-    go : passing p (xs ++ ys) ≡ passing p xs ++ passing p ys → (b : Bool) → (if b then x ∷ passing p (xs ++ ys) else passing p (xs ++ ys)) ≡ (if b then x ∷ passing p xs else passing p xs) ++ passing p ys
+    go : passing_names p (xs ++ ys) ≡ passing_names p xs ++ passing_names p ys → (b : Bool) → (if b then x ∷ passing_names p (xs ++ ys) else passing_names p (xs ++ ys)) ≡ (if b then x ∷ passing_names p xs else passing_names p xs) ++ passing_names p ys
     go e true = ap (λ (l : List Name). x ∷ l) e
     go e false = e
 
 -- what is resolved_names to, where some accepted names are known and the rest are those of so many levels more
 abbrev pub resolved_by : List NodeDecl → ℕ → List Name → List Name → List Name
-resolved_by net n accepted level = sorted_names (accepted ++ passing (is_accepted net) (levels (steps net) n level))
+resolved_by net n accepted level = sorted_names (accepted ++ passing_names (is_accepted net) (levels (steps net) n level))
 
 pub resolved_at_start : (net : List NodeDecl) (x : Name) → resolved_by net (suc step_limit - 0) [] (x ∷ []) ≡ resolved_names net x
 resolved_at_start net x =
     let e : suc step_limit - 0 ≡ suc step_limit = omega arith in
-    ap (λ n. resolved_by net n [] (x ∷ [])) e ∙ ap (λ l. sorted_names (passing (is_accepted net) l)) (sym (reached_levels (steps net) step_limit (x ∷ [])))
+    ap (λ n. resolved_by net n [] (x ∷ [])) e ∙ ap (λ l. sorted_names (passing_names (is_accepted net) l)) (sym (reached_levels (steps net) step_limit (x ∷ [])))
 
-one_level : (net : List NodeDecl) (n : ℕ) (accepted level : List Name) → resolved_by net (suc n) accepted level ≡ resolved_by net n (accepted ++ passing (is_accepted net) level) (sorted_names (each_step (steps net) level))
+one_level : (net : List NodeDecl) (n : ℕ) (accepted level : List Name) → resolved_by net (suc n) accepted level ≡ resolved_by net n (accepted ++ passing_names (is_accepted net) level) (sorted_names (each_step (steps net) level))
 one_level net n accepted level =
     let p = is_accepted net in
     let f = steps net in
     let next = each_step f level in
     ap (λ l. sorted_names (accepted ++ l)) (passing_append p level (levels f n next))
-    ∙ ap sorted_names (sym (append_assoc accepted (passing p level) (passing p (levels f n next))))
-    ∙ sorted_same ((accepted ++ passing p level) ++ passing p (levels f n next)) ((accepted ++ passing p level) ++ passing p (levels f n (sorted_names next))) (same_append (accepted ++ passing p level) (passing p (levels f n next)) (accepted ++ passing p level) (passing p (levels f n (sorted_names next))) (same_refl (accepted ++ passing p level)) (same_passing p (levels f n next) (levels f n (sorted_names next)) (same_levels f n next (sorted_names next) (λ z. ((names_in next z).1, (names_in next z).0)))))
+    ∙ ap sorted_names (sym (append_assoc accepted (passing_names p level) (passing_names p (levels f n next))))
+    ∙ sorted_same ((accepted ++ passing_names p level) ++ passing_names p (levels f n next)) ((accepted ++ passing_names p level) ++ passing_names p (levels f n (sorted_names next))) (same_append (accepted ++ passing_names p level) (passing_names p (levels f n next)) (accepted ++ passing_names p level) (passing_names p (levels f n (sorted_names next))) (same_refl (accepted ++ passing_names p level)) (same_passing p (levels f n next) (levels f n (sorted_names next)) (same_levels f n next (sorted_names next) (λ z. ((names_in next z).1, (names_in next z).0)))))
 
 -- one level is taken: its accepted names are known, and the next is at hand
-pub resolved_next : (net : List NodeDecl) (i : ℕ) (accepted more level next result : List Name) → i < 66 → resolved_by net (suc step_limit - i) accepted level ≡ result → more ≡ accepted ++ passing (is_accepted net) level → next ≡ sorted_names (each_step (steps net) level) → resolved_by net (suc step_limit - (i + 1)) more next ≡ result
+pub resolved_next : (net : List NodeDecl) (i : ℕ) (accepted more level next result : List Name) → i < 66 → resolved_by net (suc step_limit - i) accepted level ≡ result → more ≡ accepted ++ passing_names (is_accepted net) level → next ≡ sorted_names (each_step (steps net) level) → resolved_by net (suc step_limit - (i + 1)) more next ≡ result
 unfolding step_limit
 resolved_next net i accepted more level next result h so_far m n =
     let e : suc step_limit - i ≡ suc (suc step_limit - (i + 1)) = omega arith in
     ap (λ l. resolved_by net (suc step_limit - (i + 1)) l next) m
-    ∙ ap (λ l. resolved_by net (suc step_limit - (i + 1)) (accepted ++ passing (is_accepted net) level) l) n
+    ∙ ap (λ l. resolved_by net (suc step_limit - (i + 1)) (accepted ++ passing_names (is_accepted net) level) l) n
     ∙ sym (one_level net (suc step_limit - (i + 1)) accepted level)
     ∙ ap (λ k. resolved_by net k accepted level) (sym e)
     ∙ so_far
@@ -90,7 +90,7 @@ is_empty (x ∷ xs) e = let h : length (x ∷ xs) ≡ 0 = eqb-true _ _ e in absu
 pub resolved_at_empty : (net : List NodeDecl) (n : ℕ) (accepted level result : List Name) → level ≡ [] → resolved_by net n accepted level ≡ result → sorted_names accepted ≡ result
 resolved_at_empty net n accepted level result none so_far =
     ap sorted_names (sym (append-nil accepted))
-    ∙ ap (λ l. sorted_names (accepted ++ passing (is_accepted net) l)) (sym (ap (levels (steps net) n) none ∙ levels_none (steps net) n))
+    ∙ ap (λ l. sorted_names (accepted ++ passing_names (is_accepted net) l)) (sym (ap (levels (steps net) n) none ∙ levels_none (steps net) n))
     ∙ so_far
 
 -- and so does the last

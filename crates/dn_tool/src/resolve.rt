@@ -3,7 +3,7 @@
 ghost use Rattle.std.specs.Prelude.{◌≡◌, ◌++◌, ◌+◌, ◌<◌, ◌^◌, length, map, nat_le, nat_lt, IfOk, OnOk, IsTrue};
 ghost use Rattle.std.specs.List.{list_all};
 ghost use Rattle.dn_net.specs.Decode.{is_accepted, moved, steps, top};
-ghost use Rattle.dn_net.specs.Names.{each_step, passing, resolved_names, sorted_names};
+ghost use Rattle.dn_net.specs.Names.{each_step, passing_names, resolved_names, sorted_names};
 ghost use Rattle.dn_net.specs.Rules.{KeepsNodeRules};
 ghost use Rattle.dn_print.specs.Names.{names_exist};
 
@@ -47,7 +47,7 @@ fn next_level(
 ) -> Result<Names, AllocError>
     requires there { IsTrue (names_exist (length net.now) level.now) }
     requires rules { KeepsNodeRules net.now }
-    ensures accepted { OnOk result (accepted.new.items ≡ accepted.old.items ++ passing (is_accepted net.now) level.now) }
+    ensures accepted { OnOk result (accepted.new.items ≡ accepted.old.items ++ passing_names (is_accepted net.now) level.now) }
     ensures next { IfOk result (λ names. names ≡ sorted_names (each_step (steps net.now) level.now)) }
     ensures there { IfOk result (λ names. IsTrue (names_exist (length net.now) names)) }
 {

@@ -10,7 +10,7 @@ use Rattle.std.proofs.lemmas.List.Sorted.{IsStrictWeakOrder-by_number}
 use Rattle.dn_net.specs.Walks.{in_order}
 use Rattle.dn_walk.specs.declared.leg.Leg.{Leg}
 use Rattle.dn_walk.specs.declared.walks.WalkRow.{WalkRow}
-use Rattle.dn_walk.specs.Rows.{Told, told_by_row}
+use Rattle.dn_walk.specs.Rows.{Told, row_view}
 use Rattle.dn_walk.specs.Legs.{leg_before}
 use Rattle.dn_walk.specs.Levels.{told_before}
 use Rattle.dn_walk.proofs.Sorting.{sorted_is, map_in_order}
@@ -95,15 +95,15 @@ by_numbers a a' b b' c c' = by (nat_lt a a') (a == a') (nat_lt b b') (b == b') (
     by false true false false t u = refl
     by false false r s t u = refl
 
-same_order : ◌≡◌ {A = WalkRow → WalkRow → Bool} (λ r s. is_lt (row_cmp r s)) (λ r s. told_before (told_by_row r) (told_by_row s))
+same_order : ◌≡◌ {A = WalkRow → WalkRow → Bool} (λ r s. is_lt (row_cmp r s)) (λ r s. told_before (row_view r) (row_view s))
 same_order = λ i r s. by_numbers r.start s.start r.span.lo s.span.lo r.span.hi s.span.hi i
 
 -- rows after a stable sort by their three numbers
-pub rows_in_order : (xs ys : List WalkRow) → IsSortedBy (λ r s. is_lt (row_cmp r s)) ys → IsStableBy (λ r s. is_lt (row_cmp r s)) xs ys → map told_by_row ys ≡ in_order told_before (map told_by_row xs)
+pub rows_in_order : (xs ys : List WalkRow) → IsSortedBy (λ r s. is_lt (row_cmp r s)) ys → IsStableBy (λ r s. is_lt (row_cmp r s)) xs ys → map row_view ys ≡ in_order told_before (map row_view xs)
 rows_in_order xs ys sorted stable =
-    let lt : WalkRow → WalkRow → Bool = λ r s. told_before (told_by_row r) (told_by_row s) in
-    ap (map told_by_row) (sorted_is lt (told_weak told_by_row) xs ys (subst (λ f. IsSortedBy f ys) same_order sorted) (subst (λ f. IsStableBy f xs ys) same_order stable))
-    ∙ map_in_order told_by_row lt told_before (λ r s. refl) xs
+    let lt : WalkRow → WalkRow → Bool = λ r s. told_before (row_view r) (row_view s) in
+    ap (map row_view) (sorted_is lt (told_weak row_view) xs ys (subst (λ f. IsSortedBy f ys) same_order sorted) (subst (λ f. IsStableBy f xs ys) same_order stable))
+    ∙ map_in_order row_view lt told_before (λ r s. refl) xs
 
 by_number : (a b : ℕ) → is_lt (nat_cmp a b) ≡ nat_lt a b
 by_number a b = by (nat_lt a b) (a == b)

@@ -10,7 +10,7 @@ use Rattle.dn_net.specs.Decode.{moved}
 use Rattle.dn_net.specs.Names.{name_lt}
 use Rattle.dn_base.proofs.Members.{member_left, member_right, member_cases}
 use Rattle.dn_walk.specs.declared.walks.WalkRow.{WalkRow}
-use Rattle.dn_walk.specs.Rows.{Told, told_by_row}
+use Rattle.dn_walk.specs.Rows.{Told, row_view}
 use Rattle.dn_walk.specs.Ways.{least_of, lesser_name, start_name, start_names, is_cyclic}
 use Rattle.dn_net.proofs.Firsts.{NoLater}
 use Rattle.dn_net.proofs.Ways.{IsFirstName, IsFirstNameOr, first_sorted, no_later_still, either_way, lower_is}
@@ -94,8 +94,8 @@ least_more xs x = by (least_of xs) refl
 start_names-append : (back : Bool) (xs ys : List Told) → start_names back (xs ++ ys) ≡ start_names back xs ++ start_names back ys
 start_names-append back xs ys = ap (map start_name) (filter-append (λ t. not back || is_cyclic t) xs ys) ∙ map-append start_name (filter (λ t. not back || is_cyclic t) xs) (filter (λ t. not back || is_cyclic t) ys)
 
-rows_more : (rows : List WalkRow) (i : ℕ) (r : WalkRow) → i < length rows → r ≡ get_or rows i r → map told_by_row (take (i + 1) rows) ≡ map told_by_row (take i rows) ++ told_by_row r ∷ []
-rows_more rows i r l e = ap (map told_by_row) (take_more rows i r l ∙ ap (λ x. take i rows ++ x ∷ []) (sym e)) ∙ map-append told_by_row (take i rows) (r ∷ [])
+rows_more : (rows : List WalkRow) (i : ℕ) (r : WalkRow) → i < length rows → r ≡ get_or rows i r → map row_view (take (i + 1) rows) ≡ map row_view (take i rows) ++ row_view r ∷ []
+rows_more rows i r l e = ap (map row_view) (take_more rows i r l ∙ ap (λ x. take i rows ++ x ∷ []) (sym e)) ∙ map-append row_view (take i rows) (r ∷ [])
 
 one_start : (b : Bool) (t : Told) → (not b || is_cyclic t) ≡ true → start_names b (t ∷ []) ≡ start_name t ∷ []
 one_start b t e = rw e refl
@@ -103,20 +103,20 @@ one_start b t e = rw e refl
 no_start : (b : Bool) (t : Told) → (not b || is_cyclic t) ≡ false → start_names b (t ∷ []) ≡ []
 no_start b t e = rw e refl
 
-pub start_taken : (back : Bool) (rows : List WalkRow) (i : ℕ) (r : WalkRow) (least : Option Name) → i < length rows → r ≡ get_or rows i r → (not back || is_cyclic (told_by_row r)) ≡ true → least ≡ least_of (start_names back (map told_by_row (take i rows))) → lesser_name least (start_name (told_by_row r)) ≡ least_of (start_names back (map told_by_row (take (i + 1) rows)))
+pub start_taken : (back : Bool) (rows : List WalkRow) (i : ℕ) (r : WalkRow) (least : Option Name) → i < length rows → r ≡ get_or rows i r → (not back || is_cyclic (row_view r)) ≡ true → least ≡ least_of (start_names back (map row_view (take i rows))) → lesser_name least (start_name (row_view r)) ≡ least_of (start_names back (map row_view (take (i + 1) rows)))
 start_taken back rows i r least l e h k =
-    ap (λ o. lesser_name o (start_name (told_by_row r))) k
-    ∙ sym (least_more (start_names back (map told_by_row (take i rows))) (start_name (told_by_row r)))
-    ∙ ap (λ ys. least_of (start_names back (map told_by_row (take i rows)) ++ ys)) (sym (one_start back (told_by_row r) h))
-    ∙ ap least_of (sym (start_names-append back (map told_by_row (take i rows)) (told_by_row r ∷ [])))
+    ap (λ o. lesser_name o (start_name (row_view r))) k
+    ∙ sym (least_more (start_names back (map row_view (take i rows))) (start_name (row_view r)))
+    ∙ ap (λ ys. least_of (start_names back (map row_view (take i rows)) ++ ys)) (sym (one_start back (row_view r) h))
+    ∙ ap least_of (sym (start_names-append back (map row_view (take i rows)) (row_view r ∷ [])))
     ∙ ap (λ l. least_of (start_names back l)) (sym (rows_more rows i r l e))
 
-pub start_left : (back : Bool) (rows : List WalkRow) (i : ℕ) (r : WalkRow) (least : Option Name) → i < length rows → r ≡ get_or rows i r → (not back || is_cyclic (told_by_row r)) ≡ false → least ≡ least_of (start_names back (map told_by_row (take i rows))) → least ≡ least_of (start_names back (map told_by_row (take (i + 1) rows)))
+pub start_left : (back : Bool) (rows : List WalkRow) (i : ℕ) (r : WalkRow) (least : Option Name) → i < length rows → r ≡ get_or rows i r → (not back || is_cyclic (row_view r)) ≡ false → least ≡ least_of (start_names back (map row_view (take i rows))) → least ≡ least_of (start_names back (map row_view (take (i + 1) rows)))
 start_left back rows i r least l e h k =
     k
-    ∙ ap least_of (sym (append-nil (start_names back (map told_by_row (take i rows)))))
-    ∙ ap (λ ys. least_of (start_names back (map told_by_row (take i rows)) ++ ys)) (sym (no_start back (told_by_row r) h))
-    ∙ ap least_of (sym (start_names-append back (map told_by_row (take i rows)) (told_by_row r ∷ [])))
+    ∙ ap least_of (sym (append-nil (start_names back (map row_view (take i rows)))))
+    ∙ ap (λ ys. least_of (start_names back (map row_view (take i rows)) ++ ys)) (sym (no_start back (row_view r) h))
+    ∙ ap least_of (sym (start_names-append back (map row_view (take i rows)) (row_view r ∷ [])))
     ∙ ap (λ l. least_of (start_names back l)) (sym (rows_more rows i r l e))
 
 -- and over destinations

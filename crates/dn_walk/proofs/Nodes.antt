@@ -17,7 +17,7 @@ use Rattle.dn_net.proofs.Steps.{node_at}
 use Rattle.dn_interval.specs.declared.span.Span.{Span}
 use Rattle.dn_interval.specs.Spans.{has, in_span, AreMaximal}
 use Rattle.dn_walk.specs.declared.leg.Leg.{Leg}
-use Rattle.dn_walk.specs.Legs.{told_leg, told_legs, dest_leg, plain_entry_legs, gap_leg, plain_gap_legs, leg_before, legs_by, gaps_by, block_of, IsLegOf, AreLegs}
+use Rattle.dn_walk.specs.Legs.{told_leg, told_legs, dest_leg, plain_entry_legs, gap_leg, plain_gap_legs, leg_before, legs_by, gaps_by, span_view, IsLegOf, AreLegs}
 use Rattle.dn_net.proofs.Apart.{node_apart}
 use Rattle.dn_walk.proofs.Holes.{spans_are_left}
 use Rattle.dn_net.proofs.Legs.{leads_of_leg, leads_in_range, leads_within}
@@ -129,7 +129,7 @@ pub all_legs_of : (net : List NodeDecl) → KeepsNodeRules net → (xs : List (L
 all_legs_of net rules xs e = subst (λ x. All (AreLegs (length x)) x) (sym e) (subst (λ n. All (AreLegs n) (map told_legs net)) (sym (length-map told_legs net)) (all_legs net rules))
 
 -- the gaps between blocks, from the spans that they leave out
-pub any_blocks : (a : ℕ) (spans : List Span) → has spans a ≡ in_some_block a (map block_of spans)
+pub any_blocks : (a : ℕ) (spans : List Span) → has spans a ≡ in_some_block a (map span_view spans)
 any_blocks a [] = refl
 any_blocks a (s ∷ spans) = ap (λ b. in_span s a || b) (any_blocks a spans)
 
@@ -157,6 +157,6 @@ blocks_in_range (x ∷ xs) accepts e a =
     let b = (both (block_in_range x.block) (list_all (λ d. nat_le (d.addr + (x.block.hi - x.block.lo)) top) x.dests) r.0).0 in
     rw b (blocks_in_range xs accepts r.1 a)
 
-pub gaps_are : (accepts : List Block) (entries : List Entry) (blocks covered rest : List Span) → IsTrue (list_all block_in_range accepts) → IsTrue (list_all entry_in_range entries) → map block_of blocks ≡ accepts ++ map (λ e. e.block) entries → ((a : ℕ) → has covered a ≡ has blocks a) → AreMaximal rest → ((a : ℕ) → a ≤ top → has rest a ≡ not (has covered a)) → map block_of rest ≡ gaps_by accepts entries
+pub gaps_are : (accepts : List Block) (entries : List Entry) (blocks covered rest : List Span) → IsTrue (list_all block_in_range accepts) → IsTrue (list_all entry_in_range entries) → map span_view blocks ≡ accepts ++ map (λ e. e.block) entries → ((a : ℕ) → has covered a ≡ has blocks a) → AreMaximal rest → ((a : ℕ) → a ≤ top → has rest a ≡ not (has covered a)) → map span_view rest ≡ gaps_by accepts entries
 gaps_are accepts entries blocks covered rest ar er is cov maximal same =
     spans_are_left (map (λ e. e.block) entries ++ accepts) (blocks_in_range entries accepts er ar) rest maximal (λ a l. same a l ∙ ap not (cov a ∙ any_blocks a blocks ∙ ap (in_some_block a) is ∙ swapped a accepts (map (λ e. e.block) entries)))

@@ -10,7 +10,7 @@ use Rattle.dn_net.specs.Rules.{KeepsNodeRules}
 use Rattle.dn_net.specs.WalkRules.{behind, way_by}
 use Rattle.dn_walk.specs.declared.walks.WalkRow.{WalkRow}
 use Rattle.dn_walk.specs.declared.way.Goal.{Goal}
-use Rattle.dn_walk.specs.Rows.{Told, told_by_row}
+use Rattle.dn_walk.specs.Rows.{Told, row_view}
 use Rattle.dn_walk.specs.Ways.{least_of, level_leads, levels_lead, start_names, start_name, is_cyclic}
 use Rattle.dn_net.proofs.Cycles.{row_of_chain, stepping_in_range}
 use Rattle.dn_net.proofs.Levels.{level_is_row}
@@ -26,8 +26,8 @@ pub way_goes : (f : Name → List Name) (leads : ℕ → Name → Bool) (left k 
 way_goes f leads left k x z e h = ap (λ n. way_by f leads n x) e ∙ ap (λ o. behind o (λ z. way_by f leads k z)) h
 
 -- the level of so many choices among the levels
-pub level_at : (goal : Goal) (levels : List (List WalkRow)) (k : ℕ) (level : List WalkRow) (now : List WalkRow) → k < length levels → level ≡ get_or levels k level → now ≡ level → level_leads goal (map told_by_row now) ≡ levels_lead goal (map (map told_by_row) levels) k
-level_at goal levels k level now l e f = ap (λ x. level_leads goal (map told_by_row x)) (f ∙ e) ∙ ap (level_leads goal) (sym (get_or-map (map told_by_row) levels k level [] l))
+pub level_at : (goal : Goal) (levels : List (List WalkRow)) (k : ℕ) (level : List WalkRow) (now : List WalkRow) → k < length levels → level ≡ get_or levels k level → now ≡ level → level_leads goal (map row_view now) ≡ levels_lead goal (map (map row_view) levels) k
+level_at goal levels k level now l e f = ap (λ x. level_leads goal (map row_view x)) (f ∙ e) ∙ ap (level_leads goal) (sym (get_or-map (map row_view) levels k level [] l))
 
 -- a step leads to an address of a node of the net
 pub step_in_range : (net : List NodeDecl) → KeepsNodeRules net → (x y : Name) → Member y (steps net x) → (y.node < length net) × (y.addr ≤ top)
@@ -53,9 +53,9 @@ start_row back rows x h =
     let p = member_map start_name (filter (λ t. not back || is_cyclic t) rows) x f.member in
     (p.0, (member_filter (λ t. not back || is_cyclic t) rows p.0 p.1).0, p.2)
 
-pub start_there : (back : Bool) (rows : List WalkRow) (count : ℕ) (x : Name) → All (λ (r : WalkRow). r.start < count) rows → least_of (start_names back (map told_by_row rows)) ≡ Some x → x.node < count
+pub start_there : (back : Bool) (rows : List WalkRow) (count : ℕ) (x : Name) → All (λ (r : WalkRow). r.start < count) rows → least_of (start_names back (map row_view rows)) ≡ Some x → x.node < count
 start_there back rows count x all h =
-    let p = start_row back (map told_by_row rows) x h in
-    let q = member_map told_by_row rows p.0 p.1 in
+    let p = start_row back (map row_view rows) x h in
+    let q = member_map row_view rows p.0 p.1 in
     let r : q.0.start < count = member_of_all (λ (r : WalkRow). r.start < count) rows q.0 all q.1 in
     subst (λ n. n < count) (ap (λ t. t.start) q.2 ∙ ap (λ n. n.node) p.2) r

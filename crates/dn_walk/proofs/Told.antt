@@ -10,7 +10,7 @@ use Rattle.dn_net.specs.Walks.{in_order}
 use Rattle.dn_net.specs.WalkRules.{Broken, is_wide, walk_limit}
 use Rattle.dn_walk.specs.declared.leg.Leg.{Leg}
 use Rattle.dn_walk.specs.declared.walks.WalkRow.{WalkRow}
-use Rattle.dn_walk.specs.Rows.{Told, told_by_row}
+use Rattle.dn_walk.specs.Rows.{Told, row_view}
 use Rattle.dn_walk.specs.Legs.{AreLegs, IsLegOf}
 use Rattle.dn_walk.specs.Levels.{told_last, told_meets, told_onto, told_extended, told_still, told_stills, told_level, told_walks, told_levels, told_before, IsRowOf}
 use Rattle.dn_net.proofs.Members.{member_map, map_member, member_filter, member_flat_map}
@@ -112,31 +112,31 @@ row_of_more : (count k n : ℕ) (t : Told) → k ≤ n → IsRowOf count k t →
 row_of_more count k n t l r = let m = r.len in record { order = r.order; low = r.low; start = r.start; end = r.end; reach = r.reach; len = omega arith }
 
 -- the rows of a level
-pub rows_are : (legs : List (List Leg)) → All (AreLegs (length legs)) legs → (k n : ℕ) → k ≤ n → (rows : List WalkRow) → map told_by_row rows ≡ told_level legs k → All (λ r. IsRowOf (length legs) n (told_by_row r)) rows
+pub rows_are : (legs : List (List Leg)) → All (AreLegs (length legs)) legs → (k n : ℕ) → k ≤ n → (rows : List WalkRow) → map row_view rows ≡ told_level legs k → All (λ r. IsRowOf (length legs) n (row_view r)) rows
 rows_are legs all k n l rows e = λ j d b.
-    row_of_more (length legs) k n (told_by_row (get_or rows j d)) l (level_is legs all k (told_by_row (get_or rows j d)) (subst (λ x. Member (told_by_row (get_or rows j d)) x) e (map_member told_by_row rows (get_or rows j d) (at_member rows j d b))))
+    row_of_more (length legs) k n (row_view (get_or rows j d)) l (level_is legs all k (row_view (get_or rows j d)) (subst (λ x. Member (row_view (get_or rows j d)) x) e (map_member row_view rows (get_or rows j d) (at_member rows j d b))))
 
 -- one more row goes on
-pub extended_more : (legs : List (List Leg)) (rows : List WalkRow) (i : ℕ) (r : WalkRow) → i < length rows → r ≡ get_or rows i r → flat_map (told_extended legs) (map told_by_row (take (i + 1) rows)) ≡ flat_map (told_extended legs) (map told_by_row (take i rows)) ++ told_extended legs (told_by_row r)
+pub extended_more : (legs : List (List Leg)) (rows : List WalkRow) (i : ℕ) (r : WalkRow) → i < length rows → r ≡ get_or rows i r → flat_map (told_extended legs) (map row_view (take (i + 1) rows)) ≡ flat_map (told_extended legs) (map row_view (take i rows)) ++ told_extended legs (row_view r)
 extended_more legs rows i r l e =
-    ap (λ x. flat_map (told_extended legs) (map told_by_row x)) (take_more rows i r l ∙ ap (λ x. take i rows ++ x ∷ []) (sym e))
-    ∙ ap (flat_map (told_extended legs)) (map-append told_by_row (take i rows) (r ∷ []))
-    ∙ flat_map-append (told_extended legs) (map told_by_row (take i rows)) (told_by_row r ∷ [])
-    ∙ ap (λ x. flat_map (told_extended legs) (map told_by_row (take i rows)) ++ x) (nothing_behind (told_extended legs (told_by_row r)))
+    ap (λ x. flat_map (told_extended legs) (map row_view x)) (take_more rows i r l ∙ ap (λ x. take i rows ++ x ∷ []) (sym e))
+    ∙ ap (flat_map (told_extended legs)) (map-append row_view (take i rows) (r ∷ []))
+    ∙ flat_map-append (told_extended legs) (map row_view (take i rows)) (row_view r ∷ [])
+    ∙ ap (λ x. flat_map (told_extended legs) (map row_view (take i rows)) ++ x) (nothing_behind (told_extended legs (row_view r)))
   where
     nothing_behind : (xs : List Told) → xs ++ [] ≡ xs
     nothing_behind [] = refl
     nothing_behind (x ∷ xs) = ap (λ l. x ∷ l) (nothing_behind xs)
 
 -- and there are no fewer in all
-pub extended_least : (legs : List (List Leg)) (rows : List WalkRow) (i : ℕ) (r : WalkRow) → i < length rows → r ≡ get_or rows i r → length (flat_map (told_extended legs) (map told_by_row (take i rows))) + length (told_extended legs (told_by_row r)) ≤ length (flat_map (told_extended legs) (map told_by_row rows))
+pub extended_least : (legs : List (List Leg)) (rows : List WalkRow) (i : ℕ) (r : WalkRow) → i < length rows → r ≡ get_or rows i r → length (flat_map (told_extended legs) (map row_view (take i rows))) + length (told_extended legs (row_view r)) ≤ length (flat_map (told_extended legs) (map row_view rows))
 extended_least legs rows i r l e =
-    let n : length (map told_by_row rows) ≡ length rows = length-map rows told_by_row in
-    let h = length-flat_map-take (told_extended legs) (map told_by_row rows) i (told_by_row r) (omega arith) in
-    let a : get_or (map told_by_row rows) i (told_by_row r) ≡ told_by_row r = get_or-map told_by_row rows i r (told_by_row r) l ∙ ap told_by_row (sym e) in
-    let b : take i (map told_by_row rows) ≡ map told_by_row (take i rows) = take-map told_by_row i rows in
-    subst (λ x. length (flat_map (told_extended legs) x) + length (told_extended legs (told_by_row r)) ≤ length (flat_map (told_extended legs) (map told_by_row rows))) b
-    (subst (λ x. length (flat_map (told_extended legs) (take i (map told_by_row rows))) + length (told_extended legs x) ≤ length (flat_map (told_extended legs) (map told_by_row rows))) a h)
+    let n : length (map row_view rows) ≡ length rows = length-map rows row_view in
+    let h = length-flat_map-take (told_extended legs) (map row_view rows) i (row_view r) (omega arith) in
+    let a : get_or (map row_view rows) i (row_view r) ≡ row_view r = get_or-map row_view rows i r (row_view r) l ∙ ap row_view (sym e) in
+    let b : take i (map row_view rows) ≡ map row_view (take i rows) = take-map row_view i rows in
+    subst (λ x. length (flat_map (told_extended legs) x) + length (told_extended legs (row_view r)) ≤ length (flat_map (told_extended legs) (map row_view rows))) b
+    (subst (λ x. length (flat_map (told_extended legs) (take i (map row_view rows))) + length (told_extended legs x) ≤ length (flat_map (told_extended legs) (map row_view rows))) a h)
 
 -- the legs of a node, by its number
 pub legs_there : (legs : List (List Leg)) → All (AreLegs (length legs)) legs → (end k : ℕ) (ls ls' : List Leg) → end < length legs → k ≡ end → ls ≡ get_or legs k ls → ls' ≡ ls → AreLegs (length legs) ls'
@@ -172,11 +172,11 @@ grown_level legs k newest next e f =
     let a : suc k ≡ k + 1 = omega arith in
     f ∙ ap (flat_map (told_extended legs)) e ∙ sym (level-suc legs k) ∙ ap (told_level legs) a
 
-pub grown_sorted : (legs : List (List Leg)) (k : ℕ) (sorted : List (List WalkRow)) (rows last : List WalkRow) → map (map told_by_row) sorted ≡ told_levels legs k → map told_by_row rows ≡ told_level legs k → map told_by_row last ≡ in_order told_before (map told_by_row rows) → map (map told_by_row) (sorted ++ last ∷ []) ≡ told_levels legs (k + 1)
+pub grown_sorted : (legs : List (List Leg)) (k : ℕ) (sorted : List (List WalkRow)) (rows last : List WalkRow) → map (map row_view) sorted ≡ told_levels legs k → map row_view rows ≡ told_level legs k → map row_view last ≡ in_order told_before (map row_view rows) → map (map row_view) (sorted ++ last ∷ []) ≡ told_levels legs (k + 1)
 grown_sorted legs k sorted rows last s e f =
     let a : suc k ≡ k + 1 = omega arith in
-    map-append (map told_by_row) sorted (last ∷ [])
-    ∙ ap (λ x. x ++ map told_by_row last ∷ []) s
+    map-append (map row_view) sorted (last ∷ [])
+    ∙ ap (λ x. x ++ map row_view last ∷ []) s
     ∙ ap (λ x. told_levels legs k ++ x ∷ []) (f ∙ ap (in_order told_before) e)
     ∙ sym (levels-suc legs k)
     ∙ ap (told_levels legs) a
@@ -193,17 +193,17 @@ walks_of legs (suc k) =
     ∙ ap (λ l. told_walks legs k ++ l) (append-nil (in_order told_before (told_level legs (suc k))))
     ∙ sym (walks-suc legs k)
 
-map_flat : (xss : List (List WalkRow)) → map told_by_row (flat_map (λ x. x) xss) ≡ flat_map (λ x. x) (map (map told_by_row) xss)
+map_flat : (xss : List (List WalkRow)) → map row_view (flat_map (λ x. x) xss) ≡ flat_map (λ x. x) (map (map row_view) xss)
 map_flat [] = refl
-map_flat (xs ∷ xss) = map-append told_by_row xs (flat_map (λ x. x) xss) ∙ ap (λ l. map told_by_row xs ++ l) (map_flat xss)
+map_flat (xs ∷ xss) = map-append row_view xs (flat_map (λ x. x) xss) ∙ ap (λ l. map row_view xs ++ l) (map_flat xss)
 
-pub table_is : (legs : List (List Leg)) (k : ℕ) (sorted : List (List WalkRow)) → 0 < k → map (map told_by_row) sorted ≡ told_levels legs k → map told_by_row (flat_map (λ x. x) (drop 1 sorted)) ≡ told_walks legs (k - 1)
+pub table_is : (legs : List (List Leg)) (k : ℕ) (sorted : List (List WalkRow)) → 0 < k → map (map row_view) sorted ≡ told_levels legs k → map row_view (flat_map (λ x. x) (drop 1 sorted)) ≡ told_walks legs (k - 1)
 table_is legs zero sorted l s = absurd (omega arith)
 table_is legs (suc k) sorted l s =
     let a : k ≡ suc k - 1 = omega arith in
     map_flat (drop 1 sorted) ∙ ap (flat_map (λ x. x)) (dropped sorted ∙ ap (drop 1) s) ∙ walks_of legs k ∙ ap (told_walks legs) a
   where
-    dropped : (xss : List (List WalkRow)) → map (map told_by_row) (drop 1 xss) ≡ drop 1 (map (map told_by_row) xss)
+    dropped : (xss : List (List WalkRow)) → map (map row_view) (drop 1 xss) ≡ drop 1 (map (map row_view) xss)
     dropped [] = refl
     dropped (xs ∷ xss) = refl
 

@@ -49,8 +49,8 @@ abbrev pub legs_by : List Block → List Entry → Option ℕ → List Leg
 legs_by accepts entries over = in_order leg_before (plain_entry_legs entries ++ plain_gap_legs over (gaps_by accepts entries))
 
 -- a span as a block
-abbrev pub block_of : Span → Block
-block_of s = record { lo = s.lo; hi = s.hi }
+abbrev pub span_view : Span → Block
+span_view s = record { lo = s.lo; hi = s.hi }
 
 -- the leg leads on some addresses, to addresses of one of so many nodes
 pub record IsLegOf (count : ℕ) (l : Leg) : Type 0 where

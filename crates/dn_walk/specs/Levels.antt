@@ -8,7 +8,7 @@ use Rattle.dn_net.specs.WalkRules.{walk_limit, is_wide}
 use Rattle.dn_walk.specs.declared.leg.Leg.{Leg}
 use Rattle.dn_walk.specs.declared.level.Levels.{Levels}
 use Rattle.dn_walk.specs.declared.fault.WalkFault.{WalkFault}
-use Rattle.dn_walk.specs.Rows.{Told, told_by_row, walk_fault_view}
+use Rattle.dn_walk.specs.Rows.{Told, row_view, walk_fault_view}
 
 -- the last address at which it comes out
 abbrev pub told_last : Told → ℕ
@@ -63,8 +63,8 @@ told_levels legs (suc k) = told_levels legs k ++ in_order told_before (told_leve
 
 -- the levels that have been made, from the legs of the nodes
 pub record AreLevels (legs : List (List Leg)) (l : Levels) : Type 0 where
-  pub sorted : map (map told_by_row) l.sorted.items ≡ told_levels legs (length l.sorted.items)
-  pub newest : map told_by_row l.newest.items ≡ told_level legs (length l.sorted.items)
+  pub sorted : map (map row_view) l.sorted.items ≡ told_levels legs (length l.sorted.items)
+  pub newest : map row_view l.newest.items ≡ told_level legs (length l.sorted.items)
   pub room : l.room + length (told_walks legs (length l.sorted.items)) ≡ walk_limit
 
 -- the rule that a fault says is `Wide`, and then the fact holds

@@ -21,8 +21,8 @@ pub record Told : Type 0 where
   pub len : ℕ
 
 -- what a row of the code tells
-abbrev pub told_by_row : WalkRow → Told
-told_by_row r = record { start = r.start; lo = r.span.lo; hi = r.span.hi; end = r.end; base = r.base; len = r.len }
+abbrev pub row_view : WalkRow → Told
+row_view r = record { start = r.start; lo = r.span.lo; hi = r.span.hi; end = r.end; base = r.base; len = r.len }
 
 -- what a walk tells, without its choices
 abbrev pub told_by_walk : Walk → Told
@@ -41,7 +41,7 @@ pub record AreAccepted (net : List NodeDecl) (sets : List (List Span)) : Type 0 
 -- the rows are the live walks of a legal net, of 1 to 65 choices, in their order, and the sets are those of its nodes
 pub record AreWalksOf (net : List NodeDecl) (table : Table) : Type 0 where
   pub legal : IsLegalNet net
-  pub same : map told_by_row table.rows ≡ map told_by_walk (live_walks net step_limit)
+  pub same : map row_view table.rows ≡ map told_by_walk (live_walks net step_limit)
   pub accepted : AreAccepted net table.accepted
 
 -- the broken rule that a fault says, with what it carries; allocation failure says none

@@ -1,9 +1,9 @@
 //! The legs of each node: what its choices lead on, and where to.
 
-ghost use Rattle.std.specs.Prelude.{◌≡◌, ℕ, ◌++◌, ◌||◌, map, IfOk, OnOk, IsTrue, ◌<◌, length};
+ghost use Rattle.std.specs.Prelude.{◌≡◌, ◌++◌, ◌||◌, map, IfOk, OnOk, IsTrue, ◌<◌, length};
 ghost use Rattle.std.specs.List.{All, list_all};
 ghost use Rattle.dn_net.specs.Rules.{KeepsNodeRules, block_in_range, entry_in_range};
-ghost use Rattle.dn_walk.specs.Legs.{AreLegs, told_legs, legs_by, gaps_by, plain_entry_legs, dest_leg, gap_leg, block_of};
+ghost use Rattle.dn_walk.specs.Legs.{AreLegs, told_legs, legs_by, gaps_by, plain_entry_legs, dest_leg, gap_leg, span_view};
 
 use crate::spans::{block_spans, covered};
 use dn_base::OutOfMemory;
@@ -84,7 +84,7 @@ fn push_dests(legs: &mut Vec<Leg>, block: Block, dests: &[Dest]) -> Result<(), O
 /// A leg for each gap, to the same addresses of the node.
 fn push_gaps(legs: &mut Vec<Leg>, node: u16, gaps: &[Span]) -> Result<(), OutOfMemory>
     ensures { OnOk result (legs.new.items
-        ≡ legs.old.items ++ map (gap_leg node) (map block_of gaps.now)) }
+        ≡ legs.old.items ++ map (gap_leg node) (map span_view gaps.now)) }
 {
     for gap in gaps {
         legs.push(Leg {
@@ -101,7 +101,7 @@ fn push_gaps(legs: &mut Vec<Leg>, node: u16, gaps: &[Span]) -> Result<(), OutOfM
 fn gaps(alloc: Global, accepts: &[Block], entries: &[Entry]) -> Result<SpanSet, OutOfMemory>
     requires accepts { IsTrue (list_all block_in_range accepts.now) }
     requires entries { IsTrue (list_all entry_in_range entries.now) }
-    ensures { IfOk result (λ s. map block_of s ≡ gaps_by accepts.now entries.now) }
+    ensures { IfOk result (λ s. map span_view s ≡ gaps_by accepts.now entries.now) }
 {
     covered(alloc, block_spans(alloc, accepts, entries)?)?.complement(alloc)
 }

@@ -1,13 +1,13 @@
 //! The live walks of a net, level by level: those of each length from those of one choice fewer.
 
-ghost use Rattle.std.specs.Prelude.{◌≡◌, ℕ, ◌+◌, ◌-◌, ◌≤◌, ◌<◌, ◌++◌, ◌∷◌, [], map, filter, length, vec_len, IfOk, IfErr, OnOk, IsTrue, List};
+ghost use Rattle.std.specs.Prelude.{◌≡◌, ◌+◌, ◌-◌, ◌≤◌, ◌<◌, ◌++◌, ◌∷◌, [], map, filter, length, vec_len, IfOk, IfErr, OnOk, IsTrue, List};
 ghost use Rattle.std.specs.List.{All, flat_map};
 ghost use Rattle.std.specs.List.Sorted.{IsNonDecreasingBy};
 ghost use Rattle.dn_net.specs.Walks.{in_order};
 ghost use Rattle.dn_net.specs.WalkRules.{walk_limit};
 ghost use Rattle.dn_walk.specs.declared.leg.Leg.{Leg};
-ghost use Rattle.dn_walk.specs.Rows.{told_by_row};
-ghost use Rattle.dn_walk.specs.Legs.{AreLegs, IsLegOf};
+ghost use Rattle.dn_walk.specs.Rows.{row_view};
+ghost use Rattle.dn_walk.specs.Legs.{AreLegs};
 ghost use Rattle.dn_walk.specs.Levels.{told_last, told_meets, told_onto, told_extended, told_stills, told_before, told_walks, AreLevels, IsRowOf, IsWideWhere};
 
 use crate::fault::WalkFault;
@@ -72,7 +72,7 @@ impl Levels {
 
 /// The walk of no choice from each node: each address comes to itself.
 fn still_rows(alloc: Global, nodes: u16) -> Result<Vec<WalkRow>, AllocError>
-    ensures { IfOk result (λ v. map told_by_row v.items ≡ told_stills 0 nodes) }
+    ensures { IfOk result (λ v. map row_view v.items ≡ told_stills 0 nodes) }
 {
     let mut rows = Vec::with_capacity(alloc, usize::from(nodes))?;
     for node in 0..nodes {
@@ -90,8 +90,8 @@ fn still_rows(alloc: Global, nodes: u16) -> Result<Vec<WalkRow>, AllocError>
 /// The rows by start and by the first and the last address of the span. Where these are equal they stay
 /// in the order in which they come.
 fn in_order(mut rows: Vec<WalkRow>) -> Result<Items<WalkRow>, AllocError>
-    ensures { IfOk result (λ l. map told_by_row l
-        ≡ in_order told_before (map told_by_row rows.items)) }
+    ensures { IfOk result (λ l. map row_view l
+        ≡ in_order told_before (map row_view rows.items)) }
 {
     rows.sort_by_key(|row| (row.start, row.span.lo, row.span.hi))?;
     Ok(Items::from_vec(rows))
@@ -105,11 +105,12 @@ fn extended(
     room: usize,
 ) -> Result<Vec<WalkRow>, WalkFault>
     requires legs { All (AreLegs (length legs.now)) legs.now }
-    requires rows { All (λ r. IsRowOf (length legs.now) 64 (told_by_row r)) rows.now }
-    ensures made { IfOk result (λ v. map told_by_row v.items
-        ≡ flat_map (told_extended legs.now) (map told_by_row rows.now)) }
+    requires rows { All (λ r. IsRowOf (length legs.now) 64 (row_view r)) rows.now }
+    ensures made { IfOk result (λ v. map row_view v.items
+        ≡ flat_map (told_extended legs.now) (map row_view rows.now)) }
     ensures fits { IfOk result (λ v. vec_len v ≤ room) }
-    ensures wide { IfErr result (IsWideWhere (room < length (flat_map (told_extended legs.now) (map told_by_row rows.now)))) }
+    ensures wide { IfErr result (IsWideWhere (room < length (flat_map (told_extended legs.now)
+        (map row_view rows.now)))) }
 {
     let mut out = Vec::new(alloc);
     for row in rows {
@@ -128,7 +129,7 @@ fn met_by<'a>(row: &WalkRow, legs: &'a [Leg]) -> &'a [Leg]
     requires firsts { IsNonDecreasingBy (λ (l : Leg). l.lo) legs.now }
     requires lasts { IsNonDecreasingBy (λ (l : Leg). l.hi) legs.now }
     requires order { All (λ (l : Leg). l.lo ≤ l.hi) legs.now }
-    ensures { result.now ≡ filter (told_meets (told_by_row row.now)) legs.now }
+    ensures { result.now ≡ filter (told_meets (row_view row.now)) legs.now }
 {
     let base = row.base;
     let last = last_out(row);
@@ -141,12 +142,12 @@ fn met_by<'a>(row: &WalkRow, legs: &'a [Leg]) -> &'a [Leg]
 fn extend_row(row: &WalkRow, met: &[Leg], out: &mut Vec<WalkRow>) -> Result<(), AllocError>
     requires reach { row.now.base + (row.now.span.hi - row.now.span.lo) ≤ TOP }
     requires short { row.now.len ≤ 64 }
-    requires meet { All (λ l. IsTrue (told_meets (told_by_row row.now) l)) met.now }
+    requires meet { All (λ l. IsTrue (told_meets (row_view row.now) l)) met.now }
     requires order { All (λ (l : Leg). l.lo ≤ l.hi) met.now }
     requires low { All (λ (l : Leg). l.hi ≤ TOP) met.now }
     requires far { All (λ (l : Leg). l.addr + (l.hi - l.lo) ≤ TOP) met.now }
-    ensures { OnOk result (map told_by_row out.new.items
-        ≡ map told_by_row out.old.items ++ map (told_onto (told_by_row row.now)) met.now) }
+    ensures { OnOk result (map row_view out.new.items
+        ≡ map row_view out.old.items ++ map (told_onto (row_view row.now)) met.now) }
 {
     for leg in met {
         out.push(onto(row, leg))?;
@@ -157,7 +158,7 @@ fn extend_row(row: &WalkRow, met: &[Leg], out: &mut Vec<WalkRow>) -> Result<(), 
 /// The last address at which the walk comes out.
 fn last_out(row: &WalkRow) -> u64
     requires { row.now.base + (row.now.span.hi - row.now.span.lo) ≤ TOP }
-    ensures { result ≡ told_last (told_by_row row.now) }
+    ensures { result ≡ told_last (row_view row.now) }
 {
     row.base + (row.span.hi - row.span.lo)
 }
@@ -166,11 +167,11 @@ fn last_out(row: &WalkRow) -> u64
 fn onto(row: &WalkRow, leg: &Leg) -> WalkRow
     requires reach { row.now.base + (row.now.span.hi - row.now.span.lo) ≤ TOP }
     requires short { row.now.len ≤ 64 }
-    requires meet { IsTrue (told_meets (told_by_row row.now) leg.now) }
+    requires meet { IsTrue (told_meets (row_view row.now) leg.now) }
     requires order { leg.now.lo ≤ leg.now.hi }
     requires low { leg.now.hi ≤ TOP }
     requires far { leg.now.addr + (leg.now.hi - leg.now.lo) ≤ TOP }
-    ensures { told_by_row result ≡ told_onto (told_by_row row.now) leg.now }
+    ensures { row_view result ≡ told_onto (row_view row.now) leg.now }
 {
     let lo = row.base.max(leg.lo);
     let hi = last_out(row).min(leg.hi);

@@ -4,7 +4,7 @@ ghost use Rattle.std.specs.Prelude.{◌≡◌, ℕ, ◌++◌, map, IfOk, IsTrue}
 ghost use Rattle.std.specs.List.{list_all};
 ghost use Rattle.dn_net.specs.Rules.{block_in_range, entry_in_range};
 ghost use Rattle.dn_interval.specs.Spans.{has};
-ghost use Rattle.dn_walk.specs.Legs.{block_of};
+ghost use Rattle.dn_walk.specs.Legs.{span_view};
 
 use dn_base::OutOfMemory;
 use dn_interval::{Span, SpanSet};
@@ -19,7 +19,7 @@ pub(crate) fn block_spans(
 ) -> Result<Vec<Span>, OutOfMemory>
     requires accepts { IsTrue (list_all block_in_range accepts.now) }
     requires entries { IsTrue (list_all entry_in_range entries.now) }
-    ensures { IfOk result (λ v. map block_of v.items
+    ensures { IfOk result (λ v. map span_view v.items
         ≡ accepts.now ++ map (λ e. e.block) entries.now) }
 {
     let mut spans = accept_spans(alloc, accepts)?;
@@ -33,7 +33,7 @@ pub(crate) fn block_spans(
 /// The accept blocks, as spans.
 pub(crate) fn accept_spans(alloc: Global, accepts: &[Block]) -> Result<Vec<Span>, OutOfMemory>
     requires { IsTrue (list_all block_in_range accepts.now) }
-    ensures { IfOk result (λ v. map block_of v.items ≡ accepts.now) }
+    ensures { IfOk result (λ v. map span_view v.items ≡ accepts.now) }
 {
     let mut spans = Vec::with_capacity(alloc, accepts.len())?;
     for block in accepts {

@@ -9,7 +9,7 @@ ghost use Rattle.dn_net.specs.WalkRules.{walk_fault, has_loop, is_deep};
 ghost use Rattle.dn_walk.specs.declared.leg.Leg.{Leg};
 ghost use Rattle.dn_walk.specs.declared.level.TheConstants.{WALK_LIMIT};
 ghost use Rattle.dn_walk.specs.declared.walks.WalkRow.{WalkRow};
-ghost use Rattle.dn_walk.specs.Rows.{AreWalksOf, walk_fault_view, told_by_row};
+ghost use Rattle.dn_walk.specs.Rows.{AreWalksOf, walk_fault_view, row_view};
 ghost use Rattle.dn_walk.specs.Levels.{AreLevels, told_walks};
 ghost use Rattle.dn_walk.specs.Ways.{told_cycle, told_path};
 
@@ -97,9 +97,10 @@ pub fn walks(alloc: Global, net: &Net) -> Result<WalkTable, WalkFault>
 fn check_cycles(alloc: Global, net: &Net, levels: &Levels) -> Result<(), WalkFault>
     requires rules { KeepsNodeRules net.now }
     requires there { All (λ (r : WalkRow). r.start < length net.now) levels.now.newest.items }
-    requires sorted { All (λ level. IsNonDecreasingBy (λ (r : WalkRow). r.start) level) levels.now.sorted.items }
+    requires sorted { All (λ level. IsNonDecreasingBy
+        (λ (r : WalkRow). r.start) level) levels.now.sorted.items }
     ensures { Checks walk_fault_view result (option_map has_loop
-        (told_cycle net.now (map (map told_by_row) levels.now.sorted.items) (map told_by_row levels.now.newest.items))) }
+        (told_cycle net.now (map (map row_view) levels.now.sorted.items) (map row_view levels.now.newest.items))) }
 {
     let Some(first) = least_start(&levels.newest, true) else {
         return Ok(());
@@ -112,9 +113,10 @@ fn check_cycles(alloc: Global, net: &Net, levels: &Levels) -> Result<(), WalkFau
 fn check_depth(alloc: Global, net: &Net, levels: &Levels) -> Result<(), WalkFault>
     requires rules { KeepsNodeRules net.now }
     requires there { All (λ (r : WalkRow). r.start < length net.now) levels.now.newest.items }
-    requires sorted { All (λ level. IsNonDecreasingBy (λ (r : WalkRow). r.start) level) levels.now.sorted.items }
+    requires sorted { All (λ level. IsNonDecreasingBy
+        (λ (r : WalkRow). r.start) level) levels.now.sorted.items }
     ensures { Checks walk_fault_view result (option_map is_deep
-        (told_path net.now (map (map told_by_row) levels.now.sorted.items) (map told_by_row levels.now.newest.items))) }
+        (told_path net.now (map (map row_view) levels.now.sorted.items) (map row_view levels.now.newest.items))) }
 {
     let Some(first) = least_start(&levels.newest, false) else {
         return Ok(());
@@ -128,7 +130,7 @@ fn table_rows(alloc: Global, levels: &Levels) -> Result<Vec<WalkRow>, AllocError
     requires some { 0 < length levels.now.sorted.items }
     requires room { levels.now.room ≤ WALK_LIMIT }
     ensures { IfOk result (λ rows. (legs : List (List Leg)) → AreLevels legs levels.now
-        → map told_by_row rows.items ≡ told_walks legs (length levels.now.sorted.items - 1)) }
+        → map row_view rows.items ≡ told_walks legs (length levels.now.sorted.items - 1)) }
 {
     let mut rows = Vec::with_capacity(alloc, WALK_LIMIT - levels.room)?;
     for level in &levels.sorted[1..] {

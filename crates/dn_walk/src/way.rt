@@ -1,6 +1,6 @@
 //! The names of a cycle or a path: at each place the least name from which the rest can be taken.
 
-ghost use Rattle.std.specs.Prelude.{◌≡◌, ℕ, ◌+◌, ◌≤◌, ◌<◌, ◌∷◌, ◌||◌, not, map, filter, length, IfOk, IfSome, IsTrue, None, nat_le};
+ghost use Rattle.std.specs.Prelude.{◌≡◌, ◌+◌, ◌≤◌, ◌<◌, ◌∷◌, ◌||◌, not, map, filter, length, IfOk, IsTrue, None, nat_le};
 ghost use Rattle.std.specs.List.{All, list_all};
 ghost use Rattle.std.specs.List.Sorted.{IsNonDecreasingBy};
 ghost use Rattle.dn_net.specs.Decode.{steps, moved, top};
@@ -8,7 +8,7 @@ ghost use Rattle.dn_net.specs.Names.{name_lt};
 ghost use Rattle.dn_net.specs.Rules.{KeepsNodeRules};
 ghost use Rattle.dn_net.specs.WalkRules.{way_by};
 ghost use Rattle.dn_walk.specs.declared.walks.WalkRow.{WalkRow};
-ghost use Rattle.dn_walk.specs.Rows.{told_by_row};
+ghost use Rattle.dn_walk.specs.Rows.{row_view};
 ghost use Rattle.dn_walk.specs.Ways.{least_of, lesser_name, start_names, is_cyclic, told_leads, level_leads, levels_lead};
 
 use crate::walks::WalkRow;
@@ -28,7 +28,7 @@ pub(crate) enum Goal {
 /// The least name that follows one of the rows; where `back` is set, of those that come back to where
 /// they began.
 pub(crate) fn least_start(rows: &[WalkRow], back: bool) -> Option<Name>
-    ensures { result ≡ least_of (start_names back (map told_by_row rows.now)) }
+    ensures { result ≡ least_of (start_names back (map row_view rows.now)) }
 {
     let mut least = None;
     for row in rows {
@@ -47,14 +47,14 @@ pub(crate) fn least_start(rows: &[WalkRow], back: bool) -> Option<Name>
 
 /// Whether the row is sought: any, or where `back` is set one that comes back.
 fn counts(row: &WalkRow, back: bool) -> bool
-    ensures { result ≡ (not back || is_cyclic (told_by_row row.now)) }
+    ensures { result ≡ (not back || is_cyclic (row_view row.now)) }
 {
     !back || is_cycle(row)
 }
 
 /// Whether each address of the walk comes to itself.
 fn is_cycle(row: &WalkRow) -> bool
-    ensures { result ≡ is_cyclic (told_by_row row.now) }
+    ensures { result ≡ is_cyclic (row_view row.now) }
 {
     row.start == row.end && row.base == row.span.lo
 }
@@ -89,7 +89,8 @@ pub(crate) fn way(
     requires there { first.node < length net.now }
     requires sorted { All (λ level. IsNonDecreasingBy (λ (r : WalkRow). r.start) level) levels.now }
     ensures { IfOk result (λ names. names
-        ≡ first ∷ way_by (steps net.now) (levels_lead goal (map (map told_by_row) levels.now)) (length levels.now) first) }
+        ≡ first ∷ way_by (steps net.now) (levels_lead goal
+        (map (map row_view) levels.now)) (length levels.now) first) }
 {
     let mut names = Items::new(alloc);
     names.push(first)?;
@@ -111,7 +112,8 @@ fn least_step(net: &Net, name: Name, level: &[WalkRow], goal: Goal) -> Option<Na
     requires rules { KeepsNodeRules net.now }
     requires there { name.node < length net.now }
     requires sorted { IsNonDecreasingBy (λ (r : WalkRow). r.start) level.now }
-    ensures { result ≡ least_of (filter (level_leads goal (map told_by_row level.now)) (steps net.now name)) }
+    ensures { result ≡ least_of (filter (level_leads goal
+        (map row_view level.now)) (steps net.now name)) }
 {
     match net.step(name) {
         Step::To(dests, offset) => least_leading(dests, offset, level, goal),
@@ -122,7 +124,8 @@ fn least_step(net: &Net, name: Name, level: &[WalkRow], goal: Goal) -> Option<Na
 fn least_leading(dests: &[Dest], offset: u64, level: &[WalkRow], goal: Goal) -> Option<Name>
     requires reach { IsTrue (list_all (λ d. nat_le (d.addr + offset) top) dests.now) }
     requires sorted { IsNonDecreasingBy (λ (r : WalkRow). r.start) level.now }
-    ensures { result ≡ least_of (filter (level_leads goal (map told_by_row level.now)) (map (moved offset) dests.now)) }
+    ensures { result ≡ least_of (filter (level_leads goal (map row_view level.now))
+        (map (moved offset) dests.now)) }
 {
     let mut least = None;
     for dest in dests {
@@ -140,7 +143,7 @@ fn least_leading(dests: &[Dest], offset: u64, level: &[WalkRow], goal: Goal) -> 
 /// Whether a row of the level leads from the name to the goal. The rows stand by start.
 fn does_lead(level: &[WalkRow], name: Name, goal: Goal) -> bool
     requires { IsNonDecreasingBy (λ (r : WalkRow). r.start) level.now }
-    ensures { result ≡ level_leads goal (map told_by_row level.now) name }
+    ensures { result ≡ level_leads goal (map row_view level.now) name }
 {
     let first = level.partition_point(|row| row.start < name.node);
     let end = level.partition_point(|row| row.start <= name.node);
@@ -154,7 +157,7 @@ fn does_lead(level: &[WalkRow], name: Name, goal: Goal) -> bool
 
 /// Whether the row leads from an address of its start to the goal.
 fn leads(row: &WalkRow, name: Name, goal: Goal) -> bool
-    ensures { result ≡ told_leads goal name (told_by_row row.now) }
+    ensures { result ≡ told_leads goal name (row_view row.now) }
 {
     if row.start != name.node || !row.span.contains(name.addr) {
         return false;

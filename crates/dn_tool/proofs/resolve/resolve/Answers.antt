@@ -1,7 +1,7 @@
 use Rattle.std.proofs.Common.{rules, arith, ◌≡◌, ◌∙◌, ◌++◌, [], ◌∷◌, ap, sym, subst, suc, ◌-◌, length, List, IsTrue}
 use Rattle.dn_net.specs.declared.node.Name.{Name}
 use Rattle.dn_net.specs.Decode.{is_accepted, steps, step_limit}
-use Rattle.dn_net.specs.Names.{each_step, passing, sorted_names, resolved_names}
+use Rattle.dn_net.specs.Names.{each_step, passing_names, sorted_names, resolved_names}
 use Rattle.dn_print.specs.Names.{names_exist}
 use Rattle.dn_tool.proofs.Exists.{resolved_exist}
 use Rattle.dn_tool.proofs.Levels.{is_empty, resolved_by, resolved_at_start, resolved_next, resolved_at_empty, resolved_at_end, set_resolves, resolved_within}
@@ -20,7 +20,7 @@ loop-init c =
 pub loop-preserved : goal.loop-preserved
 loop-preserved c =
     let same : c.list-in-loop.result.now ≡ c.loop.level = search rules in
-    let more : c.next_level.new.accepted.items ≡ c.loop.accepted.items ++ passing (is_accepted c.args.net.now) c.loop.level = c.in_ok-level.ensures.accepted ∙ ap (λ (l : List Name). c.loop.accepted.items ++ passing (is_accepted c.args.net.now) l) same in
+    let more : c.next_level.new.accepted.items ≡ c.loop.accepted.items ++ passing_names (is_accepted c.args.net.now) c.loop.level = c.in_ok-level.ensures.accepted ∙ ap (λ (l : List Name). c.loop.accepted.items ++ passing_names (is_accepted c.args.net.now) l) same in
     let next : c.in_ok-level.level ≡ sorted_names (each_step (steps c.args.net.now) c.loop.level) = c.in_ok-level.ensures.next ∙ ap (λ (l : List Name). sorted_names (each_step (steps c.args.net.now) l)) same in
     record {
       so_far = resolved_next c.args.net.now c.loop.counter c.loop.accepted.items c.next_level.new.accepted.items c.loop.level c.in_ok-level.level (resolved_names c.args.net.now c.args.name) c.loop-test.true c.loop.invariant.so_far more next;

@@ -8,11 +8,11 @@ use Rattle.dn_net.specs.Decode.{top}
 use Rattle.dn_net.specs.Rules.{block_in_range, entry_in_range}
 use Rattle.dn_interval.specs.declared.span.Span.{Span}
 use Rattle.dn_interval.specs.Spans.{has, AreMaximal}
-use Rattle.dn_walk.specs.Legs.{block_of, gaps_by}
+use Rattle.dn_walk.specs.Legs.{span_view, gaps_by}
 use Rattle.dn_walk.proofs.Nodes.{gaps_are}
 use Rattle.dn_walk.proofs.leg.gaps.Goals as goal
 
-left : {E : Type 0} (accepts : List Block) (entries : List Entry) (blocks covered : List Span) → IsTrue (list_all block_in_range accepts) → IsTrue (list_all entry_in_range entries) → map block_of blocks ≡ accepts ++ map (λ e. e.block) entries → ((a : ℕ) → has covered a ≡ has blocks a) → (r : Result (List Span) E) → IfOk r (λ rest. (a : ℕ) → a ≤ top → has rest a ≡ not (has covered a)) → IfOk r (λ rest. AreMaximal rest) → IfOk r (λ rest. map block_of rest ≡ gaps_by accepts entries)
+left : {E : Type 0} (accepts : List Block) (entries : List Entry) (blocks covered : List Span) → IsTrue (list_all block_in_range accepts) → IsTrue (list_all entry_in_range entries) → map span_view blocks ≡ accepts ++ map (λ e. e.block) entries → ((a : ℕ) → has covered a ≡ has blocks a) → (r : Result (List Span) E) → IfOk r (λ rest. (a : ℕ) → a ≤ top → has rest a ≡ not (has covered a)) → IfOk r (λ rest. AreMaximal rest) → IfOk r (λ rest. map span_view rest ≡ gaps_by accepts entries)
 left accepts entries blocks covered ar er is cov (Ok rest) same maximal = gaps_are accepts entries blocks covered rest ar er is cov maximal same
 left accepts entries blocks covered ar er is cov (Err e) same maximal = tt
 

@@ -4,7 +4,7 @@ use Rattle.std.proofs.lemmas.List.{append-nil}
 use Rattle.std.proofs.lemmas.List.Sorted.{answers_always}
 use Rattle.dn_net.specs.Walks.{in_order}
 use Rattle.dn_walk.specs.declared.leg.Leg.{Leg}
-use Rattle.dn_walk.specs.Legs.{plain_entry_legs, plain_gap_legs, gap_leg, leg_before, gaps_by, block_of}
+use Rattle.dn_walk.specs.Legs.{plain_entry_legs, plain_gap_legs, gap_leg, leg_before, gaps_by, span_view}
 use Rattle.dn_walk.proofs.Keys.{legs_in_order}
 use Rattle.dn_walk.proofs.leg.node_legs.Goals as goal
 use Rattle.dn_walk.proofs.leg.node_legs.Goals.{in-Some+in_ok-gaps+in_ok-push_gaps, in_default}
@@ -19,8 +19,8 @@ returns c =
       | in-Some+in_ok-gaps+in_ok-push_gaps w ↦
           ap (λ v. v.items) w.legs-is
           ∙ w.in_ok-push_gaps.ensures
-          ∙ ap (λ l. l ++ map (gap_leg w.in-Some.node) (map block_of w.spans.result.now)) c.in_ok-legs.ensures
-          ∙ ap (λ l. plain_entry_legs entries ++ map (gap_leg w.in-Some.node) l) (ap (map block_of) w.spans.ensures.value ∙ w.in_ok-gaps.ensures)
+          ∙ ap (λ l. l ++ map (gap_leg w.in-Some.node) (map span_view w.spans.result.now)) c.in_ok-legs.ensures
+          ∙ ap (λ l. plain_entry_legs entries ++ map (gap_leg w.in-Some.node) l) (ap (map span_view) w.spans.ensures.value ∙ w.in_ok-gaps.ensures)
           ∙ ap (λ o. plain_entry_legs entries ++ plain_gap_legs o (gaps_by accepts entries)) (sym w.in-Some.is)
       | in_default w ↦
           ap (λ v. v.items) w.legs-is

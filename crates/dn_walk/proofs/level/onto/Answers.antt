@@ -1,6 +1,6 @@
 -- The addresses that go on lie in the span and in the leg.
 use Rattle.std.proofs.Common.{◌≤◌, ◌+◌, ◌-◌, arith}
-use Rattle.dn_walk.specs.Rows.{told_by_row}
+use Rattle.dn_walk.specs.Rows.{row_view}
 use Rattle.dn_walk.proofs.Meets.{meets_parts}
 use Rattle.dn_walk.proofs.level.onto.Goals as goal
 
@@ -8,7 +8,7 @@ pub invariant_of-result : goal.invariant_of-result
 invariant_of-result c =
     let row = c.args.row.now in
     let leg = c.args.leg.now in
-    let m = meets_parts (told_by_row row) leg c.requires.meet in
+    let m = meets_parts (row_view row) leg c.requires.meet in
     let m0 : row.base ≤ leg.hi = m.0 in
     let m1 : leg.lo ≤ row.base + (row.span.hi - row.span.lo) = m.1 in
     record {

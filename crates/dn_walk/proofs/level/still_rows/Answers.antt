@@ -1,7 +1,7 @@
 -- One node more.
 use Rattle.std.proofs.Common.{◌≡◌, ◌∙◌, ◌+◌, ◌++◌, ◌∷◌, [], suc, sym, ap, map, arith}
 use Rattle.std.proofs.lemmas.List.{map-append}
-use Rattle.dn_walk.specs.Rows.{told_by_row}
+use Rattle.dn_walk.specs.Rows.{row_view}
 use Rattle.dn_walk.specs.Levels.{told_still, told_stills}
 use Rattle.dn_walk.proofs.Told.{stills_more}
 use Rattle.dn_walk.proofs.level.still_rows.Goals as goal
@@ -11,8 +11,8 @@ loop-node-preserved c =
     let n = c.loop-node.node in
     let a : suc n ≡ n + 1 = omega arith in
     let b : n ≡ 0 + n = omega arith in
-    ap (map told_by_row) c.in_ok-push.ensures.items
-    ∙ map-append told_by_row c.loop-node.rows.items _
+    ap (map row_view) c.in_ok-push.ensures.items
+    ∙ map-append row_view c.loop-node.rows.items _
     ∙ ap (λ l. l ++ told_still n ∷ []) c.loop-node.invariant
     ∙ ap (λ m. told_stills 0 n ++ told_still m ∷ []) b
     ∙ sym (stills_more 0 n)

@@ -1,10 +1,10 @@
 -- The least start is a node of the net.
 use Rattle.std.proofs.Common.{◌∙◌, sym, ap, map, length, false}
-use Rattle.dn_walk.specs.Rows.{told_by_row}
+use Rattle.dn_walk.specs.Rows.{row_view}
 use Rattle.dn_walk.specs.Ways.{least_of, start_names}
 use Rattle.dn_walk.proofs.Onward.{start_there}
 use Rattle.dn_walk.proofs.walks.check_depth.Goals as goal
 
 pub way-requires-clause-there : goal.way-requires-clause-there
 way-requires-clause-there c =
-    start_there false c.args.levels.now.newest.items (length c.args.net.now) c.in-Some.first c.requires.there (ap (λ l. least_of (start_names false (map told_by_row l))) (sym c.deref.ensures.value) ∙ sym c.least_start.ensures ∙ c.in-Some.is)
+    start_there false c.args.levels.now.newest.items (length c.args.net.now) c.in-Some.first c.requires.there (ap (λ l. least_of (start_names false (map row_view l))) (sym c.deref.ensures.value) ∙ sym c.least_start.ensures ∙ c.in-Some.is)

@@ -12,7 +12,7 @@ use Rattle.dn_net.specs.declared.node.Name.{Name}
 use Rattle.dn_walk.specs.declared.leg.Leg.{Leg}
 use Rattle.dn_walk.specs.declared.level.Levels.{Levels}
 use Rattle.dn_walk.specs.declared.walks.WalkRow.{WalkRow}
-use Rattle.dn_walk.specs.Rows.{told_by_row}
+use Rattle.dn_walk.specs.Rows.{row_view}
 use Rattle.dn_walk.specs.Legs.{told_legs}
 use Rattle.dn_walk.specs.Levels.{AreLevels, told_level, told_levels, told_walks}
 use Rattle.dn_walk.specs.Ways.{least_of, start_names, told_cycle, told_path}
@@ -56,11 +56,11 @@ sorted_starts net l h = sorted_by_start (map told_legs net) (length l.sorted.ite
 few : (net : List NodeDecl) (l : Levels) → AreLevels (map told_legs net) l → length (told_walks (map told_legs net) (length l.sorted.items)) ≤ walk_limit
 few net l h = let r = h.room in omega arith
 
-cycle_same : (net : List NodeDecl) (l : Levels) → AreLevels (map told_legs net) l → told_cycle net (map (map told_by_row) l.sorted.items) (map told_by_row l.newest.items) ≡ told_cycle net (told_levels (map told_legs net) (length l.sorted.items)) (told_level (map told_legs net) (length l.sorted.items))
-cycle_same net l h = ap (λ x. told_cycle net x (map told_by_row l.newest.items)) h.sorted ∙ ap (told_cycle net (told_levels (map told_legs net) (length l.sorted.items))) h.newest
+cycle_same : (net : List NodeDecl) (l : Levels) → AreLevels (map told_legs net) l → told_cycle net (map (map row_view) l.sorted.items) (map row_view l.newest.items) ≡ told_cycle net (told_levels (map told_legs net) (length l.sorted.items)) (told_level (map told_legs net) (length l.sorted.items))
+cycle_same net l h = ap (λ x. told_cycle net x (map row_view l.newest.items)) h.sorted ∙ ap (told_cycle net (told_levels (map told_legs net) (length l.sorted.items))) h.newest
 
-path_same : (net : List NodeDecl) (l : Levels) → AreLevels (map told_legs net) l → told_path net (map (map told_by_row) l.sorted.items) (map told_by_row l.newest.items) ≡ told_path net (told_levels (map told_legs net) (length l.sorted.items)) (told_level (map told_legs net) (length l.sorted.items))
-path_same net l h = ap (λ x. told_path net x (map told_by_row l.newest.items)) h.sorted ∙ ap (told_path net (told_levels (map told_legs net) (length l.sorted.items))) h.newest
+path_same : (net : List NodeDecl) (l : Levels) → AreLevels (map told_legs net) l → told_path net (map (map row_view) l.sorted.items) (map row_view l.newest.items) ≡ told_path net (told_levels (map told_legs net) (length l.sorted.items)) (told_level (map told_legs net) (length l.sorted.items))
+path_same net l h = ap (λ x. told_path net x (map row_view l.newest.items)) h.sorted ∙ ap (told_path net (told_levels (map told_legs net) (length l.sorted.items))) h.newest
 
 acyclic_more : (net : List NodeDecl) (k c : ℕ) → c ≡ k + 1 → Acyclic net k → least_of (start_names true (told_level (map told_legs net) c)) ≡ None → Acyclic net c
 acyclic_more net k c s a e = λ j l m. by j l (last j m)
@@ -109,7 +109,7 @@ levels-preserved c =
     let one = c.in_ok-levels-2.ensures.one_more in
     let size : vec_len old.sorted ≡ length old.sorted.items = search rules in
     let k : length old.sorted.items < 64 = omega (arith, c.len.ensures, c.levels-test.true) in
-    let none = cycle_told net (map (map told_by_row) l.sorted.items) (map told_by_row l.newest.items) (no_names has_loop _ c.in_ok-check_cycles.ensures) in
+    let none = cycle_told net (map (map row_view) l.sorted.items) (map row_view l.newest.items) (no_names has_loop _ c.in_ok-check_cycles.ensures) in
     record {
       levels = h;
       shallow = omega arith;
@@ -206,7 +206,7 @@ returns-in_err-check_depth-clause-checks c =
     let k = inv.shallow in
     let size : vec_len old.sorted ≡ length old.sorted.items = search rules in
     let ended : Ended net (length old.sorted.items) = elim c.levels-test.branch [
-      | then-levels-test+else-not-is_empty w ↦ (let none : length old.newest.items ≡ 0 = grind (arith, nat_tests, w.is_empty.ensures, w.if-not-is_empty.false) in inr (sym inv.levels.newest ∙ ap (map told_by_row) (nothing old.newest.items none)))
+      | then-levels-test+else-not-is_empty w ↦ (let none : length old.newest.items ≡ 0 = grind (arith, nat_tests, w.is_empty.ensures, w.if-not-is_empty.false) in inr (sym inv.levels.newest ∙ ap (map row_view) (nothing old.newest.items none)))
       | else-levels-test w ↦ inl (omega (arith, c.len.ensures, w.levels-test.false))
     ] in
     let deep : (names : List Name) → told_path net (told_levels (map told_legs net) (length l.sorted.items)) (told_level (map told_legs net) (length l.sorted.items)) ≡ Some names → walk_fault net ≡ Some (is_deep names) = λ names told. deep_at net c.requires.rules (length old.sorted.items) (length l.sorted.items) names one k ended inv.acyclic (few net l h) told in
@@ -234,7 +234,7 @@ returns-clause-checks c =
     let one = c.in_ok-levels-3.ensures.one_more in
     let k = inv.shallow in
     let suc_is : length l.sorted.items ≡ suc (length old.sorted.items) = omega arith in
-    let none = path_told net (map (map told_by_row) l.sorted.items) (map told_by_row l.newest.items) (no_names is_deep _ c.in_ok-check_depth.ensures) in
+    let none = path_told net (map (map row_view) l.sorted.items) (map row_view l.newest.items) (no_names is_deep _ c.in_ok-check_depth.ensures) in
     let legal = legal_is net c.requires.rules (length old.sorted.items) (length l.sorted.items) suc_is inv.acyclic k (few net l h) (ap (λ rows. least_of (start_names false rows)) (sym h.newest) ∙ none) in
     legal.none
 
@@ -248,7 +248,7 @@ returns-clause-walks c =
     let one = c.in_ok-levels-3.ensures.one_more in
     let k = inv.shallow in
     let suc_is : length l.sorted.items ≡ suc (length old.sorted.items) = omega arith in
-    let none = path_told net (map (map told_by_row) l.sorted.items) (map told_by_row l.newest.items) (no_names is_deep _ c.in_ok-check_depth.ensures) in
+    let none = path_told net (map (map row_view) l.sorted.items) (map row_view l.newest.items) (no_names is_deep _ c.in_ok-check_depth.ensures) in
     let legal = legal_is net c.requires.rules (length old.sorted.items) (length l.sorted.items) suc_is inv.acyclic k (few net l h) (ap (λ rows. least_of (start_names false rows)) (sym h.newest) ∙ none) in
     let pred : length l.sorted.items - 1 ≡ length old.sorted.items = omega arith in
     record {

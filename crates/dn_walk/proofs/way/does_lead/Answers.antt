@@ -3,7 +3,7 @@ use Rattle.std.proofs.Common.{◌≡◌, ◌∙◌, ◌-◌, sym, ap, rules, ltb
 use Rattle.std.proofs.lemmas.List.Sorted.{IsPartitionPoint-from_clause, IsPartitionedBy-ltb, IsPartitionedBy-leb}
 use Rattle.std.proofs.lemmas.List.{take_all}
 use Rattle.dn_walk.specs.declared.walks.WalkRow.{WalkRow}
-use Rattle.dn_walk.specs.Rows.{told_by_row}
+use Rattle.dn_walk.specs.Rows.{row_view}
 use Rattle.dn_walk.specs.Ways.{level_leads}
 use Rattle.dn_walk.proofs.Runs.{Starts, Started, starts_in_turn, leads_between, none_more, one_leads}
 use Rattle.dn_walk.proofs.way.does_lead.Goals as goal
@@ -38,5 +38,5 @@ returns c =
     let started : Started c.args.name.node c.args.level.now c.partition_point-end.result = IsPartitionPoint-from_clause (λ (r : WalkRow). leb r.start c.args.name.node) _ _ c.partition_point-end.ensures.partitioned (IsPartitionedBy-leb (λ (r : WalkRow). r.start) c.args.level.now c.args.name.node c.requires) (λ a r q k. search rules) in
     let rows = take (c.partition_point-end.result - c.partition_point-first.result) (drop c.partition_point-first.result c.args.level.now) in
     let all : take c.loop-row.row-index rows ≡ rows = take_all c.loop-row.row-index rows c.loop-row-test.false in
-    sym (sym (ap (λ l. level_leads c.args.goal (map told_by_row l) c.args.name) all) ∙ c.loop-row.invariant)
+    sym (sym (ap (λ l. level_leads c.args.goal (map row_view l) c.args.name) all) ∙ c.loop-row.invariant)
     ∙ leads_between c.args.goal c.args.name c.args.level.now _ _ c.partition_point-first.ensures.bound c.partition_point-end.ensures.bound starts started
