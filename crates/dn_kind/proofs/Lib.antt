@@ -1,0 +1,4 @@
+pub mod Allowed
+pub mod Held
+pub mod Shapes
+pub mod Ways

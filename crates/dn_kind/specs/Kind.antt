@@ -1,0 +1,54 @@
+-- Kinds of units: shapes, records, and what a kind means.
+use Rattle.std.specs.Prelude.{◌≡◌, ℕ, ◌-◌, ◌%◌, ◌^◌, ◌≤◌, Bool, ◌&&◌, nat_le, nat_lt, List, [], ◌∷◌, length, Option, Some, None, IsTrue}
+use Rattle.dn_kind.specs.declared.shape.Shape.{Shape}
+use Rattle.dn_kind.specs.declared.unit_kind.Record.{Record}
+use Rattle.dn_kind.specs.Rights.{are_rights}
+
+-- a unit may have this shape, whatever its kind
+abbrev pub is_plain : Shape → Bool
+is_plain shape =
+    nat_le shape.page 40
+    && nat_le 1 shape.slots && nat_le shape.slots 262144
+    && nat_le shape.page shape.reach && nat_le shape.reach 56
+    && nat_le 1 shape.ports && nat_le shape.ports 8
+
+-- a unit of this shape can hold the record: it has the port, and the output is below its reach
+abbrev pub is_within : Shape → Record → Bool
+is_within shape r = nat_lt r.port shape.ports && nat_lt r.page (2 ^ (shape.reach - shape.page))
+
+-- what a kind means: its name, the number of words of a record, whether it fits a shape, the words
+-- of a record in a shape, and the record that words spell
+pub record Meaning : Type 0 where
+  pub name : List ℕ
+  pub words : ℕ
+  pub fits : Shape → Bool
+  pub pack : Shape → Record → List ℕ
+  pub unpack : List ℕ → Option Record
+
+-- a kind may be asked for the words of the record in the shape
+pub record IsPackable (kind : Meaning) (shape : Shape) (r : Record) : Type 0 where
+  pub plain : IsTrue (is_plain shape)
+  pub fits : IsTrue (kind.fits shape)
+  pub within : IsTrue (is_within shape r)
+  pub rights : IsTrue (are_rights r.rights)
+
+-- the last of a record's words
+abbrev pub gate_word : List ℕ → ℕ
+gate_word [] = 0
+gate_word (w ∷ []) = w
+gate_word (w ∷ v ∷ ws) = gate_word (v ∷ ws)
+
+-- A lawful kind has one to four words. The words of a record are so many and spell that record, and
+-- where bit 0 of the last word is clear no record is spelled. A record that is spelled allows
+-- reading, writing or both.
+pub record IsLawful (kind : Meaning) : Type 0 where
+  pub least : 1 ≤ kind.words
+  pub most : kind.words ≤ 4
+  pub width : (shape : Shape) (r : Record) → IsPackable kind shape r →
+      length (kind.pack shape r) ≡ kind.words
+  pub reads_back : (shape : Shape) (r : Record) → IsPackable kind shape r →
+      kind.unpack (kind.pack shape r) ≡ Some r
+  pub shut : (ws : List ℕ) → length ws ≡ kind.words → gate_word ws % 2 ≡ 0 →
+      kind.unpack ws ≡ None
+  pub rights : (ws : List ℕ) (r : Record) → kind.unpack ws ≡ Some r →
+      IsTrue (are_rights r.rights)

@@ -1,0 +1,6 @@
+pub mod Cleared
+pub mod Kind
+pub mod Rights
+pub mod Tables
+pub mod Units
+pub mod Ways

@@ -1,0 +1,57 @@
+//! The list of the kinds that a program knows.
+
+ghost use Rattle.std.specs.Prelude.{◌≡◌, ◌<◌, ◌++◌, [], ◌∷◌, length, slice_get, map, Some, OnOk, OnErr};
+ghost use Rattle.std.specs.List.{All};
+ghost use Rattle.dn_kind.specs.Kind.{IsLawful};
+
+use crate::unit_kind::UnitKind;
+use std::alloc::{AllocError, Global};
+
+/// The kinds of units that a program knows, in order. Each call that takes them asks that each
+/// keeps the laws of kinds; a list made by [`Kinds::none`] and [`Kinds::add`] has only such kinds.
+#[derive(Drop)]
+pub struct Kinds {
+    list: Vec<Box<dyn UnitKind>>,
+}
+
+impl Kinds {
+    /// No kind. It takes no memory.
+    pub fn none(alloc: Global) -> Kinds
+        ensures lawful { All (λ k. IsLawful (meaning k)) result.list.items }
+        ensures empty { result.list.items ≡ [] }
+    {
+        Kinds {
+            list: Vec::new(alloc),
+        }
+    }
+
+    /// Adds a kind at the end. For want of memory the list is unchanged.
+    pub fn add(&mut self, kind: Box<dyn UnitKind>) -> Result<(), AllocError>
+        requires kind { IsLawful (meaning kind) }
+        requires lawful { All (λ k. IsLawful (meaning k)) self.old.list.items }
+        ensures lawful { All (λ k. IsLawful (meaning k)) self.new.list.items }
+        ensures ok { OnOk result (self.new.list.items ≡ self.old.list.items ++ kind ∷ []) }
+        ensures err { OnErr result (self.new.list.items ≡ self.old.list.items) }
+    {
+        self.list.push(kind)?;
+        Ok(())
+    }
+
+    /// How many kinds there are.
+    pub fn len(&self) -> usize
+        ensures { result ≡ length self.now.list.items }
+    {
+        self.list.len()
+    }
+
+    /// The kind of a number.
+    pub fn kind(&self, number: usize) -> &Box<dyn UnitKind>
+        requires there { number < length self.now.list.items }
+        requires lawful { All (λ k. IsLawful (meaning k)) self.now.list.items }
+        ensures lawful { IsLawful (meaning result.now) }
+        ensures at { slice_get (map (λ k. meaning k) self.now.list.items) number
+            ≡ Some (meaning result.now) }
+    {
+        &self.list[number]
+    }
+}

@@ -1,0 +1,65 @@
+//! Laws on the definitions, each the contract of a function that does nothing.
+
+ghost use Rattle.std.specs.Prelude.{◌≡◌};
+ghost use Rattle.dn_kind.specs.Cleared.{ClearedTablesAllow, LawOfAccess};
+ghost use Rattle.dn_kind.specs.Tables.{HeldRecordsFit, MoreRecordsKeepNames, NamesUnderAreResolved, step_limit_under};
+ghost use Rattle.dn_kind.specs.Units.{ShapeFaultIsFirst};
+ghost use Rattle.dn_kind.specs.Ways.{ChainPassesSlots, OneRowOfSlots, OneWayToUnit};
+
+/// A net has no fault on the shape of its units exactly where each unit is shaped as a unit may be
+/// and as its kind asks; a fault is the first unit that is not.
+pub fn shape_fault_is_first()
+    ensures { ShapeFaultIsFirst }
+{}
+
+/// Each record that tables hold stands in a slot of a unit that can hold it, and allows reading,
+/// writing or both.
+pub fn held_records_fit()
+    ensures { HeldRecordsFit }
+{}
+
+/// Resolution under records follows chains of at most 259 steps.
+pub fn limit_under()
+    ensures { step_limit_under ≡ 259 }
+{}
+
+/// The list of names has exactly those to which a name resolves under records.
+pub fn names_under_are_resolved()
+    ensures { NamesUnderAreResolved }
+{}
+
+/// More records in slots that hold none take no name away.
+pub fn more_records_keep_names()
+    ensures { MoreRecordsKeepNames }
+{}
+
+/// Tables in which the slots whose records do not allow an access have words 0 hold the records
+/// that allow it, and no others.
+pub fn cleared_tables_allow()
+    ensures { ClearedTablesAllow }
+{}
+
+/// The law of access: what a name resolves to for an access is what it resolves to under the tables
+/// in which the slots whose records do not allow it have words 0.
+pub fn law_of_access()
+    ensures { LawOfAccess }
+{}
+
+/// Where no name forks on its way to a unit, a name that reaches a unit under records has one way
+/// to it: of two chains from the name, of which the first ends in a unit, one goes on where the
+/// other ends.
+pub fn one_way_to_unit()
+    ensures { OneWayToUnit }
+{}
+
+/// A chain of steps under records goes on through a row of slots, and a row of slots that is gone
+/// through is a chain.
+pub fn chain_passes_slots()
+    ensures { ChainPassesSlots }
+{}
+
+/// Where no name forks on its way to a unit, a name has one row of slots: to whatever accepted
+/// names it comes, it goes through the same slots in the same order.
+pub fn one_row_of_slots()
+    ensures { OneRowOfSlots }
+{}

@@ -1,0 +1,61 @@
+//! The shape of a unit.
+
+ghost use Rattle.std.specs.Prelude.{◌≡◌, ◌≤◌, length};
+ghost use Rattle.dn_kind.specs.Kind.{is_plain};
+ghost use Rattle.dn_kind.specs.Units.{unit_shape};
+
+use dn_net::node::Unit;
+
+/// The largest exponent of a slot's number of addresses.
+pub const MAX_PAGE: u8 = 40;
+
+/// The most slots of a unit.
+pub const MAX_SLOTS: u32 = 262_144;
+
+/// The largest exponent of a unit's outputs.
+pub const MAX_REACH: u8 = 56;
+
+/// The most ports of a unit.
+pub const MAX_PORTS: u8 = 8;
+
+/// The shape of a unit: what its kind may ask of it.
+#[derive(Clone, Copy, Debug, PartialEq, Eq)]
+pub struct Shape {
+    /// The exponent of a slot's number of addresses.
+    pub page: u8,
+    /// How many slots it has.
+    pub slots: u32,
+    /// Outputs are below `2^reach`.
+    pub reach: u8,
+    /// How many ports it has.
+    pub ports: u8,
+}
+
+impl Shape {
+    /// Whether a unit may have this shape, whatever its kind: a page of at most [`MAX_PAGE`], 1 to
+    /// [`MAX_SLOTS`] slots, a reach from the page to [`MAX_REACH`], and 1 to [`MAX_PORTS`] ports.
+    pub fn is_plain(self) -> bool
+        ensures { result ≡ is_plain self }
+    {
+        self.page <= MAX_PAGE
+            && 1 <= self.slots
+            && self.slots <= MAX_SLOTS
+            && self.page <= self.reach
+            && self.reach <= MAX_REACH
+            && 1 <= self.ports
+            && self.ports <= MAX_PORTS
+    }
+}
+
+/// The shape of a unit.
+pub fn shape_of(unit: &Unit) -> Shape
+    requires { length unit.now.ports ≤ 255 }
+    ensures { result ≡ unit_shape unit.now }
+{
+    Shape {
+        page: unit.page,
+        slots: unit.slots,
+        reach: unit.reach,
+        ports: unit.ports.as_slice().len() as u8,
+    }
+}

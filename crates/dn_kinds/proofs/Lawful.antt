@@ -1,0 +1,113 @@
+-- The shipped kinds keep the laws of kinds.
+use Rattle.std.proofs.Common.{◌≡◌, ℕ, ◌+◌, ◌*◌, ◌%◌, ◌<◌, true, ◌&&◌, if◌then◌else◌, ◌==◌, List, [], ◌∷◌, length, Some, None, IsTrue, refl, sym, ap, ◌∙◌, arith, lit≤, eqb-true}
+use Rattle.std.proofs.lemmas.Bool.{and_parts, ltb-true}
+use Rattle.dn_kind.specs.declared.rights.Access.TheVariants.{Read, Write}
+use Rattle.dn_kind.specs.declared.shape.Shape.{Shape}
+use Rattle.dn_kind.specs.declared.unit_kind.Record.{Record}
+use Rattle.dn_kind.specs.Rights.{are_rights}
+use Rattle.dn_kind.specs.Kind.{Meaning, IsPackable, IsLawful, gate_word}
+use Rattle.dn_kinds.specs.Layouts.{bits, denied, denials, rights_left, record_with, pack_pages, unpack_pages, pages, pack_remap, unpack_remap, remap, pack_vectors, unpack_vectors, vectors}
+use Rattle.dn_kinds.proofs.Gates.{port_small, page_small, denied_small, rights_back, read_are_rights, gate_clear, PagesBits, pages_bits, RemapBits, remap_bits, VectorsBits, vectors_bits}
+
+-- the port of a kind with one port is 0
+lone_port : (kind : Meaning) (shape : Shape) (r : Record) → IsPackable kind shape r → shape.ports ≡ 1 → r.port ≡ 0
+lone_port kind shape r p one =
+    let there : r.port < shape.ports = ltb-true _ _ (and_parts _ _ p.within).0 in
+    omega arith
+
+pages_back : (shape : Shape) (r : Record) → IsPackable pages shape r → unpack_pages (pack_pages shape r) ≡ Some r
+pages_back shape r p =
+    let w : ℕ = 1 + denials r.rights + 256 * r.page in
+    let b : PagesBits (denied Read r.rights) (denied Write r.rights) r.page w = pages_bits _ _ _ (denied_small Read r.rights) (denied_small Write r.rights) (page_small pages shape r p) in
+    let left : rights_left w ≡ Some r.rights = rights_back r.rights w p.rights b.read b.write in
+    let one : shape.ports ≡ 1 = eqb-true shape.ports 1 p.fits in
+    let port : r.port ≡ 0 = lone_port pages shape r p one in
+    ap (λ n. if (n == 1) && (bits w 1 3 == 0) && (bits w 6 2 == 0) then record_with 0 (bits w 8 56) (rights_left w) else None) b.gate
+    ∙ ap (λ n. if true && (n == 0) && (bits w 6 2 == 0) then record_with 0 (bits w 8 56) (rights_left w) else None) b.low
+    ∙ ap (λ n. if n == 0 then record_with 0 (bits w 8 56) (rights_left w) else None) b.high
+    ∙ ap (λ n. record_with 0 n (rights_left w)) b.page
+    ∙ ap (record_with 0 r.page) left
+    ∙ ap (λ n. Some (record { port = n; page = r.page; rights = r.rights })) (sym port)
+
+pages_shut : (ws : List ℕ) → length ws ≡ 1 → gate_word ws % 2 ≡ 0 → unpack_pages ws ≡ None
+pages_shut [] n h = refl
+pages_shut (w ∷ []) n h = rw (gate_clear w h) refl
+pages_shut (w ∷ v ∷ ws) n h = refl
+
+pages_rights : (ws : List ℕ) (r : Record) → unpack_pages ws ≡ Some r → IsTrue (are_rights r.rights)
+pages_rights [] r e = cc
+pages_rights (w ∷ []) r e = read_are_rights 0 (bits w 8 56) w ((bits w 0 1 == 1) && (bits w 1 3 == 0) && (bits w 6 2 == 0)) r e
+pages_rights (w ∷ v ∷ ws) r e = cc
+
+pub pages_are_lawful : IsLawful pages
+pages_are_lawful = record {
+  least = lit≤ tt;
+  most = lit≤ tt;
+  width = λ shape r p. refl;
+  reads_back = pages_back;
+  shut = pages_shut;
+  rights = pages_rights;
+}
+
+remap_back : (shape : Shape) (r : Record) → IsPackable remap shape r → unpack_remap (pack_remap shape r) ≡ Some r
+remap_back shape r p =
+    let w : ℕ = 1 + 2 * r.port + denials r.rights + 256 * r.page in
+    let b : RemapBits r.port (denied Read r.rights) (denied Write r.rights) r.page w = remap_bits _ _ _ _ (port_small remap shape r p) (denied_small Read r.rights) (denied_small Write r.rights) (page_small remap shape r p) in
+    let left : rights_left w ≡ Some r.rights = rights_back r.rights w p.rights b.read b.write in
+    ap (λ n. if (n == 1) && (bits w 6 2 == 0) then record_with (bits w 1 3) (bits w 8 56) (rights_left w) else None) b.gate
+    ∙ ap (λ n. if n == 0 then record_with (bits w 1 3) (bits w 8 56) (rights_left w) else None) b.high
+    ∙ ap (λ n. record_with n (bits w 8 56) (rights_left w)) b.port
+    ∙ ap (λ n. record_with r.port n (rights_left w)) b.page
+    ∙ ap (record_with r.port r.page) left
+
+remap_shut : (ws : List ℕ) → length ws ≡ 1 → gate_word ws % 2 ≡ 0 → unpack_remap ws ≡ None
+remap_shut [] n h = refl
+remap_shut (w ∷ []) n h = rw (gate_clear w h) refl
+remap_shut (w ∷ v ∷ ws) n h = refl
+
+remap_rights : (ws : List ℕ) (r : Record) → unpack_remap ws ≡ Some r → IsTrue (are_rights r.rights)
+remap_rights [] r e = cc
+remap_rights (w ∷ []) r e = read_are_rights (bits w 1 3) (bits w 8 56) w ((bits w 0 1 == 1) && (bits w 6 2 == 0)) r e
+remap_rights (w ∷ v ∷ ws) r e = cc
+
+pub remap_is_lawful : IsLawful remap
+remap_is_lawful = record {
+  least = lit≤ tt;
+  most = lit≤ tt;
+  width = λ shape r p. refl;
+  reads_back = remap_back;
+  shut = remap_shut;
+  rights = remap_rights;
+}
+
+vectors_back : (shape : Shape) (r : Record) → IsPackable vectors shape r → unpack_vectors (pack_vectors shape r) ≡ Some r
+vectors_back shape r p =
+    let w : ℕ = 1 + 2 * r.port + denials r.rights in
+    let b : VectorsBits r.port (denied Read r.rights) (denied Write r.rights) w = vectors_bits _ _ _ (port_small vectors shape r p) (denied_small Read r.rights) (denied_small Write r.rights) in
+    let left : rights_left w ≡ Some r.rights = rights_back r.rights w p.rights b.read b.write in
+    ap (λ n. if (n == 1) && (bits w 6 58 == 0) then record_with (bits w 1 3) r.page (rights_left w) else None) b.gate
+    ∙ ap (λ n. if n == 0 then record_with (bits w 1 3) r.page (rights_left w) else None) b.high
+    ∙ ap (λ n. record_with n r.page (rights_left w)) b.port
+    ∙ ap (record_with r.port r.page) left
+
+vectors_shut : (ws : List ℕ) → length ws ≡ 2 → gate_word ws % 2 ≡ 0 → unpack_vectors ws ≡ None
+vectors_shut [] n h = refl
+vectors_shut (a ∷ []) n h = refl
+vectors_shut (a ∷ w ∷ []) n h = rw (gate_clear w h) refl
+vectors_shut (a ∷ w ∷ v ∷ ws) n h = refl
+
+vectors_rights : (ws : List ℕ) (r : Record) → unpack_vectors ws ≡ Some r → IsTrue (are_rights r.rights)
+vectors_rights [] r e = cc
+vectors_rights (a ∷ []) r e = cc
+vectors_rights (a ∷ w ∷ []) r e = read_are_rights (bits w 1 3) a w ((bits w 0 1 == 1) && (bits w 6 58 == 0)) r e
+vectors_rights (a ∷ w ∷ v ∷ ws) r e = cc
+
+pub vectors_are_lawful : IsLawful vectors
+vectors_are_lawful = record {
+  least = lit≤ tt;
+  most = lit≤ tt;
+  width = λ shape r p. refl;
+  reads_back = vectors_back;
+  shut = vectors_shut;
+  rights = vectors_rights;
+}
