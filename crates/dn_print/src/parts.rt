@@ -4,14 +4,15 @@ ghost use Rattle.std.specs.Prelude.{◌≡◌, ◌++◌, [], length, nat_lt, OnO
 ghost use Rattle.std.specs.List.{list_all};
 ghost use Rattle.std.specs.String.{string_bytes};
 ghost use Rattle.dn_net.specs.Decode.{over_within};
+ghost use Rattle.dn_print.specs.Names.{dests_within, entries_within};
 ghost use Rattle.dn_print.specs.Statement.{block_text, blocks_text, dest_text, dests_text, entry_text, entries_text, accept_text, map_text, over_text, ports_text, unit_text};
 
+use crate::OutOfMemory;
 use dn_net::net::Net;
 use dn_net::node::{Block, Dest, Entry, Unit};
-use std::alloc::AllocError;
 
 /// Appends what a node accepts, if it accepts anything.
-pub(crate) fn push_accept(out: &mut String, blocks: &[Block]) -> Result<(), AllocError>
+pub(crate) fn push_accept(out: &mut String, blocks: &[Block]) -> Result<(), OutOfMemory>
     ensures { OnOk result (string_bytes out.new ≡ string_bytes out.old ++ accept_text blocks.now) }
 {
     if blocks.is_empty() {
@@ -23,9 +24,10 @@ pub(crate) fn push_accept(out: &mut String, blocks: &[Block]) -> Result<(), Allo
 }
 
 /// Appends what a node maps, if it maps anything.
-pub(crate) fn push_map(out: &mut String, net: &Net, entries: &[Entry]) -> Result<(), AllocError>
-    requires { IsTrue (list_all (λ e. list_all (λ d. nat_lt d.node (length net.now)) e.dests) entries.now) }
-    ensures { OnOk result (string_bytes out.new ≡ string_bytes out.old ++ map_text net.now entries.now) }
+pub(crate) fn push_map(out: &mut String, net: &Net, entries: &[Entry]) -> Result<(), OutOfMemory>
+    requires { IsTrue (entries_within (length net.now) entries.now) }
+    ensures { OnOk result (string_bytes out.new ≡
+        string_bytes out.old ++ map_text net.now entries.now) }
 {
     if entries.is_empty() {
         return Ok(());
@@ -36,7 +38,7 @@ pub(crate) fn push_map(out: &mut String, net: &Net, entries: &[Entry]) -> Result
 }
 
 /// Appends the node that serves the rest, if there is one.
-pub(crate) fn push_over(out: &mut String, net: &Net, over: Option<u16>) -> Result<(), AllocError>
+pub(crate) fn push_over(out: &mut String, net: &Net, over: Option<u16>) -> Result<(), OutOfMemory>
     requires { IsTrue (over_within (length net.now) over) }
     ensures { OnOk result (string_bytes out.new ≡ string_bytes out.old ++ over_text net.now over) }
 {
@@ -55,9 +57,10 @@ pub(crate) fn push_unit(
     net: &Net,
     kind: &str,
     unit: &Unit,
-) -> Result<(), AllocError>
+) -> Result<(), OutOfMemory>
     requires { IsTrue (list_all (λ p. nat_lt p (length net.now)) unit.now.ports) }
-    ensures { OnOk result (string_bytes out.new ≡ string_bytes out.old ++ unit_text kind.now net.now unit.now) }
+    ensures { OnOk result (string_bytes out.new ≡
+        string_bytes out.old ++ unit_text kind.now net.now unit.now) }
 {
     let page = unit.page;
     let slots = unit.slots;
@@ -69,7 +72,7 @@ pub(crate) fn push_unit(
     push_ports(out, net, unit.ports.as_slice())
 }
 
-fn push_blocks(out: &mut String, blocks: &[Block]) -> Result<(), AllocError>
+fn push_blocks(out: &mut String, blocks: &[Block]) -> Result<(), OutOfMemory>
     ensures { OnOk result (string_bytes out.new ≡ string_bytes out.old ++ blocks_text blocks.now) }
 {
     let [first, rest @ ..] = blocks else {
@@ -83,16 +86,17 @@ fn push_blocks(out: &mut String, blocks: &[Block]) -> Result<(), AllocError>
     Ok(())
 }
 
-fn push_block(out: &mut String, block: Block) -> Result<(), AllocError>
+fn push_block(out: &mut String, block: Block) -> Result<(), OutOfMemory>
     ensures { OnOk result (string_bytes out.new ≡ string_bytes out.old ++ block_text block) }
 {
     let Block { lo, hi } = block;
     write!(out, "0x{lo:x}-0x{hi:x}")
 }
 
-fn push_entries(out: &mut String, net: &Net, entries: &[Entry]) -> Result<(), AllocError>
-    requires { IsTrue (list_all (λ e. list_all (λ d. nat_lt d.node (length net.now)) e.dests) entries.now) }
-    ensures { OnOk result (string_bytes out.new ≡ string_bytes out.old ++ entries_text net.now entries.now) }
+fn push_entries(out: &mut String, net: &Net, entries: &[Entry]) -> Result<(), OutOfMemory>
+    requires { IsTrue (entries_within (length net.now) entries.now) }
+    ensures { OnOk result (string_bytes out.new ≡
+        string_bytes out.old ++ entries_text net.now entries.now) }
 {
     let [first, rest @ ..] = entries else {
         return Ok(());
@@ -105,18 +109,20 @@ fn push_entries(out: &mut String, net: &Net, entries: &[Entry]) -> Result<(), Al
     Ok(())
 }
 
-fn push_entry(out: &mut String, net: &Net, entry: &Entry) -> Result<(), AllocError>
-    requires { IsTrue (list_all (λ d. nat_lt d.node (length net.now)) entry.now.dests) }
-    ensures { OnOk result (string_bytes out.new ≡ string_bytes out.old ++ entry_text net.now entry.now) }
+fn push_entry(out: &mut String, net: &Net, entry: &Entry) -> Result<(), OutOfMemory>
+    requires { IsTrue (dests_within (length net.now) entry.now.dests) }
+    ensures { OnOk result (string_bytes out.new ≡
+        string_bytes out.old ++ entry_text net.now entry.now) }
 {
     push_block(out, entry.block)?;
     out.push_str(" to ")?;
     push_dests(out, net, entry.dests.as_slice())
 }
 
-fn push_dests(out: &mut String, net: &Net, dests: &[Dest]) -> Result<(), AllocError>
-    requires { IsTrue (list_all (λ d. nat_lt d.node (length net.now)) dests.now) }
-    ensures { OnOk result (string_bytes out.new ≡ string_bytes out.old ++ dests_text net.now dests.now) }
+fn push_dests(out: &mut String, net: &Net, dests: &[Dest]) -> Result<(), OutOfMemory>
+    requires { IsTrue (dests_within (length net.now) dests.now) }
+    ensures { OnOk result (string_bytes out.new ≡
+        string_bytes out.old ++ dests_text net.now dests.now) }
 {
     let [first, rest @ ..] = dests else {
         return Ok(());
@@ -129,7 +135,7 @@ fn push_dests(out: &mut String, net: &Net, dests: &[Dest]) -> Result<(), AllocEr
     Ok(())
 }
 
-fn push_dest(out: &mut String, net: &Net, dest: Dest) -> Result<(), AllocError>
+fn push_dest(out: &mut String, net: &Net, dest: Dest) -> Result<(), OutOfMemory>
     requires { IsTrue (nat_lt dest.node (length net.now)) }
     ensures { OnOk result (string_bytes out.new ≡ string_bytes out.old ++ dest_text net.now dest) }
 {
@@ -138,9 +144,10 @@ fn push_dest(out: &mut String, net: &Net, dest: Dest) -> Result<(), AllocError>
     write!(out, "{text} at 0x{addr:x}")
 }
 
-fn push_ports(out: &mut String, net: &Net, ports: &[u16]) -> Result<(), AllocError>
+fn push_ports(out: &mut String, net: &Net, ports: &[u16]) -> Result<(), OutOfMemory>
     requires { IsTrue (list_all (λ p. nat_lt p (length net.now)) ports.now) }
-    ensures { OnOk result (string_bytes out.new ≡ string_bytes out.old ++ ports_text net.now ports.now) }
+    ensures { OnOk result (string_bytes out.new ≡
+        string_bytes out.old ++ ports_text net.now ports.now) }
 {
     let [first, rest @ ..] = ports else {
         return Ok(());

@@ -6,27 +6,28 @@ ghost use Rattle.std.specs.String.{string_bytes};
 ghost use Rattle.dn_interval.specs.Listed.{seen_by};
 ghost use Rattle.dn_print.specs.Rows.{end_text, ends_text, row_text, rows_text, ends_exist};
 
-use crate::names;
+use crate::{OutOfMemory, names};
 use dn_interval::{End, Row, Rows, Span};
 use dn_net::net::Net;
 use dn_net::node::Name;
-use std::alloc::{AllocError, Global};
+use std::alloc::Global;
 
 /// A line for each row: its first and its last address in hexadecimal, a space, and the names of its first
 /// address joined by `, `. `Err` is want of memory.
-pub fn rows_text(alloc: Global, net: &Net, rows: &Rows) -> Result<String, AllocError>
+pub fn rows_text(alloc: Global, net: &Net, rows: &Rows) -> Result<Vec<u8>, OutOfMemory>
     requires { IsTrue (ends_exist (length net.now) rows.now) }
-    ensures { IfOk result (λ text. string_bytes text ≡ rows_text net.now (map seen_by rows.now)) }
+    ensures { IfOk result (λ v. v.items ≡ rows_text net.now (map seen_by rows.now)) }
 {
     let mut out = String::new(alloc);
     push_rows(&mut out, net, rows)?;
-    Ok(out)
+    Ok(out.into_bytes())
 }
 
 /// Appends the rows as [`rows_text`] has them. For want of memory a part may have been appended.
-pub fn push_rows(out: &mut String, net: &Net, rows: &Rows) -> Result<(), AllocError>
+pub fn push_rows(out: &mut String, net: &Net, rows: &Rows) -> Result<(), OutOfMemory>
     requires { IsTrue (ends_exist (length net.now) rows.now) }
-    ensures { OnOk result (string_bytes out.new ≡ string_bytes out.old ++ rows_text net.now (map seen_by rows.now)) }
+    ensures { OnOk result (string_bytes out.new ≡
+        string_bytes out.old ++ rows_text net.now (map seen_by rows.now)) }
 {
     for row in rows.rows() {
         push_row(out, net, row)?;
@@ -35,9 +36,10 @@ pub fn push_rows(out: &mut String, net: &Net, rows: &Rows) -> Result<(), AllocEr
 }
 
 /// Appends a row and the end of its line.
-fn push_row(out: &mut String, net: &Net, row: &Row) -> Result<(), AllocError>
+fn push_row(out: &mut String, net: &Net, row: &Row) -> Result<(), OutOfMemory>
     requires { IsTrue (list_all (λ e. nat_lt e.node (length net.now)) row.now.ends) }
-    ensures { OnOk result (string_bytes out.new ≡ string_bytes out.old ++ row_text net.now (seen_by row.now)) }
+    ensures { OnOk result (string_bytes out.new ≡
+        string_bytes out.old ++ row_text net.now (seen_by row.now)) }
 {
     let Span { lo, hi } = row.span();
     write!(out, "0x{lo:x}-0x{hi:x} ")?;
@@ -45,9 +47,10 @@ fn push_row(out: &mut String, net: &Net, row: &Row) -> Result<(), AllocError>
     out.push_str("\n")
 }
 
-fn push_ends(out: &mut String, net: &Net, ends: &[End]) -> Result<(), AllocError>
+fn push_ends(out: &mut String, net: &Net, ends: &[End]) -> Result<(), OutOfMemory>
     requires { IsTrue (list_all (λ e. nat_lt e.node (length net.now)) ends.now) }
-    ensures { OnOk result (string_bytes out.new ≡ string_bytes out.old ++ ends_text net.now ends.now) }
+    ensures { OnOk result (string_bytes out.new ≡
+        string_bytes out.old ++ ends_text net.now ends.now) }
 {
     let [first, rest @ ..] = ends else {
         return Ok(());
@@ -60,7 +63,7 @@ fn push_ends(out: &mut String, net: &Net, ends: &[End]) -> Result<(), AllocError
     Ok(())
 }
 
-fn push_end(out: &mut String, net: &Net, end: End) -> Result<(), AllocError>
+fn push_end(out: &mut String, net: &Net, end: End) -> Result<(), OutOfMemory>
     requires { end.node < length net.now }
     ensures { OnOk result (string_bytes out.new ≡ string_bytes out.old ++ end_text net.now end) }
 {
