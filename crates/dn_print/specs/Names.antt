@@ -1,5 +1,5 @@
 -- The text of an address, of a name and of a list of names.
-use Rattle.std.specs.Prelude.{ℕ, Bool, false, nat_lt, List, [], ◌∷◌, ◌++◌, codes, slice_get, Option, Some, None}
+use Rattle.std.specs.Prelude.{◌≡◌, ℕ, Bool, false, if◌then◌else◌, nat_lt, List, [], ◌∷◌, ◌++◌, codes, slice_get, Option, Some, None}
 use Rattle.std.specs.List.{list_all}
 use Rattle.std.specs.Fmt.{digits}
 use Rattle.dn_net.specs.declared.node.Dest.{Dest}
@@ -29,6 +29,11 @@ more_names_text net (x ∷ xs) = codes ", " ++ (name_text net x ++ more_names_te
 abbrev pub names_text : List NodeDecl → List Name → List ℕ
 names_text net [] = codes "nothing"
 names_text net (x ∷ xs) = name_text net x ++ more_names_text net xs
+
+-- a call that appends a text to bytes: where it is done the text stands behind them, and else they
+-- stand as before
+abbrev pub Appended : List ℕ → List ℕ → Bool → List ℕ → Type 0
+Appended before after done text = after ≡ (if done then before ++ text else before)
 
 -- each name is in one of so many nodes
 abbrev pub names_exist : ℕ → List Name → Bool

@@ -1,4 +1,6 @@
 //! The text of a net: a statement for each node, in order.
+//!
+//! Each `write_` call appends to a text that is given up for want of memory; the text then has any part.
 
 ghost use Rattle.std.specs.Prelude.{◌≡◌, ◌<◌, ◌++◌, [], length, slice_get, IfOk, OnOk, IsTrue};
 ghost use Rattle.std.specs.String.{string_bytes};
@@ -20,13 +22,13 @@ pub fn net_text(alloc: Global, net: &Net) -> Result<Vec<u8>, OutOfMemory>
 {
     let mut out = String::new(alloc);
     for node in 0..net.nodes() {
-        push_statement(&mut out, net, node)?;
+        write_statement(&mut out, net, node)?;
     }
     Ok(out.into_bytes())
 }
 
 /// Appends the statement of a node and the end of its line.
-fn push_statement(out: &mut String, net: &Net, node: u16) -> Result<(), OutOfMemory>
+fn write_statement(out: &mut String, net: &Net, node: u16) -> Result<(), OutOfMemory>
     requires there { node < length net.now }
     requires closed { IsTrue (is_closed net.now) }
     ensures { OnOk result (string_bytes out.new ≡
@@ -34,7 +36,7 @@ fn push_statement(out: &mut String, net: &Net, node: u16) -> Result<(), OutOfMem
 {
     out.push_str(role_word(net.role(node)))?;
     out.push_str(net.text(node))?;
-    push_body(out, net, node)?;
+    write_body(out, net, node)?;
     out.push_str(";\n")
 }
 
@@ -51,27 +53,27 @@ fn role_word(role: Role) -> &'static str
 }
 
 /// Appends what stands after a node's name. The name of a unit's kind is empty, since there are no kinds.
-fn push_body(out: &mut String, net: &Net, node: u16) -> Result<(), OutOfMemory>
+fn write_body(out: &mut String, net: &Net, node: u16) -> Result<(), OutOfMemory>
     requires there { node < length net.now }
     requires closed { IsTrue (is_closed net.now) }
     ensures { OnOk result (string_bytes out.new ≡
         string_bytes out.old ++ body_at [] net.now (slice_get net.now node)) }
 {
     match net.unit(node) {
-        Some(unit) => parts::push_unit(out, net, "", unit),
-        None => push_parts(out, net, node),
+        Some(unit) => parts::write_unit(out, net, "", unit),
+        None => write_parts(out, net, node),
     }
 }
 
 /// Appends the parts of a node that is no unit.
-fn push_parts(out: &mut String, net: &Net, node: u16) -> Result<(), OutOfMemory>
+fn write_parts(out: &mut String, net: &Net, node: u16) -> Result<(), OutOfMemory>
     requires there { node < length net.now }
     requires closed { IsTrue (is_closed net.now) }
     ensures { OnOk result (string_bytes out.new ≡
         string_bytes out.old ++ parts_at net.now (slice_get net.now node)) }
 {
     out.push_str(" is")?;
-    parts::push_accept(out, net.accepts(node))?;
-    parts::push_map(out, net, net.entries(node))?;
-    parts::push_over(out, net, net.over(node))
+    parts::write_accept(out, net.accepts(node))?;
+    parts::write_map(out, net, net.entries(node))?;
+    parts::write_over(out, net, net.over(node))
 }
