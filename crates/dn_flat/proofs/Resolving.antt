@@ -15,7 +15,7 @@ use Rattle.dn_interval.proofs.Names.{segs_from, segs_to}
 use Rattle.dn_interval.proofs.Normal.{normal_like, member_moved}
 use Rattle.dn_net.specs.declared.node.Name.{Name}
 use Rattle.dn_net.specs.declared.node.NodeDecl.{NodeDecl}
-use Rattle.dn_net.specs.Chain.{Member, Chain, ReachesWithin}
+use Rattle.dn_net.specs.Chain.{Member, IsChain, ReachesWithin}
 use Rattle.dn_net.specs.Decode.{within, step_limit, Step, is_accepted, is_accepted_at, is_stop, is_stop_at, unit_of}
 use Rattle.dn_net.specs.Walks.{Choice, Follows, Walk, live_walks, moved_name}
 use Rattle.dn_net.specs.WalkRules.{IsListed}
@@ -98,7 +98,7 @@ module _ (net : List NodeDecl) (checked : KeepsNodeRules net) (rows : List WalkR
   pub goes : ReachesWithin (Step net) step_limit here (name_of_end y) → (stays node a y || goes_by rows 66 node a y) ≡ true
   goes h = go h.0 h.1 h.2
     where
-      go : (k : ℕ) → k ≤ step_limit → Chain (Step net) k here (name_of_end y) → (stays node a y || goes_by rows 66 node a y) ≡ true
+      go : (k : ℕ) → k ≤ step_limit → IsChain (Step net) k here (name_of_end y) → (stays node a y || goes_by rows 66 node a y) ≡ true
       go zero l c = or_left (stays node a y) (goes_by rows 66 node a y) (and_from (nat_le a TOP) (nat_eq node y.node && nat_eq a y.base) (le-leb a TOP low) (and_from (nat_eq node y.node) (nat_eq a y.base) (eq-eqb node y.node (ap (λ n. n.node) c)) (eq-eqb a y.base (ap (λ n. n.addr) c))))
       go (suc k) l c =
           let s = (chain_is_walk net checked (suc k) here (name_of_end y)).0 c in

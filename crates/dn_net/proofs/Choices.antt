@@ -5,7 +5,7 @@ use Rattle.dn_net.specs.declared.node.Dest.{Dest}
 use Rattle.dn_net.specs.declared.node.Entry.{Entry}
 use Rattle.dn_net.specs.declared.node.Name.{Name}
 use Rattle.dn_net.specs.declared.node.NodeDecl.{NodeDecl}
-use Rattle.dn_net.specs.Chain.{Member, Chain}
+use Rattle.dn_net.specs.Chain.{Member, IsChain}
 use Rattle.dn_net.specs.Decode.{top, within, in_some_block, by_over, by_entries, decode, sent_names, moved, Step}
 use Rattle.dn_net.specs.Rules.{KeepsRules}
 use Rattle.dn_net.specs.Walks.{Choice, mapped_by, over_gap, in_some_entry, is_free, IsGap, Leads, Follows, moved_name}
@@ -168,7 +168,7 @@ choice_of_step (Some n) a y m = tests (nat_le a top) (in_some_block a n.accepts)
     ]
 
 -- a chain is a list of choices that its first name follows
-pub choices_of_chain : (net : List NodeDecl) (k : ℕ) (x y : Name) → Chain (Step net) k x y → (cs : List Choice) × (length cs ≡ k) × Follows net x cs y
+pub choices_of_chain : (net : List NodeDecl) (k : ℕ) (x y : Name) → IsChain (Step net) k x y → (cs : List Choice) × (length cs ≡ k) × Follows net x cs y
 choices_of_chain net zero x y c = ([], refl, c)
 choices_of_chain net (suc k) x y c =
     let s = choice_of_step (slice_get net x.node) x.addr c.0 c.1 in
@@ -256,7 +256,7 @@ step_of_choice (Some n) apart a c b d e w = by c e
         decodes low f.0 (subst (λ o. Member y (sent_names (by_entries a o n.entries))) (sym e.1) (subst (λ l. Member y l) (sym (no_entry a e.0 n.entries f.1)) (inl yz)))
 
 -- a name that follows choices makes as many steps
-pub chain_of_choices : (net : List NodeDecl) → All KeepsRules net → (cs : List Choice) (x y : Name) → Follows net x cs y → Chain (Step net) (length cs) x y
+pub chain_of_choices : (net : List NodeDecl) → All KeepsRules net → (cs : List Choice) (x y : Name) → Follows net x cs y → IsChain (Step net) (length cs) x y
 chain_of_choices net none [] x y f = f
 chain_of_choices net none (c ∷ cs) x y f =
     let z : Name = moved_name (x.addr - f.0.lo) f.1 in
@@ -264,4 +264,4 @@ chain_of_choices net none (c ∷ cs) x y f =
     (z, s, chain_of_choices net none cs z y f.4)
 
 pub chain_is_walk : ChainIsWalk
-chain_is_walk net checked k x y = ((λ c. choices_of_chain net k x y c), (λ w. subst (λ n. Chain (Step net) n x y) w.1 (chain_of_choices net checked.each w.0 x y w.2)))
+chain_is_walk net checked k x y = ((λ c. choices_of_chain net k x y c), (λ w. subst (λ n. IsChain (Step net) n x y) w.1 (chain_of_choices net checked.each w.0 x y w.2)))

@@ -6,7 +6,7 @@ use Rattle.std.specs.List.{list_any}
 use Rattle.dn_net.specs.declared.node.Block.{Block}
 use Rattle.dn_net.specs.declared.node.Name.{Name}
 use Rattle.dn_net.specs.declared.node.NodeDecl.{NodeDecl}
-use Rattle.dn_net.specs.Chain.{Member, Chain}
+use Rattle.dn_net.specs.Chain.{Member, IsChain}
 use Rattle.dn_net.specs.Decode.{top, within, steps, Step}
 use Rattle.dn_net.specs.Names.{name_eq, after_steps}
 use Rattle.dn_net.specs.Walks.{Choice, Leads, Follows, moved_name, Walk, level}
@@ -31,7 +31,7 @@ there_is None c b d f = absurd f
 there_is (Some n) c b d f = (n, refl)
 
 -- a name that makes a step has a node and an address
-pub stepping_in_range : (net : List NodeDecl) → KeepsNodeRules net → (k : ℕ) (x y : Name) → 1 ≤ k → Chain (Step net) k x y → (x.node < length net) × (x.addr ≤ top)
+pub stepping_in_range : (net : List NodeDecl) → KeepsNodeRules net → (k : ℕ) (x y : Name) → 1 ≤ k → IsChain (Step net) k x y → (x.node < length net) × (x.addr ≤ top)
 stepping_in_range net checked k x y l c = by (choices_of_chain net k x y c).0 (choices_of_chain net k x y c).1 (choices_of_chain net k x y c).2
   where
     by : (cs : List Choice) → length cs ≡ k → Follows net x cs y → (x.node < length net) × (x.addr ≤ top)
@@ -45,14 +45,14 @@ stepping_in_range net checked k x y l c = by (choices_of_chain net k x y c).0 (c
         (slice_get_within net x.node t.0 t.1, (omega arith))
 
 -- a chain is a walk of its level
-pub row_of_chain : (net : List NodeDecl) → KeepsNodeRules net → (k : ℕ) (x y : Name) → x.node < length net → x.addr ≤ top → Chain (Step net) k x y → (w : Walk) × IsLed net k x y w
+pub row_of_chain : (net : List NodeDecl) → KeepsNodeRules net → (k : ℕ) (x y : Name) → x.node < length net → x.addr ≤ top → IsChain (Step net) k x y → (w : Walk) × IsLed net k x y w
 row_of_chain net checked k x y l t c =
     let s = choices_of_chain net k x y c in
     let r = row_of_choices net checked x y s.0 l t s.2 in
     (r.0, record { row = subst (λ n. Member r.0 (level net n)) s.1 r.1; start = r.2; inside = r.4; to = r.5 })
 
 -- and back
-pub chain_of_row : (net : List NodeDecl) → KeepsNodeRules net → (k : ℕ) (x y : Name) (w : Walk) → IsLed net k x y w → (x.node < length net) × (x.addr ≤ top) × Chain (Step net) k x y
+pub chain_of_row : (net : List NodeDecl) → KeepsNodeRules net → (k : ℕ) (x y : Name) (w : Walk) → IsLed net k x y w → (x.node < length net) × (x.addr ≤ top) × IsChain (Step net) k x y
 chain_of_row net checked k x y w h =
     let r = level_is_row net checked k w h.row in
     let i = within_to x.addr w.span h.inside in
@@ -61,7 +61,7 @@ chain_of_row net checked k x y w h =
     let t : x.addr ≤ top = omega arith in
     let f = (r.follows x.addr y t).1 (h.inside, h.to) in
     let f1 : Follows net x w.choices y = subst (λ n. Follows net (record { node = n; addr = x.addr }) w.choices y) h.start f in
-    (subst (λ n. n < length net) h.start r.start, t, subst (λ n. Chain (Step net) n x y) r.long (chain_of_choices net checked.each w.choices x y f1))
+    (subst (λ n. n < length net) h.start r.start, t, subst (λ n. IsChain (Step net) n x y) r.long (chain_of_choices net checked.each w.choices x y f1))
 
 -- the name to which a walk sends a name of its own start is that name exactly where its base is its own first address
 base_is : (w : Walk) (x : Name) → w.start ≡ x.node → IsTrue (within x.addr w.span) → moved_name (x.addr - w.span.lo) w.to ≡ x → w.to ≡ record { node = w.start; addr = w.span.lo }
@@ -83,13 +83,13 @@ base_back w x s i e =
 pub cycle_is_row : CycleIsRow
 cycle_is_row net checked k x l = (there, back)
   where
-    there : Chain (Step net) k x x → (w : Walk) × Member w (level net k) × (w.start ≡ x.node) × IsTrue (within x.addr w.span) × (w.to ≡ record { node = w.start; addr = w.span.lo })
+    there : IsChain (Step net) k x x → (w : Walk) × Member w (level net k) × (w.start ≡ x.node) × IsTrue (within x.addr w.span) × (w.to ≡ record { node = w.start; addr = w.span.lo })
     there c =
         let i = stepping_in_range net checked k x x l c in
         let r = row_of_chain net checked k x x i.0 i.1 c in
         (r.0, r.1.row, r.1.start, r.1.inside, base_is r.0 x r.1.start r.1.inside r.1.to)
 
-    back : ((w : Walk) × Member w (level net k) × (w.start ≡ x.node) × IsTrue (within x.addr w.span) × (w.to ≡ record { node = w.start; addr = w.span.lo })) → Chain (Step net) k x x
+    back : ((w : Walk) × Member w (level net k) × (w.start ≡ x.node) × IsTrue (within x.addr w.span) × (w.to ≡ record { node = w.start; addr = w.span.lo })) → IsChain (Step net) k x x
     back h = (chain_of_row net checked k x x h.0 (record { row = h.1; start = h.2; inside = h.3; to = base_back h.0 x h.2 h.3 h.4 })).2
 
 -- the test of names
@@ -114,7 +114,7 @@ member_any y (x ∷ xs) (inl e) = true_left (name_eq y x) (list_any (name_eq y) 
 member_any y (x ∷ xs) (inr m) = true_right (name_eq y x) (list_any (name_eq y) xs) (member_any y xs m)
 
 -- `comes_to` is true exactly where there is a chain
-pub comes_to_is_chain : (net : List NodeDecl) (k : ℕ) (x y : Name) → (comes_to net y k x ≡ true) ↔ Chain (Step net) k x y
+pub comes_to_is_chain : (net : List NodeDecl) (k : ℕ) (x y : Name) → (comes_to net y k x ≡ true) ↔ IsChain (Step net) k x y
 comes_to_is_chain net k x y =
     let a = after_steps_is_chain (steps net) k x y in
     ((λ h. a.0 (any_member y (after_steps (steps net) k (x ∷ [])) h)), (λ c. member_any y (after_steps (steps net) k (x ∷ [])) (a.1 c)))
@@ -126,10 +126,10 @@ goes_nowhere net k x e = rw e refl
 goes_somewhere : (net : List NodeDecl) (k : ℕ) (x y : Name) (ys : List Name) → after_steps (steps net) k (x ∷ []) ≡ y ∷ ys → goes_on net k x ≡ true
 goes_somewhere net k x y ys e = rw e refl
 
-pub goes_on_is_chain : (net : List NodeDecl) (k : ℕ) (x : Name) → (goes_on net k x ≡ true) ↔ ((y : Name) × Chain (Step net) k x y)
+pub goes_on_is_chain : (net : List NodeDecl) (k : ℕ) (x : Name) → (goes_on net k x ≡ true) ↔ ((y : Name) × IsChain (Step net) k x y)
 goes_on_is_chain net k x = by (after_steps (steps net) k (x ∷ [])) refl
   where
-    by : (l : List Name) → after_steps (steps net) k (x ∷ []) ≡ l → (goes_on net k x ≡ true) ↔ ((y : Name) × Chain (Step net) k x y)
+    by : (l : List Name) → after_steps (steps net) k (x ∷ []) ≡ l → (goes_on net k x ≡ true) ↔ ((y : Name) × IsChain (Step net) k x y)
     by [] e = ((λ h. let f : true ≡ false = sym h ∙ goes_nowhere net k x e in cc), (λ c. absurd (subst (λ l. Member c.0 l) e ((after_steps_is_chain (steps net) k x c.0).1 c.1))))
     by (y ∷ ys) e = ((λ h. (y, (after_steps_is_chain (steps net) k x y).0 (subst (λ l. Member y l) (sym e) (inl refl)))), (λ c. goes_somewhere net k x y ys e))
 

@@ -2,7 +2,7 @@
 use Rattle.std.proofs.Common.{◌≡◌, ℕ, zero, suc, ◌+◌, ◌-◌, ◌<◌, ◌≤◌, ◌⊎◌, inl, inr, arith, Bool, true, false, if◌then◌else◌, nat_lt, List, length, Option, Some, None, option_map, IsSome, refl, sym, subst}
 use Rattle.dn_net.specs.declared.node.Name.{Name}
 use Rattle.dn_net.specs.declared.node.NodeDecl.{NodeDecl}
-use Rattle.dn_net.specs.Chain.{Chain, Reaches, ReachesWithin}
+use Rattle.dn_net.specs.Chain.{IsChain, Reaches, ReachesWithin}
 use Rattle.dn_net.specs.Decode.{step_limit, Step}
 use Rattle.dn_net.specs.Walks.{live_walks}
 use Rattle.dn_net.specs.WalkRules.{Broken, is_wide, is_deep, counted_length, shortest_cycle, path_names, cycle_or_path, walk_limit, endless_fault, EndlessIsRefused, NoFaultIsShallow, ReachIsWithin}
@@ -19,14 +19,14 @@ pub endless_fault_is : (net : List NodeDecl) → endless_fault net ≡ (if is_wi
 unfolding endless_fault
 endless_fault_is net = refl
 
-some_path : (net : List NodeDecl) → KeepsNodeRules net → (x y : Name) → Chain (Step net) step_limit x y → IsSome (option_map is_deep (path_names net step_limit))
+some_path : (net : List NodeDecl) → KeepsNodeRules net → (x y : Name) → IsChain (Step net) step_limit x y → IsSome (option_map is_deep (path_names net step_limit))
 some_path net checked x y c = by (path_names net step_limit) refl
   where
     by : (o : Option (List Name)) → path_names net step_limit ≡ o → IsSome (option_map is_deep o)
     by None e = absurd ((path_is_least net checked step_limit).1 e x y c some_steps)
     by (Some xs) e = refl
 
-long_is_refused : (net : List NodeDecl) → KeepsNodeRules net → (x y : Name) → Chain (Step net) step_limit x y → IsSome (endless_fault net)
+long_is_refused : (net : List NodeDecl) → KeepsNodeRules net → (x y : Name) → IsChain (Step net) step_limit x y → IsSome (endless_fault net)
 long_is_refused net checked x y c = subst (λ f. IsSome f) (sym (endless_fault_is net)) (by (is_wide_net net) (shortest_cycle net))
   where
     by : (b : Bool) (o : Option ℕ) → IsSome (if b then Some is_wide else cycle_or_path net o)
@@ -50,6 +50,6 @@ reach_is_within net checked none x y r = by r.0 r.1 (split r.0 step_limit)
     split : (k n : ℕ) → (k ≤ n) ⊎ (n ≤ k)
     split k n = grind arith
 
-    by : (k : ℕ) → Chain (Step net) k x y → (k ≤ step_limit) ⊎ (step_limit ≤ k) → ReachesWithin (Step net) step_limit x y
+    by : (k : ℕ) → IsChain (Step net) k x y → (k ≤ step_limit) ⊎ (step_limit ≤ k) → ReachesWithin (Step net) step_limit x y
     by k c (inl l) = (k, l, c)
     by k c (inr l) = let f = chain_front (Step net) step_limit k x y l c in absurd (no_fault_is_shallow net checked none x f.0 f.1)

@@ -3,7 +3,7 @@ use Rattle.std.proofs.Common.{◌≡◌, ℕ, zero, suc, ◌+◌, ◌-◌, ◌<�
 use Rattle.std.proofs.lemmas.Bool.{lt-ltb, eq-eqb}
 use Rattle.dn_net.specs.declared.node.Name.{Name}
 use Rattle.dn_net.specs.declared.node.NodeDecl.{NodeDecl}
-use Rattle.dn_net.specs.Chain.{Chain}
+use Rattle.dn_net.specs.Chain.{IsChain}
 use Rattle.dn_net.specs.Decode.{top, step_limit, Step}
 use Rattle.dn_net.specs.Names.{name_lt}
 use Rattle.dn_net.specs.WalkRules.{or_else, first_below, least_in, least_below, least_name, comes_back, has_cycle, shortest_within, shortest_cycle, IsShortestCycle, ShortestCycleIsShortest}
@@ -117,17 +117,17 @@ pub least_name_is : (net : List NodeDecl) (p : Name → Bool) (o : Option Name) 
 least_name_is net p o e = subst (λ o. IsLeastNameOr p (length net) o) e (least_below_is p (length net))
 
 -- whether some name comes back
-no_cycle : (net : List NodeDecl) → KeepsNodeRules net → (k : ℕ) → 1 ≤ k → has_cycle net k ≡ false → (x : Name) → Chain (Step net) k x x → ⊥
+no_cycle : (net : List NodeDecl) → KeepsNodeRules net → (k : ℕ) → 1 ≤ k → has_cycle net k ≡ false → (x : Name) → IsChain (Step net) k x x → ⊥
 no_cycle net checked k l h x c = by (least_name net (comes_back net k)) refl h
   where
     by : (o : Option Name) → least_name net (comes_back net k) ≡ o → is_some o ≡ false → ⊥
     by None e f = let i = stepping_in_range net checked k x x l c in least_name_is net (comes_back net k) None e x i.0 i.1 ((comes_to_is_chain net k x x).1 c)
     by (Some y) e f = cc
 
-a_cycle : (net : List NodeDecl) (k : ℕ) → has_cycle net k ≡ true → (x : Name) × Chain (Step net) k x x
+a_cycle : (net : List NodeDecl) (k : ℕ) → has_cycle net k ≡ true → (x : Name) × IsChain (Step net) k x x
 a_cycle net k h = by (least_name net (comes_back net k)) refl h
   where
-    by : (o : Option Name) → least_name net (comes_back net k) ≡ o → is_some o ≡ true → (x : Name) × Chain (Step net) k x x
+    by : (o : Option Name) → least_name net (comes_back net k) ≡ o → is_some o ≡ true → (x : Name) × IsChain (Step net) k x x
     by None e f = cc
     by (Some y) e f = (y, (comes_to_is_chain net k y y).0 (least_name_is net (comes_back net k) (Some y) e).passes)
 
@@ -135,11 +135,11 @@ a_cycle net k h = by (least_name net (comes_back net k)) refl h
 pub record IsShortest (net : List NodeDecl) (n c : ℕ) : Type 0 where
   pub least : 1 ≤ c
   pub most : c ≤ n
-  pub cycle : (x : Name) × Chain (Step net) c x x
-  pub none_less : (k : ℕ) (x : Name) → 1 ≤ k → k < c → Chain (Step net) k x x → ⊥
+  pub cycle : (x : Name) × IsChain (Step net) c x x
+  pub none_less : (k : ℕ) (x : Name) → 1 ≤ k → k < c → IsChain (Step net) k x x → ⊥
 
 abbrev pub IsShortestOr : List NodeDecl → ℕ → Option ℕ → Type 0
-IsShortestOr net n None = (k : ℕ) (x : Name) → 1 ≤ k → k ≤ n → Chain (Step net) k x x → ⊥
+IsShortestOr net n None = (k : ℕ) (x : Name) → 1 ≤ k → k ≤ n → IsChain (Step net) k x x → ⊥
 IsShortestOr net n (Some c) = IsShortest net n c
 
 pub shortest_within_is : (net : List NodeDecl) → KeepsNodeRules net → (n : ℕ) → IsShortestOr net n (shortest_within net n)
@@ -153,7 +153,7 @@ shortest_within_is net checked (suc n) = by (shortest_within net n) (shortest_wi
     by (Some c) f v e = record { least = f.least; most = (let l : c ≤ n = f.most in omega arith); cycle = f.cycle; none_less = f.none_less }
     by None f true e = record { least = (omega arith); most = (omega arith); cycle = a_cycle net (suc n) e; none_less = (λ k x l m c. f k x l (omega arith) c) }
     by None f false e = λ k x l m c. elim (last_or k m) [
-      | inl s ↦ no_cycle net checked (suc n) (omega arith) e x (subst (λ j. Chain (Step net) j x x) s c)
+      | inl s ↦ no_cycle net checked (suc n) (omega arith) e x (subst (λ j. IsChain (Step net) j x x) s c)
       | inr j ↦ f k x l j c
     ]
 
@@ -183,5 +183,5 @@ shortest_cycle_is_shortest net checked = (some, none)
         let f = shortest_cycle_is net checked (Some c) e in
         record { least = f.least; most = less c step_limit some_steps f.most; cycle = f.cycle; none_less = f.none_less }
 
-    none : shortest_cycle net ≡ None → (k : ℕ) (x : Name) → 1 ≤ k → k < step_limit → Chain (Step net) k x x → ⊥
+    none : shortest_cycle net ≡ None → (k : ℕ) (x : Name) → 1 ≤ k → k < step_limit → IsChain (Step net) k x x → ⊥
     none e k x l m c = shortest_cycle_is net checked None e k x l (no_more k step_limit m) c

@@ -2,7 +2,7 @@
 use Rattle.std.proofs.Common.{◌≡◌, ℕ, zero, suc, ◌≤◌, ◌⊎◌, ◌↔◌, inl, inr, Bool, true, false, if◌then◌else◌, ◌&&◌, ◌==◌, List, [], ◌∷◌, ◌++◌, refl, sym, ap, ◌∙◌, subst, arith, IsTrue, eqb-true}
 pub use Rattle.dn_base.proofs.Members.{member_left, member_right, member_cases}
 use Rattle.dn_net.specs.declared.node.Name.{Name}
-use Rattle.dn_net.specs.Chain.{Member, Chain, ReachesWithin, Ends}
+use Rattle.dn_net.specs.Chain.{Member, IsChain, ReachesWithin, Ends}
 use Rattle.dn_net.specs.Names.{name_lt, name_eq, with_name, sorted_names, passing_names, each_step, after_steps, reached_names, end_names}
 
 pub name_same : (x y : Name) → name_eq x y ≡ true → x ≡ y
@@ -59,7 +59,7 @@ each_in f (x ∷ xs) z =
 reached_in : (f : Name → List Name) (n : ℕ) (xs : List Name) (z : Name) → Member z (reached_names f n xs) ↔ ((x : Name) × Member x xs × ReachesWithin (λ a b. Member b (f a)) n x z)
 reached_in f zero xs z = ((λ m. (z, m, (0, (omega arith), refl))), (λ m. go m.0 m.1 m.2.0 m.2.1 m.2.2))
   where
-    go : (x : Name) → Member x xs → (k : ℕ) → k ≤ 0 → Chain (λ a b. Member b (f a)) k x z → Member z xs
+    go : (x : Name) → Member x xs → (k : ℕ) → k ≤ 0 → IsChain (λ a b. Member b (f a)) k x z → Member z xs
     go x m zero l c = subst (λ w. Member w xs) c m
     go x m (suc k) l c = absurd (omega arith)
 reached_in f (suc n) xs z = (down (reached_in f n (each_step f xs) z), up (reached_in f n (each_step f xs) z))
@@ -76,21 +76,21 @@ reached_in f (suc n) xs z = (down (reached_in f n (each_step f xs) z), up (reach
     up : Member z (reached_names f n (each_step f xs)) ↔ ((x : Name) × Member x (each_step f xs) × ReachesWithin S n x z) → ((x : Name) × Member x xs × ReachesWithin S (suc n) x z) → Member z (xs ++ reached_names f n (each_step f xs))
     up ih m = go m.0 m.1 m.2.0 m.2.1 m.2.2
       where
-        go : (x : Name) → Member x xs → (k : ℕ) → k ≤ suc n → Chain S k x z → Member z (xs ++ reached_names f n (each_step f xs))
+        go : (x : Name) → Member x xs → (k : ℕ) → k ≤ suc n → IsChain S k x z → Member z (xs ++ reached_names f n (each_step f xs))
         go x i zero l c = member_left xs (reached_names f n (each_step f xs)) z (subst (λ w. Member w xs) c i)
         go x i (suc k) l c = member_right xs (reached_names f n (each_step f xs)) z (ih.1 (c.0, (each_in f xs c.0).1 (x, i, c.1), (k, (omega arith), c.2)))
 
 -- the names after exactly so many steps are the ends of the chains of that length
-after_in : (f : Name → List Name) (n : ℕ) (xs : List Name) (z : Name) → Member z (after_steps f n xs) ↔ ((x : Name) × Member x xs × Chain (λ a b. Member b (f a)) n x z)
+after_in : (f : Name → List Name) (n : ℕ) (xs : List Name) (z : Name) → Member z (after_steps f n xs) ↔ ((x : Name) × Member x xs × IsChain (λ a b. Member b (f a)) n x z)
 after_in f zero xs z = ((λ m. (z, m, refl)), (λ m. subst (λ w. Member w xs) m.2 m.1))
 after_in f (suc n) xs z =
     let ih = after_in f n (each_step f xs) z in
     ((λ m. let r = ih.0 m in let p = (each_in f xs r.0).0 r.1 in (p.0, p.1, (r.0, p.2, r.2))), (λ m. ih.1 (m.2.0, (each_in f xs m.2.0).1 (m.0, m.1, m.2.1), m.2.2)))
 
-pub after_steps_is_chain : (f : Name → List Name) (n : ℕ) (x y : Name) → Member y (after_steps f n (x ∷ [])) ↔ Chain (λ a b. Member b (f a)) n x y
+pub after_steps_is_chain : (f : Name → List Name) (n : ℕ) (x y : Name) → Member y (after_steps f n (x ∷ [])) ↔ IsChain (λ a b. Member b (f a)) n x y
 after_steps_is_chain f n x y =
     let a = after_in f n (x ∷ []) y in (
-      (λ m. let q = a.0 m in elim q.1 [ inl s ↦ subst (λ w. Chain (λ a b. Member b (f a)) n w y) (sym s) q.2 | inr z ↦ absurd z ]),
+      (λ m. let q = a.0 m in elim q.1 [ inl s ↦ subst (λ w. IsChain (λ a b. Member b (f a)) n w y) (sym s) q.2 | inr z ↦ absurd z ]),
       (λ c. a.1 (x, inl refl, c)),
     )
 

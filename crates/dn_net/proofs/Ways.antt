@@ -2,7 +2,7 @@
 use Rattle.std.proofs.Common.{◌≡◌, ℕ, zero, suc, ◌-◌, ◌<◌, ◌≤◌, ◌⊎◌, ◌↔◌, inl, inr, Bool, true, false, if◌then◌else◌, ◌&&◌, ◌==◌, nat_lt, List, [], ◌∷◌, filter, length, Option, Some, None, refl, sym, ◌∙◌, subst, arith, IsTrue, ltb-true, eqb-true}
 use Rattle.dn_net.specs.declared.node.Name.{Name}
 use Rattle.dn_net.specs.declared.node.NodeDecl.{NodeDecl}
-use Rattle.dn_net.specs.Chain.{Member, Chain}
+use Rattle.dn_net.specs.Chain.{Member, IsChain}
 use Rattle.dn_net.specs.Decode.{top, steps, step_limit, Step}
 use Rattle.dn_net.specs.Names.{name_lt, name_eq, with_name, sorted_names}
 use Rattle.dn_net.specs.WalkRules.{first_of, behind, way_by, least_name, comes_to, comes_back, goes_on, cycle_from, path_from, path_names, NotAfter, Along, IsLeastCycle, CycleIsLeast, IsLeastPath, PathIsLeast}
@@ -78,7 +78,7 @@ first_sorted (x ∷ xs) = by (sorted_names xs) (first_sorted xs)
         tests false e false g (inr l) = kept l
 
 -- names along steps make a chain
-pub along_chain : (net : List NodeDecl) (k : ℕ) (x : Name) (ys : List Name) (y : Name) → Along net k (x ∷ ys) y → Chain (Step net) k x y
+pub along_chain : (net : List NodeDecl) (k : ℕ) (x : Name) (ys : List Name) (y : Name) → Along net k (x ∷ ys) y → IsChain (Step net) k x y
 along_chain net zero x [] y a = a
 along_chain net zero x (z ∷ zs) y a = absurd a
 along_chain net (suc k) x [] y a = absurd a.0
@@ -91,15 +91,15 @@ pub record IsLeastWay (net : List NodeDecl) (Q : Name → Type 0) (k : ℕ) (x :
   pub along : Along net k (x ∷ zs) end
   pub least : (ys : List Name) (y : Name) → Q y → Along net k (x ∷ ys) y → NotAfter zs ys
 
-module _ (net : List NodeDecl) (Q : Name → Type 0) (leads : ℕ → Name → Bool) (sound : (k : ℕ) (x : Name) → (leads k x ≡ true) ↔ ((y : Name) × Q y × Chain (Step net) k x y)) where
+module _ (net : List NodeDecl) (Q : Name → Type 0) (leads : ℕ → Name → Bool) (sound : (k : ℕ) (x : Name) → (leads k x ≡ true) ↔ ((y : Name) × Q y × IsChain (Step net) k x y)) where
   pub way_is_least : (k : ℕ) (x : Name) → leads k x ≡ true → IsLeastWay net Q k x (way_by (steps net) leads k x)
   way_is_least zero x h = let r = (sound zero x).0 h in record { end = r.0; is_end = r.1; along = r.2; least = (λ ys y q a. tt) }
   way_is_least (suc k) x h = by (first_of (sorted_names (filter (leads k) (steps net x)))) (first_sorted (filter (leads k) (steps net x))) (way_is_least k)
     where
-      r : (y : Name) × Q y × Chain (Step net) (suc k) x y
+      r : (y : Name) × Q y × IsChain (Step net) (suc k) x y
       r = (sound (suc k) x).0 h
 
-      among : (z y : Name) → Q y → Step net x z → Chain (Step net) k z y → Member z (filter (leads k) (steps net x))
+      among : (z y : Name) → Q y → Step net x z → IsChain (Step net) k z y → Member z (filter (leads k) (steps net x))
       among z y q s c = filter_member (leads k) (steps net x) z s ((sound k z).1 (y, q, c))
 
       by : (o : Option Name) → IsFirstNameOr (filter (leads k) (steps net x)) o → ((z : Name) → leads k z ≡ true → IsLeastWay net Q k z (way_by (steps net) leads k z)) → IsLeastWay net Q (suc k) x (behind o (λ z. way_by (steps net) leads k z))
@@ -120,13 +120,13 @@ module _ (net : List NodeDecl) (Q : Name → Type 0) (leads : ℕ → Name → B
           ]
 
 -- to a name
-comes_to_sound : (net : List NodeDecl) (x : Name) (k : ℕ) (z : Name) → (comes_to net x k z ≡ true) ↔ ((y : Name) × (x ≡ y) × Chain (Step net) k z y)
+comes_to_sound : (net : List NodeDecl) (x : Name) (k : ℕ) (z : Name) → (comes_to net x k z ≡ true) ↔ ((y : Name) × (x ≡ y) × IsChain (Step net) k z y)
 comes_to_sound net x k z =
     let a = comes_to_is_chain net k z x in
-    ((λ h. (x, refl, a.0 h)), (λ r. a.1 (subst (λ y. Chain (Step net) k z y) (sym r.1) r.2)))
+    ((λ h. (x, refl, a.0 h)), (λ r. a.1 (subst (λ y. IsChain (Step net) k z y) (sym r.1) r.2)))
 
 -- to any name
-goes_on_sound : (net : List NodeDecl) (k : ℕ) (z : Name) → (goes_on net k z ≡ true) ↔ ((y : Name) × Unit {0} × Chain (Step net) k z y)
+goes_on_sound : (net : List NodeDecl) (k : ℕ) (z : Name) → (goes_on net k z ≡ true) ↔ ((y : Name) × Unit {0} × IsChain (Step net) k z y)
 goes_on_sound net k z =
     let a = goes_on_is_chain net k z in
     ((λ h. let r = a.0 h in (r.0, tt, r.1)), (λ r. a.1 (r.0, r.2)))
@@ -153,7 +153,7 @@ cycle_is_least net checked c e = by (least_name net (comes_back net c)) refl
         least [] y g a = cc
         least (v ∷ vs) y g a =
             let s : v ≡ y = some_same v y g in
-            let k : Chain (Step net) c v v = subst (λ u. Chain (Step net) c v u) (sym s) (along_chain net c v vs y a) in
+            let k : IsChain (Step net) c v v = subst (λ u. IsChain (Step net) c v u) (sym s) (along_chain net c v vs y a) in
             let i = stepping_in_range net checked c v v short.least k in
             elim (name.least v i.0 i.1 ((comes_to_is_chain net c v v).1 k)) [
               | inl l ↦ inl l
@@ -168,7 +168,7 @@ front n z e = by z.addr refl
     by zero f = inr (λ i. record { node = sym e i; addr = sym f i })
     by (suc a) f = inl (lower_addr (record { node = n; addr = 0 }) z (sym e) (omega arith))
 
-least_of_all : (net : List NodeDecl) → KeepsNodeRules net → (k : ℕ) (x z y : Name) → IsLeastName (goes_on net k) (length net) x → Chain (Step net) k z y → NoLater x z
+least_of_all : (net : List NodeDecl) → KeepsNodeRules net → (k : ℕ) (x z y : Name) → IsLeastName (goes_on net k) (length net) x → IsChain (Step net) k z y → NoLater x z
 least_of_all net checked zero x z y name c = by (order z.node (length net))
   where
     order : (a b : ℕ) → (a < b) ⊎ (b ≤ a)
@@ -210,11 +210,11 @@ path_is_least net checked k = (some, none)
     some : (xs : List Name) → path_names net k ≡ Some xs → IsLeastPath net k xs
     some xs g = found (least_name net (goes_on net k)) refl xs g
 
-    missing : (o : Option Name) → least_name net (goes_on net k) ≡ o → path_from net k o ≡ None → (x y : Name) → Chain (Step net) k x y → 1 ≤ k → ⊥
+    missing : (o : Option Name) → least_name net (goes_on net k) ≡ o → path_from net k o ≡ None → (x y : Name) → IsChain (Step net) k x y → 1 ≤ k → ⊥
     missing (Some z) e g x y c l = cc
     missing None e g x y c l =
         let i = stepping_in_range net checked k x y l c in
         least_name_is net (goes_on net k) None e x i.0 i.1 ((goes_on_is_chain net k x).1 (y, c))
 
-    none : path_names net k ≡ None → (x y : Name) → Chain (Step net) k x y → 1 ≤ k → ⊥
+    none : path_names net k ≡ None → (x y : Name) → IsChain (Step net) k x y → 1 ≤ k → ⊥
     none g x y c l = missing (least_name net (goes_on net k)) refl g x y c l

@@ -3,7 +3,7 @@ use Rattle.std.specs.Prelude.{◌≡◌, ◌≢◌, ℕ, ◌≤◌, ◌↔◌, L
 use Rattle.std.specs.List.{AllPairs, list_all}
 use Rattle.dn_net.specs.declared.node.Name.{Name}
 use Rattle.dn_net.specs.declared.node.NodeDecl.{NodeDecl}
-use Rattle.dn_net.specs.Chain.{Chain}
+use Rattle.dn_net.specs.Chain.{IsChain}
 use Rattle.dn_net.specs.Decode.{top, Step, step_limit, is_formed, is_closed}
 use Rattle.dn_net.specs.Rules.{KeepsNodeRules, node_fault}
 use Rattle.dn_net.specs.Walks.{live_walks}
@@ -22,7 +22,7 @@ pub record IsNet (net : List NodeDecl) : Type 0 where
 -- what the rules on walks leave of a net: few live walks, and no chain of 65 steps
 pub record KeepsWalkRules (net : List NodeDecl) : Type 0 where
   pub few : length (live_walks net step_limit) ≤ walk_limit
-  pub shallow : (x y : Name) → Chain (Step net) step_limit x y → ⊥
+  pub shallow : (x y : Name) → IsChain (Step net) step_limit x y → ⊥
 
 -- a legal net
 pub record IsLegalNet (net : List NodeDecl) : Type 0 where

@@ -2,7 +2,7 @@
 use Rattle.std.specs.Prelude.{◌≡◌, ℕ, zero, suc, Bool, if◌then◌else◌, ◌&&◌, ◌||◌, nat_lt, ◌==◌, true, List, [], ◌∷◌, ◌++◌, ◌↔◌}
 use Rattle.dn_net.specs.declared.node.Name.{Name}
 use Rattle.dn_net.specs.declared.node.NodeDecl.{NodeDecl}
-use Rattle.dn_net.specs.Chain.{Member, Chain, ReachesWithin, Ends}
+use Rattle.dn_net.specs.Chain.{Member, IsChain, ReachesWithin, Ends}
 use Rattle.dn_net.specs.Decode.{is_accepted, is_stop, steps, step_limit}
 
 -- names are ordered by node, and then by address
@@ -83,4 +83,4 @@ ReachedIsWithin = (f : Name → List Name) (n : ℕ) (x y : Name) →
 -- The names that are reached in exactly so many steps are the ends of the chains of that length.
 abbrev pub AfterStepsIsChain : Type 0
 AfterStepsIsChain = (f : Name → List Name) (n : ℕ) (x y : Name) →
-    Member y (after_steps f n (x ∷ [])) ↔ Chain (λ a b. Member b (f a)) n x y
+    Member y (after_steps f n (x ∷ [])) ↔ IsChain (λ a b. Member b (f a)) n x y

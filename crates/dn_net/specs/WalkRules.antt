@@ -4,7 +4,7 @@ use Rattle.std.specs.List.{list_any}
 use Rattle.std.specs.Option.{is_some}
 use Rattle.dn_net.specs.declared.node.Name.{Name}
 use Rattle.dn_net.specs.declared.node.NodeDecl.{NodeDecl}
-use Rattle.dn_net.specs.Chain.{Member, Chain, Reaches, ReachesWithin}
+use Rattle.dn_net.specs.Chain.{Member, IsChain, Reaches, ReachesWithin}
 use Rattle.dn_net.specs.Decode.{top, within, steps, step_limit, Step}
 use Rattle.dn_net.specs.Names.{name_lt, name_eq, sorted_names, after_steps}
 use Rattle.dn_net.specs.Rules.{KeepsNodeRules}
@@ -142,22 +142,22 @@ LiveWalksAreInOrder = (net : List NodeDecl) → KeepsNodeRules net → (k i j : 
 
 -- A chain of k steps is a live walk of k choices that its first name follows, and back.
 abbrev pub ChainIsWalk : Type 0
-ChainIsWalk = (net : List NodeDecl) → KeepsNodeRules net → (k : ℕ) (x y : Name) → Chain (Step net) k x y ↔ ((choices : List Choice) × (length choices ≡ k) × Follows net x choices y)
+ChainIsWalk = (net : List NodeDecl) → KeepsNodeRules net → (k : ℕ) (x y : Name) → IsChain (Step net) k x y ↔ ((choices : List Choice) × (length choices ≡ k) × Follows net x choices y)
 
 -- A cycle of k steps is a row of the walks of k choices whose base is its own start.
 abbrev pub CycleIsRow : Type 0
-CycleIsRow = (net : List NodeDecl) → KeepsNodeRules net → (k : ℕ) (x : Name) → 1 ≤ k → Chain (Step net) k x x ↔ ((w : Walk) × Member w (level net k) × (w.start ≡ x.node) × IsTrue (within x.addr w.span) × (w.to ≡ record { node = w.start; addr = w.span.lo }))
+CycleIsRow = (net : List NodeDecl) → KeepsNodeRules net → (k : ℕ) (x : Name) → 1 ≤ k → IsChain (Step net) k x x ↔ ((w : Walk) × Member w (level net k) × (w.start ≡ x.node) × IsTrue (within x.addr w.span) × (w.to ≡ record { node = w.start; addr = w.span.lo }))
 
 -- The shortest cycle is the least number of steps, from 1 to 64, in which a name comes to itself.
 pub record IsShortestCycle (net : List NodeDecl) (c : ℕ) : Type 0 where
   pub least : 1 ≤ c
   pub most : c < step_limit
-  pub cycle : (x : Name) × Chain (Step net) c x x
-  pub none_less : (k : ℕ) (x : Name) → 1 ≤ k → k < c → Chain (Step net) k x x → ⊥
+  pub cycle : (x : Name) × IsChain (Step net) c x x
+  pub none_less : (k : ℕ) (x : Name) → 1 ≤ k → k < c → IsChain (Step net) k x x → ⊥
 
 -- The shortest cycle is the least, and where there is none no name comes to itself.
 abbrev pub ShortestCycleIsShortest : Type 0
-ShortestCycleIsShortest = (net : List NodeDecl) → KeepsNodeRules net → ((c : ℕ) → shortest_cycle net ≡ Some c → IsShortestCycle net c) × (shortest_cycle net ≡ None → (k : ℕ) (x : Name) → 1 ≤ k → k < step_limit → Chain (Step net) k x x → ⊥)
+ShortestCycleIsShortest = (net : List NodeDecl) → KeepsNodeRules net → ((c : ℕ) → shortest_cycle net ≡ Some c → IsShortestCycle net c) × (shortest_cycle net ≡ None → (k : ℕ) (x : Name) → 1 ≤ k → k < step_limit → IsChain (Step net) k x x → ⊥)
 
 -- lists of names are compared from the front
 abbrev pub NotAfter : List Name → List Name → Type 0
@@ -192,7 +192,7 @@ pub record IsLeastPath (net : List NodeDecl) (k : ℕ) (xs : List Name) : Type 0
 
 -- The names of a path are the least such list; where there are none, there is no chain of that length.
 abbrev pub PathIsLeast : Type 0
-PathIsLeast = (net : List NodeDecl) → KeepsNodeRules net → (k : ℕ) → ((xs : List Name) → path_names net k ≡ Some xs → IsLeastPath net k xs) × (path_names net k ≡ None → (x y : Name) → Chain (Step net) k x y → 1 ≤ k → ⊥)
+PathIsLeast = (net : List NodeDecl) → KeepsNodeRules net → (k : ℕ) → ((xs : List Name) → path_names net k ≡ Some xs → IsLeastPath net k xs) × (path_names net k ≡ None → (x y : Name) → IsChain (Step net) k x y → 1 ≤ k → ⊥)
 
 -- A name with a chain that never ends breaks a rule of the first part.
 abbrev pub EndlessIsRefused : Type 0
@@ -208,4 +208,4 @@ ReachIsWithin = (net : List NodeDecl) → KeepsNodeRules net → endless_fault n
 
 -- In a net that breaks no rule of the first part no chain has 65 steps.
 abbrev pub NoFaultIsShallow : Type 0
-NoFaultIsShallow = (net : List NodeDecl) → KeepsNodeRules net → endless_fault net ≡ None → (x y : Name) → Chain (Step net) step_limit x y → ⊥
+NoFaultIsShallow = (net : List NodeDecl) → KeepsNodeRules net → endless_fault net ≡ None → (x y : Name) → IsChain (Step net) step_limit x y → ⊥

@@ -7,7 +7,8 @@ use Rattle.dn_parse.specs.Actions.{Value}
 use Rattle.dn_parse.specs.Forms.{Form}
 use Rattle.dn_parse.specs.Syntax.{statement_form, SpellsText, Viable}
 use Rattle.dn_parse.specs.Machine.{Fed, on, over, stuck, feed, Stop, whole, refused, deep, Outcome, Place, between, inside, run, go, go_in, is_deep, parentheses}
-use Rattle.dn_parse.specs.Laws.{IsDeep, IsEnded, opened}
+use Rattle.dn_parse.specs.Laws.{IsDeep, IsEnded, open_parentheses}
+use Rattle.dn_parse.proofs.Counted.{viable_counts}
 use Rattle.dn_parse.proofs.Reach.{ReachedAt, reached}
 use Rattle.dn_parse.proofs.Whole.{spelled_is_read}
 
@@ -119,10 +120,10 @@ refused_at ts n ss (deep m) h e f = cc
 pub refused_is_first : (ts : List Token) (n : ℕ) → (run between ts).stop ≡ refused n → (front : List Token) × (rest : List Token) × (ts ≡ front ++ rest) × (n ≡ length rest) × Viable front × IsEnded front rest
 refused_is_first ts n e = refused_at ts n (run between ts).statements (run between ts).stop (reached ts between) e e
 
-deep_at : (ts : List Token) (n : ℕ) (ss : List Placed) (stop : Stop) → ReachedAt between ts ss stop → stop ≡ deep n → (front : List Token) × (t : Token) × (rest : List Token) × (ts ≡ front ++ t ∷ rest) × (n ≡ suc (length rest)) × Viable (front ++ t ∷ []) × (t.lexeme ≡ sign OpenParenthesis) × (opened 0 front ≡ 32)
+deep_at : (ts : List Token) (n : ℕ) (ss : List Placed) (stop : Stop) → ReachedAt between ts ss stop → stop ≡ deep n → (front : List Token) × (t : Token) × (rest : List Token) × (ts ≡ front ++ t ∷ rest) × (n ≡ suc (length rest)) × Viable (front ++ t ∷ []) × (t.lexeme ≡ sign OpenParenthesis) × (open_parentheses front ≡ 32)
 deep_at ts n ss whole h e = cc
 deep_at ts n ss (refused m) h e = cc
-deep_at ts n ss (deep m) (front, t, rest, s, l, v, o, c) e = let same : n ≡ m = cc in (front, t, rest, s, same ∙ l, v, o, c)
+deep_at ts n ss (deep m) (front, t, rest, s, l, v, o, c) e = let same : n ≡ m = cc in (front, t, rest, s, same ∙ l, v, o, sym (viable_counts front (t ∷ []) v) ∙ c)
 
-pub deep_is_first : (ts : List Token) (n : ℕ) → (run between ts).stop ≡ deep n → (front : List Token) × (t : Token) × (rest : List Token) × (ts ≡ front ++ t ∷ rest) × (n ≡ suc (length rest)) × Viable (front ++ t ∷ []) × (t.lexeme ≡ sign OpenParenthesis) × (opened 0 front ≡ 32)
+pub deep_is_first : (ts : List Token) (n : ℕ) → (run between ts).stop ≡ deep n → (front : List Token) × (t : Token) × (rest : List Token) × (ts ≡ front ++ t ∷ rest) × (n ≡ suc (length rest)) × Viable (front ++ t ∷ []) × (t.lexeme ≡ sign OpenParenthesis) × (open_parentheses front ≡ 32)
 deep_is_first ts n e = deep_at ts n (run between ts).statements (run between ts).stop (reached ts between) e

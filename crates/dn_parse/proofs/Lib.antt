@@ -1,5 +1,6 @@
 pub mod Taken
 pub mod Sets
+pub mod Counted
 pub mod Begins
 pub mod Turns
 pub mod Spelled

@@ -13,7 +13,7 @@ use Rattle.dn_parse.specs.Words.{same_keyword, same_sign}
 use Rattle.dn_parse.specs.Forms.{Form, takes, does, and_then, either, many, parenthesised, Sort, a_word, any_word, a_number, the_keyword, the_sign, is, is_sign, kept, Spells}
 use Rattle.dn_parse.specs.Syntax.{SpellsText, statement_form, statement_of, Parenthesised, after_open, expr, term, factor, less, more_terms, more_factors}
 use Rattle.dn_parse.specs.Machine.{Fed, on, over, stuck, feed, Stop, whole, refused, deep, Outcome, Place, between, inside, run, go, go_in, is_deep, parentheses}
-use Rattle.dn_parse.specs.Laws.{opened}
+use Rattle.dn_parse.proofs.Counted.{opened}
 use Rattle.dn_parse.proofs.Taken.{SpellsAll, Deep, SaysAll, says_all, bounded, deep_is_closed}
 use Rattle.dn_parse.proofs.Sets.{both_left, both_right, may_skip, IsOpened}
 use Rattle.dn_parse.proofs.Begins.{left_out}

@@ -7,7 +7,8 @@ use Rattle.dn_parse.specs.Actions.{Value}
 use Rattle.dn_parse.specs.Forms.{Form, is_sign}
 use Rattle.dn_parse.specs.Syntax.{statement_form, SpellsText, Viable}
 use Rattle.dn_parse.specs.Machine.{Fed, on, over, stuck, feed, Stop, whole, refused, deep, Place, between, inside, run, go, go_in, is_deep, parentheses}
-use Rattle.dn_parse.specs.Laws.{IsDeep, IsShallow, opened}
+use Rattle.dn_parse.specs.Laws.{IsDeep, IsShallow, open_parentheses}
+use Rattle.dn_parse.proofs.Counted.{opened, counts_agree}
 use Rattle.dn_parse.proofs.Taken.{Deep, SaysAll, says_all, deep_is_closed}
 use Rattle.dn_parse.proofs.Sets.{both_left, both_right}
 use Rattle.dn_parse.proofs.Reach.{count, semicolon_told, parenthesis_told}
@@ -113,11 +114,19 @@ deep_exactly (refused m) n A (inl r) b l = let e = r.0 in cc
 deep_exactly (refused m) n A (inr d) b l = absurd d
 deep_exactly (deep m) n A r b l = let same : m ≡ n = omega arith in ap deep same
 
-pub deep_stops : (front : List Token) (t : Token) (rest : List Token) → IsShallow front → Viable (front ++ t ∷ []) → t.lexeme ≡ sign OpenParenthesis → opened 0 front ≡ 32 → (run between (front ++ t ∷ rest)).stop ≡ deep (suc (length rest))
+-- the front of a spelling that is shallow by the laws' count is so by the machine's
+shallow_from : (xs ys : List Token) (ss : List Placed) → SpellsText (xs ++ ys) ss → IsShallow xs → IsShallowFrom 0 xs
+shallow_from xs ys ss spelled s = λ front rest e.
+    let all : xs ++ ys ≡ front ++ (rest ++ ys) = ap (λ (j : List Token). j ++ ys) e ∙ append_assoc front rest ys in
+    subst (λ (m : ℕ). m ≤ 32) (sym (counts_agree front (rest ++ ys) ss (subst (λ (j : List Token). SpellsText j ss) all spelled))) (s front rest e)
+
+pub deep_stops : (front : List Token) (t : Token) (rest : List Token) → IsShallow front → Viable (front ++ t ∷ []) → t.lexeme ≡ sign OpenParenthesis → open_parentheses front ≡ 32 → (run between (front ++ t ∷ rest)).stop ≡ deep (suc (length rest))
 deep_stops front t rest s (more, ss, spelled) o c =
     let all : (front ++ t ∷ []) ++ more ≡ front ++ t ∷ more = append_assoc front (t ∷ []) more in
-    let read = spelled_is_read (front ++ t ∷ more) ss (subst (λ (j : List Token). SpellsText j ss) all spelled) in
-    let here = deep_exactly (run between (front ++ t ∷ more)).stop (suc (length more)) _ read (passed front t more o between c) (late front (t ∷ more) between s) in
+    let whole_list = subst (λ (j : List Token). SpellsText j ss) all spelled in
+    let read = spelled_is_read (front ++ t ∷ more) ss whole_list in
+    let full = counts_agree front (t ∷ more) ss whole_list ∙ c in
+    let here = deep_exactly (run between (front ++ t ∷ more)).stop (suc (length more)) _ read (passed front t more o between full) (late front (t ∷ more) between (shallow_from front (t ∷ more) ss whole_list s)) in
     (final front t more rest between).nesting here
 
 no_nesting : (s : Stop) (A : Type 0) → ((s ≡ whole) × A) ⊎ IsDeep s → IsLate 0 s → ((n : ℕ) → s ≡ deep n → 1 ≤ n) → (s ≡ whole) × A
@@ -127,7 +136,7 @@ no_nesting (refused n) A (inr d) l h = absurd d
 no_nesting (deep n) A (inr d) l h = let least = h n refl in absurd (omega arith)
 
 pub shallow_is_read : (ts : List Token) (ss : List Placed) → SpellsText ts ss → IsShallow ts → ((run between ts).stop ≡ whole) × ((run between ts).statements ≡ ss)
-shallow_is_read ts ss spelled s = no_nesting (run between ts).stop _ (spelled_is_read ts ss spelled) (subst (λ (j : List Token). IsLate 0 (run between j).stop) (append-nil ts) (late ts [] between s)) some_left
+shallow_is_read ts ss spelled s = no_nesting (run between ts).stop _ (spelled_is_read ts ss spelled) (subst (λ (j : List Token). IsLate 0 (run between j).stop) (append-nil ts) (late ts [] between (shallow_from ts [] ss (subst (λ (j : List Token). SpellsText j ss) (sym (append-nil ts)) spelled) s))) some_left
   where
     some_left : (n : ℕ) → (run between ts).stop ≡ deep n → 1 ≤ n
     some_left n e = let d = deep_is_first ts n e in let left = d.4 in omega (arith, left)

@@ -128,32 +128,32 @@ after_comma reader ts = optional (after_sign Comma ts) (λ rest. one_more (reade
 abbrev pub first_and : {X : Type 0} → Reader X → (List Token → Next X) → Reader (List X)
 first_and reader next ts = reader ts >>= λ first. with_front (first.0 ∷ []) (row_at next first.1)
 
--- factor { "*" factor }
+-- this sign and one more part, or none
 abbrev pub next_by : Sign → Reader Expression → List Token → Next Expression
 next_by s reader ts = optional (after_sign s ts) (λ rest. one_more (reader rest)) (Ok None)
 
--- a term, where the reading of a factor is given
+-- factor { "*" factor }, where the reading of a factor is given
 abbrev pub term_with : Reader Expression → Reader Expression
 term_with factor ts = first_and factor (next_by Times factor) ts >>= λ members. Ok (multiplied members.0, members.1)
 
--- term { "+" term }
+-- term { "+" term }, where the reading of a term is given
 abbrev pub expr_with : Reader Expression → Reader Expression
 expr_with term ts = first_and term (next_by Plus term) ts >>= λ members. Ok (summed members.0, members.1)
 
--- expr [ "-" expr ] ")"
+-- expr ")", behind the `-`, where the part before it and the reading of an expression are given
 abbrev pub less_with : Reader Expression → Expression → Reader Expression
 less_with expr first ts = do
   second ← expr ts
   rest ← sign_at CloseParenthesis second.1
   Ok (minus first second.0, rest)
 
--- what follows a parenthesis, where the reading of an expression is given
+-- expr [ "-" expr ] ")", where the reading of an expression is given
 abbrev pub after_open_with : Reader Expression → Reader Expression
 after_open_with expr ts = do
   first ← expr ts
   optional (after_sign Minus first.1) (less_with expr first.0) (sign_at CloseParenthesis first.1 >>= λ rest. Ok (first.0, rest))
 
--- number | word | "(" ..
+-- what follows a parenthesis, or the refusal of any other sign
 abbrev pub at_sign : Bool → List Token → Read Expression → Read Expression
 at_sign true ts inner = inner
 at_sign false ts inner = refuses_at ts
@@ -215,7 +215,7 @@ first_and_most n reader next ts = reader ts >>= λ first. with_front (first.0 �
 abbrev pub expr_after : Reader Expression → Option (List Token) → List Token → Read (Option Expression)
 expr_after reader found ts = optional found (λ rest. reader rest >>= λ e. Ok (Some e.0, e.1)) (Ok (None, ts))
 
--- word [ "[" expr "]" ]
+-- "[" a part "]"
 abbrev pub in_brackets : {X : Type 0} → Reader X → Reader X
 in_brackets reader ts = do
   inner ← sign_at OpenBracket ts
@@ -234,7 +234,7 @@ part_at d ts = do
   index ← index_at d title.1
   Ok (record { title = title.0; index = index.0 }, index.1)
 
--- part { "." part }
+-- [ "." part ]
 unfoldable pub next_part_at : ℕ → List Token → Next Part
 next_part_at d ts = optional (after_sign Dot ts) (λ rest. one_more (part_at d rest)) (Ok None)
 
@@ -242,7 +242,7 @@ next_part_at d ts = optional (after_sign Dot ts) (λ rest. one_more (part_at d r
 unfoldable pub name_at : ℕ → Reader (List Part)
 name_at d ts = first_and (part_at d) (next_part_at d) ts
 
--- expr [ "-" expr ]
+-- [ "-" expr ]
 unfoldable pub upper_at : Reader (Option Expression)
 upper_at ts = expr_after (expr_at 32) (after_sign Minus ts) ts
 
@@ -261,7 +261,7 @@ next_block_at ts = after_comma block_at ts
 unfoldable pub blocks_at : Reader (List Block)
 blocks_at ts = first_and block_at next_block_at ts
 
--- name [ "at" expr ]
+-- [ "at" expr ]
 unfoldable pub addr_at : Reader (Option Expression)
 addr_at ts = expr_after (expr_at 32) (after_keyword At ts) ts
 
@@ -272,7 +272,7 @@ dest_at ts = do
   addr ← addr_at name.1
   Ok (record { name = name.0; addr = addr.0 }, addr.1)
 
--- dest { "and" dest }, at most eight
+-- [ "and" dest ]
 unfoldable pub next_dest_at : List Token → Next Dest
 next_dest_at ts = optional (after_keyword And ts) (λ rest. one_more (dest_at rest)) (Ok None)
 
@@ -296,7 +296,7 @@ next_entry_at ts = after_comma entry_at ts
 unfoldable pub entries_at : Reader (List Entry)
 entries_at ts = first_and entry_at next_entry_at ts
 
--- [ "accept" "[" block { "," block } "]" ] [ "map" "[" entry { "," entry } "]" ] [ "over" name ]
+-- [ "accept" "[" block { "," block } "]" ]
 unfoldable pub accept_at : Reader (List Block)
 accept_at ts = optional (after_keyword Accept ts) (in_brackets blocks_at) (Ok ([], ts))
 
@@ -320,7 +320,7 @@ spec_at ts = do
 unfoldable pub param_at : Reader Param
 param_at ts = optional (after_keyword Num ts) (λ rest. word_at rest >>= λ w. Ok (number_param w.0, w.1)) (keyword_at Node ts >>= λ rest. word_at rest >>= λ w. Ok (node_param w.0, w.1))
 
--- [ param { "," param } ] ")"
+-- [ "," param ]
 unfoldable pub next_param_at : List Token → Next Param
 next_param_at ts = after_comma param_at ts
 
@@ -336,7 +336,7 @@ closed_params_at ts = optional (after_sign CloseParenthesis ts) (λ rest. Ok ([]
 unfoldable pub arg_at : Reader Arg
 arg_at ts = optional (after_keyword Node ts) (λ rest. name_at 31 rest >>= λ n. Ok (node_arg n.0, n.1)) (expr_at 31 ts >>= λ e. Ok (number_arg e.0, e.1))
 
--- [ arg { "," arg } ] ")"
+-- [ "," arg ]
 unfoldable pub next_arg_at : List Token → Next Arg
 next_arg_at ts = after_comma arg_at ts
 
@@ -348,7 +348,7 @@ args_at ts = first_and arg_at next_arg_at ts
 unfoldable pub closed_args_at : Reader (List Arg)
 closed_args_at ts = optional (after_sign CloseParenthesis ts) (λ rest. Ok ([], rest)) (args_at ts >>= λ xs. sign_at CloseParenthesis xs.1 >>= λ rest. Ok (xs.0, rest))
 
--- name { "," name }, at most eight
+-- [ "," name ]
 unfoldable pub next_port_at : List Token → Next (List Part)
 next_port_at ts = after_comma (name_at 32) ts
 
@@ -364,7 +364,7 @@ node_at role ts = do
   spec ← spec_at rest
   Ok (node role name.0 spec.0, spec.1)
 
--- name "kind" any "page" expr "slots" expr "reach" expr "to" name { "," name }
+-- this reserved word and an expr
 unfoldable pub measure_at : Keyword → Reader Expression
 measure_at k ts = keyword_at k ts >>= λ rest. expr_at 32 rest
 
@@ -408,7 +408,7 @@ loop_at ts = do
   upto ← expr_at 32 rest
   Ok (heads_loop title.0 from.0 upto.0, upto.1)
 
--- what follows the word of a command
+-- name expr
 unfoldable pub query_at : Reader (List Part × Expression)
 query_at ts = do
   name ← name_at 32 ts

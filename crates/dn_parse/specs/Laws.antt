@@ -1,11 +1,11 @@
 -- The laws that tie the machine to the grammar: with them its stops are the places that the grammar names.
-use Rattle.std.specs.Prelude.{◌≡◌, ◌≤◌, ◌⊎◌, ℕ, suc, false, List, [], ◌∷◌, ◌++◌, length, All}
-use Rattle.dn_parse.specs.declared.token.Sign.TheVariants.{OpenParenthesis, Semicolon}
+use Rattle.std.specs.Prelude.{◌≡◌, ◌≤◌, ◌-◌, ◌⊎◌, ℕ, suc, false, List, [], ◌∷◌, ◌++◌, length, All, count_by}
+use Rattle.dn_parse.specs.declared.token.Sign.TheVariants.{OpenParenthesis, CloseParenthesis, Semicolon}
 use Rattle.dn_parse.specs.Token.{Token, sign}
 use Rattle.dn_parse.specs.Tree.{Placed}
 use Rattle.dn_parse.specs.Syntax.{SpellsText, Viable}
 use Rattle.dn_parse.specs.Forms.{is_sign}
-use Rattle.dn_parse.specs.Machine.{Stop, whole, refused, deep, Outcome, Place, between, run, parentheses}
+use Rattle.dn_parse.specs.Machine.{Stop, whole, refused, deep, Outcome, Place, between, run}
 
 -- What is refused at a token, or nested too deep there, is so whatever follows it.
 abbrev pub StopIsFinal : Type 0
@@ -16,13 +16,13 @@ StopIsFinal = (p : Place) (front : List Token) (t : Token) (r r' : List Token) �
 abbrev pub ReadIsSpelled : Type 0
 ReadIsSpelled = (ts : List Token) → (run between ts).stop ≡ whole → SpellsText ts (run between ts).statements
 
--- Each spelling is read as its statements, unless a parenthesis in it is nested too deep.
+-- the reading stops at a parenthesis that is nested too deep
 abbrev pub IsDeep : Stop → Type 0
 IsDeep whole = ⊥
 IsDeep (refused n) = ⊥
 IsDeep (deep n) = Unit {0}
 
--- each spelling is read as its statements, unless a parenthesis in it is nested too deep
+-- Each spelling is read as its statements, unless a parenthesis in it is nested too deep.
 abbrev pub SpelledIsRead : Type 0
 SpelledIsRead = (ts : List Token) (ss : List Placed) → SpellsText ts ss → (((run between ts).stop ≡ whole) × ((run between ts).statements ≡ ss)) ⊎ IsDeep (run between ts).stop
 
@@ -35,14 +35,21 @@ IsEnded front (t ∷ rest) = Viable (front ++ t ∷ []) → ⊥
 abbrev pub RefusedIsFirst : Type 0
 RefusedIsFirst = (ts : List Token) (n : ℕ) → (run between ts).stop ≡ refused n → (front : List Token) × (rest : List Token) × (ts ≡ front ++ rest) × (n ≡ length rest) × Viable front × IsEnded front rest
 
--- the parentheses that are open at the end of a list
-abbrev pub opened : ℕ → List Token → ℕ
-opened n [] = n
-opened n (t ∷ ts) = opened (parentheses n t.lexeme) ts
+-- so many of these tokens open a parenthesis
+abbrev pub opening : List Token → ℕ
+opening ts = count_by (λ t. is_sign OpenParenthesis t.lexeme) ts
+
+-- so many of these tokens close one
+abbrev pub closing : List Token → ℕ
+closing ts = count_by (λ t. is_sign CloseParenthesis t.lexeme) ts
+
+-- the parentheses that are open behind these tokens
+abbrev pub open_parentheses : List Token → ℕ
+open_parentheses ts = opening ts - closing ts
 
 -- The place of a nesting: a parenthesis that a form allows there, before which 32 are open.
 abbrev pub DeepIsFirst : Type 0
-DeepIsFirst = (ts : List Token) (n : ℕ) → (run between ts).stop ≡ deep n → (front : List Token) × (t : Token) × (rest : List Token) × (ts ≡ front ++ t ∷ rest) × (n ≡ suc (length rest)) × Viable (front ++ t ∷ []) × (t.lexeme ≡ sign OpenParenthesis) × (opened 0 front ≡ 32)
+DeepIsFirst = (ts : List Token) (n : ℕ) → (run between ts).stop ≡ deep n → (front : List Token) × (t : Token) × (rest : List Token) × (ts ≡ front ++ t ∷ rest) × (n ≡ suc (length rest)) × Viable (front ++ t ∷ []) × (t.lexeme ≡ sign OpenParenthesis) × (open_parentheses front ≡ 32)
 
 -- so many tokens are left where the reading stops
 abbrev pub left_at : Stop → ℕ
@@ -67,12 +74,12 @@ StopKeepsStatements = (ts : List Token) → IsStoppedIn ts (run between ts)
 
 -- at no place in a list are more than 32 parentheses open
 abbrev pub IsShallow : List Token → Type 0
-IsShallow ts = (front rest : List Token) → ts ≡ front ++ rest → opened 0 front ≤ 32
+IsShallow ts = (front rest : List Token) → ts ≡ front ++ rest → open_parentheses front ≤ 32
 
 -- The first 33rd parenthesis that a form allows stops the reading there.
 abbrev pub DeepStops : Type 0
 DeepStops = (front : List Token) (t : Token) (rest : List Token) → IsShallow front → Viable (front ++ t ∷ []) →
-    t.lexeme ≡ sign OpenParenthesis → opened 0 front ≡ 32 → (run between (front ++ t ∷ rest)).stop ≡ deep (suc (length rest))
+    t.lexeme ≡ sign OpenParenthesis → open_parentheses front ≡ 32 → (run between (front ++ t ∷ rest)).stop ≡ deep (suc (length rest))
 
 -- Each spelling with at most 32 parentheses open at once is read as its statements.
 abbrev pub ShallowIsRead : Type 0

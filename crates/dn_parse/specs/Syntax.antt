@@ -30,7 +30,7 @@ at_most (suc n) f = optional (and_then f (at_most n f))
 unfoldable pub factor : Form
 factor = one_of (takes a_number) (and_then (takes a_word) (does make_variable) ∷ parenthesised ∷ [])
 
--- term = factor { "*" factor }
+-- { "*" factor }
 unfoldable pub more_factors : Form
 more_factors = many (in_order (mark Times) (factor ∷ does next_member ∷ []))
 
@@ -38,7 +38,7 @@ more_factors = many (in_order (mark Times) (factor ∷ does next_member ∷ []))
 unfoldable pub term : Form
 term = in_order factor (does first_member ∷ more_factors ∷ does make_product ∷ [])
 
--- expr = term { "+" term }
+-- { "+" term }
 unfoldable pub more_terms : Form
 more_terms = many (in_order (mark Plus) (term ∷ does next_member ∷ []))
 
@@ -46,7 +46,7 @@ more_terms = many (in_order (mark Plus) (term ∷ does next_member ∷ []))
 unfoldable pub expr : Form
 expr = in_order term (does first_member ∷ more_terms ∷ does make_sum ∷ [])
 
--- expr [ "-" expr ] ")"
+-- "-" expr
 unfoldable pub less : Form
 less = in_order (mark Minus) (expr ∷ does make_difference ∷ [])
 
@@ -62,7 +62,7 @@ in_parentheses = and_then (mark OpenParenthesis) after_open
 abbrev pub perhaps_expr : Form → List Form → Form
 perhaps_expr f fs = either (in_order f (expr ∷ fs)) (does no_expression)
 
--- part = word [ "[" expr "]" ]
+-- [ "[" expr "]" ]
 unfoldable pub index : Form
 index = perhaps_expr (mark OpenBracket) (does some_expression ∷ mark CloseBracket ∷ [])
 
@@ -70,7 +70,7 @@ index = perhaps_expr (mark OpenBracket) (does some_expression ∷ mark CloseBrac
 unfoldable pub part_form : Form
 part_form = in_order (takes a_word) (index ∷ does make_part ∷ [])
 
--- name = part { "." part }
+-- { "." part }
 unfoldable pub more_parts : Form
 more_parts = many (in_order (mark Dot) (part_form ∷ does next_part ∷ []))
 
@@ -78,7 +78,7 @@ more_parts = many (in_order (mark Dot) (part_form ∷ does next_part ∷ []))
 unfoldable pub name_form : Form
 name_form = in_order part_form (does first_part ∷ more_parts ∷ [])
 
--- block = expr [ "-" expr ]
+-- [ "-" expr ]
 unfoldable pub upper : Form
 upper = perhaps_expr (mark Minus) (does some_expression ∷ [])
 
@@ -86,7 +86,7 @@ upper = perhaps_expr (mark Minus) (does some_expression ∷ [])
 unfoldable pub block_form : Form
 block_form = in_order expr (upper ∷ does make_block ∷ [])
 
--- dest = name [ "at" expr ]
+-- [ "at" expr ]
 unfoldable pub at_addr : Form
 at_addr = perhaps_expr (the At) (does some_expression ∷ [])
 
@@ -94,7 +94,7 @@ at_addr = perhaps_expr (the At) (does some_expression ∷ [])
 unfoldable pub dest_form : Form
 dest_form = in_order name_form (at_addr ∷ does make_dest ∷ [])
 
--- entry = block "to" dest { "and" dest }          (1 to 8 dest)
+-- { "and" dest }, at most so many times
 unfoldable pub more_dests : ℕ → Form
 more_dests n = at_most n (in_order (the And) (dest_form ∷ does next_dest ∷ []))
 
@@ -102,7 +102,7 @@ more_dests n = at_most n (in_order (the And) (dest_form ∷ does next_dest ∷ [
 unfoldable pub entry_form : Form
 entry_form = in_order block_form (the To ∷ dest_form ∷ does first_dest ∷ more_dests 7 ∷ does make_entry ∷ [])
 
--- spec = [ "accept" "[" block { "," block } "]" ] [ "map" "[" entry { "," entry } "]" ] [ "over" name ]
+-- { "," block }
 unfoldable pub more_blocks : Form
 more_blocks = many (in_order (mark Comma) (block_form ∷ does next_block ∷ []))
 
@@ -138,7 +138,7 @@ agent_form = in_order (the Agent) (name_form ∷ the Is ∷ spec_form ∷ does m
 unfoldable pub vectors_form : Form
 vectors_form = in_order (the Vectors) (name_form ∷ the Is ∷ spec_form ∷ does make_vectors ∷ [])
 
--- unit = "unit" name "kind" any "page" expr "slots" expr "reach" expr "to" name { "," name }    (1 to 8 names)
+-- { "," name }, at most so many times
 unfoldable pub more_names : ℕ → Form
 more_names n = at_most n (in_order (mark Comma) (name_form ∷ does next_name ∷ []))
 
@@ -146,7 +146,6 @@ more_names n = at_most n (in_order (mark Comma) (name_form ∷ does next_name �
 unfoldable pub unit_form : Form
 unit_form = in_order (the UnitWord) (name_form ∷ the Kind ∷ takes any_word ∷ the Page ∷ expr ∷ the Slots ∷ expr ∷ the Reach ∷ expr ∷ the To ∷ name_form ∷ does first_name ∷ more_names 7 ∷ does make_unit ∷ [])
 
--- module = "module" word "(" [ param { "," param } ] ")"
 -- param = ( "num" | "node" ) word
 unfoldable pub param_form : Form
 param_form = one_of (in_order (the Num) (takes a_word ∷ does make_number_param ∷ [])) (in_order (the Node) (takes a_word ∷ does make_node_param ∷ []) ∷ [])
@@ -163,7 +162,6 @@ params_form = either (in_order param_form (does first_param ∷ more_params ∷ 
 unfoldable pub module_form : Form
 module_form = in_order (the Module) (takes a_word ∷ mark OpenParenthesis ∷ params_form ∷ mark CloseParenthesis ∷ does make_module ∷ [])
 
--- instance = "use" word "(" [ arg { "," arg } ] ")" "as" name
 -- arg = expr | "node" name
 unfoldable pub arg_form : Form
 arg_form = one_of (in_order expr (does make_number_arg ∷ [])) (in_order (the Node) (name_form ∷ does make_node_arg ∷ []) ∷ [])

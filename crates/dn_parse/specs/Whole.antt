@@ -4,7 +4,7 @@ use Rattle.dn_parse.specs.Token.{Token, tokens, is_line_feed}
 use Rattle.dn_parse.specs.Tree.{Statement, declares, heads_module, uses, heads_loop, ends, begins, orders, Placed, Item, declared, module_of, instance, loop, Items, items, Command, Tree, Param, Expression}
 use Rattle.dn_parse.specs.Machine.{Stop, whole, refused, deep, between, run}
 
--- an open block: what opened it with its line, and the statements before it
+-- what opened a block: the line of a module, or that of a loop
 pub data Opener : Type 0 where
   opens_module : List ℕ → List Param → Opener
   opens_loop : List ℕ → Expression → Expression → Opener
@@ -145,7 +145,7 @@ reading last ts = judged (run between ts).statements (at_stop (run between ts).s
 unfoldable pub judge : ℕ → List Token → Blocks → List Token → Result Tree TextFault
 judge last ts b rest = judged (run between rest).statements (at_stop (run between rest).stop last ts) b
 
--- the line of the end of a text
+-- so many line feeds are in a text
 abbrev pub line_feeds : List ℕ → ℕ
 line_feeds [] = 0
 line_feeds (b ∷ s) = if is_line_feed b then 1 + line_feeds s else line_feeds s

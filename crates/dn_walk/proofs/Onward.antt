@@ -4,7 +4,7 @@ use Rattle.std.specs.List.{filter, All}
 use Rattle.std.proofs.lemmas.List.{get_or-map}
 use Rattle.dn_net.specs.declared.node.Name.{Name}
 use Rattle.dn_net.specs.declared.node.NodeDecl.{NodeDecl}
-use Rattle.dn_net.specs.Chain.{Member, Chain}
+use Rattle.dn_net.specs.Chain.{Member, IsChain}
 use Rattle.dn_net.specs.Decode.{steps, top, Step}
 use Rattle.dn_net.specs.Rules.{KeepsNodeRules}
 use Rattle.dn_net.specs.WalkRules.{behind, way_by}
@@ -32,7 +32,7 @@ level_at goal levels k level now l e f = ap (λ x. level_leads goal (map row_vie
 -- a step leads to an address of a node of the net
 pub step_in_range : (net : List NodeDecl) → KeepsNodeRules net → (x y : Name) → Member y (steps net x) → (y.node < length net) × (y.addr ≤ top)
 step_in_range net checked x y m =
-    let c : Chain (Step net) 1 x y = (y, m, refl) in
+    let c : IsChain (Step net) 1 x y = (y, m, refl) in
     let i = stepping_in_range net checked 1 x y (omega arith) c in
     let r = row_of_chain net checked 1 x y i.0 i.1 c in
     let q = level_is_row net checked 1 r.0 r.1.row in

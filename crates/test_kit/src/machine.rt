@@ -1,9 +1,9 @@
 //! A net that keeps all rules.
 
-ghost use Rattle.std.specs.Prelude.{◌≡◌, IfOk, IsTrue, None, length};
+ghost use Rattle.std.specs.Prelude.{◌≡◌, IfOk, IsTrue, length};
+ghost use Rattle.dn_interval.specs.Rows.{ends_within};
 ghost use Rattle.dn_net.specs.Decode.{is_closed};
-ghost use Rattle.dn_net.specs.Rules.{node_fault};
-ghost use Rattle.dn_flat.specs.Views.{ends_within};
+ghost use Rattle.dn_net.specs.Legal.{IsLegalNet};
 ghost use Rattle.dn_print.specs.Names.{names_exist};
 
 use crate::unmade::Unmade;
@@ -17,8 +17,7 @@ use dn_walk::walks::{WalkTable, walks};
 use std::alloc::Global;
 use std::marker::Model;
 
-/// A net in which each node that is referred to exists, and which keeps the rules on nodes and on walks, with its
-/// live walks. Contracts see the list of the nodes' declarations.
+/// A legal net with its live walks. Contracts see the list of the nodes' declarations.
 #[derive(Drop)]
 pub struct Machine {
     net: Net,
@@ -26,33 +25,29 @@ pub struct Machine {
 }
 
 impl Model for Machine {
-    ghost use Rattle.std.specs.Prelude.{◌≡◌, List, IsTrue, None};
+    ghost use Rattle.std.specs.Prelude.{List};
     ghost use Rattle.dn_net.specs.declared.node.NodeDecl.{NodeDecl};
-    ghost use Rattle.dn_net.specs.Decode.{is_closed};
-    ghost use Rattle.dn_net.specs.Rules.{node_fault};
-    ghost use Rattle.dn_net.specs.WalkRules.{walk_fault};
     ghost use Rattle.dn_walk.specs.Rows.{AreWalksOf};
 
     ghost Value = { List NodeDecl };
 
     ghost view = { λ m. m.net };
 
-    ghost invariant = { λ m. record {
-      closed : IsTrue (is_closed m.net);
-      checked : node_fault m.net ≡ None;
-      walkable : walk_fault m.net ≡ None;
-      walks : AreWalksOf m.net m.walks;
-    } };
+    // The walks are those of the net, which is legal.
+    ghost invariant = { λ m. AreWalksOf m.net m.walks };
 }
 
 impl Machine {
     /// The machine of a text.
     pub fn of_text(alloc: Global, text: &str) -> Result<Machine, Unmade> {
         match compile(alloc, text.as_bytes()) {
-            Ok(platform) => Ok(Machine {
-                net: platform.net,
-                walks: platform.walks,
-            }),
+            Ok(platform) => {
+                platform.facts();
+                Ok(Machine {
+                    net: platform.net,
+                    walks: platform.walks,
+                })
+            }
             Err(CompileFault::Refused(_)) => Err(Unmade::Refused),
             Err(CompileFault::OutOfMemory) => Err(Unmade::OutOfMemory),
         }
@@ -75,8 +70,7 @@ impl Machine {
     /// The net.
     pub fn net(&self) -> &Net
         ensures net { result.now ≡ self.now }
-        ensures closed { IsTrue (is_closed self.now) }
-        ensures checked { node_fault self.now ≡ None }
+        ensures legal { IsLegalNet self.now }
     {
         &self.net
     }

@@ -2,22 +2,25 @@
 
 use dn_module::expand::expand;
 use dn_module::fault::ExpandFault;
-use dn_module::machine::expand_body;
+use dn_net::net::Net;
 use dn_parse::reader::read;
 use std::alloc::{AllocError, Global};
 use std::test::Fail;
 
-/// The names of the nodes that a text's statements make, each behind a space, or the first fault.
+/// The names of the nodes to which a text expands, each behind a space, or the first fault.
 fn names(alloc: Global, text: &str) -> Result<String, Fail> {
     let tree = read(alloc, text.as_bytes())?;
-    let made = match expand_body(alloc, tree.body.as_slice()) {
-        Ok(made) => made,
-        Err(fault) => return Ok(format!(in alloc; "{fault:?}")?),
-    };
+    match expand(alloc, &tree) {
+        Ok(expanded) => Ok(names_of(alloc, &expanded.net)?),
+        Err(fault) => Ok(format!(in alloc; "{fault:?}")?),
+    }
+}
+
+fn names_of(alloc: Global, net: &Net) -> Result<String, AllocError> {
     let mut names = String::new(alloc);
-    for draft in made.drafts.as_slice() {
+    for node in 0..net.nodes() {
         names.push_str(" ")?;
-        names.push_str(draft.name.as_str())?;
+        names.push_str(net.text(node))?;
     }
     Ok(names)
 }

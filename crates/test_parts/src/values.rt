@@ -2,39 +2,22 @@
 //! several. The wanted values are worked out by hand.
 
 use dn_module::command::Command;
-use dn_module::commands::commands;
-use dn_module::draft::Draft;
+use dn_module::expand::{Expanded, expand};
 use dn_module::fault::ExpandFault;
-use dn_module::names::NameTable;
-use dn_module::nodes::declared;
-use dn_module::scope::Scope;
 use dn_parse::reader::read;
-use dn_parse::syntax::{Stmt, Tree};
 use std::alloc::Global;
 use std::test::Fail;
 
-/// Reads a text that is well formed.
-fn tree_of(alloc: Global, text: &str) -> Result<Tree, Fail> {
-    Ok(read(alloc, text.as_bytes())?)
-}
-
-/// The node of the first statement of a text.
-fn first_draft(alloc: Global, text: &str) -> Result<Result<Draft, ExpandFault>, Fail> {
-    let tree = tree_of(alloc, text)?;
-    match tree.body.as_slice().first() {
-        Some(Stmt::Decl { line, decl }) => {
-            Ok(declared(alloc, &Scope::outside(alloc), *line, decl))
-        }
-        _ => Ok(Err(ExpandFault::OutOfMemory)),
-    }
+/// What a text that is well formed expands to, or the first fault.
+fn expanded(alloc: Global, text: &str) -> Result<Result<Expanded, ExpandFault>, Fail> {
+    let tree = read(alloc, text.as_bytes())?;
+    Ok(expand(alloc, &tree))
 }
 
 /// The address that the command `resolve` has in a text without nodes.
 fn asked(alloc: Global, text: &str) -> Result<Result<u64, ExpandFault>, Fail> {
-    let tree = tree_of(alloc, text)?;
-    let names = NameTable::new(alloc);
-    match commands(alloc, &names, tree.commands.as_slice()) {
-        Ok(made) => match made.as_slice().first() {
+    match expanded(alloc, text)? {
+        Ok(made) => match made.commands.as_slice().first() {
             Some(Command::Resolve(_, addr)) => Ok(Ok(*addr)),
             _ => Ok(Err(ExpandFault::OutOfMemory)),
         },
@@ -94,10 +77,7 @@ fn answers_the_first_fault_of_a_statement(rt: HostRuntime) -> Result<(), Fail> {
         ),
     ];
     for (text, wanted) in rows {
-        let fault = match first_draft(rt.alloc(), text)? {
-            Ok(_) => None,
-            Err(fault) => Some(fault),
-        };
+        let fault = expanded(rt.alloc(), text)?.err();
         assert_eq!(rt; fault, Some(wanted), "{text}");
     }
     Ok(())
@@ -114,8 +94,8 @@ fn spells_full_names(rt: HostRuntime) -> Result<(), Fail> {
         ),
     ];
     for (text, wanted) in rows {
-        match first_draft(rt.alloc(), text)? {
-            Ok(draft) => assert_eq!(rt; draft.name.as_str(), wanted),
+        match expanded(rt.alloc(), text)? {
+            Ok(made) => assert_eq!(rt; made.net.find(wanted), Some(0), "{text}"),
             Err(fault) => assert_eq!(rt; Some(fault), None, "{text}"),
         }
     }

@@ -1,8 +1,12 @@
-//! Tests of runs in which a read or a write fails, and of words with which nothing is read.
+//! Tests of runs in which a read or a write fails, of those calls that no run makes, and of words with which nothing
+//! is read.
 
-use crate::outcome::Failing;
-use crate::rows::comes_to;
-use dn_tool::run::{DONE, READ_FAULT, WRITE_FAULT, WRONG_WORDS};
+use crate::outcome::{Failing, answer};
+use crate::rows::{comes_to, words_of};
+use dn_base::sink::Sink;
+use dn_base::source::Source;
+use dn_tool::run::{DONE, READ_FAULT, REFUSED, WRITE_FAULT, WRONG_WORDS};
+use std::alloc::{AllocError, Global};
 use std::test::Fail;
 
 /// A text of two commands, which is read in four reads of 16 bytes, the last of which gives none.
@@ -66,4 +70,62 @@ fn reads_nothing_with_words_of_no_form(rt: HostRuntime) -> Result<(), Fail> {
     comes_to(&rt, &["frob"], SHORT, 16, first, WRONG_WORDS, USAGE)?;
     comes_to(&rt, &["run", "extra"], SHORT, 16, first, WRONG_WORDS, USAGE)?;
     comes_to(&rt, &["check", "run"], SHORT, 16, first, WRONG_WORDS, USAGE)
+}
+
+#[test]
+fn makes_no_write_of_an_empty_output(rt: HostRuntime) -> Result<(), Fail> {
+    let first = failing_writes(&[0]);
+    comes_to(&rt, &["run"], "", 16, first, DONE, "")?;
+    comes_to(&rt, &["run"], "a is; begin;", 16, first, DONE, "")?;
+    comes_to(&rt, &["check"], "", 16, first, DONE, "")
+}
+
+#[test]
+fn makes_no_read_once_the_limit_is_taken(rt: HostRuntime) -> Result<(), Fail> {
+    // 4,194,305 bytes are taken by 1,024 reads of 4,096 bytes and one of a byte.
+    let text = " ".repeat(rt.alloc(), 4_194_314)?;
+    let text = text.as_str();
+    let last = failing_reads(&[1024]);
+    comes_to(&rt, &["run"], text, 4096, last, READ_FAULT, "")?;
+    let after = failing_reads(&[1025]);
+    let line = "refused: Length\n";
+    comes_to(&rt, &["run"], text, 4096, after, REFUSED, line)
+}
+
+/// Runs a word over the text of two commands, and then reads and writes once more: the status, and whether the read
+/// and the write fail.
+fn then_fails(
+    alloc: Global,
+    word: &str,
+    failing: Failing<'_>,
+) -> Result<(u8, bool, bool), AllocError> {
+    let words = words_of(alloc, &[word])?;
+    let mut outcome = answer(alloc, &words, SHORT.as_bytes(), 16, failing)?;
+    let is_read_failing = outcome.source.read(&mut [0; 1]).is_err();
+    let is_write_failing = outcome.sink.write(b"a").is_err();
+    Ok((outcome.status, is_read_failing, is_write_failing))
+}
+
+#[test]
+fn makes_no_call_again_and_none_beside(rt: HostRuntime) -> Result<(), Fail> {
+    // The calls that fail, and which of the next ones fails: it is the one behind those that the run made.
+    let rows = [
+        ("run", [4, 4], [2, 2], (DONE, true, true)),
+        ("run", [5, 5], [3, 3], (DONE, false, false)),
+        ("run", [1, 2], [0, 0], (READ_FAULT, true, true)),
+        ("run", [1, 3], [1, 1], (READ_FAULT, false, false)),
+        ("run", [4, 4], [0, 1], (WRITE_FAULT, true, true)),
+        ("run", [5, 5], [0, 2], (WRITE_FAULT, false, false)),
+        ("check", [4, 4], [1, 1], (DONE, true, true)),
+        ("frob", [0, 0], [1, 1], (WRONG_WORDS, true, true)),
+    ];
+    for (word, reads, writes, wanted) in rows {
+        let failing = Failing {
+            reads: &reads,
+            writes: &writes,
+        };
+        let given = then_fails(rt.alloc(), word, failing)?;
+        assert_eq!(rt; given, wanted, "{word} {reads:?} {writes:?}");
+    }
+    Ok(())
 }

@@ -1,8 +1,8 @@
 //! What words over a text come to, with a source and a sink in memory.
 
-ghost use Rattle.std.specs.Prelude.{◌≡◌, ◌≢◌, ◌<◌, true, IfOk};
-ghost use Rattle.dn_base.specs.Memory.{is_nil};
-ghost use Rattle.dn_tool.specs.Answer.{answer as answer_of};
+ghost use Rattle.std.specs.Prelude.{◌≡◌, ◌≢◌, ◌<◌, [], false, IfOk};
+ghost use Rattle.std.specs.List.{concat};
+ghost use Rattle.dn_tool.specs.Answer.{answer as answer_of, is_free};
 
 use dn_base::memory::{MemSink, MemSource};
 use dn_tool::run;
@@ -22,10 +22,11 @@ pub const NONE: Failing<'static> = Failing {
     writes: &[],
 };
 
-/// What a run came to: its status, and the sink with what was written.
+/// What a run came to: its status, the source with what is left, and the sink with what was written.
 #[derive(Drop)]
 pub struct Outcome {
     pub status: u8,
+    pub source: MemSource,
     pub sink: MemSink,
 }
 
@@ -42,17 +43,24 @@ pub fn answer(
     failing: Failing<'_>,
 ) -> Result<Outcome, AllocError>
     requires { 0 < most }
-    // A status of 0, 1 or 4 is that of the answer, and exactly its output was written.
-    ensures exact { IfOk result (λ o. (o.status ≢ 2) → (o.status ≢ 3) → (o.status ≢ 7) →
+    // A status that is not free is that of the answer, and exactly its output was written.
+    ensures exact { IfOk result (λ o. is_free o.status ≡ false →
         (o.status ≡ (answer_of words.now text.now).status)
-        × (o.sink.written ≡ (answer_of words.now text.now).output)) }
+        × (o.sink.written ≡ concat (answer_of words.now text.now).pieces)) }
     // Where no call is to fail, no fault is answered.
-    ensures sure_source { is_nil failing.entry.reads.now ≡ true → IfOk result (λ o. o.status ≢ 2) }
-    ensures sure_sink { is_nil failing.entry.writes.now ≡ true → IfOk result (λ o. o.status ≢ 3) }
+    ensures sure_source { failing.entry.reads.now ≡ [] → IfOk result (λ o. o.status ≢ 2) }
+    ensures sure_sink { failing.entry.writes.now ≡ [] → IfOk result (λ o. o.status ≢ 3) }
+    // No fault is swallowed: where none is answered, none came.
+    ensures source_counted { IfOk result (λ o. (o.status ≢ 2) → o.source.calls.faults ≡ 0) }
+    ensures sink_counted { IfOk result (λ o. (o.status ≢ 3) → o.sink.calls.faults ≡ 0) }
 {
     let bytes = text.to_vec(alloc)?;
     let mut source = MemSource::new(bytes, most, failing.reads.to_vec(alloc)?);
     let mut sink = MemSink::new(alloc, failing.writes.to_vec(alloc)?);
     let status = run::run(alloc, words, &mut source, &mut sink);
-    Ok(Outcome { status, sink })
+    Ok(Outcome {
+        status,
+        source,
+        sink,
+    })
 }

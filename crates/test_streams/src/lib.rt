@@ -6,6 +6,7 @@
 #![tactic(auto)]
 
 ghost use Rattle.std.specs.Prelude.{◌≡◌, ◌<◌, IfOk};
+ghost use Rattle.dn_base.specs.Memory.{no_calls};
 
 use dn_base::memory::MemSource;
 use std::alloc::{AllocError, Global};
@@ -26,7 +27,7 @@ pub fn source_of(
     failing: &[u32],
 ) -> Result<MemSource, AllocError>
     requires { 0 < most }
-    ensures { IfOk result (λ s. s ≡ record { left = bytes.now; most = most; call = 0; faults = 0; failing = failing.now }) }
+    ensures { IfOk result (λ s. s ≡ record { left = bytes.now; most = most; calls = no_calls failing.now }) }
 {
     let bytes = bytes.to_vec(alloc)?;
     let failing = failing.to_vec(alloc)?;

@@ -6,6 +6,7 @@ use dn_base::sink::{Sink, WriteFault};
 use dn_base::source::{ReadFault, Source};
 use dn_base::whole;
 use dn_base::whole::InputFault;
+use std::alloc::{AllocError, Global};
 use std::test::Fail;
 
 #[test]
@@ -69,5 +70,48 @@ fn writes_nothing_where_the_first_write_fails(rt: HostRuntime) -> Result<(), Fai
     let written = whole::write_whole(&mut broken, b"hi");
     assert_eq!(rt; written, Err(WriteFault::Failed));
     assert!(rt; broken.written().is_empty());
+    Ok(())
+}
+
+#[test]
+fn makes_no_write_of_no_byte(rt: HostRuntime) -> Result<(), Fail> {
+    let alloc = rt.alloc();
+    let mut broken = MemSink::new(alloc, [0].to_vec(alloc)?);
+    assert_eq!(rt; whole::write_whole(&mut broken, b""), Ok(()));
+    // The call that fails is still to come.
+    assert_eq!(rt; broken.write(b"a"), Err(WriteFault::Failed));
+    Ok(())
+}
+
+/// How many bytes are read of a text of so many, by 4,096 a read, where only one call fails.
+fn taken(
+    alloc: Global,
+    size: usize,
+    failing: u32,
+) -> Result<Result<usize, InputFault>, AllocError> {
+    let text = b"a".repeat(alloc, size)?;
+    let mut source = source_of(alloc, &text, 4096, &[failing])?;
+    match whole::read_whole(alloc, &mut source) {
+        Ok(text) => Ok(Ok(text.len())),
+        Err(fault) => Ok(Err(fault)),
+    }
+}
+
+#[test]
+fn makes_no_read_once_the_limit_is_taken(rt: HostRuntime) -> Result<(), Fail> {
+    // The limit is taken by 1,024 reads of 4,096 bytes and one of a byte; the end is found by a read of none.
+    let failed = Err(InputFault::Failed);
+    let rows = [
+        (4_194_314, 1024, failed),
+        (4_194_314, 1025, Ok(4_194_305)),
+        (4_194_305, 1024, failed),
+        (4_194_305, 1025, Ok(4_194_305)),
+        (4_194_304, 1024, failed),
+        (4_194_304, 1025, Ok(4_194_304)),
+    ];
+    for (size, failing, wanted) in rows {
+        let given = taken(rt.alloc(), size, failing)?;
+        assert_eq!(rt; given, wanted, "{size} bytes, call {failing}");
+    }
     Ok(())
 }

@@ -4,6 +4,7 @@ use dn_base::sink::{Sink, WriteFault};
 use dn_base::source::{ReadFault, Source};
 use dn_base::streams::{StdSink, StdSource};
 use dn_base::whole;
+use dn_base::whole::InputFault;
 use std::io;
 use std::io::{ErrorKind, Read, Write};
 use std::test::Fail;
@@ -27,6 +28,42 @@ impl Write for Broken {
         Ok(())
     }
 }
+
+/// A reader and writer whose first call fails by the error that is there, and which then goes on.
+#[derive(Drop)]
+struct FailsOnce<S> {
+    error: Option<ErrorKind>,
+    inner: S,
+}
+
+impl<S: Read> Read for FailsOnce<S> {
+    fn read(&mut self, into: &mut [u8]) -> io::Result<usize> {
+        match self.error.take() {
+            Some(error) => Err(error.into()),
+            None => self.inner.read(into),
+        }
+    }
+}
+
+impl<S: Write> Write for FailsOnce<S> {
+    fn write(&mut self, piece: &[u8]) -> io::Result<usize> {
+        match self.error.take() {
+            Some(error) => Err(error.into()),
+            None => self.inner.write(piece),
+        }
+    }
+
+    fn flush(&mut self) -> io::Result<()> {
+        self.inner.flush()
+    }
+}
+
+/// Errors of the system, one of which asks for the call to be made again.
+const ERRORS: [ErrorKind; 3] = [
+    ErrorKind::BrokenPipe,
+    ErrorKind::Interrupted,
+    ErrorKind::WouldBlock,
+];
 
 #[test]
 fn reads_a_reader_of_the_system(rt: HostRuntime) -> Result<(), Fail> {
@@ -56,5 +93,59 @@ fn writes_to_a_writer_of_the_system(rt: HostRuntime) -> Result<(), Fail> {
     assert_eq!(rt; full.write(b"c"), Err(WriteFault::Failed));
     assert_eq!(rt; full.write(b""), Ok(0));
     assert_eq!(rt; StdSink::new(Broken).write(b"c"), Err(WriteFault::Failed));
+    Ok(())
+}
+
+/// The source of a reader of `abc` whose first call fails.
+fn broken_once(error: ErrorKind) -> StdSource<FailsOnce<&'static [u8]>> {
+    StdSource::new(FailsOnce {
+        error: Some(error),
+        inner: b"abc",
+    })
+}
+
+#[test]
+fn answers_each_fault_of_a_reader(rt: HostRuntime) -> Result<(), Fail> {
+    for error in ERRORS {
+        let mut source = broken_once(error);
+        let mut piece = [0; 2];
+        assert_eq!(rt; source.read(&mut piece), Err(ReadFault::Failed));
+        assert_eq!(rt; source.read(&mut piece), Ok(2));
+        let mut source = broken_once(error);
+        let read = whole::read_whole(rt.alloc(), &mut source);
+        assert!(rt; matches!(&read, Err(InputFault::Failed)));
+        let text = whole::read_whole(rt.alloc(), &mut source)?;
+        assert_eq!(rt; text.as_slice(), b"abc".as_slice());
+    }
+    Ok(())
+}
+
+#[test]
+fn answers_each_fault_of_a_writer(rt: HostRuntime) -> Result<(), Fail> {
+    for error in ERRORS {
+        let mut kept = Vec::new(rt.alloc());
+        let mut sink = StdSink::new(FailsOnce {
+            error: Some(error),
+            inner: &mut kept,
+        });
+        assert_eq!(rt; sink.write(b"ab"), Err(WriteFault::Failed));
+        assert_eq!(rt; sink.write(b"cd"), Ok(2));
+        assert_eq!(rt; kept.as_slice(), b"cd".as_slice());
+    }
+    Ok(())
+}
+
+#[test]
+fn makes_no_write_again(rt: HostRuntime) -> Result<(), Fail> {
+    for error in ERRORS {
+        let mut kept = Vec::new(rt.alloc());
+        let mut sink = StdSink::new(FailsOnce {
+            error: Some(error),
+            inner: &mut kept,
+        });
+        let written = whole::write_whole(&mut sink, b"abc");
+        assert_eq!(rt; written, Err(WriteFault::Failed));
+        assert!(rt; kept.is_empty());
+    }
     Ok(())
 }
