@@ -17,6 +17,8 @@ MONO = "DejaVu Sans Mono, Menlo, Consolas, monospace"
 SANS = "DejaVu Sans, Verdana, sans-serif"
 LETTER = 6.7
 """The width of a letter of 11 pixels in the font of addresses."""
+HEADING_LETTER = 9.3
+"""The width of a letter of a map's title: 13 pixels, bold, mostly digits."""
 BOX = 290
 """The width of a row's box."""
 BEHIND = 96
@@ -159,7 +161,7 @@ def columns_of(pieces):
 
 def title_lines(agents, rows, width):
     """The title of a map: the names of its agents in lines of the map's width, and the number of rows."""
-    lines, limit = [""], max(24, int(width / 8))
+    lines, limit = [""], max(24, int(width / HEADING_LETTER))
     for number, agent in enumerate(agents):
         word = shortened(agent, limit - 2) + ("," if number + 1 < len(agents) else "")
         if lines[-1] and len(lines[-1]) + len(word) + 1 > limit:
