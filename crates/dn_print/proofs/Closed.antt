@@ -1,25 +1,19 @@
 -- In a net in which each node that is referred to exists, what a node at a number refers to exists.
 use Rattle.std.proofs.Common.{◌≡◌, ◌∙◌, ap, sym, subst, ℕ, zero, suc, List, [], ◌∷◌, Bool, true, false, ◌&&◌, nat_lt, length, slice_get, Option, Some, None, option_map, IsTrue, refl}
 use Rattle.std.specs.List.{list_all}
+use Rattle.dn_base.proofs.Booleans.{and_parts}
+use Rattle.dn_base.proofs.Lists.{list_all-at}
 use Rattle.dn_net.specs.declared.node.Dest.{Dest}
 use Rattle.dn_net.specs.declared.node.Entry.{Entry}
 use Rattle.dn_net.specs.declared.node.NodeDecl.{NodeDecl}
 use Rattle.dn_net.specs.declared.node.Unit.{Unit as UnitPart}
 use Rattle.dn_net.specs.Decode.{is_closed, refers_within, over_within, ports_within}
 
--- each of two tests holds
-pub both : (a b : Bool) → IsTrue (a && b) → IsTrue a × IsTrue b
-both true b e = (refl, e)
-both false b e = cc
-
-list_all-at : {X : Type 0} (p : X → Bool) (xs : List X) (i : ℕ) (x : X) → IsTrue (list_all p xs) → slice_get xs i ≡ Some x → IsTrue (p x)
-list_all-at p [] i x all at = cc
-list_all-at p (y ∷ ys) zero x all at = let s : y ≡ x = cc in ap p (sym s) ∙ (both (p y) (list_all p ys) all).0
-list_all-at p (y ∷ ys) (suc i) x all at = list_all-at p ys i x (both (p y) (list_all p ys) all).1 at
-
+-- the destinations of an entry exist
 abbrev dests_exist : ℕ → Entry → Bool
 dests_exist count e = list_all (λ (d : Dest). nat_lt d.node count) e.dests
 
+-- what a node refers to exists
 record Refers (count : ℕ) (n : NodeDecl) : Type 0 where
   entries : IsTrue (list_all (dests_exist count) n.entries)
   over : IsTrue (over_within count n.over)
@@ -27,8 +21,8 @@ record Refers (count : ℕ) (n : NodeDecl) : Type 0 where
 
 refers : (count : ℕ) (n : NodeDecl) → IsTrue (refers_within count n) → Refers count n
 refers count n h =
-    let first = both (list_all (dests_exist count) n.entries) (over_within count n.over && ports_within count n.unit) h in
-    let second = both (over_within count n.over) (ports_within count n.unit) first.1 in
+    let first = and_parts (list_all (dests_exist count) n.entries) (over_within count n.over && ports_within count n.unit) h in
+    let second = and_parts (over_within count n.over) (ports_within count n.unit) first.1 in
     record { entries = first.0; over = second.0; ports = second.1 }
 
 refers_at : (net : List NodeDecl) (i : ℕ) (n : NodeDecl) → IsTrue (is_closed net) → slice_get net i ≡ Some n → Refers (length net) n

@@ -5,7 +5,7 @@ use Rattle.std.specs.Fmt.{digits, digits_onto, digit_glyph, decimal}
 use Rattle.std.specs.List.{list_all}
 use Rattle.dn_parse.specs.Token.{hex_value, decimal_value, spelled_from, digits_number, fitting, is_hexadecimal, number_of, is_word_byte, is_digit}
 use Rattle.dn_parse.proofs.Numbers.{some_digits}
-use Rattle.dn_print.proofs.Closed.{both}
+use Rattle.dn_base.proofs.Booleans.{and_parts}
 
 hex_glyph : (d : ℕ) → d < 16 → hex_value (digit_glyph false d) ≡ Some d
 hex_glyph d h = grind (arith, tests)
@@ -89,7 +89,7 @@ no_prefix : (s : List ℕ) → IsTrue (list_all is_digit s) → is_hexadecimal s
 no_prefix [] h = refl
 no_prefix (a ∷ []) h = and_false (eqb a 48)
 no_prefix (a ∷ b ∷ s) h =
-    let second = both (is_digit b) (list_all is_digit s) (both (is_digit a) (is_digit b && list_all is_digit s) h).1 in
+    let second = and_parts (is_digit b) (list_all is_digit s) (and_parts (is_digit a) (is_digit b && list_all is_digit s) h).1 in
     let other = second_digit b second.0 in
     rw other (and_false (eqb a 48))
 

@@ -12,7 +12,7 @@ use Rattle.dn_parse.proofs.Going.{enough, tokens_go_on}
 use Rattle.dn_parse.proofs.Lexed.{with_tokens}
 use Rattle.dn_print.specs.Names.{address_text}
 use Rattle.dn_print.proofs.Digits.{decimal_number, hexadecimal_number, decimal_digits, decimal_word, hexadecimal_word, decimal_some}
-use Rattle.dn_print.proofs.Closed.{both}
+use Rattle.dn_base.proofs.Booleans.{and_parts}
 
 -- a token of a line
 abbrev pub word_token : ℕ → List ℕ → Token
@@ -108,7 +108,7 @@ prefix_none p (b ∷ s) h = rw h refl
 prefix_all : (p : ℕ → Bool) (w rest : List ℕ) → IsTrue (list_all p w) → begins_with p rest ≡ false → prefix_len p (w ++ rest) ≡ length w
 prefix_all p [] rest all h = prefix_none p rest h
 prefix_all p (b ∷ w) rest all h =
-    let parts = both (p b) (list_all p w) all in
+    let parts = and_parts (p b) (list_all p w) all in
     let more = prefix_all p w rest parts.1 h in
     rw (parts.0, more) (omega arith)
 
@@ -156,7 +156,7 @@ number_closed line b w n digit all e =
 
 digits_closed : (line n : ℕ) (s : List ℕ) → 0 < length s → IsTrue (list_all is_digit s) → IsTrue (list_all is_word_byte s) → number_of s ≡ Some n → Closed line s (number_token line n ∷ [])
 digits_closed line n [] some digits all e = absurd (omega (arith, some))
-digits_closed line n (b ∷ w) some digits all e = number_closed line b w n (both (is_digit b) (list_all is_digit w) digits).0 (both (is_word_byte b) (list_all is_word_byte w) all).1 e
+digits_closed line n (b ∷ w) some digits all e = number_closed line b w n (and_parts (is_digit b) (list_all is_digit w) digits).0 (and_parts (is_word_byte b) (list_all is_word_byte w) all).1 e
 
 pub decimal_closed : (line n : ℕ) → n < 2 ^ 64 → Closed line (decimal n) (number_token line n ∷ [])
 decimal_closed line n h = digits_closed line n (decimal n) (decimal_some n) (decimal_digits n) (decimal_word n) (decimal_number n h)

@@ -1,5 +1,4 @@
 pub mod Closed
-pub mod Found
 pub mod Statements
 pub mod Digits
 pub mod Lexes

@@ -15,7 +15,7 @@ use Rattle.dn_module.specs.declared.draft.DraftEntry.{DraftEntry}
 use Rattle.dn_module.specs.Values.{each, full_name, full_name_or_none}
 use Rattle.dn_module.specs.Drafts.{block_of, entry_of, role_of, declared_by, over_known, refers_to_known, number_of, entry_in, node_in}
 use Rattle.dn_print.specs.Statement.{accept_text, map_text, over_text, role_text, statement_text}
-use Rattle.dn_print.proofs.Closed.{both}
+use Rattle.dn_base.proofs.Booleans.{and_parts}
 use Rattle.dn_print.proofs.Titles.{IsFull}
 use Rattle.dn_print.proofs.Formed.{Each, Maybe, GoodBlock, GoodEntry, GoodDraft}
 use Rattle.dn_print.proofs.Lexes.{word_token, sign_token, keyword_token, Closed, Open, Quiet, closed_then, open_then, quiet_then, quiet_none, closed_none, accept_open, map_open, over_open, agent_open, vectors_open, is_word_closed, end_open, with_both}
@@ -173,7 +173,7 @@ record SpecShown (line : ℕ) (text : List ℕ) (d : Draft) : Type 0 where
 
 spec_shown : (net : List NodeDecl) (known : List (List ℕ)) → Named net known → (line : ℕ) (d : Draft) → GoodDraft d → IsTrue (refers_to_known known d) → SpecShown line (accept_text d.accepts ++ (map_text net (map (entry_in known) d.entries) ++ over_text net (option_map (number_of known) d.over))) d
 spec_shown net known named line d h k =
-    let ks = both (entries_known known d.entries) (over_known known d.over) k in
+    let ks = and_parts (entries_known known d.entries) (over_known known d.over) k in
     let a = accept_shown line d.accepts h.accepts in
     let m = map_shown net known named line d.entries h.entries ks.0 in
     let o = over_shown net known named line d.over h.over ks.1 in

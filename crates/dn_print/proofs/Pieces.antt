@@ -14,7 +14,7 @@ use Rattle.dn_module.specs.Values.{each}
 use Rattle.dn_module.specs.Drafts.{block_of, dest_of, entry_of, is_known, dests_known, number_of, dest_in, entry_in}
 use Rattle.dn_print.specs.Names.{address_text}
 use Rattle.dn_print.specs.Statement.{marked, block_text, blocks_text, node_name, dest_text, dests_text, entry_text, entries_text}
-use Rattle.dn_print.proofs.Closed.{both}
+use Rattle.dn_base.proofs.Booleans.{and_parts}
 use Rattle.dn_print.proofs.Formed.{Each, GoodBlock, GoodDest, GoodEntry}
 use Rattle.dn_print.proofs.Lexes.{number_token, sign_token, keyword_token, Closed, Quiet, closed_then, open_then, address_closed, at_open, to_open, and_open, comma_open, minus_open}
 use Rattle.dn_print.proofs.Labels.{NumberEnd, NameEnd, number_read, name_shown}
@@ -132,7 +132,7 @@ and_ends_number line ts = (refl, refl)
 more_dests_shown : (net : List NodeDecl) (known : List (List ℕ)) → Named net known → (line lo : ℕ) (ds : List DraftDest) → Each GoodDest ds → IsTrue (dests_known known ds) → Row line (marked (codes " and ") (dest_text net) (map (dest_in known) ds)) next_dest_at NumberEnd EntryEnd (dest_of lo) ds
 more_dests_shown net known named line lo [] h k = row_none line next_dest_at NumberEnd EntryEnd (dest_of lo) no_next_dest (λ rest e. e.0)
 more_dests_shown net known named line lo (d ∷ ds) h k =
-    let ks = both (is_known known d.to) (dests_known known ds) k in
+    let ks = and_parts (is_known known d.to) (dests_known known ds) k in
     let item = dest_shown net known named line lo d h.0 ks.0 in
     let tail = more_dests_shown net known named line lo ds h.1 ks.1 in
     let lexed = open_then (and_open line) (closed_then item.lexed tail.quiet tail.lexed) in
@@ -142,7 +142,7 @@ dests_shown : (net : List NodeDecl) (known : List (List ℕ)) → Named net know
 unfolding dests_at
 dests_shown net known named line lo [] h some few k = absurd (omega (arith, some))
 dests_shown net known named line lo (d ∷ ds) h some few k =
-    let ks = both (is_known known d.to) (dests_known known ds) k in
+    let ks = and_parts (is_known known d.to) (dests_known known ds) k in
     most_shown 7 (omega (arith, few)) (dest_shown net known named line lo d h.0 ks.0) (more_dests_shown net known named line lo ds h.1 ks.1)
 
 -- an entry
@@ -191,7 +191,7 @@ entries_known known es = list_all (λ e. dests_known known e.dests) es
 more_entries_shown : (net : List NodeDecl) (known : List (List ℕ)) → Named net known → (line : ℕ) (es : List DraftEntry) → Each GoodEntry es → IsTrue (entries_known known es) → Row line (marked (codes ", ") (entry_text net) (map (entry_in known) es)) next_entry_at EntryEnd EntriesEnd entry_of es
 more_entries_shown net known named line [] h k = row_none line next_entry_at EntryEnd EntriesEnd entry_of no_next_entry (λ rest e. e.0)
 more_entries_shown net known named line (e ∷ es) h k =
-    let ks = both (dests_known known e.dests) (entries_known known es) k in
+    let ks = and_parts (dests_known known e.dests) (entries_known known es) k in
     let item = entry_shown net known named line e h.0 ks.0 in
     let tail = more_entries_shown net known named line es h.1 ks.1 in
     let lexed = open_then (comma_open line) (closed_then item.lexed tail.quiet tail.lexed) in
@@ -200,5 +200,5 @@ more_entries_shown net known named line (e ∷ es) h k =
 pub entries_shown : (net : List NodeDecl) (known : List (List ℕ)) → Named net known → (line : ℕ) (e : DraftEntry) (es : List DraftEntry) → Each GoodEntry (e ∷ es) → IsTrue (entries_known known (e ∷ es)) → Shown line (entries_text net (map (entry_in known) (e ∷ es))) entries_at EntriesEnd (each entry_of) (e ∷ es)
 unfolding entries_at
 entries_shown net known named line e es h k =
-    let ks = both (dests_known known e.dests) (entries_known known es) k in
+    let ks = and_parts (dests_known known e.dests) (entries_known known es) k in
     first_shown (entry_shown net known named line e h.0 ks.0) (more_entries_shown net known named line es h.1 ks.1)

@@ -25,6 +25,7 @@ joined mark text (x ∷ xs) = text x ++ marked mark text xs
 abbrev pub block_text : Block → List ℕ
 block_text b = address_text b.lo ++ (codes "-" ++ address_text b.hi)
 
+-- blocks, joined by commas
 abbrev pub blocks_text : List Block → List ℕ
 blocks_text bs = joined (codes ", ") block_text bs
 
@@ -36,6 +37,7 @@ node_name net m = node_text (slice_get net m)
 abbrev pub dest_text : List NodeDecl → Dest → List ℕ
 dest_text net d = node_name net d.node ++ (codes " at " ++ address_text d.addr)
 
+-- destinations, joined by `and`
 abbrev pub dests_text : List NodeDecl → List Dest → List ℕ
 dests_text net ds = joined (codes " and ") (dest_text net) ds
 
@@ -43,6 +45,7 @@ dests_text net ds = joined (codes " and ") (dest_text net) ds
 abbrev pub entry_text : List NodeDecl → Entry → List ℕ
 entry_text net e = block_text e.block ++ (codes " to " ++ dests_text net e.dests)
 
+-- entries, joined by commas
 abbrev pub entries_text : List NodeDecl → List Entry → List ℕ
 entries_text net es = joined (codes ", ") (entry_text net) es
 
@@ -63,22 +66,27 @@ over_text net (Some m) = codes " over " ++ node_name net m
 
 -- the parts of a node that is no unit, in their order
 abbrev pub parts_text : List NodeDecl → NodeDecl → List ℕ
-parts_text net n = codes " is" ++ (accept_text n.accepts ++ (map_text net n.entries ++ over_text net n.over))
+parts_text net n =
+    codes " is" ++ (accept_text n.accepts ++ (map_text net n.entries ++ over_text net n.over))
 
 -- the name of the kind of this place in the list of kinds
 abbrev pub known_kind : Option (List ℕ) → List ℕ
 known_kind None = []
 known_kind (Some name) = name
 
+-- the name of the kind of a number, empty where the list of kinds has none
 abbrev pub kind_text : List (List ℕ) → ℕ → List ℕ
 kind_text kinds k = known_kind (slice_get kinds k)
 
+-- the full names of ports, joined by commas
 abbrev pub ports_text : List NodeDecl → List ℕ → List ℕ
 ports_text net ps = joined (codes ", ") (node_name net) ps
 
 -- the parts of a unit of a kind of this name
 abbrev pub unit_text : List ℕ → List NodeDecl → UnitPart → List ℕ
-unit_text kind net u = codes " kind " ++ (kind ++ (codes " page " ++ (decimal u.page ++ (codes " slots " ++ (decimal u.slots ++ (codes " reach " ++ (decimal u.reach ++ (codes " to " ++ ports_text net u.ports))))))))
+unit_text kind net u =
+    codes " kind " ++ (kind ++ (codes " page " ++ (decimal u.page ++ (codes " slots " ++ (decimal u.slots ++ (
+    codes " reach " ++ (decimal u.reach ++ (codes " to " ++ ports_text net u.ports))))))))
 
 -- what stands after a node's name
 abbrev pub body_text : List (List ℕ) → List NodeDecl → NodeDecl → Option UnitPart → List ℕ
@@ -96,15 +104,17 @@ role_text UnitRole = codes "unit "
 abbrev pub statement_text : List (List ℕ) → List NodeDecl → NodeDecl → List ℕ
 statement_text kinds net n = role_text n.role ++ (n.text ++ (body_text kinds net n n.unit ++ codes ";\n"))
 
--- the same of the node of a number, where there is one
+-- the parts of a node that is no unit, where there is the node
 abbrev pub parts_at : List NodeDecl → Option NodeDecl → List ℕ
 parts_at net None = []
 parts_at net (Some n) = parts_text net n
 
+-- what stands after a node's name, where there is the node
 abbrev pub body_at : List (List ℕ) → List NodeDecl → Option NodeDecl → List ℕ
 body_at kinds net None = []
 body_at kinds net (Some n) = body_text kinds net n n.unit
 
+-- a node's statement, where there is the node
 abbrev pub statement_at : List (List ℕ) → List NodeDecl → Option NodeDecl → List ℕ
 statement_at kinds net None = []
 statement_at kinds net (Some n) = statement_text kinds net n

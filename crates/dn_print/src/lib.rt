@@ -1,8 +1,8 @@
 //! The printed texts: names, rows, and a net in its one normal form.
 //!
-//! [`names::names_text`] prints names as replies show them, [`rows::rows_text`] prints rows as lines, and
-//! [`net::net_text`] prints a net as one statement for each node, in the order of their numbers. [`laws`] has the
-//! law that the text of a compiled net gives that net back.
+//! [`names::names_text`] prints names as replies show them, [`rows::rows_text`] prints rows as
+//! lines, and [`net::net_text`] prints a net as one statement for each node, in the order of their
+//! numbers. [`laws`] has the law that the text of a compiled net gives that net back.
 #![tactic(auto)]
 
 pub mod laws;

@@ -1,43 +1,76 @@
 //! The text of a name and of a list of names.
 
-ghost use Rattle.std.specs.Prelude.{◌≡◌, ◌<◌, ◌++◌, length, IfOk, OnOk, IsTrue};
+ghost use Rattle.std.specs.Prelude.{◌≡◌, ◌<◌, ◌++◌, length, IfOk, OnOk, IsTrue, is_ok};
 ghost use Rattle.std.specs.String.{string_bytes};
-ghost use Rattle.dn_print.specs.Names.{name_text, names_text, names_exist};
+ghost use Rattle.dn_print.specs.Names.{Appended, name_text, names_text, names_exist};
 
+use crate::OutOfMemory;
 use dn_net::net::Net;
 use dn_net::node::Name;
-use std::alloc::{AllocError, Global};
+use std::alloc::Global;
 
 /// The names joined by `, `, or `nothing` where there are none, without a line end. `Err` is want
 /// of memory.
-pub fn names_text(alloc: Global, net: &Net, names: &[Name]) -> Result<Vec<u8>, AllocError>
+pub fn names_text(alloc: Global, net: &Net, names: &[Name]) -> Result<Vec<u8>, OutOfMemory>
     requires { IsTrue (names_exist (length net.now) names.now) }
     ensures { IfOk result (λ v. v.items ≡ names_text net.now names.now) }
 {
-    let mut out = String::new(alloc);
-    push_names(&mut out, net, names)?;
-    Ok(out.into_bytes())
+    let text = names_string(alloc, net, names)?;
+    Ok(text.into_bytes())
 }
 
-/// Appends the names as [`names_text`] has them. For want of memory a part may have been appended.
-pub fn push_names(out: &mut String, net: &Net, names: &[Name]) -> Result<(), AllocError>
+/// Appends the names as [`names_text`] has them. For want of memory nothing is appended.
+pub fn push_names(out: &mut String, net: &Net, names: &[Name]) -> Result<(), OutOfMemory>
     requires { IsTrue (names_exist (length net.now) names.now) }
-    ensures { OnOk result (string_bytes out.new ≡ string_bytes out.old ++ names_text net.now names.now) }
+    ensures { Appended (string_bytes out.old) (string_bytes out.new) (is_ok result)
+        (names_text net.now names.now) }
+{
+    let alloc = *out.allocator();
+    let text = names_string(alloc, net, names)?;
+    out.push_str(text.as_str())
+}
+
+/// Appends a name: the node's full name, `@` and the address in hexadecimal. For want of memory
+/// nothing is appended.
+pub fn push_name(out: &mut String, net: &Net, name: Name) -> Result<(), OutOfMemory>
+    requires { name.node < length net.now }
+    ensures { Appended (string_bytes out.old) (string_bytes out.new) (is_ok result)
+        (name_text net.now name) }
+{
+    let mut text = String::new(*out.allocator());
+    write_name(&mut text, net, name)?;
+    out.push_str(text.as_str())
+}
+
+/// The names as [`names_text`] has them.
+fn names_string(alloc: Global, net: &Net, names: &[Name]) -> Result<String, OutOfMemory>
+    requires { IsTrue (names_exist (length net.now) names.now) }
+    ensures { IfOk result (λ text. string_bytes text ≡ names_text net.now names.now) }
+{
+    let mut out = String::new(alloc);
+    write_names(&mut out, net, names)?;
+    Ok(out)
+}
+
+/// Appends the names to a text that is given up for want of memory.
+fn write_names(out: &mut String, net: &Net, names: &[Name]) -> Result<(), OutOfMemory>
+    requires { IsTrue (names_exist (length net.now) names.now) }
+    ensures { OnOk result (string_bytes out.new ≡
+        string_bytes out.old ++ names_text net.now names.now) }
 {
     let [first, rest @ ..] = names else {
         return out.push_str("nothing");
     };
-    push_name(out, net, *first)?;
+    write_name(out, net, *first)?;
     for name in rest {
         out.push_str(", ")?;
-        push_name(out, net, *name)?;
+        write_name(out, net, *name)?;
     }
     Ok(())
 }
 
-/// Appends a name: the node's full name, `@` and the address in hexadecimal. For want of memory a
-/// part may have been appended.
-pub fn push_name(out: &mut String, net: &Net, name: Name) -> Result<(), AllocError>
+/// Appends a name to a text that is given up for want of memory.
+pub(crate) fn write_name(out: &mut String, net: &Net, name: Name) -> Result<(), OutOfMemory>
     requires { name.node < length net.now }
     ensures { OnOk result (string_bytes out.new ≡ string_bytes out.old ++ name_text net.now name) }
 {

@@ -1,39 +1,42 @@
 //! The text of a net: a statement for each node, in order.
+//!
+//! Each `write_` call appends to a text that is given up for want of memory; the text then has any part.
 
 ghost use Rattle.std.specs.Prelude.{◌≡◌, ◌<◌, ◌++◌, [], length, slice_get, IfOk, OnOk, IsTrue};
 ghost use Rattle.std.specs.String.{string_bytes};
 ghost use Rattle.dn_net.specs.Decode.{is_closed};
 ghost use Rattle.dn_print.specs.Statement.{net_text, role_text, statement_at, body_at, parts_at};
 
-use crate::parts;
+use crate::{OutOfMemory, parts};
 use dn_net::net::Net;
 use dn_net::node::Role;
-use std::alloc::{AllocError, Global};
+use std::alloc::Global;
 
 /// The text of a net: one statement for each node, in order, each a line. `Err` is want of memory.
 ///
 /// A block is printed as `lo-hi` and a destination with its `at`, also where the reader would take
 /// less. Addresses are in hexadecimal, and a unit's page, slots and reach are decimal.
-pub fn net_text(alloc: Global, net: &Net) -> Result<Vec<u8>, AllocError>
+pub fn net_text(alloc: Global, net: &Net) -> Result<Vec<u8>, OutOfMemory>
     requires closed { IsTrue (is_closed net.now) }
     ensures { IfOk result (λ v. v.items ≡ net_text [] net.now) }
 {
     let mut out = String::new(alloc);
     for node in 0..net.nodes() {
-        push_statement(&mut out, net, node)?;
+        write_statement(&mut out, net, node)?;
     }
     Ok(out.into_bytes())
 }
 
 /// Appends the statement of a node and the end of its line.
-fn push_statement(out: &mut String, net: &Net, node: u16) -> Result<(), AllocError>
+fn write_statement(out: &mut String, net: &Net, node: u16) -> Result<(), OutOfMemory>
     requires there { node < length net.now }
     requires closed { IsTrue (is_closed net.now) }
-    ensures { OnOk result (string_bytes out.new ≡ string_bytes out.old ++ statement_at [] net.now (slice_get net.now node)) }
+    ensures { OnOk result (string_bytes out.new ≡
+        string_bytes out.old ++ statement_at [] net.now (slice_get net.now node)) }
 {
     out.push_str(role_word(net.role(node)))?;
     out.push_str(net.text(node))?;
-    push_body(out, net, node)?;
+    write_body(out, net, node)?;
     out.push_str(";\n")
 }
 
@@ -50,25 +53,27 @@ fn role_word(role: Role) -> &'static str
 }
 
 /// Appends what stands after a node's name. The name of a unit's kind is empty, since there are no kinds.
-fn push_body(out: &mut String, net: &Net, node: u16) -> Result<(), AllocError>
+fn write_body(out: &mut String, net: &Net, node: u16) -> Result<(), OutOfMemory>
     requires there { node < length net.now }
     requires closed { IsTrue (is_closed net.now) }
-    ensures { OnOk result (string_bytes out.new ≡ string_bytes out.old ++ body_at [] net.now (slice_get net.now node)) }
+    ensures { OnOk result (string_bytes out.new ≡
+        string_bytes out.old ++ body_at [] net.now (slice_get net.now node)) }
 {
     match net.unit(node) {
-        Some(unit) => parts::push_unit(out, net, "", unit),
-        None => push_parts(out, net, node),
+        Some(unit) => parts::write_unit(out, net, "", unit),
+        None => write_parts(out, net, node),
     }
 }
 
 /// Appends the parts of a node that is no unit.
-fn push_parts(out: &mut String, net: &Net, node: u16) -> Result<(), AllocError>
+fn write_parts(out: &mut String, net: &Net, node: u16) -> Result<(), OutOfMemory>
     requires there { node < length net.now }
     requires closed { IsTrue (is_closed net.now) }
-    ensures { OnOk result (string_bytes out.new ≡ string_bytes out.old ++ parts_at net.now (slice_get net.now node)) }
+    ensures { OnOk result (string_bytes out.new ≡
+        string_bytes out.old ++ parts_at net.now (slice_get net.now node)) }
 {
     out.push_str(" is")?;
-    parts::push_accept(out, net.accepts(node))?;
-    parts::push_map(out, net, net.entries(node))?;
-    parts::push_over(out, net, net.over(node))
+    parts::write_accept(out, net.accepts(node))?;
+    parts::write_map(out, net, net.entries(node))?;
+    parts::write_over(out, net, net.over(node))
 }

@@ -27,7 +27,8 @@ pub fn source_of(
     failing: &[u32],
 ) -> Result<MemSource, AllocError>
     requires { 0 < most }
-    ensures { IfOk result (λ s. s ≡ record { left = bytes.now; most = most; calls = no_calls failing.now }) }
+    ensures { IfOk result (λ s. s ≡
+        record { left = bytes.now; most = most; calls = no_calls failing.now }) }
 {
     let bytes = bytes.to_vec(alloc)?;
     let failing = failing.to_vec(alloc)?;

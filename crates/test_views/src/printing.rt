@@ -69,7 +69,7 @@ fn prints_names_or_nothing(rt: HostRuntime) -> Result<(), Fail> {
 }
 
 /// The rows of what the last of three nodes sees in a text.
-fn view_text(alloc: Global, text: &str) -> Result<String, Fail> {
+fn view_text(alloc: Global, text: &str) -> Result<Vec<u8>, Fail> {
     let machine = Machine::of_text(alloc, text)?;
     let flat = machine.flat(alloc, 2)?;
     Ok(rows_text(alloc, machine.net(), &flat.accepts)?)
@@ -91,7 +91,7 @@ fn prints_a_line_for_each_row(rt: HostRuntime) -> Result<(), Fail> {
     ];
     for (text, wanted) in rows {
         let printed = view_text(alloc, text)?;
-        assert_eq!(rt; printed.as_str(), wanted, "{text}");
+        assert_eq!(rt; printed.as_slice(), wanted.as_bytes(), "{text}");
     }
     Ok(())
 }

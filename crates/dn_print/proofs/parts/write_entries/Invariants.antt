@@ -2,7 +2,7 @@ use Rattle.std.proofs.Common.{◌≡◌, ◌++◌, codes, drop, length, nat_lt, 
 use Rattle.std.specs.List.{list_all}
 use Rattle.std.specs.String.{string_bytes}
 use Rattle.dn_print.specs.Statement.{marked, entry_text}
-use Rattle.dn_print.proofs.parts.push_entries.Given as goal
+use Rattle.dn_print.proofs.parts.write_entries.Given as goal
 
 abbrev pub invariant-loop-entry : goal.invariant-loop-entry
 invariant-loop-entry l = record {

@@ -2,7 +2,7 @@ use Rattle.std.proofs.Common.{◌≡◌, ◌++◌, drop, length, map, IsTrue}
 use Rattle.std.specs.String.{string_bytes}
 use Rattle.dn_interval.specs.Listed.{seen_by}
 use Rattle.dn_print.specs.Rows.{rows_text, ends_exist}
-use Rattle.dn_print.proofs.rows.push_rows.Given as goal
+use Rattle.dn_print.proofs.rows.write_rows.Given as goal
 
 abbrev pub invariant-loop-row : goal.invariant-loop-row
 invariant-loop-row l = record {

@@ -3,7 +3,7 @@ use Rattle.std.specs.List.{list_all}
 use Rattle.std.specs.String.{string_bytes}
 use Rattle.dn_print.specs.Rows.{end_text}
 use Rattle.dn_print.specs.Statement.{marked}
-use Rattle.dn_print.proofs.rows.push_ends.Given as goal
+use Rattle.dn_print.proofs.rows.write_ends.Given as goal
 
 abbrev pub invariant-loop-end : goal.invariant-loop-end
 invariant-loop-end l = record {

@@ -2,7 +2,7 @@ use Rattle.std.proofs.Common.{◌≡◌, ◌++◌, codes, drop, length, nat_lt, 
 use Rattle.std.specs.List.{list_all}
 use Rattle.std.specs.String.{string_bytes}
 use Rattle.dn_print.specs.Statement.{marked, node_name}
-use Rattle.dn_print.proofs.parts.push_ports.Given as goal
+use Rattle.dn_print.proofs.parts.write_ports.Given as goal
 
 abbrev pub invariant-loop-port : goal.invariant-loop-port
 invariant-loop-port l = record {

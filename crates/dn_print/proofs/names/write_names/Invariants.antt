@@ -1,7 +1,7 @@
 use Rattle.std.proofs.Common.{◌≡◌, ◌++◌, drop, length, IsTrue}
 use Rattle.std.specs.String.{string_bytes}
 use Rattle.dn_print.specs.Names.{more_names_text, names_exist}
-use Rattle.dn_print.proofs.names.push_names.Given as goal
+use Rattle.dn_print.proofs.names.write_names.Given as goal
 
 abbrev pub invariant-loop-name : goal.invariant-loop-name
 invariant-loop-name l = record {
