@@ -1,6 +1,9 @@
 //! Tests of texts that a source gives by one byte, by a few and by many: they are answered alike.
 
+ghost use Rattle.std.specs.Prelude.{◌<◌};
+
 use crate::rows::{answers, prints, refuses};
+use std::process::Abort;
 use std::test::Fail;
 
 /// How many bytes a source gives a read.
@@ -41,17 +44,31 @@ fn answers_a_board_however_it_is_read(rt: HostRuntime) -> Result<(), Fail> {
     Ok(())
 }
 
+/// Texts with no list of tokens, by reads of at most so many bytes.
+fn refuses_what_is_no_token<R: Abort + AllocGlobal>(rt: &R, most: usize) -> Result<(), Fail>
+    requires { 0 < most }
+{
+    refuses(
+        rt,
+        "a is accept [0x0-0xg];",
+        most,
+        "refused: line 1 Token\n",
+    )?;
+    refuses(rt, "\n\n@", most, "refused: line 3 Token\n")?;
+    refuses(rt, "é is;", most, "refused: line 1 Token\n")
+}
+
 #[test]
-fn refuses_texts_however_they_are_read(rt: HostRuntime) -> Result<(), Fail> {
+fn refuses_what_is_no_token_however_it_is_read(rt: HostRuntime) -> Result<(), Fail> {
     for most in PIECES {
-        refuses(
-            &rt,
-            "a is accept [0x0-0xg];",
-            most,
-            "refused: line 1 Token\n",
-        )?;
-        refuses(&rt, "\n\n@", most, "refused: line 3 Token\n")?;
-        refuses(&rt, "é is;", most, "refused: line 1 Token\n")?;
+        refuses_what_is_no_token(&rt, most)?;
+    }
+    Ok(())
+}
+
+#[test]
+fn refuses_statements_however_they_are_read(rt: HostRuntime) -> Result<(), Fail> {
+    for most in PIECES {
         refuses(&rt, "a is\n\n", most, "refused: line 3 Statement\n")?;
         refuses(&rt, "\nend\n;", most, "refused: line 2 Block\n")?;
         refuses(
@@ -60,6 +77,13 @@ fn refuses_texts_however_they_are_read(rt: HostRuntime) -> Result<(), Fail> {
             most,
             "refused: line 2 Unknown\n",
         )?;
+    }
+    Ok(())
+}
+
+#[test]
+fn refuses_nets_however_they_are_read(rt: HostRuntime) -> Result<(), Fail> {
+    for most in PIECES {
         refuses(&rt, "a is accept [2-1];", most, "refused: Range a\n")?;
         refuses(&rt, "a is over a;", most, "refused: Loop a@0x0 -> a@0x0\n")?;
     }
