@@ -1,23 +1,23 @@
 //! The record that a slot of a unit holds.
 
-use dn_base::items::Items;
+use crate::unit_of;
 use dn_kind::rights::Rights;
+use dn_kind::shape::Shape;
 use dn_kind::slots::held_record;
 use dn_kind::unit_kind::Record;
 use dn_kinds::remap::Remap;
-use dn_net::node::Unit;
 use std::test::Fail;
 
 #[test]
 fn holds_records_within_the_unit(rt: HostRuntime) -> Result<(), Fail> {
     // Outputs are below 2^32 and pages have 2^12 addresses, so output pages are below 0x100000.
-    let unit = Unit {
-        kind: 1,
+    let shape = Shape {
         page: 12,
         slots: 16,
         reach: 32,
-        ports: Items::from_vec([0, 0].to_vec(rt.alloc())?),
+        ports: 2,
     };
+    let unit = unit_of(rt.alloc(), 1, shape)?;
     for (word, wanted) in [
         (0x8000403, Some((1, 0x80004))),
         (0x8000405, None),
