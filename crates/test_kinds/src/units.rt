@@ -1,0 +1,190 @@
+//! The list of kinds, and the rule on the shape of each unit.
+
+ghost use Rattle.std.specs.Prelude.{IsTrue};
+ghost use Rattle.std.specs.List.{list_all};
+ghost use Rattle.dn_kind.specs.Units.{has_kind};
+
+use crate::unit_of;
+use dn_base::items::Items;
+use dn_base::text::Text;
+use dn_kind::kinds::Kinds;
+use dn_kind::shape::Shape;
+use dn_kind::unit_kind::UnitKind;
+use dn_kind::units::{UnitFault, check_units};
+use dn_kinds::pages::{Pages, pages_are_lawful};
+use dn_kinds::remap::{Remap, remap_is_lawful};
+use dn_kinds::vectors::{Vectors, vectors_are_lawful};
+use dn_net::net::Net;
+use dn_net::node::{NodeDecl, Role, Unit};
+use std::alloc::Global;
+use std::process::Abort;
+use std::test::Fail;
+
+/// The numbers of the kinds in the lists of these tests.
+const PAGES: u8 = 0;
+
+const REMAP: u8 = 1;
+
+const VECTORS: u8 = 2;
+
+/// A shape of page, slots, reach and ports.
+fn shape(page: u8, slots: u32, reach: u8, ports: u8) -> Shape {
+    Shape {
+        page,
+        slots,
+        reach,
+        ports,
+    }
+}
+
+/// Adds a unit, or a plain node, whose kind is one of so many, and answers its number. `None`, and an unchanged
+/// net, where the name is taken or the net is full.
+fn add(
+    alloc: Global,
+    net: &mut Net,
+    count: usize,
+    title: Text,
+    unit: Option<Unit>,
+) -> Result<Option<u16>, Fail>
+    requires kind { IsTrue (has_kind count unit) }
+    requires known { IsTrue (list_all (λ n. has_kind count n.unit) net.old) }
+    ensures known { IsTrue (list_all (λ n. has_kind count n.unit) net.new) }
+{
+    if net.find(title.as_str()).is_some() || net.nodes() >= 1024 {
+        return Ok(None);
+    }
+    let role = match &unit {
+        Some(_) => Role::Unit,
+        None => Role::Plain,
+    };
+    let number = net.add(NodeDecl {
+        text: title,
+        role,
+        accepts: Items::new(alloc),
+        entries: Items::new(alloc),
+        over: None,
+        unit,
+    })?;
+    Ok(Some(number))
+}
+
+/// A unit's kind, by its number, and its shape.
+type Row = (u8, Shape);
+
+/// Adds a unit in the same way. `None`, too, where there are not so many kinds.
+fn add_unit(
+    alloc: Global,
+    net: &mut Net,
+    count: usize,
+    title: &str,
+    row: Row,
+) -> Result<Option<u16>, Fail>
+    requires known { IsTrue (list_all (λ n. has_kind count n.unit) net.old) }
+    ensures known { IsTrue (list_all (λ n. has_kind count n.unit) net.new) }
+{
+    let (kind, shape) = row;
+    if usize::from(kind) >= count {
+        return Ok(None);
+    }
+    let unit = unit_of(alloc, kind, shape)?;
+    add(alloc, net, count, Text::of(alloc, title)?, Some(unit))
+}
+
+/// What the rule says of a net of a plain node, which is node 0, and two units behind it.
+fn checked(
+    rt: &impl Abort,
+    alloc: Global,
+    first: Row,
+    second: Row,
+) -> Result<Result<(), UnitFault>, Fail> {
+    pages_are_lawful();
+    remap_is_lawful();
+    vectors_are_lawful();
+    let mut kinds = Kinds::none(alloc);
+    kinds.add(Box::new(alloc, Pages)?)?;
+    kinds.add(Box::new(alloc, Remap)?)?;
+    kinds.add(Box::new(alloc, Vectors)?)?;
+    let count = kinds.len();
+    let mut net = Net::new(alloc);
+    let number = add(alloc, &mut net, count, Text::of(alloc, "ram")?, None)?;
+    assert_eq!(rt; number, Some(0));
+    let number = add_unit(alloc, &mut net, count, "first", first)?;
+    assert_eq!(rt; number, Some(1));
+    let number = add_unit(alloc, &mut net, count, "second", second)?;
+    assert_eq!(rt; number, Some(2));
+    Ok(check_units(&net, &kinds))
+}
+
+#[test]
+fn lists_kinds_in_their_order(rt: HostRuntime) -> Result<(), Fail> {
+    let alloc = rt.alloc();
+    pages_are_lawful();
+    remap_is_lawful();
+    vectors_are_lawful();
+    let mut kinds = Kinds::none(alloc);
+    assert_eq!(rt; kinds.len(), 0);
+    kinds.add(Box::new(alloc, Pages)?)?;
+    assert_eq!(rt; kinds.len(), 1);
+    kinds.add(Box::new(alloc, Remap)?)?;
+    kinds.add(Box::new(alloc, Vectors)?)?;
+    assert_eq!(rt; kinds.len(), 3);
+    for (number, name, words) in [(0, "pages", 1), (1, "remap", 1), (2, "vectors", 2)] {
+        assert!(rt; number < kinds.len());
+        assert_eq!(rt; kinds.kind(number).name(), name);
+        assert_eq!(rt; kinds.kind(number).words(), words);
+    }
+    Ok(())
+}
+
+#[test]
+fn takes_units_at_each_limit(rt: HostRuntime) -> Result<(), Fail> {
+    let right = (REMAP, shape(12, 16, 32, 1));
+    for row in [
+        (REMAP, shape(12, 262_144, 32, 1)),
+        (REMAP, shape(40, 1, 40, 1)),
+        (REMAP, shape(12, 16, 56, 1)),
+        (REMAP, shape(12, 16, 12, 1)),
+        (REMAP, shape(12, 16, 32, 8)),
+        (PAGES, shape(12, 16, 32, 1)),
+        (VECTORS, shape(0, 16, 32, 8)),
+    ] {
+        let (kind, shape) = row;
+        let given = checked(&rt, rt.alloc(), right, row)?;
+        assert_eq!(rt; given, Ok(()), "{kind} {shape:?}");
+    }
+    Ok(())
+}
+
+#[test]
+fn refuses_units_past_each_limit(rt: HostRuntime) -> Result<(), Fail> {
+    let refused = Err(UnitFault::UnitShape { node: 2 });
+    let right = (REMAP, shape(12, 16, 32, 1));
+    for row in [
+        (REMAP, shape(12, 262_145, 32, 1)),
+        (REMAP, shape(12, 0, 32, 1)),
+        (REMAP, shape(41, 1, 56, 1)),
+        (REMAP, shape(12, 16, 57, 1)),
+        (REMAP, shape(12, 16, 11, 1)),
+        (REMAP, shape(12, 16, 32, 9)),
+        (REMAP, shape(12, 16, 32, 0)),
+        (PAGES, shape(12, 16, 32, 2)),
+        (VECTORS, shape(1, 16, 32, 8)),
+    ] {
+        let (kind, shape) = row;
+        let given = checked(&rt, rt.alloc(), right, row)?;
+        assert_eq!(rt; given, refused, "{kind} {shape:?}");
+    }
+    Ok(())
+}
+
+#[test]
+fn names_the_first_wrong_unit(rt: HostRuntime) -> Result<(), Fail> {
+    let right = (REMAP, shape(12, 16, 32, 1));
+    let wrong = (REMAP, shape(12, 0, 32, 1));
+    let named = Err(UnitFault::UnitShape { node: 1 });
+    assert_eq!(rt; checked(&rt, rt.alloc(), wrong, right)?, named);
+    assert_eq!(rt; checked(&rt, rt.alloc(), wrong, wrong)?, named);
+    let printed = format!(in rt.alloc(); "{}", UnitFault::UnitShape { node: 1 })?;
+    assert_eq!(rt; printed.as_str(), "UnitShape");
+    Ok(())
+}
