@@ -9,6 +9,7 @@ use Rattle.dn_net.specs.declared.node.Role.{Role}
 use Rattle.dn_net.specs.declared.node.Role.TheVariants.{Plain, Agent, Vectors, Unit as UnitRole}
 use Rattle.dn_net.specs.declared.node.Unit.{Unit as UnitPart}
 use Rattle.dn_net.specs.declared.node.NodeDecl.{NodeDecl}
+use Rattle.dn_kind.specs.Kind.{Meaning}
 use Rattle.dn_print.specs.Names.{address_text, node_text}
 
 -- each item's text after a mark
@@ -69,14 +70,14 @@ abbrev pub parts_text : List NodeDecl → NodeDecl → List ℕ
 parts_text net n =
     codes " is" ++ (accept_text n.accepts ++ (map_text net n.entries ++ over_text net n.over))
 
--- the name of the kind of this place in the list of kinds
-abbrev pub known_kind : Option (List ℕ) → List ℕ
-known_kind None = []
-known_kind (Some name) = name
+-- the name of a kind, where there is one
+abbrev pub kind_name : Option Meaning → List ℕ
+kind_name None = []
+kind_name (Some kind) = kind.name
 
 -- the name of the kind of a number, empty where the list of kinds has none
-abbrev pub kind_text : List (List ℕ) → ℕ → List ℕ
-kind_text kinds k = known_kind (slice_get kinds k)
+abbrev pub kind_text : List Meaning → ℕ → List ℕ
+kind_text kinds k = kind_name (slice_get kinds k)
 
 -- the full names of ports, joined by commas
 abbrev pub ports_text : List NodeDecl → List ℕ → List ℕ
@@ -89,7 +90,7 @@ unit_text kind net u =
     codes " reach " ++ (decimal u.reach ++ (codes " to " ++ ports_text net u.ports))))))))
 
 -- what stands after a node's name
-abbrev pub body_text : List (List ℕ) → List NodeDecl → NodeDecl → Option UnitPart → List ℕ
+abbrev pub body_text : List Meaning → List NodeDecl → NodeDecl → Option UnitPart → List ℕ
 body_text kinds net n None = parts_text net n
 body_text kinds net n (Some u) = unit_text (kind_text kinds u.kind) net u
 
@@ -101,7 +102,7 @@ role_text Vectors = codes "vectors "
 role_text UnitRole = codes "unit "
 
 -- a node's statement, a line
-abbrev pub statement_text : List (List ℕ) → List NodeDecl → NodeDecl → List ℕ
+abbrev pub statement_text : List Meaning → List NodeDecl → NodeDecl → List ℕ
 statement_text kinds net n = role_text n.role ++ (n.text ++ (body_text kinds net n n.unit ++ codes ";\n"))
 
 -- the parts of a node that is no unit, where there is the node
@@ -110,15 +111,15 @@ parts_at net None = []
 parts_at net (Some n) = parts_text net n
 
 -- what stands after a node's name, where there is the node
-abbrev pub body_at : List (List ℕ) → List NodeDecl → Option NodeDecl → List ℕ
+abbrev pub body_at : List Meaning → List NodeDecl → Option NodeDecl → List ℕ
 body_at kinds net None = []
 body_at kinds net (Some n) = body_text kinds net n n.unit
 
 -- a node's statement, where there is the node
-abbrev pub statement_at : List (List ℕ) → List NodeDecl → Option NodeDecl → List ℕ
+abbrev pub statement_at : List Meaning → List NodeDecl → Option NodeDecl → List ℕ
 statement_at kinds net None = []
 statement_at kinds net (Some n) = statement_text kinds net n
 
--- the text of a net, with the names of the kinds: each node's statement, in order
-abbrev pub net_text : List (List ℕ) → List NodeDecl → List ℕ
+-- the text of a net whose units are of these kinds: each node's statement, in order
+abbrev pub net_text : List Meaning → List NodeDecl → List ℕ
 net_text kinds net = flat_map (statement_text kinds net) net

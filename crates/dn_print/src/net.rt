@@ -2,12 +2,16 @@
 //!
 //! Each `write_` call appends to a text that is given up for want of memory; the text then has any part.
 
-ghost use Rattle.std.specs.Prelude.{◌≡◌, ◌<◌, ◌++◌, [], length, slice_get, IfOk, OnOk, IsTrue};
+ghost use Rattle.std.specs.Prelude.{◌≡◌, ◌<◌, ◌++◌, length, map, slice_get, IfOk, OnOk, IsTrue};
+ghost use Rattle.std.specs.List.{All, list_all};
 ghost use Rattle.std.specs.String.{string_bytes};
 ghost use Rattle.dn_net.specs.Decode.{is_closed};
+ghost use Rattle.dn_kind.specs.Kind.{IsLawful};
+ghost use Rattle.dn_kind.specs.Units.{has_kind};
 ghost use Rattle.dn_print.specs.Statement.{net_text, role_text, statement_at, body_at, parts_at};
 
 use crate::{OutOfMemory, parts};
+use dn_kind::kinds::Kinds;
 use dn_net::net::Net;
 use dn_net::node::Role;
 use std::alloc::Global;
@@ -15,28 +19,41 @@ use std::alloc::Global;
 /// The text of a net: one statement for each node, in order, each a line. `Err` is want of memory.
 ///
 /// A block is printed as `lo-hi` and a destination with its `at`, also where the reader would take
-/// less. Addresses are in hexadecimal, and a unit's page, slots and reach are decimal.
-pub fn net_text(alloc: Global, net: &Net) -> Result<Vec<u8>, OutOfMemory>
+/// less. Addresses are in hexadecimal, and a unit's page, slots and reach are decimal. A unit's kind is
+/// called by its name in `kinds`, where each unit's kind is there.
+pub fn net_text(alloc: Global, net: &Net, kinds: &Kinds) -> Result<Vec<u8>, OutOfMemory>
     requires closed { IsTrue (is_closed net.now) }
-    ensures { IfOk result (λ v. v.items ≡ net_text [] net.now) }
+    requires lawful { All (λ k. IsLawful (meaning k)) kinds.now.list.items }
+    requires known { IsTrue
+        (list_all (λ n. has_kind (length kinds.now.list.items) n.unit) net.now) }
+    ensures { IfOk result (λ v. v.items ≡
+        net_text (map (λ k. meaning k) kinds.now.list.items) net.now) }
 {
     let mut out = String::new(alloc);
     for node in 0..net.nodes() {
-        write_statement(&mut out, net, node)?;
+        write_statement(&mut out, net, kinds, node)?;
     }
     Ok(out.into_bytes())
 }
 
 /// Appends the statement of a node and the end of its line.
-fn write_statement(out: &mut String, net: &Net, node: u16) -> Result<(), OutOfMemory>
+fn write_statement(
+    out: &mut String,
+    net: &Net,
+    kinds: &Kinds,
+    node: u16,
+) -> Result<(), OutOfMemory>
     requires there { node < length net.now }
     requires closed { IsTrue (is_closed net.now) }
-    ensures { OnOk result (string_bytes out.new ≡
-        string_bytes out.old ++ statement_at [] net.now (slice_get net.now node)) }
+    requires lawful { All (λ k. IsLawful (meaning k)) kinds.now.list.items }
+    requires known { IsTrue
+        (list_all (λ n. has_kind (length kinds.now.list.items) n.unit) net.now) }
+    ensures { OnOk result (string_bytes out.new ≡ string_bytes out.old ++ statement_at
+        (map (λ k. meaning k) kinds.now.list.items) net.now (slice_get net.now node)) }
 {
     out.push_str(role_word(net.role(node)))?;
     out.push_str(net.text(node))?;
-    write_body(out, net, node)?;
+    write_body(out, net, kinds, node)?;
     out.push_str(";\n")
 }
 
@@ -52,15 +69,26 @@ fn role_word(role: Role) -> &'static str
     }
 }
 
-/// Appends what stands after a node's name. The name of a unit's kind is empty, since there are no kinds.
-fn write_body(out: &mut String, net: &Net, node: u16) -> Result<(), OutOfMemory>
+/// Appends what stands after a node's name.
+fn write_body(
+    out: &mut String,
+    net: &Net,
+    kinds: &Kinds,
+    node: u16,
+) -> Result<(), OutOfMemory>
     requires there { node < length net.now }
     requires closed { IsTrue (is_closed net.now) }
-    ensures { OnOk result (string_bytes out.new ≡
-        string_bytes out.old ++ body_at [] net.now (slice_get net.now node)) }
+    requires lawful { All (λ k. IsLawful (meaning k)) kinds.now.list.items }
+    requires known { IsTrue
+        (list_all (λ n. has_kind (length kinds.now.list.items) n.unit) net.now) }
+    ensures { OnOk result (string_bytes out.new ≡ string_bytes out.old ++ body_at
+        (map (λ k. meaning k) kinds.now.list.items) net.now (slice_get net.now node)) }
 {
     match net.unit(node) {
-        Some(unit) => parts::write_unit(out, net, "", unit),
+        Some(unit) => {
+            let kind = kinds.kind(usize::from(unit.kind));
+            parts::write_unit(out, net, kind.name(), unit)
+        }
         None => write_parts(out, net, node),
     }
 }

@@ -3,6 +3,7 @@ use Rattle.std.proofs.Common.{arith, ◌≡◌, ◌∙◌, ap, sym, subst, ℕ, 
 use Rattle.dn_base.specs.Outside.{Taken, AtEnd, input_limit}
 use Rattle.dn_parse.specs.Whole.{too_long}
 use Rattle.dn_parse.proofs.Judge.{text_too_long}
+use Rattle.dn_kind.specs.Kind.{Meaning}
 use Rattle.dn_module.specs.Expand.{Outcome}
 use Rattle.dn_tool.specs.Compiled.{compilation, reading_compilation, with_refusal}
 use Rattle.dn_tool.specs.Refused.{Refused, of_text, refusal_of}
@@ -11,20 +12,20 @@ use Rattle.dn_tool.specs.declared.words.Task.TheVariants.{Run, Check}
 use Rattle.dn_tool.specs.Answer.{Answer, IsInput, answer, compiled_answer, reads, some_task_reads, task_answer, task_of, task_reads, text_answer, usage}
 
 -- a text that is longer than the limit is refused by that alone
-long_refused : (text : List ℕ) → 4194304 < length text → compilation text ≡ Err (of_text too_long)
+long_refused : (kinds : List Meaning) (text : List ℕ) → 4194304 < length text → compilation kinds text ≡ Err (of_text too_long)
 unfolding compilation
-long_refused text l = ap reading_compilation (text_too_long text l)
+long_refused kinds text l = ap (reading_compilation kinds) (text_too_long text l)
 
 -- a text that was read as far as the limit comes to what the whole comes to
-same_compiled : (text rest : List ℕ) → (length text < input_limit → rest ≡ []) → (length text < input_limit) ⊎ (4194304 < length text) → compilation (text ++ rest) ≡ compilation text
-same_compiled text rest end (inl l) = ap compilation (ap (λ (r : List ℕ). text ++ r) (end l) ∙ append-nil text)
-same_compiled text rest end (inr l) =
+same_compiled : (kinds : List Meaning) (text rest : List ℕ) → (length text < input_limit → rest ≡ []) → (length text < input_limit) ⊎ (4194304 < length text) → compilation kinds (text ++ rest) ≡ compilation kinds text
+same_compiled kinds text rest end (inl l) = ap (compilation kinds) (ap (λ (r : List ℕ). text ++ r) (end l) ∙ append-nil text)
+same_compiled kinds text rest end (inr l) =
     let m : 4194304 < length (text ++ rest) = simp length-append (omega (arith, l)) in
-    long_refused (text ++ rest) m ∙ sym (long_refused text l)
+    long_refused kinds (text ++ rest) m ∙ sym (long_refused kinds text l)
 
 -- the same, whichever it is
-pub same_text : (text rest : List ℕ) → (length text < input_limit → rest ≡ []) → compilation (text ++ rest) ≡ compilation text
-same_text text rest end = same_compiled text rest end (grind arith)
+pub same_text : (kinds : List Meaning) (text rest : List ℕ) → (length text < input_limit → rest ≡ []) → compilation kinds (text ++ rest) ≡ compilation kinds text
+same_text kinds text rest end = same_compiled kinds text rest end (grind arith)
 
 -- each task reads the source
 all_read : (task : Task) → task_reads task ≡ true
@@ -40,25 +41,25 @@ pub unasked_reads : (w : List (List ℕ)) → task_of w ≡ None → reads w ≡
 unasked_reads w none = ap some_task_reads none
 
 -- what holds of the answer to what was read holds of the answer to the whole text
-pub input_answer : (left after : Option (List ℕ)) (w : List (List ℕ)) (task : Task) (text whole : List ℕ) (P : Answer → Type 0) → task_of w ≡ Some task → Taken left after text → (length text < input_limit → AtEnd after) → IsInput w left whole → P (text_answer task text) → P (answer w whole)
-input_answer left after w task text whole P asked taken end input p = go left after taken end (input (asked_reads w task asked))
+pub input_answer : (left after : Option (List ℕ)) (w : List (List ℕ)) (task : Task) (kinds : List Meaning) (text whole : List ℕ) (P : Answer → Type 0) → task_of w ≡ Some task → Taken left after text → (length text < input_limit → AtEnd after) → IsInput w left whole → P (text_answer task kinds text) → P (answer w kinds whole)
+input_answer left after w task kinds text whole P asked taken end input p = go left after taken end (input (asked_reads w task asked))
   where
-    go : (l a : Option (List ℕ)) → Taken l a text → (length text < input_limit → AtEnd a) → l ≡ Some whole → P (answer w whole)
+    go : (l a : Option (List ℕ)) → Taken l a text → (length text < input_limit → AtEnd a) → l ≡ Some whole → P (answer w kinds whole)
     go l None taken end told = cc
     go l (Some rest) taken end told =
         let joined : whole ≡ text ++ rest = cc in
-        let same : text_answer task text ≡ text_answer task whole = ap (λ c. compiled_answer task (with_refusal c)) (sym (same_text text rest end) ∙ ap compilation (sym joined)) in
-        let all : text_answer task whole ≡ answer w whole = ap (λ o. task_answer o whole) (sym asked) in
+        let same : text_answer task kinds text ≡ text_answer task kinds whole = ap (λ c. compiled_answer task kinds (with_refusal c)) (sym (same_text kinds text rest end) ∙ ap (compilation kinds) (sym joined)) in
+        let all : text_answer task kinds whole ≡ answer w kinds whole = ap (λ o. task_answer o kinds whole) (sym asked) in
         subst P (same ∙ all) p
 
 -- other words have the usage line, whatever the text
-pub usage_answer : (w : List (List ℕ)) (text : List ℕ) (P : Answer → Type 0) → task_of w ≡ None → P (record { status = 1; pieces = usage ∷ [] }) → P (answer w text)
-usage_answer w text P e p = let same : record { status = 1; pieces = usage ∷ [] } ≡ answer w text = ap (λ o. task_answer o text) (sym e) in subst P same p
+pub usage_answer : (w : List (List ℕ)) (kinds : List Meaning) (text : List ℕ) (P : Answer → Type 0) → task_of w ≡ None → P (record { status = 1; pieces = usage ∷ [] }) → P (answer w kinds text)
+usage_answer w kinds text P e p = let same : record { status = 1; pieces = usage ∷ [] } ≡ answer w kinds text = ap (λ o. task_answer o kinds text) (sym e) in subst P same p
 
 -- a text with a net is no longer than the limit
-pub legal_short : (text : List ℕ) (o : Outcome) → with_refusal (compilation text) ≡ Ok o → length text < input_limit
-legal_short text o e = short (grind arith)
+pub legal_short : (kinds : List Meaning) (text : List ℕ) (o : Outcome) → with_refusal (compilation kinds text) ≡ Ok o → length text < input_limit
+legal_short kinds text o e = short (grind arith)
   where
     short : (length text < input_limit) ⊎ (4194304 < length text) → length text < input_limit
     short (inl l) = l
-    short (inr l) = let f : ◌≡◌ {A = Result Outcome Refused} (Err (refusal_of (of_text too_long))) (Ok o) = sym (ap with_refusal (long_refused text l)) ∙ e in absurd (cc)
+    short (inr l) = let f : ◌≡◌ {A = Result Outcome Refused} (Err (refusal_of (of_text too_long))) (Ok o) = sym (ap with_refusal (long_refused kinds text l)) ∙ e in absurd (cc)

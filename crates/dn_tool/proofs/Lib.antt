@@ -5,4 +5,5 @@ pub mod Levels
 pub mod NodeFaults
 pub mod Refusals
 pub mod Replies
+pub mod Shaped
 pub mod Sets

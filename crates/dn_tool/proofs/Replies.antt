@@ -8,43 +8,44 @@ use Rattle.dn_net.specs.declared.node.NodeDecl.{NodeDecl}
 use Rattle.dn_module.specs.declared.command.Command.{Command}
 use Rattle.std.specs.Fmt.{decimal}
 use Rattle.dn_interval.specs.Listed.{Seen}
+use Rattle.dn_kind.specs.Kind.{Meaning}
 use Rattle.dn_print.specs.Rows.{rows_text}
 use Rattle.dn_tool.specs.Reply.{State, reply, replies, state_after, viewed_text}
 
 -- commands change no net so far
-net_stays : (s : State) (cs : List Command) → (state_after s cs).net ≡ s.net
-net_stays s [] = refl
-net_stays s (c ∷ cs) = net_stays s cs
+net_stays : (kinds : List Meaning) (s : State) (cs : List Command) → (state_after kinds s cs).net ≡ s.net
+net_stays kinds s [] = refl
+net_stays kinds s (c ∷ cs) = net_stays kinds s cs
 
 -- the replies to the first commands, and then those to the rest in the state that the first left
-replies-append : (s : State) (cs ds : List Command) → replies s (cs ++ ds) ≡ replies s cs ++ replies (state_after s cs) ds
-replies-append s [] ds = refl
-replies-append s (c ∷ cs) ds = ap (λ (l : List (List ℕ)). reply s.net c ∷ l) (replies-append s cs ds)
+replies-append : (kinds : List Meaning) (s : State) (cs ds : List Command) → replies kinds s (cs ++ ds) ≡ replies kinds s cs ++ replies kinds (state_after kinds s cs) ds
+replies-append kinds s [] ds = refl
+replies-append kinds s (c ∷ cs) ds = ap (λ (l : List (List ℕ)). reply kinds s.net c ∷ l) (replies-append kinds s cs ds)
 
 -- the same, at a place
-pub replies_split : (s : State) (cs : List Command) (i : ℕ) → replies s (take i cs) ++ replies (state_after s (take i cs)) (drop i cs) ≡ replies s cs
-replies_split s cs i = sym (replies-append s (take i cs) (drop i cs)) ∙ ap (replies s) (take-append-drop i cs)
+pub replies_split : (kinds : List Meaning) (s : State) (cs : List Command) (i : ℕ) → replies kinds s (take i cs) ++ replies kinds (state_after kinds s (take i cs)) (drop i cs) ≡ replies kinds s cs
+replies_split kinds s cs i = sym (replies-append kinds s (take i cs) (drop i cs)) ∙ ap (replies kinds s) (take-append-drop i cs)
 
 -- the reply to the command at a place comes next
-pub replies_next : (s : State) (cs : List Command) (i : ℕ) (c : Command) (text : List ℕ) → i < length cs → c ≡ get_or cs i c → text ≡ reply s.net c → replies s (take i cs) ++ text ∷ replies (state_after s (take i cs)) (drop (i + 1) cs) ≡ replies s cs
-replies_next s cs i c text h at is =
-    ap (λ (t : List ℕ). replies s (take i cs) ++ t ∷ replies (state_after s (take i cs)) (drop (i + 1) cs)) (is ∙ ap (λ (n : List NodeDecl). reply n c) (sym (net_stays s (take i cs))))
-    ∙ ap (λ (l : List Command). replies s (take i cs) ++ replies (state_after s (take i cs)) l) (sym (drop_at cs i c h at))
-    ∙ replies_split s cs i
+pub replies_next : (kinds : List Meaning) (s : State) (cs : List Command) (i : ℕ) (c : Command) (text : List ℕ) → i < length cs → c ≡ get_or cs i c → text ≡ reply kinds s.net c → replies kinds s (take i cs) ++ text ∷ replies kinds (state_after kinds s (take i cs)) (drop (i + 1) cs) ≡ replies kinds s cs
+replies_next kinds s cs i c text h at is =
+    ap (λ (t : List ℕ). replies kinds s (take i cs) ++ t ∷ replies kinds (state_after kinds s (take i cs)) (drop (i + 1) cs)) (is ∙ ap (λ (n : List NodeDecl). reply kinds n c) (sym (net_stays kinds s (take i cs))))
+    ∙ ap (λ (l : List Command). replies kinds s (take i cs) ++ replies kinds (state_after kinds s (take i cs)) l) (sym (drop_at cs i c h at))
+    ∙ replies_split kinds s cs i
 
 -- one more reply
-pub replies_more : (s : State) (cs : List Command) (i : ℕ) (c : Command) (text : List ℕ) → i < length cs → c ≡ get_or cs i c → text ≡ reply s.net c → concat (replies s (take (i + 1) cs)) ≡ concat (replies s (take i cs)) ++ text
-replies_more s cs i c text h at is =
-    ap (λ (l : List Command). concat (replies s l)) (take_more cs i c h ∙ ap (λ (d : Command). take i cs ++ d ∷ []) (sym at))
-    ∙ ap concat (replies-append s (take i cs) (c ∷ []))
-    ∙ concat-append (replies s (take i cs)) (reply (state_after s (take i cs)).net c ∷ [])
-    ∙ ap (λ (l : List ℕ). concat (replies s (take i cs)) ++ l) (append-nil (reply (state_after s (take i cs)).net c))
-    ∙ ap (λ (n : List NodeDecl). concat (replies s (take i cs)) ++ reply n c) (net_stays s (take i cs))
-    ∙ ap (λ (l : List ℕ). concat (replies s (take i cs)) ++ l) (sym is)
+pub replies_more : (kinds : List Meaning) (s : State) (cs : List Command) (i : ℕ) (c : Command) (text : List ℕ) → i < length cs → c ≡ get_or cs i c → text ≡ reply kinds s.net c → concat (replies kinds s (take (i + 1) cs)) ≡ concat (replies kinds s (take i cs)) ++ text
+replies_more kinds s cs i c text h at is =
+    ap (λ (l : List Command). concat (replies kinds s l)) (take_more cs i c h ∙ ap (λ (d : Command). take i cs ++ d ∷ []) (sym at))
+    ∙ ap concat (replies-append kinds s (take i cs) (c ∷ []))
+    ∙ concat-append (replies kinds s (take i cs)) (reply kinds (state_after kinds s (take i cs)).net c ∷ [])
+    ∙ ap (λ (l : List ℕ). concat (replies kinds s (take i cs)) ++ l) (append-nil (reply kinds (state_after kinds s (take i cs)).net c))
+    ∙ ap (λ (n : List NodeDecl). concat (replies kinds s (take i cs)) ++ reply kinds n c) (net_stays kinds s (take i cs))
+    ∙ ap (λ (l : List ℕ). concat (replies kinds s (take i cs)) ++ l) (sym is)
 
 -- the replies to all of the commands
-pub replies_all : (s : State) (cs : List Command) (i : ℕ) → length cs ≤ i → replies s (take i cs) ≡ replies s cs
-replies_all s cs i h = ap (replies s) (take_past cs i h)
+pub replies_all : (kinds : List Meaning) (s : State) (cs : List Command) (i : ℕ) → length cs ≤ i → replies kinds s (take i cs) ≡ replies kinds s cs
+replies_all kinds s cs i h = ap (replies kinds s) (take_past cs i h)
 
 -- rows below their heading
 pub viewed_told : (net : List NodeDecl) (text heading out : List ℕ) (count : ℕ) (rows : List Seen) → heading ≡ codes "view " ++ (text ++ (codes " rows " ++ (decimal count ++ codes "\n"))) → count ≡ length rows → out ≡ heading ++ rows_text net rows → out ≡ viewed_text net text rows

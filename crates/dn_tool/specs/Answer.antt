@@ -2,6 +2,7 @@
 use Rattle.std.specs.Prelude.{◌≡◌, ℕ, ◌==◌, Bool, true, false, ◌||◌, if◌then◌else◌, List, [], ◌∷◌, ◌++◌, codes, Option, Some, None, Result, Ok, Err}
 use Rattle.std.specs.Str.{bytes_eq}
 use Rattle.dn_net.specs.declared.node.NodeDecl.{NodeDecl}
+use Rattle.dn_kind.specs.Kind.{Meaning}
 use Rattle.dn_print.specs.Statement.{net_text}
 use Rattle.dn_module.specs.declared.command.Command.{Command}
 use Rattle.dn_tool.specs.declared.words.Task.{Task}
@@ -54,24 +55,25 @@ abbrev pub IsInput : List (List ℕ) → Option (List ℕ) → List ℕ → Type
 IsInput words left text = reads words ≡ true → left ≡ Some text
 
 -- `run` answers the commands, and `check` prints the net
-abbrev pub task_pieces : Task → List NodeDecl → List Command → List (List ℕ)
-task_pieces Run net commands = replies (record { net = net }) commands
-task_pieces Check net commands = net_text [] net ∷ []
+abbrev pub task_pieces : Task → List Meaning → List NodeDecl → List Command → List (List ℕ)
+task_pieces Run kinds net commands = replies kinds (record { net = net }) commands
+task_pieces Check kinds net commands = net_text kinds net ∷ []
 
 -- the answer to what a text comes to: the line of its refusal, or what the task makes of it
-abbrev pub compiled_answer : Task → Result Outcome Refused → Answer
-compiled_answer task (Err r) = record { status = 4; pieces = (r.text ++ codes "\n") ∷ [] }
-compiled_answer task (Ok o) = record { status = 0; pieces = task_pieces task o.net o.commands }
+abbrev pub compiled_answer : Task → List Meaning → Result Outcome Refused → Answer
+compiled_answer task kinds (Err r) = record { status = 4; pieces = (r.text ++ codes "\n") ∷ [] }
+compiled_answer task kinds (Ok o) =
+    record { status = 0; pieces = task_pieces task kinds o.net o.commands }
 
 -- the answer to a text
-abbrev pub text_answer : Task → List ℕ → Answer
-text_answer task text = compiled_answer task (with_refusal (compilation text))
+abbrev pub text_answer : Task → List Meaning → List ℕ → Answer
+text_answer task kinds text = compiled_answer task kinds (with_refusal (compilation kinds text))
 
 -- the answer to what is asked for, and the usage line where nothing is
-abbrev pub task_answer : Option Task → List ℕ → Answer
-task_answer None text = record { status = 1; pieces = usage ∷ [] }
-task_answer (Some task) text = text_answer task text
+abbrev pub task_answer : Option Task → List Meaning → List ℕ → Answer
+task_answer None kinds text = record { status = 1; pieces = usage ∷ [] }
+task_answer (Some task) kinds text = text_answer task kinds text
 
--- the answer to words and a text
-abbrev pub answer : List (List ℕ) → List ℕ → Answer
-answer words text = task_answer (task_of words) text
+-- the answer to words and a text, where these kinds of units are known
+abbrev pub answer : List (List ℕ) → List Meaning → List ℕ → Answer
+answer words kinds text = task_answer (task_of words) kinds text

@@ -1,16 +1,17 @@
 -- A refusal: the rule that a text breaks, and the line that says so, without its end.
-use Rattle.std.specs.Prelude.{ℕ, ◌<◌, List, ◌++◌, codes, IsTrue}
+use Rattle.std.specs.Prelude.{ℕ, ◌<◌, List, ◌++◌, codes, nat_lt, IsTrue}
 use Rattle.std.specs.Fmt.{decimal}
+use Rattle.std.specs.List.{list_all}
 use Rattle.dn_parse.specs.Whole.{TextFault, too_long, bad_token, statement_fault, block_fault, nesting_fault}
 use Rattle.dn_net.specs.declared.node.Name.{Name}
 use Rattle.dn_net.specs.declared.node.NodeDecl.{NodeDecl}
 use Rattle.dn_net.specs.Rules.{BrokenNode, out_of_range, overlapping, repeating, past_space}
-use Rattle.dn_net.specs.WalkRules.{Broken, is_wide, has_loop, is_deep}
+use Rattle.dn_net.specs.WalkRules.{Broken, is_wide, has_loop, is_deep, has_fork, has_chain}
 use Rattle.dn_module.specs.Faults.{ExpansionFault, is_duplicate, is_unknown, has_other_arguments, has_no_value, passes_limit}
 use Rattle.dn_print.specs.Names.{name_text, names_exist}
 use Rattle.dn_print.specs.Statement.{node_name, joined}
 use Rattle.dn_tool.specs.declared.refusal.Rule.{Rule}
-use Rattle.dn_tool.specs.declared.refusal.Rule.TheVariants.{Length, Token, Statement, Block, Nesting, Duplicate, Unknown, Arguments, Value, TooMany, Range, Overlap, Repeat, VectorSpace, Wide, Loop, Deep}
+use Rattle.dn_tool.specs.declared.refusal.Rule.TheVariants.{Length, Token, Statement, Block, Nesting, Duplicate, Unknown, Arguments, Value, TooMany, Range, Overlap, Repeat, VectorSpace, UnitShape, Wide, Loop, Deep, Fork, Chain}
 
 -- the rule that is broken, and the line
 pub record Refused : Type 0 where
@@ -33,9 +34,12 @@ rule_name Range = codes "Range"
 rule_name Overlap = codes "Overlap"
 rule_name Repeat = codes "Repeat"
 rule_name VectorSpace = codes "VectorSpace"
+rule_name UnitShape = codes "UnitShape"
 rule_name Wide = codes "Wide"
 rule_name Loop = codes "Loop"
 rule_name Deep = codes "Deep"
+rule_name Fork = codes "Fork"
+rule_name Chain = codes "Chain"
 
 -- a rule that is broken by the text as a whole
 abbrev pub by_text : Rule → Refused
@@ -49,7 +53,7 @@ by_line rule line = record { rule = rule; text = codes "refused: line " ++ (deci
 abbrev pub by_limit : ℕ → ℕ → Refused
 by_limit line limit = record { rule = TooMany; text = codes "refused: line " ++ (decimal line ++ (codes " TooMany " ++ decimal limit)) }
 
--- a rule that is broken by what is shown after it: a node, a name, the names of a chain, or a limit
+-- a rule that is broken by what is shown after it: nodes, names or a limit
 abbrev pub showing : Rule → List ℕ → Refused
 showing rule text = record { rule = rule; text = codes "refused: " ++ (rule_name rule ++ (codes " " ++ text)) }
 
@@ -76,21 +80,36 @@ node_refusal net (overlapping node addr) = showing Overlap (name_text net (recor
 node_refusal net (repeating node) = showing Repeat (node_name net node)
 node_refusal net (past_space node) = showing VectorSpace (node_name net node)
 
+-- the refusal of a net by the rule on the shape of units, by the name of the unit
+abbrev pub unit_refusal : List NodeDecl → ℕ → Refused
+unit_refusal net node = showing UnitShape (node_name net node)
+
 -- the names of a chain, from its first to its last
 abbrev pub chain_text : List NodeDecl → List Name → List ℕ
 chain_text net xs = joined (codes " -> ") (name_text net) xs
+
+-- a name that forks, and the unit that it reaches
+abbrev pub fork_text : List NodeDecl → Name → ℕ → List ℕ
+fork_text net name unit = name_text net name ++ (codes " " ++ node_name net unit)
+
+-- the full names of units, in their order
+abbrev pub units_text : List NodeDecl → List ℕ → List ℕ
+units_text net units = joined (codes " ") (node_name net) units
 
 -- the refusal of a net by a rule on walks
 abbrev pub walk_refusal : List NodeDecl → Broken → Refused
 walk_refusal net is_wide = showing Wide (codes "1048576")
 walk_refusal net (has_loop cycle) = showing Loop (chain_text net cycle)
 walk_refusal net (is_deep path) = showing Deep (chain_text net path)
+walk_refusal net (has_fork name unit) = showing Fork (fork_text net name unit)
+walk_refusal net (has_chain units) = showing Chain (units_text net units)
 
 -- the first rule that a text breaks, with all that the rule carries: lines and limits, and nodes and names of a net
 pub data BrokenRule : Type 0 where
   of_text : TextFault → BrokenRule
   of_expansion : ExpansionFault → BrokenRule
   of_nodes : List NodeDecl → BrokenNode → BrokenRule
+  of_units : List NodeDecl → ℕ → BrokenRule
   of_walks : List NodeDecl → Broken → BrokenRule
 
 -- the refusal of a text by the rule that it breaks
@@ -98,6 +117,7 @@ abbrev pub refusal_of : BrokenRule → Refused
 refusal_of (of_text fault) = text_refusal fault
 refusal_of (of_expansion fault) = expand_refusal fault
 refusal_of (of_nodes net fault) = node_refusal net fault
+refusal_of (of_units net node) = unit_refusal net node
 refusal_of (of_walks net fault) = walk_refusal net fault
 
 -- the node that a broken rule names is one of so many
@@ -112,3 +132,5 @@ abbrev pub AreNodesWithin : ℕ → Broken → Type 0
 AreNodesWithin count is_wide = Unit {0}
 AreNodesWithin count (has_loop cycle) = IsTrue (names_exist count cycle)
 AreNodesWithin count (is_deep path) = IsTrue (names_exist count path)
+AreNodesWithin count (has_fork name unit) = (name.node < count) × (unit < count)
+AreNodesWithin count (has_chain units) = IsTrue (list_all (λ u. nat_lt u count) units)

@@ -5,6 +5,7 @@ use Rattle.dn_interval.specs.Listed.{Seen}
 use Rattle.dn_net.specs.declared.node.NodeDecl.{NodeDecl}
 use Rattle.dn_net.specs.Decode.{is_agent_at}
 use Rattle.dn_net.specs.Names.{resolved_names}
+use Rattle.dn_kind.specs.Kind.{Meaning}
 use Rattle.dn_flat.specs.Views.{view_rows}
 use Rattle.dn_module.specs.declared.command.Command.{Command}
 use Rattle.dn_module.specs.declared.command.Command.TheVariants.{Resolve, Lookup, View, Grant, Route, Revoke, Dump, Split, Absorb}
@@ -42,17 +43,17 @@ view_text net target = view_by net target.text target.node
 abbrev pub later_text : List ℕ → List ℕ
 later_text word = word ++ codes " refused: later\n"
 
--- the reply to a command
-abbrev pub reply : List NodeDecl → Command → List ℕ
-reply net (Resolve target a) = resolve_text net target a
-reply net (Lookup target a) = later_text (codes "lookup")
-reply net (View target) = view_text net target
-reply net (Grant id from target base size) = later_text (codes "grant")
-reply net (Route id from line target) = later_text (codes "route")
-reply net (Revoke id) = later_text (codes "revoke")
-reply net Dump = later_text (codes "dump")
-reply net Split = later_text (codes "split")
-reply net (Absorb target) = later_text (codes "absorb")
+-- the reply to a command over a net whose units are of these kinds
+abbrev pub reply : List Meaning → List NodeDecl → Command → List ℕ
+reply kinds net (Resolve target a) = resolve_text net target a
+reply kinds net (Lookup target a) = later_text (codes "lookup")
+reply kinds net (View target) = view_text net target
+reply kinds net (Grant id from target base size) = later_text (codes "grant")
+reply kinds net (Route id from line target) = later_text (codes "route")
+reply kinds net (Revoke id) = later_text (codes "revoke")
+reply kinds net Dump = later_text (codes "dump")
+reply kinds net Split = later_text (codes "split")
+reply kinds net (Absorb target) = later_text (codes "absorb")
 
 -- what commands are answered by, and what they may change: the net, which none changes so far
 pub record State : Type 0 where
@@ -64,15 +65,15 @@ pub record Turn : Type 0 where
   pub next : State
 
 -- the turn of a command in a state
-abbrev pub turn : State → Command → Turn
-turn s c = record { reply = reply s.net c; next = s }
+abbrev pub turn : List Meaning → State → Command → Turn
+turn kinds s c = record { reply = reply kinds s.net c; next = s }
 
 -- the replies to commands in order, each in the state that those before it left
-abbrev pub replies : State → List Command → List (List ℕ)
-replies s [] = []
-replies s (c ∷ cs) = (turn s c).reply ∷ replies (turn s c).next cs
+abbrev pub replies : List Meaning → State → List Command → List (List ℕ)
+replies kinds s [] = []
+replies kinds s (c ∷ cs) = (turn kinds s c).reply ∷ replies kinds (turn kinds s c).next cs
 
 -- the state that commands in order leave
-abbrev pub state_after : State → List Command → State
-state_after s [] = s
-state_after s (c ∷ cs) = state_after (turn s c).next cs
+abbrev pub state_after : List Meaning → State → List Command → State
+state_after kinds s [] = s
+state_after kinds s (c ∷ cs) = state_after kinds (turn kinds s c).next cs

@@ -1,8 +1,10 @@
 //! From a text to its platform, or to the rule that it breaks.
 
-ghost use Rattle.std.specs.Prelude.{◌≡◌, IfOk, IfSome, IsTrue, Result, Ok, Err, length};
-ghost use Rattle.std.specs.List.{list_all};
+ghost use Rattle.std.specs.Prelude.{◌≡◌, ◌≤◌, IfOk, IfSome, IsTrue, None, Result, Ok, Err, length, map};
+ghost use Rattle.std.specs.List.{All, list_all};
 ghost use Rattle.dn_net.specs.Decode.{is_closed};
+ghost use Rattle.dn_kind.specs.Kind.{IsLawful};
+ghost use Rattle.dn_kind.specs.Units.{has_kind, shape_fault};
 ghost use Rattle.dn_module.specs.Commands.{names_within};
 ghost use Rattle.dn_module.specs.Finish.{outcome_view};
 ghost use Rattle.dn_tool.specs.Platform.{IsPlatform};
@@ -13,6 +15,8 @@ ghost use Rattle.dn_tool.specs.Refused.{Refused};
 
 use crate::refusal;
 use crate::refusal::Refusal;
+use dn_kind::kinds::Kinds;
+use dn_kind::units;
 use dn_module::command::Commands;
 use dn_module::expand;
 use dn_module::expand::Expanded;
@@ -64,31 +68,50 @@ impl Platform {
     }
 }
 
-/// Compiles a text. It is refused exactly where it breaks a rule.
-pub fn compile(alloc: Global, text: &[u8]) -> Result<Platform, CompileFault>
-    ensures { Answers platform_view compile_fault_view result
-        (with_refusal (compilation text.now)) }
+/// Compiles a text, where these kinds of units are known. It is refused exactly where it breaks a
+/// rule.
+pub fn compile(alloc: Global, text: &[u8], kinds: &Kinds) -> Result<Platform, CompileFault>
+    requires few_kinds { length kinds.now.list.items ≤ 255 }
+    requires lawful { All (λ k. IsLawful (meaning k)) kinds.now.list.items }
+    ensures answer { Answers platform_view compile_fault_view result
+        (with_refusal (compilation (map (λ k. meaning k) kinds.now.list.items) text.now)) }
+    ensures shaped { IfOk result (λ p.
+        shape_fault (map (λ k. meaning k) kinds.now.list.items) p.net ≡ None) }
 {
     let tree = match reader::read(alloc, text) {
         Ok(tree) => tree,
         Err(fault) => return Err(fault_of(refusal::text_refusal(alloc, fault))),
     };
-    match expand::expand(alloc, &tree) {
-        Ok(expanded) => platform_of(alloc, expanded),
+    match expand::expand(alloc, &tree, kinds) {
+        Ok(expanded) => platform_of(alloc, expanded, kinds),
         Err(fault) => Err(fault_of(refusal::expand_refusal(alloc, fault))),
     }
 }
 
-/// The platform of a net and its commands, where the net keeps the node rules and those on walks.
-fn platform_of(alloc: Global, expanded: Expanded) -> Result<Platform, CompileFault>
+/// The platform of a net and its commands, where the net keeps the node rules, the rule on the shape
+/// of units and the rules on walks.
+fn platform_of(
+    alloc: Global,
+    expanded: Expanded,
+    kinds: &Kinds,
+) -> Result<Platform, CompileFault>
+    requires lawful { All (λ k. IsLawful (meaning k)) kinds.now.list.items }
     requires closed { IsTrue (is_closed expanded.net) }
     requires known { IsTrue (list_all (names_within (length expanded.net)) expanded.commands) }
-    ensures { Answers platform_view compile_fault_view result
-        (with_refusal (expansion_compilation (Ok (outcome_view expanded)))) }
+    requires known_kinds { IsTrue
+        (list_all (λ n. has_kind (length kinds.now.list.items) n.unit) expanded.net) }
+    ensures answer { Answers platform_view compile_fault_view result (with_refusal
+        (expansion_compilation (map (λ k. meaning k) kinds.now.list.items)
+            (Ok (outcome_view expanded)))) }
+    ensures shaped { IfOk result (λ p.
+        shape_fault (map (λ k. meaning k) kinds.now.list.items) p.net ≡ None) }
 {
     let Expanded { net, commands } = expanded;
     if let Err(fault) = net.check_nodes(alloc) {
         return Err(fault_of(refusal::node_refusal(alloc, &net, fault)));
+    }
+    if let Err(fault) = units::check_units(&net, kinds) {
+        return Err(fault_of(refusal::unit_refusal(alloc, &net, fault)));
     }
     match walks::walks(alloc, &net) {
         Ok(walks) => Ok(Platform {

@@ -1,15 +1,18 @@
 //! The refusal of a text: the rule that it breaks, and the line that says so.
 
-ghost use Rattle.std.specs.Prelude.{◌≡◌, ◌<◌, ◌++◌, length, option_map, Some, IfOk, IfSome, OnOk, IsTrue};
+ghost use Rattle.std.specs.Prelude.{◌≡◌, ◌<◌, ◌++◌, length, nat_lt, option_map, Some, IfOk, IfSome, OnOk, IsTrue};
+ghost use Rattle.std.specs.List.{list_all};
 ghost use Rattle.dn_parse.specs.Faults.{parse_fault_view};
 ghost use Rattle.dn_module.specs.Faults.{expand_fault_view};
 ghost use Rattle.std.specs.String.{string_bytes};
 ghost use Rattle.dn_net.specs.Rules.{node_fault_view};
+ghost use Rattle.dn_kind.specs.Units.{unit_fault_view};
 ghost use Rattle.dn_walk.specs.Rows.{walk_fault_view};
 ghost use Rattle.dn_print.specs.Names.{name_text, names_exist};
-ghost use Rattle.dn_tool.specs.Refused.{rule_name, by_text, by_line, by_limit, showing, text_refusal, expand_refusal, node_refusal, walk_refusal, chain_text, IsNodeWithin, AreNodesWithin};
+ghost use Rattle.dn_tool.specs.Refused.{rule_name, by_text, by_line, by_limit, showing, text_refusal, expand_refusal, node_refusal, unit_refusal, walk_refusal, chain_text, fork_text, units_text, IsNodeWithin, AreNodesWithin};
 
 use dn_base::text::Text;
+use dn_kind::units::UnitFault;
 use dn_module::fault::ExpandFault;
 use dn_net::net::Net;
 use dn_net::node::Name;
@@ -51,12 +54,18 @@ pub enum Rule {
     Repeat,
     /// A `vectors` node has a map, an `over` or more than 4,096 addresses.
     VectorSpace,
+    /// A unit has a shape that no unit may have, or that its kind does not fit.
+    UnitShape,
     /// There are more than 1,048,576 live walks.
     Wide,
     /// An address comes back to itself within 64 steps.
     Loop,
     /// An address can be followed for 65 steps.
     Deep,
+    /// A name with two or more destinations reaches a unit.
+    Fork,
+    /// Four units stand in a row, or a row of units has more than 1,048,576 ways through its slots.
+    Chain,
 }
 
 impl Rule {
@@ -79,9 +88,12 @@ impl Rule {
             Rule::Overlap => "Overlap",
             Rule::Repeat => "Repeat",
             Rule::VectorSpace => "VectorSpace",
+            Rule::UnitShape => "UnitShape",
             Rule::Wide => "Wide",
             Rule::Loop => "Loop",
             Rule::Deep => "Deep",
+            Rule::Fork => "Fork",
+            Rule::Chain => "Chain",
         }
     }
 }
@@ -130,7 +142,7 @@ impl Refusal {
         Ok(Refusal { rule, text })
     }
 
-    /// The refusal whose line shows this behind the rule: a node, a name, the names of a chain, or a limit.
+    /// The refusal whose line shows this behind the rule: nodes, names or a limit.
     pub fn showing(alloc: Global, rule: Rule, what: &str) -> Result<Refusal, AllocError>
         ensures { IfOk result (λ r. r ≡ showing rule what.now) }
     {
@@ -209,6 +221,17 @@ fn overlap_refusal(alloc: Global, net: &Net, name: Name) -> Result<Refusal, Allo
     Refusal::showing(alloc, Rule::Overlap, text.as_str())
 }
 
+/// The refusal of a net by the rule on the shape of units. Want of memory is handed on.
+pub fn unit_refusal(alloc: Global, net: &Net, fault: UnitFault) -> Result<Refusal, AllocError>
+    requires { IfSome (unit_fault_view fault) (λ node. node < length net.now) }
+    ensures { IfOk result (λ r.
+        option_map (unit_refusal net.now) (unit_fault_view fault) ≡ Some r) }
+{
+    match fault {
+        UnitFault::UnitShape { node } => Refusal::showing(alloc, Rule::UnitShape, net.text(node)),
+    }
+}
+
 /// The refusal of a net by a rule on walks. Want of memory is handed on.
 pub fn walk_refusal(alloc: Global, net: &Net, fault: &WalkFault) -> Result<Refusal, AllocError>
     requires { IfSome (walk_fault_view fault.now) (AreNodesWithin (length net.now)) }
@@ -219,6 +242,8 @@ pub fn walk_refusal(alloc: Global, net: &Net, fault: &WalkFault) -> Result<Refus
         WalkFault::Wide => Refusal::showing(alloc, Rule::Wide, "1048576"),
         WalkFault::Loop { cycle } => chain_refusal(alloc, Rule::Loop, net, cycle.as_slice()),
         WalkFault::Deep { path } => chain_refusal(alloc, Rule::Deep, net, path.as_slice()),
+        WalkFault::Fork { name, unit } => fork_refusal(alloc, net, *name, *unit),
+        WalkFault::Chain { units } => units_refusal(alloc, net, units.as_slice()),
         WalkFault::OutOfMemory => Err(AllocError),
     }
 }
@@ -251,6 +276,47 @@ fn push_chain(out: &mut String, net: &Net, names: &[Name]) -> Result<(), AllocEr
     for name in rest {
         out.push_str(" -> ")?;
         names::push_name(out, net, *name)?;
+    }
+    Ok(())
+}
+
+/// The refusal of a fork, whose line has the name that forks and the unit that it reaches.
+fn fork_refusal(alloc: Global, net: &Net, name: Name, unit: u16) -> Result<Refusal, AllocError>
+    requires name { name.node < length net.now }
+    requires unit { unit < length net.now }
+    ensures { IfOk result (λ r. r ≡ showing Rule.Fork (fork_text net.now name unit)) }
+{
+    let mut text = String::new(alloc);
+    names::push_name(&mut text, net, name)?;
+    text.push_str(" ")?;
+    text.push_str(net.text(unit))?;
+    Refusal::showing(alloc, Rule::Fork, text.as_str())
+}
+
+/// The refusal of a row of units, whose line has their full names.
+fn units_refusal(alloc: Global, net: &Net, units: &[u16]) -> Result<Refusal, AllocError>
+    requires { IsTrue (list_all (λ u. nat_lt u (length net.now)) units.now) }
+    ensures { IfOk result (λ r. r ≡ showing Rule.Chain (units_text net.now units.now)) }
+{
+    let mut text = String::new(alloc);
+    push_units(&mut text, net, units)?;
+    Refusal::showing(alloc, Rule::Chain, text.as_str())
+}
+
+/// Appends the full names with a space between each two. For want of memory a part may have been
+/// appended.
+fn push_units(out: &mut String, net: &Net, units: &[u16]) -> Result<(), AllocError>
+    requires { IsTrue (list_all (λ u. nat_lt u (length net.now)) units.now) }
+    ensures { OnOk result (string_bytes out.new ≡
+        string_bytes out.old ++ units_text net.now units.now) }
+{
+    let [first, rest @ ..] = units else {
+        return Ok(());
+    };
+    out.push_str(net.text(*first))?;
+    for unit in rest {
+        out.push_str(" ")?;
+        out.push_str(net.text(*unit))?;
     }
     Ok(())
 }

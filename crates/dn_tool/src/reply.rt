@@ -1,6 +1,6 @@
 //! The reply to each command, as it is printed.
 
-ghost use Rattle.std.specs.Prelude.{◌≡◌, ◌<◌, length, slice_get, IfOk, IsTrue};
+ghost use Rattle.std.specs.Prelude.{◌≡◌, ◌<◌, length, map, slice_get, IfOk, IsTrue};
 ghost use Rattle.std.specs.String.{string_bytes};
 ghost use Rattle.dn_net.specs.Decode.{is_agent_at, over_within};
 ghost use Rattle.dn_module.specs.Commands.{names_within};
@@ -10,6 +10,7 @@ ghost use Rattle.dn_tool.specs.Reply.{reply, target_text, resolve_text, viewed_t
 use crate::compile::Platform;
 use crate::resolve;
 use dn_flat::flat;
+use dn_kind::kinds::Kinds;
 use dn_module::command::{Command, Target};
 use dn_net::net::Net;
 use dn_net::node::{Name, Role};
@@ -17,9 +18,15 @@ use dn_print::{names, rows};
 use std::alloc::{AllocError, Global};
 
 /// The reply to a command: a line, and below that of `view` a line for each row. `Err` is want of memory.
-pub fn reply(alloc: Global, platform: &Platform, command: &Command) -> Result<String, AllocError>
+pub fn reply(
+    alloc: Global,
+    _kinds: &Kinds,
+    platform: &Platform,
+    command: &Command,
+) -> Result<String, AllocError>
     requires { IsTrue (names_within (length platform.now.net) command.now) }
-    ensures { IfOk result (λ s. string_bytes s ≡ reply platform.now.net command.now) }
+    ensures { IfOk result (λ s. string_bytes s ≡
+        reply (map (λ k. meaning k) _kinds.now.list.items) platform.now.net command.now) }
 {
     match command {
         Command::Resolve(target, addr) => resolve_reply(alloc, platform, target, *addr),

@@ -1,8 +1,11 @@
 //! The top call: from the words and the bytes of a source to those of a sink, and a status.
 
-ghost use Rattle.std.specs.Prelude.{◌≡◌, ◌≢◌, ℕ, List, ◌==◌, ◌-◌, ◌<◌, ◌⊎◌, ◌∷◌, ◌++◌, [], true, false, codes, length, not, IfOk, None, take, is_ok};
+ghost use Rattle.std.specs.Prelude.{◌≡◌, ◌≢◌, ℕ, List, ◌==◌, ◌-◌, ◌<◌, ◌≤◌, ◌⊎◌, ◌∷◌, ◌++◌, [], true, false, codes, length, map, not, IfOk, None, take, is_ok};
+ghost use Rattle.std.specs.List.{All};
 ghost use Rattle.std.specs.Option.{IfSome};
 ghost use Rattle.dn_base.specs.Outside.{AreWritten, AtEnd, IsCounted, IsWritten, Taken, TakenAtMost, input_limit};
+ghost use Rattle.dn_kind.specs.Kind.{IsLawful};
+ghost use Rattle.dn_kind.specs.Units.{shape_fault};
 ghost use Rattle.dn_tool.specs.Answer.{IsInput, answer, is_free, reads, task_of, task_pieces, text_answer, usage};
 ghost use Rattle.dn_tool.specs.Halt.{ending_status, is_write_halt};
 ghost use Rattle.dn_tool.specs.declared.run.Halt.TheVariants.{NoMemory as no_memory};
@@ -17,6 +20,7 @@ use dn_base::sink::{Sink, WriteFault};
 use dn_base::source::Source;
 use dn_base::whole;
 use dn_base::whole::InputFault;
+use dn_kind::kinds::Kinds;
 use std::alloc::{AllocError, Global};
 
 /// The input was read to its end and every command was answered.
@@ -63,17 +67,27 @@ fn status_of(ended: Result<u8, Halt>) -> u8
 /// Answers the words: reads the source's text, writes what it comes to, and gives the status.
 ///
 /// The forms of words are `run` and `check`, and both read. Nothing is read where the words are of
-/// no form.
-pub fn run<S: Source, K: Sink>(alloc: Global, words: &Words, source: &mut S, sink: &mut K) -> u8
+/// no form. The units of the text are of these kinds, at most 255.
+pub fn run<S: Source, K: Sink>(
+    alloc: Global,
+    words: &Words,
+    kinds: &Kinds,
+    source: &mut S,
+    sink: &mut K,
+) -> u8
+    requires few_kinds { length kinds.now.list.items ≤ 255 }
+    requires lawful { All (λ k. IsLawful (meaning k)) kinds.now.list.items }
     // A status that is not free is that of the answer: to the text that the source tells where the
     // words read it, and else to any text.
     ensures exact { (text : List ℕ) → IsInput words.now (S.left source.old) text →
-        is_free result ≡ false → result ≡ (answer words.now text).status }
+        is_free result ≡ false →
+        result ≡ (answer words.now (map (λ k. meaning k) kinds.now.list.items) text).status }
     // At such a status exactly the answer's output was written. At any other so many of its pieces
     // were written whole, and then a prefix of the next; at status 3 not all of them.
     ensures written { (text : List ℕ) → IsInput words.now (S.left source.old) text →
         AreWritten (K.written sink.old) (K.written sink.new)
-        (not (is_free result)) (result == 3) (answer words.now text).pieces }
+        (not (is_free result)) (result == 3)
+        (answer words.now (map (λ k. meaning k) kinds.now.list.items) text).pieces }
     ensures nothing_written { result ≡ 2 → K.written sink.new ≡ K.written sink.old }
     ensures statuses { (result < 5) ⊎ (result ≡ 7) }
     ensures wrong_words { result ≡ 1 → task_of words.now ≡ None }
@@ -103,7 +117,7 @@ pub fn run<S: Source, K: Sink>(alloc: Global, words: &Words, source: &mut S, sin
         Err(InputFault::Failed) => return READ_FAULT,
         Err(InputFault::OutOfMemory) => return NO_MEMORY,
     };
-    status_of(answer_text(alloc, task, &text, sink))
+    status_of(answer_text(alloc, task, kinds, &text, sink))
 }
 
 /// Writes the line that says how the program is used.
@@ -119,17 +133,27 @@ fn refuse_words<K: Sink>(sink: &mut K) -> Result<u8, Halt>
 }
 
 /// Compiles a text, writes what it comes to, and answers the status of that.
-fn answer_text<K: Sink>(alloc: Global, task: Task, text: &[u8], sink: &mut K) -> Result<u8, Halt>
-    ensures status { IfOk result (λ s. s ≡ (text_answer task text.now).status) }
+fn answer_text<K: Sink>(
+    alloc: Global,
+    task: Task,
+    kinds: &Kinds,
+    text: &[u8],
+    sink: &mut K,
+) -> Result<u8, Halt>
+    requires few_kinds { length kinds.now.list.items ≤ 255 }
+    requires lawful { All (λ k. IsLawful (meaning k)) kinds.now.list.items }
+    ensures status { IfOk result (λ s. s ≡
+        (text_answer task (map (λ k. meaning k) kinds.now.list.items) text.now).status) }
     ensures which { IfOk result (λ s. (s ≡ 0) ⊎ (s ≡ 4)) }
     ensures written { AreWritten (K.written sink.old) (K.written sink.new)
-        (is_ok result) (is_write_halt result) (text_answer task text.now).pieces }
+        (is_ok result) (is_write_halt result)
+        (text_answer task (map (λ k. meaning k) kinds.now.list.items) text.now).pieces }
     ensures counted { IsCounted (K.faults sink.old) (K.faults sink.new) (is_write_halt result) }
     ensures short { IfOk result (λ s. s ≡ 0 → length text.now < input_limit) }
 {
-    match compile::compile(alloc, text) {
+    match compile::compile(alloc, text, kinds) {
         Ok(platform) => {
-            answer_task(alloc, task, &platform, sink)?;
+            answer_task(alloc, task, kinds, &platform, sink)?;
             Ok(DONE)
         }
         Err(CompileFault::Refused(refusal)) => {
@@ -144,28 +168,42 @@ fn answer_text<K: Sink>(alloc: Global, task: Task, text: &[u8], sink: &mut K) ->
 fn answer_task<K: Sink>(
     alloc: Global,
     task: Task,
+    kinds: &Kinds,
     platform: &Platform,
     sink: &mut K,
 ) -> Result<(), Halt>
+    requires lawful { All (λ k. IsLawful (meaning k)) kinds.now.list.items }
+    requires shaped { shape_fault (map (λ k. meaning k) kinds.now.list.items) platform.now.net
+        ≡ None }
     ensures written { AreWritten (K.written sink.old) (K.written sink.new)
         (is_ok result) (is_write_halt result)
-        (task_pieces task platform.now.net platform.now.commands) }
+        (task_pieces task (map (λ k. meaning k) kinds.now.list.items)
+            platform.now.net platform.now.commands) }
     ensures counted { IsCounted (K.faults sink.old) (K.faults sink.new) (is_write_halt result) }
 {
     match task {
-        Task::Run => answer_all(alloc, platform, sink),
-        Task::Check => print_net(alloc, platform, sink),
+        Task::Run => answer_all(alloc, kinds, platform, sink),
+        Task::Check => print_net(alloc, kinds, platform, sink),
     }
 }
 
 /// Writes the net, a statement for each node.
 #[tactic(auto, using(dn_base::proofs::Told::pieces_one, dn_base::proofs::Told::pieces_none))]
-fn print_net<K: Sink>(alloc: Global, platform: &Platform, sink: &mut K) -> Result<(), Halt>
+fn print_net<K: Sink>(
+    alloc: Global,
+    kinds: &Kinds,
+    platform: &Platform,
+    sink: &mut K,
+) -> Result<(), Halt>
+    requires lawful { All (λ k. IsLawful (meaning k)) kinds.now.list.items }
+    requires shaped { shape_fault (map (λ k. meaning k) kinds.now.list.items) platform.now.net
+        ≡ None }
     ensures written { AreWritten (K.written sink.old) (K.written sink.new)
-        (is_ok result) (is_write_halt result) (net_text [] platform.now.net ∷ []) }
+        (is_ok result) (is_write_halt result)
+        (net_text (map (λ k. meaning k) kinds.now.list.items) platform.now.net ∷ []) }
     ensures counted { IsCounted (K.faults sink.old) (K.faults sink.new) (is_write_halt result) }
 {
-    let text = dn_print::net::net_text(alloc, &platform.net)?;
+    let text = dn_print::net::net_text(alloc, &platform.net, kinds)?;
     write_output(sink, text.as_slice())
 }
 
@@ -182,14 +220,20 @@ fn refuse<K: Sink>(alloc: Global, refusal: &Refusal, sink: &mut K) -> Result<(),
 }
 
 /// Answers each command in order; each reply is written before the next command begins.
-fn answer_all<K: Sink>(alloc: Global, platform: &Platform, sink: &mut K) -> Result<(), Halt>
+fn answer_all<K: Sink>(
+    alloc: Global,
+    kinds: &Kinds,
+    platform: &Platform,
+    sink: &mut K,
+) -> Result<(), Halt>
     ensures written { AreWritten (K.written sink.old) (K.written sink.new)
         (is_ok result) (is_write_halt result)
-        (replies (record { net = platform.now.net }) platform.now.commands) }
+        (replies (map (λ k. meaning k) kinds.now.list.items)
+            (record { net = platform.now.net }) platform.now.commands) }
     ensures counted { IsCounted (K.faults sink.old) (K.faults sink.new) (is_write_halt result) }
 {
     for command in platform.commands.as_slice() {
-        let line = reply::reply(alloc, platform, command)?;
+        let line = reply::reply(alloc, kinds, platform, command)?;
         write_output(sink, line.as_bytes())?;
     }
     Ok(())

@@ -1,4 +1,4 @@
-use Rattle.std.proofs.Common.{false, take}
+use Rattle.std.proofs.Common.{false, map, take}
 use Rattle.std.specs.List.{concat}
 use Rattle.dn_base.specs.Outside.{Added, IsCounted}
 use Rattle.dn_tool.specs.Reply.{replies}
@@ -7,7 +7,8 @@ use Rattle.dn_tool.proofs.run.answer_all.Given as goal
 abbrev pub invariant-loop-command : goal.invariant-loop-command
 invariant-loop-command g l =
     let sink = g.K.Sink in
+    let kinds = map (λ k. (goal.UnitKind-dyn g (k.vtable, k.value)).meaning k.value) l.kinds.list.items in
     record {
-      so_far : Added (sink.written l.fn.sink) (sink.written l.sink) (concat (replies (record { net = l.platform.net }) (take l.command-index l.platform.commands)));
+      so_far : Added (sink.written l.fn.sink) (sink.written l.sink) (concat (replies kinds (record { net = l.platform.net }) (take l.command-index l.platform.commands)));
       counted : IsCounted (sink.faults l.fn.sink) (sink.faults l.sink) false;
     }
