@@ -1,5 +1,6 @@
 -- Kinds of units: shapes, records, and what a kind means.
-use Rattle.std.specs.Prelude.{◌≡◌, ℕ, ◌-◌, ◌%◌, ◌^◌, ◌≤◌, Bool, ◌&&◌, nat_le, nat_lt, List, [], ◌∷◌, length, Option, Some, None, IsTrue}
+use Rattle.std.specs.Prelude.{◌≡◌, ℕ, ◌-◌, ◌%◌, ◌^◌, ◌≤◌, Bool, ◌&&◌, nat_le, nat_lt, List, [], ◌∷◌, length, position, Option, Some, None, IsTrue}
+use Rattle.std.specs.Str.{bytes_eq}
 use Rattle.dn_kind.specs.declared.shape.Shape.{Shape}
 use Rattle.dn_kind.specs.declared.unit_kind.Record.{Record}
 use Rattle.dn_kind.specs.Rights.{are_rights}
@@ -24,6 +25,10 @@ pub record Meaning : Type 0 where
   pub fits : Shape → Bool
   pub pack : Shape → Record → List ℕ
   pub unpack : List ℕ → Option Record
+
+-- the place of the first kind of a name
+abbrev pub kind_place : List Meaning → List ℕ → Option ℕ
+kind_place kinds name = position (λ k. bytes_eq name k.name) kinds
 
 -- a kind may be asked for the words of the record in the shape
 pub record IsPackable (kind : Meaning) (shape : Shape) (r : Record) : Type 0 where

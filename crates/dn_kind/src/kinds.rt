@@ -1,8 +1,8 @@
 //! The list of the kinds that a program knows.
 
-ghost use Rattle.std.specs.Prelude.{◌≡◌, ◌<◌, ◌++◌, [], ◌∷◌, length, slice_get, map, Some, OnOk, OnErr};
+ghost use Rattle.std.specs.Prelude.{◌≡◌, ◌<◌, ◌++◌, [], ◌∷◌, length, slice_get, map, Some, IfSome, OnOk, OnErr};
 ghost use Rattle.std.specs.List.{All};
-ghost use Rattle.dn_kind.specs.Kind.{IsLawful};
+ghost use Rattle.dn_kind.specs.Kind.{IsLawful, kind_place};
 
 use crate::unit_kind::UnitKind;
 use std::alloc::{AllocError, Global};
@@ -42,6 +42,19 @@ impl Kinds {
         ensures { result ≡ length self.now.list.items }
     {
         self.list.len()
+    }
+
+    /// The place of the first kind of a name. `None` exactly where there is none.
+    pub fn find(&self, name: &str) -> Option<usize>
+        ensures place { result ≡ kind_place (map (λ k. meaning k) self.now.list.items) name.now }
+        ensures there { IfSome result (λ number. number < length self.now.list.items) }
+    {
+        for number in 0..self.list.len() {
+            if self.list[number].name() == name {
+                return Some(number);
+            }
+        }
+        None
     }
 
     /// The kind of a number.

@@ -1,22 +1,27 @@
 -- The nodes that declarations make, with the values of their expressions, and with the names of the nodes to which they refer.
+-- Of a unit the kind is known by its place in a list of kinds.
 use Rattle.std.specs.Prelude.{ℕ, ◌+◌, Bool, true, false, if◌then◌else◌, ◌&&◌, nat_lt, List, [], ◌∷◌, ◌++◌, map, length, sum, count_by, position, Option, Some, None, option_map, Result, Ok, Err}
 use Rattle.std.specs.List.{list_all, list_any, position_or_len}
 use Rattle.std.specs.Option.{is_some}
 use Rattle.std.specs.Str.{bytes_eq}
-use Rattle.dn_parse.specs.Tree.{Part, Block as BlockOf, Dest as DestOf, Entry as EntryOf, Role as RoleOf, plain_role, agent_role, vectors_role, Spec, Declaration, node, unit}
+use Rattle.dn_parse.specs.Tree.{Part, Block as BlockOf, Dest as DestOf, Entry as EntryOf, Role as RoleOf, plain_role, agent_role, vectors_role, Expression, Spec, Declaration, node, unit}
 use Rattle.dn_net.specs.declared.node.Block.{Block}
 use Rattle.dn_net.specs.declared.node.Dest.{Dest}
 use Rattle.dn_net.specs.declared.node.Entry.{Entry}
 use Rattle.dn_net.specs.declared.node.NodeDecl.{NodeDecl}
 use Rattle.dn_net.specs.declared.node.Role.{Role}
-use Rattle.dn_net.specs.declared.node.Role.TheVariants.{Plain, Agent, Vectors}
+use Rattle.dn_net.specs.declared.node.Role.TheVariants.{Plain, Agent, Vectors, Unit as UnitRole}
+use Rattle.dn_net.specs.declared.node.Unit.{Unit as UnitPart}
+use Rattle.dn_net.specs.Decode.{is_agent, is_unit}
+use Rattle.dn_kind.specs.Kind.{Meaning, kind_place}
 use Rattle.dn_module.specs.declared.draft.Draft.{Draft}
 use Rattle.dn_module.specs.declared.draft.DraftEntry.{DraftEntry}
 use Rattle.dn_module.specs.declared.draft.DraftDest.{DraftDest}
-use Rattle.dn_module.specs.Values.{◌>>=◌, Flaw, each, value, value_or, full_name, full_name_or_none}
+use Rattle.dn_module.specs.declared.draft.DraftUnit.{DraftUnit}
+use Rattle.dn_module.specs.Values.{◌>>=◌, Flaw, unknown_word, each, value, value_or, value_within, full_name, full_name_or_none}
 use Rattle.dn_module.specs.Faults.{flaw_fault, ExpansionFault, is_duplicate, is_unknown, passes_limit}
 
--- the flaw of an expression is a fault of its statement
+-- a flaw is a fault of its statement
 abbrev pub at_line : {A : Type 0} → ℕ → Result A Flaw → Result A ExpansionFault
 at_line line (Ok a) = Ok a
 at_line line (Err f) = Err (flaw_fault line f)
@@ -49,24 +54,57 @@ role_of agent_role = Agent
 role_of vectors_role = Vectors
 
 -- a node, its expressions and the indices of its references taken from left to right
-abbrev pub draft_of : ℕ → RoleOf → List Part → Spec → Result Draft Flaw
-draft_of line role name spec = do
+abbrev pub node_draft : ℕ → RoleOf → List Part → Spec → Result Draft Flaw
+node_draft line role name spec = do
   text ← full_name name
   accepts ← each block_of spec.accepts
   entries ← each entry_of spec.entries
   over ← full_name_or_none spec.over
-  Ok (record { line = line; role = role_of role; name = text; accepts = accepts; entries = entries; over = over })
+  Ok (record {
+    line = line;
+    role = role_of role;
+    name = text;
+    accepts = accepts;
+    entries = entries;
+    over = over;
+    unit = None;
+  })
 
--- no kind of unit exists so far, and the kind stands behind the name
-abbrev pub unit_of : ℕ → List Part → Result Draft ExpansionFault
-unit_of line name = do
-  text ← at_line line (full_name name)
-  Err (is_unknown line)
+-- the number of a kind, where it is there
+abbrev pub known_kind : Option ℕ → Result ℕ Flaw
+known_kind None = Err unknown_word
+known_kind (Some number) = Ok number
+
+-- A unit: its name, its kind, its numbers and its ports taken from left to right. Its page and its
+-- reach are at most 255, and its slots at most 2^32 - 1.
+abbrev pub unit_draft : List Meaning → ℕ → List Part → List ℕ → Expression → Expression → Expression →
+    List (List Part) → Result Draft Flaw
+unit_draft kinds line name kind page slots reach ports = do
+  text ← full_name name
+  number ← known_kind (kind_place kinds kind)
+  p ← value_within 255 page
+  s ← value_within 4294967295 slots
+  r ← value_within 255 reach
+  texts ← each full_name ports
+  Ok (record {
+    line = line;
+    role = UnitRole;
+    name = text;
+    accepts = [];
+    entries = [];
+    over = None;
+    unit = Some (record { kind = number; page = p; slots = s; reach = r; ports = texts });
+  })
 
 -- the draft of a declaration
-abbrev pub declared_by : ℕ → Declaration → Result Draft ExpansionFault
-declared_by line (node role name spec) = at_line line (draft_of line role name spec)
-declared_by line (unit name kind page slots reach ports) = unit_of line name
+abbrev pub draft_of : List Meaning → ℕ → Declaration → Result Draft Flaw
+draft_of kinds line (node role name spec) = node_draft line role name spec
+draft_of kinds line (unit name kind page slots reach ports) =
+    unit_draft kinds line name kind page slots reach ports
+
+-- the draft of a declaration, or the fault of its statement
+abbrev pub declared_by : List Meaning → ℕ → Declaration → Result Draft ExpansionFault
+declared_by kinds line d = at_line line (draft_of kinds line d)
 
 -- the names of the nodes, in order
 abbrev pub names : List Draft → List (List ℕ)
@@ -76,14 +114,13 @@ names drafts = map (λ d. d.name) drafts
 abbrev pub is_known : List (List ℕ) → List ℕ → Bool
 is_known known text = list_any (bytes_eq text) known
 
--- a node is an agent
-abbrev pub is_agent : Role → Bool
-is_agent Agent = true
-is_agent _ = false
-
 -- how many are agents
 abbrev pub agents_of : List Draft → ℕ
 agents_of drafts = count_by (λ d. is_agent d.role) drafts
+
+-- how many are units
+abbrev pub units_of : List Draft → ℕ
+units_of drafts = count_by (λ d. is_unit d.role) drafts
 
 -- an accept block, a map entry and an `over` are one part each
 abbrev pub parts_of : Draft → ℕ
@@ -93,12 +130,13 @@ parts_of d = length d.accepts + (length d.entries + (if is_some d.over then 1 el
 abbrev pub all_parts : List Draft → ℕ
 all_parts drafts = sum (map parts_of drafts)
 
--- the limit that one more node passes: nodes, then agents, then parts
+-- the limit that one more node passes: nodes, then agents, then units, then parts
 abbrev pub limit_passed : List Draft → Draft → Option ℕ
 limit_passed drafts d =
     if nat_lt 1024 (length drafts + 1) then Some 1024
     else (if is_agent d.role && nat_lt 64 (agents_of drafts + 1) then Some 64
-    else (if nat_lt 16384 (all_parts drafts + parts_of d) then Some 16384 else None))
+    else (if is_unit d.role && nat_lt 64 (units_of drafts + 1) then Some 64
+    else (if nat_lt 16384 (all_parts drafts + parts_of d) then Some 16384 else None)))
 
 -- one draft more, or the limit that it passes
 abbrev pub by_limit : Option ℕ → List Draft → Draft → Result (List Draft) ExpansionFault
@@ -122,11 +160,18 @@ abbrev pub over_known : List (List ℕ) → Option (List ℕ) → Bool
 over_known known None = true
 over_known known (Some text) = is_known known text
 
+-- each port of a unit is there
+abbrev pub ports_known : List (List ℕ) → Option DraftUnit → Bool
+ports_known known None = true
+ports_known known (Some u) = list_all (is_known known) u.ports
+
 -- each node to which a draft refers is there
 abbrev pub refers_to_known : List (List ℕ) → Draft → Bool
-refers_to_known known d = list_all (λ e. dests_known known e.dests) d.entries && over_known known d.over
+refers_to_known known d =
+    list_all (λ e. dests_known known e.dests) d.entries
+    && (over_known known d.over && ports_known known d.unit)
 
--- the node of a draft, with the numbers of the nodes to which it refers
+-- the number of the node with a full name
 abbrev pub number_of : List (List ℕ) → List ℕ → ℕ
 number_of known text = position_or_len (bytes_eq text) known
 
@@ -138,6 +183,16 @@ dest_in known d = record { node = number_of known d.to; addr = d.addr }
 abbrev pub entry_in : List (List ℕ) → DraftEntry → Entry
 entry_in known e = record { block = e.block; dests = map (dest_in known) e.dests }
 
+-- a unit, by the numbers of its ports
+abbrev pub unit_in : List (List ℕ) → DraftUnit → UnitPart
+unit_in known u = record {
+  kind = u.kind;
+  page = u.page;
+  slots = u.slots;
+  reach = u.reach;
+  ports = map (number_of known) u.ports;
+}
+
 -- a node, by the numbers of the nodes to which it refers
 abbrev pub node_in : List (List ℕ) → Draft → NodeDecl
 node_in known d = record {
@@ -146,9 +201,9 @@ node_in known d = record {
   accepts = d.accepts;
   entries = map (entry_in known) d.entries;
   over = option_map (number_of known) d.over;
-  unit = None;
+  unit = option_map (unit_in known) d.unit;
 }
 
 -- Unknown: a node to which another refers does not exist
-abbrev pub linked : List (List ℕ) → Draft → Result NodeDecl ExpansionFault
-linked known d = if refers_to_known known d then Ok (node_in known d) else Err (is_unknown d.line)
+abbrev pub node_of : List (List ℕ) → Draft → Result NodeDecl ExpansionFault
+node_of known d = if refers_to_known known d then Ok (node_in known d) else Err (is_unknown d.line)

@@ -4,11 +4,12 @@ use Rattle.std.specs.List.{list_any}
 use Rattle.std.specs.Str.{bytes_eq}
 use Rattle.dn_parse.specs.Tree.{Expression, Part, Param, number_param, node_param, Arg, number_arg, node_arg, Item, declared, module_of, instance, loop, Items, no_items, and_item, Tree}
 use Rattle.dn_net.specs.declared.node.NodeDecl.{NodeDecl}
+use Rattle.dn_kind.specs.Kind.{Meaning}
 use Rattle.dn_module.specs.declared.draft.Draft.{Draft}
 use Rattle.dn_module.specs.declared.command.Command.{Command}
 use Rattle.dn_module.specs.Values.{◌>>=◌, Flaw, each, value, full_name}
 use Rattle.dn_module.specs.Replace.{under, one_number, in_items}
-use Rattle.dn_module.specs.Drafts.{at_line, declared_by, with_draft, names, linked}
+use Rattle.dn_module.specs.Drafts.{at_line, declared_by, with_draft, names, node_of}
 use Rattle.dn_module.specs.Commands.{commands_of}
 use Rattle.dn_module.specs.Faults.{ExpansionFault, is_duplicate, is_unknown, has_other_arguments, passes_limit}
 
@@ -167,33 +168,33 @@ abbrev pub with_modules : State → List Module → State
 with_modules state modules = record { modules = modules; drafts = state.drafts }
 
 -- one rewriting: what takes the place of the first statement, and the state behind it
-abbrev pub item_rewritten : Visibility → State → Item → Result (List Work × State) ExpansionFault
-item_rewritten s state (declared line d) = do
-  draft ← declared_by line d
+abbrev pub item_rewriting : List Meaning → Visibility → State → Item → Result (List Work × State) ExpansionFault
+item_rewriting kinds s state (declared line d) = do
+  draft ← declared_by kinds line d
   drafts ← with_draft state.drafts draft
   Ok ([], with_drafts state drafts)
-item_rewritten s state (module_of line title params body) = do
+item_rewriting kinds s state (module_of line title params body) = do
   modules ← with_module state.modules line (record { title = title; params = params; body = body })
   Ok ([], with_modules state modules)
-item_rewritten s state (instance line title args prefix) = do
+item_rewriting kinds s state (instance line title args prefix) = do
   works ← use_of line args prefix (module_from 0 title (usable s state.modules))
   Ok (works, state)
-item_rewritten s state (loop line w from upto body) = do
+item_rewriting kinds s state (loop line w from upto body) = do
   works ← loop_of s line w from upto body
   Ok (works, state)
 
 -- one rewriting of a statement or of a turn
-abbrev pub rewritten : State → Work → Result (List Work × State) ExpansionFault
-rewritten state (statement s i) = item_rewritten s state i
-rewritten state (turns s line w a b body) = Ok (turn_of s line w a b body, state)
+abbrev pub rewriting : List Meaning → State → Work → Result (List Work × State) ExpansionFault
+rewriting kinds state (statement s i) = item_rewriting kinds s state i
+rewriting kinds state (turns s line w a b body) = Ok (turn_of s line w a b body, state)
 
 -- All rewritings. Each is a step, and no more than so many are left: each statement taken, and each turn.
-abbrev pub all_rewritten : ℕ → List Work → State → Result State ExpansionFault
-all_rewritten left [] state = Ok state
-all_rewritten zero (w ∷ ws) state = Err (passes_limit (line_of w) 65536)
-all_rewritten (suc left) (w ∷ ws) state = do
-  next ← rewritten state w
-  all_rewritten left (next.0 ++ ws) next.1
+abbrev pub all_rewritings : List Meaning → ℕ → List Work → State → Result State ExpansionFault
+all_rewritings kinds left [] state = Ok state
+all_rewritings kinds zero (w ∷ ws) state = Err (passes_limit (line_of w) 65536)
+all_rewritings kinds (suc left) (w ∷ ws) state = do
+  next ← rewriting kinds state w
+  all_rewritings kinds left (next.0 ++ ws) next.1
 
 -- no proof unfolds it
 unfoldable pub most_steps : ℕ
@@ -204,10 +205,11 @@ pub record Outcome : Type 0 where
   pub net : List NodeDecl
   pub commands : List Command
 
--- what a tree expands to, or its first fault: those of the declarations, of the commands' expressions, and of the nodes' references
-unfoldable pub expanded : Tree → Result Outcome ExpansionFault
-expanded tree = do
-  state ← all_rewritten most_steps (statements outside tree.body) nothing_yet
+-- What a tree expands to with these kinds of units, or its first fault: those of the declarations, of the
+-- commands' expressions, and of the nodes' references.
+unfoldable pub expansion_of : List Meaning → Tree → Result Outcome ExpansionFault
+expansion_of kinds tree = do
+  state ← all_rewritings kinds most_steps (statements outside tree.body) nothing_yet
   commands ← commands_of (names state.drafts) tree.commands
-  net ← each (linked (names state.drafts)) state.drafts
+  net ← each (node_of (names state.drafts)) state.drafts
   Ok (record { net = net; commands = commands })

@@ -6,7 +6,7 @@ use Rattle.dn_module.specs.declared.values.NameFault.{NameFault}
 use Rattle.dn_module.specs.declared.values.NameFault.TheVariants.{Flawed, OutOfMemory as NoText}
 use Rattle.dn_module.specs.declared.fault.ExpandFault.{ExpandFault}
 use Rattle.dn_module.specs.declared.fault.ExpandFault.TheVariants.{Duplicate, Unknown, Arguments, Value, TooMany, OutOfMemory}
-use Rattle.dn_module.specs.Values.{Flaw, unknown_variable, out_of_range}
+use Rattle.dn_module.specs.Values.{Flaw, unknown_word, out_of_range}
 
 -- Why a tree expands to no net, each with the line of its statement: a name was there before; a name is not there; a use has
 -- other arguments than its module has parameters; a value is not from 0 to 2^64 - 1; or a statement passes a limit.
@@ -17,9 +17,9 @@ pub data ExpansionFault : Type 0 where
   has_no_value : (line : ℕ) → ExpansionFault
   passes_limit : (line : ℕ) → (limit : ℕ) → ExpansionFault
 
--- the flaw of an expression in a statement of this line
+-- a flaw in a statement of this line
 abbrev pub flaw_fault : ℕ → Flaw → ExpansionFault
-flaw_fault line unknown_variable = is_unknown line
+flaw_fault line unknown_word = is_unknown line
 flaw_fault line out_of_range = has_no_value line
 
 -- why a tree expands to no net
@@ -31,9 +31,9 @@ expand_fault_view (Value line) = Some (has_no_value line)
 expand_fault_view (TooMany line limit) = Some (passes_limit line limit)
 expand_fault_view OutOfMemory = None
 
--- why an expression has no value
+-- why a part of a statement is not made
 abbrev pub flaw_view : CodeFlaw → Flaw
-flaw_view UnknownFlaw = unknown_variable
+flaw_view UnknownFlaw = unknown_word
 flaw_view Range = out_of_range
 
 -- the same, as a fault that is no want of memory

@@ -4,16 +4,16 @@ use Rattle.dn_parse.specs.Tree.{Command}
 use Rattle.dn_module.specs.declared.draft.Draft.{Draft}
 use Rattle.dn_module.specs.declared.expansion.Expanded.{Expanded}
 use Rattle.dn_module.specs.Commands.{commands_of}
-use Rattle.dn_module.specs.Drafts.{names, linked}
+use Rattle.dn_module.specs.Drafts.{names, node_of}
 use Rattle.dn_module.specs.Expand.{Outcome}
 use Rattle.dn_module.specs.Values.{◌>>=◌, each}
 use Rattle.dn_module.specs.Faults.{ExpansionFault}
 
 -- the commands, and then the net of the drafts
-abbrev pub finished : List Draft → List Command → Result Outcome ExpansionFault
-finished drafts commands = do
+abbrev pub outcome_of : List Draft → List Command → Result Outcome ExpansionFault
+outcome_of drafts commands = do
   made ← commands_of (names drafts) commands
-  net ← each (linked (names drafts)) drafts
+  net ← each (node_of (names drafts)) drafts
   Ok (record { net = net; commands = made })
 
 -- a net, and the commands of its text

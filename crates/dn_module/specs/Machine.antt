@@ -1,6 +1,7 @@
 -- The parts of a step of the machine of expansion.
 use Rattle.std.specs.Prelude.{ℕ, ◌+◌, if◌then◌else◌, nat_lt, List, ◌++◌, Option, Some, None, Result, Ok}
 use Rattle.dn_parse.specs.Tree.{Arg, Part, Declaration}
+use Rattle.dn_kind.specs.Kind.{Meaning}
 use Rattle.dn_module.specs.declared.draft.Draft.{Draft}
 use Rattle.dn_module.specs.declared.machine.Made.{Made}
 use Rattle.dn_module.specs.declared.modules.Module.{Module as CodeModule}
@@ -23,17 +24,19 @@ in_front works made = do
   Ok (next.0 ++ works, next.1)
 
 -- the nodes with one that is declared
-abbrev pub drafted : List Draft → ℕ → Declaration → Result (List Draft) ExpansionFault
-drafted drafts line d = do
-  draft ← declared_by line d
+abbrev pub with_declaration : List Meaning → List Draft → ℕ → Declaration → Result (List Draft) ExpansionFault
+with_declaration kinds drafts line d = do
+  draft ← declared_by kinds line d
   with_draft drafts draft
 
--- the limit that one more node passes: so many nodes before it, so many agents with it, so many parts before it and in it
-abbrev pub limit_by : ℕ → ℕ → ℕ → ℕ → Option ℕ
-limit_by nodes agents parts more =
+-- the limit that one more node passes: so many nodes before it, so many agents and units with it, so
+-- many parts before it and in it
+abbrev pub limit_by : ℕ → ℕ → ℕ → ℕ → ℕ → Option ℕ
+limit_by nodes agents units parts more =
     if nat_lt 1024 (nodes + 1) then Some 1024
     else (if nat_lt 64 agents then Some 64
-    else (if nat_lt 16384 (parts + more) then Some 16384 else None))
+    else (if nat_lt 64 units then Some 64
+    else (if nat_lt 16384 (parts + more) then Some 16384 else None)))
 
 -- a module with its number
 abbrev pub pair_view : ℕ × CodeModule → ℕ × Module

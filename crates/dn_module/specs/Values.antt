@@ -3,9 +3,10 @@ use Rattle.std.specs.Prelude.{ℕ, ◌+◌, ◌-◌, ◌*◌, ◌^◌, if◌then
 use Rattle.std.specs.Fmt.{decimal}
 use Rattle.dn_parse.specs.Tree.{Expression, constant, variable, sum, product, minus, Expressions, no_expressions, and_expression, Part}
 
--- why there is no value: a variable does not exist, or a number is not from 0 to 2^64 - 1
+-- why a part of a statement is not made: a word stands for nothing, as a variable or a kind that
+-- does not exist, or a number is not within its range
 pub data Flaw : Type 0 where
-  unknown_variable : Flaw
+  unknown_word : Flaw
   out_of_range : Flaw
 
 -- what follows, where there is no fault
@@ -45,7 +46,7 @@ product_of (n ∷ ns) = n * product_of ns
 abbrev mutual
   pub value : Expression → Result ℕ Flaw
   value (constant n) = Ok n
-  value (variable w) = Err unknown_variable
+  value (variable w) = Err unknown_word
   value (sum es) = do
     ns ← values es
     fitting (sum_of ns)
@@ -68,6 +69,12 @@ abbrev mutual
 abbrev pub value_or : ℕ → Option Expression → Result ℕ Flaw
 value_or n None = Ok n
 value_or n (Some e) = value e
+
+-- the value of an expression, where it is no more than a limit
+abbrev pub value_within : ℕ → Expression → Result ℕ Flaw
+value_within limit e = do
+  n ← value e
+  if nat_le n limit then Ok n else Err out_of_range
 
 -- a part of a full name: an index becomes its decimal value in brackets
 abbrev pub part_by : List ℕ → Option Expression → Result (List ℕ) Flaw

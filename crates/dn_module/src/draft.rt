@@ -16,6 +16,7 @@ pub struct Draft {
     pub entries: Items<DraftEntry>,
     /// The full name of the node that serves the rest.
     pub over: Option<Text>,
+    pub unit: Option<DraftUnit>,
 }
 
 /// A map block and its destinations.
@@ -30,4 +31,18 @@ pub struct DraftEntry {
 pub struct DraftDest {
     pub to: Text,
     pub addr: u64,
+}
+
+/// A unit as it is declared, with the full names of its ports.
+#[derive(Drop)]
+pub struct DraftUnit {
+    /// The place of the unit's kind in the list of kinds.
+    pub kind: u8,
+    /// The exponent of a slot's number of addresses.
+    pub page: u8,
+    pub slots: u32,
+    /// Outputs are below `2^reach`.
+    pub reach: u8,
+    /// The full names of the nodes to which it sends.
+    pub ports: Items<Text>,
 }

@@ -1,9 +1,8 @@
 //! The nodes that are made, within the limits of a net.
 
-ghost use Rattle.std.specs.Prelude.{◌≡◌, [], ◌∷◌, ◌++◌, ◌+◌, ◌<◌, ◌≤◌, length, not, false, true, OnOk, OnErr, IfErr, IfSome, IfNone, None, Some, Err, option_map};
-ghost use Rattle.std.specs.List.{list_all};
-ghost use Rattle.dn_net.specs.Decode.{is_unit};
-ghost use Rattle.dn_module.specs.Drafts.{with_draft, is_known, is_agent, parts_of, names, limit_passed};
+ghost use Rattle.std.specs.Prelude.{◌≡◌, [], ◌∷◌, ◌++◌, ◌+◌, ◌<◌, ◌≤◌, length, false, OnOk, OnErr, IfErr, IfSome, IfNone, None, Some, Err, option_map};
+ghost use Rattle.dn_net.specs.Decode.{is_agent, is_unit};
+ghost use Rattle.dn_module.specs.Drafts.{with_draft, is_known, parts_of, names, limit_passed};
 ghost use Rattle.dn_module.specs.Expand.{has_twice};
 ghost use Rattle.dn_module.specs.Machine.{limit_by};
 ghost use Rattle.dn_module.specs.declared.fault.ExpandFault.TheVariants.{OutOfMemory as no_memory};
@@ -23,26 +22,28 @@ const MAX_NODES: usize = 1_024;
 /// The most agents of a net.
 const MAX_AGENTS: usize = 64;
 
+/// The most units of a net.
+const MAX_UNITS: usize = 64;
+
 /// The most parts of a net: an accept block, a map entry and an `over` are one each.
 const MAX_PARTS: usize = 16_384;
 
-/// The nodes that are made, in order: at most 1,024 with different full names, of which 64 are agents, with
-/// 16,384 parts in all. Contracts see the list of them.
+/// The nodes that are made, in order: at most 1,024 with different full names, of which 64 are agents and 64
+/// are units, with 16,384 parts in all. Contracts see the list of them.
 #[derive(Drop)]
 pub struct Drafts {
     drafts: Vec<Draft>,
     /// Their full names.
     known: NameTable,
     agents: usize,
+    units: usize,
     parts: usize,
 }
 
 impl Model for Drafts {
-    ghost use Rattle.std.specs.Prelude.{List, ◌≡◌, ◌≤◌, length, IsTrue, not, false};
-    ghost use Rattle.std.specs.List.{list_all};
-    ghost use Rattle.dn_net.specs.Decode.{is_unit};
+    ghost use Rattle.std.specs.Prelude.{List, ◌≡◌, ◌≤◌, length, false};
     ghost use Rattle.dn_module.specs.declared.draft.Draft.{Draft};
-    ghost use Rattle.dn_module.specs.Drafts.{names, agents_of, all_parts};
+    ghost use Rattle.dn_module.specs.Drafts.{names, agents_of, units_of, all_parts};
     ghost use Rattle.dn_module.specs.Expand.{has_twice};
 
     ghost Value = { List Draft };
@@ -52,12 +53,13 @@ impl Model for Drafts {
     ghost invariant = { λ s. record {
       names_are : s.known ≡ names s.drafts.items;
       agents_are : s.agents ≡ agents_of s.drafts.items;
+      units_are : s.units ≡ units_of s.drafts.items;
       parts_are : s.parts ≡ all_parts s.drafts.items;
       few : length s.drafts.items ≤ 1024;
       few_agents : s.agents ≤ 64;
+      few_units : s.units ≤ 64;
       few_parts : s.parts ≤ 16384;
       different : has_twice (names s.drafts.items) ≡ false;
-      no_unit : IsTrue (list_all (λ d. not (is_unit d.role)) s.drafts.items);
     } };
 }
 
@@ -70,6 +72,7 @@ impl Drafts {
             drafts: Vec::new(alloc),
             known: NameTable::new(alloc),
             agents: 0,
+            units: 0,
             parts: 0,
         }
     }
@@ -79,7 +82,6 @@ impl Drafts {
         ensures nodes { result.now ≡ self.now }
         ensures few { length self.now ≤ 1024 }
         ensures different { has_twice (names self.now) ≡ false }
-        ensures no_unit { list_all (λ d. not (is_unit d.role)) self.now ≡ true }
     {
         self.drafts.as_slice()
     }
@@ -92,9 +94,8 @@ impl Drafts {
     }
 
     /// Adds a node: its full name was not there before, and no limit is passed. The limits are those on
-    /// nodes, on agents and on parts, in this order. After a fault the nodes are unchanged.
+    /// nodes, on agents, on units and on parts, in this order. After a fault the nodes are unchanged.
     pub fn add(&mut self, alloc: Global, draft: Draft) -> Result<(), ExpandFault>
-        requires no_unit { not (is_unit draft.role) ≡ true }
         ensures added { Answers (λ _. self.new) expand_fault_view result
             (with_draft self.old draft) }
         ensures err { OnErr result (self.new ≡ self.old) }
@@ -103,9 +104,11 @@ impl Drafts {
             return Err(fault);
         }
         let agents = self.agents + usize::from(is_agent(draft.role));
+        let units = self.units + usize::from(is_unit(draft.role));
         let parts = self.parts + parts_of(&draft);
         put(alloc, &mut self.drafts, &mut self.known, draft)?;
         self.agents = agents;
+        self.units = units;
         self.parts = parts;
         Ok(())
     }
@@ -122,7 +125,9 @@ impl Drafts {
             return Some(ExpandFault::Duplicate { line });
         }
         let agents = self.agents + usize::from(is_agent(draft.role));
-        match passed(self.drafts.len(), agents, self.parts, parts_of(draft)) {
+        let units = self.units + usize::from(is_unit(draft.role));
+        let parts = parts_of(draft);
+        match limit_by(self.drafts.len(), agents, units, self.parts, parts) {
             Some(limit) => Some(ExpandFault::TooMany { line, limit }),
             None => None,
         }
@@ -151,15 +156,18 @@ fn put(
 }
 
 /// The limit that one node more passes, where there are so many nodes and parts before it, so many agents
-/// with it, and so many parts in it.
-fn passed(nodes: usize, agents: usize, parts: usize, more: usize) -> Option<u32>
+/// and units with it, and so many parts in it.
+fn limit_by(nodes: usize, agents: usize, units: usize, parts: usize, more: usize) -> Option<u32>
     requires few_parts { parts ≤ 16384 }
-    ensures { result ≡ limit_by nodes agents parts more }
+    ensures { result ≡ limit_by nodes agents units parts more }
 {
     if nodes >= MAX_NODES {
         return Some(1_024);
     }
     if agents > MAX_AGENTS {
+        return Some(64);
+    }
+    if units > MAX_UNITS {
         return Some(64);
     }
     if more > MAX_PARTS - parts {
@@ -173,6 +181,15 @@ fn is_agent(role: Role) -> bool
 {
     match role {
         Role::Agent => true,
+        _ => false,
+    }
+}
+
+fn is_unit(role: Role) -> bool
+    ensures { result ≡ is_unit role }
+{
+    match role {
+        Role::Unit => true,
         _ => false,
     }
 }

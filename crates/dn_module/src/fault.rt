@@ -20,10 +20,12 @@ pub enum ExpandFault {
     /// node for a number.
     #[error("Arguments")]
     Arguments { line: u32 },
-    /// A sum, a product or a difference is not from 0 to 2^64 - 1.
+    /// A sum, a product or a difference is not from 0 to 2^64 - 1, or a unit's page or reach is above 255 or
+    /// its slots above 4,294,967,295.
     #[error("Value")]
     Value { line: u32 },
-    /// A statement passes a limit: 65,536 steps, 256 modules, 1,024 nodes, 64 agents or 16,384 parts.
+    /// A statement passes a limit: 65,536 steps, 256 modules, 1,024 nodes, 64 agents, 64 units or 16,384
+    /// parts.
     #[error("TooMany")]
     TooMany { line: u32, limit: u32 },
     /// There was no memory for the net.

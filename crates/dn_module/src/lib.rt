@@ -6,18 +6,18 @@
 #![tactic(auto)]
 
 pub mod command;
-pub mod commands;
+mod commands;
 pub mod draft;
 mod drafts;
 pub mod expand;
 mod expansion;
 pub mod fault;
 mod link;
-pub mod machine;
+mod machine;
 mod modules;
-pub mod names;
-pub mod nodes;
-pub mod scope;
+mod names;
+mod nodes;
+mod scope;
 mod stack;
 mod uses;
 mod values;

@@ -1,22 +1,22 @@
 //! From drafts to the net: the nodes to which they refer get their numbers.
 
-ghost use Rattle.std.specs.Prelude.{◌≡◌, ◌≤◌, true, false, not, map, length, IfOk, IsErrOf, IsTrue};
+ghost use Rattle.std.specs.Prelude.{◌≡◌, ◌≤◌, true, false, map, length, IfOk, IsErrOf, IsTrue};
 ghost use Rattle.std.specs.List.{list_all};
-ghost use Rattle.dn_net.specs.Decode.{is_closed, is_unit};
+ghost use Rattle.dn_net.specs.Decode.{is_closed, is_formed};
 ghost use Rattle.dn_module.specs.Values.{each};
-ghost use Rattle.dn_module.specs.Drafts.{names as names_in, number_of, is_known, dests_known, refers_to_known, dest_in, entry_in, node_in, linked};
+ghost use Rattle.dn_module.specs.Drafts.{names as names_in, number_of, is_known, dests_known, refers_to_known, dest_in, entry_in, unit_in, node_in, node_of};
 ghost use Rattle.dn_module.specs.Expand.{has_twice};
 ghost use Rattle.dn_module.specs.declared.link.LinkFault.TheVariants.{OutOfMemory as no_memory};
 ghost use Rattle.dn_base.specs.Answers.{Answers};
 ghost use Rattle.dn_module.specs.Faults.{expand_fault_view};
 
-use crate::draft::{Draft, DraftDest, DraftEntry};
+use crate::draft::{Draft, DraftDest, DraftEntry, DraftUnit};
 use crate::fault::ExpandFault;
 use crate::names::NameTable;
 use dn_base::items::Items;
 use dn_base::text::Text;
 use dn_net::net::Net;
-use dn_net::node::{Block, Dest, Entry, NodeDecl};
+use dn_net::node::{Block, Dest, Entry, NodeDecl, Unit};
 use std::alloc::{AllocError, AllocFailed, Global};
 
 /// Why a node is not linked.
@@ -50,27 +50,27 @@ pub fn linked_net(alloc: Global, names: &NameTable, drafts: &[Draft]) -> Result<
     requires few { length drafts.now ≤ 1024 }
     requires named { names.now ≡ names_in drafts.now }
     requires different { has_twice (names_in drafts.now) ≡ false }
-    requires no_unit { list_all (λ d. not (is_unit d.role)) drafts.now ≡ true }
-    ensures made { Answers (λ x. x) expand_fault_view result (each (linked names.now) drafts.now) }
+    requires formed { list_all (λ d. is_formed (node_in names.now d)) drafts.now ≡ true }
+    ensures made { Answers (λ x. x) expand_fault_view result (each (node_of names.now) drafts.now) }
     // Each node to which one refers is there.
     ensures closed { IfOk result (λ net. IsTrue (is_closed net)) }
     ensures count { IfOk result (λ net. length net ≡ length names.now) }
 {
     let mut net = Net::new(alloc);
     for draft in drafts {
-        let decl = linked(alloc, names, draft)?;
+        let decl = node_of(alloc, names, draft)?;
         net.add(decl)?;
     }
     Ok(net)
 }
 
 /// The node of a draft, or the fault of its statement.
-fn linked(alloc: Global, names: &NameTable, draft: &Draft) -> Result<NodeDecl, ExpandFault>
-    ensures made { Answers (λ x. x) expand_fault_view result (linked names.now draft.now) }
+fn node_of(alloc: Global, names: &NameTable, draft: &Draft) -> Result<NodeDecl, ExpandFault>
+    ensures made { Answers (λ x. x) expand_fault_view result (node_of names.now draft.now) }
     ensures node { IfOk result (λ n. n ≡ node_in names.now draft.now) }
     ensures known { IfOk result (λ _. refers_to_known names.now draft.now ≡ true) }
 {
-    match node_of(alloc, names, draft) {
+    match node_in(alloc, names, draft) {
         Ok(decl) => Ok(decl),
         Err(LinkFault::Unknown) => Err(ExpandFault::Unknown { line: draft.line }),
         Err(LinkFault::OutOfMemory) => Err(ExpandFault::OutOfMemory),
@@ -78,7 +78,7 @@ fn linked(alloc: Global, names: &NameTable, draft: &Draft) -> Result<NodeDecl, E
 }
 
 /// The node of a draft, with the nodes to which it refers by their numbers.
-fn node_of(alloc: Global, names: &NameTable, draft: &Draft) -> Result<NodeDecl, LinkFault>
+fn node_in(alloc: Global, names: &NameTable, draft: &Draft) -> Result<NodeDecl, LinkFault>
     ensures node { IfOk result (λ n. n ≡ node_in names.now draft.now) }
     ensures known { IfOk result (λ _. refers_to_known names.now draft.now ≡ true) }
     ensures unknown { IsErrOf result LinkFault.Unknown → refers_to_known names.now draft.now ≡
@@ -88,13 +88,17 @@ fn node_of(alloc: Global, names: &NameTable, draft: &Draft) -> Result<NodeDecl, 
         Some(text) => Some(number_of(names, text.as_str())?),
         None => None,
     };
+    let unit = match &draft.unit {
+        Some(unit) => Some(unit_in(alloc, names, unit)?),
+        None => None,
+    };
     Ok(NodeDecl {
         text: Text::of(alloc, draft.name.as_str())?,
         role: draft.role,
         accepts: copied(alloc, draft.accepts.as_slice())?,
         entries: entries_of(alloc, names, draft.entries.as_slice())?,
         over,
-        unit: None,
+        unit,
     })
 }
 
@@ -111,7 +115,7 @@ fn number_of(names: &NameTable, text: &str) -> Result<u16, LinkFault>
 }
 
 /// The destination, with its node by its number.
-fn dest_of(names: &NameTable, dest: &DraftDest) -> Result<Dest, LinkFault>
+fn dest_in(names: &NameTable, dest: &DraftDest) -> Result<Dest, LinkFault>
     ensures dest { IfOk result (λ d. d ≡ dest_in names.now dest.now) }
     ensures known { IfOk result (λ _. is_known names.now dest.now.to ≡ true) }
     ensures unknown { IsErrOf result LinkFault.Unknown → is_known names.now dest.now.to ≡ false }
@@ -130,7 +134,7 @@ fn dests_of(alloc: Global, names: &NameTable, dests: &[DraftDest]) -> Result<Ite
 {
     let mut made = Vec::with_capacity(alloc, dests.len())?;
     for dest in dests {
-        made.push(dest_of(names, dest)?)?;
+        made.push(dest_in(names, dest)?)?;
     }
     Ok(Items::from_vec(made))
 }
@@ -162,6 +166,36 @@ fn entries_of(
     let mut made = Vec::with_capacity(alloc, entries.len())?;
     for entry in entries {
         made.push(entry_of(alloc, names, entry)?)?;
+    }
+    Ok(Items::from_vec(made))
+}
+
+/// The unit, with its ports by their numbers.
+fn unit_in(alloc: Global, names: &NameTable, unit: &DraftUnit) -> Result<Unit, LinkFault>
+    ensures unit { IfOk result (λ u. u ≡ unit_in names.now unit.now) }
+    ensures known { IfOk result (λ _. list_all (is_known names.now) unit.now.ports ≡ true) }
+    ensures unknown { IsErrOf result LinkFault.Unknown → list_all (is_known names.now)
+        unit.now.ports ≡ false }
+{
+    Ok(Unit {
+        kind: unit.kind,
+        page: unit.page,
+        slots: unit.slots,
+        reach: unit.reach,
+        ports: numbers_of(alloc, names, unit.ports.as_slice())?,
+    })
+}
+
+/// The numbers of the nodes with these full names.
+fn numbers_of(alloc: Global, names: &NameTable, texts: &[Text]) -> Result<Items<u16>, LinkFault>
+    ensures numbers { IfOk result (λ made. made ≡ map (number_of names.now) texts.now) }
+    ensures known { IfOk result (λ _. list_all (is_known names.now) texts.now ≡ true) }
+    ensures unknown { IsErrOf result LinkFault.Unknown → list_all (is_known names.now) texts.now ≡
+        false }
+{
+    let mut made = Vec::with_capacity(alloc, texts.len())?;
+    for text in texts {
+        made.push(number_of(names, text.as_str())?)?;
     }
     Ok(Items::from_vec(made))
 }

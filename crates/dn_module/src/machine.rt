@@ -1,12 +1,12 @@
 //! The expansion of the statements of a text, a step at a time.
 
-ghost use Rattle.std.specs.Prelude.{◌≡◌, None};
+ghost use Rattle.std.specs.Prelude.{◌≡◌, ◌≤◌, None, length, map};
 ghost use Rattle.dn_parse.specs.Views.{declaration_view, expr_view, item_view};
 ghost use Rattle.dn_module.specs.Drafts.{at_line};
-ghost use Rattle.dn_module.specs.Expand.{nothing_yet, statements, outside, Visibility, line_of, line_of_item, loop_of, rewritten, item_rewritten, all_rewritten, most_steps};
+ghost use Rattle.dn_module.specs.Expand.{nothing_yet, statements, outside, Visibility, line_of, line_of_item, loop_of, rewriting, item_rewriting, all_rewritings, most_steps};
 ghost use Rattle.dn_module.specs.Replace.{Replacement, in_declaration, in_expression, in_item, in_items, hiding};
 ghost use Rattle.dn_module.specs.Stack.{visibility_view, body_view, turns_works, stack_works, work_view};
-ghost use Rattle.dn_module.specs.Machine.{state_view, in_front, drafted};
+ghost use Rattle.dn_module.specs.Machine.{state_view, in_front, with_declaration};
 ghost use Rattle.dn_module.specs.Values.{value};
 ghost use Rattle.dn_base.specs.Answers.{Answers};
 ghost use Rattle.dn_module.specs.Faults.{expand_fault_view};
@@ -14,12 +14,13 @@ ghost use Rattle.dn_module.specs.Faults.{expand_fault_view};
 use crate::drafts::Drafts;
 use crate::fault::ExpandFault;
 use crate::modules::{Module, Modules};
-use crate::nodes::declared;
+use crate::nodes::declared_by;
 use crate::scope::Scope;
 use crate::stack::{Stack, Turns, Use, Work};
 use crate::uses::used;
 use crate::values::{NameFault, value};
 use dn_base::text::Text;
+use dn_kind::kinds::Kinds;
 use dn_parse::syntax::{Decl, Expr, Stmt};
 use std::alloc::Global;
 
@@ -34,9 +35,15 @@ pub struct Made<'a> {
 }
 
 /// What the statements of a text make, or the first fault.
-pub fn expand_body<'a>(alloc: Global, body: &'a [Stmt]) -> Result<Made<'a>, ExpandFault>
+pub fn expand_body<'a>(
+    alloc: Global,
+    kinds: &Kinds,
+    body: &'a [Stmt],
+) -> Result<Made<'a>, ExpandFault>
+    requires few_kinds { length kinds.now.list.items ≤ 255 }
     ensures { Answers state_view expand_fault_view result
-        (all_rewritten most_steps (statements outside (body_view body.now)) nothing_yet) }
+        (all_rewritings (map (λ k. meaning k) kinds.now.list.items) most_steps
+        (statements outside (body_view body.now)) nothing_yet) }
 {
     let mut stack = Stack::new(alloc, body);
     let mut made = Made {
@@ -52,7 +59,7 @@ pub fn expand_body<'a>(alloc: Global, body: &'a [Stmt]) -> Result<Made<'a>, Expa
             });
         }
         left -= 1;
-        step(alloc, &mut stack, &mut made, work)?;
+        step(alloc, kinds, &mut stack, &mut made, work)?;
     }
     Ok(made)
 }
@@ -81,17 +88,20 @@ fn line_of_statement(statement: &Stmt) -> u32
 /// One step: what is next is taken, and what it stands for comes in its place.
 fn step<'a>(
     alloc: Global,
+    kinds: &Kinds,
     stack: &mut Stack<'a>,
     made: &mut Made<'a>,
     work: Work<'a>,
 ) -> Result<(), ExpandFault>
+    requires few_kinds { length kinds.now.list.items ≤ 255 }
     requires free { stack.old.inner.inner.turns ≡ None }
     ensures { Answers (λ _. (stack_works stack.new, state_view made.new)) expand_fault_view result
-        (in_front (stack_works stack.old) (rewritten (state_view made.old)
+        (in_front (stack_works stack.old) (rewriting
+        (map (λ k. meaning k) kinds.now.list.items) (state_view made.old)
         (work_view (visibility_view stack.old.inner.visible) stack.old.inner.scope work.entry))) }
 {
     match work {
-        Work::Statement(statement) => take(alloc, stack, made, statement),
+        Work::Statement(statement) => take(alloc, kinds, stack, made, statement),
         Work::Turn(turns) => {
             stack.inner.enter_turn(alloc, turns)?;
             Ok(())
@@ -102,18 +112,22 @@ fn step<'a>(
 /// Takes a statement.
 fn take<'a>(
     alloc: Global,
+    kinds: &Kinds,
     stack: &mut Stack<'a>,
     made: &mut Made<'a>,
     statement: &'a Stmt,
 ) -> Result<(), ExpandFault>
+    requires few_kinds { length kinds.now.list.items ≤ 255 }
     requires free { stack.old.inner.inner.turns ≡ None }
     ensures { Answers (λ _. (stack_works stack.new, state_view made.new)) expand_fault_view result
-        (in_front (stack_works stack.old) (item_rewritten (visibility_view stack.old.inner.visible)
+        (in_front (stack_works stack.old) (item_rewriting
+        (map (λ k. meaning k) kinds.now.list.items) (visibility_view stack.old.inner.visible)
         (state_view made.old) (in_item stack.old.inner.scope (item_view statement.now)))) }
 {
     match statement {
         Stmt::Decl { line, decl } => {
-            declare(alloc, &stack.inner.scope, &mut made.drafts, *line, decl)
+            let scope = &stack.inner.scope;
+            declare(alloc, kinds, scope, &mut made.drafts, *line, decl)
         }
         Stmt::Module {
             line,
@@ -153,15 +167,18 @@ fn take<'a>(
 /// Makes the node that a statement declares.
 fn declare(
     alloc: Global,
+    kinds: &Kinds,
     scope: &Scope,
     drafts: &mut Drafts,
     line: u32,
     decl: &Decl,
 ) -> Result<(), ExpandFault>
+    requires few_kinds { length kinds.now.list.items ≤ 255 }
     ensures { Answers (λ _. drafts.new) expand_fault_view result
-        (drafted drafts.old line (in_declaration scope.now (declaration_view decl.now))) }
+        (with_declaration (map (λ k. meaning k) kinds.now.list.items) drafts.old line
+        (in_declaration scope.now (declaration_view decl.now))) }
 {
-    let draft = declared(alloc, scope, line, decl)?;
+    let draft = declared_by(alloc, kinds, scope, line, decl)?;
     drafts.add(alloc, draft)
 }
 

@@ -1,63 +1,123 @@
 //! The nodes that declarations make.
 
-ghost use Rattle.std.specs.Prelude.{◌≡◌, map, not, true, IfOk, option_map};
-ghost use Rattle.dn_parse.specs.Tree.{Declaration};
+ghost use Rattle.std.specs.Prelude.{◌≡◌, ◌≤◌, [], None, Some, length, map, option_map};
 ghost use Rattle.dn_parse.specs.Views.{name_view, maybe_name_view, block_view, dest_view, entry_view, spec_view, role_view, declaration_view};
-ghost use Rattle.dn_net.specs.Decode.{is_unit};
-ghost use Rattle.dn_module.specs.Values.{each, full_name_or_none};
+ghost use Rattle.dn_net.specs.declared.node.Role.TheVariants.{Unit as unit_role};
+ghost use Rattle.dn_kind.specs.Kind.{kind_place};
+ghost use Rattle.dn_module.specs.Values.{each, full_name, full_name_or_none};
 ghost use Rattle.dn_module.specs.Replace.{in_block, in_dest, in_entry, in_reference, in_declared, in_spec, in_declaration};
-ghost use Rattle.dn_module.specs.Drafts.{block_of, dest_of, entry_of, role_of, draft_of, declared_by};
+ghost use Rattle.dn_module.specs.Drafts.{block_of, dest_of, entry_of, role_of, node_draft, known_kind, draft_of, declared_by};
 ghost use Rattle.dn_base.specs.Answers.{Answers};
 ghost use Rattle.dn_module.specs.Faults.{expand_fault_view, name_fault_view, some_flaw};
 
-use crate::draft::{Draft, DraftDest, DraftEntry};
+use crate::draft::{Draft, DraftDest, DraftEntry, DraftUnit};
 use crate::fault::ExpandFault;
 use crate::scope::Scope;
-use crate::values::{Flaw, NameFault, declared_name, reference, value, value_or};
+use crate::values::{Flaw, NameFault, declared_name, reference, value, value_or, value_within};
 use dn_base::items::Items;
 use dn_base::text::Text;
+use dn_kind::kinds::Kinds;
 use dn_net::node::{Block, Role};
 use dn_parse::syntax::{BlockExpr, Decl, DeclRole, DestExpr, EntryExpr, NameExpr, Spec};
 use std::alloc::Global;
 
-/// The node that a declaration makes, with this line. No kind of unit exists, so a unit is a fault.
-pub fn declared(alloc: Global, scope: &Scope, line: u32, decl: &Decl) -> Result<Draft, ExpandFault>
-    ensures made { Answers (λ x. x) expand_fault_view result
-        (declared_by line (in_declaration scope.now (declaration_view decl.now))) }
-    // It is no unit.
-    ensures no_unit { IfOk result (λ d. not (is_unit d.role) ≡ true) }
-{
-    match decl {
-        Decl::Node { role, name, spec } => node_at(alloc, scope, line, *role, name, spec),
-        Decl::Unit { name, .. } => match declared_name(alloc, scope, name.as_slice()) {
-            Ok(_) => Err(ExpandFault::Unknown { line }),
-            Err(fault) => Err(fault.at(line)),
-        },
-    }
-}
-
-/// A node with its parts, or the fault of its statement.
-fn node_at(
+/// The node that a declaration makes, with this line, or the fault of its statement.
+pub fn declared_by(
     alloc: Global,
+    kinds: &Kinds,
     scope: &Scope,
     line: u32,
-    role: DeclRole,
-    name: &NameExpr,
-    spec: &Spec,
+    decl: &Decl,
 ) -> Result<Draft, ExpandFault>
-    ensures made { Answers (λ x. x) expand_fault_view result
-        (declared_by line (in_declaration scope.now
-        (Declaration.node (role_view role) (name_view name.now) (spec_view spec.now)))) }
-    ensures no_unit { IfOk result (λ d. not (is_unit d.role) ≡ true) }
+    requires few_kinds { length kinds.now.list.items ≤ 255 }
+    ensures { Answers (λ x. x) expand_fault_view result
+        (declared_by (map (λ k. meaning k) kinds.now.list.items) line
+        (in_declaration scope.now (declaration_view decl.now))) }
 {
-    match node(alloc, scope, line, role, name, spec) {
+    match draft_of(alloc, kinds, scope, line, decl) {
         Ok(draft) => Ok(draft),
         Err(fault) => Err(fault.at(line)),
     }
 }
 
+/// The node that a declaration makes.
+fn draft_of(
+    alloc: Global,
+    kinds: &Kinds,
+    scope: &Scope,
+    line: u32,
+    decl: &Decl,
+) -> Result<Draft, NameFault>
+    requires few_kinds { length kinds.now.list.items ≤ 255 }
+    ensures { Answers (λ x. x) name_fault_view result
+        (draft_of (map (λ k. meaning k) kinds.now.list.items) line
+        (in_declaration scope.now (declaration_view decl.now))) }
+{
+    match decl {
+        Decl::Node { role, name, spec } => node_draft(alloc, scope, line, *role, name, spec),
+        Decl::Unit {
+            name,
+            kind,
+            page,
+            slots,
+            reach,
+            ports,
+        } => {
+            let name = declared_name(alloc, scope, name.as_slice())?;
+            let kind = kind_number(kinds, kind.as_str())?;
+            let page = value_within(scope, 255, page)? as u8;
+            let slots = value_within(scope, 4_294_967_295, slots)? as u32;
+            let reach = value_within(scope, 255, reach)? as u8;
+            let ports = references(alloc, scope, ports.as_slice())?;
+            let unit = DraftUnit {
+                kind,
+                page,
+                slots,
+                reach,
+                ports,
+            };
+            Ok(unit_draft(alloc, line, name, unit))
+        }
+    }
+}
+
+/// A unit with this full name. It takes no memory.
+fn unit_draft(alloc: Global, line: u32, name: Text, unit: DraftUnit) -> Draft
+    ensures { result ≡ record {
+      line = line;
+      role = unit_role;
+      name = name;
+      accepts = [];
+      entries = [];
+      over = None;
+      unit = Some unit;
+    } }
+{
+    Draft {
+        line,
+        role: Role::Unit,
+        name,
+        accepts: Items::new(alloc),
+        entries: Items::new(alloc),
+        over: None,
+        unit: Some(unit),
+    }
+}
+
+/// The number of the kind with this name.
+fn kind_number(kinds: &Kinds, name: &str) -> Result<u8, Flaw>
+    requires few_kinds { length kinds.now.list.items ≤ 255 }
+    ensures { Answers (λ x. x) some_flaw result
+        (known_kind (kind_place (map (λ k. meaning k) kinds.now.list.items) name.now)) }
+{
+    match kinds.find(name) {
+        Some(number) => Ok(number as u8),
+        None => Err(Flaw::Unknown),
+    }
+}
+
 /// A node with its parts.
-fn node(
+fn node_draft(
     alloc: Global,
     scope: &Scope,
     line: u32,
@@ -65,10 +125,9 @@ fn node(
     name: &NameExpr,
     spec: &Spec,
 ) -> Result<Draft, NameFault>
-    ensures made { Answers (λ x. x) name_fault_view result
-        (draft_of line (role_view role) (in_declared scope.now (name_view name.now))
+    ensures { Answers (λ x. x) name_fault_view result
+        (node_draft line (role_view role) (in_declared scope.now (name_view name.now))
         (in_spec scope.now (spec_view spec.now))) }
-    ensures no_unit { IfOk result (λ d. not (is_unit d.role) ≡ true) }
 {
     let name = declared_name(alloc, scope, name.as_slice())?;
     let accepts = blocks(alloc, scope, spec.accepts.as_slice())?;
@@ -81,12 +140,12 @@ fn node(
         accepts,
         entries,
         over,
+        unit: None,
     })
 }
 
 fn role_of(role: DeclRole) -> Role
-    ensures role { result ≡ role_of (role_view role) }
-    ensures no_unit { not (is_unit result) ≡ true }
+    ensures { result ≡ role_of (role_view role) }
 {
     match role {
         DeclRole::Plain => Role::Plain,
@@ -179,6 +238,19 @@ fn entries(
     for mapping in mappings {
         let entry = entry(alloc, scope, mapping)?;
         made.push(entry)?;
+    }
+    Ok(Items::from_vec(made))
+}
+
+/// The full names to which names refer.
+fn references(alloc: Global, scope: &Scope, names: &[NameExpr]) -> Result<Items<Text>, NameFault>
+    ensures { Answers (λ x. x) name_fault_view result
+        (each full_name (map (in_reference scope.now) (map name_view names.now))) }
+{
+    let mut made = Vec::with_capacity(alloc, names.len())?;
+    for name in names {
+        let text = reference(alloc, scope, name.as_slice())?;
+        made.push(text)?;
     }
     Ok(Items::from_vec(made))
 }

@@ -1,10 +1,10 @@
 //! The values of expressions and the full names of nodes, under what stands for the words of a body.
 
-ghost use Rattle.std.specs.Prelude.{◌≡◌, ◌^◌, if◌then◌else◌, nat_lt, map, Option, option_map};
+ghost use Rattle.std.specs.Prelude.{◌≡◌, ◌≤◌, ◌^◌, if◌then◌else◌, nat_lt, map, IfOk, Option, option_map};
 ghost use Rattle.std.specs.String.{string_bytes};
 ghost use Rattle.dn_parse.specs.Tree.{expressions, variable as variable_of, sum as sum_expression, product as product_expression};
 ghost use Rattle.dn_parse.specs.Views.{expr_view, maybe_expr_view, part_view, name_view};
-ghost use Rattle.dn_module.specs.Values.{value, value_or, fitting, difference, part_text, full_name};
+ghost use Rattle.dn_module.specs.Values.{value, value_or, value_within, fitting, difference, part_text, full_name};
 ghost use Rattle.dn_module.specs.Replace.{in_expression, in_option, in_part, in_declared, in_reference, node_by, word_of};
 ghost use Rattle.dn_module.specs.Flaws.{Appends, dots_before};
 ghost use Rattle.dn_module.specs.declared.values.NameFault.TheVariants.{OutOfMemory as no_memory, Flawed as flawed};
@@ -20,19 +20,19 @@ use std::alloc::{AllocError, AllocFailed, Global};
 /// One more than the largest value.
 const LIMIT: u128 = 1 << 64;
 
-/// Why an expression has no value.
+/// Why a part of a statement is not made.
 #[derive(Clone, Copy, Debug, PartialEq, Eq)]
 pub enum Flaw {
-    /// It has a variable for which no number stands.
+    /// A word stands for nothing: a variable has no number, or no kind has the name.
     Unknown,
-    /// A sum or a product in it is above 2^64 - 1, or a difference below 0.
+    /// A sum or a product is above 2^64 - 1, a difference below 0, or a value above its limit.
     Range,
 }
 
 /// Why a name has no text, or a statement's part is not made.
 #[derive(Clone, Copy, Debug, PartialEq, Eq)]
 pub enum NameFault {
-    /// An expression in it has no value.
+    /// A part of it has a flaw.
     Flawed(Flaw),
     /// There was no memory for it.
     OutOfMemory,
@@ -169,6 +169,20 @@ pub fn value_or(scope: &Scope, other: u64, expr: &Option<Expr>) -> Result<u64, F
     match expr {
         None => Ok(other),
         Some(expr) => value(scope, expr),
+    }
+}
+
+/// The value of an expression, where it is no more than a limit.
+pub fn value_within(scope: &Scope, limit: u64, expr: &Expr) -> Result<u64, Flaw>
+    ensures value { Answers (λ x. x) some_flaw result
+        (value_within limit (in_expression scope.now.numbers (expr_view expr.now))) }
+    ensures within { IfOk result (λ n. n ≤ limit) }
+{
+    let number = value(scope, expr)?;
+    if number <= limit {
+        Ok(number)
+    } else {
+        Err(Flaw::Range)
     }
 }
 
