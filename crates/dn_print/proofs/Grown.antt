@@ -2,15 +2,16 @@
 use Rattle.std.proofs.Common.{◌≡◌, ◌∙◌, ap, ap₂, sym, refl, subst, ℕ, ◌+◌, ◌≤◌, Bool, true, false, cond, ◌&&◌, if◌then◌else◌, nat_lt, List, [], ◌∷◌, ◌++◌, map, length, length-append, fold, Option, Some, None, Ok, Err, arith, append_assoc, append-nil, ltb-false}
 use Rattle.std.proofs.lemmas.List.{length-map, map-append}
 use Rattle.dn_module.specs.declared.draft.Draft.{Draft}
-use Rattle.dn_module.specs.Drafts.{names, is_known, is_agent, agents_of, parts_of, all_parts, limit_passed, by_limit, with_draft}
+use Rattle.dn_net.specs.Decode.{is_agent, is_unit}
+use Rattle.dn_module.specs.Drafts.{names, is_known, agents_of, units_of, parts_of, all_parts, limit_passed, by_limit, with_draft}
 use Rattle.dn_module.specs.Faults.{is_duplicate}
 
 -- a node without its line, and with another
 abbrev pub bare : Draft → Draft
-bare d = record { line = 0; role = d.role; name = d.name; accepts = d.accepts; entries = d.entries; over = d.over }
+bare d = record { line = 0; role = d.role; name = d.name; accepts = d.accepts; entries = d.entries; over = d.over; unit = d.unit }
 
 abbrev pub reline : ℕ → Draft → Draft
-reline line d = record { line = line; role = d.role; name = d.name; accepts = d.accepts; entries = d.entries; over = d.over }
+reline line d = record { line = line; role = d.role; name = d.name; accepts = d.accepts; entries = d.entries; over = d.over; unit = d.unit }
 
 -- one node a line
 abbrev pub relined : ℕ → List Draft → List Draft
@@ -32,6 +33,13 @@ agents_from n (d ∷ ds) = agents_from (n + cond (is_agent d.role) 1 0) ds
 agents_bare : (ds : List Draft) → agents_of (map bare ds) ≡ agents_of ds
 agents_bare ds = agents_from 0 ds
 
+units_from : (n : ℕ) (ds : List Draft) → fold (λ (a : ℕ) (d : Draft). a + cond (is_unit d.role) 1 0) n (map bare ds) ≡ fold (λ (a : ℕ) (d : Draft). a + cond (is_unit d.role) 1 0) n ds
+units_from n [] = refl
+units_from n (d ∷ ds) = units_from (n + cond (is_unit d.role) 1 0) ds
+
+units_bare : (ds : List Draft) → units_of (map bare ds) ≡ units_of ds
+units_bare ds = units_from 0 ds
+
 parts_from : (n : ℕ) (ds : List Draft) → fold ◌+◌ n (map parts_of (map bare ds)) ≡ fold ◌+◌ n (map parts_of ds)
 parts_from n [] = refl
 parts_from n (d ∷ ds) = parts_from (n + parts_of d) ds
@@ -39,22 +47,24 @@ parts_from n (d ∷ ds) = parts_from (n + parts_of d) ds
 parts_bare : (ds : List Draft) → all_parts (map bare ds) ≡ all_parts ds
 parts_bare ds = parts_from 0 ds
 
--- the limit that one more node passes, by the numbers of the nodes, the agents and the parts so far
-abbrev limit_by : ℕ → ℕ → ℕ → Draft → Option ℕ
-limit_by nodes agents parts d =
+-- the limit that one more node passes, by the numbers of the nodes, the agents, the units and the parts so far
+abbrev limit_by : ℕ → ℕ → ℕ → ℕ → Draft → Option ℕ
+limit_by nodes agents units parts d =
     if nat_lt 1024 (nodes + 1) then Some 1024
     else (if is_agent d.role && nat_lt 64 (agents + 1) then Some 64
-    else (if nat_lt 16384 (parts + parts_of d) then Some 16384 else None))
+    else (if is_unit d.role && nat_lt 64 (units + 1) then Some 64
+    else (if nat_lt 16384 (parts + parts_of d) then Some 16384 else None)))
 
-limit_is : (acc : List Draft) (d : Draft) → limit_passed acc d ≡ limit_by (length acc) (agents_of acc) (all_parts acc) d
+limit_is : (acc : List Draft) (d : Draft) → limit_passed acc d ≡ limit_by (length acc) (agents_of acc) (units_of acc) (all_parts acc) d
 limit_is acc d = refl
 
 limit_bare : (acc : List Draft) (d : Draft) → limit_passed (map bare acc) (bare d) ≡ limit_passed acc d
 limit_bare acc d =
     limit_is (map bare acc) (bare d)
-    ∙ ap (λ (n : ℕ). limit_by n (agents_of (map bare acc)) (all_parts (map bare acc)) d) (length-map acc bare)
-    ∙ ap (λ (n : ℕ). limit_by (length acc) n (all_parts (map bare acc)) d) (agents_bare acc)
-    ∙ ap (λ (n : ℕ). limit_by (length acc) (agents_of acc) n d) (parts_bare acc)
+    ∙ ap (λ (n : ℕ). limit_by n (agents_of (map bare acc)) (units_of (map bare acc)) (all_parts (map bare acc)) d) (length-map acc bare)
+    ∙ ap (λ (n : ℕ). limit_by (length acc) n (units_of (map bare acc)) (all_parts (map bare acc)) d) (agents_bare acc)
+    ∙ ap (λ (n : ℕ). limit_by (length acc) (agents_of acc) n (all_parts (map bare acc)) d) (units_bare acc)
+    ∙ ap (λ (n : ℕ). limit_by (length acc) (agents_of acc) (units_of acc) n d) (parts_bare acc)
     ∙ sym (limit_is acc d)
 
 -- one more node fits
@@ -94,7 +104,7 @@ grown_more acc (e ∷ ds) d h f = (h.0, grown_more (acc ++ e ∷ []) ds d h.1 (s
 below : (acc : List Draft) (d : Draft) → limit_passed acc d ≡ None → length acc + 1 ≤ 1024
 below acc d e = go (nat_lt 1024 (length acc + 1)) refl e
   where
-    go : (b : Bool) → nat_lt 1024 (length acc + 1) ≡ b → cond {A = Option ℕ} b (Some 1024) (if is_agent d.role && nat_lt 64 (agents_of acc + 1) then Some 64 else (if nat_lt 16384 (all_parts acc + parts_of d) then Some 16384 else None)) ≡ None → length acc + 1 ≤ 1024
+    go : (b : Bool) → nat_lt 1024 (length acc + 1) ≡ b → cond {A = Option ℕ} b (Some 1024) (if is_agent d.role && nat_lt 64 (agents_of acc + 1) then Some 64 else (if is_unit d.role && nat_lt 64 (units_of acc + 1) then Some 64 else (if nat_lt 16384 (all_parts acc + parts_of d) then Some 16384 else None))) ≡ None → length acc + 1 ≤ 1024
     go true p g = cc
     go false p g = let n = ltb-false 1024 (length acc + 1) p in omega (arith, n)
 

@@ -124,7 +124,11 @@ arg_kept r g (node_arg ps) h = reference_kept r g ps h
 
 declaration_kept : (r : Replacement) → GoodReplacement r → (d : Declaration) → GoodDeclaration d → GoodDeclaration (in_declaration r d)
 declaration_kept r g (node role name spec) h = (declared_kept r g name h.0, spec_kept r g spec h.1)
-declaration_kept r g (unit name kind page slots reach ports) h = tt
+declaration_kept r g (unit name kind page slots reach ports) h =
+    let same = length-map ports (in_reference r) in
+    let some = h.3 in
+    let few = h.4 in
+    (declared_kept r g name h.0, h.1, each_map GoodName GoodName (in_reference r) ports (reference_kept r g) h.2, omega (arith, same, some), omega (arith, same, few))
 
 -- statements
 mutual

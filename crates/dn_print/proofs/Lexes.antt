@@ -3,7 +3,7 @@ use Rattle.std.proofs.Common.{◌≡◌, ◌∙◌, ap, ap₂, sym, refl, subst,
 use Rattle.std.specs.Fmt.{digits, decimal}
 use Rattle.std.specs.List.{list_all, prefix_len}
 use Rattle.dn_parse.specs.declared.token.Keyword.{Keyword}
-use Rattle.dn_parse.specs.declared.token.Keyword.TheVariants.{Agent, Vectors, Is, Accept, Map, To, And, At, Over}
+use Rattle.dn_parse.specs.declared.token.Keyword.TheVariants.{Agent, Vectors, Unit as UnitWord, Is, Accept, Map, To, And, At, Over, Kind, Page, Slots, Reach}
 use Rattle.dn_parse.specs.declared.token.Sign.{Sign}
 use Rattle.dn_parse.specs.declared.token.Sign.TheVariants.{Semicolon, Comma, OpenBracket, CloseBracket, Minus, Dot}
 use Rattle.dn_parse.specs.Token.{Lexeme, Token, word, keyword, number, sign, taken, tokens_from, with_token, then_tokens, front, run, after_run, number_of, number_front, word_lexeme, is_word_byte, is_letter, is_digit, is_line_feed, is_blank, is_slash, begins_with}
@@ -194,6 +194,26 @@ agent_open line = record { it = λ rest. one_open (keyword_token line Agent) (su
 pub vectors_open : (line : ℕ) → Open line (codes "vectors ") (keyword_token line Vectors ∷ [])
 unfolding tokens_from word_lexeme
 vectors_open line = record { it = λ rest. one_open (keyword_token line Vectors) (suc (suc (suc (suc (suc (suc (suc (length rest)))))))) line rest (omega arith) }
+
+pub unit_open : (line : ℕ) → Open line (codes "unit ") (keyword_token line UnitWord ∷ [])
+unfolding tokens_from word_lexeme
+unit_open line = record { it = λ rest. one_open (keyword_token line UnitWord) (suc (suc (suc (suc (length rest))))) line rest (omega arith) }
+
+pub kind_open : (line : ℕ) → Open line (codes " kind ") (keyword_token line Kind ∷ [])
+unfolding tokens_from word_lexeme
+kind_open line = record { it = λ rest. one_open (keyword_token line Kind) (suc (suc (suc (suc (length rest))))) line rest (omega arith) }
+
+pub page_open : (line : ℕ) → Open line (codes " page ") (keyword_token line Page ∷ [])
+unfolding tokens_from word_lexeme
+page_open line = record { it = λ rest. one_open (keyword_token line Page) (suc (suc (suc (suc (length rest))))) line rest (omega arith) }
+
+pub slots_open : (line : ℕ) → Open line (codes " slots ") (keyword_token line Slots ∷ [])
+unfolding tokens_from word_lexeme
+slots_open line = record { it = λ rest. one_open (keyword_token line Slots) (suc (suc (suc (suc (suc (length rest)))))) line rest (omega arith) }
+
+pub reach_open : (line : ℕ) → Open line (codes " reach ") (keyword_token line Reach ∷ [])
+unfolding tokens_from word_lexeme
+reach_open line = record { it = λ rest. one_open (keyword_token line Reach) (suc (suc (suc (suc (suc (length rest)))))) line rest (omega arith) }
 
 pub accept_open : (line : ℕ) → Open line (codes " accept [") (keyword_token line Accept ∷ sign_token line OpenBracket ∷ [])
 unfolding tokens_from word_lexeme

@@ -4,10 +4,12 @@ pub mod Digits
 pub mod Lexes
 pub mod Shown
 pub mod Titles
+pub mod Words
 pub mod Labels
 pub mod Formed
 pub mod Pieces
 pub mod Nodes
+pub mod Units
 pub mod Grown
 pub mod Again
 pub mod Proper

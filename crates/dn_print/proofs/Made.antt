@@ -1,16 +1,22 @@
 -- The nodes that a well-formed tree makes have full names, numbers that fit in 64 bits, and were added one after another.
-use Rattle.std.proofs.Common.{◌≡◌, inl, inr, ap, sym, refl, subst, ℕ, zero, suc, ◌+◌, ◌-◌, ◌<◌, ◌≤◌, ◌^◌, Bool, true, false, cond, ◌||◌, nat_le, nat_lt, List, [], ◌∷◌, ◌++◌, map, take, length, Option, Some, None, Result, Ok, Err, arith, append-nil, ltb-true, leb-true, bytes_eq}
+use Rattle.std.proofs.Common.{◌≡◌, inl, inr, ap, sym, refl, subst, ℕ, zero, suc, ◌+◌, ◌-◌, ◌<◌, ◌≤◌, ◌^◌, Bool, true, false, cond, ◌||◌, nat_le, nat_lt, List, [], ◌∷◌, ◌++◌, map, take, get_or, length, Option, Some, None, Result, Ok, Err, arith, append-nil, ltb-true, leb-true, bytes_eq}
+use Rattle.std.proofs.lemmas.List.Quantifiers.{position-Some}
+use Rattle.std.proofs.lemmas.Option.{slice_get-get_or}
+use Rattle.std.proofs.lemmas.Slice.Eq.{bytes_eq-Decides}
 use Rattle.dn_parse.specs.Tree.{Expression, constant, variable, sum, product, minus, Part, Block as BlockOf, Dest as DestOf, Entry as EntryOf, Spec, Role as RoleOf, Arg, number_arg, node_arg, Declaration, node, unit, Item, declared, module_of, instance, loop, Items, no_items, and_item, Tree}
 use Rattle.dn_net.specs.declared.node.NodeDecl.{NodeDecl}
+use Rattle.dn_kind.specs.Kind.{Meaning, kind_place}
 use Rattle.dn_module.specs.declared.draft.Draft.{Draft}
 use Rattle.dn_module.specs.declared.command.Command.{Command}
-use Rattle.dn_module.specs.Values.{Flaw, unknown_variable, out_of_range, ◌>>=◌, each, fitting, difference, value, values, value_or, sum_of, product_of, part_by, part_text, after_dots, dotted, full_name, full_name_or_none}
-use Rattle.dn_module.specs.Drafts.{at_line, block_of, dest_of, entry_of, draft_of, declared_by, names, with_draft, linked}
+use Rattle.dn_module.specs.Values.{Flaw, unknown_word, out_of_range, ◌>>=◌, each, fitting, difference, value, values, value_or, value_within, sum_of, product_of, part_by, part_text, after_dots, dotted, full_name, full_name_or_none}
+use Rattle.dn_module.specs.Drafts.{at_line, block_of, dest_of, entry_of, node_draft, known_kind, unit_draft, draft_of, declared_by, names, with_draft, node_of}
 use Rattle.dn_module.specs.Commands.{commands_of}
 use Rattle.dn_module.specs.Replace.{under, one_number, in_items}
-use Rattle.dn_module.specs.Expand.{Module, State, nothing_yet, Visibility, outside, within_module, Work, statement, turns, statements, word_of_param, has_twice, is_module, with_module, usable, module_from, fit, Given, number, named, given_by, number_pair, node_pair, numbers_of, nodes_of, used_body, use_of, loop_of, turn_of, item_rewritten, rewritten, all_rewritten, most_steps, Outcome, expanded}
+use Rattle.dn_module.specs.Expand.{Module, State, nothing_yet, Visibility, outside, within_module, Work, statement, turns, statements, word_of_param, has_twice, is_module, with_module, usable, module_from, fit, Given, number, named, given_by, number_pair, node_pair, numbers_of, nodes_of, used_body, use_of, loop_of, turn_of, item_rewriting, rewriting, all_rewritings, most_steps, Outcome, expansion_of}
+use Rattle.dn_print.specs.Statement.{kind_name, kind_text}
 use Rattle.dn_print.proofs.Titles.{Title, IsFull, full_one, full_both}
-use Rattle.dn_print.proofs.Formed.{Each, Maybe, GoodBlock, GoodDest, GoodEntry, GoodDraft, each_both}
+use Rattle.dn_print.proofs.Words.{IsWord}
+use Rattle.dn_print.proofs.Formed.{Each, Maybe, GoodBlock, GoodDest, GoodEntry, GoodNode, GoodUnit, GoodDraft, each_both}
 use Rattle.dn_print.proofs.Trees.{Small, GoodPart, Some1, GoodName, SmallBlock, NamedDest, NamedEntry, GoodSpec, GoodDeclaration, GoodArg, GoodItem, GoodItems}
 use Rattle.dn_print.proofs.Grown.{Grown, grown_more, added_fits}
 use Rattle.dn_print.proofs.Kept.{Standing, IsSmallNumber, items_kept}
@@ -114,42 +120,92 @@ dest_yields lo l d h = bind (full_name d.name) _ (name_yields d.name h.0) (λ t 
 entry_yields : (e : EntryOf) → NamedEntry e → Yields GoodEntry (entry_of e)
 entry_yields e h = bind (block_of e.block) _ (block_yields e.block h.0) (λ b p. bind (each (dest_of b.lo) e.dests) _ (each_yields NamedDest GoodDest (dest_of b.lo) (dest_yields b.lo p.0) e.dests h.1) (λ ds q. given (p, q.0, (let n = q.1 in let s = h.2 in omega (arith, n, s)), (let n = q.1 in let f = h.3 in omega (arith, n, f)))))
 
-draft_yields : (line : ℕ) (role : RoleOf) (name : List Part) (spec : Spec) → GoodName name → GoodSpec spec → Yields GoodDraft (draft_of line role name spec)
-draft_yields line role name spec n s = bind (full_name name) _ (name_yields name n) (λ t p. bind (each block_of spec.accepts) _ (only_each SmallBlock GoodBlock block_of block_yields spec.accepts s.0) (λ a q. bind (each entry_of spec.entries) _ (only_each NamedEntry GoodEntry entry_of entry_yields spec.entries s.1) (λ m u. bind (full_name_or_none spec.over) _ (maybe_name_yields spec.over s.2) (λ o v. given (record { role = role; roles = refl; name = p; accepts = q; entries = u; over = v })))))
+node_yields : (line : ℕ) (role : RoleOf) (name : List Part) (spec : Spec) → GoodName name → GoodSpec spec → Yields GoodNode (node_draft line role name spec)
+node_yields line role name spec n s = bind (full_name name) _ (name_yields name n) (λ t p. bind (each block_of spec.accepts) _ (only_each SmallBlock GoodBlock block_of block_yields spec.accepts s.0) (λ a q. bind (each entry_of spec.entries) _ (only_each NamedEntry GoodEntry entry_of entry_yields spec.entries s.1) (λ m u. bind (full_name_or_none spec.over) _ (maybe_name_yields spec.over s.2) (λ o v. given (record { role = role; roles = refl; name = p; accepts = q; entries = u; over = v; no_unit = refl })))))
+
+-- a unit: its kind is the first that is called by its word
+kind_named : (kinds : List Meaning) (w : List ℕ) (k : ℕ) → kind_place kinds w ≡ Some k → kind_text kinds k ≡ w
+kind_named [] w k e = cc
+kind_named (m ∷ ms) w k e =
+    let at = position-Some (λ (n : Meaning). bytes_eq w n.name) (m ∷ ms) k m e in
+    ap kind_name (slice_get-get_or (m ∷ ms) k m at.0) ∙ sym ((bytes_eq-Decides w (get_or (m ∷ ms) k m).name).0 at.1)
+
+abbrev IsPlaceOf : List Meaning → List ℕ → ℕ → Type 0
+IsPlaceOf kinds w k = (kind_text kinds k ≡ w) × (kind_place kinds w ≡ Some k)
+
+kind_yields : (kinds : List Meaning) (w : List ℕ) → Yields (IsPlaceOf kinds w) (known_kind (kind_place kinds w))
+kind_yields kinds w = go (kind_place kinds w) refl
+  where
+    go : (o : Option ℕ) → kind_place kinds w ≡ o → Yields (IsPlaceOf kinds w) (known_kind o)
+    go None e = record { it = tt }
+    go (Some k) e = record { it = (kind_named kinds w k e, e) }
+
+within_yields : (limit : ℕ) (e : Expression) → Yields (λ n. n ≤ limit) (value_within limit e)
+within_yields limit e = bind (value e) _ (any (value e)) (λ n p. go n (nat_le n limit) refl)
+  where
+    go : (n : ℕ) (b : Bool) → nat_le n limit ≡ b → Yields (λ m. m ≤ limit) (cond b (Ok n) (Err out_of_range))
+    go n true q = record { it = leb-true n limit q }
+    go n false q = record { it = tt }
+
+unit_yields : (kinds : List Meaning) (line : ℕ) (name : List Part) (kind : List ℕ) (page slots reach : Expression) (ports : List (List Part)) → GoodDeclaration (unit name kind page slots reach ports) → Yields (GoodUnit kinds) (unit_draft kinds line name kind page slots reach ports)
+unit_yields kinds line name kind page slots reach ports h = bind (full_name name) _ (name_yields name h.0) (λ t p. bind (known_kind (kind_place kinds kind)) _ (kind_yields kinds kind) (λ k q. bind (value_within 255 page) _ (within_yields 255 page) (λ a pa. bind (value_within 4294967295 slots) _ (within_yields 4294967295 slots) (λ b pb. bind (value_within 255 reach) _ (within_yields 255 reach) (λ c pc. bind (each full_name ports) _ (each_yields GoodName IsFull full_name name_yields ports h.2) (λ ts u. given (record {
+  line = line;
+  name = t;
+  unit = record { kind = k; page = a; slots = b; reach = c; ports = ts };
+  is = refl;
+  full = p;
+  parts = record {
+    word = subst IsWord (sym q.0) h.1;
+    place = subst (λ (w : List ℕ). kind_place kinds w ≡ Some k) (sym q.0) q.1;
+    page = pa;
+    slots = pb;
+    reach = pc;
+    ports = u.0;
+    some = let n = u.1 in let s = h.3 in omega (arith, n, s);
+    few = let n = u.1 in let f = h.4 in omega (arith, n, f);
+  };
+})))))))
+
+only_yields : {A E : Type 0} {P Q : A → Type 0} (r : Result A E) → ((a : A) → P a → Q a) → Yields P r → Yields Q r
+only_yields (Ok a) f h = record { it = f a h.it }
+only_yields (Err e) f h = record { it = tt }
+
+draft_yields : (kinds : List Meaning) (line : ℕ) (d : Declaration) → GoodDeclaration d → Yields (GoodDraft kinds) (draft_of kinds line d)
+draft_yields kinds line (node role name spec) h = only_yields _ (λ d g. inl g) (node_yields line role name spec h.0 h.1)
+draft_yields kinds line (unit name kind page slots reach ports) h = only_yields _ (λ d g. inr g) (unit_yields kinds line name kind page slots reach ports h)
 
 at_yields : {A : Type 0} (P : A → Type 0) (line : ℕ) (r : Result A Flaw) → Yields P r → Yields P (at_line line r)
 at_yields P line (Ok a) h = record { it = h.it }
-at_yields P line (Err unknown_variable) h = record { it = tt }
+at_yields P line (Err unknown_word) h = record { it = tt }
 at_yields P line (Err out_of_range) h = record { it = tt }
 
-declared_yields : (line : ℕ) (d : Declaration) → GoodDeclaration d → Yields GoodDraft (declared_by line d)
-declared_yields line (node role name spec) h = at_yields GoodDraft line (draft_of line role name spec) (draft_yields line role name spec h.0 h.1)
-declared_yields line (unit name kind page slots reach ports) h = bind (at_line line (full_name name)) _ (any (at_line line (full_name name))) (λ t p. record { it = tt })
+declared_yields : (kinds : List Meaning) (line : ℕ) (d : Declaration) → GoodDeclaration d → Yields (GoodDraft kinds) (declared_by kinds line d)
+declared_yields kinds line d h = at_yields (GoodDraft kinds) line (draft_of kinds line d) (draft_yields kinds line d h)
 
 -- the state so far, and what is still to be done
 abbrev GoodModule : Module → Type 0
 GoodModule m = GoodItems m.body
 
-abbrev GoodDrafts : List Draft → Type 0
-GoodDrafts ds = Each GoodDraft ds × Grown [] ds
+abbrev GoodDrafts : List Meaning → List Draft → Type 0
+GoodDrafts kinds ds = Each (GoodDraft kinds) ds × Grown [] ds
 
-abbrev GoodState : State → Type 0
-GoodState s = Each GoodModule s.modules × GoodDrafts s.drafts
+abbrev GoodState : List Meaning → State → Type 0
+GoodState kinds s = Each GoodModule s.modules × GoodDrafts kinds s.drafts
 
 abbrev GoodWork : Work → Type 0
 GoodWork (statement s i) = GoodItem i
 GoodWork (turns s line w a b body) = (a ≤ b) × (b < 2 ^ 64) × GoodItems body
 
-abbrev GoodNext : List Work × State → Type 0
-GoodNext p = Each GoodWork p.0 × GoodState p.1
+abbrev GoodNext : List Meaning → List Work × State → Type 0
+GoodNext kinds p = Each GoodWork p.0 × GoodState kinds p.1
 
-added_yields : (ds : List Draft) (d : Draft) → GoodDrafts ds → GoodDraft d → Yields GoodDrafts (with_draft ds d)
-added_yields ds d h g = go (with_draft ds d) refl
+added_yields : (kinds : List Meaning) (ds : List Draft) (d : Draft) → GoodDrafts kinds ds → GoodDraft kinds d → Yields (GoodDrafts kinds) (with_draft ds d)
+added_yields kinds ds d h g = go (with_draft ds d) refl
   where
-    go : (r : Result (List Draft) ExpansionFault) → with_draft ds d ≡ r → Yields GoodDrafts r
+    go : (r : Result (List Draft) ExpansionFault) → with_draft ds d ≡ r → Yields (GoodDrafts kinds) r
     go (Ok es) e =
         let a = added_fits ds es d e in
-        record { it = subst GoodDrafts (sym a.1) (each_both GoodDraft ds (d ∷ []) h.0 (g, tt), grown_more [] ds d h.1 a.0) }
+        record { it = subst (GoodDrafts kinds) (sym a.1) (each_both (GoodDraft kinds) ds (d ∷ []) h.0 (g, tt), grown_more [] ds d h.1 a.0) }
     go (Err f) e = record { it = tt }
 
 module_yields : (modules : List Module) (line : ℕ) (m : Module) → Each GoodModule modules → GoodModule m → Yields (Each GoodModule) (with_module modules line m)
@@ -239,39 +295,39 @@ turn_good s line w a b body l h g =
     each_both GoodWork (statements s (in_items (one_number w a) body)) _ (statements_good s (in_items (one_number w a) body) (items_kept body (one_number w a) ((small, tt), tt) g)) (turns_good s line w (suc a) b body (nat_lt a b) (λ e. ltb-true a b e) h g)
 
 -- one rewriting, and all
-item_yields : (s : Visibility) (state : State) (i : Item) → GoodState state → GoodItem i → Yields GoodNext (item_rewritten s state i)
-item_yields s state (declared line d) h g = bind (declared_by line d) _ (declared_yields line d g) (λ draft p. bind (with_draft state.drafts draft) _ (added_yields state.drafts draft h.1 p) (λ ds q. given (tt, (h.0, q))))
-item_yields s state (module_of line title params body) h g = bind (with_module state.modules line (record { title = title; params = params; body = body })) _ (module_yields state.modules line (record { title = title; params = params; body = body }) h.0 g) (λ next p. given (tt, (p, h.1)))
-item_yields s state (instance line title args prefix) h g = bind (use_of line args prefix (module_from 0 title (usable s state.modules))) _ (use_yields line args prefix (module_from 0 title (usable s state.modules)) g.0 g.1 (found_good 0 title (usable s state.modules) (usable_good s state.modules h.0))) (λ works p. given (p, h))
-item_yields s state (loop line w from upto body) h g = bind (loop_of s line w from upto body) _ (loop_yields s line w from upto body g.0 g.1 g.2) (λ works p. given (p, h))
+item_yields : (kinds : List Meaning) (s : Visibility) (state : State) (i : Item) → GoodState kinds state → GoodItem i → Yields (GoodNext kinds) (item_rewriting kinds s state i)
+item_yields kinds s state (declared line d) h g = bind (declared_by kinds line d) _ (declared_yields kinds line d g) (λ draft p. bind (with_draft state.drafts draft) _ (added_yields kinds state.drafts draft h.1 p) (λ ds q. given (tt, (h.0, q))))
+item_yields kinds s state (module_of line title params body) h g = bind (with_module state.modules line (record { title = title; params = params; body = body })) _ (module_yields state.modules line (record { title = title; params = params; body = body }) h.0 g) (λ next p. given (tt, (p, h.1)))
+item_yields kinds s state (instance line title args prefix) h g = bind (use_of line args prefix (module_from 0 title (usable s state.modules))) _ (use_yields line args prefix (module_from 0 title (usable s state.modules)) g.0 g.1 (found_good 0 title (usable s state.modules) (usable_good s state.modules h.0))) (λ works p. given (p, h))
+item_yields kinds s state (loop line w from upto body) h g = bind (loop_of s line w from upto body) _ (loop_yields s line w from upto body g.0 g.1 g.2) (λ works p. given (p, h))
 
-work_yields : (state : State) (w : Work) → GoodState state → GoodWork w → Yields GoodNext (rewritten state w)
-work_yields state (statement s i) h g = item_yields s state i h g
-work_yields state (turns s line w a b body) h g = record { it = (turn_good s line w a b body g.0 g.1 g.2, h) }
+work_yields : (kinds : List Meaning) (state : State) (w : Work) → GoodState kinds state → GoodWork w → Yields (GoodNext kinds) (rewriting kinds state w)
+work_yields kinds state (statement s i) h g = item_yields kinds s state i h g
+work_yields kinds state (turns s line w a b body) h g = record { it = (turn_good s line w a b body g.0 g.1 g.2, h) }
 
-all_yields : (left : ℕ) (ws : List Work) (state : State) → Each GoodWork ws → GoodState state → Yields GoodState (all_rewritten left ws state)
-all_yields zero [] state h g = record { it = g }
-all_yields (suc left) [] state h g = record { it = g }
-all_yields zero (w ∷ ws) state h g = record { it = tt }
-all_yields (suc left) (w ∷ ws) state h g = bind (rewritten state w) _ (work_yields state w g h.0) (λ next p. all_yields left (next.0 ++ ws) next.1 (each_both GoodWork next.0 ws p.0 h.1) p.1)
+all_yields : (kinds : List Meaning) (left : ℕ) (ws : List Work) (state : State) → Each GoodWork ws → GoodState kinds state → Yields (GoodState kinds) (all_rewritings kinds left ws state)
+all_yields kinds zero [] state h g = record { it = g }
+all_yields kinds (suc left) [] state h g = record { it = g }
+all_yields kinds zero (w ∷ ws) state h g = record { it = tt }
+all_yields kinds (suc left) (w ∷ ws) state h g = bind (rewriting kinds state w) _ (work_yields kinds state w g h.0) (λ next p. all_yields kinds left (next.0 ++ ws) next.1 (each_both GoodWork next.0 ws p.0 h.1) p.1)
 
 -- the nodes that a net was made from
-pub record From (net : List NodeDecl) : Type 0 where
+pub record From (kinds : List Meaning) (net : List NodeDecl) : Type 0 where
   pub drafts : List Draft
-  pub good : Each GoodDraft drafts
+  pub good : Each (GoodDraft kinds) drafts
   pub grown : Grown [] drafts
-  pub linked_is : each (linked (names drafts)) drafts ≡ Ok net
+  pub nodes_are : each (node_of (names drafts)) drafts ≡ Ok net
 
-net_from : (state : State) (commands : Result (List Command) ExpansionFault) (net : Result (List NodeDecl) ExpansionFault) (made : Outcome) → GoodState state → each (linked (names state.drafts)) state.drafts ≡ net → (commands >>= λ cs. net >>= λ n. Ok (record { net = n; commands = cs })) ≡ Ok made → From made.net
-net_from state (Ok cs) (Ok n) made h is e = let same : record { net = n; commands = cs } ≡ made = cc in subst (λ (o : Outcome). From o.net) same (record { drafts = state.drafts; good = h.1.0; grown = h.1.1; linked_is = is })
-net_from state (Ok cs) (Err f) made h is e = cc
-net_from state (Err f) net made h is e = cc
+net_from : (kinds : List Meaning) (state : State) (commands : Result (List Command) ExpansionFault) (net : Result (List NodeDecl) ExpansionFault) (made : Outcome) → GoodState kinds state → each (node_of (names state.drafts)) state.drafts ≡ net → (commands >>= λ cs. net >>= λ n. Ok (record { net = n; commands = cs })) ≡ Ok made → From kinds made.net
+net_from kinds state (Ok cs) (Ok n) made h is e = let same : record { net = n; commands = cs } ≡ made = cc in subst (λ (o : Outcome). From kinds o.net) same (record { drafts = state.drafts; good = h.1.0; grown = h.1.1; nodes_are = is })
+net_from kinds state (Ok cs) (Err f) made h is e = cc
+net_from kinds state (Err f) net made h is e = cc
 
-state_from : (r : Result State ExpansionFault) (tree : Tree) (made : Outcome) → Yields GoodState r → (r >>= λ state. commands_of (names state.drafts) tree.commands >>= λ cs. each (linked (names state.drafts)) state.drafts >>= λ n. Ok (record { net = n; commands = cs })) ≡ Ok made → From made.net
-state_from (Ok state) tree made h e = net_from state (commands_of (names state.drafts) tree.commands) (each (linked (names state.drafts)) state.drafts) made h.it refl e
-state_from (Err f) tree made h e = cc
+state_from : (kinds : List Meaning) (r : Result State ExpansionFault) (tree : Tree) (made : Outcome) → Yields (GoodState kinds) r → (r >>= λ state. commands_of (names state.drafts) tree.commands >>= λ cs. each (node_of (names state.drafts)) state.drafts >>= λ n. Ok (record { net = n; commands = cs })) ≡ Ok made → From kinds made.net
+state_from kinds (Ok state) tree made h e = net_from kinds state (commands_of (names state.drafts) tree.commands) (each (node_of (names state.drafts)) state.drafts) made h.it refl e
+state_from kinds (Err f) tree made h e = cc
 
 -- the net of a well-formed tree
-pub made_from : (tree : Tree) (made : Outcome) → GoodItems tree.body → expanded tree ≡ Ok made → From made.net
-unfolding expanded
-made_from tree made h e = state_from (all_rewritten most_steps (statements outside tree.body) nothing_yet) tree made (all_yields most_steps (statements outside tree.body) nothing_yet (statements_good outside tree.body h) (tt, (tt, tt))) e
+pub made_from : (kinds : List Meaning) (tree : Tree) (made : Outcome) → GoodItems tree.body → expansion_of kinds tree ≡ Ok made → From kinds made.net
+unfolding expansion_of
+made_from kinds tree made h e = state_from kinds (all_rewritings kinds most_steps (statements outside tree.body) nothing_yet) tree made (all_yields kinds most_steps (statements outside tree.body) nothing_yet (statements_good outside tree.body h) (tt, (tt, tt))) e

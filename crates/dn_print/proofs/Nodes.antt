@@ -1,5 +1,5 @@
 -- The statement of a node as it is printed: its tokens, what is read from them, and the node that this declares.
-use Rattle.std.proofs.Common.{◌≡◌, ◌∙◌, ap, sym, refl, subst, ℕ, ◌+◌, List, [], ◌∷◌, ◌++◌, map, codes, Option, Some, None, option_map, Ok, IsTrue, append_assoc}
+use Rattle.std.proofs.Common.{◌≡◌, ◌∙◌, ap, sym, refl, subst, ℕ, ◌+◌, List, [], ◌∷◌, ◌++◌, map, ◌&&◌, codes, Option, Some, None, option_map, Ok, IsTrue, append_assoc}
 use Rattle.dn_parse.specs.declared.token.Keyword.TheVariants.{Agent, Vectors, Is, Accept, Map, Over}
 use Rattle.dn_parse.specs.declared.token.Sign.TheVariants.{Semicolon, OpenBracket, CloseBracket}
 use Rattle.dn_parse.specs.Token.{Token}
@@ -11,13 +11,15 @@ use Rattle.dn_net.specs.declared.node.Block.{Block}
 use Rattle.dn_net.specs.declared.node.NodeDecl.{NodeDecl}
 use Rattle.dn_net.specs.declared.node.Role.{Role}
 use Rattle.dn_module.specs.declared.draft.Draft.{Draft}
+use Rattle.dn_kind.specs.Kind.{Meaning}
 use Rattle.dn_module.specs.declared.draft.DraftEntry.{DraftEntry}
+use Rattle.dn_module.specs.declared.draft.DraftUnit.{DraftUnit}
 use Rattle.dn_module.specs.Values.{each, full_name, full_name_or_none}
-use Rattle.dn_module.specs.Drafts.{block_of, entry_of, role_of, declared_by, over_known, refers_to_known, number_of, entry_in, node_in}
-use Rattle.dn_print.specs.Statement.{accept_text, map_text, over_text, role_text, statement_text}
+use Rattle.dn_module.specs.Drafts.{block_of, entry_of, role_of, declared_by, over_known, ports_known, refers_to_known, number_of, entry_in, unit_in, node_in}
+use Rattle.dn_print.specs.Statement.{accept_text, map_text, over_text, role_text, body_text, statement_text}
 use Rattle.dn_base.proofs.Booleans.{and_parts}
 use Rattle.dn_print.proofs.Titles.{IsFull}
-use Rattle.dn_print.proofs.Formed.{Each, Maybe, GoodBlock, GoodEntry, GoodDraft}
+use Rattle.dn_print.proofs.Formed.{Each, Maybe, GoodBlock, GoodEntry, GoodNode}
 use Rattle.dn_print.proofs.Lexes.{word_token, sign_token, keyword_token, Closed, Open, Quiet, closed_then, open_then, quiet_then, quiet_none, closed_none, accept_open, map_open, over_open, agent_open, vectors_open, is_word_closed, end_open, with_both}
 use Rattle.dn_print.proofs.Shown.{Shown}
 use Rattle.dn_print.proofs.Labels.{NameEnd, name_shown, name_first, close_closed, close_quiet}
@@ -171,12 +173,13 @@ record SpecShown (line : ℕ) (text : List ℕ) (d : Draft) : Type 0 where
   entries : each entry_of tree.entries ≡ Ok d.entries
   over : full_name_or_none tree.over ≡ Ok d.over
 
-spec_shown : (net : List NodeDecl) (known : List (List ℕ)) → Named net known → (line : ℕ) (d : Draft) → GoodDraft d → IsTrue (refers_to_known known d) → SpecShown line (accept_text d.accepts ++ (map_text net (map (entry_in known) d.entries) ++ over_text net (option_map (number_of known) d.over))) d
+spec_shown : (net : List NodeDecl) (known : List (List ℕ)) → Named net known → (line : ℕ) (d : Draft) → GoodNode d → IsTrue (refers_to_known known d) → SpecShown line (accept_text d.accepts ++ (map_text net (map (entry_in known) d.entries) ++ over_text net (option_map (number_of known) d.over))) d
 spec_shown net known named line d h k =
-    let ks = and_parts (entries_known known d.entries) (over_known known d.over) k in
+    let ks = and_parts (entries_known known d.entries) (over_known known d.over && ports_known known d.unit) k in
+    let overs = and_parts (over_known known d.over) (ports_known known d.unit) ks.1 in
     let a = accept_shown line d.accepts h.accepts in
     let m = map_shown net known named line d.entries h.entries ks.0 in
-    let o = over_shown net known named line d.over h.over ks.1 in
+    let o = over_shown net known named line d.over h.over overs.0 in
     record {
       tokens = a.tokens ++ (m.shown.tokens ++ o.shown.tokens);
       tree = record { accepts = a.tree; entries = m.shown.tree; over = o.shown.tree };
@@ -217,7 +220,7 @@ record Body (line : ℕ) (text : List ℕ) (d : Draft) : Type 0 where
 abbrev rest_text : List NodeDecl → List (List ℕ) → Draft → List ℕ
 rest_text net known d = codes " is" ++ (accept_text d.accepts ++ (map_text net (map (entry_in known) d.entries) ++ over_text net (option_map (number_of known) d.over)))
 
-body_shown : (net : List NodeDecl) (known : List (List ℕ)) → Named net known → (line : ℕ) (d : Draft) → GoodDraft d → IsTrue (refers_to_known known d) → Body line (d.name ++ rest_text net known d) d
+body_shown : (net : List NodeDecl) (known : List (List ℕ)) → Named net known → (line : ℕ) (d : Draft) → GoodNode d → IsTrue (refers_to_known known d) → Body line (d.name ++ rest_text net known d) d
 body_shown net known named line d h k =
     let n = name_shown line d.name h.name in
     let f = name_first line d.name h.name in
@@ -237,27 +240,27 @@ body_shown net known named line d h k =
     }
 
 -- A line of the printed net: its tokens, the declaration that is read from them, and the node that this makes.
-pub record Said (line : ℕ) (text : List ℕ) (role : Role) (d : Draft) : Type 0 where
+pub record Said (kinds : List Meaning) (line : ℕ) (text : List ℕ) (role : Role) (part : Option DraftUnit) (d : Draft) : Type 0 where
   pub first : Token
   pub more : List Token
   pub begins : first.line ≡ line
   pub declaration : Declaration
   pub lexed : (rest : List ℕ) → tokens_of line (text ++ rest) ≡ with_tokens (first ∷ more) (tokens_of (line + 1) rest)
   pub read : (rest : List Token) → whole_statement_at (first ∷ (more ++ rest)) ≡ Ok (declares declaration, rest)
-  pub declared : declared_by line declaration ≡ Ok (record { line = line; role = role; name = d.name; accepts = d.accepts; entries = d.entries; over = d.over })
+  pub declared : declared_by kinds line declaration ≡ Ok (record { line = line; role = role; name = d.name; accepts = d.accepts; entries = d.entries; over = d.over; unit = part })
 
-semicolon_ends : (line : ℕ) (rest : List Token) → SpecEnd (sign_token line Semicolon ∷ rest)
+pub semicolon_ends : (line : ℕ) (rest : List Token) → SpecEnd (sign_token line Semicolon ∷ rest)
 unfolding after_sign after_keyword
 semicolon_ends line rest = ((refl, refl), refl, refl, refl)
 
-end_lexed : (line : ℕ) (p q : List ℕ) (ts : List Token) → Closed line (p ++ q) ts → (rest : List ℕ) → tokens_of line ((p ++ (q ++ codes ";\n")) ++ rest) ≡ with_tokens (ts ++ (sign_token line Semicolon ∷ [])) (tokens_of (line + 1) rest)
+pub end_lexed : (line : ℕ) (p q : List ℕ) (ts : List Token) → Closed line (p ++ q) ts → (rest : List ℕ) → tokens_of line ((p ++ (q ++ codes ";\n")) ++ rest) ≡ with_tokens (ts ++ (sign_token line Semicolon ∷ [])) (tokens_of (line + 1) rest)
 end_lexed line p q ts c rest =
     ap (tokens_of line) (append_assoc p (q ++ codes ";\n") rest ∙ ap (λ (l : List ℕ). p ++ l) (append_assoc q (codes ";\n") rest) ∙ sym (append_assoc p q (codes ";\n" ++ rest)))
     ∙ c.it (codes ";\n" ++ rest) refl
     ∙ ap (with_tokens ts) (end_open line rest)
     ∙ with_both ts (sign_token line Semicolon ∷ []) (tokens_of (line + 1) rest)
 
-marked_lexed : (line : ℕ) (p q : List ℕ) (t : Token) (ts : List Token) → Open line p (t ∷ []) → (rest : List ℕ) → tokens_of line (q ++ rest) ≡ with_tokens ts (tokens_of (line + 1) rest) → tokens_of line ((p ++ q) ++ rest) ≡ with_tokens (t ∷ ts) (tokens_of (line + 1) rest)
+pub marked_lexed : (line : ℕ) (p q : List ℕ) (t : Token) (ts : List Token) → Open line p (t ∷ []) → (rest : List ℕ) → tokens_of line (q ++ rest) ≡ with_tokens ts (tokens_of (line + 1) rest) → tokens_of line ((p ++ q) ++ rest) ≡ with_tokens (t ∷ ts) (tokens_of (line + 1) rest)
 marked_lexed line p q t ts o rest e =
     ap (tokens_of line) (append_assoc p q rest) ∙ o.it (q ++ rest) ∙ ap (with_tokens (t ∷ [])) e ∙ with_both (t ∷ []) ts (tokens_of (line + 1) rest)
 
@@ -279,44 +282,45 @@ body_read line text d b role rest =
     ap (λ (l : List Token). node_at role (word_token line b.word ∷ l)) (append_assoc b.more (sign_token line Semicolon ∷ []) rest)
     ∙ b.read role (sign_token line Semicolon ∷ rest) (semicolon_ends line rest)
 
-body_declared : (line : ℕ) (text : List ℕ) (d : Draft) (b : Body line text d) (role : RoleOf) → declared_by line (node role b.name b.spec) ≡ Ok (record { line = line; role = role_of role; name = d.name; accepts = d.accepts; entries = d.entries; over = d.over })
-body_declared line text d b role =
+body_declared : (kinds : List Meaning) (line : ℕ) (text : List ℕ) (d : Draft) (b : Body line text d) (role : RoleOf) → declared_by kinds line (node role b.name b.spec) ≡ Ok (record { line = line; role = role_of role; name = d.name; accepts = d.accepts; entries = d.entries; over = d.over; unit = None })
+body_declared kinds line text d b role =
     let n = b.named in
     let a = b.accepts in
     let e = b.entries in
     let o = b.over in
     rw (n, a, e, o) refl
 
-said_by : (net : List NodeDecl) (known : List (List ℕ)) (line : ℕ) (d : Draft) → Body line (d.name ++ rest_text net known d) d → (role : RoleOf) → Said line (role_text (role_of role) ++ (d.name ++ (rest_text net known d ++ codes ";\n"))) (role_of role) d
-said_by net known line d b plain_role = record {
+said_by : (kinds : List Meaning) (net : List NodeDecl) (known : List (List ℕ)) (line : ℕ) (d : Draft) → Body line (d.name ++ rest_text net known d) d → (role : RoleOf) → Said kinds line (role_text (role_of role) ++ (d.name ++ (rest_text net known d ++ codes ";\n"))) (role_of role) None d
+said_by kinds net known line d b plain_role = record {
   first = word_token line b.word;
   more = b.more ++ (sign_token line Semicolon ∷ []);
   begins = refl;
   declaration = node plain_role b.name b.spec;
   lexed = λ rest. end_lexed line d.name (rest_text net known d) (word_token line b.word ∷ b.more) b.lexed rest;
   read = λ rest. plain_read line b.word ((b.more ++ (sign_token line Semicolon ∷ [])) ++ rest) rest (node plain_role b.name b.spec) (body_read line (d.name ++ rest_text net known d) d b plain_role rest);
-  declared = body_declared line (d.name ++ rest_text net known d) d b plain_role;
+  declared = body_declared kinds line (d.name ++ rest_text net known d) d b plain_role;
 }
-said_by net known line d b agent_role = record {
+said_by kinds net known line d b agent_role = record {
   first = keyword_token line Agent;
   more = word_token line b.word ∷ (b.more ++ (sign_token line Semicolon ∷ []));
   begins = refl;
   declaration = node agent_role b.name b.spec;
   lexed = λ rest. marked_lexed line (codes "agent ") (d.name ++ (rest_text net known d ++ codes ";\n")) (keyword_token line Agent) (word_token line b.word ∷ (b.more ++ (sign_token line Semicolon ∷ []))) (agent_open line) rest (end_lexed line d.name (rest_text net known d) (word_token line b.word ∷ b.more) b.lexed rest);
   read = λ rest. agent_read line (word_token line b.word ∷ ((b.more ++ (sign_token line Semicolon ∷ [])) ++ rest)) rest (node agent_role b.name b.spec) (body_read line (d.name ++ rest_text net known d) d b agent_role rest);
-  declared = body_declared line (d.name ++ rest_text net known d) d b agent_role;
+  declared = body_declared kinds line (d.name ++ rest_text net known d) d b agent_role;
 }
-said_by net known line d b vectors_role = record {
+said_by kinds net known line d b vectors_role = record {
   first = keyword_token line Vectors;
   more = word_token line b.word ∷ (b.more ++ (sign_token line Semicolon ∷ []));
   begins = refl;
   declaration = node vectors_role b.name b.spec;
   lexed = λ rest. marked_lexed line (codes "vectors ") (d.name ++ (rest_text net known d ++ codes ";\n")) (keyword_token line Vectors) (word_token line b.word ∷ (b.more ++ (sign_token line Semicolon ∷ []))) (vectors_open line) rest (end_lexed line d.name (rest_text net known d) (word_token line b.word ∷ b.more) b.lexed rest);
   read = λ rest. vectors_read line (word_token line b.word ∷ ((b.more ++ (sign_token line Semicolon ∷ [])) ++ rest)) rest (node vectors_role b.name b.spec) (body_read line (d.name ++ rest_text net known d) d b vectors_role rest);
-  declared = body_declared line (d.name ++ rest_text net known d) d b vectors_role;
+  declared = body_declared kinds line (d.name ++ rest_text net known d) d b vectors_role;
 }
 
--- the line of a node
-pub statement_said : (net : List NodeDecl) (known : List (List ℕ)) → Named net known → (line : ℕ) (d : Draft) → GoodDraft d → IsTrue (refers_to_known known d) → Said line (statement_text [] net (node_in known d)) d.role d
-statement_said net known named line d h k =
-    subst (λ (r : Role). Said line (role_text r ++ (d.name ++ (rest_text net known d ++ codes ";\n"))) r d) (sym h.roles) (said_by net known line d (body_shown net known named line d h k) h.role)
+-- the line of a node that is no unit
+pub node_said : (kinds : List Meaning) (net : List NodeDecl) (known : List (List ℕ)) → Named net known → (line : ℕ) (d : Draft) → GoodNode d → IsTrue (refers_to_known known d) → Said kinds line (statement_text kinds net (node_in known d)) d.role d.unit d
+node_said kinds net known named line d h k =
+    let P : Role → Option DraftUnit → Type 0 = λ r o. Said kinds line (role_text r ++ (d.name ++ (body_text kinds net (node_in known d) (option_map (unit_in known) o) ++ codes ";\n"))) r o d in
+    subst (λ (r : Role). P r d.unit) (sym h.roles) (subst (λ (o : Option DraftUnit). P (role_of h.role) o) (sym h.no_unit) (said_by kinds net known line d (body_shown net known named line d h k) h.role))

@@ -11,6 +11,7 @@ use Rattle.dn_parse.specs.Forms.{is_sign}
 use Rattle.dn_parse.specs.Machine.{Stop}
 use Rattle.dn_parse.specs.Descent.{and_then, word_of, any_of, Read, Next, Reader, optional, after, after_sign, after_keyword, or_refused, sign_at, keyword_at, word_at, any_word_at, value_or, with_front, row, row_from, row_at, one_more, after_comma, first_and, next_by, term_with, expr_with, after_open_with, at_sign, factor_of, factor_with, nested_at, factor_at, next_factor_at, factors_at, term_at, next_term_at, terms_at, expr_at, first_and_most, expr_after, in_brackets, index_at, part_at, next_part_at, name_at, upper_at, block_at, next_block_at, blocks_at, addr_at, dest_at, next_dest_at, dests_at, entry_at, next_entry_at, entries_at, accept_at, map_at, over_at, spec_at, param_at, next_param_at, params_at, closed_params_at, arg_at, next_arg_at, args_at, closed_args_at, next_port_at, ports_at, node_at, measure_at, unit_at, module_at, use_at, loop_at, query_at, grant_at, route_at, order_at, as_declared, keyword_statement_at, statement_by, statement_at, whole_statement_at}
 use Rattle.dn_print.proofs.Titles.{Title}
+use Rattle.dn_print.proofs.Words.{IsWord, title_word, keyword_word}
 use Rattle.dn_print.proofs.Formed.{Each, Maybe}
 use Rattle.dn_print.proofs.Proper.{ProperLexeme, Proper}
 use Rattle.dn_print.proofs.Trees.{Small, AllSmall, GoodPart, Some1, GoodName, SmallBlock, NamedDest, NamedEntry, GoodSpec, GoodDeclaration, GoodArg, GoodStatement, some_each}
@@ -103,16 +104,16 @@ unfolding word_at
 word_reads [] h = record { it = tt }
 word_reads (t ∷ ts) h = word_by t.lexeme ts (t ∷ ts) h.0 h.1
 
-any_by : (l : Lexeme) (ts all : List Token) → Proper ts → Reads Any (value_or (any_of l) ts all)
-any_by (word w) ts all p = given tt p
-any_by (keyword k) ts all p = given tt p
-any_by (number n) ts all p = record { it = tt }
-any_by (sign s) ts all p = record { it = tt }
+any_by : (l : Lexeme) (ts all : List Token) → ProperLexeme l → Proper ts → Reads IsWord (value_or (any_of l) ts all)
+any_by (word w) ts all h p = given (title_word w h) p
+any_by (keyword k) ts all h p = given (keyword_word k) p
+any_by (number n) ts all h p = record { it = tt }
+any_by (sign s) ts all h p = record { it = tt }
 
-any_reads : (ts : List Token) → Proper ts → Reads Any (any_word_at ts)
+any_reads : (ts : List Token) → Proper ts → Reads IsWord (any_word_at ts)
 unfolding any_word_at
 any_reads [] h = record { it = tt }
-any_reads (t ∷ ts) h = any_by t.lexeme ts (t ∷ ts) h.1
+any_reads (t ∷ ts) h = any_by t.lexeme ts (t ∷ ts) h.0 h.1
 
 -- rows
 more_next : {X : Type 0} {P : X → Type 0} (r : Read X) → Reads P r → Nexts P (one_more r)
@@ -302,7 +303,7 @@ ports_reads ts h = most_reads 7 (name_at 32) next_port_at (name_reads 32) (comma
 
 unit_reads : (ts : List Token) → Proper ts → Reads GoodDeclaration (unit_at ts)
 unfolding unit_at
-unit_reads ts h = bind (name_at 32 ts) _ (name_reads 32 ts h) (λ n r p q. pass (keyword_at Kind r) _ (keyword_leaves Kind r q) (λ r0 q0. bind (any_word_at r0) _ (any_reads r0 q0) (λ k r1 p1 q1. bind (measure_at Page r1) _ (measure_reads Page r1 q1) (λ e r2 p2 q2. bind (measure_at Slots r2) _ (measure_reads Slots r2 q2) (λ f r3 p3 q3. bind (measure_at Reach r3) _ (measure_reads Reach r3 q3) (λ g r4 p4 q4. pass (keyword_at To r4) _ (keyword_leaves To r4 q4) (λ r5 q5. bind (ports_at r5) _ (ports_reads r5 q5) (λ ps r6 p6 q6. given tt q6))))))))
+unit_reads ts h = bind (name_at 32 ts) _ (name_reads 32 ts h) (λ n r p q. pass (keyword_at Kind r) _ (keyword_leaves Kind r q) (λ r0 q0. bind (any_word_at r0) _ (any_reads r0 q0) (λ k r1 p1 q1. bind (measure_at Page r1) _ (measure_reads Page r1 q1) (λ e r2 p2 q2. bind (measure_at Slots r2) _ (measure_reads Slots r2 q2) (λ f r3 p3 q3. bind (measure_at Reach r3) _ (measure_reads Reach r3 q3) (λ g r4 p4 q4. pass (keyword_at To r4) _ (keyword_leaves To r4 q4) (λ r5 q5. bind (ports_at r5) _ (ports_reads r5 q5) (λ ps r6 p6 q6. given (p, p1, some_each GoodName ps p6.0, p6.1, p6.2) q6))))))))
 
 param_reads : (ts : List Token) → Proper ts → Reads Any (param_at ts)
 unfolding param_at

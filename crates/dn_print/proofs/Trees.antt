@@ -2,6 +2,7 @@
 use Rattle.std.proofs.Common.{◌≡◌, ◌⊎◌, ◌<◌, ◌≤◌, ◌^◌, List, [], ◌∷◌, length, None}
 use Rattle.dn_parse.specs.Tree.{Expression, constant, variable, sum, product, minus, Expressions, no_expressions, and_expression, Part, Block, Dest, Entry, Spec, Arg, number_arg, node_arg, Declaration, node, unit, Statement, declares, heads_module, uses, heads_loop, ends, begins, orders, Item, declared, module_of, instance, loop, Items, no_items, and_item}
 use Rattle.dn_print.proofs.Titles.{Title, IsFull}
+use Rattle.dn_print.proofs.Words.{IsWord}
 use Rattle.dn_print.proofs.Formed.{Each, Maybe}
 
 abbrev mutual
@@ -46,7 +47,7 @@ GoodSpec s = Each SmallBlock s.accepts × Each NamedEntry s.entries × Maybe Goo
 
 abbrev pub GoodDeclaration : Declaration → Type 0
 GoodDeclaration (node role name spec) = GoodName name × GoodSpec spec
-GoodDeclaration (unit name kind page slots reach ports) = Unit {0}
+GoodDeclaration (unit name kind page slots reach ports) = GoodName name × IsWord kind × Each GoodName ports × (1 ≤ length ports) × (length ports ≤ 8)
 
 abbrev pub GoodArg : Arg → Type 0
 GoodArg (number_arg e) = Small e

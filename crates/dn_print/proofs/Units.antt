@@ -1,0 +1,184 @@
+-- The statement of a unit as it is printed: its tokens, what is read from them, and the unit that this declares.
+use Rattle.std.proofs.Common.{◌≡◌, ◌∙◌, ◌⊎◌, inl, inr, ap, sym, refl, subst, ℕ, ◌+◌, ◌<◌, ◌≤◌, ◌^◌, nat_le, true, List, [], ◌∷◌, ◌++◌, map, length, codes, Option, Some, None, Ok, IsTrue, arith, append_assoc, le-leb}
+use Rattle.std.specs.Fmt.{decimal}
+use Rattle.std.specs.List.{list_all}
+use Rattle.dn_parse.specs.declared.token.Keyword.TheVariants.{Unit as UnitWord, Kind, Page, Slots, Reach, To}
+use Rattle.dn_parse.specs.declared.token.Sign.TheVariants.{Semicolon, Comma}
+use Rattle.dn_parse.specs.Token.{Token, word_lexeme}
+use Rattle.dn_parse.specs.Tree.{constant, Part, Declaration, unit, declares}
+use Rattle.dn_parse.specs.Descent.{any_of, one_more, after_sign, after_keyword, sign_at, keyword_at, any_word_at, measure_at, name_at, next_port_at, ports_at, unit_at, keyword_statement_at, statement_at, whole_statement_at}
+use Rattle.dn_net.specs.declared.node.NodeDecl.{NodeDecl}
+use Rattle.dn_net.specs.declared.node.Role.TheVariants.{Unit as UnitRole}
+use Rattle.dn_kind.specs.Kind.{Meaning, kind_place}
+use Rattle.dn_module.specs.declared.draft.Draft.{Draft}
+use Rattle.dn_module.specs.declared.draft.DraftUnit.{DraftUnit}
+use Rattle.dn_module.specs.Values.{each, full_name}
+use Rattle.dn_module.specs.Drafts.{is_known, declared_by, refers_to_known, number_of, unit_in, node_in}
+use Rattle.dn_print.specs.Statement.{marked, node_name, kind_text, ports_text, unit_text, statement_text}
+use Rattle.dn_base.proofs.Booleans.{and_parts}
+use Rattle.dn_print.proofs.Titles.{IsFull}
+use Rattle.dn_print.proofs.Words.{IsWord}
+use Rattle.dn_print.proofs.Formed.{Each, GoodParts, GoodDraft, unit_with}
+use Rattle.dn_print.proofs.Lexes.{number_token, sign_token, keyword_token, Closed, Quiet, closed_then, open_then, word_closed, decimal_closed, unit_open, kind_open, page_open, slots_open, reach_open, to_open, comma_open}
+use Rattle.dn_print.proofs.Shown.{Shown, Row, row_none, row_cons, most_shown}
+use Rattle.dn_print.proofs.Labels.{NameEnd, number_read, name_shown}
+use Rattle.dn_print.proofs.Pieces.{Named}
+use Rattle.dn_print.proofs.Nodes.{Said, node_said, end_lexed, marked_lexed}
+
+-- the ports of a unit
+abbrev PortsEnd : List Token → Type 0
+PortsEnd rest = NameEnd rest × (after_sign Comma rest ≡ None)
+
+port_shown : (net : List NodeDecl) (known : List (List ℕ)) → Named net known → (line : ℕ) (t : List ℕ) → IsFull t → IsTrue (is_known known t) → Shown line (node_name net (number_of known t)) (name_at 32) NameEnd full_name t
+port_shown net known named line t h k =
+    let name = name_shown line t h in
+    record {
+      tokens = name.tokens;
+      tree = name.tree;
+      lexed = subst (λ (u : List ℕ). Closed line u name.tokens) (sym (named t k)) name.lexed;
+      read = name.read;
+      valued = name.valued;
+    }
+
+comma_quiet : (t : List ℕ) → Quiet (codes ", " ++ t)
+comma_quiet t = record { it = λ rest h. refl }
+
+next_port_read : (line : ℕ) (ts : List Token) → next_port_at (sign_token line Comma ∷ ts) ≡ one_more (name_at 32 ts)
+unfolding next_port_at after_sign
+next_port_read line ts = refl
+
+no_next_port : (rest : List Token) → PortsEnd rest → next_port_at rest ≡ Ok None
+unfolding next_port_at
+no_next_port rest h = rw (h.1) refl
+
+comma_ends_name : (line : ℕ) (ts : List Token) → NameEnd (sign_token line Comma ∷ ts)
+unfolding after_sign
+comma_ends_name line ts = (refl, refl)
+
+more_ports_shown : (net : List NodeDecl) (known : List (List ℕ)) → Named net known → (line : ℕ) (ts : List (List ℕ)) → Each IsFull ts → IsTrue (list_all (is_known known) ts) → Row line (marked (codes ", ") (node_name net) (map (number_of known) ts)) next_port_at NameEnd PortsEnd full_name ts
+more_ports_shown net known named line [] h k = row_none line next_port_at NameEnd PortsEnd full_name no_next_port (λ rest e. e.0)
+more_ports_shown net known named line (t ∷ ts) h k =
+    let ks = and_parts (is_known known t) (list_all (is_known known) ts) k in
+    let item = port_shown net known named line t h.0 ks.0 in
+    let tail = more_ports_shown net known named line ts h.1 ks.1 in
+    let lexed = open_then (comma_open line) (closed_then item.lexed tail.quiet tail.lexed) in
+    row_cons (codes ", " ++ (node_name net (number_of known t) ++ marked (codes ", ") (node_name net) (map (number_of known) ts))) (sign_token line Comma) item tail lexed (comma_quiet (node_name net (number_of known t) ++ marked (codes ", ") (node_name net) (map (number_of known) ts))) (next_port_read line) (comma_ends_name line)
+
+ports_shown : (net : List NodeDecl) (known : List (List ℕ)) → Named net known → (line : ℕ) (ts : List (List ℕ)) → Each IsFull ts → 1 ≤ length ts → length ts ≤ 8 → IsTrue (list_all (is_known known) ts) → Shown line (ports_text net (map (number_of known) ts)) ports_at PortsEnd (each full_name) ts
+unfolding ports_at
+ports_shown net known named line [] h some few k = absurd (omega (arith, some))
+ports_shown net known named line (t ∷ ts) h some few k =
+    let ks = and_parts (is_known known t) (list_all (is_known known) ts) k in
+    most_shown 7 (omega (arith, few)) (port_shown net known named line t h.0 ks.0) (more_ports_shown net known named line ts h.1 ks.1)
+
+-- the word of a kind
+abbrev kind_token : ℕ → List ℕ → Token
+kind_token line w = record { lexeme = word_lexeme w; line = line }
+
+kind_closed : (line : ℕ) (w : List ℕ) → IsWord w → Closed line w (kind_token line w ∷ [])
+kind_closed line [] h = absurd h
+kind_closed line (b ∷ w) h = word_closed line b w (word_lexeme (b ∷ w)) h.0 h.1 refl
+
+kind_any : (w : List ℕ) → IsWord w → any_of (word_lexeme w) ≡ Some w
+kind_any [] h = absurd h
+kind_any (b ∷ w) h = h.2
+
+-- the parts of a unit, up to its ports
+abbrev parts_tokens : ℕ → List ℕ → DraftUnit → List Token → List Token
+parts_tokens line w u ports =
+    keyword_token line Kind ∷ kind_token line w
+    ∷ keyword_token line Page ∷ number_token line u.page
+    ∷ keyword_token line Slots ∷ number_token line u.slots
+    ∷ keyword_token line Reach ∷ number_token line u.reach
+    ∷ keyword_token line To ∷ ports
+
+kind_quiet : (t : List ℕ) → Quiet (codes " kind " ++ t)
+kind_quiet t = record { it = λ rest h. refl }
+
+page_quiet : (t : List ℕ) → Quiet (codes " page " ++ t)
+page_quiet t = record { it = λ rest h. refl }
+
+slots_quiet : (t : List ℕ) → Quiet (codes " slots " ++ t)
+slots_quiet t = record { it = λ rest h. refl }
+
+reach_quiet : (t : List ℕ) → Quiet (codes " reach " ++ t)
+reach_quiet t = record { it = λ rest h. refl }
+
+to_quiet : (t : List ℕ) → Quiet (codes " to " ++ t)
+to_quiet t = record { it = λ rest h. refl }
+
+parts_closed : (line : ℕ) (w : List ℕ) (u : DraftUnit) (p : List ℕ) (ts : List Token) → IsWord w → u.page < 2 ^ 64 → u.slots < 2 ^ 64 → u.reach < 2 ^ 64 → Closed line p ts → Closed line (codes " kind " ++ (w ++ (codes " page " ++ (decimal u.page ++ (codes " slots " ++ (decimal u.slots ++ (codes " reach " ++ (decimal u.reach ++ (codes " to " ++ p))))))))) (parts_tokens line w u ts)
+parts_closed line w u p ts h a b c ports =
+    let reach = closed_then (decimal_closed line u.reach c) (to_quiet p) (open_then (to_open line) ports) in
+    let slots = closed_then (decimal_closed line u.slots b) (reach_quiet (decimal u.reach ++ (codes " to " ++ p))) (open_then (reach_open line) reach) in
+    let page = closed_then (decimal_closed line u.page a) (slots_quiet (decimal u.slots ++ (codes " reach " ++ (decimal u.reach ++ (codes " to " ++ p))))) (open_then (slots_open line) slots) in
+    open_then (kind_open line) (closed_then (kind_closed line w h) (page_quiet (decimal u.page ++ (codes " slots " ++ (decimal u.slots ++ (codes " reach " ++ (decimal u.reach ++ (codes " to " ++ p))))))) (open_then (page_open line) page))
+
+-- what is read of it
+kind_ends_name : (line : ℕ) (ts : List Token) → NameEnd (keyword_token line Kind ∷ ts)
+unfolding after_sign
+kind_ends_name line ts = (refl, refl)
+
+unit_read : (line : ℕ) (name : List Part) (w : List ℕ) (u : DraftUnit) (ports : List (List Part)) (xs ys rest : List Token) → any_of (word_lexeme w) ≡ Some w → name_at 32 (xs ++ parts_tokens line w u (ys ++ rest)) ≡ Ok (name, parts_tokens line w u (ys ++ rest)) → ports_at (ys ++ rest) ≡ Ok (ports, rest) → unit_at ((xs ++ parts_tokens line w u ys) ++ rest) ≡ Ok (unit name w (constant u.page) (constant u.slots) (constant u.reach) ports, rest)
+unfolding unit_at any_word_at measure_at keyword_at after_keyword after_sign
+unit_read line name w u ports xs ys rest k e f =
+    let whole = ap (name_at 32) (append_assoc xs (parts_tokens line w u ys) rest) ∙ e in
+    let page = number_read 32 line u.page (keyword_token line Slots ∷ number_token line u.slots ∷ keyword_token line Reach ∷ number_token line u.reach ∷ keyword_token line To ∷ (ys ++ rest)) (refl, refl) in
+    let slots = number_read 32 line u.slots (keyword_token line Reach ∷ number_token line u.reach ∷ keyword_token line To ∷ (ys ++ rest)) (refl, refl) in
+    let reach = number_read 32 line u.reach (keyword_token line To ∷ (ys ++ rest)) (refl, refl) in
+    rw (whole, k, page, slots, reach, f) refl
+
+semicolon_ends_ports : (line : ℕ) (rest : List Token) → PortsEnd (sign_token line Semicolon ∷ rest)
+unfolding after_sign
+semicolon_ends_ports line rest = ((refl, refl), refl)
+
+statement_read : (line : ℕ) (ts rest : List Token) (d : Declaration) → unit_at ts ≡ Ok (d, sign_token line Semicolon ∷ rest) → whole_statement_at (keyword_token line UnitWord ∷ ts) ≡ Ok (declares d, rest)
+unfolding whole_statement_at statement_at keyword_statement_at sign_at after_sign
+statement_read line ts rest d e = rw e refl
+
+-- what it declares
+unit_declared : (kinds : List Meaning) (line : ℕ) (name : List Part) (text w : List ℕ) (u : DraftUnit) (ports : List (List Part)) → full_name name ≡ Ok text → kind_place kinds w ≡ Some u.kind → u.page ≤ 255 → u.slots ≤ 4294967295 → u.reach ≤ 255 → each full_name ports ≡ Ok u.ports → declared_by kinds line (unit name w (constant u.page) (constant u.slots) (constant u.reach) ports) ≡ Ok (unit_with line text u)
+unit_declared kinds line name text w u ports n k a b c p =
+    let page : nat_le u.page 255 ≡ true = le-leb u.page 255 a in
+    let slots : nat_le u.slots 4294967295 ≡ true = le-leb u.slots 4294967295 b in
+    let reach : nat_le u.reach 255 ≡ true = le-leb u.reach 255 c in
+    rw (n, k, page, slots, reach, p) refl
+
+-- the line of a unit
+abbrev line_tokens : ℕ → List ℕ → DraftUnit → List Token → List Token → List Token
+line_tokens line w u name ports = name ++ parts_tokens line w u ports
+
+unit_said : (kinds : List Meaning) (net : List NodeDecl) (known : List (List ℕ)) → Named net known → (line before : ℕ) (text : List ℕ) (u : DraftUnit) → IsFull text → GoodParts kinds u → IsTrue (list_all (is_known known) u.ports) → Said kinds line (codes "unit " ++ (text ++ (unit_text (kind_text kinds u.kind) net (unit_in known u) ++ codes ";\n"))) UnitRole (Some u) (unit_with before text u)
+unit_said kinds net known named line before text u full h k =
+    let w : List ℕ = kind_text kinds u.kind in
+    let name = name_shown line text full in
+    let ports = ports_shown net known named line u.ports h.ports h.some h.few k in
+    let tokens : List Token = line_tokens line w u name.tokens ports.tokens in
+    let a = h.page in
+    let b = h.slots in
+    let c = h.reach in
+    let closed = closed_then name.lexed (kind_quiet (w ++ (codes " page " ++ (decimal u.page ++ (codes " slots " ++ (decimal u.slots ++ (codes " reach " ++ (decimal u.reach ++ (codes " to " ++ ports_text net (map (number_of known) u.ports)))))))))) (parts_closed line w u (ports_text net (map (number_of known) u.ports)) ports.tokens h.word (omega (arith, a)) (omega (arith, b)) (omega (arith, c)) ports.lexed) in
+    record {
+      first = keyword_token line UnitWord;
+      more = tokens ++ (sign_token line Semicolon ∷ []);
+      begins = refl;
+      declaration = unit name.tree w (constant u.page) (constant u.slots) (constant u.reach) ports.tree;
+      lexed = λ rest. marked_lexed line (codes "unit ") (text ++ (unit_text w net (unit_in known u) ++ codes ";\n")) (keyword_token line UnitWord) (tokens ++ (sign_token line Semicolon ∷ [])) (unit_open line) rest (end_lexed line text (unit_text w net (unit_in known u)) tokens closed rest);
+      read = λ rest. statement_read line ((tokens ++ (sign_token line Semicolon ∷ [])) ++ rest) rest (unit name.tree w (constant u.page) (constant u.slots) (constant u.reach) ports.tree) (reads rest);
+      declared = unit_declared kinds line name.tree text w u ports.tree name.valued h.place a b c ports.valued;
+    }
+  where
+    reads : (rest : List Token) → unit_at ((line_tokens line (kind_text kinds u.kind) u (name_shown line text full).tokens (ports_shown net known named line u.ports h.ports h.some h.few k).tokens ++ (sign_token line Semicolon ∷ [])) ++ rest) ≡ Ok (unit (name_shown line text full).tree (kind_text kinds u.kind) (constant u.page) (constant u.slots) (constant u.reach) (ports_shown net known named line u.ports h.ports h.some h.few k).tree, sign_token line Semicolon ∷ rest)
+    reads rest =
+        let w : List ℕ = kind_text kinds u.kind in
+        let name = name_shown line text full in
+        let ports = ports_shown net known named line u.ports h.ports h.some h.few k in
+        ap unit_at (append_assoc (line_tokens line w u name.tokens ports.tokens) (sign_token line Semicolon ∷ []) rest)
+        ∙ unit_read line name.tree w u ports.tree name.tokens ports.tokens (sign_token line Semicolon ∷ rest) (kind_any w h.word) (name.read (parts_tokens line w u (ports.tokens ++ (sign_token line Semicolon ∷ rest))) (kind_ends_name line _)) (ports.read (sign_token line Semicolon ∷ rest) (semicolon_ends_ports line rest))
+
+-- the line of any node
+pub statement_said : (kinds : List Meaning) (net : List NodeDecl) (known : List (List ℕ)) → Named net known → (line : ℕ) (d : Draft) → GoodDraft kinds d → IsTrue (refers_to_known known d) → Said kinds line (statement_text kinds net (node_in known d)) d.role d.unit d
+statement_said kinds net known named line d (inl h) k = node_said kinds net known named line d h k
+statement_said kinds net known named line d (inr h) k =
+    let there : IsTrue (refers_to_known known (unit_with h.line h.name h.unit)) = subst (λ (e : Draft). IsTrue (refers_to_known known e)) h.is k in
+    subst (λ (e : Draft). Said kinds line (statement_text kinds net (node_in known e)) e.role e.unit e) (sym h.is) (unit_said kinds net known named line h.line h.name h.unit h.full h.parts there)
