@@ -1,17 +1,14 @@
 -- Kinds of units: shapes, records, and what a kind means.
-use Rattle.std.specs.Prelude.{◌≡◌, ℕ, ◌-◌, ◌%◌, ◌^◌, ◌≤◌, Bool, ◌&&◌, nat_le, nat_lt, List, [], ◌∷◌, length, position, Option, Some, None, IsTrue}
+use Rattle.std.specs.Prelude.{◌≡◌, ℕ, ◌-◌, ◌%◌, ◌^◌, ◌≤◌, Bool, ◌&&◌, nat_lt, List, [], ◌∷◌, length, position, Option, Some, None, IsTrue}
 use Rattle.std.specs.Str.{bytes_eq}
+use Rattle.dn_net.specs.Units.{is_plain_shape}
 use Rattle.dn_kind.specs.declared.shape.Shape.{Shape}
 use Rattle.dn_kind.specs.declared.unit_kind.Record.{Record}
 use Rattle.dn_kind.specs.Rights.{are_rights}
 
 -- a unit may have this shape, whatever its kind
 abbrev pub is_plain : Shape → Bool
-is_plain shape =
-    nat_le shape.page 40
-    && nat_le 1 shape.slots && nat_le shape.slots 262144
-    && nat_le shape.page shape.reach && nat_le shape.reach 56
-    && nat_le 1 shape.ports && nat_le shape.ports 8
+is_plain shape = is_plain_shape shape.page shape.slots shape.reach shape.ports
 
 -- a unit of this shape can hold the record: it has the port, and the output is below its reach
 abbrev pub is_within : Shape → Record → Bool

@@ -4,14 +4,11 @@ use Rattle.std.specs.List.{list_all}
 use Rattle.dn_net.specs.declared.node.Name.{Name}
 use Rattle.dn_net.specs.declared.node.NodeDecl.{NodeDecl}
 use Rattle.dn_net.specs.declared.node.Unit.{Unit as UnitPart}
-use Rattle.dn_net.specs.Chain.{IsChain, Reaches}
-use Rattle.dn_net.specs.Decode.{is_accepted, is_formed, is_stop, unit_at, steps, Step}
+use Rattle.dn_net.specs.Chain.{IsChain}
+use Rattle.dn_net.specs.Decode.{is_accepted, is_formed, is_stop, unit_at}
+use Rattle.dn_net.specs.Legal.{IsLegalNet}
+pub use Rattle.dn_net.specs.UnitRules.{NoFork}
 use Rattle.dn_kind.specs.Tables.{Held, StepUnder}
-
--- no name forks on its way to a unit: a name that reaches a unit has at most one step
-abbrev pub NoFork : List NodeDecl → Type 0
-NoFork net = (x u : Name) → IsTrue (is_stop net u) → Reaches (Step net) x u →
-    length (steps net x) ≤ 1
 
 -- a slot of a unit, by the number of the unit's node
 pub record Slot : Type 0 where
@@ -43,6 +40,14 @@ OneWayToUnit = (net : List NodeDecl) (h : Held) → NoFork net →
     ((d : ℕ) × (j ≡ k + d) × IsChain (StepUnder net h) d y u)
     ⊎ ((d : ℕ) × (k ≡ j + d) × IsChain (StepUnder net h) d u y)
 
+-- In a legal net each name that reaches a unit under records has one way to it.
+abbrev pub LegalOneWayToUnit : Type 0
+LegalOneWayToUnit = (net : List NodeDecl) (h : Held) → IsLegalNet net →
+    (x u y : Name) (j k : ℕ) → IsTrue (is_stop net u) →
+    IsChain (StepUnder net h) j x u → IsChain (StepUnder net h) k x y →
+    ((d : ℕ) × (j ≡ k + d) × IsChain (StepUnder net h) d y u)
+    ⊎ ((d : ℕ) × (k ≡ j + d) × IsChain (StepUnder net h) d u y)
+
 -- Each chain goes on through a row of slots, and each row of slots that is gone through is a chain.
 abbrev pub ChainPassesSlots : Type 0
 ChainPassesSlots = (net : List NodeDecl) (h : Held) (k : ℕ) (x y : Name) →
@@ -53,6 +58,13 @@ ChainPassesSlots = (net : List NodeDecl) (h : Held) (k : ℕ) (x y : Name) →
 -- goes through the same slots in the same order.
 abbrev pub OneRowOfSlots : Type 0
 OneRowOfSlots = (net : List NodeDecl) (h : Held) → IsTrue (list_all is_formed net) → NoFork net →
+    (x y z : Name) (row other : List Slot) →
+    IsTrue (is_accepted net y) → IsTrue (is_accepted net z) →
+    Passes net h x y row → Passes net h x z other → row ≡ other
+
+-- In a legal net a name has one row of slots.
+abbrev pub LegalOneRowOfSlots : Type 0
+LegalOneRowOfSlots = (net : List NodeDecl) (h : Held) → IsLegalNet net →
     (x y z : Name) (row other : List Slot) →
     IsTrue (is_accepted net y) → IsTrue (is_accepted net z) →
     Passes net h x y row → Passes net h x z other → row ≡ other

@@ -4,7 +4,7 @@ ghost use Rattle.std.specs.Prelude.{◌≡◌};
 ghost use Rattle.dn_kind.specs.Cleared.{ClearedTablesAllow, LawOfAccess};
 ghost use Rattle.dn_kind.specs.Tables.{HeldRecordsFit, MoreRecordsKeepNames, NamesUnderAreResolved, step_limit_under};
 ghost use Rattle.dn_kind.specs.Units.{ShapeFaultIsFirst};
-ghost use Rattle.dn_kind.specs.Ways.{ChainPassesSlots, OneRowOfSlots, OneWayToUnit};
+ghost use Rattle.dn_kind.specs.Ways.{ChainPassesSlots, LegalOneRowOfSlots, LegalOneWayToUnit, OneRowOfSlots, OneWayToUnit};
 
 /// A net has no fault on the shape of its units exactly where each unit is shaped as a unit may be
 /// and as its kind asks; a fault is the first unit that is not.
@@ -62,4 +62,14 @@ pub fn chain_passes_slots()
 /// names it comes, it goes through the same slots in the same order.
 pub fn one_row_of_slots()
     ensures { OneRowOfSlots }
+{}
+
+/// In a legal net a name that reaches a unit under records has one way to it.
+pub fn legal_one_way_to_unit()
+    ensures { LegalOneWayToUnit }
+{}
+
+/// In a legal net a name has one row of slots.
+pub fn legal_one_row_of_slots()
+    ensures { LegalOneRowOfSlots }
 {}

@@ -4,19 +4,9 @@ ghost use Rattle.std.specs.Prelude.{◌≡◌, ◌≤◌, length};
 ghost use Rattle.dn_kind.specs.Kind.{is_plain};
 ghost use Rattle.dn_kind.specs.Units.{unit_shape};
 
-use dn_net::node::Unit;
+use dn_net::node::{Unit, is_plain_shape};
 
-/// The largest exponent of a slot's number of addresses.
-pub const MAX_PAGE: u8 = 40;
-
-/// The most slots of a unit.
-pub const MAX_SLOTS: u32 = 262_144;
-
-/// The largest exponent of a unit's outputs.
-pub const MAX_REACH: u8 = 56;
-
-/// The most ports of a unit.
-pub const MAX_PORTS: u8 = 8;
+pub use dn_net::node::{MAX_PAGE, MAX_PORTS, MAX_REACH, MAX_SLOTS};
 
 /// The shape of a unit: what its kind may ask of it.
 #[derive(Clone, Copy, Debug, PartialEq, Eq)]
@@ -37,13 +27,7 @@ impl Shape {
     pub fn is_plain(self) -> bool
         ensures { result ≡ is_plain self }
     {
-        self.page <= MAX_PAGE
-            && 1 <= self.slots
-            && self.slots <= MAX_SLOTS
-            && self.page <= self.reach
-            && self.reach <= MAX_REACH
-            && 1 <= self.ports
-            && self.ports <= MAX_PORTS
+        is_plain_shape(self.page, self.slots, self.reach, usize::from(self.ports))
     }
 }
 

@@ -1,9 +1,10 @@
 //! The rule on the shape of each unit.
 
-ghost use Rattle.std.specs.Prelude.{◌≡◌, ◌<◌, length, map, IsTrue};
+ghost use Rattle.std.specs.Prelude.{◌≡◌, ◌<◌, length, map, OnOk, IsTrue};
 ghost use Rattle.std.specs.List.{All, list_all};
 ghost use Rattle.std.specs.Option.{option_copied};
 ghost use Rattle.dn_base.specs.Answers.{Checks};
+ghost use Rattle.dn_net.specs.Units.{has_plain_units};
 ghost use Rattle.dn_kind.specs.Kind.{IsLawful};
 ghost use Rattle.dn_kind.specs.Units.{has_kind, has_shape, is_shaped, shape_fault, unit_fault_view};
 
@@ -22,12 +23,14 @@ pub enum UnitFault {
 }
 
 /// Tests the shape of each unit, in the order of the nodes. It takes no memory.
+/// Where it answers Ok, each unit has a plain shape.
 pub fn check_units(net: &Net, kinds: &Kinds) -> Result<(), UnitFault>
     requires lawful { All (λ k. IsLawful (meaning k)) kinds.now.list.items }
     requires known { IsTrue
         (list_all (λ n. has_kind (length kinds.now.list.items) n.unit) net.now) }
-    ensures { Checks unit_fault_view result
+    ensures checks { Checks unit_fault_view result
         (shape_fault (map (λ k. meaning k) kinds.now.list.items) net.now) }
+    ensures plain { OnOk result (IsTrue (has_plain_units net.now)) }
 {
     for node in 0..net.nodes() {
         if !is_node_shaped(net.unit(node), kinds) {

@@ -1,10 +1,13 @@
 pub mod Chain
 pub mod Decode
+pub mod Firsts
 pub mod Legal
 pub mod Names
 pub mod Order
 pub mod Parts
 pub mod Rules
 pub mod Spans
+pub mod UnitRules
+pub mod Units
 pub mod WalkRules
 pub mod Walks

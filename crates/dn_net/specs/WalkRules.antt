@@ -8,35 +8,9 @@ use Rattle.dn_net.specs.Chain.{Member, IsChain, Reaches, ReachesWithin}
 use Rattle.dn_net.specs.Decode.{top, within, steps, step_limit, Step}
 use Rattle.dn_net.specs.Names.{name_lt, name_eq, sorted_names, after_steps}
 use Rattle.dn_net.specs.Rules.{KeepsNodeRules}
+pub use Rattle.dn_net.specs.Firsts.{or_else, first_below, least_in, least_below, least_name, first_of}
+use Rattle.dn_net.specs.UnitRules.{Fork, least_fork, first_chain}
 use Rattle.dn_net.specs.Walks.{Choice, Follows, IsLive, IsGap, gaps, Walk, moved_name, live_walks, level, Precedes}
-
--- one value, or another where there is none
-abbrev pub or_else : {A : Type 0} → Option A → Option A → Option A
-or_else (Some a) other = Some a
-or_else None other = other
-
--- the first of the numbers below a bound that passes a test; no proof unfolds it at a numeral
-unfoldable pub first_below : (ℕ → Bool) → ℕ → Option ℕ
-first_below p zero = None
-first_below p (suc n) = or_else (first_below p n) (if p n then Some n else None)
-
--- the least name of a net that passes a test: its nodes in order, and of each its addresses
-abbrev pub least_in : (Name → Bool) → ℕ → Option Name
-least_in p n = option_map (λ a. record { node = n; addr = a }) (first_below (λ a. p (record { node = n; addr = a })) (top + 1))
-
--- the least name that passes a test, in the first so many nodes
-abbrev pub least_below : (Name → Bool) → ℕ → Option Name
-least_below p zero = None
-least_below p (suc n) = or_else (least_below p n) (least_in p n)
-
--- the least name of a net that passes a test
-abbrev pub least_name : List NodeDecl → (Name → Bool) → Option Name
-least_name net p = least_below p (length net)
-
--- the first of a list
-abbrev pub first_of : List Name → Option Name
-first_of [] = None
-first_of (x ∷ xs) = Some x
 
 -- so many steps can be taken from a name
 abbrev pub goes_on : List NodeDecl → ℕ → Name → Bool
@@ -100,6 +74,8 @@ pub data Broken : Type 0 where
   is_wide : Broken
   has_loop : List Name → Broken
   is_deep : List Name → Broken
+  has_fork : Name → ℕ → Broken
+  has_chain : List ℕ → Broken
 
 -- how many choices the counted walks have: up to the shortest cycle, or to the 65th step
 abbrev pub counted_length : Option ℕ → ℕ
@@ -115,9 +91,13 @@ cycle_or_path net None = option_map is_deep (path_names net step_limit)
 unfoldable pub endless_fault : List NodeDecl → Option Broken
 endless_fault net = if nat_lt walk_limit (length (live_walks net (counted_length (shortest_cycle net)))) then Some is_wide else cycle_or_path net (shortest_cycle net)
 
--- the second part, on the units that walks meet: no rule so far, since no walk leads on from a unit
-abbrev pub unit_fault : List NodeDecl → Option Broken
-unit_fault net = None
+-- the broken rule of a fork
+abbrev pub fork_broken : Fork → Broken
+fork_broken f = has_fork f.name f.unit
+
+-- the second part, on the units that walks meet: Fork, and then Chain
+unfoldable pub unit_fault : List NodeDecl → Option Broken
+unit_fault net = or_else (option_map fork_broken (least_fork net)) (option_map has_chain (first_chain net))
 
 -- the first rule on walks that is broken: of the first part, or else of the second
 abbrev pub walk_fault : List NodeDecl → Option Broken

@@ -2,6 +2,7 @@
 
 ghost use Rattle.std.specs.Prelude.{◌≡◌};
 ghost use Rattle.dn_net.specs.Decode.{within};
+ghost use Rattle.dn_net.specs.Units.{has_plain_shape, is_plain_shape};
 
 use dn_base::items::Items;
 use dn_base::text::Text;
@@ -11,6 +12,18 @@ pub const TOP: u64 = 0xff_ffff_ffff_ffff;
 
 /// The most nodes of a net.
 pub const MAX_NODES: usize = 1024;
+
+/// The largest exponent of the number of addresses of a unit's slot.
+pub const MAX_PAGE: u8 = 40;
+
+/// The most slots of a unit.
+pub const MAX_SLOTS: u32 = 262_144;
+
+/// The largest exponent of a unit's outputs.
+pub const MAX_REACH: u8 = 56;
+
+/// The most ports of a unit.
+pub const MAX_PORTS: u8 = 8;
 
 /// A name: an address in a node.
 #[derive(Clone, Copy, Debug, PartialEq, Eq)]
@@ -76,6 +89,29 @@ pub struct Unit {
     pub reach: u8,
     /// The nodes to which it sends, by number.
     pub ports: Items<u16>,
+}
+
+impl Unit {
+    /// Whether a unit may have this one's shape, whatever its kind: a page of at most [`MAX_PAGE`], 1 to
+    /// [`MAX_SLOTS`] slots, a reach from the page to [`MAX_REACH`], and 1 to [`MAX_PORTS`] ports.
+    pub fn has_plain_shape(&self) -> bool
+        ensures { result ≡ has_plain_shape self.now }
+    {
+        is_plain_shape(self.page, self.slots, self.reach, self.ports.as_slice().len())
+    }
+}
+
+/// Whether a unit may have this page, so many slots, this reach and so many ports, whatever its kind.
+pub fn is_plain_shape(page: u8, slots: u32, reach: u8, ports: usize) -> bool
+    ensures { result ≡ is_plain_shape page slots reach ports }
+{
+    page <= MAX_PAGE
+        && 1 <= slots
+        && slots <= MAX_SLOTS
+        && page <= reach
+        && reach <= MAX_REACH
+        && 1 <= ports
+        && ports <= usize::from(MAX_PORTS)
 }
 
 /// The declaration of a node. `unit` is some exactly where the role is `Unit`, and then the

@@ -8,6 +8,7 @@ ghost use Rattle.dn_base.specs.Answers.{Checks};
 ghost use Rattle.dn_net.specs.Decode.{top};
 ghost use Rattle.dn_net.specs.Spans.{is_accepted_in};
 ghost use Rattle.dn_net.specs.declared.node.NodeDecl.{NodeDecl};
+ghost use Rattle.dn_net.specs.Units.{has_plain_unit, has_plain_units};
 ghost use Rattle.dn_net.specs.Rules.{node_fault, node_fault_view, KeepsRules, fault_of_node, is_vectors, count_below, block_in_range, dest_in_range, entry_in_range, same_dest, dests_repeat, ports_repeat, unit_repeats};
 
 use crate::net::Net;
@@ -51,6 +52,18 @@ impl Net {
         Ok(())
     }
 
+    /// Whether each unit has a shape that a unit may have, whatever its kind: see [`Unit::has_plain_shape`].
+    pub fn has_plain_units(&self) -> bool
+        ensures { result ≡ has_plain_units self.now }
+    {
+        for node in 0..self.nodes() {
+            if !is_plain_unit(self.unit(node)) {
+                return false;
+            }
+        }
+        true
+    }
+
     /// Tests the rules of one node.
     fn check_node(&self, alloc: Global, node: u16) -> Result<(), NodeFault>
         requires { node < length self.now }
@@ -75,6 +88,16 @@ impl Net {
             return Err(NodeFault::VectorSpace { node });
         }
         Ok(())
+    }
+}
+
+/// Whether a node is no unit, or one of a plain shape.
+fn is_plain_unit(unit: Option<&Unit>) -> bool
+    ensures { result ≡ has_plain_unit (option_copied unit.entry) }
+{
+    match unit {
+        Some(unit) => unit.has_plain_shape(),
+        None => true,
     }
 }
 

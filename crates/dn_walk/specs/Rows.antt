@@ -6,10 +6,10 @@ use Rattle.dn_interval.specs.Spans.{has}
 use Rattle.dn_net.specs.Decode.{step_limit, is_accepted}
 use Rattle.dn_net.specs.Legal.{IsLegalNet}
 use Rattle.dn_net.specs.Walks.{Walk, live_walks}
-use Rattle.dn_net.specs.WalkRules.{Broken, is_wide, has_loop, is_deep}
+use Rattle.dn_net.specs.WalkRules.{Broken, is_wide, has_loop, is_deep, has_fork, has_chain}
 use Rattle.dn_walk.specs.declared.walks.WalkRow.{WalkRow}
 use Rattle.dn_walk.specs.declared.fault.WalkFault.{WalkFault}
-use Rattle.dn_walk.specs.declared.fault.WalkFault.TheVariants.{Wide, Loop, Deep, OutOfMemory}
+use Rattle.dn_walk.specs.declared.fault.WalkFault.TheVariants.{Wide, Loop, Deep, Fork, Chain, OutOfMemory}
 
 -- what a row tells of a walk: its start, the addresses that follow it, where the first of them comes, and its length
 pub record Told : Type 0 where
@@ -49,4 +49,6 @@ abbrev pub walk_fault_view : WalkFault → Option Broken
 walk_fault_view Wide = Some is_wide
 walk_fault_view (Loop cycle) = Some (has_loop cycle)
 walk_fault_view (Deep path) = Some (is_deep path)
+walk_fault_view (Fork name unit) = Some (has_fork name unit)
+walk_fault_view (Chain units) = Some (has_chain units)
 walk_fault_view OutOfMemory = None

@@ -24,12 +24,22 @@ pub enum WalkFault {
     /// the order of names.
     #[error("Deep")]
     Deep { path: Items<Name> },
+    /// A name with two or more destinations reaches a unit. The name is the least such name, by node and then by
+    /// address, and the unit the least that it reaches, by number.
+    #[error("Fork")]
+    Fork { name: Name, unit: u16 },
+    /// Four units stand in a row, in which each leads to the next, or the slots of the units of a row multiply to
+    /// more than 1,048,576. The units are the first row of four, in order of their numbers; where there is none,
+    /// the first row of one, two or three units with too many slots, the shorter first and then by their numbers.
+    /// A unit may stand in a row several times.
+    #[error("Chain")]
+    Chain { units: Items<u16> },
     /// There was no memory for the walks.
     #[error("OutOfMemory")]
     OutOfMemory,
 }
 
-/// The name of the rule; the names of a cycle or a path are left out.
+/// The name of the rule; what it carries is left out.
 impl Debug for WalkFault {
     fn fmt<W: Write>(&self, f: &mut Formatter<W>) -> Result<(), fmt::Error> {
         write!(f, "{self}")

@@ -1,20 +1,26 @@
 //! The table of the live walks of a net.
 
-ghost use Rattle.std.specs.Prelude.{◌≡◌, ◌<◌, ◌≤◌, ◌-◌, List, map, length, IfOk, option_map};
+ghost use Rattle.std.specs.Prelude.{◌≡◌, ◌<◌, ◌≤◌, ◌-◌, List, map, length, IfOk, IsTrue, option_map};
 ghost use Rattle.std.specs.List.{All};
 ghost use Rattle.std.specs.List.Sorted.{IsNonDecreasingBy};
 ghost use Rattle.dn_base.specs.Answers.{Checks};
 ghost use Rattle.dn_net.specs.Rules.{KeepsNodeRules};
-ghost use Rattle.dn_net.specs.WalkRules.{walk_fault, has_loop, is_deep};
+ghost use Rattle.dn_net.specs.Decode.{step_limit};
+ghost use Rattle.dn_net.specs.Units.{has_plain_units};
+ghost use Rattle.dn_net.specs.UnitRules.{IsShallow};
+ghost use Rattle.dn_net.specs.Walks.{live_walks};
+ghost use Rattle.dn_net.specs.WalkRules.{unit_fault, walk_fault, has_loop, is_deep};
 ghost use Rattle.dn_walk.specs.declared.leg.Leg.{Leg};
 ghost use Rattle.dn_walk.specs.declared.level.TheConstants.{WALK_LIMIT};
 ghost use Rattle.dn_walk.specs.declared.walks.WalkRow.{WalkRow};
-ghost use Rattle.dn_walk.specs.Rows.{AreWalksOf, walk_fault_view, row_view};
+ghost use Rattle.dn_walk.specs.Rows.{AreWalksOf, walk_fault_view, row_view, told_by_walk};
 ghost use Rattle.dn_walk.specs.Levels.{AreLevels, told_walks};
 ghost use Rattle.dn_walk.specs.Ways.{told_cycle, told_path};
 
 use crate::accepted::accepted_sets;
+use crate::chain::first_chain;
 use crate::fault::WalkFault;
+use crate::fork::{Fork, least_fork};
 use crate::leg::net_legs;
 use crate::level::{Levels, WALK_LIMIT};
 use crate::way::{Goal, least_start, way};
@@ -75,6 +81,7 @@ impl WalkTable {
 /// The live walks of a net, or the first rule on walks that it breaks.
 pub fn walks(alloc: Global, net: &Net) -> Result<WalkTable, WalkFault>
     requires rules { KeepsNodeRules net.now }
+    requires shapes { IsTrue (has_plain_units net.now) }
     ensures checks { Checks walk_fault_view result (walk_fault net.now) }
     ensures walks { IfOk result (λ table. AreWalksOf net.now table) }
 {
@@ -87,8 +94,10 @@ pub fn walks(alloc: Global, net: &Net) -> Result<WalkTable, WalkFault>
     }
     levels = levels.grown(alloc, &legs)?;
     check_depth(alloc, net, &levels)?;
+    let rows = table_rows(alloc, &levels)?;
+    check_units(alloc, net, &rows)?;
     Ok(WalkTable {
-        rows: table_rows(alloc, &levels)?,
+        rows,
         accepted: accepted_sets(alloc, net)?,
     })
 }
@@ -123,6 +132,25 @@ fn check_depth(alloc: Global, net: &Net, levels: &Levels) -> Result<(), WalkFaul
     };
     let path = way(alloc, net, &levels.sorted, first, Goal::Anywhere)?;
     Err(WalkFault::Deep { path })
+}
+
+/// Refuses a net in which a name forks on its way to a unit, or a row of units is too long or has too many slots. The rows
+/// are its live walks.
+fn check_units(alloc: Global, net: &Net, rows: &[WalkRow]) -> Result<(), WalkFault>
+    requires rules { KeepsNodeRules net.now }
+    requires shapes { IsTrue (has_plain_units net.now) }
+    requires shallow { IsShallow net.now }
+    requires few { length net.now ≤ 1024 }
+    requires walks { map row_view rows.now ≡ map told_by_walk (live_walks net.now step_limit) }
+    ensures { Checks walk_fault_view result (unit_fault net.now) }
+{
+    if let Some(Fork { name, unit }) = least_fork(net, rows) {
+        return Err(WalkFault::Fork { name, unit });
+    }
+    if let Some(units) = first_chain(alloc, net, rows)? {
+        return Err(WalkFault::Chain { units });
+    }
+    Ok(())
 }
 
 /// The rows of the sorted levels but the first.

@@ -1,0 +1,102 @@
+//! The first row of units that is too long, or has too many slots.
+
+ghost use Rattle.std.specs.Prelude.{◌≡◌, ◌<◌, ◌≤◌, ◌∷◌, ℕ, length, map, IfOk, IsTrue};
+ghost use Rattle.std.specs.List.{All};
+ghost use Rattle.dn_net.specs.Decode.{is_closed, step_limit, unit_at};
+ghost use Rattle.dn_net.specs.Rules.{KeepsNodeRules};
+ghost use Rattle.dn_net.specs.Units.{has_plain_units};
+ghost use Rattle.dn_net.specs.UnitRules.{IsShallow, first_chain, slots_of};
+ghost use Rattle.dn_net.specs.Walks.{live_walks};
+ghost use Rattle.dn_walk.specs.Rows.{row_view, told_by_walk};
+ghost use Rattle.dn_walk.specs.Units.{first_over};
+
+use crate::leads::{next_units, unit_numbers};
+use crate::walks::WalkRow;
+use dn_base::items::Items;
+use dn_net::net::Net;
+use std::alloc::{AllocError, Global};
+
+/// The most that the slots of a row of units multiply to.
+const SLOTS_LIMIT: u64 = 1_048_576;
+
+/// The first row of four units, or else the first row of one, two or three whose slots multiply to more than the limit.
+pub(crate) fn first_chain(
+    alloc: Global,
+    net: &Net,
+    rows: &[WalkRow],
+) -> Result<Option<Items<u16>>, AllocError>
+    requires rules { KeepsNodeRules net.now }
+    requires shapes { IsTrue (has_plain_units net.now) }
+    requires shallow { IsShallow net.now }
+    requires few { length net.now ≤ 1024 }
+    requires walks { map row_view rows.now ≡ map told_by_walk (live_walks net.now step_limit) }
+    ensures { IfOk result (λ o. o ≡ first_chain net.now) }
+{
+    let units = unit_numbers(alloc, net)?;
+    let next = next_units(alloc, net, rows, &units)?;
+    if let Some(row) = first_row(alloc, net, &next, &units, 4, 0)? {
+        return Ok(Some(row));
+    }
+    if let Some(row) = first_row(alloc, net, &next, &units, 1, SLOTS_LIMIT)? {
+        return Ok(Some(row));
+    }
+    if let Some(row) = first_row(alloc, net, &next, &units, 2, SLOTS_LIMIT)? {
+        return Ok(Some(row));
+    }
+    first_row(alloc, net, &next, &units, 3, SLOTS_LIMIT)
+}
+
+/// The first row of so many units whose slots multiply to more than `most`, where the first unit is one of these and each other
+/// one of those next to the one before it.
+fn first_row(
+    alloc: Global,
+    net: &Net,
+    next: &[Items<u16>],
+    units: &[u16],
+    left: u8,
+    most: u64,
+) -> Result<Option<Items<u16>>, AllocError>
+    requires shapes { IsTrue (has_plain_units net.now) }
+    requires size { length next.now ≡ length net.now }
+    requires next { All (λ us. All (λ u. u < length net.now) us) next.now }
+    requires units { All (λ u. u < length net.now) units.now }
+    ensures { IfOk result (λ o. o ≡ first_over net.now next.now left most units.now) }
+{
+    if left == 0 {
+        return Ok(if most == 0 {
+            Some(Items::new(alloc))
+        } else {
+            None
+        });
+    }
+    for unit in units {
+        let behind = next[usize::from(*unit)].as_slice();
+        let rest = first_row(alloc, net, next, behind, left - 1, most / slots(net, *unit))?;
+        if let Some(rest) = rest {
+            return Ok(Some(with_front(*unit, rest)?));
+        }
+    }
+    Ok(None)
+}
+
+/// How many slots a unit has.
+fn slots(net: &Net, unit: u16) -> u64
+    requires shapes { IsTrue (has_plain_units net.now) }
+    requires there { unit < length net.now }
+    ensures value { result ≡ slots_of (unit_at net.now unit) }
+    ensures some { 1 ≤ result }
+{
+    match net.unit(unit) {
+        Some(unit) => u64::from(unit.slots),
+        None => 1,
+    }
+}
+
+/// The row with a unit before it.
+fn with_front(unit: u16, row: Items<u16>) -> Result<Items<u16>, AllocError>
+    ensures { IfOk result (λ us. us ≡ unit ∷ row) }
+{
+    let mut units = row.into_vec();
+    units.insert(0, unit)?;
+    Ok(Items::from_vec(units))
+}

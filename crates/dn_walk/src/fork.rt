@@ -1,0 +1,96 @@
+//! The least name that goes several ways and reaches a unit.
+
+ghost use Rattle.std.specs.Prelude.{◌≡◌, ◌<◌, nat_lt, length, map};
+ghost use Rattle.std.specs.List.{All};
+ghost use Rattle.dn_net.specs.Decode.{steps};
+ghost use Rattle.dn_net.specs.Rules.{KeepsNodeRules};
+ghost use Rattle.dn_walk.specs.declared.walks.WalkRow.{WalkRow};
+ghost use Rattle.dn_walk.specs.Rows.{row_view};
+ghost use Rattle.dn_walk.specs.Units.{fork_before, lesser_fork, shows_fork, IsLeastShown};
+ghost use Rattle.dn_walk.specs.Ways.{start_name};
+
+use crate::walks::WalkRow;
+use dn_net::net::Net;
+use dn_net::node::Name;
+use dn_net::step::Step;
+
+/// A name with two or more destinations, and a unit that it reaches.
+#[derive(Clone, Copy)]
+pub(crate) struct Fork {
+    pub name: Name,
+    pub unit: u16,
+}
+
+/// The least fork that the rows show, by its name and then by its unit. The first address of a row has as
+/// many destinations as each other.
+pub(crate) fn least_fork(net: &Net, rows: &[WalkRow]) -> Option<Fork>
+    requires rules { KeepsNodeRules net.now }
+    requires starts { All (λ (r : WalkRow). r.start < length net.now) rows.now }
+    requires ends { All (λ (r : WalkRow). r.end < length net.now) rows.now }
+    ensures { IsLeastShown net.now (map row_view rows.now) result }
+{
+    let mut least = None;
+    for row in rows {
+        if is_fork(net, row) {
+            least = lesser(
+                least,
+                Fork {
+                    name: first_name(row),
+                    unit: row.end,
+                },
+            );
+        }
+    }
+    least
+}
+
+/// Whether the row ends in a unit, and its first name has two or more destinations.
+fn is_fork(net: &Net, row: &WalkRow) -> bool
+    requires rules { KeepsNodeRules net.now }
+    requires start { row.now.start < length net.now }
+    requires end { row.now.end < length net.now }
+    ensures { result ≡ shows_fork net.now (row_view row.now) }
+{
+    net.unit(row.end).is_some() && has_several_steps(net, first_name(row))
+}
+
+fn has_several_steps(net: &Net, name: Name) -> bool
+    requires rules { KeepsNodeRules net.now }
+    requires there { name.node < length net.now }
+    ensures { result ≡ nat_lt 1 (length (steps net.now name)) }
+{
+    match net.step(name) {
+        Step::To(dests, _offset) => dests.len() > 1,
+        Step::Accepted | Step::Stop | Step::Nothing => false,
+    }
+}
+
+/// The first name that follows the walk.
+fn first_name(row: &WalkRow) -> Name
+    ensures { result ≡ start_name (row_view row.now) }
+{
+    Name {
+        node: row.start,
+        addr: row.span.lo,
+    }
+}
+
+/// The lesser of two forks.
+fn lesser(least: Option<Fork>, fork: Fork) -> Option<Fork>
+    ensures { result ≡ lesser_fork least fork }
+{
+    match least {
+        Some(other) if !comes_before(fork, other) => least,
+        _ => Some(fork),
+    }
+}
+
+/// Whether a fork comes before another, by its name and then by its unit.
+fn comes_before(fork: Fork, other: Fork) -> bool
+    ensures { result ≡ fork_before fork other }
+{
+    let (one, two) = (fork.name, other.name);
+    one.node < two.node
+        || (one.node == two.node
+            && (one.addr < two.addr || (one.addr == two.addr && fork.unit < other.unit)))
+}
