@@ -6,4 +6,5 @@ pub mod NodeFaults
 pub mod Refusals
 pub mod Replies
 pub mod Shaped
+pub mod WalkFaults
 pub mod Sets

@@ -1,13 +1,14 @@
 //! Nets and machines for tests, made from texts of the language.
 //!
-//! [`texts::net_of`] gives the net of a text as it stands, and [`machine::Machine`] is a net that keeps all rules,
-//! so that whoever has one may ask what its calls require. A text cannot declare a unit, so [`units`] adds units,
-//! and agents that send to them, to the net of a text.
+//! [`texts::net_of`] gives the net of a text as it stands, [`texts::printed`] the text of that net, and
+//! [`machine::Machine`] is a net that keeps all rules, so that whoever has one may ask what its calls require. The
+//! texts know the kinds of the program.
 #![tactic(auto)]
 
+#[macro_use]
+mod kinds;
 pub mod machine;
 pub mod texts;
-pub mod units;
 pub mod unmade;
 
 pub use machine::Machine;

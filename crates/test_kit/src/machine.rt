@@ -2,7 +2,6 @@
 
 ghost use Rattle.std.specs.Prelude.{◌≡◌, IfOk, IsTrue, length};
 ghost use Rattle.dn_interval.specs.Rows.{ends_within};
-ghost use Rattle.dn_net.specs.Decode.{is_closed};
 ghost use Rattle.dn_net.specs.Legal.{IsLegalNet};
 ghost use Rattle.dn_print.specs.Names.{names_exist};
 
@@ -13,7 +12,7 @@ use dn_net::net::Net;
 use dn_net::node::Name;
 use dn_tool::compile::{CompileFault, compile};
 use dn_tool::resolve::resolve;
-use dn_walk::walks::{WalkTable, walks};
+use dn_walk::walks::WalkTable;
 use std::alloc::Global;
 use std::marker::Model;
 
@@ -40,7 +39,8 @@ impl Model for Machine {
 impl Machine {
     /// The machine of a text.
     pub fn of_text(alloc: Global, text: &str) -> Result<Machine, Unmade> {
-        match compile(alloc, text.as_bytes()) {
+        let kinds = program_kinds!(alloc);
+        match compile(alloc, text.as_bytes(), &kinds) {
             Ok(platform) => {
                 platform.facts();
                 Ok(Machine {
@@ -50,20 +50,6 @@ impl Machine {
             }
             Err(CompileFault::Refused(_)) => Err(Unmade::Refused),
             Err(CompileFault::OutOfMemory) => Err(Unmade::OutOfMemory),
-        }
-    }
-
-    /// The machine of a net.
-    pub fn of_net(alloc: Global, net: Net) -> Result<Machine, Unmade>
-        requires closed { IsTrue (is_closed net) }
-        ensures same { IfOk result (λ m. m ≡ net) }
-    {
-        if net.check_nodes(alloc).is_err() {
-            return Err(Unmade::Refused);
-        }
-        match walks(alloc, &net) {
-            Ok(walks) => Ok(Machine { net, walks }),
-            Err(_) => Err(Unmade::Refused),
         }
     }
 

@@ -4,16 +4,12 @@ use dn_net::node::{Name, TOP};
 use dn_net::step::Step;
 use std::alloc::Global;
 use std::test::Fail;
-use test_kit::texts::net_of;
-use test_kit::units::add_unit;
 use test_kit::{Machine, Unmade};
 
 /// A bus that accepts, maps and sends on, a memory behind it, and a unit in front of both, which is node 2.
 fn board(alloc: Global) -> Result<Machine, Unmade> {
-    let text = "bus is accept [0-9] map [10-19 to bus at 100] over ram; ram is accept [0-99];";
-    let mut net = net_of(alloc, text)?;
-    let _ = add_unit(alloc, &mut net, "mmu", &[0, 1])?;
-    Machine::of_net(alloc, net)
+    let text = "bus is accept [0-9] map [10-19 to bus at 100] over ram; ram is accept [0-99]; unit mmu kind remap page 12 slots 16 reach 32 to bus, ram;";
+    Machine::of_text(alloc, text)
 }
 
 /// The step of a name, and the first name to which it leads.

@@ -1,8 +1,7 @@
 //! Tests of nets: the nodes that a net shows, sets of names, the rules on nodes, one step of decoding, and the
 //! live walks with the rules on them.
 //!
-//! The wanted values are worked out by hand. The nets are those of texts; where a test needs a unit, it is added
-//! to the net of a text.
+//! The wanted values are worked out by hand. The nets are those of texts.
 #![tactic(auto)]
 
 ghost use Rattle.std.specs.Prelude.{◌≡◌, IfNone, None};

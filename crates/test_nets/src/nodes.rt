@@ -2,22 +2,20 @@
 
 use dn_net::names::Names;
 use dn_net::net::Net;
-use dn_net::node::{Block, Dest, Name, Role};
+use dn_net::node::{Block, Name, Role};
 use std::test::Fail;
 use test_kit::texts::net_of;
-use test_kit::units::{add_sender, add_unit};
 
 #[test]
 fn numbers_nodes_in_their_order(rt: HostRuntime) -> Result<(), Fail> {
     let alloc = rt.alloc();
-    let mut net = Net::new(alloc);
-    assert_eq!(rt; net.nodes(), 0);
-    assert_eq!(rt; add_unit(alloc, &mut net, "first", &[])?, 0);
-    let block = Block { lo: 1, hi: 2 };
-    let dest = Dest { node: 0, addr: 3 };
-    assert_eq!(rt; add_sender(alloc, &mut net, "second", block, dest)?, 1);
+    assert_eq!(rt; Net::new(alloc).nodes(), 0);
+    let text = "unit first kind pages page 12 slots 16 reach 32 to third; agent second is map [1-2 to first at 3]; third is;";
+    let net = net_of(alloc, text)?;
+    assert_eq!(rt; net.nodes(), 3);
+    assert_eq!(rt; net.find("first"), Some(0));
     assert_eq!(rt; net.find("second"), Some(1));
-    assert_eq!(rt; net.find("third"), None);
+    assert_eq!(rt; net.find("fourth"), None);
     assert_eq!(rt; net.check_nodes(alloc), Ok(()));
     Ok(())
 }

@@ -1,13 +1,10 @@
 //! The rules on nodes: the fault of the first node that breaks one.
 
 use crate::fault_of;
-use dn_net::net::Net;
 use dn_net::node::TOP;
 use dn_net::rules::NodeFault;
-use std::alloc::Global;
 use std::test::Fail;
 use test_kit::texts::net_of;
-use test_kit::units::add_unit;
 
 #[test]
 fn names_the_least_overlap(rt: HostRuntime) -> Result<(), Fail> {
@@ -89,21 +86,24 @@ fn names_no_destination_twice(rt: HostRuntime) -> Result<(), Fail> {
     Ok(())
 }
 
-/// A net of four nodes and a unit with these ports.
-fn with_ports(alloc: Global, ports: &[u16]) -> Result<Net, Fail> {
-    let mut net = net_of(alloc, "a is; b is; c is; d is;")?;
-    let _ = add_unit(alloc, &mut net, "unit", ports)?;
-    Ok(net)
-}
-
 #[test]
 fn names_no_port_twice(rt: HostRuntime) -> Result<(), Fail> {
     let alloc = rt.alloc();
-    let net = with_ports(alloc, &[3, 1, 2])?;
-    assert_eq!(rt; fault_of(alloc, &net), None);
-    let net = with_ports(alloc, &[3, 1, 1])?;
-    let fault = NodeFault::Repeat { node: 4 };
-    assert_eq!(rt; fault_of(alloc, &net), Some(fault));
+    let fault = NodeFault::Repeat { node: 3 };
+    let rows = [
+        (
+            "a is; b is; c is; unit u kind remap page 12 slots 4 reach 32 to c, a, b;",
+            None,
+        ),
+        (
+            "a is; b is; c is; unit u kind remap page 12 slots 4 reach 32 to c, a, a;",
+            Some(fault),
+        ),
+    ];
+    for (text, wanted) in rows {
+        let net = net_of(alloc, text)?;
+        assert_eq!(rt; fault_of(alloc, &net), wanted, "{text}");
+    }
     let text = format!(in alloc; "{fault}")?;
     assert_eq!(rt; text.as_str(), "Repeat");
     Ok(())

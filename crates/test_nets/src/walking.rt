@@ -8,10 +8,14 @@ use std::test::Fail;
 use test_kit::texts::net_of;
 
 /// What `walks` answers for the net of a text: the rows, each as `start lo-hi end@base len`, with the addresses
-/// in hexadecimal, or the rule that is broken, with the names that it shows.
+/// in hexadecimal, or the rule that is broken, with the names and units that it shows. A net whose units have
+/// other shapes than units may have is refused.
 fn told(alloc: Global, text: &str) -> Result<String, Fail> {
     let net = net_of(alloc, text)?;
     net.check_nodes(alloc)?;
+    if !net.has_plain_units() {
+        return Err(Fail::from(AllocError));
+    }
     Ok(answer(alloc, walks(alloc, &net))?)
 }
 
@@ -22,6 +26,11 @@ fn answer(alloc: Global, walks: Result<WalkTable, WalkFault>) -> Result<String, 
         Err(WalkFault::OutOfMemory) => String::from_str(alloc, "no memory"),
         Err(WalkFault::Loop { cycle }) => names(alloc, "Loop", cycle.as_slice()),
         Err(WalkFault::Deep { path }) => names(alloc, "Deep", path.as_slice()),
+        Err(WalkFault::Fork { name, unit }) => {
+            let (node, addr) = (name.node, name.addr);
+            format!(in alloc; "Fork {node}@{addr:x} {unit}")
+        }
+        Err(WalkFault::Chain { units }) => numbers(alloc, units.as_slice()),
     }
 }
 
@@ -39,6 +48,14 @@ fn names(alloc: Global, word: &str, names: &[Name]) -> Result<String, AllocError
     let mut text = String::from_str(alloc, word)?;
     for name in names {
         write!(text, " {}@{:x}", name.node, name.addr)?;
+    }
+    Ok(text)
+}
+
+fn numbers(alloc: Global, units: &[u16]) -> Result<String, AllocError> {
+    let mut text = String::from_str(alloc, "Chain")?;
+    for unit in units {
+        write!(text, " {unit}")?;
     }
     Ok(text)
 }
@@ -122,6 +139,80 @@ fn ends_chains_at_sixty_four_steps(rt: HostRuntime) -> Result<(), Fail> {
         let told = told(rt.alloc(), text)?;
         assert!(rt; told.as_str().starts_with(front), "{text}");
         assert!(rt; told.as_str().ends_with(end), "{text}");
+    }
+    Ok(())
+}
+
+#[test]
+fn names_the_least_fork(rt: HostRuntime) -> Result<(), Fail> {
+    let rows = [
+        // Two names fork and reach the unit: the one in the node of the lesser number is named.
+        (
+            "m is accept [0-15]; unit u kind pages page 0 slots 16 reach 8 to m; b is map [4-7 to u at 0 and m at 0]; a is map [0-3 to m at 0 and u at 0];",
+            "Fork 2@4 1",
+        ),
+        // The least name is named, though the next one reaches a lesser unit too, in two steps.
+        (
+            "a is map [2-3 to w at 0 and b at 0]; b is map [1 to u at 0]; m is accept [0-15]; unit u kind pages page 0 slots 16 reach 8 to m; unit w kind pages page 0 slots 16 reach 8 to m;",
+            "Fork 0@2 4",
+        ),
+        // The name reaches two units, and the lesser is named.
+        (
+            "a is map [0-3 to w at 0 and u at 0]; m is accept [0-15]; unit u kind pages page 0 slots 16 reach 8 to m; unit w kind pages page 0 slots 16 reach 8 to m;",
+            "Fork 0@0 2",
+        ),
+        // Two destinations behind the unit are no fork.
+        (
+            "a is map [0-3 to u at 0]; m is accept [0-15]; unit u kind pages page 0 slots 16 reach 8 to n; n is map [0-3 to m at 0 and m at 8];",
+            "0 0-3 2@0 1;3 0-3 1@0 1;3 0-3 1@8 1;",
+        ),
+    ];
+    for (text, wanted) in rows {
+        let told = told(rt.alloc(), text)?;
+        assert_eq!(rt; told.as_str(), wanted, "{text}");
+    }
+    Ok(())
+}
+
+#[test]
+fn names_the_first_row_of_units(rt: HostRuntime) -> Result<(), Fail> {
+    let rows = [
+        // A unit behind itself, and a port that is the unit.
+        (
+            "n is over u; unit u kind remap page 12 slots 4 reach 16 to n;",
+            "Chain 1 1 1 1",
+        ),
+        (
+            "unit u kind remap page 12 slots 4 reach 16 to u;",
+            "Chain 0 0 0 0",
+        ),
+        // Three units in a row, and a fourth in front of them.
+        (
+            "m is accept [0]; unit u kind pages page 0 slots 1 reach 8 to m; unit v kind pages page 0 slots 1 reach 8 to u; unit w kind pages page 0 slots 1 reach 8 to v; unit x kind pages page 0 slots 1 reach 8 to w;",
+            "Chain 4 3 2 1",
+        ),
+        // Slots that multiply to 2^20, and to more.
+        (
+            "m is accept [0]; unit u kind pages page 0 slots 1024 reach 16 to m; unit v kind pages page 0 slots 1024 reach 16 to u;",
+            "",
+        ),
+        (
+            "m is accept [0]; unit u kind pages page 0 slots 1024 reach 16 to m; unit v kind pages page 0 slots 1025 reach 16 to u;",
+            "Chain 2 1",
+        ),
+        // The port's node leads to the other unit at addresses past the reach alone.
+        (
+            "m is accept [0]; n is map [0x100-0x1ff to u at 0]; unit u kind pages page 0 slots 1024 reach 16 to m; unit v kind pages page 0 slots 2048 reach 8 to n;",
+            "1 100-1ff 2@0 1;",
+        ),
+        (
+            "m is accept [0]; n is map [0xff-0x1ff to u at 0]; unit u kind pages page 0 slots 1024 reach 16 to m; unit v kind pages page 0 slots 2048 reach 8 to n;",
+            "Chain 3 2",
+        ),
+    ];
+    for (text, wanted) in rows {
+        let told = told(rt.alloc(), text)?;
+        assert_eq!(rt; told.as_str(), wanted, "{text}");
     }
     Ok(())
 }

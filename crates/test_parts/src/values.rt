@@ -1,6 +1,7 @@
 //! The parts of one statement: values, full names, and the first fault of a statement with
 //! several. The wanted values are worked out by hand.
 
+use dn_kind::kinds::Kinds;
 use dn_module::command::Command;
 use dn_module::expand::{Expanded, expand};
 use dn_module::fault::ExpandFault;
@@ -11,7 +12,7 @@ use std::test::Fail;
 /// What a text that is well formed expands to, or the first fault.
 fn expanded(alloc: Global, text: &str) -> Result<Result<Expanded, ExpandFault>, Fail> {
     let tree = read(alloc, text.as_bytes())?;
-    Ok(expand(alloc, &tree))
+    Ok(expand(alloc, &tree, &Kinds::none(alloc)))
 }
 
 /// The address that the command `resolve` has in a text without nodes.
@@ -67,14 +68,6 @@ fn answers_the_first_fault_of_a_statement(rt: HostRuntime) -> Result<(), Fail> {
         ("\na is map [1 to b[(0-1)] at q];", range),
         ("\na is map [1 to b at (0-1)] over c[q];", range),
         ("\na is over c[q];", unknown),
-        (
-            "\nunit u[(0-1)] kind pages page q slots 4 reach 40 to b;",
-            range,
-        ),
-        (
-            "\nunit u kind pages page 12 slots 4 reach 40 to b;",
-            unknown,
-        ),
     ];
     for (text, wanted) in rows {
         let fault = expanded(rt.alloc(), text)?.err();

@@ -1,7 +1,7 @@
 //! Tests of each front of a text.
 
 use crate::outcome::{NONE, answer};
-use crate::rows::{refuses, words_of};
+use crate::rows::words_of;
 use dn_tool::run::{DONE, REFUSED};
 use std::test::Fail;
 
@@ -11,7 +11,7 @@ vectors v is accept [0-31];
 bus is map [0-7 to dram and dram at 0x8, 8 to v] over dram;
 module m(num n, node x); a[n].b is over x; end;
 for i in 0..2; use m(i, node dram) as c[i]; end;
-unit u kind pages page 12 slots 4 reach 40 to dram, bus;
+unit u kind remap page 12 slots 4 reach 40 to dram, bus;
 agent core is over bus;
 begin;
 resolve core 1+2; lookup core 0; view core; grant g core dram 0x0 0x10;
@@ -31,10 +31,4 @@ fn answers_each_front_of_a_text(rt: HostRuntime) -> Result<(), Fail> {
         assert!(rt; slow.status == DONE || slow.status == REFUSED, "{size}");
     }
     Ok(())
-}
-
-#[test]
-fn refuses_a_unit_of_a_kind_that_is_not_there(rt: HostRuntime) -> Result<(), Fail> {
-    // No kind of unit exists so far.
-    refuses(&rt, EVERY, 1, "refused: line 6 Unknown\n")
 }

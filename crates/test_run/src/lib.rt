@@ -3,7 +3,8 @@
 //! What a text is answered stands in the files of `answers/`, which the built program is run over. Here is what needs
 //! a source and a sink that a test can direct: a text is answered alike however many bytes a read gives (`pieces`);
 //! a read or a write that fails ends the run with its status, no call is made again or beside those that are needed,
-//! and words of no form read nothing (`faults`); each front of a text is answered (`cuts`). [`outcome`] runs the words over a text,
+//! and words of no form read nothing (`faults`); each front of a text is answered (`cuts`); and nets with units are
+//! printed, read back and refused (`units`). [`outcome`] runs the words over a text,
 //! and `rows` compares what comes of it.
 #![tactic(auto)]
 
@@ -16,3 +17,5 @@ pub mod outcome;
 mod pieces;
 #[cfg(test)]
 mod rows;
+#[cfg(test)]
+mod units;

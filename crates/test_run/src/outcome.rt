@@ -1,10 +1,15 @@
 //! What words over a text come to, with a source and a sink in memory.
 
-ghost use Rattle.std.specs.Prelude.{◌≡◌, ◌≢◌, ◌<◌, [], false, IfOk};
+ghost use Rattle.std.specs.Prelude.{◌≡◌, ◌≢◌, ◌<◌, [], ◌∷◌, false, IfOk};
 ghost use Rattle.std.specs.List.{concat};
+ghost use Rattle.dn_kinds.specs.Layouts.{pages, remap, vectors};
 ghost use Rattle.dn_tool.specs.Answer.{answer as answer_of, is_free};
 
 use dn_base::memory::{MemSink, MemSource};
+use dn_kind::kinds::Kinds;
+use dn_kinds::pages::{Pages, pages_are_lawful};
+use dn_kinds::remap::{Remap, remap_is_lawful};
+use dn_kinds::vectors::{Vectors, vectors_are_lawful};
 use dn_tool::run;
 use dn_tool::words::Words;
 use std::alloc::{AllocError, Global};
@@ -30,11 +35,12 @@ pub struct Outcome {
     pub sink: MemSink,
 }
 
-/// Runs the words over the text, of which a read gives at most `most` bytes.
+/// Runs the words over the text, of which a read gives at most `most` bytes, with the kinds of the program.
 ///
 /// # Errors
 ///
-/// `AllocError` where there is no memory for the source and the sink. Want of memory in the run is its status.
+/// `AllocError` where there is no memory for the kinds, the source and the sink. Want of memory in the run is its
+/// status.
 pub fn answer(
     alloc: Global,
     words: &Words,
@@ -45,8 +51,9 @@ pub fn answer(
     requires { 0 < most }
     // A status that is not free is that of the answer, and exactly its output was written.
     ensures exact { IfOk result (λ o. is_free o.status ≡ false →
-        (o.status ≡ (answer_of words.now text.now).status)
-        × (o.sink.written ≡ concat (answer_of words.now text.now).pieces)) }
+        (o.status ≡ (answer_of words.now (pages ∷ remap ∷ vectors ∷ []) text.now).status)
+        × (o.sink.written
+            ≡ concat (answer_of words.now (pages ∷ remap ∷ vectors ∷ []) text.now).pieces)) }
     // Where no call is to fail, no fault is answered.
     ensures sure_source { failing.entry.reads.now ≡ [] → IfOk result (λ o. o.status ≢ 2) }
     ensures sure_sink { failing.entry.writes.now ≡ [] → IfOk result (λ o. o.status ≢ 3) }
@@ -54,10 +61,17 @@ pub fn answer(
     ensures source_counted { IfOk result (λ o. (o.status ≢ 2) → o.source.calls.faults ≡ 0) }
     ensures sink_counted { IfOk result (λ o. (o.status ≢ 3) → o.sink.calls.faults ≡ 0) }
 {
+    pages_are_lawful();
+    remap_is_lawful();
+    vectors_are_lawful();
+    let mut kinds = Kinds::none(alloc);
+    kinds.add(Box::new(alloc, Pages)?)?;
+    kinds.add(Box::new(alloc, Remap)?)?;
+    kinds.add(Box::new(alloc, Vectors)?)?;
     let bytes = text.to_vec(alloc)?;
     let mut source = MemSource::new(bytes, most, failing.reads.to_vec(alloc)?);
     let mut sink = MemSink::new(alloc, failing.writes.to_vec(alloc)?);
-    let status = run::run(alloc, words, &mut source, &mut sink);
+    let status = run::run(alloc, words, &kinds, &mut source, &mut sink);
     Ok(Outcome {
         status,
         source,

@@ -2,21 +2,22 @@
 
 use dn_net::node::Name;
 use dn_print::names::names_text;
-use dn_print::net::net_text;
 use dn_print::rows::rows_text;
 use std::alloc::Global;
 use std::test::Fail;
 use test_kit::Machine;
-use test_kit::texts::net_of;
-use test_kit::units::add_unit;
+use test_kit::texts::printed;
 
-/// A statement of each form, as it is printed; each refers to itself and to those before it alone.
-const LINES: [&str; 5] = [
+/// Statements of each form, as they are printed; each refers to itself and to those before it alone.
+const LINES: [&str; 8] = [
     "a is accept [0x40-0x7f] map [0x0-0x3f to a at 0x40];\n",
     "b is;\n",
     "vectors cpu[0].v is accept [0x20-0x20, 0xabcdef-0xffffffffffffff];\n",
     "agent core is accept [0x0-0x0, 0x9-0xa] map [0x1-0x1 to b at 0x0 and a at 0x1f, 0x2-0x3 to b at 0xa] over cpu[0].v;\n",
     "bus is over core;\n",
+    "unit mmu kind pages page 12 slots 65536 reach 32 to b;\n",
+    "unit u[1] kind remap page 0 slots 1 reach 0 to bus, a, mmu, core, b, u[1], cpu[0].v;\n",
+    "unit irt kind vectors page 0 slots 262145 reach 255 to bus;\n",
 ];
 
 #[test]
@@ -24,24 +25,9 @@ fn prints_each_form_of_statement(rt: HostRuntime) -> Result<(), Fail> {
     let alloc = rt.alloc();
     for count in 0..=LINES.len() {
         let text = LINES[..count].concat(alloc)?;
-        let net = net_of(alloc, text.as_str())?;
-        let printed = net_text(alloc, &net)?;
+        let printed = printed(alloc, text.as_str())?;
         assert_eq!(rt; printed.as_slice(), text.as_bytes(), "{text}");
     }
-    Ok(())
-}
-
-#[test]
-fn prints_units(rt: HostRuntime) -> Result<(), Fail> {
-    let alloc = rt.alloc();
-    let mut net = net_of(alloc, "a is; b is; bus is;")?;
-    let _ = add_unit(alloc, &mut net, "u", &[1])?;
-    let _ = add_unit(alloc, &mut net, "w", &[2, 0])?;
-    let printed = net_text(alloc, &net)?;
-    assert_eq!(rt;
-        printed.as_slice(),
-        b"a is;\nb is;\nbus is;\nunit u kind  page 12 slots 65536 reach 32 to b;\nunit w kind  page 12 slots 65536 reach 32 to bus, a;\n".as_slice()
-    );
     Ok(())
 }
 

@@ -2,19 +2,19 @@
 
 use crate::name_after;
 use dn_interval::Rows;
-use dn_net::node::{Block, Dest, Name};
+use dn_net::node::Name;
 use dn_print::rows::rows_text;
 use std::alloc::{AllocError, Global};
 use std::test::Fail;
-use test_kit::texts::net_of;
-use test_kit::units::{add_sender, add_unit};
-use test_kit::{Machine, Unmade};
+use test_kit::Machine;
 
-/// A bus with a memory and a device, and an agent in front of it.
+/// A bus with a memory and a device, an agent in front of it, and one behind a unit, which is node 4.
 const BOARD: &str = "dram is accept [0-0x3fffffff];
 uart is accept [0-0xfff];
 bus is map [0x10000000-0x10000fff to uart at 0, 0x80000000-0xbfffffff to dram at 0];
 agent core is over bus;
+unit mmu kind pages page 12 slots 65536 reach 32 to bus;
+agent engine is map [0-0xffff to mmu at 0];
 ";
 
 /// Blocks that overlap and touch, two ways to one name, neighbours that go on and neighbours that break.
@@ -24,19 +24,6 @@ c is accept [15-16] map [0-9 to a at 2];
 d is accept [0] map [2-11 to b at 0 and c at 0, 12-15 to b at 16];
 e is map [5-9 to d at 8] over d;
 ";
-
-/// The board, and beside it an agent behind a unit, which is node 4.
-fn board(alloc: Global) -> Result<Machine, Unmade> {
-    let mut net = net_of(alloc, BOARD)?;
-    let unit = add_unit(alloc, &mut net, "mmu", &[2])?;
-    let block = Block { lo: 0, hi: 0xffff };
-    let dest = Dest {
-        node: unit,
-        addr: 0,
-    };
-    let _ = add_sender(alloc, &mut net, "engine", block, dest)?;
-    Machine::of_net(alloc, net)
-}
 
 /// What a node sees: the accepted names, and those in units.
 fn seen(alloc: Global, machine: &Machine, node: u16) -> Result<(Vec<u8>, Vec<u8>), Fail> {
@@ -49,7 +36,7 @@ fn seen(alloc: Global, machine: &Machine, node: u16) -> Result<(Vec<u8>, Vec<u8>
 #[test]
 fn sees_memories_and_devices(rt: HostRuntime) -> Result<(), Fail> {
     let alloc = rt.alloc();
-    let machine = board(alloc)?;
+    let machine = Machine::of_text(alloc, BOARD)?;
     let rows = [
         (
             3,
@@ -69,7 +56,7 @@ fn sees_memories_and_devices(rt: HostRuntime) -> Result<(), Fail> {
 #[test]
 fn stops_in_units(rt: HostRuntime) -> Result<(), Fail> {
     let alloc = rt.alloc();
-    let machine = board(alloc)?;
+    let machine = Machine::of_text(alloc, BOARD)?;
     let rows = [
         (3, ""),
         (5, "0x0-0xffff mmu@0x0\n"),
