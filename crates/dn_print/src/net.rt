@@ -37,12 +37,7 @@ pub fn net_text(alloc: Global, net: &Net, kinds: &Kinds) -> Result<Vec<u8>, OutO
 }
 
 /// Appends the statement of a node and the end of its line.
-fn write_statement(
-    out: &mut String,
-    net: &Net,
-    kinds: &Kinds,
-    node: u16,
-) -> Result<(), OutOfMemory>
+fn write_statement(out: &mut String, net: &Net, kinds: &Kinds, node: u16) -> Result<(), OutOfMemory>
     requires there { node < length net.now }
     requires closed { IsTrue (is_closed net.now) }
     requires lawful { All (λ k. IsLawful (meaning k)) kinds.now.list.items }
@@ -70,12 +65,7 @@ fn role_word(role: Role) -> &'static str
 }
 
 /// Appends what stands after a node's name.
-fn write_body(
-    out: &mut String,
-    net: &Net,
-    kinds: &Kinds,
-    node: u16,
-) -> Result<(), OutOfMemory>
+fn write_body(out: &mut String, net: &Net, kinds: &Kinds, node: u16) -> Result<(), OutOfMemory>
     requires there { node < length net.now }
     requires closed { IsTrue (is_closed net.now) }
     requires lawful { All (λ k. IsLawful (meaning k)) kinds.now.list.items }

@@ -90,11 +90,7 @@ pub fn compile(alloc: Global, text: &[u8], kinds: &Kinds) -> Result<Platform, Co
 
 /// The platform of a net and its commands, where the net keeps the node rules, the rule on the shape
 /// of units and the rules on walks.
-fn platform_of(
-    alloc: Global,
-    expanded: Expanded,
-    kinds: &Kinds,
-) -> Result<Platform, CompileFault>
+fn platform_of(alloc: Global, expanded: Expanded, kinds: &Kinds) -> Result<Platform, CompileFault>
     requires lawful { All (λ k. IsLawful (meaning k)) kinds.now.list.items }
     requires closed { IsTrue (is_closed expanded.net) }
     requires known { IsTrue (list_all (names_within (length expanded.net)) expanded.commands) }
@@ -102,7 +98,7 @@ fn platform_of(
         (list_all (λ n. has_kind (length kinds.now.list.items) n.unit) expanded.net) }
     ensures answer { Answers platform_view compile_fault_view result (with_refusal
         (expansion_compilation (map (λ k. meaning k) kinds.now.list.items)
-            (Ok (outcome_view expanded)))) }
+        (Ok (outcome_view expanded)))) }
     ensures shaped { IfOk result (λ p.
         shape_fault (map (λ k. meaning k) kinds.now.list.items) p.net ≡ None) }
 {

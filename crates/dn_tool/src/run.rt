@@ -178,7 +178,7 @@ fn answer_task<K: Sink>(
     ensures written { AreWritten (K.written sink.old) (K.written sink.new)
         (is_ok result) (is_write_halt result)
         (task_pieces task (map (λ k. meaning k) kinds.now.list.items)
-            platform.now.net platform.now.commands) }
+        platform.now.net platform.now.commands) }
     ensures counted { IsCounted (K.faults sink.old) (K.faults sink.new) (is_write_halt result) }
 {
     match task {
@@ -229,7 +229,7 @@ fn answer_all<K: Sink>(
     ensures written { AreWritten (K.written sink.old) (K.written sink.new)
         (is_ok result) (is_write_halt result)
         (replies (map (λ k. meaning k) kinds.now.list.items)
-            (record { net = platform.now.net }) platform.now.commands) }
+        (record { net = platform.now.net }) platform.now.commands) }
     ensures counted { IsCounted (K.faults sink.old) (K.faults sink.new) (is_write_halt result) }
 {
     for command in platform.commands.as_slice() {

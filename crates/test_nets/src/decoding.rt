@@ -8,7 +8,8 @@ use test_kit::{Machine, Unmade};
 
 /// A bus that accepts, maps and sends on, a memory behind it, and a unit in front of both, which is node 2.
 fn board(alloc: Global) -> Result<Machine, Unmade> {
-    let text = "bus is accept [0-9] map [10-19 to bus at 100] over ram; ram is accept [0-99]; unit mmu kind remap page 12 slots 16 reach 32 to bus, ram;";
+    let text =
+        "bus is accept [0-9] map [10-19 to bus at 100] over ram; ram is accept [0-99]; unit mmu kind remap page 12 slots 16 reach 32 to bus, ram;";
     Machine::of_text(alloc, text)
 }
 

@@ -10,7 +10,8 @@ use test_kit::texts::net_of;
 fn numbers_nodes_in_their_order(rt: HostRuntime) -> Result<(), Fail> {
     let alloc = rt.alloc();
     assert_eq!(rt; Net::new(alloc).nodes(), 0);
-    let text = "unit first kind pages page 12 slots 16 reach 32 to third; agent second is map [1-2 to first at 3]; third is;";
+    let text =
+        "unit first kind pages page 12 slots 16 reach 32 to third; agent second is map [1-2 to first at 3]; third is;";
     let net = net_of(alloc, text)?;
     assert_eq!(rt; net.nodes(), 3);
     assert_eq!(rt; net.find("first"), Some(0));

@@ -82,11 +82,17 @@ fn answers_the_first_fault_of_a_unit(rt: HostRuntime) -> Result<(), Fail> {
         ("u kind frob page (0-1) slots 4 reach 40 to b", unknown),
         ("u kind vectors page 256 slots 4 reach 40 to b", unknown),
         ("u kind pages page 256 slots q reach 40 to b", range),
-        ("u kind pages page q slots 4294967296 reach 40 to b", unknown),
+        (
+            "u kind pages page q slots 4294967296 reach 40 to b",
+            unknown,
+        ),
         ("u kind pages page 12 slots 4294967296 reach q to b", range),
         ("u kind pages page 12 slots 4 reach 256 to b[q]", range),
         ("u kind pages page 12 slots 4 reach q to b[(0-1)]", unknown),
-        ("u kind pages page 12 slots 4 reach 40 to b[(0-1)], b[q]", range),
+        (
+            "u kind pages page 12 slots 4 reach 40 to b[(0-1)], b[q]",
+            range,
+        ),
         ("u kind pages page 12 slots 4 reach 40 to b", unknown),
     ];
     for (unit, wanted) in rows {
@@ -104,10 +110,13 @@ fn takes_sixty_four_units(rt: HostRuntime) -> Result<(), Fail> {
     for (last, more, wanted) in [
         (63, "c is;", None),
         (64, "c is;", limit),
-        (63, "\nunit u[0] kind pages page 12 slots 4 reach 40 to a;", name),
+        (
+            63,
+            "\nunit u[0] kind pages page 12 slots 4 reach 40 to a;",
+            name,
+        ),
     ] {
-        let text = format!(
-            in rt.alloc();
+        let text = format!(in rt.alloc();
             "a is;\nfor i in 0..{last};\nunit u[i] kind pages page 12 slots 4 reach 40 to a; end; {more}"
         )?;
         let fault = expanded(rt.alloc(), text.as_str())?.err();

@@ -53,7 +53,7 @@ pub fn answer(
     ensures exact { IfOk result (λ o. is_free o.status ≡ false →
         (o.status ≡ (answer_of words.now (pages ∷ remap ∷ vectors ∷ []) text.now).status)
         × (o.sink.written
-            ≡ concat (answer_of words.now (pages ∷ remap ∷ vectors ∷ []) text.now).pieces)) }
+        ≡ concat (answer_of words.now (pages ∷ remap ∷ vectors ∷ []) text.now).pieces)) }
     // Where no call is to fail, no fault is answered.
     ensures sure_source { failing.entry.reads.now ≡ [] → IfOk result (λ o. o.status ≢ 2) }
     ensures sure_sink { failing.entry.writes.now ≡ [] → IfOk result (λ o. o.status ≢ 3) }
