@@ -12,3 +12,5 @@ pub mod Titles
 pub mod Unreplaced
 pub mod Works
 pub mod Whole
+pub mod Yields
+pub mod Passed
