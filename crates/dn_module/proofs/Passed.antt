@@ -24,40 +24,40 @@ use Rattle.dn_module.proofs.Whole.{body_state, whole}
 use Rattle.dn_module.proofs.Yields.{Yields, Any, any, bind, given, at_yields, yielded}
 
 -- each draft passes
-abbrev pub All : (Draft → Bool) → List Draft → Type 0
-All P ds = IsTrue (list_all P ds)
+abbrev pub AllPass : (Draft → Bool) → List Draft → Type 0
+AllPass P ds = IsTrue (list_all P ds)
 
 -- the drafts behind a step pass
 abbrev pub Next : (Draft → Bool) → List Work × State → Type 0
-Next P n = All P n.1.drafts
+Next P n = AllPass P n.1.drafts
 
 -- all drafts that are made pass
 module _ (kinds : List Meaning) (P : Draft → Bool) (each_passes : (line : ℕ) (d : Declaration) → Yields (λ x. IsTrue (P x)) (declared_by kinds line d)) where
-  added : (ds : List Draft) (d : Draft) → All P ds → IsTrue (P d) → Yields (All P) (with_draft ds d)
+  added : (ds : List Draft) (d : Draft) → AllPass P ds → IsTrue (P d) → Yields (AllPass P) (with_draft ds d)
   added ds d all h = go (is_known (names ds) d.name) (limit_passed ds d)
     where
-      go : (b : Bool) (o : Option ℕ) → Yields (All P) (cond {A = Result (List Draft) ExpansionFault} b (Err (is_duplicate d.line)) (by_limit o ds d))
+      go : (b : Bool) (o : Option ℕ) → Yields (AllPass P) (cond {A = Result (List Draft) ExpansionFault} b (Err (is_duplicate d.line)) (by_limit o ds d))
       go true o = record { it = tt }
       go false None = record { it = list_all-last P ds d all h }
       go false (Some limit) = record { it = tt }
 
-  item_passes : (s : Visibility) (state : State) (i : Item) → All P state.drafts → Yields (Next P) (item_rewriting kinds s state i)
+  item_passes : (s : Visibility) (state : State) (i : Item) → AllPass P state.drafts → Yields (Next P) (item_rewriting kinds s state i)
   item_passes s state (declared line d) all = bind (declared_by kinds line d) _ (each_passes line d) (λ draft h. bind (with_draft state.drafts draft) _ (added state.drafts draft all h) (λ ds g. given g))
   item_passes s state (module_of line title params body) all = bind (with_module state.modules line (record { title = title; params = params; body = body })) _ (any _) (λ modules h. given all)
   item_passes s state (instance line title args prefix) all = bind (use_of line args prefix (module_from 0 title (usable s state.modules))) _ (any _) (λ works h. given all)
   item_passes s state (loop line w from upto body) all = bind (loop_of s line w from upto body) _ (any _) (λ works h. given all)
 
-  work_passes : (state : State) (w : Work) → All P state.drafts → Yields (Next P) (rewriting kinds state w)
+  work_passes : (state : State) (w : Work) → AllPass P state.drafts → Yields (Next P) (rewriting kinds state w)
   work_passes state (statement s i) all = item_passes s state i all
   work_passes state (turns s line w a b body) all = record { it = all }
 
-  pub all_pass : (left : ℕ) (ws : List Work) (state : State) → All P state.drafts → Yields (λ made. All P made.drafts) (all_rewritings kinds left ws state)
+  pub all_pass : (left : ℕ) (ws : List Work) (state : State) → AllPass P state.drafts → Yields (λ made. AllPass P made.drafts) (all_rewritings kinds left ws state)
   all_pass zero [] state all = record { it = all }
   all_pass (suc left) [] state all = record { it = all }
   all_pass zero (w ∷ ws) state all = record { it = tt }
   all_pass (suc left) (w ∷ ws) state all = bind (rewriting kinds state w) _ (work_passes state w all) (λ next h. all_pass left (next.0 ++ ws) next.1 h)
 
-  pub body_passes : (tree : Tree) → Yields (λ made. All P made.drafts) (body_state kinds tree)
+  pub body_passes : (tree : Tree) → Yields (λ made. AllPass P made.drafts) (body_state kinds tree)
   body_passes tree = all_pass most_steps (statements outside tree.body) nothing_yet refl
 
 -- the node of each declaration is formed
@@ -118,7 +118,7 @@ module _ (Q : NodeDecl → Bool) (known : List (List ℕ)) where
       go true = record { it = h }
       go false = record { it = tt }
 
-  pub nodes_pass : (ds : List Draft) → All (λ d. Q (node_in known d)) ds → Yields (λ ns. IsTrue (list_all Q ns)) (each (node_of known) ds)
+  pub nodes_pass : (ds : List Draft) → AllPass (λ d. Q (node_in known d)) ds → Yields (λ ns. IsTrue (list_all Q ns)) (each (node_of known) ds)
   nodes_pass [] all = record { it = refl }
   nodes_pass (d ∷ ds) all =
       let parts = both (Q (node_in known d)) (list_all (λ e. Q (node_in known e)) ds) all in
@@ -128,7 +128,7 @@ module _ (Q : NodeDecl → Bool) (known : List (List ℕ)) where
 pub text_passes : (kinds : List Meaning) (Q : NodeDecl → Bool) (tree : Tree) → ((known : List (List ℕ)) (line : ℕ) (d : Declaration) → Yields (λ x. IsTrue (Q (node_in known x))) (declared_by kinds line d)) → Yields (λ o. IsTrue (list_all Q o.net)) (expansion_of kinds tree)
 text_passes kinds Q tree each_passes = rw (whole kinds tree) (go (body_state kinds tree) refl)
   where
-    passes : (known : List (List ℕ)) → Yields (λ made. All (λ d. Q (node_in known d)) made.drafts) (body_state kinds tree)
+    passes : (known : List (List ℕ)) → Yields (λ made. AllPass (λ d. Q (node_in known d)) made.drafts) (body_state kinds tree)
     passes known = body_passes kinds (λ d. Q (node_in known d)) (each_passes known) tree
 
     go : (r : Result State ExpansionFault) → body_state kinds tree ≡ r → Yields (λ o. IsTrue (list_all Q o.net)) (r >>= λ state. outcome_of state.drafts tree.commands)
