@@ -1,5 +1,6 @@
 //! Expansion: worked texts, the limit on steps, and the order of faults.
 
+use dn_kind::kinds::Kinds;
 use dn_module::expand::expand;
 use dn_module::fault::ExpandFault;
 use dn_net::net::Net;
@@ -10,7 +11,7 @@ use std::test::Fail;
 /// The names of the nodes to which a text expands, each behind a space, or the first fault.
 fn names(alloc: Global, text: &str) -> Result<String, Fail> {
     let tree = read(alloc, text.as_bytes())?;
-    match expand(alloc, &tree) {
+    match expand(alloc, &tree, &Kinds::none(alloc)) {
         Ok(expanded) => Ok(names_of(alloc, &expanded.net)?),
         Err(fault) => Ok(format!(in alloc; "{fault:?}")?),
     }
@@ -130,7 +131,7 @@ fn expands_a_board(rt: HostRuntime) -> Result<(), Fail> {
         " sys c[0].local c[0].core c[1].local c[1].core"
     );
     let tree = read(alloc, BOARD.as_bytes())?;
-    let Ok(expanded) = expand(alloc, &tree) else {
+    let Ok(expanded) = expand(alloc, &tree, &Kinds::none(alloc)) else {
         return Err(Fail::from(AllocError));
     };
     assert_eq!(rt; expanded.net.nodes(), 5);
@@ -157,7 +158,7 @@ fn takes_commands_before_references(rt: HostRuntime) -> Result<(), Fail> {
     ];
     for (text, wanted) in rows {
         let tree = read(alloc, text.as_bytes())?;
-        let fault = expand(alloc, &tree).err();
+        let fault = expand(alloc, &tree, &Kinds::none(alloc)).err();
         assert_eq!(rt; fault, Some(wanted));
     }
     Ok(())

@@ -1,6 +1,7 @@
 //! The parts of one statement: values, full names, and the first fault of a statement with
 //! several. The wanted values are worked out by hand.
 
+use dn_kind::kinds::Kinds;
 use dn_module::command::Command;
 use dn_module::expand::{Expanded, expand};
 use dn_module::fault::ExpandFault;
@@ -11,7 +12,7 @@ use std::test::Fail;
 /// What a text that is well formed expands to, or the first fault.
 fn expanded(alloc: Global, text: &str) -> Result<Result<Expanded, ExpandFault>, Fail> {
     let tree = read(alloc, text.as_bytes())?;
-    Ok(expand(alloc, &tree))
+    Ok(expand(alloc, &tree, &Kinds::none(alloc)))
 }
 
 /// The address that the command `resolve` has in a text without nodes.
