@@ -12,7 +12,7 @@ use Rattle.dn_module.specs.declared.draft.DraftUnit.{DraftUnit}
 use Rattle.dn_module.specs.Drafts.{is_known, number_of, dest_in, entry_in, unit_in, node_in, dests_known, over_known, ports_known, refers_to_known}
 use Rattle.dn_module.specs.Commands.{names_within}
 use Rattle.dn_module.specs.declared.command.Command.{Command}
-use Rattle.dn_module.proofs.Known.{prefix_len-any}
+use Rattle.dn_base.proofs.Lists.{prefix_len-any}
 
 known_below : (known : List (List ℕ)) (text : List ℕ) → nat_lt (number_of known text) (length known) ≡ is_known known text
 known_below known text = prefix_len-any (bytes_eq text) known

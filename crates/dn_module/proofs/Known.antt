@@ -11,14 +11,9 @@ use Rattle.std.specs.Str.{bytes_eq}
 use Rattle.dn_module.specs.declared.draft.Draft.{Draft}
 use Rattle.dn_net.specs.declared.node.NodeDecl.{NodeDecl}
 use Rattle.dn_net.specs.Decode.{is_formed}
-use Rattle.dn_module.proofs.Places.{list_any-map}
+use Rattle.dn_base.proofs.Lists.{list_any-map, prefix_len-any}
 use Rattle.dn_module.specs.Drafts.{is_known, node_in}
 use Rattle.dn_module.specs.Expand.{has_twice}
-
--- the first place at which a test passes is within the list exactly where it passes at some place
-pub prefix_len-any : {X : Type 0} (p : X → Bool) (xs : List X) → nat_lt (prefix_len (λ x. not (p x)) xs) (length xs) ≡ list_any p xs
-prefix_len-any p [] = refl
-prefix_len-any p (x ∷ xs) = let h = prefix_len-any p xs in grind (arith, common_steps, h)
 
 pub is_known-Some : (known : List (List ℕ)) (text : List ℕ) (number : ℕ) → position (bytes_eq text) known ≡ Some number → is_known known text ≡ true
 is_known-Some known text number e =

@@ -2,7 +2,6 @@
 use Rattle.std.proofs.Common.{◌≡◌, ◌∙◌, ap, sym, refl, subst, ℕ, zero, suc, Bool, true, false, cond, ◌&&◌, not, nat_lt, List, [], ◌∷◌, ◌++◌, map, length, IsTrue, Option, Some, None, IfOk, Result, Ok, Err}
 use Rattle.std.specs.List.{list_all, position_or_len}
 use Rattle.std.specs.Str.{bytes_eq}
-use Rattle.std.proofs.lemmas.List.{length-map}
 use Rattle.dn_base.specs.Answers.{Answers}
 use Rattle.dn_parse.specs.Tree.{Part, Role as RoleOf, plain_role, agent_role, vectors_role, Spec, Expression, Declaration, node, unit, Item, declared, module_of, instance, loop, Tree}
 use Rattle.dn_net.specs.declared.node.NodeDecl.{NodeDecl}
@@ -19,7 +18,8 @@ use Rattle.dn_module.specs.Commands.{commands_of}
 use Rattle.dn_module.specs.Expand.{State, nothing_yet, Visibility, outside, Work, statement, turns, statements, with_module, usable, module_from, use_of, loop_of, item_rewriting, rewriting, all_rewritings, most_steps, Outcome, expansion_of}
 use Rattle.dn_module.specs.Finish.{outcome_of, outcome_view}
 use Rattle.dn_module.specs.Faults.{ExpansionFault, is_duplicate, is_unknown, expand_fault_view}
-use Rattle.dn_module.proofs.Limits.{list_all-last, both}
+use Rattle.dn_base.proofs.Booleans.{and_parts}
+use Rattle.dn_base.proofs.Lists.{length-map, list_all-last}
 use Rattle.dn_module.proofs.Whole.{body_state, whole}
 use Rattle.dn_module.proofs.Yields.{Yields, Any, any, bind, given, at_yields, yielded}
 
@@ -121,7 +121,7 @@ module _ (Q : NodeDecl → Bool) (known : List (List ℕ)) where
   pub nodes_pass : (ds : List Draft) → AllPass (λ d. Q (node_in known d)) ds → Yields (λ ns. IsTrue (list_all Q ns)) (each (node_of known) ds)
   nodes_pass [] all = record { it = refl }
   nodes_pass (d ∷ ds) all =
-      let parts = both (Q (node_in known d)) (list_all (λ e. Q (node_in known e)) ds) all in
+      let parts = and_parts (Q (node_in known d)) (list_all (λ e. Q (node_in known e)) ds) all in
       bind (node_of known d) _ (node_passes d parts.0) (λ n h. bind (each (node_of known) ds) _ (nodes_pass ds parts.1) (λ ns g. given (rw h g)))
 
 -- all nodes of a text pass, where those of its declarations do

@@ -1,5 +1,5 @@
 use Rattle.std.proofs.Common.{◌∙◌, sym, ap, map, subst}
-use Rattle.std.proofs.lemmas.List.{length-map}
+use Rattle.dn_base.proofs.Lists.{length-map}
 use Rattle.std.proofs.lemmas.Result.{err_from_is_err_and}
 use Rattle.dn_base.specs.Answers.{Answers}
 use Rattle.dn_parse.specs.Views.{command_view, tree_view}

@@ -6,7 +6,7 @@ use Rattle.dn_module.specs.Drafts.{is_known, names, limit_passed, parts_of, agen
 use Rattle.dn_module.specs.Expand.{has_twice}
 use Rattle.dn_module.proofs.Known.{new_stays}
 use Rattle.dn_module.proofs.Limits.{agents_more, units_more, parts_more, within_limits, one_if, as_number}
-use Rattle.dn_module.proofs.Places.{length-last}
+use Rattle.dn_base.proofs.Lists.{length-last}
 use Rattle.dn_module.proofs.drafts.Drafts.add.Goals as goal
 
 pub invariant_of-self-2 : goal.invariant_of-self-2
