@@ -2,3 +2,4 @@ pub mod Allowed
 pub mod Held
 pub mod Shapes
 pub mod Ways
+pub mod Named

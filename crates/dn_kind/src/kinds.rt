@@ -50,7 +50,8 @@ impl Kinds {
         ensures there { IfSome result (λ number. number < length self.now.list.items) }
     {
         for number in 0..self.list.len() {
-            if self.list[number].name() == name {
+            let kind = &self.list[number];
+            if name == kind.name() {
                 return Some(number);
             }
         }

@@ -4,21 +4,18 @@ use Rattle.std.proofs.lemmas.List.{length-map}
 use Rattle.std.specs.List.{list_all}
 use Rattle.std.specs.Str.{bytes_eq}
 use Rattle.dn_net.specs.declared.node.NodeDecl.{NodeDecl}
-use Rattle.dn_net.specs.Decode.{refers_within, over_within, is_closed}
+use Rattle.dn_net.specs.Decode.{refers_within, over_within, ports_within, is_closed}
 use Rattle.dn_module.specs.declared.draft.Draft.{Draft}
 use Rattle.dn_module.specs.declared.draft.DraftEntry.{DraftEntry}
 use Rattle.dn_module.specs.declared.draft.DraftDest.{DraftDest}
-use Rattle.dn_module.specs.Drafts.{is_known, number_of, dest_in, entry_in, node_in, dests_known, over_known, refers_to_known}
+use Rattle.dn_module.specs.declared.draft.DraftUnit.{DraftUnit}
+use Rattle.dn_module.specs.Drafts.{is_known, number_of, dest_in, entry_in, unit_in, node_in, dests_known, over_known, ports_known, refers_to_known}
 use Rattle.dn_module.specs.Commands.{names_within}
 use Rattle.dn_module.specs.declared.command.Command.{Command}
-use Rattle.dn_module.proofs.Known.{prefix_len-any}
+use Rattle.dn_base.proofs.Lists.{prefix_len-any}
 
 known_below : (known : List (List ℕ)) (text : List ℕ) → nat_lt (number_of known text) (length known) ≡ is_known known text
 known_below known text = prefix_len-any (bytes_eq text) known
-
-and_true : (b : Bool) → (b && true) ≡ b
-and_true true = refl
-and_true false = refl
 
 dests_within : (known : List (List ℕ)) (ds : List DraftDest) → list_all (λ d. nat_lt d.node (length known)) (map (dest_in known) ds) ≡ dests_known known ds
 dests_within known [] = refl
@@ -36,10 +33,18 @@ over_is_within : (known : List (List ℕ)) (over : Option (List ℕ)) → over_w
 over_is_within known None = refl
 over_is_within known (Some text) = known_below known text
 
+numbers_within : (known ts : List (List ℕ)) → list_all (λ p. nat_lt p (length known)) (map (number_of known) ts) ≡ list_all (is_known known) ts
+numbers_within known [] = refl
+numbers_within known (t ∷ ts) =
+    ap (λ b. b && list_all (λ p. nat_lt p (length known)) (map (number_of known) ts)) (known_below known t)
+    ∙ ap (λ b. is_known known t && b) (numbers_within known ts)
+
+ports_are_within : (known : List (List ℕ)) (unit : Option DraftUnit) → ports_within (length known) (option_map (unit_in known) unit) ≡ ports_known known unit
+ports_are_within known None = refl
+ports_are_within known (Some u) = numbers_within known u.ports
+
 refers : (known : List (List ℕ)) (d : Draft) → refers_within (length known) (node_in known d) ≡ refers_to_known known d
-refers known d =
-    ap (λ b. b && (over_within (length known) (option_map (number_of known) d.over) && true)) (entries_within known d.entries)
-    ∙ ap (λ b. list_all (λ e. dests_known known e.dests) d.entries && b) (and_true _ ∙ over_is_within known d.over)
+refers known d = λ i. entries_within known d.entries i && (over_is_within known d.over i && ports_are_within known d.unit i)
 
 all_refer : (known : List (List ℕ)) (nodes : List Draft) → list_all (refers_within (length known)) (map (node_in known) nodes) ≡ list_all (refers_to_known known) nodes
 all_refer known [] = refl

@@ -10,15 +10,10 @@ use Rattle.std.specs.List.{list_all, list_any, prefix_len}
 use Rattle.std.specs.Str.{bytes_eq}
 use Rattle.dn_module.specs.declared.draft.Draft.{Draft}
 use Rattle.dn_net.specs.declared.node.NodeDecl.{NodeDecl}
-use Rattle.dn_net.specs.Decode.{is_unit, is_formed}
-use Rattle.dn_module.proofs.Places.{list_any-map}
+use Rattle.dn_net.specs.Decode.{is_formed}
+use Rattle.dn_base.proofs.Lists.{list_any-map, prefix_len-any}
 use Rattle.dn_module.specs.Drafts.{is_known, node_in}
 use Rattle.dn_module.specs.Expand.{has_twice}
-
--- the first place at which a test passes is within the list exactly where it passes at some place
-pub prefix_len-any : {X : Type 0} (p : X → Bool) (xs : List X) → nat_lt (prefix_len (λ x. not (p x)) xs) (length xs) ≡ list_any p xs
-prefix_len-any p [] = refl
-prefix_len-any p (x ∷ xs) = let h = prefix_len-any p xs in grind (arith, common_steps, h)
 
 pub is_known-Some : (known : List (List ℕ)) (text : List ℕ) (number : ℕ) → position (bytes_eq text) known ≡ Some number → is_known known text ≡ true
 is_known-Some known text number e =
@@ -92,11 +87,11 @@ new_name known nodes i node decl net h e d is net_is =
 pub new_stays : (known : List (List ℕ)) (text : List ℕ) → is_known known text ≡ false → has_twice known ≡ false → has_twice (known ++ text ∷ []) ≡ false
 new_stays known text h k = twice-push known text ∙ ap (λ b. b || has_twice known) h ∙ k
 
--- the node of a draft among drafts that are no units is formed
-pub formed_at : (known : List (List ℕ)) (nodes : List Draft) (i : ℕ) (node : Draft) (decl : NodeDecl) → i < length nodes → node ≡ get_or nodes i node → list_all (λ d. not (is_unit d.role)) nodes ≡ true → decl ≡ node_in known node → is_formed decl ≡ true
+-- a node of a draft is formed where those of all drafts are
+pub formed_at : (known : List (List ℕ)) (nodes : List Draft) (i : ℕ) (node : Draft) (decl : NodeDecl) → i < length nodes → node ≡ get_or nodes i node → list_all (λ d. is_formed (node_in known d)) nodes ≡ true → decl ≡ node_in known node → is_formed decl ≡ true
 formed_at known nodes i node decl h at all is =
-    ap is_formed is ∙ ap (λ (d : Draft). not (is_unit d.role)) at ∙ passes_at nodes i node _ h all refl
+    ap is_formed is ∙ ap (λ (d : Draft). is_formed (node_in known d)) at ∙ passes_at _ refl
   where
-    passes_at : (ds : List Draft) (i : ℕ) (d : Draft) (b : Bool) → i < length ds → list_all (λ d. not (is_unit d.role)) ds ≡ true → not (is_unit (get_or ds i d).role) ≡ b → not (is_unit (get_or ds i d).role) ≡ true
-    passes_at ds i d true h all at = at
-    passes_at ds i d false h all at = absurd (false≢true (sym (list_all_at (λ (d : Draft). not (is_unit d.role)) ds i d h at) ∙ all))
+    passes_at : (b : Bool) → is_formed (node_in known (get_or nodes i node)) ≡ b → is_formed (node_in known (get_or nodes i node)) ≡ true
+    passes_at true at = at
+    passes_at false at = absurd (false≢true (sym (list_all_at (λ (d : Draft). is_formed (node_in known d)) nodes i node h at) ∙ all))

@@ -2,7 +2,6 @@ pub mod Closed
 pub mod Each
 pub mod Known
 pub mod Outside
-pub mod Places
 pub mod Totals
 pub mod Bindings
 pub mod Limits
@@ -12,3 +11,5 @@ pub mod Titles
 pub mod Unreplaced
 pub mod Works
 pub mod Whole
+pub mod Yields
+pub mod Passed

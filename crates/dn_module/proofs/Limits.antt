@@ -1,4 +1,4 @@
--- The limits on nodes, on agents and on parts, as one node more is added.
+-- The limits on nodes, on agents, on units and on parts, as one node more is added.
 use Rattle.std.proofs.Common.{◌≡◌, ◌∙◌, ap, sym, refl, arith, ℕ, ◌+◌, ◌≤◌, nat_lt, ◌&&◌, IsTrue, Bool, true, false, cond, List, [], ◌∷◌, ◌++◌, length, map, Option, Some, None, Err, Ok, sum, position, is_some}
 use Rattle.std.proofs.lemmas.Bool.Decides.{nat_tests}
 use Rattle.std.proofs.lemmas.Bool.{ltb-false}
@@ -7,8 +7,9 @@ use Rattle.std.proofs.lemmas.List.Sums.{sum_by-append}
 use Rattle.std.specs.List.{list_all}
 use Rattle.std.specs.Str.{bytes_eq}
 use mir.Val.{bool_byte}
+use Rattle.dn_net.specs.Decode.{is_agent, is_unit}
 use Rattle.dn_module.specs.declared.draft.Draft.{Draft}
-use Rattle.dn_module.specs.Drafts.{is_agent, agents_of, parts_of, all_parts, limit_passed, with_draft, is_known, names}
+use Rattle.dn_module.specs.Drafts.{agents_of, units_of, parts_of, all_parts, limit_passed, with_draft, is_known, names}
 use Rattle.dn_module.specs.Machine.{limit_by}
 use Rattle.dn_module.proofs.Known.{is_known-Some, is_known-None}
 use Rattle.dn_module.specs.Faults.{is_duplicate, passes_limit}
@@ -34,21 +35,28 @@ agents_more ds d =
     sum_by-append (λ (e : Draft). cond (is_agent e.role) 1 0) ds (d ∷ [])
     ∙ ap (λ n. agents_of ds + n) (from_zero (cond (is_agent d.role) 1 0) ∙ counted (is_agent d.role))
 
+pub units_more : (ds : List Draft) (d : Draft) → units_of (ds ++ d ∷ []) ≡ units_of ds + one_if (is_unit d.role)
+units_more ds d =
+    sum_by-append (λ (e : Draft). cond (is_unit e.role) 1 0) ds (d ∷ [])
+    ∙ ap (λ n. units_of ds + n) (from_zero (cond (is_unit d.role) 1 0) ∙ counted (is_unit d.role))
+
 pub parts_more : (ds : List Draft) (d : Draft) → all_parts (ds ++ d ∷ []) ≡ all_parts ds + parts_of d
 parts_more ds d =
     ap sum (map-append parts_of ds (d ∷ []))
     ∙ sum_by-append (λ n. n) (map parts_of ds) (parts_of d ∷ [])
     ∙ ap (λ n. all_parts ds + n) (from_zero (parts_of d))
 
--- the limit on agents counts in an agent alone
-agents_test : (b : Bool) (agents all : ℕ) → all ≤ 64 → agents ≡ all + one_if b → nat_lt 64 agents ≡ (b && nat_lt 64 (all + 1))
-agents_test true agents all few is = ap (nat_lt 64) is
-agents_test false agents all few is = grind (arith, nat_tests)
+-- a limit on the nodes of a role counts in a node of that role alone
+role_test : (b : Bool) (count all : ℕ) → all ≤ 64 → count ≡ all + one_if b → nat_lt 64 count ≡ (b && nat_lt 64 (all + 1))
+role_test true count all few is = ap (nat_lt 64) is
+role_test false count all few is = grind (arith, nat_tests)
 
-pub limit_is : (ds : List Draft) (d : Draft) (nodes agents parts : ℕ) → nodes ≡ length ds → agents_of ds ≤ 64 → agents ≡ agents_of ds + one_if (is_agent d.role) → parts ≡ all_parts ds
-    → limit_by nodes agents parts (parts_of d) ≡ limit_passed ds d
-limit_is ds d nodes agents parts n few a p =
-    rw (n, p, agents_test (is_agent d.role) agents (agents_of ds) few a) refl
+pub limit_is : (ds : List Draft) (d : Draft) (nodes agents units parts : ℕ) → nodes ≡ length ds
+    → agents_of ds ≤ 64 → agents ≡ agents_of ds + one_if (is_agent d.role)
+    → units_of ds ≤ 64 → units ≡ units_of ds + one_if (is_unit d.role)
+    → parts ≡ all_parts ds → limit_by nodes agents units parts (parts_of d) ≡ limit_passed ds d
+limit_is ds d nodes agents units parts n few a few_units u p =
+    rw (n, p, role_test (is_agent d.role) agents (agents_of ds) few a, role_test (is_unit d.role) units (units_of ds) few_units u) refl
 
 pub known_fault : (ds : List Draft) (d : Draft) → is_known (names ds) d.name ≡ true → with_draft ds d ≡ Err (is_duplicate d.line)
 known_fault ds d e = rw e refl
@@ -60,29 +68,40 @@ pub no_fault : (ds : List Draft) (d : Draft) → is_known (names ds) d.name ≡ 
 no_fault ds d e l = rw (e, l) refl
 
 -- no limit is passed
-pub record AreWithin (nodes agents parts : ℕ) : Type 0 where
+pub record AreWithin (nodes agents units parts : ℕ) : Type 0 where
   pub nodes_fit : nodes ≤ 1024
   pub agents_fit : agents ≤ 64
+  pub units_fit : units ≤ 64
   pub parts_fit : parts ≤ 16384
 
-within_step : (nodes all parts more : ℕ) (b t u v : Bool) → nat_lt 1024 (nodes + 1) ≡ t → nat_lt 64 (all + 1) ≡ u → nat_lt 16384 (parts + more) ≡ v → all ≤ 64
-    → cond {A = Option ℕ} t (Some 1024) (cond {A = Option ℕ} (b && u) (Some 64) (cond {A = Option ℕ} v (Some 16384) None)) ≡ None → AreWithin (nodes + 1) (all + one_if b) (parts + more)
-within_step nodes all parts more b true u v n a p few e = cc
-within_step nodes all parts more true false true v n a p few e = cc
-within_step nodes all parts more true false false true n a p few e = cc
-within_step nodes all parts more false false u true n a p few e = cc
-within_step nodes all parts more true false false false n a p few e =
-    let f = ltb-false _ _ n in
-    let g = ltb-false _ _ a in
-    let h = ltb-false _ _ p in
-    record { nodes_fit = omega arith; agents_fit = omega arith; parts_fit = omega arith }
-within_step nodes all parts more false false u false n a p few e =
-    let f = ltb-false _ _ n in
-    let h = ltb-false _ _ p in
-    record { nodes_fit = omega arith; agents_fit = omega arith; parts_fit = omega arith }
+-- the first of some tests fails
+first_fails : (b : Bool) (limit : ℕ) (rest : Option ℕ) → cond {A = Option ℕ} b (Some limit) rest ≡ None → (b ≡ false) × (rest ≡ None)
+first_fails true limit rest e = cc
+first_fails false limit rest e = (refl, e)
 
-pub within_limits : (ds : List Draft) (d : Draft) → agents_of ds ≤ 64 → limit_passed ds d ≡ None → AreWithin (length ds + 1) (agents_of ds + one_if (is_agent d.role)) (all_parts ds + parts_of d)
-within_limits ds d few none = within_step (length ds) (agents_of ds) (all_parts ds) (parts_of d) (is_agent d.role) _ _ _ refl refl refl few none
+-- one node more of a role, or of another
+role_fits : (b : Bool) (all : ℕ) → all ≤ 64 → (b && nat_lt 64 (all + 1)) ≡ false → all + one_if b ≤ 64
+role_fits true all few e = let h = ltb-false 64 (all + 1) e in omega arith
+role_fits false all few e = omega arith
+
+within_step : (nodes agents units parts more : ℕ) (a u : Bool) → agents ≤ 64 → units ≤ 64
+    → cond {A = Option ℕ} (nat_lt 1024 (nodes + 1)) (Some 1024) (cond {A = Option ℕ} (a && nat_lt 64 (agents + 1)) (Some 64) (cond {A = Option ℕ} (u && nat_lt 64 (units + 1)) (Some 64) (cond {A = Option ℕ} (nat_lt 16384 (parts + more)) (Some 16384) None))) ≡ None
+    → AreWithin (nodes + 1) (agents + one_if a) (units + one_if u) (parts + more)
+within_step nodes agents units parts more a u few_agents few_units e =
+    let first = first_fails (nat_lt 1024 (nodes + 1)) 1024 _ e in
+    let second = first_fails (a && nat_lt 64 (agents + 1)) 64 _ first.1 in
+    let third = first_fails (u && nat_lt 64 (units + 1)) 64 _ second.1 in
+    let last = first_fails (nat_lt 16384 (parts + more)) 16384 _ third.1 in
+    record {
+      nodes_fit = ltb-false 1024 (nodes + 1) first.0;
+      agents_fit = role_fits a agents few_agents second.0;
+      units_fit = role_fits u units few_units third.0;
+      parts_fit = ltb-false 16384 (parts + more) last.0;
+    }
+
+pub within_limits : (ds : List Draft) (d : Draft) → agents_of ds ≤ 64 → units_of ds ≤ 64 → limit_passed ds d ≡ None
+    → AreWithin (length ds + 1) (agents_of ds + one_if (is_agent d.role)) (units_of ds + one_if (is_unit d.role)) (all_parts ds + parts_of d)
+within_limits ds d few few_units none = within_step (length ds) (agents_of ds) (units_of ds) (all_parts ds) (parts_of d) (is_agent d.role) (is_unit d.role) few few_units none
 
 pub found_is : (known : List (List ℕ)) (text : List ℕ) (r : Option ℕ) → r ≡ position (bytes_eq text) known → is_known known text ≡ is_some r
 found_is known text None e = is_known-None known text (sym e)
@@ -95,15 +114,3 @@ known_test now items known name text r i k t e =
     ∙ ap (λ l. is_known l name) (sym k)
     ∙ ap (is_known known) (sym t)
     ∙ found_is known text r e
-
-both : (a b : Bool) → IsTrue (a && b) → IsTrue a × IsTrue b
-both true true e = (refl, refl)
-both true false e = cc
-both false b e = cc
-
--- an item that passes, put last
-pub list_all-last : {X : Type 0} (p : X → Bool) (xs : List X) (x : X) → IsTrue (list_all p xs) → IsTrue (p x) → IsTrue (list_all p (xs ++ x ∷ []))
-list_all-last p [] x all e = rw e refl
-list_all-last p (y ∷ ys) x all e =
-    let b = both (p y) (list_all p ys) all in
-    rw (b.0, list_all-last p ys x b.1 e) refl

@@ -12,7 +12,7 @@ use Rattle.dn_module.specs.Expand.{Module, Visibility, outside, within_module, m
 use Rattle.dn_module.specs.Drafts.{is_known}
 use Rattle.dn_module.specs.Stack.{sees, module_view}
 use Rattle.dn_module.proofs.Known.{twice-push, twice-append}
-use Rattle.dn_module.proofs.Places.{list_any-map}
+use Rattle.dn_base.proofs.Lists.{list_any-map}
 use Rattle.dn_module.specs.Faults.{is_duplicate}
 
 -- the place of the first module with a name, or past them all

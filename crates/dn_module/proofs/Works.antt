@@ -4,8 +4,9 @@ use Rattle.std.proofs.lemmas.List.{append_assoc, reverse-append}
 use Rattle.dn_module.specs.declared.stack.Turns.{Turns}
 use Rattle.dn_module.specs.declared.stack.Rest.{Rest}
 use Rattle.dn_module.specs.declared.stack.Use.{Use}
-use Rattle.dn_module.specs.Expand.{Visibility, State, Work, line_of, turns, statements, rewritten, all_rewritten, most_steps}
+use Rattle.dn_module.specs.Expand.{Visibility, State, Work, line_of, turns, statements, rewriting, all_rewritings, most_steps}
 use Rattle.dn_module.specs.Machine.{in_front}
+use Rattle.dn_kind.specs.Kind.{Meaning}
 use Rattle.dn_module.specs.Values.{◌>>=◌}
 use Rattle.dn_module.specs.Replace.{Replacement, one_number, in_items}
 use Rattle.dn_module.specs.Stack.{body_view, loop_body, turns_works, after_works, turn_works, rest_works, outside_of, bodies_works, use_works, uses_works}
@@ -50,40 +51,44 @@ pub free_rest : (s : Visibility) (r : Replacement) (b : Rest) → b.turns ≡ No
 free_rest s r b none = ap (λ t. turns_works s r t ++ statements s (in_items r (body_view b.statements.now))) none
 
 -- a step, by what comes in the place of the first work
-module _ (left : ℕ) (w : Work) (ws : List Work) (st : State) where
-  pub step_on : (next : List Work × State) → 0 < left → in_front ws (rewritten st w) ≡ Ok next → all_rewritten left (w ∷ ws) st ≡ all_rewritten (left - 1) next.0 next.1
+module _ (kinds : List Meaning) (left : ℕ) (w : Work) (ws : List Work) (st : State) where
+  pub step_on : (next : List Work × State) → 0 < left → in_front ws (rewriting kinds st w) ≡ Ok next → all_rewritings kinds left (w ∷ ws) st ≡ all_rewritings kinds (left - 1) next.0 next.1
   step_on next more h = go left more where
-    by : (k : ℕ) (r : Result (List Work × State) ExpansionFault) → in_front ws r ≡ Ok next → (r >>= (λ n. all_rewritten k (n.0 ++ ws) n.1)) ≡ all_rewritten k next.0 next.1
+    by : (k : ℕ) (r : Result (List Work × State) ExpansionFault) → in_front ws r ≡ Ok next → (r >>= (λ n. all_rewritings kinds k (n.0 ++ ws) n.1)) ≡ all_rewritings kinds k next.0 next.1
     by k (Err e) h = cc
-    by k (Ok n) h = let same : (n.0 ++ ws, n.1) ≡ next = cc in ap (λ m. all_rewritten k m.0 m.1) same
+    by k (Ok n) h = let same : (n.0 ++ ws, n.1) ≡ next = cc in ap (λ m. all_rewritings kinds k m.0 m.1) same
 
-    go : (n : ℕ) → 0 < n → all_rewritten n (w ∷ ws) st ≡ all_rewritten (n - 1) next.0 next.1
+    go : (n : ℕ) → 0 < n → all_rewritings kinds n (w ∷ ws) st ≡ all_rewritings kinds (n - 1) next.0 next.1
     go zero more = absurd (omega arith)
-    go (suc k) more = by k (rewritten st w) h ∙ ap (λ j. all_rewritten j next.0 next.1) (omega arith)
+    go (suc k) more = by k (rewriting kinds st w) h ∙ ap (λ j. all_rewritings kinds j next.0 next.1) (omega arith)
 
-  pub step_err : (e : ExpansionFault) → 0 < left → in_front ws (rewritten st w) ≡ Err e → all_rewritten left (w ∷ ws) st ≡ Err e
+  pub step_err : (e : ExpansionFault) → 0 < left → in_front ws (rewriting kinds st w) ≡ Err e → all_rewritings kinds left (w ∷ ws) st ≡ Err e
   step_err e more h = go left more where
-    by : (k : ℕ) (r : Result (List Work × State) ExpansionFault) → in_front ws r ≡ Err e → (r >>= (λ n. all_rewritten k (n.0 ++ ws) n.1)) ≡ Err e
+    by : (k : ℕ) (r : Result (List Work × State) ExpansionFault) → in_front ws r ≡ Err e → (r >>= (λ n. all_rewritings kinds k (n.0 ++ ws) n.1)) ≡ Err e
     by k (Err f) h = let same : f ≡ e = cc in ap (λ e. Err e) same
     by k (Ok n) h = cc
 
-    go : (n : ℕ) → 0 < n → all_rewritten n (w ∷ ws) st ≡ Err e
+    go : (n : ℕ) → 0 < n → all_rewritings kinds n (w ∷ ws) st ≡ Err e
     go zero more = absurd (omega arith)
-    go (suc k) more = by k (rewritten st w) h
+    go (suc k) more = by k (rewriting kinds st w) h
 
   -- a fault of a step is one of the whole
-  pub fault_on : (fault : Option ExpansionFault) (whole : Result State ExpansionFault) → 0 < left → whole ≡ all_rewritten left (w ∷ ws) st → IfSome fault (λ g. in_front ws (rewritten st w) ≡ Err g) → IfSome fault (λ g. whole ≡ Err g)
+  pub fault_on : (fault : Option ExpansionFault) (whole : Result State ExpansionFault) → 0 < left → whole ≡ all_rewritings kinds left (w ∷ ws) st → IfSome fault (λ g. in_front ws (rewriting kinds st w) ≡ Err g) → IfSome fault (λ g. whole ≡ Err g)
   fault_on None whole more same is = tt
   fault_on (Some g) whole more same is = same ∙ step_err g more is
 
 -- no step is left
-pub steps_out : (left : ℕ) (w : Work) (ws : List Work) (st : State) → left ≡ 0 → all_rewritten left (w ∷ ws) st ≡ Err (passes_limit (line_of w) 65536)
-steps_out left w ws st none = rw none refl
+pub steps_out : (kinds : List Meaning) (left : ℕ) (w : Work) (ws : List Work) (st : State) → left ≡ 0 → all_rewritings kinds left (w ∷ ws) st ≡ Err (passes_limit (line_of w) 65536)
+steps_out kinds left w ws st none = rw none refl
 
 pub most_steps_are : most_steps ≡ 65536
 unfolding most_steps
 most_steps_are = refl
 
+-- the same work in another form
+pub work_first : (kinds : List Meaning) (left : ℕ) (ws vs : List Work) (st : State) → ws ≡ vs → all_rewritings kinds left ws st ≡ all_rewritings kinds left vs st
+work_first kinds left ws vs st e = ap (λ w. all_rewritings kinds left w st) e
+
 -- the beginning
-pub begun : (n m : ℕ) (ws vs : List Work) (st tt' : State) → n ≡ m → ws ≡ vs → st ≡ tt' → all_rewritten n ws st ≡ all_rewritten m vs tt'
-begun n m ws vs st tt' e f g = λ i. all_rewritten (e i) (f i) (g i)
+pub begun : (kinds : List Meaning) (n m : ℕ) (ws vs : List Work) (st tt' : State) → n ≡ m → ws ≡ vs → st ≡ tt' → all_rewritings kinds n ws st ≡ all_rewritings kinds m vs tt'
+begun kinds n m ws vs st tt' e f g = λ i. all_rewritings kinds (e i) (f i) (g i)

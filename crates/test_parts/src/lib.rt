@@ -1,5 +1,5 @@
 //! Tests of the parts below the net: spans, sets of spans and rows; the tokens of a text and the lines of the
-//! reader's faults; the values, names, links and units of an expansion.
+//! reader's faults; the values, names, units and links of an expansion.
 //!
 //! The wanted values are worked out by hand, from the grammar and the rules of the language.
 #![tactic(auto)]

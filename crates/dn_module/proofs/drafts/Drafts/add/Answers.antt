@@ -1,12 +1,12 @@
-use Rattle.std.proofs.Common.{◌≡◌, ◌∙◌, sym, ap, ◌+◌, ◌≤◌, [], ◌∷◌, ◌++◌, not, false}
+use Rattle.std.proofs.Common.{◌≡◌, ◌∙◌, sym, ap, ◌+◌, ◌≤◌, [], ◌∷◌, ◌++◌, false}
 use Rattle.std.proofs.lemmas.List.{map-append}
-use Rattle.dn_net.specs.Decode.{is_unit}
+use Rattle.dn_net.specs.Decode.{is_agent, is_unit}
 use Rattle.dn_module.specs.declared.draft.Draft.{Draft}
-use Rattle.dn_module.specs.Drafts.{is_known, names, limit_passed, parts_of, agents_of, all_parts, is_agent}
+use Rattle.dn_module.specs.Drafts.{is_known, names, limit_passed, parts_of, agents_of, units_of, all_parts}
 use Rattle.dn_module.specs.Expand.{has_twice}
 use Rattle.dn_module.proofs.Known.{new_stays}
-use Rattle.dn_module.proofs.Limits.{agents_more, parts_more, within_limits, one_if, as_number, list_all-last}
-use Rattle.dn_module.proofs.Places.{length-last}
+use Rattle.dn_module.proofs.Limits.{agents_more, units_more, parts_more, within_limits, one_if, as_number}
+use Rattle.dn_base.proofs.Lists.{length-last}
 use Rattle.dn_module.proofs.drafts.Drafts.add.Goals as goal
 
 pub invariant_of-self-2 : goal.invariant_of-self-2
@@ -16,18 +16,22 @@ invariant_of-self-2 c =
     let inv = c.self.invariant in
     let one : c.from.result ≡ one_if (is_agent d.role) = c.from.ensures ∙ as_number c.is_agent.result ∙ ap one_if c.is_agent.ensures in
     let agents : c.self.inside.agents + c.from.result ≡ agents_of ds + one_if (is_agent d.role) = λ i. inv.agents_are i + one i in
+    let one_unit : c.from-2.result ≡ one_if (is_unit d.role) = c.from-2.ensures ∙ as_number c.is_unit.result ∙ ap one_if c.is_unit.ensures in
+    let units : c.self.inside.units + c.from-2.result ≡ units_of ds + one_if (is_unit d.role) = λ i. inv.units_are i + one_unit i in
     let parts : c.self.inside.parts + c.parts_of.result ≡ all_parts ds + parts_of d = λ i. inv.parts_are i + c.parts_of.ensures i in
     let few : agents_of ds ≤ 64 = rw inv.agents_are at inv.few_agents in
-    let within = within_limits ds d few (ap (λ l. limit_passed l d) c.self.view_is ∙ c.in_default.ensures.within) in
+    let few_units : units_of ds ≤ 64 = rw inv.units_are at inv.few_units in
+    let within = within_limits ds d few few_units (ap (λ l. limit_passed l d) c.self.view_is ∙ c.in_default.ensures.within) in
     let named : names (ds ++ d ∷ []) ≡ names ds ++ d.name ∷ [] = map-append (λ (e : Draft). e.name) ds (d ∷ []) in
     let met : is_known (names ds) d.name ≡ false = ap (λ l. is_known (names l) d.name) c.self.view_is ∙ c.in_default.ensures.new_name in
     rw c.in_ok-put.ensures.drafts record {
       names_are = c.in_ok-put.ensures.known ∙ ap (λ l. l ++ d.name ∷ []) inv.names_are ∙ sym named;
       agents_are = agents ∙ sym (agents_more ds d);
+      units_are = units ∙ sym (units_more ds d);
       parts_are = parts ∙ sym (parts_more ds d);
       few = rw (length-last ds d) within.nodes_fit;
       few_agents = rw agents within.agents_fit;
+      few_units = rw units within.units_fit;
       few_parts = rw parts within.parts_fit;
       different = ap has_twice named ∙ new_stays (names ds) d.name met inv.different;
-      no_unit = list_all-last (λ (e : Draft). not (is_unit e.role)) ds d inv.no_unit c.requires.no_unit;
     }

@@ -4,8 +4,8 @@ use Rattle.dn_module.specs.declared.modules.Module.{Module as CodeModule}
 use Rattle.dn_module.specs.Drafts.{is_known}
 use Rattle.dn_module.specs.Expand.{is_module, has_twice, word_of_param}
 use Rattle.dn_module.specs.Stack.{module_view, module_views}
-use Rattle.dn_module.proofs.Limits.{found_is, list_all-last}
-use Rattle.dn_module.proofs.Places.{length-last}
+use Rattle.dn_base.proofs.Lists.{length-last, list_all-last}
+use Rattle.dn_module.proofs.Limits.{found_is}
 use Rattle.dn_module.proofs.Titles.{few_modules, module_twice, module_added, is_module-titles, titles_are, either, by_answer, words_are, param_words}
 use Rattle.dn_module.proofs.modules.Modules.add.Goals as goal
 

@@ -5,7 +5,7 @@ use Rattle.std.specs.Str.{bytes_eq}
 use Rattle.dn_module.specs.declared.modules.Module.{Module as CodeModule}
 use Rattle.dn_module.specs.Expand.{has_twice}
 use Rattle.dn_module.specs.Stack.{visibility_view, module_view, module_views}
-use Rattle.dn_module.proofs.Places.{list_all-at}
+use Rattle.dn_base.proofs.Lists.{list_all-at}
 use Rattle.dn_module.proofs.Titles.{no_module, hidden_module, found_module, titles_are, is_once, words_are, param_words}
 use Rattle.dn_module.proofs.modules.Modules.find.Goals as goal
 

@@ -2,7 +2,7 @@ use Rattle.std.proofs.Common.{rules, ◌≡◌, ◌∙◌, sym, ap, not, List, �
 use Rattle.std.specs.String.{string_bytes}
 use Rattle.std.specs.List.{list_any}
 use Rattle.std.specs.Str.{bytes_eq}
-use Rattle.dn_module.proofs.Places.{list_any-map}
+use Rattle.dn_base.proofs.Lists.{list_any-map}
 use Rattle.dn_module.proofs.names.NameTable.add.Goals as goal
 
 pub returns-clause-is_new : goal.returns-clause-is_new

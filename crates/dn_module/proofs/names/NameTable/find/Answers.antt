@@ -1,7 +1,7 @@
 use Rattle.std.proofs.Common.{◌∙◌, sym}
 use Rattle.std.specs.String.{string_bytes}
 use Rattle.std.specs.Str.{bytes_eq}
-use Rattle.dn_module.proofs.Places.{position-map}
+use Rattle.dn_base.proofs.Lists.{position-map}
 use Rattle.dn_module.proofs.names.NameTable.find.Goals as goal
 
 pub returns-in-Some : goal.returns-in-Some

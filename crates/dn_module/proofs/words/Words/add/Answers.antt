@@ -1,7 +1,8 @@
 use Rattle.std.proofs.Common.{◌≡◌, ◌∙◌, ap, map, refl, rules, List, ℕ}
 use Rattle.std.specs.String.{string_bytes, string_eq}
 use Rattle.std.specs.Str.{bytes_eq}
-use Rattle.dn_module.proofs.Places.{insert_entry-new, map-last}
+use Rattle.dn_base.proofs.Lists.{map-last}
+use Rattle.dn_net.proofs.Places.{insert_entry-new}
 use Rattle.dn_module.proofs.words.Words.add.Goals as goal
 
 pub returns-clause-ok : goal.returns-clause-ok
