@@ -1,4 +1,4 @@
-"""What of a tree would be units of the language, as comments: there is no kind of unit yet.
+"""What of a tree would be units of the language, as comments.
 
 That is the translation by IOMMUs (``iommus``, ``iommu-map``) and the way of message-signalled interrupts
 (``msi-parent``, ``msi-map``). Here stands also the search for cycles among the phandles of such references.
