@@ -8,7 +8,7 @@ ghost use Rattle.dn_parse.specs.Faults.{Reads, ReadsNext, IsShorter};
 
 use crate::cursor::{Halt, Next, Read, after_sign, next, refusal, sign};
 use crate::syntax::Expr;
-use crate::token::{Lexeme, Sign, Token};
+use dn_token::token::{Lexeme, Sign, Token};
 use dn_base::text::Text;
 use std::alloc::Global;
 

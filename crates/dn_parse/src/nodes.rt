@@ -8,7 +8,7 @@ ghost use Rattle.dn_parse.specs.Faults.{Reads, ReadsNext, IsShorter, IsNoLonger}
 use crate::cursor::{Next, Read, after_keyword, after_sign, keyword, sign, word};
 use crate::expressions::expr;
 use crate::syntax::{BlockExpr, DestExpr, EntryExpr, Expr, NameExpr, PartExpr, Spec};
-use crate::token::{Keyword, Sign, Token};
+use dn_token::token::{Keyword, Sign, Token};
 use dn_base::items::Items;
 use std::alloc::Global;
 
