@@ -8,8 +8,8 @@ ghost use Rattle.dn_parse.specs.Descent.{after_sign, after_keyword, sign_at, key
 ghost use Rattle.dn_base.specs.Answers.{Answers};
 ghost use Rattle.dn_parse.specs.Faults.{halt_view, Reads, IsShorter};
 
-use dn_token::token::{Keyword, Lexeme, Sign, Token};
 use dn_base::text::Text;
+use dn_token::token::{Keyword, Lexeme, Sign, Token};
 use std::alloc::{AllocError, AllocFailed, Global};
 
 /// Why a part is not read. The number is that of the tokens that are left, the one at which it

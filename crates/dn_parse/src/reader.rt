@@ -11,9 +11,9 @@ ghost use Rattle.dn_parse.specs.Faults.{parse_fault_view, halt_fault, misplaced_
 
 use crate::blocks::{Blocks, Misplaced, none, with_statement};
 use crate::cursor::{Halt, Read, sign};
-use dn_token::lexer::{TokenFault, tokens};
 use crate::statements::{Statement, read_statement};
 use crate::syntax::Tree;
+use dn_token::lexer::{TokenFault, tokens};
 use dn_token::token::{Sign, Token};
 use std::alloc::Global;
 use thiserror::Error;

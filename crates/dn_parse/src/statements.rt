@@ -9,10 +9,10 @@ use crate::cursor::{Next, Read, after_keyword, after_sign, keyword, next, refusa
 use crate::expressions::expr;
 use crate::nodes::{name, spec};
 use crate::syntax::{Arg, Decl, DeclRole, Expr, NameExpr, Order, Param};
-use dn_token::keyword::spelling;
-use dn_token::token::{Keyword, Lexeme, Sign, Token};
 use dn_base::items::Items;
 use dn_base::text::Text;
+use dn_token::keyword::spelling;
+use dn_token::token::{Keyword, Lexeme, Sign, Token};
 use std::alloc::Global;
 
 /// The most parentheses that may be open at once.
