@@ -1,7 +1,7 @@
 -- How a spelling begins, and what the machine does at that token, and at one with which a form does not begin.
 use Rattle.std.proofs.Common.{◌≡◌, ◌∙◌, ◌⊎◌, inl, inr, ap, sym, refl, subst, ℕ, zero, suc, Bool, true, false, not, ◌&&◌, ◌||◌, List, [], ◌∷◌, ◌++◌}
-use Rattle.dn_parse.specs.declared.token.Sign.TheVariants.{OpenParenthesis}
-use Rattle.dn_parse.specs.Token.{Lexeme, Token}
+use Rattle.dn_token.specs.declared.token.Sign.TheVariants.{OpenParenthesis}
+use Rattle.dn_token.specs.Token.{Lexeme, Token}
 use Rattle.dn_parse.specs.Actions.{Value, perform}
 use Rattle.dn_parse.specs.Forms.{Form, takes, does, and_then, either, many, parenthesised, Sort, the_sign, is, is_sign, kept, Times, Spells}
 use Rattle.dn_parse.specs.Syntax.{after_open}

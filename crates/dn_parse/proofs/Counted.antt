@@ -2,13 +2,13 @@
 use Rattle.std.proofs.Common.{◌≡◌, ◌∙◌, ◌⊎◌, inl, inr, ap, sym, refl, subst, ℕ, zero, suc, ◌+◌, ◌-◌, ◌==◌, eqb-true, Bool, true, false, cond, not, ◌&&◌, if◌then◌else◌, List, [], ◌∷◌, ◌++◌, append_assoc, arith}
 use Rattle.std.proofs.lemmas.List.Sums.{sum_by-cons}
 use denote.Enum.Declared.{tag_of}
-use Rattle.dn_parse.specs.contracts.token.Sign.{the_type as the_signs}
-use Rattle.dn_parse.specs.declared.token.Sign.{Sign}
-use Rattle.dn_parse.specs.declared.token.Sign.TheVariants.{Semicolon, OpenParenthesis, CloseParenthesis}
-use Rattle.dn_parse.specs.Token.{Lexeme, Token, word, keyword, number, sign}
+use Rattle.dn_token.specs.contracts.token.Sign.{the_type as the_signs}
+use Rattle.dn_token.specs.declared.token.Sign.{Sign}
+use Rattle.dn_token.specs.declared.token.Sign.TheVariants.{Semicolon, OpenParenthesis, CloseParenthesis}
+use Rattle.dn_token.specs.Token.{Lexeme, Token, word, keyword, number, sign}
 use Rattle.dn_parse.specs.Tree.{Placed}
 use Rattle.dn_parse.specs.Actions.{Value}
-use Rattle.dn_parse.specs.Words.{same_sign}
+use Rattle.dn_token.specs.Words.{same_sign}
 use Rattle.dn_parse.specs.Forms.{Form, takes, does, and_then, either, many, parenthesised, Sort, a_word, any_word, a_number, the_keyword, the_sign, is, is_sign, Times, Spells}
 use Rattle.dn_parse.specs.Syntax.{in_parentheses, Parenthesised, SpellsText, Viable, statement_form, after_open, expr, term, factor, less, more_terms, more_factors, index, part_form, more_parts, name_form, upper, block_form, at_addr, dest_form, more_dests, entry_form, more_blocks, accept, more_entries, map_form, over, spec_form, plain_form, agent_form, vectors_form, more_names, unit_form, param_form, more_params, params_form, module_form, arg_form, more_args, args_form, use_form, loop_form, command_form}
 use Rattle.dn_parse.specs.Machine.{parentheses}

@@ -1,12 +1,12 @@
 -- What the machine does with a form is what is read from the tokens: the steps by which parts are put together.
 use Rattle.std.proofs.Common.{◌≡◌, ◌∙◌, ap, sym, refl, subst, ℕ, zero, suc, ◌+◌, ◌-◌, ◌<◌, ◌≤◌, ◌==◌, Bool, true, false, cond, ◌&&◌, List, [], ◌∷◌, ◌++◌, length, Option, Some, None, Result, Ok, Err, append_assoc, append-nil, arith}
 use denote.Enum.Bare.{same_true}
-use Rattle.dn_parse.specs.contracts.token.Sign.{the_type as the_signs}
-use Rattle.dn_parse.specs.declared.token.Keyword.{Keyword}
-use Rattle.dn_parse.specs.declared.token.Sign.{Sign}
-use Rattle.dn_parse.specs.declared.token.Sign.TheVariants.{OpenParenthesis, CloseParenthesis}
-use Rattle.dn_parse.specs.Token.{Lexeme, Token, word, keyword, number, sign}
-use Rattle.dn_parse.specs.Words.{same_keyword, same_sign}
+use Rattle.dn_token.specs.contracts.token.Sign.{the_type as the_signs}
+use Rattle.dn_token.specs.declared.token.Keyword.{Keyword}
+use Rattle.dn_token.specs.declared.token.Sign.{Sign}
+use Rattle.dn_token.specs.declared.token.Sign.TheVariants.{OpenParenthesis, CloseParenthesis}
+use Rattle.dn_token.specs.Token.{Lexeme, Token, word, keyword, number, sign}
+use Rattle.dn_token.specs.Words.{same_keyword, same_sign}
 use Rattle.dn_parse.specs.Actions.{Value, Action, perform, text, keep}
 use Rattle.dn_parse.specs.Forms.{Form, takes, does, either, many, Sort, a_word, any_word, the_keyword, the_sign, is, is_sign, is_keyword, kept}
 use Rattle.dn_parse.specs.Forms.{and_then as both}

@@ -1,7 +1,7 @@
 -- Where the machine stops it stops whatever follows, and so the place where it stops is the first at which a list is viable no more.
 use Rattle.std.proofs.Common.{◌≡◌, ◌≤◌, ◌+◌, ◌∙◌, ◌⊎◌, inl, inr, ap, sym, refl, subst, ℕ, suc, Bool, true, false, List, [], ◌∷◌, ◌++◌, length, length-append, append_assoc, append-nil, arith}
-use Rattle.dn_parse.specs.declared.token.Sign.TheVariants.{OpenParenthesis}
-use Rattle.dn_parse.specs.Token.{Lexeme, Token, sign}
+use Rattle.dn_token.specs.declared.token.Sign.TheVariants.{OpenParenthesis}
+use Rattle.dn_token.specs.Token.{Lexeme, Token, sign}
 use Rattle.dn_parse.specs.Tree.{Placed}
 use Rattle.dn_parse.specs.Actions.{Value}
 use Rattle.dn_parse.specs.Forms.{Form}

@@ -1,6 +1,6 @@
 -- The first part of each row of parts.
 use Rattle.std.proofs.Common.{◌≡◌, ℕ, List, [], ◌∷◌, Ok, Err}
-use Rattle.dn_parse.specs.Token.{Token}
+use Rattle.dn_token.specs.Token.{Token}
 use Rattle.dn_parse.specs.Tree.{Part, Block, Dest, Entry, Param, Arg}
 use Rattle.dn_parse.specs.Machine.{Stop}
 use Rattle.dn_parse.specs.Descent.{with_front, row, row_at, part_at, next_part_at, name_at, block_at, next_block_at, blocks_at, entry_at, next_entry_at, entries_at, dest_at, next_dest_at, dests_at, param_at, next_param_at, params_at, arg_at, next_arg_at, args_at, name_at, next_port_at, ports_at}

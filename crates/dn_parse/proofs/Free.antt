@@ -1,7 +1,7 @@
 -- No form of a statement takes a `;`: a token with which the machine stays inside a statement is none.
 use Rattle.std.proofs.Common.{◌≡◌, ap, refl, Bool, true, false, not, ◌&&◌, List, [], ◌∷◌, ◌++◌}
-use Rattle.dn_parse.specs.declared.token.Sign.TheVariants.{Semicolon, OpenParenthesis}
-use Rattle.dn_parse.specs.Token.{Lexeme, sign}
+use Rattle.dn_token.specs.declared.token.Sign.TheVariants.{Semicolon, OpenParenthesis}
+use Rattle.dn_token.specs.Token.{Lexeme, sign}
 use Rattle.dn_parse.specs.Actions.{Value}
 use Rattle.dn_parse.specs.Forms.{Form, takes, does, and_then, either, many, parenthesised, Sort, is, is_sign, kept}
 use Rattle.dn_parse.specs.Syntax.{after_open, statement_form, expr, term, factor, less, more_terms, more_factors, index, part_form, more_parts, name_form, upper, block_form, at_addr, dest_form, more_dests, entry_form, more_blocks, accept, more_entries, map_form, over, spec_form, plain_form, agent_form, vectors_form, more_names, unit_form, param_form, more_params, params_form, module_form, arg_form, more_args, args_form, use_form, loop_form, command_form}

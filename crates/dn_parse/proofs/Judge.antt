@@ -1,8 +1,8 @@
 -- What is still to be said of a text, one statement after the other.
 use Rattle.std.proofs.Common.{◌≡◌, ◌∙◌, ap, sym, refl, subst, ℕ, zero, suc, ◌-◌, ◌<◌, ◌≤◌, Bool, true, false, cond, List, [], ◌∷◌, ◌++◌, length, Some, None, IfSome, Result, Ok, Err, arith, map, reverse, drop, get_or, nat_le, le-leb, leb-true}
 use Rattle.std.proofs.lemmas.List.{length-map, length-reverse, map-append, reverse-append}
-use Rattle.dn_parse.specs.declared.token.Sign.TheVariants.{Semicolon}
-use Rattle.dn_parse.specs.Token.{Token, tokens}
+use Rattle.dn_token.specs.declared.token.Sign.TheVariants.{Semicolon}
+use Rattle.dn_token.specs.Token.{Token, tokens}
 use Rattle.dn_parse.specs.Tree.{Statement, Tree, items}
 use Rattle.dn_parse.specs.Actions.{statement}
 use Rattle.dn_parse.specs.Forms.{is_sign}
@@ -16,8 +16,8 @@ use Rattle.dn_parse.specs.declared.blocks.Misplaced.{Misplaced}
 use Rattle.dn_parse.specs.declared.blocks.Misplaced.TheVariants.{Forbidden, Crowded, OutOfMemory as NoRoom}
 use Rattle.dn_parse.specs.declared.blocks.Blocks.{Blocks as CodeBlocks}
 use Rattle.dn_parse.specs.declared.blocks.Frame.{Frame as CodeFrame}
-use Rattle.dn_parse.specs.declared.token.Token.{Token as CodeToken}
-use Rattle.dn_parse.specs.Lexing.{token_view}
+use Rattle.dn_token.specs.declared.token.Token.{Token as CodeToken}
+use Rattle.dn_token.specs.Lexing.{token_view}
 use Rattle.dn_parse.specs.declared.syntax.Tree.{Tree as CodeTree}
 use Rattle.dn_parse.specs.declared.reader.ParseFault.{ParseFault}
 use Rattle.dn_base.specs.Answers.{Answers}

@@ -10,9 +10,6 @@ pub mod Final
 pub mod Free
 pub mod Stopped
 pub mod Shallow
-pub mod Lexed
-pub mod Numbers
-pub mod Words
 pub mod Series
 pub mod Nested
 pub mod Firsts
@@ -20,4 +17,3 @@ pub mod Does
 pub mod Readers
 pub mod Heads
 pub mod Judge
-pub mod Going

@@ -1,7 +1,7 @@
 -- Expressions: what their parts come to.
 use Rattle.std.proofs.Common.{◌≡◌, ◌∙◌, ◌<◌, ◌-◌, ap, refl, sym, ℕ, zero, suc, List, [], ◌∷◌, Result, Ok, Err, arith}
-use Rattle.dn_parse.specs.declared.token.Sign.TheVariants.{OpenParenthesis}
-use Rattle.dn_parse.specs.Token.{Lexeme, Token, sign}
+use Rattle.dn_token.specs.declared.token.Sign.TheVariants.{OpenParenthesis}
+use Rattle.dn_token.specs.Token.{Lexeme, Token, sign}
 use Rattle.dn_parse.specs.Tree.{Expression}
 use Rattle.dn_parse.specs.Machine.{Stop, deep}
 use Rattle.dn_parse.specs.Descent.{Read, with_front, row_at, factor_of, nested_at, factor_at, next_factor_at, factors_at, term_at, next_term_at, terms_at, expr_at, after_open_at}

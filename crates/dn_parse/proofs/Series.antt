@@ -1,6 +1,6 @@
 -- Rows of parts, where a part may be refused: the values so far, and what the rest of the tokens adds to them.
 use Rattle.std.proofs.Common.{◌≡◌, ◌∙◌, ap, refl, sym, ℕ, zero, suc, ◌-◌, ◌<◌, List, [], ◌∷◌, ◌++◌, length, Some, None, IfSome, Result, Ok, Err, append_assoc, append-nil, arith}
-use Rattle.dn_parse.specs.Token.{Token}
+use Rattle.dn_token.specs.Token.{Token}
 use Rattle.dn_parse.specs.declared.cursor.Halt.{Halt}
 use Rattle.dn_parse.specs.declared.cursor.Halt.TheVariants.{Refused, Deep, OutOfMemory}
 use Rattle.dn_parse.specs.Machine.{Stop, refused, deep}

@@ -1,14 +1,14 @@
 -- The tokens with which a form may begin, and those with which it may go on at its end; and what makes each choice of the machine the right one.
 use Rattle.std.proofs.Common.{◌≡◌, ◌∙◌, ◌⊎◌, inl, inr, ap, sym, refl, subst, ℕ, zero, suc, Bool, true, false, not, ◌&&◌, ◌||◌, ◌==◌, eqb-true, eq-eqb, List, [], ◌∷◌, ◌++◌, if◌then◌else◌}
 use denote.Enum.Declared.{tag_of}
-use Rattle.dn_parse.specs.contracts.token.Sign.{the_type as the_signs}
-use Rattle.dn_parse.specs.contracts.token.Keyword.{the_type as the_keywords}
-use Rattle.dn_parse.specs.declared.token.Keyword.{Keyword}
-use Rattle.dn_parse.specs.declared.token.Sign.{Sign}
-use Rattle.dn_parse.specs.declared.token.Sign.TheVariants.{OpenParenthesis}
-use Rattle.dn_parse.specs.Token.{Lexeme, Token, word, keyword, number, sign}
+use Rattle.dn_token.specs.contracts.token.Sign.{the_type as the_signs}
+use Rattle.dn_token.specs.contracts.token.Keyword.{the_type as the_keywords}
+use Rattle.dn_token.specs.declared.token.Keyword.{Keyword}
+use Rattle.dn_token.specs.declared.token.Sign.{Sign}
+use Rattle.dn_token.specs.declared.token.Sign.TheVariants.{OpenParenthesis}
+use Rattle.dn_token.specs.Token.{Lexeme, Token, word, keyword, number, sign}
 use Rattle.dn_parse.specs.Actions.{Value, perform}
-use Rattle.dn_parse.specs.Words.{same_keyword, same_sign}
+use Rattle.dn_token.specs.Words.{same_keyword, same_sign}
 use Rattle.dn_parse.specs.Forms.{Form, takes, does, and_then, either, many, parenthesised, Sort, a_word, any_word, a_number, the_keyword, the_sign, is, is_sign, is_keyword, Times, Spells}
 use Rattle.dn_parse.specs.Machine.{Move, to, skips, refuses, taken, followed, or_else, repeated, move}
 use Rattle.dn_parse.proofs.Taken.{Inner}

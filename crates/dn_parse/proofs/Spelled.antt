@@ -1,7 +1,7 @@
 -- Each spelling of a form is taken by it, whatever follows with which it does not go on.
 use Rattle.std.proofs.Common.{◌≡◌, ◌∙◌, ◌⊎◌, inl, inr, ap, sym, refl, subst, ℕ, zero, suc, Bool, true, false, not, ◌&&◌, List, [], ◌∷◌, ◌++◌, length, append_assoc}
-use Rattle.dn_parse.specs.declared.token.Sign.TheVariants.{OpenParenthesis}
-use Rattle.dn_parse.specs.Token.{Lexeme, Token}
+use Rattle.dn_token.specs.declared.token.Sign.TheVariants.{OpenParenthesis}
+use Rattle.dn_token.specs.Token.{Lexeme, Token}
 use Rattle.dn_parse.specs.Actions.{Value, perform}
 use Rattle.dn_parse.specs.Forms.{Form, takes, does, and_then, either, many, parenthesised, Sort, is, is_sign, kept, Times, Spells}
 use Rattle.dn_parse.specs.Syntax.{after_open, in_parentheses, Parenthesised, expr, term, factor, less, more_terms, more_factors}

@@ -1,7 +1,7 @@
 -- A whole text: one token decides at each place, and each spelling is read as its statements.
 use Rattle.std.proofs.Common.{◌≡◌, ◌∙◌, ◌⊎◌, inl, inr, ap, sym, refl, subst, ℕ, suc, Bool, true, false, List, [], ◌∷◌, ◌++◌, length}
-use Rattle.dn_parse.specs.declared.token.Sign.TheVariants.{Semicolon}
-use Rattle.dn_parse.specs.Token.{Lexeme, Token, sign}
+use Rattle.dn_token.specs.declared.token.Sign.TheVariants.{Semicolon}
+use Rattle.dn_token.specs.Token.{Lexeme, Token, sign}
 use Rattle.dn_parse.specs.Tree.{Placed, Statement}
 use Rattle.dn_parse.specs.Actions.{Value}
 use Rattle.dn_parse.specs.Forms.{Spells, is_sign}

@@ -3,9 +3,7 @@
 use denote.Ref.{Bor}
 use Rattle.std.specs.Prelude.{ℕ, ◌<◌, ◌≤◌, List, length, Option, None, Some, option_map, Result}
 use Rattle.dn_base.specs.Answers.{Answers}
-use Rattle.dn_parse.specs.declared.token.Token.{Token as CodeToken}
-use Rattle.dn_parse.specs.declared.lexer.TokenFault.{TokenFault}
-use Rattle.dn_parse.specs.declared.lexer.TokenFault.TheVariants.{Bad, OutOfMemory as NoTokens}
+use Rattle.dn_token.specs.declared.token.Token.{Token as CodeToken}
 use Rattle.dn_parse.specs.declared.cursor.Halt.{Halt}
 use Rattle.dn_parse.specs.declared.cursor.Halt.TheVariants.{Refused, Deep, OutOfMemory as NoParts}
 use Rattle.dn_parse.specs.declared.blocks.Misplaced.{Misplaced}
@@ -14,16 +12,11 @@ use Rattle.dn_parse.specs.declared.reader.Trouble.{Trouble}
 use Rattle.dn_parse.specs.declared.reader.Trouble.TheVariants.{Halted, Misplaced as MisplacedAt}
 use Rattle.dn_parse.specs.declared.reader.ParseFault.{ParseFault}
 use Rattle.dn_parse.specs.declared.reader.ParseFault.TheVariants.{Length, Token as BadToken, Statement, Block, Nesting, OutOfMemory}
-use Rattle.dn_parse.specs.Token.{Token}
+use Rattle.dn_token.specs.Token.{Token}
 use Rattle.dn_parse.specs.Machine.{Stop, refused, deep}
 use Rattle.dn_parse.specs.Descent.{Read, Next}
 use Rattle.dn_parse.specs.Views.{token_views}
 use Rattle.dn_parse.specs.Whole.{Misplacement, forbidden, crowded, TextFault, too_long, bad_token, statement_fault, block_fault, nesting_fault, stop_fault, misplacement_fault}
-
--- the line of the first bad place
-abbrev pub token_fault_view : TokenFault → Option ℕ
-token_fault_view (Bad line) = Some line
-token_fault_view NoTokens = None
 
 -- where the reading of a part stops
 abbrev pub halt_view : Halt → Option Stop

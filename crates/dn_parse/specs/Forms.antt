@@ -1,10 +1,10 @@
 -- What a grammar is made of, and what it is to spell a form: the tokens, and what they add to the values of the tree.
 use Rattle.std.specs.Prelude.{◌≡◌, ◌⊎◌, ℕ, zero, suc, Bool, true, false, List, [], ◌∷◌, ◌++◌}
-use Rattle.dn_parse.specs.declared.token.Keyword.{Keyword}
-use Rattle.dn_parse.specs.declared.token.Sign.{Sign}
-use Rattle.dn_parse.specs.Token.{Lexeme, Token, word, keyword, number, sign}
+use Rattle.dn_token.specs.declared.token.Keyword.{Keyword}
+use Rattle.dn_token.specs.declared.token.Sign.{Sign}
+use Rattle.dn_token.specs.Token.{Lexeme, Token, word, keyword, number, sign}
 use Rattle.dn_parse.specs.Actions.{Action, Value, perform, text, expression}
-use Rattle.dn_parse.specs.Words.{same_keyword, same_sign, spelling}
+use Rattle.dn_token.specs.Words.{same_keyword, same_sign, spelling}
 use Rattle.dn_parse.specs.Tree.{constant}
 
 -- the sorts of tokens: a word that is not reserved, a word of either sort, a number, one reserved word, one sign

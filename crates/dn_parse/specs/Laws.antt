@@ -1,7 +1,7 @@
 -- The laws that tie the machine to the grammar: with them its stops are the places that the grammar names.
 use Rattle.std.specs.Prelude.{◌≡◌, ◌≤◌, ◌-◌, ◌⊎◌, ℕ, suc, false, List, [], ◌∷◌, ◌++◌, length, All, count_by}
-use Rattle.dn_parse.specs.declared.token.Sign.TheVariants.{OpenParenthesis, CloseParenthesis, Semicolon}
-use Rattle.dn_parse.specs.Token.{Token, sign}
+use Rattle.dn_token.specs.declared.token.Sign.TheVariants.{OpenParenthesis, CloseParenthesis, Semicolon}
+use Rattle.dn_token.specs.Token.{Token, sign}
 use Rattle.dn_parse.specs.Tree.{Placed}
 use Rattle.dn_parse.specs.Syntax.{SpellsText, Viable}
 use Rattle.dn_parse.specs.Forms.{is_sign}

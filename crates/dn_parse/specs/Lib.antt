@@ -1,6 +1,3 @@
-pub mod Token
-pub mod Lexing
-pub mod Words
 pub mod Tree
 pub mod Actions
 pub mod Forms
@@ -11,4 +8,3 @@ pub mod Whole
 pub mod Laws
 pub mod Descent
 pub mod Faults
-pub mod Going

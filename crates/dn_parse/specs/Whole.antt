@@ -1,6 +1,6 @@
 -- The whole reading of a text: its tree, or the first fault with its line.
 use Rattle.std.specs.Prelude.{ℕ, ◌+◌, ◌-◌, Bool, true, false, if◌then◌else◌, nat_le, nat_lt, List, [], ◌∷◌, ◌++◌, length, drop, Option, None, Some, Result, Ok, Err}
-use Rattle.dn_parse.specs.Token.{Token, tokens, is_line_feed}
+use Rattle.dn_token.specs.Token.{Token, tokens, is_line_feed}
 use Rattle.dn_parse.specs.Tree.{Statement, declares, heads_module, uses, heads_loop, ends, begins, orders, Placed, Item, declared, module_of, instance, loop, Items, items, Command, Tree, Param, Expression}
 use Rattle.dn_parse.specs.Machine.{Stop, whole, refused, deep, between, run}
 

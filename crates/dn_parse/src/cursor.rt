@@ -2,14 +2,14 @@
 
 ghost use Rattle.std.specs.Prelude.{◌≡◌, ◌∷◌, [], ◌<◌, length, option_map, Ok, Err, IfSome, IfOk, MatchOption};
 ghost use Rattle.dn_parse.specs.declared.cursor.Halt.TheVariants.{Refused};
-ghost use Rattle.dn_parse.specs.Lexing.{token_view};
+ghost use Rattle.dn_token.specs.Lexing.{token_view};
 ghost use Rattle.dn_parse.specs.Views.{token_views};
 ghost use Rattle.dn_parse.specs.Descent.{after_sign, after_keyword, sign_at, keyword_at, word_at};
 ghost use Rattle.dn_base.specs.Answers.{Answers};
 ghost use Rattle.dn_parse.specs.Faults.{halt_view, Reads, IsShorter};
 
-use crate::token::{Keyword, Lexeme, Sign, Token};
 use dn_base::text::Text;
+use dn_token::token::{Keyword, Lexeme, Sign, Token};
 use std::alloc::{AllocError, AllocFailed, Global};
 
 /// Why a part is not read. The number is that of the tokens that are left, the one at which it

@@ -8,8 +8,8 @@ ghost use Rattle.dn_parse.specs.Faults.{Reads, ReadsNext, IsShorter};
 
 use crate::cursor::{Halt, Next, Read, after_sign, next, refusal, sign};
 use crate::syntax::Expr;
-use crate::token::{Lexeme, Sign, Token};
 use dn_base::text::Text;
+use dn_token::token::{Lexeme, Sign, Token};
 use std::alloc::Global;
 
 /// The sum of the members, or the only one.

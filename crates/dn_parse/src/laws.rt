@@ -1,6 +1,5 @@
-//! Laws on the tokens of a text, and those that tie the machine of the reading to the grammar.
+//! Laws that tie the machine of the reading to the grammar.
 
-ghost use Rattle.dn_parse.specs.Going.{TokensGoOn};
 ghost use Rattle.dn_parse.specs.Laws.{StopIsFinal, ReadIsSpelled, SpelledIsRead, ShallowIsRead, RefusedIsFirst, DeepIsFirst, DeepStops, StopKeepsStatements};
 
 /// What is refused at a token, or is nested too deep there, is so whatever follows it.
@@ -43,9 +42,4 @@ pub fn deep_stops()
 /// last statement begun spell, and no `;` stands between them and that place.
 pub fn stop_keeps_statements()
     ensures { StopKeepsStatements }
-{}
-
-/// What stands first in a text decides, and the rest is read alike.
-pub fn tokens_go_on()
-    ensures { TokensGoOn }
 {}

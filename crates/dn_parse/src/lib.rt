@@ -1,20 +1,15 @@
 //! The reader: from the bytes of a text to its tree, or to the first fault with its line.
 //!
-//! [`token`] has what a token is and [`lexer::tokens`] gives the tokens of a text with their lines;
-//! [`syntax`] has the tree. [`expressions`], [`nodes`] and [`statements`] read the parts of a
-//! statement, [`blocks`] puts statements into the blocks that are open, and
-//! [`reader::read`] reads a text. [`laws`] ties all of it to the grammar.
+//! `dn_token` gives the tokens of a text, and [`syntax`] has the tree. [`expressions`], [`nodes`] and
+//! [`statements`] read the parts of a statement, [`blocks`] puts statements into the blocks that are
+//! open, and [`reader::read`] reads a text. [`laws`] ties all of it to the grammar.
 #![tactic(auto)]
 
 mod blocks;
 mod cursor;
 mod expressions;
-mod keyword;
 pub mod laws;
-pub mod lexer;
 mod nodes;
-mod number;
 pub mod reader;
 mod statements;
 pub mod syntax;
-pub mod token;

@@ -8,8 +8,8 @@ ghost use Rattle.dn_parse.specs.Faults.{Reads, ReadsNext, IsShorter, IsNoLonger}
 use crate::cursor::{Next, Read, after_keyword, after_sign, keyword, sign, word};
 use crate::expressions::expr;
 use crate::syntax::{BlockExpr, DestExpr, EntryExpr, Expr, NameExpr, PartExpr, Spec};
-use crate::token::{Keyword, Sign, Token};
 use dn_base::items::Items;
+use dn_token::token::{Keyword, Sign, Token};
 use std::alloc::Global;
 
 /// The most parentheses that may be open at once.

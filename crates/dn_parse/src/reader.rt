@@ -1,7 +1,7 @@
 //! The reading of a whole text: its tree, or the first fault with its line.
 
 ghost use Rattle.std.specs.Prelude.{◌≡◌, ◌∷◌, [], ◌+◌, ◌^◌, ◌<◌, List, ℕ, length, Some, Err, IfSome, IfOk, IfErr, MatchOption};
-ghost use Rattle.dn_parse.specs.Token.{Token as SpecToken};
+ghost use Rattle.dn_token.specs.Token.{Token as SpecToken};
 ghost use Rattle.dn_parse.specs.Machine.{whole};
 ghost use Rattle.dn_parse.specs.Whole.{line_at, last_line, first_line, at_stop, judge, no_blocks_yet, text_reading};
 ghost use Rattle.dn_parse.specs.Descent.{whole_statement_at};
@@ -11,10 +11,10 @@ ghost use Rattle.dn_parse.specs.Faults.{parse_fault_view, halt_fault, misplaced_
 
 use crate::blocks::{Blocks, Misplaced, none, with_statement};
 use crate::cursor::{Halt, Read, sign};
-use crate::lexer::{TokenFault, tokens};
 use crate::statements::{Statement, read_statement};
 use crate::syntax::Tree;
-use crate::token::{Sign, Token};
+use dn_token::lexer::{TokenFault, tokens};
+use dn_token::token::{Sign, Token};
 use std::alloc::Global;
 use thiserror::Error;
 

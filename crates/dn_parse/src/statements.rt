@@ -1,7 +1,6 @@
 //! Statements, each up to its `;`.
 
 ghost use Rattle.std.specs.Prelude.{◌≡◌, ◌<◌, map, IfOk, IfSome};
-ghost use Rattle.dn_parse.specs.Words.{spelling};
 ghost use Rattle.dn_parse.specs.Views.{token_views, expr_view, name_view, param_view, arg_view, role_view, declaration_view, order_view, statement_view};
 ghost use Rattle.dn_parse.specs.Descent.{any_word_at, param_at, next_param_at, params_at, closed_params_at, arg_at, next_arg_at, args_at, closed_args_at, next_port_at, ports_at, node_at, measure_at, unit_at, module_at, use_at, loop_at, query_at, grant_at, route_at, order_at, keyword_statement_at, statement_at};
 ghost use Rattle.dn_parse.specs.Faults.{Reads, ReadsNext, IsShorter};
@@ -10,9 +9,10 @@ use crate::cursor::{Next, Read, after_keyword, after_sign, keyword, next, refusa
 use crate::expressions::expr;
 use crate::nodes::{name, spec};
 use crate::syntax::{Arg, Decl, DeclRole, Expr, NameExpr, Order, Param};
-use crate::token::{Keyword, Lexeme, Sign, Token};
 use dn_base::items::Items;
 use dn_base::text::Text;
+use dn_token::keyword::spelling;
+use dn_token::token::{Keyword, Lexeme, Sign, Token};
 use std::alloc::Global;
 
 /// The most parentheses that may be open at once.
@@ -42,47 +42,6 @@ pub enum Statement {
     End,
     Begin,
     Order(Order),
-}
-
-/// The text of a reserved word.
-#[tactic(auto, unfolding(crate::specs::Words::spelling))]
-fn spelling(word: Keyword) -> &'static str
-    ensures { result.now ≡ spelling word }
-{
-    match word {
-        Keyword::Agent => "agent",
-        Keyword::Vectors => "vectors",
-        Keyword::Unit => "unit",
-        Keyword::Module => "module",
-        Keyword::Use => "use",
-        Keyword::For => "for",
-        Keyword::In => "in",
-        Keyword::End => "end",
-        Keyword::Begin => "begin",
-        Keyword::Is => "is",
-        Keyword::Accept => "accept",
-        Keyword::Map => "map",
-        Keyword::To => "to",
-        Keyword::And => "and",
-        Keyword::At => "at",
-        Keyword::Over => "over",
-        Keyword::Kind => "kind",
-        Keyword::Page => "page",
-        Keyword::Slots => "slots",
-        Keyword::Reach => "reach",
-        Keyword::As => "as",
-        Keyword::Num => "num",
-        Keyword::Node => "node",
-        Keyword::Resolve => "resolve",
-        Keyword::Lookup => "lookup",
-        Keyword::View => "view",
-        Keyword::Grant => "grant",
-        Keyword::Route => "route",
-        Keyword::Revoke => "revoke",
-        Keyword::Dump => "dump",
-        Keyword::Split => "split",
-        Keyword::Absorb => "absorb",
-    }
 }
 
 /// A word of either sort.

@@ -2,13 +2,13 @@
 use Rattle.std.proofs.Common.{◌≡◌, ◌∙◌, ap, sym, refl, subst, ℕ, zero, suc, ◌+◌, ◌≤◌, Bool, true, false, cond, not, ◌||◌, List, [], ◌∷◌, ◌++◌, map, flat_map, length, slice_get, Result, Ok, Err, IsTrue, arith, append_assoc, append-nil, bytes_eq, le-leb}
 use Rattle.std.specs.List.{list_any, prefix_len}
 use Rattle.std.proofs.lemmas.Slice.Eq.{bytes_eq-Decides}
-use Rattle.dn_parse.specs.Token.{Token, tokens}
+use Rattle.dn_token.specs.Token.{Token, tokens}
 use Rattle.dn_parse.specs.Tree.{declares, Declaration, Item, declared, Items, items, Tree}
 use Rattle.dn_parse.specs.Whole.{Blocks, judge, reading, no_blocks_yet, last_line, too_long, of_token_list, text_reading}
 use Rattle.dn_parse.specs.Descent.{whole_statement_at}
-use Rattle.dn_parse.specs.Going.{tokens_of}
-use Rattle.dn_parse.proofs.Going.{tokens_go_on}
-use Rattle.dn_parse.proofs.Lexed.{with_tokens}
+use Rattle.dn_token.specs.Going.{tokens_of}
+use Rattle.dn_token.proofs.Going.{tokens_go_on}
+use Rattle.dn_token.proofs.Lexed.{with_tokens}
 use Rattle.dn_parse.proofs.Judge.{judge_step, judge_end}
 use Rattle.dn_net.specs.declared.node.NodeDecl.{NodeDecl}
 use Rattle.dn_kind.specs.Kind.{Meaning}

@@ -3,8 +3,8 @@ use Rattle.std.proofs.Common.{◌≡◌, ◌∙◌, ap, sym, refl, subst, ℕ, z
 use Rattle.std.proofs.Math.Nat.{pow-zero}
 use Rattle.std.specs.Fmt.{digits, digits_onto, digit_glyph, decimal}
 use Rattle.std.specs.List.{list_all}
-use Rattle.dn_parse.specs.Token.{hex_value, decimal_value, spelled_from, digits_number, fitting, is_hexadecimal, number_of, is_word_byte, is_digit}
-use Rattle.dn_parse.proofs.Numbers.{some_digits}
+use Rattle.dn_token.specs.Token.{hex_value, decimal_value, spelled_from, digits_number, fitting, is_hexadecimal, number_of, is_word_byte, is_digit}
+use Rattle.dn_token.proofs.Numbers.{some_digits}
 use Rattle.dn_base.proofs.Booleans.{and_parts}
 
 hex_glyph : (d : ℕ) → d < 16 → hex_value (digit_glyph false d) ≡ Some d

@@ -1,6 +1,6 @@
 -- The tree of a text is well formed.
 use Rattle.std.proofs.Common.{◌≡◌, ◌∙◌, sym, refl, subst, ℕ, zero, suc, ◌<◌, Bool, true, false, cond, nat_le, nat_lt, List, [], ◌∷◌, length, Result, Ok, Err, arith}
-use Rattle.dn_parse.specs.Token.{Token, tokens}
+use Rattle.dn_token.specs.Token.{Token, tokens}
 use Rattle.dn_parse.specs.Tree.{Statement, declares, heads_module, uses, heads_loop, ends, begins, orders, Placed, Item, items, Command, Tree}
 use Rattle.dn_parse.specs.Machine.{Stop, whole, refused, deep}
 use Rattle.dn_parse.specs.Descent.{Read, whole_statement_at}

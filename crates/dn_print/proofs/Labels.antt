@@ -1,8 +1,8 @@
 -- Numbers and full names as they are printed: their tokens, and what is read from them.
 use Rattle.std.proofs.Common.{◌≡◌, ◌∙◌, ap, sym, refl, subst, ℕ, ◌<◌, ◌^◌, true, false, ◌==◌, List, [], ◌∷◌, ◌++◌, map, codes, Option, Some, None, Ok, arith, tests, append_assoc}
 use Rattle.std.specs.Fmt.{decimal}
-use Rattle.dn_parse.specs.declared.token.Sign.TheVariants.{OpenBracket, CloseBracket, Plus, Times, Dot}
-use Rattle.dn_parse.specs.Token.{Token, word, is_letter, begins_with}
+use Rattle.dn_token.specs.declared.token.Sign.TheVariants.{OpenBracket, CloseBracket, Plus, Times, Dot}
+use Rattle.dn_token.specs.Token.{Token, word, is_letter, begins_with}
 use Rattle.dn_parse.specs.Tree.{constant}
 use Rattle.dn_parse.specs.Descent.{one_more, after_sign, sign_at, word_at, row_at, factor_at, next_factor_at, factors_at, term_at, next_term_at, terms_at, expr_at, index_at, part_at, next_part_at, name_at}
 use Rattle.dn_module.specs.Values.{value, part_text, after_dots, full_name}

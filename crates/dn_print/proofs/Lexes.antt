@@ -2,14 +2,14 @@
 use Rattle.std.proofs.Common.{◌≡◌, ◌∙◌, ap, ap₂, sym, refl, subst, ℕ, suc, ◌+◌, ◌<◌, ◌^◌, Bool, true, false, cond, ◌==◌, List, [], ◌∷◌, ◌++◌, length, take_at, drop_at, codes, Some, Result, Ok, Err, IsTrue, arith, tests, append_assoc}
 use Rattle.std.specs.Fmt.{digits, decimal}
 use Rattle.std.specs.List.{list_all, prefix_len}
-use Rattle.dn_parse.specs.declared.token.Keyword.{Keyword}
-use Rattle.dn_parse.specs.declared.token.Keyword.TheVariants.{Agent, Vectors, Unit as UnitWord, Is, Accept, Map, To, And, At, Over, Kind, Page, Slots, Reach}
-use Rattle.dn_parse.specs.declared.token.Sign.{Sign}
-use Rattle.dn_parse.specs.declared.token.Sign.TheVariants.{Semicolon, Comma, OpenBracket, CloseBracket, Minus, Dot}
-use Rattle.dn_parse.specs.Token.{Lexeme, Token, word, keyword, number, sign, taken, tokens_from, with_token, then_tokens, front, run, after_run, number_of, number_front, word_lexeme, is_word_byte, is_letter, is_digit, is_line_feed, is_blank, is_slash, begins_with}
-use Rattle.dn_parse.specs.Going.{tokens_of}
-use Rattle.dn_parse.proofs.Going.{enough, tokens_go_on}
-use Rattle.dn_parse.proofs.Lexed.{with_tokens}
+use Rattle.dn_token.specs.declared.token.Keyword.{Keyword}
+use Rattle.dn_token.specs.declared.token.Keyword.TheVariants.{Agent, Vectors, Unit as UnitWord, Is, Accept, Map, To, And, At, Over, Kind, Page, Slots, Reach}
+use Rattle.dn_token.specs.declared.token.Sign.{Sign}
+use Rattle.dn_token.specs.declared.token.Sign.TheVariants.{Semicolon, Comma, OpenBracket, CloseBracket, Minus, Dot}
+use Rattle.dn_token.specs.Token.{Lexeme, Token, word, keyword, number, sign, taken, tokens_from, with_token, then_tokens, front, run, after_run, number_of, number_front, word_lexeme, is_word_byte, is_letter, is_digit, is_line_feed, is_blank, is_slash, begins_with}
+use Rattle.dn_token.specs.Going.{tokens_of}
+use Rattle.dn_token.proofs.Going.{enough, tokens_go_on}
+use Rattle.dn_token.proofs.Lexed.{with_tokens}
 use Rattle.dn_print.specs.Names.{address_text}
 use Rattle.dn_print.proofs.Digits.{decimal_number, hexadecimal_number, decimal_digits, decimal_word, hexadecimal_word, decimal_some}
 use Rattle.dn_base.proofs.Booleans.{and_parts}

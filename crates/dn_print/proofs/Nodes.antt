@@ -1,12 +1,12 @@
 -- The statement of a node as it is printed: its tokens, what is read from them, and the node that this declares.
 use Rattle.std.proofs.Common.{◌≡◌, ◌∙◌, ap, sym, refl, subst, ℕ, ◌+◌, List, [], ◌∷◌, ◌++◌, map, ◌&&◌, codes, Option, Some, None, option_map, Ok, IsTrue, append_assoc}
-use Rattle.dn_parse.specs.declared.token.Keyword.TheVariants.{Agent, Vectors, Is, Accept, Map, Over}
-use Rattle.dn_parse.specs.declared.token.Sign.TheVariants.{Semicolon, OpenBracket, CloseBracket}
-use Rattle.dn_parse.specs.Token.{Token}
+use Rattle.dn_token.specs.declared.token.Keyword.TheVariants.{Agent, Vectors, Is, Accept, Map, Over}
+use Rattle.dn_token.specs.declared.token.Sign.TheVariants.{Semicolon, OpenBracket, CloseBracket}
+use Rattle.dn_token.specs.Token.{Token}
 use Rattle.dn_parse.specs.Tree.{Part, Block as BlockOf, Entry as EntryOf, Spec, Role as RoleOf, plain_role, agent_role, vectors_role, Declaration, node, declares}
-use Rattle.dn_parse.specs.Going.{tokens_of}
+use Rattle.dn_token.specs.Going.{tokens_of}
 use Rattle.dn_parse.specs.Descent.{after_sign, after_keyword, sign_at, keyword_at, name_at, blocks_at, entries_at, accept_at, map_at, over_at, spec_at, node_at, keyword_statement_at, statement_at, whole_statement_at}
-use Rattle.dn_parse.proofs.Lexed.{with_tokens}
+use Rattle.dn_token.proofs.Lexed.{with_tokens}
 use Rattle.dn_net.specs.declared.node.Block.{Block}
 use Rattle.dn_net.specs.declared.node.NodeDecl.{NodeDecl}
 use Rattle.dn_net.specs.declared.node.Role.{Role}

@@ -1,9 +1,9 @@
 -- Blocks, destinations and entries as they are printed: their tokens, and what is read from them.
 use Rattle.std.proofs.Common.{◌≡◌, ◌∙◌, ap, sym, refl, subst, ℕ, ◌≤◌, Bool, List, [], ◌∷◌, ◌++◌, map, length, codes, Some, None, Ok, IsTrue, arith, append_assoc}
 use Rattle.std.specs.List.{list_all}
-use Rattle.dn_parse.specs.declared.token.Keyword.TheVariants.{To, And, At}
-use Rattle.dn_parse.specs.declared.token.Sign.TheVariants.{Comma, Minus}
-use Rattle.dn_parse.specs.Token.{Token}
+use Rattle.dn_token.specs.declared.token.Keyword.TheVariants.{To, And, At}
+use Rattle.dn_token.specs.declared.token.Sign.TheVariants.{Comma, Minus}
+use Rattle.dn_token.specs.Token.{Token}
 use Rattle.dn_parse.specs.Tree.{constant, Part, Block as BlockOf, Dest as DestOf}
 use Rattle.dn_parse.specs.Descent.{one_more, after_sign, after_keyword, keyword_at, name_at, upper_at, block_at, next_block_at, blocks_at, addr_at, dest_at, next_dest_at, dests_at, entry_at, next_entry_at, entries_at}
 use Rattle.dn_net.specs.declared.node.Block.{Block}

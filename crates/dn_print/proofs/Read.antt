@@ -1,10 +1,10 @@
 -- What is read from proper tokens is well formed.
 use Rattle.std.proofs.Common.{inl, ℕ, zero, suc, ◌≤◌, Bool, true, false, cond, List, [], ◌∷◌, length, Option, Some, None, Result, Ok, Err, arith}
-use Rattle.dn_parse.specs.declared.token.Keyword.{Keyword}
-use Rattle.dn_parse.specs.declared.token.Keyword.TheVariants.{Agent, Vectors, Unit as UnitWord, Module, Use, For, In, End, Begin, Is, Accept, Map, To, And, At, Over, Kind, Page, Slots, Reach, As, Num, Node, Resolve, Lookup, View, Grant, Route, Revoke, Dump, Split, Absorb}
-use Rattle.dn_parse.specs.declared.token.Sign.{Sign}
-use Rattle.dn_parse.specs.declared.token.Sign.TheVariants.{Semicolon, Comma, OpenBracket, CloseBracket, OpenParenthesis, CloseParenthesis, Minus, Plus, Times, Dot, Dots}
-use Rattle.dn_parse.specs.Token.{Lexeme, Token, word, keyword, number, sign}
+use Rattle.dn_token.specs.declared.token.Keyword.{Keyword}
+use Rattle.dn_token.specs.declared.token.Keyword.TheVariants.{Agent, Vectors, Unit as UnitWord, Module, Use, For, In, End, Begin, Is, Accept, Map, To, And, At, Over, Kind, Page, Slots, Reach, As, Num, Node, Resolve, Lookup, View, Grant, Route, Revoke, Dump, Split, Absorb}
+use Rattle.dn_token.specs.declared.token.Sign.{Sign}
+use Rattle.dn_token.specs.declared.token.Sign.TheVariants.{Semicolon, Comma, OpenBracket, CloseBracket, OpenParenthesis, CloseParenthesis, Minus, Plus, Times, Dot, Dots}
+use Rattle.dn_token.specs.Token.{Lexeme, Token, word, keyword, number, sign}
 use Rattle.dn_parse.specs.Tree.{Expression, expressions, Role, plain_role, agent_role, vectors_role, Declaration}
 use Rattle.dn_parse.specs.Actions.{summed, multiplied}
 use Rattle.dn_parse.specs.Forms.{is_sign}

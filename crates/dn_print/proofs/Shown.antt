@@ -1,6 +1,6 @@
 -- A piece of a printed text: its tokens, what is read from them, and the value of that. Rows of such pieces.
 use Rattle.std.proofs.Common.{◌≡◌, ◌∙◌, ap, refl, ℕ, zero, suc, ◌≤◌, List, [], ◌∷◌, ◌++◌, length, length-append, None, Result, Ok, arith, append_assoc}
-use Rattle.dn_parse.specs.Token.{Token}
+use Rattle.dn_token.specs.Token.{Token}
 use Rattle.dn_parse.specs.Descent.{and_then, Next, Reader, with_front, row, row_from, row_at, one_more, first_and, first_and_most}
 use Rattle.dn_parse.proofs.Series.{first_read, most_read}
 use Rattle.dn_module.specs.Values.{Flaw, each}

@@ -2,7 +2,7 @@
 use Rattle.std.proofs.Common.{◌≡◌, ◌∙◌, ap, sym, refl, ℕ, ◌<◌, ◌^◌, true, List, [], ◌∷◌, ◌++◌, map, codes, Option, Some, None, IsTrue, append_assoc, append-nil}
 use Rattle.std.specs.Fmt.{decimal}
 use Rattle.std.specs.List.{list_all}
-use Rattle.dn_parse.specs.Token.{word, word_lexeme, is_letter, is_word_byte}
+use Rattle.dn_token.specs.Token.{word, word_lexeme, is_letter, is_word_byte}
 use Rattle.dn_module.specs.Values.{after_dots}
 
 -- a word that is not reserved

@@ -2,9 +2,9 @@
 use Rattle.std.proofs.Common.{◌≡◌, ◌∙◌, ◌⊎◌, inl, inr, ap, sym, refl, subst, ℕ, ◌+◌, ◌<◌, ◌≤◌, ◌^◌, nat_le, true, List, [], ◌∷◌, ◌++◌, map, length, codes, Option, Some, None, Ok, IsTrue, arith, append_assoc, le-leb}
 use Rattle.std.specs.Fmt.{decimal}
 use Rattle.std.specs.List.{list_all}
-use Rattle.dn_parse.specs.declared.token.Keyword.TheVariants.{Unit as UnitWord, Kind, Page, Slots, Reach, To}
-use Rattle.dn_parse.specs.declared.token.Sign.TheVariants.{Semicolon, Comma}
-use Rattle.dn_parse.specs.Token.{Token, word_lexeme}
+use Rattle.dn_token.specs.declared.token.Keyword.TheVariants.{Unit as UnitWord, Kind, Page, Slots, Reach, To}
+use Rattle.dn_token.specs.declared.token.Sign.TheVariants.{Semicolon, Comma}
+use Rattle.dn_token.specs.Token.{Token, word_lexeme}
 use Rattle.dn_parse.specs.Tree.{constant, Part, Declaration, unit, declares}
 use Rattle.dn_parse.specs.Descent.{any_of, one_more, after_sign, after_keyword, sign_at, keyword_at, any_word_at, measure_at, name_at, next_port_at, ports_at, unit_at, keyword_statement_at, statement_at, whole_statement_at}
 use Rattle.dn_net.specs.declared.node.NodeDecl.{NodeDecl}

@@ -1,10 +1,10 @@
 -- Words as kinds are called by them: reserved or not.
 use Rattle.std.proofs.Common.{◌≡◌, ◌∙◌, ap, refl, true, List, [], ◌∷◌, Some, IsTrue, ℕ}
 use Rattle.std.specs.List.{list_all}
-use Rattle.dn_parse.specs.declared.token.Keyword.{Keyword}
-use Rattle.dn_parse.specs.declared.token.Keyword.TheVariants.{Agent, Vectors, Unit as UnitWord, Module, Use, For, In, End, Begin, Is, Accept, Map, To, And, At, Over, Kind, Page, Slots, Reach, As, Num, Node, Resolve, Lookup, View, Grant, Route, Revoke, Dump, Split, Absorb}
-use Rattle.dn_parse.specs.Token.{word_lexeme, is_letter, is_word_byte}
-use Rattle.dn_parse.specs.Words.{spelling}
+use Rattle.dn_token.specs.declared.token.Keyword.{Keyword}
+use Rattle.dn_token.specs.declared.token.Keyword.TheVariants.{Agent, Vectors, Unit as UnitWord, Module, Use, For, In, End, Begin, Is, Accept, Map, To, And, At, Over, Kind, Page, Slots, Reach, As, Num, Node, Resolve, Lookup, View, Grant, Route, Revoke, Dump, Split, Absorb}
+use Rattle.dn_token.specs.Token.{word_lexeme, is_letter, is_word_byte}
+use Rattle.dn_token.specs.Words.{spelling}
 use Rattle.dn_parse.specs.Descent.{any_of}
 use Rattle.dn_print.proofs.Titles.{Title}
 

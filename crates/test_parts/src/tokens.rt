@@ -1,7 +1,7 @@
 //! The tokens of texts with their lines, over texts whose answers were worked out by hand.
 
-use dn_parse::lexer::{TokenFault, tokens};
-use dn_parse::token::{Lexeme, Token};
+use dn_token::lexer::{TokenFault, tokens};
+use dn_token::token::{Lexeme, Token};
 use std::alloc::Global;
 use std::fmt::Write;
 use std::test::Fail;

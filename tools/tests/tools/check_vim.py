@@ -22,7 +22,7 @@ def keywords():
     lines = re.findall(r"^syntax keyword netconf(?:Declaration|Part|Sort|Command) (.*)$", syntax, re.M)
     page = (TOP / "docs/language.md").read_text()
     reserved = re.search(r"^These words are reserved and name nothing: (.*)$", page, re.M)[1]
-    source = (TOP / "crates/dn_parse/src/keyword.rt").read_text()
+    source = (TOP / "crates/dn_token/src/keyword.rt").read_text()
     return sorted(" ".join(lines).split()), sorted(re.findall(r"`(\w+)`", reserved)), sorted(re.findall(r'^\s*"(\w+)" =>', source, re.M))
 
 

@@ -1,9 +1,9 @@
 use Rattle.std.proofs.Common.{rules, ◌≡◌, ◌∙◌, ap, sym, subst, refl, ◌<◌, [], ◌∷◌, ◌++◌, List, length, map, Ok, option_map, IfSome, arith}
 use Rattle.std.proofs.lemmas.List.{map-append}
 use Rattle.std.proofs.lemmas.Result.{err_from_is_err_and}
-use Rattle.dn_parse.specs.declared.token.Sign.TheVariants.{OpenParenthesis}
-use Rattle.dn_parse.specs.Token.{sign}
-use Rattle.dn_parse.specs.Lexing.{lexeme_view, token_view}
+use Rattle.dn_token.specs.declared.token.Sign.TheVariants.{OpenParenthesis}
+use Rattle.dn_token.specs.Token.{sign}
+use Rattle.dn_token.specs.Lexing.{lexeme_view, token_view}
 use Rattle.dn_base.specs.Answers.{Answers}
 use Rattle.dn_parse.specs.Faults.{halt_view}
 use Rattle.dn_parse.specs.Views.{token_views, expr_view}

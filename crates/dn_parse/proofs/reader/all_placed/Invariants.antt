@@ -1,5 +1,5 @@
 use Rattle.std.proofs.Common.{◌≡◌, ℕ, List, length}
-use Rattle.dn_parse.specs.Token.{Token}
+use Rattle.dn_token.specs.Token.{Token}
 use Rattle.dn_parse.specs.Whole.{judge, no_blocks_yet}
 use Rattle.dn_parse.specs.Views.{token_views, blocks_view}
 use Rattle.dn_parse.proofs.reader.all_placed.Given as goal

@@ -1,11 +1,12 @@
 use Rattle.std.proofs.Common.{◌≡◌, ◌∙◌, ap, sym, subst, ℕ, List, Err, IfSome, arith}
-use Rattle.dn_parse.specs.declared.token.Token.{Token}
-use Rattle.dn_parse.specs.declared.lexer.TokenFault.{TokenFault}
-use Rattle.dn_parse.specs.Token.{tokens}
+use Rattle.dn_token.specs.declared.token.Token.{Token}
+use Rattle.dn_token.specs.declared.lexer.TokenFault.{TokenFault}
+use Rattle.dn_token.specs.Token.{tokens}
 use Rattle.dn_base.specs.Answers.{Answers}
 use Rattle.dn_parse.specs.Whole.{judge, no_blocks_yet, bad_token}
 use Rattle.dn_parse.specs.Views.{token_views, tree_view}
-use Rattle.dn_parse.specs.Faults.{token_fault_view, parse_fault_view}
+use Rattle.dn_token.specs.Faults.{token_fault_view}
+use Rattle.dn_parse.specs.Faults.{parse_fault_view}
 use Rattle.dn_parse.proofs.Judge.{text_too_long, text_reads, text_bad}
 use Rattle.dn_parse.proofs.reader.read.Goals as goal
 

@@ -1,5 +1,0 @@
-use Rattle.dn_parse.proofs.Going.{tokens_go_on}
-use Rattle.dn_parse.proofs.laws.tokens_go_on.Goals as goal
-
-pub returns : goal.returns
-returns c = tokens_go_on

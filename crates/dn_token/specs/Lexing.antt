@@ -1,0 +1,48 @@
+-- What the tokenizer's functions say: its tokens as tokens of a text, and the parts of the way there.
+use Rattle.std.specs.Prelude.{ℕ, ◌==◌, Bool, false, ◌&&◌, if◌then◌else◌, List, [], ◌∷◌, length, Option, Some, None}
+use Rattle.std.specs.List.{filter}
+use Rattle.std.specs.Str.{bytes_eq}
+use Rattle.dn_token.specs.declared.token.Keyword.{Keyword}
+use Rattle.dn_token.specs.declared.token.Lexeme.{Lexeme as CodeLexeme}
+use Rattle.dn_token.specs.declared.token.Lexeme.TheVariants.{Word as WordCase, Keyword as KeywordCase, Number as NumberCase, Sign as SignCase}
+use Rattle.dn_token.specs.declared.token.Token.{Token as CodeToken}
+use Rattle.dn_token.specs.Token.{Lexeme, Token, Front, word, keyword, number, sign, bad, front, reserved, dots_or_sign, is_slash, begins_with}
+
+-- the lexeme of the subject that a lexeme of the code is
+abbrev pub lexeme_view : CodeLexeme → Lexeme
+lexeme_view (WordCase w) = word w.now
+lexeme_view (KeywordCase k) = keyword k
+lexeme_view (NumberCase n) = number n
+lexeme_view (SignCase s) = sign s
+
+-- the token of the subject that a token of the code is
+abbrev pub token_view : CodeToken → Token
+token_view t = record { lexeme = lexeme_view t.lexeme; line = t.line }
+
+-- what stands at the front of a text
+abbrev pub front_of : List ℕ → Front
+front_of [] = bad
+front_of (b ∷ s) = front b s
+
+-- the sign at the front of a text, the longer one first
+abbrev pub sign_front_of : List ℕ → Front
+sign_front_of [] = bad
+sign_front_of (b ∷ s) = dots_or_sign b s
+
+-- a comment begins here
+abbrev pub begins_comment : List ℕ → Bool
+begins_comment [] = false
+begins_comment (b ∷ s) = is_slash b && begins_with is_slash s
+
+-- the reserved word that a word is
+abbrev pub keyword_among : List (List ℕ × Keyword) → List ℕ → Option Keyword
+keyword_among [] w = None
+keyword_among (r ∷ rs) w = if bytes_eq w r.0 then Some r.1 else keyword_among rs w
+
+-- the reserved word that a word is, where it is one
+unfoldable pub reserved_word : List ℕ → Option Keyword
+reserved_word w = keyword_among reserved w
+
+-- the reserved words of one length
+abbrev pub of_length : ℕ → List (List ℕ × Keyword) → List (List ℕ × Keyword)
+of_length n rs = filter (λ r. length r.0 == n) rs

@@ -1,0 +1,5 @@
+pub mod Token
+pub mod Lexing
+pub mod Words
+pub mod Faults
+pub mod Going
