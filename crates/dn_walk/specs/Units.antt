@@ -7,7 +7,7 @@ use Rattle.dn_net.specs.declared.node.NodeDecl.{NodeDecl}
 use Rattle.dn_net.specs.declared.node.Unit.{Unit as UnitPart}
 use Rattle.dn_net.specs.Chain.{Member}
 use Rattle.dn_net.specs.Decode.{steps, unit_at}
-use Rattle.dn_net.specs.Names.{name_lt}
+use Rattle.dn_net.specs.Names.{name_lt, name_eq}
 use Rattle.dn_net.specs.UnitRules.{unit_numbers, rows_from, slots_product, first_row}
 use Rattle.dn_walk.specs.declared.fork.Fork.{Fork}
 use Rattle.dn_walk.specs.Rows.{Told}
@@ -23,16 +23,16 @@ fork_shown t = record { name = start_name t; unit = t.end }
 
 -- forks are ordered by their names, and then by their units
 abbrev pub fork_before : Fork → Fork → Bool
-fork_before f g =
-    nat_lt f.name.node g.name.node
-    || ((f.name.node == g.name.node)
-      && (nat_lt f.name.addr g.name.addr
-        || ((f.name.addr == g.name.addr) && nat_lt f.unit g.unit)))
+fork_before f g = name_lt f.name g.name || (name_eq f.name g.name && nat_lt f.unit g.unit)
 
 -- the lesser of a fork that may be there and another
 abbrev pub lesser_fork : Option Fork → Fork → Option Fork
 lesser_fork None f = Some f
 lesser_fork (Some g) f = Some (if fork_before f g then f else g)
+
+-- the lesser of a fork that may be there and the one that a row shows, if it shows one
+abbrev pub with_shown : List NodeDecl → Option Fork → Told → Option Fork
+with_shown net least t = if shows_fork net t then lesser_fork least (fork_shown t) else least
 
 -- one fork does not come after another
 abbrev pub NoLaterFork : Fork → Fork → Type 0
