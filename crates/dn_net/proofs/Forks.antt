@@ -4,14 +4,14 @@ use Rattle.std.proofs.lemmas.Bool.{lt-ltb, and_parts, and_from}
 use Rattle.dn_net.specs.declared.node.Name.{Name}
 use Rattle.dn_net.specs.declared.node.NodeDecl.{NodeDecl}
 use Rattle.dn_net.specs.Chain.{Member, IsChain}
-use Rattle.dn_net.specs.Decode.{top, is_stop, steps, Step}
+use Rattle.dn_net.specs.Decode.{top, is_stop, unit_at, steps, Step}
 use Rattle.dn_net.specs.Names.{name_lt, stop_names}
 use Rattle.dn_net.specs.Rules.{KeepsNodeRules}
 use Rattle.dn_net.specs.Firsts.{first_of, least_name}
 use Rattle.dn_net.specs.UnitRules.{Fork, is_fork, fork_at, least_fork, IsShallow, IsFork, IsLeastFork, ForkIsLeast}
 use Rattle.dn_net.proofs.Cycles.{stepping_in_range}
 use Rattle.dn_net.proofs.Firsts.{NoLater, IsLeastNameOr, IsLeastName, least_name_is}
-use Rattle.dn_net.proofs.Stops.{stop_listed, listed_stop, stop_there, IsFirstStop, IsFirstStopOr, first_stop_is}
+use Rattle.dn_net.proofs.Stops.{stop_listed, listed_stop, stop_there, stop_unit, IsFirstStop, IsFirstStopOr, first_stop_is}
 use Rattle.dn_net.proofs.Ways.{lower_is}
 
 least_fork_is : (net : List NodeDecl) → least_fork net ≡ fork_at net (least_name net (is_fork net))
@@ -93,17 +93,23 @@ fork_is_least net checked shallow = (
             let q : false ≡ true = sym (ap is_some h) ∙ p.1 in
             cc
 
--- the nodes of the fork that is carried are there
-pub fork_there : (net : List NodeDecl) (f : Fork) → least_fork net ≡ Some f → (f.name.node < length net) × (f.unit < length net)
+-- the nodes of the fork that is carried are there, and the second is a unit
+pub record IsThere (net : List NodeDecl) (f : Fork) : Type 0 where
+  pub node : f.name.node < length net
+  pub unit : f.unit < length net
+  pub is_unit : is_some (unit_at net f.unit) ≡ true
+
+pub fork_there : (net : List NodeDecl) (f : Fork) → least_fork net ≡ Some f → IsThere net f
 fork_there net f e = by (least_name net (is_fork net)) refl (sym (least_fork_is net) ∙ e)
   where
-    by : (o : Option Name) → least_name net (is_fork net) ≡ o → fork_at net o ≡ Some f → (f.name.node < length net) × (f.unit < length net)
+    by : (o : Option Name) → least_name net (is_fork net) ≡ o → fork_at net o ≡ Some f → IsThere net f
     by None h g = cc
     by (Some x) h g = at (first_of (stop_names net x)) (first_stop_is net x) g
       where
-        at : (o : Option Name) → IsFirstStopOr net x o → option_map (λ s. record { name = x; unit = s.node }) o ≡ Some f → (f.name.node < length net) × (f.unit < length net)
+        at : (o : Option Name) → IsFirstStopOr net x o → option_map (λ s. record { name = x; unit = s.node }) o ≡ Some f → IsThere net f
         at None stop k = cc
         at (Some s) stop k =
             let is : record { name = x; unit = s.node } ≡ f = cc in
             let name : IsLeastName (is_fork net) (length net) x = least_name_is net (is_fork net) (Some x) h in
-            subst (λ (q : Fork). (q.name.node < length net) × (q.unit < length net)) is (name.node, stop_there net s (listed_stop net x s stop.listed).0)
+            let reached = listed_stop net x s stop.listed in
+            subst (λ (q : Fork). IsThere net q) is (record { node = name.node; unit = stop_there net s reached.0; is_unit = (stop_unit net s reached.0).0 })

@@ -1,21 +1,22 @@
 -- A net breaks no rule exactly where it is legal.
-use Rattle.std.proofs.Common.{◌≡◌, ℕ, ◌≤◌, inl, inr, Bool, true, false, if◌then◌else◌, nat_lt, List, [], ◌∷◌, length, Option, Some, None, option_map, IsTrue, refl, sym, ap, ◌∙◌, arith}
+use Rattle.std.proofs.Common.{◌≡◌, ℕ, ◌≤◌, inl, inr, Bool, true, false, if◌then◌else◌, nat_lt, List, [], ◌∷◌, length, Option, Some, None, option_map, IsTrue, refl, sym, ap, ◌∙◌, subst, arith}
 use Rattle.std.proofs.lemmas.Bool.{ltb-false, le-ltb, cases_lt}
 use Rattle.dn_net.specs.declared.node.Name.{Name}
 use Rattle.dn_net.specs.declared.node.NodeDecl.{NodeDecl}
+use Rattle.dn_net.specs.Chain.{Member}
 use Rattle.dn_net.specs.Decode.{step_limit, steps, Step}
 use Rattle.dn_net.specs.Rules.{KeepsNodeRules, node_fault}
 use Rattle.dn_net.specs.Units.{has_plain_units}
-use Rattle.dn_net.specs.UnitRules.{Fork, least_fork, first_chain, slots_limit, IsShallow, NoFork, IsLeastFork}
+use Rattle.dn_net.specs.UnitRules.{Fork, least_fork, first_chain, unit_numbers, slots_limit, IsShallow, NoFork, IsLeastFork}
 use Rattle.dn_net.specs.Walks.{live_walks}
 use Rattle.dn_net.specs.WalkRules.{Broken, is_wide, has_loop, is_deep, has_chain, fork_broken, or_else, counted_length, shortest_cycle, cycle_names, path_names, cycle_or_path, endless_fault, unit_fault, walk_limit, walk_fault, Along, IsShortestCycle, IsLeastPath}
 use Rattle.dn_net.specs.Legal.{AreLimits, KeepsEndlessRules, KeepsUnitRules, IsLegalNet, LegalBreaksNoRule}
 use Rattle.dn_net.proofs.Chains.{chain_front, chain_round}
 use Rattle.dn_net.proofs.Endless.{is_wide_net, endless_fault_is, no_fault_is_shallow}
 use Rattle.dn_net.proofs.Firsts.{shortest_cycle_is_shortest}
-use Rattle.dn_net.proofs.Forks.{fork_is_least}
+use Rattle.dn_net.proofs.Forks.{fork_is_least, fork_there}
 use Rattle.dn_net.proofs.Kept.{each_kept, none_broken}
-use Rattle.dn_net.proofs.UnitRows.{chain_is_first}
+use Rattle.dn_net.proofs.UnitRows.{chain_is_first, number_of_unit, no_chain}
 use Rattle.dn_net.proofs.Ways.{along_chain, path_is_least}
 
 unit_fault_is : (net : List NodeDecl) → unit_fault net ≡ or_else (option_map fork_broken (least_fork net)) (option_map has_chain (first_chain net))
@@ -46,6 +47,14 @@ fork_part net f e = unit_fault_is net ∙ ap (λ o. or_else (option_map fork_bro
 -- and where there is none a chain
 pub chain_part : (net : List NodeDecl) → least_fork net ≡ None → unit_fault net ≡ option_map has_chain (first_chain net)
 chain_part net e = unit_fault_is net ∙ ap (λ o. or_else (option_map fork_broken o) (option_map has_chain (first_chain net))) e
+
+-- a net with no unit breaks no rule of the second part
+pub no_units : (net : List NodeDecl) → unit_numbers net ≡ [] → unit_fault net ≡ None
+no_units net e = chain_part net (no_fork (least_fork net) refl) ∙ ap (option_map has_chain) (no_chain net e)
+  where
+    no_fork : (o : Option Fork) → least_fork net ≡ o → o ≡ None
+    no_fork None f = refl
+    no_fork (Some f) g = absurd (subst (λ us. Member f.unit us) e (number_of_unit net f.unit (fork_there net f g).is_unit))
 
 few_walks : (net : List NodeDecl) → endless_fault net ≡ None → length (live_walks net step_limit) ≤ walk_limit
 few_walks net h = by (shortest_cycle net) refl (is_wide_net net) refl (sym (endless_fault_is net) ∙ h)

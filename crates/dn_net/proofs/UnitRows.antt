@@ -418,3 +418,15 @@ chain_there net us e = either There (first_row (unit_rows net 4)) (or_else (larg
 
     large : (k : ℕ) (us : List ℕ) → large_row net k ≡ Some us → (u : ℕ) → Member u us → u < length net
     large k us e = row_units net us (units_of_row net k us (member_filter (is_large net) (unit_rows net k) us (first_member (filter (is_large net) (unit_rows net k)) us e)).0).1
+
+-- a net with no unit has no row of units
+no_row : (net : List NodeDecl) → unit_numbers net ≡ [] → (k : ℕ) → unit_rows net (suc k) ≡ []
+no_row net e k = ap (rows_from (next_units net) (suc k)) e ∙ rows-suc (next_units net) k []
+
+pub no_chain : (net : List NodeDecl) → unit_numbers net ≡ [] → first_chain net ≡ None
+no_chain net e =
+    first_chain_is net
+    ∙ ap (λ rows. or_else (first_row rows) (or_else (large_row net 1) (or_else (large_row net 2) (large_row net 3)))) (no_row net e 3)
+    ∙ ap (λ rows. or_else (first_row (filter (is_large net) rows)) (or_else (large_row net 2) (large_row net 3))) (no_row net e 0)
+    ∙ ap (λ rows. or_else (first_row (filter (is_large net) rows)) (large_row net 3)) (no_row net e 1)
+    ∙ ap (λ rows. first_row (filter (is_large net) rows)) (no_row net e 2)

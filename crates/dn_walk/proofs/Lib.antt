@@ -9,6 +9,7 @@ pub mod Nexts
 pub mod Nodes
 pub mod Onward
 pub mod Overs
+pub mod Parts
 pub mod Picks
 pub mod Runs
 pub mod Shown

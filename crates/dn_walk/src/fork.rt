@@ -64,7 +64,7 @@ fn is_fork(net: &Net, row: &WalkRow) -> bool
     requires end { row.now.end < length net.now }
     ensures { result ≡ shows_fork net.now (row_view row.now) }
 {
-    net.unit(row.end).is_some() && has_several_steps(net, first_name(row))
+    net.is_unit(row.end) && has_several_steps(net, first_name(row))
 }
 
 fn has_several_steps(net: &Net, name: Name) -> bool

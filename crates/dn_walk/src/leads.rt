@@ -22,7 +22,7 @@ pub(crate) fn unit_numbers(alloc: Global, net: &Net) -> Result<Vec<u16>, AllocEr
 {
     let mut units = Vec::new(alloc);
     for node in 0..net.nodes() {
-        if net.unit(node).is_some() {
+        if net.is_unit(node) {
             units.push(node)?;
         }
     }

@@ -1,0 +1,41 @@
+-- The unit of a node, as a net shows it.
+use Rattle.std.proofs.Common.{◌≡◌, ℕ, zero, suc, ◌+◌, ◌<◌, Bool, true, false, if◌then◌else◌, ◌&&◌, nat_lt, List, [], ◌∷◌, drop, length, slice_get, Option, Some, None, option_map, is_some, IsTrue, refl, sym, ap, ◌∙◌, subst, arith}
+use Rattle.std.specs.List.{list_all}
+use Rattle.std.proofs.lemmas.Bool.{and_parts}
+use Rattle.dn_net.specs.declared.node.NodeDecl.{NodeDecl}
+use Rattle.dn_net.specs.declared.node.Unit.{Unit as UnitPart}
+use Rattle.dn_net.specs.Decode.{unit_of, unit_at, over_within, ports_within, refers_within, is_closed}
+use Rattle.dn_net.specs.UnitRules.{units_from}
+
+-- it is the unit of the number
+pub unit_is : (net : List NodeDecl) (i : ℕ) (u : Option UnitPart) → option_map (λ d. d.unit) (slice_get net i) ≡ Some u → unit_at net i ≡ u
+unit_is net i u at = by (slice_get net i) at
+  where
+    by : (o : Option NodeDecl) → option_map (λ d. d.unit) o ≡ Some u → unit_of o ≡ u
+    by None e = cc
+    by (Some n) e = cc
+
+-- its ports are of the net
+pub ports_there : (net : List NodeDecl) (i : ℕ) (u : Option UnitPart) → IsTrue (is_closed net) → option_map (λ d. d.unit) (slice_get net i) ≡ Some u → IsTrue (ports_within (length net) u)
+ports_there net i u closed at = within net i closed at
+  where
+    count : ℕ
+    count = length net
+
+    within : (ns : List NodeDecl) (i : ℕ) → IsTrue (list_all (refers_within count) ns) → option_map (λ d. d.unit) (slice_get ns i) ≡ Some u → IsTrue (ports_within count u)
+    within [] i h at = cc
+    within (n ∷ ns) zero h at =
+        let e : n.unit ≡ u = cc in
+        let p = and_parts (refers_within count n) (list_all (refers_within count) ns) h in
+        let q = and_parts (list_all (λ e. list_all (λ d. nat_lt d.node count) e.dests) n.entries) (over_within count n.over && ports_within count n.unit) p.0 in
+        subst (λ o. IsTrue (ports_within count o)) e (and_parts (over_within count n.over) (ports_within count n.unit) q.1).1
+    within (n ∷ ns) (suc i) h at = within ns i (and_parts (refers_within count n) (list_all (refers_within count) ns) h).1 at
+
+-- the numbers of the units from a node on
+pub units_at : (net : List NodeDecl) (number i : ℕ) (b : Bool) → i < length net → b ≡ is_some (unit_at net i) → units_from number (drop i net) ≡ (if b then number ∷ units_from (suc number) (drop (i + 1) net) else units_from (suc number) (drop (i + 1) net))
+units_at [] number i b l e = absurd (omega arith)
+units_at (n ∷ ns) number zero b l e = ap (λ c. if c then number ∷ units_from (suc number) ns else units_from (suc number) ns) (sym e)
+units_at (n ∷ ns) number (suc i) b l e =
+    let s : suc i + 1 ≡ suc (i + 1) = omega arith in
+    units_at ns number i b (omega arith) e
+    ∙ ap (λ k. if b then number ∷ units_from (suc number) (drop k (n ∷ ns)) else units_from (suc number) (drop k (n ∷ ns))) (sym s)
