@@ -3,7 +3,7 @@ use Rattle.std.proofs.Common.{◌≡◌, ℕ, zero, suc, ◌<◌, ◌≤◌, ◌
 use Rattle.std.proofs.lemmas.Bool.{lt-ltb, and_parts, and_from}
 use Rattle.dn_net.specs.declared.node.Name.{Name}
 use Rattle.dn_net.specs.declared.node.NodeDecl.{NodeDecl}
-use Rattle.dn_net.specs.Chain.{Member, IsChain}
+use Rattle.dn_net.specs.Chain.{Member, Reaches}
 use Rattle.dn_net.specs.Decode.{top, is_stop, unit_at, steps, Step}
 use Rattle.dn_net.specs.Names.{name_lt, stop_names}
 use Rattle.dn_net.specs.Rules.{KeepsNodeRules}
@@ -54,6 +54,7 @@ fork_is_least net checked shallow = (
         parts : (nat_lt 1 (length (steps net x)) ≡ true) × (is_some (first_of (stop_names net x)) ≡ true)
         parts = and_parts (nat_lt 1 (length (steps net x))) (is_some (first_of (stop_names net x))) name.passes
 
+        reached : IsTrue (is_stop net s) × Reaches (Step net) x s
         reached = listed_stop net x s stop.listed
 
         least : (y : Name) (w : ℕ) → IsFork net y w → IsTrue (name_lt x y) ⊎ ((x ≡ y) × (s.node ≤ w))
@@ -85,7 +86,7 @@ fork_is_least net checked shallow = (
         least_name_is net (is_fork net) None e x i.0 i.1 (fork_found net shallow x u f)
     none (Some y) e g x u f = at (first_of (stop_names net y)) refl g
       where
-        at : (o : Option Name) → first_of (stop_names net y) ≡ o → option_map {A = Name} {B = Fork} (λ s. record { name = y; unit = s.node }) o ≡ None → ⊥
+        at : (o : Option Name) → first_of (stop_names net y) ≡ o → ◌≡◌ {A = Option Fork} (option_map (λ s. record { name = y; unit = s.node }) o) None → ⊥
         at (Some s) h k = cc
         at None h k =
             let name : IsLeastName (is_fork net) (length net) y = least_name_is net (is_fork net) (Some y) e in

@@ -1,5 +1,5 @@
 -- The stops of a name: the first of them, and that in a net with no chain of 65 steps what is reached at all is reached.
-use Rattle.std.proofs.Common.{◌≡◌, ℕ, ◌<◌, ◌≤◌, ◌⊎◌, inl, inr, true, List, [], ◌∷◌, length, slice_get, Option, Some, None, is_some, IsTrue, refl, arith, leb-true}
+use Rattle.std.proofs.Common.{◌≡◌, ℕ, ◌<◌, ◌≤◌, ◌⊎◌, inl, inr, true, List, [], ◌∷◌, length, slice_get, Option, Some, None, is_some, IsTrue, refl, ap, arith, leb-true}
 use Rattle.std.proofs.lemmas.Bool.{le-leb}
 use Rattle.std.proofs.lemmas.Option.{slice_get_within}
 use Rattle.dn_net.specs.declared.node.Name.{Name}

@@ -89,14 +89,13 @@ units_ascend number (n ∷ ns) = by (units_ascend (suc number) ns) (is_some n.un
 unit_from : (number : ℕ) (net : List NodeDecl) (i : ℕ) → is_some (unit_at net i) ≡ true → Member (number + i) (units_from number net)
 unit_from number [] i h = cc
 unit_from number (n ∷ ns) zero h = subst (λ b. Member (number + 0) (if b then number ∷ units_from (suc number) ns else units_from (suc number) ns)) (sym h) (inl (omega arith))
-unit_from number (n ∷ ns) (suc i) h = by (is_some n.unit)
+unit_from number (n ∷ ns) (suc i) h =
+    let e : suc number + i ≡ number + suc i = omega arith in
+    by (subst (λ v. Member v (units_from (suc number) ns)) e (unit_from (suc number) ns i h)) (is_some n.unit)
   where
-    rest : Member (number + suc i) (units_from (suc number) ns)
-    rest = let e : suc number + i ≡ number + suc i = omega arith in subst (λ v. Member v (units_from (suc number) ns)) e (unit_from (suc number) ns i h)
-
-    by : (b : Bool) → Member (number + suc i) (if b then number ∷ units_from (suc number) ns else units_from (suc number) ns)
-    by true = inr rest
-    by false = rest
+    by : Member (number + suc i) (units_from (suc number) ns) → (b : Bool) → Member (number + suc i) (if b then number ∷ units_from (suc number) ns else units_from (suc number) ns)
+    by rest true = inr rest
+    by rest false = rest
 
 from_unit : (number : ℕ) (net : List NodeDecl) (v : ℕ) → Member v (units_from number net) → (i : ℕ) × (v ≡ number + i) × (is_some (unit_at net i) ≡ true)
 from_unit number [] v m = absurd m
@@ -127,11 +126,11 @@ unit_there net u h = by (slice_get net u) refl h
 
 ascending_filter : (p : ℕ → Bool) (us : List ℕ) → Ascending us → Ascending (filter p us)
 ascending_filter p [] a = tt
-ascending_filter p (u ∷ us) a = by (p u)
+ascending_filter p (u ∷ us) a = by (ascending_filter p us a.1) (p u)
   where
-    by : (b : Bool) → Ascending (if b then u ∷ filter p us else filter p us)
-    by true = ((λ v m. a.0 v (member_filter p us v m).0), ascending_filter p us a.1)
-    by false = ascending_filter p us a.1
+    by : Ascending (filter p us) → (b : Bool) → Ascending (if b then u ∷ filter p us else filter p us)
+    by rest true = ((λ v m. a.0 v (member_filter p us v m).0), rest)
+    by rest false = rest
 
 -- ROWS
 -- a row from some first units, each other of which is listed for the one before it
@@ -178,11 +177,11 @@ same_row (u ∷ us) = inr (refl, same_row us)
 
 turn_filter : (p : List ℕ → Bool) (rows : List (List ℕ)) → InTurn rows → InTurn (filter p rows)
 turn_filter p [] t = tt
-turn_filter p (us ∷ rows) t = by (p us)
+turn_filter p (us ∷ rows) t = by (turn_filter p rows t.1) (p us)
   where
-    by : (b : Bool) → InTurn (if b then us ∷ filter p rows else filter p rows)
-    by true = ((λ vs m. t.0 vs (member_filter p rows vs m).0), turn_filter p rows t.1)
-    by false = turn_filter p rows t.1
+    by : InTurn (filter p rows) → (b : Bool) → InTurn (if b then us ∷ filter p rows else filter p rows)
+    by rest true = ((λ vs m. t.0 vs (member_filter p rows vs m).0), rest)
+    by rest false = rest
 
 turn_map : (u : ℕ) (rows : List (List ℕ)) → InTurn rows → InTurn (map (λ us. u ∷ us) rows)
 turn_map u [] t = tt
