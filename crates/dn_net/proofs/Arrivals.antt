@@ -61,6 +61,13 @@ departure net checked w m a i =
 pub first_inside : (net : List NodeDecl) → KeepsNodeRules net → (w : Walk) → Member w (live_walks net step_limit) → w.span.lo ≤ w.span.hi
 first_inside net checked w m = let l = level_of_listed net step_limit w m in (level_is_row net checked l.0 w l.3).order
 
+-- its ends are nodes of the net
+pub nodes_there : (net : List NodeDecl) → KeepsNodeRules net → (w : Walk) → Member w (live_walks net step_limit) → (w.start < length net) × (w.to.node < length net)
+nodes_there net checked w m =
+    let l = level_of_listed net step_limit w m in
+    let row = level_is_row net checked l.0 w l.3 in
+    (row.start, row.node)
+
 -- no entry has the address
 no_entry_has : (a : ℕ) (es : List Entry) → in_some_entry a es ≡ false → (i : ℕ) (e : Entry) → slice_get es i ≡ Some e → within a e.block ≡ false
 no_entry_has a [] h i e at = cc

@@ -1,5 +1,5 @@
 -- The units to which units lead, as rows tell them, are those of the net.
-use Rattle.std.proofs.Common.{◌≡◌, ℕ, zero, suc, ◌+◌, ◌*◌, ◌-◌, ◌^◌, ◌<◌, ◌≤◌, ◌⊎◌, inl, inr, Bool, true, false, if◌then◌else◌, ◌&&◌, ◌||◌, nat_lt, ◌==◌, List, [], ◌∷◌, ◌++◌, map, filter, length, slice_get, get_or, Option, Some, None, is_some, IsTrue, refl, sym, ap, ◌∙◌, subst, arith, eqb-true, ltb-true, leb-true}
+use Rattle.std.proofs.Common.{◌≡◌, ℕ, zero, suc, ◌+◌, ◌*◌, ◌-◌, ◌^◌, ◌<◌, ◌≤◌, ◌⊎◌, inl, inr, Bool, true, false, if◌then◌else◌, ◌&&◌, ◌||◌, nat_le, nat_lt, ◌==◌, List, [], ◌∷◌, ◌++◌, map, filter, length, slice_get, get_or, Option, Some, None, is_some, IsTrue, refl, sym, ap, ◌∙◌, subst, arith, eqb-true, ltb-true, leb-true}
 use Rattle.std.specs.List.{list_any, list_all}
 use Rattle.std.proofs.lemmas.Bool.{eq-eqb, lt-ltb, or_cases, or_left, or_right, and_parts, and_from}
 use Rattle.std.proofs.lemmas.Nat.{pow_below, pow_pos}
@@ -8,17 +8,19 @@ use Rattle.dn_net.specs.declared.node.Name.{Name}
 use Rattle.dn_net.specs.declared.node.NodeDecl.{NodeDecl}
 use Rattle.dn_net.specs.declared.node.Unit.{Unit as UnitPart}
 use Rattle.dn_net.specs.Chain.{Member, Reaches}
-use Rattle.dn_net.specs.Decode.{top, within, is_stop, unit_at, steps, step_limit, Step}
+use Rattle.dn_net.specs.Decode.{top, within, is_closed, is_stop, unit_at, steps, step_limit, Step}
 use Rattle.dn_net.specs.Rules.{KeepsNodeRules}
-use Rattle.dn_net.specs.Units.{has_plain_shape}
+use Rattle.dn_net.specs.Units.{has_plain_shape, has_plain_units}
 use Rattle.dn_net.specs.UnitRules.{unit_leads, part_leads, unit_numbers, next_units, IsShallow, LeadsTo}
 use Rattle.dn_net.specs.Walks.{Walk, moved_name, live_walks}
 use Rattle.dn_net.proofs.Arrivals.{Arrives, arrival, departure, first_inside}
 use Rattle.dn_net.proofs.Least.{within_from, within_to}
 use Rattle.dn_net.proofs.Members.{member_map, map_member}
 use Rattle.dn_net.proofs.Stops.{stop_unit, unit_stop}
-use Rattle.dn_net.proofs.UnitRows.{leads_sound, leads_found, unit_of_number}
+use Rattle.dn_net.proofs.Plain.{plain_at}
+use Rattle.dn_net.proofs.UnitRows.{leads_sound, leads_found, unit_of_number, unit_there}
 use Rattle.dn_walk.specs.Rows.{Told, told_by_walk}
+use Rattle.dn_walk.proofs.Parts.{ports_at}
 use Rattle.dn_walk.specs.Units.{row_leads, AreLows, leads_by_lows, leads_by_rows, next_by, next_told}
 
 -- BY THE LOWEST ADDRESSES
@@ -33,16 +35,19 @@ power_rises a b l = by (order a b l)
     by (inl e) = subst (λ n. 2 ^ a ≤ 2 ^ n) e (omega arith)
     by (inr k) = let p = pow_below a b k in omega arith
 
-pub low_reach : (u : UnitPart) → IsTrue (has_plain_shape u) → u.reach ≤ 56
-low_reach u h = leb-true u.reach 56 (parts h).0
-  where
-    parts : {a b c d e f g : Bool} → (a && (b && (c && (d && (e && (f && g)))))) ≡ true → (e ≡ true) × Unit {0}
-    parts {a} {b} {c} {d} {e} {f} {g} h =
-        let p = and_parts a (b && (c && (d && (e && (f && g))))) h in
-        let q = and_parts b (c && (d && (e && (f && g)))) p.1 in
-        let r = and_parts c (d && (e && (f && g))) q.1 in
-        let s = and_parts d (e && (f && g)) r.1 in
-        ((and_parts e (f && g) s.1).0, tt)
+-- a plain shape has a slot, and a reach of at most 56
+plain_parts : (a b c d e f g : Bool) → (a && b && c && d && e && f && g) ≡ true → (b ≡ true) × (e ≡ true)
+plain_parts false b c d e f g h = cc
+plain_parts true false c d e f g h = cc
+plain_parts true true false d e f g h = cc
+plain_parts true true true false e f g h = cc
+plain_parts true true true true false f g h = cc
+plain_parts true true true true true f g h = (refl, refl)
+
+pub plain_facts : (u : UnitPart) → IsTrue (has_plain_shape u) → (1 ≤ u.slots) × (u.reach ≤ 56)
+plain_facts u h =
+    let p = plain_parts (nat_le u.page 40) (nat_le 1 u.slots) (nat_le u.slots 262144) (nat_le u.page u.reach) (nat_le u.reach 56) (nat_le 1 (length u.ports)) (nat_le (length u.ports) 8) h in
+    (leb-true 1 u.slots p.0, leb-true u.reach 56 p.1)
 
 -- a test that is the same at each port
 any_same : (p q : ℕ → Bool) (xs : List ℕ) → ((x : ℕ) → Member x xs → p x ≡ q x) → list_any p xs ≡ list_any q xs
@@ -58,7 +63,7 @@ pub lows_lead : (count : ℕ) (rows : List Told) (lows : List ℕ) → AreLows c
 lows_lead count rows lows h u plain ports w l = any_same _ _ u.ports each
   where
     each : (p : ℕ) → Member p u.ports → ((p == w) || nat_lt (get_or lows (p * count + w) 0) (2 ^ u.reach)) ≡ ((p == w) || list_any (row_leads p w (2 ^ u.reach)) rows)
-    each p m = ap (λ b. (p == w) || b) (h.lower p w (2 ^ u.reach) (ltb-true p count (all_member (λ p. nat_lt p count) u.ports ports p m)) l (power_rises u.reach 56 (low_reach u plain)))
+    each p m = ap (λ b. (p == w) || b) (h.lower p w (2 ^ u.reach) (ltb-true p count (all_member (λ p. nat_lt p count) u.ports ports p m)) l (power_rises u.reach 56 (plain_facts u plain).1))
 
 filter_same : (p q : ℕ → Bool) (xs : List ℕ) → ((x : ℕ) → Member x xs → p x ≡ q x) → filter p xs ≡ filter q xs
 filter_same p q [] f = refl
@@ -67,6 +72,31 @@ filter_same p q (x ∷ xs) f = ap (λ b. if b then x ∷ filter p xs else filter
 filter_none : (p : ℕ → Bool) (xs : List ℕ) → ((x : ℕ) → Member x xs → p x ≡ false) → filter p xs ≡ []
 filter_none p [] f = refl
 filter_none p (x ∷ xs) f = ap (λ b. if b then x ∷ filter p xs else filter p xs) (f x (inl refl)) ∙ filter_none p xs (λ z m. f z (inr m))
+
+-- an item at a place is one of the list
+pub item_at : {X : Type 0} (xs : List X) (k : ℕ) (d : X) → k < length xs → Member (get_or xs k d) xs
+item_at [] k d l = absurd (omega arith)
+item_at (x ∷ xs) zero d l = inl refl
+item_at (x ∷ xs) (suc k) d l = inr (item_at xs k d (omega arith))
+
+pub member_at : (xs : List ℕ) (k d : ℕ) → k < length xs → Member (get_or xs k d) xs
+member_at xs k d l = item_at xs k d l
+
+-- the units are nodes of the net
+pub units_below : (net : List NodeDecl) (units : List ℕ) (count : ℕ) → units ≡ unit_numbers net → count ≡ length net → (k d : ℕ) → k < length units → get_or units k d < count
+units_below net units count e n k d l =
+    let m : Member (get_or units k d) (unit_numbers net) = subst (λ us. Member (get_or units k d) us) e (member_at units k d l) in
+    subst (λ c. get_or units k d < c) (sym n) (unit_there net (get_or units k d) (unit_of_number net (get_or units k d) m))
+
+-- so the lowest addresses tell the same units as the rows
+pub next_by_lows : (net : List NodeDecl) (rows : List Told) (lows units : List ℕ) (count : ℕ) → count ≡ length net → units ≡ unit_numbers net → IsTrue (has_plain_units net) → IsTrue (is_closed net) → AreLows count rows lows → (u : ℕ) → next_by (leads_by_lows count lows) units (unit_at net u) ≡ next_told net rows u
+next_by_lows net rows lows units count n e plain closed h u = ap (λ us. next_by (leads_by_lows count lows) us (unit_at net u)) e ∙ by (unit_at net u) refl
+  where
+    by : (o : Option UnitPart) → unit_at net u ≡ o → next_by (leads_by_lows count lows) (unit_numbers net) o ≡ next_by (leads_by_rows rows) (unit_numbers net) o
+    by None at = refl
+    by (Some part) at = filter_same (leads_by_lows count lows part) (leads_by_rows rows part) (unit_numbers net) (λ w m.
+        lows_lead count rows lows h part (plain_at net u part plain at) (subst (λ c. IsTrue (list_all (λ p. nat_lt p c) part.ports)) (sym n) (ports_at net u part closed at)) w
+          (subst (λ c. w < c) (sym n) (unit_there net w (unit_of_number net w m))))
 
 -- BY THE ROWS
 module _ (net : List NodeDecl) (checked : KeepsNodeRules net) (shallow : IsShallow net) where

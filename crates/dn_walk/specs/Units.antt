@@ -8,6 +8,7 @@ use Rattle.dn_net.specs.declared.node.Unit.{Unit as UnitPart}
 use Rattle.dn_net.specs.Chain.{Member}
 use Rattle.dn_net.specs.Decode.{steps, unit_at}
 use Rattle.dn_net.specs.Names.{name_lt, name_eq}
+use Rattle.dn_net.specs.Firsts.{or_else}
 use Rattle.dn_net.specs.UnitRules.{unit_numbers, rows_from, slots_product, first_row}
 use Rattle.dn_walk.specs.declared.fork.Fork.{Fork}
 use Rattle.dn_walk.specs.Rows.{Told}
@@ -83,3 +84,10 @@ next_told net rows u = next_by (leads_by_rows rows) (unit_numbers net) (unit_at 
 abbrev pub first_over : List NodeDecl → List (List ℕ) → ℕ → ℕ → List ℕ → Option (List ℕ)
 first_over net next k most first =
     first_row (filter (λ us. nat_lt most (slots_product net us)) (rows_from (λ u. slice_index_or next u []) k first))
+
+-- the first row of four units; or else of one, or of two, or of three whose slots multiply to more than 1,048,576
+abbrev pub chain_by : List NodeDecl → List (List ℕ) → List ℕ → Option (List ℕ)
+chain_by net next first =
+    or_else (first_over net next 4 0 first)
+      (or_else (first_over net next 1 1048576 first)
+        (or_else (first_over net next 2 1048576 first) (first_over net next 3 1048576 first)))

@@ -6,5 +6,5 @@ use Rattle.dn_walk.proofs.chain.+first_row.Given as goal
 abbrev pub decreases-first_row : goal.decreases-first_row
 decreases-first_row l = l.left
 
-abbrev pub invariant-first_row-unit : goal.invariant-first_row-unit
-invariant-first_row-unit l = first_over l.net l.next l.left l.most l.units ≡ first_over l.net l.next l.left l.most (drop l.unit-index l.units)
+abbrev pub invariant-loop-unit : goal.invariant-loop-unit
+invariant-loop-unit l = first_over l.net l.next l.left l.most l.units ≡ first_over l.net l.next l.left l.most (drop l.unit-index l.units)
