@@ -1,0 +1,81 @@
+//! The program: it hands its words, standard input and standard output to the tool, and ends with its status.
+#![tactic(auto)]
+
+use dn_base::sink::Sink;
+use dn_base::source::Source;
+use dn_base::streams::{StdSink, StdSource};
+use dn_kind::kinds::Kinds;
+use dn_kinds::pages::{Pages, pages_are_lawful};
+use dn_kinds::remap::{Remap, remap_is_lawful};
+use dn_kinds::vectors::{Vectors, vectors_are_lawful};
+use dn_tool::run;
+use dn_tool::words::Words;
+use std::alloc::{AllocError, Global};
+use std::io::ErrorKind;
+use std::process::ExitCode;
+use std::rt::Env;
+use std::{env, io};
+
+/// Why the program's words are not had.
+enum WordsFault {
+    /// A word is not UTF-8, or the system does not give the words.
+    Unreadable,
+    /// There was no memory for them.
+    OutOfMemory,
+}
+
+impl From<AllocError> for WordsFault {
+    fn from(_error: AllocError) -> WordsFault {
+        WordsFault::OutOfMemory
+    }
+}
+
+impl From<io::Error> for WordsFault {
+    fn from(error: io::Error) -> WordsFault {
+        match error.kind() {
+            ErrorKind::OutOfMemory => WordsFault::OutOfMemory,
+            _ => WordsFault::Unreadable,
+        }
+    }
+}
+
+/// The words after the program's name.
+fn words_of<R: Env + AllocGlobal>(rt: &R) -> Result<Words, WordsFault> {
+    let mut words = Words::new(rt.alloc());
+    for word in env::args(rt)?.skip(1) {
+        words.push(word.as_str())?;
+    }
+    Ok(words)
+}
+
+/// Answers the words with the kinds of units that the program knows: `pages`, `remap` and `vectors`,
+/// in this order. Want of memory for them is an error, and then nothing was read or written.
+fn answer<S: Source, K: Sink>(
+    alloc: Global,
+    words: &Words,
+    source: &mut S,
+    sink: &mut K,
+) -> Result<u8, AllocError> {
+    pages_are_lawful();
+    remap_is_lawful();
+    vectors_are_lawful();
+    let mut kinds = Kinds::none(alloc);
+    kinds.add(Box::new(alloc, Pages)?)?;
+    kinds.add(Box::new(alloc, Remap)?)?;
+    kinds.add(Box::new(alloc, Vectors)?)?;
+    Ok(run::run(alloc, words, &kinds, source, sink))
+}
+
+fn main(rt: HostRuntime) -> ExitCode {
+    let words = match words_of(&rt) {
+        Ok(words) => words,
+        Err(WordsFault::Unreadable) => Words::new(rt.alloc()),
+        Err(WordsFault::OutOfMemory) => return ExitCode::from(run::NO_MEMORY),
+    };
+    let mut source = StdSource::new(rt.reader());
+    let mut sink = StdSink::new(io::writer(&rt));
+    match answer(rt.alloc(), &words, &mut source, &mut sink) {
+        Ok(status) => ExitCode::from(status),
+        Err(AllocError) => ExitCode::from(run::NO_MEMORY),
+    }
+}
