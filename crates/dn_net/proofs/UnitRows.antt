@@ -1,6 +1,6 @@
 -- Rows of units: which units lead to which, all rows of a length in order, and the row that is carried.
-use Rattle.std.proofs.Common.{◌≡◌, ℕ, zero, suc, ◌+◌, ◌*◌, ◌^◌, ◌<◌, ◌≤◌, ◌⊎◌, ◌↔◌, inl, inr, Bool, true, false, if◌then◌else◌, nat_lt, ◌==◌, List, [], ◌∷◌, ◌++◌, map, filter, length, slice_get, Option, Some, None, is_some, IsSome, IsTrue, refl, sym, ap, ◌∙◌, subst, arith, ltb-true, eqb-true}
-use Rattle.std.specs.List.{flat_map, list_any}
+use Rattle.std.proofs.Common.{◌≡◌, ℕ, zero, suc, ◌+◌, ◌^◌, ◌<◌, ◌≤◌, ◌⊎◌, inl, inr, Bool, true, false, if◌then◌else◌, ◌==◌, List, [], ◌∷◌, ◌++◌, map, filter, length, slice_get, Option, Some, None, is_some, IsSome, IsTrue, refl, sym, ap, ◌∙◌, subst, arith, ltb-true, eqb-true}
+use Rattle.std.specs.List.{flat_map}
 use Rattle.std.proofs.lemmas.Bool.{lt-ltb, eq-eqb, cases_lt}
 use Rattle.std.proofs.lemmas.Option.{slice_get_within}
 use Rattle.dn_base.proofs.Members.{any_member, member_any, member_cases}
@@ -152,7 +152,7 @@ row_listed next zero first (u ∷ us) e r = absurd (omega arith)
 row_listed next (suc k) first [] e r = absurd (omega arith)
 row_listed next (suc k) first (u ∷ us) e r = subst (λ l. Member (u ∷ us) l) (sym (rows-suc next k first))
     (flat_map_member (λ u. map (λ us. u ∷ us) (rows_from next k (next u))) first u (u ∷ us) r.0
-      (map_member (λ us. u ∷ us) (rows_from next k (next u)) us (row_listed next k (next u) us (omega arith) r.1)))
+    (map_member (λ us. u ∷ us) (rows_from next k (next u)) us (row_listed next k (next u) us (omega arith) r.1)))
 
 pub listed_row : (next : ℕ → List ℕ) (k : ℕ) (first us : List ℕ) → Member us (rows_from next k first) → (length us ≡ k) × RowIn next first us
 listed_row next zero first us m = elim (subst (λ l. Member us l) (rows-zero next first) m) [

@@ -1,8 +1,8 @@
 -- The first row of units whose slots multiply to more than a number, unit by unit.
-use Rattle.std.proofs.Common.{◌≡◌, ℕ, zero, suc, ◌+◌, ◌-◌, ◌*◌, ◌/◌, ◌<◌, ◌≤◌, ◌⊎◌, inl, inr, Bool, true, false, if◌then◌else◌, nat_lt, List, [], ◌∷◌, ◌++◌, map, filter, length, drop, get_or, Option, Some, None, option_map, IsTrue, refl, sym, ap, ◌∙◌, subst, arith, leb-true}
+use Rattle.std.proofs.Common.{◌≡◌, ℕ, zero, suc, ◌+◌, ◌-◌, ◌*◌, ◌/◌, ◌<◌, ◌≤◌, ◌⊎◌, inl, inr, Bool, true, false, if◌then◌else◌, nat_lt, List, [], ◌∷◌, ◌++◌, map, filter, length, drop, get_or, Option, Some, None, option_map, IsTrue, refl, sym, ap, ◌∙◌, subst, arith}
 use Rattle.std.specs.List.{All, flat_map}
 use Rattle.std.proofs.lemmas.Option.{slice_get_past}
-use Rattle.std.proofs.lemmas.Bool.{lt-ltb, le-ltb, cases_lt, and_parts}
+use Rattle.std.proofs.lemmas.Bool.{lt-ltb, le-ltb, cases_lt}
 use Rattle.std.proofs.lemmas.List.{get_or_default, get_or_past, drop_all}
 use Rattle.std.proofs.lemmas.List.Elements.{filter-append}
 use Rattle.dn_base.proofs.Lists.{drop_at}
@@ -15,8 +15,8 @@ use Rattle.dn_net.specs.Decode.{unit_of, unit_at, step_limit}
 use Rattle.dn_net.specs.Rules.{KeepsNodeRules}
 use Rattle.dn_net.specs.Walks.{live_walks}
 use Rattle.dn_net.specs.Firsts.{or_else}
-use Rattle.dn_net.specs.Units.{has_plain_shape, has_plain_units}
-use Rattle.dn_net.specs.UnitRules.{IsShallow, unit_leads, rows_from, slots_of, slots_product, slots_limit, is_large, first_row, large_row, unit_rows, unit_numbers, next_units, first_chain}
+use Rattle.dn_net.specs.Units.{has_plain_units}
+use Rattle.dn_net.specs.UnitRules.{IsShallow, unit_leads, rows_from, slots_of, slots_product, slots_limit, first_row, large_row, unit_rows, unit_numbers, next_units, first_chain}
 use Rattle.dn_net.proofs.Plain.{plain_at}
 use Rattle.dn_net.proofs.Arrivals.{nodes_there}
 use Rattle.dn_net.proofs.Members.{member_map, map_member, member_filter}
@@ -121,7 +121,7 @@ over_at net next left most i units n s b behind o some l at there is same slots 
     by (suc k) f g =
         let p : suc k - 1 ≡ k = omega arith in
         let q : o ≡ first_over net next k (most / slots_of (unit_at net u)) (get_or next u []) =
-            g ∙ ap (λ m. first_over net next m (most / s) behind) p ∙ ap (λ m. first_over net next k (most / m) behind) slots ∙ ap (first_over net next k (most / slots_of (unit_at net u))) list in
+        g ∙ ap (λ m. first_over net next m (most / s) behind) p ∙ ap (λ m. first_over net next k (most / m) behind) slots ∙ ap (first_over net next k (most / slots_of (unit_at net u))) list in
         ap (first_over net next (suc k) most) (drop_at units i u l (get_or_default units i 0 u l))
         ∙ over-cons net next k most u (drop (i + 1) units) (subst (λ m. 1 ≤ m) slots one)
         ∙ ap (λ x. or_else (option_map (λ r. u ∷ r) x) (first_over net next (suc k) most (drop (i + 1) units))) (sym q)
