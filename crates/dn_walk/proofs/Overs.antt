@@ -19,7 +19,8 @@ use Rattle.dn_net.specs.Units.{has_plain_units}
 use Rattle.dn_net.specs.UnitRules.{IsShallow, unit_leads, rows_from, slots_of, slots_product, slots_limit, first_row, large_row, unit_rows, unit_numbers, next_units, first_chain}
 use Rattle.dn_net.proofs.Plain.{plain_at}
 use Rattle.dn_net.proofs.Arrivals.{nodes_there}
-use Rattle.dn_net.proofs.Members.{member_map, map_member, member_filter}
+use Rattle.dn_base.proofs.Members.{map_member, member_map}
+use Rattle.dn_net.proofs.Members.{member_filter}
 use Rattle.dn_net.proofs.UnitRows.{rows-zero, rows-suc, first_chain_is, unit_of_number, unit_there}
 use Rattle.dn_walk.specs.declared.walks.WalkRow.{WalkRow}
 use Rattle.dn_walk.specs.Rows.{Told, row_view, told_by_walk}
@@ -207,7 +208,7 @@ next_below net next same k d l i e m =
 -- the nodes of the rows are there
 pub rows_there : (net : List NodeDecl) → KeepsNodeRules net → (rows : List WalkRow) → map row_view rows ≡ map told_by_walk (live_walks net step_limit) → All (λ (r : WalkRow). (r.start < length net) × (r.end < length net)) rows
 rows_there net checked rows e k d l =
-    let m : Member (row_view (get_or rows k d)) (map told_by_walk (live_walks net step_limit)) = subst (λ ts. Member (row_view (get_or rows k d)) ts) e (map_member row_view rows (get_or rows k d) (item_at rows k d l)) in
-    let w = member_map told_by_walk (live_walks net step_limit) (row_view (get_or rows k d)) m in
+    let m : Member (row_view (get_or rows k d)) (map told_by_walk (live_walks net step_limit)) = subst (λ ts. Member (row_view (get_or rows k d)) ts) e (member_map row_view rows (get_or rows k d) (item_at rows k d l)) in
+    let w = map_member told_by_walk (live_walks net step_limit) (row_view (get_or rows k d)) m in
     let n = nodes_there net checked w.0 w.1 in
     (subst (λ (t : Told). t.start < length net) w.2 n.0, subst (λ (t : Told). t.end < length net) w.2 n.1)

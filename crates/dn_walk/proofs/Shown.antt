@@ -4,7 +4,7 @@ use Rattle.std.proofs.lemmas.Bool.{lt-ltb, ltb-false, or_cases, or_parts, and_pa
 use Rattle.std.specs.List.{list_all}
 use Rattle.std.proofs.lemmas.List.{take_more}
 use Rattle.dn_base.proofs.Lists.{map-last}
-use Rattle.dn_base.proofs.Members.{member_left, member_right, member_cases}
+use Rattle.dn_base.proofs.Members.{member_left, member_right, member_cases, map_member, member_map}
 use Rattle.dn_net.specs.declared.node.Name.{Name}
 use Rattle.dn_net.specs.declared.node.NodeDecl.{NodeDecl}
 use Rattle.dn_net.specs.Chain.{Member}
@@ -18,7 +18,6 @@ use Rattle.dn_net.proofs.Cycles.{same_name}
 use Rattle.dn_net.proofs.Firsts.{NoLater}
 use Rattle.dn_net.proofs.Forks.{fork_is_least}
 use Rattle.dn_net.proofs.Least.{within_from, within_to}
-use Rattle.dn_net.proofs.Members.{member_map, map_member}
 use Rattle.dn_net.proofs.Resolution.{name_same}
 use Rattle.dn_net.proofs.Stops.{stop_unit, unit_stop, stop_still}
 use Rattle.dn_net.proofs.Ways.{lower_is, lower_still, either_way}
@@ -120,7 +119,7 @@ module _ (net : List NodeDecl) (checked : KeepsNodeRules net) (shallow : IsShall
   row_fork t m h = subst (λ u. shows_fork net u ≡ true → IsFork net (start_name u) u.end) w.2 (of_walk w.0 w.1) h
     where
       w : (w : Walk) × Member w (live_walks net step_limit) × (told_by_walk w ≡ t)
-      w = member_map told_by_walk (live_walks net step_limit) t m
+      w = map_member told_by_walk (live_walks net step_limit) t m
 
       of_walk : (w : Walk) → Member w (live_walks net step_limit) → shows_fork net (told_by_walk w) ≡ true → IsFork net (record { node = w.start; addr = w.span.lo }) w.to.node
       of_walk w m h =
@@ -163,7 +162,7 @@ module _ (net : List NodeDecl) (checked : KeepsNodeRules net) (shallow : IsShall
           let unit : is_some (unit_at net w.to.node) ≡ true = ap (λ n. is_some (unit_at net n)) (ap (λ (n : Name). n.node) a.to) ∙ (stop_unit net s k.reaches.2).0 in (
             told_by_walk w,
             record {
-              row = map_member told_by_walk (live_walks net step_limit) w a.listed;
+              row = member_map told_by_walk (live_walks net step_limit) w a.listed;
               shows = and_from (is_some (unit_at net w.to.node)) (nat_lt 1 (length (steps net (record { node = w.start; addr = w.span.lo })))) unit (lt-ltb 1 (length (steps net (record { node = w.start; addr = w.span.lo }))) more);
               node = a.start;
               addr = (within_to f.name.addr w.span a.inside).0;
