@@ -6,9 +6,11 @@ use Rattle.std.proofs.lemmas.List.{at_drop_all}
 use Rattle.dn_net.specs.declared.node.NodeDecl.{NodeDecl}
 use Rattle.dn_net.specs.declared.node.Unit.{Unit as UnitPart}
 use Rattle.dn_net.specs.Decode.{unit_at}
+use Rattle.dn_net.specs.Units.{has_plain_units}
 use Rattle.dn_net.proofs.Members.{some_same}
-use Rattle.dn_kind.specs.Kind.{Meaning}
-use Rattle.dn_kind.specs.Units.{is_shaped, has_shape, has_kind, shape_fault_from, IsFirstMisshapen, ShapeFaultIsFirst}
+use Rattle.dn_net.proofs.Plain.{plain_each}
+use Rattle.dn_kind.specs.Kind.{Meaning, is_plain}
+use Rattle.dn_kind.specs.Units.{unit_shape, fits_shape, is_shaped, has_shape, has_kind, shape_fault, shape_fault_from, IsFirstMisshapen, ShapeFaultIsFirst}
 
 -- the unit of a node has one of the kinds where that of each node has
 pub kind_known : (count : ℕ) (net : List NodeDecl) (i : ℕ) (o : Option UnitPart) → IsTrue (list_all (λ n. has_kind count n.unit) net) → option_map (λ d. d.unit) (slice_get net i) ≡ Some o → IsTrue (has_kind count o)
@@ -99,3 +101,7 @@ shape_fault_is_first kinds net = (
   ((λ h. record { shaped = kept_from kinds 0 net h }), (λ k. none_from kinds 0 net k.shaped)),
   (λ n h. let r = first_from kinds 0 net n h in let e : r.0 ≡ n = omega (arith, r.1) in subst (IsFirstMisshapen kinds net) e r.2),
 )
+
+-- where no unit breaks the rule, each has a plain shape
+pub shaped_plain : (kinds : List Meaning) (net : List NodeDecl) → shape_fault kinds net ≡ None → IsTrue (has_plain_units net)
+shaped_plain kinds net h = plain_each net (λ n u at. (and_parts (is_plain (unit_shape u)) (fits_shape (slice_get kinds u.kind) (unit_shape u)) (((shape_fault_is_first kinds net).0.0 h).shaped n u at)).0)

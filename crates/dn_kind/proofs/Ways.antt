@@ -9,7 +9,7 @@ use Rattle.dn_net.specs.Chain.{Member, IsChain, Reaches}
 use Rattle.dn_net.specs.Decode.{top, in_some_block, is_formed, is_accepted, is_accepted_at, is_stop, is_stop_at, unit_of, unit_at, steps, Step}
 use Rattle.dn_net.proofs.Steps.{unit_is_bare, node_at}
 use Rattle.dn_kind.specs.Tables.{Held, to_port, output, steps_by_unit, steps_under, StepUnder, Extends, MoreRecordsKeepNames}
-use Rattle.dn_kind.specs.Ways.{NoFork, Slot, slot_in, PassesIn, OneWayToUnit, ChainPassesSlots, OneRowOfSlots}
+use Rattle.dn_kind.specs.Ways.{NoFork, Slot, slot_in, PassesIn, OneWayToUnit, ChainPassesSlots, OneRowOfSlots, LegalOneWayToUnit, LegalOneRowOfSlots}
 
 -- chains of a relation are chains of a wider one
 chain_more : {X : Type 0} (S Q : X → X → Type 0) → ((x y : X) → S x y → Q x y) → (k : ℕ) (x y : X) → IsChain S k x y → IsChain Q k x y
@@ -170,3 +170,10 @@ one_row net h formed nf y z a b (suc j) (suc k) x row other p q =
 
 pub one_row_of_slots : OneRowOfSlots
 one_row_of_slots net h formed nf x y z row other a b p q = one_row net h formed nf y z a b p.0 q.0 x row other p.1 q.1
+
+-- in a legal net no name forks on its way to a unit
+pub legal_one_way_to_unit : LegalOneWayToUnit
+legal_one_way_to_unit net h legal = one_way_to_unit net h legal.units.no_fork
+
+pub legal_one_row_of_slots : LegalOneRowOfSlots
+legal_one_row_of_slots net h legal = one_row_of_slots net h legal.is_net.formed legal.units.no_fork

@@ -1,14 +1,15 @@
 -- What the rules on walks leave of a net: no chain that never ends, and none of 65 steps.
-use Rattle.std.proofs.Common.{◌≡◌, ℕ, zero, suc, ◌+◌, ◌-◌, ◌<◌, ◌≤◌, ◌⊎◌, inl, inr, arith, Bool, true, false, if◌then◌else◌, nat_lt, List, length, Option, Some, None, option_map, IsSome, refl, sym, subst}
+use Rattle.std.proofs.Common.{◌≡◌, ℕ, ◌+◌, Bool, true, false, if◌then◌else◌, nat_lt, List, length, Option, Some, None, option_map, IsSome, refl, sym, subst}
 use Rattle.dn_net.specs.declared.node.Name.{Name}
 use Rattle.dn_net.specs.declared.node.NodeDecl.{NodeDecl}
-use Rattle.dn_net.specs.Chain.{IsChain, Reaches, ReachesWithin}
+use Rattle.dn_net.specs.Chain.{IsChain}
 use Rattle.dn_net.specs.Decode.{step_limit, Step}
 use Rattle.dn_net.specs.Walks.{live_walks}
 use Rattle.dn_net.specs.WalkRules.{Broken, is_wide, is_deep, counted_length, shortest_cycle, path_names, cycle_or_path, walk_limit, endless_fault, EndlessIsRefused, NoFaultIsShallow, ReachIsWithin}
 use Rattle.dn_net.specs.Rules.{KeepsNodeRules}
-use Rattle.dn_net.proofs.Chains.{chain_from_endless, chain_front}
+use Rattle.dn_net.proofs.Chains.{chain_from_endless}
 use Rattle.dn_net.proofs.Firsts.{some_steps}
+use Rattle.dn_net.proofs.Stops.{shallow_reach}
 use Rattle.dn_net.proofs.Ways.{path_is_least}
 
 -- whether there are too many walks
@@ -45,11 +46,4 @@ no_fault_is_shallow net checked none x y c = never (endless_fault net) none (lon
     never (Some b) e s = cc
 
 pub reach_is_within : ReachIsWithin
-reach_is_within net checked none x y r = by r.0 r.1 (split r.0 step_limit)
-  where
-    split : (k n : ℕ) → (k ≤ n) ⊎ (n ≤ k)
-    split k n = grind arith
-
-    by : (k : ℕ) → IsChain (Step net) k x y → (k ≤ step_limit) ⊎ (step_limit ≤ k) → ReachesWithin (Step net) step_limit x y
-    by k c (inl l) = (k, l, c)
-    by k c (inr l) = let f = chain_front (Step net) step_limit k x y l c in absurd (no_fault_is_shallow net checked none x f.0 f.1)
+reach_is_within net checked none x y r = shallow_reach net (no_fault_is_shallow net checked none) x y r

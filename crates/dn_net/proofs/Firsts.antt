@@ -6,7 +6,8 @@ use Rattle.dn_net.specs.declared.node.NodeDecl.{NodeDecl}
 use Rattle.dn_net.specs.Chain.{IsChain}
 use Rattle.dn_net.specs.Decode.{top, step_limit, Step}
 use Rattle.dn_net.specs.Names.{name_lt}
-use Rattle.dn_net.specs.WalkRules.{or_else, first_below, least_in, least_below, least_name, comes_back, has_cycle, shortest_within, shortest_cycle, IsShortestCycle, ShortestCycleIsShortest}
+use Rattle.dn_net.specs.Firsts.{or_else, first_below, least_in, least_below, least_name}
+use Rattle.dn_net.specs.WalkRules.{comes_back, has_cycle, shortest_within, shortest_cycle, IsShortestCycle, ShortestCycleIsShortest}
 use Rattle.dn_net.specs.Rules.{KeepsNodeRules}
 use Rattle.dn_net.proofs.Least.{true_left, true_right, true_both}
 use Rattle.dn_net.proofs.Cycles.{comes_to_is_chain, stepping_in_range}

@@ -1,4 +1,5 @@
 pub mod Apart
+pub mod Arrivals
 pub mod Ascending
 pub mod Blocks
 pub mod Chains
@@ -7,6 +8,7 @@ pub mod Cycles
 pub mod Endless
 pub mod Faults
 pub mod Firsts
+pub mod Forks
 pub mod Gaps
 pub mod Kept
 pub mod Latest
@@ -19,9 +21,12 @@ pub mod Members
 pub mod Order
 pub mod Pairs
 pub mod Places
+pub mod Plain
 pub mod Resolution
 pub mod Steps
+pub mod Stops
 pub mod Stretch
 pub mod Sweep
 pub mod Tally
+pub mod UnitRows
 pub mod Ways

@@ -22,7 +22,7 @@ lower_than : (x y : Name) → (x.node < y.node) ⊎ ((x.node ≡ y.node) × (x.a
 lower_than x y (inl l) = lower_node x y l
 lower_than x y (inr e) = lower_addr x y e.0 e.1
 
-lower_still : (x y z : Name) → IsTrue (name_lt x y) → IsTrue (name_lt y z) → IsTrue (name_lt x z)
+pub lower_still : (x y z : Name) → IsTrue (name_lt x y) → IsTrue (name_lt y z) → IsTrue (name_lt x z)
 lower_still x y z p q = lower_than x z (by (lower_is x y p) (lower_is y z q))
   where
     by : (x.node < y.node) ⊎ ((x.node ≡ y.node) × (x.addr < y.addr)) → (y.node < z.node) ⊎ ((y.node ≡ z.node) × (y.addr < z.addr)) → (x.node < z.node) ⊎ ((x.node ≡ z.node) × (x.addr < z.addr))

@@ -3,6 +3,7 @@
 ghost use Rattle.dn_net.specs.Legal.{AreLimits, LegalBreaksNoRule};
 ghost use Rattle.dn_net.specs.Names.{EndNamesAreEnds, EndNamesAscend, ReachedIsWithin, AfterStepsIsChain};
 ghost use Rattle.dn_net.specs.Rules.{LeastOverlapIsLeast};
+ghost use Rattle.dn_net.specs.UnitRules.{ChainIsFirst, ForkIsLeast};
 ghost use Rattle.dn_net.specs.WalkRules.{CycleIsLeast, EndlessIsRefused, NoFaultIsShallow, PathIsLeast, ReachIsWithin, ShortestCycleIsShortest};
 
 /// The names that are listed are exactly those that pass a test and end a chain of at most so many steps. What a name
@@ -62,7 +63,20 @@ pub fn reach_is_within()
     ensures { ReachIsWithin }
 {}
 
-/// A net with each node to which it refers breaks neither a node rule nor a rule on walks exactly where it is legal.
+/// The fork that is carried is the least name with two or more destinations that reaches a unit, with the least unit that it
+/// reaches; where there is none, no such name is there.
+pub fn fork_is_least()
+    ensures { ForkIsLeast }
+{}
+
+/// The row of units that is carried is the first of four, or else the first of one to three with too many slots; where there
+/// is none, every row has at most three units, and not too many slots.
+pub fn chain_is_first()
+    ensures { ChainIsFirst }
+{}
+
+/// A net with each node to which it refers breaks neither a node rule nor a rule on walks, and has units of plain shapes,
+/// exactly where it is legal.
 pub fn legal_breaks_no_rule()
     ensures { LegalBreaksNoRule }
 {}

@@ -217,7 +217,7 @@ impl Net {
     }
 
     /// Whether the node is a unit.
-    pub(crate) fn is_unit(&self, node: u16) -> bool
+    pub fn is_unit(&self, node: u16) -> bool
         requires { node < length self.now }
         ensures unit { result ≡ is_some (unit_at self.now node) }
         ensures formed { IsTrue (list_all is_formed self.now) }

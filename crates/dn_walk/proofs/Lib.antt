@@ -3,11 +3,16 @@ pub mod Bridge
 pub mod Holes
 pub mod Keys
 pub mod Least
+pub mod Lows
 pub mod Meets
+pub mod Nexts
 pub mod Nodes
 pub mod Onward
+pub mod Overs
+pub mod Parts
 pub mod Picks
 pub mod Runs
+pub mod Shown
 pub mod Sorting
 pub mod Told
 pub mod Verdict

@@ -10,17 +10,16 @@ use Rattle.dn_net.specs.Chain.{Member}
 use Rattle.dn_net.specs.Decode.{top, steps, step_limit}
 use Rattle.dn_net.specs.Names.{sorted_names}
 use Rattle.dn_net.specs.Walks.{in_order, level, live_walks, starts_before}
-use Rattle.dn_net.specs.WalkRules.{is_wide, has_loop, is_deep, walk_limit, walk_fault, counted_length, cycle_or_path, shortest_cycle, shortest_within, has_cycle, or_else, first_of, behind, way_by, comes_to, goes_on, cycle_from, cycle_names, path_from, path_names}
+use Rattle.dn_net.specs.WalkRules.{is_wide, has_loop, is_deep, walk_limit, endless_fault, counted_length, cycle_or_path, shortest_cycle, shortest_within, has_cycle, or_else, first_of, behind, way_by, comes_to, goes_on, cycle_from, cycle_names, path_from, path_names}
 use Rattle.dn_net.specs.Rules.{KeepsNodeRules}
 use Rattle.dn_net.proofs.Endless.{endless_fault_is}
-use Rattle.dn_net.proofs.Legal.{first_part}
 use Rattle.dn_net.proofs.Places.{length-map}
 use Rattle.dn_walk.specs.declared.leg.Leg.{Leg}
 use Rattle.dn_walk.specs.declared.walks.WalkRow.{WalkRow}
 use Rattle.dn_walk.specs.declared.way.Goal.TheVariants.{Anywhere, To}
 use Rattle.dn_walk.specs.Rows.{Told, row_view, told_by_walk}
 use Rattle.dn_walk.specs.Legs.{told_legs}
-use Rattle.dn_walk.specs.Levels.{told_extended, told_level, told_walks, told_levels, told_before}
+use Rattle.dn_walk.specs.Levels.{told_extensions, told_level, told_walks, told_levels, told_before}
 use Rattle.dn_walk.specs.Ways.{least_of, start_names, start_name, level_leads, levels_lead, told_cycle, told_path}
 use Rattle.dn_walk.proofs.Bridge.{walks_told, least_back, least_onward, leads_to_name, leads_anywhere}
 use Rattle.dn_walk.proofs.Keys.{told_weak}
@@ -37,9 +36,6 @@ steps_are = refl
 pub limit_is : walk_limit ≡ 1048576
 unfolding walk_limit
 limit_is = refl
-
-fault_is : (net : List NodeDecl) → walk_fault net ≡ (if nat_lt walk_limit (length (live_walks net (counted_length (shortest_cycle net)))) then Some is_wide else cycle_or_path net (shortest_cycle net))
-fault_is net = first_part net ∙ endless_fault_is net
 
 shortest_is : (net : List NodeDecl) → shortest_cycle net ≡ shortest_within net (step_limit - 1)
 unfolding shortest_cycle
@@ -102,8 +98,8 @@ count_is : (net : List NodeDecl) (k : ℕ) → length (told_walks (map told_legs
 count_is net k = ap length (walks_told net k) ∙ length-map told_by_walk (live_walks net k)
 
 -- too many walks
-pub wide_is : (net : List NodeDecl) → KeepsNodeRules net → (k : ℕ) → Acyclic net k → k ≤ 64 → walk_limit < length (told_walks (map told_legs net) (k + 1)) → walk_fault net ≡ Some is_wide
-wide_is net checked k a l w = fault_is net ∙ by (shortest_cycle net) refl
+pub wide_is : (net : List NodeDecl) → KeepsNodeRules net → (k : ℕ) → Acyclic net k → k ≤ 64 → walk_limit < length (told_walks (map told_legs net) (k + 1)) → endless_fault net ≡ Some is_wide
+wide_is net checked k a l w = endless_fault_is net ∙ by (shortest_cycle net) refl
   where
     many : (c : ℕ) → k + 1 ≤ c → nat_lt walk_limit (length (live_walks net c)) ≡ true
     many c m = let r = walks_rise net (k + 1) c m in let e = count_is net (k + 1) in lt-ltb _ _ (omega arith)
@@ -189,35 +185,35 @@ pub path_told : (net : List NodeDecl) (sorted : List (List Told)) (newest : List
 path_told net sorted newest e = told_none (λ x. x ∷ way_by (steps net) (levels_lead Anywhere sorted) (length sorted) x) (least_of (start_names false newest)) e
 
 -- a walk that comes back
-pub loop_is : (net : List NodeDecl) → KeepsNodeRules net → (k c : ℕ) (names : List Name) → c ≡ suc k → Acyclic net k → c ≤ 64 → length (told_walks (map told_legs net) c) ≤ walk_limit → told_cycle net (told_levels (map told_legs net) c) (told_level (map told_legs net) c) ≡ Some names → walk_fault net ≡ Some (has_loop names)
-loop_is net checked k c names s a l m told = subst (λ d. d ≤ 64 → length (told_walks (map told_legs net) d) ≤ walk_limit → told_cycle net (told_levels (map told_legs net) d) (told_level (map told_legs net) d) ≡ Some names → walk_fault net ≡ Some (has_loop names)) (sym s) at l m told
+pub loop_is : (net : List NodeDecl) → KeepsNodeRules net → (k c : ℕ) (names : List Name) → c ≡ suc k → Acyclic net k → c ≤ 64 → length (told_walks (map told_legs net) c) ≤ walk_limit → told_cycle net (told_levels (map told_legs net) c) (told_level (map told_legs net) c) ≡ Some names → endless_fault net ≡ Some (has_loop names)
+loop_is net checked k c names s a l m told = subst (λ d. d ≤ 64 → length (told_walks (map told_legs net) d) ≤ walk_limit → told_cycle net (told_levels (map told_legs net) d) (told_level (map told_legs net) d) ≡ Some names → endless_fault net ≡ Some (has_loop names)) (sym s) at l m told
   where
-    at : suc k ≤ 64 → length (told_walks (map told_legs net) (suc k)) ≤ walk_limit → told_cycle net (told_levels (map told_legs net) (suc k)) (told_level (map told_legs net) (suc k)) ≡ Some names → walk_fault net ≡ Some (has_loop names)
+    at : suc k ≤ 64 → length (told_walks (map told_legs net) (suc k)) ≤ walk_limit → told_cycle net (told_levels (map told_legs net) (suc k)) (told_level (map told_legs net) (suc k)) ≡ Some names → endless_fault net ≡ Some (has_loop names)
     at l m told = by (least_of (start_names true (told_level (map told_legs net) (suc k)))) refl told
       where
-        by : (o : Option Name) → least_of (start_names true (told_level (map told_legs net) (suc k))) ≡ o → option_map (λ x. x ∷ way_by (steps net) (levels_lead (To x) (told_levels (map told_legs net) (suc k))) (length (told_levels (map told_legs net) (suc k))) x) o ≡ Some names → walk_fault net ≡ Some (has_loop names)
+        by : (o : Option Name) → least_of (start_names true (told_level (map told_legs net) (suc k))) ≡ o → option_map (λ x. x ∷ way_by (steps net) (levels_lead (To x) (told_levels (map told_legs net) (suc k))) (length (told_levels (map told_legs net) (suc k))) x) o ≡ Some names → endless_fault net ≡ Some (has_loop names)
         by None e told = cc
         by (Some x) e told =
             let u = steps_are in
             let short : shortest_cycle net ≡ Some (suc k) = shortest_is net ∙ first_within net checked k (step_limit - 1) x a e (omega arith) in
             let same : x ∷ way_by (steps net) (levels_lead (To x) (told_levels (map told_legs net) (suc k))) (length (told_levels (map told_legs net) (suc k))) x ≡ names = cc in
-            fault_is net
+            endless_fault_is net
             ∙ ap (λ o. if nat_lt walk_limit (length (live_walks net (counted_length o))) then Some is_wide else cycle_or_path net o) short
             ∙ ap (λ b. if b then Some is_wide else cycle_or_path net (Some (suc k))) (not_many net (suc k) m)
             ∙ ap (λ l. Some (has_loop l)) (sym (cycle_names_are net checked (suc k) x e) ∙ same)
 
 -- the verdict where no walk of up to 64 choices comes back
-endless_is : (net : List NodeDecl) → KeepsNodeRules net → Acyclic net (step_limit - 1) → length (told_walks (map told_legs net) step_limit) ≤ walk_limit → walk_fault net ≡ option_map is_deep (path_names net step_limit)
+endless_is : (net : List NodeDecl) → KeepsNodeRules net → Acyclic net (step_limit - 1) → length (told_walks (map told_legs net) step_limit) ≤ walk_limit → endless_fault net ≡ option_map is_deep (path_names net step_limit)
 endless_is net checked a m =
-    fault_is net
+    endless_fault_is net
     ∙ ap (λ o. if nat_lt walk_limit (length (live_walks net (counted_length o))) then Some is_wide else cycle_or_path net o) (shortest_is net ∙ none_within net checked (step_limit - 1) a)
     ∙ ap (λ b. if b then Some is_wide else cycle_or_path net None) (not_many net step_limit m)
 
 -- a walk of 65 choices
-pub deep_is : (net : List NodeDecl) → KeepsNodeRules net → (c : ℕ) (names : List Name) → c ≡ step_limit → Acyclic net (step_limit - 1) → length (told_walks (map told_legs net) c) ≤ walk_limit → told_path net (told_levels (map told_legs net) c) (told_level (map told_legs net) c) ≡ Some names → walk_fault net ≡ Some (is_deep names)
+pub deep_is : (net : List NodeDecl) → KeepsNodeRules net → (c : ℕ) (names : List Name) → c ≡ step_limit → Acyclic net (step_limit - 1) → length (told_walks (map told_legs net) c) ≤ walk_limit → told_path net (told_levels (map told_legs net) c) (told_level (map told_legs net) c) ≡ Some names → endless_fault net ≡ Some (is_deep names)
 deep_is net checked c names s a m told = by (least_of (start_names false (told_level (map told_legs net) c))) refl told
   where
-    by : (o : Option Name) → least_of (start_names false (told_level (map told_legs net) c)) ≡ o → option_map (λ x. x ∷ way_by (steps net) (levels_lead Anywhere (told_levels (map told_legs net) c)) (length (told_levels (map told_legs net) c)) x) o ≡ Some names → walk_fault net ≡ Some (is_deep names)
+    by : (o : Option Name) → least_of (start_names false (told_level (map told_legs net) c)) ≡ o → option_map (λ x. x ∷ way_by (steps net) (levels_lead Anywhere (told_levels (map told_legs net) c)) (length (told_levels (map told_legs net) c)) x) o ≡ Some names → endless_fault net ≡ Some (is_deep names)
     by None e told = cc
     by (Some x) e told =
         endless_is net checked a (subst (λ d. length (told_walks (map told_legs net) d) ≤ walk_limit) s m)
@@ -234,7 +230,7 @@ empty_on legs m (suc n) e l = by (last m n l) (empty_on legs m n e)
 
     by : (m ≡ suc n) ⊎ (m ≤ n) → (m ≤ n → told_level legs n ≡ []) → told_level legs (suc n) ≡ []
     by (inl s) ih = ap (told_level legs) (sym s) ∙ e
-    by (inr k) ih = level-suc legs n ∙ ap (flat_map (told_extended legs)) (ih k)
+    by (inr k) ih = level-suc legs n ∙ ap (flat_map (told_extensions legs)) (ih k)
 
 nothing_more : (legs : List (List Leg)) (k : ℕ) → told_level legs (suc k) ≡ [] → told_walks legs (suc k) ≡ told_walks legs k
 nothing_more legs k e = walks-suc legs k ∙ ap (λ l. told_walks legs k ++ in_order told_before l) e ∙ none (told_walks legs k)
@@ -264,7 +260,7 @@ none_told (t ∷ rows) e = absurd (some (start_names false rows) e)
 
 -- a net whose levels end
 pub record Legal (net : List NodeDecl) (k : ℕ) : Type 0 where
-  pub none : walk_fault net ≡ None
+  pub none : endless_fault net ≡ None
   pub rows : told_walks (map told_legs net) k ≡ map told_by_walk (live_walks net step_limit)
 
 pub legal_is : (net : List NodeDecl) → KeepsNodeRules net → (k c : ℕ) → c ≡ suc k → Acyclic net k → k ≤ 64 → length (told_walks (map told_legs net) c) ≤ walk_limit → least_of (start_names false (told_level (map told_legs net) c)) ≡ None → Legal net k
@@ -294,7 +290,7 @@ legal_is net checked k c s a l m e = record { none = none; rows = rows }
     fits : length (told_walks legs step_limit) ≤ walk_limit
     fits = subst (λ n. n ≤ walk_limit) (ap length (ap (told_walks legs) s ∙ nothing_more legs k empty ∙ sym all)) m
 
-    none : walk_fault net ≡ None
+    none : endless_fault net ≡ None
     none = endless_is net checked acyclic fits ∙ ap (option_map is_deep) (ap (path_from net step_limit) (least_onward net checked step_limit ∙ ap (λ rows. least_of (start_names false rows)) last))
 
     rows : told_walks legs k ≡ map told_by_walk (live_walks net step_limit)

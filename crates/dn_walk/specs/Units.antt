@@ -1,13 +1,13 @@
 -- What rows tell of units: the forks that they show, which units lead to which, and rows of units.
-use Rattle.std.specs.Prelude.{◌≡◌, ℕ, ◌+◌, ◌*◌, ◌^◌, ◌<◌, ◌≤◌, ◌⊎◌, Bool, true, false, if◌then◌else◌, ◌&&◌, ◌||◌, nat_lt, ◌==◌, List, [], ◌∷◌, filter, length, slice_index_or, Option, Some, None, IsTrue}
+use Rattle.std.specs.Prelude.{◌≡◌, ℕ, ◌+◌, ◌*◌, ◌^◌, ◌<◌, ◌≤◌, ◌⊎◌, Bool, true, false, if◌then◌else◌, ◌&&◌, ◌||◌, nat_lt, ◌==◌, List, [], filter, length, slice_index_or, Option, Some, None, IsTrue}
 use Rattle.std.specs.List.{list_any}
 use Rattle.std.specs.Option.{is_some}
-use Rattle.dn_net.specs.declared.node.Name.{Name}
 use Rattle.dn_net.specs.declared.node.NodeDecl.{NodeDecl}
 use Rattle.dn_net.specs.declared.node.Unit.{Unit as UnitPart}
 use Rattle.dn_net.specs.Chain.{Member}
 use Rattle.dn_net.specs.Decode.{steps, unit_at}
-use Rattle.dn_net.specs.Names.{name_lt}
+use Rattle.dn_net.specs.Names.{name_lt, name_eq}
+use Rattle.dn_net.specs.Firsts.{or_else}
 use Rattle.dn_net.specs.UnitRules.{unit_numbers, rows_from, slots_product, first_row}
 use Rattle.dn_walk.specs.declared.fork.Fork.{Fork}
 use Rattle.dn_walk.specs.Rows.{Told}
@@ -23,16 +23,16 @@ fork_shown t = record { name = start_name t; unit = t.end }
 
 -- forks are ordered by their names, and then by their units
 abbrev pub fork_before : Fork → Fork → Bool
-fork_before f g =
-    nat_lt f.name.node g.name.node
-    || ((f.name.node == g.name.node)
-      && (nat_lt f.name.addr g.name.addr
-        || ((f.name.addr == g.name.addr) && nat_lt f.unit g.unit)))
+fork_before f g = name_lt f.name g.name || (name_eq f.name g.name && nat_lt f.unit g.unit)
 
 -- the lesser of a fork that may be there and another
 abbrev pub lesser_fork : Option Fork → Fork → Option Fork
 lesser_fork None f = Some f
 lesser_fork (Some g) f = Some (if fork_before f g then f else g)
+
+-- the lesser of a fork that may be there and the one that a row shows, if it shows one
+abbrev pub with_shown : List NodeDecl → Option Fork → Told → Option Fork
+with_shown net least t = if shows_fork net t then lesser_fork least (fork_shown t) else least
 
 -- one fork does not come after another
 abbrev pub NoLaterFork : Fork → Fork → Type 0
@@ -83,3 +83,10 @@ next_told net rows u = next_by (leads_by_rows rows) (unit_numbers net) (unit_at 
 abbrev pub first_over : List NodeDecl → List (List ℕ) → ℕ → ℕ → List ℕ → Option (List ℕ)
 first_over net next k most first =
     first_row (filter (λ us. nat_lt most (slots_product net us)) (rows_from (λ u. slice_index_or next u []) k first))
+
+-- the first row of four units; or else of one, or of two, or of three whose slots multiply to more than 1,048,576
+abbrev pub chain_by : List NodeDecl → List (List ℕ) → List ℕ → Option (List ℕ)
+chain_by net next first =
+    or_else (first_over net next 4 0 first)
+    (or_else (first_over net next 1 1048576 first)
+    (or_else (first_over net next 2 1048576 first) (first_over net next 3 1048576 first)))

@@ -5,12 +5,12 @@ ghost use Rattle.std.specs.List.{All};
 ghost use Rattle.dn_net.specs.Decode.{is_closed, step_limit, unit_at};
 ghost use Rattle.dn_net.specs.Rules.{KeepsNodeRules};
 ghost use Rattle.dn_net.specs.Units.{has_plain_units};
-ghost use Rattle.dn_net.specs.UnitRules.{IsShallow, first_chain, slots_of};
+ghost use Rattle.dn_net.specs.UnitRules.{IsShallow, first_chain, slots_of, unit_numbers};
 ghost use Rattle.dn_net.specs.Walks.{live_walks};
 ghost use Rattle.dn_walk.specs.Rows.{row_view, told_by_walk};
-ghost use Rattle.dn_walk.specs.Units.{first_over};
+ghost use Rattle.dn_walk.specs.Units.{chain_by, first_over};
 
-use crate::leads::{next_units, unit_numbers};
+use crate::leads::next_units;
 use crate::walks::WalkRow;
 use dn_base::items::Items;
 use dn_net::net::Net;
@@ -24,26 +24,43 @@ pub(crate) fn first_chain(
     alloc: Global,
     net: &Net,
     rows: &[WalkRow],
+    units: &[u16],
 ) -> Result<Option<Items<u16>>, AllocError>
     requires rules { KeepsNodeRules net.now }
     requires shapes { IsTrue (has_plain_units net.now) }
     requires shallow { IsShallow net.now }
     requires few { length net.now ≤ 1024 }
     requires walks { map row_view rows.now ≡ map told_by_walk (live_walks net.now step_limit) }
+    requires units { units.now ≡ unit_numbers net.now }
     ensures { IfOk result (λ o. o ≡ first_chain net.now) }
 {
-    let units = unit_numbers(alloc, net)?;
-    let next = next_units(alloc, net, rows, &units)?;
-    if let Some(row) = first_row(alloc, net, &next, &units, 4, 0)? {
+    let next = next_units(alloc, net, rows, units)?;
+    chain_by(alloc, net, &next, units)
+}
+
+/// The same, by the units to which each node leads.
+fn chain_by(
+    alloc: Global,
+    net: &Net,
+    next: &[Items<u16>],
+    units: &[u16],
+) -> Result<Option<Items<u16>>, AllocError>
+    requires shapes { IsTrue (has_plain_units net.now) }
+    requires size { length next.now ≡ length net.now }
+    requires next { All (λ us. All (λ u. u < length net.now) us) next.now }
+    requires units { All (λ u. u < length net.now) units.now }
+    ensures { IfOk result (λ o. o ≡ chain_by net.now next.now units.now) }
+{
+    if let Some(row) = first_row(alloc, net, next, units, 4, 0)? {
         return Ok(Some(row));
     }
-    if let Some(row) = first_row(alloc, net, &next, &units, 1, SLOTS_LIMIT)? {
+    if let Some(row) = first_row(alloc, net, next, units, 1, SLOTS_LIMIT)? {
         return Ok(Some(row));
     }
-    if let Some(row) = first_row(alloc, net, &next, &units, 2, SLOTS_LIMIT)? {
+    if let Some(row) = first_row(alloc, net, next, units, 2, SLOTS_LIMIT)? {
         return Ok(Some(row));
     }
-    first_row(alloc, net, &next, &units, 3, SLOTS_LIMIT)
+    first_row(alloc, net, next, units, 3, SLOTS_LIMIT)
 }
 
 /// The first row of so many units whose slots multiply to more than `most`, where the first unit is one of these and each other

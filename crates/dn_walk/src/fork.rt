@@ -3,13 +3,15 @@
 ghost use Rattle.std.specs.Prelude.{◌≡◌, ◌<◌, nat_lt, length, map};
 ghost use Rattle.std.specs.List.{All};
 ghost use Rattle.dn_net.specs.Decode.{steps};
+ghost use Rattle.dn_net.specs.Names.{name_eq};
 ghost use Rattle.dn_net.specs.Rules.{KeepsNodeRules};
 ghost use Rattle.dn_walk.specs.declared.walks.WalkRow.{WalkRow};
 ghost use Rattle.dn_walk.specs.Rows.{row_view};
-ghost use Rattle.dn_walk.specs.Units.{fork_before, lesser_fork, shows_fork, IsLeastShown};
+ghost use Rattle.dn_walk.specs.Units.{fork_before, lesser_fork, shows_fork, with_shown, IsLeastShown};
 ghost use Rattle.dn_walk.specs.Ways.{start_name};
 
 use crate::walks::WalkRow;
+use crate::way::is_before;
 use dn_net::net::Net;
 use dn_net::node::Name;
 use dn_net::step::Step;
@@ -31,17 +33,28 @@ pub(crate) fn least_fork(net: &Net, rows: &[WalkRow]) -> Option<Fork>
 {
     let mut least = None;
     for row in rows {
-        if is_fork(net, row) {
-            least = lesser(
-                least,
-                Fork {
-                    name: first_name(row),
-                    unit: row.end,
-                },
-            );
-        }
+        least = lesser_shown(net, least, row);
     }
     least
+}
+
+/// The lesser of a fork and the one that the row shows, if it shows one.
+fn lesser_shown(net: &Net, least: Option<Fork>, row: &WalkRow) -> Option<Fork>
+    requires rules { KeepsNodeRules net.now }
+    requires start { row.now.start < length net.now }
+    requires end { row.now.end < length net.now }
+    ensures { result ≡ with_shown net.now least (row_view row.now) }
+{
+    if !is_fork(net, row) {
+        return least;
+    }
+    lesser(
+        least,
+        Fork {
+            name: first_name(row),
+            unit: row.end,
+        },
+    )
 }
 
 /// Whether the row ends in a unit, and its first name has two or more destinations.
@@ -51,7 +64,7 @@ fn is_fork(net: &Net, row: &WalkRow) -> bool
     requires end { row.now.end < length net.now }
     ensures { result ≡ shows_fork net.now (row_view row.now) }
 {
-    net.unit(row.end).is_some() && has_several_steps(net, first_name(row))
+    net.is_unit(row.end) && has_several_steps(net, first_name(row))
 }
 
 fn has_several_steps(net: &Net, name: Name) -> bool
@@ -89,8 +102,11 @@ fn lesser(least: Option<Fork>, fork: Fork) -> Option<Fork>
 fn comes_before(fork: Fork, other: Fork) -> bool
     ensures { result ≡ fork_before fork other }
 {
-    let (one, two) = (fork.name, other.name);
-    one.node < two.node
-        || (one.node == two.node
-            && (one.addr < two.addr || (one.addr == two.addr && fork.unit < other.unit)))
+    is_before(fork.name, other.name) || (is_same(fork.name, other.name) && fork.unit < other.unit)
+}
+
+fn is_same(name: Name, other: Name) -> bool
+    ensures { result ≡ name_eq name other }
+{
+    name.node == other.node && name.addr == other.addr
 }

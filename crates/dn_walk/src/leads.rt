@@ -1,6 +1,6 @@
 //! Which units lead to which.
 
-ghost use Rattle.std.specs.Prelude.{◌≡◌, ◌<◌, ◌≤◌, ◌*◌, ℕ, [], nat_lt, length, map, slice_index_or, IfOk, IsTrue};
+ghost use Rattle.std.specs.Prelude.{◌≡◌, ◌<◌, ◌≤◌, ◌*◌, ℕ, [], min, nat_lt, filter, length, map, slice_index_or, slice_set, IfOk, IsTrue};
 ghost use Rattle.std.specs.List.{All, list_all};
 ghost use Rattle.std.specs.Option.{option_copied};
 ghost use Rattle.dn_net.specs.Decode.{is_closed, ports_within};
@@ -22,7 +22,7 @@ pub(crate) fn unit_numbers(alloc: Global, net: &Net) -> Result<Vec<u16>, AllocEr
 {
     let mut units = Vec::new(alloc);
     for node in 0..net.nodes() {
-        if net.unit(node).is_some() {
+        if net.is_unit(node) {
             units.push(node)?;
         }
     }
@@ -66,9 +66,18 @@ fn lows(alloc: Global, nodes: usize, rows: &[WalkRow]) -> Result<Vec<u64>, Alloc
     let mut lows = vec![in alloc; TOP + 1; nodes * nodes]?;
     for row in rows {
         let place = usize::from(row.start) * nodes + usize::from(row.end);
-        lows[place] = lows[place].min(row.span.lo);
+        lower(&mut lows, place, row.span.lo);
     }
     Ok(lows)
+}
+
+/// Lowers the number at a place to another, if that is less.
+fn lower(lows: &mut Vec<u64>, place: usize, addr: u64)
+    requires { place < length lows.old.items }
+    ensures { lows.new.items ≡ slice_set lows.old.items place
+        (min (slice_index_or lows.old.items place 0) addr) }
+{
+    lows[place] = lows[place].min(addr);
 }
 
 /// The units to which a unit leads, in the order of `units`.
@@ -87,12 +96,30 @@ fn next_of(
     ensures { IfOk result (λ l. l ≡ next_by (leads_by_lows nodes lows.now) units.now
         (option_copied unit.entry)) }
 {
+    match unit {
+        Some(unit) => led_by(alloc, nodes, lows, units, unit),
+        None => Ok(Items::new(alloc)),
+    }
+}
+
+fn led_by(
+    alloc: Global,
+    nodes: usize,
+    lows: &[u64],
+    units: &[u16],
+    unit: &Unit,
+) -> Result<Items<u16>, AllocError>
+    requires plain { IsTrue (has_plain_shape unit.now) }
+    requires ports { IsTrue (list_all (λ p. nat_lt p nodes) unit.now.ports) }
+    requires size { length lows.now ≡ nodes * nodes }
+    requires few { nodes ≤ 1024 }
+    requires units { All (λ w. w < nodes) units.now }
+    ensures { IfOk result (λ l. l ≡ filter (leads_by_lows nodes lows.now unit.now) units.now) }
+{
     let mut next = Items::new(alloc);
-    if let Some(unit) = unit {
-        for other in units {
-            if does_lead(nodes, lows, unit, *other) {
-                next.push(*other)?;
-            }
+    for other in units {
+        if does_lead(nodes, lows, unit, *other) {
+            next.push(*other)?;
         }
     }
     Ok(next)

@@ -6,6 +6,7 @@ ghost use Rattle.std.specs.List.Sorted.{IsNonDecreasingBy};
 ghost use Rattle.dn_base.specs.Answers.{Checks};
 ghost use Rattle.dn_net.specs.Rules.{KeepsNodeRules};
 ghost use Rattle.dn_net.specs.Decode.{step_limit};
+ghost use Rattle.dn_net.specs.Legal.{IsNet};
 ghost use Rattle.dn_net.specs.Units.{has_plain_units};
 ghost use Rattle.dn_net.specs.UnitRules.{IsShallow};
 ghost use Rattle.dn_net.specs.Walks.{live_walks};
@@ -21,6 +22,7 @@ use crate::accepted::accepted_sets;
 use crate::chain::first_chain;
 use crate::fault::WalkFault;
 use crate::fork::{Fork, least_fork};
+use crate::leads::unit_numbers;
 use crate::leg::net_legs;
 use crate::level::{Levels, WALK_LIMIT};
 use crate::way::{Goal, least_start, way};
@@ -140,14 +142,18 @@ fn check_units(alloc: Global, net: &Net, rows: &[WalkRow]) -> Result<(), WalkFau
     requires rules { KeepsNodeRules net.now }
     requires shapes { IsTrue (has_plain_units net.now) }
     requires shallow { IsShallow net.now }
-    requires few { length net.now ≤ 1024 }
+    requires is_net { IsNet net.now }
     requires walks { map row_view rows.now ≡ map told_by_walk (live_walks net.now step_limit) }
     ensures { Checks walk_fault_view result (unit_fault net.now) }
 {
+    let units = unit_numbers(alloc, net)?;
+    if units.is_empty() {
+        return Ok(());
+    }
     if let Some(Fork { name, unit }) = least_fork(net, rows) {
         return Err(WalkFault::Fork { name, unit });
     }
-    if let Some(units) = first_chain(alloc, net, rows)? {
+    if let Some(units) = first_chain(alloc, net, rows, &units)? {
         return Err(WalkFault::Chain { units });
     }
     Ok(())

@@ -64,13 +64,13 @@ fn lesser(least: Option<Name>, name: Name) -> Option<Name>
     ensures { result ≡ lesser_name least name }
 {
     match least {
-        Some(other) if !comes_before(name, other) => least,
+        Some(other) if !is_before(name, other) => least,
         _ => Some(name),
     }
 }
 
 /// Whether a name comes before another, by node and by address.
-fn comes_before(name: Name, other: Name) -> bool
+pub(crate) fn is_before(name: Name, other: Name) -> bool
     ensures { result ≡ name_lt name other }
 {
     name.node < other.node || (name.node == other.node && name.addr < other.addr)

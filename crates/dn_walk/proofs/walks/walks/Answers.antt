@@ -1,12 +1,12 @@
 -- The levels of the code are those of the net, so what they show is the rule that the net breaks.
-use Rattle.std.proofs.Common.{◌≡◌, ◌∙◌, ℕ, Option, option_map, IfSome, get_or, IsTrue, refl, suc, ◌+◌, ◌-◌, ◌<◌, ◌≤◌, ◌⊎◌, inl, inr, List, [], ◌∷◌, map, length, vec_len, true, false, None, Some, sym, ap, subst, arith, rules}
+use Rattle.std.proofs.Common.{◌≡◌, ◌∙◌, ℕ, Option, option_map, IfSome, get_or, refl, suc, ◌+◌, ◌-◌, ◌<◌, ◌≤◌, ◌⊎◌, inl, inr, List, [], ◌∷◌, map, length, vec_len, true, false, None, Some, sym, ap, subst, arith, rules}
 use Rattle.std.specs.List.{All}
 use Rattle.std.specs.List.Sorted.{IsNonDecreasingBy}
 use Rattle.std.proofs.lemmas.Bool.Decides.{nat_tests}
 use Rattle.std.proofs.lemmas.Result.{err_from_is_err_and}
 use Rattle.dn_net.specs.Decode.{step_limit}
 use Rattle.dn_net.specs.Rules.{KeepsNodeRules}
-use Rattle.dn_net.specs.WalkRules.{Broken, walk_limit, walk_fault, is_wide, has_loop, is_deep}
+use Rattle.dn_net.specs.WalkRules.{Broken, walk_limit, endless_fault, unit_fault, walk_fault, is_wide, has_loop, is_deep}
 use Rattle.dn_net.specs.declared.node.NodeDecl.{NodeDecl}
 use Rattle.dn_net.specs.declared.node.Name.{Name}
 use Rattle.dn_walk.specs.declared.leg.Leg.{Leg}
@@ -17,7 +17,8 @@ use Rattle.dn_walk.specs.Legs.{told_legs}
 use Rattle.dn_walk.specs.Levels.{AreLevels, told_level, told_levels, told_walks}
 use Rattle.dn_walk.specs.Ways.{least_of, start_names, told_cycle, told_path}
 use Rattle.dn_net.proofs.Kept.{none_broken}
-use Rattle.dn_net.proofs.Legal.{legal_breaks_no_rule}
+use Rattle.dn_net.proofs.Endless.{no_fault_is_shallow}
+use Rattle.dn_net.proofs.Legal.{first_part, second_part, legal_breaks_no_rule}
 use Rattle.dn_net.proofs.Places.{length-map}
 use Rattle.dn_walk.proofs.Nodes.{all_legs_of}
 use Rattle.dn_walk.proofs.Told.{rows_are}
@@ -42,6 +43,11 @@ names_broken carries found (Some names) o' (Some b) s f h = f names (sym s) ∙ 
 no_names : (carries : List Name → Broken) (o : Option (List Name)) → option_map carries o ≡ None → o ≡ None
 no_names carries None h = refl
 no_names carries (Some names) h = cc
+
+-- a fault of the second part is the one that is broken where none of the first is
+unit_broken : (net : List NodeDecl) (o : Option Broken) → endless_fault net ≡ None → IfSome o (λ b. unit_fault net ≡ Some b) → IfSome o (λ b. walk_fault net ≡ Some b)
+unit_broken net None e h = tt
+unit_broken net (Some b) e h = second_part net e ∙ h
 
 -- the rows of the newest level begin at nodes of the net
 starts_there : (net : List NodeDecl) → KeepsNodeRules net → (l : Levels) → AreLevels (map told_legs net) l → length l.sorted.items ≤ 65 → All (λ (r : WalkRow). r.start < length net) l.newest.items
@@ -80,7 +86,7 @@ nothing (x ∷ xs) e = absurd (omega arith)
 abbrev Ended : List NodeDecl → ℕ → Type 0
 Ended net k = (64 ≤ k) ⊎ (told_level (map told_legs net) k ≡ [])
 
-deep_at : (net : List NodeDecl) → KeepsNodeRules net → (k c : ℕ) (names : List Name) → c ≡ k + 1 → k ≤ 64 → Ended net k → Acyclic net k → length (told_walks (map told_legs net) c) ≤ walk_limit → told_path net (told_levels (map told_legs net) c) (told_level (map told_legs net) c) ≡ Some names → walk_fault net ≡ Some (is_deep names)
+deep_at : (net : List NodeDecl) → KeepsNodeRules net → (k c : ℕ) (names : List Name) → c ≡ k + 1 → k ≤ 64 → Ended net k → Acyclic net k → length (told_walks (map told_legs net) c) ≤ walk_limit → told_path net (told_levels (map told_legs net) c) (told_level (map told_legs net) c) ≡ Some names → endless_fault net ≡ Some (is_deep names)
 deep_at net checked k c names s l (inl m) a w told =
     let u = steps_are in
     let t : c ≡ step_limit = omega arith in
@@ -121,7 +127,7 @@ returns-in_err-levels-2-clause-checks c =
     let net = c.args.net.now in
     let old = c.levels.levels in
     let inv = c.levels.invariant in
-    let wide : walk_limit < length (told_walks c.deref.result.now (length old.sorted.items + 1)) → walk_fault net ≡ Some is_wide = λ w. wide_is net c.requires.rules (length old.sorted.items) inv.acyclic inv.shallow (subst (λ x. walk_limit < length (told_walks x (length old.sorted.items + 1))) (c.deref.ensures.value ∙ c.in_ok-legs.ensures.legs) w) in
+    let wide : walk_limit < length (told_walks c.deref.result.now (length old.sorted.items + 1)) → walk_fault net ≡ Some is_wide = λ w. first_part net is_wide (wide_is net c.requires.rules (length old.sorted.items) inv.acyclic inv.shallow (subst (λ x. walk_limit < length (told_walks x (length old.sorted.items + 1))) (c.deref.ensures.value ∙ c.in_ok-legs.ensures.legs) w)) in
     let p = err_from_is_err_and c.from_residual-in_err-levels-2.result c.from_residual-in_err-levels-2.ensures.1 in
     rw (p.1, p.2) (wide_broken _ _ _ wide c.in_err-levels-2.ensures.wide)
 
@@ -130,7 +136,7 @@ returns-in_err-levels-3-clause-checks c =
     let net = c.args.net.now in
     let old = c.levels.levels in
     let inv = c.levels.invariant in
-    let wide : walk_limit < length (told_walks c.deref-2.result.now (length old.sorted.items + 1)) → walk_fault net ≡ Some is_wide = λ w. wide_is net c.requires.rules (length old.sorted.items) inv.acyclic inv.shallow (subst (λ x. walk_limit < length (told_walks x (length old.sorted.items + 1))) (c.deref-2.ensures.value ∙ c.in_ok-legs.ensures.legs) w) in
+    let wide : walk_limit < length (told_walks c.deref-2.result.now (length old.sorted.items + 1)) → walk_fault net ≡ Some is_wide = λ w. first_part net is_wide (wide_is net c.requires.rules (length old.sorted.items) inv.acyclic inv.shallow (subst (λ x. walk_limit < length (told_walks x (length old.sorted.items + 1))) (c.deref-2.ensures.value ∙ c.in_ok-legs.ensures.legs) w)) in
     let p = err_from_is_err_and c.from_residual-in_err-levels-3.result c.from_residual-in_err-levels-3.ensures.1 in
     rw (p.1, p.2) (wide_broken _ _ _ wide c.in_err-levels-3.ensures.wide)
 
@@ -191,7 +197,7 @@ returns-in_err-check_cycles-clause-checks c =
     let size : vec_len old.sorted ≡ length old.sorted.items = search rules in
     let k : length old.sorted.items < 64 = omega (arith, c.len.ensures, c.levels-test.true) in
     let suc_is : length l.sorted.items ≡ suc (length old.sorted.items) = omega arith in
-    let loop : (names : List Name) → told_cycle net (told_levels (map told_legs net) (length l.sorted.items)) (told_level (map told_legs net) (length l.sorted.items)) ≡ Some names → walk_fault net ≡ Some (has_loop names) = λ names told. loop_is net c.requires.rules (length old.sorted.items) (length l.sorted.items) names suc_is inv.acyclic (omega arith) (few net l h) told in
+    let loop : (names : List Name) → told_cycle net (told_levels (map told_legs net) (length l.sorted.items)) (told_level (map told_legs net) (length l.sorted.items)) ≡ Some names → walk_fault net ≡ Some (has_loop names) = λ names told. first_part net (has_loop names) (loop_is net c.requires.rules (length old.sorted.items) (length l.sorted.items) names suc_is inv.acyclic (omega arith) (few net l h) told) in
     let p = err_from_is_err_and c.from_residual-in_err-check_cycles.result c.from_residual-in_err-check_cycles.ensures.1 in
     rw (p.1, p.2) (names_broken has_loop _ _ _ _ (cycle_same net l h) loop c.in_err-check_cycles.ensures)
 
@@ -209,7 +215,7 @@ returns-in_err-check_depth-clause-checks c =
       | then-levels-test+else-not-is_empty w ↦ (let none : length old.newest.items ≡ 0 = grind (arith, nat_tests, w.is_empty.ensures, w.if-not-is_empty.false) in inr (sym inv.levels.newest ∙ ap (map row_view) (nothing old.newest.items none)))
       | else-levels-test w ↦ inl (omega (arith, c.len.ensures, w.levels-test.false))
     ] in
-    let deep : (names : List Name) → told_path net (told_levels (map told_legs net) (length l.sorted.items)) (told_level (map told_legs net) (length l.sorted.items)) ≡ Some names → walk_fault net ≡ Some (is_deep names) = λ names told. deep_at net c.requires.rules (length old.sorted.items) (length l.sorted.items) names one k ended inv.acyclic (few net l h) told in
+    let deep : (names : List Name) → told_path net (told_levels (map told_legs net) (length l.sorted.items)) (told_level (map told_legs net) (length l.sorted.items)) ≡ Some names → walk_fault net ≡ Some (is_deep names) = λ names told. first_part net (is_deep names) (deep_at net c.requires.rules (length old.sorted.items) (length l.sorted.items) names one k ended inv.acyclic (few net l h) told) in
     let p = err_from_is_err_and c.from_residual-in_err-check_depth.result c.from_residual-in_err-check_depth.ensures.1 in
     rw (p.1, p.2) (names_broken is_deep _ _ _ _ (path_same net l h) deep c.in_err-check_depth.ensures)
 
@@ -224,6 +230,51 @@ table_rows-requires-clause-room c =
     let k = inv.shallow in
     let r = h.room in let e = limit_is in omega arith
 
+pub check_units-requires-clause-shallow : goal.check_units-requires-clause-shallow
+check_units-requires-clause-shallow c =
+    let net = c.args.net.now in
+    let old = c.levels.levels in
+    let inv = c.levels.invariant in
+    let l = c.in_ok-levels-3.levels in
+    let h = same_levels net c.in_ok-legs.legs.items c.deref-2.result.now l c.deref-2.ensures.value c.in_ok-legs.ensures.legs c.in_ok-levels-3.ensures.levels in
+    let one = c.in_ok-levels-3.ensures.one_more in
+    let k = inv.shallow in
+    let suc_is : length l.sorted.items ≡ suc (length old.sorted.items) = omega arith in
+    let none = path_told net (map (map row_view) l.sorted.items) (map row_view l.newest.items) (no_names is_deep _ c.in_ok-check_depth.ensures) in
+    let legal = legal_is net c.requires.rules (length old.sorted.items) (length l.sorted.items) suc_is inv.acyclic k (few net l h) (ap (λ rows. least_of (start_names false rows)) (sym h.newest) ∙ none) in
+    no_fault_is_shallow net c.requires.rules legal.none
+
+pub check_units-requires-clause-walks : goal.check_units-requires-clause-walks
+check_units-requires-clause-walks c =
+    let net = c.args.net.now in
+    let old = c.levels.levels in
+    let inv = c.levels.invariant in
+    let l = c.in_ok-levels-3.levels in
+    let h = same_levels net c.in_ok-legs.legs.items c.deref-2.result.now l c.deref-2.ensures.value c.in_ok-legs.ensures.legs c.in_ok-levels-3.ensures.levels in
+    let one = c.in_ok-levels-3.ensures.one_more in
+    let k = inv.shallow in
+    let suc_is : length l.sorted.items ≡ suc (length old.sorted.items) = omega arith in
+    let none = path_told net (map (map row_view) l.sorted.items) (map row_view l.newest.items) (no_names is_deep _ c.in_ok-check_depth.ensures) in
+    let legal = legal_is net c.requires.rules (length old.sorted.items) (length l.sorted.items) suc_is inv.acyclic k (few net l h) (ap (λ rows. least_of (start_names false rows)) (sym h.newest) ∙ none) in
+    let pred : length l.sorted.items - 1 ≡ length old.sorted.items = omega arith in
+    let same = c.in_ok-rows.ensures (map told_legs net) h ∙ ap (told_walks (map told_legs net)) pred ∙ legal.rows in
+    ap (map row_view) c.deref-3.ensures.value ∙ same
+
+pub returns-in_err-check_units-clause-checks : goal.returns-in_err-check_units-clause-checks
+returns-in_err-check_units-clause-checks c =
+    let net = c.args.net.now in
+    let old = c.levels.levels in
+    let inv = c.levels.invariant in
+    let l = c.in_ok-levels-3.levels in
+    let h = same_levels net c.in_ok-legs.legs.items c.deref-2.result.now l c.deref-2.ensures.value c.in_ok-legs.ensures.legs c.in_ok-levels-3.ensures.levels in
+    let one = c.in_ok-levels-3.ensures.one_more in
+    let k = inv.shallow in
+    let suc_is : length l.sorted.items ≡ suc (length old.sorted.items) = omega arith in
+    let none = path_told net (map (map row_view) l.sorted.items) (map row_view l.newest.items) (no_names is_deep _ c.in_ok-check_depth.ensures) in
+    let legal = legal_is net c.requires.rules (length old.sorted.items) (length l.sorted.items) suc_is inv.acyclic k (few net l h) (ap (λ rows. least_of (start_names false rows)) (sym h.newest) ∙ none) in
+    let p = err_from_is_err_and c.from_residual-in_err-check_units.result c.from_residual-in_err-check_units.ensures.1 in
+    rw (p.1, p.2) (unit_broken net _ legal.none c.in_err-check_units.ensures)
+
 pub returns-clause-checks : goal.returns-clause-checks
 returns-clause-checks c =
     let net = c.args.net.now in
@@ -236,7 +287,7 @@ returns-clause-checks c =
     let suc_is : length l.sorted.items ≡ suc (length old.sorted.items) = omega arith in
     let none = path_told net (map (map row_view) l.sorted.items) (map row_view l.newest.items) (no_names is_deep _ c.in_ok-check_depth.ensures) in
     let legal = legal_is net c.requires.rules (length old.sorted.items) (length l.sorted.items) suc_is inv.acyclic k (few net l h) (ap (λ rows. least_of (start_names false rows)) (sym h.newest) ∙ none) in
-    legal.none
+    second_part net legal.none ∙ c.in_ok-check_units.ensures
 
 pub returns-clause-walks : goal.returns-clause-walks
 returns-clause-walks c =
@@ -251,8 +302,9 @@ returns-clause-walks c =
     let none = path_told net (map (map row_view) l.sorted.items) (map row_view l.newest.items) (no_names is_deep _ c.in_ok-check_depth.ensures) in
     let legal = legal_is net c.requires.rules (length old.sorted.items) (length l.sorted.items) suc_is inv.acyclic k (few net l h) (ap (λ rows. least_of (start_names false rows)) (sym h.newest) ∙ none) in
     let pred : length l.sorted.items - 1 ≡ length old.sorted.items = omega arith in
+    let same = c.in_ok-rows.ensures (map told_legs net) h ∙ ap (told_walks (map told_legs net)) pred ∙ legal.rows in
     record {
-      legal = (legal_breaks_no_rule net c.facts.ensures c.requires.rules.closed).0 (none_broken net c.requires.rules.each, legal.none);
-      same = c.in_ok-table_rows.ensures (map told_legs net) h ∙ ap (told_walks (map told_legs net)) pred ∙ legal.rows;
+      legal = (legal_breaks_no_rule net c.facts.ensures c.requires.rules.closed).0 (none_broken net c.requires.rules.each, c.requires.shapes, second_part net legal.none ∙ c.in_ok-check_units.ensures);
+      same = same;
       accepted = c.in_ok-accepted_sets.ensures;
     }

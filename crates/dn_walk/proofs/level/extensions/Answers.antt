@@ -1,0 +1,95 @@
+-- Each row goes on by the legs that it meets, of its end node.
+use Rattle.std.proofs.Common.{refl, ◌≡◌, ◌∙◌, ◌+◌, ◌-◌, ◌≤◌, ◌++◌, sym, ap, map, length, get_or, [], take, vec_len, arith, rules, subst}
+use Rattle.std.specs.List.{filter, flat_map}
+use Rattle.std.proofs.lemmas.List.{length-append}
+use Rattle.dn_net.proofs.Places.{length-map}
+use Rattle.dn_walk.specs.declared.leg.Leg.{Leg}
+use Rattle.dn_walk.specs.Legs.{AreLegs}
+use Rattle.dn_walk.specs.Rows.{row_view}
+use Rattle.dn_walk.specs.Levels.{IsRowOf, told_meets, told_onto, told_extensions}
+use Rattle.dn_walk.proofs.Told.{legs_there, legs_same, met_meet, met_keep, extensions_more, extensions_least}
+use Rattle.dn_walk.proofs.level.extensions.Goals as goal
+
+pub met_by-met-requires-clause-firsts : goal.met_by-met-requires-clause-firsts
+met_by-met-requires-clause-firsts c =
+    let legs = c.args.legs.now in
+    let row = c.row-item.result in
+    let is : IsRowOf (length legs) 64 (row_view row) = subst (λ r. IsRowOf (length legs) 64 (row_view r)) (sym c.row-item.is) (c.requires.rows c.loop-row.row-index row c.loop-row-test.true) in
+    let are : AreLegs (length legs) c.as_slice.result.now = legs_there legs c.requires.legs row.end c.from.result c.index-legs-from.result c.as_slice.result.now is.end c.from.ensures c.index-legs-from.is c.as_slice.ensures in
+    are.firsts
+
+pub met_by-met-requires-clause-lasts : goal.met_by-met-requires-clause-lasts
+met_by-met-requires-clause-lasts c =
+    let legs = c.args.legs.now in
+    let row = c.row-item.result in
+    let is : IsRowOf (length legs) 64 (row_view row) = subst (λ r. IsRowOf (length legs) 64 (row_view r)) (sym c.row-item.is) (c.requires.rows c.loop-row.row-index row c.loop-row-test.true) in
+    let are : AreLegs (length legs) c.as_slice.result.now = legs_there legs c.requires.legs row.end c.from.result c.index-legs-from.result c.as_slice.result.now is.end c.from.ensures c.index-legs-from.is c.as_slice.ensures in
+    are.lasts
+
+pub met_by-met-requires-clause-order : goal.met_by-met-requires-clause-order
+met_by-met-requires-clause-order c =
+    let legs = c.args.legs.now in
+    let row = c.row-item.result in
+    let is : IsRowOf (length legs) 64 (row_view row) = subst (λ r. IsRowOf (length legs) 64 (row_view r)) (sym c.row-item.is) (c.requires.rows c.loop-row.row-index row c.loop-row-test.true) in
+    let are : AreLegs (length legs) c.as_slice.result.now = legs_there legs c.requires.legs row.end c.from.result c.index-legs-from.result c.as_slice.result.now is.end c.from.ensures c.index-legs-from.is c.as_slice.ensures in
+    λ k d l. (are.each k d l).order
+
+pub returns-then-room-len-clause-wide : goal.returns-then-room-len-clause-wide
+returns-then-room-len-clause-wide c =
+    let legs = c.args.legs.now in
+    let row = c.row-item.result in
+    let is : IsRowOf (length legs) 64 (row_view row) = subst (λ r. IsRowOf (length legs) 64 (row_view r)) (sym c.row-item.is) (c.requires.rows c.loop-row.row-index row c.loop-row-test.true) in
+    let met = c.met_by-met.result.now in
+    let same : c.as_slice.result.now ≡ get_or legs row.end [] = legs_same legs row.end c.from.result c.index-legs-from.result c.as_slice.result.now is.end c.from.ensures c.index-legs-from.is c.as_slice.ensures in
+    let on : map (told_onto (row_view row)) met ≡ told_extensions legs (row_view row) = ap (map (told_onto (row_view row))) (c.met_by-met.ensures ∙ ap (filter (told_meets (row_view row))) same) in
+    let count : length met ≡ length (told_extensions legs (row_view row)) = sym (length-map (told_onto (row_view row)) met) ∙ ap length on in
+    let have : length c.loop-row.out.items ≡ length (flat_map (told_extensions legs) (map row_view (take c.loop-row.row-index c.args.rows.now))) = sym (length-map row_view c.loop-row.out.items) ∙ ap length c.loop-row.invariant.made in
+    let least = extensions_least legs c.args.rows.now c.loop-row.row-index row c.loop-row-test.true c.row-item.is in
+    let size : vec_len c.loop-row.out ≡ length c.loop-row.out.items = search rules in
+    (refl, omega (arith, c.len.ensures, c.if-room-len.true, c.loop-row.invariant.fits))
+
+pub extend_row-requires-clause-meet : goal.extend_row-requires-clause-meet
+extend_row-requires-clause-meet c =
+    met_meet (row_view c.row-item.result) c.as_slice.result.now c.met_by-met.result.now c.met_by-met.ensures
+
+pub extend_row-requires-clause-order : goal.extend_row-requires-clause-order
+extend_row-requires-clause-order c =
+    let legs = c.args.legs.now in
+    let row = c.row-item.result in
+    let is : IsRowOf (length legs) 64 (row_view row) = subst (λ r. IsRowOf (length legs) 64 (row_view r)) (sym c.row-item.is) (c.requires.rows c.loop-row.row-index row c.loop-row-test.true) in
+    let are : AreLegs (length legs) c.as_slice.result.now = legs_there legs c.requires.legs row.end c.from.result c.index-legs-from.result c.as_slice.result.now is.end c.from.ensures c.index-legs-from.is c.as_slice.ensures in
+    met_keep (λ (l : Leg). l.lo ≤ l.hi) (row_view row) c.as_slice.result.now c.met_by-met.result.now c.met_by-met.ensures (λ k d l. (are.each k d l).order)
+
+pub extend_row-requires-clause-low : goal.extend_row-requires-clause-low
+extend_row-requires-clause-low c =
+    let legs = c.args.legs.now in
+    let row = c.row-item.result in
+    let is : IsRowOf (length legs) 64 (row_view row) = subst (λ r. IsRowOf (length legs) 64 (row_view r)) (sym c.row-item.is) (c.requires.rows c.loop-row.row-index row c.loop-row-test.true) in
+    let are : AreLegs (length legs) c.as_slice.result.now = legs_there legs c.requires.legs row.end c.from.result c.index-legs-from.result c.as_slice.result.now is.end c.from.ensures c.index-legs-from.is c.as_slice.ensures in
+    met_keep (λ (l : Leg). l.hi ≤ 72057594037927935) (row_view row) c.as_slice.result.now c.met_by-met.result.now c.met_by-met.ensures (λ k d l. (are.each k d l).low)
+
+pub extend_row-requires-clause-far : goal.extend_row-requires-clause-far
+extend_row-requires-clause-far c =
+    let legs = c.args.legs.now in
+    let row = c.row-item.result in
+    let is : IsRowOf (length legs) 64 (row_view row) = subst (λ r. IsRowOf (length legs) 64 (row_view r)) (sym c.row-item.is) (c.requires.rows c.loop-row.row-index row c.loop-row-test.true) in
+    let are : AreLegs (length legs) c.as_slice.result.now = legs_there legs c.requires.legs row.end c.from.result c.index-legs-from.result c.as_slice.result.now is.end c.from.ensures c.index-legs-from.is c.as_slice.ensures in
+    met_keep (λ (l : Leg). l.addr + (l.hi - l.lo) ≤ 72057594037927935) (row_view row) c.as_slice.result.now c.met_by-met.result.now c.met_by-met.ensures (λ k d l. (are.each k d l).reach)
+
+pub loop-row-preserved : goal.loop-row-preserved
+loop-row-preserved c =
+    let legs = c.args.legs.now in
+    let row = c.row-item.result in
+    let is : IsRowOf (length legs) 64 (row_view row) = subst (λ r. IsRowOf (length legs) 64 (row_view r)) (sym c.row-item.is) (c.requires.rows c.loop-row.row-index row c.loop-row-test.true) in
+    let met = c.met_by-met.result.now in
+    let same : c.as_slice.result.now ≡ get_or legs row.end [] = legs_same legs row.end c.from.result c.index-legs-from.result c.as_slice.result.now is.end c.from.ensures c.index-legs-from.is c.as_slice.ensures in
+    let on : map (told_onto (row_view row)) met ≡ told_extensions legs (row_view row) = ap (map (told_onto (row_view row))) (c.met_by-met.ensures ∙ ap (filter (told_meets (row_view row))) same) in
+    let count : length met ≡ length (told_extensions legs (row_view row)) = sym (length-map (told_onto (row_view row)) met) ∙ ap length on in
+    let have : length c.loop-row.out.items ≡ length (flat_map (told_extensions legs) (map row_view (take c.loop-row.row-index c.args.rows.now))) = sym (length-map row_view c.loop-row.out.items) ∙ ap length c.loop-row.invariant.made in
+    let size : vec_len c.loop-row.out ≡ length c.loop-row.out.items = search rules in
+    let size' : vec_len c.extend_row.new.out ≡ length c.extend_row.new.out.items = search rules in
+    let more : length c.extend_row.new.out.items ≡ length c.loop-row.out.items + length met = sym (length-map row_view c.extend_row.new.out.items) ∙ ap length c.in_ok-extend_row.ensures ∙ length-append (map row_view c.loop-row.out.items) (map (told_onto (row_view row)) met) ∙ omega (arith, length-map row_view c.loop-row.out.items, length-map (told_onto (row_view row)) met) in
+    record {
+      made = c.in_ok-extend_row.ensures ∙ ap (λ x. x ++ map (told_onto (row_view row)) met) c.loop-row.invariant.made ∙ ap (λ x. flat_map (told_extensions legs) (map row_view (take c.loop-row.row-index c.args.rows.now)) ++ x) on ∙ sym (extensions_more legs c.args.rows.now c.loop-row.row-index row c.loop-row-test.true c.row-item.is);
+      fits = omega (arith, c.len.ensures, c.if-room-len.false, c.loop-row.invariant.fits);
+    }
