@@ -1,7 +1,8 @@
 //! The list of the kinds that a program knows.
 
-ghost use Rattle.std.specs.Prelude.{◌≡◌, ◌<◌, ◌++◌, [], ◌∷◌, length, slice_get, map, Some, IfSome, OnOk, OnErr};
+ghost use Rattle.std.specs.Prelude.{◌≡◌, ◌<◌, ◌++◌, [], ◌∷◌, length, slice_get, map, Some, option_map, IfSome, OnOk, OnErr};
 ghost use Rattle.std.specs.List.{All};
+ghost use Rattle.std.specs.Str.{bytes_eq};
 ghost use Rattle.dn_kind.specs.Kind.{IsLawful, kind_place};
 
 use crate::unit_kind::UnitKind;
@@ -50,12 +51,30 @@ impl Kinds {
         ensures there { IfSome result (λ number. number < length self.now.list.items) }
     {
         for number in 0..self.list.len() {
-            let kind = &self.list[number];
-            if name == kind.name() {
+            if self.has_name(number, name) {
                 return Some(number);
             }
         }
         None
+    }
+
+    /// Whether the kind of a number has the name.
+    fn has_name(&self, number: usize, name: &str) -> bool
+        requires there { number < length self.now.list.items }
+        ensures { option_map (λ k. bytes_eq name.now k.name)
+            (slice_get (map (λ k. meaning k) self.now.list.items) number) ≡ Some result }
+    {
+        is_named(&**self.entry(number), name)
+    }
+
+    /// The kind of a number, as it stands in the list.
+    fn entry(&self, number: usize) -> &Box<dyn UnitKind>
+        requires there { number < length self.now.list.items }
+        ensures { slice_get (map (λ k. meaning k) self.now.list.items) number
+            ≡ Some (meaning result.now) }
+    {
+        let list = self.list.as_slice();
+        &list[number]
     }
 
     /// The kind of a number.
@@ -68,4 +87,11 @@ impl Kinds {
     {
         &self.list[number]
     }
+}
+
+/// Whether the kind has the name.
+fn is_named(kind: &dyn UnitKind, name: &str) -> bool
+    ensures { result ≡ bytes_eq name.now (meaning kind.now).name }
+{
+    name == kind.name()
 }
