@@ -5,7 +5,6 @@ ghost use Rattle.dn_kind.specs.Kind.{is_plain};
 ghost use Rattle.dn_kind.specs.Units.{unit_shape};
 
 use dn_net::node::{Unit, is_plain_shape};
-
 pub use dn_net::node::{MAX_PAGE, MAX_PORTS, MAX_REACH, MAX_SLOTS};
 
 /// The shape of a unit: what its kind may ask of it.

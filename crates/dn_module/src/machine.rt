@@ -42,7 +42,7 @@ pub fn expand_body<'a>(
 ) -> Result<Made<'a>, ExpandFault>
     requires few_kinds { length kinds.now.list.items ≤ 255 }
     ensures { Answers state_view expand_fault_view result
-        (all_rewritings (map (λ k. meaning k) kinds.now.list.items) most_steps
+        (all_rewritings (map (λ k. meaning (k.vtable, k.value)) kinds.now.list.items) most_steps
         (statements outside (body_view body.now)) nothing_yet) }
 {
     let mut stack = Stack::new(alloc, body);
@@ -97,7 +97,7 @@ fn step<'a>(
     requires free { stack.old.inner.inner.turns ≡ None }
     ensures { Answers (λ _. (stack_works stack.new, state_view made.new)) expand_fault_view result
         (in_front (stack_works stack.old) (rewriting
-        (map (λ k. meaning k) kinds.now.list.items) (state_view made.old)
+        (map (λ k. meaning (k.vtable, k.value)) kinds.now.list.items) (state_view made.old)
         (work_view (visibility_view stack.old.inner.visible) stack.old.inner.scope work.entry))) }
 {
     match work {
@@ -121,7 +121,7 @@ fn take<'a>(
     requires free { stack.old.inner.inner.turns ≡ None }
     ensures { Answers (λ _. (stack_works stack.new, state_view made.new)) expand_fault_view result
         (in_front (stack_works stack.old) (item_rewriting
-        (map (λ k. meaning k) kinds.now.list.items) (visibility_view stack.old.inner.visible)
+        (map (λ k. meaning (k.vtable, k.value)) kinds.now.list.items) (visibility_view stack.old.inner.visible)
         (state_view made.old) (in_item stack.old.inner.scope (item_view statement.now)))) }
 {
     match statement {
@@ -175,7 +175,7 @@ fn declare(
 ) -> Result<(), ExpandFault>
     requires few_kinds { length kinds.now.list.items ≤ 255 }
     ensures { Answers (λ _. drafts.new) expand_fault_view result
-        (with_declaration (map (λ k. meaning k) kinds.now.list.items) drafts.old line
+        (with_declaration (map (λ k. meaning (k.vtable, k.value)) kinds.now.list.items) drafts.old line
         (in_declaration scope.now (declaration_view decl.now))) }
 {
     let draft = declared_by(alloc, kinds, scope, line, decl)?;

@@ -31,7 +31,7 @@ pub fn declared_by(
 ) -> Result<Draft, ExpandFault>
     requires few_kinds { length kinds.now.list.items ≤ 255 }
     ensures { Answers (λ x. x) expand_fault_view result
-        (declared_by (map (λ k. meaning k) kinds.now.list.items) line
+        (declared_by (map (λ k. meaning (k.vtable, k.value)) kinds.now.list.items) line
         (in_declaration scope.now (declaration_view decl.now))) }
 {
     match draft_of(alloc, kinds, scope, line, decl) {
@@ -50,7 +50,7 @@ fn draft_of(
 ) -> Result<Draft, NameFault>
     requires few_kinds { length kinds.now.list.items ≤ 255 }
     ensures { Answers (λ x. x) name_fault_view result
-        (draft_of (map (λ k. meaning k) kinds.now.list.items) line
+        (draft_of (map (λ k. meaning (k.vtable, k.value)) kinds.now.list.items) line
         (in_declaration scope.now (declaration_view decl.now))) }
 {
     match decl {
@@ -108,7 +108,7 @@ fn unit_draft(alloc: Global, line: u32, name: Text, unit: DraftUnit) -> Draft
 fn kind_number(kinds: &Kinds, name: &str) -> Result<u8, Flaw>
     requires few_kinds { length kinds.now.list.items ≤ 255 }
     ensures { Answers (λ x. x) some_flaw result
-        (known_kind (kind_place (map (λ k. meaning k) kinds.now.list.items) name.now)) }
+        (known_kind (kind_place (map (λ k. meaning (k.vtable, k.value)) kinds.now.list.items) name.now)) }
 {
     match kinds.find(name) {
         Some(number) => Ok(number as u8),

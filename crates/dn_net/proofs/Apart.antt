@@ -1,14 +1,14 @@
 -- What the node rules say of the blocks of one node.
-use Rattle.std.proofs.Common.{◌≡◌, ℕ, zero, suc, ◌+◌, ◌-◌, ◌<◌, ◌≤◌, ◌⊎◌, inl, inr, Bool, true, false, if◌then◌else◌, nat_le, nat_lt, List, [], ◌∷◌, Option, Some, None, IsSome, refl, sym, ap, ◌∙◌, arith, IsTrue, leb-true, true≢false, slice_get}
+use Rattle.std.proofs.Common.{◌≡◌, ℕ, zero, suc, ◌+◌, ◌-◌, ◌≤◌, Bool, true, false, if◌then◌else◌, nat_le, nat_lt, List, [], ◌∷◌, Some, refl, sym, ap, ◌∙◌, arith, IsTrue, leb-true, true≢false, slice_get}
 use Rattle.std.proofs.lemmas.Bool.{lt-ltb}
 use Rattle.std.specs.List.{All, list_all}
 use Rattle.dn_net.specs.declared.node.Dest.{Dest}
 use Rattle.dn_net.specs.declared.node.Entry.{Entry}
 use Rattle.dn_net.specs.declared.node.NodeDecl.{NodeDecl}
 use Rattle.dn_net.specs.Decode.{top, within, in_some_block}
-use Rattle.dn_net.specs.Rules.{overlaps, block_in_range, dest_in_range, entry_in_range, KeepsRules}
+use Rattle.dn_net.specs.Rules.{block_in_range, dest_in_range, entry_in_range, KeepsRules}
 use Rattle.dn_net.proofs.Kept.{kept_at, few_maps}
-use Rattle.dn_net.proofs.Least.{maps_at, maps_at-cons, true_left, true_right, true_both}
+use Rattle.dn_net.proofs.Least.{maps_at, maps_at-cons, true_right, true_both}
 use Rattle.dn_net.proofs.Places.{both, list_all-at}
 use Rattle.dn_net.proofs.Members.{some_same}
 

@@ -1,5 +1,5 @@
 -- What names reach, as live walks: where a name comes to, a walk leads, and each name of a walk has as many steps as its first.
-use Rattle.std.proofs.Common.{◌≡◌, ℕ, zero, suc, ◌+◌, ◌-◌, ◌<◌, ◌≤◌, ◌⊎◌, inl, inr, Bool, true, false, if◌then◌else◌, ◌||◌, nat_le, List, [], ◌∷◌, length, slice_get, Option, Some, None, IsTrue, refl, sym, ap, ◌∙◌, subst, arith}
+use Rattle.std.proofs.Common.{◌≡◌, ℕ, zero, suc, ◌+◌, ◌-◌, ◌<◌, ◌≤◌, ◌⊎◌, inl, inr, false, if◌then◌else◌, List, [], ◌∷◌, length, slice_get, Option, Some, None, IsTrue, refl, sym, ap, ◌∙◌, subst, arith}
 use Rattle.std.proofs.lemmas.Bool.{le-leb, or_parts}
 use Rattle.dn_base.proofs.Lists.{length-map}
 use Rattle.dn_net.specs.declared.node.Block.{Block}
@@ -7,16 +7,16 @@ use Rattle.dn_net.specs.declared.node.Entry.{Entry}
 use Rattle.dn_net.specs.declared.node.Name.{Name}
 use Rattle.dn_net.specs.declared.node.NodeDecl.{NodeDecl}
 use Rattle.dn_net.specs.Chain.{Member, IsChain, Reaches}
-use Rattle.dn_net.specs.Decode.{top, within, in_some_block, moved, Sent, by_over, by_entries, decode, sent_names, steps, step_limit, Step}
+use Rattle.dn_net.specs.Decode.{top, within, in_some_block, moved, by_over, by_entries, decode, sent_names, steps, step_limit, Step}
 use Rattle.dn_net.specs.Rules.{KeepsRules, KeepsNodeRules}
 use Rattle.dn_net.specs.UnitRules.{IsShallow}
-use Rattle.dn_net.specs.Walks.{Choice, mapped_by, over_gap, in_some_entry, IsGap, Leads, Follows, moved_name, Walk, last_out, level, live_walks}
+use Rattle.dn_net.specs.Walks.{Choice, mapped_by, over_gap, in_some_entry, IsGap, Leads, Follows, moved_name, Walk, level, live_walks}
 use Rattle.dn_net.proofs.Apart.{IsApart, node_apart}
 use Rattle.dn_net.proofs.Chains.{chain_front}
 use Rattle.dn_net.proofs.Choices.{free_parts}
-use Rattle.dn_net.proofs.Cycles.{IsLed, stepping_in_range, row_of_chain, chain_of_row}
+use Rattle.dn_net.proofs.Cycles.{stepping_in_range, row_of_chain, chain_of_row}
 use Rattle.dn_net.proofs.Kept.{kept_at, few_maps}
-use Rattle.dn_net.proofs.Latest.{sent_by, found_by, not_found}
+use Rattle.dn_net.proofs.Latest.{found_by, not_found}
 use Rattle.dn_net.proofs.Least.{within_to}
 use Rattle.dn_net.proofs.Legs.{leads_once}
 use Rattle.dn_net.proofs.Levels.{IsRow, level_is_row}

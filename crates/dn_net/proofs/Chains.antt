@@ -1,5 +1,5 @@
 -- A chain with no end has a chain of each length, and a chain has a front of each length up to its own.
-use Rattle.std.proofs.Common.{◌≡◌, ℕ, zero, suc, ◌+◌, ◌-◌, ◌≤◌, refl, sym, ap, subst, arith}
+use Rattle.std.proofs.Common.{◌≡◌, ℕ, zero, suc, ◌+◌, ◌≤◌, refl, sym, ap, subst, arith}
 use Rattle.dn_net.specs.Chain.{IsChain}
 
 pub chain_from_endless : {X : Type 0} (S : X → X → Type 0) (f : ℕ → X) → ((i : ℕ) → S (f i) (f (suc i))) → (k i : ℕ) → IsChain S k (f i) (f (i + k))

@@ -1,5 +1,5 @@
 -- The first rule that a node breaks, from what its parts say.
-use Rattle.std.proofs.Common.{◌≡◌, ℕ, zero, suc, ◌+◌, ◌<◌, ◌≤◌, Bool, true, false, ◌&&◌, ◌||◌, not, nat_le, List, [], ◌∷◌, Option, Some, None, option_map, is_some, IsSome, IfSome, refl, sym, ap, ◌∙◌, subst, arith, IsTrue, length, slice_get, drop, if◌then◌else◌}
+use Rattle.std.proofs.Common.{◌≡◌, ℕ, zero, suc, ◌+◌, ◌<◌, ◌≤◌, Bool, true, false, ◌&&◌, ◌||◌, not, nat_le, List, [], ◌∷◌, Option, Some, None, option_map, is_some, IsSome, IfSome, refl, sym, ap, ◌∙◌, subst, arith, IsTrue, length, slice_get, drop}
 use Rattle.std.specs.List.{list_all, list_any}
 use Rattle.std.specs.List.Sorted.{IsPermutation}
 use Rattle.dn_net.specs.declared.node.Block.{Block}
@@ -10,7 +10,7 @@ use Rattle.dn_net.specs.declared.node.NodeDecl.{NodeDecl}
 use Rattle.dn_net.specs.declared.spans.Span.{Span}
 use Rattle.dn_net.specs.Decode.{top}
 use Rattle.dn_net.specs.Spans.{node_spans, overlaps_in, is_accepted_in}
-use Rattle.dn_net.specs.Rules.{BrokenNode, out_of_range, overlapping, repeating, past_space, is_in_range, block_in_range, entry_in_range, dests_repeat, unit_repeats, is_vectors, count_below, overlaps, least_overlap, repeats, passes_vector_space, later_fault, fault_of_node, first_fault, node_fault_from}
+use Rattle.dn_net.specs.Rules.{BrokenNode, out_of_range, overlapping, repeating, past_space, is_in_range, block_in_range, entry_in_range, dests_repeat, unit_repeats, is_vectors, count_below, overlaps, least_overlap, repeats, passes_vector_space, fault_of_node, first_fault, node_fault_from}
 use Rattle.dn_net.proofs.Least.{least_overlap_is_least}
 use Rattle.dn_net.proofs.Blocks.{spans_overlap, spans_count}
 

@@ -1,5 +1,5 @@
 -- The fork that is carried is the least.
-use Rattle.std.proofs.Common.{◌≡◌, ℕ, zero, suc, ◌<◌, ◌≤◌, ◌⊎◌, inl, inr, Bool, true, false, ◌&&◌, nat_lt, List, [], ◌∷◌, length, Option, Some, None, option_map, is_some, IsTrue, refl, sym, ap, ◌∙◌, subst, arith, ltb-true}
+use Rattle.std.proofs.Common.{◌≡◌, ℕ, ◌<◌, ◌≤◌, ◌⊎◌, inl, inr, true, false, nat_lt, List, [], ◌∷◌, length, Option, Some, None, option_map, is_some, IsTrue, refl, sym, ap, ◌∙◌, subst, arith, ltb-true}
 use Rattle.std.proofs.lemmas.Bool.{lt-ltb, and_parts, and_from}
 use Rattle.dn_net.specs.declared.node.Name.{Name}
 use Rattle.dn_net.specs.declared.node.NodeDecl.{NodeDecl}
@@ -10,7 +10,7 @@ use Rattle.dn_net.specs.Rules.{KeepsNodeRules}
 use Rattle.dn_net.specs.Firsts.{first_of, least_name}
 use Rattle.dn_net.specs.UnitRules.{Fork, is_fork, fork_at, least_fork, IsShallow, IsFork, IsLeastFork, ForkIsLeast}
 use Rattle.dn_net.proofs.Cycles.{stepping_in_range}
-use Rattle.dn_net.proofs.Firsts.{NoLater, IsLeastNameOr, IsLeastName, least_name_is}
+use Rattle.dn_net.proofs.Firsts.{NoLater, IsLeastName, least_name_is}
 use Rattle.dn_net.proofs.Stops.{stop_listed, listed_stop, stop_there, stop_unit, IsFirstStop, IsFirstStopOr, first_stop_is}
 use Rattle.dn_net.proofs.Ways.{lower_is}
 

@@ -10,10 +10,10 @@ use Rattle.dn_net.specs.Chain.{Member}
 use Rattle.dn_net.specs.Decode.{top, refers_within, over_within, ports_within}
 use Rattle.dn_net.specs.Walks.{Choice, mapped_by, over_gap, IsGap, Leads, gaps, Leg, dest_legs, entry_legs, gap_legs, legs_of}
 use Rattle.dn_net.proofs.Places.{both, list_all-at}
-use Rattle.dn_base.proofs.Members.{member_left, member_right, member_cases}
+use Rattle.dn_base.proofs.Members.{member_left, member_right, member_cases, map_member, member_map}
 use Rattle.dn_net.proofs.Apart.{IsApart}
 use Rattle.dn_net.proofs.Gaps.{gap_of_member, member_of_gap}
-use Rattle.dn_net.proofs.Members.{member_map, map_member, member_order, some_same}
+use Rattle.dn_net.proofs.Members.{member_order, some_same}
 
 -- the leg of an entry's destination, and of a gap
 abbrev pub dest_leg : ℕ → ℕ → Block → Dest → Leg
@@ -75,7 +75,7 @@ pub record OfGap (over : Option ℕ) (spans : List Block) (l : Leg) : Type 0 whe
 
 pub member_gap_legs : (over : Option ℕ) (spans : List Block) (l : Leg) → Member l (gap_legs over spans) → OfGap over spans l
 member_gap_legs None spans l m = absurd m
-member_gap_legs (Some m) spans l n = let r = member_map (gap_leg m) spans l n in record { node = m; is_over = refl; gap = r.0; is_gap = r.1; leg = r.2 }
+member_gap_legs (Some m) spans l n = let r = map_member (gap_leg m) spans l n in record { node = m; is_over = refl; gap = r.0; is_gap = r.1; leg = r.2 }
 
 -- each leg is a choice of the node
 leads_of : (n : NodeDecl) → IsApart n → (l : Leg) → Member l (entry_legs 0 n.entries) ⊎ Member l (gap_legs n.over (gaps n)) → Leads (Some n) l.choice l.block l.to
@@ -100,7 +100,7 @@ leg_among n apart (mapped_by i j) b d f =
     member_left (entry_legs 0 n.entries) (gap_legs n.over (gaps n)) (record { choice = mapped_by i j; block = b; to = d }) (subst (λ (k : Leg). Member k (entry_legs 0 n.entries)) (λ t. record { choice = mapped_by i j; block = sym f.4 t; to = sym f.5 t }) m)
 leg_among n apart (over_gap lo hi) b d f =
     let g : Block = record { lo = lo; hi = hi } in
-    let m : Member (gap_leg f.0 g) (gap_legs (Some f.0) (gaps n)) = map_member (gap_leg f.0) (gaps n) g (member_of_gap n apart lo hi f.2) in
+    let m : Member (gap_leg f.0 g) (gap_legs (Some f.0) (gaps n)) = member_map (gap_leg f.0) (gaps n) g (member_of_gap n apart lo hi f.2) in
     let m1 : Member (gap_leg f.0 g) (gap_legs n.over (gaps n)) = subst (λ o. Member (gap_leg f.0 g) (gap_legs o (gaps n))) (sym f.1) m in
     member_right (entry_legs 0 n.entries) (gap_legs n.over (gaps n)) (record { choice = over_gap lo hi; block = b; to = d }) (subst (λ (k : Leg). Member k (gap_legs n.over (gaps n))) (λ t. record { choice = over_gap lo hi; block = sym f.3 t; to = sym f.4 t }) m1)
 

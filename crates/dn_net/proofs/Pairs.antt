@@ -5,8 +5,8 @@ use Rattle.std.specs.List.{flat_map}
 use Rattle.std.specs.List.Sorted.{IsNonDecreasingBy}
 use Rattle.dn_net.specs.Chain.{Member}
 use Rattle.dn_net.specs.Walks.{put_in, in_order}
-use Rattle.dn_base.proofs.Members.{member_cases}
-use Rattle.dn_net.proofs.Members.{member_map, member_filter, member_flat_map, member_put, member_order, some_same}
+use Rattle.dn_base.proofs.Members.{member_cases, map_member}
+use Rattle.dn_net.proofs.Members.{member_filter, member_flat_map, member_put, member_order, some_same}
 
 abbrev pub Pairwise : {X : Type 0} → (X → X → Type 0) → List X → Type 0
 Pairwise R [] = Unit {0}
@@ -34,7 +34,7 @@ pairs_append R (x ∷ xs) ys p q f = ((λ y m. elim (member_cases xs ys y m) [ i
 
 pub pairs_map : {X Y : Type 0} (R : Y → Y → Type 0) (f : X → Y) (xs : List X) → Pairwise (λ x y. R (f x) (f y)) xs → Pairwise R (map f xs)
 pairs_map R f [] p = tt
-pairs_map R f (x ∷ xs) p = ((λ y m. let r = member_map f xs y m in subst (λ z. R (f x) z) r.2 (p.0 r.0 r.1)), pairs_map R f xs p.1)
+pairs_map R f (x ∷ xs) p = ((λ y m. let r = map_member f xs y m in subst (λ z. R (f x) z) r.2 (p.0 r.0 r.1)), pairs_map R f xs p.1)
 
 pub pairs_filter : {X : Type 0} (R : X → X → Type 0) (test : X → Bool) (xs : List X) → Pairwise R xs → Pairwise R (filter test xs)
 pairs_filter R test [] p = tt

@@ -1,11 +1,13 @@
 -- Where a full name stands in the entries that a net keeps, and what is true of each item of a list.
-use Rattle.std.proofs.Common.{◌≡◌, ◌≢◌, get_or, true≢false, ◌∙◌, ap, sym, refl, ℕ, zero, suc, ◌+◌, ◌<◌, nat_lt, cond, None, is_some, List, [], ◌∷◌, ◌++◌, map, true, false, Bool, not, ◌&&◌, ◌||◌, length, arith, position, slice_get, Some, IsTrue, option_map}
-use Rattle.std.proofs.lemmas.Bool.{ltb-false}
+use Rattle.std.proofs.Common.{◌≡◌, ◌≢◌, get_or, true≢false, ◌∙◌, ap, sym, refl, ℕ, zero, suc, ◌<◌, is_some, List, [], ◌∷◌, ◌++◌, map, true, false, Bool, not, ◌&&◌, length, arith, position, IsTrue, option_map}
+use Rattle.std.proofs.lemmas.Bool.{and_parts, or_parts}
 use Rattle.std.proofs.lemmas.List.Quantifiers.{all_pairs_push}
 use Rattle.std.proofs.lemmas.Slice.Eq.{bytes_eq-Decides}
-use Rattle.std.specs.List.{AllPairs, list_any, list_all, prefix_len}
+use Rattle.std.specs.List.{AllPairs, list_any, prefix_len}
 use Rattle.std.specs.Str.{bytes_eq}
 use Rattle.std.specs.Map.{keys_of}
+use Rattle.dn_base.proofs.Lists.{position-nowhere}
+pub use Rattle.dn_base.proofs.Lists.{length-last, map-last, list_all-at, list_all-implied, list_all-last}
 use Rattle.indexmap.specs.IndexMap.{insert_entry}
 use Rattle.dn_net.specs.declared.node.Dest.{Dest}
 use Rattle.dn_net.specs.declared.node.NodeDecl.{NodeDecl}
@@ -28,76 +30,28 @@ length-keys (e ∷ es) = simp (length-keys es)
 pub position-keys : {K V Y : Type 0} (f : K × V → Y) (p : Y → Bool) (q : K → Bool) → ((e : K × V) → q e.0 ≡ p (f e)) → (es : List (K × V)) → position q (keys_of es) ≡ position p (map f es)
 position-keys f p q same es = simp (prefix_len-keys f (λ y. not (p y)) (λ k. not (q k)) (λ e. ap not (same e)) es, length-map f es, length-keys es)
 
-either_false : (a b : Bool) → (a || b) ≡ false → (a ≡ false) × (b ≡ false)
-either_false true b e = cc
-either_false false b e = (refl, e)
-
 -- an entry of a new key goes last
 pub insert_entry-new : {K V Y : Type 0} (f : K × V → Y) (p : Y → Bool) (eq : K → K → Bool) (k : K) (v : V) → ((e : K × V) → eq k e.0 ≡ p (f e)) → (es : List (K × V)) → list_any p (map f es) ≡ false → insert_entry eq es k v ≡ es ++ (k, v) ∷ []
 insert_entry-new f p eq k v same [] h = refl
 insert_entry-new f p eq k v same (e ∷ es) h =
-    let parts = either_false (p (f e)) (list_any p (map f es)) h in
+    let parts = or_parts (p (f e)) (list_any p (map f es)) h in
     simp (same e, parts.0, insert_entry-new f p eq k v same es parts.1)
 
 pub both : (a b : Bool) → IsTrue (a && b) → IsTrue a × IsTrue b
-both true true e = (refl, refl)
-both true false e = cc
-both false b e = cc
-
--- what is true of each item is true of the one at a place
-pub list_all-at : {X : Type 0} (p : X → Bool) (xs : List X) (i : ℕ) (x : X) → IsTrue (list_all p xs) → slice_get xs i ≡ Some x → IsTrue (p x)
-list_all-at p [] i x all at = cc
-list_all-at p (y ∷ ys) zero x all at = let s : y ≡ x = cc in ap p (sym s) ∙ (both (p y) (list_all p ys) all).0
-list_all-at p (y ∷ ys) (suc i) x all at = list_all-at p ys i x (both (p y) (list_all p ys) all).1 at
-
--- where each item that passes one test passes another
-pub list_all-implied : {X : Type 0} (p q : X → Bool) → ((x : X) → IsTrue (p x) → IsTrue (q x)) → (xs : List X) → IsTrue (list_all p xs) → IsTrue (list_all q xs)
-list_all-implied p q implies [] all = refl
-list_all-implied p q implies (x ∷ xs) all =
-    let b = both (p x) (list_all p xs) all in
-    rw (implies x b.0) (list_all-implied p q implies xs b.1)
+both a b h = and_parts a b h
 
 -- the declaration of an added node is shown as it was given
 pub declared_new : {S : Type 0} (text : S → List ℕ) (k : S) (decl : NodeDecl) (parts : Parts) → text k ≡ decl.text → parts.role ≡ decl.role → parts.accepts ≡ decl.accepts → parts.entries ≡ decl.entries → option_map (λ (d : Dest). d.node) parts.over ≡ decl.over → parts.unit ≡ decl.unit → declared_by text (k, parts) ≡ decl
 declared_new text k decl parts t r a e o u = λ i. record { text = t i; role = r i; accepts = a i; entries = e i; over = o i; unit = u i }
 
--- an item that passes, put last
-pub list_all-last : {X : Type 0} (p : X → Bool) (xs : List X) (x : X) → IsTrue (list_all p xs) → IsTrue (p x) → IsTrue (list_all p (xs ++ x ∷ []))
-list_all-last p [] x all e = rw e refl
-list_all-last p (y ∷ ys) x all e =
-    let b = both (p y) (list_all p ys) all in
-    rw (b.0, list_all-last p ys x b.1 e) refl
-
--- one item more
-pub length-last : {X : Type 0} (xs : List X) (x : X) → length (xs ++ x ∷ []) ≡ length xs + 1
-length-last [] x = refl
-length-last (y ∷ ys) x = grind (arith, length-last ys x)
-
-pub map-last : {X Y : Type 0} (f : X → Y) (xs : List X) (x : X) → map f (xs ++ x ∷ []) ≡ map f xs ++ f x ∷ []
-map-last f [] x = refl
-map-last f (y ∷ ys) x = simp (map-last f ys x)
-
-found_within : {X : Type 0} (p : X → Bool) (xs : List X) → list_any p xs ≡ true → prefix_len (λ x. not (p x)) xs < length xs
-found_within p [] h = cc
-found_within p (x ∷ xs) h = by (p x) refl (found_within p xs) h
-  where
-    by : (b : Bool) → p x ≡ b → (list_any p xs ≡ true → prefix_len (λ x. not (p x)) xs < length xs) → (b || list_any p xs) ≡ true → prefix_len (λ x. not (p x)) (x ∷ xs) < length (x ∷ xs)
-    by true e ih h = rw e (omega arith)
-    by false e ih h = let k = ih h in rw e (omega arith)
-
 -- what has no place in a list is not there
 pub not_there : {X : Type 0} (p : X → Bool) (xs : List X) → is_some (position p xs) ≡ false → list_any p xs ≡ false
-not_there p xs none = by (list_any p xs) refl (nat_lt (prefix_len (λ x. not (p x)) xs) (length xs)) refl none
-  where
-    by : (b : Bool) → list_any p xs ≡ b → (c : Bool) → nat_lt (prefix_len (λ x. not (p x)) xs) (length xs) ≡ c → is_some (cond c (Some (prefix_len (λ x. not (p x)) xs)) None) ≡ false → b ≡ false
-    by false e c f none = refl
-    by true e true f none = none
-    by true e false f none = let l = ltb-false _ _ f in let m = found_within p xs e in absurd (omega arith)
+not_there p xs none = position-nowhere p xs none
 
 any_false-at : {X : Type 0} (p : X → Bool) (xs : List X) (k : ℕ) (d : X) → list_any p xs ≡ false → k < length xs → p (get_or xs k d) ≡ false
 any_false-at p [] k d h l = absurd (omega arith)
-any_false-at p (x ∷ xs) zero d h l = (either_false (p x) (list_any p xs) h).0
-any_false-at p (x ∷ xs) (suc k) d h l = any_false-at p xs k d (either_false (p x) (list_any p xs) h).1 (omega arith)
+any_false-at p (x ∷ xs) zero d h l = (or_parts (p x) (list_any p xs) h).0
+any_false-at p (x ∷ xs) (suc k) d h l = any_false-at p xs k d (or_parts (p x) (list_any p xs) h).1 (omega arith)
 
 -- the name of a node that is added last differs from those before it
 pub names_still_differ : (net : List NodeDecl) (decl : NodeDecl) → AllPairs (λ (n m : NodeDecl). n.text ≢ m.text) net → list_any (λ (d : NodeDecl). bytes_eq decl.text d.text) net ≡ false → AllPairs (λ (n m : NodeDecl). n.text ≢ m.text) (net ++ decl ∷ [])

@@ -1,9 +1,9 @@
 -- Rows of units: which units lead to which, all rows of a length in order, and the row that is carried.
-use Rattle.std.proofs.Common.{◌≡◌, ℕ, zero, suc, ◌+◌, ◌*◌, ◌^◌, ◌<◌, ◌≤◌, ◌⊎◌, ◌↔◌, inl, inr, Bool, true, false, if◌then◌else◌, nat_lt, ◌==◌, List, [], ◌∷◌, ◌++◌, map, filter, length, slice_get, Option, Some, None, is_some, IsSome, IsTrue, refl, sym, ap, ◌∙◌, subst, arith, ltb-true, eqb-true}
-use Rattle.std.specs.List.{flat_map, list_any}
+use Rattle.std.proofs.Common.{◌≡◌, ℕ, zero, suc, ◌+◌, ◌^◌, ◌<◌, ◌≤◌, ◌⊎◌, inl, inr, Bool, true, false, if◌then◌else◌, ◌==◌, List, [], ◌∷◌, ◌++◌, map, filter, length, slice_get, Option, Some, None, is_some, IsSome, IsTrue, refl, sym, ap, ◌∙◌, subst, arith, ltb-true, eqb-true}
+use Rattle.std.specs.List.{flat_map}
 use Rattle.std.proofs.lemmas.Bool.{lt-ltb, eq-eqb, cases_lt}
 use Rattle.std.proofs.lemmas.Option.{slice_get_within}
-use Rattle.dn_base.proofs.Members.{any_member, member_any, member_cases}
+use Rattle.dn_base.proofs.Members.{any_member, member_any, member_cases, map_member, member_map}
 use Rattle.dn_net.specs.declared.node.Name.{Name}
 use Rattle.dn_net.specs.declared.node.NodeDecl.{NodeDecl}
 use Rattle.dn_net.specs.declared.node.Unit.{Unit as UnitPart}
@@ -13,7 +13,7 @@ use Rattle.dn_net.specs.Names.{stop_names}
 use Rattle.dn_net.specs.Firsts.{or_else, first_below}
 use Rattle.dn_net.specs.UnitRules.{reaches_unit, port_leads, part_leads, unit_leads, units_from, unit_numbers, next_units, rows_from, unit_rows, slots_product, slots_limit, is_large, first_row, large_row, first_chain, IsShallow, LeadsTo, LeadsOn, IsUnitRow, NoLaterRow, IsFirstOfFour, IsLargeRow, IsFirstLarge, HasShortRows, ChainIsFirst}
 use Rattle.dn_net.proofs.Firsts.{IsFirstOr, first_is}
-use Rattle.dn_net.proofs.Members.{member_map, map_member, member_filter, filter_member, member_flat_map, flat_map_member}
+use Rattle.dn_net.proofs.Members.{member_filter, filter_member, member_flat_map, flat_map_member}
 use Rattle.dn_net.proofs.Stops.{stop_listed, listed_stop}
 
 -- WHICH UNITS LEAD TO WHICH
@@ -152,7 +152,7 @@ row_listed next zero first (u ∷ us) e r = absurd (omega arith)
 row_listed next (suc k) first [] e r = absurd (omega arith)
 row_listed next (suc k) first (u ∷ us) e r = subst (λ l. Member (u ∷ us) l) (sym (rows-suc next k first))
     (flat_map_member (λ u. map (λ us. u ∷ us) (rows_from next k (next u))) first u (u ∷ us) r.0
-      (map_member (λ us. u ∷ us) (rows_from next k (next u)) us (row_listed next k (next u) us (omega arith) r.1)))
+    (member_map (λ us. u ∷ us) (rows_from next k (next u)) us (row_listed next k (next u) us (omega arith) r.1)))
 
 pub listed_row : (next : ℕ → List ℕ) (k : ℕ) (first us : List ℕ) → Member us (rows_from next k first) → (length us ≡ k) × RowIn next first us
 listed_row next zero first us m = elim (subst (λ l. Member us l) (rows-zero next first) m) [
@@ -161,7 +161,7 @@ listed_row next zero first us m = elim (subst (λ l. Member us l) (rows-zero nex
 ]
 listed_row next (suc k) first us m =
     let r = member_flat_map (λ u. map (λ us. u ∷ us) (rows_from next k (next u))) first us (subst (λ l. Member us l) (rows-suc next k first) m) in
-    let q = member_map (λ us. r.0 ∷ us) (rows_from next k (next r.0)) us r.2 in
+    let q = map_member (λ us. r.0 ∷ us) (rows_from next k (next r.0)) us r.2 in
     let h = listed_row next k (next r.0) q.0 q.1 in
     let l : length q.0 ≡ k = h.0 in
     subst (λ vs. (length vs ≡ suc k) × RowIn next first vs) q.2 ((omega arith), (r.1, h.1))
@@ -186,7 +186,7 @@ turn_filter p (us ∷ rows) t = by (turn_filter p rows t.1) (p us)
 turn_map : (u : ℕ) (rows : List (List ℕ)) → InTurn rows → InTurn (map (λ us. u ∷ us) rows)
 turn_map u [] t = tt
 turn_map u (us ∷ rows) t = (
-  (λ vs m. let r = member_map (λ us. u ∷ us) rows vs m in subst (λ ws. NoLaterRow (u ∷ us) ws) r.2 (inr (refl, t.0 r.0 r.1))),
+  (λ vs m. let r = map_member (λ us. u ∷ us) rows vs m in subst (λ ws. NoLaterRow (u ∷ us) ws) r.2 (inr (refl, t.0 r.0 r.1))),
   turn_map u rows t.1,
 )
 
@@ -203,9 +203,9 @@ turn_flat f (u ∷ us) a t = turn_join (map (λ vs. u ∷ vs) (f u)) (flat_map (
   where
     across : (vs ws : List ℕ) → Member vs (map (λ vs. u ∷ vs) (f u)) → Member ws (flat_map (λ u. map (λ us. u ∷ us) (f u)) us) → NoLaterRow vs ws
     across vs ws m n =
-        let p = member_map (λ vs. u ∷ vs) (f u) vs m in
+        let p = map_member (λ vs. u ∷ vs) (f u) vs m in
         let q = member_flat_map (λ u. map (λ us. u ∷ us) (f u)) us ws n in
-        let r = member_map (λ vs. q.0 ∷ vs) (f q.0) ws q.2 in
+        let r = map_member (λ vs. q.0 ∷ vs) (f q.0) ws q.2 in
         subst (λ ws. NoLaterRow vs ws) r.2 (subst (λ vs. NoLaterRow vs (q.0 ∷ r.0)) p.2 (inl (a.0 q.0 q.1)))
 
 -- the rows are in order

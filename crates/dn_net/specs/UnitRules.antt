@@ -1,6 +1,6 @@
 -- The rules on units that walks meet: `Fork`, on names that reach a unit in several ways, and `Chain`, on units that lead to
 -- one another; and the laws that tie them to chains of steps.
-use Rattle.std.specs.Prelude.{◌≡◌, ℕ, zero, suc, ◌+◌, ◌*◌, ◌^◌, ◌<◌, ◌≤◌, ◌⊎◌, Bool, true, false, if◌then◌else◌, ◌&&◌, nat_lt, ◌==◌, List, [], ◌∷◌, map, filter, length, Option, Some, None, option_map, IsSome, IsTrue}
+use Rattle.std.specs.Prelude.{◌≡◌, ℕ, zero, suc, ◌*◌, ◌^◌, ◌<◌, ◌≤◌, ◌⊎◌, Bool, false, if◌then◌else◌, ◌&&◌, nat_lt, ◌==◌, List, [], ◌∷◌, map, filter, length, Option, Some, None, option_map, IsSome, IsTrue}
 use Rattle.std.specs.List.{flat_map, list_any}
 use Rattle.std.specs.Option.{is_some}
 use Rattle.dn_net.specs.declared.node.Name.{Name}
@@ -106,7 +106,7 @@ large_row net k = first_row (filter (is_large net) (unit_rows net k))
 unfoldable pub first_chain : List NodeDecl → Option (List ℕ)
 first_chain net =
     or_else (first_row (unit_rows net 4))
-      (or_else (large_row net 1) (or_else (large_row net 2) (large_row net 3)))
+    (or_else (large_row net 1) (or_else (large_row net 2) (large_row net 3)))
 
 -- THE LAWS
 -- no chain has 65 steps

@@ -1,5 +1,5 @@
 -- The rules on walks, in their order: `Wide`, `Loop`, `Deep`, and then those on units; and the laws that tie walks to chains of steps.
-use Rattle.std.specs.Prelude.{◌≡◌, ℕ, zero, suc, ◌+◌, ◌-◌, ◌<◌, ◌≤◌, ◌↔◌, ◌⊎◌, Bool, true, false, if◌then◌else◌, nat_lt, List, [], ◌∷◌, length, filter, slice_get, Option, Some, None, option_map, IsSome, IsTrue}
+use Rattle.std.specs.Prelude.{◌≡◌, ℕ, zero, suc, ◌-◌, ◌<◌, ◌≤◌, ◌↔◌, ◌⊎◌, Bool, if◌then◌else◌, nat_lt, List, [], ◌∷◌, length, filter, slice_get, Option, Some, None, option_map, IsSome, IsTrue}
 use Rattle.std.specs.List.{list_any}
 use Rattle.std.specs.Option.{is_some}
 use Rattle.dn_net.specs.declared.node.Name.{Name}

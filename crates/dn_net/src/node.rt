@@ -97,7 +97,12 @@ impl Unit {
     pub fn has_plain_shape(&self) -> bool
         ensures { result ≡ has_plain_shape self.now }
     {
-        is_plain_shape(self.page, self.slots, self.reach, self.ports.as_slice().len())
+        is_plain_shape(
+            self.page,
+            self.slots,
+            self.reach,
+            self.ports.as_slice().len(),
+        )
     }
 }
 

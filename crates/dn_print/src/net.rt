@@ -23,11 +23,11 @@ use std::alloc::Global;
 /// called by its name in `kinds`, where each unit's kind is there.
 pub fn net_text(alloc: Global, net: &Net, kinds: &Kinds) -> Result<Vec<u8>, OutOfMemory>
     requires closed { IsTrue (is_closed net.now) }
-    requires lawful { All (λ k. IsLawful (meaning k)) kinds.now.list.items }
+    requires lawful { All (λ k. IsLawful (meaning (k.vtable, k.value))) kinds.now.list.items }
     requires known { IsTrue
         (list_all (λ n. has_kind (length kinds.now.list.items) n.unit) net.now) }
     ensures { IfOk result (λ v. v.items ≡
-        net_text (map (λ k. meaning k) kinds.now.list.items) net.now) }
+        net_text (map (λ k. meaning (k.vtable, k.value)) kinds.now.list.items) net.now) }
 {
     let mut out = String::new(alloc);
     for node in 0..net.nodes() {
@@ -40,11 +40,11 @@ pub fn net_text(alloc: Global, net: &Net, kinds: &Kinds) -> Result<Vec<u8>, OutO
 fn write_statement(out: &mut String, net: &Net, kinds: &Kinds, node: u16) -> Result<(), OutOfMemory>
     requires there { node < length net.now }
     requires closed { IsTrue (is_closed net.now) }
-    requires lawful { All (λ k. IsLawful (meaning k)) kinds.now.list.items }
+    requires lawful { All (λ k. IsLawful (meaning (k.vtable, k.value))) kinds.now.list.items }
     requires known { IsTrue
         (list_all (λ n. has_kind (length kinds.now.list.items) n.unit) net.now) }
     ensures { OnOk result (string_bytes out.new ≡ string_bytes out.old ++ statement_at
-        (map (λ k. meaning k) kinds.now.list.items) net.now (slice_get net.now node)) }
+        (map (λ k. meaning (k.vtable, k.value)) kinds.now.list.items) net.now (slice_get net.now node)) }
 {
     out.push_str(role_word(net.role(node)))?;
     out.push_str(net.text(node))?;
@@ -68,11 +68,11 @@ fn role_word(role: Role) -> &'static str
 fn write_body(out: &mut String, net: &Net, kinds: &Kinds, node: u16) -> Result<(), OutOfMemory>
     requires there { node < length net.now }
     requires closed { IsTrue (is_closed net.now) }
-    requires lawful { All (λ k. IsLawful (meaning k)) kinds.now.list.items }
+    requires lawful { All (λ k. IsLawful (meaning (k.vtable, k.value))) kinds.now.list.items }
     requires known { IsTrue
         (list_all (λ n. has_kind (length kinds.now.list.items) n.unit) net.now) }
     ensures { OnOk result (string_bytes out.new ≡ string_bytes out.old ++ body_at
-        (map (λ k. meaning k) kinds.now.list.items) net.now (slice_get net.now node)) }
+        (map (λ k. meaning (k.vtable, k.value)) kinds.now.list.items) net.now (slice_get net.now node)) }
 {
     match net.unit(node) {
         Some(unit) => {

@@ -72,11 +72,11 @@ impl Platform {
 /// rule.
 pub fn compile(alloc: Global, text: &[u8], kinds: &Kinds) -> Result<Platform, CompileFault>
     requires few_kinds { length kinds.now.list.items ≤ 255 }
-    requires lawful { All (λ k. IsLawful (meaning k)) kinds.now.list.items }
+    requires lawful { All (λ k. IsLawful (meaning (k.vtable, k.value))) kinds.now.list.items }
     ensures answer { Answers platform_view compile_fault_view result
-        (with_refusal (compilation (map (λ k. meaning k) kinds.now.list.items) text.now)) }
+        (with_refusal (compilation (map (λ k. meaning (k.vtable, k.value)) kinds.now.list.items) text.now)) }
     ensures shaped { IfOk result (λ p.
-        shape_fault (map (λ k. meaning k) kinds.now.list.items) p.net ≡ None) }
+        shape_fault (map (λ k. meaning (k.vtable, k.value)) kinds.now.list.items) p.net ≡ None) }
 {
     let tree = match reader::read(alloc, text) {
         Ok(tree) => tree,
@@ -91,16 +91,16 @@ pub fn compile(alloc: Global, text: &[u8], kinds: &Kinds) -> Result<Platform, Co
 /// The platform of a net and its commands, where the net keeps the node rules, the rule on the shape
 /// of units and the rules on walks.
 fn platform_of(alloc: Global, expanded: Expanded, kinds: &Kinds) -> Result<Platform, CompileFault>
-    requires lawful { All (λ k. IsLawful (meaning k)) kinds.now.list.items }
+    requires lawful { All (λ k. IsLawful (meaning (k.vtable, k.value))) kinds.now.list.items }
     requires closed { IsTrue (is_closed expanded.net) }
     requires known { IsTrue (list_all (names_within (length expanded.net)) expanded.commands) }
     requires known_kinds { IsTrue
         (list_all (λ n. has_kind (length kinds.now.list.items) n.unit) expanded.net) }
     ensures answer { Answers platform_view compile_fault_view result (with_refusal
-        (expansion_compilation (map (λ k. meaning k) kinds.now.list.items)
+        (expansion_compilation (map (λ k. meaning (k.vtable, k.value)) kinds.now.list.items)
         (Ok (outcome_view expanded)))) }
     ensures shaped { IfOk result (λ p.
-        shape_fault (map (λ k. meaning k) kinds.now.list.items) p.net ≡ None) }
+        shape_fault (map (λ k. meaning (k.vtable, k.value)) kinds.now.list.items) p.net ≡ None) }
 {
     let Expanded { net, commands } = expanded;
     if let Err(fault) = net.check_nodes(alloc) {

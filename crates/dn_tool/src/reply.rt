@@ -26,7 +26,7 @@ pub fn reply(
 ) -> Result<String, AllocError>
     requires { IsTrue (names_within (length platform.now.net) command.now) }
     ensures { IfOk result (λ s. string_bytes s ≡
-        reply (map (λ k. meaning k) _kinds.now.list.items) platform.now.net command.now) }
+        reply (map (λ k. meaning (k.vtable, k.value)) _kinds.now.list.items) platform.now.net command.now) }
 {
     match command {
         Command::Resolve(target, addr) => resolve_reply(alloc, platform, target, *addr),

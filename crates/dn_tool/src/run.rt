@@ -76,18 +76,18 @@ pub fn run<S: Source, K: Sink>(
     sink: &mut K,
 ) -> u8
     requires few_kinds { length kinds.now.list.items ≤ 255 }
-    requires lawful { All (λ k. IsLawful (meaning k)) kinds.now.list.items }
+    requires lawful { All (λ k. IsLawful (meaning (k.vtable, k.value))) kinds.now.list.items }
     // A status that is not free is that of the answer: to the text that the source tells where the
     // words read it, and else to any text.
     ensures exact { (text : List ℕ) → IsInput words.now (S.left source.old) text →
         is_free result ≡ false →
-        result ≡ (answer words.now (map (λ k. meaning k) kinds.now.list.items) text).status }
+        result ≡ (answer words.now (map (λ k. meaning (k.vtable, k.value)) kinds.now.list.items) text).status }
     // At such a status exactly the answer's output was written. At any other so many of its pieces
     // were written whole, and then a prefix of the next; at status 3 not all of them.
     ensures written { (text : List ℕ) → IsInput words.now (S.left source.old) text →
         AreWritten (K.written sink.old) (K.written sink.new)
         (not (is_free result)) (result == 3)
-        (answer words.now (map (λ k. meaning k) kinds.now.list.items) text).pieces }
+        (answer words.now (map (λ k. meaning (k.vtable, k.value)) kinds.now.list.items) text).pieces }
     ensures nothing_written { result ≡ 2 → K.written sink.new ≡ K.written sink.old }
     ensures statuses { (result < 5) ⊎ (result ≡ 7) }
     ensures wrong_words { result ≡ 1 → task_of words.now ≡ None }
@@ -141,13 +141,13 @@ fn answer_text<K: Sink>(
     sink: &mut K,
 ) -> Result<u8, Halt>
     requires few_kinds { length kinds.now.list.items ≤ 255 }
-    requires lawful { All (λ k. IsLawful (meaning k)) kinds.now.list.items }
+    requires lawful { All (λ k. IsLawful (meaning (k.vtable, k.value))) kinds.now.list.items }
     ensures status { IfOk result (λ s. s ≡
-        (text_answer task (map (λ k. meaning k) kinds.now.list.items) text.now).status) }
+        (text_answer task (map (λ k. meaning (k.vtable, k.value)) kinds.now.list.items) text.now).status) }
     ensures which { IfOk result (λ s. (s ≡ 0) ⊎ (s ≡ 4)) }
     ensures written { AreWritten (K.written sink.old) (K.written sink.new)
         (is_ok result) (is_write_halt result)
-        (text_answer task (map (λ k. meaning k) kinds.now.list.items) text.now).pieces }
+        (text_answer task (map (λ k. meaning (k.vtable, k.value)) kinds.now.list.items) text.now).pieces }
     ensures counted { IsCounted (K.faults sink.old) (K.faults sink.new) (is_write_halt result) }
     ensures short { IfOk result (λ s. s ≡ 0 → length text.now < input_limit) }
 {
@@ -172,12 +172,12 @@ fn answer_task<K: Sink>(
     platform: &Platform,
     sink: &mut K,
 ) -> Result<(), Halt>
-    requires lawful { All (λ k. IsLawful (meaning k)) kinds.now.list.items }
-    requires shaped { shape_fault (map (λ k. meaning k) kinds.now.list.items) platform.now.net
+    requires lawful { All (λ k. IsLawful (meaning (k.vtable, k.value))) kinds.now.list.items }
+    requires shaped { shape_fault (map (λ k. meaning (k.vtable, k.value)) kinds.now.list.items) platform.now.net
         ≡ None }
     ensures written { AreWritten (K.written sink.old) (K.written sink.new)
         (is_ok result) (is_write_halt result)
-        (task_pieces task (map (λ k. meaning k) kinds.now.list.items)
+        (task_pieces task (map (λ k. meaning (k.vtable, k.value)) kinds.now.list.items)
         platform.now.net platform.now.commands) }
     ensures counted { IsCounted (K.faults sink.old) (K.faults sink.new) (is_write_halt result) }
 {
@@ -195,12 +195,12 @@ fn print_net<K: Sink>(
     platform: &Platform,
     sink: &mut K,
 ) -> Result<(), Halt>
-    requires lawful { All (λ k. IsLawful (meaning k)) kinds.now.list.items }
-    requires shaped { shape_fault (map (λ k. meaning k) kinds.now.list.items) platform.now.net
+    requires lawful { All (λ k. IsLawful (meaning (k.vtable, k.value))) kinds.now.list.items }
+    requires shaped { shape_fault (map (λ k. meaning (k.vtable, k.value)) kinds.now.list.items) platform.now.net
         ≡ None }
     ensures written { AreWritten (K.written sink.old) (K.written sink.new)
         (is_ok result) (is_write_halt result)
-        (net_text (map (λ k. meaning k) kinds.now.list.items) platform.now.net ∷ []) }
+        (net_text (map (λ k. meaning (k.vtable, k.value)) kinds.now.list.items) platform.now.net ∷ []) }
     ensures counted { IsCounted (K.faults sink.old) (K.faults sink.new) (is_write_halt result) }
 {
     let text = dn_print::net::net_text(alloc, &platform.net, kinds)?;
@@ -228,7 +228,7 @@ fn answer_all<K: Sink>(
 ) -> Result<(), Halt>
     ensures written { AreWritten (K.written sink.old) (K.written sink.new)
         (is_ok result) (is_write_halt result)
-        (replies (map (λ k. meaning k) kinds.now.list.items)
+        (replies (map (λ k. meaning (k.vtable, k.value)) kinds.now.list.items)
         (record { net = platform.now.net }) platform.now.commands) }
     ensures counted { IsCounted (K.faults sink.old) (K.faults sink.new) (is_write_halt result) }
 {

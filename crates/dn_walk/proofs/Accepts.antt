@@ -1,18 +1,14 @@
 -- Sets of addresses that are made from accept blocks, and those of all nodes.
-use Rattle.std.proofs.Common.{◌≡◌, ℕ, zero, suc, ◌+◌, ◌<◌, ◌≤◌, inl, inr, Bool, true, false, ◌&&◌, ◌||◌, nat_le, List, [], ◌∷◌, drop, length, get_or, slice_get, Option, Some, None, option_map, IsTrue, refl, sym, ap, ◌∙◌, subst, arith, leb-true, le-leb, All}
+use Rattle.std.proofs.Common.{◌≡◌, ℕ, zero, suc, ◌<◌, ◌≤◌, inl, inr, Bool, true, false, ◌&&◌, nat_le, List, [], ◌∷◌, length, get_or, slice_get, Option, Some, None, option_map, IsTrue, refl, sym, ap, ◌∙◌, arith, leb-true, le-leb}
 use Rattle.std.specs.List.{list_all}
 use Rattle.std.proofs.lemmas.Bool.{or_cases, and_parts, false≢true, cases_lt}
 use Rattle.std.proofs.lemmas.List.{get_or_past}
-use Rattle.std.proofs.lemmas.List.Elements.{All-nil, All-cons}
 use Rattle.dn_interval.specs.declared.span.Span.{Span}
-use Rattle.dn_interval.specs.declared.span.TheConstants.{TOP}
 use Rattle.dn_interval.specs.Spans.{has}
-use Rattle.dn_interval.proofs.Pieces.{drop_at, drop_past}
 use Rattle.dn_net.specs.declared.node.Block.{Block}
 use Rattle.dn_net.specs.declared.node.NodeDecl.{NodeDecl}
 use Rattle.dn_net.specs.Decode.{top, within, in_some_block, is_accepted_at}
-use Rattle.dn_net.specs.Rules.{block_in_range, is_in_range, KeepsRules}
-use Rattle.dn_net.proofs.Kept.{kept_at}
+use Rattle.dn_net.specs.Rules.{block_in_range}
 
 below_top : (bs : List Block) (a : ℕ) → IsTrue (list_all block_in_range bs) → in_some_block a bs ≡ true → a ≤ top
 below_top [] a e f = absurd (false≢true f)

@@ -1,5 +1,5 @@
 -- The lowest addresses from which rows lead, row by row.
-use Rattle.std.proofs.Common.{◌≡◌, ℕ, zero, suc, ◌+◌, ◌*◌, ◌^◌, ◌<◌, ◌≤◌, ◌⊎◌, inl, inr, min, Bool, true, false, ◌&&◌, ◌||◌, nat_lt, ◌==◌, List, [], ◌∷◌, ◌++◌, map, take, length, get_or, set, replicate, refl, sym, ap, ◌∙◌, subst, arith}
+use Rattle.std.proofs.Common.{◌≡◌, ℕ, ◌+◌, ◌*◌, ◌^◌, ◌<◌, ◌≤◌, ◌⊎◌, inl, inr, min, Bool, true, false, ◌&&◌, ◌||◌, nat_lt, ◌==◌, List, [], ◌∷◌, ◌++◌, map, take, length, get_or, set, replicate, refl, sym, ap, ◌∙◌, subst, arith}
 use Rattle.std.specs.List.{All, list_any}
 use Rattle.std.proofs.lemmas.Bool.{lt-ltb, le-ltb, eq-eqb, ne_eqb, cases_lt, cases_eq}
 use Rattle.std.proofs.lemmas.List.{get_or-replicate, length-replicate, get_or-set_same, get_or-set_other, length-set, take_more}
@@ -88,7 +88,7 @@ lows_more count rows lows t h s e = record { size = length-set lows place low �
 pub lows_at : (count : ℕ) (rows : List WalkRow) (i : ℕ) (r : WalkRow) (lows more : List ℕ) (place : ℕ) → i < length rows → r ≡ get_or rows i r → All (λ (r : WalkRow). r.start < count) rows → All (λ (r : WalkRow). r.end < count) rows → place ≡ r.start * count + r.end → more ≡ set lows place (min (get_or lows place 0) r.span.lo) → AreLows count (map row_view (take i rows)) lows → AreLows count (map row_view (take (i + 1) rows)) more
 lows_at count rows i r lows more place l at starts ends e made h =
     let taken : map row_view (take (i + 1) rows) ≡ map row_view (take i rows) ++ row_view r ∷ [] =
-        ap (map row_view) (take_more rows i r l ∙ ap (λ x. take i rows ++ x ∷ []) (sym at)) ∙ map-last row_view (take i rows) r in
+    ap (map row_view) (take_more rows i r l ∙ ap (λ x. take i rows ++ x ∷ []) (sym at)) ∙ map-last row_view (take i rows) r in
     let start : r.start < count = subst (λ (x : WalkRow). x.start < count) (sym at) (starts i r l) in
     let end : r.end < count = subst (λ (x : WalkRow). x.end < count) (sym at) (ends i r l) in
     let same : more ≡ set lows (r.start * count + r.end) (min (get_or lows (r.start * count + r.end) 0) r.span.lo) = made ∙ ap (λ p. set lows p (min (get_or lows p 0) r.span.lo)) e in

@@ -1,22 +1,21 @@
 -- The units to which units lead, as rows tell them, are those of the net.
-use Rattle.std.proofs.Common.{◌≡◌, ℕ, zero, suc, ◌+◌, ◌*◌, ◌-◌, ◌^◌, ◌<◌, ◌≤◌, ◌⊎◌, inl, inr, Bool, true, false, if◌then◌else◌, ◌&&◌, ◌||◌, nat_le, nat_lt, ◌==◌, List, [], ◌∷◌, ◌++◌, map, filter, length, slice_get, get_or, Option, Some, None, is_some, IsTrue, refl, sym, ap, ◌∙◌, subst, arith, eqb-true, ltb-true, leb-true}
+use Rattle.std.proofs.Common.{◌≡◌, ℕ, zero, suc, ◌+◌, ◌*◌, ◌-◌, ◌^◌, ◌<◌, ◌≤◌, ◌⊎◌, inl, inr, Bool, true, false, if◌then◌else◌, ◌&&◌, ◌||◌, nat_le, nat_lt, ◌==◌, List, [], ◌∷◌, map, filter, length, get_or, Option, Some, None, is_some, IsTrue, refl, sym, ap, ◌∙◌, subst, arith, eqb-true, ltb-true, leb-true}
 use Rattle.std.specs.List.{list_any, list_all}
 use Rattle.std.proofs.lemmas.Bool.{eq-eqb, lt-ltb, or_cases, or_left, or_right, and_parts, and_from}
 use Rattle.std.proofs.lemmas.Nat.{pow_below, pow_pos}
-use Rattle.dn_base.proofs.Members.{any_member, member_any}
+use Rattle.dn_base.proofs.Members.{any_member, member_any, map_member, member_map}
 use Rattle.dn_net.specs.declared.node.Name.{Name}
 use Rattle.dn_net.specs.declared.node.NodeDecl.{NodeDecl}
 use Rattle.dn_net.specs.declared.node.Unit.{Unit as UnitPart}
 use Rattle.dn_net.specs.Chain.{Member, Reaches}
-use Rattle.dn_net.specs.Decode.{top, within, is_closed, is_stop, unit_at, steps, step_limit, Step}
+use Rattle.dn_net.specs.Decode.{is_closed, unit_at, step_limit, Step}
 use Rattle.dn_net.specs.Rules.{KeepsNodeRules}
 use Rattle.dn_net.specs.Units.{has_plain_shape, has_plain_units}
 use Rattle.dn_net.specs.UnitRules.{unit_leads, part_leads, unit_numbers, next_units, IsShallow, LeadsTo}
 use Rattle.dn_net.specs.Walks.{Walk, moved_name, live_walks}
 use Rattle.dn_net.proofs.Arrivals.{Arrives, arrival, departure, first_inside}
 use Rattle.dn_net.proofs.Least.{within_from, within_to}
-use Rattle.dn_net.proofs.Members.{member_map, map_member}
-use Rattle.dn_net.proofs.Stops.{stop_unit, unit_stop}
+use Rattle.dn_net.proofs.Stops.{unit_stop}
 use Rattle.dn_net.proofs.Plain.{plain_at}
 use Rattle.dn_net.proofs.UnitRows.{leads_sound, leads_found, unit_of_number, unit_there}
 use Rattle.dn_walk.specs.Rows.{Told, told_by_walk}
@@ -96,7 +95,7 @@ next_by_lows net rows lows units count n e plain closed h u = ap (λ us. next_by
     by None at = refl
     by (Some part) at = filter_same (leads_by_lows count lows part) (leads_by_rows rows part) (unit_numbers net) (λ w m.
         lows_lead count rows lows h part (plain_at net u part plain at) (subst (λ c. IsTrue (list_all (λ p. nat_lt p c) part.ports)) (sym n) (ports_at net u part closed at)) w
-          (subst (λ c. w < c) (sym n) (unit_there net w (unit_of_number net w m))))
+        (subst (λ c. w < c) (sym n) (unit_there net w (unit_of_number net w m))))
 
 -- BY THE ROWS
 module _ (net : List NodeDecl) (checked : KeepsNodeRules net) (shallow : IsShallow net) where
@@ -105,7 +104,7 @@ module _ (net : List NodeDecl) (checked : KeepsNodeRules net) (shallow : IsShall
 
   -- a row that leads from a port below the unit's reach
   row_led : (u w : ℕ) (part : UnitPart) → unit_at net u ≡ Some part → is_some (unit_at net w) ≡ true → (port : ℕ) → Member port part.ports → (t : Told) → Member t (map told_by_walk (live_walks net step_limit)) → row_leads port w (2 ^ part.reach) t ≡ true → LeadsTo net u w
-  row_led u w part at unit port m t row h = by (member_map told_by_walk (live_walks net step_limit) t row)
+  row_led u w part at unit port m t row h = by (map_member told_by_walk (live_walks net step_limit) t row)
     where
       p : ((t.start == port) ≡ true) × (((t.end == w) && nat_lt t.lo (2 ^ part.reach)) ≡ true)
       p = and_parts (t.start == port) ((t.end == w) && nat_lt t.lo (2 ^ part.reach)) h
@@ -175,9 +174,9 @@ module _ (net : List NodeDecl) (checked : KeepsNodeRules net) (shallow : IsShall
           let end : v.to.node ≡ w = ap (λ (n : Name). n.node) a.to ∙ l.9 in
           let low : v.span.lo < 2 ^ part.reach = omega (arith, below) in
           or_right (l.1 == w) (list_any (row_leads l.1 w (2 ^ part.reach)) rows)
-            (member_any (row_leads l.1 w (2 ^ part.reach)) rows (told_by_walk v) (map_member told_by_walk (live_walks net step_limit) v a.listed)
-              (and_from (v.start == l.1) ((v.to.node == w) && nat_lt v.span.lo (2 ^ part.reach)) (eq-eqb v.start l.1 a.start)
-                (and_from (v.to.node == w) (nat_lt v.span.lo (2 ^ part.reach)) (eq-eqb v.to.node w end) (lt-ltb v.span.lo (2 ^ part.reach) low))))
+          (member_any (row_leads l.1 w (2 ^ part.reach)) rows (told_by_walk v) (member_map told_by_walk (live_walks net step_limit) v a.listed)
+          (and_from (v.start == l.1) ((v.to.node == w) && nat_lt v.span.lo (2 ^ part.reach)) (eq-eqb v.start l.1 a.start)
+          (and_from (v.to.node == w) (nat_lt v.span.lo (2 ^ part.reach)) (eq-eqb v.to.node w end) (lt-ltb v.span.lo (2 ^ part.reach) low))))
 
   both_tests : (a b : Bool) → (a ≡ true → b ≡ true) → (b ≡ true → a ≡ true) → a ≡ b
   both_tests true b f g = sym (f refl)

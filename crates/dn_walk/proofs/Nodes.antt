@@ -21,7 +21,7 @@ use Rattle.dn_walk.specs.Legs.{told_leg, told_legs, dest_leg, plain_entry_legs, 
 use Rattle.dn_net.proofs.Apart.{node_apart}
 use Rattle.dn_walk.proofs.Holes.{spans_are_left}
 use Rattle.dn_net.proofs.Legs.{leads_of_leg, leads_in_range, leads_within}
-use Rattle.dn_net.proofs.Members.{member_map}
+use Rattle.dn_base.proofs.Members.{map_member}
 use Rattle.dn_net.proofs.Order.{legs_rise}
 use Rattle.dn_net.proofs.Pairs.{pairs_map, pairs_more, pairs_rise}
 use Rattle.dn_walk.proofs.Sorting.{map_in_order}
@@ -101,7 +101,7 @@ legs_of_node net rules i n at =
         record { order = r.0; low = r.1; node = w; reach = r.2 }
 
     member_is : (l : Leg) → Member l (told_legs n) → IsLegOf (length net) l
-    member_is l m = let r = member_map told_leg (legs n) l m in subst (λ k. IsLegOf (length net) k) r.2 (one r.0 r.1)
+    member_is l m = let r = map_member told_leg (legs n) l m in subst (λ k. IsLegOf (length net) k) r.2 (one r.0 r.1)
 
 pub all_legs : (net : List NodeDecl) → KeepsNodeRules net → All (AreLegs (length net)) (map told_legs net)
 all_legs net rules = λ k d l.

@@ -1,5 +1,5 @@
 -- A way goes on by its least step, or ends.
-use Rattle.std.proofs.Common.{◌≡◌, ℕ, suc, ◌+◌, ◌-◌, ◌<◌, ◌≤◌, Bool, not, ◌||◌, List, [], ◌∷◌, map, length, get_or, Some, None, refl, sym, ap, ◌∙◌, subst, arith, IsTrue}
+use Rattle.std.proofs.Common.{◌≡◌, ℕ, suc, ◌+◌, ◌-◌, ◌<◌, ◌≤◌, Bool, not, ◌||◌, List, [], ◌∷◌, map, length, get_or, Some, None, refl, sym, ap, ◌∙◌, subst, arith}
 use Rattle.std.specs.List.{filter, All}
 use Rattle.std.proofs.lemmas.List.{get_or-map}
 use Rattle.dn_net.specs.declared.node.Name.{Name}
@@ -17,7 +17,8 @@ use Rattle.dn_net.proofs.Levels.{level_is_row}
 use Rattle.dn_walk.proofs.Least.{least_first}
 use Rattle.dn_walk.proofs.Told.{member_of_all}
 use Rattle.dn_net.proofs.Least.{within_to}
-use Rattle.dn_net.proofs.Members.{member_filter, member_map}
+use Rattle.dn_base.proofs.Members.{map_member}
+use Rattle.dn_net.proofs.Members.{member_filter}
 
 pub way_ends : (f : Name → List Name) (leads : ℕ → Name → Bool) (left k : ℕ) (x : Name) → left ≡ suc k → least_of (filter (leads k) (f x)) ≡ None → way_by f leads left x ≡ []
 way_ends f leads left k x e h = ap (λ n. way_by f leads n x) e ∙ ap (λ o. behind o (λ z. way_by f leads k z)) h
@@ -50,12 +51,12 @@ step_there net rules test x z h = (step_in_range net rules x z (member_filter te
 pub start_row : (back : Bool) (rows : List Told) (x : Name) → least_of (start_names back rows) ≡ Some x → (t : Told) × Member t rows × (start_name t ≡ x)
 start_row back rows x h =
     let f = least_first (start_names back rows) x h in
-    let p = member_map start_name (filter (λ t. not back || is_cyclic t) rows) x f.member in
+    let p = map_member start_name (filter (λ t. not back || is_cyclic t) rows) x f.member in
     (p.0, (member_filter (λ t. not back || is_cyclic t) rows p.0 p.1).0, p.2)
 
 pub start_there : (back : Bool) (rows : List WalkRow) (count : ℕ) (x : Name) → All (λ (r : WalkRow). r.start < count) rows → least_of (start_names back (map row_view rows)) ≡ Some x → x.node < count
 start_there back rows count x all h =
     let p = start_row back (map row_view rows) x h in
-    let q = member_map row_view rows p.0 p.1 in
+    let q = map_member row_view rows p.0 p.1 in
     let r : q.0.start < count = member_of_all (λ (r : WalkRow). r.start < count) rows q.0 all q.1 in
     subst (λ n. n < count) (ap (λ t. t.start) q.2 ∙ ap (λ n. n.node) p.2) r

@@ -1,8 +1,8 @@
 -- The first row of units whose slots multiply to more than a number, unit by unit.
-use Rattle.std.proofs.Common.{◌≡◌, ℕ, zero, suc, ◌+◌, ◌-◌, ◌*◌, ◌/◌, ◌<◌, ◌≤◌, ◌⊎◌, inl, inr, Bool, true, false, if◌then◌else◌, nat_lt, List, [], ◌∷◌, ◌++◌, map, filter, length, drop, get_or, Option, Some, None, option_map, IsTrue, refl, sym, ap, ◌∙◌, subst, arith, leb-true}
+use Rattle.std.proofs.Common.{◌≡◌, ℕ, zero, suc, ◌+◌, ◌-◌, ◌*◌, ◌/◌, ◌<◌, ◌≤◌, ◌⊎◌, inl, inr, Bool, true, false, if◌then◌else◌, nat_lt, List, [], ◌∷◌, ◌++◌, map, filter, length, drop, get_or, Option, Some, None, option_map, IsTrue, refl, sym, ap, ◌∙◌, subst, arith}
 use Rattle.std.specs.List.{All, flat_map}
 use Rattle.std.proofs.lemmas.Option.{slice_get_past}
-use Rattle.std.proofs.lemmas.Bool.{lt-ltb, le-ltb, cases_lt, and_parts}
+use Rattle.std.proofs.lemmas.Bool.{lt-ltb, le-ltb, cases_lt}
 use Rattle.std.proofs.lemmas.List.{get_or_default, get_or_past, drop_all}
 use Rattle.std.proofs.lemmas.List.Elements.{filter-append}
 use Rattle.dn_base.proofs.Lists.{drop_at}
@@ -15,11 +15,12 @@ use Rattle.dn_net.specs.Decode.{unit_of, unit_at, step_limit}
 use Rattle.dn_net.specs.Rules.{KeepsNodeRules}
 use Rattle.dn_net.specs.Walks.{live_walks}
 use Rattle.dn_net.specs.Firsts.{or_else}
-use Rattle.dn_net.specs.Units.{has_plain_shape, has_plain_units}
-use Rattle.dn_net.specs.UnitRules.{IsShallow, unit_leads, rows_from, slots_of, slots_product, slots_limit, is_large, first_row, large_row, unit_rows, unit_numbers, next_units, first_chain}
+use Rattle.dn_net.specs.Units.{has_plain_units}
+use Rattle.dn_net.specs.UnitRules.{IsShallow, unit_leads, rows_from, slots_of, slots_product, slots_limit, first_row, large_row, unit_rows, unit_numbers, next_units, first_chain}
 use Rattle.dn_net.proofs.Plain.{plain_at}
 use Rattle.dn_net.proofs.Arrivals.{nodes_there}
-use Rattle.dn_net.proofs.Members.{member_map, map_member, member_filter}
+use Rattle.dn_base.proofs.Members.{map_member, member_map}
+use Rattle.dn_net.proofs.Members.{member_filter}
 use Rattle.dn_net.proofs.UnitRows.{rows-zero, rows-suc, first_chain_is, unit_of_number, unit_there}
 use Rattle.dn_walk.specs.declared.walks.WalkRow.{WalkRow}
 use Rattle.dn_walk.specs.Rows.{Told, row_view, told_by_walk}
@@ -121,7 +122,7 @@ over_at net next left most i units n s b behind o some l at there is same slots 
     by (suc k) f g =
         let p : suc k - 1 ≡ k = omega arith in
         let q : o ≡ first_over net next k (most / slots_of (unit_at net u)) (get_or next u []) =
-            g ∙ ap (λ m. first_over net next m (most / s) behind) p ∙ ap (λ m. first_over net next k (most / m) behind) slots ∙ ap (first_over net next k (most / slots_of (unit_at net u))) list in
+        g ∙ ap (λ m. first_over net next m (most / s) behind) p ∙ ap (λ m. first_over net next k (most / m) behind) slots ∙ ap (first_over net next k (most / slots_of (unit_at net u))) list in
         ap (first_over net next (suc k) most) (drop_at units i u l (get_or_default units i 0 u l))
         ∙ over-cons net next k most u (drop (i + 1) units) (subst (λ m. 1 ≤ m) slots one)
         ∙ ap (λ x. or_else (option_map (λ r. u ∷ r) x) (first_over net next (suc k) most (drop (i + 1) units))) (sym q)
@@ -207,7 +208,7 @@ next_below net next same k d l i e m =
 -- the nodes of the rows are there
 pub rows_there : (net : List NodeDecl) → KeepsNodeRules net → (rows : List WalkRow) → map row_view rows ≡ map told_by_walk (live_walks net step_limit) → All (λ (r : WalkRow). (r.start < length net) × (r.end < length net)) rows
 rows_there net checked rows e k d l =
-    let m : Member (row_view (get_or rows k d)) (map told_by_walk (live_walks net step_limit)) = subst (λ ts. Member (row_view (get_or rows k d)) ts) e (map_member row_view rows (get_or rows k d) (item_at rows k d l)) in
-    let w = member_map told_by_walk (live_walks net step_limit) (row_view (get_or rows k d)) m in
+    let m : Member (row_view (get_or rows k d)) (map told_by_walk (live_walks net step_limit)) = subst (λ ts. Member (row_view (get_or rows k d)) ts) e (member_map row_view rows (get_or rows k d) (item_at rows k d l)) in
+    let w = map_member told_by_walk (live_walks net step_limit) (row_view (get_or rows k d)) m in
     let n = nodes_there net checked w.0 w.1 in
     (subst (λ (t : Told). t.start < length net) w.2 n.0, subst (λ (t : Told). t.end < length net) w.2 n.1)

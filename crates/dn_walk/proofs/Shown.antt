@@ -1,14 +1,14 @@
 -- The forks that rows show are those of the net, and the least of them is the one that the net's rule carries.
-use Rattle.std.proofs.Common.{◌≡◌, ℕ, zero, suc, ◌+◌, ◌-◌, ◌<◌, ◌≤◌, ◌⊎◌, inl, inr, Bool, true, false, if◌then◌else◌, ◌&&◌, nat_lt, List, [], ◌∷◌, ◌++◌, map, length, get_or, take, Option, Some, None, option_map, is_some, IsTrue, refl, sym, ap, ◌∙◌, subst, arith, ltb-true}
-use Rattle.std.proofs.lemmas.Bool.{lt-ltb, ltb-false, or_cases, or_parts, and_parts, and_from, and_cases, cases_lt}
+use Rattle.std.proofs.Common.{◌≡◌, ℕ, ◌+◌, ◌-◌, ◌<◌, ◌≤◌, ◌⊎◌, inl, inr, Bool, true, false, if◌then◌else◌, ◌&&◌, nat_lt, List, [], ◌∷◌, ◌++◌, map, length, get_or, take, Option, Some, None, option_map, is_some, IsTrue, refl, sym, ap, ◌∙◌, subst, arith, ltb-true}
+use Rattle.std.proofs.lemmas.Bool.{lt-ltb, ltb-false, or_cases, or_parts, and_parts, and_from, and_cases}
 use Rattle.std.specs.List.{list_all}
 use Rattle.std.proofs.lemmas.List.{take_more}
 use Rattle.dn_base.proofs.Lists.{map-last}
-use Rattle.dn_base.proofs.Members.{member_left, member_right, member_cases}
+use Rattle.dn_base.proofs.Members.{member_left, member_right, member_cases, map_member, member_map}
 use Rattle.dn_net.specs.declared.node.Name.{Name}
 use Rattle.dn_net.specs.declared.node.NodeDecl.{NodeDecl}
-use Rattle.dn_net.specs.Chain.{Member, IsChain, Reaches}
-use Rattle.dn_net.specs.Decode.{top, within, is_stop, unit_at, steps, step_limit, Step, is_formed}
+use Rattle.dn_net.specs.Chain.{Member}
+use Rattle.dn_net.specs.Decode.{within, unit_at, steps, step_limit, is_formed}
 use Rattle.dn_net.specs.Names.{name_lt, name_eq}
 use Rattle.dn_net.specs.Rules.{KeepsNodeRules}
 use Rattle.dn_net.specs.UnitRules.{Fork as NetFork, least_fork, IsShallow, IsFork, IsLeastFork}
@@ -18,10 +18,9 @@ use Rattle.dn_net.proofs.Cycles.{same_name}
 use Rattle.dn_net.proofs.Firsts.{NoLater}
 use Rattle.dn_net.proofs.Forks.{fork_is_least}
 use Rattle.dn_net.proofs.Least.{within_from, within_to}
-use Rattle.dn_net.proofs.Members.{member_map, map_member}
 use Rattle.dn_net.proofs.Resolution.{name_same}
 use Rattle.dn_net.proofs.Stops.{stop_unit, unit_stop, stop_still}
-use Rattle.dn_net.proofs.Ways.{lower_is, lower_still, no_later_still, either_way}
+use Rattle.dn_net.proofs.Ways.{lower_is, lower_still, either_way}
 use Rattle.dn_walk.specs.declared.fork.Fork.{Fork}
 use Rattle.dn_walk.specs.declared.walks.WalkRow.{WalkRow}
 use Rattle.dn_walk.specs.Rows.{Told, row_view, told_by_walk}
@@ -120,7 +119,7 @@ module _ (net : List NodeDecl) (checked : KeepsNodeRules net) (shallow : IsShall
   row_fork t m h = subst (λ u. shows_fork net u ≡ true → IsFork net (start_name u) u.end) w.2 (of_walk w.0 w.1) h
     where
       w : (w : Walk) × Member w (live_walks net step_limit) × (told_by_walk w ≡ t)
-      w = member_map told_by_walk (live_walks net step_limit) t m
+      w = map_member told_by_walk (live_walks net step_limit) t m
 
       of_walk : (w : Walk) → Member w (live_walks net step_limit) → shows_fork net (told_by_walk w) ≡ true → IsFork net (record { node = w.start; addr = w.span.lo }) w.to.node
       of_walk w m h =
@@ -160,14 +159,16 @@ module _ (net : List NodeDecl) (checked : KeepsNodeRules net) (shallow : IsShall
           let several = k.several in
           let more : 1 < length (steps net (record { node = w.start; addr = w.span.lo })) = omega arith in
           let end : w.to.node ≡ f.unit = ap (λ (n : Name). n.node) a.to ∙ k.reaches.1 in
-          let unit : is_some (unit_at net w.to.node) ≡ true = ap (λ n. is_some (unit_at net n)) (ap (λ (n : Name). n.node) a.to) ∙ (stop_unit net s k.reaches.2).0 in
-          (told_by_walk w, record {
-            row = map_member told_by_walk (live_walks net step_limit) w a.listed;
-            shows = and_from (is_some (unit_at net w.to.node)) (nat_lt 1 (length (steps net (record { node = w.start; addr = w.span.lo })))) unit (lt-ltb 1 (length (steps net (record { node = w.start; addr = w.span.lo }))) more);
-            node = a.start;
-            addr = (within_to f.name.addr w.span a.inside).0;
-            unit = end;
-          })
+          let unit : is_some (unit_at net w.to.node) ≡ true = ap (λ n. is_some (unit_at net n)) (ap (λ (n : Name). n.node) a.to) ∙ (stop_unit net s k.reaches.2).0 in (
+            told_by_walk w,
+            record {
+              row = member_map told_by_walk (live_walks net step_limit) w a.listed;
+              shows = and_from (is_some (unit_at net w.to.node)) (nat_lt 1 (length (steps net (record { node = w.start; addr = w.span.lo })))) unit (lt-ltb 1 (length (steps net (record { node = w.start; addr = w.span.lo }))) more);
+              node = a.start;
+              addr = (within_to f.name.addr w.span a.inside).0;
+              unit = end;
+            },
+          )
 
   -- a name of the node that comes no later than one, but not before it, is it
   no_lower : (x y : Name) → y.node ≡ x.node → y.addr ≤ x.addr → NoLater x y → x ≡ y
@@ -210,5 +211,5 @@ module _ (net : List NodeDecl) (checked : KeepsNodeRules net) (shallow : IsShall
 pub shown_at : (net : List NodeDecl) (rows : List WalkRow) (i : ℕ) (r : WalkRow) (o p : Option Fork) → i < length rows → r ≡ get_or rows i r → p ≡ with_shown net o (row_view r) → IsLeastShown net (map row_view (take i rows)) o → IsLeastShown net (map row_view (take (i + 1) rows)) p
 shown_at net rows i r o p l at e h =
     let more : map row_view (take (i + 1) rows) ≡ map row_view (take i rows) ++ row_view r ∷ [] =
-        ap (map row_view) (take_more rows i r l ∙ ap (λ x. take i rows ++ x ∷ []) (sym at)) ∙ map-last row_view (take i rows) r in
+    ap (map row_view) (take_more rows i r l ∙ ap (λ x. take i rows ++ x ∷ []) (sym at)) ∙ map-last row_view (take i rows) r in
     subst (λ ts. IsLeastShown net ts p) (sym more) (subst (λ q. IsLeastShown net (map row_view (take i rows) ++ row_view r ∷ []) q) (sym e) (shown_more net (map row_view (take i rows)) o (row_view r) h))

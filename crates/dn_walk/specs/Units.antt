@@ -1,8 +1,7 @@
 -- What rows tell of units: the forks that they show, which units lead to which, and rows of units.
-use Rattle.std.specs.Prelude.{◌≡◌, ℕ, ◌+◌, ◌*◌, ◌^◌, ◌<◌, ◌≤◌, ◌⊎◌, Bool, true, false, if◌then◌else◌, ◌&&◌, ◌||◌, nat_lt, ◌==◌, List, [], ◌∷◌, filter, length, slice_index_or, Option, Some, None, IsTrue}
+use Rattle.std.specs.Prelude.{◌≡◌, ℕ, ◌+◌, ◌*◌, ◌^◌, ◌<◌, ◌≤◌, ◌⊎◌, Bool, true, false, if◌then◌else◌, ◌&&◌, ◌||◌, nat_lt, ◌==◌, List, [], filter, length, slice_index_or, Option, Some, None, IsTrue}
 use Rattle.std.specs.List.{list_any}
 use Rattle.std.specs.Option.{is_some}
-use Rattle.dn_net.specs.declared.node.Name.{Name}
 use Rattle.dn_net.specs.declared.node.NodeDecl.{NodeDecl}
 use Rattle.dn_net.specs.declared.node.Unit.{Unit as UnitPart}
 use Rattle.dn_net.specs.Chain.{Member}
@@ -89,5 +88,5 @@ first_over net next k most first =
 abbrev pub chain_by : List NodeDecl → List (List ℕ) → List ℕ → Option (List ℕ)
 chain_by net next first =
     or_else (first_over net next 4 0 first)
-      (or_else (first_over net next 1 1048576 first)
-        (or_else (first_over net next 2 1048576 first) (first_over net next 3 1048576 first)))
+    (or_else (first_over net next 1 1048576 first)
+    (or_else (first_over net next 2 1048576 first) (first_over net next 3 1048576 first)))

@@ -1,5 +1,5 @@
 -- The least names that follow rows, and where rows lead.
-use Rattle.std.specs.Prelude.{◌≡◌, ℕ, ◌+◌, ◌-◌, Bool, true, false, if◌then◌else◌, ◌&&◌, ◌||◌, not, nat_le, ◌==◌, List, [], ◌∷◌, map, filter, slice_index_or, length, Option, Some, None, option_map}
+use Rattle.std.specs.Prelude.{ℕ, ◌+◌, ◌-◌, Bool, true, false, if◌then◌else◌, ◌&&◌, ◌||◌, not, nat_le, ◌==◌, List, [], ◌∷◌, map, filter, slice_index_or, length, Option, Some, None, option_map}
 use Rattle.std.specs.List.{list_any}
 use Rattle.dn_net.specs.declared.node.Name.{Name}
 use Rattle.dn_net.specs.Names.{name_lt, sorted_names}

@@ -13,19 +13,27 @@ use Rattle.dn_module.proofs.Passed.{drafts_formed, kinds_of_answer}
 use Rattle.dn_module.proofs.expand.expand.Goals as goal
 
 pub finish-requires : goal.finish-requires
-finish-requires g c = ?
+finish-requires g c =
+    let kinds = map (λ k. (goal.UnitKind-dyn g (k.vtable, k.value)).meaning k.value) c.args.kinds.now.list.items in
+    let body = ap (λ b. all_rewritings kinds most_steps (statements outside (body_view b)) nothing_yet) c.as_slice.ensures.value in
+    drafts_formed kinds (tree_view c.args.tree.now) (state_view c.in_ok-made.made) (sym body ∙ c.in_ok-made.ensures)
 
 pub returns-in_err-made-clause-expansion : goal.returns-in_err-made-clause-expansion
 returns-in_err-made-clause-expansion g c =
+    let kinds = map (λ k. (goal.UnitKind-dyn g (k.vtable, k.value)).meaning k.value) c.args.kinds.now.list.items in
     let body = c.as_slice.ensures.value in
     let p = err_from_is_err_and c.from_residual.result c.from_residual.ensures.1 in
-    rw (p.1, p.2) (body_fault _ (tree_view c.args.tree.now) (expand_fault_view c.in_err-made.field-0.0) (rw (← body) c.in_err-made.ensures))
+    rw (p.1, p.2) (body_fault kinds (tree_view c.args.tree.now) (expand_fault_view c.in_err-made.field-0.0) (rw (← body) c.in_err-made.ensures))
 
 pub returns-clause-expansion : goal.returns-clause-expansion
 returns-clause-expansion g c =
-    let body = ap (λ b. all_rewritings _ most_steps (statements outside (body_view b)) nothing_yet) c.as_slice.ensures.value in
+    let kinds = map (λ k. (goal.UnitKind-dyn g (k.vtable, k.value)).meaning k.value) c.args.kinds.now.list.items in
+    let body = ap (λ b. all_rewritings kinds most_steps (statements outside (body_view b)) nothing_yet) c.as_slice.ensures.value in
     let done = subst (λ cs. Answers outcome_view expand_fault_view c.finish.result (outcome_of c.in_ok-made.made.drafts (map command_view cs))) c.as_slice-2.ensures c.finish.ensures in
-    subst (Answers outcome_view expand_fault_view c.finish.result) (body_made _ (tree_view c.args.tree.now) (state_view c.in_ok-made.made) (sym body ∙ c.in_ok-made.ensures)) done
+    subst (Answers outcome_view expand_fault_view c.finish.result) (body_made kinds (tree_view c.args.tree.now) (state_view c.in_ok-made.made) (sym body ∙ c.in_ok-made.ensures)) done
 
 pub returns-clause-units : goal.returns-clause-units
-returns-clause-units g c = kinds_of_answer _ _ (tree_view c.args.tree.now) c.finish.result (length-map _ _) (returns-clause-expansion g c)
+returns-clause-units g c =
+    let items = c.args.kinds.now.list.items in
+    let kinds = map (λ k. (goal.UnitKind-dyn g (k.vtable, k.value)).meaning k.value) items in
+    kinds_of_answer kinds _ (tree_view c.args.tree.now) c.finish.result (length-map items (λ k. (goal.UnitKind-dyn g (k.vtable, k.value)).meaning k.value)) (returns-clause-expansion g c)

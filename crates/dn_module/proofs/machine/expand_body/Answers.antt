@@ -1,4 +1,4 @@
-use Rattle.std.proofs.Common.{◌∙◌, sym, ap, arith, ◌<◌}
+use Rattle.std.proofs.Common.{◌∙◌, sym, ap, arith, map, ◌<◌}
 use Rattle.dn_module.specs.Expand.{most_steps, statements, outside, nothing_yet}
 use Rattle.dn_module.specs.Machine.{state_view}
 use Rattle.dn_module.specs.Stack.{visibility_view, body_view, stack_works, work_view}
@@ -7,16 +7,18 @@ use Rattle.dn_module.proofs.machine.expand_body.Goals as goal
 
 pub loop-work-init : goal.loop-work-init
 loop-work-init g c =
-    begun _ most_steps 65536 (statements outside (body_view c.args.body.now)) (stack_works c.new-stack.result) nothing_yet _
+    let kinds = map (λ k. (goal.UnitKind-dyn g (k.vtable, k.value)).meaning k.value) c.args.kinds.now.list.items in
+    begun kinds most_steps 65536 (statements outside (body_view c.args.body.now)) (stack_works c.new-stack.result) nothing_yet _
     most_steps_are (sym c.new-stack.ensures) (λ i. record { modules = sym c.new.ensures i; drafts = sym c.new-2.ensures i })
 
 pub loop-work-preserved : goal.loop-work-preserved
 loop-work-preserved g c =
+    let kinds = map (λ k. (goal.UnitKind-dyn g (k.vtable, k.value)).meaning k.value) c.args.kinds.now.list.items in
     let left = c.loop-work.left in
     let at = c.next.new.self in
     let st = state_view c.loop-work.made in
     let w = work_view (visibility_view at.inner.visible) at.inner.scope c.in-Some.work in
     let more : 0 < left = omega arith in
     c.loop-work.invariant
-    ∙ work_first _ left _ _ st c.in-Some.ensures.some
-    ∙ step_on _ left w (stack_works at) st (stack_works c.step.new.stack, state_view c.step.new.made) more c.in_ok-step.ensures
+    ∙ work_first kinds left _ _ st c.in-Some.ensures.some
+    ∙ step_on kinds left w (stack_works at) st (stack_works c.step.new.stack, state_view c.step.new.made) more c.in_ok-step.ensures

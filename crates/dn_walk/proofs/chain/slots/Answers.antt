@@ -1,4 +1,4 @@
-use Rattle.std.proofs.Common.{◌≡◌, ◌∙◌, ◌≤◌, Option, Some, ap, sym, subst}
+use Rattle.std.proofs.Common.{◌∙◌, ◌≤◌, Some, ap, sym, subst}
 use Rattle.std.specs.Option.{option_copied}
 use Rattle.dn_net.proofs.Plain.{plain_unit_at}
 use Rattle.dn_walk.proofs.Nexts.{plain_facts}

@@ -1,5 +1,5 @@
 -- One row more.
-use Rattle.std.proofs.Common.{ap, subst, map, take}
+use Rattle.std.proofs.Common.{subst, map}
 use Rattle.std.proofs.lemmas.List.{take_all}
 use Rattle.dn_walk.specs.Rows.{row_view}
 use Rattle.dn_walk.specs.Units.{IsLeastShown}

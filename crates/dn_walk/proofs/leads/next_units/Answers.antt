@@ -1,5 +1,5 @@
 -- One node more.
-use Rattle.std.proofs.Common.{◌≡◌, ◌∙◌, ◌<◌, true, length, subst, sym, arith}
+use Rattle.std.proofs.Common.{◌≡◌, ◌∙◌, ◌<◌, true, subst, sym, arith}
 use Rattle.std.specs.Option.{option_copied}
 use Rattle.dn_net.specs.Decode.{ports_within}
 use Rattle.dn_net.proofs.Plain.{plain_unit_at}

@@ -1,5 +1,5 @@
 -- What the blocks leave out are the gaps.
-use Rattle.std.proofs.Common.{◌≡◌, ◌∙◌, ℕ, ◌++◌, ◌≤◌, ap, Ok, Err, Result, List, map, not, IsTrue}
+use Rattle.std.proofs.Common.{◌≡◌, ℕ, ◌++◌, ◌≤◌, Ok, Err, Result, List, map, not, IsTrue}
 use Rattle.std.specs.List.{list_all}
 use Rattle.std.specs.Result.{IfOk}
 use Rattle.dn_net.specs.declared.node.Block.{Block}

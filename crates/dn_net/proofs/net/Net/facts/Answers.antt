@@ -1,7 +1,6 @@
 -- The model's invariant, of the list that contracts see.
-use Rattle.std.proofs.Common.{◌≡◌, ◌≤◌, map, length, sym, subst, arith}
+use Rattle.std.proofs.Common.{arith}
 use Rattle.std.specs.String.{string_bytes}
-use Rattle.dn_net.specs.Legal.{node_limit, IsNet}
 use Rattle.dn_net.specs.Parts.{declared_by}
 use Rattle.dn_net.proofs.Places.{length-map}
 use Rattle.dn_net.proofs.net.Net.facts.Goals as goal
