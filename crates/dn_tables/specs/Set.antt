@@ -167,7 +167,7 @@ with_uses t uses = record { unit = t.unit; width = t.width; words = t.words; use
 
 -- words in which those from a place on are these, as many as they are
 abbrev pub put_over : List ℕ → ℕ → List ℕ → List ℕ
-put_over ws first values = take first ws ++ values ++ drop (first + length values) ws
+put_over ws first values = take first ws ++ (values ++ drop (length values) (drop first ws))
 
 -- the set in which the words of one slot are these, and all else is as it was
 abbrev pub with_slot : List NodeTable → ℕ → ℕ → List ℕ → List NodeTable
