@@ -78,4 +78,7 @@ pub record PlacedAt (tables : List UnitWords) (unit word at : ℕ) : Type 0 wher
   pub within : at < length tables
   pub has : (d : UnitWords) → word < length (slice_index_or tables at d).words
   pub sets : (value : ℕ) (d : UnitWords) → with_word tables unit word value
-      ≡ slice_set tables at (record { unit = unit; words = slice_set (slice_index_or tables at d).words word value })
+      ≡ slice_set tables at (record {
+        unit = (slice_index_or tables at d).unit;
+        words = slice_set (slice_index_or tables at d).words word value;
+      })

@@ -1,6 +1,6 @@
 //! What tables of translation units are written to, its events and its faults.
 
-ghost use Rattle.std.specs.Prelude.{◌≡◌, ◌×◌, [], ◌∷◌, ◌++◌, true, false, replicate, List, Option, IfSome, OnOk, OnErr, is_err};
+ghost use Rattle.std.specs.Prelude.{◌≡◌, [], ◌∷◌, ◌++◌, true, false, replicate, List, Option, IfSome, OnOk, OnErr, is_err};
 ghost use Rattle.std.specs.Option.{option_map};
 ghost use Rattle.dn_base.specs.Device.{Logged, UnitSize, has_unit, has_word, is_make_fault, sizes_of, with_word};
 ghost use Rattle.dn_base.specs.Outside.{Faults, IsCounted};
@@ -80,15 +80,15 @@ pub trait Tables {
     ///
     /// `Device` comes only where the count of faults rose in this call, or stands at the last value
     /// of its counter. `OutOfMemory` comes for want of memory. After both nothing was done.
-    fn make(&mut self, unit: u16, words: u32) -> Result<(), MakeFault>
+    fn make(&mut self, unit: u16, count: u32) -> Result<(), MakeFault>
         requires { has_unit (units self.old) unit ≡ false }
         ensures units { OnOk result (units self.new
-            ≡ units self.old ++ record { unit = unit; words = words } ∷ []) }
+            ≡ units self.old ++ record { unit = unit; words = count } ∷ []) }
         ensures words { OnOk result (words self.new ≡ option_map
-            (λ told. told ++ record { unit = unit; words = replicate words 0 } ∷ [])
+            (λ told. told ++ record { unit = unit; words = replicate count 0 } ∷ [])
             (words self.old)) }
         ensures logged { OnOk result
-            (Logged (log self.old) (log self.new) (TableEvent.Make unit words ∷ [])) }
+            (Logged (log self.old) (log self.new) (TableEvent.Make unit count ∷ [])) }
         ensures same { OnErr result ((units self.new ≡ units self.old)
             × (words self.new ≡ words self.old) × (log self.new ≡ log self.old)) }
         ensures counted { IsCounted (faults self.old) (faults self.new) (is_make_fault result) };

@@ -3,7 +3,7 @@
 //! Its calls are numbered as those of the objects of [`crate::memory`] are, `make`, `write` and
 //! `fence` together. It keeps its first events, as many as it was given room for.
 
-ghost use Rattle.std.specs.Prelude.{◌≡◌, ◌≢◌, ◌×◌, ◌==◌, ◌+◌, ◌<◌, ◌≤◌, ◌^◌, [], ◌∷◌, ◌++◌, true, false, replicate, map, slice_set, length, slice_get, Some, None, OnOk, OnErr, IfOk, IsOk, IsErrOf, Err, is_err, refl};
+ghost use Rattle.std.specs.Prelude.{◌≡◌, ◌≢◌, ◌==◌, ◌+◌, ◌<◌, ◌≤◌, ◌^◌, [], ◌∷◌, ◌++◌, true, false, replicate, map, slice_set, length, slice_get, Some, None, OnOk, OnErr, IfOk, IsOk, IsErrOf, Err, is_err, refl};
 ghost use Rattle.std.specs.List.{list_any};
 ghost use Rattle.std.specs.Option.{option_map};
 ghost use Rattle.dn_base.specs.Device.{Logged, PlacedAt, has_unit, has_word, is_make_fault, log_told, log_with, sizes_of, told_with, with_word, words_of_unit};
@@ -30,7 +30,7 @@ pub struct MemTables {
 }
 
 impl Model for MemTables {
-    ghost use Rattle.std.specs.Prelude.{◌×◌, ◌≤◌, vec_len, vec_capacity};
+    ghost use Rattle.std.specs.Prelude.{◌≤◌, vec_len, vec_capacity};
     ghost use Rattle.dn_base.specs.Device.{TablesState};
 
     ghost Value = { TablesState };
@@ -45,7 +45,12 @@ impl MemTables {
     /// order. It keeps the allocator, and takes the memory for a log of `room` events.
     pub fn new(alloc: Global, room: u32, failing: Vec<u32>) -> Result<MemTables, OutOfMemory>
         ensures { IfOk result (λ tables. tables ≡ record {
-            tables = []; log = []; told = true; room = room; calls = no_calls failing.items }) }
+          tables = [];
+          log = [];
+          told = true;
+          room = room;
+          calls = no_calls failing.items;
+        }) }
     {
         let log = Vec::with_capacity(alloc, room as usize)?;
         Ok(MemTables {
@@ -106,6 +111,17 @@ fn place_of(tables: &[UnitWords], unit: u16, word: u32) -> usize
     unreachable!()
 }
 
+/// Sets one word of a unit that was made, and has the word.
+fn set_word(tables: &mut Vec<UnitWords>, unit: u16, word: u32, value: u64)
+    requires { has_word (sizes_of tables.old.items) unit word ≡ true }
+    ensures words { tables.new.items ≡ with_word tables.old.items unit word value }
+    ensures sizes { sizes_of tables.new.items ≡ sizes_of tables.old.items }
+{
+    let place = place_of(tables.as_slice(), unit, word);
+    let table = &mut tables[place];
+    table.words.set(word as usize, value);
+}
+
 impl Tables for MemTables {
     ghost units = { λ s. sizes_of s.tables };
 
@@ -123,19 +139,19 @@ impl Tables for MemTables {
     ///
     /// `Device` exactly where the call's number is listed; it raises the count of faults by one.
     /// `OutOfMemory` where there is no memory for the words. After both nothing was done.
-    fn make(&mut self, unit: u16, words: u32) -> Result<(), MakeFault>
+    fn make(&mut self, unit: u16, count: u32) -> Result<(), MakeFault>
         ensures units { OnOk result (sizes_of self.new.tables
-            ≡ sizes_of self.old.tables ++ record { unit = unit; words = words } ∷ []) }
+            ≡ sizes_of self.old.tables ++ record { unit = unit; words = count } ∷ []) }
         ensures words { OnOk result (self.new.tables ≡ self.old.tables
-            ++ record { unit = unit; words = replicate words 0 } ∷ []) }
+            ++ record { unit = unit; words = replicate count 0 } ∷ []) }
         ensures logged { OnOk result
-            (Logged (log_told self.old) (log_told self.new) (TableEvent.Make unit words ∷ [])) }
+            (Logged (log_told self.old) (log_told self.new) (TableEvent.Make unit count ∷ [])) }
         ensures same { OnErr result ((sizes_of self.new.tables ≡ sizes_of self.old.tables)
             × (self.new.tables ≡ self.old.tables) × (log_told self.new ≡ log_told self.old)) }
         ensures counted { IsCounted (faults_of self.old.calls)
             (faults_of self.new.calls) (is_make_fault result) }
         ensures kept { OnOk result (self.new.log
-            ≡ log_with self.old (TableEvent.Make unit words)) }
+            ≡ log_with self.old (TableEvent.Make unit count)) }
         ensures told { OnOk result (self.new.told ≡ told_with self.old) }
         ensures unlogged { OnErr result
             ((self.new.log ≡ self.old.log) × (self.new.told ≡ self.old.told)) }
@@ -153,7 +169,7 @@ impl Tables for MemTables {
             return Err(MakeFault::Device);
         }
         let alloc = *self.tables.allocator();
-        let Ok(zeros) = vec![in alloc; 0u64; words as usize] else {
+        let Ok(zeros) = vec![in alloc; 0u64; count as usize] else {
             return Err(MakeFault::OutOfMemory);
         };
         let table = UnitWords {
@@ -163,7 +179,7 @@ impl Tables for MemTables {
         if self.tables.push(table).is_err() {
             return Err(MakeFault::OutOfMemory);
         }
-        self.keep(TableEvent::Make { unit, words });
+        self.keep(TableEvent::Make { unit, words: count });
         Ok(())
     }
 
@@ -174,6 +190,7 @@ impl Tables for MemTables {
     /// `DeviceFault` exactly where the call's number is listed; it raises the count of faults by
     /// one, and nothing was done.
     fn write(&mut self, unit: u16, word: u32, value: u64) -> Result<(), DeviceFault>
+        requires { has_word (sizes_of self.old.tables) unit word ≡ true }
         ensures units { sizes_of self.new.tables ≡ sizes_of self.old.tables }
         ensures words { OnOk result
             (self.new.tables ≡ with_word self.old.tables unit word value) }
@@ -200,9 +217,7 @@ impl Tables for MemTables {
         if self.calls.fails() {
             return Err(DeviceFault);
         }
-        let place = place_of(&self.tables, unit, word);
-        let table = &mut self.tables[place];
-        table.words.set(word as usize, value);
+        set_word(&mut self.tables, unit, word, value);
         self.keep(TableEvent::Write { unit, word, value });
         Ok(())
     }

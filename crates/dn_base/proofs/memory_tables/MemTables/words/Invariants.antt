@@ -4,6 +4,6 @@ use Rattle.dn_base.proofs.memory_tables.MemTables.words.Given as goal
 
 abbrev pub invariant-loop-table : goal.invariant-loop-table
 invariant-loop-table l = record {
-  there : has_unit (sizes_of (drop l.table-index l.self-inside.tables.items)) l.unit ≡ true;
-  same : words_of_unit (drop l.table-index l.self-inside.tables.items) l.unit ≡ words_of_unit l.self-inside.tables.items l.unit;
+  there : has_unit (sizes_of (drop l.table-index l.self.tables)) l.unit ≡ true;
+  same : words_of_unit (drop l.table-index l.self.tables) l.unit ≡ words_of_unit l.self.tables l.unit;
 }
