@@ -25,10 +25,10 @@ pub(crate) const HEADER: usize = 8;
 ///
 /// The first field that is not as in an image of the net. `OutOfMemory` never.
 pub fn check(net: &Net, kinds: &Kinds, bytes: &[u8]) -> Result<u16, ImageFault>
-    requires lawful { All (λ k. IsLawful (meaning k)) kinds.now.list.items }
-    requires shaped { KeepsUnitShape (map (λ k. meaning k) kinds.now.list.items) net.now }
+    requires lawful { All (λ k. IsLawful (meaning (k.vtable, k.value))) kinds.now.list.items }
+    requires shaped { KeepsUnitShape (map (λ k. meaning (k.vtable, k.value)) kinds.now.list.items) net.now }
     ensures exact { Answers (λ version. version) image_fault_view result
-        (reading_by (broken_image net.now (map (λ k. meaning k) kinds.now.list.items) bytes.now)
+        (reading_by (broken_image net.now (map (λ k. meaning (k.vtable, k.value)) kinds.now.list.items) bytes.now)
             (version_of bytes.now)) }
     ensures memory { result ≢ Err ImageFault.OutOfMemory }
 {
@@ -74,11 +74,11 @@ fn check_header(net: &Net, bytes: &[u8]) -> Result<u16, ImageFault>
 
 /// Where the words of the last unit end, where all heads are those of the net and no word is cut.
 fn check_heads(net: &Net, kinds: &Kinds, bytes: &[u8]) -> Result<usize, ImageFault>
-    requires lawful { All (λ k. IsLawful (meaning k)) kinds.now.list.items }
-    requires shaped { KeepsUnitShape (map (λ k. meaning k) kinds.now.list.items) net.now }
+    requires lawful { All (λ k. IsLawful (meaning (k.vtable, k.value))) kinds.now.list.items }
+    requires shaped { KeepsUnitShape (map (λ k. meaning (k.vtable, k.value)) kinds.now.list.items) net.now }
     requires header { 8 ≤ length bytes.now }
     ensures passes { Passes bytes.now 8
-        (units_fields (map (λ k. meaning k) kinds.now.list.items) 0 0 net.now) (λ end. end) result }
+        (units_fields (map (λ k. meaning (k.vtable, k.value)) kinds.now.list.items) 0 0 net.now) (λ end. end) result }
     ensures whole { IfOk result (λ end. end ≤ length bytes.now) }
     ensures memory { result ≢ Err ImageFault.OutOfMemory }
 {
@@ -102,11 +102,11 @@ fn check_unit(
     bytes: &[u8],
     at: usize,
 ) -> Result<usize, ImageFault>
-    requires lawful { All (λ k. IsLawful (meaning k)) kinds.now.list.items }
-    requires shaped { IsTrue (is_shaped (map (λ k. meaning k) kinds.now.list.items) unit.now) }
+    requires lawful { All (λ k. IsLawful (meaning (k.vtable, k.value))) kinds.now.list.items }
+    requires shaped { IsTrue (is_shaped (map (λ k. meaning (k.vtable, k.value)) kinds.now.list.items) unit.now) }
     requires place { at ≤ length bytes.now }
     ensures passes { Passes bytes.now at
-        (unit_fields (map (λ k. meaning k) kinds.now.list.items) place node (Some unit.now))
+        (unit_fields (map (λ k. meaning (k.vtable, k.value)) kinds.now.list.items) place node (Some unit.now))
         (λ end. end) result }
     ensures whole { IfOk result (λ end. end ≤ length bytes.now) }
     ensures memory { result ≢ Err ImageFault.OutOfMemory }

@@ -57,16 +57,16 @@ impl Image {
 /// The first field that is not as in an image of the net, with its place: `Short`, `Header`, `Shape`
 /// or `Trailing`. `OutOfMemory` where there is no memory for the words.
 pub fn read(alloc: Global, net: &Net, kinds: &Kinds, bytes: &[u8]) -> Result<Image, ImageFault>
-    requires lawful { All (λ k. IsLawful (meaning k)) kinds.now.list.items }
-    requires shaped { KeepsUnitShape (map (λ k. meaning k) kinds.now.list.items) net.now }
+    requires lawful { All (λ k. IsLawful (meaning (k.vtable, k.value))) kinds.now.list.items }
+    requires shaped { KeepsUnitShape (map (λ k. meaning (k.vtable, k.value)) kinds.now.list.items) net.now }
     ensures exact { Answers (λ i. i) image_fault_view result
-        (image_reading net.now (map (λ k. meaning k) kinds.now.list.items) bytes.now) }
+        (image_reading net.now (map (λ k. meaning (k.vtable, k.value)) kinds.now.list.items) bytes.now) }
     // What is read is an image, with these words and this version.
     ensures found { IfOk result (λ i.
-        IsImageOf net.now (map (λ k. meaning k) kinds.now.list.items) bytes.now i) }
+        IsImageOf net.now (map (λ k. meaning (k.vtable, k.value)) kinds.now.list.items) bytes.now i) }
     // And each image is read, unless memory is wanting.
     ensures only { (i : ImageWords) →
-        IsImageOf net.now (map (λ k. meaning k) kinds.now.list.items) bytes.now i →
+        IsImageOf net.now (map (λ k. meaning (k.vtable, k.value)) kinds.now.list.items) bytes.now i →
         Answers (λ i. i) image_fault_view result (Ok i) }
 {
     let version = check(net, kinds, bytes)?;
@@ -81,12 +81,12 @@ fn read_words(
     kinds: &Kinds,
     bytes: &[u8],
 ) -> Result<Vec<Items<u64>>, AllocError>
-    requires lawful { All (λ k. IsLawful (meaning k)) kinds.now.list.items }
-    requires shaped { KeepsUnitShape (map (λ k. meaning k) kinds.now.list.items) net.now }
-    requires whole { broken_image net.now (map (λ k. meaning k) kinds.now.list.items) bytes.now
+    requires lawful { All (λ k. IsLawful (meaning (k.vtable, k.value))) kinds.now.list.items }
+    requires shaped { KeepsUnitShape (map (λ k. meaning (k.vtable, k.value)) kinds.now.list.items) net.now }
+    requires whole { broken_image net.now (map (λ k. meaning (k.vtable, k.value)) kinds.now.list.items) bytes.now
         ≡ None }
     ensures { IfOk result (λ words. words.items
-        ≡ image_words net.now (map (λ k. meaning k) kinds.now.list.items) bytes.now) }
+        ≡ image_words net.now (map (λ k. meaning (k.vtable, k.value)) kinds.now.list.items) bytes.now) }
 {
     let mut words = Vec::new(alloc);
     let mut at = HEADER;

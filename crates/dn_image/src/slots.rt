@@ -20,13 +20,13 @@ use dn_net::node::Unit;
 /// no unit, has not the slot, or the words of the slot are no record of it. It reads the words of
 /// this slot alone, and takes no memory.
 pub fn record_in(net: &Net, kinds: &Kinds, bytes: &[u8], node: u16, slot: u64) -> Option<Record>
-    requires lawful { All (λ k. IsLawful (meaning k)) kinds.now.list.items }
-    requires shaped { KeepsUnitShape (map (λ k. meaning k) kinds.now.list.items) net.now }
-    requires whole { broken_image net.now (map (λ k. meaning k) kinds.now.list.items) bytes.now
+    requires lawful { All (λ k. IsLawful (meaning (k.vtable, k.value))) kinds.now.list.items }
+    requires shaped { KeepsUnitShape (map (λ k. meaning (k.vtable, k.value)) kinds.now.list.items) net.now }
+    requires whole { broken_image net.now (map (λ k. meaning (k.vtable, k.value)) kinds.now.list.items) bytes.now
         ≡ None }
     requires there { node < length net.now }
-    ensures { result ≡ record_held net.now (map (λ k. meaning k) kinds.now.list.items)
-        (image_words net.now (map (λ k. meaning k) kinds.now.list.items) bytes.now) node slot }
+    ensures { result ≡ record_held net.now (map (λ k. meaning (k.vtable, k.value)) kinds.now.list.items)
+        (image_words net.now (map (λ k. meaning (k.vtable, k.value)) kinds.now.list.items) bytes.now) node slot }
 {
     let unit = net.unit(node)?;
     if slot >= u64::from(unit.slots) {
@@ -52,11 +52,11 @@ fn read_slot(bytes: &[u8], words: &mut [u64])
 
 /// Where the words of a unit begin in an image of the net.
 fn words_at(net: &Net, kinds: &Kinds, node: u16) -> usize
-    requires lawful { All (λ k. IsLawful (meaning k)) kinds.now.list.items }
-    requires shaped { KeepsUnitShape (map (λ k. meaning k) kinds.now.list.items) net.now }
+    requires lawful { All (λ k. IsLawful (meaning (k.vtable, k.value))) kinds.now.list.items }
+    requires shaped { KeepsUnitShape (map (λ k. meaning (k.vtable, k.value)) kinds.now.list.items) net.now }
     requires there { node < length net.now }
     ensures { result ≡ 16
-        + nodes_size (map (λ k. meaning k) kinds.now.list.items) (take node net.now) }
+        + nodes_size (map (λ k. meaning (k.vtable, k.value)) kinds.now.list.items) (take node net.now) }
 {
     net.facts();
     let mut at = HEADER;
@@ -70,9 +70,9 @@ fn words_at(net: &Net, kinds: &Kinds, node: u16) -> usize
 
 /// How many bytes a unit has in an image: its head and its words.
 fn unit_size(unit: &Unit, kinds: &Kinds) -> usize
-    requires lawful { All (λ k. IsLawful (meaning k)) kinds.now.list.items }
-    requires shaped { IsTrue (is_shaped (map (λ k. meaning k) kinds.now.list.items) unit.now) }
-    ensures size { result ≡ node_size (map (λ k. meaning k) kinds.now.list.items) (Some unit.now) }
+    requires lawful { All (λ k. IsLawful (meaning (k.vtable, k.value))) kinds.now.list.items }
+    requires shaped { IsTrue (is_shaped (map (λ k. meaning (k.vtable, k.value)) kinds.now.list.items) unit.now) }
+    ensures size { result ≡ node_size (map (λ k. meaning (k.vtable, k.value)) kinds.now.list.items) (Some unit.now) }
     ensures small { result ≤ 8388616 }
 {
     let width = kinds.kind(usize::from(unit.kind)).words();

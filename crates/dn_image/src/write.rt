@@ -28,10 +28,10 @@ pub fn write(
     kinds: &Kinds,
     tables: &TableSet,
 ) -> Result<Vec<u8>, AllocError>
-    requires lawful { All (λ k. IsLawful (meaning k)) kinds.now.list.items }
-    requires fits { FitsNet net.now (map (λ k. meaning k) kinds.now.list.items) tables.now }
+    requires lawful { All (λ k. IsLawful (meaning (k.vtable, k.value))) kinds.now.list.items }
+    requires fits { FitsNet net.now (map (λ k. meaning (k.vtable, k.value)) kinds.now.list.items) tables.now }
     ensures { IfOk result (λ bytes. bytes.items
-        ≡ image net.now (map (λ k. meaning k) kinds.now.list.items) (words_of tables.now)) }
+        ≡ image net.now (map (λ k. meaning (k.vtable, k.value)) kinds.now.list.items) (words_of tables.now)) }
 {
     net.facts();
     tables.facts();

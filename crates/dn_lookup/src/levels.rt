@@ -34,14 +34,14 @@ pub(crate) fn resolve(
     access: Access,
     name: Name,
 ) -> Result<Names, AllocError>
-    requires lawful { All (λ k. IsLawful (meaning k)) kinds.now.list.items }
+    requires lawful { All (λ k. IsLawful (meaning (k.vtable, k.value))) kinds.now.list.items }
     requires rules { KeepsNodeRules net.now }
-    requires shaped { KeepsUnitShape (map (λ k. meaning k) kinds.now.list.items) net.now }
-    requires whole { broken_image net.now (map (λ k. meaning k) kinds.now.list.items) bytes.now
+    requires shaped { KeepsUnitShape (map (λ k. meaning (k.vtable, k.value)) kinds.now.list.items) net.now }
+    requires whole { broken_image net.now (map (λ k. meaning (k.vtable, k.value)) kinds.now.list.items) bytes.now
         ≡ None }
     requires there { name.node < length net.now }
     ensures resolved { IfOk result (λ names. names ≡ resolved_names_under net.now
-        (bytes_records net.now (map (λ k. meaning k) kinds.now.list.items) bytes.now version access)
+        (bytes_records net.now (map (λ k. meaning (k.vtable, k.value)) kinds.now.list.items) bytes.now version access)
         name) }
     ensures there { IfOk result (λ names. IsTrue (are_there (length net.now) names)) }
 {
@@ -77,16 +77,16 @@ fn next_level(
     level: &[Name],
     accepted: &mut Vec<Name>,
 ) -> Result<Names, AllocError>
-    requires lawful { All (λ k. IsLawful (meaning k)) kinds.now.list.items }
+    requires lawful { All (λ k. IsLawful (meaning (k.vtable, k.value))) kinds.now.list.items }
     requires rules { KeepsNodeRules net.now }
-    requires shaped { KeepsUnitShape (map (λ k. meaning k) kinds.now.list.items) net.now }
-    requires whole { broken_image net.now (map (λ k. meaning k) kinds.now.list.items) bytes.now
+    requires shaped { KeepsUnitShape (map (λ k. meaning (k.vtable, k.value)) kinds.now.list.items) net.now }
+    requires whole { broken_image net.now (map (λ k. meaning (k.vtable, k.value)) kinds.now.list.items) bytes.now
         ≡ None }
     requires there { IsTrue (are_there (length net.now) level.now) }
     ensures accepted { OnOk result (accepted.new.items ≡
         accepted.old.items ++ passing_names (is_accepted net.now) level.now) }
     ensures next { IfOk result (λ names. names ≡ sorted_names (each_step (steps_under net.now
-        (bytes_records net.now (map (λ k. meaning k) kinds.now.list.items) bytes.now version access))
+        (bytes_records net.now (map (λ k. meaning (k.vtable, k.value)) kinds.now.list.items) bytes.now version access))
         level.now)) }
     ensures there { IfOk result (λ names. IsTrue (are_there (length net.now) names)) }
 {

@@ -66,11 +66,11 @@ pub fn lookup(
     addr: u64,
     access: Access,
 ) -> Result<Names, LookupFault>
-    requires lawful { All (λ k. IsLawful (meaning k)) kinds.now.list.items }
+    requires lawful { All (λ k. IsLawful (meaning (k.vtable, k.value))) kinds.now.list.items }
     requires legal { IsLegalNet net.now }
-    requires shaped { KeepsUnitShape (map (λ k. meaning k) kinds.now.list.items) net.now }
+    requires shaped { KeepsUnitShape (map (λ k. meaning (k.vtable, k.value)) kinds.now.list.items) net.now }
     ensures exact { Answers (λ names. names) lookup_fault_view result
-        (lookup_of net.now (map (λ k. meaning k) kinds.now.list.items) image.now access
+        (lookup_of net.now (map (λ k. meaning (k.vtable, k.value)) kinds.now.list.items) image.now access
             (record { node = agent; addr = addr })) }
     // Each name is in a node that is there.
     ensures there { IfOk result (λ names. IsTrue (are_there (length net.now) names)) }

@@ -38,14 +38,14 @@ pub(crate) fn output(
     access: Access,
     name: Name,
 ) -> Option<Name>
-    requires lawful { All (λ k. IsLawful (meaning k)) kinds.now.list.items }
-    requires shaped { KeepsUnitShape (map (λ k. meaning k) kinds.now.list.items) net.now }
-    requires whole { broken_image net.now (map (λ k. meaning k) kinds.now.list.items) bytes.now
+    requires lawful { All (λ k. IsLawful (meaning (k.vtable, k.value))) kinds.now.list.items }
+    requires shaped { KeepsUnitShape (map (λ k. meaning (k.vtable, k.value)) kinds.now.list.items) net.now }
+    requires whole { broken_image net.now (map (λ k. meaning (k.vtable, k.value)) kinds.now.list.items) bytes.now
         ≡ None }
     requires there { name.node < length net.now }
     requires stop { IsTrue (is_stop net.now name) }
     ensures { name_list result ≡ steps_under net.now
-        (bytes_records net.now (map (λ k. meaning k) kinds.now.list.items) bytes.now version access)
+        (bytes_records net.now (map (λ k. meaning (k.vtable, k.value)) kinds.now.list.items) bytes.now version access)
         name }
 {
     let unit = net.unit(name.node)?;

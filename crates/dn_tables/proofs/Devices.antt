@@ -24,7 +24,9 @@ skip_size n i word ws (Some u) rest = ap (λ b. if b then nat_lt word (length ws
 pub word_on_device : (set : List NodeTable) (n i word : ℕ) (u : UnitPart) → unit_in set i ≡ Some u → word < length (words_in set i) → has_word (sizes_of (tables_from n set)) (n + i) word ≡ true
 word_on_device [] n i word u e l = cc
 word_on_device (t ∷ set) n zero word u e l =
-    ap (λ (o : Option UnitPart). has_word (sizes_of (table_on_device n t.words o ++ tables_from (suc n) set)) (n + zero) word) e
+    let none : n + zero ≡ n = omega arith in
+    ap (λ k. has_word (sizes_of (tables_from n (t ∷ set))) k word) none
+    ∙ ap (λ (o : Option UnitPart). has_word (sizes_of (table_on_device n t.words o ++ tables_from (suc n) set)) n word) e
     ∙ ap (λ b. if b then nat_lt word (length t.words) else has_word (sizes_of (tables_from (suc n) set)) n word) (eq-eqb n n refl)
     ∙ lt-ltb word (length t.words) l
 word_on_device (t ∷ set) n (suc i) word u e l =
@@ -45,7 +47,9 @@ with_one word value t = with_words t (slice_set t.words word value)
 one_on_device : (set : List NodeTable) (n i word value : ℕ) (u : UnitPart) → unit_in set i ≡ Some u → with_word (tables_from n set) (n + i) word value ≡ tables_from n (with_table set i (with_one word value))
 one_on_device [] n i word value u e = cc
 one_on_device (t ∷ set) n zero word value u e =
-    ap (λ (o : Option UnitPart). with_word (table_on_device n t.words o ++ tables_from (suc n) set) (n + zero) word value) e
+    let none : n + zero ≡ n = omega arith in
+    ap (λ k. with_word (tables_from n (t ∷ set)) k word value) none
+    ∙ ap (λ (o : Option UnitPart). with_word (table_on_device n t.words o ++ tables_from (suc n) set) n word value) e
     ∙ ap (λ b. if b then record { unit = n; words = slice_set t.words word value } ∷ tables_from (suc n) set else record { unit = n; words = t.words } ∷ with_word (tables_from (suc n) set) n word value) (eq-eqb n n refl)
     ∙ ap (λ (o : Option UnitPart). table_on_device n (slice_set t.words word value) o ++ tables_from (suc n) set) (sym e)
 one_on_device (t ∷ set) n (suc i) word value u e =

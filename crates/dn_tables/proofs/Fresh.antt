@@ -30,12 +30,12 @@ plain_there kinds u s = (and_parts (is_plain (unit_shape u)) (fits_shape (slice_
 sized_by_width : (u : UnitPart) (w : ℕ) → IsTrue (is_plain (unit_shape u)) → 1 ≤ w → w ≤ 4 → is_sized_by (record { unit = Some u; width = w; words = replicate (u.slots * w) 0; uses = replicate u.slots unused }) (Some u) ≡ true
 sized_by_width u w plain least most =
     and_from (is_plain (unit_shape u) && nat_le 1 w && nat_le w 4 && (length (replicate (u.slots * w) 0) == u.slots * w)) (length (replicate u.slots unused) == u.slots)
-      (and_from (is_plain (unit_shape u) && nat_le 1 w && nat_le w 4) (length (replicate (u.slots * w) 0) == u.slots * w)
-        (and_from (is_plain (unit_shape u) && nat_le 1 w) (nat_le w 4)
-          (and_from (is_plain (unit_shape u)) (nat_le 1 w) plain (le-leb 1 w least))
-          (le-leb w 4 most))
-        (eq-eqb (length (replicate (u.slots * w) 0)) (u.slots * w) (length-replicate (u.slots * w) 0)))
-      (eq-eqb (length (replicate u.slots unused)) u.slots (length-replicate u.slots unused))
+    (and_from (is_plain (unit_shape u) && nat_le 1 w && nat_le w 4) (length (replicate (u.slots * w) 0) == u.slots * w)
+    (and_from (is_plain (unit_shape u) && nat_le 1 w) (nat_le w 4)
+    (and_from (is_plain (unit_shape u)) (nat_le 1 w) plain (le-leb 1 w least))
+    (le-leb w 4 most))
+    (eq-eqb (length (replicate (u.slots * w) 0)) (u.slots * w) (length-replicate (u.slots * w) 0)))
+    (eq-eqb (length (replicate u.slots unused)) u.slots (length-replicate u.slots unused))
 
 fresh_sized : (kinds : List Meaning) → All IsLawful kinds → (o : Option UnitPart) → ((u : UnitPart) → o ≡ Some u → IsTrue (is_shaped kinds u)) → is_sized (fresh_by kinds o) ≡ true
 fresh_sized kinds lawful None shaped = refl
@@ -87,7 +87,7 @@ shape_there kinds net i (Some u) k e = k.shaped i u (go (slice_get net i) refl e
 
 -- the tables of a set are those of its first nodes and of the others
 pub tables_split : (set : List NodeTable) (n k : ℕ) → tables_from n set ≡ tables_from n (take k set) ++ tables_from (n + k) (drop k set)
-tables_split set n zero = refl
+tables_split set n zero = let e : n ≡ n + zero = omega arith in ap (λ m. tables_from m set) e
 tables_split [] n (suc k) = refl
 tables_split (t ∷ set) n (suc k) =
     let e : suc n + k ≡ n + suc k = omega arith in
@@ -100,7 +100,8 @@ pub tables_more : (set : List NodeTable) (n k : ℕ) (t : NodeTable) → slice_g
 tables_more [] n k t e = cc
 tables_more (s ∷ set) n zero t e =
     let f : s ≡ t = same_Some s t e in
-    append-nil (table_on_device n s.words s.unit) ∙ ap (λ (x : NodeTable). table_on_device n x.words x.unit) f
+    let none : n ≡ n + zero = omega arith in
+    append-nil (table_on_device n s.words s.unit) ∙ ap (λ (x : NodeTable). table_on_device n x.words x.unit) f ∙ ap (λ m. table_on_device m t.words t.unit) none
 tables_more (s ∷ set) n (suc k) t e =
     let m : suc n + k ≡ n + suc k = omega arith in
     ap (λ (l : List UnitWords). table_on_device n s.words s.unit ++ l) (tables_more set (suc n) k t e)

@@ -1,5 +1,5 @@
 -- Gate words: a slot whose last word is 0 holds no record, so one that is half written holds none.
-use Rattle.std.proofs.Common.{◌≡◌, ℕ, zero, suc, ◌+◌, ◌-◌, ◌*◌, ◌%◌, ◌<◌, ◌≤◌, Bool, true, false, if◌then◌else◌, nat_lt, List, [], ◌∷◌, length, take, drop, replicate, get_or, slice_get, slice_set, Option, Some, None, IsTrue, refl, sym, ap, ◌∙◌, subst, arith, length-drop}
+use Rattle.std.proofs.Common.{◌≡◌, ℕ, zero, suc, ◌+◌, ◌-◌, ◌*◌, ◌%◌, ◌<◌, ◌≤◌, Bool, true, false, if◌then◌else◌, nat_lt, List, [], ◌∷◌, length, take, drop, min, replicate, get_or, slice_get, slice_set, Option, Some, None, IsTrue, refl, sym, ap, ◌∙◌, subst, arith, length-drop}
 use Rattle.std.specs.List.{All}
 use Rattle.std.proofs.lemmas.List.{length-set, length-take, length-take-le, length-replicate, get_or-drop, get_or-take, get_or-replicate, get_or-set_same, take-replicate}
 use Rattle.dn_net.specs.declared.node.Unit.{Unit as UnitPart}
@@ -48,24 +48,27 @@ gate_while_put n slot k vs ws l e h empty =
     ∙ put_past ws (take k vs) first n (omega arith) (omega arith)
     ∙ gate_of_empty n slot ws empty
 
+gate_behind : (n slot k : ℕ) (zs ws : List ℕ) → slot * suc n + suc n ≤ length ws → length zs ≡ n → gate_word (slot_words (suc n) (words_after (take k (writes_from (slot * suc n) zs)) (slice_set ws (slot * suc n + n) 0)) slot) ≡ 0
+gate_behind n slot k zs ws l e =
+    let first : ℕ = slot * suc n in
+    let ws' : List ℕ = slice_set ws (first + n) 0 in
+    let s : length ws' ≡ length ws = length-set ws (first + n) 0 in
+    let u : length (take k zs) ≡ min k (length zs) = length-take k zs in
+    let t : length (take k zs) ≤ n = omega arith in
+    let all : words_after (take k (writes_from first zs)) ws' ≡ put_over ws' first (take k zs) =
+    ap (λ (w : List WordWrite). words_after w ws') (take_writes k first zs) ∙ after_puts (take k zs) ws' first (omega arith) in
+    let m : length (words_after (take k (writes_from first zs)) ws') ≡ length ws' = length_after (take k (writes_from first zs)) ws' in
+    gate_of_slot n slot (words_after (take k (writes_from first zs)) ws') (omega arith)
+    ∙ ap (λ (w : List ℕ). get_or w (first + n) 0) all
+    ∙ put_past ws' (take k zs) first n (omega arith) t
+    ∙ get_or-set_same ws (first + n) 0 0 (omega arith)
+
 -- after the first of the writes that clear a slot, and any of the others, its gate word is 0
 pub gate_while_cleared : (n slot k : ℕ) (ws : List ℕ) → slot * suc n + suc n ≤ length ws → gate_word (slot_words (suc n) (words_after (take (suc k) (clears_from (slot * suc n) (suc n))) ws) slot) ≡ 0
 gate_while_cleared n slot k ws l =
-    let first : ℕ = slot * suc n in
     let e : suc n - 1 ≡ n = omega arith in
-    let ws' : List ℕ = slice_set ws (first + n) 0 in
-    let s : length ws' ≡ length ws = length-set ws (first + n) 0 in
-    let r : length (replicate n 0) ≡ n = length-replicate n 0 in
-    let t : length (take k (replicate n 0)) ≤ n = let u = length-take k (replicate n 0) in omega arith in
-    let all : words_after (take (suc k) (clears_from first (suc n))) ws ≡ put_over ws' first (take k (replicate n 0)) =
-    ap (λ m. words_after (take k (writes_from first (replicate m 0))) (slice_set ws (first + m) 0)) e
-    ∙ ap (λ (w : List WordWrite). words_after w ws') (take_writes k first (replicate n 0))
-    ∙ after_puts (take k (replicate n 0)) ws' first (omega arith) in
-    let m : length (words_after (take (suc k) (clears_from first (suc n))) ws) ≡ length ws = length_after (take (suc k) (clears_from first (suc n))) ws in
-    gate_of_slot n slot (words_after (take (suc k) (clears_from first (suc n))) ws) (omega arith)
-    ∙ ap (λ (w : List ℕ). get_or w (first + n) 0) all
-    ∙ put_past ws' (take k (replicate n 0)) first n (omega arith) t
-    ∙ get_or-set_same ws (first + n) 0 0 (omega arith)
+    ap (λ m. gate_word (slot_words (suc n) (words_after (take k (writes_from (slot * suc n) (replicate m 0))) (slice_set ws (slot * suc n + m) 0)) slot)) e
+    ∙ gate_behind n slot k (replicate n 0) ws l (length-replicate n 0)
 
 -- a slot whose gate word is 0 holds no record
 pub none_by_gate : (kinds : List Meaning) (u : UnitPart) (width slot : ℕ) (ws : List ℕ) → All IsLawful kinds → ((kind : Meaning) → slice_get kinds u.kind ≡ Some kind → kind.words ≡ width) → slot * width + width ≤ length ws → gate_word (slot_words width ws slot) ≡ 0 → record_of_unit kinds (Some u) (Some ws) slot ≡ None

@@ -3,4 +3,5 @@ pub mod Fresh
 pub mod Gates
 pub mod Kept
 pub mod Made
+pub mod Slots
 pub mod Values

@@ -28,11 +28,20 @@ length_writes first (v ∷ vs) = ap suc (length_writes (suc first) vs)
 
 -- values, and one more behind them
 pub writes_last : (first : ℕ) (vs : List ℕ) (v : ℕ) → writes_from first (vs ++ v ∷ []) ≡ writes_from first vs ++ record { word = first + length vs; value = v } ∷ []
-writes_last first [] v = refl
+writes_last first [] v = let e : first ≡ first + 0 = omega arith in ap (λ n. record { word = n; value = v } ∷ []) e
 writes_last first (w ∷ vs) v =
     let e : suc first + length vs ≡ first + suc (length vs) = omega arith in
     ap (λ (l : List WordWrite). record { word = first; value = w } ∷ l) (writes_last (suc first) vs v)
     ∙ ap (λ n. record { word = first; value = w } ∷ (writes_from (suc first) vs ++ record { word = n; value = v } ∷ [])) e
+
+-- the writes of the first values, and those of the others
+pub writes_split : (i first : ℕ) (vs : List ℕ) → writes_from first vs ≡ writes_from first (take i vs) ++ writes_from (first + i) (drop i vs)
+writes_split zero first vs = let e : first ≡ first + 0 = omega arith in ap (λ n. writes_from n vs) e
+writes_split (suc i) first [] = refl
+writes_split (suc i) first (v ∷ vs) =
+    let e : suc first + i ≡ first + suc i = omega arith in
+    ap (λ (l : List WordWrite). record { word = first; value = v } ∷ l) (writes_split i (suc first) vs)
+    ∙ ap (λ n. record { word = first; value = v } ∷ (writes_from (suc first) (take i vs) ++ writes_from n (drop i vs))) e
 
 put_none : (ws : List ℕ) (first : ℕ) → put_over ws first [] ≡ ws
 put_none ws first = take-append-drop first ws
@@ -63,21 +72,22 @@ put_last (w ∷ ws) (suc first) v vs l =
     ap (λ n. put_over (slice_set (w ∷ ws) n v) (suc first) vs) next
     ∙ ap (λ (r : List ℕ). w ∷ r) (put_last ws first v vs (omega arith))
 
+cleared_by : (n first : ℕ) (zs ws : List ℕ) → length zs ≡ n → first + n < length ws → words_after (writes_from first zs) (slice_set ws (first + n) 0) ≡ put_over ws first (zs ++ 0 ∷ [])
+cleared_by n first zs ws e l =
+    let s : length (slice_set ws (first + n) 0) ≡ length ws = length-set ws (first + n) 0 in
+    after_puts zs (slice_set ws (first + n) 0) first (omega arith)
+    ∙ ap (λ k. put_over (slice_set ws (first + k) 0) first zs) (sym e)
+    ∙ put_last ws first 0 zs (omega arith)
+
 -- words that are cleared are 0, and all others are as they were
 pub after_clears : (width first : ℕ) (ws : List ℕ) → 1 ≤ width → first + width ≤ length ws → words_after (clears_from first width) ws ≡ put_over ws first (replicate width 0)
 after_clears zero first ws l m = absurd (omega arith)
 after_clears (suc n) first ws l m =
     let e : suc n - 1 ≡ n = omega arith in
-    let r : length (replicate n 0) ≡ n = length-replicate n 0 in
-    let s : length (slice_set ws (first + n) 0) ≡ length ws = length-set ws (first + n) 0 in
+    let one : n + 1 ≡ suc n = omega arith in
     ap (λ k. words_after (writes_from first (replicate k 0)) (slice_set ws (first + k) 0)) e
-    ∙ after_puts (replicate n 0) (slice_set ws (first + n) 0) first (omega arith)
-    ∙ ap (λ k. put_over (slice_set ws (first + k) 0) first (replicate n 0)) (sym r)
-    ∙ put_last ws first 0 (replicate n 0) (omega arith)
-    ∙ ap (put_over ws first) (replicate_more n 0 ∙ ap (λ k. replicate k 0) (add_one n))
-  where
-    add_one : (k : ℕ) → k + 1 ≡ suc k
-    add_one k = omega arith
+    ∙ cleared_by n first (replicate n 0) ws (length-replicate n 0) (omega arith)
+    ∙ ap (put_over ws first) (replicate_more n 0 ∙ ap (λ k. replicate k 0) one)
 
 drop_put : (ws vs : List ℕ) (first : ℕ) → first ≤ length ws → drop first (put_over ws first vs) ≡ vs ++ drop (length vs) (drop first ws)
 drop_put ws vs first l = drop_at (take first ws) (vs ++ drop (length vs) (drop first ws)) first (length-take-le first ws l)

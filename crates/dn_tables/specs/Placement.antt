@@ -11,4 +11,4 @@ pub record Place : Type 0 where
 -- one to three hops, and the own one is among them
 pub record IsPlace (hops : List Hop) (own : ℕ) : Type 0 where
   pub few : length hops ≤ 3
-  pub own : own < length hops
+  pub among : own < length hops

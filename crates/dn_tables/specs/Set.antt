@@ -110,7 +110,7 @@ fits_kinds kinds set = list_all (λ t. fits_by kinds t.width t.unit) set
 -- the set fits a net and kinds: it keeps exactly the units of this net, and has words for each slot by these kinds
 pub record FitsNet (net : List NodeDecl) (kinds : List Meaning) (set : List NodeTable) : Type 0 where
   pub units : units_of set ≡ map (λ n. n.unit) net
-  pub kinds : IsTrue (fits_kinds kinds set)
+  pub wide : IsTrue (fits_kinds kinds set)
 
 -- the table of a node on a device, where the node is a unit
 abbrev pub table_on_device : ℕ → List ℕ → Option UnitPart → List UnitWords
@@ -128,8 +128,8 @@ tables_of_set set = tables_from 0 set
 
 -- a device made exactly the units of the set with their numbers of words, and its words, where it tells them, are the
 -- set's
-pub record IsOnDevice (set : List NodeTable) (units : List UnitSize) (told : Option (List UnitWords)) : Type 0 where
-  pub units : units ≡ sizes_of (tables_of_set set)
+pub record IsOnDevice (set : List NodeTable) (sizes : List UnitSize) (told : Option (List UnitWords)) : Type 0 where
+  pub units : sizes ≡ sizes_of (tables_of_set set)
   pub words : IfSome told (λ tables. tables ≡ tables_of_set set)
 
 -- how many words a record of a unit of this kind has

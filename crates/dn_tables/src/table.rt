@@ -51,11 +51,11 @@ impl NodeTable {
         unit: Option<&Unit>,
         kinds: &Kinds,
     ) -> Result<NodeTable, AllocError>
-        requires lawful { All (λ k. IsLawful (meaning k)) kinds.now.list.items }
-        requires shaped { IsTrue (has_shape (map (λ k. meaning k) kinds.now.list.items)
+        requires lawful { All (λ k. IsLawful (meaning (k.vtable, k.value))) kinds.now.list.items }
+        requires shaped { IsTrue (has_shape (map (λ k. meaning (k.vtable, k.value)) kinds.now.list.items)
             (option_copied unit)) }
         ensures { IfOk result (λ table. table
-            ≡ fresh_by (map (λ k. meaning k) kinds.now.list.items) (option_copied unit.entry)) }
+            ≡ fresh_by (map (λ k. meaning (k.vtable, k.value)) kinds.now.list.items) (option_copied unit.entry)) }
     {
         match unit {
             Some(unit) => fresh_unit(alloc, unit, kinds),
@@ -70,12 +70,12 @@ impl NodeTable {
     /// The record that a slot holds. `None` exactly where its words spell none, where the port is
     /// none of the unit's, or where the output is past its reach.
     pub(crate) fn record_at(&self, kinds: &Kinds, slot: u32) -> Option<Record>
-        requires lawful { All (λ k. IsLawful (meaning k)) kinds.now.list.items }
-        requires fits { IsTrue (fits_by (map (λ k. meaning k) kinds.now.list.items)
+        requires lawful { All (λ k. IsLawful (meaning (k.vtable, k.value))) kinds.now.list.items }
+        requires fits { IsTrue (fits_by (map (λ k. meaning (k.vtable, k.value)) kinds.now.list.items)
             self.now.width self.now.unit) }
         requires sized { IsTrue (is_sized self.now) }
         requires there { IsTrue (has_slot_by self.now.unit slot) }
-        ensures { result ≡ record_of_unit (map (λ k. meaning k) kinds.now.list.items)
+        ensures { result ≡ record_of_unit (map (λ k. meaning (k.vtable, k.value)) kinds.now.list.items)
             self.now.unit (Some self.now.words) slot }
     {
         match &self.unit {
@@ -102,19 +102,19 @@ impl NodeTable {
         slot: u32,
         record: Record,
     ) -> Result<(), DeviceFault>
-        requires lawful { All (λ k. IsLawful (meaning k)) kinds.now.list.items }
-        requires fits { IsTrue (fits_by (map (λ k. meaning k) kinds.now.list.items)
+        requires lawful { All (λ k. IsLawful (meaning (k.vtable, k.value))) kinds.now.list.items }
+        requires fits { IsTrue (fits_by (map (λ k. meaning (k.vtable, k.value)) kinds.now.list.items)
             self.old.width self.old.unit) }
         requires sized { IsTrue (is_sized self.old) }
         requires there { IsTrue (has_slot_by self.old.unit slot) }
         requires packable { (u : UnitPart) (kind : Meaning) → self.old.unit ≡ Some u →
-            slice_get (map (λ k. meaning k) kinds.now.list.items) u.kind ≡ Some kind →
+            slice_get (map (λ k. meaning (k.vtable, k.value)) kinds.now.list.items) u.kind ≡ Some kind →
             IsPackable kind (unit_shape u) «record» }
         requires on_device { (word : ℕ) → word < length self.old.words →
             has_word (D.units device.old) unit word ≡ true }
         ensures written { AreWritten unit
             (writes_from (slot * self.old.width)
-                (packed_for (map (λ k. meaning k) kinds.now.list.items) self.old.unit «record»))
+            (packed_for (map (λ k. meaning (k.vtable, k.value)) kinds.now.list.items) self.old.unit «record»))
             (is_err result) (D.log device.old) (D.log device.new)
             (D.words device.old) (D.words device.new) self.old.words self.new.words }
         ensures same { self.new ≡ with_words self.old self.new.words }
@@ -160,24 +160,33 @@ impl NodeTable {
 
 /// Leaves the words of a record in the first places, and 0 in the others.
 fn pack(kinds: &Kinds, unit: &Unit, record: Record, packed: &mut [u64; 4])
-    requires lawful { All (λ k. IsLawful (meaning k)) kinds.now.list.items }
+    requires lawful { All (λ k. IsLawful (meaning (k.vtable, k.value))) kinds.now.list.items }
     requires known { unit.now.kind < length kinds.now.list.items }
     requires packable { (kind : Meaning) →
-        slice_get (map (λ k. meaning k) kinds.now.list.items) unit.now.kind ≡ Some kind →
+        slice_get (map (λ k. meaning (k.vtable, k.value)) kinds.now.list.items) unit.now.kind ≡ Some kind →
         IsPackable kind (unit_shape unit.now) «record» }
-    ensures { packed.new ≡ packed_for (map (λ k. meaning k) kinds.now.list.items) (Some unit.now) «record»
-        ++ replicate (4 - width_by (slice_get (map (λ k. meaning k) kinds.now.list.items) unit.now.kind)) 0 }
+    ensures { packed.new ≡ packed_for (map (λ k. meaning (k.vtable, k.value)) kinds.now.list.items) (Some unit.now) «record»
+        ++ replicate (4 - width_by (slice_get (map (λ k. meaning (k.vtable, k.value)) kinds.now.list.items) unit.now.kind)) 0 }
 {
     let kind = kinds.kind(usize::from(unit.kind));
+    pack_by(&**kind, unit, record, packed);
+}
+
+/// The same, of this kind.
+fn pack_by(kind: &dyn UnitKind, unit: &Unit, record: Record, packed: &mut [u64; 4])
+    requires { IsPackable (meaning kind.now) (unit_shape unit.now) «record» }
+    ensures { packed.new ≡ (meaning kind.now).pack (unit_shape unit.now) «record»
+        ++ replicate (4 - (meaning kind.now).words) 0 }
+{
     kind.pack(shape_of(unit), record, packed);
 }
 
 /// The table of a unit with words 0 and no use.
 fn fresh_unit(alloc: Global, unit: &Unit, kinds: &Kinds) -> Result<NodeTable, AllocError>
-    requires lawful { All (λ k. IsLawful (meaning k)) kinds.now.list.items }
-    requires shaped { IsTrue (is_shaped (map (λ k. meaning k) kinds.now.list.items) unit.now) }
+    requires lawful { All (λ k. IsLawful (meaning (k.vtable, k.value))) kinds.now.list.items }
+    requires shaped { IsTrue (is_shaped (map (λ k. meaning (k.vtable, k.value)) kinds.now.list.items) unit.now) }
     ensures { IfOk result (λ table. table
-        ≡ fresh_by (map (λ k. meaning k) kinds.now.list.items) (Some unit.now)) }
+        ≡ fresh_by (map (λ k. meaning (k.vtable, k.value)) kinds.now.list.items) (Some unit.now)) }
 {
     let width = kinds.kind(usize::from(unit.kind)).words();
     let words = vec![in alloc; 0; unit.slots as usize * usize::from(width)]?;
