@@ -143,8 +143,8 @@ value_failed unit first i vs failed log log' log'' told told' told'' words words
     let d : length (drop i vs) ≡ length vs - i = length-drop i vs in
     let n : length (writes_from (first + i) (drop i vs)) ≡ length (drop i vs) = length_writes (first + i) (drop i vs) in
     subst (λ b. AreWritten unit (writes_from first vs) b log log'' told told'' words words') (sym f)
-      (subst (λ ws. AreWritten unit ws true log log'' told told'' words words') (sym (writes_split i first vs))
-        (stopped_before unit (writes_from first (take i vs)) (writes_from (first + i) (drop i vs)) log log' log'' told told' told'' words words' (omega arith) w e t))
+    (subst (λ ws. AreWritten unit ws true log log'' told told'' words words') (sym (writes_split i first vs))
+    (stopped_before unit (writes_from first (take i vs)) (writes_from (first + i) (drop i vs)) log log' log'' told told' told'' words words' (omega arith) w e t))
 
 -- words 0 of a constant
 abbrev pub three_zeros : List ℕ
@@ -199,7 +199,7 @@ call_keeps items set index node slot t t' writes failed log log' told told' call
 pub call_made : (items set : List NodeTable) (index node slot : ℕ) (t t' : NodeTable) (writes seen : List WordWrite) (failed : Bool) (log log' : Option (List TableEvent)) (told told' : Option (List UnitWords)) → IsCallIn items set index node slot t → t' ≡ with_words t t'.words → seen ≡ writes → AreWritten node writes failed log log' told told' t.words t'.words → AreMade node seen failed log log' told told' set (slice_set items index t')
 call_made items set index node slot t t' writes seen failed log log' told told' call same e w =
     subst (λ ws. AreMade node ws failed log log' told told' set (slice_set items index t')) (sym e)
-      (made_in_set set (slice_set items index t') node t t' writes failed log log' told told' call.here.at (ap (λ l. slice_set l index t') call.view ∙ ap (λ i. slice_set set i t') call.place) same w)
+    (made_in_set set (slice_set items index t') node t t' writes failed log log' told told' call.here.at (ap (λ l. slice_set l index t') call.view ∙ ap (λ i. slice_set set i t') call.place) same w)
 
 -- and the device is that of the set still
 pub call_on_device : (items set : List NodeTable) (index node slot : ℕ) (t : NodeTable) (set' : List NodeTable) (writes : List WordWrite) (failed : Bool) (log log' : Option (List TableEvent)) (told told' : Option (List UnitWords)) (sizes sizes' : List UnitSize) → IsCallIn items set index node slot t → IsOnDevice set sizes told → sizes' ≡ sizes → AreMade node writes failed log log' told told' set set' → IsOnDevice set' sizes' told'

@@ -25,6 +25,10 @@ pub on_ok : {A E : Type 0} (r : Result A E) (P : Type 0) → (is_err r ≡ false
 on_ok (Ok x) P h = h refl
 on_ok (Err e) P h = tt
 
+pub on_ok_then : {A E : Type 0} (r : Result A E) (P Q : Type 0) → (P → Q) → OnOk r P → OnOk r Q
+on_ok_then (Ok x) P Q h p = h p
+on_ok_then (Err e) P Q h p = tt
+
 pub on_err : {A E : Type 0} (r : Result A E) (P : Type 0) → (is_err r ≡ true → P) → OnErr r P
 on_err (Ok x) P h = tt
 on_err (Err e) P h = h refl
@@ -100,15 +104,15 @@ clear_stands set set' node slot t s e =
     e
     ∙ ap (λ ws. set_after node ws set) (clears_of_table set node slot t s.at)
     ∙ same_change set node t (λ u. with_words u (words_after (clears_from (slot * t.width) t.width) u.words)) (λ u. with_words u (put_over u.words (slot * u.width) (replicate (width_in set node) 0))) s.at
-      (ap (with_words t) (after_clears t.width (slot * t.width) t.words s.sized.least s.room ∙ ap (λ o. put_over t.words (slot * t.width) (replicate (width_of_table o) 0)) (sym s.at)))
+    (ap (with_words t) (after_clears t.width (slot * t.width) t.words s.sized.least s.room ∙ ap (λ o. put_over t.words (slot * t.width) (replicate (width_of_table o) 0)) (sym s.at)))
 
 -- while a slot is cleared it is as it was, or holds no record
 pub clear_stopped : (set set' : List NodeTable) (node slot made : ℕ) (t : NodeTable) → IsSlot set node slot t → set' ≡ set_after node (take made (clear_writes set node slot)) set → (set' ≡ set) ⊎ ((kinds : List Meaning) → All IsLawful kinds → IsTrue (fits_kinds kinds set) → record_kept kinds set' node slot ≡ None)
 clear_stopped set set' node slot zero t s e = inl (e ∙ no_change set node (λ u. with_words u u.words) (λ u. refl))
 clear_stopped set set' node slot (suc made) t s e = inr (λ kinds lawful fits.
     half_none kinds lawful set set' node slot t s (kind_of_slot kinds set node slot t s fits) (take (suc made) (clears_from (slot * t.width) t.width))
-      (e ∙ ap (λ ws. set_after node (take (suc made) ws) set) (clears_of_table set node slot t s.at))
-      (gate_clear t.width slot made t.words s.sized.least s.room))
+    (e ∙ ap (λ ws. set_after node (take (suc made) ws) set) (clears_of_table set node slot t s.at))
+    (gate_clear t.width slot made t.words s.sized.least s.room))
 
 -- writes keep the units and that the set fits kinds
 pub units_stay : (writes : List WordWrite) (set set' : List NodeTable) (node : ℕ) → set' ≡ set_after node writes set → units_of set' ≡ units_of set
@@ -142,7 +146,7 @@ module _ (kinds : List Meaning) (lawful : All IsLawful kinds) (set : List NodeTa
       e
       ∙ ap (λ ws. set_after node ws set) (puts_of_table kinds set node slot r t s.at)
       ∙ same_change set node t (λ u. with_words u (words_after (writes_from (slot * t.width) (packed_for kinds t.unit r)) u.words)) (λ u. with_words u (put_over u.words (slot * u.width) (packed_in kinds set node r))) s.at
-        (ap (with_words t) (after_puts (packed_for kinds t.unit r) t.words (slot * t.width) (let l = s.room in let m = many in omega arith) ∙ ap (put_over t.words (slot * t.width)) (sym of_set)))
+      (ap (with_words t) (after_puts (packed_for kinds t.unit r) t.words (slot * t.width) (let l = s.room in let m = many in omega arith) ∙ ap (put_over t.words (slot * t.width)) (sym of_set)))
 
   -- the words of the slot are then those of the record
   slot_is : slot_words k.kind.words (put_over t.words (slot * t.width) (packed_in kinds set node r)) slot ≡ k.kind.pack (unit_shape s.part) r

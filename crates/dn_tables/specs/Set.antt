@@ -151,6 +151,10 @@ fresh_by kinds (Some u) = record {
 abbrev pub fresh_set : List Meaning → List NodeDecl → List NodeTable
 fresh_set kinds net = map (λ n. fresh_by kinds n.unit) net
 
+-- the words of a table are 0
+abbrev pub is_zero : NodeTable → Bool
+is_zero t = list_all (λ w. w == 0) t.words
+
 -- the table of one node is changed
 abbrev pub with_table : List NodeTable → ℕ → (NodeTable → NodeTable) → List NodeTable
 with_table [] node change = []

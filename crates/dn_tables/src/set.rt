@@ -1,13 +1,14 @@
 //! The tables of all units of a net.
 
-ghost use Rattle.std.specs.Prelude.{◌≡◌, ℕ, ◌+◌, ◌-◌, ◌<◌, ◌⊎◌, [], length, map, replicate, slice_get, List, Option, Some, None, IsSome, IfOk, OnOk, OnErr, IsTrue, is_err, is_ok};
-ghost use Rattle.std.specs.List.{All};
-ghost use Rattle.dn_base.specs.Device.{is_make_fault};
+ghost use Rattle.std.specs.Prelude.{◌≡◌, ℕ, ◌+◌, ◌-◌, ◌^◌, ◌<◌, ◌≤◌, ◌⊎◌, ◌++◌, [], ◌∷◌, false, length, map, replicate, slice_get, List, Option, Some, None, IsSome, IfOk, OnOk, OnErr, IsTrue, is_err, is_ok};
+ghost use Rattle.std.specs.List.{All, list_all};
+ghost use Rattle.std.specs.Option.{option_map};
+ghost use Rattle.dn_base.specs.Device.{Logged, has_unit, is_make_fault, sizes_of};
 ghost use Rattle.dn_base.specs.Outside.{IsCounted};
 ghost use Rattle.dn_kind.specs.Kind.{Meaning, IsLawful};
 ghost use Rattle.dn_kind.specs.Units.{KeepsUnitShape};
-ghost use Rattle.dn_tables.specs.Set.{FitsNet, IsEmpty, IsOnDevice, IsPackableIn, IsSet, fits_kinds, fresh_set, has_slot, packed_in, record_kept, tables_of_set, unit_in, units_of, use_in, width_in, with_slot, with_use, words_in};
-ghost use Rattle.dn_tables.specs.Writes.{AreMade, AreUnitsMade, clear_writes, put_writes};
+ghost use Rattle.dn_tables.specs.Set.{FitsNet, IsEmpty, IsOnDevice, IsPackableIn, IsSet, fits_kinds, fresh_set, has_slot, is_sized, is_zero, packed_in, record_kept, table_on_device, tables_of_set, unit_in, units_of, use_in, width_in, with_slot, with_use, words_in};
+ghost use Rattle.dn_tables.specs.Writes.{AreMade, AreUnitsMade, clear_writes, make_event, put_writes};
 
 use crate::table::{NodeTable, SlotUse};
 use dn_base::device::{DeviceFault, MakeFault, Tables};
@@ -69,7 +70,7 @@ impl TableSet {
             (D.faults device.new) (is_make_fault result) }
     {
         let set = fresh(alloc, net, kinds)?;
-        make_units(&set, device)?;
+        make_units(set.nodes.as_slice(), device)?;
         Ok(set)
     }
 
@@ -257,18 +258,41 @@ fn fresh(alloc: Global, net: &Net, kinds: &Kinds) -> Result<TableSet, AllocError
     Ok(TableSet { nodes })
 }
 
-/// Makes the units of a set on a device.
-fn make_units<D: Tables>(set: &TableSet, device: &mut D) -> Result<(), MakeFault>
+/// Makes the units of nodes on a device that has none.
+fn make_units<D: Tables>(nodes: &[NodeTable], device: &mut D) -> Result<(), MakeFault>
+    requires few { length nodes.now ≤ 1024 }
+    requires sized { IsTrue (list_all is_sized nodes.now) }
+    requires zero { IsTrue (list_all is_zero nodes.now) }
     requires none { D.units device.old ≡ [] }
-    ensures made { AreUnitsMade (tables_of_set set.now)
+    ensures made { AreUnitsMade (tables_of_set nodes.now)
         (is_ok result) (is_make_fault result) (D.log device.old) (D.log device.new)
         (D.units device.new) (D.words device.old) (D.words device.new) }
     ensures counted { IsCounted (D.faults device.old) (D.faults device.new) (is_make_fault result) }
 {
-    for (node, table) in set.nodes.iter().enumerate() {
-        if table.unit.is_some() {
-            device.make(node as u16, table.words.as_slice().len() as u32)?;
-        }
+    for (node, table) in nodes.iter().enumerate() {
+        make_unit(table, node as u16, device)?;
     }
     Ok(())
+}
+
+/// Makes the unit of a node, where it is one.
+fn make_unit<D: Tables>(table: &NodeTable, node: u16, device: &mut D) -> Result<(), MakeFault>
+    requires few { length table.now.words < 2 ^ 32 }
+    requires zero { IsTrue (is_zero table.now) }
+    requires new { has_unit (D.units device.old) node ≡ false }
+    ensures units { OnOk result (D.units device.new ≡ D.units device.old
+        ++ sizes_of (table_on_device node table.now.words table.now.unit)) }
+    ensures words { OnOk result (D.words device.new ≡ option_map
+        (λ told. told ++ table_on_device node table.now.words table.now.unit) (D.words device.old)) }
+    ensures logged { OnOk result (Logged (D.log device.old) (D.log device.new)
+        (map make_event (table_on_device node table.now.words table.now.unit))) }
+    ensures some { OnErr result (IsSome table.now.unit) }
+    ensures same { OnErr result ((D.units device.new ≡ D.units device.old)
+        × (D.words device.new ≡ D.words device.old) × (D.log device.new ≡ D.log device.old)) }
+    ensures counted { IsCounted (D.faults device.old) (D.faults device.new) (is_make_fault result) }
+{
+    match &table.unit {
+        Some(_) => device.make(node, table.words.as_slice().len() as u32),
+        None => Ok(()),
+    }
 }
