@@ -117,5 +117,5 @@ pub spelled_small : (n : ℕ) (bs : List ℕ) → AreBytes bs → IsTrue (list_a
 spelled_small zero bs all = refl
 spelled_small (suc n) bs all =
     and_from (nat_lt (little_number 8 bs) (2 ^ 64)) (list_all (λ w. nat_lt w (2 ^ 64)) (words_spelled n (drop 8 bs)))
-      (lt-ltb (little_number 8 bs) (2 ^ 64) (little_from-lt 0 8 bs (λ k. byte_small bs k all)))
-      (spelled_small n (drop 8 bs) (bytes_left 8 bs all))
+    (lt-ltb (little_number 8 bs) (2 ^ 64) (little_from-lt 0 8 bs (λ k. byte_small bs k all)))
+    (spelled_small n (drop 8 bs) (bytes_left 8 bs all))

@@ -64,9 +64,10 @@ node_again kinds node (Some u) ws rest f =
     let count : length ws ≡ n = r.0 in
     let long : length (word_bytes ws) ≡ 8 * length ws = length_words ws in
     let joined : (head ++ word_bytes ws) ++ rest ≡ head ++ (word_bytes ws ++ rest) = append_assoc head (word_bytes ws) rest in
-    let behind : drop 8 ((head ++ word_bytes ws) ++ rest) ≡ word_bytes ws ++ rest = ap (drop 8) joined ∙ drop_at head (word_bytes ws ++ rest) 8 refl in
-    (ap (words_spelled n) behind ∙ ap (λ k. words_spelled k (word_bytes ws ++ rest)) (sym count) ∙ words_again ws rest r.1,
-     sym (drop-drop (8 * n) 8 ((head ++ word_bytes ws) ++ rest)) ∙ ap (drop (8 * n)) behind ∙ drop_at (word_bytes ws) rest (8 * n) (omega arith))
+    let behind : drop 8 ((head ++ word_bytes ws) ++ rest) ≡ word_bytes ws ++ rest = ap (drop 8) joined ∙ drop_at head (word_bytes ws ++ rest) 8 refl in (
+      ap (words_spelled n) behind ∙ ap (λ k. words_spelled k (word_bytes ws ++ rest)) (sym count) ∙ words_again ws rest r.1,
+      sym (drop-drop (8 * n) 8 ((head ++ word_bytes ws) ++ rest)) ∙ ap (drop (8 * n)) behind ∙ drop_at (word_bytes ws) rest (8 * n) (omega arith),
+    )
 
 nodes_again : (kinds : List Meaning) (node : ℕ) (ns : List NodeDecl) (words : List (List ℕ)) (rest : List ℕ) → IsTrue (are_filled kinds ns words) → words_from kinds ns (units_bytes kinds node ns words ++ rest) ≡ words
 nodes_again kinds node [] [] rest f = refl
@@ -131,15 +132,16 @@ node_back kinds total place node (Some u) fs rest all e =
     let w = words_right total n fs (drop 8 rest) r.later in
     let bytes : AreBytes (drop 8 rest) = bytes_left 8 rest all in
     let words : word_bytes (words_spelled n (drop 8 rest)) ≡ take (8 * n) (drop 8 rest) = bytes_of_words n (drop 8 rest) w.0 bytes in
-    let behind : drop (8 * n) (drop 8 rest) ≡ drop (8 + 8 * n) rest = drop-drop (8 * n) 8 rest in
-    (sym (take-append-drop 8 rest)
-     ∙ ap (λ (l : List ℕ). take 8 rest ++ l) (sym (take-append-drop (8 * n) (drop 8 rest)))
-     ∙ sym (append_assoc (take 8 rest) (take (8 * n) (drop 8 rest)) (drop (8 * n) (drop 8 rest)))
-     ∙ ap (λ (l : List ℕ). (l ++ take (8 * n) (drop 8 rest)) ++ drop (8 * n) (drop 8 rest)) (sym given)
-     ∙ ap (λ (l : List ℕ). (head ++ l) ++ drop (8 * n) (drop 8 rest)) (sym words)
-     ∙ ap (λ (l : List ℕ). (head ++ word_bytes (words_spelled n (drop 8 rest))) ++ l) behind,
-     and_from (length (words_spelled n (drop 8 rest)) == n) (list_all (λ w. nat_lt w (2 ^ 64)) (words_spelled n (drop 8 rest))) (eq-eqb (length (words_spelled n (drop 8 rest))) n (length_spelled n (drop 8 rest))) (spelled_small n (drop 8 rest) bytes),
-     ap (broken_in total fs) (sym behind) ∙ w.1)
+    let behind : drop (8 * n) (drop 8 rest) ≡ drop (8 + 8 * n) rest = drop-drop (8 * n) 8 rest in (
+      sym (take-append-drop 8 rest)
+          ∙ ap (λ (l : List ℕ). take 8 rest ++ l) (sym (take-append-drop (8 * n) (drop 8 rest)))
+          ∙ sym (append_assoc (take 8 rest) (take (8 * n) (drop 8 rest)) (drop (8 * n) (drop 8 rest)))
+          ∙ ap (λ (l : List ℕ). (l ++ take (8 * n) (drop 8 rest)) ++ drop (8 * n) (drop 8 rest)) (sym given)
+          ∙ ap (λ (l : List ℕ). (head ++ l) ++ drop (8 * n) (drop 8 rest)) (sym words)
+          ∙ ap (λ (l : List ℕ). (head ++ word_bytes (words_spelled n (drop 8 rest))) ++ l) behind,
+      and_from (length (words_spelled n (drop 8 rest)) == n) (list_all (λ w. nat_lt w (2 ^ 64)) (words_spelled n (drop 8 rest))) (eq-eqb (length (words_spelled n (drop 8 rest))) n (length_spelled n (drop 8 rest))) (spelled_small n (drop 8 rest) bytes),
+      ap (broken_in total fs) (sym behind) ∙ w.1,
+    )
 
 nodes_back : (kinds : List Meaning) (total place node : ℕ) (ns : List NodeDecl) (rest : List ℕ) → AreBytes rest → broken_in total (units_fields kinds place node ns) rest ≡ None → (rest ≡ units_bytes kinds node ns (words_from kinds ns rest)) × IsTrue (are_filled kinds ns (words_from kinds ns rest))
 nodes_back kinds total place node [] rest all e = (ended total rest e, refl)
@@ -147,9 +149,10 @@ nodes_back kinds total place node (n ∷ ns) rest all e =
     let gs : List Field = units_fields kinds (count_unit n.unit place) (suc node) ns in
     let b = node_back kinds total place node n.unit gs rest all e in
     let left : List ℕ = drop (node_size kinds n.unit) rest in
-    let r = nodes_back kinds total (count_unit n.unit place) (suc node) ns left (bytes_left (node_size kinds n.unit) rest all) b.2 in
-    (b.0 ∙ ap (λ (l : List ℕ). unit_bytes kinds node n.unit (node_words kinds n.unit rest) ++ l) r.0,
-     and_from (is_filled kinds n.unit (node_words kinds n.unit rest)) (are_filled kinds ns (words_from kinds ns left)) b.1 r.1)
+    let r = nodes_back kinds total (count_unit n.unit place) (suc node) ns left (bytes_left (node_size kinds n.unit) rest all) b.2 in (
+      b.0 ∙ ap (λ (l : List ℕ). unit_bytes kinds node n.unit (node_words kinds n.unit rest) ++ l) r.0,
+      and_from (is_filled kinds n.unit (node_words kinds n.unit rest)) (are_filled kinds ns (words_from kinds ns left)) b.1 r.1,
+    )
 
 version_given : (given : List ℕ) → version_field.wrong given ≡ None → IsTrue (is_version (little_number 2 given))
 version_given given e = go (is_version (little_number 2 given)) refl e

@@ -112,7 +112,7 @@ reading_by (Some b) x = Err b
 abbrev pub image_reading : List NodeDecl → List Meaning → List ℕ → Result ImageWords BrokenImage
 image_reading net kinds bytes =
     reading_by (broken_image net kinds bytes)
-        (record { version = version_of bytes; words = image_words net kinds bytes })
+    (record { version = version_of bytes; words = image_words net kinds bytes })
 
 -- what a fault says of the bytes; want of memory says nothing
 abbrev pub image_fault_view : ImageFault → Option BrokenImage

@@ -29,7 +29,7 @@ pub fn check(net: &Net, kinds: &Kinds, bytes: &[u8]) -> Result<u16, ImageFault>
     requires shaped { KeepsUnitShape (map (λ k. meaning (k.vtable, k.value)) kinds.now.list.items) net.now }
     ensures exact { Answers (λ version. version) image_fault_view result
         (reading_by (broken_image net.now (map (λ k. meaning (k.vtable, k.value)) kinds.now.list.items) bytes.now)
-            (version_of bytes.now)) }
+        (version_of bytes.now)) }
     ensures memory { result ≢ Err ImageFault.OutOfMemory }
 {
     let version = check_header(net, bytes)?;

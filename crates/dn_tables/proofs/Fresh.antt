@@ -20,7 +20,7 @@ use Rattle.std.proofs.Math.Nat.{mul-le-mul_right}
 use Rattle.dn_kind.specs.declared.shape.Shape.{Shape}
 use Rattle.dn_tables.proofs.Kept.{IsSizedUnit, sized_unit}
 use Rattle.dn_tables.specs.declared.table.NodeTable.{NodeTable}
-use Rattle.dn_tables.specs.Set.{is_sized, is_sized_by, fits_by, fits_kinds, is_wide, width_by, fresh_by, fresh_set, unused, units_of, IsSet, is_zero, table_on_device, tables_from, tables_of_set, IsOnDevice}
+use Rattle.dn_tables.specs.Set.{is_sized, is_sized_by, fits_by, fits_kinds, is_wide, width_by, fresh_by, fresh_set, unused, units_of, IsSet, FitsNet, is_zero, table_on_device, tables_from, tables_of_set, IsOnDevice}
 use Rattle.dn_tables.specs.Writes.{make_event, AreUnitsMade}
 
 -- a unit that is shaped has a kind
@@ -95,6 +95,9 @@ fresh_is_set kinds lawful net shaped few = record {
   few = le-leb (length (fresh_set kinds net)) 1024 (let e = fresh_length kinds net in omega arith);
   sized = fresh_all_sized kinds lawful net shaped.shaped;
 }
+
+pub fresh_fits_net : (kinds : List Meaning) (net : List NodeDecl) → KeepsUnitShape kinds net → FitsNet net kinds (fresh_set kinds net)
+fresh_fits_net kinds net shaped = record { units = fresh_units kinds net; wide = fresh_fits_kinds kinds net shaped.shaped }
 
 -- what holds of each unit of a net holds of the unit of a node
 pub shape_there : (kinds : List Meaning) (net : List NodeDecl) (i : ℕ) (o : Option UnitPart) → KeepsUnitShape kinds net → option_map (λ d. d.unit) (slice_get net i) ≡ Some o → IsTrue (has_shape kinds o)
