@@ -13,7 +13,7 @@ short_field total f fs rest l = ap (λ b. if b then Some (ends total) else first
 
 -- a field that is there
 pub field_there : (total : ℕ) (f : Field) (fs : List Field) (rest : List ℕ) → f.size ≤ length rest → broken_in total (f ∷ fs) rest ≡ first_wrong (f.wrong (take f.size rest)) (broken_in total fs (drop f.size rest))
-field_there total f fs rest l = ap (λ b. if b then Some (ends total) else first_wrong (f.wrong (take f.size rest)) (broken_in total fs (drop f.size rest))) (le-ltb f.size (length rest) l)
+field_there total f fs rest l = ap (λ b. if b then Some (ends total) else first_wrong (f.wrong (take f.size rest)) (broken_in total fs (drop f.size rest))) (le-ltb (length rest) f.size l)
 
 -- one with which nothing is wrong
 pub right_field : (total : ℕ) (f : Field) (fs : List Field) (rest : List ℕ) → f.size ≤ length rest → f.wrong (take f.size rest) ≡ None → broken_in total (f ∷ fs) rest ≡ broken_in total fs (drop f.size rest)
@@ -54,16 +54,16 @@ words_there total (suc n) fs rest l =
 -- or the bytes end before they do
 pub words_short : (total n : ℕ) (fs : List Field) (rest : List ℕ) → length rest < 8 * n → broken_in total (replicate n word_field ++ fs) rest ≡ Some (ends total)
 words_short total zero fs rest l = absurd (omega arith)
-words_short total (suc n) fs rest l = go (nat_lt (length rest) 8) refl
+words_short total (suc n) fs rest l = go (λ h. words_short total n fs (drop 8 rest) (later h)) (nat_lt (length rest) 8) refl
   where
     later : 8 ≤ length rest → length (drop 8 rest) < 8 * n
     later h = let d : length (drop 8 rest) ≡ length rest - 8 = length-drop 8 rest in omega arith
 
-    go : (b : Bool) → nat_lt (length rest) 8 ≡ b → broken_in total (replicate (suc n) word_field ++ fs) rest ≡ Some (ends total)
-    go true e = short_field total word_field (replicate n word_field ++ fs) rest (ltb-true (length rest) 8 e)
-    go false e =
+    go : (8 ≤ length rest → broken_in total (replicate n word_field ++ fs) (drop 8 rest) ≡ Some (ends total)) → (b : Bool) → nat_lt (length rest) 8 ≡ b → broken_in total (replicate (suc n) word_field ++ fs) rest ≡ Some (ends total)
+    go next true e = short_field total word_field (replicate n word_field ++ fs) rest (ltb-true (length rest) 8 e)
+    go next false e =
         let h : 8 ≤ length rest = ltb-false (length rest) 8 e in
-        right_field total word_field (replicate n word_field ++ fs) rest h refl ∙ words_short total n fs (drop 8 rest) (later h)
+        right_field total word_field (replicate n word_field ++ fs) rest h refl ∙ next h
 
 -- nothing is wrong with a field and those behind it
 pub record IsRight (total : ℕ) (f : Field) (fs : List Field) (rest : List ℕ) : Type 0 where
@@ -90,4 +90,7 @@ words_right total n fs rest e = go (nat_lt (length rest) (8 * n)) refl
 -- and after the last field the bytes end
 pub ended : (total : ℕ) (rest : List ℕ) → broken_in total [] rest ≡ None → rest ≡ []
 ended total [] e = refl
-ended total (b ∷ bs) e = cc
+ended total (b ∷ bs) e =
+    let more : nat_lt 0 (length (b ∷ bs)) ≡ true = lt-ltb 0 (length (b ∷ bs)) (omega arith) in
+    let f : ◌≡◌ {A = Option BrokenImage} (Some (trails (total - length (b ∷ bs)))) None = sym (ap (λ c. if c then Some (trails (total - length (b ∷ bs))) else None) more) ∙ e in
+    cc

@@ -79,6 +79,10 @@ words_again (w ∷ ws) rest all =
     ∙ ap (λ (bs : List ℕ). w ∷ words_spelled (length ws) bs) (drop_at (little_bytes 8 w) (word_bytes ws ++ rest) 8 (length_word w))
     ∙ ap (λ (l : List ℕ). w ∷ l) (words_again ws rest b.1)
 
+take_none : (k : ℕ) → take {A = ℕ} k [] ≡ []
+take_none zero = refl
+take_none (suc k) = refl
+
 -- bytes are those of the words that they spell
 pub bytes_of_words : (n : ℕ) (bs : List ℕ) → 8 * n ≤ length bs → AreBytes bs → word_bytes (words_spelled n bs) ≡ take (8 * n) bs
 bytes_of_words zero bs l all = refl
@@ -94,11 +98,7 @@ bytes_of_words (suc n) bs l all =
   where
     front_then : (a b : ℕ) (xs : List ℕ) → take a xs ++ take b (drop a xs) ≡ take (a + b) xs
     front_then zero b xs = let e : 0 + b ≡ b = omega arith in ap (λ k. take k xs) (sym e)
-    front_then (suc a) b [] = none b ∙ sym (none (suc a + b))
-      where
-        none : (k : ℕ) → take k [] ≡ []
-        none zero = refl
-        none (suc k) = refl
+    front_then (suc a) b [] = take_none b ∙ sym (take_none (suc a + b))
     front_then (suc a) b (x ∷ xs) =
         let e : suc a + b ≡ suc (a + b) = omega arith in
         ap (λ (l : List ℕ). x ∷ l) (front_then a b xs) ∙ ap (λ k. take k (x ∷ xs)) (sym e)

@@ -100,10 +100,10 @@ pub record ImageWords : Type 0 where
   pub words : List (List ℕ)
 
 -- bytes are the image of these tables in this version
-pub record IsImageOf (net : List NodeDecl) (kinds : List Meaning) (bytes : List ℕ) (i : ImageWords) : Type 0 where
+pub record IsImageOf (net : List NodeDecl) (kinds : List Meaning) (given : List ℕ) (i : ImageWords) : Type 0 where
   pub version : IsTrue (is_version i.version)
   pub filled : IsTrue (are_filled kinds net i.words)
-  pub bytes : bytes ≡ image_of i.version net kinds i.words
+  pub bytes : given ≡ image_of i.version net kinds i.words
 
 -- the tables of an image: in version 2 its words; in version 1 they have 0 in each slot whose record does not allow both
 -- reading and writing

@@ -53,7 +53,7 @@ fn check_header(net: &Net, bytes: &[u8]) -> Result<u16, ImageFault>
     if bytes.len() < 4 {
         return Err(short);
     }
-    if bytes[..4] != MARK {
+    if bytes[..4] != MARK[..] {
         return Err(ImageFault::Header { at: 0 });
     }
     if bytes.len() < 6 {
@@ -119,7 +119,8 @@ fn check_unit(
         return Err(short);
     }
     let width = kinds.kind(usize::from(unit.kind)).words();
-    if rest[..8] != head(node, width, unit.slots) {
+    let wanted = head(node, width, unit.slots);
+    if rest[..8] != wanted[..] {
         return Err(ImageFault::Shape { unit: place });
     }
     let size = 8 + 8 * unit.slots as usize * usize::from(width);
