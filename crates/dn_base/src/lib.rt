@@ -7,13 +7,16 @@
 //! fails, and whether it answers each fault by the call in which it comes, as all four objects here do:
 //! then a call that answers no fault leaves the count. [`memory`] has both in memory, with a list of
 //! calls that fail, [`streams`] has both over the system's readers and writers, and [`whole`] reads a
-//! whole text and writes one. [`items::Items`] and [`text::Text`] are what structs
+//! whole text and writes one. A [`device::Tables`] is what tables of translation units are written to, and
+//! [`memory_tables`] has one in memory. [`items::Items`] and [`text::Text`] are what structs
 //! keep in place of a `Vec` or a `String`, so that contracts see the list or the bytes alone.
 #![tactic(auto)]
 
 mod calls;
+pub mod device;
 pub mod items;
 pub mod memory;
+pub mod memory_tables;
 pub mod sink;
 pub mod source;
 pub mod streams;

@@ -1,0 +1,117 @@
+//! The words that an image says.
+
+ghost use Rattle.std.specs.Prelude.{◌≡◌, ◌*◌, ◌<◌, ◌≤◌, [], length, map, slice_index_or, IfOk, None, Ok};
+ghost use Rattle.std.specs.List.{All};
+ghost use Rattle.dn_base.specs.Answers.{Answers};
+ghost use Rattle.dn_kind.specs.Kind.{IsLawful};
+ghost use Rattle.dn_kind.specs.Units.{KeepsUnitShape};
+ghost use Rattle.dn_image.specs.Bytes.{words_spelled};
+ghost use Rattle.dn_image.specs.Image.{ImageWords, IsImageOf};
+ghost use Rattle.dn_image.specs.Reading.{broken_image, image_fault_view, image_reading, image_words};
+
+use crate::check::{HEADER, check};
+use crate::fault::ImageFault;
+use byteorder::{ByteOrder, LittleEndian};
+use dn_base::items::Items;
+use dn_kind::kinds::Kinds;
+use dn_net::net::Net;
+use std::alloc::{AllocError, Global};
+use std::marker::Model;
+
+/// What an image says: its version, and the words of each node of its net.
+#[derive(Drop)]
+pub struct Image {
+    version: u16,
+    words: Vec<Items<u64>>,
+}
+
+impl Model for Image {
+    ghost use Rattle.dn_image.specs.Image.{ImageWords};
+
+    ghost Value = { ImageWords };
+
+    ghost view = { λ i. record { version = i.version; words = i.words.items } };
+}
+
+impl Image {
+    /// The version of the bytes, 1 or 2.
+    pub fn version(&self) -> u16
+        ensures { result ≡ self.now.version }
+    {
+        self.version
+    }
+
+    /// The words of a node, of which a node that is no unit has none.
+    pub fn words(&self, unit: u16) -> &[u64]
+        requires { unit < length self.now.words }
+        ensures { result.now ≡ slice_index_or self.now.words unit [] }
+    {
+        self.words[usize::from(unit)].as_slice()
+    }
+}
+
+/// Reads an image of the net, of version 1 or 2, whoever made it.
+///
+/// # Errors
+///
+/// The first field that is not as in an image of the net, with its place: `Short`, `Header`, `Shape`
+/// or `Trailing`. `OutOfMemory` where there is no memory for the words.
+pub fn read(alloc: Global, net: &Net, kinds: &Kinds, bytes: &[u8]) -> Result<Image, ImageFault>
+    requires lawful { All (λ k. IsLawful (meaning (k.vtable, k.value))) kinds.now.list.items }
+    requires shaped { KeepsUnitShape (map (λ k. meaning (k.vtable, k.value)) kinds.now.list.items) net.now }
+    ensures exact { Answers (λ i. i) image_fault_view result
+        (image_reading net.now (map (λ k. meaning (k.vtable, k.value)) kinds.now.list.items) bytes.now) }
+    // What is read is an image, with these words and this version.
+    ensures found { IfOk result (λ i.
+        IsImageOf net.now (map (λ k. meaning (k.vtable, k.value)) kinds.now.list.items) bytes.now i) }
+    // And each image is read, unless memory is wanting.
+    ensures only { (i : ImageWords) →
+        IsImageOf net.now (map (λ k. meaning (k.vtable, k.value)) kinds.now.list.items) bytes.now i →
+        Answers (λ i. i) image_fault_view result (Ok i) }
+{
+    let version = check(net, kinds, bytes)?;
+    let words = read_words(alloc, net, kinds, bytes)?;
+    Ok(Image { version, words })
+}
+
+/// The words of each node.
+fn read_words(
+    alloc: Global,
+    net: &Net,
+    kinds: &Kinds,
+    bytes: &[u8],
+) -> Result<Vec<Items<u64>>, AllocError>
+    requires lawful { All (λ k. IsLawful (meaning (k.vtable, k.value))) kinds.now.list.items }
+    requires shaped { KeepsUnitShape (map (λ k. meaning (k.vtable, k.value)) kinds.now.list.items) net.now }
+    requires whole { broken_image net.now (map (λ k. meaning (k.vtable, k.value)) kinds.now.list.items) bytes.now
+        ≡ None }
+    ensures { IfOk result (λ words. words.items
+        ≡ image_words net.now (map (λ k. meaning (k.vtable, k.value)) kinds.now.list.items) bytes.now) }
+{
+    let mut words = Vec::new(alloc);
+    let mut at = HEADER;
+    for node in 0..net.nodes() {
+        match net.unit(node) {
+            Some(unit) => {
+                let width = kinds.kind(usize::from(unit.kind)).words();
+                let count = unit.slots as usize * usize::from(width);
+                words.push(read_unit(alloc, &bytes[at + 8..], count)?)?;
+                at += 8 + 8 * count;
+            }
+            None => words.push(Items::new(alloc))?,
+        }
+    }
+    Ok(words)
+}
+
+/// So many words that bytes spell.
+fn read_unit(alloc: Global, bytes: &[u8], count: usize) -> Result<Items<u64>, AllocError>
+    requires { 8 * count ≤ length bytes.now }
+    ensures { IfOk result (λ words. words ≡ words_spelled count bytes.now) }
+{
+    let mut words = Vec::with_capacity(alloc, count)?;
+    for word in 0..count {
+        words.push(LittleEndian::read_u64(&bytes[8 * word..]))?;
+    }
+    Ok(Items::from_vec(words))
+}

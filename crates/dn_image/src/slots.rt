@@ -1,0 +1,80 @@
+//! The record that a slot holds in the bytes of an image.
+
+ghost use Rattle.std.specs.Prelude.{◌≡◌, ◌+◌, ◌*◌, ◌<◌, ◌≤◌, ◌++◌, length, map, take, drop, replicate, None, Some, IsTrue};
+ghost use Rattle.std.specs.List.{All};
+ghost use Rattle.dn_kind.specs.Kind.{IsLawful};
+ghost use Rattle.dn_kind.specs.Tables.{record_held};
+ghost use Rattle.dn_kind.specs.Units.{KeepsUnitShape, is_shaped};
+ghost use Rattle.dn_image.specs.Bytes.{words_spelled};
+ghost use Rattle.dn_image.specs.Reading.{broken_image, image_words, node_size, nodes_size};
+
+use crate::check::HEADER;
+use byteorder::{ByteOrder, LittleEndian};
+use dn_kind::kinds::Kinds;
+use dn_kind::slots::held_record;
+use dn_kind::unit_kind::{Record, UnitKind};
+use dn_net::net::Net;
+use dn_net::node::Unit;
+
+/// The record that a slot of a node holds in an image of the net. `None` exactly where the node is
+/// no unit, has not the slot, or the words of the slot are no record of it. It reads the words of
+/// this slot alone, and takes no memory.
+pub fn record_in(net: &Net, kinds: &Kinds, bytes: &[u8], node: u16, slot: u64) -> Option<Record>
+    requires lawful { All (λ k. IsLawful (meaning (k.vtable, k.value))) kinds.now.list.items }
+    requires shaped { KeepsUnitShape (map (λ k. meaning (k.vtable, k.value)) kinds.now.list.items) net.now }
+    requires whole { broken_image net.now (map (λ k. meaning (k.vtable, k.value)) kinds.now.list.items) bytes.now
+        ≡ None }
+    requires there { node < length net.now }
+    ensures { result ≡ record_held net.now (map (λ k. meaning (k.vtable, k.value)) kinds.now.list.items)
+        (image_words net.now (map (λ k. meaning (k.vtable, k.value)) kinds.now.list.items) bytes.now) node slot }
+{
+    let unit = net.unit(node)?;
+    if slot >= u64::from(unit.slots) {
+        return None;
+    }
+    let kind = kinds.kind(usize::from(unit.kind));
+    let width = usize::from(kind.words());
+    let first = words_at(net, kinds, node) + 8 * slot as usize * width;
+    let mut words = [0u64; 4];
+    read_slot(&bytes[first..], &mut words[..width]);
+    held_record(unit, &**kind, &words[..width])
+}
+
+/// Reads as many words as there is room for.
+fn read_slot(bytes: &[u8], words: &mut [u64])
+    requires { 8 * length words.old ≤ length bytes.now }
+    ensures { words.new ≡ words_spelled (length words.old) bytes.now }
+{
+    for word in 0..words.len() {
+        words[word] = LittleEndian::read_u64(&bytes[8 * word..]);
+    }
+}
+
+/// Where the words of a unit begin in an image of the net.
+fn words_at(net: &Net, kinds: &Kinds, node: u16) -> usize
+    requires lawful { All (λ k. IsLawful (meaning (k.vtable, k.value))) kinds.now.list.items }
+    requires shaped { KeepsUnitShape (map (λ k. meaning (k.vtable, k.value)) kinds.now.list.items) net.now }
+    requires there { node < length net.now }
+    ensures { result ≡ 16
+        + nodes_size (map (λ k. meaning (k.vtable, k.value)) kinds.now.list.items) (take node net.now) }
+{
+    net.facts();
+    let mut at = HEADER;
+    for before in 0..node {
+        if let Some(unit) = net.unit(before) {
+            at += unit_size(unit, kinds);
+        }
+    }
+    at + 8
+}
+
+/// How many bytes a unit has in an image: its head and its words.
+fn unit_size(unit: &Unit, kinds: &Kinds) -> usize
+    requires lawful { All (λ k. IsLawful (meaning (k.vtable, k.value))) kinds.now.list.items }
+    requires shaped { IsTrue (is_shaped (map (λ k. meaning (k.vtable, k.value)) kinds.now.list.items) unit.now) }
+    ensures size { result ≡ node_size (map (λ k. meaning (k.vtable, k.value)) kinds.now.list.items) (Some unit.now) }
+    ensures small { result ≤ 8388616 }
+{
+    let width = kinds.kind(usize::from(unit.kind)).words();
+    8 + 8 * unit.slots as usize * usize::from(width)
+}

@@ -1,0 +1,115 @@
+//! The image of a set of tables.
+
+ghost use Rattle.std.specs.Prelude.{◌≡◌, ◌++◌, ◌+◌, ◌*◌, ◌<◌, ◌≤◌, ◌^◌, length, map, take, slice_get, Some, IfOk, OnOk, IsTrue};
+ghost use Rattle.std.specs.List.{All};
+ghost use Rattle.byteorder.specs.Endian.{little_bytes};
+ghost use Rattle.dn_kind.specs.Kind.{IsLawful};
+ghost use Rattle.dn_tables.specs.Set.{FitsNet, words_of};
+ghost use Rattle.dn_image.specs.Bytes.{word_bytes};
+ghost use Rattle.dn_image.specs.Image.{head_of, image, mark, unit_count, written_version};
+
+use byteorder::{ByteOrder, LittleEndian};
+use dn_kind::kinds::Kinds;
+use dn_net::net::Net;
+use dn_net::node::Unit;
+use dn_tables::set::TableSet;
+use std::alloc::{AllocError, Global};
+
+/// The mark with which an image begins.
+pub(crate) const MARK: [u8; 4] = *b"DNIM";
+
+/// The version that is written.
+pub const VERSION: u16 = 2;
+
+/// The image of the tables. `Err` is want of memory, of which it takes once what the image needs.
+pub fn write(
+    alloc: Global,
+    net: &Net,
+    kinds: &Kinds,
+    tables: &TableSet,
+) -> Result<Vec<u8>, AllocError>
+    requires lawful { All (λ k. IsLawful (meaning (k.vtable, k.value))) kinds.now.list.items }
+    requires fits { FitsNet net.now (map (λ k. meaning (k.vtable, k.value)) kinds.now.list.items) tables.now }
+    ensures { IfOk result (λ bytes. bytes.items
+        ≡ image net.now (map (λ k. meaning (k.vtable, k.value)) kinds.now.list.items) (words_of tables.now)) }
+{
+    net.facts();
+    tables.facts();
+    let mut out = Vec::with_capacity(alloc, image_size(net, tables))?;
+    push_header(&mut out, count_units(net))?;
+    for node in 0..net.nodes() {
+        if let Some(unit) = net.unit(node) {
+            let width = kinds.kind(usize::from(unit.kind)).words();
+            push_unit(&mut out, node, width, unit, tables.words(node))?;
+        }
+    }
+    Ok(out)
+}
+
+/// How many units the net has.
+pub(crate) fn count_units(net: &Net) -> u16
+    ensures { result ≡ unit_count net.now }
+{
+    let mut count = 0;
+    for node in 0..net.nodes() {
+        if net.unit(node).is_some() {
+            count += 1;
+        }
+    }
+    count
+}
+
+/// How many bytes the image has.
+fn image_size(net: &Net, tables: &TableSet) -> usize {
+    let mut size = 8;
+    for node in 0..net.nodes() {
+        if net.unit(node).is_some() {
+            size += 8 + 8 * tables.words(node).len();
+        }
+    }
+    size
+}
+
+/// Appends the mark, the version and the number of units.
+fn push_header(out: &mut Vec<u8>, units: u16) -> Result<(), AllocError>
+    ensures { OnOk result (out.new.items ≡ out.old.items
+        ++ (mark ++ (little_bytes 2 written_version ++ little_bytes 2 units))) }
+{
+    let mut header = [0u8; 8];
+    header[..4].copy_from_slice(&MARK);
+    LittleEndian::write_u16(&mut header[4..], VERSION);
+    LittleEndian::write_u16(&mut header[6..], units);
+    out.extend_from_slice(&header)
+}
+
+/// Appends a unit's head and its words.
+fn push_unit(
+    out: &mut Vec<u8>,
+    node: u16,
+    width: u8,
+    unit: &Unit,
+    words: &[u64],
+) -> Result<(), AllocError>
+    ensures { OnOk result (out.new.items ≡ out.old.items
+        ++ (head_of node width unit.now.slots ++ word_bytes words.now)) }
+{
+    out.extend_from_slice(&head(node, width, unit.slots))?;
+    for word in words {
+        let mut bytes = [0u8; 8];
+        LittleEndian::write_u64(&mut bytes, *word);
+        out.extend_from_slice(&bytes)?;
+    }
+    Ok(())
+}
+
+/// The head of a unit: its node in two bytes, the words of a record in one, a byte 0, and its slots
+/// in four.
+pub(crate) fn head(node: u16, width: u8, slots: u32) -> [u8; 8]
+    ensures { result ≡ head_of node width slots }
+{
+    let mut head = [0u8; 8];
+    LittleEndian::write_u16(&mut head, node);
+    head[2] = width;
+    LittleEndian::write_u32(&mut head[4..], slots);
+    head
+}

@@ -1,0 +1,44 @@
+use Rattle.std.proofs.Common.{rules, arith, ◌≡◌, ◌∙◌, ◌++◌, [], ◌∷◌, ap, sym, subst, suc, ◌-◌, length, List, IsTrue}
+use Rattle.dn_net.specs.declared.node.Name.{Name}
+use Rattle.dn_net.specs.Decode.{is_accepted, steps, step_limit}
+use Rattle.dn_net.specs.Names.{each_step, passing_names, sorted_names, resolved_names}
+use Rattle.dn_print.specs.Names.{names_exist}
+use Rattle.dn_lookup.proofs.Exists.{resolved_exist}
+use Rattle.dn_lookup.proofs.Levels.{is_empty, resolved_by, resolved_at_start, resolved_next, resolved_at_empty, resolved_at_end, set_resolves, resolved_within}
+use Rattle.dn_lookup.proofs.levels.resolve.Goals as goal
+use Rattle.dn_lookup.proofs.levels.resolve.Goals.{else-loop-test, then-loop-test+then-is_empty}
+
+pub loop-init : goal.loop-init
+loop-init c =
+    let level : c.insert.new.self ≡ c.args.name ∷ [] = search rules in
+    let none : c.new-accepted.result.items ≡ [] = c.new-accepted.ensures.items in
+    record {
+      so_far = ap (λ (l : List Name). resolved_by c.args.net.now (suc step_limit - 0) l c.insert.new.self) none ∙ ap (λ (l : List Name). resolved_by c.args.net.now (suc step_limit - 0) [] l) level ∙ resolved_at_start c.args.net.now c.args.name;
+      there = subst (λ (l : List Name). IsTrue (names_exist (length c.args.net.now) l)) (sym level) (search rules);
+    }
+
+pub loop-preserved : goal.loop-preserved
+loop-preserved c =
+    let same : c.list-in-loop.result.now ≡ c.loop.level = search rules in
+    let more : c.next_level.new.accepted.items ≡ c.loop.accepted.items ++ passing_names (is_accepted c.args.net.now) c.loop.level = c.in_ok-level.ensures.accepted ∙ ap (λ (l : List Name). c.loop.accepted.items ++ passing_names (is_accepted c.args.net.now) l) same in
+    let next : c.in_ok-level.level ≡ sorted_names (each_step (steps c.args.net.now) c.loop.level) = c.in_ok-level.ensures.next ∙ ap (λ (l : List Name). sorted_names (each_step (steps c.args.net.now) l)) same in
+    record {
+      so_far = resolved_next c.args.net.now c.loop.counter c.loop.accepted.items c.next_level.new.accepted.items c.loop.level c.in_ok-level.level (resolved_names c.args.net.now c.args.name) c.loop-test.true c.loop.invariant.so_far more next;
+      there = c.in_ok-level.ensures.there;
+    }
+
+pub returns-clause-resolved : goal.returns-clause-resolved
+returns-clause-resolved c =
+    let whole : sorted_names c.loop.accepted.items ≡ resolved_names c.args.net.now c.args.name = elim c.loop-test.branch [
+      | else-loop-test w ↦ resolved_at_end c.args.net.now c.loop.counter c.loop.accepted.items c.loop.level (resolved_names c.args.net.now c.args.name) (let b = w.loop-test.false in omega arith) c.loop.invariant.so_far
+      | then-loop-test+then-is_empty w ↦ resolved_at_empty c.args.net.now (suc step_limit - c.loop.counter) c.loop.accepted.items c.loop.level (resolved_names c.args.net.now c.args.name) (is_empty c.loop.level (search rules)) c.loop.invariant.so_far
+    ] in
+    set_resolves c.loop.accepted.items (resolved_names c.args.net.now c.args.name) c.set_of.result whole c.set_of.ensures
+
+pub returns-clause-there : goal.returns-clause-there
+returns-clause-there c =
+    let whole : sorted_names c.loop.accepted.items ≡ resolved_names c.args.net.now c.args.name = elim c.loop-test.branch [
+      | else-loop-test w ↦ resolved_at_end c.args.net.now c.loop.counter c.loop.accepted.items c.loop.level (resolved_names c.args.net.now c.args.name) (let b = w.loop-test.false in omega arith) c.loop.invariant.so_far
+      | then-loop-test+then-is_empty w ↦ resolved_at_empty c.args.net.now (suc step_limit - c.loop.counter) c.loop.accepted.items c.loop.level (resolved_names c.args.net.now c.args.name) (is_empty c.loop.level (search rules)) c.loop.invariant.so_far
+    ] in
+    resolved_within (length c.args.net.now) c.loop.accepted.items (resolved_names c.args.net.now c.args.name) c.set_of.result whole (resolved_exist c.args.net.now c.args.name) c.set_of.ensures

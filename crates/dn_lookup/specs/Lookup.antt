@@ -1,0 +1,73 @@
+-- The lookup of an agent's address in the bytes of an image.
+use Rattle.std.specs.Prelude.{◌≡◌, ℕ, Bool, true, false, if◌then◌else◌, ◌==◌, ◌&&◌, nat_lt, List, [], ◌∷◌, slice_get, Option, Some, None, Result, Ok, Err}
+use Rattle.std.specs.List.{list_all}
+use Rattle.dn_net.specs.declared.node.Name.{Name}
+use Rattle.dn_net.specs.declared.node.NodeDecl.{NodeDecl}
+use Rattle.dn_net.specs.Decode.{is_agent_at}
+use Rattle.dn_kind.specs.declared.rights.Access.{Access}
+use Rattle.dn_kind.specs.declared.rights.Access.TheVariants.{Read, Write}
+use Rattle.dn_kind.specs.declared.rights.Rights.{Rights}
+use Rattle.dn_kind.specs.declared.unit_kind.Record.{Record}
+use Rattle.dn_kind.specs.Rights.{allows}
+use Rattle.dn_kind.specs.Kind.{Meaning}
+use Rattle.dn_kind.specs.Tables.{Held, record_held, allowing, resolved_names_under}
+use Rattle.dn_image.specs.Image.{ImageWords, tables_of}
+use Rattle.dn_image.specs.Reading.{BrokenImage, image_reading, image_fault_view, image_words}
+use Rattle.dn_lookup.specs.declared.lookup.LookupFault.{LookupFault}
+use Rattle.dn_lookup.specs.declared.lookup.LookupFault.TheVariants.{NoAgent, Image, OutOfMemory}
+
+-- why there is no lookup: the node is none or no agent, or the bytes are no image of the net
+pub data NoLookup : Type 0 where
+  no_agent : NoLookup
+  no_image : BrokenImage → NoLookup
+
+-- the records of an image that allow an access
+abbrev pub image_records : List NodeDecl → List Meaning → ImageWords → Access → Held
+image_records net kinds i access = allowing access (record_held net kinds (tables_of net kinds i))
+
+-- what a name resolves to for an access under the tables of an image, or what is wrong with the bytes
+abbrev pub looked_up_in : List NodeDecl → List Meaning → Access → Name → Result ImageWords BrokenImage →
+    Result (List Name) NoLookup
+looked_up_in net kinds access x (Ok i) = Ok (resolved_names_under net (image_records net kinds i access) x)
+looked_up_in net kinds access x (Err b) = Err (no_image b)
+
+-- the lookup of an agent's address for an access in bytes
+abbrev pub lookup_of : List NodeDecl → List Meaning → List ℕ → Access → Name → Result (List Name) NoLookup
+lookup_of net kinds bytes access x =
+    if is_agent_at (slice_get net x.node) then looked_up_in net kinds access x (image_reading net kinds bytes)
+    else Err no_agent
+
+-- what a fault says; want of memory says nothing
+abbrev pub no_lookup_by : Option BrokenImage → Option NoLookup
+no_lookup_by None = None
+no_lookup_by (Some b) = Some (no_image b)
+
+abbrev pub lookup_fault_view : LookupFault → Option NoLookup
+lookup_fault_view NoAgent = Some no_agent
+lookup_fault_view (Image fault) = no_lookup_by (image_fault_view fault)
+lookup_fault_view OutOfMemory = None
+
+-- each name is in one of so many nodes
+abbrev pub are_there : ℕ → List Name → Bool
+are_there count xs = list_all (λ x. nat_lt x.node count) xs
+
+-- in an image of this version a record lets an access through where it allows it; in version 1 it allows both or counts
+-- for nothing
+abbrev pub lets_through : ℕ → Access → Rights → Bool
+lets_through version access rights =
+    if version == 1 then allows rights Read && allows rights Write else allows rights access
+
+-- the record, where it lets the access through
+abbrev pub record_through : ℕ → Access → Option Record → Option Record
+record_through version access None = None
+record_through version access (Some r) = if lets_through version access r.rights then Some r else None
+
+-- the records of bytes of this version that let an access through
+abbrev pub bytes_records : List NodeDecl → List Meaning → List ℕ → ℕ → Access → Held
+bytes_records net kinds bytes version access node slot =
+    record_through version access (record_held net kinds (image_words net kinds bytes) node slot)
+
+-- the name, as a list of at most one
+abbrev pub name_list : Option Name → List Name
+name_list None = []
+name_list (Some x) = x ∷ []

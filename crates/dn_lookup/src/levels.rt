@@ -1,0 +1,142 @@
+//! Names level by level: each level has the names one step on from those of the level before it.
+
+ghost use Rattle.std.specs.Prelude.{◌≡◌, ◌++◌, ◌+◌, ◌<◌, ◌^◌, length, map, nat_le, None, IfOk, OnOk, IsTrue};
+ghost use Rattle.std.specs.List.{All, list_all};
+ghost use Rattle.dn_net.specs.Decode.{is_accepted, is_closed, moved, top};
+ghost use Rattle.dn_net.specs.Names.{each_step, passing_names, sorted_names};
+ghost use Rattle.dn_net.specs.Rules.{KeepsNodeRules};
+ghost use Rattle.dn_kind.specs.Kind.{IsLawful};
+ghost use Rattle.dn_kind.specs.Tables.{resolved_names_under, steps_under};
+ghost use Rattle.dn_kind.specs.Units.{KeepsUnitShape};
+ghost use Rattle.dn_image.specs.Reading.{broken_image};
+ghost use Rattle.dn_lookup.specs.Lookup.{are_there, bytes_records};
+
+use crate::output::output;
+use dn_kind::kinds::Kinds;
+use dn_kind::rights::Access;
+use dn_net::names::Names;
+use dn_net::net::Net;
+use dn_net::node::{Dest, Name};
+use dn_net::step::Step;
+use std::alloc::{AllocError, Global};
+
+/// How many levels of names there are: the name itself, and those after each of 1 to 259 steps.
+const LEVELS: u16 = 260;
+
+/// The accepted names that a name reaches in at most 259 steps under the records of an image. `Err`
+/// is want of memory.
+pub(crate) fn resolve(
+    alloc: Global,
+    net: &Net,
+    kinds: &Kinds,
+    bytes: &[u8],
+    version: u16,
+    access: Access,
+    name: Name,
+) -> Result<Names, AllocError>
+    requires lawful { All (λ k. IsLawful (meaning (k.vtable, k.value))) kinds.now.list.items }
+    requires rules { KeepsNodeRules net.now }
+    requires shaped { KeepsUnitShape (map (λ k. meaning (k.vtable, k.value)) kinds.now.list.items) net.now }
+    requires whole { broken_image net.now (map (λ k. meaning (k.vtable, k.value)) kinds.now.list.items) bytes.now
+        ≡ None }
+    requires there { name.node < length net.now }
+    ensures resolved { IfOk result (λ names. names ≡ resolved_names_under net.now
+        (bytes_records net.now (map (λ k. meaning (k.vtable, k.value)) kinds.now.list.items) bytes.now version access)
+        name) }
+    ensures there { IfOk result (λ names. IsTrue (are_there (length net.now) names)) }
+{
+    let mut accepted = Vec::new(alloc);
+    let mut level = Names::new(alloc);
+    level.insert(name)?;
+    for _ in 0..LEVELS {
+        if level.list().is_empty() {
+            break;
+        }
+        level = next_level(
+            alloc,
+            net,
+            kinds,
+            bytes,
+            version,
+            access,
+            level.list(),
+            &mut accepted,
+        )?;
+    }
+    set_of(alloc, accepted)
+}
+
+/// The names one step on from those of a level. Those of the level that are accepted are appended.
+fn next_level(
+    alloc: Global,
+    net: &Net,
+    kinds: &Kinds,
+    bytes: &[u8],
+    version: u16,
+    access: Access,
+    level: &[Name],
+    accepted: &mut Vec<Name>,
+) -> Result<Names, AllocError>
+    requires lawful { All (λ k. IsLawful (meaning (k.vtable, k.value))) kinds.now.list.items }
+    requires rules { KeepsNodeRules net.now }
+    requires shaped { KeepsUnitShape (map (λ k. meaning (k.vtable, k.value)) kinds.now.list.items) net.now }
+    requires whole { broken_image net.now (map (λ k. meaning (k.vtable, k.value)) kinds.now.list.items) bytes.now
+        ≡ None }
+    requires there { IsTrue (are_there (length net.now) level.now) }
+    ensures accepted { OnOk result (accepted.new.items ≡
+        accepted.old.items ++ passing_names (is_accepted net.now) level.now) }
+    ensures next { IfOk result (λ names. names ≡ sorted_names (each_step (steps_under net.now
+        (bytes_records net.now (map (λ k. meaning (k.vtable, k.value)) kinds.now.list.items) bytes.now version access))
+        level.now)) }
+    ensures there { IfOk result (λ names. IsTrue (are_there (length net.now) names)) }
+{
+    let mut next = Vec::new(alloc);
+    for name in level {
+        match net.step(*name) {
+            Step::Accepted => accepted.push(*name)?,
+            Step::To(dests, offset) => push_moved(&mut next, dests, offset)?,
+            Step::Stop => {
+                if let Some(sent) = output(net, kinds, bytes, version, access, *name) {
+                    next.push(sent)?;
+                }
+            }
+            Step::Nothing => {}
+        }
+    }
+    set_of(alloc, next)
+}
+
+/// Appends the destinations, the address of each raised by the offset.
+fn push_moved(next: &mut Vec<Name>, dests: &[Dest], offset: u64) -> Result<(), AllocError>
+    requires { IsTrue (list_all (λ d. nat_le (d.addr + offset) top) dests.now) }
+    ensures { OnOk result (next.new.items ≡ next.old.items ++ map (moved offset) dests.now) }
+{
+    for dest in dests {
+        next.push(moved(*dest, offset))?;
+    }
+    Ok(())
+}
+
+/// The destination, its address raised by the offset.
+fn moved(dest: Dest, offset: u64) -> Name
+    requires { dest.addr + offset < 2 ^ 64 }
+    ensures { result ≡ moved offset dest }
+{
+    Name {
+        node: dest.node,
+        addr: dest.addr + offset,
+    }
+}
+
+/// The set of these names: once they are sorted, each is put behind those that were put in before it.
+fn set_of(alloc: Global, mut names: Vec<Name>) -> Result<Names, AllocError>
+    ensures { IfOk result (λ set. set ≡ sorted_names names.items) }
+{
+    names.sort_unstable_by_key(|name| (name.node, name.addr));
+    let sorted = names.as_slice();
+    let mut set = Names::new(alloc);
+    for name in sorted {
+        set.insert(*name)?;
+    }
+    Ok(set)
+}

@@ -1,0 +1,9 @@
+//! What an agent's address comes to under the records of an image, read from its bytes alone.
+//!
+//! [`lookup`](mod@lookup) is the call; [`levels`] follows names level by level, and [`output`] takes
+//! one step in a unit by the record of a slot.
+#![tactic(auto)]
+
+mod levels;
+pub mod lookup;
+mod output;

@@ -1,0 +1,85 @@
+//! The lookup of an agent's address.
+
+ghost use Rattle.std.specs.Prelude.{◌≡◌, ◌≢◌, length, map, IfOk, Err, IsTrue};
+ghost use Rattle.std.specs.List.{All};
+ghost use Rattle.dn_base.specs.Answers.{Answers};
+ghost use Rattle.dn_net.specs.Legal.{IsLegalNet};
+ghost use Rattle.dn_kind.specs.Kind.{IsLawful};
+ghost use Rattle.dn_kind.specs.Units.{KeepsUnitShape};
+ghost use Rattle.dn_lookup.specs.Lookup.{are_there, lookup_fault_view, lookup_of};
+ghost use Rattle.dn_lookup.specs.declared.lookup.LookupFault.TheVariants.{OutOfMemory as no_memory, Image as no_image};
+
+use crate::levels::resolve;
+use dn_image::check::check;
+use dn_image::fault::ImageFault;
+use dn_kind::kinds::Kinds;
+use dn_kind::rights::Access;
+use dn_net::names::Names;
+use dn_net::net::Net;
+use dn_net::node::{Name, Role};
+use std::alloc::{AllocError, Global};
+use thiserror::Error;
+
+/// Why there is no answer to a lookup.
+#[derive(Clone, Copy, Debug, PartialEq, Eq, Error)]
+pub enum LookupFault {
+    /// The node is none, or no agent.
+    #[error("NoAgent")]
+    NoAgent,
+    /// The bytes are no image of the net. It is never the fault's `OutOfMemory`.
+    #[error("Image")]
+    Image(ImageFault),
+    /// There was no memory for the names.
+    #[error("OutOfMemory")]
+    OutOfMemory,
+}
+
+impl From<AllocError> for LookupFault {
+    ghost from_gives = { λ _ e. e ≡ no_memory };
+
+    fn from(_e: AllocError) -> LookupFault {
+        LookupFault::OutOfMemory
+    }
+}
+
+impl From<ImageFault> for LookupFault {
+    ghost from_gives = { λ fault e. e ≡ no_image fault };
+
+    fn from(fault: ImageFault) -> LookupFault {
+        LookupFault::Image(fault)
+    }
+}
+
+/// The names to which an agent's address comes for an access, under the records of an image of the
+/// net, whoever made it. It reads the header, the heads and the slots on the way alone.
+///
+/// # Errors
+///
+/// `NoAgent` exactly where the node is none or no agent; else `Image` exactly where the bytes are no
+/// image of the net; `OutOfMemory` where there is no memory for the names.
+pub fn lookup(
+    alloc: Global,
+    net: &Net,
+    kinds: &Kinds,
+    image: &[u8],
+    agent: u16,
+    addr: u64,
+    access: Access,
+) -> Result<Names, LookupFault>
+    requires lawful { All (λ k. IsLawful (meaning (k.vtable, k.value))) kinds.now.list.items }
+    requires legal { IsLegalNet net.now }
+    requires shaped { KeepsUnitShape (map (λ k. meaning (k.vtable, k.value)) kinds.now.list.items) net.now }
+    ensures exact { Answers (λ names. names) lookup_fault_view result
+        (lookup_of net.now (map (λ k. meaning (k.vtable, k.value)) kinds.now.list.items) image.now access
+            (record { node = agent; addr = addr })) }
+    // Each name is in a node that is there.
+    ensures there { IfOk result (λ names. IsTrue (are_there (length net.now) names)) }
+    ensures memory { result ≢ Err (LookupFault.Image ImageFault.OutOfMemory) }
+{
+    if agent >= net.nodes() || net.role(agent) != Role::Agent {
+        return Err(LookupFault::NoAgent);
+    }
+    let version = check(net, kinds, image)?;
+    let name = Name { node: agent, addr };
+    Ok(resolve(alloc, net, kinds, image, version, access, name)?)
+}

@@ -1,0 +1,12 @@
+//! The words of a net's units in memory and on a device, with the uses and owners of their slots.
+//!
+//! A [`set::TableSet`] keeps for each unit of a net the words of its slots and who uses each, and
+//! writes every word to a device before it keeps it, so that the words of both are the same after
+//! each call. [`table`] has the table of one node, [`writes`] the writes of words, and [`placement`]
+//! what a grant places in the slots.
+#![tactic(auto)]
+
+pub mod placement;
+pub mod set;
+pub mod table;
+mod writes;

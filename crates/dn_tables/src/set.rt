@@ -1,0 +1,298 @@
+//! The tables of all units of a net.
+
+ghost use Rattle.std.specs.Prelude.{◌≡◌, ℕ, ◌+◌, ◌-◌, ◌^◌, ◌<◌, ◌≤◌, ◌⊎◌, ◌++◌, [], ◌∷◌, false, length, map, replicate, slice_get, List, Option, Some, None, IsSome, IfOk, OnOk, OnErr, IsTrue, is_err, is_ok};
+ghost use Rattle.std.specs.List.{All, list_all};
+ghost use Rattle.std.specs.Option.{option_map};
+ghost use Rattle.dn_base.specs.Device.{Logged, has_unit, is_make_fault, sizes_of};
+ghost use Rattle.dn_base.specs.Outside.{IsCounted};
+ghost use Rattle.dn_kind.specs.Kind.{Meaning, IsLawful};
+ghost use Rattle.dn_kind.specs.Units.{KeepsUnitShape};
+ghost use Rattle.dn_tables.specs.Set.{FitsNet, IsEmpty, IsOnDevice, IsPackableIn, IsSet, fits_kinds, fresh_set, has_slot, is_sized, is_zero, packed_in, record_kept, table_on_device, tables_of_set, unit_in, units_of, use_in, width_in, with_slot, with_use, words_in};
+ghost use Rattle.dn_tables.specs.Writes.{AreMade, AreUnitsMade, clear_writes, make_event, put_writes};
+
+use crate::table::{NodeTable, SlotUse};
+use dn_base::device::{DeviceFault, MakeFault, Tables};
+use dn_kind::kinds::Kinds;
+use dn_kind::unit_kind::Record;
+use dn_net::net::Net;
+use std::alloc::{AllocError, Global};
+use std::marker::Model;
+
+/// The words of all units of a net, with the uses and owners of their slots. Contracts see a table
+/// for each node.
+#[derive(Drop)]
+pub struct TableSet {
+    nodes: Vec<NodeTable>,
+}
+
+impl Model for TableSet {
+    ghost use Rattle.std.specs.Prelude.{List};
+    ghost use Rattle.dn_tables.specs.declared.table.NodeTable.{NodeTable};
+    ghost use Rattle.dn_tables.specs.Set.{IsSet};
+
+    ghost Value = { List NodeTable };
+
+    ghost view = { λ s. s.nodes.items };
+
+    ghost invariant = { λ s. IsSet s.nodes.items };
+}
+
+impl TableSet {
+    /// Makes the units of the net on a device, in the order of their nodes. All words are 0 and no
+    /// slot is used. All memory of the set is taken before the first call of the device.
+    ///
+    /// # Errors
+    ///
+    /// `Device` only where the device's count of faults rose in this call, or stands at the last
+    /// value of its counter: the units that were made are then a prefix of those of the net, which
+    /// lacks at least the last one. `OutOfMemory` for want of memory: those that were made are any
+    /// prefix. Nothing else was done to the device.
+    pub fn make<D: Tables>(
+        alloc: Global,
+        net: &Net,
+        kinds: &Kinds,
+        device: &mut D,
+    ) -> Result<TableSet, MakeFault>
+        requires lawful { All (λ k. IsLawful (meaning (k.vtable, k.value))) kinds.now.list.items }
+        requires shaped { KeepsUnitShape (map (λ k. meaning (k.vtable, k.value)) kinds.now.list.items) net.now }
+        requires none { D.units device.old ≡ [] }
+        ensures ok { IfOk result (λ set. set
+            ≡ fresh_set (map (λ k. meaning (k.vtable, k.value)) kinds.now.list.items) net.now) }
+        ensures fits { IfOk result (λ set. FitsNet net.now
+            (map (λ k. meaning (k.vtable, k.value)) kinds.now.list.items) set) }
+        ensures on_device { IfOk result (λ set.
+            IsOnDevice set (D.units device.new) (D.words device.new)) }
+        ensures made { AreUnitsMade
+            (tables_of_set (fresh_set (map (λ k. meaning (k.vtable, k.value)) kinds.now.list.items) net.now))
+            (is_ok result) (is_make_fault result) (D.log device.old) (D.log device.new)
+            (D.units device.new) (D.words device.old) (D.words device.new) }
+        ensures counted { IsCounted (D.faults device.old)
+            (D.faults device.new) (is_make_fault result) }
+    {
+        let set = fresh(alloc, net, kinds)?;
+        make_units(set.nodes.as_slice(), device)?;
+        Ok(set)
+    }
+
+    /// What every set is, for a proof of its caller: at most 1,024 tables, each of them sized. It
+    /// does nothing.
+    pub fn facts(&self)
+        ensures { IsSet self.now }
+    {
+        let _nodes = &self.nodes;
+    }
+
+    /// Puts a record into a slot whose words are 0: its words in ascending order, so the gate word
+    /// is last. Each is written to the device and then kept.
+    ///
+    /// # Errors
+    ///
+    /// `DeviceFault` only where the device's count of faults rose in this call, or stands at the
+    /// last value of its counter. Exactly the writes before the one that failed are done, and the
+    /// slot holds no record still.
+    pub fn put<D: Tables>(
+        &mut self,
+        kinds: &Kinds,
+        unit: u16,
+        slot: u32,
+        record: Record,
+        device: &mut D,
+    ) -> Result<(), DeviceFault>
+        requires lawful { All (λ k. IsLawful (meaning (k.vtable, k.value))) kinds.now.list.items }
+        requires fits { IsTrue (fits_kinds (map (λ k. meaning (k.vtable, k.value)) kinds.now.list.items) self.old) }
+        requires on_device { IsOnDevice self.old (D.units device.old) (D.words device.old) }
+        requires there { IsTrue (has_slot self.old unit slot) }
+        requires empty { IsEmpty self.old unit slot }
+        requires packable { IsPackableIn (map (λ k. meaning (k.vtable, k.value)) kinds.now.list.items)
+            self.old unit «record» }
+        ensures ok { OnOk result (self.new ≡ with_slot self.old unit slot
+            (packed_in (map (λ k. meaning (k.vtable, k.value)) kinds.now.list.items) self.old unit «record»)) }
+        ensures recorded { OnOk result (record_kept (map (λ k. meaning (k.vtable, k.value)) kinds.now.list.items)
+            self.new unit slot ≡ Some «record») }
+        ensures made { AreMade unit
+            (put_writes (map (λ k. meaning (k.vtable, k.value)) kinds.now.list.items) self.old unit slot «record»)
+            (is_err result) (D.log device.old) (D.log device.new)
+            (D.words device.old) (D.words device.new) self.old self.new }
+        ensures stopped { OnErr result (record_kept (map (λ k. meaning (k.vtable, k.value)) kinds.now.list.items)
+            self.new unit slot ≡ None) }
+        ensures units { units_of self.new ≡ units_of self.old }
+        ensures fits { (others : List Meaning) → IsTrue (fits_kinds others self.old) →
+            IsTrue (fits_kinds others self.new) }
+        ensures on_device { IsOnDevice self.new (D.units device.new) (D.words device.new) }
+        ensures counted { IsCounted (D.faults device.old) (D.faults device.new) (is_err result) }
+    {
+        let table = &mut self.nodes[usize::from(unit)];
+        table.put(kinds, device, unit, slot, record)
+    }
+
+    /// Clears a slot: 0 to its gate word, and then 0 to its other words in ascending order. Each is
+    /// written to the device and then kept.
+    ///
+    /// # Errors
+    ///
+    /// `DeviceFault` only where the device's count of faults rose in this call, or stands at the
+    /// last value of its counter. Exactly the writes before the one that failed are done: none, or
+    /// the slot holds no record any more.
+    pub fn clear<D: Tables>(
+        &mut self,
+        unit: u16,
+        slot: u32,
+        device: &mut D,
+    ) -> Result<(), DeviceFault>
+        requires on_device { IsOnDevice self.old (D.units device.old) (D.words device.old) }
+        requires there { IsTrue (has_slot self.old unit slot) }
+        ensures ok { OnOk result (self.new
+            ≡ with_slot self.old unit slot (replicate (width_in self.old unit) 0)) }
+        ensures made { AreMade unit (clear_writes self.old unit slot)
+            (is_err result) (D.log device.old) (D.log device.new)
+            (D.words device.old) (D.words device.new) self.old self.new }
+        ensures stopped { (self.new ≡ self.old) ⊎ ((kinds : List Meaning) → All IsLawful kinds →
+            IsTrue (fits_kinds kinds self.old) → record_kept kinds self.new unit slot ≡ None) }
+        ensures units { units_of self.new ≡ units_of self.old }
+        ensures fits { (kinds : List Meaning) → IsTrue (fits_kinds kinds self.old) →
+            IsTrue (fits_kinds kinds self.new) }
+        ensures on_device { IsOnDevice self.new (D.units device.new) (D.words device.new) }
+        ensures counted { IsCounted (D.faults device.old) (D.faults device.new) (is_err result) }
+    {
+        let table = &mut self.nodes[usize::from(unit)];
+        table.clear(device, unit, slot)
+    }
+
+    /// The record that a slot holds. `None` exactly where its words spell none, where the port is
+    /// none of the unit's, or where the output is past its reach.
+    pub fn record_at(&self, kinds: &Kinds, unit: u16, slot: u32) -> Option<Record>
+        requires lawful { All (λ k. IsLawful (meaning (k.vtable, k.value))) kinds.now.list.items }
+        requires fits { IsTrue (fits_kinds (map (λ k. meaning (k.vtable, k.value)) kinds.now.list.items) self.now) }
+        requires there { IsTrue (has_slot self.now unit slot) }
+        ensures { result ≡ record_kept (map (λ k. meaning (k.vtable, k.value)) kinds.now.list.items)
+            self.now unit slot }
+    {
+        let table = &self.nodes[usize::from(unit)];
+        table.record_at(kinds, slot)
+    }
+
+    /// The words of a unit: those of slot `q` are `width` words from `q * width` on.
+    pub fn words(&self, unit: u16) -> &[u64]
+        requires { IsSome (unit_in self.now unit) }
+        ensures value { result.now ≡ words_in self.now unit }
+        ensures set { IsSet self.now }
+    {
+        self.nodes[usize::from(unit)].words.as_slice()
+    }
+
+    /// How many live grants use a slot.
+    pub fn uses_at(&self, unit: u16, slot: u32) -> u32
+        requires { IsTrue (has_slot self.now unit slot) }
+        ensures { result ≡ (use_in self.now unit slot).uses }
+    {
+        self.use_at(unit, slot).uses
+    }
+
+    /// The live grant that owns a slot. `None` exactly where none does.
+    pub fn owner_at(&self, unit: u16, slot: u32) -> Option<u32>
+        requires { IsTrue (has_slot self.now unit slot) }
+        ensures { result ≡ (use_in self.now unit slot).owner }
+    {
+        self.use_at(unit, slot).owner
+    }
+
+    /// Raises the uses of a slot by one, and sets an owner that is given.
+    pub fn add_use(&mut self, unit: u16, slot: u32, owner: Option<u32>)
+        requires there { IsTrue (has_slot self.old unit slot) }
+        requires few { (use_in self.old unit slot).uses < 4096 }
+        requires unowned { (use_in self.old unit slot).owner ≡ None }
+        requires alone { IsSome owner → (use_in self.old unit slot).uses ≡ 0 }
+        ensures { self.new ≡ with_use self.old unit slot
+            (record { uses = (use_in self.old unit slot).uses + 1; owner = owner }) }
+    {
+        let before = self.use_at(unit, slot);
+        let table = &mut self.nodes[usize::from(unit)];
+        table.uses.set(
+            slot as usize,
+            SlotUse {
+                uses: before.uses + 1,
+                owner,
+            },
+        );
+    }
+
+    /// Lowers the uses of a slot by one, and ends its owner.
+    pub fn end_use(&mut self, unit: u16, slot: u32)
+        requires there { IsTrue (has_slot self.old unit slot) }
+        requires used { 0 < (use_in self.old unit slot).uses }
+        ensures { self.new ≡ with_use self.old unit slot
+            (record { uses = (use_in self.old unit slot).uses - 1; owner = None }) }
+    {
+        let before = self.use_at(unit, slot);
+        let table = &mut self.nodes[usize::from(unit)];
+        table.uses.set(
+            slot as usize,
+            SlotUse {
+                uses: before.uses - 1,
+                owner: None,
+            },
+        );
+    }
+
+    /// Who uses a slot.
+    fn use_at(&self, unit: u16, slot: u32) -> SlotUse
+        requires { IsTrue (has_slot self.now unit slot) }
+        ensures { result ≡ use_in self.now unit slot }
+    {
+        self.nodes[usize::from(unit)].uses.as_slice()[slot as usize]
+    }
+}
+
+/// The set of a net with words 0 and no use.
+fn fresh(alloc: Global, net: &Net, kinds: &Kinds) -> Result<TableSet, AllocError>
+    requires lawful { All (λ k. IsLawful (meaning (k.vtable, k.value))) kinds.now.list.items }
+    requires shaped { KeepsUnitShape (map (λ k. meaning (k.vtable, k.value)) kinds.now.list.items) net.now }
+    ensures { IfOk result (λ set. set
+        ≡ fresh_set (map (λ k. meaning (k.vtable, k.value)) kinds.now.list.items) net.now) }
+{
+    net.facts();
+    let mut nodes = Vec::new(alloc);
+    for node in 0..net.nodes() {
+        nodes.push(NodeTable::fresh(alloc, net.unit(node), kinds)?)?;
+    }
+    Ok(TableSet { nodes })
+}
+
+/// Makes the units of nodes on a device that has none.
+fn make_units<D: Tables>(nodes: &[NodeTable], device: &mut D) -> Result<(), MakeFault>
+    requires few { length nodes.now ≤ 1024 }
+    requires sized { IsTrue (list_all is_sized nodes.now) }
+    requires zero { IsTrue (list_all is_zero nodes.now) }
+    requires none { D.units device.old ≡ [] }
+    ensures made { AreUnitsMade (tables_of_set nodes.now)
+        (is_ok result) (is_make_fault result) (D.log device.old) (D.log device.new)
+        (D.units device.new) (D.words device.old) (D.words device.new) }
+    ensures counted { IsCounted (D.faults device.old) (D.faults device.new) (is_make_fault result) }
+{
+    for (node, table) in nodes.iter().enumerate() {
+        make_unit(table, node as u16, device)?;
+    }
+    Ok(())
+}
+
+/// Makes the unit of a node, where it is one.
+fn make_unit<D: Tables>(table: &NodeTable, node: u16, device: &mut D) -> Result<(), MakeFault>
+    requires few { length table.now.words < 2 ^ 32 }
+    requires zero { IsTrue (is_zero table.now) }
+    requires new { has_unit (D.units device.old) node ≡ false }
+    ensures units { OnOk result (D.units device.new ≡ D.units device.old
+        ++ sizes_of (table_on_device node table.now.words table.now.unit)) }
+    ensures words { OnOk result (D.words device.new ≡ option_map
+        (λ told. told ++ table_on_device node table.now.words table.now.unit) (D.words device.old)) }
+    ensures logged { OnOk result (Logged (D.log device.old) (D.log device.new)
+        (map make_event (table_on_device node table.now.words table.now.unit))) }
+    ensures some { OnErr result (IsSome table.now.unit) }
+    ensures same { OnErr result ((D.units device.new ≡ D.units device.old)
+        × (D.words device.new ≡ D.words device.old) × (D.log device.new ≡ D.log device.old)) }
+    ensures counted { IsCounted (D.faults device.old) (D.faults device.new) (is_make_fault result) }
+{
+    match &table.unit {
+        Some(_) => device.make(node, table.words.as_slice().len() as u32),
+        None => Ok(()),
+    }
+}

@@ -1,0 +1,221 @@
+//! The table of one node: the words of a unit's slots, and who uses each slot.
+
+ghost use Rattle.std.specs.Prelude.{◌≡◌, ◌++◌, ℕ, ◌+◌, ◌*◌, ◌-◌, ◌<◌, ◌≤◌, ◌^◌, [], true, length, map, replicate, slice_get, slice_index_or, Option, Some, None, IfOk, IsTrue, is_err};
+ghost use Rattle.std.specs.List.{All};
+ghost use Rattle.std.specs.Option.{option_copied};
+ghost use Rattle.dn_base.specs.Device.{has_word};
+ghost use Rattle.dn_base.specs.Outside.{IsCounted};
+ghost use Rattle.dn_net.specs.declared.node.Unit.{Unit as UnitPart};
+ghost use Rattle.dn_kind.specs.Kind.{Meaning, IsLawful, IsPackable, is_plain};
+ghost use Rattle.dn_kind.specs.Tables.{record_of_unit};
+ghost use Rattle.dn_kind.specs.Units.{is_shaped, has_shape, unit_shape};
+ghost use Rattle.dn_tables.specs.Set.{fits_by, fresh_by, has_slot_by, is_sized, packed_for, width_by, with_words};
+ghost use Rattle.dn_tables.specs.Writes.{AreWritten, clears_from, writes_from};
+
+use crate::writes::{clear_all, write_all};
+use dn_base::device::{DeviceFault, Tables};
+use dn_base::items::Items;
+use dn_kind::kinds::Kinds;
+use dn_kind::shape::shape_of;
+use dn_kind::slots::held_record;
+use dn_kind::unit_kind::{Record, UnitKind};
+use dn_net::node::Unit;
+use std::alloc::{AllocError, Global};
+
+/// Who uses a slot.
+#[derive(Clone, Copy, Debug, PartialEq, Eq)]
+pub struct SlotUse {
+    /// How many live grants use it.
+    pub uses: u32,
+    /// The live grant that owns it, if one does.
+    pub owner: Option<u32>,
+}
+
+/// The table of a node, which has neither words nor uses where the node is no unit.
+#[derive(Drop)]
+pub struct NodeTable {
+    /// The unit that the node is.
+    pub unit: Option<Unit>,
+    /// How many words a record has, 1 to 4.
+    pub width: u8,
+    /// The words of the slots, those of each slot together.
+    pub words: Items<u64>,
+    /// The use of each slot.
+    pub uses: Items<SlotUse>,
+}
+
+impl NodeTable {
+    /// The table of a unit, or of no unit, with words 0 and no use.
+    pub(crate) fn fresh(
+        alloc: Global,
+        unit: Option<&Unit>,
+        kinds: &Kinds,
+    ) -> Result<NodeTable, AllocError>
+        requires lawful { All (λ k. IsLawful (meaning (k.vtable, k.value))) kinds.now.list.items }
+        requires shaped { IsTrue (has_shape (map (λ k. meaning (k.vtable, k.value)) kinds.now.list.items)
+            (option_copied unit)) }
+        ensures { IfOk result (λ table. table
+            ≡ fresh_by (map (λ k. meaning (k.vtable, k.value)) kinds.now.list.items) (option_copied unit.entry)) }
+    {
+        match unit {
+            Some(unit) => fresh_unit(alloc, unit, kinds),
+            None => Ok(NodeTable {
+                unit: None,
+                width: 0,
+                words: Items::new(alloc),
+                uses: Items::new(alloc),
+            }),
+        }
+    }
+    /// The record that a slot holds. `None` exactly where its words spell none, where the port is
+    /// none of the unit's, or where the output is past its reach.
+    pub(crate) fn record_at(&self, kinds: &Kinds, slot: u32) -> Option<Record>
+        requires lawful { All (λ k. IsLawful (meaning (k.vtable, k.value))) kinds.now.list.items }
+        requires fits { IsTrue (fits_by (map (λ k. meaning (k.vtable, k.value)) kinds.now.list.items)
+            self.now.width self.now.unit) }
+        requires sized { IsTrue (is_sized self.now) }
+        requires there { IsTrue (has_slot_by self.now.unit slot) }
+        ensures { result ≡ record_of_unit (map (λ k. meaning (k.vtable, k.value)) kinds.now.list.items)
+            self.now.unit (Some self.now.words) slot }
+    {
+        match &self.unit {
+            Some(unit) => {
+                let kind = kinds.kind(usize::from(unit.kind));
+                let first = slot as usize * usize::from(self.width);
+                let end = first + usize::from(self.width);
+                held_record(unit, &**kind, &self.words.as_slice()[first..end])
+            }
+            None => unreachable!(),
+        }
+    }
+
+    /// Writes the words of a record to a slot, on the device and here.
+    ///
+    /// # Errors
+    ///
+    /// `DeviceFault` at the first write that fails; those before it are made and kept.
+    pub(crate) fn put<D: Tables>(
+        &mut self,
+        kinds: &Kinds,
+        device: &mut D,
+        unit: u16,
+        slot: u32,
+        record: Record,
+    ) -> Result<(), DeviceFault>
+        requires lawful { All (λ k. IsLawful (meaning (k.vtable, k.value))) kinds.now.list.items }
+        requires fits { IsTrue (fits_by (map (λ k. meaning (k.vtable, k.value)) kinds.now.list.items)
+            self.old.width self.old.unit) }
+        requires sized { IsTrue (is_sized self.old) }
+        requires there { IsTrue (has_slot_by self.old.unit slot) }
+        requires packable { (u : UnitPart) (kind : Meaning) → self.old.unit ≡ Some u →
+            slice_get (map (λ k. meaning (k.vtable, k.value)) kinds.now.list.items) u.kind ≡ Some kind →
+            IsPackable kind (unit_shape u) «record» }
+        requires on_device { (word : ℕ) → word < length self.old.words →
+            has_word (D.units device.old) unit word ≡ true }
+        ensures written { AreWritten unit
+            (writes_from (slot * self.old.width)
+            (packed_for (map (λ k. meaning (k.vtable, k.value)) kinds.now.list.items) self.old.unit «record»))
+            (is_err result) (D.log device.old) (D.log device.new)
+            (D.words device.old) (D.words device.new) self.old.words self.new.words }
+        ensures same { self.new ≡ with_words self.old self.new.words }
+        ensures units { D.units device.new ≡ D.units device.old }
+        ensures counted { IsCounted (D.faults device.old) (D.faults device.new) (is_err result) }
+    {
+        let mut packed = [0u64; 4];
+        match &self.unit {
+            Some(part) => pack(kinds, part, record, &mut packed),
+            None => unreachable!(),
+        }
+        let first = slot * u32::from(self.width);
+        let values = &packed[..usize::from(self.width)];
+        write_all(&mut self.words, device, unit, first, values)
+    }
+
+    /// Writes 0 to the words of a slot, the gate word first, on the device and here.
+    ///
+    /// # Errors
+    ///
+    /// `DeviceFault` at the first write that fails; those before it are made and kept.
+    pub(crate) fn clear<D: Tables>(
+        &mut self,
+        device: &mut D,
+        unit: u16,
+        slot: u32,
+    ) -> Result<(), DeviceFault>
+        requires sized { IsTrue (is_sized self.old) }
+        requires there { IsTrue (has_slot_by self.old.unit slot) }
+        requires on_device { (word : ℕ) → word < length self.old.words →
+            has_word (D.units device.old) unit word ≡ true }
+        ensures written { AreWritten unit (clears_from (slot * self.old.width) self.old.width)
+            (is_err result) (D.log device.old) (D.log device.new)
+            (D.words device.old) (D.words device.new) self.old.words self.new.words }
+        ensures same { self.new ≡ with_words self.old self.new.words }
+        ensures units { D.units device.new ≡ D.units device.old }
+        ensures counted { IsCounted (D.faults device.old) (D.faults device.new) (is_err result) }
+    {
+        let first = slot * u32::from(self.width);
+        clear_all(&mut self.words, device, unit, first, self.width)
+    }
+}
+
+/// Leaves the words of a record in the first places, and 0 in the others.
+fn pack(kinds: &Kinds, unit: &Unit, record: Record, packed: &mut [u64; 4])
+    requires lawful { All (λ k. IsLawful (meaning (k.vtable, k.value))) kinds.now.list.items }
+    requires known { unit.now.kind < length kinds.now.list.items }
+    requires packable { (kind : Meaning) →
+        slice_get (map (λ k. meaning (k.vtable, k.value)) kinds.now.list.items) unit.now.kind ≡ Some kind →
+        IsPackable kind (unit_shape unit.now) «record» }
+    ensures { packed.new ≡ packed_for (map (λ k. meaning (k.vtable, k.value)) kinds.now.list.items) (Some unit.now) «record»
+        ++ replicate (4 - width_by (slice_get (map (λ k. meaning (k.vtable, k.value)) kinds.now.list.items) unit.now.kind)) 0 }
+{
+    let kind = kinds.kind(usize::from(unit.kind));
+    pack_by(&**kind, unit, record, packed);
+}
+
+/// The same, of this kind.
+fn pack_by(kind: &dyn UnitKind, unit: &Unit, record: Record, packed: &mut [u64; 4])
+    requires { IsPackable (meaning kind.now) (unit_shape unit.now) «record» }
+    ensures { packed.new ≡ (meaning kind.now).pack (unit_shape unit.now) «record»
+        ++ replicate (4 - (meaning kind.now).words) 0 }
+{
+    kind.pack(shape_of(unit), record, packed);
+}
+
+/// The table of a unit with words 0 and no use.
+fn fresh_unit(alloc: Global, unit: &Unit, kinds: &Kinds) -> Result<NodeTable, AllocError>
+    requires lawful { All (λ k. IsLawful (meaning (k.vtable, k.value))) kinds.now.list.items }
+    requires shaped { IsTrue (is_shaped (map (λ k. meaning (k.vtable, k.value)) kinds.now.list.items) unit.now) }
+    ensures { IfOk result (λ table. table
+        ≡ fresh_by (map (λ k. meaning (k.vtable, k.value)) kinds.now.list.items) (Some unit.now)) }
+{
+    let width = kinds.kind(usize::from(unit.kind)).words();
+    let words = vec![in alloc; 0; unit.slots as usize * usize::from(width)]?;
+    let uses = vec![in alloc; UNUSED; unit.slots as usize]?;
+    let unit = copy_of(alloc, unit)?;
+    Ok(NodeTable {
+        unit: Some(unit),
+        width,
+        words: Items::from_vec(words),
+        uses: Items::from_vec(uses),
+    })
+}
+
+/// The use of a slot that no live grant uses.
+const UNUSED: SlotUse = SlotUse {
+    uses: 0,
+    owner: None,
+};
+
+/// A copy of a unit.
+fn copy_of(alloc: Global, unit: &Unit) -> Result<Unit, AllocError>
+    ensures { IfOk result (λ copy. copy ≡ unit.now) }
+{
+    let ports = unit.ports.as_slice().to_vec(alloc)?;
+    Ok(Unit {
+        kind: unit.kind,
+        page: unit.page,
+        slots: unit.slots,
+        reach: unit.reach,
+        ports: Items::from_vec(ports),
+    })
+}
