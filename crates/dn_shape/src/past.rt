@@ -6,10 +6,11 @@ ghost use Rattle.dn_interval.specs.declared.row.End.{End};
 ghost use Rattle.dn_interval.specs.Listed.{seen_by};
 ghost use Rattle.dn_interval.specs.Strands.{segs_give};
 ghost use Rattle.dn_net.specs.Rules.{KeepsNodeRules};
+ghost use Rattle.dn_net.specs.Walks.{extended, still};
 ghost use Rattle.dn_shape.specs.Absorb.{dest_of_end, entry_of_row, rows_past};
-ghost use Rattle.dn_shape.specs.Past.{told_give, told_onward, walks_past};
-ghost use Rattle.dn_walk.specs.Legs.{AreLegs, told_legs};
-ghost use Rattle.dn_walk.specs.Levels.{IsRowOf, told_on, told_still};
+ghost use Rattle.dn_shape.specs.Past.{LeadOn, told_give, told_onward, walks_past};
+ghost use Rattle.dn_walk.specs.Legs.{told_legs};
+ghost use Rattle.dn_walk.specs.Levels.{told_on};
 ghost use Rattle.dn_walk.specs.Rows.{row_view, told_by_walk};
 
 use dn_base::OutOfMemory;
@@ -68,8 +69,10 @@ fn walks_past(
 fn first_walks(alloc: Global, net: &Net, node: u16) -> Result<Vec<WalkRow>, OutOfMemory>
     requires rules { KeepsNodeRules net.now }
     requires there { node < length net.now }
-    ensures { IfOk result (λ v. option_map (λ n. told_on (told_legs n) (told_still node))
-        (slice_get net.now node) ≡ Some (map row_view v.items)) }
+    ensures walks { IfOk result (λ v. map row_view v.items
+        ≡ map told_by_walk (extended net.now (still node))) }
+    ensures far { IfOk result (λ v. All (λ r. r.base + (r.span.hi - r.span.lo) ≤ TOP) v.items) }
+    ensures short { IfOk result (λ v. All (λ r. r.len ≤ 64) v.items) }
 {
     let legs = legs_of(alloc, net, node)?;
     let still = WalkRow {
@@ -89,7 +92,7 @@ fn legs_of(alloc: Global, net: &Net, node: u16) -> Result<Items<Leg>, OutOfMemor
     requires rules { KeepsNodeRules net.now }
     requires there { node < length net.now }
     ensures legs { IfOk result (λ ls. option_map told_legs (slice_get net.now node) ≡ Some ls) }
-    ensures are { IfOk result (λ ls. AreLegs (length net.now) ls) }
+    ensures lead { IfOk result (λ ls. LeadOn ls) }
 {
     node_legs(alloc, net.accepts(node), net.entries(node), net.over(node))
 }
@@ -101,7 +104,9 @@ fn push_onward(
     legs: &[Leg],
     walks: &mut Vec<WalkRow>,
 ) -> Result<(), OutOfMemory>
-    requires row { IsRowOf count 1 (row_view row.now) }
+    requires legs { LeadOn legs.now }
+    requires reach { row.now.base + (row.now.span.hi - row.now.span.lo) ≤ TOP }
+    requires short { row.now.len ≤ 64 }
     ensures { OnOk result (map row_view walks.new.items
         ≡ map row_view walks.old.items ++ told_onward legs.now past (row_view row.now)) }
 {
@@ -114,6 +119,7 @@ fn push_onward(
 
 /// Appends the walk with each leg by which it goes on.
 fn push_walks(row: &WalkRow, legs: &[Leg], walks: &mut Vec<WalkRow>) -> Result<(), OutOfMemory>
+    requires legs { LeadOn legs.now }
     requires reach { row.now.base + (row.now.span.hi - row.now.span.lo) ≤ TOP }
     requires short { row.now.len ≤ 64 }
     ensures { OnOk result (map row_view walks.new.items

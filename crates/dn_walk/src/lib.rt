@@ -6,11 +6,11 @@
 //! or a chain of 65 steps.
 #![tactic(auto)]
 
-mod accepted;
+pub mod accepted;
 pub mod fault;
 pub mod laws;
-mod leg;
-mod level;
+pub mod leg;
+pub mod level;
 mod spans;
 pub mod walks;
 mod way;
