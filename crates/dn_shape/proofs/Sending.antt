@@ -11,6 +11,7 @@ use Rattle.dn_net.specs.declared.node.NodeDecl.{NodeDecl}
 use Rattle.dn_net.specs.declared.node.Unit.{Unit as UnitPart}
 use Rattle.dn_net.specs.Decode.{is_bare, is_formed, formed_by, is_unit}
 use Rattle.dn_net.proofs.Places.{both}
+use Rattle.dn_walk.proofs.Told.{at_member, member_of_all}
 use Rattle.dn_shape.specs.Split.{is_divided, new_nodes, divided_count, sending_to, sending_node, sending_nodes, accepter, with_accepter, with_accepters, split_net}
 use Rattle.dn_shape.proofs.Named.{texts}
 
@@ -55,3 +56,53 @@ each_formed next (n ∷ net) all =
 
 pub accepter_formed : (before : List NodeDecl) (n : NodeDecl) → IsTrue (is_formed (accepter before n))
 accepter_formed before n = refl
+
+-- what holds of each old node, and of each new one, holds of each node with new ones behind it
+pub each_new : (P : NodeDecl → Type 0) (base ns : List NodeDecl) → ((d : NodeDecl) → Member d base → P d) → ((before : List NodeDecl) (n : NodeDecl) → Member n ns → P (accepter before n)) → (d : NodeDecl) → Member d (with_accepters base ns) → P d
+each_new P base [] old new d m = old d m
+each_new P base (n ∷ ns) old new d m = each_new P (with_accepter base n) ns (λ e k. by e (is_divided n) k) (λ before e k. new before e (inr k)) d m
+  where
+    by : (e : NodeDecl) (b : Bool) → Member e (if b then base ++ accepter base n ∷ [] else base) → P e
+    by e false k = old e k
+    by e true k = elim (member_cases base (accepter base n ∷ []) e k) [
+      | inl h ↦ old e h
+      | inr h ↦ elim h [ inl s ↦ subst P s (new base n (inl refl)) | inr z ↦ absurd z ]
+    ]
+
+-- an old node of the split net is made of one of the net, and the number to which it sends is that of a new node
+pub record SentFrom (next : ℕ) (net : List NodeDecl) (d : NodeDecl) : Type 0 where
+  pub node : NodeDecl
+  pub member : Member node net
+  pub number : ℕ
+  pub is : sending_node number node ≡ d
+  pub new : is_divided node ≡ true → number < next + divided_count net
+
+pub sent_from : (next : ℕ) (net : List NodeDecl) (d : NodeDecl) → Member d (sending_nodes next net) → SentFrom next net d
+sent_from next [] d m = absurd m
+sent_from next (n ∷ net) d (inl e) = record { node = n; member = inl refl; number = next; is = e; new = new }
+  where
+    new : is_divided n ≡ true → next < next + (new_nodes n + divided_count net)
+    new h = let one : new_nodes n ≡ 1 = ap (λ b. if b then 1 else 0) h in omega arith
+sent_from next (n ∷ net) d (inr m) =
+    let r = sent_from (next + new_nodes n) net d m in
+    record { node = r.node; member = inr r.member; number = r.number; is = r.is; new = λ h. let l = r.new h in omega (arith, l) }
+
+-- what holds of each node is a test of all
+pub all_of_each : {X : Type 0} (p : X → Bool) (xs : List X) → ((x : X) → Member x xs → IsTrue (p x)) → IsTrue (list_all p xs)
+all_of_each p [] each = refl
+all_of_each p (x ∷ xs) each = rw (each x (inl refl), all_of_each p xs (λ y m. each y (inr m))) refl
+
+pub none_of_each : {X : Type 0} (p : X → Bool) (xs : List X) → ((x : X) → Member x xs → p x ≡ false) → list_any p xs ≡ false
+none_of_each p [] each = refl
+none_of_each p (x ∷ xs) each = rw (each x (inl refl), none_of_each p xs (λ y m. each y (inr m))) refl
+
+pub each_of_all : {X : Type 0} (p : X → Bool) (xs : List X) → IsTrue (list_all p xs) → (x : X) → Member x xs → IsTrue (p x)
+each_of_all p [] all x m = absurd m
+each_of_all p (y ∷ xs) all x (inl e) = subst (λ z. IsTrue (p z)) e (both (p y) (list_all p xs) all).0
+each_of_all p (y ∷ xs) all x (inr m) = each_of_all p xs (both (p y) (list_all p xs) all).1 x m
+
+pub all_each : {X : Type 0} (P : X → Type 0) (xs : List X) → ((x : X) → Member x xs → P x) → All P xs
+all_each P xs each = λ k d l. each _ (at_member xs k d l)
+
+pub each_all : {X : Type 0} (P : X → Type 0) (xs : List X) → All P xs → (x : X) → Member x xs → P x
+each_all P xs all x m = member_of_all P xs x all m
