@@ -113,7 +113,7 @@ module _ (net : List NodeDecl) (legal : IsLegalNet net) (m : ℕ) (n : NodeDecl)
       same None = refl
       same (Some k) = ap Some (kept k)
 
-  own_never : (x y : Name) → (x.node == m) ≡ true → Step net x y → (y.node == m) ≡ false
+  pub own_never : (x y : Name) → (x.node == m) ≡ true → Step net x y → (y.node == m) ≡ false
   own_never x y e s =
       let here : slice_get net x.node ≡ Some n = ap (slice_get net) (eqb-true x.node m e) ∙ at in
       never_leads m x.addr n y fit.self (subst (λ o. Member y (sent_names (decode x.addr o))) here s)
@@ -279,9 +279,9 @@ absorb_keeps_views net legal m n at none =
     let fit = fit_of net m n none in
     record {
       resolve = λ x y there.
-        let same = resolve_same net legal m n at fit x y in (
-          λ r. (y, same.0 r, refl),
-          λ r. subst (λ w. Resolves (net_past net m) x w) r.2 ((resolve_same net legal m n at fit x r.0).1 r.1),
-        );
+          let same = resolve_same net legal m n at fit x y in (
+            λ r. (y, same.0 r, refl),
+            λ r. subst (λ w. Resolves (net_past net m) x w) r.2 ((resolve_same net legal m n at fit x r.0).1 r.1),
+          );
       stops = λ x y there. stops_same net legal m n at fit x y;
     }

@@ -7,6 +7,7 @@ pub mod Maximal
 pub mod Named
 pub mod Passing
 pub mod Pigeons
+pub mod Read
 pub mod Renamed
 pub mod Ruled
 pub mod Sending

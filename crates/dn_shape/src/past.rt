@@ -43,12 +43,7 @@ pub(crate) fn entries_past(
 }
 
 /// The walks of one choice from a node, each of which into the other node goes on by one more.
-fn walks_past(
-    alloc: Global,
-    net: &Net,
-    past: u16,
-    node: u16,
-) -> Result<Vec<WalkRow>, OutOfMemory>
+fn walks_past(alloc: Global, net: &Net, past: u16, node: u16) -> Result<Vec<WalkRow>, OutOfMemory>
     requires rules { KeepsNodeRules net.now }
     requires past { past < length net.now }
     requires there { node < length net.now }

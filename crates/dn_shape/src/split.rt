@@ -79,12 +79,7 @@ fn sending_nodes(alloc: Global, net: &Net) -> Result<Net, OutOfMemory>
 }
 
 /// An old node of the split net, which sends to the next new node where it is divided.
-fn sending_node(
-    alloc: Global,
-    net: &Net,
-    node: u16,
-    next: u16,
-) -> Result<NodeDecl, OutOfMemory>
+fn sending_node(alloc: Global, net: &Net, node: u16, next: u16) -> Result<NodeDecl, OutOfMemory>
     requires rules { KeepsNodeRules net.now }
     requires there { node < length net.now }
     ensures { IfOk result (λ n. option_map (sending_node next) (slice_get net.now node) ≡ Some n) }
@@ -96,12 +91,7 @@ fn sending_node(
 }
 
 /// A node that sends what it accepts to a new node.
-fn sending_to(
-    alloc: Global,
-    net: &Net,
-    node: u16,
-    next: u16,
-) -> Result<NodeDecl, OutOfMemory>
+fn sending_to(alloc: Global, net: &Net, node: u16, next: u16) -> Result<NodeDecl, OutOfMemory>
     requires rules { KeepsNodeRules net.now }
     requires there { node < length net.now }
     ensures { IfOk result (λ n. option_map (sending_to next) (slice_get net.now node) ≡ Some n) }
