@@ -169,28 +169,28 @@ module _ (net : List NodeDecl) (legal : IsLegalNet net) (m : ℕ) (n : NodeDecl)
   chain_past : (most k : ℕ) → k ≤ most → (x y : Name) → (y.node == m) ≡ false → IsChain (Step net) k x y → (j : ℕ) × (j ≤ k) × IsChain (Step (net_past net m)) j x y
   chain_past most zero l x y e c = (0, omega arith, c)
   chain_past zero (suc k) l x y e c = absurd (omega arith)
-  chain_past (suc most) (suc k) l x y e c = by (x.node == m) refl
+  chain_past (suc most) (suc k) l x y e c = by (chain_past most) (x.node == m) refl
     where
       onward : Step (net_past net m) x c.0 → (j : ℕ) × (j ≤ k) × IsChain (Step (net_past net m)) j c.0 y → (j : ℕ) × (j ≤ suc k) × IsChain (Step (net_past net m)) j x y
       onward s r = let b : r.0 ≤ k = r.1 in (suc r.0, omega arith, (c.0, s, r.2))
 
-      through : (x.node == m) ≡ false → (c.0.node == m) ≡ true → (i : ℕ) → i ≡ k → IsChain (Step net) i c.0 y → (j : ℕ) × (j ≤ suc k) × IsChain (Step (net_past net m)) j x y
-      through f g zero h d = absurd (false≢true (sym e ∙ (ap (λ (z : Name). z.node == m) (sym d) ∙ g)))
-      through f g (suc i) h d =
+      through : ((i : ℕ) → i ≤ most → (v z : Name) → (z.node == m) ≡ false → IsChain (Step net) i v z → (j : ℕ) × (j ≤ i) × IsChain (Step (net_past net m)) j v z) → (x.node == m) ≡ false → (c.0.node == m) ≡ true → (i : ℕ) → i ≡ k → IsChain (Step net) i c.0 y → (j : ℕ) × (j ≤ suc k) × IsChain (Step (net_past net m)) j x y
+      through ih f g zero h d = absurd (false≢true (sym e ∙ (ap (λ (z : Name). z.node == m) (sym d) ∙ g)))
+      through ih f g (suc i) h d =
           let s : Step (net_past net m) x d.0 = (other_steps x d.0 f).1 ((past_in net m x d.0).1 (c.0, c.1, subst (λ b. Member d.0 (if b then steps net c.0 else c.0 ∷ [])) (sym g) d.1)) in
-          let r = chain_past most i (omega arith) d.0 y e d.2 in
+          let r = ih i (omega arith) d.0 y e d.2 in
           let b : r.0 ≤ i = r.1 in
           (suc r.0, omega arith, (d.0, s, r.2))
 
-      step : (x.node == m) ≡ false → (b : Bool) → (c.0.node == m) ≡ b → (j : ℕ) × (j ≤ suc k) × IsChain (Step (net_past net m)) j x y
-      step f true g = through f g k refl c.2
-      step f false g =
+      step : ((i : ℕ) → i ≤ most → (v z : Name) → (z.node == m) ≡ false → IsChain (Step net) i v z → (j : ℕ) × (j ≤ i) × IsChain (Step (net_past net m)) j v z) → (x.node == m) ≡ false → (b : Bool) → (c.0.node == m) ≡ b → (j : ℕ) × (j ≤ suc k) × IsChain (Step (net_past net m)) j x y
+      step ih f true g = through ih f g k refl c.2
+      step ih f false g =
           let s : Step (net_past net m) x c.0 = (other_steps x c.0 f).1 ((past_in net m x c.0).1 (c.0, c.1, subst (λ b. Member c.0 (if b then steps net c.0 else c.0 ∷ [])) (sym g) (inl refl))) in
-          onward s (chain_past most k (omega arith) c.0 y e c.2)
+          onward s (ih k (omega arith) c.0 y e c.2)
 
-      by : (b : Bool) → (x.node == m) ≡ b → (j : ℕ) × (j ≤ suc k) × IsChain (Step (net_past net m)) j x y
-      by true f = onward (subst (λ l. Member c.0 l) (sym (own_steps x f)) c.1) (chain_past most k (omega arith) c.0 y e c.2)
-      by false f = step f (c.0.node == m) refl
+      by : ((i : ℕ) → i ≤ most → (v z : Name) → (z.node == m) ≡ false → IsChain (Step net) i v z → (j : ℕ) × (j ≤ i) × IsChain (Step (net_past net m)) j v z) → (b : Bool) → (x.node == m) ≡ b → (j : ℕ) × (j ≤ suc k) × IsChain (Step (net_past net m)) j x y
+      by ih true f = onward (subst (λ l. Member c.0 l) (sym (own_steps x f)) c.1) (ih k (omega arith) c.0 y e c.2)
+      by ih false f = step ih f (c.0.node == m) refl
 
   -- a chain past the absorbed node is one of the net, with no fewer steps
   chain_through : (k : ℕ) (x y : Name) → IsChain (Step (net_past net m)) k x y → (j : ℕ) × (k ≤ j) × IsChain (Step net) j x y

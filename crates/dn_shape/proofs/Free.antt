@@ -7,7 +7,7 @@ use Rattle.std.proofs.lemmas.Fmt.{decimal_injective}
 use Rattle.std.proofs.lemmas.List.{append_cancel_left}
 use Rattle.std.proofs.lemmas.Slice.Eq.{bytes_eq-Decides}
 use Rattle.dn_base.specs.Members.{Member}
-use Rattle.dn_base.proofs.Members.{any_member, map_member}
+use Rattle.dn_base.proofs.Members.{any_member, member_map}
 use Rattle.dn_base.proofs.Lists.{length-map}
 use Rattle.dn_net.specs.declared.node.NodeDecl.{NodeDecl}
 use Rattle.dn_shape.specs.Split.{accepter_text, is_named, first_failing, free_number, FreeNumberIsFirst}
@@ -16,36 +16,36 @@ use Rattle.dn_shape.proofs.Pigeons.{Distinct, no_longer}
 -- each number before the first that fails passes
 pub passes_before : (test : ℕ → Bool) (n k j : ℕ) → k ≤ j → j < first_failing test n k → test j ≡ true
 passes_before test zero k j l m = absurd (omega arith)
-passes_before test (suc n) k j l m = by (test k) refl m
+passes_before test (suc n) k j l m = by (λ s t. passes_before test n (suc k) j s t) (test k) refl m
   where
-    later : (j : ℕ) → test k ≡ true → (k ≡ j) ⊎ (suc k ≤ j) → j < first_failing test n (suc k) → test j ≡ true
-    later j e (inl s) m = subst (λ i. test i ≡ true) s e
-    later j e (inr s) m = passes_before test n (suc k) j s m
+    later : (suc k ≤ j → j < first_failing test n (suc k) → test j ≡ true) → test k ≡ true → (k ≡ j) ⊎ (suc k ≤ j) → j < first_failing test n (suc k) → test j ≡ true
+    later ih e (inl s) m = subst (λ i. test i ≡ true) s e
+    later ih e (inr s) m = ih s m
 
     cases : (k j : ℕ) → k ≤ j → (k ≡ j) ⊎ (suc k ≤ j)
     cases k j l = grind arith
 
-    by : (b : Bool) → test k ≡ b → j < (if b then first_failing test n (suc k) else k) → test j ≡ true
-    by true e m = later j e (cases k j l) m
-    by false e m = absurd (omega arith)
+    by : (suc k ≤ j → j < first_failing test n (suc k) → test j ≡ true) → (b : Bool) → test k ≡ b → j < (if b then first_failing test n (suc k) else k) → test j ≡ true
+    by ih true e m = later ih e (cases k j l) m
+    by ih false e m = absurd (omega arith)
 
 -- it fails, or all that were tried pass
 pub fails_or_last : (test : ℕ → Bool) (n k : ℕ) → (test (first_failing test n k) ≡ false) ⊎ (first_failing test n k ≡ k + n)
 fails_or_last test zero k = inr (omega arith)
-fails_or_last test (suc n) k = by (test k) refl
+fails_or_last test (suc n) k = by (fails_or_last test n (suc k)) (test k) refl
   where
     further : (test (first_failing test n (suc k)) ≡ false) ⊎ (first_failing test n (suc k) ≡ suc k + n) → (test (first_failing test n (suc k)) ≡ false) ⊎ (first_failing test n (suc k) ≡ k + suc n)
     further (inl e) = inl e
     further (inr e) = inr (omega arith)
 
-    by : (b : Bool) → test k ≡ b → (test (if b then first_failing test n (suc k) else k) ≡ false) ⊎ ((if b then first_failing test n (suc k) else k) ≡ k + suc n)
-    by true e = further (fails_or_last test n (suc k))
-    by false e = inl e
+    by : (test (first_failing test n (suc k)) ≡ false) ⊎ (first_failing test n (suc k) ≡ suc k + n) → (b : Bool) → test k ≡ b → (test (if b then first_failing test n (suc k) else k) ≡ false) ⊎ ((if b then first_failing test n (suc k) else k) ≡ k + suc n)
+    by ih true e = further ih
+    by ih false e = inl e
 
-pub named_member : (net : List NodeDecl) (text : List ℕ) → is_named net text ≡ true → Member text (map (λ d. d.text) net)
+pub named_member : (net : List NodeDecl) (text : List ℕ) → is_named net text ≡ true → Member text (map (λ (d : NodeDecl). d.text) net)
 named_member net text e =
-    let r = any_member (λ d. bytes_eq text d.text) net e in
-    subst (λ t. Member t (map (λ d. d.text) net)) (sym ((bytes_eq-Decides text r.0.text).0 r.2)) (map_member (λ d. d.text) net r.0 r.1)
+    let r = any_member (λ (d : NodeDecl). bytes_eq text d.text) net e in
+    subst (λ t. Member t (map (λ (d : NodeDecl). d.text) net)) (sym ((bytes_eq-Decides text r.0.text).0 r.2)) (member_map (λ (d : NodeDecl). d.text) net r.0 r.1)
 
 -- the names with the first so many numbers
 abbrev texts_below : List ℕ → ℕ → List (List ℕ)
@@ -86,11 +86,11 @@ not_all net text small taken =
     let b = length-map net (λ (d : NodeDecl). d.text) in
     omega (arith, l, a, b)
   where
-    named : (t : List ℕ) → Member t (texts_below text (suc (length net))) → Member t (map (λ d. d.text) net)
+    named : (t : List ℕ) → Member t (texts_below text (suc (length net))) → Member t (map (λ (d : NodeDecl). d.text) net)
     named t m =
         let r = member_below text t (suc (length net)) m in
         let s : r.0 < suc (length net) = r.1 in
-        subst (λ u. Member u (map (λ d. d.text) net)) r.2 (named_member net (accepter_text text r.0) (taken r.0 (omega arith)))
+        subst (λ u. Member u (map (λ (d : NodeDecl). d.text) net)) r.2 (named_member net (accepter_text text r.0) (taken r.0 (omega arith)))
 
 pub free_number_is_first : FreeNumberIsFirst
 free_number_is_first net text small = (free, λ k l. passes_before (λ k. is_named net (accepter_text text k)) (length net) 0 k (omega arith) l)

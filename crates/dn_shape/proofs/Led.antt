@@ -75,18 +75,18 @@ row_of_entry (r ∷ rows) e (inr m) = let q = row_of_entry rows e m in (q.0, inr
 -- an address below rows lies in none
 maps_below : (from : ℕ) (rows : List Seen) (a : ℕ) → SeenApart from rows → a < from → maps_at (map entry_of_row rows) a ≡ 0
 maps_below from [] a apart l = refl
-maps_below from (r ∷ rows) a apart l = by (within a (record { lo = r.lo; hi = r.hi })) refl
+maps_below from (r ∷ rows) a apart l = by (λ m. maps_below (suc r.hi) rows a apart.6 m) (within a (record { lo = r.lo; hi = r.hi })) refl
   where
-    by : (b : Bool) → within a (record { lo = r.lo; hi = r.hi }) ≡ b → maps_at (map entry_of_row (r ∷ rows)) a ≡ 0
-    by true w =
+    by : (a < suc r.hi → maps_at (map entry_of_row rows) a ≡ 0) → (b : Bool) → within a (record { lo = r.lo; hi = r.hi }) ≡ b → maps_at (map entry_of_row (r ∷ rows)) a ≡ 0
+    by ih true w =
         let k : r.lo ≤ a = (within_to a (record { lo = r.lo; hi = r.hi }) w).0 in
         let f : from ≤ r.lo = apart.0 in
         absurd (omega arith)
-    by false w =
+    by ih false w =
         let f : from ≤ r.lo = apart.0 in
         let o : r.lo ≤ r.hi = apart.1 in
         let c : maps_at (map entry_of_row (r ∷ rows)) a ≡ 0 + maps_at (map entry_of_row rows) a = maps_at-cons (entry_of_row r) (map entry_of_row rows) a ∙ ap (λ p. (if p then 1 else 0) + maps_at (map entry_of_row rows) a) w in
-        let d = maps_below (suc r.hi) rows a apart.6 (omega arith) in
+        let d = ih (omega arith) in
         omega arith
 
 -- an address lies in no row, or in one
@@ -121,7 +121,7 @@ maps_once from (r ∷ rows) a apart = by (within a (record { lo = r.lo; hi = r.h
 -- names that ascend are different
 apart_dests : (x : End) (xs : List End) → AllAbove x xs → list_any (same_dest (dest_of_end x)) (map dest_of_end xs) ≡ false
 apart_dests x [] up = refl
-apart_dests x (y ∷ ys) up = by (same_dest (dest_of_end x) (dest_of_end y)) refl
+apart_dests x (y ∷ ys) up = by (apart_dests x ys up.1) (same_dest (dest_of_end x) (dest_of_end y)) refl
   where
     never : nat_lt x.node y.node ≡ true → x.node ≡ y.node → ⊥
     never h e = let l = ltb-true x.node y.node h in omega arith
@@ -134,9 +134,9 @@ apart_dests x (y ∷ ys) up = by (same_dest (dest_of_end x) (dest_of_end y)) ref
     or false true r h = inr h
     or false false r h = absurd (false≢true h)
 
-    by : (b : Bool) → same_dest (dest_of_end x) (dest_of_end y) ≡ b → (b || list_any (same_dest (dest_of_end x)) (map dest_of_end ys)) ≡ false
-    by false e = apart_dests x ys up.1
-    by true e =
+    by : list_any (same_dest (dest_of_end x)) (map dest_of_end ys) ≡ false → (b : Bool) → same_dest (dest_of_end x) (dest_of_end y) ≡ b → (b || list_any (same_dest (dest_of_end x)) (map dest_of_end ys)) ≡ false
+    by ih false e = ih
+    by ih true e =
         let s = both_true (x.node == y.node) (x.base == y.base) e in
         absurd (elim (or (nat_lt x.node y.node) (x.node == y.node) (nat_lt x.base y.base) up.0) [
           | inl h ↦ never h (eqb-true x.node y.node s.0)

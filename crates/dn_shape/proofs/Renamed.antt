@@ -189,16 +189,16 @@ module _ (net : List NodeDecl) (legal : IsLegalNet net) where
   -- a chain of the split net is one of the net, or ends so
   chain_back : (k : ℕ) (x y : Name) → x.node < length net → IsChain (Step (split_net net)) k x y → (IsChain (Step net) k x y × (y.node < length net)) ⊎ Renamed k x y
   chain_back zero x y l c = inl (c, subst (λ (z : Name). z.node < length net) c l)
-  chain_back (suc k) x y l c = by (node_there net x.node l)
+  chain_back (suc k) x y l c = by (λ v there d. chain_back k v y there d) (node_there net x.node l)
     where
       later : Step net x c.0 → (IsChain (Step net) k c.0 y × (y.node < length net)) ⊎ Renamed k c.0 y → (IsChain (Step net) (suc k) x y × (y.node < length net)) ⊎ Renamed (suc k) x y
       later s (inl r) = inl ((c.0, s, r.0), r.1)
       later s (inr r) = inr record { count = suc r.count; most = (let m : r.count ≤ k = r.most in omega arith); end = r.end; chain = (c.0, s, r.chain); node = r.node; at = r.at; divided = r.divided; accepted = r.accepted; is = r.is }
 
-      same : (n : NodeDecl) → steps (split_net net) x ≡ steps net x → (IsChain (Step net) (suc k) x y × (y.node < length net)) ⊎ Renamed (suc k) x y
-      same n e =
+      same : ((v : Name) → v.node < length net → IsChain (Step (split_net net)) k v y → (IsChain (Step net) k v y × (y.node < length net)) ⊎ Renamed k v y) → (n : NodeDecl) → steps (split_net net) x ≡ steps net x → (IsChain (Step net) (suc k) x y × (y.node < length net)) ⊎ Renamed (suc k) x y
+      same ih n e =
           let s : Step net x c.0 = subst (λ l. Member c.0 l) e c.1 in
-          later s (chain_back k c.0 y (step_there net legal.nodes x c.0 s) c.2)
+          later s (ih c.0 (step_there net legal.nodes x c.0 s) c.2)
 
       here : (n : NodeDecl) → slice_get net x.node ≡ Some n → is_divided n ≡ true → is_accepted_at x.addr (Some n) ≡ true → new_name x ≡ c.0 → (j : ℕ) → j ≡ k → IsChain (Step (split_net net)) j c.0 y → Renamed (suc k) x y
       here n at d h e zero f r = record { count = 0; most = omega arith; end = x; chain = refl; node = n; at = at; divided = d; accepted = h; is = e ∙ r }
@@ -208,16 +208,16 @@ module _ (net : List NodeDecl) (legal : IsLegalNet net) where
       only u v (inl e) = e
       only u v (inr m) = absurd m
 
-      accepting : (n : NodeDecl) → slice_get net x.node ≡ Some n → is_divided n ≡ true → (b : Bool) → is_accepted_at x.addr (Some n) ≡ b → (IsChain (Step net) (suc k) x y × (y.node < length net)) ⊎ Renamed (suc k) x y
-      accepting n at d false h = same n (other_steps x n at h)
-      accepting n at d true h = inr (here n at d h (only c.0 (new_name x) (subst (λ l. Member c.0 l) (new_steps x n at d h) c.1)) k refl c.2)
+      accepting : ((v : Name) → v.node < length net → IsChain (Step (split_net net)) k v y → (IsChain (Step net) k v y × (y.node < length net)) ⊎ Renamed k v y) → (n : NodeDecl) → slice_get net x.node ≡ Some n → is_divided n ≡ true → (b : Bool) → is_accepted_at x.addr (Some n) ≡ b → (IsChain (Step net) (suc k) x y × (y.node < length net)) ⊎ Renamed (suc k) x y
+      accepting ih n at d false h = same ih n (other_steps x n at h)
+      accepting ih n at d true h = inr (here n at d h (only c.0 (new_name x) (subst (λ l. Member c.0 l) (new_steps x n at d h) c.1)) k refl c.2)
 
-      dividing : (n : NodeDecl) → slice_get net x.node ≡ Some n → (b : Bool) → is_divided n ≡ b → (IsChain (Step net) (suc k) x y × (y.node < length net)) ⊎ Renamed (suc k) x y
-      dividing n at false d = same n (plain_steps x n at d)
-      dividing n at true d = accepting n at d (is_accepted_at x.addr (Some n)) refl
+      dividing : ((v : Name) → v.node < length net → IsChain (Step (split_net net)) k v y → (IsChain (Step net) k v y × (y.node < length net)) ⊎ Renamed k v y) → (n : NodeDecl) → slice_get net x.node ≡ Some n → (b : Bool) → is_divided n ≡ b → (IsChain (Step net) (suc k) x y × (y.node < length net)) ⊎ Renamed (suc k) x y
+      dividing ih n at false d = same ih n (plain_steps x n at d)
+      dividing ih n at true d = accepting ih n at d (is_accepted_at x.addr (Some n)) refl
 
-      by : (n : NodeDecl) × (slice_get net x.node ≡ Some n) → (IsChain (Step net) (suc k) x y × (y.node < length net)) ⊎ Renamed (suc k) x y
-      by (n, at) = dividing n at (is_divided n) refl
+      by : ((v : Name) → v.node < length net → IsChain (Step (split_net net)) k v y → (IsChain (Step net) k v y × (y.node < length net)) ⊎ Renamed k v y) → (n : NodeDecl) × (slice_get net x.node ≡ Some n) → (IsChain (Step net) (suc k) x y × (y.node < length net)) ⊎ Renamed (suc k) x y
+      by ih (n, at) = dividing ih n at (is_divided n) refl
 
   -- no chain of the net has so many steps as resolution follows
   fewer : (k : ℕ) (x y : Name) → k ≤ step_limit → IsChain (Step net) k x y → suc k ≤ step_limit
@@ -241,13 +241,13 @@ module _ (net : List NodeDecl) (legal : IsLegalNet net) where
       go false q h = h
 
   resolve_there : (x z : Name) → Resolves net x z → Resolves (split_net net) x (split_name net z)
-  resolve_there x z (h, k, l, c) = by (slice_get net z.node) refl h
+  resolve_there x z (h, (k, l, c)) = by (slice_get net z.node) refl h
     where
       dividing : (n : NodeDecl) → slice_get net z.node ≡ Some n → is_accepted_at z.addr (Some n) ≡ true → (b : Bool) → is_divided n ≡ b → Resolves (split_net net) x (if b then new_name z else z)
       dividing n at a true d =
           let s : Step (split_net net) z (new_name z) = subst (λ l. Member (new_name z) l) (sym (new_steps z n at d a)) (inl refl) in
-          (new_accepts z n at d a, suc k, fewer k x z l c, chain_last (Step (split_net net)) k x z (new_name z) (chain_kept k x z c) s)
-      dividing n at a false d = (ap (is_accepted_at z.addr) (plain_at z.node n at d) ∙ a, k, l, chain_kept k x z c)
+          (new_accepts z n at d a, (suc k, fewer k x z l c, chain_last (Step (split_net net)) k x z (new_name z) (chain_kept k x z c) s))
+      dividing n at a false d = (ap (is_accepted_at z.addr) (plain_at z.node n at d) ∙ a, (k, l, chain_kept k x z c))
 
       by : (o : Option NodeDecl) → slice_get net z.node ≡ o → is_accepted_at z.addr o ≡ true → Resolves (split_net net) x (renamed_at net z o)
       by None e a = absurd (false≢true a)
@@ -260,7 +260,7 @@ module _ (net : List NodeDecl) (legal : IsLegalNet net) where
   named_same z n at d = ap (renamed_at net z) at ∙ ap (λ b. if b then new_name z else z) d
 
   resolve_back : (x y : Name) → x.node < length net → Resolves (split_net net) x y → (z : Name) × Resolves net x z × (split_name net z ≡ y)
-  resolve_back x y there (h, k, l, c) = by (chain_back k x y there c)
+  resolve_back x y there (h, (k, l, c)) = by (chain_back k x y there c)
     where
       nothing : (p : Bool) → (p && false) ≡ true → ⊥
       nothing true e = false≢true e
@@ -268,13 +268,13 @@ module _ (net : List NodeDecl) (legal : IsLegalNet net) where
 
       dividing : IsChain (Step net) k x y → (n : NodeDecl) → slice_get net y.node ≡ Some n → (b : Bool) → is_divided n ≡ b → (z : Name) × Resolves net x z × (split_name net z ≡ y)
       dividing r n at true d = absurd (nothing (nat_le y.addr top) (sym (ap (is_accepted_at y.addr) (divided_at y.node n at d)) ∙ h))
-      dividing r n at false d = (y, (ap (is_accepted_at y.addr) (at ∙ sym (plain_at y.node n at d)) ∙ h, k, l, r), named_same y n at d)
+      dividing r n at false d = (y, (ap (is_accepted_at y.addr) (at ∙ sym (plain_at y.node n at d)) ∙ h, (k, l, r)), named_same y n at d)
 
       by : (IsChain (Step net) k x y × (y.node < length net)) ⊎ Renamed k x y → (z : Name) × Resolves net x z × (split_name net z ≡ y)
       by (inl (r, m)) = let t = node_there net y.node m in dividing r t.0 t.1 (is_divided t.0) refl
       by (inr r) =
           let m : r.count ≤ k = r.most in
-          (r.end, (ap (is_accepted_at r.end.addr) r.at ∙ r.accepted, r.count, omega arith, r.chain), named_new r.end r.node r.at r.divided ∙ r.is)
+          (r.end, (ap (is_accepted_at r.end.addr) r.at ∙ r.accepted, (r.count, omega arith, r.chain)), named_new r.end r.node r.at r.divided ∙ r.is)
 
   -- the unit that a node is stays
   unit_kept : (i : ℕ) (n : NodeDecl) → slice_get net i ≡ Some n → unit_of (slice_get (split_net net) i) ≡ unit_of (slice_get net i)
@@ -285,19 +285,19 @@ module _ (net : List NodeDecl) (legal : IsLegalNet net) where
       by false d = ap unit_of (plain_at i n at d ∙ sym at)
 
   stop_there : (x y : Name) → StopsAt net x y → StopsAt (split_net net) x y
-  stop_there x y (h, k, l, c) = by (slice_get net y.node) refl h
+  stop_there x y (h, (k, l, c)) = by (slice_get net y.node) refl h
     where
       by : (o : Option NodeDecl) → slice_get net y.node ≡ o → is_stop_at y.addr (unit_of o) ≡ true → StopsAt (split_net net) x y
       by None e a = absurd (false≢true a)
-      by (Some n) e a = (ap (is_stop_at y.addr) (unit_kept y.node n e) ∙ h, k, l, chain_kept k x y c)
+      by (Some n) e a = (ap (is_stop_at y.addr) (unit_kept y.node n e) ∙ h, (k, l, chain_kept k x y c))
 
   stop_back : (x y : Name) → x.node < length net → StopsAt (split_net net) x y → StopsAt net x y
-  stop_back x y there (h, k, l, c) = by (chain_back k x y there c)
+  stop_back x y there (h, (k, l, c)) = by (chain_back k x y there c)
     where
       by : (IsChain (Step net) k x y × (y.node < length net)) ⊎ Renamed k x y → StopsAt net x y
       by (inl (r, m)) =
           let t = node_there net y.node m in
-          (ap (is_stop_at y.addr) (sym (unit_kept y.node t.0 t.1)) ∙ h, k, l, r)
+          (ap (is_stop_at y.addr) (sym (unit_kept y.node t.0 t.1)) ∙ h, (k, l, r))
       by (inr r) =
           let q = split_new_at net r.end.node r.node r.at r.divided in
           let g : is_stop (split_net net) (new_name r.end) ≡ true = subst (λ w. is_stop (split_net net) w ≡ true) (sym r.is) h in

@@ -46,54 +46,54 @@ maps_append (e ∷ es) fs a =
 -- no entry of these has the address
 no_maps : (es : List Entry) (a : ℕ) → in_some_entry a es ≡ false → maps_at es a ≡ 0
 no_maps [] a h = refl
-no_maps (e ∷ es) a h = by (within a e.block) refl h
+no_maps (e ∷ es) a h = by (no_maps es a) (within a e.block) refl h
   where
-    by : (b : Bool) → within a e.block ≡ b → (b || in_some_entry a es) ≡ false → maps_at (e ∷ es) a ≡ 0
-    by true w h = cc
-    by false w h =
+    by : (in_some_entry a es ≡ false → maps_at es a ≡ 0) → (b : Bool) → within a e.block ≡ b → (b || in_some_entry a es) ≡ false → maps_at (e ∷ es) a ≡ 0
+    by ih true w h = cc
+    by ih false w h =
         let c : maps_at (e ∷ es) a ≡ 0 + maps_at es a = maps_at-cons e es a ∙ ap (λ b. (if b then 1 else 0) + maps_at es a) w in
-        let d = no_maps es a h in
+        let d = ih h in
         omega arith
 
 no_spans : (m : ℕ) (bs : List Block) (a : ℕ) → in_some_block a bs ≡ false → maps_at (map (entry_onto m) bs) a ≡ 0
 no_spans m [] a h = refl
-no_spans m (b ∷ bs) a h = by (within a b) refl h
+no_spans m (b ∷ bs) a h = by (no_spans m bs a) (within a b) refl h
   where
-    by : (p : Bool) → within a b ≡ p → (p || in_some_block a bs) ≡ false → maps_at (entry_onto m b ∷ map (entry_onto m) bs) a ≡ 0
-    by true w h = cc
-    by false w h =
+    by : (in_some_block a bs ≡ false → maps_at (map (entry_onto m) bs) a ≡ 0) → (p : Bool) → within a b ≡ p → (p || in_some_block a bs) ≡ false → maps_at (entry_onto m b ∷ map (entry_onto m) bs) a ≡ 0
+    by ih true w h = cc
+    by ih false w h =
         let c : maps_at (entry_onto m b ∷ map (entry_onto m) bs) a ≡ 0 + maps_at (map (entry_onto m) bs) a = maps_at-cons (entry_onto m b) (map (entry_onto m) bs) a ∙ ap (λ p. (if p then 1 else 0) + maps_at (map (entry_onto m) bs) a) w in
-        let d = no_spans m bs a h in
+        let d = ih h in
         omega arith
 
 -- blocks that stand apart have an address once
 below_none : (from : ℕ) (bs : List Block) (a : ℕ) → Stand from bs → a < from → in_some_block a bs ≡ false
 below_none from [] a h l = refl
-below_none from (b ∷ bs) a h l = by (within a b) refl
+below_none from (b ∷ bs) a h l = by (below_none (b.hi + 2) bs a h.3) (within a b) refl
   where
-    by : (p : Bool) → within a b ≡ p → (p || in_some_block a bs) ≡ false
-    by true w =
+    by : (a < b.hi + 2 → in_some_block a bs ≡ false) → (p : Bool) → within a b ≡ p → (p || in_some_block a bs) ≡ false
+    by ih true w =
         let k : b.lo ≤ a = (within_to a b w).0 in
         let f : from ≤ b.lo = h.0 in
         absurd (omega arith)
-    by false w =
+    by ih false w =
         let f : from ≤ b.lo = h.0 in
         let o : b.lo ≤ b.hi = h.1 in
-        below_none (b.hi + 2) bs a h.3 (omega arith)
+        ih (omega arith)
 
 few_spans : (m from : ℕ) (bs : List Block) (a : ℕ) → Stand from bs → maps_at (map (entry_onto m) bs) a ≤ 1
 few_spans m from [] a h = omega arith
-few_spans m from (b ∷ bs) a h = by (within a b) refl
+few_spans m from (b ∷ bs) a h = by (few_spans m (b.hi + 2) bs a h.3) (within a b) refl
   where
-    by : (p : Bool) → within a b ≡ p → maps_at (entry_onto m b ∷ map (entry_onto m) bs) a ≤ 1
-    by true w =
+    by : maps_at (map (entry_onto m) bs) a ≤ 1 → (p : Bool) → within a b ≡ p → maps_at (entry_onto m b ∷ map (entry_onto m) bs) a ≤ 1
+    by ih true w =
         let c : maps_at (entry_onto m b ∷ map (entry_onto m) bs) a ≡ 1 + maps_at (map (entry_onto m) bs) a = maps_at-cons (entry_onto m b) (map (entry_onto m) bs) a ∙ ap (λ p. (if p then 1 else 0) + maps_at (map (entry_onto m) bs) a) w in
         let k : a ≤ b.hi = (within_to a b w).1 in
         let d = no_spans m bs a (below_none (b.hi + 2) bs a h.3 (omega arith)) in
         omega arith
-    by false w =
+    by ih false w =
         let c : maps_at (entry_onto m b ∷ map (entry_onto m) bs) a ≡ 0 + maps_at (map (entry_onto m) bs) a = maps_at-cons (entry_onto m b) (map (entry_onto m) bs) a ∙ ap (λ p. (if p then 1 else 0) + maps_at (map (entry_onto m) bs) a) w in
-        let d = few_spans m (b.hi + 2) bs a h.3 in
+        let d = ih in
         omega arith
 
 spans_in_range : (m : ℕ) (es : List Entry) (bs : List Block) → IsTrue (list_all entry_in_range es) → IsTrue (list_all block_in_range bs) → IsTrue (list_all entry_in_range (es ++ map (entry_onto m) bs))
