@@ -1,14 +1,14 @@
 -- The first name of a new node that names no node.
-use Rattle.std.proofs.Common.{◌≡◌, ℕ, zero, suc, ◌+◌, ◌-◌, ◌^◌, ◌<◌, ◌≤◌, ◌⊎◌, inl, inr, Bool, true, false, if◌then◌else◌, List, [], ◌∷◌, ◌++◌, map, length, codes, refl, sym, ap, ◌∙◌, subst, arith, IsTrue}
+use Rattle.std.proofs.Common.{◌≡◌, ℕ, zero, suc, ◌+◌, ◌-◌, ◌^◌, ◌<◌, ◌≤◌, ◌⊎◌, inl, inr, Bool, true, false, if◌then◌else◌, List, [], ◌∷◌, ◌++◌, map, length, cond, not, nat_lt, is_some, position, Option, Some, None, codes, refl, sym, ap, ◌∙◌, subst, arith, IsTrue}
 use Rattle.std.specs.Fmt.{decimal}
-use Rattle.std.specs.List.{list_any}
+use Rattle.std.specs.List.{list_any, prefix_len}
 use Rattle.std.specs.Str.{bytes_eq}
 use Rattle.std.proofs.lemmas.Fmt.{decimal_injective}
 use Rattle.std.proofs.lemmas.List.{append_cancel_left}
 use Rattle.std.proofs.lemmas.Slice.Eq.{bytes_eq-Decides}
 use Rattle.dn_base.specs.Members.{Member}
 use Rattle.dn_base.proofs.Members.{any_member, member_map}
-use Rattle.dn_base.proofs.Lists.{length-map}
+use Rattle.dn_base.proofs.Lists.{length-map, prefix_len-any}
 use Rattle.dn_net.specs.declared.node.NodeDecl.{NodeDecl}
 use Rattle.dn_shape.specs.Split.{accepter_text, is_named, first_failing, free_number, FreeNumberIsFirst}
 use Rattle.dn_shape.proofs.Pigeons.{Distinct, no_longer}
@@ -111,3 +111,27 @@ free_number_is_first net text small = (free, λ k l. passes_before (λ k. is_nam
       | inl e ↦ e
       | inr e ↦ taken e (is_named net (accepter_text text (free_number net text))) refl
     ]
+
+-- the place of a name tells whether a node has it
+place_named : (net : List NodeDecl) (t : List ℕ) → is_some (position (λ (d : NodeDecl). bytes_eq t d.text) net) ≡ is_named net t
+place_named net t = shown (nat_lt (prefix_len (λ d. not (bytes_eq t d.text)) net) (length net)) ∙ prefix_len-any (λ (d : NodeDecl). bytes_eq t d.text) net
+  where
+    shown : (b : Bool) → is_some (cond b (Some (prefix_len (λ (d : NodeDecl). not (bytes_eq t d.text)) net)) None) ≡ b
+    shown true = refl
+    shown false = refl
+
+named_by : (net : List NodeDecl) (text : List ℕ) (k : ℕ) (t : List ℕ) (o : Option ℕ) (b : Bool) → t ≡ accepter_text text k → o ≡ position (λ (d : NodeDecl). bytes_eq t d.text) net → is_some o ≡ b → is_named net (accepter_text text k) ≡ b
+named_by net text k t o b e f h = ap (is_named net) (sym e) ∙ sym (place_named net t) ∙ ap is_some (sym f) ∙ h
+
+-- one number after another: it is free, or the next are tried
+pub found_free : (net : List NodeDecl) (text : List ℕ) (k n : ℕ) (t : List ℕ) (o : Option ℕ) → k < n → t ≡ accepter_text text k → o ≡ position (λ (d : NodeDecl). bytes_eq t d.text) net → is_some o ≡ false → k ≡ first_failing (λ j. is_named net (accepter_text text j)) (n - k) k
+found_free net text k n t o l e f h =
+    let s : n - k ≡ suc (n - (k + 1)) = omega arith in
+    sym (ap (λ d. first_failing (λ j. is_named net (accepter_text text j)) d k) s ∙ ap (λ b. if b then first_failing (λ j. is_named net (accepter_text text j)) (n - (k + 1)) (suc k) else k) (named_by net text k t o false e f h))
+
+pub found_taken : (net : List NodeDecl) (text : List ℕ) (k n : ℕ) (t : List ℕ) (o : Option ℕ) → k < n → t ≡ accepter_text text k → o ≡ position (λ (d : NodeDecl). bytes_eq t d.text) net → is_some o ≡ true → first_failing (λ j. is_named net (accepter_text text j)) (n - (k + 1)) (k + 1) ≡ first_failing (λ j. is_named net (accepter_text text j)) (n - k) k
+found_taken net text k n t o l e f h =
+    let s : n - k ≡ suc (n - (k + 1)) = omega arith in
+    let next : k + 1 ≡ suc k = omega arith in
+    ap (first_failing (λ j. is_named net (accepter_text text j)) (n - (k + 1))) next
+    ∙ sym (ap (λ d. first_failing (λ j. is_named net (accepter_text text j)) d k) s ∙ ap (λ b. if b then first_failing (λ j. is_named net (accepter_text text j)) (n - (k + 1)) (suc k) else k) (named_by net text k t o true e f h))

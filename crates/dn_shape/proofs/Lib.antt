@@ -3,6 +3,7 @@ pub mod Closed
 pub mod Divided
 pub mod Free
 pub mod Led
+pub mod Limited
 pub mod Maximal
 pub mod Named
 pub mod Passing

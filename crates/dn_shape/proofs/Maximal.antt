@@ -1,5 +1,5 @@
 -- The maximal spans of blocks: what they have, how they stand, and that a set of spans with the same addresses is they.
-use Rattle.std.proofs.Common.{◌≡◌, ℕ, ◌+◌, ◌-◌, ◌<◌, ◌≤◌, Bool, true, false, not, ◌&&◌, ◌||◌, nat_le, List, [], ◌∷◌, map, Option, Some, None, option_map, slice_get, refl, sym, ap, ◌∙◌, subst, arith, IsTrue, leb-true, le-leb}
+use Rattle.std.proofs.Common.{◌≡◌, ℕ, zero, suc, ◌+◌, ◌-◌, ◌<◌, ◌≤◌, Bool, true, false, not, ◌&&◌, ◌||◌, nat_le, List, [], ◌∷◌, map, length, Option, Some, None, option_map, slice_get, refl, sym, ap, ◌∙◌, subst, arith, IsTrue, leb-true, le-leb}
 use Rattle.std.specs.List.{list_all}
 use Rattle.std.proofs.lemmas.Bool.{leb-false}
 use Rattle.dn_interval.specs.declared.span.Span.{Span}
@@ -7,7 +7,8 @@ use Rattle.dn_interval.specs.Spans.{has, AreMaximal}
 use Rattle.dn_net.specs.declared.node.Block.{Block}
 use Rattle.dn_net.specs.declared.node.NodeDecl.{NodeDecl}
 use Rattle.dn_net.specs.Decode.{top, within, in_some_block, is_accepted_at}
-use Rattle.dn_net.specs.Rules.{block_in_range}
+use Rattle.dn_net.specs.Rules.{block_in_range, KeepsNodeRules}
+use Rattle.dn_net.proofs.Apart.{node_apart}
 use Rattle.dn_net.specs.Walks.{cut_each, whole}
 use Rattle.dn_net.proofs.Gaps.{Stand, cut_each_stands, accepts_upward, cut_each_has, whole_has}
 use Rattle.dn_net.proofs.Least.{within_to}
@@ -86,3 +87,18 @@ double false = refl
 -- maximal spans that have what the blocks have
 pub spans_are : (bs : List Block) → IsTrue (list_all block_in_range bs) → (xs : List Span) → AreMaximal xs → ((a : ℕ) → a ≤ top → has xs a ≡ in_some_block a bs) → map span_view xs ≡ maximal_spans bs
 spans_are bs all xs maximal same = spans_are_left (cut_each bs (whole ∷ [])) (left_in_range bs all) xs maximal (λ a l. same a l ∙ sym (ap not (left_has a bs ∙ ap (λ p. p && not (in_some_block a bs)) (le-leb a top l)) ∙ double (in_some_block a bs)))
+
+there_is : (ns : List NodeDecl) (k : ℕ) → k < length ns → slice_get ns k ≡ None → ⊥
+there_is [] k l g = absurd (omega arith)
+there_is (n ∷ ns) zero l g = cc
+there_is (n ∷ ns) (suc k) l g = there_is ns k (omega arith) g
+
+-- the spans of the set of what a node accepts
+pub set_spans : (net : List NodeDecl) (i : ℕ) (xs : List Span) (v : List Block) → KeepsNodeRules net → i < length net → AreMaximal xs → ((a : ℕ) → has xs a ≡ is_accepted_at a (slice_get net i)) → v ≡ map span_view xs → option_map (λ d. maximal_spans d.accepts) (slice_get net i) ≡ Some v
+set_spans net i xs v rules there maximal same e = by (slice_get net i) refl
+  where
+    by : (o : Option NodeDecl) → slice_get net i ≡ o → option_map (λ d. maximal_spans d.accepts) o ≡ Some v
+    by None f = absurd (there_is net i there f)
+    by (Some d) f =
+        let range = (node_apart net rules.each i d f).accepts in
+        ap Some (sym (spans_are d.accepts range xs maximal (λ a l. same a ∙ ap (is_accepted_at a) f ∙ ap (λ p. p && in_some_block a d.accepts) (le-leb a top l))) ∙ sym e)

@@ -54,3 +54,7 @@ new_before xs ys n differ = by (list_any (λ (d : NodeDecl). bytes_eq n.text d.t
     by true e =
         let r = any_member (λ (d : NodeDecl). bytes_eq n.text d.text) xs e in
         absurd (pair_of (λ (n m : NodeDecl). n.text ≢ m.text) xs ys n r.0 differ r.1 (sym ((bytes_eq-Decides n.text r.0.text).0 r.2)))
+
+-- the same of a node that is one of a list
+pub new_node : (xs ys all : List NodeDecl) (n d : NodeDecl) → n ≡ d → xs ++ n ∷ ys ≡ all → NamesDiffer all → list_any (λ (e : NodeDecl). bytes_eq d.text e.text) xs ≡ false
+new_node xs ys all n d e f differ = subst (λ (m : NodeDecl). list_any (λ (g : NodeDecl). bytes_eq m.text g.text) xs ≡ false) e (new_before xs ys n (subst NamesDiffer (sym f) differ))

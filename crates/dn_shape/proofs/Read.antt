@@ -1,6 +1,7 @@
 -- A node from its parts, as they are read one by one.
-use Rattle.std.proofs.Common.{◌≡◌, ℕ, ◌+◌, ◌<◌, Bool, true, false, not, if◌then◌else◌, ◌&&◌, ◌||◌, nat_lt, ◌==◌, List, [], ◌∷◌, length, slice_get, drop, get_or, Option, Some, None, option_map, is_some, refl, sym, ap, ◌∙◌, subst, arith}
+use Rattle.std.proofs.Common.{◌≡◌, ℕ, ◌+◌, ◌-◌, ◌<◌, ◌≤◌, Bool, true, false, not, if◌then◌else◌, ◌&&◌, ◌||◌, nat_lt, ◌==◌, List, [], ◌∷◌, length, slice_get, drop, get_or, Option, Some, None, option_map, is_some, refl, sym, ap, ◌∙◌, subst, arith}
 use Rattle.dn_base.proofs.Lists.{drop_at}
+use Rattle.std.proofs.lemmas.Bool.{lt-ltb, ltb-true, ltb-false}
 use Rattle.std.proofs.lemmas.Option.{slice_get-get_or}
 use Rattle.dn_net.specs.declared.node.Block.{Block}
 use Rattle.dn_net.specs.declared.node.Entry.{Entry}
@@ -8,7 +9,7 @@ use Rattle.dn_net.specs.declared.node.Role.{Role}
 use Rattle.dn_net.specs.declared.node.Unit.{Unit as UnitPart}
 use Rattle.dn_net.specs.declared.node.NodeDecl.{NodeDecl}
 use Rattle.dn_shape.specs.Absorb.{is_over_to, maps_to, leads_to}
-use Rattle.dn_shape.specs.Limits.{parts_of_node}
+use Rattle.dn_shape.specs.Limits.{dest_limit, has_long_entry, parts_of_node}
 use Rattle.dn_shape.specs.Split.{is_divided}
 use Rattle.dn_shape.proofs.Renamed.{node_there}
 use Rattle.std.specs.List.{list_any}
@@ -76,3 +77,30 @@ said f (Some d) n x e h =
 -- some items are there exactly where a list is not empty
 pub some_there : (k : ℕ) → not (k == 0) ≡ nat_lt 0 k
 some_there k = grind arith
+
+-- two nodes of one place
+pub one_node : (o : Option NodeDecl) (n m : NodeDecl) → o ≡ Some n → o ≡ Some m → n ≡ m
+one_node o n m e f = let s : ◌≡◌ {A = Option NodeDecl} (Some n) (Some m) = sym e ∙ f in cc
+
+-- an entry of the node is too long where one of those that were read is
+pub long_by : (n : NodeDecl) (o : Option NodeDecl) (es : List Entry) → o ≡ Some n → option_map (λ d. d.entries) o ≡ Some es → has_long_entry n ≡ list_any (λ e. nat_lt dest_limit (length e.dests)) es
+long_by n o es e h = ap (λ l. list_any (λ (e : Entry). nat_lt dest_limit (length e.dests)) l) (said (λ d. d.entries) o n es e h)
+
+-- the limit is passed by one node, or by the rest of them
+pub passed_now : (room x y : ℕ) → room < x → nat_lt room (x + y) ≡ true
+passed_now room x y l = lt-ltb room (x + y) (omega arith)
+
+pub passed_later : (room x k y : ℕ) → x ≡ k → k ≤ room → nat_lt room (x + y) ≡ nat_lt (room - k) y
+passed_later room x k y e l = same (nat_lt room (x + y)) refl (nat_lt (room - k) y) refl
+  where
+    same : (p : Bool) → nat_lt room (x + y) ≡ p → (q : Bool) → nat_lt (room - k) y ≡ q → p ≡ q
+    same true f true g = refl
+    same false f false g = refl
+    same true f false g =
+        let a = ltb-true room (x + y) f in
+        let b = ltb-false (room - k) y g in
+        absurd (omega (arith, a, b, e, l))
+    same false f true g =
+        let a = ltb-false room (x + y) f in
+        let b = ltb-true (room - k) y g in
+        absurd (omega (arith, a, b, e, l))

@@ -9,11 +9,14 @@ use Rattle.dn_net.specs.declared.node.Dest.{Dest}
 use Rattle.dn_net.specs.declared.node.Entry.{Entry}
 use Rattle.dn_net.specs.declared.node.NodeDecl.{NodeDecl}
 use Rattle.dn_net.specs.declared.node.Unit.{Unit as UnitPart}
+use Rattle.std.specs.Str.{bytes_eq}
+use Rattle.dn_net.specs.Legal.{node_limit}
 use Rattle.dn_net.specs.Decode.{is_bare, is_formed, formed_by, is_unit}
 use Rattle.dn_net.proofs.Places.{both}
 use Rattle.dn_walk.proofs.Told.{at_member, member_of_all}
 use Rattle.dn_shape.specs.Split.{is_divided, new_nodes, divided_count, sending_to, sending_node, sending_nodes, accepter, with_accepter, with_accepters, split_net}
-use Rattle.dn_shape.proofs.Named.{texts}
+use Rattle.dn_shape.proofs.Free.{free_number_is_first}
+use Rattle.dn_shape.proofs.Named.{NamesDiffer, texts, differ_as}
 
 -- the names stay
 one_text : (m : ℕ) (n : NodeDecl) → (sending_node m n).text ≡ n.text
@@ -106,3 +109,19 @@ all_each P xs each = λ k d l. each _ (at_member xs k d l)
 
 pub each_all : {X : Type 0} (P : X → Type 0) (xs : List X) → All P xs → (x : X) → Member x xs → P x
 each_all P xs all x m = member_of_all P xs x all m
+
+-- a node has one new node at most
+pub few_new : (n : NodeDecl) → new_nodes n ≤ 1
+few_new n = by (is_divided n)
+  where
+    by : (b : Bool) → (if b then 1 else 0) ≤ 1
+    by true = omega arith
+    by false = omega arith
+
+-- the name of a new node names no node before it
+pub accepter_new : (before : List NodeDecl) (n d : NodeDecl) → length before ≤ node_limit → accepter before n ≡ d → list_any (λ (e : NodeDecl). bytes_eq d.text e.text) before ≡ false
+accepter_new before n d few e = subst (λ (f : NodeDecl). list_any (λ (g : NodeDecl). bytes_eq f.text g.text) before ≡ false) e (free_number_is_first before n.text (omega (arith, few))).0
+
+-- the names of the nodes that send differ
+pub sending_differ : (next : ℕ) (net : List NodeDecl) → NamesDiffer net → NamesDiffer (sending_nodes next net)
+sending_differ next net differ = differ_as (sending_nodes next net) net (sending_texts next net) differ

@@ -3,10 +3,12 @@
 ghost use Rattle.std.specs.Prelude.{◌≡◌, ◌<◌, ◌≤◌, ◌+◌, ◌++◌, ◌∷◌, length, map, slice_get, option_map, codes, IfOk, OnOk, OnErr, Some};
 ghost use Rattle.std.specs.Fmt.{decimal};
 ghost use Rattle.dn_base.specs.Answers.{Answers};
+ghost use Rattle.dn_net.specs.declared.node.NodeDecl.{NodeDecl};
 ghost use Rattle.dn_net.specs.Legal.{IsLegalNet, node_limit};
 ghost use Rattle.dn_net.specs.Rules.{KeepsNodeRules};
 ghost use Rattle.dn_shape.specs.Faults.{split_fault_view};
-ghost use Rattle.dn_shape.specs.Split.{split_outcome, is_divided, divided_count, entry_onto, sending_to, sending_node, sending_nodes, accepter_text, free_number, accepter, with_accepter, with_accepters};
+ghost use Rattle.dn_shape.specs.Split.{split_outcome, is_divided, new_nodes, divided_count, entry_onto, sending_to, sending_node, sending_nodes, accepter_text, free_number, accepter, with_accepter, with_accepters, split_name};
+ghost use Rattle.dn_shape.specs.Views.{HaveEqualViews, IsSound};
 
 use crate::copy::{entries_copy, node_copy, unit_copy};
 use crate::fault::SplitFault;
@@ -29,6 +31,8 @@ use std::alloc::Global;
 pub fn split(alloc: Global, net: &Net) -> Result<Net, SplitFault>
     requires legal { IsLegalNet net.now }
     ensures made { Answers (λ n. n) split_fault_view result (split_outcome net.now) }
+    ensures sound { IfOk result IsSound }
+    ensures views { IfOk result (HaveEqualViews (split_name net.now) net.now) }
 {
     if usize::from(net.nodes()) + usize::from(divided_count(net)) > MAX_NODES {
         return Err(SplitFault::TooMany {
@@ -149,7 +153,8 @@ fn add_accepters(alloc: Global, net: &Net, made: &mut Net) -> Result<(), OutOfMe
 fn add_accepter(alloc: Global, net: &Net, node: u16, made: &mut Net) -> Result<(), OutOfMemory>
     requires rules { KeepsNodeRules net.now }
     requires there { node < length net.now }
-    requires few { length made.old < node_limit }
+    requires few { (n : NodeDecl) → slice_get net.now node ≡ Some n
+        → length made.old + new_nodes n ≤ node_limit }
     ensures { OnOk result (option_map (with_accepter made.old) (slice_get net.now node)
         ≡ Some made.new) }
 {
