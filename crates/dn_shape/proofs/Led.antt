@@ -29,7 +29,7 @@ use Rattle.dn_shape.specs.Absorb.{is_over_to, maps_to, leads_to, why_not, names_
 use Rattle.dn_shape.specs.Views.{IsSound, AbsorbKeepsRules}
 use Rattle.dn_shape.proofs.Absorbed.{Fit, fit_of, net_past_at, own_never}
 use Rattle.dn_shape.proofs.Closed.{true_and}
-use Rattle.dn_shape.proofs.Named.{texts, differ_as}
+use Rattle.dn_shape.proofs.Named.{NamesDiffer, texts, differ_as}
 use Rattle.dn_shape.proofs.Passing.{end_name, ends_past, ends_past_ascend, ends_in, past_in}
 use Rattle.dn_shape.proofs.Renamed.{step_there, accepted_stays}
 use Rattle.dn_shape.proofs.Sending.{all_of_each, none_of_each, each_of_all, all_each}
@@ -168,6 +168,31 @@ not_overlapping : (x : ℕ) (b : Bool) → (x ≡ 0) ⊎ ((x ≡ 1) × (b ≡ fa
 not_overlapping x b (inl e) = subst (λ y. (nat_lt 1 y || (nat_lt 0 y && b)) ≡ false) (sym e) refl
 not_overlapping x b (inr (e, f)) = subst (λ y. (nat_lt 1 y || (nat_lt 0 y && b)) ≡ false) (sym e) f
 
+-- a node that leads to another is no unit
+pub led_formed : (net : List NodeDecl) (m i : ℕ) (d : NodeDecl) → IsTrue (is_formed d) → leads_to m d ≡ true → IsTrue (is_formed (led_past net m i d))
+led_formed net m i d formed leads = by d.unit refl formed
+  where
+    nowhere : (es : List Entry) (o : Option ℕ) → nat_le (length es) 0 ≡ true → not (is_some o) ≡ true → (list_any (maps_to m) es || is_over_to m o) ≡ false
+    nowhere [] None h k = refl
+    nowhere [] (Some t) h k = absurd (false≢true k)
+    nowhere (e ∷ es) o h k = let l = leb-true (length (e ∷ es)) 0 h in absurd (omega arith)
+
+    by : (u : Option UnitPart) → d.unit ≡ u → IsTrue (formed_by d u) → IsTrue (formed_by (led_past net m i d) u)
+    by None e f = f
+    by (Some u) e f =
+        let bare = (both (is_unit d.role) (is_bare d) f).1 in
+        let p = (both (nat_le (length d.accepts) 0) (nat_le (length d.entries) 0 && not (is_some d.over)) bare).1 in
+        let q = both (nat_le (length d.entries) 0) (not (is_some d.over)) p in
+        absurd (true≢false (sym leads ∙ nowhere d.entries d.over q.0 q.1))
+
+pub past_formed : (net : List NodeDecl) (m i : ℕ) (d : NodeDecl) → IsTrue (is_formed d) → IsTrue (is_formed (node_past net m i d))
+past_formed net m i d formed = by (i == m) (leads_to m d) refl
+  where
+    by : (b c : Bool) → leads_to m d ≡ c → IsTrue (is_formed (if not b && c then led_past net m i d else d))
+    by true c h = formed
+    by false true h = led_formed net m i d formed h
+    by false false h = formed
+
 module _ (net : List NodeDecl) (legal : IsLegalNet net) (m : ℕ) (n : NodeDecl) (at : slice_get net m ≡ Some n) (fit : Fit m n) where
   -- the names past the node are of nodes that are there, in range, and none of them in the node
   past_facts : (x y : Name) → Member y (steps_past net m x) → (y.node < length net) × (y.addr ≤ top) × ((y.node == m) ≡ false)
@@ -260,23 +285,6 @@ module _ (net : List NodeDecl) (legal : IsLegalNet net) (m : ℕ) (n : NodeDecl)
                 let p = both (nat_le (length d.entries) 0) (not (is_some d.over)) (both (nat_le (length d.entries) 0 && not (is_some d.over)) (nat_le (accepted_count d) 4096) s).0 in
                 absurd (true≢false (sym leads ∙ nowhere d.entries d.over p.0 p.1))
 
-    -- a node that leads to another is no unit
-    led_formed : (d : NodeDecl) → IsTrue (is_formed d) → leads_to m d ≡ true → IsTrue (is_formed (led_past net m i d))
-    led_formed d formed leads = by d.unit refl formed
-      where
-        nowhere : (es : List Entry) (o : Option ℕ) → nat_le (length es) 0 ≡ true → not (is_some o) ≡ true → (list_any (maps_to m) es || is_over_to m o) ≡ false
-        nowhere [] None h k = refl
-        nowhere [] (Some t) h k = absurd (false≢true k)
-        nowhere (e ∷ es) o h k = let l = leb-true (length (e ∷ es)) 0 h in absurd (omega arith)
-
-        by : (u : Option UnitPart) → d.unit ≡ u → IsTrue (formed_by d u) → IsTrue (formed_by (led_past net m i d) u)
-        by None e f = f
-        by (Some u) e f =
-            let bare = (both (is_unit d.role) (is_bare d) f).1 in
-            let p = (both (nat_le (length d.accepts) 0) (nat_le (length d.entries) 0 && not (is_some d.over)) bare).1 in
-            let q = both (nat_le (length d.entries) 0) (not (is_some d.over)) p in
-            absurd (true≢false (sym leads ∙ nowhere d.entries d.over q.0 q.1))
-
     led_refers : (d : NodeDecl) → IsTrue (refers_within (length net) d) → IsTrue (refers_within (length net) (led_past net m i d))
     led_refers d h =
         let r = both (list_all (λ (e : Entry). list_all (λ (t : Dest). nat_lt t.node (length net)) e.dests) d.entries) (over_within (length net) d.over && ports_within (length net) d.unit) h in
@@ -342,7 +350,7 @@ absorb_keeps_rules net legal m n at none = (
   record {
     is_net = record {
       few = (let l = net_past_length net m in let f = legal.is_net.few in omega (arith, l, f));
-      formed = all_of_each is_formed (net_past net m) (past_each net legal m n at fit (λ d. IsTrue (is_formed d)) (λ i d here h. node_at is_formed net i legal.is_net.formed d here) (λ i d here h. led_formed net legal m n at fit i d (node_at is_formed net i legal.is_net.formed d here) h));
+      formed = all_of_each is_formed (net_past net m) (past_each net legal m n at fit (λ d. IsTrue (is_formed d)) (λ i d here h. node_at is_formed net i legal.is_net.formed d here) (λ i d here h. led_formed net m i d (node_at is_formed net i legal.is_net.formed d here) h));
       names_differ = differ_as (net_past net m) net (past_texts net m 0 net) legal.is_net.names_differ;
     };
     nodes = record {
@@ -355,3 +363,7 @@ absorb_keeps_rules net legal m n at none = (
   where
     fit : Fit m n
     fit = fit_of net m n none
+
+-- the names of the nodes past another differ
+pub past_differ : (net : List NodeDecl) (m : ℕ) → NamesDiffer net → NamesDiffer (net_past net m)
+past_differ net m differ = differ_as (net_past net m) net (past_texts net m 0 net) differ

@@ -8,7 +8,7 @@ use Rattle.dn_net.specs.declared.node.Entry.{Entry}
 use Rattle.dn_net.specs.declared.node.Role.{Role}
 use Rattle.dn_net.specs.declared.node.Unit.{Unit as UnitPart}
 use Rattle.dn_net.specs.declared.node.NodeDecl.{NodeDecl}
-use Rattle.dn_shape.specs.Absorb.{is_over_to, maps_to, leads_to}
+use Rattle.dn_shape.specs.Absorb.{has_port, is_over_to, maps_to, leads_to}
 use Rattle.dn_shape.specs.Limits.{dest_limit, has_long_entry, parts_of_node}
 use Rattle.dn_shape.specs.Split.{is_divided}
 use Rattle.dn_shape.proofs.Renamed.{node_there}
@@ -104,3 +104,7 @@ passed_later room x k y e l = same (nat_lt room (x + y)) refl (nat_lt (room - k)
         let a = ltb-false room (x + y) f in
         let b = ltb-true (room - k) y g in
         absurd (omega (arith, a, b, e, l))
+
+-- whether the unit that a node is has the port
+pub port_by : (m : ℕ) (n : NodeDecl) (o : Option NodeDecl) (u : Option UnitPart) → o ≡ Some n → option_map (λ d. d.unit) o ≡ Some u → has_port m n.unit ≡ has_port m u
+port_by m n o u e h = ap (has_port m) (said (λ d. d.unit) o n u e h)

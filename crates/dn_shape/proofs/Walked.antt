@@ -1,12 +1,22 @@
 -- The walks that lead a node past another, and the names that they give.
-use Rattle.std.proofs.Common.{◌≡◌, ℕ, zero, suc, ◌+◌, ◌-◌, ◌<◌, ◌≤◌, ◌⊎◌, ◌↔◌, inl, inr, Bool, true, false, if◌then◌else◌, ◌&&◌, nat_le, nat_eq, ◌==◌, List, [], ◌∷◌, ◌++◌, map, filter, length, get_or, slice_get, Option, Some, None, option_map, refl, sym, ap, ◌∙◌, subst, arith, IsTrue, eqb-true, eq-eqb, le-leb, All}
+use Rattle.std.proofs.Common.{◌≡◌, ℕ, zero, suc, ◌+◌, ◌-◌, ◌<◌, ◌≤◌, ◌⊎◌, ◌↔◌, inl, inr, Bool, true, false, if◌then◌else◌, ◌&&◌, nat_le, nat_eq, ◌==◌, List, [], ◌∷◌, ◌++◌, map, filter, length, get_or, take, append_assoc, slice_get, Option, Some, None, option_map, refl, sym, ap, ◌∙◌, subst, arith, IsTrue, eqb-true, eq-eqb, le-leb, All}
 use Rattle.std.specs.List.{flat_map, list_any}
 use Rattle.std.proofs.lemmas.Bool.{and_parts, and_from, false≢true}
-use Rattle.std.proofs.lemmas.List.{map-append}
+use Rattle.std.proofs.lemmas.List.{map-append, append-nil, take_more}
 use Rattle.dn_base.specs.Members.{Member}
 use Rattle.dn_base.proofs.Members.{any_member, member_any}
 use Rattle.dn_interval.specs.declared.row.End.{End}
+use Rattle.dn_interval.specs.declared.row.Row.{Row}
+use Rattle.dn_interval.specs.declared.row.Seg.{Seg}
 use Rattle.dn_interval.specs.declared.span.TheConstants.{TOP}
+use Rattle.dn_interval.specs.Listed.{seen_by}
+use Rattle.dn_interval.specs.Rows.{AreNormal, SegmentsGive}
+use Rattle.dn_interval.specs.Strands.{segs_give}
+use Rattle.dn_interval.proofs.Listing.{normal_are_listed}
+use Rattle.dn_interval.proofs.Names.{segs_from, segs_to}
+use Rattle.dn_interval.proofs.Normal.{normal_like}
+use Rattle.dn_net.specs.declared.node.Block.{Block}
+use Rattle.dn_net.specs.declared.node.Entry.{Entry}
 use Rattle.dn_net.specs.declared.node.Name.{Name}
 use Rattle.dn_net.specs.declared.node.NodeDecl.{NodeDecl}
 use Rattle.dn_net.specs.Decode.{top, within, steps, Step}
@@ -19,14 +29,17 @@ use Rattle.dn_net.proofs.Legs.{leads_of_leg, leg_of_leads, leads_once, leads_in_
 use Rattle.dn_net.proofs.Levels.{IsRow, level_is_row}
 use Rattle.dn_net.proofs.Members.{member_map, map_member, member_filter, filter_member, member_flat_map, flat_map_member}
 use Rattle.dn_walk.specs.declared.leg.Leg.{Leg}
-use Rattle.dn_walk.specs.Legs.{told_leg, told_legs}
+use Rattle.dn_walk.specs.declared.walks.WalkRow.{WalkRow}
+use Rattle.dn_walk.specs.Legs.{told_leg, told_legs, legs_by, AreLegs}
 use Rattle.dn_walk.specs.Levels.{told_meets, told_onto, told_on}
-use Rattle.dn_walk.specs.Rows.{Told, told_by_walk}
+use Rattle.dn_walk.specs.Rows.{Told, row_view, told_by_walk}
 use Rattle.dn_walk.proofs.Bridge.{met_told, each_onto}
-use Rattle.dn_shape.specs.Absorb.{names_past, steps_past, row_end}
-use Rattle.dn_shape.specs.Past.{onward, walks_past, told_onward, told_gives, told_give}
-use Rattle.dn_shape.proofs.Passing.{end_name, ends_past, past_in, ends_in}
-use Rattle.dn_shape.proofs.Renamed.{name_is}
+use Rattle.dn_walk.proofs.Nodes.{legs_are, legs_of_node}
+use Rattle.dn_walk.proofs.Told.{at_member}
+use Rattle.dn_shape.specs.Absorb.{names_past, steps_past, row_end, rows_past}
+use Rattle.dn_shape.specs.Past.{LeadOn, onward, walks_past, told_onward, told_gives, told_give}
+use Rattle.dn_shape.proofs.Passing.{end_name, ends_past, ends_past_ascend, past_in, ends_in}
+use Rattle.dn_shape.proofs.Renamed.{name_is, node_there}
 
 -- what is told of the walks that go on by the legs of a node
 pub told_on_is : (w : Walk) (ls : List NetLeg) → told_on (map told_leg ls) (told_by_walk w) ≡ map told_by_walk (map (onto w) (filter (meets w) ls))
@@ -61,6 +74,58 @@ all_told net m ls e (w ∷ ws) =
     ∙ ap (λ x. map told_by_walk (onward net m w) ++ x) (all_told net m ls e ws)
     ∙ sym (map-append told_by_walk (onward net m w) (flat_map (onward net m) ws))
 
+-- the legs of a node, by its parts
+pub legs_read : (o : Option NodeDecl) (a : List Block) (e : List Entry) (v : Option ℕ) (ls : List Leg) → option_map (λ d. d.accepts) o ≡ Some a → option_map (λ d. d.entries) o ≡ Some e → option_map (λ d. d.over) o ≡ Some v → ls ≡ legs_by a e v → option_map told_legs o ≡ Some ls
+legs_read None a e v ls p q r s = cc
+legs_read (Some d) a e v ls p q r s =
+    let p' : d.accepts ≡ a = cc in
+    let q' : d.entries ≡ e = cc in
+    let r' : d.over ≡ v = cc in
+    ap Some (legs_are d ∙ ap (λ x. legs_by x d.entries d.over) p' ∙ ap (λ x. legs_by a x d.over) q' ∙ ap (λ x. legs_by a e x) r' ∙ sym s)
+
+-- by which walks go on
+pub legs_lead : (net : List NodeDecl) → KeepsNodeRules net → (i : ℕ) (ls : List Leg) → i < length net → option_map told_legs (slice_get net i) ≡ Some ls → LeadOn ls
+legs_lead net rules i ls l e = by (node_there net i l)
+  where
+    lead : AreLegs (length net) ls → LeadOn ls
+    lead h = record { firsts = h.firsts; lasts = h.lasts; order = λ k d b. (h.each k d b).order; low = λ k d b. (h.each k d b).low; far = λ k d b. (h.each k d b).reach }
+
+    by : (n : NodeDecl) × (slice_get net i ≡ Some n) → LeadOn ls
+    by (n, at) =
+        let s : ◌≡◌ {A = Option (List Leg)} (Some (told_legs n)) (Some ls) = ap (option_map told_legs) (sym at) ∙ e in
+        let t : told_legs n ≡ ls = cc in
+        lead (subst (AreLegs (length net)) t (legs_of_node net rules i n at))
+
+-- rows that tell of walks
+row_walk : (ws : List Walk) (rows : List WalkRow) → map row_view rows ≡ map told_by_walk ws → (k : ℕ) (d : WalkRow) → k < length rows → (w : Walk) × Member w ws × (told_by_walk w ≡ row_view (get_or rows k d))
+row_walk ws rows e k d l = member_map told_by_walk ws (row_view (get_or rows k d)) (subst (λ x. Member (row_view (get_or rows k d)) x) e (map_member row_view rows (get_or rows k d) (at_member rows k d l)))
+
+pub rows_far : (net : List NodeDecl) (ws : List Walk) (rows : List WalkRow) → ((w : Walk) → Member w ws → (k : ℕ) × IsRow net k w) → map row_view rows ≡ map told_by_walk ws → All (λ (r : WalkRow). r.base + (r.span.hi - r.span.lo) ≤ TOP) rows
+rows_far net ws rows each e = λ k d l. far (get_or rows k d) (row_walk ws rows e k d l)
+  where
+    far : (r : WalkRow) → (w : Walk) × Member w ws × (told_by_walk w ≡ row_view r) → r.base + (r.span.hi - r.span.lo) ≤ TOP
+    far r (w, m, t) = subst (λ (u : Told). u.base + (u.hi - u.lo) ≤ TOP) t (each w m).1.out
+
+pub rows_short : (net : List NodeDecl) (ws : List Walk) (rows : List WalkRow) → ((w : Walk) → Member w ws → IsRow net 1 w) → map row_view rows ≡ map told_by_walk ws → All (λ (r : WalkRow). r.len ≤ 64) rows
+rows_short net ws rows each e = λ k d l. short (get_or rows k d) (row_walk ws rows e k d l)
+  where
+    short : (r : WalkRow) → (w : Walk) × Member w ws × (told_by_walk w ≡ row_view r) → r.len ≤ 64
+    short r (w, m, t) =
+        let a : length w.choices ≡ 1 = (each w m).long in
+        let b : length w.choices ≡ r.len = ap (λ (u : Told). u.len) t in
+        omega arith
+
+-- one row more
+pub onward_more : (f : Told → List Told) (rows : List WalkRow) (i : ℕ) (r : WalkRow) → i < length rows → r ≡ get_or rows i r → flat_map f (map row_view (take (i + 1) rows)) ≡ flat_map f (map row_view (take i rows)) ++ f (row_view r)
+onward_more f rows i r l e =
+    ap (λ x. flat_map f (map row_view x)) (take_more rows i r l ∙ ap (λ x. take i rows ++ x ∷ []) (sym e))
+    ∙ ap (flat_map f) (map-append row_view (take i rows) (r ∷ []))
+    ∙ flat_last f (map row_view (take i rows)) (row_view r)
+  where
+    flat_last : (f : Told → List Told) (ts : List Told) (t : Told) → flat_map f (ts ++ t ∷ []) ≡ flat_map f ts ++ f t
+    flat_last f [] t = append-nil (f t)
+    flat_last f (u ∷ ts) t = ap (λ x. f u ++ x) (flat_last f ts t) ∙ sym (append_assoc (f u) (flat_map f ts) (f t))
+
 -- the walk of no choice from a node that is there
 still_there : (k i : ℕ) (ds : List NodeDecl) → i < length ds → Member (still (k + i)) (stills k ds)
 still_there k i [] l = absurd (omega arith)
@@ -83,7 +148,7 @@ module _ (net : List NodeDecl) (rules : KeepsNodeRules net) (m i : ℕ) (there :
   apart_at : (k : ℕ) (n : NodeDecl) → slice_get net k ≡ Some n → IsApart n
   apart_at k n at = node_apart net rules.each k n at
 
-  first_level : (w : Walk) → Member w (extended net (still i)) → Member w (level net 1)
+  pub first_level : (w : Walk) → Member w (extended net (still i)) → Member w (level net 1)
   first_level w h =
       let e : 0 + i ≡ i = omega arith in
       flat_map_member (extended net) (level net 0) (still i) w (subst (λ k. Member (still k) (stills 0 net)) e (still_there 0 i net there)) h
@@ -248,3 +313,15 @@ module _ (net : List NodeDecl) (rules : KeepsNodeRules net) (m i : ℕ) (there :
         back h =
             let g = past_given (end_name y) ((ends_in (steps_past net m here) (end_name y)).0 h) in
             member_any (λ t. told_gives t a y) (map told_by_walk (walks_past net m i)) (told_by_walk g.walk) (map_member told_by_walk (walks_past net m i) g.walk g.member) (gives_from g.walk a y g.inside g.to)
+
+pub first_row : (net : List NodeDecl) → KeepsNodeRules net → (i : ℕ) → i < length net → (w : Walk) → Member w (extended net (still i)) → IsRow net 1 w
+first_row net rules i there w h = level_is_row net rules 1 w (first_level net rules i i there w h)
+
+-- normal rows of what the walks give are the rows past the node
+pub rows_are_past : (net : List NodeDecl) → KeepsNodeRules net → (m i : ℕ) → i < length net → (walks : List WalkRow) (segs : List Seg) (rows : List Row) → map row_view walks ≡ map told_by_walk (walks_past net m i) → ((a : ℕ) (y : End) → segs_give segs a y ≡ told_give (map row_view walks) a y) → AreNormal (SegmentsGive segs) rows → map seen_by rows ≡ rows_past net m i
+rows_are_past net rules m i there walks segs rows told give normal =
+    normal_are_listed (ends_past net m i) (ends_past_ascend net m i) rows
+    (normal_like (SegmentsGive segs) (λ a y. Member y (ends_past net m i a)) rows (λ a y low. (
+      (λ g. (walks_give net rules m i there a low y).0 (sym (ap (λ l. told_give l a y) told) ∙ (sym (give a y) ∙ segs_from segs a y g))),
+      (λ h. segs_to segs a y (give a y ∙ (ap (λ l. told_give l a y) told ∙ (walks_give net rules m i there a low y).1 h))),
+    )) normal)

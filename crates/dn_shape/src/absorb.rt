@@ -9,6 +9,7 @@ ghost use Rattle.dn_net.specs.Legal.{IsLegalNet};
 ghost use Rattle.dn_net.specs.Rules.{KeepsNodeRules, is_vectors};
 ghost use Rattle.dn_shape.specs.Absorb.{absorb_outcome, has_port, is_port, leads_to, led_past, maps_to, net_past, node_past, why_not_at};
 ghost use Rattle.dn_shape.specs.Faults.{absorb_fault_view};
+ghost use Rattle.dn_shape.specs.Views.{HaveEqualViews, IsSound};
 
 use crate::copy::{node_copy, unit_copy};
 use crate::fault::{AbsorbFault, Why};
@@ -18,7 +19,7 @@ use dn_base::OutOfMemory;
 use dn_base::items::Items;
 use dn_base::text::Text;
 use dn_net::net::Net;
-use dn_net::node::{Entry, NodeDecl, Role, Unit};
+use dn_net::node::{Dest, Entry, NodeDecl, Role, Unit};
 use std::alloc::Global;
 
 /// The net in which no node leads to this one. Each other node with a destination in it, or with an `over` to
@@ -33,6 +34,8 @@ pub fn absorb(alloc: Global, net: &Net, node: u16) -> Result<Net, AbsorbFault>
     requires legal { IsLegalNet net.now }
     requires there { node < length net.now }
     ensures made { Answers (λ n. n) absorb_fault_view result (absorb_outcome net.now node) }
+    ensures sound { IfOk result IsSound }
+    ensures views { IfOk result (HaveEqualViews (λ x. x) net.now) }
 {
     if let Some(why) = why_not(net, node) {
         return Err(AbsorbFault::NotAbsorbable { why });
@@ -97,9 +100,21 @@ fn has_port(unit: Option<&Unit>, port: u16) -> bool
     ensures { result ≡ has_port port (option_copied unit.entry) }
 {
     match unit {
-        Some(unit) => unit.ports.as_slice().iter().any(|p| *p == port),
+        Some(unit) => do_name(unit.ports.as_slice(), port),
         None => false,
     }
+}
+
+/// Whether the node is among the ports.
+fn do_name(ports: &[u16], port: u16) -> bool
+    ensures { result ≡ list_any (λ p. p == port) ports.now }
+{
+    for p in ports {
+        if *p == port {
+            return true;
+        }
+    }
+    false
 }
 
 /// Whether an entry of a node, or its `over`, leads to another.
@@ -115,7 +130,19 @@ fn do_map_to(entries: &[Entry], to: u16) -> bool
     ensures { result ≡ list_any (maps_to to) entries.now }
 {
     for entry in entries {
-        if entry.dests.as_slice().iter().any(|dest| dest.node == to) {
+        if do_lead_to(entry.dests.as_slice(), to) {
+            return true;
+        }
+    }
+    false
+}
+
+/// Whether one of the destinations is in the node.
+fn do_lead_to(dests: &[Dest], to: u16) -> bool
+    ensures { result ≡ list_any (λ d. d.node == to) dests.now }
+{
+    for dest in dests {
+        if dest.node == to {
             return true;
         }
     }
@@ -124,11 +151,10 @@ fn do_map_to(entries: &[Entry], to: u16) -> bool
 
 /// The net past a node.
 fn net_past(alloc: Global, net: &Net, past: u16) -> Result<Net, OutOfMemory>
-    requires rules { KeepsNodeRules net.now }
+    requires legal { IsLegalNet net.now }
     requires past { past < length net.now }
     ensures { IfOk result (λ made. made ≡ net_past net.now past) }
 {
-    net.facts();
     let mut made = Net::new(alloc);
     for node in 0..net.nodes() {
         made.add(node_past(alloc, net, past, node)?)?;

@@ -53,9 +53,11 @@ fn walks_past(alloc: Global, net: &Net, past: u16, node: u16) -> Result<Vec<Walk
 {
     let first = first_walks(alloc, net, node)?;
     let legs = legs_of(alloc, net, past)?;
+    let onward = legs.as_slice();
+    let rows = first.as_slice();
     let mut walks = Vec::new(alloc);
-    for row in &first {
-        push_onward(row, past, legs.as_slice(), &mut walks)?;
+    for row in rows {
+        push_onward(row, past, onward, &mut walks)?;
     }
     Ok(walks)
 }

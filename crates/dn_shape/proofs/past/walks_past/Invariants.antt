@@ -6,4 +6,4 @@ use Rattle.dn_shape.specs.Past.{told_onward}
 use Rattle.dn_shape.proofs.past.walks_past.Given as goal
 
 abbrev pub invariant-loop-row : goal.invariant-loop-row
-invariant-loop-row l = map row_view l.walks.items ≡ flat_map (told_onward l.legs l.past) (map row_view (take l.row-index l.first.items))
+invariant-loop-row l = map row_view l.walks.items ≡ flat_map (told_onward l.onward l.past) (map row_view (take l.row-index l.rows))
