@@ -1,11 +1,10 @@
 -- A net past a node has the views of the net.
-use Rattle.std.proofs.Common.{◌≡◌, ℕ, zero, suc, ◌+◌, ◌-◌, ◌<◌, ◌≤◌, ◌⊎◌, ◌↔◌, inl, inr, Bool, true, false, not, if◌then◌else◌, ◌&&◌, ◌||◌, nat_le, nat_lt, ◌==◌, List, [], ◌∷◌, length, slice_get, Option, Some, None, option_map, is_some, refl, sym, ap, ◌∙◌, subst, arith, IsTrue, eqb-true, eq-eqb, lt-ltb}
+use Rattle.std.proofs.Common.{◌≡◌, ℕ, zero, suc, ◌+◌, ◌≤◌, ◌⊎◌, ◌↔◌, inl, inr, Bool, true, false, not, if◌then◌else◌, ◌&&◌, ◌||◌, nat_le, nat_lt, ◌==◌, List, [], ◌∷◌, length, slice_get, Option, Some, None, option_map, is_some, refl, sym, ap, ◌∙◌, subst, arith, eqb-true, lt-ltb}
 use Rattle.std.specs.List.{list_any}
 use Rattle.std.proofs.lemmas.Bool.{false≢true}
 use Rattle.dn_base.specs.Members.{Member}
 use Rattle.dn_net.specs.declared.node.Block.{Block}
 use Rattle.dn_net.specs.declared.node.Dest.{Dest}
-use Rattle.dn_net.specs.declared.node.Entry.{Entry}
 use Rattle.dn_net.specs.declared.node.Name.{Name}
 use Rattle.dn_net.specs.declared.node.NodeDecl.{NodeDecl}
 use Rattle.dn_net.specs.declared.node.Unit.{Unit as UnitPart}
@@ -17,10 +16,9 @@ use Rattle.dn_net.specs.Walks.{Choice, mapped_by, over_gap, Leads}
 use Rattle.dn_net.proofs.Chains.{chain_front}
 use Rattle.dn_net.proofs.Choices.{choice_of_step}
 use Rattle.dn_net.proofs.Members.{some_same}
-use Rattle.dn_shape.specs.declared.fault.Why.{Why}
 use Rattle.dn_shape.specs.declared.fault.Why.TheVariants.{Accepts, Agent, Unit, Port, SelfStep}
 use Rattle.dn_shape.specs.Absorb.{is_over_to, maps_to, leads_to, is_port, why_not, names_past, steps_past, is_rewritten, led_past, node_past, nodes_past, net_past}
-use Rattle.dn_shape.specs.Views.{HaveEqualViews, AbsorbKeepsViews}
+use Rattle.dn_shape.specs.Views.{AbsorbKeepsViews}
 use Rattle.dn_shape.proofs.Passing.{past_in, led_steps}
 
 -- what is left of a node that can be absorbed

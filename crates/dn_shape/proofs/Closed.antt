@@ -1,5 +1,5 @@
 -- The references of the nodes of a split net exist.
-use Rattle.std.proofs.Common.{◌≡◌, ℕ, ◌+◌, ◌<◌, ◌≤◌, Bool, true, false, if◌then◌else◌, ◌&&◌, nat_lt, List, [], ◌∷◌, ◌++◌, map, length, Option, Some, None, refl, sym, ap, ◌∙◌, subst, arith, IsTrue, ltb-true}
+use Rattle.std.proofs.Common.{◌≡◌, ℕ, ◌+◌, ◌<◌, ◌≤◌, Bool, true, false, if◌then◌else◌, ◌&&◌, nat_lt, List, [], ◌∷◌, ◌++◌, map, length, Option, Some, None, refl, subst, arith, IsTrue, ltb-true}
 use Rattle.std.specs.List.{list_all}
 use Rattle.std.proofs.lemmas.Bool.{lt-ltb}
 use Rattle.dn_base.specs.Members.{Member}
@@ -10,9 +10,9 @@ use Rattle.dn_net.specs.declared.node.NodeDecl.{NodeDecl}
 use Rattle.dn_net.specs.declared.node.Unit.{Unit as UnitPart}
 use Rattle.dn_net.specs.Decode.{over_within, ports_within, refers_within, is_closed}
 use Rattle.dn_net.proofs.Places.{both, list_all-implied}
-use Rattle.dn_shape.specs.Split.{maximal_spans, is_divided, divided_count, entry_onto, sending_to, sending_node, sending_nodes, accepter, split_net}
+use Rattle.dn_shape.specs.Split.{maximal_spans, is_divided, divided_count, entry_onto, sending_to, sending_node, sending_nodes, split_net}
 use Rattle.dn_shape.proofs.Divided.{split_length}
-use Rattle.dn_shape.proofs.Sending.{each_new, SentFrom, sent_from, all_of_each, each_of_all}
+use Rattle.dn_shape.proofs.Sending.{each_new, sent_from, all_of_each, each_of_all}
 
 -- a reference to one of so many nodes is one to one of more
 abbrev entries_within : ℕ → List Entry → Bool

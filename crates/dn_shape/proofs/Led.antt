@@ -1,38 +1,37 @@
 -- The nodes of a net past another keep the node rules, and none leads to that one.
-use Rattle.std.proofs.Common.{◌≡◌, ℕ, zero, suc, ◌+◌, ◌-◌, ◌<◌, ◌≤◌, ◌⊎◌, inl, inr, Bool, true, false, not, if◌then◌else◌, ◌&&◌, ◌||◌, nat_le, nat_lt, ◌==◌, List, [], ◌∷◌, map, length, slice_get, Option, Some, None, option_map, is_some, refl, sym, ap, ◌∙◌, subst, arith, IsTrue, leb-true, le-leb, ltb-true, eqb-true, All}
+use Rattle.std.proofs.Common.{◌≡◌, ℕ, suc, ◌+◌, ◌-◌, ◌<◌, ◌≤◌, ◌⊎◌, inl, inr, Bool, true, false, not, if◌then◌else◌, ◌&&◌, ◌||◌, nat_le, nat_lt, ◌==◌, List, [], ◌∷◌, map, length, slice_get, Option, Some, None, option_map, is_some, refl, sym, ap, ◌∙◌, subst, arith, IsTrue, leb-true, le-leb, ltb-true, eqb-true}
 use Rattle.std.specs.List.{list_all, list_any}
-use Rattle.std.proofs.lemmas.Bool.{false≢true, true≢false, lt-ltb, eq-eqb}
+use Rattle.std.proofs.lemmas.Bool.{false≢true, true≢false, lt-ltb}
 use Rattle.dn_base.specs.Members.{Member}
 use Rattle.dn_interval.specs.declared.row.End.{End}
 use Rattle.dn_interval.specs.declared.span.TheConstants.{TOP}
-use Rattle.dn_interval.specs.Rows.{moved as end_moved, end_lt, AllAbove, Ascending, HasEnds}
-use Rattle.dn_interval.specs.Listed.{Seen, listed_rows, SeenApart, SeenGive}
+use Rattle.dn_interval.specs.Rows.{moved as end_moved, AllAbove, Ascending, HasEnds}
+use Rattle.dn_interval.specs.Listed.{Seen, SeenApart, SeenGive}
 use Rattle.dn_interval.proofs.Fronts.{listed_are_normal}
 use Rattle.dn_interval.proofs.Normal.{member_moved}
-use Rattle.dn_net.specs.declared.node.Block.{Block}
 use Rattle.dn_net.specs.declared.node.Dest.{Dest}
 use Rattle.dn_net.specs.declared.node.Entry.{Entry}
 use Rattle.dn_net.specs.declared.node.Name.{Name}
 use Rattle.dn_net.specs.declared.node.NodeDecl.{NodeDecl}
 use Rattle.dn_net.specs.declared.node.Unit.{Unit as UnitPart}
-use Rattle.dn_net.specs.Decode.{top, within, in_some_block, is_accepted_at, decode, sent_names, steps, Step, is_formed, formed_by, is_unit, is_bare, refers_within, over_within, ports_within, is_closed}
-use Rattle.dn_net.specs.Legal.{IsNet, IsLegalNet}
-use Rattle.dn_net.specs.Rules.{block_in_range, dest_in_range, entry_in_range, is_in_range, same_dest, dests_repeat, unit_repeats, repeats, is_vectors, accepted_count, passes_vector_space, KeepsRules, KeepsNodeRules}
-use Rattle.dn_net.proofs.Apart.{IsApart, node_apart}
+use Rattle.dn_net.specs.Decode.{top, within, in_some_block, decode, sent_names, steps, Step, is_formed, formed_by, is_unit, is_bare, refers_within, over_within, ports_within, is_closed}
+use Rattle.dn_net.specs.Legal.{IsLegalNet}
+use Rattle.dn_net.specs.Rules.{block_in_range, dest_in_range, entry_in_range, same_dest, dests_repeat, unit_repeats, is_vectors, accepted_count, KeepsRules, KeepsNodeRules}
+use Rattle.dn_net.proofs.Apart.{node_apart}
 use Rattle.dn_net.proofs.Choices.{choice_of_step}
 use Rattle.dn_net.proofs.Kept.{kept_at}
-use Rattle.dn_net.proofs.Least.{maps_at, maps_at-cons, within_to, within_from, both_true}
+use Rattle.dn_net.proofs.Least.{maps_at, maps_at-cons, within_to, both_true}
 use Rattle.dn_net.proofs.Legs.{leads_in_range}
 use Rattle.dn_net.proofs.Places.{both}
 use Rattle.dn_net.proofs.Steps.{node_at}
-use Rattle.dn_shape.specs.Absorb.{is_over_to, maps_to, leads_to, why_not, names_past, steps_past, rows_past, dest_of_end, entry_of_row, is_rewritten, led_past, node_past, nodes_past, net_past}
-use Rattle.dn_shape.specs.Views.{IsSound, AbsorbKeepsRules}
+use Rattle.dn_shape.specs.Absorb.{is_over_to, maps_to, leads_to, steps_past, rows_past, dest_of_end, entry_of_row, is_rewritten, led_past, node_past, nodes_past, net_past}
+use Rattle.dn_shape.specs.Views.{AbsorbKeepsRules}
 use Rattle.dn_shape.proofs.Absorbed.{Fit, fit_of, net_past_at, own_never}
 use Rattle.dn_shape.proofs.Closed.{true_and}
 use Rattle.dn_shape.proofs.Named.{NamesDiffer, texts, differ_as}
 use Rattle.dn_shape.proofs.Passing.{end_name, ends_past, ends_past_ascend, ends_in, past_in}
 use Rattle.dn_shape.proofs.Renamed.{step_there, accepted_stays}
-use Rattle.dn_shape.proofs.Sending.{all_of_each, none_of_each, each_of_all, all_each}
+use Rattle.dn_shape.proofs.Sending.{all_of_each, none_of_each, all_each}
 
 -- a step keeps in range
 step_low : (net : List NodeDecl) → KeepsNodeRules net → (x y : Name) → Step net x y → y.addr ≤ top

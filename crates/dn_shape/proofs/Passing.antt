@@ -1,18 +1,16 @@
 -- The steps of a node that is led past another: by its rows it decodes to the names past that node.
-use Rattle.std.proofs.Common.{◌≡◌, ℕ, zero, suc, ◌+◌, ◌-◌, ◌<◌, ◌≤◌, ◌⊎◌, ◌↔◌, inl, inr, Bool, true, false, if◌then◌else◌, ◌&&◌, ◌||◌, nat_le, ◌==◌, List, [], ◌∷◌, map, slice_get, Option, Some, None, refl, sym, ap, ◌∙◌, subst, arith, IsTrue, leb-true}
+use Rattle.std.proofs.Common.{◌≡◌, ℕ, suc, ◌-◌, ◌<◌, ◌≤◌, ◌↔◌, inl, inr, Bool, true, false, if◌then◌else◌, nat_le, List, [], ◌∷◌, map, slice_get, Some, None, refl, sym, ap, ◌∙◌, subst, arith, leb-true}
 use Rattle.std.proofs.lemmas.Bool.{false≢true}
 use Rattle.dn_base.specs.Members.{Member}
 use Rattle.dn_interval.specs.declared.row.End.{End}
 use Rattle.dn_interval.specs.declared.span.TheConstants.{TOP}
 use Rattle.dn_interval.specs.Rows.{AllAbove, Ascending, moved as end_moved}
-use Rattle.dn_interval.specs.Listed.{Seen, listed_rows, SeenApart, SeenGive}
+use Rattle.dn_interval.specs.Listed.{Seen, SeenApart, SeenGive}
 use Rattle.dn_interval.proofs.Fronts.{listed_are_normal}
-use Rattle.dn_net.specs.declared.node.Dest.{Dest}
-use Rattle.dn_net.specs.declared.node.Entry.{Entry}
 use Rattle.dn_net.specs.declared.node.Name.{Name}
 use Rattle.dn_net.specs.declared.node.NodeDecl.{NodeDecl}
-use Rattle.dn_net.specs.Decode.{top, within, in_some_block, moved, Sent, by_entries, decode, sent_names, steps, Step}
-use Rattle.dn_net.specs.Names.{name_lt, is_before_first, is_ascending, each_step, sorted_names}
+use Rattle.dn_net.specs.Decode.{top, within, in_some_block, moved, by_entries, decode, sent_names, steps, Step}
+use Rattle.dn_net.specs.Names.{name_lt, is_before_first, is_ascending, each_step}
 use Rattle.dn_net.proofs.Ascending.{sorted_ascending, before_members}
 use Rattle.dn_net.proofs.Least.{both_true, within_from, within_to}
 use Rattle.dn_net.proofs.Resolution.{names_in, each_in}

@@ -1,11 +1,11 @@
 -- The steps of a split net are those of the net, but that an address which a divided node accepted goes to its new node.
-use Rattle.std.proofs.Common.{◌≡◌, ℕ, zero, suc, ◌+◌, ◌-◌, ◌<◌, ◌≤◌, ◌⊎◌, inl, inr, Bool, true, false, not, if◌then◌else◌, ◌&&◌, ◌||◌, nat_le, nat_lt, List, [], ◌∷◌, ◌++◌, map, length, take, slice_get, Option, Some, None, option_map, refl, sym, ap, ◌∙◌, subst, arith, IsTrue, leb-true, le-leb}
+use Rattle.std.proofs.Common.{◌≡◌, ℕ, zero, suc, ◌+◌, ◌-◌, ◌<◌, ◌≤◌, ◌⊎◌, inl, inr, Bool, true, false, if◌then◌else◌, ◌&&◌, ◌||◌, nat_le, List, [], ◌∷◌, ◌++◌, map, length, take, slice_get, Option, Some, None, refl, sym, ap, ◌∙◌, subst, arith, IsTrue}
 use Rattle.std.proofs.lemmas.Bool.{false≢true}
 use Rattle.dn_net.specs.declared.node.Block.{Block}
 use Rattle.dn_net.specs.declared.node.Entry.{Entry}
 use Rattle.dn_net.specs.declared.node.Name.{Name}
 use Rattle.dn_net.specs.declared.node.NodeDecl.{NodeDecl}
-use Rattle.dn_net.specs.Chain.{Member, IsChain, ReachesWithin}
+use Rattle.dn_net.specs.Chain.{Member, IsChain}
 use Rattle.dn_net.specs.Decode.{top, within, in_some_block, is_accepted, is_accepted_at, is_stop, is_stop_at, unit_of, refers_within, Sent, by_over, by_entries, decode, sent_names, steps, Step, step_limit, Resolves, StopsAt}
 use Rattle.dn_net.specs.Legal.{IsLegalNet}
 use Rattle.dn_net.specs.Rules.{KeepsNodeRules}
@@ -15,9 +15,9 @@ use Rattle.dn_net.proofs.Choices.{choice_of_step}
 use Rattle.dn_net.proofs.Least.{either_true, within_to}
 use Rattle.dn_net.proofs.Legs.{leads_within}
 use Rattle.dn_net.proofs.Steps.{node_at}
-use Rattle.dn_shape.specs.Split.{maximal_spans, is_divided, divided_count, entry_onto, sending_to, sending_node, split_net, renamed_at, split_name}
-use Rattle.dn_shape.specs.Views.{HaveEqualViews, SplitKeepsViews}
-use Rattle.dn_shape.proofs.Divided.{NewAt, split_old_at, split_new_at}
+use Rattle.dn_shape.specs.Split.{maximal_spans, is_divided, divided_count, entry_onto, sending_to, split_net, renamed_at, split_name}
+use Rattle.dn_shape.specs.Views.{SplitKeepsViews}
+use Rattle.dn_shape.proofs.Divided.{split_old_at, split_new_at}
 use Rattle.dn_shape.proofs.Maximal.{spans_have}
 
 -- an entry that has an address

@@ -1,30 +1,29 @@
 -- The nodes of a split net keep the node rules.
-use Rattle.std.proofs.Common.{◌≡◌, ◌≢◌, ℕ, zero, suc, ◌+◌, ◌-◌, ◌^◌, ◌<◌, ◌≤◌, ◌⊎◌, inl, inr, Bool, true, false, not, if◌then◌else◌, ◌&&◌, ◌||◌, nat_le, nat_lt, ◌==◌, List, [], ◌∷◌, ◌++◌, map, length, slice_get, count_by, Option, Some, None, is_some, refl, sym, ap, ◌∙◌, subst, arith, IsTrue, leb-true, le-leb, ltb-true, All}
-use Rattle.std.specs.List.{AllPairs, list_all, list_any}
-use Rattle.std.proofs.lemmas.Bool.{false≢true, lt-ltb}
+use Rattle.std.proofs.Common.{◌≡◌, ℕ, suc, ◌+◌, ◌-◌, ◌<◌, ◌≤◌, inl, inr, Bool, true, false, not, if◌then◌else◌, ◌&&◌, ◌||◌, nat_le, nat_lt, List, [], ◌∷◌, ◌++◌, map, length, slice_get, Some, is_some, refl, sym, ap, ◌∙◌, subst, arith, IsTrue, leb-true, le-leb, ltb-true}
+use Rattle.std.specs.List.{list_all, list_any}
+use Rattle.std.proofs.lemmas.Bool.{false≢true}
 use Rattle.dn_base.specs.Members.{Member}
 use Rattle.dn_net.specs.declared.node.Block.{Block}
-use Rattle.dn_net.specs.declared.node.Dest.{Dest}
 use Rattle.dn_net.specs.declared.node.Entry.{Entry}
 use Rattle.dn_net.specs.declared.node.NodeDecl.{NodeDecl}
 use Rattle.dn_net.specs.Decode.{top, within, in_some_block, is_formed}
-use Rattle.dn_net.specs.Legal.{IsNet, IsLegalNet, node_limit}
-use Rattle.dn_net.specs.Rules.{block_in_range, dest_in_range, entry_in_range, is_in_range, map_blocks_at, overlaps, dests_repeat, unit_repeats, repeats, is_vectors, accepted_count, passes_vector_space, KeepsRules, KeepsNodeRules}
+use Rattle.dn_net.specs.Legal.{IsNet, node_limit}
+use Rattle.dn_net.specs.Rules.{block_in_range, entry_in_range, dests_repeat, unit_repeats, is_vectors, accepted_count, KeepsRules, KeepsNodeRules}
 use Rattle.dn_net.specs.Walks.{in_some_entry}
 use Rattle.dn_net.proofs.Apart.{IsApart, node_apart}
 use Rattle.dn_net.proofs.Gaps.{Stand}
 use Rattle.dn_net.proofs.Kept.{few_maps}
-use Rattle.dn_net.proofs.Least.{maps_at, maps_at-cons, within_to, true_both}
+use Rattle.dn_net.proofs.Least.{maps_at, maps_at-cons, within_to}
 use Rattle.dn_net.proofs.Places.{both, names_still_differ}
-use Rattle.dn_shape.specs.Split.{maximal_spans, is_divided, new_nodes, divided_count, entry_onto, sending_to, sending_node, sending_nodes, accepter, with_accepter, with_accepters, split_net}
-use Rattle.dn_shape.specs.Views.{IsSound, SplitKeepsRules}
+use Rattle.dn_shape.specs.Split.{maximal_spans, is_divided, divided_count, entry_onto, sending_to, sending_node, sending_nodes, accepter, with_accepter, with_accepters, split_net}
+use Rattle.dn_shape.specs.Views.{SplitKeepsRules}
 use Rattle.dn_shape.proofs.Closed.{true_and, split_closed}
-use Rattle.dn_shape.proofs.Divided.{sending_length, one_more, accepters_length, split_length}
+use Rattle.dn_shape.proofs.Divided.{sending_length, one_more, split_length}
 use Rattle.dn_shape.proofs.Free.{free_number_is_first}
 use Rattle.dn_shape.proofs.Maximal.{maximal_stand, maximal_in_range, spans_have}
 use Rattle.dn_shape.proofs.Named.{NamesDiffer, differ_as}
 use Rattle.dn_shape.proofs.Renamed.{none_maps}
-use Rattle.dn_shape.proofs.Sending.{sending_texts, sending_formed, accepter_formed, each_new, SentFrom, sent_from, all_of_each, none_of_each, each_of_all, all_each, each_all}
+use Rattle.dn_shape.proofs.Sending.{sending_texts, sending_formed, accepter_formed, each_new, sent_from, all_of_each, none_of_each, each_of_all, all_each, each_all}
 
 -- where a member of a list stands
 place : (net : List NodeDecl) (n : NodeDecl) → Member n net → (i : ℕ) × (slice_get net i ≡ Some n)

@@ -1,12 +1,8 @@
 -- What the nodes of a split net keep of those of the net.
-use Rattle.std.proofs.Common.{◌≡◌, ◌≢◌, ℕ, zero, suc, ◌+◌, ◌-◌, ◌^◌, ◌<◌, ◌≤◌, ◌⊎◌, inl, inr, Bool, true, false, not, if◌then◌else◌, ◌&&◌, ◌||◌, nat_le, nat_lt, ◌==◌, List, [], ◌∷◌, ◌++◌, map, length, slice_get, count_by, Option, Some, None, is_some, refl, sym, ap, ◌∙◌, subst, arith, IsTrue, leb-true, le-leb, ltb-true, All}
+use Rattle.std.proofs.Common.{◌≡◌, ℕ, ◌+◌, ◌<◌, ◌≤◌, inl, inr, Bool, true, false, not, if◌then◌else◌, ◌&&◌, ◌||◌, nat_le, nat_lt, List, [], ◌∷◌, ◌++◌, length, Option, Some, None, is_some, refl, ap, ◌∙◌, subst, arith, IsTrue, leb-true, ltb-true, All}
 use Rattle.std.specs.List.{list_all, list_any}
-use Rattle.std.proofs.lemmas.Bool.{false≢true, lt-ltb}
 use Rattle.dn_base.specs.Members.{Member}
 use Rattle.dn_base.proofs.Members.{member_cases}
-use Rattle.dn_net.specs.declared.node.Block.{Block}
-use Rattle.dn_net.specs.declared.node.Dest.{Dest}
-use Rattle.dn_net.specs.declared.node.Entry.{Entry}
 use Rattle.dn_net.specs.declared.node.NodeDecl.{NodeDecl}
 use Rattle.dn_net.specs.declared.node.Unit.{Unit as UnitPart}
 use Rattle.std.specs.Str.{bytes_eq}
@@ -14,7 +10,7 @@ use Rattle.dn_net.specs.Legal.{node_limit}
 use Rattle.dn_net.specs.Decode.{is_bare, is_formed, formed_by, is_unit}
 use Rattle.dn_net.proofs.Places.{both}
 use Rattle.dn_walk.proofs.Told.{at_member, member_of_all}
-use Rattle.dn_shape.specs.Split.{is_divided, new_nodes, divided_count, sending_to, sending_node, sending_nodes, accepter, with_accepter, with_accepters, split_net}
+use Rattle.dn_shape.specs.Split.{is_divided, new_nodes, divided_count, sending_to, sending_node, sending_nodes, accepter, with_accepter, with_accepters}
 use Rattle.dn_shape.proofs.Free.{free_number_is_first}
 use Rattle.dn_shape.proofs.Named.{NamesDiffer, texts, differ_as}
 

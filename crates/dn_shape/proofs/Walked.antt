@@ -1,7 +1,7 @@
 -- The walks that lead a node past another, and the names that they give.
-use Rattle.std.proofs.Common.{◌≡◌, ℕ, zero, suc, ◌+◌, ◌-◌, ◌<◌, ◌≤◌, ◌⊎◌, ◌↔◌, inl, inr, Bool, true, false, if◌then◌else◌, ◌&&◌, nat_le, nat_eq, ◌==◌, List, [], ◌∷◌, ◌++◌, map, filter, length, get_or, take, append_assoc, slice_get, Option, Some, None, option_map, refl, sym, ap, ◌∙◌, subst, arith, IsTrue, eqb-true, eq-eqb, le-leb, All}
-use Rattle.std.specs.List.{flat_map, list_any}
-use Rattle.std.proofs.lemmas.Bool.{and_parts, and_from, false≢true}
+use Rattle.std.proofs.Common.{◌≡◌, ℕ, zero, suc, ◌+◌, ◌-◌, ◌<◌, ◌≤◌, ◌↔◌, inl, inr, Bool, true, false, if◌then◌else◌, ◌&&◌, nat_le, nat_eq, ◌==◌, List, [], ◌∷◌, ◌++◌, map, filter, length, get_or, take, append_assoc, slice_get, Option, Some, None, option_map, refl, sym, ap, ◌∙◌, subst, arith, IsTrue, eqb-true, eq-eqb, le-leb, All}
+use Rattle.std.specs.List.{flat_map}
+use Rattle.std.proofs.lemmas.Bool.{and_parts, and_from}
 use Rattle.std.proofs.lemmas.List.{map-append, append-nil, take_more}
 use Rattle.dn_base.specs.Members.{Member}
 use Rattle.dn_base.proofs.Members.{any_member, member_any}
@@ -31,12 +31,12 @@ use Rattle.dn_net.proofs.Members.{member_map, map_member, member_filter, filter_
 use Rattle.dn_walk.specs.declared.leg.Leg.{Leg}
 use Rattle.dn_walk.specs.declared.walks.WalkRow.{WalkRow}
 use Rattle.dn_walk.specs.Legs.{told_leg, told_legs, legs_by, AreLegs}
-use Rattle.dn_walk.specs.Levels.{told_meets, told_onto, told_on}
+use Rattle.dn_walk.specs.Levels.{told_onto, told_on}
 use Rattle.dn_walk.specs.Rows.{Told, row_view, told_by_walk}
 use Rattle.dn_walk.proofs.Bridge.{met_told, each_onto}
 use Rattle.dn_walk.proofs.Nodes.{legs_are, legs_of_node}
 use Rattle.dn_walk.proofs.Told.{at_member}
-use Rattle.dn_shape.specs.Absorb.{names_past, steps_past, row_end, rows_past}
+use Rattle.dn_shape.specs.Absorb.{steps_past, rows_past}
 use Rattle.dn_shape.specs.Past.{LeadOn, onward, walks_past, told_onward, told_gives, told_give}
 use Rattle.dn_shape.proofs.Passing.{end_name, ends_past, ends_past_ascend, past_in, ends_in}
 use Rattle.dn_shape.proofs.Renamed.{name_is, node_there}

@@ -14,7 +14,7 @@ use Rattle.dn_net.specs.Names.{each_step, sorted_names}
 use Rattle.dn_net.specs.Rules.{is_vectors}
 use Rattle.dn_shape.specs.declared.fault.Why.{Why}
 use Rattle.dn_shape.specs.declared.fault.Why.TheVariants.{Accepts, Agent, Unit, Port, SelfStep}
-use Rattle.dn_shape.specs.Limits.{passed_limit, by_limit}
+use Rattle.dn_shape.specs.Limits.{passed_limit}
 
 -- the `over` is to the node
 abbrev pub is_over_to : ℕ → Option ℕ → Bool

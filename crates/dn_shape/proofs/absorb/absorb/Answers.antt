@@ -1,6 +1,6 @@
 -- What the net past the node keeps.
 use Rattle.std.proofs.Common.{◌≡◌, ◌∙◌, None, ap, sym, subst}
-use Rattle.dn_shape.specs.Absorb.{why_not, why_not_at, net_past}
+use Rattle.dn_shape.specs.Absorb.{why_not, why_not_at}
 use Rattle.dn_shape.specs.Views.{HaveEqualViews, IsSound}
 use Rattle.dn_shape.proofs.Absorbed.{absorb_keeps_views}
 use Rattle.dn_shape.proofs.Led.{absorb_keeps_rules}

@@ -1,6 +1,6 @@
 -- One node more.
-use Rattle.std.proofs.Common.{◌≡◌, ◌∙◌, ◌+◌, ◌||◌, true, ap, sym, drop, slice_get, arith}
-use Rattle.dn_shape.specs.Absorb.{has_port, is_port}
+use Rattle.std.proofs.Common.{◌∙◌, ◌+◌, ◌||◌, ap, sym, drop, slice_get, arith}
+use Rattle.dn_shape.specs.Absorb.{is_port}
 use Rattle.dn_shape.proofs.Read.{rest_at, port_by}
 use Rattle.dn_shape.proofs.absorb.is_port.Goals as goal
 

@@ -1,6 +1,6 @@
 -- One node more.
-use Rattle.std.proofs.Common.{◌≡◌, ◌∙◌, ◌+◌, ◌-◌, ◌≤◌, ◌<◌, nat_lt, true, drop, ap, sym, arith}
-use Rattle.dn_shape.specs.Limits.{part_limit, parts_of_node, parts_of_net}
+use Rattle.std.proofs.Common.{◌≡◌, ◌∙◌, ◌+◌, nat_lt, drop, ap, sym, arith}
+use Rattle.dn_shape.specs.Limits.{parts_of_node, parts_of_net}
 use Rattle.dn_shape.proofs.Read.{rest_at, said, passed_now, passed_later}
 use Rattle.dn_shape.proofs.limits.has_many_parts.Goals as goal
 

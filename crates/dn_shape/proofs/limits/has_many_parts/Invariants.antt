@@ -1,5 +1,5 @@
 -- What is left of the limit, for the rest of the nodes.
-use Rattle.std.proofs.Common.{◌≡◌, ℕ, nat_lt, drop}
+use Rattle.std.proofs.Common.{◌≡◌, nat_lt, drop}
 use Rattle.dn_shape.specs.Limits.{part_limit, parts_of_net}
 use Rattle.dn_shape.proofs.limits.has_many_parts.Given as goal
 

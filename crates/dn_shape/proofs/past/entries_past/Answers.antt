@@ -1,10 +1,10 @@
 -- The rows are those past the node.
-use Rattle.std.proofs.Common.{◌≡◌, ◌∙◌, ap, sym, subst, map}
+use Rattle.std.proofs.Common.{◌∙◌, ap, subst, map}
 use Rattle.std.proofs.lemmas.Result.{IfOk-weaker}
 use Rattle.dn_interval.specs.Listed.{seen_by}
 use Rattle.dn_interval.specs.Rows.{AreNormal, SegmentsGive}
 use Rattle.dn_walk.specs.Rows.{row_view}
-use Rattle.dn_shape.specs.Absorb.{entry_of_row, rows_past}
+use Rattle.dn_shape.specs.Absorb.{entry_of_row}
 use Rattle.dn_shape.specs.Past.{told_give}
 use Rattle.dn_shape.proofs.Walked.{rows_are_past}
 use Rattle.dn_shape.proofs.past.entries_past.Goals as goal

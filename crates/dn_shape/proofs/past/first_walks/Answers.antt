@@ -1,5 +1,5 @@
 -- What is told of the walks of one choice.
-use Rattle.std.proofs.Common.{◌≡◌, ◌∙◌, ◌++◌, ap, sym, map}
+use Rattle.std.proofs.Common.{◌∙◌, ◌++◌, ap, map}
 use Rattle.dn_net.specs.Walks.{still, extended}
 use Rattle.dn_walk.specs.Rows.{row_view, told_by_walk}
 use Rattle.dn_walk.specs.Levels.{told_on}

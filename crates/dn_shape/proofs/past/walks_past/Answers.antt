@@ -1,10 +1,10 @@
 -- One walk more, and then all of them.
-use Rattle.std.proofs.Common.{◌≡◌, ◌∙◌, ◌+◌, ◌++◌, ap, sym, map, slice_get, option_map, Some}
+use Rattle.std.proofs.Common.{◌≡◌, ◌∙◌, ◌++◌, ap, sym, map, slice_get, option_map, Some}
 use Rattle.std.specs.List.{flat_map}
 use Rattle.std.proofs.lemmas.List.{take_all}
 use Rattle.dn_net.specs.Walks.{still, extended}
 use Rattle.dn_walk.specs.Legs.{told_legs}
-use Rattle.dn_walk.specs.Rows.{row_view, told_by_walk}
+use Rattle.dn_walk.specs.Rows.{row_view}
 use Rattle.dn_shape.specs.Past.{told_onward, walks_past}
 use Rattle.dn_shape.proofs.Walked.{all_told, onward_more, row_of_walk, rows_far}
 use Rattle.dn_shape.proofs.past.walks_past.Goals as goal

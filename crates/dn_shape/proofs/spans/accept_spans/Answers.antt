@@ -1,10 +1,7 @@
 -- The spans of the set are the maximal spans of the blocks.
-use Rattle.std.proofs.Common.{◌≡◌, ◌∙◌, ap, map, Some, option_map, slice_get}
+use Rattle.std.proofs.Common.{◌∙◌, ap, map}
 use Rattle.std.proofs.lemmas.Result.{IfOk-weaker}
-use Rattle.dn_net.specs.declared.node.Block.{Block}
-use Rattle.dn_net.specs.declared.node.NodeDecl.{NodeDecl}
 use Rattle.dn_walk.specs.Legs.{span_view}
-use Rattle.dn_shape.specs.Split.{maximal_spans}
 use Rattle.dn_shape.proofs.Maximal.{set_spans}
 use Rattle.dn_shape.proofs.spans.accept_spans.Goals as goal
 

@@ -1,6 +1,5 @@
 -- There is room, and the name is free.
-use Rattle.std.proofs.Common.{◌≡◌, ◌∙◌, ◌+◌, ◌<◌, ◌≤◌, if◌then◌else◌, ap, length, arith}
-use Rattle.dn_net.specs.Legal.{node_limit}
+use Rattle.std.proofs.Common.{◌≡◌, ◌∙◌, if◌then◌else◌, ap, arith}
 use Rattle.dn_shape.specs.Split.{is_divided, new_nodes}
 use Rattle.dn_shape.proofs.Read.{rest_at, said}
 use Rattle.dn_shape.proofs.Sending.{accepter_new}

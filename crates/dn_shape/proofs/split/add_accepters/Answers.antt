@@ -1,6 +1,5 @@
 -- One node more.
-use Rattle.std.proofs.Common.{◌≡◌, ◌∙◌, ◌+◌, ◌≤◌, ap, sym, drop, length, arith}
-use Rattle.dn_net.specs.Legal.{node_limit}
+use Rattle.std.proofs.Common.{◌≡◌, ◌∙◌, ◌+◌, ap, sym, drop, length, arith}
 use Rattle.dn_shape.specs.Split.{new_nodes, divided_count, with_accepter, with_accepters}
 use Rattle.dn_shape.proofs.Divided.{one_more}
 use Rattle.dn_shape.proofs.Read.{rest_at, said, one_node}

@@ -1,5 +1,5 @@
 -- The nodes so far and the rest.
-use Rattle.std.proofs.Common.{◌≡◌, ℕ, ◌+◌, ◌≤◌, length, drop}
+use Rattle.std.proofs.Common.{◌≡◌, ◌+◌, ◌≤◌, length, drop}
 use Rattle.dn_net.specs.Legal.{node_limit}
 use Rattle.dn_shape.specs.Split.{divided_count, with_accepters}
 use Rattle.dn_shape.proofs.split.add_accepters.Given as goal

@@ -1,5 +1,5 @@
 -- The nodes so far and the rest.
-use Rattle.std.proofs.Common.{◌≡◌, ℕ, ◌+◌, ◌≤◌, drop}
+use Rattle.std.proofs.Common.{◌≡◌, ◌+◌, ◌≤◌, drop}
 use Rattle.dn_shape.specs.Split.{divided_count}
 use Rattle.dn_shape.proofs.split.divided_count.Given as goal
 

@@ -1,6 +1,6 @@
 -- The first number that is free.
-use Rattle.std.proofs.Common.{◌≡◌, ◌∙◌, ◌+◌, ◌-◌, not, ap, sym, length, arith}
-use Rattle.dn_shape.specs.Split.{accepter_text, is_named, first_failing, free_number}
+use Rattle.std.proofs.Common.{◌∙◌, not, ap, length, arith}
+use Rattle.dn_shape.specs.Split.{accepter_text}
 use Rattle.dn_shape.proofs.Free.{found_free, found_taken}
 use Rattle.dn_shape.proofs.split.free_text.Goals as goal
 

@@ -1,5 +1,5 @@
 -- Each number so far is taken.
-use Rattle.std.proofs.Common.{◌≡◌, ℕ, ◌-◌, length}
+use Rattle.std.proofs.Common.{◌≡◌, ◌-◌, length}
 use Rattle.dn_shape.specs.Split.{accepter_text, is_named, first_failing, free_number}
 use Rattle.dn_shape.proofs.split.free_text.Given as goal
 

@@ -1,7 +1,6 @@
 -- One node more.
-use Rattle.std.proofs.Common.{◌≡◌, ◌∙◌, ℕ, Bool, true, false, refl, ◌+◌, ◌≤◌, ◌++◌, ◌∷◌, [], if◌then◌else◌, ap, sym, subst, drop, length, arith, IsTrue, append_assoc}
+use Rattle.std.proofs.Common.{◌≡◌, ◌∙◌, ℕ, Bool, true, false, refl, ◌+◌, ◌++◌, ◌∷◌, [], if◌then◌else◌, ap, sym, subst, drop, length, arith, IsTrue, append_assoc}
 use Rattle.dn_net.specs.Decode.{is_formed}
-use Rattle.dn_net.specs.Legal.{node_limit}
 use Rattle.dn_net.proofs.Places.{length-last}
 use Rattle.dn_net.proofs.Steps.{node_at}
 use mir.Val.{bool_byte}

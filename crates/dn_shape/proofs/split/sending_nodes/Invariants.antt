@@ -1,5 +1,5 @@
 -- The nodes so far and the rest.
-use Rattle.std.proofs.Common.{◌≡◌, ℕ, ◌+◌, ◌++◌, length, drop}
+use Rattle.std.proofs.Common.{◌≡◌, ◌+◌, ◌++◌, length, drop}
 use Rattle.dn_shape.specs.Split.{divided_count, sending_nodes}
 use Rattle.dn_shape.proofs.split.sending_nodes.Given as goal
 

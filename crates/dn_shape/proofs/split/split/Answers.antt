@@ -1,8 +1,7 @@
 -- How many nodes the split net has, and what it keeps.
-use Rattle.std.proofs.Common.{◌≡◌, ◌∙◌, ◌+◌, ◌<◌, ◌≤◌, ap, sym, subst, length, arith}
-use Rattle.dn_net.specs.Legal.{node_limit}
+use Rattle.std.proofs.Common.{◌≡◌, ◌∙◌, ap, sym, subst, length, arith}
 use Rattle.dn_shape.specs.Limits.{by_limit}
-use Rattle.dn_shape.specs.Split.{divided_count, split_net, split_name, with_accepters}
+use Rattle.dn_shape.specs.Split.{split_net, split_name, with_accepters}
 use Rattle.dn_shape.specs.Views.{HaveEqualViews, IsSound}
 use Rattle.dn_shape.proofs.Divided.{split_length, sending_length}
 use Rattle.dn_shape.proofs.Limited.{many_nodes}
