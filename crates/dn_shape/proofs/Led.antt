@@ -45,10 +45,6 @@ step_low net rules x y s =
     let near : c.name.addr + (x.addr - c.block.lo) ≤ top = omega arith in
     subst (λ (z : Name). z.addr ≤ top) c.to near
 
--- the rest of the rows stands apart too
-rest_apart : (from : ℕ) (r : Seen) (rows : List Seen) → SeenApart from (r ∷ rows) → SeenApart (suc r.hi) rows
-rest_apart from r rows apart = apart.6
-
 -- a row among rows that stand apart
 row_apart : (from : ℕ) (rows : List Seen) (r : Seen) → SeenApart from rows → Member r rows → (from ≤ r.lo) × (r.lo ≤ r.hi) × (r.hi ≤ TOP) × HasEnds r.ends × Ascending r.ends
 row_apart from [] r apart m = absurd m

@@ -1,57 +1,15 @@
 -- A node from its parts, as they are read one by one.
-use Rattle.std.proofs.Common.{◌≡◌, ℕ, ◌+◌, ◌-◌, ◌<◌, ◌≤◌, Bool, true, false, not, if◌then◌else◌, ◌&&◌, ◌||◌, nat_lt, ◌==◌, List, ◌∷◌, length, slice_get, drop, get_or, Option, Some, None, option_map, is_some, refl, sym, ap, ◌∙◌, arith}
+use Rattle.std.proofs.Common.{◌≡◌, ℕ, ◌+◌, ◌-◌, ◌<◌, ◌≤◌, Bool, true, false, nat_lt, List, ◌∷◌, length, slice_get, drop, get_or, Option, Some, None, option_map, refl, sym, ap, ◌∙◌, arith}
 use Rattle.dn_base.proofs.Lists.{drop_at}
 use Rattle.std.proofs.lemmas.Bool.{lt-ltb, ltb-true, ltb-false}
 use Rattle.std.proofs.lemmas.Option.{slice_get-get_or}
-use Rattle.dn_net.specs.declared.node.Block.{Block}
 use Rattle.dn_net.specs.declared.node.Entry.{Entry}
-use Rattle.dn_net.specs.declared.node.Role.{Role}
 use Rattle.dn_net.specs.declared.node.Unit.{Unit as UnitPart}
 use Rattle.dn_net.specs.declared.node.NodeDecl.{NodeDecl}
-use Rattle.dn_shape.specs.Absorb.{has_port, is_over_to, maps_to, leads_to}
-use Rattle.dn_shape.specs.Limits.{dest_limit, has_long_entry, parts_of_node}
-use Rattle.dn_shape.specs.Split.{is_divided}
+use Rattle.dn_shape.specs.Absorb.{has_port}
+use Rattle.dn_shape.specs.Limits.{dest_limit, has_long_entry}
 use Rattle.dn_shape.proofs.Renamed.{node_there}
 use Rattle.std.specs.List.{list_any}
-
--- the node of these parts
-abbrev pub node_of : List ℕ → Role → List Block → List Entry → Option ℕ → Option UnitPart → NodeDecl
-node_of t r a e o u = record { text = t; role = r; accepts = a; entries = e; over = o; unit = u }
-
-pub node_is : (n : Option NodeDecl) (t : List ℕ) (r : Role) (a : List Block) (e : List Entry) (o : Option ℕ) (u : Option UnitPart) → option_map (λ d. d.text) n ≡ Some t → option_map (λ d. d.role) n ≡ Some r → option_map (λ d. d.accepts) n ≡ Some a → option_map (λ d. d.entries) n ≡ Some e → option_map (λ d. d.over) n ≡ Some o → option_map (λ d. d.unit) n ≡ Some u → n ≡ Some (node_of t r a e o u)
-node_is None t r a e o u p q v w x y = cc
-node_is (Some d) t r a e o u p q v w x y =
-    let p' : d.text ≡ t = cc in
-    let q' : d.role ≡ r = cc in
-    let v' : d.accepts ≡ a = cc in
-    let w' : d.entries ≡ e = cc in
-    let x' : d.over ≡ o = cc in
-    let y' : d.unit ≡ u = cc in
-    λ i. Some (record { text = p' i; role = q' i; accepts = v' i; entries = w' i; over = x' i; unit = y' i })
-
--- a node is divided by its parts
-pub divided_by : (n : Option NodeDecl) (a : List Block) (e : List Entry) (o : Option ℕ) → option_map (λ d. d.accepts) n ≡ Some a → option_map (λ d. d.entries) n ≡ Some e → option_map (λ d. d.over) n ≡ Some o → option_map is_divided n ≡ Some (nat_lt 0 (length a) && (nat_lt 0 (length e) || is_some o))
-divided_by None a e o v w x = cc
-divided_by (Some d) a e o v w x =
-    let v' : d.accepts ≡ a = cc in
-    let w' : d.entries ≡ e = cc in
-    let x' : d.over ≡ o = cc in
-    λ i. Some (nat_lt 0 (length (v' i)) && (nat_lt 0 (length (w' i)) || is_some (x' i)))
-
-pub parts_by : (n : Option NodeDecl) (a : List Block) (e : List Entry) (o : Option ℕ) → option_map (λ d. d.accepts) n ≡ Some a → option_map (λ d. d.entries) n ≡ Some e → option_map (λ d. d.over) n ≡ Some o → option_map parts_of_node n ≡ Some (length a + (length e + (if is_some o then 1 else 0)))
-parts_by None a e o v w x = cc
-parts_by (Some d) a e o v w x =
-    let v' : d.accepts ≡ a = cc in
-    let w' : d.entries ≡ e = cc in
-    let x' : d.over ≡ o = cc in
-    λ i. Some (length (v' i) + (length (w' i) + (if is_some (x' i) then 1 else 0)))
-
-pub leads_by : (m : ℕ) (n : Option NodeDecl) (e : List Entry) (o : Option ℕ) → option_map (λ d. d.entries) n ≡ Some e → option_map (λ d. d.over) n ≡ Some o → option_map (leads_to m) n ≡ Some (list_any (maps_to m) e || is_over_to m o)
-leads_by m None e o w x = cc
-leads_by m (Some d) e o w x =
-    let w' : d.entries ≡ e = cc in
-    let x' : d.over ≡ o = cc in
-    λ i. Some (list_any (maps_to m) (w' i) || is_over_to m (x' i))
 
 -- the rest of the nodes from one on
 pub record Rest (net : List NodeDecl) (i : ℕ) : Type 0 where
@@ -73,10 +31,6 @@ said f (Some d) n x e h =
     let s : d ≡ n = cc in
     let t : f d ≡ x = cc in
     ap f (sym s) ∙ t
-
--- some items are there exactly where a list is not empty
-pub some_there : (k : ℕ) → not (k == 0) ≡ nat_lt 0 k
-some_there k = grind arith
 
 -- two nodes of one place
 pub one_node : (o : Option NodeDecl) (n m : NodeDecl) → o ≡ Some n → o ≡ Some m → n ≡ m
