@@ -17,7 +17,7 @@ use Rattle.dn_net.proofs.Chains.{chain_front}
 use Rattle.dn_net.proofs.Choices.{choice_of_step}
 use Rattle.dn_net.proofs.Members.{some_same}
 use Rattle.dn_shape.specs.declared.fault.Why.TheVariants.{Accepts, Agent, Unit, Port, SelfStep}
-use Rattle.dn_shape.specs.Absorb.{is_over_to, maps_to, leads_to, is_port, why_not, names_past, steps_past, is_rewritten, led_past, node_past, nodes_past, net_past}
+use Rattle.dn_shape.specs.Absorb.{is_over_to, maps_to, leads_to, is_port, why_not, names_past, steps_past, is_rewritten, node_led_past, node_past, nodes_past, net_past}
 use Rattle.dn_shape.specs.Views.{AbsorbKeepsViews}
 use Rattle.dn_shape.proofs.Passing.{past_in, led_steps}
 
@@ -57,7 +57,7 @@ net_past_at net m i =
 pub accepted_kept : (net : List NodeDecl) (m : ℕ) (x : Name) → is_accepted (net_past net m) x ≡ is_accepted net x
 accepted_kept net m x = ap (is_accepted_at x.addr) (net_past_at net m x.node) ∙ go (slice_get net x.node)
   where
-    one : (n : NodeDecl) (b : Bool) → is_accepted_at x.addr (Some (if b then led_past net m x.node n else n)) ≡ is_accepted_at x.addr (Some n)
+    one : (n : NodeDecl) (b : Bool) → is_accepted_at x.addr (Some (if b then node_led_past net m x.node n else n)) ≡ is_accepted_at x.addr (Some n)
     one n true = refl
     one n false = refl
 
@@ -68,7 +68,7 @@ accepted_kept net m x = ap (is_accepted_at x.addr) (net_past_at net m x.node) �
 pub stop_kept : (net : List NodeDecl) (m : ℕ) (x : Name) → is_stop (net_past net m) x ≡ is_stop net x
 stop_kept net m x = ap (λ o. is_stop_at x.addr (unit_of o)) (net_past_at net m x.node) ∙ go (slice_get net x.node)
   where
-    one : (n : NodeDecl) (b : Bool) → is_stop_at x.addr (unit_of (Some (if b then led_past net m x.node n else n))) ≡ is_stop_at x.addr n.unit
+    one : (n : NodeDecl) (b : Bool) → is_stop_at x.addr (unit_of (Some (if b then node_led_past net m x.node n else n))) ≡ is_stop_at x.addr n.unit
     one n true = refl
     one n false = refl
 
@@ -105,7 +105,7 @@ module _ (net : List NodeDecl) (legal : IsLegalNet net) (m : ℕ) (n : NodeDecl)
   own_steps x e = ap (λ o. sent_names (decode x.addr o)) (net_past_at net m x.node ∙ same (slice_get net x.node))
     where
       kept : (k : NodeDecl) → node_past net m x.node k ≡ k
-      kept k = ap (λ b. if not b && leads_to m k then led_past net m x.node k else k) e
+      kept k = ap (λ b. if not b && leads_to m k then node_led_past net m x.node k else k) e
 
       same : (o : Option NodeDecl) → option_map (node_past net m x.node) o ≡ o
       same None = refl
@@ -144,12 +144,12 @@ module _ (net : List NodeDecl) (legal : IsLegalNet net) (m : ℕ) (n : NodeDecl)
               let g = single r.0 (subst (λ l. Member y l) (one r.0 (never_leads m x.addr k r.0 h t)) r.2) in
               subst (λ z. Member z (sent_names (decode x.addr (Some k)))) g t
 
-      leading : (k : NodeDecl) → slice_get net x.node ≡ Some k → (b : Bool) → leads_to m k ≡ b → Member y (sent_names (decode x.addr (Some (if b then led_past net m x.node k else k)))) ↔ Member y (steps_past net m x)
+      leading : (k : NodeDecl) → slice_get net x.node ≡ Some k → (b : Bool) → leads_to m k ≡ b → Member y (sent_names (decode x.addr (Some (if b then node_led_past net m x.node k else k)))) ↔ Member y (steps_past net m x)
       leading k f true h = led_steps net m x.node x.addr k y f
       leading k f false h = plain k f h
 
-      is : (k : NodeDecl) → (if leads_to m k then led_past net m x.node k else k) ≡ node_past net m x.node k
-      is k = sym (ap (λ b. if not b && leads_to m k then led_past net m x.node k else k) e)
+      is : (k : NodeDecl) → (if leads_to m k then node_led_past net m x.node k else k) ≡ node_past net m x.node k
+      is k = sym (ap (λ b. if not b && leads_to m k then node_led_past net m x.node k else k) e)
 
       none : steps net x ≡ [] → ⊥ ↔ Member y (steps_past net m x)
       none f = ((λ g. absurd g), (λ s. let r = (past_in net m x y).0 s in subst (λ l. Member r.0 l) f r.1))
@@ -160,7 +160,7 @@ module _ (net : List NodeDecl) (legal : IsLegalNet net) (m : ℕ) (n : NodeDecl)
           ((λ s. g.0 (subst (λ l. Member y l) (start None f) s)), (λ s. absurd (g.1 s)))
       by (Some k) f =
           let g = leading k f (leads_to m k) refl in
-          let s : steps (net_past net m) x ≡ sent_names (decode x.addr (Some (if leads_to m k then led_past net m x.node k else k))) = start (Some k) f ∙ ap (λ t. sent_names (decode x.addr (Some t))) (sym (is k)) in
+          let s : steps (net_past net m) x ≡ sent_names (decode x.addr (Some (if leads_to m k then node_led_past net m x.node k else k))) = start (Some k) f ∙ ap (λ t. sent_names (decode x.addr (Some t))) (sym (is k)) in
           ((λ h. g.0 (subst (λ l. Member y l) s h)), (λ h. subst (λ l. Member y l) (sym s) (g.1 h)))
 
   -- a chain that does not end in the absorbed node goes past it, with no more steps

@@ -10,7 +10,7 @@ use Rattle.dn_net.specs.declared.node.NodeDecl.{NodeDecl}
 use Rattle.dn_net.specs.declared.node.Unit.{Unit as UnitPart}
 use Rattle.dn_net.specs.Decode.{over_within, ports_within, refers_within, is_closed}
 use Rattle.dn_net.proofs.Places.{both, list_all-implied}
-use Rattle.dn_shape.specs.Split.{maximal_spans, is_divided, divided_count, entry_onto, sending_to, sending_node, sending_nodes, split_net}
+use Rattle.dn_shape.specs.Split.{maximal_spans, is_divided, divided_count, entry_onto, sender_to, sending_node, sending_nodes, split_net}
 use Rattle.dn_shape.proofs.Divided.{split_length}
 use Rattle.dn_shape.proofs.Sending.{each_new, sent_from, all_of_each, each_of_all}
 
@@ -56,7 +56,7 @@ sent_refers old count m l n h new = by (is_divided n) refl
         let r = both (over_within old n.over) (ports_within old n.unit) parts.1 in
         true_and (over_within count n.over) (ports_within count n.unit) (over_more old count l n.over r.0) (ports_more old count l n.unit r.1)
 
-    by : (b : Bool) → is_divided n ≡ b → IsTrue (refers_within count (if b then sending_to m n else n))
+    by : (b : Bool) → is_divided n ≡ b → IsTrue (refers_within count (if b then sender_to m n else n))
     by false d = true_and (entries_within count n.entries) (over_within count n.over && ports_within count n.unit) (entries_more old count l n.entries parts.0) rest
     by true d = true_and (entries_within count (n.entries ++ map (entry_onto m) (maximal_spans n.accepts))) (over_within count n.over && ports_within count n.unit) (spans_within count m (new d) n.entries (maximal_spans n.accepts) (entries_more old count l n.entries parts.0)) rest
 

@@ -24,7 +24,7 @@ use Rattle.dn_net.proofs.Least.{maps_at, maps_at-cons, within_to, both_true}
 use Rattle.dn_net.proofs.Legs.{leads_in_range}
 use Rattle.dn_net.proofs.Places.{both}
 use Rattle.dn_net.proofs.Steps.{node_at}
-use Rattle.dn_shape.specs.Absorb.{is_over_to, maps_to, leads_to, steps_past, rows_past, dest_of_end, entry_of_row, is_rewritten, led_past, node_past, nodes_past, net_past}
+use Rattle.dn_shape.specs.Absorb.{is_over_to, maps_to, leads_to, steps_past, rows_past, dest_of_end, entry_of_row, is_rewritten, node_led_past, node_past, nodes_past, net_past}
 use Rattle.dn_shape.specs.Views.{AbsorbKeepsRules}
 use Rattle.dn_shape.proofs.Absorbed.{Fit, fit_of, net_past_at, own_never}
 use Rattle.dn_shape.proofs.Closed.{true_and}
@@ -164,7 +164,7 @@ not_overlapping x b (inl e) = subst (λ y. (nat_lt 1 y || (nat_lt 0 y && b)) ≡
 not_overlapping x b (inr (e, f)) = subst (λ y. (nat_lt 1 y || (nat_lt 0 y && b)) ≡ false) (sym e) f
 
 -- a node that leads to another is no unit
-pub led_formed : (net : List NodeDecl) (m i : ℕ) (d : NodeDecl) → IsTrue (is_formed d) → leads_to m d ≡ true → IsTrue (is_formed (led_past net m i d))
+pub led_formed : (net : List NodeDecl) (m i : ℕ) (d : NodeDecl) → IsTrue (is_formed d) → leads_to m d ≡ true → IsTrue (is_formed (node_led_past net m i d))
 led_formed net m i d formed leads = by d.unit refl formed
   where
     nowhere : (es : List Entry) (o : Option ℕ) → nat_le (length es) 0 ≡ true → not (is_some o) ≡ true → (list_any (maps_to m) es || is_over_to m o) ≡ false
@@ -172,7 +172,7 @@ led_formed net m i d formed leads = by d.unit refl formed
     nowhere [] (Some t) h k = absurd (false≢true k)
     nowhere (e ∷ es) o h k = let l = leb-true (length (e ∷ es)) 0 h in absurd (omega arith)
 
-    by : (u : Option UnitPart) → d.unit ≡ u → IsTrue (formed_by d u) → IsTrue (formed_by (led_past net m i d) u)
+    by : (u : Option UnitPart) → d.unit ≡ u → IsTrue (formed_by d u) → IsTrue (formed_by (node_led_past net m i d) u)
     by None e f = f
     by (Some u) e f =
         let bare = (both (is_unit d.role) (is_bare d) f).1 in
@@ -183,7 +183,7 @@ led_formed net m i d formed leads = by d.unit refl formed
 pub past_formed : (net : List NodeDecl) (m i : ℕ) (d : NodeDecl) → IsTrue (is_formed d) → IsTrue (is_formed (node_past net m i d))
 past_formed net m i d formed = by (i == m) (leads_to m d) refl
   where
-    by : (b c : Bool) → leads_to m d ≡ c → IsTrue (is_formed (if not b && c then led_past net m i d else d))
+    by : (b c : Bool) → leads_to m d ≡ c → IsTrue (is_formed (if not b && c then node_led_past net m i d else d))
     by true c h = formed
     by false true h = led_formed net m i d formed h
     by false false h = formed
@@ -247,12 +247,12 @@ module _ (net : List NodeDecl) (legal : IsLegalNet net) (m : ℕ) (n : NodeDecl)
         by false f l z s = refl
         by true f l z s = absurd (subst (λ t. Member z (sent_names t)) (accepted_stays a d (ap (λ p. p && in_some_block a d.accepts) (le-leb a top l) ∙ f)) s)
 
-    led_keeps : (d : NodeDecl) → slice_get net i ≡ Some d → leads_to m d ≡ true → KeepsRules (led_past net m i d)
+    led_keeps : (d : NodeDecl) → slice_get net i ≡ Some d → leads_to m d ≡ true → KeepsRules (node_led_past net m i d)
     led_keeps d here leads = record {
       in_range = true_and (list_all block_in_range d.accepts) (list_all entry_in_range (map entry_of_row (rows_past net m i))) (both (list_all block_in_range d.accepts) (list_all entry_in_range d.entries) kept.in_range).0 (all_of_each entry_in_range (map entry_of_row (rows_past net m i)) (λ e h. let r = row_of_entry (rows_past net m i) e h in subst (λ f. IsTrue (entry_in_range f)) r.2 (row_in_range r.0 r.1)));
       apart = λ a. not_overlapping (maps_at (map entry_of_row (rows_past net m i)) a) (in_some_block a d.accepts) (elim (maps_once 0 (rows_past net m i) a apart) [ inl e ↦ inl e | inr h ↦ inr (h.0, row_not_accepted d here a h.1) ]);
       once = ap (λ p. p || unit_repeats d.unit) (once_rows 0 (rows_past net m i) apart) ∙ unit_once;
-      space = ap (λ b. not b || ((nat_le (length (map entry_of_row (rows_past net m i))) 0 && not (is_some (led_past net m i d).over)) && nat_le (accepted_count (led_past net m i d)) 4096)) no_vectors;
+      space = ap (λ b. not b || ((nat_le (length (map entry_of_row (rows_past net m i))) 0 && not (is_some (node_led_past net m i d).over)) && nat_le (accepted_count (node_led_past net m i d)) 4096)) no_vectors;
     }
       where
         kept : KeepsRules d
@@ -280,17 +280,17 @@ module _ (net : List NodeDecl) (legal : IsLegalNet net) (m : ℕ) (n : NodeDecl)
                 let p = both (nat_le (length d.entries) 0) (not (is_some d.over)) (both (nat_le (length d.entries) 0 && not (is_some d.over)) (nat_le (accepted_count d) 4096) s).0 in
                 absurd (true≢false (sym leads ∙ nowhere d.entries d.over p.0 p.1))
 
-    led_refers : (d : NodeDecl) → IsTrue (refers_within (length net) d) → IsTrue (refers_within (length net) (led_past net m i d))
+    led_refers : (d : NodeDecl) → IsTrue (refers_within (length net) d) → IsTrue (refers_within (length net) (node_led_past net m i d))
     led_refers d h =
         let r = both (list_all (λ (e : Entry). list_all (λ (t : Dest). nat_lt t.node (length net)) e.dests) d.entries) (over_within (length net) d.over && ports_within (length net) d.unit) h in
         let ports = (both (over_within (length net) d.over) (ports_within (length net) d.unit) r.1).1 in
         true_and (list_all (λ (e : Entry). list_all (λ (t : Dest). nat_lt t.node (length net)) e.dests) (map entry_of_row (rows_past net m i))) (ports_within (length net) d.unit) (all_of_each (λ (e : Entry). list_all (λ (t : Dest). nat_lt t.node (length net)) e.dests) (map entry_of_row (rows_past net m i)) (λ e g. let q = row_of_entry (rows_past net m i) e g in subst (λ f. IsTrue (list_all (λ (t : Dest). nat_lt t.node (length net)) f.dests)) q.2 (all_dests (λ t. nat_lt t.node (length net)) q.0.ends (λ x k. lt-ltb x.node (length net) (row_first q.0 q.1 x k).0)))) ports
 
-    led_away : (d : NodeDecl) → leads_to m (led_past net m i d) ≡ false
+    led_away : (d : NodeDecl) → leads_to m (node_led_past net m i d) ≡ false
     led_away d = ap (λ p. p || false) (none_of_each (maps_to m) (map entry_of_row (rows_past net m i)) (λ e g. let q = row_of_entry (rows_past net m i) e g in subst (λ f. maps_to m f ≡ false) q.2 (no_dests (λ t. t.node == m) q.0.ends (λ x k. (row_first q.0 q.1 x k).1))))
 
   -- a node of the net past the node, in each case
-  past_each : (P : NodeDecl → Type 0) → ((i : ℕ) (d : NodeDecl) → slice_get net i ≡ Some d → (leads_to m d ≡ false) → P d) → ((i : ℕ) (d : NodeDecl) → slice_get net i ≡ Some d → leads_to m d ≡ true → P (led_past net m i d)) → (e : NodeDecl) → Member e (net_past net m) → P e
+  past_each : (P : NodeDecl → Type 0) → ((i : ℕ) (d : NodeDecl) → slice_get net i ≡ Some d → (leads_to m d ≡ false) → P d) → ((i : ℕ) (d : NodeDecl) → slice_get net i ≡ Some d → leads_to m d ≡ true → P (node_led_past net m i d)) → (e : NodeDecl) → Member e (net_past net m) → P e
   past_each P same led e h =
       let p = place (net_past net m) e h in
       by p.0 (slice_get net p.0) refl (sym (net_past_at net m p.0) ∙ p.1)
@@ -306,7 +306,7 @@ module _ (net : List NodeDecl) (legal : IsLegalNet net) (m : ℕ) (n : NodeDecl)
           let t : n ≡ d = cc in
           ap (leads_to m) (sym t) ∙ fit.self
 
-      one : (i : ℕ) (d : NodeDecl) → slice_get net i ≡ Some d → (b : Bool) → (i == m) ≡ b → (c : Bool) → leads_to m d ≡ c → P (if not b && c then led_past net m i d else d)
+      one : (i : ℕ) (d : NodeDecl) → slice_get net i ≡ Some d → (b : Bool) → (i == m) ≡ b → (c : Bool) → leads_to m d ≡ c → P (if not b && c then node_led_past net m i d else d)
       one i d here true f c g = same i d here (self i d here f)
       one i d here false f true g = led i d here g
       one i d here false f false g = same i d here g
@@ -324,7 +324,7 @@ past_length net m k (n ∷ ns) = ap suc (past_length net m (suc k) ns)
 one_text : (net : List NodeDecl) (m i : ℕ) (d : NodeDecl) → (node_past net m i d).text ≡ d.text
 one_text net m i d = by (is_rewritten m i d)
   where
-    by : (b : Bool) → (if b then led_past net m i d else d).text ≡ d.text
+    by : (b : Bool) → (if b then node_led_past net m i d else d).text ≡ d.text
     by true = refl
     by false = refl
 

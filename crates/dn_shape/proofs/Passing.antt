@@ -14,7 +14,7 @@ use Rattle.dn_net.specs.Names.{name_lt, is_before_first, is_ascending, each_step
 use Rattle.dn_net.proofs.Ascending.{sorted_ascending, before_members}
 use Rattle.dn_net.proofs.Least.{both_true, within_from, within_to}
 use Rattle.dn_net.proofs.Resolution.{names_in, each_in}
-use Rattle.dn_shape.specs.Absorb.{names_past, steps_past, row_end, rows_past, dest_of_end, entry_of_row, led_past}
+use Rattle.dn_shape.specs.Absorb.{names_past, steps_past, row_end, rows_past, dest_of_end, entry_of_row, node_led_past}
 
 -- a name of a row as a name of the net
 abbrev pub end_name : End → Name
@@ -89,7 +89,7 @@ past_in net m x y =
     ((λ h. b.0 (a.0 h)), (λ h. a.1 (b.1 h)))
 
 -- the node that is led past another decodes an address to the names past that node
-pub led_steps : (net : List NodeDecl) (m i a : ℕ) (n : NodeDecl) (y : Name) → slice_get net i ≡ Some n → Member y (sent_names (decode a (Some (led_past net m i n)))) ↔ Member y (steps_past net m (record { node = i; addr = a }))
+pub led_steps : (net : List NodeDecl) (m i a : ℕ) (n : NodeDecl) (y : Name) → slice_get net i ≡ Some n → Member y (sent_names (decode a (Some (node_led_past net m i n)))) ↔ Member y (steps_past net m (record { node = i; addr = a }))
 led_steps net m i a n y at = by (nat_le a top) refl (in_some_block a n.accepts) refl
   where
     nowhere : steps net (record { node = i; addr = a }) ≡ [] → ⊥ ↔ Member y (steps_past net m (record { node = i; addr = a }))

@@ -15,7 +15,7 @@ use Rattle.dn_net.proofs.Choices.{choice_of_step}
 use Rattle.dn_net.proofs.Least.{either_true, within_to}
 use Rattle.dn_net.proofs.Legs.{leads_within}
 use Rattle.dn_net.proofs.Steps.{node_at}
-use Rattle.dn_shape.specs.Split.{maximal_spans, is_divided, divided_count, entry_onto, sending_to, split_net, renamed_at, split_name}
+use Rattle.dn_shape.specs.Split.{maximal_spans, is_divided, divided_count, entry_onto, sender_to, split_net, renamed_at, split_name}
 use Rattle.dn_shape.specs.Views.{SplitKeepsViews}
 use Rattle.dn_shape.proofs.Divided.{split_old_at, split_new_at}
 use Rattle.dn_shape.proofs.Maximal.{spans_have}
@@ -64,7 +64,7 @@ sent_on m a over (e ∷ es) bs f h = by (within a e.block) f (sent_on m a over e
     by false f ih = ih f h
 
 -- where a divided node accepted an address, it sends it to its new node
-pub accepted_goes : (m a : ℕ) (n : NodeDecl) → IsApart n → is_accepted_at a (Some n) ≡ true → sent_names (decode a (Some (sending_to m n))) ≡ record { node = m; addr = a } ∷ []
+pub accepted_goes : (m a : ℕ) (n : NodeDecl) → IsApart n → is_accepted_at a (Some n) ≡ true → sent_names (decode a (Some (sender_to m n))) ≡ record { node = m; addr = a } ∷ []
 accepted_goes m a n apart h = by (nat_le a top) refl (in_some_block a n.accepts) refl h
   where
     by : (p : Bool) → nat_le a top ≡ p → (q : Bool) → in_some_block a n.accepts ≡ q → (p && q) ≡ true → sent_names (if p then by_entries a n.over (n.entries ++ map (entry_onto m) (maximal_spans n.accepts)) else None) ≡ record { node = m; addr = a } ∷ []
@@ -73,7 +73,7 @@ accepted_goes m a n apart h = by (nat_le a top) refl (in_some_block a n.accepts)
     by true e true f h = sent_on m a n.over n.entries (maximal_spans n.accepts) (none_maps n apart a f) (spans_have a n.accepts ∙ ap (λ p. p && in_some_block a n.accepts) e ∙ f)
 
 -- and any other address goes where it went
-pub other_goes : (m a : ℕ) (n : NodeDecl) → is_accepted_at a (Some n) ≡ false → decode a (Some (sending_to m n)) ≡ decode a (Some n)
+pub other_goes : (m a : ℕ) (n : NodeDecl) → is_accepted_at a (Some n) ≡ false → decode a (Some (sender_to m n)) ≡ decode a (Some n)
 other_goes m a n h = by (nat_le a top) refl (in_some_block a n.accepts) refl h
   where
     by : (p : Bool) → nat_le a top ≡ p → (q : Bool) → in_some_block a n.accepts ≡ q → (p && q) ≡ false → ◌≡◌ {A = Option Sent} (if p then by_entries a n.over (n.entries ++ map (entry_onto m) (maximal_spans n.accepts)) else None) (if p then (if q then None else by_entries a n.over n.entries) else None)
@@ -124,10 +124,10 @@ module _ (net : List NodeDecl) (legal : IsLegalNet net) where
 
   -- a node that is not divided stays, and a divided one sends to its new node
   plain_at : (i : ℕ) (n : NodeDecl) → slice_get net i ≡ Some n → is_divided n ≡ false → slice_get (split_net net) i ≡ Some n
-  plain_at i n at d = split_old_at net i n at ∙ ap (λ b. Some (if b then sending_to (new_number i) n else n)) d
+  plain_at i n at d = split_old_at net i n at ∙ ap (λ b. Some (if b then sender_to (new_number i) n else n)) d
 
-  divided_at : (i : ℕ) (n : NodeDecl) → slice_get net i ≡ Some n → is_divided n ≡ true → slice_get (split_net net) i ≡ Some (sending_to (new_number i) n)
-  divided_at i n at d = split_old_at net i n at ∙ ap (λ b. Some (if b then sending_to (new_number i) n else n)) d
+  divided_at : (i : ℕ) (n : NodeDecl) → slice_get net i ≡ Some n → is_divided n ≡ true → slice_get (split_net net) i ≡ Some (sender_to (new_number i) n)
+  divided_at i n at d = split_old_at net i n at ∙ ap (λ b. Some (if b then sender_to (new_number i) n else n)) d
 
   -- a name that is not accepted, or whose node is not divided, has the same steps
   other_steps : (x : Name) (n : NodeDecl) → slice_get net x.node ≡ Some n → is_accepted_at x.addr (Some n) ≡ false → steps (split_net net) x ≡ steps net x

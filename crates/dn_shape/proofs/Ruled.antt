@@ -15,7 +15,7 @@ use Rattle.dn_net.proofs.Gaps.{Stand}
 use Rattle.dn_net.proofs.Kept.{few_maps}
 use Rattle.dn_net.proofs.Least.{maps_at, maps_at-cons, within_to}
 use Rattle.dn_net.proofs.Places.{both, names_still_differ}
-use Rattle.dn_shape.specs.Split.{maximal_spans, is_divided, divided_count, entry_onto, sending_to, sending_node, sending_nodes, accepter, with_accepter, with_accepters, split_net}
+use Rattle.dn_shape.specs.Split.{maximal_spans, is_divided, divided_count, entry_onto, sender_to, sending_node, sending_nodes, accepter, with_accepter, with_accepters, split_net}
 use Rattle.dn_shape.specs.Views.{SplitKeepsRules}
 use Rattle.dn_shape.proofs.Closed.{true_and, split_closed}
 use Rattle.dn_shape.proofs.Divided.{sending_length, one_more, split_length}
@@ -161,13 +161,13 @@ sent_keeps m n apart kept = by (is_divided n) refl
         let z : maps_at n.entries a ≤ 1 = few_maps n kept a in
         omega (arith, s, y, z)
 
-    by : (b : Bool) → is_divided n ≡ b → KeepsRules (if b then sending_to m n else n)
+    by : (b : Bool) → is_divided n ≡ b → KeepsRules (if b then sender_to m n else n)
     by false d = kept
     by true d = record {
       in_range = spans_in_range m n.entries (maximal_spans n.accepts) parts.1 (maximal_in_range n.accepts parts.0);
       apart = λ a. not_overlapping (maps_at (n.entries ++ map (entry_onto m) (maximal_spans n.accepts)) a) (few a (in_some_block a n.accepts) refl);
       once = ap (λ p. p || unit_repeats n.unit) (once_more m n.entries (maximal_spans n.accepts)) ∙ kept.once;
-      space = ap (λ b. not b || ((nat_le (length (n.entries ++ map (entry_onto m) (maximal_spans n.accepts))) 0 && not (is_some n.over)) && nat_le (accepted_count (sending_to m n)) 4096)) (divided_no_vectors n kept d);
+      space = ap (λ b. not b || ((nat_le (length (n.entries ++ map (entry_onto m) (maximal_spans n.accepts))) 0 && not (is_some n.over)) && nat_le (accepted_count (sender_to m n)) 4096)) (divided_no_vectors n kept d);
     }
 
 pub accepter_keeps : (before : List NodeDecl) (n : NodeDecl) → KeepsRules n → KeepsRules (accepter before n)
@@ -184,7 +184,7 @@ accepter_keeps before n kept =
 sent_whole : (m : ℕ) (n : NodeDecl) → is_divided (sending_node m n) ≡ false
 sent_whole m n = by (is_divided n) refl
   where
-    by : (b : Bool) → is_divided n ≡ b → is_divided (if b then sending_to m n else n) ≡ false
+    by : (b : Bool) → is_divided n ≡ b → is_divided (if b then sender_to m n else n) ≡ false
     by true d = refl
     by false d = d
 

@@ -10,7 +10,7 @@ use Rattle.dn_net.specs.Legal.{node_limit}
 use Rattle.dn_net.specs.Decode.{is_bare, is_formed, formed_by, is_unit}
 use Rattle.dn_net.proofs.Places.{both}
 use Rattle.dn_walk.proofs.Told.{at_member, member_of_all}
-use Rattle.dn_shape.specs.Split.{is_divided, new_nodes, divided_count, sending_to, sending_node, sending_nodes, accepter, with_accepter, with_accepters}
+use Rattle.dn_shape.specs.Split.{is_divided, new_nodes, divided_count, sender_to, sending_node, sending_nodes, accepter, with_accepter, with_accepters}
 use Rattle.dn_shape.proofs.Free.{free_number_is_first}
 use Rattle.dn_shape.proofs.Named.{NamesDiffer, texts, differ_as}
 
@@ -18,7 +18,7 @@ use Rattle.dn_shape.proofs.Named.{NamesDiffer, texts, differ_as}
 one_text : (m : ℕ) (n : NodeDecl) → (sending_node m n).text ≡ n.text
 one_text m n = by (is_divided n)
   where
-    by : (b : Bool) → (if b then sending_to m n else n).text ≡ n.text
+    by : (b : Bool) → (if b then sender_to m n else n).text ≡ n.text
     by true = refl
     by false = refl
 
@@ -39,11 +39,11 @@ divided_no_unit n u d f =
 pub sending_formed : (m : ℕ) (n : NodeDecl) → IsTrue (is_formed n) → IsTrue (is_formed (sending_node m n))
 sending_formed m n f = by (is_divided n) refl
   where
-    unit : (u : Option UnitPart) → n.unit ≡ u → is_divided n ≡ true → IsTrue (formed_by n u) → IsTrue (formed_by (sending_to m n) u)
+    unit : (u : Option UnitPart) → n.unit ≡ u → is_divided n ≡ true → IsTrue (formed_by n u) → IsTrue (formed_by (sender_to m n) u)
     unit None e d h = h
     unit (Some u) e d h = absurd (divided_no_unit n u d h)
 
-    by : (b : Bool) → is_divided n ≡ b → IsTrue (is_formed (if b then sending_to m n else n))
+    by : (b : Bool) → is_divided n ≡ b → IsTrue (is_formed (if b then sender_to m n else n))
     by true d = unit n.unit refl d f
     by false d = f
 

@@ -25,7 +25,8 @@ is_over_to m (Some n) = n == m
 abbrev pub maps_to : ℕ → Entry → Bool
 maps_to m e = list_any (λ d. d.node == m) e.dests
 
--- an entry of the node, or its `over`, leads to the node of a number; also an `over` that serves no address
+-- an entry of the node, or its `over`, leads to the node of a number; also an `over` that serves
+-- no address
 abbrev pub leads_to : ℕ → NodeDecl → Bool
 leads_to m n = list_any (maps_to m) n.entries || is_over_to m n.over
 
@@ -47,7 +48,8 @@ why_not net m n =
     else (if is_port net m then Some Port
     else (if leads_to m n then Some SelfStep else None))))
 
--- the first reason for which the node of this number cannot be absorbed; none where there is no such node
+-- the first reason for which the node of this number cannot be absorbed; none where there is no
+-- such node
 abbrev pub why_not_at : List NodeDecl → ℕ → Option NodeDecl → Option Why
 why_not_at net m None = None
 why_not_at net m (Some n) = why_not net m n
@@ -77,8 +79,8 @@ abbrev pub entry_of_row : Seen → Entry
 entry_of_row r = record { block = record { lo = r.lo; hi = r.hi }; dests = map dest_of_end r.ends }
 
 -- the node of a number, with the rows past the absorbed node in place of its map and its `over`
-abbrev pub led_past : List NodeDecl → ℕ → ℕ → NodeDecl → NodeDecl
-led_past net m i n = record {
+abbrev pub node_led_past : List NodeDecl → ℕ → ℕ → NodeDecl → NodeDecl
+node_led_past net m i n = record {
   text = n.text;
   role = n.role;
   accepts = n.accepts;
@@ -93,7 +95,7 @@ is_rewritten m i n = not (i == m) && leads_to m n
 
 -- the node of a number, led past the absorbed one where it is rewritten
 abbrev pub node_past : List NodeDecl → ℕ → ℕ → NodeDecl → NodeDecl
-node_past net m i n = if is_rewritten m i n then led_past net m i n else n
+node_past net m i n = if is_rewritten m i n then node_led_past net m i n else n
 
 -- the nodes past the absorbed one, of which the first has a number
 abbrev pub nodes_past : List NodeDecl → ℕ → ℕ → List NodeDecl → List NodeDecl
@@ -110,15 +112,15 @@ pub data Refusal : Type 0 where
   passes : ℕ → Refusal
 
 -- a net, or the limit that it passes
-abbrev pub absorbed_within : List NodeDecl → Option ℕ → Result (List NodeDecl) Refusal
-absorbed_within net None = Ok net
-absorbed_within net (Some limit) = Err (passes limit)
+abbrev pub net_within : List NodeDecl → Option ℕ → Result (List NodeDecl) Refusal
+net_within net None = Ok net
+net_within net (Some limit) = Err (passes limit)
 
 -- the net past a node, or the first reason for which there is none
-abbrev pub absorbed_unless : List NodeDecl → Option Why → Result (List NodeDecl) Refusal
-absorbed_unless net (Some why) = Err (is_unfit why)
-absorbed_unless net None = absorbed_within net (passed_limit net)
+abbrev pub net_unless : List NodeDecl → Option Why → Result (List NodeDecl) Refusal
+net_unless net (Some why) = Err (is_unfit why)
+net_unless net None = net_within net (passed_limit net)
 
 -- what absorbing a node comes to
 abbrev pub absorb_outcome : List NodeDecl → ℕ → Result (List NodeDecl) Refusal
-absorb_outcome net m = absorbed_unless (net_past net m) (why_not_at net m (slice_get net m))
+absorb_outcome net m = net_unless (net_past net m) (why_not_at net m (slice_get net m))

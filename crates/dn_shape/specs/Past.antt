@@ -22,7 +22,8 @@ walks_past net m i = flat_map (onward net m) (extended net (still i))
 abbrev pub told_onward : List Leg → ℕ → Told → List Told
 told_onward legs m t = if t.end == m then told_on legs t else t ∷ []
 
--- legs by which walks go on: neither their first nor their last addresses descend, and each keeps in range
+-- legs by which walks go on: neither their first nor their last addresses descend, and each keeps
+-- in range
 pub record LeadOn (legs : List Leg) : Type 0 where
   pub firsts : IsNonDecreasingBy (λ (l : Leg). l.lo) legs
   pub lasts : IsNonDecreasingBy (λ (l : Leg). l.hi) legs
@@ -32,7 +33,9 @@ pub record LeadOn (legs : List Leg) : Type 0 where
 
 -- the address follows the walk to the name
 abbrev pub told_gives : Told → ℕ → End → Bool
-told_gives t a y = (nat_le t.lo a && nat_le a t.hi) && (nat_eq t.end y.node && nat_eq (t.base + (a - t.lo)) y.base)
+told_gives t a y =
+    (nat_le t.lo a && nat_le a t.hi)
+    && (nat_eq t.end y.node && nat_eq (t.base + (a - t.lo)) y.base)
 
 -- the address follows one of the walks to the name
 abbrev pub told_give : List Told → ℕ → End → Bool

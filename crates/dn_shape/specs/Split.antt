@@ -1,4 +1,5 @@
--- Splitting: each node that accepts and translates is divided into one that translates and one that accepts.
+-- Splitting: each node that accepts and translates is divided into one that translates and one
+-- that accepts.
 use Rattle.std.specs.Prelude.{◌≡◌, ℕ, zero, suc, ◌+◌, ◌^◌, ◌<◌, ◌≤◌, Bool, true, false, if◌then◌else◌, ◌&&◌, ◌||◌, nat_lt, List, [], ◌∷◌, ◌++◌, map, length, take, codes, slice_get, Option, Some, None, Result, IsTrue, bytes_eq}
 use Rattle.std.specs.Fmt.{decimal}
 use Rattle.std.specs.List.{list_all, list_any}
@@ -13,7 +14,8 @@ use Rattle.dn_net.specs.Rules.{block_in_range}
 use Rattle.dn_net.specs.Walks.{cut_each, whole}
 use Rattle.dn_shape.specs.Limits.{passed_limit, by_limit}
 
--- the maximal spans of blocks, ascending: what is left of all addresses when all that the blocks leave is cut out
+-- the maximal spans of blocks, ascending: what is left of all addresses when all that the blocks
+-- leave is cut out
 abbrev pub maximal_spans : List Block → List Block
 maximal_spans blocks = cut_each (cut_each blocks (whole ∷ [])) (whole ∷ [])
 
@@ -35,8 +37,8 @@ abbrev pub entry_onto : ℕ → Block → Entry
 entry_onto m b = record { block = b; dests = record { node = m; addr = b.lo } ∷ [] }
 
 -- the node without its accept blocks, whose spans it sends to another node, after its own entries
-abbrev pub sending_to : ℕ → NodeDecl → NodeDecl
-sending_to m n = record {
+abbrev pub sender_to : ℕ → NodeDecl → NodeDecl
+sender_to m n = record {
   text = n.text;
   role = n.role;
   accepts = [];
@@ -47,7 +49,7 @@ sending_to m n = record {
 
 -- the node, which sends its spans to the other where it is divided
 abbrev pub sending_node : ℕ → NodeDecl → NodeDecl
-sending_node m n = if is_divided n then sending_to m n else n
+sending_node m n = if is_divided n then sender_to m n else n
 
 -- the nodes, where each divided one sends to the next new node: the first new one has a number
 abbrev pub sending_nodes : ℕ → List NodeDecl → List NodeDecl
@@ -67,7 +69,8 @@ abbrev pub first_failing : (ℕ → Bool) → ℕ → ℕ → ℕ
 first_failing test zero k = k
 first_failing test (suc n) k = if test k then first_failing test n (suc k) else k
 
--- the first K from 0 on for which `N.accK` names no node: of one number more than there are nodes, one names none
+-- the first K from 0 on for which `N.accK` names no node: of one number more than there are
+-- nodes, one names none
 abbrev pub free_number : List NodeDecl → List ℕ → ℕ
 free_number net text = first_failing (λ k. is_named net (accepter_text text k)) (length net) 0
 
@@ -103,19 +106,22 @@ split_outcome net = by_limit (split_net net) (passed_limit (split_net net))
 abbrev pub renamed_at : List NodeDecl → Name → Option NodeDecl → Name
 renamed_at net x None = x
 renamed_at net x (Some n) =
-    if is_divided n then record { node = length net + divided_count (take x.node net); addr = x.addr } else x
+    if is_divided n then record { node = length net + divided_count (take x.node net); addr = x.addr }
+    else x
 
 -- each name of a divided node is renamed to its new node
 abbrev pub split_name : List NodeDecl → Name → Name
 split_name net x = renamed_at net x (slice_get net x.node)
 
 -- THE LAWS
--- the blocks stand at an address or above it, ascending up to the top, and leave out at least one address between two
+-- the blocks stand at an address or above it, ascending up to the top, and leave out at least one
+-- address between two
 abbrev pub StandApart : ℕ → List Block → Type 0
 StandApart from [] = Unit {0}
 StandApart from (b ∷ bs) = (from ≤ b.lo) × (b.lo ≤ b.hi) × (b.hi ≤ top) × StandApart (b.hi + 2) bs
 
--- The maximal spans of blocks have exactly the addresses of the blocks, and no two of them overlap or are adjacent.
+-- The maximal spans of blocks have exactly the addresses of the blocks, and no two of them
+-- overlap or are adjacent.
 abbrev pub SpansAreMaximal : Type 0
 SpansAreMaximal = (blocks : List Block) → IsTrue (list_all block_in_range blocks) →
     StandApart 0 (maximal_spans blocks)

@@ -7,9 +7,9 @@ ghost use Rattle.dn_base.specs.Answers.{Answers};
 ghost use Rattle.dn_net.specs.Decode.{is_agent};
 ghost use Rattle.dn_net.specs.Legal.{IsLegalNet};
 ghost use Rattle.dn_net.specs.Rules.{KeepsNodeRules, is_vectors};
-ghost use Rattle.dn_shape.specs.Absorb.{absorb_outcome, has_port, is_port, leads_to, led_past, maps_to, net_past, node_past, why_not_at};
+ghost use Rattle.dn_shape.specs.Absorb.{absorb_outcome, has_port, is_port, leads_to, node_led_past, maps_to, net_past, node_past, why_not_at};
 ghost use Rattle.dn_shape.specs.Faults.{absorb_fault_view};
-ghost use Rattle.dn_shape.specs.Views.{HaveEqualViews, IsSound};
+ghost use Rattle.dn_shape.specs.Views.{HaveEqualViews, IsRuledNet};
 
 use crate::copy::{node_copy, unit_copy};
 use crate::fault::{AbsorbFault, Why};
@@ -22,19 +22,20 @@ use dn_net::net::Net;
 use dn_net::node::{Dest, Entry, NodeDecl, Role, Unit};
 use std::alloc::Global;
 
-/// The net in which no node leads to this one. Each other node with a destination in it, or with an `over` to
-/// it, is rewritten: in place of its map and its `over` stand the rows of the names to which its addresses decode,
-/// with each name of the absorbed node replaced by those to which that decodes. The rows ascend and are normal,
-/// and so do the destinations. The node itself stays.
+/// The net in which no node leads to this one. Each other node with a destination in it, or with
+/// an `over` to it, is rewritten: in place of its map and its `over` stand the rows of the names
+/// to which its addresses decode, with each name of the absorbed node replaced by those to which
+/// that decodes. The rows ascend and are normal, and so do the destinations. The node itself
+/// stays.
 ///
-/// `NotAbsorbable` exactly where the node cannot be absorbed, with the first reason; else `TooMany` exactly where the
-/// net passes a limit, with the first that it passes. Every view of the net is kept, by the law
-/// [`crate::laws::absorb_keeps_views`].
+/// `NotAbsorbable` exactly where the node cannot be absorbed, with the first reason; else
+/// `TooMany` exactly where the net passes a limit, with the first that it passes. Every view of
+/// the net is kept, by the law [`crate::laws::absorb_keeps_views`].
 pub fn absorb(alloc: Global, net: &Net, node: u16) -> Result<Net, AbsorbFault>
     requires legal { IsLegalNet net.now }
     requires there { node < length net.now }
     ensures made { Answers (λ n. n) absorb_fault_view result (absorb_outcome net.now node) }
-    ensures sound { IfOk result IsSound }
+    ensures rules { IfOk result IsRuledNet }
     ensures views { IfOk result (HaveEqualViews (λ x. x) net.now) }
 {
     if let Some(why) = why_not(net, node) {
@@ -100,13 +101,13 @@ fn has_port(unit: Option<&Unit>, port: u16) -> bool
     ensures { result ≡ has_port port (option_copied unit.entry) }
 {
     match unit {
-        Some(unit) => do_name(unit.ports.as_slice(), port),
+        Some(unit) => is_among(unit.ports.as_slice(), port),
         None => false,
     }
 }
 
 /// Whether the node is among the ports.
-fn do_name(ports: &[u16], port: u16) -> bool
+fn is_among(ports: &[u16], port: u16) -> bool
     ensures { result ≡ list_any (λ p. p == port) ports.now }
 {
     for p in ports {
@@ -122,15 +123,15 @@ fn leads_to(net: &Net, node: u16, to: u16) -> bool
     requires { node < length net.now }
     ensures { option_map (leads_to to) (slice_get net.now node) ≡ Some result }
 {
-    do_map_to(net.entries(node), to) || net.over(node) == Some(to)
+    has_entry_to(net.entries(node), to) || net.over(node) == Some(to)
 }
 
 /// Whether one of the entries has a destination in the node.
-fn do_map_to(entries: &[Entry], to: u16) -> bool
+fn has_entry_to(entries: &[Entry], to: u16) -> bool
     ensures { result ≡ list_any (maps_to to) entries.now }
 {
     for entry in entries {
-        if do_lead_to(entry.dests.as_slice(), to) {
+        if has_dest_in(entry.dests.as_slice(), to) {
             return true;
         }
     }
@@ -138,7 +139,7 @@ fn do_map_to(entries: &[Entry], to: u16) -> bool
 }
 
 /// Whether one of the destinations is in the node.
-fn do_lead_to(dests: &[Dest], to: u16) -> bool
+fn has_dest_in(dests: &[Dest], to: u16) -> bool
     ensures { result ≡ list_any (λ d. d.node == to) dests.now }
 {
     for dest in dests {
@@ -173,15 +174,15 @@ fn node_past(alloc: Global, net: &Net, past: u16, node: u16) -> Result<NodeDecl,
     if node == past || !leads_to(net, node, past) {
         return node_copy(alloc, net, node);
     }
-    led_past(alloc, net, past, node)
+    node_led_past(alloc, net, past, node)
 }
 
 /// A node with the rows past the absorbed one in place of its map and its `over`.
-fn led_past(alloc: Global, net: &Net, past: u16, node: u16) -> Result<NodeDecl, OutOfMemory>
+fn node_led_past(alloc: Global, net: &Net, past: u16, node: u16) -> Result<NodeDecl, OutOfMemory>
     requires rules { KeepsNodeRules net.now }
     requires past { past < length net.now }
     requires there { node < length net.now }
-    ensures { IfOk result (λ n. option_map (led_past net.now past node) (slice_get net.now node)
+    ensures { IfOk result (λ n. option_map (node_led_past net.now past node) (slice_get net.now node)
         ≡ Some n) }
 {
     Ok(NodeDecl {

@@ -10,8 +10,8 @@ use thiserror::Error;
 /// Why a net is not split.
 #[derive(Clone, Copy, Debug, PartialEq, Eq, Error)]
 pub enum SplitFault {
-    /// The split net would pass a limit: 1,024 nodes, 16,384 parts, 8 destinations of an entry. The first
-    /// of these is told.
+    /// The split net would pass a limit: 1,024 nodes, 16,384 parts, 8 destinations of an entry.
+    /// The first of these is told.
     #[error("TooMany")]
     TooMany { limit: u32 },
     /// There was no memory for the split net.
@@ -40,8 +40,8 @@ pub enum AbsorbFault {
     /// The node cannot be absorbed. The first reason is told.
     #[error("NotAbsorbable")]
     NotAbsorbable { why: Why },
-    /// The net without steps to the node would pass a limit: 16,384 parts, 8 destinations of an entry. The
-    /// first of these is told.
+    /// The net without steps to the node would pass a limit: 16,384 parts, 8 destinations of an
+    /// entry. The first of these is told.
     #[error("TooMany")]
     TooMany { limit: u32 },
     /// There was no memory for the net.

@@ -3,8 +3,8 @@
 ghost use Rattle.dn_shape.specs.Split.{FreeNumberIsFirst, SpansAreMaximal};
 ghost use Rattle.dn_shape.specs.Views.{AbsorbKeepsRules, AbsorbKeepsViews, SplitKeepsRules, SplitKeepsViews};
 
-/// The spans of a new node have exactly the addresses that the divided one accepted; no two of them overlap or are
-/// adjacent.
+/// The spans of a new node have exactly the addresses that the divided one accepted; no two of
+/// them overlap or are adjacent.
 pub fn spans_are_maximal()
     ensures { SpansAreMaximal }
 {}
@@ -29,7 +29,8 @@ pub fn absorb_keeps_views()
     ensures { AbsorbKeepsViews }
 {}
 
-/// A net past a node is a net that keeps the node rules, and no node of it leads to the absorbed one.
+/// A net past a node is a net that keeps the node rules, and no node of it leads to the absorbed
+/// one.
 pub fn absorb_keeps_rules()
     ensures { AbsorbKeepsRules }
 {}

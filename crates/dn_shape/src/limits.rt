@@ -13,7 +13,8 @@ const MAX_PARTS: u32 = 16_384;
 /// The most destinations of a map entry.
 const MAX_DESTS: u32 = 8;
 
-/// The first limit that a net passes: 16,384 parts, 8 destinations. It never has more than 1,024 nodes.
+/// The first limit that a net passes: 16,384 parts, 8 destinations. It never has more than 1,024
+/// nodes.
 pub(crate) fn passed_limit(net: &Net) -> Option<u32>
     ensures { result ≡ passed_limit net.now }
 {

@@ -23,8 +23,8 @@ use dn_walk::level::{extend_row, met_by};
 use dn_walk::walks::WalkRow;
 use std::alloc::Global;
 
-/// The names to which the addresses of a node decode past another, as map entries: in place of each name of
-/// the other stand those to which it decodes.
+/// The names to which the addresses of a node decode past another, as map entries: in place of
+/// each name of the other stand those to which it decodes.
 pub(crate) fn entries_past(
     alloc: Global,
     net: &Net,
@@ -94,7 +94,8 @@ fn legs_of(alloc: Global, net: &Net, node: u16) -> Result<Items<Leg>, OutOfMemor
     node_legs(alloc, net.accepts(node), net.entries(node), net.over(node))
 }
 
-/// Appends the walk, or where it leads into the node, the walk with each choice by which it goes on.
+/// Appends the walk, or where it leads into the node, the walk with each choice by which it goes
+/// on.
 fn push_onward(
     row: &WalkRow,
     past: u16,

@@ -13,7 +13,11 @@ use dn_walk::accepted::accepted_set;
 use std::alloc::Global;
 
 /// The maximal spans of the addresses that a node accepts, ascending.
-pub(crate) fn accept_spans(alloc: Global, net: &Net, node: u16) -> Result<Vec<Block>, OutOfMemory>
+pub(crate) fn maximal_accepts(
+    alloc: Global,
+    net: &Net,
+    node: u16,
+) -> Result<Vec<Block>, OutOfMemory>
     requires rules { KeepsNodeRules net.now }
     requires there { node < length net.now }
     ensures { IfOk result (λ v. option_map (λ d. maximal_spans d.accepts) (slice_get net.now node)

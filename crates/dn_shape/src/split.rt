@@ -7,13 +7,13 @@ ghost use Rattle.dn_net.specs.declared.node.NodeDecl.{NodeDecl};
 ghost use Rattle.dn_net.specs.Legal.{IsLegalNet, node_limit};
 ghost use Rattle.dn_net.specs.Rules.{KeepsNodeRules};
 ghost use Rattle.dn_shape.specs.Faults.{split_fault_view};
-ghost use Rattle.dn_shape.specs.Split.{split_outcome, is_divided, new_nodes, divided_count, entry_onto, sending_to, sending_node, sending_nodes, accepter_text, free_number, accepter, with_accepter, with_accepters, split_name};
-ghost use Rattle.dn_shape.specs.Views.{HaveEqualViews, IsSound};
+ghost use Rattle.dn_shape.specs.Split.{split_outcome, is_divided, new_nodes, divided_count, entry_onto, sender_to, sending_node, sending_nodes, accepter_text, free_number, accepter, with_accepter, with_accepters, split_name};
+ghost use Rattle.dn_shape.specs.Views.{HaveEqualViews, IsRuledNet};
 
 use crate::copy::{entries_copy, node_copy, unit_copy};
 use crate::fault::SplitFault;
 use crate::limits::passed_limit;
-use crate::spans::accept_spans;
+use crate::spans::maximal_accepts;
 use dn_base::OutOfMemory;
 use dn_base::items::Items;
 use dn_base::text::Text;
@@ -21,17 +21,17 @@ use dn_net::net::Net;
 use dn_net::node::{Block, Dest, Entry, MAX_NODES, NodeDecl, Role};
 use std::alloc::Global;
 
-/// The net in which no node both accepts and translates. Each node that has accept blocks and a map or an
-/// `over` loses its blocks. Their maximal spans are what a new node behind the old ones accepts, and the old
-/// node sends them there. The new node of `N` has the first of the names `N.acc0`, `N.acc1` and so on that names
-/// no node.
+/// The net in which no node both accepts and translates. Each node that has accept blocks and a
+/// map or an `over` loses its blocks. Their maximal spans are what a new node behind the old ones
+/// accepts, and the old node sends them there. The new node of `N` has the first of the names
+/// `N.acc0`, `N.acc1` and so on that names no node.
 ///
-/// `TooMany` exactly where the split net passes a limit, with the first that it passes. Every view of the net is
-/// kept, by the law [`crate::laws::split_keeps_views`].
+/// `TooMany` exactly where the split net passes a limit, with the first that it passes. Every
+/// view of the net is kept, by the law [`crate::laws::split_keeps_views`].
 pub fn split(alloc: Global, net: &Net) -> Result<Net, SplitFault>
     requires legal { IsLegalNet net.now }
     ensures made { Answers (λ n. n) split_fault_view result (split_outcome net.now) }
-    ensures sound { IfOk result IsSound }
+    ensures rules { IfOk result IsRuledNet }
     ensures views { IfOk result (HaveEqualViews (split_name net.now) net.now) }
 {
     if usize::from(net.nodes()) + usize::from(divided_count(net)) > MAX_NODES {
@@ -91,17 +91,17 @@ fn sending_node(alloc: Global, net: &Net, node: u16, next: u16) -> Result<NodeDe
     if !is_divided(net, node) {
         return node_copy(alloc, net, node);
     }
-    sending_to(alloc, net, node, next)
+    sender_to(alloc, net, node, next)
 }
 
 /// A node that sends what it accepts to a new node.
-fn sending_to(alloc: Global, net: &Net, node: u16, next: u16) -> Result<NodeDecl, OutOfMemory>
+fn sender_to(alloc: Global, net: &Net, node: u16, next: u16) -> Result<NodeDecl, OutOfMemory>
     requires rules { KeepsNodeRules net.now }
     requires there { node < length net.now }
-    ensures { IfOk result (λ n. option_map (sending_to next) (slice_get net.now node) ≡ Some n) }
+    ensures { IfOk result (λ n. option_map (sender_to next) (slice_get net.now node) ≡ Some n) }
 {
     let mut entries = entries_copy(alloc, net.entries(node))?;
-    let spans = accept_spans(alloc, net, node)?;
+    let spans = maximal_accepts(alloc, net, node)?;
     push_spans(alloc, &mut entries, &spans, next)?;
     Ok(NodeDecl {
         text: Text::of(alloc, net.text(node))?,
@@ -171,7 +171,7 @@ fn accepter(alloc: Global, net: &Net, node: u16, made: &Net) -> Result<NodeDecl,
     requires there { node < length net.now }
     ensures { IfOk result (λ n. option_map (accepter made.now) (slice_get net.now node) ≡ Some n) }
 {
-    let accepts = accept_spans(alloc, net, node)?;
+    let accepts = maximal_accepts(alloc, net, node)?;
     Ok(NodeDecl {
         text: free_text(alloc, made, net.text(node))?,
         role: Role::Plain,

@@ -2,7 +2,7 @@
 use Rattle.std.proofs.Common.{◌≡◌, ◌∙◌, ap, sym, subst, length, arith}
 use Rattle.dn_shape.specs.Limits.{by_limit}
 use Rattle.dn_shape.specs.Split.{split_net, split_name, with_accepters}
-use Rattle.dn_shape.specs.Views.{HaveEqualViews, IsSound}
+use Rattle.dn_shape.specs.Views.{HaveEqualViews, IsRuledNet}
 use Rattle.dn_shape.proofs.Divided.{split_length, sending_length}
 use Rattle.dn_shape.proofs.Limited.{many_nodes}
 use Rattle.dn_shape.proofs.Renamed.{split_keeps_views}
@@ -24,12 +24,12 @@ add_accepters-requires-clause-few c =
     let size = ap length c.in_ok-made.ensures ∙ sending_length (length net) net in
     omega (arith, size, c.if-from-gt-MAX_NODES.false, c.nodes.ensures, c.from.ensures, c.divided_count.ensures, c.from-2.ensures)
 
-pub returns-in-None-clause-sound : goal.returns-in-None-clause-sound
-returns-in-None-clause-sound c =
+pub returns-in-None-clause-rules : goal.returns-in-None-clause-rules
+returns-in-None-clause-rules c =
     let net = c.args.net.now in
     let size = split_length net in
     let is : c.add_accepters.new.made ≡ split_net net = c.in_ok-add_accepters.ensures ∙ ap (λ l. with_accepters l net) c.in_ok-made.ensures in
-    subst IsSound (sym is) (split_keeps_rules net c.requires.legal (omega (arith, size, c.if-from-gt-MAX_NODES.false, c.nodes.ensures, c.from.ensures, c.divided_count.ensures, c.from-2.ensures))).0
+    subst IsRuledNet (sym is) (split_keeps_rules net c.requires.legal (omega (arith, size, c.if-from-gt-MAX_NODES.false, c.nodes.ensures, c.from.ensures, c.divided_count.ensures, c.from-2.ensures))).0
 
 pub returns-in-None-clause-views : goal.returns-in-None-clause-views
 returns-in-None-clause-views c =

@@ -3,7 +3,7 @@ use Rattle.std.proofs.Common.{◌∙◌, ap, map}
 use Rattle.std.proofs.lemmas.Result.{IfOk-weaker}
 use Rattle.dn_walk.specs.Legs.{span_view}
 use Rattle.dn_shape.proofs.Maximal.{set_spans}
-use Rattle.dn_shape.proofs.spans.accept_spans.Goals as goal
+use Rattle.dn_shape.proofs.spans.maximal_accepts.Goals as goal
 
 pub returns : goal.returns
 returns c =
