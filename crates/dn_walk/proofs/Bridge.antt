@@ -38,7 +38,7 @@ legs_told [] i = refl
 legs_told (n ∷ net) zero = refl
 legs_told (n ∷ net) (suc i) = legs_told net i
 
-met_told : (w : Walk) (ls : List NetLeg) → filter (told_meets (told_by_walk w)) (map told_leg ls) ≡ map told_leg (filter (meets w) ls)
+pub met_told : (w : Walk) (ls : List NetLeg) → filter (told_meets (told_by_walk w)) (map told_leg ls) ≡ map told_leg (filter (meets w) ls)
 met_told w [] = refl
 met_told w (l ∷ ls) = by (meets w l) (met_told w ls)
   where
@@ -56,7 +56,7 @@ onto_told w l = λ i. record {
   len = sym (length_push w.choices l.choice) i;
 }
 
-each_onto : (w : Walk) (ls : List NetLeg) → map (told_onto (told_by_walk w)) (map told_leg ls) ≡ map told_by_walk (map (onto w) ls)
+pub each_onto : (w : Walk) (ls : List NetLeg) → map (told_onto (told_by_walk w)) (map told_leg ls) ≡ map told_by_walk (map (onto w) ls)
 each_onto w [] = refl
 each_onto w (l ∷ ls) = ap (λ t. t ∷ map (told_onto (told_by_walk w)) (map told_leg ls)) (onto_told w l) ∙ ap (λ x. told_by_walk (onto w l) ∷ x) (each_onto w ls)
 

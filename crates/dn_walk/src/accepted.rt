@@ -26,7 +26,7 @@ pub(crate) fn accepted_sets(alloc: Global, net: &Net) -> Result<Vec<SpanSet>, Ou
 }
 
 /// The addresses that a node accepts.
-fn accepted_set(alloc: Global, net: &Net, node: u16) -> Result<SpanSet, OutOfMemory>
+pub fn accepted_set(alloc: Global, net: &Net, node: u16) -> Result<SpanSet, OutOfMemory>
     requires rules { KeepsNodeRules net.now }
     requires there { node < length net.now }
     ensures { IfOk result (λ set. (a : ℕ) → has set a ≡ is_accepted_at a (slice_get net.now node)) }

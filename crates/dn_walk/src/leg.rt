@@ -15,7 +15,7 @@ use std::alloc::Global;
 
 /// The addresses from `lo` to `hi`, which one choice leads on: the first of them goes to `addr` of `node`.
 #[derive(Clone, Copy)]
-pub(crate) struct Leg {
+pub struct Leg {
     pub lo: u64,
     pub hi: u64,
     pub node: u16,
@@ -37,7 +37,7 @@ pub(crate) fn net_legs(alloc: Global, net: &Net) -> Result<Vec<Items<Leg>>, OutO
 }
 
 /// The legs of a node by their first addresses. Those of one entry stand in the order of its destinations.
-fn node_legs(
+pub fn node_legs(
     alloc: Global,
     accepts: &[Block],
     entries: &[Entry],

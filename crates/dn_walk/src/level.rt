@@ -124,7 +124,7 @@ fn extensions(
 }
 
 /// The legs of the end node that have an address at which the walk comes out.
-fn met_by<'a>(row: &WalkRow, legs: &'a [Leg]) -> &'a [Leg]
+pub fn met_by<'a>(row: &WalkRow, legs: &'a [Leg]) -> &'a [Leg]
     requires reach { row.now.base + (row.now.span.hi - row.now.span.lo) ≤ TOP }
     requires firsts { IsNonDecreasingBy (λ (l : Leg). l.lo) legs.now }
     requires lasts { IsNonDecreasingBy (λ (l : Leg). l.hi) legs.now }
@@ -139,7 +139,7 @@ fn met_by<'a>(row: &WalkRow, legs: &'a [Leg]) -> &'a [Leg]
 }
 
 /// Appends the walk with each of the legs as one more choice.
-fn extend_row(row: &WalkRow, met: &[Leg], out: &mut Vec<WalkRow>) -> Result<(), AllocError>
+pub fn extend_row(row: &WalkRow, met: &[Leg], out: &mut Vec<WalkRow>) -> Result<(), AllocError>
     requires reach { row.now.base + (row.now.span.hi - row.now.span.lo) ≤ TOP }
     requires short { row.now.len ≤ 64 }
     requires meet { All (λ l. IsTrue (told_meets (row_view row.now) l)) met.now }

@@ -7,14 +7,14 @@
 //! too many slots.
 #![tactic(auto)]
 
-mod accepted;
+pub mod accepted;
 mod chain;
 pub mod fault;
 mod fork;
 pub mod laws;
 mod leads;
-mod leg;
-mod level;
+pub mod leg;
+pub mod level;
 mod spans;
 pub mod walks;
 mod way;

@@ -1,0 +1,15 @@
+pub mod Absorbed
+pub mod Closed
+pub mod Divided
+pub mod Free
+pub mod Led
+pub mod Limited
+pub mod Maximal
+pub mod Named
+pub mod Passing
+pub mod Pigeons
+pub mod Read
+pub mod Renamed
+pub mod Ruled
+pub mod Sending
+pub mod Walked

@@ -1,0 +1,10 @@
+-- The nodes so far and the rest.
+use Rattle.std.proofs.Common.{◌≡◌, ◌++◌, length, drop}
+use Rattle.dn_shape.specs.Absorb.{nodes_past, net_past}
+use Rattle.dn_shape.proofs.absorb.net_past.Given as goal
+
+abbrev pub invariant-loop-node : goal.invariant-loop-node
+invariant-loop-node l = record {
+  rest : l.made ++ nodes_past l.net l.past l.node (drop l.node l.net) ≡ net_past l.net l.past;
+  count : length l.made ≡ l.node;
+}

@@ -1,0 +1,6 @@
+pub mod Absorb
+pub mod Faults
+pub mod Limits
+pub mod Past
+pub mod Split
+pub mod Views

@@ -1,0 +1,39 @@
+-- The limits that a net can pass when it is made of another.
+use Rattle.std.specs.Prelude.{ℕ, ◌+◌, Bool, if◌then◌else◌, nat_lt, List, [], ◌∷◌, length, Option, Some, None, Result, Ok, Err}
+use Rattle.std.specs.List.{list_any}
+use Rattle.std.specs.Option.{is_some}
+use Rattle.dn_net.specs.declared.node.NodeDecl.{NodeDecl}
+use Rattle.dn_net.specs.Legal.{node_limit}
+
+-- the most parts of a net
+abbrev pub part_limit : ℕ
+part_limit = 16384
+
+-- the most destinations of an entry
+abbrev pub dest_limit : ℕ
+dest_limit = 8
+
+-- the parts of a node: an accept block, a map entry and an `over` are one each
+abbrev pub parts_of_node : NodeDecl → ℕ
+parts_of_node n = length n.accepts + (length n.entries + (if is_some n.over then 1 else 0))
+
+-- the parts of all nodes
+abbrev pub parts_of_net : List NodeDecl → ℕ
+parts_of_net [] = 0
+parts_of_net (n ∷ ns) = parts_of_node n + parts_of_net ns
+
+-- an entry of the node has too many destinations
+abbrev pub has_long_entry : NodeDecl → Bool
+has_long_entry n = list_any (λ e. nat_lt dest_limit (length e.dests)) n.entries
+
+-- the first limit that a net passes: that on nodes, that on parts, and that on destinations
+abbrev pub passed_limit : List NodeDecl → Option ℕ
+passed_limit net =
+    if nat_lt node_limit (length net) then Some node_limit
+    else (if nat_lt part_limit (parts_of_net net) then Some part_limit
+    else (if list_any has_long_entry net then Some dest_limit else None))
+
+-- a value, or the limit that is passed
+abbrev pub by_limit : {X : Type 0} → X → Option ℕ → Result X ℕ
+by_limit x None = Ok x
+by_limit x (Some limit) = Err limit

@@ -1,0 +1,176 @@
+//! The map entries that lead a node past another.
+
+ghost use Rattle.std.specs.Prelude.{◌≡◌, ◌<◌, ◌≤◌, ◌+◌, ◌-◌, ◌++◌, ℕ, length, map, slice_get, option_map, Some, IfOk, OnOk};
+ghost use Rattle.std.specs.List.{All};
+ghost use Rattle.dn_interval.specs.declared.row.End.{End};
+ghost use Rattle.dn_interval.specs.Listed.{seen_by};
+ghost use Rattle.dn_interval.specs.Strands.{segs_give};
+ghost use Rattle.dn_net.specs.Rules.{KeepsNodeRules};
+ghost use Rattle.dn_net.specs.Walks.{extended, still};
+ghost use Rattle.dn_shape.specs.Absorb.{dest_of_end, entry_of_row, rows_past};
+ghost use Rattle.dn_shape.specs.Past.{LeadOn, told_give, told_onward, walks_past};
+ghost use Rattle.dn_walk.specs.Legs.{told_legs};
+ghost use Rattle.dn_walk.specs.Levels.{told_on};
+ghost use Rattle.dn_walk.specs.Rows.{row_view, told_by_walk};
+
+use dn_base::OutOfMemory;
+use dn_base::items::Items;
+use dn_interval::{End, Row, Rows, Seg, Span, TOP};
+use dn_net::net::Net;
+use dn_net::node::{Block, Dest, Entry};
+use dn_walk::leg::{Leg, node_legs};
+use dn_walk::level::{extend_row, met_by};
+use dn_walk::walks::WalkRow;
+use std::alloc::Global;
+
+/// The names to which the addresses of a node decode past another, as map entries: in place of
+/// each name of the other stand those to which it decodes.
+pub(crate) fn entries_past(
+    alloc: Global,
+    net: &Net,
+    past: u16,
+    node: u16,
+) -> Result<Items<Entry>, OutOfMemory>
+    requires rules { KeepsNodeRules net.now }
+    requires past { past < length net.now }
+    requires there { node < length net.now }
+    ensures { IfOk result (λ es. es ≡ map entry_of_row (rows_past net.now past node)) }
+{
+    let walks = walks_past(alloc, net, past, node)?;
+    let segs = segs_of(alloc, &walks)?;
+    let rows = Rows::normal(alloc, &segs)?;
+    entries_of(alloc, rows.rows())
+}
+
+/// The walks of one choice from a node, each of which into the other node goes on by one more.
+fn walks_past(alloc: Global, net: &Net, past: u16, node: u16) -> Result<Vec<WalkRow>, OutOfMemory>
+    requires rules { KeepsNodeRules net.now }
+    requires past { past < length net.now }
+    requires there { node < length net.now }
+    ensures walks { IfOk result (λ v. map row_view v.items
+        ≡ map told_by_walk (walks_past net.now past node)) }
+    ensures far { IfOk result (λ v. All (λ r. r.base + (r.span.hi - r.span.lo) ≤ TOP) v.items) }
+{
+    let first = first_walks(alloc, net, node)?;
+    let legs = legs_of(alloc, net, past)?;
+    let onward = legs.as_slice();
+    let rows = first.as_slice();
+    let mut walks = Vec::new(alloc);
+    for row in rows {
+        push_onward(row, past, onward, &mut walks)?;
+    }
+    Ok(walks)
+}
+
+/// The walks of one choice from a node.
+fn first_walks(alloc: Global, net: &Net, node: u16) -> Result<Vec<WalkRow>, OutOfMemory>
+    requires rules { KeepsNodeRules net.now }
+    requires there { node < length net.now }
+    ensures walks { IfOk result (λ v. map row_view v.items
+        ≡ map told_by_walk (extended net.now (still node))) }
+    ensures far { IfOk result (λ v. All (λ r. r.base + (r.span.hi - r.span.lo) ≤ TOP) v.items) }
+    ensures short { IfOk result (λ v. All (λ r. r.len ≤ 64) v.items) }
+{
+    let legs = legs_of(alloc, net, node)?;
+    let still = WalkRow {
+        start: node,
+        span: Span { lo: 0, hi: TOP },
+        end: node,
+        base: 0,
+        len: 0,
+    };
+    let mut walks = Vec::new(alloc);
+    push_walks(&still, legs.as_slice(), &mut walks)?;
+    Ok(walks)
+}
+
+/// The legs of a node.
+fn legs_of(alloc: Global, net: &Net, node: u16) -> Result<Items<Leg>, OutOfMemory>
+    requires rules { KeepsNodeRules net.now }
+    requires there { node < length net.now }
+    ensures legs { IfOk result (λ ls. option_map told_legs (slice_get net.now node) ≡ Some ls) }
+    ensures lead { IfOk result (λ ls. LeadOn ls) }
+{
+    node_legs(alloc, net.accepts(node), net.entries(node), net.over(node))
+}
+
+/// Appends the walk, or where it leads into the node, the walk with each choice by which it goes
+/// on.
+fn push_onward(
+    row: &WalkRow,
+    past: u16,
+    legs: &[Leg],
+    walks: &mut Vec<WalkRow>,
+) -> Result<(), OutOfMemory>
+    requires legs { LeadOn legs.now }
+    requires reach { row.now.base + (row.now.span.hi - row.now.span.lo) ≤ TOP }
+    requires short { row.now.len ≤ 64 }
+    ensures { OnOk result (map row_view walks.new.items
+        ≡ map row_view walks.old.items ++ told_onward legs.now past (row_view row.now)) }
+{
+    if row.end == past {
+        return push_walks(row, legs, walks);
+    }
+    walks.push(*row)?;
+    Ok(())
+}
+
+/// Appends the walk with each leg by which it goes on.
+fn push_walks(row: &WalkRow, legs: &[Leg], walks: &mut Vec<WalkRow>) -> Result<(), OutOfMemory>
+    requires legs { LeadOn legs.now }
+    requires reach { row.now.base + (row.now.span.hi - row.now.span.lo) ≤ TOP }
+    requires short { row.now.len ≤ 64 }
+    ensures { OnOk result (map row_view walks.new.items
+        ≡ map row_view walks.old.items ++ told_on legs.now (row_view row.now)) }
+{
+    extend_row(row, met_by(row, legs), walks)
+}
+
+/// The names that the walks give, as segments.
+fn segs_of(alloc: Global, walks: &[WalkRow]) -> Result<Vec<Seg>, OutOfMemory>
+    requires { All (λ r. r.base + (r.span.hi - r.span.lo) ≤ TOP) walks.now }
+    ensures { IfOk result (λ segs. (a : ℕ) (y : End) → segs_give segs.items a y
+        ≡ told_give (map row_view walks.now) a y) }
+{
+    let mut segs = Vec::with_capacity(alloc, walks.len())?;
+    for row in walks {
+        segs.push(Seg {
+            span: row.span,
+            node: row.end,
+            base: row.base,
+        })?;
+    }
+    Ok(segs)
+}
+
+/// The rows, as map entries.
+fn entries_of(alloc: Global, rows: &[Row]) -> Result<Items<Entry>, OutOfMemory>
+    ensures { IfOk result (λ es. es ≡ map entry_of_row (map seen_by rows.now)) }
+{
+    let mut entries = Vec::with_capacity(alloc, rows.len())?;
+    for row in rows {
+        let span = row.span();
+        entries.push(Entry {
+            block: Block {
+                lo: span.lo,
+                hi: span.hi,
+            },
+            dests: dests_of(alloc, row.ends())?,
+        })?;
+    }
+    Ok(Items::from_vec(entries))
+}
+
+/// The names of a row, as destinations.
+fn dests_of(alloc: Global, ends: &[End]) -> Result<Items<Dest>, OutOfMemory>
+    ensures { IfOk result (λ ds. ds ≡ map dest_of_end ends.now) }
+{
+    let mut dests = Vec::with_capacity(alloc, ends.len())?;
+    for end in ends {
+        dests.push(Dest {
+            node: end.node,
+            addr: end.base,
+        })?;
+    }
+    Ok(Items::from_vec(dests))
+}

@@ -1,0 +1,42 @@
+//! The maximal spans of what a node accepts.
+
+ghost use Rattle.std.specs.Prelude.{◌≡◌, ◌<◌, length, map, slice_get, option_map, IfOk, Some};
+ghost use Rattle.dn_net.specs.Rules.{KeepsNodeRules};
+ghost use Rattle.dn_shape.specs.Split.{maximal_spans};
+ghost use Rattle.dn_walk.specs.Legs.{span_view};
+
+use dn_base::OutOfMemory;
+use dn_interval::Span;
+use dn_net::net::Net;
+use dn_net::node::Block;
+use dn_walk::accepted::accepted_set;
+use std::alloc::Global;
+
+/// The maximal spans of the addresses that a node accepts, ascending.
+pub(crate) fn maximal_accepts(
+    alloc: Global,
+    net: &Net,
+    node: u16,
+) -> Result<Vec<Block>, OutOfMemory>
+    requires rules { KeepsNodeRules net.now }
+    requires there { node < length net.now }
+    ensures { IfOk result (λ v. option_map (λ d. maximal_spans d.accepts) (slice_get net.now node)
+        ≡ Some v.items) }
+{
+    let set = accepted_set(alloc, net, node)?;
+    blocks_of(alloc, set.spans())
+}
+
+/// The spans, as blocks.
+fn blocks_of(alloc: Global, spans: &[Span]) -> Result<Vec<Block>, OutOfMemory>
+    ensures { IfOk result (λ v. v.items ≡ map span_view spans.now) }
+{
+    let mut blocks = Vec::with_capacity(alloc, spans.len())?;
+    for span in spans {
+        blocks.push(Block {
+            lo: span.lo,
+            hi: span.hi,
+        })?;
+    }
+    Ok(blocks)
+}
