@@ -1,6 +1,8 @@
+pub mod Cuts
 pub mod Ends
 pub mod Following
 pub mod Fronts
+pub mod Goes
 pub mod Joining
 pub mod Least
 pub mod Listing

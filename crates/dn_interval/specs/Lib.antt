@@ -1,4 +1,5 @@
 pub mod Listed
+pub mod Onward
 pub mod Rows
 pub mod Spans
 pub mod Strands

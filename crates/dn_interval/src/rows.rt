@@ -8,7 +8,7 @@ ghost use Rattle.dn_interval.specs.declared.row.End.{End};
 ghost use Rattle.dn_interval.specs.declared.row.Row.{Row};
 ghost use Rattle.dn_interval.specs.declared.strand.Strand.{Strand};
 ghost use Rattle.dn_interval.specs.Spans.{in_span};
-ghost use Rattle.dn_interval.specs.Rows.{Apart, AreNormal, SegmentsGive, Ascending, HasEnds};
+ghost use Rattle.dn_interval.specs.Rows.{Apart, AreNormal, SegmentsGive, Ascending, EndsFit, HasEnds};
 ghost use Rattle.dn_interval.specs.Strands.{strands_give, slides_give, ends_give, rows_give, IsMaximal};
 
 use crate::row::{End, Row, Seg};
@@ -32,11 +32,12 @@ impl Model for Rows {
 
     ghost Value = { List Row };
 
-    ghost use Rattle.dn_interval.specs.Rows.{Apart};
+    ghost use Rattle.std.specs.List.{All};
+    ghost use Rattle.dn_interval.specs.Rows.{Apart, EndsFit};
 
     ghost view = { λ r. r.rows.items };
 
-    ghost invariant = { λ r. Apart 0 r.rows.items };
+    ghost invariant = { λ r. record { apart : Apart 0 r.rows.items; fit : All EndsFit r.rows.items } };
 }
 
 impl Rows {
@@ -68,13 +69,14 @@ impl Rows {
     pub fn rows(&self) -> &[Row]
         ensures value { result.now ≡ self.now }
         ensures apart { Apart 0 self.now }
+        ensures fit { All EndsFit self.now }
     {
         self.rows.as_slice()
     }
 }
 
 /// How many of the rows end before an address.
-fn ended_before(rows: &[Row], a: u64) -> usize
+pub(crate) fn ended_before(rows: &[Row], a: u64) -> usize
     requires { Apart 0 rows.now }
     ensures within { result ≤ length rows.now }
     ensures place { IsPartitionPoint (λ (r : Row). r.span.hi < a)

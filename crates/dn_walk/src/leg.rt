@@ -15,7 +15,7 @@ use std::alloc::Global;
 
 /// The addresses from `lo` to `hi`, which one choice leads on: the first of them goes to `addr` of `node`.
 #[derive(Clone, Copy)]
-pub(crate) struct Leg {
+pub struct Leg {
     pub lo: u64,
     pub hi: u64,
     pub node: u16,
@@ -23,7 +23,7 @@ pub(crate) struct Leg {
 }
 
 /// The legs of each node of a net.
-pub(crate) fn net_legs(alloc: Global, net: &Net) -> Result<Vec<Items<Leg>>, OutOfMemory>
+pub fn net_legs(alloc: Global, net: &Net) -> Result<Vec<Items<Leg>>, OutOfMemory>
     requires rules { KeepsNodeRules net.now }
     ensures legs { IfOk result (λ v. v.items ≡ map told_legs net.now) }
     ensures each { IfOk result (λ v. All (AreLegs (length net.now)) v.items) }

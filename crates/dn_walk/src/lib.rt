@@ -6,10 +6,10 @@
 //! or a chain of 65 steps.
 #![tactic(auto)]
 
-mod accepted;
+pub mod accepted;
 pub mod fault;
 pub mod laws;
-mod leg;
+pub mod leg;
 mod level;
 mod spans;
 pub mod walks;
