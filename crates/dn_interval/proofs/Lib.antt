@@ -16,3 +16,4 @@ pub mod Places
 pub mod RowPlaces
 pub mod Standing
 pub mod Sweep
+pub mod Turns

@@ -10,6 +10,7 @@ pub mod laws;
 pub mod onward;
 pub mod row;
 pub mod rows;
+mod runs;
 pub mod span;
 pub mod span_set;
 mod strand;

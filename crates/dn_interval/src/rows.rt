@@ -9,12 +9,12 @@ ghost use Rattle.dn_interval.specs.declared.row.Row.{Row};
 ghost use Rattle.dn_interval.specs.declared.strand.Strand.{Strand};
 ghost use Rattle.dn_interval.specs.Spans.{in_span};
 ghost use Rattle.dn_interval.specs.Rows.{Apart, AreNormal, SegmentsGive, Ascending, EndsFit, HasEnds};
-ghost use Rattle.dn_interval.specs.Strands.{strands_give, slides_give, ends_give, rows_give, IsMaximal};
+ghost use Rattle.dn_interval.specs.Strands.{strands_give, slides_give, ends_give, rows_give, segs_give, IsMaximal};
 
 use crate::row::{End, Row, Seg};
 use crate::span::{Span, TOP};
 use crate::strand::Strand;
-use crate::strands;
+use crate::{runs, strands};
 use dn_base::OutOfMemory;
 use dn_base::items::Items;
 use std::alloc::Global;
@@ -42,15 +42,14 @@ impl Model for Rows {
 
 impl Rows {
     /// The normal rows of the names that the segments give: time of a sort in the number of segments
-    /// and of ends.
+    /// and of ends, and linear where each segment begins behind those before it.
     pub fn normal(alloc: Global, segs: &[Seg]) -> Result<Rows, OutOfMemory>
         ensures normal { IfOk result (λ rows. AreNormal (SegmentsGive segs.now) rows) }
         ensures covers { IfOk result (λ rows. (a : ℕ)
             → list_any (λ (r : Row). in_span r.span a) rows
             ≡ list_any (λ (s : Seg). in_span s.span a) segs.now) }
     {
-        let strands = strands::strands_of(alloc, segs)?;
-        let rows = sweep(alloc, strands.as_slice())?;
+        let rows = rows_of(alloc, segs)?;
         Ok(Rows { rows })
     }
 
@@ -83,6 +82,19 @@ pub(crate) fn ended_before(rows: &[Row], a: u64) -> usize
         (λ (r : Row). a ≤ r.span.hi) rows.now result }
 {
     rows.partition_point(|row| row.span.hi < a)
+}
+
+/// The normal rows of segments.
+fn rows_of(alloc: Global, segs: &[Seg]) -> Result<Vec<Row>, OutOfMemory>
+    ensures same { IfOk result (λ rows. (a : ℕ) (y : End) → rows_give rows.items a y
+        ≡ segs_give segs.now a y) }
+    ensures apart { IfOk result (λ rows. Apart 0 rows.items) }
+{
+    if runs::are_in_turn(segs) {
+        return runs::rows_in_turn(alloc, segs);
+    }
+    let strands = strands::strands_of(alloc, segs)?;
+    sweep(alloc, strands.as_slice())
 }
 
 /// The rows of strands that come in the order of their first addresses. A row ends where a strand
