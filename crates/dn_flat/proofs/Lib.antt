@@ -1,6 +1,8 @@
-pub mod Cutting
-pub mod Lengths
-pub mod Resolving
+pub mod Bounds
+pub mod Chains
+pub mod Firsts
+pub mod Lists
+pub mod Nodes
 pub mod Rows
-pub mod Stretch
-pub mod Tables
+pub mod Sums
+pub mod There

@@ -1,2 +1,3 @@
-pub mod Found
+pub mod Firsts
+pub mod Stages
 pub mod Views

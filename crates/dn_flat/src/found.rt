@@ -1,21 +1,19 @@
-//! The segments of a node: for each walk from it the addresses that come out at an accepted name, and those
-//! that come out in a unit.
+//! Segments of what rows come to, by what their nodes come to.
 
-ghost use Rattle.std.specs.Prelude.{◌≡◌, ◌<◌, ◌≤◌, ◌+◌, ◌-◌, ◌&&◌, ◌||◌, ℕ, length, OnOk, All};
-ghost use Rattle.std.specs.List.Sorted.{IsPartitionPoint};
+ghost use Rattle.std.specs.Prelude.{◌≡◌, ℕ, ◌<◌, ◌≤◌, ◌||◌, [], nat_lt, length, OnOk, IfOk, IsTrue};
+ghost use Rattle.std.specs.List.{All, list_all};
 ghost use Rattle.dn_interval.specs.declared.row.End.{End};
-ghost use Rattle.dn_interval.specs.declared.span.Span.{Span};
-ghost use Rattle.dn_interval.specs.Spans.{has, in_span, AreMaximal};
-ghost use Rattle.dn_interval.specs.Strands.{seg_gives, segs_give};
-ghost use Rattle.dn_net.specs.Decode.{is_accepted, is_stop};
-ghost use Rattle.dn_flat.specs.Views.{name_of_end};
-ghost use Rattle.dn_flat.specs.Found.{come_by, IsLed};
-ghost use Rattle.dn_walk.specs.Rows.{AreAccepted};
+ghost use Rattle.dn_interval.specs.declared.span.TheConstants.{TOP};
+ghost use Rattle.dn_interval.specs.Onward.{seg_goes, row_goes, rows_go, gives_by};
+ghost use Rattle.dn_interval.specs.Rows.{AreNormal, SegmentsGive, EndsFit, ends_within};
+ghost use Rattle.dn_interval.specs.Strands.{segs_give};
 
+use crate::flat::Flat;
+use crate::reach::Reach;
 use dn_base::OutOfMemory;
-use dn_interval::{Seg, Span, SpanSet};
-use dn_net::net::Net;
-use dn_walk::walks::WalkRow;
+use dn_interval::onward::follow;
+use dn_interval::{Row, Rows, Seg, Span, TOP};
+use std::alloc::Global;
 
 /// What was found so far.
 #[derive(Drop)]
@@ -24,107 +22,112 @@ pub(crate) struct Found {
     pub(crate) accepts: Vec<Seg>,
     /// Addresses that come to a name in a unit.
     pub(crate) stops: Vec<Seg>,
+    /// Addresses that go on.
+    pub(crate) go: Vec<Seg>,
 }
 
-/// Adds where walks come out.
-pub(crate) fn push_walks(
-    found: &mut Found,
-    net: &Net,
-    sets: &[SpanSet],
-    rows: &[WalkRow],
-) -> Result<(), OutOfMemory>
-    requires accepted { AreAccepted net.now sets.now }
-    requires led { All (IsLed (length net.now)) rows.now }
-    ensures accepts { OnOk result ((a : ℕ) (y : End) → segs_give found.new.accepts.items a y
-        ≡ (segs_give found.old.accepts.items a y || (come_by rows.now a y
-        && is_accepted net.now (name_of_end y)))) }
-    ensures stops { OnOk result ((a : ℕ) (y : End) → segs_give found.new.stops.items a y
-        ≡ (segs_give found.old.stops.items a y || (come_by rows.now a y
-        && is_stop net.now (name_of_end y)))) }
-{
-    for row in rows {
-        let seg = Seg {
-            span: row.span,
-            node: row.end,
-            base: row.base,
-        };
-        push(found, net, sets, seg)?;
-    }
-    Ok(())
-}
-
-/// Adds where the addresses of a segment come out: at what its node accepts, or in a unit.
-pub(crate) fn push(
-    found: &mut Found,
-    net: &Net,
-    sets: &[SpanSet],
-    seg: Seg,
-) -> Result<(), OutOfMemory>
-    requires accepted { AreAccepted net.now sets.now }
-    requires there { seg.node < length net.now }
-    ensures accepts { OnOk result ((a : ℕ) (y : End) → segs_give found.new.accepts.items a y
-        ≡ (segs_give found.old.accepts.items a y || (seg_gives seg a y
-        && is_accepted net.now (name_of_end y)))) }
-    ensures stops { OnOk result ((a : ℕ) (y : End) → segs_give found.new.stops.items a y
-        ≡ (segs_give found.old.stops.items a y || (seg_gives seg a y
-        && is_stop net.now (name_of_end y)))) }
-{
-    if net.unit(seg.node).is_some() {
-        found.stops.push(seg)?;
-    }
-    let spans = sets[usize::from(seg.node)].spans();
-    push_accepted(&mut found.accepts, spans, seg)
-}
-
-/// Adds the parts of a segment that come out in spans.
-fn push_accepted(segs: &mut Vec<Seg>, spans: &[Span], seg: Seg) -> Result<(), OutOfMemory>
-    requires { AreMaximal spans.now }
-    ensures { OnOk result ((a : ℕ) (y : End) → segs_give segs.new.items a y
-        ≡ (segs_give segs.old.items a y || (seg_gives seg a y && has spans.now y.base))) }
-{
-    let last = last_out(seg);
-    let rest = &spans[ended_before(spans, seg.base)..];
-    for span in rest {
-        if last < span.lo {
-            return Ok(());
+impl Found {
+    /// Nothing yet.
+    pub(crate) fn new(alloc: Global) -> Found
+        ensures accepts { result.accepts.items ≡ [] }
+        ensures stops { result.stops.items ≡ [] }
+        ensures go { result.go.items ≡ [] }
+    {
+        Found {
+            accepts: Vec::new(alloc),
+            stops: Vec::new(alloc),
+            go: Vec::new(alloc),
         }
-        segs.push(cut(seg, *span))?;
+    }
+}
+
+/// Each address of a node, as itself.
+pub(crate) fn whole(node: u16) -> Seg
+    ensures node { result.node ≡ node }
+    ensures base { result.base ≡ 0 }
+    ensures lo { result.span.lo ≡ 0 }
+    ensures hi { result.span.hi ≡ TOP }
+{
+    let span = Span { lo: 0, hi: TOP };
+    Seg {
+        span,
+        node,
+        base: 0,
+    }
+}
+
+/// Adds what the names of rows come to, by what their nodes come to.
+pub(crate) fn push_rows(found: &mut Found, nodes: &[Reach], rows: &Rows) -> Result<(), OutOfMemory>
+    requires there { IsTrue (ends_within (length nodes.now) rows.now) }
+    ensures accepts { OnOk result ((a : ℕ) (z : End) → segs_give found.new.accepts.items a z
+        ≡ (segs_give found.old.accepts.items a z
+        || rows_go (gives_by (λ r. r.done.accepts) nodes.now) rows.now a z)) }
+    ensures stops { OnOk result ((a : ℕ) (z : End) → segs_give found.new.stops.items a z
+        ≡ (segs_give found.old.stops.items a z
+        || rows_go (gives_by (λ r. r.done.stops) nodes.now) rows.now a z)) }
+    ensures go { OnOk result ((a : ℕ) (z : End) → segs_give found.new.go.items a z
+        ≡ (segs_give found.old.go.items a z
+        || rows_go (gives_by (λ r. r.go) nodes.now) rows.now a z)) }
+    // Each name that the rows give is at or below the last address.
+    ensures fit { OnOk result (All EndsFit rows.now) }
+{
+    let all = rows.rows();
+    for row in all {
+        push_row(found, nodes, row)?;
     }
     Ok(())
 }
 
-/// How many of the spans end before an address.
-fn ended_before(spans: &[Span], a: u64) -> usize
-    requires { AreMaximal spans.now }
-    ensures within { result ≤ length spans.now }
-    ensures place { IsPartitionPoint (λ (s : Span). s.hi < a)
-        (λ (s : Span). a ≤ s.hi) spans.now result }
+/// Adds what the names of a row come to.
+fn push_row(found: &mut Found, nodes: &[Reach], row: &Row) -> Result<(), OutOfMemory>
+    requires there { IsTrue (list_all (λ e. nat_lt e.node (length nodes.now)) row.now.ends) }
+    requires fit { EndsFit row.now }
+    ensures accepts { OnOk result ((a : ℕ) (z : End) → segs_give found.new.accepts.items a z
+        ≡ (segs_give found.old.accepts.items a z
+        || row_goes (gives_by (λ r. r.done.accepts) nodes.now) row.now a z)) }
+    ensures stops { OnOk result ((a : ℕ) (z : End) → segs_give found.new.stops.items a z
+        ≡ (segs_give found.old.stops.items a z
+        || row_goes (gives_by (λ r. r.done.stops) nodes.now) row.now a z)) }
+    ensures go { OnOk result ((a : ℕ) (z : End) → segs_give found.new.go.items a z
+        ≡ (segs_give found.old.go.items a z
+        || row_goes (gives_by (λ r. r.go) nodes.now) row.now a z)) }
 {
-    spans.partition_point(|span| span.hi < a)
-}
-
-/// The address to which the last one of a segment comes.
-fn last_out(seg: Seg) -> u64
-    ensures { result ≡ seg.base + (seg.span.hi - seg.span.lo) }
-{
-    seg.base + (seg.span.hi - seg.span.lo)
-}
-
-/// The part of a segment that comes out in a span. Where the front is cut off, the base moves with it.
-fn cut(seg: Seg, span: Span) -> Seg
-    requires begins { span.lo ≤ seg.base + (seg.span.hi - seg.span.lo) }
-    requires ends { seg.base ≤ span.hi }
-    ensures { (a : ℕ) (y : End) → seg_gives result a y ≡ (seg_gives seg a y
-        && in_span span y.base) }
-{
-    let first = seg.base.max(span.lo);
-    let last = last_out(seg).min(span.hi);
-    Seg {
-        span: Span {
-            lo: seg.span.lo + (first - seg.base),
-            hi: seg.span.lo + (last - seg.base),
-        },
-        node: seg.node,
-        base: first,
+    let span = row.span();
+    let ends = row.ends();
+    for end in ends {
+        let seg = Seg {
+            span,
+            node: end.node,
+            base: end.base,
+        };
+        push(found, &nodes[usize::from(end.node)], seg)?;
     }
+    Ok(())
+}
+
+/// Adds what the addresses of a segment come to, by what its node comes to.
+fn push(found: &mut Found, reach: &Reach, seg: Seg) -> Result<(), OutOfMemory>
+    ensures accepts { OnOk result ((a : ℕ) (z : End) → segs_give found.new.accepts.items a z
+        ≡ (segs_give found.old.accepts.items a z || seg_goes reach.now.done.accepts seg a z)) }
+    ensures stops { OnOk result ((a : ℕ) (z : End) → segs_give found.new.stops.items a z
+        ≡ (segs_give found.old.stops.items a z || seg_goes reach.now.done.stops seg a z)) }
+    ensures go { OnOk result ((a : ℕ) (z : End) → segs_give found.new.go.items a z
+        ≡ (segs_give found.old.go.items a z || seg_goes reach.now.go seg a z)) }
+{
+    follow(&mut found.accepts, seg, &reach.done.accepts)?;
+    follow(&mut found.stops, seg, &reach.done.stops)?;
+    follow(&mut found.go, seg, &reach.go)
+}
+
+/// The accepted names and the stops that were found, as normal rows.
+pub(crate) fn flat_of(alloc: Global, found: &Found) -> Result<Flat, OutOfMemory>
+    ensures accepts { IfOk result (λ flat. AreNormal (SegmentsGive found.now.accepts.items)
+        flat.accepts) }
+    ensures stops { IfOk result (λ flat. AreNormal (SegmentsGive found.now.stops.items)
+        flat.stops) }
+{
+    Ok(Flat {
+        accepts: Rows::normal(alloc, &found.accepts)?,
+        stops: Rows::normal(alloc, &found.stops)?,
+    })
 }

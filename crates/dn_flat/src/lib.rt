@@ -1,11 +1,15 @@
 //! What a node sees: for each of its addresses the names to which it resolves, as the fewest rows.
 //!
-//! [`flat::flatten`] takes the walks that begin at the node, and what is accepted where they end.
+//! A [`stage::Stage`] has for each node of a net what its addresses come to in fewer than so many steps and in
+//! exactly so many. [`flat::flatten`] goes level by level from one node, by the stage for one step, and
+//! [`flats::flatten_all`] doubles the stage until no chain is longer.
 #![tactic(auto)]
 
 pub mod flat;
+pub mod flats;
 mod found;
 pub mod laws;
-mod starts;
+mod reach;
+pub mod stage;
 
 pub use dn_base::OutOfMemory;

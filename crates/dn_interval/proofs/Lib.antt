@@ -1,6 +1,8 @@
+pub mod Cuts
 pub mod Ends
 pub mod Following
 pub mod Fronts
+pub mod Goes
 pub mod Joining
 pub mod Least
 pub mod Listing
@@ -14,3 +16,4 @@ pub mod Places
 pub mod RowPlaces
 pub mod Standing
 pub mod Sweep
+pub mod Turns

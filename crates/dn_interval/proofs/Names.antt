@@ -1,14 +1,15 @@
 -- The tests of which names segments and rows give, and what the definitions say of them.
-use Rattle.std.proofs.Common.{◌≡◌, ℕ, ◌-◌, ◌⊎◌, inl, inr, Bool, true, false, ◌||◌, cond, nat_eq, List, [], ◌∷◌, ◌++◌, map, refl, sym, ap, ◌∙◌}
-use Rattle.std.specs.List.{list_any}
+use Rattle.std.proofs.Common.{◌≡◌, ℕ, zero, suc, ◌+◌, ◌-◌, ◌≤◌, ◌⊎◌, inl, inr, Bool, true, false, ◌&&◌, ◌||◌, cond, nat_eq, List, [], ◌∷◌, ◌++◌, map, refl, sym, ap, ◌∙◌, arith, eqb-true}
+use Rattle.std.specs.List.{All, list_any}
 use Rattle.std.proofs.lemmas.Bool.{or_cases, and_parts, and_from, eq-eqb, false≢true}
 use Rattle.dn_interval.specs.declared.row.Seg.{Seg}
 use Rattle.dn_interval.specs.declared.row.End.{End}
 use Rattle.dn_interval.specs.declared.row.Row.{Row}
+use Rattle.dn_interval.specs.declared.span.TheConstants.{TOP}
 use Rattle.dn_interval.specs.Spans.{in_span}
-use Rattle.dn_interval.specs.Rows.{Member, name_at, names_at, SegmentsGive, moved, HasEnds, Apart, GivenBy, AreNormal}
+use Rattle.dn_interval.specs.Rows.{Member, name_at, names_at, SegmentsGive, moved, HasEnds, Apart, EndsFit, GivenBy, AreNormal}
 use Rattle.dn_interval.specs.Strands.{seg_gives, segs_give, ends_give, row_gives, rows_give}
-use Rattle.dn_interval.proofs.Membership.{same_bool, or_left, or_right}
+use Rattle.dn_interval.proofs.Membership.{same_bool, or_left, or_right, in_from, lo_of, hi_of}
 use Rattle.dn_interval.proofs.Ends.{end_eq, one_end}
 use Rattle.dn_interval.proofs.RowPlaces.{covered}
 
@@ -74,12 +75,12 @@ ends_to (e ∷ es) lo a y f = elim (or_cases (end_eq (moved (a - lo) e) y) (ends
   | inr g ↦ inr (ends_to es lo a y g)
 ]
 
-rows_from : (rows : List Row) (a : ℕ) (y : End) → GivenBy rows a y → rows_give rows a y ≡ true
+pub rows_from : (rows : List Row) (a : ℕ) (y : End) → GivenBy rows a y → rows_give rows a y ≡ true
 rows_from [] a y g = absurd g
 rows_from (r ∷ rs) a y (inl g) = or_left (row_gives r a y) (rows_give rs a y) (and_from (in_span r.span a) (ends_give r.ends r.span.lo a y) g.0 (ends_from r.ends r.span.lo a y g.1))
 rows_from (r ∷ rs) a y (inr g) = or_right (row_gives r a y) (rows_give rs a y) (rows_from rs a y g)
 
-rows_to : (rows : List Row) (a : ℕ) (y : End) → rows_give rows a y ≡ true → GivenBy rows a y
+pub rows_to : (rows : List Row) (a : ℕ) (y : End) → rows_give rows a y ≡ true → GivenBy rows a y
 rows_to [] a y e = absurd (false≢true e)
 rows_to (r ∷ rs) a y e = elim (or_cases (row_gives r a y) (rows_give rs a y) e) [
   | inl g ↦ let p = and_parts (in_span r.span a) (ends_give r.ends r.span.lo a y) g in inl (p.0, ends_to r.ends r.span.lo a y p.1)
@@ -133,3 +134,35 @@ pub covers_same : (segs : List Seg) (rows : List Row) → Apart 0 rows → ((a :
 covers_same segs rows p same a = same_bool (covered rows a) (covered_by segs a)
     (λ e. let w = row_named 0 rows a p e in segs_covered segs a w.0 (sym (same a w.0) ∙ w.1))
     (λ e. let w = seg_named segs a e in rows_covered rows a w.0 (same a w.0 ∙ w.1))
+
+-- the names of rows keep at or below the last address, since those of segments do
+
+seg_fits : (s : Seg) (a : ℕ) (y : End) → seg_gives s a y ≡ true → y.base ≤ TOP
+seg_fits s a y e =
+    let p = and_parts (in_span s.span a) (nat_eq s.node y.node && nat_eq (s.base + (a - s.span.lo)) y.base) e in
+    let q = and_parts (nat_eq s.node y.node) (nat_eq (s.base + (a - s.span.lo)) y.base) p.1 in
+    let base : s.base + (a - s.span.lo) ≡ y.base = eqb-true (s.base + (a - s.span.lo)) y.base q.1 in
+    let lo : s.span.lo ≤ a = lo_of s.span a p.0 in
+    let hi : a ≤ s.span.hi = hi_of s.span a p.0 in
+    let fits : s.base + (s.span.hi - s.span.lo) ≤ TOP = s.fits in
+    omega arith
+
+segs_fit : (segs : List Seg) (a : ℕ) (y : End) → segs_give segs a y ≡ true → y.base ≤ TOP
+segs_fit [] a y e = absurd (false≢true e)
+segs_fit (s ∷ rest) a y e = elim (or_cases (seg_gives s a y) (segs_give rest a y) e) [
+  | inl g ↦ seg_fits s a y g
+  | inr g ↦ segs_fit rest a y g
+]
+
+each_fits : (w : ℕ) (es : List End) → ((y : End) → Member y (map (moved w) es) → y.base ≤ TOP) → All (λ (e : End). e.base + w ≤ TOP) es
+each_fits w [] f k d l = absurd (omega arith)
+each_fits w (e ∷ es) f zero d l = f (moved w e) (inl refl)
+each_fits w (e ∷ es) f (suc k) d l = each_fits w es (λ y m. f y (inr m)) k d (omega arith)
+
+all_fit : (rows : List Row) → ((a : ℕ) (y : End) → rows_give rows a y ≡ true → y.base ≤ TOP) → All EndsFit rows
+all_fit [] f k d l = absurd (omega arith)
+all_fit (r ∷ rs) f zero d l = each_fits (r.span.hi - r.span.lo) r.ends (λ y m. f r.span.hi y (or_left (row_gives r r.span.hi y) (rows_give rs r.span.hi y) (and_from (in_span r.span r.span.hi) (ends_give r.ends r.span.lo r.span.hi y) (in_from r.span r.span.hi r.span.ordered (omega arith)) (ends_from r.ends r.span.lo r.span.hi y m))))
+all_fit (r ∷ rs) f (suc k) d l = all_fit rs (λ a y g. f a y (or_right (row_gives r a y) (rows_give rs a y) g)) k d (omega arith)
+
+pub rows_fit : (segs : List Seg) (rows : List Row) → ((a : ℕ) (y : End) → rows_give rows a y ≡ segs_give segs a y) → All EndsFit rows
+rows_fit segs rows same = all_fit rows (λ a y g. segs_fit segs a y (sym (same a y) ∙ g))

@@ -1,5 +1,5 @@
 -- What stands where in a list of rows that stand apart: found by place, as a binary search finds it.
-use Rattle.std.proofs.Common.{◌≡◌, ℕ, zero, suc, ◌<◌, ◌≤◌, inl, inr, Bool, true, false, ◌&&◌, ◌||◌, leb, ltb, Option, Some, None, List, [], ◌∷◌, length, get_or, refl, sym, ap, ◌∙◌, arith}
+use Rattle.std.proofs.Common.{◌≡◌, ℕ, zero, suc, ◌<◌, ◌≤◌, inl, inr, Bool, true, false, ◌&&◌, ◌||◌, leb, ltb, Option, Some, None, List, [], ◌∷◌, drop, length, get_or, refl, sym, ap, ◌∙◌, arith}
 use Rattle.std.specs.List.{AllWithin, slice_get, list_any}
 use Rattle.std.proofs.lemmas.Bool.{le-leb, lt-ltb, ltb-true, or_cases, false≢true}
 use Rattle.dn_interval.specs.declared.row.Row.{Row}
@@ -22,6 +22,19 @@ ends_ascend from (r ∷ rs) zero zero d p l h = omega arith
 ends_ascend from (r ∷ rs) zero (suc j) d p l h = omega (arith, stands_at (suc r.span.hi) rs j d p.4 (omega arith), (get_or rs j d).span.ordered)
 ends_ascend from (r ∷ rs) (suc i) zero d p l h = absurd (omega arith)
 ends_ascend from (r ∷ rs) (suc i) (suc j) d p l h = ends_ascend (suc r.span.hi) rs i j d p.4 (omega arith) (omega arith)
+
+pub begins_ascend : (from : ℕ) (rs : List Row) (i j : ℕ) (d : Row) → Apart from rs → i ≤ j → j < length rs → (get_or rs i d).span.lo ≤ (get_or rs j d).span.lo
+begins_ascend from [] i j d p l h = absurd (omega arith)
+begins_ascend from (r ∷ rs) zero zero d p l h = omega arith
+begins_ascend from (r ∷ rs) zero (suc j) d p l h = omega (arith, r.span.ordered, stands_at (suc r.span.hi) rs j d p.4 (omega arith))
+begins_ascend from (r ∷ rs) (suc i) zero d p l h = absurd (omega arith)
+begins_ascend from (r ∷ rs) (suc i) (suc j) d p l h = begins_ascend (suc r.span.hi) rs i j d p.4 (omega arith) (omega arith)
+
+-- the rest of such a list stands apart
+pub rest_apart : (from n : ℕ) (rs : List Row) → Apart from rs → (to : ℕ) × Apart to (drop n rs)
+rest_apart from zero rs p = (from, p)
+rest_apart from (suc n) [] p = (0, tt)
+rest_apart from (suc n) (r ∷ rs) p = rest_apart (suc r.span.hi) n rs p.4
 
 pub ends_part : (rs : List Row) (a i j : ℕ) (d : Row) → Apart 0 rs → i ≤ j → j < length rs → ltb (get_or rs j d).span.hi a ≡ true → ltb (get_or rs i d).span.hi a ≡ true
 ends_part rs a i j d p l h e = lt-ltb (get_or rs i d).span.hi a (omega (arith, ends_ascend 0 rs i j d p l h, ltb-true (get_or rs j d).span.hi a e))

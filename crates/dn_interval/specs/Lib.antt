@@ -1,4 +1,6 @@
 pub mod Listed
+pub mod Onward
 pub mod Rows
+pub mod Runs
 pub mod Spans
 pub mod Strands

@@ -1,7 +1,7 @@
 -- The names that segments give, and normal rows of a function from addresses to sets of names.
 use Rattle.std.specs.Prelude.{◌≡◌, ℕ, suc, ◌+◌, ◌-◌, ◌≤◌, ◌⊎◌, ◌↔◌, Bool, cond, ◌&&◌, ◌||◌, nat_lt, nat_eq, List, [], ◌∷◌, map, IsTrue}
 pub use Rattle.dn_base.specs.Members.{Member}
-use Rattle.std.specs.List.{list_all}
+use Rattle.std.specs.List.{All, list_all}
 use Rattle.dn_interval.specs.declared.row.Seg.{Seg}
 use Rattle.dn_interval.specs.declared.row.End.{End}
 use Rattle.dn_interval.specs.declared.row.Row.{Row}
@@ -54,6 +54,10 @@ Parted r (s ∷ rest) = s.span.lo ≡ suc r.span.hi → s.ends ≡ map (moved (s
 abbrev pub Apart : ℕ → List Row → Type 0
 Apart from [] = Unit {0}
 Apart from (r ∷ rest) = (from ≤ r.span.lo) × HasEnds r.ends × Ascending r.ends × Parted r rest × Apart (suc r.span.hi) rest
+
+-- each name of the row, moved on to the row's last address, is at or below the last address of all
+abbrev pub EndsFit : Row → Type 0
+EndsFit r = All (λ (e : End). e.base + (r.span.hi - r.span.lo) ≤ TOP) r.ends
 
 -- the rows give the name to the address
 abbrev pub GivenBy : List Row → ℕ → End → Type 0

@@ -3,6 +3,7 @@
 ghost use Rattle.std.specs.Prelude.{◌≡◌, ◌-◌, ◌^◌};
 ghost use Rattle.dn_interval.specs.declared.span.TheConstants.{TOP};
 ghost use Rattle.dn_interval.specs.Listed.{ListedRowsAreNormal, NormalRowsAreListed};
+ghost use Rattle.dn_interval.specs.Onward.{RowsGoOn};
 ghost use Rattle.dn_interval.specs.Rows.{OneListOfRows};
 ghost use Rattle.dn_interval.specs.Spans.{OneListOfSpans};
 
@@ -25,6 +26,11 @@ pub fn normal_rows_are_listed()
 /// exactly its names.
 pub fn listed_rows_are_normal()
     ensures { ListedRowsAreNormal }
+{}
+
+/// Rows go on to a name exactly where one of the names that they give does.
+pub fn rows_go_on()
+    ensures { RowsGoOn }
 {}
 
 /// The last address is 2^56 - 1.

@@ -2,12 +2,15 @@
 //!
 //! An address is a number up to [`TOP`]. A [`Span`] is a run of addresses, and a [`SpanSet`] a set of
 //! addresses, which contracts see as the ascending list of its maximal spans. A [`Seg`] gives each
-//! address of a span a name, and [`Rows`] are the normal rows of what segments give.
+//! address of a span a name, and [`Rows`] are the normal rows of what segments give. Where names go on by the
+//! rows of their nodes, [`onward::follow`] gives the segments of what they come to.
 #![tactic(auto)]
 
 pub mod laws;
+pub mod onward;
 pub mod row;
 pub mod rows;
+mod runs;
 pub mod span;
 pub mod span_set;
 mod strand;

@@ -8,13 +8,13 @@ ghost use Rattle.dn_interval.specs.declared.row.End.{End};
 ghost use Rattle.dn_interval.specs.declared.row.Row.{Row};
 ghost use Rattle.dn_interval.specs.declared.strand.Strand.{Strand};
 ghost use Rattle.dn_interval.specs.Spans.{in_span};
-ghost use Rattle.dn_interval.specs.Rows.{Apart, AreNormal, SegmentsGive, Ascending, HasEnds};
-ghost use Rattle.dn_interval.specs.Strands.{strands_give, slides_give, ends_give, rows_give, IsMaximal};
+ghost use Rattle.dn_interval.specs.Rows.{Apart, AreNormal, SegmentsGive, Ascending, EndsFit, HasEnds};
+ghost use Rattle.dn_interval.specs.Strands.{strands_give, slides_give, ends_give, rows_give, segs_give, IsMaximal};
 
 use crate::row::{End, Row, Seg};
 use crate::span::{Span, TOP};
 use crate::strand::Strand;
-use crate::strands;
+use crate::{runs, strands};
 use dn_base::OutOfMemory;
 use dn_base::items::Items;
 use std::alloc::Global;
@@ -32,24 +32,24 @@ impl Model for Rows {
 
     ghost Value = { List Row };
 
-    ghost use Rattle.dn_interval.specs.Rows.{Apart};
+    ghost use Rattle.std.specs.List.{All};
+    ghost use Rattle.dn_interval.specs.Rows.{Apart, EndsFit};
 
     ghost view = { λ r. r.rows.items };
 
-    ghost invariant = { λ r. Apart 0 r.rows.items };
+    ghost invariant = { λ r. record { apart : Apart 0 r.rows.items; fit : All EndsFit r.rows.items } };
 }
 
 impl Rows {
     /// The normal rows of the names that the segments give: time of a sort in the number of segments
-    /// and of ends.
+    /// and of ends, and linear where each segment begins behind those before it.
     pub fn normal(alloc: Global, segs: &[Seg]) -> Result<Rows, OutOfMemory>
         ensures normal { IfOk result (λ rows. AreNormal (SegmentsGive segs.now) rows) }
         ensures covers { IfOk result (λ rows. (a : ℕ)
             → list_any (λ (r : Row). in_span r.span a) rows
             ≡ list_any (λ (s : Seg). in_span s.span a) segs.now) }
     {
-        let strands = strands::strands_of(alloc, segs)?;
-        let rows = sweep(alloc, strands.as_slice())?;
+        let rows = rows_of(alloc, segs)?;
         Ok(Rows { rows })
     }
 
@@ -68,19 +68,33 @@ impl Rows {
     pub fn rows(&self) -> &[Row]
         ensures value { result.now ≡ self.now }
         ensures apart { Apart 0 self.now }
+        ensures fit { All EndsFit self.now }
     {
         self.rows.as_slice()
     }
 }
 
 /// How many of the rows end before an address.
-fn ended_before(rows: &[Row], a: u64) -> usize
+pub(crate) fn ended_before(rows: &[Row], a: u64) -> usize
     requires { Apart 0 rows.now }
     ensures within { result ≤ length rows.now }
     ensures place { IsPartitionPoint (λ (r : Row). r.span.hi < a)
         (λ (r : Row). a ≤ r.span.hi) rows.now result }
 {
     rows.partition_point(|row| row.span.hi < a)
+}
+
+/// The normal rows of segments.
+fn rows_of(alloc: Global, segs: &[Seg]) -> Result<Vec<Row>, OutOfMemory>
+    ensures same { IfOk result (λ rows. (a : ℕ) (y : End) → rows_give rows.items a y
+        ≡ segs_give segs.now a y) }
+    ensures apart { IfOk result (λ rows. Apart 0 rows.items) }
+{
+    if runs::are_in_turn(segs) {
+        return runs::rows_in_turn(alloc, segs);
+    }
+    let strands = strands::strands_of(alloc, segs)?;
+    sweep(alloc, strands.as_slice())
 }
 
 /// The rows of strands that come in the order of their first addresses. A row ends where a strand

@@ -13,7 +13,7 @@ use dn_net::net::Net;
 use std::alloc::Global;
 
 /// For each node of a net, by its number, the addresses that it accepts.
-pub(crate) fn accepted_sets(alloc: Global, net: &Net) -> Result<Vec<SpanSet>, OutOfMemory>
+pub fn accepted_sets(alloc: Global, net: &Net) -> Result<Vec<SpanSet>, OutOfMemory>
     requires rules { KeepsNodeRules net.now }
     ensures { IfOk result (λ sets. AreAccepted net.now sets.items) }
 {

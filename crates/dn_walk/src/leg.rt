@@ -23,7 +23,7 @@ pub struct Leg {
 }
 
 /// The legs of each node of a net.
-pub(crate) fn net_legs(alloc: Global, net: &Net) -> Result<Vec<Items<Leg>>, OutOfMemory>
+pub fn net_legs(alloc: Global, net: &Net) -> Result<Vec<Items<Leg>>, OutOfMemory>
     requires rules { KeepsNodeRules net.now }
     ensures legs { IfOk result (λ v. v.items ≡ map told_legs net.now) }
     ensures each { IfOk result (λ v. All (AreLegs (length net.now)) v.items) }

@@ -7,6 +7,7 @@ ghost use Rattle.dn_print.specs.Names.{names_exist};
 
 use crate::unmade::Unmade;
 use dn_flat::flat::{Flat, flatten};
+use dn_flat::flats::{Flats, flatten_all};
 use dn_net::names::Names;
 use dn_net::net::Net;
 use dn_net::node::Name;
@@ -80,5 +81,12 @@ impl Machine {
             return Err(Unmade::Refused);
         }
         Ok(flatten(alloc, &self.net, &self.walks, node)?)
+    }
+
+    /// What each node sees.
+    pub fn flats(&self, alloc: Global) -> Result<Flats, Unmade>
+        ensures every { IfOk result (λ flats. length flats ≡ length self.now) }
+    {
+        Ok(flatten_all(alloc, &self.net, &self.walks)?)
     }
 }

@@ -12,6 +12,8 @@ use dn_net::node::Name;
 #[cfg(test)]
 mod printing;
 #[cfg(test)]
+mod stages;
+#[cfg(test)]
 mod views;
 
 /// The name that a row with this end gives to the address so many after its first one. `None` where its address

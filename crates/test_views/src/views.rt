@@ -18,7 +18,7 @@ agent engine is map [0-0xffff to mmu at 0];
 ";
 
 /// Blocks that overlap and touch, two ways to one name, neighbours that go on and neighbours that break.
-const SMALL: &str = "a is accept [8-20, 0-3, 4-10];
+pub(crate) const SMALL: &str = "a is accept [8-20, 0-3, 4-10];
 b is map [0-9 to a at 0, 10-19 to a at 10, 20-29 to a at 10];
 c is accept [15-16] map [0-9 to a at 2];
 d is accept [0] map [2-11 to b at 0 and c at 0, 12-15 to b at 16];
@@ -93,7 +93,7 @@ fn joins_and_breaks_rows(rt: HostRuntime) -> Result<(), Fail> {
 }
 
 /// The names that rows give to an address.
-fn names_at(alloc: Global, rows: &Rows, addr: u64) -> Result<Vec<Name>, AllocError> {
+pub(crate) fn names_at(alloc: Global, rows: &Rows, addr: u64) -> Result<Vec<Name>, AllocError> {
     let mut names = Vec::new(alloc);
     if let Some(row) = rows.at(addr) {
         let moved = addr.wrapping_sub(row.span().lo);

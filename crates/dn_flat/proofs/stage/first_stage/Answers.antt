@@ -1,0 +1,19 @@
+-- One node more.
+use Rattle.std.proofs.Common.{◌≡◌, ◌∙◌, ap, sym, subst, length, ℕ, slice_get, Some}
+use Rattle.dn_flat.specs.declared.reach.Reach.{Reach}
+use Rattle.dn_flat.specs.Stages.{IsReach}
+use Rattle.dn_flat.proofs.Lists.{each_pushed, length_pushed}
+use Rattle.dn_flat.proofs.stage.first_stage.Goals as goal
+
+pub loop-node-preserved : goal.loop-node-preserved
+loop-node-preserved c =
+    let net = c.args.net.now in
+    let made = c.loop-node.nodes.items in
+    let next = c.in_ok-reach.reach in
+    let inv = c.loop-node.invariant in
+    let items = c.in_ok-push.ensures.items in
+    record {
+      every = ap length items ∙ length_pushed made next c.loop-node.node inv.every;
+      each = subst (λ xs. (m : ℕ) (r : Reach) → slice_get xs m ≡ Some r → IsReach net 1 m r) (sym items)
+          (each_pushed (IsReach net 1) made next inv.each (subst (λ m. IsReach net 1 m next) (sym inv.every) c.in_ok-reach.ensures));
+    }

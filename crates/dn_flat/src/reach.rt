@@ -1,0 +1,144 @@
+//! What a node comes to by a number of steps: by one, and by twice as many.
+
+ghost use Rattle.std.specs.Prelude.{◌≡◌, ℕ, ◌+◌, ◌-◌, ◌<◌, ◌≤◌, ◌&&◌, length, slice_get, option_map, Some, IfOk, IsTrue, List};
+ghost use Rattle.std.specs.List.{All};
+ghost use Rattle.dn_interval.specs.declared.row.End.{End};
+ghost use Rattle.dn_interval.specs.declared.span.TheConstants.{TOP};
+ghost use Rattle.dn_interval.specs.Rows.{ends_within};
+ghost use Rattle.dn_interval.specs.Spans.{has, in_span};
+ghost use Rattle.dn_interval.specs.Strands.{seg_gives, segs_give};
+ghost use Rattle.dn_net.specs.declared.node.NodeDecl.{NodeDecl};
+ghost use Rattle.dn_net.specs.Decode.{is_accepted, is_stop};
+ghost use Rattle.dn_net.specs.Rules.{KeepsNodeRules};
+ghost use Rattle.dn_walk.specs.declared.leg.Leg.{Leg};
+ghost use Rattle.dn_walk.specs.Legs.{told_legs};
+ghost use Rattle.dn_flat.specs.Firsts.{is_same, stays, leg_gives, legs_give};
+ghost use Rattle.dn_flat.specs.Stages.{IsReach, AreReaches};
+
+use crate::flat::Flat;
+use crate::found::{Found, flat_of, push_rows, whole};
+use dn_base::OutOfMemory;
+use dn_interval::onward::follow;
+use dn_interval::{Rows, Seg, Span, SpanSet};
+use dn_net::net::Net;
+use dn_walk::leg::Leg;
+use std::alloc::Global;
+
+/// What the addresses of a node come to by a number of steps.
+#[derive(Drop)]
+pub(crate) struct Reach {
+    /// The accepted names and the stops that are reached in fewer steps.
+    pub(crate) done: Flat,
+    /// The names that are reached in exactly so many.
+    pub(crate) go: Rows,
+}
+
+/// What a node comes to by one step, from the addresses that it accepts and from its legs.
+pub(crate) fn first_reach(
+    alloc: Global,
+    net: &Net,
+    node: u16,
+    accepted: &SpanSet,
+    legs: &[Leg],
+) -> Result<Reach, OutOfMemory>
+    requires rules { KeepsNodeRules net.now }
+    requires there { node < length net.now }
+    requires accepted { (a : ℕ) → has accepted.now a
+        ≡ is_accepted net.now (record { node = node; addr = a }) }
+    requires legs { option_map told_legs (slice_get net.now node) ≡ Some legs.now }
+    ensures { IfOk result (λ reach. IsReach net.now 1 node reach) }
+{
+    let found = Found {
+        accepts: still_segs(alloc, node, accepted.spans())?,
+        stops: stop_segs(alloc, net, node)?,
+        go: leg_segs(alloc, legs)?,
+    };
+    let done = flat_of(alloc, &found)?;
+    let go = Rows::normal(alloc, &found.go)?;
+    Ok(Reach { done, go })
+}
+
+/// Each address of a node that lies in spans, as itself.
+fn still_segs(alloc: Global, node: u16, spans: &[Span]) -> Result<Vec<Seg>, OutOfMemory>
+    ensures { IfOk result (λ segs. (a : ℕ) (y : End) → segs_give segs.items a y
+        ≡ stays spans.now node a y) }
+{
+    let mut segs = Vec::with_capacity(alloc, spans.len())?;
+    for span in spans {
+        segs.push(still(node, *span))?;
+    }
+    Ok(segs)
+}
+
+/// Each address of a span of a node, as itself.
+fn still(node: u16, span: Span) -> Seg
+    ensures { (a : ℕ) (y : End) → seg_gives result a y ≡ (in_span span a && is_same node a y) }
+{
+    Seg {
+        span,
+        node,
+        base: span.lo,
+    }
+}
+
+/// Each address of a unit, as itself; of a node that is no unit, none.
+fn stop_segs(alloc: Global, net: &Net, node: u16) -> Result<Vec<Seg>, OutOfMemory>
+    requires { node < length net.now }
+    ensures { IfOk result (λ segs. (a : ℕ) (y : End) → a ≤ TOP → segs_give segs.items a y
+        ≡ (is_stop net.now (record { node = node; addr = a }) && is_same node a y)) }
+{
+    let mut segs = Vec::new(alloc);
+    if net.unit(node).is_some() {
+        segs.push(whole(node))?;
+    }
+    Ok(segs)
+}
+
+/// Where legs lead their addresses.
+fn leg_segs(alloc: Global, legs: &[Leg]) -> Result<Vec<Seg>, OutOfMemory>
+    requires order { All (λ (l : Leg). l.lo ≤ l.hi) legs.now }
+    requires low { All (λ (l : Leg). l.hi ≤ TOP) legs.now }
+    requires far { All (λ (l : Leg). l.addr + (l.hi - l.lo) ≤ TOP) legs.now }
+    ensures { IfOk result (λ segs. (a : ℕ) (y : End) → segs_give segs.items a y
+        ≡ legs_give legs.now a y) }
+{
+    let mut segs = Vec::with_capacity(alloc, legs.len())?;
+    for leg in legs {
+        segs.push(leg_seg(leg))?;
+    }
+    Ok(segs)
+}
+
+/// Where a leg leads its addresses.
+fn leg_seg(leg: &Leg) -> Seg
+    requires order { leg.now.lo ≤ leg.now.hi }
+    requires low { leg.now.hi ≤ TOP }
+    requires far { leg.now.addr + (leg.now.hi - leg.now.lo) ≤ TOP }
+    ensures { (a : ℕ) (y : End) → seg_gives result a y ≡ leg_gives leg.now a y }
+{
+    let span = Span {
+        lo: leg.lo,
+        hi: leg.hi,
+    };
+    Seg {
+        span,
+        node: leg.node,
+        base: leg.addr,
+    }
+}
+
+/// What a node comes to by twice as many steps: what it comes to in fewer, and what the names come to that it
+/// reaches in exactly so many.
+pub(crate) fn twice(alloc: Global, nodes: &[Reach], reach: &Reach) -> Result<Reach, OutOfMemory>
+    requires there { IsTrue (ends_within (length nodes.now) reach.now.go) }
+    ensures { IfOk result (λ next. (net : List NodeDecl) (k node : ℕ) → AreReaches net k nodes.now
+        → IsReach net k node reach.now → IsReach net (k + k) node next) }
+{
+    let mut found = Found::new(alloc);
+    follow(&mut found.accepts, whole(0), &reach.done.accepts)?;
+    follow(&mut found.stops, whole(0), &reach.done.stops)?;
+    push_rows(&mut found, nodes, &reach.go)?;
+    let done = flat_of(alloc, &found)?;
+    let go = Rows::normal(alloc, &found.go)?;
+    Ok(Reach { done, go })
+}

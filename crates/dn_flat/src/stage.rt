@@ -1,0 +1,194 @@
+//! Stages: what each node of a net comes to by a number of steps.
+
+ghost use Rattle.std.specs.Prelude.{◌≡◌, ℕ, ◌+◌, ◌*◌, ◌<◌, ◌≤◌, ◌↔◌, ◌||◌, Some, option_map, slice_get, length, IfOk, OnOk, IsTrue, List};
+ghost use Rattle.dn_interval.specs.declared.row.End.{End};
+ghost use Rattle.dn_interval.specs.declared.span.TheConstants.{TOP};
+ghost use Rattle.dn_interval.specs.Onward.{rows_go, gives_by};
+ghost use Rattle.dn_interval.specs.Rows.{AreNormal, ends_within};
+ghost use Rattle.dn_interval.specs.Strands.{segs_give};
+ghost use Rattle.dn_net.specs.declared.node.NodeDecl.{NodeDecl};
+ghost use Rattle.dn_net.specs.Legal.{IsLegalNet};
+ghost use Rattle.dn_net.specs.Rules.{KeepsNodeRules};
+ghost use Rattle.dn_walk.specs.Rows.{AreAccepted};
+ghost use Rattle.dn_flat.specs.Stages.{GoesIn, IsDone, IsStage, IsFlat, AreReaches, is_ended};
+ghost use Rattle.dn_flat.specs.Views.{ResolvesFrom, StopsFrom};
+
+use crate::flat::Flat;
+use crate::found::{Found, flat_of, push_rows, whole};
+use crate::reach::{Reach, first_reach, twice};
+use dn_base::OutOfMemory;
+use dn_interval::{Rows, SpanSet};
+use dn_net::net::Net;
+use dn_walk::accepted::accepted_sets;
+use dn_walk::leg::net_legs;
+use std::alloc::Global;
+use std::marker::Model;
+
+/// What the addresses of each node of a net come to in fewer than a number of steps, and in exactly so many.
+#[derive(Drop)]
+pub struct Stage {
+    nodes: Vec<Reach>,
+    steps: u32,
+}
+
+impl Model for Stage {
+    ghost use Rattle.dn_flat.specs.Stages.{StageRows};
+
+    ghost Value = { StageRows };
+
+    ghost view = { λ s. record { steps = s.steps; nodes = s.nodes.items } };
+}
+
+impl Stage {
+    /// The stage for one step: linear in the size of the net, but for sorting.
+    pub fn start(alloc: Global, net: &Net) -> Result<Stage, OutOfMemory>
+        requires legal { IsLegalNet net.now }
+        ensures stage { IfOk result (λ stage. IsStage net.now stage) }
+        ensures steps { IfOk result (λ stage. stage.steps ≡ 1) }
+    {
+        let accepted = accepted_sets(alloc, net)?;
+        first_stage(alloc, net, &accepted)
+    }
+
+    /// The net's stage for twice as many steps.
+    pub fn doubled(&self, alloc: Global, net: &Net) -> Result<Stage, OutOfMemory>
+        requires legal { IsLegalNet net.now }
+        requires stage { IsStage net.now self.now }
+        requires few { self.now.steps ≤ 64 }
+        ensures stage { IfOk result (λ stage. IsStage net.now stage) }
+        ensures steps { IfOk result (λ stage. stage.steps ≡ 2 * self.now.steps) }
+    {
+        let mut nodes = Vec::with_capacity(alloc, usize::from(net.nodes()))?;
+        let all = self.nodes.as_slice();
+        for reach in all {
+            nodes.push(twice(alloc, all, reach)?)?;
+        }
+        Ok(Stage {
+            nodes,
+            steps: 2 * self.steps,
+        })
+    }
+
+    /// For how many steps it is.
+    pub fn steps(&self) -> u32
+        ensures { result ≡ self.now.steps }
+    {
+        self.steps
+    }
+
+    /// The accepted names and the stops that the addresses of a node reach in fewer steps.
+    pub fn done(&self, node: u16) -> &Flat
+        requires { node < length self.now.nodes }
+        ensures same { option_map (λ r. r.done) (slice_get self.now.nodes node) ≡ Some result.now }
+        ensures done { (net : List NodeDecl) → IsStage net self.now → IsDone net self.now.steps node result.now }
+    {
+        &self.reach(node).done
+    }
+
+    /// The names that the addresses of a node reach in exactly so many steps.
+    pub fn go(&self, node: u16) -> &Rows
+        requires { node < length self.now.nodes }
+        ensures { (net : List NodeDecl) → IsStage net self.now → AreNormal
+            (GoesIn net self.now.steps node) result.now }
+    {
+        &self.reach(node).go
+    }
+
+    /// What a node comes to.
+    fn reach(&self, node: u16) -> &Reach
+        requires { node < length self.now.nodes }
+        ensures { slice_get self.now.nodes node ≡ Some result.now }
+    {
+        match self.nodes.get(usize::from(node)) {
+            Some(reach) => reach,
+            None => unreachable!(),
+        }
+    }
+
+    /// Whether no address of a node goes on for so many steps.
+    pub(crate) fn is_ended(&self) -> bool
+        ensures { result ≡ is_ended self.now.nodes }
+    {
+        self.nodes.iter().all(|reach| reach.go.rows().is_empty())
+    }
+
+    /// What a node of the net sees, by the net's stage for one step: level by level from the node itself, so of the
+    /// net only what the node reaches is looked at.
+    pub fn flat(&self, alloc: Global, net: &Net, node: u16) -> Result<Flat, OutOfMemory>
+        requires rules { KeepsNodeRules net.now }
+        requires stage { IsStage net.now self.now }
+        requires first { self.now.steps ≡ 1 }
+        requires there { node < length net.now }
+        ensures { IfOk result (λ flat. IsFlat net.now node flat) }
+    {
+        let found = levels(alloc, net, self.nodes.as_slice(), node)?;
+        flat_of(alloc, &found)
+    }
+}
+
+/// The stage of a net for one step, from the addresses that its nodes accept.
+pub(crate) fn first_stage(
+    alloc: Global,
+    net: &Net,
+    accepted: &[SpanSet],
+) -> Result<Stage, OutOfMemory>
+    requires rules { KeepsNodeRules net.now }
+    requires accepted { AreAccepted net.now accepted.now }
+    ensures stage { IfOk result (λ stage. IsStage net.now stage) }
+    ensures steps { IfOk result (λ stage. stage.steps ≡ 1) }
+{
+    let legs = net_legs(alloc, net)?;
+    let legs = legs.as_slice();
+    let mut nodes = Vec::with_capacity(alloc, usize::from(net.nodes()))?;
+    for node in 0..net.nodes() {
+        let place = usize::from(node);
+        let reach = first_reach(alloc, net, node, &accepted[place], legs[place].as_slice())?;
+        nodes.push(reach)?;
+    }
+    Ok(Stage { nodes, steps: 1 })
+}
+
+/// What is reached from a node, level by level: the names that are reached in so many steps are rows, and each level
+/// is made of the one before and of the steps of the nodes in which its names are.
+fn levels(alloc: Global, net: &Net, nodes: &[Reach], node: u16) -> Result<Found, OutOfMemory>
+    requires rules { KeepsNodeRules net.now }
+    requires nodes { AreReaches net.now 1 nodes.now }
+    requires there { node < length net.now }
+    ensures accepts { IfOk result (λ found. (a : ℕ) (y : End) → a ≤ TOP
+        → IsTrue (segs_give found.accepts.items a y) ↔ ResolvesFrom net.now node a y) }
+    ensures stops { IfOk result (λ found. (a : ℕ) (y : End) → a ≤ TOP
+        → IsTrue (segs_give found.stops.items a y) ↔ StopsFrom net.now node a y) }
+{
+    net.facts();
+    let mut found = Found::new(alloc);
+    let mut reached = Rows::normal(alloc, &[whole(node)])?;
+    for steps in 0..66u32 {
+        if reached.rows().is_empty() {
+            return Ok(found);
+        }
+        reached = further(alloc, &mut found, nodes, &reached)?;
+    }
+    Ok(found)
+}
+
+/// Adds what the names of rows come to, and answers where they go on.
+fn further(
+    alloc: Global,
+    found: &mut Found,
+    nodes: &[Reach],
+    rows: &Rows,
+) -> Result<Rows, OutOfMemory>
+    requires there { IsTrue (ends_within (length nodes.now) rows.now) }
+    ensures accepts { OnOk result ((a : ℕ) (z : End) → segs_give found.new.accepts.items a z
+        ≡ (segs_give found.old.accepts.items a z
+        || rows_go (gives_by (λ r. r.done.accepts) nodes.now) rows.now a z)) }
+    ensures stops { OnOk result ((a : ℕ) (z : End) → segs_give found.new.stops.items a z
+        ≡ (segs_give found.old.stops.items a z
+        || rows_go (gives_by (λ r. r.done.stops) nodes.now) rows.now a z)) }
+    ensures go { IfOk result (λ next. AreNormal (λ a z. IsTrue
+        (rows_go (gives_by (λ r. r.go) nodes.now) rows.now a z)) next) }
+{
+    found.go.clear();
+    push_rows(found, nodes, rows)?;
+    Rows::normal(alloc, &found.go)
+}
