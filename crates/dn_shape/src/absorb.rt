@@ -9,17 +9,20 @@ ghost use Rattle.dn_net.specs.Legal.{IsLegalNet};
 ghost use Rattle.dn_net.specs.Rules.{KeepsNodeRules, is_vectors};
 ghost use Rattle.dn_shape.specs.Absorb.{absorb_outcome, has_port, is_port, leads_to, node_led_past, maps_to, net_past, node_past, why_not_at};
 ghost use Rattle.dn_shape.specs.Faults.{absorb_fault_view};
+ghost use Rattle.dn_shape.specs.Past.{LeadOn};
+ghost use Rattle.dn_walk.specs.Legs.{told_legs};
 ghost use Rattle.dn_shape.specs.Views.{HaveEqualViews, IsRuledNet};
 
 use crate::copy::{node_copy, unit_copy};
 use crate::fault::{AbsorbFault, Why};
 use crate::limits::passed_limit;
-use crate::past::entries_past;
+use crate::past::{entries_past, legs_of};
 use dn_base::OutOfMemory;
 use dn_base::items::Items;
 use dn_base::text::Text;
 use dn_net::net::Net;
 use dn_net::node::{Dest, Entry, NodeDecl, Role, Unit};
+use dn_walk::leg::Leg;
 use std::alloc::Global;
 
 /// The net in which no node leads to this one. Each other node with a destination in it, or with
@@ -153,20 +156,38 @@ fn has_dest_in(dests: &[Dest], to: u16) -> bool
 /// The net past a node.
 fn net_past(alloc: Global, net: &Net, past: u16) -> Result<Net, OutOfMemory>
     requires legal { IsLegalNet net.now }
-    requires past { past < length net.now }
+    requires there { past < length net.now }
+    ensures { IfOk result (λ made. made ≡ net_past net.now past) }
+{
+    let legs = legs_of(alloc, net, past)?;
+    nodes_past(alloc, net, past, legs.as_slice())
+}
+
+/// The net past a node with these legs.
+fn nodes_past(alloc: Global, net: &Net, past: u16, onward: &[Leg]) -> Result<Net, OutOfMemory>
+    requires legal { IsLegalNet net.now }
+    requires onward { option_map told_legs (slice_get net.now past) ≡ Some onward.now }
+    requires lead { LeadOn onward.now }
     ensures { IfOk result (λ made. made ≡ net_past net.now past) }
 {
     let mut made = Net::new(alloc);
     for node in 0..net.nodes() {
-        made.add(node_past(alloc, net, past, node)?)?;
+        made.add(node_past(alloc, net, past, onward, node)?)?;
     }
     Ok(made)
 }
 
 /// A node, led past the absorbed one where it leads to it.
-fn node_past(alloc: Global, net: &Net, past: u16, node: u16) -> Result<NodeDecl, OutOfMemory>
+fn node_past(
+    alloc: Global,
+    net: &Net,
+    past: u16,
+    onward: &[Leg],
+    node: u16,
+) -> Result<NodeDecl, OutOfMemory>
     requires rules { KeepsNodeRules net.now }
-    requires past { past < length net.now }
+    requires onward { option_map told_legs (slice_get net.now past) ≡ Some onward.now }
+    requires lead { LeadOn onward.now }
     requires there { node < length net.now }
     ensures { IfOk result (λ n. option_map (node_past net.now past node) (slice_get net.now node)
         ≡ Some n) }
@@ -174,13 +195,20 @@ fn node_past(alloc: Global, net: &Net, past: u16, node: u16) -> Result<NodeDecl,
     if node == past || !leads_to(net, node, past) {
         return node_copy(alloc, net, node);
     }
-    node_led_past(alloc, net, past, node)
+    node_led_past(alloc, net, past, onward, node)
 }
 
 /// A node with the rows past the absorbed one in place of its map and its `over`.
-fn node_led_past(alloc: Global, net: &Net, past: u16, node: u16) -> Result<NodeDecl, OutOfMemory>
+fn node_led_past(
+    alloc: Global,
+    net: &Net,
+    past: u16,
+    onward: &[Leg],
+    node: u16,
+) -> Result<NodeDecl, OutOfMemory>
     requires rules { KeepsNodeRules net.now }
-    requires past { past < length net.now }
+    requires onward { option_map told_legs (slice_get net.now past) ≡ Some onward.now }
+    requires lead { LeadOn onward.now }
     requires there { node < length net.now }
     ensures { IfOk result (λ n. option_map (node_led_past net.now past node) (slice_get net.now node)
         ≡ Some n) }
@@ -189,7 +217,7 @@ fn node_led_past(alloc: Global, net: &Net, past: u16, node: u16) -> Result<NodeD
         text: Text::of(alloc, net.text(node))?,
         role: net.role(node),
         accepts: Items::from_vec(net.accepts(node).to_vec(alloc)?),
-        entries: entries_past(alloc, net, past, node)?,
+        entries: entries_past(alloc, net, past, onward, node)?,
         over: None,
         unit: unit_copy(alloc, net.unit(node))?,
     })

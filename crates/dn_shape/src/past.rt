@@ -29,31 +29,38 @@ pub(crate) fn entries_past(
     alloc: Global,
     net: &Net,
     past: u16,
+    onward: &[Leg],
     node: u16,
 ) -> Result<Items<Entry>, OutOfMemory>
     requires rules { KeepsNodeRules net.now }
-    requires past { past < length net.now }
+    requires onward { option_map told_legs (slice_get net.now past) ≡ Some onward.now }
+    requires lead { LeadOn onward.now }
     requires there { node < length net.now }
     ensures { IfOk result (λ es. es ≡ map entry_of_row (rows_past net.now past node)) }
 {
-    let walks = walks_past(alloc, net, past, node)?;
+    let walks = walks_past(alloc, net, past, onward, node)?;
     let segs = segs_of(alloc, &walks)?;
     let rows = Rows::normal(alloc, &segs)?;
     entries_of(alloc, rows.rows())
 }
 
 /// The walks of one choice from a node, each of which into the other node goes on by one more.
-fn walks_past(alloc: Global, net: &Net, past: u16, node: u16) -> Result<Vec<WalkRow>, OutOfMemory>
+fn walks_past(
+    alloc: Global,
+    net: &Net,
+    past: u16,
+    onward: &[Leg],
+    node: u16,
+) -> Result<Vec<WalkRow>, OutOfMemory>
     requires rules { KeepsNodeRules net.now }
-    requires past { past < length net.now }
+    requires onward { option_map told_legs (slice_get net.now past) ≡ Some onward.now }
+    requires lead { LeadOn onward.now }
     requires there { node < length net.now }
     ensures walks { IfOk result (λ v. map row_view v.items
         ≡ map told_by_walk (walks_past net.now past node)) }
     ensures far { IfOk result (λ v. All (λ r. r.base + (r.span.hi - r.span.lo) ≤ TOP) v.items) }
 {
     let first = first_walks(alloc, net, node)?;
-    let legs = legs_of(alloc, net, past)?;
-    let onward = legs.as_slice();
     let rows = first.as_slice();
     let mut walks = Vec::new(alloc);
     for row in rows {
@@ -85,7 +92,7 @@ fn first_walks(alloc: Global, net: &Net, node: u16) -> Result<Vec<WalkRow>, OutO
 }
 
 /// The legs of a node.
-fn legs_of(alloc: Global, net: &Net, node: u16) -> Result<Items<Leg>, OutOfMemory>
+pub(crate) fn legs_of(alloc: Global, net: &Net, node: u16) -> Result<Items<Leg>, OutOfMemory>
     requires rules { KeepsNodeRules net.now }
     requires there { node < length net.now }
     ensures legs { IfOk result (λ ls. option_map told_legs (slice_get net.now node) ≡ Some ls) }

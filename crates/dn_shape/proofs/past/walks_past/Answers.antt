@@ -1,9 +1,8 @@
 -- One walk more, and then all of them.
-use Rattle.std.proofs.Common.{◌≡◌, ◌∙◌, ◌++◌, ap, sym, map, slice_get, option_map, Some}
+use Rattle.std.proofs.Common.{◌∙◌, ◌++◌, ap, sym, map}
 use Rattle.std.specs.List.{flat_map}
 use Rattle.std.proofs.lemmas.List.{take_all}
 use Rattle.dn_net.specs.Walks.{still, extended}
-use Rattle.dn_walk.specs.Legs.{told_legs}
 use Rattle.dn_walk.specs.Rows.{row_view}
 use Rattle.dn_shape.specs.Past.{told_onward, walks_past}
 use Rattle.dn_shape.proofs.Walked.{all_told, onward_more, row_of_walk, rows_far}
@@ -11,21 +10,20 @@ use Rattle.dn_shape.proofs.past.walks_past.Goals as goal
 
 pub loop-row-preserved : goal.loop-row-preserved
 loop-row-preserved c =
-    let f = told_onward c.as_slice-onward.result.now c.args.past in
+    let f = told_onward c.args.onward.now c.args.past in
     c.in_ok-push_onward.ensures
     ∙ ap (λ l. l ++ f (row_view c.row-item.result)) c.loop-row.invariant
     ∙ sym (onward_more f c.as_slice-rows.result.now c.loop-row.row-index c.row-item.result c.loop-row-test.true c.row-item.is)
 
 all : goal.returns-clause-walks
 all c =
-    let f = told_onward c.as_slice-onward.result.now c.args.past in
+    let f = told_onward c.args.onward.now c.args.past in
     let net = c.args.net.now in
     let rows = c.as_slice-rows.result.now in
-    let onward : option_map told_legs (slice_get net c.args.past) ≡ Some c.as_slice-onward.result.now = c.in_ok-legs.ensures.legs ∙ ap Some (sym c.as_slice-onward.ensures) in
     c.loop-row.invariant
     ∙ ap (λ l. flat_map f (map row_view l)) (take_all c.loop-row.row-index rows c.loop-row-test.false ∙ c.as_slice-rows.ensures.value)
     ∙ ap (flat_map f) c.in_ok-first.ensures.walks
-    ∙ all_told net c.args.past c.as_slice-onward.result.now onward (extended net (still c.args.node))
+    ∙ all_told net c.args.past c.args.onward.now c.requires.onward (extended net (still c.args.node))
 
 pub returns-clause-walks : goal.returns-clause-walks
 returns-clause-walks c = all c

@@ -7,7 +7,7 @@ use Rattle.dn_shape.specs.Absorb.{node_past, nodes_past}
 use Rattle.dn_shape.proofs.Led.{past_formed, past_differ}
 use Rattle.dn_shape.proofs.Named.{new_node}
 use Rattle.dn_shape.proofs.Read.{rest_at, said}
-use Rattle.dn_shape.proofs.absorb.net_past.Goals as goal
+use Rattle.dn_shape.proofs.absorb.nodes_past.Goals as goal
 
 pub add-requires-clause-formed : goal.add-requires-clause-formed
 add-requires-clause-formed c =

@@ -1,7 +1,7 @@
 -- The nodes so far and the rest.
 use Rattle.std.proofs.Common.{◌≡◌, ◌++◌, length, drop}
 use Rattle.dn_shape.specs.Absorb.{nodes_past, net_past}
-use Rattle.dn_shape.proofs.absorb.net_past.Given as goal
+use Rattle.dn_shape.proofs.absorb.nodes_past.Given as goal
 
 abbrev pub invariant-loop-node : goal.invariant-loop-node
 invariant-loop-node l = record {
