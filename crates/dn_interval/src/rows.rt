@@ -11,12 +11,11 @@ ghost use Rattle.dn_interval.specs.Spans.{in_span};
 ghost use Rattle.dn_interval.specs.Rows.{Apart, AreNormal, SegmentsGive, Ascending, EndsFit, HasEnds};
 ghost use Rattle.dn_interval.specs.Strands.{strands_give, slides_give, ends_give, rows_give, segs_give, IsMaximal};
 
-use crate::row::{End, Row, Seg};
+use crate::row::{End, Ends, Row, Seg};
 use crate::span::{Span, TOP};
 use crate::strand::Strand;
 use crate::{runs, strands};
 use dn_base::OutOfMemory;
-use dn_base::items::Items;
 use std::alloc::Global;
 use std::marker::Model;
 
@@ -207,7 +206,7 @@ fn row(alloc: Global, from: u64, hi: u64, running: &[Strand]) -> Result<Row, Out
     ends.dedup();
     Ok(Row {
         span: Span { lo: from, hi },
-        ends: Items::from_vec(ends),
+        ends: Ends::from_vec(ends),
     })
 }
 
