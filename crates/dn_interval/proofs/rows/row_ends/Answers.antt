@@ -6,7 +6,7 @@ use Rattle.dn_interval.specs.declared.row.End.{End}
 use Rattle.dn_interval.specs.Rows.{Ascending, HasEnds}
 use Rattle.dn_interval.specs.Strands.{ends_give}
 use Rattle.dn_interval.proofs.Ends.{end_eq, dedup_ascends, dedup_some, dedup_gives}
-use Rattle.dn_interval.proofs.rows.row.Goals as goal
+use Rattle.dn_interval.proofs.rows.row_ends.Goals as goal
 
 some_length : {xs ys : List End} → xs ≡ ys → HasEnds ys → 0 < length xs
 some_length {xs} {ys} e h = subst (λ l. 0 < length l) (sym e) (go ys h)
