@@ -1,6 +1,6 @@
 //! Segments whose names go on: what they come to by the rows of their node.
 
-ghost use Rattle.std.specs.Prelude.{◌≡◌, ℕ, ◌+◌, ◌-◌, ◌≤◌, ◌&&◌, ◌||◌, nat_eq, OnOk};
+ghost use Rattle.std.specs.Prelude.{◌≡◌, ℕ, ◌+◌, ◌-◌, ◌≤◌, ◌&&◌, ◌||◌, nat_eq, take, length, OnOk, OnErr};
 ghost use Rattle.dn_interval.specs.declared.row.End.{End};
 ghost use Rattle.dn_interval.specs.declared.span.TheConstants.{TOP};
 ghost use Rattle.dn_interval.specs.Onward.{seg_goes};
@@ -15,10 +15,25 @@ use dn_base::OutOfMemory;
 
 /// Adds what the addresses of a segment come to where its names go on by the rows of its node: of each row that has
 /// some of these names, the addresses with them, once for each name of the row. Time of a binary search in the
-/// rows, and of what is added.
+/// rows, and of what is added. For want of memory the segments are as they were.
 pub fn follow(segs: &mut Vec<Seg>, seg: Seg, rows: &Rows) -> Result<(), OutOfMemory>
-    ensures { OnOk result ((a : ℕ) (z : End) → segs_give segs.new.items a z
+    ensures ok { OnOk result ((a : ℕ) (z : End) → segs_give segs.new.items a z
         ≡ (segs_give segs.old.items a z || seg_goes rows.now seg a z)) }
+    ensures err { OnErr result (segs.new.items ≡ segs.old.items) }
+{
+    let len = segs.len();
+    let made = push_all(segs, seg, rows);
+    if made.is_err() {
+        segs.truncate(len);
+    }
+    made
+}
+
+/// Adds what the addresses of a segment come to, one row after another. Those that were there stay in front.
+fn push_all(segs: &mut Vec<Seg>, seg: Seg, rows: &Rows) -> Result<(), OutOfMemory>
+    ensures ok { OnOk result ((a : ℕ) (z : End) → segs_give segs.new.items a z
+        ≡ (segs_give segs.old.items a z || seg_goes rows.now seg a z)) }
+    ensures kept { take (length segs.old.items) segs.new.items ≡ segs.old.items }
 {
     let last = last_out(seg);
     let all = rows.rows();
@@ -37,9 +52,10 @@ fn push_cuts(segs: &mut Vec<Seg>, seg: Seg, row: &Row) -> Result<(), OutOfMemory
     requires begins { row.now.span.lo ≤ seg.base + (seg.span.hi - seg.span.lo) }
     requires ends { seg.base ≤ row.now.span.hi }
     requires fits { EndsFit row.now }
-    ensures { OnOk result ((a : ℕ) (z : End) → segs_give segs.new.items a z
+    ensures ok { OnOk result ((a : ℕ) (z : End) → segs_give segs.new.items a z
         ≡ (segs_give segs.old.items a z || (in_span seg.span a
         && row_gives row.now (seg.base + (a - seg.span.lo)) z))) }
+    ensures kept { take (length segs.old.items) segs.new.items ≡ segs.old.items }
 {
     let span = row.span();
     let ends = row.ends();

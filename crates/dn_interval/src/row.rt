@@ -1,10 +1,12 @@
 //! Segments, which give names to addresses, and rows, which hold them.
 
-ghost use Rattle.std.specs.Prelude.{◌≡◌, ◌+◌, ◌-◌, ◌≤◌};
+ghost use Rattle.std.specs.Prelude.{◌≡◌, ◌+◌, ◌-◌, ◌≤◌, ◌<◌, [], ◌∷◌, length};
 ghost use Rattle.dn_interval.specs.declared.span.TheConstants.{TOP};
 
 use crate::span::Span;
-use dn_base::items::Items;
+use std::alloc::Global;
+use std::marker::Model;
+use std::slice;
 
 /// A name for each address of a span: address `a` has the name of the node `node` and the address
 /// `base + (a - span.lo)`, which is `TOP` or below.
@@ -23,11 +25,64 @@ pub struct End {
     pub base: u64,
 }
 
+/// One name or more, which contracts see as their list. One alone takes no memory.
+#[derive(Drop)]
+pub struct Ends {
+    /// The first name.
+    one: End,
+    /// All names where there are several, and else none.
+    more: Vec<End>,
+}
+
+impl Model for Ends {
+    ghost use Rattle.std.specs.Prelude.{List};
+    ghost use Rattle.dn_interval.specs.declared.row.End.{End};
+    ghost use Rattle.dn_interval.specs.Kept.{kept_ends};
+
+    ghost Value = { List End };
+
+    ghost view = { λ e. kept_ends e.one e.more.items };
+}
+
+impl Ends {
+    /// A name alone. It takes no memory.
+    pub fn one(alloc: Global, end: End) -> Ends
+        ensures { result ≡ end ∷ [] }
+    {
+        Ends {
+            one: end,
+            more: Vec::new(alloc),
+        }
+    }
+
+    /// The names of a vector, of which there is one. It takes no memory.
+    pub fn from_vec(ends: Vec<End>) -> Ends
+        requires { 0 < length ends.items }
+        ensures { result ≡ ends.items }
+    {
+        Ends {
+            one: ends[0],
+            more: ends,
+        }
+    }
+
+    /// The names.
+    pub fn as_slice(&self) -> &[End]
+        ensures { result.now ≡ self.now }
+    {
+        if self.more.is_empty() {
+            slice::from_ref(&self.one)
+        } else {
+            self.more.as_slice()
+        }
+    }
+}
+
 /// A span whose addresses have the same names, moved on from each address to the next.
 #[derive(Drop)]
 pub struct Row {
     pub span: Span,
-    pub ends: Items<End>,
+    pub ends: Ends,
 }
 
 impl Row {

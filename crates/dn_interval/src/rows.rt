@@ -9,14 +9,13 @@ ghost use Rattle.dn_interval.specs.declared.row.Row.{Row};
 ghost use Rattle.dn_interval.specs.declared.strand.Strand.{Strand};
 ghost use Rattle.dn_interval.specs.Spans.{in_span};
 ghost use Rattle.dn_interval.specs.Rows.{Apart, AreNormal, SegmentsGive, Ascending, EndsFit, HasEnds};
-ghost use Rattle.dn_interval.specs.Strands.{strands_give, slides_give, ends_give, rows_give, segs_give, IsMaximal};
+ghost use Rattle.dn_interval.specs.Strands.{slid, strands_give, slides_give, ends_give, rows_give, segs_give, IsMaximal};
 
-use crate::row::{End, Row, Seg};
+use crate::row::{End, Ends, Row, Seg};
 use crate::span::{Span, TOP};
 use crate::strand::Strand;
 use crate::{runs, strands};
 use dn_base::OutOfMemory;
-use dn_base::items::Items;
 use std::alloc::Global;
 use std::marker::Model;
 
@@ -202,13 +201,42 @@ fn row(alloc: Global, from: u64, hi: u64, running: &[Strand]) -> Result<Row, Out
     ensures ascending { IfOk result (λ row. Ascending row.ends) }
     ensures some { IfOk result (λ row. HasEnds row.ends) }
 {
+    let ends = row_ends(alloc, from, running)?;
+    Ok(Row {
+        span: Span { lo: from, hi },
+        ends,
+    })
+}
+
+/// The names that strands give to an address, each once.
+fn row_ends(alloc: Global, from: u64, running: &[Strand]) -> Result<Ends, OutOfMemory>
+    requires some { 0 < length running.now }
+    requires running { All (λ (s : Strand). (s.span.lo ≤ from) × (from ≤ s.span.hi)) running.now }
+    ensures gives { IfOk result (λ ends. (a : ℕ) (y : End) → from ≤ a
+        → ends_give ends from a y ≡ slides_give running.now a y) }
+    ensures ascending { IfOk result (λ ends. Ascending ends) }
+    ensures some { IfOk result (λ ends. HasEnds ends) }
+{
+    if running.len() == 1 {
+        return Ok(Ends::one(alloc, end_at(from, &running[0])));
+    }
     let mut ends = ends_at(alloc, from, running)?;
     ends.sort_unstable();
     ends.dedup();
-    Ok(Row {
-        span: Span { lo: from, hi },
-        ends: Items::from_vec(ends),
-    })
+    Ok(Ends::from_vec(ends))
+}
+
+/// The name that a strand gives to an address.
+fn end_at(from: u64, strand: &Strand) -> End
+    requires { (strand.now.span.lo ≤ from) × (from ≤ strand.now.span.hi) }
+    ensures { (a : ℕ) (y : End) → from ≤ a
+        → (nat_eq result.node y.node && nat_eq (result.base + (a - from)) y.base)
+        ≡ slid strand.now.node strand.now.slide a y }
+{
+    End {
+        node: strand.node,
+        base: strand.slide + from - TOP,
+    }
 }
 
 /// The name that each strand gives to an address.
@@ -220,10 +248,7 @@ fn ends_at(alloc: Global, from: u64, running: &[Strand]) -> Result<Vec<End>, Out
 {
     let mut ends = Vec::with_capacity(alloc, running.len())?;
     for strand in running {
-        ends.push(End {
-            node: strand.node,
-            base: strand.slide + from - TOP,
-        })?;
+        ends.push(end_at(from, strand))?;
     }
     Ok(ends)
 }

@@ -7,10 +7,9 @@ ghost use Rattle.dn_interval.specs.Rows.{Apart};
 ghost use Rattle.dn_interval.specs.Runs.{is_in_turn, row_of, does_go_on};
 ghost use Rattle.dn_interval.specs.Strands.{seg_gives, segs_give, rows_give};
 
-use crate::row::{End, Row, Seg};
+use crate::row::{End, Ends, Row, Seg};
 use crate::span::Span;
 use dn_base::OutOfMemory;
-use dn_base::items::Items;
 use std::alloc::Global;
 
 /// Whether each segment begins behind those before it.
@@ -45,11 +44,11 @@ pub fn rows_in_turn(alloc: Global, segs: &[Seg]) -> Result<Vec<Row>, OutOfMemory
         if goes_on(&current, seg) {
             current = extended(&current, seg);
         } else {
-            rows.push(single(alloc, &current)?)?;
+            rows.push(single(alloc, &current))?;
             current = *seg;
         }
     }
-    rows.push(single(alloc, &current)?)?;
+    rows.push(single(alloc, &current))?;
     Ok(rows)
 }
 
@@ -85,16 +84,15 @@ fn extended(current: &Seg, next: &Seg) -> Seg
 }
 
 /// The row of a segment.
-fn single(alloc: Global, seg: &Seg) -> Result<Row, OutOfMemory>
-    ensures { IfOk result (λ row. row ≡ row_of seg.now) }
+fn single(alloc: Global, seg: &Seg) -> Row
+    ensures { result ≡ row_of seg.now }
 {
-    let mut ends = Vec::with_capacity(alloc, 1)?;
-    ends.push(End {
+    let end = End {
         node: seg.node,
         base: seg.base,
-    })?;
-    Ok(Row {
+    };
+    Row {
         span: seg.span,
-        ends: Items::from_vec(ends),
-    })
+        ends: Ends::one(alloc, end),
+    }
 }

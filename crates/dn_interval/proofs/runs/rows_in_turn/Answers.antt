@@ -6,7 +6,7 @@ use Rattle.dn_interval.specs.Runs.{row_of}
 use Rattle.dn_interval.specs.Strands.{rows_give}
 use Rattle.dn_interval.proofs.Pieces.{drop_at, drop_past, first_and_rest}
 use Rattle.dn_interval.proofs.Turns.{Turning, turn_begun, turn_longer, turn_apart, turn_ended}
-use Rattle.dn_interval.proofs.runs.rows_in_turn.Goals.{then-goes_on, else-goes_on+in_ok-single+in_ok-push}
+use Rattle.dn_interval.proofs.runs.rows_in_turn.Goals.{then-goes_on, else-goes_on+in_ok-push}
 use Rattle.dn_interval.proofs.runs.rows_in_turn.Goals as goal
 
 pub loop-seg-init : goal.loop-seg-init
@@ -36,13 +36,13 @@ loop-seg-preserved c =
           subst (λ v. Turning c.if-goes_on.rows.items v later xs) (sym w.current-is)
           (subst (λ o. Turning o.items w.extended-current.result later xs) (sym w.rows-is)
           (turn_longer rows s t later xs state w.extended-current.result u.lo u.hi u.node u.base u.gives))
-      | else-goes_on+in_ok-single+in_ok-push w ↦
+      | else-goes_on+in_ok-push w ↦
           let off = sym c.goes_on.ensures ∙ w.if-goes_on.false in
           let ok : is_ok w.push.result ≡ true = search rules in
           let items = rw ok at w.push.ensures.items in
           subst (λ v. Turning c.if-goes_on.rows.items v later xs) (sym w.current-is)
           (subst (λ o. Turning o.items t later xs) (sym w.rows-is)
-          (subst (λ l. Turning l t later xs) (sym (items ∙ ap (λ r. rows ++ r ∷ []) w.in_ok-single.ensures))
+          (subst (λ l. Turning l t later xs) (sym (items ∙ ap (λ r. rows ++ r ∷ []) w.single.ensures))
           (turn_apart rows s t later xs state off)))
     ]
 
@@ -53,9 +53,9 @@ returns-clause-same c =
     let rows = c.loop-seg.rows.items in
     let s = c.loop-seg.current in
     let state = subst (λ l. Turning rows s l xs) (drop_past rest c.loop-seg.seg-index c.loop-seg-test.false) c.loop-seg.invariant in
-    λ a y. ap (λ l. rows_give l a y) (c.in_ok-push-2.ensures.items ∙ ap (λ r. rows ++ r ∷ []) c.in_ok-single-2.ensures) ∙ turn_ended rows s xs state a y
+    λ a y. ap (λ l. rows_give l a y) (c.in_ok-push-2.ensures.items ∙ ap (λ r. rows ++ r ∷ []) c.single-2.ensures) ∙ turn_ended rows s xs state a y
 
 pub returns-clause-apart : goal.returns-clause-apart
 returns-clause-apart c =
     let rows = c.loop-seg.rows.items in
-    subst (Apart 0) (sym (c.in_ok-push-2.ensures.items ∙ ap (λ r. rows ++ r ∷ []) c.in_ok-single-2.ensures)) c.loop-seg.invariant.apart
+    subst (Apart 0) (sym (c.in_ok-push-2.ensures.items ∙ ap (λ r. rows ++ r ∷ []) c.single-2.ensures)) c.loop-seg.invariant.apart
