@@ -10,8 +10,8 @@ ghost use Rattle.dn_net.specs.Rules.{KeepsNodeRules, is_vectors};
 ghost use Rattle.dn_shape.specs.Absorb.{absorb_outcome, has_port, is_port, leads_to, node_led_past, maps_to, net_past, node_past, why_not_at};
 ghost use Rattle.dn_shape.specs.Faults.{absorb_fault_view};
 ghost use Rattle.dn_shape.specs.Past.{LeadOn};
-ghost use Rattle.dn_walk.specs.Legs.{told_legs};
 ghost use Rattle.dn_shape.specs.Views.{HaveEqualViews, IsRuledNet};
+ghost use Rattle.dn_walk.specs.Legs.{told_legs};
 
 use crate::copy::{node_copy, unit_copy};
 use crate::fault::{AbsorbFault, Why};

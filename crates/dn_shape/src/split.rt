@@ -1,7 +1,6 @@
 //! Splitting a net.
 
-ghost use Rattle.std.specs.Prelude.{◌≡◌, ◌<◌, ◌≤◌, ◌+◌, ◌++◌, ◌∷◌, length, map, slice_get, option_map, codes, IfOk, OnOk, OnErr, Some};
-ghost use Rattle.std.specs.Fmt.{decimal};
+ghost use Rattle.std.specs.Prelude.{◌≡◌, ◌<◌, ◌≤◌, ◌+◌, ◌++◌, length, map, slice_get, option_map, IfOk, OnOk, Some};
 ghost use Rattle.dn_base.specs.Answers.{Answers};
 ghost use Rattle.dn_net.specs.declared.node.NodeDecl.{NodeDecl};
 ghost use Rattle.dn_net.specs.Legal.{IsLegalNet, node_limit};
