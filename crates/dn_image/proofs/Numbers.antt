@@ -1,5 +1,5 @@
 -- Bytes of numbers, and words of bytes.
-use Rattle.std.proofs.Common.{◌≡◌, ℕ, zero, suc, ◌+◌, ◌-◌, ◌*◌, ◌/◌, ◌%◌, ◌^◌, ◌<◌, ◌≤◌, Bool, true, List, [], ◌∷◌, ◌++◌, length, take, drop, slice_index, nat_lt, IsTrue, refl, sym, ap, ◌∙◌, arith, ltb-true, lt-ltb, length-append, length-drop, append_assoc}
+use Rattle.std.proofs.Common.{◌≡◌, ℕ, zero, suc, ◌+◌, ◌-◌, ◌*◌, ◌/◌, ◌%◌, ◌^◌, ◌<◌, ◌≤◌, Bool, true, List, [], ◌∷◌, ◌++◌, length, take, drop, slice_index, nat_lt, IsTrue, refl, sym, ap, ◌∙◌, arith, ltb-true, lt-ltb, length-append, length-drop, append_assoc, append-nil}
 use Rattle.std.proofs.Math.Nat.{div-div-eq-div-mul, div-one, pow-succ'}
 use Rattle.std.proofs.lemmas.List.{drop_at, take_at, drop-drop, length-take-le, take-append-drop}
 use Rattle.std.specs.Int.{byte_at, bytes_low_first}
@@ -119,3 +119,24 @@ spelled_small (suc n) bs all =
     and_from (nat_lt (little_number 8 bs) (2 ^ 64)) (list_all (λ w. nat_lt w (2 ^ 64)) (words_spelled n (drop 8 bs)))
     (lt-ltb (little_number 8 bs) (2 ^ 64) (little_from-lt 0 8 bs (λ k. byte_small bs k all)))
     (spelled_small n (drop 8 bs) (bytes_left 8 bs all))
+
+-- words read so far, and those to come
+
+-- one word more
+pub spelled_next : (count i w : ℕ) (bytes read read' : List ℕ) → i < count → read ++ words_spelled (count - i) (drop (8 * i) bytes) ≡ words_spelled count bytes → read' ≡ read ++ w ∷ [] → w ≡ little_number 8 (drop (8 * i) bytes) → read' ++ words_spelled (count - (i + 1)) (drop (8 * (i + 1)) bytes) ≡ words_spelled count bytes
+spelled_next count i w bytes read read' l so_far more e =
+    let left : count - i ≡ suc (count - (i + 1)) = omega arith in
+    let place : 8 * i + 8 ≡ 8 * (i + 1) = omega arith in
+    let next : List ℕ = words_spelled (count - (i + 1)) (drop (8 * (i + 1)) bytes) in
+    ap (λ (r : List ℕ). r ++ next) more
+    ∙ append_assoc read (w ∷ []) next
+    ∙ ap (λ v. read ++ (v ∷ next)) e
+    ∙ ap (λ (b : List ℕ). read ++ (little_number 8 (drop (8 * i) bytes) ∷ words_spelled (count - (i + 1)) b)) (ap (λ k. drop k bytes) (sym place) ∙ sym (drop-drop 8 (8 * i) bytes))
+    ∙ ap (λ k. read ++ words_spelled k (drop (8 * i) bytes)) (sym left)
+    ∙ so_far
+
+-- all were read
+pub spelled_last : (count i : ℕ) (bytes read : List ℕ) → count ≤ i → read ++ words_spelled (count - i) (drop (8 * i) bytes) ≡ words_spelled count bytes → read ≡ words_spelled count bytes
+spelled_last count i bytes read l so_far =
+    let none : count - i ≡ 0 = omega arith in
+    sym (append-nil read) ∙ ap (λ k. read ++ words_spelled k (drop (8 * i) bytes)) (sym none) ∙ so_far

@@ -127,10 +127,10 @@ abbrev pub nodes_size : List Meaning → List NodeDecl → ℕ
 nodes_size kinds [] = 0
 nodes_size kinds (n ∷ ns) = node_size kinds n.unit + nodes_size kinds ns
 
--- what is told of fields from a place on: nothing is wrong with them and they end at the next place, or else the first
--- thing that is wrong, whatever fields follow
-abbrev pub Passes : {X : Type 0} → List ℕ → ℕ → List Field → (X → ℕ) → Result X ImageFault → Type 0
-Passes bytes at fields next (Ok x) = (more : List Field) →
-    broken_in (length bytes) (fields ++ more) (drop at bytes) ≡ broken_in (length bytes) more (drop (next x) bytes)
-Passes bytes at fields next (Err e) = (more : List Field) →
-    broken_in (length bytes) (fields ++ more) (drop at bytes) ≡ image_fault_view e
+-- what is told of fields at the front of the last bytes of so many: nothing is wrong with them and they have this size,
+-- or else the first thing that is wrong, whatever fields follow
+abbrev pub Passes : {X : Type 0} → ℕ → List ℕ → List Field → (X → ℕ) → Result X ImageFault → Type 0
+Passes total rest fields size (Ok x) = (more : List Field) →
+    broken_in total (fields ++ more) rest ≡ broken_in total more (drop (size x) rest)
+Passes total rest fields size (Err e) = (more : List Field) →
+    broken_in total (fields ++ more) rest ≡ image_fault_view e

@@ -1,6 +1,6 @@
 //! Whether bytes are an image of a net, and what is first wrong with them.
 
-ghost use Rattle.std.specs.Prelude.{◌≡◌, ◌≢◌, Err, ℕ, ◌++◌, ◌+◌, ◌*◌, ◌<◌, ◌≤◌, ◌^◌, List, length, map, take, drop, Option, Some, IfOk, IsTrue};
+ghost use Rattle.std.specs.Prelude.{◌≡◌, ◌≢◌, ◌↔◌, Err, ℕ, ◌++◌, ◌+◌, ◌*◌, ◌<◌, ◌≤◌, ◌^◌, List, length, map, take, drop, Option, Some, IfOk, IsTrue};
 ghost use Rattle.std.specs.List.{All};
 ghost use Rattle.std.specs.Option.{option_copied};
 ghost use Rattle.dn_base.specs.Answers.{Answers};
@@ -10,14 +10,12 @@ ghost use Rattle.dn_image.specs.Image.{count_unit, unit_count};
 ghost use Rattle.dn_image.specs.Reading.{Passes, broken_image, header_fields, image_fault_view, reading_by, unit_fields, units_fields, version_of};
 
 use crate::fault::ImageFault;
-use crate::write::{MARK, count_units, head};
+use crate::slots::{count_words, record_width};
+use crate::write::{HEAD, HEADER, MARK, count_unit, count_units, head};
 use byteorder::{ByteOrder, LittleEndian};
 use dn_kind::kinds::Kinds;
 use dn_net::net::Net;
 use dn_net::node::Unit;
-
-/// How many bytes stand before the units.
-pub(crate) const HEADER: usize = 8;
 
 /// The version of an image of the net. It takes no memory, and reads the header and the heads alone.
 ///
@@ -33,16 +31,25 @@ pub fn check(net: &Net, kinds: &Kinds, bytes: &[u8]) -> Result<u16, ImageFault>
     ensures memory { result ≢ Err ImageFault.OutOfMemory }
 {
     let version = check_header(net, bytes)?;
-    let end = check_heads(net, kinds, bytes)?;
+    let size = check_heads(net, kinds, &bytes[HEADER..], bytes.len() as u64)?;
+    let end = HEADER + size;
     if end < bytes.len() {
         return Err(ImageFault::Trailing { at: end as u64 });
     }
     Ok(version)
 }
 
+/// Whether bytes begin with these.
+fn has_front(bytes: &[u8], front: &[u8]) -> bool
+    requires { length front.now ≤ length bytes.now }
+    ensures { IsTrue result ↔ (take (length front.now) bytes.now ≡ front.now) }
+{
+    bytes[..front.len()] == front[..]
+}
+
 /// The version, where the mark, the version and the number of units are those of an image.
 fn check_header(net: &Net, bytes: &[u8]) -> Result<u16, ImageFault>
-    ensures passes { Passes bytes.now 0 (header_fields net.now) (λ _. 8) result }
+    ensures passes { Passes (length bytes.now) bytes.now (header_fields net.now) (λ _. 8) result }
     ensures version { IfOk result (λ version. version ≡ version_of bytes.now) }
     ensures whole { IfOk result (λ _. 8 ≤ length bytes.now) }
     ensures memory { result ≢ Err ImageFault.OutOfMemory }
@@ -53,7 +60,7 @@ fn check_header(net: &Net, bytes: &[u8]) -> Result<u16, ImageFault>
     if bytes.len() < 4 {
         return Err(short);
     }
-    if bytes[..4] != MARK[..] {
+    if !has_front(bytes, &MARK) {
         return Err(ImageFault::Header { at: 0 });
     }
     if bytes.len() < 6 {
@@ -66,66 +73,90 @@ fn check_header(net: &Net, bytes: &[u8]) -> Result<u16, ImageFault>
     if bytes.len() < HEADER {
         return Err(short);
     }
-    if LittleEndian::read_u16(&bytes[6..]) != count_units(net) {
+    let mut units = [0u8; 2];
+    LittleEndian::write_u16(&mut units, count_units(net));
+    if !has_front(&bytes[6..], &units) {
         return Err(ImageFault::Header { at: 6 });
     }
     Ok(version)
 }
 
-/// Where the words of the last unit end, where all heads are those of the net and no word is cut.
-fn check_heads(net: &Net, kinds: &Kinds, bytes: &[u8]) -> Result<usize, ImageFault>
+/// How many bytes the heads and words of all units have, where all heads are those of the net and no
+/// word is cut. The bytes are the last of so many.
+fn check_heads(net: &Net, kinds: &Kinds, rest: &[u8], total: u64) -> Result<usize, ImageFault>
     requires lawful { All (λ k. IsLawful (meaning (k.vtable, k.value))) kinds.now.list.items }
-    requires shaped { KeepsUnitShape (map (λ k. meaning (k.vtable, k.value)) kinds.now.list.items) net.now }
-    requires header { 8 ≤ length bytes.now }
-    ensures passes { Passes bytes.now 8
-        (units_fields (map (λ k. meaning (k.vtable, k.value)) kinds.now.list.items) 0 0 net.now) (λ end. end) result }
-    ensures whole { IfOk result (λ end. end ≤ length bytes.now) }
+    requires shaped { KeepsUnitShape (map (λ k. meaning (k.vtable, k.value)) kinds.now.list.items)
+        net.now }
+    ensures passes { Passes total rest.now
+        (units_fields (map (λ k. meaning (k.vtable, k.value)) kinds.now.list.items) 0 0 net.now)
+        (λ size. size) result }
+    ensures whole { IfOk result (λ size. size ≤ length rest.now) }
     ensures memory { result ≢ Err ImageFault.OutOfMemory }
 {
-    let mut at = HEADER;
+    let mut at = 0;
     let mut place = 0;
     for node in 0..net.nodes() {
-        if let Some(unit) = net.unit(node) {
-            at = check_unit(node, place, unit, kinds, bytes, at)?;
-            place += 1;
-        }
+        let unit = net.unit(node);
+        at += check_node(node, place, unit, kinds, &rest[at..], total)?;
+        place = count_unit(unit, place);
     }
     Ok(at)
 }
 
-/// Where the words of a unit end, where its head is that of the net and no word is cut.
+/// How many bytes a node has, where it is no unit, or its head is that of the net and no word is
+/// cut. The bytes are the last of so many.
+fn check_node(
+    node: u16,
+    place: u16,
+    unit: Option<&Unit>,
+    kinds: &Kinds,
+    rest: &[u8],
+    total: u64,
+) -> Result<usize, ImageFault>
+    requires lawful { All (λ k. IsLawful (meaning (k.vtable, k.value))) kinds.now.list.items }
+    requires shaped { IsTrue (has_shape (map (λ k. meaning (k.vtable, k.value)) kinds.now.list.items)
+        (option_copied unit)) }
+    ensures passes { Passes total rest.now
+        (unit_fields (map (λ k. meaning (k.vtable, k.value)) kinds.now.list.items)
+        place node (option_copied unit.entry)) (λ size. size) result }
+    ensures whole { IfOk result (λ size. size ≤ length rest.now) }
+    ensures memory { result ≢ Err ImageFault.OutOfMemory }
+{
+    match unit {
+        Some(unit) => check_unit(node, place, unit, kinds, rest, total),
+        None => Ok(0),
+    }
+}
+
+/// How many bytes a unit has, where its head is that of the net and no word is cut. The bytes are
+/// the last of so many.
 fn check_unit(
     node: u16,
     place: u16,
     unit: &Unit,
     kinds: &Kinds,
-    bytes: &[u8],
-    at: usize,
+    rest: &[u8],
+    total: u64,
 ) -> Result<usize, ImageFault>
     requires lawful { All (λ k. IsLawful (meaning (k.vtable, k.value))) kinds.now.list.items }
-    requires shaped { IsTrue (is_shaped (map (λ k. meaning (k.vtable, k.value)) kinds.now.list.items) unit.now) }
-    requires place { at ≤ length bytes.now }
-    ensures passes { Passes bytes.now at
-        (unit_fields (map (λ k. meaning (k.vtable, k.value)) kinds.now.list.items) place node (Some unit.now))
-        (λ end. end) result }
-    ensures whole { IfOk result (λ end. end ≤ length bytes.now) }
+    requires shaped { IsTrue (is_shaped (map (λ k. meaning (k.vtable, k.value)) kinds.now.list.items)
+        unit.now) }
+    ensures passes { Passes total rest.now
+        (unit_fields (map (λ k. meaning (k.vtable, k.value)) kinds.now.list.items)
+        place node (Some unit.now)) (λ size. size) result }
+    ensures whole { IfOk result (λ size. size ≤ length rest.now) }
     ensures memory { result ≢ Err ImageFault.OutOfMemory }
 {
-    let short = ImageFault::Short {
-        at: bytes.len() as u64,
-    };
-    let rest = &bytes[at..];
-    if rest.len() < 8 {
-        return Err(short);
+    if rest.len() < HEAD {
+        return Err(ImageFault::Short { at: total });
     }
-    let width = kinds.kind(usize::from(unit.kind)).words();
-    let wanted = head(node, width, unit.slots);
-    if rest[..8] != wanted[..] {
+    let wanted = head(node, record_width(unit, kinds), unit.slots);
+    if !has_front(rest, &wanted) {
         return Err(ImageFault::Shape { unit: place });
     }
-    let size = 8 + 8 * unit.slots as usize * usize::from(width);
+    let size = HEAD + 8 * count_words(unit, kinds);
     if rest.len() < size {
-        return Err(short);
+        return Err(ImageFault::Short { at: total });
     }
-    Ok(at + size)
+    Ok(size)
 }

@@ -1,20 +1,24 @@
 //! The words that an image says.
 
-ghost use Rattle.std.specs.Prelude.{◌≡◌, ◌*◌, ◌<◌, ◌≤◌, [], length, map, slice_index_or, IfOk, None, Ok};
+ghost use Rattle.std.specs.Prelude.{◌≡◌, ◌*◌, ◌<◌, ◌≤◌, [], length, map, slice_index_or, IfOk, IsTrue, None, Ok};
 ghost use Rattle.std.specs.List.{All};
+ghost use Rattle.std.specs.Option.{option_copied};
 ghost use Rattle.dn_base.specs.Answers.{Answers};
 ghost use Rattle.dn_kind.specs.Kind.{IsLawful};
-ghost use Rattle.dn_kind.specs.Units.{KeepsUnitShape};
+ghost use Rattle.dn_kind.specs.Units.{KeepsUnitShape, has_shape};
 ghost use Rattle.dn_image.specs.Bytes.{words_spelled};
 ghost use Rattle.dn_image.specs.Image.{ImageWords, IsImageOf};
-ghost use Rattle.dn_image.specs.Reading.{broken_image, image_fault_view, image_reading, image_words};
+ghost use Rattle.dn_image.specs.Reading.{broken_image, image_fault_view, image_reading, image_words, node_size, node_words};
 
-use crate::check::{HEADER, check};
+use crate::check::check;
 use crate::fault::ImageFault;
+use crate::slots::{count_words, node_size};
+use crate::write::{HEAD, HEADER};
 use byteorder::{ByteOrder, LittleEndian};
 use dn_base::items::Items;
 use dn_kind::kinds::Kinds;
 use dn_net::net::Net;
+use dn_net::node::Unit;
 use std::alloc::{AllocError, Global};
 use std::marker::Model;
 
@@ -91,17 +95,33 @@ fn read_words(
     let mut words = Vec::new(alloc);
     let mut at = HEADER;
     for node in 0..net.nodes() {
-        match net.unit(node) {
-            Some(unit) => {
-                let width = kinds.kind(usize::from(unit.kind)).words();
-                let count = unit.slots as usize * usize::from(width);
-                words.push(read_unit(alloc, &bytes[at + 8..], count)?)?;
-                at += 8 + 8 * count;
-            }
-            None => words.push(Items::new(alloc))?,
-        }
+        let unit = net.unit(node);
+        words.push(read_node(alloc, unit, kinds, &bytes[at..])?)?;
+        at += node_size(unit, kinds);
     }
     Ok(words)
+}
+
+/// The words of a node whose bytes stand first, of which a node that is no unit has none.
+fn read_node(
+    alloc: Global,
+    unit: Option<&Unit>,
+    kinds: &Kinds,
+    bytes: &[u8],
+) -> Result<Items<u64>, AllocError>
+    requires lawful { All (λ k. IsLawful (meaning (k.vtable, k.value))) kinds.now.list.items }
+    requires shaped { IsTrue (has_shape (map (λ k. meaning (k.vtable, k.value)) kinds.now.list.items)
+        (option_copied unit)) }
+    requires room { node_size (map (λ k. meaning (k.vtable, k.value)) kinds.now.list.items)
+        (option_copied unit) ≤ length bytes.now }
+    ensures { IfOk result (λ words. words
+        ≡ node_words (map (λ k. meaning (k.vtable, k.value)) kinds.now.list.items)
+        (option_copied unit.entry) bytes.now) }
+{
+    match unit {
+        Some(unit) => read_unit(alloc, &bytes[HEAD..], count_words(unit, kinds)),
+        None => Ok(Items::new(alloc)),
+    }
 }
 
 /// So many words that bytes spell.

@@ -2,13 +2,15 @@
 
 ghost use Rattle.std.specs.Prelude.{◌≡◌, ◌+◌, ◌*◌, ◌<◌, ◌≤◌, ◌++◌, length, map, take, drop, replicate, None, Some, IsTrue};
 ghost use Rattle.std.specs.List.{All};
+ghost use Rattle.std.specs.Option.{option_copied};
 ghost use Rattle.dn_kind.specs.Kind.{IsLawful};
 ghost use Rattle.dn_kind.specs.Tables.{record_held};
-ghost use Rattle.dn_kind.specs.Units.{KeepsUnitShape, is_shaped};
+ghost use Rattle.dn_kind.specs.Units.{KeepsUnitShape, has_shape, is_shaped};
 ghost use Rattle.dn_image.specs.Bytes.{words_spelled};
+ghost use Rattle.dn_image.specs.Image.{width_of, word_count};
 ghost use Rattle.dn_image.specs.Reading.{broken_image, image_words, node_size, nodes_size};
 
-use crate::check::HEADER;
+use crate::write::{HEAD, HEADER};
 use byteorder::{ByteOrder, LittleEndian};
 use dn_kind::kinds::Kinds;
 use dn_kind::slots::held_record;
@@ -58,23 +60,48 @@ fn words_at(net: &Net, kinds: &Kinds, node: u16) -> usize
     ensures { result ≡ 16
         + nodes_size (map (λ k. meaning (k.vtable, k.value)) kinds.now.list.items) (take node net.now) }
 {
-    net.facts();
     let mut at = HEADER;
     for before in 0..node {
-        if let Some(unit) = net.unit(before) {
-            at += unit_size(unit, kinds);
-        }
+        at += node_size(net.unit(before), kinds);
     }
-    at + 8
+    at + HEAD
 }
 
-/// How many bytes a unit has in an image: its head and its words.
-fn unit_size(unit: &Unit, kinds: &Kinds) -> usize
+/// How many bytes a node has in an image: none, or the head and the words of a unit.
+pub(crate) fn node_size(unit: Option<&Unit>, kinds: &Kinds) -> usize
     requires lawful { All (λ k. IsLawful (meaning (k.vtable, k.value))) kinds.now.list.items }
-    requires shaped { IsTrue (is_shaped (map (λ k. meaning (k.vtable, k.value)) kinds.now.list.items) unit.now) }
-    ensures size { result ≡ node_size (map (λ k. meaning (k.vtable, k.value)) kinds.now.list.items) (Some unit.now) }
+    requires shaped { IsTrue (has_shape (map (λ k. meaning (k.vtable, k.value)) kinds.now.list.items)
+        (option_copied unit)) }
+    ensures size { result ≡ node_size (map (λ k. meaning (k.vtable, k.value)) kinds.now.list.items)
+        (option_copied unit.entry) }
     ensures small { result ≤ 8388616 }
 {
-    let width = kinds.kind(usize::from(unit.kind)).words();
-    8 + 8 * unit.slots as usize * usize::from(width)
+    match unit {
+        Some(unit) => HEAD + 8 * count_words(unit, kinds),
+        None => 0,
+    }
+}
+
+/// How many words a unit has.
+pub(crate) fn count_words(unit: &Unit, kinds: &Kinds) -> usize
+    requires lawful { All (λ k. IsLawful (meaning (k.vtable, k.value))) kinds.now.list.items }
+    requires shaped { IsTrue (is_shaped (map (λ k. meaning (k.vtable, k.value)) kinds.now.list.items)
+        unit.now) }
+    ensures count { result ≡ word_count (map (λ k. meaning (k.vtable, k.value)) kinds.now.list.items)
+        (Some unit.now) }
+    ensures small { result ≤ 1048576 }
+{
+    unit.slots as usize * usize::from(record_width(unit, kinds))
+}
+
+/// How many words a record of a unit has.
+pub(crate) fn record_width(unit: &Unit, kinds: &Kinds) -> u8
+    requires lawful { All (λ k. IsLawful (meaning (k.vtable, k.value))) kinds.now.list.items }
+    requires shaped { IsTrue (is_shaped (map (λ k. meaning (k.vtable, k.value)) kinds.now.list.items)
+        unit.now) }
+    ensures width { result ≡ width_of (map (λ k. meaning (k.vtable, k.value)) kinds.now.list.items)
+        unit.now }
+    ensures most { result ≤ 4 }
+{
+    kinds.kind(usize::from(unit.kind)).words()
 }

@@ -2,11 +2,12 @@
 
 ghost use Rattle.std.specs.Prelude.{◌≡◌, ◌++◌, ◌+◌, ◌*◌, ◌<◌, ◌≤◌, ◌^◌, length, map, take, slice_get, Some, IfOk, OnOk, IsTrue};
 ghost use Rattle.std.specs.List.{All};
+ghost use Rattle.std.specs.Option.{option_copied};
 ghost use Rattle.byteorder.specs.Endian.{little_bytes};
 ghost use Rattle.dn_kind.specs.Kind.{IsLawful};
-ghost use Rattle.dn_tables.specs.Set.{FitsNet, words_of};
+ghost use Rattle.dn_tables.specs.Set.{FitsNet, fits_kinds, unit_in, units_of, words_in, words_of};
 ghost use Rattle.dn_image.specs.Bytes.{word_bytes};
-ghost use Rattle.dn_image.specs.Image.{head_of, image, mark, unit_count, written_version};
+ghost use Rattle.dn_image.specs.Image.{count_unit, head_of, image, mark, unit_bytes, unit_count, written_version};
 
 use byteorder::{ByteOrder, LittleEndian};
 use dn_kind::kinds::Kinds;
@@ -21,6 +22,12 @@ pub(crate) const MARK: [u8; 4] = *b"DNIM";
 /// The version that is written.
 pub const VERSION: u16 = 2;
 
+/// How many bytes stand before the units.
+pub(crate) const HEADER: usize = 8;
+
+/// How many bytes the head of a unit has.
+pub(crate) const HEAD: usize = 8;
+
 /// The image of the tables. `Err` is want of memory, of which it takes once what the image needs.
 pub fn write(
     alloc: Global,
@@ -33,15 +40,10 @@ pub fn write(
     ensures { IfOk result (λ bytes. bytes.items
         ≡ image net.now (map (λ k. meaning (k.vtable, k.value)) kinds.now.list.items) (words_of tables.now)) }
 {
-    net.facts();
-    tables.facts();
     let mut out = Vec::with_capacity(alloc, image_size(net, tables))?;
     push_header(&mut out, count_units(net))?;
     for node in 0..net.nodes() {
-        if let Some(unit) = net.unit(node) {
-            let width = kinds.kind(usize::from(unit.kind)).words();
-            push_unit(&mut out, node, width, unit, tables.words(node))?;
-        }
+        push_node(&mut out, node, net.unit(node), kinds, tables)?;
     }
     Ok(out)
 }
@@ -52,19 +54,31 @@ pub(crate) fn count_units(net: &Net) -> u16
 {
     let mut count = 0;
     for node in 0..net.nodes() {
-        if net.unit(node).is_some() {
-            count += 1;
-        }
+        count = count_unit(net.unit(node), count);
     }
     count
 }
 
+/// One more, where the node is a unit.
+pub(crate) fn count_unit(unit: Option<&Unit>, count: u16) -> u16
+    requires { count < 65535 }
+    ensures { result ≡ count_unit (option_copied unit.entry) count }
+{
+    match unit {
+        Some(_) => count + 1,
+        None => count,
+    }
+}
+
 /// How many bytes the image has.
-fn image_size(net: &Net, tables: &TableSet) -> usize {
-    let mut size = 8;
+fn image_size(net: &Net, tables: &TableSet) -> usize
+    requires { units_of tables.now ≡ map (λ n. n.unit) net.now }
+{
+    let mut size = HEADER;
     for node in 0..net.nodes() {
         if net.unit(node).is_some() {
-            size += 8 + 8 * tables.words(node).len();
+            let words = 8 * tables.words(node).len();
+            size = size.saturating_add(HEAD).saturating_add(words);
         }
     }
     size
@@ -82,18 +96,43 @@ fn push_header(out: &mut Vec<u8>, units: u16) -> Result<(), AllocError>
     out.extend_from_slice(&header)
 }
 
+/// Appends the head and the words of a node, where it is a unit.
+fn push_node(
+    out: &mut Vec<u8>,
+    node: u16,
+    unit: Option<&Unit>,
+    kinds: &Kinds,
+    tables: &TableSet,
+) -> Result<(), AllocError>
+    requires lawful { All (λ k. IsLawful (meaning (k.vtable, k.value))) kinds.now.list.items }
+    requires fits { IsTrue (fits_kinds (map (λ k. meaning (k.vtable, k.value)) kinds.now.list.items)
+        tables.now) }
+    requires unit { unit_in tables.now node ≡ option_copied unit }
+    ensures { OnOk result (out.new.items ≡ out.old.items
+        ++ unit_bytes (map (λ k. meaning (k.vtable, k.value)) kinds.now.list.items)
+        node (option_copied unit.entry) (words_in tables.now node)) }
+{
+    match unit {
+        Some(unit) => {
+            let width = kinds.kind(usize::from(unit.kind)).words();
+            push_unit(out, node, width, unit.slots, tables.words(node))
+        }
+        None => Ok(()),
+    }
+}
+
 /// Appends a unit's head and its words.
 fn push_unit(
     out: &mut Vec<u8>,
     node: u16,
     width: u8,
-    unit: &Unit,
+    slots: u32,
     words: &[u64],
 ) -> Result<(), AllocError>
     ensures { OnOk result (out.new.items ≡ out.old.items
-        ++ (head_of node width unit.now.slots ++ word_bytes words.now)) }
+        ++ (head_of node width slots ++ word_bytes words.now)) }
 {
-    out.extend_from_slice(&head(node, width, unit.slots))?;
+    out.extend_from_slice(&head(node, width, slots))?;
     for word in words {
         let mut bytes = [0u8; 8];
         LittleEndian::write_u64(&mut bytes, *word);
