@@ -134,14 +134,11 @@ rows_from_there count next good (suc k) first h = each_there count (λ u. rows_f
 
 numbers_there : (number : ℕ) (net : List NodeDecl) → IsTrue (are_there (number + length net) (units_from number net))
 numbers_there number [] = refl
-numbers_there number (n ∷ ns) = go (is_some n.unit)
+numbers_there number (n ∷ ns) = go (let e : suc number + length ns ≡ number + length (n ∷ ns) = omega arith in subst (λ (c : ℕ). IsTrue (are_there c (units_from (suc number) ns))) e (numbers_there (suc number) ns)) (is_some n.unit)
   where
-    later : IsTrue (are_there (number + length (n ∷ ns)) (units_from (suc number) ns))
-    later = let e : suc number + length ns ≡ number + length (n ∷ ns) = omega arith in subst (λ (c : ℕ). IsTrue (are_there c (units_from (suc number) ns))) e (numbers_there (suc number) ns)
-
-    go : (b : Bool) → IsTrue (are_there (number + length (n ∷ ns)) (if b then number ∷ units_from (suc number) ns else units_from (suc number) ns))
-    go true = true_both _ _ (lt-ltb number (number + length (n ∷ ns)) (omega arith)) later
-    go false = later
+    go : IsTrue (are_there (number + length (n ∷ ns)) (units_from (suc number) ns)) → (b : Bool) → IsTrue (are_there (number + length (n ∷ ns)) (if b then number ∷ units_from (suc number) ns else units_from (suc number) ns))
+    go later true = true_both _ _ (lt-ltb number (number + length (n ∷ ns)) (omega arith)) later
+    go later false = later
 
 units_there : (net : List NodeDecl) → IsTrue (are_there (length net) (unit_numbers net))
 units_there net = let e : 0 + length net ≡ length net = omega arith in subst (λ (c : ℕ). IsTrue (are_there c (unit_numbers net))) e (numbers_there 0 net)
