@@ -4,14 +4,19 @@ use Rattle.std.proofs.lemmas.List.{append_assoc, reverse-append}
 use Rattle.dn_module.specs.declared.stack.Turns.{Turns}
 use Rattle.dn_module.specs.declared.stack.Rest.{Rest}
 use Rattle.dn_module.specs.declared.stack.Use.{Use}
-use Rattle.dn_module.specs.Expand.{Visibility, State, Work, line_of, turns, statements, rewriting, all_rewritings, most_steps}
-use Rattle.dn_module.specs.Machine.{in_front}
+use Rattle.dn_module.specs.Expand.{Visibility, State, Work, line_of, turns, statements, with_drafts, item_rewriting, rewriting, all_rewritings, most_steps}
+use Rattle.dn_module.specs.Machine.{in_front, with_declaration}
 use Rattle.dn_kind.specs.Kind.{Meaning}
 use Rattle.dn_module.specs.Values.{◌>>=◌}
 use Rattle.dn_module.specs.Replace.{Replacement, one_number, in_items}
 use Rattle.dn_module.specs.Stack.{body_view, loop_body, turns_works, after_works, turn_works, rest_works, outside_of, bodies_works, use_works, uses_works}
 use Rattle.dn_module.proofs.Replaced.{one_more}
-use Rattle.dn_module.specs.Faults.{ExpansionFault, passes_limit}
+use Rattle.dn_module.specs.Faults.{ExpansionFault, passes_limit, expand_fault_view}
+use Rattle.dn_module.specs.Drafts.{declared_by, with_draft}
+use Rattle.dn_module.specs.declared.draft.Draft.{Draft}
+use Rattle.dn_module.specs.declared.fault.ExpandFault.{ExpandFault}
+use Rattle.dn_base.specs.Answers.{Answers}
+use Rattle.dn_parse.specs.Tree.{Declaration, declared}
 
 -- a body that is at its end goes
 pub bodies_left : (s : Visibility) (r : Replacement) (b x : Rest) (bs : List Rest) → rest_works s r b ≡ [] → bodies_works s r (b ∷ reverse (bs ++ x ∷ [])) ≡ bodies_works s (outside_of r) (x ∷ reverse bs)
@@ -84,6 +89,33 @@ steps_out kinds left w ws st none = rw none refl
 pub most_steps_are : most_steps ≡ 65536
 unfolding most_steps
 most_steps_are = refl
+
+-- a declaration is recorded, and the work that is left stays
+module _ (kinds : List Meaning) (s : Visibility) (works : List Work) (state : State) (line : ℕ) (d : Declaration) where
+  abbrev declaration_step : Result (List Work × State) ExpansionFault
+  declaration_step = in_front works (item_rewriting kinds s state (declared line d))
+
+  recorded : (drafts : List Draft) → with_declaration kinds state.drafts line d ≡ Ok drafts → declaration_step ≡ Ok (works, with_drafts state drafts)
+  recorded drafts h = go (declared_by kinds line d) h
+    where
+      go : (r : Result Draft ExpansionFault) → (r >>= λ draft. with_draft state.drafts draft) ≡ Ok drafts → in_front works (r >>= λ draft. with_draft state.drafts draft >>= λ ds. Ok ([], with_drafts state ds)) ≡ Ok (works, with_drafts state drafts)
+      go (Err e) h = cc
+      go (Ok draft) h = ap (λ q. in_front works (q >>= λ ds. Ok ([], with_drafts state ds))) h
+
+  not_recorded : (f : ExpansionFault) → with_declaration kinds state.drafts line d ≡ Err f → declaration_step ≡ Err f
+  not_recorded f h = go (declared_by kinds line d) h
+    where
+      go : (r : Result Draft ExpansionFault) → (r >>= λ draft. with_draft state.drafts draft) ≡ Err f → in_front works (r >>= λ draft. with_draft state.drafts draft >>= λ ds. Ok ([], with_drafts state ds)) ≡ Err f
+      go (Err e) h = let same : e ≡ f = cc in ap (λ q. Err q) same
+      go (Ok draft) h = ap (λ q. in_front works (q >>= λ ds. Ok ([], with_drafts state ds))) h
+
+  pub declaration_taken : {X : Type 0} (r : Result X ExpandFault) (drafts : List Draft) → Answers (λ _. drafts) expand_fault_view r (with_declaration kinds state.drafts line d) → Answers (λ _. (works, with_drafts state drafts)) expand_fault_view r (in_front works (item_rewriting kinds s state (declared line d)))
+  declaration_taken (Ok x) drafts h = recorded drafts h
+  declaration_taken (Err e) drafts h = go (expand_fault_view e) h
+    where
+      go : (o : Option ExpansionFault) → IfSome o (λ f. with_declaration kinds state.drafts line d ≡ Err f) → IfSome o (λ f. declaration_step ≡ Err f)
+      go None h = tt
+      go (Some f) h = not_recorded f h
 
 -- the same work in another form
 pub work_first : (kinds : List Meaning) (left : ℕ) (ws vs : List Work) (st : State) → ws ≡ vs → all_rewritings kinds left ws st ≡ all_rewritings kinds left vs st
