@@ -137,11 +137,17 @@ NoFork net = (x s : Name) → IsTrue (is_stop net s) → Reaches (Step net) x s 
 
 -- a unit leads to another: for some port of it and some address below 2^reach, the name of that
 -- address in the port's node reaches a name in the other
-abbrev pub LeadsTo : List NodeDecl → ℕ → ℕ → Type 0
-LeadsTo net u w =
-    (part : UnitPart) × (port : ℕ) × (a : ℕ) × (s : Name)
-    × (unit_at net u ≡ Some part) × Member port part.ports × (a < 2 ^ part.reach)
-    × Reaches (Step net) (record { node = port; addr = a }) s × IsTrue (is_stop net s) × (s.node ≡ w)
+pub record LeadsTo (net : List NodeDecl) (u w : ℕ) : Type 0 where
+  pub part : UnitPart
+  pub port : ℕ
+  pub addr : ℕ
+  pub stop : Name
+  pub is_part : unit_at net u ≡ Some part
+  pub has_port : Member port part.ports
+  pub below : addr < 2 ^ part.reach
+  pub reaches : Reaches (Step net) (record { node = port; addr = addr }) stop
+  pub is_stop : IsTrue (is_stop net stop)
+  pub is_end : stop.node ≡ w
 
 -- the unit leads to the first of a row
 abbrev pub LeadsOn : List NodeDecl → ℕ → List ℕ → Type 0

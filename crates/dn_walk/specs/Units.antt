@@ -52,8 +52,8 @@ IsLeastShown net rows (Some f) = IsLeastOf net rows f
 abbrev pub row_leads : ℕ → ℕ → ℕ → Told → Bool
 row_leads port w limit t = (t.start == port) && ((t.end == w) && nat_lt t.lo limit)
 
--- for each two of so many nodes the lowest address from which a row leads from the one to the
--- other: by comparing it
+-- a number for each two of so many nodes: it is below a limit exactly where a row leads from the one
+-- to the other from an address below the limit
 pub record AreLows (count : ℕ) (rows : List Told) (lows : List ℕ) : Type 0 where
   pub size : length lows ≡ count * count
   pub lower : (port w limit : ℕ) → port < count → w < count → limit ≤ 2 ^ 56 →
