@@ -47,14 +47,6 @@ stay_ends net passes node a y b q = (to, (λ h. from h.0 h.1.0 h.1.1 h.1.2))
     from t zero l c = and_from b (is_same node a y) (q ∙ (ap passes c ∙ t)) (same_from node a y c)
     from t (suc j) l c = absurd (omega arith)
 
--- and in no step
-pub still_goes : (net : List NodeDecl) (node a : ℕ) (y : End) → (is_same node a y ≡ true) ↔ GoesIn net 0 node a y
-still_goes net node a y = (same_means node a y, same_from node a y)
-
--- nothing is reached in fewer than no step
-pub none_ends : (net : List NodeDecl) (passes : Name → Bool) (node a : ℕ) (y : End) (b : Bool) → b ≡ false → (b ≡ true) ↔ EndsBefore net passes 0 node a y
-none_ends net passes node a y b q = ((λ e. absurd (false≢true (sym q ∙ e))), (λ h. let l : h.1.0 < 0 = h.1.1 in absurd (omega arith)))
-
 module _ (net : List NodeDecl) (rules : KeepsNodeRules net) (node : ℕ) (n : NodeDecl) (at : slice_get net node ≡ Some n) (a : ℕ) (y : End) where
   abbrev here : Name
   here = record { node = node; addr = a }
