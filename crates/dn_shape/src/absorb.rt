@@ -210,8 +210,8 @@ fn node_led_past(
     requires onward { option_map told_legs (slice_get net.now past) ≡ Some onward.now }
     requires lead { LeadOn onward.now }
     requires there { node < length net.now }
-    ensures { IfOk result (λ n. option_map (node_led_past net.now past node) (slice_get net.now node)
-        ≡ Some n) }
+    ensures { IfOk result (λ n. option_map (node_led_past net.now past node)
+        (slice_get net.now node) ≡ Some n) }
 {
     Ok(NodeDecl {
         text: Text::of(alloc, net.text(node))?,
