@@ -1,5 +1,5 @@
 -- Where the bytes of nodes stand in an image.
-use Rattle.std.proofs.Common.{◌≡◌, ℕ, zero, suc, ◌+◌, ◌-◌, ◌*◌, ◌<◌, ◌≤◌, Bool, true, false, nat_lt, List, [], ◌∷◌, ◌++◌, map, length, take, drop, replicate, slice_get, slice_index_or, Option, Some, None, Bor, is_some, refl, sym, ap, ◌∙◌, subst, arith, length-drop, length-append, append_assoc, append-nil, ltb-true}
+use Rattle.std.proofs.Common.{◌≡◌, ℕ, zero, suc, ◌+◌, ◌-◌, ◌*◌, ◌<◌, ◌≤◌, Bool, true, false, nat_lt, List, [], ◌∷◌, ◌++◌, map, length, take, drop, replicate, slice_get, slice_index_or, Option, Some, None, Bor, is_some, IsTrue, refl, sym, ap, ◌∙◌, subst, arith, length-drop, length-append, append_assoc, append-nil, ltb-true}
 use Rattle.std.specs.Option.{option_map, option_copied}
 use Rattle.std.proofs.lemmas.List.{drop-drop, take_at, length-replicate}
 use Rattle.std.proofs.lemmas.Option.{same_Some}
@@ -8,7 +8,9 @@ use Rattle.dn_net.specs.declared.node.NodeDecl.{NodeDecl}
 use Rattle.dn_net.specs.declared.node.Unit.{Unit as UnitPart}
 use Rattle.dn_kind.specs.Kind.{Meaning}
 use Rattle.dn_tables.specs.declared.table.NodeTable.{NodeTable}
-use Rattle.dn_tables.specs.Set.{unit_in, units_of, words_in, words_of}
+use Rattle.dn_tables.specs.Set.{unit_in, units_of, words_in, words_of, fits_by, fits_kinds, is_wide}
+use Rattle.dn_tables.proofs.Kept.{table_of_unit}
+use Rattle.dn_base.proofs.Lists.{list_all-at, length-map, slice_get_within}
 use Rattle.dn_image.specs.Image.{count_unit, unit_count, word_count, head_bytes, first_words, unit_bytes, units_bytes}
 use Rattle.dn_image.specs.Reading.{BrokenImage, Field, exactly, word_field, header_fields, unit_fields, units_fields, image_fields, broken_in, broken_image, node_size, nodes_size, node_words, words_from, image_words}
 use Rattle.dn_image.specs.Reading.BrokenImage.{ends, shape}
@@ -178,3 +180,27 @@ unit_whole kinds total place node n u rest wanted more w l e m room =
 pub copied_there : {X : Type 0} (o : Option (Bor X)) → is_some o ≡ true → is_some (option_copied o) ≡ true
 copied_there None e = cc
 copied_there (Some b) e = refl
+
+-- the kind of a unit of a set that fits kinds
+pub record IsKindThere (kinds : List Meaning) (set : List NodeTable) (node : ℕ) (u : UnitPart) : Type 0 where
+  pub kind : Meaning
+  pub found : slice_get kinds u.kind ≡ Some kind
+
+pub kind_there : (kinds : List Meaning) (set : List NodeTable) (node : ℕ) (u : UnitPart) → IsTrue (fits_kinds kinds set) → unit_in set node ≡ Some u → IsKindThere kinds set node u
+kind_there kinds set node u fits e =
+    let t = table_of_unit set node u e in
+    by (width t.0) (slice_get kinds u.kind) refl (subst (λ o. IsTrue (fits_by kinds (width t.0) o)) t.2 (list_all-at (λ t. fits_by kinds t.width t.unit) set node t.0 fits t.1))
+  where
+    width : NodeTable → ℕ
+    width t = t.width
+
+    by : (w : ℕ) (k : Option Meaning) → slice_get kinds u.kind ≡ k → IsTrue (is_wide k w) → IsKindThere kinds set node u
+    by w None f h = cc
+    by w (Some kind) f h = record { kind = kind; found = f }
+
+pub kind_within : {X : Type 0} (f : X → Meaning) (xs : List X) (set : List NodeTable) (node : ℕ) (o : Option (Bor UnitPart)) (b : Bor UnitPart) → IsTrue (fits_kinds (map f xs) set) → unit_in set node ≡ option_copied o → o ≡ Some b → b.now.kind < length xs
+kind_within f xs set node o b fits e at =
+    let k = kind_there (map f xs) set node b.now fits (e ∙ ap option_copied at) in
+    let l = slice_get_within (map f xs) b.now.kind k.kind k.found in
+    let m = length-map xs f in
+    omega arith

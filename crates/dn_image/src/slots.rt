@@ -97,8 +97,7 @@ pub(crate) fn count_words(unit: &Unit, kinds: &Kinds) -> usize
 /// How many words a record of a unit has.
 pub(crate) fn record_width(unit: &Unit, kinds: &Kinds) -> u8
     requires lawful { All (λ k. IsLawful (meaning (k.vtable, k.value))) kinds.now.list.items }
-    requires shaped { IsTrue (is_shaped (map (λ k. meaning (k.vtable, k.value)) kinds.now.list.items)
-        unit.now) }
+    requires known { unit.now.kind < length kinds.now.list.items }
     ensures width { result ≡ width_of (map (λ k. meaning (k.vtable, k.value)) kinds.now.list.items)
         unit.now }
     ensures most { result ≤ 4 }
