@@ -7,6 +7,7 @@ use Rattle.std.specs.List.{AllByRecursion, flat_map, list_all}
 use Rattle.byteorder.specs.Endian.{little_from, little_number, little_bytes}
 use Rattle.byteorder.specs.Numbers.{little_from-cons, little_from-append, little_from-lt, little_number-reads_back, length-bytes_low_first}
 use Rattle.dn_base.proofs.Booleans.{and_parts, and_from}
+use Rattle.dn_kind.specs.Tables.{slot_words}
 use Rattle.dn_image.specs.Bytes.{word_bytes, words_spelled, AreBytes, BytesOfNumber}
 
 -- the bytes from the second on are those of what is left of the number
@@ -140,3 +141,24 @@ pub spelled_last : (count i : ℕ) (bytes read : List ℕ) → count ≤ i → r
 spelled_last count i bytes read l so_far =
     let none : count - i ≡ 0 = omega arith in
     sym (append-nil read) ∙ ap (λ k. read ++ words_spelled k (drop (8 * i) bytes)) (sym none) ∙ so_far
+
+-- the first of words that are spelled, and those behind them
+
+pub take_spelled : (w n : ℕ) (bs : List ℕ) → w ≤ n → take w (words_spelled n bs) ≡ words_spelled w bs
+take_spelled zero n bs l = refl
+take_spelled (suc w) zero bs l = absurd (omega arith)
+take_spelled (suc w) (suc n) bs l = ap (λ (r : List ℕ). little_number 8 bs ∷ r) (take_spelled w n (drop 8 bs) (omega arith))
+
+pub drop_spelled : (k n : ℕ) (bs : List ℕ) → k ≤ n → drop k (words_spelled n bs) ≡ words_spelled (n - k) (drop (8 * k) bs)
+drop_spelled zero n bs l = let e : n ≡ n - 0 = omega arith in ap (λ m. words_spelled m bs) e
+drop_spelled (suc k) zero bs l = absurd (omega arith)
+drop_spelled (suc k) (suc n) bs l =
+    let e : n - k ≡ suc n - suc k = omega arith in
+    let f : 8 + 8 * k ≡ 8 * suc k = omega arith in
+    drop_spelled k n (drop 8 bs) (omega arith)
+    ∙ ap (λ m. words_spelled m (drop (8 * k) (drop 8 bs))) e
+    ∙ ap (words_spelled (suc n - suc k)) (drop-drop (8 * k) 8 bs ∙ ap (λ m. drop m bs) f)
+
+-- the words of a slot are spelled at its place
+pub slot_spelled : (w n slot : ℕ) (bs : List ℕ) → slot * w + w ≤ n → slot_words w (words_spelled n bs) slot ≡ words_spelled w (drop (8 * (slot * w)) bs)
+slot_spelled w n slot bs l = ap (take w) (drop_spelled (slot * w) n bs (omega arith)) ∙ take_spelled w (n - slot * w) (drop (8 * (slot * w)) bs) (omega arith)

@@ -1,16 +1,25 @@
 -- Where the bytes of nodes stand in an image.
-use Rattle.std.proofs.Common.{◌≡◌, ℕ, zero, suc, ◌+◌, ◌-◌, ◌*◌, ◌<◌, ◌≤◌, Bool, true, false, nat_lt, List, [], ◌∷◌, ◌++◌, map, length, take, drop, replicate, slice_get, slice_index_or, Option, Some, None, Bor, is_some, refl, sym, ap, ◌∙◌, subst, arith, length-drop, length-append, append_assoc, append-nil, ltb-true}
+use Rattle.std.proofs.Common.{◌≡◌, ℕ, zero, suc, ◌+◌, ◌-◌, ◌*◌, ◌<◌, ◌≤◌, Bool, true, false, nat_lt, List, [], ◌∷◌, ◌++◌, map, length, take, drop, replicate, slice_get, slice_index_or, Option, Some, None, Bor, is_some, IsTrue, refl, sym, ap, ◌∙◌, subst, arith, length-drop, length-append, append_assoc, append-nil, ltb-true, lt-ltb, if◌then◌else◌}
 use Rattle.std.specs.Option.{option_map, option_copied}
 use Rattle.std.proofs.lemmas.List.{drop-drop, take_at, length-replicate}
 use Rattle.std.proofs.lemmas.Option.{same_Some}
-use Rattle.dn_base.proofs.Orders.{ltb-false}
+use Rattle.dn_base.proofs.Orders.{ltb-false, le-ltb}
 use Rattle.dn_net.specs.declared.node.NodeDecl.{NodeDecl}
 use Rattle.dn_net.specs.declared.node.Unit.{Unit as UnitPart}
-use Rattle.dn_kind.specs.Kind.{Meaning}
+use Rattle.dn_kind.specs.Kind.{Meaning, is_plain}
+use Rattle.dn_kind.specs.Tables.{slot_words, record_within, record_spelled, record_of_unit, record_held}
+use Rattle.dn_kind.specs.declared.shape.Shape.{Shape}
+use Rattle.dn_kind.specs.Units.{is_shaped, unit_shape}
+use Rattle.dn_net.specs.Decode.{unit_at, unit_of}
+use Rattle.dn_tables.proofs.Fresh.{kind_there as shaped_kind, plain_there}
 use Rattle.dn_tables.specs.declared.table.NodeTable.{NodeTable}
-use Rattle.dn_tables.specs.Set.{unit_in, units_of, words_in, words_of}
-use Rattle.dn_image.specs.Image.{count_unit, unit_count, word_count, head_bytes, first_words, unit_bytes, units_bytes}
-use Rattle.dn_image.specs.Reading.{BrokenImage, Field, exactly, word_field, header_fields, unit_fields, units_fields, image_fields, broken_in, broken_image, node_size, nodes_size, node_words, words_from, image_words}
+use Rattle.dn_tables.specs.Set.{unit_in, units_of, words_in, words_of, fits_by, fits_kinds, is_wide}
+use Rattle.dn_tables.proofs.Kept.{table_of_unit, slot_room}
+use Rattle.dn_base.proofs.Lists.{list_all-at, length-map, slice_get_within}
+use Rattle.dn_image.specs.Image.{count_unit, unit_count, width_by, width_of, word_count, head_bytes, first_words, unit_bytes, units_bytes}
+use Rattle.dn_image.specs.Reading.{BrokenImage, Field, exactly, word_field, header_fields, unit_fields, units_fields, image_fields, broken_in, broken_image, node_size, nodes_size, node_words, words_from, image_words, record_by}
+use Rattle.dn_image.specs.Bytes.{words_spelled}
+use Rattle.dn_image.proofs.Numbers.{slot_spelled}
 use Rattle.dn_image.specs.Reading.BrokenImage.{ends, shape}
 use Rattle.dn_image.proofs.Fields.{right_field, short_field, wrong_field, exactly_right, exactly_wrong, words_there, words_short, right_first, IsRight, ended}
 
@@ -178,3 +187,92 @@ unit_whole kinds total place node n u rest wanted more w l e m room =
 pub copied_there : {X : Type 0} (o : Option (Bor X)) → is_some o ≡ true → is_some (option_copied o) ≡ true
 copied_there None e = cc
 copied_there (Some b) e = refl
+
+-- the kind of a unit of a set that fits kinds
+pub record IsKindThere (kinds : List Meaning) (set : List NodeTable) (node : ℕ) (u : UnitPart) : Type 0 where
+  pub kind : Meaning
+  pub found : slice_get kinds u.kind ≡ Some kind
+
+pub kind_there : (kinds : List Meaning) (set : List NodeTable) (node : ℕ) (u : UnitPart) → IsTrue (fits_kinds kinds set) → unit_in set node ≡ Some u → IsKindThere kinds set node u
+kind_there kinds set node u fits e =
+    let t = table_of_unit set node u e in
+    by (width t.0) (slice_get kinds u.kind) refl (subst (λ o. IsTrue (fits_by kinds (width t.0) o)) t.2 (list_all-at (λ t. fits_by kinds t.width t.unit) set node t.0 fits t.1))
+  where
+    width : NodeTable → ℕ
+    width t = t.width
+
+    by : (w : ℕ) (k : Option Meaning) → slice_get kinds u.kind ≡ k → IsTrue (is_wide k w) → IsKindThere kinds set node u
+    by w None f h = cc
+    by w (Some kind) f h = record { kind = kind; found = f }
+
+pub kind_within : {X : Type 0} (f : X → Meaning) (xs : List X) (set : List NodeTable) (node : ℕ) (o : Option (Bor UnitPart)) (b : Bor UnitPart) → IsTrue (fits_kinds (map f xs) set) → unit_in set node ≡ option_copied o → o ≡ Some b → b.now.kind < length xs
+kind_within f xs set node o b fits e at =
+    let k = kind_there (map f xs) set node b.now fits (e ∙ ap option_copied at) in
+    let l = slice_get_within (map f xs) b.now.kind k.kind k.found in
+    let m = length-map xs f in
+    omega arith
+
+-- the record that the words of a slot spell is that of the slot
+pub record_said : (kinds : List Meaning) (u : UnitPart) (slot : ℕ) (bs ws : List ℕ) → slot < u.slots → ws ≡ words_spelled (width_of kinds u) (drop (8 * (slot * width_of kinds u)) bs) → record_by (slice_get kinds u.kind) u ws ≡ record_of_unit kinds (Some u) (Some (words_spelled (word_count kinds (Some u)) bs)) slot
+record_said kinds u slot bs ws l e =
+    let w : ℕ = width_of kinds u in
+    let room : slot * w + w ≤ u.slots * w = slot_room slot u.slots w (u.slots * w) l refl in
+    let same : slot_words w (words_spelled (u.slots * w) bs) slot ≡ ws = slot_spelled w (u.slots * w) slot bs room ∙ sym e in
+    go (slice_get kinds u.kind) refl same
+  where
+    go : (k : Option Meaning) → slice_get kinds u.kind ≡ k → slot_words (width_of kinds u) (words_spelled (u.slots * width_of kinds u) bs) slot ≡ ws → record_by k u ws ≡ record_spelled k u (Some (words_spelled (u.slots * width_of kinds u) bs)) slot
+    go None at same = refl
+    go (Some kind) at same =
+        let w : kind.words ≡ width_of kinds u = sym (ap width_by at) in
+        sym (ap (λ b. if b then record_within u (kind.unpack (slot_words kind.words (words_spelled (u.slots * width_of kinds u) bs) slot)) else None) (lt-ltb slot u.slots l)
+        ∙ ap (λ n. record_within u (kind.unpack (slot_words n (words_spelled (u.slots * width_of kinds u) bs) slot))) w
+        ∙ ap (λ (v : List ℕ). record_within u (kind.unpack v)) same)
+
+-- the kind of a unit that is shaped is there
+pub kind_known : {X : Type 0} (f : X → Meaning) (xs : List X) (u : UnitPart) → IsTrue (is_shaped (map f xs) u) → u.kind < length xs
+kind_known f xs u s =
+    let k = shaped_kind (map f xs) u s in
+    let l = slice_get_within (map f xs) u.kind k.0 k.1 in
+    let m = length-map xs f in
+    omega arith
+
+-- the words at a node are spelled where the nodes before it end
+pub words_at_node : (kinds : List Meaning) (net : List NodeDecl) (i : ℕ) (o : Option UnitPart) (bytes : List ℕ) → option_map (λ d. d.unit) (slice_get net i) ≡ Some o → slice_get (words_from kinds net bytes) i ≡ Some (node_words kinds o (drop (nodes_size kinds (take i net)) bytes))
+words_at_node kinds [] i o bytes e = cc
+words_at_node kinds (n ∷ ns) zero o bytes e = ap (λ p. Some (node_words kinds p bytes)) (same_Some n.unit o e)
+words_at_node kinds (n ∷ ns) (suc i) o bytes e =
+    words_at_node kinds ns i o (drop (node_size kinds n.unit) bytes) e
+    ∙ ap (λ l. Some (node_words kinds o l)) (drop-drop (nodes_size kinds (take i ns)) (node_size kinds n.unit) bytes)
+
+-- and they are within the image
+pub node_within : (kinds : List Meaning) (net : List NodeDecl) (i : ℕ) (o : Option UnitPart) → option_map (λ d. d.unit) (slice_get net i) ≡ Some o → nodes_size kinds (take i net) + node_size kinds o ≤ nodes_size kinds net
+node_within kinds [] i o e = cc
+node_within kinds (n ∷ ns) zero o e = let f = ap (node_size kinds) (same_Some n.unit o e) in omega arith
+node_within kinds (n ∷ ns) (suc i) o e = let h = node_within kinds ns i o e in omega arith
+
+-- the record that a slot of a node holds, by what the node is
+unit_at_is : (net : List NodeDecl) (i : ℕ) (o : Option UnitPart) → option_map (λ d. d.unit) (slice_get net i) ≡ Some o → unit_at net i ≡ o
+unit_at_is net i o e = go (slice_get net i) e
+  where
+    go : (p : Option NodeDecl) → option_map (λ d. d.unit) p ≡ Some o → unit_of p ≡ o
+    go None f = cc
+    go (Some d) f = same_Some d.unit o f
+
+pub held_at : (net : List NodeDecl) (kinds : List Meaning) (words : List (List ℕ)) (i slot : ℕ) (o : Option UnitPart) (ws : Option (List ℕ)) → option_map (λ d. d.unit) (slice_get net i) ≡ Some o → slice_get words i ≡ ws → record_held net kinds words i slot ≡ record_of_unit kinds o ws slot
+held_at net kinds words i slot o ws e f = ap (λ p. record_of_unit kinds p (slice_get words i) slot) (unit_at_is net i o e) ∙ ap (λ w. record_of_unit kinds o w slot) f
+
+-- there is none past the last slot
+pub none_past : (kinds : List Meaning) (u : UnitPart) (ws : Option (List ℕ)) (slot : ℕ) → u.slots ≤ slot → record_of_unit kinds (Some u) ws slot ≡ None
+none_past kinds u ws slot l = go (slice_get kinds u.kind) ws
+  where
+    go : (k : Option Meaning) (w : Option (List ℕ)) → record_spelled k u w slot ≡ None
+    go None w = refl
+    go (Some kind) None = refl
+    go (Some kind) (Some v) = ap (λ b. if b then record_within u (kind.unpack (slot_words kind.words v slot)) else None) (le-ltb slot u.slots l)
+
+-- a unit that is shaped has few slots
+pub few_slots : (kinds : List Meaning) (u : UnitPart) → IsTrue (is_shaped kinds u) → u.slots ≤ 262144
+few_slots kinds u s = by (unit_shape u) (plain_there kinds u s)
+  where
+    by : (s : Shape) → IsTrue (is_plain s) → s.slots ≤ 262144
+    by s p = grind arith

@@ -73,6 +73,18 @@ pub fn read(alloc: Global, net: &Net, kinds: &Kinds, bytes: &[u8]) -> Result<Ima
         IsImageOf net.now (map (λ k. meaning (k.vtable, k.value)) kinds.now.list.items) bytes.now i →
         Answers (λ i. i) image_fault_view result (Ok i) }
 {
+    reading(alloc, net, kinds, bytes)
+}
+
+/// The words and the version that the bytes say, or the first field that is not as in an image.
+fn reading(alloc: Global, net: &Net, kinds: &Kinds, bytes: &[u8]) -> Result<Image, ImageFault>
+    requires lawful { All (λ k. IsLawful (meaning (k.vtable, k.value))) kinds.now.list.items }
+    requires shaped { KeepsUnitShape (map (λ k. meaning (k.vtable, k.value)) kinds.now.list.items)
+        net.now }
+    ensures { Answers (λ i. i) image_fault_view result
+        (image_reading net.now (map (λ k. meaning (k.vtable, k.value)) kinds.now.list.items)
+        bytes.now) }
+{
     let version = check(net, kinds, bytes)?;
     let words = read_words(alloc, net, kinds, bytes)?;
     Ok(Image { version, words })

@@ -1,14 +1,14 @@
 //! The record that a slot holds in the bytes of an image.
 
-ghost use Rattle.std.specs.Prelude.{◌≡◌, ◌+◌, ◌*◌, ◌<◌, ◌≤◌, ◌++◌, length, map, take, drop, replicate, None, Some, IsTrue};
+ghost use Rattle.std.specs.Prelude.{◌≡◌, ◌+◌, ◌*◌, ◌<◌, ◌≤◌, ◌++◌, length, map, take, drop, replicate, slice_get, None, Some, IsTrue};
 ghost use Rattle.std.specs.List.{All};
 ghost use Rattle.std.specs.Option.{option_copied};
 ghost use Rattle.dn_kind.specs.Kind.{IsLawful};
-ghost use Rattle.dn_kind.specs.Tables.{record_held};
+ghost use Rattle.dn_kind.specs.Tables.{record_held, record_of_unit};
 ghost use Rattle.dn_kind.specs.Units.{KeepsUnitShape, has_shape, is_shaped};
 ghost use Rattle.dn_image.specs.Bytes.{words_spelled};
 ghost use Rattle.dn_image.specs.Image.{width_of, word_count};
-ghost use Rattle.dn_image.specs.Reading.{broken_image, image_words, node_size, nodes_size};
+ghost use Rattle.dn_image.specs.Reading.{broken_image, image_words, node_size, nodes_size, record_by};
 
 use crate::write::{HEAD, HEADER};
 use byteorder::{ByteOrder, LittleEndian};
@@ -34,22 +34,58 @@ pub fn record_in(net: &Net, kinds: &Kinds, bytes: &[u8], node: u16, slot: u64) -
     if slot >= u64::from(unit.slots) {
         return None;
     }
-    let kind = kinds.kind(usize::from(unit.kind));
-    let width = usize::from(kind.words());
-    let first = words_at(net, kinds, node) + 8 * slot as usize * width;
-    let mut words = [0u64; 4];
-    read_slot(&bytes[first..], &mut words[..width]);
-    held_record(unit, &**kind, &words[..width])
+    record_of(
+        unit,
+        kinds,
+        &bytes[words_at(net, kinds, node)..],
+        slot as u32,
+    )
 }
 
-/// Reads as many words as there is room for.
-fn read_slot(bytes: &[u8], words: &mut [u64])
-    requires { 8 * length words.old ≤ length bytes.now }
-    ensures { words.new ≡ words_spelled (length words.old) bytes.now }
+/// The record that a slot of a unit holds, whose words stand first in these bytes.
+fn record_of(unit: &Unit, kinds: &Kinds, bytes: &[u8], slot: u32) -> Option<Record>
+    requires lawful { All (λ k. IsLawful (meaning (k.vtable, k.value))) kinds.now.list.items }
+    requires shaped { IsTrue (is_shaped (map (λ k. meaning (k.vtable, k.value)) kinds.now.list.items)
+        unit.now) }
+    requires slot { slot < unit.now.slots }
+    requires room { 8 * word_count (map (λ k. meaning (k.vtable, k.value)) kinds.now.list.items)
+        (Some unit.now) ≤ length bytes.now }
+    ensures { result ≡ record_of_unit (map (λ k. meaning (k.vtable, k.value)) kinds.now.list.items)
+        (Some unit.now)
+        (Some (words_spelled (word_count (map (λ k. meaning (k.vtable, k.value))
+        kinds.now.list.items) (Some unit.now)) bytes.now)) slot }
 {
-    for word in 0..words.len() {
+    let width = usize::from(record_width(unit, kinds));
+    let first = 8 * (slot as usize * width);
+    let words = read_slot(&bytes[first..], width);
+    record_by(unit, kinds, &words[..width])
+}
+
+/// The record that the words of a slot spell, where the unit can hold it.
+fn record_by(unit: &Unit, kinds: &Kinds, words: &[u64]) -> Option<Record>
+    requires lawful { All (λ k. IsLawful (meaning (k.vtable, k.value))) kinds.now.list.items }
+    requires shaped { IsTrue (is_shaped (map (λ k. meaning (k.vtable, k.value)) kinds.now.list.items)
+        unit.now) }
+    requires words { length words.now
+        ≡ width_of (map (λ k. meaning (k.vtable, k.value)) kinds.now.list.items) unit.now }
+    ensures { result ≡ record_by (slice_get (map (λ k. meaning (k.vtable, k.value))
+        kinds.now.list.items) unit.now.kind) unit.now words.now }
+{
+    let kind = kinds.kind(usize::from(unit.kind));
+    held_record(unit, &**kind, words)
+}
+
+/// So many words, at most four, in the first places.
+fn read_slot(bytes: &[u8], width: usize) -> [u64; 4]
+    requires most { width ≤ 4 }
+    requires room { 8 * width ≤ length bytes.now }
+    ensures { take width result ≡ words_spelled width bytes.now }
+{
+    let mut words = [0u64; 4];
+    for word in 0..width {
         words[word] = LittleEndian::read_u64(&bytes[8 * word..]);
     }
+    words
 }
 
 /// Where the words of a unit begin in an image of the net.
@@ -97,8 +133,7 @@ pub(crate) fn count_words(unit: &Unit, kinds: &Kinds) -> usize
 /// How many words a record of a unit has.
 pub(crate) fn record_width(unit: &Unit, kinds: &Kinds) -> u8
     requires lawful { All (λ k. IsLawful (meaning (k.vtable, k.value))) kinds.now.list.items }
-    requires shaped { IsTrue (is_shaped (map (λ k. meaning (k.vtable, k.value)) kinds.now.list.items)
-        unit.now) }
+    requires known { unit.now.kind < length kinds.now.list.items }
     ensures width { result ≡ width_of (map (λ k. meaning (k.vtable, k.value)) kinds.now.list.items)
         unit.now }
     ensures most { result ≤ 4 }

@@ -9,6 +9,7 @@ ghost use Rattle.dn_tables.specs.Set.{FitsNet, fits_kinds, unit_in, units_of, wo
 ghost use Rattle.dn_image.specs.Bytes.{word_bytes};
 ghost use Rattle.dn_image.specs.Image.{count_unit, head_of, image, mark, unit_bytes, unit_count, written_version};
 
+use crate::slots::record_width;
 use byteorder::{ByteOrder, LittleEndian};
 use dn_kind::kinds::Kinds;
 use dn_net::net::Net;
@@ -114,7 +115,7 @@ fn push_node(
 {
     match unit {
         Some(unit) => {
-            let width = kinds.kind(usize::from(unit.kind)).words();
+            let width = record_width(unit, kinds);
             push_unit(out, node, width, unit.slots, tables.words(node))
         }
         None => Ok(()),

@@ -52,3 +52,6 @@ returns g c =
     let kinds : List Meaning = map (λ k. (goal.UnitKind-dyn g (k.vtable, k.value)).meaning k.value) c.args.kinds.now.list.items in
     let none = drop_all c.loop-node.node c.args.net.now (let e = c.loop-node.invariant.last in let f = c.loop-node-test.false in omega arith) in
     sym (append-nil c.loop-node.words.items) ∙ ap (λ l. c.loop-node.words.items ++ words_from kinds l (drop c.loop-node.at c.args.bytes.now)) (sym none) ∙ c.loop-node.invariant.so_far
+
+pub node_size-requires-clause-shaped : goal.node_size-requires-clause-shaped
+node_size-requires-clause-shaped g c = shape_there _ c.args.net.now c.loop-node.node _ c.requires.shaped c.unit-unit.ensures

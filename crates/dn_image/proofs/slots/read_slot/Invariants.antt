@@ -4,7 +4,6 @@ use Rattle.dn_image.proofs.slots.read_slot.Given as goal
 
 abbrev pub invariant-loop-word : goal.invariant-loop-word
 invariant-loop-word l = record {
-  many : length l.words ≡ length l.fn.words;
-  last : l.word-end ≡ length l.fn.words;
-  so_far : take l.word l.words ++ words_spelled (length l.fn.words - l.word) (drop (8 * l.word) l.bytes) ≡ words_spelled (length l.fn.words) l.bytes;
+  many : length l.words ≡ 4;
+  so_far : take l.word l.words ++ words_spelled (l.width - l.word) (drop (8 * l.word) l.bytes) ≡ words_spelled l.width l.bytes;
 }
