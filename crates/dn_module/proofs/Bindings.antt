@@ -12,7 +12,7 @@ use Rattle.dn_parse.specs.Tree.{Param, number_param, node_param, Arg, number_arg
 use Rattle.dn_parse.specs.Views.{param_view, arg_view}
 use Rattle.dn_module.specs.declared.values.NameFault.{NameFault}
 use Rattle.dn_module.specs.declared.values.NameFault.TheVariants.{Flawed, OutOfMemory}
-use Rattle.dn_module.specs.Values.{Flaw, unknown_variable, out_of_range, ◌>>=◌, each, full_name}
+use Rattle.dn_module.specs.Values.{Flaw, unknown_word, out_of_range, ◌>>=◌, each, full_name}
 use Rattle.dn_module.specs.Drafts.{at_line}
 use Rattle.dn_module.specs.Expand.{Module, Work, statements, within_module, fit, fits_param, word_of_param, has_twice, Given, number, named, given_by, number_pair, node_pair, numbers_of, nodes_of, used_body, use_of}
 use Rattle.dn_module.specs.Machine.{bound, given_more, replaced_by}
@@ -187,9 +187,9 @@ use_is line xs prefix place m fits = rw fits (go (each given_by xs) (full_name p
   go : (gs : Result (List Given) Flaw) (t : Result (List ℕ) Flaw)
       → (at_line line gs >>= (λ givens. at_line line t >>= used_works place m givens))
       ≡ (at_line line ((gs >>= collected (map word_of_param m.params)) >>= naming_of t) >>= body_works place m)
-  go (Err unknown_variable) t = refl
+  go (Err unknown_word) t = refl
   go (Err out_of_range) t = refl
-  go (Ok gs) (Err unknown_variable) = refl
+  go (Ok gs) (Err unknown_word) = refl
   go (Ok gs) (Err out_of_range) = refl
   go (Ok gs) (Ok text) = refl
 

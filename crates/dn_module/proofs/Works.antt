@@ -1,17 +1,27 @@
 -- What a stack still has to do, through the moves of the machine.
-use Rattle.std.proofs.Common.{◌≡◌, ◌∙◌, ap, sym, refl, arith, ℕ, zero, suc, ◌-◌, ◌<◌, Result, Ok, Err, List, [], ◌∷◌, ◌++◌, reverse, Option, None, Some, IfSome}
+use Rattle.std.proofs.Common.{◌≡◌, ◌∙◌, ap, sym, refl, subst, arith, ℕ, zero, suc, ◌-◌, ◌<◌, Result, Ok, Err, List, [], ◌∷◌, ◌++◌, reverse, Option, None, Some, IfSome}
 use Rattle.std.proofs.lemmas.List.{append_assoc, reverse-append}
 use Rattle.dn_module.specs.declared.stack.Turns.{Turns}
 use Rattle.dn_module.specs.declared.stack.Rest.{Rest}
 use Rattle.dn_module.specs.declared.stack.Use.{Use}
-use Rattle.dn_module.specs.Expand.{Visibility, State, Work, line_of, turns, statements, rewriting, all_rewritings, most_steps}
-use Rattle.dn_module.specs.Machine.{in_front}
+use Rattle.dn_module.specs.Expand.{Visibility, State, Work, line_of, turns, statements, with_drafts, item_rewriting, rewriting, all_rewritings, most_steps}
+use Rattle.dn_module.specs.Machine.{in_front, with_declaration}
 use Rattle.dn_kind.specs.Kind.{Meaning}
 use Rattle.dn_module.specs.Values.{◌>>=◌}
-use Rattle.dn_module.specs.Replace.{Replacement, one_number, in_items}
+use Rattle.dn_module.specs.Replace.{Replacement, one_number, in_declaration, in_item, in_items}
 use Rattle.dn_module.specs.Stack.{body_view, loop_body, turns_works, after_works, turn_works, rest_works, outside_of, bodies_works, use_works, uses_works}
 use Rattle.dn_module.proofs.Replaced.{one_more}
-use Rattle.dn_module.specs.Faults.{ExpansionFault, passes_limit}
+use Rattle.dn_module.specs.Faults.{ExpansionFault, passes_limit, expand_fault_view}
+use Rattle.dn_module.specs.Drafts.{declared_by, with_draft}
+use Rattle.dn_module.specs.declared.draft.Draft.{Draft}
+use Rattle.dn_module.specs.declared.fault.ExpandFault.{ExpandFault}
+use Rattle.dn_base.specs.Answers.{Answers}
+use Rattle.dn_parse.specs.Tree.{Declaration, Item, declared}
+use Rattle.dn_parse.specs.declared.syntax.Decl.{Decl}
+use Rattle.dn_parse.specs.declared.syntax.Stmt.TheVariants.{Decl as DeclCase, rolls-Decl}
+use Rattle.dn_parse.specs.declared.syntax.Stmt.TheOpen.{Decl as StmtDecl}
+use Rattle.dn_parse.specs.declared.syntax.Stmt.TheFolds.{fold-roll-Stmt}
+use Rattle.dn_parse.specs.Views.{declaration_view, item_view, stmt_step}
 
 -- a body that is at its end goes
 pub bodies_left : (s : Visibility) (r : Replacement) (b x : Rest) (bs : List Rest) → rest_works s r b ≡ [] → bodies_works s r (b ∷ reverse (bs ++ x ∷ [])) ≡ bodies_works s (outside_of r) (x ∷ reverse bs)
@@ -84,6 +94,43 @@ steps_out kinds left w ws st none = rw none refl
 pub most_steps_are : most_steps ≡ 65536
 unfolding most_steps
 most_steps_are = refl
+
+-- a declaration as a statement of the tree
+pub declaration_item : (r : Replacement) (line : ℕ) (d : Decl) → in_item r (item_view (DeclCase line d)) ≡ declared line (in_declaration r (declaration_view d))
+declaration_item r line d = ap (in_item r) (ap item_view (sym (rolls-Decl line d)) ∙ fold-roll-Stmt Item stmt_step (StmtDecl line d))
+
+-- a declaration is recorded, and the work that is left stays
+module _ (kinds : List Meaning) (s : Visibility) (works : List Work) (state : State) (line : ℕ) (d : Declaration) where
+  abbrev declaration_step : Result (List Work × State) ExpansionFault
+  declaration_step = in_front works (item_rewriting kinds s state (declared line d))
+
+  recorded : (drafts : List Draft) → with_declaration kinds state.drafts line d ≡ Ok drafts → declaration_step ≡ Ok (works, with_drafts state drafts)
+  recorded drafts h = go (declared_by kinds line d) h
+    where
+      go : (r : Result Draft ExpansionFault) → (r >>= λ draft. with_draft state.drafts draft) ≡ Ok drafts → in_front works (r >>= λ draft. with_draft state.drafts draft >>= λ ds. Ok ([], with_drafts state ds)) ≡ Ok (works, with_drafts state drafts)
+      go (Err e) h = cc
+      go (Ok draft) h = ap (λ q. in_front works (q >>= λ ds. Ok ([], with_drafts state ds))) h
+
+  not_recorded : (f : ExpansionFault) → with_declaration kinds state.drafts line d ≡ Err f → declaration_step ≡ Err f
+  not_recorded f h = go (declared_by kinds line d) h
+    where
+      go : (r : Result Draft ExpansionFault) → (r >>= λ draft. with_draft state.drafts draft) ≡ Err f → in_front works (r >>= λ draft. with_draft state.drafts draft >>= λ ds. Ok ([], with_drafts state ds)) ≡ Err f
+      go (Err e) h = let same : e ≡ f = cc in ap (λ q. Err q) same
+      go (Ok draft) h = ap (λ q. in_front works (q >>= λ ds. Ok ([], with_drafts state ds))) h
+
+  declaration_answer : {X : Type 0} (r : Result X ExpandFault) (drafts : List Draft) → Answers (λ _. drafts) expand_fault_view r (with_declaration kinds state.drafts line d) → Answers (λ _. (works, with_drafts state drafts)) expand_fault_view r declaration_step
+  declaration_answer (Ok x) drafts h = recorded drafts h
+  declaration_answer (Err e) drafts h = go (expand_fault_view e) h
+    where
+      go : (o : Option ExpansionFault) → IfSome o (λ f. with_declaration kinds state.drafts line d ≡ Err f) → IfSome o (λ f. declaration_step ≡ Err f)
+      go None h = tt
+      go (Some f) h = not_recorded f h
+
+  pub declaration_taken : {X : Type 0} (r : Result X ExpandFault) (drafts : List Draft) (item : Item) (left : List Work) (now : State) → item ≡ declared line d → left ≡ works → now ≡ with_drafts state drafts → Answers (λ _. drafts) expand_fault_view r (with_declaration kinds state.drafts line d) → Answers (λ _. (left, now)) expand_fault_view r (in_front works (item_rewriting kinds s state item))
+  declaration_taken r drafts item left now is same new h =
+      subst (λ i. Answers (λ _. (left, now)) expand_fault_view r (in_front works (item_rewriting kinds s state i))) (sym is)
+      (subst (λ n. Answers (λ _. (left, n)) expand_fault_view r declaration_step) (sym new)
+      (subst (λ l. Answers (λ _. (l, with_drafts state drafts)) expand_fault_view r declaration_step) (sym same) (declaration_answer r drafts h)))
 
 -- the same work in another form
 pub work_first : (kinds : List Meaning) (left : ℕ) (ws vs : List Work) (st : State) → ws ≡ vs → all_rewritings kinds left ws st ≡ all_rewritings kinds left vs st

@@ -16,7 +16,7 @@ pub finish-requires : goal.finish-requires
 finish-requires g c =
     let kinds = map (λ k. (goal.UnitKind-dyn g (k.vtable, k.value)).meaning k.value) c.args.kinds.now.list.items in
     let body = ap (λ b. all_rewritings kinds most_steps (statements outside (body_view b)) nothing_yet) c.as_slice.ensures.value in
-    drafts_formed kinds (tree_view c.args.tree.now) (state_view c.in_ok-made.made) (sym body ∙ c.in_ok-made.ensures)
+    record { formed = drafts_formed kinds (tree_view c.args.tree.now) (state_view c.in_ok-made.made) (sym body ∙ c.in_ok-made.ensures) }
 
 pub returns-in_err-made-clause-expansion : goal.returns-in_err-made-clause-expansion
 returns-in_err-made-clause-expansion g c =
