@@ -1,4 +1,5 @@
 pub mod Allowed
+pub mod Bounds
 pub mod Held
 pub mod Shapes
 pub mod Ways

@@ -4,8 +4,9 @@ use Rattle.std.specs.List.{All}
 use Rattle.dn_net.specs.declared.node.Name.{Name}
 use Rattle.dn_net.specs.declared.node.NodeDecl.{NodeDecl}
 use Rattle.dn_net.specs.declared.node.Unit.{Unit as UnitPart}
-use Rattle.dn_net.specs.Chain.{Member, Ends}
+use Rattle.dn_net.specs.Chain.{Member, Ends, Reaches, ReachesWithin}
 use Rattle.dn_net.specs.Decode.{top, is_accepted, unit_at, steps}
+use Rattle.dn_net.specs.Legal.{IsLegalNet}
 use Rattle.dn_net.specs.Names.{end_names}
 use Rattle.dn_kind.specs.declared.rights.Access.{Access}
 use Rattle.dn_kind.specs.declared.unit_kind.Record.{Record}
@@ -115,11 +116,14 @@ pub record IsHeld (net : List NodeDecl) (node slot : ℕ) (r : Record) : Type 0 
       × IsTrue (is_within (unit_shape u) r)
   pub rights : IsTrue (are_rights r.rights)
 
+-- each record stands in a slot of a unit that can hold it
+abbrev pub AreHeld : List NodeDecl → Held → Type 0
+AreHeld net h = (node slot : ℕ) (r : Record) → h node slot ≡ Some r → IsHeld net node slot r
+
 -- Each record that tables hold stands in a slot of a unit that can hold it.
 abbrev pub HeldRecordsFit : Type 0
 HeldRecordsFit = (net : List NodeDecl) (kinds : List Meaning) (words : List (List ℕ)) →
-    All IsLawful kinds → (node slot : ℕ) (r : Record) →
-    record_held net kinds words node slot ≡ Some r → IsHeld net node slot r
+    All IsLawful kinds → AreHeld net (record_held net kinds words)
 
 -- The list of names has exactly those to which a name resolves under records.
 abbrev pub NamesUnderAreResolved : Type 0
@@ -130,3 +134,10 @@ NamesUnderAreResolved = (net : List NodeDecl) (h : Held) (x y : Name) →
 abbrev pub MoreRecordsKeepNames : Type 0
 MoreRecordsKeepNames = (net : List NodeDecl) (h h' : Held) → Extends h h' →
     (x y : Name) → ResolvesUnder net h x y → ResolvesUnder net h' x y
+
+-- In a legal net, under records that its units can hold, what is reached at all is reached within
+-- 259 steps, so that the bound of resolution under records cuts nothing.
+abbrev pub ReachUnderIsWithin : Type 0
+ReachUnderIsWithin = (net : List NodeDecl) (h : Held) → IsLegalNet net → AreHeld net h →
+    (x y : Name) → Reaches (StepUnder net h) x y →
+    ReachesWithin (StepUnder net h) step_limit_under x y

@@ -3,6 +3,7 @@ use Rattle.std.specs.Prelude.{◌≡◌, ℕ, ◌+◌, ◌<◌, ◌↔◌, Bool,
 use Rattle.dn_net.specs.declared.node.NodeDecl.{NodeDecl}
 use Rattle.dn_net.specs.declared.node.Unit.{Unit as UnitPart}
 use Rattle.dn_net.specs.Decode.{unit_at}
+use Rattle.dn_net.specs.Legal.{IsLegalNet}
 use Rattle.dn_kind.specs.declared.shape.Shape.{Shape}
 use Rattle.dn_kind.specs.declared.units.UnitFault.{UnitFault}
 use Rattle.dn_kind.specs.declared.units.UnitFault.TheVariants.{UnitShape}
@@ -62,3 +63,8 @@ abbrev pub ShapeFaultIsFirst : Type 0
 ShapeFaultIsFirst = (kinds : List Meaning) (net : List NodeDecl) →
     ((shape_fault kinds net ≡ None) ↔ KeepsUnitShape kinds net)
     × ((n : ℕ) → shape_fault kinds net ≡ Some n → IsFirstMisshapen kinds net n)
+
+-- a net that is legal with a list of kinds: each unit has a kind that fits its shape, too
+pub record IsLegalWith (kinds : List Meaning) (net : List NodeDecl) : Type 0 where
+  pub legal : IsLegalNet net
+  pub shaped : KeepsUnitShape kinds net

@@ -31,22 +31,28 @@ PassesIn net h (suc k) x y slots =
 abbrev pub Passes : List NodeDecl → Held → Name → Name → List Slot → Type 0
 Passes net h x y slots = (k : ℕ) × PassesIn net h k x y slots
 
--- A name that reaches a unit under records has one way to it: of two chains from the name, of which
--- the first ends in a unit, one goes on where the other ends.
-abbrev pub OneWayToUnit : Type 0
-OneWayToUnit = (net : List NodeDecl) (h : Held) → NoFork net →
-    (x u y : Name) (j k : ℕ) → IsTrue (is_stop net u) →
+-- a name that reaches a unit has one way to it: of two chains from the name, of which the first ends
+-- in a unit, one goes on where the other ends
+abbrev pub HasOneWay : List NodeDecl → Held → Type 0
+HasOneWay net h = (x u y : Name) (j k : ℕ) → IsTrue (is_stop net u) →
     IsChain (StepUnder net h) j x u → IsChain (StepUnder net h) k x y →
     ((d : ℕ) × (j ≡ k + d) × IsChain (StepUnder net h) d y u)
     ⊎ ((d : ℕ) × (k ≡ j + d) × IsChain (StepUnder net h) d u y)
 
--- In a legal net each name that reaches a unit under records has one way to it.
+-- a name has one row of slots: to whatever accepted names it comes, and by whatever chains, it goes
+-- through the same slots in the same order
+abbrev pub HasOneRow : List NodeDecl → Held → Type 0
+HasOneRow net h = (x y z : Name) (row other : List Slot) →
+    IsTrue (is_accepted net y) → IsTrue (is_accepted net z) →
+    Passes net h x y row → Passes net h x z other → row ≡ other
+
+-- Where no name forks on its way to a unit, each has one way to it under records.
+abbrev pub OneWayToUnit : Type 0
+OneWayToUnit = (net : List NodeDecl) (h : Held) → NoFork net → HasOneWay net h
+
+-- So it is in a legal net.
 abbrev pub LegalOneWayToUnit : Type 0
-LegalOneWayToUnit = (net : List NodeDecl) (h : Held) → IsLegalNet net →
-    (x u y : Name) (j k : ℕ) → IsTrue (is_stop net u) →
-    IsChain (StepUnder net h) j x u → IsChain (StepUnder net h) k x y →
-    ((d : ℕ) × (j ≡ k + d) × IsChain (StepUnder net h) d y u)
-    ⊎ ((d : ℕ) × (k ≡ j + d) × IsChain (StepUnder net h) d u y)
+LegalOneWayToUnit = (net : List NodeDecl) (h : Held) → IsLegalNet net → HasOneWay net h
 
 -- Each chain goes on through a row of slots, and each row of slots that is gone through is a chain.
 abbrev pub ChainPassesSlots : Type 0
@@ -54,17 +60,11 @@ ChainPassesSlots = (net : List NodeDecl) (h : Held) (k : ℕ) (x y : Name) →
     (IsChain (StepUnder net h) k x y → (slots : List Slot) × PassesIn net h k x y slots)
     × ((slots : List Slot) → PassesIn net h k x y slots → IsChain (StepUnder net h) k x y)
 
--- So a name has one row of slots: to whatever accepted names it comes, and by whatever chains, it
--- goes through the same slots in the same order.
+-- Where no name forks on its way to a unit, and each node is formed, each name has one row of slots.
 abbrev pub OneRowOfSlots : Type 0
 OneRowOfSlots = (net : List NodeDecl) (h : Held) → IsTrue (list_all is_formed net) → NoFork net →
-    (x y z : Name) (row other : List Slot) →
-    IsTrue (is_accepted net y) → IsTrue (is_accepted net z) →
-    Passes net h x y row → Passes net h x z other → row ≡ other
+    HasOneRow net h
 
--- In a legal net a name has one row of slots.
+-- So it is in a legal net.
 abbrev pub LegalOneRowOfSlots : Type 0
-LegalOneRowOfSlots = (net : List NodeDecl) (h : Held) → IsLegalNet net →
-    (x y z : Name) (row other : List Slot) →
-    IsTrue (is_accepted net y) → IsTrue (is_accepted net z) →
-    Passes net h x y row → Passes net h x z other → row ≡ other
+LegalOneRowOfSlots = (net : List NodeDecl) (h : Held) → IsLegalNet net → HasOneRow net h

@@ -2,7 +2,7 @@
 
 ghost use Rattle.std.specs.Prelude.{◌≡◌};
 ghost use Rattle.dn_kind.specs.Cleared.{ClearedTablesAllow, LawOfAccess};
-ghost use Rattle.dn_kind.specs.Tables.{HeldRecordsFit, MoreRecordsKeepNames, NamesUnderAreResolved, step_limit_under};
+ghost use Rattle.dn_kind.specs.Tables.{HeldRecordsFit, MoreRecordsKeepNames, NamesUnderAreResolved, ReachUnderIsWithin, step_limit_under};
 ghost use Rattle.dn_kind.specs.Units.{ShapeFaultIsFirst};
 ghost use Rattle.dn_kind.specs.Ways.{ChainPassesSlots, LegalOneRowOfSlots, LegalOneWayToUnit, OneRowOfSlots, OneWayToUnit};
 
@@ -16,6 +16,11 @@ pub fn shape_fault_is_first()
 /// writing or both.
 pub fn held_records_fit()
     ensures { HeldRecordsFit }
+{}
+
+/// In a legal net, under records that its units can hold, what is reached at all is reached within 259 steps.
+pub fn reach_under_is_within()
+    ensures { ReachUnderIsWithin }
 {}
 
 /// Resolution under records follows chains of at most 259 steps.

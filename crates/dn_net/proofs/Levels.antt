@@ -7,7 +7,7 @@ use Rattle.dn_net.specs.declared.node.Name.{Name}
 use Rattle.dn_net.specs.declared.node.NodeDecl.{NodeDecl}
 use Rattle.dn_net.specs.Chain.{Member}
 use Rattle.dn_net.specs.Decode.{top, within, refers_within}
-use Rattle.dn_net.specs.Walks.{Choice, Leads, Follows, IsLive, moved_name, whole, Leg, legs_of, Walk, last_out, meets, greater, lesser_of, onto, extensions, still, stills, level}
+use Rattle.dn_net.specs.Walks.{Choice, Leads, Follows, IsLive, moved_name, whole, Leg, legs_of, Walk, last_out, meets, greater, lesser_of, onto, extended, still, stills, level}
 use Rattle.dn_net.specs.Rules.{KeepsNodeRules}
 use Rattle.dn_net.proofs.Least.{within_from, within_to, true_both, both_true}
 use Rattle.dn_net.proofs.Places.{list_all-at}
@@ -179,7 +179,7 @@ module _ (net : List NodeDecl) (checked : KeepsNodeRules net) where
       let l' : 0 + r.0 < length net = omega arith in
       subst (λ v. IsRow net 0 v) r.2 (still_is_row (0 + r.0) l')
   level_is_row (suc k) w m =
-      let p = member_flat_map (extensions net) (level net k) w m in
+      let p = member_flat_map (extended net) (level net k) w m in
       let v = p.0 in
       let q = map_member (onto v) (filter (meets v) (legs_of (slice_get net v.to.node))) w p.2 in
       let f = member_filter (meets v) (legs_of (slice_get net v.to.node)) q.0 q.1 in
@@ -210,7 +210,7 @@ module _ (net : List NodeDecl) (checked : KeepsNodeRules net) where
       let m1 : f.0.lo ≤ w.to.addr + (w.span.hi - w.span.lo) = omega arith in
       let met : IsTrue (meets w l) = true_both (nat_le w.to.addr f.0.hi) (nat_le f.0.lo (last_out w)) (le-leb w.to.addr f.0.hi m0) (le-leb f.0.lo (last_out w) m1) in
       let leg : Member l (legs_of (slice_get net w.to.node)) = leg_of_leads (slice_get net w.to.node) (λ n e. apart_at w.to.node n e) c f.0 f.1 f.2 in
-      let next : Member (onto w l) (level net (suc j)) = flat_map_member (extensions net) (level net j) w (onto w l) m (member_map (onto w) (filter (meets w) (legs_of (slice_get net w.to.node))) l (filter_member (meets w) (legs_of (slice_get net w.to.node)) l leg met)) in
+      let next : Member (onto w l) (level net (suc j)) = flat_map_member (extended net) (level net j) w (onto w l) m (member_map (onto w) (filter (meets w) (legs_of (slice_get net w.to.node))) l (filter_member (meets w) (legs_of (slice_get net w.to.node)) l leg met)) in
       let low : w.span.hi ≤ top = r.low in
       let below : a ≤ top = omega arith in
       let z : Name = moved_name (a - w.span.lo) w.to in

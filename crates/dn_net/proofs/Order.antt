@@ -7,7 +7,7 @@ use Rattle.dn_net.specs.declared.node.Entry.{Entry}
 use Rattle.dn_net.specs.declared.node.NodeDecl.{NodeDecl}
 use Rattle.dn_net.specs.Chain.{Member}
 use Rattle.dn_net.specs.Decode.{within}
-use Rattle.dn_net.specs.Walks.{Choice, in_some_entry, gaps, Leg, dest_legs, entry_legs, gap_legs, legs, legs_of, in_order, Walk, meets, onto, extensions, still, stills, level, starts_before, live_walks, EarlierDest, ChooseBefore, SameSpan, Precedes}
+use Rattle.dn_net.specs.Walks.{Choice, in_some_entry, gaps, Leg, dest_legs, entry_legs, gap_legs, legs, legs_of, in_order, Walk, meets, onto, extended, still, stills, level, starts_before, live_walks, EarlierDest, ChooseBefore, SameSpan, Precedes}
 use Rattle.dn_net.specs.WalkRules.{LiveWalksAreInOrder}
 use Rattle.dn_net.specs.Rules.{KeepsNodeRules}
 use Rattle.dn_net.proofs.Least.{within_from, within_to, either_true, both_true, true_left, true_right, true_both}
@@ -163,7 +163,7 @@ record GoesOn (net : List NodeDecl) (w u : Walk) : Type 0 where
   met : meets w leg ≡ true
   same : onto w leg ≡ u
 
-goes_on_by : (net : List NodeDecl) (w u : Walk) → Member u (extensions net w) → GoesOn net w u
+goes_on_by : (net : List NodeDecl) (w u : Walk) → Member u (extended net w) → GoesOn net w u
 goes_on_by net w u m =
     let q = map_member (onto w) (filter (meets w) (legs_of (slice_get net w.to.node))) u m in
     let f = member_filter (meets w) (legs_of (slice_get net w.to.node)) q.0 q.1 in
@@ -177,8 +177,8 @@ module _ (net : List NodeDecl) (checked : KeepsNodeRules net) where
   inside k w m l n met a h = onto_within net checked k w (level_is_row net checked k w m) l (leads_of_leg (slice_get net w.to.node) (λ n e. apart_at w.to.node n e) l n) met a h
 
   -- the walks that go on from one walk
-  extensions_ordered : (k : ℕ) (w : Walk) → Member w (level net k) → Pairwise WalkBefore (extensions net w)
-  extensions_ordered k w m = pairs_map WalkBefore (onto w) (filter (meets w) (legs_of (slice_get net w.to.node))) (pairs_more LegBefore (λ l n. WalkBefore (onto w l) (onto w n)) (filter (meets w) (legs_of (slice_get net w.to.node))) each (pairs_filter LegBefore (meets w) (legs_of (slice_get net w.to.node)) (legs_of_ordered (slice_get net w.to.node) (λ n e. apart_at w.to.node n e))))
+  extended_ordered : (k : ℕ) (w : Walk) → Member w (level net k) → Pairwise WalkBefore (extended net w)
+  extended_ordered k w m = pairs_map WalkBefore (onto w) (filter (meets w) (legs_of (slice_get net w.to.node))) (pairs_more LegBefore (λ l n. WalkBefore (onto w l) (onto w n)) (filter (meets w) (legs_of (slice_get net w.to.node))) each (pairs_filter LegBefore (meets w) (legs_of (slice_get net w.to.node)) (legs_of_ordered (slice_get net w.to.node) (λ n e. apart_at w.to.node n e))))
     where
       each : (l n : Leg) → Member l (filter (meets w) (legs_of (slice_get net w.to.node))) → Member n (filter (meets w) (legs_of (slice_get net w.to.node))) → LegBefore l n → WalkBefore (onto w l) (onto w n)
       each l n x y before e a u v =
@@ -190,9 +190,9 @@ module _ (net : List NodeDecl) (checked : KeepsNodeRules net) where
 
   pub level_ordered : (k : ℕ) → Pairwise WalkBefore (level net k)
   level_ordered zero = stills_ordered 0 net
-  level_ordered (suc k) = pairs_flat_map WalkBefore WalkBefore (extensions net) (level net k) (level_ordered k) (extensions_ordered k) across
+  level_ordered (suc k) = pairs_flat_map WalkBefore WalkBefore (extended net) (level net k) (level_ordered k) (extended_ordered k) across
     where
-      across : (w v u x : Walk) → Member w (level net k) → Member v (level net k) → WalkBefore w v → Member u (extensions net w) → Member x (extensions net v) → WalkBefore u x
+      across : (w v u x : Walk) → Member w (level net k) → Member v (level net k) → WalkBefore w v → Member u (extended net w) → Member x (extended net v) → WalkBefore u x
       across w v u x m n before p q =
           let r = goes_on_by net w u p in
           let s = goes_on_by net v x q in

@@ -52,12 +52,12 @@ leads_sound net u w h = by (unit_at net u) refl h
         let m = any_member (port_leads net w part.reach) part.ports k in
         let a = some_below (λ a. reaches_unit net w (record { node = m.0; addr = a })) (2 ^ part.reach) m.2 in
         let r = reaching net w (record { node = m.0; addr = a.0 }) a.2 in
-        (part, m.0, a.0, r.0, e, m.1, a.1, r.2, r.1, r.3)
+        record { part = part; port = m.0; addr = a.0; stop = r.0; is_part = e; has_port = m.1; below = a.1; reaches = r.2; is_stop = r.1; is_end = r.3 }
 
 pub leads_found : (net : List NodeDecl) → IsShallow net → (u w : ℕ) → LeadsTo net u w → unit_leads net u w ≡ true
 leads_found net shallow u w l =
-    let port = port_of l.0 l.1 l.2 l.3 l.6 l.7 l.8 l.9 in
-    ap (part_leads net w) l.4 ∙ member_any (port_leads net w l.0.reach) l.0.ports l.1 l.5 port
+    let port = port_of l.part l.port l.addr l.stop l.below l.reaches l.is_stop l.is_end in
+    ap (part_leads net w) l.is_part ∙ member_any (port_leads net w l.part.reach) l.part.ports l.port l.has_port port
   where
     port_of : (part : UnitPart) (port a : ℕ) (s : Name) → a < 2 ^ part.reach → Reaches (Step net) (record { node = port; addr = a }) s → IsTrue (is_stop net s) → s.node ≡ w → port_leads net w part.reach port ≡ true
     port_of part port a s below r is e = below_some (λ a. reaches_unit net w (record { node = port; addr = a })) (2 ^ part.reach) a below (reached net shallow w (record { node = port; addr = a }) s is r e)

@@ -14,7 +14,7 @@ unfoldable pub first_below : (ℕ → Bool) → ℕ → Option ℕ
 first_below p zero = None
 first_below p (suc n) = or_else (first_below p n) (if p n then Some n else None)
 
--- the least name of a net that passes a test: its nodes in order, and of each its addresses
+-- the least name of one node that passes a test, by its addresses
 abbrev pub least_in : (Name → Bool) → ℕ → Option Name
 least_in p n = option_map (λ a. record { node = n; addr = a }) (first_below (λ a. p (record { node = n; addr = a })) (top + 1))
 
@@ -23,7 +23,7 @@ abbrev pub least_below : (Name → Bool) → ℕ → Option Name
 least_below p zero = None
 least_below p (suc n) = or_else (least_below p n) (least_in p n)
 
--- the least name of a net that passes a test
+-- the least name of a net that passes a test: its nodes in order, and of each its addresses
 abbrev pub least_name : List NodeDecl → (Name → Bool) → Option Name
 least_name net p = least_below p (length net)
 

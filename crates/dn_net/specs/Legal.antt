@@ -24,8 +24,8 @@ pub record KeepsEndlessRules (net : List NodeDecl) : Type 0 where
   pub few : length (live_walks net step_limit) ≤ walk_limit
   pub shallow : IsShallow net
 
--- what the rules on units leave of a net: a name that reaches a unit has at most one step, and every row of units has at most
--- three, whose slots multiply to at most 1,048,576
+-- what the rules on units leave of a net: a name that reaches a unit has at most one step, and
+-- every row of units has at most three, whose slots multiply to at most 1,048,576
 pub record KeepsUnitRules (net : List NodeDecl) : Type 0 where
   pub no_fork : NoFork net
   pub rows : HasShortRows net
@@ -38,15 +38,16 @@ pub record IsLegalNet (net : List NodeDecl) : Type 0 where
   pub walks : KeepsEndlessRules net
   pub units : KeepsUnitRules net
 
--- A net with each node to which it refers breaks no rule, and its units have plain shapes, exactly where it is legal.
+-- A net with each node to which it refers breaks no rule, and its units have plain shapes, exactly
+-- where it is legal.
 abbrev pub LegalBreaksNoRule : Type 0
 LegalBreaksNoRule = (net : List NodeDecl) → IsNet net → IsTrue (is_closed net) →
     ((node_fault net ≡ None) × IsTrue (has_plain_units net) × (walk_fault net ≡ None))
     ↔ IsLegalNet net
 
--- The limits in numbers: the last address is 2^56 - 1, a net has at most 1,024 nodes, a chain that resolution follows has at
--- most 65 steps, so that a path has 66 names, there are at most 1,048,576 live walks, and the slots of a row of units multiply
--- to at most 1,048,576.
+-- The limits in numbers: the last address is 2^56 - 1, a net has at most 1,024 nodes, a chain that
+-- resolution follows has at most 65 steps, so that a path has 66 names, there are at most 1,048,576
+-- live walks, and the slots of a row of units multiply to at most 1,048,576.
 pub record AreLimits : Type 0 where
   pub last_address : top ≡ 72057594037927935
   pub nodes : node_limit ≡ 1024

@@ -1,5 +1,5 @@
--- The rules on units that walks meet: `Fork`, on names that reach a unit in several ways, and `Chain`, on units that lead to
--- one another; and the laws that tie them to chains of steps.
+-- The rules on units that walks meet: `Fork`, on names that reach a unit in several ways, and
+-- `Chain`, on units that lead to one another; and the laws that tie them to chains of steps.
 use Rattle.std.specs.Prelude.{◌≡◌, ℕ, zero, suc, ◌*◌, ◌^◌, ◌<◌, ◌≤◌, ◌⊎◌, Bool, false, if◌then◌else◌, ◌&&◌, nat_lt, ◌==◌, List, [], ◌∷◌, map, filter, length, Option, Some, None, option_map, IsSome, IsTrue}
 use Rattle.std.specs.List.{flat_map, list_any}
 use Rattle.std.specs.Option.{is_some}
@@ -27,7 +27,8 @@ abbrev pub fork_at : List NodeDecl → Option Name → Option Fork
 fork_at net None = None
 fork_at net (Some x) = option_map (λ s. record { name = x; unit = s.node }) (first_of (stop_names net x))
 
--- Fork: the least name with two or more destinations that reaches a unit, and the least unit that it reaches
+-- Fork: the least name with two or more destinations that reaches a unit, and the least unit that
+-- it reaches
 unfoldable pub least_fork : List NodeDecl → Option Fork
 least_fork net = fork_at net (least_name net (is_fork net))
 
@@ -64,8 +65,8 @@ unit_numbers net = units_from 0 net
 abbrev pub next_units : List NodeDecl → ℕ → List ℕ
 next_units net u = filter (unit_leads net u) (unit_numbers net)
 
--- the rows of so many units of which the first is one of these and each is one of those next to the one before it, in order
--- of their numbers
+-- the rows of so many units of which the first is one of these and each is one of those next to the
+-- one before it, in order of their numbers
 unfoldable pub rows_from : (ℕ → List ℕ) → ℕ → List ℕ → List (List ℕ)
 rows_from next zero first = [] ∷ []
 rows_from next (suc k) first = flat_map (λ u. map (λ us. u ∷ us) (rows_from next k (next u))) first
@@ -101,8 +102,8 @@ first_row (us ∷ rows) = Some us
 abbrev pub large_row : List NodeDecl → ℕ → Option (List ℕ)
 large_row net k = first_row (filter (is_large net) (unit_rows net k))
 
--- Chain: the first row of four units; where there is none, the first row of one unit, or else of two, or else of three, whose
--- slots multiply to more than the limit
+-- Chain: the first row of four units; where there is none, the first row of one unit, or else of
+-- two, or else of three, whose slots multiply to more than the limit
 unfoldable pub first_chain : List NodeDecl → Option (List ℕ)
 first_chain net =
     or_else (first_row (unit_rows net 4))
@@ -134,13 +135,19 @@ abbrev pub NoFork : List NodeDecl → Type 0
 NoFork net = (x s : Name) → IsTrue (is_stop net s) → Reaches (Step net) x s →
     length (steps net x) ≤ 1
 
--- a unit leads to another: for some port of it and some address below 2^reach, the name of that address in the port's node
--- reaches a name in the other
-abbrev pub LeadsTo : List NodeDecl → ℕ → ℕ → Type 0
-LeadsTo net u w =
-    (part : UnitPart) × (port : ℕ) × (a : ℕ) × (s : Name)
-    × (unit_at net u ≡ Some part) × Member port part.ports × (a < 2 ^ part.reach)
-    × Reaches (Step net) (record { node = port; addr = a }) s × IsTrue (is_stop net s) × (s.node ≡ w)
+-- a unit leads to another: for some port of it and some address below 2^reach, the name of that
+-- address in the port's node reaches a name in the other
+pub record LeadsTo (net : List NodeDecl) (u w : ℕ) : Type 0 where
+  pub part : UnitPart
+  pub port : ℕ
+  pub addr : ℕ
+  pub stop : Name
+  pub is_part : unit_at net u ≡ Some part
+  pub has_port : Member port part.ports
+  pub below : addr < 2 ^ part.reach
+  pub reaches : Reaches (Step net) (record { node = port; addr = addr }) stop
+  pub is_stop : IsTrue (is_stop net stop)
+  pub is_end : stop.node ≡ w
 
 -- the unit leads to the first of a row
 abbrev pub LeadsOn : List NodeDecl → ℕ → List ℕ → Type 0
@@ -171,7 +178,8 @@ pub record IsLargeRow (net : List NodeDecl) (us : List ℕ) : Type 0 where
   pub short : length us ≤ 3
   pub large : slots_limit < slots_product net us
 
--- no row of four units is there, and this is the first such row: the shorter first, and then by their numbers
+-- no row of four units is there, and this is the first such row: the shorter first, and then by
+-- their numbers
 pub record IsFirstLarge (net : List NodeDecl) (us : List ℕ) : Type 0 where
   pub no_four : (vs : List ℕ) → IsUnitRow net vs → length vs ≡ 4 → ⊥
   pub row : IsLargeRow net us
@@ -183,8 +191,8 @@ pub record HasShortRows (net : List NodeDecl) : Type 0 where
   pub short : (us : List ℕ) → IsUnitRow net us → length us ≤ 3
   pub small : (us : List ℕ) → IsUnitRow net us → slots_product net us ≤ slots_limit
 
--- The row that is carried is the first of four units, or else the first of one to three whose slots multiply to more than the
--- limit; where there is none, every row is short and small.
+-- The row that is carried is the first of four units, or else the first of one to three whose slots
+-- multiply to more than the limit; where there is none, every row is short and small.
 abbrev pub ChainIsFirst : Type 0
 ChainIsFirst = (net : List NodeDecl) → IsShallow net →
     ((us : List ℕ) → first_chain net ≡ Some us → IsFirstOfFour net us ⊎ IsFirstLarge net us)

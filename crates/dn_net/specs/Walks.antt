@@ -150,8 +150,8 @@ onto w l = cut (greater w.to.addr l.block.lo) (lesser_of (last_out w) l.block.hi
     }
 
 -- the walks that go on from a walk by one more choice
-abbrev pub extensions : List NodeDecl → Walk → List Walk
-extensions net w = map (onto w) (filter (meets w) (legs_of (slice_get net w.to.node)))
+abbrev pub extended : List NodeDecl → Walk → List Walk
+extended net w = map (onto w) (filter (meets w) (legs_of (slice_get net w.to.node)))
 
 -- the walk of no choice from a node: each address comes to itself
 abbrev pub still : ℕ → Walk
@@ -165,7 +165,7 @@ stills n (d ∷ ds) = still n ∷ stills (suc n) ds
 -- the live walks of so many choices: each of one fewer goes on
 abbrev pub level : List NodeDecl → ℕ → List Walk
 level net zero = stills 0 net
-level net (suc k) = flat_map (extensions net) (level net k)
+level net (suc k) = flat_map (extended net) (level net k)
 
 -- walks of one length are ordered by their starts, then by the first and the last addresses of their spans
 abbrev pub starts_before : Walk → Walk → Bool

@@ -7,7 +7,7 @@ use Rattle.dn_net.specs.declared.node.Name.{Name}
 use Rattle.dn_net.specs.declared.node.NodeDecl.{NodeDecl}
 use Rattle.dn_net.specs.Chain.{Member}
 use Rattle.dn_net.specs.Decode.{top}
-use Rattle.dn_net.specs.Walks.{Leg as NetLeg, legs_of, in_order, Walk, meets, onto, extensions, stills, level, starts_before, live_walks}
+use Rattle.dn_net.specs.Walks.{Leg as NetLeg, legs_of, in_order, Walk, meets, onto, extended, stills, level, starts_before, live_walks}
 use Rattle.dn_net.specs.WalkRules.{least_name, comes_to, comes_back, goes_on}
 use Rattle.dn_net.specs.Rules.{KeepsNodeRules}
 use Rattle.dn_net.proofs.Least.{within_to, within_from, true_both, both_true, either_true, true_left, true_right}
@@ -15,7 +15,7 @@ use Rattle.dn_walk.specs.declared.leg.Leg.{Leg}
 use Rattle.dn_walk.specs.declared.way.Goal.TheVariants.{Anywhere, To}
 use Rattle.dn_walk.specs.Rows.{Told, told_by_walk}
 use Rattle.dn_walk.specs.Legs.{told_leg, told_legs}
-use Rattle.dn_walk.specs.Levels.{told_meets, told_onto, told_on, told_extensions, told_still, told_stills, told_level, told_before, told_walks}
+use Rattle.dn_walk.specs.Levels.{told_meets, told_onto, told_on, told_extended, told_still, told_stills, told_level, told_before, told_walks}
 use Rattle.dn_walk.specs.Ways.{least_of, start_name, start_names, is_cyclic, told_leads, level_leads, has_addr, meets_goal}
 use Rattle.dn_net.proofs.Cycles.{IsLed, HasName, comes_to_is_row, goes_on_is_row}
 use Rattle.dn_net.proofs.Firsts.{NoLater, lower_addr, IsLeastNameOr, least_name_is}
@@ -60,8 +60,8 @@ each_onto : (w : Walk) (ls : List NetLeg) → map (told_onto (told_by_walk w)) (
 each_onto w [] = refl
 each_onto w (l ∷ ls) = ap (λ t. t ∷ map (told_onto (told_by_walk w)) (map told_leg ls)) (onto_told w l) ∙ ap (λ x. told_by_walk (onto w l) ∷ x) (each_onto w ls)
 
-extensions_told : (net : List NodeDecl) (w : Walk) → told_extensions (map told_legs net) (told_by_walk w) ≡ map told_by_walk (extensions net w)
-extensions_told net w =
+extended_told : (net : List NodeDecl) (w : Walk) → told_extended (map told_legs net) (told_by_walk w) ≡ map told_by_walk (extended net w)
+extended_told net w =
     ap (told_on' (told_by_walk w)) (legs_told net w.to.node)
     ∙ ap (map (told_onto (told_by_walk w))) (met_told w (legs_of (slice_get net w.to.node)))
     ∙ each_onto w (filter (meets w) (legs_of (slice_get net w.to.node)))
@@ -69,13 +69,13 @@ extensions_told net w =
     told_on' : Told → List Leg → List Told
     told_on' t ls = told_on ls t
 
-flat_told : (net : List NodeDecl) (ws : List Walk) → flat_map (told_extensions (map told_legs net)) (map told_by_walk ws) ≡ map told_by_walk (flat_map (extensions net) ws)
+flat_told : (net : List NodeDecl) (ws : List Walk) → flat_map (told_extended (map told_legs net)) (map told_by_walk ws) ≡ map told_by_walk (flat_map (extended net) ws)
 flat_told net [] = refl
-flat_told net (w ∷ ws) = ap (λ x. x ++ flat_map (told_extensions (map told_legs net)) (map told_by_walk ws)) (extensions_told net w) ∙ ap (λ x. map told_by_walk (extensions net w) ++ x) (flat_told net ws) ∙ sym (map-append told_by_walk (extensions net w) (flat_map (extensions net) ws))
+flat_told net (w ∷ ws) = ap (λ x. x ++ flat_map (told_extended (map told_legs net)) (map told_by_walk ws)) (extended_told net w) ∙ ap (λ x. map told_by_walk (extended net w) ++ x) (flat_told net ws) ∙ sym (map-append told_by_walk (extended net w) (flat_map (extended net) ws))
 
 pub level_told : (net : List NodeDecl) (k : ℕ) → told_level (map told_legs net) k ≡ map told_by_walk (level net k)
 level_told net zero = level-zero (map told_legs net) ∙ told_firsts 0 net
-level_told net (suc k) = level-suc (map told_legs net) k ∙ ap (flat_map (told_extensions (map told_legs net))) (level_told net k) ∙ flat_told net (level net k)
+level_told net (suc k) = level-suc (map told_legs net) k ∙ ap (flat_map (told_extended (map told_legs net))) (level_told net k) ∙ flat_told net (level net k)
 
 pub walks_told : (net : List NodeDecl) (k : ℕ) → told_walks (map told_legs net) k ≡ map told_by_walk (live_walks net k)
 walks_told net zero = walks-zero (map told_legs net)

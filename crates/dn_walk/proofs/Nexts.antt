@@ -124,14 +124,14 @@ module _ (net : List NodeDecl) (checked : KeepsNodeRules net) (shallow : IsShall
           let low : t.lo < 2 ^ part.reach = ltb-true t.lo (2 ^ part.reach) q.1 in
           let there : is_some (unit_at net v.to.node) ≡ true = ap (λ n. is_some (unit_at net n)) end ∙ unit in
           let reached : Reaches (Step net) (record { node = port; addr = v.span.lo }) s = subst (λ n. Reaches (Step net) (record { node = n; addr = v.span.lo }) s) start d.0 in
-          (part, port, v.span.lo, s, at, m, subst (λ n. n < 2 ^ part.reach) (sym lo) low, reached, unit_stop net s there d.1, end)
+          record { part = part; port = port; addr = v.span.lo; stop = s; is_part = at; has_port = m; below = subst (λ n. n < 2 ^ part.reach) (sym lo) low; reaches = reached; is_stop = unit_stop net s there d.1; is_end = end }
 
   -- a port that is the other unit
   port_led : (u w : ℕ) (part : UnitPart) → unit_at net u ≡ Some part → is_some (unit_at net w) ≡ true → (port : ℕ) → Member port part.ports → port ≡ w → LeadsTo net u w
   port_led u w part at unit port m e =
       let s : Name = record { node = port; addr = 0 } in
       let there : is_some (unit_at net port) ≡ true = ap (λ n. is_some (unit_at net n)) e ∙ unit in
-      (part, port, 0, s, at, m, zero_below part.reach, (zero, refl), unit_stop net s there (omega arith), e)
+      record { part = part; port = port; addr = 0; stop = s; is_part = at; has_port = m; below = zero_below part.reach; reaches = (zero, refl); is_stop = unit_stop net s there (omega arith); is_end = e }
     where
       zero_below : (k : ℕ) → 0 < 2 ^ k
       zero_below k = pow_pos k
@@ -148,34 +148,34 @@ module _ (net : List NodeDecl) (checked : KeepsNodeRules net) (shallow : IsShall
 
   -- and what is so is told
   leads_to_told : (u w : ℕ) (part : UnitPart) → unit_at net u ≡ Some part → LeadsTo net u w → leads_by_rows (map told_by_walk (live_walks net step_limit)) part w ≡ true
-  leads_to_told u w part at l = member_any (λ p. (p == w) || list_any (row_leads p w (2 ^ part.reach)) rows) part.ports l.1 port (by (arrival net checked shallow x l.3 l.7))
+  leads_to_told u w part at l = member_any (λ p. (p == w) || list_any (row_leads p w (2 ^ part.reach)) rows) part.ports l.port port (by (arrival net checked shallow x l.stop l.reaches))
     where
       rows : List Told
       rows = map told_by_walk (live_walks net step_limit)
 
       x : Name
-      x = record { node = l.1; addr = l.2 }
+      x = record { node = l.port; addr = l.addr }
 
-      same : l.0 ≡ part
-      same = let e : Some l.0 ≡ Some part = sym l.4 ∙ at in cc
+      same : l.part ≡ part
+      same = let e : Some l.part ≡ Some part = sym l.is_part ∙ at in cc
 
-      port : Member l.1 part.ports
-      port = subst (λ (p : UnitPart). Member l.1 p.ports) same l.5
+      port : Member l.port part.ports
+      port = subst (λ (p : UnitPart). Member l.port p.ports) same l.has_port
 
-      below : l.2 < 2 ^ part.reach
-      below = subst (λ (p : UnitPart). l.2 < 2 ^ p.reach) same l.6
+      below : l.addr < 2 ^ part.reach
+      below = subst (λ (p : UnitPart). l.addr < 2 ^ p.reach) same l.below
 
-      by : (x ≡ l.3) ⊎ ((v : Walk) × Arrives net x l.3 v) → ((l.1 == w) || list_any (row_leads l.1 w (2 ^ part.reach)) rows) ≡ true
-      by (inl e) = or_left (l.1 == w) (list_any (row_leads l.1 w (2 ^ part.reach)) rows) (eq-eqb l.1 w (ap (λ (n : Name). n.node) e ∙ l.9))
+      by : (x ≡ l.stop) ⊎ ((v : Walk) × Arrives net x l.stop v) → ((l.port == w) || list_any (row_leads l.port w (2 ^ part.reach)) rows) ≡ true
+      by (inl e) = or_left (l.port == w) (list_any (row_leads l.port w (2 ^ part.reach)) rows) (eq-eqb l.port w (ap (λ (n : Name). n.node) e ∙ l.is_end))
       by (inr r) =
           let v : Walk = r.0 in
           let a = r.1 in
-          let lo : v.span.lo ≤ l.2 = (within_to l.2 v.span a.inside).0 in
-          let end : v.to.node ≡ w = ap (λ (n : Name). n.node) a.to ∙ l.9 in
+          let lo : v.span.lo ≤ l.addr = (within_to l.addr v.span a.inside).0 in
+          let end : v.to.node ≡ w = ap (λ (n : Name). n.node) a.to ∙ l.is_end in
           let low : v.span.lo < 2 ^ part.reach = omega (arith, below) in
-          or_right (l.1 == w) (list_any (row_leads l.1 w (2 ^ part.reach)) rows)
-          (member_any (row_leads l.1 w (2 ^ part.reach)) rows (told_by_walk v) (member_map told_by_walk (live_walks net step_limit) v a.listed)
-          (and_from (v.start == l.1) ((v.to.node == w) && nat_lt v.span.lo (2 ^ part.reach)) (eq-eqb v.start l.1 a.start)
+          or_right (l.port == w) (list_any (row_leads l.port w (2 ^ part.reach)) rows)
+          (member_any (row_leads l.port w (2 ^ part.reach)) rows (told_by_walk v) (member_map told_by_walk (live_walks net step_limit) v a.listed)
+          (and_from (v.start == l.port) ((v.to.node == w) && nat_lt v.span.lo (2 ^ part.reach)) (eq-eqb v.start l.port a.start)
           (and_from (v.to.node == w) (nat_lt v.span.lo (2 ^ part.reach)) (eq-eqb v.to.node w end) (lt-ltb v.span.lo (2 ^ part.reach) low))))
 
   both_tests : (a b : Bool) → (a ≡ true → b ≡ true) → (b ≡ true → a ≡ true) → a ≡ b

@@ -12,7 +12,7 @@ use Rattle.dn_walk.specs.declared.leg.Leg.{Leg}
 use Rattle.dn_walk.specs.declared.walks.WalkRow.{WalkRow}
 use Rattle.dn_walk.specs.Rows.{Told, row_view}
 use Rattle.dn_walk.specs.Legs.{AreLegs, IsLegOf}
-use Rattle.dn_walk.specs.Levels.{told_last, told_meets, told_onto, told_extensions, told_still, told_stills, told_level, told_walks, told_levels, told_before, IsRowOf}
+use Rattle.dn_walk.specs.Levels.{told_last, told_meets, told_onto, told_extended, told_still, told_stills, told_level, told_walks, told_levels, told_before, IsRowOf}
 use Rattle.dn_base.proofs.Members.{map_member, member_map}
 use Rattle.dn_net.proofs.Members.{member_filter, member_flat_map}
 use Rattle.dn_walk.proofs.Meets.{meets_parts, max_is, min_is}
@@ -23,7 +23,7 @@ pub level-zero : (legs : List (List Leg)) → told_level legs 0 ≡ told_stills 
 unfolding told_level
 level-zero legs = refl
 
-pub level-suc : (legs : List (List Leg)) (k : ℕ) → told_level legs (suc k) ≡ flat_map (told_extensions legs) (told_level legs k)
+pub level-suc : (legs : List (List Leg)) (k : ℕ) → told_level legs (suc k) ≡ flat_map (told_extended legs) (told_level legs k)
 unfolding told_level
 level-suc legs k = refl
 
@@ -101,7 +101,7 @@ onto_is count k t l r g h =
 pub level_is : (legs : List (List Leg)) → All (AreLegs (length legs)) legs → (k : ℕ) (t : Told) → Member t (told_level legs k) → IsRowOf (length legs) k t
 level_is legs all zero t m = still_is (length legs) 0 (length legs) t (omega arith) (subst (λ l. Member t l) (level-zero legs) m)
 level_is legs all (suc k) t m =
-    let p = member_flat_map (told_extensions legs) (told_level legs k) t (subst (λ l. Member t l) (level-suc legs k) m) in
+    let p = member_flat_map (told_extended legs) (told_level legs k) t (subst (λ l. Member t l) (level-suc legs k) m) in
     let r = level_is legs all k p.0 p.1 in
     let ls = get_or legs p.0.end [] in
     let are : AreLegs (length legs) ls = all p.0.end [] r.end in
@@ -118,26 +118,26 @@ rows_are legs all k n l rows e = λ j d b.
     row_of_more (length legs) k n (row_view (get_or rows j d)) l (level_is legs all k (row_view (get_or rows j d)) (subst (λ x. Member (row_view (get_or rows j d)) x) e (member_map row_view rows (get_or rows j d) (at_member rows j d b))))
 
 -- one more row goes on
-pub extensions_more : (legs : List (List Leg)) (rows : List WalkRow) (i : ℕ) (r : WalkRow) → i < length rows → r ≡ get_or rows i r → flat_map (told_extensions legs) (map row_view (take (i + 1) rows)) ≡ flat_map (told_extensions legs) (map row_view (take i rows)) ++ told_extensions legs (row_view r)
-extensions_more legs rows i r l e =
-    ap (λ x. flat_map (told_extensions legs) (map row_view x)) (take_more rows i r l ∙ ap (λ x. take i rows ++ x ∷ []) (sym e))
-    ∙ ap (flat_map (told_extensions legs)) (map-append row_view (take i rows) (r ∷ []))
-    ∙ flat_map-append (told_extensions legs) (map row_view (take i rows)) (row_view r ∷ [])
-    ∙ ap (λ x. flat_map (told_extensions legs) (map row_view (take i rows)) ++ x) (nothing_behind (told_extensions legs (row_view r)))
+pub extended_more : (legs : List (List Leg)) (rows : List WalkRow) (i : ℕ) (r : WalkRow) → i < length rows → r ≡ get_or rows i r → flat_map (told_extended legs) (map row_view (take (i + 1) rows)) ≡ flat_map (told_extended legs) (map row_view (take i rows)) ++ told_extended legs (row_view r)
+extended_more legs rows i r l e =
+    ap (λ x. flat_map (told_extended legs) (map row_view x)) (take_more rows i r l ∙ ap (λ x. take i rows ++ x ∷ []) (sym e))
+    ∙ ap (flat_map (told_extended legs)) (map-append row_view (take i rows) (r ∷ []))
+    ∙ flat_map-append (told_extended legs) (map row_view (take i rows)) (row_view r ∷ [])
+    ∙ ap (λ x. flat_map (told_extended legs) (map row_view (take i rows)) ++ x) (nothing_behind (told_extended legs (row_view r)))
   where
     nothing_behind : (xs : List Told) → xs ++ [] ≡ xs
     nothing_behind [] = refl
     nothing_behind (x ∷ xs) = ap (λ l. x ∷ l) (nothing_behind xs)
 
 -- and there are no fewer in all
-pub extensions_least : (legs : List (List Leg)) (rows : List WalkRow) (i : ℕ) (r : WalkRow) → i < length rows → r ≡ get_or rows i r → length (flat_map (told_extensions legs) (map row_view (take i rows))) + length (told_extensions legs (row_view r)) ≤ length (flat_map (told_extensions legs) (map row_view rows))
-extensions_least legs rows i r l e =
+pub extended_least : (legs : List (List Leg)) (rows : List WalkRow) (i : ℕ) (r : WalkRow) → i < length rows → r ≡ get_or rows i r → length (flat_map (told_extended legs) (map row_view (take i rows))) + length (told_extended legs (row_view r)) ≤ length (flat_map (told_extended legs) (map row_view rows))
+extended_least legs rows i r l e =
     let n : length (map row_view rows) ≡ length rows = length-map rows row_view in
-    let h = length-flat_map-take (told_extensions legs) (map row_view rows) i (row_view r) (omega arith) in
+    let h = length-flat_map-take (told_extended legs) (map row_view rows) i (row_view r) (omega arith) in
     let a : get_or (map row_view rows) i (row_view r) ≡ row_view r = get_or-map row_view rows i r (row_view r) l ∙ ap row_view (sym e) in
     let b : take i (map row_view rows) ≡ map row_view (take i rows) = take-map row_view i rows in
-    subst (λ x. length (flat_map (told_extensions legs) x) + length (told_extensions legs (row_view r)) ≤ length (flat_map (told_extensions legs) (map row_view rows))) b
-    (subst (λ x. length (flat_map (told_extensions legs) (take i (map row_view rows))) + length (told_extensions legs x) ≤ length (flat_map (told_extensions legs) (map row_view rows))) a h)
+    subst (λ x. length (flat_map (told_extended legs) x) + length (told_extended legs (row_view r)) ≤ length (flat_map (told_extended legs) (map row_view rows))) b
+    (subst (λ x. length (flat_map (told_extended legs) (take i (map row_view rows))) + length (told_extended legs x) ≤ length (flat_map (told_extended legs) (map row_view rows))) a h)
 
 -- the legs of a node, by its number
 pub legs_there : (legs : List (List Leg)) → All (AreLegs (length legs)) legs → (end k : ℕ) (ls ls' : List Leg) → end < length legs → k ≡ end → ls ≡ get_or legs k ls → ls' ≡ ls → AreLegs (length legs) ls'
@@ -154,24 +154,24 @@ pub met_keep : (P : Leg → Type 0) (t : Told) (ls met : List Leg) → met ≡ f
 met_keep P t ls met e all = subst (All P) (sym e) (All-filter (told_meets t) P ls all)
 
 -- the next level, and how many walks there are with it
-pub grown_wide : (legs : List (List Leg)) (k room : ℕ) (newest : List Told) → newest ≡ told_level legs k → room + length (told_walks legs k) ≡ walk_limit → room < length (flat_map (told_extensions legs) newest) → walk_limit < length (told_walks legs (k + 1))
+pub grown_wide : (legs : List (List Leg)) (k room : ℕ) (newest : List Told) → newest ≡ told_level legs k → room + length (told_walks legs k) ≡ walk_limit → room < length (flat_map (told_extended legs) newest) → walk_limit < length (told_walks legs (k + 1))
 grown_wide legs k room newest e r l =
     let a : k + 1 ≡ suc k = omega arith in
-    let b : length (flat_map (told_extensions legs) newest) ≡ length (told_level legs (suc k)) = ap (λ x. length (flat_map (told_extensions legs) x)) e ∙ ap length (sym (level-suc legs k)) in
+    let b : length (flat_map (told_extended legs) newest) ≡ length (told_level legs (suc k)) = ap (λ x. length (flat_map (told_extended legs) x)) e ∙ ap length (sym (level-suc legs k)) in
     let c = length_walks legs k in
     subst (λ n. walk_limit < length (told_walks legs n)) (sym a) (omega arith)
 
-pub grown_room : (legs : List (List Leg)) (k room n : ℕ) (newest next : List Told) → newest ≡ told_level legs k → next ≡ flat_map (told_extensions legs) newest → room + length (told_walks legs k) ≡ walk_limit → n ≡ length next → n ≤ room → (room - n) + length (told_walks legs (k + 1)) ≡ walk_limit
+pub grown_room : (legs : List (List Leg)) (k room n : ℕ) (newest next : List Told) → newest ≡ told_level legs k → next ≡ flat_map (told_extended legs) newest → room + length (told_walks legs k) ≡ walk_limit → n ≡ length next → n ≤ room → (room - n) + length (told_walks legs (k + 1)) ≡ walk_limit
 grown_room legs k room n newest next e f r s l =
     let a : k + 1 ≡ suc k = omega arith in
-    let b : length next ≡ length (told_level legs (suc k)) = ap length (f ∙ ap (flat_map (told_extensions legs)) e ∙ sym (level-suc legs k)) in
+    let b : length next ≡ length (told_level legs (suc k)) = ap length (f ∙ ap (flat_map (told_extended legs)) e ∙ sym (level-suc legs k)) in
     let c = length_walks legs k in
     subst (λ m. (room - n) + length (told_walks legs m) ≡ walk_limit) (sym a) (omega arith)
 
-pub grown_level : (legs : List (List Leg)) (k : ℕ) (newest next : List Told) → newest ≡ told_level legs k → next ≡ flat_map (told_extensions legs) newest → next ≡ told_level legs (k + 1)
+pub grown_level : (legs : List (List Leg)) (k : ℕ) (newest next : List Told) → newest ≡ told_level legs k → next ≡ flat_map (told_extended legs) newest → next ≡ told_level legs (k + 1)
 grown_level legs k newest next e f =
     let a : suc k ≡ k + 1 = omega arith in
-    f ∙ ap (flat_map (told_extensions legs)) e ∙ sym (level-suc legs k) ∙ ap (told_level legs) a
+    f ∙ ap (flat_map (told_extended legs)) e ∙ sym (level-suc legs k) ∙ ap (told_level legs) a
 
 pub grown_sorted : (legs : List (List Leg)) (k : ℕ) (sorted : List (List WalkRow)) (rows last : List WalkRow) → map (map row_view) sorted ≡ told_levels legs k → map row_view rows ≡ told_level legs k → map row_view last ≡ in_order told_before (map row_view rows) → map (map row_view) (sorted ++ last ∷ []) ≡ told_levels legs (k + 1)
 grown_sorted legs k sorted rows last s e f =

@@ -19,7 +19,7 @@ use Rattle.dn_walk.specs.declared.walks.WalkRow.{WalkRow}
 use Rattle.dn_walk.specs.declared.way.Goal.TheVariants.{Anywhere, To}
 use Rattle.dn_walk.specs.Rows.{Told, row_view, told_by_walk}
 use Rattle.dn_walk.specs.Legs.{told_legs}
-use Rattle.dn_walk.specs.Levels.{told_extensions, told_level, told_walks, told_levels, told_before}
+use Rattle.dn_walk.specs.Levels.{told_extended, told_level, told_walks, told_levels, told_before}
 use Rattle.dn_walk.specs.Ways.{least_of, start_names, start_name, level_leads, levels_lead, told_cycle, told_path}
 use Rattle.dn_walk.proofs.Bridge.{walks_told, least_back, least_onward, leads_to_name, leads_anywhere}
 use Rattle.dn_walk.proofs.Keys.{told_weak}
@@ -230,7 +230,7 @@ empty_on legs m (suc n) e l = by (last m n l) (empty_on legs m n e)
 
     by : (m ≡ suc n) ⊎ (m ≤ n) → (m ≤ n → told_level legs n ≡ []) → told_level legs (suc n) ≡ []
     by (inl s) ih = ap (told_level legs) (sym s) ∙ e
-    by (inr k) ih = level-suc legs n ∙ ap (flat_map (told_extensions legs)) (ih k)
+    by (inr k) ih = level-suc legs n ∙ ap (flat_map (told_extended legs)) (ih k)
 
 nothing_more : (legs : List (List Leg)) (k : ℕ) → told_level legs (suc k) ≡ [] → told_walks legs (suc k) ≡ told_walks legs k
 nothing_more legs k e = walks-suc legs k ∙ ap (λ l. told_walks legs k ++ in_order told_before l) e ∙ none (told_walks legs k)

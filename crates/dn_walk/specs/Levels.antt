@@ -30,8 +30,8 @@ abbrev pub told_on : List Leg → Told → List Told
 told_on ls t = map (told_onto t) (filter (told_meets t) ls)
 
 -- what goes on from it by the legs of its end node
-abbrev pub told_extensions : List (List Leg) → Told → List Told
-told_extensions legs t = told_on (slice_index_or legs t.end []) t
+abbrev pub told_extended : List (List Leg) → Told → List Told
+told_extended legs t = told_on (slice_index_or legs t.end []) t
 
 -- the walk of no choice from a node
 abbrev pub told_still : ℕ → Told
@@ -45,7 +45,7 @@ told_stills n (suc k) = told_still n ∷ told_stills (suc n) k
 -- the walks of so many choices, in the order in which they are made from the legs of the nodes
 unfoldable pub told_level : List (List Leg) → ℕ → List Told
 told_level legs zero = told_stills 0 (length legs)
-told_level legs (suc k) = flat_map (told_extensions legs) (told_level legs k)
+told_level legs (suc k) = flat_map (told_extended legs) (told_level legs k)
 
 -- the order by start, and by the first and the last address
 abbrev pub told_before : Told → Told → Bool

@@ -52,7 +52,8 @@ IsLeastShown net rows (Some f) = IsLeastOf net rows f
 abbrev pub row_leads : ℕ → ℕ → ℕ → Told → Bool
 row_leads port w limit t = (t.start == port) && ((t.end == w) && nat_lt t.lo limit)
 
--- for each two of so many nodes the lowest address from which a row leads from the one to the other: by comparing it
+-- a number for each two of so many nodes: it is below a limit exactly where a row leads from the one
+-- to the other from an address below the limit
 pub record AreLows (count : ℕ) (rows : List Told) (lows : List ℕ) : Type 0 where
   pub size : length lows ≡ count * count
   pub lower : (port w limit : ℕ) → port < count → w < count → limit ≤ 2 ^ 56 →
@@ -64,7 +65,8 @@ abbrev pub leads_by_lows : ℕ → List ℕ → UnitPart → ℕ → Bool
 leads_by_lows count lows u w =
     list_any (λ p. (p == w) || nat_lt (slice_index_or lows (p * count + w) 0) (2 ^ u.reach)) u.ports
 
--- a port of the unit is the other, or a row leads from it to the other, from an address below the unit's reach on
+-- a port of the unit is the other, or a row leads from it to the other, from an address below the
+-- unit's reach on
 abbrev pub leads_by_rows : List Told → UnitPart → ℕ → Bool
 leads_by_rows rows u w =
     list_any (λ p. (p == w) || list_any (row_leads p w (2 ^ u.reach)) rows) u.ports
@@ -78,13 +80,14 @@ next_by leads units (Some u) = filter (leads u) units
 abbrev pub next_told : List NodeDecl → List Told → ℕ → List ℕ
 next_told net rows u = next_by (leads_by_rows rows) (unit_numbers net) (unit_at net u)
 
--- the first row of so many units whose slots multiply to more than a number: its first unit is one of these, and each other is
--- one of those listed for the one before it
+-- the first row of so many units whose slots multiply to more than a number: its first unit is one
+-- of these, and each other is one of those listed for the one before it
 abbrev pub first_over : List NodeDecl → List (List ℕ) → ℕ → ℕ → List ℕ → Option (List ℕ)
 first_over net next k most first =
     first_row (filter (λ us. nat_lt most (slots_product net us)) (rows_from (λ u. slice_index_or next u []) k first))
 
--- the first row of four units; or else of one, or of two, or of three whose slots multiply to more than 1,048,576
+-- the first row of four units; or else of one, or of two, or of three whose slots multiply to more
+-- than 1,048,576
 abbrev pub chain_by : List NodeDecl → List (List ℕ) → List ℕ → Option (List ℕ)
 chain_by net next first =
     or_else (first_over net next 4 0 first)

@@ -19,7 +19,8 @@ use std::alloc::{AllocError, Global};
 /// The most that the slots of a row of units multiply to.
 const SLOTS_LIMIT: u64 = 1_048_576;
 
-/// The first row of four units, or else the first row of one, two or three whose slots multiply to more than the limit.
+/// The first row of four units, or else the first row of one, two or three whose slots multiply to
+/// more than the limit.
 pub(crate) fn first_chain(
     alloc: Global,
     net: &Net,
@@ -63,8 +64,8 @@ fn chain_by(
     first_row(alloc, net, next, units, 3, SLOTS_LIMIT)
 }
 
-/// The first row of so many units whose slots multiply to more than `most`, where the first unit is one of these and each other
-/// one of those next to the one before it.
+/// The first row of so many units whose slots multiply to more than `most`, where the first unit is
+/// one of these and each other one of those next to the one before it.
 fn first_row(
     alloc: Global,
     net: &Net,

@@ -23,8 +23,8 @@ pub(crate) struct Fork {
     pub unit: u16,
 }
 
-/// The least fork that the rows show, by its name and then by its unit. The first address of a row has as
-/// many destinations as each other.
+/// The least fork that the rows show, by its name and then by its unit. The first address of a row
+/// has as many destinations as each other.
 pub(crate) fn least_fork(net: &Net, rows: &[WalkRow]) -> Option<Fork>
     requires rules { KeepsNodeRules net.now }
     requires starts { All (λ (r : WalkRow). r.start < length net.now) rows.now }

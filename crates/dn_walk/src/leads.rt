@@ -55,8 +55,8 @@ pub(crate) fn next_units(
     Ok(next)
 }
 
-/// For each node and each node behind it, at `start * nodes + end`, the lowest address from which a walk leads from the
-/// one to the other; an address past the top where none does.
+/// For each node and each node behind it, at `start * nodes + end`, the lowest address from which a
+/// walk leads from the one to the other; an address past the top where none does.
 fn lows(alloc: Global, nodes: usize, rows: &[WalkRow]) -> Result<Vec<u64>, AllocError>
     requires few { nodes ≤ 1024 }
     requires starts { All (λ (r : WalkRow). r.start < nodes) rows.now }

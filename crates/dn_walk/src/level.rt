@@ -8,7 +8,7 @@ ghost use Rattle.dn_net.specs.WalkRules.{walk_limit};
 ghost use Rattle.dn_walk.specs.declared.leg.Leg.{Leg};
 ghost use Rattle.dn_walk.specs.Rows.{row_view};
 ghost use Rattle.dn_walk.specs.Legs.{AreLegs};
-ghost use Rattle.dn_walk.specs.Levels.{told_last, told_meets, told_onto, told_extensions, told_stills, told_before, told_walks, AreLevels, IsRowOf, IsWideWhere};
+ghost use Rattle.dn_walk.specs.Levels.{told_last, told_meets, told_onto, told_extended, told_stills, told_before, told_walks, AreLevels, IsRowOf, IsWideWhere};
 
 use crate::fault::WalkFault;
 use crate::leg::Leg;
@@ -59,7 +59,7 @@ impl Levels {
             newest,
             room,
         } = self;
-        let next = extensions(alloc, legs, &newest, room)?;
+        let next = extended(alloc, legs, &newest, room)?;
         sorted.push(in_order(newest)?)?;
         let room = room - next.len();
         Ok(Levels {
@@ -98,7 +98,7 @@ fn in_order(mut rows: Vec<WalkRow>) -> Result<Items<WalkRow>, AllocError>
 }
 
 /// Each walk that goes on from a row by one more choice. `Wide` exactly where there are more than `room`.
-fn extensions(
+fn extended(
     alloc: Global,
     legs: &[Items<Leg>],
     rows: &[WalkRow],
@@ -107,9 +107,9 @@ fn extensions(
     requires legs { All (AreLegs (length legs.now)) legs.now }
     requires rows { All (λ r. IsRowOf (length legs.now) 64 (row_view r)) rows.now }
     ensures made { IfOk result (λ v. map row_view v.items
-        ≡ flat_map (told_extensions legs.now) (map row_view rows.now)) }
+        ≡ flat_map (told_extended legs.now) (map row_view rows.now)) }
     ensures fits { IfOk result (λ v. vec_len v ≤ room) }
-    ensures wide { IfErr result (IsWideWhere (room < length (flat_map (told_extensions legs.now)
+    ensures wide { IfErr result (IsWideWhere (room < length (flat_map (told_extended legs.now)
         (map row_view rows.now)))) }
 {
     let mut out = Vec::new(alloc);

@@ -34,8 +34,8 @@ use std::marker::Model;
 /// The most steps that a chain may have.
 const LONGEST: usize = 64;
 
-/// A live walk, in 32 bytes: the address `a` of its span goes from the node `start` in `len` steps to the address
-/// `base + (a - span.lo)` of the node `end`.
+/// A live walk, in 32 bytes: the address `a` of its span goes from the node `start` in `len` steps
+/// to the address `base + (a - span.lo)` of the node `end`.
 #[derive(Clone, Copy, Debug, PartialEq, Eq)]
 pub struct WalkRow {
     /// The addresses that follow all of the walk.
@@ -64,8 +64,9 @@ impl Model for WalkTable {
 }
 
 impl WalkTable {
-    /// The live walks, by length, then by start, then by the first and the last address of the span, and then
-    /// by their choices: of one entry the destination that stands earlier in it comes first.
+    /// The live walks, by length, then by start, then by the first and the last address of the
+    /// span, and then by their choices: of one entry the destination that stands earlier in it
+    /// comes first.
     pub fn rows(&self) -> &[WalkRow]
         ensures { result.now ≡ self.now.rows }
     {
@@ -80,7 +81,8 @@ impl WalkTable {
     }
 }
 
-/// The live walks of a net, or the first rule on walks that it breaks.
+/// The live walks of a net, or the first rule on walks that it breaks. Each unit is to have a plain
+/// shape, as [`Net::has_plain_units`] tells.
 pub fn walks(alloc: Global, net: &Net) -> Result<WalkTable, WalkFault>
     requires rules { KeepsNodeRules net.now }
     requires shapes { IsTrue (has_plain_units net.now) }
@@ -136,8 +138,8 @@ fn check_depth(alloc: Global, net: &Net, levels: &Levels) -> Result<(), WalkFaul
     Err(WalkFault::Deep { path })
 }
 
-/// Refuses a net in which a name forks on its way to a unit, or a row of units is too long or has too many slots. The rows
-/// are its live walks.
+/// Refuses a net in which a name forks on its way to a unit, or a row of units is too long or has
+/// too many slots. The rows are its live walks.
 fn check_units(alloc: Global, net: &Net, rows: &[WalkRow]) -> Result<(), WalkFault>
     requires rules { KeepsNodeRules net.now }
     requires shapes { IsTrue (has_plain_units net.now) }

@@ -9,8 +9,8 @@ use Rattle.std.proofs.lemmas.Result.{err_from_is_err_and}
 use Rattle.dn_walk.proofs.Told.{rows_are, wide_weaker, grown_wide, grown_room, grown_level, grown_sorted}
 use Rattle.dn_walk.proofs.level.Levels.grown.Goals as goal
 
-pub extensions-requires-clause-rows : goal.extensions-requires-clause-rows
-extensions-requires-clause-rows c =
+pub extended-requires-clause-rows : goal.extended-requires-clause-rows
+extended-requires-clause-rows c =
     rows_are c.args.legs.now c.requires.legs (length c.args.self.sorted.items) 64 c.requires.shallow c.deref.result.now (ap (map row_view) c.deref.ensures.value ∙ c.requires.levels.newest)
 
 pub returns-in_err-next-clause-wide : goal.returns-in_err-next-clause-wide

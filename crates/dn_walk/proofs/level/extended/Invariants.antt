@@ -2,11 +2,11 @@
 use Rattle.std.proofs.Common.{◌≡◌, ◌≤◌, map, take, vec_len}
 use Rattle.std.specs.List.{flat_map}
 use Rattle.dn_walk.specs.Rows.{row_view}
-use Rattle.dn_walk.specs.Levels.{told_extensions}
-use Rattle.dn_walk.proofs.level.extensions.Given as goal
+use Rattle.dn_walk.specs.Levels.{told_extended}
+use Rattle.dn_walk.proofs.level.extended.Given as goal
 
 abbrev pub invariant-loop-row : goal.invariant-loop-row
 invariant-loop-row l = record {
-  made : map row_view l.out.items ≡ flat_map (told_extensions l.legs) (map row_view (take l.row-index l.rows));
+  made : map row_view l.out.items ≡ flat_map (told_extended l.legs) (map row_view (take l.row-index l.rows));
   fits : vec_len l.out ≤ l.room;
 }

@@ -6,9 +6,9 @@ use Rattle.dn_net.proofs.Places.{length-map}
 use Rattle.dn_walk.specs.declared.leg.Leg.{Leg}
 use Rattle.dn_walk.specs.Legs.{AreLegs}
 use Rattle.dn_walk.specs.Rows.{row_view}
-use Rattle.dn_walk.specs.Levels.{IsRowOf, told_meets, told_onto, told_extensions}
-use Rattle.dn_walk.proofs.Told.{legs_there, legs_same, met_meet, met_keep, extensions_more, extensions_least}
-use Rattle.dn_walk.proofs.level.extensions.Goals as goal
+use Rattle.dn_walk.specs.Levels.{IsRowOf, told_meets, told_onto, told_extended}
+use Rattle.dn_walk.proofs.Told.{legs_there, legs_same, met_meet, met_keep, extended_more, extended_least}
+use Rattle.dn_walk.proofs.level.extended.Goals as goal
 
 pub met_by-met-requires-clause-firsts : goal.met_by-met-requires-clause-firsts
 met_by-met-requires-clause-firsts c =
@@ -41,10 +41,10 @@ returns-then-room-len-clause-wide c =
     let is : IsRowOf (length legs) 64 (row_view row) = subst (λ r. IsRowOf (length legs) 64 (row_view r)) (sym c.row-item.is) (c.requires.rows c.loop-row.row-index row c.loop-row-test.true) in
     let met = c.met_by-met.result.now in
     let same : c.as_slice.result.now ≡ get_or legs row.end [] = legs_same legs row.end c.from.result c.index-legs-from.result c.as_slice.result.now is.end c.from.ensures c.index-legs-from.is c.as_slice.ensures in
-    let on : map (told_onto (row_view row)) met ≡ told_extensions legs (row_view row) = ap (map (told_onto (row_view row))) (c.met_by-met.ensures ∙ ap (filter (told_meets (row_view row))) same) in
-    let count : length met ≡ length (told_extensions legs (row_view row)) = sym (length-map (told_onto (row_view row)) met) ∙ ap length on in
-    let have : length c.loop-row.out.items ≡ length (flat_map (told_extensions legs) (map row_view (take c.loop-row.row-index c.args.rows.now))) = sym (length-map row_view c.loop-row.out.items) ∙ ap length c.loop-row.invariant.made in
-    let least = extensions_least legs c.args.rows.now c.loop-row.row-index row c.loop-row-test.true c.row-item.is in
+    let on : map (told_onto (row_view row)) met ≡ told_extended legs (row_view row) = ap (map (told_onto (row_view row))) (c.met_by-met.ensures ∙ ap (filter (told_meets (row_view row))) same) in
+    let count : length met ≡ length (told_extended legs (row_view row)) = sym (length-map (told_onto (row_view row)) met) ∙ ap length on in
+    let have : length c.loop-row.out.items ≡ length (flat_map (told_extended legs) (map row_view (take c.loop-row.row-index c.args.rows.now))) = sym (length-map row_view c.loop-row.out.items) ∙ ap length c.loop-row.invariant.made in
+    let least = extended_least legs c.args.rows.now c.loop-row.row-index row c.loop-row-test.true c.row-item.is in
     let size : vec_len c.loop-row.out ≡ length c.loop-row.out.items = search rules in
     (refl, omega (arith, c.len.ensures, c.if-room-len.true, c.loop-row.invariant.fits))
 
@@ -83,13 +83,13 @@ loop-row-preserved c =
     let is : IsRowOf (length legs) 64 (row_view row) = subst (λ r. IsRowOf (length legs) 64 (row_view r)) (sym c.row-item.is) (c.requires.rows c.loop-row.row-index row c.loop-row-test.true) in
     let met = c.met_by-met.result.now in
     let same : c.as_slice.result.now ≡ get_or legs row.end [] = legs_same legs row.end c.from.result c.index-legs-from.result c.as_slice.result.now is.end c.from.ensures c.index-legs-from.is c.as_slice.ensures in
-    let on : map (told_onto (row_view row)) met ≡ told_extensions legs (row_view row) = ap (map (told_onto (row_view row))) (c.met_by-met.ensures ∙ ap (filter (told_meets (row_view row))) same) in
-    let count : length met ≡ length (told_extensions legs (row_view row)) = sym (length-map (told_onto (row_view row)) met) ∙ ap length on in
-    let have : length c.loop-row.out.items ≡ length (flat_map (told_extensions legs) (map row_view (take c.loop-row.row-index c.args.rows.now))) = sym (length-map row_view c.loop-row.out.items) ∙ ap length c.loop-row.invariant.made in
+    let on : map (told_onto (row_view row)) met ≡ told_extended legs (row_view row) = ap (map (told_onto (row_view row))) (c.met_by-met.ensures ∙ ap (filter (told_meets (row_view row))) same) in
+    let count : length met ≡ length (told_extended legs (row_view row)) = sym (length-map (told_onto (row_view row)) met) ∙ ap length on in
+    let have : length c.loop-row.out.items ≡ length (flat_map (told_extended legs) (map row_view (take c.loop-row.row-index c.args.rows.now))) = sym (length-map row_view c.loop-row.out.items) ∙ ap length c.loop-row.invariant.made in
     let size : vec_len c.loop-row.out ≡ length c.loop-row.out.items = search rules in
     let size' : vec_len c.extend_row.new.out ≡ length c.extend_row.new.out.items = search rules in
     let more : length c.extend_row.new.out.items ≡ length c.loop-row.out.items + length met = sym (length-map row_view c.extend_row.new.out.items) ∙ ap length c.in_ok-extend_row.ensures ∙ length-append (map row_view c.loop-row.out.items) (map (told_onto (row_view row)) met) ∙ omega (arith, length-map row_view c.loop-row.out.items, length-map (told_onto (row_view row)) met) in
     record {
-      made = c.in_ok-extend_row.ensures ∙ ap (λ x. x ++ map (told_onto (row_view row)) met) c.loop-row.invariant.made ∙ ap (λ x. flat_map (told_extensions legs) (map row_view (take c.loop-row.row-index c.args.rows.now)) ++ x) on ∙ sym (extensions_more legs c.args.rows.now c.loop-row.row-index row c.loop-row-test.true c.row-item.is);
+      made = c.in_ok-extend_row.ensures ∙ ap (λ x. x ++ map (told_onto (row_view row)) met) c.loop-row.invariant.made ∙ ap (λ x. flat_map (told_extended legs) (map row_view (take c.loop-row.row-index c.args.rows.now)) ++ x) on ∙ sym (extended_more legs c.args.rows.now c.loop-row.row-index row c.loop-row-test.true c.row-item.is);
       fits = omega (arith, c.len.ensures, c.if-room-len.false, c.loop-row.invariant.fits);
     }
