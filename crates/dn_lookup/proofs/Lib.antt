@@ -1,3 +1,4 @@
 pub mod Nodes
+pub mod Outputs
 pub mod Sets
 pub mod Stages

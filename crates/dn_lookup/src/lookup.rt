@@ -71,7 +71,7 @@ pub fn lookup(
     requires shaped { KeepsUnitShape (map (λ k. meaning (k.vtable, k.value)) kinds.now.list.items) net.now }
     ensures exact { Answers (λ names. names) lookup_fault_view result
         (lookup_of net.now (map (λ k. meaning (k.vtable, k.value)) kinds.now.list.items) image.now access
-            (record { node = agent; addr = addr })) }
+        (record { node = agent; addr = addr })) }
     // Each name is in a node that is there.
     ensures there { IfOk result (λ names. IsTrue (are_there (length net.now) names)) }
     ensures memory { result ≢ Err (LookupFault.Image ImageFault.OutOfMemory) }
