@@ -1,4 +1,4 @@
-use Rattle.std.proofs.Common.{◌≡◌, ◌∙◌, ◌≤◌, ◌<◌, ◌+◌, ◌*◌, ◌%◌, ◌^◌, ap, sym, length, arith}
+use Rattle.std.proofs.Common.{◌≡◌, ◌∙◌, ℕ, List, get_or, ◌≤◌, ◌<◌, ◌+◌, ◌*◌, ◌%◌, ◌^◌, ap, sym, length, arith}
 use Rattle.dn_kind.specs.Units.{unit_shape}
 use Rattle.dn_lookup.proofs.Outputs.{HasPages, has_pages, page_is, page_some, output_small, port_there, sent_is}
 use Rattle.dn_lookup.proofs.output.sent.Goals as goal
@@ -42,4 +42,4 @@ nonzero_rem-result c =
     page_some c.args.unit.now.page s.page
 
 pub returns : goal.returns
-returns c = sent_is c.args.unit.now c.args.record c.args.addr _ 0 0 c.requires.plain (let l = port_there (unit_shape c.args.unit.now) c.args.record c.requires.within in l) ?
+returns c = sent_is c.args.unit.now c.args.record c.args.addr _ 0 0 c.requires.plain (let l = port_there (unit_shape c.args.unit.now) c.args.record c.requires.within in l) (ap (λ n. get_or c.as_slice.result.now n 0) c.from.ensures ∙ ap (λ (l : List ℕ). get_or l c.args.record.port 0) c.as_slice.ensures)
