@@ -1,3 +1,6 @@
 pub mod Nodes
+pub mod Outputs
+pub mod Served
 pub mod Sets
 pub mod Stages
+pub mod Stepping

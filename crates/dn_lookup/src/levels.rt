@@ -1,6 +1,6 @@
 //! Names level by level: each level has the names one step on from those of the level before it.
 
-ghost use Rattle.std.specs.Prelude.{◌≡◌, ◌++◌, ◌+◌, ◌<◌, ◌^◌, length, map, nat_le, None, IfOk, OnOk, IsTrue};
+ghost use Rattle.std.specs.Prelude.{◌≡◌, ◌++◌, [], ◌∷◌, ◌+◌, ◌<◌, ◌^◌, length, map, nat_le, None, IfOk, OnOk, IsTrue};
 ghost use Rattle.std.specs.List.{All, list_all};
 ghost use Rattle.dn_net.specs.Decode.{is_accepted, is_closed, moved, top};
 ghost use Rattle.dn_net.specs.Names.{each_step, passing_names, sorted_names};
@@ -9,7 +9,7 @@ ghost use Rattle.dn_kind.specs.Kind.{IsLawful};
 ghost use Rattle.dn_kind.specs.Tables.{resolved_names_under, steps_under};
 ghost use Rattle.dn_kind.specs.Units.{KeepsUnitShape};
 ghost use Rattle.dn_image.specs.Reading.{broken_image};
-ghost use Rattle.dn_lookup.specs.Lookup.{are_there, bytes_records};
+ghost use Rattle.dn_lookup.specs.Lookup.{are_there, bytes_records, name_list};
 
 use crate::output::output;
 use dn_kind::kinds::Kinds;
@@ -92,18 +92,52 @@ fn next_level(
 {
     let mut next = Vec::new(alloc);
     for name in level {
-        match net.step(*name) {
-            Step::Accepted => accepted.push(*name)?,
-            Step::To(dests, offset) => push_moved(&mut next, dests, offset)?,
-            Step::Stop => {
-                if let Some(sent) = output(net, kinds, bytes, version, access, *name) {
-                    next.push(sent)?;
-                }
-            }
-            Step::Nothing => {}
-        }
+        push_steps(
+            net, kinds, bytes, version, access, *name, accepted, &mut next,
+        )?;
     }
     set_of(alloc, next)
+}
+
+/// Appends the names one step on from a name, and where it is accepted, the name itself to the others.
+fn push_steps(
+    net: &Net,
+    kinds: &Kinds,
+    bytes: &[u8],
+    version: u16,
+    access: Access,
+    name: Name,
+    accepted: &mut Vec<Name>,
+    next: &mut Vec<Name>,
+) -> Result<(), AllocError>
+    requires lawful { All (λ k. IsLawful (meaning (k.vtable, k.value))) kinds.now.list.items }
+    requires rules { KeepsNodeRules net.now }
+    requires shaped { KeepsUnitShape (map (λ k. meaning (k.vtable, k.value)) kinds.now.list.items) net.now }
+    requires whole { broken_image net.now (map (λ k. meaning (k.vtable, k.value)) kinds.now.list.items) bytes.now
+        ≡ None }
+    requires there { name.node < length net.now }
+    ensures accepted { OnOk result (accepted.new.items ≡
+        accepted.old.items ++ passing_names (is_accepted net.now) (name ∷ [])) }
+    ensures next { OnOk result (next.new.items ≡ next.old.items ++ steps_under net.now
+        (bytes_records net.now (map (λ k. meaning (k.vtable, k.value)) kinds.now.list.items) bytes.now version access)
+        name) }
+{
+    match net.step(name) {
+        Step::Accepted => accepted.push(name),
+        Step::To(dests, offset) => push_moved(next, dests, offset),
+        Step::Stop => push_sent(next, output(net, kinds, bytes, version, access, name)),
+        Step::Nothing => Ok(()),
+    }
+}
+
+/// Appends the name, where there is one.
+fn push_sent(next: &mut Vec<Name>, sent: Option<Name>) -> Result<(), AllocError>
+    ensures { OnOk result (next.new.items ≡ next.old.items ++ name_list sent) }
+{
+    match sent {
+        Some(name) => next.push(name),
+        None => Ok(()),
+    }
 }
 
 /// Appends the destinations, the address of each raised by the offset.

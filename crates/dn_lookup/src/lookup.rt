@@ -1,8 +1,9 @@
 //! The lookup of an agent's address.
 
-ghost use Rattle.std.specs.Prelude.{◌≡◌, ◌≢◌, length, map, IfOk, Err, IsTrue};
+ghost use Rattle.std.specs.Prelude.{◌≡◌, ◌≢◌, ◌<◌, length, map, slice_get, IfOk, Err, IsTrue};
 ghost use Rattle.std.specs.List.{All};
 ghost use Rattle.dn_base.specs.Answers.{Answers};
+ghost use Rattle.dn_net.specs.Decode.{is_agent_at};
 ghost use Rattle.dn_net.specs.Legal.{IsLegalNet};
 ghost use Rattle.dn_kind.specs.Kind.{IsLawful};
 ghost use Rattle.dn_kind.specs.Units.{KeepsUnitShape};
@@ -71,15 +72,30 @@ pub fn lookup(
     requires shaped { KeepsUnitShape (map (λ k. meaning (k.vtable, k.value)) kinds.now.list.items) net.now }
     ensures exact { Answers (λ names. names) lookup_fault_view result
         (lookup_of net.now (map (λ k. meaning (k.vtable, k.value)) kinds.now.list.items) image.now access
-            (record { node = agent; addr = addr })) }
+        (record { node = agent; addr = addr })) }
     // Each name is in a node that is there.
     ensures there { IfOk result (λ names. IsTrue (are_there (length net.now) names)) }
     ensures memory { result ≢ Err (LookupFault.Image ImageFault.OutOfMemory) }
 {
-    if agent >= net.nodes() || net.role(agent) != Role::Agent {
+    if !is_agent(net, agent) {
         return Err(LookupFault::NoAgent);
     }
     let version = check(net, kinds, image)?;
     let name = Name { node: agent, addr };
     Ok(resolve(alloc, net, kinds, image, version, access, name)?)
+}
+
+/// Whether a node is there, and an agent.
+fn is_agent(net: &Net, node: u16) -> bool
+    ensures { result ≡ is_agent_at (slice_get net.now node) }
+{
+    node < net.nodes() && has_agent_role(net, node)
+}
+
+/// Whether a node is an agent.
+fn has_agent_role(net: &Net, node: u16) -> bool
+    requires { node < length net.now }
+    ensures { result ≡ is_agent_at (slice_get net.now node) }
+{
+    net.role(node) == Role::Agent
 }

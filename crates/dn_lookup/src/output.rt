@@ -1,11 +1,11 @@
 //! One step in a unit, by the record of a slot in the bytes of an image.
 
-ghost use Rattle.std.specs.Prelude.{◌≡◌, ◌<◌, ◌^◌, length, map, None, IsTrue};
+ghost use Rattle.std.specs.Prelude.{◌≡◌, ◌<◌, ◌^◌, [], ◌∷◌, length, map, None, Some, IsTrue};
 ghost use Rattle.std.specs.List.{All};
 ghost use Rattle.dn_net.specs.Decode.{is_closed, is_stop};
-ghost use Rattle.dn_kind.specs.Kind.{IsLawful};
-ghost use Rattle.dn_kind.specs.Tables.{steps_under};
-ghost use Rattle.dn_kind.specs.Units.{KeepsUnitShape};
+ghost use Rattle.dn_kind.specs.Kind.{IsLawful, is_plain, is_within};
+ghost use Rattle.dn_kind.specs.Tables.{output, steps_under};
+ghost use Rattle.dn_kind.specs.Units.{KeepsUnitShape, unit_shape};
 ghost use Rattle.dn_image.specs.Reading.{broken_image};
 ghost use Rattle.dn_lookup.specs.Lookup.{bytes_records, lets_through, name_list};
 

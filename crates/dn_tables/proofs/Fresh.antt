@@ -224,7 +224,7 @@ units_next nodes k t sizes sizes' at so_far more =
 pub logged_next : (nodes : List NodeTable) (k : ℕ) (t : NodeTable) (a b d : Option (List TableEvent)) → slice_get nodes k ≡ Some t → Logged a b (map make_event (tables_of_set (take k nodes))) → Logged b d (map make_event (table_on_device k t.words t.unit)) → Logged a d (map make_event (tables_of_set (take (k + 1) nodes)))
 logged_next nodes k t a b d at so_far more =
     subst (λ es. Logged a d es) (sym (map-append make_event (tables_of_set (take k nodes)) (table_on_device k t.words t.unit)) ∙ ap (map make_event) (sym (next_tables nodes k t at)))
-      (Logged-then a b d (map make_event (tables_of_set (take k nodes))) (map make_event (table_on_device k t.words t.unit)) so_far more)
+    (Logged-then a b d (map make_event (tables_of_set (take k nodes))) (map make_event (table_on_device k t.words t.unit)) so_far more)
 
 pub told_next : (nodes : List NodeTable) (k : ℕ) (t : NodeTable) (a b d : Option (List UnitWords)) → slice_get nodes k ≡ Some t → b ≡ option_map (λ before. before ++ tables_of_set (take k nodes)) a → d ≡ option_map (λ before. before ++ table_on_device k t.words t.unit) b → d ≡ option_map (λ before. before ++ tables_of_set (take (k + 1) nodes)) a
 told_next nodes k t a b d at so_far more =

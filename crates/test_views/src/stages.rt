@@ -64,13 +64,7 @@ fn next_names(
 }
 
 /// Compares what a stage has of a name with the chains of steps from it.
-fn compare(
-    rt: &impl Abort,
-    alloc: Global,
-    net: &Net,
-    stage: &Stage,
-    name: Name,
-) -> Result<(), Fail>
+fn compare(rt: &impl Abort, alloc: Global, net: &Net, stage: &Stage, name: Name) -> Result<(), Fail>
     requires rules { All KeepsRules net.now }
     requires there { name.node < length stage.now.nodes }
 {
@@ -122,7 +116,10 @@ fn sees_past_many_walks(rt: HostRuntime) -> Result<(), Fail> {
     let machine = Machine::of_text(alloc, CROWD)?;
     let flat = machine.flat(alloc, 0)?;
     let text = rows_text(alloc, machine.net(), &flat.accepts)?;
-    assert_eq!(rt; text.as_slice(), b"0x0-0xff a[17]@0x0, b[17]@0x0\n".as_slice());
+    assert_eq!(rt;
+        text.as_slice(),
+        b"0x0-0xff a[17]@0x0, b[17]@0x0\n".as_slice()
+    );
     Ok(())
 }
 

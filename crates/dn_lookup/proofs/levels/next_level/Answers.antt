@@ -1,14 +1,33 @@
-use Rattle.std.proofs.Common.{arith, ◌≡◌, ◌∙◌, ◌≤◌, ◌++◌, sym, ap, append-nil, length, List}
+use Rattle.std.proofs.Common.{arith, ◌≡◌, ◌∙◌, ◌≤◌, ◌+◌, ◌++◌, ◌∷◌, sym, ap, refl, drop, get_or, append-nil, length, map, List}
 use Rattle.std.proofs.Math.ListN.{drop_of_length-le}
+use Rattle.dn_base.proofs.Lists.{drop_at}
 use Rattle.dn_net.specs.declared.node.Name.{Name}
-use Rattle.dn_net.specs.Decode.{steps}
+use Rattle.dn_net.specs.Decode.{is_accepted}
 use Rattle.dn_net.specs.Names.{each_step}
-use Rattle.dn_lookup.proofs.Exists.{each_exist}
-use Rattle.dn_lookup.proofs.Levels.{set_exists}
+use Rattle.dn_kind.specs.Kind.{Meaning}
+use Rattle.dn_kind.specs.Tables.{Held, steps_under}
+use Rattle.dn_lookup.specs.Lookup.{bytes_records}
+use Rattle.dn_lookup.proofs.Nodes.{each_under_there}
+use Rattle.dn_lookup.proofs.Stages.{set_there}
+use Rattle.dn_lookup.proofs.Stepping.{passing_next, each_next, there_next}
 use Rattle.dn_lookup.proofs.levels.next_level.Goals as goal
 
+pub loop-name-preserved : goal.loop-name-preserved
+loop-name-preserved g c =
+    let kinds : List Meaning = map (λ k. (goal.UnitKind-dyn g (k.vtable, k.value)).meaning k.value) c.args.kinds.now.list.items in
+    let f : Name → List Name = steps_under c.args.net.now (bytes_records c.args.net.now kinds c.args.bytes.now c.args.version c.args.access) in
+    let x : Name = get_or c.args.level.now c.loop-name.name-index (record { node = 0; addr = 0 }) in
+    let left : drop c.loop-name.name-index c.args.level.now ≡ x ∷ drop (c.loop-name.name-index + 1) c.args.level.now = ? in
+    record {
+      accepted = ?;
+      next = ?;
+      there = (there_next (length c.args.net.now) x (drop c.loop-name.name-index c.args.level.now) (drop (c.loop-name.name-index + 1) c.args.level.now) left c.loop-name.invariant.there).1;
+    }
+
 pub returns-clause-there : goal.returns-clause-there
-returns-clause-there c =
+returns-clause-there g c =
+    let kinds : List Meaning = map (λ k. (goal.UnitKind-dyn g (k.vtable, k.value)).meaning k.value) c.args.kinds.now.list.items in
+    let h : Held = bytes_records c.args.net.now kinds c.args.bytes.now c.args.version c.args.access in
     let over : length c.args.level.now ≤ c.loop-name.name-index = let b = c.loop-name-test.false in omega arith in
-    let given : c.loop-name.next.items ≡ each_step (steps c.args.net.now) c.args.level.now = sym (append-nil c.loop-name.next.items) ∙ ap (λ (l : List Name). c.loop-name.next.items ++ each_step (steps c.args.net.now) l) (sym (drop_of_length-le c.args.level.now over)) ∙ c.loop-name.invariant.next in
-    set_exists (length c.args.net.now) c.loop-name.next.items (each_step (steps c.args.net.now) c.args.level.now) c.set_of.result given (each_exist c.args.net.now c.args.level.now c.requires.rules.closed) c.set_of.ensures
+    let given : c.loop-name.next.items ≡ each_step (steps_under c.args.net.now h) c.args.level.now = sym (append-nil c.loop-name.next.items) ∙ ap (λ (l : List Name). c.loop-name.next.items ++ each_step (steps_under c.args.net.now h) l) (sym (drop_of_length-le c.args.level.now over)) ∙ c.loop-name.invariant.next in
+    set_there (length c.args.net.now) c.loop-name.next.items (each_step (steps_under c.args.net.now h) c.args.level.now) c.set_of.result given (each_under_there c.args.net.now h c.args.level.now c.requires.rules.closed) c.set_of.ensures

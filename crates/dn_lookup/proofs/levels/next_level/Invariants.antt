@@ -1,12 +1,16 @@
-use Rattle.std.proofs.Common.{◌≡◌, ◌++◌, drop, length, IsTrue}
-use Rattle.dn_net.specs.Decode.{is_accepted, steps}
+use Rattle.std.proofs.Common.{◌≡◌, ◌++◌, drop, length, map, IsTrue}
+use Rattle.dn_net.specs.Decode.{is_accepted}
 use Rattle.dn_net.specs.Names.{each_step, passing_names}
-use Rattle.dn_print.specs.Names.{names_exist}
+use Rattle.dn_kind.specs.Tables.{steps_under}
+use Rattle.dn_lookup.specs.Lookup.{are_there, bytes_records}
 use Rattle.dn_lookup.proofs.levels.next_level.Given as goal
 
 abbrev pub invariant-loop-name : goal.invariant-loop-name
-invariant-loop-name l = record {
-  accepted : l.accepted.items ++ passing_names (is_accepted l.net) (drop l.name-index l.level) ≡ l.initial.accepted.items ++ passing_names (is_accepted l.net) l.level;
-  next : l.next.items ++ each_step (steps l.net) (drop l.name-index l.level) ≡ each_step (steps l.net) l.level;
-  there : IsTrue (names_exist (length l.net) (drop l.name-index l.level));
-}
+invariant-loop-name g l =
+    let kinds = map (λ k. (goal.UnitKind-dyn g (k.vtable, k.value)).meaning k.value) l.kinds.list.items in
+    let f = steps_under l.net (bytes_records l.net kinds l.bytes l.version l.access) in
+    record {
+      accepted : l.accepted.items ++ passing_names (is_accepted l.net) (drop l.name-index l.level) ≡ l.initial.accepted.items ++ passing_names (is_accepted l.net) l.level;
+      next : l.next.items ++ each_step f (drop l.name-index l.level) ≡ each_step f l.level;
+      there : IsTrue (are_there (length l.net) (drop l.name-index l.level));
+    }

@@ -1,44 +1,62 @@
-use Rattle.std.proofs.Common.{rules, arith, ◌≡◌, ◌∙◌, ◌++◌, [], ◌∷◌, ap, sym, subst, suc, ◌-◌, length, List, IsTrue}
+use Rattle.std.proofs.Common.{rules, arith, ◌≡◌, ◌∙◌, ◌++◌, [], ◌∷◌, ap, sym, subst, suc, ◌-◌, length, List, Bool, map, IsTrue}
 use Rattle.dn_net.specs.declared.node.Name.{Name}
-use Rattle.dn_net.specs.Decode.{is_accepted, steps, step_limit}
-use Rattle.dn_net.specs.Names.{each_step, passing_names, sorted_names, resolved_names}
-use Rattle.dn_print.specs.Names.{names_exist}
-use Rattle.dn_lookup.proofs.Exists.{resolved_exist}
-use Rattle.dn_lookup.proofs.Levels.{is_empty, resolved_by, resolved_at_start, resolved_next, resolved_at_empty, resolved_at_end, set_resolves, resolved_within}
+use Rattle.dn_net.specs.Decode.{is_accepted}
+use Rattle.dn_net.specs.Names.{each_step, passing_names, sorted_names}
+use Rattle.dn_kind.specs.Kind.{Meaning}
+use Rattle.dn_kind.specs.Tables.{Held, steps_under, step_limit_under, resolved_names_under}
+use Rattle.dn_lookup.specs.Lookup.{are_there, bytes_records}
+use Rattle.dn_lookup.proofs.Nodes.{resolved_under_there}
+use Rattle.dn_lookup.proofs.Stages.{is_empty, ends_by, ends_at_start, ends_next, ends_at_empty, ends_at_last, set_is_ends, set_within}
 use Rattle.dn_lookup.proofs.levels.resolve.Goals as goal
 use Rattle.dn_lookup.proofs.levels.resolve.Goals.{else-loop-test, then-loop-test+then-is_empty}
 
 pub loop-init : goal.loop-init
-loop-init c =
+loop-init g c =
+    let kinds : List Meaning = map (λ k. (goal.UnitKind-dyn g (k.vtable, k.value)).meaning k.value) c.args.kinds.now.list.items in
+    let h : Held = bytes_records c.args.net.now kinds c.args.bytes.now c.args.version c.args.access in
+    let f : Name → List Name = steps_under c.args.net.now h in
+    let p : Name → Bool = is_accepted c.args.net.now in
     let level : c.insert.new.self ≡ c.args.name ∷ [] = search rules in
     let none : c.new-accepted.result.items ≡ [] = c.new-accepted.ensures.items in
     record {
-      so_far = ap (λ (l : List Name). resolved_by c.args.net.now (suc step_limit - 0) l c.insert.new.self) none ∙ ap (λ (l : List Name). resolved_by c.args.net.now (suc step_limit - 0) [] l) level ∙ resolved_at_start c.args.net.now c.args.name;
-      there = subst (λ (l : List Name). IsTrue (names_exist (length c.args.net.now) l)) (sym level) (search rules);
+      so_far = ap (λ (l : List Name). ends_by f p (suc step_limit_under - 0) l c.insert.new.self) none ∙ ap (λ (l : List Name). ends_by f p (suc step_limit_under - 0) [] l) level ∙ ends_at_start f p c.args.name;
+      there = subst (λ (l : List Name). IsTrue (are_there (length c.args.net.now) l)) (sym level) (search rules);
     }
 
 pub loop-preserved : goal.loop-preserved
-loop-preserved c =
+loop-preserved g c =
+    let kinds : List Meaning = map (λ k. (goal.UnitKind-dyn g (k.vtable, k.value)).meaning k.value) c.args.kinds.now.list.items in
+    let h : Held = bytes_records c.args.net.now kinds c.args.bytes.now c.args.version c.args.access in
+    let f : Name → List Name = steps_under c.args.net.now h in
+    let p : Name → Bool = is_accepted c.args.net.now in
     let same : c.list-in-loop.result.now ≡ c.loop.level = search rules in
-    let more : c.next_level.new.accepted.items ≡ c.loop.accepted.items ++ passing_names (is_accepted c.args.net.now) c.loop.level = c.in_ok-level.ensures.accepted ∙ ap (λ (l : List Name). c.loop.accepted.items ++ passing_names (is_accepted c.args.net.now) l) same in
-    let next : c.in_ok-level.level ≡ sorted_names (each_step (steps c.args.net.now) c.loop.level) = c.in_ok-level.ensures.next ∙ ap (λ (l : List Name). sorted_names (each_step (steps c.args.net.now) l)) same in
+    let more : c.next_level.new.accepted.items ≡ c.loop.accepted.items ++ passing_names p c.loop.level = c.in_ok-level.ensures.accepted ∙ ap (λ (l : List Name). c.loop.accepted.items ++ passing_names p l) same in
+    let next : c.in_ok-level.level ≡ sorted_names (each_step f c.loop.level) = c.in_ok-level.ensures.next ∙ ap (λ (l : List Name). sorted_names (each_step f l)) same in
     record {
-      so_far = resolved_next c.args.net.now c.loop.counter c.loop.accepted.items c.next_level.new.accepted.items c.loop.level c.in_ok-level.level (resolved_names c.args.net.now c.args.name) c.loop-test.true c.loop.invariant.so_far more next;
+      so_far = ends_next f p c.loop.counter c.loop.accepted.items c.next_level.new.accepted.items c.loop.level c.in_ok-level.level (resolved_names_under c.args.net.now h c.args.name) c.loop-test.true c.loop.invariant.so_far more next;
       there = c.in_ok-level.ensures.there;
     }
 
 pub returns-clause-resolved : goal.returns-clause-resolved
-returns-clause-resolved c =
-    let whole : sorted_names c.loop.accepted.items ≡ resolved_names c.args.net.now c.args.name = elim c.loop-test.branch [
-      | else-loop-test w ↦ resolved_at_end c.args.net.now c.loop.counter c.loop.accepted.items c.loop.level (resolved_names c.args.net.now c.args.name) (let b = w.loop-test.false in omega arith) c.loop.invariant.so_far
-      | then-loop-test+then-is_empty w ↦ resolved_at_empty c.args.net.now (suc step_limit - c.loop.counter) c.loop.accepted.items c.loop.level (resolved_names c.args.net.now c.args.name) (is_empty c.loop.level (search rules)) c.loop.invariant.so_far
+returns-clause-resolved g c =
+    let kinds : List Meaning = map (λ k. (goal.UnitKind-dyn g (k.vtable, k.value)).meaning k.value) c.args.kinds.now.list.items in
+    let h : Held = bytes_records c.args.net.now kinds c.args.bytes.now c.args.version c.args.access in
+    let f : Name → List Name = steps_under c.args.net.now h in
+    let p : Name → Bool = is_accepted c.args.net.now in
+    let whole : sorted_names c.loop.accepted.items ≡ resolved_names_under c.args.net.now h c.args.name = elim c.loop-test.branch [
+      | else-loop-test w ↦ ends_at_last f p c.loop.counter c.loop.accepted.items c.loop.level (resolved_names_under c.args.net.now h c.args.name) (let b = w.loop-test.false in omega arith) c.loop.invariant.so_far
+      | then-loop-test+then-is_empty w ↦ ends_at_empty f p (suc step_limit_under - c.loop.counter) c.loop.accepted.items c.loop.level (resolved_names_under c.args.net.now h c.args.name) (is_empty c.loop.level (search rules)) c.loop.invariant.so_far
     ] in
-    set_resolves c.loop.accepted.items (resolved_names c.args.net.now c.args.name) c.set_of.result whole c.set_of.ensures
+    set_is_ends c.loop.accepted.items (resolved_names_under c.args.net.now h c.args.name) c.set_of.result whole c.set_of.ensures
 
 pub returns-clause-there : goal.returns-clause-there
-returns-clause-there c =
-    let whole : sorted_names c.loop.accepted.items ≡ resolved_names c.args.net.now c.args.name = elim c.loop-test.branch [
-      | else-loop-test w ↦ resolved_at_end c.args.net.now c.loop.counter c.loop.accepted.items c.loop.level (resolved_names c.args.net.now c.args.name) (let b = w.loop-test.false in omega arith) c.loop.invariant.so_far
-      | then-loop-test+then-is_empty w ↦ resolved_at_empty c.args.net.now (suc step_limit - c.loop.counter) c.loop.accepted.items c.loop.level (resolved_names c.args.net.now c.args.name) (is_empty c.loop.level (search rules)) c.loop.invariant.so_far
+returns-clause-there g c =
+    let kinds : List Meaning = map (λ k. (goal.UnitKind-dyn g (k.vtable, k.value)).meaning k.value) c.args.kinds.now.list.items in
+    let h : Held = bytes_records c.args.net.now kinds c.args.bytes.now c.args.version c.args.access in
+    let f : Name → List Name = steps_under c.args.net.now h in
+    let p : Name → Bool = is_accepted c.args.net.now in
+    let whole : sorted_names c.loop.accepted.items ≡ resolved_names_under c.args.net.now h c.args.name = elim c.loop-test.branch [
+      | else-loop-test w ↦ ends_at_last f p c.loop.counter c.loop.accepted.items c.loop.level (resolved_names_under c.args.net.now h c.args.name) (let b = w.loop-test.false in omega arith) c.loop.invariant.so_far
+      | then-loop-test+then-is_empty w ↦ ends_at_empty f p (suc step_limit_under - c.loop.counter) c.loop.accepted.items c.loop.level (resolved_names_under c.args.net.now h c.args.name) (is_empty c.loop.level (search rules)) c.loop.invariant.so_far
     ] in
-    resolved_within (length c.args.net.now) c.loop.accepted.items (resolved_names c.args.net.now c.args.name) c.set_of.result whole (resolved_exist c.args.net.now c.args.name) c.set_of.ensures
+    set_within (length c.args.net.now) c.loop.accepted.items (resolved_names_under c.args.net.now h c.args.name) c.set_of.result whole (resolved_under_there c.args.net.now h c.args.name) c.set_of.ensures

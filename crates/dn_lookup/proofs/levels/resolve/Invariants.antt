@@ -1,12 +1,15 @@
-use Rattle.std.proofs.Common.{◌≡◌, ◌-◌, suc, length, IsTrue}
-use Rattle.dn_net.specs.Decode.{step_limit}
-use Rattle.dn_net.specs.Names.{resolved_names}
-use Rattle.dn_print.specs.Names.{names_exist}
-use Rattle.dn_lookup.proofs.Levels.{resolved_by}
+use Rattle.std.proofs.Common.{◌≡◌, ◌-◌, suc, length, map, IsTrue}
+use Rattle.dn_net.specs.Decode.{is_accepted}
+use Rattle.dn_kind.specs.Tables.{step_limit_under, steps_under, resolved_names_under}
+use Rattle.dn_lookup.specs.Lookup.{are_there, bytes_records}
+use Rattle.dn_lookup.proofs.Stages.{ends_by}
 use Rattle.dn_lookup.proofs.levels.resolve.Given as goal
 
 abbrev pub invariant-loop : goal.invariant-loop
-invariant-loop l = record {
-  so_far : resolved_by l.net (suc step_limit - l.counter) l.accepted.items l.level ≡ resolved_names l.net l.fn.name;
-  there : IsTrue (names_exist (length l.net) l.level);
-}
+invariant-loop g l =
+    let kinds = map (λ k. (goal.UnitKind-dyn g (k.vtable, k.value)).meaning k.value) l.kinds.list.items in
+    let h = bytes_records l.net kinds l.bytes l.version l.access in
+    record {
+      so_far : ends_by (steps_under l.net h) (is_accepted l.net) (suc step_limit_under - l.counter) l.accepted.items l.level ≡ resolved_names_under l.net h l.fn.name;
+      there : IsTrue (are_there (length l.net) l.level);
+    }
