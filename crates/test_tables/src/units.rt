@@ -128,10 +128,10 @@ fn said(
     assert_eq!(rt; number, Some(1));
     let number = add_unit(alloc, &mut net, count, "second", (VECTORS, shape(0, 1, 32, 1)))?;
     assert_eq!(rt; number, Some(2));
-    if check_units(&net, &kinds).is_err() {
-        return Ok(None);
+    match check_units(&net, &kinds) {
+        Ok(()) => Ok(Some(check(&net, &kinds, bytes))),
+        Err(_) => Ok(None),
     }
-    Ok(Some(check(&net, &kinds, bytes)))
 }
 
 /// An image of that net: 8 bytes, then 8 and 16 for each unit.
