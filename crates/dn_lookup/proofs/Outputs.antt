@@ -1,6 +1,6 @@
 -- Where the record of a slot sends an address.
-use Rattle.std.proofs.Common.{◌≡◌, ℕ, zero, suc, ◌+◌, ◌-◌, ◌*◌, ◌/◌, ◌%◌, ◌^◌, ◌<◌, ◌≤◌, Bool, true, false, if◌then◌else◌, ◌&&◌, nat_le, nat_lt, List, [], ◌∷◌, length, get_or, slice_get, Option, Some, None, Bor, IsTrue, refl, sym, ap, ◌∙◌, subst, arith, ltb-true, pow-add}
-use Rattle.std.specs.Option.{option_map, option_copied}
+use Rattle.std.proofs.Common.{◌≡◌, ℕ, zero, suc, ◌+◌, ◌-◌, ◌*◌, ◌/◌, ◌%◌, ◌^◌, ◌<◌, ◌≤◌, true, false, if◌then◌else◌, nat_le, nat_lt, List, [], ◌∷◌, length, get_or, slice_get, Option, Some, None, IsTrue, refl, sym, ap, ◌∙◌, subst, arith, ltb-true, pow-add}
+use Rattle.std.specs.Option.{option_map}
 use Rattle.std.specs.List.{All}
 use Rattle.std.proofs.Math.Nat.{pow-le-pow_right, one-le-pow, mul-le-mul_right, mod-lt}
 use Rattle.std.proofs.lemmas.Option.{same_Some}
@@ -15,7 +15,6 @@ use Rattle.dn_kind.specs.Kind.{Meaning, IsLawful, is_plain, is_within}
 use Rattle.dn_kind.specs.Tables.{Held, IsHeld, record_held, to_port, output, steps_by_unit, steps_under}
 use Rattle.dn_kind.specs.Units.{unit_shape}
 use Rattle.dn_kind.proofs.Held.{held_records_fit}
-use Rattle.dn_lookup.specs.Lookup.{record_through, bytes_records}
 
 -- what a plain shape says of page and reach
 pub record HasPages (s : Shape) : Type 0 where

@@ -1,5 +1,5 @@
 -- The records of an image that let an access through are those of its tables that allow it.
-use Rattle.std.proofs.Common.{◌≡◌, ◌≢◌, ℕ, zero, suc, ◌+◌, ◌*◌, ◌<◌, ◌≤◌, ◌×◌, ◌==◌, ◌&&◌, Bool, true, false, if◌then◌else◌, nat_lt, List, [], ◌∷◌, ◌++◌, length, take, drop, replicate, slice_get, Option, Some, None, Result, Ok, Err, IsTrue, refl, sym, ap, ◌∙◌, subst, arith, length-drop, length-append, suc-mul}
+use Rattle.std.proofs.Common.{◌≡◌, ℕ, zero, suc, ◌+◌, ◌*◌, ◌<◌, ◌≤◌, ◌==◌, ◌&&◌, Bool, true, false, if◌then◌else◌, List, [], ◌∷◌, ◌++◌, length, take, drop, replicate, slice_get, Option, Some, None, Result, Ok, Err, refl, sym, ap, ◌∙◌, arith, length-drop, length-append, suc-mul}
 use Rattle.std.specs.Option.{option_map}
 use Rattle.std.specs.List.{All}
 use Rattle.std.proofs.lemmas.List.{length-replicate, length-take-le}
@@ -13,15 +13,14 @@ use Rattle.dn_kind.specs.declared.rights.Access.TheVariants.{Read, Write}
 use Rattle.dn_kind.specs.declared.unit_kind.Record.{Record}
 use Rattle.dn_kind.specs.Rights.{allows}
 use Rattle.dn_kind.specs.Kind.{Meaning, IsLawful}
-use Rattle.dn_kind.specs.Tables.{Held, record_held, AreTables, record_allowing, allowing, resolved_names_under}
+use Rattle.dn_kind.specs.Tables.{Held, record_held, AreTables, record_allowing, resolved_names_under}
 use Rattle.dn_kind.specs.Cleared.{kept_slots, kept_of_kind, kept_words, kept_tables, is_open_in, words_allowing}
 use Rattle.dn_kind.proofs.Allowed.{records_allowing}
-use Rattle.dn_image.specs.Bytes.{words_spelled}
-use Rattle.dn_image.specs.Image.{ImageWords, tables_of, width_by, word_count}
-use Rattle.dn_image.specs.Reading.{BrokenImage, broken_image, node_words, nodes_size, words_from, image_words, version_of, reading_by, image_reading}
+use Rattle.dn_image.specs.Image.{ImageWords, width_by, word_count}
+use Rattle.dn_image.specs.Reading.{BrokenImage, broken_image, node_words, nodes_size, image_words, version_of, reading_by, image_reading}
 use Rattle.dn_image.proofs.Numbers.{length_spelled}
 use Rattle.dn_image.proofs.Places.{words_at_node}
-use Rattle.dn_lookup.specs.Lookup.{NoLookup, no_agent, no_image, image_records, looked_up_in, lookup_of, lets_through, record_through, bytes_records}
+use Rattle.dn_lookup.specs.Lookup.{no_agent, no_image, image_records, looked_up_in, lookup_of, record_through, bytes_records}
 
 -- words of which some slots are cleared are as many
 front_sized : (w : ℕ) (ws : List ℕ) (b : Bool) → w ≤ length ws → length (if b then take w ws else replicate w 0) ≡ w

@@ -123,7 +123,7 @@ fn push_steps(
         name) }
 {
     match net.step(name) {
-        Step::Accepted => accepted.push(name),
+        Step::Accepted => Ok(accepted.push(name)?),
         Step::To(dests, offset) => push_moved(next, dests, offset),
         Step::Stop => push_sent(next, output(net, kinds, bytes, version, access, name)),
         Step::Nothing => Ok(()),
@@ -135,7 +135,7 @@ fn push_sent(next: &mut Vec<Name>, sent: Option<Name>) -> Result<(), AllocError>
     ensures { OnOk result (next.new.items ≡ next.old.items ++ name_list sent) }
 {
     match sent {
-        Some(name) => next.push(name),
+        Some(name) => Ok(next.push(name)?),
         None => Ok(()),
     }
 }

@@ -1,15 +1,14 @@
-use Rattle.std.proofs.Common.{arith, ◌≡◌, ◌∙◌, ◌≤◌, ◌+◌, ◌++◌, ◌∷◌, sym, ap, refl, drop, get_or, append-nil, length, map, List}
+use Rattle.std.proofs.Common.{arith, ◌≡◌, ◌∙◌, ◌≤◌, ◌+◌, ◌++◌, ◌∷◌, sym, ap, drop, get_or, append-nil, length, map, List}
 use Rattle.std.proofs.Math.ListN.{drop_of_length-le}
-use Rattle.dn_base.proofs.Lists.{drop_at}
 use Rattle.dn_net.specs.declared.node.Name.{Name}
 use Rattle.dn_net.specs.Decode.{is_accepted}
-use Rattle.dn_net.specs.Names.{each_step}
+use Rattle.dn_net.specs.Names.{each_step, passing_names}
 use Rattle.dn_kind.specs.Kind.{Meaning}
 use Rattle.dn_kind.specs.Tables.{Held, steps_under}
 use Rattle.dn_lookup.specs.Lookup.{bytes_records}
 use Rattle.dn_lookup.proofs.Nodes.{each_under_there}
 use Rattle.dn_lookup.proofs.Stages.{set_there}
-use Rattle.dn_lookup.proofs.Stepping.{passing_next, each_next, there_next}
+use Rattle.dn_lookup.proofs.Stepping.{passing_next, each_next, left_at, there_next}
 use Rattle.dn_lookup.proofs.levels.next_level.Goals as goal
 
 pub loop-name-preserved : goal.loop-name-preserved
@@ -17,10 +16,10 @@ loop-name-preserved g c =
     let kinds : List Meaning = map (λ k. (goal.UnitKind-dyn g (k.vtable, k.value)).meaning k.value) c.args.kinds.now.list.items in
     let f : Name → List Name = steps_under c.args.net.now (bytes_records c.args.net.now kinds c.args.bytes.now c.args.version c.args.access) in
     let x : Name = get_or c.args.level.now c.loop-name.name-index (record { node = 0; addr = 0 }) in
-    let left : drop c.loop-name.name-index c.args.level.now ≡ x ∷ drop (c.loop-name.name-index + 1) c.args.level.now = ? in
+    let left : drop c.loop-name.name-index c.args.level.now ≡ x ∷ drop (c.loop-name.name-index + 1) c.args.level.now = left_at c.args.level.now c.loop-name.name-index (record { node = 0; addr = 0 }) c.loop-name-test.true in
     record {
-      accepted = ?;
-      next = ?;
+      accepted = passing_next (is_accepted c.args.net.now) c.loop-name.accepted.items c.push_steps.new.accepted.items x (drop c.loop-name.name-index c.args.level.now) (drop (c.loop-name.name-index + 1) c.args.level.now) (c.args.accepted.now.items ++ passing_names (is_accepted c.args.net.now) c.args.level.now) c.in_ok-push_steps.ensures.accepted left c.loop-name.invariant.accepted;
+      next = each_next f c.loop-name.next.items c.push_steps.new.next.items x (drop c.loop-name.name-index c.args.level.now) (drop (c.loop-name.name-index + 1) c.args.level.now) (each_step f c.args.level.now) c.in_ok-push_steps.ensures.next left c.loop-name.invariant.next;
       there = (there_next (length c.args.net.now) x (drop c.loop-name.name-index c.args.level.now) (drop (c.loop-name.name-index + 1) c.args.level.now) left c.loop-name.invariant.there).1;
     }
 

@@ -1,8 +1,7 @@
-use Rattle.std.proofs.Common.{◌≡◌, ◌∙◌, ◌≤◌, ◌<◌, ◌/◌, ◌^◌, ap, sym, subst, map, List, ℕ, slice_get, Option, Some, None, IsTrue, if◌then◌else◌, rules, arith}
+use Rattle.std.proofs.Common.{◌≡◌, ◌∙◌, ◌≤◌, ◌/◌, ◌^◌, ap, sym, map, List, ℕ, slice_get, Some, None, IsTrue, if◌then◌else◌, rules, arith}
 use Rattle.std.specs.Option.{option_map, option_copied}
 use Rattle.std.specs.List.{All}
 use Rattle.dn_net.specs.declared.node.Unit.{Unit as UnitPart}
-use Rattle.dn_kind.specs.declared.unit_kind.Record.{Record}
 use Rattle.dn_kind.specs.Kind.{Meaning, IsLawful, is_plain}
 use Rattle.dn_kind.specs.Tables.{Held, record_held}
 use Rattle.dn_kind.specs.Units.{unit_shape}
@@ -10,7 +9,7 @@ use Rattle.dn_tables.proofs.Fresh.{shape_there, plain_there}
 use Rattle.dn_tables.proofs.Slots.{all_of_map}
 use Rattle.dn_image.specs.Reading.{image_words}
 use Rattle.dn_lookup.specs.Lookup.{bytes_records, record_through, name_list}
-use Rattle.dn_lookup.proofs.Outputs.{HasPages, has_pages, IsStopIn, stop_in, no_stop, step_in, within_unit}
+use Rattle.dn_lookup.proofs.Outputs.{has_pages, IsStopIn, stop_in, no_stop, step_in, within_unit}
 use Rattle.dn_lookup.proofs.output.output.Goals as goal
 
 pub overflow_shr-slot : goal.overflow_shr-slot

@@ -1,4 +1,4 @@
-use Rattle.std.proofs.Common.{◌≡◌, ◌∙◌, ℕ, List, get_or, ◌≤◌, ◌<◌, ◌+◌, ◌*◌, ◌%◌, ◌^◌, ap, sym, length, arith}
+use Rattle.std.proofs.Common.{◌≡◌, ◌∙◌, ℕ, List, get_or, ◌≤◌, ◌<◌, ◌*◌, ◌%◌, ◌^◌, ap, length, arith}
 use Rattle.dn_kind.specs.Units.{unit_shape}
 use Rattle.dn_lookup.proofs.Outputs.{HasPages, has_pages, page_is, page_some, output_small, port_there, sent_is}
 use Rattle.dn_lookup.proofs.output.sent.Goals as goal
