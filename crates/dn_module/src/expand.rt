@@ -21,12 +21,14 @@ use dn_kind::kinds::Kinds;
 use dn_parse::syntax::{Cmd, Tree};
 use std::alloc::Global;
 
-/// Expands a tree with these kinds of units, at most 255. The rules on nodes and on units are not tested.
+/// Expands a tree with these kinds of units, at most 255. The rules on nodes and on units are not
+/// tested.
 pub fn expand(alloc: Global, tree: &Tree, kinds: &Kinds) -> Result<Expanded, ExpandFault>
     requires few_kinds { length kinds.now.list.items ≤ 255 }
     // It gives what replacing text gives, or the first fault.
     ensures expansion { Answers outcome_view expand_fault_view result
-        (expansion_of (map (λ k. meaning (k.vtable, k.value)) kinds.now.list.items) (tree_view tree.now)) }
+        (expansion_of (map (λ k. meaning (k.vtable, k.value)) kinds.now.list.items)
+        (tree_view tree.now)) }
     // The kind of each unit is there.
     ensures units { IfOk result (λ e. IsTrue
         (list_all (λ n. has_kind (length kinds.now.list.items) n.unit) e.net)) }

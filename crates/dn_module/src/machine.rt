@@ -121,7 +121,8 @@ fn take<'a>(
     requires free { stack.old.inner.inner.turns ≡ None }
     ensures { Answers (λ _. (stack_works stack.new, state_view made.new)) expand_fault_view result
         (in_front (stack_works stack.old) (item_rewriting
-        (map (λ k. meaning (k.vtable, k.value)) kinds.now.list.items) (visibility_view stack.old.inner.visible)
+        (map (λ k. meaning (k.vtable, k.value)) kinds.now.list.items)
+        (visibility_view stack.old.inner.visible)
         (state_view made.old) (in_item stack.old.inner.scope (item_view statement.now)))) }
 {
     match statement {
@@ -175,8 +176,8 @@ fn declare(
 ) -> Result<(), ExpandFault>
     requires few_kinds { length kinds.now.list.items ≤ 255 }
     ensures { Answers (λ _. drafts.new) expand_fault_view result
-        (with_declaration (map (λ k. meaning (k.vtable, k.value)) kinds.now.list.items) drafts.old line
-        (in_declaration scope.now (declaration_view decl.now))) }
+        (with_declaration (map (λ k. meaning (k.vtable, k.value)) kinds.now.list.items)
+        drafts.old line (in_declaration scope.now (declaration_view decl.now))) }
 {
     let draft = declared_by(alloc, kinds, scope, line, decl)?;
     drafts.add(alloc, draft)

@@ -108,7 +108,8 @@ fn unit_draft(alloc: Global, line: u32, name: Text, unit: DraftUnit) -> Draft
 fn kind_number(kinds: &Kinds, name: &str) -> Result<u8, Flaw>
     requires few_kinds { length kinds.now.list.items ≤ 255 }
     ensures { Answers (λ x. x) some_flaw result
-        (known_kind (kind_place (map (λ k. meaning (k.vtable, k.value)) kinds.now.list.items) name.now)) }
+        (known_kind (kind_place (map (λ k. meaning (k.vtable, k.value)) kinds.now.list.items)
+        name.now)) }
 {
     match kinds.find(name) {
         Some(number) => Ok(number as u8),
