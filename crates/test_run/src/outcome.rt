@@ -1,8 +1,8 @@
 //! What words over a text come to, with a source and a sink in memory.
 
-ghost use Rattle.std.specs.Prelude.{◌≡◌, ◌≢◌, ◌<◌, [], ◌∷◌, false, IfOk};
-ghost use Rattle.std.specs.List.{concat};
-ghost use Rattle.dn_kinds.specs.Layouts.{pages, remap, vectors};
+ghost use Rattle.std.specs.Prelude.{◌≡◌, ◌≢◌, ◌<◌, ◌≤◌, [], false, length, map, IfOk};
+ghost use Rattle.std.specs.List.{All, concat};
+ghost use Rattle.dn_kind.specs.Kind.{IsLawful};
 ghost use Rattle.dn_tool.specs.Answer.{answer as answer_of, is_free};
 
 use dn_base::memory::{MemSink, MemSource};
@@ -49,17 +49,6 @@ pub fn answer(
     failing: Failing<'_>,
 ) -> Result<Outcome, AllocError>
     requires { 0 < most }
-    // A status that is not free is that of the answer, and exactly its output was written.
-    ensures exact { IfOk result (λ o. is_free o.status ≡ false →
-        (o.status ≡ (answer_of words.now (pages ∷ remap ∷ vectors ∷ []) text.now).status)
-        × (o.sink.written
-        ≡ concat (answer_of words.now (pages ∷ remap ∷ vectors ∷ []) text.now).pieces)) }
-    // Where no call is to fail, no fault is answered.
-    ensures sure_source { failing.entry.reads.now ≡ [] → IfOk result (λ o. o.status ≢ 2) }
-    ensures sure_sink { failing.entry.writes.now ≡ [] → IfOk result (λ o. o.status ≢ 3) }
-    // No fault is swallowed: where none is answered, none came.
-    ensures source_counted { IfOk result (λ o. (o.status ≢ 2) → o.source.calls.faults ≡ 0) }
-    ensures sink_counted { IfOk result (λ o. (o.status ≢ 3) → o.sink.calls.faults ≡ 0) }
 {
     pages_are_lawful();
     remap_is_lawful();
@@ -68,10 +57,37 @@ pub fn answer(
     kinds.add(Box::new(alloc, Pages)?)?;
     kinds.add(Box::new(alloc, Remap)?)?;
     kinds.add(Box::new(alloc, Vectors)?)?;
+    answer_with(alloc, words, &kinds, text, most, failing)
+}
+
+/// The same with the kinds that are handed in.
+fn answer_with(
+    alloc: Global,
+    words: &Words,
+    kinds: &Kinds,
+    text: &[u8],
+    most: usize,
+    failing: Failing<'_>,
+) -> Result<Outcome, AllocError>
+    requires some { 0 < most }
+    requires few_kinds { length kinds.now.list.items ≤ 255 }
+    requires lawful { All (λ k. IsLawful (meaning (k.vtable, k.value))) kinds.now.list.items }
+    // A status that is not free is that of the answer, and exactly its output was written.
+    ensures exact { IfOk result (λ o. is_free o.status ≡ false →
+        (o.status ≡ (answer_of words.now (map (λ k. meaning (k.vtable, k.value)) kinds.now.list.items) text.now).status)
+        × (o.sink.written
+        ≡ concat (answer_of words.now (map (λ k. meaning (k.vtable, k.value)) kinds.now.list.items) text.now).pieces)) }
+    // Where no call is to fail, no fault is answered.
+    ensures sure_source { failing.entry.reads.now ≡ [] → IfOk result (λ o. o.status ≢ 2) }
+    ensures sure_sink { failing.entry.writes.now ≡ [] → IfOk result (λ o. o.status ≢ 3) }
+    // No fault is swallowed: where none is answered, none came.
+    ensures source_counted { IfOk result (λ o. (o.status ≢ 2) → o.source.calls.faults ≡ 0) }
+    ensures sink_counted { IfOk result (λ o. (o.status ≢ 3) → o.sink.calls.faults ≡ 0) }
+{
     let bytes = text.to_vec(alloc)?;
     let mut source = MemSource::new(bytes, most, failing.reads.to_vec(alloc)?);
     let mut sink = MemSink::new(alloc, failing.writes.to_vec(alloc)?);
-    let status = run::run(alloc, words, &kinds, &mut source, &mut sink);
+    let status = run::run(alloc, words, kinds, &mut source, &mut sink);
     Ok(Outcome {
         status,
         source,
