@@ -1,4 +1,4 @@
-use Rattle.std.proofs.Common.{rules, ◌≡◌, [], false, ℕ, List, ◌++◌, not, Option, Some, None, ap, ◌∙◌}
+use Rattle.std.proofs.Common.{rules, ◌≡◌, [], ℕ, List, ◌++◌, not, Option, Some, None, ap, ◌∙◌}
 use Rattle.test_run.proofs.outcome.answer_with.Goals as goal
 
 -- a status that is not free is the answer's, and its output was written
