@@ -9,7 +9,6 @@ ghost use Rattle.dn_tool.specs.Reply.{reply, target_text, resolve_text, viewed_t
 
 use crate::compile::Platform;
 use crate::resolve;
-use dn_flat::flat;
 use dn_kind::kinds::Kinds;
 use dn_module::command::{Command, Target};
 use dn_net::net::Net;
@@ -121,7 +120,7 @@ fn agent_view(
     ensures { IfOk result (λ s. string_bytes s ≡
         viewed_text platform.now.net text.now (view_rows platform.now.net node)) }
 {
-    let flat = flat::flatten(alloc, &platform.net, &platform.walks, node)?;
+    let flat = platform.steps.flat(alloc, &platform.net, node)?;
     let count = flat.accepts.rows().len();
     let mut out = format!(in alloc; "view {text} rows {count}\n")?;
     rows::push_rows(&mut out, &platform.net, &flat.accepts)?;
