@@ -116,8 +116,8 @@ fn limit_reply(alloc: Global, name: &str, limit: u32) -> Result<Vec<u8>, AllocEr
 fn unfit(alloc: Global, name: &str, why: Why) -> Result<Vec<u8>, AllocError>
     ensures { IfOk result (λ v. v.items ≡ unfit_text name.now why) }
 {
-    let why = why_word(why);
-    Ok(format!(in alloc; "{name} refused: NotAbsorbable {why}\n")?.into_bytes())
+    let word = why_word(why);
+    Ok(format!(in alloc; "{name} refused: NotAbsorbable {word}\n")?.into_bytes())
 }
 
 /// The word for the reason for which a node cannot be absorbed.
