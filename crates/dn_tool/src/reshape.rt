@@ -13,17 +13,12 @@ use crate::compile::Platform;
 use dn_kind::kinds::Kinds;
 use dn_module::command::Target;
 use dn_net::net::Net;
-use dn_shape::absorb;
 use dn_shape::fault::{AbsorbFault, SplitFault, Why};
-use dn_shape::split;
+use dn_shape::{absorb, split};
 use std::alloc::{AllocError, Global};
 
 /// The reply to `split`: the split net, or the limit that it would pass. `Err` is want of memory.
-pub fn split_reply(
-    alloc: Global,
-    kinds: &Kinds,
-    platform: &Platform,
-) -> Result<Vec<u8>, AllocError>
+pub fn split_reply(alloc: Global, kinds: &Kinds, platform: &Platform) -> Result<Vec<u8>, AllocError>
     requires lawful { All (λ k. IsLawful (meaning (k.vtable, k.value))) kinds.now.list.items }
     requires shaped { shape_fault (map (λ k. meaning (k.vtable, k.value)) kinds.now.list.items) platform.now.net
         ≡ None }
@@ -85,12 +80,7 @@ fn past_reply(
 }
 
 /// A net that a command of this word made, below a heading that has the number of its nodes.
-fn made_reply(
-    alloc: Global,
-    kinds: &Kinds,
-    word: &str,
-    net: &Net,
-) -> Result<Vec<u8>, AllocError>
+fn made_reply(alloc: Global, kinds: &Kinds, word: &str, net: &Net) -> Result<Vec<u8>, AllocError>
     requires closed { IsTrue (is_closed net.now) }
     requires lawful { All (λ k. IsLawful (meaning (k.vtable, k.value))) kinds.now.list.items }
     requires known { IsTrue
