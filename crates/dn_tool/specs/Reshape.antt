@@ -35,9 +35,13 @@ why_text Unit = codes "unit"
 why_text Port = codes "port"
 why_text SelfStep = codes "self"
 
+-- the reply by a fault and the word behind it
+abbrev pub fault_text : List ℕ → List ℕ → List ℕ → List ℕ
+fault_text name fault word = name ++ (codes " refused: " ++ (fault ++ (codes " " ++ (word ++ codes "\n"))))
+
 -- the reply where the node of this name cannot be absorbed
 abbrev pub unfit_text : List ℕ → Why → List ℕ
-unfit_text name why = name ++ (codes " refused: NotAbsorbable " ++ (why_text why ++ codes "\n"))
+unfit_text name why = fault_text name (codes "NotAbsorbable") (why_text why)
 
 -- the reply where the node of this name is not absorbed
 abbrev pub refusal_text : List ℕ → Refusal → List ℕ

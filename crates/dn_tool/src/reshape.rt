@@ -7,7 +7,7 @@ ghost use Rattle.dn_kind.specs.Kind.{IsLawful};
 ghost use Rattle.dn_kind.specs.Units.{has_kind, shape_fault};
 ghost use Rattle.dn_net.specs.Decode.{is_closed, over_within};
 ghost use Rattle.dn_shape.specs.Absorb.{absorb_outcome};
-ghost use Rattle.dn_tool.specs.Reshape.{made_text, limit_text, split_text, why_text, unfit_text, absorbed_text, no_node_text, absorb_text};
+ghost use Rattle.dn_tool.specs.Reshape.{made_text, limit_text, split_text, fault_text, unfit_text, absorbed_text, no_node_text, absorb_text};
 
 use crate::compile::Platform;
 use dn_kind::kinds::Kinds;
@@ -106,21 +106,25 @@ fn limit_reply(alloc: Global, name: &str, limit: u32) -> Result<Vec<u8>, AllocEr
 fn unfit(alloc: Global, name: &str, why: Why) -> Result<Vec<u8>, AllocError>
     ensures { IfOk result (λ v. v.items ≡ unfit_text name.now why) }
 {
-    let word = why_word(why);
-    Ok(format!(in alloc; "{name} refused: NotAbsorbable {word}\n")?.into_bytes())
+    match why {
+        Why::Accepts => fault_reply(alloc, name, "NotAbsorbable", "accepts"),
+        Why::Agent => fault_reply(alloc, name, "NotAbsorbable", "agent"),
+        Why::Unit => fault_reply(alloc, name, "NotAbsorbable", "unit"),
+        Why::Port => fault_reply(alloc, name, "NotAbsorbable", "port"),
+        Why::SelfStep => fault_reply(alloc, name, "NotAbsorbable", "self"),
+    }
 }
 
-/// The word for the reason for which a node cannot be absorbed.
-fn why_word(why: Why) -> &'static str
-    ensures { result.now ≡ why_text why }
+/// The reply by a fault and the word behind it.
+fn fault_reply(
+    alloc: Global,
+    name: &str,
+    fault: &str,
+    word: &str,
+) -> Result<Vec<u8>, AllocError>
+    ensures { IfOk result (λ v. v.items ≡ fault_text name.now fault.now word.now) }
 {
-    match why {
-        Why::Accepts => "accepts",
-        Why::Agent => "agent",
-        Why::Unit => "unit",
-        Why::Port => "port",
-        Why::SelfStep => "self",
-    }
+    Ok(format!(in alloc; "{name} refused: {fault} {word}\n")?.into_bytes())
 }
 
 /// The reply where there is no such node.
