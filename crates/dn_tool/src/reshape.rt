@@ -116,12 +116,7 @@ fn unfit(alloc: Global, name: &str, why: Why) -> Result<Vec<u8>, AllocError>
 }
 
 /// The reply by a fault and the word behind it.
-fn fault_reply(
-    alloc: Global,
-    name: &str,
-    fault: &str,
-    word: &str,
-) -> Result<Vec<u8>, AllocError>
+fn fault_reply(alloc: Global, name: &str, fault: &str, word: &str) -> Result<Vec<u8>, AllocError>
     ensures { IfOk result (λ v. v.items ≡ fault_text name.now fault.now word.now) }
 {
     Ok(format!(in alloc; "{name} refused: {fault} {word}\n")?.into_bytes())
