@@ -5,6 +5,7 @@ pub mod Levels
 pub mod NodeFaults
 pub mod Refusals
 pub mod Replies
+pub mod Reshaped
 pub mod Shaped
 pub mod WalkFaults
 pub mod Sets

@@ -4,3 +4,4 @@ pub mod Reply
 pub mod Answer
 pub mod Halt
 pub mod Platform
+pub mod Reshape

@@ -12,6 +12,7 @@ use Rattle.dn_module.specs.declared.command.Command.TheVariants.{Resolve, Lookup
 use Rattle.dn_module.specs.declared.command.Target.{Target}
 use Rattle.dn_print.specs.Names.{address_text, names_text}
 use Rattle.dn_print.specs.Rows.{rows_text}
+use Rattle.dn_tool.specs.Reshape.{split_text, absorb_text}
 
 -- the names to which an address of a node resolves, where there is such a node
 abbrev pub target_text : List NodeDecl → Option ℕ → ℕ → List ℕ
@@ -52,8 +53,8 @@ reply kinds net (Grant id from target base size) = later_text (codes "grant")
 reply kinds net (Route id from line target) = later_text (codes "route")
 reply kinds net (Revoke id) = later_text (codes "revoke")
 reply kinds net Dump = later_text (codes "dump")
-reply kinds net Split = later_text (codes "split")
-reply kinds net (Absorb target) = later_text (codes "absorb")
+reply kinds net Split = split_text kinds net
+reply kinds net (Absorb target) = absorb_text kinds net target
 
 -- what commands are answered by, and what they may change: the net, which none changes so far
 pub record State : Type 0 where

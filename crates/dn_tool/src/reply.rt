@@ -1,14 +1,17 @@
 //! The reply to each command, as it is printed.
 
-ghost use Rattle.std.specs.Prelude.{◌≡◌, ◌<◌, length, map, slice_get, IfOk, IsTrue};
+ghost use Rattle.std.specs.Prelude.{◌≡◌, ◌<◌, None, length, map, slice_get, IfOk, IsTrue};
+ghost use Rattle.std.specs.List.{All};
 ghost use Rattle.std.specs.String.{string_bytes};
 ghost use Rattle.dn_net.specs.Decode.{is_agent_at, over_within};
+ghost use Rattle.dn_kind.specs.Kind.{IsLawful};
+ghost use Rattle.dn_kind.specs.Units.{shape_fault};
 ghost use Rattle.dn_module.specs.Commands.{names_within};
 ghost use Rattle.dn_flat.specs.Views.{view_rows};
 ghost use Rattle.dn_tool.specs.Reply.{reply, target_text, resolve_text, viewed_text, no_agent_text, view_text, later_text};
 
 use crate::compile::Platform;
-use crate::resolve;
+use crate::{reshape, resolve};
 use dn_kind::kinds::Kinds;
 use dn_module::command::{Command, Target};
 use dn_net::net::Net;
@@ -16,35 +19,41 @@ use dn_net::node::{Name, Role};
 use dn_print::{names, rows};
 use std::alloc::{AllocError, Global};
 
-/// The reply to a command: a line, and below that of `view` a line for each row. `Err` is want of memory.
+/// The reply to a command: a line, and below that of `view` a line for each row, and below that of
+/// `split` and `absorb` a line for each node of the net that is made. `Err` is want of memory.
 pub fn reply(
     alloc: Global,
-    _kinds: &Kinds,
+    kinds: &Kinds,
     platform: &Platform,
     command: &Command,
-) -> Result<String, AllocError>
-    requires { IsTrue (names_within (length platform.now.net) command.now) }
-    ensures { IfOk result (λ s. string_bytes s ≡
-        reply (map (λ k. meaning (k.vtable, k.value)) _kinds.now.list.items) platform.now.net command.now) }
+) -> Result<Vec<u8>, AllocError>
+    requires lawful { All (λ k. IsLawful (meaning (k.vtable, k.value))) kinds.now.list.items }
+    requires shaped { shape_fault (map (λ k. meaning (k.vtable, k.value)) kinds.now.list.items) platform.now.net
+        ≡ None }
+    requires known { IsTrue (names_within (length platform.now.net) command.now) }
+    ensures { IfOk result (λ v. v.items ≡
+        reply (map (λ k. meaning (k.vtable, k.value)) kinds.now.list.items) platform.now.net command.now) }
 {
     match command {
-        Command::Resolve(target, addr) => resolve_reply(alloc, platform, target, *addr),
+        Command::Resolve(target, addr) => {
+            Ok(resolve_reply(alloc, platform, target, *addr)?.into_bytes())
+        }
         Command::Lookup(..) => later(alloc, "lookup"),
-        Command::View(target) => view_reply(alloc, platform, target),
+        Command::View(target) => Ok(view_reply(alloc, platform, target)?.into_bytes()),
         Command::Grant(..) => later(alloc, "grant"),
         Command::Route(..) => later(alloc, "route"),
         Command::Revoke(..) => later(alloc, "revoke"),
         Command::Dump => later(alloc, "dump"),
-        Command::Split => later(alloc, "split"),
-        Command::Absorb(..) => later(alloc, "absorb"),
+        Command::Split => reshape::split_reply(alloc, kinds, platform),
+        Command::Absorb(target) => reshape::absorb_reply(alloc, kinds, platform, target),
     }
 }
 
 /// The reply to a command of this word that is not answered so far.
-fn later(alloc: Global, word: &str) -> Result<String, AllocError>
-    ensures { IfOk result (λ s. string_bytes s ≡ later_text word.now) }
+fn later(alloc: Global, word: &str) -> Result<Vec<u8>, AllocError>
+    ensures { IfOk result (λ v. v.items ≡ later_text word.now) }
 {
-    format!(in alloc; "{word} refused: later\n")
+    Ok(format!(in alloc; "{word} refused: later\n")?.into_bytes())
 }
 
 /// The reply to `resolve`.

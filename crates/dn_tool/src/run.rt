@@ -226,6 +226,9 @@ fn answer_all<K: Sink>(
     platform: &Platform,
     sink: &mut K,
 ) -> Result<(), Halt>
+    requires lawful { All (λ k. IsLawful (meaning (k.vtable, k.value))) kinds.now.list.items }
+    requires shaped { shape_fault (map (λ k. meaning (k.vtable, k.value)) kinds.now.list.items) platform.now.net
+        ≡ None }
     ensures written { AreWritten (K.written sink.old) (K.written sink.new)
         (is_ok result) (is_write_halt result)
         (replies (map (λ k. meaning (k.vtable, k.value)) kinds.now.list.items)
@@ -233,8 +236,8 @@ fn answer_all<K: Sink>(
     ensures counted { IsCounted (K.faults sink.old) (K.faults sink.new) (is_write_halt result) }
 {
     for command in platform.commands.as_slice() {
-        let line = reply::reply(alloc, kinds, platform, command)?;
-        write_output(sink, line.as_bytes())?;
+        let text = reply::reply(alloc, kinds, platform, command)?;
+        write_output(sink, text.as_slice())?;
     }
     Ok(())
 }

@@ -9,8 +9,8 @@ use Rattle.dn_tool.specs.Reply.{State, reply, replies, state_after}
 use Rattle.dn_tool.proofs.Replies.{replies_all, replies_more, replies_next, replies_split}
 use Rattle.dn_tool.proofs.run.answer_all.Goals as goal
 
-pub returns-in_err-line-clause-written : goal.returns-in_err-line-clause-written
-returns-in_err-line-clause-written g c =
+pub returns-in_err-text-clause-written : goal.returns-in_err-text-clause-written
+returns-in_err-text-clause-written g c =
     let kinds : List Meaning = map (λ k. (goal.UnitKind-dyn g (k.vtable, k.value)).meaning k.value) c.args.kinds.now.list.items in
     let s : State = record { net = c.args.platform.now.net } in
     let cs = c.args.platform.now.commands in
@@ -27,11 +27,11 @@ returns-in_err-write_output-clause-written g c =
     let i = c.loop-command.command-index in
     let within : i < length cs = search rules in
     let at : c.command-item.result ≡ get_or cs i c.command-item.result = search rules in
-    let is : c.as_bytes.result.now ≡ reply kinds s.net c.command-item.result = search rules in
+    let is : c.as_slice.result.now ≡ reply kinds s.net c.command-item.result = search rules in
     let done : is_ok c.from_residual-in_err-write_output.result ≡ false = search rules in
     let failed : is_write_halt c.from_residual-in_err-write_output.result ≡ is_write_halt c.write_output.result = search rules in
     let stop : is_ok c.write_output.result ≡ false = search rules in
-    rw (done, failed) (written_then _ _ _ _ (replies kinds s (take i cs)) (replies kinds (state_after kinds s (take i cs)) (drop (i + 1) cs)) (replies kinds s cs) c.as_bytes.result.now c.loop-command.invariant.so_far (rw stop at c.write_output.ensures.written) (replies_next kinds s cs i c.command-item.result c.as_bytes.result.now within at is))
+    rw (done, failed) (written_then _ _ _ _ (replies kinds s (take i cs)) (replies kinds (state_after kinds s (take i cs)) (drop (i + 1) cs)) (replies kinds s cs) c.as_slice.result.now c.loop-command.invariant.so_far (rw stop at c.write_output.ensures.written) (replies_next kinds s cs i c.command-item.result c.as_slice.result.now within at is))
 
 pub loop-command-preserved : goal.loop-command-preserved
 loop-command-preserved g c =
@@ -41,10 +41,10 @@ loop-command-preserved g c =
     let i = c.loop-command.command-index in
     let within : i < length cs = search rules in
     let at : c.command-item.result ≡ get_or cs i c.command-item.result = search rules in
-    let is : c.as_bytes.result.now ≡ reply kinds s.net c.command-item.result = search rules in
+    let is : c.as_slice.result.now ≡ reply kinds s.net c.command-item.result = search rules in
     let P : List ℕ → Type 0 = λ told. Added (g.K.Sink.written c.args.sink.now) (g.K.Sink.written c.write_output.new.sink) told in
     record {
-      so_far = subst P (sym (replies_more kinds s cs i c.command-item.result c.as_bytes.result.now within at is)) (Added-then _ _ _ _ _ c.loop-command.invariant.so_far (c.in_ok-write_output.ensures.written.whole refl));
+      so_far = subst P (sym (replies_more kinds s cs i c.command-item.result c.as_slice.result.now within at is)) (Added-then _ _ _ _ _ c.loop-command.invariant.so_far (c.in_ok-write_output.ensures.written.whole refl));
       counted = counted_then _ _ _ _ c.loop-command.invariant.counted c.in_ok-write_output.ensures.counted;
     }
 
