@@ -11,4 +11,4 @@ check_units-requires-clause-known g c =
     subst (λ n. IsTrue (list_all (λ (d : NodeDecl). has_kind n d.unit) c.add_unit-2.new.net)) c.len-count.ensures c.add_unit-2.ensures.known
 
 pub check-requires-clause-shaped : goal.check-requires-clause-shaped
-check-requires-clause-shaped g c = ((shape_fault_is_first _ c.add_unit-2.new.net).0).0 c.in-Ok.ensures
+check-requires-clause-shaped g c = ((shape_fault_is_first _ c.add_unit-2.new.net).0).0 c.in-Ok.ensures.checks
