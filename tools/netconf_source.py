@@ -45,7 +45,8 @@ class Node:
     """A node with its full name, its parts, and the place that declares it.
 
     `role` is the word before the name (`agent`, `vectors`, `unit`), or empty. `uses` has for each module round the
-    declaration the line of its `use`, the module's name and the full name of the use, the outermost first."""
+    declaration the line of its `use`, the module's name and the full name of the use, the outermost first. `shape` has of
+    a unit the word of its kind and its page, slots and reach."""
     name: str
     role: str
     line: int
@@ -54,6 +55,7 @@ class Node:
     entries: list = field(default_factory=list)
     over: str | None = None
     over_line: int = 0
+    shape: list = field(default_factory=list)
     ports: list = field(default_factory=list)
 
 
@@ -195,12 +197,12 @@ class Reader:
 
     def read_unit(self):
         """What stands behind `unit`."""
-        name = self.name()
+        name, shape = self.name(), []
         for word in ("kind", "page", "slots", "reach"):
             self.want(word)
-            self.take() if word == "kind" else self.expression()
+            shape.append(self.take() if word == "kind" else self.expression())
         self.want("to")
-        return {"name": name, "ports": self.list_of(self.name)}
+        return {"name": name, "shape": shape, "ports": self.list_of(self.name)}
 
     def read_module(self):
         """What stands behind `module`."""
@@ -353,6 +355,8 @@ def node_of(statement, scope):
     parts = statement.parts
     node = Node(declared(parts["name"], scope), statement.kind, statement.line, scope.uses)
     if statement.kind == "unit":
+        kind, *numbers = parts["shape"]
+        node.shape = [kind] + [value(number, scope) for number in numbers]
         node.ports = [referred(port, scope) for port in parts["ports"]]
         return node
     node.accepts = [Block(value(lo, scope), value(hi, scope), line) for line, lo, hi in parts["accepts"]]

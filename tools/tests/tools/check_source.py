@@ -30,6 +30,10 @@ def normal(nodes):
     """The nodes as `netconf check` prints them."""
     lines = []
     for node in nodes.values():
+        if node.role == "unit":
+            kind, page, slots, reach = node.shape
+            lines.append(f"unit {node.name} kind {kind} page {page} slots {slots} reach {reach} to {', '.join(node.ports)};\n")
+            continue
         line = (node.role + " " if node.role else "") + node.name + " is"
         line += f" accept [{', '.join(map(str, node.accepts))}]" if node.accepts else ""
         line += f" map [{', '.join(map(str, node.entries))}]" if node.entries else ""
