@@ -1,9 +1,10 @@
 //! Bytes that are an image of a net of two units, or are not at one place each.
 
-ghost use Rattle.std.specs.Prelude.{◌≡◌, IfOk, IsTrue};
+ghost use Rattle.std.specs.Prelude.{IsTrue};
 ghost use Rattle.std.specs.List.{list_all};
-ghost use Rattle.dn_kind.specs.Units.{has_kind, unit_shape};
+ghost use Rattle.dn_kind.specs.Units.{has_kind};
 
+use crate::unit_of;
 use dn_base::items::Items;
 use dn_base::text::Text;
 use dn_image::check::check;
@@ -17,7 +18,7 @@ use dn_kinds::remap::{Remap, remap_is_lawful};
 use dn_kinds::vectors::{Vectors, vectors_are_lawful};
 use dn_net::net::Net;
 use dn_net::node::{NodeDecl, Role, Unit};
-use std::alloc::{AllocError, Global};
+use std::alloc::Global;
 use std::process::Abort;
 use std::test::Fail;
 
@@ -89,21 +90,6 @@ fn add_unit(
     }
     let unit = unit_of(alloc, kind, shape)?;
     add(alloc, net, count, Text::of(alloc, title)?, Some(unit))
-}
-
-/// A unit of this shape, of the kind of a number. Its ports are all node 0. `Err` is want of memory.
-fn unit_of(alloc: Global, kind: u8, shape: Shape) -> Result<Unit, AllocError>
-    ensures kind { IfOk result (λ u. u.kind ≡ kind) }
-    ensures shape { IfOk result (λ u. unit_shape u ≡ shape) }
-{
-    let ports = vec![in alloc; 0; usize::from(shape.ports)]?;
-    Ok(Unit {
-        kind,
-        page: shape.page,
-        slots: shape.slots,
-        reach: shape.reach,
-        ports: Items::from_vec(ports),
-    })
 }
 
 /// What is said of bytes as an image of a net of a plain node, which is node 0, and two units behind it: of two
