@@ -1,0 +1,6 @@
+pub mod Exposure
+pub mod Keys
+pub mod Order
+pub mod Placement
+pub mod Records
+pub mod Slots
