@@ -6,5 +6,4 @@
 //! order is taken. The definitions stand here, with their laws.
 #![tactic(auto)]
 
-pub mod laws;
 pub mod request;

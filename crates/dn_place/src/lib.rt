@@ -1,0 +1,4 @@
+//! The search for the first admissible placement of a request.
+#![tactic(auto)]
+
+pub mod first;

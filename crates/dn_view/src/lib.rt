@@ -1,0 +1,6 @@
+//! What agents see under tables, and whether a placement shows exactly its buffer.
+#![tactic(auto)]
+
+pub mod exact;
+pub mod resolve;
+pub mod view;
