@@ -16,23 +16,23 @@ target_of known name = do
 
 -- a command, its expressions taken from left to right
 abbrev pub command_of : List (List ℕ) → Order → Result Command Flaw
-command_of known (resolve name e) = do
+command_of known (resolve name e m) = do
   target ← target_of known name
   addr ← value e
-  Ok (Resolve target addr)
-command_of known (lookup name e) = do
+  Ok (Resolve target addr m)
+command_of known (lookup name e m) = do
   target ← target_of known name
   addr ← value e
-  Ok (Lookup target addr)
-command_of known (view name) = do
+  Ok (Lookup target addr m)
+command_of known (view name m) = do
   target ← target_of known name
-  Ok (View target)
-command_of known (grant id agent name e f) = do
+  Ok (View target m)
+command_of known (grant id agent name e f m) = do
   from ← target_of known agent
   target ← target_of known name
   base ← value e
   size ← value f
-  Ok (Grant id from target base size)
+  Ok (Grant id from target base size m)
 command_of known (route id agent e name) = do
   from ← target_of known agent
   line ← value e
@@ -56,10 +56,10 @@ node_within count (Some number) = nat_lt number count
 
 -- each node that a command names is one of so many
 abbrev pub names_within : ℕ → Command → Bool
-names_within count (Resolve target a) = node_within count target.node
-names_within count (Lookup target a) = node_within count target.node
-names_within count (View target) = node_within count target.node
-names_within count (Grant id from target base size) = node_within count from.node && node_within count target.node
+names_within count (Resolve target a m) = node_within count target.node
+names_within count (Lookup target a m) = node_within count target.node
+names_within count (View target m) = node_within count target.node
+names_within count (Grant id from target base size m) = node_within count from.node && node_within count target.node
 names_within count (Route id from line target) = node_within count from.node && node_within count target.node
 names_within count (Revoke id) = true
 names_within count Dump = true

@@ -2,21 +2,23 @@
 
 use dn_base::items::Items;
 use dn_base::text::Text;
+use dn_parse::syntax::Mode;
 
 /// The commands, in order.
 pub type Commands = Items<Command>;
 
-/// A command of a script. The first text of a grant, a route and a revoke is its id.
+/// A command of a script. The first text of a grant, a route and a revoke is its id. The mode of
+/// the first four is the access that the command says, where it says one.
 #[derive(Drop)]
 pub enum Command {
     /// What an address of a node comes to.
-    Resolve(Target, u64),
+    Resolve(Target, u64, Mode),
     /// What an address of an agent comes to under the tables.
-    Lookup(Target, u64),
+    Lookup(Target, u64, Mode),
     /// What an agent reaches.
-    View(Target),
+    View(Target, Mode),
     /// To let an agent reach a node's addresses from a base on, so many.
-    Grant(Text, Target, Target, u64, u64),
+    Grant(Text, Target, Target, u64, u64, Mode),
     /// To send a line of an agent to a node.
     Route(Text, Target, u64, Target),
     /// To take a grant or a route back.

@@ -18,7 +18,7 @@ use crate::values::{Flaw, NameFault, declared_name, value};
 use dn_base::items::Items;
 use dn_base::text::Text;
 use dn_parse::syntax;
-use dn_parse::syntax::{Expr, NameExpr, Order};
+use dn_parse::syntax::{Expr, Mode, NameExpr, Order};
 use std::alloc::Global;
 
 /// The commands, with the nodes that they name by their numbers, or the first fault.
@@ -58,11 +58,11 @@ fn command(alloc: Global, names: &NameTable, order: &Order) -> Result<Command, N
     ensures known { IfOk result (λ c. IsTrue (names_within (length names.now) c)) }
 {
     match order {
-        Order::Resolve(name, expr) => resolve(alloc, names, name, expr),
-        Order::Lookup(name, expr) => lookup(alloc, names, name, expr),
-        Order::View(name) => view(alloc, names, name),
-        Order::Grant(id, agent, name, base, size) => {
-            grant(alloc, names, id, agent, name, base, size)
+        Order::Resolve(name, expr, mode) => resolve(alloc, names, name, expr, *mode),
+        Order::Lookup(name, expr, mode) => lookup(alloc, names, name, expr, *mode),
+        Order::View(name, mode) => view(alloc, names, name, *mode),
+        Order::Grant(id, agent, name, base, size, mode) => {
+            grant(alloc, names, id, agent, name, base, size, *mode)
         }
         Order::Route(id, agent, line, name) => route(alloc, names, id, agent, line, name),
         Order::Revoke(id) => revoke(alloc, id),
@@ -104,14 +104,15 @@ fn resolve(
     names: &NameTable,
     name: &NameExpr,
     expr: &Expr,
+    mode: Mode,
 ) -> Result<Command, NameFault>
     ensures made { Answers (λ x. x) name_fault_view result
-        (command_of names.now (asks_resolve (name_view name.now) (expr_view expr.now))) }
+        (command_of names.now (asks_resolve (name_view name.now) (expr_view expr.now) mode)) }
     ensures known { IfOk result (λ c. IsTrue (names_within (length names.now) c)) }
 {
     let target = target(alloc, names, name)?;
     let addr = number(alloc, expr)?;
-    Ok(Command::Resolve(target, addr))
+    Ok(Command::Resolve(target, addr, mode))
 }
 
 fn lookup(
@@ -119,23 +120,29 @@ fn lookup(
     names: &NameTable,
     name: &NameExpr,
     expr: &Expr,
+    mode: Mode,
 ) -> Result<Command, NameFault>
     ensures made { Answers (λ x. x) name_fault_view result
-        (command_of names.now (asks_lookup (name_view name.now) (expr_view expr.now))) }
+        (command_of names.now (asks_lookup (name_view name.now) (expr_view expr.now) mode)) }
     ensures known { IfOk result (λ c. IsTrue (names_within (length names.now) c)) }
 {
     let target = target(alloc, names, name)?;
     let addr = number(alloc, expr)?;
-    Ok(Command::Lookup(target, addr))
+    Ok(Command::Lookup(target, addr, mode))
 }
 
-fn view(alloc: Global, names: &NameTable, name: &NameExpr) -> Result<Command, NameFault>
+fn view(
+    alloc: Global,
+    names: &NameTable,
+    name: &NameExpr,
+    mode: Mode,
+) -> Result<Command, NameFault>
     ensures made { Answers (λ x. x) name_fault_view result
-        (command_of names.now (asks_view (name_view name.now))) }
+        (command_of names.now (asks_view (name_view name.now) mode)) }
     ensures known { IfOk result (λ c. IsTrue (names_within (length names.now) c)) }
 {
     let target = target(alloc, names, name)?;
-    Ok(Command::View(target))
+    Ok(Command::View(target, mode))
 }
 
 fn absorb(alloc: Global, names: &NameTable, name: &NameExpr) -> Result<Command, NameFault>
@@ -156,10 +163,11 @@ fn grant(
     name: &NameExpr,
     base: &Expr,
     size: &Expr,
+    mode: Mode,
 ) -> Result<Command, NameFault>
     ensures made { Answers (λ x. x) name_fault_view result
         (command_of names.now (asks_grant id.now (name_view agent.now) (name_view name.now)
-        (expr_view base.now) (expr_view size.now))) }
+        (expr_view base.now) (expr_view size.now) mode)) }
     ensures known { IfOk result (λ c. IsTrue (names_within (length names.now) c)) }
 {
     let agent = target(alloc, names, agent)?;
@@ -167,7 +175,7 @@ fn grant(
     let base = number(alloc, base)?;
     let size = number(alloc, size)?;
     let id = Text::of(alloc, id.as_str())?;
-    Ok(Command::Grant(id, agent, node, base, size))
+    Ok(Command::Grant(id, agent, node, base, size, mode))
 }
 
 /// A route of a line of the first node named to the second.

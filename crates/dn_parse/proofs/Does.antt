@@ -8,11 +8,11 @@ use Rattle.dn_token.specs.declared.token.Sign.TheVariants.{OpenParenthesis, Clos
 use Rattle.dn_token.specs.Token.{Lexeme, Token, word, keyword, number, sign}
 use Rattle.dn_token.specs.Words.{same_keyword, same_sign}
 use Rattle.dn_parse.specs.Actions.{Value, Action, perform, text, keep}
-use Rattle.dn_parse.specs.Forms.{Form, takes, does, either, many, Sort, a_word, any_word, the_keyword, the_sign, is, is_sign, is_keyword, kept}
+use Rattle.dn_parse.specs.Forms.{Form, takes, does, either, many, Sort, a_word, any_word, the_word, the_keyword, the_sign, is, is_sign, is_keyword, is_the_word, kept}
 use Rattle.dn_parse.specs.Forms.{and_then as both}
-use Rattle.dn_parse.specs.Syntax.{the, mark, at_most}
+use Rattle.dn_parse.specs.Syntax.{the, this, mark, at_most}
 use Rattle.dn_parse.specs.Machine.{to, refuses, taken, followed, or_else, repeated, move, on, fed, feed, Stop, refused, deep, Outcome, stopped, Place, inside, run, go, go_in, is_deep, parentheses}
-use Rattle.dn_parse.specs.Descent.{and_then, Read, Next, Reader, refuses_at, optional, after, after_sign, after_keyword, or_refused, sign_at, keyword_at, word_of, any_of, value_or, word_at, any_word_at, with_front, row, row_from, row_at, one_more, first_and, first_and_most}
+use Rattle.dn_parse.specs.Descent.{and_then, Read, Next, Reader, refuses_at, optional, after, after_sign, after_keyword, after_word, or_refused, sign_at, keyword_at, the_word_at, word_of, any_of, value_or, word_at, any_word_at, with_front, row, row_from, row_at, one_more, first_and, first_and_most}
 use Rattle.dn_parse.proofs.Turns.{run_then, run_does}
 
 -- From the values that were pushed so far a form makes one value: what was read, or the same stop. The parentheses that are open are counted before and behind it.
@@ -80,6 +80,12 @@ keyword_counts k n (keyword j) e = (refl, refl)
 keyword_counts k n (number x) e = cc
 keyword_counts k n (sign s) e = cc
 
+pub the_word_counts : (w : List ℕ) (n : ℕ) → Counts (the_word w) n n
+the_word_counts w n (word v) e = (refl, refl)
+the_word_counts w n (keyword j) e = cc
+the_word_counts w n (number x) e = cc
+the_word_counts w n (sign s) e = cc
+
 pub sign_counts : (s : Sign) (n m : ℕ) → parentheses n (sign s) ≡ m → is_deep n (sign s) ≡ false → Counts (the_sign s) n m
 sign_counts s n m p q (word w) e = cc
 sign_counts s n m p q (keyword j) e = cc
@@ -105,6 +111,11 @@ pub keyword_after : (j : Keyword) (n : ℕ) (ts : List Token) → After (the j) 
 unfolding keyword_at after_keyword
 keyword_after j n [] = record { it = λ line k vs. refl }
 keyword_after j n (t ∷ ts) = one_token (the_keyword j) n n t ts (keyword_counts j n) (λ l vs. refl) (is_keyword j t.lexeme) refl
+
+pub the_word_after : (w : List ℕ) (n : ℕ) (ts : List Token) → After (this w) n n ts (the_word_at w ts)
+unfolding the_word_at after_word
+the_word_after w n [] = record { it = λ line k vs. refl }
+the_word_after w n (t ∷ ts) = one_token (the_word w) n n t ts (the_word_counts w n) (λ l vs. refl) (is_the_word w t.lexeme) refl
 
 pub sign_after : (s : Sign) (n m : ℕ) (ts : List Token) → parentheses n (sign s) ≡ m → is_deep n (sign s) ≡ false → After (mark s) n m ts (sign_at s ts)
 unfolding sign_at after_sign
@@ -171,6 +182,11 @@ pub if_keyword : {X : Type 0} {f g : Form} {n m : ℕ} {ws : List Value} {val : 
 unfolding after_keyword
 if_keyword {f} {g} {n} {m} {ws} {val} present absent k [] h h' = does_by (either (both (the k) f) g) g n n m [] [] ws ws val absent (λ line j vs. refl) (omega arith) h'
 if_keyword {f} {g} {n} {m} {ws} {val} present absent k (t ∷ ts) h h' = choose_token (the_keyword k) f g n n m t ts ws val present absent (keyword_counts k n) (λ l vs. refl) h h' (is_keyword k t.lexeme) refl
+
+pub if_word : {X : Type 0} {f g : Form} {n m : ℕ} {ws : List Value} {val : X → Value} (present : List Token → Read X) (absent : Read X) (w : List ℕ) (ts : List Token) → ((rest : List Token) → Does f n m rest ws val (present rest)) → Does g n m ts ws val absent → Does (either (both (this w) f) g) n m ts ws val (optional (after_word w ts) present absent)
+unfolding after_word
+if_word {f} {g} {n} {m} {ws} {val} present absent w [] h h' = does_by (either (both (this w) f) g) g n n m [] [] ws ws val absent (λ line j vs. refl) (omega arith) h'
+if_word {f} {g} {n} {m} {ws} {val} present absent w (t ∷ ts) h h' = choose_token (the_word w) f g n n m t ts ws val present absent (the_word_counts w n) (λ l vs. refl) h h' (is_the_word w t.lexeme) refl
 
 pub if_sign : {X : Type 0} {f g : Form} {n m : ℕ} {ws : List Value} {val : X → Value} (present : List Token → Read X) (absent : Read X) (s : Sign) (ts : List Token) → parentheses n (sign s) ≡ n → is_deep n (sign s) ≡ false → ((rest : List Token) → Does f n m rest ws val (present rest)) → Does g n m ts ws val absent → Does (either (both (mark s) f) g) n m ts ws val (optional (after_sign s ts) present absent)
 unfolding after_sign

@@ -1,21 +1,22 @@
 -- What is read of each statement is what the machine does with its form.
-use Rattle.std.proofs.Common.{◌≡◌, ◌∙◌, ap, sym, refl, subst, ℕ, zero, suc, ◌+◌, ◌-◌, ◌<◌, ◌≤◌, Bool, true, false, cond, List, [], ◌∷◌, ◌++◌, length, Option, Some, None, Result, Ok, Err, arith}
+use Rattle.std.proofs.Common.{◌≡◌, ◌∙◌, ap, sym, refl, subst, ℕ, zero, suc, ◌+◌, ◌-◌, ◌<◌, ◌≤◌, Bool, true, false, cond, List, [], ◌∷◌, ◌++◌, length, codes, Option, Some, None, Result, Ok, Err, arith}
 use denote.Enum.Bare.{same_true}
 use Rattle.dn_token.specs.contracts.token.Sign.{the_type as the_signs}
 use Rattle.dn_token.specs.contracts.token.Keyword.{the_type as the_keywords}
+use Rattle.dn_parse.specs.declared.syntax.Mode.TheVariants.{Unsaid, Read as ForRead, Write as ForWrite}
 use Rattle.dn_token.specs.declared.token.Keyword.{Keyword}
 use Rattle.dn_token.specs.declared.token.Keyword.TheVariants.{Agent, Vectors, Unit as UnitWord, Module, Use, For, In, End, Begin, Is, Accept, Map, To, And, At, Over, Kind, Page, Slots, Reach, As, Num, Node, Resolve, Lookup, View, Grant, Route, Revoke, Dump, Split, Absorb}
 use Rattle.dn_token.specs.declared.token.Sign.{Sign}
 use Rattle.dn_token.specs.declared.token.Sign.TheVariants.{Semicolon, Comma, OpenBracket, CloseBracket, OpenParenthesis, CloseParenthesis, Minus, Plus, Times, Dot, Dots}
 use Rattle.dn_token.specs.Token.{Lexeme, Token, word, keyword, number, sign}
 use Rattle.dn_parse.specs.Tree.{Expression, Part, Role, plain_role, agent_role, vectors_role, Spec, Param, number_param, node_param, Arg, number_arg, node_arg, Declaration, node, unit, Order, resolve, lookup, view, grant, route, revoke, dump, split, absorb, Statement, declares, heads_module, uses, heads_loop, ends, begins, orders}
-use Rattle.dn_parse.specs.Actions.{Value, Action, perform, text, expression, name, names, spec, param, params, arg, args, statement, first_name, next_name, make_number_param, make_node_param, no_params, first_param, next_param, make_number_arg, make_node_arg, no_args, first_arg, next_arg, make_plain, make_agent, make_vectors, make_unit, make_module, make_use, make_loop, make_end, make_begin, make_resolve, make_lookup, make_view, make_grant, make_route, make_revoke, make_dump, make_split, make_absorb}
+use Rattle.dn_parse.specs.Actions.{Value, Action, perform, text, expression, name, names, spec, param, params, arg, args, mode, statement, first_name, next_name, make_number_param, make_node_param, no_params, first_param, next_param, make_number_arg, make_node_arg, no_args, first_arg, next_arg, make_plain, make_agent, make_vectors, make_unit, make_module, make_use, make_loop, make_end, make_begin, no_access, for_read, for_write, make_resolve, make_lookup, make_view, make_grant, make_route, make_revoke, make_dump, make_split, make_absorb}
 use Rattle.dn_parse.specs.Forms.{Form, takes, does, either, many, a_word, any_word, the_keyword, the_sign, is, is_sign, kept}
 use Rattle.dn_parse.specs.Forms.{and_then as both}
-use Rattle.dn_parse.specs.Syntax.{the, mark, factor, more_factors, term, more_terms, expr, part_form, name_form, spec_form, more_names, param_form, more_params, params_form, arg_form, more_args, args_form, plain_form, agent_form, vectors_form, unit_form, module_form, use_form, loop_form, command_form, statement_form}
+use Rattle.dn_parse.specs.Syntax.{the, this, mark, factor, more_factors, term, more_terms, expr, part_form, name_form, spec_form, more_names, param_form, more_params, params_form, arg_form, more_args, args_form, plain_form, agent_form, vectors_form, unit_form, module_form, use_form, loop_form, access_form, maybe_access, command_form, statement_form}
 use Rattle.dn_parse.specs.Machine.{Stop, Move, to, skips, refuses, taken, followed, or_else, move, Fed, on, stuck, fed, inside, run, go, go_in, feed, is_deep, parentheses, stopped, refused}
-use Rattle.dn_parse.specs.Descent.{and_then, optional, Read, Next, Reader, sign_at, keyword_at, word_at, any_word_at, row_at, row, with_front, after, after_sign, after_keyword, name_at, expr_at, spec_at, param_at, next_param_at, params_at, closed_params_at, arg_at, next_arg_at, args_at, closed_args_at, next_port_at, ports_at, node_at, measure_at, unit_at, module_at, use_at, loop_at, query_at, grant_at, route_at, order_at, as_declared, keyword_statement_at, statement_by, statement_at}
-use Rattle.dn_parse.proofs.Does.{Does, Goes, Row, does_by, seq, pass, last, act, keyword_counts, sign_counts, keyword_after, sign_after, word_does, any_word_does, if_keyword, if_sign, seq_on, pass_last, does_same, assoc, row_does, most_row_does}
+use Rattle.dn_parse.specs.Descent.{and_then, optional, Read, Next, Reader, sign_at, keyword_at, word_at, any_word_at, row_at, row, with_front, after, after_sign, after_keyword, after_word, the_word_at, name_at, expr_at, spec_at, param_at, next_param_at, params_at, closed_params_at, arg_at, next_arg_at, args_at, closed_args_at, next_port_at, ports_at, node_at, measure_at, unit_at, module_at, use_at, loop_at, mode_at, access_at, resolve_at, lookup_at, view_at, grant_at, route_at, order_at, as_declared, keyword_statement_at, statement_by, statement_at}
+use Rattle.dn_parse.proofs.Does.{Does, Goes, Row, does_by, seq, pass, last, act, keyword_counts, sign_counts, keyword_after, sign_after, word_does, any_word_does, if_keyword, if_word, the_word_after, if_sign, seq_on, pass_last, does_same, assoc, row_does, most_row_does}
 use Rattle.dn_parse.proofs.Readers.{bind_same, step_does, expr_read, expr_does, name_read, name_does, spec_does}
 use Rattle.dn_parse.proofs.Turns.{run_then, run_does, run_fed}
 
@@ -249,16 +250,32 @@ loop_does ts = seq (word_at ts) _ (word_does 0 ts) (λ w r. measure_seq In r _ (
 abbrev ordered : Order → Value
 ordered o = statement (orders o)
 
-query_does : (a : Action) (g : List Part × Expression → Order) → ((n : List Part) (e : Expression) (vs : List Value) → perform a (expression e ∷ name n ∷ vs) ≡ ordered (g (n, e)) ∷ vs) → (ts : List Token) → Does (both name_form (both expr (does a))) 0 0 ts [] ordered (and_then (query_at ts) (λ q. Ok (g q.0, q.1)))
-unfolding query_at
-query_does a g e ts = mapped ordered g (query_at ts) (seq (name_at 32 ts) _ (name_does ts) (λ n r. seq (expr_at 32 r) _ (expr_does r) (λ x r'. last _ a (λ vs. e n x vs))))
+mode_does : (ts : List Token) → Does (either (both (this (codes "read")) (does for_read)) (both (this (codes "write")) (does for_write))) 0 0 ts [] mode (mode_at ts)
+unfolding mode_at
+mode_does ts = if_word _ _ (codes "read") ts (λ r. last ForRead for_read (λ vs. refl)) (pass (the_word_at (codes "write") ts) _ (the_word_after (codes "write") 0 ts) (λ r. last ForWrite for_write (λ vs. refl)))
+
+access_does : (ts : List Token) → Does maybe_access 0 0 ts [] mode (access_at ts)
+unfolding maybe_access access_form access_at
+access_does ts = if_keyword _ _ For ts mode_does (last Unsaid no_access (λ vs. refl))
+
+resolve_does : (ts : List Token) → Does (both name_form (both expr (both maybe_access (does make_resolve)))) 0 0 ts [] ordered (resolve_at ts)
+unfolding resolve_at
+resolve_does ts = seq (name_at 32 ts) _ (name_does ts) (λ n r. seq (expr_at 32 r) _ (expr_does r) (λ e r1. seq (access_at r1) _ (access_does r1) (λ m r2. last _ make_resolve (λ vs. refl))))
+
+lookup_does : (ts : List Token) → Does (both name_form (both expr (both maybe_access (does make_lookup)))) 0 0 ts [] ordered (lookup_at ts)
+unfolding lookup_at
+lookup_does ts = seq (name_at 32 ts) _ (name_does ts) (λ n r. seq (expr_at 32 r) _ (expr_does r) (λ e r1. seq (access_at r1) _ (access_does r1) (λ m r2. last _ make_lookup (λ vs. refl))))
+
+view_does : (ts : List Token) → Does (both name_form (both maybe_access (does make_view))) 0 0 ts [] ordered (view_at ts)
+unfolding view_at
+view_does ts = seq (name_at 32 ts) _ (name_does ts) (λ n r. seq (access_at r) _ (access_does r) (λ m r1. last _ make_view (λ vs. refl)))
 
 name_order : (a : Action) (g : List Part → Order) → ((n : List Part) (vs : List Value) → perform a (name n ∷ vs) ≡ ordered (g n) ∷ vs) → (ts : List Token) → Does (both name_form (does a)) 0 0 ts [] ordered (and_then (name_at 32 ts) (λ n. Ok (g n.0, n.1)))
 name_order a g e ts = seq (name_at 32 ts) _ (name_does ts) (λ n r. last _ a (λ vs. e n vs))
 
-grant_does : (ts : List Token) → Does (both (takes a_word) (both name_form (both name_form (both expr (both expr (does make_grant)))))) 0 0 ts [] ordered (grant_at ts)
+grant_does : (ts : List Token) → Does (both (takes a_word) (both name_form (both name_form (both expr (both expr (both maybe_access (does make_grant))))))) 0 0 ts [] ordered (grant_at ts)
 unfolding grant_at
-grant_does ts = seq (word_at ts) _ (word_does 0 ts) (λ w r. seq (name_at 32 r) _ (name_does r) (λ a r1. seq (name_at 32 r1) _ (name_does r1) (λ n r2. seq (expr_at 32 r2) _ (expr_does r2) (λ b r3. seq (expr_at 32 r3) _ (expr_does r3) (λ z r4. last _ make_grant (λ vs. refl))))))
+grant_does ts = seq (word_at ts) _ (word_does 0 ts) (λ w r. seq (name_at 32 r) _ (name_does r) (λ a r1. seq (name_at 32 r1) _ (name_does r1) (λ n r2. seq (expr_at 32 r2) _ (expr_does r2) (λ b r3. seq (expr_at 32 r3) _ (expr_does r3) (λ z r4. seq (access_at r4) _ (access_does r4) (λ m r5. last _ make_grant (λ vs. refl)))))))
 
 route_does : (ts : List Token) → Does (both (takes a_word) (both name_form (both expr (both name_form (does make_route))))) 0 0 ts [] ordered (route_at ts)
 unfolding route_at
@@ -373,19 +390,19 @@ feeds_node : (k : List Form) (vs : List Value) → feed (statement_form ∷ k) v
 unfolding statement_form plain_form agent_form vectors_form unit_form module_form use_form loop_form command_form name_form part_form
 feeds_node k vs = refl
 
-feeds_resolve : (k : List Form) (vs : List Value) → feed (statement_form ∷ k) vs (keyword Resolve) ≡ on ((both name_form (both expr (does make_resolve))) ∷ k) vs
+feeds_resolve : (k : List Form) (vs : List Value) → feed (statement_form ∷ k) vs (keyword Resolve) ≡ on ((both name_form (both expr (both maybe_access (does make_resolve)))) ∷ k) vs
 unfolding statement_form plain_form agent_form vectors_form unit_form module_form use_form loop_form command_form name_form part_form
 feeds_resolve k vs = refl
 
-feeds_lookup : (k : List Form) (vs : List Value) → feed (statement_form ∷ k) vs (keyword Lookup) ≡ on ((both name_form (both expr (does make_lookup))) ∷ k) vs
+feeds_lookup : (k : List Form) (vs : List Value) → feed (statement_form ∷ k) vs (keyword Lookup) ≡ on ((both name_form (both expr (both maybe_access (does make_lookup)))) ∷ k) vs
 unfolding statement_form plain_form agent_form vectors_form unit_form module_form use_form loop_form command_form name_form part_form
 feeds_lookup k vs = refl
 
-feeds_view : (k : List Form) (vs : List Value) → feed (statement_form ∷ k) vs (keyword View) ≡ on ((both name_form (does make_view)) ∷ k) vs
+feeds_view : (k : List Form) (vs : List Value) → feed (statement_form ∷ k) vs (keyword View) ≡ on ((both name_form (both maybe_access (does make_view))) ∷ k) vs
 unfolding statement_form plain_form agent_form vectors_form unit_form module_form use_form loop_form command_form name_form part_form
 feeds_view k vs = refl
 
-feeds_grant : (k : List Form) (vs : List Value) → feed (statement_form ∷ k) vs (keyword Grant) ≡ on ((both (takes a_word) (both name_form (both name_form (both expr (both expr (does make_grant)))))) ∷ k) vs
+feeds_grant : (k : List Form) (vs : List Value) → feed (statement_form ∷ k) vs (keyword Grant) ≡ on ((both (takes a_word) (both name_form (both name_form (both expr (both expr (both maybe_access (does make_grant))))))) ∷ k) vs
 unfolding statement_form plain_form agent_form vectors_form unit_form module_form use_form loop_form command_form name_form part_form
 feeds_grant k vs = refl
 
@@ -442,10 +459,10 @@ keyword_token Reach t ts e = refused_word (keyword Reach) t ts e feeds_reach
 keyword_token As t ts e = refused_word (keyword As) t ts e feeds_as
 keyword_token Num t ts e = refused_word (keyword Num) t ts e feeds_num
 keyword_token Node t ts e = refused_word (keyword Node) t ts e feeds_node
-keyword_token Resolve t ts e = order_word (both name_form (both expr (does make_resolve))) Resolve t ts _ e feeds_resolve (query_does make_resolve (λ q. resolve q.0 q.1) (λ n e vs. refl) ts)
-keyword_token Lookup t ts e = order_word (both name_form (both expr (does make_lookup))) Lookup t ts _ e feeds_lookup (query_does make_lookup (λ q. lookup q.0 q.1) (λ n e vs. refl) ts)
-keyword_token View t ts e = order_word (both name_form (does make_view)) View t ts _ e feeds_view (name_order make_view view (λ n vs. refl) ts)
-keyword_token Grant t ts e = order_word (both (takes a_word) (both name_form (both name_form (both expr (both expr (does make_grant)))))) Grant t ts _ e feeds_grant (grant_does ts)
+keyword_token Resolve t ts e = order_word (both name_form (both expr (both maybe_access (does make_resolve)))) Resolve t ts _ e feeds_resolve (resolve_does ts)
+keyword_token Lookup t ts e = order_word (both name_form (both expr (both maybe_access (does make_lookup)))) Lookup t ts _ e feeds_lookup (lookup_does ts)
+keyword_token View t ts e = order_word (both name_form (both maybe_access (does make_view))) View t ts _ e feeds_view (view_does ts)
+keyword_token Grant t ts e = order_word (both (takes a_word) (both name_form (both name_form (both expr (both expr (both maybe_access (does make_grant))))))) Grant t ts _ e feeds_grant (grant_does ts)
 keyword_token Route t ts e = order_word (both (takes a_word) (both name_form (both expr (both name_form (does make_route))))) Route t ts _ e feeds_route (route_does ts)
 keyword_token Revoke t ts e = order_word (both (takes a_word) (does make_revoke)) Revoke t ts _ e feeds_revoke (revoke_does ts)
 keyword_token Dump t ts e = order_word (does make_dump) Dump t ts _ e feeds_dump (last _ make_dump (λ vs. refl))

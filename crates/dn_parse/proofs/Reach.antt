@@ -1,6 +1,7 @@
 -- Where the machine stops: what it read before is a spelling or can become one.
 use Rattle.std.proofs.Common.{◌≡◌, ◌∙◌, inl, ap, sym, refl, subst, ℕ, zero, suc, ◌==◌, eqb-true, eq-eqb, Bool, true, false, ◌&&◌, List, [], ◌∷◌, ◌++◌, length, append-nil, append_assoc}
 use denote.Enum.Declared.{tag_of}
+use Rattle.std.proofs.lemmas.Slice.Eq.{bytes_eq-Decides}
 use Rattle.dn_token.specs.contracts.token.Sign.{the_type as the_signs}
 use Rattle.dn_token.specs.contracts.token.Keyword.{the_type as the_keywords}
 use Rattle.dn_token.specs.declared.token.Keyword.{Keyword}
@@ -10,7 +11,7 @@ use Rattle.dn_token.specs.Token.{Lexeme, Token, word, keyword, number, sign}
 use Rattle.dn_parse.specs.Tree.{Placed, Statement, constant}
 use Rattle.dn_parse.specs.Actions.{Value, perform, expression}
 use Rattle.dn_token.specs.Words.{same_keyword, same_sign}
-use Rattle.dn_parse.specs.Forms.{Form, takes, does, and_then, either, many, parenthesised, Sort, a_word, any_word, a_number, the_keyword, the_sign, is, is_sign, kept, Spells}
+use Rattle.dn_parse.specs.Forms.{Form, takes, does, and_then, either, many, parenthesised, Sort, a_word, any_word, a_number, the_word, the_keyword, the_sign, is, is_sign, kept, Spells}
 use Rattle.dn_parse.specs.Syntax.{SpellsText, statement_form, statement_of, Parenthesised, after_open, expr, term, factor, less, more_terms, more_factors}
 use Rattle.dn_parse.specs.Machine.{Fed, on, over, stuck, feed, Stop, whole, refused, deep, Outcome, Place, between, inside, run, go, go_in, is_deep, parentheses}
 use Rattle.dn_parse.proofs.Counted.{opened}
@@ -86,6 +87,7 @@ takes_example : (s : Sort) (vs : List Value) → Example (takes s) vs
 takes_example a_word vs = one_token a_word (word []) vs refl
 takes_example any_word vs = one_token any_word (word []) vs refl
 takes_example a_number vs = one_token a_number (number 0) vs refl
+takes_example (the_word w) vs = one_token (the_word w) (word w) vs ((bytes_eq-Decides w w).1 refl)
 takes_example (the_keyword k) vs = one_token (the_keyword k) (keyword k) vs (same_number (tag_of the_keywords k))
 takes_example (the_sign s) vs = one_token (the_sign s) (sign s) vs (same_number (tag_of the_signs s))
 

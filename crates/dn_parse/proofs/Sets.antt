@@ -1,6 +1,7 @@
 -- The tokens with which a form may begin, and those with which it may go on at its end; and what makes each choice of the machine the right one.
 use Rattle.std.proofs.Common.{◌≡◌, ◌∙◌, ◌⊎◌, inl, inr, ap, sym, refl, subst, ℕ, zero, suc, Bool, true, false, not, ◌&&◌, ◌||◌, ◌==◌, eqb-true, eq-eqb, List, [], ◌∷◌, ◌++◌, if◌then◌else◌}
 use denote.Enum.Declared.{tag_of}
+use Rattle.std.proofs.lemmas.Slice.Eq.{bytes_eq-Decides}
 use Rattle.dn_token.specs.contracts.token.Sign.{the_type as the_signs}
 use Rattle.dn_token.specs.contracts.token.Keyword.{the_type as the_keywords}
 use Rattle.dn_token.specs.declared.token.Keyword.{Keyword}
@@ -9,7 +10,7 @@ use Rattle.dn_token.specs.declared.token.Sign.TheVariants.{OpenParenthesis}
 use Rattle.dn_token.specs.Token.{Lexeme, Token, word, keyword, number, sign}
 use Rattle.dn_parse.specs.Actions.{Value, perform}
 use Rattle.dn_token.specs.Words.{same_keyword, same_sign}
-use Rattle.dn_parse.specs.Forms.{Form, takes, does, and_then, either, many, parenthesised, Sort, a_word, any_word, a_number, the_keyword, the_sign, is, is_sign, is_keyword, Times, Spells}
+use Rattle.dn_parse.specs.Forms.{Form, takes, does, and_then, either, many, parenthesised, Sort, a_word, any_word, a_number, the_word, the_keyword, the_sign, is, is_sign, is_keyword, Times, Spells}
 use Rattle.dn_parse.specs.Machine.{Move, to, skips, refuses, taken, followed, or_else, repeated, move}
 use Rattle.dn_parse.proofs.Taken.{Inner}
 
@@ -49,13 +50,24 @@ abbrev pub is_wordy : Sort → Bool
 is_wordy a_word = true
 is_wordy any_word = true
 is_wordy a_number = false
+is_wordy (the_word w) = true
 is_wordy (the_keyword k) = true
 is_wordy (the_sign s) = false
 
+-- it has words that are not reserved
+abbrev pub is_free_word : Sort → Bool
+is_free_word a_word = true
+is_free_word any_word = true
+is_free_word a_number = false
+is_free_word (the_word w) = true
+is_free_word (the_keyword k) = false
+is_free_word (the_sign s) = false
+
 abbrev pub meets : Sort → Sort → Bool
-meets a_word u = is u (word [])
+meets a_word u = is_free_word u
 meets any_word u = is_wordy u
 meets a_number u = is u (number 0)
+meets (the_word w) u = is u (word w)
 meets (the_keyword k) u = is u (keyword k)
 meets (the_sign s) u = is u (sign s)
 
@@ -147,10 +159,11 @@ among_second xs ys l e = among_append xs ys l ∙ one_right (among xs l) (among 
 same_by : (k l m : ℕ) → (m == k) ≡ true → (m == l) ≡ true → (k == l) ≡ true
 same_by k l m e f = eq-eqb k l (sym (eqb-true m k e) ∙ eqb-true m l f)
 
-word_for_word : (u : Sort) (w : List ℕ) → is u (word w) ≡ true → is u (word []) ≡ true
+word_for_word : (u : Sort) (w : List ℕ) → is u (word w) ≡ true → is_free_word u ≡ true
 word_for_word a_word w e = refl
 word_for_word any_word w e = refl
 word_for_word a_number w e = cc
+word_for_word (the_word v) w e = refl
 word_for_word (the_keyword k) w e = cc
 word_for_word (the_sign s) w e = cc
 
@@ -158,6 +171,7 @@ number_for_number : (u : Sort) (n : ℕ) → is u (number n) ≡ true → is u (
 number_for_number a_word n e = cc
 number_for_number any_word n e = cc
 number_for_number a_number n e = refl
+number_for_number (the_word w) n e = cc
 number_for_number (the_keyword k) n e = cc
 number_for_number (the_sign s) n e = cc
 
@@ -165,6 +179,7 @@ keyword_for_keyword : (u : Sort) (k m : Keyword) → same_keyword k m ≡ true �
 keyword_for_keyword a_word k m s e = cc
 keyword_for_keyword any_word k m s e = refl
 keyword_for_keyword a_number k m s e = cc
+keyword_for_keyword (the_word w) k m s e = cc
 keyword_for_keyword (the_keyword l) k m s e = same_by (tag_of the_keywords k) (tag_of the_keywords l) (tag_of the_keywords m) s e
 keyword_for_keyword (the_sign x) k m s e = cc
 
@@ -172,6 +187,7 @@ sign_for_sign : (u : Sort) (k m : Sign) → same_sign k m ≡ true → is u (sig
 sign_for_sign a_word k m s e = cc
 sign_for_sign any_word k m s e = cc
 sign_for_sign a_number k m s e = cc
+sign_for_sign (the_word w) k m s e = cc
 sign_for_sign (the_keyword l) k m s e = cc
 sign_for_sign (the_sign x) k m s e = same_by (tag_of the_signs k) (tag_of the_signs x) (tag_of the_signs m) s e
 
@@ -179,6 +195,7 @@ wordy_word : (u : Sort) (w : List ℕ) → is u (word w) ≡ true → is_wordy u
 wordy_word a_word w e = refl
 wordy_word any_word w e = refl
 wordy_word a_number w e = cc
+wordy_word (the_word v) w e = refl
 wordy_word (the_keyword k) w e = refl
 wordy_word (the_sign s) w e = cc
 
@@ -186,6 +203,7 @@ wordy_keyword : (u : Sort) (k : Keyword) → is u (keyword k) ≡ true → is_wo
 wordy_keyword a_word k e = cc
 wordy_keyword any_word k e = refl
 wordy_keyword a_number k e = cc
+wordy_keyword (the_word w) k e = cc
 wordy_keyword (the_keyword l) k e = refl
 wordy_keyword (the_sign s) k e = cc
 
@@ -202,6 +220,10 @@ common a_number u (word w) e f = cc
 common a_number u (keyword k) e f = cc
 common a_number u (number n) e f = number_for_number u n f
 common a_number u (sign x) e f = cc
+common (the_word v) u (word w) e f = subst (λ (x : List ℕ). is u (word x) ≡ true) ((bytes_eq-Decides w v).0 e) f
+common (the_word v) u (keyword k) e f = cc
+common (the_word v) u (number n) e f = cc
+common (the_word v) u (sign x) e f = cc
 common (the_keyword k) u (word w) e f = cc
 common (the_keyword k) u (keyword m) e f = keyword_for_keyword u k m e f
 common (the_keyword k) u (number n) e f = cc

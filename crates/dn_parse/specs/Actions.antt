@@ -1,5 +1,7 @@
 -- How the tree is made while a statement is read: the values so far, the last one first, and what each action makes of them.
 use Rattle.std.specs.Prelude.{ℕ, List, [], ◌∷◌, ◌++◌, Option, Some, None}
+use Rattle.dn_parse.specs.declared.syntax.Mode.{Mode}
+use Rattle.dn_parse.specs.declared.syntax.Mode.TheVariants.{Unsaid, Read, Write}
 use Rattle.dn_parse.specs.Tree.{Expression, variable, sum, product, minus, expressions, Part, Block, Dest, Entry, plain_role, agent_role, vectors_role, Spec, Param, number_param, node_param, Arg, number_arg, node_arg, node, unit, resolve, lookup, view, grant, route, revoke, dump, split, absorb, Statement, declares, heads_module, uses, heads_loop, ends, begins, orders}
 
 -- a value: a part of the tree, or the list of such parts so far
@@ -23,6 +25,7 @@ pub data Value : Type 0 where
   params : List Param → Value
   arg : Arg → Value
   args : List Arg → Value
+  mode : Mode → Value
   statement : Statement → Value
 
 -- a sum or a product of one member is that member
@@ -84,6 +87,9 @@ pub data Action : Type 0 where
   make_loop : Action
   make_end : Action
   make_begin : Action
+  no_access : Action
+  for_read : Action
+  for_write : Action
   make_resolve : Action
   make_lookup : Action
   make_view : Action
@@ -286,22 +292,22 @@ make_loop_of vs = vs
 
 -- commands
 abbrev pub make_resolve_of : List Value → List Value
-make_resolve_of (expression e ∷ name n ∷ vs) = statement (orders (resolve n e)) ∷ vs
+make_resolve_of (mode m ∷ expression e ∷ name n ∷ vs) = statement (orders (resolve n e m)) ∷ vs
 make_resolve_of vs = vs
 
 -- the command `lookup`
 abbrev pub make_lookup_of : List Value → List Value
-make_lookup_of (expression e ∷ name n ∷ vs) = statement (orders (lookup n e)) ∷ vs
+make_lookup_of (mode m ∷ expression e ∷ name n ∷ vs) = statement (orders (lookup n e m)) ∷ vs
 make_lookup_of vs = vs
 
 -- the command `view`
 abbrev pub make_view_of : List Value → List Value
-make_view_of (name n ∷ vs) = statement (orders (view n)) ∷ vs
+make_view_of (mode m ∷ name n ∷ vs) = statement (orders (view n m)) ∷ vs
 make_view_of vs = vs
 
 -- the command `grant`
 abbrev pub make_grant_of : List Value → List Value
-make_grant_of (expression size ∷ expression base ∷ name n ∷ name agent ∷ text w ∷ vs) = statement (orders (grant w agent n base size)) ∷ vs
+make_grant_of (mode m ∷ expression size ∷ expression base ∷ name n ∷ name agent ∷ text w ∷ vs) = statement (orders (grant w agent n base size m)) ∷ vs
 make_grant_of vs = vs
 
 -- the command `route`
@@ -368,6 +374,9 @@ perform make_use vs = make_use_of vs
 perform make_loop vs = make_loop_of vs
 perform make_end vs = statement ends ∷ vs
 perform make_begin vs = statement begins ∷ vs
+perform no_access vs = mode Unsaid ∷ vs
+perform for_read vs = mode Read ∷ vs
+perform for_write vs = mode Write ∷ vs
 perform make_resolve vs = make_resolve_of vs
 perform make_lookup vs = make_lookup_of vs
 perform make_view vs = make_view_of vs

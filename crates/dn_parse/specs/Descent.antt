@@ -1,5 +1,7 @@
 -- Each part of the whole grammar, read from the front of a list of tokens: its value and the tokens after it, or where the reading stops.
-use Rattle.std.specs.Prelude.{ℕ, zero, suc, Bool, true, false, if◌then◌else◌, List, [], ◌∷◌, ◌++◌, length, Option, Some, None, Result, Ok, Err}
+use Rattle.std.specs.Prelude.{ℕ, zero, suc, Bool, true, false, if◌then◌else◌, List, [], ◌∷◌, ◌++◌, length, codes, Option, Some, None, Result, Ok, Err}
+use Rattle.dn_parse.specs.declared.syntax.Mode.{Mode}
+use Rattle.dn_parse.specs.declared.syntax.Mode.TheVariants.{Unsaid, Read as ForRead, Write as ForWrite}
 use Rattle.dn_token.specs.declared.token.Keyword.{Keyword}
 use Rattle.dn_token.specs.declared.token.Keyword.TheVariants.{Agent, Vectors, Unit as UnitWord, Module, Use, For, In, End, Begin, Is, Accept, Map, To, And, At, Over, Kind, Page, Slots, Reach, As, Num, Node, Resolve, Lookup, View, Grant, Route, Revoke, Dump, Split, Absorb}
 use Rattle.dn_token.specs.declared.token.Sign.{Sign}
@@ -8,7 +10,7 @@ use Rattle.dn_token.specs.Token.{Lexeme, Token, word, keyword, number, sign}
 use Rattle.dn_token.specs.Words.{spelling}
 use Rattle.dn_parse.specs.Tree.{Expression, constant, variable, minus, Part, Block, Dest, Entry, Role, plain_role, agent_role, vectors_role, Spec, Param, number_param, node_param, Arg, number_arg, node_arg, Declaration, node, unit, Order, resolve, lookup, view, grant, route, revoke, dump, split, absorb, Statement, declares, heads_module, uses, heads_loop, ends, begins, orders}
 use Rattle.dn_parse.specs.Actions.{summed, multiplied}
-use Rattle.dn_parse.specs.Forms.{is_sign, is_keyword}
+use Rattle.dn_parse.specs.Forms.{is_sign, is_keyword, is_the_word}
 use Rattle.dn_parse.specs.Machine.{Stop, refused, deep}
 
 -- what follows a part that is read; a stop is final
@@ -55,6 +57,10 @@ after_sign s ts = after (is_sign s) ts
 unfoldable pub after_keyword : Keyword → List Token → Option (List Token)
 after_keyword k ts = after (is_keyword k) ts
 
+-- what follows this word, which is not reserved, if it is the first token
+unfoldable pub after_word : List ℕ → List Token → Option (List Token)
+after_word w ts = after (is_the_word w) ts
+
 -- the tokens that were found, or the refusal of the first one
 abbrev pub or_refused : Option (List Token) → List Token → Result (List Token) Stop
 or_refused None ts = refuses_at ts
@@ -67,6 +73,10 @@ sign_at s ts = or_refused (after_sign s ts) ts
 -- this reserved word
 unfoldable pub keyword_at : Keyword → List Token → Result (List Token) Stop
 keyword_at k ts = or_refused (after_keyword k ts) ts
+
+-- this word, which is not reserved
+unfoldable pub the_word_at : List ℕ → List Token → Result (List Token) Stop
+the_word_at w ts = or_refused (after_word w ts) ts
 
 -- the text of a word that is not reserved
 abbrev pub word_of : Lexeme → Option (List ℕ)
@@ -408,14 +418,38 @@ loop_at ts = do
   upto ← expr_at 32 rest
   Ok (heads_loop title.0 from.0 upto.0, upto.1)
 
--- name expr
-unfoldable pub query_at : Reader (List Part × Expression)
-query_at ts = do
+-- "read", or "write"
+unfoldable pub mode_at : Reader Mode
+mode_at ts = optional (after_word (codes "read") ts) (λ rest. Ok (ForRead, rest)) (the_word_at (codes "write") ts >>= λ rest. Ok (ForWrite, rest))
+
+-- [ "for" ( "read" | "write" ) ]
+unfoldable pub access_at : Reader Mode
+access_at ts = optional (after_keyword For ts) (λ rest. mode_at rest) (Ok (Unsaid, ts))
+
+-- name expr [ access ]
+unfoldable pub resolve_at : Reader Order
+resolve_at ts = do
   name ← name_at 32 ts
   addr ← expr_at 32 name.1
-  Ok ((name.0, addr.0), addr.1)
+  access ← access_at addr.1
+  Ok (resolve name.0 addr.0 access.0, access.1)
 
--- word name name expr expr
+-- name expr [ access ]
+unfoldable pub lookup_at : Reader Order
+lookup_at ts = do
+  name ← name_at 32 ts
+  addr ← expr_at 32 name.1
+  access ← access_at addr.1
+  Ok (lookup name.0 addr.0 access.0, access.1)
+
+-- name [ access ]
+unfoldable pub view_at : Reader Order
+view_at ts = do
+  name ← name_at 32 ts
+  access ← access_at name.1
+  Ok (view name.0 access.0, access.1)
+
+-- word name name expr expr [ access ]
 unfoldable pub grant_at : Reader Order
 grant_at ts = do
   id ← word_at ts
@@ -423,7 +457,8 @@ grant_at ts = do
   name ← name_at 32 agent.1
   base ← expr_at 32 name.1
   size ← expr_at 32 base.1
-  Ok (grant id.0 agent.0 name.0 base.0 size.0, size.1)
+  access ← access_at size.1
+  Ok (grant id.0 agent.0 name.0 base.0 size.0 access.0, access.1)
 
 -- word name expr name
 unfoldable pub route_at : Reader Order
@@ -436,9 +471,9 @@ route_at ts = do
 
 -- the command that this reserved word begins
 unfoldable pub order_at : Keyword → List Token → Reader Order
-order_at Resolve ts rest = query_at rest >>= λ q. Ok (resolve q.0.0 q.0.1, q.1)
-order_at Lookup ts rest = query_at rest >>= λ q. Ok (lookup q.0.0 q.0.1, q.1)
-order_at View ts rest = name_at 32 rest >>= λ n. Ok (view n.0, n.1)
+order_at Resolve ts rest = resolve_at rest
+order_at Lookup ts rest = lookup_at rest
+order_at View ts rest = view_at rest
 order_at Grant ts rest = grant_at rest
 order_at Route ts rest = route_at rest
 order_at Revoke ts rest = word_at rest >>= λ w. Ok (revoke w.0, w.1)

@@ -1,5 +1,6 @@
 -- What a grammar is made of, and what it is to spell a form: the tokens, and what they add to the values of the tree.
 use Rattle.std.specs.Prelude.{◌≡◌, ◌⊎◌, ℕ, zero, suc, Bool, true, false, List, [], ◌∷◌, ◌++◌}
+use Rattle.std.specs.Str.{bytes_eq}
 use Rattle.dn_token.specs.declared.token.Keyword.{Keyword}
 use Rattle.dn_token.specs.declared.token.Sign.{Sign}
 use Rattle.dn_token.specs.Token.{Lexeme, Token, word, keyword, number, sign}
@@ -7,11 +8,12 @@ use Rattle.dn_parse.specs.Actions.{Action, Value, perform, text, expression}
 use Rattle.dn_token.specs.Words.{same_keyword, same_sign, spelling}
 use Rattle.dn_parse.specs.Tree.{constant}
 
--- the sorts of tokens: a word that is not reserved, a word of either sort, a number, one reserved word, one sign
+-- the sorts of tokens: a word that is not reserved, a word of either sort, a number, one word that is not reserved, one reserved word, one sign
 pub data Sort : Type 0 where
   a_word : Sort
   any_word : Sort
   a_number : Sort
+  the_word : List ℕ → Sort
   the_keyword : Keyword → Sort
   the_sign : Sign → Sort
 
@@ -31,6 +33,11 @@ abbrev pub is_number : Lexeme → Bool
 is_number (number n) = true
 is_number _ = false
 
+-- this word, which is not reserved
+abbrev pub is_the_word : List ℕ → Lexeme → Bool
+is_the_word w (word v) = bytes_eq v w
+is_the_word w _ = false
+
 -- this reserved word
 abbrev pub is_keyword : Keyword → Lexeme → Bool
 is_keyword k (keyword l) = same_keyword k l
@@ -46,10 +53,11 @@ abbrev pub is : Sort → Lexeme → Bool
 is a_word l = is_word l
 is any_word l = is_any l
 is a_number l = is_number l
+is (the_word w) l = is_the_word w l
 is (the_keyword k) l = is_keyword k l
 is (the_sign s) l = is_sign s l
 
--- what a token adds to the values: a word its text, a number an expression, and a reserved word or a sign that was asked for nothing
+-- what a token adds to the values: a word its text, a number an expression, and a token that was asked for by its spelling nothing
 abbrev pub with_text : Lexeme → List Value → List Value
 with_text (word w) vs = text w ∷ vs
 with_text (keyword k) vs = text (spelling k) ∷ vs
@@ -61,6 +69,7 @@ abbrev pub kept : Sort → Lexeme → List Value → List Value
 kept a_word l vs = with_text l vs
 kept any_word l vs = with_text l vs
 kept a_number l vs = with_text l vs
+kept (the_word w) l vs = vs
 kept (the_keyword k) l vs = vs
 kept (the_sign s) l vs = vs
 

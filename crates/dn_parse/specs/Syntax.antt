@@ -1,17 +1,21 @@
 -- The grammar of a text, line for line. Beside each form stands what it adds to the tree.
-use Rattle.std.specs.Prelude.{◌≡◌, ℕ, zero, suc, List, [], ◌∷◌, ◌++◌, map}
+use Rattle.std.specs.Prelude.{◌≡◌, ℕ, zero, suc, List, [], ◌∷◌, ◌++◌, map, codes}
 use Rattle.dn_token.specs.declared.token.Keyword.{Keyword}
 use Rattle.dn_token.specs.declared.token.Keyword.TheVariants.{Agent, Vectors, Unit as UnitWord, Module, Use, For, In, End, Begin, Is, Accept, Map, To, And, At, Over, Kind, Page, Slots, Reach, As, Num, Node, Resolve, Lookup, View, Grant, Route, Revoke, Dump, Split, Absorb}
 use Rattle.dn_token.specs.declared.token.Sign.{Sign}
 use Rattle.dn_token.specs.declared.token.Sign.TheVariants.{Semicolon, Comma, OpenBracket, CloseBracket, OpenParenthesis, CloseParenthesis, Minus, Plus, Times, Dot, Dots}
 use Rattle.dn_token.specs.Token.{Token, sign}
 use Rattle.dn_parse.specs.Tree.{Statement, Placed, ends}
-use Rattle.dn_parse.specs.Actions.{Value, statement, keep, make_variable, first_member, next_member, make_sum, make_product, make_difference, no_expression, some_expression, make_part, first_part, next_part, no_name, some_name, first_name, next_name, make_block, no_blocks, first_block, next_block, make_dest, first_dest, next_dest, make_entry, no_entries, first_entry, next_entry, make_spec, make_number_param, make_node_param, no_params, first_param, next_param, make_number_arg, make_node_arg, no_args, first_arg, next_arg, make_plain, make_agent, make_vectors, make_unit, make_module, make_use, make_loop, make_end, make_begin, make_resolve, make_lookup, make_view, make_grant, make_route, make_revoke, make_dump, make_split, make_absorb}
-use Rattle.dn_parse.specs.Forms.{Form, takes, does, many, parenthesised, either, and_then, a_word, any_word, a_number, the_keyword, the_sign, in_order, one_of, Spells}
+use Rattle.dn_parse.specs.Actions.{Value, statement, keep, make_variable, first_member, next_member, make_sum, make_product, make_difference, no_expression, some_expression, make_part, first_part, next_part, no_name, some_name, first_name, next_name, make_block, no_blocks, first_block, next_block, make_dest, first_dest, next_dest, make_entry, no_entries, first_entry, next_entry, make_spec, make_number_param, make_node_param, no_params, first_param, next_param, make_number_arg, make_node_arg, no_args, first_arg, next_arg, make_plain, make_agent, make_vectors, make_unit, make_module, make_use, make_loop, make_end, make_begin, no_access, for_read, for_write, make_resolve, make_lookup, make_view, make_grant, make_route, make_revoke, make_dump, make_split, make_absorb}
+use Rattle.dn_parse.specs.Forms.{Form, takes, does, many, parenthesised, either, and_then, a_word, any_word, a_number, the_word, the_keyword, the_sign, in_order, one_of, Spells}
 
 -- one reserved word
 abbrev pub the : Keyword → Form
 the k = takes (the_keyword k)
+
+-- one word that is not reserved
+abbrev pub this : List ℕ → Form
+this w = takes (the_word w)
 
 -- one sign
 abbrev pub mark : Sign → Form
@@ -182,16 +186,25 @@ use_form = in_order (the Use) (takes a_word ∷ mark OpenParenthesis ∷ args_fo
 unfoldable pub loop_form : Form
 loop_form = in_order (the For) (takes a_word ∷ the In ∷ expr ∷ mark Dots ∷ expr ∷ does make_loop ∷ [])
 
--- command = "resolve" name expr | "lookup" name expr | "view" name
---         | "grant" word name name expr expr
+-- access = "for" ( "read" | "write" )
+unfoldable pub access_form : Form
+access_form = in_order (the For) (one_of (in_order (this (codes "read")) (does for_read ∷ [])) (in_order (this (codes "write")) (does for_write ∷ []) ∷ []) ∷ [])
+
+-- [ access ]
+unfoldable pub maybe_access : Form
+maybe_access = either access_form (does no_access)
+
+-- command = "resolve" name expr [ access ] | "lookup" name expr [ access ]
+--         | "view" name [ access ]
+--         | "grant" word name name expr expr [ access ]
 --         | "route" word name expr name
 --         | "revoke" word | "dump" | "split" | "absorb" name
 unfoldable pub command_form : Form
 command_form =
-    one_of (in_order (the Resolve) (name_form ∷ expr ∷ does make_resolve ∷ []))
-    (in_order (the Lookup) (name_form ∷ expr ∷ does make_lookup ∷ [])
-    ∷ in_order (the View) (name_form ∷ does make_view ∷ [])
-    ∷ in_order (the Grant) (takes a_word ∷ name_form ∷ name_form ∷ expr ∷ expr ∷ does make_grant ∷ [])
+    one_of (in_order (the Resolve) (name_form ∷ expr ∷ maybe_access ∷ does make_resolve ∷ []))
+    (in_order (the Lookup) (name_form ∷ expr ∷ maybe_access ∷ does make_lookup ∷ [])
+    ∷ in_order (the View) (name_form ∷ maybe_access ∷ does make_view ∷ [])
+    ∷ in_order (the Grant) (takes a_word ∷ name_form ∷ name_form ∷ expr ∷ expr ∷ maybe_access ∷ does make_grant ∷ [])
     ∷ in_order (the Route) (takes a_word ∷ name_form ∷ expr ∷ name_form ∷ does make_route ∷ [])
     ∷ in_order (the Revoke) (takes a_word ∷ does make_revoke ∷ [])
     ∷ in_order (the Dump) (does make_dump ∷ [])

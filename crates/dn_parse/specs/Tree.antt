@@ -1,5 +1,6 @@
 -- The tree that a text spells, without where its parts lie in memory.
 use Rattle.std.specs.Prelude.{ℕ, List, [], ◌∷◌, Option}
+use Rattle.dn_parse.specs.declared.syntax.Mode.{Mode}
 
 -- an expression, and several: a sum or a product has two members or more
 mutual
@@ -61,12 +62,12 @@ pub data Arg : Type 0 where
   number_arg : Expression → Arg
   node_arg : List Part → Arg
 
--- what a command asks for
+-- what a command asks for, and in the first four the access that it says
 pub data Order : Type 0 where
-  resolve : List Part → Expression → Order
-  lookup : List Part → Expression → Order
-  view : List Part → Order
-  grant : List ℕ → List Part → List Part → Expression → Expression → Order
+  resolve : List Part → Expression → Mode → Order
+  lookup : List Part → Expression → Mode → Order
+  view : List Part → Mode → Order
+  grant : List ℕ → List Part → List Part → Expression → Expression → Mode → Order
   route : List ℕ → List Part → Expression → List Part → Order
   revoke : List ℕ → Order
   dump : Order

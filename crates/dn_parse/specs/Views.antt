@@ -106,10 +106,10 @@ declaration_view (UnitCase name kind page slots reach ports) = unit (name_view n
 
 -- what a command asks for
 abbrev pub order_view : CodeOrder → Order
-order_view (Resolve n e) = resolve (name_view n) (expr_view e)
-order_view (Lookup n e) = lookup (name_view n) (expr_view e)
-order_view (View n) = view (name_view n)
-order_view (Grant w agent n base size) = grant w (name_view agent) (name_view n) (expr_view base) (expr_view size)
+order_view (Resolve n e m) = resolve (name_view n) (expr_view e) m
+order_view (Lookup n e m) = lookup (name_view n) (expr_view e) m
+order_view (View n m) = view (name_view n) m
+order_view (Grant w agent n base size m) = grant w (name_view agent) (name_view n) (expr_view base) (expr_view size) m
 order_view (Route w agent line n) = route w (name_view agent) (expr_view line) (name_view n)
 order_view (Revoke w) = revoke w
 order_view Dump = dump

@@ -4,7 +4,7 @@ ghost use Rattle.std.specs.Prelude.{◌≡◌, ◌∷◌, [], ◌<◌, length, o
 ghost use Rattle.dn_parse.specs.declared.cursor.Halt.TheVariants.{Refused};
 ghost use Rattle.dn_token.specs.Lexing.{token_view};
 ghost use Rattle.dn_parse.specs.Views.{token_views};
-ghost use Rattle.dn_parse.specs.Descent.{after_sign, after_keyword, sign_at, keyword_at, word_at};
+ghost use Rattle.dn_parse.specs.Descent.{after_sign, after_keyword, after_word, sign_at, keyword_at, the_word_at, word_at};
 ghost use Rattle.dn_base.specs.Answers.{Answers};
 ghost use Rattle.dn_parse.specs.Faults.{halt_view, Reads, IsShorter};
 
@@ -91,6 +91,19 @@ pub fn after_keyword<'a>(tokens: &'a [Token<'a>], word: Keyword) -> Option<&'a [
     }
 }
 
+/// The tokens after this word, which is not reserved, if it is the next token.
+#[tactic(auto, unfolding(crate::specs::Descent::after_word))]
+pub fn after_word<'a>(tokens: &'a [Token<'a>], word: &str) -> Option<&'a [Token<'a>]>
+    ensures gives { after_word word.now (token_views tokens.now)
+        ≡ option_map (λ rest. token_views rest.now) result }
+{
+    let (token, rest) = next(tokens)?;
+    match token.lexeme {
+        Lexeme::Word(found) if found == word => Some(rest),
+        _ => None,
+    }
+}
+
 /// The refusal of the next token, or of the end.
 pub fn refusal<'a>(tokens: &'a [Token<'a>]) -> Halt
     ensures { result ≡ Refused (length (token_views tokens.now)) }
@@ -119,6 +132,18 @@ pub fn keyword<'a>(tokens: &'a [Token<'a>], word: Keyword) -> Result<&'a [Token<
     ensures shorter { IfOk result (λ rest. IsShorter rest.now tokens.now) }
 {
     match after_keyword(tokens, word) {
+        Some(rest) => Ok(rest),
+        None => Err(refusal(tokens)),
+    }
+}
+
+/// The tokens after this word, which is not reserved.
+#[tactic(auto, unfolding(crate::specs::Descent::the_word_at))]
+pub fn the_word<'a>(tokens: &'a [Token<'a>], word: &str) -> Result<&'a [Token<'a>], Halt>
+    ensures gives { Answers (λ rest. token_views rest.now) halt_view result
+        (the_word_at word.now (token_views tokens.now)) }
+{
+    match after_word(tokens, word) {
         Some(rest) => Ok(rest),
         None => Err(refusal(tokens)),
     }

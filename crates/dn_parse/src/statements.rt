@@ -2,13 +2,13 @@
 
 ghost use Rattle.std.specs.Prelude.{◌≡◌, ◌<◌, map, IfOk, IfSome};
 ghost use Rattle.dn_parse.specs.Views.{token_views, expr_view, name_view, param_view, arg_view, role_view, declaration_view, order_view, statement_view};
-ghost use Rattle.dn_parse.specs.Descent.{any_word_at, param_at, next_param_at, params_at, closed_params_at, arg_at, next_arg_at, args_at, closed_args_at, next_port_at, ports_at, node_at, measure_at, unit_at, module_at, use_at, loop_at, query_at, grant_at, route_at, order_at, keyword_statement_at, statement_at};
+ghost use Rattle.dn_parse.specs.Descent.{any_word_at, param_at, next_param_at, params_at, closed_params_at, arg_at, next_arg_at, args_at, closed_args_at, next_port_at, ports_at, node_at, measure_at, unit_at, module_at, use_at, loop_at, mode_at, access_at, resolve_at, lookup_at, view_at, grant_at, route_at, order_at, keyword_statement_at, statement_at};
 ghost use Rattle.dn_parse.specs.Faults.{Reads, ReadsNext, IsShorter};
 
-use crate::cursor::{Next, Read, after_keyword, after_sign, keyword, next, refusal, sign, word};
+use crate::cursor::{Next, Read, after_keyword, after_sign, after_word, keyword, next, refusal, sign, the_word, word};
 use crate::expressions::expr;
 use crate::nodes::{name, spec};
-use crate::syntax::{Arg, Decl, DeclRole, Expr, NameExpr, Order, Param};
+use crate::syntax::{Arg, Decl, DeclRole, Expr, Mode, NameExpr, Order, Param};
 use dn_base::items::Items;
 use dn_base::text::Text;
 use dn_token::keyword::spelling;
@@ -298,18 +298,62 @@ fn loop_head<'a>(alloc: Global, tokens: &'a [Token<'a>]) -> Read<'a, Statement>
     Ok((head, rest))
 }
 
-/// `name expr`
-#[tactic(auto, unfolding(crate::specs::Descent::query_at))]
-fn query<'a>(alloc: Global, tokens: &'a [Token<'a>]) -> Read<'a, (NameExpr, Expr)>
-    ensures gives { Reads (λ q. (name_view q.0, expr_view q.1)) result
-        (query_at (token_views tokens.now)) }
+/// `"read" | "write"`
+#[tactic(auto, unfolding(crate::specs::Descent::mode_at))]
+fn mode<'a>(tokens: &'a [Token<'a>]) -> Read<'a, Mode>
+    ensures gives { Reads (λ m. m) result (mode_at (token_views tokens.now)) }
+{
+    let Some(rest) = after_word(tokens, "read") else {
+        let rest = the_word(tokens, "write")?;
+        return Ok((Mode::Write, rest));
+    };
+    Ok((Mode::Read, rest))
+}
+
+/// `[ "for" ( "read" | "write" ) ]`
+#[tactic(auto, unfolding(crate::specs::Descent::access_at))]
+fn access<'a>(tokens: &'a [Token<'a>]) -> Read<'a, Mode>
+    ensures gives { Reads (λ m. m) result (access_at (token_views tokens.now)) }
+{
+    match after_keyword(tokens, Keyword::For) {
+        Some(rest) => mode(rest),
+        None => Ok((Mode::Unsaid, tokens)),
+    }
+}
+
+/// `name expr [ access ]`, of `resolve`
+#[tactic(auto, unfolding(crate::specs::Descent::resolve_at))]
+fn resolve<'a>(alloc: Global, tokens: &'a [Token<'a>]) -> Read<'a, Order>
+    ensures gives { Reads order_view result (resolve_at (token_views tokens.now)) }
 {
     let (name, rest) = name(alloc, tokens, MOST_OPEN)?;
     let (addr, rest) = expr(alloc, rest, MOST_OPEN)?;
-    Ok(((name, addr), rest))
+    let (mode, rest) = access(rest)?;
+    Ok((Order::Resolve(name, addr, mode), rest))
 }
 
-/// `word name name expr expr`
+/// `name expr [ access ]`, of `lookup`
+#[tactic(auto, unfolding(crate::specs::Descent::lookup_at))]
+fn lookup<'a>(alloc: Global, tokens: &'a [Token<'a>]) -> Read<'a, Order>
+    ensures gives { Reads order_view result (lookup_at (token_views tokens.now)) }
+{
+    let (name, rest) = name(alloc, tokens, MOST_OPEN)?;
+    let (addr, rest) = expr(alloc, rest, MOST_OPEN)?;
+    let (mode, rest) = access(rest)?;
+    Ok((Order::Lookup(name, addr, mode), rest))
+}
+
+/// `name [ access ]`, of `view`
+#[tactic(auto, unfolding(crate::specs::Descent::view_at))]
+fn view<'a>(alloc: Global, tokens: &'a [Token<'a>]) -> Read<'a, Order>
+    ensures gives { Reads order_view result (view_at (token_views tokens.now)) }
+{
+    let (name, rest) = name(alloc, tokens, MOST_OPEN)?;
+    let (mode, rest) = access(rest)?;
+    Ok((Order::View(name, mode), rest))
+}
+
+/// `word name name expr expr [ access ]`
 #[tactic(auto, unfolding(crate::specs::Descent::grant_at))]
 fn grant<'a>(alloc: Global, tokens: &'a [Token<'a>]) -> Read<'a, Order>
     ensures gives { Reads order_view result (grant_at (token_views tokens.now)) }
@@ -319,7 +363,8 @@ fn grant<'a>(alloc: Global, tokens: &'a [Token<'a>]) -> Read<'a, Order>
     let (node, rest) = name(alloc, rest, MOST_OPEN)?;
     let (base, rest) = expr(alloc, rest, MOST_OPEN)?;
     let (size, rest) = expr(alloc, rest, MOST_OPEN)?;
-    Ok((Order::Grant(id, agent, node, base, size), rest))
+    let (mode, rest) = access(rest)?;
+    Ok((Order::Grant(id, agent, node, base, size, mode), rest))
 }
 
 /// `word name expr name`
@@ -346,18 +391,9 @@ fn order<'a>(
         (order_at word_of (token_views whole.now) (token_views tokens.now)) }
 {
     match word_of {
-        Keyword::Resolve => {
-            let ((name, addr), rest) = query(alloc, tokens)?;
-            Ok((Order::Resolve(name, addr), rest))
-        }
-        Keyword::Lookup => {
-            let ((name, addr), rest) = query(alloc, tokens)?;
-            Ok((Order::Lookup(name, addr), rest))
-        }
-        Keyword::View => {
-            let (name, rest) = name(alloc, tokens, MOST_OPEN)?;
-            Ok((Order::View(name), rest))
-        }
+        Keyword::Resolve => resolve(alloc, tokens),
+        Keyword::Lookup => lookup(alloc, tokens),
+        Keyword::View => view(alloc, tokens),
         Keyword::Grant => grant(alloc, tokens),
         Keyword::Route => route(alloc, tokens),
         Keyword::Revoke => {

@@ -140,13 +140,21 @@ pub struct Cmd {
 /// What a command asks for.
 #[derive(Drop)]
 pub enum Order {
-    Resolve(NameExpr, Expr),
-    Lookup(NameExpr, Expr),
-    View(NameExpr),
-    Grant(Text, NameExpr, NameExpr, Expr, Expr),
+    Resolve(NameExpr, Expr, Mode),
+    Lookup(NameExpr, Expr, Mode),
+    View(NameExpr, Mode),
+    Grant(Text, NameExpr, NameExpr, Expr, Expr, Mode),
     Route(Text, NameExpr, Expr, NameExpr),
     Revoke(Text),
     Dump,
     Split,
     Absorb(NameExpr),
+}
+
+/// The access that a command says. `Unsaid` is reading, and in a grant both reading and writing.
+#[derive(Clone, Copy, Debug, PartialEq, Eq)]
+pub enum Mode {
+    Unsaid,
+    Read,
+    Write,
 }

@@ -1,5 +1,5 @@
 -- What is read from proper tokens is well formed.
-use Rattle.std.proofs.Common.{inl, ℕ, zero, suc, ◌≤◌, Bool, true, false, cond, List, [], ◌∷◌, length, Option, Some, None, Result, Ok, Err, arith}
+use Rattle.std.proofs.Common.{inl, ℕ, zero, suc, ◌≤◌, Bool, true, false, cond, List, [], ◌∷◌, length, codes, Option, Some, None, Result, Ok, Err, arith}
 use Rattle.dn_token.specs.declared.token.Keyword.{Keyword}
 use Rattle.dn_token.specs.declared.token.Keyword.TheVariants.{Agent, Vectors, Unit as UnitWord, Module, Use, For, In, End, Begin, Is, Accept, Map, To, And, At, Over, Kind, Page, Slots, Reach, As, Num, Node, Resolve, Lookup, View, Grant, Route, Revoke, Dump, Split, Absorb}
 use Rattle.dn_token.specs.declared.token.Sign.{Sign}
@@ -7,9 +7,9 @@ use Rattle.dn_token.specs.declared.token.Sign.TheVariants.{Semicolon, Comma, Ope
 use Rattle.dn_token.specs.Token.{Lexeme, Token, word, keyword, number, sign}
 use Rattle.dn_parse.specs.Tree.{Expression, expressions, Role, plain_role, agent_role, vectors_role, Declaration}
 use Rattle.dn_parse.specs.Actions.{summed, multiplied}
-use Rattle.dn_parse.specs.Forms.{is_sign}
+use Rattle.dn_parse.specs.Forms.{is_sign, is_the_word}
 use Rattle.dn_parse.specs.Machine.{Stop}
-use Rattle.dn_parse.specs.Descent.{and_then, word_of, any_of, Read, Next, Reader, optional, after, after_sign, after_keyword, or_refused, sign_at, keyword_at, word_at, any_word_at, value_or, with_front, row, row_from, row_at, one_more, after_comma, first_and, next_by, term_with, expr_with, after_open_with, at_sign, factor_of, factor_with, nested_at, factor_at, next_factor_at, factors_at, term_at, next_term_at, terms_at, expr_at, first_and_most, expr_after, in_brackets, index_at, part_at, next_part_at, name_at, upper_at, block_at, next_block_at, blocks_at, addr_at, dest_at, next_dest_at, dests_at, entry_at, next_entry_at, entries_at, accept_at, map_at, over_at, spec_at, param_at, next_param_at, params_at, closed_params_at, arg_at, next_arg_at, args_at, closed_args_at, next_port_at, ports_at, node_at, measure_at, unit_at, module_at, use_at, loop_at, query_at, grant_at, route_at, order_at, as_declared, keyword_statement_at, statement_by, statement_at, whole_statement_at}
+use Rattle.dn_parse.specs.Descent.{and_then, word_of, any_of, Read, Next, Reader, optional, after, after_sign, after_keyword, after_word, or_refused, sign_at, keyword_at, the_word_at, word_at, any_word_at, value_or, with_front, row, row_from, row_at, one_more, after_comma, first_and, next_by, term_with, expr_with, after_open_with, at_sign, factor_of, factor_with, nested_at, factor_at, next_factor_at, factors_at, term_at, next_term_at, terms_at, expr_at, first_and_most, expr_after, in_brackets, index_at, part_at, next_part_at, name_at, upper_at, block_at, next_block_at, blocks_at, addr_at, dest_at, next_dest_at, dests_at, entry_at, next_entry_at, entries_at, accept_at, map_at, over_at, spec_at, param_at, next_param_at, params_at, closed_params_at, arg_at, next_arg_at, args_at, closed_args_at, next_port_at, ports_at, node_at, measure_at, unit_at, module_at, use_at, loop_at, mode_at, access_at, resolve_at, lookup_at, view_at, grant_at, route_at, order_at, as_declared, keyword_statement_at, statement_by, statement_at, whole_statement_at}
 use Rattle.dn_print.proofs.Titles.{Title}
 use Rattle.dn_print.proofs.Words.{IsWord, title_word, keyword_word}
 use Rattle.dn_print.proofs.Formed.{Each, Maybe}
@@ -81,6 +81,10 @@ keyword_left : (k : Keyword) (ts : List Token) → Proper ts → Left (after_key
 unfolding after_keyword
 keyword_left k ts h = after_left _ ts h
 
+the_word_left : (w : List ℕ) (ts : List Token) → Proper ts → Left (after_word w ts)
+unfolding after_word
+the_word_left w ts h = after_left (is_the_word w) ts h
+
 or_leaves : (o : Option (List Token)) (ts : List Token) → Left o → Leaves (or_refused o ts)
 or_leaves None ts h = record { it = tt }
 or_leaves (Some rest) ts h = record { it = h.it }
@@ -92,6 +96,10 @@ sign_leaves s ts h = or_leaves (after_sign s ts) ts (sign_left s ts h)
 keyword_leaves : (k : Keyword) (ts : List Token) → Proper ts → Leaves (keyword_at k ts)
 unfolding keyword_at
 keyword_leaves k ts h = or_leaves (after_keyword k ts) ts (keyword_left k ts h)
+
+the_word_leaves : (w : List ℕ) (ts : List Token) → Proper ts → Leaves (the_word_at w ts)
+unfolding the_word_at
+the_word_leaves w ts h = or_leaves (after_word w ts) ts (the_word_left w ts h)
 
 word_by : (l : Lexeme) (ts all : List Token) → ProperLexeme l → Proper ts → Reads Title (value_or (word_of l) ts all)
 word_by (word w) ts all h p = given h p
@@ -342,13 +350,29 @@ unfolding loop_at
 loop_reads ts h = bind (word_at ts) _ (word_reads ts h) (λ w r p q. bind (measure_at In r) _ (measure_reads In r q) (λ e r1 p1 q1. pass (sign_at Dots r1) _ (sign_leaves Dots r1 q1) (λ r2 q2. bind (expr_at 32 r2) _ (expr_reads 32 r2 q2) (λ f r3 p3 q3. given (p1, p3) q3))))
 
 -- commands
-query_reads : (ts : List Token) → Proper ts → Reads Any (query_at ts)
-unfolding query_at
-query_reads ts h = bind (name_at 32 ts) _ (name_reads 32 ts h) (λ n r p q. bind (expr_at 32 r) _ (expr_reads 32 r q) (λ e r' p' q'. given tt q'))
+mode_reads : (ts : List Token) → Proper ts → Reads Any (mode_at ts)
+unfolding mode_at
+mode_reads ts h = either_way (after_word (codes "read") ts) _ _ (the_word_left (codes "read") ts h) (λ r q. given tt q) (pass (the_word_at (codes "write") ts) _ (the_word_leaves (codes "write") ts h) (λ r q. given tt q))
+
+access_reads : (ts : List Token) → Proper ts → Reads Any (access_at ts)
+unfolding access_at
+access_reads ts h = either_way (after_keyword For ts) _ _ (keyword_left For ts h) mode_reads (given tt h)
+
+resolve_reads : (ts : List Token) → Proper ts → Reads Any (resolve_at ts)
+unfolding resolve_at
+resolve_reads ts h = bind (name_at 32 ts) _ (name_reads 32 ts h) (λ n r p q. bind (expr_at 32 r) _ (expr_reads 32 r q) (λ e r1 p1 q1. bind (access_at r1) _ (access_reads r1 q1) (λ m r2 p2 q2. given tt q2)))
+
+lookup_reads : (ts : List Token) → Proper ts → Reads Any (lookup_at ts)
+unfolding lookup_at
+lookup_reads ts h = bind (name_at 32 ts) _ (name_reads 32 ts h) (λ n r p q. bind (expr_at 32 r) _ (expr_reads 32 r q) (λ e r1 p1 q1. bind (access_at r1) _ (access_reads r1 q1) (λ m r2 p2 q2. given tt q2)))
+
+view_reads : (ts : List Token) → Proper ts → Reads Any (view_at ts)
+unfolding view_at
+view_reads ts h = bind (name_at 32 ts) _ (name_reads 32 ts h) (λ n r p q. bind (access_at r) _ (access_reads r q) (λ m r1 p1 q1. given tt q1))
 
 grant_reads : (ts : List Token) → Proper ts → Reads Any (grant_at ts)
 unfolding grant_at
-grant_reads ts h = bind (word_at ts) _ (word_reads ts h) (λ w r p q. bind (name_at 32 r) _ (name_reads 32 r q) (λ a r1 p1 q1. bind (name_at 32 r1) _ (name_reads 32 r1 q1) (λ n r2 p2 q2. bind (expr_at 32 r2) _ (expr_reads 32 r2 q2) (λ e r3 p3 q3. bind (expr_at 32 r3) _ (expr_reads 32 r3 q3) (λ f r4 p4 q4. given tt q4)))))
+grant_reads ts h = bind (word_at ts) _ (word_reads ts h) (λ w r p q. bind (name_at 32 r) _ (name_reads 32 r q) (λ a r1 p1 q1. bind (name_at 32 r1) _ (name_reads 32 r1 q1) (λ n r2 p2 q2. bind (expr_at 32 r2) _ (expr_reads 32 r2 q2) (λ e r3 p3 q3. bind (expr_at 32 r3) _ (expr_reads 32 r3 q3) (λ f r4 p4 q4. bind (access_at r4) _ (access_reads r4 q4) (λ m r5 p5 q5. given tt q5))))))
 
 route_reads : (ts : List Token) → Proper ts → Reads Any (route_at ts)
 unfolding route_at
@@ -356,9 +380,9 @@ route_reads ts h = bind (word_at ts) _ (word_reads ts h) (λ w r p q. bind (name
 
 order_reads : (k : Keyword) (ts rest : List Token) → Proper rest → Reads Any (order_at k ts rest)
 unfolding order_at
-order_reads Resolve ts rest h = bind (query_at rest) _ (query_reads rest h) (λ x r p q. given tt q)
-order_reads Lookup ts rest h = bind (query_at rest) _ (query_reads rest h) (λ x r p q. given tt q)
-order_reads View ts rest h = bind (name_at 32 rest) _ (name_reads 32 rest h) (λ x r p q. given tt q)
+order_reads Resolve ts rest h = resolve_reads rest h
+order_reads Lookup ts rest h = lookup_reads rest h
+order_reads View ts rest h = view_reads rest h
 order_reads Grant ts rest h = grant_reads rest h
 order_reads Route ts rest h = route_reads rest h
 order_reads Revoke ts rest h = bind (word_at rest) _ (word_reads rest h) (λ x r p q. given tt q)

@@ -8,9 +8,10 @@ use Rattle.dn_net.specs.declared.node.NodeDecl.{NodeDecl}
 use Rattle.dn_module.specs.declared.command.Command.{Command}
 use Rattle.std.specs.Fmt.{decimal}
 use Rattle.dn_interval.specs.Listed.{Seen}
+use Rattle.dn_parse.specs.declared.syntax.Mode.{Mode}
 use Rattle.dn_kind.specs.Kind.{Meaning}
 use Rattle.dn_print.specs.Rows.{rows_text}
-use Rattle.dn_tool.specs.Reply.{State, reply, replies, state_after, viewed_text}
+use Rattle.dn_tool.specs.Reply.{State, reply, replies, state_after, access_text, viewed_text}
 
 -- commands change no net so far
 net_stays : (kinds : List Meaning) (s : State) (cs : List Command) → (state_after kinds s cs).net ≡ s.net
@@ -48,10 +49,11 @@ pub replies_all : (kinds : List Meaning) (s : State) (cs : List Command) (i : �
 replies_all kinds s cs i h = ap (replies kinds s) (take_past cs i h)
 
 -- rows below their heading
-pub viewed_told : (net : List NodeDecl) (text heading out : List ℕ) (count : ℕ) (rows : List Seen) → heading ≡ codes "view " ++ (text ++ (codes " rows " ++ (decimal count ++ codes "\n"))) → count ≡ length rows → out ≡ heading ++ rows_text net rows → out ≡ viewed_text net text rows
-viewed_told net text heading out count rows h n o =
+pub viewed_told : (net : List NodeDecl) (text : List ℕ) (m : Mode) (heading out : List ℕ) (count : ℕ) (rows : List Seen) → heading ≡ codes "view " ++ (text ++ (access_text m ++ (codes " rows " ++ (decimal count ++ codes "\n")))) → count ≡ length rows → out ≡ heading ++ rows_text net rows → out ≡ viewed_text net text m rows
+viewed_told net text m heading out count rows h n o =
+    let access = access_text m in
     let lines = rows_text net rows in
     o
     ∙ ap (λ (t : List ℕ). t ++ lines) h
-    ∙ ap (λ (t : List ℕ). codes "view " ++ t) (append_assoc text (codes " rows " ++ (decimal count ++ codes "\n")) lines ∙ ap (λ (t : List ℕ). text ++ (codes " rows " ++ t)) (append_assoc (decimal count) (codes "\n") lines))
-    ∙ ap (λ (k : ℕ). codes "view " ++ (text ++ (codes " rows " ++ (decimal k ++ (codes "\n" ++ lines))))) n
+    ∙ ap (λ (t : List ℕ). codes "view " ++ t) (append_assoc text (access ++ (codes " rows " ++ (decimal count ++ codes "\n"))) lines ∙ ap (λ (t : List ℕ). text ++ t) (append_assoc access (codes " rows " ++ (decimal count ++ codes "\n")) lines ∙ ap (λ (t : List ℕ). access ++ (codes " rows " ++ t)) (append_assoc (decimal count) (codes "\n") lines)))
+    ∙ ap (λ (k : ℕ). codes "view " ++ (text ++ (access ++ (codes " rows " ++ (decimal k ++ (codes "\n" ++ lines)))))) n

@@ -2,6 +2,8 @@
 use Rattle.std.specs.Prelude.{ℕ, Bool, true, false, if◌then◌else◌, List, [], ◌∷◌, ◌++◌, map, length, codes, slice_get, Option, Some, None}
 use Rattle.std.specs.Fmt.{decimal}
 use Rattle.dn_interval.specs.Listed.{Seen}
+use Rattle.dn_parse.specs.declared.syntax.Mode.{Mode}
+use Rattle.dn_parse.specs.declared.syntax.Mode.TheVariants.{Unsaid, Read, Write}
 use Rattle.dn_net.specs.declared.node.NodeDecl.{NodeDecl}
 use Rattle.dn_net.specs.Decode.{is_agent_at}
 use Rattle.dn_net.specs.Names.{resolved_names}
@@ -19,26 +21,32 @@ abbrev pub target_text : List NodeDecl → Option ℕ → ℕ → List ℕ
 target_text net None a = codes "no such node"
 target_text net (Some n) a = names_text net (resolved_names net (record { node = n; addr = a }))
 
--- the reply to `resolve`: the address as it was asked for, and the names
-abbrev pub resolve_text : List NodeDecl → Target → ℕ → List ℕ
-resolve_text net target a = target.text ++ (codes "@" ++ (address_text a ++ (codes ": " ++ (target_text net target.node a ++ codes "\n"))))
+-- the access, where a command says one
+abbrev pub access_text : Mode → List ℕ
+access_text Unsaid = []
+access_text Read = codes " for read"
+access_text Write = codes " for write"
 
--- the rows of a view below a heading that has their number
-abbrev pub viewed_text : List NodeDecl → List ℕ → List Seen → List ℕ
-viewed_text net text rows = codes "view " ++ (text ++ (codes " rows " ++ (decimal (length rows) ++ (codes "\n" ++ rows_text net rows))))
+-- the reply to `resolve`: the address as it was asked for, the access as it was said, and the names, which are the same for both
+abbrev pub resolve_text : List NodeDecl → Target → ℕ → Mode → List ℕ
+resolve_text net target a m = target.text ++ (codes "@" ++ (address_text a ++ (access_text m ++ (codes ": " ++ (target_text net target.node a ++ codes "\n")))))
+
+-- the rows of a view below a heading that has the access as it was said, and their number
+abbrev pub viewed_text : List NodeDecl → List ℕ → Mode → List Seen → List ℕ
+viewed_text net text m rows = codes "view " ++ (text ++ (access_text m ++ (codes " rows " ++ (decimal (length rows) ++ (codes "\n" ++ rows_text net rows)))))
 
 -- the reply to a view of what is no agent
 abbrev pub no_agent_text : List ℕ → List ℕ
 no_agent_text text = codes "view " ++ (text ++ codes " refused: NoAgent\n")
 
 -- the view of a node that is an agent, and of nothing else
-abbrev pub view_by : List NodeDecl → List ℕ → Option ℕ → List ℕ
-view_by net text None = no_agent_text text
-view_by net text (Some n) = if is_agent_at (slice_get net n) then viewed_text net text (view_rows net n) else no_agent_text text
+abbrev pub view_by : List NodeDecl → List ℕ → Mode → Option ℕ → List ℕ
+view_by net text m None = no_agent_text text
+view_by net text m (Some n) = if is_agent_at (slice_get net n) then viewed_text net text m (view_rows net n) else no_agent_text text
 
--- the view of an agent
-abbrev pub view_text : List NodeDecl → Target → List ℕ
-view_text net target = view_by net target.text target.node
+-- the view of an agent, which is the same for both accesses
+abbrev pub view_text : List NodeDecl → Target → Mode → List ℕ
+view_text net target m = view_by net target.text m target.node
 
 -- the reply to a command of this word that is not answered so far
 abbrev pub later_text : List ℕ → List ℕ
@@ -46,10 +54,10 @@ later_text word = word ++ codes " refused: later\n"
 
 -- the reply to a command over a net whose units are of these kinds
 abbrev pub reply : List Meaning → List NodeDecl → Command → List ℕ
-reply kinds net (Resolve target a) = resolve_text net target a
-reply kinds net (Lookup target a) = later_text (codes "lookup")
-reply kinds net (View target) = view_text net target
-reply kinds net (Grant id from target base size) = later_text (codes "grant")
+reply kinds net (Resolve target a m) = resolve_text net target a m
+reply kinds net (Lookup target a m) = later_text (codes "lookup")
+reply kinds net (View target m) = view_text net target m
+reply kinds net (Grant id from target base size m) = later_text (codes "grant")
 reply kinds net (Route id from line target) = later_text (codes "route")
 reply kinds net (Revoke id) = later_text (codes "revoke")
 reply kinds net Dump = later_text (codes "dump")

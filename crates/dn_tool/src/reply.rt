@@ -8,7 +8,7 @@ ghost use Rattle.dn_kind.specs.Kind.{IsLawful};
 ghost use Rattle.dn_kind.specs.Units.{shape_fault};
 ghost use Rattle.dn_module.specs.Commands.{names_within};
 ghost use Rattle.dn_flat.specs.Views.{view_rows};
-ghost use Rattle.dn_tool.specs.Reply.{reply, target_text, resolve_text, viewed_text, no_agent_text, view_text, later_text};
+ghost use Rattle.dn_tool.specs.Reply.{reply, target_text, access_text, resolve_text, viewed_text, no_agent_text, view_text, later_text};
 
 use crate::compile::Platform;
 use crate::{reshape, resolve};
@@ -16,6 +16,7 @@ use dn_kind::kinds::Kinds;
 use dn_module::command::{Command, Target};
 use dn_net::net::Net;
 use dn_net::node::{Name, Role};
+use dn_parse::syntax::Mode;
 use dn_print::{names, rows};
 use std::alloc::{AllocError, Global};
 
@@ -35,11 +36,13 @@ pub fn reply(
         reply (map (λ k. meaning (k.vtable, k.value)) kinds.now.list.items) platform.now.net command.now) }
 {
     match command {
-        Command::Resolve(target, addr) => {
-            Ok(resolve_reply(alloc, platform, target, *addr)?.into_bytes())
+        Command::Resolve(target, addr, mode) => {
+            Ok(resolve_reply(alloc, platform, target, *addr, *mode)?.into_bytes())
         }
         Command::Lookup(..) => later(alloc, "lookup"),
-        Command::View(target) => Ok(view_reply(alloc, platform, target)?.into_bytes()),
+        Command::View(target, mode) => {
+            Ok(view_reply(alloc, platform, target, *mode)?.into_bytes())
+        }
         Command::Grant(..) => later(alloc, "grant"),
         Command::Route(..) => later(alloc, "route"),
         Command::Revoke(..) => later(alloc, "revoke"),
@@ -56,20 +59,34 @@ fn later(alloc: Global, word: &str) -> Result<Vec<u8>, AllocError>
     Ok(format!(in alloc; "{word} refused: later\n")?.into_bytes())
 }
 
-/// The reply to `resolve`.
+/// The access behind a name in a reply, where the command says one.
+fn access_text(mode: Mode) -> &'static str
+    ensures { result.now ≡ access_text mode }
+{
+    match mode {
+        Mode::Unsaid => "",
+        Mode::Read => " for read",
+        Mode::Write => " for write",
+    }
+}
+
+/// The reply to `resolve`, which is the same for both accesses.
 fn resolve_reply(
     alloc: Global,
     platform: &Platform,
     target: &Target,
     addr: u64,
+    mode: Mode,
 ) -> Result<String, AllocError>
     requires { IsTrue (over_within (length platform.now.net) target.now.node) }
-    ensures { IfOk result (λ s. string_bytes s ≡ resolve_text platform.now.net target.now addr) }
+    ensures { IfOk result (λ s. string_bytes s ≡
+        resolve_text platform.now.net target.now addr mode) }
 {
     let text = target.text.as_str();
+    let access = access_text(mode);
     let found = target_text(alloc, platform, target.node, addr)?;
     let found = found.as_str();
-    format!(in alloc; "{text}@0x{addr:x}: {found}\n")
+    format!(in alloc; "{text}@0x{addr:x}{access}: {found}\n")
 }
 
 /// The names to which the address of a node resolves, where there is such a node.
@@ -91,14 +108,21 @@ fn target_text(
     Ok(text)
 }
 
-/// The reply to `view`.
-fn view_reply(alloc: Global, platform: &Platform, target: &Target) -> Result<String, AllocError>
+/// The reply to `view`, which is the same for both accesses.
+fn view_reply(
+    alloc: Global,
+    platform: &Platform,
+    target: &Target,
+    mode: Mode,
+) -> Result<String, AllocError>
     requires { IsTrue (over_within (length platform.now.net) target.now.node) }
-    ensures { IfOk result (λ s. string_bytes s ≡ view_text platform.now.net target.now) }
+    ensures { IfOk result (λ s. string_bytes s ≡ view_text platform.now.net target.now mode) }
 {
     let text = target.text.as_str();
     match target.node {
-        Some(node) if is_agent(&platform.net, node) => agent_view(alloc, platform, text, node),
+        Some(node) if is_agent(&platform.net, node) => {
+            agent_view(alloc, platform, text, mode, node)
+        }
         _ => no_agent(alloc, text),
     }
 }
@@ -118,20 +142,22 @@ fn no_agent(alloc: Global, text: &str) -> Result<String, AllocError>
     format!(in alloc; "view {text} refused: NoAgent\n")
 }
 
-/// What a node sees, below a heading with this text and the number of rows.
+/// What a node sees, below a heading with this text, the access and the number of rows.
 fn agent_view(
     alloc: Global,
     platform: &Platform,
     text: &str,
+    mode: Mode,
     node: u16,
 ) -> Result<String, AllocError>
     requires { node < length platform.now.net }
     ensures { IfOk result (λ s. string_bytes s ≡
-        viewed_text platform.now.net text.now (view_rows platform.now.net node)) }
+        viewed_text platform.now.net text.now mode (view_rows platform.now.net node)) }
 {
+    let access = access_text(mode);
     let flat = platform.steps.flat(alloc, &platform.net, node)?;
     let count = flat.accepts.rows().len();
-    let mut out = format!(in alloc; "view {text} rows {count}\n")?;
+    let mut out = format!(in alloc; "view {text}{access} rows {count}\n")?;
     rows::push_rows(&mut out, &platform.net, &flat.accepts)?;
     Ok(out)
 }

@@ -19,7 +19,7 @@ fn expanded(alloc: Global, text: &str) -> Result<Result<Expanded, ExpandFault>, 
 fn asked(alloc: Global, text: &str) -> Result<Result<u64, ExpandFault>, Fail> {
     match expanded(alloc, text)? {
         Ok(made) => match made.commands.as_slice().first() {
-            Some(Command::Resolve(_, addr)) => Ok(Ok(*addr)),
+            Some(Command::Resolve(_, addr, _)) => Ok(Ok(*addr)),
             _ => Ok(Err(ExpandFault::OutOfMemory)),
         },
         Err(fault) => Ok(Err(fault)),
