@@ -18,3 +18,4 @@ pub mod Read
 pub mod Judged
 pub mod Kept
 pub mod Made
+pub mod Dumped

@@ -2,3 +2,4 @@ pub mod Names
 pub mod Rows
 pub mod Statement
 pub mod ReadBack
+pub mod Dump

@@ -2,9 +2,11 @@
 //!
 //! [`names::names_text`] prints names as replies show them, [`rows::rows_text`] prints rows as
 //! lines, and [`net::net_text`] prints a net as one statement for each node, in the order of their
-//! numbers. [`laws`] has the law that the text of a compiled net gives that net back.
+//! numbers. [`dump::dump_text`] prints an image. [`laws`] has the law that the text of a compiled
+//! net gives that net back.
 #![tactic(auto)]
 
+pub mod dump;
 pub mod laws;
 pub mod names;
 pub mod net;

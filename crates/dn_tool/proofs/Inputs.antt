@@ -9,7 +9,7 @@ use Rattle.dn_tool.specs.Compiled.{compilation, reading_compilation, with_refusa
 use Rattle.dn_tool.specs.Refused.{Refused, of_text, refusal_of}
 use Rattle.dn_tool.specs.declared.words.Task.{Task}
 use Rattle.dn_tool.specs.declared.words.Task.TheVariants.{Run, Check}
-use Rattle.dn_tool.specs.Answer.{Answer, IsInput, answer, compiled_answer, reads, some_task_reads, task_answer, task_of, task_reads, text_answer, usage}
+use Rattle.dn_tool.specs.Answer.{Answer, IsInput, answer, asked_answer, compiled_answer, reads, said, some_task_reads, task_of, task_reads, text_answer, usage}
 
 -- a text that is longer than the limit is refused by that alone
 long_refused : (kinds : List Meaning) (text : List ℕ) → 4194304 < length text → compilation kinds text ≡ Err (of_text too_long)
@@ -49,12 +49,12 @@ input_answer left after w task kinds text whole P asked taken end input p = go l
     go l (Some rest) taken end told =
         let joined : whole ≡ text ++ rest = cc in
         let same : text_answer task kinds text ≡ text_answer task kinds whole = ap (λ c. compiled_answer task kinds (with_refusal c)) (sym (same_text kinds text rest end) ∙ ap (compilation kinds) (sym joined)) in
-        let all : text_answer task kinds whole ≡ answer w kinds whole = ap (λ o. task_answer o kinds whole) (sym asked) in
+        let all : text_answer task kinds whole ≡ answer w kinds whole = ap (λ o. asked_answer o kinds whole) (sym asked) in
         subst P (same ∙ all) p
 
 -- other words have the usage line, whatever the text
-pub usage_answer : (w : List (List ℕ)) (kinds : List Meaning) (text : List ℕ) (P : Answer → Type 0) → task_of w ≡ None → P (record { status = 1; pieces = usage ∷ [] }) → P (answer w kinds text)
-usage_answer w kinds text P e p = let same : record { status = 1; pieces = usage ∷ [] } ≡ answer w kinds text = ap (λ o. task_answer o kinds text) (sym e) in subst P same p
+pub usage_answer : (w : List (List ℕ)) (kinds : List Meaning) (text : List ℕ) (P : Answer → Type 0) → task_of w ≡ None → P (said 1 usage) → P (answer w kinds text)
+usage_answer w kinds text P e p = let same : said 1 usage ≡ answer w kinds text = ap (λ o. asked_answer o kinds text) (sym e) in subst P same p
 
 -- a text with a net is no longer than the limit
 pub legal_short : (kinds : List Meaning) (text : List ℕ) (o : Outcome) → with_refusal (compilation kinds text) ≡ Ok o → length text < input_limit

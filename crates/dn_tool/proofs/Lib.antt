@@ -4,8 +4,8 @@ pub mod Inputs
 pub mod Levels
 pub mod NodeFaults
 pub mod Refusals
-pub mod Replies
 pub mod Reshaped
 pub mod Shaped
 pub mod WalkFaults
 pub mod Sets
+pub mod Written

@@ -1,6 +1,9 @@
--- The answer of the program: a status, and what is written, piece by piece.
-use Rattle.std.specs.Prelude.{◌≡◌, ℕ, ◌==◌, Bool, true, false, ◌||◌, if◌then◌else◌, List, [], ◌∷◌, ◌++◌, codes, Option, Some, None, Result, Ok, Err}
+-- The answer of the program: a status and what is written, or a script that is run.
+use Rattle.std.specs.Prelude.{◌≡◌, ℕ, ◌==◌, Bool, true, false, not, ◌||◌, if◌then◌else◌, List, [], ◌∷◌, ◌++◌, codes, Option, Some, None, Result, Ok, Err}
 use Rattle.std.specs.Str.{bytes_eq}
+use Rattle.dn_base.specs.declared.device.TableEvent.{TableEvent}
+use Rattle.dn_base.specs.declared.device.UnitWords.{UnitWords}
+use Rattle.dn_base.specs.Outside.{IsWritten}
 use Rattle.dn_net.specs.declared.node.NodeDecl.{NodeDecl}
 use Rattle.dn_kind.specs.Kind.{Meaning}
 use Rattle.dn_print.specs.Statement.{net_text}
@@ -9,17 +12,22 @@ use Rattle.dn_tool.specs.declared.words.Task.{Task}
 use Rattle.dn_tool.specs.declared.words.Task.TheVariants.{Run, Check}
 use Rattle.dn_module.specs.Expand.{Outcome}
 use Rattle.dn_tool.specs.Compiled.{compilation, with_refusal}
+use Rattle.dn_tool.specs.Played.{IsPlayed}
 use Rattle.dn_tool.specs.Refused.{Refused}
-use Rattle.dn_tool.specs.Reply.{replies}
 
--- a status, and the pieces that are written one after the other: to commands, the reply to each
-pub record Answer : Type 0 where
-  pub status : ℕ
-  pub pieces : List (List ℕ)
+-- a status and the output; or a net, whose commands are answered one after the other
+pub data Answer : Type 0 where
+  said : ℕ → List ℕ → Answer
+  played : List NodeDecl → List Command → Answer
 
--- a status that no answer has: a fault of the source or of the sink, or want of memory
+-- the answer is a script that is run
+abbrev pub is_script : Answer → Bool
+is_script (said status output) = false
+is_script (played net commands) = true
+
+-- a status that comes of no answer: a fault of the source, the sink or the device, or want of memory
 abbrev pub is_free : ℕ → Bool
-is_free status = status == 2 || status == 3 || status == 7
+is_free status = status == 2 || status == 3 || status == 6 || status == 7
 
 -- the line that says how the program is used
 abbrev pub usage : List ℕ
@@ -55,25 +63,39 @@ abbrev pub IsInput : List (List ℕ) → Option (List ℕ) → List ℕ → Type
 IsInput words left text = reads words ≡ true → left ≡ Some text
 
 -- `run` answers the commands, and `check` prints the net
-abbrev pub task_pieces : Task → List Meaning → List NodeDecl → List Command → List (List ℕ)
-task_pieces Run kinds net commands = replies kinds (record { net = net }) commands
-task_pieces Check kinds net commands = net_text kinds net ∷ []
+abbrev pub task_answer : Task → List Meaning → List NodeDecl → List Command → Answer
+task_answer Run kinds net commands = played net commands
+task_answer Check kinds net commands = said 0 (net_text kinds net)
 
 -- the answer to what a text comes to: the line of its refusal, or what the task makes of it
 abbrev pub compiled_answer : Task → List Meaning → Result Outcome Refused → Answer
-compiled_answer task kinds (Err r) = record { status = 4; pieces = (r.text ++ codes "\n") ∷ [] }
-compiled_answer task kinds (Ok o) =
-    record { status = 0; pieces = task_pieces task kinds o.net o.commands }
+compiled_answer task kinds (Err r) = said 4 (r.text ++ codes "\n")
+compiled_answer task kinds (Ok o) = task_answer task kinds o.net o.commands
 
 -- the answer to a text
 abbrev pub text_answer : Task → List Meaning → List ℕ → Answer
 text_answer task kinds text = compiled_answer task kinds (with_refusal (compilation kinds text))
 
 -- the answer to what is asked for, and the usage line where nothing is
-abbrev pub task_answer : Option Task → List Meaning → List ℕ → Answer
-task_answer None kinds text = record { status = 1; pieces = usage ∷ [] }
-task_answer (Some task) kinds text = text_answer task kinds text
+abbrev pub asked_answer : Option Task → List Meaning → List ℕ → Answer
+asked_answer None kinds text = said 1 usage
+asked_answer (Some task) kinds text = text_answer task kinds text
 
 -- the answer to words and a text, where these kinds of units are known
 abbrev pub answer : List (List ℕ) → List Meaning → List ℕ → Answer
-answer words kinds text = task_answer (task_of words) kinds text
+answer words kinds text = asked_answer (task_of words) kinds text
+
+-- A status and an output were the answer of a run: a status that is not free is the answer's, and
+-- exactly the output was written then. At any other a prefix of it was, and at status 3 not all of it.
+pub record IsSaid (own : ℕ) (output : List ℕ) (status : ℕ) (before after : Option (List ℕ))
+    : Type 0 where
+  pub exact : is_free status ≡ false → status ≡ own
+  pub written : IsWritten before after (not (is_free status)) (status == 3) output
+
+-- a run with this status gave an answer, as far as it came
+abbrev pub IsAnswered : List Meaning → Answer → ℕ → Option (List ℕ) → Option (List ℕ) →
+    Option (List TableEvent) → Option (List TableEvent) → Option (List UnitWords) → Type 0
+IsAnswered kinds (said own output) status before after log log' told' =
+    IsSaid own output status before after
+IsAnswered kinds (played net commands) status before after log log' told' =
+    IsPlayed kinds net commands status before after log log' told'

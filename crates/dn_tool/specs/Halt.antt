@@ -1,15 +1,28 @@
--- Why the writing of an answer stops, and the statuses that tell it.
+-- Why an answer stops, and the statuses that tell it.
 use Rattle.std.specs.Prelude.{ℕ, Bool, true, false, Result, Ok, Err}
-use Rattle.dn_tool.specs.declared.run.Halt.{Halt}
-use Rattle.dn_tool.specs.declared.run.Halt.TheVariants.{WriteFault, NoMemory}
+use Rattle.dn_base.specs.declared.device.MakeFault.{MakeFault}
+use Rattle.dn_base.specs.declared.device.MakeFault.TheVariants.{Device, OutOfMemory}
+use Rattle.dn_tool.specs.declared.halt.Halt.{Halt}
+use Rattle.dn_tool.specs.declared.halt.Halt.TheVariants.{WriteFault, DeviceFault, NoMemory}
 
 -- a write failed by a fault of the sink
 abbrev pub is_write_halt : {A : Type 0} → Result A Halt → Bool
 is_write_halt (Err WriteFault) = true
 is_write_halt _ = false
 
--- the status of an answer that was written whole, or of the halt before that
+-- a call of the device failed
+abbrev pub is_device_halt : {A : Type 0} → Result A Halt → Bool
+is_device_halt (Err DeviceFault) = true
+is_device_halt _ = false
+
+-- the status of an answer that was given whole, or of the halt before that
 abbrev pub ending_status : Result ℕ Halt → ℕ
 ending_status (Ok status) = status
 ending_status (Err WriteFault) = 3
+ending_status (Err DeviceFault) = 6
 ending_status (Err NoMemory) = 7
+
+-- the halt that a unit which was not made is
+abbrev pub make_halt : MakeFault → Halt
+make_halt Device = DeviceFault
+make_halt OutOfMemory = NoMemory

@@ -1,6 +1,10 @@
 pub mod Refused
 pub mod Compiled
-pub mod Reply
+pub mod Found
+pub mod Viewed
+pub mod Turn
+pub mod Played
+pub mod Present
 pub mod Answer
 pub mod Halt
 pub mod Platform

@@ -1,0 +1,53 @@
+//! The text of an image.
+
+ghost use Rattle.std.specs.Prelude.{◌≡◌, ◌≤◌, ◌++◌, length, IfOk, OnOk};
+ghost use Rattle.std.specs.String.{string_bytes};
+ghost use Rattle.dn_print.specs.Dump.{dump_text, heading_text, line_text, lines_text};
+
+use crate::OutOfMemory;
+use std::alloc::Global;
+
+/// How many bytes of the image stand in a line.
+pub const LINE: usize = 32;
+
+/// A heading with the number of bytes of an image, and the bytes in lower-case hexadecimal, 32 in a
+/// line and in the last as many as are left. `Err` is want of memory.
+pub fn dump_text(alloc: Global, image: &[u8]) -> Result<Vec<u8>, OutOfMemory>
+    ensures { IfOk result (λ v. v.items ≡ dump_text image.now) }
+{
+    let mut out = heading_text(alloc, image.len())?.into_bytes();
+    push_lines(&mut out, image)?;
+    Ok(out)
+}
+
+/// The heading above the lines of so many bytes. `Err` is want of memory.
+pub fn heading_text(alloc: Global, count: usize) -> Result<String, OutOfMemory>
+    ensures { IfOk result (λ s. string_bytes s ≡ heading_text count) }
+{
+    format!(in alloc; "dump bytes {count}\n")
+}
+
+/// Appends the lines of bytes, 32 in a line. Bytes that are handed in one after the other, each time
+/// a multiple of 32 but the last, have the lines of all of them. For want of memory a part of the
+/// lines may have been appended.
+pub fn push_lines(out: &mut Vec<u8>, bytes: &[u8]) -> Result<(), OutOfMemory>
+    ensures { OnOk result (out.new.items ≡ out.old.items ++ lines_text bytes.now) }
+{
+    for line in bytes.chunks(LINE) {
+        push_line(out, line)?;
+    }
+    Ok(())
+}
+
+/// Appends a line of at most 32 bytes, two digits each, and its end.
+fn push_line(out: &mut Vec<u8>, line: &[u8]) -> Result<(), OutOfMemory>
+    requires { length line.now ≤ 32 }
+    ensures { OnOk result (out.new.items ≡ out.old.items ++ line_text line.now) }
+{
+    let mut digits = [0u8; 2 * LINE];
+    let size = 2 * line.len();
+    hex::encode_to_slice(line, &mut digits[..size]).unwrap();
+    out.extend_from_slice(&digits[..size])?;
+    out.push(b'\n')?;
+    Ok(())
+}

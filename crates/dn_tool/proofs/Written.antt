@@ -1,0 +1,42 @@
+-- An output that is written piece by piece.
+use Rattle.std.proofs.Common.{◌≡◌, ◌∙◌, ap, sym, subst, refl, ℕ, Bool, true, false, List, [], ◌++◌, Option, append_assoc, append-nil}
+use Rattle.dn_base.specs.Outside.{Added, IsWritten}
+use Rattle.dn_base.proofs.Told.{Added-none, Added-then, less_then, prefix_by, prefix_then, written_all}
+
+-- a part of an output was written, and the rest was not
+pub record IsSoFar (a b : Option (List ℕ)) (rest all : List ℕ) : Type 0 where
+  pub done : List ℕ
+  pub added : Added a b done
+  pub joined : done ++ rest ≡ all
+
+-- nothing was written
+pub begun : (a : Option (List ℕ)) (all : List ℕ) → IsSoFar a a all all
+begun a all = record { done = []; added = Added-none a a refl; joined = refl }
+
+-- one more piece was
+pub gone_on : (a b c : Option (List ℕ)) (x rest later all : List ℕ) → IsSoFar a b rest all → rest ≡ x ++ later → Added b c x → IsSoFar a c later all
+gone_on a b c x rest later all s e p = record {
+  done = s.done ++ x;
+  added = Added-then a b c s.done x s.added p;
+  joined = append_assoc s.done x later ∙ ap (λ l. s.done ++ l) (sym e) ∙ s.joined;
+}
+
+-- it stopped before a piece
+pub stopped_before : (a b : Option (List ℕ)) (rest all : List ℕ) → IsSoFar a b rest all → IsWritten a b false false all
+stopped_before a b rest all s = record { whole = λ e. cc; less = λ e. cc; front = prefix_by a b s.done rest all s.added s.joined }
+
+-- it stopped in a piece
+pub stopped_in : (a b c : Option (List ℕ)) (failed : Bool) (x rest later all : List ℕ) → IsSoFar a b rest all → rest ≡ x ++ later → IsWritten b c false failed x → IsWritten a c false failed all
+stopped_in a b c failed x rest later all s e w =
+    let joined : s.done ++ (x ++ later) ≡ all = ap (λ l. s.done ++ l) (sym e) ∙ s.joined in
+    record {
+      whole = λ t. cc;
+      less = λ t. less_then a b c s.done x later all s.added (w.less t) joined;
+      front = prefix_then a b c s.done x later all s.added w.front joined;
+    }
+
+-- all of it was written
+pub ended : (a b : Option (List ℕ)) (rest all : List ℕ) → IsSoFar a b rest all → rest ≡ [] → IsWritten a b true false all
+ended a b rest all s e =
+    let P : List ℕ → Type 0 = λ l. Added a b l in
+    written_all a b all (subst P (sym (append-nil s.done) ∙ ap (λ l. s.done ++ l) (sym e) ∙ s.joined) s.added)

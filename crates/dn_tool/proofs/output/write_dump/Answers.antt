@@ -1,0 +1,74 @@
+use Rattle.std.proofs.Common.{rules, ◌≡◌, ◌∙◌, ◌++◌, [], ap, sym, subst, false, is_ok, min, length, List, ℕ, append-nil, refl}
+use Rattle.dn_base.specs.Outside.{IsCounted}
+use Rattle.dn_base.proofs.Counts.{counted_then}
+use Rattle.dn_print.specs.Dump.{dump_text, heading_text, lines_text}
+use Rattle.dn_print.proofs.Dumped.{one_piece, no_items}
+use Rattle.dn_tool.specs.Halt.{is_write_halt}
+use Rattle.dn_tool.proofs.Written.{begun, ended, gone_on, stopped_before, stopped_in}
+use Rattle.dn_tool.proofs.output.write_dump.Goals as goal
+
+pub returns-in_err-write_output-clause-written : goal.returns-in_err-write_output-clause-written
+returns-in_err-write_output-clause-written g c =
+    let heading : c.as_bytes.result.now ≡ heading_text (length c.args.image.now) = search rules in
+    let done : is_ok c.from_residual-in_err-write_output.result ≡ false = search rules in
+    let failed : is_write_halt c.from_residual-in_err-write_output.result ≡ is_write_halt c.write_output.result = search rules in
+    let stop : is_ok c.write_output.result ≡ false = search rules in
+    rw (done, failed) (stopped_in _ _ _ _ c.as_bytes.result.now (dump_text c.args.image.now) (lines_text c.args.image.now) (dump_text c.args.image.now) (begun _ (dump_text c.args.image.now)) (ap (λ (l : List ℕ). l ++ lines_text c.args.image.now) (sym heading)) (rw stop at c.write_output.ensures.written))
+
+pub loop-piece-init : goal.loop-piece-init
+loop-piece-init g c =
+    let is = c.into_iter-piece-iterator.ensures.into_iter_gives in
+    let rest : c.into_iter-piece-iterator.result.rest.now ≡ c.args.image.now = ap (λ i. i.rest.now) is ∙ c.chunks-piece-items.ensures.rest in
+    let heading : c.as_bytes.result.now ≡ heading_text (length c.args.image.now) = search rules in
+    record {
+      size = ap (λ i. i.size) is ∙ c.chunks-piece-items.ensures.size;
+      so_far = gone_on _ _ _ c.as_bytes.result.now (dump_text c.args.image.now) (lines_text c.into_iter-piece-iterator.result.rest.now) (dump_text c.args.image.now) (begun _ (dump_text c.args.image.now)) (ap (λ (l : List ℕ). l ++ lines_text c.args.image.now) (sym heading) ∙ ap (λ (l : List ℕ). c.as_bytes.result.now ++ lines_text l) (sym rest)) (c.in_ok-write_output.ensures.written.whole refl);
+      counted = c.in_ok-write_output.ensures.counted;
+    }
+
+pub returns-in_err-push_lines-clause-written : goal.returns-in_err-push_lines-clause-written
+returns-in_err-push_lines-clause-written g c =
+    let done : is_ok c.from_residual-in_err-push_lines.result ≡ false = search rules in
+    let failed : is_write_halt c.from_residual-in_err-push_lines.result ≡ false = search rules in
+    rw (done, failed) (stopped_before _ _ _ _ c.loop-piece.invariant.so_far)
+
+pub returns-in_err-push_lines-clause-counted : goal.returns-in_err-push_lines-clause-counted
+returns-in_err-push_lines-clause-counted g c =
+    let failed : is_write_halt c.from_residual-in_err-push_lines.result ≡ false = search rules in
+    rw failed c.loop-piece.invariant.counted
+
+pub loop-piece-preserved : goal.loop-piece-preserved
+loop-piece-preserved g c =
+    let s = c.in-Some.ensures.steps in
+    let size : length c.in-Some.piece.now ≡ min 32768 (length c.loop-piece.piece-iterator.rest.now) = s.1.1 ∙ ap (λ n. min n (length c.loop-piece.piece-iterator.rest.now)) c.loop-piece.invariant.size in
+    let next = one_piece c.loop-piece.piece-iterator.rest.now c.in-Some.piece.now c.next.new.self.rest.now s.1.0 size in
+    let lines : c.as_slice.result.now ≡ lines_text c.in-Some.piece.now = search rules in
+    record {
+      size = s.0 ∙ c.loop-piece.invariant.size;
+      so_far = gone_on _ _ _ c.as_slice.result.now _ (lines_text c.next.new.self.rest.now) _ c.loop-piece.invariant.so_far (next ∙ ap (λ (l : List ℕ). l ++ lines_text c.next.new.self.rest.now) (sym lines)) (c.in_ok-write_output-2.ensures.written.whole refl);
+      counted = counted_then _ _ _ _ c.loop-piece.invariant.counted c.in_ok-write_output-2.ensures.counted;
+    }
+
+pub returns-in_err-write_output-2-clause-written : goal.returns-in_err-write_output-2-clause-written
+returns-in_err-write_output-2-clause-written g c =
+    let s = c.in-Some.ensures.steps in
+    let size : length c.in-Some.piece.now ≡ min 32768 (length c.loop-piece.piece-iterator.rest.now) = s.1.1 ∙ ap (λ n. min n (length c.loop-piece.piece-iterator.rest.now)) c.loop-piece.invariant.size in
+    let next = one_piece c.loop-piece.piece-iterator.rest.now c.in-Some.piece.now c.next.new.self.rest.now s.1.0 size in
+    let lines : c.as_slice.result.now ≡ lines_text c.in-Some.piece.now = search rules in
+    let done : is_ok c.from_residual-in_err-write_output-2.result ≡ false = search rules in
+    let failed : is_write_halt c.from_residual-in_err-write_output-2.result ≡ is_write_halt c.write_output-in-loop-piece.result = search rules in
+    let stop : is_ok c.write_output-in-loop-piece.result ≡ false = search rules in
+    rw (done, failed) (stopped_in _ _ _ _ c.as_slice.result.now _ (lines_text c.next.new.self.rest.now) _ c.loop-piece.invariant.so_far (next ∙ ap (λ (l : List ℕ). l ++ lines_text c.next.new.self.rest.now) (sym lines)) (rw stop at c.write_output-in-loop-piece.ensures.written))
+
+pub returns-in_err-write_output-2-clause-counted : goal.returns-in_err-write_output-2-clause-counted
+returns-in_err-write_output-2-clause-counted g c =
+    let failed : is_write_halt c.from_residual-in_err-write_output-2.result ≡ is_write_halt c.write_output-in-loop-piece.result = search rules in
+    rw failed (counted_then _ _ _ _ c.loop-piece.invariant.counted c.write_output-in-loop-piece.ensures.counted)
+
+pub returns-clause-written : goal.returns-clause-written
+returns-clause-written g c =
+    let none : c.loop-piece.piece-iterator.rest.now ≡ [] = no_items c.loop-piece.piece-iterator.rest.now c.in-None.ensures.steps.1.0 in
+    ended _ _ _ _ c.loop-piece.invariant.so_far (ap lines_text none)
+
+pub returns-clause-counted : goal.returns-clause-counted
+returns-clause-counted g c = c.loop-piece.invariant.counted

@@ -1,0 +1,68 @@
+-- How far a run comes over a script: what of it is done to the device, and what is written.
+use Rattle.std.specs.Prelude.{◌≡◌, ◌≢◌, ℕ, suc, ◌<◌, ◌≤◌, List, [], ◌∷◌, ◌++◌, map, take, drop, length, get_or, Option}
+use Rattle.std.specs.Option.{IfSome}
+use Rattle.dn_base.specs.declared.device.TableEvent.{TableEvent}
+use Rattle.dn_base.specs.declared.device.UnitWords.{UnitWords}
+use Rattle.dn_base.specs.Device.{Logged}
+use Rattle.dn_base.specs.Outside.{Added}
+use Rattle.dn_net.specs.declared.node.NodeDecl.{NodeDecl}
+use Rattle.dn_kind.specs.Kind.{Meaning}
+use Rattle.dn_tables.specs.Set.{table_on_device}
+use Rattle.dn_tables.specs.Writes.{make_event}
+use Rattle.dn_image.specs.Image.{first_words}
+use Rattle.dn_book.specs.Tables.{tables_of}
+use Rattle.dn_module.specs.declared.command.Command.{Command}
+use Rattle.dn_tool.specs.Turn.{AreTurns, Turn, answered, events_of, replies_of, start, state_after}
+
+-- the tables of nodes from a number on, as a device tells them: those of units, ascending
+abbrev pub device_tables : ℕ → List NodeDecl → List (List ℕ) → List UnitWords
+device_tables node [] words = []
+device_tables node (n ∷ ns) words =
+    table_on_device node (first_words words) n.unit ++ device_tables (suc node) ns (drop 1 words)
+
+-- before the first command each unit is made, with words 0
+abbrev pub making : List Meaning → List NodeDecl → Turn
+making kinds net = record {
+  events = map make_event (device_tables 0 net (tables_of net kinds []));
+  reply = [];
+  next = start;
+}
+
+-- the turn at a place, or one in which nothing is done where there are not so many
+abbrev pub turn_at : List Turn → ℕ → Turn
+turn_at turns place = get_or turns place (answered [] start)
+
+-- How far a run with this status came over turns: so many of them were gone through whole, and of the
+-- next so many events were added to the device's log, and then so many bytes of its reply were
+-- written. At status 0 the turns were gone through whole; at status 3 the next reply was not written
+-- whole; at status 6 the next events were not added whole, and at no other status was it left in the
+-- middle of its events, once the first turn was gone through.
+pub record CameTo (turns : List Turn) (status : ℕ) (before after : Option (List ℕ))
+    (log log' : Option (List TableEvent)) : Type 0 where
+  pub whole : ℕ
+  pub events : ℕ
+  pub bytes : ℕ
+  pub logged : Logged log log'
+      (events_of (take whole turns) ++ take events (turn_at turns whole).events)
+  pub written : Added before after
+      (replies_of (take whole turns) ++ take bytes (turn_at turns whole).reply)
+  pub last : length turns ≤ suc whole
+  pub in_order : events < length (turn_at turns whole).events → bytes ≡ 0
+  pub done : status ≡ 0 → whole ≡ length turns
+  pub sink : status ≡ 3 → bytes < length (turn_at turns whole).reply
+  pub device : status ≡ 6 → events < length (turn_at turns whole).events
+  pub between : 1 ≤ whole → status ≢ 6 → events ≡ length (turn_at turns whole).events
+
+-- A run with this status over a script: it made the units, and then answered the first commands, of
+-- which it may have stopped in the last. At status 0 it answered all, and the words that the device
+-- tells are the tables of the last book.
+pub record IsPlayed (kinds : List Meaning) (net : List NodeDecl) (commands : List Command)
+    (status : ℕ) (before after : Option (List ℕ)) (log log' : Option (List TableEvent))
+    (told' : Option (List UnitWords)) : Type 0 where
+  pub turns : List Turn
+  pub few : length turns ≤ length commands
+  pub happened : AreTurns kinds net start (take (length turns) commands) turns
+  pub came : CameTo (making kinds net ∷ turns) status before after log log'
+  pub all : status ≡ 0 → length turns ≡ length commands
+  pub tables : status ≡ 0 → IfSome told' (λ tables.
+      tables ≡ device_tables 0 net (tables_of net kinds (state_after start turns).book))
