@@ -9,3 +9,8 @@ pub mod Shaped
 pub mod WalkFaults
 pub mod Sets
 pub mod Written
+pub mod Empty
+pub mod Played
+pub mod Viewed
+pub mod Lookups
+pub mod Unanswered

@@ -243,7 +243,8 @@ fn agent_names(
     match lookup(alloc, &platform.net, kinds, present.image(), node, addr, access) {
         Ok(found) => names_of(alloc, platform, found.list()),
         Err(LookupFault::OutOfMemory) => Err(AllocError),
-        Err(LookupFault::NoAgent | LookupFault::Image(_)) => unreachable!(),
+        Err(LookupFault::NoAgent) => unreachable!(),
+        Err(LookupFault::Image(_)) => unreachable!(),
     }
 }
 

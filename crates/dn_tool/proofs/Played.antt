@@ -1,0 +1,295 @@
+-- How far a run comes over a script, turn by turn.
+use Rattle.std.proofs.Common.{◌≡◌, ◌≢◌, ◌∙◌, ap, sym, subst, refl, arith, ℕ, zero, suc, ◌+◌, ◌<◌, ◌≤◌, Bool, true, false, List, [], ◌∷◌, ◌++◌, map, take, drop, length, get_or, Option, Some, None, Result, Ok, Err, is_ok, append_assoc, append-nil, length-append}
+use Rattle.std.specs.List.{flat_map}
+use Rattle.std.specs.Option.{IfSome}
+use Rattle.std.proofs.lemmas.List.{take_more, length-map, length-take-le, take_at}
+use Rattle.std.proofs.lemmas.Grind.{flat_map-append}
+use Rattle.std.proofs.Math.Seq.{take-length}
+use Rattle.dn_base.specs.declared.device.TableEvent.{TableEvent}
+use Rattle.dn_base.specs.declared.device.UnitWords.{UnitWords}
+use Rattle.dn_base.specs.declared.device.MakeFault.{MakeFault}
+use Rattle.dn_base.specs.declared.device.MakeFault.TheVariants.{Device, OutOfMemory}
+use Rattle.dn_base.specs.Device.{Logged, UnitSize, is_make_fault}
+use Rattle.dn_base.specs.Outside.{Added, IsWritten}
+use Rattle.dn_base.proofs.Lists.{drop_at, take_past}
+use Rattle.dn_base.proofs.Logs.{Logged-none, Logged-then}
+use Rattle.dn_base.proofs.Told.{Added-none, Added-then}
+use Rattle.dn_net.specs.declared.node.NodeDecl.{NodeDecl}
+use Rattle.dn_net.specs.declared.node.Unit.{Unit as UnitPart}
+use Rattle.dn_kind.specs.Kind.{Meaning}
+use Rattle.dn_tables.specs.declared.table.NodeTable.{NodeTable}
+use Rattle.dn_tables.specs.Set.{FitsNet, IsOnDevice, fresh_set, table_on_device, tables_from, tables_of_set, units_of, words_of}
+use Rattle.dn_tables.specs.Writes.{AreUnitsMade, make_event}
+use Rattle.dn_tables.proofs.Fresh.{fresh_units}
+use Rattle.dn_book.specs.Tables.{tables_of}
+use Rattle.dn_module.specs.declared.command.Command.{Command}
+use Rattle.dn_tool.specs.declared.halt.Halt.{Halt}
+use Rattle.dn_tool.specs.declared.halt.Halt.TheVariants.{WriteFault, DeviceFault, NoMemory}
+use Rattle.dn_tool.specs.Halt.{ending_status, is_device_halt, is_write_halt, make_halt}
+use Rattle.dn_tool.specs.Played.{CameTo, IsPlayed, device_tables, making, turn_at}
+use Rattle.dn_tool.specs.Turn.{AreTurns, IsTurn, State, Turn, answered, events_of, replies_of, start, state_after}
+use Rattle.dn_tool.proofs.Empty.{fresh_tables}
+
+-- the tables of a set, as a device tells them
+device_from : (node : ℕ) (set : List NodeTable) (net : List NodeDecl) (words : List (List ℕ)) → units_of set ≡ map (λ n. n.unit) net → words_of set ≡ words → tables_from node set ≡ device_tables node net words
+device_from node [] [] words e f = refl
+device_from node [] (n ∷ ns) words e f = cc
+device_from node (t ∷ ts) [] words e f = cc
+device_from node (t ∷ ts) (n ∷ ns) words e f =
+    let unit : t.unit ≡ n.unit = cc in
+    let rest : units_of ts ≡ map (λ n. n.unit) ns = cc in
+    ap (λ (o : Option UnitPart). table_on_device node t.words o ++ tables_from (suc node) ts) unit
+    ∙ ap (λ l. table_on_device node t.words n.unit ++ l) (device_from (suc node) ts ns (words_of ts) rest refl)
+    ∙ ap (λ ws. device_tables node (n ∷ ns) ws) f
+
+pub device_told : (set : List NodeTable) (net : List NodeDecl) (words : List (List ℕ)) → units_of set ≡ map (λ n. n.unit) net → words_of set ≡ words → tables_of_set set ≡ device_tables 0 net words
+device_told set net words e f = device_from 0 set net words e f
+
+-- the events of the making
+making_events : (kinds : List Meaning) (net : List NodeDecl) → map make_event (tables_of_set (fresh_set kinds net)) ≡ (making kinds net).events
+making_events kinds net = ap (map make_event) (device_told (fresh_set kinds net) net (tables_of net kinds []) (fresh_units kinds net) (fresh_tables kinds net))
+
+-- turns
+
+state_last : (s : State) (ts : List Turn) (t : Turn) → state_after s (ts ++ t ∷ []) ≡ t.next
+state_last s [] t = refl
+state_last s (u ∷ us) t = state_last u.next us t
+
+-- one more turn
+turns_more : (kinds : List Meaning) (net : List NodeDecl) (s : State) (cs : List Command) (ts : List Turn) (c : Command) (t : Turn) → AreTurns kinds net s cs ts → IsTurn kinds net (state_after s ts) c t → AreTurns kinds net s (cs ++ c ∷ []) (ts ++ t ∷ [])
+turns_more kinds net s [] ts c t h is =
+    (t, [], ap (λ l. l ++ t ∷ []) h, subst (λ l. IsTurn kinds net (state_after s l) c t) h is, refl)
+turns_more kinds net s (d ∷ ds) ts c t h is =
+    let later = turns_more kinds net h.0.next ds h.1 c t h.4 (subst (λ l. IsTurn kinds net (state_after s l) c t) h.2 is) in
+    (h.0, h.1 ++ t ∷ [], ap (λ l. l ++ t ∷ []) h.2, h.3, later)
+
+-- as many turns as commands
+turns_count : (kinds : List Meaning) (net : List NodeDecl) (s : State) (cs : List Command) (ts : List Turn) → AreTurns kinds net s cs ts → length ts ≡ length cs
+turns_count kinds net s [] ts h = ap length h
+turns_count kinds net s (d ∷ ds) ts h = ap length h.2 ∙ ap suc (turns_count kinds net h.0.next ds h.1 h.4)
+
+events_more : (ts : List Turn) (t : Turn) → events_of (ts ++ t ∷ []) ≡ events_of ts ++ t.events
+events_more ts t = flat_map-append (λ u. u.events) ts (t ∷ []) ∙ ap (λ l. events_of ts ++ l) (append-nil t.events)
+
+replies_more : (ts : List Turn) (t : Turn) → replies_of (ts ++ t ∷ []) ≡ replies_of ts ++ t.reply
+replies_more ts t = flat_map-append (λ u. u.reply) ts (t ∷ []) ∙ ap (λ l. replies_of ts ++ l) (append-nil t.reply)
+
+-- the units were made, and so many commands were answered, which left a state
+pub record IsGone (kinds : List Meaning) (net : List NodeDecl) (commands : List Command) (count : ℕ) (s : State) (before after : Option (List ℕ)) (log log' : Option (List TableEvent)) : Type 0 where
+  pub turns : List Turn
+  pub happened : AreTurns kinds net start (take count commands) turns
+  pub left : state_after start turns ≡ s
+  pub written : Added before after (replies_of (making kinds net ∷ turns))
+  pub logged : Logged log log' (events_of (making kinds net ∷ turns))
+
+-- the units were made
+pub gone_start : (kinds : List Meaning) (net : List NodeDecl) (commands : List Command) (a b : Option (List ℕ)) (log log' : Option (List TableEvent)) (sizes : List UnitSize) (told told' : Option (List UnitWords)) → b ≡ a → AreUnitsMade (tables_of_set (fresh_set kinds net)) true false log log' sizes told told' → IsGone kinds net commands 0 start a b log log'
+gone_start kinds net commands a b log log' sizes told told' same made =
+    let tables : List UnitWords = tables_of_set (fresh_set kinds net) in
+    let whole : take made.made tables ≡ tables = ap (λ n. take n tables) (made.all refl) ∙ take-length tables in
+    let events : map make_event (take made.made tables) ≡ (making kinds net).events ++ [] = ap (map make_event) whole ∙ making_events kinds net ∙ sym (append-nil (making kinds net).events) in
+    record {
+      turns = [];
+      happened = refl;
+      left = refl;
+      written = Added-none a b same;
+      logged = subst (λ es. Logged log log' es) events made.logged;
+    }
+
+-- one more command was answered
+pub gone_more : (kinds : List Meaning) (net : List NodeDecl) (commands : List Command) (i : ℕ) (s : State) (c : Command) (t : Turn) (a b d : Option (List ℕ)) (log log' log'' : Option (List TableEvent)) → IsGone kinds net commands i s a b log log' → i < length commands → c ≡ get_or commands i c → IsTurn kinds net s c t → Added b d t.reply → Logged log' log'' t.events → IsGone kinds net commands (i + 1) t.next a d log log''
+gone_more kinds net commands i s c t a b d log log' log'' g within at is w l =
+    let next : take (i + 1) commands ≡ take i commands ++ c ∷ [] = take_more commands i c within ∙ ap (λ (e : Command). take i commands ++ e ∷ []) (sym at) in
+    record {
+      turns = g.turns ++ t ∷ [];
+      happened = subst (λ cs. AreTurns kinds net start cs (g.turns ++ t ∷ [])) (sym next) (turns_more kinds net start (take i commands) g.turns c t g.happened (subst (λ z. IsTurn kinds net z c t) (sym g.left) is));
+      left = state_last start g.turns t;
+      written = subst (λ r. Added a d r) (sym (replies_more (making kinds net ∷ g.turns) t)) (Added-then a b d _ _ g.written w);
+      logged = subst (λ es. Logged log log'' es) (sym (events_more (making kinds net ∷ g.turns) t)) (Logged-then log log' log'' _ _ g.logged l);
+    }
+
+-- places of turns
+
+turn_past : (ts : List Turn) → turn_at ts (length ts) ≡ answered [] start
+turn_past [] = refl
+turn_past (t ∷ ts) = turn_past ts
+
+turn_last : (ts : List Turn) (t : Turn) → turn_at (ts ++ t ∷ []) (length ts) ≡ t
+turn_last [] t = refl
+turn_last (u ∷ us) t = turn_last us t
+
+-- the run stopped between two turns, or came to the end
+pub came_whole : (ts : List Turn) (status : ℕ) (a b : Option (List ℕ)) (log log' : Option (List TableEvent)) → status ≢ 3 → status ≢ 6 → Added a b (replies_of ts) → Logged log log' (events_of ts) → CameTo ts status a b log log'
+came_whole ts status a b log log' not_sink not_device w l =
+    let all : take (length ts) ts ≡ ts = take-length ts in
+    record {
+      whole = length ts;
+      events = 0;
+      bytes = 0;
+      logged = subst (λ es. Logged log log' es) (sym (append-nil (events_of (take (length ts) ts)) ∙ ap events_of all)) l;
+      written = subst (λ r. Added a b r) (sym (append-nil (replies_of (take (length ts) ts)) ∙ ap replies_of all)) w;
+      last = omega arith;
+      in_order = λ _. refl;
+      done = λ _. refl;
+      sink = λ e. absurd (not_sink e);
+      device = λ e. absurd (not_device e);
+      between = λ _ _. sym (ap (λ (t : Turn). length t.events) (turn_past ts));
+    }
+
+-- how far a run with this status came in a turn
+pub record CameIn (t : Turn) (status : ℕ) (before after : Option (List ℕ)) (log log' : Option (List TableEvent)) : Type 0 where
+  pub events : ℕ
+  pub bytes : ℕ
+  pub logged : Logged log log' (take events t.events)
+  pub written : Added before after (take bytes t.reply)
+  pub in_order : events < length t.events → bytes ≡ 0
+  pub sink : status ≡ 3 → bytes < length t.reply
+  pub device : status ≡ 6 → events < length t.events
+  pub between : status ≢ 6 → events ≡ length t.events
+
+-- the run stopped in a turn
+pub came_in : (ts : List Turn) (t : Turn) (status : ℕ) (a b d : Option (List ℕ)) (log log' log'' : Option (List TableEvent)) → status ≢ 0 → Added a b (replies_of ts) → Logged log log' (events_of ts) → CameIn t status b d log' log'' → CameTo (ts ++ t ∷ []) status a d log log''
+came_in ts t status a b d log log' log'' going w l c =
+    let all : List Turn = ts ++ t ∷ [] in
+    let front : take (length ts) all ≡ ts = take_at ts (t ∷ []) (length ts) refl in
+    let here : turn_at all (length ts) ≡ t = turn_last ts t in
+    let size : length all ≡ length ts + 1 = length-append ts (t ∷ []) in
+    let es : events_of (take (length ts) all) ++ take c.events (turn_at all (length ts)).events ≡ events_of ts ++ take c.events t.events =
+        ap (λ (us : List Turn). events_of us ++ take c.events (turn_at all (length ts)).events) front
+        ∙ ap (λ (u : Turn). events_of ts ++ take c.events u.events) here in
+    let rs : replies_of (take (length ts) all) ++ take c.bytes (turn_at all (length ts)).reply ≡ replies_of ts ++ take c.bytes t.reply =
+        ap (λ (us : List Turn). replies_of us ++ take c.bytes (turn_at all (length ts)).reply) front
+        ∙ ap (λ (u : Turn). replies_of ts ++ take c.bytes u.reply) here in
+    record {
+      whole = length ts;
+      events = c.events;
+      bytes = c.bytes;
+      logged = subst (λ x. Logged log log'' x) (sym es) (Logged-then log log' log'' _ _ l c.logged);
+      written = subst (λ x. Added a d x) (sym rs) (Added-then a b d _ _ w c.written);
+      last = omega (arith, size);
+      in_order = λ less. c.in_order (subst (λ (u : Turn). c.events < length u.events) here less);
+      done = λ e. absurd (going e);
+      sink = λ e. subst (λ (u : Turn). c.bytes < length u.reply) (sym here) (c.sink e);
+      device = λ e. subst (λ (u : Turn). c.events < length u.events) (sym here) (c.device e);
+      between = λ _ e. subst (λ (u : Turn). c.events ≡ length u.events) (sym here) (c.between e);
+    }
+
+-- the run over a script
+
+-- not all units were made
+pub played_unmade : (kinds : List Meaning) (net : List NodeDecl) (commands : List Command) (status : ℕ) (failed : Bool) (a b : Option (List ℕ)) (log log' : Option (List TableEvent)) (sizes : List UnitSize) (told told' : Option (List UnitWords)) → status ≢ 0 → status ≢ 3 → (status ≡ 6 → failed ≡ true) → b ≡ a → AreUnitsMade (tables_of_set (fresh_set kinds net)) false failed log log' sizes told told' → IsPlayed kinds net commands status a b log log' told'
+played_unmade kinds net commands status failed a b log log' sizes told told' going not_sink device same made =
+    let tables : List UnitWords = tables_of_set (fresh_set kinds net) in
+    let events : map make_event (take made.made tables) ≡ take made.made (making kinds net).events = sym (take-map made.made tables) ∙ ap (take made.made) (making_events kinds net) in
+    let count : length (making kinds net).events ≡ length tables = ap length (sym (making_events kinds net)) ∙ length-map tables make_event in
+    record {
+      turns = [];
+      few = omega arith;
+      happened = refl;
+      came = record {
+        whole = 0;
+        events = made.made;
+        bytes = 0;
+        logged = subst (λ es. Logged log log' es) events made.logged;
+        written = Added-none a b same;
+        last = omega arith;
+        in_order = λ _. refl;
+        done = λ e. absurd (going e);
+        sink = λ e. absurd (not_sink e);
+        device = λ e. let l = made.less (device e) in omega (arith, l, count);
+        between = λ l _. absurd (omega (arith, l));
+      };
+      all = λ e. absurd (going e);
+      tables = λ e. absurd (going e);
+    }
+  where
+    take-map : (n : ℕ) (ts : List UnitWords) → take n (map make_event ts) ≡ map make_event (take n ts)
+    take-map zero ts = refl
+    take-map (suc n) [] = refl
+    take-map (suc n) (t ∷ ts) = ap (λ l. make_event t ∷ l) (take-map n ts)
+
+-- so many turns are those of so many commands
+happened_first : (kinds : List Meaning) (net : List NodeDecl) (commands : List Command) (i : ℕ) (ts : List Turn) → i ≤ length commands → AreTurns kinds net start (take i commands) ts → (length ts ≡ i) × AreTurns kinds net start (take (length ts) commands) ts
+happened_first kinds net commands i ts l h =
+    let size : length ts ≡ i = turns_count kinds net start (take i commands) ts h ∙ length-take-le i commands l in
+    (size, subst (λ n. AreTurns kinds net start (take n commands) ts) (sym size) h)
+
+-- all commands were answered
+pub played_whole : (kinds : List Meaning) (net : List NodeDecl) (commands : List Command) (i status : ℕ) (s : State) (a b : Option (List ℕ)) (log log' : Option (List TableEvent)) (told' : Option (List UnitWords)) → i ≡ length commands → status ≡ 0 → IfSome told' (λ tables. tables ≡ device_tables 0 net (tables_of net kinds s.book)) → IsGone kinds net commands i s a b log log' → IsPlayed kinds net commands status a b log log' told'
+played_whole kinds net commands i status s a b log log' told' over none told g =
+    let h = happened_first kinds net commands i g.turns (omega (arith, over)) g.happened in
+    record {
+      turns = g.turns;
+      few = let e = h.0 in omega (arith, e, over);
+      happened = h.1;
+      came = came_whole (making kinds net ∷ g.turns) status a b log log' (λ e. let x = none in absurd (omega (arith, e, x))) (λ e. let x = none in absurd (omega (arith, e, x))) g.written g.logged;
+      all = λ _. h.0 ∙ over;
+      tables = λ _. subst (λ (z : State). IfSome told' (λ tables. tables ≡ device_tables 0 net (tables_of net kinds z.book))) (sym g.left) told;
+    }
+
+-- it stopped before a command for want of memory
+pub played_before : (kinds : List Meaning) (net : List NodeDecl) (commands : List Command) (i status : ℕ) (s : State) (a b : Option (List ℕ)) (log log' : Option (List TableEvent)) (told' : Option (List UnitWords)) → i ≤ length commands → status ≡ 7 → IsGone kinds net commands i s a b log log' → IsPlayed kinds net commands status a b log log' told'
+played_before kinds net commands i status s a b log log' told' within is g =
+    let h = happened_first kinds net commands i g.turns within g.happened in
+    record {
+      turns = g.turns;
+      few = let e = h.0 in omega (arith, e, within);
+      happened = h.1;
+      came = came_whole (making kinds net ∷ g.turns) status a b log log' (λ e. absurd (omega (arith, e, is))) (λ e. absurd (omega (arith, e, is))) g.written g.logged;
+      all = λ e. absurd (omega (arith, e, is));
+      tables = λ e. absurd (omega (arith, e, is));
+    }
+
+-- it stopped in the turn of a command
+pub played_in : (kinds : List Meaning) (net : List NodeDecl) (commands : List Command) (i status : ℕ) (s : State) (c : Command) (t : Turn) (a b d : Option (List ℕ)) (log log' log'' : Option (List TableEvent)) (told' : Option (List UnitWords)) → i < length commands → c ≡ get_or commands i c → status ≢ 0 → IsGone kinds net commands i s a b log log' → IsTurn kinds net s c t → CameIn t status b d log' log'' → IsPlayed kinds net commands status a d log log'' told'
+played_in kinds net commands i status s c t a b d log log' log'' told' within at going g is came =
+    let next : take (i + 1) commands ≡ take i commands ++ c ∷ [] = take_more commands i c within ∙ ap (λ (e : Command). take i commands ++ e ∷ []) (sym at) in
+    let turns : AreTurns kinds net start (take (i + 1) commands) (g.turns ++ t ∷ []) = subst (λ cs. AreTurns kinds net start cs (g.turns ++ t ∷ [])) (sym next) (turns_more kinds net start (take i commands) g.turns c t g.happened (subst (λ z. IsTurn kinds net z c t) (sym g.left) is)) in
+    let h = happened_first kinds net commands (i + 1) (g.turns ++ t ∷ []) (omega (arith, within)) turns in
+    record {
+      turns = g.turns ++ t ∷ [];
+      few = let e = h.0 in omega (arith, e, within);
+      happened = h.1;
+      came = came_in (making kinds net ∷ g.turns) t status a b d log log' log'' going g.written g.logged came;
+      all = λ e. absurd (going e);
+      tables = λ e. absurd (going e);
+    }
+
+-- by what stopped it
+
+-- the units were not made
+pub unmade_by : {X : Type 0} (kinds : List Meaning) (net : List NodeDecl) (commands : List Command) (r : Result X MakeFault) (fault : MakeFault) (ended : Result ℕ Halt) (a b : Option (List ℕ)) (log log' : Option (List TableEvent)) (sizes : List UnitSize) (told told' : Option (List UnitWords)) → r ≡ Err fault → ended ≡ Err (make_halt fault) → b ≡ a → AreUnitsMade (tables_of_set (fresh_set kinds net)) (is_ok r) (is_make_fault r) log log' sizes told told' → IsPlayed kinds net commands (ending_status ended) a b log log' told'
+unmade_by {X} kinds net commands r fault ended a b log log' sizes told told' is by same made =
+    let given : AreUnitsMade (tables_of_set (fresh_set kinds net)) false (is_make_fault {A = X} (Err fault)) log log' sizes told told' = subst (λ (q : Result X MakeFault). AreUnitsMade (tables_of_set (fresh_set kinds net)) (is_ok q) (is_make_fault q) log log' sizes told told') is made in
+    subst (λ (e : Result ℕ Halt). IsPlayed kinds net commands (ending_status e) a b log log' told') (sym by) (go fault given)
+  where
+    go : (f : MakeFault) → AreUnitsMade (tables_of_set (fresh_set kinds net)) false (is_make_fault {A = X} (Err f)) log log' sizes told told' → IsPlayed kinds net commands (ending_status (Err (make_halt f))) a b log log' told'
+    go Device m = played_unmade kinds net commands 6 true a b log log' sizes told told' (λ e. absurd (omega (arith, e))) (λ e. absurd (omega (arith, e))) (λ e. refl) same m
+    go OutOfMemory m = played_unmade kinds net commands 7 false a b log log' sizes told told' (λ e. absurd (omega (arith, e))) (λ e. absurd (omega (arith, e))) (λ e. absurd (omega (arith, e))) same m
+
+-- a reply was not written whole
+pub unwritten_by : {X : Type 0} (kinds : List Meaning) (net : List NodeDecl) (commands : List Command) (i : ℕ) (c : Command) (text : List ℕ) (s : State) (r : Result X Halt) (halt : Halt) (ended : Result ℕ Halt) (a b d : Option (List ℕ)) (log log' : Option (List TableEvent)) (told' : Option (List UnitWords)) → r ≡ Err halt → ended ≡ Err halt → i < length commands → c ≡ get_or commands i c → IsGone kinds net commands i s a b log log' → IsTurn kinds net s c (answered text s) → IsWritten b d (is_ok r) (is_write_halt r) text → is_device_halt r ≡ false → IsPlayed kinds net commands (ending_status ended) a d log log' told'
+unwritten_by {X} kinds net commands i c text s r halt ended a b d log log' told' is by within at g turn w no_device =
+    let given : IsWritten b d false (is_write_halt {A = X} (Err halt)) text = subst (λ (q : Result X Halt). IsWritten b d (is_ok q) (is_write_halt q) text) is w in
+    let none : is_device_halt {A = X} (Err halt) ≡ false = ap is_device_halt (sym is) ∙ no_device in
+    subst (λ (e : Result ℕ Halt). IsPlayed kinds net commands (ending_status e) a d log log' told') (sym by) (go halt given none)
+  where
+    came : (status bytes : ℕ) → status ≢ 6 → (status ≡ 3 → bytes < length text) → Added b d (take bytes text) → CameIn (answered text s) status b d log' log'
+    came status bytes not_device less added = record {
+      events = 0;
+      bytes = bytes;
+      logged = Logged-none log' log' refl;
+      written = added;
+      in_order = λ l. absurd (omega (arith, l));
+      sink = less;
+      device = λ e. absurd (not_device e);
+      between = λ _. refl;
+    }
+
+    go : (h : Halt) → IsWritten b d false (is_write_halt {A = X} (Err h)) text → is_device_halt {A = X} (Err h) ≡ false → IsPlayed kinds net commands (ending_status (Err h)) a d log log' told'
+    go WriteFault v n =
+        let less = v.less refl in
+        played_in kinds net commands i 3 s c (answered text s) a b d log log' log' told' within at (λ e. absurd (omega (arith, e))) g turn (came 3 less.0 (λ e. absurd (omega (arith, e))) (λ _. less.1) less.2)
+    go DeviceFault v n = absurd (cc)
+    go NoMemory v n =
+        played_in kinds net commands i 7 s c (answered text s) a b d log log' log' told' within at (λ e. absurd (omega (arith, e))) g turn (came 7 v.front.0 (λ e. absurd (omega (arith, e))) (λ e. absurd (omega (arith, e))) v.front.1)

@@ -1,0 +1,45 @@
+-- A run that ended before there was an answer.
+use Rattle.std.proofs.Common.{◌≡◌, ◌≢◌, ◌==◌, ap, sym, subst, refl, arith, ℕ, Bool, true, false, not, List, [], ◌∷◌, length, Option}
+use Rattle.dn_base.specs.declared.device.TableEvent.{TableEvent}
+use Rattle.dn_base.specs.declared.device.UnitWords.{UnitWords}
+use Rattle.dn_base.specs.Outside.{IsWritten}
+use Rattle.dn_base.proofs.Logs.{Logged-none}
+use Rattle.dn_base.proofs.Told.{Added-none, written_none}
+use Rattle.dn_kind.specs.Kind.{Meaning}
+use Rattle.dn_tool.specs.Answer.{Answer, IsAnswered, is_free, played, said}
+
+-- nothing was done and nothing written
+pub unanswered : (kinds : List Meaning) (a : Answer) (status : ℕ) (b d : Option (List ℕ)) (log log' : Option (List TableEvent)) (told' : Option (List UnitWords)) → is_free status ≡ true → (status == 3) ≡ false → (status == 6) ≡ false → d ≡ b → log' ≡ log → IsAnswered kinds a status b d log log' told'
+unanswered kinds (said own output) status b d log log' told' free not_sink not_device same unlogged = record {
+  exact = λ e. cc;
+  written = subst (λ (w : Bool). IsWritten b d (not (is_free status)) w output) (sym not_sink) (subst (λ (f : Bool). IsWritten b d (not f) false output) (sym free) (written_none b d output same));
+}
+unanswered kinds (played net commands) status b d log log' told' free not_sink not_device same unlogged = record {
+  turns = [];
+  few = omega arith;
+  happened = refl;
+  came = record {
+    whole = 0;
+    events = 0;
+    bytes = 0;
+    logged = Logged-none log log' unlogged;
+    written = Added-none b d same;
+    last = omega arith;
+    in_order = λ _. refl;
+    done = λ e. absurd (going e);
+    sink = λ e. absurd (sink e);
+    device = λ e. absurd (device e);
+    between = λ l _. absurd (omega (arith, l));
+  };
+  all = λ e. absurd (going e);
+  tables = λ e. absurd (going e);
+}
+  where
+    going : status ≢ 0
+    going e = let f : is_free 0 ≡ true = subst (λ n. is_free n ≡ true) e free in cc
+
+    sink : status ≢ 3
+    sink e = let f : true ≡ false = subst (λ n. (n == 3) ≡ false) e not_sink in cc
+
+    device : status ≢ 6
+    device e = let f : true ≡ false = subst (λ n. (n == 6) ≡ false) e not_device in cc
