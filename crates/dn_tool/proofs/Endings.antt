@@ -11,6 +11,11 @@ use Rattle.dn_tool.specs.Halt.{ending_status, is_device_halt, is_write_halt}
 abbrev pub HasStatus : Result ℕ Halt → Type 0
 HasStatus r = IfOk r (λ s. is_free s ≡ false)
 
+-- what holds of each value holds of that of an answer
+pub if_ok : {A E : Type 0} (r : Result A E) (P : A → Type 0) → ((a : A) → P a) → IfOk r P
+if_ok (Ok a) P h = h a
+if_ok (Err e) P h = tt
+
 -- done and refused are statuses of answers
 pub done_or_refused : (r : Result ℕ Halt) → IfOk r (λ s. (s ≡ 0) ⊎ (s ≡ 4)) → HasStatus r
 done_or_refused (Ok s) (inl e) = rw e refl
