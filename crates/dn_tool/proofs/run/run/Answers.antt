@@ -1,12 +1,8 @@
 use Rattle.std.proofs.Common.{rules, ◌≡◌, ◌<◌, sym, subst, ℕ, length, map, List, None, Some, false, refl}
 use Rattle.dn_base.specs.Outside.{AtEnd, input_limit}
 use Rattle.dn_kind.specs.Kind.{Meaning}
-<<<<<<< HEAD
-use Rattle.dn_tool.specs.Answer.{Answer, IsAnswered, is_script, said, task_of, usage}
-=======
 use Rattle.dn_tool.specs.Answer.{Answer, IsAnswered, is_script, said, task_of, text_answer, usage}
 use Rattle.dn_tool.specs.Halt.{ending_status}
->>>>>>> 3e4459e2b175f296553c191549672b730106aba5
 use Rattle.dn_tool.proofs.Inputs.{input_answer, usage_answer}
 use Rattle.dn_tool.proofs.Unanswered.{unanswered}
 use Rattle.dn_tool.proofs.run.run.Goals as goal
@@ -24,12 +20,8 @@ returns-clause-answered g c text input =
     let asked : task_of c.args.words.now ≡ Some c.in-Some.task = search rules in
     let end : length c.in-Ok.text.items < input_limit → AtEnd (g.S.Source.left c.read_whole.new.source) = λ h. c.in-Ok.ensures.end (search rules) in
     let P : ℕ → Answer → Type 0 = λ status a. IsAnswered kinds a status (g.K.Sink.written c.args.sink.now) (g.K.Sink.written c.answer_text.new.sink) (g.D.Tables.log c.args.device.now) (g.D.Tables.log c.answer_text.new.device) (g.D.Tables.words c.answer_text.new.device) in
-<<<<<<< HEAD
-    input_answer (g.S.Source.left c.args.source.now) (g.S.Source.left c.read_whole.new.source) c.args.words.now c.in-Some.task kinds c.in-Ok.text.items text (P c.status_of-2.result) asked c.in-Ok.ensures.taken end input (subst (λ (n : ℕ). P n _) (sym c.status_of-2.ensures) (rw (← c.deref.ensures.value) c.answer_text.ensures.answered))
-=======
     let told : P (ending_status c.answer_text.result) (text_answer c.in-Some.task kinds c.in-Ok.text.items) = rw (← c.deref.ensures.value) c.answer_text.ensures.answered in
     input_answer (g.S.Source.left c.args.source.now) (g.S.Source.left c.read_whole.new.source) c.args.words.now c.in-Some.task kinds c.in-Ok.text.items text (P c.status_of-2.result) asked c.in-Ok.ensures.taken end input (subst (λ (n : ℕ). P n (text_answer c.in-Some.task kinds c.in-Ok.text.items)) (sym c.status_of-2.ensures) told)
->>>>>>> 3e4459e2b175f296553c191549672b730106aba5
 
 pub returns-clause-untouched : goal.returns-clause-untouched
 returns-clause-untouched g c text input =
