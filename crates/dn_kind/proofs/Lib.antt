@@ -1,6 +1,11 @@
 pub mod Allowed
 pub mod Bounds
 pub mod Held
-pub mod Shapes
-pub mod Ways
 pub mod Named
+pub mod Nodes
+pub mod Outputs
+pub mod Sets
+pub mod Shapes
+pub mod Stages
+pub mod Stepping
+pub mod Ways

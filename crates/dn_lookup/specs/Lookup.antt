@@ -1,6 +1,5 @@
 -- The lookup of an agent's address in the bytes of an image.
-use Rattle.std.specs.Prelude.{ℕ, Bool, if◌then◌else◌, ◌==◌, ◌&&◌, nat_lt, List, [], ◌∷◌, slice_get, Option, Some, None, Result, Ok, Err}
-use Rattle.std.specs.List.{list_all}
+use Rattle.std.specs.Prelude.{ℕ, Bool, if◌then◌else◌, ◌==◌, ◌&&◌, List, slice_get, Option, Some, None, Result, Ok, Err}
 use Rattle.dn_net.specs.declared.node.Name.{Name}
 use Rattle.dn_net.specs.declared.node.NodeDecl.{NodeDecl}
 use Rattle.dn_net.specs.Decode.{is_agent_at}
@@ -47,10 +46,6 @@ lookup_fault_view NoAgent = Some no_agent
 lookup_fault_view (Image fault) = no_lookup_by (image_fault_view fault)
 lookup_fault_view OutOfMemory = None
 
--- each name is in one of so many nodes
-abbrev pub are_there : ℕ → List Name → Bool
-are_there count xs = list_all (λ x. nat_lt x.node count) xs
-
 -- in an image of this version a record lets an access through where it allows it; in version 1 it allows both or counts
 -- for nothing
 abbrev pub lets_through : ℕ → Access → Rights → Bool
@@ -66,8 +61,3 @@ record_through version access (Some r) = if lets_through version access r.rights
 abbrev pub bytes_records : List NodeDecl → List Meaning → List ℕ → ℕ → Access → Held
 bytes_records net kinds bytes version access node slot =
     record_through version access (record_held net kinds (image_words net kinds bytes) node slot)
-
--- the name, as a list of at most one
-abbrev pub name_list : Option Name → List Name
-name_list None = []
-name_list (Some x) = x ∷ []

@@ -2,21 +2,23 @@
 
 ghost use Rattle.std.specs.Prelude.{◌≡◌, ◌++◌, [], ◌∷◌, ◌+◌, ◌<◌, ◌^◌, length, map, nat_le, None, IfOk, OnOk, IsTrue};
 ghost use Rattle.std.specs.List.{All, list_all};
-ghost use Rattle.dn_net.specs.Decode.{is_accepted, is_closed, moved, top};
+ghost use Rattle.dn_net.specs.Decode.{is_accepted, is_closed};
 ghost use Rattle.dn_net.specs.Names.{each_step, passing_names, sorted_names};
 ghost use Rattle.dn_net.specs.Rules.{KeepsNodeRules};
 ghost use Rattle.dn_kind.specs.Kind.{IsLawful};
 ghost use Rattle.dn_kind.specs.Tables.{resolved_names_under, steps_under};
 ghost use Rattle.dn_kind.specs.Units.{KeepsUnitShape};
 ghost use Rattle.dn_image.specs.Reading.{broken_image};
-ghost use Rattle.dn_lookup.specs.Lookup.{are_there, bytes_records, name_list};
+ghost use Rattle.dn_kind.specs.Levels.{are_there, name_list};
+ghost use Rattle.dn_lookup.specs.Lookup.{bytes_records};
 
 use crate::output::output;
 use dn_kind::kinds::Kinds;
+use dn_kind::levels::{push_moved, push_sent, set_of};
 use dn_kind::rights::Access;
 use dn_net::names::Names;
 use dn_net::net::Net;
-use dn_net::node::{Dest, Name};
+use dn_net::node::Name;
 use dn_net::step::Step;
 use std::alloc::{AllocError, Global};
 
@@ -128,49 +130,4 @@ fn push_steps(
         Step::Stop => push_sent(next, output(net, kinds, bytes, version, access, name)),
         Step::Nothing => Ok(()),
     }
-}
-
-/// Appends the name, where there is one.
-fn push_sent(next: &mut Vec<Name>, sent: Option<Name>) -> Result<(), AllocError>
-    ensures { OnOk result (next.new.items ≡ next.old.items ++ name_list sent) }
-{
-    match sent {
-        Some(name) => Ok(next.push(name)?),
-        None => Ok(()),
-    }
-}
-
-/// Appends the destinations, the address of each raised by the offset.
-fn push_moved(next: &mut Vec<Name>, dests: &[Dest], offset: u64) -> Result<(), AllocError>
-    requires { IsTrue (list_all (λ d. nat_le (d.addr + offset) top) dests.now) }
-    ensures { OnOk result (next.new.items ≡ next.old.items ++ map (moved offset) dests.now) }
-{
-    for dest in dests {
-        next.push(moved(*dest, offset))?;
-    }
-    Ok(())
-}
-
-/// The destination, its address raised by the offset.
-fn moved(dest: Dest, offset: u64) -> Name
-    requires { dest.addr + offset < 2 ^ 64 }
-    ensures { result ≡ moved offset dest }
-{
-    Name {
-        node: dest.node,
-        addr: dest.addr + offset,
-    }
-}
-
-/// The set of these names: once they are sorted, each is put behind those that were put in before it.
-fn set_of(alloc: Global, mut names: Vec<Name>) -> Result<Names, AllocError>
-    ensures { IfOk result (λ set. set ≡ sorted_names names.items) }
-{
-    names.sort_unstable_by_key(|name| (name.node, name.addr));
-    let sorted = names.as_slice();
-    let mut set = Names::new(alloc);
-    for name in sorted {
-        set.insert(*name)?;
-    }
-    Ok(set)
 }

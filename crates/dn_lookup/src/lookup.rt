@@ -7,7 +7,8 @@ ghost use Rattle.dn_net.specs.Decode.{is_agent_at};
 ghost use Rattle.dn_net.specs.Legal.{IsLegalNet};
 ghost use Rattle.dn_kind.specs.Kind.{IsLawful};
 ghost use Rattle.dn_kind.specs.Units.{KeepsUnitShape};
-ghost use Rattle.dn_lookup.specs.Lookup.{are_there, lookup_fault_view, lookup_of};
+ghost use Rattle.dn_kind.specs.Levels.{are_there};
+ghost use Rattle.dn_lookup.specs.Lookup.{lookup_fault_view, lookup_of};
 ghost use Rattle.dn_lookup.specs.declared.lookup.LookupFault.TheVariants.{OutOfMemory as no_memory, Image as no_image};
 
 use crate::levels::resolve;

@@ -7,14 +7,15 @@ ghost use Rattle.dn_kind.specs.Kind.{IsLawful, is_plain, is_within};
 ghost use Rattle.dn_kind.specs.Tables.{output, steps_under};
 ghost use Rattle.dn_kind.specs.Units.{KeepsUnitShape, unit_shape};
 ghost use Rattle.dn_image.specs.Reading.{broken_image};
-ghost use Rattle.dn_lookup.specs.Lookup.{bytes_records, lets_through, name_list};
+ghost use Rattle.dn_kind.specs.Levels.{name_list};
+ghost use Rattle.dn_lookup.specs.Lookup.{bytes_records, lets_through};
 
 use dn_image::slots::record_in;
 use dn_kind::kinds::Kinds;
+use dn_kind::output::sent;
 use dn_kind::rights::{Access, Rights};
-use dn_kind::unit_kind::Record;
 use dn_net::net::Net;
-use dn_net::node::{Name, Unit};
+use dn_net::node::Name;
 
 /// Whether a record lets an access through in an image of this version: in version 1 it allows both
 /// reading and writing or counts for nothing.
@@ -55,18 +56,4 @@ pub(crate) fn output(
         return None;
     }
     Some(sent(unit, record, name.addr))
-}
-
-/// Where a record sends an address: to the output page of its port, at the address's offset in its
-/// slot.
-fn sent(unit: &Unit, record: Record, addr: u64) -> Name
-    requires plain { IsTrue (is_plain (unit_shape unit.now)) }
-    requires within { IsTrue (is_within (unit_shape unit.now) «record») }
-    ensures { result ∷ [] ≡ output unit.now (Some «record») addr }
-{
-    let page = 1 << unit.page;
-    Name {
-        node: unit.ports.as_slice()[usize::from(record.port)],
-        addr: record.page * page + addr % page,
-    }
 }

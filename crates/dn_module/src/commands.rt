@@ -131,12 +131,7 @@ fn lookup(
     Ok(Command::Lookup(target, addr, mode))
 }
 
-fn view(
-    alloc: Global,
-    names: &NameTable,
-    name: &NameExpr,
-    mode: Mode,
-) -> Result<Command, NameFault>
+fn view(alloc: Global, names: &NameTable, name: &NameExpr, mode: Mode) -> Result<Command, NameFault>
     ensures made { Answers (λ x. x) name_fault_view result
         (command_of names.now (asks_view (name_view name.now) mode)) }
     ensures known { IfOk result (λ c. IsTrue (names_within (length names.now) c)) }

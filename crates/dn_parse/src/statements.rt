@@ -5,7 +5,9 @@ ghost use Rattle.dn_parse.specs.Views.{token_views, expr_view, name_view, param_
 ghost use Rattle.dn_parse.specs.Descent.{any_word_at, param_at, next_param_at, params_at, closed_params_at, arg_at, next_arg_at, args_at, closed_args_at, next_port_at, ports_at, node_at, measure_at, unit_at, module_at, use_at, loop_at, mode_at, access_at, resolve_at, lookup_at, view_at, grant_at, route_at, order_at, keyword_statement_at, statement_at};
 ghost use Rattle.dn_parse.specs.Faults.{Reads, ReadsNext, IsShorter};
 
-use crate::cursor::{Next, Read, after_keyword, after_sign, after_word, keyword, next, refusal, sign, the_word, word};
+use crate::cursor::{
+    Next, Read, after_keyword, after_sign, after_word, keyword, next, refusal, sign, the_word, word,
+};
 use crate::expressions::expr;
 use crate::nodes::{name, spec};
 use crate::syntax::{Arg, Decl, DeclRole, Expr, Mode, NameExpr, Order, Param};

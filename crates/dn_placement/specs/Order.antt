@@ -1,5 +1,5 @@
 -- The order of placements, and the first admissible one.
-use Rattle.std.specs.Prelude.{◌≡◌, ℕ, ◌-◌, Bool, not, List, [], ◌∷◌, ◌++◌, length, slice_get, Option, Some, None, IsTrue}
+use Rattle.std.specs.Prelude.{◌≡◌, ℕ, ◌-◌, Bool, true, false, not, List, [], ◌∷◌, ◌++◌, length, slice_get, Option, Some, None, IsTrue}
 use Rattle.dn_net.specs.declared.node.NodeDecl.{NodeDecl}
 use Rattle.dn_net.specs.declared.node.Unit.{Unit as UnitPart}
 use Rattle.dn_net.specs.Decode.{unit_at}
@@ -60,6 +60,15 @@ pub record IsFirst (net : List NodeDecl) (slots : Slots) (rq : Request) (at : Op
 -- no placement is what is looked for
 abbrev pub NoneSuited : List NodeDecl → Slots → Request → Option ℕ → Type 0
 NoneSuited net slots rq at = (p : Place) → IsSuited net slots rq at p → ⊥
+
+-- The order is strict, and of two different placements of one request one comes before the other.
+pub record PlacementsAreOrdered : Type 0 where
+  pub irreflexive : (net : List NodeDecl) (p : Place) → precedes net p p ≡ false
+  pub transitive : (net : List NodeDecl) (p q r : Place) → precedes net p q ≡ true →
+      precedes net q r ≡ true → precedes net p r ≡ true
+  pub total : (net : List NodeDecl) (slots : Slots) (rq : Request) (p q : Place) →
+      IsPlacement net slots rq p → IsPlacement net slots rq q → precedes net p q ≡ false →
+      precedes net q p ≡ false → p ≡ q
 
 -- Two placements of one request, of which each is the first, are one.
 abbrev pub FirstIsOne : Type 0

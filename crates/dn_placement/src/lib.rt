@@ -6,4 +6,5 @@
 //! order is taken. The definitions stand here, with their laws.
 #![tactic(auto)]
 
+pub mod laws;
 pub mod request;

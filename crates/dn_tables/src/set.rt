@@ -6,6 +6,7 @@ ghost use Rattle.std.specs.Option.{option_map};
 ghost use Rattle.dn_base.specs.Device.{Logged, has_unit, is_make_fault, sizes_of};
 ghost use Rattle.dn_base.specs.Outside.{IsCounted};
 ghost use Rattle.dn_kind.specs.Kind.{Meaning, IsLawful};
+ghost use Rattle.dn_kind.specs.Tables.{slot_words};
 ghost use Rattle.dn_kind.specs.Units.{KeepsUnitShape};
 ghost use Rattle.dn_tables.specs.Set.{FitsNet, IsEmpty, IsOnDevice, IsPackableIn, IsSet, fits_kinds, fresh_set, has_slot, is_sized, is_zero, packed_in, record_kept, table_on_device, tables_of_set, unit_in, units_of, use_in, width_in, with_slot, with_use, words_in};
 ghost use Rattle.dn_tables.specs.Writes.{AreMade, AreUnitsMade, clear_writes, make_event, put_writes};
@@ -178,6 +179,15 @@ impl TableSet {
         ensures set { IsSet self.now }
     {
         self.nodes[usize::from(unit)].words.as_slice()
+    }
+
+    /// The words of a slot.
+    pub fn slot_words(&self, unit: u16, slot: u32) -> &[u64]
+        requires { IsTrue (has_slot self.now unit slot) }
+        ensures { result.now ≡ slot_words (width_in self.now unit) (words_in self.now unit) slot }
+    {
+        let table = &self.nodes[usize::from(unit)];
+        table.slot_words(slot)
     }
 
     /// How many live grants use a slot.

@@ -7,7 +7,7 @@ ghost use Rattle.dn_base.specs.Device.{has_word};
 ghost use Rattle.dn_base.specs.Outside.{IsCounted};
 ghost use Rattle.dn_net.specs.declared.node.Unit.{Unit as UnitPart};
 ghost use Rattle.dn_kind.specs.Kind.{Meaning, IsLawful, IsPackable, is_plain};
-ghost use Rattle.dn_kind.specs.Tables.{record_of_unit};
+ghost use Rattle.dn_kind.specs.Tables.{record_of_unit, slot_words};
 ghost use Rattle.dn_kind.specs.Units.{is_shaped, has_shape, unit_shape};
 ghost use Rattle.dn_tables.specs.Set.{fits_by, fresh_by, has_slot_by, is_sized, packed_for, width_by, with_words};
 ghost use Rattle.dn_tables.specs.Writes.{AreWritten, clears_from, writes_from};
@@ -67,6 +67,17 @@ impl NodeTable {
             }),
         }
     }
+
+    /// The words of a slot.
+    pub(crate) fn slot_words(&self, slot: u32) -> &[u64]
+        requires sized { IsTrue (is_sized self.now) }
+        requires there { IsTrue (has_slot_by self.now.unit slot) }
+        ensures { result.now ≡ slot_words self.now.width self.now.words slot }
+    {
+        let first = slot as usize * usize::from(self.width);
+        &self.words.as_slice()[first..first + usize::from(self.width)]
+    }
+
     /// The record that a slot holds. `None` exactly where its words spell none, where the port is
     /// none of the unit's, or where the output is past its reach.
     pub(crate) fn record_at(&self, kinds: &Kinds, slot: u32) -> Option<Record>

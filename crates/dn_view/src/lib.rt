@@ -2,5 +2,6 @@
 #![tactic(auto)]
 
 pub mod exact;
+mod output;
 pub mod resolve;
 pub mod view;

@@ -9,10 +9,11 @@ from checks import TOOLS, TOP, outcome
 TEXT = """// 0x10 words
 agent cpu[3].core is accept [0x1F-007] map [0x8 to node_b at i*2] over bus;
 resolve a 0xg;
+view read for write;
 """
 PLACES = {(1, 4): "netconfComment", (2, 1): "netconfDeclaration", (2, 7): "netconfIndexed", (2, 11): "netconfNumber",
           (2, 20): "netconfPart", (2, 31): "netconfNumber", (2, 36): "netconfNumber", (2, 53): "", (2, 63): "netconfOperator",
-          (3, 1): "netconfCommand", (3, 9): "", (3, 11): "netconfBadNumber"}
+          (3, 1): "netconfCommand", (3, 9): "", (3, 11): "netconfBadNumber", (4, 6): "", (4, 11): "netconfDeclaration", (4, 15): "netconfAccess"}
 """Lines and columns of the text, and the group by which each is coloured."""
 
 

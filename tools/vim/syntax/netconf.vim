@@ -14,6 +14,9 @@ syntax keyword netconfCommand resolve lookup view grant route revoke dump split 
 syntax match netconfBadNumber "\<\d\w*\>"
 syntax match netconfNumber "\<\d\+\>\|\<0x\x\+\>"
 
+" The access behind a command.
+syntax match netconfAccess "\%(\<for\s\+\)\@<=\%(read\|write\)\>"
+
 " A name with an index.
 syntax match netconfIndexed "\<\h\w*\ze\["
 syntax match netconfOperator "[+*]\|\.\."
@@ -24,6 +27,7 @@ syntax match netconfComment "//.*$" contains=netconfTodo,@Spell
 highlight default link netconfDeclaration Statement
 highlight default link netconfPart Keyword
 highlight default link netconfSort Type
+highlight default link netconfAccess Keyword
 highlight default link netconfCommand Function
 highlight default link netconfNumber Number
 highlight default link netconfBadNumber Error

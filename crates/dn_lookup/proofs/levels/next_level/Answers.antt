@@ -6,9 +6,9 @@ use Rattle.dn_net.specs.Names.{each_step, passing_names}
 use Rattle.dn_kind.specs.Kind.{Meaning}
 use Rattle.dn_kind.specs.Tables.{Held, steps_under}
 use Rattle.dn_lookup.specs.Lookup.{bytes_records}
-use Rattle.dn_lookup.proofs.Nodes.{each_under_there}
-use Rattle.dn_lookup.proofs.Stages.{set_there}
-use Rattle.dn_lookup.proofs.Stepping.{passing_next, each_next, left_at, there_next}
+use Rattle.dn_kind.proofs.Nodes.{each_under_there}
+use Rattle.dn_kind.proofs.Stages.{set_there}
+use Rattle.dn_kind.proofs.Stepping.{passing_next, each_next, left_at, there_next}
 use Rattle.dn_lookup.proofs.levels.next_level.Goals as goal
 
 pub loop-name-preserved : goal.loop-name-preserved

@@ -2,7 +2,8 @@ use Rattle.std.proofs.Common.{◌≡◌, ◌++◌, drop, length, map, IsTrue}
 use Rattle.dn_net.specs.Decode.{is_accepted}
 use Rattle.dn_net.specs.Names.{each_step, passing_names}
 use Rattle.dn_kind.specs.Tables.{steps_under}
-use Rattle.dn_lookup.specs.Lookup.{are_there, bytes_records}
+use Rattle.dn_kind.specs.Levels.{are_there}
+use Rattle.dn_lookup.specs.Lookup.{bytes_records}
 use Rattle.dn_lookup.proofs.levels.next_level.Given as goal
 
 abbrev pub invariant-loop-name : goal.invariant-loop-name

@@ -4,9 +4,10 @@ use Rattle.dn_net.specs.Decode.{is_accepted}
 use Rattle.dn_net.specs.Names.{each_step, passing_names, sorted_names}
 use Rattle.dn_kind.specs.Kind.{Meaning}
 use Rattle.dn_kind.specs.Tables.{Held, steps_under, step_limit_under, resolved_names_under}
-use Rattle.dn_lookup.specs.Lookup.{are_there, bytes_records}
-use Rattle.dn_lookup.proofs.Nodes.{resolved_under_there}
-use Rattle.dn_lookup.proofs.Stages.{is_empty, ends_by, ends_at_start, ends_next, ends_at_empty, ends_at_last, set_is_ends, set_within}
+use Rattle.dn_kind.specs.Levels.{are_there}
+use Rattle.dn_lookup.specs.Lookup.{bytes_records}
+use Rattle.dn_kind.proofs.Nodes.{resolved_under_there}
+use Rattle.dn_kind.proofs.Stages.{is_empty, ends_by, ends_at_start, ends_next, ends_at_empty, ends_at_last, set_is_ends, set_within}
 use Rattle.dn_lookup.proofs.levels.resolve.Goals as goal
 use Rattle.dn_lookup.proofs.levels.resolve.Goals.{else-loop-test, then-loop-test+then-is_empty}
 

@@ -1,8 +1,9 @@
 use Rattle.std.proofs.Common.{◌≡◌, ◌-◌, suc, length, map, IsTrue}
 use Rattle.dn_net.specs.Decode.{is_accepted}
 use Rattle.dn_kind.specs.Tables.{step_limit_under, steps_under, resolved_names_under}
-use Rattle.dn_lookup.specs.Lookup.{are_there, bytes_records}
-use Rattle.dn_lookup.proofs.Stages.{ends_by}
+use Rattle.dn_kind.specs.Levels.{are_there}
+use Rattle.dn_lookup.specs.Lookup.{bytes_records}
+use Rattle.dn_kind.proofs.Stages.{ends_by}
 use Rattle.dn_lookup.proofs.levels.resolve.Given as goal
 
 abbrev pub invariant-loop : goal.invariant-loop

@@ -8,8 +8,9 @@ use Rattle.dn_kind.specs.Units.{unit_shape}
 use Rattle.dn_tables.proofs.Fresh.{shape_there, plain_there}
 use Rattle.dn_tables.proofs.Slots.{all_of_map}
 use Rattle.dn_image.specs.Reading.{image_words}
-use Rattle.dn_lookup.specs.Lookup.{bytes_records, record_through, name_list}
-use Rattle.dn_lookup.proofs.Outputs.{has_pages, IsStopIn, stop_in, no_stop, step_in, within_unit}
+use Rattle.dn_kind.specs.Levels.{name_list}
+use Rattle.dn_lookup.specs.Lookup.{bytes_records, record_through}
+use Rattle.dn_kind.proofs.Outputs.{has_pages, IsStopIn, stop_in, no_stop, step_in, within_unit}
 use Rattle.dn_lookup.proofs.output.output.Goals as goal
 
 pub overflow_shr-slot : goal.overflow_shr-slot

@@ -1,7 +1,7 @@
 use Rattle.std.proofs.Common.{◌≡◌, ◌+◌, ◌++◌, map, take, drop, nat_le, IsTrue}
 use Rattle.std.specs.List.{list_all}
 use Rattle.dn_net.specs.Decode.{moved, top}
-use Rattle.dn_lookup.proofs.levels.push_moved.Given as goal
+use Rattle.dn_kind.proofs.levels.push_moved.Given as goal
 
 abbrev pub invariant-loop-dest : goal.invariant-loop-dest
 invariant-loop-dest l = record {

@@ -2,8 +2,8 @@ use Rattle.std.proofs.Common.{arith, ◌∙◌, ◌≤◌, sym, ap, get_or, leng
 use Rattle.std.proofs.lemmas.List.{take_all}
 use Rattle.dn_net.specs.declared.node.Name.{Name}
 use Rattle.dn_net.specs.Names.{sorted_names, with_name}
-use Rattle.dn_lookup.proofs.Sets.{sorted_more, sorted_permuted}
-use Rattle.dn_lookup.proofs.levels.set_of.Goals as goal
+use Rattle.dn_kind.proofs.Sets.{sorted_more, sorted_permuted}
+use Rattle.dn_kind.proofs.levels.set_of.Goals as goal
 
 pub loop-name-preserved : goal.loop-name-preserved
 loop-name-preserved c =

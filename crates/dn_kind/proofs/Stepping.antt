@@ -4,7 +4,7 @@ use Rattle.std.proofs.Math.Seq.{drop-cons}
 use Rattle.dn_base.proofs.Booleans.{and_parts}
 use Rattle.dn_net.specs.declared.node.Name.{Name}
 use Rattle.dn_net.specs.Names.{each_step, passing_names}
-use Rattle.dn_lookup.specs.Lookup.{are_there}
+use Rattle.dn_kind.specs.Levels.{are_there}
 
 -- the names of a list that pass are that of the first and those of the rest
 passing_more : (p : Name → Bool) (x : Name) (xs : List Name) (b : Bool) → p x ≡ b → passing_names p (x ∷ []) ++ passing_names p xs ≡ passing_names p (x ∷ xs)

@@ -4,9 +4,9 @@ use Rattle.dn_net.specs.declared.node.Name.{Name}
 use Rattle.dn_net.specs.Names.{sorted_names, passing_names, each_step, reached_names, end_names}
 use Rattle.dn_net.proofs.Resolution.{member_left, member_right, member_cases, names_in, passing_in, each_in}
 use Rattle.dn_kind.specs.Tables.{step_limit_under}
-use Rattle.dn_lookup.specs.Lookup.{are_there}
-use Rattle.dn_lookup.proofs.Nodes.{sorted_there}
-use Rattle.dn_lookup.proofs.Sets.{Same, same_refl, sorted_same}
+use Rattle.dn_kind.specs.Levels.{are_there}
+use Rattle.dn_kind.proofs.Nodes.{sorted_there}
+use Rattle.dn_kind.proofs.Sets.{Same, same_refl, sorted_same}
 
 -- the names of so many levels, from a list on
 abbrev pub levels : (Name → List Name) → ℕ → List Name → List Name

@@ -1,7 +1,7 @@
 use Rattle.std.proofs.Common.{◌≡◌, ◌∙◌, ℕ, List, get_or, ◌≤◌, ◌<◌, ◌*◌, ◌%◌, ◌^◌, ap, length, arith}
 use Rattle.dn_kind.specs.Units.{unit_shape}
-use Rattle.dn_lookup.proofs.Outputs.{HasPages, has_pages, page_is, page_some, output_small, port_there, sent_is}
-use Rattle.dn_lookup.proofs.output.sent.Goals as goal
+use Rattle.dn_kind.proofs.Outputs.{HasPages, has_pages, page_is, page_some, output_small, port_there, sent_is}
+use Rattle.dn_kind.proofs.output.sent.Goals as goal
 
 pub overflow_shl-page : goal.overflow_shl-page
 overflow_shl-page c =

@@ -13,7 +13,7 @@ use Rattle.dn_net.proofs.Places.{both, list_all-at}
 use Rattle.dn_net.specs.declared.node.Unit.{Unit as UnitPart}
 use Rattle.dn_kind.specs.declared.unit_kind.Record.{Record}
 use Rattle.dn_kind.specs.Tables.{Held, to_port, output, steps_by_unit, steps_under, step_limit_under, resolved_names_under}
-use Rattle.dn_lookup.specs.Lookup.{are_there}
+use Rattle.dn_kind.specs.Levels.{are_there}
 
 there_append : (count : ℕ) (xs ys : List Name) → IsTrue (are_there count xs) → IsTrue (are_there count ys) → IsTrue (are_there count (xs ++ ys))
 there_append count [] ys h k = k
