@@ -1,6 +1,7 @@
 //! The program: it hands its words, standard input and standard output to the tool, and ends with its status.
 #![tactic(auto)]
 
+use dn_base::memory_tables::MemTables;
 use dn_base::sink::Sink;
 use dn_base::source::Source;
 use dn_base::streams::{StdSink, StdSource};
@@ -49,7 +50,8 @@ fn words_of<R: Env + AllocGlobal>(rt: &R) -> Result<Words, WordsFault> {
 }
 
 /// Answers the words with the kinds of units that the program knows: `pages`, `remap` and `vectors`,
-/// in this order. Want of memory for them is an error, and then nothing was read or written.
+/// in this order. The tables are emulated in memory, and keep no log. Want of memory for kinds and
+/// tables is an error, and then nothing was read or written.
 fn answer<S: Source, K: Sink>(
     alloc: Global,
     words: &Words,
@@ -63,7 +65,8 @@ fn answer<S: Source, K: Sink>(
     kinds.add(Box::new(alloc, Pages)?)?;
     kinds.add(Box::new(alloc, Remap)?)?;
     kinds.add(Box::new(alloc, Vectors)?)?;
-    Ok(run::run(alloc, words, &kinds, source, sink))
+    let mut device = MemTables::new(alloc, 0, Vec::new(alloc))?;
+    Ok(run::run(alloc, words, &kinds, source, sink, &mut device))
 }
 
 fn main(rt: HostRuntime) -> ExitCode {

@@ -23,6 +23,7 @@ fn failing_reads(calls: &[u32]) -> Failing<'_> {
     Failing {
         reads: calls,
         writes: &[],
+        device: &[],
     }
 }
 
@@ -31,6 +32,7 @@ fn failing_writes(calls: &[u32]) -> Failing<'_> {
     Failing {
         reads: &[],
         writes: calls,
+        device: &[],
     }
 }
 
@@ -123,6 +125,7 @@ fn makes_no_call_again_and_none_beside(rt: HostRuntime) -> Result<(), Fail> {
         let failing = Failing {
             reads: &reads,
             writes: &writes,
+            device: &[],
         };
         let given = then_fails(rt.alloc(), word, failing)?;
         assert_eq!(rt; given, wanted, "{word} {reads:?} {writes:?}");

@@ -1,11 +1,13 @@
-//! What words over a text come to, with a source and a sink in memory.
+//! What words over a text come to, with a source, a sink and a device in memory.
 
-ghost use Rattle.std.specs.Prelude.{◌≡◌, ◌≢◌, ◌<◌, ◌≤◌, [], false, length, map, IfOk};
-ghost use Rattle.std.specs.List.{All, concat};
+ghost use Rattle.std.specs.Prelude.{◌≡◌, ◌≢◌, ◌<◌, ◌≤◌, [], Some, length, map, IfOk};
+ghost use Rattle.std.specs.List.{All};
+ghost use Rattle.dn_base.specs.Device.{log_told};
 ghost use Rattle.dn_kind.specs.Kind.{IsLawful};
-ghost use Rattle.dn_tool.specs.Answer.{answer as answer_of, is_free};
+ghost use Rattle.dn_tool.specs.Answer.{IsAnswered, answer as answer_of};
 
 use dn_base::memory::{MemSink, MemSource};
+use dn_base::memory_tables::MemTables;
 use dn_kind::kinds::Kinds;
 use dn_kinds::pages::{Pages, pages_are_lawful};
 use dn_kinds::remap::{Remap, remap_is_lawful};
@@ -14,32 +16,39 @@ use dn_tool::run;
 use dn_tool::words::Words;
 use std::alloc::{AllocError, Global};
 
-/// Which calls of the source and of the sink fail, by their numbers from 0, in any order.
+/// For how many events the device has room.
+const ROOM: u32 = 1000;
+
+/// Which calls of the source, of the sink and of the device fail, by their numbers from 0, in any order.
 #[derive(Clone, Copy)]
 pub struct Failing<'a> {
     pub reads: &'a [u32],
     pub writes: &'a [u32],
+    pub device: &'a [u32],
 }
 
 /// No call fails.
 pub const NONE: Failing<'static> = Failing {
     reads: &[],
     writes: &[],
+    device: &[],
 };
 
-/// What a run came to: its status, the source with what is left, and the sink with what was written.
+/// What a run came to: its status, the source with what is left, the sink with what was written, and the device with its
+/// words and its log.
 #[derive(Drop)]
 pub struct Outcome {
     pub status: u8,
     pub source: MemSource,
     pub sink: MemSink,
+    pub device: MemTables,
 }
 
 /// Runs the words over the text, of which a read gives at most `most` bytes, with the kinds of the program.
 ///
 /// # Errors
 ///
-/// `AllocError` where there is no memory for the kinds, the source and the sink. Want of memory in the run is its
+/// `AllocError` where there is no memory for the kinds, the source, the sink and the device. Want of memory in the run is its
 /// status.
 pub fn answer(
     alloc: Global,
@@ -72,25 +81,28 @@ fn answer_with(
     requires some { 0 < most }
     requires few_kinds { length kinds.now.list.items ≤ 255 }
     requires lawful { All (λ k. IsLawful (meaning (k.vtable, k.value))) kinds.now.list.items }
-    // A status that is not free is that of the answer, and exactly its output was written.
-    ensures exact { IfOk result (λ o. is_free o.status ≡ false →
-        (o.status ≡ (answer_of words.now (map (λ k. meaning (k.vtable, k.value)) kinds.now.list.items) text.now).status)
-        × (o.sink.written
-        ≡ concat (answer_of words.now (map (λ k. meaning (k.vtable, k.value)) kinds.now.list.items) text.now).pieces)) }
+    // What was written, the device's log and its words are those of the answer, as far as the run came.
+    ensures answered { IfOk result (λ o. IsAnswered (map (λ k. meaning (k.vtable, k.value)) kinds.now.list.items)
+        (answer_of words.now (map (λ k. meaning (k.vtable, k.value)) kinds.now.list.items) text.now) o.status
+        (Some []) (Some o.sink.written) (Some []) (log_told o.device) (Some o.device.tables)) }
     // Where no call is to fail, no fault is answered.
     ensures sure_source { failing.entry.reads.now ≡ [] → IfOk result (λ o. o.status ≢ 2) }
     ensures sure_sink { failing.entry.writes.now ≡ [] → IfOk result (λ o. o.status ≢ 3) }
+    ensures sure_device { failing.entry.device.now ≡ [] → IfOk result (λ o. o.status ≢ 6) }
     // No fault is swallowed: where none is answered, none came.
     ensures source_counted { IfOk result (λ o. (o.status ≢ 2) → o.source.calls.faults ≡ 0) }
     ensures sink_counted { IfOk result (λ o. (o.status ≢ 3) → o.sink.calls.faults ≡ 0) }
+    ensures device_counted { IfOk result (λ o. (o.status ≢ 6) → o.device.calls.faults ≡ 0) }
 {
     let bytes = text.to_vec(alloc)?;
     let mut source = MemSource::new(bytes, most, failing.reads.to_vec(alloc)?);
     let mut sink = MemSink::new(alloc, failing.writes.to_vec(alloc)?);
-    let status = run::run(alloc, words, kinds, &mut source, &mut sink);
+    let mut device = MemTables::new(alloc, ROOM, failing.device.to_vec(alloc)?)?;
+    let status = run::run(alloc, words, kinds, &mut source, &mut sink, &mut device);
     Ok(Outcome {
         status,
         source,
         sink,
+        device,
     })
 }
