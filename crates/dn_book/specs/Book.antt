@@ -119,7 +119,7 @@ Owes net book access x y = Resolves net x y ⊎ IsGranted book access x y
 abbrev pub granted_by : Access → Name → Grant → List Name
 granted_by access x g =
     if nat_eq x.node g.request.agent && (allows g.request.rights access
-      && (nat_le g.placement.v x.addr && nat_lt x.addr (g.placement.v + g.request.size)))
+    && (nat_le g.placement.v x.addr && nat_lt x.addr (g.placement.v + g.request.size)))
     then name_on g.request.node g.request.base (x.addr - g.placement.v) ∷ [] else []
 
 -- the names that the grants of a book give at a name for an access

@@ -38,7 +38,7 @@ abbrev pub GrantKeepsBook : Type 0
 GrantKeepsBook = (net : List NodeDecl) (book : List Grant) (g : Grant) → IsLegalNet net →
     IsSound net book → IsGrantFor net book g → IsSound net (book ++ g ∷ [])
     × (IsFaithful net book → IsAdmissible net (records_of net book) g.request g.placement →
-      IsFaithful net (book ++ g ∷ []))
+    IsFaithful net (book ++ g ∷ []))
 
 -- A sound book is sound without the grants of an id, and faithful where it was so.
 abbrev pub RevokeKeepsBook : Type 0

@@ -1,5 +1,4 @@
 //! The book of live grants, and the tables that it keeps on a device.
 #![tactic(auto)]
 
-pub mod book;
 pub mod grant;

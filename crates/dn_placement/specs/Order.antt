@@ -32,7 +32,7 @@ abbrev pub key_of : List NodeDecl → Place → List ℕ
 key_of net p =
     length p.hops
     ∷ (hops_key p.hops
-      ++ (p.v ∷ hop_page net (slice_get p.hops p.own) ∷ (length p.hops - p.own) ∷ []))
+    ++ (p.v ∷ hop_page net (slice_get p.hops p.own) ∷ (length p.hops - p.own) ∷ []))
 
 -- the one placement comes before the other
 abbrev pub precedes : List NodeDecl → Place → Place → Bool

@@ -58,7 +58,7 @@ abbrev pub hops_records : List NodeDecl → ℕ → Rights → ℕ → ℕ → L
 hops_records net size rights own place [] node slot = None
 hops_records net size rights own place (hop ∷ hops) node slot =
     or_record (hop_record net size (hop_rights rights own place) hop node slot)
-      (hops_records net size rights own (suc place) hops node slot)
+    (hops_records net size rights own (suc place) hops node slot)
 
 -- the records of a placement
 abbrev pub placed_records : List NodeDecl → Request → Place → Held

@@ -155,11 +155,11 @@ came_in ts t status a b d log log' log'' going w l c =
     let here : turn_at all (length ts) ≡ t = turn_last ts t in
     let size : length all ≡ length ts + 1 = length-append ts (t ∷ []) in
     let es : events_of (take (length ts) all) ++ take c.events (turn_at all (length ts)).events ≡ events_of ts ++ take c.events t.events =
-        ap (λ (us : List Turn). events_of us ++ take c.events (turn_at all (length ts)).events) front
-        ∙ ap (λ (u : Turn). events_of ts ++ take c.events u.events) here in
+    ap (λ (us : List Turn). events_of us ++ take c.events (turn_at all (length ts)).events) front
+    ∙ ap (λ (u : Turn). events_of ts ++ take c.events u.events) here in
     let rs : replies_of (take (length ts) all) ++ take c.bytes (turn_at all (length ts)).reply ≡ replies_of ts ++ take c.bytes t.reply =
-        ap (λ (us : List Turn). replies_of us ++ take c.bytes (turn_at all (length ts)).reply) front
-        ∙ ap (λ (u : Turn). replies_of ts ++ take c.bytes u.reply) here in
+    ap (λ (us : List Turn). replies_of us ++ take c.bytes (turn_at all (length ts)).reply) front
+    ∙ ap (λ (u : Turn). replies_of ts ++ take c.bytes u.reply) here in
     record {
       whole = length ts;
       events = c.events;

@@ -28,7 +28,7 @@ access_text Write = codes " for write"
 abbrev pub asked_text : Target → ℕ → Mode → List ℕ → List ℕ
 asked_text target a m found =
     target.text ++ (codes "@" ++ (address_text a
-      ++ (access_text m ++ (codes ": " ++ (found ++ codes "\n")))))
+    ++ (access_text m ++ (codes ": " ++ (found ++ codes "\n")))))
 
 -- the names to which an address of a node resolves for an access under the records of a book, where
 -- there is such a node

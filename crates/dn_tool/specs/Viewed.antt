@@ -22,7 +22,7 @@ owed_rows net book access n =
 abbrev pub viewed_text : List NodeDecl → List ℕ → Mode → List Seen → List ℕ
 viewed_text net text m rows =
     codes "view " ++ (text ++ (access_text m
-      ++ (codes " rows " ++ (decimal (length rows) ++ (codes "\n" ++ rows_text net rows)))))
+    ++ (codes " rows " ++ (decimal (length rows) ++ (codes "\n" ++ rows_text net rows)))))
 
 -- the reply to a view of what is no agent
 abbrev pub no_agent_text : List ℕ → List ℕ

@@ -10,13 +10,15 @@ ghost use Rattle.dn_tool.specs.Answer.{IsAnswered, IsInput, IsSaid, answer, is_f
 ghost use Rattle.dn_tool.specs.Halt.{ending_status, is_device_halt, is_write_halt};
 ghost use Rattle.dn_print.specs.Statement.{net_text};
 
+use crate::compile;
 use crate::compile::{CompileFault, Platform};
 use crate::halt::{Halt, status_of};
+pub use crate::halt::{DEVICE_FAULT, NO_MEMORY, WRITE_FAULT};
 use crate::output::write_output;
 use crate::refusal::Refusal;
+pub use crate::script::DONE;
 use crate::script::run_script;
 use crate::words::{Task, Words};
-use crate::compile;
 use dn_base::device::Tables;
 use dn_base::sink::Sink;
 use dn_base::source::Source;
@@ -24,9 +26,6 @@ use dn_base::whole;
 use dn_base::whole::InputFault;
 use dn_kind::kinds::Kinds;
 use std::alloc::Global;
-
-pub use crate::halt::{DEVICE_FAULT, NO_MEMORY, WRITE_FAULT};
-pub use crate::script::DONE;
 
 /// The words are of none of the forms.
 pub const WRONG_WORDS: u8 = 1;

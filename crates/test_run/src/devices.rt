@@ -67,7 +67,13 @@ fn leaves_the_device_where_no_script_is_run(rt: HostRuntime) -> Result<(), Fail>
     assert_eq!(rt; printed.status, DONE);
     assert_eq!(rt; printed.device.log().len(), 0);
     let run = words_of(alloc, &["run"])?;
-    let refused = answer(alloc, &run, "a is; a is;".as_bytes(), 4096, failing_calls(&first))?;
+    let refused = answer(
+        alloc,
+        &run,
+        "a is; a is;".as_bytes(),
+        4096,
+        failing_calls(&first),
+    )?;
     assert_eq!(rt; refused.status, REFUSED);
     assert_eq!(rt; refused.device.log().len(), 0);
     Ok(())
