@@ -43,13 +43,13 @@ low_page : (u : UnitPart) → IsTrue (has_plain_shape u) → u.page ≤ u.reach
 low_page u h = leb-true u.page u.reach (page_below (nat_le u.page 40) (nat_le 1 u.slots) (nat_le u.slots 262144) (nat_le u.page u.reach) (nat_le u.reach 56) (nat_le 1 (length u.ports)) (nat_le (length u.ports) 8) h)
 
 -- a step in a unit: to a port of it, below its reach
-record Led (net : List NodeDecl) (x z : Name) (u : UnitPart) : Type 0 where
-  port : ℕ
-  has_port : Member port u.ports
-  addr : ℕ
-  below : addr < 2 ^ u.reach
-  to : ◌≡◌ {A = Name} (record { node = port; addr = addr }) z
-  stop : IsTrue (is_stop net x)
+pub record Led (net : List NodeDecl) (x z : Name) (u : UnitPart) : Type 0 where
+  pub port : ℕ
+  pub has_port : Member port u.ports
+  pub addr : ℕ
+  pub below : addr < 2 ^ u.reach
+  pub to : ◌≡◌ {A = Name} (record { node = port; addr = addr }) z
+  pub stop : IsTrue (is_stop net x)
 
 member_get : (xs : List ℕ) (i x : ℕ) → slice_get xs i ≡ Some x → Member x xs
 member_get [] i x at = cc
@@ -65,7 +65,7 @@ module _ (net : List NodeDecl) (legal : IsLegalNet net) (h : Held) (held : AreHe
       let w : IsTrue (is_within (unit_shape u) r) = subst (λ (p : UnitPart). IsTrue (is_within (unit_shape p) r)) same k.unit.3 in
       ltb-true r.page (2 ^ (u.reach - u.page)) (and_parts (nat_lt r.port (length u.ports)) (nat_lt r.page (2 ^ (u.reach - u.page))) w).1
 
-  led : (x z : Name) (u : UnitPart) → unit_at net x.node ≡ Some u → Member z (steps_by_unit net h x (Some u)) → Led net x z u
+  pub led : (x z : Name) (u : UnitPart) → unit_at net x.node ≡ Some u → Member z (steps_by_unit net h x (Some u)) → Led net x z u
   led x z u at m = by (nat_le x.addr top) refl (h x.node (x.addr / 2 ^ u.page)) refl m
     where
       out : (r : Record) → h x.node (x.addr / 2 ^ u.page) ≡ Some r → IsTrue (nat_le x.addr top) → (p : Option ℕ) → slice_get u.ports r.port ≡ p → Member z (to_port p (r.page * 2 ^ u.page + x.addr % 2 ^ u.page)) → Led net x z u

@@ -115,7 +115,7 @@ output_there count u None a all = refl
 output_there count u (Some r) a all = port_there count u.ports r.port (r.page * 2 ^ u.page + a % 2 ^ u.page) all
 
 -- the ports of a unit are there
-ports_there : (net : List NodeDecl) (i : ℕ) (u : UnitPart) → IsTrue (is_closed net) → unit_at net i ≡ Some u → IsTrue (list_all (λ p. nat_lt p (length net)) u.ports)
+pub ports_there : (net : List NodeDecl) (i : ℕ) (u : UnitPart) → IsTrue (is_closed net) → unit_at net i ≡ Some u → IsTrue (list_all (λ p. nat_lt p (length net)) u.ports)
 ports_there net i u closed e = go (slice_get net i) refl e
   where
     go : (o : Option NodeDecl) → slice_get net i ≡ o → unit_of o ≡ Some u → IsTrue (list_all (λ p. nat_lt p (length net)) u.ports)

@@ -12,7 +12,7 @@ use Rattle.dn_kind.specs.Tables.{Held, to_port, output, steps_by_unit, steps_und
 use Rattle.dn_kind.specs.Ways.{NoFork, Slot, slot_in, PassesIn, OneWayToUnit, ChainPassesSlots, OneRowOfSlots, LegalOneWayToUnit, LegalOneRowOfSlots}
 
 -- chains of a relation are chains of a wider one
-chain_more : {X : Type 0} (S Q : X → X → Type 0) → ((x y : X) → S x y → Q x y) → (k : ℕ) (x y : X) → IsChain S k x y → IsChain Q k x y
+pub chain_more : {X : Type 0} (S Q : X → X → Type 0) → ((x y : X) → S x y → Q x y) → (k : ℕ) (x y : X) → IsChain S k x y → IsChain Q k x y
 chain_more S Q f zero x y c = c
 chain_more S Q f (suc k) x y c = (c.0, f x c.0 c.1, chain_more S Q f k c.0 y c.2)
 
@@ -66,7 +66,7 @@ few_in_unit net h x u = go (nat_le x.addr top)
     go false = omega arith
 
 -- a step from a unit's name shows that its address is no higher than the top
-stop_from_step : (net : List NodeDecl) (h : Held) (x y : Name) (u : UnitPart) → Member y (steps_by_unit net h x (Some u)) → IsTrue (is_stop_at x.addr (Some u))
+pub stop_from_step : (net : List NodeDecl) (h : Held) (x y : Name) (u : UnitPart) → Member y (steps_by_unit net h x (Some u)) → IsTrue (is_stop_at x.addr (Some u))
 stop_from_step net h x y u m = go (nat_le x.addr top) m
   where
     go : (b : Bool) → Member y (if b then output u (h x.node (x.addr / 2 ^ u.page)) x.addr else []) → IsTrue b
@@ -125,7 +125,7 @@ reaches_stop net h (suc k) x y s rest p = go (unit_at net x.node) refl p.2 p.3 (
     go None e m f ih = later p.1 f p.4 ih
 
 -- an accepted name is in no unit and has no step
-ends_here : (net : List NodeDecl) (h : Held) → IsTrue (list_all is_formed net) → (x : Name) → IsTrue (is_accepted net x) → steps_under net h x ≡ []
+pub ends_here : (net : List NodeDecl) (h : Held) → IsTrue (list_all is_formed net) → (x : Name) → IsTrue (is_accepted net x) → steps_under net h x ≡ []
 ends_here net h formed x is = go (unit_at net x.node) refl
   where
     fixed : (o : Option NodeDecl) → slice_get net x.node ≡ o → IsTrue (is_accepted_at x.addr o) → steps net x ≡ []
