@@ -3,4 +3,5 @@ pub mod Keys
 pub mod Order
 pub mod Placement
 pub mod Records
+pub mod Roles
 pub mod Slots

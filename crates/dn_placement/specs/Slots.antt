@@ -1,5 +1,5 @@
 -- Slots as a placement meets them: the records that they hold, and which of them are free or owned.
-use Rattle.std.specs.Prelude.{ℕ, Bool, ◌&&◌, ◌==◌, List, Option, is_some}
+use Rattle.std.specs.Prelude.{ℕ, Bool, ◌&&◌, ◌==◌, List, is_some}
 use Rattle.std.specs.List.{list_all}
 use Rattle.dn_kind.specs.Kind.{Meaning}
 use Rattle.dn_kind.specs.Tables.{Held, slot_words}

@@ -8,3 +8,4 @@
 
 pub mod laws;
 pub mod request;
+pub mod roles;
