@@ -1,4 +1,11 @@
 //! The book of live grants, and the tables that it keeps on a device.
 #![tactic(auto)]
 
+pub mod book;
+mod clears;
 pub mod grant;
+pub mod kept;
+pub mod laws;
+mod puts;
+mod slots;
+mod uses;

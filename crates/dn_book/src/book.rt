@@ -1,0 +1,269 @@
+//! The live grants, with the tables that hold their records.
+
+ghost use Rattle.std.specs.Prelude.{◌≡◌, ◌≢◌, ◌↔◌, [], ◌∷◌, ◌++◌, Err, true, false, not, map, IfOk, OnOk, OnErr, is_ok, is_err, length, position, IfSome, ◌==◌, ◌<◌};
+ghost use Rattle.dn_net.specs.Chain.{Member};
+ghost use Rattle.std.specs.List.{All};
+ghost use Rattle.dn_base.specs.Device.{is_make_fault};
+ghost use Rattle.dn_base.specs.Outside.{IsCounted};
+ghost use Rattle.dn_kind.specs.Kind.{IsLawful};
+ghost use Rattle.dn_kind.specs.Units.{IsLegalWith};
+ghost use Rattle.dn_tables.specs.Set.{FitsNet, IsOnDevice, fresh_set, tables_of_set};
+ghost use Rattle.dn_tables.specs.Writes.{AreUnitsMade};
+ghost use Rattle.dn_book.specs.Book.{has_id, without};
+ghost use Rattle.dn_book.specs.Faults.{is_commit_fault, is_revoke_fault};
+ghost use Rattle.dn_book.specs.Laws.{IsGrantFor};
+ghost use Rattle.dn_book.specs.Tables.{IsKept};
+ghost use Rattle.dn_book.specs.Writes.{AreAdded, grant_events, revoke_events};
+ghost use Rattle.dn_book.specs.declared.book.CommitFault.TheVariants.{OutOfMemory as no_memory};
+ghost use Rattle.dn_book.specs.declared.book.RevokeFault.TheVariants.{NoGrant as no_grant};
+ghost use Rattle.dn_book.specs.declared.grant.Grant.{Grant as GrantPart};
+
+use crate::clears::clear_grant;
+use crate::grant::Grant;
+use crate::puts::write_grant;
+use crate::uses::{add_uses, end_uses};
+use dn_base::device::{MakeFault, Tables};
+use dn_kind::kinds::Kinds;
+use dn_net::net::Net;
+use dn_tables::set::TableSet;
+use std::alloc::{AllocError, Global};
+use std::marker::Model;
+use thiserror::Error;
+
+/// Why a grant is not committed.
+#[derive(Clone, Copy, Debug, PartialEq, Eq, Error)]
+pub enum CommitFault {
+    /// The device failed. It counts its faults.
+    #[error("Device")]
+    Device,
+    /// There was no memory for the grant.
+    #[error("OutOfMemory")]
+    OutOfMemory,
+}
+
+impl From<AllocError> for CommitFault {
+    ghost from_gives = { λ _ e. e ≡ no_memory };
+
+    fn from(_e: AllocError) -> CommitFault {
+        CommitFault::OutOfMemory
+    }
+}
+
+/// Why a grant is not revoked.
+#[derive(Clone, Copy, Debug, PartialEq, Eq, Error)]
+pub enum RevokeFault {
+    /// No live grant has the id.
+    #[error("NoGrant")]
+    NoGrant,
+    /// The device failed. It counts its faults.
+    #[error("Device")]
+    Device,
+}
+
+/// The live grants in order of granting, at most 4,096, and the tables that hold their records.
+#[derive(Drop)]
+pub struct Book {
+    grants: Vec<Grant>,
+    tables: TableSet,
+    cleared: bool,
+    sound: bool,
+}
+
+impl Model for Book {
+    ghost use Rattle.dn_book.specs.State.{BookState};
+
+    ghost Value = { BookState };
+
+    ghost view = { λ b. record { grants = b.grants.items; set = b.tables; cleared = b.cleared; sound = b.sound } };
+}
+
+impl Book {
+    /// Makes the units of the net on a device, in the order of their nodes; no grant lives.
+    ///
+    /// # Errors
+    ///
+    /// As `TableSet::make`: `Device` only where the device's count of faults rose in this call, or
+    /// stands at the last value of its counter; `OutOfMemory` for want of memory. Units were made on
+    /// the device in order so far, and nothing else was done to it.
+    pub fn make<D: Tables>(
+        alloc: Global,
+        net: &Net,
+        kinds: &Kinds,
+        device: &mut D,
+    ) -> Result<Book, MakeFault>
+        requires lawful { All (λ k. IsLawful (meaning (k.vtable, k.value))) kinds.now.list.items }
+        requires legal { IsLegalWith (map (λ k. meaning (k.vtable, k.value)) kinds.now.list.items) net.now }
+        requires none { D.units device.old ≡ [] }
+        ensures empty { IfOk result (λ book. book.grants ≡ []) }
+        ensures sound { IfOk result (λ book. book.sound ≡ true) }
+        ensures cleared { IfOk result (λ book. book.cleared ≡ false) }
+        ensures kept { IfOk result (λ book. IsKept net.now
+            (map (λ k. meaning (k.vtable, k.value)) kinds.now.list.items) book.grants book.set) }
+        ensures on_device { IfOk result (λ book.
+            IsOnDevice book.set (D.units device.new) (D.words device.new)) }
+        ensures made { AreUnitsMade
+            (tables_of_set (fresh_set (map (λ k. meaning (k.vtable, k.value)) kinds.now.list.items) net.now))
+            (is_ok result) (is_make_fault result) (D.log device.old) (D.log device.new)
+            (D.units device.new) (D.words device.old) (D.words device.new) }
+        ensures counted { IsCounted (D.faults device.old)
+            (D.faults device.new) (is_make_fault result) }
+    {
+        Ok(Book {
+            grants: Vec::new(alloc),
+            tables: TableSet::make(alloc, net, kinds, device)?,
+            cleared: false,
+            sound: true,
+        })
+    }
+
+    /// The live grants, in the order in which they were granted.
+    pub fn grants(&self) -> &[Grant]
+        ensures { result.now ≡ self.now.grants }
+    {
+        self.grants.as_slice()
+    }
+
+    /// The tables.
+    pub fn tables(&self) -> &TableSet
+        ensures { result.now ≡ self.now.set }
+    {
+        &self.tables
+    }
+
+    /// Whether no call of the device failed so far. A book that is not sound is only read.
+    pub fn is_sound(&self) -> bool
+        ensures { result ≡ self.now.sound }
+    {
+        self.sound
+    }
+
+    /// Whether a record was cleared since the last fence, or since the units were made.
+    pub fn has_cleared(&self) -> bool
+        ensures { result ≡ self.now.cleared }
+    {
+        self.cleared
+    }
+
+    /// Whether a live grant has the id.
+    pub fn has_id(&self, id: u32) -> bool
+        ensures { result ≡ has_id id self.now.grants }
+    {
+        self.grants.iter().any(|grant| grant.id == id)
+    }
+
+    /// Commits a grant: a fence where a record was cleared since the last one, then the records of its
+    /// free slots from memory's end to the agent's, and in each hop by ascending slot. All memory is
+    /// taken before the first call of the device.
+    ///
+    /// # Errors
+    ///
+    /// `Device` only where the device's count of faults rose in this call, or stands at the last value
+    /// of its counter: the writes before the one that failed are done, no grant comes in, and the book
+    /// is not sound any more. `OutOfMemory` for want of memory: nothing has changed.
+    pub fn commit<D: Tables>(
+        &mut self,
+        alloc: Global,
+        net: &Net,
+        kinds: &Kinds,
+        grant: Grant,
+        device: &mut D,
+    ) -> Result<(), CommitFault>
+        requires lawful { All (λ k. IsLawful (meaning (k.vtable, k.value))) kinds.now.list.items }
+        requires legal { IsLegalWith (map (λ k. meaning (k.vtable, k.value)) kinds.now.list.items) net.now }
+        requires sound { self.old.sound ≡ true }
+        requires kept { IsKept net.now
+            (map (λ k. meaning (k.vtable, k.value)) kinds.now.list.items) self.old.grants self.old.set }
+        requires on_device { IsOnDevice self.old.set (D.units device.old) (D.words device.old) }
+        requires placed { IsGrantFor net.now self.old.grants grant }
+        ensures granted { OnOk result (self.new.grants ≡ self.old.grants ++ grant ∷ []) }
+        ensures kept { OnOk result (IsKept net.now
+            (map (λ k. meaning (k.vtable, k.value)) kinds.now.list.items) self.new.grants self.new.set) }
+        ensures fenced { OnOk result (self.new.cleared ≡ false) }
+        ensures refused { OnErr result (self.new.grants ≡ self.old.grants) }
+        ensures memory { result ≡ Err no_memory → self.new ≡ self.old }
+        ensures sound { self.new.sound ≡ not (is_commit_fault result) }
+        ensures fits { FitsNet net.now
+            (map (λ k. meaning (k.vtable, k.value)) kinds.now.list.items) self.new.set }
+        ensures added { result ≢ Err no_memory → AreAdded
+            (grant_events net.now (map (λ k. meaning (k.vtable, k.value)) kinds.now.list.items)
+            self.old.grants self.old.cleared grant)
+            (is_err result) (D.log device.old) (D.log device.new) }
+        ensures untouched { result ≡ Err no_memory → device.new ≡ device.old }
+        ensures on_device { IsOnDevice self.new.set (D.units device.new) (D.words device.new) }
+        ensures counted { IsCounted (D.faults device.old) (D.faults device.new)
+            (is_commit_fault result) }
+    {
+        self.grants.reserve(1)?;
+        if write_grant(&mut self.tables, net, kinds, &grant, self.cleared, device).is_err() {
+            self.sound = false;
+            return Err(CommitFault::Device);
+        }
+        add_uses(&mut self.tables, net, &grant);
+        self.cleared = false;
+        match self.grants.push(grant) {
+            Ok(()) => Ok(()),
+            Err(_) => unreachable!(),
+        }
+    }
+
+    /// Takes the grant of an id out: from the agent's end to memory's, and in each hop by ascending
+    /// slot, the slots that no other live grant uses are cleared. It takes no memory.
+    ///
+    /// # Errors
+    ///
+    /// `NoGrant` exactly where no live grant has the id: nothing has changed. `Device` only where the
+    /// device's count of faults rose in this call, or stands at the last value of its counter: the
+    /// writes before the one that failed are done, the grants are as they were, and the book is not
+    /// sound any more.
+    pub fn revoke<D: Tables>(
+        &mut self,
+        net: &Net,
+        kinds: &Kinds,
+        id: u32,
+        device: &mut D,
+    ) -> Result<(), RevokeFault>
+        requires lawful { All (λ k. IsLawful (meaning (k.vtable, k.value))) kinds.now.list.items }
+        requires legal { IsLegalWith (map (λ k. meaning (k.vtable, k.value)) kinds.now.list.items) net.now }
+        requires sound { self.old.sound ≡ true }
+        requires kept { IsKept net.now
+            (map (λ k. meaning (k.vtable, k.value)) kinds.now.list.items) self.old.grants self.old.set }
+        requires on_device { IsOnDevice self.old.set (D.units device.old) (D.words device.old) }
+        ensures revoked { OnOk result (self.new.grants ≡ without id self.old.grants) }
+        ensures kept { OnOk result (IsKept net.now
+            (map (λ k. meaning (k.vtable, k.value)) kinds.now.list.items) self.new.grants self.new.set) }
+        ensures cleared { OnOk result (self.new.cleared ≡ true) }
+        ensures refused { OnErr result (self.new.grants ≡ self.old.grants) }
+        ensures unknown { result ≡ Err no_grant ↔ (has_id id self.old.grants ≡ false) }
+        ensures unchanged { result ≡ Err no_grant → (self.new ≡ self.old) × (device.new ≡ device.old) }
+        ensures sound { self.new.sound ≡ not (is_revoke_fault result) }
+        ensures fits { FitsNet net.now
+            (map (λ k. meaning (k.vtable, k.value)) kinds.now.list.items) self.new.set }
+        ensures added { (g : GrantPart) → Member g self.old.grants → g.id ≡ id → AreAdded
+            (revoke_events net.now (map (λ k. meaning (k.vtable, k.value)) kinds.now.list.items)
+            self.old.grants g)
+            (is_err result) (D.log device.old) (D.log device.new) }
+        ensures on_device { IsOnDevice self.new.set (D.units device.new) (D.words device.new) }
+        ensures counted { IsCounted (D.faults device.old) (D.faults device.new)
+            (is_revoke_fault result) }
+    {
+        let Some(place) = place_of(self.grants.as_slice(), id) else {
+            return Err(RevokeFault::NoGrant);
+        };
+        if clear_grant(&mut self.tables, net, &self.grants[place], device).is_err() {
+            self.sound = false;
+            return Err(RevokeFault::Device);
+        }
+        end_uses(&mut self.tables, net, &self.grants[place]);
+        self.cleared = true;
+        self.grants.remove(place);
+        Ok(())
+    }
+}
+
+/// The place of the live grant of an id. `None` exactly where none has it.
+fn place_of(grants: &[Grant], id: u32) -> Option<usize>
+    ensures place { result ≡ position (λ g. g.id == id) grants.now }
+    ensures bound { IfSome result (λ place. place < length grants.now) }
+{
+    grants.iter().position(|grant| grant.id == id)
+}

@@ -1,0 +1,212 @@
+//! Putting the records of a grant: from memory's end to the agent's, and in each hop by ascending slot.
+
+ghost use Rattle.std.specs.Prelude.{◌≡◌, ◌<◌, ◌++◌, [], ◌∷◌, filter, length, map, reverse, Some, IsTrue, OnOk, is_err};
+ghost use Rattle.std.specs.List.{All, list_all};
+ghost use Rattle.dn_base.specs.Outside.{IsCounted};
+ghost use Rattle.dn_net.specs.declared.node.Unit.{Unit as UnitPart};
+ghost use Rattle.dn_net.specs.Decode.{unit_at};
+ghost use Rattle.dn_kind.specs.Kind.{IsLawful};
+ghost use Rattle.dn_kind.specs.Rights.{are_rights, both_rights};
+ghost use Rattle.dn_kind.specs.Units.{KeepsUnitShape, is_shaped};
+ghost use Rattle.dn_placement.specs.Records.{hop_rights};
+ghost use Rattle.dn_tables.specs.Set.{FitsNet, IsEmpty, IsOnDevice, IsPackableIn, fits_kinds, has_slot, unit_in, use_in};
+ghost use Rattle.dn_book.specs.Sets.{AreFit, AreOpen, ArePut, FitsUnit, KeepsFit, after_puts, is_used_by, put_at, put_log};
+ghost use Rattle.dn_book.specs.Writes.{AreAdded, fence_events, grant_slots, hop_slots, hop_slots_by, joined_slots};
+
+use crate::grant::Grant;
+use crate::slots::{end_slot, first_slot, slot_record};
+use dn_base::device::{DeviceFault, Tables};
+use dn_kind::kinds::Kinds;
+use dn_kind::rights::Rights;
+use dn_kind::unit_kind::Record;
+use dn_net::net::Net;
+use dn_net::node::Unit;
+use dn_tables::placement::Hop;
+use dn_tables::set::TableSet;
+
+/// The rights of the records of a hop: those of the grant in its own hop, and both in every other.
+fn hop_rights(rights: Rights, own: usize, place: usize) -> Rights
+    ensures { result ≡ hop_rights rights own place }
+{
+    if place == own {
+        rights
+    } else {
+        Rights::both()
+    }
+}
+
+/// A fence where one is due, and then the records of a grant, in those of its slots that no live grant
+/// uses.
+///
+/// # Errors
+///
+/// `DeviceFault` at the first call that fails; those before it are done.
+pub(crate) fn write_grant<D: Tables>(
+    tables: &mut TableSet,
+    net: &Net,
+    kinds: &Kinds,
+    grant: &Grant,
+    is_due: bool,
+    device: &mut D,
+) -> Result<(), DeviceFault>
+    requires lawful { All (λ k. IsLawful (meaning (k.vtable, k.value))) kinds.now.list.items }
+    requires shaped { KeepsUnitShape (map (λ k. meaning (k.vtable, k.value)) kinds.now.list.items) net.now }
+    requires fits { FitsNet net.now (map (λ k. meaning (k.vtable, k.value)) kinds.now.list.items) tables.old }
+    requires on_device { IsOnDevice tables.old (D.units device.old) (D.words device.old) }
+    requires hops { AreFit net.now grant.now.request.size grant.now.placement.hops }
+    requires rights { IsTrue (are_rights grant.now.request.rights) }
+    requires open { AreOpen tables.old (joined_slots (grant_slots net.now grant.now)) }
+    ensures done { OnOk result (tables.new ≡ after_puts (map (λ k. meaning (k.vtable, k.value)) kinds.now.list.items)
+        tables.old (filter (is_used_by 0 tables.old) (joined_slots (reverse (grant_slots net.now grant.now))))) }
+    ensures added { AreAdded (fence_events is_due ++ put_log (map (λ k. meaning (k.vtable, k.value)) kinds.now.list.items)
+        tables.old (filter (is_used_by 0 tables.old) (joined_slots (reverse (grant_slots net.now grant.now)))))
+        (is_err result) (D.log device.old) (D.log device.new) }
+    ensures fits { KeepsFit tables.old tables.new }
+    ensures on_device { IsOnDevice tables.new (D.units device.new) (D.words device.new) }
+    ensures counted { IsCounted (D.faults device.old) (D.faults device.new) (is_err result) }
+{
+    fence(is_due, device)?;
+    put_grant(tables, net, kinds, grant, device)
+}
+
+/// A fence, where one is due.
+///
+/// # Errors
+///
+/// `DeviceFault` where it fails.
+fn fence<D: Tables>(is_due: bool, device: &mut D) -> Result<(), DeviceFault>
+    ensures units { D.units device.new ≡ D.units device.old }
+    ensures words { D.words device.new ≡ D.words device.old }
+    ensures added { AreAdded (fence_events is_due) (is_err result) (D.log device.old) (D.log device.new) }
+    ensures counted { IsCounted (D.faults device.old) (D.faults device.new) (is_err result) }
+{
+    if is_due {
+        device.fence()?;
+    }
+    Ok(())
+}
+
+/// Puts the records of a grant into those of its slots that no live grant uses.
+///
+/// # Errors
+///
+/// `DeviceFault` at the first write that fails; those before it are done.
+fn put_grant<D: Tables>(
+    tables: &mut TableSet,
+    net: &Net,
+    kinds: &Kinds,
+    grant: &Grant,
+    device: &mut D,
+) -> Result<(), DeviceFault>
+    requires lawful { All (λ k. IsLawful (meaning (k.vtable, k.value))) kinds.now.list.items }
+    requires shaped { KeepsUnitShape (map (λ k. meaning (k.vtable, k.value)) kinds.now.list.items) net.now }
+    requires fits { FitsNet net.now (map (λ k. meaning (k.vtable, k.value)) kinds.now.list.items) tables.old }
+    requires on_device { IsOnDevice tables.old (D.units device.old) (D.words device.old) }
+    requires hops { AreFit net.now grant.now.request.size grant.now.placement.hops }
+    requires rights { IsTrue (are_rights grant.now.request.rights) }
+    requires open { AreOpen tables.old (joined_slots (grant_slots net.now grant.now)) }
+    ensures put { ArePut (map (λ k. meaning (k.vtable, k.value)) kinds.now.list.items)
+        (joined_slots (reverse (grant_slots net.now grant.now))) (is_err result)
+        (D.log device.old) (D.log device.new) tables.old tables.new }
+    ensures on_device { IsOnDevice tables.new (D.units device.new) (D.words device.new) }
+    ensures counted { IsCounted (D.faults device.old) (D.faults device.new) (is_err result) }
+{
+    tables.facts();
+    let hops = grant.placement.hops();
+    let own = usize::from(grant.placement.own());
+    for behind in 0..hops.len() {
+        let place = hops.len() - 1 - behind;
+        let rights = hop_rights(grant.request.rights, own, place);
+        put_hop(tables, net, kinds, grant.request.size, rights, &hops[place], device)?;
+    }
+    Ok(())
+}
+
+/// Puts the records of one hop, by ascending slot.
+fn put_hop<D: Tables>(
+    tables: &mut TableSet,
+    net: &Net,
+    kinds: &Kinds,
+    size: u64,
+    rights: Rights,
+    hop: &Hop,
+    device: &mut D,
+) -> Result<(), DeviceFault>
+    requires lawful { All (λ k. IsLawful (meaning (k.vtable, k.value))) kinds.now.list.items }
+    requires shaped { KeepsUnitShape (map (λ k. meaning (k.vtable, k.value)) kinds.now.list.items) net.now }
+    requires fits { FitsNet net.now (map (λ k. meaning (k.vtable, k.value)) kinds.now.list.items) tables.old }
+    requires on_device { IsOnDevice tables.old (D.units device.old) (D.words device.old) }
+    requires there { (u : UnitPart) × (unit_at net.now hop.now.unit ≡ Some u) × FitsUnit u size hop.now }
+    requires rights { IsTrue (are_rights rights) }
+    requires open { AreOpen tables.old (hop_slots net.now size rights hop.now) }
+    ensures put { ArePut (map (λ k. meaning (k.vtable, k.value)) kinds.now.list.items)
+        (hop_slots net.now size rights hop.now) (is_err result)
+        (D.log device.old) (D.log device.new) tables.old tables.new }
+    ensures on_device { IsOnDevice tables.new (D.units device.new) (D.words device.new) }
+    ensures counted { IsCounted (D.faults device.old) (D.faults device.new) (is_err result) }
+{
+    match net.unit(hop.unit) {
+        Some(unit) => put_slots(tables, kinds, unit, size, rights, hop, device),
+        None => unreachable!(),
+    }
+}
+
+/// Puts the records of one hop in this unit, by ascending slot.
+fn put_slots<D: Tables>(
+    tables: &mut TableSet,
+    kinds: &Kinds,
+    unit: &Unit,
+    size: u64,
+    rights: Rights,
+    hop: &Hop,
+    device: &mut D,
+) -> Result<(), DeviceFault>
+    requires lawful { All (λ k. IsLawful (meaning (k.vtable, k.value))) kinds.now.list.items }
+    requires fits { IsTrue (fits_kinds (map (λ k. meaning (k.vtable, k.value)) kinds.now.list.items) tables.old) }
+    requires on_device { IsOnDevice tables.old (D.units device.old) (D.words device.old) }
+    requires shaped { IsTrue (is_shaped (map (λ k. meaning (k.vtable, k.value)) kinds.now.list.items) unit.now) }
+    requires is_unit { unit_in tables.old hop.now.unit ≡ Some unit.now }
+    requires there { FitsUnit unit.now size hop.now }
+    requires rights { IsTrue (are_rights rights) }
+    requires open { AreOpen tables.old (hop_slots_by (Some unit.now) size rights hop.now) }
+    ensures put { ArePut (map (λ k. meaning (k.vtable, k.value)) kinds.now.list.items)
+        (hop_slots_by (Some unit.now) size rights hop.now) (is_err result)
+        (D.log device.old) (D.log device.new) tables.old tables.new }
+    ensures on_device { IsOnDevice tables.new (D.units device.new) (D.words device.new) }
+    ensures counted { IsCounted (D.faults device.old) (D.faults device.new) (is_err result) }
+{
+    tables.facts();
+    for slot in first_slot(unit, size, hop)..end_slot(unit, size, hop) {
+        let holds = slot_record(unit, size, rights, hop, slot);
+        put_slot(tables, kinds, hop.unit, slot, holds, device)?;
+    }
+    Ok(())
+}
+
+/// Puts a record into a slot, where no live grant uses it.
+fn put_slot<D: Tables>(
+    tables: &mut TableSet,
+    kinds: &Kinds,
+    unit: u16,
+    slot: u32,
+    holds: Record,
+    device: &mut D,
+) -> Result<(), DeviceFault>
+    requires lawful { All (λ k. IsLawful (meaning (k.vtable, k.value))) kinds.now.list.items }
+    requires fits { IsTrue (fits_kinds (map (λ k. meaning (k.vtable, k.value)) kinds.now.list.items) tables.old) }
+    requires on_device { IsOnDevice tables.old (D.units device.old) (D.words device.old) }
+    requires there { IsTrue (has_slot tables.old unit slot) }
+    requires open { AreOpen tables.old (put_at unit slot holds ∷ []) }
+    requires packable { IsPackableIn (map (λ k. meaning (k.vtable, k.value)) kinds.now.list.items)
+        tables.old unit holds }
+    ensures put { ArePut (map (λ k. meaning (k.vtable, k.value)) kinds.now.list.items)
+        (put_at unit slot holds ∷ []) (is_err result)
+        (D.log device.old) (D.log device.new) tables.old tables.new }
+    ensures on_device { IsOnDevice tables.new (D.units device.new) (D.words device.new) }
+    ensures counted { IsCounted (D.faults device.old) (D.faults device.new) (is_err result) }
+{
+    if tables.uses_at(unit, slot) == 0 {
+        tables.put(kinds, unit, slot, holds, device)?;
+    }
+    Ok(())
+}

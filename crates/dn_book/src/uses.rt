@@ -1,0 +1,118 @@
+//! How many live grants use the slots of a grant, and whether it owns them.
+
+ghost use Rattle.std.specs.Prelude.{◌≡◌, ℕ, ◌<◌, map, slice_get, Some};
+ghost use Rattle.dn_net.specs.declared.node.Unit.{Unit as UnitPart};
+ghost use Rattle.dn_net.specs.Chain.{Member};
+ghost use Rattle.dn_net.specs.Decode.{unit_at};
+ghost use Rattle.dn_kind.specs.Rights.{both_rights};
+ghost use Rattle.dn_tables.specs.declared.placement.Hop.{Hop as HopPart};
+ghost use Rattle.dn_tables.specs.Set.{has_slot, unit_in, units_of, use_in};
+ghost use Rattle.dn_book.specs.Sets.{AreChanged, AreFit, AreHopsChanged, FitsUnit, MayUse, hop_owner, one_less, one_more};
+ghost use Rattle.dn_book.specs.Writes.{Put, hop_slots, hop_slots_by};
+
+use crate::grant::Grant;
+use crate::slots::{end_slot, first_slot};
+use dn_net::net::Net;
+use dn_net::node::Unit;
+use dn_tables::placement::Hop;
+use dn_tables::set::TableSet;
+
+/// The owner of the slots of a hop: the grant, where the hop is its own.
+fn hop_owner(id: u32, own: usize, place: usize) -> Option<u32>
+    ensures { result ≡ hop_owner id own place }
+{
+    if place == own { Some(id) } else { None }
+}
+
+/// Counts a grant among those that use its slots, and as owner of those of its own hop.
+pub(crate) fn add_uses(tables: &mut TableSet, net: &Net, grant: &Grant)
+    requires units { units_of tables.old ≡ map (λ d. d.unit) net.now }
+    requires hops { AreFit net.now grant.now.request.size grant.now.placement.hops }
+    requires may { (place : ℕ) (hop : HopPart) → slice_get grant.now.placement.hops place ≡ Some hop →
+        (s : Put) → Member s (hop_slots net.now grant.now.request.size both_rights hop) →
+        MayUse (hop_owner grant.now.id grant.now.placement.own place) tables.old s }
+    ensures { AreHopsChanged net.now grant.now.request.size
+        (λ place. one_more (hop_owner grant.now.id grant.now.placement.own place))
+        grant.now.placement.hops tables.old tables.new }
+{
+    let own = usize::from(grant.placement.own());
+    for (place, hop) in grant.placement.hops().iter().enumerate() {
+        let owner = hop_owner(grant.id, own, place);
+        add_hop_uses(tables, net, grant.request.size, hop, owner);
+    }
+}
+
+/// The same of one hop.
+fn add_hop_uses(tables: &mut TableSet, net: &Net, size: u64, hop: &Hop, owner: Option<u32>)
+    requires units { units_of tables.old ≡ map (λ d. d.unit) net.now }
+    requires there { (u : UnitPart) × (unit_at net.now hop.now.unit ≡ Some u) × FitsUnit u size hop.now }
+    requires may { (s : Put) → Member s (hop_slots net.now size both_rights hop.now) →
+        MayUse owner tables.old s }
+    ensures { AreChanged (one_more owner) (hop_slots net.now size both_rights hop.now)
+        tables.old tables.new }
+{
+    match net.unit(hop.unit) {
+        Some(unit) => add_slot_uses(tables, unit, size, hop, owner),
+        None => unreachable!(),
+    }
+}
+
+/// The same of one hop in this unit.
+fn add_slot_uses(tables: &mut TableSet, unit: &Unit, size: u64, hop: &Hop, owner: Option<u32>)
+    requires is_unit { unit_in tables.old hop.now.unit ≡ Some unit.now }
+    requires there { FitsUnit unit.now size hop.now }
+    requires may { (s : Put) → Member s (hop_slots_by (Some unit.now) size both_rights hop.now) →
+        MayUse owner tables.old s }
+    ensures { AreChanged (one_more owner) (hop_slots_by (Some unit.now) size both_rights hop.now)
+        tables.old tables.new }
+{
+    for slot in first_slot(unit, size, hop)..end_slot(unit, size, hop) {
+        tables.facts();
+        tables.add_use(hop.unit, slot, owner);
+    }
+}
+
+/// Takes a grant from those that use its slots.
+pub(crate) fn end_uses(tables: &mut TableSet, net: &Net, grant: &Grant)
+    requires units { units_of tables.old ≡ map (λ d. d.unit) net.now }
+    requires hops { AreFit net.now grant.now.request.size grant.now.placement.hops }
+    requires used { (place : ℕ) (hop : HopPart) → slice_get grant.now.placement.hops place ≡ Some hop →
+        (s : Put) → Member s (hop_slots net.now grant.now.request.size both_rights hop) →
+        0 < (use_in tables.old s.unit s.slot).uses }
+    ensures { AreHopsChanged net.now grant.now.request.size (λ place. one_less)
+        grant.now.placement.hops tables.old tables.new }
+{
+    for hop in grant.placement.hops() {
+        end_hop_uses(tables, net, grant.request.size, hop);
+    }
+}
+
+/// The same of one hop.
+fn end_hop_uses(tables: &mut TableSet, net: &Net, size: u64, hop: &Hop)
+    requires units { units_of tables.old ≡ map (λ d. d.unit) net.now }
+    requires there { (u : UnitPart) × (unit_at net.now hop.now.unit ≡ Some u) × FitsUnit u size hop.now }
+    requires used { (s : Put) → Member s (hop_slots net.now size both_rights hop.now) →
+        0 < (use_in tables.old s.unit s.slot).uses }
+    ensures { AreChanged one_less (hop_slots net.now size both_rights hop.now)
+        tables.old tables.new }
+{
+    match net.unit(hop.unit) {
+        Some(unit) => end_slot_uses(tables, unit, size, hop),
+        None => unreachable!(),
+    }
+}
+
+/// The same of one hop in this unit.
+fn end_slot_uses(tables: &mut TableSet, unit: &Unit, size: u64, hop: &Hop)
+    requires is_unit { unit_in tables.old hop.now.unit ≡ Some unit.now }
+    requires there { FitsUnit unit.now size hop.now }
+    requires used { (s : Put) → Member s (hop_slots_by (Some unit.now) size both_rights hop.now) →
+        0 < (use_in tables.old s.unit s.slot).uses }
+    ensures { AreChanged one_less (hop_slots_by (Some unit.now) size both_rights hop.now)
+        tables.old tables.new }
+{
+    for slot in first_slot(unit, size, hop)..end_slot(unit, size, hop) {
+        tables.facts();
+        tables.end_use(hop.unit, slot);
+    }
+}
