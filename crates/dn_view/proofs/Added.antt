@@ -1,0 +1,53 @@
+-- What an agent's addresses show newly, from the segments of its stops.
+use Rattle.std.proofs.Common.{◌≡◌, ℕ, ◌<◌, ◌≤◌, ◌↔◌, Bool, true, false, ◌&&◌, nat_eq, List, length, slice_get, IsTrue, refl, sym, ap, ◌∙◌, subst, eqb-true, eq-eqb}
+use Rattle.std.proofs.lemmas.Bool.{false≢true}
+use Rattle.dn_interval.specs.declared.row.End.{End}
+use Rattle.dn_interval.specs.declared.row.Seg.{Seg}
+use Rattle.dn_interval.specs.declared.span.TheConstants.{TOP}
+use Rattle.dn_interval.specs.Onward.{rows_of}
+use Rattle.dn_interval.specs.Strands.{segs_give, rows_give}
+use Rattle.dn_net.specs.declared.node.NodeDecl.{NodeDecl}
+use Rattle.dn_net.specs.Decode.{is_agent_at, StopsAt}
+use Rattle.dn_kind.specs.declared.rights.Access.{Access}
+use Rattle.dn_kind.specs.Rights.{allows}
+use Rattle.dn_kind.specs.Tables.{Held, allowing}
+use Rattle.dn_flat.specs.declared.flat.Flat.{Flat}
+use Rattle.dn_flat.specs.Stages.{AreFlats}
+use Rattle.dn_flat.specs.Views.{name_of_end, end_of}
+use Rattle.dn_tables.specs.Placement.{Place}
+use Rattle.dn_placement.specs.declared.request.Request.{Request}
+use Rattle.dn_placement.specs.Records.{joined_records, placed_records}
+use Rattle.dn_view.specs.declared.pass.Part.TheVariants.{Stops}
+use Rattle.dn_view.specs.Exact.{IsAdded, IsExactAt}
+use Rattle.dn_view.specs.Passes.{rows_part}
+use Rattle.dn_view.specs.Records.{fresh_records}
+use Rattle.dn_view.specs.Through.{ComesNewly}
+use Rattle.dn_view.proofs.Viewed.{node_stops}
+
+module _ (net : List NodeDecl) (h : Held) (rq : Request) (p : Place) (access : Access) (node : ℕ) where
+  -- a node that is no agent
+  pub exact_no_agent : is_agent_at (slice_get net node) ≡ false → (true ≡ true) ↔ (IsTrue (is_agent_at (slice_get net node)) → IsExactAt net h rq p access node)
+  exact_no_agent e = ((λ t a. absurd (false≢true (sym e ∙ a))), (λ f. refl))
+
+  -- an agent
+  pub exact_agent : {P : Type 0} → is_agent_at (slice_get net node) ≡ true → P ↔ IsExactAt net h rq p access node → P ↔ (IsTrue (is_agent_at (slice_get net node)) → IsExactAt net h rq p access node)
+  exact_agent e f = ((λ x a. f.0 x), (λ k. f.1 (k e)))
+
+  pub not_asked : (nat_eq node rq.agent && allows rq.rights access) ≡ false → node ≡ rq.agent → IsTrue (allows rq.rights access) → ⊥
+  not_asked e own allowed = absurd (false≢true (sym e ∙ ap (λ b. b && allows rq.rights access) (eq-eqb node rq.agent own) ∙ allowed))
+
+  -- what is shown newly of the node's stops is what is added at its addresses
+  pub added_is : (flats : List Flat) → AreFlats net flats → node < length flats → (stops shown : List Seg)
+      → ((a : ℕ) (z : End) → a ≤ TOP → segs_give stops a z ≡ rows_give (rows_of (rows_part Stops) (slice_get flats node)) a z)
+      → ((a : ℕ) (z : End) → a ≤ TOP → IsTrue (segs_give shown a z) ↔ ((s : End) × IsTrue (segs_give stops a s) × ComesNewly net (allowing access h) (allowing access (fresh_records h (placed_records net rq p))) (allowing access (joined_records h (placed_records net rq p))) (name_of_end s) (name_of_end z)))
+      → (a : ℕ) (z : End) → a ≤ TOP → (segs_give shown a z ≡ true) ↔ IsAdded net h rq p access (record { node = node; addr = a }) (name_of_end z)
+  added_is flats are l stops shown es is a z low = (into, back)
+    where
+      by_stops : (s : End) → (segs_give stops a s ≡ true) ↔ StopsAt net (record { node = node; addr = a }) (name_of_end s)
+      by_stops s = node_stops net flats are node l (segs_give stops a s) a s low (es a s low)
+
+      into : segs_give shown a z ≡ true → IsAdded net h rq p access (record { node = node; addr = a }) (name_of_end z)
+      into e = let r = (is a z low).0 e in (name_of_end r.0, (by_stops r.0).0 r.1, r.2)
+
+      back : IsAdded net h rq p access (record { node = node; addr = a }) (name_of_end z) → segs_give shown a z ≡ true
+      back r = (is a z low).1 (end_of r.0, (by_stops (end_of r.0)).1 r.1, r.2)

@@ -1,0 +1,63 @@
+use Rattle.std.proofs.Common.{◌≡◌, ◌∙◌, ◌≤◌, ◌<◌, ◌+◌, ◌↔◌, ◌⊎◌, inl, inr, ℕ, Bool, true, false, nat_eq, ap, subst, sym, refl, map, length, slice_get, List, IsTrue, arith, eqb-true, eq-eqb, rules}
+use Rattle.std.specs.List.{All}
+use Rattle.dn_interval.specs.declared.row.End.{End}
+use Rattle.dn_interval.specs.declared.row.Seg.{Seg}
+use Rattle.dn_interval.specs.declared.span.TheConstants.{TOP}
+use Rattle.dn_interval.specs.Rows.{AreNormal, SegmentsGive}
+use Rattle.dn_interval.specs.Strands.{segs_give}
+use Rattle.dn_net.specs.declared.node.NodeDecl.{NodeDecl}
+use Rattle.dn_net.specs.Decode.{is_agent_at}
+use Rattle.dn_kind.specs.declared.rights.Access.TheVariants.{Read, Write}
+use Rattle.dn_kind.specs.Kind.{Meaning, IsLawful}
+use Rattle.dn_kind.specs.Rights.{allows}
+use Rattle.dn_kind.specs.Tables.{Held, AreHeld}
+use Rattle.dn_flat.specs.Views.{name_of_end}
+use Rattle.dn_placement.specs.Exposure.{IsAdmissible}
+use Rattle.dn_placement.specs.Slots.{slots_of_set}
+use Rattle.dn_tables.specs.Set.{record_kept}
+use Rattle.dn_tables.proofs.Slots.{all_of_map}
+use Rattle.dn_view.specs.Exact.{IsAdded, IsExactAt, AreExact}
+use Rattle.dn_view.proofs.Held.{kept_are_held}
+use Rattle.std.proofs.lemmas.Bool.{false≢true}
+use Rattle.dn_view.proofs.Agents.{exact_all, exact_more, not_all}
+use Rattle.dn_view.proofs.exact.exact_for.Goals as goal
+
+pub returns-then-not-first : goal.returns-then-not-first
+returns-then-not-first g c =
+    let kinds : List Meaning = map (λ k. (goal.UnitKind-dyn g (k.vtable, k.value)).meaning k.value) c.args.kinds.now.list.items in
+    let net = c.args.net.now in
+    let h : Held = record_kept kinds c.args.tables.now in
+    let rq = c.args.request.now in
+    let p = c.args.placement.now in
+    not_all net h rq p c.args.access rq.agent c.in_ok-first.first c.if-not-first.true c.in_ok-first.ensures
+
+pub loop-node-init : goal.loop-node-init
+loop-node-init g c m l = absurd (omega arith)
+
+pub loop-node-preserved : goal.loop-node-preserved
+loop-node-preserved g c =
+    let kinds : List Meaning = map (λ k. (goal.UnitKind-dyn g (k.vtable, k.value)).meaning k.value) c.args.kinds.now.list.items in
+    let net = c.args.net.now in
+    let h : Held = record_kept kinds c.args.tables.now in
+    let rq = c.args.request.now in
+    let p = c.args.placement.now in
+    exact_more net h rq p c.args.access c.loop-node.node c.in_ok-other.other c.if-not-other.false c.loop-node.invariant c.in_ok-other.ensures
+
+pub returns-then-not-other : goal.returns-then-not-other
+returns-then-not-other g c =
+    let kinds : List Meaning = map (λ k. (goal.UnitKind-dyn g (k.vtable, k.value)).meaning k.value) c.args.kinds.now.list.items in
+    let net = c.args.net.now in
+    let h : Held = record_kept kinds c.args.tables.now in
+    let rq = c.args.request.now in
+    let p = c.args.placement.now in
+    not_all net h rq p c.args.access c.loop-node.node c.in_ok-other.other c.if-not-other.true c.in_ok-other.ensures
+
+pub returns : goal.returns
+returns g c =
+    let kinds : List Meaning = map (λ k. (goal.UnitKind-dyn g (k.vtable, k.value)).meaning k.value) c.args.kinds.now.list.items in
+    let net = c.args.net.now in
+    let h : Held = record_kept kinds c.args.tables.now in
+    let rq = c.args.request.now in
+    let p = c.args.placement.now in
+    let over : length net ≤ c.loop-node.node = subst (λ n. n ≤ c.loop-node.node) c.nodes-node-end.ensures c.loop-node-test.false in
+    exact_all net h rq p c.args.access c.loop-node.node over c.loop-node.invariant

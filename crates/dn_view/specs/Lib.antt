@@ -1,0 +1,6 @@
+pub mod Exact
+pub mod Passes
+pub mod Records
+pub mod Through
+pub mod Addition
+pub mod Views

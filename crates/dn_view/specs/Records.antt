@@ -1,0 +1,54 @@
+-- Which records a pass through units goes by.
+use Rattle.std.specs.Prelude.{◌≡◌, ℕ, ◌+◌, ◌*◌, ◌%◌, ◌^◌, ◌≤◌, List, slice_get, Option, Some, None, IsTrue}
+use Rattle.std.specs.List.{All}
+use Rattle.dn_net.specs.declared.node.NodeDecl.{NodeDecl}
+use Rattle.dn_net.specs.declared.node.Unit.{Unit as UnitPart}
+use Rattle.dn_net.specs.Decode.{unit_at}
+use Rattle.dn_kind.specs.declared.unit_kind.Record.{Record}
+use Rattle.dn_kind.specs.Rights.{are_rights}
+use Rattle.dn_kind.specs.Tables.{Held}
+use Rattle.dn_tables.specs.declared.placement.Hop.{Hop}
+use Rattle.dn_tables.specs.Placement.{Place}
+use Rattle.dn_placement.specs.declared.request.Request.{Request}
+use Rattle.dn_placement.specs.Records.{joined_records, placed_records}
+use Rattle.dn_view.specs.declared.records.Records.{Records}
+use Rattle.dn_view.specs.declared.records.Records.TheVariants.{Kept, Fresh, Joined}
+
+-- the second record, where there is no first
+abbrev pub fresh_record : Option Record → Option Record → Option Record
+fresh_record None s = s
+fresh_record (Some r) s = None
+
+-- the added records in the slots that hold none
+abbrev pub fresh_records : Held → Held → Held
+fresh_records h added node slot = fresh_record (h node slot) (added node slot)
+
+-- the records that are taken: those that are held; those that a placement adds in slots that hold
+-- none; or both
+abbrev pub records_taken : List NodeDecl → Held → Records → Held
+records_taken net h Kept = h
+records_taken net h (Fresh rq p) = fresh_records h (placed_records net rq.now p.now)
+records_taken net h (Joined rq p) = joined_records h (placed_records net rq.now p.now)
+
+-- a hop fits its unit for so many addresses: it is a unit with the port, `x` and `y` agree modulo the
+-- page, and both ends lie within
+pub record IsFitted (net : List NodeDecl) (size : ℕ) (hop : Hop) : Type 0 where
+  pub unit : UnitPart
+  pub is_unit : unit_at net hop.unit ≡ Some unit
+  pub node : ℕ
+  pub is_port : slice_get unit.ports hop.port ≡ Some node
+  pub agree : hop.x % 2 ^ unit.page ≡ hop.y % 2 ^ unit.page
+  pub within : hop.x + size ≤ unit.slots * 2 ^ unit.page
+  pub reached : hop.y + size ≤ 2 ^ unit.reach
+
+-- the hops of a placement fit their units, whose slots can hold the request's rights
+pub record AreFitted (net : List NodeDecl) (rq : Request) (p : Place) : Type 0 where
+  pub some : 1 ≤ rq.size
+  pub rights : IsTrue (are_rights rq.rights)
+  pub hops : All (IsFitted net rq.size) p.hops
+
+-- the hops of the placement whose records are taken, where one is
+abbrev pub IsFitting : List NodeDecl → Records → Type 0
+IsFitting net Kept = Unit {0}
+IsFitting net (Fresh rq p) = AreFitted net rq.now p.now
+IsFitting net (Joined rq p) = AreFitted net rq.now p.now

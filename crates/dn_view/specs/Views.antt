@@ -1,0 +1,11 @@
+-- What agents see under records.
+use Rattle.std.specs.Prelude.{ℕ, List}
+use Rattle.dn_interval.specs.declared.row.End.{End}
+use Rattle.dn_net.specs.declared.node.NodeDecl.{NodeDecl}
+use Rattle.dn_kind.specs.Tables.{Held, ResolvesUnder}
+use Rattle.dn_flat.specs.Views.{name_of_end}
+
+-- the address of the node resolves to the name under records
+abbrev pub ResolvesFromUnder : List NodeDecl → Held → ℕ → ℕ → End → Type 0
+ResolvesFromUnder net h node a y =
+    ResolvesUnder net h (record { node = node; addr = a }) (name_of_end y)

@@ -1,0 +1,47 @@
+//! One step in a unit, by the record of a slot of a set of tables.
+
+ghost use Rattle.std.specs.Prelude.{◌≡◌, ◌<◌, ◌^◌, [], ◌∷◌, length, map, None, Some, IsTrue};
+ghost use Rattle.std.specs.List.{All};
+ghost use Rattle.dn_net.specs.Decode.{is_stop};
+ghost use Rattle.dn_kind.specs.Kind.{IsLawful};
+ghost use Rattle.dn_kind.specs.Levels.{name_list};
+ghost use Rattle.dn_kind.specs.Tables.{allowing, steps_under};
+ghost use Rattle.dn_kind.specs.Units.{IsLegalWith};
+ghost use Rattle.dn_tables.specs.Set.{FitsNet, record_kept};
+
+use dn_kind::kinds::Kinds;
+use dn_kind::output::sent;
+use dn_kind::rights::Access;
+use dn_net::net::Net;
+use dn_net::node::Name;
+use dn_tables::set::TableSet;
+
+/// The output of a name in a unit for an access. `None` where its slot has no record that allows
+/// the access.
+pub(crate) fn output(
+    net: &Net,
+    kinds: &Kinds,
+    tables: &TableSet,
+    access: Access,
+    name: Name,
+) -> Option<Name>
+    requires lawful { All (λ k. IsLawful (meaning (k.vtable, k.value))) kinds.now.list.items }
+    requires legal { IsLegalWith (map (λ k. meaning (k.vtable, k.value)) kinds.now.list.items) net.now }
+    requires fits { FitsNet net.now (map (λ k. meaning (k.vtable, k.value)) kinds.now.list.items) tables.now }
+    requires there { name.node < length net.now }
+    requires stop { IsTrue (is_stop net.now name) }
+    ensures { name_list result ≡ steps_under net.now
+        (allowing access (record_kept (map (λ k. meaning (k.vtable, k.value)) kinds.now.list.items) tables.now))
+        name }
+{
+    let unit = net.unit(name.node)?;
+    let slot = name.addr >> unit.page;
+    if slot >= u64::from(unit.slots) {
+        return None;
+    }
+    let record = tables.record_at(kinds, name.node, slot as u32)?;
+    if !record.rights.allows(access) {
+        return None;
+    }
+    Some(sent(unit, record, name.addr))
+}

@@ -1,0 +1,221 @@
+//! Passes through units: what segments of names in units come to through one slot each.
+
+ghost use Rattle.std.specs.Prelude.{◌≡◌, ℕ, ◌+◌, ◌-◌, ◌*◌, ◌/◌, ◌%◌, ◌^◌, ◌<◌, ◌≤◌, ◌⊎◌, ◌&&◌, ◌||◌, nat_eq, nat_lt, length, map, slice_get, Some, None, OnOk, IsTrue};
+ghost use Rattle.std.specs.List.{All, list_all, list_any};
+ghost use Rattle.std.specs.Option.{option_copied};
+ghost use Rattle.dn_interval.specs.declared.row.End.{End};
+ghost use Rattle.dn_interval.specs.Onward.{gives_by, rows_of};
+ghost use Rattle.dn_interval.specs.Spans.{in_span};
+ghost use Rattle.dn_interval.specs.Strands.{segs_give};
+ghost use Rattle.dn_net.specs.Decode.{unit_at};
+ghost use Rattle.dn_kind.specs.Kind.{IsLawful, is_plain, is_within};
+ghost use Rattle.dn_kind.specs.Tables.{allowing};
+ghost use Rattle.dn_kind.specs.Units.{IsLegalWith, unit_shape};
+ghost use Rattle.dn_flat.specs.Stages.{AreFlats};
+ghost use Rattle.dn_tables.specs.Set.{FitsNet, record_kept};
+ghost use Rattle.dn_view.specs.Passes.{has_rows, in_slot, names_go, outputs, rows_part, seg_name, seg_passes, segs_pass};
+ghost use Rattle.dn_view.specs.Records.{IsFitting, records_taken};
+
+use crate::range::slot_range;
+use crate::records::{Records, record_for};
+use dn_base::OutOfMemory;
+use dn_flat::flats::Flats;
+use dn_interval::onward::follow;
+use dn_interval::{Rows, Seg, Span};
+use dn_kind::kinds::Kinds;
+use dn_kind::output::sent;
+use dn_kind::rights::Access;
+use dn_kind::unit_kind::Record;
+use dn_net::net::Net;
+use dn_net::node::Unit;
+use dn_tables::set::TableSet;
+
+/// Which rows of a flattened view.
+#[derive(Clone, Copy)]
+pub(crate) enum Part {
+    /// The accepted names.
+    Accepts,
+    /// The names in units.
+    Stops,
+}
+
+/// Adds what the names of segments come to through the records of their slots, by the rows of the
+/// nodes to which these send. A name that is in no unit comes to nothing.
+pub(crate) fn pass(
+    out: &mut Vec<Seg>,
+    net: &Net,
+    flats: &Flats,
+    kinds: &Kinds,
+    tables: &TableSet,
+    records: Records,
+    access: Access,
+    part: Part,
+    segs: &[Seg],
+) -> Result<(), OutOfMemory>
+    requires lawful { All (λ k. IsLawful (meaning (k.vtable, k.value))) kinds.now.list.items }
+    requires legal { IsLegalWith (map (λ k. meaning (k.vtable, k.value)) kinds.now.list.items) net.now }
+    requires flat { AreFlats net.now flats.now }
+    requires fits { FitsNet net.now (map (λ k. meaning (k.vtable, k.value)) kinds.now.list.items) tables.now }
+    requires fitting { IsFitting net.now records }
+    ensures { OnOk result ((a : ℕ) (z : End) → segs_give out.new.items a z
+        ≡ (segs_give out.old.items a z || segs_pass net.now (allowing access (records_taken net.now
+        (record_kept (map (λ k. meaning (k.vtable, k.value)) kinds.now.list.items) tables.now) records.entry))
+        (gives_by (rows_part part) flats.now) segs.now a z)) }
+{
+    for seg in segs {
+        pass_seg(out, net, flats, kinds, tables, records, access, part, *seg)?;
+    }
+    Ok(())
+}
+
+/// Adds what the names of a segment come to.
+fn pass_seg(
+    out: &mut Vec<Seg>,
+    net: &Net,
+    flats: &Flats,
+    kinds: &Kinds,
+    tables: &TableSet,
+    records: Records,
+    access: Access,
+    part: Part,
+    seg: Seg,
+) -> Result<(), OutOfMemory>
+    requires lawful { All (λ k. IsLawful (meaning (k.vtable, k.value))) kinds.now.list.items }
+    requires legal { IsLegalWith (map (λ k. meaning (k.vtable, k.value)) kinds.now.list.items) net.now }
+    requires flat { AreFlats net.now flats.now }
+    requires fits { FitsNet net.now (map (λ k. meaning (k.vtable, k.value)) kinds.now.list.items) tables.now }
+    requires fitting { IsFitting net.now records }
+    ensures { OnOk result ((a : ℕ) (z : End) → segs_give out.new.items a z
+        ≡ (segs_give out.old.items a z || seg_passes net.now (allowing access (records_taken net.now
+        (record_kept (map (λ k. meaning (k.vtable, k.value)) kinds.now.list.items) tables.now) records.entry))
+        (gives_by (rows_part part) flats.now) seg a z)) }
+{
+    let Some(unit) = unit_of(net, seg.node) else {
+        return Ok(());
+    };
+    if !leads_on(flats, unit, part) {
+        return Ok(());
+    }
+    let range = slot_range(net, records, unit, seg);
+    for slot in range.0..range.1 {
+        pass_slot(
+            out, net, flats, kinds, tables, records, access, part, unit, seg, slot,
+        )?;
+    }
+    Ok(())
+}
+
+/// Adds what the names of a segment come to through one slot.
+fn pass_slot(
+    out: &mut Vec<Seg>,
+    net: &Net,
+    flats: &Flats,
+    kinds: &Kinds,
+    tables: &TableSet,
+    records: Records,
+    access: Access,
+    part: Part,
+    unit: &Unit,
+    seg: Seg,
+    slot: u64,
+) -> Result<(), OutOfMemory>
+    requires lawful { All (λ k. IsLawful (meaning (k.vtable, k.value))) kinds.now.list.items }
+    requires legal { IsLegalWith (map (λ k. meaning (k.vtable, k.value)) kinds.now.list.items) net.now }
+    requires flat { AreFlats net.now flats.now }
+    requires fits { FitsNet net.now (map (λ k. meaning (k.vtable, k.value)) kinds.now.list.items) tables.now }
+    requires fitting { IsFitting net.now records }
+    requires unit { unit_at net.now seg.node ≡ Some unit.now }
+    requires there { slot < unit.now.slots }
+    requires begins { seg.base / 2 ^ unit.now.page ≤ slot }
+    requires ends { slot ≤ (seg.base + (seg.span.hi - seg.span.lo)) / 2 ^ unit.now.page }
+    ensures { OnOk result ((a : ℕ) (z : End) → segs_give out.new.items a z
+        ≡ (segs_give out.old.items a z || (in_slot unit.now.page slot seg a
+        && names_go (gives_by (rows_part part) flats.now) (outputs net.now (allowing access (records_taken net.now
+        (record_kept (map (λ k. meaning (k.vtable, k.value)) kinds.now.list.items) tables.now) records.entry))
+        (seg_name seg a)) z))) }
+{
+    match record_for(net, kinds, tables, records, access, seg.node, slot as u32) {
+        None => Ok(()),
+        Some(record) => push_sent(out, flats, part, sent_part(unit, record, seg, slot)),
+    }
+}
+
+/// Adds what the names of a segment come to by the rows of their node.
+fn push_sent(out: &mut Vec<Seg>, flats: &Flats, part: Part, seg: Seg) -> Result<(), OutOfMemory>
+    requires { seg.node < length flats.now }
+    ensures { OnOk result ((a : ℕ) (z : End) → segs_give out.new.items a z
+        ≡ (segs_give out.old.items a z || (in_span seg.span a
+        && gives_by (rows_part part) flats.now seg.node (seg.base + (a - seg.span.lo)) z))) }
+{
+    follow(out, seg, part_rows(flats, seg.node, part))
+}
+
+/// The part of a segment whose names stand in a slot, with the names to which its record sends them.
+fn sent_part(unit: &Unit, record: Record, seg: Seg, slot: u64) -> Seg
+    requires plain { IsTrue (is_plain (unit_shape unit.now)) }
+    requires within { IsTrue (is_within (unit_shape unit.now) «record») }
+    requires there { slot < unit.now.slots }
+    requires begins { seg.base / 2 ^ unit.now.page ≤ slot }
+    requires ends { slot ≤ (seg.base + (seg.span.hi - seg.span.lo)) / 2 ^ unit.now.page }
+    ensures node { slice_get unit.now.ports «record».port ≡ Some result.node }
+    ensures span { (a : ℕ) → in_span result.span a ≡ in_slot unit.now.page slot seg a }
+    ensures names { (a : ℕ) → IsTrue (in_span result.span a) → result.base + (a - result.span.lo)
+        ≡ «record».page * 2 ^ unit.now.page + (seg.base + (a - seg.span.lo)) % 2 ^ unit.now.page }
+{
+    let size = 1 << unit.page;
+    let first = seg.base.max(slot * size);
+    let last = (seg.base + (seg.span.hi - seg.span.lo)).min(slot * size + (size - 1));
+    let name = sent(unit, record, first);
+    Seg {
+        span: Span {
+            lo: seg.span.lo + (first - seg.base),
+            hi: seg.span.lo + (last - seg.base),
+        },
+        node: name.node,
+        base: name.addr,
+    }
+}
+
+/// The unit that a node is. `None` exactly where it is none, or is not there.
+pub(crate) fn unit_of(net: &Net, node: u16) -> Option<&Unit>
+    ensures { option_copied result ≡ unit_at net.now node }
+{
+    if node < net.nodes() {
+        net.unit(node)
+    } else {
+        None
+    }
+}
+
+/// The rows of a node.
+pub(crate) fn part_rows(flats: &Flats, node: u16, part: Part) -> &Rows
+    requires { node < length flats.now }
+    ensures { result.now ≡ rows_of (rows_part part) (slice_get flats.now node) }
+{
+    let flat = flats.of(node);
+    match part {
+        Part::Accepts => &flat.accepts,
+        Part::Stops => &flat.stops,
+    }
+}
+
+/// Whether the node of one of a unit's ports has such rows.
+fn leads_on(flats: &Flats, unit: &Unit, part: Part) -> bool
+    requires { IsTrue (list_all (λ p. nat_lt p (length flats.now)) unit.now.ports) }
+    ensures { result ≡ list_any (λ p. has_rows (rows_of (rows_part part) (slice_get flats.now p))) unit.now.ports }
+{
+    let ports = unit.ports.as_slice();
+    for port in ports {
+        if has_rows(part_rows(flats, *port, part)) {
+            return true;
+        }
+    }
+    false
+}
+
+/// Whether there is a row.
+fn has_rows(rows: &Rows) -> bool
+    ensures { result ≡ has_rows rows.now }
+{
+    !rows.rows().is_empty()
+}

@@ -1,0 +1,121 @@
+//! What one name resolves to under tables: level by level, where each level has the names one step on
+//! from those of the level before it.
+
+ghost use Rattle.std.specs.Prelude.{◌≡◌, ◌++◌, [], ◌∷◌, ◌<◌, length, map, IfOk, OnOk, IsTrue};
+ghost use Rattle.std.specs.List.{All};
+ghost use Rattle.dn_net.specs.Decode.{is_accepted, is_closed};
+ghost use Rattle.dn_net.specs.Legal.{IsLegalNet};
+ghost use Rattle.dn_net.specs.Names.{each_step, passing_names, sorted_names};
+ghost use Rattle.dn_net.specs.Rules.{KeepsNodeRules};
+ghost use Rattle.dn_kind.specs.Kind.{IsLawful};
+ghost use Rattle.dn_kind.specs.Levels.{are_there, name_list};
+ghost use Rattle.dn_kind.specs.Tables.{allowing, resolved_names_under, steps_under};
+ghost use Rattle.dn_kind.specs.Units.{IsLegalWith};
+ghost use Rattle.dn_tables.specs.Set.{FitsNet, record_kept};
+
+use crate::output::output;
+use dn_base::OutOfMemory;
+use dn_kind::kinds::Kinds;
+use dn_kind::levels::{push_moved, push_sent, set_of};
+use dn_kind::rights::Access;
+use dn_net::names::Names;
+use dn_net::net::Net;
+use dn_net::node::Name;
+use dn_net::step::Step;
+use dn_tables::set::TableSet;
+use std::alloc::Global;
+
+/// How many levels of names there are: the name itself, and those after each of 1 to 259 steps.
+const LEVELS: u16 = 260;
+
+/// What a name resolves to for an access under the tables. `Err` is want of memory.
+pub fn resolve(
+    alloc: Global,
+    net: &Net,
+    kinds: &Kinds,
+    tables: &TableSet,
+    name: Name,
+    access: Access,
+) -> Result<Names, OutOfMemory>
+    requires lawful { All (λ k. IsLawful (meaning (k.vtable, k.value))) kinds.now.list.items }
+    requires legal { IsLegalWith (map (λ k. meaning (k.vtable, k.value)) kinds.now.list.items) net.now }
+    requires fits { FitsNet net.now (map (λ k. meaning (k.vtable, k.value)) kinds.now.list.items) tables.now }
+    requires there { name.node < length net.now }
+    ensures names { IfOk result (λ names. names ≡ resolved_names_under net.now (allowing access
+        (record_kept (map (λ k. meaning (k.vtable, k.value)) kinds.now.list.items) tables.now)) name) }
+{
+    let mut accepted = Vec::new(alloc);
+    let mut level = Names::new(alloc);
+    level.insert(name)?;
+    for _ in 0..LEVELS {
+        if level.list().is_empty() {
+            break;
+        }
+        level = next_level(
+            alloc,
+            net,
+            kinds,
+            tables,
+            access,
+            level.list(),
+            &mut accepted,
+        )?;
+    }
+    set_of(alloc, accepted)
+}
+
+/// The names one step on from those of a level. Those of the level that are accepted are appended.
+fn next_level(
+    alloc: Global,
+    net: &Net,
+    kinds: &Kinds,
+    tables: &TableSet,
+    access: Access,
+    level: &[Name],
+    accepted: &mut Vec<Name>,
+) -> Result<Names, OutOfMemory>
+    requires lawful { All (λ k. IsLawful (meaning (k.vtable, k.value))) kinds.now.list.items }
+    requires legal { IsLegalWith (map (λ k. meaning (k.vtable, k.value)) kinds.now.list.items) net.now }
+    requires fits { FitsNet net.now (map (λ k. meaning (k.vtable, k.value)) kinds.now.list.items) tables.now }
+    requires there { IsTrue (are_there (length net.now) level.now) }
+    ensures accepted { OnOk result (accepted.new.items ≡
+        accepted.old.items ++ passing_names (is_accepted net.now) level.now) }
+    ensures next { IfOk result (λ names. names ≡ sorted_names (each_step (steps_under net.now
+        (allowing access (record_kept (map (λ k. meaning (k.vtable, k.value)) kinds.now.list.items) tables.now)))
+        level.now)) }
+    ensures there { IfOk result (λ names. IsTrue (are_there (length net.now) names)) }
+{
+    let mut next = Vec::new(alloc);
+    for name in level {
+        push_steps(net, kinds, tables, access, *name, accepted, &mut next)?;
+    }
+    set_of(alloc, next)
+}
+
+/// Appends the names one step on from a name, and where it is accepted, the name itself to the others.
+fn push_steps(
+    net: &Net,
+    kinds: &Kinds,
+    tables: &TableSet,
+    access: Access,
+    name: Name,
+    accepted: &mut Vec<Name>,
+    next: &mut Vec<Name>,
+) -> Result<(), OutOfMemory>
+    requires lawful { All (λ k. IsLawful (meaning (k.vtable, k.value))) kinds.now.list.items }
+    requires legal { IsLegalWith (map (λ k. meaning (k.vtable, k.value)) kinds.now.list.items) net.now }
+    requires fits { FitsNet net.now (map (λ k. meaning (k.vtable, k.value)) kinds.now.list.items) tables.now }
+    requires there { name.node < length net.now }
+    ensures accepted { OnOk result (accepted.new.items ≡
+        accepted.old.items ++ passing_names (is_accepted net.now) (name ∷ [])) }
+    ensures next { OnOk result (next.new.items ≡ next.old.items ++ steps_under net.now
+        (allowing access (record_kept (map (λ k. meaning (k.vtable, k.value)) kinds.now.list.items) tables.now))
+        name) }
+{
+    match net.step(name) {
+        Step::Accepted => Ok(accepted.push(name)?),
+        Step::To(dests, offset) => push_moved(next, dests, offset),
+        Step::Stop => push_sent(next, output(net, kinds, tables, access, name)),
+        Step::Nothing => Ok(()),
+    }
+}
