@@ -1,0 +1,14 @@
+pub mod Agents
+pub mod Levels
+pub mod Marked
+pub mod Meetings
+pub mod Nexts
+pub mod Openings
+pub mod Pages
+pub mod Readies
+pub mod Stretches
+pub mod Tops
+pub mod Units
+pub mod Usable
+pub mod Walks
+pub mod Wholes

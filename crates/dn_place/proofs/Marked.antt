@@ -1,0 +1,191 @@
+-- Marks as they are made.
+use Rattle.std.proofs.Common.{◌≡◌, ℕ, zero, suc, ◌+◌, ◌-◌, ◌<◌, ◌≤◌, ◌⊎◌, inl, inr, Bool, true, false, ◌||◌, List, [], ◌∷◌, ◌++◌, length, map, take, drop, get_or, slice_get, Option, Some, None, refl, sym, ap, ◌∙◌, subst, arith, IsTrue, add-one}
+use Rattle.std.specs.List.{Contains, list_any}
+use Rattle.std.proofs.lemmas.Bool.{cases_lt, false≢true, or_left}
+use Rattle.std.proofs.lemmas.Option.{slice_get_within, slice_get-get_or, get_or_from_slice_get}
+use Rattle.std.proofs.Math.Seq.{drop-cons}
+use Rattle.std.proofs.Math.ListN.{drop_of_length-le}
+use Rattle.std.proofs.lemmas.List.{take_all}
+use Rattle.dn_interval.specs.declared.row.End.{End}
+use Rattle.dn_interval.specs.declared.row.Row.{Row}
+use Rattle.dn_interval.specs.Rows.{Member, moved, Apart, HasEnds, GivenBy}
+use Rattle.dn_interval.specs.Spans.{in_span}
+use Rattle.dn_net.specs.declared.node.Name.{Name}
+use Rattle.dn_net.specs.declared.node.NodeDecl.{NodeDecl}
+use Rattle.dn_net.specs.Decode.{top, unit_at, StopsAt}
+use Rattle.dn_flat.specs.declared.flat.Flat.{Flat}
+use Rattle.dn_flat.specs.Stages.{IsFlat}
+use Rattle.dn_flat.specs.Views.{end_of, name_of_end}
+use Rattle.dn_tables.specs.declared.placement.Hop.{Hop}
+use Rattle.dn_place.specs.Sought.{IsFormed, IsReady, Sought}
+use Rattle.dn_net.specs.declared.node.Unit.{Unit as UnitPart}
+use Rattle.dn_placement.specs.Placement.{Leads, Meets}
+use Rattle.dn_place.specs.Marks.{is_marked, mark_at, AreMarked, IsEntry, Keeps, MarkedBelow, Marks, MarksAfter, MarksAll, MarksEnds, MarksRows}
+use Rattle.dn_place.proofs.Pages.{output_bound, unit_there}
+
+-- each node of the names is marked, or is one of the rest
+abbrev pub EndsLeft : List End → List End → List Bool → Type 0
+EndsLeft ends rest marks = (d : ℕ) (z : End) → Member z (map (moved d) ends) → z.node < length marks → (is_marked marks z.node ≡ true) ⊎ Member z (map (moved d) rest)
+
+abbrev pub RowsLeft : List Row → List Row → List Bool → Type 0
+RowsLeft rows rest marks = (a : ℕ) (z : End) → GivenBy rows a z → z.node < length marks → (is_marked marks z.node ≡ true) ⊎ GivenBy rest a z
+
+pub ends_begun : (ends : List End) (marks : List Bool) → EndsLeft ends ends marks
+ends_begun ends marks = λ d z m l. inr m
+
+pub rows_begun : (rows : List Row) (marks : List Bool) → RowsLeft rows rows marks
+rows_begun rows marks = λ a z g l. inr g
+
+pub taken_end : (items : List End) (i : ℕ) (d : End) → i < length items → drop i items ≡ get_or items i d ∷ drop (i + 1) items
+taken_end items i d l = drop-cons items i d l ∙ ap (λ n. get_or items i d ∷ drop n items) (sym (add-one i))
+
+taken_row : (items : List Row) (i : ℕ) (r : Row) → i < length items → r ≡ get_or items i r → drop i items ≡ r ∷ drop (i + 1) items
+taken_row items i r l e = drop-cons items i r l ∙ ap (λ (x : Row). x ∷ drop (suc i) items) (sym e) ∙ ap (λ n. r ∷ drop n items) (sym (add-one i))
+
+-- one more name whose node is marked, or is no node
+pub ends_on : (ends : List End) (i : ℕ) (e : End) (old new : List Bool) → drop i ends ≡ e ∷ drop (i + 1) ends → length new ≡ length old → Keeps old new → (e.node < length new → is_marked new e.node ≡ true) → EndsLeft ends (drop i ends) old → EndsLeft ends (drop (i + 1) ends) new
+ends_on ends i e old new taken same keeps here left = λ d z m k. go d z k (left d z m (omega arith))
+  where
+    go : (d : ℕ) (z : End) → z.node < length new → (is_marked old z.node ≡ true) ⊎ Member z (map (moved d) (drop i ends)) → (is_marked new z.node ≡ true) ⊎ Member z (map (moved d) (drop (i + 1) ends))
+    go d z k (inl m) = inl (keeps z.node m)
+    go d z k (inr m) = by (subst (λ (es : List End). Member z (map (moved d) es)) taken m)
+      where
+        by : (moved d e ≡ z) ⊎ Member z (map (moved d) (drop (i + 1) ends)) → (is_marked new z.node ≡ true) ⊎ Member z (map (moved d) (drop (i + 1) ends))
+        by (inl q) = let n : e.node ≡ z.node = ap (λ (x : End). x.node) q in inl (subst (λ (x : ℕ). is_marked new x ≡ true) n (here (omega arith)))
+        by (inr q) = inr q
+
+pub ends_done : (ends : List End) (i : ℕ) (marks : List Bool) → length ends ≤ i → EndsLeft ends (drop i ends) marks → MarksEnds ends marks
+ends_done ends i marks l left = λ d z m k. go d z (left d z m k)
+  where
+    go : (d : ℕ) (z : End) → (is_marked marks z.node ≡ true) ⊎ Member z (map (moved d) (drop i ends)) → is_marked marks z.node ≡ true
+    go d z (inl m) = m
+    go d z (inr m) = absurd (subst (λ (es : List End). Member z (map (moved d) es)) (drop_of_length-le ends l) m)
+
+pub rows_on : (rows : List Row) (i : ℕ) (r : Row) (old new : List Bool) → i < length rows → r ≡ get_or rows i r → length new ≡ length old → Keeps old new → MarksEnds r.ends new → RowsLeft rows (drop i rows) old → RowsLeft rows (drop (i + 1) rows) new
+rows_on rows i r old new l g same keeps here left = λ a z m k. go a z k (left a z m (omega arith))
+  where
+    go : (a : ℕ) (z : End) → z.node < length new → (is_marked old z.node ≡ true) ⊎ GivenBy (drop i rows) a z → (is_marked new z.node ≡ true) ⊎ GivenBy (drop (i + 1) rows) a z
+    go a z k (inl m) = inl (keeps z.node m)
+    go a z k (inr m) = by (subst (λ (rs : List Row). GivenBy rs a z) (taken_row rows i r l g) m)
+      where
+        by : GivenBy (r ∷ drop (i + 1) rows) a z → (is_marked new z.node ≡ true) ⊎ GivenBy (drop (i + 1) rows) a z
+        by (inl q) = inl (here (a - r.span.lo) z q.1 k)
+        by (inr q) = inr q
+
+pub rows_done : (rows : List Row) (i : ℕ) (marks : List Bool) → length rows ≤ i → RowsLeft rows (drop i rows) marks → MarksRows rows marks
+rows_done rows i marks l left = λ a z g k. go a z (left a z g k)
+  where
+    go : (a : ℕ) (z : End) → (is_marked marks z.node ≡ true) ⊎ GivenBy (drop i rows) a z → is_marked marks z.node ≡ true
+    go a z (inl m) = m
+    go a z (inr m) = absurd (subst (λ (rs : List Row). GivenBy rs a z) (drop_of_length-le rows l) m)
+
+-- the rows of a node's stops mark what the node leads to
+pub rows_mark : (net : List NodeDecl) (n : ℕ) (flat : Flat) (marks : List Bool) → IsFlat net n flat → MarksRows flat.stops marks → Marks net n marks
+rows_mark net n flat marks f m = λ a z l s k. m a (end_of z) ((f.stops.exact a (end_of z) l).0 s) k
+
+pub marks_kept : (net : List NodeDecl) (n : ℕ) (old new : List Bool) → length old ≡ length new → Keeps old new → Marks net n old → Marks net n new
+marks_kept net n old new same keeps m = λ a z l s k. keeps z.node (m a z l s (omega arith))
+
+pub marks_all : (net : List NodeDecl) (n : ℕ) (marks : List Bool) → length marks ≡ length net → Marks net n marks → MarksAll net n marks
+marks_all net n marks long m = λ a z l s k. m a z l s (omega arith)
+
+-- the next hop of a placement stands in a marked unit
+pub marked_hop : (s : Sought) (first second third : List Bool) (v : ℕ) (before : List Hop) (hop : Hop) (chosen : List Hop) → IsReady s → v + s.request.size ≤ top + 1 → AreMarked s first second third → Meets s.net s.request s.request.agent v (before ++ (hop ∷ chosen)) → Leads s.net s.slots s.request (before ++ (hop ∷ chosen)) → length before ≤ 2 → mark_at first second third (suc (length before)) hop.unit ≡ true
+marked_hop s first second third v [] hop chosen ready fits m meets leads l = let some = ready.some in m.firsts (v + 0) (record { node = hop.unit; addr = hop.x + 0 }) (omega arith) (meets 0 some) (unit_there s.net hop.unit leads.0.unit leads.0.is_unit)
+marked_hop s first second third v (a ∷ []) hop chosen ready fits m meets leads l = let some = ready.some in m.seconds a.unit a.port leads.0.node leads.0.unit one leads.0.is_unit leads.0.is_port (a.y + 0) (record { node = hop.unit; addr = hop.x + 0 }) (omega (arith, leads.0.reached, output_bound leads.0.unit.reach (ready.formed a.unit leads.0.unit leads.0.is_unit).reach)) (leads.0.meets 0 some) (unit_there s.net hop.unit leads.1.0.unit leads.1.0.is_unit)
+  where
+    one : is_marked first a.unit ≡ true
+    one = let some = ready.some in m.firsts (v + 0) (record { node = a.unit; addr = a.x + 0 }) (omega arith) (meets 0 some) (unit_there s.net a.unit leads.0.unit leads.0.is_unit)
+marked_hop s first second third v (a ∷ b ∷ []) hop chosen ready fits m meets leads l = let some = ready.some in m.thirds b.unit b.port leads.1.0.node leads.1.0.unit two leads.1.0.is_unit leads.1.0.is_port (b.y + 0) (record { node = hop.unit; addr = hop.x + 0 }) (omega (arith, leads.1.0.reached, output_bound leads.1.0.unit.reach (ready.formed b.unit leads.1.0.unit leads.1.0.is_unit).reach)) (leads.1.0.meets 0 some) (unit_there s.net hop.unit leads.1.1.0.unit leads.1.1.0.is_unit)
+  where
+    one : is_marked first a.unit ≡ true
+    one = let some = ready.some in m.firsts (v + 0) (record { node = a.unit; addr = a.x + 0 }) (omega arith) (meets 0 some) (unit_there s.net a.unit leads.0.unit leads.0.is_unit)
+
+    two : is_marked second b.unit ≡ true
+    two = let some = ready.some in m.seconds a.unit a.port leads.0.node leads.0.unit one leads.0.is_unit leads.0.is_port (a.y + 0) (record { node = b.unit; addr = b.x + 0 }) (omega (arith, leads.0.reached, output_bound leads.0.unit.reach (ready.formed a.unit leads.0.unit leads.0.is_unit).reach)) (leads.0.meets 0 some) (unit_there s.net b.unit leads.1.0.unit leads.1.0.is_unit)
+marked_hop s first second third v (a ∷ b ∷ c ∷ d) hop chosen ready fits m meets leads l = absurd (omega arith)
+
+-- all ports of the unit are marked
+pub ports_marked : (net : List NodeDecl) (items : List ℕ) (t u : UnitPart) (i k n : ℕ) (marks : List Bool) (x : Option UnitPart) → x ≡ Some t → x ≡ Some u → items ≡ t.ports → length items ≤ i → slice_get u.ports k ≡ Some n → ((k : ℕ) → k < i → Marks net (get_or items k 0) marks) → Marks net n marks
+ports_marked net items t u i k n marks x e f p l g done = subst (λ (m : ℕ). Marks net m marks) (get_or_from_slice_get items k n 0 read) (done k (let w = slice_get_within items k n read in omega arith))
+  where
+    some : (a b : UnitPart) → Some a ≡ Some b → a ≡ b
+    some a b q = cc
+
+    read : slice_get items k ≡ Some n
+    read = ap (λ (m : List ℕ). slice_get m k) (p ∙ ap (λ (m : UnitPart). m.ports) (some t u (sym e ∙ f))) ∙ g
+
+-- the node of a port is there
+pub port_there : (net : List NodeDecl) (u : UnitPart) (items : List ℕ) (i : ℕ) → IsFormed net u → items ≡ u.ports → i < length items → get_or items i 0 < length net
+port_there net u items i f e l = f.there i (get_or items i 0) (ap (λ (m : List ℕ). slice_get m i) (sym e) ∙ slice_get-get_or items i 0 l)
+
+-- marks after one more node
+
+pub below_on : (net : List NodeDecl) (from : List Bool) (i : ℕ) (old new : List Bool) → length new ≡ length old → Keeps old new → (is_marked from i ≡ true → (k n : ℕ) (u : UnitPart) → unit_at net i ≡ Some u → slice_get u.ports k ≡ Some n → Marks net n new) → MarkedBelow net from i old → MarkedBelow net from (i + 1) new
+below_on net from i old new same keeps here done = λ w k n u l m e p. go w k n u m e p l (cases_lt w i)
+  where
+    go : (w k n : ℕ) (u : UnitPart) → is_marked from w ≡ true → unit_at net w ≡ Some u → slice_get u.ports k ≡ Some n → w < i + 1 → (w < i) ⊎ (i ≤ w) → Marks net n new
+    go w k n u m e p l (inl b) = marks_kept net n old new (sym same) keeps (done w k n u b m e p)
+    go w k n u m e p l (inr b) = let q : w ≡ i = omega arith in here (subst (λ (x : ℕ). is_marked from x ≡ true) q m) k n u (subst (λ (x : ℕ). unit_at net x ≡ Some u) q e) p
+
+pub below_all : (net : List NodeDecl) (from : List Bool) (i : ℕ) (marks : List Bool) → length net ≤ i → MarkedBelow net from i marks → MarkedBelow net from (length net) marks
+below_all net from i marks l done = λ w k n u b m e p. done w k n u (omega arith) m e p
+
+pub after_all : (net : List NodeDecl) (from marks : List Bool) → length marks ≡ length net → MarkedBelow net from (length net) marks → MarksAfter net from marks
+after_all net from marks long done = λ w k n u m e p. marks_all net n marks long (done w k n u (unit_there net w u e) m e p)
+
+-- a list of the same length, written back
+pub written_back : (new old : List Bool) (len : ℕ) → length new ≡ length old → length old ≡ len → take len (new ++ drop (length new) old) ≡ new
+written_back new old len e f = ap (λ l. take len (new ++ l)) (drop_of_length-le old (omega arith)) ∙ ap (take len) (nil new) ∙ take_all len new (omega arith)
+  where
+    nil : (xs : List Bool) → xs ++ [] ≡ xs
+    nil [] = refl
+    nil (x ∷ xs) = ap (λ l. x ∷ l) (nil xs)
+
+-- a name that a row of the rows gives is given by the rows
+given_at : (rows : List Row) (i : ℕ) (r : Row) (a : ℕ) (z : End) → i < length rows → get_or rows i r ≡ r → IsTrue (in_span r.span a) → Member z (map (moved (a - r.span.lo)) r.ends) → GivenBy rows a z
+given_at [] i r a z l g w m = absurd (omega arith)
+given_at (q ∷ rows) zero r a z l g w m = inl (subst (λ (x : Row). (IsTrue (in_span x.span a)) × Member z (map (moved (a - x.span.lo)) x.ends)) (sym g) (w, m))
+given_at (q ∷ rows) (suc i) r a z l g w m = inr (given_at rows i r a z (omega arith) g w m)
+
+pub given_there : (rows : List Row) (r : Row) (a : ℕ) (z : End) → Contains rows r → IsTrue (in_span r.span a) → Member z (map (moved (a - r.span.lo)) r.ends) → GivenBy rows a z
+given_there rows r a z c w m = given_at rows c.0 r a z c.1 c.2 w m
+
+-- a row of the rows has a name
+named_at : (from : ℕ) (rows : List Row) (i : ℕ) (r : Row) → Apart from rows → i < length rows → get_or rows i r ≡ r → HasEnds r.ends
+named_at from [] i r p l g = absurd (omega arith)
+named_at from (q ∷ rows) zero r p l g = subst (λ (x : Row). HasEnds x.ends) g p.1
+named_at from (q ∷ rows) (suc i) r p l g = named_at (suc q.span.hi) rows i r p.4 (omega arith) g
+
+pub named : (rows : List Row) (r : Row) → Apart 0 rows → Contains rows r → HasEnds r.ends
+named rows r p c = named_at 0 rows c.0 r p c.1 c.2
+
+-- rows that have no address give it no name
+pub none_given : (rows : List Row) (a : ℕ) (z : End) → list_any (λ (r : Row). in_span r.span a) rows ≡ false → GivenBy rows a z → ⊥
+none_given [] a z e g = g
+none_given (r ∷ rows) a z e (inl g) = false≢true (sym e ∙ or_left (in_span r.span a) (list_any (λ (q : Row). in_span q.span a) rows) g.0)
+none_given (r ∷ rows) a z e (inr g) = none_given rows a z (rest (in_span r.span a) (list_any (λ (q : Row). in_span q.span a) rows) e) g
+  where
+    rest : (x y : Bool) → (x || y) ≡ false → y ≡ false
+    rest true y p = absurd (false≢true (sym p))
+    rest false y p = p
+
+-- the entry is the one stop of the address
+pub entry_is : (s : Sought) (flat : Flat) (entry : Option End) (at : ℕ) → IsReady s → IsFlat s.net s.request.agent flat → s.at ≡ Some at → ((z : End) → entry ≡ Some z → GivenBy flat.stops at z) → (entry ≡ None → (z : End) → GivenBy flat.stops at z → ⊥) → IsEntry s entry
+entry_is s flat entry at ready f asked given none v z e l stops = go entry refl
+  where
+    some : (a b : ℕ) → Some a ≡ Some b → a ≡ b
+    some a b p = cc
+
+    same : v ≡ at
+    same = some v at (sym e ∙ asked)
+
+    stop : StopsAt s.net (record { node = s.request.agent; addr = at }) z
+    stop = subst (λ (n : ℕ). StopsAt s.net (record { node = s.request.agent; addr = n }) z) same stops
+
+    low : at ≤ top
+    low = let e : v ≡ at = same in omega (arith, l)
+
+    go : (o : Option End) → entry ≡ o → o ≡ Some (end_of z)
+    go None p = absurd (none p (end_of z) ((f.stops.exact at (end_of z) low).0 stop))
+    go (Some y) p = ap (λ (x : Name). Some (end_of x)) (ready.one_stop (record { node = s.request.agent; addr = at }) (name_of_end y) z ((f.stops.exact at y low).1 (given y p)) stop)

@@ -1,0 +1,367 @@
+-- The next hop of placements that end with some hops.
+use Rattle.std.proofs.Common.{◌≡◌, ℕ, suc, ◌+◌, ◌-◌, ◌*◌, ◌/◌, ◌%◌, ◌^◌, ◌<◌, ◌≤◌, ◌⊎◌, inl, inr, Bool, false, List, [], ◌∷◌, ◌++◌, length, slice_get, get_or, Option, Some, None, refl, sym, ap, ◌∙◌, subst, arith, append_assoc, length-append}
+use Rattle.std.proofs.lemmas.Bool.{cases_lt, false≢true}
+use Rattle.std.proofs.lemmas.Option.{slice_get_within, slice_get-get_or, get_or_from_slice_get}
+use Rattle.std.proofs.lemmas.Nat.{pow_pos}
+use Rattle.std.proofs.Math.Nat.{mul-le-mul_left, mul-le-mul_right, add-mod_right, mod-add-div', div-mul-le_self}
+use Rattle.std.proofs.lemmas.Nat.{le-div}
+use Rattle.dn_tables.specs.declared.placement.Hop.{Hop}
+use Rattle.dn_tables.specs.Placement.{Place}
+use Rattle.dn_place.specs.Sought.{IsFormed, IsReady, Sought}
+use Rattle.dn_net.specs.declared.node.Unit.{Unit as UnitPart}
+use Rattle.dn_placement.specs.Keys.{Begins}
+use Rattle.dn_placement.specs.Order.{IsAt, hop_page, hops_key, key_of}
+use Rattle.dn_placement.specs.Placement.{Joins, Leads, Meets, name_on}
+use Rattle.dn_placement.proofs.Hops.{numbers}
+use Rattle.dn_placement.proofs.Keys.{append_none, cancel, one_more}
+use Rattle.dn_place.specs.Slots.{AreBarred, AreShut, AreUsable, slot_of}
+use Rattle.dn_place.specs.Rows.{GivesOnly, wanted, rows_toward}
+use Rattle.dn_place.specs.Candidates.{IsUnder, NoneUnder, NoneBelow, Answers, IsChosen, ending, to_unit, to_port, to_output}
+use Rattle.dn_place.proofs.Levels.{begun, leapt, next_one, none_left}
+use Rattle.dn_place.proofs.Openings.{Opened, opened}
+use Rattle.dn_place.proofs.Wholes.{whole}
+use Rattle.dn_place.proofs.Meetings.{meets_gives}
+use Rattle.dn_place.proofs.Usable.{is_usable, usable_is}
+use Rattle.dn_place.proofs.Walks.{Stretches}
+use Rattle.dn_place.proofs.Pages.{output_bound}
+use Rattle.dn_place.specs.Marks.{mark_at, AreMarked, IsEntry}
+use Rattle.dn_interval.specs.declared.row.End.{End}
+use Rattle.dn_net.specs.declared.node.NodeDecl.{NodeDecl}
+use Rattle.dn_net.specs.Decode.{top, unit_at, StopsAt}
+use Rattle.dn_flat.specs.declared.flat.Flat.{Flat}
+use Rattle.dn_flat.specs.Stages.{IsFlat}
+use Rattle.dn_place.proofs.Marked.{marked_hop}
+
+-- a placement's next hop, whose numbers begin so
+pub record Next (s : Sought) (count : ℕ) (hops : List Hop) (q : Place) (given : List ℕ) : Type 0 where
+  pub before : List Hop
+  pub hop : Hop
+  pub ends : q.hops ≡ before ++ (hop ∷ hops)
+  pub joins : Joins s.net s.slots s.request hop hops
+  pub after : List ℕ
+  pub key : key_of s.net q ≡ ending count hops ++ numbers hop after
+  pub rest : List ℕ
+  pub split : numbers hop after ≡ given ++ rest
+
+pub next_of : (s : Sought) (count : ℕ) (hops : List Hop) (q : Place) (given : List ℕ) → length hops < count → IsUnder s (ending count hops ++ given) q → Next s count hops q given
+next_of s count hops q given l u = record {
+  before = w.before;
+  hop = w.hop;
+  ends = w.ends;
+  joins = w.joins;
+  after = w.rest;
+  key = w.key;
+  rest = u.begins.0;
+  split = cancel (ending count hops) (numbers w.hop w.rest) (given ++ u.begins.0) (sym w.key ∙ key);
+}
+  where
+    key : key_of s.net q ≡ ending count hops ++ (given ++ u.begins.0)
+    key = u.begins.1 ∙ append_assoc (ending count hops) given u.begins.0
+
+    w : Opened s hops q (ending count hops)
+    w = opened s count hops q l (record { is = u.is; begins = (given ++ u.begins.0, key) })
+
+-- what a hop joins, where its unit is known
+pub record JoinsIn (s : Sought) (u : UnitPart) (hop : Hop) (nearer : List Hop) : Type 0 where
+  pub node : ℕ
+  pub is_port : slice_get u.ports hop.port ≡ Some node
+  pub agree : hop.x % 2 ^ u.page ≡ hop.y % 2 ^ u.page
+  pub within : hop.x + s.request.size ≤ u.slots * 2 ^ u.page
+  pub reached : hop.y + s.request.size ≤ 2 ^ u.reach
+  pub usable : AreUsable s.slots hop.unit (hop.x / 2 ^ u.page) ((hop.x + s.request.size - 1) / 2 ^ u.page) hop.port (hop.y / 2 ^ u.page)
+  pub meets : Meets s.net s.request node hop.y nearer
+
+pub joins_in : (s : Sought) (u : UnitPart) (hop : Hop) (nearer : List Hop) → unit_at s.net hop.unit ≡ Some u → Joins s.net s.slots s.request hop nearer → JoinsIn s u hop nearer
+joins_in s u hop nearer e w = subst (λ (v : UnitPart). JoinsIn s v hop nearer) same (record { node = w.node; is_port = w.is_port; agree = w.agree; within = w.within; reached = w.reached; usable = λ q a b. usable_is s.slots w.unit hop q (w.usable q a b); meets = w.meets })
+  where
+    some : (a b : UnitPart) → Some a ≡ Some b → a ≡ b
+    some a b p = cc
+
+    same : w.unit ≡ u
+    same = some w.unit u (sym w.is_unit ∙ e)
+
+-- by unit
+
+unit_of : (s : Sought) (count : ℕ) (hops : List Hop) (q : Place) (unit : ℕ) → (w : Next s count hops q (unit ∷ [])) → w.hop.unit ≡ unit
+unit_of s count hops q unit w = heads w.hop.unit unit (w.hop.port ∷ w.hop.y ∷ w.hop.x ∷ w.after) w.rest w.split
+  where
+    heads : (a d : ℕ) (m r : List ℕ) → (a ∷ m) ≡ (d ∷ r) → a ≡ d
+    heads a d m r p = cc
+
+-- a placement goes on with a unit
+pub unit_next : (s : Sought) (count : ℕ) (hops : List Hop) (q : Place) → length hops < count → IsUnder s (ending count hops) q → (j : ℕ) × (x : UnitPart) × (unit_at s.net j ≡ Some x) × Begins (ending count hops ++ j ∷ []) (key_of s.net q)
+unit_next s count hops q l u =
+    let w = next_of s count hops q [] l (subst (λ f. IsUnder s f q) (sym (append_none (ending count hops))) u) in
+    (w.hop.unit, w.joins.unit, w.joins.is_unit, (w.hop.port ∷ w.hop.y ∷ w.hop.x ∷ w.after, w.key ∙ sym (one_more (ending count hops) w.hop.unit (w.hop.port ∷ w.hop.y ∷ w.hop.x ∷ w.after))))
+
+pub no_unit : (s : Sought) (count : ℕ) (hops : List Hop) (unit : ℕ) → length hops < count → unit_at s.net unit ≡ None → NoneUnder s (to_unit count hops unit)
+no_unit s count hops unit l e = record { none = λ q u. let w = next_of s count hops q (unit ∷ []) l u in absurd (never w.joins.unit (sym w.joins.is_unit ∙ ap (unit_at s.net) (unit_of s count hops q unit w) ∙ e)) }
+  where
+    never : (u : UnitPart) → Some u ≡ None → ⊥
+    never u p = cc
+
+-- by port
+
+pub ports_done : (s : Sought) (count : ℕ) (hops : List Hop) (unit : ℕ) (u : UnitPart) (bound : ℕ) → length hops < count → unit_at s.net unit ≡ Some u → length u.ports ≤ bound → NoneBelow s (to_unit count hops unit) bound → NoneUnder s (to_unit count hops unit)
+ports_done s count hops unit u bound l e m below = none_left s (to_unit count hops unit) bound below go
+  where
+    go : (q : Place) → IsUnder s (to_unit count hops unit) q → (j : ℕ) × (j < bound) × Begins (to_unit count hops unit ++ j ∷ []) (key_of s.net q)
+    go q v =
+        let w = next_of s count hops q (unit ∷ []) l v in
+        let same = unit_of s count hops q unit w in
+        let j = joins_in s u w.hop hops (ap (unit_at s.net) same ∙ e) w.joins in
+        (w.hop.port, omega (arith, slice_get_within u.ports w.hop.port j.node j.is_port), (w.hop.y ∷ w.hop.x ∷ w.after, w.key ∙ ap (λ n. ending count hops ++ (n ∷ w.hop.port ∷ w.hop.y ∷ w.hop.x ∷ w.after)) same ∙ sym (one_more (to_unit count hops unit) w.hop.port (w.hop.y ∷ w.hop.x ∷ w.after) ∙ one_more (ending count hops) unit (w.hop.port ∷ w.hop.y ∷ w.hop.x ∷ w.after))))
+
+-- by output
+
+parts : (a b d e : ℕ) (m r : List ℕ) → (a ∷ b ∷ m) ≡ (d ∷ e ∷ r) → (a ≡ d) × (b ≡ e) × (m ≡ r)
+parts a b d e m r p = (cc, cc, cc)
+
+-- a hop of a unit and a port
+pub record Through (s : Sought) (u : UnitPart) (hops : List Hop) (unit port y x : ℕ) : Type 0 where
+  pub joins : JoinsIn s u (record { unit = unit; port = port; x = x; y = y }) hops
+
+renamed : (s : Sought) (u : UnitPart) (hops : List Hop) (hop : Hop) (unit port y : ℕ) → hop.unit ≡ unit → hop.port ≡ port → hop.y ≡ y → JoinsIn s u hop hops → Through s u hops unit port y hop.x
+renamed s u hops hop unit port y a b c j = record { joins = subst (λ (k : Hop). JoinsIn s u k hops) (made hop.unit unit hop.port port hop.x hop.y y a b c) j }
+  where
+    made : (m m' p p' x n n' : ℕ) → m ≡ m' → p ≡ p' → n ≡ n' → ◌≡◌ {A = Hop} (record { unit = m; port = p; x = x; y = n }) (record { unit = m'; port = p'; x = x; y = n' })
+    made m m' p p' x n n' a b c = cc
+
+pub record Port (s : Sought) (u : UnitPart) (hops : List Hop) (q : Place) (unit port : ℕ) (front : List ℕ) : Type 0 where
+  pub y : ℕ
+  pub x : ℕ
+  pub through : Through s u hops unit port y x
+  pub rest : List ℕ
+  pub key : key_of s.net q ≡ front ++ (y ∷ x ∷ rest)
+
+pub through_port : (s : Sought) (count : ℕ) (hops : List Hop) (q : Place) (unit port : ℕ) (u : UnitPart) → length hops < count → unit_at s.net unit ≡ Some u → IsUnder s (to_port count hops unit port) q → Port s u hops q unit port (to_port count hops unit port)
+through_port s count hops q unit port u l e v = record {
+  y = w.hop.y;
+  x = w.hop.x;
+  through = renamed s u hops w.hop unit port w.hop.y same.0 same.1 refl (joins_in s u w.hop hops (ap (unit_at s.net) same.0 ∙ e) w.joins);
+  rest = w.after;
+  key = w.key ∙ ap (λ n. ending count hops ++ (n ∷ w.hop.port ∷ w.hop.y ∷ w.hop.x ∷ w.after)) same.0 ∙ ap (λ n. ending count hops ++ (unit ∷ n ∷ w.hop.y ∷ w.hop.x ∷ w.after)) same.1 ∙ sym (one_more (to_unit count hops unit) port (w.hop.y ∷ w.hop.x ∷ w.after) ∙ one_more (ending count hops) unit (port ∷ w.hop.y ∷ w.hop.x ∷ w.after));
+}
+  where
+    w : Next s count hops q (unit ∷ port ∷ [])
+    w = next_of s count hops q (unit ∷ port ∷ []) l (subst (λ f. IsUnder s f q) (one_more (ending count hops) unit (port ∷ [])) v)
+
+    same : (w.hop.unit ≡ unit) × (w.hop.port ≡ port) × (w.hop.y ∷ w.hop.x ∷ w.after ≡ w.rest)
+    same = parts w.hop.unit w.hop.port unit port (w.hop.y ∷ w.hop.x ∷ w.after) w.rest w.split
+
+weaker : (s : Sought) (front : List ℕ) (j : ℕ) (q : Place) → IsUnder s (front ++ j ∷ []) q → IsUnder s front q
+weaker s front j q u = record { is = u.is; begins = (j ∷ u.begins.0, u.begins.1 ∙ one_more front j u.begins.0) }
+
+goes_by : (front : List ℕ) (a j : ℕ) (m r key : List ℕ) → key ≡ front ++ (a ∷ m) → key ≡ (front ++ j ∷ []) ++ r → (a ≡ j) × (m ≡ r)
+goes_by front a j m r key e f = tails (cancel front (a ∷ m) (j ∷ r) (sym e ∙ f ∙ one_more front j r))
+  where
+    tails : (a ∷ m) ≡ (j ∷ r) → (a ≡ j) × (m ≡ r)
+    tails p = (cc, cc)
+
+-- a hop of a unit, a port and an output
+pub record Output (s : Sought) (u : UnitPart) (hops : List Hop) (q : Place) (unit port y : ℕ) (front : List ℕ) : Type 0 where
+  pub x : ℕ
+  pub through : Through s u hops unit port y x
+  pub rest : List ℕ
+  pub key : key_of s.net q ≡ front ++ (x ∷ rest)
+
+pub through_output : (s : Sought) (count : ℕ) (hops : List Hop) (q : Place) (unit port y : ℕ) (u : UnitPart) → length hops < count → unit_at s.net unit ≡ Some u → IsUnder s (to_output count hops unit port y) q → Output s u hops q unit port y (to_output count hops unit port y)
+through_output s count hops q unit port y u l e v = record {
+  x = w.x;
+  through = subst (λ (n : ℕ). Through s u hops unit port n w.x) same.0 w.through;
+  rest = w.rest;
+  key = w.key ∙ ap (λ n. to_port count hops unit port ++ (n ∷ w.x ∷ w.rest)) same.0 ∙ sym (one_more (to_port count hops unit port) y (w.x ∷ w.rest));
+}
+  where
+    w : Port s u hops q unit port (to_port count hops unit port)
+    w = through_port s count hops q unit port u l e (weaker s (to_port count hops unit port) y q v)
+
+    same : (w.y ≡ y) × (w.x ∷ w.rest ≡ v.begins.0)
+    same = goes_by (to_port count hops unit port) w.y y (w.x ∷ w.rest) v.begins.0 (key_of s.net q) w.key v.begins.1
+
+pub port_stretches : (s : Sought) (count : ℕ) (hops : List Hop) (unit port node : ℕ) (u : UnitPart) (flat : Flat) → IsReady s → IsFlat s.net node flat → length hops < count → unit_at s.net unit ≡ Some u → slice_get u.ports port ≡ Some node → Stretches s (to_port count hops unit port) (rows_toward flat hops) (wanted s.request hops)
+port_stretches s count hops unit port node u flat ready f l e p = λ q j v. go q j (through_output s count hops q unit port j u l e v)
+  where
+    some : (a b : ℕ) → Some a ≡ Some b → a ≡ b
+    some a b p = cc
+
+    go : (q : Place) (j : ℕ) → Output s u hops q unit port j (to_output count hops unit port j) → GivesOnly (rows_toward flat hops) (wanted s.request hops) s.request.size j
+    go q j w =
+        let k = w.through.joins in
+        let low : j + s.request.size ≤ top + 1 = omega (arith, k.reached, output_bound u.reach (ready.formed unit u e).reach) in
+        meets_gives s node j hops flat f ready.one_stop low (subst (λ (n : ℕ). Meets s.net s.request n j hops) (some k.node node (sym k.is_port ∙ p)) k.meets)
+
+pub port_goes : (s : Sought) (count : ℕ) (hops : List Hop) (unit port : ℕ) (u : UnitPart) → length hops < count → unit_at s.net unit ≡ Some u → (q : Place) → IsUnder s (to_port count hops unit port) q → (j : ℕ) × Begins (to_port count hops unit port ++ j ∷ []) (key_of s.net q)
+port_goes s count hops unit port u l e q v = let w = through_port s count hops q unit port u l e v in (w.y, (w.x ∷ w.rest, w.key ∙ sym (one_more (to_port count hops unit port) w.y (w.x ∷ w.rest))))
+
+-- an output out of reach, or from which a stop is reached
+pub out_of_reach : (s : Sought) (count : ℕ) (hops : List Hop) (unit port y : ℕ) (u : UnitPart) → length hops < count → unit_at s.net unit ≡ Some u → (y + s.request.size ≤ 2 ^ u.reach → ⊥) → NoneUnder s (to_output count hops unit port y)
+out_of_reach s count hops unit port y u l e past = record { none = λ q v. absurd (past (through_output s count hops q unit port y u l e v).through.joins.reached) }
+
+pub not_met : (s : Sought) (count : ℕ) (hops : List Hop) (unit port node y : ℕ) (u : UnitPart) → length hops < count → unit_at s.net unit ≡ Some u → slice_get u.ports port ≡ Some node → (Meets s.net s.request node y hops → ⊥) → NoneUnder s (to_output count hops unit port y)
+not_met s count hops unit port node y u l e p unmet = record { none = λ q v. absurd (go q (through_output s count hops q unit port y u l e v)) }
+  where
+    some : (a b : ℕ) → Some a ≡ Some b → a ≡ b
+    some a b p = cc
+
+    go : (q : Place) → Output s u hops q unit port y (to_output count hops unit port y) → ⊥
+    go q w = let k = w.through.joins in unmet (subst (λ (n : ℕ). Meets s.net s.request n y hops) (some k.node node (sym k.is_port ∙ p)) k.meets)
+
+-- by input
+
+pub x_of : (s : Sought) (count : ℕ) (hops : List Hop) (unit port y x : ℕ) (u : UnitPart) → length hops < count → unit_at s.net unit ≡ Some u → (q : Place) → IsUnder s (to_output count hops unit port y ++ x ∷ []) q → Through s u hops unit port y x
+x_of s count hops unit port y x u l e q v = subst (λ (n : ℕ). Through s u hops unit port y n) (goes_by (to_output count hops unit port y) w.x x w.rest v.begins.0 (key_of s.net q) w.key v.begins.1).0 w.through
+  where
+    w : Output s u hops q unit port y (to_output count hops unit port y)
+    w = through_output s count hops q unit port y u l e (weaker s (to_output count hops unit port y) x q v)
+
+pub inputs_begun : (s : Sought) (count : ℕ) (hops : List Hop) (unit port y : ℕ) (u : UnitPart) → length hops < count → unit_at s.net unit ≡ Some u → NoneBelow s (to_output count hops unit port y) (y % 2 ^ u.page)
+inputs_begun s count hops unit port y u l e = leapt s _ 0 (y % 2 ^ u.page) (begun s _) (λ q j a b v. absurd (go j b (x_of s count hops unit port y j u l e q v).joins))
+  where
+    go : (j : ℕ) → j < y % 2 ^ u.page → JoinsIn s u (record { unit = unit; port = port; x = j; y = y }) hops → ⊥
+    go j b k = small j (y % 2 ^ u.page) (2 ^ u.page) (pow_pos u.page) k.agree b
+      where
+        small : (j r p : ℕ) → 0 < p → j % p ≡ r → j < r → ⊥
+        small j r p z a b = omega arith
+
+-- between one input and the next none agrees
+pub inputs_leapt : (s : Sought) (count : ℕ) (hops : List Hop) (unit port y x : ℕ) (u : UnitPart) → length hops < count → unit_at s.net unit ≡ Some u → x % 2 ^ u.page ≡ y % 2 ^ u.page → NoneBelow s (to_output count hops unit port y) x → NoneUnder s (to_output count hops unit port y ++ x ∷ []) → NoneBelow s (to_output count hops unit port y) (x + 2 ^ u.page)
+inputs_leapt s count hops unit port y x u l e agree below none = leapt s _ (x + 1) (x + 2 ^ u.page) (next_one s _ x below none) (λ q j a b v. absurd (between x j (2 ^ u.page) (pow_pos u.page) a b ((x_of s count hops unit port y j u l e q v).joins.agree ∙ sym agree)))
+  where
+    between : (x j p : ℕ) → 0 < p → x + 1 ≤ j → j < x + p → j % p ≡ x % p → ⊥
+    between x j p z a b c = by_quotient (cases_lt (x / p) (j / p))
+      where
+        by_quotient : (x / p < j / p) ⊎ (j / p ≤ x / p) → ⊥
+        by_quotient (inl m) = let n : x / p + 1 ≤ j / p = omega arith in omega (arith, mul-le-mul_left p n)
+        by_quotient (inr m) = omega (arith, mul-le-mul_left p m)
+
+pub inputs_done : (s : Sought) (count : ℕ) (hops : List Hop) (unit port y x : ℕ) (u : UnitPart) → length hops < count → unit_at s.net unit ≡ Some u → u.slots * 2 ^ u.page < x + s.request.size → NoneBelow s (to_output count hops unit port y) x → NoneUnder s (to_output count hops unit port y)
+inputs_done s count hops unit port y x u l e past below = none_left s _ x below (λ q v. let w = through_output s count hops q unit port y u l e v in (w.x, omega (arith, w.through.joins.within), (w.rest, w.key ∙ sym (one_more (to_output count hops unit port y) w.x w.rest))))
+
+-- the hop is chosen
+pub behind : (count : ℕ) (hops : List Hop) (unit port y x : ℕ) → to_output count hops unit port y ++ x ∷ [] ≡ ending count (record { unit = unit; port = port; x = x; y = y } ∷ hops)
+behind count hops unit port y x = one_more (to_port count hops unit port) y (x ∷ []) ∙ one_more (to_unit count hops unit) port (y ∷ x ∷ []) ∙ one_more (ending count hops) unit (port ∷ y ∷ x ∷ [])
+
+pub chosen_on : (s : Sought) (count : ℕ) (hops : List Hop) (unit port y x : ℕ) (u : UnitPart) → IsChosen s count hops → length hops < count → unit_at s.net unit ≡ Some u → port < length u.ports → x % 2 ^ u.page ≡ y % 2 ^ u.page → x + s.request.size ≤ u.slots * 2 ^ u.page → y + s.request.size ≤ 2 ^ u.reach → AreUsable s.slots unit (x / 2 ^ u.page) ((x + s.request.size - 1) / 2 ^ u.page) port (y / 2 ^ u.page) → ((n : ℕ) → slice_get u.ports port ≡ Some n → Meets s.net s.request n y hops) → IsChosen s count (record { unit = unit; port = port; x = x; y = y } ∷ hops)
+chosen_on s count hops unit port y x u chosen l e p agree within reached usable meets = record {
+  leads = (record { unit = u; is_unit = e; node = get_or u.ports port 0; is_port = there; agree = agree; within = within; reached = reached; usable = λ q a b. is_usable s.slots u (record { unit = unit; port = port; x = x; y = y }) q (usable q a b); meets = meets (get_or u.ports port 0) there }, chosen.leads);
+  most = chosen.most;
+  within = omega arith;
+}
+  where
+    there : slice_get u.ports port ≡ Some (get_or u.ports port 0)
+    there = slice_get-get_or u.ports port 0 p
+
+pub node_there : (net : List NodeDecl) (port : ℕ) (u : UnitPart) → IsFormed net u → port < length u.ports → get_or u.ports port 0 < length net
+node_there net port u f p = f.there port (get_or u.ports port 0) (slice_get-get_or u.ports port 0 p)
+
+-- the answer for a chosen hop is the answer for its input
+pub answered : (s : Sought) (count : ℕ) (hops now : List Hop) (unit port y x : ℕ) (found : Option Place) → now ≡ record { unit = unit; port = port; x = x; y = y } ∷ hops → Answers s (ending count now) found → Answers s (to_output count hops unit port y ++ x ∷ []) found
+answered s count hops now unit port y x found e a = subst (λ f. Answers s f found) (ap (ending count) e ∙ sym (behind count hops unit port y x)) a
+
+pub next_agrees : (x p : ℕ) → 0 < p → (x + p) % p ≡ x % p
+next_agrees x p z = add-mod_right x p
+
+-- the node of a port, as it is read
+pub port_node : (items ports : List ℕ) (i port n : ℕ) → items ≡ ports → i ≡ port → slice_get ports port ≡ Some n → get_or items i 0 ≡ n
+port_node items ports i port n e f g = ap (λ l. get_or l i 0) e ∙ ap (λ k. get_or ports k 0) f ∙ get_or_from_slice_get ports port n 0 g
+
+pub port_read : (items ports : List ℕ) (i port : ℕ) → items ≡ ports → i ≡ port → port < length ports → slice_get ports port ≡ Some (get_or items i 0)
+port_read items ports i port e f l = slice_get-get_or ports port 0 l ∙ ap (λ n. Some n) (sym (ap (λ l. get_or l i 0) e ∙ ap (λ k. get_or ports k 0) f))
+
+-- a unit that has no mark for the next hop's place
+pub unmarked : (s : Sought) (count : ℕ) (hops : List Hop) (unit place : ℕ) (first second third : List Bool) → IsReady s → AreMarked s first second third → length hops < count → count ≤ 3 → place ≡ count - length hops → mark_at first second third place unit ≡ false → NoneUnder s (to_unit count hops unit)
+unmarked s count hops unit place first second third ready m l most e f = record { none = λ q u. absurd (go q u (next_of s count hops q (unit ∷ []) l u)) }
+  where
+    key_head : (a d : ℕ) (x y : List ℕ) → (a ∷ x) ≡ (d ∷ y) → a ≡ d
+    key_head a d x y p = cc
+
+    go : (q : Place) → IsUnder s (to_unit count hops unit) q → Next s count hops q (unit ∷ []) → ⊥
+    go q u w =
+        let number : length q.hops ≡ count = key_head (length q.hops) count (hops_key q.hops ++ (q.v ∷ hop_page s.net (slice_get q.hops q.own) ∷ (length q.hops - q.own) ∷ [])) (hops_key hops ++ numbers w.hop w.after) w.key in
+        let long : length q.hops ≡ length w.before + suc (length hops) = ap length w.ends ∙ length-append w.before (w.hop ∷ hops) in
+        let here : place ≡ suc (length w.before) = omega arith in
+        let p = u.is.is_placement in
+        false≢true (sym f ∙ ap (λ n. mark_at first second third n unit) here ∙ ap (mark_at first second third (suc (length w.before))) (sym (unit_of s count hops q unit w)) ∙ marked_hop s first second third q.v w.before w.hop hops ready p.fits m (subst (λ (h : List Hop). Meets s.net s.request s.request.agent q.v h) w.ends p.meets) (subst (λ (h : List Hop). Leads s.net s.slots s.request h) w.ends p.leads) (omega arith))
+
+-- a placement ends with the chosen hops
+pub ends_with : (s : Sought) (count : ℕ) (hops : List Hop) (q : Place) → length hops ≤ count → IsUnder s (ending count hops) q → (before : List Hop) × (q.hops ≡ before ++ hops)
+ends_with s count hops q l u = go (cases_lt (length hops) count)
+  where
+    all : length hops ≡ count → q.hops ≡ hops
+    all e = (whole s hops q [] (subst (λ f. IsUnder s f q) (ap (λ n. ending n hops) (sym e) ∙ sym (append_none (ending (length hops) hops))) u)).same
+
+    go : (length hops < count) ⊎ (count ≤ length hops) → (before : List Hop) × (q.hops ≡ before ++ hops)
+    go (inl m) = let w = next_of s count hops q [] m (subst (λ f. IsUnder s f q) (sym (append_none (ending count hops))) u) in (w.before ++ w.hop ∷ [], w.ends ∙ sym (append_assoc w.before (w.hop ∷ []) hops))
+    go (inr m) = ([], all (omega arith))
+
+-- an input that the address asked for does not reach
+pub not_allowed : (s : Sought) (count : ℕ) (hops : List Hop) (unit port y x : ℕ) (u : UnitPart) (entry : Option End) → IsReady s → IsEntry s entry → length hops < count → count ≡ suc (length hops) → unit_at s.net unit ≡ Some u → (s.at ≡ None → ⊥) → (entry ≡ Some (record { node = unit; base = x }) → ⊥) → NoneUnder s (to_output count hops unit port y ++ x ∷ [])
+not_allowed s count hops unit port y x u entry ready e l one unit_is asked other = record { none = λ q v. absurd (go q v s.at refl) }
+  where
+    front : List ℕ
+    front = ending count hops
+
+    heads : (a b c d a' b' c' d' : ℕ) (m r : List ℕ) → (a ∷ b ∷ c ∷ d ∷ m) ≡ (a' ∷ b' ∷ c' ∷ d' ∷ r) → (a ≡ a') × (d ≡ d')
+    heads a b c d a' b' c' d' m r p = (cc, cc)
+
+    key_head : (a d : ℕ) (m r : List ℕ) → (a ∷ m) ≡ (d ∷ r) → a ≡ d
+    key_head a d m r p = cc
+
+    nested : to_output count hops unit port y ++ x ∷ [] ≡ front ++ (unit ∷ port ∷ y ∷ x ∷ [])
+    nested = one_more (to_port count hops unit port) y (x ∷ []) ∙ one_more (to_unit count hops unit) port (y ∷ x ∷ []) ∙ one_more front unit (port ∷ y ∷ x ∷ [])
+
+    made : (m n b c : ℕ) → m ≡ n → b ≡ c → ◌≡◌ {A = End} (record { node = m; base = b }) (record { node = n; base = c })
+    made m n b c p r = cc
+
+    bare : (before : List Hop) → length before ≡ 0 → before ≡ []
+    bare [] p = refl
+    bare (h ∷ before) p = absurd (omega arith)
+
+    go : (q : Place) → IsUnder s (to_output count hops unit port y ++ x ∷ []) q → (at : Option ℕ) → s.at ≡ at → ⊥
+    go q v None p = asked p
+    go q v (Some at) p =
+        let w = next_of s count hops q (unit ∷ port ∷ y ∷ x ∷ []) l (subst (λ f. IsUnder s f q) nested v) in
+        let same = heads w.hop.unit w.hop.port w.hop.y w.hop.x unit port y x w.after w.rest w.split in
+        let number : length q.hops ≡ count = key_head (length q.hops) count (hops_key q.hops ++ (q.v ∷ hop_page s.net (slice_get q.hops q.own) ∷ (length q.hops - q.own) ∷ [])) (hops_key hops ++ numbers w.hop w.after) w.key in
+        let long : length q.hops ≡ length w.before + suc (length hops) = ap length w.ends ∙ length-append w.before (w.hop ∷ hops) in
+        let alone = w.ends ∙ ap (λ (b : List Hop). b ++ (w.hop ∷ hops)) (bare w.before (omega arith)) in
+        let here : q.v ≡ at = subst (λ (o : Option ℕ). IsAt o q.v) p v.is.is_at in
+        let meets : StopsAt s.net (name_on s.request.agent q.v 0) (name_on w.hop.unit w.hop.x 0) = (subst (λ (h : List Hop). Meets s.net s.request s.request.agent q.v h) alone v.is.is_placement.meets) 0 ready.some in
+        let given = subst (λ (n : ℕ). StopsAt s.net (record { node = s.request.agent; addr = n }) (name_on w.hop.unit w.hop.x 0)) (let k : q.v + 0 ≡ at = omega arith in k) meets in
+        let low : at ≤ top = omega (arith, v.is.is_placement.fits, ready.some) in
+        other (e at (name_on w.hop.unit w.hop.x 0) p low given ∙ ap (λ (z : End). Some z) (made w.hop.unit unit (w.hop.x + 0) x same.0 (omega (arith, same.1))))
+
+-- inputs that slots bar
+pub inputs_barred : (s : Sought) (count : ℕ) (hops : List Hop) (unit port y x to : ℕ) (u : UnitPart) → length hops < count → unit_at s.net unit ≡ Some u → x % 2 ^ u.page ≡ y % 2 ^ u.page → AreBarred s u (record { unit = unit; port = port; x = x; y = y }) to → NoneBelow s (to_output count hops unit port y) x → NoneBelow s (to_output count hops unit port y) to
+inputs_barred s count hops unit port y x to u l e agree barred below = leapt s _ x to below (λ q j a b v. let k = (x_of s count hops unit port y j u l e q v).joins in absurd (barred j a b (k.agree ∙ sym agree) k.usable))
+
+-- the answer for a whole hop is the answer for its input
+pub answered_input : (s : Sought) (count : ℕ) (hops : List Hop) (unit port y x : ℕ) (found : Option Place) → Answers s (ending count (record { unit = unit; port = port; x = x; y = y } ∷ hops)) found → Answers s (to_output count hops unit port y ++ x ∷ []) found
+answered_input s count hops unit port y x found a = subst (λ f. Answers s f found) (sym (behind count hops unit port y x)) a
+
+pub none_ending : (s : Sought) (count : ℕ) (hops : List Hop) (unit port y x : ℕ) → NoneUnder s (to_output count hops unit port y ++ x ∷ []) → NoneUnder s (ending count (record { unit = unit; port = port; x = x; y = y } ∷ hops))
+none_ending s count hops unit port y x a = subst (λ f. NoneUnder s f) (behind count hops unit port y x) a
+
+-- where the last slot that is not usable shuts the inputs up to a slot, the hops that begin before it are barred
+pub shut_bars : (s : Sought) (u : UnitPart) (hop : Hop) (q to : ℕ) → 1 ≤ s.request.size → hop.x / 2 ^ u.page ≤ q → q ≤ (hop.x + s.request.size - 1) / 2 ^ u.page → to ≤ q + 1 → AreShut (slot_of s.slots hop.unit q) q (hop.x / 2 ^ u.page) to hop.port (hop.y / 2 ^ u.page) → AreBarred s u hop (to * 2 ^ u.page + hop.x % 2 ^ u.page)
+shut_bars s u hop q to some a b most shut = λ j l m e usable. shut (j / 2 ^ u.page) (first j l) (before j m e) (usable q (low j m e) (high j l))
+  where
+    quotient : (j r p t : ℕ) → 0 < p → j % p ≡ r → j < t * p + r → j / p < t
+    quotient j r p t z e m = by (cases_lt (j / p) t)
+      where
+        by : (j / p < t) ⊎ (t ≤ j / p) → j / p < t
+        by (inl n) = n
+        by (inr n) = absurd (omega (arith, mul-le-mul_right p n, mod-add-div' j p))
+
+    before : (j : ℕ) → j < to * 2 ^ u.page + hop.x % 2 ^ u.page → j % 2 ^ u.page ≡ hop.x % 2 ^ u.page → j / 2 ^ u.page < to
+    before j m e = quotient j (hop.x % 2 ^ u.page) (2 ^ u.page) to (pow_pos u.page) e m
+
+    low : (j : ℕ) → j < to * 2 ^ u.page + hop.x % 2 ^ u.page → j % 2 ^ u.page ≡ hop.x % 2 ^ u.page → j / 2 ^ u.page ≤ q
+    low j m e = let n = before j m e in omega arith
+
+    first : (j : ℕ) → hop.x ≤ j → hop.x / 2 ^ u.page ≤ j / 2 ^ u.page
+    first j l = le-div (hop.x / 2 ^ u.page) j (2 ^ u.page) (pow_pos u.page) (omega (arith, div-mul-le_self hop.x (2 ^ u.page)))
+
+    high : (j : ℕ) → hop.x ≤ j → q ≤ (j + s.request.size - 1) / 2 ^ u.page
+    high j l = le-div q (j + s.request.size - 1) (2 ^ u.page) (pow_pos u.page) (omega (arith, mul-le-mul_right (2 ^ u.page) b, div-mul-le_self (hop.x + s.request.size - 1) (2 ^ u.page)))

@@ -1,0 +1,142 @@
+-- What the search asks holds of a request on a legal net.
+use Rattle.std.proofs.Common.{◌≡◌, ℕ, zero, suc, ◌+◌, ◌<◌, ◌≤◌, ◌⊎◌, inl, inr, Bool, true, false, if◌then◌else◌, ◌&&◌, nat_le, nat_lt, List, [], ◌∷◌, map, length, slice_get, Option, Some, None, is_some, IsTrue, refl, sym, ap, subst, arith, leb-true, ltb-true, lt-ltb}
+use Rattle.std.specs.List.{list_all}
+use Rattle.std.proofs.lemmas.Bool.{and_parts}
+use Rattle.std.proofs.lemmas.Option.{slice_get_within}
+use Rattle.dn_base.proofs.Lists.{list_all-at}
+use Rattle.dn_net.specs.declared.node.Name.{Name}
+use Rattle.dn_net.specs.declared.node.NodeDecl.{NodeDecl}
+use Rattle.dn_net.specs.declared.node.Unit.{Unit as UnitPart}
+use Rattle.dn_net.specs.Chain.{Member, IsChain}
+use Rattle.dn_net.specs.Decode.{top, is_agent_at, is_formed, is_stop, is_stop_at, over_within, ports_within, refers_within, sent_names, unit_at, unit_of, Step}
+use Rattle.dn_net.specs.Legal.{IsLegalNet}
+use Rattle.dn_net.specs.Units.{has_plain_shape}
+use Rattle.dn_net.proofs.Plain.{plain_at}
+use Rattle.dn_net.proofs.Steps.{node_at, unit_is_bare}
+use Rattle.dn_kind.specs.Kind.{Meaning}
+use Rattle.dn_kind.specs.Tables.{Held, output, steps_by_unit, StepUnder}
+use Rattle.dn_kind.proofs.Ways.{legal_one_way_to_unit}
+use Rattle.dn_tables.specs.declared.table.NodeTable.{NodeTable}
+use Rattle.dn_tables.specs.Set.{FitsNet, has_slot, has_slot_by, unit_in, units_of}
+use Rattle.dn_placement.specs.declared.request.Request.{Request}
+use Rattle.dn_placement.specs.Slots.{Slots}
+use Rattle.dn_place.specs.Sought.{AreFormed, IsReady, ReachOneStop, slot_count}
+
+-- the bounds of a unit's shape
+pub record Bounds (page slots reach ports : ℕ) : Type 0 where
+  pub page_few : page ≤ 40
+  pub slots_few : slots ≤ 262144
+  pub reach_few : reach ≤ 56
+  pub ports_few : ports ≤ 8
+
+bounds : (u : UnitPart) → IsTrue (has_plain_shape u) → Bounds u.page u.slots u.reach (length u.ports)
+bounds u h =
+    let a = and_parts (nat_le u.page 40 && nat_le 1 u.slots && nat_le u.slots 262144 && nat_le u.page u.reach && nat_le u.reach 56 && nat_le 1 (length u.ports)) (nat_le (length u.ports) 8) h in
+    let b = and_parts (nat_le u.page 40 && nat_le 1 u.slots && nat_le u.slots 262144 && nat_le u.page u.reach && nat_le u.reach 56) (nat_le 1 (length u.ports)) a.0 in
+    let c = and_parts (nat_le u.page 40 && nat_le 1 u.slots && nat_le u.slots 262144 && nat_le u.page u.reach) (nat_le u.reach 56) b.0 in
+    let d = and_parts (nat_le u.page 40 && nat_le 1 u.slots && nat_le u.slots 262144) (nat_le u.page u.reach) c.0 in
+    let e = and_parts (nat_le u.page 40 && nat_le 1 u.slots) (nat_le u.slots 262144) d.0 in
+    let f = and_parts (nat_le u.page 40) (nat_le 1 u.slots) e.0 in
+    record {
+      page_few = leb-true u.page 40 f.0;
+      slots_few = leb-true u.slots 262144 e.1;
+      reach_few = leb-true u.reach 56 c.1;
+      ports_few = leb-true (length u.ports) 8 a.1;
+    }
+
+-- the ports of a unit are nodes that are there
+ports_there : (net : List NodeDecl) (node : ℕ) (u : UnitPart) → IsTrue (list_all (refers_within (length net)) net) → unit_at net node ≡ Some u → (port p : ℕ) → slice_get u.ports port ≡ Some p → p < length net
+ports_there net node u closed is port p at = go (slice_get net node) refl is
+  where
+    within : (d : NodeDecl) → IsTrue (refers_within (length net) d) → d.unit ≡ Some u → p < length net
+    within d r e =
+        let a = and_parts (list_all (λ n. list_all (λ (x : _). nat_lt x.node (length net)) n.dests) d.entries) (over_within (length net) d.over && ports_within (length net) d.unit) r in
+        let b = and_parts (over_within (length net) d.over) (ports_within (length net) d.unit) a.1 in
+        ltb-true p (length net) (list_all-at (λ q. nat_lt q (length net)) u.ports port p (subst (λ (o : Option UnitPart). IsTrue (ports_within (length net) o)) e b.1) at)
+
+    go : (o : Option NodeDecl) → slice_get net node ≡ o → unit_of o ≡ Some u → p < length net
+    go None e f = cc
+    go (Some d) e f = within d (list_all-at (refers_within (length net)) net node d closed e) f
+
+pub formed : (net : List NodeDecl) → IsLegalNet net → AreFormed net
+formed net legal = λ node u is.
+    let b = bounds u (plain_at net node u legal.shapes is) in
+    record { page = b.page_few; few = b.slots_few; reach = b.reach_few; ports = b.ports_few; there = ports_there net node u legal.nodes.closed is }
+
+-- no slot holds a record
+abbrev empty : Held
+empty node slot = None
+
+-- a step of the net is a step where no slot holds a record
+step_stays : (net : List NodeDecl) → IsTrue (list_all is_formed net) → (x y : Name) → Step net x y → StepUnder net empty x y
+step_stays net all x y m = go (unit_at net x.node) refl
+  where
+    go : (o : Option UnitPart) → unit_at net x.node ≡ o → Member y (steps_by_unit net empty x o)
+    go None e = m
+    go (Some u) e =
+        let bare = unit_is_bare (slice_get net x.node) x.addr (λ n at. node_at is_formed net x.node all n at) (ap is_some e) in
+        absurd (subst (λ (l : List Name). Member y l) (ap sent_names bare.1) m)
+
+chain_stays : (net : List NodeDecl) → IsTrue (list_all is_formed net) → (k : ℕ) (x y : Name) → IsChain (Step net) k x y → IsChain (StepUnder net empty) k x y
+chain_stays net all zero x y c = c
+chain_stays net all (suc k) x y c = (c.0, step_stays net all x c.0 c.1, chain_stays net all k c.0 y c.2)
+
+-- and no such step goes on from a stop
+stuck : (net : List NodeDecl) (x y : Name) → IsTrue (is_stop net x) → StepUnder net empty x y → ⊥
+stuck net x y is m = go (unit_at net x.node) is m
+  where
+    go : (o : Option UnitPart) → IsTrue (is_stop_at x.addr o) → Member y (steps_by_unit net empty x o) → ⊥
+    go None h n = cc
+    go (Some u) h n = by (nat_le x.addr top) n
+      where
+        by : (b : Bool) → Member y (if b then output u None x.addr else []) → ⊥
+        by true n = n
+        by false n = n
+
+-- so a chain from a stop ends there
+ends_there : (net : List NodeDecl) (k : ℕ) (x y : Name) → IsTrue (is_stop net x) → IsChain (StepUnder net empty) k x y → x ≡ y
+ends_there net zero x y is c = c
+ends_there net (suc k) x y is c = absurd (stuck net x c.0 is c.1)
+
+pub one_stop : (net : List NodeDecl) → IsLegalNet net → ReachOneStop net
+one_stop net legal x y z a b = go (legal_one_way_to_unit net empty legal x y z a.1.0 b.1.0 a.0 (chain_stays net legal.is_net.formed a.1.0 x y a.1.2) (chain_stays net legal.is_net.formed b.1.0 x z b.1.2))
+  where
+    go : ((d : ℕ) × (a.1.0 ≡ b.1.0 + d) × IsChain (StepUnder net empty) d z y) ⊎ ((d : ℕ) × (b.1.0 ≡ a.1.0 + d) × IsChain (StepUnder net empty) d y z) → y ≡ z
+    go (inl w) = sym (ends_there net w.0 z y b.0 w.2)
+    go (inr w) = ends_there net w.0 y z a.0 w.2
+
+pub ready : (net : List NodeDecl) (slots : Slots) (rq : Request) (at : Option ℕ) → IsLegalNet net → IsTrue (is_agent_at (slice_get net rq.agent)) → 1 ≤ rq.size → rq.base + rq.size ≤ top + 1 → IsReady (record { net = net; slots = slots; request = rq; at = at })
+ready net slots rq at legal agent some fits = record {
+  formed = formed net legal;
+  one_stop = one_stop net legal;
+  few = legal.is_net.few;
+  agent = there (slice_get net rq.agent) refl agent;
+  some = some;
+  fits = fits;
+}
+  where
+    there : (o : Option NodeDecl) → slice_get net rq.agent ≡ o → IsTrue (is_agent_at o) → rq.agent < length net
+    there None e h = cc
+    there (Some d) e h = slice_get_within net rq.agent d e
+
+-- the units of tables that fit a net are those of the net
+units_same : (set : List NodeTable) (net : List NodeDecl) (n : ℕ) → units_of set ≡ map (λ (d : NodeDecl). d.unit) net → unit_in set n ≡ unit_at net n
+units_same [] [] n e = refl
+units_same [] (d ∷ net) n e = cc
+units_same (t ∷ set) [] n e = cc
+units_same (t ∷ set) (d ∷ net) zero e = heads (units_of set) (map (λ (d : NodeDecl). d.unit) net) t.unit d.unit e
+  where
+    heads : (xs ys : List (Option UnitPart)) (a b : Option UnitPart) → a ∷ xs ≡ b ∷ ys → a ≡ b
+    heads xs ys a b p = cc
+units_same (t ∷ set) (d ∷ net) (suc n) e = units_same set net n (tails (units_of set) (map (λ (d : NodeDecl). d.unit) net) t.unit d.unit e)
+  where
+    tails : (xs ys : List (Option UnitPart)) (a b : Option UnitPart) → a ∷ xs ≡ b ∷ ys → xs ≡ ys
+    tails xs ys a b p = cc
+
+-- a slot of a unit of the net is one of the tables that fit it
+pub slot_in_set : (kinds : List Meaning) (net : List NodeDecl) (set : List NodeTable) (unit slot : ℕ) → FitsNet net kinds set → slot < slot_count (unit_at net unit) → IsTrue (has_slot set unit slot)
+slot_in_set kinds net set unit slot fits l = subst (λ (o : Option UnitPart). IsTrue (has_slot_by o slot)) (sym (units_same set net unit fits.units)) (there (unit_at net unit) l)
+  where
+    there : (o : Option UnitPart) → slot < slot_count o → IsTrue (has_slot_by o slot)
+    there None l = absurd (omega arith)
+    there (Some u) l = lt-ltb slot u.slots l

@@ -1,0 +1,94 @@
+-- Rows that give one name to each address of a stretch.
+use Rattle.std.proofs.Common.{◌≡◌, ℕ, suc, ◌+◌, ◌-◌, ◌<◌, ◌≤◌, ◌⊎◌, ◌↔◌, inl, inr, Bool, true, false, ◌&&◌, ◌||◌, nat_lt, nat_eq, List, [], ◌∷◌, map, refl, sym, ap, ◌∙◌, subst, arith, IsTrue}
+use Rattle.std.proofs.lemmas.Bool.{cases_lt, false≢true, le-ltb}
+use Rattle.dn_interval.specs.declared.row.End.{End}
+use Rattle.dn_interval.specs.declared.row.Row.{Row}
+use Rattle.dn_interval.specs.Rows.{Member, moved, end_lt, Ascending, HasEnds, Parted, Apart, GivenBy}
+use Rattle.dn_interval.proofs.Membership.{in_from, lo_of, hi_of}
+use Rattle.dn_place.specs.Rows.{InRow, GivesOnly}
+
+-- rows that stand at an address or above it give nothing before it
+pub none_before : (from : ℕ) (rows : List Row) (a : ℕ) (z : End) → Apart from rows → a < from → GivenBy rows a z → ⊥
+none_before from [] a z p l g = g
+none_before from (r ∷ rest) a z p l (inl g) = let k : r.span.lo ≤ a = lo_of r.span a g.0 in omega (arith, p.0)
+none_before from (r ∷ rest) a z p l (inr g) = none_before (suc r.span.hi) rest a z p.4 (let o : r.span.lo ≤ r.span.hi = r.span.ordered in let f : from ≤ r.span.lo = p.0 in omega arith) g
+
+-- what is given at an address of the first row, or past it
+
+pub head_gives : (from : ℕ) (r : Row) (rest : List Row) (a : ℕ) (z : End) → Apart from (r ∷ rest) → a ≤ r.span.hi → GivenBy (r ∷ rest) a z → (r.span.lo ≤ a) × Member z (map (moved (a - r.span.lo)) r.ends)
+head_gives from r rest a z p h (inl g) = (lo_of r.span a g.0, g.1)
+head_gives from r rest a z p h (inr g) = absurd (none_before (suc r.span.hi) rest a z p.4 (omega arith) g)
+
+pub rest_gives : (r : Row) (rest : List Row) (a : ℕ) (z : End) → r.span.hi < a → GivenBy (r ∷ rest) a z → GivenBy rest a z
+rest_gives r rest a z h (inl g) = let k : a ≤ r.span.hi = hi_of r.span a g.0 in absurd (omega arith)
+rest_gives r rest a z h (inr g) = g
+
+-- one name alone
+
+no_order : (x : End) → IsTrue (end_lt x x) → ⊥
+no_order x e = go (nat_lt x.node x.node) (nat_eq x.node x.node) (nat_lt x.base x.base) (le-ltb x.node x.node (omega arith)) (le-ltb x.base x.base (omega arith)) e
+  where
+    go : (a b c : Bool) → a ≡ false → c ≡ false → IsTrue (a || (b && c)) → ⊥
+    go true b c p q e = false≢true (sym p)
+    go false true c p q e = false≢true (sym q ∙ e)
+    go false false c p q e = false≢true e
+
+-- names that are one, moved on alike, are one
+same_end : (d : ℕ) (x y : End) → moved d x ≡ moved d y → x ≡ y
+same_end d x y e = go x.node x.base y.node y.base (ap (λ (z : End). z.node) e) (ap (λ (z : End). z.base) e)
+  where
+    go : (n b m c : ℕ) → n ≡ m → b + d ≡ c + d → ◌≡◌ {A = End} (record { node = n; base = b }) (record { node = m; base = c })
+    go n b m c p q = let r : b ≡ c = omega arith in cc
+
+-- ascending names that are one name are one
+pub one_end : (d : ℕ) (ends : List End) (t : End) → HasEnds ends → Ascending ends → ((z : End) → Member z (map (moved d) ends) → t ≡ z) → (e : End) × (ends ≡ e ∷ []) × (moved d e ≡ t)
+one_end d [] t h a f = absurd h
+one_end d (e ∷ []) t h a f = (e, refl, sym (f (moved d e) (inl refl)))
+one_end d (e ∷ e' ∷ es) t h a f = let same : e ≡ e' = same_end d e e' (sym (f (moved d e) (inl refl)) ∙ f (moved d e') (inr (inl refl))) in absurd (no_order e (subst (λ w. IsTrue (end_lt e w)) (sym same) a.0.0))
+
+-- a name that is given past the first row is given by the row that touches it, where it is given just there
+next_row : (from : ℕ) (s : Row) (ss : List Row) (z : End) → Apart from (s ∷ ss) → GivenBy (s ∷ ss) from z → s.span.lo ≡ from
+next_row from s ss z p (inl g) = let k : s.span.lo ≤ from = lo_of s.span from g.0 in let f : from ≤ s.span.lo = p.0 in omega arith
+next_row from s ss z p (inr g) = absurd (none_before (suc s.span.hi) ss from z p.4 (let o : s.span.lo ≤ s.span.hi = s.span.ordered in let f : from ≤ s.span.lo = p.0 in omega arith) g)
+
+-- a stretch that begins at the first row or past the rows before it, and at an address of the first row, lies in it
+pub in_head : (from : ℕ) (r : Row) (rest : List Row) (t : End) (size a : ℕ) → Apart from (r ∷ rest) → 1 ≤ size → a ≤ r.span.hi → GivesOnly (r ∷ rest) t size a → InRow r t size a
+in_head from r rest t size a p some h g = record {
+  first = one.0.base;
+  ends = one.1 ∙ ap (λ n. let x : End = record { node = n; base = one.0.base } in x ∷ []) (ap (λ (z : End). z.node) one.2);
+  base = ap (λ (z : End). z.base) one.2;
+  from = here.0;
+  to = go (cases_lt (suc r.span.hi) (a + size));
+}
+  where
+    at : (i : ℕ) → i < size → (b : ℕ) → a + i ≡ b → (z : End) → GivenBy (r ∷ rest) b z ↔ (moved i t ≡ z)
+    at i l b e z = subst (λ k. GivenBy (r ∷ rest) k z ↔ (moved i t ≡ z)) e (g i l z)
+
+    unmoved : moved 0 t ≡ t
+    unmoved = made t.node t.base
+      where
+        made : (n b : ℕ) → ◌≡◌ {A = End} (record { node = n; base = b + 0 }) (record { node = n; base = b })
+        made n b = let e : b + 0 ≡ b = omega arith in cc
+
+    here : (r.span.lo ≤ a) × Member t (map (moved (a - r.span.lo)) r.ends)
+    here = head_gives from r rest a t p h ((at 0 (omega arith) a (omega arith) t).1 unmoved)
+
+    one : (e : End) × (r.ends ≡ e ∷ []) × (moved (a - r.span.lo) e ≡ t)
+    one = one_end (a - r.span.lo) r.ends t p.1 p.2 (λ z m. sym unmoved ∙ (at 0 (omega arith) a (omega arith) z).0 (inl (in_from r.span a here.0 h, m)))
+
+    past : (rs : List Row) → Parted r rs → Apart (suc r.span.hi) rs → (i : ℕ) → i < size → a + i ≡ suc r.span.hi → ((z : End) → GivenBy rs (suc r.span.hi) z ↔ (moved i t ≡ z)) → ⊥
+    past [] q k i l e f = (f (moved i t)).1 refl
+    past (s ∷ ss) q k i l e f =
+        let starts : s.span.lo ≡ suc r.span.hi = next_row (suc r.span.hi) s ss (moved i t) k ((f (moved i t)).1 refl) in
+        let two = one_end (suc r.span.hi - s.span.lo) s.ends (moved i t) k.1 k.2 (λ z m. (f z).0 (inl (in_from s.span (suc r.span.hi) (omega arith) (let o : s.span.lo ≤ s.span.hi = s.span.ordered in omega arith), m))) in
+        q starts (two.1 ∙ ap (λ (z : End). z ∷ []) (made two.0.node two.0.base one.0.node one.0.base (ap (λ (z : End). z.node) two.2) (ap (λ (z : End). z.node) one.2) (ap (λ (z : End). z.base) two.2) (ap (λ (z : End). z.base) one.2) starts) ∙ sym (ap (map (moved (suc r.span.hi - r.span.lo))) one.1))
+      where
+        made : (n b m c : ℕ) → n ≡ t.node → m ≡ t.node → b + (suc r.span.hi - s.span.lo) ≡ t.base + i → c + (a - r.span.lo) ≡ t.base → s.span.lo ≡ suc r.span.hi → ◌≡◌ {A = End} (record { node = n; base = b }) (record { node = m; base = c + (suc r.span.hi - r.span.lo) })
+        made n b m c x y u v w = let from_here : r.span.lo ≤ a = here.0 in let k : b ≡ c + (suc r.span.hi - r.span.lo) = omega arith in let j : n ≡ m = omega arith in cc
+
+    go : (suc r.span.hi < a + size) ⊎ (a + size ≤ suc r.span.hi) → a + size ≤ suc r.span.hi
+    go (inr m) = m
+    go (inl m) =
+        let e : a + (suc r.span.hi - a) ≡ suc r.span.hi = omega arith in
+        let l : suc r.span.hi - a < size = omega arith in
+        absurd (past rest p.3 p.4 (suc r.span.hi - a) l e (λ z. ((λ x. (at (suc r.span.hi - a) l (suc r.span.hi) e z).0 (inr x)), (λ x. rest_gives r rest (suc r.span.hi) z (omega arith) ((at (suc r.span.hi - a) l (suc r.span.hi) e z).1 x)))))

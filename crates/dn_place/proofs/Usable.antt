@@ -1,0 +1,77 @@
+-- What a hop meets in a slot, and what a placement asks of it.
+use Rattle.std.proofs.Common.{◌≡◌, ℕ, ◌+◌, ◌-◌, ◌/◌, ◌^◌, Bool, true, false, not, if◌then◌else◌, ◌&&◌, ◌==◌, nat_eq, Option, Some, None, IsTrue, refl, sym, ap, ◌∙◌, subst, eq-eqb, eqb-true}
+use Rattle.std.proofs.lemmas.Bool.{false≢true, and_parts, and_from}
+use Rattle.dn_net.specs.declared.node.Unit.{Unit as UnitPart}
+use Rattle.dn_kind.specs.declared.unit_kind.Record.{Record}
+use Rattle.dn_kind.specs.Rights.{both_rights}
+use Rattle.dn_tables.specs.declared.placement.Hop.{Hop}
+use Rattle.dn_placement.specs.Placement.{IsUsable, is_free, is_shared}
+use Rattle.dn_placement.specs.Records.{slot_record}
+use Rattle.dn_placement.specs.Slots.{Slots}
+use Rattle.dn_place.specs.declared.slot.Slot.{Slot}
+use Rattle.dn_place.specs.declared.slot.Slot.TheVariants.{Free, Shared, Barred}
+use Rattle.dn_place.specs.Slots.{is_free_slot, is_usable_slot, shared_by, slot_of}
+
+-- a slot that a hop may take is usable
+pub usable_is : (slots : Slots) (u : UnitPart) (hop : Hop) (slot : ℕ) → IsUsable slots u hop slot → IsTrue (is_usable_slot hop.port (hop.y / 2 ^ u.page + (slot - hop.x / 2 ^ u.page)) (slot_of slots hop.unit slot))
+usable_is slots u hop slot (is_free f) = subst (λ b. IsTrue (is_usable_slot hop.port (hop.y / 2 ^ u.page + (slot - hop.x / 2 ^ u.page)) (if b then Free else shared_by (slots.has_owner hop.unit slot) (slots.held hop.unit slot)))) (sym f) refl
+usable_is slots u hop slot (is_shared h o) = go (slots.is_free hop.unit slot)
+  where
+    page : ℕ
+    page = hop.y / 2 ^ u.page + (slot - hop.x / 2 ^ u.page)
+
+    unowned : (b : Bool) → IsTrue (not b) → b ≡ false
+    unowned true p = absurd (false≢true p)
+    unowned false p = refl
+
+    shared : shared_by (slots.has_owner hop.unit slot) (slots.held hop.unit slot) ≡ Shared (slot_record u both_rights hop slot)
+    shared = ap (λ b. shared_by b (slots.held hop.unit slot)) (unowned (slots.has_owner hop.unit slot) o) ∙ ap (shared_by false) h
+
+    same : IsTrue (is_usable_slot hop.port page (Shared (slot_record u both_rights hop slot)))
+    same = and_from (nat_eq hop.port hop.port) (nat_eq page page) (eq-eqb hop.port hop.port refl) (eq-eqb page page refl)
+
+    go : (b : Bool) → IsTrue (is_usable_slot hop.port page (if b then Free else shared_by (slots.has_owner hop.unit slot) (slots.held hop.unit slot)))
+    go true = refl
+    go false = subst (λ (f : Slot). IsTrue (is_usable_slot hop.port page f)) (sym shared) same
+
+-- and a slot that is usable may be taken
+pub is_usable : (slots : Slots) (u : UnitPart) (hop : Hop) (slot : ℕ) → IsTrue (is_usable_slot hop.port (hop.y / 2 ^ u.page + (slot - hop.x / 2 ^ u.page)) (slot_of slots hop.unit slot)) → IsUsable slots u hop slot
+is_usable slots u hop slot usable = go (slots.is_free hop.unit slot) refl usable
+  where
+    page : ℕ
+    page = hop.y / 2 ^ u.page + (slot - hop.x / 2 ^ u.page)
+
+    made : (p q g h a b : ℕ) → p ≡ q → g ≡ h → a ≡ b → ◌≡◌ {A = Record} (record { port = p; page = g; rights = record { 0 = a } }) (record { port = q; page = h; rights = record { 0 = b } })
+    made p q g h a b x y z = cc
+
+    shared : (o : Bool) (r : Option Record) → slots.has_owner hop.unit slot ≡ o → slots.held hop.unit slot ≡ r → IsTrue (is_usable_slot hop.port page (shared_by o r)) → IsUsable slots u hop slot
+    shared o None e f g = absurd (false≢true g)
+    shared true (Some r) e f g = absurd (false≢true g)
+    shared false (Some r) e f g = both (r.rights.0 == 3) refl g
+      where
+        both : (b : Bool) → (r.rights.0 == 3) ≡ b → IsTrue (is_usable_slot hop.port page (if b then Shared r else Barred)) → IsUsable slots u hop slot
+        both false p q = absurd (false≢true q)
+        both true p q =
+            let w = and_parts (nat_eq r.port hop.port) (nat_eq r.page page) q in
+            let same : r ≡ slot_record u both_rights hop slot = made r.port hop.port r.page page r.rights.0 3 (eqb-true r.port hop.port w.0) (eqb-true r.page page w.1) (eqb-true r.rights.0 3 p) in
+            is_shared (f ∙ ap (λ (x : Record). Some x) same) (ap not e)
+
+    go : (b : Bool) → slots.is_free hop.unit slot ≡ b → IsTrue (is_usable_slot hop.port page (if b then Free else shared_by (slots.has_owner hop.unit slot) (slots.held hop.unit slot))) → IsUsable slots u hop slot
+    go true e g = is_free e
+    go false e g = shared (slots.has_owner hop.unit slot) (slots.held hop.unit slot) refl refl g
+
+-- what is met in a slot that is free, and in no other, is a free slot
+pub free_is : (slots : Slots) (unit slot : ℕ) → is_free_slot (slot_of slots unit slot) ≡ slots.is_free unit slot
+free_is slots unit slot = go (slots.is_free unit slot) refl
+  where
+    shared : (o : Bool) (r : Option Record) → is_free_slot (shared_by o r) ≡ false
+    shared o None = refl
+    shared o (Some r) = by (not o && (r.rights.0 == 3))
+      where
+        by : (b : Bool) → is_free_slot (if b then Shared r else Barred) ≡ false
+        by true = refl
+        by false = refl
+
+    go : (b : Bool) → slots.is_free unit slot ≡ b → is_free_slot (if b then Free else shared_by (slots.has_owner unit slot) (slots.held unit slot)) ≡ b
+    go true e = refl
+    go false e = shared (slots.has_owner unit slot) (slots.held unit slot)

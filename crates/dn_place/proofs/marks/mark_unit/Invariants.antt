@@ -1,0 +1,6 @@
+use Rattle.std.proofs.Common.{ℕ, ◌<◌, get_or}
+use Rattle.dn_place.specs.Marks.{Keeps, Marks}
+use Rattle.dn_place.proofs.marks.mark_unit.Given as goal
+
+abbrev pub invariant-loop-port : goal.invariant-loop-port
+invariant-loop-port g l = record { keeps : Keeps l.initial.marks l.marks; done : (k : ℕ) → k < l.port-index → Marks (g.Q.Quest.sought l.quest).net (get_or l.port-items k 0) l.marks }

@@ -1,0 +1,54 @@
+-- What a hop meets in the slots of a unit.
+use Rattle.std.specs.Prelude.{◌≡◌, ℕ, ◌+◌, ◌-◌, ◌/◌, ◌%◌, ◌^◌, ◌<◌, ◌≤◌, Bool, true, false, not, if◌then◌else◌, ◌&&◌, ◌==◌, nat_eq, Option, Some, None, IsTrue}
+use Rattle.dn_net.specs.declared.node.Unit.{Unit as UnitPart}
+use Rattle.dn_kind.specs.declared.unit_kind.Record.{Record}
+use Rattle.dn_tables.specs.declared.placement.Hop.{Hop}
+use Rattle.dn_placement.specs.Slots.{Slots}
+use Rattle.dn_place.specs.declared.slot.Slot.{Slot}
+use Rattle.dn_place.specs.declared.slot.Slot.TheVariants.{Free, Shared, Barred}
+use Rattle.dn_place.specs.Sought.{Sought}
+
+-- a slot that is not free: its record may be shared where it has both rights and the slot no owner
+abbrev pub shared_by : Bool → Option Record → Slot
+shared_by owned None = Barred
+shared_by owned (Some r) = if not owned && (r.rights.0 == 3) then Shared r else Barred
+
+-- what a hop meets in a slot
+abbrev pub slot_of : Slots → ℕ → ℕ → Slot
+slot_of slots unit slot =
+    if slots.is_free unit slot then Free
+    else shared_by (slots.has_owner unit slot) (slots.held unit slot)
+
+-- the slot is free
+abbrev pub is_free_slot : Slot → Bool
+is_free_slot Free = true
+is_free_slot (Shared r) = false
+is_free_slot Barred = false
+
+-- the slot is free, or has this record and may be shared
+abbrev pub is_usable_slot : ℕ → ℕ → Slot → Bool
+is_usable_slot port page Free = true
+is_usable_slot port page (Shared r) = nat_eq r.port port && nat_eq r.page page
+is_usable_slot port page Barred = false
+
+-- each slot from a first to a last one is usable for the pages of a port from a first one on
+abbrev pub AreUsable : Slots → ℕ → ℕ → ℕ → ℕ → ℕ → Type 0
+AreUsable slots unit first last port page = (slot : ℕ) → first ≤ slot → slot ≤ last →
+    IsTrue (is_usable_slot port (page + (slot - first)) (slot_of slots unit slot))
+
+-- each slot from a first to a last one is free
+abbrev pub AreFree : Slots → ℕ → ℕ → ℕ → Type 0
+AreFree slots unit first last = (slot : ℕ) → first ≤ slot → slot ≤ last →
+    IsTrue (is_free_slot (slot_of slots unit slot))
+
+-- no hop that begins in a slot from a first one on, and before another, can take a slot for the pages
+-- of a port that it would meet there
+abbrev pub AreShut : Slot → ℕ → ℕ → ℕ → ℕ → ℕ → Type 0
+AreShut found slot first to port page = (q : ℕ) → first ≤ q → q < to →
+    IsTrue (is_usable_slot port (page + (slot - q)) found) → ⊥
+
+-- no input from the hop's on and before another, in its place in a slot, finds its slots usable
+abbrev pub AreBarred : Sought → UnitPart → Hop → ℕ → Type 0
+AreBarred s u hop to = (x : ℕ) → hop.x ≤ x → x < to → x % 2 ^ u.page ≡ hop.x % 2 ^ u.page →
+    AreUsable s.slots hop.unit (x / 2 ^ u.page) ((x + s.request.size - 1) / 2 ^ u.page) hop.port
+    (hop.y / 2 ^ u.page) → ⊥

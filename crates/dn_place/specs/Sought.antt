@@ -1,0 +1,55 @@
+-- What the search looks for and where, and what it asks of that.
+use Rattle.std.specs.Prelude.{◌≡◌, ℕ, ◌+◌, ◌<◌, ◌≤◌, false, List, [], length, slice_get, Option, Some, None}
+use Rattle.dn_net.specs.declared.node.Name.{Name}
+use Rattle.dn_net.specs.declared.node.NodeDecl.{NodeDecl}
+use Rattle.dn_net.specs.declared.node.Unit.{Unit as UnitPart}
+use Rattle.dn_net.specs.Decode.{top, unit_at, StopsAt}
+use Rattle.dn_kind.specs.Rights.{both_rights}
+use Rattle.dn_placement.specs.declared.request.Request.{Request}
+use Rattle.dn_placement.specs.Slots.{Slots}
+
+-- a net with the slots of its units, a request, and the address that is asked for, where one is
+pub record Sought : Type 0 where
+  pub net : List NodeDecl
+  pub slots : Slots
+  pub request : Request
+  pub at : Option ℕ
+
+-- the bounds of a unit: of its page, slots, reach and ports, and its ports are nodes that are there
+pub record IsFormed (net : List NodeDecl) (u : UnitPart) : Type 0 where
+  pub page : u.page ≤ 40
+  pub few : u.slots ≤ 262144
+  pub reach : u.reach ≤ 56
+  pub ports : length u.ports ≤ 8
+  pub there : (port node : ℕ) → slice_get u.ports port ≡ Some node → node < length net
+
+-- each unit keeps its bounds
+abbrev pub AreFormed : List NodeDecl → Type 0
+AreFormed net = (node : ℕ) (u : UnitPart) → unit_at net node ≡ Some u → IsFormed net u
+
+-- a name reaches one stop at most
+abbrev pub ReachOneStop : List NodeDecl → Type 0
+ReachOneStop net = (x y z : Name) → StopsAt net x y → StopsAt net x z → y ≡ z
+
+-- what the search asks
+pub record IsReady (s : Sought) : Type 0 where
+  pub formed : AreFormed s.net
+  pub one_stop : ReachOneStop s.net
+  pub few : length s.net ≤ 1024
+  pub agent : s.request.agent < length s.net
+  pub some : 1 ≤ s.request.size
+  pub fits : s.request.base + s.request.size ≤ top + 1
+
+-- how many slots a node has, where it is this unit, or none
+abbrev pub slot_count : Option UnitPart → ℕ
+slot_count None = 0
+slot_count (Some u) = u.slots
+
+-- nothing is looked for
+abbrev pub nothing : Sought
+nothing = record {
+  net = [];
+  slots = record { held = λ unit slot. None; is_free = λ unit slot. false; has_owner = λ unit slot. false };
+  request = record { agent = 0; node = 0; base = 0; size = 0; rights = both_rights };
+  at = None;
+}

@@ -1,0 +1,82 @@
+//! A platform on which slots and placements are tested by functions that are handed in.
+
+use crate::hops::Hops;
+use crate::quest::Quest;
+use crate::slot::Slot;
+use dn_base::OutOfMemory;
+use dn_flat::flat::Flat;
+use dn_flat::flats::Flats;
+use dn_net::net::Net;
+use dn_net::node::Unit;
+use dn_placement::request::Request;
+use std::marker::{Brand, PhantomData};
+
+/// What is looked for, and where, as contracts see it: no code holds it.
+pub(crate) trait Aim {
+    ghost use Rattle.dn_place.specs.Sought.{Sought};
+
+    ghost sought: { Sought };
+}
+
+impl Aim for Brand {
+    ghost use Rattle.dn_place.specs.Sought.{nothing};
+
+    ghost sought = { nothing };
+}
+
+/// A request, and the platform on which a placement of it is looked for.
+#[derive(Drop)]
+pub(crate) struct Platform<'a, A, F, E> {
+    pub(crate) net: &'a Net,
+    pub(crate) flats: &'a Flats,
+    pub(crate) request: Request,
+    pub(crate) at: Option<u64>,
+    /// What a hop meets in a slot of a unit.
+    pub(crate) met: F,
+    /// Whether the placement at an address of the agent, with these hops and this own one, is
+    /// admissible.
+    pub(crate) exact: E,
+    pub(crate) aim: PhantomData<A>,
+}
+
+impl<
+    'a,
+    A: Aim,
+    F: Fn(u16, u32) -> Slot + Drop,
+    E: Fn(u64, Hops, u8) -> Result<bool, OutOfMemory> + Drop,
+> Quest for Platform<'a, A, F, E> {
+    ghost use Rattle.dn_place.specs.Platforms.{IsPlatform};
+
+    ghost sought = { λ _. A.sought };
+
+    ghost is_sound = { λ s. IsPlatform s.net.now s.flats.now s.request s.at
+        (F.pre s.met) (F.post s.met) (E.pre s.exact) (E.post s.exact) A.sought };
+
+    fn request(&self) -> Request {
+        self.request
+    }
+
+    fn at(&self) -> Option<u64> {
+        self.at
+    }
+
+    fn nodes(&self) -> u16 {
+        self.net.nodes()
+    }
+
+    fn unit(&self, node: u16) -> Option<&Unit> {
+        self.net.unit(node)
+    }
+
+    fn flat(&self, node: u16) -> &Flat {
+        self.flats.of(node)
+    }
+
+    fn slot(&self, unit: u16, slot: u32) -> Slot {
+        (self.met)(unit, slot)
+    }
+
+    fn is_exact(&self, v: u64, hops: Hops, own: u8) -> Result<bool, OutOfMemory> {
+        (self.exact)(v, hops, own)
+    }
+}

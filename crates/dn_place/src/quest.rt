@@ -1,0 +1,88 @@
+//! What the search asks of a request and of the platform on which it is made.
+
+ghost use Rattle.std.specs.Prelude.{◌≡◌, IfSome, IfNone, Some, None};
+ghost use Rattle.dn_net.specs.Decode.{unit_at};
+ghost use Rattle.dn_place.specs.Sought.{IsFormed, IsReady};
+
+use crate::hops::Hops;
+use crate::slot::Slot;
+use dn_base::OutOfMemory;
+use dn_flat::flat::Flat;
+use dn_net::node::Unit;
+use dn_placement::request::Request;
+
+/// A request, and the platform on which a placement of it is looked for.
+pub(crate) trait Quest {
+    ghost use Rattle.std.specs.Prelude.{◌≡◌, ◌<◌, ◌↔◌, length, IfOk, IsTrue};
+    ghost use Rattle.std.specs.Option.{option_copied};
+    ghost use Rattle.dn_net.specs.Decode.{unit_at};
+    ghost use Rattle.dn_flat.specs.Stages.{IsFlat};
+    ghost use Rattle.dn_placement.specs.Exposure.{IsAdmissible};
+    ghost use Rattle.dn_placement.specs.Placement.{IsPlacement};
+    ghost use Rattle.dn_place.specs.Hops.{hops_of};
+    ghost use Rattle.dn_place.specs.Slots.{slot_of};
+    ghost use Rattle.dn_place.specs.Sought.{Sought, slot_count};
+
+    /// What is looked for, and where.
+    ghost sought: { Self → Sought };
+
+    /// The parts of the platform fit one another.
+    ghost is_sound: { Self → Type 0 };
+
+    /// The request.
+    fn request(&self) -> Request
+        requires { is_sound self.now }
+        ensures { result ≡ (sought self.now).request };
+
+    /// The address of the agent that is asked for, if one is.
+    fn at(&self) -> Option<u64>
+        requires { is_sound self.now }
+        ensures { result ≡ (sought self.now).at };
+
+    /// How many nodes the net has.
+    fn nodes(&self) -> u16
+        requires { is_sound self.now }
+        ensures { result ≡ length (sought self.now).net };
+
+    /// The unit that a node is, if it is one.
+    fn unit(&self, node: u16) -> Option<&Unit>
+        requires sound { is_sound self.now }
+        requires there { node < length (sought self.now).net }
+        ensures { option_copied result ≡ unit_at (sought self.now).net node };
+
+    /// What the addresses of a node come to.
+    fn flat(&self, node: u16) -> &Flat
+        requires sound { is_sound self.now }
+        requires there { node < length (sought self.now).net }
+        ensures { IsFlat (sought self.now).net node result.now };
+
+    /// What a hop meets in a slot.
+    fn slot(&self, unit: u16, slot: u32) -> Slot
+        requires sound { is_sound self.now }
+        requires there { slot < slot_count (unit_at (sought self.now).net unit) }
+        ensures { result ≡ slot_of (sought self.now).slots unit slot };
+
+    /// Whether the placement with these hops is admissible.
+    fn is_exact(&self, v: u64, hops: Hops, own: u8) -> Result<bool, OutOfMemory>
+        requires sound { is_sound self.now }
+        requires placed { IsPlacement (sought self.now).net (sought self.now).slots
+            (sought self.now).request (record { v = v; hops = hops_of hops; own = own }) }
+        ensures { IfOk result (λ yes. IsTrue yes ↔ IsAdmissible (sought self.now).net
+            (sought self.now).slots.held (sought self.now).request
+            (record { v = v; hops = hops_of hops; own = own })) };
+}
+
+/// The unit of a node, if it is one.
+pub(crate) fn unit_of<Q: Quest>(quest: &Q, node: u16) -> Option<&Unit>
+    requires sound { Q.is_sound quest.now }
+    requires ready { IsReady (Q.sought quest.now) }
+    ensures some { IfSome result (λ u. unit_at (Q.sought quest.now).net node ≡ Some u.now) }
+    ensures formed { IfSome result (λ u. IsFormed (Q.sought quest.now).net u.now) }
+    ensures none { IfNone result (unit_at (Q.sought quest.now).net node ≡ None) }
+{
+    if node < quest.nodes() {
+        quest.unit(node)
+    } else {
+        None
+    }
+}

@@ -1,0 +1,164 @@
+//! The slots of a hop.
+
+ghost use Rattle.std.specs.Prelude.{◌≡◌, ◌<◌, ◌≤◌, ◌+◌, ◌-◌, ◌*◌, ◌/◌, ◌%◌, ◌^◌, IsTrue, ◌↔◌, IfSome, IfNone, false};
+ghost use Rattle.dn_net.specs.Decode.{unit_at};
+ghost use Rattle.dn_place.specs.Slots.{AreBarred, AreFree, AreShut, AreUsable, is_free_slot, is_usable_slot, slot_of};
+ghost use Rattle.dn_place.specs.Sought.{IsReady, slot_count};
+
+use crate::quest::Quest;
+use crate::slot::Slot;
+use dn_net::node::Unit;
+use dn_tables::placement::Hop;
+
+/// Whether a slot is free, or has this record and may be shared.
+fn is_usable_slot(slot: Slot, port: u8, page: u64) -> bool
+    ensures { result ≡ is_usable_slot port page slot }
+{
+    match slot {
+        Slot::Free => true,
+        Slot::Shared(record) => record.port == port && record.page == page,
+        Slot::Barred => false,
+    }
+}
+
+/// Whether a slot is free.
+fn is_free_slot(slot: Slot) -> bool
+    ensures { result ≡ is_free_slot slot }
+{
+    match slot {
+        Slot::Free => true,
+        Slot::Shared(_) => false,
+        Slot::Barred => false,
+    }
+}
+
+/// Whether the slots are free.
+fn are_free<Q: Quest>(quest: &Q, unit: u16, first: u32, last: u32) -> bool
+    requires sound { Q.is_sound quest.now }
+    requires ordered { first ≤ last }
+    requires within { last < slot_count (unit_at (Q.sought quest.now).net unit) }
+    requires few { last < 262144 }
+    ensures { IsTrue result ↔ AreFree (Q.sought quest.now).slots unit first last }
+{
+    for slot in first..last + 1 {
+        if !is_free_slot(quest.slot(unit, slot)) {
+            return false;
+        }
+    }
+    true
+}
+
+/// The last of the slots that is not usable for the pages of a port, the first of which is for the
+/// first slot. None where all are usable.
+fn last_unusable<Q: Quest>(
+    quest: &Q,
+    unit: u16,
+    first: u32,
+    last: u32,
+    port: u8,
+    page: u64,
+) -> Option<u32>
+    requires sound { Q.is_sound quest.now }
+    requires ordered { first ≤ last }
+    requires within { last < slot_count (unit_at (Q.sought quest.now).net unit) }
+    requires few { last < 262144 }
+    requires page { page < 2 ^ 60 }
+    ensures past { IfSome result (λ slot. first ≤ slot) }
+    ensures up_to { IfSome result (λ slot. slot ≤ last) }
+    ensures unusable { IfSome result (λ slot. is_usable_slot port (page + (slot - first))
+        (slot_of (Q.sought quest.now).slots unit slot) ≡ false) }
+    ensures none { IfNone result (AreUsable (Q.sought quest.now).slots unit first last port page) }
+{
+    let mut end = last + 1;
+    'slots: while first < end {
+        end -= 1;
+        if !is_usable_slot(quest.slot(unit, end), port, page + u64::from(end - first)) {
+            return Some(end);
+        }
+    }
+    None
+}
+
+/// The first slot past this one from which a hop can go on, where another slot is not usable for the
+/// pages of a port whose first is for the first slot: a hop finds it usable only where it meets it
+/// for the page of its record.
+fn past_slot(found: Slot, slot: u32, first: u32, port: u8, page: u64) -> u32
+    requires ordered { first ≤ slot }
+    requires few { slot < 262144 }
+    requires unusable { is_usable_slot port (page + (slot - first)) found ≡ false }
+    ensures onward { first < result }
+    ensures most { result ≤ slot + 1 }
+    ensures shut { AreShut found slot first result port page }
+{
+    match found {
+        Slot::Free => slot + 1,
+        Slot::Shared(record) => {
+            if record.port == port
+                && page <= record.page
+                && record.page - page < u64::from(slot - first)
+            {
+                slot - (record.page - page) as u32
+            } else {
+                slot + 1
+            }
+        }
+        Slot::Barred => slot + 1,
+    }
+}
+
+/// Two to a power.
+pub(crate) fn power(exponent: u8) -> u64
+    requires { exponent ≤ 56 }
+    ensures { result ≡ 2 ^ exponent }
+{
+    1u64 << exponent
+}
+
+/// Whether the slots of a hop are free.
+pub(crate) fn is_hop_free<Q: Quest>(quest: &Q, translator: &Unit, hop: Hop) -> bool
+    requires sound { Q.is_sound quest.now }
+    requires ready { IsReady (Q.sought quest.now) }
+    requires unit { unit_at (Q.sought quest.now).net hop.unit ≡ Some translator.now }
+    requires within { hop.x + (Q.sought quest.now).request.size
+        ≤ translator.now.slots * 2 ^ translator.now.page }
+    ensures { IsTrue result ↔ AreFree (Q.sought quest.now).slots hop.unit
+        (hop.x / 2 ^ translator.now.page)
+        ((hop.x + (Q.sought quest.now).request.size - 1) / 2 ^ translator.now.page) }
+{
+    let page = power(translator.page);
+    let first = (hop.x / page) as u32;
+    let last = ((hop.x + quest.request().size - 1) / page) as u32;
+    are_free(quest, hop.unit, first, last)
+}
+
+/// The first input of a unit from the hop's on, in its place in a slot, that may find its slots
+/// usable. Where it is the hop's own, it does.
+pub(crate) fn next_input<Q: Quest>(quest: &Q, translator: &Unit, hop: Hop) -> u64
+    requires sound { Q.is_sound quest.now }
+    requires ready { IsReady (Q.sought quest.now) }
+    requires unit { unit_at (Q.sought quest.now).net hop.unit ≡ Some translator.now }
+    requires within { hop.x + (Q.sought quest.now).request.size
+        ≤ translator.now.slots * 2 ^ translator.now.page }
+    requires reached { hop.y + (Q.sought quest.now).request.size ≤ 2 ^ translator.now.reach }
+    ensures onward { hop.x ≤ result }
+    ensures agree { result % 2 ^ translator.now.page ≡ hop.x % 2 ^ translator.now.page }
+    ensures few { result ≤ 2 ^ 59 }
+    ensures barred { AreBarred (Q.sought quest.now) translator.now hop result }
+    ensures usable { result ≡ hop.x → AreUsable (Q.sought quest.now).slots hop.unit
+        (hop.x / 2 ^ translator.now.page)
+        ((hop.x + (Q.sought quest.now).request.size - 1) / 2 ^ translator.now.page)
+        hop.port (hop.y / 2 ^ translator.now.page) }
+{
+    let page = power(translator.page);
+    let first = (hop.x / page) as u32;
+    let last = ((hop.x + quest.request().size - 1) / page) as u32;
+    let output = hop.y / page;
+    match last_unusable(quest, hop.unit, first, last, hop.port, output) {
+        Some(slot) => {
+            let found = quest.slot(hop.unit, slot);
+            let next = past_slot(found, slot, first, hop.port, output);
+            u64::from(next) * page + hop.x % page
+        }
+        None => hop.x,
+    }
+}

@@ -1,0 +1,55 @@
+//! What a set of tables says of slots and of placements.
+
+ghost use Rattle.std.specs.Prelude.{◌≡◌, ◌↔◌, IfOk, IsTrue, false, map};
+ghost use Rattle.std.specs.List.{All};
+ghost use Rattle.dn_kind.specs.Kind.{IsLawful};
+ghost use Rattle.dn_tables.specs.Set.{fits_kinds, has_slot};
+ghost use Rattle.dn_placement.specs.Slots.{is_zero_slot, slots_of_set};
+ghost use Rattle.dn_place.specs.Slots.{shared_by, slot_of};
+
+use crate::slot::Slot;
+use dn_kind::kinds::Kinds;
+use dn_kind::rights::Rights;
+use dn_kind::unit_kind::Record;
+use dn_tables::set::TableSet;
+
+/// What a hop meets in a slot of a set of tables.
+pub(crate) fn slot_at(kinds: &Kinds, tables: &TableSet, unit: u16, slot: u32) -> Slot
+    requires lawful { All (λ k. IsLawful (meaning (k.vtable, k.value))) kinds.now.list.items }
+    requires fits { IsTrue (fits_kinds (map (λ k. meaning (k.vtable, k.value)) kinds.now.list.items) tables.now) }
+    requires there { IsTrue (has_slot tables.now unit slot) }
+    ensures { result ≡ slot_of (slots_of_set
+        (map (λ k. meaning (k.vtable, k.value)) kinds.now.list.items) tables.now) unit slot }
+{
+    if tables.uses_at(unit, slot) == 0 && has_zero_words(tables, unit, slot) {
+        return Slot::Free;
+    }
+    if tables.owner_at(unit, slot).is_some() {
+        return Slot::Barred;
+    }
+    shared_by(tables.record_at(kinds, unit, slot))
+}
+
+/// The record of a slot that has no owner, where a hop may share it.
+fn shared_by(record: Option<Record>) -> Slot
+    ensures { result ≡ shared_by false «record» }
+{
+    match record {
+        Some(record) => {
+            if record.rights == Rights::both() {
+                Slot::Shared(record)
+            } else {
+                Slot::Barred
+            }
+        }
+        None => Slot::Barred,
+    }
+}
+
+/// Whether the words of a slot are 0.
+fn has_zero_words(tables: &TableSet, unit: u16, slot: u32) -> bool
+    requires there { IsTrue (has_slot tables.now unit slot) }
+    ensures { result ≡ is_zero_slot tables.now unit slot }
+{
+    tables.slot_words(unit, slot).iter().all(|word| *word == 0)
+}

@@ -1,0 +1,168 @@
+//! The search among the placements whose hops are all chosen: the agent's address, and the own hop.
+
+ghost use Rattle.std.specs.Prelude.{◌≡◌, ◌+◌, ◌<◌, ◌≤◌, ◌↔◌, false, Some, IfOk, IfSome, IfNone, IsTrue, length};
+ghost use Rattle.dn_net.specs.Decode.{top};
+ghost use Rattle.dn_placement.specs.Order.{IsAt, hop_page};
+ghost use Rattle.dn_placement.specs.Placement.{Leads, Meets};
+ghost use Rattle.dn_place.specs.Candidates.{Answers, CanOwn, IsChosen, PagesBelow, PagesFrom, ending, to_address, to_page};
+ghost use Rattle.dn_place.specs.Hops.{hops_of};
+ghost use Rattle.dn_place.specs.Sought.{IsReady};
+
+use crate::hops::Hops;
+use crate::quest::{Quest, unit_of};
+use crate::rows::{is_clear, output, rows_toward, wanted};
+use crate::slots::is_hop_free;
+use dn_base::OutOfMemory;
+use dn_tables::placement::{Hop, Placement};
+use std::alloc::Global;
+
+/// The first placement of just these hops: each row of the agent that gives the input of the first
+/// hop fixes one address.
+pub(crate) fn by_agent<Q: Quest>(
+    alloc: Global,
+    quest: &Q,
+    hops: Hops,
+) -> Result<Option<Placement>, OutOfMemory>
+    requires sound { Q.is_sound quest.now }
+    requires ready { IsReady (Q.sought quest.now) }
+    requires chosen { IsChosen (Q.sought quest.now) (length (hops_of hops)) (hops_of hops) }
+    requires some { 1 ≤ length (hops_of hops) }
+    ensures { IfOk result (λ found. Answers (Q.sought quest.now)
+        (ending (length (hops_of hops)) (hops_of hops)) found) }
+{
+    let flat = quest.flat(quest.request().agent);
+    let size = quest.request().size;
+    let target = wanted(quest.request(), hops);
+    'rows: for row in rows_toward(flat, hops) {
+        if let Some(v) = output(row, target, size) {
+            if is_at(quest.at(), v) {
+                if let Some(placement) = by_address(alloc, quest, hops, v)? {
+                    return Ok(Some(placement));
+                }
+            }
+        }
+    }
+    Ok(None)
+}
+
+/// Whether the address is the one that is asked for, if one is.
+fn is_at(at: Option<u64>, v: u64) -> bool
+    ensures { IsTrue result ↔ IsAt at v }
+{
+    match at {
+        Some(at) => at == v,
+        None => true,
+    }
+}
+
+/// The same at an address of the agent: the own hop with the smaller page first.
+fn by_address<Q: Quest>(
+    alloc: Global,
+    quest: &Q,
+    hops: Hops,
+    v: u64,
+) -> Result<Option<Placement>, OutOfMemory>
+    requires sound { Q.is_sound quest.now }
+    requires ready { IsReady (Q.sought quest.now) }
+    requires chosen { IsChosen (Q.sought quest.now) (length (hops_of hops)) (hops_of hops) }
+    requires some { 1 ≤ length (hops_of hops) }
+    requires fits { v + (Q.sought quest.now).request.size ≤ top + 1 }
+    requires at { IsAt (Q.sought quest.now).at v }
+    requires meets { Meets (Q.sought quest.now).net (Q.sought quest.now).request
+        (Q.sought quest.now).request.agent v (hops_of hops) }
+    ensures { IfOk result (λ found. Answers (Q.sought quest.now)
+        (to_address (length (hops_of hops)) (hops_of hops) v) found) }
+{
+    let mut from = 0;
+    'pages: while let Some(page) = page_from(quest, hops, from) {
+        if let Some(placement) = by_page(alloc, quest, hops, v, page)? {
+            return Ok(Some(placement));
+        }
+        from = page + 1;
+    }
+    Ok(None)
+}
+
+/// The same with an own hop of this page: the one nearer memory first.
+fn by_page<Q: Quest>(
+    alloc: Global,
+    quest: &Q,
+    hops: Hops,
+    v: u64,
+    page: u8,
+) -> Result<Option<Placement>, OutOfMemory>
+    requires sound { Q.is_sound quest.now }
+    requires ready { IsReady (Q.sought quest.now) }
+    requires chosen { IsChosen (Q.sought quest.now) (length (hops_of hops)) (hops_of hops) }
+    requires some { 1 ≤ length (hops_of hops) }
+    requires fits { v + (Q.sought quest.now).request.size ≤ top + 1 }
+    requires at { IsAt (Q.sought quest.now).at v }
+    requires meets { Meets (Q.sought quest.now).net (Q.sought quest.now).request
+        (Q.sought quest.now).request.agent v (hops_of hops) }
+    ensures { IfOk result (λ found. Answers (Q.sought quest.now)
+        (to_page (length (hops_of hops)) (hops_of hops) v page) found) }
+{
+    let count = hops.count();
+    for back in 1..count + 1 {
+        let own = count - back;
+        if can_own(quest, hops, own, page) {
+            if quest.is_exact(v, hops, own)? {
+                return Ok(Some(hops.placed(alloc, v, own)));
+            }
+        }
+    }
+    Ok(None)
+}
+
+/// Whether the hop has the page, and its slots are free.
+fn can_own<Q: Quest>(quest: &Q, hops: Hops, own: u8, page: u8) -> bool
+    requires sound { Q.is_sound quest.now }
+    requires ready { IsReady (Q.sought quest.now) }
+    requires leads { Leads (Q.sought quest.now).net (Q.sought quest.now).slots
+        (Q.sought quest.now).request (hops_of hops) }
+    ensures yes { IsTrue result → CanOwn (Q.sought quest.now) (hops_of hops) own page }
+    ensures no { result ≡ false → CanOwn (Q.sought quest.now) (hops_of hops) own page → ⊥ }
+{
+    let Some(hop) = hops.at(own) else {
+        return false;
+    };
+    let Some(translator) = unit_of(quest, hop.unit) else {
+        return false;
+    };
+    translator.page == page && is_hop_free(quest, translator, hop)
+}
+
+/// The page of a hop's unit, or 0.
+fn page_of<Q: Quest>(quest: &Q, hop: Hop) -> u8
+    requires sound { Q.is_sound quest.now }
+    requires ready { IsReady (Q.sought quest.now) }
+    ensures page { result ≡ hop_page (Q.sought quest.now).net (Some hop) }
+    ensures most { result ≤ 40 }
+{
+    match unit_of(quest, hop.unit) {
+        Some(translator) => translator.page,
+        None => 0,
+    }
+}
+
+/// The least page of the hops that is at least this one. None where all are below.
+fn page_from<Q: Quest>(quest: &Q, hops: Hops, from: u8) -> Option<u8>
+    requires sound { Q.is_sound quest.now }
+    requires ready { IsReady (Q.sought quest.now) }
+    requires few { from ≤ 41 }
+    ensures past { IfSome result (λ page. from ≤ page) }
+    ensures most { IfSome result (λ page. page ≤ 40) }
+    ensures between { IfSome result (λ page. PagesFrom (Q.sought quest.now) (hops_of hops) from page) }
+    ensures none { IfNone result (PagesBelow (Q.sought quest.now) (hops_of hops) from) }
+{
+    let mut best = 41;
+    for i in 0..hops.count() {
+        if let Some(hop) = hops.at(i) {
+            let page = page_of(quest, hop);
+            if from <= page && page < best {
+                best = page;
+            }
+        }
+    }
+    if best == 41 { None } else { Some(best) }
+}
