@@ -1,0 +1,90 @@
+-- What is known of a request for which no refusal holds.
+use Rattle.std.proofs.Common.{◌≡◌, refl, ℕ, ◌+◌, ◌<◌, ◌≤◌, Bool, true, false, if◌then◌else◌, not, nat_le, List, length, slice_get, Option, Some, None, Result, Err, IsTrue}
+use Rattle.std.proofs.lemmas.Bool.{leb-false}
+use Rattle.dn_net.specs.declared.node.NodeDecl.{NodeDecl}
+use Rattle.dn_net.specs.Decode.{is_agent_at, top}
+use Rattle.dn_kind.specs.Rights.{are_rights}
+use Rattle.dn_tables.specs.Placement.{Place}
+use Rattle.dn_placement.specs.Order.{IsFirst}
+use Rattle.dn_placement.specs.declared.request.Request.{Request}
+use Rattle.dn_book.specs.declared.grant.Grant.{Grant}
+use Rattle.dn_book.specs.declared.book.CommitFault.{CommitFault}
+use Rattle.dn_book.specs.declared.book.CommitFault.TheVariants.{Device as commit_device, OutOfMemory as commit_memory}
+use Rattle.dn_book.specs.Book.{has_id, slots_of}
+use Rattle.dn_book.specs.Laws.{IsGrantFor}
+use Rattle.dn_grant.specs.declared.fault.GrantFault.{GrantFault}
+use Rattle.dn_grant.specs.declared.fault.GrantFault.TheVariants.{IdUsed, NoAgent, NoTarget, NotAccepted, BookFull, Device}
+use Rattle.dn_grant.specs.Faults.{fault_of_commit}
+use Rattle.dn_grant.specs.Grant.{grant_at}
+use Rattle.dn_grant.specs.Refusal.{grant_refusal, is_target_at, refusal_by, refused_address}
+use Rattle.dn_grant.proofs.Nearest.{accepted_within}
+
+-- the id is new, the agent is one, the buffer is not empty and within the addresses, the book has room
+pub record IsAllowed (net : List NodeDecl) (book : List Grant) (id : ℕ) (rq : Request) : Type 0 where
+  pub new : has_id id book ≡ false
+  pub agent : IsTrue (is_agent_at (slice_get net rq.agent))
+  pub target : IsTrue (is_target_at (slice_get net rq.node))
+  pub accepted : refused_address (slice_get net rq.node) rq.base rq.size ≡ None
+  pub few : length book < 4096
+
+pub allowed_is : (net : List NodeDecl) (book : List Grant) (id : ℕ) (rq : Request) →
+    grant_refusal net book id rq ≡ None → IsAllowed net book id rq
+allowed_is net book id rq none = by_id (has_id id book) refl none
+  where
+    address : Option ℕ
+    address = refused_address (slice_get net rq.node) rq.base rq.size
+
+    by_room : has_id id book ≡ false → IsTrue (is_agent_at (slice_get net rq.agent)) →
+        IsTrue (is_target_at (slice_get net rq.node)) → address ≡ None →
+        (f : Bool) → nat_le 4096 (length book) ≡ f → (if f then Some BookFull else None) ≡ None →
+        IsAllowed net book id rq
+    by_room i a t r true e none = cc
+    by_room i a t r false e none =
+        record { new = i; agent = a; target = t; accepted = r; few = leb-false _ _ e }
+
+    by_address : has_id id book ≡ false → IsTrue (is_agent_at (slice_get net rq.agent)) →
+        IsTrue (is_target_at (slice_get net rq.node)) →
+        (r : Option ℕ) → address ≡ r → refusal_by book r ≡ None → IsAllowed net book id rq
+    by_address i a t (Some first) e none = cc
+    by_address i a t None e none = by_room i a t e (nat_le 4096 (length book)) refl none
+
+    by_target : has_id id book ≡ false → IsTrue (is_agent_at (slice_get net rq.agent)) →
+        (t : Bool) → is_target_at (slice_get net rq.node) ≡ t →
+        (if not t then Some NoTarget else refusal_by book address) ≡ None → IsAllowed net book id rq
+    by_target i a false e none = cc
+    by_target i a true e none = by_address i a e address refl none
+
+    by_agent : has_id id book ≡ false → (a : Bool) → is_agent_at (slice_get net rq.agent) ≡ a →
+        (if not a then Some NoAgent
+        else (if not (is_target_at (slice_get net rq.node)) then Some NoTarget
+        else refusal_by book address)) ≡ None → IsAllowed net book id rq
+    by_agent i false e none = cc
+    by_agent i true e none = by_target i e (is_target_at (slice_get net rq.node)) refl none
+
+    by_id : (h : Bool) → has_id id book ≡ h →
+        (if h then Some IdUsed
+        else (if not (is_agent_at (slice_get net rq.agent)) then Some NoAgent
+        else (if not (is_target_at (slice_get net rq.node)) then Some NoTarget
+        else refusal_by book address))) ≡ None → IsAllowed net book id rq
+    by_id true e none = cc
+    by_id false e none = by_agent e (is_agent_at (slice_get net rq.agent)) refl none
+
+-- a buffer of a request for which no refusal holds is not empty, and ends at the last address or before
+pub allowed_within : (net : List NodeDecl) (book : List Grant) (id : ℕ) (rq : Request) →
+    IsAllowed net book id rq → (1 ≤ rq.size) × (rq.base + rq.size ≤ top + 1)
+allowed_within net book id rq is = accepted_within (slice_get net rq.node) rq.base rq.size is.accepted
+
+-- its grant at the first admissible placement may come into the book
+pub allowed_grant : (net : List NodeDecl) (book : List Grant) (id : ℕ) (rq : Request) (p : Place) →
+    grant_refusal net book id rq ≡ None → IsTrue (are_rights rq.rights) →
+    IsFirst net (slots_of net book) rq None p → IsGrantFor net book (grant_at id rq p)
+allowed_grant net book id rq p none rights first =
+    let is = allowed_is net book id rq none in
+    record { few = is.few; new = is.new; agent = is.agent; rights = rights; placed = first.suited.is_placement }
+
+-- a fault of the device that a commit hands on was no want of memory
+pub not_memory : (f : CommitFault) (w : GrantFault) →
+    ◌≡◌ {A = Result ℕ GrantFault} (Err w) (Err Device) → w ≡ fault_of_commit f →
+    ◌≡◌ {A = Result (Unit {0}) CommitFault} (Err f) (Err commit_memory) → ⊥
+not_memory commit_device w e h m = cc
+not_memory commit_memory w e h m = cc

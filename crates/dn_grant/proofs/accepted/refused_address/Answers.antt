@@ -1,0 +1,18 @@
+use Rattle.std.proofs.Common.{sym, slice_get}
+use Rattle.std.proofs.lemmas.Bool.{ne_eqb}
+use Rattle.dn_grant.proofs.Nearest.{IsFirstUnaccepted, refused_found, refused_none}
+use Rattle.dn_grant.proofs.accepted.refused_address.Goals as goal
+
+pub returns-then-first-base : goal.returns-then-first-base
+returns-then-first-base c =
+    let said = c.first_unaccepted-first.ensures in
+    let is : IsFirstUnaccepted (slice_get c.args.net.now c.args.node) c.args.base c.first_unaccepted-first.result =
+    record { from = said.from; accepted = said.accepted; unaccepted = said.unaccepted } in
+    sym (refused_found _ c.args.base c.args.size _ is (ne_eqb _ _ c.if-size-eq0.false) c.if-first-base.true)
+
+pub returns-else-first-base : goal.returns-else-first-base
+returns-else-first-base c =
+    let said = c.first_unaccepted-first.ensures in
+    let is : IsFirstUnaccepted (slice_get c.args.net.now c.args.node) c.args.base c.first_unaccepted-first.result =
+    record { from = said.from; accepted = said.accepted; unaccepted = said.unaccepted } in
+    sym (refused_none _ c.args.base c.args.size _ is (ne_eqb _ _ c.if-size-eq0.false) c.if-first-base.false)

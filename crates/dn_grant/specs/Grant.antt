@@ -1,0 +1,61 @@
+-- What a request for a grant comes to: a refusal, or a grant at the first admissible placement.
+use Rattle.std.specs.Prelude.{◌≡◌, ℕ, Bool, List, [], ◌∷◌, ◌++◌, Option, Some, None, Result, Ok, Err}
+use Rattle.dn_base.specs.declared.device.TableEvent.{TableEvent}
+use Rattle.dn_net.specs.declared.node.NodeDecl.{NodeDecl}
+use Rattle.dn_kind.specs.Kind.{Meaning}
+use Rattle.dn_tables.specs.Placement.{Place}
+use Rattle.dn_placement.specs.declared.request.Request.{Request}
+use Rattle.dn_placement.specs.Order.{IsFirst, NoneSuited}
+use Rattle.dn_book.specs.declared.grant.Grant.{Grant}
+use Rattle.dn_book.specs.Book.{slots_of}
+use Rattle.dn_book.specs.Writes.{AreAdded, grant_events}
+use Rattle.dn_grant.specs.declared.fault.GrantFault.{GrantFault}
+use Rattle.dn_grant.specs.declared.fault.GrantFault.TheVariants.{NoPlacement, Device, OutOfMemory}
+use Rattle.dn_grant.specs.Refusal.{grant_refusal}
+
+-- the grant of a request at a placement
+abbrev pub grant_at : ℕ → Request → Place → Grant
+grant_at id rq p = record { id = id; request = rq; placement = p }
+
+-- no refusal holds, and the placement is the first that is admissible
+pub record IsPlaced (net : List NodeDecl) (book : List Grant) (id : ℕ) (rq : Request) (p : Place)
+    : Type 0 where
+  pub allowed : grant_refusal net book id rq ≡ None
+  pub first : IsFirst net (slots_of net book) rq None p
+
+-- no refusal holds, and no placement is admissible
+pub record IsUnplaced (net : List NodeDecl) (book : List Grant) (id : ℕ) (rq : Request)
+    : Type 0 where
+  pub allowed : grant_refusal net book id rq ≡ None
+  pub none : NoneSuited net (slots_of net book) rq None
+
+-- the request is granted at an address of its agent: at the first admissible placement
+pub record IsGrantMade (net : List NodeDecl) (book : List Grant) (id : ℕ) (rq : Request) (v : ℕ)
+    (next : List Grant) : Type 0 where
+  pub place : Place
+  pub placed : IsPlaced net book id rq place
+  pub address : v ≡ place.v
+  pub appended : next ≡ book ++ grant_at id rq place ∷ []
+
+-- the request is refused so; by a fault of the device and for want of memory it is not refused
+abbrev pub IsGrantRefused : List NodeDecl → List Grant → ℕ → Request → GrantFault → Type 0
+IsGrantRefused net book id rq NoPlacement = IsUnplaced net book id rq
+IsGrantRefused net book id rq Device = ⊥
+IsGrantRefused net book id rq OutOfMemory = ⊥
+IsGrantRefused net book id rq why = grant_refusal net book id rq ≡ Some why
+
+-- A turn of `grant`: the first refusal that holds, and the book stays; or the agent's address of the
+-- first admissible placement, and the grant is appended.
+abbrev pub IsGrantTurn : List NodeDecl → List Grant → ℕ → Request → Result ℕ GrantFault →
+    List Grant → Type 0
+IsGrantTurn net book id rq (Ok v) next = IsGrantMade net book id rq v next
+IsGrantTurn net book id rq (Err why) next = IsGrantRefused net book id rq why × (next ≡ book)
+
+-- the events of a grant at the first admissible placement were added to a log: all of them, or those
+-- before the one that failed
+pub record IsGrantLogged (net : List NodeDecl) (kinds : List Meaning) (book : List Grant)
+    (cleared : Bool) (id : ℕ) (rq : Request) (failed : Bool) (log log' : Option (List TableEvent))
+    : Type 0 where
+  pub place : Place
+  pub placed : IsPlaced net book id rq place
+  pub added : AreAdded (grant_events net kinds book cleared (grant_at id rq place)) failed log log'

@@ -1,0 +1,41 @@
+-- Why a request for a grant is refused before any placement is sought.
+use Rattle.std.specs.Prelude.{ℕ, zero, suc, ◌+◌, Bool, false, if◌then◌else◌, not, nat_eq, nat_le, List, length, slice_get, Option, Some, None}
+use Rattle.dn_net.specs.declared.node.NodeDecl.{NodeDecl}
+use Rattle.dn_net.specs.Decode.{is_accepted_at, is_agent_at}
+use Rattle.dn_net.specs.Rules.{is_vectors}
+use Rattle.dn_placement.specs.declared.request.Request.{Request}
+use Rattle.dn_book.specs.declared.grant.Grant.{Grant}
+use Rattle.dn_book.specs.Book.{has_id}
+use Rattle.dn_grant.specs.declared.fault.GrantFault.{GrantFault}
+use Rattle.dn_grant.specs.declared.fault.GrantFault.TheVariants.{IdUsed, NoAgent, NoTarget, NotAccepted, BookFull}
+
+-- a node is there, and its addresses are no interrupt vectors
+abbrev pub is_target_at : Option NodeDecl → Bool
+is_target_at None = false
+is_target_at (Some n) = not (is_vectors n.role)
+
+-- the first of so many addresses from one on that the node does not accept
+abbrev pub unaccepted_from : Option NodeDecl → ℕ → ℕ → Option ℕ
+unaccepted_from n a zero = None
+unaccepted_from n a (suc count) =
+    if is_accepted_at a n then unaccepted_from n (a + 1) count else Some a
+
+-- the address for which a buffer is refused: its base where it is empty, and else the first of its
+-- addresses that the node does not accept
+abbrev pub refused_address : Option NodeDecl → ℕ → ℕ → Option ℕ
+refused_address n base size =
+    if nat_eq size 0 then Some base else unaccepted_from n base size
+
+-- the refusal for an address, and where there is none the one for want of room in the book
+abbrev pub refusal_by : List Grant → Option ℕ → Option GrantFault
+refusal_by book (Some first) = Some (NotAccepted first)
+refusal_by book None = if nat_le 4096 (length book) then Some BookFull else None
+
+-- the first refusal of a request that holds: the id is that of a live grant; the agent is none; the
+-- node is none or has interrupt vectors; the node does not accept all of the buffer; the book is full
+abbrev pub grant_refusal : List NodeDecl → List Grant → ℕ → Request → Option GrantFault
+grant_refusal net book id rq =
+    if has_id id book then Some IdUsed
+    else (if not (is_agent_at (slice_get net rq.agent)) then Some NoAgent
+    else (if not (is_target_at (slice_get net rq.node)) then Some NoTarget
+    else refusal_by book (refused_address (slice_get net rq.node) rq.base rq.size)))

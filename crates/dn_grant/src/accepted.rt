@@ -1,0 +1,74 @@
+//! The first address of a buffer that its node does not accept, found by the node's blocks.
+
+ghost use Rattle.std.specs.Prelude.{◌≡◌, ℕ, ◌≤◌, ◌<◌, true, false, length, slice_get};
+ghost use Rattle.std.specs.List.{All};
+ghost use Rattle.dn_net.specs.Decode.{is_accepted_at};
+ghost use Rattle.dn_net.specs.Rules.{KeepsRules};
+ghost use Rattle.dn_grant.specs.Accepted.{nearer};
+ghost use Rattle.dn_grant.specs.Refusal.{refused_address};
+
+use dn_net::net::Net;
+use dn_net::node::{Block, Name, TOP};
+use dn_net::step::Step;
+
+/// The address for which a buffer is refused: its base where it is empty, and else the first of its
+/// addresses that the node does not accept. It takes no memory, and goes over the blocks of the node
+/// once.
+pub fn refused_address(net: &Net, node: u16, base: u64, size: u64) -> Option<u64>
+    requires rules { All KeepsRules net.now }
+    requires there { node < length net.now }
+    ensures { result ≡ refused_address (slice_get net.now node) base size }
+{
+    if size == 0 {
+        return Some(base);
+    }
+    let first = first_unaccepted(net, node, base);
+    if first - base < size {
+        Some(first)
+    } else {
+        None
+    }
+}
+
+/// The first address from one on that a node does not accept.
+fn first_unaccepted(net: &Net, node: u16, base: u64) -> u64
+    requires rules { All KeepsRules net.now }
+    requires there { node < length net.now }
+    ensures from { base ≤ result }
+    ensures accepted { (a : ℕ) → base ≤ a → a < result →
+        is_accepted_at a (slice_get net.now node) ≡ true }
+    ensures unaccepted { is_accepted_at result (slice_get net.now node) ≡ false }
+{
+    if !is_accepted(net, node, base) {
+        return base;
+    }
+    let mut first = TOP + 1;
+    for block in net.accepts(node) {
+        first = nearer(net, node, base, *block, first);
+    }
+    first
+}
+
+/// The address behind a block, where it is past the base and before the other address and the node
+/// does not accept it; else the other address.
+fn nearer(net: &Net, node: u16, base: u64, block: Block, first: u64) -> u64
+    requires rules { All KeepsRules net.now }
+    requires there { node < length net.now }
+    ensures { result ≡ nearer (slice_get net.now node) base first block }
+{
+    let behind = block.hi.min(TOP) + 1;
+    if base < behind && behind < first && !is_accepted(net, node, behind) {
+        behind
+    } else {
+        first
+    }
+}
+
+/// Whether a node accepts an address.
+fn is_accepted(net: &Net, node: u16, addr: u64) -> bool
+    requires rules { All KeepsRules net.now }
+    requires there { node < length net.now }
+    ensures { result ≡ is_accepted_at addr (slice_get net.now node) }
+{
+    matches!(net.step(Name { node, addr }), Step::Accepted)
+}

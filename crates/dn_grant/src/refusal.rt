@@ -1,0 +1,47 @@
+//! The refusals of a request that need no search.
+
+ghost use Rattle.std.specs.Prelude.{◌≡◌, ◌<◌, length, slice_get, IsTrue};
+ghost use Rattle.std.specs.List.{All};
+ghost use Rattle.dn_net.specs.Rules.{KeepsRules};
+ghost use Rattle.dn_grant.specs.Refusal.{grant_refusal, is_target_at};
+
+use crate::accepted::refused_address;
+use crate::fault::GrantFault;
+use dn_book::book::Book;
+use dn_net::net::Net;
+use dn_placement::request::Request;
+use dn_placement::roles::{is_agent, is_vectors};
+
+/// The most grants of a book.
+const MAX_GRANTS: usize = 4096;
+
+/// The first refusal of a request that holds before a placement is sought. It takes no memory.
+pub fn refusal(book: &Book, net: &Net, id: u32, request: &Request) -> Option<GrantFault>
+    requires rules { All KeepsRules net.now }
+    ensures { result ≡ grant_refusal net.now book.now.grants id request.now }
+{
+    if book.has_id(id) {
+        return Some(GrantFault::IdUsed);
+    }
+    if !is_agent(net, request.agent) {
+        return Some(GrantFault::NoAgent);
+    }
+    if !is_target(net, request.node) {
+        return Some(GrantFault::NoTarget);
+    }
+    if let Some(first) = refused_address(net, request.node, request.base, request.size) {
+        return Some(GrantFault::NotAccepted { first });
+    }
+    if book.grants().len() >= MAX_GRANTS {
+        return Some(GrantFault::BookFull);
+    }
+    None
+}
+
+/// Whether a node is there, and its addresses are no interrupt vectors.
+fn is_target(net: &Net, node: u16) -> bool
+    ensures target { result ≡ is_target_at (slice_get net.now node) }
+    ensures there { IsTrue result → node < length net.now }
+{
+    node < net.nodes() && !is_vectors(net, node)
+}
