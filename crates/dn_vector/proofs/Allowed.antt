@@ -1,0 +1,118 @@
+-- What is known of a route for which no refusal holds.
+use Rattle.std.proofs.Common.{◌≡◌, ◌∙◌, sym, ap, refl, subst, ℕ, ◌<◌, Bool, true, false, if◌then◌else◌, not, nat_le, List, [], ◌∷◌, ◌++◌, length, slice_get, Option, Some, None, Result, Err, IsTrue}
+use Rattle.std.proofs.lemmas.Bool.{leb-false}
+use Rattle.dn_base.specs.declared.device.TableEvent.{TableEvent}
+use Rattle.dn_net.specs.declared.node.NodeDecl.{NodeDecl}
+use Rattle.dn_net.specs.Decode.{is_agent_at}
+use Rattle.dn_kind.specs.Kind.{Meaning}
+use Rattle.dn_tables.specs.Placement.{Place}
+use Rattle.dn_placement.specs.declared.request.Request.{Request}
+use Rattle.dn_placement.specs.Roles.{is_vectors_at}
+use Rattle.dn_book.specs.declared.grant.Grant.{Grant}
+use Rattle.dn_book.specs.declared.book.CommitFault.{CommitFault}
+use Rattle.dn_book.specs.declared.book.CommitFault.TheVariants.{Device as commit_device, OutOfMemory as commit_memory}
+use Rattle.dn_book.specs.Book.{has_id}
+use Rattle.dn_book.specs.Laws.{IsGrantFor}
+use Rattle.dn_book.specs.Writes.{AreAdded, grant_events}
+use Rattle.dn_vector.specs.declared.fault.RouteFault.{RouteFault}
+use Rattle.dn_vector.specs.declared.fault.RouteFault.TheVariants.{IdUsed, NoAgent, NoTarget, BookFull, Device}
+use Rattle.dn_vector.specs.Faults.{fault_of_commit}
+use Rattle.dn_vector.specs.Refusal.{route_refusal}
+use Rattle.dn_vector.specs.Route.{IsLeastVector, IsPlacedRoute, IsRouteLogged, IsRouteMade, route_at}
+use Rattle.dn_vector.specs.Vectors.{vector_request}
+
+-- the id is new, the agent is one, the node has vectors, the book has room
+pub record IsAllowed (net : List NodeDecl) (book : List Grant) (id agent node : ℕ) : Type 0 where
+  pub new : has_id id book ≡ false
+  pub agent_is : IsTrue (is_agent_at (slice_get net agent))
+  pub target : IsTrue (is_vectors_at (slice_get net node))
+  pub few : length book < 4096
+
+pub allowed_is : (net : List NodeDecl) (book : List Grant) (id agent node : ℕ) →
+    route_refusal net book id agent node ≡ None → IsAllowed net book id agent node
+allowed_is net book id agent node none = by_id (has_id id book) refl none
+  where
+    by_room : has_id id book ≡ false → IsTrue (is_agent_at (slice_get net agent)) →
+        IsTrue (is_vectors_at (slice_get net node)) →
+        (f : Bool) → nat_le 4096 (length book) ≡ f → (if f then Some BookFull else None) ≡ None →
+        IsAllowed net book id agent node
+    by_room i a t true e none = cc
+    by_room i a t false e none =
+        record { new = i; agent_is = a; target = t; few = leb-false _ _ e }
+
+    by_target : has_id id book ≡ false → IsTrue (is_agent_at (slice_get net agent)) →
+        (t : Bool) → is_vectors_at (slice_get net node) ≡ t →
+        (if not t then Some NoTarget
+        else (if nat_le 4096 (length book) then Some BookFull else None)) ≡ None →
+        IsAllowed net book id agent node
+    by_target i a false e none = cc
+    by_target i a true e none = by_room i a e (nat_le 4096 (length book)) refl none
+
+    by_agent : has_id id book ≡ false → (a : Bool) → is_agent_at (slice_get net agent) ≡ a →
+        (if not a then Some NoAgent
+        else (if not (is_vectors_at (slice_get net node)) then Some NoTarget
+        else (if nat_le 4096 (length book) then Some BookFull else None))) ≡ None →
+        IsAllowed net book id agent node
+    by_agent i false e none = cc
+    by_agent i true e none = by_target i e (is_vectors_at (slice_get net node)) refl none
+
+    by_id : (h : Bool) → has_id id book ≡ h →
+        (if h then Some IdUsed
+        else (if not (is_agent_at (slice_get net agent)) then Some NoAgent
+        else (if not (is_vectors_at (slice_get net node)) then Some NoTarget
+        else (if nat_le 4096 (length book) then Some BookFull else None)))) ≡ None →
+        IsAllowed net book id agent node
+    by_id true e none = cc
+    by_id false e none = by_agent e (is_agent_at (slice_get net agent)) refl none
+
+-- its grant at the least vector may come into the book
+pub allowed_route : (net : List NodeDecl) (book : List Grant) (id agent line node v : ℕ) (p : Place) →
+    route_refusal net book id agent node ≡ None → IsLeastVector net book agent line node v p →
+    IsGrantFor net book (route_at id agent node v p)
+allowed_route net book id agent line node v p none least =
+    let is = allowed_is net book id agent node none in
+    record { few = is.few; new = is.new; agent = is.agent_is; rights = refl; placed = least.first.suited.is_placement }
+
+-- a fault of the device that a commit hands on was no want of memory
+pub not_memory : (f : CommitFault) (w : RouteFault) →
+    ◌≡◌ {A = Result ℕ RouteFault} (Err w) (Err Device) → w ≡ fault_of_commit f →
+    ◌≡◌ {A = Result (Unit {0}) CommitFault} (Err f) (Err commit_memory) → ⊥
+not_memory commit_device w e h m = cc
+not_memory commit_memory w e h m = cc
+
+-- a grant of its parts
+abbrev pub grant_of : ℕ → Request → Place → Grant
+grant_of id rq p = record { id = id; request = rq; placement = p }
+
+-- the grant of a route that is placed may come into the book, however its request was made
+pub placed_grant : (net : List NodeDecl) (book : List Grant) (id agent line node v : ℕ) (p : Place)
+    (rq : Request) → rq ≡ vector_request agent node v →
+    IsPlacedRoute net book id agent line node v p → IsGrantFor net book (grant_of id rq p)
+placed_grant net book id agent line node v p rq e is =
+    subst (λ r. IsGrantFor net book (grant_of id r p)) (sym e)
+    (allowed_route net book id agent line node v p is.allowed is.placed)
+
+-- a route that is placed and appended is made
+pub placed_made : (net : List NodeDecl) (book next : List Grant) (id agent line node v : ℕ) (p : Place)
+    (rq : Request) → rq ≡ vector_request agent node v →
+    IsPlacedRoute net book id agent line node v p → next ≡ book ++ grant_of id rq p ∷ [] →
+    IsRouteMade net book id agent line node v next
+placed_made net book next id agent line node v p rq e is appended = record {
+  place = p;
+  placed = is;
+  appended = appended ∙ ap (λ r. book ++ grant_of id r p ∷ []) e;
+}
+
+-- the events of a route that is placed
+pub placed_logged : (net : List NodeDecl) (kinds : List Meaning) (book : List Grant) (cleared : Bool)
+    (id agent line node v : ℕ) (p : Place) (rq : Request) (failed : Bool)
+    (log log' : Option (List TableEvent)) → rq ≡ vector_request agent node v →
+    IsPlacedRoute net book id agent line node v p →
+    AreAdded (grant_events net kinds book cleared (grant_of id rq p)) failed log log' →
+    IsRouteLogged net kinds book cleared id agent line node failed log log'
+placed_logged net kinds book cleared id agent line node v p rq failed log log' e is added = record {
+  vector = v;
+  place = p;
+  placed = is;
+  added = subst (λ r. AreAdded (grant_events net kinds book cleared (grant_of id r p)) failed log log') e added;
+}

@@ -1,0 +1,76 @@
+use Rattle.std.proofs.Common.{◌≡◌, ◌∙◌, sym, refl, subst, ℕ}
+use Rattle.std.proofs.lemmas.Result.{err_from_is_err_and}
+use Rattle.dn_interval.specs.Spans.{has}
+use Rattle.dn_vector.specs.Vectors.{is_free_vector}
+use Rattle.dn_vector.proofs.Allowed.{allowed_is, not_memory, placed_grant, placed_logged, placed_made}
+use Rattle.dn_vector.proofs.Leasts.{least_free, none_free}
+use Rattle.dn_vector.proofs.route.route.Goals as goal
+
+pub least_vector-requires-clause-agent : goal.least_vector-requires-clause-agent
+least_vector-requires-clause-agent g c =
+    (allowed_is c.args.net.now c.args.book.now.grants c.args.id c.args.agent c.args.node (sym c.refusal.ensures ∙ c.in_default.is)).agent_is
+
+pub commit-requires-clause-placed : goal.commit-requires-clause-placed
+commit-requires-clause-placed g c =
+    let net = c.args.net.now in
+    let book = c.args.book.now.grants in
+    let free = subst (λ gs. (a : ℕ) → has c.in_ok-free.free a ≡ is_free_vector net gs c.args.node a) c.grants.ensures c.in_ok-free.ensures.free in
+    placed_grant net book c.args.id c.args.agent c.args.line c.args.node c.in-Some-found.field-0.vector c.in-Some-found.field-0.placement
+    c.vector_request.result c.vector_request.ensures
+    (record {
+      allowed = sym c.refusal.ensures ∙ c.in_default.is;
+      placed = least_free net book c.args.agent c.args.line c.args.node c.in_ok-free.free _ _ free (rw c.in-Some-found.is at c.in_ok-found.ensures.found);
+    })
+
+pub returns-in_default-found-clause-turn : goal.returns-in_default-found-clause-turn
+returns-in_default-found-clause-turn g c =
+    let net = c.args.net.now in
+    let book = c.args.book.now.grants in
+    let free = subst (λ gs. (a : ℕ) → has c.in_ok-free.free a ≡ is_free_vector net gs c.args.node a) c.grants.ensures c.in_ok-free.ensures.free in
+    λ device memory. (
+      record {
+        allowed = sym c.refusal.ensures ∙ c.in_default.is;
+        none = none_free net book c.args.agent c.args.line c.args.node c.in_ok-free.free free (c.in_ok-found.ensures.none c.in_default-found.is);
+      },
+      refl,
+    )
+
+pub returns-in_err-commit-clause-stopped : goal.returns-in_err-commit-clause-stopped
+returns-in_err-commit-clause-stopped g c =
+    let net = c.args.net.now in
+    let book = c.args.book.now.grants in
+    let free = subst (λ gs. (a : ℕ) → has c.in_ok-free.free a ≡ is_free_vector net gs c.args.node a) c.grants.ensures c.in_ok-free.ensures.free in
+    let q = err_from_is_err_and c.from_residual-in_err-commit.result c.from_residual-in_err-commit.ensures.1 in
+    λ e. placed_logged net _ book _ c.args.id c.args.agent c.args.line c.args.node c.in-Some-found.field-0.vector c.in-Some-found.field-0.placement
+    c.vector_request.result _ _ _ c.vector_request.ensures
+    (record {
+      allowed = sym c.refusal.ensures ∙ c.in_default.is;
+      placed = least_free net book c.args.agent c.args.line c.args.node c.in_ok-free.free _ _ free (rw c.in-Some-found.is at c.in_ok-found.ensures.found);
+    })
+    (c.in_err-commit.ensures.added (not_memory c.in_err-commit.field-0.0 q.0 (sym q.1 ∙ e) q.2))
+
+pub returns-clause-turn : goal.returns-clause-turn
+returns-clause-turn g c =
+    let net = c.args.net.now in
+    let book = c.args.book.now.grants in
+    let free = subst (λ gs. (a : ℕ) → has c.in_ok-free.free a ≡ is_free_vector net gs c.args.node a) c.grants.ensures c.in_ok-free.ensures.free in
+    λ device memory. placed_made net book _ c.args.id c.args.agent c.args.line c.args.node c.in-Some-found.field-0.vector c.in-Some-found.field-0.placement
+    c.vector_request.result c.vector_request.ensures
+    (record {
+      allowed = sym c.refusal.ensures ∙ c.in_default.is;
+      placed = least_free net book c.args.agent c.args.line c.args.node c.in_ok-free.free _ _ free (rw c.in-Some-found.is at c.in_ok-found.ensures.found);
+    })
+    c.in_ok-commit.ensures.granted
+
+pub returns-clause-routed : goal.returns-clause-routed
+returns-clause-routed g c =
+    let net = c.args.net.now in
+    let book = c.args.book.now.grants in
+    let free = subst (λ gs. (a : ℕ) → has c.in_ok-free.free a ≡ is_free_vector net gs c.args.node a) c.grants.ensures c.in_ok-free.ensures.free in
+    placed_logged net _ book _ c.args.id c.args.agent c.args.line c.args.node c.in-Some-found.field-0.vector c.in-Some-found.field-0.placement
+    c.vector_request.result _ _ _ c.vector_request.ensures
+    (record {
+      allowed = sym c.refusal.ensures ∙ c.in_default.is;
+      placed = least_free net book c.args.agent c.args.line c.args.node c.in_ok-free.free _ _ free (rw c.in-Some-found.is at c.in_ok-found.ensures.found);
+    })
+    (c.in_ok-commit.ensures.added (λ e. cc))

@@ -1,0 +1,5 @@
+pub mod Faults
+pub mod Refusal
+pub mod Route
+pub mod Search
+pub mod Vectors

@@ -1,0 +1,18 @@
+-- Why a route is refused before any vector is looked at.
+use Rattle.std.specs.Prelude.{ℕ, if◌then◌else◌, not, nat_le, List, length, slice_get, Option, Some, None}
+use Rattle.dn_net.specs.declared.node.NodeDecl.{NodeDecl}
+use Rattle.dn_net.specs.Decode.{is_agent_at}
+use Rattle.dn_placement.specs.Roles.{is_vectors_at}
+use Rattle.dn_book.specs.declared.grant.Grant.{Grant}
+use Rattle.dn_book.specs.Book.{has_id}
+use Rattle.dn_vector.specs.declared.fault.RouteFault.{RouteFault}
+use Rattle.dn_vector.specs.declared.fault.RouteFault.TheVariants.{IdUsed, NoAgent, NoTarget, BookFull}
+
+-- the first refusal of a route that holds: the id is that of a live grant; the agent is none; the node
+-- is none or has no interrupt vectors; the book is full
+abbrev pub route_refusal : List NodeDecl → List Grant → ℕ → ℕ → ℕ → Option RouteFault
+route_refusal net book id agent node =
+    if has_id id book then Some IdUsed
+    else (if not (is_agent_at (slice_get net agent)) then Some NoAgent
+    else (if not (is_vectors_at (slice_get net node)) then Some NoTarget
+    else (if nat_le 4096 (length book) then Some BookFull else None)))

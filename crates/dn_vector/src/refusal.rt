@@ -1,0 +1,31 @@
+//! The refusals of a route that need no search.
+
+ghost use Rattle.std.specs.Prelude.{◌≡◌};
+ghost use Rattle.dn_vector.specs.Refusal.{route_refusal};
+
+use crate::fault::RouteFault;
+use dn_book::book::Book;
+use dn_net::net::Net;
+use dn_placement::roles::{is_agent, is_vectors};
+
+/// The most grants of a book.
+const MAX_GRANTS: usize = 4096;
+
+/// The first refusal of a route that holds before a vector is looked at. It takes no memory.
+pub fn refusal(book: &Book, net: &Net, id: u32, agent: u16, node: u16) -> Option<RouteFault>
+    ensures { result ≡ route_refusal net.now book.now.grants id agent node }
+{
+    if book.has_id(id) {
+        return Some(RouteFault::IdUsed);
+    }
+    if !is_agent(net, agent) {
+        return Some(RouteFault::NoAgent);
+    }
+    if !is_vectors(net, node) {
+        return Some(RouteFault::NoTarget);
+    }
+    if book.grants().len() >= MAX_GRANTS {
+        return Some(RouteFault::BookFull);
+    }
+    None
+}
