@@ -1,0 +1,108 @@
+//! The generated text: a platform, grants and revokes.
+
+ghost use Rattle.std.specs.Prelude.{◌≡◌, ◌<◌, ◌++◌, IfOk, OnOk};
+ghost use Rattle.std.specs.String.{string_bytes};
+ghost use Rattle.dn_demo.specs.Text.{demo_text, grant_text, grants_of, grants_text, loop_text, platform_text, revoke_text, revokes_of, revokes_text};
+
+use crate::OutOfMemory;
+use std::alloc::Global;
+
+/// How many buffers each agent is granted.
+pub const BUFFERS: u8 = 16;
+
+/// From the first address of a buffer to that of the next, in bytes.
+pub const STRIDE: u64 = 0x4000;
+
+/// The text of the demonstration with so many agents, from 1 on: a platform in which each agent stands
+/// behind a unit of its own, sixteen grants of three pages for each agent, and then the revoke of every
+/// second one of them. `Err` is want of memory.
+pub fn demo_text(alloc: Global, agents: u8) -> Result<Vec<u8>, OutOfMemory>
+    requires { 0 < agents }
+    ensures { IfOk result (λ v. v.items ≡ demo_text agents) }
+{
+    let mut out = String::new(alloc);
+    write_platform(&mut out, agents)?;
+    write_grants(&mut out, agents)?;
+    write_revokes(&mut out, agents)?;
+    Ok(out.into_bytes())
+}
+
+/// Appends the statements of the platform, and the `begin` of its commands.
+fn write_platform(out: &mut String, agents: u8) -> Result<(), OutOfMemory>
+    requires { 0 < agents }
+    ensures { OnOk result (string_bytes out.new ≡ string_bytes out.old ++ platform_text agents) }
+{
+    out.push_str(
+        "dram is accept [0x0-0xffffffff];\nbus is map [0x100000000-0x1ffffffff to dram at 0x0];\n",
+    )?;
+    write_loop(out, agents - 1)?;
+    out.push_str(
+        "agent a[i] is map [0x0-0xffffff to u[i] at 0x0];\nunit u[i] kind pages page 12 slots 4096 reach 40 to bus;\nend;\nbegin;\n",
+    )
+}
+
+/// Appends the head of the loop over the numbers of the agents, of which this is the last.
+fn write_loop(out: &mut String, last: u8) -> Result<(), OutOfMemory>
+    ensures { OnOk result (string_bytes out.new ≡ string_bytes out.old ++ loop_text last) }
+{
+    write!(out, "for i in 0..{last};\n")
+}
+
+/// Appends the grants of all agents, agent by agent.
+fn write_grants(out: &mut String, agents: u8) -> Result<(), OutOfMemory>
+    ensures { OnOk result (string_bytes out.new ≡ string_bytes out.old ++ grants_text agents) }
+{
+    for agent in 0..agents {
+        write_grants_of(out, agent)?;
+    }
+    Ok(())
+}
+
+/// Appends the grants of an agent.
+fn write_grants_of(out: &mut String, agent: u8) -> Result<(), OutOfMemory>
+    ensures { OnOk result (string_bytes out.new ≡ string_bytes out.old ++ grants_of agent) }
+{
+    for buffer in 0..BUFFERS {
+        write_grant(out, agent, buffer)?;
+    }
+    Ok(())
+}
+
+/// Appends the grant of a buffer to an agent.
+fn write_grant(out: &mut String, agent: u8, buffer: u8) -> Result<(), OutOfMemory>
+    requires { buffer < 16 }
+    ensures { OnOk result (string_bytes out.new ≡ string_bytes out.old ++ grant_text agent buffer) }
+{
+    let base = (u64::from(agent) * u64::from(BUFFERS) + u64::from(buffer)) * STRIDE;
+    write!(
+        out,
+        "grant g_{agent}_{buffer} a[{agent}] dram 0x{base:x} 0x3000;\n"
+    )
+}
+
+/// Appends the revokes of all agents, agent by agent.
+fn write_revokes(out: &mut String, agents: u8) -> Result<(), OutOfMemory>
+    ensures { OnOk result (string_bytes out.new ≡ string_bytes out.old ++ revokes_text agents) }
+{
+    for agent in 0..agents {
+        write_revokes_of(out, agent)?;
+    }
+    Ok(())
+}
+
+/// Appends the revokes of an agent: of the buffers with odd numbers.
+fn write_revokes_of(out: &mut String, agent: u8) -> Result<(), OutOfMemory>
+    ensures { OnOk result (string_bytes out.new ≡ string_bytes out.old ++ revokes_of agent) }
+{
+    for pair in 0..BUFFERS / 2 {
+        write_revoke(out, agent, 2 * pair + 1)?;
+    }
+    Ok(())
+}
+
+/// Appends the revoke of a buffer of an agent.
+fn write_revoke(out: &mut String, agent: u8, buffer: u8) -> Result<(), OutOfMemory>
+    ensures { OnOk result (string_bytes out.new ≡ string_bytes out.old ++ revoke_text agent buffer) }
+{
+    write!(out, "revoke g_{agent}_{buffer};\n")
+}
