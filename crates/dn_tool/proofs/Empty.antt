@@ -166,11 +166,10 @@ limits_are = (refl, refl)
 bound_same : (net : List NodeDecl) → IsLegalNet net → (x : Name) → end_names (steps net) (is_accepted net) step_limit_under x ≡ resolved_names net x
 bound_same net legal x =
     ascending_same (end_names (steps net) (is_accepted net) step_limit_under x) (resolved_names net x) (end_names_ascend (steps net) (is_accepted net) step_limit_under x) (end_names_ascend (steps net) (is_accepted net) step_limit x) (λ z.
-    let far = end_names_are_ends (steps net) (is_accepted net) step_limit_under x z in
-    let near = end_names_are_ends (steps net) (is_accepted net) step_limit x z in (
-      (λ m. let r = far.0 m in near.1 (r.0, shallow_reach net legal.walks.shallow x z (r.1.0, r.1.2))),
-      (λ m. let r = near.0 m in let l = limits_are in let k = r.1.1 in far.1 (r.0, (r.1.0, (omega (arith, l.0, l.1, k)), r.1.2))),
-    ))
+      let far = end_names_are_ends (steps net) (is_accepted net) step_limit_under x z in
+      let near = end_names_are_ends (steps net) (is_accepted net) step_limit x z in
+      ((λ m. let r = far.0 m in near.1 (r.0, shallow_reach net legal.walks.shallow x z (r.1.0, r.1.2))),
+       (λ m. let r = near.0 m in let l = limits_are in let k = r.1.1 in far.1 (r.0, (r.1.0, (omega (arith, l.0, l.1, k)), r.1.2)))))
 
 -- a name resolves to what it resolves to in the net
 pub empty_resolved : (net : List NodeDecl) (access : Access) → IsLegalNet net → (x : Name) → resolved_names_under net (allowing access (records_of net [])) x ≡ resolved_names net x

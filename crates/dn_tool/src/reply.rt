@@ -240,15 +240,7 @@ fn agent_names(
 {
     present.keep_image(alloc, &platform.net, kinds)?;
     let Name { node, addr } = name;
-    match lookup(
-        alloc,
-        &platform.net,
-        kinds,
-        present.image(),
-        node,
-        addr,
-        access,
-    ) {
+    match lookup(alloc, &platform.net, kinds, present.image(), node, addr, access) {
         Ok(found) => names_of(alloc, platform, found.list()),
         Err(LookupFault::OutOfMemory) => Err(AllocError),
         Err(LookupFault::NoAgent) => unreachable!(),
