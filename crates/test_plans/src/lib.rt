@@ -1,0 +1,36 @@
+//! Nets for tests, made by calls.
+//!
+//! The crates whose tests use them know no texts of the language. A [`plan::Plan`] has nodes with
+//! their parts, and gives a net once all rules are kept, so that whoever has that net may ask what its
+//! calls require. The kinds of its units are those of [`program_kinds`].
+#![tactic(auto)]
+
+pub mod plan;
+pub mod unmade;
+
+pub use plan::Plan;
+pub use unmade::Unmade;
+
+/// The number of the kind `pages` in the list of kinds.
+pub const PAGES: u8 = 0;
+
+/// The number of the kind `remap`.
+pub const REMAP: u8 = 1;
+
+/// The number of the kind `vectors`.
+pub const VECTORS: u8 = 2;
+
+/// The kinds of the program: `pages`, `remap` and `vectors`. Want of memory leaves the function.
+#[macro_export]
+macro_rules! program_kinds {
+    ($alloc:expr) => {{
+        dn_kinds::pages::pages_are_lawful();
+        dn_kinds::remap::remap_is_lawful();
+        dn_kinds::vectors::vectors_are_lawful();
+        let mut kinds = dn_kind::kinds::Kinds::none($alloc);
+        kinds.add(Box::new($alloc, dn_kinds::pages::Pages)?)?;
+        kinds.add(Box::new($alloc, dn_kinds::remap::Remap)?)?;
+        kinds.add(Box::new($alloc, dn_kinds::vectors::Vectors)?)?;
+        kinds
+    }};
+}
