@@ -91,7 +91,7 @@ pub hops_hold : (net : List NodeDecl) (g : Held) (rights : Rights) (own place : 
 hops_hold net g rights own place [] all = tt
 hops_hold net g rights own place (hop ∷ hops) all = (
   (λ u e. ap (λ o. or_record o (hops_records net 1 rights own (suc place) hops hop.unit (hop.x / 2 ^ u.page)))
-    (hop_own net (hop_rights rights own place) hop u e)),
+      (hop_own net (hop_rights rights own place) hop u e)),
   wider (suc place) hops (hops_hold net g rights own (suc place) hops all.1),
 )
   where

@@ -245,20 +245,29 @@ row_of net h (suc k) x y c = go (unit_at net x.node) refl c.1 (row_of net h k c.
         out t eb et None ep m = absurd m
         out t eb et (Some p) ep (inr m) = absurd m
         out t eb et (Some p) ep (inl is) =
-            let hop : Hop = record { unit = x.node; port = t.port; x = x.addr; y = t.page * 2 ^ u.page + x.addr % 2 ^ u.page } in
-            (hop ∷ r.0, (0, k, c.0, record {
-              unit = u;
-              is_unit = e;
-              low = eb;
-              before = refl;
-              rec = t;
-              holds = et;
-              is_rec = refl;
-              node = p;
-              is_port = ep;
-              out = refl;
-              to_is = sym is;
-            }, r.1, (omega arith)))
+            let hop : Hop = record { unit = x.node; port = t.port; x = x.addr; y = t.page * 2 ^ u.page + x.addr % 2 ^ u.page } in (
+              hop ∷ r.0,
+              (
+                0,
+                k,
+                c.0,
+                record {
+                  unit = u;
+                  is_unit = e;
+                  low = eb;
+                  before = refl;
+                  rec = t;
+                  holds = et;
+                  is_rec = refl;
+                  node = p;
+                  is_port = ep;
+                  out = refl;
+                  to_is = sym is;
+                },
+                r.1,
+                (omega arith),
+              ),
+            )
 
         through : (b : Bool) → nat_le x.addr top ≡ b → (t : Option Record) →
             h x.node (x.addr / 2 ^ u.page) ≡ t → Member c.0 (if b then output u t x.addr else []) →
@@ -298,6 +307,6 @@ chain_of_row net formed h (hop ∷ hops) x y k r =
     let w : HopStep net h x hop r.0 r.2 = r.3 in
     let before = chain_more (Step net) (StepUnder net h) (fixed_under net formed h) r.0 x (record { node = hop.unit; addr = hop.x }) w.before in
     let rest : IsChain (StepUnder net h) (suc r.1) (record { node = hop.unit; addr = hop.x }) y =
-        (r.2, through_record net h x hop r.0 r.2 w, chain_of_row net formed h hops r.2 y r.1 r.4) in
+    (r.2, through_record net h x hop r.0 r.2 w, chain_of_row net formed h hops r.2 y r.1 r.4) in
     subst (λ n. IsChain (StepUnder net h) n x y) (sym r.5)
-      (chain_append (StepUnder net h) r.0 (suc r.1) x (record { node = hop.unit; addr = hop.x }) y before rest)
+    (chain_append (StepUnder net h) r.0 (suc r.1) x (record { node = hop.unit; addr = hop.x }) y before rest)

@@ -166,11 +166,11 @@ module _ (net : List NodeDecl) (legal : IsLegalNet net) where
       join zero x row p n other q =
           let e : zero + n ≡ n = omega arith in
           subst (λ m. PassesIn net h m x y (row ++ other)) (sym e)
-            (subst (λ r. PassesIn net h n x y (r ++ other)) (sym p.1) (subst (λ w. PassesIn net h n w y other) (sym p.0) q))
+          (subst (λ r. PassesIn net h n x y (r ++ other)) (sym p.1) (subst (λ w. PassesIn net h n w y other) (sym p.0) q))
       join (suc j) x row p n other q =
           let e : suc j + n ≡ suc (j + n) = omega arith in
           subst (λ m. PassesIn net h m x y (row ++ other)) (sym e)
-            (p.0, p.1 ++ other, p.2, ap (λ r. r ++ other) p.3 ∙ append_assoc (slot_in x (unit_at net x.node)) p.1 other, join j p.0 p.1 p.4 n other q)
+          (p.0, p.1 ++ other, p.2, ap (λ r. r ++ other) p.3 ∙ append_assoc (slot_in x (unit_at net x.node)) p.1 other, join j p.0 p.1 p.4 n other q)
 
   -- the facts of a hop's record
   pub hop_fits : (h : Held) → AreHeld net h → (x : Name) (hop : Hop) (j : ℕ) (z : Name)

@@ -127,7 +127,7 @@ module _ (net : List NodeDecl) (slots : Slots) (rq : Request) (access : Access) 
         blocked slots.held added access net legal all (name_on rq.agent p.v a.i) s.end y s.stop (s.steps, s.chain) s.none (subst (λ n. ResolvesUnder net old n y) a.from r)
 
 -- a name that reaches a stop has an address
-stop_low : (net : List NodeDecl) (x t : Name) → StopsAt net x t → x.addr ≤ TOP
+pub stop_low : (net : List NodeDecl) (x t : Name) → StopsAt net x t → x.addr ≤ TOP
 stop_low net x t st = by st.1.0 st.1.2
   where
     first : IsTrue (is_stop net x) → x.addr ≤ TOP

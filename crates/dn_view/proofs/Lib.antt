@@ -10,6 +10,7 @@ pub mod Newly
 pub mod Pages
 pub mod Passed
 pub mod Taken
+pub mod Unmet
 pub mod Viewed
 pub mod Ways
 pub mod AddedHops

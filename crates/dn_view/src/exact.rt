@@ -23,6 +23,7 @@ ghost use Rattle.dn_view.specs.Through.{ComesNewly, IsPassedOn};
 use crate::pass::{Part, pass};
 use crate::records::Records;
 use crate::shown::{UNITS, node_segs, passed_stops, push_through};
+use crate::untouched::is_untouched;
 use dn_base::OutOfMemory;
 use dn_flat::flats::Flats;
 use dn_interval::{End, Row, Rows, Seg};
@@ -134,6 +135,9 @@ fn exact_at(
     if !is_agent(net, node) {
         return Ok(true);
     }
+    if is_untouched(net, flats, request, placement, access, node) {
+        return Ok(true);
+    }
     let stops = node_segs(alloc, flats, node, Part::Stops)?;
     let shown = newly_shown(
         alloc, net, flats, kinds, tables, request, placement, access, stops,
@@ -146,7 +150,7 @@ fn exact_at(
 }
 
 /// Whether a request asks for something at a node, for an access.
-fn is_asked(request: &Request, node: u16, access: Access) -> bool
+pub(crate) fn is_asked(request: &Request, node: u16, access: Access) -> bool
     ensures { result ≡ (nat_eq node request.now.agent && allows request.now.rights access) }
 {
     node == request.agent && request.rights.allows(access)

@@ -2,11 +2,12 @@
 #![tactic(auto)]
 
 pub mod exact;
+pub mod laws;
 mod output;
 mod pass;
 mod range;
 mod records;
-pub mod laws;
 pub mod resolve;
 mod shown;
+mod untouched;
 pub mod view;

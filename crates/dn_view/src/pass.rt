@@ -200,7 +200,7 @@ pub(crate) fn part_rows(flats: &Flats, node: u16, part: Part) -> &Rows
 }
 
 /// Whether the node of one of a unit's ports has such rows.
-fn leads_on(flats: &Flats, unit: &Unit, part: Part) -> bool
+pub(crate) fn leads_on(flats: &Flats, unit: &Unit, part: Part) -> bool
     requires { IsTrue (list_all (λ p. nat_lt p (length flats.now)) unit.now.ports) }
     ensures { result ≡ list_any (λ p. has_rows (rows_of (rows_part part) (slice_get flats.now p))) unit.now.ports }
 {

@@ -36,6 +36,15 @@ returns-then-not-is_agent g c =
     let p = c.args.placement.now in
     exact_no_agent net h rq p c.args.access c.args.node (sym c.if-not-is_agent.ensures)
 
+pub returns-then-is_untouched : goal.returns-then-is_untouched
+returns-then-is_untouched g c =
+    let kinds : List Meaning = map (λ k. (goal.UnitKind-dyn g (k.vtable, k.value)).meaning k.value) c.args.kinds.now.list.items in
+    let net = c.args.net.now in
+    let h : Held = record_kept kinds c.args.tables.now in
+    let rq = c.args.request.now in
+    let p = c.args.placement.now in
+    exact_agent net h rq p c.args.access c.args.node (sym c.if-not-is_agent.ensures) ((λ _. c.if-is_untouched.ensures refl h), (λ _. refl))
+
 pub returns-then-is_asked : goal.returns-then-is_asked
 returns-then-is_asked g c =
     let kinds : List Meaning = map (λ k. (goal.UnitKind-dyn g (k.vtable, k.value)).meaning k.value) c.args.kinds.now.list.items in

@@ -1,0 +1,158 @@
+-- A node from which no hop can be met shows nothing newly.
+use Rattle.std.proofs.Common.{◌≡◌, ℕ, zero, suc, ◌+◌, ◌*◌, ◌-◌, ◌/◌, ◌%◌, ◌^◌, ◌<◌, ◌≤◌, ◌⊎◌, ◌↔◌, inl, inr, Bool, true, false, if◌then◌else◌, ◌&&◌, ◌||◌, nat_eq, nat_lt, List, [], ◌∷◌, length, slice_get, Option, Some, None, IsTrue, refl, sym, ap, ◌∙◌, subst, arith, eqb-true, lt-ltb, ltb-true}
+use Rattle.std.specs.List.{list_any, list_all}
+use Rattle.std.proofs.lemmas.Bool.{and_parts, false≢true}
+use Rattle.dn_base.proofs.Lists.{list_all-at}
+use Rattle.dn_interval.specs.declared.row.End.{End}
+use Rattle.dn_interval.specs.declared.row.Row.{Row}
+use Rattle.dn_interval.specs.declared.span.TheConstants.{TOP}
+use Rattle.dn_interval.specs.Onward.{rows_of}
+use Rattle.dn_interval.specs.Spans.{in_span}
+use Rattle.dn_interval.specs.Strands.{ends_give, row_gives, rows_give}
+use Rattle.dn_net.specs.declared.node.Name.{Name}
+use Rattle.dn_net.specs.declared.node.NodeDecl.{NodeDecl}
+use Rattle.dn_net.specs.declared.node.Unit.{Unit as UnitPart}
+use Rattle.dn_net.specs.Chain.{Member}
+use Rattle.dn_net.specs.Decode.{unit_at, StopsAt}
+use Rattle.dn_net.specs.Legal.{IsLegalNet}
+use Rattle.dn_kind.specs.declared.rights.Access.{Access}
+use Rattle.dn_kind.specs.declared.rights.Rights.{Rights}
+use Rattle.dn_kind.specs.declared.unit_kind.Record.{Record}
+use Rattle.dn_kind.specs.Rights.{allows}
+use Rattle.dn_kind.specs.Tables.{Held, ResolvesUnder, allowing, output, record_allowing, to_port}
+use Rattle.dn_kind.proofs.Nodes.{ports_there}
+use Rattle.dn_flat.specs.declared.flat.Flat.{Flat}
+use Rattle.dn_flat.specs.Stages.{AreFlats}
+use Rattle.dn_flat.specs.Views.{name_of_end, end_of}
+use Rattle.dn_tables.specs.declared.placement.Hop.{Hop}
+use Rattle.dn_tables.specs.Placement.{Place}
+use Rattle.dn_placement.specs.declared.request.Request.{Request}
+use Rattle.dn_placement.specs.Records.{hop_record, hop_record_by, hop_rights, hops_records, is_taken_by, joined_records, or_record, placed_records, slot_record}
+use Rattle.dn_view.specs.declared.pass.Part.TheVariants.{Stops}
+use Rattle.dn_view.specs.Exact.{IsAdded, IsExactAt}
+use Rattle.dn_view.specs.Passes.{has_rows, outputs, outputs_by, rows_part}
+use Rattle.dn_view.specs.Records.{fresh_record, fresh_records}
+use Rattle.dn_view.specs.Through.{ComesNewly, Newly}
+use Rattle.dn_view.specs.Untouched.{can_meet, has_hop, leads_to_units, rows_meet}
+use Rattle.dn_view.proofs.Added.{not_asked}
+use Rattle.dn_view.proofs.Buffers.{exact_none}
+use Rattle.dn_view.proofs.Cuts.{none_at}
+use Rattle.dn_view.proofs.Exposed.{stop_low}
+use Rattle.dn_view.proofs.Passed.{any_from, any_to}
+use Rattle.dn_view.proofs.Viewed.{node_stops}
+
+-- neither of two
+neither : (p q : Bool) → (p || q) ≡ false → (p ≡ false) × (q ≡ false)
+neither true q e = cc
+neither false q e = (refl, e)
+
+-- no item of the list passes
+none_is : {X : Type 0} (p : X → Bool) (xs : List X) (x : X) → list_any p xs ≡ false → Member x xs → p x ≡ false
+none_is p xs x e m = by (p x) refl
+  where
+    by : (b : Bool) → p x ≡ b → b ≡ false
+    by true f = absurd (false≢true (sym e ∙ any_from p xs x m f))
+    by false f = refl
+
+-- in a node in which no hop stands the hops have no record
+unplaced : (net : List NodeDecl) (size : ℕ) (rights : Rights) (own place : ℕ) (hops : List Hop) (node slot : ℕ) → has_hop hops node ≡ false → hops_records net size rights own place hops node slot ≡ None
+unplaced net size rights own place [] node slot e = refl
+unplaced net size rights own place (hop ∷ hops) node slot e =
+    let n = neither (nat_eq node hop.unit) (has_hop hops node) e in
+    ap (λ o. or_record o (hops_records net size rights own (suc place) hops node slot)) (here (unit_at net hop.unit) n.0)
+    ∙ unplaced net size rights own (suc place) hops node slot n.1
+  where
+    here : (o : Option UnitPart) → nat_eq node hop.unit ≡ false → hop_record_by o size (hop_rights rights own place) hop node slot ≡ None
+    here None f = refl
+    here (Some u) f = ap (λ b. if b && is_taken_by u size hop slot then Some (slot_record u (hop_rights rights own place) hop slot) else None) f
+
+-- rows that give a name are there
+given_rows : (rows : List Row) (a : ℕ) (z : End) → rows_give rows a z ≡ true → has_rows rows ≡ true
+given_rows [] a z e = cc
+given_rows (r ∷ rs) a z e = lt-ltb 0 (length (r ∷ rs)) (let f : 0 < length (r ∷ rs) = omega arith in f)
+
+-- the node of a name that rows give is that of one of their names
+row_met : (p : ℕ → Bool) (rows : List Row) (a : ℕ) (z : End) → list_any (λ (r : Row). list_any (λ (e : End). p e.node) r.ends) rows ≡ false → rows_give rows a z ≡ true → p z.node ≡ false
+row_met p rows a z none g =
+    let r = any_to (λ (r : Row). row_gives r a z) rows g in
+    let row : Row = r.0 in
+    let given = and_parts (in_span row.span a) (ends_give row.ends row.span.lo a z) r.2 in
+    let e = any_to (λ (e : End). nat_eq e.node z.node && nat_eq (e.base + (a - row.span.lo)) z.base) row.ends given.1 in
+    let end : End = e.0 in
+    let same = and_parts (nat_eq end.node z.node) (nat_eq (end.base + (a - row.span.lo)) z.base) e.2 in
+    subst (λ n. p n ≡ false) (eqb-true end.node z.node same.0)
+    (none_is (λ (e : End). p e.node) row.ends end (none_is (λ (r : Row). list_any (λ (e : End). p e.node) r.ends) rows row none r.1) e.1)
+
+module _ (net : List NodeDecl) (legal : IsLegalNet net) (flats : List Flat) (are : AreFlats net flats) (rq : Request) (p : Place) (access : Access) (h : Held) where
+  abbrev added : Held
+  added = placed_records net rq p
+
+  abbrev old : Held
+  old = allowing access h
+
+  abbrev fresh : Held
+  fresh = allowing access (fresh_records h added)
+
+  abbrev all : Held
+  all = allowing access (joined_records h added)
+
+  -- what stands where no hop can be met does not come to one
+  not_newly : (t z : Name) → can_meet net flats p.hops t.node ≡ false → Newly net old fresh all 3 t z → ⊥
+  not_newly t z none k = by k
+    where
+      parts : (has_hop p.hops t.node ≡ false) × (leads_to_units flats (unit_at net t.node) ≡ false)
+      parts = neither (has_hop p.hops t.node) (leads_to_units flats (unit_at net t.node)) none
+
+      empty : (slot : ℕ) → fresh t.node slot ≡ None
+      empty slot = ap (λ o. record_allowing access (fresh_record (h t.node slot) o)) (unplaced net rq.size rq.rights p.own 0 p.hops t.node slot parts.0) ∙ no_record (h t.node slot)
+        where
+          no_record : (o : Option Record) → record_allowing access (fresh_record o None) ≡ None
+          no_record None = refl
+          no_record (Some r) = refl
+
+      not_fresh : (w : Name) (o : Option UnitPart) → Member w (outputs_by fresh t o) → ⊥
+      not_fresh w None m = absurd m
+      not_fresh w (Some u) m = absurd (subst (λ o. Member w (output u o t.addr)) (empty (t.addr / 2 ^ u.page)) m)
+
+      not_on : (w v : Name) (o : Option UnitPart) → unit_at net t.node ≡ o → leads_to_units flats o ≡ false → Member w (outputs_by old t o) → StopsAt net w v → ⊥
+      not_on w v None e f m st = absurd m
+      not_on w v (Some u) e f m st = on (old t.node (t.addr / 2 ^ u.page)) m
+        where
+          leads : ℕ → Bool
+          leads port = has_rows (rows_of (rows_part Stops) (slice_get flats port))
+
+          at : (o : Option ℕ) (i n : ℕ) → slice_get u.ports i ≡ o → Member w (to_port o n) → ⊥
+          at None i n g k = absurd k
+          at (Some port) i n g (inr k) = absurd k
+          at (Some port) i n g (inl k) = absurd (false≢true (sym (none_at leads u.ports i port f g) ∙ given_rows (rows_of (rows_part Stops) (slice_get flats port)) w.addr (end_of v) gives))
+            where
+              same : w.node ≡ port
+              same = sym (ap (λ (x : Name). x.node) k)
+
+              within : port < length flats
+              within = subst (λ n. port < n) (sym are.every) (there u.ports i (ports_there net t.node u legal.nodes.closed e) g)
+                where
+                  there : (ports : List ℕ) (j : ℕ) → IsTrue (list_all (λ q. nat_lt q (length net)) ports) → slice_get ports j ≡ Some port → port < length net
+                  there ports j all_there at_j = ltb-true port (length net) (list_all-at (λ q. nat_lt q (length net)) ports j port all_there at_j)
+
+              gives : rows_give (rows_of (rows_part Stops) (slice_get flats port)) w.addr (end_of v) ≡ true
+              gives = (node_stops net flats are port within (rows_give (rows_of (rows_part Stops) (slice_get flats port)) w.addr (end_of v)) w.addr (end_of v) (stop_low net w v st) refl).1 (subst (λ (n : ℕ). StopsAt net (record { node = n; addr = w.addr }) v) same st)
+
+          on : (o : Option Record) → Member w (output u o t.addr) → ⊥
+          on None k = absurd k
+          on (Some r) k = at (slice_get u.ports r.port) r.port (r.page * 2 ^ u.page + t.addr % 2 ^ u.page) refl k
+
+      by : Newly net old fresh all 3 t z → ⊥
+      by (inl n) = not_fresh n.0 (unit_at net t.node) n.1
+      by (inr n) = not_on n.0 n.2.0 (unit_at net t.node) refl parts.1 n.1 n.2.1
+
+  -- a node at which nothing is asked for, and from which no hop can be met, is exact
+  pub untouched : (node : ℕ) → node < length flats → (nat_eq node rq.agent && allows rq.rights access) ≡ false → rows_meet net flats p.hops (rows_of (rows_part Stops) (slice_get flats node)) ≡ false → IsExactAt net h rq p access node
+  unfolding ComesNewly
+  untouched node l asked none = (exact_none net h rq p access node [] (not_asked net h rq p access node asked) (λ a z low. ((λ e. absurd (false≢true e)), (λ k. absurd (never a z low k))))).0 refl
+    where
+      never : (a : ℕ) (z : End) → a ≤ TOP → IsAdded net h rq p access (record { node = node; addr = a }) (name_of_end z) → ⊥
+      never a z low k =
+          let rows : List Row = rows_of (rows_part Stops) (slice_get flats node) in
+          let given : rows_give rows a (end_of k.0) ≡ true = (node_stops net flats are node l (rows_give rows a (end_of k.0)) a (end_of k.0) low refl).1 k.1 in
+          not_newly k.0 (name_of_end z) (row_met (can_meet net flats p.hops) rows a (end_of k.0) none given) k.2
