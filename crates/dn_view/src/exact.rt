@@ -100,11 +100,13 @@ fn exact_for(
         return Ok(false);
     }
     for node in 0..net.nodes() {
-        let other = exact_at(
-            alloc, net, flats, kinds, tables, request, placement, access, node,
-        )?;
-        if !other {
-            return Ok(false);
+        if node != own {
+            let other = exact_at(
+                alloc, net, flats, kinds, tables, request, placement, access, node,
+            )?;
+            if !other {
+                return Ok(false);
+            }
         }
     }
     Ok(true)
@@ -250,6 +252,9 @@ fn push_newly(
         (placed_records net.now request.now placement.now)))
         (name_of_end s) (name_of_end z)))) }
 {
+    if segs.is_empty() {
+        return Ok(());
+    }
     let fresh = Records::Fresh(request, placement);
     let all = Records::Joined(request, placement);
     pass(

@@ -56,6 +56,9 @@ pub(crate) fn push_through(
         (record_kept (map (λ k. meaning (k.vtable, k.value)) kinds.now.list.items) tables.now) records.entry))
         (name_of_end s) (name_of_end z)))) }
 {
+    if stops.is_empty() {
+        return Ok(());
+    }
     let mut level = stops;
     for _ in 0..UNITS {
         let segs = level.as_slice();

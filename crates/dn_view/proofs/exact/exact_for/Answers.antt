@@ -20,6 +20,7 @@ use Rattle.dn_view.specs.Exact.{IsAdded, IsExactAt, AreExact}
 use Rattle.dn_view.proofs.Held.{kept_are_held}
 use Rattle.std.proofs.lemmas.Bool.{false≢true}
 use Rattle.dn_view.proofs.Agents.{exact_all, exact_more, not_all}
+use Rattle.dn_view.proofs.exact.exact_for.Goals.{then-node-own+in_ok-other+else-not-other, else-node-own}
 use Rattle.dn_view.proofs.exact.exact_for.Goals as goal
 
 pub returns-then-not-first : goal.returns-then-not-first
@@ -41,7 +42,10 @@ loop-node-preserved g c =
     let h : Held = record_kept kinds c.args.tables.now in
     let rq = c.args.request.now in
     let p = c.args.placement.now in
-    exact_more net h rq p c.args.access c.loop-node.node c.in_ok-other.other c.if-not-other.false c.loop-node.invariant c.in_ok-other.ensures
+    elim c.if-node-own.branch [
+      | then-node-own+in_ok-other+else-not-other w ↦ exact_more net h rq p c.args.access c.loop-node.node w.in_ok-other.other w.if-not-other.false c.loop-node.invariant w.in_ok-other.ensures
+      | else-node-own w ↦ exact_more net h rq p c.args.access c.loop-node.node c.in_ok-first.first c.if-not-first.false c.loop-node.invariant (subst (λ (n : ℕ). (c.in_ok-first.first ≡ true) ↔ (IsTrue (is_agent_at (slice_get net n)) → IsExactAt net h rq p c.args.access n)) (sym w.if-node-own.false) c.in_ok-first.ensures)
+    ]
 
 pub returns-then-not-other : goal.returns-then-not-other
 returns-then-not-other g c =
