@@ -1,13 +1,18 @@
 -- Placements whose hops are all chosen.
-use Rattle.std.proofs.Common.{◌≡◌, ℕ, suc, ◌+◌, ◌-◌, ◌<◌, ◌≤◌, false, List, [], ◌∷◌, ◌++◌, length, slice_get, Some, refl, sym, ap, ◌∙◌, subst, arith, append_assoc}
+use Rattle.std.proofs.Common.{◌≡◌, ℕ, suc, ◌+◌, ◌-◌, ◌<◌, ◌≤◌, Bool, true, false, if◌then◌else◌, nat_eq, List, [], ◌∷◌, ◌++◌, length, slice_get, Some, refl, sym, ap, ◌∙◌, subst, arith, append_assoc}
 use Rattle.std.proofs.lemmas.Option.{slice_get_within}
+use Rattle.dn_net.specs.declared.node.NodeDecl.{NodeDecl}
 use Rattle.dn_net.specs.Decode.{top}
+use Rattle.dn_kind.specs.Rights.{both_rights}
+use Rattle.dn_kind.specs.Tables.{Held}
 use Rattle.dn_tables.specs.declared.placement.Hop.{Hop}
 use Rattle.dn_tables.specs.Placement.{Place}
 use Rattle.dn_place.specs.Sought.{IsReady, Sought}
+use Rattle.dn_placement.specs.Exposure.{Gives, IsAdmissible}
 use Rattle.dn_placement.specs.Keys.{Begins}
 use Rattle.dn_placement.specs.Order.{IsSuited, hop_page, hops_key, key_of, precedes}
 use Rattle.dn_placement.specs.Placement.{IsPlacement, Meets}
+use Rattle.dn_placement.specs.Records.{hop_record, hop_rights, hops_records, joined_records, or_record, placed_records}
 use Rattle.dn_placement.proofs.Hops.{same_hops}
 use Rattle.dn_placement.proofs.Keys.{cancel, one_more, not_itself}
 use Rattle.dn_placement.proofs.Order.{same_placement}
@@ -132,6 +137,50 @@ backs_found s hops v page back own e can is below = found_first s _ back (record
   is = record { is = is; begins = key_there s hops v own page back can (omega arith) };
   least = λ q u. subst (λ k. precedes s.net k (record { v = v; hops = hops; own = own }) ≡ false) (sym (same_as s hops v page back own e q u)) (not_itself (key_of s.net (record { v = v; hops = hops; own = own })));
 })
+
+-- with both rights the records of hops are the same whichever of them is the own one
+same_records : (net : List NodeDecl) (size own own' place : ℕ) (hops : List Hop) (node slot : ℕ) → hops_records net size both_rights own place hops node slot ≡ hops_records net size both_rights own' place hops node slot
+same_records net size own own' place [] node slot = refl
+same_records net size own own' place (hop ∷ hops) node slot =
+    ap (λ r. or_record (hop_record net size r hop node slot) (hops_records net size both_rights own (suc place) hops node slot)) (is_both own ∙ sym (is_both own'))
+    ∙ ap (or_record (hop_record net size (hop_rights both_rights own' place) hop node slot)) (same_records net size own own' (suc place) hops node slot)
+  where
+    is_both : (o : ℕ) → hop_rights both_rights o place ≡ both_rights
+    is_both o = by (nat_eq place o)
+      where
+        by : (b : Bool) → (if b then both_rights else both_rights) ≡ both_rights
+        by true = refl
+        by false = refl
+
+-- so where one is not admissible, none is
+pub none_owned : (s : Sought) (hops : List Hop) (v own page : ℕ) → s.request.rights ≡ both_rights → (IsAdmissible s.net s.slots.held s.request (record { v = v; hops = hops; own = own }) → ⊥) → NoneUnder s (to_page (length hops) hops v page)
+none_owned s hops v own page both refused = record { none = λ q u. refused (moved q u) }
+  where
+    front : List ℕ
+    front = ending (length hops) hops
+
+    moved : (q : Place) → IsUnder s (to_page (length hops) hops v page) q → IsAdmissible s.net s.slots.held s.request (record { v = v; hops = hops; own = own })
+    moved q u = subst (λ n. Gives s.net s.slots.held (joined_records s.slots.held (placed_records s.net s.request (record { v = v; hops = hops; own = own }))) s.request n) t
+        (subst (λ (k : Held). Gives s.net s.slots.held k s.request q.v) same u.is.admissible)
+      where
+        w : Whole s hops q (v ∷ page ∷ [])
+        w = whole s hops q (v ∷ page ∷ []) (subst (λ f. IsUnder s f q) (one_more front v (page ∷ [])) u)
+
+        first : (a d : ℕ) (m r : List ℕ) → (a ∷ m) ≡ (d ∷ r) → a ≡ d
+        first a d m r p = cc
+
+        t : q.v ≡ v
+        t = first q.v v (hop_page s.net (slice_get hops q.own) ∷ (length hops - q.own) ∷ []) (page ∷ w.rest) w.tail
+
+        each : (node slot : ℕ) → placed_records s.net s.request q node slot ≡ placed_records s.net s.request (record { v = v; hops = hops; own = own }) node slot
+        each node slot =
+            ap (λ (l : List Hop). hops_records s.net s.request.size s.request.rights q.own 0 l node slot) w.same
+            ∙ ap (λ r. hops_records s.net s.request.size r q.own 0 hops node slot) both
+            ∙ same_records s.net s.request.size q.own own 0 hops node slot
+            ∙ sym (ap (λ r. hops_records s.net s.request.size r own 0 hops node slot) both)
+
+        same : ◌≡◌ {A = Held} (joined_records s.slots.held (placed_records s.net s.request q)) (joined_records s.slots.held (placed_records s.net s.request (record { v = v; hops = hops; own = own })))
+        same = λ j node slot. or_record (s.slots.held node slot) (each node slot j)
 
 -- a placement goes on with the distance of its own hop
 pub back_of : (s : Sought) (hops : List Hop) (v page : ℕ) (q : Place) → IsUnder s (to_page (length hops) hops v page) q → (j : ℕ) × (j < suc (length hops)) × Begins (to_page (length hops) hops v page ++ j ∷ []) (key_of s.net q)

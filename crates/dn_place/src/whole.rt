@@ -2,6 +2,7 @@
 
 ghost use Rattle.std.specs.Prelude.{◌≡◌, ◌+◌, ◌<◌, ◌≤◌, ◌↔◌, false, Some, IfOk, IfSome, IfNone, IsTrue, length};
 ghost use Rattle.dn_net.specs.Decode.{top};
+ghost use Rattle.dn_kind.specs.Rights.{both_rights};
 ghost use Rattle.dn_placement.specs.Order.{IsAt, hop_page};
 ghost use Rattle.dn_placement.specs.Placement.{Leads, Meets};
 ghost use Rattle.dn_place.specs.Candidates.{Answers, CanOwn, IsChosen, PagesBelow, PagesFrom, ending, to_address, to_page};
@@ -13,6 +14,7 @@ use crate::quest::{Quest, unit_of};
 use crate::rows::{is_clear, output, rows_toward, wanted};
 use crate::slots::is_hop_free;
 use dn_base::OutOfMemory;
+use dn_kind::rights::Rights;
 use dn_tables::placement::{Hop, Placement};
 use std::alloc::Global;
 
@@ -109,9 +111,20 @@ fn by_page<Q: Quest>(
             if quest.is_exact(v, hops, own)? {
                 return Ok(Some(hops.placed(alloc, v, own)));
             }
+            if has_both(quest.request().rights) {
+                return Ok(None);
+            }
         }
     }
     Ok(None)
+}
+
+/// Whether the rights are reading and writing: then the records of hops are the same whichever of them
+/// is the own one.
+fn has_both(rights: Rights) -> bool
+    ensures { IsTrue result → rights ≡ both_rights }
+{
+    rights == Rights::both()
 }
 
 /// Whether the hop has the page, and its slots are free.

@@ -1,10 +1,12 @@
-use Rattle.std.proofs.Common.{◌-◌, ◌∙◌, arith, sym}
+use Rattle.std.proofs.Common.{◌≡◌, ◌-◌, ◌∙◌, arith, sym, subst}
 use Rattle.std.proofs.lemmas.Bool.{false≢true}
+use Rattle.dn_kind.specs.Rights.{both_rights}
+use Rattle.dn_placement.specs.declared.request.Request.{Request}
 use Rattle.dn_place.specs.Hops.{hops_of}
 use Rattle.dn_place.proofs.Levels.{next_one}
-use Rattle.dn_place.proofs.Wholes.{backs_begun, backs_found, backs_refused, backs_unsuited, backs_done, placed}
+use Rattle.dn_place.proofs.Wholes.{backs_begun, backs_found, backs_refused, backs_unsuited, backs_done, none_owned, placed}
 use Rattle.dn_place.proofs.whole.by_page.Goals as goal
-use Rattle.dn_place.proofs.whole.by_page.Goals.{then-can_own+in_ok-is_exact+else-branch, else-can_own}
+use Rattle.dn_place.proofs.whole.by_page.Goals.{then-can_own+in_ok-is_exact+else-branch+else-has_both, else-can_own}
 
 pub loop-back-init : goal.loop-back-init
 loop-back-init g c = backs_begun _ _ _ _
@@ -21,9 +23,14 @@ returns-then-branch g c =
     (record { is_placement = is; is_at = c.requires.at; admissible = c.in_ok-is_exact.ensures.0 c.if-branch.true })
     c.loop-back.invariant)
 
+pub returns-then-has_both : goal.returns-then-has_both
+returns-then-has_both g c = none_owned (g.Q.Quest.sought c.args.quest.now) (hops_of c.args.hops) c.args.v (c.count-count.result - c.loop-back.back) c.args.page
+    (subst (λ (r : Request). r.rights ≡ both_rights) c.request.ensures (c.has_both.ensures c.if-has_both.true))
+    (λ is. false≢true (sym c.if-branch.false ∙ c.in_ok-is_exact.ensures.1 is))
+
 pub loop-back-preserved : goal.loop-back-preserved
 loop-back-preserved g c = elim c.if-can_own.branch [
-  | then-can_own+in_ok-is_exact+else-branch w ↦ next_one _ _ _ c.loop-back.invariant (backs_unsuited (g.Q.Quest.sought c.args.quest.now) (hops_of c.args.hops) c.args.v c.args.page c.loop-back.back (c.count-count.result - c.loop-back.back) (omega (arith, c.count-count.ensures)) (λ is. false≢true (sym w.if-branch.false ∙ w.in_ok-is_exact.ensures.1 is.admissible)))
+  | then-can_own+in_ok-is_exact+else-branch+else-has_both w ↦ next_one _ _ _ c.loop-back.invariant (backs_unsuited (g.Q.Quest.sought c.args.quest.now) (hops_of c.args.hops) c.args.v c.args.page c.loop-back.back (c.count-count.result - c.loop-back.back) (omega (arith, c.count-count.ensures)) (λ is. false≢true (sym w.if-branch.false ∙ w.in_ok-is_exact.ensures.1 is.admissible)))
   | else-can_own w ↦ next_one _ _ _ c.loop-back.invariant (backs_refused (g.Q.Quest.sought c.args.quest.now) (hops_of c.args.hops) c.args.v c.args.page c.loop-back.back (c.count-count.result - c.loop-back.back) (omega (arith, c.count-count.ensures)) (c.can_own.ensures.no w.if-can_own.false))
 ]
 
