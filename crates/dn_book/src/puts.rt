@@ -28,11 +28,7 @@ use dn_tables::set::TableSet;
 fn hop_rights(rights: Rights, own: usize, place: usize) -> Rights
     ensures { result ≡ hop_rights rights own place }
 {
-    if place == own {
-        rights
-    } else {
-        Rights::both()
-    }
+    if place == own { rights } else { Rights::both() }
 }
 
 /// A fence where one is due, and then the records of a grant, in those of its slots that no live grant
@@ -117,7 +113,15 @@ fn put_grant<D: Tables>(
     for behind in 0..hops.len() {
         let place = hops.len() - 1 - behind;
         let rights = hop_rights(grant.request.rights, own, place);
-        put_hop(tables, net, kinds, grant.request.size, rights, &hops[place], device)?;
+        put_hop(
+            tables,
+            net,
+            kinds,
+            grant.request.size,
+            rights,
+            &hops[place],
+            device,
+        )?;
     }
     Ok(())
 }
