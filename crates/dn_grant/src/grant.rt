@@ -13,7 +13,7 @@ ghost use Rattle.dn_placement.specs.Order.{IsFirst, NoneSuited};
 ghost use Rattle.dn_book.specs.Book.{slots_of};
 ghost use Rattle.dn_book.specs.Tables.{IsKept};
 ghost use Rattle.dn_grant.specs.Faults.{is_grant_fault};
-ghost use Rattle.dn_grant.specs.Grant.{IsGrantLogged, IsGrantTurn};
+ghost use Rattle.dn_grant.specs.Grant.{IsGrantLogged, IsGrantTurn, NoAddition};
 ghost use Rattle.dn_grant.specs.Refusal.{grant_refusal};
 
 use crate::fault::GrantFault;
@@ -63,6 +63,9 @@ pub fn grant<D: Tables>(
         IsGrantTurn net.now book.old.grants id request.now result book.new.grants }
     ensures refused { IfSome (grant_refusal net.now book.old.grants id request.now)
         (λ why. result ≡ Err why) }
+    // The refusal of one address is complete: records other than those of placements do not give it either.
+    ensures complete { result ≡ Err GrantFault.NoPlacement → request.now.size ≡ 1 →
+        NoAddition net.now book.old.grants request.now }
     ensures stays { OnErr result (book.new.grants ≡ book.old.grants) }
     ensures unchanged { is_err result ≡ true → result ≢ Err GrantFault.Device →
         (book.new ≡ book.old) × (device.new ≡ device.old) }
