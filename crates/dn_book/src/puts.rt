@@ -15,6 +15,7 @@ ghost use Rattle.dn_book.specs.Writes.{AreAdded, fence_events, grant_slots, hop_
 
 use crate::grant::Grant;
 use crate::slots::{end_slot, first_slot, slot_record};
+use crate::uses::is_unused;
 use dn_base::device::{DeviceFault, Tables};
 use dn_kind::kinds::Kinds;
 use dn_kind::rights::Rights;
@@ -209,7 +210,7 @@ fn put_slot<D: Tables>(
     ensures on_device { IsOnDevice tables.new (D.units device.new) (D.words device.new) }
     ensures counted { IsCounted (D.faults device.old) (D.faults device.new) (is_err result) }
 {
-    if tables.uses_at(unit, slot) == 0 {
+    if is_unused(tables, unit, slot) {
         tables.put(kinds, unit, slot, holds, device)?;
     }
     Ok(())

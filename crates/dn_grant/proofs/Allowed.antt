@@ -1,5 +1,5 @@
 -- What is known of a request for which no refusal holds.
-use Rattle.std.proofs.Common.{◌≡◌, ◌∙◌, sym, refl, ℕ, ◌+◌, ◌<◌, ◌≤◌, Bool, true, false, if◌then◌else◌, not, nat_le, List, length, slice_get, Option, Some, None, Result, Err, IsTrue}
+use Rattle.std.proofs.Common.{◌≡◌, ◌∙◌, sym, refl, subst, ℕ, ◌+◌, ◌<◌, ◌≤◌, Bool, true, false, if◌then◌else◌, not, nat_le, List, [], ◌∷◌, ◌++◌, length, slice_get, Option, Some, None, Result, Err, IsTrue}
 use Rattle.std.proofs.lemmas.Bool.{leb-false}
 use Rattle.std.specs.List.{All}
 use Rattle.dn_net.specs.declared.node.NodeDecl.{NodeDecl}
@@ -9,6 +9,7 @@ use Rattle.dn_tables.specs.declared.table.NodeTable.{NodeTable}
 use Rattle.dn_view.specs.Addition.{AreProper}
 use Rattle.dn_view.proofs.AddedLaw.{refusal_is_complete}
 use Rattle.dn_book.specs.Tables.{IsKept}
+use Rattle.dn_book.proofs.Faithful.{grant_keeps_book}
 use Rattle.dn_book.proofs.KeptEmpty.{kept_records_are_proper}
 use Rattle.dn_net.specs.Decode.{is_agent_at, top}
 use Rattle.dn_kind.specs.Rights.{are_rights}
@@ -18,7 +19,7 @@ use Rattle.dn_placement.specs.declared.request.Request.{Request}
 use Rattle.dn_book.specs.declared.grant.Grant.{Grant}
 use Rattle.dn_book.specs.declared.book.CommitFault.{CommitFault}
 use Rattle.dn_book.specs.declared.book.CommitFault.TheVariants.{Device as commit_device, OutOfMemory as commit_memory}
-use Rattle.dn_book.specs.Book.{has_id, slots_of}
+use Rattle.dn_book.specs.Book.{IsFaithful, IsSound, has_id, slots_of}
 use Rattle.dn_book.specs.Laws.{IsGrantFor}
 use Rattle.dn_grant.specs.declared.fault.GrantFault.{GrantFault}
 use Rattle.dn_grant.specs.declared.fault.GrantFault.TheVariants.{IdUsed, NoAgent, NoTarget, NotAccepted, BookFull, Device}
@@ -89,6 +90,15 @@ pub allowed_grant : (net : List NodeDecl) (book : List Grant) (id : ℕ) (rq : R
 allowed_grant net book id rq p none rights first =
     let is = allowed_is net book id rq none in
     record { few = is.few; new = is.new; agent = is.agent; rights = rights; placed = first.suited.is_placement }
+
+-- with that grant a faithful book stays so
+pub still_faithful : (net : List NodeDecl) (book next : List Grant) (id : ℕ) (rq : Request) (p : Place) →
+    IsLegalNet net → IsSound net book → grant_refusal net book id rq ≡ None → IsTrue (are_rights rq.rights) →
+    IsFirst net (slots_of net book) rq None p → next ≡ book ++ grant_at id rq p ∷ [] →
+    IsFaithful net book → IsFaithful net next
+still_faithful net book next id rq p legal sound none rights first appended faithful =
+    let keeps = grant_keeps_book net book (grant_at id rq p) legal sound (allowed_grant net book id rq p none rights first) in
+    subst (λ (b : List Grant). IsFaithful net b) (sym appended) (keeps.1 faithful first.suited.admissible)
 
 -- a fault of the device that a commit hands on was no want of memory
 pub not_memory : (f : CommitFault) (w : GrantFault) →

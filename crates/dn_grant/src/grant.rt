@@ -10,7 +10,7 @@ ghost use Rattle.dn_kind.specs.Units.{IsLegalWith};
 ghost use Rattle.dn_flat.specs.Stages.{AreFlats};
 ghost use Rattle.dn_tables.specs.Set.{FitsNet, IsOnDevice};
 ghost use Rattle.dn_placement.specs.Order.{IsFirst, NoneSuited};
-ghost use Rattle.dn_book.specs.Book.{slots_of};
+ghost use Rattle.dn_book.specs.Book.{IsFaithful, slots_of};
 ghost use Rattle.dn_book.specs.Tables.{IsKept};
 ghost use Rattle.dn_grant.specs.Faults.{is_grant_fault};
 ghost use Rattle.dn_grant.specs.Grant.{IsGrantLogged, IsGrantTurn, NoAddition};
@@ -71,6 +71,8 @@ pub fn grant<D: Tables>(
         (book.new ≡ book.old) × (device.new ≡ device.old) }
     ensures kept { OnOk result (IsKept net.now
         (map (λ k. meaning (k.vtable, k.value)) kinds.now.list.items) book.new.grants book.new.set) }
+    ensures faithful { OnOk result (IsFaithful net.now book.old.grants →
+        IsFaithful net.now book.new.grants) }
     ensures fenced { OnOk result (book.new.cleared ≡ false) }
     ensures sound { book.new.sound ≡ not (is_grant_fault result) }
     ensures fits { FitsNet net.now

@@ -9,16 +9,18 @@ use Rattle.dn_tables.specs.declared.table.NodeTable.{NodeTable}
 use Rattle.dn_view.specs.Addition.{AreProper}
 use Rattle.dn_view.proofs.AddedLaw.{refusal_is_complete}
 use Rattle.dn_book.specs.Tables.{IsKept}
+use Rattle.dn_book.proofs.Faithful.{grant_keeps_book}
 use Rattle.dn_book.proofs.KeptEmpty.{kept_records_are_proper}
 use Rattle.dn_net.specs.Decode.{is_agent_at}
 use Rattle.dn_kind.specs.Kind.{IsLawful, Meaning}
 use Rattle.dn_tables.specs.Placement.{Place}
 use Rattle.dn_placement.specs.declared.request.Request.{Request}
+use Rattle.dn_placement.specs.Exposure.{IsAdmissible}
 use Rattle.dn_placement.specs.Roles.{is_vectors_at}
 use Rattle.dn_book.specs.declared.grant.Grant.{Grant}
 use Rattle.dn_book.specs.declared.book.CommitFault.{CommitFault}
 use Rattle.dn_book.specs.declared.book.CommitFault.TheVariants.{Device as commit_device, OutOfMemory as commit_memory}
-use Rattle.dn_book.specs.Book.{has_id, slots_of}
+use Rattle.dn_book.specs.Book.{IsFaithful, IsSound, has_id, records_of, slots_of}
 use Rattle.dn_book.specs.Laws.{IsGrantFor}
 use Rattle.dn_book.specs.Writes.{AreAdded, grant_events}
 use Rattle.dn_vector.specs.declared.fault.RouteFault.{RouteFault}
@@ -98,6 +100,16 @@ pub placed_grant : (net : List NodeDecl) (book : List Grant) (id agent line node
 placed_grant net book id agent line node v p rq e is =
     subst (λ r. IsGrantFor net book (grant_of id r p)) (sym e)
     (allowed_route net book id agent line node v p is.allowed is.placed)
+
+-- with that grant a faithful book stays so
+pub still_faithful : (net : List NodeDecl) (book next : List Grant) (id agent line node v : ℕ) (p : Place)
+    (rq : Request) → rq ≡ vector_request agent node v → IsLegalNet net → IsSound net book →
+    IsPlacedRoute net book id agent line node v p → next ≡ book ++ grant_of id rq p ∷ [] →
+    IsFaithful net book → IsFaithful net next
+still_faithful net book next id agent line node v p rq e legal sound is appended faithful =
+    let keeps = grant_keeps_book net book (grant_of id rq p) legal sound (placed_grant net book id agent line node v p rq e is) in
+    let admissible = subst (λ r. IsAdmissible net (records_of net book) r p) (sym e) is.placed.first.suited.admissible in
+    subst (λ (b : List Grant). IsFaithful net b) (sym appended) (keeps.1 faithful admissible)
 
 -- a route that is placed and appended is made
 pub placed_made : (net : List NodeDecl) (book next : List Grant) (id agent line node v : ℕ) (p : Place)

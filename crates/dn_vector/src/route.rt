@@ -7,6 +7,7 @@ ghost use Rattle.dn_kind.specs.Kind.{IsLawful};
 ghost use Rattle.dn_kind.specs.Units.{IsLegalWith};
 ghost use Rattle.dn_flat.specs.Stages.{AreFlats};
 ghost use Rattle.dn_tables.specs.Set.{FitsNet, IsOnDevice};
+ghost use Rattle.dn_book.specs.Book.{IsFaithful};
 ghost use Rattle.dn_book.specs.Tables.{IsKept};
 ghost use Rattle.dn_vector.specs.Faults.{is_route_fault};
 ghost use Rattle.dn_vector.specs.Refusal.{route_refusal};
@@ -67,6 +68,8 @@ pub fn route<D: Tables>(
         (book.new ≡ book.old) × (device.new ≡ device.old) }
     ensures kept { OnOk result (IsKept net.now
         (map (λ k. meaning (k.vtable, k.value)) kinds.now.list.items) book.new.grants book.new.set) }
+    ensures faithful { OnOk result (IsFaithful net.now book.old.grants →
+        IsFaithful net.now book.new.grants) }
     ensures fenced { OnOk result (book.new.cleared ≡ false) }
     ensures sound { book.new.sound ≡ not (is_route_fault result) }
     ensures fits { FitsNet net.now

@@ -2,7 +2,7 @@ use Rattle.std.proofs.Common.{◌≡◌, ◌∙◌, sym, refl, map, None, ℕ}
 use Rattle.dn_grant.specs.Refusal.{grant_refusal}
 use Rattle.std.proofs.lemmas.Result.{err_from_is_err_and}
 use Rattle.dn_tables.proofs.Slots.{all_of_map}
-use Rattle.dn_grant.proofs.Allowed.{allowed_is, allowed_within, allowed_grant, no_addition, not_memory}
+use Rattle.dn_grant.proofs.Allowed.{allowed_is, allowed_within, allowed_grant, no_addition, not_memory, still_faithful}
 use Rattle.dn_grant.proofs.grant.grant.Goals as goal
 
 pub first_in_book-requires-clause-agent : goal.first_in_book-requires-clause-agent
@@ -46,6 +46,11 @@ returns-clause-turn g c =
       address = c.v-v.ensures;
       appended = c.in_ok-commit.ensures.granted;
     }
+
+pub returns-clause-faithful : goal.returns-clause-faithful
+returns-clause-faithful g c =
+    still_faithful c.args.net.now c.args.book.now.grants _ c.args.id c.args.request.now c.in-Some-2.placement c.requires.legal.legal c.requires.kept.sound
+    (sym c.refusal.ensures ∙ c.in_default.is) c.requires.rights (rw c.in-Some-2.is at c.in_ok-placement.ensures.first) c.in_ok-commit.ensures.granted
 
 pub returns-clause-granted : goal.returns-clause-granted
 returns-clause-granted g c = record {
