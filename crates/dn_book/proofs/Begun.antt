@@ -18,7 +18,6 @@ use Rattle.dn_book.proofs.Faithful.{empty_book_is_faithful}
 use Rattle.dn_book.proofs.Live.{book_held}
 use Rattle.dn_book.proofs.Packed.{AreKinds, Holds, set_holds, tables_hold}
 
-
 -- slots without records have words 0
 zero_slots : (kind : Meaning) (u : UnitPart) (records : ℕ → Option Record) → ((q : ℕ) → records q ≡ None) → (first count : ℕ) → replicate (count * kind.words) 0 ≡ packed_slots kind u records first count
 zero_slots kind u records none first zero = let e : 0 * kind.words ≡ 0 = omega arith in ap (λ n. replicate n 0) e

@@ -167,8 +167,7 @@ pub hop_of_grant : (kinds : List Meaning) (net : List NodeDecl) (set : List Node
 hop_of_grant kinds net set g p j hop at =
     let u = p.hops.units hop (hop_member g.placement.hops j hop at) in
     let z : 0 + j ≡ j = omega arith in
-    let here : slice_get (grant_slots net g) j ≡ Some (hop_slots net g.request.size (hop_rights g.request.rights g.placement.own j) hop) = hops_at net g.request.size g.request.rights g.placement.own 0 g.placement.hops j hop at ∙ ap (λ m. Some (hop_slots net g.request.size (hop_rights g.request.rights g.placement.own m) hop)) z in
-    (
+    let here : slice_get (grant_slots net g) j ≡ Some (hop_slots net g.request.size (hop_rights g.request.rights g.placement.own j) hop) = hops_at net g.request.size g.request.rights g.placement.own 0 g.placement.hops j hop at ∙ ap (λ m. Some (hop_slots net g.request.size (hop_rights g.request.rights g.placement.own m) hop)) z in (
       u.0,
       u.1,
       record {

@@ -195,8 +195,90 @@ zero_words : (n : ℕ) → list_all (λ v. v == 0) (replicate n 0) ≡ true
 zero_words zero = refl
 zero_words (suc n) = zero_words n
 
+-- a hop that does not take a slot puts no record there
+hop_none : (net : List NodeDecl) (size node slot : ℕ) (rights : Rights) (hop : Hop) →
+    is_taken net size node slot hop ≡ false → hop_record net size rights hop node slot ≡ None
+hop_none net size node slot rights hop t = go (unit_at net hop.unit) refl t
+  where
+    go : (o : Option UnitPart) → unit_at net hop.unit ≡ o →
+        is_some (hop_record_by o size both_rights hop node slot) ≡ false →
+        hop_record net size rights hop node slot ≡ None
+    go None e t = ap (λ o. hop_record_by o size rights hop node slot) e
+    go (Some u) e t = ap (λ o. hop_record_by o size rights hop node slot) e ∙ by (nat_eq node hop.unit && is_taken_by u size hop slot) refl t
+      where
+        by : (b : Bool) → (nat_eq node hop.unit && is_taken_by u size hop slot) ≡ b →
+            is_some (if b then Some (slot_record u both_rights hop slot) else None) ≡ false →
+            hop_record_by (Some u) size rights hop node slot ≡ None
+        by true e t = cc
+        by false e t = rw e refl
+
+-- what a hop puts into a slot has its rights
+hop_rights_are : (net : List NodeDecl) (size node slot : ℕ) (rights : Rights) (hop : Hop) (r : Record) →
+    hop_record net size rights hop node slot ≡ Some r → r.rights ≡ rights
+hop_rights_are net size node slot rights hop r e = go (unit_at net hop.unit) e
+  where
+    go : (o : Option UnitPart) → hop_record_by o size rights hop node slot ≡ Some r → r.rights ≡ rights
+    go None e = cc
+    go (Some u) e = by (nat_eq node hop.unit && is_taken_by u size hop slot) e
+      where
+        by : (b : Bool) → (if b then Some (slot_record u rights hop slot) else None) ≡ Some r → r.rights ≡ rights
+        by true e = let same : slot_record u rights hop slot ≡ r = cc in ap (λ (t : Record). t.rights) (sym same)
+        by false e = cc
+
+-- where the own hop does not take a slot, hops put none but a record with both rights there
+hops_both : (net : List NodeDecl) (size node slot : ℕ) (rights : Rights) (own place : ℕ) (hops : List Hop) →
+    ((i : ℕ) → place + i ≡ own → is_taken_by_own net size node slot (slice_get hops i) ≡ false) →
+    (r : Record) → hops_records net size rights own place hops node slot ≡ Some r → r.rights ≡ both_rights
+hops_both net size node slot rights own place [] apart r e = cc
+hops_both net size node slot rights own place (hop ∷ hops) apart r e =
+    go (hops_both net size node slot rights own (suc place) hops (λ i s. apart (suc i) (omega arith)) r)
+    (hop_record net size (hop_rights rights own place) hop node slot) refl e
+  where
+    here : (t : Record) → hop_record net size (hop_rights rights own place) hop node slot ≡ Some t →
+        (b : Bool) → nat_eq place own ≡ b → t.rights ≡ both_rights
+    here t is true b =
+        let same : place + 0 ≡ own = (let p = eqb-true place own b in omega arith) in
+        let none = hop_none net size node slot (hop_rights rights own place) hop (apart 0 same) in
+        let f : None ≡ Some t = sym none ∙ is in
+        cc
+    here t is false b =
+        hop_rights_are net size node slot (hop_rights rights own place) hop t is
+        ∙ ap (λ c. if c then rights else both_rights) b
+
+    go : (hops_records net size rights own (suc place) hops node slot ≡ Some r → r.rights ≡ both_rights) →
+        (o : Option Record) → hop_record net size (hop_rights rights own place) hop node slot ≡ o →
+        or_record o (hops_records net size rights own (suc place) hops node slot) ≡ Some r →
+        r.rights ≡ both_rights
+    go rest None is s = rest s
+    go rest (Some t) is s = let same : t ≡ r = cc in ap (λ (u : Record). u.rights) (sym same) ∙ here t is (nat_eq place own) refl
+
+-- a slot that no grant owns holds none but a record with both rights
+pub unowned_has_both : (net : List NodeDecl) (book : List Grant) (node slot : ℕ) (r : Record) →
+    records_of net book node slot ≡ Some r → list_any (owns_slot net node slot) book ≡ false →
+    r.rights ≡ both_rights
+unowned_has_both net [] node slot r e none = cc
+unowned_has_both net (g ∷ gs) node slot r e none =
+    go (unowned_has_both net gs node slot r) (grant_records net g node slot) refl e
+  where
+    parts : (owns_slot net node slot g ≡ false) × (list_any (owns_slot net node slot) gs ≡ false)
+    parts = or_parts (owns_slot net node slot g) (list_any (owns_slot net node slot) gs) none
+
+    own : (i : ℕ) → 0 + i ≡ g.placement.own →
+        is_taken_by_own net g.request.size node slot (slice_get g.placement.hops i) ≡ false
+    own i s =
+        let t : i ≡ g.placement.own = omega arith in
+        ap (λ n. is_taken_by_own net g.request.size node slot (slice_get g.placement.hops n)) t ∙ parts.0
+
+    go : (records_of net gs node slot ≡ Some r → list_any (owns_slot net node slot) gs ≡ false → r.rights ≡ both_rights) →
+        (o : Option Record) → grant_records net g node slot ≡ o →
+        or_record o (records_of net gs node slot) ≡ Some r → r.rights ≡ both_rights
+    go rest None is s = rest s parts.1
+    go rest (Some t) is s =
+        let same : t ≡ r = cc in
+        hops_both net g.request.size node slot g.request.rights g.placement.own 0 g.placement.hops own r (is ∙ ap Some same)
+
 -- no grant uses the slot: it holds no record
-unused_holds_none : (net : List NodeDecl) (book : List Grant) (node slot : ℕ) →
+pub unused_holds_none : (net : List NodeDecl) (book : List Grant) (node slot : ℕ) →
     list_any (uses_slot net node slot) book ≡ false → records_of net book node slot ≡ None
 unused_holds_none net [] node slot none = refl
 unused_holds_none net (g ∷ gs) node slot none =
@@ -204,18 +286,6 @@ unused_holds_none net (g ∷ gs) node slot none =
     ap (λ r. or_record r (records_of net gs node slot)) (hops_none 0 g.placement.hops parts.0)
     ∙ unused_holds_none net gs node slot parts.1
   where
-    hop_none : (rights : Rights) (hop : Hop) (o : Option UnitPart) →
-        is_some (hop_record_by o g.request.size both_rights hop node slot) ≡ false →
-        hop_record_by o g.request.size rights hop node slot ≡ None
-    hop_none rights hop None t = refl
-    hop_none rights hop (Some u) t = by (nat_eq node hop.unit && is_taken_by u g.request.size hop slot) refl t
-      where
-        by : (b : Bool) → (nat_eq node hop.unit && is_taken_by u g.request.size hop slot) ≡ b →
-            is_some (if b then Some (slot_record u both_rights hop slot) else None) ≡ false →
-            hop_record_by (Some u) g.request.size rights hop node slot ≡ None
-        by true e t = cc
-        by false e t = rw e refl
-
     hops_none : (place : ℕ) (hops : List Hop) →
         list_any (is_taken net g.request.size node slot) hops ≡ false →
         hops_records net g.request.size g.request.rights g.placement.own place hops node slot ≡ None
@@ -223,7 +293,7 @@ unused_holds_none net (g ∷ gs) node slot none =
     hops_none place (hop ∷ hops) t =
         let parts = or_parts (is_taken net g.request.size node slot hop) (list_any (is_taken net g.request.size node slot) hops) t in
         ap (λ r. or_record r (hops_records net g.request.size g.request.rights g.placement.own (suc place) hops node slot))
-        (hop_none (hop_rights g.request.rights g.placement.own place) hop (unit_at net hop.unit) parts.0)
+        (hop_none net g.request.size node slot (hop_rights g.request.rights g.placement.own place) hop parts.0)
         ∙ hops_none (suc place) hops parts.1
 
 -- what a set of tables that keeps a book says of its empty slots

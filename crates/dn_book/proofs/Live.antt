@@ -259,7 +259,6 @@ some_put ss n q = by (list_any (is_at n q) ss) refl
         inl (a.0, a.1, p.0, p.1)
     by false e = inr (λ s m a b. (let c : true ≡ false = sym (member_any (is_at n q) ss s m (is_at_self n q s a b)) ∙ e in cc))
 
-
 -- THE RECORDS AS A GRANT COMES
 
 module _ (net : List NodeDecl) (legal : IsLegalNet net) (book : List Grant) (g : Grant) (sound : IsSound net book) (f : IsGrantFor net book g) where

@@ -37,13 +37,15 @@ by_grant access x y g = (down (gives_at access x g) refl, up)
         let r = and_parts (nat_le g.placement.v x.addr) (nat_lt x.addr (g.placement.v + g.request.size)) q.1 in
         let low : g.placement.v ≤ x.addr = leb-true g.placement.v x.addr r.0 in
         let high : x.addr < g.placement.v + g.request.size = ltb-true x.addr (g.placement.v + g.request.size) r.1 in
-        let addr : x.addr ≡ g.placement.v + (x.addr - g.placement.v) = omega arith in
-        (q.0, record {
-          i = x.addr - g.placement.v;
-          below = omega arith;
-          from = ap (λ n. record { node = n; addr = x.addr }) (eqb-true x.node g.request.agent p.0) ∙ ap (λ a. record { node = g.request.agent; addr = a }) addr;
-          to = sym same;
-        })
+        let addr : x.addr ≡ g.placement.v + (x.addr - g.placement.v) = omega arith in (
+          q.0,
+          record {
+            i = x.addr - g.placement.v;
+            below = omega arith;
+            from = ap (λ n. record { node = n; addr = x.addr }) (eqb-true x.node g.request.agent p.0) ∙ ap (λ a. record { node = g.request.agent; addr = a }) addr;
+            to = sym same;
+          },
+        )
 
     up : IsTrue (allows g.request.rights access) × Adds g.request g.placement.v x y → Member y (granted_by access x g)
     up h =

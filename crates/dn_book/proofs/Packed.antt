@@ -309,12 +309,12 @@ slot_holds net kinds k h h' set s node slot u kind e l vs is wide held' same =
     let y : 0 + slot ≡ slot = omega arith in
     let words : t.words ≡ packed_slots kind.kind u (h node) 0 u.slots = node_words kinds h 0 node net set t s.words there.1 ∙ ap (λ n. packed_node kinds (unit_at net node) (h n)) z ∙ ap (λ o. packed_node kinds o (h node)) e ∙ unit_words net kinds h u kind (h node) in
     let changed : put_over t.words (slot * t.width) vs ≡ packed_node kinds (unit_at net node) (h' (0 + node)) =
-        ap (λ n. put_over t.words (slot * n) vs) w
-        ∙ ap (λ ws. put_over ws (slot * kind.kind.words) vs) words
-        ∙ slot_changed kind.kind kind.law u (h node) (h' node) (all_packable net kinds h s.held node u kind e) 0 u.slots slot vs l wide (is ∙ ap (λ n. packed_slot kind.kind u (h' node n)) (sym y)) (λ q ne. same node q (λ a b. ne (b ∙ sym y)))
-        ∙ sym (unit_words net kinds h u kind (h' node))
-        ∙ ap (λ o. packed_node kinds o (h' node)) (sym e)
-        ∙ ap (λ n. packed_node kinds (unit_at net node) (h' n)) (sym z) in
+    ap (λ n. put_over t.words (slot * n) vs) w
+    ∙ ap (λ ws. put_over ws (slot * kind.kind.words) vs) words
+    ∙ slot_changed kind.kind kind.law u (h node) (h' node) (all_packable net kinds h s.held node u kind e) 0 u.slots slot vs l wide (is ∙ ap (λ n. packed_slot kind.kind u (h' node n)) (sym y)) (λ q ne. same node q (λ a b. ne (b ∙ sym y)))
+    ∙ sym (unit_words net kinds h u kind (h' node))
+    ∙ ap (λ o. packed_node kinds o (h' node)) (sym e)
+    ∙ ap (λ n. packed_node kinds (unit_at net node) (h' n)) (sym z) in
     record {
       fits = fits_net_kept net kinds set (with_slot set node slot vs) (fit_with_slot set node slot vs) s.fits;
       words = node_changed kinds h h' 0 node net set t (λ t. with_words t (put_over t.words (slot * t.width) vs)) s.words there.1 changed (λ m q ne. same m q (λ a b. ne (a ∙ sym z)));

@@ -9,7 +9,7 @@ ghost use Rattle.dn_kind.specs.Kind.{IsLawful};
 ghost use Rattle.dn_kind.specs.Units.{IsLegalWith};
 ghost use Rattle.dn_tables.specs.Set.{FitsNet, IsOnDevice, fresh_set, tables_of_set};
 ghost use Rattle.dn_tables.specs.Writes.{AreUnitsMade};
-ghost use Rattle.dn_book.specs.Book.{has_id, without};
+ghost use Rattle.dn_book.specs.Book.{IsFaithful, has_id, without};
 ghost use Rattle.dn_book.specs.Faults.{is_commit_fault, is_revoke_fault};
 ghost use Rattle.dn_book.specs.Laws.{IsGrantFor};
 ghost use Rattle.dn_book.specs.Tables.{IsKept};
@@ -99,6 +99,7 @@ impl Book {
         ensures cleared { IfOk result (λ book. book.cleared ≡ false) }
         ensures kept { IfOk result (λ book. IsKept net.now
             (map (λ k. meaning (k.vtable, k.value)) kinds.now.list.items) book.grants book.set) }
+        ensures faithful { IfOk result (λ book. IsFaithful net.now book.grants) }
         ensures on_device { IfOk result (λ book.
             IsOnDevice book.set (D.units device.new) (D.words device.new)) }
         ensures made { AreUnitsMade
@@ -231,6 +232,8 @@ impl Book {
         ensures revoked { OnOk result (self.new.grants ≡ without id self.old.grants) }
         ensures kept { OnOk result (IsKept net.now
             (map (λ k. meaning (k.vtable, k.value)) kinds.now.list.items) self.new.grants self.new.set) }
+        ensures faithful { OnOk result (IsFaithful net.now self.old.grants →
+            IsFaithful net.now self.new.grants) }
         ensures cleared { OnOk result (self.new.cleared ≡ true) }
         ensures refused { OnErr result (self.new.grants ≡ self.old.grants) }
         ensures unknown { result ≡ Err no_grant ↔ (has_id id self.old.grants ≡ false) }

@@ -12,6 +12,7 @@ ghost use Rattle.dn_book.specs.Writes.{grant_slots, hop_slots, hop_slots_by, joi
 
 use crate::grant::Grant;
 use crate::slots::{end_slot, first_slot};
+use crate::uses::is_used_alone;
 use dn_base::device::{DeviceFault, Tables};
 use dn_net::net::Net;
 use dn_net::node::Unit;
@@ -101,7 +102,7 @@ fn clear_slot<D: Tables>(
     ensures on_device { IsOnDevice tables.new (D.units device.new) (D.words device.new) }
     ensures counted { IsCounted (D.faults device.old) (D.faults device.new) (is_err result) }
 {
-    if tables.uses_at(unit, slot) == 1 {
+    if is_used_alone(tables, unit, slot) {
         tables.clear(unit, slot, device)?;
     }
     Ok(())

@@ -15,6 +15,7 @@ ghost use Rattle.dn_book.specs.Writes.{AreAdded, fence_events, grant_slots, hop_
 
 use crate::grant::Grant;
 use crate::slots::{end_slot, first_slot, slot_record};
+use crate::uses::is_unused;
 use dn_base::device::{DeviceFault, Tables};
 use dn_kind::kinds::Kinds;
 use dn_kind::rights::Rights;
@@ -28,11 +29,7 @@ use dn_tables::set::TableSet;
 fn hop_rights(rights: Rights, own: usize, place: usize) -> Rights
     ensures { result ≡ hop_rights rights own place }
 {
-    if place == own {
-        rights
-    } else {
-        Rights::both()
-    }
+    if place == own { rights } else { Rights::both() }
 }
 
 /// A fence where one is due, and then the records of a grant, in those of its slots that no live grant
@@ -117,7 +114,15 @@ fn put_grant<D: Tables>(
     for behind in 0..hops.len() {
         let place = hops.len() - 1 - behind;
         let rights = hop_rights(grant.request.rights, own, place);
-        put_hop(tables, net, kinds, grant.request.size, rights, &hops[place], device)?;
+        put_hop(
+            tables,
+            net,
+            kinds,
+            grant.request.size,
+            rights,
+            &hops[place],
+            device,
+        )?;
     }
     Ok(())
 }
@@ -205,7 +210,7 @@ fn put_slot<D: Tables>(
     ensures on_device { IsOnDevice tables.new (D.units device.new) (D.words device.new) }
     ensures counted { IsCounted (D.faults device.old) (D.faults device.new) (is_err result) }
 {
-    if tables.uses_at(unit, slot) == 0 {
+    if is_unused(tables, unit, slot) {
         tables.put(kinds, unit, slot, holds, device)?;
     }
     Ok(())

@@ -1,6 +1,6 @@
 //! How many live grants use the slots of a grant, and whether it owns them.
 
-ghost use Rattle.std.specs.Prelude.{◌≡◌, ℕ, ◌<◌, map, slice_get, Some};
+ghost use Rattle.std.specs.Prelude.{◌≡◌, ◌==◌, ℕ, ◌<◌, map, slice_get, Some, IsTrue};
 ghost use Rattle.dn_net.specs.declared.node.Unit.{Unit as UnitPart};
 ghost use Rattle.dn_net.specs.Chain.{Member};
 ghost use Rattle.dn_net.specs.Decode.{unit_at};
@@ -16,6 +16,22 @@ use dn_net::net::Net;
 use dn_net::node::Unit;
 use dn_tables::placement::Hop;
 use dn_tables::set::TableSet;
+
+/// Whether no live grant uses a slot.
+pub(crate) fn is_unused(tables: &TableSet, unit: u16, slot: u32) -> bool
+    requires { IsTrue (has_slot tables.now unit slot) }
+    ensures { result ≡ ((use_in tables.now unit slot).uses == 0) }
+{
+    tables.uses_at(unit, slot) == 0
+}
+
+/// Whether one live grant alone uses a slot.
+pub(crate) fn is_used_alone(tables: &TableSet, unit: u16, slot: u32) -> bool
+    requires { IsTrue (has_slot tables.now unit slot) }
+    ensures { result ≡ ((use_in tables.now unit slot).uses == 1) }
+{
+    tables.uses_at(unit, slot) == 1
+}
 
 /// The owner of the slots of a hop: the grant, where the hop is its own.
 fn hop_owner(id: u32, own: usize, place: usize) -> Option<u32>

@@ -3,9 +3,11 @@ use Rattle.std.specs.Prelude.{◌≡◌, ℕ, Bool, List, [], ◌∷◌, ◌++�
 use Rattle.dn_base.specs.declared.device.TableEvent.{TableEvent}
 use Rattle.dn_net.specs.declared.node.NodeDecl.{NodeDecl}
 use Rattle.dn_kind.specs.Kind.{Meaning}
+use Rattle.dn_kind.specs.Tables.{Held}
 use Rattle.dn_tables.specs.Placement.{Place}
 use Rattle.dn_placement.specs.declared.request.Request.{Request}
 use Rattle.dn_placement.specs.Order.{IsFirst, NoneSuited}
+use Rattle.dn_view.specs.Addition.{GivesExactly, IsAddition}
 use Rattle.dn_book.specs.declared.grant.Grant.{Grant}
 use Rattle.dn_book.specs.Book.{slots_of}
 use Rattle.dn_book.specs.Writes.{AreAdded, grant_events}
@@ -28,6 +30,11 @@ pub record IsUnplaced (net : List NodeDecl) (book : List Grant) (id : ℕ) (rq :
     : Type 0 where
   pub allowed : grant_refusal net book id rq ≡ None
   pub none : NoneSuited net (slots_of net book) rq None
+
+-- no addition for the rights of a request gives its agent exactly the request's one address
+abbrev pub NoAddition : List NodeDecl → List Grant → Request → Type 0
+NoAddition net book rq = (v : ℕ) (added : Held) → IsAddition net (slots_of net book) rq.rights added →
+    GivesExactly net (slots_of net book) rq v added → ⊥
 
 -- the request is granted at an address of its agent: at the first admissible placement
 pub record IsGrantMade (net : List NodeDecl) (book : List Grant) (id : ℕ) (rq : Request) (v : ℕ)

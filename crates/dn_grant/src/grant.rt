@@ -10,10 +10,10 @@ ghost use Rattle.dn_kind.specs.Units.{IsLegalWith};
 ghost use Rattle.dn_flat.specs.Stages.{AreFlats};
 ghost use Rattle.dn_tables.specs.Set.{FitsNet, IsOnDevice};
 ghost use Rattle.dn_placement.specs.Order.{IsFirst, NoneSuited};
-ghost use Rattle.dn_book.specs.Book.{slots_of};
+ghost use Rattle.dn_book.specs.Book.{IsFaithful, slots_of};
 ghost use Rattle.dn_book.specs.Tables.{IsKept};
 ghost use Rattle.dn_grant.specs.Faults.{is_grant_fault};
-ghost use Rattle.dn_grant.specs.Grant.{IsGrantLogged, IsGrantTurn};
+ghost use Rattle.dn_grant.specs.Grant.{IsGrantLogged, IsGrantTurn, NoAddition};
 ghost use Rattle.dn_grant.specs.Refusal.{grant_refusal};
 
 use crate::fault::GrantFault;
@@ -63,11 +63,16 @@ pub fn grant<D: Tables>(
         IsGrantTurn net.now book.old.grants id request.now result book.new.grants }
     ensures refused { IfSome (grant_refusal net.now book.old.grants id request.now)
         (λ why. result ≡ Err why) }
+    // The refusal of one address is complete: records other than those of placements do not give it either.
+    ensures complete { result ≡ Err GrantFault.NoPlacement → request.now.size ≡ 1 →
+        NoAddition net.now book.old.grants request.now }
     ensures stays { OnErr result (book.new.grants ≡ book.old.grants) }
     ensures unchanged { is_err result ≡ true → result ≢ Err GrantFault.Device →
         (book.new ≡ book.old) × (device.new ≡ device.old) }
     ensures kept { OnOk result (IsKept net.now
         (map (λ k. meaning (k.vtable, k.value)) kinds.now.list.items) book.new.grants book.new.set) }
+    ensures faithful { OnOk result (IsFaithful net.now book.old.grants →
+        IsFaithful net.now book.new.grants) }
     ensures fenced { OnOk result (book.new.cleared ≡ false) }
     ensures sound { book.new.sound ≡ not (is_grant_fault result) }
     ensures fits { FitsNet net.now

@@ -2,23 +2,32 @@
 use Rattle.std.proofs.Common.{◌≡◌, ◌∙◌, sym, ap, refl, subst, ℕ, ◌<◌, Bool, true, false, if◌then◌else◌, not, nat_le, List, [], ◌∷◌, ◌++◌, length, slice_get, Option, Some, None, Result, Err, IsTrue}
 use Rattle.std.proofs.lemmas.Bool.{leb-false}
 use Rattle.dn_base.specs.declared.device.TableEvent.{TableEvent}
+use Rattle.std.specs.List.{All}
 use Rattle.dn_net.specs.declared.node.NodeDecl.{NodeDecl}
+use Rattle.dn_net.specs.Legal.{IsLegalNet}
+use Rattle.dn_tables.specs.declared.table.NodeTable.{NodeTable}
+use Rattle.dn_view.specs.Addition.{AreProper}
+use Rattle.dn_view.proofs.AddedLaw.{refusal_is_complete}
+use Rattle.dn_book.specs.Tables.{IsKept}
+use Rattle.dn_book.proofs.Faithful.{grant_keeps_book}
+use Rattle.dn_book.proofs.KeptEmpty.{kept_records_are_proper}
 use Rattle.dn_net.specs.Decode.{is_agent_at}
-use Rattle.dn_kind.specs.Kind.{Meaning}
+use Rattle.dn_kind.specs.Kind.{IsLawful, Meaning}
 use Rattle.dn_tables.specs.Placement.{Place}
 use Rattle.dn_placement.specs.declared.request.Request.{Request}
+use Rattle.dn_placement.specs.Exposure.{IsAdmissible}
 use Rattle.dn_placement.specs.Roles.{is_vectors_at}
 use Rattle.dn_book.specs.declared.grant.Grant.{Grant}
 use Rattle.dn_book.specs.declared.book.CommitFault.{CommitFault}
 use Rattle.dn_book.specs.declared.book.CommitFault.TheVariants.{Device as commit_device, OutOfMemory as commit_memory}
-use Rattle.dn_book.specs.Book.{has_id}
+use Rattle.dn_book.specs.Book.{IsFaithful, IsSound, has_id, records_of, slots_of}
 use Rattle.dn_book.specs.Laws.{IsGrantFor}
 use Rattle.dn_book.specs.Writes.{AreAdded, grant_events}
 use Rattle.dn_vector.specs.declared.fault.RouteFault.{RouteFault}
 use Rattle.dn_vector.specs.declared.fault.RouteFault.TheVariants.{IdUsed, NoAgent, NoTarget, BookFull, Device}
 use Rattle.dn_vector.specs.Faults.{fault_of_commit}
 use Rattle.dn_vector.specs.Refusal.{route_refusal}
-use Rattle.dn_vector.specs.Route.{IsLeastVector, IsPlacedRoute, IsRouteLogged, IsRouteMade, route_at}
+use Rattle.dn_vector.specs.Route.{IsLeastVector, IsPlacedRoute, IsRouteLogged, IsRouteMade, NoAddition, NoVector, route_at}
 use Rattle.dn_vector.specs.Vectors.{vector_request}
 
 -- the id is new, the agent is one, the node has vectors, the book has room
@@ -92,6 +101,16 @@ placed_grant net book id agent line node v p rq e is =
     subst (λ r. IsGrantFor net book (grant_of id r p)) (sym e)
     (allowed_route net book id agent line node v p is.allowed is.placed)
 
+-- with that grant a faithful book stays so
+pub still_faithful : (net : List NodeDecl) (book next : List Grant) (id agent line node v : ℕ) (p : Place)
+    (rq : Request) → rq ≡ vector_request agent node v → IsLegalNet net → IsSound net book →
+    IsPlacedRoute net book id agent line node v p → next ≡ book ++ grant_of id rq p ∷ [] →
+    IsFaithful net book → IsFaithful net next
+still_faithful net book next id agent line node v p rq e legal sound is appended faithful =
+    let keeps = grant_keeps_book net book (grant_of id rq p) legal sound (placed_grant net book id agent line node v p rq e is) in
+    let admissible = subst (λ r. IsAdmissible net (records_of net book) r p) (sym e) is.placed.first.suited.admissible in
+    subst (λ (b : List Grant). IsFaithful net b) (sym appended) (keeps.1 faithful admissible)
+
 -- a route that is placed and appended is made
 pub placed_made : (net : List NodeDecl) (book next : List Grant) (id agent line node v : ℕ) (p : Place)
     (rq : Request) → rq ≡ vector_request agent node v →
@@ -116,3 +135,25 @@ placed_logged net kinds book cleared id agent line node v p rq failed log log' e
   placed = is;
   added = subst (λ r. AreAdded (grant_events net kinds book cleared (grant_of id r p)) failed log log') e added;
 }
+
+-- the slots as a book that is kept leaves them are proper
+proper_slots : (net : List NodeDecl) (kinds : List Meaning) (book : List Grant) (set : List NodeTable) →
+    All IsLawful kinds → IsKept net kinds book set → AreProper net (slots_of net book)
+proper_slots net kinds book set lawful kept =
+    let k = kept_records_are_proper net kinds book set lawful kept in
+    record {
+      held = k.0;
+      empty = λ node slot free r e. (let f : None ≡ Some r = sym (k.1 node slot free) ∙ e in cc);
+      shared = k.2;
+    }
+
+-- where no vector has an admissible placement, no addition gives one
+pub no_addition : (net : List NodeDecl) (kinds : List Meaning) (book : List Grant) (set : List NodeTable)
+    (id agent line node : ℕ) → IsLegalNet net → All IsLawful kinds → IsKept net kinds book set →
+    route_refusal net book id agent node ≡ None → NoVector net book agent line node →
+    NoAddition net book agent line node
+no_addition net kinds book set id agent line node legal lawful kept none unplaced vector added free ad ex =
+    let is = allowed_is net book id agent node none in
+    let proper = proper_slots net kinds book set lawful kept in
+    let p = refusal_is_complete net (slots_of net book) (vector_request agent node vector) line added legal proper is.agent_is refl refl ad ex in
+    unplaced vector free p.0 p.1

@@ -4,8 +4,11 @@ use Rattle.std.specs.Prelude.{◌≡◌, ℕ, ◌<◌, Bool, List, [], ◌∷◌
 use Rattle.dn_base.specs.declared.device.TableEvent.{TableEvent}
 use Rattle.dn_net.specs.declared.node.NodeDecl.{NodeDecl}
 use Rattle.dn_kind.specs.Kind.{Meaning}
+use Rattle.dn_kind.specs.Rights.{both_rights}
+use Rattle.dn_kind.specs.Tables.{Held}
 use Rattle.dn_tables.specs.Placement.{Place}
 use Rattle.dn_placement.specs.Order.{IsFirst, NoneSuited}
+use Rattle.dn_view.specs.Addition.{GivesExactly, IsAddition}
 use Rattle.dn_book.specs.declared.grant.Grant.{Grant}
 use Rattle.dn_book.specs.Book.{slots_of}
 use Rattle.dn_book.specs.Writes.{AreAdded, grant_events}
@@ -37,6 +40,13 @@ pub record IsLeastVector (net : List NodeDecl) (book : List Grant) (agent line n
 abbrev pub NoVector : List NodeDecl → List Grant → ℕ → ℕ → ℕ → Type 0
 NoVector net book agent line node = (vector : ℕ) → IsTrue (is_free_vector net book node vector) →
     HasNoPlace net book agent line node vector
+
+-- no addition for both rights gives the agent exactly a free vector of the node at the line
+abbrev pub NoAddition : List NodeDecl → List Grant → ℕ → ℕ → ℕ → Type 0
+NoAddition net book agent line node = (vector : ℕ) (added : Held) →
+    IsTrue (is_free_vector net book node vector) →
+    IsAddition net (slots_of net book) both_rights added →
+    GivesExactly net (slots_of net book) (vector_request agent node vector) line added → ⊥
 
 -- no refusal holds, and the line is routed to the vector at this placement
 pub record IsPlacedRoute (net : List NodeDecl) (book : List Grant) (id agent line node vector : ℕ)

@@ -7,10 +7,11 @@ ghost use Rattle.dn_kind.specs.Kind.{IsLawful};
 ghost use Rattle.dn_kind.specs.Units.{IsLegalWith};
 ghost use Rattle.dn_flat.specs.Stages.{AreFlats};
 ghost use Rattle.dn_tables.specs.Set.{FitsNet, IsOnDevice};
+ghost use Rattle.dn_book.specs.Book.{IsFaithful};
 ghost use Rattle.dn_book.specs.Tables.{IsKept};
 ghost use Rattle.dn_vector.specs.Faults.{is_route_fault};
 ghost use Rattle.dn_vector.specs.Refusal.{route_refusal};
-ghost use Rattle.dn_vector.specs.Route.{IsRouteLogged, IsRouteTurn};
+ghost use Rattle.dn_vector.specs.Route.{IsRouteLogged, IsRouteTurn, NoAddition};
 
 use crate::fault::RouteFault;
 use crate::refusal::refusal;
@@ -59,11 +60,16 @@ pub fn route<D: Tables>(
         IsRouteTurn net.now book.old.grants id agent line node result book.new.grants }
     ensures refused { IfSome (route_refusal net.now book.old.grants id agent node)
         (λ why. result ≡ Err why) }
+    // The refusal is complete: records other than those of placements give no free vector either.
+    ensures complete { result ≡ Err RouteFault.NoPlacement →
+        NoAddition net.now book.old.grants agent line node }
     ensures stays { OnErr result (book.new.grants ≡ book.old.grants) }
     ensures unchanged { is_err result ≡ true → result ≢ Err RouteFault.Device →
         (book.new ≡ book.old) × (device.new ≡ device.old) }
     ensures kept { OnOk result (IsKept net.now
         (map (λ k. meaning (k.vtable, k.value)) kinds.now.list.items) book.new.grants book.new.set) }
+    ensures faithful { OnOk result (IsFaithful net.now book.old.grants →
+        IsFaithful net.now book.new.grants) }
     ensures fenced { OnOk result (book.new.cleared ≡ false) }
     ensures sound { book.new.sound ≡ not (is_route_fault result) }
     ensures fits { FitsNet net.now

@@ -111,12 +111,12 @@ pub returns-clause-put : goal.returns-clause-put
 returns-clause-put g c =
     let kinds : List Meaning = map (λ k. (goal.UnitKind-dyn g (k.vtable, k.value)).meaning k.value) c.args.kinds.now.list.items in
     let last : c.loop-slot.slot ≡ suc (last_slot c.args.unit.now c.args.size c.args.hop.now) =
-        let a = c.loop-slot.auto.slot-end in
-        let b = c.loop-slot-test.false in
-        let v = c.end_slot-slot-end.ensures.value in
-        let f = c.first_slot-slot.ensures.value in
-        let o = first_before c.args.unit.now c.args.size c.args.hop.now c.requires.there in
-        omega arith in
+    let a = c.loop-slot.auto.slot-end in
+    let b = c.loop-slot-test.false in
+    let v = c.end_slot-slot-end.ensures.value in
+    let f = c.first_slot-slot.ensures.value in
+    let o = first_before c.args.unit.now c.args.size c.args.hop.now c.requires.there in
+    omega arith in
     put_end kinds _ _ _ _ _ _ (so_far_all c.args.unit.now c.args.size c.args.rights c.args.hop.now c.loop-slot.slot last) c.loop-slot.invariant.put
 
 pub loop-slot-init : goal.loop-slot-init

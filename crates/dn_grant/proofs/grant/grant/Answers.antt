@@ -1,7 +1,8 @@
-use Rattle.std.proofs.Common.{◌≡◌, ◌∙◌, sym, refl, rules, None, ℕ}
+use Rattle.std.proofs.Common.{◌≡◌, ◌∙◌, sym, refl, map, None, ℕ}
 use Rattle.dn_grant.specs.Refusal.{grant_refusal}
 use Rattle.std.proofs.lemmas.Result.{err_from_is_err_and}
-use Rattle.dn_grant.proofs.Allowed.{allowed_is, allowed_within, allowed_grant, not_memory}
+use Rattle.dn_tables.proofs.Slots.{all_of_map}
+use Rattle.dn_grant.proofs.Allowed.{allowed_is, allowed_within, allowed_grant, no_addition, not_memory, still_faithful}
 use Rattle.dn_grant.proofs.grant.grant.Goals as goal
 
 pub first_in_book-requires-clause-agent : goal.first_in_book-requires-clause-agent
@@ -46,9 +47,21 @@ returns-clause-turn g c =
       appended = c.in_ok-commit.ensures.granted;
     }
 
+pub returns-clause-faithful : goal.returns-clause-faithful
+returns-clause-faithful g c =
+    still_faithful c.args.net.now c.args.book.now.grants _ c.args.id c.args.request.now c.in-Some-2.placement c.requires.legal.legal c.requires.kept.sound
+    (sym c.refusal.ensures ∙ c.in_default.is) c.requires.rights (rw c.in-Some-2.is at c.in_ok-placement.ensures.first) c.in_ok-commit.ensures.granted
+
 pub returns-clause-granted : goal.returns-clause-granted
 returns-clause-granted g c = record {
   place = c.in-Some-2.placement;
   placed = record { allowed = sym c.refusal.ensures ∙ c.in_default.is; first = (rw c.in-Some-2.is at c.in_ok-placement.ensures.first) };
   added = c.in_ok-commit.ensures.added (λ e. cc);
 }
+
+pub returns-in_default-2-clause-complete : goal.returns-in_default-2-clause-complete
+returns-in_default-2-clause-complete g c =
+    let ks = map (λ k. (goal.UnitKind-dyn g (k.vtable, k.value)).meaning k.value) c.args.kinds.now.list.items in
+    λ e one. no_addition c.args.net.now ks c.args.book.now.grants c.args.book.now.set c.args.id c.args.request.now c.requires.legal.legal
+      (all_of_map _ c.args.kinds.now.list.items c.requires.lawful) c.requires.kept (sym c.refusal.ensures ∙ c.in_default.is) c.requires.rights one
+      (c.in_ok-placement.ensures.none c.in_default-2.is)

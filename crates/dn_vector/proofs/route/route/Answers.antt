@@ -1,8 +1,9 @@
-use Rattle.std.proofs.Common.{◌≡◌, ◌∙◌, sym, refl, subst, ℕ}
+use Rattle.std.proofs.Common.{◌≡◌, ◌∙◌, sym, refl, subst, ℕ, map}
 use Rattle.std.proofs.lemmas.Result.{err_from_is_err_and}
 use Rattle.dn_interval.specs.Spans.{has}
+use Rattle.dn_tables.proofs.Slots.{all_of_map}
 use Rattle.dn_vector.specs.Vectors.{is_free_vector}
-use Rattle.dn_vector.proofs.Allowed.{allowed_is, not_memory, placed_grant, placed_logged, placed_made}
+use Rattle.dn_vector.proofs.Allowed.{allowed_is, no_addition, not_memory, placed_grant, placed_logged, placed_made, still_faithful}
 use Rattle.dn_vector.proofs.Leasts.{least_free, none_free}
 use Rattle.dn_vector.proofs.route.route.Goals as goal
 
@@ -62,6 +63,19 @@ returns-clause-turn g c =
     })
     c.in_ok-commit.ensures.granted
 
+pub returns-clause-faithful : goal.returns-clause-faithful
+returns-clause-faithful g c =
+    let net = c.args.net.now in
+    let book = c.args.book.now.grants in
+    let free = subst (λ gs. (a : ℕ) → has c.in_ok-free.free a ≡ is_free_vector net gs c.args.node a) c.grants.ensures c.in_ok-free.ensures.free in
+    still_faithful net book _ c.args.id c.args.agent c.args.line c.args.node c.in-Some-found.field-0.vector c.in-Some-found.field-0.placement
+    c.vector_request.result c.vector_request.ensures c.requires.legal.legal c.requires.kept.sound
+    (record {
+      allowed = sym c.refusal.ensures ∙ c.in_default.is;
+      placed = least_free net book c.args.agent c.args.line c.args.node c.in_ok-free.free _ _ free (rw c.in-Some-found.is at c.in_ok-found.ensures.found);
+    })
+    c.in_ok-commit.ensures.granted
+
 pub returns-clause-routed : goal.returns-clause-routed
 returns-clause-routed g c =
     let net = c.args.net.now in
@@ -74,3 +88,13 @@ returns-clause-routed g c =
       placed = least_free net book c.args.agent c.args.line c.args.node c.in_ok-free.free _ _ free (rw c.in-Some-found.is at c.in_ok-found.ensures.found);
     })
     (c.in_ok-commit.ensures.added (λ e. cc))
+
+pub returns-in_default-found-clause-complete : goal.returns-in_default-found-clause-complete
+returns-in_default-found-clause-complete g c =
+    let net = c.args.net.now in
+    let book = c.args.book.now.grants in
+    let ks = map (λ k. (goal.UnitKind-dyn g (k.vtable, k.value)).meaning k.value) c.args.kinds.now.list.items in
+    let free = subst (λ gs. (a : ℕ) → has c.in_ok-free.free a ≡ is_free_vector net gs c.args.node a) c.grants.ensures c.in_ok-free.ensures.free in
+    λ e. no_addition net ks book c.args.book.now.set c.args.id c.args.agent c.args.line c.args.node c.requires.legal.legal
+      (all_of_map _ c.args.kinds.now.list.items c.requires.lawful) c.requires.kept (sym c.refusal.ensures ∙ c.in_default.is)
+      (none_free net book c.args.agent c.args.line c.args.node c.in_ok-free.free free (c.in_ok-found.ensures.none c.in_default-found.is))

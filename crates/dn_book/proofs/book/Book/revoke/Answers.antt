@@ -4,11 +4,12 @@ use Rattle.dn_net.specs.Chain.{Member}
 use Rattle.dn_kind.specs.Kind.{Meaning}
 use Rattle.dn_tables.proofs.Slots.{all_of_map}
 use Rattle.dn_book.specs.declared.grant.Grant.{Grant}
-use Rattle.dn_book.specs.Book.{IsSound, has_id, without}
+use Rattle.dn_book.specs.Book.{IsFaithful, IsSound, has_id, without}
 use Rattle.dn_book.specs.Sets.{AreHopsChanged, after_clears, clear_log, is_used_by, one_less}
 use Rattle.dn_book.specs.State.{BookState}
 use Rattle.dn_book.specs.Tables.{IsKept}
 use Rattle.dn_book.specs.Writes.{AreAdded, grant_slots, joined_slots, revoke_events}
+use Rattle.dn_book.proofs.Faithful.{revoke_keeps_book}
 use Rattle.dn_book.proofs.Live.{one_grant}
 use Rattle.dn_book.proofs.Revoke.{Going, IsFound, UsesAll, found_at, found_live, get_or_same, live_id, going_fit, going_log, going_uses, none_found, removed_is, revoked}
 use Rattle.dn_book.proofs.book.Book.revoke.Goals as goal
@@ -102,6 +103,15 @@ returns-clause-revoked g c =
     let kept = subst (λ (b : BookState). IsSound c.args.net.now b.grants) (sym c.self.view_is) c.requires.kept.sound in
     let items : c.remove.new.self.items ≡ remove c.self.inside.grants.items c.in-Some.place = search rules in
     items ∙ removed_is c.args.id c.self.inside.grants.items c.in-Some.place c.index.result.now kept.ids found.below (ap (λ (w : Grant). w.id) (sym c.index.ensures) ∙ found.same) ∙ ap (λ (b : BookState). without c.args.id b.grants) c.self.view_is
+
+pub returns-clause-faithful : goal.returns-clause-faithful
+returns-clause-faithful g c f =
+    let at : position (λ (h : Grant). h.id == c.args.id) c.as_slice.result.now ≡ Some c.in-Some.place = sym c.place_of.ensures.place ∙ c.in-Some.is in
+    let found : IsFound c.self.inside.grants.items c.args.id c.in-Some.place c.index.result.now = found_at c.self.inside.grants.items c.as_slice.result.now c.args.id c.in-Some.place c.index.result.now c.as_slice.ensures.value at c.index.ensures in
+    let kept = subst (λ (b : BookState). IsSound c.args.net.now b.grants) (sym c.self.view_is) c.requires.kept.sound in
+    let items : c.remove.new.self.items ≡ remove c.self.inside.grants.items c.in-Some.place = search rules in
+    let left : c.remove.new.self.items ≡ without c.args.id c.args.self.now.grants = items ∙ removed_is c.args.id c.self.inside.grants.items c.in-Some.place c.index.result.now kept.ids found.below (ap (λ (w : Grant). w.id) (sym c.index.ensures) ∙ found.same) ∙ ap (λ (b : BookState). without c.args.id b.grants) c.self.view_is in
+    subst (λ (b : List Grant). IsFaithful c.args.net.now b) (sym left) ((revoke_keeps_book c.args.net.now c.args.self.now.grants c.args.id c.requires.legal.legal c.requires.kept.sound).1 f)
 
 pub returns-clause-kept : goal.returns-clause-kept
 returns-clause-kept g c =
