@@ -6,7 +6,9 @@ import re
 from checks import TOOLS, TOP, outcome
 
 NAMED = {
-    "netconf.1": ["run", "check", "accept", "map", "over", "agent", "vectors", "module", "use", "for", "begin", "resolve", "view"],
+    "netconf.1": ["run", "check", "accept", "map", "over", "agent", "vectors", "unit", "module", "use", "for", "begin", "resolve", "lookup",
+                  "view", "dump", "split", "absorb", "grant", "route", "revoke", "IdUsed", "NoAgent", "NoTarget", "NotAccepted", "BookFull",
+                  "NoPlacement", "NoGrant"],
     "netconf-lint.1": ["--help", "NETCONF", "Overlap", "Range", "Repeat", "VectorSpace", "Loop", "Deep", "Duplicate"],
     "netconf-draw.1": ["--svg", "--views", "--agent", "--help", "NETCONF"],
 }
@@ -25,9 +27,23 @@ def check_examples(checks):
     page = (TOP / "docs/netconf.1").read_text()
     blocks = re.findall(r"^\.Bd -literal.*?\n(.*?)^\.Ed", page, re.S | re.M)
     text, answer = blocks[0].split("$ cat board.net\n")[1].split("$ netconf run < board.net\n")
-    wanted = {"run": answer, "check": blocks[1].split("$ netconf check < board.net\n")[1]}
-    for word, output in wanted.items():
-        checks.equal(outcome(os.environ["NETCONF"], word, text=text), (0, output, ""), f"manual: what netconf {word} prints")
+    buffer, granted = blocks[2].split("$ cat buffer.net\n")[1].split("$ netconf run < buffer.net\n")
+    shown = [("run", text, answer), ("check", text, blocks[1].split("$ netconf check < board.net\n")[1]), ("run", buffer, granted)]
+    for word, description, output in shown:
+        checks.equal(outcome(os.environ["NETCONF"], word, text=description), (0, output, ""), f"manual: what netconf {word} prints")
+
+
+def check_documents(checks):
+    """What the README and the pages of the language and of images show behind a text is what the program prints."""
+    words = {"prints": "run", "is answered by": "run", "is printed as": "check"}
+    for name, count in (("README.md", 1), ("docs/language.md", 6), ("docs/image.md", 1)):
+        parts = (TOP / name).read_text().split("```\n")
+        pairs = [part for part in range(1, len(parts) - 2, 2) if parts[part + 1].strip() in words]
+        checks.equal(len(pairs), count, f"documents: how many texts {name} shows with what they print")
+        for part in pairs:
+            word = words[parts[part + 1].strip()]
+            seen = outcome(os.environ["NETCONF"], word, text=parts[part])
+            checks.equal(seen, (0, parts[part + 2], ""), f"documents: what netconf {word} prints of {parts[part][:60]} in {name}")
 
 
 def check_page(checks):
@@ -48,6 +64,7 @@ def run(checks):
     """All of this part."""
     check_statuses(checks)
     check_examples(checks)
+    check_documents(checks)
     check_page(checks)
     if not checks.has("mandoc", "mandoc"):
         return
