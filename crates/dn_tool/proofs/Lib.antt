@@ -14,3 +14,7 @@ pub mod Played
 pub mod Viewed
 pub mod Lookups
 pub mod Unanswered
+pub mod Changes
+pub mod Filled
+pub mod Seen
+pub mod Kept

@@ -1,5 +1,5 @@
 -- How far a run comes over a script, turn by turn.
-use Rattle.std.proofs.Common.{◌≡◌, ◌≢◌, ◌∙◌, ap, sym, subst, refl, arith, ℕ, zero, suc, ◌+◌, ◌<◌, ◌≤◌, Bool, true, false, List, [], ◌∷◌, ◌++◌, map, take, drop, length, get_or, Option, Some, None, Result, Ok, Err, is_ok, append_assoc, append-nil, length-append}
+use Rattle.std.proofs.Common.{◌≡◌, ◌≢◌, ◌∙◌, ap, sym, subst, refl, arith, ℕ, zero, suc, ◌+◌, ◌<◌, ◌≤◌, ◌⊎◌, inl, inr, Bool, true, false, List, [], ◌∷◌, ◌++◌, map, take, drop, length, get_or, Option, Some, None, Result, Ok, Err, is_ok, append_assoc, append-nil, length-append}
 use Rattle.std.specs.List.{flat_map}
 use Rattle.std.specs.Option.{IfSome}
 use Rattle.std.proofs.lemmas.List.{take_more, length-map, length-take-le, take_at}
@@ -26,7 +26,8 @@ use Rattle.dn_module.specs.declared.command.Command.{Command}
 use Rattle.dn_tool.specs.declared.halt.Halt.{Halt}
 use Rattle.dn_tool.specs.declared.halt.Halt.TheVariants.{WriteFault, DeviceFault, NoMemory}
 use Rattle.dn_tool.specs.Halt.{ending_status, is_device_halt, is_write_halt, make_halt}
-use Rattle.dn_tool.specs.Played.{CameTo, IsPlayed, device_tables, making, turn_at}
+use Rattle.dn_tool.specs.Played.{CameIn, CameTo, IsPlayed, device_tables, making, turn_at}
+use Rattle.dn_tool.specs.State.{CameThrough, IsHalted}
 use Rattle.dn_tool.specs.Turn.{AreTurns, IsTurn, State, Turn, answered, events_of, replies_of, start, state_after}
 use Rattle.dn_tool.proofs.Empty.{fresh_tables}
 
@@ -135,17 +136,6 @@ came_whole ts status a b log log' not_sink not_device w l =
       device = λ e. absurd (not_device e);
       between = λ _ _. sym (ap (λ (t : Turn). length t.events) (turn_past ts));
     }
-
--- how far a run with this status came in a turn
-pub record CameIn (t : Turn) (status : ℕ) (before after : Option (List ℕ)) (log log' : Option (List TableEvent)) : Type 0 where
-  pub events : ℕ
-  pub bytes : ℕ
-  pub logged : Logged log log' (take events t.events)
-  pub written : Added before after (take bytes t.reply)
-  pub in_order : events < length t.events → bytes ≡ 0
-  pub sink : status ≡ 3 → bytes < length t.reply
-  pub device : status ≡ 6 → events < length t.events
-  pub between : status ≢ 6 → events ≡ length t.events
 
 -- the run stopped in a turn
 pub came_in : (ts : List Turn) (t : Turn) (status : ℕ) (a b d : Option (List ℕ)) (log log' log'' : Option (List TableEvent)) → status ≢ 0 → Added a b (replies_of ts) → Logged log log' (events_of ts) → CameIn t status b d log' log'' → CameTo (ts ++ t ∷ []) status a d log log''
@@ -267,29 +257,25 @@ unmade_by {X} kinds net commands r fault ended a b log log' sizes told told' is 
     go Device m = played_unmade kinds net commands 6 true a b log log' sizes told told' (λ e. absurd (omega (arith, e))) (λ e. absurd (omega (arith, e))) (λ e. refl) same m
     go OutOfMemory m = played_unmade kinds net commands 7 false a b log log' sizes told told' (λ e. absurd (omega (arith, e))) (λ e. absurd (omega (arith, e))) (λ e. absurd (omega (arith, e))) same m
 
--- a reply was not written whole
-pub unwritten_by : {X : Type 0} (kinds : List Meaning) (net : List NodeDecl) (commands : List Command) (i : ℕ) (c : Command) (text : List ℕ) (s : State) (r : Result X Halt) (halt : Halt) (ended : Result ℕ Halt) (a b d : Option (List ℕ)) (log log' : Option (List TableEvent)) (told' : Option (List UnitWords)) → r ≡ Err halt → ended ≡ Err halt → i < length commands → c ≡ get_or commands i c → IsGone kinds net commands i s a b log log' → IsTurn kinds net s c (answered text s) → IsWritten b d (is_ok r) (is_write_halt r) text → is_device_halt r ≡ false → IsPlayed kinds net commands (ending_status ended) a d log log' told'
-unwritten_by {X} kinds net commands i c text s r halt ended a b d log log' told' is by within at g turn w no_device =
-    let given : IsWritten b d false (is_write_halt {A = X} (Err halt)) text = subst (λ (q : Result X Halt). IsWritten b d (is_ok q) (is_write_halt q) text) is w in
-    let none : is_device_halt {A = X} (Err halt) ≡ false = ap is_device_halt (sym is) ∙ no_device in
-    subst (λ (e : Result ℕ Halt). IsPlayed kinds net commands (ending_status e) a d log log' told') (sym by) (go halt given none)
+-- a command was left inside its turn, or before it
+pub halted_by : {X : Type 0} (kinds : List Meaning) (net : List NodeDecl) (commands : List Command) (i : ℕ) (c : Command) (s next : State) (r : Result X Halt) (halt : Halt) (ended : Result ℕ Halt) (a b d : Option (List ℕ)) (log log' log'' : Option (List TableEvent)) (told' : Option (List UnitWords)) → r ≡ Err halt → ended ≡ Err halt → i < length commands → c ≡ get_or commands i c → IsGone kinds net commands i s a b log log' → CameThrough (IsTurn kinds net s c) r next b d log' log'' → IsPlayed kinds net commands (ending_status ended) a d log log'' told'
+halted_by {X} kinds net commands i c s next r halt ended a b d log log' log'' told' is by within at g came =
+    let given : IsHalted (IsTurn kinds net s c) halt b d log' log'' = subst (λ (q : Result X Halt). CameThrough (IsTurn kinds net s c) q next b d log' log'') is came in
+    subst (λ (e : Result ℕ Halt). IsPlayed kinds net commands (ending_status e) a d log log'' told') (sym by) (go given)
   where
-    came : (status bytes : ℕ) → status ≢ 6 → (status ≡ 3 → bytes < length text) → Added b d (take bytes text) → CameIn (answered text s) status b d log' log'
-    came status bytes not_device less added = record {
-      events = 0;
-      bytes = bytes;
-      logged = Logged-none log' log' refl;
-      written = added;
-      in_order = λ l. absurd (omega (arith, l));
-      sink = less;
-      device = λ e. absurd (not_device e);
-      between = λ _. refl;
-    }
+    going : (h : Halt) → ending_status (Err h) ≢ 0
+    going WriteFault e = absurd (omega (arith, e))
+    going DeviceFault e = absurd (omega (arith, e))
+    going NoMemory e = absurd (omega (arith, e))
 
-    go : (h : Halt) → IsWritten b d false (is_write_halt {A = X} (Err h)) text → is_device_halt {A = X} (Err h) ≡ false → IsPlayed kinds net commands (ending_status (Err h)) a d log log' told'
-    go WriteFault v n =
-        let less = v.less refl in
-        played_in kinds net commands i 3 s c (answered text s) a b d log log' log' told' within at (λ e. absurd (omega (arith, e))) g turn (came 3 less.0 (λ e. absurd (omega (arith, e))) (λ _. less.1) less.2)
-    go DeviceFault v n = absurd (cc)
-    go NoMemory v n =
-        played_in kinds net commands i 7 s c (answered text s) a b d log log' log' told' within at (λ e. absurd (omega (arith, e))) g turn (came 7 v.front.0 (λ e. absurd (omega (arith, e))) (λ e. absurd (omega (arith, e))) v.front.1)
+    go : IsHalted (IsTurn kinds net s c) halt b d log' log'' → IsPlayed kinds net commands (ending_status (Err halt)) a d log log'' told'
+    go (inl z) =
+        let here : IsGone kinds net commands i s a d log log'' = record {
+          turns = g.turns;
+          happened = g.happened;
+          left = g.left;
+          written = subst (λ x. Added a x (replies_of (making kinds net ∷ g.turns))) (sym z.sink_is) g.written;
+          logged = subst (λ x. Logged log x (events_of (making kinds net ∷ g.turns))) (sym z.log_is) g.logged;
+        } in
+        played_before kinds net commands i (ending_status (Err halt)) s a d log log'' told' (omega (arith, within)) (ap (λ (h : Halt). ending_status (Err h)) z.memory) here
+    go (inr z) = played_in kinds net commands i (ending_status (Err halt)) s c z.turn a b d log log' log'' told' within at (going halt) g z.is_turn z.came

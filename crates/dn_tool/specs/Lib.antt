@@ -4,7 +4,9 @@ pub mod Found
 pub mod Viewed
 pub mod Turn
 pub mod Played
-pub mod Present
+pub mod Changed
+pub mod Ids
+pub mod State
 pub mod Answer
 pub mod Halt
 pub mod Platform

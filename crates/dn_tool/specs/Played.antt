@@ -32,6 +32,19 @@ making kinds net = record {
 abbrev pub turn_at : List Turn → ℕ → Turn
 turn_at turns place = get_or turns place (answered [] start)
 
+-- How far a run with this status came in a turn: so many of its events were added to the device's log,
+-- and so many bytes of its reply were written, once all its events were added
+pub record CameIn (t : Turn) (status : ℕ) (before after : Option (List ℕ))
+    (log log' : Option (List TableEvent)) : Type 0 where
+  pub events : ℕ
+  pub bytes : ℕ
+  pub logged : Logged log log' (take events t.events)
+  pub written : Added before after (take bytes t.reply)
+  pub in_order : events < length t.events → bytes ≡ 0
+  pub sink : status ≡ 3 → bytes < length t.reply
+  pub device : status ≡ 6 → events < length t.events
+  pub between : status ≢ 6 → events ≡ length t.events
+
 -- How far a run with this status came over turns: so many of them were gone through whole, and of the
 -- next so many events were added to the device's log, and then so many bytes of its reply were
 -- written. At status 0 the turns were gone through whole; at status 3 the next reply was not written
