@@ -14,6 +14,7 @@ pub mod Played
 pub mod Viewed
 pub mod Lookups
 pub mod Unanswered
+pub mod Books
 pub mod Changes
 pub mod Filled
 pub mod Seen

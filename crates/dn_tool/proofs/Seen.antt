@@ -1,5 +1,5 @@
--- The rows of what a node's addresses come to under records, made address by address.
-use Rattle.std.proofs.Common.{◌≡◌, ◌∙◌, ap, sym, refl, ℕ, ◌↔◌, inl, inr, Bool, true, List, [], ◌∷◌, map, length}
+-- The rows of what a node's addresses come to under records, and that they are those of what is owed.
+use Rattle.std.proofs.Common.{◌≡◌, ◌∙◌, ap, sym, refl, ℕ, ◌↔◌, inl, inr, Bool, true, List, [], ◌∷◌, map, length, slice_get, IsTrue}
 use Rattle.dn_interval.specs.declared.row.End.{End}
 use Rattle.dn_interval.specs.declared.row.Row.{Row}
 use Rattle.dn_interval.specs.Rows.{Member as EndIn, AllAbove, Ascending, AreNormal}
@@ -8,7 +8,7 @@ use Rattle.dn_interval.proofs.Listing.{normal_are_listed}
 use Rattle.dn_net.specs.declared.node.Name.{Name}
 use Rattle.dn_net.specs.declared.node.NodeDecl.{NodeDecl}
 use Rattle.dn_net.specs.Chain.{Member}
-use Rattle.dn_net.specs.Decode.{is_accepted}
+use Rattle.dn_net.specs.Decode.{is_accepted, is_agent_at}
 use Rattle.dn_net.specs.Names.{name_lt, is_before_first, is_ascending}
 use Rattle.dn_net.proofs.Ascending.{end_names_ascend, before_members}
 use Rattle.dn_net.proofs.Least.{both_true}
@@ -18,8 +18,9 @@ use Rattle.dn_kind.specs.Tables.{Held, allowing, record_allowing, resolved_names
 use Rattle.dn_flat.specs.Views.{name_of_end, end_of}
 use Rattle.dn_view.specs.Views.{ResolvesFromUnder}
 use Rattle.dn_book.specs.declared.grant.Grant.{Grant}
-use Rattle.dn_book.specs.Book.{records_of}
-use Rattle.dn_tool.specs.Viewed.{rows_under}
+use Rattle.dn_book.specs.Book.{IsFaithful, owed_names, records_of}
+use Rattle.dn_book.proofs.Owed.{owed_names_are_resolved}
+use Rattle.dn_tool.specs.Viewed.{owed_rows}
 
 -- a name stands in a list exactly where its end stands in the list of their ends
 end_in : (xs : List Name) (y : End) → EndIn y (map end_of xs) ↔ Member (name_of_end y) xs
@@ -60,7 +61,10 @@ rows_listed net h n rows normal =
 pub held_same : (net : List NodeDecl) (book : List Grant) (access : Access) (h : Held) → ((node slot : ℕ) → h node slot ≡ records_of net book node slot) → ◌≡◌ {A = Held} (allowing access h) (allowing access (records_of net book))
 held_same net book access h same = λ i node slot. ap (record_allowing access) (same node slot) i
 
--- rows that are normal under the records of a book are the rows of the view
-pub rows_are_under : (net : List NodeDecl) (book : List Grant) (access : Access) (n : ℕ) (h : Held) (rows : List Row) → ((node slot : ℕ) → h node slot ≡ records_of net book node slot) → AreNormal (ResolvesFromUnder net (allowing access h) n) rows → map seen_by rows ≡ rows_under net book access n
-rows_are_under net book access n h rows same normal =
-    rows_listed net (allowing access h) n rows normal ∙ ap (λ (k : Held). listed_rows (ends_at net k n)) (held_same net book access h same)
+-- rows that are normal under the records of a faithful book are the rows of what it owes to an agent
+pub rows_are_owed : (net : List NodeDecl) (book : List Grant) (access : Access) (n : ℕ) (h : Held) (rows : List Row) → IsFaithful net book → IsTrue (is_agent_at (slice_get net n)) → ((node slot : ℕ) → h node slot ≡ records_of net book node slot) → AreNormal (ResolvesFromUnder net (allowing access h) n) rows → map seen_by rows ≡ owed_rows net book access n
+rows_are_owed net book access n h rows faithful agent same normal =
+    let owed : ◌≡◌ {A = ℕ → List End} (ends_at net (allowing access (records_of net book)) n) (λ a. map end_of (owed_names net book access (record { node = n; addr = a }))) = (λ i a. ap (map end_of) (sym (owed_names_are_resolved net book faithful access (record { node = n; addr = a }) agent)) i) in
+    rows_listed net (allowing access h) n rows normal
+    ∙ ap (λ (k : Held). listed_rows (ends_at net k n)) (held_same net book access h same)
+    ∙ ap listed_rows owed

@@ -3,6 +3,7 @@ pub mod Compiled
 pub mod Found
 pub mod Viewed
 pub mod Turn
+pub mod Books
 pub mod Played
 pub mod Changed
 pub mod Ids

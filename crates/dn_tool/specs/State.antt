@@ -7,12 +7,10 @@ use Rattle.dn_base.specs.Outside.{Added}
 use Rattle.dn_net.specs.declared.node.NodeDecl.{NodeDecl}
 use Rattle.dn_kind.specs.Kind.{Meaning}
 use Rattle.dn_flat.specs.Stages.{AreFlats}
-use Rattle.dn_kind.specs.Tables.{record_held}
 use Rattle.dn_tables.specs.Set.{words_of}
 use Rattle.dn_image.specs.Image.{are_filled, image}
-use Rattle.dn_book.specs.declared.grant.Grant.{Grant}
-use Rattle.dn_book.specs.Book.{records_of}
-use Rattle.dn_book.specs.Tables.{IsKept, tables_of}
+use Rattle.dn_book.specs.Book.{IsFaithful}
+use Rattle.dn_book.specs.Tables.{IsKept}
 use Rattle.dn_tool.specs.declared.halt.Halt.{Halt}
 use Rattle.dn_tool.specs.declared.halt.Halt.TheVariants.{WriteFault, DeviceFault, NoMemory}
 use Rattle.dn_tool.specs.declared.state.State.{State as Kept}
@@ -24,19 +22,13 @@ use Rattle.dn_tool.specs.Turn.{State, Turn}
 abbrev pub state_view : Kept → State
 state_view k = record { book = k.book.grants; cleared = k.book.cleared; ids = k.ids }
 
--- bytes are the image of the tables of a sound book, which hold its records
-pub record IsImageOfBook (kinds : List Meaning) (net : List NodeDecl) (book : List Grant)
-    (bytes : List ℕ) : Type 0 where
-  pub is_image : bytes ≡ image net kinds (tables_of net kinds book)
-  pub filled : IsTrue (are_filled kinds net (tables_of net kinds book))
-  pub held : (node slot : ℕ) →
-      record_held net kinds (tables_of net kinds book) node slot ≡ records_of net book node slot
-
--- no call of the device failed, the tables keep the book, the bytes are the image of the tables, and
--- the views are those of the net, where they were made
+-- no call of the device failed, the book is faithful and the tables keep it in words of 64 bits, the
+-- bytes are the image of the tables, and the views are those of the net, where they were made
 pub record IsState (kinds : List Meaning) (net : List NodeDecl) (k : Kept) : Type 0 where
   pub sound : k.book.sound ≡ true
+  pub faithful : IsFaithful net k.book.grants
   pub kept : IsKept net kinds k.book.grants k.book.set
+  pub filled : IsTrue (are_filled kinds net (words_of k.book.set))
   pub bytes : IfSome k.image (λ bytes. bytes ≡ image net kinds (words_of k.book.set))
   pub flat : IfSome k.flats (AreFlats net)
 

@@ -16,7 +16,7 @@ ghost use Rattle.dn_vector.specs.declared.fault.RouteFault.TheVariants.{Device a
 
 use crate::compile::Platform;
 use crate::halt::Halt;
-use crate::state::{State, keep_flats};
+use crate::state::{State, keep_flats, renew};
 use dn_base::device::Tables;
 use dn_base::items::Items;
 use dn_book::book::RevokeFault;
@@ -145,7 +145,7 @@ fn grant_change<D: Tables>(
     let net = &platform.net;
     match grant(alloc, &mut state.book, net, flats, kinds, number, request, device) {
         Ok(v) => {
-            state.image = None;
+            renew(net, kinds, state);
             Ok(granted(alloc, id, v)?)
         }
         Err(GrantFault::Device) => Err(Halt::DeviceFault),
@@ -191,7 +191,7 @@ fn route_change<D: Tables>(
     let net = &platform.net;
     match route(alloc, &mut state.book, net, flats, kinds, number, agent, line, node, device) {
         Ok(vector) => {
-            state.image = None;
+            renew(net, kinds, state);
             Ok(routed(alloc, id, vector)?)
         }
         Err(RouteFault::Device) => Err(Halt::DeviceFault),
@@ -229,7 +229,7 @@ fn revoke_change<D: Tables>(
     let number = state.ids.number(alloc, id)?;
     match state.book.revoke(&platform.net, kinds, number, device) {
         Ok(()) => {
-            state.image = None;
+            renew(&platform.net, kinds, state);
             Ok(revoked(alloc, id)?)
         }
         Err(RevokeFault::NoGrant) => Ok(refused(alloc, id, "NoGrant")?),

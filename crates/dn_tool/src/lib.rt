@@ -11,6 +11,7 @@ mod change;
 pub mod compile;
 mod halt;
 pub mod ids;
+pub mod laws;
 mod output;
 pub mod refusal;
 pub mod reply;

@@ -1,25 +1,27 @@
 //! The replies to the commands that change nothing, as they are printed.
 
-ghost use Rattle.std.specs.Prelude.{◌≡◌, ◌<◌, List, None, false, length, map, slice_get, IfOk, IsTrue};
+ghost use Rattle.std.specs.Prelude.{◌≡◌, ◌<◌, List, None, Ok, true, false, is_ok, length, map, slice_get, IfOk, IsTrue};
 ghost use Rattle.std.specs.List.{All};
 ghost use Rattle.std.specs.String.{string_bytes};
+ghost use Rattle.dn_net.specs.declared.node.Name.{Name as NamePart};
 ghost use Rattle.dn_net.specs.Decode.{is_agent_at, over_within};
 ghost use Rattle.dn_kind.specs.Kind.{IsLawful};
 ghost use Rattle.dn_kind.specs.Units.{shape_fault};
 ghost use Rattle.dn_module.specs.Commands.{names_within};
 ghost use Rattle.dn_interval.specs.Listed.{seen_by};
 ghost use Rattle.dn_interval.specs.Rows.{ends_within};
+ghost use Rattle.dn_lookup.specs.Lookup.{lookup_of};
+ghost use Rattle.dn_book.specs.Book.{owed_names};
 ghost use Rattle.dn_book.specs.Tables.{IsKept};
-ghost use Rattle.dn_book.specs.declared.grant.Grant.{Grant};
 ghost use Rattle.dn_print.specs.Names.{names_exist, names_text};
-ghost use Rattle.dn_tool.specs.Found.{access_of, access_text, asked_text, found_text, lookup_text, names_under, resolve_text, resolved_text};
-ghost use Rattle.dn_tool.specs.State.{IsImageOfBook, IsState};
+ghost use Rattle.dn_tool.specs.Found.{access_of, access_text, asked_text, lookup_text, names_under, owed_text, resolve_text, resolved_text};
+ghost use Rattle.dn_tool.specs.State.{IsState};
 ghost use Rattle.dn_tool.specs.Turn.{is_change, is_dump, reply};
-ghost use Rattle.dn_tool.specs.Viewed.{no_agent_text, rows_under, view_text, viewed_text};
+ghost use Rattle.dn_tool.specs.Viewed.{no_agent_text, owed_rows, view_text, viewed_text};
 
 use crate::compile::Platform;
 use crate::reshape;
-use crate::state::{State, are_filled, keep_flats, keep_image};
+use crate::state::{State, keep_flats, keep_image};
 use dn_book::book::Book;
 use dn_interval::Rows;
 use dn_kind::kinds::Kinds;
@@ -220,12 +222,12 @@ fn lookup_reply(
     ensures same { (state.new.book ≡ state.old.book) × (state.new.ids ≡ state.old.ids) }
 {
     let access = access_of(mode);
-    let found = found_text(alloc, kinds, platform, state, access, target.node, addr)?;
+    let found = owed_text(alloc, kinds, platform, state, access, target.node, addr)?;
     asked(alloc, target, addr, mode, found.as_str())
 }
 
-/// The names that an address of an agent comes to, where there is such an agent.
-fn found_text(
+/// The names that are owed to an address of an agent, where there is such an agent.
+fn owed_text(
     alloc: Global,
     kinds: &Kinds,
     platform: &Platform,
@@ -241,7 +243,7 @@ fn found_text(
     requires state { IsState (map (λ k. meaning (k.vtable, k.value)) kinds.now.list.items)
         platform.now.net state.old }
     ensures reply { IfOk result (λ s. string_bytes s ≡
-        found_text platform.now.net state.old.book.grants access node addr) }
+        owed_text platform.now.net state.old.book.grants access node addr) }
     ensures state { IsState (map (λ k. meaning (k.vtable, k.value)) kinds.now.list.items)
         platform.now.net state.new }
     ensures same { (state.new.book ≡ state.old.book) × (state.new.ids ≡ state.old.ids) }
@@ -254,7 +256,7 @@ fn found_text(
     }
 }
 
-/// The names that an agent's name comes to, looked up in the bytes of the present image.
+/// The names that are owed to an agent's name, looked up in the bytes of the present image.
 fn agent_names(
     alloc: Global,
     kinds: &Kinds,
@@ -270,21 +272,20 @@ fn agent_names(
     requires state { IsState (map (λ k. meaning (k.vtable, k.value)) kinds.now.list.items)
         platform.now.net state.old }
     ensures reply { IfOk result (λ s. string_bytes s ≡ names_text platform.now.net
-        (names_under platform.now.net state.old.book.grants access name)) }
+        (owed_names platform.now.net state.old.book.grants access name)) }
     ensures state { IsState (map (λ k. meaning (k.vtable, k.value)) kinds.now.list.items)
         platform.now.net state.new }
     ensures same { (state.new.book ≡ state.old.book) × (state.new.ids ≡ state.old.ids) }
 {
-    let tables = state.book.tables();
-    are_filled(&platform.net, kinds, tables);
-    keep_image(alloc, &platform.net, kinds, tables, &mut state.image)?;
+    platform.facts();
+    keep_image(alloc, &platform.net, kinds, state.book.tables(), &mut state.image)?;
     let Some(image) = &state.image else {
         unreachable!()
     };
     image_names(alloc, kinds, platform, image.as_slice(), access, name)
 }
 
-/// The names that an agent's name comes to, looked up in the bytes of an image of the tables of a book.
+/// The names to which an agent's name comes in the bytes of an image of the net.
 fn image_names(
     alloc: Global,
     kinds: &Kinds,
@@ -296,17 +297,19 @@ fn image_names(
     requires lawful { All (λ k. IsLawful (meaning (k.vtable, k.value))) kinds.now.list.items }
     requires shaped { shape_fault (map (λ k. meaning (k.vtable, k.value)) kinds.now.list.items) platform.now.net
         ≡ None }
-    requires agent { IsTrue (is_agent_at (slice_get platform.now.net name.node)) }
-    ensures { (book : List Grant) → IsImageOfBook (map (λ k. meaning (k.vtable, k.value)) kinds.now.list.items)
-        platform.now.net book image.now →
-        IfOk result (λ s. string_bytes s ≡ names_text platform.now.net
-        (names_under platform.now.net book access name)) }
+    requires found { is_ok (lookup_of platform.now.net
+        (map (λ k. meaning (k.vtable, k.value)) kinds.now.list.items) image.now access name) ≡ true }
+    ensures { (names : List NamePart) → lookup_of platform.now.net
+        (map (λ k. meaning (k.vtable, k.value)) kinds.now.list.items) image.now access name ≡ Ok names →
+        IfOk result (λ s. string_bytes s ≡ names_text platform.now.net names) }
 {
     platform.facts();
     let Name { node, addr } = name;
     match lookup(alloc, &platform.net, kinds, image, node, addr, access) {
         Ok(found) => names_of(alloc, platform, found.list()),
-        Err(_) => Err(AllocError),
+        Err(LookupFault::OutOfMemory) => Err(AllocError),
+        Err(LookupFault::NoAgent) => unreachable!(),
+        Err(LookupFault::Image(_)) => unreachable!(),
     }
 }
 
@@ -369,11 +372,11 @@ fn agent_view(
     requires lawful { All (λ k. IsLawful (meaning (k.vtable, k.value))) kinds.now.list.items }
     requires shaped { shape_fault (map (λ k. meaning (k.vtable, k.value)) kinds.now.list.items) platform.now.net
         ≡ None }
-    requires there { node < length platform.now.net }
+    requires agent { IsTrue (is_agent_at (slice_get platform.now.net node)) }
     requires state { IsState (map (λ k. meaning (k.vtable, k.value)) kinds.now.list.items)
         platform.now.net state.old }
     ensures reply { IfOk result (λ s. string_bytes s ≡ viewed_text platform.now.net text.now mode
-        (rows_under platform.now.net state.old.book.grants (access_of mode) node)) }
+        (owed_rows platform.now.net state.old.book.grants (access_of mode) node)) }
     ensures state { IsState (map (λ k. meaning (k.vtable, k.value)) kinds.now.list.items)
         platform.now.net state.new }
     ensures same { (state.new.book ≡ state.old.book) × (state.new.ids ≡ state.old.ids) }

@@ -18,13 +18,11 @@ ghost use Rattle.dn_tool.specs.Turn.{IsTurn, is_change, is_dump, reply};
 use crate::change::change;
 use crate::compile::Platform;
 use crate::halt::Halt;
-use crate::ids::Ids;
 use crate::output::{write_dump, write_output};
 use crate::reply;
 use crate::state::{State, keep_image};
 use dn_base::device::Tables;
 use dn_base::sink::Sink;
-use dn_book::book::Book;
 use dn_kind::kinds::Kinds;
 use dn_module::command::Command;
 use std::alloc::Global;
@@ -55,12 +53,7 @@ pub(crate) fn run_script<K: Sink, D: Tables>(
         (is_device_halt result) }
 {
     platform.facts();
-    let mut state = State {
-        book: Book::make(alloc, &platform.net, kinds, device)?,
-        ids: Ids::new(alloc),
-        image: None,
-        flats: None,
-    };
+    let mut state = State::make(alloc, kinds, platform, device)?;
     for command in platform.commands.as_slice() {
         answer(alloc, kinds, platform, &mut state, command, sink, device)?;
     }
