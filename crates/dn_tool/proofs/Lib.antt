@@ -17,5 +17,6 @@ pub mod Unanswered
 pub mod Books
 pub mod Changes
 pub mod Filled
+pub mod Numbers
 pub mod Seen
 pub mod Kept

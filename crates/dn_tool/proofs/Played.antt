@@ -13,10 +13,10 @@ use Rattle.dn_base.specs.Device.{Logged, UnitSize, is_make_fault}
 use Rattle.dn_base.specs.Outside.{Added, IsWritten}
 use Rattle.dn_base.proofs.Lists.{drop_at, take_past}
 use Rattle.dn_base.proofs.Logs.{Logged-none, Logged-then}
+use Rattle.dn_base.proofs.Orders.{cases_lt}
 use Rattle.dn_base.proofs.Told.{Added-none, Added-then}
 use Rattle.dn_net.specs.declared.node.NodeDecl.{NodeDecl}
 use Rattle.dn_net.specs.declared.node.Unit.{Unit as UnitPart}
-use Rattle.dn_net.specs.Legal.{IsLegalNet}
 use Rattle.dn_kind.specs.Kind.{Meaning}
 use Rattle.dn_tables.specs.declared.table.NodeTable.{NodeTable}
 use Rattle.dn_tables.specs.Set.{FitsNet, IsOnDevice, fresh_set, table_on_device, tables_from, tables_of_set, units_of, words_of}
@@ -26,12 +26,11 @@ use Rattle.dn_book.specs.Tables.{tables_of}
 use Rattle.dn_module.specs.declared.command.Command.{Command}
 use Rattle.dn_tool.specs.declared.halt.Halt.{Halt}
 use Rattle.dn_tool.specs.declared.halt.Halt.TheVariants.{WriteFault, DeviceFault, NoMemory}
-use Rattle.dn_tool.specs.Books.{ImageGivesOwed, IsKeptFaithful}
+use Rattle.dn_tool.specs.Books.{GivesOwed}
 use Rattle.dn_tool.specs.Halt.{ending_status, is_device_halt, is_write_halt, make_halt}
 use Rattle.dn_tool.specs.Played.{CameIn, CameTo, IsPlayed, device_tables, making, turn_at}
 use Rattle.dn_tool.specs.State.{CameThrough, IsHalted}
 use Rattle.dn_tool.specs.Turn.{AreTurns, IsTurn, State, Turn, answered, events_of, replies_of, start, state_after}
-use Rattle.dn_tool.proofs.Books.{books_stay_faithful}
 use Rattle.dn_tool.proofs.Empty.{fresh_tables}
 
 -- the tables of a set, as a device tells them
@@ -78,56 +77,53 @@ events_more ts t = flat_map-append (λ u. u.events) ts (t ∷ []) ∙ ap (λ l. 
 replies_more : (ts : List Turn) (t : Turn) → replies_of (ts ++ t ∷ []) ≡ replies_of ts ++ t.reply
 replies_more ts t = flat_map-append (λ u. u.reply) ts (t ∷ []) ∙ ap (λ l. replies_of ts ++ l) (append-nil t.reply)
 
--- after each number of turns the image of the book gives what it owes
-abbrev pub AreDumped : List Meaning → List NodeDecl → List Turn → Type 0
-AreDumped kinds net ts = (count : ℕ) → count ≤ length ts → ImageGivesOwed kinds net (state_after start (take count ts)).book
+-- the book gives what it owes after each number of turns
+abbrev pub AreBooks : List Meaning → List NodeDecl → List Turn → Type 0
+AreBooks kinds net ts = (count : ℕ) → count ≤ length ts → GivesOwed kinds net (state_after start (take count ts)).book
 
 -- the same for one more turn
-dumped_more : (kinds : List Meaning) (net : List NodeDecl) (ts : List Turn) (t : Turn) → AreDumped kinds net ts → ImageGivesOwed kinds net t.next.book → AreDumped kinds net (ts ++ t ∷ [])
-dumped_more kinds net ts t before last count l = by (grind arith)
+books_more : (kinds : List Meaning) (net : List NodeDecl) (ts : List Turn) (t : Turn) → AreBooks kinds net ts → GivesOwed kinds net t.next.book → AreBooks kinds net (ts ++ t ∷ [])
+books_more kinds net ts t before last count l = by (cases_lt (length ts) count)
   where
     size : length (ts ++ t ∷ []) ≡ length ts + 1
     size = length-append ts (t ∷ [])
 
-    by : (count ≤ length ts) ⊎ (count ≡ length (ts ++ t ∷ [])) → ImageGivesOwed kinds net (state_after start (take count (ts ++ t ∷ []))).book
-    by (inl few) = subst (λ (l : List Turn). ImageGivesOwed kinds net (state_after start l).book) (sym (take-append-le count ts (t ∷ []) few)) (before count few)
-    by (inr all) =
-        let whole : take count (ts ++ t ∷ []) ≡ ts ++ t ∷ [] = ap (λ n. take n (ts ++ t ∷ [])) all ∙ take-length (ts ++ t ∷ []) in
-        subst (λ (s : State). ImageGivesOwed kinds net s.book) (sym (ap (state_after start) whole ∙ state_last start ts t)) last
+    by : (length ts < count) ⊎ (count ≤ length ts) → GivesOwed kinds net (state_after start (take count (ts ++ t ∷ []))).book
+    by (inr few) = subst (λ (l : List Turn). GivesOwed kinds net (state_after start l).book) (sym (take-append-le count ts (t ∷ []) few)) (before count few)
+    by (inl more) =
+        let whole : take count (ts ++ t ∷ []) ≡ ts ++ t ∷ [] = take_past (ts ++ t ∷ []) count (omega (arith, size, more)) in
+        subst (λ (s : State). GivesOwed kinds net s.book) (sym (ap (state_after start) whole ∙ state_last start ts t)) last
 
--- the units of a legal net were made, and so many commands were answered, which left a state
+-- the units were made, and so many commands were answered, which left a state
 pub record IsGone (kinds : List Meaning) (net : List NodeDecl) (commands : List Command) (count : ℕ) (s : State) (before after : Option (List ℕ)) (log log' : Option (List TableEvent)) : Type 0 where
-  pub legal : IsLegalNet net
   pub turns : List Turn
   pub happened : AreTurns kinds net start (take count commands) turns
   pub left : state_after start turns ≡ s
-  pub dumped : AreDumped kinds net turns
+  pub books : AreBooks kinds net turns
   pub written : Added before after (replies_of (making kinds net ∷ turns))
   pub logged : Logged log log' (events_of (making kinds net ∷ turns))
 
 -- the units were made
-pub gone_start : (kinds : List Meaning) (net : List NodeDecl) (commands : List Command) (a b : Option (List ℕ)) (log log' : Option (List TableEvent)) (sizes : List UnitSize) (told told' : Option (List UnitWords)) → IsLegalNet net → ImageGivesOwed kinds net [] → b ≡ a → AreUnitsMade (tables_of_set (fresh_set kinds net)) true false log log' sizes told told' → IsGone kinds net commands 0 start a b log log'
-gone_start kinds net commands a b log log' sizes told told' legal empty same made =
+pub gone_start : (kinds : List Meaning) (net : List NodeDecl) (commands : List Command) (a b : Option (List ℕ)) (log log' : Option (List TableEvent)) (sizes : List UnitSize) (told told' : Option (List UnitWords)) → GivesOwed kinds net [] → b ≡ a → AreUnitsMade (tables_of_set (fresh_set kinds net)) true false log log' sizes told told' → IsGone kinds net commands 0 start a b log log'
+gone_start kinds net commands a b log log' sizes told told' empty same made =
     let tables : List UnitWords = tables_of_set (fresh_set kinds net) in
     let whole : take made.made tables ≡ tables = ap (λ n. take n tables) (made.all refl) ∙ take-length tables in
     let events : map make_event (take made.made tables) ≡ (making kinds net).events ++ [] = ap (map make_event) whole ∙ making_events kinds net ∙ sym (append-nil (making kinds net).events) in
     record {
-      legal = legal;
       turns = [];
       happened = refl;
       left = refl;
-      dumped = λ count l. (let none : count ≡ 0 = omega (arith, l) in subst (λ n. ImageGivesOwed kinds net (state_after start (take n [])).book) (sym none) empty);
+      books = λ count l. (let none : count ≡ 0 = omega (arith, l) in subst (λ n. GivesOwed kinds net (state_after start (take n [])).book) (sym none) empty);
       written = Added-none a b same;
       logged = subst (λ es. Logged log log' es) events made.logged;
     }
 
 -- one more command was answered
-pub gone_more : (kinds : List Meaning) (net : List NodeDecl) (commands : List Command) (i : ℕ) (s : State) (c : Command) (t : Turn) (a b d : Option (List ℕ)) (log log' log'' : Option (List TableEvent)) → IsGone kinds net commands i s a b log log' → i < length commands → c ≡ get_or commands i c → IsTurn kinds net s c t → ImageGivesOwed kinds net t.next.book → Added b d t.reply → Logged log' log'' t.events → IsGone kinds net commands (i + 1) t.next a d log log''
+pub gone_more : (kinds : List Meaning) (net : List NodeDecl) (commands : List Command) (i : ℕ) (s : State) (c : Command) (t : Turn) (a b d : Option (List ℕ)) (log log' log'' : Option (List TableEvent)) → IsGone kinds net commands i s a b log log' → i < length commands → c ≡ get_or commands i c → IsTurn kinds net s c t → GivesOwed kinds net t.next.book → Added b d t.reply → Logged log' log'' t.events → IsGone kinds net commands (i + 1) t.next a d log log''
 gone_more kinds net commands i s c t a b d log log' log'' g within at is owed w l =
     let next : take (i + 1) commands ≡ take i commands ++ c ∷ [] = take_more commands i c within ∙ ap (λ (e : Command). take i commands ++ e ∷ []) (sym at) in
     record {
-      legal = g.legal;
-      dumped = dumped_more kinds net g.turns t g.dumped owed;
+      books = books_more kinds net g.turns t g.books owed;
       turns = g.turns ++ t ∷ [];
       happened = subst (λ cs. AreTurns kinds net start cs (g.turns ++ t ∷ [])) (sym next) (turns_more kinds net start (take i commands) g.turns c t g.happened (subst (λ z. IsTurn kinds net z c t) (sym g.left) is));
       left = state_last start g.turns t;
@@ -193,8 +189,8 @@ came_in ts t status a b d log log' log'' going w l c =
 -- the run over a script
 
 -- not all units were made
-pub played_unmade : (kinds : List Meaning) (net : List NodeDecl) (commands : List Command) (status : ℕ) (failed : Bool) (a b : Option (List ℕ)) (log log' : Option (List TableEvent)) (sizes : List UnitSize) (told told' : Option (List UnitWords)) → IsLegalNet net → status ≢ 0 → status ≢ 3 → (status ≡ 6 → failed ≡ true) → b ≡ a → AreUnitsMade (tables_of_set (fresh_set kinds net)) false failed log log' sizes told told' → IsPlayed kinds net commands status a b log log' told'
-played_unmade kinds net commands status failed a b log log' sizes told told' legal going not_sink device same made =
+pub played_unmade : (kinds : List Meaning) (net : List NodeDecl) (commands : List Command) (status : ℕ) (failed : Bool) (a b : Option (List ℕ)) (log log' : Option (List TableEvent)) (sizes : List UnitSize) (told told' : Option (List UnitWords)) → status ≢ 0 → status ≢ 3 → (status ≡ 6 → failed ≡ true) → b ≡ a → AreUnitsMade (tables_of_set (fresh_set kinds net)) false failed log log' sizes told told' → IsPlayed kinds net commands status a b log log' told'
+played_unmade kinds net commands status failed a b log log' sizes told told' going not_sink device same made =
     let tables : List UnitWords = tables_of_set (fresh_set kinds net) in
     let events : map make_event (take made.made tables) ≡ take made.made (making kinds net).events = sym (take-map made.made tables) ∙ ap (take made.made) (making_events kinds net) in
     let count : length (making kinds net).events ≡ length tables = ap length (sym (making_events kinds net)) ∙ length-map tables make_event in
@@ -217,8 +213,7 @@ played_unmade kinds net commands status failed a b log log' sizes told told' leg
       };
       all = λ e. absurd (going e);
       tables = λ e. absurd (going e);
-      faithful = λ count. books_stay_faithful kinds net [] [] legal refl count;
-      dumped = λ count l. absurd (omega (arith, l));
+      books = λ count l. absurd (omega (arith, l));
     }
   where
     take-map : (n : ℕ) (ts : List UnitWords) → take n (map make_event ts) ≡ map make_event (take n ts)
@@ -243,8 +238,7 @@ played_whole kinds net commands i status s a b log log' told' over none told g =
       happened = h.1;
       came = came.0;
       all = λ _. h.0 ∙ over;
-      faithful = books_stay_faithful kinds net (take i commands) g.turns g.legal g.happened;
-      dumped = λ count l. (let e = came.1 in g.dumped count (omega (arith, l, e)));
+      books = λ count l. (let e = came.1 in g.books count (omega (arith, l, e)));
       tables = λ _. subst (λ (z : State). IfSome told' (λ tables. tables ≡ device_tables 0 net (tables_of net kinds z.book))) (sym g.left) told;
     }
 
@@ -258,8 +252,7 @@ played_before kinds net commands i status s a b log log' told' within is g =
       few = let e = h.0 in omega (arith, e, within);
       happened = h.1;
       came = came.0;
-      faithful = books_stay_faithful kinds net (take i commands) g.turns g.legal g.happened;
-      dumped = λ count l. (let e = came.1 in g.dumped count (omega (arith, l, e)));
+      books = λ count l. (let e = came.1 in g.books count (omega (arith, l, e)));
       all = λ e. absurd (omega (arith, e, is));
       tables = λ e. absurd (omega (arith, e, is));
     }
@@ -276,10 +269,9 @@ played_in kinds net commands i status s c t a b d log log' log'' told' within at
       few = let e = h.0 in omega (arith, e, within);
       happened = h.1;
       came = stop.0;
-      faithful = books_stay_faithful kinds net (take (i + 1) commands) (g.turns ++ t ∷ []) g.legal turns;
-      dumped = λ count l. (let e = stop.1 in
+      books = λ count l. (let e = stop.1 in
         let few : count ≤ length g.turns = omega (arith, l, e) in
-        subst (λ (ts : List Turn). ImageGivesOwed kinds net (state_after start ts).book) (sym (take-append-le count g.turns (t ∷ []) few)) (g.dumped count few));
+        subst (λ (ts : List Turn). GivesOwed kinds net (state_after start ts).book) (sym (take-append-le count g.turns (t ∷ []) few)) (g.books count few));
       all = λ e. absurd (going e);
       tables = λ e. absurd (going e);
     }
@@ -287,14 +279,14 @@ played_in kinds net commands i status s c t a b d log log' log'' told' within at
 -- by what stopped it
 
 -- the units were not made
-pub unmade_by : {X : Type 0} (kinds : List Meaning) (net : List NodeDecl) (commands : List Command) (r : Result X MakeFault) (fault : MakeFault) (ended : Result ℕ Halt) (a b : Option (List ℕ)) (log log' : Option (List TableEvent)) (sizes : List UnitSize) (told told' : Option (List UnitWords)) → IsLegalNet net → r ≡ Err fault → ended ≡ Err (make_halt fault) → b ≡ a → AreUnitsMade (tables_of_set (fresh_set kinds net)) (is_ok r) (is_make_fault r) log log' sizes told told' → IsPlayed kinds net commands (ending_status ended) a b log log' told'
-unmade_by {X} kinds net commands r fault ended a b log log' sizes told told' legal is by same made =
+pub unmade_by : {X : Type 0} (kinds : List Meaning) (net : List NodeDecl) (commands : List Command) (r : Result X MakeFault) (fault : MakeFault) (ended : Result ℕ Halt) (a b : Option (List ℕ)) (log log' : Option (List TableEvent)) (sizes : List UnitSize) (told told' : Option (List UnitWords)) → r ≡ Err fault → ended ≡ Err (make_halt fault) → b ≡ a → AreUnitsMade (tables_of_set (fresh_set kinds net)) (is_ok r) (is_make_fault r) log log' sizes told told' → IsPlayed kinds net commands (ending_status ended) a b log log' told'
+unmade_by {X} kinds net commands r fault ended a b log log' sizes told told' is by same made =
     let given : AreUnitsMade (tables_of_set (fresh_set kinds net)) false (is_make_fault {A = X} (Err fault)) log log' sizes told told' = subst (λ (q : Result X MakeFault). AreUnitsMade (tables_of_set (fresh_set kinds net)) (is_ok q) (is_make_fault q) log log' sizes told told') is made in
     subst (λ (e : Result ℕ Halt). IsPlayed kinds net commands (ending_status e) a b log log' told') (sym by) (go fault given)
   where
     go : (f : MakeFault) → AreUnitsMade (tables_of_set (fresh_set kinds net)) false (is_make_fault {A = X} (Err f)) log log' sizes told told' → IsPlayed kinds net commands (ending_status (Err (make_halt f))) a b log log' told'
-    go Device m = played_unmade kinds net commands 6 true a b log log' sizes told told' legal (λ e. absurd (omega (arith, e))) (λ e. absurd (omega (arith, e))) (λ e. refl) same m
-    go OutOfMemory m = played_unmade kinds net commands 7 false a b log log' sizes told told' legal (λ e. absurd (omega (arith, e))) (λ e. absurd (omega (arith, e))) (λ e. absurd (omega (arith, e))) same m
+    go Device m = played_unmade kinds net commands 6 true a b log log' sizes told told' (λ e. absurd (omega (arith, e))) (λ e. absurd (omega (arith, e))) (λ e. refl) same m
+    go OutOfMemory m = played_unmade kinds net commands 7 false a b log log' sizes told told' (λ e. absurd (omega (arith, e))) (λ e. absurd (omega (arith, e))) (λ e. absurd (omega (arith, e))) same m
 
 -- a command was left inside its turn, or before it
 pub halted_by : {X : Type 0} (kinds : List Meaning) (net : List NodeDecl) (commands : List Command) (i : ℕ) (c : Command) (s next : State) (r : Result X Halt) (halt : Halt) (ended : Result ℕ Halt) (a b d : Option (List ℕ)) (log log' log'' : Option (List TableEvent)) (told' : Option (List UnitWords)) → r ≡ Err halt → ended ≡ Err halt → i < length commands → c ≡ get_or commands i c → IsGone kinds net commands i s a b log log' → CameThrough (IsTurn kinds net s c) r next b d log' log'' → IsPlayed kinds net commands (ending_status ended) a d log log'' told'
@@ -310,8 +302,7 @@ halted_by {X} kinds net commands i c s next r halt ended a b d log log' log'' to
     go : IsHalted (IsTurn kinds net s c) halt b d log' log'' → IsPlayed kinds net commands (ending_status (Err halt)) a d log log'' told'
     go (inl z) =
         let here : IsGone kinds net commands i s a d log log'' = record {
-          legal = g.legal;
-          dumped = g.dumped;
+          books = g.books;
           turns = g.turns;
           happened = g.happened;
           left = g.left;

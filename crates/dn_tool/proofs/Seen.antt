@@ -1,5 +1,5 @@
 -- The rows of what a node's addresses come to under records, and that they are those of what is owed.
-use Rattle.std.proofs.Common.{◌≡◌, ◌∙◌, ap, sym, refl, ℕ, ◌↔◌, inl, inr, Bool, true, List, [], ◌∷◌, map, length, slice_get, IsTrue}
+use Rattle.std.proofs.Common.{◌≡◌, ◌∙◌, ap, sym, refl, arith, ℕ, zero, suc, ◌<◌, ◌↔◌, inl, inr, Bool, true, List, [], ◌∷◌, map, length, slice_get, IsTrue}
 use Rattle.dn_interval.specs.declared.row.End.{End}
 use Rattle.dn_interval.specs.declared.row.Row.{Row}
 use Rattle.dn_interval.specs.Rows.{Member as EndIn, AllAbove, Ascending, AreNormal}
@@ -68,3 +68,9 @@ rows_are_owed net book access n h rows faithful agent same normal =
     rows_listed net (allowing access h) n rows normal
     ∙ ap (λ (k : Held). listed_rows (ends_at net k n)) (held_same net book access h same)
     ∙ ap listed_rows owed
+
+-- an agent is there
+pub agent_there : (net : List NodeDecl) (n : ℕ) → IsTrue (is_agent_at (slice_get net n)) → n < length net
+agent_there [] n e = cc
+agent_there (d ∷ ds) zero e = omega arith
+agent_there (d ∷ ds) (suc n) e = let later = agent_there ds n e in omega (arith, later)

@@ -33,6 +33,7 @@ unanswered kinds (played net commands) status b d log log' told' free not_sink n
   };
   all = λ e. absurd (going e);
   tables = λ e. absurd (going e);
+  books = λ count l. absurd (omega (arith, l));
 }
   where
     going : status ≢ 0

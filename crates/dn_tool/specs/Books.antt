@@ -29,6 +29,12 @@ ImageGivesOwed kinds net book = (access : Access) (x : Name) →
     lookup_of net kinds (image net kinds (tables_of net kinds book)) access x
     ≡ Ok (owed_names net book access x)
 
+-- a book gives each agent, at each address and for each access, exactly what it owes: under its records,
+-- and in the bytes of the image of its tables
+pub record GivesOwed (kinds : List Meaning) (net : List NodeDecl) (book : List Grant) : Type 0 where
+  pub kept : IsKeptFaithful net book
+  pub dumped : ImageGivesOwed kinds net book
+
 -- The book after each number of the turns of a script is sound and faithful, where the net is legal.
 abbrev pub BooksStayFaithful : Type 0
 BooksStayFaithful = (kinds : List Meaning) (net : List NodeDecl) (commands : List Command)

@@ -12,7 +12,7 @@ use Rattle.dn_tables.specs.Writes.{make_event}
 use Rattle.dn_image.specs.Image.{first_words}
 use Rattle.dn_book.specs.Tables.{tables_of}
 use Rattle.dn_module.specs.declared.command.Command.{Command}
-use Rattle.dn_tool.specs.Books.{ImageGivesOwed, IsKeptFaithful}
+use Rattle.dn_tool.specs.Books.{GivesOwed}
 use Rattle.dn_tool.specs.Turn.{AreTurns, Turn, answered, events_of, replies_of, start, state_after}
 
 -- the tables of nodes from a number on, as a device tells them: those of units, ascending
@@ -69,8 +69,8 @@ pub record CameTo (turns : List Turn) (status : ℕ) (before after : Option (Lis
 
 -- A run with this status over a script: it made the units, and then answered the first commands, of
 -- which it may have stopped in the last. At status 0 it answered all, and the words that the device
--- tells are the tables of the last book. The book after each number of turns is sound and faithful,
--- and where so many turns were gone through whole the image of its tables gives what it owes.
+-- tells are the tables of the last book. The book before the first command, and after each command
+-- that was gone through whole, gives what it owes.
 pub record IsPlayed (kinds : List Meaning) (net : List NodeDecl) (commands : List Command)
     (status : ℕ) (before after : Option (List ℕ)) (log log' : Option (List TableEvent))
     (told' : Option (List UnitWords)) : Type 0 where
@@ -81,6 +81,5 @@ pub record IsPlayed (kinds : List Meaning) (net : List NodeDecl) (commands : Lis
   pub all : status ≡ 0 → length turns ≡ length commands
   pub tables : status ≡ 0 → IfSome told' (λ tables.
       tables ≡ device_tables 0 net (tables_of net kinds (state_after start turns).book))
-  pub faithful : (count : ℕ) → IsKeptFaithful net (state_after start (take count turns)).book
-  pub dumped : (count : ℕ) → count < came.whole →
-      ImageGivesOwed kinds net (state_after start (take count turns)).book
+  pub books : (count : ℕ) → count < came.whole →
+      GivesOwed kinds net (state_after start (take count turns)).book

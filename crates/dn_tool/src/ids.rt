@@ -1,6 +1,6 @@
 //! The ids of grants, with their numbers.
 
-ghost use Rattle.std.specs.Prelude.{◌≡◌, ◌∷◌, ◌++◌, [], None, length, position, IfOk, OnOk};
+ghost use Rattle.std.specs.Prelude.{◌≡◌, [], length, position, IfOk, OnOk};
 ghost use Rattle.std.specs.Str.{bytes_eq};
 ghost use Rattle.dn_tool.specs.Ids.{id_number, with_id};
 
@@ -58,11 +58,10 @@ impl Ids {
         }
     }
 
-    /// Adds an id that did not come before.
+    /// Adds an id, which gets the next number where it did not come before.
     fn add(&mut self, alloc: Global, id: &str) -> Result<u32, AllocError>
-        requires new { position (bytes_eq id.now) self.old ≡ None }
         ensures number { IfOk result (λ n. n ≡ length self.old) }
-        ensures ids { OnOk result (self.new ≡ self.old ++ id.now ∷ []) }
+        ensures ids { OnOk result (self.new ≡ with_id self.old id.now) }
     {
         let number = self.ids.len();
         if number >= 4_294_967_295 {

@@ -1,6 +1,6 @@
 //! What is kept of a script while its commands are answered.
 
-ghost use Rattle.std.specs.Prelude.{◌≡◌, ◌^◌, [], None, true, is_ok, map, nat_lt, IfOk, IfSome, IsSome, IsTrue, OnOk};
+ghost use Rattle.std.specs.Prelude.{◌≡◌, ◌^◌, ◌<◌, [], None, true, is_ok, length, map, nat_lt, IfOk, IfSome, IsSome, IsTrue, OnOk};
 ghost use Rattle.std.specs.List.{All, list_all};
 ghost use Rattle.dn_base.specs.Device.{is_make_fault};
 ghost use Rattle.dn_base.specs.Outside.{IsCounted};
@@ -8,7 +8,7 @@ ghost use Rattle.dn_kind.specs.Kind.{IsLawful};
 ghost use Rattle.dn_kind.specs.Units.{shape_fault};
 ghost use Rattle.dn_flat.specs.Stages.{AreFlats};
 ghost use Rattle.dn_image.specs.Image.{are_filled, image};
-ghost use Rattle.dn_tables.specs.Set.{FitsNet, IsOnDevice, fresh_set, tables_of_set, words_of};
+ghost use Rattle.dn_tables.specs.Set.{FitsNet, IsOnDevice, fresh_set, tables_of_set, units_of, words_in, words_of};
 ghost use Rattle.dn_tables.specs.Writes.{AreUnitsMade};
 ghost use Rattle.dn_book.specs.Book.{IsFaithful};
 ghost use Rattle.dn_book.specs.Tables.{IsKept};
@@ -90,21 +90,21 @@ pub fn keep_image(
     net: &Net,
     kinds: &Kinds,
     tables: &TableSet,
-    image: &mut Option<Items<u8>>,
+    kept: &mut Option<Items<u8>>,
 ) -> Result<(), AllocError>
     requires lawful { All (λ k. IsLawful (meaning (k.vtable, k.value))) kinds.now.list.items }
     requires fits { FitsNet net.now (map (λ k. meaning (k.vtable, k.value)) kinds.now.list.items) tables.now }
-    requires kept { IfSome image.old (λ bytes. bytes
+    requires kept { IfSome kept.old (λ bytes. bytes
         ≡ image net.now (map (λ k. meaning (k.vtable, k.value)) kinds.now.list.items) (words_of tables.now)) }
-    ensures kept { IfSome image.new (λ bytes. bytes
+    ensures kept { IfSome kept.new (λ bytes. bytes
         ≡ image net.now (map (λ k. meaning (k.vtable, k.value)) kinds.now.list.items) (words_of tables.now)) }
-    ensures made { OnOk result (IsSome image.new) }
+    ensures made { OnOk result (IsSome kept.new) }
 {
-    if image.is_some() {
+    if kept.is_some() {
         return Ok(());
     }
     let bytes = write::write(alloc, net, kinds, tables)?;
-    *image = Some(Items::from_vec(bytes));
+    *kept = Some(Items::from_vec(bytes));
     Ok(())
 }
 
@@ -133,19 +133,31 @@ fn small(words: &[u64])
     let _words = words;
 }
 
+/// The words of a node are of 64 bits, for a proof of its caller. It looks at none of them.
+fn has_small_words(net: &Net, tables: &TableSet, node: u16)
+    requires units { units_of tables.now ≡ map (λ n. n.unit) net.now }
+    requires there { node < length net.now }
+    ensures { IsTrue (list_all (λ w. nat_lt w (2 ^ 64)) (words_in tables.now node)) }
+{
+    tables.facts();
+    if net.is_unit(node) {
+        small(tables.words(node));
+    }
+}
+
 /// The tables have the words of each node, for a proof of its caller. It looks at each node once, and
 /// at no word.
 fn are_filled(net: &Net, kinds: &Kinds, tables: &TableSet)
     requires lawful { All (λ k. IsLawful (meaning (k.vtable, k.value))) kinds.now.list.items }
     requires fits { FitsNet net.now (map (λ k. meaning (k.vtable, k.value)) kinds.now.list.items) tables.now }
-    ensures { IsTrue (are_filled (map (λ k. meaning (k.vtable, k.value)) kinds.now.list.items) net.now (words_of tables.now)) }
+    ensures { IsTrue (are_filled (map (λ k. meaning (k.vtable, k.value)) kinds.now.list.items)
+        net.now (words_of tables.now)) }
 {
     tables.facts();
     for node in 0..net.nodes() {
-        if net.unit(node).is_some() {
-            small(tables.words(node));
-        }
+        has_small_words(net, tables, node);
     }
+    let _kinds = kinds;
 }
 
 /// Drops the image, since the tables have changed.

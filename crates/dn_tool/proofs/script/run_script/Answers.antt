@@ -6,7 +6,7 @@ use Rattle.dn_kind.specs.Kind.{Meaning}
 use Rattle.dn_tables.proofs.Slots.{all_of_map}
 use Rattle.dn_tables.specs.Set.{IsOnDevice, tables_of_set}
 use Rattle.dn_book.specs.Tables.{tables_of}
-use Rattle.dn_tool.specs.Books.{ImageGivesOwed}
+use Rattle.dn_tool.specs.Books.{GivesOwed}
 use Rattle.dn_tool.specs.Halt.{make_halt}
 use Rattle.dn_tool.specs.Played.{device_tables}
 use Rattle.dn_tool.specs.State.{state_view}
@@ -19,7 +19,7 @@ pub returns-in_err-state-clause-played : goal.returns-in_err-state-clause-played
 returns-in_err-state-clause-played g c =
     let kinds : List Meaning = map (λ k. (goal.UnitKind-dyn g (k.vtable, k.value)).meaning k.value) c.args.kinds.now.list.items in
     let ended : c.from_residual.result ≡ Err (make_halt c.in_err-state.field-0.0) = search rules in
-    rw (← c.platform.view_is) (unmade_by kinds c.platform.inside.net c.platform.inside.commands c.make.result c.in_err-state.field-0.0 c.from_residual.result _ _ _ _ _ _ _ c.platform.invariant.walked.legal c.in_err-state.was ended refl (rw (← c.platform.view_is) at c.make.ensures.made))
+    rw (← c.platform.view_is) (unmade_by kinds c.platform.inside.net c.platform.inside.commands c.make.result c.in_err-state.field-0.0 c.from_residual.result _ _ _ _ _ _ _ c.in_err-state.was ended refl (rw (← c.platform.view_is) at c.make.ensures.made))
 
 pub loop-command-init : goal.loop-command-init
 loop-command-init g c = ?
@@ -43,13 +43,13 @@ loop-command-preserved g c =
     let within : i < length cs = search rules in
     let at : c.command-item.result ≡ get_or cs i c.command-item.result = search rules in
     let turned = c.in_ok-answer.ensures.through in
-    let legal = legal_with kinds net c.requires.shaped c.loop-command.invariant.gone.legal in
+    let legal = legal_with kinds net c.requires.shaped c.facts.ensures.walked.legal in
     let owed = state_owed kinds net c.answer.new.state (all_of_map _ c.args.kinds.now.list.items c.requires.lawful) legal c.in_ok-answer.ensures.state in
     record {
       few = omega (arith, within);
       state = c.in_ok-answer.ensures.state;
       on_device = c.in_ok-answer.ensures.on_device;
-      gone = subst (λ (s : State). IsGone kinds net cs (i + 1) s (g.K.Sink.written c.args.sink.now) (g.K.Sink.written c.answer.new.sink) (g.D.Tables.log c.args.device.now) (g.D.Tables.log c.answer.new.device)) turned.left (gone_more kinds net cs i (state_view c.loop-command.state) c.command-item.result turned.turn _ _ _ _ _ _ c.loop-command.invariant.gone within at turned.is_turn (subst (λ (s : State). ImageGivesOwed kinds net s.book) (sym turned.left) owed) turned.written turned.logged);
+      gone = subst (λ (s : State). IsGone kinds net cs (i + 1) s (g.K.Sink.written c.args.sink.now) (g.K.Sink.written c.answer.new.sink) (g.D.Tables.log c.args.device.now) (g.D.Tables.log c.answer.new.device)) turned.left (gone_more kinds net cs i (state_view c.loop-command.state) c.command-item.result turned.turn _ _ _ _ _ _ c.loop-command.invariant.gone within at turned.is_turn (subst (λ (s : State). GivesOwed kinds net s.book) (sym turned.left) owed) turned.written turned.logged);
       sink_counted = counted_then _ _ _ _ c.loop-command.invariant.sink_counted c.in_ok-answer.ensures.sink_counted;
       device_counted = counted_then _ _ _ _ c.loop-command.invariant.device_counted c.in_ok-answer.ensures.device_counted;
     }
