@@ -1,17 +1,19 @@
 -- The books of a script stay sound and faithful, turn by turn.
-use Rattle.std.proofs.Common.{◌≡◌, sym, subst, refl, ℕ, zero, suc, ◌⊎◌, inl, inr, List, [], ◌∷◌, take, IsTrue}
+use Rattle.std.proofs.Common.{◌≡◌, sym, subst, refl, ℕ, zero, suc, ◌⊎◌, inl, inr, List, [], ◌∷◌, ◌++◌, take, IsTrue}
 use Rattle.dn_net.specs.declared.node.NodeDecl.{NodeDecl}
 use Rattle.dn_net.specs.Legal.{IsLegalNet}
 use Rattle.dn_parse.specs.declared.syntax.Mode.{Mode}
 use Rattle.dn_parse.specs.declared.syntax.Mode.TheVariants.{Unsaid, Read, Write}
 use Rattle.dn_kind.specs.Kind.{Meaning}
 use Rattle.dn_kind.specs.Rights.{are_rights}
+use Rattle.dn_tables.specs.Placement.{Place}
 use Rattle.dn_placement.specs.declared.request.Request.{Request}
 use Rattle.dn_book.specs.declared.grant.Grant.{Grant as GrantPart}
+use Rattle.dn_book.specs.Book.{without}
 use Rattle.dn_book.proofs.Faithful.{empty_book_is_faithful, grant_keeps_book, revoke_keeps_book}
-use Rattle.dn_grant.specs.Grant.{grant_at}
+use Rattle.dn_grant.specs.Grant.{IsPlaced, grant_at}
 use Rattle.dn_grant.proofs.Allowed.{allowed_grant}
-use Rattle.dn_vector.specs.Route.{route_at}
+use Rattle.dn_vector.specs.Route.{IsPlacedRoute, route_at}
 use Rattle.dn_vector.proofs.Allowed.{allowed_route}
 use Rattle.dn_module.specs.declared.command.Command.{Command}
 use Rattle.dn_module.specs.declared.command.Command.TheVariants.{Resolve, Lookup, View, Grant, Route, Revoke, Dump, Split, Absorb}
@@ -28,29 +30,37 @@ rights_there Write = refl
 along : (net : List NodeDecl) (t u : Turn) → t ≡ u → IsKeptFaithful net u.next.book → IsKeptFaithful net t.next.book
 along net t u e h = subst (λ (v : Turn). IsKeptFaithful net v.next.book) (sym e) h
 
--- a grant keeps the book
-pub grant_keeps : (kinds : List Meaning) (net : List NodeDecl) (s : State) (id : List ℕ) (rq : Request) (t : Turn) → IsLegalNet net → IsTrue (are_rights rq.rights) → IsKeptFaithful net s.book → IsGrantTurn kinds net s id rq t → IsKeptFaithful net t.next.book
-grant_keeps kinds net s id rq t legal rights b (inl g) =
-    let came : GrantPart = grant_at (id_number s.ids id) rq g.place in
-    let may = allowed_grant net s.book (id_number s.ids id) rq g.place g.placed.allowed rights g.placed.first in
-    let keeps = grant_keeps_book net s.book came legal b.sound may in
-    along net t _ g.is_turn (record { sound = keeps.0; faithful = keeps.1 b.faithful g.placed.first.suited.admissible })
+-- a grant at an admissible placement keeps the book
+pub placed_keeps : (net : List NodeDecl) (book : List GrantPart) (id : ℕ) (rq : Request) (p : Place) → IsLegalNet net → IsTrue (are_rights rq.rights) → IsKeptFaithful net book → IsPlaced net book id rq p → IsKeptFaithful net (book ++ grant_at id rq p ∷ [])
+placed_keeps net book id rq p legal rights b placed =
+    let keeps = grant_keeps_book net book (grant_at id rq p) legal b.sound (allowed_grant net book id rq p placed.allowed rights placed.first) in
+    record { sound = keeps.0; faithful = keeps.1 b.faithful placed.first.suited.admissible }
+
+-- so does a route
+pub placed_route_keeps : (net : List NodeDecl) (book : List GrantPart) (id agent line node v : ℕ) (p : Place) → IsLegalNet net → IsKeptFaithful net book → IsPlacedRoute net book id agent line node v p → IsKeptFaithful net (book ++ route_at id agent node v p ∷ [])
+placed_route_keeps net book id agent line node v p legal b placed =
+    let keeps = grant_keeps_book net book (route_at id agent node v p) legal b.sound (allowed_route net book id agent line node v p placed.allowed placed.placed) in
+    record { sound = keeps.0; faithful = keeps.1 b.faithful placed.placed.first.suited.admissible }
+
+-- and taking a grant out
+pub without_keeps : (net : List NodeDecl) (book : List GrantPart) (id : ℕ) → IsLegalNet net → IsKeptFaithful net book → IsKeptFaithful net (without id book)
+without_keeps net book id legal b =
+    let keeps = revoke_keeps_book net book id legal b.sound in
+    record { sound = keeps.0; faithful = keeps.1 b.faithful }
+
+-- the turn of a grant keeps the book
+grant_keeps : (kinds : List Meaning) (net : List NodeDecl) (s : State) (id : List ℕ) (rq : Request) (t : Turn) → IsLegalNet net → IsTrue (are_rights rq.rights) → IsKeptFaithful net s.book → IsGrantTurn kinds net s id rq t → IsKeptFaithful net t.next.book
+grant_keeps kinds net s id rq t legal rights b (inl g) = along net t _ g.is_turn (placed_keeps net s.book (id_number s.ids id) rq g.place legal rights b g.placed)
 grant_keeps kinds net s id rq t legal rights b (inr r) = along net t _ r.is_turn b
 
--- a route keeps the book
-pub route_keeps : (kinds : List Meaning) (net : List NodeDecl) (s : State) (id : List ℕ) (agent line node : ℕ) (t : Turn) → IsLegalNet net → IsKeptFaithful net s.book → IsRouteTurn kinds net s id agent line node t → IsKeptFaithful net t.next.book
-route_keeps kinds net s id agent line node t legal b (inl g) =
-    let came : GrantPart = route_at (id_number s.ids id) agent node g.vector g.place in
-    let may = allowed_route net s.book (id_number s.ids id) agent line node g.vector g.place g.placed.allowed g.placed.placed in
-    let keeps = grant_keeps_book net s.book came legal b.sound may in
-    along net t _ g.is_turn (record { sound = keeps.0; faithful = keeps.1 b.faithful g.placed.placed.first.suited.admissible })
+-- so does that of a route
+route_keeps : (kinds : List Meaning) (net : List NodeDecl) (s : State) (id : List ℕ) (agent line node : ℕ) (t : Turn) → IsLegalNet net → IsKeptFaithful net s.book → IsRouteTurn kinds net s id agent line node t → IsKeptFaithful net t.next.book
+route_keeps kinds net s id agent line node t legal b (inl g) = along net t _ g.is_turn (placed_route_keeps net s.book (id_number s.ids id) agent line node g.vector g.place legal b g.placed)
 route_keeps kinds net s id agent line node t legal b (inr r) = along net t _ r.is_turn b
 
--- a revoke keeps the book
-pub revoke_keeps : (kinds : List Meaning) (net : List NodeDecl) (s : State) (id : List ℕ) (t : Turn) → IsLegalNet net → IsKeptFaithful net s.book → IsRevokeTurn kinds net s id t → IsKeptFaithful net t.next.book
-revoke_keeps kinds net s id t legal b (inl g) =
-    let keeps = revoke_keeps_book net s.book (id_number s.ids id) legal b.sound in
-    along net t _ g.is_turn (record { sound = keeps.0; faithful = keeps.1 b.faithful })
+-- and that of a revoke
+revoke_keeps : (kinds : List Meaning) (net : List NodeDecl) (s : State) (id : List ℕ) (t : Turn) → IsLegalNet net → IsKeptFaithful net s.book → IsRevokeTurn kinds net s id t → IsKeptFaithful net t.next.book
+revoke_keeps kinds net s id t legal b (inl g) = along net t _ g.is_turn (without_keeps net s.book (id_number s.ids id) legal b)
 revoke_keeps kinds net s id t legal b (inr r) = along net t _ r.is_turn b
 
 -- each turn keeps the book

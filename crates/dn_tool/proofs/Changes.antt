@@ -1,4 +1,5 @@
 -- From what grants, routes and revokes say to the turns of a script.
+use Rattle.std.specs.Option.{IfSome}
 use Rattle.std.proofs.Common.{◌≡◌, ◌≢◌, ◌∙◌, ap, sym, subst, refl, arith, ℕ, ◌<◌, ◌≤◌, ◌⊎◌, inl, inr, Bool, true, false, List, [], ◌∷◌, ◌++◌, take, length, Option, Some, None, Result, Ok, Err, is_ok, IsTrue, ◌==◌, ◌||◌, eqb-true}
 use Rattle.std.proofs.Math.Seq.{take-length}
 use Rattle.dn_base.specs.declared.device.TableEvent.{TableEvent}
@@ -20,14 +21,23 @@ use Rattle.dn_grant.specs.Grant.{IsGrantLogged, IsGrantMade, IsGrantRefused, gra
 use Rattle.dn_vector.specs.declared.fault.RouteFault.{RouteFault}
 use Rattle.dn_vector.specs.Route.{IsPlacedRoute, IsRouteLogged, IsRouteMade, IsRouteRefused, route_at}
 use Rattle.dn_vector.specs.Vectors.{vector_request}
+use Rattle.dn_book.specs.Book.{IsFaithful}
+use Rattle.dn_book.specs.State.{BookState}
+use Rattle.dn_book.specs.Tables.{IsKept}
+use Rattle.dn_flat.specs.Stages.{AreFlats}
+use Rattle.dn_image.specs.Image.{are_filled, image}
+use Rattle.dn_tables.specs.Set.{words_of}
+use Rattle.dn_module.specs.declared.command.Command.{Command}
+use Rattle.dn_module.specs.declared.command.Command.TheVariants.{Resolve, Lookup, View, Grant as GrantOf, Route, Revoke, Dump, Split, Absorb}
+use Rattle.dn_tool.specs.declared.state.State.{State as Kept}
 use Rattle.dn_tool.specs.declared.halt.Halt.{Halt}
 use Rattle.dn_tool.specs.declared.halt.Halt.TheVariants.{WriteFault, DeviceFault, NoMemory}
 use Rattle.dn_tool.specs.Changed.{grant_refused_text, granted_text, revoke_refused_text, revoked_text, route_refused_text, routed_text}
 use Rattle.dn_tool.specs.Halt.{ending_status, is_device_halt, is_write_halt}
 use Rattle.dn_tool.specs.Ids.{id_number, with_id}
 use Rattle.dn_tool.specs.Played.{CameIn}
-use Rattle.dn_tool.specs.State.{CameThrough, CameThroughChange, IsBefore, IsChanged, IsHalted, IsInside, IsTurned}
-use Rattle.dn_tool.specs.Turn.{IsGrantTurn, IsGranted, IsNotGranted, IsNotRevoked, IsNotRouted, IsRevokeTurn, IsRevoked, IsRouteTurn, IsRouted, State, Turn, answered, entered, named}
+use Rattle.dn_tool.specs.State.{CameThrough, CameThroughChange, IsBefore, IsChanged, IsHalted, IsInside, IsState, IsTurned, state_view}
+use Rattle.dn_tool.specs.Turn.{IsGrantTurn, IsGranted, IsNotGranted, IsNotRevoked, IsNotRouted, IsRevokeTurn, IsRevoked, IsRouteTurn, IsRouted, IsTurn, State, Turn, answered, entered, is_change, named, reply}
 
 -- all events were added
 added_all : (events : List TableEvent) (log log' : Option (List TableEvent)) → AreAdded events false log log' → Logged log log' events
@@ -198,16 +208,6 @@ not_revoked_turn kinds net s next id log log' none same left = record {
 
 -- replies
 
--- a reply that is still to be written, and nothing else
-pub still : (s : State) (reply : List ℕ) (log : Option (List TableEvent)) → IsChanged (λ t. t ≡ answered reply s) s reply log log
-still s reply log = record {
-  turn = answered reply s;
-  is_turn = refl;
-  logged = Logged-none log log refl;
-  replied = refl;
-  left = refl;
-}
-
 -- the reply was written, or a part of it
 pub replied : (P : Turn → Type 0) (r : Result (Unit {0}) Halt) (next : State) (reply : List ℕ) (a b : Option (List ℕ)) (log log' : Option (List TableEvent)) → IsChanged P next reply log log' → IsWritten a b (is_ok r) (is_write_halt r) reply → is_device_halt r ≡ false → CameThrough P r next a b log log'
 replied P (Ok u) next reply a b log log' c w none = record {
@@ -235,3 +235,62 @@ replied P (Err h) next reply a b log log' c w none = inr (record { turn = c.turn
     by WriteFault v n = let less = v.less refl in came 3 less.0 (λ e. absurd (omega (arith, e))) (λ _. less.1) less.2
     by DeviceFault v n = absurd (cc)
     by NoMemory v n = came 7 v.front.0 (λ e. absurd (omega (arith, e))) (λ e. absurd (omega (arith, e))) v.front.1
+
+-- states
+
+-- the state that a change leaves, of its parts
+pub state_left : (k : Kept) (book : BookState) (ids : List (List ℕ)) (cleared : Bool) → k.book ≡ book → k.ids ≡ ids → book.cleared ≡ cleared → record { book = book.grants; cleared = cleared; ids = ids } ≡ state_view k
+state_left k book ids cleared b i e =
+    ap (λ (x : Bool). record { book = book.grants; cleared = x; ids = ids }) (sym e)
+    ∙ ap (λ (x : List (List ℕ)). record { book = book.grants; cleared = book.cleared; ids = x }) (sym i)
+    ∙ ap (λ (x : BookState). record { book = x.grants; cleared = x.cleared; ids = k.ids }) (sym b)
+
+-- the state that a refusal leaves
+pub state_named : (k : Kept) (s : State) (id : List ℕ) (book : BookState) → k.book ≡ book → s.book ≡ book.grants → s.cleared ≡ book.cleared → k.ids ≡ with_id s.ids id → named s id ≡ state_view k
+state_named k s id book b g e i =
+    ap (λ (x : List Grant). record { book = x; cleared = s.cleared; ids = with_id s.ids id }) g
+    ∙ ap (λ (x : Bool). record { book = book.grants; cleared = x; ids = with_id s.ids id }) e
+    ∙ ap (λ (x : List (List ℕ)). record { book = book.grants; cleared = book.cleared; ids = x }) (sym i)
+    ∙ ap (λ (x : BookState). record { book = x.grants; cleared = x.cleared; ids = k.ids }) (sym b)
+
+-- what is kept of a state where the book and the image are as they were
+pub state_same : (kinds : List Meaning) (net : List NodeDecl) (k k' : Kept) → IsState kinds net k → k'.book ≡ k.book → k'.image ≡ k.image → IfSome k'.flats (AreFlats net) → IsState kinds net k'
+state_same kinds net k k' s b i f = record {
+  sound = subst (λ (x : BookState). x.sound ≡ true) (sym b) s.sound;
+  faithful = subst (λ (x : BookState). IsFaithful net x.grants) (sym b) s.faithful;
+  kept = subst (λ (x : BookState). IsKept net kinds x.grants x.set) (sym b) s.kept;
+  filled = subst (λ (x : BookState). IsTrue (are_filled kinds net (words_of x.set))) (sym b) s.filled;
+  bytes = subst (λ (o : Option (List ℕ)). IfSome o (λ bytes. bytes ≡ image net kinds (words_of k'.book.set))) (sym i) (subst (λ (x : BookState). IfSome k.image (λ bytes. bytes ≡ image net kinds (words_of x.set))) (sym b) s.bytes);
+  flat = f;
+}
+
+-- the sort of a turn
+
+-- a command that changes nothing has a turn of this sort
+pub still_turn : (kinds : List Meaning) (net : List NodeDecl) (s : State) (c : Command) → is_change c ≡ false → IsTurn kinds net s c (answered (reply kinds net s.book c) s)
+still_turn kinds net s (Resolve target a m) e = refl
+still_turn kinds net s (Lookup target a m) e = refl
+still_turn kinds net s (View target m) e = refl
+still_turn kinds net s Dump e = refl
+still_turn kinds net s Split e = refl
+still_turn kinds net s (Absorb target) e = refl
+still_turn kinds net s (GrantOf id from target base size m) e = cc
+still_turn kinds net s (Route id from line target) e = cc
+still_turn kinds net s (Revoke id) e = cc
+
+-- its reply was written, or a part of it, and the state stays
+pub still_through : (kinds : List Meaning) (net : List NodeDecl) (s next : State) (c : Command) (r : Result (Unit {0}) Halt) (a b : Option (List ℕ)) (log : Option (List TableEvent)) → is_change c ≡ false → s ≡ next → IsWritten a b (is_ok r) (is_write_halt r) (reply kinds net s.book c) → is_device_halt r ≡ false → CameThrough (IsTurn kinds net s c) r next a b log log
+still_through kinds net s next c r a b log e same w none =
+    replied (IsTurn kinds net s c) r next (reply kinds net s.book c) a b log log (record {
+      turn = answered (reply kinds net s.book c) s;
+      is_turn = still_turn kinds net s c e;
+      logged = Logged-none log log refl;
+      replied = refl;
+      left = same;
+    }) w none
+
+-- a change that halted wrote nothing
+pub change_halted : (P : Turn → Type 0) (r : Result (List ℕ) Halt) (h : Halt) (r' : Result (Unit {0}) Halt) (next : State) (told : Option (List ℕ)) (log log' : Option (List TableEvent)) → r ≡ Err h → r' ≡ Err h → CameThroughChange P r next log log' → CameThrough P r' next told told log log'
+change_halted P r h r' next told log log' e f c =
+    let halted : (told : Option (List ℕ)) → IsHalted P h told told log log' = subst (λ (q : Result (List ℕ) Halt). CameThroughChange P q next log log') e c in
+    subst (λ (q : Result (Unit {0}) Halt). CameThrough P q next told told log log') (sym f) (halted told)

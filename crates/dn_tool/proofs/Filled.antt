@@ -94,7 +94,7 @@ unit_there set net node units e = by (unit_in set node) (ap is_some (unit_same s
   where
     by : (o : Option UnitPart) → is_some o ≡ true → IsSome o
     by None f = cc
-    by (Some u) f = tt
+    by (Some u) f = refl
 
 -- and one that is none has no words
 pub none_there : (set : List NodeTable) (net : List NodeDecl) (node : ℕ) → IsSet set → units_of set ≡ map (λ n. n.unit) net → is_some (unit_at net node) ≡ false → IsTrue (are_small (words_in set node))

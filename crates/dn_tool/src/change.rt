@@ -4,9 +4,10 @@ ghost use Rattle.std.specs.Prelude.{◌≡◌, ◌≢◌, None, true, false, map
 ghost use Rattle.std.specs.List.{All};
 ghost use Rattle.dn_base.specs.Outside.{IsCounted};
 ghost use Rattle.dn_kind.specs.Kind.{IsLawful};
-ghost use Rattle.dn_kind.specs.Units.{shape_fault};
+ghost use Rattle.dn_kind.specs.Units.{IsLegalWith, shape_fault};
 ghost use Rattle.dn_kind.specs.Rights.{are_rights};
 ghost use Rattle.dn_tables.specs.Set.{IsOnDevice};
+ghost use Rattle.dn_walk.specs.Rows.{AreWalksOf};
 ghost use Rattle.dn_tool.specs.Changed.{grant_refused_text, granted_text, refused_text, revoked_text, route_refused_text, routed_text};
 ghost use Rattle.dn_tool.specs.Halt.{is_device_halt, is_write_halt};
 ghost use Rattle.dn_tool.specs.State.{CameThroughChange, IsState, state_view};
@@ -25,10 +26,12 @@ use dn_grant::grant::grant;
 use dn_kind::kinds::Kinds;
 use dn_kind::rights::Rights;
 use dn_module::command::{Command, Target};
+use dn_net::net::Net;
 use dn_parse::syntax::Mode;
 use dn_placement::request::Request;
 use dn_vector::fault::RouteFault;
 use dn_vector::route::route;
+use dn_walk::walks::WalkTable;
 use std::alloc::{AllocError, Global};
 
 /// Does a command that changes the book, and answers its reply. All memory of the change is taken before
@@ -59,18 +62,21 @@ pub(crate) fn change<D: Tables>(
     ensures no_write { is_write_halt result ≡ false }
     ensures counted { IsCounted (D.faults device.old) (D.faults device.new) (is_device_halt result) }
 {
+    platform.facts();
+    let net = &platform.net;
+    let walks = &platform.walks;
     match command {
         Command::Grant(id, from, target, base, size, mode) => {
             let request = request_of(from, target, *base, *size, *mode);
-            grant_change(alloc, kinds, platform, state, id.as_str(), &request, device)
+            grant_change(alloc, kinds, net, walks, state, id.as_str(), &request, device)
         }
         Command::Route(id, from, line, target) => {
             let agent = number_or_none(from.node);
             let node = number_or_none(target.node);
-            route_change(alloc, kinds, platform, state, id.as_str(), agent, *line, node, device)
+            route_change(alloc, kinds, net, walks, state, id.as_str(), agent, *line, node, device)
         }
         Command::Revoke(id) => {
-            revoke_change(alloc, kinds, platform, state, id.as_str(), device)
+            revoke_change(alloc, kinds, net, state, id.as_str(), device)
         }
         _ => unreachable!(),
     }
@@ -113,36 +119,36 @@ fn request_of(from: &Target, target: &Target, base: u64, size: u64, mode: Mode) 
 fn grant_change<D: Tables>(
     alloc: Global,
     kinds: &Kinds,
-    platform: &Platform,
+    net: &Net,
+    walks: &WalkTable,
     state: &mut State,
     id: &str,
     request: &Request,
     device: &mut D,
 ) -> Result<Items<u8>, Halt>
     requires lawful { All (λ k. IsLawful (meaning (k.vtable, k.value))) kinds.now.list.items }
-    requires shaped { shape_fault (map (λ k. meaning (k.vtable, k.value)) kinds.now.list.items) platform.now.net
-        ≡ None }
+    requires legal { IsLegalWith (map (λ k. meaning (k.vtable, k.value)) kinds.now.list.items) net.now }
+    requires walked { AreWalksOf net.now walks.now }
     requires state { IsState (map (λ k. meaning (k.vtable, k.value)) kinds.now.list.items)
-        platform.now.net state.old }
+        net.now state.old }
     requires on_device { IsOnDevice state.old.book.set (D.units device.old) (D.words device.old) }
     requires rights { IsTrue (are_rights request.now.rights) }
     ensures changed { CameThroughChange
-        (IsGrantTurn (map (λ k. meaning (k.vtable, k.value)) kinds.now.list.items) platform.now.net
+        (IsGrantTurn (map (λ k. meaning (k.vtable, k.value)) kinds.now.list.items) net.now
         (state_view state.old) id.now request.now)
         result (state_view state.new) (D.log device.old) (D.log device.new) }
     ensures state { OnOk result (IsState (map (λ k. meaning (k.vtable, k.value)) kinds.now.list.items)
-        platform.now.net state.new) }
+        net.now state.new) }
     ensures on_device { OnOk result
         (IsOnDevice state.new.book.set (D.units device.new) (D.words device.new)) }
     ensures no_write { is_write_halt result ≡ false }
     ensures counted { IsCounted (D.faults device.old) (D.faults device.new) (is_device_halt result) }
 {
     let number = state.ids.number(alloc, id)?;
-    keep_flats(alloc, platform, &mut state.flats)?;
+    keep_flats(alloc, net, walks, &mut state.flats)?;
     let Some(flats) = &state.flats else {
         unreachable!()
     };
-    let net = &platform.net;
     match grant(alloc, &mut state.book, net, flats, kinds, number, request, device) {
         Ok(v) => {
             renew(net, kinds, state);
@@ -158,7 +164,8 @@ fn grant_change<D: Tables>(
 fn route_change<D: Tables>(
     alloc: Global,
     kinds: &Kinds,
-    platform: &Platform,
+    net: &Net,
+    walks: &WalkTable,
     state: &mut State,
     id: &str,
     agent: u16,
@@ -167,28 +174,27 @@ fn route_change<D: Tables>(
     device: &mut D,
 ) -> Result<Items<u8>, Halt>
     requires lawful { All (λ k. IsLawful (meaning (k.vtable, k.value))) kinds.now.list.items }
-    requires shaped { shape_fault (map (λ k. meaning (k.vtable, k.value)) kinds.now.list.items) platform.now.net
-        ≡ None }
+    requires legal { IsLegalWith (map (λ k. meaning (k.vtable, k.value)) kinds.now.list.items) net.now }
+    requires walked { AreWalksOf net.now walks.now }
     requires state { IsState (map (λ k. meaning (k.vtable, k.value)) kinds.now.list.items)
-        platform.now.net state.old }
+        net.now state.old }
     requires on_device { IsOnDevice state.old.book.set (D.units device.old) (D.words device.old) }
     ensures changed { CameThroughChange
-        (IsRouteTurn (map (λ k. meaning (k.vtable, k.value)) kinds.now.list.items) platform.now.net
+        (IsRouteTurn (map (λ k. meaning (k.vtable, k.value)) kinds.now.list.items) net.now
         (state_view state.old) id.now agent line node)
         result (state_view state.new) (D.log device.old) (D.log device.new) }
     ensures state { OnOk result (IsState (map (λ k. meaning (k.vtable, k.value)) kinds.now.list.items)
-        platform.now.net state.new) }
+        net.now state.new) }
     ensures on_device { OnOk result
         (IsOnDevice state.new.book.set (D.units device.new) (D.words device.new)) }
     ensures no_write { is_write_halt result ≡ false }
     ensures counted { IsCounted (D.faults device.old) (D.faults device.new) (is_device_halt result) }
 {
     let number = state.ids.number(alloc, id)?;
-    keep_flats(alloc, platform, &mut state.flats)?;
+    keep_flats(alloc, net, walks, &mut state.flats)?;
     let Some(flats) = &state.flats else {
         unreachable!()
     };
-    let net = &platform.net;
     match route(alloc, &mut state.book, net, flats, kinds, number, agent, line, node, device) {
         Ok(vector) => {
             renew(net, kinds, state);
@@ -204,32 +210,31 @@ fn route_change<D: Tables>(
 fn revoke_change<D: Tables>(
     alloc: Global,
     kinds: &Kinds,
-    platform: &Platform,
+    net: &Net,
     state: &mut State,
     id: &str,
     device: &mut D,
 ) -> Result<Items<u8>, Halt>
     requires lawful { All (λ k. IsLawful (meaning (k.vtable, k.value))) kinds.now.list.items }
-    requires shaped { shape_fault (map (λ k. meaning (k.vtable, k.value)) kinds.now.list.items) platform.now.net
-        ≡ None }
+    requires legal { IsLegalWith (map (λ k. meaning (k.vtable, k.value)) kinds.now.list.items) net.now }
     requires state { IsState (map (λ k. meaning (k.vtable, k.value)) kinds.now.list.items)
-        platform.now.net state.old }
+        net.now state.old }
     requires on_device { IsOnDevice state.old.book.set (D.units device.old) (D.words device.old) }
     ensures changed { CameThroughChange
-        (IsRevokeTurn (map (λ k. meaning (k.vtable, k.value)) kinds.now.list.items) platform.now.net
+        (IsRevokeTurn (map (λ k. meaning (k.vtable, k.value)) kinds.now.list.items) net.now
         (state_view state.old) id.now)
         result (state_view state.new) (D.log device.old) (D.log device.new) }
     ensures state { OnOk result (IsState (map (λ k. meaning (k.vtable, k.value)) kinds.now.list.items)
-        platform.now.net state.new) }
+        net.now state.new) }
     ensures on_device { OnOk result
         (IsOnDevice state.new.book.set (D.units device.new) (D.words device.new)) }
     ensures no_write { is_write_halt result ≡ false }
     ensures counted { IsCounted (D.faults device.old) (D.faults device.new) (is_device_halt result) }
 {
     let number = state.ids.number(alloc, id)?;
-    match state.book.revoke(&platform.net, kinds, number, device) {
+    match state.book.revoke(net, kinds, number, device) {
         Ok(()) => {
-            renew(&platform.net, kinds, state);
+            renew(net, kinds, state);
             Ok(revoked(alloc, id)?)
         }
         Err(RevokeFault::NoGrant) => Ok(refused(alloc, id, "NoGrant")?),

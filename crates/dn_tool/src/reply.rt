@@ -382,7 +382,7 @@ fn agent_view(
     ensures same { (state.new.book ≡ state.old.book) × (state.new.ids ≡ state.old.ids) }
 {
     platform.facts();
-    keep_flats(alloc, platform, &mut state.flats)?;
+    keep_flats(alloc, &platform.net, &platform.walks, &mut state.flats)?;
     let Some(flats) = &state.flats else {
         unreachable!()
     };

@@ -10,6 +10,7 @@ ghost use Rattle.dn_flat.specs.Stages.{AreFlats};
 ghost use Rattle.dn_image.specs.Image.{are_filled, image};
 ghost use Rattle.dn_tables.specs.Set.{FitsNet, IsOnDevice, fresh_set, tables_of_set, units_of, words_in, words_of};
 ghost use Rattle.dn_tables.specs.Writes.{AreUnitsMade};
+ghost use Rattle.dn_walk.specs.Rows.{AreWalksOf};
 ghost use Rattle.dn_book.specs.Book.{IsFaithful};
 ghost use Rattle.dn_book.specs.Tables.{IsKept};
 ghost use Rattle.dn_tool.specs.State.{IsState, state_view};
@@ -25,6 +26,7 @@ use dn_image::write;
 use dn_kind::kinds::Kinds;
 use dn_net::net::Net;
 use dn_tables::set::TableSet;
+use dn_walk::walks::WalkTable;
 use std::alloc::{AllocError, Global};
 
 /// The book with its tables, the ids that came so far, and what is made once and kept: the image of
@@ -111,18 +113,19 @@ pub fn keep_image(
 /// Flattens the nodes of a net, where their views are not kept. `Err` is want of memory.
 pub fn keep_flats(
     alloc: Global,
-    platform: &Platform,
+    net: &Net,
+    walks: &WalkTable,
     flats: &mut Option<Flats>,
 ) -> Result<(), AllocError>
-    requires flat { IfSome flats.old (AreFlats platform.now.net) }
-    ensures flat { IfSome flats.new (AreFlats platform.now.net) }
+    requires walked { AreWalksOf net.now walks.now }
+    requires flat { IfSome flats.old (AreFlats net.now) }
+    ensures flat { IfSome flats.new (AreFlats net.now) }
     ensures made { OnOk result (IsSome flats.new) }
 {
     if flats.is_some() {
         return Ok(());
     }
-    platform.facts();
-    *flats = Some(flatten_all(alloc, &platform.net, &platform.walks)?);
+    *flats = Some(flatten_all(alloc, net, walks)?);
     Ok(())
 }
 
