@@ -294,3 +294,8 @@ pub change_halted : (P : Turn → Type 0) (r : Result (List ℕ) Halt) (h : Halt
 change_halted P r h r' next told log log' e f c =
     let halted : (told : Option (List ℕ)) → IsHalted P h told told log log' = subst (λ (q : Result (List ℕ) Halt). CameThroughChange P q next log log') e c in
     subst (λ (q : Result (Unit {0}) Halt). CameThrough P q next told told log log') (sym f) (halted told)
+
+-- an id of which it is not said that no grant has it
+pub lives_by : (b : Bool) → (b ≡ false → ⊥) → b ≡ true
+lives_by true f = refl
+lives_by false f = absurd (f refl)

@@ -19,10 +19,22 @@ pub returns-in_err-state-clause-played : goal.returns-in_err-state-clause-played
 returns-in_err-state-clause-played g c =
     let kinds : List Meaning = map (λ k. (goal.UnitKind-dyn g (k.vtable, k.value)).meaning k.value) c.args.kinds.now.list.items in
     let ended : c.from_residual.result ≡ Err (make_halt c.in_err-state.field-0.0) = search rules in
-    rw (← c.platform.view_is) (unmade_by kinds c.platform.inside.net c.platform.inside.commands c.make.result c.in_err-state.field-0.0 c.from_residual.result _ _ _ _ _ _ _ c.in_err-state.was ended refl (rw (← c.platform.view_is) at c.make.ensures.made))
+    unmade_by kinds c.args.platform.now.net c.args.platform.now.commands c.make.result c.in_err-state.field-0.0 c.from_residual.result _ _ _ _ _ _ _ c.in_err-state.was ended refl c.make.ensures.made
 
 pub loop-command-init : goal.loop-command-init
-loop-command-init g c = ?
+loop-command-init g c =
+    let kinds : List Meaning = map (λ k. (goal.UnitKind-dyn g (k.vtable, k.value)).meaning k.value) c.args.kinds.now.list.items in
+    let net = c.args.platform.now.net in
+    let cs = c.args.platform.now.commands in
+    let owed = state_owed kinds net c.in_ok-state.state (all_of_map _ c.args.kinds.now.list.items c.requires.lawful) (legal_with kinds net c.requires.shaped c.facts.ensures.walked.legal) c.in_ok-state.ensures.state in
+    record {
+      few = omega arith;
+      state = c.in_ok-state.ensures.state;
+      on_device = c.in_ok-state.ensures.on_device;
+      gone = subst (λ (s : State). IsGone kinds net cs 0 s (g.K.Sink.written c.args.sink.now) (g.K.Sink.written c.args.sink.now) (g.D.Tables.log c.args.device.now) (g.D.Tables.log c.make.new.device)) (sym c.in_ok-state.ensures.start) (gone_start kinds net cs _ _ _ _ _ _ _ (subst (λ (s : State). GivesOwed kinds net s.book) c.in_ok-state.ensures.start owed) refl c.in_ok-state.ensures.made);
+      sink_counted = counted_none _;
+      device_counted = c.in_ok-state.ensures.counted;
+    }
 
 pub returns-in_err-answer-clause-played : goal.returns-in_err-answer-clause-played
 returns-in_err-answer-clause-played g c =
