@@ -1,6 +1,6 @@
 -- From what grants, routes and revokes say to the turns of a script.
 use Rattle.std.specs.Option.{IfSome}
-use Rattle.std.proofs.Common.{◌≡◌, ◌≢◌, ◌∙◌, ap, sym, subst, refl, arith, ℕ, ◌<◌, ◌≤◌, ◌⊎◌, inl, inr, Bool, true, false, List, [], ◌∷◌, ◌++◌, take, length, Option, Some, None, Result, Ok, Err, is_ok, IsTrue, ◌==◌, ◌||◌, eqb-true}
+use Rattle.std.proofs.Common.{◌≡◌, ◌≢◌, ◌∙◌, ap, sym, subst, refl, arith, ℕ, ◌<◌, ◌≤◌, ◌⊎◌, inl, inr, Bool, true, false, List, [], ◌∷◌, ◌++◌, take, length, Option, Some, None, Result, Ok, Err, is_ok, IsTrue, OnOk, ◌==◌, ◌||◌, eqb-true}
 use Rattle.std.proofs.Math.Seq.{take-length}
 use Rattle.dn_base.specs.declared.device.TableEvent.{TableEvent}
 use Rattle.dn_base.specs.Device.{Logged}
@@ -299,3 +299,14 @@ change_halted P r h r' next told log log' e f c =
 pub lives_by : (b : Bool) → (b ≡ false → ⊥) → b ≡ true
 lives_by true f = refl
 lives_by false f = absurd (f refl)
+
+-- a state of which the book and the ids are as they were
+pub state_kept : (k k' : Kept) → k'.book ≡ k.book → k'.ids ≡ k.ids → state_view k ≡ state_view k'
+state_kept k k' b i =
+    ap (λ (x : BookState). record { book = x.grants; cleared = x.cleared; ids = k.ids }) (sym b)
+    ∙ ap (λ (x : List (List ℕ)). record { book = k'.book.grants; cleared = k'.book.cleared; ids = x }) (sym i)
+
+-- what holds at all holds where there is an answer
+pub on_ok : {A E : Type 0} (r : Result A E) (P : Type 0) → P → OnOk r P
+on_ok (Ok a) P p = p
+on_ok (Err e) P p = tt
