@@ -27,7 +27,7 @@ use Rattle.dn_module.specs.declared.command.Command.{Command}
 use Rattle.dn_tool.specs.declared.halt.Halt.{Halt}
 use Rattle.dn_tool.specs.declared.halt.Halt.TheVariants.{WriteFault, DeviceFault, NoMemory}
 use Rattle.dn_tool.specs.Books.{GivesOwed}
-use Rattle.dn_tool.specs.Halt.{ending_status, is_device_halt, is_write_halt, make_halt}
+use Rattle.dn_tool.specs.Halt.{ending_status, is_device_halt, is_free, is_write_halt, make_halt}
 use Rattle.dn_tool.specs.Played.{CameIn, CameTo, IsPlayed, device_tables, making, turn_at}
 use Rattle.dn_tool.specs.State.{CameThrough, IsHalted}
 use Rattle.dn_tool.specs.Turn.{AreTurns, IsTurn, State, Turn, answered, events_of, replies_of, start, state_after}
@@ -188,9 +188,13 @@ came_in ts t status a b d log log' log'' going w l c =
 
 -- the run over a script
 
+-- a status that is free is not one that is not
+not_exact : (status : ℕ) → is_free status ≡ true → is_free status ≡ false → status ≡ 0
+not_exact status free e = let f : true ≡ false = sym free ∙ e in cc
+
 -- not all units were made
-pub played_unmade : (kinds : List Meaning) (net : List NodeDecl) (commands : List Command) (status : ℕ) (failed : Bool) (a b : Option (List ℕ)) (log log' : Option (List TableEvent)) (sizes : List UnitSize) (told told' : Option (List UnitWords)) → status ≢ 0 → status ≢ 3 → (status ≡ 6 → failed ≡ true) → b ≡ a → AreUnitsMade (tables_of_set (fresh_set kinds net)) false failed log log' sizes told told' → IsPlayed kinds net commands status a b log log' told'
-played_unmade kinds net commands status failed a b log log' sizes told told' going not_sink device same made =
+pub played_unmade : (kinds : List Meaning) (net : List NodeDecl) (commands : List Command) (status : ℕ) (failed : Bool) (a b : Option (List ℕ)) (log log' : Option (List TableEvent)) (sizes : List UnitSize) (told told' : Option (List UnitWords)) → is_free status ≡ true → status ≢ 0 → status ≢ 3 → (status ≡ 6 → failed ≡ true) → b ≡ a → AreUnitsMade (tables_of_set (fresh_set kinds net)) false failed log log' sizes told told' → IsPlayed kinds net commands status a b log log' told'
+played_unmade kinds net commands status failed a b log log' sizes told told' free going not_sink device same made =
     let tables : List UnitWords = tables_of_set (fresh_set kinds net) in
     let events : map make_event (take made.made tables) ≡ take made.made (making kinds net).events = sym (take-map made.made tables) ∙ ap (take made.made) (making_events kinds net) in
     let count : length (making kinds net).events ≡ length tables = ap length (sym (making_events kinds net)) ∙ length-map tables make_event in
@@ -211,6 +215,7 @@ played_unmade kinds net commands status failed a b log log' sizes told told' goi
         device = λ e. let l = made.less (device e) in omega (arith, l, count);
         between = λ l _. absurd (omega (arith, l));
       };
+      exact = not_exact status free;
       all = λ e. absurd (going e);
       tables = λ e. absurd (going e);
       books = λ count l. absurd (omega (arith, l));
@@ -237,6 +242,7 @@ played_whole kinds net commands i status s a b log log' told' over none told g =
       few = let e = h.0 in omega (arith, e, over);
       happened = h.1;
       came = came.0;
+      exact = λ _. none;
       all = λ _. h.0 ∙ over;
       books = λ count l. (let e = came.1 in g.books count (omega (arith, l, e)));
       tables = λ _. subst (λ (z : State). IfSome told' (λ tables. tables ≡ device_tables 0 net (tables_of net kinds z.book))) (sym g.left) told;
@@ -253,13 +259,14 @@ played_before kinds net commands i status s a b log log' told' within is g =
       happened = h.1;
       came = came.0;
       books = λ count l. (let e = came.1 in g.books count (omega (arith, l, e)));
+      exact = not_exact status (ap is_free is);
       all = λ e. absurd (omega (arith, e, is));
       tables = λ e. absurd (omega (arith, e, is));
     }
 
 -- it stopped in the turn of a command
-pub played_in : (kinds : List Meaning) (net : List NodeDecl) (commands : List Command) (i status : ℕ) (s : State) (c : Command) (t : Turn) (a b d : Option (List ℕ)) (log log' log'' : Option (List TableEvent)) (told' : Option (List UnitWords)) → i < length commands → c ≡ get_or commands i c → status ≢ 0 → IsGone kinds net commands i s a b log log' → IsTurn kinds net s c t → CameIn t status b d log' log'' → IsPlayed kinds net commands status a d log log'' told'
-played_in kinds net commands i status s c t a b d log log' log'' told' within at going g is came =
+pub played_in : (kinds : List Meaning) (net : List NodeDecl) (commands : List Command) (i status : ℕ) (s : State) (c : Command) (t : Turn) (a b d : Option (List ℕ)) (log log' log'' : Option (List TableEvent)) (told' : Option (List UnitWords)) → i < length commands → c ≡ get_or commands i c → is_free status ≡ true → status ≢ 0 → IsGone kinds net commands i s a b log log' → IsTurn kinds net s c t → CameIn t status b d log' log'' → IsPlayed kinds net commands status a d log log'' told'
+played_in kinds net commands i status s c t a b d log log' log'' told' within at free going g is came =
     let next : take (i + 1) commands ≡ take i commands ++ c ∷ [] = take_more commands i c within ∙ ap (λ (e : Command). take i commands ++ e ∷ []) (sym at) in
     let turns : AreTurns kinds net start (take (i + 1) commands) (g.turns ++ t ∷ []) = subst (λ cs. AreTurns kinds net start cs (g.turns ++ t ∷ [])) (sym next) (turns_more kinds net start (take i commands) g.turns c t g.happened (subst (λ z. IsTurn kinds net z c t) (sym g.left) is)) in
     let h = happened_first kinds net commands (i + 1) (g.turns ++ t ∷ []) (omega (arith, within)) turns in
@@ -272,6 +279,7 @@ played_in kinds net commands i status s c t a b d log log' log'' told' within at
       books = λ count l. (let e = stop.1 in
         let few : count ≤ length g.turns = omega (arith, l, e) in
         subst (λ (ts : List Turn). GivesOwed kinds net (state_after start ts).book) (sym (take-append-le count g.turns (t ∷ []) few)) (g.books count few));
+      exact = not_exact status free;
       all = λ e. absurd (going e);
       tables = λ e. absurd (going e);
     }
@@ -285,8 +293,8 @@ unmade_by {X} kinds net commands r fault ended a b log log' sizes told told' is 
     subst (λ (e : Result ℕ Halt). IsPlayed kinds net commands (ending_status e) a b log log' told') (sym by) (go fault given)
   where
     go : (f : MakeFault) → AreUnitsMade (tables_of_set (fresh_set kinds net)) false (is_make_fault {A = X} (Err f)) log log' sizes told told' → IsPlayed kinds net commands (ending_status (Err (make_halt f))) a b log log' told'
-    go Device m = played_unmade kinds net commands 6 true a b log log' sizes told told' (λ e. absurd (omega (arith, e))) (λ e. absurd (omega (arith, e))) (λ e. refl) same m
-    go OutOfMemory m = played_unmade kinds net commands 7 false a b log log' sizes told told' (λ e. absurd (omega (arith, e))) (λ e. absurd (omega (arith, e))) (λ e. absurd (omega (arith, e))) same m
+    go Device m = played_unmade kinds net commands 6 true a b log log' sizes told told' refl (λ e. absurd (omega (arith, e))) (λ e. absurd (omega (arith, e))) (λ e. refl) same m
+    go OutOfMemory m = played_unmade kinds net commands 7 false a b log log' sizes told told' refl (λ e. absurd (omega (arith, e))) (λ e. absurd (omega (arith, e))) (λ e. absurd (omega (arith, e))) same m
 
 -- a command was left inside its turn, or before it
 pub halted_by : {X : Type 0} (kinds : List Meaning) (net : List NodeDecl) (commands : List Command) (i : ℕ) (c : Command) (s next : State) (r : Result X Halt) (halt : Halt) (ended : Result ℕ Halt) (a b d : Option (List ℕ)) (log log' log'' : Option (List TableEvent)) (told' : Option (List UnitWords)) → r ≡ Err halt → ended ≡ Err halt → i < length commands → c ≡ get_or commands i c → IsGone kinds net commands i s a b log log' → CameThrough (IsTurn kinds net s c) r next b d log' log'' → IsPlayed kinds net commands (ending_status ended) a d log log'' told'
@@ -299,6 +307,11 @@ halted_by {X} kinds net commands i c s next r halt ended a b d log log' log'' to
     going DeviceFault e = absurd (omega (arith, e))
     going NoMemory e = absurd (omega (arith, e))
 
+    free : (h : Halt) → is_free (ending_status (Err h)) ≡ true
+    free WriteFault = refl
+    free DeviceFault = refl
+    free NoMemory = refl
+
     go : IsHalted (IsTurn kinds net s c) halt b d log' log'' → IsPlayed kinds net commands (ending_status (Err halt)) a d log log'' told'
     go (inl z) =
         let here : IsGone kinds net commands i s a d log log'' = record {
@@ -310,4 +323,4 @@ halted_by {X} kinds net commands i c s next r halt ended a b d log log' log'' to
           logged = subst (λ x. Logged log x (events_of (making kinds net ∷ g.turns))) (sym z.log_is) g.logged;
         } in
         played_before kinds net commands i (ending_status (Err halt)) s a d log log'' told' (omega (arith, within)) (ap (λ (h : Halt). ending_status (Err h)) z.memory) here
-    go (inr z) = played_in kinds net commands i (ending_status (Err halt)) s c z.turn a b d log log' log'' told' within at (going halt) g z.is_turn z.came
+    go (inr z) = played_in kinds net commands i (ending_status (Err halt)) s c z.turn a b d log log' log'' told' within at (free halt) (going halt) g z.is_turn z.came
