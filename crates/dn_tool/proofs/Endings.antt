@@ -4,8 +4,8 @@ use Rattle.std.proofs.lemmas.Bool.{or_parts}
 use Rattle.dn_base.specs.Outside.{Faults, IsCounted, IsWritten}
 use Rattle.dn_tool.specs.declared.halt.Halt.{Halt}
 use Rattle.dn_tool.specs.declared.halt.Halt.TheVariants.{WriteFault, DeviceFault, NoMemory}
-use Rattle.dn_tool.specs.Answer.{IsSaid, is_free}
-use Rattle.dn_tool.specs.Halt.{ending_status, is_device_halt, is_write_halt}
+use Rattle.dn_tool.specs.Answer.{IsSaid}
+use Rattle.dn_tool.specs.Halt.{ending_status, is_device_halt, is_free, is_write_halt}
 
 -- an answer that was given whole has a status of its own
 abbrev pub HasStatus : Result ℕ Halt → Type 0

@@ -14,3 +14,9 @@ pub mod Played
 pub mod Viewed
 pub mod Lookups
 pub mod Unanswered
+pub mod Books
+pub mod Changes
+pub mod Filled
+pub mod Numbers
+pub mod Seen
+pub mod Kept

@@ -1,50 +1,50 @@
--- A lookup in the image of the tables of the empty book finds what the book owes.
-use Rattle.std.proofs.Common.{◌≡◌, ◌≢◌, ◌∙◌, ap, sym, refl, ℕ, Bool, true, false, if◌then◌else◌, List, [], slice_get, Option, Some, None, Result, Ok, Err, IfSome}
-use Rattle.std.specs.List.{All}
-use Rattle.dn_base.specs.Answers.{Answers}
+-- A lookup in the image of the tables of a sound and faithful book finds what the book owes.
+use Rattle.std.proofs.Common.{◌≡◌, ◌≢◌, ◌∙◌, ap, sym, refl, ℕ, Bool, true, false, if◌then◌else◌, List, [], slice_get, Option, Some, None, Result, Ok, Err, IfSome, is_ok, IsTrue}
 use Rattle.dn_net.specs.declared.node.Name.{Name}
 use Rattle.dn_net.specs.declared.node.NodeDecl.{NodeDecl}
-use Rattle.dn_net.specs.Decode.{is_agent_at}
-use Rattle.dn_net.specs.Legal.{IsLegalNet}
 use Rattle.dn_kind.specs.declared.rights.Access.{Access}
-use Rattle.dn_kind.specs.Kind.{Meaning, IsLawful}
-use Rattle.dn_kind.specs.Tables.{Held, record_allowing, record_held, allowing, resolved_names_under}
+use Rattle.dn_kind.specs.Kind.{Meaning}
+use Rattle.dn_kind.specs.Tables.{Held, record_held, resolved_names_under}
 use Rattle.dn_image.specs.declared.fault.ImageFault.{ImageFault}
 use Rattle.dn_image.specs.declared.fault.ImageFault.TheVariants.{Short, Header, Shape, Trailing, OutOfMemory as no_room}
 use Rattle.dn_image.specs.Image.{ImageWords, image}
-use Rattle.dn_image.specs.Reading.{BrokenImage, image_reading}
+use Rattle.dn_image.specs.Reading.{image_reading}
 use Rattle.dn_image.proofs.Told.{image_is_read}
 use Rattle.dn_lookup.specs.declared.lookup.LookupFault.{LookupFault}
 use Rattle.dn_lookup.specs.declared.lookup.LookupFault.TheVariants.{NoAgent, Image, OutOfMemory}
-use Rattle.dn_lookup.specs.Lookup.{NoLookup, looked_up_in, lookup_fault_view, lookup_of, no_agent}
-use Rattle.dn_book.specs.Book.{owed_names, records_of}
+use Rattle.dn_lookup.specs.Lookup.{NoLookup, looked_up_in, lookup_fault_view, no_agent}
 use Rattle.dn_book.specs.Tables.{tables_of}
-use Rattle.dn_tool.proofs.Empty.{empty_filled, empty_held, empty_owed, empty_resolved}
+use Rattle.dn_book.proofs.Begun.{tables_hold_records}
+use Rattle.dn_book.proofs.Owed.{owed_names_are_resolved}
+use Rattle.dn_tool.specs.Books.{FaithfulImageGivesOwed}
+use Rattle.dn_tool.proofs.Seen.{held_same}
 
--- what is found in the image
-pub image_owed : (net : List NodeDecl) (kinds : List Meaning) (bytes : List ℕ) (access : Access) (x : Name) → All IsLawful kinds → IsLegalNet net → is_agent_at (slice_get net x.node) ≡ true → bytes ≡ image net kinds (tables_of net kinds []) → lookup_of net kinds bytes access x ≡ Ok (owed_names net [] access x)
-image_owed net kinds bytes access x lawful legal agent is =
-    let i : ImageWords = record { version = 2; words = tables_of net kinds [] } in
-    let read : image_reading net kinds bytes ≡ Ok i = image_is_read net kinds bytes i (record { version = refl; filled = empty_filled kinds net; bytes = is }) in
-    let none : ◌≡◌ {A = Held} (allowing access (record_held net kinds (tables_of net kinds []))) (allowing access (records_of net [])) = (λ j node slot. ap (record_allowing access) (empty_held kinds net lawful node slot) j) in
+-- what is found in the image is what is owed
+pub faithful_image_gives_owed : FaithfulImageGivesOwed
+faithful_image_gives_owed kinds net book lawful legal kept filled access x agent =
+    let bytes : List ℕ = image net kinds (tables_of net kinds book) in
+    let i : ImageWords = record { version = 2; words = tables_of net kinds book } in
+    let read : image_reading net kinds bytes ≡ Ok i = image_is_read net kinds bytes i (record { version = refl; filled = filled; bytes = refl }) in
+    let held = tables_hold_records net kinds book legal.legal legal.shaped lawful kept.sound in
     ap (λ (b : Bool). if b then looked_up_in net kinds access x (image_reading net kinds bytes) else Err no_agent) agent
     ∙ ap (looked_up_in net kinds access x) read
-    ∙ ap (λ (h : Held). Ok (resolved_names_under net h x)) none
-    ∙ ap Ok (empty_resolved net access legal x ∙ sym (empty_owed net access x))
-
--- a fault is none of the image, nor of the agent
-pub no_fault_but_memory : (names : List Name) (e : LookupFault) → IfSome (lookup_fault_view e) (λ f. ◌≡◌ {A = Result (List Name) NoLookup} (Ok names) (Err f)) → e ≢ Image no_room → e ≡ OutOfMemory
-no_fault_but_memory names NoAgent h m = absurd (cc)
-no_fault_but_memory names (Image (Short at)) h m = absurd (cc)
-no_fault_but_memory names (Image (Header at)) h m = absurd (cc)
-no_fault_but_memory names (Image (Shape unit)) h m = absurd (cc)
-no_fault_but_memory names (Image (Trailing at)) h m = absurd (cc)
-no_fault_but_memory names (Image no_room) h m = absurd (m refl)
-no_fault_but_memory names OutOfMemory h m = refl
+    ∙ ap (λ (h : Held). Ok (resolved_names_under net h x)) (held_same net book access (record_held net kinds (tables_of net kinds book)) held)
+    ∙ ap Ok (sym (owed_names_are_resolved net book kept.faithful access x agent))
 
 -- what is found is the answer
 pub found_is : (names found : List Name) → ◌≡◌ {A = Result (List Name) NoLookup} (Ok names) (Ok found) → found ≡ names
 found_is names found e = cc
+
+-- where names are found a fault is none of the image, nor of the agent
+pub no_fault_but_memory : (r : Result (List Name) NoLookup) (e : LookupFault) → is_ok r ≡ true → IfSome (lookup_fault_view e) (λ f. r ≡ Err f) → e ≢ Image no_room → e ≡ OutOfMemory
+no_fault_but_memory (Err f) e ok h m = cc
+no_fault_but_memory (Ok names) NoAgent ok h m = absurd (cc)
+no_fault_but_memory (Ok names) (Image (Short at)) ok h m = absurd (cc)
+no_fault_but_memory (Ok names) (Image (Header at)) ok h m = absurd (cc)
+no_fault_but_memory (Ok names) (Image (Shape unit)) ok h m = absurd (cc)
+no_fault_but_memory (Ok names) (Image (Trailing at)) ok h m = absurd (cc)
+no_fault_but_memory (Ok names) (Image no_room) ok h m = absurd (m refl)
+no_fault_but_memory (Ok names) OutOfMemory ok h m = refl
 
 -- a fault is one of its kinds
 pub no_agent_then : (e : LookupFault) → e ≡ NoAgent → e ≡ OutOfMemory → ⊥

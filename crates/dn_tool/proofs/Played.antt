@@ -1,8 +1,8 @@
 -- How far a run comes over a script, turn by turn.
-use Rattle.std.proofs.Common.{◌≡◌, ◌≢◌, ◌∙◌, ap, sym, subst, refl, arith, ℕ, zero, suc, ◌+◌, ◌<◌, ◌≤◌, Bool, true, false, List, [], ◌∷◌, ◌++◌, map, take, drop, length, get_or, Option, Some, None, Result, Ok, Err, is_ok, append_assoc, append-nil, length-append}
+use Rattle.std.proofs.Common.{◌≡◌, ◌≢◌, ◌∙◌, ap, sym, subst, refl, arith, ℕ, zero, suc, ◌+◌, ◌<◌, ◌≤◌, ◌⊎◌, inl, inr, Bool, true, false, List, [], ◌∷◌, ◌++◌, map, take, drop, length, get_or, Option, Some, None, Result, Ok, Err, is_ok, append_assoc, append-nil, length-append}
 use Rattle.std.specs.List.{flat_map}
 use Rattle.std.specs.Option.{IfSome}
-use Rattle.std.proofs.lemmas.List.{take_more, length-map, length-take-le, take_at}
+use Rattle.std.proofs.lemmas.List.{take_more, take-append-le, length-map, length-take-le, take_at}
 use Rattle.std.proofs.lemmas.Grind.{flat_map-append}
 use Rattle.std.proofs.Math.Seq.{take-length}
 use Rattle.dn_base.specs.declared.device.TableEvent.{TableEvent}
@@ -13,6 +13,7 @@ use Rattle.dn_base.specs.Device.{Logged, UnitSize, is_make_fault}
 use Rattle.dn_base.specs.Outside.{Added, IsWritten}
 use Rattle.dn_base.proofs.Lists.{drop_at, take_past}
 use Rattle.dn_base.proofs.Logs.{Logged-none, Logged-then}
+use Rattle.dn_base.proofs.Orders.{cases_lt}
 use Rattle.dn_base.proofs.Told.{Added-none, Added-then}
 use Rattle.dn_net.specs.declared.node.NodeDecl.{NodeDecl}
 use Rattle.dn_net.specs.declared.node.Unit.{Unit as UnitPart}
@@ -25,8 +26,10 @@ use Rattle.dn_book.specs.Tables.{tables_of}
 use Rattle.dn_module.specs.declared.command.Command.{Command}
 use Rattle.dn_tool.specs.declared.halt.Halt.{Halt}
 use Rattle.dn_tool.specs.declared.halt.Halt.TheVariants.{WriteFault, DeviceFault, NoMemory}
-use Rattle.dn_tool.specs.Halt.{ending_status, is_device_halt, is_write_halt, make_halt}
-use Rattle.dn_tool.specs.Played.{CameTo, IsPlayed, device_tables, making, turn_at}
+use Rattle.dn_tool.specs.Books.{GivesOwed}
+use Rattle.dn_tool.specs.Halt.{ending_status, is_device_halt, is_free, is_write_halt, make_halt}
+use Rattle.dn_tool.specs.Played.{CameIn, CameTo, IsPlayed, device_tables, making, turn_at}
+use Rattle.dn_tool.specs.State.{CameThrough, IsHalted}
 use Rattle.dn_tool.specs.Turn.{AreTurns, IsTurn, State, Turn, answered, events_of, replies_of, start, state_after}
 use Rattle.dn_tool.proofs.Empty.{fresh_tables}
 
@@ -74,17 +77,35 @@ events_more ts t = flat_map-append (λ u. u.events) ts (t ∷ []) ∙ ap (λ l. 
 replies_more : (ts : List Turn) (t : Turn) → replies_of (ts ++ t ∷ []) ≡ replies_of ts ++ t.reply
 replies_more ts t = flat_map-append (λ u. u.reply) ts (t ∷ []) ∙ ap (λ l. replies_of ts ++ l) (append-nil t.reply)
 
+-- the book gives what it owes after each number of turns
+abbrev pub AreBooks : List Meaning → List NodeDecl → List Turn → Type 0
+AreBooks kinds net ts = (count : ℕ) → count ≤ length ts → GivesOwed kinds net (state_after start (take count ts)).book
+
+-- the same for one more turn
+books_more : (kinds : List Meaning) (net : List NodeDecl) (ts : List Turn) (t : Turn) → AreBooks kinds net ts → GivesOwed kinds net t.next.book → AreBooks kinds net (ts ++ t ∷ [])
+books_more kinds net ts t before last count l = by (cases_lt (length ts) count)
+  where
+    size : length (ts ++ t ∷ []) ≡ length ts + 1
+    size = length-append ts (t ∷ [])
+
+    by : (length ts < count) ⊎ (count ≤ length ts) → GivesOwed kinds net (state_after start (take count (ts ++ t ∷ []))).book
+    by (inr few) = subst (λ (l : List Turn). GivesOwed kinds net (state_after start l).book) (sym (take-append-le count ts (t ∷ []) few)) (before count few)
+    by (inl more) =
+        let whole : take count (ts ++ t ∷ []) ≡ ts ++ t ∷ [] = take_past (ts ++ t ∷ []) count (omega (arith, size, more)) in
+        subst (λ (s : State). GivesOwed kinds net s.book) (sym (ap (state_after start) whole ∙ state_last start ts t)) last
+
 -- the units were made, and so many commands were answered, which left a state
 pub record IsGone (kinds : List Meaning) (net : List NodeDecl) (commands : List Command) (count : ℕ) (s : State) (before after : Option (List ℕ)) (log log' : Option (List TableEvent)) : Type 0 where
   pub turns : List Turn
   pub happened : AreTurns kinds net start (take count commands) turns
   pub left : state_after start turns ≡ s
+  pub books : AreBooks kinds net turns
   pub written : Added before after (replies_of (making kinds net ∷ turns))
   pub logged : Logged log log' (events_of (making kinds net ∷ turns))
 
 -- the units were made
-pub gone_start : (kinds : List Meaning) (net : List NodeDecl) (commands : List Command) (a b : Option (List ℕ)) (log log' : Option (List TableEvent)) (sizes : List UnitSize) (told told' : Option (List UnitWords)) → b ≡ a → AreUnitsMade (tables_of_set (fresh_set kinds net)) true false log log' sizes told told' → IsGone kinds net commands 0 start a b log log'
-gone_start kinds net commands a b log log' sizes told told' same made =
+pub gone_start : (kinds : List Meaning) (net : List NodeDecl) (commands : List Command) (a b : Option (List ℕ)) (log log' : Option (List TableEvent)) (sizes : List UnitSize) (told told' : Option (List UnitWords)) → GivesOwed kinds net [] → b ≡ a → AreUnitsMade (tables_of_set (fresh_set kinds net)) true false log log' sizes told told' → IsGone kinds net commands 0 start a b log log'
+gone_start kinds net commands a b log log' sizes told told' empty same made =
     let tables : List UnitWords = tables_of_set (fresh_set kinds net) in
     let whole : take made.made tables ≡ tables = ap (λ n. take n tables) (made.all refl) ∙ take-length tables in
     let events : map make_event (take made.made tables) ≡ (making kinds net).events ++ [] = ap (map make_event) whole ∙ making_events kinds net ∙ sym (append-nil (making kinds net).events) in
@@ -92,15 +113,17 @@ gone_start kinds net commands a b log log' sizes told told' same made =
       turns = [];
       happened = refl;
       left = refl;
+      books = λ count l. (let none : count ≡ 0 = omega (arith, l) in subst (λ n. GivesOwed kinds net (state_after start (take n [])).book) (sym none) empty);
       written = Added-none a b same;
       logged = subst (λ es. Logged log log' es) events made.logged;
     }
 
 -- one more command was answered
-pub gone_more : (kinds : List Meaning) (net : List NodeDecl) (commands : List Command) (i : ℕ) (s : State) (c : Command) (t : Turn) (a b d : Option (List ℕ)) (log log' log'' : Option (List TableEvent)) → IsGone kinds net commands i s a b log log' → i < length commands → c ≡ get_or commands i c → IsTurn kinds net s c t → Added b d t.reply → Logged log' log'' t.events → IsGone kinds net commands (i + 1) t.next a d log log''
-gone_more kinds net commands i s c t a b d log log' log'' g within at is w l =
+pub gone_more : (kinds : List Meaning) (net : List NodeDecl) (commands : List Command) (i : ℕ) (s : State) (c : Command) (t : Turn) (a b d : Option (List ℕ)) (log log' log'' : Option (List TableEvent)) → IsGone kinds net commands i s a b log log' → i < length commands → c ≡ get_or commands i c → IsTurn kinds net s c t → GivesOwed kinds net t.next.book → Added b d t.reply → Logged log' log'' t.events → IsGone kinds net commands (i + 1) t.next a d log log''
+gone_more kinds net commands i s c t a b d log log' log'' g within at is owed w l =
     let next : take (i + 1) commands ≡ take i commands ++ c ∷ [] = take_more commands i c within ∙ ap (λ (e : Command). take i commands ++ e ∷ []) (sym at) in
     record {
+      books = books_more kinds net g.turns t g.books owed;
       turns = g.turns ++ t ∷ [];
       happened = subst (λ cs. AreTurns kinds net start cs (g.turns ++ t ∷ [])) (sym next) (turns_more kinds net start (take i commands) g.turns c t g.happened (subst (λ z. IsTurn kinds net z c t) (sym g.left) is));
       left = state_last start g.turns t;
@@ -119,10 +142,10 @@ turn_last [] t = refl
 turn_last (u ∷ us) t = turn_last us t
 
 -- the run stopped between two turns, or came to the end
-pub came_whole : (ts : List Turn) (status : ℕ) (a b : Option (List ℕ)) (log log' : Option (List TableEvent)) → status ≢ 3 → status ≢ 6 → Added a b (replies_of ts) → Logged log log' (events_of ts) → CameTo ts status a b log log'
+pub came_whole : (ts : List Turn) (status : ℕ) (a b : Option (List ℕ)) (log log' : Option (List TableEvent)) → status ≢ 3 → status ≢ 6 → Added a b (replies_of ts) → Logged log log' (events_of ts) → (c : CameTo ts status a b log log') × (c.whole ≡ length ts)
 came_whole ts status a b log log' not_sink not_device w l =
     let all : take (length ts) ts ≡ ts = take-length ts in
-    record {
+    (record {
       whole = length ts;
       events = 0;
       bytes = 0;
@@ -134,21 +157,10 @@ came_whole ts status a b log log' not_sink not_device w l =
       sink = λ e. absurd (not_sink e);
       device = λ e. absurd (not_device e);
       between = λ _ _. sym (ap (λ (t : Turn). length t.events) (turn_past ts));
-    }
-
--- how far a run with this status came in a turn
-pub record CameIn (t : Turn) (status : ℕ) (before after : Option (List ℕ)) (log log' : Option (List TableEvent)) : Type 0 where
-  pub events : ℕ
-  pub bytes : ℕ
-  pub logged : Logged log log' (take events t.events)
-  pub written : Added before after (take bytes t.reply)
-  pub in_order : events < length t.events → bytes ≡ 0
-  pub sink : status ≡ 3 → bytes < length t.reply
-  pub device : status ≡ 6 → events < length t.events
-  pub between : status ≢ 6 → events ≡ length t.events
+    }, refl)
 
 -- the run stopped in a turn
-pub came_in : (ts : List Turn) (t : Turn) (status : ℕ) (a b d : Option (List ℕ)) (log log' log'' : Option (List TableEvent)) → status ≢ 0 → Added a b (replies_of ts) → Logged log log' (events_of ts) → CameIn t status b d log' log'' → CameTo (ts ++ t ∷ []) status a d log log''
+pub came_in : (ts : List Turn) (t : Turn) (status : ℕ) (a b d : Option (List ℕ)) (log log' log'' : Option (List TableEvent)) → status ≢ 0 → Added a b (replies_of ts) → Logged log log' (events_of ts) → CameIn t status b d log' log'' → (c : CameTo (ts ++ t ∷ []) status a d log log'') × (c.whole ≡ length ts)
 came_in ts t status a b d log log' log'' going w l c =
     let all : List Turn = ts ++ t ∷ [] in
     let front : take (length ts) all ≡ ts = take_at ts (t ∷ []) (length ts) refl in
@@ -160,7 +172,7 @@ came_in ts t status a b d log log' log'' going w l c =
     let rs : replies_of (take (length ts) all) ++ take c.bytes (turn_at all (length ts)).reply ≡ replies_of ts ++ take c.bytes t.reply =
     ap (λ (us : List Turn). replies_of us ++ take c.bytes (turn_at all (length ts)).reply) front
     ∙ ap (λ (u : Turn). replies_of ts ++ take c.bytes u.reply) here in
-    record {
+    (record {
       whole = length ts;
       events = c.events;
       bytes = c.bytes;
@@ -172,13 +184,17 @@ came_in ts t status a b d log log' log'' going w l c =
       sink = λ e. subst (λ (u : Turn). c.bytes < length u.reply) (sym here) (c.sink e);
       device = λ e. subst (λ (u : Turn). c.events < length u.events) (sym here) (c.device e);
       between = λ _ e. subst (λ (u : Turn). c.events ≡ length u.events) (sym here) (c.between e);
-    }
+    }, refl)
 
 -- the run over a script
 
+-- a status that is free is not one that is not
+not_exact : (status : ℕ) → is_free status ≡ true → is_free status ≡ false → status ≡ 0
+not_exact status free e = let f : true ≡ false = sym free ∙ e in cc
+
 -- not all units were made
-pub played_unmade : (kinds : List Meaning) (net : List NodeDecl) (commands : List Command) (status : ℕ) (failed : Bool) (a b : Option (List ℕ)) (log log' : Option (List TableEvent)) (sizes : List UnitSize) (told told' : Option (List UnitWords)) → status ≢ 0 → status ≢ 3 → (status ≡ 6 → failed ≡ true) → b ≡ a → AreUnitsMade (tables_of_set (fresh_set kinds net)) false failed log log' sizes told told' → IsPlayed kinds net commands status a b log log' told'
-played_unmade kinds net commands status failed a b log log' sizes told told' going not_sink device same made =
+pub played_unmade : (kinds : List Meaning) (net : List NodeDecl) (commands : List Command) (status : ℕ) (failed : Bool) (a b : Option (List ℕ)) (log log' : Option (List TableEvent)) (sizes : List UnitSize) (told told' : Option (List UnitWords)) → is_free status ≡ true → status ≢ 0 → status ≢ 3 → (status ≡ 6 → failed ≡ true) → b ≡ a → AreUnitsMade (tables_of_set (fresh_set kinds net)) false failed log log' sizes told told' → IsPlayed kinds net commands status a b log log' told'
+played_unmade kinds net commands status failed a b log log' sizes told told' free going not_sink device same made =
     let tables : List UnitWords = tables_of_set (fresh_set kinds net) in
     let events : map make_event (take made.made tables) ≡ take made.made (making kinds net).events = sym (take-map made.made tables) ∙ ap (take made.made) (making_events kinds net) in
     let count : length (making kinds net).events ≡ length tables = ap length (sym (making_events kinds net)) ∙ length-map tables make_event in
@@ -199,8 +215,10 @@ played_unmade kinds net commands status failed a b log log' sizes told told' goi
         device = λ e. let l = made.less (device e) in omega (arith, l, count);
         between = λ l _. absurd (omega (arith, l));
       };
+      exact = not_exact status free;
       all = λ e. absurd (going e);
       tables = λ e. absurd (going e);
+      books = λ count l. absurd (omega (arith, l));
     }
   where
     take-map : (n : ℕ) (ts : List UnitWords) → take n (map make_event ts) ≡ map make_event (take n ts)
@@ -218,12 +236,15 @@ happened_first kinds net commands i ts l h =
 pub played_whole : (kinds : List Meaning) (net : List NodeDecl) (commands : List Command) (i status : ℕ) (s : State) (a b : Option (List ℕ)) (log log' : Option (List TableEvent)) (told' : Option (List UnitWords)) → i ≡ length commands → status ≡ 0 → IfSome told' (λ tables. tables ≡ device_tables 0 net (tables_of net kinds s.book)) → IsGone kinds net commands i s a b log log' → IsPlayed kinds net commands status a b log log' told'
 played_whole kinds net commands i status s a b log log' told' over none told g =
     let h = happened_first kinds net commands i g.turns (omega (arith, over)) g.happened in
+    let came = came_whole (making kinds net ∷ g.turns) status a b log log' (λ e. let x = none in absurd (omega (arith, e, x))) (λ e. let x = none in absurd (omega (arith, e, x))) g.written g.logged in
     record {
       turns = g.turns;
       few = let e = h.0 in omega (arith, e, over);
       happened = h.1;
-      came = came_whole (making kinds net ∷ g.turns) status a b log log' (λ e. let x = none in absurd (omega (arith, e, x))) (λ e. let x = none in absurd (omega (arith, e, x))) g.written g.logged;
+      came = came.0;
+      exact = λ _. none;
       all = λ _. h.0 ∙ over;
+      books = λ count l. (let e = came.1 in g.books count (omega (arith, l, e)));
       tables = λ _. subst (λ (z : State). IfSome told' (λ tables. tables ≡ device_tables 0 net (tables_of net kinds z.book))) (sym g.left) told;
     }
 
@@ -231,26 +252,34 @@ played_whole kinds net commands i status s a b log log' told' over none told g =
 pub played_before : (kinds : List Meaning) (net : List NodeDecl) (commands : List Command) (i status : ℕ) (s : State) (a b : Option (List ℕ)) (log log' : Option (List TableEvent)) (told' : Option (List UnitWords)) → i ≤ length commands → status ≡ 7 → IsGone kinds net commands i s a b log log' → IsPlayed kinds net commands status a b log log' told'
 played_before kinds net commands i status s a b log log' told' within is g =
     let h = happened_first kinds net commands i g.turns within g.happened in
+    let came = came_whole (making kinds net ∷ g.turns) status a b log log' (λ e. absurd (omega (arith, e, is))) (λ e. absurd (omega (arith, e, is))) g.written g.logged in
     record {
       turns = g.turns;
       few = let e = h.0 in omega (arith, e, within);
       happened = h.1;
-      came = came_whole (making kinds net ∷ g.turns) status a b log log' (λ e. absurd (omega (arith, e, is))) (λ e. absurd (omega (arith, e, is))) g.written g.logged;
+      came = came.0;
+      books = λ count l. (let e = came.1 in g.books count (omega (arith, l, e)));
+      exact = not_exact status (ap is_free is);
       all = λ e. absurd (omega (arith, e, is));
       tables = λ e. absurd (omega (arith, e, is));
     }
 
 -- it stopped in the turn of a command
-pub played_in : (kinds : List Meaning) (net : List NodeDecl) (commands : List Command) (i status : ℕ) (s : State) (c : Command) (t : Turn) (a b d : Option (List ℕ)) (log log' log'' : Option (List TableEvent)) (told' : Option (List UnitWords)) → i < length commands → c ≡ get_or commands i c → status ≢ 0 → IsGone kinds net commands i s a b log log' → IsTurn kinds net s c t → CameIn t status b d log' log'' → IsPlayed kinds net commands status a d log log'' told'
-played_in kinds net commands i status s c t a b d log log' log'' told' within at going g is came =
+pub played_in : (kinds : List Meaning) (net : List NodeDecl) (commands : List Command) (i status : ℕ) (s : State) (c : Command) (t : Turn) (a b d : Option (List ℕ)) (log log' log'' : Option (List TableEvent)) (told' : Option (List UnitWords)) → i < length commands → c ≡ get_or commands i c → is_free status ≡ true → status ≢ 0 → IsGone kinds net commands i s a b log log' → IsTurn kinds net s c t → CameIn t status b d log' log'' → IsPlayed kinds net commands status a d log log'' told'
+played_in kinds net commands i status s c t a b d log log' log'' told' within at free going g is came =
     let next : take (i + 1) commands ≡ take i commands ++ c ∷ [] = take_more commands i c within ∙ ap (λ (e : Command). take i commands ++ e ∷ []) (sym at) in
     let turns : AreTurns kinds net start (take (i + 1) commands) (g.turns ++ t ∷ []) = subst (λ cs. AreTurns kinds net start cs (g.turns ++ t ∷ [])) (sym next) (turns_more kinds net start (take i commands) g.turns c t g.happened (subst (λ z. IsTurn kinds net z c t) (sym g.left) is)) in
     let h = happened_first kinds net commands (i + 1) (g.turns ++ t ∷ []) (omega (arith, within)) turns in
+    let stop = came_in (making kinds net ∷ g.turns) t status a b d log log' log'' going g.written g.logged came in
     record {
       turns = g.turns ++ t ∷ [];
       few = let e = h.0 in omega (arith, e, within);
       happened = h.1;
-      came = came_in (making kinds net ∷ g.turns) t status a b d log log' log'' going g.written g.logged came;
+      came = stop.0;
+      books = λ count l. (let e = stop.1 in
+        let few : count ≤ length g.turns = omega (arith, l, e) in
+        subst (λ (ts : List Turn). GivesOwed kinds net (state_after start ts).book) (sym (take-append-le count g.turns (t ∷ []) few)) (g.books count few));
+      exact = not_exact status free;
       all = λ e. absurd (going e);
       tables = λ e. absurd (going e);
     }
@@ -264,32 +293,34 @@ unmade_by {X} kinds net commands r fault ended a b log log' sizes told told' is 
     subst (λ (e : Result ℕ Halt). IsPlayed kinds net commands (ending_status e) a b log log' told') (sym by) (go fault given)
   where
     go : (f : MakeFault) → AreUnitsMade (tables_of_set (fresh_set kinds net)) false (is_make_fault {A = X} (Err f)) log log' sizes told told' → IsPlayed kinds net commands (ending_status (Err (make_halt f))) a b log log' told'
-    go Device m = played_unmade kinds net commands 6 true a b log log' sizes told told' (λ e. absurd (omega (arith, e))) (λ e. absurd (omega (arith, e))) (λ e. refl) same m
-    go OutOfMemory m = played_unmade kinds net commands 7 false a b log log' sizes told told' (λ e. absurd (omega (arith, e))) (λ e. absurd (omega (arith, e))) (λ e. absurd (omega (arith, e))) same m
+    go Device m = played_unmade kinds net commands 6 true a b log log' sizes told told' refl (λ e. absurd (omega (arith, e))) (λ e. absurd (omega (arith, e))) (λ e. refl) same m
+    go OutOfMemory m = played_unmade kinds net commands 7 false a b log log' sizes told told' refl (λ e. absurd (omega (arith, e))) (λ e. absurd (omega (arith, e))) (λ e. absurd (omega (arith, e))) same m
 
--- a reply was not written whole
-pub unwritten_by : {X : Type 0} (kinds : List Meaning) (net : List NodeDecl) (commands : List Command) (i : ℕ) (c : Command) (text : List ℕ) (s : State) (r : Result X Halt) (halt : Halt) (ended : Result ℕ Halt) (a b d : Option (List ℕ)) (log log' : Option (List TableEvent)) (told' : Option (List UnitWords)) → r ≡ Err halt → ended ≡ Err halt → i < length commands → c ≡ get_or commands i c → IsGone kinds net commands i s a b log log' → IsTurn kinds net s c (answered text s) → IsWritten b d (is_ok r) (is_write_halt r) text → is_device_halt r ≡ false → IsPlayed kinds net commands (ending_status ended) a d log log' told'
-unwritten_by {X} kinds net commands i c text s r halt ended a b d log log' told' is by within at g turn w no_device =
-    let given : IsWritten b d false (is_write_halt {A = X} (Err halt)) text = subst (λ (q : Result X Halt). IsWritten b d (is_ok q) (is_write_halt q) text) is w in
-    let none : is_device_halt {A = X} (Err halt) ≡ false = ap is_device_halt (sym is) ∙ no_device in
-    subst (λ (e : Result ℕ Halt). IsPlayed kinds net commands (ending_status e) a d log log' told') (sym by) (go halt given none)
+-- a command was left inside its turn, or before it
+pub halted_by : {X : Type 0} (kinds : List Meaning) (net : List NodeDecl) (commands : List Command) (i : ℕ) (c : Command) (s next : State) (r : Result X Halt) (halt : Halt) (ended : Result ℕ Halt) (a b d : Option (List ℕ)) (log log' log'' : Option (List TableEvent)) (told' : Option (List UnitWords)) → r ≡ Err halt → ended ≡ Err halt → i < length commands → c ≡ get_or commands i c → IsGone kinds net commands i s a b log log' → CameThrough (IsTurn kinds net s c) r next b d log' log'' → IsPlayed kinds net commands (ending_status ended) a d log log'' told'
+halted_by {X} kinds net commands i c s next r halt ended a b d log log' log'' told' is by within at g came =
+    let given : IsHalted (IsTurn kinds net s c) halt b d log' log'' = subst (λ (q : Result X Halt). CameThrough (IsTurn kinds net s c) q next b d log' log'') is came in
+    subst (λ (e : Result ℕ Halt). IsPlayed kinds net commands (ending_status e) a d log log'' told') (sym by) (go given)
   where
-    came : (status bytes : ℕ) → status ≢ 6 → (status ≡ 3 → bytes < length text) → Added b d (take bytes text) → CameIn (answered text s) status b d log' log'
-    came status bytes not_device less added = record {
-      events = 0;
-      bytes = bytes;
-      logged = Logged-none log' log' refl;
-      written = added;
-      in_order = λ l. absurd (omega (arith, l));
-      sink = less;
-      device = λ e. absurd (not_device e);
-      between = λ _. refl;
-    }
+    going : (h : Halt) → ending_status (Err h) ≢ 0
+    going WriteFault e = absurd (omega (arith, e))
+    going DeviceFault e = absurd (omega (arith, e))
+    going NoMemory e = absurd (omega (arith, e))
 
-    go : (h : Halt) → IsWritten b d false (is_write_halt {A = X} (Err h)) text → is_device_halt {A = X} (Err h) ≡ false → IsPlayed kinds net commands (ending_status (Err h)) a d log log' told'
-    go WriteFault v n =
-        let less = v.less refl in
-        played_in kinds net commands i 3 s c (answered text s) a b d log log' log' told' within at (λ e. absurd (omega (arith, e))) g turn (came 3 less.0 (λ e. absurd (omega (arith, e))) (λ _. less.1) less.2)
-    go DeviceFault v n = absurd (cc)
-    go NoMemory v n =
-        played_in kinds net commands i 7 s c (answered text s) a b d log log' log' told' within at (λ e. absurd (omega (arith, e))) g turn (came 7 v.front.0 (λ e. absurd (omega (arith, e))) (λ e. absurd (omega (arith, e))) v.front.1)
+    free : (h : Halt) → is_free (ending_status (Err h)) ≡ true
+    free WriteFault = refl
+    free DeviceFault = refl
+    free NoMemory = refl
+
+    go : IsHalted (IsTurn kinds net s c) halt b d log' log'' → IsPlayed kinds net commands (ending_status (Err halt)) a d log log'' told'
+    go (inl z) =
+        let here : IsGone kinds net commands i s a d log log'' = record {
+          books = g.books;
+          turns = g.turns;
+          happened = g.happened;
+          left = g.left;
+          written = subst (λ x. Added a x (replies_of (making kinds net ∷ g.turns))) (sym z.sink_is) g.written;
+          logged = subst (λ x. Logged log x (events_of (making kinds net ∷ g.turns))) (sym z.log_is) g.logged;
+        } in
+        played_before kinds net commands i (ending_status (Err halt)) s a d log log'' told' (omega (arith, within)) (ap (λ (h : Halt). ending_status (Err h)) z.memory) here
+    go (inr z) = played_in kinds net commands i (ending_status (Err halt)) s c z.turn a b d log log' log'' told' within at (free halt) (going halt) g z.is_turn z.came

@@ -1,12 +1,13 @@
 -- A run that ended before there was an answer.
-use Rattle.std.proofs.Common.{◌≡◌, ◌≢◌, ◌==◌, ap, sym, subst, refl, arith, ℕ, Bool, true, false, not, List, [], ◌∷◌, length, Option}
+use Rattle.std.proofs.Common.{◌≡◌, ◌≢◌, ◌∙◌, ◌==◌, ap, sym, subst, refl, arith, ℕ, Bool, true, false, not, List, [], ◌∷◌, length, Option}
 use Rattle.dn_base.specs.declared.device.TableEvent.{TableEvent}
 use Rattle.dn_base.specs.declared.device.UnitWords.{UnitWords}
 use Rattle.dn_base.specs.Outside.{IsWritten}
 use Rattle.dn_base.proofs.Logs.{Logged-none}
 use Rattle.dn_base.proofs.Told.{Added-none, written_none}
 use Rattle.dn_kind.specs.Kind.{Meaning}
-use Rattle.dn_tool.specs.Answer.{Answer, IsAnswered, is_free, played, said}
+use Rattle.dn_tool.specs.Answer.{Answer, IsAnswered, played, said}
+use Rattle.dn_tool.specs.Halt.{is_free}
 
 -- nothing was done and nothing written
 pub unanswered : (kinds : List Meaning) (a : Answer) (status : ℕ) (b d : Option (List ℕ)) (log log' : Option (List TableEvent)) (told' : Option (List UnitWords)) → is_free status ≡ true → (status == 3) ≡ false → (status == 6) ≡ false → d ≡ b → log' ≡ log → IsAnswered kinds a status b d log log' told'
@@ -31,8 +32,10 @@ unanswered kinds (played net commands) status b d log log' told' free not_sink n
     device = λ e. absurd (device e);
     between = λ l _. absurd (omega (arith, l));
   };
+  exact = λ e. (let f : true ≡ false = sym free ∙ e in cc);
   all = λ e. absurd (going e);
   tables = λ e. absurd (going e);
+  books = λ count l. absurd (omega (arith, l));
 }
   where
     going : status ≢ 0

@@ -1,5 +1,5 @@
 -- The answer of the program: a status and what is written, or a script that is run.
-use Rattle.std.specs.Prelude.{◌≡◌, ℕ, ◌==◌, Bool, true, false, not, ◌||◌, if◌then◌else◌, List, [], ◌∷◌, ◌++◌, codes, Option, Some, None, Result, Ok, Err}
+use Rattle.std.specs.Prelude.{◌≡◌, ℕ, ◌==◌, Bool, true, false, not, if◌then◌else◌, List, [], ◌∷◌, ◌++◌, codes, Option, Some, None, Result, Ok, Err}
 use Rattle.std.specs.Str.{bytes_eq}
 use Rattle.dn_base.specs.declared.device.TableEvent.{TableEvent}
 use Rattle.dn_base.specs.declared.device.UnitWords.{UnitWords}
@@ -12,6 +12,7 @@ use Rattle.dn_tool.specs.declared.words.Task.{Task}
 use Rattle.dn_tool.specs.declared.words.Task.TheVariants.{Run, Check}
 use Rattle.dn_module.specs.Expand.{Outcome}
 use Rattle.dn_tool.specs.Compiled.{compilation, with_refusal}
+use Rattle.dn_tool.specs.Halt.{is_free}
 use Rattle.dn_tool.specs.Played.{IsPlayed}
 use Rattle.dn_tool.specs.Refused.{Refused}
 
@@ -24,10 +25,6 @@ pub data Answer : Type 0 where
 abbrev pub is_script : Answer → Bool
 is_script (said status output) = false
 is_script (played net commands) = true
-
--- a status that comes of no answer: a fault of the source, the sink or the device, or want of memory
-abbrev pub is_free : ℕ → Bool
-is_free status = status == 2 || status == 3 || status == 6 || status == 7
 
 -- the line that says how the program is used
 abbrev pub usage : List ℕ

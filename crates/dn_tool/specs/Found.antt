@@ -1,5 +1,6 @@
 -- The replies to `resolve` and `lookup`: the names that an address comes to.
 use Rattle.std.specs.Prelude.{ℕ, if◌then◌else◌, List, [], ◌++◌, codes, slice_get, Option, Some, None}
+use Rattle.dn_net.specs.declared.node.Name.{Name}
 use Rattle.dn_net.specs.declared.node.NodeDecl.{NodeDecl}
 use Rattle.dn_net.specs.Decode.{is_agent_at}
 use Rattle.dn_kind.specs.declared.rights.Access.{Access}
@@ -30,12 +31,16 @@ asked_text target a m found =
     target.text ++ (codes "@" ++ (address_text a
     ++ (access_text m ++ (codes ": " ++ (found ++ codes "\n")))))
 
+-- the names to which a name resolves for an access under the records of a book
+abbrev pub names_under : List NodeDecl → List Grant → Access → Name → List Name
+names_under net book access x = resolved_names_under net (allowing access (records_of net book)) x
+
 -- the names to which an address of a node resolves for an access under the records of a book, where
 -- there is such a node
 abbrev pub resolved_text : List NodeDecl → List Grant → Access → Option ℕ → ℕ → List ℕ
 resolved_text net book access None a = codes "no such node"
-resolved_text net book access (Some n) a = names_text net
-    (resolved_names_under net (allowing access (records_of net book)) (record { node = n; addr = a }))
+resolved_text net book access (Some n) a =
+    names_text net (names_under net book access (record { node = n; addr = a }))
 
 -- the reply to `resolve`
 abbrev pub resolve_text : List NodeDecl → List Grant → Target → ℕ → Mode → List ℕ

@@ -1,5 +1,5 @@
 -- Why an answer stops, and the statuses that tell it.
-use Rattle.std.specs.Prelude.{ℕ, Bool, true, false, Result, Ok, Err}
+use Rattle.std.specs.Prelude.{ℕ, ◌==◌, Bool, true, false, ◌||◌, Result, Ok, Err}
 use Rattle.dn_base.specs.declared.device.MakeFault.{MakeFault}
 use Rattle.dn_base.specs.declared.device.MakeFault.TheVariants.{Device, OutOfMemory}
 use Rattle.dn_tool.specs.declared.halt.Halt.{Halt}
@@ -21,6 +21,10 @@ ending_status (Ok status) = status
 ending_status (Err WriteFault) = 3
 ending_status (Err DeviceFault) = 6
 ending_status (Err NoMemory) = 7
+
+-- a status that comes of no answer: a fault of the source, the sink or the device, or want of memory
+abbrev pub is_free : ℕ → Bool
+is_free status = status == 2 || status == 3 || status == 6 || status == 7
 
 -- the halt that a unit which was not made is
 abbrev pub make_halt : MakeFault → Halt

@@ -3,8 +3,11 @@ pub mod Compiled
 pub mod Found
 pub mod Viewed
 pub mod Turn
+pub mod Books
 pub mod Played
-pub mod Present
+pub mod Changed
+pub mod Ids
+pub mod State
 pub mod Answer
 pub mod Halt
 pub mod Platform

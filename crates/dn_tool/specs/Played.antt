@@ -1,5 +1,5 @@
 -- How far a run comes over a script: what of it is done to the device, and what is written.
-use Rattle.std.specs.Prelude.{◌≡◌, ◌≢◌, ℕ, suc, ◌<◌, ◌≤◌, List, [], ◌∷◌, ◌++◌, map, take, drop, length, get_or, Option}
+use Rattle.std.specs.Prelude.{◌≡◌, ◌≢◌, ℕ, false, suc, ◌<◌, ◌≤◌, List, [], ◌∷◌, ◌++◌, map, take, drop, length, get_or, Option}
 use Rattle.std.specs.Option.{IfSome}
 use Rattle.dn_base.specs.declared.device.TableEvent.{TableEvent}
 use Rattle.dn_base.specs.declared.device.UnitWords.{UnitWords}
@@ -12,6 +12,8 @@ use Rattle.dn_tables.specs.Writes.{make_event}
 use Rattle.dn_image.specs.Image.{first_words}
 use Rattle.dn_book.specs.Tables.{tables_of}
 use Rattle.dn_module.specs.declared.command.Command.{Command}
+use Rattle.dn_tool.specs.Books.{GivesOwed}
+use Rattle.dn_tool.specs.Halt.{is_free}
 use Rattle.dn_tool.specs.Turn.{AreTurns, Turn, answered, events_of, replies_of, start, state_after}
 
 -- the tables of nodes from a number on, as a device tells them: those of units, ascending
@@ -31,6 +33,19 @@ making kinds net = record {
 -- the turn at a place, or one in which nothing is done where there are not so many
 abbrev pub turn_at : List Turn → ℕ → Turn
 turn_at turns place = get_or turns place (answered [] start)
+
+-- How far a run with this status came in a turn: so many of its events were added to the device's log,
+-- and so many bytes of its reply were written, once all its events were added
+pub record CameIn (t : Turn) (status : ℕ) (before after : Option (List ℕ))
+    (log log' : Option (List TableEvent)) : Type 0 where
+  pub events : ℕ
+  pub bytes : ℕ
+  pub logged : Logged log log' (take events t.events)
+  pub written : Added before after (take bytes t.reply)
+  pub in_order : events < length t.events → bytes ≡ 0
+  pub sink : status ≡ 3 → bytes < length t.reply
+  pub device : status ≡ 6 → events < length t.events
+  pub between : status ≢ 6 → events ≡ length t.events
 
 -- How far a run with this status came over turns: so many of them were gone through whole, and of the
 -- next so many events were added to the device's log, and then so many bytes of its reply were
@@ -54,8 +69,9 @@ pub record CameTo (turns : List Turn) (status : ℕ) (before after : Option (Lis
   pub between : 1 ≤ whole → status ≢ 6 → events ≡ length (turn_at turns whole).events
 
 -- A run with this status over a script: it made the units, and then answered the first commands, of
--- which it may have stopped in the last. At status 0 it answered all, and the words that the device
--- tells are the tables of the last book.
+-- which it may have stopped in the last. A status that is not free is 0. At status 0 it answered all,
+-- and the words that the device tells are the tables of the last book. The book before the first command, and after each command
+-- that was gone through whole, gives what it owes.
 pub record IsPlayed (kinds : List Meaning) (net : List NodeDecl) (commands : List Command)
     (status : ℕ) (before after : Option (List ℕ)) (log log' : Option (List TableEvent))
     (told' : Option (List UnitWords)) : Type 0 where
@@ -63,6 +79,9 @@ pub record IsPlayed (kinds : List Meaning) (net : List NodeDecl) (commands : Lis
   pub few : length turns ≤ length commands
   pub happened : AreTurns kinds net start (take (length turns) commands) turns
   pub came : CameTo (making kinds net ∷ turns) status before after log log'
+  pub exact : is_free status ≡ false → status ≡ 0
   pub all : status ≡ 0 → length turns ≡ length commands
   pub tables : status ≡ 0 → IfSome told' (λ tables.
       tables ≡ device_tables 0 net (tables_of net kinds (state_after start turns).book))
+  pub books : (count : ℕ) → count < came.whole →
+      GivesOwed kinds net (state_after start (take count turns)).book

@@ -1,29 +1,47 @@
 -- The turns of a script: what each command does to the device, what it is answered by, and the state
 -- that it leaves.
-use Rattle.std.specs.Prelude.{◌≡◌, ℕ, Bool, true, false, List, [], ◌∷◌, ◌++◌, codes}
+use Rattle.std.specs.Prelude.{◌≡◌, ℕ, ◌⊎◌, Bool, true, false, List, [], ◌∷◌, ◌++◌, codes, Option, Some, None}
 use Rattle.std.specs.List.{flat_map}
 use Rattle.dn_base.specs.declared.device.TableEvent.{TableEvent}
 use Rattle.dn_net.specs.declared.node.NodeDecl.{NodeDecl}
+use Rattle.dn_net.specs.Chain.{Member}
+use Rattle.dn_parse.specs.declared.syntax.Mode.{Mode}
+use Rattle.dn_parse.specs.declared.syntax.Mode.TheVariants.{Unsaid, Read, Write}
+use Rattle.dn_kind.specs.declared.rights.Rights.{Rights}
 use Rattle.dn_kind.specs.Kind.{Meaning}
+use Rattle.dn_kind.specs.Rights.{both_rights}
+use Rattle.dn_tables.specs.Placement.{Place}
 use Rattle.dn_image.specs.Image.{image}
 use Rattle.dn_module.specs.declared.command.Command.{Command}
 use Rattle.dn_module.specs.declared.command.Command.TheVariants.{Resolve, Lookup, View, Grant, Route, Revoke, Dump, Split, Absorb}
+use Rattle.dn_module.specs.declared.command.Target.{Target}
+use Rattle.dn_placement.specs.declared.request.Request.{Request}
 use Rattle.dn_book.specs.declared.grant.Grant.{Grant as GrantPart}
+use Rattle.dn_book.specs.Book.{has_id, without}
 use Rattle.dn_book.specs.Tables.{tables_of}
+use Rattle.dn_book.specs.Writes.{grant_events, revoke_events}
+use Rattle.dn_grant.specs.declared.fault.GrantFault.{GrantFault}
+use Rattle.dn_grant.specs.Grant.{IsGrantRefused, IsPlaced, grant_at}
+use Rattle.dn_vector.specs.declared.fault.RouteFault.{RouteFault}
+use Rattle.dn_vector.specs.Route.{IsPlacedRoute, IsRouteRefused, route_at}
 use Rattle.dn_print.specs.Dump.{dump_text}
+use Rattle.dn_print.specs.Names.{address_text}
+use Rattle.dn_tool.specs.Changed.{grant_refused_text, granted_text, revoke_refused_text, revoked_text, route_refused_text, routed_text}
 use Rattle.dn_tool.specs.Found.{resolve_text, lookup_text}
+use Rattle.dn_tool.specs.Ids.{id_number, with_id}
 use Rattle.dn_tool.specs.Viewed.{view_text}
 use Rattle.dn_tool.specs.Reshape.{split_text, absorb_text}
 
--- what commands meet: the live grants, in the order in which they were granted, and whether a record
--- was cleared since the last fence, or since the units were made
+-- what commands meet: the live grants, in the order in which they were granted; whether a record was
+-- cleared since the last fence, or since the units were made; and the ids that came so far
 pub record State : Type 0 where
   pub book : List GrantPart
   pub cleared : Bool
+  pub ids : List (List ℕ)
 
 -- no grant lives before the first command
 abbrev pub start : State
-start = record { book = []; cleared = false }
+start = record { book = []; cleared = false; ids = [] }
 
 -- what is done to the device, in order, what is then written, and the state that is left
 pub record Turn : Type 0 where
@@ -35,29 +53,131 @@ pub record Turn : Type 0 where
 abbrev pub answered : List ℕ → State → Turn
 answered reply s = record { events = []; reply = reply; next = s }
 
--- the reply to a command of this word that is not answered so far
-abbrev pub later_text : List ℕ → List ℕ
-later_text word = word ++ codes " refused: later\n"
+-- the state after an id came
+abbrev pub named : State → List ℕ → State
+named s id = record { book = s.book; cleared = s.cleared; ids = with_id s.ids id }
+
+-- the number of a node that a command names, or one that no node has
+abbrev pub number_or_none : Option ℕ → ℕ
+number_or_none (Some n) = n
+number_or_none None = 65535
+
+-- the rights that a grant asks for: both, where it says none
+abbrev pub rights_of : Mode → Rights
+rights_of Unsaid = both_rights
+rights_of Read = record { 0 = 1 }
+rights_of Write = record { 0 = 2 }
+
+-- what a grant asks for
+abbrev pub request_of : Target → Target → ℕ → ℕ → Mode → Request
+request_of from target base size m = record {
+  agent = number_or_none from.node;
+  node = number_or_none target.node;
+  base = base;
+  size = size;
+  rights = rights_of m;
+}
+
+-- the turn in which a grant comes into the book: a fence where one is due, and the writes of its records
+abbrev pub entered : List NodeDecl → List Meaning → State → List ℕ → GrantPart → List ℕ → Turn
+entered net kinds s id g reply = record {
+  events = grant_events net kinds s.book s.cleared g;
+  reply = reply;
+  next = record { book = s.book ++ g ∷ []; cleared = false; ids = with_id s.ids id };
+}
+
+-- a request is granted at the first admissible placement
+pub record IsGranted (kinds : List Meaning) (net : List NodeDecl) (s : State) (id : List ℕ)
+    (rq : Request) (t : Turn) : Type 0 where
+  pub place : Place
+  pub placed : IsPlaced net s.book (id_number s.ids id) rq place
+  pub is_turn : t ≡ entered net kinds s id (grant_at (id_number s.ids id) rq place)
+      (granted_text id place.v)
+
+-- a request is refused, by the first refusal that holds
+pub record IsNotGranted (net : List NodeDecl) (s : State) (id : List ℕ) (rq : Request) (t : Turn)
+    : Type 0 where
+  pub why : GrantFault
+  pub refused : IsGrantRefused net s.book (id_number s.ids id) rq why
+  pub is_turn : t ≡ answered (grant_refused_text id why) (named s id)
+
+-- a line is routed to the least free vector that has an admissible placement there
+pub record IsRouted (kinds : List Meaning) (net : List NodeDecl) (s : State) (id : List ℕ)
+    (agent line node : ℕ) (t : Turn) : Type 0 where
+  pub vector : ℕ
+  pub place : Place
+  pub placed : IsPlacedRoute net s.book (id_number s.ids id) agent line node vector place
+  pub is_turn : t ≡ entered net kinds s id (route_at (id_number s.ids id) agent node vector place)
+      (routed_text id vector)
+
+-- a route is refused, by the first refusal that holds
+pub record IsNotRouted (net : List NodeDecl) (s : State) (id : List ℕ) (agent line node : ℕ)
+    (t : Turn) : Type 0 where
+  pub why : RouteFault
+  pub refused : IsRouteRefused net s.book (id_number s.ids id) agent line node why
+  pub is_turn : t ≡ answered (route_refused_text id why) (named s id)
+
+-- a live grant is taken out of the book: its records that no other grant shares are cleared
+pub record IsRevoked (kinds : List Meaning) (net : List NodeDecl) (s : State) (id : List ℕ) (t : Turn)
+    : Type 0 where
+  pub grant : GrantPart
+  pub lives : Member grant s.book
+  pub has : grant.id ≡ id_number s.ids id
+  pub is_turn : t ≡ record {
+    events = revoke_events net kinds s.book grant;
+    reply = revoked_text id;
+    next = record { book = without (id_number s.ids id) s.book; cleared = true; ids = with_id s.ids id };
+  }
+
+-- there is no live grant to be revoked
+pub record IsNotRevoked (s : State) (id : List ℕ) (t : Turn) : Type 0 where
+  pub none : has_id (id_number s.ids id) s.book ≡ false
+  pub is_turn : t ≡ answered (revoke_refused_text id) (named s id)
+
+-- the turn of a grant
+abbrev pub IsGrantTurn : List Meaning → List NodeDecl → State → List ℕ → Request → Turn → Type 0
+IsGrantTurn kinds net s id rq t = IsGranted kinds net s id rq t ⊎ IsNotGranted net s id rq t
+
+-- the turn of a route
+abbrev pub IsRouteTurn : List Meaning → List NodeDecl → State → List ℕ → ℕ → ℕ → ℕ → Turn → Type 0
+IsRouteTurn kinds net s id agent line node t =
+    IsRouted kinds net s id agent line node t ⊎ IsNotRouted net s id agent line node t
+
+-- the turn of a revoke
+abbrev pub IsRevokeTurn : List Meaning → List NodeDecl → State → List ℕ → Turn → Type 0
+IsRevokeTurn kinds net s id t = IsRevoked kinds net s id t ⊎ IsNotRevoked s id t
 
 -- the command is `dump`
 abbrev pub is_dump : Command → Bool
 is_dump Dump = true
 is_dump _ = false
 
--- the reply to a command over a book
+-- the command may change the book
+abbrev pub is_change : Command → Bool
+is_change (Grant id from target base size m) = true
+is_change (Route id from line target) = true
+is_change (Revoke id) = true
+is_change _ = false
+
+-- the reply to a command that changes nothing; the others have none here
 abbrev pub reply : List Meaning → List NodeDecl → List GrantPart → Command → List ℕ
 reply kinds net book (Resolve target a m) = resolve_text net book target a m
 reply kinds net book (Lookup target a m) = lookup_text net book target a m
 reply kinds net book (View target m) = view_text net book target m
-reply kinds net book (Grant id from target base size m) = later_text (codes "grant")
-reply kinds net book (Route id from line target) = later_text (codes "route")
-reply kinds net book (Revoke id) = later_text (codes "revoke")
 reply kinds net book Dump = dump_text (image net kinds (tables_of net kinds book))
 reply kinds net book Split = split_text kinds net
 reply kinds net book (Absorb target) = absorb_text kinds net target
+reply kinds net book (Grant id from target base size m) = []
+reply kinds net book (Route id from line target) = []
+reply kinds net book (Revoke id) = []
 
 -- the turn of a command in a state
 abbrev pub IsTurn : List Meaning → List NodeDecl → State → Command → Turn → Type 0
+IsTurn kinds net s (Grant id from target base size m) t =
+    IsGrantTurn kinds net s id (request_of from target base size m) t
+IsTurn kinds net s (Route id from line target) t =
+    IsRouteTurn kinds net s id (number_or_none from.node) line (number_or_none target.node) t
+IsTurn kinds net s (Revoke id) t = IsRevokeTurn kinds net s id t
 IsTurn kinds net s c t = t ≡ answered (reply kinds net s.book c) s
 
 -- the turns of commands in order, each in the state that those before it left

@@ -2,19 +2,22 @@
 //!
 //! [`compile::compile`] gives the platform of a text, or the first rule that it breaks: the text is read,
 //! expanded to a net and commands, and the net is held to the rules on nodes and on walks; [`refusal`] has
-//! the line of each rule. [`script`] makes the units of a platform and answers its commands: [`present`] keeps the
-//! tables, [`reply`] spells the answers, those to `split` and `absorb` by [`reshape`], and [`resolve`] finds to
-//! what a name resolves. [`run::run`] goes from the bytes of a source to those of a sink and the words of a device.
+//! the line of each rule. [`script`] makes the units of a platform and answers its commands: [`state`] is what is
+//! kept meanwhile, [`change`] does grants, routes and revokes under their [`ids`], and [`reply`] spells the other
+//! answers, those to `split` and `absorb` by [`reshape`]. [`run::run`] goes from the bytes of a source to those of a sink and the words of a device.
 #![tactic(auto)]
 
+mod change;
 pub mod compile;
 mod halt;
+pub mod ids;
+pub mod laws;
 mod output;
-pub mod present;
 pub mod refusal;
 pub mod reply;
 mod reshape;
 pub mod resolve;
 pub mod run;
 mod script;
+pub mod state;
 pub mod words;

@@ -6,8 +6,8 @@ ghost use Rattle.std.specs.Option.{IfSome};
 ghost use Rattle.dn_base.specs.Outside.{AtEnd, IsCounted, Taken, TakenAtMost, input_limit};
 ghost use Rattle.dn_kind.specs.Kind.{IsLawful};
 ghost use Rattle.dn_kind.specs.Units.{shape_fault};
-ghost use Rattle.dn_tool.specs.Answer.{IsAnswered, IsInput, IsSaid, answer, is_free, is_script, reads, task_answer, task_of, text_answer, usage};
-ghost use Rattle.dn_tool.specs.Halt.{ending_status, is_device_halt, is_write_halt};
+ghost use Rattle.dn_tool.specs.Answer.{IsAnswered, IsInput, IsSaid, answer, is_script, reads, task_answer, task_of, text_answer, usage};
+ghost use Rattle.dn_tool.specs.Halt.{ending_status, is_device_halt, is_free, is_write_halt};
 ghost use Rattle.dn_print.specs.Statement.{net_text};
 
 use crate::compile;

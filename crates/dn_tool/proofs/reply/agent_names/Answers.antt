@@ -1,49 +1,36 @@
-use Rattle.std.proofs.Common.{rules, ◌≡◌, ◌∙◌, [], ap, sym, subst, map, List, Result, Ok, Err, IfOk, refl}
-use Rattle.std.specs.Option.{IfSome}
+use Rattle.std.proofs.Common.{rules, ◌≡◌, ◌∙◌, ap, sym, subst, map, List, ℕ, Option, Some, Ok, IfOk, IfSome, is_ok}
 use Rattle.std.specs.String.{string_bytes}
-use Rattle.dn_net.specs.declared.node.Name.{Name}
+use Rattle.dn_net.specs.declared.node.NodeDecl.{NodeDecl}
 use Rattle.dn_kind.specs.Kind.{Meaning}
-use Rattle.dn_kind.proofs.Shapes.{shape_fault_is_first}
+use Rattle.dn_tables.specs.declared.table.NodeTable.{NodeTable}
+use Rattle.dn_tables.specs.Set.{words_of}
 use Rattle.dn_tables.proofs.Slots.{all_of_map}
 use Rattle.dn_image.specs.Image.{image}
-use Rattle.dn_lookup.specs.Lookup.{NoLookup, lookup_fault_view, lookup_of}
-use Rattle.dn_lookup.specs.declared.lookup.LookupFault.TheVariants.{OutOfMemory}
+use Rattle.dn_lookup.specs.Lookup.{lookup_of}
 use Rattle.dn_book.specs.Book.{owed_names}
-use Rattle.dn_book.specs.Tables.{tables_of}
 use Rattle.dn_print.specs.Names.{names_text}
-use Rattle.dn_tool.proofs.Lookups.{found_is, image_owed, no_agent_then, no_fault_but_memory, no_image_then}
+use Rattle.dn_tool.specs.Platform.{PlatformState}
+use Rattle.dn_tool.specs.State.{IsState}
+use Rattle.dn_tool.proofs.Kept.{legal_with, state_looked_up}
 use Rattle.dn_tool.proofs.reply.agent_names.Goals as goal
 
-pub lookup-requires-clause-shaped : goal.lookup-requires-clause-shaped
-lookup-requires-clause-shaped g c =
+pub image_names-requires-clause-found : goal.image_names-requires-clause-found
+image_names-requires-clause-found g c =
     let kinds : List Meaning = map (λ k. (goal.UnitKind-dyn g (k.vtable, k.value)).meaning k.value) c.args.kinds.now.list.items in
-    (shape_fault_is_first kinds c.platform.inside.net).0.0 (rw (← c.platform.view_is) at c.requires.shaped)
+    let net : List NodeDecl = c.args.platform.now.net in
+    let state = c.args.state.now in
+    let given : IfSome c.keep_image.new.kept (λ b. b ≡ image net kinds (words_of c.tables.result.now)) = subst (λ (p : PlatformState). IfSome c.keep_image.new.kept (λ b. b ≡ image p.net kinds (words_of c.tables.result.now))) c.platform.view_is c.in_ok-keep_image.ensures.kept in
+    let some : c.keep_image.new.kept ≡ Some c.as_slice.result.now = search rules in
+    let bytes : c.as_slice.result.now ≡ image net kinds (words_of c.tables.result.now) = subst (λ (o : Option (List ℕ)). IfSome o (λ b. b ≡ image net kinds (words_of c.tables.result.now))) some given in
+    let owed : lookup_of net kinds c.as_slice.result.now c.args.access c.args.name ≡ Ok (owed_names net state.book.grants c.args.access c.args.name) = state_looked_up kinds net state c.as_slice.result.now c.args.access c.args.name (all_of_map _ c.args.kinds.now.list.items c.requires.lawful) (legal_with kinds net c.requires.shaped c.facts.ensures.walked.legal) c.requires.state (bytes ∙ ap (λ (s : List NodeTable). image net kinds (words_of s)) c.tables.ensures) c.requires.agent in
+    ap is_ok owed
 
-pub unreachable-requires : goal.unreachable-requires
-unreachable-requires g c =
+pub returns-clause-reply : goal.returns-clause-reply
+returns-clause-reply g c =
     let kinds : List Meaning = map (λ k. (goal.UnitKind-dyn g (k.vtable, k.value)).meaning k.value) c.args.kinds.now.list.items in
-    let net = c.platform.inside.net in
-    let bytes : c.image.result.now ≡ image net kinds (tables_of net kinds []) = subst (λ o. IfSome o (λ b. b ≡ image net kinds (tables_of net kinds []))) (sym c.image.ensures) c.in_ok-keep_image.ensures.present.bytes in
-    let owed : lookup_of net kinds c.image.result.now c.args.access c.args.name ≡ Ok (owed_names net [] c.args.access c.args.name) = image_owed net kinds c.image.result.now c.args.access c.args.name (all_of_map _ c.args.kinds.now.list.items c.requires.lawful) c.platform.invariant.walked.legal (rw (← c.platform.view_is) at c.requires.agent) bytes in
-    let exact = subst (λ (m : Result (List Name) NoLookup). IfSome (lookup_fault_view c.in-Err-NoAgent.field-0) (λ f. m ≡ Err f)) owed c.in-Err-NoAgent.ensures.exact in
-    let only : c.in-Err-NoAgent.field-0 ≡ OutOfMemory = no_fault_but_memory (owed_names net [] c.args.access c.args.name) c.in-Err-NoAgent.field-0 exact (λ e. c.lookup.ensures.memory (c.in-Err-NoAgent.is ∙ ap Err e)) in
-    no_agent_then c.in-Err-NoAgent.field-0 c.in-Err-NoAgent.field-0-is only
-
-pub unreachable-requires-in-Err-Image : goal.unreachable-requires-in-Err-Image
-unreachable-requires-in-Err-Image g c =
-    let kinds : List Meaning = map (λ k. (goal.UnitKind-dyn g (k.vtable, k.value)).meaning k.value) c.args.kinds.now.list.items in
-    let net = c.platform.inside.net in
-    let bytes : c.image.result.now ≡ image net kinds (tables_of net kinds []) = subst (λ o. IfSome o (λ b. b ≡ image net kinds (tables_of net kinds []))) (sym c.image.ensures) c.in_ok-keep_image.ensures.present.bytes in
-    let owed : lookup_of net kinds c.image.result.now c.args.access c.args.name ≡ Ok (owed_names net [] c.args.access c.args.name) = image_owed net kinds c.image.result.now c.args.access c.args.name (all_of_map _ c.args.kinds.now.list.items c.requires.lawful) c.platform.invariant.walked.legal (rw (← c.platform.view_is) at c.requires.agent) bytes in
-    let exact = subst (λ (m : Result (List Name) NoLookup). IfSome (lookup_fault_view c.in-Err-Image.field-0) (λ f. m ≡ Err f)) owed c.in-Err-Image.ensures.exact in
-    let only : c.in-Err-Image.field-0 ≡ OutOfMemory = no_fault_but_memory (owed_names net [] c.args.access c.args.name) c.in-Err-Image.field-0 exact (λ e. c.lookup.ensures.memory (c.in-Err-Image.is ∙ ap Err e)) in
-    no_image_then c.in-Err-Image.field-0 c.in-Err-Image.field-0-0 c.in-Err-Image.field-0-is only
-
-pub returns-in-Ok-clause-reply : goal.returns-in-Ok-clause-reply
-returns-in-Ok-clause-reply g c =
-    let kinds : List Meaning = map (λ k. (goal.UnitKind-dyn g (k.vtable, k.value)).meaning k.value) c.args.kinds.now.list.items in
-    let net = c.platform.inside.net in
-    let bytes : c.image.result.now ≡ image net kinds (tables_of net kinds []) = subst (λ o. IfSome o (λ b. b ≡ image net kinds (tables_of net kinds []))) (sym c.image.ensures) c.in_ok-keep_image.ensures.present.bytes in
-    let owed : lookup_of net kinds c.image.result.now c.args.access c.args.name ≡ Ok (owed_names net [] c.args.access c.args.name) = image_owed net kinds c.image.result.now c.args.access c.args.name (all_of_map _ c.args.kinds.now.list.items c.requires.lawful) c.platform.invariant.walked.legal (rw (← c.platform.view_is) at c.requires.agent) bytes in
-    let found : c.in-Ok.found ≡ owed_names net [] c.args.access c.args.name = found_is _ _ (sym owed ∙ c.in-Ok.ensures.exact) in
-    rw (← c.platform.view_is) (subst (λ (l : List Name). IfOk c.names_of.result (λ s. string_bytes s ≡ names_text net l)) (c.list.ensures.value ∙ found) (rw (← c.platform.view_is) at c.names_of.ensures))
+    let net : List NodeDecl = c.args.platform.now.net in
+    let state = c.args.state.now in
+    let given : IfSome c.keep_image.new.kept (λ b. b ≡ image net kinds (words_of c.tables.result.now)) = subst (λ (p : PlatformState). IfSome c.keep_image.new.kept (λ b. b ≡ image p.net kinds (words_of c.tables.result.now))) c.platform.view_is c.in_ok-keep_image.ensures.kept in
+    let some : c.keep_image.new.kept ≡ Some c.as_slice.result.now = search rules in
+    let bytes : c.as_slice.result.now ≡ image net kinds (words_of c.tables.result.now) = subst (λ (o : Option (List ℕ)). IfSome o (λ b. b ≡ image net kinds (words_of c.tables.result.now))) some given in
+    c.image_names.ensures (owed_names net state.book.grants c.args.access c.args.name) (state_looked_up kinds net state c.as_slice.result.now c.args.access c.args.name (all_of_map _ c.args.kinds.now.list.items c.requires.lawful) (legal_with kinds net c.requires.shaped c.facts.ensures.walked.legal) c.requires.state (bytes ∙ ap (λ (s : List NodeTable). image net kinds (words_of s)) c.tables.ensures) c.requires.agent)

@@ -1,21 +1,38 @@
-use Rattle.std.proofs.Common.{rules, ◌≡◌, ◌∙◌, ap, ◌++◌, List, map, length, codes}
-use Rattle.std.specs.Fmt.{decimal}
+use Rattle.std.proofs.Common.{rules, ◌≡◌, ◌∙◌, ap, sym, subst, map, List, ℕ, IfOk, IsTrue, ◌<◌, length, slice_get}
 use Rattle.std.specs.String.{string_bytes}
 use Rattle.dn_interval.specs.Listed.{Seen, seen_by}
-use Rattle.dn_print.specs.Rows.{rows_text}
-use Rattle.dn_flat.specs.Views.{view_rows}
-use Rattle.dn_flat.proofs.Rows.{rows_are_view, rows_count}
-use Rattle.dn_tool.specs.Found.{access_of, access_text}
-use Rattle.dn_tool.proofs.Viewed.{empty_rows, viewed_told}
-use Rattle.dn_tool.specs.Viewed.{viewed_text}
+use Rattle.dn_interval.specs.Rows.{AreNormal}
+use Rattle.dn_net.specs.declared.node.NodeDecl.{NodeDecl}
+use Rattle.dn_net.specs.Decode.{is_agent_at}
+use Rattle.dn_kind.specs.declared.rights.Access.{Access}
+use Rattle.dn_kind.specs.Kind.{Meaning}
+use Rattle.dn_kind.specs.Tables.{allowing}
+use Rattle.dn_tables.specs.declared.table.NodeTable.{NodeTable}
+use Rattle.dn_tables.specs.Set.{record_kept}
+use Rattle.dn_view.specs.Views.{ResolvesFromUnder}
+use Rattle.dn_tool.specs.Found.{access_of}
+use Rattle.dn_tool.specs.Platform.{PlatformState}
+use Rattle.dn_tool.specs.Viewed.{owed_rows, viewed_text}
+use Rattle.dn_tool.proofs.Kept.{legal_with}
+use Rattle.dn_tool.proofs.Seen.{agent_there, rows_are_owed}
 use Rattle.dn_tool.proofs.reply.agent_view.Goals as goal
 
-pub returns : goal.returns
-returns c =
-    let net = c.platform.inside.net in
-    let same = rows_are_view net c.args.node c.in_ok-flat.flat.accepts c.in_ok-flat.ensures.accepts in
-    let heading : string_bytes c.in_ok-out.out ≡ codes "view " ++ (c.args.text.now ++ (access_text c.args.mode ++ (codes " rows " ++ (decimal (length c.rows.result.now) ++ codes "\n")))) = search rules in
-    let count = ap length c.rows.ensures.value ∙ rows_count net c.args.node c.in_ok-flat.flat.accepts same in
-    let lines : string_bytes c.push_rows.new.out ≡ string_bytes c.in_ok-out.out ++ rows_text net (map seen_by c.in_ok-flat.flat.accepts) = search rules in
-    let told = viewed_told net c.args.text.now c.args.mode (string_bytes c.in_ok-out.out) (string_bytes c.push_rows.new.out) (length c.rows.result.now) (view_rows net c.args.node) heading count (lines ∙ ap (λ (r : List Seen). string_bytes c.in_ok-out.out ++ rows_text net r) same) in
-    rw (← c.platform.view_is) (told ∙ ap (viewed_text net c.args.text.now c.args.mode) (empty_rows net (access_of c.args.mode) c.args.node))
+pub view-requires-clause-legal : goal.view-requires-clause-legal
+view-requires-clause-legal g c =
+    let kinds : List Meaning = map (λ k. (goal.UnitKind-dyn g (k.vtable, k.value)).meaning k.value) c.args.kinds.now.list.items in
+    legal_with kinds c.platform.inside.net (rw (← c.platform.view_is) at c.requires.shaped) c.platform.invariant.walked.legal
+
+pub view-requires-clause-there : goal.view-requires-clause-there
+view-requires-clause-there g c = agent_there c.platform.inside.net c.args.node (rw (← c.platform.view_is) at c.requires.agent)
+
+pub returns-clause-reply : goal.returns-clause-reply
+returns-clause-reply g c =
+    let kinds : List Meaning = map (λ k. (goal.UnitKind-dyn g (k.vtable, k.value)).meaning k.value) c.args.kinds.now.list.items in
+    let net : List NodeDecl = c.args.platform.now.net in
+    let state = c.args.state.now in
+    let access : Access = access_of c.args.mode in
+    let under : AreNormal (ResolvesFromUnder net (allowing c.access_of.result (record_kept kinds c.tables-tables.result.now)) c.args.node) c.in_ok-seen.seen = subst (λ (p : PlatformState). AreNormal (ResolvesFromUnder p.net (allowing c.access_of.result (record_kept kinds c.tables-tables.result.now)) c.args.node) c.in_ok-seen.seen) c.platform.view_is c.in_ok-seen.ensures.rows in
+    let set : AreNormal (ResolvesFromUnder net (allowing c.access_of.result (record_kept kinds state.book.set)) c.args.node) c.in_ok-seen.seen = subst (λ (s : List NodeTable). AreNormal (ResolvesFromUnder net (allowing c.access_of.result (record_kept kinds s)) c.args.node) c.in_ok-seen.seen) c.tables-tables.ensures under in
+    let normal : AreNormal (ResolvesFromUnder net (allowing access (record_kept kinds state.book.set)) c.args.node) c.in_ok-seen.seen = subst (λ (a : Access). AreNormal (ResolvesFromUnder net (allowing a (record_kept kinds state.book.set)) c.args.node) c.in_ok-seen.seen) c.access_of.ensures set in
+    let owed : map seen_by c.in_ok-seen.seen ≡ owed_rows net state.book.grants access c.args.node = rows_are_owed net state.book.grants access c.args.node (record_kept kinds state.book.set) c.in_ok-seen.seen c.requires.state.faithful c.requires.agent c.requires.state.kept.held normal in
+    subst (λ (r : List Seen). IfOk c.rows_text.result (λ s. string_bytes s ≡ viewed_text net c.args.text.now c.args.mode r)) owed c.rows_text.ensures

@@ -1,0 +1,312 @@
+-- From what grants, routes and revokes say to the turns of a script.
+use Rattle.std.specs.Option.{IfSome}
+use Rattle.std.proofs.Common.{◌≡◌, ◌≢◌, ◌∙◌, ap, sym, subst, refl, arith, ℕ, ◌<◌, ◌≤◌, ◌⊎◌, inl, inr, Bool, true, false, List, [], ◌∷◌, ◌++◌, take, length, Option, Some, None, Result, Ok, Err, is_ok, IsTrue, OnOk, ◌==◌, ◌||◌, eqb-true}
+use Rattle.std.proofs.Math.Seq.{take-length}
+use Rattle.dn_base.specs.declared.device.TableEvent.{TableEvent}
+use Rattle.dn_base.specs.Device.{Logged}
+use Rattle.dn_base.specs.Outside.{Added, IsWritten}
+use Rattle.dn_base.proofs.Logs.{Logged-none}
+use Rattle.dn_base.proofs.Told.{Added-none}
+use Rattle.dn_net.specs.declared.node.NodeDecl.{NodeDecl}
+use Rattle.dn_net.specs.Chain.{Member}
+use Rattle.dn_kind.specs.Kind.{Meaning}
+use Rattle.dn_tables.specs.Placement.{Place}
+use Rattle.dn_placement.specs.declared.request.Request.{Request}
+use Rattle.dn_placement.proofs.Order.{first_is_one}
+use Rattle.dn_book.specs.declared.grant.Grant.{Grant}
+use Rattle.dn_book.specs.Book.{has_id, slots_of, without}
+use Rattle.dn_book.specs.Writes.{AreAdded, grant_events, revoke_events}
+use Rattle.dn_grant.specs.declared.fault.GrantFault.{GrantFault}
+use Rattle.dn_grant.specs.Grant.{IsGrantLogged, IsGrantMade, IsGrantRefused, grant_at}
+use Rattle.dn_vector.specs.declared.fault.RouteFault.{RouteFault}
+use Rattle.dn_vector.specs.Route.{IsPlacedRoute, IsRouteLogged, IsRouteMade, IsRouteRefused, route_at}
+use Rattle.dn_vector.specs.Vectors.{vector_request}
+use Rattle.dn_book.specs.Book.{IsFaithful}
+use Rattle.dn_book.specs.State.{BookState}
+use Rattle.dn_book.specs.Tables.{IsKept}
+use Rattle.dn_flat.specs.Stages.{AreFlats}
+use Rattle.dn_image.specs.Image.{are_filled, image}
+use Rattle.dn_tables.specs.Set.{words_of}
+use Rattle.dn_module.specs.declared.command.Command.{Command}
+use Rattle.dn_module.specs.declared.command.Command.TheVariants.{Resolve, Lookup, View, Grant as GrantOf, Route, Revoke, Dump, Split, Absorb}
+use Rattle.dn_tool.specs.declared.state.State.{State as Kept}
+use Rattle.dn_tool.specs.declared.halt.Halt.{Halt}
+use Rattle.dn_tool.specs.declared.halt.Halt.TheVariants.{WriteFault, DeviceFault, NoMemory}
+use Rattle.dn_tool.specs.Changed.{grant_refused_text, granted_text, revoke_refused_text, revoked_text, route_refused_text, routed_text}
+use Rattle.dn_tool.specs.Halt.{ending_status, is_device_halt, is_write_halt}
+use Rattle.dn_tool.specs.Ids.{id_number, with_id}
+use Rattle.dn_tool.specs.Played.{CameIn}
+use Rattle.dn_tool.specs.State.{CameThrough, CameThroughChange, IsBefore, IsChanged, IsHalted, IsInside, IsState, IsTurned, state_view}
+use Rattle.dn_tool.specs.Turn.{IsGrantTurn, IsGranted, IsNotGranted, IsNotRevoked, IsNotRouted, IsRevokeTurn, IsRevoked, IsRouteTurn, IsRouted, IsTurn, State, Turn, answered, entered, is_change, named, reply}
+
+-- all events were added
+added_all : (events : List TableEvent) (log log' : Option (List TableEvent)) → AreAdded events false log log' → Logged log log' events
+added_all events log log' a = subst (λ es. Logged log log' es) (ap (λ n. take n events) (a.all refl) ∙ take-length events) a.logged
+
+-- halts
+
+-- there was no memory before the turn
+pub halted_before : (P : Turn → Type 0) (r : Result (List ℕ) Halt) (next : State) (log log' : Option (List TableEvent)) → r ≡ Err NoMemory → log' ≡ log → CameThroughChange P r next log log'
+halted_before P r next log log' e same =
+    subst (λ (q : Result (List ℕ) Halt). CameThroughChange P q next log log') (sym e) (λ told. inl (record { memory = refl; log_is = same; sink_is = refl }))
+
+-- there was none for the reply
+pub halted_after : (P : Turn → Type 0) (r : Result (List ℕ) Halt) (next next' : State) (reply : List ℕ) (log log' : Option (List TableEvent)) → r ≡ Err NoMemory → IsChanged P next' reply log log' → CameThroughChange P r next log log'
+halted_after P r next next' reply log log' e c =
+    subst (λ (q : Result (List ℕ) Halt). CameThroughChange P q next log log') (sym e) (λ told. inr (record {
+      turn = c.turn;
+      is_turn = c.is_turn;
+      came = record {
+        events = length c.turn.events;
+        bytes = 0;
+        logged = subst (λ es. Logged log log' es) (sym (take-length c.turn.events)) c.logged;
+        written = Added-none told told refl;
+        in_order = λ _. refl;
+        sink = λ x. absurd (omega (arith, x));
+        device = λ x. absurd (omega (arith, x));
+        between = λ _. refl;
+      };
+    }))
+
+-- the device failed among the events of a turn
+stopped_inside : (P : Turn → Type 0) (t : Turn) (r : Result (List ℕ) Halt) (next : State) (log log' : Option (List TableEvent)) → r ≡ Err DeviceFault → P t → AreAdded t.events true log log' → CameThroughChange P r next log log'
+stopped_inside P t r next log log' e is a =
+    subst (λ (q : Result (List ℕ) Halt). CameThroughChange P q next log log') (sym e) (λ told. inr (record {
+      turn = t;
+      is_turn = is;
+      came = record {
+        events = a.made;
+        bytes = 0;
+        logged = a.logged;
+        written = Added-none told told refl;
+        in_order = λ _. refl;
+        sink = λ x. absurd (omega (arith, x));
+        device = λ _. a.less refl;
+        between = λ x. absurd (x refl);
+      };
+    }))
+
+-- grants
+
+-- a grant that was made
+pub granted_turn : (kinds : List Meaning) (net : List NodeDecl) (s next : State) (id : List ℕ) (rq : Request) (v : ℕ) (book' : List Grant) (log log' : Option (List TableEvent)) → IsGrantMade net s.book (id_number s.ids id) rq v book' → IsGrantLogged net kinds s.book s.cleared (id_number s.ids id) rq false log log' → record { book = book'; cleared = false; ids = with_id s.ids id } ≡ next → IsChanged (IsGrantTurn kinds net s id rq) next (granted_text id v) log log'
+granted_turn kinds net s next id rq v book' log log' made logged left =
+    let n : ℕ = id_number s.ids id in
+    let same : logged.place ≡ made.place = first_is_one net (slots_of net s.book) rq None logged.place made.place logged.placed.first made.placed.first in
+    let all : Logged log log' (grant_events net kinds s.book s.cleared (grant_at n rq logged.place)) = added_all _ log log' logged.added in
+    record {
+      turn = entered net kinds s id (grant_at n rq made.place) (granted_text id made.place.v);
+      is_turn = inl (record { place = made.place; placed = made.placed; is_turn = refl });
+      logged = subst (λ (p : Place). Logged log log' (grant_events net kinds s.book s.cleared (grant_at n rq p))) same all;
+      replied = ap (granted_text id) (sym made.address);
+      left = ap (λ (b : List Grant). record { book = b; cleared = false; ids = with_id s.ids id }) (sym made.appended) ∙ left;
+    }
+
+-- a grant at which the device failed
+pub grant_stopped : (kinds : List Meaning) (net : List NodeDecl) (s next : State) (id : List ℕ) (rq : Request) (r : Result (List ℕ) Halt) (log log' : Option (List TableEvent)) → r ≡ Err DeviceFault → IsGrantLogged net kinds s.book s.cleared (id_number s.ids id) rq true log log' → CameThroughChange (IsGrantTurn kinds net s id rq) r next log log'
+grant_stopped kinds net s next id rq r log log' e logged =
+    stopped_inside (IsGrantTurn kinds net s id rq) (entered net kinds s id (grant_at (id_number s.ids id) rq logged.place) (granted_text id logged.place.v)) r next log log' e (inl (record { place = logged.place; placed = logged.placed; is_turn = refl })) logged.added
+
+-- a grant that was refused
+pub not_granted_turn : (kinds : List Meaning) (net : List NodeDecl) (s next : State) (id : List ℕ) (rq : Request) (why : GrantFault) (log log' : Option (List TableEvent)) → IsGrantRefused net s.book (id_number s.ids id) rq why → log' ≡ log → named s id ≡ next → IsChanged (IsGrantTurn kinds net s id rq) next (grant_refused_text id why) log log'
+not_granted_turn kinds net s next id rq why log log' refused same left = record {
+  turn = answered (grant_refused_text id why) (named s id);
+  is_turn = inr (record { why = why; refused = refused; is_turn = refl });
+  logged = Logged-none log log' same;
+  replied = refl;
+  left = left;
+}
+
+-- routes
+
+-- of two vectors that are the least none is less
+not_less : (net : List NodeDecl) (book : List Grant) (n agent line node v w : ℕ) (p q : Place) → IsPlacedRoute net book n agent line node v p → IsPlacedRoute net book n agent line node w q → v < w → ⊥
+not_less net book n agent line node v w p q a b l = b.placed.least v l a.placed.free p a.placed.first.suited
+
+same_vector : (net : List NodeDecl) (book : List Grant) (n agent line node v w : ℕ) (p q : Place) → IsPlacedRoute net book n agent line node v p → IsPlacedRoute net book n agent line node w q → v ≡ w
+same_vector net book n agent line node v w p q a b = by (grind arith)
+  where
+    by : (v < w) ⊎ ((w < v) ⊎ (v ≡ w)) → v ≡ w
+    by (inl l) = absurd (not_less net book n agent line node v w p q a b l)
+    by (inr (inl l)) = absurd (not_less net book n agent line node w v q p b a l)
+    by (inr (inr e)) = e
+
+same_place : (net : List NodeDecl) (book : List Grant) (n agent line node v w : ℕ) (p q : Place) → IsPlacedRoute net book n agent line node v p → IsPlacedRoute net book n agent line node w q → v ≡ w → p ≡ q
+same_place net book n agent line node v w p q a b e =
+    let c : IsPlacedRoute net book n agent line node w p = subst (λ u. IsPlacedRoute net book n agent line node u p) e a in
+    first_is_one net (slots_of net book) (vector_request agent node w) (Some line) p q c.placed.first b.placed.first
+
+-- a route that was made
+pub routed_turn : (kinds : List Meaning) (net : List NodeDecl) (s next : State) (id : List ℕ) (agent line node v : ℕ) (book' : List Grant) (log log' : Option (List TableEvent)) → IsRouteMade net s.book (id_number s.ids id) agent line node v book' → IsRouteLogged net kinds s.book s.cleared (id_number s.ids id) agent line node false log log' → record { book = book'; cleared = false; ids = with_id s.ids id } ≡ next → IsChanged (IsRouteTurn kinds net s id agent line node) next (routed_text id v) log log'
+routed_turn kinds net s next id agent line node v book' log log' made logged left =
+    let n : ℕ = id_number s.ids id in
+    let vector : logged.vector ≡ v = same_vector net s.book n agent line node logged.vector v logged.place made.place logged.placed made.placed in
+    let place : logged.place ≡ made.place = same_place net s.book n agent line node logged.vector v logged.place made.place logged.placed made.placed vector in
+    let all : Logged log log' (grant_events net kinds s.book s.cleared (route_at n agent node logged.vector logged.place)) = added_all _ log log' logged.added in
+    let one : Logged log log' (grant_events net kinds s.book s.cleared (route_at n agent node v logged.place)) = subst (λ u. Logged log log' (grant_events net kinds s.book s.cleared (route_at n agent node u logged.place))) vector all in
+    record {
+      turn = entered net kinds s id (route_at n agent node v made.place) (routed_text id v);
+      is_turn = inl (record { vector = v; place = made.place; placed = made.placed; is_turn = refl });
+      logged = subst (λ (p : Place). Logged log log' (grant_events net kinds s.book s.cleared (route_at n agent node v p))) place one;
+      replied = refl;
+      left = ap (λ (b : List Grant). record { book = b; cleared = false; ids = with_id s.ids id }) (sym made.appended) ∙ left;
+    }
+
+-- a route at which the device failed
+pub route_stopped : (kinds : List Meaning) (net : List NodeDecl) (s next : State) (id : List ℕ) (agent line node : ℕ) (r : Result (List ℕ) Halt) (log log' : Option (List TableEvent)) → r ≡ Err DeviceFault → IsRouteLogged net kinds s.book s.cleared (id_number s.ids id) agent line node true log log' → CameThroughChange (IsRouteTurn kinds net s id agent line node) r next log log'
+route_stopped kinds net s next id agent line node r log log' e logged =
+    stopped_inside (IsRouteTurn kinds net s id agent line node) (entered net kinds s id (route_at (id_number s.ids id) agent node logged.vector logged.place) (routed_text id logged.vector)) r next log log' e (inl (record { vector = logged.vector; place = logged.place; placed = logged.placed; is_turn = refl })) logged.added
+
+-- a route that was refused
+pub not_routed_turn : (kinds : List Meaning) (net : List NodeDecl) (s next : State) (id : List ℕ) (agent line node : ℕ) (why : RouteFault) (log log' : Option (List TableEvent)) → IsRouteRefused net s.book (id_number s.ids id) agent line node why → log' ≡ log → named s id ≡ next → IsChanged (IsRouteTurn kinds net s id agent line node) next (route_refused_text id why) log log'
+not_routed_turn kinds net s next id agent line node why log log' refused same left = record {
+  turn = answered (route_refused_text id why) (named s id);
+  is_turn = inr (record { why = why; refused = refused; is_turn = refl });
+  logged = Logged-none log log' same;
+  replied = refl;
+  left = left;
+}
+
+-- revokes
+
+-- a live grant of an id
+pub lives : (id : ℕ) (book : List Grant) → has_id id book ≡ true → (g : Grant) × Member g book × (g.id ≡ id)
+lives id [] e = cc
+lives id (g ∷ gs) e = by (g.id == id) refl e (lives id gs)
+  where
+    by : (b : Bool) → (g.id == id) ≡ b → (b || has_id id gs) ≡ true → (has_id id gs ≡ true → (h : Grant) × Member h gs × (h.id ≡ id)) → (h : Grant) × Member h (g ∷ gs) × (h.id ≡ id)
+    by true is f later = (g, inl refl, eqb-true g.id id is)
+    by false is f later = let h = later f in (h.0, inr h.1, h.2)
+
+-- a grant that was taken out
+pub revoked_turn : (kinds : List Meaning) (net : List NodeDecl) (s next : State) (id : List ℕ) (book' : List Grant) (log log' : Option (List TableEvent)) → has_id (id_number s.ids id) s.book ≡ true → ((g : Grant) → Member g s.book → g.id ≡ id_number s.ids id → AreAdded (revoke_events net kinds s.book g) false log log') → book' ≡ without (id_number s.ids id) s.book → record { book = book'; cleared = true; ids = with_id s.ids id } ≡ next → IsChanged (IsRevokeTurn kinds net s id) next (revoked_text id) log log'
+revoked_turn kinds net s next id book' log log' has added is left =
+    let g = lives (id_number s.ids id) s.book has in
+    record {
+      turn = record { events = revoke_events net kinds s.book g.0; reply = revoked_text id; next = record { book = without (id_number s.ids id) s.book; cleared = true; ids = with_id s.ids id } };
+      is_turn = inl (record { grant = g.0; lives = g.1; has = g.2; is_turn = refl });
+      logged = added_all _ log log' (added g.0 g.1 g.2);
+      replied = refl;
+      left = ap (λ (b : List Grant). record { book = b; cleared = true; ids = with_id s.ids id }) (sym is) ∙ left;
+    }
+
+-- a revoke at which the device failed
+pub revoke_stopped : (kinds : List Meaning) (net : List NodeDecl) (s next : State) (id : List ℕ) (r : Result (List ℕ) Halt) (log log' : Option (List TableEvent)) → r ≡ Err DeviceFault → has_id (id_number s.ids id) s.book ≡ true → ((g : Grant) → Member g s.book → g.id ≡ id_number s.ids id → AreAdded (revoke_events net kinds s.book g) true log log') → CameThroughChange (IsRevokeTurn kinds net s id) r next log log'
+revoke_stopped kinds net s next id r log log' e has added =
+    let g = lives (id_number s.ids id) s.book has in
+    stopped_inside (IsRevokeTurn kinds net s id) (record { events = revoke_events net kinds s.book g.0; reply = revoked_text id; next = record { book = without (id_number s.ids id) s.book; cleared = true; ids = with_id s.ids id } }) r next log log' e (inl (record { grant = g.0; lives = g.1; has = g.2; is_turn = refl })) (added g.0 g.1 g.2)
+
+-- a revoke that was refused
+pub not_revoked_turn : (kinds : List Meaning) (net : List NodeDecl) (s next : State) (id : List ℕ) (log log' : Option (List TableEvent)) → has_id (id_number s.ids id) s.book ≡ false → log' ≡ log → named s id ≡ next → IsChanged (IsRevokeTurn kinds net s id) next (revoke_refused_text id) log log'
+not_revoked_turn kinds net s next id log log' none same left = record {
+  turn = answered (revoke_refused_text id) (named s id);
+  is_turn = inr (record { none = none; is_turn = refl });
+  logged = Logged-none log log' same;
+  replied = refl;
+  left = left;
+}
+
+-- replies
+
+-- the reply was written, or a part of it
+pub replied : (P : Turn → Type 0) (r : Result (Unit {0}) Halt) (next : State) (reply : List ℕ) (a b : Option (List ℕ)) (log log' : Option (List TableEvent)) → IsChanged P next reply log log' → IsWritten a b (is_ok r) (is_write_halt r) reply → is_device_halt r ≡ false → CameThrough P r next a b log log'
+replied P (Ok u) next reply a b log log' c w none = record {
+  turn = c.turn;
+  is_turn = c.is_turn;
+  logged = c.logged;
+  written = subst (λ l. Added a b l) (sym c.replied) (w.whole refl);
+  left = c.left;
+}
+replied P (Err h) next reply a b log log' c w none = inr (record { turn = c.turn; is_turn = c.is_turn; came = by h w none })
+  where
+    came : (status bytes : ℕ) → status ≢ 6 → (status ≡ 3 → bytes < length reply) → Added a b (take bytes reply) → CameIn c.turn status a b log log'
+    came status bytes not_device less added = record {
+      events = length c.turn.events;
+      bytes = bytes;
+      logged = subst (λ es. Logged log log' es) (sym (take-length c.turn.events)) c.logged;
+      written = subst (λ l. Added a b (take bytes l)) (sym c.replied) added;
+      in_order = λ l. absurd (omega (arith, l));
+      sink = λ e. subst (λ (l : List ℕ). bytes < length l) (sym c.replied) (less e);
+      device = λ e. absurd (not_device e);
+      between = λ _. refl;
+    }
+
+    by : (k : Halt) → IsWritten a b false (is_write_halt {A = Unit {0}} (Err k)) reply → is_device_halt {A = Unit {0}} (Err k) ≡ false → CameIn c.turn (ending_status (Err k)) a b log log'
+    by WriteFault v n = let less = v.less refl in came 3 less.0 (λ e. absurd (omega (arith, e))) (λ _. less.1) less.2
+    by DeviceFault v n = absurd (cc)
+    by NoMemory v n = came 7 v.front.0 (λ e. absurd (omega (arith, e))) (λ e. absurd (omega (arith, e))) v.front.1
+
+-- states
+
+-- the state that a change leaves, of its parts
+pub state_left : (k : Kept) (book : BookState) (ids : List (List ℕ)) (cleared : Bool) → k.book ≡ book → k.ids ≡ ids → book.cleared ≡ cleared → record { book = book.grants; cleared = cleared; ids = ids } ≡ state_view k
+state_left k book ids cleared b i e =
+    ap (λ (x : Bool). record { book = book.grants; cleared = x; ids = ids }) (sym e)
+    ∙ ap (λ (x : List (List ℕ)). record { book = book.grants; cleared = book.cleared; ids = x }) (sym i)
+    ∙ ap (λ (x : BookState). record { book = x.grants; cleared = x.cleared; ids = k.ids }) (sym b)
+
+-- the state that a refusal leaves
+pub state_named : (k : Kept) (s : State) (id : List ℕ) (book : BookState) → k.book ≡ book → s.book ≡ book.grants → s.cleared ≡ book.cleared → k.ids ≡ with_id s.ids id → named s id ≡ state_view k
+state_named k s id book b g e i =
+    ap (λ (x : List Grant). record { book = x; cleared = s.cleared; ids = with_id s.ids id }) g
+    ∙ ap (λ (x : Bool). record { book = book.grants; cleared = x; ids = with_id s.ids id }) e
+    ∙ ap (λ (x : List (List ℕ)). record { book = book.grants; cleared = book.cleared; ids = x }) (sym i)
+    ∙ ap (λ (x : BookState). record { book = x.grants; cleared = x.cleared; ids = k.ids }) (sym b)
+
+-- what is kept of a state where the book and the image are as they were
+pub state_same : (kinds : List Meaning) (net : List NodeDecl) (k k' : Kept) → IsState kinds net k → k'.book ≡ k.book → k'.image ≡ k.image → IfSome k'.flats (AreFlats net) → IsState kinds net k'
+state_same kinds net k k' s b i f = record {
+  sound = subst (λ (x : BookState). x.sound ≡ true) (sym b) s.sound;
+  faithful = subst (λ (x : BookState). IsFaithful net x.grants) (sym b) s.faithful;
+  kept = subst (λ (x : BookState). IsKept net kinds x.grants x.set) (sym b) s.kept;
+  filled = subst (λ (x : BookState). IsTrue (are_filled kinds net (words_of x.set))) (sym b) s.filled;
+  bytes = subst (λ (o : Option (List ℕ)). IfSome o (λ bytes. bytes ≡ image net kinds (words_of k'.book.set))) (sym i) (subst (λ (x : BookState). IfSome k.image (λ bytes. bytes ≡ image net kinds (words_of x.set))) (sym b) s.bytes);
+  flat = f;
+}
+
+-- the sort of a turn
+
+-- a command that changes nothing has a turn of this sort
+pub still_turn : (kinds : List Meaning) (net : List NodeDecl) (s : State) (c : Command) → is_change c ≡ false → IsTurn kinds net s c (answered (reply kinds net s.book c) s)
+still_turn kinds net s (Resolve target a m) e = refl
+still_turn kinds net s (Lookup target a m) e = refl
+still_turn kinds net s (View target m) e = refl
+still_turn kinds net s Dump e = refl
+still_turn kinds net s Split e = refl
+still_turn kinds net s (Absorb target) e = refl
+still_turn kinds net s (GrantOf id from target base size m) e = cc
+still_turn kinds net s (Route id from line target) e = cc
+still_turn kinds net s (Revoke id) e = cc
+
+-- its reply was written, or a part of it, and the state stays
+pub still_through : (kinds : List Meaning) (net : List NodeDecl) (s next : State) (c : Command) (r : Result (Unit {0}) Halt) (a b : Option (List ℕ)) (log : Option (List TableEvent)) → is_change c ≡ false → s ≡ next → IsWritten a b (is_ok r) (is_write_halt r) (reply kinds net s.book c) → is_device_halt r ≡ false → CameThrough (IsTurn kinds net s c) r next a b log log
+still_through kinds net s next c r a b log e same w none =
+    replied (IsTurn kinds net s c) r next (reply kinds net s.book c) a b log log (record {
+      turn = answered (reply kinds net s.book c) s;
+      is_turn = still_turn kinds net s c e;
+      logged = Logged-none log log refl;
+      replied = refl;
+      left = same;
+    }) w none
+
+-- a change that halted wrote nothing
+pub change_halted : (P : Turn → Type 0) (r : Result (List ℕ) Halt) (h : Halt) (r' : Result (Unit {0}) Halt) (next : State) (told : Option (List ℕ)) (log log' : Option (List TableEvent)) → r ≡ Err h → r' ≡ Err h → CameThroughChange P r next log log' → CameThrough P r' next told told log log'
+change_halted P r h r' next told log log' e f c =
+    let halted : (told : Option (List ℕ)) → IsHalted P h told told log log' = subst (λ (q : Result (List ℕ) Halt). CameThroughChange P q next log log') e c in
+    subst (λ (q : Result (Unit {0}) Halt). CameThrough P q next told told log log') (sym f) (halted told)
+
+-- an id of which it is not said that no grant has it
+pub lives_by : (b : Bool) → (b ≡ false → ⊥) → b ≡ true
+lives_by true f = refl
+lives_by false f = absurd (f refl)
+
+-- a state of which the book and the ids are as they were
+pub state_kept : (k k' : Kept) → k'.book ≡ k.book → k'.ids ≡ k.ids → state_view k ≡ state_view k'
+state_kept k k' b i =
+    ap (λ (x : BookState). record { book = x.grants; cleared = x.cleared; ids = k.ids }) (sym b)
+    ∙ ap (λ (x : List (List ℕ)). record { book = k'.book.grants; cleared = k'.book.cleared; ids = x }) (sym i)
+
+-- what holds at all holds where there is an answer
+pub on_ok : {A E : Type 0} (r : Result A E) (P : Type 0) → P → OnOk r P
+on_ok (Ok a) P p = p
+on_ok (Err e) P p = tt

@@ -1,0 +1,76 @@
+-- The rows of what a node's addresses come to under records, and that they are those of what is owed.
+use Rattle.std.proofs.Common.{◌≡◌, ◌∙◌, ap, sym, refl, arith, ℕ, zero, suc, ◌<◌, ◌↔◌, inl, inr, Bool, true, List, [], ◌∷◌, map, length, slice_get, IsTrue}
+use Rattle.dn_interval.specs.declared.row.End.{End}
+use Rattle.dn_interval.specs.declared.row.Row.{Row}
+use Rattle.dn_interval.specs.Rows.{Member as EndIn, AllAbove, Ascending, AreNormal}
+use Rattle.dn_interval.specs.Listed.{listed_rows, seen_by}
+use Rattle.dn_interval.proofs.Listing.{normal_are_listed}
+use Rattle.dn_net.specs.declared.node.Name.{Name}
+use Rattle.dn_net.specs.declared.node.NodeDecl.{NodeDecl}
+use Rattle.dn_net.specs.Chain.{Member}
+use Rattle.dn_net.specs.Decode.{is_accepted, is_agent_at}
+use Rattle.dn_net.specs.Names.{name_lt, is_before_first, is_ascending}
+use Rattle.dn_net.proofs.Ascending.{end_names_ascend, before_members}
+use Rattle.dn_net.proofs.Least.{both_true}
+use Rattle.dn_net.proofs.Resolution.{end_names_are_ends}
+use Rattle.dn_kind.specs.declared.rights.Access.{Access}
+use Rattle.dn_kind.specs.Tables.{Held, allowing, record_allowing, resolved_names_under, step_limit_under, steps_under}
+use Rattle.dn_flat.specs.Views.{name_of_end, end_of}
+use Rattle.dn_view.specs.Views.{ResolvesFromUnder}
+use Rattle.dn_book.specs.declared.grant.Grant.{Grant}
+use Rattle.dn_book.specs.Book.{IsFaithful, owed_names, records_of}
+use Rattle.dn_book.proofs.Owed.{owed_names_are_resolved}
+use Rattle.dn_tool.specs.Viewed.{owed_rows}
+
+-- a name stands in a list exactly where its end stands in the list of their ends
+end_in : (xs : List Name) (y : End) → EndIn y (map end_of xs) ↔ Member (name_of_end y) xs
+end_in [] y = ((λ m. m), (λ m. m))
+end_in (x ∷ xs) y =
+    let later = end_in xs y in (
+      (λ m. elim m [ inl e ↦ inl (ap name_of_end e) | inr n ↦ inr (later.0 n) ]),
+      (λ m. elim m [ inl e ↦ inl (ap end_of e) | inr n ↦ inr (later.1 n) ]),
+    )
+
+all_above : (x : Name) (xs : List Name) → ((z : Name) → Member z xs → name_lt x z ≡ true) → AllAbove (end_of x) (map end_of xs)
+all_above x [] before = tt
+all_above x (y ∷ ys) before = (before y (inl refl), all_above x ys (λ z m. before z (inr m)))
+
+ends_ascend : (xs : List Name) → is_ascending xs ≡ true → Ascending (map end_of xs)
+ends_ascend [] up = tt
+ends_ascend (x ∷ xs) up = (all_above x xs (λ z m. before_members x z xs up m), ends_ascend xs (both_true (is_before_first x xs) (is_ascending xs) up).1)
+
+-- the ends that an address of a node comes to
+abbrev ends_at : List NodeDecl → Held → ℕ → ℕ → List End
+ends_at net h n a = map end_of (resolved_names_under net h (record { node = n; addr = a }))
+
+resolves_end : (net : List NodeDecl) (h : Held) (n a : ℕ) (y : End) → EndIn y (ends_at net h n a) ↔ ResolvesFromUnder net h n a y
+resolves_end net h n a y =
+    let x : Name = record { node = n; addr = a } in
+    let in_list = end_in (resolved_names_under net h x) y in
+    let law = end_names_are_ends (steps_under net h) (is_accepted net) step_limit_under x (name_of_end y) in
+    ((λ m. law.0 (in_list.0 m)), (λ r. in_list.1 (law.1 r)))
+
+rows_listed : (net : List NodeDecl) (h : Held) (n : ℕ) (rows : List Row) → AreNormal (ResolvesFromUnder net h n) rows → map seen_by rows ≡ listed_rows (ends_at net h n)
+rows_listed net h n rows normal =
+    normal_are_listed (ends_at net h n) (λ a. ends_ascend (resolved_names_under net h (record { node = n; addr = a })) (end_names_ascend (steps_under net h) (is_accepted net) step_limit_under (record { node = n; addr = a }))) rows (record {
+      apart = normal.apart;
+      exact = λ a y l. ((λ m. (normal.exact a y l).0 ((resolves_end net h n a y).0 m)), (λ g. (resolves_end net h n a y).1 ((normal.exact a y l).1 g)));
+    })
+
+-- the records of a book for an access
+pub held_same : (net : List NodeDecl) (book : List Grant) (access : Access) (h : Held) → ((node slot : ℕ) → h node slot ≡ records_of net book node slot) → ◌≡◌ {A = Held} (allowing access h) (allowing access (records_of net book))
+held_same net book access h same = λ i node slot. ap (record_allowing access) (same node slot) i
+
+-- rows that are normal under the records of a faithful book are the rows of what it owes to an agent
+pub rows_are_owed : (net : List NodeDecl) (book : List Grant) (access : Access) (n : ℕ) (h : Held) (rows : List Row) → IsFaithful net book → IsTrue (is_agent_at (slice_get net n)) → ((node slot : ℕ) → h node slot ≡ records_of net book node slot) → AreNormal (ResolvesFromUnder net (allowing access h) n) rows → map seen_by rows ≡ owed_rows net book access n
+rows_are_owed net book access n h rows faithful agent same normal =
+    let owed : ◌≡◌ {A = ℕ → List End} (ends_at net (allowing access (records_of net book)) n) (λ a. map end_of (owed_names net book access (record { node = n; addr = a }))) = (λ i a. ap (map end_of) (sym (owed_names_are_resolved net book faithful access (record { node = n; addr = a }) agent)) i) in
+    rows_listed net (allowing access h) n rows normal
+    ∙ ap (λ (k : Held). listed_rows (ends_at net k n)) (held_same net book access h same)
+    ∙ ap listed_rows owed
+
+-- an agent is there
+pub agent_there : (net : List NodeDecl) (n : ℕ) → IsTrue (is_agent_at (slice_get net n)) → n < length net
+agent_there [] n e = cc
+agent_there (d ∷ ds) zero e = omega arith
+agent_there (d ∷ ds) (suc n) e = let later = agent_there ds n e in omega (arith, later)

@@ -1,0 +1,84 @@
+-- What the code keeps of a script: the book with its tables, the ids, and what is made of them once.
+use Rattle.std.specs.Prelude.{◌≡◌, ◌⊎◌, ℕ, true, List, Option, Result, Ok, Err, IsTrue}
+use Rattle.std.specs.Option.{IfSome}
+use Rattle.dn_base.specs.declared.device.TableEvent.{TableEvent}
+use Rattle.dn_base.specs.Device.{Logged}
+use Rattle.dn_base.specs.Outside.{Added}
+use Rattle.dn_net.specs.declared.node.NodeDecl.{NodeDecl}
+use Rattle.dn_kind.specs.Kind.{Meaning}
+use Rattle.dn_flat.specs.Stages.{AreFlats}
+use Rattle.dn_tables.specs.Set.{words_of}
+use Rattle.dn_image.specs.Image.{are_filled, image}
+use Rattle.dn_book.specs.Book.{IsFaithful}
+use Rattle.dn_book.specs.Tables.{IsKept}
+use Rattle.dn_tool.specs.declared.halt.Halt.{Halt}
+use Rattle.dn_tool.specs.declared.halt.Halt.TheVariants.{WriteFault, DeviceFault, NoMemory}
+use Rattle.dn_tool.specs.declared.state.State.{State as Kept}
+use Rattle.dn_tool.specs.Halt.{ending_status}
+use Rattle.dn_tool.specs.Played.{CameIn}
+use Rattle.dn_tool.specs.Turn.{State, Turn}
+
+-- the state of the script
+abbrev pub state_view : Kept → State
+state_view k = record { book = k.book.grants; cleared = k.book.cleared; ids = k.ids }
+
+-- no call of the device failed, the book is faithful and the tables keep it in words of 64 bits, the
+-- bytes are the image of the tables, and the views are those of the net, where they were made
+pub record IsState (kinds : List Meaning) (net : List NodeDecl) (k : Kept) : Type 0 where
+  pub sound : k.book.sound ≡ true
+  pub faithful : IsFaithful net k.book.grants
+  pub kept : IsKept net kinds k.book.grants k.book.set
+  pub filled : IsTrue (are_filled kinds net (words_of k.book.set))
+  pub bytes : IfSome k.image (λ bytes. bytes ≡ image net kinds (words_of k.book.set))
+  pub flat : IfSome k.flats (AreFlats net)
+
+-- a turn of this sort was gone through whole
+pub record IsTurned (P : Turn → Type 0) (next : State) (before after : Option (List ℕ))
+    (log log' : Option (List TableEvent)) : Type 0 where
+  pub turn : Turn
+  pub is_turn : P turn
+  pub logged : Logged log log' turn.events
+  pub written : Added before after turn.reply
+  pub left : turn.next ≡ next
+
+-- a run with this status stopped inside a turn of this sort
+pub record IsInside (P : Turn → Type 0) (status : ℕ) (before after : Option (List ℕ))
+    (log log' : Option (List TableEvent)) : Type 0 where
+  pub turn : Turn
+  pub is_turn : P turn
+  pub came : CameIn turn status before after log log'
+
+-- for want of memory nothing was done and nothing written
+pub record IsBefore (halt : Halt) (before after : Option (List ℕ)) (log log' : Option (List TableEvent))
+    : Type 0 where
+  pub memory : halt ≡ NoMemory
+  pub log_is : log' ≡ log
+  pub sink_is : after ≡ before
+
+-- a halt came inside a turn of this sort, or before it
+abbrev pub IsHalted : (Turn → Type 0) → Halt → Option (List ℕ) → Option (List ℕ) →
+    Option (List TableEvent) → Option (List TableEvent) → Type 0
+IsHalted P h before after log log' =
+    IsBefore h before after log log' ⊎ IsInside P (ending_status (Err h)) before after log log'
+
+-- how far a command came whose turns are of this sort
+abbrev pub CameThrough : {A : Type 0} → (Turn → Type 0) → Result A Halt → State → Option (List ℕ) →
+    Option (List ℕ) → Option (List TableEvent) → Option (List TableEvent) → Type 0
+CameThrough P (Ok a) next before after log log' = IsTurned P next before after log log'
+CameThrough P (Err h) next before after log log' = IsHalted P h before after log log'
+
+-- the events of a turn of this sort were added: its reply is to be written still
+pub record IsChanged (P : Turn → Type 0) (next : State) (reply : List ℕ)
+    (log log' : Option (List TableEvent)) : Type 0 where
+  pub turn : Turn
+  pub is_turn : P turn
+  pub logged : Logged log log' turn.events
+  pub replied : turn.reply ≡ reply
+  pub left : turn.next ≡ next
+
+-- how far a change came whose turns are of this sort, whatever was written before
+abbrev pub CameThroughChange : (Turn → Type 0) → Result (List ℕ) Halt → State →
+    Option (List TableEvent) → Option (List TableEvent) → Type 0
+CameThroughChange P (Ok reply) next log log' = IsChanged P next reply log log'
+CameThroughChange P (Err h) next log log' =
+    (told : Option (List ℕ)) → IsHalted P h told told log log'

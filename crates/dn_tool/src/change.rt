@@ -1,0 +1,318 @@
+//! The commands that change the book: grants, routes and revokes.
+
+ghost use Rattle.std.specs.Prelude.{◌≡◌, ◌≢◌, None, true, false, map, IfOk, IsTrue, OnOk};
+ghost use Rattle.std.specs.List.{All};
+ghost use Rattle.dn_base.specs.Outside.{IsCounted};
+ghost use Rattle.dn_kind.specs.Kind.{IsLawful};
+ghost use Rattle.dn_kind.specs.Units.{IsLegalWith, shape_fault};
+ghost use Rattle.dn_kind.specs.Rights.{are_rights};
+ghost use Rattle.dn_tables.specs.Set.{IsOnDevice};
+ghost use Rattle.dn_walk.specs.Rows.{AreWalksOf};
+ghost use Rattle.dn_tool.specs.Changed.{grant_refused_text, granted_text, refused_text, revoked_text, route_refused_text, routed_text};
+ghost use Rattle.dn_tool.specs.Halt.{is_device_halt, is_write_halt};
+ghost use Rattle.dn_tool.specs.State.{CameThroughChange, IsState, state_view};
+ghost use Rattle.dn_tool.specs.Turn.{IsGrantTurn, IsRevokeTurn, IsRouteTurn, IsTurn, is_change, number_or_none, request_of, rights_of};
+ghost use Rattle.dn_grant.specs.declared.fault.GrantFault.TheVariants.{Device as grant_device, OutOfMemory as grant_memory};
+ghost use Rattle.dn_vector.specs.declared.fault.RouteFault.TheVariants.{Device as route_device, OutOfMemory as route_memory};
+
+use crate::compile::Platform;
+use crate::halt::Halt;
+use crate::state::{State, keep_flats, renew};
+use dn_base::device::Tables;
+use dn_base::items::Items;
+use dn_book::book::RevokeFault;
+use dn_grant::fault::GrantFault;
+use dn_grant::grant::grant;
+use dn_kind::kinds::Kinds;
+use dn_kind::rights::Rights;
+use dn_module::command::{Command, Target};
+use dn_net::net::Net;
+use dn_parse::syntax::Mode;
+use dn_placement::request::Request;
+use dn_vector::fault::RouteFault;
+use dn_vector::route::route;
+use dn_walk::walks::WalkTable;
+use std::alloc::{AllocError, Global};
+
+/// Does a command that changes the book, and answers its reply. All memory of the change is taken before
+/// the first call of the device.
+pub(crate) fn change<D: Tables>(
+    alloc: Global,
+    kinds: &Kinds,
+    platform: &Platform,
+    state: &mut State,
+    command: &Command,
+    device: &mut D,
+) -> Result<Items<u8>, Halt>
+    requires lawful { All (λ k. IsLawful (meaning (k.vtable, k.value))) kinds.now.list.items }
+    requires shaped { shape_fault (map (λ k. meaning (k.vtable, k.value)) kinds.now.list.items) platform.now.net
+        ≡ None }
+    requires state { IsState (map (λ k. meaning (k.vtable, k.value)) kinds.now.list.items)
+        platform.now.net state.old }
+    requires on_device { IsOnDevice state.old.book.set (D.units device.old) (D.words device.old) }
+    requires change { is_change command.now ≡ true }
+    ensures changed { CameThroughChange
+        (IsTurn (map (λ k. meaning (k.vtable, k.value)) kinds.now.list.items) platform.now.net
+        (state_view state.old) command.now)
+        result (state_view state.new) (D.log device.old) (D.log device.new) }
+    ensures state { OnOk result (IsState (map (λ k. meaning (k.vtable, k.value)) kinds.now.list.items)
+        platform.now.net state.new) }
+    ensures on_device { OnOk result
+        (IsOnDevice state.new.book.set (D.units device.new) (D.words device.new)) }
+    ensures no_write { is_write_halt result ≡ false }
+    ensures counted { IsCounted (D.faults device.old) (D.faults device.new) (is_device_halt result) }
+{
+    platform.facts();
+    let net = &platform.net;
+    let walks = &platform.walks;
+    match command {
+        Command::Grant(id, from, target, base, size, mode) => {
+            let request = request_of(from, target, *base, *size, *mode);
+            grant_change(alloc, kinds, net, walks, state, id.as_str(), &request, device)
+        }
+        Command::Route(id, from, line, target) => {
+            let agent = number_or_none(from.node);
+            let node = number_or_none(target.node);
+            route_change(alloc, kinds, net, walks, state, id.as_str(), agent, *line, node, device)
+        }
+        Command::Revoke(id) => {
+            revoke_change(alloc, kinds, net, state, id.as_str(), device)
+        }
+        _ => unreachable!(),
+    }
+}
+
+/// The number of a node that a command names, or one that no node has.
+fn number_or_none(node: Option<u16>) -> u16
+    ensures { result ≡ number_or_none node }
+{
+    node.unwrap_or(65_535)
+}
+
+/// The rights that a grant asks for: both, where it says none.
+fn rights_of(mode: Mode) -> Rights
+    ensures value { result ≡ rights_of mode }
+    ensures rights { IsTrue (are_rights result) }
+{
+    match mode {
+        Mode::Unsaid => Rights::both(),
+        Mode::Read => Rights::READ,
+        Mode::Write => Rights::WRITE,
+    }
+}
+
+/// What a grant asks for.
+fn request_of(from: &Target, target: &Target, base: u64, size: u64, mode: Mode) -> Request
+    ensures value { result ≡ request_of from.now target.now base size mode }
+    ensures rights { IsTrue (are_rights result.rights) }
+{
+    Request {
+        agent: number_or_none(from.node),
+        node: number_or_none(target.node),
+        base,
+        size,
+        rights: rights_of(mode),
+    }
+}
+
+/// Grants a request at the first admissible placement, or refuses it.
+fn grant_change<D: Tables>(
+    alloc: Global,
+    kinds: &Kinds,
+    net: &Net,
+    walks: &WalkTable,
+    state: &mut State,
+    id: &str,
+    request: &Request,
+    device: &mut D,
+) -> Result<Items<u8>, Halt>
+    requires lawful { All (λ k. IsLawful (meaning (k.vtable, k.value))) kinds.now.list.items }
+    requires legal { IsLegalWith (map (λ k. meaning (k.vtable, k.value)) kinds.now.list.items) net.now }
+    requires walked { AreWalksOf net.now walks.now }
+    requires state { IsState (map (λ k. meaning (k.vtable, k.value)) kinds.now.list.items)
+        net.now state.old }
+    requires on_device { IsOnDevice state.old.book.set (D.units device.old) (D.words device.old) }
+    requires rights { IsTrue (are_rights request.now.rights) }
+    ensures changed { CameThroughChange
+        (IsGrantTurn (map (λ k. meaning (k.vtable, k.value)) kinds.now.list.items) net.now
+        (state_view state.old) id.now request.now)
+        result (state_view state.new) (D.log device.old) (D.log device.new) }
+    ensures state { OnOk result (IsState (map (λ k. meaning (k.vtable, k.value)) kinds.now.list.items)
+        net.now state.new) }
+    ensures on_device { OnOk result
+        (IsOnDevice state.new.book.set (D.units device.new) (D.words device.new)) }
+    ensures no_write { is_write_halt result ≡ false }
+    ensures counted { IsCounted (D.faults device.old) (D.faults device.new) (is_device_halt result) }
+{
+    let number = state.ids.number(alloc, id)?;
+    keep_flats(alloc, net, walks, &mut state.flats)?;
+    let Some(flats) = &state.flats else {
+        unreachable!()
+    };
+    match grant(alloc, &mut state.book, net, flats, kinds, number, request, device) {
+        Ok(v) => {
+            renew(net, kinds, state);
+            Ok(granted(alloc, id, v)?)
+        }
+        Err(GrantFault::Device) => Err(Halt::DeviceFault),
+        Err(GrantFault::OutOfMemory) => Err(Halt::NoMemory),
+        Err(why) => Ok(grant_refused(alloc, id, why)?),
+    }
+}
+
+/// Routes a line to the least free vector that has an admissible placement there, or refuses it.
+fn route_change<D: Tables>(
+    alloc: Global,
+    kinds: &Kinds,
+    net: &Net,
+    walks: &WalkTable,
+    state: &mut State,
+    id: &str,
+    agent: u16,
+    line: u64,
+    node: u16,
+    device: &mut D,
+) -> Result<Items<u8>, Halt>
+    requires lawful { All (λ k. IsLawful (meaning (k.vtable, k.value))) kinds.now.list.items }
+    requires legal { IsLegalWith (map (λ k. meaning (k.vtable, k.value)) kinds.now.list.items) net.now }
+    requires walked { AreWalksOf net.now walks.now }
+    requires state { IsState (map (λ k. meaning (k.vtable, k.value)) kinds.now.list.items)
+        net.now state.old }
+    requires on_device { IsOnDevice state.old.book.set (D.units device.old) (D.words device.old) }
+    ensures changed { CameThroughChange
+        (IsRouteTurn (map (λ k. meaning (k.vtable, k.value)) kinds.now.list.items) net.now
+        (state_view state.old) id.now agent line node)
+        result (state_view state.new) (D.log device.old) (D.log device.new) }
+    ensures state { OnOk result (IsState (map (λ k. meaning (k.vtable, k.value)) kinds.now.list.items)
+        net.now state.new) }
+    ensures on_device { OnOk result
+        (IsOnDevice state.new.book.set (D.units device.new) (D.words device.new)) }
+    ensures no_write { is_write_halt result ≡ false }
+    ensures counted { IsCounted (D.faults device.old) (D.faults device.new) (is_device_halt result) }
+{
+    let number = state.ids.number(alloc, id)?;
+    keep_flats(alloc, net, walks, &mut state.flats)?;
+    let Some(flats) = &state.flats else {
+        unreachable!()
+    };
+    match route(alloc, &mut state.book, net, flats, kinds, number, agent, line, node, device) {
+        Ok(vector) => {
+            renew(net, kinds, state);
+            Ok(routed(alloc, id, vector)?)
+        }
+        Err(RouteFault::Device) => Err(Halt::DeviceFault),
+        Err(RouteFault::OutOfMemory) => Err(Halt::NoMemory),
+        Err(why) => Ok(route_refused(alloc, id, why)?),
+    }
+}
+
+/// Takes the grant of an id out of the book, where it lives.
+fn revoke_change<D: Tables>(
+    alloc: Global,
+    kinds: &Kinds,
+    net: &Net,
+    state: &mut State,
+    id: &str,
+    device: &mut D,
+) -> Result<Items<u8>, Halt>
+    requires lawful { All (λ k. IsLawful (meaning (k.vtable, k.value))) kinds.now.list.items }
+    requires legal { IsLegalWith (map (λ k. meaning (k.vtable, k.value)) kinds.now.list.items) net.now }
+    requires state { IsState (map (λ k. meaning (k.vtable, k.value)) kinds.now.list.items)
+        net.now state.old }
+    requires on_device { IsOnDevice state.old.book.set (D.units device.old) (D.words device.old) }
+    ensures changed { CameThroughChange
+        (IsRevokeTurn (map (λ k. meaning (k.vtable, k.value)) kinds.now.list.items) net.now
+        (state_view state.old) id.now)
+        result (state_view state.new) (D.log device.old) (D.log device.new) }
+    ensures state { OnOk result (IsState (map (λ k. meaning (k.vtable, k.value)) kinds.now.list.items)
+        net.now state.new) }
+    ensures on_device { OnOk result
+        (IsOnDevice state.new.book.set (D.units device.new) (D.words device.new)) }
+    ensures no_write { is_write_halt result ≡ false }
+    ensures counted { IsCounted (D.faults device.old) (D.faults device.new) (is_device_halt result) }
+{
+    let number = state.ids.number(alloc, id)?;
+    match state.book.revoke(net, kinds, number, device) {
+        Ok(()) => {
+            renew(net, kinds, state);
+            Ok(revoked(alloc, id)?)
+        }
+        Err(RevokeFault::NoGrant) => Ok(refused(alloc, id, "NoGrant")?),
+        Err(RevokeFault::Device) => Err(Halt::DeviceFault),
+    }
+}
+
+/// The reply to a grant.
+fn granted(alloc: Global, id: &str, v: u64) -> Result<Items<u8>, AllocError>
+    ensures { IfOk result (λ text. text ≡ granted_text id.now v) }
+{
+    let text = format!(in alloc; "{id} at 0x{v:x}\n")?;
+    Ok(Items::from_vec(text.into_bytes()))
+}
+
+/// The reply to a route.
+fn routed(alloc: Global, id: &str, vector: u64) -> Result<Items<u8>, AllocError>
+    ensures { IfOk result (λ text. text ≡ routed_text id.now vector) }
+{
+    let text = format!(in alloc; "{id} vector 0x{vector:x}\n")?;
+    Ok(Items::from_vec(text.into_bytes()))
+}
+
+/// The reply to a revoke.
+fn revoked(alloc: Global, id: &str) -> Result<Items<u8>, AllocError>
+    ensures { IfOk result (λ text. text ≡ revoked_text id.now) }
+{
+    let text = format!(in alloc; "{id} revoked\n")?;
+    Ok(Items::from_vec(text.into_bytes()))
+}
+
+/// The reply that names an id and a fault.
+fn refused(alloc: Global, id: &str, fault: &str) -> Result<Items<u8>, AllocError>
+    ensures { IfOk result (λ text. text ≡ refused_text id.now fault.now) }
+{
+    let text = format!(in alloc; "{id} refused: {fault}\n")?;
+    Ok(Items::from_vec(text.into_bytes()))
+}
+
+/// The reply to a grant that is refused.
+fn grant_refused(alloc: Global, id: &str, why: GrantFault) -> Result<Items<u8>, AllocError>
+    requires device { why ≢ grant_device }
+    requires memory { why ≢ grant_memory }
+    ensures { IfOk result (λ text. text ≡ grant_refused_text id.now why) }
+{
+    match why {
+        GrantFault::IdUsed => refused(alloc, id, "IdUsed"),
+        GrantFault::NoAgent => refused(alloc, id, "NoAgent"),
+        GrantFault::NoTarget => refused(alloc, id, "NoTarget"),
+        GrantFault::NotAccepted { first } => not_accepted(alloc, id, first),
+        GrantFault::BookFull => refused(alloc, id, "BookFull"),
+        GrantFault::NoPlacement => refused(alloc, id, "NoPlacement"),
+        GrantFault::Device => unreachable!(),
+        GrantFault::OutOfMemory => unreachable!(),
+    }
+}
+
+/// The reply to a grant of a buffer of which an address is not accepted.
+fn not_accepted(alloc: Global, id: &str, first: u64) -> Result<Items<u8>, AllocError>
+    ensures { IfOk result (λ text. text ≡ grant_refused_text id.now (GrantFault.NotAccepted first)) }
+{
+    let fault = format!(in alloc; "NotAccepted 0x{first:x}")?;
+    refused(alloc, id, fault.as_str())
+}
+
+/// The reply to a route that is refused.
+fn route_refused(alloc: Global, id: &str, why: RouteFault) -> Result<Items<u8>, AllocError>
+    requires device { why ≢ route_device }
+    requires memory { why ≢ route_memory }
+    ensures { IfOk result (λ text. text ≡ route_refused_text id.now why) }
+{
+    match why {
+        RouteFault::IdUsed => refused(alloc, id, "IdUsed"),
+        RouteFault::NoAgent => refused(alloc, id, "NoAgent"),
+        RouteFault::NoTarget => refused(alloc, id, "NoTarget"),
+        RouteFault::BookFull => refused(alloc, id, "BookFull"),
+        RouteFault::NoPlacement => refused(alloc, id, "NoPlacement"),
+        RouteFault::Device => unreachable!(),
+        RouteFault::OutOfMemory => unreachable!(),
+    }
+}

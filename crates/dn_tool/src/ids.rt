@@ -1,0 +1,74 @@
+//! The ids of grants, with their numbers.
+
+ghost use Rattle.std.specs.Prelude.{◌≡◌, [], length, position, IfOk, OnOk};
+ghost use Rattle.std.specs.Str.{bytes_eq};
+ghost use Rattle.dn_tool.specs.Ids.{id_number, with_id};
+
+use indexmap::IndexSet;
+use std::alloc::{AllocError, Global};
+use std::marker::Model;
+
+/// Different ids, numbered from 0 in the order in which they came, at most 4,294,967,295. Contracts
+/// see the list of their bytes.
+#[derive(Drop)]
+pub struct Ids {
+    ids: IndexSet<String>,
+}
+
+impl Model for Ids {
+    ghost use Rattle.std.specs.Prelude.{List, ℕ, map, length, ◌≤◌};
+    ghost use Rattle.std.specs.String.{string_bytes};
+
+    ghost Value = { List (List ℕ) };
+
+    ghost view = { λ n. map (λ s. string_bytes s) n.ids.keys };
+
+    ghost invariant = { λ n. length n.ids.keys ≤ 4294967295 };
+}
+
+impl Ids {
+    /// No ids. It takes no memory.
+    pub fn new(alloc: Global) -> Ids
+        ensures { result ≡ [] }
+    {
+        Ids {
+            ids: IndexSet::new(alloc),
+        }
+    }
+
+    /// The number of an id, which is the next one where it did not come before. `Err` is want of memory,
+    /// or of numbers.
+    pub fn number(&mut self, alloc: Global, id: &str) -> Result<u32, AllocError>
+        ensures number { IfOk result (λ n. n ≡ id_number self.old id.now) }
+        ensures ids { OnOk result (self.new ≡ with_id self.old id.now) }
+    {
+        match self.find(id) {
+            Some(number) => Ok(number),
+            None => self.add(alloc, id),
+        }
+    }
+
+    /// The number of an id. `None` exactly where it did not come before.
+    fn find(&self, id: &str) -> Option<u32>
+        ensures { result ≡ position (bytes_eq id.now) self.now }
+    {
+        match self.ids.get_index_of(id) {
+            Some(number) => Some(number as u32),
+            None => None,
+        }
+    }
+
+    /// Adds an id, which gets the next number where it did not come before.
+    fn add(&mut self, alloc: Global, id: &str) -> Result<u32, AllocError>
+        ensures number { IfOk result (λ n. n ≡ length self.old) }
+        ensures ids { OnOk result (self.new ≡ with_id self.old id.now) }
+    {
+        let number = self.ids.len();
+        if number >= 4_294_967_295 {
+            return Err(AllocError);
+        }
+        let name = String::from_str(alloc, id)?;
+        let _is_new = self.ids.insert(name)?;
+        Ok(number as u32)
+    }
+}
