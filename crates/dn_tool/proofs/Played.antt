@@ -144,20 +144,22 @@ turn_last (u ∷ us) t = turn_last us t
 -- the run stopped between two turns, or came to the end
 pub came_whole : (ts : List Turn) (status : ℕ) (a b : Option (List ℕ)) (log log' : Option (List TableEvent)) → status ≢ 3 → status ≢ 6 → Added a b (replies_of ts) → Logged log log' (events_of ts) → (c : CameTo ts status a b log log') × (c.whole ≡ length ts)
 came_whole ts status a b log log' not_sink not_device w l =
-    let all : take (length ts) ts ≡ ts = take-length ts in
-    (record {
-      whole = length ts;
-      events = 0;
-      bytes = 0;
-      logged = subst (λ es. Logged log log' es) (sym (append-nil (events_of (take (length ts) ts)) ∙ ap events_of all)) l;
-      written = subst (λ r. Added a b r) (sym (append-nil (replies_of (take (length ts) ts)) ∙ ap replies_of all)) w;
-      last = omega arith;
-      in_order = λ _. refl;
-      done = λ _. refl;
-      sink = λ e. absurd (not_sink e);
-      device = λ e. absurd (not_device e);
-      between = λ _ _. sym (ap (λ (t : Turn). length t.events) (turn_past ts));
-    }, refl)
+    let all : take (length ts) ts ≡ ts = take-length ts in (
+      record {
+        whole = length ts;
+        events = 0;
+        bytes = 0;
+        logged = subst (λ es. Logged log log' es) (sym (append-nil (events_of (take (length ts) ts)) ∙ ap events_of all)) l;
+        written = subst (λ r. Added a b r) (sym (append-nil (replies_of (take (length ts) ts)) ∙ ap replies_of all)) w;
+        last = omega arith;
+        in_order = λ _. refl;
+        done = λ _. refl;
+        sink = λ e. absurd (not_sink e);
+        device = λ e. absurd (not_device e);
+        between = λ _ _. sym (ap (λ (t : Turn). length t.events) (turn_past ts));
+      },
+      refl,
+    )
 
 -- the run stopped in a turn
 pub came_in : (ts : List Turn) (t : Turn) (status : ℕ) (a b d : Option (List ℕ)) (log log' log'' : Option (List TableEvent)) → status ≢ 0 → Added a b (replies_of ts) → Logged log log' (events_of ts) → CameIn t status b d log' log'' → (c : CameTo (ts ++ t ∷ []) status a d log log'') × (c.whole ≡ length ts)
@@ -171,20 +173,22 @@ came_in ts t status a b d log log' log'' going w l c =
     ∙ ap (λ (u : Turn). events_of ts ++ take c.events u.events) here in
     let rs : replies_of (take (length ts) all) ++ take c.bytes (turn_at all (length ts)).reply ≡ replies_of ts ++ take c.bytes t.reply =
     ap (λ (us : List Turn). replies_of us ++ take c.bytes (turn_at all (length ts)).reply) front
-    ∙ ap (λ (u : Turn). replies_of ts ++ take c.bytes u.reply) here in
-    (record {
-      whole = length ts;
-      events = c.events;
-      bytes = c.bytes;
-      logged = subst (λ x. Logged log log'' x) (sym es) (Logged-then log log' log'' _ _ l c.logged);
-      written = subst (λ x. Added a d x) (sym rs) (Added-then a b d _ _ w c.written);
-      last = omega (arith, size);
-      in_order = λ less. c.in_order (subst (λ (u : Turn). c.events < length u.events) here less);
-      done = λ e. absurd (going e);
-      sink = λ e. subst (λ (u : Turn). c.bytes < length u.reply) (sym here) (c.sink e);
-      device = λ e. subst (λ (u : Turn). c.events < length u.events) (sym here) (c.device e);
-      between = λ _ e. subst (λ (u : Turn). c.events ≡ length u.events) (sym here) (c.between e);
-    }, refl)
+    ∙ ap (λ (u : Turn). replies_of ts ++ take c.bytes u.reply) here in (
+      record {
+        whole = length ts;
+        events = c.events;
+        bytes = c.bytes;
+        logged = subst (λ x. Logged log log'' x) (sym es) (Logged-then log log' log'' _ _ l c.logged);
+        written = subst (λ x. Added a d x) (sym rs) (Added-then a b d _ _ w c.written);
+        last = omega (arith, size);
+        in_order = λ less. c.in_order (subst (λ (u : Turn). c.events < length u.events) here less);
+        done = λ e. absurd (going e);
+        sink = λ e. subst (λ (u : Turn). c.bytes < length u.reply) (sym here) (c.sink e);
+        device = λ e. subst (λ (u : Turn). c.events < length u.events) (sym here) (c.device e);
+        between = λ _ e. subst (λ (u : Turn). c.events ≡ length u.events) (sym here) (c.between e);
+      },
+      refl,
+    )
 
 -- the run over a script
 
@@ -277,8 +281,8 @@ played_in kinds net commands i status s c t a b d log log' log'' told' within at
       happened = h.1;
       came = stop.0;
       books = λ count l. (let e = stop.1 in
-        let few : count ≤ length g.turns = omega (arith, l, e) in
-        subst (λ (ts : List Turn). GivesOwed kinds net (state_after start ts).book) (sym (take-append-le count g.turns (t ∷ []) few)) (g.books count few));
+          let few : count ≤ length g.turns = omega (arith, l, e) in
+          subst (λ (ts : List Turn). GivesOwed kinds net (state_after start ts).book) (sym (take-append-le count g.turns (t ∷ []) few)) (g.books count few));
       exact = not_exact status free;
       all = λ e. absurd (going e);
       tables = λ e. absurd (going e);
