@@ -1,6 +1,5 @@
 -- How far a run comes over a script, turn by turn.
-use Rattle.std.proofs.Common.{◌≡◌, ◌≢◌, ◌∙◌, ap, sym, subst, refl, arith, ℕ, zero, suc, ◌+◌, ◌<◌, ◌≤◌, ◌⊎◌, inl, inr, Bool, true, false, List, [], ◌∷◌, ◌++◌, map, take, drop, length, get_or, Option, Some, None, Result, Ok, Err, is_ok, append_assoc, append-nil, length-append}
-use Rattle.std.specs.List.{flat_map}
+use Rattle.std.proofs.Common.{◌≡◌, ◌≢◌, ◌∙◌, ap, sym, subst, refl, arith, ℕ, zero, suc, ◌+◌, ◌<◌, ◌≤◌, ◌⊎◌, inl, inr, Bool, true, false, List, [], ◌∷◌, ◌++◌, map, take, length, get_or, Option, Result, Err, is_ok, append-nil, length-append}
 use Rattle.std.specs.Option.{IfSome}
 use Rattle.std.proofs.lemmas.List.{take_more, take-append-le, length-map, length-take-le, take_at}
 use Rattle.std.proofs.lemmas.Grind.{flat_map-append}
@@ -10,16 +9,16 @@ use Rattle.dn_base.specs.declared.device.UnitWords.{UnitWords}
 use Rattle.dn_base.specs.declared.device.MakeFault.{MakeFault}
 use Rattle.dn_base.specs.declared.device.MakeFault.TheVariants.{Device, OutOfMemory}
 use Rattle.dn_base.specs.Device.{Logged, UnitSize, is_make_fault}
-use Rattle.dn_base.specs.Outside.{Added, IsWritten}
-use Rattle.dn_base.proofs.Lists.{drop_at, take_past}
-use Rattle.dn_base.proofs.Logs.{Logged-none, Logged-then}
+use Rattle.dn_base.specs.Outside.{Added}
+use Rattle.dn_base.proofs.Lists.{take_past}
+use Rattle.dn_base.proofs.Logs.{Logged-then}
 use Rattle.dn_base.proofs.Orders.{cases_lt}
 use Rattle.dn_base.proofs.Told.{Added-none, Added-then}
 use Rattle.dn_net.specs.declared.node.NodeDecl.{NodeDecl}
 use Rattle.dn_net.specs.declared.node.Unit.{Unit as UnitPart}
 use Rattle.dn_kind.specs.Kind.{Meaning}
 use Rattle.dn_tables.specs.declared.table.NodeTable.{NodeTable}
-use Rattle.dn_tables.specs.Set.{FitsNet, IsOnDevice, fresh_set, table_on_device, tables_from, tables_of_set, units_of, words_of}
+use Rattle.dn_tables.specs.Set.{fresh_set, table_on_device, tables_from, tables_of_set, units_of, words_of}
 use Rattle.dn_tables.specs.Writes.{AreUnitsMade, make_event}
 use Rattle.dn_tables.proofs.Fresh.{fresh_units}
 use Rattle.dn_book.specs.Tables.{tables_of}
@@ -27,7 +26,7 @@ use Rattle.dn_module.specs.declared.command.Command.{Command}
 use Rattle.dn_tool.specs.declared.halt.Halt.{Halt}
 use Rattle.dn_tool.specs.declared.halt.Halt.TheVariants.{WriteFault, DeviceFault, NoMemory}
 use Rattle.dn_tool.specs.Books.{GivesOwed}
-use Rattle.dn_tool.specs.Halt.{ending_status, is_device_halt, is_free, is_write_halt, make_halt}
+use Rattle.dn_tool.specs.Halt.{ending_status, is_free, make_halt}
 use Rattle.dn_tool.specs.Played.{CameIn, CameTo, IsPlayed, device_tables, making, turn_at}
 use Rattle.dn_tool.specs.State.{CameThrough, IsHalted}
 use Rattle.dn_tool.specs.Turn.{AreTurns, IsTurn, State, Turn, answered, events_of, replies_of, start, state_after}

@@ -95,7 +95,7 @@ pub(crate) fn change<D: Tables>(
                 device,
             )
         }
-        Command::Revoke(id) => { revoke_change(alloc, kinds, net, state, id.as_str(), device) }
+        Command::Revoke(id) => revoke_change(alloc, kinds, net, state, id.as_str(), device),
         _ => unreachable!(),
     }
 }

@@ -169,7 +169,7 @@ fn resolved_text(
         resolved_text platform.now.net book.now.grants access node addr) }
 {
     match node {
-        Some(node) => { node_names(alloc, kinds, platform, book, access, Name { node, addr }) }
+        Some(node) => node_names(alloc, kinds, platform, book, access, Name { node, addr }),
         None => String::from_str(alloc, "no such node"),
     }
 }
