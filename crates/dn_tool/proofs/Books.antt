@@ -1,5 +1,5 @@
 -- The books of a script stay sound and faithful, turn by turn.
-use Rattle.std.proofs.Common.{◌≡◌, sym, subst, refl, ℕ, zero, suc, ◌⊎◌, inl, inr, List, [], ◌∷◌, ◌++◌, take, IsTrue}
+use Rattle.std.proofs.Common.{◌≡◌, sym, subst, refl, ℕ, zero, suc, inl, inr, List, [], ◌∷◌, ◌++◌, take, IsTrue}
 use Rattle.dn_net.specs.declared.node.NodeDecl.{NodeDecl}
 use Rattle.dn_net.specs.Legal.{IsLegalNet}
 use Rattle.dn_parse.specs.declared.syntax.Mode.{Mode}

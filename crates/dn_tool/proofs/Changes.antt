@@ -1,6 +1,6 @@
 -- From what grants, routes and revokes say to the turns of a script.
 use Rattle.std.specs.Option.{IfSome}
-use Rattle.std.proofs.Common.{◌≡◌, ◌≢◌, ◌∙◌, ap, sym, subst, refl, arith, ℕ, ◌<◌, ◌≤◌, ◌⊎◌, inl, inr, Bool, true, false, List, [], ◌∷◌, ◌++◌, take, length, Option, Some, None, Result, Ok, Err, is_ok, IsTrue, OnOk, ◌==◌, ◌||◌, eqb-true}
+use Rattle.std.proofs.Common.{◌≡◌, ◌≢◌, ◌∙◌, ap, sym, subst, refl, arith, ℕ, ◌<◌, ◌⊎◌, inl, inr, Bool, true, false, List, [], ◌∷◌, take, length, Option, Some, None, Result, Ok, Err, is_ok, IsTrue, OnOk, ◌==◌, ◌||◌, eqb-true}
 use Rattle.std.proofs.Math.Seq.{take-length}
 use Rattle.dn_base.specs.declared.device.TableEvent.{TableEvent}
 use Rattle.dn_base.specs.Device.{Logged}
@@ -36,8 +36,8 @@ use Rattle.dn_tool.specs.Changed.{grant_refused_text, granted_text, revoke_refus
 use Rattle.dn_tool.specs.Halt.{ending_status, is_device_halt, is_write_halt}
 use Rattle.dn_tool.specs.Ids.{id_number, with_id}
 use Rattle.dn_tool.specs.Played.{CameIn}
-use Rattle.dn_tool.specs.State.{CameThrough, CameThroughChange, IsBefore, IsChanged, IsHalted, IsInside, IsState, IsTurned, state_view}
-use Rattle.dn_tool.specs.Turn.{IsGrantTurn, IsGranted, IsNotGranted, IsNotRevoked, IsNotRouted, IsRevokeTurn, IsRevoked, IsRouteTurn, IsRouted, IsTurn, State, Turn, answered, entered, is_change, named, reply}
+use Rattle.dn_tool.specs.State.{CameThrough, CameThroughChange, IsChanged, IsHalted, IsState, state_view}
+use Rattle.dn_tool.specs.Turn.{IsGrantTurn, IsRevokeTurn, IsRouteTurn, IsTurn, State, Turn, answered, entered, is_change, named, reply}
 
 -- all events were added
 added_all : (events : List TableEvent) (log log' : Option (List TableEvent)) → AreAdded events false log log' → Logged log log' events

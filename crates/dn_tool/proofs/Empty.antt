@@ -1,29 +1,12 @@
 -- The tables of the empty book: all words are 0.
-use Rattle.std.proofs.Common.{◌≡◌, ◌∙◌, ap, sym, subst, refl, arith, ℕ, zero, suc, ◌+◌, ◌-◌, ◌*◌, ◌/◌, ◌^◌, ◌<◌, ◌≤◌, ◌↔◌, Bool, true, false, if◌then◌else◌, ◌&&◌, ◌==◌, nat_le, nat_lt, List, [], ◌∷◌, ◌++◌, map, take, drop, length, replicate, slice_get, Option, Some, None, option_map, is_some, IsTrue, append-nil, ltb-true, suc-mul, mul-le-mul_right, eq-eqb, ◌%◌}
-use Rattle.std.specs.List.{All, list_all}
-use Rattle.std.proofs.lemmas.List.{take-replicate, drop-replicate, length-replicate}
-use Rattle.dn_net.specs.declared.node.Name.{Name}
+use Rattle.std.proofs.Common.{◌≡◌, ◌∙◌, ap, sym, refl, arith, ℕ, zero, suc, ◌+◌, ◌*◌, List, [], ◌∷◌, ◌++◌, replicate, slice_get, Option, Some, None, suc-mul}
 use Rattle.dn_net.specs.declared.node.NodeDecl.{NodeDecl}
 use Rattle.dn_net.specs.declared.node.Unit.{Unit as UnitPart}
-use Rattle.dn_net.specs.Chain.{Member, Ends}
-use Rattle.dn_net.specs.Decode.{decode, is_accepted, is_formed, sent_names, step_limit, steps, top, unit_at, unit_of}
-use Rattle.dn_net.specs.Legal.{IsLegalNet}
-use Rattle.dn_net.specs.Names.{end_names, resolved_names, sorted_names}
-use Rattle.dn_net.proofs.Ascending.{end_names_ascend, sorted_ascending}
-use Rattle.dn_net.proofs.Resolution.{end_names_are_ends, names_in}
-use Rattle.dn_net.proofs.Steps.{node_at, unit_is_bare}
-use Rattle.dn_net.proofs.Stops.{shallow_reach}
-use Rattle.dn_net.proofs.Least.{true_both}
-use Rattle.dn_kind.specs.declared.rights.Access.{Access}
-use Rattle.dn_kind.specs.declared.unit_kind.Record.{Record}
-use Rattle.dn_kind.specs.Kind.{Meaning, IsLawful, gate_word}
-use Rattle.dn_kind.specs.Tables.{allowing, record_held, record_of_unit, record_spelled, record_within, resolved_names_under, slot_words, step_limit_under, steps_by_unit, steps_under}
-use Rattle.dn_kind.proofs.Held.{kind_lawful}
+use Rattle.dn_kind.specs.Kind.{Meaning}
 use Rattle.dn_tables.specs.Set.{fresh_by, fresh_set, width_by as width_in_set, words_of}
-use Rattle.dn_image.specs.Image.{are_filled, is_filled, width_by, width_of, word_count}
-use Rattle.dn_book.specs.Book.{owed_names, records_of}
+use Rattle.dn_image.specs.Image.{width_by, word_count}
+use Rattle.dn_book.specs.Book.{records_of}
 use Rattle.dn_book.specs.Tables.{packed_node, packed_nodes, packed_slots, packed_unit, tables_of}
-use Rattle.dn_tool.proofs.Sets.{ascending_same}
 
 -- words
 

@@ -1,6 +1,5 @@
 -- The status of an answer that was given whole, or of the halt before that.
-use Rattle.std.proofs.Common.{◌≡◌, ◌<◌, ◌⊎◌, inl, inr, ◌∙◌, ap, sym, subst, refl, ℕ, ◌==◌, ◌||◌, Bool, true, false, not, List, Option, Result, Ok, Err, IfOk, is_ok, arith}
-use Rattle.std.proofs.lemmas.Bool.{or_parts}
+use Rattle.std.proofs.Common.{◌≡◌, ◌<◌, ◌⊎◌, inl, inr, ◌∙◌, ap, sym, subst, refl, ℕ, ◌==◌, Bool, false, not, List, Option, Result, Ok, Err, IfOk, is_ok, arith}
 use Rattle.dn_base.specs.Outside.{Faults, IsCounted, IsWritten}
 use Rattle.dn_tool.specs.declared.halt.Halt.{Halt}
 use Rattle.dn_tool.specs.declared.halt.Halt.TheVariants.{WriteFault, DeviceFault, NoMemory}

@@ -1,5 +1,5 @@
 -- A set of tables has the words of each node of its net.
-use Rattle.std.proofs.Common.{◌≡◌, ◌∙◌, ap, sym, subst, refl, arith, ℕ, zero, suc, ◌+◌, ◌*◌, ◌^◌, ◌<◌, ◌≤◌, Bool, true, false, ◌&&◌, ◌==◌, nat_le, nat_lt, List, [], ◌∷◌, map, length, slice_get, get_or, Option, Some, None, IsSome, is_some, IsTrue, eqb-true, eq-eqb, lt-ltb, ◌⊎◌, inl, inr}
+use Rattle.std.proofs.Common.{◌≡◌, ◌∙◌, ap, sym, subst, refl, arith, ℕ, zero, suc, ◌*◌, ◌^◌, ◌<◌, ◌≤◌, Bool, true, false, ◌==◌, nat_lt, List, [], ◌∷◌, map, length, slice_get, get_or, Option, Some, None, IsSome, is_some, IsTrue, eqb-true, eq-eqb, lt-ltb, ◌⊎◌, inl, inr}
 use Rattle.std.specs.List.{list_all}
 use Rattle.std.proofs.lemmas.Bool.{and_parts, cases_lt}
 use Rattle.std.proofs.lemmas.Option.{slice_get_past}
@@ -7,8 +7,7 @@ use Rattle.dn_net.specs.declared.node.NodeDecl.{NodeDecl}
 use Rattle.dn_net.specs.declared.node.Unit.{Unit as UnitPart}
 use Rattle.dn_net.specs.Decode.{unit_at, unit_of}
 use Rattle.dn_net.proofs.Least.{true_both}
-use Rattle.dn_kind.specs.Kind.{Meaning, is_plain}
-use Rattle.dn_kind.specs.Units.{unit_shape}
+use Rattle.dn_kind.specs.Kind.{Meaning}
 use Rattle.dn_tables.specs.declared.table.NodeTable.{NodeTable}
 use Rattle.dn_tables.specs.Set.{FitsNet, IsSet, fits_by, fits_kinds, is_sized, is_sized_by, is_wide, unit_in, units_of, words_in, words_of}
 use Rattle.dn_tables.proofs.Kept.{sized_unit}

@@ -1,5 +1,5 @@
 -- What is known of the book that is kept, for the calls that take it.
-use Rattle.std.proofs.Common.{◌≡◌, ◌∙◌, ap, subst, ℕ, List, Option, None, Ok, IsTrue, slice_get}
+use Rattle.std.proofs.Common.{◌≡◌, ◌∙◌, ap, subst, ℕ, List, None, Ok, IsTrue, slice_get}
 use Rattle.std.specs.List.{All}
 use Rattle.dn_net.specs.declared.node.Name.{Name}
 use Rattle.dn_net.specs.declared.node.NodeDecl.{NodeDecl}

@@ -1,13 +1,11 @@
 pub mod Exists
 pub mod Endings
 pub mod Inputs
-pub mod Levels
 pub mod NodeFaults
 pub mod Refusals
 pub mod Reshaped
 pub mod Shaped
 pub mod WalkFaults
-pub mod Sets
 pub mod Written
 pub mod Empty
 pub mod Played

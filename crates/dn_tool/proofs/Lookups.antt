@@ -1,9 +1,6 @@
 -- A lookup in the image of the tables of a sound and faithful book finds what the book owes.
-use Rattle.std.proofs.Common.{◌≡◌, ◌≢◌, ◌∙◌, ap, sym, refl, ℕ, Bool, true, false, if◌then◌else◌, List, [], slice_get, Option, Some, None, Result, Ok, Err, IfSome, is_ok, IsTrue}
+use Rattle.std.proofs.Common.{◌≡◌, ◌≢◌, ◌∙◌, ap, sym, refl, ℕ, Bool, true, if◌then◌else◌, List, Result, Ok, Err, IfSome, is_ok}
 use Rattle.dn_net.specs.declared.node.Name.{Name}
-use Rattle.dn_net.specs.declared.node.NodeDecl.{NodeDecl}
-use Rattle.dn_kind.specs.declared.rights.Access.{Access}
-use Rattle.dn_kind.specs.Kind.{Meaning}
 use Rattle.dn_kind.specs.Tables.{Held, record_held, resolved_names_under}
 use Rattle.dn_image.specs.declared.fault.ImageFault.{ImageFault}
 use Rattle.dn_image.specs.declared.fault.ImageFault.TheVariants.{Short, Header, Shape, Trailing, OutOfMemory as no_room}

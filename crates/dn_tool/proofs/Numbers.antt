@@ -1,10 +1,10 @@
 -- The numbers of ids.
-use Rattle.std.proofs.Common.{◌≡◌, ◌∙◌, ap, sym, refl, arith, ℕ, Bool, true, false, cond, if◌then◌else◌, List, [], ◌∷◌, ◌++◌, map, position, Option, Some, None, is_some}
+use Rattle.std.proofs.Common.{◌≡◌, ◌∙◌, ap, sym, refl, arith, ℕ, Bool, true, false, cond, if◌then◌else◌, List, [], ◌∷◌, ◌++◌, map, position, Some}
 use Rattle.std.specs.List.{list_any}
 use Rattle.std.specs.Str.{bytes_eq}
 use Rattle.std.proofs.lemmas.Grind.{common_steps}
-use Rattle.dn_base.proofs.Lists.{list_any-map, position-none, prefix_len-any}
-use Rattle.dn_tool.specs.Ids.{id_number, with_id}
+use Rattle.dn_base.proofs.Lists.{list_any-map, prefix_len-any}
+use Rattle.dn_tool.specs.Ids.{with_id}
 
 position-some : {X : Type 0} (p : X → Bool) (xs : List X) (n : ℕ) → position p xs ≡ Some n → list_any p xs ≡ true
 position-some p xs n e = let h = prefix_len-any p xs in grind (arith, common_steps, h)

@@ -1,6 +1,5 @@
 -- How far a run comes over a script, turn by turn.
-use Rattle.std.proofs.Common.{◌≡◌, ◌≢◌, ◌∙◌, ap, sym, subst, refl, arith, ℕ, zero, suc, ◌+◌, ◌<◌, ◌≤◌, ◌⊎◌, inl, inr, Bool, true, false, List, [], ◌∷◌, ◌++◌, map, take, drop, length, get_or, Option, Some, None, Result, Ok, Err, is_ok, append_assoc, append-nil, length-append}
-use Rattle.std.specs.List.{flat_map}
+use Rattle.std.proofs.Common.{◌≡◌, ◌≢◌, ◌∙◌, ap, sym, subst, refl, arith, ℕ, zero, suc, ◌+◌, ◌<◌, ◌≤◌, ◌⊎◌, inl, inr, Bool, true, false, List, [], ◌∷◌, ◌++◌, map, take, length, get_or, Option, Result, Err, is_ok, append-nil, length-append}
 use Rattle.std.specs.Option.{IfSome}
 use Rattle.std.proofs.lemmas.List.{take_more, take-append-le, length-map, length-take-le, take_at}
 use Rattle.std.proofs.lemmas.Grind.{flat_map-append}
@@ -10,16 +9,16 @@ use Rattle.dn_base.specs.declared.device.UnitWords.{UnitWords}
 use Rattle.dn_base.specs.declared.device.MakeFault.{MakeFault}
 use Rattle.dn_base.specs.declared.device.MakeFault.TheVariants.{Device, OutOfMemory}
 use Rattle.dn_base.specs.Device.{Logged, UnitSize, is_make_fault}
-use Rattle.dn_base.specs.Outside.{Added, IsWritten}
-use Rattle.dn_base.proofs.Lists.{drop_at, take_past}
-use Rattle.dn_base.proofs.Logs.{Logged-none, Logged-then}
+use Rattle.dn_base.specs.Outside.{Added}
+use Rattle.dn_base.proofs.Lists.{take_past}
+use Rattle.dn_base.proofs.Logs.{Logged-then}
 use Rattle.dn_base.proofs.Orders.{cases_lt}
 use Rattle.dn_base.proofs.Told.{Added-none, Added-then}
 use Rattle.dn_net.specs.declared.node.NodeDecl.{NodeDecl}
 use Rattle.dn_net.specs.declared.node.Unit.{Unit as UnitPart}
 use Rattle.dn_kind.specs.Kind.{Meaning}
 use Rattle.dn_tables.specs.declared.table.NodeTable.{NodeTable}
-use Rattle.dn_tables.specs.Set.{FitsNet, IsOnDevice, fresh_set, table_on_device, tables_from, tables_of_set, units_of, words_of}
+use Rattle.dn_tables.specs.Set.{fresh_set, table_on_device, tables_from, tables_of_set, units_of, words_of}
 use Rattle.dn_tables.specs.Writes.{AreUnitsMade, make_event}
 use Rattle.dn_tables.proofs.Fresh.{fresh_units}
 use Rattle.dn_book.specs.Tables.{tables_of}
@@ -27,7 +26,7 @@ use Rattle.dn_module.specs.declared.command.Command.{Command}
 use Rattle.dn_tool.specs.declared.halt.Halt.{Halt}
 use Rattle.dn_tool.specs.declared.halt.Halt.TheVariants.{WriteFault, DeviceFault, NoMemory}
 use Rattle.dn_tool.specs.Books.{GivesOwed}
-use Rattle.dn_tool.specs.Halt.{ending_status, is_device_halt, is_free, is_write_halt, make_halt}
+use Rattle.dn_tool.specs.Halt.{ending_status, is_free, make_halt}
 use Rattle.dn_tool.specs.Played.{CameIn, CameTo, IsPlayed, device_tables, making, turn_at}
 use Rattle.dn_tool.specs.State.{CameThrough, IsHalted}
 use Rattle.dn_tool.specs.Turn.{AreTurns, IsTurn, State, Turn, answered, events_of, replies_of, start, state_after}
@@ -144,20 +143,22 @@ turn_last (u ∷ us) t = turn_last us t
 -- the run stopped between two turns, or came to the end
 pub came_whole : (ts : List Turn) (status : ℕ) (a b : Option (List ℕ)) (log log' : Option (List TableEvent)) → status ≢ 3 → status ≢ 6 → Added a b (replies_of ts) → Logged log log' (events_of ts) → (c : CameTo ts status a b log log') × (c.whole ≡ length ts)
 came_whole ts status a b log log' not_sink not_device w l =
-    let all : take (length ts) ts ≡ ts = take-length ts in
-    (record {
-      whole = length ts;
-      events = 0;
-      bytes = 0;
-      logged = subst (λ es. Logged log log' es) (sym (append-nil (events_of (take (length ts) ts)) ∙ ap events_of all)) l;
-      written = subst (λ r. Added a b r) (sym (append-nil (replies_of (take (length ts) ts)) ∙ ap replies_of all)) w;
-      last = omega arith;
-      in_order = λ _. refl;
-      done = λ _. refl;
-      sink = λ e. absurd (not_sink e);
-      device = λ e. absurd (not_device e);
-      between = λ _ _. sym (ap (λ (t : Turn). length t.events) (turn_past ts));
-    }, refl)
+    let all : take (length ts) ts ≡ ts = take-length ts in (
+      record {
+        whole = length ts;
+        events = 0;
+        bytes = 0;
+        logged = subst (λ es. Logged log log' es) (sym (append-nil (events_of (take (length ts) ts)) ∙ ap events_of all)) l;
+        written = subst (λ r. Added a b r) (sym (append-nil (replies_of (take (length ts) ts)) ∙ ap replies_of all)) w;
+        last = omega arith;
+        in_order = λ _. refl;
+        done = λ _. refl;
+        sink = λ e. absurd (not_sink e);
+        device = λ e. absurd (not_device e);
+        between = λ _ _. sym (ap (λ (t : Turn). length t.events) (turn_past ts));
+      },
+      refl,
+    )
 
 -- the run stopped in a turn
 pub came_in : (ts : List Turn) (t : Turn) (status : ℕ) (a b d : Option (List ℕ)) (log log' log'' : Option (List TableEvent)) → status ≢ 0 → Added a b (replies_of ts) → Logged log log' (events_of ts) → CameIn t status b d log' log'' → (c : CameTo (ts ++ t ∷ []) status a d log log'') × (c.whole ≡ length ts)
@@ -171,20 +172,22 @@ came_in ts t status a b d log log' log'' going w l c =
     ∙ ap (λ (u : Turn). events_of ts ++ take c.events u.events) here in
     let rs : replies_of (take (length ts) all) ++ take c.bytes (turn_at all (length ts)).reply ≡ replies_of ts ++ take c.bytes t.reply =
     ap (λ (us : List Turn). replies_of us ++ take c.bytes (turn_at all (length ts)).reply) front
-    ∙ ap (λ (u : Turn). replies_of ts ++ take c.bytes u.reply) here in
-    (record {
-      whole = length ts;
-      events = c.events;
-      bytes = c.bytes;
-      logged = subst (λ x. Logged log log'' x) (sym es) (Logged-then log log' log'' _ _ l c.logged);
-      written = subst (λ x. Added a d x) (sym rs) (Added-then a b d _ _ w c.written);
-      last = omega (arith, size);
-      in_order = λ less. c.in_order (subst (λ (u : Turn). c.events < length u.events) here less);
-      done = λ e. absurd (going e);
-      sink = λ e. subst (λ (u : Turn). c.bytes < length u.reply) (sym here) (c.sink e);
-      device = λ e. subst (λ (u : Turn). c.events < length u.events) (sym here) (c.device e);
-      between = λ _ e. subst (λ (u : Turn). c.events ≡ length u.events) (sym here) (c.between e);
-    }, refl)
+    ∙ ap (λ (u : Turn). replies_of ts ++ take c.bytes u.reply) here in (
+      record {
+        whole = length ts;
+        events = c.events;
+        bytes = c.bytes;
+        logged = subst (λ x. Logged log log'' x) (sym es) (Logged-then log log' log'' _ _ l c.logged);
+        written = subst (λ x. Added a d x) (sym rs) (Added-then a b d _ _ w c.written);
+        last = omega (arith, size);
+        in_order = λ less. c.in_order (subst (λ (u : Turn). c.events < length u.events) here less);
+        done = λ e. absurd (going e);
+        sink = λ e. subst (λ (u : Turn). c.bytes < length u.reply) (sym here) (c.sink e);
+        device = λ e. subst (λ (u : Turn). c.events < length u.events) (sym here) (c.device e);
+        between = λ _ e. subst (λ (u : Turn). c.events ≡ length u.events) (sym here) (c.between e);
+      },
+      refl,
+    )
 
 -- the run over a script
 
@@ -277,8 +280,8 @@ played_in kinds net commands i status s c t a b d log log' log'' told' within at
       happened = h.1;
       came = stop.0;
       books = λ count l. (let e = stop.1 in
-        let few : count ≤ length g.turns = omega (arith, l, e) in
-        subst (λ (ts : List Turn). GivesOwed kinds net (state_after start ts).book) (sym (take-append-le count g.turns (t ∷ []) few)) (g.books count few));
+          let few : count ≤ length g.turns = omega (arith, l, e) in
+          subst (λ (ts : List Turn). GivesOwed kinds net (state_after start ts).book) (sym (take-append-le count g.turns (t ∷ []) few)) (g.books count few));
       exact = not_exact status free;
       all = λ e. absurd (going e);
       tables = λ e. absurd (going e);

@@ -1,15 +1,14 @@
 -- The kinds of the units of nets that are made are there where those of the net are.
-use Rattle.std.proofs.Common.{◌≡◌, sym, subst, refl, ℕ, suc, ◌+◌, Bool, true, false, if◌then◌else◌, List, [], ◌∷◌, length, slice_get, Option, Some, None, Result, Ok, Err, IsTrue}
+use Rattle.std.proofs.Common.{◌≡◌, subst, refl, ℕ, suc, ◌+◌, Bool, true, false, if◌then◌else◌, List, [], ◌∷◌, length, slice_get, Option, Some, None, Ok, IsTrue}
 use Rattle.std.specs.List.{list_all}
-use Rattle.dn_base.specs.Members.{Member}
 use Rattle.dn_net.specs.declared.node.NodeDecl.{NodeDecl}
 use Rattle.dn_net.proofs.Least.{true_both}
 use Rattle.dn_net.proofs.Places.{both}
 use Rattle.dn_kind.specs.Units.{has_kind}
 use Rattle.dn_shape.specs.declared.fault.Why.{Why}
 use Rattle.dn_shape.specs.Limits.{passed_limit, by_limit}
-use Rattle.dn_shape.specs.Split.{is_divided, new_nodes, sender_to, sending_node, sending_nodes, split_net, split_outcome}
-use Rattle.dn_shape.specs.Absorb.{Refusal, absorb_outcome, is_rewritten, net_past, net_unless, net_within, node_led_past, node_past, nodes_past, why_not_at}
+use Rattle.dn_shape.specs.Split.{is_divided, new_nodes, sender_to, sending_nodes, split_net, split_outcome}
+use Rattle.dn_shape.specs.Absorb.{absorb_outcome, is_rewritten, net_past, net_unless, net_within, node_led_past, nodes_past, why_not_at}
 use Rattle.dn_shape.proofs.Sending.{all_of_each, each_new, each_of_all}
 
 -- the kind of each unit is one of so many

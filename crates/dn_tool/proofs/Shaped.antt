@@ -1,12 +1,12 @@
 -- The unit that breaks the rule on shapes is there, and units that keep it have kinds that are there.
-use Rattle.std.proofs.Common.{◌≡◌, ◌∙◌, sym, subst, refl, arith, ℕ, zero, suc, ◌+◌, ◌<◌, Bool, true, false, if◌then◌else◌, ◌&&◌, nat_lt, List, [], ◌∷◌, length, slice_get, Option, IfSome, Some, None, IsTrue, lt-ltb}
+use Rattle.std.proofs.Common.{◌≡◌, refl, arith, ℕ, zero, suc, ◌+◌, ◌<◌, Bool, true, false, if◌then◌else◌, List, [], ◌∷◌, length, slice_get, Option, IfSome, Some, None, IsTrue, lt-ltb}
 use Rattle.std.proofs.lemmas.Bool.{and_parts}
 use Rattle.std.proofs.lemmas.Option.{none-some, same_Some}
 use Rattle.std.specs.List.{list_all}
 use Rattle.dn_net.specs.declared.node.NodeDecl.{NodeDecl}
 use Rattle.dn_net.specs.declared.node.Unit.{Unit as UnitPart}
 use Rattle.dn_kind.specs.Kind.{Meaning, is_plain}
-use Rattle.dn_kind.specs.Units.{fits_shape, has_kind, has_shape, is_shaped, shape_fault, shape_fault_from, unit_shape}
+use Rattle.dn_kind.specs.Units.{fits_shape, has_kind, has_shape, shape_fault, shape_fault_from, unit_shape}
 use Rattle.dn_net.proofs.Least.{true_both}
 
 -- a fault names one of the nodes

@@ -1,5 +1,5 @@
 -- The text of a view.
-use Rattle.std.proofs.Common.{◌≡◌, ◌∙◌, ap, sym, ℕ, List, [], ◌++◌, map, length, codes, append_assoc}
+use Rattle.std.proofs.Common.{◌≡◌, ◌∙◌, ap, ℕ, List, ◌++◌, length, codes, append_assoc}
 use Rattle.std.specs.Fmt.{decimal}
 use Rattle.dn_interval.specs.Listed.{Seen}
 use Rattle.dn_net.specs.declared.node.NodeDecl.{NodeDecl}

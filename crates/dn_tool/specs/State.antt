@@ -12,7 +12,7 @@ use Rattle.dn_image.specs.Image.{are_filled, image}
 use Rattle.dn_book.specs.Book.{IsFaithful}
 use Rattle.dn_book.specs.Tables.{IsKept}
 use Rattle.dn_tool.specs.declared.halt.Halt.{Halt}
-use Rattle.dn_tool.specs.declared.halt.Halt.TheVariants.{WriteFault, DeviceFault, NoMemory}
+use Rattle.dn_tool.specs.declared.halt.Halt.TheVariants.{NoMemory}
 use Rattle.dn_tool.specs.declared.state.State.{State as Kept}
 use Rattle.dn_tool.specs.Halt.{ending_status}
 use Rattle.dn_tool.specs.Played.{CameIn}

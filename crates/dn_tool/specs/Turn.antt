@@ -1,6 +1,6 @@
 -- The turns of a script: what each command does to the device, what it is answered by, and the state
 -- that it leaves.
-use Rattle.std.specs.Prelude.{◌≡◌, ℕ, ◌⊎◌, Bool, true, false, List, [], ◌∷◌, ◌++◌, codes, Option, Some, None}
+use Rattle.std.specs.Prelude.{◌≡◌, ℕ, ◌⊎◌, Bool, true, false, List, [], ◌∷◌, ◌++◌, Option, Some, None}
 use Rattle.std.specs.List.{flat_map}
 use Rattle.dn_base.specs.declared.device.TableEvent.{TableEvent}
 use Rattle.dn_net.specs.declared.node.NodeDecl.{NodeDecl}
@@ -25,7 +25,6 @@ use Rattle.dn_grant.specs.Grant.{IsGrantRefused, IsPlaced, grant_at}
 use Rattle.dn_vector.specs.declared.fault.RouteFault.{RouteFault}
 use Rattle.dn_vector.specs.Route.{IsPlacedRoute, IsRouteRefused, route_at}
 use Rattle.dn_print.specs.Dump.{dump_text}
-use Rattle.dn_print.specs.Names.{address_text}
 use Rattle.dn_tool.specs.Changed.{grant_refused_text, granted_text, revoke_refused_text, revoked_text, route_refused_text, routed_text}
 use Rattle.dn_tool.specs.Found.{resolve_text, lookup_text}
 use Rattle.dn_tool.specs.Ids.{id_number, with_id}

@@ -68,16 +68,34 @@ pub(crate) fn change<D: Tables>(
     match command {
         Command::Grant(id, from, target, base, size, mode) => {
             let request = request_of(from, target, *base, *size, *mode);
-            grant_change(alloc, kinds, net, walks, state, id.as_str(), &request, device)
+            grant_change(
+                alloc,
+                kinds,
+                net,
+                walks,
+                state,
+                id.as_str(),
+                &request,
+                device,
+            )
         }
         Command::Route(id, from, line, target) => {
             let agent = number_or_none(from.node);
             let node = number_or_none(target.node);
-            route_change(alloc, kinds, net, walks, state, id.as_str(), agent, *line, node, device)
+            route_change(
+                alloc,
+                kinds,
+                net,
+                walks,
+                state,
+                id.as_str(),
+                agent,
+                *line,
+                node,
+                device,
+            )
         }
-        Command::Revoke(id) => {
-            revoke_change(alloc, kinds, net, state, id.as_str(), device)
-        }
+        Command::Revoke(id) => revoke_change(alloc, kinds, net, state, id.as_str(), device),
         _ => unreachable!(),
     }
 }
@@ -149,7 +167,16 @@ fn grant_change<D: Tables>(
     let Some(flats) = &state.flats else {
         unreachable!()
     };
-    match grant(alloc, &mut state.book, net, flats, kinds, number, request, device) {
+    match grant(
+        alloc,
+        &mut state.book,
+        net,
+        flats,
+        kinds,
+        number,
+        request,
+        device,
+    ) {
         Ok(v) => {
             renew(net, kinds, state);
             Ok(granted(alloc, id, v)?)
@@ -195,7 +222,18 @@ fn route_change<D: Tables>(
     let Some(flats) = &state.flats else {
         unreachable!()
     };
-    match route(alloc, &mut state.book, net, flats, kinds, number, agent, line, node, device) {
+    match route(
+        alloc,
+        &mut state.book,
+        net,
+        flats,
+        kinds,
+        number,
+        agent,
+        line,
+        node,
+        device,
+    ) {
         Ok(vector) => {
             renew(net, kinds, state);
             Ok(routed(alloc, id, vector)?)

@@ -7,7 +7,6 @@ ghost use Rattle.dn_kind.specs.Kind.{IsLawful};
 ghost use Rattle.dn_kind.specs.Units.{has_kind, shape_fault};
 ghost use Rattle.dn_module.specs.Commands.{names_within};
 ghost use Rattle.dn_module.specs.Finish.{outcome_view};
-ghost use Rattle.dn_walk.specs.Rows.{AreWalksOf};
 ghost use Rattle.dn_tool.specs.Platform.{IsPlatform};
 ghost use Rattle.dn_base.specs.Answers.{Answers};
 ghost use Rattle.dn_module.specs.Expand.{Outcome};
@@ -16,7 +15,6 @@ ghost use Rattle.dn_tool.specs.Refused.{Refused};
 
 use crate::refusal;
 use crate::refusal::Refusal;
-use dn_flat::stage::Stage;
 use dn_kind::kinds::Kinds;
 use dn_kind::units;
 use dn_module::command::Commands;
@@ -38,18 +36,15 @@ pub enum CompileFault {
     OutOfMemory,
 }
 
-/// A compiled text: its net, the live walks of that net, the steps of its nodes, and its commands.
+/// A compiled text: its net, the live walks of that net, and its commands.
 ///
-/// The net is legal, the walks are its live walks, the steps are the net's stage for one step, and each node that a command
-/// names is there.
+/// The net is legal, the walks are its live walks, and each node that a command names is there.
 #[derive(Drop)]
 pub struct Platform {
     /// The net.
     pub net: Net,
     /// The live walks of the net.
     pub walks: WalkTable,
-    /// The stage of the net for one step.
-    pub steps: Stage,
     /// The commands, in order.
     pub commands: Commands,
 }
@@ -59,9 +54,9 @@ impl Model for Platform {
 
     ghost Value = { PlatformState };
 
-    ghost view = { λ p. record { net = p.net; walks = p.walks; steps = p.steps; commands = p.commands } };
+    ghost view = { λ p. record { net = p.net; walks = p.walks; commands = p.commands } };
 
-    ghost invariant = { λ p. IsPlatform (record { net = p.net; walks = p.walks; steps = p.steps; commands = p.commands }) };
+    ghost invariant = { λ p. IsPlatform (record { net = p.net; walks = p.walks; commands = p.commands }) };
 }
 
 impl Platform {
@@ -115,32 +110,12 @@ fn platform_of(alloc: Global, expanded: Expanded, kinds: &Kinds) -> Result<Platf
         return Err(fault_of(refusal::unit_refusal(alloc, &net, fault)));
     }
     match walks::walks(alloc, &net) {
-        Ok(walks) => with_steps(alloc, net, walks, commands),
-        Err(fault) => Err(fault_of(refusal::walk_refusal(alloc, &net, &fault))),
-    }
-}
-
-/// The platform of a legal net, with the steps of its nodes.
-fn with_steps(
-    alloc: Global,
-    net: Net,
-    walks: WalkTable,
-    commands: Commands,
-) -> Result<Platform, CompileFault>
-    requires walked { AreWalksOf net walks }
-    requires known { IsTrue (list_all (names_within (length net)) commands) }
-    ensures answer { Answers platform_view compile_fault_view result
-        (Ok (record { net = net; commands = commands })) }
-    ensures same { IfOk result (λ p. p.net ≡ net) }
-{
-    match Stage::start(alloc, &net) {
-        Ok(steps) => Ok(Platform {
+        Ok(walks) => Ok(Platform {
             net,
             walks,
-            steps,
             commands,
         }),
-        Err(_) => Err(CompileFault::OutOfMemory),
+        Err(fault) => Err(fault_of(refusal::walk_refusal(alloc, &net, &fault))),
     }
 }
 

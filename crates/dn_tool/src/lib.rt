@@ -16,7 +16,6 @@ mod output;
 pub mod refusal;
 pub mod reply;
 mod reshape;
-pub mod resolve;
 pub mod run;
 mod script;
 pub mod state;

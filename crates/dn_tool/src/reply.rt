@@ -169,9 +169,7 @@ fn resolved_text(
         resolved_text platform.now.net book.now.grants access node addr) }
 {
     match node {
-        Some(node) => {
-            node_names(alloc, kinds, platform, book, access, Name { node, addr })
-        }
+        Some(node) => node_names(alloc, kinds, platform, book, access, Name { node, addr }),
         None => String::from_str(alloc, "no such node"),
     }
 }
@@ -278,7 +276,13 @@ fn agent_names(
     ensures same { (state.new.book ≡ state.old.book) × (state.new.ids ≡ state.old.ids) }
 {
     platform.facts();
-    keep_image(alloc, &platform.net, kinds, state.book.tables(), &mut state.image)?;
+    keep_image(
+        alloc,
+        &platform.net,
+        kinds,
+        state.book.tables(),
+        &mut state.image,
+    )?;
     let Some(image) = &state.image else {
         unreachable!()
     };
@@ -387,7 +391,15 @@ fn agent_view(
         unreachable!()
     };
     let tables = state.book.tables();
-    let seen = view(alloc, &platform.net, flats, kinds, tables, node, access_of(mode))?;
+    let seen = view(
+        alloc,
+        &platform.net,
+        flats,
+        kinds,
+        tables,
+        node,
+        access_of(mode),
+    )?;
     rows_text(alloc, platform, text, mode, &seen)
 }
 

@@ -188,7 +188,13 @@ fn dump<K: Sink>(
     ensures no_device { is_device_halt result ≡ false }
     ensures counted { IsCounted (K.faults sink.old) (K.faults sink.new) (is_write_halt result) }
 {
-    keep_image(alloc, &platform.net, kinds, state.book.tables(), &mut state.image)?;
+    keep_image(
+        alloc,
+        &platform.net,
+        kinds,
+        state.book.tables(),
+        &mut state.image,
+    )?;
     let Some(image) = &state.image else {
         unreachable!()
     };

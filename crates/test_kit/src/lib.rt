@@ -1,8 +1,8 @@
 //! Nets and machines for tests, made from texts of the language.
 //!
 //! [`texts::net_of`] gives the net of a text as it stands, [`texts::printed`] the text of that net, and
-//! [`machine::Machine`] is a net that keeps all rules, so that whoever has one may ask what its calls require. The
-//! texts know the kinds of the program.
+//! [`machine::Machine`] is a net that keeps all rules, so that whoever has one may ask what its calls require; by
+//! [`resolve`] its names are followed level by level. The texts know the kinds of the program.
 #![tactic(auto)]
 
 /// A list of the kinds of the program: `pages`, `remap` and `vectors`. Want of memory leaves the function.
@@ -20,6 +20,7 @@ macro_rules! program_kinds {
 }
 
 pub mod machine;
+pub mod resolve;
 pub mod texts;
 pub mod unmade;
 

@@ -5,6 +5,7 @@ ghost use Rattle.dn_interval.specs.Rows.{ends_within};
 ghost use Rattle.dn_net.specs.Legal.{IsLegalNet};
 ghost use Rattle.dn_print.specs.Names.{names_exist};
 
+use crate::resolve::resolve;
 use crate::unmade::Unmade;
 use dn_flat::flat::{Flat, flatten};
 use dn_flat::flats::{Flats, flatten_all};
@@ -12,7 +13,6 @@ use dn_net::names::Names;
 use dn_net::net::Net;
 use dn_net::node::Name;
 use dn_tool::compile::{CompileFault, compile};
-use dn_tool::resolve::resolve;
 use dn_walk::walks::WalkTable;
 use std::alloc::Global;
 use std::marker::Model;

@@ -1,17 +1,13 @@
-use Rattle.std.proofs.Common.{rules, ◌≡◌, ◌≢◌, ◌∙◌, ap, sym, subst, refl, List, ℕ, map, Result, Ok, Err, IsTrue, true, false}
-use Rattle.dn_base.specs.Outside.{IsCounted}
-use Rattle.dn_base.proofs.Counts.{counted_none}
+use Rattle.std.proofs.Common.{rules, ◌≡◌, ◌∙◌, ap, sym, subst, refl, List, ℕ, map, Err, true, false}
 use Rattle.dn_net.specs.declared.node.NodeDecl.{NodeDecl}
 use Rattle.dn_net.specs.Chain.{Member}
 use Rattle.dn_kind.specs.Kind.{Meaning}
-use Rattle.dn_book.specs.declared.book.RevokeFault.{RevokeFault}
 use Rattle.dn_book.specs.declared.book.RevokeFault.TheVariants.{Device, NoGrant}
 use Rattle.dn_book.specs.declared.grant.Grant.{Grant}
 use Rattle.dn_book.specs.Book.{IsFaithful, has_id, without}
 use Rattle.dn_book.specs.Writes.{AreAdded, revoke_events}
-use Rattle.dn_tool.specs.declared.halt.Halt.{Halt}
 use Rattle.dn_tool.specs.declared.halt.Halt.TheVariants.{DeviceFault, NoMemory}
-use Rattle.dn_tool.specs.Changed.{revoke_refused_text, revoked_text}
+use Rattle.dn_tool.specs.Changed.{revoked_text}
 use Rattle.dn_tool.specs.Ids.{id_number, with_id}
 use Rattle.dn_tool.specs.State.{IsChanged, state_view}
 use Rattle.dn_tool.specs.declared.state.State.{State as Kept}

@@ -1,4 +1,4 @@
-use Rattle.std.proofs.Common.{rules, ◌≡◌, ◌≢◌, ◌∙◌, ap, sym, subst, refl, List, ℕ, map, Result, Ok, Err, IsTrue, true, false}
+use Rattle.std.proofs.Common.{rules, ◌≡◌, ◌≢◌, ◌∙◌, ap, sym, subst, refl, List, ℕ, map, Result, Err, true, false}
 use Rattle.dn_base.specs.Outside.{IsCounted}
 use Rattle.dn_base.proofs.Counts.{counted_none}
 use Rattle.dn_net.specs.declared.node.NodeDecl.{NodeDecl}
@@ -8,9 +8,8 @@ use Rattle.dn_book.specs.Book.{IsFaithful}
 use Rattle.dn_vector.specs.declared.fault.RouteFault.{RouteFault}
 use Rattle.dn_vector.specs.declared.fault.RouteFault.TheVariants.{Device, OutOfMemory}
 use Rattle.dn_vector.specs.Route.{IsRouteLogged, IsRouteMade, IsRouteRefused}
-use Rattle.dn_tool.specs.declared.halt.Halt.{Halt}
 use Rattle.dn_tool.specs.declared.halt.Halt.TheVariants.{DeviceFault, NoMemory}
-use Rattle.dn_tool.specs.Changed.{route_refused_text, routed_text}
+use Rattle.dn_tool.specs.Changed.{routed_text}
 use Rattle.dn_tool.specs.Ids.{id_number, with_id}
 use Rattle.dn_tool.specs.State.{IsChanged, state_view}
 use Rattle.dn_tool.specs.declared.state.State.{State as Kept}

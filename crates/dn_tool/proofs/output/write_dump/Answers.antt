@@ -1,5 +1,4 @@
-use Rattle.std.proofs.Common.{rules, ◌≡◌, ◌∙◌, ◌++◌, [], ap, sym, subst, false, is_ok, min, length, List, ℕ, append-nil, refl}
-use Rattle.dn_base.specs.Outside.{IsCounted}
+use Rattle.std.proofs.Common.{rules, ◌≡◌, ◌∙◌, ◌++◌, [], ap, sym, false, is_ok, min, length, List, ℕ, refl}
 use Rattle.dn_base.proofs.Counts.{counted_then}
 use Rattle.dn_print.specs.Dump.{dump_text, heading_text, lines_text}
 use Rattle.dn_print.proofs.Dumped.{one_piece, no_items}

@@ -1,5 +1,4 @@
-use Rattle.std.proofs.Common.{rules, ◌≡◌, ◌∙◌, ap, sym, subst, map, List, ℕ, Option, Some, Ok, IfOk, IfSome, is_ok}
-use Rattle.std.specs.String.{string_bytes}
+use Rattle.std.proofs.Common.{rules, ◌≡◌, ◌∙◌, ap, subst, map, List, ℕ, Option, Some, Ok, IfSome, is_ok}
 use Rattle.dn_net.specs.declared.node.NodeDecl.{NodeDecl}
 use Rattle.dn_kind.specs.Kind.{Meaning}
 use Rattle.dn_tables.specs.declared.table.NodeTable.{NodeTable}
@@ -8,9 +7,7 @@ use Rattle.dn_tables.proofs.Slots.{all_of_map}
 use Rattle.dn_image.specs.Image.{image}
 use Rattle.dn_lookup.specs.Lookup.{lookup_of}
 use Rattle.dn_book.specs.Book.{owed_names}
-use Rattle.dn_print.specs.Names.{names_text}
 use Rattle.dn_tool.specs.Platform.{PlatformState}
-use Rattle.dn_tool.specs.State.{IsState}
 use Rattle.dn_tool.proofs.Kept.{legal_with, state_looked_up}
 use Rattle.dn_tool.proofs.reply.agent_names.Goals as goal
 

@@ -1,9 +1,8 @@
-use Rattle.std.proofs.Common.{rules, ◌≡◌, ◌∙◌, ap, sym, subst, map, List, ℕ, IfOk, IsTrue, ◌<◌, length, slice_get}
+use Rattle.std.proofs.Common.{◌≡◌, subst, map, List, IfOk}
 use Rattle.std.specs.String.{string_bytes}
 use Rattle.dn_interval.specs.Listed.{Seen, seen_by}
 use Rattle.dn_interval.specs.Rows.{AreNormal}
 use Rattle.dn_net.specs.declared.node.NodeDecl.{NodeDecl}
-use Rattle.dn_net.specs.Decode.{is_agent_at}
 use Rattle.dn_kind.specs.declared.rights.Access.{Access}
 use Rattle.dn_kind.specs.Kind.{Meaning}
 use Rattle.dn_kind.specs.Tables.{allowing}

@@ -1,10 +1,9 @@
-use Rattle.std.proofs.Common.{rules, ◌≡◌, ◌∙◌, ap, sym, subst, map, List, Result, Ok, Err, IfOk, true, is_ok, refl}
-use Rattle.std.specs.Option.{IfSome}
+use Rattle.std.proofs.Common.{◌≡◌, ◌∙◌, ap, sym, subst, map, List, Ok, Err, IfOk, true, is_ok}
 use Rattle.std.specs.String.{string_bytes}
 use Rattle.dn_net.specs.declared.node.Name.{Name}
 use Rattle.dn_kind.specs.Kind.{Meaning}
 use Rattle.dn_kind.proofs.Shapes.{shape_fault_is_first}
-use Rattle.dn_lookup.specs.Lookup.{NoLookup, lookup_fault_view, lookup_of}
+use Rattle.dn_lookup.specs.Lookup.{lookup_of}
 use Rattle.dn_lookup.specs.declared.lookup.LookupFault.TheVariants.{OutOfMemory}
 use Rattle.dn_print.specs.Names.{names_text}
 use Rattle.dn_tool.specs.Platform.{PlatformState}

@@ -1,6 +1,4 @@
-use Rattle.std.proofs.Common.{rules, ◌≡◌, ◌++◌, ap, sym, subst, map, List, ℕ, codes, Ok, Err, refl}
-use Rattle.dn_kind.specs.Kind.{Meaning}
-use Rattle.dn_tool.specs.Answer.{Answer, IsAnswered, compiled_answer, is_script, task_answer, text_answer}
+use Rattle.std.proofs.Common.{refl}
 use Rattle.dn_tool.specs.Compiled.{platform_view}
 use Rattle.dn_tool.proofs.Endings.{if_ok}
 use Rattle.dn_tool.proofs.Inputs.{legal_short}

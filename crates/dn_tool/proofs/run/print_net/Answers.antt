@@ -1,4 +1,4 @@
-use Rattle.std.proofs.Common.{rules, ◌≡◌, length, map, List, ℕ, IsTrue, subst}
+use Rattle.std.proofs.Common.{map, List, ℕ, IsTrue, subst}
 use Rattle.std.specs.List.{list_all}
 use Rattle.std.proofs.lemmas.List.{length-map}
 use Rattle.dn_kind.specs.Kind.{Meaning}

@@ -1,4 +1,4 @@
-use Rattle.std.proofs.Common.{rules, ◌≡◌, ◌∙◌, ap, sym, subst, refl, List, ℕ, map, Bool, false}
+use Rattle.std.proofs.Common.{rules, ◌≡◌, sym, subst, refl, List, map, Bool, false}
 use Rattle.dn_base.specs.Outside.{IsCounted}
 use Rattle.dn_base.proofs.Counts.{counted_none}
 use Rattle.dn_kind.specs.Kind.{Meaning}

@@ -1,16 +1,15 @@
-use Rattle.std.proofs.Common.{rules, ◌≡◌, ◌∙◌, ◌+◌, ◌<◌, ◌≤◌, [], ap, sym, subst, map, List, ℕ, true, false, is_ok, length, get_or, Err, refl, arith}
-use Rattle.std.specs.Option.{IfSome}
+use Rattle.std.proofs.Common.{rules, ◌≡◌, ◌∙◌, ◌+◌, ◌<◌, ◌≤◌, sym, subst, map, List, length, get_or, Err, refl, arith}
 use Rattle.dn_base.proofs.Counts.{counted_none, counted_then}
 use Rattle.dn_base.proofs.Told.{if_some_then}
 use Rattle.dn_kind.specs.Kind.{Meaning}
 use Rattle.dn_tables.proofs.Slots.{all_of_map}
-use Rattle.dn_tables.specs.Set.{IsOnDevice, tables_of_set}
+use Rattle.dn_tables.specs.Set.{tables_of_set}
 use Rattle.dn_book.specs.Tables.{tables_of}
 use Rattle.dn_tool.specs.Books.{GivesOwed}
 use Rattle.dn_tool.specs.Halt.{make_halt}
 use Rattle.dn_tool.specs.Played.{device_tables}
 use Rattle.dn_tool.specs.State.{state_view}
-use Rattle.dn_tool.specs.Turn.{State, start}
+use Rattle.dn_tool.specs.Turn.{State}
 use Rattle.dn_tool.proofs.Kept.{legal_with, state_owed}
 use Rattle.dn_tool.proofs.Played.{IsGone, device_told, gone_more, gone_start, halted_by, played_whole, unmade_by}
 use Rattle.dn_tool.proofs.script.run_script.Goals as goal

@@ -1,4 +1,4 @@
-use Rattle.std.proofs.Common.{rules, ◌≡◌, ◌∙◌, sym, position, Some}
+use Rattle.std.proofs.Common.{rules, ◌≡◌, position, Some}
 use Rattle.std.specs.Str.{bytes_eq}
 use Rattle.dn_tool.proofs.Numbers.{known_stays}
 use Rattle.dn_tool.proofs.ids.Ids.number.Goals as goal

@@ -1,4 +1,4 @@
-use Rattle.std.proofs.Common.{◌≡◌, ap, sym, subst, List, ℕ, map, IsTrue}
+use Rattle.std.proofs.Common.{sym, subst, List, map, IsTrue}
 use Rattle.dn_net.specs.declared.node.NodeDecl.{NodeDecl}
 use Rattle.dn_kind.specs.Kind.{Meaning}
 use Rattle.dn_tables.specs.declared.table.NodeTable.{NodeTable}

@@ -4,8 +4,8 @@ use Rattle.dn_net.specs.declared.node.Name.{Name}
 use Rattle.dn_net.specs.Decode.{steps}
 use Rattle.dn_net.specs.Names.{each_step}
 use Rattle.dn_tool.proofs.Exists.{each_exist}
-use Rattle.dn_tool.proofs.Levels.{set_exists}
-use Rattle.dn_tool.proofs.resolve.next_level.Goals as goal
+use Rattle.test_kit.proofs.Levels.{set_exists}
+use Rattle.test_kit.proofs.resolve.next_level.Goals as goal
 
 pub returns-clause-there : goal.returns-clause-there
 returns-clause-there c =

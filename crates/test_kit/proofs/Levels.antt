@@ -7,7 +7,7 @@ use Rattle.dn_net.specs.Names.{sorted_names, passing_names, each_step, reached_n
 use Rattle.dn_net.proofs.Resolution.{member_left, member_right, member_cases, names_in, passing_in, each_in}
 use Rattle.dn_print.specs.Names.{names_exist}
 use Rattle.dn_tool.proofs.Exists.{sorted_exist}
-use Rattle.dn_tool.proofs.Sets.{Same, same_refl, sorted_same}
+use Rattle.test_kit.proofs.Sets.{Same, same_refl, sorted_same}
 
 -- the names of so many levels, from a list on
 abbrev pub levels : (Name → List Name) → ℕ → List Name → List Name

@@ -2,8 +2,8 @@ use Rattle.std.proofs.Common.{◌≡◌, ◌-◌, suc, length, IsTrue}
 use Rattle.dn_net.specs.Decode.{step_limit}
 use Rattle.dn_net.specs.Names.{resolved_names}
 use Rattle.dn_print.specs.Names.{names_exist}
-use Rattle.dn_tool.proofs.Levels.{resolved_by}
-use Rattle.dn_tool.proofs.resolve.resolve.Given as goal
+use Rattle.test_kit.proofs.Levels.{resolved_by}
+use Rattle.test_kit.proofs.resolve.resolve.Given as goal
 
 abbrev pub invariant-loop : goal.invariant-loop
 invariant-loop l = record {

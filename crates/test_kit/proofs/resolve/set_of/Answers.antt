@@ -2,8 +2,8 @@ use Rattle.std.proofs.Common.{arith, ◌∙◌, ◌≤◌, sym, ap, get_or, leng
 use Rattle.std.proofs.lemmas.List.{take_all}
 use Rattle.dn_net.specs.declared.node.Name.{Name}
 use Rattle.dn_net.specs.Names.{sorted_names, with_name}
-use Rattle.dn_tool.proofs.Sets.{sorted_more, sorted_permuted}
-use Rattle.dn_tool.proofs.resolve.set_of.Goals as goal
+use Rattle.test_kit.proofs.Sets.{sorted_more, sorted_permuted}
+use Rattle.test_kit.proofs.resolve.set_of.Goals as goal
 
 pub loop-name-preserved : goal.loop-name-preserved
 loop-name-preserved c =

@@ -4,9 +4,9 @@ use Rattle.dn_net.specs.Decode.{is_accepted, steps, step_limit}
 use Rattle.dn_net.specs.Names.{each_step, passing_names, sorted_names, resolved_names}
 use Rattle.dn_print.specs.Names.{names_exist}
 use Rattle.dn_tool.proofs.Exists.{resolved_exist}
-use Rattle.dn_tool.proofs.Levels.{is_empty, resolved_by, resolved_at_start, resolved_next, resolved_at_empty, resolved_at_end, set_resolves, resolved_within}
-use Rattle.dn_tool.proofs.resolve.resolve.Goals as goal
-use Rattle.dn_tool.proofs.resolve.resolve.Goals.{else-loop-test, then-loop-test+then-is_empty}
+use Rattle.test_kit.proofs.Levels.{is_empty, resolved_by, resolved_at_start, resolved_next, resolved_at_empty, resolved_at_end, set_resolves, resolved_within}
+use Rattle.test_kit.proofs.resolve.resolve.Goals as goal
+use Rattle.test_kit.proofs.resolve.resolve.Goals.{else-loop-test, then-loop-test+then-is_empty}
 
 pub loop-init : goal.loop-init
 loop-init c =

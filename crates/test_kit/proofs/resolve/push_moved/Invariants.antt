@@ -1,7 +1,7 @@
 use Rattle.std.proofs.Common.{◌≡◌, ◌+◌, ◌++◌, map, take, drop, nat_le, IsTrue}
 use Rattle.std.specs.List.{list_all}
 use Rattle.dn_net.specs.Decode.{moved, top}
-use Rattle.dn_tool.proofs.resolve.push_moved.Given as goal
+use Rattle.test_kit.proofs.resolve.push_moved.Given as goal
 
 abbrev pub invariant-loop-dest : goal.invariant-loop-dest
 invariant-loop-dest l = record {

@@ -2,7 +2,7 @@ use Rattle.std.proofs.Common.{◌≡◌, ◌++◌, drop, length, IsTrue}
 use Rattle.dn_net.specs.Decode.{is_accepted, steps}
 use Rattle.dn_net.specs.Names.{each_step, passing_names}
 use Rattle.dn_print.specs.Names.{names_exist}
-use Rattle.dn_tool.proofs.resolve.next_level.Given as goal
+use Rattle.test_kit.proofs.resolve.next_level.Given as goal
 
 abbrev pub invariant-loop-name : goal.invariant-loop-name
 invariant-loop-name l = record {
