@@ -1,6 +1,6 @@
 //! Names, and the parts of a node.
 
-ghost use Rattle.std.specs.Prelude.{◌<◌, map, IfOk, IfSome};
+ghost use Rattle.std.specs.Prelude.{◌≡◌, ◌<◌, [], ◌∷◌, map, IfOk, IfSome};
 ghost use Rattle.dn_parse.specs.Views.{token_views, maybe_expr_view, part_view, name_view, block_view, dest_view, entry_view, maybe_name_view, spec_view};
 ghost use Rattle.dn_parse.specs.Descent.{index_at, part_at, next_part_at, name_at, upper_at, block_at, next_block_at, blocks_at, addr_at, dest_at, next_dest_at, dests_at, entry_at, next_entry_at, entries_at, accept_at, map_at, over_at, spec_at};
 ghost use Rattle.dn_parse.specs.Faults.{Reads, ReadsNext, IsShorter, IsNoLonger};
@@ -10,7 +10,7 @@ use crate::expressions::expr;
 use crate::syntax::{BlockExpr, DestExpr, EntryExpr, Expr, NameExpr, PartExpr, Spec};
 use dn_base::items::Items;
 use dn_token::token::{Keyword, Sign, Token};
-use std::alloc::Global;
+use std::alloc::{AllocError, Global};
 
 /// The most parentheses that may be open at once.
 const MOST_OPEN: u8 = 32;
@@ -53,14 +53,22 @@ fn next_part<'a>(alloc: Global, tokens: &'a [Token<'a>], depth: u8) -> Next<'a, 
     Ok(Some((part, rest)))
 }
 
+/// The name of a single part, with room for that part alone.
+fn name_of_one(alloc: Global, part: PartExpr) -> Result<NameExpr, AllocError>
+    ensures { IfOk result (λ name. name ≡ part ∷ []) }
+{
+    let mut parts = Items::from_vec(Vec::with_capacity(alloc, 1)?);
+    parts.push(part)?;
+    Ok(parts)
+}
+
 /// `part { "." part }`
 pub fn name<'a>(alloc: Global, tokens: &'a [Token<'a>], depth: u8) -> Read<'a, NameExpr>
     ensures gives { Reads name_view result (name_at depth (token_views tokens.now)) }
     ensures shorter { IfOk result (λ p. IsShorter p.1.now tokens.now) }
 {
     let (first, after) = part(alloc, tokens, depth)?;
-    let mut parts = Items::new(alloc);
-    parts.push(first)?;
+    let mut parts = name_of_one(alloc, first)?;
     let mut rest = after;
     'parts: while let Some((part, after)) = next_part(alloc, rest, depth)? {
         parts.push(part)?;
