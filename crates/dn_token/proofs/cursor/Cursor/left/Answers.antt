@@ -1,0 +1,7 @@
+use Rattle.std.proofs.Common.{rules}
+use Rattle.dn_token.specs.Cursor.{cursor_view}
+use Rattle.dn_token.proofs.cursor.Cursor.left.Goals as goal
+
+pub returns : goal.returns
+unfolding cursor_view
+returns c = c.args.self.counted
