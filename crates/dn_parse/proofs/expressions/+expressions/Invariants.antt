@@ -1,5 +1,6 @@
 use Rattle.std.proofs.Common.{◌<◌, ◌+◌, ◌*◌, length, map}
-use Rattle.dn_parse.specs.Views.{token_views, expr_view}
+use Rattle.dn_token.specs.Cursor.{cursor_view}
+use Rattle.dn_parse.specs.Views.{expr_view}
 use Rattle.dn_parse.specs.Descent.{next_factor_at, factors_at, next_term_at, terms_at}
 use Rattle.dn_parse.proofs.Series.{Found}
 use Rattle.dn_parse.proofs.expressions.+expressions.Given as goal
@@ -31,19 +32,19 @@ decreases-after_open l = 10 * l.depth + 8
 abbrev pub invariant-factors-factors : goal.invariant-factors-factors
 invariant-factors-factors l = record {
   some : 0 < length l.members.items;
-  shorter : length (token_views l.rest) < length (token_views l.fn.tokens);
-  before : Found (next_factor_at l.fn.depth) (factors_at l.fn.depth (token_views l.fn.tokens)) (map expr_view l.members.items) (token_views l.rest);
+  shorter : length (cursor_view l.rest) < length (cursor_view l.fn.tokens);
+  before : Found (next_factor_at l.fn.depth) (factors_at l.fn.depth (cursor_view l.fn.tokens)) (map expr_view l.members.items) (cursor_view l.rest);
 }
 
 abbrev pub decreases-factors-factors : goal.decreases-factors-factors
-decreases-factors-factors l = length (token_views l.rest)
+decreases-factors-factors l = length (cursor_view l.rest)
 
 abbrev pub invariant-terms-terms : goal.invariant-terms-terms
 invariant-terms-terms l = record {
   some : 0 < length l.members.items;
-  shorter : length (token_views l.rest) < length (token_views l.fn.tokens);
-  before : Found (next_term_at l.fn.depth) (terms_at l.fn.depth (token_views l.fn.tokens)) (map expr_view l.members.items) (token_views l.rest);
+  shorter : length (cursor_view l.rest) < length (cursor_view l.fn.tokens);
+  before : Found (next_term_at l.fn.depth) (terms_at l.fn.depth (cursor_view l.fn.tokens)) (map expr_view l.members.items) (cursor_view l.rest);
 }
 
 abbrev pub decreases-terms-terms : goal.decreases-terms-terms
-decreases-terms-terms l = length (token_views l.rest)
+decreases-terms-terms l = length (cursor_view l.rest)
