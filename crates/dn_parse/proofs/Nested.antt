@@ -1,10 +1,10 @@
 -- Expressions: what their parts come to.
-use Rattle.std.proofs.Common.{◌≡◌, ◌∙◌, ◌<◌, ◌-◌, ap, refl, sym, ℕ, zero, suc, List, [], ◌∷◌, None, Result, Ok, Err, arith}
+use Rattle.std.proofs.Common.{◌≡◌, ◌∙◌, ◌<◌, ◌-◌, ap, refl, ℕ, zero, suc, List, [], ◌∷◌, None, Ok, Err, arith}
 use Rattle.dn_token.specs.declared.token.Sign.TheVariants.{OpenParenthesis}
 use Rattle.dn_token.specs.Token.{Lexeme, Token, sign}
 use Rattle.dn_parse.specs.Tree.{Expression}
 use Rattle.dn_parse.specs.Actions.{summed, multiplied}
-use Rattle.dn_parse.specs.Machine.{Stop, deep}
+use Rattle.dn_parse.specs.Machine.{Stop}
 use Rattle.dn_parse.specs.Descent.{and_then, Read, factor_of, nested_at, factor_at, next_factor_at, factors_at, term_at, next_term_at, terms_at, expr_at, after_open_at}
 use Rattle.dn_parse.proofs.Series.{Found, found_first, found_all, found_stop, first_stops, first_read}
 

@@ -1,7 +1,7 @@
 -- What stands before the first token of a text: blanks, line ends and comments.
-use Rattle.std.proofs.Common.{◌≡◌, ◌∙◌, ap, refl, subst, ℕ, suc, ◌+◌, ◌<◌, ◌≤◌, true, false, ◌&&◌, not, List, [], ◌∷◌, length, length-drop, Ok, Err, arith}
+use Rattle.std.proofs.Common.{◌≡◌, ◌∙◌, ap, refl, subst, ℕ, ◌+◌, ◌≤◌, true, false, not, List, [], ◌∷◌, length, length-drop, Ok, Err, arith}
 use Rattle.std.specs.List.{prefix_len}
-use Rattle.dn_token.specs.Token.{Lexeme, Front, taken, bad, with_token, then_tokens, front, is_line_feed, is_blank, is_slash, begins_with, after_comment}
+use Rattle.dn_token.specs.Token.{Lexeme, Front, taken, bad, with_token, then_tokens, front, is_line_feed, is_blank, after_comment}
 use Rattle.dn_token.specs.Lexing.{begins_comment}
 use Rattle.dn_token.specs.Going.{tokens_of}
 use Rattle.dn_token.proofs.Going.{tokens_go_on}

@@ -1,4 +1,4 @@
-use Rattle.std.proofs.Common.{rules, ◌≡◌, ◌∙◌, ap, sym, subst, refl, ◌<◌, [], ◌∷◌, ◌++◌, List, length, map, Ok, option_map, IfSome, arith}
+use Rattle.std.proofs.Common.{rules, ◌≡◌, ◌∙◌, ap, sym, subst, ◌<◌, [], ◌∷◌, ◌++◌, length, map, Ok, option_map, IfSome, arith}
 use Rattle.dn_token.specs.Cursor.{cursor_view}
 use Rattle.std.proofs.lemmas.List.{map-append}
 use Rattle.std.proofs.lemmas.Result.{err_from_is_err_and}
@@ -9,7 +9,7 @@ use Rattle.dn_base.specs.Answers.{Answers}
 use Rattle.dn_parse.specs.Tree.{Expression}
 use Rattle.dn_parse.specs.Faults.{halt_view}
 use Rattle.dn_parse.specs.Views.{expr_view}
-use Rattle.dn_parse.specs.Descent.{factor_at, next_factor_at, factors_at, term_at, next_term_at, terms_at}
+use Rattle.dn_parse.specs.Descent.{next_factor_at, factors_at, next_term_at, terms_at}
 use Rattle.dn_parse.proofs.Series.{Found, halted, found_more}
 use Rattle.dn_parse.proofs.Nested.{factor_nested, factors_begun, term_stop, term_ends, term_halts, terms_begun, expr_stop, expr_ends, expr_halts}
 use Rattle.dn_parse.proofs.expressions.+expressions.Goals as goal

@@ -5,7 +5,7 @@ use Rattle.std.proofs.lemmas.Result.{err_from_is_err_and}
 use Rattle.dn_parse.specs.declared.syntax.DestExpr.{DestExpr}
 use Rattle.dn_parse.specs.Views.{dest_view}
 use Rattle.dn_parse.specs.Descent.{with_front, row, next_dest_at, dests_at}
-use Rattle.dn_parse.proofs.Series.{halted, most_more, most_none, most_full, most_stop}
+use Rattle.dn_parse.proofs.Series.{halted, most_more}
 use Rattle.dn_parse.proofs.Firsts.{dests_stop, dests_first}
 use Rattle.dn_parse.proofs.nodes.dests.Goals as goal
 

@@ -1,4 +1,4 @@
-use Rattle.std.proofs.Common.{◌≡◌, ◌<◌, ◌≤◌, length, map}
+use Rattle.std.proofs.Common.{◌≡◌, ◌<◌, length, map}
 use Rattle.dn_token.specs.Cursor.{cursor_view}
 use Rattle.dn_parse.specs.Views.{dest_view}
 use Rattle.dn_parse.specs.Descent.{with_front, row, next_dest_at, dests_at}

@@ -1,4 +1,4 @@
-use Rattle.std.proofs.Common.{◌≡◌, ◌∙◌, ap, sym, ◌<◌, length, List, arith}
+use Rattle.std.proofs.Common.{◌∙◌, ap, sym, ◌<◌, length, List, arith}
 use Rattle.dn_token.specs.Token.{Token}
 use Rattle.dn_token.specs.Cursor.{cursor_view, behind_view}
 use Rattle.dn_token.specs.Lexing.{token_view}

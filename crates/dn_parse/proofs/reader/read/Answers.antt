@@ -1,4 +1,4 @@
-use Rattle.std.proofs.Common.{◌≡◌, ap, Err, arith}
+use Rattle.std.proofs.Common.{arith}
 use Rattle.dn_token.specs.Cursor.{cursor_view}
 use Rattle.dn_parse.proofs.Judge.{text_too_long, text_reads, text_bad}
 use Rattle.dn_parse.proofs.reader.read.Goals as goal

@@ -5,7 +5,7 @@ use Rattle.std.proofs.lemmas.Result.{err_from_is_err_and}
 use Rattle.dn_parse.specs.declared.syntax.PartExpr.{PartExpr}
 use Rattle.dn_parse.specs.Views.{name_view}
 use Rattle.dn_parse.specs.Descent.{with_front, row, next_port_at, ports_at}
-use Rattle.dn_parse.proofs.Series.{halted, most_more, most_none, most_full, most_stop}
+use Rattle.dn_parse.proofs.Series.{halted, most_more}
 use Rattle.dn_parse.proofs.Firsts.{ports_stop, ports_first}
 use Rattle.dn_parse.proofs.statements.ports.Goals as goal
 

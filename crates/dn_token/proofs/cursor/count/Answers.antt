@@ -1,4 +1,4 @@
-use Rattle.std.proofs.Common.{◌∙◌, ap, sym, subst, ◌<◌, ◌+◌, length, IfSome, arith, ◌≡◌, Ok, Err, Option, Result}
+use Rattle.std.proofs.Common.{◌∙◌, ap, sym, subst, ◌<◌, ◌+◌, length, IfSome, arith, Ok}
 use Rattle.dn_token.specs.Ahead.{first_and_rest}
 use Rattle.dn_token.proofs.Counting.{begun, one_more, and_more, no_more}
 use Rattle.dn_token.proofs.cursor.count.Goals as goal

@@ -1,7 +1,3 @@
-use Rattle.std.proofs.Common.{◌≡◌, ◌∙◌, ap, refl, ◌-◌, ◌+◌, ◌<◌, ◌≤◌, ℕ, List, length, Option, None, Some, arith}
-use Rattle.dn_token.specs.declared.token.Lexeme.{Lexeme}
-use Rattle.dn_token.specs.Going.{tokens_of}
-use Rattle.dn_token.specs.Ahead.{ahead, good_tokens}
 use Rattle.dn_token.specs.Cursor.{cursor_view, behind_view}
 use Rattle.dn_token.proofs.Counting.{ahead_less, ahead_some}
 use Rattle.dn_token.proofs.cursor.Cursor.advance.Goals as goal

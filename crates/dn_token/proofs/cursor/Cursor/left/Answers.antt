@@ -1,4 +1,3 @@
-use Rattle.std.proofs.Common.{rules}
 use Rattle.dn_token.specs.Cursor.{cursor_view}
 use Rattle.dn_token.proofs.cursor.Cursor.left.Goals as goal
 

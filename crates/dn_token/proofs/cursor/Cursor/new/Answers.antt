@@ -1,4 +1,4 @@
-use Rattle.std.proofs.Common.{◌≡◌, ◌∙◌, ap, sym, Ok, Result}
+use Rattle.std.proofs.Common.{◌∙◌, ap}
 use Rattle.dn_token.specs.Ahead.{how_many}
 use Rattle.dn_token.specs.Going.{tokens_of}
 use Rattle.dn_token.proofs.Counting.{counted_good, counted_tokens, counted_made}

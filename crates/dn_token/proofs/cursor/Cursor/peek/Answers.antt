@@ -1,4 +1,4 @@
-use Rattle.std.proofs.Common.{◌≡◌, ap, Option, ℕ, List}
+use Rattle.std.proofs.Common.{ap, Option}
 use Rattle.dn_token.specs.declared.token.Lexeme.{Lexeme}
 use Rattle.dn_token.specs.Ahead.{ahead}
 use Rattle.dn_token.specs.Cursor.{cursor_view, behind_view}
