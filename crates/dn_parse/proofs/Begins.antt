@@ -1,13 +1,13 @@
 -- How a spelling begins, and what the machine does at that token, and at one with which a form does not begin.
-use Rattle.std.proofs.Common.{◌≡◌, ◌∙◌, ◌⊎◌, inl, inr, ap, sym, refl, subst, ℕ, zero, suc, Bool, true, false, not, ◌&&◌, ◌||◌, List, [], ◌∷◌, ◌++◌}
+use Rattle.std.proofs.Common.{◌≡◌, ◌∙◌, inl, inr, ap, sym, refl, subst, zero, suc, Bool, true, false, not, ◌&&◌, ◌||◌, List, [], ◌∷◌, ◌++◌}
 use Rattle.dn_token.specs.declared.token.Sign.TheVariants.{OpenParenthesis}
 use Rattle.dn_token.specs.Token.{Lexeme, Token}
-use Rattle.dn_parse.specs.Actions.{Value, perform}
-use Rattle.dn_parse.specs.Forms.{Form, takes, does, and_then, either, many, parenthesised, Sort, the_sign, is, is_sign, kept, Times, Spells}
+use Rattle.dn_parse.specs.Actions.{Value}
+use Rattle.dn_parse.specs.Forms.{Form, takes, does, and_then, either, many, parenthesised, Sort, is, is_sign, kept, Spells}
 use Rattle.dn_parse.specs.Syntax.{after_open}
-use Rattle.dn_parse.specs.Machine.{Move, to, skips, refuses, taken, followed, or_else, repeated, move}
+use Rattle.dn_parse.specs.Machine.{to, skips, refuses, taken, followed, or_else, repeated, move}
 use Rattle.dn_parse.proofs.Taken.{Inner}
-use Rattle.dn_parse.proofs.Sets.{may_skip, given, starts, apart, fits, among, both_left, both_right, not_true, neither_left, neither_right, one_left, one_right, one_of_two, true_or_false, among_append, among_left, among_right, among_first, among_second, apart_among, skipped, IsOpened}
+use Rattle.dn_parse.proofs.Sets.{may_skip, given, starts, fits, among, both_left, both_right, not_true, neither_left, neither_right, one_left, one_right, one_of_two, true_or_false, among_append, among_left, among_right, among_first, among_second, skipped, IsOpened}
 
 clash : (b : Bool) → b ≡ true → b ≡ false → ⊥
 clash true e f = cc

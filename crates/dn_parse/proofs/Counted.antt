@@ -1,5 +1,5 @@
 -- The parentheses that are open behind the front of a spelling: the machine counts as many as the laws do.
-use Rattle.std.proofs.Common.{◌≡◌, ◌∙◌, ◌⊎◌, inl, inr, ap, sym, refl, subst, ℕ, zero, suc, ◌+◌, ◌-◌, ◌==◌, eqb-true, Bool, true, false, cond, not, ◌&&◌, if◌then◌else◌, List, [], ◌∷◌, ◌++◌, append_assoc, arith}
+use Rattle.std.proofs.Common.{◌≡◌, ◌∙◌, inl, inr, ap, sym, refl, subst, ℕ, zero, suc, ◌+◌, ◌-◌, ◌==◌, eqb-true, Bool, true, false, cond, not, ◌&&◌, if◌then◌else◌, List, [], ◌∷◌, ◌++◌, append_assoc, arith}
 use Rattle.std.proofs.lemmas.List.Sums.{sum_by-cons}
 use denote.Enum.Declared.{tag_of}
 use Rattle.dn_token.specs.contracts.token.Sign.{the_type as the_signs}

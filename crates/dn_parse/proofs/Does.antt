@@ -1,18 +1,16 @@
 -- What the machine does with a form is what is read from the tokens: the steps by which parts are put together.
-use Rattle.std.proofs.Common.{◌≡◌, ◌∙◌, ap, sym, refl, subst, ℕ, zero, suc, ◌+◌, ◌-◌, ◌<◌, ◌≤◌, ◌==◌, Bool, true, false, cond, ◌&&◌, List, [], ◌∷◌, ◌++◌, length, Option, Some, None, Result, Ok, Err, append_assoc, append-nil, arith}
+use Rattle.std.proofs.Common.{◌≡◌, ◌∙◌, ap, sym, refl, subst, ℕ, zero, suc, ◌<◌, ◌≤◌, Bool, true, false, cond, List, [], ◌∷◌, ◌++◌, length, Some, None, Result, Ok, Err, append_assoc, append-nil, arith}
 use denote.Enum.Bare.{same_true}
 use Rattle.dn_token.specs.contracts.token.Sign.{the_type as the_signs}
 use Rattle.dn_token.specs.declared.token.Keyword.{Keyword}
 use Rattle.dn_token.specs.declared.token.Sign.{Sign}
-use Rattle.dn_token.specs.declared.token.Sign.TheVariants.{OpenParenthesis, CloseParenthesis}
 use Rattle.dn_token.specs.Token.{Lexeme, Token, word, keyword, number, sign}
-use Rattle.dn_token.specs.Words.{same_keyword, same_sign}
 use Rattle.dn_parse.specs.Actions.{Value, Action, perform, text, keep}
 use Rattle.dn_parse.specs.Forms.{Form, takes, does, either, many, Sort, a_word, any_word, the_word, the_keyword, the_sign, is, is_sign, is_keyword, is_the_word, kept}
 use Rattle.dn_parse.specs.Forms.{and_then as both}
 use Rattle.dn_parse.specs.Syntax.{the, this, mark, at_most}
-use Rattle.dn_parse.specs.Machine.{to, refuses, taken, followed, or_else, repeated, move, on, fed, feed, Stop, refused, deep, Outcome, stopped, Place, inside, run, go, go_in, is_deep, parentheses}
-use Rattle.dn_parse.specs.Descent.{and_then, Read, Next, Reader, refuses_at, optional, after, after_sign, after_keyword, after_word, or_refused, sign_at, keyword_at, the_word_at, word_of, any_of, value_or, word_at, any_word_at, with_front, row, row_from, row_at, one_more, first_and, first_and_most}
+use Rattle.dn_parse.specs.Machine.{taken, followed, or_else, repeated, move, fed, feed, Stop, refused, Outcome, stopped, Place, inside, run, go, go_in, is_deep, parentheses}
+use Rattle.dn_parse.specs.Descent.{and_then, Read, Next, Reader, optional, after, after_sign, after_keyword, after_word, or_refused, sign_at, keyword_at, the_word_at, word_of, any_of, value_or, word_at, any_word_at, with_front, row, row_from, row_at, one_more}
 use Rattle.dn_parse.proofs.Turns.{run_then, run_does}
 
 -- From the values that were pushed so far a form makes one value: what was read, or the same stop. The parentheses that are open are counted before and behind it.

@@ -1,12 +1,10 @@
 -- Where the machine stops it stops whatever follows, and so the place where it stops is the first at which a list is viable no more.
-use Rattle.std.proofs.Common.{◌≡◌, ◌≤◌, ◌+◌, ◌∙◌, ◌⊎◌, inl, inr, ap, sym, refl, subst, ℕ, suc, Bool, true, false, List, [], ◌∷◌, ◌++◌, length, length-append, append_assoc, append-nil, arith}
+use Rattle.std.proofs.Common.{◌≡◌, ◌≤◌, ◌∙◌, ◌⊎◌, inl, inr, ap, sym, refl, subst, ℕ, suc, Bool, true, false, List, [], ◌∷◌, ◌++◌, length, length-append, append_assoc, append-nil, arith}
 use Rattle.dn_token.specs.declared.token.Sign.TheVariants.{OpenParenthesis}
 use Rattle.dn_token.specs.Token.{Lexeme, Token, sign}
 use Rattle.dn_parse.specs.Tree.{Placed}
-use Rattle.dn_parse.specs.Actions.{Value}
-use Rattle.dn_parse.specs.Forms.{Form}
 use Rattle.dn_parse.specs.Syntax.{statement_form, SpellsText, Viable}
-use Rattle.dn_parse.specs.Machine.{Fed, on, over, stuck, feed, Stop, whole, refused, deep, Outcome, Place, between, inside, run, go, go_in, is_deep, parentheses}
+use Rattle.dn_parse.specs.Machine.{Fed, on, over, stuck, feed, Stop, whole, refused, deep, Place, between, inside, run, go, go_in, is_deep, parentheses}
 use Rattle.dn_parse.specs.Laws.{IsDeep, IsEnded, open_parentheses}
 use Rattle.dn_parse.proofs.Counted.{viable_counts}
 use Rattle.dn_parse.proofs.Reach.{ReachedAt, reached}

@@ -1,5 +1,5 @@
 -- What is read of each statement is what the machine does with its form.
-use Rattle.std.proofs.Common.{◌≡◌, ◌∙◌, ap, sym, refl, subst, ℕ, zero, suc, ◌+◌, ◌-◌, ◌<◌, ◌≤◌, Bool, true, false, cond, List, [], ◌∷◌, ◌++◌, length, codes, Option, Some, None, Result, Ok, Err, arith}
+use Rattle.std.proofs.Common.{◌≡◌, ◌∙◌, ap, sym, refl, ℕ, suc, Bool, true, false, cond, List, [], ◌∷◌, ◌++◌, length, codes, Option, Some, None, Ok, Err, arith}
 use denote.Enum.Bare.{same_true}
 use Rattle.dn_token.specs.contracts.token.Sign.{the_type as the_signs}
 use Rattle.dn_token.specs.contracts.token.Keyword.{the_type as the_keywords}
@@ -7,18 +7,18 @@ use Rattle.dn_parse.specs.declared.syntax.Mode.TheVariants.{Unsaid, Read as ForR
 use Rattle.dn_token.specs.declared.token.Keyword.{Keyword}
 use Rattle.dn_token.specs.declared.token.Keyword.TheVariants.{Agent, Vectors, Unit as UnitWord, Module, Use, For, In, End, Begin, Is, Accept, Map, To, And, At, Over, Kind, Page, Slots, Reach, As, Num, Node, Resolve, Lookup, View, Grant, Route, Revoke, Dump, Split, Absorb}
 use Rattle.dn_token.specs.declared.token.Sign.{Sign}
-use Rattle.dn_token.specs.declared.token.Sign.TheVariants.{Semicolon, Comma, OpenBracket, CloseBracket, OpenParenthesis, CloseParenthesis, Minus, Plus, Times, Dot, Dots}
+use Rattle.dn_token.specs.declared.token.Sign.TheVariants.{Comma, OpenParenthesis, CloseParenthesis, Dots}
 use Rattle.dn_token.specs.Token.{Lexeme, Token, word, keyword, number, sign}
-use Rattle.dn_parse.specs.Tree.{Expression, Part, Role, plain_role, agent_role, vectors_role, Spec, Param, number_param, node_param, Arg, number_arg, node_arg, Declaration, node, unit, Order, resolve, lookup, view, grant, route, revoke, dump, split, absorb, Statement, declares, heads_module, uses, heads_loop, ends, begins, orders}
+use Rattle.dn_parse.specs.Tree.{Expression, Part, Role, plain_role, agent_role, vectors_role, Spec, Param, Arg, number_arg, node_arg, Declaration, node, unit, Order, revoke, absorb, Statement, declares, heads_module, uses, orders}
 use Rattle.dn_parse.specs.Actions.{Value, Action, perform, text, expression, name, names, spec, param, params, arg, args, mode, statement, first_name, next_name, make_number_param, make_node_param, no_params, first_param, next_param, make_number_arg, make_node_arg, no_args, first_arg, next_arg, make_plain, make_agent, make_vectors, make_unit, make_module, make_use, make_loop, make_end, make_begin, no_access, for_read, for_write, make_resolve, make_lookup, make_view, make_grant, make_route, make_revoke, make_dump, make_split, make_absorb}
-use Rattle.dn_parse.specs.Forms.{Form, takes, does, either, many, a_word, any_word, the_keyword, the_sign, is, is_sign, kept}
+use Rattle.dn_parse.specs.Forms.{Form, takes, does, either, a_word, any_word, the_keyword, the_sign, is, is_sign}
 use Rattle.dn_parse.specs.Forms.{and_then as both}
-use Rattle.dn_parse.specs.Syntax.{the, this, mark, factor, more_factors, term, more_terms, expr, part_form, name_form, spec_form, more_names, param_form, more_params, params_form, arg_form, more_args, args_form, plain_form, agent_form, vectors_form, unit_form, module_form, use_form, loop_form, access_form, maybe_access, command_form, statement_form}
-use Rattle.dn_parse.specs.Machine.{Stop, Move, to, skips, refuses, taken, followed, or_else, move, Fed, on, stuck, fed, inside, run, go, go_in, feed, is_deep, parentheses, stopped, refused}
-use Rattle.dn_parse.specs.Descent.{and_then, optional, Read, Next, Reader, sign_at, keyword_at, word_at, any_word_at, row_at, row, with_front, after, after_sign, after_keyword, after_word, the_word_at, name_at, expr_at, spec_at, param_at, next_param_at, params_at, closed_params_at, arg_at, next_arg_at, args_at, closed_args_at, next_port_at, ports_at, node_at, measure_at, unit_at, module_at, use_at, loop_at, mode_at, access_at, resolve_at, lookup_at, view_at, grant_at, route_at, order_at, as_declared, keyword_statement_at, statement_by, statement_at}
-use Rattle.dn_parse.proofs.Does.{Does, Goes, Row, does_by, seq, pass, last, act, keyword_counts, sign_counts, keyword_after, sign_after, word_does, any_word_does, if_keyword, if_word, the_word_after, if_sign, seq_on, pass_last, does_same, assoc, row_does, most_row_does}
+use Rattle.dn_parse.specs.Syntax.{the, this, mark, factor, term, expr, part_form, name_form, spec_form, more_names, param_form, more_params, params_form, arg_form, more_args, args_form, plain_form, agent_form, vectors_form, unit_form, module_form, use_form, loop_form, access_form, maybe_access, command_form, statement_form}
+use Rattle.dn_parse.specs.Machine.{Move, to, skips, refuses, taken, followed, or_else, move, Fed, on, stuck, fed, inside, run, go, feed, refused}
+use Rattle.dn_parse.specs.Descent.{and_then, optional, Read, Reader, sign_at, keyword_at, word_at, any_word_at, row, with_front, after_sign, after_keyword, the_word_at, name_at, expr_at, spec_at, param_at, next_param_at, params_at, closed_params_at, arg_at, next_arg_at, args_at, closed_args_at, next_port_at, ports_at, node_at, measure_at, unit_at, module_at, use_at, loop_at, mode_at, access_at, resolve_at, lookup_at, view_at, grant_at, route_at, order_at, as_declared, keyword_statement_at, statement_by, statement_at}
+use Rattle.dn_parse.proofs.Does.{Does, Row, does_by, seq, pass, last, act, sign_counts, keyword_after, sign_after, word_does, any_word_does, if_keyword, if_word, the_word_after, seq_on, does_same, assoc, row_does, most_row_does}
 use Rattle.dn_parse.proofs.Readers.{bind_same, step_does, expr_read, expr_does, name_read, name_does, spec_does}
-use Rattle.dn_parse.proofs.Turns.{run_then, run_does, run_fed}
+use Rattle.dn_parse.proofs.Turns.{run_fed}
 
 -- a value made of what was read
 pub mapped : {X Y : Type 0} {f : Form} {n m : ℕ} {ts : List Token} {ws : List Value} (val : Y → Value) (g : X → Y) (r : Read X) → Does f n m ts ws (λ x. val (g x)) r → Does f n m ts ws val (and_then r (λ p. Ok (g p.0, p.1)))

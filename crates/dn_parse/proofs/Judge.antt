@@ -1,5 +1,5 @@
 -- What is still to be said of a text, one statement after the other.
-use Rattle.std.proofs.Common.{◌≡◌, ◌∙◌, ap, sym, refl, subst, ℕ, zero, suc, ◌-◌, ◌<◌, ◌≤◌, Bool, true, false, cond, List, [], ◌∷◌, ◌++◌, length, Some, None, IfSome, Result, Ok, Err, arith, map, reverse, drop, get_or, nat_le, le-leb, leb-true}
+use Rattle.std.proofs.Common.{◌≡◌, ◌∙◌, ap, sym, refl, subst, ℕ, suc, ◌-◌, ◌<◌, ◌≤◌, Bool, true, false, cond, List, [], ◌∷◌, ◌++◌, length, Some, None, IfSome, Result, Ok, Err, arith, map, reverse, drop, nat_le, le-leb, leb-true}
 use Rattle.std.proofs.lemmas.List.{length-map, length-reverse, map-append, reverse-append}
 use Rattle.dn_token.specs.declared.token.Sign.TheVariants.{Semicolon}
 use Rattle.dn_token.specs.Token.{Token, tokens}
@@ -16,12 +16,10 @@ use Rattle.dn_parse.specs.declared.blocks.Misplaced.{Misplaced}
 use Rattle.dn_parse.specs.declared.blocks.Misplaced.TheVariants.{Forbidden, Crowded, OutOfMemory as NoRoom}
 use Rattle.dn_parse.specs.declared.blocks.Blocks.{Blocks as CodeBlocks}
 use Rattle.dn_parse.specs.declared.blocks.Frame.{Frame as CodeFrame}
-use Rattle.dn_token.specs.declared.token.Token.{Token as CodeToken}
-use Rattle.dn_token.specs.Lexing.{token_view}
 use Rattle.dn_parse.specs.declared.syntax.Tree.{Tree as CodeTree}
 use Rattle.dn_parse.specs.declared.reader.ParseFault.{ParseFault}
 use Rattle.dn_base.specs.Answers.{Answers}
-use Rattle.dn_parse.specs.Views.{token_views, frame_view, blocks_view, item_view, command_view, tree_view}
+use Rattle.dn_parse.specs.Views.{frame_view, blocks_view, item_view, command_view, tree_view}
 use Rattle.dn_parse.specs.Faults.{halt_view, misplaced_view, parse_fault_view, halt_fault, misplaced_fault}
 use Rattle.dn_parse.proofs.Does.{DoesBy}
 use Rattle.dn_parse.proofs.Heads.{statement_does}
@@ -136,16 +134,12 @@ without_last b front f frames e =
     ap (without_frame b) turned
 
 -- the line of a token
-pub line_drop : (last : ℕ) (ts : List CodeToken) (i : ℕ) → i < length ts → (t : CodeToken) → t ≡ get_or ts i t → t.line ≡ line_of last (drop i (token_views ts))
-line_drop last [] i h t e = absurd (omega arith)
-line_drop last (x ∷ ts) zero h t e = ap (λ (u : CodeToken). u.line) e
-line_drop last (x ∷ ts) (suc i) h t e = line_drop last ts i (omega arith) t e
-
-pub line_found : (last : ℕ) (ts : List CodeToken) (left i : ℕ) → i ≡ length ts - left → i < length ts → (t : CodeToken) → t ≡ get_or ts i t → t.line ≡ line_at last (token_views ts) left
-line_found last ts left i e h t f =
-    let long : length (token_views ts) ≡ length ts = length-map ts token_view in
-    let same : i ≡ length (token_views ts) - left = omega (arith, long, e) in
-    line_drop last ts i h t f ∙ ap (λ (j : ℕ). line_of last (drop j (token_views ts))) same
+pub line_on : (last : ℕ) (ts : List Token) (t : Token) (rest : List Token) (left : ℕ) → ts ≡ t ∷ rest → left < length ts → line_at last ts left ≡ line_at last rest left
+line_on last [] t rest left e h = cc
+line_on last (u ∷ us) t rest left e h =
+    let same : us ≡ rest = cc in
+    let more : length (u ∷ us) - left ≡ suc (length us - left) = omega (arith, h) in
+    ap (λ (n : ℕ). line_of last (drop n (u ∷ us))) more ∙ ap (λ (l : List Token). line_at last l left) same
 
 -- a whole text
 short_enough : (text : List ℕ) → length text ≤ 4194304 → text_reading text ≡ of_token_list (last_line text) (tokens text)

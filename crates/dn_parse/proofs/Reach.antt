@@ -1,22 +1,21 @@
 -- Where the machine stops: what it read before is a spelling or can become one.
-use Rattle.std.proofs.Common.{◌≡◌, ◌∙◌, inl, ap, sym, refl, subst, ℕ, zero, suc, ◌==◌, eqb-true, eq-eqb, Bool, true, false, ◌&&◌, List, [], ◌∷◌, ◌++◌, length, append-nil, append_assoc}
+use Rattle.std.proofs.Common.{◌≡◌, ◌∙◌, inl, ap, sym, refl, subst, ℕ, zero, suc, ◌==◌, eqb-true, eq-eqb, Bool, true, false, List, [], ◌∷◌, ◌++◌, length, append-nil, append_assoc}
 use denote.Enum.Declared.{tag_of}
 use Rattle.std.proofs.lemmas.Slice.Eq.{bytes_eq-Decides}
 use Rattle.dn_token.specs.contracts.token.Sign.{the_type as the_signs}
 use Rattle.dn_token.specs.contracts.token.Keyword.{the_type as the_keywords}
-use Rattle.dn_token.specs.declared.token.Keyword.{Keyword}
 use Rattle.dn_token.specs.declared.token.Sign.{Sign}
 use Rattle.dn_token.specs.declared.token.Sign.TheVariants.{Semicolon, Comma, OpenBracket, CloseBracket, OpenParenthesis, CloseParenthesis, Minus, Plus, Times, Dot, Dots}
 use Rattle.dn_token.specs.Token.{Lexeme, Token, word, keyword, number, sign}
-use Rattle.dn_parse.specs.Tree.{Placed, Statement, constant}
+use Rattle.dn_parse.specs.Tree.{Placed, constant}
 use Rattle.dn_parse.specs.Actions.{Value, perform, expression}
-use Rattle.dn_token.specs.Words.{same_keyword, same_sign}
+use Rattle.dn_token.specs.Words.{same_sign}
 use Rattle.dn_parse.specs.Forms.{Form, takes, does, and_then, either, many, parenthesised, Sort, a_word, any_word, a_number, the_word, the_keyword, the_sign, is, is_sign, kept, Spells}
 use Rattle.dn_parse.specs.Syntax.{SpellsText, statement_form, statement_of, Parenthesised, after_open, expr, term, factor, less, more_terms, more_factors}
 use Rattle.dn_parse.specs.Machine.{Fed, on, over, stuck, feed, Stop, whole, refused, deep, Outcome, Place, between, inside, run, go, go_in, is_deep, parentheses}
 use Rattle.dn_parse.proofs.Counted.{opened}
 use Rattle.dn_parse.proofs.Taken.{SpellsAll, Deep, SaysAll, says_all, bounded, deep_is_closed}
-use Rattle.dn_parse.proofs.Sets.{both_left, both_right, may_skip, IsOpened}
+use Rattle.dn_parse.proofs.Sets.{both_left, both_right, may_skip}
 use Rattle.dn_parse.proofs.Begins.{left_out}
 use Rattle.dn_parse.proofs.Spelled.{is_opened}
 use Rattle.dn_parse.proofs.Whole.{statement_needed}

@@ -1,18 +1,17 @@
 -- What is read of each part is what the machine does with its form.
-use Rattle.std.proofs.Common.{◌≡◌, ◌∙◌, ◌⊎◌, inl, inr, eq-eqb, eqb-true, ap, sym, refl, subst, ℕ, zero, suc, ◌+◌, ◌-◌, ◌<◌, ◌≤◌, ◌==◌, Bool, true, false, cond, List, [], ◌∷◌, ◌++◌, length, Option, Some, None, Result, Ok, Err, arith}
+use Rattle.std.proofs.Common.{◌≡◌, ◌∙◌, eq-eqb, eqb-true, ap, sym, refl, subst, ℕ, zero, suc, ◌+◌, ◌-◌, ◌==◌, Bool, true, false, List, [], ◌∷◌, ◌++◌, length, Option, Some, None, Result, Ok, Err, arith}
 use Rattle.dn_token.specs.declared.token.Keyword.{Keyword}
-use Rattle.dn_token.specs.declared.token.Keyword.TheVariants.{Agent, Vectors, Unit as UnitWord, Module, Use, For, In, End, Begin, Is, Accept, Map, To, And, At, Over, Kind, Page, Slots, Reach, As, Num, Node, Resolve, Lookup, View, Grant, Route, Revoke, Dump, Split, Absorb}
-use Rattle.dn_token.specs.declared.token.Sign.{Sign}
+use Rattle.dn_token.specs.declared.token.Keyword.TheVariants.{Accept, Map, To, And, At, Over}
 use Rattle.dn_token.specs.declared.token.Sign.TheVariants.{Semicolon, Comma, OpenBracket, CloseBracket, OpenParenthesis, CloseParenthesis, Minus, Plus, Times, Dot, Dots}
 use Rattle.dn_token.specs.Token.{Lexeme, Token, word, keyword, number, sign}
-use Rattle.dn_parse.specs.Tree.{Expression, constant, variable, minus, Part, Block, Dest, Entry, Spec, Param, Arg}
-use Rattle.dn_parse.specs.Actions.{Value, Action, perform, text, expression, members, perhaps, part, name, perhaps_name, names, block, blocks, dest, dests, entry, entries, spec, param, params, arg, args, statement, make_variable, first_member, next_member, make_sum, make_product, make_difference, no_expression, some_expression, make_part, first_part, next_part, no_name, some_name, first_name, next_name, make_block, no_blocks, first_block, next_block, make_dest, first_dest, next_dest, make_entry, no_entries, first_entry, next_entry, make_spec, keep}
-use Rattle.dn_parse.specs.Forms.{Form, takes, does, either, many, parenthesised, a_number, a_word, the_keyword, the_sign, is_sign}
+use Rattle.dn_parse.specs.Tree.{Expression, minus, Block, Dest, Entry}
+use Rattle.dn_parse.specs.Actions.{Value, Action, perform, text, expression, members, perhaps, part, name, perhaps_name, block, blocks, dest, dests, entry, entries, spec, make_variable, first_member, next_member, make_sum, make_product, make_difference, no_expression, some_expression, make_part, first_part, next_part, no_name, some_name, make_block, no_blocks, first_block, next_block, make_dest, first_dest, next_dest, make_entry, no_entries, first_entry, next_entry, make_spec, keep}
+use Rattle.dn_parse.specs.Forms.{Form, does, either, the_keyword, the_sign}
 use Rattle.dn_parse.specs.Forms.{and_then as both}
-use Rattle.dn_parse.specs.Syntax.{the, mark, factor, more_factors, term, more_terms, expr, less, after_open, index, part_form, more_parts, name_form, upper, block_form, at_addr, dest_form, more_dests, entry_form, more_blocks, accept, more_entries, map_form, over, spec_form}
-use Rattle.dn_parse.specs.Machine.{Stop, inside, run, go, go_in, feed, is_deep, parentheses, stopped, refused, deep}
-use Rattle.dn_parse.specs.Descent.{and_then, optional, less_with, word_at, keyword_at, Read, Next, Reader, sign_at, row_at, row, first_and, with_front, after_sign, after_keyword, factor_with, factor_of, nested_at, factor_at, next_factor_at, factors_at, term_at, next_term_at, terms_at, expr_at, after_open_at, index_at, part_at, next_part_at, name_at, upper_at, block_at, next_block_at, blocks_at, addr_at, dest_at, next_dest_at, dests_at, entry_at, next_entry_at, entries_at, accept_at, map_at, over_at, spec_at}
-use Rattle.dn_parse.proofs.Does.{Does, Goes, Row, does_by, seq, pass, last, act, keyword_counts, sign_counts, keyword_after, sign_after, word_does, if_keyword, if_sign, seq_on, pass_last, does_same, assoc, row_does, most_row_does}
+use Rattle.dn_parse.specs.Syntax.{factor, more_factors, term, more_terms, expr, less, after_open, index, part_form, more_parts, name_form, upper, block_form, at_addr, dest_form, more_dests, entry_form, more_blocks, accept, more_entries, map_form, over, spec_form}
+use Rattle.dn_parse.specs.Machine.{Stop, inside, run, go, go_in, feed}
+use Rattle.dn_parse.specs.Descent.{and_then, optional, less_with, word_at, keyword_at, Read, Reader, sign_at, row_at, row, with_front, after_sign, after_keyword, factor_of, nested_at, factor_at, next_factor_at, factors_at, term_at, next_term_at, terms_at, expr_at, after_open_at, index_at, part_at, next_part_at, name_at, upper_at, block_at, next_block_at, blocks_at, addr_at, dest_at, next_dest_at, dests_at, entry_at, next_entry_at, entries_at, accept_at, map_at, over_at, spec_at}
+use Rattle.dn_parse.proofs.Does.{Does, Row, does_by, seq, pass, last, act, keyword_counts, sign_counts, keyword_after, sign_after, word_does, if_keyword, if_sign, seq_on, pass_last, does_same, assoc, row_does, most_row_does}
 use Rattle.dn_parse.proofs.Nested.{one_less}
 use Rattle.dn_parse.proofs.Turns.{run_does}
 

@@ -1,5 +1,5 @@
 -- The tokens with which a form may begin, and those with which it may go on at its end; and what makes each choice of the machine the right one.
-use Rattle.std.proofs.Common.{◌≡◌, ◌∙◌, ◌⊎◌, inl, inr, ap, sym, refl, subst, ℕ, zero, suc, Bool, true, false, not, ◌&&◌, ◌||◌, ◌==◌, eqb-true, eq-eqb, List, [], ◌∷◌, ◌++◌, if◌then◌else◌}
+use Rattle.std.proofs.Common.{◌≡◌, ◌∙◌, ◌⊎◌, inl, inr, sym, refl, subst, ℕ, Bool, true, false, not, ◌&&◌, ◌||◌, ◌==◌, eqb-true, eq-eqb, List, [], ◌∷◌, ◌++◌}
 use denote.Enum.Declared.{tag_of}
 use Rattle.std.proofs.lemmas.Slice.Eq.{bytes_eq-Decides}
 use Rattle.dn_token.specs.contracts.token.Sign.{the_type as the_signs}
@@ -10,8 +10,7 @@ use Rattle.dn_token.specs.declared.token.Sign.TheVariants.{OpenParenthesis}
 use Rattle.dn_token.specs.Token.{Lexeme, Token, word, keyword, number, sign}
 use Rattle.dn_parse.specs.Actions.{Value, perform}
 use Rattle.dn_token.specs.Words.{same_keyword, same_sign}
-use Rattle.dn_parse.specs.Forms.{Form, takes, does, and_then, either, many, parenthesised, Sort, a_word, any_word, a_number, the_word, the_keyword, the_sign, is, is_sign, is_keyword, Times, Spells}
-use Rattle.dn_parse.specs.Machine.{Move, to, skips, refuses, taken, followed, or_else, repeated, move}
+use Rattle.dn_parse.specs.Forms.{Form, takes, does, and_then, either, many, parenthesised, Sort, a_word, any_word, a_number, the_word, the_keyword, the_sign, is, is_sign}
 use Rattle.dn_parse.proofs.Taken.{Inner}
 
 -- whether a form may be left out

@@ -1,16 +1,15 @@
 -- Each spelling of a form is taken by it, whatever follows with which it does not go on.
-use Rattle.std.proofs.Common.{◌≡◌, ◌∙◌, ◌⊎◌, inl, inr, ap, sym, refl, subst, ℕ, zero, suc, Bool, true, false, not, ◌&&◌, List, [], ◌∷◌, ◌++◌, length, append_assoc}
-use Rattle.dn_token.specs.declared.token.Sign.TheVariants.{OpenParenthesis}
-use Rattle.dn_token.specs.Token.{Lexeme, Token}
-use Rattle.dn_parse.specs.Actions.{Value, perform}
-use Rattle.dn_parse.specs.Forms.{Form, takes, does, and_then, either, many, parenthesised, Sort, is, is_sign, kept, Times, Spells}
+use Rattle.std.proofs.Common.{◌≡◌, ◌∙◌, ◌⊎◌, inl, inr, ap, sym, refl, subst, ℕ, zero, suc, Bool, true, false, not, List, [], ◌∷◌, ◌++◌, length, append_assoc}
+use Rattle.dn_token.specs.Token.{Token}
+use Rattle.dn_parse.specs.Actions.{Value}
+use Rattle.dn_parse.specs.Forms.{Form, takes, does, and_then, either, many, parenthesised, Sort, kept, Times, Spells}
 use Rattle.dn_parse.specs.Syntax.{after_open, in_parentheses, Parenthesised, expr, term, factor, less, more_terms, more_factors}
-use Rattle.dn_parse.specs.Machine.{to, refuses, taken, fed, feed, Outcome, inside, run, go, go_in, is_deep, parentheses}
+use Rattle.dn_parse.specs.Machine.{taken, fed, feed, inside, run, go, go_in, is_deep, parentheses}
 use Rattle.dn_parse.proofs.Taken.{Inner}
 use Rattle.dn_parse.proofs.Counted.{opened}
-use Rattle.dn_parse.proofs.Sets.{may_skip, given, starts, goes_on, apart, fits, among, both_left, both_right, not_true, true_or_false, among_left, among_right, among_first, among_second, apart_among, skipped, IsOpened}
-use Rattle.dn_parse.proofs.Begins.{left_out, nothing_made, spells_nil, AtOther, at_other, Takes, at_start, begins}
-use Rattle.dn_parse.proofs.Turns.{Upto, upto_then, equal_then, run_fed, run_then, run_does, run_first, run_second, run_again, run_no_more, run_parenthesised}
+use Rattle.dn_parse.proofs.Sets.{may_skip, given, starts, goes_on, apart, fits, among, both_left, both_right, not_true, true_or_false, among_left, among_right, apart_among, IsOpened}
+use Rattle.dn_parse.proofs.Begins.{left_out, at_other, at_start, begins}
+use Rattle.dn_parse.proofs.Turns.{Upto, upto_then, equal_then, run_then, run_does, run_first, run_second, run_again, run_no_more, run_parenthesised}
 
 -- the next token is of none of these sorts
 abbrev pub Calm : List Sort → List Token → Type 0

@@ -1,8 +1,8 @@
 -- What the machine takes is a spelling of the forms that it took it by.
-use Rattle.std.proofs.Common.{◌≡◌, ◌∙◌, ◌⊎◌, inl, inr, ap, sym, refl, subst, ℕ, zero, suc, ◌+◌, ◌≤◌, max, Bool, true, false, List, [], ◌∷◌, ◌++◌, length, append_assoc, append-nil, arith}
+use Rattle.std.proofs.Common.{◌≡◌, ◌∙◌, inl, inr, ap, sym, refl, subst, ℕ, zero, suc, ◌+◌, Bool, true, false, List, [], ◌∷◌, ◌++◌, append_assoc, append-nil, arith}
 use Rattle.dn_token.specs.declared.token.Sign.TheVariants.{Semicolon, OpenParenthesis}
 use Rattle.dn_token.specs.Token.{Token}
-use Rattle.dn_parse.specs.Actions.{Value, perform}
+use Rattle.dn_parse.specs.Actions.{Value}
 use Rattle.dn_parse.specs.Forms.{Form, takes, does, and_then, either, many, parenthesised, Sort, is, is_sign, kept, Times, Spells}
 use Rattle.dn_parse.specs.Syntax.{after_open, in_parentheses, Parenthesised}
 use Rattle.dn_parse.specs.Machine.{Move, to, skips, refuses, taken, followed, or_else, repeated, move, Fed, on, over, stuck, closed, fed, feed}

@@ -1,11 +1,11 @@
 -- How the machine goes from form to form before it takes a token.
-use Rattle.std.proofs.Common.{◌≡◌, ◌∙◌, ◌⊎◌, inl, inr, ap, sym, refl, subst, ℕ, suc, Bool, true, false, List, [], ◌∷◌, ◌++◌, length, append_assoc}
+use Rattle.std.proofs.Common.{◌≡◌, ◌∙◌, ◌⊎◌, inl, inr, ap, sym, refl, subst, ℕ, suc, Bool, true, false, List, [], ◌∷◌, length, append_assoc}
 use Rattle.dn_token.specs.declared.token.Sign.TheVariants.{OpenParenthesis}
 use Rattle.dn_token.specs.Token.{Lexeme, Token}
 use Rattle.dn_parse.specs.Actions.{Value, Action, perform}
-use Rattle.dn_parse.specs.Forms.{Form, takes, does, and_then, either, many, parenthesised, is_sign}
+use Rattle.dn_parse.specs.Forms.{Form, does, and_then, either, many, parenthesised, is_sign}
 use Rattle.dn_parse.specs.Syntax.{after_open, in_parentheses}
-use Rattle.dn_parse.specs.Machine.{Move, to, skips, refuses, taken, followed, or_else, repeated, move, Fed, on, fed, feed, Outcome, inside, run, go}
+use Rattle.dn_parse.specs.Machine.{Move, to, skips, refuses, taken, followed, or_else, repeated, move, on, fed, feed, Outcome, inside, run, go}
 use Rattle.dn_parse.specs.Laws.{IsDeep}
 
 -- two runs come to the same, or the first stops at a parenthesis that is nested too deep

@@ -1,16 +1,15 @@
 -- A whole text: one token decides at each place, and each spelling is read as its statements.
-use Rattle.std.proofs.Common.{◌≡◌, ◌∙◌, ◌⊎◌, inl, inr, ap, sym, refl, subst, ℕ, suc, Bool, true, false, List, [], ◌∷◌, ◌++◌, length}
+use Rattle.std.proofs.Common.{◌≡◌, ◌∙◌, ◌⊎◌, inl, inr, ap, sym, refl, subst, ℕ, suc, true, false, List, [], ◌∷◌, ◌++◌, length}
 use Rattle.dn_token.specs.declared.token.Sign.TheVariants.{Semicolon}
-use Rattle.dn_token.specs.Token.{Lexeme, Token, sign}
+use Rattle.dn_token.specs.Token.{Token, sign}
 use Rattle.dn_parse.specs.Tree.{Placed, Statement}
-use Rattle.dn_parse.specs.Actions.{Value}
-use Rattle.dn_parse.specs.Forms.{Spells, is_sign}
-use Rattle.dn_parse.specs.Syntax.{statement_form, statement_of, Parenthesised, SpellsStatement, SpellsText, after_open, expr, term, factor, less, more_terms, more_factors, index, part_form, more_parts, name_form, upper, block_form, at_addr, dest_form, more_dests, entry_form, more_blocks, accept, more_entries, map_form, over, spec_form, plain_form, agent_form, vectors_form, more_names, unit_form, param_form, more_params, params_form, module_form, arg_form, more_args, args_form, use_form, loop_form, access_form, maybe_access, command_form}
-use Rattle.dn_parse.specs.Machine.{Stop, whole, refused, deep, Outcome, with_statement, between, inside, run, go, feed, closed}
+use Rattle.dn_parse.specs.Forms.{is_sign}
+use Rattle.dn_parse.specs.Syntax.{statement_form, statement_of, SpellsStatement, SpellsText, expr, term, factor, less, more_terms, more_factors, index, part_form, more_parts, name_form, upper, block_form, at_addr, dest_form, more_dests, entry_form, more_blocks, accept, more_entries, map_form, over, spec_form, plain_form, agent_form, vectors_form, more_names, unit_form, param_form, more_params, params_form, module_form, arg_form, more_args, args_form, use_form, loop_form, access_form, maybe_access, command_form}
+use Rattle.dn_parse.specs.Machine.{whole, Outcome, with_statement, between, inside, run, go, closed}
 use Rattle.dn_parse.specs.Laws.{IsDeep}
 use Rattle.dn_parse.proofs.Sets.{may_skip, goes_on, fits, among}
 use Rattle.dn_parse.proofs.Counted.{opened}
-use Rattle.dn_parse.proofs.Turns.{Upto, upto_then, equal_then}
+use Rattle.dn_parse.proofs.Turns.{Upto, upto_then}
 use Rattle.dn_parse.proofs.Spelled.{Calm, form_read}
 
 pub statement_fits : fits statement_form ≡ true

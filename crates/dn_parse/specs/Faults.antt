@@ -1,9 +1,9 @@
 -- The faults of the code as those of the definitions, and what a call that reads a part answers.
 -- Want of memory is none of the faults: it may befall any call.
-use denote.Ref.{Bor}
 use Rattle.std.specs.Prelude.{ℕ, ◌<◌, ◌≤◌, List, length, Option, None, Some, option_map, Result}
 use Rattle.dn_base.specs.Answers.{Answers}
-use Rattle.dn_token.specs.declared.token.Token.{Token as CodeToken}
+use Rattle.dn_token.specs.declared.cursor.Cursor.{Cursor}
+use Rattle.dn_token.specs.Cursor.{cursor_view}
 use Rattle.dn_parse.specs.declared.cursor.Halt.{Halt}
 use Rattle.dn_parse.specs.declared.cursor.Halt.TheVariants.{Refused, Deep, OutOfMemory as NoParts}
 use Rattle.dn_parse.specs.declared.blocks.Misplaced.{Misplaced}
@@ -15,7 +15,6 @@ use Rattle.dn_parse.specs.declared.reader.ParseFault.TheVariants.{Length, Token 
 use Rattle.dn_token.specs.Token.{Token}
 use Rattle.dn_parse.specs.Machine.{Stop, refused, deep}
 use Rattle.dn_parse.specs.Descent.{Read, Next}
-use Rattle.dn_parse.specs.Views.{token_views}
 use Rattle.dn_parse.specs.Whole.{Misplacement, forbidden, crowded, TextFault, too_long, bad_token, statement_fault, block_fault, nesting_fault, stop_fault, misplacement_fault}
 
 -- where the reading of a part stops
@@ -25,20 +24,20 @@ halt_view (Deep n) = Some (deep n)
 halt_view NoParts = None
 
 -- a part was read, and these tokens follow it; or this is where the reading stops
-abbrev pub Reads : {X Y : Type 0} → (X → Y) → Result (X × Bor (List CodeToken)) Halt → Read Y → Type 0
-Reads view result read = Answers (λ p. (view p.0, token_views p.1.now)) halt_view result read
+abbrev pub Reads : {X Y : Type 0} → (X → Y) → Result (X × Cursor) Halt → Read Y → Type 0
+Reads view result read = Answers (λ p. (view p.0, cursor_view p.1)) halt_view result read
 
 -- the same of a part that may be left out
-abbrev pub ReadsNext : {X Y : Type 0} → (X → Y) → Result (Option (X × Bor (List CodeToken))) Halt → Next Y → Type 0
-ReadsNext view result next = Answers (λ o. option_map (λ p. (view p.0, token_views p.1.now)) o) halt_view result next
+abbrev pub ReadsNext : {X Y : Type 0} → (X → Y) → Result (Option (X × Cursor)) Halt → Next Y → Type 0
+ReadsNext view result next = Answers (λ o. option_map (λ p. (view p.0, cursor_view p.1)) o) halt_view result next
 
 -- fewer tokens are left
-abbrev pub IsShorter : List CodeToken → List CodeToken → Type 0
-IsShorter rest tokens = length (token_views rest) < length (token_views tokens)
+abbrev pub IsShorter : Cursor → Cursor → Type 0
+IsShorter rest tokens = length (cursor_view rest) < length (cursor_view tokens)
 
 -- no more tokens are left
-abbrev pub IsNoLonger : List CodeToken → List CodeToken → Type 0
-IsNoLonger rest tokens = length (token_views rest) ≤ length (token_views tokens)
+abbrev pub IsNoLonger : Cursor → Cursor → Type 0
+IsNoLonger rest tokens = length (cursor_view rest) ≤ length (cursor_view tokens)
 
 -- why a statement is not placed
 abbrev pub misplaced_view : Misplaced → Option Misplacement

@@ -1,6 +1,5 @@
 -- The tree that the code's tree is.
 use Rattle.std.specs.Prelude.{List, map, reverse, Option, option_map}
-use Rattle.dn_token.specs.declared.token.Token.{Token as CodeToken}
 use Rattle.dn_parse.specs.declared.syntax.Expr.{Expr}
 use Rattle.dn_parse.specs.declared.syntax.Expr.TheOpen.{Expr-F, Number, Variable, Sum, Product, Minus}
 use Rattle.dn_parse.specs.declared.syntax.Expr.TheFolds.{fold-Expr}
@@ -31,13 +30,7 @@ use Rattle.dn_parse.specs.declared.blocks.Opener.TheVariants.{Module as OpenerMo
 use Rattle.dn_parse.specs.declared.blocks.Frame.{Frame as CodeFrame}
 use Rattle.dn_parse.specs.declared.blocks.Blocks.{Blocks as CodeBlocks}
 use Rattle.dn_parse.specs.Whole.{Opener, opens_module, opens_loop, Frame, Blocks}
-use Rattle.dn_token.specs.Token.{Token}
-use Rattle.dn_token.specs.Lexing.{token_view}
 use Rattle.dn_parse.specs.Tree.{Expression, constant, variable, sum, product, minus, expressions, Part, Block, Dest, Entry, Role, plain_role, agent_role, vectors_role, Spec, Param, number_param, node_param, Arg, number_arg, node_arg, Declaration, node, unit, Order, resolve, lookup, view, grant, route, revoke, dump, split, absorb, Statement, declares, heads_module, uses, heads_loop, ends, begins, orders, Item, declared, module_of, instance, loop, items, Command, Tree}
-
--- tokens
-abbrev pub token_views : List CodeToken → List Token
-token_views ts = map token_view ts
 
 -- one level of an expression, with its parts in their places
 abbrev pub expr_step : Expr-F Expression → Expression

@@ -1,14 +1,15 @@
-//! Single tokens at the front of a list of tokens, and where a reading stops.
+//! Single tokens at the front of those that are still to come, and where a reading stops.
 
 ghost use Rattle.std.specs.Prelude.{◌≡◌, ◌∷◌, [], ◌<◌, length, option_map, Ok, Err, IfSome, IfOk, MatchOption};
+ghost use Rattle.dn_token.specs.Cursor.{cursor_view};
 ghost use Rattle.dn_parse.specs.declared.cursor.Halt.TheVariants.{Refused};
 ghost use Rattle.dn_token.specs.Lexing.{token_view};
-ghost use Rattle.dn_parse.specs.Views.{token_views};
 ghost use Rattle.dn_parse.specs.Descent.{after_sign, after_keyword, after_word, sign_at, keyword_at, the_word_at, word_at};
 ghost use Rattle.dn_base.specs.Answers.{Answers};
 ghost use Rattle.dn_parse.specs.Faults.{halt_view, Reads, IsShorter};
 
 use dn_base::text::Text;
+use dn_token::cursor::Cursor;
 use dn_token::token::{Keyword, Lexeme, Sign, Token};
 use std::alloc::{AllocError, AllocFailed, Global};
 
@@ -17,9 +18,9 @@ use std::alloc::{AllocError, AllocFailed, Global};
 #[derive(Clone, Copy, Debug, PartialEq, Eq)]
 pub enum Halt {
     /// No form allows this token, or the end where none is left.
-    Refused(usize),
+    Refused(u32),
     /// This parenthesis is nested too deep.
-    Deep(usize),
+    Deep(u32),
     /// There was no memory.
     OutOfMemory,
 }
@@ -47,76 +48,74 @@ impl<T: Drop> From<AllocFailed<T>> for Halt {
 }
 
 /// A part of a text, and the tokens after it.
-pub type Read<'a, T> = Result<(T, &'a [Token<'a>]), Halt>;
+pub type Read<'a, T> = Result<(T, Cursor<'a>), Halt>;
 
 /// A part that may be left out, and the tokens after it.
-pub type Next<'a, T> = Result<Option<(T, &'a [Token<'a>])>, Halt>;
+pub type Next<'a, T> = Result<Option<(T, Cursor<'a>)>, Halt>;
 
 /// The next token, and those after it.
-pub fn next<'a>(tokens: &'a [Token<'a>]) -> Option<(Token<'a>, &'a [Token<'a>])>
-    ensures { MatchOption result (token_views tokens.now ≡ [])
-        (λ p. token_views tokens.now ≡ token_view p.0 ∷ token_views p.1.now) }
+pub fn next<'a>(tokens: Cursor<'a>) -> Option<(Token<'a>, Cursor<'a>)>
+    ensures { MatchOption result (cursor_view tokens.entry ≡ [])
+        (λ p. cursor_view tokens.entry ≡ token_view p.0 ∷ cursor_view p.1) }
 {
-    match tokens {
-        [] => None,
-        [token, rest @ ..] => Some((*token, rest)),
-    }
+    let token = tokens.peek()?;
+    Some((token, tokens.advance()))
 }
 
 /// The tokens after this sign, if it is the next token.
 #[tactic(auto, unfolding(crate::specs::Descent::after_sign))]
-pub fn after_sign<'a>(tokens: &'a [Token<'a>], sign: Sign) -> Option<&'a [Token<'a>]>
-    ensures gives { after_sign sign (token_views tokens.now)
-        ≡ option_map (λ rest. token_views rest.now) result }
-    ensures shorter { IfSome result (λ rest. IsShorter rest.now tokens.now) }
+pub fn after_sign<'a>(tokens: Cursor<'a>, sign: Sign) -> Option<Cursor<'a>>
+    ensures gives { after_sign sign (cursor_view tokens.entry)
+        ≡ option_map (λ rest. cursor_view rest) result }
+    ensures shorter { IfSome result (λ rest. IsShorter rest tokens.entry) }
 {
-    let (token, rest) = next(tokens)?;
+    let token = tokens.peek()?;
     match token.lexeme {
-        Lexeme::Sign(found) if found == sign => Some(rest),
+        Lexeme::Sign(found) if found == sign => Some(tokens.advance()),
         _ => None,
     }
 }
 
 /// The tokens after this reserved word, if it is the next token.
 #[tactic(auto, unfolding(crate::specs::Descent::after_keyword))]
-pub fn after_keyword<'a>(tokens: &'a [Token<'a>], word: Keyword) -> Option<&'a [Token<'a>]>
-    ensures gives { after_keyword word (token_views tokens.now)
-        ≡ option_map (λ rest. token_views rest.now) result }
-    ensures shorter { IfSome result (λ rest. IsShorter rest.now tokens.now) }
+pub fn after_keyword<'a>(tokens: Cursor<'a>, word: Keyword) -> Option<Cursor<'a>>
+    ensures gives { after_keyword word (cursor_view tokens.entry)
+        ≡ option_map (λ rest. cursor_view rest) result }
+    ensures shorter { IfSome result (λ rest. IsShorter rest tokens.entry) }
 {
-    let (token, rest) = next(tokens)?;
+    let token = tokens.peek()?;
     match token.lexeme {
-        Lexeme::Keyword(found) if found == word => Some(rest),
+        Lexeme::Keyword(found) if found == word => Some(tokens.advance()),
         _ => None,
     }
 }
 
 /// The tokens after this word, which is not reserved, if it is the next token.
 #[tactic(auto, unfolding(crate::specs::Descent::after_word))]
-pub fn after_word<'a>(tokens: &'a [Token<'a>], word: &str) -> Option<&'a [Token<'a>]>
-    ensures gives { after_word word.now (token_views tokens.now)
-        ≡ option_map (λ rest. token_views rest.now) result }
+pub fn after_word<'a>(tokens: Cursor<'a>, word: &str) -> Option<Cursor<'a>>
+    ensures gives { after_word word.now (cursor_view tokens.entry)
+        ≡ option_map (λ rest. cursor_view rest) result }
 {
-    let (token, rest) = next(tokens)?;
+    let token = tokens.peek()?;
     match token.lexeme {
-        Lexeme::Word(found) if found == word => Some(rest),
+        Lexeme::Word(found) if found == word => Some(tokens.advance()),
         _ => None,
     }
 }
 
 /// The refusal of the next token, or of the end.
-pub fn refusal<'a>(tokens: &'a [Token<'a>]) -> Halt
-    ensures { result ≡ Refused (length (token_views tokens.now)) }
+pub fn refusal<'a>(tokens: Cursor<'a>) -> Halt
+    ensures { result ≡ Refused (length (cursor_view tokens.entry)) }
 {
-    Halt::Refused(tokens.len())
+    Halt::Refused(tokens.left())
 }
 
 /// The tokens after this sign.
 #[tactic(auto, unfolding(crate::specs::Descent::sign_at))]
-pub fn sign<'a>(tokens: &'a [Token<'a>], sign: Sign) -> Result<&'a [Token<'a>], Halt>
-    ensures gives { Answers (λ rest. token_views rest.now) halt_view result
-        (sign_at sign (token_views tokens.now)) }
-    ensures shorter { IfOk result (λ rest. IsShorter rest.now tokens.now) }
+pub fn sign<'a>(tokens: Cursor<'a>, sign: Sign) -> Result<Cursor<'a>, Halt>
+    ensures gives { Answers (λ rest. cursor_view rest) halt_view result
+        (sign_at sign (cursor_view tokens.entry)) }
+    ensures shorter { IfOk result (λ rest. IsShorter rest tokens.entry) }
 {
     match after_sign(tokens, sign) {
         Some(rest) => Ok(rest),
@@ -126,10 +125,10 @@ pub fn sign<'a>(tokens: &'a [Token<'a>], sign: Sign) -> Result<&'a [Token<'a>], 
 
 /// The tokens after this reserved word.
 #[tactic(auto, unfolding(crate::specs::Descent::keyword_at))]
-pub fn keyword<'a>(tokens: &'a [Token<'a>], word: Keyword) -> Result<&'a [Token<'a>], Halt>
-    ensures gives { Answers (λ rest. token_views rest.now) halt_view result
-        (keyword_at word (token_views tokens.now)) }
-    ensures shorter { IfOk result (λ rest. IsShorter rest.now tokens.now) }
+pub fn keyword<'a>(tokens: Cursor<'a>, word: Keyword) -> Result<Cursor<'a>, Halt>
+    ensures gives { Answers (λ rest. cursor_view rest) halt_view result
+        (keyword_at word (cursor_view tokens.entry)) }
+    ensures shorter { IfOk result (λ rest. IsShorter rest tokens.entry) }
 {
     match after_keyword(tokens, word) {
         Some(rest) => Ok(rest),
@@ -139,9 +138,9 @@ pub fn keyword<'a>(tokens: &'a [Token<'a>], word: Keyword) -> Result<&'a [Token<
 
 /// The tokens after this word, which is not reserved.
 #[tactic(auto, unfolding(crate::specs::Descent::the_word_at))]
-pub fn the_word<'a>(tokens: &'a [Token<'a>], word: &str) -> Result<&'a [Token<'a>], Halt>
-    ensures gives { Answers (λ rest. token_views rest.now) halt_view result
-        (the_word_at word.now (token_views tokens.now)) }
+pub fn the_word<'a>(tokens: Cursor<'a>, word: &str) -> Result<Cursor<'a>, Halt>
+    ensures gives { Answers (λ rest. cursor_view rest) halt_view result
+        (the_word_at word.now (cursor_view tokens.entry)) }
 {
     match after_word(tokens, word) {
         Some(rest) => Ok(rest),
@@ -151,9 +150,9 @@ pub fn the_word<'a>(tokens: &'a [Token<'a>], word: &str) -> Result<&'a [Token<'a
 
 /// A word that is not reserved.
 #[tactic(auto, unfolding(crate::specs::Descent::word_at))]
-pub fn word<'a>(alloc: Global, tokens: &'a [Token<'a>]) -> Read<'a, Text>
-    ensures gives { Reads (λ x. x) result (word_at (token_views tokens.now)) }
-    ensures shorter { IfOk result (λ p. IsShorter p.1.now tokens.now) }
+pub fn word<'a>(alloc: Global, tokens: Cursor<'a>) -> Read<'a, Text>
+    ensures gives { Reads (λ x. x) result (word_at (cursor_view tokens.entry)) }
+    ensures shorter { IfOk result (λ p. IsShorter p.1 tokens.entry) }
 {
     let Some((token, rest)) = next(tokens) else {
         return Err(refusal(tokens));

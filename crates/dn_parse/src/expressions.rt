@@ -1,49 +1,51 @@
 //! Expressions.
 
-ghost use Rattle.std.specs.Prelude.{◌≡◌, ◌<◌, map, IfOk, IfSome, vec_len};
+ghost use Rattle.std.specs.Prelude.{◌≡◌, ◌<◌, [], ◌∷◌, map, IfOk, IfSome, vec_len};
+ghost use Rattle.dn_token.specs.Cursor.{cursor_view};
 ghost use Rattle.dn_parse.specs.Actions.{summed, multiplied};
-ghost use Rattle.dn_parse.specs.Views.{token_views, expr_view};
-ghost use Rattle.dn_parse.specs.Descent.{factor_at, next_factor_at, factors_at, term_at, next_term_at, terms_at, expr_at, after_open_at};
+ghost use Rattle.dn_parse.specs.Views.{expr_view};
+ghost use Rattle.dn_parse.specs.Descent.{factor_at, next_factor_at, term_at, next_term_at, expr_at, after_open_at};
 ghost use Rattle.dn_parse.specs.Faults.{Reads, ReadsNext, IsShorter};
 
 use crate::cursor::{Halt, Next, Read, after_sign, next, refusal, sign};
 use crate::syntax::Expr;
 use dn_base::text::Text;
-use dn_token::token::{Lexeme, Sign, Token};
-use std::alloc::Global;
+use dn_token::cursor::Cursor;
+use dn_token::token::{Lexeme, Sign};
+use std::alloc::{AllocError, Global};
 
-/// The sum of the members, or the only one.
-fn sum_of(members: Vec<Expr>) -> Expr
-    requires { 0 < vec_len members }
-    ensures { expr_view result ≡ summed (map expr_view members.items) }
+/// Two members of a sum or of a product, in a vector.
+fn two_members(alloc: Global, first: Expr, second: Expr) -> Result<Vec<Expr>, AllocError>
+    ensures { IfOk result (λ v. v.items ≡ first ∷ second ∷ []) }
 {
-    let mut members = members;
-    if members.len() == 1 {
-        members.remove(0)
-    } else {
-        Expr::Sum(members)
-    }
+    let mut members = Vec::with_capacity(alloc, 2)?;
+    members.push(first)?;
+    members.push(second)?;
+    Ok(members)
 }
 
-/// The product of the members, or the only one.
+/// The sum of two members or more.
+fn sum_of(members: Vec<Expr>) -> Expr
+    requires { 1 < vec_len members }
+    ensures { expr_view result ≡ summed (map expr_view members.items) }
+{
+    Expr::Sum(members)
+}
+
+/// The product of two members or more.
 fn product_of(members: Vec<Expr>) -> Expr
-    requires { 0 < vec_len members }
+    requires { 1 < vec_len members }
     ensures { expr_view result ≡ multiplied (map expr_view members.items) }
 {
-    let mut members = members;
-    if members.len() == 1 {
-        members.remove(0)
-    } else {
-        Expr::Product(members)
-    }
+    Expr::Product(members)
 }
 
 /// `number | word | "(" expr [ "-" expr ] ")"`, where so many parentheses may still be opened.
 #[cycle(expressions)]
 #[tactic(auto, unfolding(crate::specs::Descent::factor_at))]
-fn factor<'a>(alloc: Global, tokens: &'a [Token<'a>], depth: u8) -> Read<'a, Expr>
-    ensures gives { Reads expr_view result (factor_at depth (token_views tokens.now)) }
-    ensures shorter { IfOk result (λ p. IsShorter p.1.now tokens.now) }
+fn factor<'a>(alloc: Global, tokens: Cursor<'a>, depth: u8) -> Read<'a, Expr>
+    ensures gives { Reads expr_view result (factor_at depth (cursor_view tokens.entry)) }
+    ensures shorter { IfOk result (λ p. IsShorter p.1 tokens.entry) }
 {
     let Some((token, rest)) = next(tokens) else {
         return Err(refusal(tokens));
@@ -53,7 +55,7 @@ fn factor<'a>(alloc: Global, tokens: &'a [Token<'a>], depth: u8) -> Read<'a, Exp
         Lexeme::Word(word) => Ok((Expr::Variable(Text::of(alloc, word)?), rest)),
         Lexeme::Sign(Sign::OpenParenthesis) => {
             if depth == 0 {
-                return Err(Halt::Deep(tokens.len()));
+                return Err(Halt::Deep(tokens.left()));
             }
             after_open(alloc, rest, depth - 1)
         }
@@ -64,9 +66,9 @@ fn factor<'a>(alloc: Global, tokens: &'a [Token<'a>], depth: u8) -> Read<'a, Exp
 /// `expr [ "-" expr ] ")"`
 #[cycle(expressions)]
 #[tactic(auto, unfolding(crate::specs::Descent::after_open_at))]
-fn after_open<'a>(alloc: Global, tokens: &'a [Token<'a>], depth: u8) -> Read<'a, Expr>
-    ensures gives { Reads expr_view result (after_open_at depth (token_views tokens.now)) }
-    ensures shorter { IfOk result (λ p. IsShorter p.1.now tokens.now) }
+fn after_open<'a>(alloc: Global, tokens: Cursor<'a>, depth: u8) -> Read<'a, Expr>
+    ensures gives { Reads expr_view result (after_open_at depth (cursor_view tokens.entry)) }
+    ensures shorter { IfOk result (λ p. IsShorter p.1 tokens.entry) }
 {
     let (first, rest) = expr(alloc, tokens, depth)?;
     let Some(rest) = after_sign(rest, Sign::Minus) else {
@@ -82,9 +84,9 @@ fn after_open<'a>(alloc: Global, tokens: &'a [Token<'a>], depth: u8) -> Read<'a,
 /// `[ "*" factor ]`
 #[cycle(expressions)]
 #[tactic(auto, unfolding(crate::specs::Descent::next_factor_at))]
-fn next_factor<'a>(alloc: Global, tokens: &'a [Token<'a>], depth: u8) -> Next<'a, Expr>
-    ensures gives { ReadsNext expr_view result (next_factor_at depth (token_views tokens.now)) }
-    ensures shorter { IfOk result (λ o. IfSome o (λ p. IsShorter p.1.now tokens.now)) }
+fn next_factor<'a>(alloc: Global, tokens: Cursor<'a>, depth: u8) -> Next<'a, Expr>
+    ensures gives { ReadsNext expr_view result (next_factor_at depth (cursor_view tokens.entry)) }
+    ensures shorter { IfOk result (λ o. IfSome o (λ p. IsShorter p.1 tokens.entry)) }
 {
     let Some(rest) = after_sign(tokens, Sign::Times) else {
         return Ok(None);
@@ -93,42 +95,32 @@ fn next_factor<'a>(alloc: Global, tokens: &'a [Token<'a>], depth: u8) -> Next<'a
     Ok(Some((factor, rest)))
 }
 
-/// `factor { "*" factor }`
+/// `factor { "*" factor }`, as one expression
 #[cycle(expressions)]
-fn factors<'a>(alloc: Global, tokens: &'a [Token<'a>], depth: u8) -> Read<'a, Vec<Expr>>
-    ensures gives { Reads (λ v. map expr_view v.items) result
-        (factors_at depth (token_views tokens.now)) }
-    ensures some { IfOk result (λ p. 0 < vec_len p.0) }
-    ensures shorter { IfOk result (λ p. IsShorter p.1.now tokens.now) }
+fn term<'a>(alloc: Global, tokens: Cursor<'a>, depth: u8) -> Read<'a, Expr>
+    ensures gives { Reads expr_view result (term_at depth (cursor_view tokens.entry)) }
+    ensures shorter { IfOk result (λ p. IsShorter p.1 tokens.entry) }
 {
     let (first, after) = factor(alloc, tokens, depth)?;
-    let mut members = Vec::new(alloc);
-    members.push(first)?;
+    let next = next_factor(alloc, after, depth)?;
+    let Some((second, after)) = next else {
+        return Ok((first, after));
+    };
+    let mut members = two_members(alloc, first, second)?;
     let mut rest = after;
     'factors: while let Some((factor, after)) = next_factor(alloc, rest, depth)? {
         members.push(factor)?;
         rest = after;
     }
-    Ok((members, rest))
-}
-
-/// `factor { "*" factor }`, as one expression
-#[cycle(expressions)]
-#[tactic(auto, unfolding(crate::specs::Descent::term_at))]
-fn term<'a>(alloc: Global, tokens: &'a [Token<'a>], depth: u8) -> Read<'a, Expr>
-    ensures gives { Reads expr_view result (term_at depth (token_views tokens.now)) }
-    ensures shorter { IfOk result (λ p. IsShorter p.1.now tokens.now) }
-{
-    let (members, rest) = factors(alloc, tokens, depth)?;
     Ok((product_of(members), rest))
 }
 
 /// `[ "+" term ]`
 #[cycle(expressions)]
 #[tactic(auto, unfolding(crate::specs::Descent::next_term_at))]
-fn next_term<'a>(alloc: Global, tokens: &'a [Token<'a>], depth: u8) -> Next<'a, Expr>
-    ensures gives { ReadsNext expr_view result (next_term_at depth (token_views tokens.now)) }
-    ensures shorter { IfOk result (λ o. IfSome o (λ p. IsShorter p.1.now tokens.now)) }
+fn next_term<'a>(alloc: Global, tokens: Cursor<'a>, depth: u8) -> Next<'a, Expr>
+    ensures gives { ReadsNext expr_view result (next_term_at depth (cursor_view tokens.entry)) }
+    ensures shorter { IfOk result (λ o. IfSome o (λ p. IsShorter p.1 tokens.entry)) }
 {
     let Some(rest) = after_sign(tokens, Sign::Plus) else {
         return Ok(None);
@@ -137,32 +129,22 @@ fn next_term<'a>(alloc: Global, tokens: &'a [Token<'a>], depth: u8) -> Next<'a, 
     Ok(Some((term, rest)))
 }
 
-/// `term { "+" term }`
+/// `term { "+" term }`, as one expression
 #[cycle(expressions)]
-fn terms<'a>(alloc: Global, tokens: &'a [Token<'a>], depth: u8) -> Read<'a, Vec<Expr>>
-    ensures gives { Reads (λ v. map expr_view v.items) result
-        (terms_at depth (token_views tokens.now)) }
-    ensures some { IfOk result (λ p. 0 < vec_len p.0) }
-    ensures shorter { IfOk result (λ p. IsShorter p.1.now tokens.now) }
+pub fn expr<'a>(alloc: Global, tokens: Cursor<'a>, depth: u8) -> Read<'a, Expr>
+    ensures gives { Reads expr_view result (expr_at depth (cursor_view tokens.entry)) }
+    ensures shorter { IfOk result (λ p. IsShorter p.1 tokens.entry) }
 {
     let (first, after) = term(alloc, tokens, depth)?;
-    let mut members = Vec::new(alloc);
-    members.push(first)?;
+    let next = next_term(alloc, after, depth)?;
+    let Some((second, after)) = next else {
+        return Ok((first, after));
+    };
+    let mut members = two_members(alloc, first, second)?;
     let mut rest = after;
     'terms: while let Some((term, after)) = next_term(alloc, rest, depth)? {
         members.push(term)?;
         rest = after;
     }
-    Ok((members, rest))
-}
-
-/// `term { "+" term }`, as one expression
-#[cycle(expressions)]
-#[tactic(auto, unfolding(crate::specs::Descent::expr_at))]
-pub fn expr<'a>(alloc: Global, tokens: &'a [Token<'a>], depth: u8) -> Read<'a, Expr>
-    ensures gives { Reads expr_view result (expr_at depth (token_views tokens.now)) }
-    ensures shorter { IfOk result (λ p. IsShorter p.1.now tokens.now) }
-{
-    let (members, rest) = terms(alloc, tokens, depth)?;
     Ok((sum_of(members), rest))
 }

@@ -1,7 +1,8 @@
 //! Names, and the parts of a node.
 
-ghost use Rattle.std.specs.Prelude.{◌<◌, map, IfOk, IfSome};
-ghost use Rattle.dn_parse.specs.Views.{token_views, maybe_expr_view, part_view, name_view, block_view, dest_view, entry_view, maybe_name_view, spec_view};
+ghost use Rattle.std.specs.Prelude.{◌≡◌, ◌<◌, [], ◌∷◌, map, IfOk, IfSome};
+ghost use Rattle.dn_token.specs.Cursor.{cursor_view};
+ghost use Rattle.dn_parse.specs.Views.{maybe_expr_view, part_view, name_view, block_view, dest_view, entry_view, maybe_name_view, spec_view};
 ghost use Rattle.dn_parse.specs.Descent.{index_at, part_at, next_part_at, name_at, upper_at, block_at, next_block_at, blocks_at, addr_at, dest_at, next_dest_at, dests_at, entry_at, next_entry_at, entries_at, accept_at, map_at, over_at, spec_at};
 ghost use Rattle.dn_parse.specs.Faults.{Reads, ReadsNext, IsShorter, IsNoLonger};
 
@@ -9,17 +10,18 @@ use crate::cursor::{Next, Read, after_keyword, after_sign, keyword, sign, word};
 use crate::expressions::expr;
 use crate::syntax::{BlockExpr, DestExpr, EntryExpr, Expr, NameExpr, PartExpr, Spec};
 use dn_base::items::Items;
-use dn_token::token::{Keyword, Sign, Token};
-use std::alloc::Global;
+use dn_token::cursor::Cursor;
+use dn_token::token::{Keyword, Sign};
+use std::alloc::{AllocError, Global};
 
 /// The most parentheses that may be open at once.
 const MOST_OPEN: u8 = 32;
 
 /// `[ "[" expr "]" ]`, where so many parentheses may still be opened
 #[tactic(auto, unfolding(crate::specs::Descent::index_at))]
-fn index<'a>(alloc: Global, tokens: &'a [Token<'a>], depth: u8) -> Read<'a, Option<Expr>>
-    ensures gives { Reads maybe_expr_view result (index_at depth (token_views tokens.now)) }
-    ensures shorter { IfOk result (λ p. IsNoLonger p.1.now tokens.now) }
+fn index<'a>(alloc: Global, tokens: Cursor<'a>, depth: u8) -> Read<'a, Option<Expr>>
+    ensures gives { Reads maybe_expr_view result (index_at depth (cursor_view tokens.entry)) }
+    ensures shorter { IfOk result (λ p. IsNoLonger p.1 tokens.entry) }
 {
     let Some(rest) = after_sign(tokens, Sign::OpenBracket) else {
         return Ok((None, tokens));
@@ -31,9 +33,9 @@ fn index<'a>(alloc: Global, tokens: &'a [Token<'a>], depth: u8) -> Read<'a, Opti
 
 /// `word [ "[" expr "]" ]`
 #[tactic(auto, unfolding(crate::specs::Descent::part_at))]
-fn part<'a>(alloc: Global, tokens: &'a [Token<'a>], depth: u8) -> Read<'a, PartExpr>
-    ensures gives { Reads part_view result (part_at depth (token_views tokens.now)) }
-    ensures shorter { IfOk result (λ p. IsShorter p.1.now tokens.now) }
+fn part<'a>(alloc: Global, tokens: Cursor<'a>, depth: u8) -> Read<'a, PartExpr>
+    ensures gives { Reads part_view result (part_at depth (cursor_view tokens.entry)) }
+    ensures shorter { IfOk result (λ p. IsShorter p.1 tokens.entry) }
 {
     let (title, rest) = word(alloc, tokens)?;
     let (index, rest) = index(alloc, rest, depth)?;
@@ -42,9 +44,9 @@ fn part<'a>(alloc: Global, tokens: &'a [Token<'a>], depth: u8) -> Read<'a, PartE
 
 /// `[ "." part ]`
 #[tactic(auto, unfolding(crate::specs::Descent::next_part_at))]
-fn next_part<'a>(alloc: Global, tokens: &'a [Token<'a>], depth: u8) -> Next<'a, PartExpr>
-    ensures gives { ReadsNext part_view result (next_part_at depth (token_views tokens.now)) }
-    ensures shorter { IfOk result (λ o. IfSome o (λ p. IsShorter p.1.now tokens.now)) }
+fn next_part<'a>(alloc: Global, tokens: Cursor<'a>, depth: u8) -> Next<'a, PartExpr>
+    ensures gives { ReadsNext part_view result (next_part_at depth (cursor_view tokens.entry)) }
+    ensures shorter { IfOk result (λ o. IfSome o (λ p. IsShorter p.1 tokens.entry)) }
 {
     let Some(rest) = after_sign(tokens, Sign::Dot) else {
         return Ok(None);
@@ -53,14 +55,22 @@ fn next_part<'a>(alloc: Global, tokens: &'a [Token<'a>], depth: u8) -> Next<'a, 
     Ok(Some((part, rest)))
 }
 
+/// The name of a single part, with room for that part alone.
+fn name_of_one(alloc: Global, part: PartExpr) -> Result<NameExpr, AllocError>
+    ensures { IfOk result (λ name. name ≡ part ∷ []) }
+{
+    let mut parts = Items::from_vec(Vec::with_capacity(alloc, 1)?);
+    parts.push(part)?;
+    Ok(parts)
+}
+
 /// `part { "." part }`
-pub fn name<'a>(alloc: Global, tokens: &'a [Token<'a>], depth: u8) -> Read<'a, NameExpr>
-    ensures gives { Reads name_view result (name_at depth (token_views tokens.now)) }
-    ensures shorter { IfOk result (λ p. IsShorter p.1.now tokens.now) }
+pub fn name<'a>(alloc: Global, tokens: Cursor<'a>, depth: u8) -> Read<'a, NameExpr>
+    ensures gives { Reads name_view result (name_at depth (cursor_view tokens.entry)) }
+    ensures shorter { IfOk result (λ p. IsShorter p.1 tokens.entry) }
 {
     let (first, after) = part(alloc, tokens, depth)?;
-    let mut parts = Items::new(alloc);
-    parts.push(first)?;
+    let mut parts = name_of_one(alloc, first)?;
     let mut rest = after;
     'parts: while let Some((part, after)) = next_part(alloc, rest, depth)? {
         parts.push(part)?;
@@ -71,9 +81,9 @@ pub fn name<'a>(alloc: Global, tokens: &'a [Token<'a>], depth: u8) -> Read<'a, N
 
 /// `[ "-" expr ]`
 #[tactic(auto, unfolding(crate::specs::Descent::upper_at))]
-fn upper<'a>(alloc: Global, tokens: &'a [Token<'a>]) -> Read<'a, Option<Expr>>
-    ensures gives { Reads maybe_expr_view result (upper_at (token_views tokens.now)) }
-    ensures shorter { IfOk result (λ p. IsNoLonger p.1.now tokens.now) }
+fn upper<'a>(alloc: Global, tokens: Cursor<'a>) -> Read<'a, Option<Expr>>
+    ensures gives { Reads maybe_expr_view result (upper_at (cursor_view tokens.entry)) }
+    ensures shorter { IfOk result (λ p. IsNoLonger p.1 tokens.entry) }
 {
     let Some(rest) = after_sign(tokens, Sign::Minus) else {
         return Ok((None, tokens));
@@ -84,9 +94,9 @@ fn upper<'a>(alloc: Global, tokens: &'a [Token<'a>]) -> Read<'a, Option<Expr>>
 
 /// `expr [ "-" expr ]`
 #[tactic(auto, unfolding(crate::specs::Descent::block_at))]
-fn block<'a>(alloc: Global, tokens: &'a [Token<'a>]) -> Read<'a, BlockExpr>
-    ensures gives { Reads block_view result (block_at (token_views tokens.now)) }
-    ensures shorter { IfOk result (λ p. IsShorter p.1.now tokens.now) }
+fn block<'a>(alloc: Global, tokens: Cursor<'a>) -> Read<'a, BlockExpr>
+    ensures gives { Reads block_view result (block_at (cursor_view tokens.entry)) }
+    ensures shorter { IfOk result (λ p. IsShorter p.1 tokens.entry) }
 {
     let (lo, rest) = expr(alloc, tokens, MOST_OPEN)?;
     let (hi, rest) = upper(alloc, rest)?;
@@ -95,9 +105,9 @@ fn block<'a>(alloc: Global, tokens: &'a [Token<'a>]) -> Read<'a, BlockExpr>
 
 /// `[ "," block ]`
 #[tactic(auto, unfolding(crate::specs::Descent::next_block_at))]
-fn next_block<'a>(alloc: Global, tokens: &'a [Token<'a>]) -> Next<'a, BlockExpr>
-    ensures gives { ReadsNext block_view result (next_block_at (token_views tokens.now)) }
-    ensures shorter { IfOk result (λ o. IfSome o (λ p. IsShorter p.1.now tokens.now)) }
+fn next_block<'a>(alloc: Global, tokens: Cursor<'a>) -> Next<'a, BlockExpr>
+    ensures gives { ReadsNext block_view result (next_block_at (cursor_view tokens.entry)) }
+    ensures shorter { IfOk result (λ o. IfSome o (λ p. IsShorter p.1 tokens.entry)) }
 {
     let Some(rest) = after_sign(tokens, Sign::Comma) else {
         return Ok(None);
@@ -107,9 +117,9 @@ fn next_block<'a>(alloc: Global, tokens: &'a [Token<'a>]) -> Next<'a, BlockExpr>
 }
 
 /// `block { "," block }`
-fn blocks<'a>(alloc: Global, tokens: &'a [Token<'a>]) -> Read<'a, Items<BlockExpr>>
-    ensures gives { Reads (map block_view) result (blocks_at (token_views tokens.now)) }
-    ensures shorter { IfOk result (λ p. IsShorter p.1.now tokens.now) }
+fn blocks<'a>(alloc: Global, tokens: Cursor<'a>) -> Read<'a, Items<BlockExpr>>
+    ensures gives { Reads (map block_view) result (blocks_at (cursor_view tokens.entry)) }
+    ensures shorter { IfOk result (λ p. IsShorter p.1 tokens.entry) }
 {
     let (first, after) = block(alloc, tokens)?;
     let mut blocks = Items::new(alloc);
@@ -124,9 +134,9 @@ fn blocks<'a>(alloc: Global, tokens: &'a [Token<'a>]) -> Read<'a, Items<BlockExp
 
 /// `[ "at" expr ]`
 #[tactic(auto, unfolding(crate::specs::Descent::addr_at))]
-fn addr<'a>(alloc: Global, tokens: &'a [Token<'a>]) -> Read<'a, Option<Expr>>
-    ensures gives { Reads maybe_expr_view result (addr_at (token_views tokens.now)) }
-    ensures shorter { IfOk result (λ p. IsNoLonger p.1.now tokens.now) }
+fn addr<'a>(alloc: Global, tokens: Cursor<'a>) -> Read<'a, Option<Expr>>
+    ensures gives { Reads maybe_expr_view result (addr_at (cursor_view tokens.entry)) }
+    ensures shorter { IfOk result (λ p. IsNoLonger p.1 tokens.entry) }
 {
     let Some(rest) = after_keyword(tokens, Keyword::At) else {
         return Ok((None, tokens));
@@ -137,9 +147,9 @@ fn addr<'a>(alloc: Global, tokens: &'a [Token<'a>]) -> Read<'a, Option<Expr>>
 
 /// `name [ "at" expr ]`
 #[tactic(auto, unfolding(crate::specs::Descent::dest_at))]
-fn dest<'a>(alloc: Global, tokens: &'a [Token<'a>]) -> Read<'a, DestExpr>
-    ensures gives { Reads dest_view result (dest_at (token_views tokens.now)) }
-    ensures shorter { IfOk result (λ p. IsShorter p.1.now tokens.now) }
+fn dest<'a>(alloc: Global, tokens: Cursor<'a>) -> Read<'a, DestExpr>
+    ensures gives { Reads dest_view result (dest_at (cursor_view tokens.entry)) }
+    ensures shorter { IfOk result (λ p. IsShorter p.1 tokens.entry) }
 {
     let (name, rest) = name(alloc, tokens, MOST_OPEN)?;
     let (addr, rest) = addr(alloc, rest)?;
@@ -148,9 +158,9 @@ fn dest<'a>(alloc: Global, tokens: &'a [Token<'a>]) -> Read<'a, DestExpr>
 
 /// `[ "and" dest ]`
 #[tactic(auto, unfolding(crate::specs::Descent::next_dest_at))]
-fn next_dest<'a>(alloc: Global, tokens: &'a [Token<'a>]) -> Next<'a, DestExpr>
-    ensures gives { ReadsNext dest_view result (next_dest_at (token_views tokens.now)) }
-    ensures shorter { IfOk result (λ o. IfSome o (λ p. IsShorter p.1.now tokens.now)) }
+fn next_dest<'a>(alloc: Global, tokens: Cursor<'a>) -> Next<'a, DestExpr>
+    ensures gives { ReadsNext dest_view result (next_dest_at (cursor_view tokens.entry)) }
+    ensures shorter { IfOk result (λ o. IfSome o (λ p. IsShorter p.1 tokens.entry)) }
 {
     let Some(rest) = after_keyword(tokens, Keyword::And) else {
         return Ok(None);
@@ -160,9 +170,9 @@ fn next_dest<'a>(alloc: Global, tokens: &'a [Token<'a>]) -> Next<'a, DestExpr>
 }
 
 /// `dest { "and" dest }`, at most eight: a ninth is left where it stands.
-fn dests<'a>(alloc: Global, tokens: &'a [Token<'a>]) -> Read<'a, Items<DestExpr>>
-    ensures gives { Reads (map dest_view) result (dests_at (token_views tokens.now)) }
-    ensures shorter { IfOk result (λ p. IsShorter p.1.now tokens.now) }
+fn dests<'a>(alloc: Global, tokens: Cursor<'a>) -> Read<'a, Items<DestExpr>>
+    ensures gives { Reads (map dest_view) result (dests_at (cursor_view tokens.entry)) }
+    ensures shorter { IfOk result (λ p. IsShorter p.1 tokens.entry) }
 {
     let (first, after) = dest(alloc, tokens)?;
     let mut dests = Items::new(alloc);
@@ -183,9 +193,9 @@ fn dests<'a>(alloc: Global, tokens: &'a [Token<'a>]) -> Read<'a, Items<DestExpr>
 
 /// `block "to" dest { "and" dest }`
 #[tactic(auto, unfolding(crate::specs::Descent::entry_at))]
-fn entry<'a>(alloc: Global, tokens: &'a [Token<'a>]) -> Read<'a, EntryExpr>
-    ensures gives { Reads entry_view result (entry_at (token_views tokens.now)) }
-    ensures shorter { IfOk result (λ p. IsShorter p.1.now tokens.now) }
+fn entry<'a>(alloc: Global, tokens: Cursor<'a>) -> Read<'a, EntryExpr>
+    ensures gives { Reads entry_view result (entry_at (cursor_view tokens.entry)) }
+    ensures shorter { IfOk result (λ p. IsShorter p.1 tokens.entry) }
 {
     let (block, rest) = block(alloc, tokens)?;
     let rest = keyword(rest, Keyword::To)?;
@@ -195,9 +205,9 @@ fn entry<'a>(alloc: Global, tokens: &'a [Token<'a>]) -> Read<'a, EntryExpr>
 
 /// `[ "," entry ]`
 #[tactic(auto, unfolding(crate::specs::Descent::next_entry_at))]
-fn next_entry<'a>(alloc: Global, tokens: &'a [Token<'a>]) -> Next<'a, EntryExpr>
-    ensures gives { ReadsNext entry_view result (next_entry_at (token_views tokens.now)) }
-    ensures shorter { IfOk result (λ o. IfSome o (λ p. IsShorter p.1.now tokens.now)) }
+fn next_entry<'a>(alloc: Global, tokens: Cursor<'a>) -> Next<'a, EntryExpr>
+    ensures gives { ReadsNext entry_view result (next_entry_at (cursor_view tokens.entry)) }
+    ensures shorter { IfOk result (λ o. IfSome o (λ p. IsShorter p.1 tokens.entry)) }
 {
     let Some(rest) = after_sign(tokens, Sign::Comma) else {
         return Ok(None);
@@ -207,9 +217,9 @@ fn next_entry<'a>(alloc: Global, tokens: &'a [Token<'a>]) -> Next<'a, EntryExpr>
 }
 
 /// `entry { "," entry }`
-fn entries<'a>(alloc: Global, tokens: &'a [Token<'a>]) -> Read<'a, Items<EntryExpr>>
-    ensures gives { Reads (map entry_view) result (entries_at (token_views tokens.now)) }
-    ensures shorter { IfOk result (λ p. IsShorter p.1.now tokens.now) }
+fn entries<'a>(alloc: Global, tokens: Cursor<'a>) -> Read<'a, Items<EntryExpr>>
+    ensures gives { Reads (map entry_view) result (entries_at (cursor_view tokens.entry)) }
+    ensures shorter { IfOk result (λ p. IsShorter p.1 tokens.entry) }
 {
     let (first, after) = entry(alloc, tokens)?;
     let mut entries = Items::new(alloc);
@@ -224,8 +234,8 @@ fn entries<'a>(alloc: Global, tokens: &'a [Token<'a>]) -> Read<'a, Items<EntryEx
 
 /// `[ "accept" "[" block { "," block } "]" ]`
 #[tactic(auto, unfolding(crate::specs::Descent::accept_at))]
-fn accept<'a>(alloc: Global, tokens: &'a [Token<'a>]) -> Read<'a, Items<BlockExpr>>
-    ensures gives { Reads (map block_view) result (accept_at (token_views tokens.now)) }
+fn accept<'a>(alloc: Global, tokens: Cursor<'a>) -> Read<'a, Items<BlockExpr>>
+    ensures gives { Reads (map block_view) result (accept_at (cursor_view tokens.entry)) }
 {
     let Some(rest) = after_keyword(tokens, Keyword::Accept) else {
         return Ok((Items::new(alloc), tokens));
@@ -238,8 +248,8 @@ fn accept<'a>(alloc: Global, tokens: &'a [Token<'a>]) -> Read<'a, Items<BlockExp
 
 /// `[ "map" "[" entry { "," entry } "]" ]`
 #[tactic(auto, unfolding(crate::specs::Descent::map_at))]
-fn map<'a>(alloc: Global, tokens: &'a [Token<'a>]) -> Read<'a, Items<EntryExpr>>
-    ensures gives { Reads (map entry_view) result (map_at (token_views tokens.now)) }
+fn map<'a>(alloc: Global, tokens: Cursor<'a>) -> Read<'a, Items<EntryExpr>>
+    ensures gives { Reads (map entry_view) result (map_at (cursor_view tokens.entry)) }
 {
     let Some(rest) = after_keyword(tokens, Keyword::Map) else {
         return Ok((Items::new(alloc), tokens));
@@ -252,8 +262,8 @@ fn map<'a>(alloc: Global, tokens: &'a [Token<'a>]) -> Read<'a, Items<EntryExpr>>
 
 /// `[ "over" name ]`
 #[tactic(auto, unfolding(crate::specs::Descent::over_at))]
-fn over<'a>(alloc: Global, tokens: &'a [Token<'a>]) -> Read<'a, Option<NameExpr>>
-    ensures gives { Reads maybe_name_view result (over_at (token_views tokens.now)) }
+fn over<'a>(alloc: Global, tokens: Cursor<'a>) -> Read<'a, Option<NameExpr>>
+    ensures gives { Reads maybe_name_view result (over_at (cursor_view tokens.entry)) }
 {
     let Some(rest) = after_keyword(tokens, Keyword::Over) else {
         return Ok((None, tokens));
@@ -264,8 +274,8 @@ fn over<'a>(alloc: Global, tokens: &'a [Token<'a>]) -> Read<'a, Option<NameExpr>
 
 /// `[ accept ] [ map ] [ over ]`
 #[tactic(auto, unfolding(crate::specs::Descent::spec_at))]
-pub fn spec<'a>(alloc: Global, tokens: &'a [Token<'a>]) -> Read<'a, Spec>
-    ensures gives { Reads spec_view result (spec_at (token_views tokens.now)) }
+pub fn spec<'a>(alloc: Global, tokens: Cursor<'a>) -> Read<'a, Spec>
+    ensures gives { Reads spec_view result (spec_at (cursor_view tokens.entry)) }
 {
     let (accepts, rest) = accept(alloc, tokens)?;
     let (entries, rest) = map(alloc, rest)?;

@@ -1,11 +1,12 @@
 //! The reading of a whole text: its tree, or the first fault with its line.
 
 ghost use Rattle.std.specs.Prelude.{◌≡◌, ◌∷◌, [], ◌+◌, ◌^◌, ◌<◌, List, ℕ, length, Some, Err, IfSome, IfOk, IfErr, MatchOption};
+ghost use Rattle.dn_token.specs.Cursor.{cursor_view};
 ghost use Rattle.dn_token.specs.Token.{Token as SpecToken};
 ghost use Rattle.dn_parse.specs.Machine.{whole};
 ghost use Rattle.dn_parse.specs.Whole.{line_at, last_line, first_line, at_stop, judge, no_blocks_yet, text_reading};
 ghost use Rattle.dn_parse.specs.Descent.{whole_statement_at};
-ghost use Rattle.dn_parse.specs.Views.{token_views, statement_view, blocks_view, tree_view};
+ghost use Rattle.dn_parse.specs.Views.{statement_view, blocks_view, tree_view};
 ghost use Rattle.dn_base.specs.Answers.{Answers};
 ghost use Rattle.dn_parse.specs.Faults.{parse_fault_view, halt_fault, misplaced_fault, trouble_view, Reads, IsShorter};
 
@@ -13,8 +14,8 @@ use crate::blocks::{Blocks, Misplaced, none, with_statement};
 use crate::cursor::{Halt, Read, sign};
 use crate::statements::{Statement, read_statement};
 use crate::syntax::Tree;
-use dn_token::lexer::{TokenFault, tokens};
-use dn_token::token::{Sign, Token};
+use dn_token::cursor::Cursor;
+use dn_token::token::Sign;
 use std::alloc::Global;
 use thiserror::Error;
 
@@ -52,10 +53,9 @@ pub fn read(alloc: Global, text: &[u8]) -> Result<Tree, ParseFault>
         return Err(ParseFault::Length);
     }
     let last = last_line(text);
-    match tokens(alloc, text) {
-        Ok(tokens) => statements(alloc, tokens.as_slice(), last),
-        Err(TokenFault::Bad { line }) => Err(ParseFault::Token { line }),
-        Err(TokenFault::OutOfMemory) => Err(ParseFault::OutOfMemory),
+    match Cursor::new(text) {
+        Ok(tokens) => statements(alloc, tokens, last),
+        Err(line) => Err(ParseFault::Token { line }),
     }
 }
 
@@ -87,18 +87,22 @@ fn last_line(text: &[u8]) -> u32
 }
 
 /// The line of the token with so many left from it on.
-fn line_at(tokens: &[Token], last: u32, left: usize) -> u32
-    ensures { result ≡ line_at last (token_views tokens.now) left }
+fn line_at<'a>(tokens: Cursor<'a>, last: u32, left: u32) -> u32
+    ensures { result ≡ line_at last (cursor_view tokens.entry) left }
 {
-    match tokens.get(tokens.len().saturating_sub(left)) {
-        Some(token) => token.line,
-        None => last,
+    let mut rest = tokens;
+    'tokens: while let Some(token) = rest.peek() {
+        if rest.left() <= left {
+            return token.line;
+        }
+        rest = rest.advance();
     }
+    last
 }
 
 /// The fault of a reading that stops.
-fn fault_of(halt: Halt, tokens: &[Token], last: u32) -> ParseFault
-    ensures { parse_fault_view result ≡ halt_fault halt last (token_views tokens.now) }
+fn fault_of<'a>(halt: Halt, tokens: Cursor<'a>, last: u32) -> ParseFault
+    ensures { parse_fault_view result ≡ halt_fault halt last (cursor_view tokens.entry) }
 {
     match halt {
         Halt::Refused(left) => ParseFault::Statement {
@@ -113,9 +117,9 @@ fn fault_of(halt: Halt, tokens: &[Token], last: u32) -> ParseFault
 
 /// A statement and its `;`.
 #[tactic(auto, unfolding(crate::specs::Descent::whole_statement_at))]
-fn whole_statement<'a>(alloc: Global, tokens: &'a [Token<'a>]) -> Read<'a, Statement>
-    ensures gives { Reads statement_view result (whole_statement_at (token_views tokens.now)) }
-    ensures shorter { IfOk result (λ p. IsShorter p.1.now tokens.now) }
+fn whole_statement<'a>(alloc: Global, tokens: Cursor<'a>) -> Read<'a, Statement>
+    ensures gives { Reads statement_view result (whole_statement_at (cursor_view tokens.entry)) }
+    ensures shorter { IfOk result (λ p. IsShorter p.1 tokens.entry) }
 {
     let (statement, rest) = read_statement(alloc, tokens)?;
     let rest = sign(rest, Sign::Semicolon)?;
@@ -141,30 +145,28 @@ enum Trouble {
 }
 
 /// The line of the next token.
-fn first_line(tokens: &[Token]) -> Option<u32>
-    ensures { result ≡ first_line (token_views tokens.now) }
+fn first_line<'a>(tokens: Cursor<'a>) -> Option<u32>
+    ensures { result ≡ first_line (cursor_view tokens.entry) }
 {
-    match tokens {
-        [] => None,
-        [token, ..] => Some(token.line),
-    }
+    let token = tokens.peek()?;
+    Some(token.line)
 }
 
 /// The blocks with the next statement, which begins in this line, and the tokens after it.
 fn next_place<'a>(
     alloc: Global,
     blocks: Blocks,
-    rest: &'a [Token<'a>],
+    rest: Cursor<'a>,
     line: u32,
-) -> Result<(Blocks, &'a [Token<'a>]), Trouble>
-    requires { first_line (token_views rest.now) ≡ Some line }
+) -> Result<(Blocks, Cursor<'a>), Trouble>
+    requires { first_line (cursor_view rest) ≡ Some line }
     ensures ok { IfOk result (λ p. (last : ℕ) (all : List SpecToken) →
-        judge last all (blocks_view blocks) (token_views rest.now)
-        ≡ judge last all (blocks_view p.0) (token_views p.1.now)) }
-    ensures shorter { IfOk result (λ p. IsShorter p.1.now rest.now) }
+        judge last all (blocks_view blocks) (cursor_view rest.entry)
+        ≡ judge last all (blocks_view p.0) (cursor_view p.1)) }
+    ensures shorter { IfOk result (λ p. IsShorter p.1 rest.entry) }
     ensures err { IfErr result (λ e. (last : ℕ) (all : List SpecToken) →
         IfSome (trouble_view e last all)
-        (λ f. judge last all (blocks_view blocks) (token_views rest.now) ≡ Err f)) }
+        (λ f. judge last all (blocks_view blocks) (cursor_view rest.entry) ≡ Err f)) }
 {
     match whole_statement(alloc, rest) {
         Err(halt) => Err(Trouble::Halted(halt)),
@@ -176,13 +178,13 @@ fn next_place<'a>(
 }
 
 /// The blocks that the tokens come to, up to their end.
-fn all_placed<'a>(alloc: Global, tokens: &'a [Token<'a>]) -> Result<Blocks, Trouble>
+fn all_placed<'a>(alloc: Global, tokens: Cursor<'a>) -> Result<Blocks, Trouble>
     ensures ok { IfOk result (λ b. (last : ℕ) (all : List SpecToken) →
-        judge last all no_blocks_yet (token_views tokens.now)
+        judge last all no_blocks_yet (cursor_view tokens.entry)
         ≡ at_stop whole last all (blocks_view b)) }
     ensures err { IfErr result (λ e. (last : ℕ) (all : List SpecToken) →
         IfSome (trouble_view e last all)
-        (λ f. judge last all no_blocks_yet (token_views tokens.now) ≡ Err f)) }
+        (λ f. judge last all no_blocks_yet (cursor_view tokens.entry) ≡ Err f)) }
 {
     let Some(line) = first_line(tokens) else {
         return Ok(none(alloc));
@@ -213,9 +215,9 @@ fn finished_tree(blocks: Blocks, last: u32) -> Result<Tree, ParseFault>
 }
 
 /// The tree of a list of tokens, or its first fault; the last line is that of the end of the text.
-fn statements<'a>(alloc: Global, tokens: &'a [Token<'a>], last: u32) -> Result<Tree, ParseFault>
+fn statements<'a>(alloc: Global, tokens: Cursor<'a>, last: u32) -> Result<Tree, ParseFault>
     ensures { Answers tree_view parse_fault_view result
-        (judge last (token_views tokens.now) no_blocks_yet (token_views tokens.now)) }
+        (judge last (cursor_view tokens.entry) no_blocks_yet (cursor_view tokens.entry)) }
 {
     match all_placed(alloc, tokens) {
         Ok(blocks) => finished_tree(blocks, last),

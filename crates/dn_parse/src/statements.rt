@@ -1,7 +1,8 @@
 //! Statements, each up to its `;`.
 
 ghost use Rattle.std.specs.Prelude.{◌≡◌, ◌<◌, map, IfOk, IfSome};
-ghost use Rattle.dn_parse.specs.Views.{token_views, expr_view, name_view, param_view, arg_view, role_view, declaration_view, order_view, statement_view};
+ghost use Rattle.dn_token.specs.Cursor.{cursor_view};
+ghost use Rattle.dn_parse.specs.Views.{expr_view, name_view, param_view, arg_view, role_view, declaration_view, order_view, statement_view};
 ghost use Rattle.dn_parse.specs.Descent.{any_word_at, param_at, next_param_at, params_at, closed_params_at, arg_at, next_arg_at, args_at, closed_args_at, next_port_at, ports_at, node_at, measure_at, unit_at, module_at, use_at, loop_at, mode_at, access_at, resolve_at, lookup_at, view_at, grant_at, route_at, order_at, keyword_statement_at, statement_at};
 ghost use Rattle.dn_parse.specs.Faults.{Reads, ReadsNext, IsShorter};
 
@@ -13,8 +14,9 @@ use crate::nodes::{name, spec};
 use crate::syntax::{Arg, Decl, DeclRole, Expr, Mode, NameExpr, Order, Param};
 use dn_base::items::Items;
 use dn_base::text::Text;
+use dn_token::cursor::Cursor;
 use dn_token::keyword::spelling;
-use dn_token::token::{Keyword, Lexeme, Sign, Token};
+use dn_token::token::{Keyword, Lexeme, Sign};
 use std::alloc::Global;
 
 /// The most parentheses that may be open at once.
@@ -48,8 +50,8 @@ pub enum Statement {
 
 /// A word of either sort.
 #[tactic(auto, unfolding(crate::specs::Descent::any_word_at))]
-fn any_word<'a>(alloc: Global, tokens: &'a [Token<'a>]) -> Read<'a, Text>
-    ensures gives { Reads (λ x. x) result (any_word_at (token_views tokens.now)) }
+fn any_word<'a>(alloc: Global, tokens: Cursor<'a>) -> Read<'a, Text>
+    ensures gives { Reads (λ x. x) result (any_word_at (cursor_view tokens.entry)) }
 {
     let Some((token, rest)) = next(tokens) else {
         return Err(refusal(tokens));
@@ -63,9 +65,9 @@ fn any_word<'a>(alloc: Global, tokens: &'a [Token<'a>]) -> Read<'a, Text>
 
 /// `"num" word | "node" word`
 #[tactic(auto, unfolding(crate::specs::Descent::param_at))]
-fn param<'a>(alloc: Global, tokens: &'a [Token<'a>]) -> Read<'a, Param>
-    ensures gives { Reads param_view result (param_at (token_views tokens.now)) }
-    ensures shorter { IfOk result (λ p. IsShorter p.1.now tokens.now) }
+fn param<'a>(alloc: Global, tokens: Cursor<'a>) -> Read<'a, Param>
+    ensures gives { Reads param_view result (param_at (cursor_view tokens.entry)) }
+    ensures shorter { IfOk result (λ p. IsShorter p.1 tokens.entry) }
 {
     let Some(rest) = after_keyword(tokens, Keyword::Num) else {
         let rest = keyword(tokens, Keyword::Node)?;
@@ -78,9 +80,9 @@ fn param<'a>(alloc: Global, tokens: &'a [Token<'a>]) -> Read<'a, Param>
 
 /// `[ "," param ]`
 #[tactic(auto, unfolding(crate::specs::Descent::next_param_at))]
-fn next_param<'a>(alloc: Global, tokens: &'a [Token<'a>]) -> Next<'a, Param>
-    ensures gives { ReadsNext param_view result (next_param_at (token_views tokens.now)) }
-    ensures shorter { IfOk result (λ o. IfSome o (λ p. IsShorter p.1.now tokens.now)) }
+fn next_param<'a>(alloc: Global, tokens: Cursor<'a>) -> Next<'a, Param>
+    ensures gives { ReadsNext param_view result (next_param_at (cursor_view tokens.entry)) }
+    ensures shorter { IfOk result (λ o. IfSome o (λ p. IsShorter p.1 tokens.entry)) }
 {
     let Some(rest) = after_sign(tokens, Sign::Comma) else {
         return Ok(None);
@@ -90,9 +92,9 @@ fn next_param<'a>(alloc: Global, tokens: &'a [Token<'a>]) -> Next<'a, Param>
 }
 
 /// `param { "," param }`
-fn some_params<'a>(alloc: Global, tokens: &'a [Token<'a>]) -> Read<'a, Items<Param>>
-    ensures gives { Reads (map param_view) result (params_at (token_views tokens.now)) }
-    ensures shorter { IfOk result (λ p. IsShorter p.1.now tokens.now) }
+fn some_params<'a>(alloc: Global, tokens: Cursor<'a>) -> Read<'a, Items<Param>>
+    ensures gives { Reads (map param_view) result (params_at (cursor_view tokens.entry)) }
+    ensures shorter { IfOk result (λ p. IsShorter p.1 tokens.entry) }
 {
     let (first, after) = param(alloc, tokens)?;
     let mut params = Items::new(alloc);
@@ -107,8 +109,8 @@ fn some_params<'a>(alloc: Global, tokens: &'a [Token<'a>]) -> Read<'a, Items<Par
 
 /// `[ param { "," param } ] ")"`
 #[tactic(auto, unfolding(crate::specs::Descent::closed_params_at))]
-fn params<'a>(alloc: Global, tokens: &'a [Token<'a>]) -> Read<'a, Items<Param>>
-    ensures gives { Reads (map param_view) result (closed_params_at (token_views tokens.now)) }
+fn params<'a>(alloc: Global, tokens: Cursor<'a>) -> Read<'a, Items<Param>>
+    ensures gives { Reads (map param_view) result (closed_params_at (cursor_view tokens.entry)) }
 {
     if let Some(rest) = after_sign(tokens, Sign::CloseParenthesis) {
         return Ok((Items::new(alloc), rest));
@@ -120,9 +122,9 @@ fn params<'a>(alloc: Global, tokens: &'a [Token<'a>]) -> Read<'a, Items<Param>>
 
 /// `expr | "node" name`
 #[tactic(auto, unfolding(crate::specs::Descent::arg_at))]
-fn arg<'a>(alloc: Global, tokens: &'a [Token<'a>]) -> Read<'a, Arg>
-    ensures gives { Reads arg_view result (arg_at (token_views tokens.now)) }
-    ensures shorter { IfOk result (λ p. IsShorter p.1.now tokens.now) }
+fn arg<'a>(alloc: Global, tokens: Cursor<'a>) -> Read<'a, Arg>
+    ensures gives { Reads arg_view result (arg_at (cursor_view tokens.entry)) }
+    ensures shorter { IfOk result (λ p. IsShorter p.1 tokens.entry) }
 {
     let Some(rest) = after_keyword(tokens, Keyword::Node) else {
         let (value, rest) = expr(alloc, tokens, MOST_INSIDE)?;
@@ -134,9 +136,9 @@ fn arg<'a>(alloc: Global, tokens: &'a [Token<'a>]) -> Read<'a, Arg>
 
 /// `[ "," arg ]`
 #[tactic(auto, unfolding(crate::specs::Descent::next_arg_at))]
-fn next_arg<'a>(alloc: Global, tokens: &'a [Token<'a>]) -> Next<'a, Arg>
-    ensures gives { ReadsNext arg_view result (next_arg_at (token_views tokens.now)) }
-    ensures shorter { IfOk result (λ o. IfSome o (λ p. IsShorter p.1.now tokens.now)) }
+fn next_arg<'a>(alloc: Global, tokens: Cursor<'a>) -> Next<'a, Arg>
+    ensures gives { ReadsNext arg_view result (next_arg_at (cursor_view tokens.entry)) }
+    ensures shorter { IfOk result (λ o. IfSome o (λ p. IsShorter p.1 tokens.entry)) }
 {
     let Some(rest) = after_sign(tokens, Sign::Comma) else {
         return Ok(None);
@@ -146,9 +148,9 @@ fn next_arg<'a>(alloc: Global, tokens: &'a [Token<'a>]) -> Next<'a, Arg>
 }
 
 /// `arg { "," arg }`
-fn some_args<'a>(alloc: Global, tokens: &'a [Token<'a>]) -> Read<'a, Items<Arg>>
-    ensures gives { Reads (map arg_view) result (args_at (token_views tokens.now)) }
-    ensures shorter { IfOk result (λ p. IsShorter p.1.now tokens.now) }
+fn some_args<'a>(alloc: Global, tokens: Cursor<'a>) -> Read<'a, Items<Arg>>
+    ensures gives { Reads (map arg_view) result (args_at (cursor_view tokens.entry)) }
+    ensures shorter { IfOk result (λ p. IsShorter p.1 tokens.entry) }
 {
     let (first, after) = arg(alloc, tokens)?;
     let mut args = Items::new(alloc);
@@ -163,8 +165,8 @@ fn some_args<'a>(alloc: Global, tokens: &'a [Token<'a>]) -> Read<'a, Items<Arg>>
 
 /// `[ arg { "," arg } ] ")"`
 #[tactic(auto, unfolding(crate::specs::Descent::closed_args_at))]
-fn args<'a>(alloc: Global, tokens: &'a [Token<'a>]) -> Read<'a, Items<Arg>>
-    ensures gives { Reads (map arg_view) result (closed_args_at (token_views tokens.now)) }
+fn args<'a>(alloc: Global, tokens: Cursor<'a>) -> Read<'a, Items<Arg>>
+    ensures gives { Reads (map arg_view) result (closed_args_at (cursor_view tokens.entry)) }
 {
     if let Some(rest) = after_sign(tokens, Sign::CloseParenthesis) {
         return Ok((Items::new(alloc), rest));
@@ -176,9 +178,9 @@ fn args<'a>(alloc: Global, tokens: &'a [Token<'a>]) -> Read<'a, Items<Arg>>
 
 /// `[ "," name ]`
 #[tactic(auto, unfolding(crate::specs::Descent::next_port_at))]
-fn next_port<'a>(alloc: Global, tokens: &'a [Token<'a>]) -> Next<'a, NameExpr>
-    ensures gives { ReadsNext name_view result (next_port_at (token_views tokens.now)) }
-    ensures shorter { IfOk result (λ o. IfSome o (λ p. IsShorter p.1.now tokens.now)) }
+fn next_port<'a>(alloc: Global, tokens: Cursor<'a>) -> Next<'a, NameExpr>
+    ensures gives { ReadsNext name_view result (next_port_at (cursor_view tokens.entry)) }
+    ensures shorter { IfOk result (λ o. IfSome o (λ p. IsShorter p.1 tokens.entry)) }
 {
     let Some(rest) = after_sign(tokens, Sign::Comma) else {
         return Ok(None);
@@ -188,9 +190,9 @@ fn next_port<'a>(alloc: Global, tokens: &'a [Token<'a>]) -> Next<'a, NameExpr>
 }
 
 /// `name { "," name }`, at most eight: a ninth is left where it stands.
-fn ports<'a>(alloc: Global, tokens: &'a [Token<'a>]) -> Read<'a, Items<NameExpr>>
-    ensures gives { Reads (map name_view) result (ports_at (token_views tokens.now)) }
-    ensures shorter { IfOk result (λ p. IsShorter p.1.now tokens.now) }
+fn ports<'a>(alloc: Global, tokens: Cursor<'a>) -> Read<'a, Items<NameExpr>>
+    ensures gives { Reads (map name_view) result (ports_at (cursor_view tokens.entry)) }
+    ensures shorter { IfOk result (λ p. IsShorter p.1 tokens.entry) }
 {
     let (first, after) = name(alloc, tokens, MOST_OPEN)?;
     let mut ports = Items::new(alloc);
@@ -211,9 +213,9 @@ fn ports<'a>(alloc: Global, tokens: &'a [Token<'a>]) -> Read<'a, Items<NameExpr>
 
 /// `name "is" spec`
 #[tactic(auto, unfolding(crate::specs::Descent::node_at))]
-fn node<'a>(alloc: Global, tokens: &'a [Token<'a>], role: DeclRole) -> Read<'a, Decl>
+fn node<'a>(alloc: Global, tokens: Cursor<'a>, role: DeclRole) -> Read<'a, Decl>
     ensures gives { Reads declaration_view result
-        (node_at (role_view role) (token_views tokens.now)) }
+        (node_at (role_view role) (cursor_view tokens.entry)) }
 {
     let (name, rest) = name(alloc, tokens, MOST_OPEN)?;
     let rest = keyword(rest, Keyword::Is)?;
@@ -223,8 +225,8 @@ fn node<'a>(alloc: Global, tokens: &'a [Token<'a>], role: DeclRole) -> Read<'a, 
 
 /// A reserved word, and then an expression.
 #[tactic(auto, unfolding(crate::specs::Descent::measure_at))]
-fn measure<'a>(alloc: Global, tokens: &'a [Token<'a>], word: Keyword) -> Read<'a, Expr>
-    ensures gives { Reads expr_view result (measure_at word (token_views tokens.now)) }
+fn measure<'a>(alloc: Global, tokens: Cursor<'a>, word: Keyword) -> Read<'a, Expr>
+    ensures gives { Reads expr_view result (measure_at word (cursor_view tokens.entry)) }
 {
     let rest = keyword(tokens, word)?;
     expr(alloc, rest, MOST_OPEN)
@@ -232,8 +234,8 @@ fn measure<'a>(alloc: Global, tokens: &'a [Token<'a>], word: Keyword) -> Read<'a
 
 /// `name "kind" any "page" expr "slots" expr "reach" expr "to" name { "," name }`
 #[tactic(auto, unfolding(crate::specs::Descent::unit_at))]
-fn unit<'a>(alloc: Global, tokens: &'a [Token<'a>]) -> Read<'a, Decl>
-    ensures gives { Reads declaration_view result (unit_at (token_views tokens.now)) }
+fn unit<'a>(alloc: Global, tokens: Cursor<'a>) -> Read<'a, Decl>
+    ensures gives { Reads declaration_view result (unit_at (cursor_view tokens.entry)) }
 {
     let (name, rest) = name(alloc, tokens, MOST_OPEN)?;
     let rest = keyword(rest, Keyword::Kind)?;
@@ -256,8 +258,8 @@ fn unit<'a>(alloc: Global, tokens: &'a [Token<'a>]) -> Read<'a, Decl>
 
 /// `word "(" [ param { "," param } ] ")"`
 #[tactic(auto, unfolding(crate::specs::Descent::module_at))]
-fn module<'a>(alloc: Global, tokens: &'a [Token<'a>]) -> Read<'a, Statement>
-    ensures gives { Reads statement_view result (module_at (token_views tokens.now)) }
+fn module<'a>(alloc: Global, tokens: Cursor<'a>) -> Read<'a, Statement>
+    ensures gives { Reads statement_view result (module_at (cursor_view tokens.entry)) }
 {
     let (title, rest) = word(alloc, tokens)?;
     let rest = sign(rest, Sign::OpenParenthesis)?;
@@ -267,8 +269,8 @@ fn module<'a>(alloc: Global, tokens: &'a [Token<'a>]) -> Read<'a, Statement>
 
 /// `word "(" [ arg { "," arg } ] ")" "as" name`
 #[tactic(auto, unfolding(crate::specs::Descent::use_at))]
-fn instance<'a>(alloc: Global, tokens: &'a [Token<'a>]) -> Read<'a, Statement>
-    ensures gives { Reads statement_view result (use_at (token_views tokens.now)) }
+fn instance<'a>(alloc: Global, tokens: Cursor<'a>) -> Read<'a, Statement>
+    ensures gives { Reads statement_view result (use_at (cursor_view tokens.entry)) }
 {
     let (title, rest) = word(alloc, tokens)?;
     let rest = sign(rest, Sign::OpenParenthesis)?;
@@ -285,8 +287,8 @@ fn instance<'a>(alloc: Global, tokens: &'a [Token<'a>]) -> Read<'a, Statement>
 
 /// `word "in" expr ".." expr`
 #[tactic(auto, unfolding(crate::specs::Descent::loop_at))]
-fn loop_head<'a>(alloc: Global, tokens: &'a [Token<'a>]) -> Read<'a, Statement>
-    ensures gives { Reads statement_view result (loop_at (token_views tokens.now)) }
+fn loop_head<'a>(alloc: Global, tokens: Cursor<'a>) -> Read<'a, Statement>
+    ensures gives { Reads statement_view result (loop_at (cursor_view tokens.entry)) }
 {
     let (variable, rest) = word(alloc, tokens)?;
     let (from, rest) = measure(alloc, rest, Keyword::In)?;
@@ -302,8 +304,8 @@ fn loop_head<'a>(alloc: Global, tokens: &'a [Token<'a>]) -> Read<'a, Statement>
 
 /// `"read" | "write"`
 #[tactic(auto, unfolding(crate::specs::Descent::mode_at))]
-fn mode<'a>(tokens: &'a [Token<'a>]) -> Read<'a, Mode>
-    ensures gives { Reads (λ m. m) result (mode_at (token_views tokens.now)) }
+fn mode<'a>(tokens: Cursor<'a>) -> Read<'a, Mode>
+    ensures gives { Reads (λ m. m) result (mode_at (cursor_view tokens.entry)) }
 {
     let Some(rest) = after_word(tokens, "read") else {
         let rest = the_word(tokens, "write")?;
@@ -314,8 +316,8 @@ fn mode<'a>(tokens: &'a [Token<'a>]) -> Read<'a, Mode>
 
 /// `[ "for" ( "read" | "write" ) ]`
 #[tactic(auto, unfolding(crate::specs::Descent::access_at))]
-fn access<'a>(tokens: &'a [Token<'a>]) -> Read<'a, Mode>
-    ensures gives { Reads (λ m. m) result (access_at (token_views tokens.now)) }
+fn access<'a>(tokens: Cursor<'a>) -> Read<'a, Mode>
+    ensures gives { Reads (λ m. m) result (access_at (cursor_view tokens.entry)) }
 {
     match after_keyword(tokens, Keyword::For) {
         Some(rest) => mode(rest),
@@ -325,8 +327,8 @@ fn access<'a>(tokens: &'a [Token<'a>]) -> Read<'a, Mode>
 
 /// `name expr [ access ]`, of `resolve`
 #[tactic(auto, unfolding(crate::specs::Descent::resolve_at))]
-fn resolve<'a>(alloc: Global, tokens: &'a [Token<'a>]) -> Read<'a, Order>
-    ensures gives { Reads order_view result (resolve_at (token_views tokens.now)) }
+fn resolve<'a>(alloc: Global, tokens: Cursor<'a>) -> Read<'a, Order>
+    ensures gives { Reads order_view result (resolve_at (cursor_view tokens.entry)) }
 {
     let (name, rest) = name(alloc, tokens, MOST_OPEN)?;
     let (addr, rest) = expr(alloc, rest, MOST_OPEN)?;
@@ -336,8 +338,8 @@ fn resolve<'a>(alloc: Global, tokens: &'a [Token<'a>]) -> Read<'a, Order>
 
 /// `name expr [ access ]`, of `lookup`
 #[tactic(auto, unfolding(crate::specs::Descent::lookup_at))]
-fn lookup<'a>(alloc: Global, tokens: &'a [Token<'a>]) -> Read<'a, Order>
-    ensures gives { Reads order_view result (lookup_at (token_views tokens.now)) }
+fn lookup<'a>(alloc: Global, tokens: Cursor<'a>) -> Read<'a, Order>
+    ensures gives { Reads order_view result (lookup_at (cursor_view tokens.entry)) }
 {
     let (name, rest) = name(alloc, tokens, MOST_OPEN)?;
     let (addr, rest) = expr(alloc, rest, MOST_OPEN)?;
@@ -347,8 +349,8 @@ fn lookup<'a>(alloc: Global, tokens: &'a [Token<'a>]) -> Read<'a, Order>
 
 /// `name [ access ]`, of `view`
 #[tactic(auto, unfolding(crate::specs::Descent::view_at))]
-fn view<'a>(alloc: Global, tokens: &'a [Token<'a>]) -> Read<'a, Order>
-    ensures gives { Reads order_view result (view_at (token_views tokens.now)) }
+fn view<'a>(alloc: Global, tokens: Cursor<'a>) -> Read<'a, Order>
+    ensures gives { Reads order_view result (view_at (cursor_view tokens.entry)) }
 {
     let (name, rest) = name(alloc, tokens, MOST_OPEN)?;
     let (mode, rest) = access(rest)?;
@@ -357,8 +359,8 @@ fn view<'a>(alloc: Global, tokens: &'a [Token<'a>]) -> Read<'a, Order>
 
 /// `word name name expr expr [ access ]`
 #[tactic(auto, unfolding(crate::specs::Descent::grant_at))]
-fn grant<'a>(alloc: Global, tokens: &'a [Token<'a>]) -> Read<'a, Order>
-    ensures gives { Reads order_view result (grant_at (token_views tokens.now)) }
+fn grant<'a>(alloc: Global, tokens: Cursor<'a>) -> Read<'a, Order>
+    ensures gives { Reads order_view result (grant_at (cursor_view tokens.entry)) }
 {
     let (id, rest) = word(alloc, tokens)?;
     let (agent, rest) = name(alloc, rest, MOST_OPEN)?;
@@ -371,8 +373,8 @@ fn grant<'a>(alloc: Global, tokens: &'a [Token<'a>]) -> Read<'a, Order>
 
 /// `word name expr name`
 #[tactic(auto, unfolding(crate::specs::Descent::route_at))]
-fn route<'a>(alloc: Global, tokens: &'a [Token<'a>]) -> Read<'a, Order>
-    ensures gives { Reads order_view result (route_at (token_views tokens.now)) }
+fn route<'a>(alloc: Global, tokens: Cursor<'a>) -> Read<'a, Order>
+    ensures gives { Reads order_view result (route_at (cursor_view tokens.entry)) }
 {
     let (id, rest) = word(alloc, tokens)?;
     let (agent, rest) = name(alloc, rest, MOST_OPEN)?;
@@ -386,11 +388,11 @@ fn route<'a>(alloc: Global, tokens: &'a [Token<'a>]) -> Read<'a, Order>
 fn order<'a>(
     alloc: Global,
     word_of: Keyword,
-    whole: &'a [Token<'a>],
-    tokens: &'a [Token<'a>],
+    whole: Cursor<'a>,
+    tokens: Cursor<'a>,
 ) -> Read<'a, Order>
     ensures gives { Reads order_view result
-        (order_at word_of (token_views whole.now) (token_views tokens.now)) }
+        (order_at word_of (cursor_view whole.entry) (cursor_view tokens.entry)) }
 {
     match word_of {
         Keyword::Resolve => resolve(alloc, tokens),
@@ -417,11 +419,11 @@ fn order<'a>(
 fn keyword_statement<'a>(
     alloc: Global,
     word: Keyword,
-    whole: &'a [Token<'a>],
-    tokens: &'a [Token<'a>],
+    whole: Cursor<'a>,
+    tokens: Cursor<'a>,
 ) -> Read<'a, Statement>
     ensures gives { Reads statement_view result
-        (keyword_statement_at word (token_views whole.now) (token_views tokens.now)) }
+        (keyword_statement_at word (cursor_view whole.entry) (cursor_view tokens.entry)) }
 {
     match word {
         Keyword::Agent => {
@@ -450,10 +452,10 @@ fn keyword_statement<'a>(
 
 /// A statement, up to its `;`.
 #[tactic(auto, unfolding(crate::specs::Descent::statement_at))]
-pub fn read_statement<'a>(alloc: Global, tokens: &'a [Token<'a>]) -> Read<'a, Statement>
-    ensures gives { Reads statement_view result (statement_at (token_views tokens.now)) }
+pub fn read_statement<'a>(alloc: Global, tokens: Cursor<'a>) -> Read<'a, Statement>
+    ensures gives { Reads statement_view result (statement_at (cursor_view tokens.entry)) }
 {
-    let Some((token, rest)) = next(tokens) else {
+    let Some(token) = tokens.peek() else {
         return Err(refusal(tokens));
     };
     match token.lexeme {
@@ -461,7 +463,7 @@ pub fn read_statement<'a>(alloc: Global, tokens: &'a [Token<'a>]) -> Read<'a, St
             let (node, rest) = node(alloc, tokens, DeclRole::Plain)?;
             Ok((Statement::Decl(node), rest))
         }
-        Lexeme::Keyword(word) => keyword_statement(alloc, word, tokens, rest),
+        Lexeme::Keyword(word) => keyword_statement(alloc, word, tokens, tokens.advance()),
         _ => Err(refusal(tokens)),
     }
 }

@@ -1,5 +1,5 @@
 -- The fuel of the tokens of a text is enough: each turn takes a byte or more.
-use Rattle.std.proofs.Common.{◌≡◌, ◌≤◌, ◌<◌, ◌∙◌, ap, refl, sym, subst, ℕ, zero, suc, ◌+◌, ◌-◌, Bool, true, false, if◌then◌else◌, ◌&&◌, ◌||◌, ◌==◌, not, List, [], ◌∷◌, length, length-drop, drop, Option, None, Some, Result, Ok, Err, arith}
+use Rattle.std.proofs.Common.{◌≡◌, ◌≤◌, ◌<◌, ◌∙◌, ap, refl, sym, subst, ℕ, zero, suc, ◌+◌, Bool, true, false, if◌then◌else◌, ◌&&◌, ◌||◌, ◌==◌, not, List, [], ◌∷◌, length, length-drop, drop, Option, None, Some, Result, Ok, arith}
 use Rattle.std.specs.List.{prefix_len}
 use Rattle.dn_token.specs.Token.{Lexeme, sign, Token, Front, taken, bad, tokens, tokens_from, with_token, then_tokens, front, run, after_run, number_of, word_lexeme, number_front, sign_front, sign_of, dots_or_sign, is_letter, is_digit, is_word_byte, is_line_feed, is_blank, is_slash, begins_with, after_comment}
 use Rattle.dn_token.specs.declared.token.Sign.{Sign}

@@ -3,3 +3,5 @@ pub mod Lexing
 pub mod Words
 pub mod Faults
 pub mod Going
+pub mod Ahead
+pub mod Cursor

@@ -1,12 +1,15 @@
 //! The tokenizer: from the bytes of a text to its tokens.
 
-ghost use Rattle.std.specs.Prelude.{◌≡◌, ◌+◌, ◌^◌, ◌<◌, [], ◌∷◌, length, map, IfSome, MatchOption};
+ghost use Rattle.std.specs.Prelude.{◌≡◌, ◌+◌, ◌^◌, ◌<◌, [], ◌∷◌, length, map, IfSome, IfOk, MatchOption};
 ghost use Rattle.std.specs.Str.{IsAscii};
 ghost use Rattle.dn_token.specs.Token.{tokens, is_letter, is_digit, is_blank, after_comment, run, after_run, word_lexeme, sign_of, taken, bad};
 ghost use Rattle.dn_token.specs.Lexing.{begins_comment, front_of, sign_front_of, lexeme_view, token_view};
+ghost use Rattle.dn_token.specs.Going.{tokens_of};
+ghost use Rattle.dn_token.specs.Ahead.{first_and_rest};
 ghost use Rattle.dn_base.specs.Answers.{Answers};
 ghost use Rattle.dn_token.specs.Faults.{token_fault_view};
 
+use crate::cursor::Cursor;
 use crate::keyword::keyword_of;
 use crate::number::number_of;
 use crate::token::{Lexeme, Sign, Token};
@@ -54,8 +57,29 @@ pub fn tokens<'a>(alloc: Global, text: &'a [u8]) -> Result<Vec<Token<'a>>, Token
     ensures { Answers (λ found. map token_view found.items) token_fault_view result
         (tokens text.now) }
 {
+    let first = match Cursor::new(text) {
+        Ok(first) => first,
+        Err(line) => return Err(TokenFault::Bad { line }),
+    };
     let mut found = Vec::new(alloc);
-    let mut line = 1;
+    let mut rest = first;
+    'text: while let Some(token) = rest.peek() {
+        found.push(token)?;
+        rest = rest.advance();
+    }
+    Ok(found)
+}
+
+/// The first token of a text that begins in this line, with what follows it, or the line of a bad
+/// place that stands first.
+pub fn next_token<'a>(text: &'a [u8], line: u32) -> Result<Option<(Token<'a>, &'a [u8])>, u32>
+    requires { line + length text.now < 2 ^ 32 }
+    ensures gives { tokens_of line text.now ≡ first_and_rest result }
+    ensures shorter { IfOk result (λ o. IfSome o (λ p. length p.1.now < length text.now)) }
+    ensures lines { IfOk result (λ o. IfSome o (λ p.
+        p.0.line + length p.1.now < line + length text.now)) }
+{
+    let mut line = line;
     let mut rest = text;
     'text: while let Some((byte, after)) = next(rest) {
         if byte == b'\n' {
@@ -67,13 +91,12 @@ pub fn tokens<'a>(alloc: Global, text: &'a [u8]) -> Result<Vec<Token<'a>>, Token
             rest = after_comment(after);
         } else {
             let Some((lexeme, after)) = front(rest) else {
-                return Err(TokenFault::Bad { line });
+                return Err(line);
             };
-            found.push(Token { lexeme, line })?;
-            rest = after;
+            return Ok(Some((Token { lexeme, line }, after)));
         }
     }
-    Ok(found)
+    Ok(None)
 }
 
 /// The first byte, and those after it.

@@ -5,6 +5,7 @@
 //! first in a text decides its first token.
 #![tactic(auto)]
 
+pub mod cursor;
 pub mod keyword;
 pub mod laws;
 pub mod lexer;

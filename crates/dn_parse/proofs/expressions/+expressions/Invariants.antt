@@ -1,5 +1,6 @@
 use Rattle.std.proofs.Common.{◌<◌, ◌+◌, ◌*◌, length, map}
-use Rattle.dn_parse.specs.Views.{token_views, expr_view}
+use Rattle.dn_token.specs.Cursor.{cursor_view}
+use Rattle.dn_parse.specs.Views.{expr_view}
 use Rattle.dn_parse.specs.Descent.{next_factor_at, factors_at, next_term_at, terms_at}
 use Rattle.dn_parse.proofs.Series.{Found}
 use Rattle.dn_parse.proofs.expressions.+expressions.Given as goal
@@ -10,40 +11,34 @@ decreases-factor l = 10 * l.depth + 1
 abbrev pub decreases-next_factor : goal.decreases-next_factor
 decreases-next_factor l = 10 * l.depth + 2
 
-abbrev pub decreases-factors : goal.decreases-factors
-decreases-factors l = 10 * l.depth + 3
-
 abbrev pub decreases-term : goal.decreases-term
-decreases-term l = 10 * l.depth + 4
+decreases-term l = 10 * l.depth + 3
 
 abbrev pub decreases-next_term : goal.decreases-next_term
-decreases-next_term l = 10 * l.depth + 5
-
-abbrev pub decreases-terms : goal.decreases-terms
-decreases-terms l = 10 * l.depth + 6
+decreases-next_term l = 10 * l.depth + 4
 
 abbrev pub decreases-expr : goal.decreases-expr
-decreases-expr l = 10 * l.depth + 7
+decreases-expr l = 10 * l.depth + 5
 
 abbrev pub decreases-after_open : goal.decreases-after_open
-decreases-after_open l = 10 * l.depth + 8
+decreases-after_open l = 10 * l.depth + 6
 
-abbrev pub invariant-factors-factors : goal.invariant-factors-factors
-invariant-factors-factors l = record {
-  some : 0 < length l.members.items;
-  shorter : length (token_views l.rest) < length (token_views l.fn.tokens);
-  before : Found (next_factor_at l.fn.depth) (factors_at l.fn.depth (token_views l.fn.tokens)) (map expr_view l.members.items) (token_views l.rest);
+abbrev pub invariant-term-factors : goal.invariant-term-factors
+invariant-term-factors l = record {
+  several : 1 < length l.members.items;
+  shorter : length (cursor_view l.rest) < length (cursor_view l.fn.tokens);
+  before : Found (next_factor_at l.fn.depth) (factors_at l.fn.depth (cursor_view l.fn.tokens)) (map expr_view l.members.items) (cursor_view l.rest);
 }
 
-abbrev pub decreases-factors-factors : goal.decreases-factors-factors
-decreases-factors-factors l = length (token_views l.rest)
+abbrev pub decreases-term-factors : goal.decreases-term-factors
+decreases-term-factors l = length (cursor_view l.rest)
 
-abbrev pub invariant-terms-terms : goal.invariant-terms-terms
-invariant-terms-terms l = record {
-  some : 0 < length l.members.items;
-  shorter : length (token_views l.rest) < length (token_views l.fn.tokens);
-  before : Found (next_term_at l.fn.depth) (terms_at l.fn.depth (token_views l.fn.tokens)) (map expr_view l.members.items) (token_views l.rest);
+abbrev pub invariant-expr-terms : goal.invariant-expr-terms
+invariant-expr-terms l = record {
+  several : 1 < length l.members.items;
+  shorter : length (cursor_view l.rest) < length (cursor_view l.fn.tokens);
+  before : Found (next_term_at l.fn.depth) (terms_at l.fn.depth (cursor_view l.fn.tokens)) (map expr_view l.members.items) (cursor_view l.rest);
 }
 
-abbrev pub decreases-terms-terms : goal.decreases-terms-terms
-decreases-terms-terms l = length (token_views l.rest)
+abbrev pub decreases-expr-terms : goal.decreases-expr-terms
+decreases-expr-terms l = length (cursor_view l.rest)

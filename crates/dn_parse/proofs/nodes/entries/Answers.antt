@@ -1,8 +1,9 @@
 use Rattle.std.proofs.Common.{◌≡◌, ◌∙◌, ap, sym, subst, ◌<◌, [], ◌∷◌, ◌++◌, List, length, map, Ok, option_map, IfSome, arith}
+use Rattle.dn_token.specs.Cursor.{cursor_view}
 use Rattle.std.proofs.lemmas.List.{map-append}
 use Rattle.std.proofs.lemmas.Result.{err_from_is_err_and}
 use Rattle.dn_parse.specs.declared.syntax.EntryExpr.{EntryExpr}
-use Rattle.dn_parse.specs.Views.{token_views, entry_view}
+use Rattle.dn_parse.specs.Views.{entry_view}
 use Rattle.dn_parse.specs.Descent.{next_entry_at, entries_at}
 use Rattle.dn_parse.proofs.Series.{Found, halted, found_first, found_more}
 use Rattle.dn_parse.proofs.Firsts.{entries_stop, entries_first}
@@ -11,22 +12,22 @@ use Rattle.dn_parse.proofs.nodes.entries.Goals as goal
 pub returns-in_err-first-clause-gives : goal.returns-in_err-first-clause-gives
 returns-in_err-first-clause-gives c =
     let p = err_from_is_err_and c.from_residual.result c.from_residual.ensures.1 in
-    rw (p.1, p.2) (halted _ _ _ c.in_err-first.ensures.gives (entries_stop (token_views c.args.tokens.now)))
+    rw (p.1, p.2) (halted _ _ _ c.in_err-first.ensures.gives (entries_stop (cursor_view c.args.tokens)))
 
 pub entries-init : goal.entries-init
 entries-init c =
     let one : entry_view c.in_ok-first.first ∷ [] ≡ map entry_view c.push.new.self = ap (map entry_view) (sym (c.in_ok-push.ensures.ok ∙ ap (λ (l : List EntryExpr). l ++ c.in_ok-first.first ∷ []) c.new-entries.ensures)) in
     record {
       shorter = c.in_ok-first.ensures.shorter;
-      before = subst (λ l. Found next_entry_at (entries_at (token_views c.args.tokens.now)) l (token_views c.in_ok-first.after.now)) one (found_first _ _ _ (entries_first _ _ _ c.in_ok-first.ensures.gives));
+      before = subst (λ l. Found next_entry_at (entries_at (cursor_view c.args.tokens)) l (cursor_view c.in_ok-first.after)) one (found_first _ _ _ (entries_first _ _ _ c.in_ok-first.ensures.gives));
     }
 
 pub entries-preserved : goal.entries-preserved
 entries-preserved c =
     let more = sym (ap (map entry_view) c.in_ok-push-2.ensures.ok ∙ map-append entry_view _ _) in
-    let is = c.in_ok-entry.ensures.gives ∙ ap (λ o. Ok (option_map (λ p. (entry_view p.0, token_views p.1.now)) o)) c.in-Some.is in
-    let shorter = subst (λ o. IfSome o (λ p. length (token_views p.1.now) < length (token_views c.entries.rest.now))) c.in-Some.is c.in_ok-entry.ensures.shorter in
+    let is = c.in_ok-entry.ensures.gives ∙ ap (λ o. Ok (option_map (λ p. (entry_view p.0, cursor_view p.1)) o)) c.in-Some.is in
+    let shorter = subst (λ o. IfSome o (λ p. length (cursor_view p.1) < length (cursor_view c.entries.rest))) c.in-Some.is c.in_ok-entry.ensures.shorter in
     record {
       shorter = omega (arith, shorter, c.entries.invariant.shorter);
-      before = subst (λ l. Found next_entry_at (entries_at (token_views c.args.tokens.now)) l (token_views c.in-Some.after.now)) more (found_more c.entries.invariant.before _ _ is shorter);
+      before = subst (λ l. Found next_entry_at (entries_at (cursor_view c.args.tokens)) l (cursor_view c.in-Some.after)) more (found_more c.entries.invariant.before _ _ is shorter);
     }

@@ -1,8 +1,8 @@
-use Rattle.std.proofs.Common.{◌≡◌, ◌∙◌, ap, sym, subst, ◌<◌, [], ◌∷◌, ◌++◌, List, length, map, Ok, option_map, IfSome, arith}
+use Rattle.std.proofs.Common.{◌≡◌, ◌∙◌, ap, sym, subst, ◌<◌, [], ◌∷◌, length, map, Ok, option_map, IfSome, arith}
+use Rattle.dn_token.specs.Cursor.{cursor_view}
 use Rattle.std.proofs.lemmas.List.{map-append}
 use Rattle.std.proofs.lemmas.Result.{err_from_is_err_and}
-use Rattle.dn_parse.specs.declared.syntax.PartExpr.{PartExpr}
-use Rattle.dn_parse.specs.Views.{token_views, part_view}
+use Rattle.dn_parse.specs.Views.{part_view}
 use Rattle.dn_parse.specs.Descent.{next_part_at, name_at}
 use Rattle.dn_parse.proofs.Series.{Found, halted, found_first, found_more}
 use Rattle.dn_parse.proofs.Firsts.{name_stop, name_first}
@@ -11,22 +11,22 @@ use Rattle.dn_parse.proofs.nodes.name.Goals as goal
 pub returns-in_err-first-clause-gives : goal.returns-in_err-first-clause-gives
 returns-in_err-first-clause-gives c =
     let p = err_from_is_err_and c.from_residual.result c.from_residual.ensures.1 in
-    rw (p.1, p.2) (halted _ _ _ c.in_err-first.ensures.gives (name_stop c.args.depth (token_views c.args.tokens.now)))
+    rw (p.1, p.2) (halted _ _ _ c.in_err-first.ensures.gives (name_stop c.args.depth (cursor_view c.args.tokens)))
 
 pub parts-init : goal.parts-init
 parts-init c =
-    let one : part_view c.in_ok-first.first ∷ [] ≡ map part_view c.push.new.self = ap (map part_view) (sym (c.in_ok-push.ensures.ok ∙ ap (λ (l : List PartExpr). l ++ c.in_ok-first.first ∷ []) c.new-parts.ensures)) in
+    let one : part_view c.in_ok-first.first ∷ [] ≡ map part_view c.in_ok-parts.parts = ap (map part_view) (sym c.in_ok-parts.ensures) in
     record {
       shorter = c.in_ok-first.ensures.shorter;
-      before = subst (λ l. Found (next_part_at c.args.depth) (name_at c.args.depth (token_views c.args.tokens.now)) l (token_views c.in_ok-first.after.now)) one (found_first _ _ _ (name_first c.args.depth _ _ _ c.in_ok-first.ensures.gives));
+      before = subst (λ l. Found (next_part_at c.args.depth) (name_at c.args.depth (cursor_view c.args.tokens)) l (cursor_view c.in_ok-first.after)) one (found_first _ _ _ (name_first c.args.depth _ _ _ c.in_ok-first.ensures.gives));
     }
 
 pub parts-preserved : goal.parts-preserved
 parts-preserved c =
-    let more = sym (ap (map part_view) c.in_ok-push-2.ensures.ok ∙ map-append part_view _ _) in
-    let is = c.in_ok-part.ensures.gives ∙ ap (λ o. Ok (option_map (λ p. (part_view p.0, token_views p.1.now)) o)) c.in-Some.is in
-    let shorter = subst (λ o. IfSome o (λ p. length (token_views p.1.now) < length (token_views c.parts.rest.now))) c.in-Some.is c.in_ok-part.ensures.shorter in
+    let more = sym (ap (map part_view) c.in_ok-push.ensures.ok ∙ map-append part_view _ _) in
+    let is = c.in_ok-part.ensures.gives ∙ ap (λ o. Ok (option_map (λ p. (part_view p.0, cursor_view p.1)) o)) c.in-Some.is in
+    let shorter = subst (λ o. IfSome o (λ p. length (cursor_view p.1) < length (cursor_view c.parts.rest))) c.in-Some.is c.in_ok-part.ensures.shorter in
     record {
       shorter = omega (arith, shorter, c.parts.invariant.shorter);
-      before = subst (λ l. Found (next_part_at c.args.depth) (name_at c.args.depth (token_views c.args.tokens.now)) l (token_views c.in-Some.after.now)) more (found_more c.parts.invariant.before _ _ is shorter);
+      before = subst (λ l. Found (next_part_at c.args.depth) (name_at c.args.depth (cursor_view c.args.tokens)) l (cursor_view c.in-Some.after)) more (found_more c.parts.invariant.before _ _ is shorter);
     }

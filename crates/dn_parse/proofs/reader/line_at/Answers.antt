@@ -1,9 +1,14 @@
-use Rattle.std.proofs.Common.{◌≡◌, length, ◌<◌, rules, get_or}
-use Rattle.dn_parse.proofs.Judge.{line_found}
+use Rattle.std.proofs.Common.{◌∙◌, ap, sym, ◌<◌, length, List, arith}
+use Rattle.dn_token.specs.Token.{Token}
+use Rattle.dn_token.specs.Cursor.{cursor_view, behind_view}
+use Rattle.dn_token.specs.Lexing.{token_view}
+use Rattle.dn_parse.specs.Whole.{line_at}
+use Rattle.dn_parse.proofs.Judge.{line_on}
 use Rattle.dn_parse.proofs.reader.line_at.Goals as goal
 
-pub returns-in-Some : goal.returns-in-Some
-returns-in-Some c =
-    let within : c.saturating_sub.result < length c.args.tokens.now = search rules in
-    let found : c.in-Some.token.now ≡ get_or c.args.tokens.now c.saturating_sub.result c.in-Some.token.now = search rules in
-    line_found c.args.last c.args.tokens.now c.args.left c.saturating_sub.result c.saturating_sub.ensures within c.in-Some.token.now found
+pub tokens-preserved : goal.tokens-preserved
+tokens-preserved c =
+    let within : c.args.left < length (cursor_view c.tokens.rest) = omega (arith, c.if-left.false, c.left.ensures) in
+    c.tokens.invariant
+    ∙ line_on c.args.last (cursor_view c.tokens.rest) (token_view c.in-Some.token) (behind_view c.tokens.rest) c.args.left c.in-Some.ensures within
+    ∙ ap (λ (l : List Token). line_at c.args.last l c.args.left) (sym c.advance-rest.ensures)
