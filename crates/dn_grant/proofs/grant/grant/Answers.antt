@@ -63,5 +63,5 @@ pub returns-in_default-2-clause-complete : goal.returns-in_default-2-clause-comp
 returns-in_default-2-clause-complete g c =
     let ks = map (λ k. (goal.UnitKind-dyn g (k.vtable, k.value)).meaning k.value) c.args.kinds.now.list.items in
     λ e one. no_addition c.args.net.now ks c.args.book.now.grants c.args.book.now.set c.args.id c.args.request.now c.requires.legal.legal
-      (all_of_map _ c.args.kinds.now.list.items c.requires.lawful) c.requires.kept (sym c.refusal.ensures ∙ c.in_default.is) c.requires.rights one
-      (c.in_ok-placement.ensures.none c.in_default-2.is)
+    (all_of_map _ c.args.kinds.now.list.items c.requires.lawful) c.requires.kept (sym c.refusal.ensures ∙ c.in_default.is) c.requires.rights one
+    (c.in_ok-placement.ensures.none c.in_default-2.is)

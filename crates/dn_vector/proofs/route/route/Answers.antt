@@ -96,5 +96,5 @@ returns-in_default-found-clause-complete g c =
     let ks = map (λ k. (goal.UnitKind-dyn g (k.vtable, k.value)).meaning k.value) c.args.kinds.now.list.items in
     let free = subst (λ gs. (a : ℕ) → has c.in_ok-free.free a ≡ is_free_vector net gs c.args.node a) c.grants.ensures c.in_ok-free.ensures.free in
     λ e. no_addition net ks book c.args.book.now.set c.args.id c.args.agent c.args.line c.args.node c.requires.legal.legal
-      (all_of_map _ c.args.kinds.now.list.items c.requires.lawful) c.requires.kept (sym c.refusal.ensures ∙ c.in_default.is)
-      (none_free net book c.args.agent c.args.line c.args.node c.in_ok-free.free free (c.in_ok-found.ensures.none c.in_default-found.is))
+    (all_of_map _ c.args.kinds.now.list.items c.requires.lawful) c.requires.kept (sym c.refusal.ensures ∙ c.in_default.is)
+    (none_free net book c.args.agent c.args.line c.args.node c.in_ok-free.free free (c.in_ok-found.ensures.none c.in_default-found.is))
