@@ -36,6 +36,7 @@ renew-requires-clause-faithful g c =
 
 pub returns-in_err-routed-in-Ok-clause-changed : goal.returns-in_err-routed-in-Ok-clause-changed
 returns-in_err-routed-in-Ok-clause-changed g c =
+    let ended : c.from_residual-in_err-routed-in-Ok.result ≡ Err NoMemory = search rules in
     let kinds : List Meaning = map (λ k. (goal.UnitKind-dyn g (k.vtable, k.value)).meaning k.value) c.args.kinds.now.list.items in
     let net : List NodeDecl = c.args.net.now in
     let state = c.args.state.now in
@@ -50,7 +51,6 @@ returns-in_err-routed-in-Ok-clause-changed g c =
     let logged : IsRouteLogged net kinds state.book.grants state.book.cleared (id_number state.ids id) agent line node false (g.D.Tables.log c.args.device.now) (g.D.Tables.log c.route.new.device) = subst (λ n. IsRouteLogged net kinds state.book.grants state.book.cleared n agent line node false (g.D.Tables.log c.args.device.now) (g.D.Tables.log c.route.new.device)) number c.in-Ok.ensures.routed in
     let left : record { book = c.route.new.book.grants; cleared = false; ids = with_id state.ids id } ≡ state_view c.renew.new.state = state_left c.renew.new.state c.route.new.book (with_id state.ids id) false c.renew.ensures.same.0 (c.renew.ensures.same.1 ∙ c.in_ok-number.ensures.ids) c.in-Ok.ensures.fenced in
     let turned = routed_turn kinds net s (state_view c.renew.new.state) id agent line node v c.route.new.book.grants (g.D.Tables.log c.args.device.now) (g.D.Tables.log c.route.new.device) made logged left in
-    let ended : c.from_residual-in_err-routed-in-Ok.result ≡ Err NoMemory = search rules in
     halted_after (IsRouteTurn kinds net s id agent line node) c.from_residual-in_err-routed-in-Ok.result (state_view c.renew.new.state) (state_view c.renew.new.state) (routed_text id v) _ _ ended turned
 
 pub returns-in_ok-routed-in-Ok-clause-changed : goal.returns-in_ok-routed-in-Ok-clause-changed
