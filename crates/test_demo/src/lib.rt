@@ -1,0 +1,12 @@
+//! Tests of the demonstration: the text that is made for so many agents, and the line that sums it up; and of
+//! the words of a command line.
+//!
+//! The wanted texts follow the description of the demonstration, and none comes from the program.
+#![tactic(auto)]
+
+#[cfg(test)]
+mod summary;
+#[cfg(test)]
+mod text;
+#[cfg(test)]
+mod words;
