@@ -1,5 +1,6 @@
 //! The words of a command line.
 
+use crate::asked_of;
 use dn_words::words::{Task, Words};
 use std::alloc::{AllocError, Global};
 use std::test::Fail;
@@ -32,7 +33,7 @@ const NO_NUMBERS: [&str; 12] = [
 #[test]
 fn takes_no_other_number(rt: HostRuntime) -> Result<(), Fail> {
     for number in NO_NUMBERS {
-        assert_eq!(rt; asked(rt.alloc(), &["demo", number])?, None, "{number}");
+        assert_eq!(rt; asked_of(rt.alloc(), "demo", number)?, None, "{number}");
     }
     Ok(())
 }
