@@ -4,15 +4,12 @@
 //! a source and a sink that a test can direct: a text is answered alike however many bytes a read gives (`pieces`);
 //! a read or a write that fails ends the run with its status, no call is made again or beside those that are needed,
 //! and words of no form read nothing (`faults`); each front of a text is answered (`cuts`); and nets with units are
-//! printed, read back and refused (`units`). The units of a net are made on a device, which may fail (`devices`); so it is with a
-//! demonstration (`demos`). [`outcome`] runs the words over a text,
+//! printed, read back and refused (`units`). The units of a net are made on a device, which may fail (`devices`). [`outcome`] runs the words over a text,
 //! and `rows` compares what comes of it.
 #![tactic(auto)]
 
 #[cfg(test)]
 mod cuts;
-#[cfg(test)]
-mod demos;
 #[cfg(test)]
 mod devices;
 #[cfg(test)]
