@@ -15,9 +15,9 @@ pub struct Summary {
     /// The nodes of the net.
     pub nodes: u16,
     /// The grants that were made.
-    pub grants: u32,
+    pub grants: u64,
     /// The grants that were revoked.
-    pub revoked: u32,
+    pub revoked: u64,
     /// The rows of the views of all agents together, for reading.
     pub rows: u64,
     /// The slots that hold a record.

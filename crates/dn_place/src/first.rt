@@ -111,15 +111,8 @@ fn by_tables<A: Aim>(
             (record_kept (map (λ k. meaning (k.vtable, k.value)) kinds.entry.now.list.items) tables.entry.now)
             request.entry.now (record { v = v; hops = hops_of hops; own = own })) }
     {
-        exact(
-            alloc,
-            net,
-            flats,
-            kinds,
-            tables,
-            request,
-            &hops.placed(alloc, v, own),
-        )
+        let placement = hops.placed(alloc, v, own);
+        exact(alloc, net, flats, kinds, tables, request, &placement)
     };
     let platform = Platform::<'_, A, _, _> {
         net,

@@ -1,4 +1,5 @@
 pub mod Exists
+pub mod Demos
 pub mod Endings
 pub mod Inputs
 pub mod NodeFaults

@@ -66,7 +66,7 @@ turns_more kinds net s (d ∷ ds) ts c t h is =
     (h.0, h.1 ++ t ∷ [], ap (λ l. l ++ t ∷ []) h.2, h.3, later)
 
 -- as many turns as commands
-turns_count : (kinds : List Meaning) (net : List NodeDecl) (s : State) (cs : List Command) (ts : List Turn) → AreTurns kinds net s cs ts → length ts ≡ length cs
+pub turns_count : (kinds : List Meaning) (net : List NodeDecl) (s : State) (cs : List Command) (ts : List Turn) → AreTurns kinds net s cs ts → length ts ≡ length cs
 turns_count kinds net s [] ts h = ap length h
 turns_count kinds net s (d ∷ ds) ts h = ap length h.2 ∙ ap suc (turns_count kinds net h.0.next ds h.1 h.4)
 
@@ -327,3 +327,13 @@ halted_by {X} kinds net commands i c s next r halt ended a b d log log' log'' to
         } in
         played_before kinds net commands i (ending_status (Err halt)) s a d log log'' told' (omega (arith, within)) (ap (λ (h : Halt). ending_status (Err h)) z.memory) here
     go (inr z) = played_in kinds net commands i (ending_status (Err halt)) s c z.turn a b d log log' log'' told' within at (free halt) (going halt) g z.is_turn z.came
+
+-- the turns of what was gone through
+
+pub more_turns : (kinds : List Meaning) (net : List NodeDecl) (commands : List Command) (i : ℕ) (s : State) (c : Command) (t : Turn) (a b d : Option (List ℕ)) (log log' log'' : Option (List TableEvent)) (g : IsGone kinds net commands i s a b log log') (within : i < length commands) (at : c ≡ get_or commands i c) (is : IsTurn kinds net s c t) (owed : GivesOwed kinds net t.next.book) (w : Added b d t.reply) (l : Logged log' log'' t.events) → (gone_more kinds net commands i s c t a b d log log' log'' g within at is owed w l).turns ≡ g.turns ++ t ∷ []
+unfolding gone_more
+more_turns kinds net commands i s c t a b d log log' log'' g within at is owed w l = refl
+
+pub whole_turns : (kinds : List Meaning) (net : List NodeDecl) (commands : List Command) (i status : ℕ) (s : State) (a b : Option (List ℕ)) (log log' : Option (List TableEvent)) (told' : Option (List UnitWords)) (over : i ≡ length commands) (none : status ≡ 0) (told : IfSome told' (λ tables. tables ≡ device_tables 0 net (tables_of net kinds s.book))) (g : IsGone kinds net commands i s a b log log') → (played_whole kinds net commands i status s a b log log' told' over none told g).turns ≡ g.turns
+unfolding played_whole
+whole_turns kinds net commands i status s a b log log' told' over none told g = refl

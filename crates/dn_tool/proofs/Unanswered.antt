@@ -1,21 +1,21 @@
 -- A run that ended before there was an answer.
-use Rattle.std.proofs.Common.{◌≡◌, ◌≢◌, ◌∙◌, ◌==◌, sym, subst, refl, arith, ℕ, Bool, true, false, not, List, [], Option}
+use Rattle.std.proofs.Common.{◌≡◌, ◌≢◌, ◌∙◌, ◌==◌, sym, subst, refl, arith, ℕ, Bool, true, false, not, inr, List, [], Option, None}
 use Rattle.dn_base.specs.declared.device.TableEvent.{TableEvent}
 use Rattle.dn_base.specs.declared.device.UnitWords.{UnitWords}
 use Rattle.dn_base.specs.Outside.{IsWritten}
 use Rattle.dn_base.proofs.Logs.{Logged-none}
 use Rattle.dn_base.proofs.Told.{Added-none, written_none}
+use Rattle.dn_net.specs.declared.node.NodeDecl.{NodeDecl}
 use Rattle.dn_kind.specs.Kind.{Meaning}
-use Rattle.dn_tool.specs.Answer.{Answer, IsAnswered, played, said}
+use Rattle.dn_module.specs.declared.command.Command.{Command}
+use Rattle.dn_tool.specs.Answer.{Answer, IsAnswered, played, said, shown}
 use Rattle.dn_tool.specs.Halt.{is_free}
+use Rattle.dn_tool.specs.Played.{IsPlayed}
+use Rattle.dn_tool.proofs.Inputs.{is_shown}
 
--- nothing was done and nothing written
-pub unanswered : (kinds : List Meaning) (a : Answer) (status : ℕ) (b d : Option (List ℕ)) (log log' : Option (List TableEvent)) (told' : Option (List UnitWords)) → is_free status ≡ true → (status == 3) ≡ false → (status == 6) ≡ false → d ≡ b → log' ≡ log → IsAnswered kinds a status b d log log' told'
-unanswered kinds (said own output) status b d log log' told' free not_sink not_device same unlogged = record {
-  exact = λ e. cc;
-  written = subst (λ (w : Bool). IsWritten b d (not (is_free status)) w output) (sym not_sink) (subst (λ (f : Bool). IsWritten b d (not f) false output) (sym free) (written_none b d output same));
-}
-unanswered kinds (played net commands) status b d log log' told' free not_sink not_device same unlogged = record {
+-- nothing of a script was done
+unplayed : (kinds : List Meaning) (net : List NodeDecl) (commands : List Command) (status : ℕ) (b d : Option (List ℕ)) (log log' : Option (List TableEvent)) (told' : Option (List UnitWords)) → is_free status ≡ true → (status == 3) ≡ false → (status == 6) ≡ false → d ≡ b → log' ≡ log → IsPlayed kinds net commands status b d log log' told'
+unplayed kinds net commands status b d log log' told' free not_sink not_device same unlogged = record {
   turns = [];
   few = omega arith;
   happened = refl;
@@ -46,3 +46,16 @@ unanswered kinds (played net commands) status b d log log' told' free not_sink n
 
     device : status ≢ 6
     device e = let f : true ≡ false = subst (λ n. (n == 6) ≡ false) e not_device in cc
+
+-- nothing was done and nothing written; a demonstration ends so only for want of memory
+pub unanswered : (kinds : List Meaning) (a : Answer) (status : ℕ) (b d : Option (List ℕ)) (log log' : Option (List TableEvent)) (told' : Option (List UnitWords)) → is_free status ≡ true → (status == 3) ≡ false → (status == 6) ≡ false → (is_shown a ≡ true → status ≡ 7) → d ≡ b → log' ≡ log → IsAnswered kinds a status b d log log' told'
+unanswered kinds (said own output) status b d log log' told' free not_sink not_device only same unlogged = record {
+  exact = λ e. cc;
+  written = subst (λ (w : Bool). IsWritten b d (not (is_free status)) w output) (sym not_sink) (subst (λ (f : Bool). IsWritten b d (not f) false output) (sym free) (written_none b d output same));
+}
+unanswered kinds (played net commands) status b d log log' told' free not_sink not_device only same unlogged = unplayed kinds net commands status b d log log' told' free not_sink not_device same unlogged
+unanswered kinds (shown agents net commands) status b d log log' told' free not_sink not_device only same unlogged = inr (record {
+  played = unplayed kinds net commands status None None log log' told' free not_sink not_device refl unlogged;
+  why = inr (only refl);
+  unwritten = same;
+})

@@ -1,6 +1,5 @@
--- The answer of the program: a status and what is written, or a script that is run.
+-- The answer of the program: a status and what is written, or a script that is run, or a demonstration.
 use Rattle.std.specs.Prelude.{◌≡◌, ℕ, ◌==◌, Bool, true, false, not, if◌then◌else◌, List, [], ◌∷◌, ◌++◌, codes, Option, Some, None, Result, Ok, Err}
-use Rattle.std.specs.Str.{bytes_eq}
 use Rattle.dn_base.specs.declared.device.TableEvent.{TableEvent}
 use Rattle.dn_base.specs.declared.device.UnitWords.{UnitWords}
 use Rattle.dn_base.specs.Outside.{IsWritten}
@@ -8,43 +7,45 @@ use Rattle.dn_net.specs.declared.node.NodeDecl.{NodeDecl}
 use Rattle.dn_kind.specs.Kind.{Meaning}
 use Rattle.dn_print.specs.Statement.{net_text}
 use Rattle.dn_module.specs.declared.command.Command.{Command}
-use Rattle.dn_tool.specs.declared.words.Task.{Task}
-use Rattle.dn_tool.specs.declared.words.Task.TheVariants.{Run, Check}
+use Rattle.dn_words.specs.declared.words.Task.{Task}
+use Rattle.dn_words.specs.declared.words.Task.TheVariants.{Run, Check, Demo}
+use Rattle.dn_words.specs.Words.{task_of}
+use Rattle.dn_demo.specs.Text.{demo_text}
 use Rattle.dn_module.specs.Expand.{Outcome}
 use Rattle.dn_tool.specs.Compiled.{compilation, with_refusal}
+use Rattle.dn_tool.specs.Demo.{IsShown}
 use Rattle.dn_tool.specs.Halt.{is_free}
 use Rattle.dn_tool.specs.Played.{IsPlayed}
 use Rattle.dn_tool.specs.Refused.{Refused}
 
--- a status and the output; or a net, whose commands are answered one after the other
+-- a status and the output; or a net, whose commands are answered one after the other, or gone through
+-- for a demonstration with so many agents
 pub data Answer : Type 0 where
   said : ℕ → List ℕ → Answer
   played : List NodeDecl → List Command → Answer
+  shown : ℕ → List NodeDecl → List Command → Answer
 
 -- the answer is a script that is run
 abbrev pub is_script : Answer → Bool
 is_script (said status output) = false
 is_script (played net commands) = true
+is_script (shown agents net commands) = true
 
 -- the line that says how the program is used
 abbrev pub usage : List ℕ
 usage = codes "usage: netconf COMMAND [N]\n"
 
--- what a single word asks for
-abbrev pub task_of_word : List ℕ → Option Task
-task_of_word word =
-    if bytes_eq word (codes "run") then Some Run
-    else (if bytes_eq word (codes "check") then Some Check else None)
-
--- what the words ask for: they are `run` alone or `check` alone
-abbrev pub task_of : List (List ℕ) → Option Task
-task_of (word ∷ []) = task_of_word word
-task_of _ = None
-
 -- whether a task reads the source
 abbrev pub task_reads : Task → Bool
 task_reads Run = true
 task_reads Check = true
+task_reads (Demo agents) = false
+
+-- the text that a task is about: the one that is read, or that of the demonstration
+abbrev pub task_text : Task → List ℕ → List ℕ
+task_text Run text = text
+task_text Check text = text
+task_text (Demo agents) text = demo_text agents
 
 -- whether what is asked for reads the source; where nothing is, nothing is read
 abbrev pub some_task_reads : Option Task → Bool
@@ -59,10 +60,11 @@ reads words = some_task_reads (task_of words)
 abbrev pub IsInput : List (List ℕ) → Option (List ℕ) → List ℕ → Type 0
 IsInput words left text = reads words ≡ true → left ≡ Some text
 
--- `run` answers the commands, and `check` prints the net
+-- `run` answers the commands, `check` prints the net, and `demo N` goes through the commands
 abbrev pub task_answer : Task → List Meaning → List NodeDecl → List Command → Answer
 task_answer Run kinds net commands = played net commands
 task_answer Check kinds net commands = said 0 (net_text kinds net)
+task_answer (Demo agents) kinds net commands = shown agents net commands
 
 -- the answer to what a text comes to: the line of its refusal, or what the task makes of it
 abbrev pub compiled_answer : Task → List Meaning → Result Outcome Refused → Answer
@@ -73,10 +75,14 @@ compiled_answer task kinds (Ok o) = task_answer task kinds o.net o.commands
 abbrev pub text_answer : Task → List Meaning → List ℕ → Answer
 text_answer task kinds text = compiled_answer task kinds (with_refusal (compilation kinds text))
 
+-- the answer to a demonstration with so many agents
+abbrev pub demo_answer : ℕ → List Meaning → Answer
+demo_answer agents kinds = text_answer (Demo agents) kinds (demo_text agents)
+
 -- the answer to what is asked for, and the usage line where nothing is
 abbrev pub asked_answer : Option Task → List Meaning → List ℕ → Answer
 asked_answer None kinds text = said 1 usage
-asked_answer (Some task) kinds text = text_answer task kinds text
+asked_answer (Some task) kinds text = text_answer task kinds (task_text task text)
 
 -- the answer to words and a text, where these kinds of units are known
 abbrev pub answer : List (List ℕ) → List Meaning → List ℕ → Answer
@@ -96,3 +102,5 @@ IsAnswered kinds (said own output) status before after log log' told' =
     IsSaid own output status before after
 IsAnswered kinds (played net commands) status before after log log' told' =
     IsPlayed kinds net commands status before after log log' told'
+IsAnswered kinds (shown agents net commands) status before after log log' told' =
+    IsShown kinds net agents commands status before after log log' told'

@@ -8,6 +8,7 @@ pub mod Played
 pub mod Changed
 pub mod Ids
 pub mod State
+pub mod Demo
 pub mod Answer
 pub mod Halt
 pub mod Platform

@@ -68,16 +68,8 @@ pub(crate) fn change<D: Tables>(
     match command {
         Command::Grant(id, from, target, base, size, mode) => {
             let request = request_of(from, target, *base, *size, *mode);
-            grant_change(
-                alloc,
-                kinds,
-                net,
-                walks,
-                state,
-                id.as_str(),
-                &request,
-                device,
-            )
+            let id = id.as_str();
+            grant_change(alloc, kinds, net, walks, state, id, &request, device)
         }
         Command::Route(id, from, line, target) => {
             let agent = number_or_none(from.node);

@@ -5,10 +5,12 @@
 //! the line of each rule. [`script`] makes the units of a platform and answers its commands: [`state`] is what is
 //! kept meanwhile, [`change`] does grants, routes and revokes under their [`ids`], and [`reply`] spells the other
 //! answers, those to `split` and `absorb` by [`reshape`]. [`run::run`] goes from the bytes of a source to those of a sink and the words of a device.
+//! [`run::demo`] does so with the text of a demonstration, of which [`demo`] prints what came of it.
 #![tactic(auto)]
 
 mod change;
 pub mod compile;
+mod demo;
 mod halt;
 pub mod ids;
 pub mod laws;
@@ -19,4 +21,5 @@ mod reshape;
 pub mod run;
 mod script;
 pub mod state;
-pub mod words;
+
+pub use dn_words::words;

@@ -6,26 +6,29 @@ ghost use Rattle.std.specs.Option.{IfSome};
 ghost use Rattle.dn_base.specs.Outside.{AtEnd, IsCounted, Taken, TakenAtMost, input_limit};
 ghost use Rattle.dn_kind.specs.Kind.{IsLawful};
 ghost use Rattle.dn_kind.specs.Units.{shape_fault};
-ghost use Rattle.dn_tool.specs.Answer.{IsAnswered, IsInput, IsSaid, answer, is_script, reads, task_answer, task_of, text_answer, usage};
+ghost use Rattle.dn_words.specs.Words.{task_of};
+ghost use Rattle.dn_tool.specs.Answer.{IsAnswered, IsInput, IsSaid, answer, demo_answer, is_script, reads, task_answer, text_answer, usage};
 ghost use Rattle.dn_tool.specs.Halt.{ending_status, is_device_halt, is_free, is_write_halt};
 ghost use Rattle.dn_print.specs.Statement.{net_text};
 
 use crate::compile;
 use crate::compile::{CompileFault, Platform};
+use crate::demo::run_demo;
 use crate::halt::{Halt, status_of};
 pub use crate::halt::{DEVICE_FAULT, NO_MEMORY, WRITE_FAULT};
 use crate::output::write_output;
 use crate::refusal::Refusal;
 pub use crate::script::DONE;
 use crate::script::run_script;
-use crate::words::{Task, Words};
 use dn_base::device::Tables;
 use dn_base::sink::Sink;
 use dn_base::source::Source;
 use dn_base::whole;
 use dn_base::whole::InputFault;
+use dn_demo::text::demo_text;
 use dn_kind::kinds::Kinds;
-use std::alloc::Global;
+use dn_words::words::{Task, Words};
+use std::alloc::{AllocError, Global};
 
 /// The words are of none of the forms.
 pub const WRONG_WORDS: u8 = 1;
@@ -84,15 +87,51 @@ pub fn run<S: Source, K: Sink, D: Tables>(
     ensures sink_counted { IsCounted (K.faults sink.old) (K.faults sink.new) (result == 3) }
     ensures device_counted { IsCounted (D.faults device.old) (D.faults device.new) (result == 6) }
 {
-    let Some(task) = words.task() else {
-        return status_of(refuse_words(sink));
+    let task = match words.task() {
+        Ok(Some(task)) => task,
+        Ok(None) => return status_of(refuse_words(sink)),
+        Err(AllocError) => return NO_MEMORY,
     };
+    if let Task::Demo(agents) = task {
+        return demo(alloc, agents, kinds, sink, device);
+    }
     let text = match whole::read_whole(alloc, source) {
         Ok(text) => text,
         Err(InputFault::Failed) => return READ_FAULT,
         Err(InputFault::OutOfMemory) => return NO_MEMORY,
     };
     status_of(answer_text(alloc, task, kinds, &text, sink, device))
+}
+
+/// Runs the demonstration with so many agents, from 1 to 64: grants and revokes over a text that is
+/// made for them, and one line that sums up what came of it. Its status is 0, or one of a fault: 3, 4,
+/// 6 or 7, as `run` gives them.
+pub fn demo<K: Sink, D: Tables>(
+    alloc: Global,
+    agents: u8,
+    kinds: &Kinds,
+    sink: &mut K,
+    device: &mut D,
+) -> u8
+    requires some { 0 < agents }
+    requires few_kinds { length kinds.now.list.items ≤ 255 }
+    requires lawful { All (λ k. IsLawful (meaning (k.vtable, k.value))) kinds.now.list.items }
+    requires none { D.units device.old ≡ [] }
+    ensures answered { IsAnswered (map (λ k. meaning (k.vtable, k.value)) kinds.now.list.items)
+        (demo_answer agents (map (λ k. meaning (k.vtable, k.value)) kinds.now.list.items)) result
+        (K.written sink.old) (K.written sink.new)
+        (D.log device.old) (D.log device.new) (D.words device.new) }
+    ensures untouched { is_script
+        (demo_answer agents (map (λ k. meaning (k.vtable, k.value)) kinds.now.list.items)) ≡ false →
+        device.new ≡ device.old }
+    ensures statuses { ((result ≡ 0) ⊎ (result ≡ 3)) ⊎ ((result ≡ 4) ⊎ ((result ≡ 6) ⊎ (result ≡ 7))) }
+    ensures sink_counted { IsCounted (K.faults sink.old) (K.faults sink.new) (result == 3) }
+    ensures device_counted { IsCounted (D.faults device.old) (D.faults device.new) (result == 6) }
+{
+    match demo_text(alloc, agents) {
+        Ok(text) => status_of(answer_text(alloc, Task::Demo(agents), kinds, &text, sink, device)),
+        Err(_) => NO_MEMORY,
+    }
 }
 
 /// Writes the line that says how the program is used.
@@ -167,6 +206,7 @@ fn answer_task<K: Sink, D: Tables>(
     match task {
         Task::Run => run_script(alloc, kinds, platform, sink, device),
         Task::Check => print_net(alloc, kinds, platform, sink),
+        Task::Demo(agents) => run_demo(alloc, agents, kinds, platform, sink, device),
     }
 }
 

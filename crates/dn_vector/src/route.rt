@@ -36,7 +36,7 @@ use std::alloc::Global;
 /// is there. `OutOfMemory` for want of memory. After all of these nothing has changed. `Device` only
 /// where the device's count of faults rose in this call, or stands at the last value of its counter:
 /// the writes before the one that failed are done, no grant comes in, and the book is not sound any
-/// more.
+/// more. `NoPlacement` is complete: records other than those of placements give no free vector either.
 pub fn route<D: Tables>(
     alloc: Global,
     book: &mut Book,
@@ -60,7 +60,6 @@ pub fn route<D: Tables>(
         IsRouteTurn net.now book.old.grants id agent line node result book.new.grants }
     ensures refused { IfSome (route_refusal net.now book.old.grants id agent node)
         (λ why. result ≡ Err why) }
-    // The refusal is complete: records other than those of placements give no free vector either.
     ensures complete { result ≡ Err RouteFault.NoPlacement →
         NoAddition net.now book.old.grants agent line node }
     ensures stays { OnErr result (book.new.grants ≡ book.old.grants) }
@@ -81,8 +80,7 @@ pub fn route<D: Tables>(
         (map (λ k. meaning (k.vtable, k.value)) kinds.now.list.items) book.old.grants
         book.old.cleared id agent line node true (D.log device.old) (D.log device.new) }
     ensures on_device { IsOnDevice book.new.set (D.units device.new) (D.words device.new) }
-    ensures counted { IsCounted (D.faults device.old) (D.faults device.new)
-        (is_route_fault result) }
+    ensures counted { IsCounted (D.faults device.old) (D.faults device.new) (is_route_fault result) }
 {
     if let Some(why) = refusal(book, net, id, agent, node) {
         return Err(why);

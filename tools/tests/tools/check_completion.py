@@ -16,10 +16,11 @@ printf '%s\n' "${COMPREPLY[@]}" | sort
 """
 IMPORT = ["--agent", "--explain", "--help", "--only", "--strict", "--views"]
 CASES = [
-    (["netconf", ""], ["check", "run"]),
+    (["netconf", ""], ["check", "demo", "run"]),
     (["netconf", "r"], ["run"]),
     (["netconf", "x"], []),
     (["netconf", "run", ""], []),
+    (["netconf", "demo", ""], []),
     (["netconf", "run", "<", ""], ["boards", "four.net"]),
     (["netconf", "run", "<", "fo"], ["four.net"]),
     (["netconf", "run", "<", "four.net", ">", "o"], ["old.txt"]),

@@ -6,7 +6,7 @@ import re
 from checks import TOOLS, TOP, outcome
 
 NAMED = {
-    "netconf.1": ["run", "check", "accept", "map", "over", "agent", "vectors", "unit", "module", "use", "for", "begin", "resolve", "lookup",
+    "netconf.1": ["run", "check", "demo", "accept", "map", "over", "agent", "vectors", "unit", "module", "use", "for", "begin", "resolve", "lookup",
                   "view", "dump", "split", "absorb", "grant", "route", "revoke", "IdUsed", "NoAgent", "NoTarget", "NotAccepted", "BookFull",
                   "NoPlacement", "NoGrant"],
     "netconf-lint.1": ["--help", "NETCONF", "Overlap", "Range", "Repeat", "VectorSpace", "Loop", "Deep", "Duplicate"],
@@ -31,6 +31,8 @@ def check_examples(checks):
     shown = [("run", text, answer), ("check", text, blocks[1].split("$ netconf check < board.net\n")[1]), ("run", buffer, granted)]
     for word, description, output in shown:
         checks.equal(outcome(os.environ["NETCONF"], word, text=description), (0, output, ""), f"manual: what netconf {word} prints")
+    counted = blocks[3].split("$ netconf demo 4\n")[1]
+    checks.equal(outcome(os.environ["NETCONF"], "demo", "4", text=""), (0, counted, ""), "manual: what netconf demo 4 prints")
 
 
 def check_documents(checks):

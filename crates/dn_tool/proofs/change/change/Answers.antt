@@ -31,8 +31,8 @@ returns-in-Grant-clause-changed g c =
     let s : State = state_view c.args.state.now in
     let next : State = state_view c.grant_change.new.state in
     let is : c.args.command.now ≡ Grant c.in-Grant.id c.in-Grant.from c.in-Grant.target c.in-Grant.base c.in-Grant.size c.in-Grant.mode = c.in-Grant.is in
-    let given : CameThroughChange (IsGrantTurn kinds net s c.as_str.result.now c.request_of-request.result) c.grant_change.result next (g.D.Tables.log c.args.device.now) (g.D.Tables.log c.grant_change.new.device) = subst (λ (p : PlatformState). CameThroughChange (IsGrantTurn kinds p.net s c.as_str.result.now c.request_of-request.result) c.grant_change.result next (g.D.Tables.log c.args.device.now) (g.D.Tables.log c.grant_change.new.device)) c.platform.view_is c.grant_change.ensures.changed in
-    let step0 : CameThroughChange (IsGrantTurn kinds net s c.in-Grant.id c.request_of-request.result) c.grant_change.result next (g.D.Tables.log c.args.device.now) (g.D.Tables.log c.grant_change.new.device) = subst (λ (x : List ℕ). CameThroughChange (IsGrantTurn kinds net s x c.request_of-request.result) c.grant_change.result next (g.D.Tables.log c.args.device.now) (g.D.Tables.log c.grant_change.new.device)) c.as_str.ensures given in
+    let given : CameThroughChange (IsGrantTurn kinds net s c.as_str-id.result.now c.request_of-request.result) c.grant_change.result next (g.D.Tables.log c.args.device.now) (g.D.Tables.log c.grant_change.new.device) = subst (λ (p : PlatformState). CameThroughChange (IsGrantTurn kinds p.net s c.as_str-id.result.now c.request_of-request.result) c.grant_change.result next (g.D.Tables.log c.args.device.now) (g.D.Tables.log c.grant_change.new.device)) c.platform.view_is c.grant_change.ensures.changed in
+    let step0 : CameThroughChange (IsGrantTurn kinds net s c.in-Grant.id c.request_of-request.result) c.grant_change.result next (g.D.Tables.log c.args.device.now) (g.D.Tables.log c.grant_change.new.device) = subst (λ (x : List ℕ). CameThroughChange (IsGrantTurn kinds net s x c.request_of-request.result) c.grant_change.result next (g.D.Tables.log c.args.device.now) (g.D.Tables.log c.grant_change.new.device)) c.as_str-id.ensures given in
     let step1 : CameThroughChange (IsGrantTurn kinds net s c.in-Grant.id (request_of c.in-Grant.from c.in-Grant.target c.in-Grant.base c.in-Grant.size c.in-Grant.mode)) c.grant_change.result next (g.D.Tables.log c.args.device.now) (g.D.Tables.log c.grant_change.new.device) = subst (λ (x : Request). CameThroughChange (IsGrantTurn kinds net s c.in-Grant.id x) c.grant_change.result next (g.D.Tables.log c.args.device.now) (g.D.Tables.log c.grant_change.new.device)) c.request_of-request.ensures.value step0 in
     subst (λ (cmd : Command). CameThroughChange (IsTurn kinds net s cmd) c.grant_change.result next (g.D.Tables.log c.args.device.now) (g.D.Tables.log c.grant_change.new.device)) (sym is) step1
 
@@ -43,8 +43,8 @@ returns-in-Route-clause-changed g c =
     let s : State = state_view c.args.state.now in
     let next : State = state_view c.route_change.new.state in
     let is : c.args.command.now ≡ Route c.in-Route.id c.in-Route.from c.in-Route.line c.in-Route.target = c.in-Route.is in
-    let given : CameThroughChange (IsRouteTurn kinds net s c.as_str-in-Route.result.now c.number_or_none-agent.result c.in-Route.line c.number_or_none-node.result) c.route_change.result next (g.D.Tables.log c.args.device.now) (g.D.Tables.log c.route_change.new.device) = subst (λ (p : PlatformState). CameThroughChange (IsRouteTurn kinds p.net s c.as_str-in-Route.result.now c.number_or_none-agent.result c.in-Route.line c.number_or_none-node.result) c.route_change.result next (g.D.Tables.log c.args.device.now) (g.D.Tables.log c.route_change.new.device)) c.platform.view_is c.route_change.ensures.changed in
-    let step0 : CameThroughChange (IsRouteTurn kinds net s c.in-Route.id c.number_or_none-agent.result c.in-Route.line c.number_or_none-node.result) c.route_change.result next (g.D.Tables.log c.args.device.now) (g.D.Tables.log c.route_change.new.device) = subst (λ (x : List ℕ). CameThroughChange (IsRouteTurn kinds net s x c.number_or_none-agent.result c.in-Route.line c.number_or_none-node.result) c.route_change.result next (g.D.Tables.log c.args.device.now) (g.D.Tables.log c.route_change.new.device)) c.as_str-in-Route.ensures given in
+    let given : CameThroughChange (IsRouteTurn kinds net s c.as_str.result.now c.number_or_none-agent.result c.in-Route.line c.number_or_none-node.result) c.route_change.result next (g.D.Tables.log c.args.device.now) (g.D.Tables.log c.route_change.new.device) = subst (λ (p : PlatformState). CameThroughChange (IsRouteTurn kinds p.net s c.as_str.result.now c.number_or_none-agent.result c.in-Route.line c.number_or_none-node.result) c.route_change.result next (g.D.Tables.log c.args.device.now) (g.D.Tables.log c.route_change.new.device)) c.platform.view_is c.route_change.ensures.changed in
+    let step0 : CameThroughChange (IsRouteTurn kinds net s c.in-Route.id c.number_or_none-agent.result c.in-Route.line c.number_or_none-node.result) c.route_change.result next (g.D.Tables.log c.args.device.now) (g.D.Tables.log c.route_change.new.device) = subst (λ (x : List ℕ). CameThroughChange (IsRouteTurn kinds net s x c.number_or_none-agent.result c.in-Route.line c.number_or_none-node.result) c.route_change.result next (g.D.Tables.log c.args.device.now) (g.D.Tables.log c.route_change.new.device)) c.as_str.ensures given in
     let step1 : CameThroughChange (IsRouteTurn kinds net s c.in-Route.id (number_or_none c.in-Route.from.node) c.in-Route.line c.number_or_none-node.result) c.route_change.result next (g.D.Tables.log c.args.device.now) (g.D.Tables.log c.route_change.new.device) = subst (λ (x : ℕ). CameThroughChange (IsRouteTurn kinds net s c.in-Route.id x c.in-Route.line c.number_or_none-node.result) c.route_change.result next (g.D.Tables.log c.args.device.now) (g.D.Tables.log c.route_change.new.device)) c.number_or_none-agent.ensures step0 in
     let step2 : CameThroughChange (IsRouteTurn kinds net s c.in-Route.id (number_or_none c.in-Route.from.node) c.in-Route.line (number_or_none c.in-Route.target.node)) c.route_change.result next (g.D.Tables.log c.args.device.now) (g.D.Tables.log c.route_change.new.device) = subst (λ (x : ℕ). CameThroughChange (IsRouteTurn kinds net s c.in-Route.id (number_or_none c.in-Route.from.node) c.in-Route.line x) c.route_change.result next (g.D.Tables.log c.args.device.now) (g.D.Tables.log c.route_change.new.device)) c.number_or_none-node.ensures step1 in
     subst (λ (cmd : Command). CameThroughChange (IsTurn kinds net s cmd) c.route_change.result next (g.D.Tables.log c.args.device.now) (g.D.Tables.log c.route_change.new.device)) (sym is) step2

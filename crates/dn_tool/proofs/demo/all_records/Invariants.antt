@@ -1,0 +1,12 @@
+use Rattle.std.proofs.Common.{◌≡◌, ◌≤◌, ◌*◌, ◌^◌, map, List}
+use Rattle.dn_net.specs.Decode.{unit_at}
+use Rattle.dn_kind.specs.Tables.{record_held}
+use Rattle.dn_tables.specs.Set.{words_of}
+use Rattle.dn_tool.specs.Demo.{held_slots, sum_below}
+use Rattle.dn_tool.proofs.demo.all_records.Given as goal
+
+abbrev pub invariant-loop-node : goal.invariant-loop-node
+invariant-loop-node g l = record {
+  few : l.total ≤ l.node * 2 ^ 32;
+  count : l.total ≡ sum_below (λ n. held_slots (record_held l.net (map (λ k. (goal.UnitKind-dyn g (k.vtable, k.value)).meaning k.value) l.kinds.list.items) (words_of l.tables)) n (unit_at l.net n)) l.node;
+}

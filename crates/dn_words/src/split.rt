@@ -1,0 +1,61 @@
+//! Splitting the words into a command and what stands behind it.
+
+ghost use Rattle.std.specs.Prelude.{◌≡◌, map, option_map, IfOk, IsTrue};
+ghost use Rattle.std.specs.List.{list_all};
+ghost use Rattle.std.specs.String.{string_bytes};
+ghost use Rattle.clap.specs.Words.{app_of, found_of};
+ghost use Rattle.dn_words.specs.Split.{parts_found, parts_of, parts_view, program};
+ghost use Rattle.dn_words.specs.Words.{is_plain};
+
+use clap::error::ErrorKind;
+use clap::{Arg, ArgMatches, Command};
+use std::alloc::{AllocError, Global};
+
+/// One word, or two.
+#[derive(Clone, Copy, Debug)]
+pub(crate) struct Parts<'a> {
+    /// The first word.
+    pub(crate) command: &'a str,
+    /// The second word, where there is one.
+    pub(crate) number: Option<&'a str>,
+}
+
+/// Splits words of which none begins with `-`. `None` exactly where there is none, or there are more than
+/// two. `Err` is want of memory.
+pub(crate) fn split<'a>(alloc: Global, words: &'a [String]) -> Result<Option<Parts<'a>>, AllocError>
+    requires { IsTrue (list_all (λ s. is_plain (string_bytes s)) words.now) }
+    ensures { IfOk result (λ parts. option_map parts_view parts
+        ≡ parts_of (map (λ s. string_bytes s) words.entry.now)) }
+{
+    match program(alloc)?.try_get_matches_from(words) {
+        Ok(matches) => Ok(parts_found(&matches)),
+        Err(error) => match error.kind() {
+            ErrorKind::OutOfMemory => Err(AllocError),
+            _ => Ok(None),
+        },
+    }
+}
+
+/// The command line of the program: a required word and an optional one, and no flag.
+fn program<'a>(alloc: Global) -> Result<Command<'a>, AllocError>
+    ensures { IfOk result (λ p. app_of p ≡ program) }
+{
+    let command = Arg::new(alloc, "COMMAND").required(true);
+    let number = Arg::new(alloc, "N");
+    Command::new(alloc, "netconf")
+        .no_binary_name(true)
+        .disable_help_flag(true)
+        .arg(command)?
+        .arg(number)
+}
+
+/// The words that were found.
+fn parts_found<'a>(matches: &ArgMatches<'a>) -> Option<Parts<'a>>
+    ensures { option_map parts_view result ≡ parts_found (found_of matches.now) }
+{
+    let command = matches.get_str("COMMAND")?;
+    Some(Parts {
+        command,
+        number: matches.get_str("N"),
+    })
+}
