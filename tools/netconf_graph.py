@@ -170,12 +170,21 @@ def table_text(table):
             f'BGCOLOR="{colour}">\n{body}\n</TABLE>>];')
 
 
+def shape_texts(unit):
+    """The shape of a unit as lines: its kind, its slots with the size of each, and where its outputs end."""
+    kind, page, slots, reach = unit.shape
+    size = size_text(1 << page) if page else "an address"
+    return [f"{kind}: {slots} slot{'s' * (slots != 1)} of {size},", f"outputs below {1 << reach:#x}"]
+
+
 def node_text(name, node):
-    """A node as a box with its name, and the number of bytes that it accepts."""
+    """A node as a box with its name; the number of bytes that it accepts, or the shape of a unit."""
     _, colour, style = ROLES[role_of(node)]
     lines = ["<B>" + escape(line) + "</B>" for line in wrapped(name)]
-    if node.accepts:
-        lines.append(f'<FONT POINT-SIZE="9">{size_text(covered(node.accepts))}</FONT>')
+    count = covered(node.accepts)
+    small = [f"{count} vectors" if node.role == "vectors" else size_text(count)] if node.accepts else []
+    small += shape_texts(node) if node.shape else []
+    lines += [f'<FONT POINT-SIZE="9">{escape(line)}</FONT>' for line in small]
     return f'{quoted(name)} [label=<{"<BR/>".join(lines)}>, fillcolor="{colour}", style="{style}"];'
 
 
@@ -193,7 +202,9 @@ def edge_texts(name, node, box):
         edges.append(f"{quoted(here)} -> {quoted(table)} [label=<{font([f'{len(blocks)} windows in', str(span)])}>];")
     if node.over and here == name:
         edges.append(f'{quoted(name)} -> {quoted(box.get(node.over, node.over))} [style=dashed, label="over"];')
-    return edges + [f'{quoted(name)} -> {quoted(box.get(port, port))} [style=bold, label="port"];' for port in node.ports]
+    labels = ["port"] if len(node.ports) == 1 else [f"port {number}" for number in range(len(node.ports))]
+    return edges + [f'{quoted(name)} -> {quoted(box.get(port, port))} [style=bold, label="{label}"];'
+                    for port, label in zip(node.ports, labels)]
 
 
 def legend_text(roles):
@@ -201,6 +212,7 @@ def legend_text(roles):
     rows = [f'<TR><TD BGCOLOR="{colour}" BORDER="1" WIDTH="24"></TD><TD ALIGN="LEFT">{escape(words)}</TD></TR>'
             for role, (words, colour, _) in ROLES.items() if role in roles]
     notes = ["edge: addresses of the source,", "sent to `at` of the target,", "or to the same addresses", "dashed: every other address"]
+    notes += ["bold: a port, to which the records", "of a unit send"] if "unit" in roles else []
     rows += [f'<TR><TD COLSPAN="2" ALIGN="LEFT">{escape(note)}</TD></TR>' for note in notes]
     return ('legend [shape=plain, label=<<TABLE BORDER="1" COLOR="#999999" CELLBORDER="0" CELLSPACING="2" CELLPADDING="2">\n'
             + "\n".join(rows) + "\n</TABLE>>];")

@@ -1,8 +1,8 @@
 """The views of agents as memory maps in SVG.
 
 A row of a view is a box as wide as all others; its height grows with the logarithm of its size, so that a register
-block of 4 KiB stands readable beside 4 GiB of memory. Addresses that come to nothing are breaks of one height. Agents
-that see the same share one map."""
+block of 4 KiB stands readable beside 4 GiB of memory. Addresses that come to nothing are breaks of one height. A row
+in which buffers or vectors were granted names them. Agents that see the same share one map."""
 
 import colorsys
 import math
@@ -108,16 +108,23 @@ class Picture:
 
 @dataclass
 class Piece:
-    """A row of a view, or a hole where it has none."""
+    """A row of a view with the ids of what was granted there, or a hole where the view has no row."""
     lo: int
     hi: int
     row: object = None
+    granted: tuple = ()
+
+    def texts(self):
+        """The names of the row as lines, and the grants."""
+        texts = [f"{node}@{at:#x}" for node, at in self.row.names]
+        texts = texts if len(texts) <= NAMES else texts[:NAMES] + [f"and {len(texts) - NAMES} more"]
+        return texts + ([f"granted: {', '.join(self.granted)}"] if self.granted else [])
 
     def height(self):
         """Its height in the picture."""
         if self.row is None:
             return HOLE
-        return max(height_of(self.hi - self.lo + 1), LINE * min(len(self.row.names), NAMES + 1) + 2)
+        return max(height_of(self.hi - self.lo + 1), LINE * len(self.texts()) + 2)
 
     def addresses(self):
         """Its addresses as text."""
@@ -134,13 +141,14 @@ class Map:
     height: float
 
 
-def pieces_of(rows):
-    """The rows of a view with the holes between them."""
+def pieces_of(rows, grants):
+    """The rows of a view with the holes between them; `grants` has of each grant its addresses and its id."""
     pieces, free = [], 0
     for row in rows:
         if row.lo > free:
             pieces.append(Piece(free, row.lo - 1))
-        pieces.append(Piece(row.lo, row.hi, row))
+        granted = tuple(title for lo, hi, title in grants if lo <= row.hi and row.lo <= hi)
+        pieces.append(Piece(row.lo, row.hi, row, granted))
         free = row.hi + 1
     return pieces + ([Piece(free, TOP)] if free <= TOP else [])
 
@@ -159,23 +167,23 @@ def columns_of(pieces):
     return columns
 
 
-def title_lines(agents, rows, width):
-    """The title of a map: the names of its agents in lines of the map's width, and the number of rows."""
+def title_lines(agents, rows, width, access):
+    """The title of a map: the names of its agents in lines of the map's width, and the number of rows, for an access."""
     lines, limit = [""], max(24, int(width / HEADING_LETTER))
     for number, agent in enumerate(agents):
         word = shortened(agent, limit - 2) + ("," if number + 1 < len(agents) else "")
         if lines[-1] and len(lines[-1]) + len(word) + 1 > limit:
             lines.append("")
         lines[-1] = f"{lines[-1]} {word}".strip()
-    return lines + [f"{rows} row" + ("" if rows == 1 else "s")]
+    return lines + [f"{rows} row" + ("" if rows == 1 else "s") + (f" for {access}" if access else "")]
 
 
-def map_of(agents, rows):
+def map_of(agents, rows, grants, access):
     """The map of agents that see the same rows."""
-    columns = columns_of(pieces_of(rows))
+    columns = columns_of(pieces_of(rows, grants))
     gutters = [LETTER * max(len(piece.addresses()) for piece in column) + 8 for column in columns]
     width = sum(gutters) + len(columns) * (BOX + BEHIND)
-    title = title_lines(agents, len(rows), width)
+    title = title_lines(agents, len(rows), width, access)
     height = 18 * len(title) + 12 + max(sum(piece.height() for piece in column) for column in columns)
     return Map(columns, gutters, title, width, height)
 
@@ -186,8 +194,7 @@ def draw_row(picture, piece, x, y):
     for number, (node, _) in enumerate(names):
         picture.box(x + number * BOX / len(names), y, BOX / len(names), height, colour_of(node), "none")
     picture.box(x, y, BOX, height, "none")
-    texts = [f"{node}@{at:#x}" for node, at in names]
-    texts = texts if len(texts) <= NAMES else texts[:NAMES] + [f"and {len(texts) - NAMES} more"]
+    texts = piece.texts()
     base = y + height / 2 - LINE * len(texts) / 2 + 11
     for number, text in enumerate(texts):
         picture.text(x + BOX / 2, base + LINE * number, shortened(text, 42), "middle")
@@ -243,16 +250,17 @@ def draw_key(picture, x, y):
     return tall + 52
 
 
-def svg_of(views):
-    """The picture of views: for each agent its rows. Agents with the same rows share a map."""
+def svg_of(views, grants=None, access=""):
+    """The picture of views: for each agent its rows, with its grants. Agents with the same rows and grants share a map."""
     alike = {}
     for agent, rows in views.items():
-        alike.setdefault(tuple(rows), ([], rows))[0].append(agent)
+        granted = (grants or {}).get(agent, [])
+        alike.setdefault((tuple(rows), tuple(granted)), ([], rows, granted))[0].append(agent)
     picture = Picture()
     x, y, wide, tall = MARGIN, MARGIN, 0.0, 0.0
     y += draw_key(picture, x, y) + 16
-    for agents, rows in alike.values():
-        made = map_of(agents, rows)
+    for agents, rows, granted in alike.values():
+        made = map_of(agents, rows, granted, access)
         if x > MARGIN and x + made.width > PAGE:
             x, y, tall = MARGIN, y + tall + 2 * MARGIN, 0.0
         draw_map(picture, made, x, y)

@@ -1,7 +1,7 @@
 """Reads a description whose tokens, statements and blocks are right, and expands its modules and loops.
 
 netconf itself judges a text. What is here is for the tools beside it, which want to know from which line each node,
-block and window comes. So it reads both a description and the net that `netconf check` prints, which is one."""
+block, window and command comes. So it reads both a description and the net that `netconf check` prints, which is one."""
 
 import re
 from dataclasses import dataclass, field
@@ -10,6 +10,12 @@ TOP = (1 << 56) - 1
 """The last address of a node."""
 
 TOKEN = re.compile(r"(?P<blank>[ \t\r\n]+|//[^\n]*)|(?P<word>[A-Za-z_]\w*)|(?P<number>[0-9]\w*)|(?P<sign>\.\.|[][;,()+*.-])", re.A)
+
+
+COMMANDS = {"resolve": (False, 1, 1, 0), "lookup": (False, 1, 1, 0), "view": (False, 1, 0, 0), "grant": (True, 2, 2, 0),
+            "route": (True, 1, 1, 1), "revoke": (True, 0, 0, 0), "dump": (False, 0, 0, 0), "split": (False, 0, 0, 0),
+            "absorb": (False, 1, 0, 0)}
+"""For each command whether an id follows it, and how many names, expressions, and names again."""
 
 
 class Unreadable(Exception):
@@ -87,21 +93,39 @@ class Scope:
 
 
 def tokens(text):
-    """The tokens of a text as (sort, spelling, line)."""
+    """The tokens of a text as (sort, spelling, line, place)."""
     found, at, line = [], 0, 1
     while at < len(text):
         hit = TOKEN.match(text, at)
         if hit is None:
             raise Unreadable(f"line {line}: no token begins with {text[at]!r}")
         if hit.lastgroup != "blank":
-            found.append((hit.lastgroup, hit.group(), line))
+            found.append((hit.lastgroup, hit.group(), line, at))
         line += hit.group().count("\n")
         at = hit.end()
     return found
 
 
+@dataclass
+class Command:
+    """A command with the line of its first token: its word, its id (or empty), the full names of the nodes behind it, the
+    values of its expressions, and the access that it says (`read`, `write` or empty)."""
+    word: str
+    line: int
+    id: str
+    names: list
+    numbers: list
+    access: str
+
+    def __str__(self):
+        names, numbers = list(self.names), [f"{number:#x}" for number in self.numbers]
+        behind = [names[0], *numbers, names[1]] if self.word == "route" else names + numbers
+        access = ["for", self.access] if self.access else []
+        return " ".join([self.word, *([self.id] if self.id else []), *behind, *access]) + ";"
+
+
 class Reader:
-    """Reads tokens to statements, up to `begin`."""
+    """Reads tokens to statements, up to `begin`, and to the commands behind it."""
 
     def __init__(self, text):
         self.tokens = tokens(text)
@@ -167,6 +191,27 @@ class Reader:
         parts = getattr(self, f"read_{kind or 'node'}", self.read_node)()
         self.want(";")
         return Statement(kind, line, parts, self.body(True) if kind in ("module", "for") else [])
+
+    def commands(self):
+        """The commands behind `begin`, each its word, its line, its id, its names, its expressions and its access."""
+        found = []
+        if self.has("begin"):
+            self.want(";")
+            while self.peek():
+                found.append(self.command())
+        return found
+
+    def command(self):
+        """One command."""
+        line, word = self.line(), self.want(*COMMANDS)
+        has_id, names, expressions, names_behind = COMMANDS[word]
+        title = self.take() if has_id else ""
+        names = [self.name() for _ in range(names)]
+        expressions = [self.expression() for _ in range(expressions)]
+        names += [self.name() for _ in range(names_behind)]
+        access = self.want("read", "write") if self.has("for") else ""
+        self.want(";")
+        return word, line, title, names, expressions, access
 
     def read_node(self):
         """What stands behind the role of a node."""
@@ -375,3 +420,19 @@ def nodes_of(text):
     expansion = Expansion()
     expansion.run(Reader(text).body(False), Scope("", {}, {}, 1 << 64, ()))
     return expansion.nodes
+
+
+def declarations_of(text):
+    """What of a description stands before `begin`."""
+    reader = Reader(text)
+    reader.body(False)
+    return text[:reader.tokens[reader.at][3]] if reader.peek() else text
+
+
+def commands_of(text):
+    """The commands of a description, in order."""
+    reader, outside = Reader(text), Scope("", {}, {}, 0, ())
+    reader.body(False)
+    return [Command(word, line, title, [spelled(name, outside) for name in names],
+                    [value(expression, outside) for expression in expressions], access)
+            for word, line, title, names, expressions, access in reader.commands()]

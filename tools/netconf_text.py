@@ -11,7 +11,7 @@ from typing import NamedTuple
 
 UNITS = ("B", "KiB", "MiB", "GiB", "TiB", "PiB")
 REFUSED = re.compile(r"refused: (?:line (?P<line>\d+) )?(?P<rule>\w+)(?: (?P<detail>.*))?\n?")
-VIEW = re.compile(r"view (?P<agent>\S+) rows (?P<rows>\d+)")
+VIEW = re.compile(r"view (?P<agent>\S+)(?: for (?:read|write))? rows (?P<rows>\d+)")
 ROW = re.compile(r"(?P<lo>0x[0-9a-f]+)-(?P<hi>0x[0-9a-f]+) (?P<names>.+)")
 
 

@@ -8,8 +8,9 @@ The modules, in the order in which a tree goes through them:
 - ``spans``: sets of addresses
 - ``buses``: what each bus decodes: registers, windows, and what of a tree cannot be said
 - ``net``: the nodes of a description, and how claims on a bus become its entries
+- ``phandles``: references between nodes, and cycles of them
+- ``units``: the tables of IOMMUs, and what of them and of message-signalled interrupts cannot be said
 - ``masters``: the way of each master's own accesses
-- ``units``: what IOMMUs and message-signalled interrupts would be
 - ``naming``: a readable name for each node
 - ``platform``: the whole of one tree
 - ``writing``: the text of a description

@@ -1,11 +1,11 @@
-"""The way of each master's own accesses, by ``dma-ranges``.
+"""The way of each master's own accesses, by ``dma-ranges`` and by IOMMUs.
 
 A tree does not say which devices access memory by themselves. A device counts as a master where one of its properties
 says so (``MASTER_PROPERTIES``), or where it has one of the generic names of such devices (``MASTER_NAMES``). It is an
-agent of its own where the bus that it is on has ``dma-ranges``; a PCI host bridge is one also where it has
-``dma-ranges`` itself, for the functions behind it.
+agent of its own where the bus that it is on has ``dma-ranges``, or where a unit says what an IOMMU translates for it; a PCI
+host bridge is one also where it has ``dma-ranges`` itself, for the functions behind it.
 """
-from . import cells
+from . import cells, units
 from .net import Claim, Entry, NetNode
 from .spans import text
 
@@ -53,13 +53,23 @@ class Ways:
         self.reader = reader
         self.ways = {tree.root: system}
         self.buses = []
+        self.units = []
         self.agents = []
+        self.translated = set()
+        self.reasons = {}
 
-    def read(self):
-        """Makes the agents of all masters that are wanted."""
-        for node in self.tree.root.walk():
-            if self._is_wanted(node):
-                self._read_master(node)
+    def read(self, most_agents, most_units):
+        """Makes the agents of all masters that are wanted, and the units of those that an IOMMU translates for.
+
+        Units are made while there are at most so many of them and of agents; the masters that are left go without."""
+        masters = [self._read_master(node) for node in self.tree.root.walk() if self._is_wanted(node)]
+        for group in units.groups(filter(None, masters)):
+            if len(self.agents) + len(group) <= most_agents and len(self.units) < most_units:
+                self._read_translated(group)
+                continue
+            for master in group:
+                self.reasons[master.tree_node] = "for which no agent or unit is left"
+                self._read_untranslated(master.tree_node, dma_bus(self.tree, master.tree_node))
 
     def _is_wanted(self, node):
         """Whether a node is an enabled device in an enabled part of the tree that accesses memory by itself."""
@@ -67,10 +77,17 @@ class Ways:
             and all(place.status() == "okay" for place in [node, *node.above()])
 
     def _read_master(self, node):
-        """Makes the agent of one master, where its way is said."""
+        """Makes the agent of one master, where its way is said; or answers the master, where a unit translates for it."""
         bus = dma_bus(self.tree, node)
         if cells.kind(bus) == "pci":
-            return
+            return None
+        master, self.reasons[node] = units.master_of(self.tree, node, node if cells.kind(node) == "pci" else bus)
+        if master is None:
+            self._read_untranslated(node, bus)
+        return master
+
+    def _read_untranslated(self, node, bus):
+        """Makes the agent of a master that no unit translates for."""
         if cells.kind(node) == "pci" and node.properties.get("dma-ranges"):
             way = self._way(node)
             way.agent = True
@@ -80,6 +97,20 @@ class Ways:
         elif bus.has("dma-ranges"):
             agent = NetNode(node, "dma", node.path, over=self._way(bus), agent=True)
             self.agents.append(agent)
+
+    def _read_translated(self, group):
+        """Makes the unit of masters that share a table, and the agent of each."""
+        first, iommu = group[0].tree_node, group[0].iommu
+        shape = units.Unit(units.PAGE, units.SLOTS, units.output_bits(iommu), self.ways[self.tree.root])
+        source = f"{iommu.path} for " + ", and for ".join(master.text() for master in group)
+        unit = NetNode(first, "iommu", source, unit=shape)
+        self.units.append(unit)
+        last = (units.SLOTS << units.PAGE) - 1
+        for master in group:
+            node = master.tree_node
+            entry = Entry(0, last, (Claim(0, last, unit, 0, f"{iommu.path} translates"),))
+            self.agents.append(NetNode(node, "dma", node.path, entries=[entry], agent=True))
+            self.translated.add(node)
 
     def _way(self, bus):
         """The node over which the masters on a bus go; 1:1 where ``dma-ranges`` says nothing."""

@@ -9,8 +9,9 @@ RESERVED = frozenset(
     "agent vectors unit module use for in end begin is accept map to and at over kind page slots reach as num node "
     "resolve lookup view grant route revoke dump split absorb".split())
 
-# What else may follow the name of a node of the tree and a dot: the bus that a device is, and the way of its accesses.
-PARTS = frozenset(("bus", "dma"))
+# What else may follow the name of a node of the tree and a dot: the bus that a device is, the way of its accesses, and the
+# unit that translates them.
+PARTS = frozenset(("bus", "dma", "iommu"))
 
 ROOT_NAME = "system"
 

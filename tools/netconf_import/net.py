@@ -12,7 +12,8 @@ MAX_DESTINATIONS = 8
 class NetNode:
     """A node of the description: what it accepts, where it sends the rest, and where in the tree it comes from.
 
-    ``suffix`` tells apart the nodes that come of one node of the tree; ``source`` is what comments call it."""
+    ``suffix`` tells apart the nodes that come of one node of the tree; ``source`` is what comments call it. ``unit`` is the
+    shape of a unit, whose tables are empty: nothing that comes to it goes on."""
 
     tree_node: object
     suffix: object
@@ -21,6 +22,7 @@ class NetNode:
     entries: list = field(default_factory=list)
     over: "NetNode" = None
     agent: bool = False
+    unit: object = None
     name: str = ""
     _decoded: list = None
 

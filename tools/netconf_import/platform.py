@@ -1,5 +1,5 @@
 """The whole of one tree: its buses, devices, processors and masters as nodes of a description."""
-from . import naming, units
+from . import naming, phandles, units
 from .buses import Reader
 from .fault import Fault
 from .masters import Ways, is_master
@@ -7,6 +7,7 @@ from .net import NetNode
 
 MAX_NODES = 1024
 MAX_AGENTS = 64
+MAX_UNITS = 64
 MAX_PARTS = 16384
 
 
@@ -14,11 +15,11 @@ class Platform:
     """What a description says of a tree.
 
     ``root`` is the root bus, with all others in it; ``processors`` and ``masters`` are the agents; ``ways`` are the
-    nodes over which masters go. ``notes`` have what cannot be said, ``reserved`` the reserved memory, and ``units``
-    the lines on IOMMUs and message-signalled interrupts."""
+    nodes over which masters go, and ``units`` the tables of IOMMUs. ``notes`` have what cannot be said, ``reserved`` the
+    reserved memory, and ``remarks`` the lines on IOMMUs without units and on message-signalled interrupts."""
 
     def __init__(self, tree, only=None):
-        units.check_cycles(tree)
+        phandles.check_cycles(tree)
         self.tree = tree
         keeps = _keeper(tree, only)
         reader = Reader(tree, keeps)
@@ -26,10 +27,10 @@ class Platform:
         self.system = self.root.nodes[""]
         self.processors = [NetNode(node, "", node.path, over=self.system, agent=True) for node in _processors(tree)]
         ways = Ways(tree, reader, self.system)
-        ways.read()
-        self.ways, self.masters = ways.buses, ways.agents
+        ways.read(MAX_AGENTS - len(self.processors), MAX_UNITS)
+        self.ways, self.units, self.masters = ways.buses, ways.units, ways.agents
         self.notes, self.reserved = reader.notes, reader.reserved
-        self.units = units.comments(tree, keeps)
+        self.remarks = units.comments(tree, keeps, ways.translated, ways.reasons)
         naming.assign(tree, self.net_nodes())
         self._check_limits()
 
@@ -56,7 +57,7 @@ class Platform:
         for bus in self.buses():
             nodes += bus.nodes.values()
             nodes += [device.net_node for device in bus.devices]
-        return nodes + self.processors + self.ways + self.masters
+        return nodes + self.processors + self.ways + self.units + self.masters
 
     def agent(self, called):
         """The agent of a name, or of a node of the tree that is given by its path, its alias or its label."""
@@ -80,7 +81,7 @@ class Platform:
         nodes = self.net_nodes()
         parts = sum(len(node.accept) + len(node.entries) + (node.over is not None) for node in nodes)
         for needed, limit, what in ((len(nodes), MAX_NODES, "nodes"), (len(self.agents()), MAX_AGENTS, "agents"),
-                                    (parts, MAX_PARTS, "parts")):
+                                    (len(self.units), MAX_UNITS, "units"), (parts, MAX_PARTS, "parts")):
             if needed > limit:
                 raise Fault(f"the tree needs {needed} {what}, and a description has at most {limit}; "
                             "take a part of it with --only")

@@ -46,7 +46,7 @@ def _body(platform):
             lines += statement(node)
         for device in bus.devices:
             lines += statement(device.net_node)
-    agents = platform.processors + platform.ways + platform.masters
+    agents = platform.processors + platform.ways + platform.units + platform.masters
     if agents:
         lines.append("")
     for node in agents:
@@ -54,8 +54,17 @@ def _body(platform):
     return lines
 
 
+def unit_statement(node):
+    """The line of a unit."""
+    shape = node.unit
+    return _commented(f"unit {node.name} kind pages page {shape.page} slots {shape.slots} reach {shape.reach} "
+                      f"to {shape.port.name};", node.source)
+
+
 def statement(node):
     """The lines of one statement, with the tree's path as a comment."""
+    if node.unit:
+        return [unit_statement(node)]
     head = ("agent " if node.agent else "") + f"{node.name} is"
     if node.accept:
         head += " accept [" + ", ".join(text(*span) for span in node.accept) + "]"
@@ -84,7 +93,7 @@ def _remarks(platform):
         known = register and register.size
         place = text(register.first, register.first + register.size - 1) if known else "no address yet"
         lines.append(f"reserved memory: {node.path}, {place}")
-    lines += platform.units
+    lines += platform.remarks
     lines += [f"left out: {note.path}: {note.reason}" for note in platform.notes]
     return [""] + [f"// {_clean(line)}" for line in lines] if lines else []
 

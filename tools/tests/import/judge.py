@@ -3,7 +3,11 @@
 This is the judge of the importer, and shares no code with it: it reads the blob over libfdt, and follows ``reg``,
 ``ranges`` and ``dma-ranges`` address by address, from a device outwards, as Linux does (the first entry that fits).
 It knows a node of the description only by the comment behind its statement.
+
+Of the masters that an IOMMU translates for it says by the blob which these are, and which of them share a table. All come
+to nothing, and each that shares none can be granted a page.
 """
+import itertools
 import re
 
 import libfdt
@@ -12,6 +16,11 @@ QUIET = (libfdt.NOTFOUND,)
 TOP = (1 << 56) - 1
 NAMED = re.compile(r"^(agent )?(\S+) is(?: .*?)?\s// (/.*)$")
 REPLY = re.compile(r"^(\S+)@(0x[0-9a-f]+): (.*)$")
+BEHIND = re.compile(r"^agent (\S+) is map \[\s+// (/\S*)\n    0x0-0xfffffff to (\S+) at 0x0 ", re.M)
+UNIT = re.compile(r"^unit (\S+) kind pages page 12 slots 65536 reach (\d+) to (\S+); // ", re.M)
+SMMU = re.compile(rb"(?:arm,(?:smmu-v[123]|mmu-(?:400|401|500))|(?:cavium|qcom),smmu-v2|nvidia,smmu-500)\0")
+INPUTS = 1 << 28
+MOST_AGENTS = 64
 
 
 class Blob:
@@ -31,6 +40,8 @@ class Blob:
             above.append(offset)
             offset, depth = self.fdt.next_node(offset, depth, QUIET)
         self.at = {path: offset for offset, path in self.path.items()}
+        self.handles = {handle: node for node in reversed(self.order) for name in ("linux,phandle", "phandle")
+                        for handle in self.cells(node, name)}
 
     def _properties(self, node):
         """All properties of a node. (To ask libfdt for one that is not there ends the interpreter after some times.)"""
@@ -40,6 +51,10 @@ class Blob:
             found[value.name] = bytes(value)
             at = self.fdt.next_property_offset(at, QUIET)
         return found
+
+    def at_phandle(self, handle):
+        """The node of a phandle, or None."""
+        return self.handles.get(handle)
 
     def value(self, node, name):
         """The bytes of a property, or None."""
@@ -245,9 +260,93 @@ def master_questions(blob, node):
         yield address, found[0][1] if found and found[0][1] <= TOP else None
 
 
-def questions(data, description):
+def named(blob, node):
+    """The IOMMUs that a node names, each with the streams there: of a device by their numbers, of a bus by requester."""
+    words, at = blob.cells(node, "iommus"), 0
+    while at < len(words):
+        iommu = blob.at_phandle(words[at])
+        count = blob.cells(iommu, "#iommu-cells")[0] if iommu is not None else len(words)
+        yield iommu, words[at + 1:at + 1 + count]
+        at += 1 + count
+    words = blob.cells(node, "iommu-map")
+    for at in range(0, len(words), 4):
+        for requester in range(words[at], words[at] + words[at + 3]):
+            yield blob.at_phandle(words[at + 1]), (words[at + 2] + requester - words[at],)
+
+
+def streams_of(blob, node):
+    """The IOMMU that translates for a master and the set of its streams there, where a unit is due, or None."""
+    found = list(named(blob, node))
+    iommus = {iommu for iommu, _numbers in found}
+    if len(iommus) != 1 or None in iommus:
+        return None
+    iommu = iommus.pop()
+    if not blob.enabled(iommu) or not SMMU.search(blob.value(iommu, "compatible") or b""):
+        return None
+    words = blob.cells(node, "iommu-map")
+    if words:
+        mask = (blob.cells(node, "iommu-map-mask") or [0xffff])[0]
+        in_map = {number for at in range(0, len(words), 4) for number in range(words[at], words[at] + words[at + 3])}
+        if blob.value(node, "iommus") or {number & mask for number in range(0x10000)} - in_map:
+            return None
+    bus = node if blob.is_pci(node) else master_bus(blob, node)
+    space = "memory" if blob.is_pci(bus) else "plain"
+    passed = at_root(blob, bus, "dma-ranges", space, 0, INPUTS - 1)
+    if any(first != root for first, root, _count in passed) or sum(count for *_ends, count in passed) != INPUTS:
+        return None
+    streams = set()
+    for _iommu, numbers in found:
+        mask = numbers[1] if len(numbers) > 1 else (blob.cells(iommu, "stream-match-mask") or [0])[0]
+        bits = [1 << bit for bit in range(32) if mask >> bit & 1]
+        streams |= {(numbers[0] & ~mask) + sum(part) for count in range(len(bits) + 1) for part in itertools.combinations(bits, count)}
+    return iommu, streams
+
+
+def wrong_units(blob, agents, behind):
+    """What is wrong with who is behind a unit, and who shares one."""
+    due = {}
+    for node in blob.order:
+        streams = streams_of(blob, node) if blob.enabled(node) and blob.parent[node] is not None \
+            and not blob.is_pci(blob.parent[node]) else None
+        if streams:
+            due[blob.path[node]] = streams
+    unsaid = set(due) - set(behind)
+    if set(behind) - set(due) or unsaid and len(agents) + len(unsaid) <= MOST_AGENTS:
+        yield f"behind units are {sorted(behind)}, and {sorted(due)} are due"
+    found = {path: {path} for path in behind}
+    for one, two in itertools.combinations(behind, 2):
+        if due[one][0] == due[two][0] and due[one][1] & due[two][1]:
+            joined = found[one] | found[two]
+            for path in joined:
+                found[path] = joined
+    for one, two in itertools.combinations(behind, 2):
+        if (behind[one][1] == behind[two][1]) != (two in found[one]):
+            yield f"{one} and {two} are behind {behind[one][1]} and {behind[two][1]}"
+
+
+def pages(rows, names):
+    """A page of the root that one thing alone answers: its node, and the address there."""
+    for first, last, source, start in sorted(rows):
+        end = first + 0xfff
+        if first % 0x1000 == 0 and end <= last and first < 1 << 39 and source in names \
+                and sum(low <= end and first <= high for low, high, _source, _start in rows) == 1:
+            yield names[source], start
+
+
+def unit_questions(rows, names, behind):
+    """Questions to the agents that are behind units: nothing at first, and then a page that is granted and taken back."""
+    for number, (agent, unit) in enumerate(behind.values()):
+        for address in (0, 0xfffffff, 0x10000000, 0x80000000):
+            yield f"resolve {agent} {address:#x};", set()
+        alone = [other for _agent, other in behind.values()].count(unit) == 1
+        for node, start in list(pages(rows, names))[:1] if alone else ():
+            yield f"grant g{number} {agent} {node} {start:#x} 0x1000;", {f"g{number} at 0x0"}
+            yield f"resolve {agent} 0x10;", {f"{node}@{start + 0x10:#x}"}
+            yield f"revoke g{number};", {f"g{number} revoked"}
+
+
+def questions(blob, description, behind):
     """The questions to `netconf` over a description: ``(command, set of names that are due)``."""
-    blob = Blob(data)
     names, agents = statements(description)
     rows = seen(blob)
     processors = [name for name, path in agents.items() if path.startswith("/cpus/")]
@@ -255,8 +354,9 @@ def questions(data, description):
     if processors:
         for address in edges(spans):
             yield f"resolve {processors[0]} {address:#x};", expected(rows, names, address)
+    yield from unit_questions(rows, names, behind)
     for name, path in agents.items():
-        if not path.startswith("/cpus/"):
+        if not path.startswith("/cpus/") and path not in behind:
             node = blob.at[path.split(" ")[0]]
             for address, root in master_questions(blob, node):
                 due = expected(rows, names, root) if root is not None else set()
@@ -272,7 +372,12 @@ def answers(output):
 
 def wrong(data, description, run):
     """What is wrong with a description of a blob: lines, none where all is right. ``run`` gives the program's output."""
-    asked = list(questions(data, description))
+    blob, shapes = Blob(data), {name: reach for name, reach, _port in UNIT.findall(description)}
+    behind = {path: (agent, unit) for agent, path, unit in BEHIND.findall(description) if unit in shapes}
+    lines = list(wrong_units(blob, statements(description)[1], behind))
+    if lines or len(shapes) != len({unit for _agent, unit in behind.values()}):
+        return lines or [f"units are {sorted(shapes)}"]
+    asked = list(questions(blob, description, behind))
     output = run(description + "\nbegin;\n" + "\n".join(command for command, _due in asked) + "\n")
     found = list(answers(output))
     if len(found) != len(asked):

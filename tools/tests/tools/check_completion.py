@@ -24,7 +24,7 @@ CASES = [
     (["netconf", "run", "<", ""], ["boards", "four.net"]),
     (["netconf", "run", "<", "fo"], ["four.net"]),
     (["netconf", "run", "<", "four.net", ">", "o"], ["old.txt"]),
-    (["netconf-draw", "-"], ["--agent", "--help", "--svg", "--views"]),
+    (["netconf-draw", "-"], ["--agent", "--help", "--svg", "--views", "--write"]),
     (["netconf-draw", "--v"], ["--views"]),
     (["netconf-draw", "--agent", ""], []),
     (["netconf-draw", "--svg", ""], ["boards", "four.net"]),

@@ -10,7 +10,7 @@ import xml.etree.ElementTree as tree
 
 from checks import EXAMPLES, TOOLS, descriptions, outcome
 from netconf_map import colour_of, height_of
-from netconf_source import nodes_of
+from netconf_source import commands_of, nodes_of
 from netconf_text import run as program_output
 from netconf_text import size_text, views_of
 
@@ -66,8 +66,9 @@ def check_views(checks, path):
         checks.equal((status, errors), (1, f"netconf-draw: {path}: there is no agent, so no view\n"), f"draw: no agent in {path.name}")
         return
     checks.equal((status, errors), (0, ""), f"draw: the views of {path.name}")
-    declarations = program_output("check", path.read_bytes())[1]
-    views = views_of(program_output("run", (declarations + "begin;" + "".join(f"view {a};" for a in agents)).encode())[1])
+    changes = [c for c in commands_of(path.read_text("latin-1")) if c.word in ("grant", "route", "revoke")]
+    asked = "".join(map(str, changes)) + "".join(f"view {a};" for a in agents)
+    views = views_of(program_output("run", (program_output("check", path.read_bytes())[1] + "begin;" + asked).encode())[1])
     texts, whole = texts_of(picture)
     titles = [element.text for element in tree.fromstring(picture).iter(f"{SVG}title")]
     for agent, rows in views.items():
@@ -94,6 +95,25 @@ def check_board(checks, folder):
     checks.that(dot.count("\n\"") < 60, "draw: the graph of a board of 200 nodes has few boxes and edges", dot.count("\n\""))
     _, dot, _ = outcome(DRAW, "--agent", "engine[0].dma", path)
     checks.that("cpu[0]" not in dot and "ddr" in dot, "draw: what an agent leads to")
+
+
+def check_units(checks):
+    """A unit shows its shape and its ports, vectors are counted, and maps name what is granted, for each access."""
+    _, dot, _ = outcome(DRAW, EXAMPLES / "interrupts.net")
+    for shown in ("vectors: 4 slots of an address,", "outputs below 0x100", '"remapper" -> "cpu1" [style=bold, label="port 1"]', "16 vectors", "bold: a port"):
+        checks.that(shown in dot, f"draw: {shown} in the graph of interrupts.net", dot)
+    _, dot, _ = outcome(DRAW, EXAMPLES / "dma_buffers.net")
+    for shown in ("pages: 16 slots of 4 KiB,", "outputs below 0x100000000", '"iommu" -> "bus" [style=bold, label="port"]'):
+        checks.that(shown in dot, f"draw: {shown} in the graph of dma_buffers.net", dot)
+    checks.that("bold: a port" not in outcome(DRAW, EXAMPLES / "first_board.net")[1], "draw: no legend of units where there is none")
+    text = ("m is accept [0x0-0xffff]; agent a is map [0x0-0x3fff to u at 0x0]; unit u kind pages page 12 slots 4 reach 16 to m;\n"
+            "begin; grant r a m 0x1000 0x1000 for read; grant s a m 0x8000 0x1000; grant t a m 0x9000 0x1000 for write; view a; revoke s;")
+    for options, rows, granted in (([], ["0x0-0xfff"], ["granted: r"]), (["--write"], ["0x2000-0x2fff"], ["granted: t"])):
+        status, picture, errors = outcome(DRAW, "--views", *options, "-", text=text)
+        texts, _ = texts_of(picture)
+        checks.equal((status, errors, [t for t in texts if t in ("0x0-0xfff", "0x1000-0x1fff", "0x2000-0x2fff")], [t for t in texts if "granted" in t]),
+                     (0, "", rows, granted), f"draw: what is granted stands in its row {options}")
+        checks.equal([t for t in texts if t.startswith("1 row")], ["1 row for writing" if options else "1 row"], f"draw: the access of a map {options}")
 
 
 def check_readable(checks):
@@ -150,6 +170,7 @@ def run(checks):
     for path in descriptions():
         check_graph(checks, path)
         check_views(checks, path)
+    check_units(checks)
     check_readable(checks)
     check_stable(checks)
     with tempfile.TemporaryDirectory() as folder:

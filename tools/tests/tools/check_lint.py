@@ -1,4 +1,5 @@
-"""netconf-lint over a table with each refusal, over the table of the language's page, and over what it cannot read."""
+"""netconf-lint over a table with each refusal, over the table of the language's page, over a table of grants that are
+refused, and over what it cannot read."""
 
 import os
 import pathlib
@@ -11,9 +12,9 @@ LINT = TOOLS / "netconf-lint"
 ROW = re.compile(r"\| (?P<text>.+?) \| `refused: (?:line (?P<line>\d+) )?(?P<rule>[A-Z]\w+).*?` \|")
 
 
-def cases():
-    """The cases of the table: title, description, output."""
-    for case in (pathlib.Path(__file__).parent / "lint.table").read_text().split("\n== ")[1:]:
+def cases(table):
+    """The cases of a table: title, description, output."""
+    for case in (pathlib.Path(__file__).parent / table).read_text().split("\n== ")[1:]:
         title, rest = case.split("\n", 1)
         text, output = rest.split("\n--\n")
         yield title, text + "\n", output.rstrip("\n") + "\n"
@@ -28,10 +29,22 @@ def lint(folder, text):
 def check_table(checks, folder):
     """Each case of the table; the rules that it meets."""
     met = set()
-    for title, text, output in cases():
+    for title, text, output in cases("lint.table"):
         checks.equal(lint(folder, text), (1, output, ""), f"lint: {title}")
         met.add(output.split(": ")[2].split()[0])
     return met
+
+
+def check_warnings(checks, folder):
+    """Each case of the table of warnings; the refusals of grants and routes that it meets are those of the language's page."""
+    met = set()
+    for title, text, output in cases("lint_warnings.table"):
+        checks.equal(lint(folder, text), (0, output.replace("none\n", ""), ""), f"lint: {title}")
+        met |= set(re.findall(r": warning: \S+ \S+: (\w+)", output))
+    page = (TOP / "docs/language.md").read_text()
+    rules = set(re.findall(r"^\| `[br]1 refused: (\w+)", page, re.M))
+    checks.that(len(rules) == 7, "lint: the page lists the refusals of grants and routes", rules)
+    checks.equal(sorted(rules - met - {"BookFull"}), [], "lint: refusals of the page that the table of warnings lacks")
 
 
 def texts_of_page():
@@ -86,6 +99,7 @@ def run(checks):
     """All of this part."""
     with tempfile.TemporaryDirectory() as folder:
         met = check_table(checks, folder)
+        check_warnings(checks, folder)
         check_page(checks, folder, met)
         check_deep(checks, folder)
         check_statuses(checks, folder)

@@ -9,8 +9,9 @@ NAMED = {
     "netconf.1": ["run", "check", "demo", "accept", "map", "over", "agent", "vectors", "unit", "module", "use", "for", "begin", "resolve", "lookup",
                   "view", "dump", "split", "absorb", "grant", "route", "revoke", "IdUsed", "NoAgent", "NoTarget", "NotAccepted", "BookFull",
                   "NoPlacement", "NoGrant"],
-    "netconf-lint.1": ["--help", "NETCONF", "Overlap", "Range", "Repeat", "VectorSpace", "Loop", "Deep", "Duplicate"],
-    "netconf-draw.1": ["--svg", "--views", "--agent", "--help", "NETCONF"],
+    "netconf-lint.1": ["--help", "NETCONF", "Overlap", "Range", "Repeat", "VectorSpace", "Loop", "Deep", "Duplicate", "warning", "IdUsed",
+                       "NoAgent", "NoTarget", "NotAccepted", "NoPlacement"],
+    "netconf-draw.1": ["--svg", "--views", "--write", "--agent", "--help", "NETCONF"],
 }
 
 
@@ -52,9 +53,10 @@ def check_page(checks):
     """What the page of the tools and the page of lint show is what netconf-lint prints, and the picture is what is drawn."""
     page = (TOP / "docs/tools.md").read_text()
     shown = re.findall(r"^\$ tools/(netconf-lint) (\S+)\n(.+?)^```", page, re.S | re.M)
-    checks.that(len(shown) == 2, "documents: what the page of the tools shows", shown)
+    checks.that(len(shown) == 3, "documents: what the page of the tools shows", shown)
     for tool, path, output in shown:
-        checks.equal(outcome(TOOLS / tool, path), (1, output, ""), f"documents: what {tool} {path} prints")
+        status = 1 if ": refused: " in output else 0
+        checks.equal(outcome(TOOLS / tool, path), (status, output, ""), f"documents: what {tool} {path} prints")
     manual = (TOP / "docs/netconf-lint.1").read_text()
     path, output = re.search(r"^\$ netconf-lint (\S+)\n(.*?)^\.Ed", manual, re.S | re.M).groups()
     checks.equal(outcome(TOOLS / "netconf-lint", path, folder=TOP / "examples"), (1, output, ""), "manual: what netconf-lint prints")

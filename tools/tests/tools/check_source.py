@@ -1,8 +1,8 @@
-"""The small reader of the tools against the program: both expand a description to the same nodes."""
+"""The small reader of the tools against the program: both expand a description to the same nodes, and read its commands alike."""
 
 import netconf_text
 from checks import descriptions
-from netconf_source import Unreadable, nodes_of
+from netconf_source import COMMANDS, Unreadable, commands_of, declarations_of, nodes_of
 
 TEXTS = {
     "an inner variable hides an outer one":
@@ -24,6 +24,12 @@ TEXTS = {
         "module m(node i); for i in 1..2; a[i] is over i; end; end; t is; use m(node t) as c;",
 }
 """Descriptions that ask how names, variables and arguments are replaced."""
+
+SCRIPT = ("for i in 0..1; agent a[i] is map [0x0-0xfff to u[i] at 0x0, 0x2000 to irt at i]; unit u[i] kind pages page 12 slots 1 reach 16 "
+          "to m; end; m is accept [0x0-0xffff]; vectors v is accept [0x20-0x21]; unit irt kind vectors page 0 slots 2 reach 8 to v; "
+          "read is; // begin;\nbegin; resolve a[0+1] 2*(4-1)\nfor write; grant write a[1*1] m 0x1000+0x1000 0x1000 for read; "
+          "route r a[0] 0x2000 v; lookup a[1] 8; view a[1] for read; view a[0]; dump; split; absorb m; resolve read 0; revoke write; view a[1];")
+"""A description with each command."""
 
 
 def normal(nodes):
@@ -50,11 +56,24 @@ def compare(checks, what, text):
         checks.that(False, f"the reader of the tools: {what}", error)
 
 
+def compare_commands(checks, what, text):
+    """The commands that are read are answered as those of the text are."""
+    again = declarations_of(text) + "begin;\n" + "\n".join(map(str, commands_of(text)))
+    answers = [netconf_text.run("run", source.encode("latin-1")) for source in (text, again)]
+    checks.equal(answers[1], answers[0], f"the reader of the tools: the commands of {what}")
+
+
 def run(checks):
-    """Compares the two over the texts above and the examples, and looks at the lines of a node."""
+    """Compares the two over the texts above and the examples, and looks at the lines of a node and of commands."""
     for what, text in TEXTS.items():
         compare(checks, what, text)
     for path in descriptions():
         compare(checks, path.name, path.read_text("latin-1"))
+        compare_commands(checks, path.name, path.read_text("latin-1"))
+    compare_commands(checks, "a description with each command", SCRIPT)
+    checks.equal({command.word for command in commands_of(SCRIPT)}, set(COMMANDS), "each command stands in a description")
+    checks.equal([(c.line, c.id, c.access) for c in commands_of(SCRIPT)][:3], [(2, "", "write"), (3, "write", "read"), (3, "r", "")],
+                 "the lines, ids and accesses of commands")
+    checks.equal((commands_of("a is;"), declarations_of("a is; // begin\n")), ([], "a is; // begin\n"), "a description without commands")
     node = nodes_of("module m();\na is\naccept [0x0,\n0x8-0x9];\nend;\n\nuse m()\nas x;")["x.a"]
     checks.equal((node.line, [b.line for b in node.accepts], node.uses), (2, [3, 4], ((7, "m", "x"),)), "the lines of a node")

@@ -40,10 +40,10 @@ def places(folder):
     return seen.read_text().split("\n")[:-1] if seen.exists() else []
 
 
-def errors_of_lint(folder):
-    """What vim lists behind `:make` over a description that is refused, as file:line:text."""
+def errors_of_lint(folder, text):
+    """What vim lists behind `:make` over a description, as file:line:text."""
     path, seen = pathlib.Path(folder, "twice.net"), pathlib.Path(folder, "errors")
-    path.write_text("a is;\na is;\n")
+    path.write_text(text)
     script = pathlib.Path(folder, "make.vim")
     script.write_text(f"set nocompatible\nset runtimepath^={TOOLS}/vim\nfiletype plugin on\ncd {folder}\nedit twice.net\n"
                       f"let $PATH = '{TOOLS}:' . $PATH\nsilent make!\n"
@@ -64,4 +64,6 @@ def run(checks):
         wanted = ["netconf", "// %s", "netconf-lint %:S", *PLACES.values()]
         checks.equal(places(folder), wanted, "vim: the type of a file and the groups of its places")
         wanted = ["twice.net:2:Duplicate: this name is there already", "twice.net:1:a is declared here first"]
-        checks.equal(errors_of_lint(folder), wanted, "vim: what :make lists")
+        checks.equal(errors_of_lint(folder, "a is;\na is;\n"), wanted, "vim: what :make lists")
+        wanted = ["twice.net:3:grant b: NoAgent: the first node is none, or no agent", "twice.net:1:a is no agent"]
+        checks.equal(errors_of_lint(folder, "a is;\nbegin;\ngrant b a a 0 1;\n"), wanted, "vim: what :make lists of a grant that is refused")

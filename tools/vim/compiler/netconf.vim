@@ -1,4 +1,4 @@
-" Checks the file with netconf-lint: `:make`, then `:cnext` goes through the refusals and their notes.
+" Checks the file with netconf-lint: `:make`, then `:cnext` goes through the refusals, the warnings and their notes.
 if exists('current_compiler')
   finish
 endif
@@ -9,4 +9,4 @@ if exists(':CompilerSet') != 2
 endif
 
 CompilerSet makeprg=netconf-lint\ %:S
-CompilerSet errorformat=%f:%l:\ refused:\ %m,%f:%l:\ %tote:\ %m,netconf-lint:\ %m
+CompilerSet errorformat=%f:%l:\ refused:\ %m,%f:%l:\ %tarning:\ %m,%f:%l:\ %tote:\ %m,netconf-lint:\ %m
