@@ -1,14 +1,13 @@
 -- Chains of fewer than so many steps, where none is longer: resolution, and the stops.
-use Rattle.std.proofs.Common.{◌≡◌, ℕ, zero, suc, ◌+◌, ◌<◌, ◌≤◌, ◌⊎◌, ◌↔◌, inl, inr, Bool, true, nat_le, List, [], ◌∷◌, length, slice_get, Some, refl, sym, subst, arith, leb-true}
+use Rattle.std.proofs.Common.{◌≡◌, ℕ, ◌<◌, ◌≤◌, ◌⊎◌, ◌↔◌, inl, inr, Bool, List, [], ◌∷◌, length, refl, arith}
 use Rattle.dn_interval.specs.declared.row.End.{End}
 use Rattle.dn_interval.specs.declared.row.Row.{Row}
 use Rattle.dn_interval.specs.declared.span.TheConstants.{TOP}
 use Rattle.dn_interval.specs.Rows.{AreNormal}
-use Rattle.dn_interval.proofs.Normal.{normal_like}
 use Rattle.dn_net.specs.declared.node.Name.{Name}
 use Rattle.dn_net.specs.declared.node.NodeDecl.{NodeDecl}
 use Rattle.dn_net.specs.Chain.{IsChain, Ends}
-use Rattle.dn_net.specs.Decode.{Step, steps, step_limit, is_accepted, is_stop}
+use Rattle.dn_net.specs.Decode.{Step, steps, step_limit}
 use Rattle.dn_net.proofs.Chains.{chain_front}
 use Rattle.dn_flat.specs.declared.flat.Flat.{Flat}
 use Rattle.dn_flat.specs.Stages.{EndsBefore, GoesIn, IsFlat}

@@ -1,5 +1,5 @@
 -- What nodes see where some share it: the list grows by what is made, and by what is shared.
-use Rattle.std.proofs.Common.{◌≡◌, ◌∙◌, ℕ, zero, suc, ◌+◌, ◌<◌, List, [], ◌∷◌, ◌++◌, map, length, slice_get, Option, Some, nat_lt, refl, sym, ap, arith, IsTrue, ltb-true, lt-ltb, unwrap_or, option_map}
+use Rattle.std.proofs.Common.{◌≡◌, ◌∙◌, ℕ, zero, suc, ◌<◌, List, [], ◌∷◌, ◌++◌, map, length, slice_get, Option, Some, nat_lt, refl, sym, ap, arith, IsTrue, ltb-true, lt-ltb, unwrap_or, option_map}
 use Rattle.std.specs.List.{list_all}
 use Rattle.std.proofs.lemmas.Option.{slice_get-map}
 use Rattle.dn_base.proofs.Booleans.{and_parts}

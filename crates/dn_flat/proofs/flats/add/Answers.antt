@@ -1,5 +1,5 @@
 -- The node sees what another before it sees, or what its levels come to.
-use Rattle.std.proofs.Common.{◌≡◌, ◌+◌, ◌++◌, [], ◌∷◌, Some, List, sym, subst, slice_get}
+use Rattle.std.proofs.Common.{◌≡◌, ◌+◌, ◌++◌, [], ◌∷◌, Some, sym, subst, slice_get}
 use Rattle.dn_flat.specs.declared.flat.Flat.{Flat}
 use Rattle.dn_flat.specs.Stages.{AreReaches, AreFlatsBelow}
 use Rattle.dn_flat.proofs.Led.{one_below, shared_below}

@@ -1,5 +1,5 @@
 -- There is one row, and nothing is accepted or a stop.
-use Rattle.std.proofs.Common.{◌≡◌, ◌∙◌, ◌∷◌, [], sym, arith}
+use Rattle.std.proofs.Common.{◌∙◌, sym, arith}
 use Rattle.dn_flat.proofs.Led.{one_item, led_is}
 use Rattle.dn_flat.proofs.Lists.{none_of}
 use Rattle.dn_flat.proofs.reach.Reach.led_to.Goals as goal
