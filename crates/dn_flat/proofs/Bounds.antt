@@ -1,21 +1,16 @@
 -- Chains of fewer than so many steps, where none is longer: resolution, and the stops.
-use Rattle.std.proofs.Common.{◌≡◌, ℕ, zero, suc, ◌+◌, ◌<◌, ◌≤◌, ◌⊎◌, ◌↔◌, inl, inr, Bool, true, nat_le, List, [], ◌∷◌, length, slice_get, Some, refl, sym, subst, arith, leb-true}
-use Rattle.std.specs.List.{list_all}
+use Rattle.std.proofs.Common.{◌≡◌, ℕ, ◌<◌, ◌≤◌, ◌⊎◌, ◌↔◌, inl, inr, Bool, List, [], ◌∷◌, length, refl, arith}
 use Rattle.dn_interval.specs.declared.row.End.{End}
 use Rattle.dn_interval.specs.declared.row.Row.{Row}
 use Rattle.dn_interval.specs.declared.span.TheConstants.{TOP}
 use Rattle.dn_interval.specs.Rows.{AreNormal}
-use Rattle.dn_interval.proofs.Normal.{normal_like}
 use Rattle.dn_net.specs.declared.node.Name.{Name}
 use Rattle.dn_net.specs.declared.node.NodeDecl.{NodeDecl}
 use Rattle.dn_net.specs.Chain.{IsChain, Ends}
-use Rattle.dn_net.specs.Decode.{Step, steps, step_limit, is_accepted, is_stop}
-use Rattle.dn_net.specs.Legal.{IsLegalNet}
+use Rattle.dn_net.specs.Decode.{Step, steps, step_limit}
 use Rattle.dn_net.proofs.Chains.{chain_front}
-use Rattle.dn_net.proofs.Places.{list_all-at}
-use Rattle.dn_flat.specs.declared.reach.Reach.{Reach}
 use Rattle.dn_flat.specs.declared.flat.Flat.{Flat}
-use Rattle.dn_flat.specs.Stages.{EndsBefore, GoesIn, AreReaches, IsFlat, is_ended}
+use Rattle.dn_flat.specs.Stages.{EndsBefore, GoesIn, IsFlat}
 use Rattle.dn_flat.specs.Views.{name_of_end, end_of, ResolvesFrom, StopsFrom}
 use Rattle.dn_flat.proofs.There.{names_are_there, accepted_is_there, stop_is_there}
 
@@ -48,24 +43,10 @@ module _ (net : List NodeDecl) (passes : Name → Bool) (k node a : ℕ) (y : En
   pub ended_level : k ≤ 66 → ((z : Name) → IsChain (Step net) k here z → ⊥) → EndsBefore net passes k node a y ↔ Ends (steps net) passes step_limit here (name_of_end y)
   ended_level m none = ends_are (λ j l c. omega arith) (long_ends none)
 
-  -- in a legal net
-  pub ended_legal : IsLegalNet net → ((z : Name) → IsChain (Step net) k here z → ⊥) → EndsBefore net passes k node a y ↔ Ends (steps net) passes step_limit here (name_of_end y)
-  ended_legal legal none = ends_are short (long_ends none)
-    where
-      short : (j : ℕ) → j < k → IsChain (Step net) j here (name_of_end y) → j ≤ 65
-      short j l c = elim (cases_le j 66) [
-        | inl m ↦ omega arith
-        | inr m ↦ (let e : step_limit ≡ 65 = limit_is in let f = chain_front (Step net) step_limit j here (name_of_end y) (omega arith) c in absurd (legal.walks.shallow here f.0 f.1))
-      ]
-
 -- rows that are none say that nothing goes on
 pub none_goes : (net : List NodeDecl) (k node : ℕ) (rows : List Row) → rows ≡ [] → AreNormal (GoesIn net k node) rows → (a : ℕ) → a ≤ TOP → (z : Name) → IsChain (Step net) k (record { node = node; addr = a }) z → ⊥
 none_goes net k node [] e n a low z c = (n.exact a (end_of z) low).0 c
 none_goes net k node (r ∷ rows) e n a low z c = cc
-
-empty_list : {X : Type 0} (xs : List X) → nat_le (length xs) 0 ≡ true → xs ≡ []
-empty_list [] e = refl
-empty_list (x ∷ xs) e = let l : length (x ∷ xs) ≤ 0 = leb-true (length (x ∷ xs)) 0 e in absurd (omega arith)
 
 -- rows of what a node resolves to, and of its stops, are its flattened view
 pub flat_is : (net : List NodeDecl) (node : ℕ) (flat : Flat) → AreNormal (ResolvesFrom net node) flat.accepts → AreNormal (StopsFrom net node) flat.stops → IsFlat net node flat
@@ -75,22 +56,3 @@ flat_is net node flat accepts stops = record {
   within = names_are_there (length net) (ResolvesFrom net node) flat.accepts accepts (λ a y f. accepted_is_there net (name_of_end y) f.0);
   stops_within = names_are_there (length net) (StopsFrom net node) flat.stops stops (λ a y f. stop_is_there net (name_of_end y) f.0);
 }
-
-module _ (net : List NodeDecl) (legal : IsLegalNet net) (k : ℕ) (nodes : List Reach) (are : AreReaches net k nodes) (over : (65 ≤ k) ⊎ (is_ended nodes ≡ true)) (node : ℕ) (reach : Reach) (at : slice_get nodes node ≡ Some reach) where
-  none : (a : ℕ) → a ≤ TOP → (z : Name) → IsChain (Step net) k (record { node = node; addr = a }) z → ⊥
-  none a low z c = by over
-    where
-      by : (65 ≤ k) ⊎ (is_ended nodes ≡ true) → ⊥
-      by (inl l) =
-          let e : step_limit ≡ 65 = limit_is in
-          let f = chain_front (Step net) step_limit k (record { node = node; addr = a }) z (omega arith) c in
-          legal.walks.shallow (record { node = node; addr = a }) f.0 f.1
-      by (inr e) =
-          none_goes net k node reach.go (empty_list reach.go (list_all-at (λ (r : Reach). nat_le (length r.go) 0) nodes node reach e at)) (are.each node reach at).go a low z c
-
-  pub ended_flat : IsFlat net node reach.done
-  ended_flat =
-      let done = (are.each node reach at).done in
-      let accepts = normal_like (EndsBefore net (is_accepted net) k node) (ResolvesFrom net node) reach.done.accepts (λ a y t. ended_legal net (is_accepted net) k node a y legal (none a t)) done.accepts in
-      let stops = normal_like (EndsBefore net (is_stop net) k node) (StopsFrom net node) reach.done.stops (λ a y t. ended_legal net (is_stop net) k node a y legal (none a t)) done.stops in
-      flat_is net node reach.done accepts stops

@@ -1,8 +1,10 @@
 pub mod Bounds
 pub mod Chains
 pub mod Firsts
+pub mod Led
 pub mod Lists
 pub mod Nodes
 pub mod Rows
+pub mod Shared
 pub mod Sums
 pub mod There

@@ -1,8 +1,8 @@
 -- The nodes of a stage, one after another.
-use Rattle.std.proofs.Common.{◌≡◌, ℕ, zero, suc, ◌+◌, ◌-◌, ◌*◌, ◌<◌, ◌≤◌, ◌⊎◌, Bool, true, ◌&&◌, ◌||◌, List, ◌∷◌, map, drop, length, get_or, slice_get, Option, Some, None, option_map, refl, sym, ap, ◌∙◌, subst, arith, nat_lt, ltb-true, IsTrue}
+use Rattle.std.proofs.Common.{◌≡◌, ℕ, ◌+◌, ◌-◌, ◌*◌, ◌<◌, ◌≤◌, Bool, true, ◌&&◌, ◌||◌, List, drop, length, get_or, slice_get, Some, sym, ap, ◌∙◌, subst, arith, nat_lt, ltb-true}
 use Rattle.std.specs.List.{list_all}
-use Rattle.std.proofs.lemmas.List.{get_or_default, length-map}
-use Rattle.std.proofs.lemmas.Option.{slice_get-get_or, slice_get-map}
+use Rattle.std.proofs.lemmas.List.{get_or_default}
+use Rattle.std.proofs.lemmas.Option.{slice_get-get_or}
 use Rattle.dn_interval.specs.declared.row.End.{End}
 use Rattle.dn_interval.specs.declared.row.Row.{Row}
 use Rattle.dn_interval.specs.declared.span.Span.{Span}
@@ -11,12 +11,9 @@ use Rattle.dn_interval.specs.Strands.{rows_give}
 use Rattle.dn_interval.specs.Onward.{ends_go, gives_by, rows_of}
 use Rattle.dn_interval.proofs.Pieces.{there}
 use Rattle.dn_net.specs.declared.node.NodeDecl.{NodeDecl}
-use Rattle.dn_net.specs.Legal.{IsLegalNet}
 use Rattle.dn_net.proofs.Places.{list_all-at}
-use Rattle.dn_flat.specs.declared.flat.Flat.{Flat}
 use Rattle.dn_flat.specs.declared.reach.Reach.{Reach}
-use Rattle.dn_flat.specs.Stages.{IsReach, AreReaches, AreFlats, IsFlat, is_ended}
-use Rattle.dn_flat.proofs.Bounds.{ended_flat}
+use Rattle.dn_flat.specs.Stages.{IsReach, AreReaches}
 use Rattle.dn_flat.proofs.Lists.{pushed}
 
 -- the name at a place of a row
@@ -46,16 +43,3 @@ doubled_are net k all made i are long most least each =
       every = omega arith;
       each = λ m r e. subst (λ n. IsReach net n m r) twice (each m r e);
     }
-
--- the flattened views of all nodes
-of_done : (nodes : List Reach) (m : ℕ) (flat : Flat) (o : Option Reach) → slice_get nodes m ≡ o → option_map (λ (r : Reach). r.done) o ≡ Some flat → (r : Reach) × (slice_get nodes m ≡ Some r) × (r.done ≡ flat)
-of_done nodes m flat None e f = cc
-of_done nodes m flat (Some r) e f = let s : r.done ≡ flat = cc in (r, e, s)
-
-pub flats_are : (net : List NodeDecl) → IsLegalNet net → (k : ℕ) (nodes : List Reach) → AreReaches net k nodes → (65 ≤ k) ⊎ (is_ended nodes ≡ true) → AreFlats net (map (λ (r : Reach). r.done) nodes)
-flats_are net legal k nodes are over = record {
-  every = length-map nodes (λ (r : Reach). r.done) ∙ are.every;
-  each = λ m flat e.
-      let r = of_done nodes m flat (slice_get nodes m) refl (sym (slice_get-map (λ (r : Reach). r.done) nodes m) ∙ e) in
-      subst (IsFlat net m) r.2 (ended_flat net legal k nodes are over m r.0 r.1);
-}

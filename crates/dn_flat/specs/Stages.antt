@@ -1,7 +1,8 @@
 -- Stages: what the addresses of each node come to in fewer than so many steps, and in exactly so many.
-use Rattle.std.specs.Prelude.{◌≡◌, ℕ, ◌<◌, Bool, nat_le, List, length, slice_get, Some, IsTrue}
-use Rattle.std.specs.List.{list_all}
+use Rattle.std.specs.Prelude.{◌≡◌, ℕ, ◌<◌, Bool, List, [], ◌∷◌, length, slice_get, Some, IsTrue}
 use Rattle.dn_interval.specs.declared.row.End.{End}
+use Rattle.dn_interval.specs.declared.row.Row.{Row}
+use Rattle.dn_interval.specs.declared.span.TheConstants.{TOP}
 use Rattle.dn_interval.specs.Rows.{AreNormal, ends_within}
 use Rattle.dn_net.specs.declared.node.Name.{Name}
 use Rattle.dn_net.specs.declared.node.NodeDecl.{NodeDecl}
@@ -47,10 +48,6 @@ pub record StageRows : Type 0 where
 abbrev pub IsStage : List NodeDecl → StageRows → Type 0
 IsStage net stage = AreReaches net stage.steps stage.nodes
 
--- no address of a node goes on
-abbrev pub is_ended : List Reach → Bool
-is_ended nodes = list_all (λ r. nat_le (length r.go) 0) nodes
-
 -- the rows give to each address of the node the accepted names to which it resolves, and its stops
 pub record IsFlat (net : List NodeDecl) (node : ℕ) (flat : Flat) : Type 0 where
   pub accepts : AreNormal (ResolvesFrom net node) flat.accepts
@@ -58,6 +55,21 @@ pub record IsFlat (net : List NodeDecl) (node : ℕ) (flat : Flat) : Type 0 wher
   -- each name of a row is in a node that is there
   pub within : IsTrue (ends_within (length net) flat.accepts)
   pub stops_within : IsTrue (ends_within (length net) flat.stops)
+
+-- there is one for each node below this one
+pub record AreFlatsBelow (net : List NodeDecl) (node : ℕ) (flats : List Flat) : Type 0 where
+  pub every : length flats ≡ node
+  pub each : (m : ℕ) (flat : Flat) → slice_get flats m ≡ Some flat → IsFlat net m flat
+
+-- each address of a node goes on to that address of another, and is neither accepted nor a stop
+pub record IsLedTo (other : ℕ) (reach : Reach) : Type 0 where
+  pub accepts : reach.done.accepts ≡ []
+  pub stops : reach.done.stops ≡ []
+  pub row : Row
+  pub go : reach.go ≡ row ∷ []
+  pub lo : row.span.lo ≡ 0
+  pub hi : row.span.hi ≡ TOP
+  pub ends : row.ends ≡ record { node = other; base = 0 } ∷ []
 
 -- there is one for each node
 pub record AreFlats (net : List NodeDecl) (flats : List Flat) : Type 0 where

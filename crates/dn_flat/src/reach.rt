@@ -1,6 +1,6 @@
 //! What a node comes to by a number of steps: by one, and by twice as many.
 
-ghost use Rattle.std.specs.Prelude.{◌≡◌, ℕ, ◌+◌, ◌-◌, ◌<◌, ◌≤◌, ◌&&◌, length, slice_get, option_map, Some, IfOk, IsTrue, List};
+ghost use Rattle.std.specs.Prelude.{◌≡◌, ℕ, ◌+◌, ◌-◌, ◌<◌, ◌≤◌, ◌&&◌, [], ◌∷◌, length, slice_get, option_map, Some, IfOk, IfSome, IsTrue, List};
 ghost use Rattle.std.specs.List.{All};
 ghost use Rattle.dn_interval.specs.declared.row.End.{End};
 ghost use Rattle.dn_interval.specs.declared.span.TheConstants.{TOP};
@@ -13,13 +13,13 @@ ghost use Rattle.dn_net.specs.Rules.{KeepsNodeRules};
 ghost use Rattle.dn_walk.specs.declared.leg.Leg.{Leg};
 ghost use Rattle.dn_walk.specs.Legs.{told_legs};
 ghost use Rattle.dn_flat.specs.Firsts.{is_same, stays, leg_gives, legs_give};
-ghost use Rattle.dn_flat.specs.Stages.{IsReach, AreReaches};
+ghost use Rattle.dn_flat.specs.Stages.{IsLedTo, IsReach, AreReaches};
 
 use crate::flat::Flat;
 use crate::found::{Found, flat_of, push_rows, whole};
 use dn_base::OutOfMemory;
 use dn_interval::onward::follow;
-use dn_interval::{Rows, Seg, Span, SpanSet};
+use dn_interval::{Row, Rows, Seg, Span, SpanSet, TOP};
 use dn_net::net::Net;
 use dn_walk::leg::Leg;
 use std::alloc::Global;
@@ -31,6 +31,37 @@ pub(crate) struct Reach {
     pub(crate) done: Flat,
     /// The names that are reached in exactly so many.
     pub(crate) go: Rows,
+}
+
+impl Reach {
+    /// Where each address goes on to that address of another node, and that is all: the other.
+    pub(crate) fn led_to(&self) -> Option<u16>
+        ensures { IfSome result (λ other. IsLedTo other self.now) }
+    {
+        let [row] = self.go.rows() else {
+            return None;
+        };
+        if !self.done.accepts.rows().is_empty() || !self.done.stops.rows().is_empty() {
+            return None;
+        }
+        led_by(row)
+    }
+}
+
+/// Where a row leads each address to that address of a node: the node.
+fn led_by(row: &Row) -> Option<u16>
+    ensures lo { IfSome result (λ other. row.now.span.lo ≡ 0) }
+    ensures hi { IfSome result (λ other. row.now.span.hi ≡ TOP) }
+    ensures ends { IfSome result (λ other. row.now.ends ≡ record { node = other; base = 0 } ∷ []) }
+{
+    let [end] = row.ends() else {
+        return None;
+    };
+    if row.span.lo == 0 && row.span.hi == TOP && end.base == 0 {
+        Some(end.node)
+    } else {
+        None
+    }
 }
 
 /// What a node comes to by one step, from the addresses that it accepts and from its legs.

@@ -1,6 +1,6 @@
 //! Stages: what each node of a net comes to by a number of steps.
 
-ghost use Rattle.std.specs.Prelude.{◌≡◌, ℕ, ◌+◌, ◌*◌, ◌<◌, ◌≤◌, ◌↔◌, ◌||◌, Some, option_map, slice_get, length, IfOk, OnOk, IsTrue, List};
+ghost use Rattle.std.specs.Prelude.{◌≡◌, ℕ, ◌+◌, ◌*◌, ◌<◌, ◌≤◌, ◌↔◌, ◌||◌, Some, option_map, slice_get, length, IfOk, IfSome, OnOk, IsTrue, List};
 ghost use Rattle.dn_interval.specs.declared.row.End.{End};
 ghost use Rattle.dn_interval.specs.declared.span.TheConstants.{TOP};
 ghost use Rattle.dn_interval.specs.Onward.{rows_go, gives_by};
@@ -10,7 +10,8 @@ ghost use Rattle.dn_net.specs.declared.node.NodeDecl.{NodeDecl};
 ghost use Rattle.dn_net.specs.Legal.{IsLegalNet};
 ghost use Rattle.dn_net.specs.Rules.{KeepsNodeRules};
 ghost use Rattle.dn_walk.specs.Rows.{AreAccepted};
-ghost use Rattle.dn_flat.specs.Stages.{GoesIn, IsDone, IsStage, IsFlat, AreReaches, is_ended};
+ghost use Rattle.dn_flat.specs.declared.reach.Reach.{Reach};
+ghost use Rattle.dn_flat.specs.Stages.{GoesIn, IsDone, IsStage, IsFlat, IsLedTo, AreReaches};
 ghost use Rattle.dn_flat.specs.Views.{ResolvesFrom, StopsFrom};
 
 use crate::flat::Flat;
@@ -105,11 +106,13 @@ impl Stage {
         }
     }
 
-    /// Whether no address of a node goes on for so many steps.
-    pub(crate) fn is_ended(&self) -> bool
-        ensures { result ≡ is_ended self.now.nodes }
+    /// Where each address of a node goes on to that address of another, and that is all: the other.
+    pub(crate) fn led_to(&self, node: u16) -> Option<u16>
+        requires { node < length self.now.nodes }
+        ensures { IfSome result (λ other. (reach : Reach) → slice_get self.now.nodes node ≡ Some reach
+            → IsLedTo other reach) }
     {
-        self.nodes.iter().all(|reach| reach.go.rows().is_empty())
+        self.reach(node).led_to()
     }
 
     /// What a node of the net sees, by the net's stage for one step: level by level from the node itself, so of the

@@ -1,8 +1,12 @@
 -- Numbers as they are printed: the tokenizer takes them back, and each byte of them is one of a word.
-use Rattle.std.proofs.Common.{◌≡◌, ◌∙◌, ap, sym, refl, subst, ℕ, zero, suc, ◌+◌, ◌*◌, ◌/◌, ◌%◌, ◌^◌, ◌<◌, ◌≤◌, Bool, true, false, cond, ◌&&◌, eqb, List, [], ◌∷◌, ◌++◌, length, codes, Option, Some, IsTrue, arith, tests, mod-lt, pow-suc, div-lt_iff_lt-mul, div-add-mod', eqb-true, lt-ltb}
+use Rattle.std.proofs.Common.{◌≡◌, ◌∙◌, ap, sym, refl, subst, ℕ, zero, suc, ◌+◌, ◌*◌, ◌/◌, ◌%◌, ◌^◌, ◌<◌, ◌≤◌, Bool, true, false, cond, ◌&&◌, eqb, List, [], ◌∷◌, ◌++◌, length, codes, Option, Some, IsTrue, arith, tests, ◌-◌, set, drop, nat_lt, slice_index_or, eq-eqb, ne_eqb, ltb-true, mod-lt, pow-suc, div-lt_iff_lt-mul, div-add-mod', eqb-true, lt-ltb}
 use Rattle.std.proofs.Math.Nat.{pow-zero}
 use Rattle.std.specs.Fmt.{digits, digits_onto, digit_glyph, decimal}
 use Rattle.std.specs.List.{list_all}
+use Rattle.std.specs.Str.{IsAscii}
+use Rattle.std.proofs.lemmas.List.{drop-set}
+use Rattle.std.proofs.lemmas.List.Sums.{AllPass-from_list_all}
+use Rattle.std.proofs.lemmas.Str.Ascii.{IsAscii-from_all}
 use Rattle.dn_token.specs.Token.{hex_value, decimal_value, spelled_from, digits_number, fitting, is_hexadecimal, number_of, is_word_byte, is_digit}
 use Rattle.dn_token.proofs.Numbers.{some_digits}
 use Rattle.dn_base.proofs.Booleans.{and_parts}
@@ -121,3 +125,38 @@ decimal_digits n = all_pass is_digit 10 (omega arith) digit_glyph_digit 64 n [] 
 pub decimal_some : (n : ℕ) → 0 < length (decimal n)
 unfolding digits
 decimal_some n = some_digit 10 63 n []
+
+-- digits that are written from the last on, each in front of those behind it
+
+pub whole_digits : (n : ℕ) → digits_onto 64 16 false n [] ≡ digits 16 false n
+unfolding digits
+whole_digits n = refl
+
+module _ (n : ℕ) (acc : List ℕ) where
+  by_test : (k : ℕ) (t : Bool) → eqb (n / 16) 0 ≡ t → digits_onto (suc k) 16 false n acc ≡ cond t (digit_glyph false (n % 16) ∷ acc) (digits_onto k 16 false (n / 16) (digit_glyph false (n % 16) ∷ acc))
+  by_test k t e = ap (λ (b : Bool). cond b (digit_glyph false (n % 16) ∷ acc) (digits_onto k 16 false (n / 16) (digit_glyph false (n % 16) ∷ acc))) e
+
+  pub last_digit : (i : ℕ) → 0 < i → n / 16 ≡ 0 → digits_onto i 16 false n acc ≡ digit_glyph false (n % 16) ∷ acc
+  last_digit zero h e = absurd (omega arith)
+  last_digit (suc k) h e = by_test k true (eq-eqb (n / 16) 0 e)
+
+  pub next_digit : (i : ℕ) → 0 < i → (n / 16 ≡ 0 → ⊥) → digits_onto i 16 false n acc ≡ digits_onto (i - 1) 16 false (n / 16) (digit_glyph false (n % 16) ∷ acc)
+  next_digit zero h e = absurd (omega arith)
+  next_digit (suc k) h e =
+      let less : k ≡ suc k - 1 = omega arith in
+      by_test k false (ne_eqb (n / 16) 0 e) ∙ ap (λ (j : ℕ). digits_onto j 16 false (n / 16) (digit_glyph false (n % 16) ∷ acc)) less
+
+pub digit_put : (room : List ℕ) (i x g : ℕ) → 0 < i → i ≤ length room → x ≡ g → drop (i - 1) (set room (i - 1) x) ≡ g ∷ drop i room
+digit_put room i x g some l e =
+    let back : i - 1 + 1 ≡ i = omega arith in
+    drop-set room (i - 1) x (omega arith) ∙ ap (λ j. x ∷ drop j room) back ∙ ap (λ d. d ∷ drop i room) e
+
+below_ascii : (d : ℕ) → d < 16 → nat_lt (digit_glyph false d) 128 ≡ true
+below_ascii d h = grind (arith, tests)
+
+all_ascii : (s : List ℕ) → IsTrue (list_all (λ b. nat_lt b 128) s) → IsAscii s
+all_ascii s h = IsAscii-from_all s (λ k d l. ltb-true (slice_index_or s k d) 128 (AllPass-from_list_all (λ b. nat_lt b 128) s h k d l))
+
+pub hexadecimal_ascii : (n : ℕ) → IsAscii (digits 16 false n)
+unfolding digits
+hexadecimal_ascii n = all_ascii (digits_onto 64 16 false n []) (all_pass (λ b. nat_lt b 128) 16 (omega arith) below_ascii 64 n [] refl)

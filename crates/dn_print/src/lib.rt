@@ -6,6 +6,7 @@
 //! net gives that net back.
 #![tactic(auto)]
 
+mod address;
 pub mod dump;
 pub mod laws;
 pub mod names;

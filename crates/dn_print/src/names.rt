@@ -5,6 +5,7 @@ ghost use Rattle.std.specs.String.{string_bytes};
 ghost use Rattle.dn_print.specs.Names.{Appended, name_text, names_text, names_exist};
 
 use crate::OutOfMemory;
+use crate::address::write_address;
 use dn_net::net::Net;
 use dn_net::node::Name;
 use std::alloc::Global;
@@ -74,7 +75,7 @@ pub(crate) fn write_name(out: &mut String, net: &Net, name: Name) -> Result<(), 
     requires { name.node < length net.now }
     ensures { OnOk result (string_bytes out.new ≡ string_bytes out.old ++ name_text net.now name) }
 {
-    let text = net.text(name.node);
-    let addr = name.addr;
-    write!(out, "{text}@0x{addr:x}")
+    out.push_str(net.text(name.node))?;
+    out.push('@')?;
+    write_address(out, name.addr)
 }

@@ -7,6 +7,7 @@ ghost use Rattle.dn_interval.specs.Listed.{seen_by};
 ghost use Rattle.dn_print.specs.Names.{Appended};
 ghost use Rattle.dn_print.specs.Rows.{end_text, ends_text, row_text, rows_text, ends_exist};
 
+use crate::address::write_address;
 use crate::{OutOfMemory, names};
 use dn_interval::{End, Row, Rows, Span};
 use dn_net::net::Net;
@@ -63,9 +64,12 @@ fn write_row(out: &mut String, net: &Net, row: &Row) -> Result<(), OutOfMemory>
         string_bytes out.old ++ row_text net.now (seen_by row.now)) }
 {
     let Span { lo, hi } = row.span();
-    write!(out, "0x{lo:x}-0x{hi:x} ")?;
+    write_address(out, lo)?;
+    out.push('-')?;
+    write_address(out, hi)?;
+    out.push(' ')?;
     write_ends(out, net, row.ends())?;
-    out.push_str("\n")
+    out.push('\n')
 }
 
 fn write_ends(out: &mut String, net: &Net, ends: &[End]) -> Result<(), OutOfMemory>

@@ -1,14 +1,23 @@
--- No chain is longer, or none goes on.
-use Rattle.std.proofs.Common.{◌≤◌, ◌∙◌, sym, inl, inr, arith}
-use Rattle.dn_flat.proofs.Nodes.{flats_are}
+-- One node more.
+use Rattle.std.proofs.Common.{◌≡◌, ◌∙◌, sym, subst, arith, length}
+use Rattle.dn_flat.specs.Stages.{AreFlatsBelow}
+use Rattle.dn_flat.proofs.Led.{none_below}
 use Rattle.dn_flat.proofs.flats.flatten_all.Goals as goal
-use Rattle.dn_flat.proofs.flats.flatten_all.Goals.{then-doublings-test+else-not-is_ended, else-doublings-test}
+
+pub loop-node-init : goal.loop-node-init
+loop-node-init c = record { below = subst (AreFlatsBelow c.args.net.now 0) (sym c.new-flats.ensures) (none_below c.args.net.now) }
+
+pub add-requires-clause-below : goal.add-requires-clause-below
+add-requires-clause-below c = c.loop-node.invariant.below
+
+pub loop-node-preserved : goal.loop-node-preserved
+loop-node-preserved c = record { below = c.in_ok-add.ensures }
 
 pub returns : goal.returns
 returns c =
-    let net = c.args.net.now in
-    let stage = c.doublings.stage in
-    elim c.doublings-test.branch [
-      | then-doublings-test+else-not-is_ended w ↦ flats_are net c.requires.legal stage.steps stage.nodes c.doublings.invariant.stage (inr (sym w.is_ended.ensures ∙ w.if-not-is_ended.false))
-      | else-doublings-test w ↦ (let l : 65 ≤ stage.steps = omega (arith, c.steps.ensures, w.doublings-test.false) in flats_are net c.requires.legal stage.steps stage.nodes c.doublings.invariant.stage (inl l))
-    ]
+    let below = c.loop-node.invariant.below in
+    let all : c.loop-node.node ≡ length c.args.net.now = omega (arith, c.loop-node-test.false, c.loop-node.auto.node-end, c.nodes-node-end.ensures) in
+    record {
+      every = below.every ∙ all;
+      each = below.each;
+    }

@@ -1,0 +1,134 @@
+-- A node whose addresses all go on to those of another sees what that one sees.
+use Rattle.std.proofs.Common.{◌≡◌, ◌∙◌, ℕ, zero, suc, ◌+◌, ◌-◌, ◌<◌, ◌≤◌, ◌⊎◌, ◌↔◌, inl, inr, Bool, List, [], ◌∷◌, ◌++◌, map, length, get_or, slice_get, Option, Some, None, IfSome, refl, sym, ap, subst, arith, IsTrue}
+use Rattle.std.proofs.lemmas.Option.{slice_get-get_or}
+use Rattle.dn_interval.specs.declared.row.End.{End}
+use Rattle.dn_interval.specs.declared.row.Row.{Row}
+use Rattle.dn_interval.specs.declared.span.TheConstants.{TOP}
+use Rattle.dn_interval.specs.Rows.{AreNormal, GivenBy, Member, moved}
+use Rattle.dn_interval.proofs.Membership.{in_from}
+use Rattle.dn_interval.proofs.Normal.{normal_like}
+use Rattle.dn_net.specs.declared.node.Name.{Name}
+use Rattle.dn_net.specs.declared.node.NodeDecl.{NodeDecl}
+use Rattle.dn_net.specs.Chain.{IsChain, Ends}
+use Rattle.dn_net.specs.Decode.{Step, steps, step_limit, is_accepted, is_stop}
+use Rattle.dn_net.specs.Legal.{IsLegalNet}
+use Rattle.dn_net.proofs.Chains.{chain_front}
+use Rattle.dn_flat.specs.declared.flat.Flat.{Flat}
+use Rattle.dn_flat.specs.declared.reach.Reach.{Reach}
+use Rattle.dn_flat.specs.Shared.{no_flat}
+use Rattle.dn_flat.specs.Stages.{EndsBefore, GoesIn, IsReach, AreReaches, IsFlat, IsLedTo, AreFlatsBelow}
+use Rattle.dn_flat.specs.Views.{name_of_end, end_of, ResolvesFrom, StopsFrom}
+use Rattle.dn_flat.proofs.Bounds.{limit_is, flat_is}
+use Rattle.dn_flat.proofs.Lists.{each_pushed, length_pushed}
+
+pub one_item : (xs : List Row) (x : Row) → 1 ≤ length xs → length xs < 2 → x ≡ get_or xs 0 x → xs ≡ x ∷ []
+one_item [] x l m is = absurd (omega arith)
+one_item (y ∷ []) x l m is = ap (λ r. r ∷ []) (sym is)
+one_item (y ∷ z ∷ xs) x l m is = absurd (omega arith)
+
+-- where a row leads each address of a node to that address of another
+pub led_is : (o : Option ℕ) (reach : Reach) (row : Row) → reach.done.accepts ≡ [] → reach.done.stops ≡ [] → reach.go ≡ row ∷ [] → IfSome o (λ x. row.span.lo ≡ 0) → IfSome o (λ x. row.span.hi ≡ TOP) → IfSome o (λ x. row.ends ≡ record { node = x; base = 0 } ∷ []) → IfSome o (λ x. IsLedTo x reach)
+led_is None reach row accepts stops go lo hi ends = lo
+led_is (Some x) reach row accepts stops go lo hi ends = record {
+  accepts = accepts;
+  stops = stops;
+  row = row;
+  go = go;
+  lo = lo;
+  hi = hi;
+  ends = ends;
+}
+
+-- rows that are none give nothing
+none_given : (f : ℕ → End → Type 0) (rows : List Row) → rows ≡ [] → AreNormal f rows → (a : ℕ) (y : End) → a ≤ TOP → f a y → ⊥
+none_given f [] e n a y low h = (n.exact a y low).0 h
+none_given f (r ∷ rows) e n a y low h = cc
+
+-- one row over all addresses gives to each the same address of its node
+
+abbrev end_in : ℕ → ℕ → End
+end_in node a = record { node = node; base = a }
+
+at_end : (other a lo : ℕ) → lo ≡ 0 → moved (a - lo) (end_in other 0) ≡ end_in other a
+at_end other a lo e = let d : 0 + (a - lo) ≡ a = omega arith in ap (end_in other) d
+
+one_to : (rows : List Row) (r : Row) (other a : ℕ) (y : End) → rows ≡ r ∷ [] → r.span.lo ≡ 0 → r.ends ≡ end_in other 0 ∷ [] → GivenBy rows a y → end_in other a ≡ y
+one_to rows r other a y go lo ends g = by (subst (λ rs. GivenBy rs a y) go g)
+  where
+    named : Member y (moved (a - r.span.lo) (end_in other 0) ∷ []) → end_in other a ≡ y
+    named (inl e) = sym (at_end other a r.span.lo lo) ∙ e
+    named (inr h) = absurd h
+
+    by : GivenBy (r ∷ []) a y → end_in other a ≡ y
+    by (inl h) = named (subst (λ es. Member y (map (moved (a - r.span.lo)) es)) ends h.1)
+    by (inr h) = absurd h
+
+one_from : (rows : List Row) (r : Row) (other a : ℕ) → rows ≡ r ∷ [] → r.span.lo ≡ 0 → r.span.hi ≡ TOP → r.ends ≡ end_in other 0 ∷ [] → a ≤ TOP → GivenBy rows a (end_in other a)
+one_from rows r other a go lo hi ends low =
+    let named : Member (end_in other a) (map (moved (a - r.span.lo)) r.ends) = subst (λ es. Member (end_in other a) (map (moved (a - r.span.lo)) es)) (sym ends) (inl (at_end other a r.span.lo lo)) in
+    subst (λ rs. GivenBy rs a (end_in other a)) (sym go) (inl (in_from r.span a (omega arith) (omega arith), named))
+
+cases_le : (m n : ℕ) → (m < n) ⊎ (n ≤ m)
+cases_le m n = grind arith
+
+module _ (net : List NodeDecl) (legal : IsLegalNet net) (node other : ℕ) (reach : Reach) (is : IsReach net 1 node reach) (led : IsLedTo other reach) where
+  abbrev here : ℕ → Name
+  here a = record { node = node; addr = a }
+
+  abbrev there : ℕ → Name
+  there a = record { node = other; addr = a }
+
+  step_to : (a : ℕ) (z : Name) → a ≤ TOP → Step net (here a) z → there a ≡ z
+  step_to a z low s = ap name_of_end (one_to reach.go led.row other a (end_of z) led.go led.lo led.ends ((is.go.exact a (end_of z) low).0 (z, s, refl)))
+
+  step_from : (a : ℕ) → a ≤ TOP → Step net (here a) (there a)
+  step_from a low =
+      let c : GoesIn net 1 node a (end_in other a) = (is.go.exact a (end_in other a) low).1 (one_from reach.go led.row other a led.go led.lo led.hi led.ends low) in
+      subst (λ w. Step net (here a) w) c.2 c.1
+
+  module _ (passes : Name → Bool) (a : ℕ) (y : End) (low : a ≤ TOP) (nothing : EndsBefore net passes 1 node a y → ⊥) where
+    on : Ends (steps net) passes step_limit (there a) (name_of_end y) → Ends (steps net) passes step_limit (here a) (name_of_end y)
+    on h = by (cases_le h.1.0 65)
+      where
+        by : (h.1.0 < 65) ⊎ (65 ≤ h.1.0) → Ends (steps net) passes step_limit (here a) (name_of_end y)
+        by (inl l) = let e : step_limit ≡ 65 = limit_is in (h.0, (suc h.1.0, omega arith, (there a, step_from a low, h.1.2)))
+        by (inr l) =
+            let e : step_limit ≡ 65 = limit_is in
+            let f = chain_front (Step net) step_limit h.1.0 (there a) (name_of_end y) (omega arith) h.1.2 in
+            absurd (legal.walks.shallow (there a) f.0 f.1)
+
+    back : (k : ℕ) → k ≤ step_limit → IsTrue (passes (name_of_end y)) → IsChain (Step net) k (here a) (name_of_end y) → Ends (steps net) passes step_limit (there a) (name_of_end y)
+    back zero l p c = absurd (nothing (p, (0, omega arith, c)))
+    back (suc k) l p c = (p, (k, omega arith, subst (λ w. IsChain (Step net) k w (name_of_end y)) (sym (step_to a c.0 low c.1)) c.2))
+
+    led_ends : Ends (steps net) passes step_limit (there a) (name_of_end y) ↔ Ends (steps net) passes step_limit (here a) (name_of_end y)
+    led_ends = (on, (λ h. back h.1.0 h.1.1 h.0 h.1.2))
+
+  pub same_flat : (flat : Flat) → IsFlat net other flat → IsFlat net node flat
+  same_flat flat f =
+      let accepts = normal_like (ResolvesFrom net other) (ResolvesFrom net node) flat.accepts (λ a y t. led_ends (is_accepted net) a y t (none_given (EndsBefore net (is_accepted net) 1 node) reach.done.accepts led.accepts is.done.accepts a y t)) f.accepts in
+      let stops = normal_like (StopsFrom net other) (StopsFrom net node) flat.stops (λ a y t. led_ends (is_stop net) a y t (none_given (EndsBefore net (is_stop net) 1 node) reach.done.stops led.stops is.done.stops a y t)) f.stops in
+      flat_is net node flat accepts stops
+
+-- one node more
+
+none_at : (net : List NodeDecl) (m : ℕ) (flat : Flat) → ◌≡◌ {A = Option Flat} (slice_get [] m) (Some flat) → IsFlat net m flat
+none_at net zero flat e = cc
+none_at net (suc m) flat e = cc
+
+pub none_below : (net : List NodeDecl) → AreFlatsBelow net 0 []
+none_below net = record { every = refl; each = none_at net }
+
+pub one_below : (net : List NodeDecl) (node : ℕ) (flats : List Flat) (flat : Flat) → AreFlatsBelow net node flats → IsFlat net node flat → AreFlatsBelow net (node + 1) (flats ++ flat ∷ [])
+one_below net node flats flat below is = record {
+  every = length_pushed flats flat node below.every;
+  each = each_pushed (IsFlat net) flats flat below.each (subst (λ n. IsFlat net n flat) (sym below.every) is);
+}
+
+pub shared_below : (net : List NodeDecl) → IsLegalNet net → (nodes : List Reach) → AreReaches net 1 nodes → (node other : ℕ) → node < length net → other < node → ((reach : Reach) → slice_get nodes node ≡ Some reach → IsLedTo other reach) → (flats new : List Flat) → AreFlatsBelow net node flats → ((flat : Flat) → slice_get flats other ≡ Some flat → new ≡ flats ++ flat ∷ []) → AreFlatsBelow net (node + 1) new
+shared_below net legal nodes are node other l m led flats new below is =
+    let every : length flats ≡ node = below.every in
+    let all : length nodes ≡ length net = are.every in
+    let at = slice_get-get_or flats other no_flat (omega arith) in
+    let from = slice_get-get_or nodes node (record { done = no_flat; go = [] }) (omega arith) in
+    subst (AreFlatsBelow net (node + 1)) (sym (is _ at)) (one_below net node flats _ below (same_flat net legal node other _ (are.each node _ from) (led _ from) _ (below.each other _ at)))

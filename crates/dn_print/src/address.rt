@@ -1,0 +1,55 @@
+//! The text of an address.
+
+ghost use Rattle.std.specs.Prelude.{◌≡◌, ◌≤◌, ◌<◌, ◌++◌, drop, false, OnOk, IsAscii};
+ghost use Rattle.std.specs.Fmt.{digits, digit_glyph};
+ghost use Rattle.std.specs.String.{string_bytes};
+ghost use Rattle.dn_print.specs.Names.{address_text};
+
+use crate::OutOfMemory;
+use std::str::from_utf8_unchecked;
+
+/// Room for the digits of a number.
+const ROOM: usize = 64;
+
+/// Appends an address, `0x` and its digits in hexadecimal, to a text that is given up for want of
+/// memory. As `write!` would, and several times as fast.
+pub(crate) fn write_address(out: &mut String, addr: u64) -> Result<(), OutOfMemory>
+    ensures { OnOk result (string_bytes out.new ≡ string_bytes out.old ++ address_text addr) }
+{
+    let mut room = [0; ROOM];
+    let start = encode(addr, &mut room);
+    out.push_str("0x")?;
+    out.push_str(unsafe { from_utf8_unchecked(&room[start..]) })
+}
+
+/// Writes the digits of a number to the end of the room, and answers where they begin.
+fn encode(number: u64, room: &mut [u8; ROOM]) -> usize
+    ensures within { result ≤ 64 }
+    ensures digits { drop result room.new ≡ digits 16 false number }
+    ensures ascii { IsAscii (digits 16 false number) }
+{
+    let mut place = ROOM;
+    let mut rest = number;
+    while place > 0 {
+        place -= 1;
+        room[place] = glyph(rest % 16);
+        rest /= 16;
+        if rest == 0 {
+            break;
+        }
+    }
+    place
+}
+
+/// A digit, as it is printed.
+fn glyph(digit: u64) -> u8
+    requires { digit < 16 }
+    ensures { result ≡ digit_glyph false digit }
+{
+    let low = digit as u8;
+    if low < 10 {
+        b'0' + low
+    } else {
+        b'a' + (low - 10)
+    }
+}
