@@ -1,45 +1,7 @@
 -- Full names: words that are not reserved, each with or without an index, joined by dots.
-use Rattle.std.proofs.Common.{◌≡◌, ◌∙◌, ap, sym, refl, ℕ, ◌<◌, ◌^◌, true, List, [], ◌∷◌, ◌++◌, map, codes, Option, Some, None, IsTrue, append_assoc, append-nil}
-use Rattle.std.specs.Fmt.{decimal}
-use Rattle.std.specs.List.{list_all}
-use Rattle.dn_token.specs.Token.{word, word_lexeme, is_letter, is_word_byte}
+use Rattle.std.proofs.Common.{◌≡◌, ◌∙◌, ap, sym, refl, ℕ, List, [], ◌∷◌, ◌++◌, map, codes, append_assoc, append-nil}
 use Rattle.dn_module.specs.Values.{after_dots}
-
--- a word that is not reserved
-abbrev pub Title : List ℕ → Type 0
-Title [] = ⊥
-Title (b ∷ w) = (is_letter b ≡ true) × IsTrue (list_all is_word_byte w) × (word_lexeme (b ∷ w) ≡ word (b ∷ w))
-
--- a part of a full name
-pub record Label : Type 0 where
-  pub title : List ℕ
-  pub index : Option ℕ
-
-abbrev pub label_by : List ℕ → Option ℕ → List ℕ
-label_by w None = w
-label_by w (Some n) = w ++ (codes "[" ++ (decimal n ++ codes "]"))
-
-abbrev pub label_text : Label → List ℕ
-label_text l = label_by l.title l.index
-
-abbrev pub IsSmall : Option ℕ → Type 0
-IsSmall None = Unit {0}
-IsSmall (Some n) = n < 2 ^ 64
-
-abbrev pub IsLabel : Label → Type 0
-IsLabel l = Title l.title × IsSmall l.index
-
-abbrev pub AreLabels : List Label → Type 0
-AreLabels [] = Unit {0}
-AreLabels (l ∷ ls) = IsLabel l × AreLabels ls
-
--- a full name is one part or more
-pub record IsFull (text : List ℕ) : Type 0 where
-  pub first : Label
-  pub more : List Label
-  pub one : IsLabel first
-  pub all : AreLabels more
-  pub is : text ≡ label_text first ++ after_dots (map label_text more)
+pub use Rattle.dn_print.specs.Spelled.{Title, Label, label_by, label_text, IsSmall, IsLabel, AreLabels, IsFull}
 
 -- the full name of one part
 pub full_one : (l : Label) → IsLabel l → IsFull (label_text l)

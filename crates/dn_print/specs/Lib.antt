@@ -3,3 +3,5 @@ pub mod Rows
 pub mod Statement
 pub mod ReadBack
 pub mod Dump
+pub mod Spelled
+pub mod Printable

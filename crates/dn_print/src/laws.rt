@@ -1,5 +1,6 @@
 //! The law that ties the printed net to the reading.
 
+ghost use Rattle.dn_print.specs.Printable.{PrintableIsReadBack, TextsArePrintable};
 ghost use Rattle.dn_print.specs.ReadBack.{ReadBack};
 
 /// The text of a net that came of a text is read and expanded to that net, with no commands, where
@@ -8,4 +9,18 @@ ghost use Rattle.dn_print.specs.ReadBack.{ReadBack};
 /// It holds where the printed text is no longer than a text may be, 4,194,304 bytes.
 pub fn printed_net_is_read_back()
     ensures { ReadBack }
+{}
+
+/// A net that came of a text is printable: what it is, by the net alone, for its text to be read
+/// back.
+pub fn net_of_a_text_is_printable()
+    ensures { TextsArePrintable }
+{}
+
+/// The text of a printable net is read and expanded to that net, with no commands, where the same
+/// kinds of units are known.
+///
+/// It holds where the printed text is no longer than a text may be, 4,194,304 bytes.
+pub fn printable_net_is_read_back()
+    ensures { PrintableIsReadBack }
 {}

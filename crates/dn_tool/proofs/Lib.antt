@@ -4,6 +4,7 @@ pub mod Endings
 pub mod Inputs
 pub mod NodeFaults
 pub mod Refusals
+pub mod Reread
 pub mod Reshaped
 pub mod Shaped
 pub mod WalkFaults

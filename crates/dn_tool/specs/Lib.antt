@@ -13,3 +13,4 @@ pub mod Answer
 pub mod Halt
 pub mod Platform
 pub mod Reshape
+pub mod Reread

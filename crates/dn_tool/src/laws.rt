@@ -1,6 +1,8 @@
-//! Laws on scripts, each the contract of a function that does nothing.
+//! Laws on scripts and on the nets that commands make, each the contract of a function that does
+//! nothing.
 
 ghost use Rattle.dn_tool.specs.Books.{BooksStayFaithful, FaithfulImageGivesOwed};
+ghost use Rattle.dn_tool.specs.Reread.{AbsorbIsReadBack, CompiledIsReadBack, SplitIsReadBack};
 
 /// The book after each number of the turns of a script over a legal net is sound and faithful.
 pub fn books_stay_faithful()
@@ -10,4 +12,22 @@ pub fn books_stay_faithful()
 /// The image of the tables of a sound and faithful book gives what the book owes.
 pub fn faithful_image_gives_owed()
     ensures { FaithfulImageGivesOwed }
+{}
+
+/// The net that splitting makes of a printable legal net is printable: its text, which `split`
+/// prints below its heading, is read and expanded to that net where it is no longer than a text
+/// may be, 4,194,304 bytes.
+pub fn split_net_is_read_back()
+    ensures { SplitIsReadBack }
+{}
+
+/// The same of the net that absorbing a node of a printable legal net makes.
+pub fn absorbed_net_is_read_back()
+    ensures { AbsorbIsReadBack }
+{}
+
+/// The net of a text that breaks no rule is read back so, and so is each net that `split` and
+/// `absorb` make of it.
+pub fn compiled_net_is_read_back()
+    ensures { CompiledIsReadBack }
 {}
