@@ -1,5 +1,5 @@
 -- The records of an image that let an access through are those of its tables that allow it.
-use Rattle.std.proofs.Common.{◌≡◌, ℕ, zero, suc, ◌+◌, ◌*◌, ◌<◌, ◌≤◌, ◌==◌, ◌&&◌, Bool, true, false, if◌then◌else◌, List, [], ◌∷◌, ◌++◌, length, take, drop, replicate, slice_get, Option, Some, None, Result, Ok, Err, refl, sym, ap, ◌∙◌, arith, length-drop, length-append, suc-mul}
+use Rattle.std.proofs.Common.{◌≡◌, ℕ, zero, suc, ◌+◌, ◌*◌, ◌<◌, ◌≤◌, ◌==◌, ◌&&◌, Bool, true, false, if◌then◌else◌, List, [], ◌∷◌, ◌++◌, length, take, drop, replicate, slice_get, Option, Some, None, Result, Ok, Err, IfOk, refl, sym, ap, ◌∙◌, arith, length-drop, length-append, suc-mul}
 use Rattle.std.specs.Option.{option_map}
 use Rattle.std.specs.List.{All}
 use Rattle.std.proofs.lemmas.List.{length-replicate, length-take-le}
@@ -135,18 +135,17 @@ pub records_served : (net : List NodeDecl) (kinds : List Meaning) (bytes : List 
 records_served net kinds bytes access version lawful = (λ i node slot. slot_served net kinds bytes access node slot (record { version = version; words = image_words net kinds bytes }) (version == 1) lawful refl refl i)
 
 -- a lookup in bytes that are an image of the net
-pub looked_up : (net : List NodeDecl) (kinds : List Meaning) (bytes : List ℕ) (access : Access) (x : Name) (version : ℕ) (o : Option BrokenImage) (names : List Name) → All IsLawful kinds → is_agent_at (slice_get net x.node) ≡ true → broken_image net kinds bytes ≡ o → reading_by o (version_of bytes) ≡ Ok version → names ≡ resolved_names_under net (bytes_records net kinds bytes version access) x → lookup_of net kinds bytes access x ≡ Ok names
-looked_up net kinds bytes access x version (Some b) names lawful agent eo e found = cc
-looked_up net kinds bytes access x version None names lawful agent eo e found =
-    let same : version_of bytes ≡ version = same_ok (version_of bytes) version e in
+pub looked_up : (net : List NodeDecl) (kinds : List Meaning) (bytes : List ℕ) (access : Access) (x : Name) (version : ℕ) (names : List Name) → All IsLawful kinds → is_agent_at (slice_get net x.node) ≡ true → broken_image net kinds bytes ≡ None → version ≡ version_of bytes → names ≡ resolved_names_under net (bytes_records net kinds bytes version access) x → lookup_of net kinds bytes access x ≡ Ok names
+looked_up net kinds bytes access x version names lawful agent whole same found =
     ap (λ c. if c then looked_up_in net kinds access x (image_reading net kinds bytes) else Err no_agent) agent
-    ∙ ap (λ o. looked_up_in net kinds access x (reading_by o (record { version = version_of bytes; words = image_words net kinds bytes }))) eo
-    ∙ ap (λ n. Ok (resolved_names_under net (image_records net kinds (record { version = n; words = image_words net kinds bytes }) access) x)) same
+    ∙ ap (λ o. looked_up_in net kinds access x (reading_by o (record { version = version_of bytes; words = image_words net kinds bytes }))) whole
+    ∙ ap (λ n. Ok (resolved_names_under net (image_records net kinds (record { version = n; words = image_words net kinds bytes }) access) x)) (sym same)
     ∙ ap (λ h. Ok (resolved_names_under net h x)) (records_served net kinds bytes access version lawful)
     ∙ sym (ap Ok found)
-  where
-    same_ok : (a b : ℕ) → ◌≡◌ {A = Result ℕ BrokenImage} (Ok a) (Ok b) → a ≡ b
-    same_ok a b f = cc
+
+pub answer_looked_up : {E : Type 0} (net : List NodeDecl) (kinds : List Meaning) (bytes : List ℕ) (access : Access) (x : Name) (version : ℕ) (r : Result (List Name) E) → All IsLawful kinds → is_agent_at (slice_get net x.node) ≡ true → broken_image net kinds bytes ≡ None → version ≡ version_of bytes → IfOk r (λ names. names ≡ resolved_names_under net (bytes_records net kinds bytes version access) x) → IfOk r (λ names. lookup_of net kinds bytes access x ≡ Ok names)
+answer_looked_up net kinds bytes access x version (Ok names) lawful agent whole same found = looked_up net kinds bytes access x version names lawful agent whole same found
+answer_looked_up net kinds bytes access x version (Err e) lawful agent whole same found = tt
 
 -- a lookup in bytes that are none
 pub no_image_there : (net : List NodeDecl) (kinds : List Meaning) (bytes : List ℕ) (access : Access) (x : Name) (b : BrokenImage) (o : Option BrokenImage) → is_agent_at (slice_get net x.node) ≡ true → broken_image net kinds bytes ≡ o → reading_by o (version_of bytes) ≡ Err b → lookup_of net kinds bytes access x ≡ Err (no_image b)
@@ -159,9 +158,14 @@ no_image_there net kinds bytes access x b (Some d) agent eo e =
     same_err : (c d : BrokenImage) → ◌≡◌ {A = Result ℕ BrokenImage} (Err c) (Err d) → c ≡ d
     same_err c d f = cc
 
+-- bytes that are read are an image, and of the version that is read
 pub is_whole : (o : Option BrokenImage) (n version : ℕ) → reading_by o n ≡ Ok version → o ≡ None
 is_whole None n version e = refl
 is_whole (Some b) n version e = cc
+
+pub is_of_version : (o : Option BrokenImage) (n version : ℕ) → reading_by o n ≡ Ok version → version ≡ n
+is_of_version None n version e = cc
+is_of_version (Some b) n version e = cc
 
 -- an agent that is there has its number
 pub agent_there : (net : List NodeDecl) (i : ℕ) → is_agent_at (slice_get net i) ≡ true → i < length net

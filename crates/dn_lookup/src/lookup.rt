@@ -1,6 +1,6 @@
 //! The lookup of an agent's address.
 
-ghost use Rattle.std.specs.Prelude.{◌≡◌, ◌≢◌, ◌<◌, length, map, slice_get, IfOk, Err, IsTrue};
+ghost use Rattle.std.specs.Prelude.{◌≡◌, ◌≢◌, ◌<◌, length, map, slice_get, IfOk, Ok, Err, None, IsTrue};
 ghost use Rattle.std.specs.List.{All};
 ghost use Rattle.dn_base.specs.Answers.{Answers};
 ghost use Rattle.dn_net.specs.Decode.{is_agent_at};
@@ -8,6 +8,7 @@ ghost use Rattle.dn_net.specs.Legal.{IsLegalNet};
 ghost use Rattle.dn_kind.specs.Kind.{IsLawful};
 ghost use Rattle.dn_kind.specs.Units.{KeepsUnitShape};
 ghost use Rattle.dn_kind.specs.Levels.{are_there};
+ghost use Rattle.dn_image.specs.Reading.{broken_image, version_of};
 ghost use Rattle.dn_lookup.specs.Lookup.{lookup_fault_view, lookup_of};
 ghost use Rattle.dn_lookup.specs.declared.lookup.LookupFault.TheVariants.{OutOfMemory as no_memory, Image as no_image};
 
@@ -83,7 +84,34 @@ pub fn lookup(
     }
     let version = check(net, kinds, image)?;
     let name = Name { node: agent, addr };
-    Ok(resolve(alloc, net, kinds, image, version, access, name)?)
+    Ok(lookup_whole(alloc, net, kinds, image, version, access, name)?)
+}
+
+/// The names to which an agent's name comes for an access, in bytes that are an image of the net and
+/// of this version: [`check`] tells whether they are, and the version. It is for many lookups in one
+/// image, which are to look at its header and heads once. `Err` is want of memory.
+pub fn lookup_whole(
+    alloc: Global,
+    net: &Net,
+    kinds: &Kinds,
+    image: &[u8],
+    version: u16,
+    access: Access,
+    name: Name,
+) -> Result<Names, AllocError>
+    requires lawful { All (λ k. IsLawful (meaning (k.vtable, k.value))) kinds.now.list.items }
+    requires legal { IsLegalNet net.now }
+    requires shaped { KeepsUnitShape (map (λ k. meaning (k.vtable, k.value)) kinds.now.list.items) net.now }
+    requires whole { broken_image net.now (map (λ k. meaning (k.vtable, k.value)) kinds.now.list.items) image.now
+        ≡ None }
+    requires version { version ≡ version_of image.now }
+    requires agent { IsTrue (is_agent_at (slice_get net.now name.node)) }
+    ensures exact { IfOk result (λ names. lookup_of net.now
+        (map (λ k. meaning (k.vtable, k.value)) kinds.now.list.items) image.now access name ≡ Ok names) }
+    // Each name is in a node that is there.
+    ensures there { IfOk result (λ names. IsTrue (are_there (length net.now) names)) }
+{
+    resolve(alloc, net, kinds, image, version, access, name)
 }
 
 /// Whether a node is there, and an agent.

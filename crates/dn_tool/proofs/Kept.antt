@@ -1,5 +1,5 @@
 -- What is known of the book that is kept, for the calls that take it.
-use Rattle.std.proofs.Common.{◌≡◌, ◌∙◌, ap, subst, ℕ, List, None, Ok, IsTrue, slice_get}
+use Rattle.std.proofs.Common.{◌≡◌, ◌∙◌, ap, sym, subst, ℕ, List, None, Ok, IsTrue, slice_get}
 use Rattle.std.specs.List.{All}
 use Rattle.dn_net.specs.declared.node.Name.{Name}
 use Rattle.dn_net.specs.declared.node.NodeDecl.{NodeDecl}
@@ -9,14 +9,15 @@ use Rattle.dn_kind.specs.declared.rights.Access.{Access}
 use Rattle.dn_kind.specs.Kind.{IsLawful, Meaning}
 use Rattle.dn_kind.specs.Units.{IsLegalWith, shape_fault}
 use Rattle.dn_kind.proofs.Shapes.{shape_fault_is_first}
-use Rattle.dn_image.specs.Image.{are_filled, image}
+use Rattle.dn_image.specs.Image.{are_filled, image, written_version}
+use Rattle.dn_image.specs.Reading.{broken_image, version_of}
 use Rattle.dn_lookup.specs.Lookup.{lookup_of}
 use Rattle.dn_tables.specs.Set.{words_of}
 use Rattle.dn_book.specs.Book.{owed_names}
 use Rattle.dn_tool.specs.declared.state.State.{State as Kept}
 use Rattle.dn_tool.specs.Books.{GivesOwed, IsKeptFaithful}
 use Rattle.dn_tool.specs.State.{IsState}
-use Rattle.dn_tool.proofs.Lookups.{faithful_image_gives_owed}
+use Rattle.dn_tool.proofs.Lookups.{faithful_image_gives_owed, image_is_whole}
 
 -- a net that breaks no rule is legal with its kinds
 pub legal_with : (kinds : List Meaning) (net : List NodeDecl) → shape_fault kinds net ≡ None → IsLegalNet net → IsLegalWith kinds net
@@ -37,3 +38,9 @@ pub state_looked_up : (kinds : List Meaning) (net : List NodeDecl) (k : Kept) (b
 state_looked_up kinds net k bytes access x lawful legal s is agent =
     ap (λ (b : List ℕ). lookup_of net kinds b access x) (is ∙ ap (image net kinds) s.kept.words)
     ∙ (state_owed kinds net k lawful legal s).dumped access x agent
+
+-- and these bytes are whole, and of the version that is written
+pub state_image_whole : (kinds : List Meaning) (net : List NodeDecl) (k : Kept) (bytes : List ℕ) → IsState kinds net k → bytes ≡ image net kinds (words_of k.book.set) → (broken_image net kinds bytes ≡ None) × (written_version ≡ version_of bytes)
+state_image_whole kinds net k bytes s is =
+    let whole = image_is_whole kinds net (words_of k.book.set) s.filled in
+    (ap (broken_image net kinds) is ∙ whole.0, whole.1 ∙ sym (ap version_of is))

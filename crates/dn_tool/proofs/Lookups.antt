@@ -1,15 +1,13 @@
 -- A lookup in the image of the tables of a sound and faithful book finds what the book owes.
-use Rattle.std.proofs.Common.{◌≡◌, ◌≢◌, ◌∙◌, ap, sym, refl, ℕ, Bool, true, if◌then◌else◌, List, Result, Ok, Err, IfSome, is_ok}
+use Rattle.std.proofs.Common.{◌≡◌, ◌∙◌, ap, sym, refl, ℕ, Bool, if◌then◌else◌, List, Option, Some, None, Result, Ok, Err, IsTrue}
 use Rattle.dn_net.specs.declared.node.Name.{Name}
+use Rattle.dn_net.specs.declared.node.NodeDecl.{NodeDecl}
+use Rattle.dn_kind.specs.Kind.{Meaning}
 use Rattle.dn_kind.specs.Tables.{Held, record_held, resolved_names_under}
-use Rattle.dn_image.specs.declared.fault.ImageFault.{ImageFault}
-use Rattle.dn_image.specs.declared.fault.ImageFault.TheVariants.{Short, Header, Shape, Trailing, OutOfMemory as no_room}
-use Rattle.dn_image.specs.Image.{ImageWords, image}
-use Rattle.dn_image.specs.Reading.{image_reading}
+use Rattle.dn_image.specs.Image.{ImageWords, are_filled, image, written_version}
+use Rattle.dn_image.specs.Reading.{BrokenImage, broken_image, image_reading, image_words, reading_by, version_of}
 use Rattle.dn_image.proofs.Told.{image_is_read}
-use Rattle.dn_lookup.specs.declared.lookup.LookupFault.{LookupFault}
-use Rattle.dn_lookup.specs.declared.lookup.LookupFault.TheVariants.{NoAgent, Image, OutOfMemory}
-use Rattle.dn_lookup.specs.Lookup.{NoLookup, looked_up_in, lookup_fault_view, no_agent}
+use Rattle.dn_lookup.specs.Lookup.{NoLookup, looked_up_in, no_agent}
 use Rattle.dn_book.specs.Tables.{tables_of}
 use Rattle.dn_book.proofs.Begun.{tables_hold_records}
 use Rattle.dn_book.proofs.Owed.{owed_names_are_resolved}
@@ -32,20 +30,15 @@ faithful_image_gives_owed kinds net book lawful legal kept filled access x agent
 pub found_is : (names found : List Name) → ◌≡◌ {A = Result (List Name) NoLookup} (Ok names) (Ok found) → found ≡ names
 found_is names found e = cc
 
--- where names are found a fault is none of the image, nor of the agent
-pub no_fault_but_memory : (r : Result (List Name) NoLookup) (e : LookupFault) → is_ok r ≡ true → IfSome (lookup_fault_view e) (λ f. r ≡ Err f) → e ≢ Image no_room → e ≡ OutOfMemory
-no_fault_but_memory (Err f) e ok h m = cc
-no_fault_but_memory (Ok names) NoAgent ok h m = absurd (cc)
-no_fault_but_memory (Ok names) (Image (Short at)) ok h m = absurd (cc)
-no_fault_but_memory (Ok names) (Image (Header at)) ok h m = absurd (cc)
-no_fault_but_memory (Ok names) (Image (Shape unit)) ok h m = absurd (cc)
-no_fault_but_memory (Ok names) (Image (Trailing at)) ok h m = absurd (cc)
-no_fault_but_memory (Ok names) (Image no_room) ok h m = absurd (m refl)
-no_fault_but_memory (Ok names) OutOfMemory ok h m = refl
-
--- a fault is one of its kinds
-pub no_agent_then : (e : LookupFault) → e ≡ NoAgent → e ≡ OutOfMemory → ⊥
-no_agent_then e a b = absurd (cc)
-
-pub no_image_then : (e : LookupFault) (f : ImageFault) → e ≡ Image f → e ≡ OutOfMemory → ⊥
-no_image_then e f a b = absurd (cc)
+-- the image of tables of words of 64 bits is whole, and of the version that is written
+pub image_is_whole : (kinds : List Meaning) (net : List NodeDecl) (words : List (List ℕ)) → IsTrue (are_filled kinds net words) → (broken_image net kinds (image net kinds words) ≡ None) × (written_version ≡ version_of (image net kinds words))
+image_is_whole kinds net words filled =
+    let bytes : List ℕ = image net kinds words in
+    let i : ImageWords = record { version = written_version; words = words } in
+    let read : image_reading net kinds bytes ≡ Ok i = image_is_read net kinds bytes i (record { version = refl; filled = filled; bytes = refl }) in
+    let parts = is_read (broken_image net kinds bytes) (record { version = version_of bytes; words = image_words net kinds bytes }) i read in
+    (parts.0, sym (ap (λ (j : ImageWords). j.version) parts.1))
+  where
+    is_read : (o : Option BrokenImage) (a b : ImageWords) → reading_by o a ≡ Ok b → (o ≡ None) × (a ≡ b)
+    is_read None a b e = (refl, cc)
+    is_read (Some x) a b e = absurd (cc)

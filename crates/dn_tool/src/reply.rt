@@ -1,6 +1,6 @@
 //! The replies to the commands that change nothing, as they are printed.
 
-ghost use Rattle.std.specs.Prelude.{◌≡◌, ◌<◌, List, None, Ok, true, false, is_ok, length, map, slice_get, IfOk, IsTrue};
+ghost use Rattle.std.specs.Prelude.{◌≡◌, ◌<◌, List, None, Ok, false, length, map, slice_get, IfOk, IsTrue};
 ghost use Rattle.std.specs.List.{All};
 ghost use Rattle.std.specs.String.{string_bytes};
 ghost use Rattle.dn_net.specs.declared.node.Name.{Name as NamePart};
@@ -10,6 +10,8 @@ ghost use Rattle.dn_kind.specs.Units.{shape_fault};
 ghost use Rattle.dn_module.specs.Commands.{names_within};
 ghost use Rattle.dn_interval.specs.Listed.{seen_by};
 ghost use Rattle.dn_interval.specs.Rows.{ends_within};
+ghost use Rattle.dn_image.specs.Image.{written_version};
+ghost use Rattle.dn_image.specs.Reading.{broken_image, version_of};
 ghost use Rattle.dn_lookup.specs.Lookup.{lookup_of};
 ghost use Rattle.dn_book.specs.Book.{owed_names};
 ghost use Rattle.dn_book.specs.Tables.{IsKept};
@@ -23,10 +25,11 @@ use crate::compile::Platform;
 use crate::reshape;
 use crate::state::{State, keep_flats, keep_image};
 use dn_book::book::Book;
+use dn_image::write::VERSION;
 use dn_interval::Rows;
 use dn_kind::kinds::Kinds;
 use dn_kind::rights::Access;
-use dn_lookup::lookup::{LookupFault, lookup};
+use dn_lookup::lookup::lookup_whole;
 use dn_module::command::{Command, Target};
 use dn_net::net::Net;
 use dn_net::node::{Name, Role};
@@ -289,7 +292,7 @@ fn agent_names(
     image_names(alloc, kinds, platform, image.as_slice(), access, name)
 }
 
-/// The names to which an agent's name comes in the bytes of an image of the net.
+/// The names to which an agent's name comes in the bytes of an image that the program wrote.
 fn image_names(
     alloc: Global,
     kinds: &Kinds,
@@ -301,20 +304,17 @@ fn image_names(
     requires lawful { All (λ k. IsLawful (meaning (k.vtable, k.value))) kinds.now.list.items }
     requires shaped { shape_fault (map (λ k. meaning (k.vtable, k.value)) kinds.now.list.items) platform.now.net
         ≡ None }
-    requires found { is_ok (lookup_of platform.now.net
-        (map (λ k. meaning (k.vtable, k.value)) kinds.now.list.items) image.now access name) ≡ true }
+    requires agent { IsTrue (is_agent_at (slice_get platform.now.net name.node)) }
+    requires whole { broken_image platform.now.net
+        (map (λ k. meaning (k.vtable, k.value)) kinds.now.list.items) image.now ≡ None }
+    requires version { written_version ≡ version_of image.now }
     ensures { (names : List NamePart) → lookup_of platform.now.net
         (map (λ k. meaning (k.vtable, k.value)) kinds.now.list.items) image.now access name ≡ Ok names →
         IfOk result (λ s. string_bytes s ≡ names_text platform.now.net names) }
 {
     platform.facts();
-    let Name { node, addr } = name;
-    match lookup(alloc, &platform.net, kinds, image, node, addr, access) {
-        Ok(found) => names_of(alloc, platform, found.list()),
-        Err(LookupFault::OutOfMemory) => Err(AllocError),
-        Err(LookupFault::NoAgent) => unreachable!(),
-        Err(LookupFault::Image(_)) => unreachable!(),
-    }
+    let found = lookup_whole(alloc, &platform.net, kinds, image, VERSION, access, name)?;
+    names_of(alloc, platform, found.list())
 }
 
 /// The reply to `view`.
