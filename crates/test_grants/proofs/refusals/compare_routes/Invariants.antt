@@ -1,0 +1,14 @@
+-- The book keeps its grants from one call to the next.
+use Rattle.std.proofs.Common.{map}
+use Rattle.test_grants.specs.Desk.{IsDesk}
+use Rattle.test_grants.proofs.refusals.compare_routes.Given as goal
+
+abbrev pub invariant-loop-each : goal.invariant-loop-each
+invariant-loop-each g l =
+    let kinds = map (λ k. (goal.UnitKind-dyn g (k.vtable, k.value)).meaning k.value) l.kinds.list.items in
+    IsDesk kinds l.board.net l.desk
+
+abbrev pub invariant-loop-node : goal.invariant-loop-node
+invariant-loop-node g l =
+    let kinds = map (λ k. (goal.UnitKind-dyn g (k.vtable, k.value)).meaning k.value) l.kinds.list.items in
+    IsDesk kinds l.board.net l.desk

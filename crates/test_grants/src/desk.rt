@@ -1,0 +1,334 @@
+//! Calls on a book and its device, made where what they ask holds.
+
+ghost use Rattle.std.specs.Prelude.{◌≡◌, ◌≤◌, ◌+◌, map, slice_get, None, IfOk, IfSome, IsTrue};
+ghost use Rattle.std.specs.List.{All};
+ghost use Rattle.dn_net.specs.Decode.{is_agent_at, top};
+ghost use Rattle.dn_net.specs.Legal.{IsLegalNet};
+ghost use Rattle.dn_kind.specs.Kind.{IsLawful};
+ghost use Rattle.dn_kind.specs.Rights.{are_rights};
+ghost use Rattle.dn_kind.specs.Units.{IsLegalWith};
+ghost use Rattle.dn_flat.specs.Stages.{AreFlats};
+ghost use Rattle.dn_placement.specs.Order.{IsFirst};
+ghost use Rattle.dn_book.specs.Book.{slots_of};
+ghost use Rattle.dn_book.specs.Tables.{IsKept};
+ghost use Rattle.test_grants.specs.Desk.{IsBoard, IsDesk};
+
+use bitflags::Flags;
+use dn_base::OutOfMemory;
+use dn_base::device::MakeFault;
+use dn_base::memory_tables::MemTables;
+use dn_book::book::{Book, CommitFault, RevokeFault};
+use dn_book::grant::Grant;
+use dn_flat::flats::{Flats, flatten_all};
+use dn_grant::fault::GrantFault;
+use dn_grant::grant::grant;
+use dn_grant::refusal::refusal;
+use dn_interval::Rows;
+use dn_kind::kinds::Kinds;
+use dn_kind::rights::{Access, Rights};
+use dn_net::names::Names;
+use dn_net::net::Net;
+use dn_net::node::{Name, TOP};
+use dn_place::first::first;
+use dn_placement::request::Request;
+use dn_placement::roles::is_agent;
+use dn_tables::placement::Placement;
+use dn_vector::fault::RouteFault;
+use dn_vector::route::route;
+use dn_view::resolve::resolve;
+use dn_view::view::view;
+use dn_walk::walks::walks;
+use std::alloc::Global;
+use test_plans::Unmade;
+
+/// A net, and what each node of it sees.
+#[derive(Drop)]
+pub struct Board {
+    pub net: Net,
+    pub flats: Flats,
+}
+
+/// A book of grants, and the device that has its tables.
+#[derive(Drop)]
+pub struct Desk {
+    pub book: Book,
+    pub device: MemTables,
+}
+
+/// The net with what its nodes see.
+pub fn board_of(alloc: Global, kinds: &Kinds, net: Net) -> Result<Board, Unmade>
+    requires { IsLegalWith (map (λ k. meaning (k.vtable, k.value)) kinds.now.list.items) net }
+    ensures { IfOk result (IsBoard (map (λ k. meaning (k.vtable, k.value)) kinds.now.list.items)) }
+{
+    let flats = flats_of(alloc, &net)?;
+    Ok(Board { net, flats })
+}
+
+/// What each node of a net sees.
+fn flats_of(alloc: Global, net: &Net) -> Result<Flats, Unmade>
+    requires { IsLegalNet net.now }
+    ensures { IfOk result (AreFlats net.now) }
+{
+    let walks = walks(alloc, net)?;
+    Ok(flatten_all(alloc, net, &walks)?)
+}
+
+impl Desk {
+    /// A book of no grant over a device that has room for so many events and fails at these calls.
+    pub fn make(
+        alloc: Global,
+        board: &Board,
+        kinds: &Kinds,
+        room: u32,
+        failing: &[u32],
+    ) -> Result<Result<Desk, MakeFault>, Unmade>
+        requires lawful { All (λ k. IsLawful (meaning (k.vtable, k.value))) kinds.now.list.items }
+        requires board { IsBoard (map (λ k. meaning (k.vtable, k.value)) kinds.now.list.items) board.now }
+        ensures { IfOk result (λ made. IfOk made (IsDesk
+            (map (λ k. meaning (k.vtable, k.value)) kinds.now.list.items) board.now.net)) }
+    {
+        let mut device = MemTables::new(alloc, room, failing.to_vec(alloc)?)?;
+        match Book::make(alloc, &board.net, kinds, &mut device) {
+            Ok(book) => Ok(Ok(Desk { book, device })),
+            Err(fault) => Ok(Err(fault)),
+        }
+    }
+
+    /// Grants a request. `None`, and nothing is done, where the book is not sound or the rights are none.
+    pub fn grant(
+        &mut self,
+        alloc: Global,
+        board: &Board,
+        kinds: &Kinds,
+        id: u32,
+        request: &Request,
+    ) -> Option<Result<u64, GrantFault>>
+        requires lawful { All (λ k. IsLawful (meaning (k.vtable, k.value))) kinds.now.list.items }
+        requires board { IsBoard (map (λ k. meaning (k.vtable, k.value)) kinds.now.list.items) board.now }
+        requires desk { IsDesk (map (λ k. meaning (k.vtable, k.value)) kinds.now.list.items)
+            board.now.net self.old }
+        ensures { IsDesk (map (λ k. meaning (k.vtable, k.value)) kinds.now.list.items)
+            board.now.net self.new }
+    {
+        if !self.book.is_sound() || !are_rights(request.rights) {
+            return None;
+        }
+        Some(grant(
+            alloc,
+            &mut self.book,
+            &board.net,
+            &board.flats,
+            kinds,
+            id,
+            request,
+            &mut self.device,
+        ))
+    }
+
+    /// Routes a line of an agent to a vector of a node. `None`, and nothing is done, where the book is not sound.
+    pub fn route(
+        &mut self,
+        alloc: Global,
+        board: &Board,
+        kinds: &Kinds,
+        id: u32,
+        agent: u16,
+        line: u64,
+        node: u16,
+    ) -> Option<Result<u64, RouteFault>>
+        requires lawful { All (λ k. IsLawful (meaning (k.vtable, k.value))) kinds.now.list.items }
+        requires board { IsBoard (map (λ k. meaning (k.vtable, k.value)) kinds.now.list.items) board.now }
+        requires desk { IsDesk (map (λ k. meaning (k.vtable, k.value)) kinds.now.list.items)
+            board.now.net self.old }
+        ensures { IsDesk (map (λ k. meaning (k.vtable, k.value)) kinds.now.list.items)
+            board.now.net self.new }
+    {
+        if !self.book.is_sound() {
+            return None;
+        }
+        Some(route(
+            alloc,
+            &mut self.book,
+            &board.net,
+            &board.flats,
+            kinds,
+            id,
+            agent,
+            line,
+            node,
+            &mut self.device,
+        ))
+    }
+
+    /// Revokes the grant of an id. `None`, and nothing is done, where the book is not sound.
+    pub fn revoke(
+        &mut self,
+        board: &Board,
+        kinds: &Kinds,
+        id: u32,
+    ) -> Option<Result<(), RevokeFault>>
+        requires lawful { All (λ k. IsLawful (meaning (k.vtable, k.value))) kinds.now.list.items }
+        requires board { IsBoard (map (λ k. meaning (k.vtable, k.value)) kinds.now.list.items) board.now }
+        requires desk { IsDesk (map (λ k. meaning (k.vtable, k.value)) kinds.now.list.items)
+            board.now.net self.old }
+        ensures { IsDesk (map (λ k. meaning (k.vtable, k.value)) kinds.now.list.items)
+            board.now.net self.new }
+    {
+        if !self.book.is_sound() {
+            return None;
+        }
+        Some(self.book.revoke(&board.net, kinds, id, &mut self.device))
+    }
+
+    /// Commits the grant of a request at its first admissible placement. `None`, and nothing is done, where the book
+    /// is not sound, or the request is refused or has no placement.
+    pub fn commit(
+        &mut self,
+        alloc: Global,
+        board: &Board,
+        kinds: &Kinds,
+        id: u32,
+        request: &Request,
+    ) -> Result<Option<Result<(), CommitFault>>, Unmade>
+        requires lawful { All (λ k. IsLawful (meaning (k.vtable, k.value))) kinds.now.list.items }
+        requires board { IsBoard (map (λ k. meaning (k.vtable, k.value)) kinds.now.list.items) board.now }
+        requires desk { IsDesk (map (λ k. meaning (k.vtable, k.value)) kinds.now.list.items)
+            board.now.net self.old }
+        ensures { IsDesk (map (λ k. meaning (k.vtable, k.value)) kinds.now.list.items)
+            board.now.net self.new }
+    {
+        if !self.book.is_sound() || !are_rights(request.rights) {
+            return Ok(None);
+        }
+        if let Some(_why) = refusal(&self.book, &board.net, id, request) {
+            return Ok(None);
+        }
+        let Some(placement) = first_beside(alloc, board, kinds, &self.book, request)? else {
+            return Ok(None);
+        };
+        let grant = Grant {
+            id,
+            request: *request,
+            placement,
+        };
+        Ok(Some(
+            self.book
+                .commit(alloc, &board.net, kinds, grant, &mut self.device),
+        ))
+    }
+
+    /// The first admissible placement of a request, at an address of its agent where one is given. `Unformed`
+    /// where the request has no agent, no rights or no buffer.
+    pub fn first(
+        &self,
+        alloc: Global,
+        board: &Board,
+        kinds: &Kinds,
+        request: &Request,
+        at: Option<u64>,
+    ) -> Result<Option<Placement>, Unmade>
+        requires lawful { All (λ k. IsLawful (meaning (k.vtable, k.value))) kinds.now.list.items }
+        requires board { IsBoard (map (λ k. meaning (k.vtable, k.value)) kinds.now.list.items) board.now }
+        requires desk { IsDesk (map (λ k. meaning (k.vtable, k.value)) kinds.now.list.items)
+            board.now.net self.now }
+    {
+        if !is_agent(&board.net, request.agent) || !is_formed(request) {
+            return Err(Unmade::Unformed);
+        }
+        let tables = self.book.tables();
+        Ok(first(alloc, &board.net, &board.flats, kinds, tables, request, at)?)
+    }
+
+    /// What a name resolves to for an access under the tables. `Unformed` where its node is not there.
+    pub fn resolved(
+        &self,
+        alloc: Global,
+        board: &Board,
+        kinds: &Kinds,
+        name: Name,
+        access: Access,
+    ) -> Result<Names, Unmade>
+        requires lawful { All (λ k. IsLawful (meaning (k.vtable, k.value))) kinds.now.list.items }
+        requires board { IsBoard (map (λ k. meaning (k.vtable, k.value)) kinds.now.list.items) board.now }
+        requires desk { IsDesk (map (λ k. meaning (k.vtable, k.value)) kinds.now.list.items)
+            board.now.net self.now }
+    {
+        if name.node >= board.net.nodes() {
+            return Err(Unmade::Unformed);
+        }
+        let tables = self.book.tables();
+        Ok(resolve(alloc, &board.net, kinds, tables, name, access)?)
+    }
+
+    /// What a node sees for an access under the tables. `Unformed` where it is not there.
+    pub fn seen(
+        &self,
+        alloc: Global,
+        board: &Board,
+        kinds: &Kinds,
+        node: u16,
+        access: Access,
+    ) -> Result<Rows, Unmade>
+        requires lawful { All (λ k. IsLawful (meaning (k.vtable, k.value))) kinds.now.list.items }
+        requires board { IsBoard (map (λ k. meaning (k.vtable, k.value)) kinds.now.list.items) board.now }
+        requires desk { IsDesk (map (λ k. meaning (k.vtable, k.value)) kinds.now.list.items)
+            board.now.net self.now }
+    {
+        if node >= board.net.nodes() {
+            return Err(Unmade::Unformed);
+        }
+        let tables = self.book.tables();
+        Ok(view(alloc, &board.net, &board.flats, kinds, tables, node, access)?)
+    }
+}
+
+/// The first admissible placement of a request in the slots as a sound book leaves them.
+fn first_beside(
+    alloc: Global,
+    board: &Board,
+    kinds: &Kinds,
+    book: &Book,
+    request: &Request,
+) -> Result<Option<Placement>, OutOfMemory>
+    requires lawful { All (λ k. IsLawful (meaning (k.vtable, k.value))) kinds.now.list.items }
+    requires board { IsBoard (map (λ k. meaning (k.vtable, k.value)) kinds.now.list.items) board.now }
+    requires kept { IsKept board.now.net
+        (map (λ k. meaning (k.vtable, k.value)) kinds.now.list.items) book.now.grants book.now.set }
+    requires agent { IsTrue (is_agent_at (slice_get board.now.net request.now.agent)) }
+    requires rights { IsTrue (are_rights request.now.rights) }
+    requires some { 1 ≤ request.now.size }
+    requires buffer { request.now.base + request.now.size ≤ top + 1 }
+    ensures { IfOk result (λ found. IfSome found (λ p. IsFirst board.now.net
+        (slots_of board.now.net book.now.grants) request.now None p)) }
+{
+    let tables = book.tables();
+    tables.facts();
+    first(
+        alloc,
+        &board.net,
+        &board.flats,
+        kinds,
+        tables,
+        request,
+        None,
+    )
+}
+
+/// Whether a request has rights, and a buffer that ends at the last address or before.
+fn is_formed(request: &Request) -> bool
+    ensures rights { IsTrue result → IsTrue (are_rights request.now.rights) }
+    ensures some { IsTrue result → 1 ≤ request.now.size }
+    ensures buffer { IsTrue result → request.now.base + request.now.size ≤ top + 1 }
+{
+    are_rights(request.rights)
+        && request.size >= 1
+        && request.base <= TOP
+        && request.size <= TOP + 1 - request.base
+}
+
+/// Whether rights are those of a record: one access, or both.
+fn are_rights(rights: Rights) -> bool
+    ensures { result ≡ are_rights rights }
+{
+    1 <= rights.bits() && rights.bits() <= 3
+}

@@ -1,0 +1,192 @@
+//! Each call of the device failed in turn: what the book and the device are left with.
+
+ghost use Rattle.std.specs.Prelude.{map};
+ghost use Rattle.std.specs.List.{All};
+ghost use Rattle.dn_kind.specs.Kind.{IsLawful};
+ghost use Rattle.test_grants.specs.Desk.{IsBoard, IsDesk};
+
+use crate::boards::{chain_board, row_board, vector_board};
+use crate::commands::{CHAINS, Choice, Command, Dice, LINES, Outcome, ROWS, made};
+use crate::desk::{Board, Desk};
+use crate::records::{Asked, asked_of, views_of};
+use crate::search::{held_of, taken_of};
+use dn_base::device::{MakeFault, TableEvent};
+use dn_kind::kinds::Kinds;
+use dn_net::names::Names;
+use std::alloc::Global;
+use std::process::Abort;
+use std::test::Fail;
+use test_plans::program_kinds;
+
+/// A command with what comes of it where no call fails, and to what the agents' names resolve behind it.
+#[derive(Drop)]
+struct Turn {
+    command: Command,
+    outcome: Option<Outcome>,
+    views: Vec<Names>,
+}
+
+/// Commands in a row, with all events of the device.
+#[derive(Drop)]
+struct Script {
+    asked: Vec<Asked>,
+    /// To what the agents' names resolve in the net alone.
+    views: Vec<Names>,
+    turns: Vec<Turn>,
+    events: Vec<TableEvent>,
+}
+
+/// So many commands that look random, over a device that does not fail.
+fn script_of(
+    alloc: Global,
+    kinds: &Kinds,
+    board: &Board,
+    choice: Choice,
+    seed: u64,
+) -> Result<Script, Fail>
+    requires lawful { All (λ k. IsLawful (meaning (k.vtable, k.value))) kinds.now.list.items }
+    requires board { IsBoard (map (λ k. meaning (k.vtable, k.value)) kinds.now.list.items) board.now }
+{
+    let mut desk = Desk::make(alloc, board, kinds, 1000, &[])??;
+    let asked = asked_of(alloc, &board.net, choice.most)?;
+    let views = views_of(alloc, &board.net, &[], asked.as_slice())?;
+    let mut dice = Dice::new(seed);
+    let mut turns = Vec::new(alloc);
+    for _ in 0..30 {
+        let command = dice.command(choice);
+        let outcome = made(alloc, kinds, board, &mut desk, command);
+        let taken = taken_of(alloc, &board.net, &desk.book)?;
+        let held = held_of(alloc, taken.as_slice())?;
+        let views = views_of(alloc, &board.net, held.as_slice(), asked.as_slice())?;
+        turns.push(Turn {
+            command,
+            outcome,
+            views,
+        })?;
+    }
+    Ok(Script {
+        asked,
+        views,
+        turns,
+        events: desk.device.log().to_vec(alloc)?,
+    })
+}
+
+/// Compares what the tables give with what stood before a command and behind it: each name of an agent resolves
+/// for each access as at one of the two.
+fn compare_tables(
+    rt: &impl Abort,
+    alloc: Global,
+    kinds: &Kinds,
+    board: &Board,
+    desk: &Desk,
+    asked: &[Asked],
+    before: &[Names],
+    after: &[Names],
+) -> Result<(), Fail>
+    requires lawful { All (λ k. IsLawful (meaning (k.vtable, k.value))) kinds.now.list.items }
+    requires board { IsBoard (map (λ k. meaning (k.vtable, k.value)) kinds.now.list.items) board.now }
+    requires desk { IsDesk (map (λ k. meaning (k.vtable, k.value)) kinds.now.list.items)
+        board.now.net desk.now }
+{
+    for ((each, before), after) in asked.iter().zip(before.iter()).zip(after.iter()) {
+        let given = desk.resolved(alloc, board, kinds, each.name, each.access)?;
+        let names = given.list();
+        assert!(rt; names == before.list() || names == after.list());
+    }
+    Ok(())
+}
+
+/// Makes the commands of a script on a book until the device fails one. Answers whether it failed one.
+fn play(
+    rt: &impl Abort,
+    alloc: Global,
+    kinds: &Kinds,
+    board: &Board,
+    desk: &mut Desk,
+    script: &Script,
+) -> Result<bool, Fail>
+    requires lawful { All (λ k. IsLawful (meaning (k.vtable, k.value))) kinds.now.list.items }
+    requires board { IsBoard (map (λ k. meaning (k.vtable, k.value)) kinds.now.list.items) board.now }
+    requires desk { IsDesk (map (λ k. meaning (k.vtable, k.value)) kinds.now.list.items)
+        board.now.net desk.old }
+{
+    let asked = script.asked.as_slice();
+    let mut before = script.views.as_slice();
+    for turn in &script.turns {
+        let after = turn.views.as_slice();
+        let outcome = made(alloc, kinds, board, desk, turn.command);
+        if outcome == Some(Outcome::Failed) {
+            assert!(rt; !desk.book.is_sound());
+            compare_tables(rt, alloc, kinds, board, desk, asked, before, after)?;
+            return Ok(true);
+        }
+        assert!(rt; outcome == turn.outcome);
+        before = after;
+    }
+    Ok(false)
+}
+
+/// Makes the commands of a script over a device that fails at one call: what it was told before is what it is told
+/// where no call fails. Answers whether a call failed.
+fn stops(
+    rt: &impl Abort,
+    alloc: Global,
+    kinds: &Kinds,
+    board: &Board,
+    script: &Script,
+    call: u32,
+) -> Result<bool, Fail>
+    requires lawful { All (λ k. IsLawful (meaning (k.vtable, k.value))) kinds.now.list.items }
+    requires board { IsBoard (map (λ k. meaning (k.vtable, k.value)) kinds.now.list.items) board.now }
+{
+    match Desk::make(alloc, board, kinds, 1000, &[call])? {
+        Err(fault) => {
+            assert!(rt; fault == MakeFault::Device);
+            Ok(true)
+        }
+        Ok(mut desk) => {
+            let is_stopped = play(rt, alloc, kinds, board, &mut desk, script)?;
+            let events = script.events.as_slice();
+            let done = (call as usize).min(events.len());
+            assert!(rt; desk.device.log() == &events[..done]);
+            Ok(is_stopped)
+        }
+    }
+}
+
+/// Fails each call that the commands of a script make, the first, the second and so on, until none is left.
+fn fail_each(
+    rt: &impl Abort,
+    alloc: Global,
+    kinds: &Kinds,
+    board: &Board,
+    choice: Choice,
+    seed: u64,
+) -> Result<(), Fail>
+    requires lawful { All (λ k. IsLawful (meaning (k.vtable, k.value))) kinds.now.list.items }
+    requires board { IsBoard (map (λ k. meaning (k.vtable, k.value)) kinds.now.list.items) board.now }
+{
+    let script = script_of(alloc, kinds, board, choice, seed)?;
+    for call in 0..1000u32 {
+        if !stops(rt, alloc, kinds, board, &script, call)? {
+            assert!(rt; call as usize == script.events.len());
+            assert!(rt; call >= 10);
+            return Ok(());
+        }
+    }
+    assert!(rt; false, "a call that is not reached fails");
+    Ok(())
+}
+
+#[test]
+fn leaves_each_address_as_before_a_command_or_after_it(rt: HostRuntime) -> Result<(), Fail> {
+    let alloc = rt.alloc();
+    let kinds = program_kinds!(alloc);
+    let board = row_board(alloc, &kinds)?;
+    fail_each(&rt, alloc, &kinds, &board, ROWS, 3)?;
+    let board = chain_board(alloc, &kinds)?;
+    fail_each(&rt, alloc, &kinds, &board, CHAINS, 3)?;
+    let board = vector_board(alloc, &kinds)?;
+    fail_each(&rt, alloc, &kinds, &board, LINES, 1)
+}
