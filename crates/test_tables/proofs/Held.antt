@@ -1,12 +1,15 @@
 -- Slots of a set that has the units of a net.
-use Rattle.std.proofs.Common.{◌≡◌, ◌∙◌, ap, sym, subst, refl, ℕ, zero, suc, ◌+◌, ◌-◌, ◌*◌, ◌/◌, ◌<◌, ◌≤◌, ◌==◌, List, [], ◌∷◌, map, length, take, drop, replicate, slice_get, Option, Some, None, option_map, is_some, true, IsTrue, arith}
+use Rattle.std.proofs.Common.{◌≡◌, ◌∙◌, ap, sym, subst, refl, ℕ, zero, suc, ◌+◌, ◌-◌, ◌*◌, ◌/◌, ◌<◌, ◌≤◌, ◌==◌, List, [], ◌∷◌, ◌++◌, map, length, take, drop, replicate, slice_get, Option, Some, None, option_map, is_some, Bool, true, false, ◌||◌, IsTrue, arith}
 use Rattle.std.specs.Prelude.{IsSome}
 use Rattle.std.specs.List.{list_all}
 use Rattle.std.proofs.lemmas.List.{length-drop, length-take-le}
 use Rattle.std.proofs.lemmas.Option.{same_Some}
 use Rattle.std.proofs.Math.Nat.{mul-div_cancel_left}
 use Rattle.dn_base.proofs.Booleans.{and_parts}
+use Rattle.dn_base.proofs.Orders.{eq-eqb}
 use Rattle.dn_base.proofs.Lists.{list_all-at}
+use Rattle.dn_base.specs.Device.{UnitSize, has_unit, sizes_of}
+use Rattle.dn_base.specs.declared.device.UnitWords.{UnitWords}
 use Rattle.dn_net.specs.declared.node.NodeDecl.{NodeDecl}
 use Rattle.dn_net.specs.declared.node.Unit.{Unit as UnitPart}
 use Rattle.dn_net.specs.Decode.{unit_at}
@@ -14,7 +17,7 @@ use Rattle.dn_kind.specs.declared.unit_kind.Record.{Record}
 use Rattle.dn_kind.specs.Kind.{Meaning, is_plain}
 use Rattle.dn_kind.specs.Units.{KeepsUnitShape, fits_shape, unit_shape}
 use Rattle.dn_tables.specs.declared.table.NodeTable.{NodeTable}
-use Rattle.dn_tables.specs.Set.{IsPackableIn, IsSet, has_slot, has_slot_by, is_sized, unit_in, units_of, width_in, width_of_table, with_use, words_in, words_of_table, with_uses}
+use Rattle.dn_tables.specs.Set.{IsOnDevice, IsPackableIn, IsSet, has_slot, has_slot_by, is_sized, table_on_device, tables_from, unit_in, units_of, width_in, width_of_table, with_use, words_in, words_of_table, with_uses}
 use Rattle.dn_tables.proofs.Fresh.{zero_words}
 use Rattle.dn_tables.proofs.Kept.{map_changed, sized_of, slot_room, table_of_unit, unit_of_slot}
 use Rattle.dn_image.specs.Image.{are_filled, is_filled}
@@ -103,3 +106,30 @@ filled_long kinds [] (ws ∷ rest) f = cc
 filled_long kinds (n ∷ ns) [] f = cc
 filled_long kinds (n ∷ ns) (ws ∷ rest) f =
     ap suc (filled_long kinds ns rest (and_parts (is_filled kinds n.unit ws) (are_filled kinds ns rest) f).1)
+
+or_true : (b : Bool) → (b || true) ≡ true
+or_true true = refl
+or_true false = refl
+
+-- a unit of later nodes was made, whatever the node before them is
+made_later : (n k : ℕ) (ws : List ℕ) (o : Option UnitPart) (rest : List UnitWords) → has_unit (sizes_of rest) k ≡ true → has_unit (sizes_of (table_on_device n ws o ++ rest)) k ≡ true
+made_later n k ws None rest h = h
+made_later n k ws (Some u) rest h = ap (λ b. (n == k) || b) h ∙ or_true (n == k)
+
+made_from : (set : List NodeTable) (n i : ℕ) (u : UnitPart) → unit_in set i ≡ Some u → has_unit (sizes_of (tables_from n set)) (n + i) ≡ true
+made_from [] n i u e = cc
+made_from (t ∷ set) n zero u e =
+    let none : n + zero ≡ n = omega arith in
+    ap (λ k. has_unit (sizes_of (tables_from n (t ∷ set))) k) none
+    ∙ ap (λ (o : Option UnitPart). has_unit (sizes_of (table_on_device n t.words o ++ tables_from (suc n) set)) n) e
+    ∙ ap (λ b. b || has_unit (sizes_of (tables_from (suc n) set)) n) (eq-eqb n n refl)
+made_from (t ∷ set) n (suc i) u e =
+    let m : n + suc i ≡ suc n + i = omega arith in
+    ap (λ k. has_unit (sizes_of (tables_from n (t ∷ set))) k) m
+    ∙ made_later n (suc n + i) t.words t.unit (tables_from (suc n) set) (made_from set (suc n) i u e)
+
+-- a unit of the set was made on its device
+pub unit_made : (set : List NodeTable) (i slot : ℕ) (sizes : List UnitSize) (told : Option (List UnitWords)) → IsOnDevice set sizes told → IsTrue (has_slot set i slot) → has_unit sizes i ≡ true
+unit_made set i slot sizes told on there =
+    let u = unit_of_slot (unit_in set i) slot there in
+    ap (λ s. has_unit s i) on.units ∙ made_from set 0 i u.0 u.1

@@ -76,8 +76,8 @@ pub fn port_board(alloc: Global, kinds: &Kinds) -> Result<Net, Unmade>
     plan.net(alloc, kinds)
 }
 
-/// A node that accepts nothing, node 0, and two units behind it: `first` of two slots of a word each, node
-/// 1, and `second` of one slot of two words, node 2.
+/// A node that accepts nothing, node 0, two units behind it: `first` of two slots of a word each, node 1, and
+/// `second` of one slot of two words, node 2; and an agent, node 3, whose addresses go through the first.
 pub fn two_units(alloc: Global, kinds: &Kinds) -> Result<Net, Unmade>
     requires { All (λ k. IsLawful (meaning (k.vtable, k.value))) kinds.now.list.items }
     ensures { IfOk result (IsLegalWith
@@ -87,5 +87,7 @@ pub fn two_units(alloc: Global, kinds: &Kinds) -> Result<Net, Unmade>
     plan.node("ram", Role::Plain)?;
     plan.unit("first", REMAP, 12, 2, 32, &[0])?;
     plan.unit("second", VECTORS, 0, 1, 32, &[0])?;
+    plan.node("a", Role::Agent)?;
+    plan.maps(0, 0x1fff, &[Dest { node: 1, addr: 0 }])?;
     plan.net(alloc, kinds)
 }

@@ -86,7 +86,7 @@ fn write_vectors(rt: &impl Abort, alloc: Global, kinds: &Kinds) -> Result<(), Fa
 }
 
 /// What is read of bytes: the version, and the words of a node. `None` where there is no such node.
-fn said(
+pub fn said(
     alloc: Global,
     net: &Net,
     kinds: &Kinds,

@@ -3,11 +3,13 @@
 ghost use Rattle.std.specs.Prelude.{map};
 ghost use Rattle.std.specs.List.{All};
 ghost use Rattle.dn_kind.specs.Kind.{IsLawful};
-ghost use Rattle.dn_kind.specs.Units.{IsLegalWith};
+ghost use Rattle.dn_kind.specs.Units.{IsLegalWith, KeepsUnitShape};
 
 use crate::boards::{page_board, port_board, row_board};
+use crate::images::said;
 use crate::slots::{Place, put, to_page};
 use dn_base::memory_tables::MemTables;
+use dn_image::check::check;
 use dn_image::fault::ImageFault;
 use dn_image::write::write;
 use dn_kind::kinds::Kinds;
@@ -57,6 +59,42 @@ fn compare(
     Ok(())
 }
 
+/// Compares what is read of an image of version 2, whatever its words spell: the first word of a unit.
+fn compare_word(
+    rt: &impl Abort,
+    alloc: Global,
+    net: &Net,
+    kinds: &Kinds,
+    image: &[u8],
+    unit: u16,
+    word: u64,
+) -> Result<(), Fail>
+    requires lawful { All (λ k. IsLawful (meaning (k.vtable, k.value))) kinds.now.list.items }
+    requires legal { IsLegalWith (map (λ k. meaning (k.vtable, k.value)) kinds.now.list.items) net.now }
+{
+    assert_eq!(rt; check(net, kinds, image), Ok(2));
+    let first = first_word(alloc, net, kinds, image, unit)?;
+    assert_eq!(rt; first, Some(word));
+    Ok(())
+}
+
+/// The first word of a unit, as it is read. `None` where there is none.
+fn first_word(
+    alloc: Global,
+    net: &Net,
+    kinds: &Kinds,
+    image: &[u8],
+    unit: u16,
+) -> Result<Option<u64>, ImageFault>
+    requires lawful { All (λ k. IsLawful (meaning (k.vtable, k.value))) kinds.now.list.items }
+    requires shaped { KeepsUnitShape (map (λ k. meaning (k.vtable, k.value)) kinds.now.list.items) net.now }
+{
+    match said(alloc, net, kinds, image, unit)? {
+        Some((_version, words)) => Ok(words.first().copied()),
+        None => Ok(None),
+    }
+}
+
 /// An address goes by the record of its slot, and nowhere where the words spell none.
 fn follow_records(rt: &impl Abort, alloc: Global, kinds: &Kinds) -> Result<(), Fail>
     requires { All (λ k. IsLawful (meaning (k.vtable, k.value))) kinds.now.list.items }
@@ -81,6 +119,7 @@ fn follow_records(rt: &impl Abort, alloc: Global, kinds: &Kinds) -> Result<(), F
         (0, None),
     ] {
         let image = page_image(2, word);
+        compare_word(rt, alloc, &net, kinds, &image, 5, word)?;
         compare(rt, alloc, &net, kinds, &image, from, Access::Read, wanted)?;
         compare(rt, alloc, &net, kinds, &image, from, Access::Write, wanted)?;
     }
@@ -138,6 +177,7 @@ fn ask_ports(rt: &impl Abort, alloc: Global, kinds: &Kinds) -> Result<(), Fail>
     ] {
         let wanted = wanted.map(|(node, addr)| Name { node, addr });
         let image = port_image(word);
+        compare_word(rt, alloc, &net, kinds, &image, 3, word)?;
         compare(rt, alloc, &net, kinds, &image, from, Access::Read, wanted)?;
     }
     Ok(())

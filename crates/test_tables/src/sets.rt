@@ -1,13 +1,20 @@
 //! Sets of tables: how they are made, and what their calls leave.
 
+ghost use Rattle.std.specs.Prelude.{map, Some};
 ghost use Rattle.std.specs.List.{All};
+ghost use Rattle.dn_base.specs.Device.{sizes_of};
 ghost use Rattle.dn_kind.specs.Kind.{IsLawful};
+ghost use Rattle.dn_tables.specs.Set.{FitsNet, IsOnDevice};
 
 use crate::boards::{page_board, two_units, vector_board};
-use crate::slots::{Place, add_use, clear, end_use, put, record_of, to_page, use_of, words};
+use crate::slots::{
+    Place, add_use, clear, device_words, end_use, put, record_of, to_page, use_of, words,
+};
 use dn_base::device::{DeviceFault, MakeFault, TableEvent};
 use dn_base::memory_tables::MemTables;
 use dn_kind::kinds::Kinds;
+use dn_kind::unit_kind::Record;
+use dn_net::net::Net;
 use dn_tables::set::TableSet;
 use std::alloc::Global;
 use std::process::Abort;
@@ -58,6 +65,26 @@ fn stop_at_makes(rt: &impl Abort, alloc: Global, kinds: &Kinds) -> Result<(), Fa
     Ok(())
 }
 
+/// Compares the words of a unit, which are the same in the set and on its device, and the record of a slot.
+fn compare(
+    rt: &impl Abort,
+    net: &Net,
+    kinds: &Kinds,
+    set: &TableSet,
+    device: &MemTables,
+    at: Place,
+    wanted: &[u64],
+    held: Option<Record>,
+)
+    requires lawful { All (λ k. IsLawful (meaning (k.vtable, k.value))) kinds.now.list.items }
+    requires fits { FitsNet net.now (map (λ k. meaning (k.vtable, k.value)) kinds.now.list.items) set.now }
+    requires on_device { IsOnDevice set.now (sizes_of device.now.tables) (Some device.now.tables) }
+{
+    assert_eq!(rt; words(net, set, at.unit), wanted);
+    assert_eq!(rt; device_words(net, set, device, at.unit), wanted);
+    assert_eq!(rt; record_of(net, kinds, set, at), held);
+}
+
 /// A record is put and cleared.
 fn put_and_clear(rt: &impl Abort, alloc: Global, kinds: &Kinds) -> Result<(), Fail>
     requires { All (λ k. IsLawful (meaning (k.vtable, k.value))) kinds.now.list.items }
@@ -65,21 +92,17 @@ fn put_and_clear(rt: &impl Abort, alloc: Global, kinds: &Kinds) -> Result<(), Fa
     let net = page_board(alloc, kinds)?;
     let mut device = MemTables::new(alloc, 0, Vec::new(alloc))?;
     let mut set = TableSet::make(alloc, &net, kinds, &mut device)?;
-    assert_eq!(rt; words(&net, &set, 5), [0; 16].as_slice());
     let at = Place { unit: 5, slot: 3 };
+    compare(rt, &net, kinds, &set, &device, at, &[0; 16], None);
     let wanted = to_page(0x80004);
     let given = put(&net, kinds, &mut set, &mut device, at, wanted);
     assert_eq!(rt; given, Some(Ok(())));
-    let mut put_there = [0; 16];
-    put_there[3] = 0x8000401;
-    assert_eq!(rt; words(&net, &set, 5), put_there.as_slice());
-    assert_eq!(rt; record_of(&net, kinds, &set, at), Some(wanted));
-    // A slot that has words is not put again.
-    let given = put(&net, kinds, &mut set, &mut device, at, wanted);
-    assert_eq!(rt; given, None);
-    assert_eq!(rt; clear(&net, kinds, &mut set, &mut device, at), Some(Ok(())));
-    assert_eq!(rt; words(&net, &set, 5), [0; 16].as_slice());
-    assert_eq!(rt; record_of(&net, kinds, &set, at), None);
+    let mut words = [0; 16];
+    words[3] = 0x8000401;
+    compare(rt, &net, kinds, &set, &device, at, &words, Some(wanted));
+    let given = clear(&net, kinds, &mut set, &mut device, at);
+    assert_eq!(rt; given, Some(Ok(())));
+    compare(rt, &net, kinds, &set, &device, at, &[0; 16], None);
     // The device had no room for events.
     assert!(rt; device.log().is_empty());
     Ok(())
@@ -121,8 +144,13 @@ fn written(word: u32, value: u64) -> TableEvent {
 /// and whether it holds a record after each.
 type Left = (Result<(), DeviceFault>, [u64; 2], bool);
 
+/// The words of the unit of vectors, of which all but those of slot 2 are 0.
+fn all_words(left: [u64; 2]) -> [u64; 8] {
+    [0, 0, 0, 0, left[0], left[1], 0, 0]
+}
+
 /// Compares what is left after a put and a clear over a device that fails at a call.
-fn compare(
+fn compare_left(
     rt: &impl Abort,
     alloc: Global,
     kinds: &Kinds,
@@ -135,21 +163,17 @@ fn compare(
     let mut device = MemTables::new(alloc, 0, vec![in alloc; failing]?)?;
     let mut set = TableSet::make(alloc, &net, kinds, &mut device)?;
     let at = Place { unit: 2, slot: 2 };
-    let given = put(&net, kinds, &mut set, &mut device, at, to_page(0x20));
+    let vector = to_page(0x20);
+    let given = put(&net, kinds, &mut set, &mut device, at, vector);
     let (answer, left, held) = wanted[0];
     assert_eq!(rt; given, Some(answer), "put {failing}");
-    let mut all = [0; 8];
-    all[4..6].copy_from_slice(&left);
-    assert_eq!(rt; words(&net, &set, 2), all.as_slice(), "put {failing}");
-    let record = record_of(&net, kinds, &set, at);
-    assert_eq!(rt; record.is_some(), held, "put {failing}");
+    let held = held.then_some(vector);
+    compare(rt, &net, kinds, &set, &device, at, &all_words(left), held);
     let given = clear(&net, kinds, &mut set, &mut device, at);
     let (answer, left, held) = wanted[1];
     assert_eq!(rt; given, Some(answer), "clear {failing}");
-    all[4..6].copy_from_slice(&left);
-    assert_eq!(rt; words(&net, &set, 2), all.as_slice(), "clear {failing}");
-    let record = record_of(&net, kinds, &set, at);
-    assert_eq!(rt; record.is_some(), held, "clear {failing}");
+    let held = held.then_some(vector);
+    compare(rt, &net, kinds, &set, &device, at, &all_words(left), held);
     Ok(())
 }
 
@@ -162,11 +186,11 @@ fn stop_at_writes(rt: &impl Abort, alloc: Global, kinds: &Kinds) -> Result<(), F
     // calls 3 and 4.
     let put = (Ok(()), [0x20, 1], true);
     let cleared = (Ok(()), [0, 0], false);
-    compare(rt, alloc, kinds, 1, [(fault, [0, 0], false), cleared])?;
-    compare(rt, alloc, kinds, 2, [(fault, [0x20, 0], false), cleared])?;
-    compare(rt, alloc, kinds, 3, [put, (fault, [0x20, 1], true)])?;
-    compare(rt, alloc, kinds, 4, [put, (fault, [0x20, 0], false)])?;
-    compare(rt, alloc, kinds, 5, [put, cleared])
+    compare_left(rt, alloc, kinds, 1, [(fault, [0, 0], false), cleared])?;
+    compare_left(rt, alloc, kinds, 2, [(fault, [0x20, 0], false), cleared])?;
+    compare_left(rt, alloc, kinds, 3, [put, (fault, [0x20, 1], true)])?;
+    compare_left(rt, alloc, kinds, 4, [put, (fault, [0x20, 0], false)])?;
+    compare_left(rt, alloc, kinds, 5, [put, cleared])
 }
 
 /// Uses of slots are counted, and owners are kept.

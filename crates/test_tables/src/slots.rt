@@ -3,6 +3,7 @@
 ghost use Rattle.std.specs.Prelude.{◌≡◌, ◌==◌, ◌+◌, ◌*◌, ◌≤◌, map, length, replicate, Some, IsTrue, IsSome};
 ghost use Rattle.std.specs.List.{All, list_all};
 ghost use Rattle.std.specs.Option.{option_copied};
+ghost use Rattle.dn_base.specs.Device.{sizes_of};
 ghost use Rattle.dn_net.specs.declared.node.Unit.{Unit as UnitPart};
 ghost use Rattle.dn_kind.specs.Kind.{IsLawful};
 ghost use Rattle.dn_kind.specs.Rights.{are_rights};
@@ -13,6 +14,7 @@ ghost use Rattle.dn_tables.specs.Set.{FitsNet, IsEmpty, IsOnDevice, IsPackableIn
 
 use bitflags::Flags;
 use dn_base::device::{DeviceFault, Tables};
+use dn_base::memory_tables::MemTables;
 use dn_kind::kinds::Kinds;
 use dn_kind::rights::Rights;
 use dn_kind::shape::shape_of;
@@ -204,6 +206,18 @@ pub fn words<'a>(net: &Net, set: &'a TableSet, unit: u16) -> &'a [u64]
 {
     if is_there(net, set, Place { unit, slot: 0 }) {
         set.words(unit)
+    } else {
+        &[]
+    }
+}
+
+/// The words of a unit on the device of the set. None where it is not there.
+pub fn device_words<'a>(net: &Net, set: &TableSet, device: &'a MemTables, unit: u16) -> &'a [u64]
+    requires units { units_of set.now ≡ map (λ n. n.unit) net.now }
+    requires on_device { IsOnDevice set.now (sizes_of device.now.tables) (Some device.now.tables) }
+{
+    if is_there(net, set, Place { unit, slot: 0 }) {
+        device.words(unit)
     } else {
         &[]
     }

@@ -1,24 +1,42 @@
 //! Bytes that are an image of a net of two units, or are not at one place each.
 
+ghost use Rattle.std.specs.Prelude.{map};
 ghost use Rattle.std.specs.List.{All};
 ghost use Rattle.dn_kind.specs.Kind.{IsLawful};
+ghost use Rattle.dn_kind.specs.Units.{IsLegalWith};
 
 use crate::boards::two_units;
 use dn_image::check::check;
 use dn_image::fault::ImageFault;
+use dn_image::read::read;
 use dn_kind::kinds::Kinds;
+use dn_kind::rights::Access;
+use dn_lookup::lookup::{LookupFault, lookup};
+use dn_net::net::Net;
 use std::alloc::Global;
 use std::process::Abort;
 use std::test::Fail;
 use test_plans::program_kinds;
 
-/// What is said of bytes as an image of the net of two units: of two slots of a word each, and of one slot of
-/// two words.
-fn said(alloc: Global, kinds: &Kinds, bytes: &[u8]) -> Result<Result<u16, ImageFault>, Fail>
-    requires { All (λ k. IsLawful (meaning (k.vtable, k.value))) kinds.now.list.items }
+/// Compares what is said of bytes as an image of the net of two units: the version, or the first fault.
+/// Whoever reads the bytes, or looks up in them, is told the same.
+fn compare(
+    rt: &impl Abort,
+    alloc: Global,
+    net: &Net,
+    kinds: &Kinds,
+    bytes: &[u8],
+    wanted: Result<u16, ImageFault>,
+) -> Result<(), Fail>
+    requires lawful { All (λ k. IsLawful (meaning (k.vtable, k.value))) kinds.now.list.items }
+    requires legal { IsLegalWith (map (λ k. meaning (k.vtable, k.value)) kinds.now.list.items) net.now }
 {
-    let net = two_units(alloc, kinds)?;
-    Ok(check(&net, kinds, bytes))
+    assert_eq!(rt; check(net, kinds, bytes), wanted);
+    let version = read(alloc, net, kinds, bytes).map(|image| image.version());
+    assert_eq!(rt; version, wanted);
+    let fault = lookup(alloc, net, kinds, bytes, 3, 0, Access::Read).err();
+    assert_eq!(rt; fault, wanted.err().map(LookupFault::Image));
+    Ok(())
 }
 
 /// An image of that net: 8 bytes, then 8 and 16 for each unit.
@@ -34,33 +52,33 @@ const IMAGE: [u8; 56] = [
 fn take_versions(rt: &impl Abort, alloc: Global, kinds: &Kinds) -> Result<(), Fail>
     requires { All (λ k. IsLawful (meaning (k.vtable, k.value))) kinds.now.list.items }
 {
-    assert_eq!(rt; said(alloc, kinds, &IMAGE)?, Ok(2));
+    let net = two_units(alloc, kinds)?;
+    compare(rt, alloc, &net, kinds, &IMAGE, Ok(2))?;
     let mut first = IMAGE;
     first[4] = 1;
-    assert_eq!(rt; said(alloc, kinds, &first)?, Ok(1));
-    Ok(())
+    compare(rt, alloc, &net, kinds, &first, Ok(1))
 }
 
 /// An image that is cut at a byte is none, and neither is one with a byte too many.
 fn refuse_lengths(rt: &impl Abort, alloc: Global, kinds: &Kinds) -> Result<(), Fail>
     requires { All (λ k. IsLawful (meaning (k.vtable, k.value))) kinds.now.list.items }
 {
+    let net = two_units(alloc, kinds)?;
     for at in 0..56 {
-        let given = said(alloc, kinds, &IMAGE[..at])?;
         let wanted = Err(ImageFault::Short { at: at as u64 });
-        assert_eq!(rt; given, wanted, "{at}");
+        compare(rt, alloc, &net, kinds, &IMAGE[..at], wanted)?;
     }
     let mut longer = [0u8; 57];
     longer[..56].copy_from_slice(&IMAGE);
     let wanted = Err(ImageFault::Trailing { at: 56 });
-    assert_eq!(rt; said(alloc, kinds, &longer)?, wanted);
-    Ok(())
+    compare(rt, alloc, &net, kinds, &longer, wanted)
 }
 
 /// The first wrong field is named.
 fn name_fields(rt: &impl Abort, alloc: Global, kinds: &Kinds) -> Result<(), Fail>
     requires { All (λ k. IsLawful (meaning (k.vtable, k.value))) kinds.now.list.items }
 {
+    let net = two_units(alloc, kinds)?;
     for (at, byte, wanted) in [
         (0, b'd', ImageFault::Header { at: 0 }),
         (3, b'N', ImageFault::Header { at: 0 }),
@@ -79,8 +97,7 @@ fn name_fields(rt: &impl Abort, alloc: Global, kinds: &Kinds) -> Result<(), Fail
         let mut changed = IMAGE;
         assert!(rt; at < 56);
         changed[at] = byte;
-        let given = said(alloc, kinds, &changed)?;
-        assert_eq!(rt; given, Err(wanted), "{at}");
+        compare(rt, alloc, &net, kinds, &changed, Err(wanted))?;
     }
     Ok(())
 }
