@@ -17,7 +17,7 @@ use Rattle.dn_kind.specs.declared.unit_kind.Record.{Record}
 use Rattle.dn_kind.specs.Kind.{Meaning, is_plain}
 use Rattle.dn_kind.specs.Units.{KeepsUnitShape, fits_shape, unit_shape}
 use Rattle.dn_tables.specs.declared.table.NodeTable.{NodeTable}
-use Rattle.dn_tables.specs.Set.{IsOnDevice, IsPackableIn, IsSet, has_slot, has_slot_by, is_sized, table_on_device, tables_from, unit_in, units_of, width_in, width_of_table, with_use, words_in, words_of_table, with_uses}
+use Rattle.dn_tables.specs.Set.{IsOnDevice, IsPackableIn, IsSet, has_slot, has_slot_by, is_sized, table_on_device, tables_from, tables_of_set, unit_in, units_of, width_in, width_of_table, with_use, words_in, words_of_table, with_uses}
 use Rattle.dn_tables.proofs.Fresh.{zero_words}
 use Rattle.dn_tables.proofs.Kept.{map_changed, sized_of, slot_room, table_of_unit, unit_of_slot}
 use Rattle.dn_image.specs.Image.{are_filled, is_filled}
@@ -132,4 +132,6 @@ made_from (t ∷ set) n (suc i) u e =
 pub unit_made : (set : List NodeTable) (i slot : ℕ) (sizes : List UnitSize) (told : Option (List UnitWords)) → IsOnDevice set sizes told → IsTrue (has_slot set i slot) → has_unit sizes i ≡ true
 unit_made set i slot sizes told on there =
     let u = unit_of_slot (unit_in set i) slot there in
-    ap (λ s. has_unit s i) on.units ∙ made_from set 0 i u.0 u.1
+    let none : 0 + i ≡ i = omega arith in
+    ap (λ s. has_unit s i) on.units
+    ∙ subst (λ k. has_unit (sizes_of (tables_of_set set)) k ≡ true) none (made_from set 0 i u.0 u.1)

@@ -11,8 +11,8 @@ use dn_net::node::{Dest, Role};
 use std::alloc::Global;
 use test_plans::{PAGES, Plan, REMAP, Unmade, VECTORS};
 
-/// The bus, and behind it an agent `dma`, node 4, whose addresses go through a unit `smmu` of 16 pages,
-/// node 5.
+/// The bus, and behind it an agent `dma`, node 4, whose addresses go through a unit `smmu` of 16
+/// pages, node 5.
 pub fn page_board(alloc: Global, kinds: &Kinds) -> Result<Net, Unmade>
     requires { All (λ k. IsLawful (meaning (k.vtable, k.value))) kinds.now.list.items }
     ensures { IfOk result (IsLegalWith
@@ -25,8 +25,8 @@ pub fn page_board(alloc: Global, kinds: &Kinds) -> Result<Net, Unmade>
     plan.net(alloc, kinds)
 }
 
-/// The bus, and an agent `phi`, node 4, whose addresses go through two units in a row: `smpt` of 4 pages of
-/// a mebibyte, node 5, and behind the node `hostin`, node 6, `iommu` of 256 pages, node 7.
+/// The bus, and an agent `phi`, node 4, whose addresses go through two units in a row: `smpt` of 4
+/// pages of a mebibyte, node 5, and behind the node `hostin`, node 6, `iommu` of 256 pages, node 7.
 pub fn row_board(alloc: Global, kinds: &Kinds) -> Result<Net, Unmade>
     requires { All (λ k. IsLawful (meaning (k.vtable, k.value))) kinds.now.list.items }
     ensures { IfOk result (IsLegalWith
@@ -42,8 +42,8 @@ pub fn row_board(alloc: Global, kinds: &Kinds) -> Result<Net, Unmade>
     plan.net(alloc, kinds)
 }
 
-/// The vectors of a core, node 0, and an agent `nic`, node 1, whose four messages go through a unit `irt`,
-/// node 2.
+/// The vectors of a core, node 0, and an agent `nic`, node 1, whose four messages go through a unit
+/// `irt`, node 2.
 pub fn vector_board(alloc: Global, kinds: &Kinds) -> Result<Net, Unmade>
     requires { All (λ k. IsLawful (meaning (k.vtable, k.value))) kinds.now.list.items }
     ensures { IfOk result (IsLegalWith
@@ -58,8 +58,8 @@ pub fn vector_board(alloc: Global, kinds: &Kinds) -> Result<Net, Unmade>
     plan.net(alloc, kinds)
 }
 
-/// Two memories, nodes 0 and 1, and an agent, node 2, whose addresses go through a unit of 4 pages with a
-/// port to each, node 3, whose outputs are below 2^14.
+/// Two memories, nodes 0 and 1, and an agent, node 2, whose addresses go through a unit of 4 pages
+/// with a port to each, node 3, whose outputs are below 2^14.
 pub fn port_board(alloc: Global, kinds: &Kinds) -> Result<Net, Unmade>
     requires { All (λ k. IsLawful (meaning (k.vtable, k.value))) kinds.now.list.items }
     ensures { IfOk result (IsLegalWith
@@ -76,8 +76,9 @@ pub fn port_board(alloc: Global, kinds: &Kinds) -> Result<Net, Unmade>
     plan.net(alloc, kinds)
 }
 
-/// A node that accepts nothing, node 0, two units behind it: `first` of two slots of a word each, node 1, and
-/// `second` of one slot of two words, node 2; and an agent, node 3, whose addresses go through the first.
+/// A node that accepts nothing, node 0, two units behind it: `first` of two slots of a word each,
+/// node 1, and `second` of one slot of two words, node 2; and an agent, node 3, whose addresses go
+/// through the first.
 pub fn two_units(alloc: Global, kinds: &Kinds) -> Result<Net, Unmade>
     requires { All (λ k. IsLawful (meaning (k.vtable, k.value))) kinds.now.list.items }
     ensures { IfOk result (IsLegalWith

@@ -19,8 +19,8 @@ use std::process::Abort;
 use std::test::Fail;
 use test_plans::program_kinds;
 
-/// The first bytes of an image of the board with pages: the header, the head of its one unit, and its first
-/// two words, each a record of both accesses.
+/// The first bytes of an image of the board with pages: the header, the head of its one unit, and
+/// its first two words, each a record of both accesses.
 const FRONT: [u8; 32] = [
     b'D', b'N', b'I', b'M', 2, 0, 1, 0, // the header
     5, 0, 1, 0, 16, 0, 0, 0, // the head: node 5, a word a record, 16 slots

@@ -59,7 +59,8 @@ fn compare(
     Ok(())
 }
 
-/// Compares what is read of an image of version 2, whatever its words spell: the first word of a unit.
+/// Compares what is read of an image of version 2, whatever its words spell: the first word of a
+/// unit.
 fn compare_word(
     rt: &impl Abort,
     alloc: Global,
@@ -156,7 +157,8 @@ fn ask_rights(rt: &impl Abort, alloc: Global, kinds: &Kinds) -> Result<(), Fail>
     Ok(())
 }
 
-/// A record sends to its port, and nowhere where the unit lacks the port or the page is past its reach.
+/// A record sends to its port, and nowhere where the unit lacks the port or the page is past its
+/// reach.
 fn ask_ports(rt: &impl Abort, alloc: Global, kinds: &Kinds) -> Result<(), Fail>
     requires { All (λ k. IsLawful (meaning (k.vtable, k.value))) kinds.now.list.items }
 {

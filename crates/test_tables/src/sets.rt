@@ -43,8 +43,8 @@ fn make_two_units(rt: &impl Abort, alloc: Global, kinds: &Kinds) -> Result<(), F
     Ok(())
 }
 
-/// Makes the two units over a device that fails at a call, and answers the fault, if there is one, and how
-/// many units were made.
+/// Makes the two units over a device that fails at a call, and answers the fault, if there is one,
+/// and how many units were made.
 fn made_with(alloc: Global, kinds: &Kinds, failing: u32) -> Result<(Option<MakeFault>, usize), Fail>
     requires { All (λ k. IsLawful (meaning (k.vtable, k.value))) kinds.now.list.items }
 {
@@ -65,7 +65,8 @@ fn stop_at_makes(rt: &impl Abort, alloc: Global, kinds: &Kinds) -> Result<(), Fa
     Ok(())
 }
 
-/// Compares the words of a unit, which are the same in the set and on its device, and the record of a slot.
+/// Compares the words of a unit, which are the same in the set and on its device, and the record of
+/// a slot.
 fn compare(
     rt: &impl Abort,
     net: &Net,
@@ -140,8 +141,8 @@ fn written(word: u32, value: u64) -> TableEvent {
     }
 }
 
-/// What a put and a clear of slot 2 answer over a device that fails at a call, with the two words of the slot
-/// and whether it holds a record after each.
+/// What a put and a clear of slot 2 answer over a device that fails at a call, with the two words
+/// of the slot and whether it holds a record after each.
 type Left = (Result<(), DeviceFault>, [u64; 2], bool);
 
 /// The words of the unit of vectors, of which all but those of slot 2 are 0.
@@ -182,8 +183,8 @@ fn stop_at_writes(rt: &impl Abort, alloc: Global, kinds: &Kinds) -> Result<(), F
     requires { All (λ k. IsLawful (meaning (k.vtable, k.value))) kinds.now.list.items }
 {
     let fault = Err(DeviceFault);
-    // Call 0 makes the unit. A put that failed at its first write leaves the clear calls 2 and 3, else it has
-    // calls 3 and 4.
+    // Call 0 makes the unit. A put that failed at its first write leaves the clear calls 2 and 3,
+    // else it has calls 3 and 4.
     let put = (Ok(()), [0x20, 1], true);
     let cleared = (Ok(()), [0, 0], false);
     compare_left(rt, alloc, kinds, 1, [(fault, [0, 0], false), cleared])?;

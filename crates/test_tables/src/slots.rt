@@ -141,8 +141,8 @@ fn are_rights(rights: Rights) -> bool
     1 <= rights.bits() && rights.bits() <= 3
 }
 
-/// Puts a record into a slot. `None`, and nothing is done, where the slot is not there or not empty, or the
-/// unit cannot hold the record.
+/// Puts a record into a slot. `None`, and nothing is done, where the slot is not there or not
+/// empty, or the unit cannot hold the record.
 pub fn put<D: Tables>(
     net: &Net,
     kinds: &Kinds,
@@ -236,8 +236,8 @@ pub fn use_of(net: &Net, set: &TableSet, at: Place) -> Option<(u32, Option<u32>)
     ))
 }
 
-/// Adds a use of a slot. Answers false, and nothing is done, where the slot is not there, or has an owner, or
-/// too many uses, or uses beside an owner that is given.
+/// Adds a use of a slot. Answers false, and nothing is done, where the slot is not there, or has an
+/// owner, or too many uses, or uses beside an owner that is given.
 pub fn add_use(net: &Net, set: &mut TableSet, at: Place, owner: Option<u32>) -> bool
     requires { units_of set.old ≡ map (λ n. n.unit) net.now }
     ensures { units_of set.new ≡ map (λ n. n.unit) net.now }
@@ -253,7 +253,8 @@ pub fn add_use(net: &Net, set: &mut TableSet, at: Place, owner: Option<u32>) -> 
     true
 }
 
-/// Ends a use of a slot. Answers false, and nothing is done, where the slot is not there or not used.
+/// Ends a use of a slot. Answers false, and nothing is done, where the slot is not there or not
+/// used.
 pub fn end_use(net: &Net, set: &mut TableSet, at: Place) -> bool
     requires { units_of set.old ≡ map (λ n. n.unit) net.now }
     ensures { units_of set.new ≡ map (λ n. n.unit) net.now }

@@ -18,8 +18,8 @@ use std::process::Abort;
 use std::test::Fail;
 use test_plans::program_kinds;
 
-/// Compares what is said of bytes as an image of the net of two units: the version, or the first fault.
-/// Whoever reads the bytes, or looks up in them, is told the same.
+/// Compares what is said of bytes as an image of the net of two units: the version, or the first
+/// fault. Whoever reads the bytes, or looks up in them, is told the same.
 fn compare(
     rt: &impl Abort,
     alloc: Global,
