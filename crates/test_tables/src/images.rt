@@ -3,10 +3,12 @@
 ghost use Rattle.std.specs.Prelude.{map};
 ghost use Rattle.std.specs.List.{All};
 ghost use Rattle.dn_kind.specs.Kind.{IsLawful};
-ghost use Rattle.dn_kind.specs.Units.{KeepsUnitShape};
+ghost use Rattle.dn_kind.specs.Units.{IsLegalWith, KeepsUnitShape};
+ghost use Rattle.dn_tables.specs.Set.{FitsNet, IsOnDevice};
 
 use crate::boards::{page_board, vector_board};
 use crate::slots::{Place, put, to_page};
+use dn_base::device::Tables;
 use dn_base::memory_tables::MemTables;
 use dn_image::fault::ImageFault;
 use dn_image::read::read;
@@ -45,26 +47,73 @@ const VECTOR_IMAGE: [u8; 80] = [
     0x21, 0, 0, 0, 0, 0, 0, 0, 1, 0, 0, 0, 0, 0, 0, 0, // slot 3
 ];
 
-/// An image has 0 where there is no record, and the words of each record.
+/// The image of that board where no slot holds a record.
+fn fresh_image() -> [u8; 144] {
+    let mut image = page_image();
+    image[16..32].fill(0);
+    image
+}
+
+/// Puts a record of port 0 that allows both accesses.
+pub fn put_page<D: Tables>(
+    rt: &impl Abort,
+    net: &Net,
+    kinds: &Kinds,
+    set: &mut TableSet,
+    device: &mut D,
+    at: Place,
+    page: u64,
+)
+    requires lawful { All (λ k. IsLawful (meaning (k.vtable, k.value))) kinds.now.list.items }
+    requires legal { IsLegalWith (map (λ k. meaning (k.vtable, k.value)) kinds.now.list.items) net.now }
+    requires fits { FitsNet net.now (map (λ k. meaning (k.vtable, k.value)) kinds.now.list.items) set.old }
+    requires on_device { IsOnDevice set.old (D.units device.old) (D.words device.old) }
+    ensures fits { FitsNet net.now (map (λ k. meaning (k.vtable, k.value)) kinds.now.list.items) set.new }
+    ensures on_device { IsOnDevice set.new (D.units device.new) (D.words device.new) }
+{
+    let given = put(net, kinds, set, device, at, to_page(page));
+    assert_eq!(rt; given, Some(Ok(())), "{at:?}");
+}
+
+/// Compares the bytes that are written of tables.
+fn compare_bytes(
+    rt: &impl Abort,
+    alloc: Global,
+    net: &Net,
+    kinds: &Kinds,
+    set: &TableSet,
+    wanted: &[u8],
+) -> Result<(), Fail>
+    requires lawful { All (λ k. IsLawful (meaning (k.vtable, k.value))) kinds.now.list.items }
+    requires fits { FitsNet net.now (map (λ k. meaning (k.vtable, k.value)) kinds.now.list.items) set.now }
+{
+    let image = write(alloc, net, kinds, set)?;
+    assert_eq!(rt; image.as_slice(), wanted);
+    Ok(())
+}
+
+/// An image has 0 where there is no record.
+fn write_fresh(rt: &impl Abort, alloc: Global, kinds: &Kinds) -> Result<(), Fail>
+    requires { All (λ k. IsLawful (meaning (k.vtable, k.value))) kinds.now.list.items }
+{
+    let net = page_board(alloc, kinds)?;
+    let mut device = MemTables::new(alloc, 0, Vec::new(alloc))?;
+    let set = TableSet::make(alloc, &net, kinds, &mut device)?;
+    compare_bytes(rt, alloc, &net, kinds, &set, &fresh_image())
+}
+
+/// It has the words of each record.
 fn write_pages(rt: &impl Abort, alloc: Global, kinds: &Kinds) -> Result<(), Fail>
     requires { All (λ k. IsLawful (meaning (k.vtable, k.value))) kinds.now.list.items }
 {
     let net = page_board(alloc, kinds)?;
     let mut device = MemTables::new(alloc, 0, Vec::new(alloc))?;
     let mut set = TableSet::make(alloc, &net, kinds, &mut device)?;
-    let mut wanted = page_image();
-    wanted[16..32].fill(0);
-    let image = write(alloc, &net, kinds, &set)?;
-    assert_eq!(rt; image.as_slice(), wanted.as_slice());
-    let at = Place { unit: 5, slot: 1 };
-    let given = put(&net, kinds, &mut set, &mut device, at, to_page(0x80005));
-    assert_eq!(rt; given, Some(Ok(())));
-    let at = Place { unit: 5, slot: 0 };
-    let given = put(&net, kinds, &mut set, &mut device, at, to_page(0x80004));
-    assert_eq!(rt; given, Some(Ok(())));
-    let image = write(alloc, &net, kinds, &set)?;
-    assert_eq!(rt; image.as_slice(), page_image().as_slice());
-    Ok(())
+    let second = Place { unit: 5, slot: 1 };
+    put_page(rt, &net, kinds, &mut set, &mut device, second, 0x80005);
+    let first = Place { unit: 5, slot: 0 };
+    put_page(rt, &net, kinds, &mut set, &mut device, first, 0x80004);
+    compare_bytes(rt, alloc, &net, kinds, &set, &page_image())
 }
 
 /// So it is with records of two words.
@@ -74,15 +123,11 @@ fn write_vectors(rt: &impl Abort, alloc: Global, kinds: &Kinds) -> Result<(), Fa
     let net = vector_board(alloc, kinds)?;
     let mut device = MemTables::new(alloc, 0, Vec::new(alloc))?;
     let mut set = TableSet::make(alloc, &net, kinds, &mut device)?;
-    let at = Place { unit: 2, slot: 2 };
-    let given = put(&net, kinds, &mut set, &mut device, at, to_page(0x20));
-    assert_eq!(rt; given, Some(Ok(())));
-    let at = Place { unit: 2, slot: 3 };
-    let given = put(&net, kinds, &mut set, &mut device, at, to_page(0x21));
-    assert_eq!(rt; given, Some(Ok(())));
-    let image = write(alloc, &net, kinds, &set)?;
-    assert_eq!(rt; image.as_slice(), VECTOR_IMAGE.as_slice());
-    Ok(())
+    let first = Place { unit: 2, slot: 2 };
+    put_page(rt, &net, kinds, &mut set, &mut device, first, 0x20);
+    let second = Place { unit: 2, slot: 3 };
+    put_page(rt, &net, kinds, &mut set, &mut device, second, 0x21);
+    compare_bytes(rt, alloc, &net, kinds, &set, &VECTOR_IMAGE)
 }
 
 /// What is read of bytes: the version, and the words of a node. `None` where there is no such node.
@@ -155,6 +200,7 @@ fn read_wrong_fields(rt: &impl Abort, alloc: Global, kinds: &Kinds) -> Result<()
 fn writes_and_reads_images(rt: HostRuntime) -> Result<(), Fail> {
     let alloc = rt.alloc();
     let kinds = program_kinds!(alloc);
+    write_fresh(&rt, alloc, &kinds)?;
     write_pages(&rt, alloc, &kinds)?;
     write_vectors(&rt, alloc, &kinds)?;
     read_versions(&rt, alloc, &kinds)?;

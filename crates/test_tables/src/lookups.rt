@@ -4,10 +4,11 @@ ghost use Rattle.std.specs.Prelude.{map};
 ghost use Rattle.std.specs.List.{All};
 ghost use Rattle.dn_kind.specs.Kind.{IsLawful};
 ghost use Rattle.dn_kind.specs.Units.{IsLegalWith, KeepsUnitShape};
+ghost use Rattle.dn_tables.specs.Set.{FitsNet};
 
 use crate::boards::{page_board, port_board, row_board};
-use crate::images::said;
-use crate::slots::{Place, put, to_page};
+use crate::images::{put_page, said};
+use crate::slots::Place;
 use dn_base::memory_tables::MemTables;
 use dn_image::check::check;
 use dn_image::fault::ImageFault;
@@ -192,16 +193,30 @@ fn go_through_two(rt: &impl Abort, alloc: Global, kinds: &Kinds) -> Result<(), F
     let net = row_board(alloc, kinds)?;
     let mut device = MemTables::new(alloc, 0, Vec::new(alloc))?;
     let mut set = TableSet::make(alloc, &net, kinds, &mut device)?;
-    let at = Place { unit: 5, slot: 0 };
-    let given = put(&net, kinds, &mut set, &mut device, at, to_page(0));
-    assert_eq!(rt; given, Some(Ok(())));
-    let at = Place { unit: 7, slot: 0 };
-    let given = put(&net, kinds, &mut set, &mut device, at, to_page(0x80004));
-    assert_eq!(rt; given, Some(Ok(())));
-    let at = Place { unit: 7, slot: 1 };
-    let given = put(&net, kinds, &mut set, &mut device, at, to_page(0x80006));
-    assert_eq!(rt; given, Some(Ok(())));
-    let image = write(alloc, &net, kinds, &set)?;
+    let own = Place { unit: 5, slot: 0 };
+    put_page(rt, &net, kinds, &mut set, &mut device, own, 0);
+    let first = Place { unit: 7, slot: 0 };
+    put_page(rt, &net, kinds, &mut set, &mut device, first, 0x80004);
+    let second = Place { unit: 7, slot: 1 };
+    put_page(rt, &net, kinds, &mut set, &mut device, second, 0x80006);
+    compare_row(rt, alloc, &net, kinds, &set)
+}
+
+/// Compares where addresses come to in the image of tables of two units, of which the first has a
+/// record for its first page, and the second for its first two.
+fn compare_row(
+    rt: &impl Abort,
+    alloc: Global,
+    net: &Net,
+    kinds: &Kinds,
+    set: &TableSet,
+) -> Result<(), Fail>
+    requires lawful { All (λ k. IsLawful (meaning (k.vtable, k.value))) kinds.now.list.items }
+    requires legal { IsLegalWith (map (λ k. meaning (k.vtable, k.value)) kinds.now.list.items) net.now }
+    requires fits { FitsNet net.now (map (λ k. meaning (k.vtable, k.value)) kinds.now.list.items) set.now }
+{
+    let written = write(alloc, net, kinds, set)?;
+    let image = written.as_slice();
     assert_eq!(rt; image.len(), 2104);
     for (addr, wanted) in [
         (0x234, Some(0x4234)),
@@ -211,16 +226,7 @@ fn go_through_two(rt: &impl Abort, alloc: Global, kinds: &Kinds) -> Result<(), F
     ] {
         let from = Name { node: 4, addr };
         let wanted = wanted.map(|addr| Name { node: 0, addr });
-        compare(
-            rt,
-            alloc,
-            &net,
-            kinds,
-            image.as_slice(),
-            from,
-            Access::Write,
-            wanted,
-        )?;
+        compare(rt, alloc, net, kinds, image, from, Access::Write, wanted)?;
     }
     Ok(())
 }
