@@ -1,135 +1,42 @@
 //! Bytes that are an image of a net of two units, or are not at one place each.
 
-ghost use Rattle.std.specs.Prelude.{IsTrue};
-ghost use Rattle.std.specs.List.{list_all};
-ghost use Rattle.dn_kind.specs.Units.{has_kind};
+ghost use Rattle.std.specs.Prelude.{map};
+ghost use Rattle.std.specs.List.{All};
+ghost use Rattle.dn_kind.specs.Kind.{IsLawful};
+ghost use Rattle.dn_kind.specs.Units.{IsLegalWith};
 
-use crate::unit_of;
-use dn_base::items::Items;
-use dn_base::text::Text;
+use crate::boards::two_units;
 use dn_image::check::check;
 use dn_image::fault::ImageFault;
+use dn_image::read::read;
 use dn_kind::kinds::Kinds;
-use dn_kind::shape::Shape;
-use dn_kind::unit_kind::UnitKind;
-use dn_kind::units::check_units;
-use dn_kinds::pages::{Pages, pages_are_lawful};
-use dn_kinds::remap::{Remap, remap_is_lawful};
-use dn_kinds::vectors::{Vectors, vectors_are_lawful};
+use dn_kind::rights::Access;
+use dn_lookup::lookup::{LookupFault, lookup};
 use dn_net::net::Net;
-use dn_net::node::{NodeDecl, Role, Unit};
 use std::alloc::Global;
 use std::process::Abort;
 use std::test::Fail;
+use test_plans::program_kinds;
 
-/// The numbers of the kinds in the lists of these tests.
-const PAGES: u8 = 0;
-
-const REMAP: u8 = 1;
-
-const VECTORS: u8 = 2;
-
-/// A shape of page, slots, reach and ports.
-fn shape(page: u8, slots: u32, reach: u8, ports: u8) -> Shape {
-    Shape {
-        page,
-        slots,
-        reach,
-        ports,
-    }
-}
-
-/// Adds a unit, or a plain node, whose kind is one of so many, and answers its number. `None`, and an unchanged
-/// net, where the name is taken or the net is full.
-fn add(
-    alloc: Global,
-    net: &mut Net,
-    count: usize,
-    title: Text,
-    unit: Option<Unit>,
-) -> Result<Option<u16>, Fail>
-    requires kind { IsTrue (has_kind count unit) }
-    requires known { IsTrue (list_all (λ n. has_kind count n.unit) net.old) }
-    ensures known { IsTrue (list_all (λ n. has_kind count n.unit) net.new) }
-{
-    if net.find(title.as_str()).is_some() || net.nodes() >= 1024 {
-        return Ok(None);
-    }
-    let role = match &unit {
-        Some(_) => Role::Unit,
-        None => Role::Plain,
-    };
-    let number = net.add(NodeDecl {
-        text: title,
-        role,
-        accepts: Items::new(alloc),
-        entries: Items::new(alloc),
-        over: None,
-        unit,
-    })?;
-    Ok(Some(number))
-}
-
-/// A unit's kind, by its number, and its shape.
-type Row = (u8, Shape);
-
-/// Adds a unit in the same way. `None`, too, where there are not so many kinds.
-fn add_unit(
-    alloc: Global,
-    net: &mut Net,
-    count: usize,
-    title: &str,
-    row: Row,
-) -> Result<Option<u16>, Fail>
-    requires known { IsTrue (list_all (λ n. has_kind count n.unit) net.old) }
-    ensures known { IsTrue (list_all (λ n. has_kind count n.unit) net.new) }
-{
-    let (kind, shape) = row;
-    if usize::from(kind) >= count {
-        return Ok(None);
-    }
-    let unit = unit_of(alloc, kind, shape)?;
-    add(alloc, net, count, Text::of(alloc, title)?, Some(unit))
-}
-
-/// What is said of bytes as an image of a net of a plain node, which is node 0, and two units behind it: of two
-/// slots of a word each, and of one slot of two words. `None` where the units break the rule.
-fn said(
+/// Compares what is said of bytes as an image of the net of two units: the version, or the first
+/// fault. Whoever reads the bytes, or looks up in them, is told the same.
+fn compare(
     rt: &impl Abort,
     alloc: Global,
+    net: &Net,
+    kinds: &Kinds,
     bytes: &[u8],
-) -> Result<Option<Result<u16, ImageFault>>, Fail> {
-    pages_are_lawful();
-    remap_is_lawful();
-    vectors_are_lawful();
-    let mut kinds = Kinds::none(alloc);
-    kinds.add(Box::new(alloc, Pages)?)?;
-    kinds.add(Box::new(alloc, Remap)?)?;
-    kinds.add(Box::new(alloc, Vectors)?)?;
-    let count = kinds.len();
-    let mut net = Net::new(alloc);
-    let number = add(alloc, &mut net, count, Text::of(alloc, "ram")?, None)?;
-    assert_eq!(rt; number, Some(0));
-    let number = add_unit(
-        alloc,
-        &mut net,
-        count,
-        "first",
-        (REMAP, shape(12, 2, 32, 1)),
-    )?;
-    assert_eq!(rt; number, Some(1));
-    let number = add_unit(
-        alloc,
-        &mut net,
-        count,
-        "second",
-        (VECTORS, shape(0, 1, 32, 1)),
-    )?;
-    assert_eq!(rt; number, Some(2));
-    match check_units(&net, &kinds) {
-        Ok(()) => Ok(Some(check(&net, &kinds, bytes))),
-        Err(_) => Ok(None),
-    }
+    wanted: Result<u16, ImageFault>,
+) -> Result<(), Fail>
+    requires lawful { All (λ k. IsLawful (meaning (k.vtable, k.value))) kinds.now.list.items }
+    requires legal { IsLegalWith (map (λ k. meaning (k.vtable, k.value)) kinds.now.list.items) net.now }
+{
+    assert_eq!(rt; check(net, kinds, bytes), wanted);
+    let version = read(alloc, net, kinds, bytes).map(|image| image.version());
+    assert_eq!(rt; version, wanted);
+    let fault = lookup(alloc, net, kinds, bytes, 3, 0, Access::Read).err();
+    assert_eq!(rt; fault, wanted.err().map(LookupFault::Image));
+    Ok(())
 }
 
 /// An image of that net: 8 bytes, then 8 and 16 for each unit.
@@ -141,36 +48,37 @@ const IMAGE: [u8; 56] = [
     0, 0, 0, 0, 0, 0, 0, 0, 0, 0, 0, 0, 0, 0, 0, 0, // its words
 ];
 
-#[test]
-fn takes_an_image_of_each_version(rt: HostRuntime) -> Result<(), Fail> {
-    assert_eq!(rt; said(&rt, rt.alloc(), &IMAGE)?, Some(Ok(2)));
+/// An image of each version is one.
+fn take_versions(rt: &impl Abort, alloc: Global, kinds: &Kinds) -> Result<(), Fail>
+    requires { All (λ k. IsLawful (meaning (k.vtable, k.value))) kinds.now.list.items }
+{
+    let net = two_units(alloc, kinds)?;
+    compare(rt, alloc, &net, kinds, &IMAGE, Ok(2))?;
     let mut first = IMAGE;
     first[4] = 1;
-    assert_eq!(rt; said(&rt, rt.alloc(), &first)?, Some(Ok(1)));
-    Ok(())
+    compare(rt, alloc, &net, kinds, &first, Ok(1))
 }
 
-#[test]
-fn refuses_an_image_cut_at_each_byte(rt: HostRuntime) -> Result<(), Fail> {
+/// An image that is cut at a byte is none, and neither is one with a byte too many.
+fn refuse_lengths(rt: &impl Abort, alloc: Global, kinds: &Kinds) -> Result<(), Fail>
+    requires { All (λ k. IsLawful (meaning (k.vtable, k.value))) kinds.now.list.items }
+{
+    let net = two_units(alloc, kinds)?;
     for at in 0..56 {
-        let given = said(&rt, rt.alloc(), &IMAGE[..at])?;
-        let wanted = Some(Err(ImageFault::Short { at: at as u64 }));
-        assert_eq!(rt; given, wanted, "{at}");
+        let wanted = Err(ImageFault::Short { at: at as u64 });
+        compare(rt, alloc, &net, kinds, &IMAGE[..at], wanted)?;
     }
-    Ok(())
-}
-
-#[test]
-fn refuses_one_byte_too_many(rt: HostRuntime) -> Result<(), Fail> {
     let mut longer = [0u8; 57];
     longer[..56].copy_from_slice(&IMAGE);
-    let wanted = Some(Err(ImageFault::Trailing { at: 56 }));
-    assert_eq!(rt; said(&rt, rt.alloc(), &longer)?, wanted);
-    Ok(())
+    let wanted = Err(ImageFault::Trailing { at: 56 });
+    compare(rt, alloc, &net, kinds, &longer, wanted)
 }
 
-#[test]
-fn names_the_first_wrong_field(rt: HostRuntime) -> Result<(), Fail> {
+/// The first wrong field is named.
+fn name_fields(rt: &impl Abort, alloc: Global, kinds: &Kinds) -> Result<(), Fail>
+    requires { All (λ k. IsLawful (meaning (k.vtable, k.value))) kinds.now.list.items }
+{
+    let net = two_units(alloc, kinds)?;
     for (at, byte, wanted) in [
         (0, b'd', ImageFault::Header { at: 0 }),
         (3, b'N', ImageFault::Header { at: 0 }),
@@ -189,8 +97,16 @@ fn names_the_first_wrong_field(rt: HostRuntime) -> Result<(), Fail> {
         let mut changed = IMAGE;
         assert!(rt; at < 56);
         changed[at] = byte;
-        let given = said(&rt, rt.alloc(), &changed)?;
-        assert_eq!(rt; given, Some(Err(wanted)), "{at}");
+        compare(rt, alloc, &net, kinds, &changed, Err(wanted))?;
     }
     Ok(())
+}
+
+#[test]
+fn takes_exactly_the_images_of_a_net(rt: HostRuntime) -> Result<(), Fail> {
+    let alloc = rt.alloc();
+    let kinds = program_kinds!(alloc);
+    take_versions(&rt, alloc, &kinds)?;
+    refuse_lengths(&rt, alloc, &kinds)?;
+    name_fields(&rt, alloc, &kinds)
 }

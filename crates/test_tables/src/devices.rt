@@ -1,0 +1,18 @@
+//! The device in memory.
+
+use dn_base::device::{TableEvent, Tables};
+use dn_base::memory_tables::MemTables;
+use std::test::Fail;
+
+#[test]
+fn keeps_as_many_events_as_there_is_room_for(rt: HostRuntime) -> Result<(), Fail> {
+    let alloc = rt.alloc();
+    let mut device = MemTables::new(alloc, 1, Vec::new(alloc))?;
+    device.make(0, 1)?;
+    device.write(0, 0, 7)?;
+    device.fence()?;
+    assert_eq!(rt; device.words(0), [7].as_slice());
+    let made = [TableEvent::Make { unit: 0, words: 1 }];
+    assert_eq!(rt; device.log(), made.as_slice());
+    Ok(())
+}

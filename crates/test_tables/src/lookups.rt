@@ -1,0 +1,268 @@
+//! Lookups in images.
+
+ghost use Rattle.std.specs.Prelude.{map};
+ghost use Rattle.std.specs.List.{All};
+ghost use Rattle.dn_kind.specs.Kind.{IsLawful};
+ghost use Rattle.dn_kind.specs.Units.{IsLegalWith, KeepsUnitShape};
+ghost use Rattle.dn_tables.specs.Set.{FitsNet};
+
+use crate::boards::{page_board, port_board, row_board};
+use crate::images::{put_page, said};
+use crate::slots::Place;
+use dn_base::memory_tables::MemTables;
+use dn_image::check::check;
+use dn_image::fault::ImageFault;
+use dn_image::write::write;
+use dn_kind::kinds::Kinds;
+use dn_kind::rights::Access;
+use dn_lookup::lookup::{LookupFault, lookup};
+use dn_net::net::Net;
+use dn_net::node::Name;
+use dn_tables::set::TableSet;
+use std::alloc::Global;
+use std::process::Abort;
+use std::test::Fail;
+use test_plans::program_kinds;
+
+/// The image of the board with pages whose first word is this.
+fn page_image(version: u8, word: u64) -> [u8; 144] {
+    let mut image = [0; 144];
+    image[..16].copy_from_slice(b"DNIM\x02\0\x01\0\x05\0\x01\0\x10\0\0\0");
+    image[4] = version;
+    image[16..24].copy_from_slice(&word.to_le_bytes());
+    image
+}
+
+/// The image of the board with two ports whose first word is this.
+fn port_image(word: u64) -> [u8; 48] {
+    let mut image = [0; 48];
+    image[..16].copy_from_slice(b"DNIM\x02\0\x01\0\x03\0\x01\0\x04\0\0\0");
+    image[16..24].copy_from_slice(&word.to_le_bytes());
+    image
+}
+
+/// Compares the one name, or none, to which an address of an agent comes.
+fn compare(
+    rt: &impl Abort,
+    alloc: Global,
+    net: &Net,
+    kinds: &Kinds,
+    image: &[u8],
+    from: Name,
+    access: Access,
+    wanted: Option<Name>,
+) -> Result<(), Fail>
+    requires lawful { All (λ k. IsLawful (meaning (k.vtable, k.value))) kinds.now.list.items }
+    requires legal { IsLegalWith (map (λ k. meaning (k.vtable, k.value)) kinds.now.list.items) net.now }
+{
+    let names = lookup(alloc, net, kinds, image, from.node, from.addr, access)?;
+    assert_eq!(rt; names.list(), wanted.as_slice(), "{from:?} {access:?}");
+    Ok(())
+}
+
+/// Compares what is read of an image of version 2, whatever its words spell: the first word of a
+/// unit.
+fn compare_word(
+    rt: &impl Abort,
+    alloc: Global,
+    net: &Net,
+    kinds: &Kinds,
+    image: &[u8],
+    unit: u16,
+    word: u64,
+) -> Result<(), Fail>
+    requires lawful { All (λ k. IsLawful (meaning (k.vtable, k.value))) kinds.now.list.items }
+    requires legal { IsLegalWith (map (λ k. meaning (k.vtable, k.value)) kinds.now.list.items) net.now }
+{
+    assert_eq!(rt; check(net, kinds, image), Ok(2));
+    let first = first_word(alloc, net, kinds, image, unit)?;
+    assert_eq!(rt; first, Some(word));
+    Ok(())
+}
+
+/// The first word of a unit, as it is read. `None` where there is none.
+fn first_word(
+    alloc: Global,
+    net: &Net,
+    kinds: &Kinds,
+    image: &[u8],
+    unit: u16,
+) -> Result<Option<u64>, ImageFault>
+    requires lawful { All (λ k. IsLawful (meaning (k.vtable, k.value))) kinds.now.list.items }
+    requires shaped { KeepsUnitShape (map (λ k. meaning (k.vtable, k.value)) kinds.now.list.items) net.now }
+{
+    match said(alloc, net, kinds, image, unit)? {
+        Some((_version, words)) => Ok(words.first().copied()),
+        None => Ok(None),
+    }
+}
+
+/// An address goes by the record of its slot, and nowhere where the words spell none.
+fn follow_records(rt: &impl Abort, alloc: Global, kinds: &Kinds) -> Result<(), Fail>
+    requires { All (λ k. IsLawful (meaning (k.vtable, k.value))) kinds.now.list.items }
+{
+    let net = page_board(alloc, kinds)?;
+    let from = Name {
+        node: 4,
+        addr: 0x10,
+    };
+    let there = Some(Name {
+        node: 0,
+        addr: 0x4010,
+    });
+    for (word, wanted) in [
+        (0x8000401, there),
+        // A bit that must be 0 is set.
+        (0x8000403, None),
+        // The output page is past the reach.
+        (0x10000001, None),
+        // The gate is shut.
+        (0x8000400, None),
+        (0, None),
+    ] {
+        let image = page_image(2, word);
+        compare_word(rt, alloc, &net, kinds, &image, 5, word)?;
+        compare(rt, alloc, &net, kinds, &image, from, Access::Read, wanted)?;
+        compare(rt, alloc, &net, kinds, &image, from, Access::Write, wanted)?;
+    }
+    Ok(())
+}
+
+/// A record lets through what its rights allow.
+fn ask_rights(rt: &impl Abort, alloc: Global, kinds: &Kinds) -> Result<(), Fail>
+    requires { All (λ k. IsLawful (meaning (k.vtable, k.value))) kinds.now.list.items }
+{
+    let net = page_board(alloc, kinds)?;
+    let from = Name {
+        node: 4,
+        addr: 0x10,
+    };
+    let there = Some(Name {
+        node: 0,
+        addr: 0x4010,
+    });
+    for (version, word, reading, writing) in [
+        // Writing is denied, then reading, then both.
+        (2, 0x8000421, there, None),
+        (2, 0x8000411, None, there),
+        (2, 0x8000431, None, None),
+        // In the first version a record of one access counts for nothing.
+        (1, 0x8000421, None, None),
+        (1, 0x8000411, None, None),
+        (1, 0x8000401, there, there),
+    ] {
+        let image = page_image(version, word);
+        compare(rt, alloc, &net, kinds, &image, from, Access::Read, reading)?;
+        compare(rt, alloc, &net, kinds, &image, from, Access::Write, writing)?;
+    }
+    Ok(())
+}
+
+/// A record sends to its port, and nowhere where the unit lacks the port or the page is past its
+/// reach.
+fn ask_ports(rt: &impl Abort, alloc: Global, kinds: &Kinds) -> Result<(), Fail>
+    requires { All (λ k. IsLawful (meaning (k.vtable, k.value))) kinds.now.list.items }
+{
+    let net = port_board(alloc, kinds)?;
+    let from = Name {
+        node: 2,
+        addr: 0x10,
+    };
+    for (word, wanted) in [
+        (0x101, Some((0, 0x1010))),
+        (0x103, Some((1, 0x1010))),
+        // The last page, and one past it.
+        (0x303, Some((1, 0x3010))),
+        (0x403, None),
+        // Ports that the unit does not have.
+        (0x105, None),
+        (0x10f, None),
+    ] {
+        let wanted = wanted.map(|(node, addr)| Name { node, addr });
+        let image = port_image(word);
+        compare_word(rt, alloc, &net, kinds, &image, 3, word)?;
+        compare(rt, alloc, &net, kinds, &image, from, Access::Read, wanted)?;
+    }
+    Ok(())
+}
+
+/// An address goes through two units.
+fn go_through_two(rt: &impl Abort, alloc: Global, kinds: &Kinds) -> Result<(), Fail>
+    requires { All (λ k. IsLawful (meaning (k.vtable, k.value))) kinds.now.list.items }
+{
+    let net = row_board(alloc, kinds)?;
+    let mut device = MemTables::new(alloc, 0, Vec::new(alloc))?;
+    let mut set = TableSet::make(alloc, &net, kinds, &mut device)?;
+    let own = Place { unit: 5, slot: 0 };
+    put_page(rt, &net, kinds, &mut set, &mut device, own, 0);
+    let first = Place { unit: 7, slot: 0 };
+    put_page(rt, &net, kinds, &mut set, &mut device, first, 0x80004);
+    let second = Place { unit: 7, slot: 1 };
+    put_page(rt, &net, kinds, &mut set, &mut device, second, 0x80006);
+    compare_row(rt, alloc, &net, kinds, &set)
+}
+
+/// Compares where addresses come to in the image of tables of two units, of which the first has a
+/// record for its first page, and the second for its first two.
+fn compare_row(
+    rt: &impl Abort,
+    alloc: Global,
+    net: &Net,
+    kinds: &Kinds,
+    set: &TableSet,
+) -> Result<(), Fail>
+    requires lawful { All (λ k. IsLawful (meaning (k.vtable, k.value))) kinds.now.list.items }
+    requires legal { IsLegalWith (map (λ k. meaning (k.vtable, k.value)) kinds.now.list.items) net.now }
+    requires fits { FitsNet net.now (map (λ k. meaning (k.vtable, k.value)) kinds.now.list.items) set.now }
+{
+    let written = write(alloc, net, kinds, set)?;
+    let image = written.as_slice();
+    assert_eq!(rt; image.len(), 2104);
+    for (addr, wanted) in [
+        (0x234, Some(0x4234)),
+        (0x1234, Some(0x6234)),
+        (0x2000, None),
+        (0x10_0000, None),
+    ] {
+        let from = Name { node: 4, addr };
+        let wanted = wanted.map(|addr| Name { node: 0, addr });
+        compare(rt, alloc, net, kinds, image, from, Access::Write, wanted)?;
+    }
+    Ok(())
+}
+
+/// Without an agent or an image there is no answer.
+fn ask_without(rt: &impl Abort, alloc: Global, kinds: &Kinds) -> Result<(), Fail>
+    requires { All (λ k. IsLawful (meaning (k.vtable, k.value))) kinds.now.list.items }
+{
+    let net = page_board(alloc, kinds)?;
+    let image = page_image(2, 0);
+    // The core reaches the memory through no unit.
+    let from = Name {
+        node: 3,
+        addr: 0x8000_0000,
+    };
+    let wanted = Some(Name { node: 0, addr: 0 });
+    compare(rt, alloc, &net, kinds, &image, from, Access::Read, wanted)?;
+    // The bus is no agent, and there is no node 6. That is said whatever the bytes are.
+    for (node, length) in [(2, 144), (2, 0), (6, 144), (6, 3)] {
+        assert!(rt; length <= 144);
+        let given = lookup(alloc, &net, kinds, &image[..length], node, 0, Access::Read);
+        assert_eq!(rt; given.err(), Some(LookupFault::NoAgent), "{node}");
+    }
+    let given = lookup(alloc, &net, kinds, &image[..143], 4, 0, Access::Read);
+    let short = ImageFault::Short { at: 143 };
+    assert_eq!(rt; given.err(), Some(LookupFault::Image(short)));
+    Ok(())
+}
+
+#[test]
+fn looks_up_in_the_bytes_of_an_image(rt: HostRuntime) -> Result<(), Fail> {
+    let alloc = rt.alloc();
+    let kinds = program_kinds!(alloc);
+    follow_records(&rt, alloc, &kinds)?;
+    ask_rights(&rt, alloc, &kinds)?;
+    ask_ports(&rt, alloc, &kinds)?;
+    go_through_two(&rt, alloc, &kinds)?;
+    ask_without(&rt, alloc, &kinds)
+}

@@ -1,0 +1,267 @@
+//! Calls on the slots of a set of tables, made where what they ask holds.
+
+ghost use Rattle.std.specs.Prelude.{◌≡◌, ◌==◌, ◌+◌, ◌*◌, ◌≤◌, map, length, replicate, Some, IsTrue, IsSome};
+ghost use Rattle.std.specs.List.{All, list_all};
+ghost use Rattle.std.specs.Option.{option_copied};
+ghost use Rattle.dn_base.specs.Device.{sizes_of};
+ghost use Rattle.dn_net.specs.declared.node.Unit.{Unit as UnitPart};
+ghost use Rattle.dn_kind.specs.Kind.{IsLawful};
+ghost use Rattle.dn_kind.specs.Rights.{are_rights};
+ghost use Rattle.dn_kind.specs.Tables.{slot_words};
+ghost use Rattle.dn_kind.specs.Units.{IsLegalWith, unit_shape};
+ghost use Rattle.test_tables.specs.Slots.{CanHold, slots_by};
+ghost use Rattle.dn_tables.specs.Set.{FitsNet, IsEmpty, IsOnDevice, IsPackableIn, has_slot, has_slot_by, unit_in, units_of, use_in, words_in};
+
+use bitflags::Flags;
+use dn_base::device::{DeviceFault, Tables};
+use dn_base::memory_tables::MemTables;
+use dn_kind::kinds::Kinds;
+use dn_kind::rights::Rights;
+use dn_kind::shape::shape_of;
+use dn_kind::unit_kind::Record;
+use dn_net::net::Net;
+use dn_net::node::Unit;
+use dn_tables::set::TableSet;
+
+/// A slot of a unit, by the number of the unit's node.
+#[derive(Clone, Copy, Debug, PartialEq, Eq)]
+pub struct Place {
+    pub unit: u16,
+    pub slot: u32,
+}
+
+/// A record of port 0 that allows both accesses.
+pub fn to_page(page: u64) -> Record {
+    Record {
+        port: 0,
+        page,
+        rights: Rights::both(),
+    }
+}
+
+/// Whether the slot is there.
+pub fn is_there(net: &Net, set: &TableSet, at: Place) -> bool
+    requires { units_of set.now ≡ map (λ n. n.unit) net.now }
+    ensures slot { IsTrue result → IsTrue (has_slot set.now at.unit at.slot) }
+    ensures unit { IsTrue result → IsSome (unit_in set.now at.unit) }
+{
+    if at.unit >= net.nodes() {
+        return false;
+    }
+    has_slot(net.unit(at.unit), at.slot)
+}
+
+/// Whether a unit has the slot.
+fn has_slot(unit: Option<&Unit>, slot: u32) -> bool
+    ensures { result ≡ has_slot_by (option_copied unit.entry) slot }
+{
+    match unit {
+        Some(unit) => slot < unit.slots,
+        None => false,
+    }
+}
+
+/// Whether the words of a slot that is there are 0.
+fn is_empty(net: &Net, set: &TableSet, at: Place) -> bool
+    requires units { units_of set.now ≡ map (λ n. n.unit) net.now }
+    requires there { IsTrue (has_slot set.now at.unit at.slot) }
+    ensures { IsTrue result → IsEmpty set.now at.unit at.slot }
+{
+    if at.unit >= net.nodes() {
+        return false;
+    }
+    let words = set.words(at.unit);
+    let slots = slots_of(net.unit(at.unit));
+    if slots == 0 {
+        return false;
+    }
+    is_zero_at(words, at.slot, words.len() / slots)
+}
+
+/// Whether the words of a slot are 0, where each slot has so many.
+fn is_zero_at(words: &[u64], slot: u32, width: usize) -> bool
+    requires { slot * width + width ≤ length words.now }
+    ensures { IsTrue result → slot_words width words.now slot ≡ replicate width 0 }
+{
+    let first = slot as usize * width;
+    are_zero(&words[first..first + width])
+}
+
+/// How many slots a unit has.
+fn slots_of(unit: Option<&Unit>) -> usize
+    ensures { result ≡ slots_by (option_copied unit.entry) }
+{
+    match unit {
+        Some(unit) => unit.slots as usize,
+        None => 0,
+    }
+}
+
+/// Whether words are 0.
+fn are_zero(words: &[u64]) -> bool
+    ensures { result ≡ list_all (λ w. w == 0) words.now }
+{
+    for word in words {
+        if *word != 0 {
+            return false;
+        }
+    }
+    true
+}
+
+/// Whether the unit that a node is can hold a record.
+fn is_packable(net: &Net, set: &TableSet, node: u16, wanted: Record) -> bool
+    requires units { units_of set.now ≡ map (λ n. n.unit) net.now }
+    ensures { IsTrue result → (u : UnitPart) → unit_in set.now node ≡ Some u →
+        CanHold (unit_shape u) wanted }
+{
+    if node >= net.nodes() {
+        return false;
+    }
+    match net.unit(node) {
+        Some(unit) => can_hold(unit, wanted),
+        None => false,
+    }
+}
+
+/// Whether a unit can hold a record.
+fn can_hold(unit: &Unit, wanted: Record) -> bool
+    ensures { IsTrue result → CanHold (unit_shape unit.now) wanted }
+{
+    if !unit.has_plain_shape() {
+        return false;
+    }
+    wanted.is_within(shape_of(unit)) && are_rights(wanted.rights)
+}
+
+/// Whether rights are those of a record: one access, or both.
+fn are_rights(rights: Rights) -> bool
+    ensures { result ≡ are_rights rights }
+{
+    1 <= rights.bits() && rights.bits() <= 3
+}
+
+/// Puts a record into a slot. `None`, and nothing is done, where the slot is not there or not
+/// empty, or the unit cannot hold the record.
+pub fn put<D: Tables>(
+    net: &Net,
+    kinds: &Kinds,
+    set: &mut TableSet,
+    device: &mut D,
+    at: Place,
+    wanted: Record,
+) -> Option<Result<(), DeviceFault>>
+    requires lawful { All (λ k. IsLawful (meaning (k.vtable, k.value))) kinds.now.list.items }
+    requires legal { IsLegalWith (map (λ k. meaning (k.vtable, k.value)) kinds.now.list.items) net.now }
+    requires fits { FitsNet net.now (map (λ k. meaning (k.vtable, k.value)) kinds.now.list.items) set.old }
+    requires on_device { IsOnDevice set.old (D.units device.old) (D.words device.old) }
+    ensures fits { FitsNet net.now (map (λ k. meaning (k.vtable, k.value)) kinds.now.list.items) set.new }
+    ensures on_device { IsOnDevice set.new (D.units device.new) (D.words device.new) }
+{
+    if !is_there(net, set, at) {
+        return None;
+    }
+    if !is_empty(net, set, at) {
+        return None;
+    }
+    if !is_packable(net, set, at.unit, wanted) {
+        return None;
+    }
+    Some(set.put(kinds, at.unit, at.slot, wanted, device))
+}
+
+/// Clears a slot. `None`, and nothing is done, where it is not there.
+pub fn clear<D: Tables>(
+    net: &Net,
+    kinds: &Kinds,
+    set: &mut TableSet,
+    device: &mut D,
+    at: Place,
+) -> Option<Result<(), DeviceFault>>
+    requires fits { FitsNet net.now (map (λ k. meaning (k.vtable, k.value)) kinds.now.list.items) set.old }
+    requires on_device { IsOnDevice set.old (D.units device.old) (D.words device.old) }
+    ensures fits { FitsNet net.now (map (λ k. meaning (k.vtable, k.value)) kinds.now.list.items) set.new }
+    ensures on_device { IsOnDevice set.new (D.units device.new) (D.words device.new) }
+{
+    if !is_there(net, set, at) {
+        return None;
+    }
+    Some(set.clear(at.unit, at.slot, device))
+}
+
+/// The record of a slot. `None` where it holds none, or is not there.
+pub fn record_of(net: &Net, kinds: &Kinds, set: &TableSet, at: Place) -> Option<Record>
+    requires lawful { All (λ k. IsLawful (meaning (k.vtable, k.value))) kinds.now.list.items }
+    requires fits { FitsNet net.now (map (λ k. meaning (k.vtable, k.value)) kinds.now.list.items) set.now }
+{
+    if !is_there(net, set, at) {
+        return None;
+    }
+    set.record_at(kinds, at.unit, at.slot)
+}
+
+/// The words of a unit. None where it is not there.
+pub fn words<'a>(net: &Net, set: &'a TableSet, unit: u16) -> &'a [u64]
+    requires { units_of set.now ≡ map (λ n. n.unit) net.now }
+{
+    if is_there(net, set, Place { unit, slot: 0 }) {
+        set.words(unit)
+    } else {
+        &[]
+    }
+}
+
+/// The words of a unit on the device of the set. None where it is not there.
+pub fn device_words<'a>(net: &Net, set: &TableSet, device: &'a MemTables, unit: u16) -> &'a [u64]
+    requires units { units_of set.now ≡ map (λ n. n.unit) net.now }
+    requires on_device { IsOnDevice set.now (sizes_of device.now.tables) (Some device.now.tables) }
+{
+    if is_there(net, set, Place { unit, slot: 0 }) {
+        device.words(unit)
+    } else {
+        &[]
+    }
+}
+
+/// How many live grants use a slot, and the one that owns it. `None` where the slot is not there.
+pub fn use_of(net: &Net, set: &TableSet, at: Place) -> Option<(u32, Option<u32>)>
+    requires { units_of set.now ≡ map (λ n. n.unit) net.now }
+{
+    if !is_there(net, set, at) {
+        return None;
+    }
+    Some((
+        set.uses_at(at.unit, at.slot),
+        set.owner_at(at.unit, at.slot),
+    ))
+}
+
+/// Adds a use of a slot. Answers false, and nothing is done, where the slot is not there, or has an
+/// owner, or too many uses, or uses beside an owner that is given.
+pub fn add_use(net: &Net, set: &mut TableSet, at: Place, owner: Option<u32>) -> bool
+    requires { units_of set.old ≡ map (λ n. n.unit) net.now }
+    ensures { units_of set.new ≡ map (λ n. n.unit) net.now }
+{
+    if !is_there(net, set, at) || set.owner_at(at.unit, at.slot).is_some() {
+        return false;
+    }
+    let uses = set.uses_at(at.unit, at.slot);
+    if uses >= 4096 || (owner.is_some() && uses != 0) {
+        return false;
+    }
+    set.add_use(at.unit, at.slot, owner);
+    true
+}
+
+/// Ends a use of a slot. Answers false, and nothing is done, where the slot is not there or not
+/// used.
+pub fn end_use(net: &Net, set: &mut TableSet, at: Place) -> bool
+    requires { units_of set.old ≡ map (λ n. n.unit) net.now }
+    ensures { units_of set.new ≡ map (λ n. n.unit) net.now }
+{
+    if !is_there(net, set, at) || set.uses_at(at.unit, at.slot) == 0 {
+        return false;
+    }
+    set.end_use(at.unit, at.slot);
+    true
+}
