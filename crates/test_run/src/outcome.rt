@@ -4,7 +4,7 @@ ghost use Rattle.std.specs.Prelude.{◌≡◌, ◌≢◌, ◌<◌, ◌≤◌, []
 ghost use Rattle.std.specs.List.{All};
 ghost use Rattle.dn_base.specs.Device.{log_told};
 ghost use Rattle.dn_kind.specs.Kind.{IsLawful};
-ghost use Rattle.dn_tool.specs.Answer.{IsAnswered, answer as answer_of};
+ghost use Rattle.dn_tool.specs.Answer.{IsAnswered, answer as answer_of, demo_answer};
 
 use dn_base::memory::{MemSink, MemSource};
 use dn_base::memory_tables::MemTables;
@@ -102,6 +102,67 @@ fn answer_with(
     Ok(Outcome {
         status,
         source,
+        sink,
+        device,
+    })
+}
+
+/// What a demonstration came to: its status, the sink with what was written, and the device with
+/// its words and its log.
+#[derive(Drop)]
+pub struct Shown {
+    pub status: u8,
+    pub sink: MemSink,
+    pub device: MemTables,
+}
+
+/// Runs the demonstration with so many agents, with the kinds of the program, where these calls of
+/// the sink and of the device fail.
+///
+/// # Errors
+///
+/// `AllocError` where there is no memory for the kinds, the sink and the device. Want of memory in
+/// the run is its status.
+pub fn show(alloc: Global, agents: u8, writes: &[u32], calls: &[u32]) -> Result<Shown, AllocError>
+    requires { 0 < agents }
+{
+    pages_are_lawful();
+    remap_is_lawful();
+    vectors_are_lawful();
+    let mut kinds = Kinds::none(alloc);
+    kinds.add(Box::new(alloc, Pages)?)?;
+    kinds.add(Box::new(alloc, Remap)?)?;
+    kinds.add(Box::new(alloc, Vectors)?)?;
+    show_with(alloc, agents, &kinds, writes, calls)
+}
+
+/// The same with the kinds that are handed in.
+fn show_with(
+    alloc: Global,
+    agents: u8,
+    kinds: &Kinds,
+    writes: &[u32],
+    calls: &[u32],
+) -> Result<Shown, AllocError>
+    requires some { 0 < agents }
+    requires few_kinds { length kinds.now.list.items ≤ 255 }
+    requires lawful { All (λ k. IsLawful (meaning (k.vtable, k.value))) kinds.now.list.items }
+    // What was written, the device's log and its words are those of the demonstration, as far as
+    // the run came.
+    ensures answered { IfOk result (λ o. IsAnswered (map (λ k. meaning (k.vtable, k.value)) kinds.now.list.items)
+        (demo_answer agents (map (λ k. meaning (k.vtable, k.value)) kinds.now.list.items)) o.status
+        (Some []) (Some o.sink.written) (Some []) (log_told o.device) (Some o.device.tables)) }
+    // Where no call is to fail, no fault is answered, and no fault is swallowed.
+    ensures sure_sink { writes.now ≡ [] → IfOk result (λ o. o.status ≢ 3) }
+    ensures sure_device { calls.now ≡ [] → IfOk result (λ o. o.status ≢ 6) }
+    ensures sink_counted { IfOk result (λ o. (o.status ≢ 3) → o.sink.calls.faults ≡ 0) }
+    ensures device_counted { IfOk result (λ o. (o.status ≢ 6) → o.device.calls.faults ≡ 0) }
+{
+    let mut sink = MemSink::new(alloc, writes.to_vec(alloc)?);
+    let mut device = MemTables::new(alloc, ROOM, calls.to_vec(alloc)?)?;
+    let status = run::demo(alloc, agents, kinds, &mut sink, &mut device);
+    Ok(Shown {
+        status,
         sink,
         device,
     })

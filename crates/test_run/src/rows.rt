@@ -3,6 +3,7 @@
 ghost use Rattle.std.specs.Prelude.{◌<◌};
 
 use crate::outcome::{Failing, NONE, answer};
+use dn_base::device::TableEvent;
 use dn_tool::run::{DONE, REFUSED};
 use dn_tool::words::Words;
 use std::alloc::{AllocError, Global};
@@ -16,6 +17,12 @@ pub(crate) fn words_of(alloc: Global, list: &[&str]) -> Result<Words, AllocError
         words.push(word)?;
     }
     Ok(words)
+}
+
+/// The first events, as many as there are up to a count.
+pub(crate) fn front(events: &[TableEvent], count: u32) -> &[TableEvent] {
+    let count = (count as usize).min(events.len());
+    &events[..count]
 }
 
 /// Runs the words over the text, and compares the status and what was written.
