@@ -174,8 +174,11 @@ fn read_wrong_fields(rt: &impl Abort, alloc: Global, kinds: &Kinds) -> Result<()
 {
     let net = page_board(alloc, kinds)?;
     let image = page_image();
-    let fault = said(alloc, &net, kinds, &image[..143], 5).err();
-    assert_eq!(rt; fault, Some(ImageFault::Short { at: 143 }));
+    for length in [143] {
+        assert!(rt; length <= 144);
+        let fault = said(alloc, &net, kinds, &image[..length], 5).err();
+        assert_eq!(rt; fault, Some(ImageFault::Short { at: 143 }));
+    }
     let mut longer = [0; 145];
     longer[..144].copy_from_slice(&image);
     let fault = said(alloc, &net, kinds, &longer, 5).err();
