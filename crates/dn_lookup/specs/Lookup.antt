@@ -36,11 +36,12 @@ lookup_of net kinds bytes access x =
     if is_agent_at (slice_get net x.node) then looked_up_in net kinds access x (image_reading net kinds bytes)
     else Err no_agent
 
--- what a fault says; want of memory says nothing
+-- what a fault of an image says; want of memory says nothing
 abbrev pub no_lookup_by : Option BrokenImage → Option NoLookup
 no_lookup_by None = None
 no_lookup_by (Some b) = Some (no_image b)
 
+-- what a fault of a lookup says; want of memory says nothing
 abbrev pub lookup_fault_view : LookupFault → Option NoLookup
 lookup_fault_view NoAgent = Some no_agent
 lookup_fault_view (Image fault) = no_lookup_by (image_fault_view fault)
