@@ -8,7 +8,7 @@ ghost use Rattle.dn_base.specs.declared.device.MakeFault.TheVariants.{OutOfMemor
 ghost use Rattle.dn_base.specs.declared.device.TableEvent.{TableEvent};
 ghost use Rattle.dn_base.specs.declared.device.UnitWords.{UnitWords};
 
-use crate::items::Items;
+use crate::filled::Filled;
 use std::alloc::AllocError;
 use thiserror::Error;
 
@@ -29,7 +29,7 @@ pub struct UnitWords {
     /// The number of the unit's node.
     pub unit: u16,
     /// Its words, by their numbers.
-    pub words: Items<u64>,
+    pub words: Filled<u64>,
 }
 
 /// Why a unit was not made.

@@ -14,6 +14,7 @@
 
 mod calls;
 pub mod device;
+pub mod filled;
 pub mod items;
 pub mod memory;
 pub mod memory_tables;

@@ -15,7 +15,7 @@ ghost use Rattle.dn_base.specs.declared.device.UnitWords.{UnitWords};
 use crate::OutOfMemory;
 use crate::calls::Calls;
 use crate::device::{DeviceFault, MakeFault, TableEvent, Tables, UnitWords};
-use crate::items::Items;
+use crate::filled::Filled;
 use std::alloc::Global;
 use std::marker::Model;
 
@@ -63,13 +63,13 @@ impl MemTables {
     }
 
     /// The words of a unit that was made.
-    pub fn words(&self, unit: u16) -> &[u64]
+    pub fn words(&self, unit: u16) -> &Filled<u64>
         requires { has_unit (sizes_of self.now.tables) unit ≡ true }
         ensures { result.now ≡ words_of_unit self.now.tables unit }
     {
         for table in &self.tables {
             if table.unit == unit {
-                return table.words.as_slice();
+                return &table.words;
             }
         }
         unreachable!()
@@ -169,13 +169,10 @@ impl Tables for MemTables {
             return Err(MakeFault::Device);
         }
         let alloc = *self.tables.allocator();
-        let Ok(zeros) = vec![in alloc; 0u64; count as usize] else {
+        let Ok(words) = Filled::new(alloc, 0, count as usize) else {
             return Err(MakeFault::OutOfMemory);
         };
-        let table = UnitWords {
-            unit,
-            words: Items::from_vec(zeros),
-        };
+        let table = UnitWords { unit, words };
         if self.tables.push(table).is_err() {
             return Err(MakeFault::OutOfMemory);
         }

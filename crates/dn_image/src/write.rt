@@ -1,6 +1,6 @@
 //! The image of a set of tables.
 
-ghost use Rattle.std.specs.Prelude.{◌≡◌, ◌++◌, ◌+◌, ◌*◌, ◌<◌, ◌≤◌, ◌^◌, length, map, take, slice_get, Some, IfOk, OnOk, IsTrue};
+ghost use Rattle.std.specs.Prelude.{◌≡◌, ◌++◌, ◌+◌, ◌*◌, ◌<◌, ◌≤◌, ◌^◌, length, map, replicate, take, slice_get, Some, IfOk, OnOk, IsTrue};
 ghost use Rattle.std.specs.List.{All};
 ghost use Rattle.std.specs.Option.{option_copied};
 ghost use Rattle.byteorder.specs.Endian.{little_bytes};
@@ -11,6 +11,7 @@ ghost use Rattle.dn_image.specs.Image.{count_unit, head_of, image, mark, unit_by
 
 use crate::slots::record_width;
 use byteorder::{ByteOrder, LittleEndian};
+use dn_base::filled::Filled;
 use dn_kind::kinds::Kinds;
 use dn_net::net::Net;
 use dn_net::node::Unit;
@@ -78,7 +79,7 @@ fn image_size(net: &Net, tables: &TableSet) -> usize
     let mut size = HEADER;
     for node in 0..net.nodes() {
         if net.unit(node).is_some() {
-            let words = 8 * tables.words(node).len();
+            let words = tables.words(node).len().saturating_mul(8);
             size = size.saturating_add(HEAD).saturating_add(words);
         }
     }
@@ -128,15 +129,36 @@ fn push_unit(
     node: u16,
     width: u8,
     slots: u32,
-    words: &[u64],
+    words: &Filled<u64>,
 ) -> Result<(), AllocError>
     ensures { OnOk result (out.new.items ≡ out.old.items
         ++ (head_of node width slots ++ word_bytes words.now)) }
 {
     out.extend_from_slice(&head(node, width, slots))?;
+    let (written, rest) = words.parts();
+    push_words(out, written)?;
+    push_repeated(out, rest, words.len() - written.len())
+}
+
+/// Appends words.
+fn push_words(out: &mut Vec<u8>, words: &[u64]) -> Result<(), AllocError>
+    ensures { OnOk result (out.new.items ≡ out.old.items ++ word_bytes words.now) }
+{
     for word in words {
         let mut bytes = [0u8; 8];
         LittleEndian::write_u64(&mut bytes, *word);
+        out.extend_from_slice(&bytes)?;
+    }
+    Ok(())
+}
+
+/// Appends one word so many times.
+fn push_repeated(out: &mut Vec<u8>, word: u64, count: usize) -> Result<(), AllocError>
+    ensures { OnOk result (out.new.items ≡ out.old.items ++ word_bytes (replicate count word)) }
+{
+    let mut bytes = [0u8; 8];
+    LittleEndian::write_u64(&mut bytes, word);
+    for _ in 0..count {
         out.extend_from_slice(&bytes)?;
     }
     Ok(())

@@ -1,6 +1,6 @@
 -- Words after writes: a row of values put over words, and words of a slot that are cleared.
 use Rattle.std.proofs.Common.{◌≡◌, ℕ, zero, suc, ◌+◌, ◌-◌, ◌*◌, ◌<◌, ◌≤◌, List, [], ◌∷◌, ◌++◌, length, take, drop, replicate, get_or, slice_set, refl, sym, ap, ◌∙◌, arith, append_assoc}
-use Rattle.std.proofs.lemmas.List.{length-set, take-append-drop, drop-set, length_push, replicate_more, length-replicate, length-take-le, drop_at, take_at, get_or-drop, get_or-append_right, get_or-take, get_or-replicate}
+use Rattle.std.proofs.lemmas.List.{length-set, take-append-drop, drop-set, length_push, replicate_more, length-replicate, length-take-le, drop_at, take_at, get_or-drop, get_or-append_right, get_or-take, get_or-replicate, length-drop, take_more, take_more_set}
 use Rattle.dn_kind.specs.Tables.{slot_words}
 use Rattle.dn_tables.specs.Set.{put_over}
 use Rattle.dn_tables.specs.Writes.{WordWrite, writes_from, words_after, clears_from}
@@ -42,6 +42,15 @@ writes_split (suc i) first (v ∷ vs) =
     let e : suc first + i ≡ first + suc i = omega arith in
     ap (λ (l : List WordWrite). record { word = first; value = v } ∷ l) (writes_split i (suc first) vs)
     ∙ ap (λ n. record { word = first; value = v } ∷ (writes_from (suc first) (take i vs) ++ writes_from n (drop i vs))) e
+
+-- words that are read into a list one after the other
+pub read_next : (xs ws : List ℕ) (first i v : ℕ) → i < length xs → first + i < length ws → v ≡ get_or ws (first + i) v → take i xs ≡ take i (drop first ws) → take (i + 1) (slice_set xs i v) ≡ take (i + 1) (drop first ws)
+read_next xs ws first i v room within at same =
+    let long : length (drop first ws) ≡ length ws - first = length-drop first ws in
+    take_more_set xs i v room
+    ∙ ap (λ (l : List ℕ). l ++ v ∷ []) same
+    ∙ ap (λ n. take i (drop first ws) ++ n ∷ []) (at ∙ sym (get_or-drop first ws i v))
+    ∙ sym (take_more (drop first ws) i v (omega arith))
 
 put_none : (ws : List ℕ) (first : ℕ) → put_over ws first [] ≡ ws
 put_none ws first = take-append-drop first ws

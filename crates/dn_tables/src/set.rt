@@ -12,7 +12,9 @@ ghost use Rattle.dn_tables.specs.Set.{FitsNet, IsEmpty, IsOnDevice, IsPackableIn
 ghost use Rattle.dn_tables.specs.Writes.{AreMade, AreUnitsMade, clear_writes, make_event, put_writes};
 
 use crate::table::{NodeTable, SlotUse};
+use crate::words::SlotWords;
 use dn_base::device::{DeviceFault, MakeFault, Tables};
+use dn_base::filled::Filled;
 use dn_kind::kinds::Kinds;
 use dn_kind::unit_kind::Record;
 use dn_net::net::Net;
@@ -173,18 +175,18 @@ impl TableSet {
     }
 
     /// The words of a unit: those of slot `q` are `width` words from `q * width` on.
-    pub fn words(&self, unit: u16) -> &[u64]
+    pub fn words(&self, unit: u16) -> &Filled<u64>
         requires { IsSome (unit_in self.now unit) }
         ensures value { result.now ≡ words_in self.now unit }
         ensures set { IsSet self.now }
     {
-        self.nodes[usize::from(unit)].words.as_slice()
+        &self.nodes[usize::from(unit)].words
     }
 
     /// The words of a slot.
-    pub fn slot_words(&self, unit: u16, slot: u32) -> &[u64]
+    pub fn slot_words(&self, unit: u16, slot: u32) -> SlotWords
         requires { IsTrue (has_slot self.now unit slot) }
-        ensures { result.now ≡ slot_words (width_in self.now unit) (words_in self.now unit) slot }
+        ensures { result ≡ slot_words (width_in self.now unit) (words_in self.now unit) slot }
     {
         let table = &self.nodes[usize::from(unit)];
         table.slot_words(slot)
@@ -249,7 +251,8 @@ impl TableSet {
         requires { IsTrue (has_slot self.now unit slot) }
         ensures { result ≡ use_in self.now unit slot }
     {
-        self.nodes[usize::from(unit)].uses.as_slice()[slot as usize]
+        let table = &self.nodes[usize::from(unit)];
+        table.uses.get(slot as usize)
     }
 }
 
@@ -302,7 +305,7 @@ fn make_unit<D: Tables>(table: &NodeTable, node: u16, device: &mut D) -> Result<
     ensures counted { IsCounted (D.faults device.old) (D.faults device.new) (is_make_fault result) }
 {
     match &table.unit {
-        Some(_) => device.make(node, table.words.as_slice().len() as u32),
+        Some(_) => device.make(node, table.words.len() as u32),
         None => Ok(()),
     }
 }

@@ -12,8 +12,10 @@ ghost use Rattle.dn_kind.specs.Units.{is_shaped, has_shape, unit_shape};
 ghost use Rattle.dn_tables.specs.Set.{fits_by, fresh_by, has_slot_by, is_sized, packed_for, width_by, with_words};
 ghost use Rattle.dn_tables.specs.Writes.{AreWritten, clears_from, writes_from};
 
+use crate::words::SlotWords;
 use crate::writes::{clear_all, write_all};
 use dn_base::device::{DeviceFault, Tables};
+use dn_base::filled::Filled;
 use dn_base::items::Items;
 use dn_kind::kinds::Kinds;
 use dn_kind::shape::shape_of;
@@ -39,9 +41,9 @@ pub struct NodeTable {
     /// How many words a record has, 1 to 4.
     pub width: u8,
     /// The words of the slots, those of each slot together.
-    pub words: Items<u64>,
+    pub words: Filled<u64>,
     /// The use of each slot.
-    pub uses: Items<SlotUse>,
+    pub uses: Filled<SlotUse>,
 }
 
 impl NodeTable {
@@ -62,20 +64,21 @@ impl NodeTable {
             None => Ok(NodeTable {
                 unit: None,
                 width: 0,
-                words: Items::new(alloc),
-                uses: Items::new(alloc),
+                words: Filled::new(alloc, 0, 0)?,
+                uses: Filled::new(alloc, UNUSED, 0)?,
             }),
         }
     }
 
     /// The words of a slot.
-    pub(crate) fn slot_words(&self, slot: u32) -> &[u64]
+    pub(crate) fn slot_words(&self, slot: u32) -> SlotWords
         requires sized { IsTrue (is_sized self.now) }
         requires there { IsTrue (has_slot_by self.now.unit slot) }
-        ensures { result.now ≡ slot_words self.now.width self.now.words slot }
+        ensures words { result ≡ slot_words self.now.width self.now.words slot }
+        ensures count { length result ≡ self.now.width }
     {
         let first = slot as usize * usize::from(self.width);
-        &self.words.as_slice()[first..first + usize::from(self.width)]
+        SlotWords::read(&self.words, first, self.width)
     }
 
     /// The record that a slot holds. `None` exactly where its words spell none, where the port is
@@ -92,9 +95,8 @@ impl NodeTable {
         match &self.unit {
             Some(unit) => {
                 let kind = kinds.kind(usize::from(unit.kind));
-                let first = slot as usize * usize::from(self.width);
-                let end = first + usize::from(self.width);
-                held_record(unit, &**kind, &self.words.as_slice()[first..end])
+                let words = self.slot_words(slot);
+                held_record(unit, &**kind, words.as_slice())
             }
             None => unreachable!(),
         }
@@ -200,14 +202,14 @@ fn fresh_unit(alloc: Global, unit: &Unit, kinds: &Kinds) -> Result<NodeTable, Al
         ≡ fresh_by (map (λ k. meaning (k.vtable, k.value)) kinds.now.list.items) (Some unit.now)) }
 {
     let width = kinds.kind(usize::from(unit.kind)).words();
-    let words = vec![in alloc; 0; unit.slots as usize * usize::from(width)]?;
-    let uses = vec![in alloc; UNUSED; unit.slots as usize]?;
+    let words = Filled::new(alloc, 0, unit.slots as usize * usize::from(width))?;
+    let uses = Filled::new(alloc, UNUSED, unit.slots as usize)?;
     let unit = copy_of(alloc, unit)?;
     Ok(NodeTable {
         unit: Some(unit),
         width,
-        words: Items::from_vec(words),
-        uses: Items::from_vec(uses),
+        words,
+        uses,
     })
 }
 

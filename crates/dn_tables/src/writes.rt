@@ -6,7 +6,7 @@ ghost use Rattle.dn_base.specs.Outside.{IsCounted};
 ghost use Rattle.dn_tables.specs.Writes.{AreWritten, clears_from, writes_from};
 
 use dn_base::device::{DeviceFault, Tables};
-use dn_base::items::Items;
+use dn_base::filled::Filled;
 
 /// The words of a record that is cleared, but for its gate word.
 const ZEROS: [u64; 3] = [0; 3];
@@ -17,7 +17,7 @@ const ZEROS: [u64; 3] = [0; 3];
 ///
 /// `DeviceFault` at the first write that fails; those before it are made and kept.
 pub(crate) fn write_all<D: Tables>(
-    words: &mut Items<u64>,
+    words: &mut Filled<u64>,
     device: &mut D,
     unit: u16,
     first: u32,
@@ -48,7 +48,7 @@ pub(crate) fn write_all<D: Tables>(
 ///
 /// `DeviceFault` at the first write that fails; those before it are made and kept.
 pub(crate) fn clear_all<D: Tables>(
-    words: &mut Items<u64>,
+    words: &mut Filled<u64>,
     device: &mut D,
     unit: u16,
     first: u32,

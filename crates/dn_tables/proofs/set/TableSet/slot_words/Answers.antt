@@ -17,4 +17,4 @@ slot_words-requires-clause-there c =
 pub returns : goal.returns
 returns c =
     let s : IsSlot c.args.self.now c.args.unit c.args.slot c.index-table.result.now = slot_in_set c.self.inside.nodes.items c.args.self.now c.from.result c.args.unit c.args.slot c.index-table.result.now c.self.view_is c.from.ensures c.self.invariant c.requires c.index-table.ensures in
-    c.slot_words.ensures ∙ sym (ap (λ o. slot_words (width_of_table o) (words_of_table o) c.args.slot) s.at)
+    c.slot_words.ensures.words ∙ sym (ap (λ o. slot_words (width_of_table o) (words_of_table o) c.args.slot) s.at)

@@ -2,19 +2,13 @@ use Rattle.std.proofs.Common.{◌≡◌, ◌∙◌, ◌+◌, ◌++◌, ap, sym, 
 use Rattle.std.proofs.lemmas.List.{drop_more, drop_all}
 use Rattle.byteorder.specs.Endian.{little_bytes}
 use Rattle.dn_image.specs.Bytes.{word_bytes}
-use Rattle.dn_image.specs.Image.{head_of}
-use Rattle.dn_image.proofs.write.push_unit.Goals as goal
-
-pub loop-word-init : goal.loop-word-init
-loop-word-init c =
-    ap (λ (l : List ℕ). l ++ word_bytes c.args.words.now) (c.in_ok-extend_from_slice.ensures.items ∙ ap (λ (l : List ℕ). c.args.out.now.items ++ l) c.head.ensures)
-    ∙ append_assoc c.args.out.now.items (head_of c.args.node c.args.width c.args.slots) (word_bytes c.args.words.now)
+use Rattle.dn_image.proofs.write.push_words.Goals as goal
 
 pub loop-word-preserved : goal.loop-word-preserved
 loop-word-preserved c =
     let w : ℕ = get_or c.args.words.now c.loop-word.word-index 0 in
     let rest : List ℕ = word_bytes (drop (c.loop-word.word-index + 1) c.args.words.now) in
-    ap (λ (l : List ℕ). l ++ rest) (c.in_ok-extend_from_slice-2.ensures.items ∙ ap (λ (l : List ℕ). c.loop-word.out.items ++ l) (c.write_u64.ensures ∙ append-nil (little_bytes 8 w)))
+    ap (λ (l : List ℕ). l ++ rest) (c.in_ok-extend_from_slice.ensures.items ∙ ap (λ (l : List ℕ). c.loop-word.out.items ++ l) (c.write_u64.ensures ∙ append-nil (little_bytes 8 w)))
     ∙ append_assoc c.loop-word.out.items (little_bytes 8 w) rest
     ∙ ap (λ (l : List ℕ). c.loop-word.out.items ++ word_bytes l) (sym (drop_more c.args.words.now c.loop-word.word-index 0 c.loop-word-test.true))
     ∙ c.loop-word.invariant
