@@ -1,6 +1,8 @@
 -- What agents see under records.
 use Rattle.std.specs.Prelude.{ℕ, List}
 use Rattle.dn_interval.specs.declared.row.End.{End}
+use Rattle.dn_interval.specs.declared.row.Row.{Row}
+use Rattle.dn_interval.specs.Rows.{AreNormal}
 use Rattle.dn_net.specs.declared.node.NodeDecl.{NodeDecl}
 use Rattle.dn_kind.specs.Tables.{Held, ResolvesUnder}
 use Rattle.dn_flat.specs.Views.{name_of_end}
@@ -9,3 +11,7 @@ use Rattle.dn_flat.specs.Views.{name_of_end}
 abbrev pub ResolvesFromUnder : List NodeDecl → Held → ℕ → ℕ → End → Type 0
 ResolvesFromUnder net h node a y =
     ResolvesUnder net h (record { node = node; addr = a }) (name_of_end y)
+
+-- the rows are normal, and give to each address of the node the names to which it resolves under records
+abbrev pub AreViewed : List NodeDecl → Held → ℕ → List Row → Type 0
+AreViewed net h node rows = AreNormal (ResolvesFromUnder net h node) rows
