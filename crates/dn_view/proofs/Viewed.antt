@@ -1,12 +1,13 @@
 -- What the segments of a node show.
-use Rattle.std.proofs.Common.{◌≡◌, ℕ, ◌<◌, ◌≤◌, ◌⊎◌, ◌↔◌, inl, inr, Bool, true, List, [], slice_get, Option, Some, None, IsTrue, refl, sym, ap, subst, ◌∙◌, length}
+use Rattle.std.proofs.Common.{◌≡◌, ℕ, ◌-◌, ◌<◌, ◌≤◌, ◌==◌, ◌⊎◌, ◌↔◌, inl, inr, Bool, true, false, List, [], ◌∷◌, map, slice_get, Option, Some, None, IsTrue, refl, sym, ap, subst, arith, ◌∙◌, length}
 use Rattle.dn_interval.specs.declared.row.End.{End}
 use Rattle.dn_interval.specs.declared.row.Row.{Row}
 use Rattle.dn_interval.specs.declared.row.Seg.{Seg}
 use Rattle.dn_interval.specs.declared.span.TheConstants.{TOP}
 use Rattle.dn_interval.specs.Onward.{rows_of}
-use Rattle.dn_interval.specs.Rows.{AreNormal, GivenBy, SegmentsGive, ends_within}
+use Rattle.dn_interval.specs.Rows.{Member, moved, AreNormal, GivenBy, HasEnds, SegmentsGive, ends_within}
 use Rattle.dn_interval.specs.Strands.{segs_give, rows_give}
+use Rattle.dn_interval.proofs.Membership.{in_from}
 use Rattle.dn_interval.proofs.Names.{rows_from, rows_to}
 use Rattle.dn_net.specs.declared.node.Name.{Name}
 use Rattle.dn_net.specs.declared.node.NodeDecl.{NodeDecl}
@@ -22,7 +23,7 @@ use Rattle.dn_view.specs.declared.pass.Part.{Part}
 use Rattle.dn_view.specs.declared.pass.Part.TheVariants.{Accepts, Stops}
 use Rattle.dn_view.specs.Passes.{rows_part}
 use Rattle.dn_view.specs.Through.{ComesThrough}
-use Rattle.dn_view.specs.Views.{AreViewed, ResolvesFromUnder}
+use Rattle.dn_view.specs.Views.{AreViewed, ReachesUnit, ResolvesFromUnder}
 use Rattle.dn_view.proofs.Passed.{there}
 use Rattle.dn_view.proofs.Ways.{resolves_fixed, resolves_through}
 
@@ -73,6 +74,20 @@ fixed_rows net legal node flat is none h = record {
       let same = resolves_fixed net legal h x (name_of_end y) no_stop in
       ((λ r. (is.accepts.exact a y low).0 (same.0 r)), (λ g. same.1 ((is.accepts.exact a y low).1 g)));
 }
+
+-- a node reaches a unit, where it has a row of stops
+pub unit_reached : (net : List NodeDecl) (node : ℕ) (rows : List Row) → AreNormal (StopsFrom net node) rows → (length rows == 0) ≡ false → ReachesUnit net node
+unit_reached net node [] normal some = cc
+unit_reached net node (r ∷ rest) normal some = by r.ends refl normal.apart.1
+  where
+    by : (ends : List End) → r.ends ≡ ends → HasEnds ends → ReachesUnit net node
+    by [] e has = absurd has
+    by (x ∷ xs) e has =
+        let lo : ℕ = r.span.lo in
+        let first : End = moved (lo - lo) x in
+        let low : lo ≤ TOP = omega (arith, r.span.ordered, r.span.within) in
+        let one : Member first (map (moved (lo - lo)) r.ends) = subst (λ es. Member first (map (moved (lo - lo)) es)) (sym e) (inl refl) in
+        (lo, first, low, (normal.exact lo first low).1 (inl (in_from r.span lo (omega arith) r.span.ordered, one)))
 
 pub view_rows : (net : List NodeDecl) (h : Held) (node : ℕ) (shown : List Seg) (rows : List Row) → ((a : ℕ) (z : End) → a ≤ TOP → (segs_give shown a z ≡ true) ↔ ResolvesFromUnder net h node a z) → AreNormal (SegmentsGive shown) rows → AreNormal (ResolvesFromUnder net h node) rows
 view_rows net h node shown rows same n = normal_of (ResolvesFromUnder net h node) shown rows same n

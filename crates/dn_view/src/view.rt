@@ -1,6 +1,6 @@
 //! What an agent sees under tables.
 
-ghost use Rattle.std.specs.Prelude.{◌≡◌, ◌<◌, length, map, IfOk, IfSome, IsTrue};
+ghost use Rattle.std.specs.Prelude.{◌≡◌, ◌<◌, length, map, IfNone, IfOk, IfSome, IsTrue};
 ghost use Rattle.std.specs.List.{All};
 ghost use Rattle.dn_interval.specs.Rows.{ends_within};
 ghost use Rattle.dn_net.specs.Legal.{IsLegalNet};
@@ -9,7 +9,7 @@ ghost use Rattle.dn_kind.specs.Tables.{Held, allowing};
 ghost use Rattle.dn_kind.specs.Units.{IsLegalWith};
 ghost use Rattle.dn_flat.specs.Stages.{AreFlats};
 ghost use Rattle.dn_tables.specs.Set.{FitsNet, record_kept};
-ghost use Rattle.dn_view.specs.Views.{AreViewed};
+ghost use Rattle.dn_view.specs.Views.{AreViewed, ReachesUnit};
 
 use crate::pass::Part;
 use crate::records::Records;
@@ -23,8 +23,8 @@ use dn_net::net::Net;
 use dn_tables::set::TableSet;
 use std::alloc::Global;
 
-/// To what the addresses of a node resolve for an access under any tables, as normal rows, where the
-/// node reaches no unit: the rows of its flattened view, which are lent. None where it reaches one.
+/// To what the addresses of a node resolve under any tables, as normal rows, where they reach no unit:
+/// the rows of its flattened view, which are lent. None where they reach one.
 pub fn fixed_view<'a>(net: &Net, flats: &'a Flats, node: u16) -> Option<&'a Rows>
     requires legal { IsLegalNet net.now }
     requires flat { AreFlats net.now flats.now }
@@ -32,6 +32,7 @@ pub fn fixed_view<'a>(net: &Net, flats: &'a Flats, node: u16) -> Option<&'a Rows
     ensures rows { IfSome result (λ rows. (h : Held) → AreViewed net.now h node rows.now) }
     // Each name of a row is in a node that is there.
     ensures within { IfSome result (λ rows. IsTrue (ends_within (length net.now) rows.now)) }
+    ensures none { IfNone result (ReachesUnit net.now node) }
 {
     let _net = net;
     let flat = flats.of(node);

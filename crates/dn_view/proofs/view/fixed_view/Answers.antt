@@ -1,6 +1,7 @@
-use Rattle.std.proofs.Common.{◌≡◌, ◌∙◌, sym, []}
+use Rattle.std.proofs.Common.{◌≡◌, ◌==◌, ◌∙◌, ap, sym, List, [], length}
+use Rattle.dn_interval.specs.declared.row.Row.{Row}
 use Rattle.dn_flat.proofs.Lists.{none_of}
-use Rattle.dn_view.proofs.Viewed.{fixed_rows}
+use Rattle.dn_view.proofs.Viewed.{fixed_rows, unit_reached}
 use Rattle.dn_view.proofs.view.fixed_view.Goals as goal
 
 pub returns-then-is_empty-clause-rows : goal.returns-then-is_empty-clause-rows
@@ -11,3 +12,9 @@ returns-then-is_empty-clause-rows c =
 
 pub returns-then-is_empty-clause-within : goal.returns-then-is_empty-clause-within
 returns-then-is_empty-clause-within c = (c.requires.flat.each c.args.node c.of-flat.result.now c.of-flat.ensures).within
+
+pub returns-else-is_empty-clause-none : goal.returns-else-is_empty-clause-none
+returns-else-is_empty-clause-none c =
+    let flat = c.of-flat.result.now in
+    let some = sym (ap (λ (rows : List Row). length rows == 0) c.rows.ensures.value) ∙ sym c.is_empty.ensures ∙ c.if-is_empty.false in
+    unit_reached c.args.net.now c.args.node flat.stops (c.requires.flat.each c.args.node flat c.of-flat.ensures).stops some
