@@ -1,12 +1,13 @@
 -- What the segments of a node show.
-use Rattle.std.proofs.Common.{◌≡◌, ℕ, ◌<◌, ◌≤◌, ◌⊎◌, ◌↔◌, inl, inr, Bool, true, List, slice_get, Option, Some, None, IsTrue, refl, sym, ap, ◌∙◌, length}
+use Rattle.std.proofs.Common.{◌≡◌, ℕ, ◌-◌, ◌<◌, ◌≤◌, ◌==◌, ◌⊎◌, ◌↔◌, inl, inr, Bool, true, false, List, [], ◌∷◌, map, slice_get, Option, Some, None, IsTrue, refl, sym, ap, subst, arith, ◌∙◌, length}
 use Rattle.dn_interval.specs.declared.row.End.{End}
 use Rattle.dn_interval.specs.declared.row.Row.{Row}
 use Rattle.dn_interval.specs.declared.row.Seg.{Seg}
 use Rattle.dn_interval.specs.declared.span.TheConstants.{TOP}
 use Rattle.dn_interval.specs.Onward.{rows_of}
-use Rattle.dn_interval.specs.Rows.{AreNormal, SegmentsGive, ends_within}
+use Rattle.dn_interval.specs.Rows.{Member, moved, AreNormal, GivenBy, HasEnds, SegmentsGive, ends_within}
 use Rattle.dn_interval.specs.Strands.{segs_give, rows_give}
+use Rattle.dn_interval.proofs.Membership.{in_from}
 use Rattle.dn_interval.proofs.Names.{rows_from, rows_to}
 use Rattle.dn_net.specs.declared.node.Name.{Name}
 use Rattle.dn_net.specs.declared.node.NodeDecl.{NodeDecl}
@@ -14,7 +15,7 @@ use Rattle.dn_net.specs.Decode.{Resolves, StopsAt}
 use Rattle.dn_net.specs.Legal.{IsLegalNet}
 use Rattle.dn_kind.specs.Tables.{Held, AreHeld}
 use Rattle.dn_flat.specs.declared.flat.Flat.{Flat}
-use Rattle.dn_flat.specs.Stages.{AreFlats}
+use Rattle.dn_flat.specs.Stages.{AreFlats, IsFlat}
 use Rattle.dn_flat.specs.Views.{name_of_end, end_of, ResolvesFrom, StopsFrom}
 use Rattle.dn_flat.proofs.Sums.{normal_of}
 use Rattle.dn_flat.proofs.There.{accepted_is_there, names_are_there}
@@ -22,9 +23,9 @@ use Rattle.dn_view.specs.declared.pass.Part.{Part}
 use Rattle.dn_view.specs.declared.pass.Part.TheVariants.{Accepts, Stops}
 use Rattle.dn_view.specs.Passes.{rows_part}
 use Rattle.dn_view.specs.Through.{ComesThrough}
-use Rattle.dn_view.specs.Views.{ResolvesFromUnder}
+use Rattle.dn_view.specs.Views.{AreViewed, ReachesUnit, ResolvesFromUnder}
 use Rattle.dn_view.proofs.Passed.{there}
-use Rattle.dn_view.proofs.Ways.{resolves_through}
+use Rattle.dn_view.proofs.Ways.{resolves_fixed, resolves_through}
 
 -- the segments of a node give what its rows give
 pub node_gives : (flats : List Flat) (part : Part) (T : ℕ → ℕ → End → Type 0) → ((m : ℕ) (f : Flat) → slice_get flats m ≡ Some f → AreNormal (T m) (rows_part part f)) → (node : ℕ) → node < length flats → (gives : Bool) (a : ℕ) (z : End) → a ≤ TOP → gives ≡ rows_give (rows_of (rows_part part) (slice_get flats node)) a z → (gives ≡ true) ↔ T node a z
@@ -62,6 +63,31 @@ viewed net legal h held flats are node l accepts stops shown ea es is a z low = 
 
     back : ResolvesFromUnder net h node a z → segs_give shown a z ≡ true
     back r = (is a z low).1 (elim ((resolves_through net legal h held x (name_of_end z)).0 r) [ inl v ↦ inl (by_accepts.1 v) | inr v ↦ inr (end_of v.0, (by_stops (end_of v.0)).1 v.1, v.2) ])
+
+-- what a node that reaches no unit accepts is what its addresses resolve to under any records
+pub fixed_rows : (net : List NodeDecl) → IsLegalNet net → (node : ℕ) (flat : Flat) → IsFlat net node flat → flat.stops ≡ [] → (h : Held) → AreViewed net h node flat.accepts
+fixed_rows net legal node flat is none h = record {
+  apart = is.accepts.apart;
+  exact = λ a y low.
+      let x : Name = record { node = node; addr = a } in
+      let no_stop : (t : Name) → StopsAt net x t → ⊥ = λ t s. subst (λ rows. GivenBy rows a (end_of t)) none ((is.stops.exact a (end_of t) low).0 s) in
+      let same = resolves_fixed net legal h x (name_of_end y) no_stop in
+      ((λ r. (is.accepts.exact a y low).0 (same.0 r)), (λ g. same.1 ((is.accepts.exact a y low).1 g)));
+}
+
+-- a node reaches a unit, where it has a row of stops
+pub unit_reached : (net : List NodeDecl) (node : ℕ) (rows : List Row) → AreNormal (StopsFrom net node) rows → (length rows == 0) ≡ false → ReachesUnit net node
+unit_reached net node [] normal some = cc
+unit_reached net node (r ∷ rest) normal some = by r.ends refl normal.apart.1
+  where
+    by : (ends : List End) → r.ends ≡ ends → HasEnds ends → ReachesUnit net node
+    by [] e has = absurd has
+    by (x ∷ xs) e has =
+        let lo : ℕ = r.span.lo in
+        let first : End = moved (lo - lo) x in
+        let low : lo ≤ TOP = omega (arith, r.span.ordered, r.span.within) in
+        let one : Member first (map (moved (lo - lo)) r.ends) = subst (λ es. Member first (map (moved (lo - lo)) es)) (sym e) (inl refl) in
+        (lo, first, low, (normal.exact lo first low).1 (inl (in_from r.span lo (omega arith) r.span.ordered, one)))
 
 pub view_rows : (net : List NodeDecl) (h : Held) (node : ℕ) (shown : List Seg) (rows : List Row) → ((a : ℕ) (z : End) → a ≤ TOP → (segs_give shown a z ≡ true) ↔ ResolvesFromUnder net h node a z) → AreNormal (SegmentsGive shown) rows → AreNormal (ResolvesFromUnder net h node) rows
 view_rows net h node shown rows same n = normal_of (ResolvesFromUnder net h node) shown rows same n

@@ -9,7 +9,7 @@ use Rattle.dn_net.specs.Legal.{IsLegalNet}
 use Rattle.dn_net.specs.UnitRules.{LeadsTo, LeadsOn, IsUnitRow}
 use Rattle.dn_net.proofs.Steps.{unit_is_bare, node_at}
 use Rattle.dn_net.proofs.Stops.{shallow_reach}
-use Rattle.dn_kind.specs.Tables.{Held, output, steps_by_unit, steps_under, StepUnder, ResolvesUnder, AreHeld, ReachUnderIsWithin}
+use Rattle.dn_kind.specs.Tables.{Held, output, steps_by_unit, steps_under, step_limit_under, StepUnder, ResolvesUnder, AreHeld, ReachUnderIsWithin}
 use Rattle.dn_kind.proofs.Bounds.{Led, led, reach_under_is_within}
 use Rattle.dn_kind.proofs.Ways.{chain_more, stop_from_step}
 use Rattle.dn_flat.proofs.Chains.{joined}
@@ -35,6 +35,10 @@ stop_not_accepted net legal x stop accepted = by (unit_at net x.node) refl stop
 -- what is reached at all by steps of the net is reached within the limit
 pub within_limit : (net : List NodeDecl) → IsLegalNet net → (x y : Name) → Reaches (Step net) x y → ReachesWithin (Step net) step_limit x y
 within_limit net legal x y r = shallow_reach net legal.walks.shallow x y r
+
+within_both : (k : ℕ) → k ≤ step_limit → k ≤ step_limit_under
+unfolding step_limit step_limit_under
+within_both k l = omega (arith, l)
 
 module _ (net : List NodeDecl) (legal : IsLegalNet net) (h : Held) where
   -- a step of the net is a step under records
@@ -81,6 +85,17 @@ module _ (net : List NodeDecl) (legal : IsLegalNet net) (h : Held) where
       by : (o : Option UnitPart) → unit_at net x.node ≡ o → Member c.0 (steps_by_unit net h x o) → ((n : ℕ) × Exactly n c.0 z) → (n : ℕ) × Exactly n x z
       by None e m r = (r.0, onward r.0 x c.0 z m r.1)
       by (Some u) e m r = let s = step_stop x c.0 u e c.1 in (suc r.0, (x, (s.0, here x), (c.0, s.1, r.1)))
+
+  -- a name that reaches no unit resolves under records as in the net
+  pub resolves_fixed : (x z : Name) → ((t : Name) → StopsAt net x t → ⊥) → ResolvesUnder net h x z ↔ Resolves net x z
+  resolves_fixed x z none = (
+    (λ r. let e = exactly r.1.0 x z r.0 r.1.2 in fixed e.0 e.1),
+    (λ r. (r.0, (r.1.0, within_both r.1.0 r.1.1, net_chain r.1.0 x z r.1.2))),
+  )
+    where
+      fixed : (n : ℕ) → Exactly n x z → Resolves net x z
+      fixed zero e = e
+      fixed (suc n) e = absurd (none e.0 e.1)
 
   module _ (held : AreHeld net h) where
     -- the units that it passes are a row
