@@ -102,7 +102,8 @@ fn write_revokes_of(out: &mut String, agent: u8) -> Result<(), OutOfMemory>
 
 /// Appends the revoke of a buffer of an agent.
 fn write_revoke(out: &mut String, agent: u8, buffer: u8) -> Result<(), OutOfMemory>
-    ensures { OnOk result (string_bytes out.new ≡ string_bytes out.old ++ revoke_text agent buffer) }
+    ensures { OnOk result (string_bytes out.new
+        ≡ string_bytes out.old ++ revoke_text agent buffer) }
 {
     write!(out, "revoke g_{agent}_{buffer};\n")
 }

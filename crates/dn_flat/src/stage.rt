@@ -81,7 +81,8 @@ impl Stage {
     pub fn done(&self, node: u16) -> &Flat
         requires { node < length self.now.nodes }
         ensures same { option_map (λ r. r.done) (slice_get self.now.nodes node) ≡ Some result.now }
-        ensures done { (net : List NodeDecl) → IsStage net self.now → IsDone net self.now.steps node result.now }
+        ensures done { (net : List NodeDecl) → IsStage net self.now →
+            IsDone net self.now.steps node result.now }
     {
         &self.reach(node).done
     }
@@ -109,7 +110,8 @@ impl Stage {
     /// Where each address of a node goes on to that address of another, and that is all: the other.
     pub(crate) fn led_to(&self, node: u16) -> Option<u16>
         requires { node < length self.now.nodes }
-        ensures { IfSome result (λ other. (reach : Reach) → slice_get self.now.nodes node ≡ Some reach
+        ensures { IfSome result (λ other. (reach : Reach) →
+            slice_get self.now.nodes node ≡ Some reach
             → IsLedTo other reach) }
     {
         self.reach(node).led_to()

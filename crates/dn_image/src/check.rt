@@ -24,7 +24,8 @@ use dn_net::node::Unit;
 /// The first field that is not as in an image of the net. `OutOfMemory` never.
 pub fn check(net: &Net, kinds: &Kinds, bytes: &[u8]) -> Result<u16, ImageFault>
     requires lawful { All (λ k. IsLawful (meaning (k.vtable, k.value))) kinds.now.list.items }
-    requires shaped { KeepsUnitShape (map (λ k. meaning (k.vtable, k.value)) kinds.now.list.items) net.now }
+    requires shaped { KeepsUnitShape
+        (map (λ k. meaning (k.vtable, k.value)) kinds.now.list.items) net.now }
     ensures exact { Answers (λ version. version) image_fault_view result
         (reading_by (broken_image net.now (map (λ k. meaning (k.vtable, k.value)) kinds.now.list.items) bytes.now)
         (version_of bytes.now)) }
@@ -114,7 +115,8 @@ fn check_node(
     total: u64,
 ) -> Result<usize, ImageFault>
     requires lawful { All (λ k. IsLawful (meaning (k.vtable, k.value))) kinds.now.list.items }
-    requires shaped { IsTrue (has_shape (map (λ k. meaning (k.vtable, k.value)) kinds.now.list.items)
+    requires shaped { IsTrue (has_shape
+        (map (λ k. meaning (k.vtable, k.value)) kinds.now.list.items)
         (option_copied unit)) }
     ensures passes { Passes total rest.now
         (unit_fields (map (λ k. meaning (k.vtable, k.value)) kinds.now.list.items)
@@ -139,7 +141,8 @@ fn check_unit(
     total: u64,
 ) -> Result<usize, ImageFault>
     requires lawful { All (λ k. IsLawful (meaning (k.vtable, k.value))) kinds.now.list.items }
-    requires shaped { IsTrue (is_shaped (map (λ k. meaning (k.vtable, k.value)) kinds.now.list.items)
+    requires shaped { IsTrue (is_shaped
+        (map (λ k. meaning (k.vtable, k.value)) kinds.now.list.items)
         unit.now) }
     ensures passes { Passes total rest.now
         (unit_fields (map (λ k. meaning (k.vtable, k.value)) kinds.now.list.items)

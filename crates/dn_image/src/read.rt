@@ -62,7 +62,8 @@ impl Image {
 /// or `Trailing`. `OutOfMemory` where there is no memory for the words.
 pub fn read(alloc: Global, net: &Net, kinds: &Kinds, bytes: &[u8]) -> Result<Image, ImageFault>
     requires lawful { All (λ k. IsLawful (meaning (k.vtable, k.value))) kinds.now.list.items }
-    requires shaped { KeepsUnitShape (map (λ k. meaning (k.vtable, k.value)) kinds.now.list.items) net.now }
+    requires shaped { KeepsUnitShape
+        (map (λ k. meaning (k.vtable, k.value)) kinds.now.list.items) net.now }
     ensures exact { Answers (λ i. i) image_fault_view result
         (image_reading net.now (map (λ k. meaning (k.vtable, k.value)) kinds.now.list.items) bytes.now) }
     // What is read is an image, with these words and this version.
@@ -98,8 +99,10 @@ fn read_words(
     bytes: &[u8],
 ) -> Result<Vec<Items<u64>>, AllocError>
     requires lawful { All (λ k. IsLawful (meaning (k.vtable, k.value))) kinds.now.list.items }
-    requires shaped { KeepsUnitShape (map (λ k. meaning (k.vtable, k.value)) kinds.now.list.items) net.now }
-    requires whole { broken_image net.now (map (λ k. meaning (k.vtable, k.value)) kinds.now.list.items) bytes.now
+    requires shaped { KeepsUnitShape
+        (map (λ k. meaning (k.vtable, k.value)) kinds.now.list.items) net.now }
+    requires whole { broken_image net.now
+        (map (λ k. meaning (k.vtable, k.value)) kinds.now.list.items) bytes.now
         ≡ None }
     ensures { IfOk result (λ words. words.items
         ≡ image_words net.now (map (λ k. meaning (k.vtable, k.value)) kinds.now.list.items) bytes.now) }
@@ -122,7 +125,8 @@ fn read_node(
     bytes: &[u8],
 ) -> Result<Items<u64>, AllocError>
     requires lawful { All (λ k. IsLawful (meaning (k.vtable, k.value))) kinds.now.list.items }
-    requires shaped { IsTrue (has_shape (map (λ k. meaning (k.vtable, k.value)) kinds.now.list.items)
+    requires shaped { IsTrue (has_shape
+        (map (λ k. meaning (k.vtable, k.value)) kinds.now.list.items)
         (option_copied unit)) }
     requires room { node_size (map (λ k. meaning (k.vtable, k.value)) kinds.now.list.items)
         (option_copied unit) ≤ length bytes.now }

@@ -23,11 +23,14 @@ use dn_net::node::Unit;
 /// this slot alone, and takes no memory.
 pub fn record_in(net: &Net, kinds: &Kinds, bytes: &[u8], node: u16, slot: u64) -> Option<Record>
     requires lawful { All (λ k. IsLawful (meaning (k.vtable, k.value))) kinds.now.list.items }
-    requires shaped { KeepsUnitShape (map (λ k. meaning (k.vtable, k.value)) kinds.now.list.items) net.now }
-    requires whole { broken_image net.now (map (λ k. meaning (k.vtable, k.value)) kinds.now.list.items) bytes.now
+    requires shaped { KeepsUnitShape
+        (map (λ k. meaning (k.vtable, k.value)) kinds.now.list.items) net.now }
+    requires whole { broken_image net.now
+        (map (λ k. meaning (k.vtable, k.value)) kinds.now.list.items) bytes.now
         ≡ None }
     requires there { node < length net.now }
-    ensures { result ≡ record_held net.now (map (λ k. meaning (k.vtable, k.value)) kinds.now.list.items)
+    ensures { result ≡ record_held net.now
+        (map (λ k. meaning (k.vtable, k.value)) kinds.now.list.items)
         (image_words net.now (map (λ k. meaning (k.vtable, k.value)) kinds.now.list.items) bytes.now) node slot }
 {
     let unit = net.unit(node)?;
@@ -45,7 +48,8 @@ pub fn record_in(net: &Net, kinds: &Kinds, bytes: &[u8], node: u16, slot: u64) -
 /// The record that a slot of a unit holds, whose words stand first in these bytes.
 fn record_of(unit: &Unit, kinds: &Kinds, bytes: &[u8], slot: u32) -> Option<Record>
     requires lawful { All (λ k. IsLawful (meaning (k.vtable, k.value))) kinds.now.list.items }
-    requires shaped { IsTrue (is_shaped (map (λ k. meaning (k.vtable, k.value)) kinds.now.list.items)
+    requires shaped { IsTrue (is_shaped
+        (map (λ k. meaning (k.vtable, k.value)) kinds.now.list.items)
         unit.now) }
     requires slot { slot < unit.now.slots }
     requires room { 8 * word_count (map (λ k. meaning (k.vtable, k.value)) kinds.now.list.items)
@@ -64,7 +68,8 @@ fn record_of(unit: &Unit, kinds: &Kinds, bytes: &[u8], slot: u32) -> Option<Reco
 /// The record that the words of a slot spell, where the unit can hold it.
 fn record_by(unit: &Unit, kinds: &Kinds, words: &[u64]) -> Option<Record>
     requires lawful { All (λ k. IsLawful (meaning (k.vtable, k.value))) kinds.now.list.items }
-    requires shaped { IsTrue (is_shaped (map (λ k. meaning (k.vtable, k.value)) kinds.now.list.items)
+    requires shaped { IsTrue (is_shaped
+        (map (λ k. meaning (k.vtable, k.value)) kinds.now.list.items)
         unit.now) }
     requires words { length words.now
         ≡ width_of (map (λ k. meaning (k.vtable, k.value)) kinds.now.list.items) unit.now }
@@ -91,7 +96,8 @@ fn read_slot(bytes: &[u8], width: usize) -> [u64; 4]
 /// Where the words of a unit begin in an image of the net.
 fn words_at(net: &Net, kinds: &Kinds, node: u16) -> usize
     requires lawful { All (λ k. IsLawful (meaning (k.vtable, k.value))) kinds.now.list.items }
-    requires shaped { KeepsUnitShape (map (λ k. meaning (k.vtable, k.value)) kinds.now.list.items) net.now }
+    requires shaped { KeepsUnitShape
+        (map (λ k. meaning (k.vtable, k.value)) kinds.now.list.items) net.now }
     requires there { node < length net.now }
     ensures { result ≡ 16
         + nodes_size (map (λ k. meaning (k.vtable, k.value)) kinds.now.list.items) (take node net.now) }
@@ -106,7 +112,8 @@ fn words_at(net: &Net, kinds: &Kinds, node: u16) -> usize
 /// How many bytes a node has in an image: none, or the head and the words of a unit.
 pub(crate) fn node_size(unit: Option<&Unit>, kinds: &Kinds) -> usize
     requires lawful { All (λ k. IsLawful (meaning (k.vtable, k.value))) kinds.now.list.items }
-    requires shaped { IsTrue (has_shape (map (λ k. meaning (k.vtable, k.value)) kinds.now.list.items)
+    requires shaped { IsTrue (has_shape
+        (map (λ k. meaning (k.vtable, k.value)) kinds.now.list.items)
         (option_copied unit)) }
     ensures size { result ≡ node_size (map (λ k. meaning (k.vtable, k.value)) kinds.now.list.items)
         (option_copied unit.entry) }
@@ -121,9 +128,11 @@ pub(crate) fn node_size(unit: Option<&Unit>, kinds: &Kinds) -> usize
 /// How many words a unit has.
 pub(crate) fn count_words(unit: &Unit, kinds: &Kinds) -> usize
     requires lawful { All (λ k. IsLawful (meaning (k.vtable, k.value))) kinds.now.list.items }
-    requires shaped { IsTrue (is_shaped (map (λ k. meaning (k.vtable, k.value)) kinds.now.list.items)
+    requires shaped { IsTrue (is_shaped
+        (map (λ k. meaning (k.vtable, k.value)) kinds.now.list.items)
         unit.now) }
-    ensures count { result ≡ word_count (map (λ k. meaning (k.vtable, k.value)) kinds.now.list.items)
+    ensures count { result ≡ word_count
+        (map (λ k. meaning (k.vtable, k.value)) kinds.now.list.items)
         (Some unit.now) }
     ensures small { result ≤ 1048576 }
 {

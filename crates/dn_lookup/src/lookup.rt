@@ -71,7 +71,8 @@ pub fn lookup(
 ) -> Result<Names, LookupFault>
     requires lawful { All (λ k. IsLawful (meaning (k.vtable, k.value))) kinds.now.list.items }
     requires legal { IsLegalNet net.now }
-    requires shaped { KeepsUnitShape (map (λ k. meaning (k.vtable, k.value)) kinds.now.list.items) net.now }
+    requires shaped { KeepsUnitShape
+        (map (λ k. meaning (k.vtable, k.value)) kinds.now.list.items) net.now }
     ensures exact { Answers (λ names. names) lookup_fault_view result
         (lookup_of net.now (map (λ k. meaning (k.vtable, k.value)) kinds.now.list.items) image.now access
         (record { node = agent; addr = addr })) }
@@ -101,8 +102,10 @@ pub fn lookup_whole(
 ) -> Result<Names, AllocError>
     requires lawful { All (λ k. IsLawful (meaning (k.vtable, k.value))) kinds.now.list.items }
     requires legal { IsLegalNet net.now }
-    requires shaped { KeepsUnitShape (map (λ k. meaning (k.vtable, k.value)) kinds.now.list.items) net.now }
-    requires whole { broken_image net.now (map (λ k. meaning (k.vtable, k.value)) kinds.now.list.items) image.now
+    requires shaped { KeepsUnitShape
+        (map (λ k. meaning (k.vtable, k.value)) kinds.now.list.items) net.now }
+    requires whole { broken_image net.now
+        (map (λ k. meaning (k.vtable, k.value)) kinds.now.list.items) image.now
         ≡ None }
     requires version { version ≡ version_of image.now }
     requires agent { IsTrue (is_agent_at (slice_get net.now name.node)) }

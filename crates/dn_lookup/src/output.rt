@@ -40,8 +40,10 @@ pub(crate) fn output(
     name: Name,
 ) -> Option<Name>
     requires lawful { All (λ k. IsLawful (meaning (k.vtable, k.value))) kinds.now.list.items }
-    requires shaped { KeepsUnitShape (map (λ k. meaning (k.vtable, k.value)) kinds.now.list.items) net.now }
-    requires whole { broken_image net.now (map (λ k. meaning (k.vtable, k.value)) kinds.now.list.items) bytes.now
+    requires shaped { KeepsUnitShape
+        (map (λ k. meaning (k.vtable, k.value)) kinds.now.list.items) net.now }
+    requires whole { broken_image net.now
+        (map (λ k. meaning (k.vtable, k.value)) kinds.now.list.items) bytes.now
         ≡ None }
     requires there { name.node < length net.now }
     requires stop { IsTrue (is_stop net.now name) }

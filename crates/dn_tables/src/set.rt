@@ -57,7 +57,8 @@ impl TableSet {
         device: &mut D,
     ) -> Result<TableSet, MakeFault>
         requires lawful { All (λ k. IsLawful (meaning (k.vtable, k.value))) kinds.now.list.items }
-        requires shaped { KeepsUnitShape (map (λ k. meaning (k.vtable, k.value)) kinds.now.list.items) net.now }
+        requires shaped { KeepsUnitShape
+            (map (λ k. meaning (k.vtable, k.value)) kinds.now.list.items) net.now }
         requires none { D.units device.old ≡ [] }
         ensures ok { IfOk result (λ set. set
             ≡ fresh_set (map (λ k. meaning (k.vtable, k.value)) kinds.now.list.items) net.now) }
@@ -102,21 +103,25 @@ impl TableSet {
         device: &mut D,
     ) -> Result<(), DeviceFault>
         requires lawful { All (λ k. IsLawful (meaning (k.vtable, k.value))) kinds.now.list.items }
-        requires fits { IsTrue (fits_kinds (map (λ k. meaning (k.vtable, k.value)) kinds.now.list.items) self.old) }
+        requires fits { IsTrue (fits_kinds
+            (map (λ k. meaning (k.vtable, k.value)) kinds.now.list.items) self.old) }
         requires on_device { IsOnDevice self.old (D.units device.old) (D.words device.old) }
         requires there { IsTrue (has_slot self.old unit slot) }
         requires empty { IsEmpty self.old unit slot }
-        requires packable { IsPackableIn (map (λ k. meaning (k.vtable, k.value)) kinds.now.list.items)
+        requires packable { IsPackableIn
+            (map (λ k. meaning (k.vtable, k.value)) kinds.now.list.items)
             self.old unit «record» }
         ensures ok { OnOk result (self.new ≡ with_slot self.old unit slot
             (packed_in (map (λ k. meaning (k.vtable, k.value)) kinds.now.list.items) self.old unit «record»)) }
-        ensures recorded { OnOk result (record_kept (map (λ k. meaning (k.vtable, k.value)) kinds.now.list.items)
+        ensures recorded { OnOk result (record_kept
+            (map (λ k. meaning (k.vtable, k.value)) kinds.now.list.items)
             self.new unit slot ≡ Some «record») }
         ensures made { AreMade unit
             (put_writes (map (λ k. meaning (k.vtable, k.value)) kinds.now.list.items) self.old unit slot «record»)
             (is_err result) (D.log device.old) (D.log device.new)
             (D.words device.old) (D.words device.new) self.old self.new }
-        ensures stopped { OnErr result (record_kept (map (λ k. meaning (k.vtable, k.value)) kinds.now.list.items)
+        ensures stopped { OnErr result (record_kept
+            (map (λ k. meaning (k.vtable, k.value)) kinds.now.list.items)
             self.new unit slot ≡ None) }
         ensures units { units_of self.new ≡ units_of self.old }
         ensures fits { (others : List Meaning) → IsTrue (fits_kinds others self.old) →
@@ -165,7 +170,8 @@ impl TableSet {
     /// none of the unit's, or where the output is past its reach.
     pub fn record_at(&self, kinds: &Kinds, unit: u16, slot: u32) -> Option<Record>
         requires lawful { All (λ k. IsLawful (meaning (k.vtable, k.value))) kinds.now.list.items }
-        requires fits { IsTrue (fits_kinds (map (λ k. meaning (k.vtable, k.value)) kinds.now.list.items) self.now) }
+        requires fits { IsTrue (fits_kinds
+            (map (λ k. meaning (k.vtable, k.value)) kinds.now.list.items) self.now) }
         requires there { IsTrue (has_slot self.now unit slot) }
         ensures { result ≡ record_kept (map (λ k. meaning (k.vtable, k.value)) kinds.now.list.items)
             self.now unit slot }
@@ -259,7 +265,8 @@ impl TableSet {
 /// The set of a net with words 0 and no use.
 fn fresh(alloc: Global, net: &Net, kinds: &Kinds) -> Result<TableSet, AllocError>
     requires lawful { All (λ k. IsLawful (meaning (k.vtable, k.value))) kinds.now.list.items }
-    requires shaped { KeepsUnitShape (map (λ k. meaning (k.vtable, k.value)) kinds.now.list.items) net.now }
+    requires shaped { KeepsUnitShape
+        (map (λ k. meaning (k.vtable, k.value)) kinds.now.list.items) net.now }
     ensures { IfOk result (λ set. set
         ≡ fresh_set (map (λ k. meaning (k.vtable, k.value)) kinds.now.list.items) net.now) }
 {

@@ -54,7 +54,8 @@ impl NodeTable {
         kinds: &Kinds,
     ) -> Result<NodeTable, AllocError>
         requires lawful { All (λ k. IsLawful (meaning (k.vtable, k.value))) kinds.now.list.items }
-        requires shaped { IsTrue (has_shape (map (λ k. meaning (k.vtable, k.value)) kinds.now.list.items)
+        requires shaped { IsTrue (has_shape
+            (map (λ k. meaning (k.vtable, k.value)) kinds.now.list.items)
             (option_copied unit)) }
         ensures { IfOk result (λ table. table
             ≡ fresh_by (map (λ k. meaning (k.vtable, k.value)) kinds.now.list.items) (option_copied unit.entry)) }
@@ -85,11 +86,13 @@ impl NodeTable {
     /// none of the unit's, or where the output is past its reach.
     pub(crate) fn record_at(&self, kinds: &Kinds, slot: u32) -> Option<Record>
         requires lawful { All (λ k. IsLawful (meaning (k.vtable, k.value))) kinds.now.list.items }
-        requires fits { IsTrue (fits_by (map (λ k. meaning (k.vtable, k.value)) kinds.now.list.items)
+        requires fits { IsTrue (fits_by
+            (map (λ k. meaning (k.vtable, k.value)) kinds.now.list.items)
             self.now.width self.now.unit) }
         requires sized { IsTrue (is_sized self.now) }
         requires there { IsTrue (has_slot_by self.now.unit slot) }
-        ensures { result ≡ record_of_unit (map (λ k. meaning (k.vtable, k.value)) kinds.now.list.items)
+        ensures { result ≡ record_of_unit
+            (map (λ k. meaning (k.vtable, k.value)) kinds.now.list.items)
             self.now.unit (Some self.now.words) slot }
     {
         match &self.unit {
@@ -116,7 +119,8 @@ impl NodeTable {
         record: Record,
     ) -> Result<(), DeviceFault>
         requires lawful { All (λ k. IsLawful (meaning (k.vtable, k.value))) kinds.now.list.items }
-        requires fits { IsTrue (fits_by (map (λ k. meaning (k.vtable, k.value)) kinds.now.list.items)
+        requires fits { IsTrue (fits_by
+            (map (λ k. meaning (k.vtable, k.value)) kinds.now.list.items)
             self.old.width self.old.unit) }
         requires sized { IsTrue (is_sized self.old) }
         requires there { IsTrue (has_slot_by self.old.unit slot) }
@@ -178,7 +182,8 @@ fn pack(kinds: &Kinds, unit: &Unit, record: Record, packed: &mut [u64; 4])
     requires packable { (kind : Meaning) →
         slice_get (map (λ k. meaning (k.vtable, k.value)) kinds.now.list.items) unit.now.kind ≡ Some kind →
         IsPackable kind (unit_shape unit.now) «record» }
-    ensures { packed.new ≡ packed_for (map (λ k. meaning (k.vtable, k.value)) kinds.now.list.items) (Some unit.now) «record»
+    ensures { packed.new ≡ packed_for
+        (map (λ k. meaning (k.vtable, k.value)) kinds.now.list.items) (Some unit.now) «record»
         ++ replicate (4 - width_by (slice_get (map (λ k. meaning (k.vtable, k.value)) kinds.now.list.items) unit.now.kind)) 0 }
 {
     let kind = kinds.kind(usize::from(unit.kind));
@@ -197,7 +202,8 @@ fn pack_by(kind: &dyn UnitKind, unit: &Unit, record: Record, packed: &mut [u64; 
 /// The table of a unit with words 0 and no use.
 fn fresh_unit(alloc: Global, unit: &Unit, kinds: &Kinds) -> Result<NodeTable, AllocError>
     requires lawful { All (λ k. IsLawful (meaning (k.vtable, k.value))) kinds.now.list.items }
-    requires shaped { IsTrue (is_shaped (map (λ k. meaning (k.vtable, k.value)) kinds.now.list.items) unit.now) }
+    requires shaped { IsTrue (is_shaped
+        (map (λ k. meaning (k.vtable, k.value)) kinds.now.list.items) unit.now) }
     ensures { IfOk result (λ table. table
         ≡ fresh_by (map (λ k. meaning (k.vtable, k.value)) kinds.now.list.items) (Some unit.now)) }
 {

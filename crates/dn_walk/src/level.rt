@@ -52,7 +52,8 @@ impl Levels {
         requires shallow { length self.sorted.items ≤ 64 }
         ensures levels { IfOk result (λ l. AreLevels legs.now l) }
         ensures one_more { IfOk result (λ l. length l.sorted.items ≡ length self.sorted.items + 1) }
-        ensures wide { IfErr result (IsWideWhere (walk_limit < length (told_walks legs.now (length self.sorted.items + 1)))) }
+        ensures wide { IfErr result (IsWideWhere
+            (walk_limit < length (told_walks legs.now (length self.sorted.items + 1)))) }
     {
         let Levels {
             mut sorted,

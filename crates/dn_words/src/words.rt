@@ -87,7 +87,8 @@ fn are_plain(words: &[String]) -> bool
 /// What a command and the word behind it ask for.
 fn task_of_parts(parts: &Parts) -> Option<Task>
     ensures agents { HasAgents result }
-    ensures task { result ≡ task_of_parts parts.now.command.now (option_map (λ s. s.now) parts.now.number) }
+    ensures task { result
+        ≡ task_of_parts parts.now.command.now (option_map (λ s. s.now) parts.now.number) }
 {
     match parts.number {
         None => task_of_word(parts.command),
