@@ -51,5 +51,6 @@ fn has_zero_words(tables: &TableSet, unit: u16, slot: u32) -> bool
     requires there { IsTrue (has_slot tables.now unit slot) }
     ensures { result ≡ is_zero_slot tables.now unit slot }
 {
-    tables.slot_words(unit, slot).iter().all(|word| *word == 0)
+    let words = tables.slot_words(unit, slot);
+    words.as_slice().iter().all(|word| *word == 0)
 }

@@ -1,5 +1,5 @@
 -- A set of tables has the words of each node of its net.
-use Rattle.std.proofs.Common.{◌≡◌, ◌∙◌, ap, sym, subst, refl, arith, ℕ, zero, suc, ◌*◌, ◌^◌, ◌<◌, ◌≤◌, Bool, true, false, ◌==◌, nat_lt, List, [], ◌∷◌, map, length, slice_get, get_or, Option, Some, None, IsSome, is_some, IsTrue, eqb-true, eq-eqb, lt-ltb, ◌⊎◌, inl, inr}
+use Rattle.std.proofs.Common.{◌≡◌, ◌∙◌, ap, sym, subst, refl, arith, ℕ, zero, suc, ◌*◌, ◌^◌, ◌<◌, ◌≤◌, Bool, true, false, ◌==◌, nat_lt, List, [], ◌∷◌, ◌++◌, map, length, replicate, slice_get, get_or, Option, Some, None, IsSome, is_some, IsTrue, eqb-true, eq-eqb, lt-ltb, ◌⊎◌, inl, inr}
 use Rattle.std.specs.List.{list_all}
 use Rattle.std.proofs.lemmas.Bool.{and_parts, cases_lt}
 use Rattle.std.proofs.lemmas.Option.{slice_get_past}
@@ -21,6 +21,15 @@ are_small ws = list_all (λ w. nat_lt w (2 ^ 64)) ws
 pub all_small : (ws : List ℕ) → ((i : ℕ) → get_or ws i 0 < 2 ^ 64) → IsTrue (are_small ws)
 all_small [] each = refl
 all_small (w ∷ ws) each = true_both (nat_lt w (2 ^ 64)) (are_small ws) (lt-ltb w (2 ^ 64) (each 0)) (all_small ws (λ i. each (suc i)))
+
+-- and words of which those behind the last of a slice are all one value
+pub all_small_and : (ws : List ℕ) (n w : ℕ) → IsTrue (are_small ws) → IsTrue (are_small (w ∷ [])) → IsTrue (are_small (ws ++ replicate n w))
+all_small_and [] zero w each rest = refl
+all_small_and [] (suc n) w each rest =
+    true_both (nat_lt w (2 ^ 64)) (are_small (replicate n w)) (and_parts (nat_lt w (2 ^ 64)) true rest).0 (all_small_and [] n w each rest)
+all_small_and (v ∷ ws) n w each rest =
+    let b = and_parts (nat_lt v (2 ^ 64)) (are_small ws) each in
+    true_both (nat_lt v (2 ^ 64)) (are_small (ws ++ replicate n w)) b.0 (all_small_and ws n w b.1 rest)
 
 -- a table has as many words as its kind and its slots ask for
 width_is : (k : Option Meaning) (width : ℕ) → IsTrue (is_wide k width) → width ≡ width_by k

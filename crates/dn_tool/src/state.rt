@@ -19,6 +19,7 @@ ghost use Rattle.dn_tool.specs.Turn.{start};
 use crate::compile::Platform;
 use crate::ids::Ids;
 use dn_base::device::{MakeFault, Tables};
+use dn_base::filled::Filled;
 use dn_base::items::Items;
 use dn_book::book::Book;
 use dn_flat::flats::{Flats, flatten_all};
@@ -136,6 +137,15 @@ fn small(words: &[u64])
     let _words = words;
 }
 
+/// Each word of a unit is one of 64 bits, for a proof of its caller. It looks at none of them.
+fn are_small(words: &Filled<u64>)
+    ensures { IsTrue (list_all (λ w. nat_lt w (2 ^ 64)) words.now) }
+{
+    let (written, rest) = words.parts();
+    small(written);
+    small(&[rest]);
+}
+
 /// The words of a node are of 64 bits, for a proof of its caller. It looks at none of them.
 fn has_small_words(net: &Net, tables: &TableSet, node: u16)
     requires units { units_of tables.now ≡ map (λ n. n.unit) net.now }
@@ -144,7 +154,7 @@ fn has_small_words(net: &Net, tables: &TableSet, node: u16)
 {
     tables.facts();
     if net.is_unit(node) {
-        small(tables.words(node));
+        are_small(tables.words(node));
     }
 }
 

@@ -4,7 +4,6 @@ use Rattle.std.specs.Prelude.{IsSome}
 use Rattle.std.specs.List.{list_all}
 use Rattle.std.proofs.lemmas.List.{length-drop, length-take-le}
 use Rattle.std.proofs.lemmas.Option.{same_Some}
-use Rattle.std.proofs.Math.Nat.{mul-div_cancel_left}
 use Rattle.dn_base.proofs.Booleans.{and_parts}
 use Rattle.dn_base.proofs.Orders.{eq-eqb}
 use Rattle.dn_base.proofs.Lists.{list_all-at}
@@ -15,14 +14,15 @@ use Rattle.dn_net.specs.declared.node.Unit.{Unit as UnitPart}
 use Rattle.dn_net.specs.Decode.{unit_at}
 use Rattle.dn_kind.specs.declared.unit_kind.Record.{Record}
 use Rattle.dn_kind.specs.Kind.{Meaning, is_plain}
+use Rattle.dn_kind.specs.Tables.{slot_words}
 use Rattle.dn_kind.specs.Units.{KeepsUnitShape, fits_shape, unit_shape}
 use Rattle.dn_tables.specs.declared.table.NodeTable.{NodeTable}
-use Rattle.dn_tables.specs.Set.{IsOnDevice, IsPackableIn, IsSet, has_slot, has_slot_by, is_sized, table_on_device, tables_from, tables_of_set, unit_in, units_of, width_in, width_of_table, with_use, words_in, words_of_table, with_uses}
+use Rattle.dn_tables.specs.Set.{IsEmpty, IsOnDevice, IsPackableIn, IsSet, has_slot, has_slot_by, is_sized, table_on_device, tables_from, tables_of_set, unit_in, units_of, width_in, width_of_table, with_use, words_in, words_of_table, with_uses}
 use Rattle.dn_tables.proofs.Fresh.{zero_words}
 use Rattle.dn_tables.proofs.Kept.{map_changed, sized_of, slot_room, table_of_unit, unit_of_slot}
 use Rattle.dn_image.specs.Image.{are_filled, is_filled}
 use Rattle.dn_image.proofs.Places.{unit_of_net}
-use Rattle.test_tables.specs.Slots.{CanHold, slots_by}
+use Rattle.test_tables.specs.Slots.{CanHold}
 
 -- a slot of a unit of the net
 pub slot_there : (set : List NodeTable) (net : List NodeDecl) (i slot : ℕ) (o : Option UnitPart) → units_of set ≡ map (λ n. n.unit) net → option_map (λ d. d.unit) (slice_get net i) ≡ Some o → IsTrue (has_slot_by o slot) → IsTrue (has_slot set i slot)
@@ -36,45 +36,22 @@ unit_some (Some u) slot h = refl
 pub unit_there : (set : List NodeTable) (i slot : ℕ) → IsTrue (has_slot set i slot) → IsSome (unit_in set i)
 unit_there set i slot h = unit_some (unit_in set i) slot h
 
--- the words of a slot, by the number of slots
-pub record IsSlotOf (set : List NodeTable) (i slot s : ℕ) : Type 0 where
-  pub width : length (words_in set i) / s ≡ width_in set i
-  pub most : width_in set i ≤ 4
-  pub room : slot * width_in set i + width_in set i ≤ length (words_in set i)
-  pub within : slot < s
-
-pub slot_of : (set : List NodeTable) (net : List NodeDecl) (i slot s : ℕ) (o : Option UnitPart) → IsSet set → units_of set ≡ map (λ n. n.unit) net → option_map (λ d. d.unit) (slice_get net i) ≡ Some o → s ≡ slots_by o → IsTrue (has_slot set i slot) → IsSlotOf set i slot s
-slot_of set net i slot s o is e at count there =
+-- the words of a slot are 0 where each of them is
+pub zero_slot : (set : List NodeTable) (i slot : ℕ) → IsSet set → IsTrue (has_slot set i slot) → IsTrue (list_all (λ w. w == 0) (slot_words (width_in set i) (words_in set i) slot)) → IsEmpty set i slot
+zero_slot set i slot is there zero =
     let u = unit_of_slot (unit_in set i) slot there in
     let k = table_of_unit set i u.0 u.1 in
     let sized = sized_of k.0 u.0 k.2 (list_all-at is_sized set i k.0 is.sized k.1) in
-    let same : s ≡ u.0.slots = count ∙ ap slots_by (sym (unit_of_net set net i o e at) ∙ u.1) in
     let words : words_in set i ≡ k.0.words = ap words_of_table k.1 in
     let width : width_in set i ≡ k.0.width = ap width_of_table k.1 in
     let within : slot < u.0.slots = u.2 in
     let room = slot_room slot u.0.slots k.0.width (length k.0.words) within sized.words in
     let long : length (words_in set i) ≡ length k.0.words = ap length words in
     let first : slot * width_in set i ≡ slot * k.0.width = ap (λ n. slot * n) width in
-    let most = sized.most in
-    record {
-      width =
-          ap (λ n. n / s) (long ∙ sized.words)
-          ∙ ap (λ n. u.0.slots * k.0.width / n) same
-          ∙ mul-div_cancel_left k.0.width (omega arith)
-          ∙ sym width;
-      most = omega arith;
-      room = omega arith;
-      within = omega arith;
-    }
-
--- words that are 0 in a part of a list
-pub zero_part : (ws : List ℕ) (first width n : ℕ) → first + width ≤ length ws → IsTrue (list_all (λ w. w == 0) (take n (drop first ws))) → n ≡ width → take width (drop first ws) ≡ replicate width 0
-zero_part ws first width n room all same =
-    let rest : length (drop first ws) ≡ length ws - first = length-drop first ws in
-    let long : length (take n (drop first ws)) ≡ width = length-take-le n (drop first ws) (omega arith) ∙ same in
-    ap (λ k. take k (drop first ws)) (sym same)
-    ∙ zero_words (take n (drop first ws)) all
-    ∙ ap (λ k. replicate k 0) long
+    let rest : length (drop (slot * width_in set i) (words_in set i)) ≡ length (words_in set i) - slot * width_in set i = length-drop (slot * width_in set i) (words_in set i) in
+    let many : length (slot_words (width_in set i) (words_in set i) slot) ≡ width_in set i =
+    length-take-le (width_in set i) (drop (slot * width_in set i) (words_in set i)) (omega arith) in
+    zero_words (slot_words (width_in set i) (words_in set i) slot) zero ∙ ap (λ n. replicate n 0) many
 
 -- a unit of the set is one of the net
 unit_at_net : (set : List NodeTable) (net : List NodeDecl) (i : ℕ) (u : UnitPart) → units_of set ≡ map (λ n. n.unit) net → unit_in set i ≡ Some u → unit_at net i ≡ Some u

@@ -1,15 +1,9 @@
 -- What the helpers of these tests say of units and of records.
-use Rattle.std.specs.Prelude.{ℕ, Option, Some, None, IsTrue}
-use Rattle.dn_net.specs.declared.node.Unit.{Unit as UnitPart}
+use Rattle.std.specs.Prelude.{IsTrue}
 use Rattle.dn_kind.specs.declared.shape.Shape.{Shape}
 use Rattle.dn_kind.specs.declared.unit_kind.Record.{Record}
 use Rattle.dn_kind.specs.Kind.{is_plain, is_within}
 use Rattle.dn_kind.specs.Rights.{are_rights}
-
--- how many slots a unit has
-abbrev pub slots_by : Option UnitPart → ℕ
-slots_by None = 0
-slots_by (Some u) = u.slots
 
 -- a unit of this shape, whatever its kind, can hold the record
 pub record CanHold (shape : Shape) (r : Record) : Type 0 where

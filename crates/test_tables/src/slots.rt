@@ -1,19 +1,19 @@
 //! Calls on the slots of a set of tables, made where what they ask holds.
 
-ghost use Rattle.std.specs.Prelude.{◌≡◌, ◌==◌, ◌+◌, ◌*◌, ◌≤◌, map, length, replicate, Some, IsTrue, IsSome};
+ghost use Rattle.std.specs.Prelude.{◌≡◌, ◌==◌, map, Some, IsTrue, IsSome};
 ghost use Rattle.std.specs.List.{All, list_all};
 ghost use Rattle.std.specs.Option.{option_copied};
 ghost use Rattle.dn_base.specs.Device.{sizes_of};
 ghost use Rattle.dn_net.specs.declared.node.Unit.{Unit as UnitPart};
 ghost use Rattle.dn_kind.specs.Kind.{IsLawful};
 ghost use Rattle.dn_kind.specs.Rights.{are_rights};
-ghost use Rattle.dn_kind.specs.Tables.{slot_words};
 ghost use Rattle.dn_kind.specs.Units.{IsLegalWith, unit_shape};
-ghost use Rattle.test_tables.specs.Slots.{CanHold, slots_by};
+ghost use Rattle.test_tables.specs.Slots.{CanHold};
 ghost use Rattle.dn_tables.specs.Set.{FitsNet, IsEmpty, IsOnDevice, IsPackableIn, has_slot, has_slot_by, unit_in, units_of, use_in, words_in};
 
 use bitflags::Flags;
 use dn_base::device::{DeviceFault, Tables};
+use dn_base::filled::Filled;
 use dn_base::memory_tables::MemTables;
 use dn_kind::kinds::Kinds;
 use dn_kind::rights::Rights;
@@ -62,39 +62,12 @@ fn has_slot(unit: Option<&Unit>, slot: u32) -> bool
 }
 
 /// Whether the words of a slot that is there are 0.
-fn is_empty(net: &Net, set: &TableSet, at: Place) -> bool
-    requires units { units_of set.now ≡ map (λ n. n.unit) net.now }
-    requires there { IsTrue (has_slot set.now at.unit at.slot) }
+fn is_empty(set: &TableSet, at: Place) -> bool
+    requires { IsTrue (has_slot set.now at.unit at.slot) }
     ensures { IsTrue result → IsEmpty set.now at.unit at.slot }
 {
-    if at.unit >= net.nodes() {
-        return false;
-    }
-    let words = set.words(at.unit);
-    let slots = slots_of(net.unit(at.unit));
-    if slots == 0 {
-        return false;
-    }
-    is_zero_at(words, at.slot, words.len() / slots)
-}
-
-/// Whether the words of a slot are 0, where each slot has so many.
-fn is_zero_at(words: &[u64], slot: u32, width: usize) -> bool
-    requires { slot * width + width ≤ length words.now }
-    ensures { IsTrue result → slot_words width words.now slot ≡ replicate width 0 }
-{
-    let first = slot as usize * width;
-    are_zero(&words[first..first + width])
-}
-
-/// How many slots a unit has.
-fn slots_of(unit: Option<&Unit>) -> usize
-    ensures { result ≡ slots_by (option_copied unit.entry) }
-{
-    match unit {
-        Some(unit) => unit.slots as usize,
-        None => 0,
-    }
+    set.facts();
+    are_zero(set.slot_words(at.unit, at.slot).as_slice())
 }
 
 /// Whether words are 0.
@@ -161,7 +134,7 @@ pub fn put<D: Tables>(
     if !is_there(net, set, at) {
         return None;
     }
-    if !is_empty(net, set, at) {
+    if !is_empty(set, at) {
         return None;
     }
     if !is_packable(net, set, at.unit, wanted) {
@@ -200,26 +173,49 @@ pub fn record_of(net: &Net, kinds: &Kinds, set: &TableSet, at: Place) -> Option<
     set.record_at(kinds, at.unit, at.slot)
 }
 
-/// The words of a unit. None where it is not there.
-pub fn words<'a>(net: &Net, set: &'a TableSet, unit: u16) -> &'a [u64]
+/// The words of a unit. `None` where it is not there.
+pub fn words<'a>(net: &Net, set: &'a TableSet, unit: u16) -> Option<&'a Filled<u64>>
     requires { units_of set.now ≡ map (λ n. n.unit) net.now }
 {
     if is_there(net, set, Place { unit, slot: 0 }) {
-        set.words(unit)
+        Some(set.words(unit))
     } else {
-        &[]
+        None
     }
 }
 
-/// The words of a unit on the device of the set. None where it is not there.
-pub fn device_words<'a>(net: &Net, set: &TableSet, device: &'a MemTables, unit: u16) -> &'a [u64]
+/// The words of a unit on the device of the set. `None` where it is not there.
+pub fn device_words<'a>(
+    net: &Net,
+    set: &TableSet,
+    device: &'a MemTables,
+    unit: u16,
+) -> Option<&'a Filled<u64>>
     requires units { units_of set.now ≡ map (λ n. n.unit) net.now }
     requires on_device { IsOnDevice set.now (sizes_of device.now.tables) (Some device.now.tables) }
 {
     if is_there(net, set, Place { unit, slot: 0 }) {
-        device.words(unit)
+        Some(device.words(unit))
     } else {
-        &[]
+        None
+    }
+}
+
+/// Whether the words of a unit are these. A unit that is not there has none.
+pub fn are_words(words: Option<&Filled<u64>>, wanted: &[u64]) -> bool {
+    match words {
+        Some(words) => {
+            if words.len() != wanted.len() {
+                return false;
+            }
+            for (at, word) in wanted.iter().enumerate() {
+                if words.get(at) != *word {
+                    return false;
+                }
+            }
+            true
+        }
+        None => wanted.is_empty(),
     }
 }
 
