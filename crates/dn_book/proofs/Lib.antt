@@ -16,6 +16,7 @@ pub mod Packed
 pub mod Parts
 pub mod Ranges
 pub mod Revoke
+pub mod Serials
 pub mod Sound
 pub mod Through
 pub mod Units

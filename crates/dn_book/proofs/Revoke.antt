@@ -1,12 +1,7 @@
 -- From the parts of a revoke to what its contract says.
-use Rattle.std.proofs.Common.{◌≡◌, ◌≢◌, ℕ, zero, suc, ◌+◌, ◌-◌, ◌*◌, ◌<◌, ◌≤◌, inl, inr, Bool, true, false, if◌then◌else◌, ◌==◌, not, List, [], ◌∷◌, ◌++◌, filter, length, map, position, remove, slice_get, get_or, Option, Some, None, IsTrue, refl, sym, ap, ◌∙◌, subst, arith, eqb-true, eq-eqb}
-use Rattle.std.specs.List.{All, AllPairs, flat_map, list_any}
-use Rattle.std.proofs.lemmas.Option.{get_or_from_slice_get, slice_get-get_or, slice_get_within}
-use Rattle.std.proofs.lemmas.List.Quantifiers.{position-Some}
-use Rattle.dn_base.proofs.Lists.{position-none}
-use Rattle.dn_base.proofs.Members.{member_any}
-use Rattle.dn_base.proofs.Orders.{lt-ltb, ne_eqb}
-use Rattle.dn_base.specs.declared.device.TableEvent.{TableEvent}
+use Rattle.std.proofs.Common.{◌≡◌, ℕ, ◌*◌, ◌<◌, inl, inr, true, ◌==◌, List, [], ◌∷◌, ◌++◌, filter, slice_get, Some, IsTrue, refl, sym, ap, ◌∙◌, subst}
+use Rattle.std.specs.List.{All, flat_map}
+use Rattle.dn_base.proofs.Orders.{lt-ltb}
 use Rattle.dn_net.specs.declared.node.NodeDecl.{NodeDecl}
 use Rattle.dn_net.specs.declared.node.Unit.{Unit as UnitPart}
 use Rattle.dn_net.specs.Chain.{Member}
@@ -23,15 +18,15 @@ use Rattle.dn_tables.specs.Set.{FitsNet, has_slot, has_slot_by, use_in, width_in
 use Rattle.dn_tables.specs.Writes.{clear_writes, clears_from, events_of}
 use Rattle.dn_placement.specs.Records.{hop_rights}
 use Rattle.dn_book.specs.declared.grant.Grant.{Grant}
-use Rattle.dn_book.specs.Book.{IsSound, has_id, records_of, uses_of, uses_slot, without}
-use Rattle.dn_book.specs.Sets.{AreFit, AreHopsChanged, KeepsFit, after_clears, changed_by, clear_log, is_used_by, one_less}
+use Rattle.dn_book.specs.Book.{IsSound, records_of, uses_slot, without}
+use Rattle.dn_book.specs.Sets.{AreFit, AreHopsChanged, after_clears, changed_by, clear_log, is_used_by, one_less}
 use Rattle.dn_book.specs.Tables.{IsKept, packed_tables, use_of}
 use Rattle.dn_book.specs.Writes.{Put, clear_events, clear_events_by, clears_of, grant_slots, hop_slots, is_empty, joined_slots, kind_by}
 use Rattle.dn_book.proofs.Changes.{has_slot_kept}
 use Rattle.dn_book.proofs.Commit.{width_at}
 use Rattle.dn_book.proofs.Facts.{fit_then, fits_net_kept}
 use Rattle.dn_book.proofs.Frames.{SameFrame, frame_clears}
-use Rattle.dn_book.proofs.Given.{GrantGives, by_uses, gives_taken, member_of, place_of}
+use Rattle.dn_book.proofs.Given.{GrantGives, by_uses, gives_taken}
 use Rattle.dn_book.proofs.Live.{book_held, by_place, clears_there, gives_held, hop_put_gives, picked_empty, put_gives, records_revoked, some_use, used_once, uses_revoked}
 use Rattle.dn_book.proofs.Packed.{AreKinds, Holds, IsKind, clears_hold, held_cleared, kind_of, set_holds}
 use Rattle.dn_book.proofs.Sound.{placed_fit, revoked_sound}
@@ -150,66 +145,3 @@ module _ (net : List NodeDecl) (kinds : List Meaning) (book : List Grant) (g : G
           changed.uses n q before
           ∙ ap (changed_by net g.request.size (λ place. one_less) 0 g.placement.hops n q) (frame.use_of n q ∙ c.kept.uses n q first)
           ∙ uses_revoked net legal book g sound c.live n q
-
--- FINDING AND TAKING OUT
-
--- the grant that is found
-pub record IsFound (book : List Grant) (id place : ℕ) (g : Grant) : Type 0 where
-  pub live : Member g book
-  pub same : g.id ≡ id
-  pub below : place < length book
-
-pub found_at : (book items : List Grant) (id place : ℕ) (g : Grant) → items ≡ book → position (λ h. h.id == id) items ≡ Some place → g ≡ get_or book place g → IsFound book id place g
-found_at book items id place g e at is =
-    let p = position-Some (λ (h : Grant). h.id == id) items place g at in
-    let l = p.0 in
-    let n = ap length e in
-    let below : place < length book = omega arith in
-    record {
-      live = member_of book place g (slice_get-get_or book place g below ∙ ap Some (sym is));
-      same = eqb-true g.id id (ap (λ (h : Grant). h.id == id) (is ∙ ap (λ (x : List Grant). get_or x place g) (sym e)) ∙ p.1);
-      below = below;
-    }
-
--- the book without it
-pub removed_is : (id : ℕ) (book : List Grant) (place : ℕ) (g : Grant) → AllPairs (λ (a b : Grant). a.id ≢ b.id) book → place < length book → (get_or book place g).id ≡ id → remove book place ≡ without id book
-removed_is id [] place g ids l e = absurd (omega arith)
-removed_is id (k ∷ ks) zero g ids l e =
-    sym (ap (λ b. if not b then k ∷ without id ks else without id ks) (eq-eqb k.id id e) ∙ stay ks (λ j m. others j m))
-  where
-    others : (j : Grant) → Member j ks → j.id ≢ id
-    others j m f =
-        let at = place_of ks j m in
-        let b = slice_get_within ks at.0 j at.1 in
-        ids 0 (suc at.0) k (omega arith) (omega arith) (e ∙ sym f ∙ ap (λ (w : Grant). w.id) (sym (get_or_from_slice_get ks at.0 j k at.1)))
-
-    stay : (js : List Grant) → ((j : Grant) → Member j js → j.id ≢ id) → without id js ≡ js
-    stay [] ne = refl
-    stay (j ∷ js) ne = by (j.id == id) refl (stay js (λ w i. ne w (inr i)))
-      where
-        by : (b : Bool) → (j.id == id) ≡ b → without id js ≡ js → (if not b then j ∷ without id js else without id js) ≡ j ∷ js
-        by true f later = absurd (ne j (inl refl) (eqb-true j.id id f))
-        by false f later = ap (λ (x : List Grant). j ∷ x) later
-removed_is id (k ∷ ks) (suc place) g ids l e =
-    ap (λ (x : List Grant). k ∷ x) (removed_is id ks place g (λ i j d a b. ids (suc i) (suc j) d (omega arith) (omega arith)) (omega arith) e)
-    ∙ sym (ap (λ b. if not b then k ∷ without id ks else without id ks) (ne_eqb k.id id (λ f. ids 0 (suc place) g (omega arith) l (f ∙ sym e))))
-
--- a grant of the id is live exactly where one is found
-pub none_found : (book items : List Grant) (id : ℕ) → items ≡ book → position (λ h. h.id == id) items ≡ None → has_id id book ≡ false
-none_found book items id e at = ap (has_id id) (sym e) ∙ position-none (λ (h : Grant). h.id == id) items at
-
-pub found_live : (book : List Grant) (id place : ℕ) (g : Grant) → IsFound book id place g → has_id id book ≡ true
-found_live book id place g f = member_any (λ (h : Grant). h.id == id) book g f.live (eq-eqb g.id id f.same)
-
-pub live_id : (book : List Grant) (id : ℕ) (g : Grant) → Member g book → g.id ≡ id → has_id id book ≡ true
-live_id book id g m e = member_any (λ (h : Grant). h.id == id) book g m (eq-eqb g.id id e)
-
--- an item of a list, whatever stands for one that is not there
-pub get_or_same : {X : Type 0} (xs : List X) (i : ℕ) (d e : X) → i < length xs → get_or xs i d ≡ get_or xs i e
-get_or_same [] i d e l = absurd (omega arith)
-get_or_same (x ∷ xs) zero d e l = refl
-get_or_same (x ∷ xs) (suc i) d e l = get_or_same xs i d e (omega arith)
-
--- each slot of a grant is used in a set
-abbrev pub UsesAll : List NodeDecl → Grant → List NodeTable → Type 0
-UsesAll net g set = (place : ℕ) (hop : Hop) → slice_get g.placement.hops place ≡ Some hop → (s : Put) → Member s (hop_slots net g.request.size both_rights hop) → 0 < (use_in set s.unit s.slot).uses

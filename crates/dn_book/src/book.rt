@@ -1,6 +1,6 @@
 //! The live grants, with the tables that hold their records.
 
-ghost use Rattle.std.specs.Prelude.{◌≡◌, ◌≢◌, ◌↔◌, [], ◌∷◌, ◌++◌, Err, true, false, not, map, IfOk, OnOk, OnErr, is_ok, is_err, length, position, IfSome, ◌==◌, ◌<◌};
+ghost use Rattle.std.specs.Prelude.{◌≡◌, ◌≢◌, ◌↔◌, [], ◌∷◌, ◌++◌, Err, true, false, not, map, IfOk, OnOk, OnErr, is_ok, is_err};
 ghost use Rattle.dn_net.specs.Chain.{Member};
 ghost use Rattle.std.specs.List.{All};
 ghost use Rattle.dn_base.specs.Device.{is_make_fault};
@@ -20,6 +20,7 @@ ghost use Rattle.dn_book.specs.declared.grant.Grant.{Grant as GrantPart};
 
 use crate::clears::clear_grant;
 use crate::grant::Grant;
+use crate::grants::Grants;
 use crate::puts::write_grant;
 use crate::uses::{add_uses, end_uses};
 use dn_base::device::{MakeFault, Tables};
@@ -63,7 +64,7 @@ pub enum RevokeFault {
 /// The live grants in order of granting, at most 4,096, and the tables that hold their records.
 #[derive(Drop)]
 pub struct Book {
-    grants: Vec<Grant>,
+    grants: Grants,
     tables: TableSet,
     cleared: bool,
     sound: bool,
@@ -74,7 +75,7 @@ impl Model for Book {
 
     ghost Value = { BookState };
 
-    ghost view = { λ b. record { grants = b.grants.items; set = b.tables; cleared = b.cleared; sound = b.sound } };
+    ghost view = { λ b. record { grants = b.grants; set = b.tables; cleared = b.cleared; sound = b.sound } };
 }
 
 impl Book {
@@ -110,7 +111,7 @@ impl Book {
             (D.faults device.new) (is_make_fault result) }
     {
         Ok(Book {
-            grants: Vec::new(alloc),
+            grants: Grants::new(alloc),
             tables: TableSet::make(alloc, net, kinds, device)?,
             cleared: false,
             sound: true,
@@ -118,10 +119,10 @@ impl Book {
     }
 
     /// The live grants, in the order in which they were granted.
-    pub fn grants(&self) -> &[Grant]
+    pub fn grants(&self) -> &Grants
         ensures { result.now ≡ self.now.grants }
     {
-        self.grants.as_slice()
+        &self.grants
     }
 
     /// The tables.
@@ -149,7 +150,7 @@ impl Book {
     pub fn has_id(&self, id: u32) -> bool
         ensures { result ≡ has_id id self.now.grants }
     {
-        self.grants.iter().any(|grant| grant.id == id)
+        self.grants.has_id(id)
     }
 
     /// Commits a grant: a fence where a record was cleared since the last one, then the records of its
@@ -160,7 +161,8 @@ impl Book {
     ///
     /// `Device` only where the device's count of faults rose in this call, or stands at the last value
     /// of its counter: the writes before the one that failed are done, no grant comes in, and the book
-    /// is not sound any more. `OutOfMemory` for want of memory: nothing has changed.
+    /// is not sound any more. `OutOfMemory` for want of memory, or behind 2^64 - 1 grants: nothing has
+    /// changed.
     pub fn commit<D: Tables>(
         &mut self,
         alloc: Global,
@@ -194,17 +196,19 @@ impl Book {
         ensures counted { IsCounted (D.faults device.old) (D.faults device.new)
             (is_commit_fault result) }
     {
-        self.grants.reserve(1)?;
-        if write_grant(&mut self.tables, net, kinds, &grant, self.cleared, device).is_err() {
+        let id = grant.id;
+        self.grants.push(grant)?;
+        let Some(live) = self.grants.get(id) else {
+            unreachable!()
+        };
+        if write_grant(&mut self.tables, net, kinds, live, self.cleared, device).is_err() {
+            self.grants.remove(id);
             self.sound = false;
             return Err(CommitFault::Device);
         }
-        add_uses(&mut self.tables, net, &grant);
+        add_uses(&mut self.tables, net, live);
         self.cleared = false;
-        match self.grants.push(grant) {
-            Ok(()) => Ok(()),
-            Err(_) => unreachable!(),
-        }
+        Ok(())
     }
 
     /// Takes the grant of an id out: from the agent's end to memory's, and in each hop by ascending
@@ -249,24 +253,16 @@ impl Book {
         ensures counted { IsCounted (D.faults device.old) (D.faults device.new)
             (is_revoke_fault result) }
     {
-        let Some(place) = place_of(self.grants.as_slice(), id) else {
+        let Some(live) = self.grants.get(id) else {
             return Err(RevokeFault::NoGrant);
         };
-        if clear_grant(&mut self.tables, net, &self.grants[place], device).is_err() {
+        if clear_grant(&mut self.tables, net, live, device).is_err() {
             self.sound = false;
             return Err(RevokeFault::Device);
         }
-        end_uses(&mut self.tables, net, &self.grants[place]);
+        end_uses(&mut self.tables, net, live);
         self.cleared = true;
-        self.grants.remove(place);
+        self.grants.remove(id);
         Ok(())
     }
-}
-
-/// The place of the live grant of an id. `None` exactly where none has it.
-fn place_of(grants: &[Grant], id: u32) -> Option<usize>
-    ensures place { result ≡ position (λ g. g.id == id) grants.now }
-    ensures bound { IfSome result (λ place. place < length grants.now) }
-{
-    grants.iter().position(|grant| grant.id == id)
 }

@@ -4,6 +4,7 @@
 pub mod book;
 mod clears;
 pub mod grant;
+pub mod grants;
 pub mod kept;
 pub mod laws;
 mod puts;

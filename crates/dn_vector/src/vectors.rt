@@ -9,6 +9,7 @@ ghost use Rattle.dn_vector.specs.Vectors.{has_vector, in_some_span, is_free_vect
 
 use dn_base::OutOfMemory;
 use dn_book::grant::Grant;
+use dn_book::grants::Grants;
 use dn_interval::{Span, SpanSet, TOP};
 use dn_net::net::Net;
 use dn_walk::accepted::accepted_set;
@@ -18,7 +19,7 @@ use std::alloc::Global;
 pub fn free_vectors(
     alloc: Global,
     net: &Net,
-    grants: &[Grant],
+    grants: &Grants,
     node: u16,
 ) -> Result<SpanSet, OutOfMemory>
     requires rules { KeepsNodeRules net.now }
@@ -32,12 +33,12 @@ pub fn free_vectors(
 }
 
 /// The vectors of a node that grants have.
-fn taken_vectors(alloc: Global, grants: &[Grant], node: u16) -> Result<SpanSet, OutOfMemory>
+fn taken_vectors(alloc: Global, grants: &Grants, node: u16) -> Result<SpanSet, OutOfMemory>
     ensures { IfOk result (λ set. (a : ℕ) → a ≤ top →
         has set a ≡ list_any (has_vector node a) grants.now) }
 {
     let mut taken = SpanSet::new(alloc);
-    for grant in grants {
+    for grant in grants.iter() {
         if let Some(span) = vectors_of(grant, node) {
             taken.insert(span)?;
         }

@@ -11,7 +11,7 @@ use crate::commands::{CHAINS, Choice, Dice, LINES, PORTS, ROWS, made};
 use crate::desk::{Board, Desk};
 use crate::records::{Asked, asked_of, views_of};
 use crate::search::{Site, held_of, taken_of};
-use dn_book::grant::Grant;
+use dn_book::grants::Grants;
 use dn_grant::fault::GrantFault;
 use dn_kind::kinds::Kinds;
 use dn_kind::rights::Rights;
@@ -148,12 +148,12 @@ fn is_accepted(net: &Net, node: u16, addr: u64) -> bool {
 }
 
 /// Whether no live grant of a node has a vector.
-fn is_free_vector(grants: &[Grant], node: u16, vector: u64) -> bool {
+fn is_free_vector(grants: &Grants, node: u16, vector: u64) -> bool {
     !grants.iter().any(|live| live.request.node == node && live.request.base == vector)
 }
 
 /// The least vector of a node that no live grant has and that an addition gives to a line.
-fn least_given(grants: &[Grant], given: &[Given], line: Name, node: u16) -> Option<u64> {
+fn least_given(grants: &Grants, given: &[Given], line: Name, node: u16) -> Option<u64> {
     let mut least = None;
     for one in given {
         let vector = one.to.addr;

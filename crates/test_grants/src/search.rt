@@ -251,7 +251,7 @@ fn push_taken(
 /// What the live grants of a book have of slots, in order of granting.
 pub fn taken_of(alloc: Global, net: &Net, book: &Book) -> Result<Vec<Taken>, Fail> {
     let mut taken = Vec::new(alloc);
-    for grant in book.grants() {
+    for grant in book.grants().iter() {
         let hops = grant.placement.hops();
         let own = grant.placement.own();
         push_taken(alloc, net, &grant.request, hops, own, &mut taken)?;

@@ -66,10 +66,12 @@ loop-command-preserved g c =
     let after : List Grant = c.play.new.state.book.grants in
     let legal = legal_with kinds net c.requires.shaped c.facts.ensures.walked.legal in
     let owed = state_owed kinds net c.play.new.state (all_of_map _ c.args.kinds.now.list.items c.requires.lawful) legal c.in_ok-play.ensures.state in
+    let lived : c.len-before.result ≡ length before = search rules in
+    let lives : c.len-after.result ≡ length after = search rules in
     let made : c.has_granted.result ≡ has_granted command (length before) (length after) =
-    c.has_granted.ensures ∙ (λ j. has_granted command (length (c.grants-before.ensures j)) (length (c.grants-after.ensures j))) in
+    c.has_granted.ensures ∙ (λ j. has_granted command (lived j) (lives j)) in
     let gone : c.has_revoked.result ≡ has_revoked command (length before) (length after) =
-    c.has_revoked.ensures ∙ (λ j. has_revoked command (length (c.grants-before.ensures j)) (length (c.grants-after.ensures j))) in
+    c.has_revoked.ensures ∙ (λ j. has_revoked command (lived j) (lives j)) in
     let granted : c.counted-granted.result ≡ c.loop-command.granted + (if has_granted command (length before) (length after) then 1 else 0) =
     c.counted-granted.ensures ∙ ap (λ (b : Bool). c.loop-command.granted + (if b then 1 else 0)) made in
     let revoked : c.counted-revoked.result ≡ c.loop-command.revoked + (if has_revoked command (length before) (length after) then 1 else 0) =

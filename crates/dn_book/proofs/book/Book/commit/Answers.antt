@@ -1,8 +1,10 @@
-use Rattle.std.proofs.Common.{◌≡◌, ◌∙◌, ◌++◌, ◌∷◌, [], sym, subst, rules, filter, map, reverse, List, true, false, is_err}
+use Rattle.std.proofs.Common.{◌≡◌, ◌∙◌, ◌++◌, ◌∷◌, [], sym, ap, subst, rules, option_copied, filter, map, reverse, List, None, true, false, is_err, IsTrue}
 use Rattle.std.specs.List.{flat_map}
 use Rattle.dn_kind.specs.Kind.{Meaning}
+use Rattle.dn_kind.specs.Rights.{are_rights}
 use Rattle.dn_tables.proofs.Slots.{all_of_map}
 use Rattle.dn_book.specs.declared.grant.Grant.{Grant}
+use Rattle.dn_book.specs.Book.{IsSound, has_id}
 use Rattle.dn_book.specs.Laws.{IsGrantFor}
 use Rattle.dn_book.specs.Sets.{after_puts, is_used_by, put_log}
 use Rattle.dn_book.specs.State.{BookState}
@@ -10,92 +12,142 @@ use Rattle.dn_book.specs.Tables.{IsKept}
 use Rattle.dn_book.specs.Writes.{AreAdded, fence_events, grant_events, grant_slots, joined_slots, put_events, puts_of}
 use Rattle.dn_book.proofs.Commit.{Coming, coming_fit, coming_log, coming_open, coming_uses, committed}
 use Rattle.dn_book.proofs.Facts.{ok_by_err}
+use Rattle.dn_book.proofs.Serials.{AreApart, is_behind, some_behind, taken_back}
+use Rattle.dn_book.proofs.Sound.{granted_sound}
 use Rattle.dn_book.proofs.book.Book.commit.Goals as goal
 
 pub write_grant-requires-clause-hops : goal.write_grant-requires-clause-hops
 write_grant-requires-clause-hops g c =
+    let new : has_id c.args.grant.id c.self.inside.grants ≡ false = ap (λ (b : BookState). has_id c.args.grant.id b.grants) c.self.view_is ∙ c.requires.placed.new in
+    let pushed : c.push.new.self ≡ c.self.inside.grants ++ c.args.grant ∷ [] = c.in_ok-push.ensures.pushed in
+    let same : c.in-Some.live.now ≡ c.args.grant = is_behind c.self.inside.grants c.push.new.self c.args.grant c.in-Some.live.now new pushed (sym (ap option_copied c.in-Some.is) ∙ c.get.ensures) in
     let kinds : List Meaning = map (λ k. (goal.UnitKind-dyn g (k.vtable, k.value)).meaning k.value) c.args.kinds.now.list.items in
-    let coming : Coming c.args.net.now kinds c.self.inside.grants.items c.args.grant c.self.inside.tables = record {
+    let coming : Coming c.args.net.now kinds c.self.inside.grants c.in-Some.live.now c.self.inside.tables = record {
       lawful = all_of_map (λ k. (goal.UnitKind-dyn g (k.vtable, k.value)).meaning k.value) c.args.kinds.now.list.items c.requires.lawful;
       legal = c.requires.legal;
       kept = subst (λ (b : BookState). IsKept c.args.net.now kinds b.grants b.set) (sym c.self.view_is) c.requires.kept;
-      placed = subst (λ (b : BookState). IsGrantFor c.args.net.now b.grants c.args.grant) (sym c.self.view_is) c.requires.placed;
+      placed = subst (λ (w : Grant). IsGrantFor c.args.net.now c.self.inside.grants w) (sym same) (subst (λ (b : BookState). IsGrantFor c.args.net.now b.grants c.args.grant) (sym c.self.view_is) c.requires.placed);
     } in
-    coming_fit c.args.net.now kinds c.self.inside.grants.items c.args.grant c.self.inside.tables coming
+    coming_fit c.args.net.now kinds c.self.inside.grants c.in-Some.live.now c.self.inside.tables coming
 
 pub write_grant-requires-clause-open : goal.write_grant-requires-clause-open
 write_grant-requires-clause-open g c =
+    let new : has_id c.args.grant.id c.self.inside.grants ≡ false = ap (λ (b : BookState). has_id c.args.grant.id b.grants) c.self.view_is ∙ c.requires.placed.new in
+    let pushed : c.push.new.self ≡ c.self.inside.grants ++ c.args.grant ∷ [] = c.in_ok-push.ensures.pushed in
+    let same : c.in-Some.live.now ≡ c.args.grant = is_behind c.self.inside.grants c.push.new.self c.args.grant c.in-Some.live.now new pushed (sym (ap option_copied c.in-Some.is) ∙ c.get.ensures) in
     let kinds : List Meaning = map (λ k. (goal.UnitKind-dyn g (k.vtable, k.value)).meaning k.value) c.args.kinds.now.list.items in
-    let coming : Coming c.args.net.now kinds c.self.inside.grants.items c.args.grant c.self.inside.tables = record {
+    let coming : Coming c.args.net.now kinds c.self.inside.grants c.in-Some.live.now c.self.inside.tables = record {
       lawful = all_of_map (λ k. (goal.UnitKind-dyn g (k.vtable, k.value)).meaning k.value) c.args.kinds.now.list.items c.requires.lawful;
       legal = c.requires.legal;
       kept = subst (λ (b : BookState). IsKept c.args.net.now kinds b.grants b.set) (sym c.self.view_is) c.requires.kept;
-      placed = subst (λ (b : BookState). IsGrantFor c.args.net.now b.grants c.args.grant) (sym c.self.view_is) c.requires.placed;
+      placed = subst (λ (w : Grant). IsGrantFor c.args.net.now c.self.inside.grants w) (sym same) (subst (λ (b : BookState). IsGrantFor c.args.net.now b.grants c.args.grant) (sym c.self.view_is) c.requires.placed);
     } in
-    coming_open c.args.net.now kinds c.self.inside.grants.items c.args.grant c.self.inside.tables coming
+    coming_open c.args.net.now kinds c.self.inside.grants c.in-Some.live.now c.self.inside.tables coming
 
 pub returns-then-is_err-clause-added : goal.returns-then-is_err-clause-added
 returns-then-is_err-clause-added g c other =
+    let new : has_id c.args.grant.id c.self.inside.grants ≡ false = ap (λ (b : BookState). has_id c.args.grant.id b.grants) c.self.view_is ∙ c.requires.placed.new in
+    let pushed : c.push.new.self ≡ c.self.inside.grants ++ c.args.grant ∷ [] = c.in_ok-push.ensures.pushed in
+    let same : c.in-Some.live.now ≡ c.args.grant = is_behind c.self.inside.grants c.push.new.self c.args.grant c.in-Some.live.now new pushed (sym (ap option_copied c.in-Some.is) ∙ c.get.ensures) in
     let kinds : List Meaning = map (λ k. (goal.UnitKind-dyn g (k.vtable, k.value)).meaning k.value) c.args.kinds.now.list.items in
-    let coming : Coming c.args.net.now kinds c.self.inside.grants.items c.args.grant c.self.inside.tables = record {
+    let coming : Coming c.args.net.now kinds c.self.inside.grants c.in-Some.live.now c.self.inside.tables = record {
       lawful = all_of_map (λ k. (goal.UnitKind-dyn g (k.vtable, k.value)).meaning k.value) c.args.kinds.now.list.items c.requires.lawful;
       legal = c.requires.legal;
       kept = subst (λ (b : BookState). IsKept c.args.net.now kinds b.grants b.set) (sym c.self.view_is) c.requires.kept;
-      placed = subst (λ (b : BookState). IsGrantFor c.args.net.now b.grants c.args.grant) (sym c.self.view_is) c.requires.placed;
+      placed = subst (λ (w : Grant). IsGrantFor c.args.net.now c.self.inside.grants w) (sym same) (subst (λ (b : BookState). IsGrantFor c.args.net.now b.grants c.args.grant) (sym c.self.view_is) c.requires.placed);
     } in
     let was : is_err c.write_grant.result ≡ true = search rules in
-    let log : AreAdded (fence_events c.self.inside.cleared ++ flat_map (put_events c.args.net.now kinds) (puts_of c.args.net.now c.self.inside.grants.items c.args.grant)) true (g.D.Tables.log c.args.device.now) (g.D.Tables.log c.write_grant.new.device) =
-    subst (λ es. AreAdded (fence_events c.self.inside.cleared ++ es) true (g.D.Tables.log c.args.device.now) (g.D.Tables.log c.write_grant.new.device)) (coming_log c.args.net.now kinds c.self.inside.grants.items c.args.grant c.self.inside.tables coming) (subst (λ f. AreAdded (fence_events c.self.inside.cleared ++ put_log kinds c.self.inside.tables (filter (is_used_by 0 c.self.inside.tables) (joined_slots (reverse (grant_slots c.args.net.now c.args.grant))))) f (g.D.Tables.log c.args.device.now) (g.D.Tables.log c.write_grant.new.device)) was c.write_grant.ensures.added) in
-    subst (λ (b : BookState). AreAdded (grant_events c.args.net.now kinds b.grants b.cleared c.args.grant) true (g.D.Tables.log c.args.device.now) (g.D.Tables.log c.write_grant.new.device)) c.self.view_is log
+    let log : AreAdded (fence_events c.self.inside.cleared ++ flat_map (put_events c.args.net.now kinds) (puts_of c.args.net.now c.self.inside.grants c.in-Some.live.now)) true (g.D.Tables.log c.args.device.now) (g.D.Tables.log c.write_grant.new.device) =
+    subst (λ es. AreAdded (fence_events c.self.inside.cleared ++ es) true (g.D.Tables.log c.args.device.now) (g.D.Tables.log c.write_grant.new.device)) (coming_log c.args.net.now kinds c.self.inside.grants c.in-Some.live.now c.self.inside.tables coming) (subst (λ f. AreAdded (fence_events c.self.inside.cleared ++ put_log kinds c.self.inside.tables (filter (is_used_by 0 c.self.inside.tables) (joined_slots (reverse (grant_slots c.args.net.now c.in-Some.live.now))))) f (g.D.Tables.log c.args.device.now) (g.D.Tables.log c.write_grant.new.device)) was c.write_grant.ensures.added) in
+    subst (λ (b : BookState). AreAdded (grant_events c.args.net.now kinds b.grants b.cleared c.args.grant) true (g.D.Tables.log c.args.device.now) (g.D.Tables.log c.write_grant.new.device)) c.self.view_is (subst (λ (w : Grant). AreAdded (grant_events c.args.net.now kinds c.self.inside.grants c.self.inside.cleared w) true (g.D.Tables.log c.args.device.now) (g.D.Tables.log c.write_grant.new.device)) same log)
 
 pub add_uses-requires-clause-hops : goal.add_uses-requires-clause-hops
 add_uses-requires-clause-hops g c =
+    let new : has_id c.args.grant.id c.self.inside.grants ≡ false = ap (λ (b : BookState). has_id c.args.grant.id b.grants) c.self.view_is ∙ c.requires.placed.new in
+    let pushed : c.push.new.self ≡ c.self.inside.grants ++ c.args.grant ∷ [] = c.in_ok-push.ensures.pushed in
+    let same : c.in-Some.live.now ≡ c.args.grant = is_behind c.self.inside.grants c.push.new.self c.args.grant c.in-Some.live.now new pushed (sym (ap option_copied c.in-Some.is) ∙ c.get.ensures) in
     let kinds : List Meaning = map (λ k. (goal.UnitKind-dyn g (k.vtable, k.value)).meaning k.value) c.args.kinds.now.list.items in
-    let coming : Coming c.args.net.now kinds c.self.inside.grants.items c.args.grant c.self.inside.tables = record {
+    let coming : Coming c.args.net.now kinds c.self.inside.grants c.in-Some.live.now c.self.inside.tables = record {
       lawful = all_of_map (λ k. (goal.UnitKind-dyn g (k.vtable, k.value)).meaning k.value) c.args.kinds.now.list.items c.requires.lawful;
       legal = c.requires.legal;
       kept = subst (λ (b : BookState). IsKept c.args.net.now kinds b.grants b.set) (sym c.self.view_is) c.requires.kept;
-      placed = subst (λ (b : BookState). IsGrantFor c.args.net.now b.grants c.args.grant) (sym c.self.view_is) c.requires.placed;
+      placed = subst (λ (w : Grant). IsGrantFor c.args.net.now c.self.inside.grants w) (sym same) (subst (λ (b : BookState). IsGrantFor c.args.net.now b.grants c.args.grant) (sym c.self.view_is) c.requires.placed);
     } in
-    coming_fit c.args.net.now kinds c.self.inside.grants.items c.args.grant c.self.inside.tables coming
+    coming_fit c.args.net.now kinds c.self.inside.grants c.in-Some.live.now c.self.inside.tables coming
 
 pub add_uses-requires-clause-may : goal.add_uses-requires-clause-may
 add_uses-requires-clause-may g c =
+    let new : has_id c.args.grant.id c.self.inside.grants ≡ false = ap (λ (b : BookState). has_id c.args.grant.id b.grants) c.self.view_is ∙ c.requires.placed.new in
+    let pushed : c.push.new.self ≡ c.self.inside.grants ++ c.args.grant ∷ [] = c.in_ok-push.ensures.pushed in
+    let same : c.in-Some.live.now ≡ c.args.grant = is_behind c.self.inside.grants c.push.new.self c.args.grant c.in-Some.live.now new pushed (sym (ap option_copied c.in-Some.is) ∙ c.get.ensures) in
     let kinds : List Meaning = map (λ k. (goal.UnitKind-dyn g (k.vtable, k.value)).meaning k.value) c.args.kinds.now.list.items in
-    let coming : Coming c.args.net.now kinds c.self.inside.grants.items c.args.grant c.self.inside.tables = record {
+    let coming : Coming c.args.net.now kinds c.self.inside.grants c.in-Some.live.now c.self.inside.tables = record {
       lawful = all_of_map (λ k. (goal.UnitKind-dyn g (k.vtable, k.value)).meaning k.value) c.args.kinds.now.list.items c.requires.lawful;
       legal = c.requires.legal;
       kept = subst (λ (b : BookState). IsKept c.args.net.now kinds b.grants b.set) (sym c.self.view_is) c.requires.kept;
-      placed = subst (λ (b : BookState). IsGrantFor c.args.net.now b.grants c.args.grant) (sym c.self.view_is) c.requires.placed;
+      placed = subst (λ (w : Grant). IsGrantFor c.args.net.now c.self.inside.grants w) (sym same) (subst (λ (b : BookState). IsGrantFor c.args.net.now b.grants c.args.grant) (sym c.self.view_is) c.requires.placed);
     } in
     let was : is_err c.write_grant.result ≡ false = search rules in
-    let made : c.write_grant.new.tables ≡ after_puts kinds c.self.inside.tables (filter (is_used_by 0 c.self.inside.tables) (joined_slots (reverse (grant_slots c.args.net.now c.args.grant)))) = ok_by_err c.write_grant.result _ c.write_grant.ensures.done was in
-    coming_uses c.args.net.now kinds c.self.inside.grants.items c.args.grant c.self.inside.tables coming c.write_grant.new.tables made
+    let made : c.write_grant.new.tables ≡ after_puts kinds c.self.inside.tables (filter (is_used_by 0 c.self.inside.tables) (joined_slots (reverse (grant_slots c.args.net.now c.in-Some.live.now)))) = ok_by_err c.write_grant.result _ c.write_grant.ensures.done was in
+    coming_uses c.args.net.now kinds c.self.inside.grants c.in-Some.live.now c.self.inside.tables coming c.write_grant.new.tables made
 
 pub returns-clause-kept : goal.returns-clause-kept
 returns-clause-kept g c =
+    let new : has_id c.args.grant.id c.self.inside.grants ≡ false = ap (λ (b : BookState). has_id c.args.grant.id b.grants) c.self.view_is ∙ c.requires.placed.new in
+    let pushed : c.push.new.self ≡ c.self.inside.grants ++ c.args.grant ∷ [] = c.in_ok-push.ensures.pushed in
+    let same : c.in-Some.live.now ≡ c.args.grant = is_behind c.self.inside.grants c.push.new.self c.args.grant c.in-Some.live.now new pushed (sym (ap option_copied c.in-Some.is) ∙ c.get.ensures) in
     let kinds : List Meaning = map (λ k. (goal.UnitKind-dyn g (k.vtable, k.value)).meaning k.value) c.args.kinds.now.list.items in
-    let coming : Coming c.args.net.now kinds c.self.inside.grants.items c.args.grant c.self.inside.tables = record {
+    let coming : Coming c.args.net.now kinds c.self.inside.grants c.in-Some.live.now c.self.inside.tables = record {
       lawful = all_of_map (λ k. (goal.UnitKind-dyn g (k.vtable, k.value)).meaning k.value) c.args.kinds.now.list.items c.requires.lawful;
       legal = c.requires.legal;
       kept = subst (λ (b : BookState). IsKept c.args.net.now kinds b.grants b.set) (sym c.self.view_is) c.requires.kept;
-      placed = subst (λ (b : BookState). IsGrantFor c.args.net.now b.grants c.args.grant) (sym c.self.view_is) c.requires.placed;
+      placed = subst (λ (w : Grant). IsGrantFor c.args.net.now c.self.inside.grants w) (sym same) (subst (λ (b : BookState). IsGrantFor c.args.net.now b.grants c.args.grant) (sym c.self.view_is) c.requires.placed);
     } in
     let was : is_err c.write_grant.result ≡ false = search rules in
-    let made : c.write_grant.new.tables ≡ after_puts kinds c.self.inside.tables (filter (is_used_by 0 c.self.inside.tables) (joined_slots (reverse (grant_slots c.args.net.now c.args.grant)))) = ok_by_err c.write_grant.result _ c.write_grant.ensures.done was in
-    let all : c.push.new.self.items ≡ c.self.inside.grants.items ++ c.args.grant ∷ [] = search rules in
-    subst (λ (b : List Grant). IsKept c.args.net.now kinds b c.add_uses.new.tables) (sym all) (committed c.args.net.now kinds c.self.inside.grants.items c.args.grant c.self.inside.tables coming c.write_grant.new.tables c.add_uses.new.tables made c.add_uses.ensures)
+    let made : c.write_grant.new.tables ≡ after_puts kinds c.self.inside.tables (filter (is_used_by 0 c.self.inside.tables) (joined_slots (reverse (grant_slots c.args.net.now c.in-Some.live.now)))) = ok_by_err c.write_grant.result _ c.write_grant.ensures.done was in
+    let all : c.push.new.self ≡ c.self.inside.grants ++ c.in-Some.live.now ∷ [] = pushed ∙ ap (λ (w : Grant). c.self.inside.grants ++ w ∷ []) (sym same) in
+    subst (λ (b : List Grant). IsKept c.args.net.now kinds b c.add_uses.new.tables) (sym all) (committed c.args.net.now kinds c.self.inside.grants c.in-Some.live.now c.self.inside.tables coming c.write_grant.new.tables c.add_uses.new.tables made c.add_uses.ensures)
 
 pub returns-clause-added : goal.returns-clause-added
 returns-clause-added g c other =
+    let new : has_id c.args.grant.id c.self.inside.grants ≡ false = ap (λ (b : BookState). has_id c.args.grant.id b.grants) c.self.view_is ∙ c.requires.placed.new in
+    let pushed : c.push.new.self ≡ c.self.inside.grants ++ c.args.grant ∷ [] = c.in_ok-push.ensures.pushed in
+    let same : c.in-Some.live.now ≡ c.args.grant = is_behind c.self.inside.grants c.push.new.self c.args.grant c.in-Some.live.now new pushed (sym (ap option_copied c.in-Some.is) ∙ c.get.ensures) in
     let kinds : List Meaning = map (λ k. (goal.UnitKind-dyn g (k.vtable, k.value)).meaning k.value) c.args.kinds.now.list.items in
-    let coming : Coming c.args.net.now kinds c.self.inside.grants.items c.args.grant c.self.inside.tables = record {
+    let coming : Coming c.args.net.now kinds c.self.inside.grants c.in-Some.live.now c.self.inside.tables = record {
       lawful = all_of_map (λ k. (goal.UnitKind-dyn g (k.vtable, k.value)).meaning k.value) c.args.kinds.now.list.items c.requires.lawful;
       legal = c.requires.legal;
       kept = subst (λ (b : BookState). IsKept c.args.net.now kinds b.grants b.set) (sym c.self.view_is) c.requires.kept;
-      placed = subst (λ (b : BookState). IsGrantFor c.args.net.now b.grants c.args.grant) (sym c.self.view_is) c.requires.placed;
+      placed = subst (λ (w : Grant). IsGrantFor c.args.net.now c.self.inside.grants w) (sym same) (subst (λ (b : BookState). IsGrantFor c.args.net.now b.grants c.args.grant) (sym c.self.view_is) c.requires.placed);
     } in
     let was : is_err c.write_grant.result ≡ false = search rules in
-    let log : AreAdded (fence_events c.self.inside.cleared ++ flat_map (put_events c.args.net.now kinds) (puts_of c.args.net.now c.self.inside.grants.items c.args.grant)) false (g.D.Tables.log c.args.device.now) (g.D.Tables.log c.write_grant.new.device) =
-    subst (λ es. AreAdded (fence_events c.self.inside.cleared ++ es) false (g.D.Tables.log c.args.device.now) (g.D.Tables.log c.write_grant.new.device)) (coming_log c.args.net.now kinds c.self.inside.grants.items c.args.grant c.self.inside.tables coming) (subst (λ f. AreAdded (fence_events c.self.inside.cleared ++ put_log kinds c.self.inside.tables (filter (is_used_by 0 c.self.inside.tables) (joined_slots (reverse (grant_slots c.args.net.now c.args.grant))))) f (g.D.Tables.log c.args.device.now) (g.D.Tables.log c.write_grant.new.device)) was c.write_grant.ensures.added) in
-    subst (λ (b : BookState). AreAdded (grant_events c.args.net.now kinds b.grants b.cleared c.args.grant) false (g.D.Tables.log c.args.device.now) (g.D.Tables.log c.write_grant.new.device)) c.self.view_is log
+    let log : AreAdded (fence_events c.self.inside.cleared ++ flat_map (put_events c.args.net.now kinds) (puts_of c.args.net.now c.self.inside.grants c.in-Some.live.now)) false (g.D.Tables.log c.args.device.now) (g.D.Tables.log c.write_grant.new.device) =
+    subst (λ es. AreAdded (fence_events c.self.inside.cleared ++ es) false (g.D.Tables.log c.args.device.now) (g.D.Tables.log c.write_grant.new.device)) (coming_log c.args.net.now kinds c.self.inside.grants c.in-Some.live.now c.self.inside.tables coming) (subst (λ f. AreAdded (fence_events c.self.inside.cleared ++ put_log kinds c.self.inside.tables (filter (is_used_by 0 c.self.inside.tables) (joined_slots (reverse (grant_slots c.args.net.now c.in-Some.live.now))))) f (g.D.Tables.log c.args.device.now) (g.D.Tables.log c.write_grant.new.device)) was c.write_grant.ensures.added) in
+    subst (λ (b : BookState). AreAdded (grant_events c.args.net.now kinds b.grants b.cleared c.args.grant) false (g.D.Tables.log c.args.device.now) (g.D.Tables.log c.write_grant.new.device)) c.self.view_is (subst (λ (w : Grant). AreAdded (grant_events c.args.net.now kinds c.self.inside.grants c.self.inside.cleared w) false (g.D.Tables.log c.args.device.now) (g.D.Tables.log c.write_grant.new.device)) same log)
+
+pub remove-requires : goal.remove-requires
+remove-requires g c =
+    let pushed : c.push.new.self ≡ c.self.inside.grants ++ c.args.grant ∷ [] = c.in_ok-push.ensures.pushed in
+    let sound : IsSound c.args.net.now c.self.inside.grants = subst (λ (b : BookState). IsSound c.args.net.now b.grants) (sym c.self.view_is) c.requires.kept.sound in
+    let placed : IsGrantFor c.args.net.now c.self.inside.grants c.args.grant = subst (λ (b : BookState). IsGrantFor c.args.net.now b.grants c.args.grant) (sym c.self.view_is) c.requires.placed in
+    subst (λ (gs : List Grant). AreApart gs) (sym pushed) (granted_sound c.args.net.now c.requires.legal.legal c.self.inside.grants c.args.grant sound placed).ids
+
+pub returns-then-is_err-clause-refused : goal.returns-then-is_err-clause-refused
+returns-then-is_err-clause-refused g c =
+    let new : has_id c.args.grant.id c.self.inside.grants ≡ false = ap (λ (b : BookState). has_id c.args.grant.id b.grants) c.self.view_is ∙ c.requires.placed.new in
+    let pushed : c.push.new.self ≡ c.self.inside.grants ++ c.args.grant ∷ [] = c.in_ok-push.ensures.pushed in
+    c.remove.ensures ∙ taken_back c.self.inside.grants c.push.new.self c.args.grant new pushed ∙ ap (λ (b : BookState). b.grants) c.self.view_is
+
+pub unreachable-requires : goal.unreachable-requires
+unreachable-requires g c =
+    let none : c.get.result ≡ None = search rules in
+    let new : has_id c.args.grant.id c.self.inside.grants ≡ false = ap (λ (b : BookState). has_id c.args.grant.id b.grants) c.self.view_is ∙ c.requires.placed.new in
+    let pushed : c.push.new.self ≡ c.self.inside.grants ++ c.args.grant ∷ [] = c.in_ok-push.ensures.pushed in
+    some_behind c.self.inside.grants c.push.new.self c.args.grant new pushed (sym (ap option_copied none) ∙ c.get.ensures)
+
+pub write_grant-requires-clause-rights : goal.write_grant-requires-clause-rights
+write_grant-requires-clause-rights g c =
+    let new : has_id c.args.grant.id c.self.inside.grants ≡ false = ap (λ (b : BookState). has_id c.args.grant.id b.grants) c.self.view_is ∙ c.requires.placed.new in
+    let pushed : c.push.new.self ≡ c.self.inside.grants ++ c.args.grant ∷ [] = c.in_ok-push.ensures.pushed in
+    let same : c.in-Some.live.now ≡ c.args.grant = is_behind c.self.inside.grants c.push.new.self c.args.grant c.in-Some.live.now new pushed (sym (ap option_copied c.in-Some.is) ∙ c.get.ensures) in
+    subst (λ (w : Grant). IsTrue (are_rights w.request.rights)) (sym same) c.requires.placed.rights
