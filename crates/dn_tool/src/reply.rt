@@ -36,7 +36,7 @@ use dn_net::node::{Name, Role};
 use dn_parse::syntax::Mode;
 use dn_print::{names, rows};
 use dn_view::resolve::resolve;
-use dn_view::view::view;
+use dn_view::view::{fixed_view, view};
 use std::alloc::{AllocError, Global};
 
 /// The reply to a command that changes nothing, other than `dump`: a line, and below that of `view` a
@@ -390,16 +390,12 @@ fn agent_view(
     let Some(flats) = &state.flats else {
         unreachable!()
     };
+    if let Some(seen) = fixed_view(&platform.net, flats, node) {
+        return rows_text(alloc, platform, text, mode, seen);
+    }
     let tables = state.book.tables();
-    let seen = view(
-        alloc,
-        &platform.net,
-        flats,
-        kinds,
-        tables,
-        node,
-        access_of(mode),
-    )?;
+    let access = access_of(mode);
+    let seen = view(alloc, &platform.net, flats, kinds, tables, node, access)?;
     rows_text(alloc, platform, text, mode, &seen)
 }
 
