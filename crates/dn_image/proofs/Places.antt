@@ -1,5 +1,6 @@
 -- Where the bytes of nodes stand in an image.
-use Rattle.std.proofs.Common.{◌≡◌, ℕ, zero, suc, ◌+◌, ◌-◌, ◌*◌, ◌<◌, ◌≤◌, Bool, true, false, nat_lt, List, [], ◌∷◌, ◌++◌, map, length, take, drop, replicate, slice_get, slice_index_or, Option, Some, None, Bor, is_some, IsTrue, refl, sym, ap, ◌∙◌, subst, arith, length-drop, length-append, append_assoc, append-nil, ltb-true, lt-ltb, if◌then◌else◌}
+use Rattle.std.proofs.Common.{◌≡◌, ℕ, zero, suc, ◌+◌, ◌-◌, ◌*◌, ◌<◌, ◌≤◌, min, Bool, true, false, nat_lt, List, [], ◌∷◌, ◌++◌, map, length, take, drop, replicate, slice_get, slice_index_or, Option, Some, None, Bor, is_some, IsTrue, refl, sym, ap, ◌∙◌, subst, arith, length-drop, length-append, append_assoc, append-nil, ltb-true, lt-ltb, if◌then◌else◌}
+use Rattle.std.proofs.Math.Nat.{min-eq_left, min-eq_right}
 use Rattle.std.specs.Option.{option_map, option_copied}
 use Rattle.std.proofs.lemmas.List.{drop-drop, take_at, length-replicate}
 use Rattle.std.proofs.lemmas.Option.{same_Some}
@@ -18,8 +19,8 @@ use Rattle.dn_tables.proofs.Kept.{table_of_unit, slot_room}
 use Rattle.dn_base.proofs.Lists.{list_all-at, length-map, slice_get_within}
 use Rattle.dn_image.specs.Image.{count_unit, unit_count, width_by, width_of, word_count, head_bytes, first_words, unit_bytes, units_bytes}
 use Rattle.dn_image.specs.Reading.{BrokenImage, Field, exactly, word_field, header_fields, unit_fields, units_fields, image_fields, broken_in, broken_image, node_size, nodes_size, node_words, words_from, image_words, record_by}
-use Rattle.dn_image.specs.Bytes.{words_spelled}
-use Rattle.dn_image.proofs.Numbers.{slot_spelled}
+use Rattle.dn_image.specs.Bytes.{word_bytes, words_spelled}
+use Rattle.dn_image.proofs.Numbers.{length_words, slot_spelled}
 use Rattle.dn_image.specs.Reading.BrokenImage.{ends, shape}
 use Rattle.dn_image.proofs.Fields.{right_field, short_field, wrong_field, exactly_right, exactly_wrong, words_there, words_short, right_first, IsRight, ended}
 
@@ -188,6 +189,10 @@ pub copied_there : {X : Type 0} (o : Option (Bor X)) → is_some o ≡ true → 
 copied_there None e = cc
 copied_there (Some b) e = refl
 
+pub copied_none : {X : Type 0} (o : Option (Bor X)) → is_some o ≡ false → is_some (option_copied o) ≡ false
+copied_none None e = refl
+copied_none (Some b) e = cc
+
 -- the kind of a unit of a set that fits kinds
 pub record IsKindThere (kinds : List Meaning) (set : List NodeTable) (node : ℕ) (u : UnitPart) : Type 0 where
   pub kind : Meaning
@@ -276,3 +281,64 @@ few_slots kinds u s = by (unit_shape u) (plain_there kinds u s)
   where
     by : (s : Shape) → IsTrue (is_plain s) → s.slots ≤ 262144
     by s p = grind arith
+
+-- the size of an image
+
+-- a sum to a last number, of which the first part was taken to that number
+least_sum : (last a b : ℕ) → min (min a last + b) last ≡ min (a + b) last
+least_sum last a b = by (nat_lt last a) refl
+  where
+    by : (t : Bool) → nat_lt last a ≡ t → min (min a last + b) last ≡ min (a + b) last
+    by true e =
+        let l : last < a = ltb-true last a e in
+        let x : min a last ≡ last = min-eq_right (omega arith) in
+        let y : min (last + b) last ≡ last = min-eq_right (omega arith) in
+        let z : min (a + b) last ≡ last = min-eq_right (omega arith) in
+        ap (λ k. min (k + b) last) x ∙ y ∙ sym z
+    by false e = ap (λ k. min (k + b) last) (min-eq_left (ltb-false last a e))
+
+-- how many bytes a node has
+unit_size : (kinds : List Meaning) (node : ℕ) (o : Option UnitPart) (ws : List ℕ) → is_some o ≡ true → length (unit_bytes kinds node o ws) ≡ 8 + 8 * length ws
+unit_size kinds node None ws e = cc
+unit_size kinds node (Some u) ws e =
+    let a : length (unit_bytes kinds node (Some u) ws) ≡ length (head_bytes kinds node u) + length (word_bytes ws) = length-append (head_bytes kinds node u) (word_bytes ws) in
+    let b : length (head_bytes kinds node u) ≡ 8 = refl in
+    let c = length_words ws in
+    omega arith
+
+-- the bytes of a node that is no unit
+no_unit_size : (kinds : List Meaning) (node : ℕ) (o : Option UnitPart) (ws : List ℕ) → is_some o ≡ false → length (unit_bytes kinds node o ws) ≡ 0
+no_unit_size kinds node None ws e = refl
+no_unit_size kinds node (Some u) ws e = cc
+
+-- the bytes counted so far to a last number, and those to come, past a unit
+pub counted_step : (last : ℕ) (kinds : List Meaning) (net : List NodeDecl) (set : List NodeTable) (i size : ℕ) (o : Option UnitPart) → option_map (λ d. d.unit) (slice_get net i) ≡ Some o → is_some o ≡ true
+    → min (min (min (size + 8) last + 8 * length (words_in set i)) last + length (units_bytes kinds (i + 1) (drop (i + 1) net) (drop (i + 1) (words_of set)))) last ≡ min (size + length (units_bytes kinds i (drop i net) (drop i (words_of set)))) last
+counted_step last kinds net set i size o e there =
+    let words = 8 * length (words_in set i) in
+    let rest = length (units_bytes kinds (i + 1) (drop (i + 1) net) (drop (i + 1) (words_of set))) in
+    let whole : length (units_bytes kinds i (drop i net) (drop i (words_of set))) ≡ length (unit_bytes kinds i o (words_in set i)) + rest =
+    ap (λ (l : List ℕ). length l) (bytes_step kinds net set i o e) ∙ length-append (unit_bytes kinds i o (words_in set i)) (units_bytes kinds (i + 1) (drop (i + 1) net) (drop (i + 1) (words_of set))) in
+    let unit = unit_size kinds i o (words_in set i) there in
+    let one : min (min (size + 8) last + words + rest) last ≡ min (size + 8 + (words + rest)) last =
+    let first : min (size + 8) last + words + rest ≡ min (size + 8) last + (words + rest) = omega arith in
+    ap (λ k. min k last) first ∙ least_sum last (size + 8) (words + rest) in
+    let sum : size + 8 + (words + rest) ≡ size + length (units_bytes kinds i (drop i net) (drop i (words_of set))) = omega arith in
+    least_sum last (min (size + 8) last + words) rest ∙ one ∙ ap (λ k. min k last) sum
+
+-- and past a node that is no unit
+pub counted_past : (last : ℕ) (kinds : List Meaning) (net : List NodeDecl) (set : List NodeTable) (i size : ℕ) (o : Option UnitPart) → option_map (λ d. d.unit) (slice_get net i) ≡ Some o → is_some o ≡ false
+    → min (size + length (units_bytes kinds (i + 1) (drop (i + 1) net) (drop (i + 1) (words_of set)))) last ≡ min (size + length (units_bytes kinds i (drop i net) (drop i (words_of set)))) last
+counted_past last kinds net set i size o e none =
+    let rest = length (units_bytes kinds (i + 1) (drop (i + 1) net) (drop (i + 1) (words_of set))) in
+    let whole : length (units_bytes kinds i (drop i net) (drop i (words_of set))) ≡ length (unit_bytes kinds i o (words_in set i)) + rest =
+    ap (λ (l : List ℕ). length l) (bytes_step kinds net set i o e) ∙ length-append (unit_bytes kinds i o (words_in set i)) (units_bytes kinds (i + 1) (drop (i + 1) net) (drop (i + 1) (words_of set))) in
+    let unit = no_unit_size kinds i o (words_in set i) none in
+    let sum : size + rest ≡ size + length (units_bytes kinds i (drop i net) (drop i (words_of set))) = omega arith in
+    ap (λ k. min k last) sum
+
+-- what was counted is at most the last number, and nothing is to come
+pub counted_all : (last size : ℕ) (total : ℕ) → size ≤ last → min (size + 0) last ≡ min total last → size ≡ min total last
+counted_all last size total few e =
+    let none : size + 0 ≡ size = omega arith in
+    sym (min-eq_left few) ∙ sym (ap (λ k. min k last) none) ∙ e

@@ -1,10 +1,10 @@
 //! The image of a set of tables.
 
-ghost use Rattle.std.specs.Prelude.{◌≡◌, ◌++◌, ◌+◌, ◌*◌, ◌<◌, ◌≤◌, ◌^◌, length, map, replicate, take, slice_get, Some, IfOk, OnOk, IsTrue};
+ghost use Rattle.std.specs.Prelude.{◌≡◌, ◌++◌, ◌+◌, ◌*◌, ◌-◌, ◌<◌, ◌≤◌, ◌^◌, List, length, map, min, replicate, take, slice_get, Some, IfOk, OnOk, IsTrue};
 ghost use Rattle.std.specs.List.{All};
 ghost use Rattle.std.specs.Option.{option_copied};
 ghost use Rattle.byteorder.specs.Endian.{little_bytes};
-ghost use Rattle.dn_kind.specs.Kind.{IsLawful};
+ghost use Rattle.dn_kind.specs.Kind.{IsLawful, Meaning};
 ghost use Rattle.dn_tables.specs.Set.{FitsNet, fits_kinds, unit_in, units_of, words_in, words_of};
 ghost use Rattle.dn_image.specs.Bytes.{word_bytes};
 ghost use Rattle.dn_image.specs.Image.{count_unit, head_of, image, mark, unit_bytes, unit_count, written_version};
@@ -73,9 +73,11 @@ pub(crate) fn count_unit(unit: Option<&Unit>, count: u16) -> u16
     }
 }
 
-/// How many bytes the image has.
+/// How many bytes the image has, or the last number of the type where they are more.
 fn image_size(net: &Net, tables: &TableSet) -> usize
     requires { units_of tables.now ≡ map (λ n. n.unit) net.now }
+    ensures { (kinds : List Meaning)
+        → result ≡ min (length (image net.now kinds (words_of tables.now))) (2 ^ 64 - 1) }
 {
     let mut size = HEADER;
     for node in 0..net.nodes() {
