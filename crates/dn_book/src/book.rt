@@ -93,7 +93,8 @@ impl Book {
         device: &mut D,
     ) -> Result<Book, MakeFault>
         requires lawful { All (λ k. IsLawful (meaning (k.vtable, k.value))) kinds.now.list.items }
-        requires legal { IsLegalWith (map (λ k. meaning (k.vtable, k.value)) kinds.now.list.items) net.now }
+        requires legal { IsLegalWith
+            (map (λ k. meaning (k.vtable, k.value)) kinds.now.list.items) net.now }
         requires none { D.units device.old ≡ [] }
         ensures empty { IfOk result (λ book. book.grants ≡ []) }
         ensures sound { IfOk result (λ book. book.sound ≡ true) }
@@ -172,7 +173,8 @@ impl Book {
         device: &mut D,
     ) -> Result<(), CommitFault>
         requires lawful { All (λ k. IsLawful (meaning (k.vtable, k.value))) kinds.now.list.items }
-        requires legal { IsLegalWith (map (λ k. meaning (k.vtable, k.value)) kinds.now.list.items) net.now }
+        requires legal { IsLegalWith
+            (map (λ k. meaning (k.vtable, k.value)) kinds.now.list.items) net.now }
         requires sound { self.old.sound ≡ true }
         requires kept { IsKept net.now
             (map (λ k. meaning (k.vtable, k.value)) kinds.now.list.items) self.old.grants self.old.set }
@@ -228,7 +230,8 @@ impl Book {
         device: &mut D,
     ) -> Result<(), RevokeFault>
         requires lawful { All (λ k. IsLawful (meaning (k.vtable, k.value))) kinds.now.list.items }
-        requires legal { IsLegalWith (map (λ k. meaning (k.vtable, k.value)) kinds.now.list.items) net.now }
+        requires legal { IsLegalWith
+            (map (λ k. meaning (k.vtable, k.value)) kinds.now.list.items) net.now }
         requires sound { self.old.sound ≡ true }
         requires kept { IsKept net.now
             (map (λ k. meaning (k.vtable, k.value)) kinds.now.list.items) self.old.grants self.old.set }
@@ -241,7 +244,8 @@ impl Book {
         ensures cleared { OnOk result (self.new.cleared ≡ true) }
         ensures refused { OnErr result (self.new.grants ≡ self.old.grants) }
         ensures unknown { result ≡ Err no_grant ↔ (has_id id self.old.grants ≡ false) }
-        ensures unchanged { result ≡ Err no_grant → (self.new ≡ self.old) × (device.new ≡ device.old) }
+        ensures unchanged { result ≡ Err no_grant → (self.new ≡ self.old) ×
+            (device.new ≡ device.old) }
         ensures sound { self.new.sound ≡ not (is_revoke_fault result) }
         ensures fits { FitsNet net.now
             (map (λ k. meaning (k.vtable, k.value)) kinds.now.list.items) self.new.set }

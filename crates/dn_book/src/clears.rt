@@ -54,7 +54,8 @@ fn clear_hop<D: Tables>(
 ) -> Result<(), DeviceFault>
     requires units { units_of tables.old ≡ map (λ d. d.unit) net.now }
     requires on_device { IsOnDevice tables.old (D.units device.old) (D.words device.old) }
-    requires there { (u : UnitPart) × (unit_at net.now hop.now.unit ≡ Some u) × FitsUnit u size hop.now }
+    requires there { (u : UnitPart) × (unit_at net.now hop.now.unit ≡ Some u) ×
+        FitsUnit u size hop.now }
     ensures cleared { (rights : RightsPart) → AreCleared (hop_slots net.now size rights hop.now)
         (is_err result) (D.log device.old) (D.log device.new) tables.old tables.new }
     ensures on_device { IsOnDevice tables.new (D.units device.new) (D.words device.new) }
@@ -77,7 +78,8 @@ fn clear_slots<D: Tables>(
     requires on_device { IsOnDevice tables.old (D.units device.old) (D.words device.old) }
     requires is_unit { unit_in tables.old hop.now.unit ≡ Some unit.now }
     requires there { FitsUnit unit.now size hop.now }
-    ensures cleared { (rights : RightsPart) → AreCleared (hop_slots_by (Some unit.now) size rights hop.now)
+    ensures cleared { (rights : RightsPart) →
+        AreCleared (hop_slots_by (Some unit.now) size rights hop.now)
         (is_err result) (D.log device.old) (D.log device.new) tables.old tables.new }
     ensures on_device { IsOnDevice tables.new (D.units device.new) (D.words device.new) }
     ensures counted { IsCounted (D.faults device.old) (D.faults device.new) (is_err result) }

@@ -47,15 +47,19 @@ pub(crate) fn write_grant<D: Tables>(
     device: &mut D,
 ) -> Result<(), DeviceFault>
     requires lawful { All (λ k. IsLawful (meaning (k.vtable, k.value))) kinds.now.list.items }
-    requires shaped { KeepsUnitShape (map (λ k. meaning (k.vtable, k.value)) kinds.now.list.items) net.now }
-    requires fits { FitsNet net.now (map (λ k. meaning (k.vtable, k.value)) kinds.now.list.items) tables.old }
+    requires shaped { KeepsUnitShape
+        (map (λ k. meaning (k.vtable, k.value)) kinds.now.list.items) net.now }
+    requires fits { FitsNet net.now
+        (map (λ k. meaning (k.vtable, k.value)) kinds.now.list.items) tables.old }
     requires on_device { IsOnDevice tables.old (D.units device.old) (D.words device.old) }
     requires hops { AreFit net.now grant.now.request.size grant.now.placement.hops }
     requires rights { IsTrue (are_rights grant.now.request.rights) }
     requires open { AreOpen tables.old (joined_slots (grant_slots net.now grant.now)) }
-    ensures done { OnOk result (tables.new ≡ after_puts (map (λ k. meaning (k.vtable, k.value)) kinds.now.list.items)
+    ensures done { OnOk result (tables.new ≡ after_puts
+        (map (λ k. meaning (k.vtable, k.value)) kinds.now.list.items)
         tables.old (filter (is_used_by 0 tables.old) (joined_slots (reverse (grant_slots net.now grant.now))))) }
-    ensures added { AreAdded (fence_events is_due ++ put_log (map (λ k. meaning (k.vtable, k.value)) kinds.now.list.items)
+    ensures added { AreAdded (fence_events is_due ++ put_log
+        (map (λ k. meaning (k.vtable, k.value)) kinds.now.list.items)
         tables.old (filter (is_used_by 0 tables.old) (joined_slots (reverse (grant_slots net.now grant.now)))))
         (is_err result) (D.log device.old) (D.log device.new) }
     ensures fits { KeepsFit tables.old tables.new }
@@ -74,7 +78,8 @@ pub(crate) fn write_grant<D: Tables>(
 fn fence<D: Tables>(is_due: bool, device: &mut D) -> Result<(), DeviceFault>
     ensures units { D.units device.new ≡ D.units device.old }
     ensures words { D.words device.new ≡ D.words device.old }
-    ensures added { AreAdded (fence_events is_due) (is_err result) (D.log device.old) (D.log device.new) }
+    ensures added { AreAdded (fence_events is_due) (is_err result) (D.log device.old)
+        (D.log device.new) }
     ensures counted { IsCounted (D.faults device.old) (D.faults device.new) (is_err result) }
 {
     if is_due {
@@ -96,8 +101,10 @@ fn put_grant<D: Tables>(
     device: &mut D,
 ) -> Result<(), DeviceFault>
     requires lawful { All (λ k. IsLawful (meaning (k.vtable, k.value))) kinds.now.list.items }
-    requires shaped { KeepsUnitShape (map (λ k. meaning (k.vtable, k.value)) kinds.now.list.items) net.now }
-    requires fits { FitsNet net.now (map (λ k. meaning (k.vtable, k.value)) kinds.now.list.items) tables.old }
+    requires shaped { KeepsUnitShape
+        (map (λ k. meaning (k.vtable, k.value)) kinds.now.list.items) net.now }
+    requires fits { FitsNet net.now
+        (map (λ k. meaning (k.vtable, k.value)) kinds.now.list.items) tables.old }
     requires on_device { IsOnDevice tables.old (D.units device.old) (D.words device.old) }
     requires hops { AreFit net.now grant.now.request.size grant.now.placement.hops }
     requires rights { IsTrue (are_rights grant.now.request.rights) }
@@ -138,10 +145,13 @@ fn put_hop<D: Tables>(
     device: &mut D,
 ) -> Result<(), DeviceFault>
     requires lawful { All (λ k. IsLawful (meaning (k.vtable, k.value))) kinds.now.list.items }
-    requires shaped { KeepsUnitShape (map (λ k. meaning (k.vtable, k.value)) kinds.now.list.items) net.now }
-    requires fits { FitsNet net.now (map (λ k. meaning (k.vtable, k.value)) kinds.now.list.items) tables.old }
+    requires shaped { KeepsUnitShape
+        (map (λ k. meaning (k.vtable, k.value)) kinds.now.list.items) net.now }
+    requires fits { FitsNet net.now
+        (map (λ k. meaning (k.vtable, k.value)) kinds.now.list.items) tables.old }
     requires on_device { IsOnDevice tables.old (D.units device.old) (D.words device.old) }
-    requires there { (u : UnitPart) × (unit_at net.now hop.now.unit ≡ Some u) × FitsUnit u size hop.now }
+    requires there { (u : UnitPart) × (unit_at net.now hop.now.unit ≡ Some u) ×
+        FitsUnit u size hop.now }
     requires rights { IsTrue (are_rights rights) }
     requires open { AreOpen tables.old (hop_slots net.now size rights hop.now) }
     ensures put { ArePut (map (λ k. meaning (k.vtable, k.value)) kinds.now.list.items)
@@ -167,9 +177,11 @@ fn put_slots<D: Tables>(
     device: &mut D,
 ) -> Result<(), DeviceFault>
     requires lawful { All (λ k. IsLawful (meaning (k.vtable, k.value))) kinds.now.list.items }
-    requires fits { IsTrue (fits_kinds (map (λ k. meaning (k.vtable, k.value)) kinds.now.list.items) tables.old) }
+    requires fits { IsTrue (fits_kinds
+        (map (λ k. meaning (k.vtable, k.value)) kinds.now.list.items) tables.old) }
     requires on_device { IsOnDevice tables.old (D.units device.old) (D.words device.old) }
-    requires shaped { IsTrue (is_shaped (map (λ k. meaning (k.vtable, k.value)) kinds.now.list.items) unit.now) }
+    requires shaped { IsTrue (is_shaped
+        (map (λ k. meaning (k.vtable, k.value)) kinds.now.list.items) unit.now) }
     requires is_unit { unit_in tables.old hop.now.unit ≡ Some unit.now }
     requires there { FitsUnit unit.now size hop.now }
     requires rights { IsTrue (are_rights rights) }
@@ -198,7 +210,8 @@ fn put_slot<D: Tables>(
     device: &mut D,
 ) -> Result<(), DeviceFault>
     requires lawful { All (λ k. IsLawful (meaning (k.vtable, k.value))) kinds.now.list.items }
-    requires fits { IsTrue (fits_kinds (map (λ k. meaning (k.vtable, k.value)) kinds.now.list.items) tables.old) }
+    requires fits { IsTrue (fits_kinds
+        (map (λ k. meaning (k.vtable, k.value)) kinds.now.list.items) tables.old) }
     requires on_device { IsOnDevice tables.old (D.units device.old) (D.words device.old) }
     requires there { IsTrue (has_slot tables.old unit slot) }
     requires open { AreOpen tables.old (put_at unit slot holds ∷ []) }

@@ -44,7 +44,8 @@ fn hop_owner(id: u32, own: usize, place: usize) -> Option<u32>
 pub(crate) fn add_uses(tables: &mut TableSet, net: &Net, grant: &Grant)
     requires units { units_of tables.old ≡ map (λ d. d.unit) net.now }
     requires hops { AreFit net.now grant.now.request.size grant.now.placement.hops }
-    requires may { (place : ℕ) (hop : HopPart) → slice_get grant.now.placement.hops place ≡ Some hop →
+    requires may { (place : ℕ) (hop : HopPart) → slice_get grant.now.placement.hops place
+        ≡ Some hop →
         (s : Put) → Member s (hop_slots net.now grant.now.request.size both_rights hop) →
         MayUse (hop_owner grant.now.id grant.now.placement.own place) tables.old s }
     ensures { AreHopsChanged net.now grant.now.request.size
@@ -61,7 +62,8 @@ pub(crate) fn add_uses(tables: &mut TableSet, net: &Net, grant: &Grant)
 /// The same of one hop.
 fn add_hop_uses(tables: &mut TableSet, net: &Net, size: u64, hop: &Hop, owner: Option<u32>)
     requires units { units_of tables.old ≡ map (λ d. d.unit) net.now }
-    requires there { (u : UnitPart) × (unit_at net.now hop.now.unit ≡ Some u) × FitsUnit u size hop.now }
+    requires there { (u : UnitPart) × (unit_at net.now hop.now.unit ≡ Some u) ×
+        FitsUnit u size hop.now }
     requires may { (s : Put) → Member s (hop_slots net.now size both_rights hop.now) →
         MayUse owner tables.old s }
     ensures { AreChanged (one_more owner) (hop_slots net.now size both_rights hop.now)
@@ -92,7 +94,8 @@ fn add_slot_uses(tables: &mut TableSet, unit: &Unit, size: u64, hop: &Hop, owner
 pub(crate) fn end_uses(tables: &mut TableSet, net: &Net, grant: &Grant)
     requires units { units_of tables.old ≡ map (λ d. d.unit) net.now }
     requires hops { AreFit net.now grant.now.request.size grant.now.placement.hops }
-    requires used { (place : ℕ) (hop : HopPart) → slice_get grant.now.placement.hops place ≡ Some hop →
+    requires used { (place : ℕ) (hop : HopPart) → slice_get grant.now.placement.hops place
+        ≡ Some hop →
         (s : Put) → Member s (hop_slots net.now grant.now.request.size both_rights hop) →
         0 < (use_in tables.old s.unit s.slot).uses }
     ensures { AreHopsChanged net.now grant.now.request.size (λ place. one_less)
@@ -106,7 +109,8 @@ pub(crate) fn end_uses(tables: &mut TableSet, net: &Net, grant: &Grant)
 /// The same of one hop.
 fn end_hop_uses(tables: &mut TableSet, net: &Net, size: u64, hop: &Hop)
     requires units { units_of tables.old ≡ map (λ d. d.unit) net.now }
-    requires there { (u : UnitPart) × (unit_at net.now hop.now.unit ≡ Some u) × FitsUnit u size hop.now }
+    requires there { (u : UnitPart) × (unit_at net.now hop.now.unit ≡ Some u) ×
+        FitsUnit u size hop.now }
     requires used { (s : Put) → Member s (hop_slots net.now size both_rights hop.now) →
         0 < (use_in tables.old s.unit s.slot).uses }
     ensures { AreChanged one_less (hop_slots net.now size both_rights hop.now)

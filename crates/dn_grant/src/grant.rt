@@ -52,7 +52,8 @@ pub fn grant<D: Tables>(
     device: &mut D,
 ) -> Result<u64, GrantFault>
     requires lawful { All (λ k. IsLawful (meaning (k.vtable, k.value))) kinds.now.list.items }
-    requires legal { IsLegalWith (map (λ k. meaning (k.vtable, k.value)) kinds.now.list.items) net.now }
+    requires legal { IsLegalWith
+        (map (λ k. meaning (k.vtable, k.value)) kinds.now.list.items) net.now }
     requires flat { AreFlats net.now flats.now }
     requires sound { book.old.sound ≡ true }
     requires kept { IsKept net.now
@@ -114,7 +115,8 @@ fn first_in_book(
     request: &Request,
 ) -> Result<Option<Placement>, OutOfMemory>
     requires lawful { All (λ k. IsLawful (meaning (k.vtable, k.value))) kinds.now.list.items }
-    requires legal { IsLegalWith (map (λ k. meaning (k.vtable, k.value)) kinds.now.list.items) net.now }
+    requires legal { IsLegalWith
+        (map (λ k. meaning (k.vtable, k.value)) kinds.now.list.items) net.now }
     requires flat { AreFlats net.now flats.now }
     requires kept { IsKept net.now
         (map (λ k. meaning (k.vtable, k.value)) kinds.now.list.items) book.now.grants book.now.set }

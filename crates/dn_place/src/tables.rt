@@ -16,7 +16,8 @@ use dn_tables::set::TableSet;
 /// What a hop meets in a slot of a set of tables.
 pub(crate) fn slot_at(kinds: &Kinds, tables: &TableSet, unit: u16, slot: u32) -> Slot
     requires lawful { All (λ k. IsLawful (meaning (k.vtable, k.value))) kinds.now.list.items }
-    requires fits { IsTrue (fits_kinds (map (λ k. meaning (k.vtable, k.value)) kinds.now.list.items) tables.now) }
+    requires fits { IsTrue (fits_kinds
+        (map (λ k. meaning (k.vtable, k.value)) kinds.now.list.items) tables.now) }
     requires there { IsTrue (has_slot tables.now unit slot) }
     ensures { result ≡ slot_of (slots_of_set
         (map (λ k. meaning (k.vtable, k.value)) kinds.now.list.items) tables.now) unit slot }

@@ -165,7 +165,8 @@ fn page_from<Q: Quest>(quest: &Q, hops: Hops, from: u8) -> Option<u8>
     requires few { from ≤ 41 }
     ensures past { IfSome result (λ page. from ≤ page) }
     ensures most { IfSome result (λ page. page ≤ 40) }
-    ensures between { IfSome result (λ page. PagesFrom (Q.sought quest.now) (hops_of hops) from page) }
+    ensures between { IfSome result
+        (λ page. PagesFrom (Q.sought quest.now) (hops_of hops) from page) }
     ensures none { IfNone result (PagesBelow (Q.sought quest.now) (hops_of hops) from) }
 {
     let mut best = 41;

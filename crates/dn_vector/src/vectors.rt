@@ -24,7 +24,8 @@ pub fn free_vectors(
 ) -> Result<SpanSet, OutOfMemory>
     requires rules { KeepsNodeRules net.now }
     requires there { node < length net.now }
-    ensures free { IfOk result (λ set. (a : ℕ) → has set a ≡ is_free_vector net.now grants.now node a) }
+    ensures free { IfOk result (λ set. (a : ℕ) → has set a
+        ≡ is_free_vector net.now grants.now node a) }
     ensures maximal { IfOk result (λ set. AreMaximal set) }
 {
     let taken = taken_vectors(alloc, grants, node)?;

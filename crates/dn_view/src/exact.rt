@@ -50,9 +50,11 @@ pub fn exact(
     placement: &Placement,
 ) -> Result<bool, OutOfMemory>
     requires lawful { All (λ k. IsLawful (meaning (k.vtable, k.value))) kinds.now.list.items }
-    requires legal { IsLegalWith (map (λ k. meaning (k.vtable, k.value)) kinds.now.list.items) net.now }
+    requires legal { IsLegalWith
+        (map (λ k. meaning (k.vtable, k.value)) kinds.now.list.items) net.now }
     requires flat { AreFlats net.now flats.now }
-    requires fits { FitsNet net.now (map (λ k. meaning (k.vtable, k.value)) kinds.now.list.items) tables.now }
+    requires fits { FitsNet net.now
+        (map (λ k. meaning (k.vtable, k.value)) kinds.now.list.items) tables.now }
     requires rights { IsTrue (are_rights request.now.rights) }
     requires placed { IsPlacement net.now
         (slots_of_set (map (λ k. meaning (k.vtable, k.value)) kinds.now.list.items) tables.now)
@@ -83,9 +85,11 @@ fn exact_for(
     access: Access,
 ) -> Result<bool, OutOfMemory>
     requires lawful { All (λ k. IsLawful (meaning (k.vtable, k.value))) kinds.now.list.items }
-    requires legal { IsLegalWith (map (λ k. meaning (k.vtable, k.value)) kinds.now.list.items) net.now }
+    requires legal { IsLegalWith
+        (map (λ k. meaning (k.vtable, k.value)) kinds.now.list.items) net.now }
     requires flat { AreFlats net.now flats.now }
-    requires fits { FitsNet net.now (map (λ k. meaning (k.vtable, k.value)) kinds.now.list.items) tables.now }
+    requires fits { FitsNet net.now
+        (map (λ k. meaning (k.vtable, k.value)) kinds.now.list.items) tables.now }
     requires fitted { AreFitted net.now request.now placement.now }
     requires within { placement.now.v + request.now.size ≤ TOP + 1 }
     ensures { IfOk result (λ is_exact. IsTrue is_exact ↔ AreExact net.now
@@ -125,12 +129,15 @@ fn exact_at(
     node: u16,
 ) -> Result<bool, OutOfMemory>
     requires lawful { All (λ k. IsLawful (meaning (k.vtable, k.value))) kinds.now.list.items }
-    requires legal { IsLegalWith (map (λ k. meaning (k.vtable, k.value)) kinds.now.list.items) net.now }
+    requires legal { IsLegalWith
+        (map (λ k. meaning (k.vtable, k.value)) kinds.now.list.items) net.now }
     requires flat { AreFlats net.now flats.now }
-    requires fits { FitsNet net.now (map (λ k. meaning (k.vtable, k.value)) kinds.now.list.items) tables.now }
+    requires fits { FitsNet net.now
+        (map (λ k. meaning (k.vtable, k.value)) kinds.now.list.items) tables.now }
     requires fitted { AreFitted net.now request.now placement.now }
     requires within { placement.now.v + request.now.size ≤ TOP + 1 }
-    ensures { IfOk result (λ is_exact. IsTrue is_exact ↔ (IsTrue (is_agent_at (slice_get net.now node))
+    ensures { IfOk result (λ is_exact. IsTrue is_exact
+        ↔ (IsTrue (is_agent_at (slice_get net.now node))
         → IsExactAt net.now (record_kept (map (λ k. meaning (k.vtable, k.value)) kinds.now.list.items) tables.now)
         request.now placement.now access node)) }
 {
@@ -186,9 +193,11 @@ fn newly_shown(
     stops: Vec<Seg>,
 ) -> Result<Vec<Seg>, OutOfMemory>
     requires lawful { All (λ k. IsLawful (meaning (k.vtable, k.value))) kinds.now.list.items }
-    requires legal { IsLegalWith (map (λ k. meaning (k.vtable, k.value)) kinds.now.list.items) net.now }
+    requires legal { IsLegalWith
+        (map (λ k. meaning (k.vtable, k.value)) kinds.now.list.items) net.now }
     requires flat { AreFlats net.now flats.now }
-    requires fits { FitsNet net.now (map (λ k. meaning (k.vtable, k.value)) kinds.now.list.items) tables.now }
+    requires fits { FitsNet net.now
+        (map (λ k. meaning (k.vtable, k.value)) kinds.now.list.items) tables.now }
     requires fitted { AreFitted net.now request.now placement.now }
     ensures { IfOk result (λ shown. (a : ℕ) (z : End) → a ≤ TOP → IsTrue (segs_give shown.items a z)
         ↔ ((s : End) × IsTrue (segs_give stops.items a s) × ComesNewly net.now
@@ -237,9 +246,11 @@ fn push_newly(
     segs: &[Seg],
 ) -> Result<(), OutOfMemory>
     requires lawful { All (λ k. IsLawful (meaning (k.vtable, k.value))) kinds.now.list.items }
-    requires legal { IsLegalWith (map (λ k. meaning (k.vtable, k.value)) kinds.now.list.items) net.now }
+    requires legal { IsLegalWith
+        (map (λ k. meaning (k.vtable, k.value)) kinds.now.list.items) net.now }
     requires flat { AreFlats net.now flats.now }
-    requires fits { FitsNet net.now (map (λ k. meaning (k.vtable, k.value)) kinds.now.list.items) tables.now }
+    requires fits { FitsNet net.now
+        (map (λ k. meaning (k.vtable, k.value)) kinds.now.list.items) tables.now }
     requires fitted { AreFitted net.now request.now placement.now }
     ensures { OnOk result ((a : ℕ) (z : End) → a ≤ TOP → IsTrue (segs_give shown.new.items a z)
         ↔ (IsTrue (segs_give shown.old.items a z)

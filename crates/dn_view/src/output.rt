@@ -26,8 +26,10 @@ pub(crate) fn output(
     name: Name,
 ) -> Option<Name>
     requires lawful { All (λ k. IsLawful (meaning (k.vtable, k.value))) kinds.now.list.items }
-    requires legal { IsLegalWith (map (λ k. meaning (k.vtable, k.value)) kinds.now.list.items) net.now }
-    requires fits { FitsNet net.now (map (λ k. meaning (k.vtable, k.value)) kinds.now.list.items) tables.now }
+    requires legal { IsLegalWith
+        (map (λ k. meaning (k.vtable, k.value)) kinds.now.list.items) net.now }
+    requires fits { FitsNet net.now
+        (map (λ k. meaning (k.vtable, k.value)) kinds.now.list.items) tables.now }
     requires there { name.node < length net.now }
     requires stop { IsTrue (is_stop net.now name) }
     ensures { name_list result ≡ steps_under net.now

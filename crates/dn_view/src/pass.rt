@@ -53,9 +53,11 @@ pub(crate) fn pass(
     segs: &[Seg],
 ) -> Result<(), OutOfMemory>
     requires lawful { All (λ k. IsLawful (meaning (k.vtable, k.value))) kinds.now.list.items }
-    requires legal { IsLegalWith (map (λ k. meaning (k.vtable, k.value)) kinds.now.list.items) net.now }
+    requires legal { IsLegalWith
+        (map (λ k. meaning (k.vtable, k.value)) kinds.now.list.items) net.now }
     requires flat { AreFlats net.now flats.now }
-    requires fits { FitsNet net.now (map (λ k. meaning (k.vtable, k.value)) kinds.now.list.items) tables.now }
+    requires fits { FitsNet net.now
+        (map (λ k. meaning (k.vtable, k.value)) kinds.now.list.items) tables.now }
     requires fitting { IsFitting net.now records }
     ensures { OnOk result ((a : ℕ) (z : End) → segs_give out.new.items a z
         ≡ (segs_give out.old.items a z || segs_pass net.now (allowing access (records_taken net.now
@@ -81,9 +83,11 @@ fn pass_seg(
     seg: Seg,
 ) -> Result<(), OutOfMemory>
     requires lawful { All (λ k. IsLawful (meaning (k.vtable, k.value))) kinds.now.list.items }
-    requires legal { IsLegalWith (map (λ k. meaning (k.vtable, k.value)) kinds.now.list.items) net.now }
+    requires legal { IsLegalWith
+        (map (λ k. meaning (k.vtable, k.value)) kinds.now.list.items) net.now }
     requires flat { AreFlats net.now flats.now }
-    requires fits { FitsNet net.now (map (λ k. meaning (k.vtable, k.value)) kinds.now.list.items) tables.now }
+    requires fits { FitsNet net.now
+        (map (λ k. meaning (k.vtable, k.value)) kinds.now.list.items) tables.now }
     requires fitting { IsFitting net.now records }
     ensures { OnOk result ((a : ℕ) (z : End) → segs_give out.new.items a z
         ≡ (segs_give out.old.items a z || seg_passes net.now (allowing access (records_taken net.now
@@ -120,9 +124,11 @@ fn pass_slot(
     slot: u64,
 ) -> Result<(), OutOfMemory>
     requires lawful { All (λ k. IsLawful (meaning (k.vtable, k.value))) kinds.now.list.items }
-    requires legal { IsLegalWith (map (λ k. meaning (k.vtable, k.value)) kinds.now.list.items) net.now }
+    requires legal { IsLegalWith
+        (map (λ k. meaning (k.vtable, k.value)) kinds.now.list.items) net.now }
     requires flat { AreFlats net.now flats.now }
-    requires fits { FitsNet net.now (map (λ k. meaning (k.vtable, k.value)) kinds.now.list.items) tables.now }
+    requires fits { FitsNet net.now
+        (map (λ k. meaning (k.vtable, k.value)) kinds.now.list.items) tables.now }
     requires fitting { IsFitting net.now records }
     requires unit { unit_at net.now seg.node ≡ Some unit.now }
     requires there { slot < unit.now.slots }
@@ -202,7 +208,8 @@ pub(crate) fn part_rows(flats: &Flats, node: u16, part: Part) -> &Rows
 /// Whether the node of one of a unit's ports has such rows.
 pub(crate) fn leads_on(flats: &Flats, unit: &Unit, part: Part) -> bool
     requires { IsTrue (list_all (λ p. nat_lt p (length flats.now)) unit.now.ports) }
-    ensures { result ≡ list_any (λ p. has_rows (rows_of (rows_part part) (slice_get flats.now p))) unit.now.ports }
+    ensures { result ≡ list_any (λ p. has_rows (rows_of (rows_part part) (slice_get flats.now p)))
+        unit.now.ports }
 {
     let ports = unit.ports.as_slice();
     for port in ports {

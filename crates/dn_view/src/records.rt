@@ -42,8 +42,10 @@ pub(crate) fn record_for(
     slot: u32,
 ) -> Option<Record>
     requires lawful { All (λ k. IsLawful (meaning (k.vtable, k.value))) kinds.now.list.items }
-    requires fits { FitsNet net.now (map (λ k. meaning (k.vtable, k.value)) kinds.now.list.items) tables.now }
-    requires legal { IsLegalWith (map (λ k. meaning (k.vtable, k.value)) kinds.now.list.items) net.now }
+    requires fits { FitsNet net.now
+        (map (λ k. meaning (k.vtable, k.value)) kinds.now.list.items) tables.now }
+    requires legal { IsLegalWith
+        (map (λ k. meaning (k.vtable, k.value)) kinds.now.list.items) net.now }
     requires fitting { IsFitting net.now records }
     requires there { IsTrue (has_slot tables.now node slot) }
     ensures { result ≡ allowing access (records_taken net.now
@@ -63,7 +65,8 @@ pub(crate) fn record_for(
 fn taken(net: &Net, records: Records, kept: Option<Record>, node: u16, slot: u32) -> Option<Record>
     requires fitting { IsFitting net.now records }
     requires plain { IsTrue (has_plain_units net.now) }
-    ensures { (h : Held) → h node slot ≡ kept → result ≡ records_taken net.now h records.entry node slot }
+    ensures { (h : Held) → h node slot ≡ kept → result
+        ≡ records_taken net.now h records.entry node slot }
 {
     match records {
         Records::Kept => kept,

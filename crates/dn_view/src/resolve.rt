@@ -38,8 +38,10 @@ pub fn resolve(
     access: Access,
 ) -> Result<Names, OutOfMemory>
     requires lawful { All (λ k. IsLawful (meaning (k.vtable, k.value))) kinds.now.list.items }
-    requires legal { IsLegalWith (map (λ k. meaning (k.vtable, k.value)) kinds.now.list.items) net.now }
-    requires fits { FitsNet net.now (map (λ k. meaning (k.vtable, k.value)) kinds.now.list.items) tables.now }
+    requires legal { IsLegalWith
+        (map (λ k. meaning (k.vtable, k.value)) kinds.now.list.items) net.now }
+    requires fits { FitsNet net.now
+        (map (λ k. meaning (k.vtable, k.value)) kinds.now.list.items) tables.now }
     requires there { name.node < length net.now }
     ensures names { IfOk result (λ names. names ≡ resolved_names_under net.now (allowing access
         (record_kept (map (λ k. meaning (k.vtable, k.value)) kinds.now.list.items) tables.now)) name) }
@@ -75,8 +77,10 @@ fn next_level(
     accepted: &mut Vec<Name>,
 ) -> Result<Names, OutOfMemory>
     requires lawful { All (λ k. IsLawful (meaning (k.vtable, k.value))) kinds.now.list.items }
-    requires legal { IsLegalWith (map (λ k. meaning (k.vtable, k.value)) kinds.now.list.items) net.now }
-    requires fits { FitsNet net.now (map (λ k. meaning (k.vtable, k.value)) kinds.now.list.items) tables.now }
+    requires legal { IsLegalWith
+        (map (λ k. meaning (k.vtable, k.value)) kinds.now.list.items) net.now }
+    requires fits { FitsNet net.now
+        (map (λ k. meaning (k.vtable, k.value)) kinds.now.list.items) tables.now }
     requires there { IsTrue (are_there (length net.now) level.now) }
     ensures accepted { OnOk result (accepted.new.items ≡
         accepted.old.items ++ passing_names (is_accepted net.now) level.now) }
@@ -103,8 +107,10 @@ fn push_steps(
     next: &mut Vec<Name>,
 ) -> Result<(), OutOfMemory>
     requires lawful { All (λ k. IsLawful (meaning (k.vtable, k.value))) kinds.now.list.items }
-    requires legal { IsLegalWith (map (λ k. meaning (k.vtable, k.value)) kinds.now.list.items) net.now }
-    requires fits { FitsNet net.now (map (λ k. meaning (k.vtable, k.value)) kinds.now.list.items) tables.now }
+    requires legal { IsLegalWith
+        (map (λ k. meaning (k.vtable, k.value)) kinds.now.list.items) net.now }
+    requires fits { FitsNet net.now
+        (map (λ k. meaning (k.vtable, k.value)) kinds.now.list.items) tables.now }
     requires there { name.node < length net.now }
     ensures accepted { OnOk result (accepted.new.items ≡
         accepted.old.items ++ passing_names (is_accepted net.now) (name ∷ [])) }

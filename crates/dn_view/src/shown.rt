@@ -46,9 +46,11 @@ pub(crate) fn push_through(
     stops: Vec<Seg>,
 ) -> Result<(), OutOfMemory>
     requires lawful { All (λ k. IsLawful (meaning (k.vtable, k.value))) kinds.now.list.items }
-    requires legal { IsLegalWith (map (λ k. meaning (k.vtable, k.value)) kinds.now.list.items) net.now }
+    requires legal { IsLegalWith
+        (map (λ k. meaning (k.vtable, k.value)) kinds.now.list.items) net.now }
     requires flat { AreFlats net.now flats.now }
-    requires fits { FitsNet net.now (map (λ k. meaning (k.vtable, k.value)) kinds.now.list.items) tables.now }
+    requires fits { FitsNet net.now
+        (map (λ k. meaning (k.vtable, k.value)) kinds.now.list.items) tables.now }
     requires fitting { IsFitting net.now records }
     ensures { OnOk result ((a : ℕ) (z : End) → a ≤ TOP → IsTrue (segs_give shown.new.items a z)
         ↔ (IsTrue (segs_give shown.old.items a z)
@@ -90,9 +92,11 @@ pub(crate) fn passed_stops(
     segs: &[Seg],
 ) -> Result<Vec<Seg>, OutOfMemory>
     requires lawful { All (λ k. IsLawful (meaning (k.vtable, k.value))) kinds.now.list.items }
-    requires legal { IsLegalWith (map (λ k. meaning (k.vtable, k.value)) kinds.now.list.items) net.now }
+    requires legal { IsLegalWith
+        (map (λ k. meaning (k.vtable, k.value)) kinds.now.list.items) net.now }
     requires flat { AreFlats net.now flats.now }
-    requires fits { FitsNet net.now (map (λ k. meaning (k.vtable, k.value)) kinds.now.list.items) tables.now }
+    requires fits { FitsNet net.now
+        (map (λ k. meaning (k.vtable, k.value)) kinds.now.list.items) tables.now }
     requires fitting { IsFitting net.now records }
     ensures { IfOk result (λ stops. (a : ℕ) (z : End) → segs_give stops.items a z
         ≡ segs_pass net.now (allowing access (records_taken net.now

@@ -34,7 +34,8 @@ pub(crate) fn is_untouched(
     requires legal { IsLegalNet net.now }
     requires flat { AreFlats net.now flats.now }
     requires there { node < length flats.now }
-    ensures { IsTrue result → (h : Held) → IsExactAt net.now h request.now placement.now access node }
+    ensures { IsTrue result → (h : Held) →
+        IsExactAt net.now h request.now placement.now access node }
 {
     if is_asked(request, node, access) {
         return false;
@@ -61,7 +62,8 @@ fn rows_meet(net: &Net, flats: &Flats, placement: &Placement, rows: &[Row]) -> b
 fn ends_meet(net: &Net, flats: &Flats, placement: &Placement, ends: &[End]) -> bool
     requires legal { IsLegalNet net.now }
     requires flat { AreFlats net.now flats.now }
-    ensures { result ≡ list_any (λ e. can_meet net.now flats.now placement.now.hops e.node) ends.now }
+    ensures { result
+        ≡ list_any (λ e. can_meet net.now flats.now placement.now.hops e.node) ends.now }
 {
     for end in ends {
         if can_meet(net, flats, placement, end.node) {

@@ -55,9 +55,11 @@ pub fn view(
     access: Access,
 ) -> Result<Rows, OutOfMemory>
     requires lawful { All (λ k. IsLawful (meaning (k.vtable, k.value))) kinds.now.list.items }
-    requires legal { IsLegalWith (map (λ k. meaning (k.vtable, k.value)) kinds.now.list.items) net.now }
+    requires legal { IsLegalWith
+        (map (λ k. meaning (k.vtable, k.value)) kinds.now.list.items) net.now }
     requires flat { AreFlats net.now flats.now }
-    requires fits { FitsNet net.now (map (λ k. meaning (k.vtable, k.value)) kinds.now.list.items) tables.now }
+    requires fits { FitsNet net.now
+        (map (λ k. meaning (k.vtable, k.value)) kinds.now.list.items) tables.now }
     requires there { node < length net.now }
     ensures rows { IfOk result (λ rows. AreViewed net.now (allowing access (record_kept
         (map (λ k. meaning (k.vtable, k.value)) kinds.now.list.items) tables.now)) node rows) }
