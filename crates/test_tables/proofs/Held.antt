@@ -38,7 +38,7 @@ unit_there set i slot h = unit_some (unit_in set i) slot h
 
 -- the words of a slot are 0 where each of them is
 pub zero_slot : (set : List NodeTable) (i slot : ℕ) → IsSet set → IsTrue (has_slot set i slot) → IsTrue (list_all (λ w. w == 0) (slot_words (width_in set i) (words_in set i) slot)) → IsEmpty set i slot
-zero_slot set i slot is there zero =
+zero_slot set i slot is there each =
     let u = unit_of_slot (unit_in set i) slot there in
     let k = table_of_unit set i u.0 u.1 in
     let sized = sized_of k.0 u.0 k.2 (list_all-at is_sized set i k.0 is.sized k.1) in
@@ -51,7 +51,7 @@ zero_slot set i slot is there zero =
     let rest : length (drop (slot * width_in set i) (words_in set i)) ≡ length (words_in set i) - slot * width_in set i = length-drop (slot * width_in set i) (words_in set i) in
     let many : length (slot_words (width_in set i) (words_in set i) slot) ≡ width_in set i =
     length-take-le (width_in set i) (drop (slot * width_in set i) (words_in set i)) (omega arith) in
-    zero_words (slot_words (width_in set i) (words_in set i) slot) zero ∙ ap (λ n. replicate n 0) many
+    zero_words (slot_words (width_in set i) (words_in set i) slot) each ∙ ap (λ n. replicate n 0) many
 
 -- a unit of the set is one of the net
 unit_at_net : (set : List NodeTable) (net : List NodeDecl) (i : ℕ) (u : UnitPart) → units_of set ≡ map (λ n. n.unit) net → unit_in set i ≡ Some u → unit_at net i ≡ Some u
