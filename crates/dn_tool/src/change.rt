@@ -45,7 +45,8 @@ pub(crate) fn change<D: Tables>(
     device: &mut D,
 ) -> Result<Items<u8>, Halt>
     requires lawful { All (λ k. IsLawful (meaning (k.vtable, k.value))) kinds.now.list.items }
-    requires shaped { shape_fault (map (λ k. meaning (k.vtable, k.value)) kinds.now.list.items) platform.now.net
+    requires shaped { shape_fault
+        (map (λ k. meaning (k.vtable, k.value)) kinds.now.list.items) platform.now.net
         ≡ None }
     requires state { IsState (map (λ k. meaning (k.vtable, k.value)) kinds.now.list.items)
         platform.now.net state.old }
@@ -55,12 +56,14 @@ pub(crate) fn change<D: Tables>(
         (IsTurn (map (λ k. meaning (k.vtable, k.value)) kinds.now.list.items) platform.now.net
         (state_view state.old) command.now)
         result (state_view state.new) (D.log device.old) (D.log device.new) }
-    ensures state { OnOk result (IsState (map (λ k. meaning (k.vtable, k.value)) kinds.now.list.items)
+    ensures state { OnOk result (IsState
+        (map (λ k. meaning (k.vtable, k.value)) kinds.now.list.items)
         platform.now.net state.new) }
     ensures on_device { OnOk result
         (IsOnDevice state.new.book.set (D.units device.new) (D.words device.new)) }
     ensures no_write { is_write_halt result ≡ false }
-    ensures counted { IsCounted (D.faults device.old) (D.faults device.new) (is_device_halt result) }
+    ensures counted { IsCounted (D.faults device.old) (D.faults device.new)
+        (is_device_halt result) }
 {
     platform.facts();
     let net = &platform.net;
@@ -137,7 +140,8 @@ fn grant_change<D: Tables>(
     device: &mut D,
 ) -> Result<Items<u8>, Halt>
     requires lawful { All (λ k. IsLawful (meaning (k.vtable, k.value))) kinds.now.list.items }
-    requires legal { IsLegalWith (map (λ k. meaning (k.vtable, k.value)) kinds.now.list.items) net.now }
+    requires legal { IsLegalWith
+        (map (λ k. meaning (k.vtable, k.value)) kinds.now.list.items) net.now }
     requires walked { AreWalksOf net.now walks.now }
     requires state { IsState (map (λ k. meaning (k.vtable, k.value)) kinds.now.list.items)
         net.now state.old }
@@ -147,12 +151,14 @@ fn grant_change<D: Tables>(
         (IsGrantTurn (map (λ k. meaning (k.vtable, k.value)) kinds.now.list.items) net.now
         (state_view state.old) id.now request.now)
         result (state_view state.new) (D.log device.old) (D.log device.new) }
-    ensures state { OnOk result (IsState (map (λ k. meaning (k.vtable, k.value)) kinds.now.list.items)
+    ensures state { OnOk result (IsState
+        (map (λ k. meaning (k.vtable, k.value)) kinds.now.list.items)
         net.now state.new) }
     ensures on_device { OnOk result
         (IsOnDevice state.new.book.set (D.units device.new) (D.words device.new)) }
     ensures no_write { is_write_halt result ≡ false }
-    ensures counted { IsCounted (D.faults device.old) (D.faults device.new) (is_device_halt result) }
+    ensures counted { IsCounted (D.faults device.old) (D.faults device.new)
+        (is_device_halt result) }
 {
     let number = state.ids.number(alloc, id)?;
     keep_flats(alloc, net, walks, &mut state.flats)?;
@@ -193,7 +199,8 @@ fn route_change<D: Tables>(
     device: &mut D,
 ) -> Result<Items<u8>, Halt>
     requires lawful { All (λ k. IsLawful (meaning (k.vtable, k.value))) kinds.now.list.items }
-    requires legal { IsLegalWith (map (λ k. meaning (k.vtable, k.value)) kinds.now.list.items) net.now }
+    requires legal { IsLegalWith
+        (map (λ k. meaning (k.vtable, k.value)) kinds.now.list.items) net.now }
     requires walked { AreWalksOf net.now walks.now }
     requires state { IsState (map (λ k. meaning (k.vtable, k.value)) kinds.now.list.items)
         net.now state.old }
@@ -202,12 +209,14 @@ fn route_change<D: Tables>(
         (IsRouteTurn (map (λ k. meaning (k.vtable, k.value)) kinds.now.list.items) net.now
         (state_view state.old) id.now agent line node)
         result (state_view state.new) (D.log device.old) (D.log device.new) }
-    ensures state { OnOk result (IsState (map (λ k. meaning (k.vtable, k.value)) kinds.now.list.items)
+    ensures state { OnOk result (IsState
+        (map (λ k. meaning (k.vtable, k.value)) kinds.now.list.items)
         net.now state.new) }
     ensures on_device { OnOk result
         (IsOnDevice state.new.book.set (D.units device.new) (D.words device.new)) }
     ensures no_write { is_write_halt result ≡ false }
-    ensures counted { IsCounted (D.faults device.old) (D.faults device.new) (is_device_halt result) }
+    ensures counted { IsCounted (D.faults device.old) (D.faults device.new)
+        (is_device_halt result) }
 {
     let number = state.ids.number(alloc, id)?;
     keep_flats(alloc, net, walks, &mut state.flats)?;
@@ -246,7 +255,8 @@ fn revoke_change<D: Tables>(
     device: &mut D,
 ) -> Result<Items<u8>, Halt>
     requires lawful { All (λ k. IsLawful (meaning (k.vtable, k.value))) kinds.now.list.items }
-    requires legal { IsLegalWith (map (λ k. meaning (k.vtable, k.value)) kinds.now.list.items) net.now }
+    requires legal { IsLegalWith
+        (map (λ k. meaning (k.vtable, k.value)) kinds.now.list.items) net.now }
     requires state { IsState (map (λ k. meaning (k.vtable, k.value)) kinds.now.list.items)
         net.now state.old }
     requires on_device { IsOnDevice state.old.book.set (D.units device.old) (D.words device.old) }
@@ -254,12 +264,14 @@ fn revoke_change<D: Tables>(
         (IsRevokeTurn (map (λ k. meaning (k.vtable, k.value)) kinds.now.list.items) net.now
         (state_view state.old) id.now)
         result (state_view state.new) (D.log device.old) (D.log device.new) }
-    ensures state { OnOk result (IsState (map (λ k. meaning (k.vtable, k.value)) kinds.now.list.items)
+    ensures state { OnOk result (IsState
+        (map (λ k. meaning (k.vtable, k.value)) kinds.now.list.items)
         net.now state.new) }
     ensures on_device { OnOk result
         (IsOnDevice state.new.book.set (D.units device.new) (D.words device.new)) }
     ensures no_write { is_write_halt result ≡ false }
-    ensures counted { IsCounted (D.faults device.old) (D.faults device.new) (is_device_halt result) }
+    ensures counted { IsCounted (D.faults device.old) (D.faults device.new)
+        (is_device_halt result) }
 {
     let number = state.ids.number(alloc, id)?;
     match state.book.revoke(net, kinds, number, device) {
@@ -324,7 +336,8 @@ fn grant_refused(alloc: Global, id: &str, why: GrantFault) -> Result<Items<u8>, 
 
 /// The reply to a grant of a buffer of which an address is not accepted.
 fn not_accepted(alloc: Global, id: &str, first: u64) -> Result<Items<u8>, AllocError>
-    ensures { IfOk result (λ text. text ≡ grant_refused_text id.now (GrantFault.NotAccepted first)) }
+    ensures { IfOk result (λ text. text
+        ≡ grant_refused_text id.now (GrantFault.NotAccepted first)) }
 {
     let fault = format!(in alloc; "NotAccepted 0x{first:x}")?;
     refused(alloc, id, fault.as_str())

@@ -49,14 +49,17 @@ pub(crate) fn run_demo<K: Sink, D: Tables>(
     device: &mut D,
 ) -> Result<u8, Halt>
     requires lawful { All (λ k. IsLawful (meaning (k.vtable, k.value))) kinds.now.list.items }
-    requires shaped { shape_fault (map (λ k. meaning (k.vtable, k.value)) kinds.now.list.items) platform.now.net
+    requires shaped { shape_fault
+        (map (λ k. meaning (k.vtable, k.value)) kinds.now.list.items) platform.now.net
         ≡ None }
     requires none { D.units device.old ≡ [] }
-    ensures shown { IsShown (map (λ k. meaning (k.vtable, k.value)) kinds.now.list.items) platform.now.net
+    ensures shown { IsShown
+        (map (λ k. meaning (k.vtable, k.value)) kinds.now.list.items) platform.now.net
         agents platform.now.commands (ending_status result) (K.written sink.old) (K.written sink.new)
         (D.log device.old) (D.log device.new) (D.words device.new) }
     ensures done { IfOk result (λ status. status ≡ 0) }
-    ensures sink_counted { IsCounted (K.faults sink.old) (K.faults sink.new) (is_write_halt result) }
+    ensures sink_counted { IsCounted (K.faults sink.old) (K.faults sink.new)
+        (is_write_halt result) }
     ensures device_counted { IsCounted (D.faults device.old) (D.faults device.new)
         (is_device_halt result) }
 {
@@ -87,7 +90,8 @@ fn play<D: Tables>(
     device: &mut D,
 ) -> Result<(), Halt>
     requires lawful { All (λ k. IsLawful (meaning (k.vtable, k.value))) kinds.now.list.items }
-    requires shaped { shape_fault (map (λ k. meaning (k.vtable, k.value)) kinds.now.list.items) platform.now.net
+    requires shaped { shape_fault
+        (map (λ k. meaning (k.vtable, k.value)) kinds.now.list.items) platform.now.net
         ≡ None }
     requires state { IsState (map (λ k. meaning (k.vtable, k.value)) kinds.now.list.items)
         platform.now.net state.old }
@@ -96,12 +100,14 @@ fn play<D: Tables>(
         (IsTurn (map (λ k. meaning (k.vtable, k.value)) kinds.now.list.items) platform.now.net
         (state_view state.old) command.now)
         result (state_view state.new) None None (D.log device.old) (D.log device.new) }
-    ensures state { OnOk result (IsState (map (λ k. meaning (k.vtable, k.value)) kinds.now.list.items)
+    ensures state { OnOk result (IsState
+        (map (λ k. meaning (k.vtable, k.value)) kinds.now.list.items)
         platform.now.net state.new) }
     ensures on_device { OnOk result
         (IsOnDevice state.new.book.set (D.units device.new) (D.words device.new)) }
     ensures no_write { is_write_halt result ≡ false }
-    ensures counted { IsCounted (D.faults device.old) (D.faults device.new) (is_device_halt result) }
+    ensures counted { IsCounted (D.faults device.old) (D.faults device.new)
+        (is_device_halt result) }
 {
     if !is_change(command) {
         return Ok(());
@@ -154,7 +160,8 @@ fn write_summary<K: Sink>(
     sink: &mut K,
 ) -> Result<(), Halt>
     requires lawful { All (λ k. IsLawful (meaning (k.vtable, k.value))) kinds.now.list.items }
-    requires shaped { shape_fault (map (λ k. meaning (k.vtable, k.value)) kinds.now.list.items) platform.now.net
+    requires shaped { shape_fault
+        (map (λ k. meaning (k.vtable, k.value)) kinds.now.list.items) platform.now.net
         ≡ None }
     requires state { IsState (map (λ k. meaning (k.vtable, k.value)) kinds.now.list.items)
         platform.now.net state.old }
@@ -180,7 +187,8 @@ fn summary_line(
     revoked: u64,
 ) -> Result<Vec<u8>, AllocError>
     requires lawful { All (λ k. IsLawful (meaning (k.vtable, k.value))) kinds.now.list.items }
-    requires shaped { shape_fault (map (λ k. meaning (k.vtable, k.value)) kinds.now.list.items) platform.now.net
+    requires shaped { shape_fault
+        (map (λ k. meaning (k.vtable, k.value)) kinds.now.list.items) platform.now.net
         ≡ None }
     requires state { IsState (map (λ k. meaning (k.vtable, k.value)) kinds.now.list.items)
         platform.now.net state.old }
@@ -215,10 +223,12 @@ fn all_rows(
     flats: &Flats,
 ) -> Result<u64, AllocError>
     requires lawful { All (λ k. IsLawful (meaning (k.vtable, k.value))) kinds.now.list.items }
-    requires shaped { shape_fault (map (λ k. meaning (k.vtable, k.value)) kinds.now.list.items) platform.now.net
+    requires shaped { shape_fault
+        (map (λ k. meaning (k.vtable, k.value)) kinds.now.list.items) platform.now.net
         ≡ None }
     requires faithful { IsFaithful platform.now.net book.now.grants }
-    requires kept { IsKept platform.now.net (map (λ k. meaning (k.vtable, k.value)) kinds.now.list.items)
+    requires kept { IsKept platform.now.net
+        (map (λ k. meaning (k.vtable, k.value)) kinds.now.list.items)
         book.now.grants book.now.set }
     requires flat { AreFlats platform.now.net flats.now }
     ensures { IfOk result (λ rows. rows ≡
@@ -249,10 +259,12 @@ fn node_rows(
     node: u16,
 ) -> Result<u64, AllocError>
     requires lawful { All (λ k. IsLawful (meaning (k.vtable, k.value))) kinds.now.list.items }
-    requires shaped { shape_fault (map (λ k. meaning (k.vtable, k.value)) kinds.now.list.items) platform.now.net
+    requires shaped { shape_fault
+        (map (λ k. meaning (k.vtable, k.value)) kinds.now.list.items) platform.now.net
         ≡ None }
     requires faithful { IsFaithful platform.now.net book.now.grants }
-    requires kept { IsKept platform.now.net (map (λ k. meaning (k.vtable, k.value)) kinds.now.list.items)
+    requires kept { IsKept platform.now.net
+        (map (λ k. meaning (k.vtable, k.value)) kinds.now.list.items)
         book.now.grants book.now.set }
     requires flat { AreFlats platform.now.net flats.now }
     requires there { node < length platform.now.net }
@@ -277,7 +289,8 @@ fn node_rows(
 /// How many slots of all units hold a record.
 fn all_records(kinds: &Kinds, net: &Net, tables: &TableSet) -> u64
     requires lawful { All (λ k. IsLawful (meaning (k.vtable, k.value))) kinds.now.list.items }
-    requires fits { FitsNet net.now (map (λ k. meaning (k.vtable, k.value)) kinds.now.list.items) tables.now }
+    requires fits { FitsNet net.now
+        (map (λ k. meaning (k.vtable, k.value)) kinds.now.list.items) tables.now }
     ensures { result ≡ held_records net.now (record_held net.now
         (map (λ k. meaning (k.vtable, k.value)) kinds.now.list.items) (words_of tables.now)) }
 {
@@ -291,7 +304,8 @@ fn all_records(kinds: &Kinds, net: &Net, tables: &TableSet) -> u64
 /// How many slots of a node hold a record.
 fn node_records(kinds: &Kinds, net: &Net, tables: &TableSet, node: u16) -> u64
     requires lawful { All (λ k. IsLawful (meaning (k.vtable, k.value))) kinds.now.list.items }
-    requires fits { FitsNet net.now (map (λ k. meaning (k.vtable, k.value)) kinds.now.list.items) tables.now }
+    requires fits { FitsNet net.now
+        (map (λ k. meaning (k.vtable, k.value)) kinds.now.list.items) tables.now }
     requires there { node < length net.now }
     ensures few { result < 2 ^ 32 }
     ensures count { result ≡ held_slots (record_held net.now

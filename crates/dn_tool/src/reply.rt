@@ -50,7 +50,8 @@ pub fn reply(
     command: &Command,
 ) -> Result<Vec<u8>, AllocError>
     requires lawful { All (λ k. IsLawful (meaning (k.vtable, k.value))) kinds.now.list.items }
-    requires shaped { shape_fault (map (λ k. meaning (k.vtable, k.value)) kinds.now.list.items) platform.now.net
+    requires shaped { shape_fault
+        (map (λ k. meaning (k.vtable, k.value)) kinds.now.list.items) platform.now.net
         ≡ None }
     requires known { IsTrue (names_within (length platform.now.net) command.now) }
     requires state { IsState (map (λ k. meaning (k.vtable, k.value)) kinds.now.list.items)
@@ -139,9 +140,11 @@ fn resolve_reply(
     mode: Mode,
 ) -> Result<String, AllocError>
     requires lawful { All (λ k. IsLawful (meaning (k.vtable, k.value))) kinds.now.list.items }
-    requires shaped { shape_fault (map (λ k. meaning (k.vtable, k.value)) kinds.now.list.items) platform.now.net
+    requires shaped { shape_fault
+        (map (λ k. meaning (k.vtable, k.value)) kinds.now.list.items) platform.now.net
         ≡ None }
-    requires kept { IsKept platform.now.net (map (λ k. meaning (k.vtable, k.value)) kinds.now.list.items)
+    requires kept { IsKept platform.now.net
+        (map (λ k. meaning (k.vtable, k.value)) kinds.now.list.items)
         book.now.grants book.now.set }
     requires there { IsTrue (over_within (length platform.now.net) target.now.node) }
     ensures { IfOk result (λ s. string_bytes s ≡
@@ -163,9 +166,11 @@ fn resolved_text(
     addr: u64,
 ) -> Result<String, AllocError>
     requires lawful { All (λ k. IsLawful (meaning (k.vtable, k.value))) kinds.now.list.items }
-    requires shaped { shape_fault (map (λ k. meaning (k.vtable, k.value)) kinds.now.list.items) platform.now.net
+    requires shaped { shape_fault
+        (map (λ k. meaning (k.vtable, k.value)) kinds.now.list.items) platform.now.net
         ≡ None }
-    requires kept { IsKept platform.now.net (map (λ k. meaning (k.vtable, k.value)) kinds.now.list.items)
+    requires kept { IsKept platform.now.net
+        (map (λ k. meaning (k.vtable, k.value)) kinds.now.list.items)
         book.now.grants book.now.set }
     requires there { IsTrue (over_within (length platform.now.net) node) }
     ensures { IfOk result (λ s. string_bytes s ≡
@@ -187,9 +192,11 @@ fn node_names(
     name: Name,
 ) -> Result<String, AllocError>
     requires lawful { All (λ k. IsLawful (meaning (k.vtable, k.value))) kinds.now.list.items }
-    requires shaped { shape_fault (map (λ k. meaning (k.vtable, k.value)) kinds.now.list.items) platform.now.net
+    requires shaped { shape_fault
+        (map (λ k. meaning (k.vtable, k.value)) kinds.now.list.items) platform.now.net
         ≡ None }
-    requires kept { IsKept platform.now.net (map (λ k. meaning (k.vtable, k.value)) kinds.now.list.items)
+    requires kept { IsKept platform.now.net
+        (map (λ k. meaning (k.vtable, k.value)) kinds.now.list.items)
         book.now.grants book.now.set }
     requires there { name.node < length platform.now.net }
     ensures { IfOk result (λ s. string_bytes s ≡ names_text platform.now.net
@@ -211,7 +218,8 @@ fn lookup_reply(
     mode: Mode,
 ) -> Result<String, AllocError>
     requires lawful { All (λ k. IsLawful (meaning (k.vtable, k.value))) kinds.now.list.items }
-    requires shaped { shape_fault (map (λ k. meaning (k.vtable, k.value)) kinds.now.list.items) platform.now.net
+    requires shaped { shape_fault
+        (map (λ k. meaning (k.vtable, k.value)) kinds.now.list.items) platform.now.net
         ≡ None }
     requires there { IsTrue (over_within (length platform.now.net) target.now.node) }
     requires state { IsState (map (λ k. meaning (k.vtable, k.value)) kinds.now.list.items)
@@ -238,7 +246,8 @@ fn owed_text(
     addr: u64,
 ) -> Result<String, AllocError>
     requires lawful { All (λ k. IsLawful (meaning (k.vtable, k.value))) kinds.now.list.items }
-    requires shaped { shape_fault (map (λ k. meaning (k.vtable, k.value)) kinds.now.list.items) platform.now.net
+    requires shaped { shape_fault
+        (map (λ k. meaning (k.vtable, k.value)) kinds.now.list.items) platform.now.net
         ≡ None }
     requires there { IsTrue (over_within (length platform.now.net) node) }
     requires state { IsState (map (λ k. meaning (k.vtable, k.value)) kinds.now.list.items)
@@ -267,7 +276,8 @@ fn agent_names(
     name: Name,
 ) -> Result<String, AllocError>
     requires lawful { All (λ k. IsLawful (meaning (k.vtable, k.value))) kinds.now.list.items }
-    requires shaped { shape_fault (map (λ k. meaning (k.vtable, k.value)) kinds.now.list.items) platform.now.net
+    requires shaped { shape_fault
+        (map (λ k. meaning (k.vtable, k.value)) kinds.now.list.items) platform.now.net
         ≡ None }
     requires agent { IsTrue (is_agent_at (slice_get platform.now.net name.node)) }
     requires state { IsState (map (λ k. meaning (k.vtable, k.value)) kinds.now.list.items)
@@ -302,7 +312,8 @@ fn image_names(
     name: Name,
 ) -> Result<String, AllocError>
     requires lawful { All (λ k. IsLawful (meaning (k.vtable, k.value))) kinds.now.list.items }
-    requires shaped { shape_fault (map (λ k. meaning (k.vtable, k.value)) kinds.now.list.items) platform.now.net
+    requires shaped { shape_fault
+        (map (λ k. meaning (k.vtable, k.value)) kinds.now.list.items) platform.now.net
         ≡ None }
     requires agent { IsTrue (is_agent_at (slice_get platform.now.net name.node)) }
     requires whole { broken_image platform.now.net
@@ -327,7 +338,8 @@ fn view_reply(
     mode: Mode,
 ) -> Result<String, AllocError>
     requires lawful { All (λ k. IsLawful (meaning (k.vtable, k.value))) kinds.now.list.items }
-    requires shaped { shape_fault (map (λ k. meaning (k.vtable, k.value)) kinds.now.list.items) platform.now.net
+    requires shaped { shape_fault
+        (map (λ k. meaning (k.vtable, k.value)) kinds.now.list.items) platform.now.net
         ≡ None }
     requires there { IsTrue (over_within (length platform.now.net) target.now.node) }
     requires state { IsState (map (λ k. meaning (k.vtable, k.value)) kinds.now.list.items)
@@ -374,7 +386,8 @@ fn agent_view(
     node: u16,
 ) -> Result<String, AllocError>
     requires lawful { All (λ k. IsLawful (meaning (k.vtable, k.value))) kinds.now.list.items }
-    requires shaped { shape_fault (map (λ k. meaning (k.vtable, k.value)) kinds.now.list.items) platform.now.net
+    requires shaped { shape_fault
+        (map (λ k. meaning (k.vtable, k.value)) kinds.now.list.items) platform.now.net
         ≡ None }
     requires agent { IsTrue (is_agent_at (slice_get platform.now.net node)) }
     requires state { IsState (map (λ k. meaning (k.vtable, k.value)) kinds.now.list.items)

@@ -20,7 +20,8 @@ use std::alloc::{AllocError, Global};
 /// The reply to `split`: the split net, or the limit that it would pass. `Err` is want of memory.
 pub fn split_reply(alloc: Global, kinds: &Kinds, platform: &Platform) -> Result<Vec<u8>, AllocError>
     requires lawful { All (λ k. IsLawful (meaning (k.vtable, k.value))) kinds.now.list.items }
-    requires shaped { shape_fault (map (λ k. meaning (k.vtable, k.value)) kinds.now.list.items) platform.now.net
+    requires shaped { shape_fault
+        (map (λ k. meaning (k.vtable, k.value)) kinds.now.list.items) platform.now.net
         ≡ None }
     ensures { IfOk result (λ v. v.items ≡
         split_text (map (λ k. meaning (k.vtable, k.value)) kinds.now.list.items) platform.now.net) }
@@ -41,7 +42,8 @@ pub fn absorb_reply(
     target: &Target,
 ) -> Result<Vec<u8>, AllocError>
     requires lawful { All (λ k. IsLawful (meaning (k.vtable, k.value))) kinds.now.list.items }
-    requires shaped { shape_fault (map (λ k. meaning (k.vtable, k.value)) kinds.now.list.items) platform.now.net
+    requires shaped { shape_fault
+        (map (λ k. meaning (k.vtable, k.value)) kinds.now.list.items) platform.now.net
         ≡ None }
     requires there { IsTrue (over_within (length platform.now.net) target.now.node) }
     ensures { IfOk result (λ v. v.items ≡
@@ -63,7 +65,8 @@ fn past_reply(
     node: u16,
 ) -> Result<Vec<u8>, AllocError>
     requires lawful { All (λ k. IsLawful (meaning (k.vtable, k.value))) kinds.now.list.items }
-    requires shaped { shape_fault (map (λ k. meaning (k.vtable, k.value)) kinds.now.list.items) platform.now.net
+    requires shaped { shape_fault
+        (map (λ k. meaning (k.vtable, k.value)) kinds.now.list.items) platform.now.net
         ≡ None }
     requires there { node < length platform.now.net }
     ensures { IfOk result (λ v. v.items ≡

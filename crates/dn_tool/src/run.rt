@@ -124,7 +124,8 @@ pub fn demo<K: Sink, D: Tables>(
     ensures untouched { is_script
         (demo_answer agents (map (λ k. meaning (k.vtable, k.value)) kinds.now.list.items)) ≡ false →
         device.new ≡ device.old }
-    ensures statuses { ((result ≡ 0) ⊎ (result ≡ 3)) ⊎ ((result ≡ 4) ⊎ ((result ≡ 6) ⊎ (result ≡ 7))) }
+    ensures statuses { ((result ≡ 0) ⊎ (result ≡ 3))
+        ⊎ ((result ≡ 4) ⊎ ((result ≡ 6) ⊎ (result ≡ 7))) }
     ensures sink_counted { IsCounted (K.faults sink.old) (K.faults sink.new) (result == 3) }
     ensures device_counted { IsCounted (D.faults device.old) (D.faults device.new) (result == 6) }
 {
@@ -164,7 +165,8 @@ fn answer_text<K: Sink, D: Tables>(
         (text_answer task (map (λ k. meaning (k.vtable, k.value)) kinds.now.list.items) text.now)
         ≡ false → device.new ≡ device.old }
     ensures which { IfOk result (λ s. (s ≡ 0) ⊎ (s ≡ 4)) }
-    ensures sink_counted { IsCounted (K.faults sink.old) (K.faults sink.new) (is_write_halt result) }
+    ensures sink_counted { IsCounted (K.faults sink.old) (K.faults sink.new)
+        (is_write_halt result) }
     ensures device_counted { IsCounted (D.faults device.old) (D.faults device.new)
         (is_device_halt result) }
     ensures short { IfOk result (λ s. s ≡ 0 → length text.now < input_limit) }
@@ -187,7 +189,8 @@ fn answer_task<K: Sink, D: Tables>(
     device: &mut D,
 ) -> Result<u8, Halt>
     requires lawful { All (λ k. IsLawful (meaning (k.vtable, k.value))) kinds.now.list.items }
-    requires shaped { shape_fault (map (λ k. meaning (k.vtable, k.value)) kinds.now.list.items) platform.now.net
+    requires shaped { shape_fault
+        (map (λ k. meaning (k.vtable, k.value)) kinds.now.list.items) platform.now.net
         ≡ None }
     requires none { D.units device.old ≡ [] }
     ensures answered { IsAnswered (map (λ k. meaning (k.vtable, k.value)) kinds.now.list.items)
@@ -199,7 +202,8 @@ fn answer_task<K: Sink, D: Tables>(
         (task_answer task (map (λ k. meaning (k.vtable, k.value)) kinds.now.list.items)
         platform.now.net platform.now.commands) ≡ false → device.new ≡ device.old }
     ensures done { IfOk result (λ s. s ≡ 0) }
-    ensures sink_counted { IsCounted (K.faults sink.old) (K.faults sink.new) (is_write_halt result) }
+    ensures sink_counted { IsCounted (K.faults sink.old) (K.faults sink.new)
+        (is_write_halt result) }
     ensures device_counted { IsCounted (D.faults device.old) (D.faults device.new)
         (is_device_halt result) }
 {
@@ -218,7 +222,8 @@ fn print_net<K: Sink>(
     sink: &mut K,
 ) -> Result<u8, Halt>
     requires lawful { All (λ k. IsLawful (meaning (k.vtable, k.value))) kinds.now.list.items }
-    requires shaped { shape_fault (map (λ k. meaning (k.vtable, k.value)) kinds.now.list.items) platform.now.net
+    requires shaped { shape_fault
+        (map (λ k. meaning (k.vtable, k.value)) kinds.now.list.items) platform.now.net
         ≡ None }
     ensures said { IsSaid 0
         (net_text (map (λ k. meaning (k.vtable, k.value)) kinds.now.list.items) platform.now.net)

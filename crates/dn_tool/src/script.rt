@@ -40,7 +40,8 @@ pub(crate) fn run_script<K: Sink, D: Tables>(
     device: &mut D,
 ) -> Result<u8, Halt>
     requires lawful { All (λ k. IsLawful (meaning (k.vtable, k.value))) kinds.now.list.items }
-    requires shaped { shape_fault (map (λ k. meaning (k.vtable, k.value)) kinds.now.list.items) platform.now.net
+    requires shaped { shape_fault
+        (map (λ k. meaning (k.vtable, k.value)) kinds.now.list.items) platform.now.net
         ≡ None }
     requires none { D.units device.old ≡ [] }
     ensures played { IsPlayed (map (λ k. meaning (k.vtable, k.value)) kinds.now.list.items)
@@ -48,7 +49,8 @@ pub(crate) fn run_script<K: Sink, D: Tables>(
         (K.written sink.old) (K.written sink.new)
         (D.log device.old) (D.log device.new) (D.words device.new) }
     ensures done { IfOk result (λ status. status ≡ 0) }
-    ensures sink_counted { IsCounted (K.faults sink.old) (K.faults sink.new) (is_write_halt result) }
+    ensures sink_counted { IsCounted (K.faults sink.old) (K.faults sink.new)
+        (is_write_halt result) }
     ensures device_counted { IsCounted (D.faults device.old) (D.faults device.new)
         (is_device_halt result) }
 {
@@ -71,7 +73,8 @@ fn answer<K: Sink, D: Tables>(
     device: &mut D,
 ) -> Result<(), Halt>
     requires lawful { All (λ k. IsLawful (meaning (k.vtable, k.value))) kinds.now.list.items }
-    requires shaped { shape_fault (map (λ k. meaning (k.vtable, k.value)) kinds.now.list.items) platform.now.net
+    requires shaped { shape_fault
+        (map (λ k. meaning (k.vtable, k.value)) kinds.now.list.items) platform.now.net
         ≡ None }
     requires known { IsTrue (names_within (length platform.now.net) command.now) }
     requires state { IsState (map (λ k. meaning (k.vtable, k.value)) kinds.now.list.items)
@@ -82,11 +85,13 @@ fn answer<K: Sink, D: Tables>(
         (state_view state.old) command.now)
         result (state_view state.new) (K.written sink.old) (K.written sink.new)
         (D.log device.old) (D.log device.new) }
-    ensures state { OnOk result (IsState (map (λ k. meaning (k.vtable, k.value)) kinds.now.list.items)
+    ensures state { OnOk result (IsState
+        (map (λ k. meaning (k.vtable, k.value)) kinds.now.list.items)
         platform.now.net state.new) }
     ensures on_device { OnOk result
         (IsOnDevice state.new.book.set (D.units device.new) (D.words device.new)) }
-    ensures sink_counted { IsCounted (K.faults sink.old) (K.faults sink.new) (is_write_halt result) }
+    ensures sink_counted { IsCounted (K.faults sink.old) (K.faults sink.new)
+        (is_write_halt result) }
     ensures device_counted { IsCounted (D.faults device.old) (D.faults device.new)
         (is_device_halt result) }
 {
@@ -110,7 +115,8 @@ fn answer_change<K: Sink, D: Tables>(
     device: &mut D,
 ) -> Result<(), Halt>
     requires lawful { All (λ k. IsLawful (meaning (k.vtable, k.value))) kinds.now.list.items }
-    requires shaped { shape_fault (map (λ k. meaning (k.vtable, k.value)) kinds.now.list.items) platform.now.net
+    requires shaped { shape_fault
+        (map (λ k. meaning (k.vtable, k.value)) kinds.now.list.items) platform.now.net
         ≡ None }
     requires change { is_change command.now ≡ true }
     requires state { IsState (map (λ k. meaning (k.vtable, k.value)) kinds.now.list.items)
@@ -121,11 +127,13 @@ fn answer_change<K: Sink, D: Tables>(
         (state_view state.old) command.now)
         result (state_view state.new) (K.written sink.old) (K.written sink.new)
         (D.log device.old) (D.log device.new) }
-    ensures state { OnOk result (IsState (map (λ k. meaning (k.vtable, k.value)) kinds.now.list.items)
+    ensures state { OnOk result (IsState
+        (map (λ k. meaning (k.vtable, k.value)) kinds.now.list.items)
         platform.now.net state.new) }
     ensures on_device { OnOk result
         (IsOnDevice state.new.book.set (D.units device.new) (D.words device.new)) }
-    ensures sink_counted { IsCounted (K.faults sink.old) (K.faults sink.new) (is_write_halt result) }
+    ensures sink_counted { IsCounted (K.faults sink.old) (K.faults sink.new)
+        (is_write_halt result) }
     ensures device_counted { IsCounted (D.faults device.old) (D.faults device.new)
         (is_device_halt result) }
 {
@@ -143,7 +151,8 @@ fn answer_still<K: Sink>(
     sink: &mut K,
 ) -> Result<(), Halt>
     requires lawful { All (λ k. IsLawful (meaning (k.vtable, k.value))) kinds.now.list.items }
-    requires shaped { shape_fault (map (λ k. meaning (k.vtable, k.value)) kinds.now.list.items) platform.now.net
+    requires shaped { shape_fault
+        (map (λ k. meaning (k.vtable, k.value)) kinds.now.list.items) platform.now.net
         ≡ None }
     requires known { IsTrue (names_within (length platform.now.net) command.now) }
     requires state { IsState (map (λ k. meaning (k.vtable, k.value)) kinds.now.list.items)
@@ -173,7 +182,8 @@ fn dump<K: Sink>(
     sink: &mut K,
 ) -> Result<(), Halt>
     requires lawful { All (λ k. IsLawful (meaning (k.vtable, k.value))) kinds.now.list.items }
-    requires shaped { shape_fault (map (λ k. meaning (k.vtable, k.value)) kinds.now.list.items) platform.now.net
+    requires shaped { shape_fault
+        (map (λ k. meaning (k.vtable, k.value)) kinds.now.list.items) platform.now.net
         ≡ None }
     requires state { IsState (map (λ k. meaning (k.vtable, k.value)) kinds.now.list.items)
         platform.now.net state.old }

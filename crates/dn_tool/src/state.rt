@@ -96,7 +96,8 @@ pub fn keep_image(
     kept: &mut Option<Items<u8>>,
 ) -> Result<(), AllocError>
     requires lawful { All (λ k. IsLawful (meaning (k.vtable, k.value))) kinds.now.list.items }
-    requires fits { FitsNet net.now (map (λ k. meaning (k.vtable, k.value)) kinds.now.list.items) tables.now }
+    requires fits { FitsNet net.now
+        (map (λ k. meaning (k.vtable, k.value)) kinds.now.list.items) tables.now }
     requires kept { IfSome kept.old (λ bytes. bytes
         ≡ image net.now (map (λ k. meaning (k.vtable, k.value)) kinds.now.list.items) (words_of tables.now)) }
     ensures kept { IfSome kept.new (λ bytes. bytes
@@ -162,7 +163,8 @@ fn has_small_words(net: &Net, tables: &TableSet, node: u16)
 /// at no word.
 fn are_filled(net: &Net, kinds: &Kinds, tables: &TableSet)
     requires lawful { All (λ k. IsLawful (meaning (k.vtable, k.value))) kinds.now.list.items }
-    requires fits { FitsNet net.now (map (λ k. meaning (k.vtable, k.value)) kinds.now.list.items) tables.now }
+    requires fits { FitsNet net.now
+        (map (λ k. meaning (k.vtable, k.value)) kinds.now.list.items) tables.now }
     ensures { IsTrue (are_filled (map (λ k. meaning (k.vtable, k.value)) kinds.now.list.items)
         net.now (words_of tables.now)) }
 {
@@ -181,7 +183,8 @@ pub fn renew(net: &Net, kinds: &Kinds, state: &mut State)
     requires kept { IsKept net.now (map (λ k. meaning (k.vtable, k.value)) kinds.now.list.items)
         state.old.book.grants state.old.book.set }
     requires flat { IfSome state.old.flats (AreFlats net.now) }
-    ensures state { IsState (map (λ k. meaning (k.vtable, k.value)) kinds.now.list.items) net.now state.new }
+    ensures state { IsState
+        (map (λ k. meaning (k.vtable, k.value)) kinds.now.list.items) net.now state.new }
     ensures same { (state.new.book ≡ state.old.book) × (state.new.ids ≡ state.old.ids) }
 {
     state.image = None;

@@ -83,7 +83,8 @@ impl Desk {
         failing: &[u32],
     ) -> Result<Result<Desk, MakeFault>, Unmade>
         requires lawful { All (λ k. IsLawful (meaning (k.vtable, k.value))) kinds.now.list.items }
-        requires board { IsBoard (map (λ k. meaning (k.vtable, k.value)) kinds.now.list.items) board.now }
+        requires board { IsBoard
+            (map (λ k. meaning (k.vtable, k.value)) kinds.now.list.items) board.now }
         ensures { IfOk result (λ made. IfOk made (IsDesk
             (map (λ k. meaning (k.vtable, k.value)) kinds.now.list.items) board.now.net)) }
     {
@@ -104,7 +105,8 @@ impl Desk {
         request: &Request,
     ) -> Option<Result<u64, GrantFault>>
         requires lawful { All (λ k. IsLawful (meaning (k.vtable, k.value))) kinds.now.list.items }
-        requires board { IsBoard (map (λ k. meaning (k.vtable, k.value)) kinds.now.list.items) board.now }
+        requires board { IsBoard
+            (map (λ k. meaning (k.vtable, k.value)) kinds.now.list.items) board.now }
         requires desk { IsDesk (map (λ k. meaning (k.vtable, k.value)) kinds.now.list.items)
             board.now.net self.old }
         ensures { IsDesk (map (λ k. meaning (k.vtable, k.value)) kinds.now.list.items)
@@ -137,7 +139,8 @@ impl Desk {
         node: u16,
     ) -> Option<Result<u64, RouteFault>>
         requires lawful { All (λ k. IsLawful (meaning (k.vtable, k.value))) kinds.now.list.items }
-        requires board { IsBoard (map (λ k. meaning (k.vtable, k.value)) kinds.now.list.items) board.now }
+        requires board { IsBoard
+            (map (λ k. meaning (k.vtable, k.value)) kinds.now.list.items) board.now }
         requires desk { IsDesk (map (λ k. meaning (k.vtable, k.value)) kinds.now.list.items)
             board.now.net self.old }
         ensures { IsDesk (map (λ k. meaning (k.vtable, k.value)) kinds.now.list.items)
@@ -168,7 +171,8 @@ impl Desk {
         id: u32,
     ) -> Option<Result<(), RevokeFault>>
         requires lawful { All (λ k. IsLawful (meaning (k.vtable, k.value))) kinds.now.list.items }
-        requires board { IsBoard (map (λ k. meaning (k.vtable, k.value)) kinds.now.list.items) board.now }
+        requires board { IsBoard
+            (map (λ k. meaning (k.vtable, k.value)) kinds.now.list.items) board.now }
         requires desk { IsDesk (map (λ k. meaning (k.vtable, k.value)) kinds.now.list.items)
             board.now.net self.old }
         ensures { IsDesk (map (λ k. meaning (k.vtable, k.value)) kinds.now.list.items)
@@ -191,7 +195,8 @@ impl Desk {
         request: &Request,
     ) -> Result<Option<Result<(), CommitFault>>, Unmade>
         requires lawful { All (λ k. IsLawful (meaning (k.vtable, k.value))) kinds.now.list.items }
-        requires board { IsBoard (map (λ k. meaning (k.vtable, k.value)) kinds.now.list.items) board.now }
+        requires board { IsBoard
+            (map (λ k. meaning (k.vtable, k.value)) kinds.now.list.items) board.now }
         requires desk { IsDesk (map (λ k. meaning (k.vtable, k.value)) kinds.now.list.items)
             board.now.net self.old }
         ensures { IsDesk (map (λ k. meaning (k.vtable, k.value)) kinds.now.list.items)
@@ -228,7 +233,8 @@ impl Desk {
         at: Option<u64>,
     ) -> Result<Option<Placement>, Unmade>
         requires lawful { All (λ k. IsLawful (meaning (k.vtable, k.value))) kinds.now.list.items }
-        requires board { IsBoard (map (λ k. meaning (k.vtable, k.value)) kinds.now.list.items) board.now }
+        requires board { IsBoard
+            (map (λ k. meaning (k.vtable, k.value)) kinds.now.list.items) board.now }
         requires desk { IsDesk (map (λ k. meaning (k.vtable, k.value)) kinds.now.list.items)
             board.now.net self.now }
     {
@@ -249,7 +255,8 @@ impl Desk {
         access: Access,
     ) -> Result<Names, Unmade>
         requires lawful { All (λ k. IsLawful (meaning (k.vtable, k.value))) kinds.now.list.items }
-        requires board { IsBoard (map (λ k. meaning (k.vtable, k.value)) kinds.now.list.items) board.now }
+        requires board { IsBoard
+            (map (λ k. meaning (k.vtable, k.value)) kinds.now.list.items) board.now }
         requires desk { IsDesk (map (λ k. meaning (k.vtable, k.value)) kinds.now.list.items)
             board.now.net self.now }
     {
@@ -270,7 +277,8 @@ impl Desk {
         access: Access,
     ) -> Result<Rows, Unmade>
         requires lawful { All (λ k. IsLawful (meaning (k.vtable, k.value))) kinds.now.list.items }
-        requires board { IsBoard (map (λ k. meaning (k.vtable, k.value)) kinds.now.list.items) board.now }
+        requires board { IsBoard
+            (map (λ k. meaning (k.vtable, k.value)) kinds.now.list.items) board.now }
         requires desk { IsDesk (map (λ k. meaning (k.vtable, k.value)) kinds.now.list.items)
             board.now.net self.now }
     {
@@ -291,7 +299,8 @@ fn first_beside(
     request: &Request,
 ) -> Result<Option<Placement>, OutOfMemory>
     requires lawful { All (λ k. IsLawful (meaning (k.vtable, k.value))) kinds.now.list.items }
-    requires board { IsBoard (map (λ k. meaning (k.vtable, k.value)) kinds.now.list.items) board.now }
+    requires board { IsBoard
+        (map (λ k. meaning (k.vtable, k.value)) kinds.now.list.items) board.now }
     requires kept { IsKept board.now.net
         (map (λ k. meaning (k.vtable, k.value)) kinds.now.list.items) book.now.grants book.now.set }
     requires agent { IsTrue (is_agent_at (slice_get board.now.net request.now.agent)) }

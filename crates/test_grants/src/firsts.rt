@@ -45,7 +45,8 @@ fn compare_at(
     at: Option<u64>,
 ) -> Result<(), Fail>
     requires lawful { All (λ k. IsLawful (meaning (k.vtable, k.value))) kinds.now.list.items }
-    requires board { IsBoard (map (λ k. meaning (k.vtable, k.value)) kinds.now.list.items) board.now }
+    requires board { IsBoard
+        (map (λ k. meaning (k.vtable, k.value)) kinds.now.list.items) board.now }
     requires desk { IsDesk (map (λ k. meaning (k.vtable, k.value)) kinds.now.list.items)
         board.now.net desk.now }
 {
@@ -68,7 +69,8 @@ fn compare(
     most: u64,
 ) -> Result<u32, Fail>
     requires lawful { All (λ k. IsLawful (meaning (k.vtable, k.value))) kinds.now.list.items }
-    requires board { IsBoard (map (λ k. meaning (k.vtable, k.value)) kinds.now.list.items) board.now }
+    requires board { IsBoard
+        (map (λ k. meaning (k.vtable, k.value)) kinds.now.list.items) board.now }
     requires desk { IsDesk (map (λ k. meaning (k.vtable, k.value)) kinds.now.list.items)
         board.now.net desk.now }
 {
@@ -133,7 +135,8 @@ fn follow(
     seed: u64,
 ) -> Result<u32, Fail>
     requires lawful { All (λ k. IsLawful (meaning (k.vtable, k.value))) kinds.now.list.items }
-    requires board { IsBoard (map (λ k. meaning (k.vtable, k.value)) kinds.now.list.items) board.now }
+    requires board { IsBoard
+        (map (λ k. meaning (k.vtable, k.value)) kinds.now.list.items) board.now }
 {
     let mut desk = Desk::make(alloc, board, kinds, 0, &[])??;
     let asked = asked_of(alloc, &board.net, choice.most)?;

@@ -46,7 +46,8 @@ const FIRST_PAGE: Hop = Hop {
 /// A page is placed, and half a page is not: its placement would show more.
 fn place_pages(rt: &impl Abort, alloc: Global, kinds: &Kinds, board: &Board) -> Result<(), Fail>
     requires lawful { All (λ k. IsLawful (meaning (k.vtable, k.value))) kinds.now.list.items }
-    requires board { IsBoard (map (λ k. meaning (k.vtable, k.value)) kinds.now.list.items) board.now }
+    requires board { IsBoard
+        (map (λ k. meaning (k.vtable, k.value)) kinds.now.list.items) board.now }
 {
     let desk = Desk::make(alloc, board, kinds, 0, &[])??;
     let page = buffer(0x4000, 0x1000);
@@ -70,7 +71,8 @@ fn place_pages(rt: &impl Abort, alloc: Global, kinds: &Kinds, board: &Board) -> 
 /// A page is committed, seen and revoked.
 fn commit_page(rt: &impl Abort, alloc: Global, kinds: &Kinds, board: &Board) -> Result<(), Fail>
     requires lawful { All (λ k. IsLawful (meaning (k.vtable, k.value))) kinds.now.list.items }
-    requires board { IsBoard (map (λ k. meaning (k.vtable, k.value)) kinds.now.list.items) board.now }
+    requires board { IsBoard
+        (map (λ k. meaning (k.vtable, k.value)) kinds.now.list.items) board.now }
 {
     let page = buffer(0x4000, 0x1000);
     let mut desk = Desk::make(alloc, board, kinds, 8, &[])??;
@@ -101,7 +103,8 @@ fn commit_page(rt: &impl Abort, alloc: Global, kinds: &Kinds, board: &Board) -> 
 /// A page is not committed over a device whose call 1 fails, and the book is not sound any more.
 fn stop_page(rt: &impl Abort, alloc: Global, kinds: &Kinds, board: &Board) -> Result<(), Fail>
     requires lawful { All (λ k. IsLawful (meaning (k.vtable, k.value))) kinds.now.list.items }
-    requires board { IsBoard (map (λ k. meaning (k.vtable, k.value)) kinds.now.list.items) board.now }
+    requires board { IsBoard
+        (map (λ k. meaning (k.vtable, k.value)) kinds.now.list.items) board.now }
 {
     let mut desk = Desk::make(alloc, board, kinds, 8, &[1])??;
     let given = desk.commit(alloc, board, kinds, 0, &buffer(0x4000, 0x1000))?;
@@ -131,7 +134,8 @@ fn grant_pages(
     pages: &[(u32, u64, u64, Result<u64, GrantFault>)],
 ) -> Result<(), Fail>
     requires lawful { All (λ k. IsLawful (meaning (k.vtable, k.value))) kinds.now.list.items }
-    requires board { IsBoard (map (λ k. meaning (k.vtable, k.value)) kinds.now.list.items) board.now }
+    requires board { IsBoard
+        (map (λ k. meaning (k.vtable, k.value)) kinds.now.list.items) board.now }
     requires desk { IsDesk (map (λ k. meaning (k.vtable, k.value)) kinds.now.list.items)
         board.now.net desk.old }
     ensures { IsDesk (map (λ k. meaning (k.vtable, k.value)) kinds.now.list.items)
@@ -152,7 +156,8 @@ fn clear_and_refuse(
     board: &Board,
 ) -> Result<(), Fail>
     requires lawful { All (λ k. IsLawful (meaning (k.vtable, k.value))) kinds.now.list.items }
-    requires board { IsBoard (map (λ k. meaning (k.vtable, k.value)) kinds.now.list.items) board.now }
+    requires board { IsBoard
+        (map (λ k. meaning (k.vtable, k.value)) kinds.now.list.items) board.now }
 {
     let mut desk = Desk::make(alloc, board, kinds, 40, &[])??;
     let pages = [
@@ -195,7 +200,8 @@ fn route_lines(
     lines: &[(u32, Name, u16, Result<u64, RouteFault>)],
 ) -> Result<(), Fail>
     requires lawful { All (λ k. IsLawful (meaning (k.vtable, k.value))) kinds.now.list.items }
-    requires board { IsBoard (map (λ k. meaning (k.vtable, k.value)) kinds.now.list.items) board.now }
+    requires board { IsBoard
+        (map (λ k. meaning (k.vtable, k.value)) kinds.now.list.items) board.now }
     requires desk { IsDesk (map (λ k. meaning (k.vtable, k.value)) kinds.now.list.items)
         board.now.net desk.old }
     ensures { IsDesk (map (λ k. meaning (k.vtable, k.value)) kinds.now.list.items)
@@ -226,7 +232,8 @@ fn route_to_two_cores(
     board: &Board,
 ) -> Result<(), Fail>
     requires lawful { All (λ k. IsLawful (meaning (k.vtable, k.value))) kinds.now.list.items }
-    requires board { IsBoard (map (λ k. meaning (k.vtable, k.value)) kinds.now.list.items) board.now }
+    requires board { IsBoard
+        (map (λ k. meaning (k.vtable, k.value)) kinds.now.list.items) board.now }
 {
     let mut desk = Desk::make(alloc, board, kinds, 64, &[])??;
     let lines = [

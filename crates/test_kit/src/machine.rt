@@ -75,7 +75,8 @@ impl Machine {
     /// What a node sees. A node that is not there is refused.
     pub fn flat(&self, alloc: Global, node: u16) -> Result<Flat, Unmade>
         ensures within { IfOk result (λ flat. IsTrue (ends_within (length self.now) flat.accepts)) }
-        ensures stops_within { IfOk result (λ flat. IsTrue (ends_within (length self.now) flat.stops)) }
+        ensures stops_within { IfOk result
+            (λ flat. IsTrue (ends_within (length self.now) flat.stops)) }
     {
         if node >= self.net.nodes() {
             return Err(Unmade::Refused);

@@ -82,7 +82,8 @@ fn answer_with(
     requires few_kinds { length kinds.now.list.items ≤ 255 }
     requires lawful { All (λ k. IsLawful (meaning (k.vtable, k.value))) kinds.now.list.items }
     // What was written, the device's log and its words are those of the answer, as far as the run came.
-    ensures answered { IfOk result (λ o. IsAnswered (map (λ k. meaning (k.vtable, k.value)) kinds.now.list.items)
+    ensures answered { IfOk result (λ o. IsAnswered
+        (map (λ k. meaning (k.vtable, k.value)) kinds.now.list.items)
         (answer_of words.now (map (λ k. meaning (k.vtable, k.value)) kinds.now.list.items) text.now) o.status
         (Some []) (Some o.sink.written) (Some []) (log_told o.device) (Some o.device.tables)) }
     // Where no call is to fail, no fault is answered.
@@ -149,7 +150,8 @@ fn show_with(
     requires lawful { All (λ k. IsLawful (meaning (k.vtable, k.value))) kinds.now.list.items }
     // What was written, the device's log and its words are those of the demonstration, as far as
     // the run came.
-    ensures answered { IfOk result (λ o. IsAnswered (map (λ k. meaning (k.vtable, k.value)) kinds.now.list.items)
+    ensures answered { IfOk result (λ o. IsAnswered
+        (map (λ k. meaning (k.vtable, k.value)) kinds.now.list.items)
         (demo_answer agents (map (λ k. meaning (k.vtable, k.value)) kinds.now.list.items)) o.status
         (Some []) (Some o.sink.written) (Some []) (log_told o.device) (Some o.device.tables)) }
     // Where no call is to fail, no fault is answered, and no fault is swallowed.

@@ -65,10 +65,13 @@ pub fn put_page<D: Tables>(
     page: u64,
 )
     requires lawful { All (λ k. IsLawful (meaning (k.vtable, k.value))) kinds.now.list.items }
-    requires legal { IsLegalWith (map (λ k. meaning (k.vtable, k.value)) kinds.now.list.items) net.now }
-    requires fits { FitsNet net.now (map (λ k. meaning (k.vtable, k.value)) kinds.now.list.items) set.old }
+    requires legal { IsLegalWith
+        (map (λ k. meaning (k.vtable, k.value)) kinds.now.list.items) net.now }
+    requires fits { FitsNet net.now
+        (map (λ k. meaning (k.vtable, k.value)) kinds.now.list.items) set.old }
     requires on_device { IsOnDevice set.old (D.units device.old) (D.words device.old) }
-    ensures fits { FitsNet net.now (map (λ k. meaning (k.vtable, k.value)) kinds.now.list.items) set.new }
+    ensures fits { FitsNet net.now
+        (map (λ k. meaning (k.vtable, k.value)) kinds.now.list.items) set.new }
     ensures on_device { IsOnDevice set.new (D.units device.new) (D.words device.new) }
 {
     let given = put(net, kinds, set, device, at, to_page(page));
@@ -85,7 +88,8 @@ fn compare_bytes(
     wanted: &[u8],
 ) -> Result<(), Fail>
     requires lawful { All (λ k. IsLawful (meaning (k.vtable, k.value))) kinds.now.list.items }
-    requires fits { FitsNet net.now (map (λ k. meaning (k.vtable, k.value)) kinds.now.list.items) set.now }
+    requires fits { FitsNet net.now
+        (map (λ k. meaning (k.vtable, k.value)) kinds.now.list.items) set.now }
 {
     let image = write(alloc, net, kinds, set)?;
     assert_eq!(rt; image.as_slice(), wanted);
@@ -139,7 +143,8 @@ pub fn said(
     node: u16,
 ) -> Result<Option<(u16, Vec<u64>)>, ImageFault>
     requires lawful { All (λ k. IsLawful (meaning (k.vtable, k.value))) kinds.now.list.items }
-    requires shaped { KeepsUnitShape (map (λ k. meaning (k.vtable, k.value)) kinds.now.list.items) net.now }
+    requires shaped { KeepsUnitShape
+        (map (λ k. meaning (k.vtable, k.value)) kinds.now.list.items) net.now }
 {
     let image = read(alloc, net, kinds, bytes)?;
     if node >= net.nodes() {

@@ -53,7 +53,8 @@ fn compare(
     wanted: Option<Name>,
 ) -> Result<(), Fail>
     requires lawful { All (λ k. IsLawful (meaning (k.vtable, k.value))) kinds.now.list.items }
-    requires legal { IsLegalWith (map (λ k. meaning (k.vtable, k.value)) kinds.now.list.items) net.now }
+    requires legal { IsLegalWith
+        (map (λ k. meaning (k.vtable, k.value)) kinds.now.list.items) net.now }
 {
     let names = lookup(alloc, net, kinds, image, from.node, from.addr, access)?;
     assert_eq!(rt; names.list(), wanted.as_slice(), "{from:?} {access:?}");
@@ -72,7 +73,8 @@ fn compare_word(
     word: u64,
 ) -> Result<(), Fail>
     requires lawful { All (λ k. IsLawful (meaning (k.vtable, k.value))) kinds.now.list.items }
-    requires legal { IsLegalWith (map (λ k. meaning (k.vtable, k.value)) kinds.now.list.items) net.now }
+    requires legal { IsLegalWith
+        (map (λ k. meaning (k.vtable, k.value)) kinds.now.list.items) net.now }
 {
     assert_eq!(rt; check(net, kinds, image), Ok(2));
     let first = first_word(alloc, net, kinds, image, unit)?;
@@ -89,7 +91,8 @@ fn first_word(
     unit: u16,
 ) -> Result<Option<u64>, ImageFault>
     requires lawful { All (λ k. IsLawful (meaning (k.vtable, k.value))) kinds.now.list.items }
-    requires shaped { KeepsUnitShape (map (λ k. meaning (k.vtable, k.value)) kinds.now.list.items) net.now }
+    requires shaped { KeepsUnitShape
+        (map (λ k. meaning (k.vtable, k.value)) kinds.now.list.items) net.now }
 {
     match said(alloc, net, kinds, image, unit)? {
         Some((_version, words)) => Ok(words.first().copied()),
@@ -212,8 +215,10 @@ fn compare_row(
     set: &TableSet,
 ) -> Result<(), Fail>
     requires lawful { All (λ k. IsLawful (meaning (k.vtable, k.value))) kinds.now.list.items }
-    requires legal { IsLegalWith (map (λ k. meaning (k.vtable, k.value)) kinds.now.list.items) net.now }
-    requires fits { FitsNet net.now (map (λ k. meaning (k.vtable, k.value)) kinds.now.list.items) set.now }
+    requires legal { IsLegalWith
+        (map (λ k. meaning (k.vtable, k.value)) kinds.now.list.items) net.now }
+    requires fits { FitsNet net.now
+        (map (λ k. meaning (k.vtable, k.value)) kinds.now.list.items) set.now }
 {
     let written = write(alloc, net, kinds, set)?;
     let image = written.as_slice();

@@ -78,7 +78,8 @@ fn compare(
     held: Option<Record>,
 )
     requires lawful { All (λ k. IsLawful (meaning (k.vtable, k.value))) kinds.now.list.items }
-    requires fits { FitsNet net.now (map (λ k. meaning (k.vtable, k.value)) kinds.now.list.items) set.now }
+    requires fits { FitsNet net.now
+        (map (λ k. meaning (k.vtable, k.value)) kinds.now.list.items) set.now }
     requires on_device { IsOnDevice set.now (sizes_of device.now.tables) (Some device.now.tables) }
 {
     assert!(rt; are_words(words(net, set, at.unit), wanted));

@@ -125,10 +125,13 @@ pub fn put<D: Tables>(
     wanted: Record,
 ) -> Option<Result<(), DeviceFault>>
     requires lawful { All (λ k. IsLawful (meaning (k.vtable, k.value))) kinds.now.list.items }
-    requires legal { IsLegalWith (map (λ k. meaning (k.vtable, k.value)) kinds.now.list.items) net.now }
-    requires fits { FitsNet net.now (map (λ k. meaning (k.vtable, k.value)) kinds.now.list.items) set.old }
+    requires legal { IsLegalWith
+        (map (λ k. meaning (k.vtable, k.value)) kinds.now.list.items) net.now }
+    requires fits { FitsNet net.now
+        (map (λ k. meaning (k.vtable, k.value)) kinds.now.list.items) set.old }
     requires on_device { IsOnDevice set.old (D.units device.old) (D.words device.old) }
-    ensures fits { FitsNet net.now (map (λ k. meaning (k.vtable, k.value)) kinds.now.list.items) set.new }
+    ensures fits { FitsNet net.now
+        (map (λ k. meaning (k.vtable, k.value)) kinds.now.list.items) set.new }
     ensures on_device { IsOnDevice set.new (D.units device.new) (D.words device.new) }
 {
     if !is_there(net, set, at) {
@@ -151,9 +154,11 @@ pub fn clear<D: Tables>(
     device: &mut D,
     at: Place,
 ) -> Option<Result<(), DeviceFault>>
-    requires fits { FitsNet net.now (map (λ k. meaning (k.vtable, k.value)) kinds.now.list.items) set.old }
+    requires fits { FitsNet net.now
+        (map (λ k. meaning (k.vtable, k.value)) kinds.now.list.items) set.old }
     requires on_device { IsOnDevice set.old (D.units device.old) (D.words device.old) }
-    ensures fits { FitsNet net.now (map (λ k. meaning (k.vtable, k.value)) kinds.now.list.items) set.new }
+    ensures fits { FitsNet net.now
+        (map (λ k. meaning (k.vtable, k.value)) kinds.now.list.items) set.new }
     ensures on_device { IsOnDevice set.new (D.units device.new) (D.words device.new) }
 {
     if !is_there(net, set, at) {
@@ -165,7 +170,8 @@ pub fn clear<D: Tables>(
 /// The record of a slot. `None` where it holds none, or is not there.
 pub fn record_of(net: &Net, kinds: &Kinds, set: &TableSet, at: Place) -> Option<Record>
     requires lawful { All (λ k. IsLawful (meaning (k.vtable, k.value))) kinds.now.list.items }
-    requires fits { FitsNet net.now (map (λ k. meaning (k.vtable, k.value)) kinds.now.list.items) set.now }
+    requires fits { FitsNet net.now
+        (map (λ k. meaning (k.vtable, k.value)) kinds.now.list.items) set.now }
 {
     if !is_there(net, set, at) {
         return None;

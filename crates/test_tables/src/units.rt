@@ -29,7 +29,8 @@ fn compare(
     wanted: Result<u16, ImageFault>,
 ) -> Result<(), Fail>
     requires lawful { All (λ k. IsLawful (meaning (k.vtable, k.value))) kinds.now.list.items }
-    requires legal { IsLegalWith (map (λ k. meaning (k.vtable, k.value)) kinds.now.list.items) net.now }
+    requires legal { IsLegalWith
+        (map (λ k. meaning (k.vtable, k.value)) kinds.now.list.items) net.now }
 {
     assert_eq!(rt; check(net, kinds, bytes), wanted);
     let version = read(alloc, net, kinds, bytes).map(|image| image.version());
