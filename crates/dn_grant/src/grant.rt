@@ -31,7 +31,8 @@ use dn_tables::placement::Placement;
 use std::alloc::Global;
 
 /// Grants a request under an id at the first admissible placement, and answers the first address of
-/// the buffer in its agent. All memory is taken before the first call of the device.
+/// the buffer in its agent. All memory is taken before the first call of the device. The refusal of one
+/// address is complete: records other than those of placements do not give it either.
 ///
 /// # Errors
 ///
@@ -64,7 +65,6 @@ pub fn grant<D: Tables>(
         IsGrantTurn net.now book.old.grants id request.now result book.new.grants }
     ensures refused { IfSome (grant_refusal net.now book.old.grants id request.now)
         (λ why. result ≡ Err why) }
-    // The refusal of one address is complete: records other than those of placements do not give it either.
     ensures complete { result ≡ Err GrantFault.NoPlacement → request.now.size ≡ 1 →
         NoAddition net.now book.old.grants request.now }
     ensures stays { OnErr result (book.new.grants ≡ book.old.grants) }

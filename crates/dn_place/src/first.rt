@@ -96,16 +96,14 @@ fn by_tables<A: Aim>(
 {
     let met = |unit: u16, slot: u32| -> Slot
         requires lawful { All (λ k. IsLawful (meaning (k.vtable, k.value))) kinds.now.list.items }
-        requires fits { IsTrue (fits_kinds
-            (map (λ k. meaning (k.vtable, k.value)) kinds.now.list.items) tables.now) }
+        requires fits { IsTrue (fits_kinds (map (λ k. meaning (k.vtable, k.value)) kinds.now.list.items) tables.now) }
         requires there { IsTrue (has_slot tables.now unit slot) }
         ensures { result ≡ slot_of (slots_of_set
             (map (λ k. meaning (k.vtable, k.value)) kinds.entry.now.list.items) tables.entry.now) unit slot }
     { slot_at(kinds, tables, unit, slot) };
     let exact = |v: u64, hops: Hops, own: u8| -> Result<bool, OutOfMemory>
         requires lawful { All (λ k. IsLawful (meaning (k.vtable, k.value))) kinds.now.list.items }
-        requires legal { IsLegalWith
-            (map (λ k. meaning (k.vtable, k.value)) kinds.now.list.items) net.now }
+        requires legal { IsLegalWith (map (λ k. meaning (k.vtable, k.value)) kinds.now.list.items) net.now }
         requires flat { AreFlats net.now flats.now }
         requires fits { FitsNet net.now
             (map (λ k. meaning (k.vtable, k.value)) kinds.now.list.items) tables.now }

@@ -50,8 +50,7 @@ pub fn route<D: Tables>(
     device: &mut D,
 ) -> Result<u64, RouteFault>
     requires lawful { All (λ k. IsLawful (meaning (k.vtable, k.value))) kinds.now.list.items }
-    requires legal { IsLegalWith
-        (map (λ k. meaning (k.vtable, k.value)) kinds.now.list.items) net.now }
+    requires legal { IsLegalWith (map (λ k. meaning (k.vtable, k.value)) kinds.now.list.items) net.now }
     requires flat { AreFlats net.now flats.now }
     requires sound { book.old.sound ≡ true }
     requires kept { IsKept net.now
@@ -81,8 +80,7 @@ pub fn route<D: Tables>(
         (map (λ k. meaning (k.vtable, k.value)) kinds.now.list.items) book.old.grants
         book.old.cleared id agent line node true (D.log device.old) (D.log device.new) }
     ensures on_device { IsOnDevice book.new.set (D.units device.new) (D.words device.new) }
-    ensures counted { IsCounted (D.faults device.old) (D.faults device.new)
-        (is_route_fault result) }
+    ensures counted { IsCounted (D.faults device.old) (D.faults device.new) (is_route_fault result) }
 {
     if let Some(why) = refusal(book, net, id, agent, node) {
         return Err(why);
