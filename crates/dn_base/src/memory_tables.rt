@@ -3,9 +3,8 @@
 //! Its calls are numbered as those of the objects of [`crate::memory`] are, `make`, `write` and
 //! `fence` together. It keeps its first events, as many as it was given room for.
 
-ghost use Rattle.std.specs.Prelude.{◌≡◌, ◌≢◌, ◌==◌, ◌+◌, ◌<◌, ◌≤◌, ◌^◌, [], ◌∷◌, ◌++◌, true, false, replicate, map, slice_set, length, slice_get, Some, None, OnOk, OnErr, IfOk, IsOk, IsErrOf, Err, is_err, refl};
+ghost use Rattle.std.specs.Prelude.{◌≡◌, ◌≢◌, ◌==◌, ◌+◌, ◌<◌, ◌≤◌, ◌^◌, [], ◌∷◌, ◌++◌, true, false, replicate, Some, OnOk, OnErr, IfOk, IsOk, IsErrOf, Err, is_err, refl};
 ghost use Rattle.std.specs.List.{list_any};
-ghost use Rattle.std.specs.Option.{option_map};
 ghost use Rattle.dn_base.specs.Device.{Logged, PlacedAt, has_unit, has_word, is_make_fault, log_told, log_with, sizes_of, told_with, with_word, words_of_unit};
 ghost use Rattle.dn_base.specs.Memory.{faults_of, no_calls};
 ghost use Rattle.dn_base.specs.Outside.{IsCounted, next_count};

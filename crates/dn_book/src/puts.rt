@@ -1,15 +1,15 @@
 //! Putting the records of a grant: from memory's end to the agent's, and in each hop by ascending slot.
 
-ghost use Rattle.std.specs.Prelude.{◌≡◌, ◌<◌, ◌++◌, [], ◌∷◌, filter, length, map, reverse, Some, IsTrue, OnOk, is_err};
-ghost use Rattle.std.specs.List.{All, list_all};
+ghost use Rattle.std.specs.Prelude.{◌≡◌, ◌<◌, ◌++◌, [], ◌∷◌, filter, map, reverse, Some, IsTrue, OnOk, is_err};
+ghost use Rattle.std.specs.List.{All};
 ghost use Rattle.dn_base.specs.Outside.{IsCounted};
 ghost use Rattle.dn_net.specs.declared.node.Unit.{Unit as UnitPart};
 ghost use Rattle.dn_net.specs.Decode.{unit_at};
 ghost use Rattle.dn_kind.specs.Kind.{IsLawful};
-ghost use Rattle.dn_kind.specs.Rights.{are_rights, both_rights};
+ghost use Rattle.dn_kind.specs.Rights.{are_rights};
 ghost use Rattle.dn_kind.specs.Units.{KeepsUnitShape, is_shaped};
 ghost use Rattle.dn_placement.specs.Records.{hop_rights};
-ghost use Rattle.dn_tables.specs.Set.{FitsNet, IsEmpty, IsOnDevice, IsPackableIn, fits_kinds, has_slot, unit_in, use_in};
+ghost use Rattle.dn_tables.specs.Set.{FitsNet, IsOnDevice, IsPackableIn, fits_kinds, has_slot, unit_in};
 ghost use Rattle.dn_book.specs.Sets.{AreFit, AreOpen, ArePut, FitsUnit, KeepsFit, after_puts, is_used_by, put_at, put_log};
 ghost use Rattle.dn_book.specs.Writes.{AreAdded, fence_events, grant_slots, hop_slots, hop_slots_by, joined_slots};
 

@@ -1,11 +1,10 @@
 //! The flattened views of all nodes of a net.
 
-ghost use Rattle.std.specs.Prelude.{◌≡◌, ℕ, ◌+◌, ◌<◌, ◌++◌, [], ◌∷◌, List, IfOk, OnOk, IsTrue, Some, length, slice_get};
-ghost use Rattle.dn_net.specs.declared.node.NodeDecl.{NodeDecl};
+ghost use Rattle.std.specs.Prelude.{◌≡◌, ◌+◌, ◌<◌, ◌++◌, [], ◌∷◌, List, IfOk, OnOk, IsTrue, Some, length, slice_get};
 ghost use Rattle.dn_net.specs.Legal.{IsLegalNet};
 ghost use Rattle.dn_walk.specs.Rows.{AreWalksOf};
 ghost use Rattle.dn_flat.specs.declared.flat.Flat.{Flat};
-ghost use Rattle.dn_flat.specs.Stages.{AreFlats, AreFlatsBelow, IsFlat, IsStage};
+ghost use Rattle.dn_flat.specs.Stages.{AreFlats, AreFlatsBelow, IsStage};
 
 use crate::flat::Flat;
 use crate::stage::{Stage, first_stage};

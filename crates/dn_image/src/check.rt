@@ -1,12 +1,12 @@
 //! Whether bytes are an image of a net, and what is first wrong with them.
 
-ghost use Rattle.std.specs.Prelude.{◌≡◌, ◌≢◌, ◌↔◌, Err, ℕ, ◌++◌, ◌+◌, ◌*◌, ◌<◌, ◌≤◌, ◌^◌, List, length, map, take, drop, Option, Some, IfOk, IsTrue};
+ghost use Rattle.std.specs.Prelude.{◌≡◌, ◌≢◌, ◌↔◌, Err, ◌++◌, ◌+◌, ◌*◌, ◌<◌, ◌≤◌, ◌^◌, length, map, take, Option, Some, IfOk, IsTrue};
 ghost use Rattle.std.specs.List.{All};
 ghost use Rattle.std.specs.Option.{option_copied};
 ghost use Rattle.dn_base.specs.Answers.{Answers};
 ghost use Rattle.dn_kind.specs.Kind.{IsLawful};
 ghost use Rattle.dn_kind.specs.Units.{KeepsUnitShape, has_shape, is_shaped};
-ghost use Rattle.dn_image.specs.Image.{count_unit, unit_count};
+ghost use Rattle.dn_image.specs.Image.{count_unit};
 ghost use Rattle.dn_image.specs.Reading.{Passes, broken_image, header_fields, image_fault_view, reading_by, unit_fields, units_fields, version_of};
 
 use crate::fault::ImageFault;

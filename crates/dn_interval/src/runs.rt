@@ -1,8 +1,7 @@
 //! Segments that stand one behind another, as they come where nothing overlaps: their rows want no sort.
 
-ghost use Rattle.std.specs.Prelude.{◌≡◌, ◌≢◌, ℕ, ◌+◌, ◌-◌, ◌≤◌, ◌<◌, ◌&&◌, ◌||◌, [], nat_eq, true, IfOk};
+ghost use Rattle.std.specs.Prelude.{◌≡◌, ◌≢◌, ℕ, ◌+◌, ◌-◌, ◌≤◌, ◌<◌, ◌&&◌, ◌||◌, [], true, IfOk};
 ghost use Rattle.dn_interval.specs.declared.row.End.{End};
-ghost use Rattle.dn_interval.specs.declared.span.TheConstants.{TOP};
 ghost use Rattle.dn_interval.specs.Rows.{Apart};
 ghost use Rattle.dn_interval.specs.Runs.{is_in_turn, row_of, does_go_on};
 ghost use Rattle.dn_interval.specs.Strands.{seg_gives, segs_give, rows_give};

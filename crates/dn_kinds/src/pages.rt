@@ -1,11 +1,10 @@
 //! Units whose records are pages of one port.
 
-ghost use Rattle.std.specs.Prelude.{◌≡◌, ◌+◌, ◌-◌, ◌*◌, ◌<◌, ◌≤◌, ◌++◌, length};
+ghost use Rattle.std.specs.Prelude.{◌≡◌, ◌+◌, ◌-◌, ◌*◌, ◌<◌, ◌≤◌, ◌++◌};
 ghost use Rattle.dn_kind.specs.Kind.{IsLawful};
 ghost use Rattle.dn_kinds.specs.Layouts.{pages};
 
 use crate::layout::{GATE, PAGE, bits, denials, rights_left};
-use dn_kind::rights::Rights;
 use dn_kind::shape::Shape;
 use dn_kind::unit_kind::{Record, UnitKind};
 

@@ -1,6 +1,6 @@
 //! Units whose records are single addresses, as interrupt vectors are.
 
-ghost use Rattle.std.specs.Prelude.{◌≡◌, ◌+◌, ◌-◌, ◌*◌, ◌<◌, ◌≤◌, ◌++◌, length};
+ghost use Rattle.std.specs.Prelude.{◌≡◌, ◌+◌, ◌-◌, ◌*◌, ◌<◌, ◌≤◌, ◌++◌};
 ghost use Rattle.dn_kind.specs.Kind.{IsLawful};
 ghost use Rattle.dn_kinds.specs.Layouts.{vectors};
 

@@ -1,15 +1,15 @@
 //! Names level by level: each level has the names one step on from those of the level before it.
 
-ghost use Rattle.std.specs.Prelude.{◌≡◌, ◌++◌, [], ◌∷◌, ◌+◌, ◌<◌, ◌^◌, length, map, nat_le, None, IfOk, OnOk, IsTrue};
-ghost use Rattle.std.specs.List.{All, list_all};
-ghost use Rattle.dn_net.specs.Decode.{is_accepted, is_closed};
+ghost use Rattle.std.specs.Prelude.{◌≡◌, ◌++◌, [], ◌∷◌, ◌+◌, ◌<◌, ◌^◌, length, map, None, IfOk, OnOk, IsTrue};
+ghost use Rattle.std.specs.List.{All};
+ghost use Rattle.dn_net.specs.Decode.{is_accepted};
 ghost use Rattle.dn_net.specs.Names.{each_step, passing_names, sorted_names};
 ghost use Rattle.dn_net.specs.Rules.{KeepsNodeRules};
 ghost use Rattle.dn_kind.specs.Kind.{IsLawful};
 ghost use Rattle.dn_kind.specs.Tables.{resolved_names_under, steps_under};
 ghost use Rattle.dn_kind.specs.Units.{KeepsUnitShape};
 ghost use Rattle.dn_image.specs.Reading.{broken_image};
-ghost use Rattle.dn_kind.specs.Levels.{are_there, name_list};
+ghost use Rattle.dn_kind.specs.Levels.{are_there};
 ghost use Rattle.dn_lookup.specs.Lookup.{bytes_records};
 
 use crate::output::output;

@@ -2,10 +2,10 @@
 
 ghost use Rattle.std.specs.Prelude.{◌≡◌, ◌<◌, ◌^◌, [], ◌∷◌, length, map, None, Some, IsTrue};
 ghost use Rattle.std.specs.List.{All};
-ghost use Rattle.dn_net.specs.Decode.{is_closed, is_stop};
-ghost use Rattle.dn_kind.specs.Kind.{IsLawful, is_plain, is_within};
+ghost use Rattle.dn_net.specs.Decode.{is_stop};
+ghost use Rattle.dn_kind.specs.Kind.{IsLawful};
 ghost use Rattle.dn_kind.specs.Tables.{output, steps_under};
-ghost use Rattle.dn_kind.specs.Units.{KeepsUnitShape, unit_shape};
+ghost use Rattle.dn_kind.specs.Units.{KeepsUnitShape};
 ghost use Rattle.dn_image.specs.Reading.{broken_image};
 ghost use Rattle.dn_kind.specs.Levels.{name_list};
 ghost use Rattle.dn_lookup.specs.Lookup.{bytes_records, lets_through};

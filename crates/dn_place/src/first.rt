@@ -1,6 +1,6 @@
 //! The first admissible placement.
 
-ghost use Rattle.std.specs.Prelude.{◌≡◌, ◌<◌, ◌≤◌, ◌+◌, ◌↔◌, length, map, slice_get, IfOk, IfSome, IsTrue, None, [], ℕ};
+ghost use Rattle.std.specs.Prelude.{◌≡◌, ◌<◌, ◌≤◌, ◌+◌, ◌↔◌, length, map, slice_get, IfOk, IfSome, IsTrue, None, []};
 ghost use Rattle.std.specs.List.{All};
 ghost use Rattle.dn_net.specs.Decode.{is_agent_at, top};
 ghost use Rattle.dn_kind.specs.Kind.{IsLawful};

@@ -11,7 +11,7 @@ ghost use Rattle.dn_place.specs.Sought.{IsReady};
 
 use crate::hops::Hops;
 use crate::quest::{Quest, unit_of};
-use crate::rows::{is_clear, output, rows_toward, wanted};
+use crate::rows::{output, rows_toward, wanted};
 use crate::slots::is_hop_free;
 use dn_base::OutOfMemory;
 use dn_kind::rights::Rights;

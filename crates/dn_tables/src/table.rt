@@ -1,12 +1,12 @@
 //! The table of one node: the words of a unit's slots, and who uses each slot.
 
-ghost use Rattle.std.specs.Prelude.{◌≡◌, ◌++◌, ℕ, ◌+◌, ◌*◌, ◌-◌, ◌<◌, ◌≤◌, ◌^◌, [], true, length, map, replicate, slice_get, slice_index_or, Option, Some, None, IfOk, IsTrue, is_err};
+ghost use Rattle.std.specs.Prelude.{◌≡◌, ◌++◌, ℕ, ◌+◌, ◌*◌, ◌-◌, ◌<◌, ◌≤◌, ◌^◌, [], true, length, map, replicate, slice_get, Option, Some, None, IfOk, IsTrue, is_err};
 ghost use Rattle.std.specs.List.{All};
 ghost use Rattle.std.specs.Option.{option_copied};
 ghost use Rattle.dn_base.specs.Device.{has_word};
 ghost use Rattle.dn_base.specs.Outside.{IsCounted};
 ghost use Rattle.dn_net.specs.declared.node.Unit.{Unit as UnitPart};
-ghost use Rattle.dn_kind.specs.Kind.{Meaning, IsLawful, IsPackable, is_plain};
+ghost use Rattle.dn_kind.specs.Kind.{Meaning, IsLawful, IsPackable};
 ghost use Rattle.dn_kind.specs.Tables.{record_of_unit, slot_words};
 ghost use Rattle.dn_kind.specs.Units.{is_shaped, has_shape, unit_shape};
 ghost use Rattle.dn_tables.specs.Set.{fits_by, fresh_by, has_slot_by, is_sized, packed_for, width_by, with_words};

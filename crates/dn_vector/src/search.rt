@@ -2,7 +2,7 @@
 
 ghost use Rattle.std.specs.Prelude.{◌≡◌, ◌<◌, ◌≤◌, ◌+◌, ℕ, true, map, slice_get, None, Some, IfOk, IfSome, IsTrue};
 ghost use Rattle.std.specs.List.{All};
-ghost use Rattle.dn_interval.specs.Spans.{AreMaximal, has, in_span};
+ghost use Rattle.dn_interval.specs.Spans.{has};
 ghost use Rattle.dn_net.specs.Decode.{is_agent_at, top};
 ghost use Rattle.dn_kind.specs.Kind.{IsLawful};
 ghost use Rattle.dn_kind.specs.Rights.{are_rights};

@@ -1,13 +1,11 @@
 //! Which nodes show nothing newly, since no name to which they lead can come to a hop of a placement.
 
-ghost use Rattle.std.specs.Prelude.{◌≡◌, ◌<◌, length, slice_get, IsTrue};
-ghost use Rattle.dn_interval.specs.Onward.{rows_of};
+ghost use Rattle.std.specs.Prelude.{◌≡◌, ◌<◌, length, IsTrue};
 ghost use Rattle.dn_net.specs.Decode.{unit_at};
 ghost use Rattle.dn_net.specs.Legal.{IsLegalNet};
 ghost use Rattle.dn_kind.specs.Tables.{Held};
 ghost use Rattle.dn_flat.specs.Stages.{AreFlats};
 ghost use Rattle.dn_view.specs.Exact.{IsExactAt};
-ghost use Rattle.dn_view.specs.Passes.{rows_part};
 ghost use Rattle.dn_view.specs.Untouched.{can_meet, has_hop, leads_to_units, rows_meet};
 ghost use Rattle.dn_view.specs.declared.pass.Part.TheVariants.{Stops};
 ghost use Rattle.std.specs.List.{list_any};

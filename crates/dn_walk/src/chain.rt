@@ -1,8 +1,8 @@
 //! The first row of units that is too long, or has too many slots.
 
-ghost use Rattle.std.specs.Prelude.{◌≡◌, ◌<◌, ◌≤◌, ◌∷◌, ℕ, length, map, IfOk, IsTrue};
+ghost use Rattle.std.specs.Prelude.{◌≡◌, ◌<◌, ◌≤◌, ◌∷◌, length, map, IfOk, IsTrue};
 ghost use Rattle.std.specs.List.{All};
-ghost use Rattle.dn_net.specs.Decode.{is_closed, step_limit, unit_at};
+ghost use Rattle.dn_net.specs.Decode.{step_limit, unit_at};
 ghost use Rattle.dn_net.specs.Rules.{KeepsNodeRules};
 ghost use Rattle.dn_net.specs.Units.{has_plain_units};
 ghost use Rattle.dn_net.specs.UnitRules.{IsShallow, first_chain, slots_of, unit_numbers};

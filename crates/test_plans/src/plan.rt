@@ -1,9 +1,9 @@
 //! Plans of nets.
 
-ghost use Rattle.std.specs.Prelude.{◌≡◌, ◌<◌, ◌&&◌, nat_lt, length, map, IfOk, IsTrue};
+ghost use Rattle.std.specs.Prelude.{◌≡◌, ◌<◌, ◌&&◌, nat_lt, map, IfOk, IsTrue};
 ghost use Rattle.std.specs.List.{All, list_all};
 ghost use Rattle.std.specs.Option.{option_copied};
-ghost use Rattle.dn_net.specs.Decode.{formed_by, is_bare, is_closed, is_formed, is_unit, over_within, ports_within, refers_within};
+ghost use Rattle.dn_net.specs.Decode.{is_bare, is_closed, is_formed, over_within, ports_within, refers_within};
 ghost use Rattle.dn_kind.specs.Kind.{IsLawful};
 ghost use Rattle.dn_kind.specs.Units.{IsLegalWith, has_kind};
 

@@ -9,7 +9,7 @@ ghost use Rattle.dn_kind.specs.Kind.{IsLawful};
 ghost use Rattle.dn_kind.specs.Rights.{are_rights};
 ghost use Rattle.dn_kind.specs.Units.{IsLegalWith, unit_shape};
 ghost use Rattle.test_tables.specs.Slots.{CanHold};
-ghost use Rattle.dn_tables.specs.Set.{FitsNet, IsEmpty, IsOnDevice, IsPackableIn, has_slot, has_slot_by, unit_in, units_of, use_in, words_in};
+ghost use Rattle.dn_tables.specs.Set.{FitsNet, IsEmpty, IsOnDevice, has_slot, has_slot_by, unit_in, units_of};
 
 use bitflags::Flags;
 use dn_base::device::{DeviceFault, Tables};

@@ -1,6 +1,6 @@
 //! Stages of nets: compared with chains of steps, and on a net of very many walks.
 
-ghost use Rattle.std.specs.Prelude.{◌<◌, length, IsTrue};
+ghost use Rattle.std.specs.Prelude.{◌<◌, length};
 ghost use Rattle.std.specs.List.{All};
 ghost use Rattle.dn_flat.specs.Stages.{IsStage};
 ghost use Rattle.dn_net.specs.Rules.{KeepsRules};
