@@ -19,7 +19,6 @@ use crate::scope::Scope;
 use crate::stack::{Stack, Turns, Use, Work};
 use crate::uses::used;
 use crate::values::{NameFault, value};
-use dn_base::text::Text;
 use dn_kind::kinds::Kinds;
 use dn_parse::syntax::{Decl, Expr, Stmt};
 use std::alloc::Global;
@@ -38,7 +37,7 @@ pub struct Made<'a> {
 pub fn expand_body<'a>(
     alloc: Global,
     kinds: &Kinds,
-    body: &'a [Stmt],
+    body: &'a [Stmt<'a>],
 ) -> Result<Made<'a>, ExpandFault>
     requires few_kinds { length kinds.now.list.items ≤ 255 }
     ensures { Answers state_view expand_fault_view result
@@ -115,7 +114,7 @@ fn take<'a>(
     kinds: &Kinds,
     stack: &mut Stack<'a>,
     made: &mut Made<'a>,
-    statement: &'a Stmt,
+    statement: &'a Stmt<'a>,
 ) -> Result<(), ExpandFault>
     requires few_kinds { length kinds.now.list.items ≤ 255 }
     requires free { stack.old.inner.inner.turns ≡ None }
@@ -144,7 +143,7 @@ fn take<'a>(
             args,
             prefix,
         } => {
-            let found = made.modules.find(stack.inner.visible, title.as_str());
+            let found = made.modules.find(stack.inner.visible, title);
             let scope = &stack.inner.scope;
             let (args, prefix) = (args.as_slice(), prefix.as_slice());
             let inner = used(alloc, scope, *line, found, args, prefix)?;
@@ -158,7 +157,7 @@ fn take<'a>(
             body,
         } => {
             let scope = &stack.inner.scope;
-            let turns = turns(scope, *line, variable.as_str(), from, upto, body.as_slice())?;
+            let turns = turns(scope, *line, variable, from, upto, body.as_slice())?;
             stack.inner.inner.turns = turns;
             Ok(())
         }
@@ -190,7 +189,7 @@ fn turns<'a>(
     variable: &'a str,
     from: &Expr,
     upto: &Expr,
-    body: &'a [Stmt],
+    body: &'a [Stmt<'a>],
 ) -> Result<Option<Turns<'a>>, ExpandFault>
     ensures { (s : Visibility) → Answers (turns_works s scope.now) expand_fault_view result
         (loop_of s line variable.now (in_expression scope.now.numbers (expr_view from.now))

@@ -12,7 +12,6 @@ ghost use Rattle.dn_module.specs.Faults.{expand_fault_view};
 use crate::fault::ExpandFault;
 use crate::names::NameTable;
 use dn_base::items::Items;
-use dn_base::text::Text;
 use dn_parse::syntax::{Body, Param, Stmt};
 use indexmap::IndexSet;
 use std::alloc::{AllocError, Global};
@@ -24,15 +23,15 @@ const MAX_MODULES: usize = 256;
 #[derive(Clone, Copy)]
 pub struct Module<'a> {
     pub title: &'a str,
-    pub params: &'a [Param],
-    pub body: &'a [Stmt],
+    pub params: &'a [Param<'a>],
+    pub body: &'a [Stmt<'a>],
 }
 
 impl<'a> Module<'a> {
     ghost use Rattle.dn_module.specs.Stack.{body_view, module_view};
 
     /// The module that has these parts.
-    pub fn new(title: &'a Text, params: &'a Items<Param>, body: &'a Body) -> Module<'a>
+    pub fn new(title: &'a str, params: &'a Items<Param<'a>>, body: &'a Body<'a>) -> Module<'a>
         ensures { module_view result ≡ record {
           title = title.now;
           params = map param_view
@@ -41,7 +40,7 @@ impl<'a> Module<'a> {
         } }
     {
         Module {
-            title: title.as_str(),
+            title,
             params: params.as_slice(),
             body: body.as_slice(),
         }
@@ -169,11 +168,11 @@ fn has_twice(alloc: Global, params: &[Param]) -> Result<bool, AllocError>
 }
 
 /// The word of a parameter.
-pub fn word_of(param: &Param) -> &str
+pub fn word_of<'a>(param: &Param<'a>) -> &'a str
     ensures { result.now ≡ word_of_param (param_view param.now) }
 {
     match param {
-        Param::Num(word) => word.as_str(),
-        Param::Node(word) => word.as_str(),
+        Param::Num(word) => word,
+        Param::Node(word) => word,
     }
 }

@@ -21,20 +21,20 @@ pub struct Turns<'a> {
     pub variable: &'a str,
     pub next: u64,
     pub last: u64,
-    pub body: &'a [Stmt],
+    pub body: &'a [Stmt<'a>],
 }
 
 /// What is left of a body: the turns of the loop that is at work in it, and then the statements after it.
 #[derive(Clone, Copy)]
 pub struct Rest<'a> {
     pub turns: Option<Turns<'a>>,
-    pub statements: &'a [Stmt],
+    pub statements: &'a [Stmt<'a>],
 }
 
 /// What is next: a statement, or the next turn of a loop.
 #[derive(Clone, Copy)]
 pub enum Work<'a> {
-    Statement(&'a Stmt),
+    Statement(&'a Stmt<'a>),
     Turn(Turns<'a>),
 }
 
@@ -62,7 +62,7 @@ pub struct Stack<'a> {
 
 impl<'a> Use<'a> {
     /// A use at its beginning. It takes no memory.
-    pub fn new(alloc: Global, scope: Scope, visible: Visible, body: &'a [Stmt]) -> Use<'a>
+    pub fn new(alloc: Global, scope: Scope, visible: Visible, body: &'a [Stmt<'a>]) -> Use<'a>
         ensures { use_works result ≡ statements (visibility_view visible)
             (in_items scope (body_view body.now)) }
     {
@@ -122,7 +122,7 @@ impl<'a> Use<'a> {
 
 impl<'a> Stack<'a> {
     /// The stack of a text at its beginning. It takes no memory.
-    pub fn new(alloc: Global, body: &'a [Stmt]) -> Stack<'a>
+    pub fn new(alloc: Global, body: &'a [Stmt<'a>]) -> Stack<'a>
         ensures { stack_works result ≡ statements outside (body_view body.now) }
     {
         Stack {

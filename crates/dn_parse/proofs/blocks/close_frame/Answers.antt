@@ -5,7 +5,7 @@ use Rattle.dn_parse.specs.Tree.{Item}
 use Rattle.dn_parse.specs.Whole.{closed_block}
 use Rattle.dn_parse.specs.Views.{frame_view, item_view, command_view, blocks_view}
 use Rattle.dn_parse.proofs.Judge.{without_last}
-use Rattle.dn_parse.proofs.blocks.without_frame.Goals as goal
+use Rattle.dn_parse.proofs.blocks.close_frame.Goals as goal
 
 pub returns : goal.returns
 returns c =
