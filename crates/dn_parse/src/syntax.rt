@@ -1,7 +1,5 @@
 //! The tree of a text of the whole language. Its words are pieces of the text.
 
-ghost use Rattle.std.specs.Prelude.{◌≡◌};
-
 use crate::few::Few;
 use dn_base::items::Items;
 
@@ -183,11 +181,4 @@ pub enum Mode {
     Unsaid,
     Read,
     Write,
-}
-
-/// The parts of a name.
-pub fn parts<'b, 'a>(name: &'b NameExpr<'a>) -> &'b [PartExpr<'a>]
-    ensures { result.now ≡ name.now }
-{
-    name.as_slice()
 }
