@@ -168,7 +168,7 @@ fn has_twice(alloc: Global, params: &[Param]) -> Result<bool, AllocError>
 }
 
 /// The word of a parameter.
-pub fn word_of<'a>(param: &Param<'a>) -> &'a str
+pub fn word_of<'b>(param: &'b Param) -> &'b str
     ensures { result.now ≡ word_of_param (param_view param.now) }
 {
     match param {

@@ -18,9 +18,7 @@ use dn_base::items::Items;
 use dn_base::text::Text;
 use dn_kind::kinds::Kinds;
 use dn_net::node::{Block, Role};
-use dn_parse::syntax::{
-    BlockExpr, Decl, DeclRole, DestExpr, EntryExpr, NameExpr, Spec, UnitExpr,
-};
+use dn_parse::syntax::{BlockExpr, Decl, DeclRole, DestExpr, EntryExpr, NameExpr, Spec, UnitExpr};
 use std::alloc::Global;
 
 /// The node that a declaration makes, with this line, or the fault of its statement.
