@@ -21,17 +21,17 @@ const MAX_MODULES: usize = 256;
 
 /// A module that was declared.
 #[derive(Clone, Copy)]
-pub struct Module<'a> {
+pub struct Module<'a, 't> {
     pub title: &'a str,
-    pub params: &'a [Param<'a>],
-    pub body: &'a [Stmt<'a>],
+    pub params: &'a [Param<'t>],
+    pub body: &'a [Stmt<'t>],
 }
 
-impl<'a> Module<'a> {
+impl<'a, 't> Module<'a, 't> {
     ghost use Rattle.dn_module.specs.Stack.{body_view, module_view};
 
     /// The module that has these parts.
-    pub fn new(title: &'a str, params: &'a Items<Param<'a>>, body: &'a Body<'a>) -> Module<'a>
+    pub fn new(title: &'a str, params: &'a Items<Param<'t>>, body: &'a Body<'t>) -> Module<'a, 't>
         ensures { module_view result ≡ record {
           title = title.now;
           params = map param_view
@@ -59,9 +59,9 @@ pub enum Visible {
 /// The modules that are known, in the order in which they were declared, at most 256. No two have one name,
 /// and no module has two parameters of one name.
 #[derive(Drop)]
-pub struct Modules<'a> {
+pub struct Modules<'a, 't> {
     names: NameTable,
-    modules: Vec<Module<'a>>,
+    modules: Vec<Module<'a, 't>>,
     ghost same: { names ≡ map (λ m. m.title.now) modules.items },
     ghost few: { length modules.items ≤ 256 },
     ghost different: { IsTrue (list_all (λ m. not (has_twice (map (λ p. word_of_param (param_view p)) m.params.now))) modules.items) },
@@ -81,11 +81,11 @@ impl Visible {
     }
 }
 
-impl<'a> Modules<'a> {
+impl<'a, 't> Modules<'a, 't> {
     ghost use Rattle.dn_module.specs.Stack.{module_view, module_views, visibility_view};
 
     /// No modules. It takes no memory.
-    pub fn new(alloc: Global) -> Modules<'a>
+    pub fn new(alloc: Global) -> Modules<'a, 't>
         ensures { module_views result ≡ [] }
     {
         Modules {
@@ -95,7 +95,7 @@ impl<'a> Modules<'a> {
     }
 
     /// Adds the module that a statement with this line declares. After a fault the modules are unchanged.
-    pub fn add(&mut self, alloc: Global, line: u32, module: Module<'a>) -> Result<(), ExpandFault>
+    pub fn add(&mut self, alloc: Global, line: u32, module: Module<'a, 't>) -> Result<(), ExpandFault>
         ensures added { Answers (λ _. module_views self.new) expand_fault_view result
             (with_module (module_views self.old) line (module_view «module».entry)) }
         ensures unchanged { OnErr result (module_views self.new ≡ module_views self.old) }
@@ -115,7 +115,7 @@ impl<'a> Modules<'a> {
 
     /// The module with this name among those that a statement may use, and its number. `None` exactly where
     /// none of them has it.
-    pub fn find(&self, visible: Visible, title: &str) -> Option<(u16, Module<'a>)>
+    pub fn find(&self, visible: Visible, title: &str) -> Option<(u16, Module<'a, 't>)>
         ensures found { option_map (λ m. (m.0, module_view m.1)) result ≡ module_from 0 title.now
             (usable (visibility_view visible) (module_views self.now)) }
         ensures different { IfSome result (λ m. has_twice
@@ -133,11 +133,11 @@ impl<'a> Modules<'a> {
 }
 
 /// Puts a module and its name last. For want of memory both lists are unchanged.
-fn put<'a>(
+fn put<'a, 't>(
     alloc: Global,
     names: &mut NameTable,
-    modules: &mut Vec<Module<'a>>,
-    module: Module<'a>,
+    modules: &mut Vec<Module<'a, 't>>,
+    module: Module<'a, 't>,
 ) -> Result<(), ExpandFault>
     requires room { length names.old < 1024 }
     requires new_name { list_any (bytes_eq «module».title.now) names.old ≡ false }
