@@ -2,8 +2,8 @@
 
 ghost use Rattle.std.specs.Prelude.{map, length, Ok, IfOk, IsTrue};
 ghost use Rattle.std.specs.List.{list_all};
-ghost use Rattle.dn_parse.specs.Tree.{resolve as asks_resolve, lookup as asks_lookup, view as asks_view, grant as asks_grant, route as asks_route, absorb as asks_absorb};
-ghost use Rattle.dn_parse.specs.Views.{name_view, expr_view, order_view, command_view};
+ghost use Rattle.dn_parse.specs.Tree.{resolve as asks_resolve, lookup as asks_lookup, view as asks_view, absorb as asks_absorb};
+ghost use Rattle.dn_parse.specs.Views.{name_view, expr_view, grant_view, route_view, order_view, command_view};
 ghost use Rattle.dn_module.specs.Commands.{target_of, command_of, commands_of, node_within, names_within};
 ghost use Rattle.dn_module.specs.Values.{value, full_name};
 ghost use Rattle.dn_module.specs.Drafts.{at_line};
@@ -18,7 +18,7 @@ use crate::values::{Flaw, NameFault, declared_name, value};
 use dn_base::items::Items;
 use dn_base::text::Text;
 use dn_parse::syntax;
-use dn_parse::syntax::{Expr, Mode, NameExpr, Order};
+use dn_parse::syntax::{Expr, GrantExpr, Mode, NameExpr, Order, RouteExpr};
 use std::alloc::Global;
 
 /// The commands, with the nodes that they name by their numbers, or the first fault.
@@ -61,10 +61,8 @@ fn command(alloc: Global, names: &NameTable, order: &Order) -> Result<Command, N
         Order::Resolve(name, expr, mode) => resolve(alloc, names, name, expr, *mode),
         Order::Lookup(name, expr, mode) => lookup(alloc, names, name, expr, *mode),
         Order::View(name, mode) => view(alloc, names, name, *mode),
-        Order::Grant(id, agent, name, base, size, mode) => {
-            grant(alloc, names, id, agent, name, base, size, *mode)
-        }
-        Order::Route(id, agent, line, name) => route(alloc, names, id, agent, line, name),
+        Order::Grant(asked) => grant(alloc, names, asked),
+        Order::Route(asked) => route(alloc, names, asked),
         Order::Revoke(id) => revoke(alloc, id),
         Order::Dump => Ok(Command::Dump),
         Order::Split => Ok(Command::Split),
@@ -150,52 +148,35 @@ fn absorb(alloc: Global, names: &NameTable, name: &NameExpr) -> Result<Command, 
 }
 
 /// A grant to the first node named, of addresses of the second.
-fn grant(
-    alloc: Global,
-    names: &NameTable,
-    id: &Text,
-    agent: &NameExpr,
-    name: &NameExpr,
-    base: &Expr,
-    size: &Expr,
-    mode: Mode,
-) -> Result<Command, NameFault>
+fn grant(alloc: Global, names: &NameTable, asked: &GrantExpr) -> Result<Command, NameFault>
     ensures made { Answers (λ x. x) name_fault_view result
-        (command_of names.now (asks_grant id.now (name_view agent.now) (name_view name.now)
-        (expr_view base.now) (expr_view size.now) mode)) }
+        (command_of names.now (grant_view asked.now)) }
     ensures known { IfOk result (λ c. IsTrue (names_within (length names.now) c)) }
 {
-    let agent = target(alloc, names, agent)?;
-    let node = target(alloc, names, name)?;
-    let base = number(alloc, base)?;
-    let size = number(alloc, size)?;
-    let id = Text::of(alloc, id.as_str())?;
+    let agent = target(alloc, names, &asked.agent)?;
+    let node = target(alloc, names, &asked.node)?;
+    let base = number(alloc, &asked.base)?;
+    let size = number(alloc, &asked.size)?;
+    let id = Text::of(alloc, asked.id)?;
+    let mode = asked.mode;
     Ok(Command::Grant(id, agent, node, base, size, mode))
 }
 
 /// A route of a line of the first node named to the second.
-fn route(
-    alloc: Global,
-    names: &NameTable,
-    id: &Text,
-    agent: &NameExpr,
-    line: &Expr,
-    name: &NameExpr,
-) -> Result<Command, NameFault>
+fn route(alloc: Global, names: &NameTable, asked: &RouteExpr) -> Result<Command, NameFault>
     ensures made { Answers (λ x. x) name_fault_view result
-        (command_of names.now (asks_route id.now (name_view agent.now) (expr_view line.now)
-        (name_view name.now))) }
+        (command_of names.now (route_view asked.now)) }
     ensures known { IfOk result (λ c. IsTrue (names_within (length names.now) c)) }
 {
-    let agent = target(alloc, names, agent)?;
-    let line = number(alloc, line)?;
-    let node = target(alloc, names, name)?;
-    let id = Text::of(alloc, id.as_str())?;
+    let agent = target(alloc, names, &asked.agent)?;
+    let line = number(alloc, &asked.line)?;
+    let node = target(alloc, names, &asked.node)?;
+    let id = Text::of(alloc, asked.id)?;
     Ok(Command::Route(id, agent, line, node))
 }
 
-fn revoke(alloc: Global, id: &Text) -> Result<Command, NameFault>
+fn revoke(alloc: Global, id: &str) -> Result<Command, NameFault>
     ensures { Answers (λ x. x) name_fault_view result (Ok (Command.Revoke id.now)) }
 {
-    Ok(Command::Revoke(Text::of(alloc, id.as_str())?))
+    Ok(Command::Revoke(Text::of(alloc, id)?))
 }

@@ -28,17 +28,17 @@ const MOST_STEPS: u32 = 65_536;
 
 /// What the statements so far have made: the modules that are known, and the nodes.
 #[derive(Drop)]
-pub struct Made<'a> {
-    pub modules: Modules<'a>,
+pub struct Made<'a, 't> {
+    pub modules: Modules<'a, 't>,
     pub drafts: Drafts,
 }
 
 /// What the statements of a text make, or the first fault.
-pub fn expand_body<'a>(
+pub fn expand_body<'a, 't>(
     alloc: Global,
     kinds: &Kinds,
-    body: &'a [Stmt],
-) -> Result<Made<'a>, ExpandFault>
+    body: &'a [Stmt<'t>],
+) -> Result<Made<'a, 't>, ExpandFault>
     requires few_kinds { length kinds.now.list.items ≤ 255 }
     ensures { Answers state_view expand_fault_view result
         (all_rewritings (map (λ k. meaning (k.vtable, k.value)) kinds.now.list.items) most_steps
@@ -85,12 +85,12 @@ fn line_of_statement(statement: &Stmt) -> u32
 }
 
 /// One step: what is next is taken, and what it stands for comes in its place.
-fn step<'a>(
+fn step<'a, 't>(
     alloc: Global,
     kinds: &Kinds,
-    stack: &mut Stack<'a>,
-    made: &mut Made<'a>,
-    work: Work<'a>,
+    stack: &mut Stack<'a, 't>,
+    made: &mut Made<'a, 't>,
+    work: Work<'a, 't>,
 ) -> Result<(), ExpandFault>
     requires few_kinds { length kinds.now.list.items ≤ 255 }
     requires free { stack.old.inner.inner.turns ≡ None }
@@ -109,12 +109,12 @@ fn step<'a>(
 }
 
 /// Takes a statement.
-fn take<'a>(
+fn take<'a, 't>(
     alloc: Global,
     kinds: &Kinds,
-    stack: &mut Stack<'a>,
-    made: &mut Made<'a>,
-    statement: &'a Stmt,
+    stack: &mut Stack<'a, 't>,
+    made: &mut Made<'a, 't>,
+    statement: &'a Stmt<'t>,
 ) -> Result<(), ExpandFault>
     requires few_kinds { length kinds.now.list.items ≤ 255 }
     requires free { stack.old.inner.inner.turns ≡ None }
@@ -143,7 +143,7 @@ fn take<'a>(
             args,
             prefix,
         } => {
-            let found = made.modules.find(stack.inner.visible, title.as_str());
+            let found = made.modules.find(stack.inner.visible, title);
             let scope = &stack.inner.scope;
             let (args, prefix) = (args.as_slice(), prefix.as_slice());
             let inner = used(alloc, scope, *line, found, args, prefix)?;
@@ -157,7 +157,7 @@ fn take<'a>(
             body,
         } => {
             let scope = &stack.inner.scope;
-            let turns = turns(scope, *line, variable.as_str(), from, upto, body.as_slice())?;
+            let turns = turns(scope, *line, variable, from, upto, body.as_slice())?;
             stack.inner.inner.turns = turns;
             Ok(())
         }
@@ -183,14 +183,14 @@ fn declare(
 }
 
 /// The turns of a loop, if it has any.
-fn turns<'a>(
+fn turns<'a, 't>(
     scope: &Scope,
     line: u32,
     variable: &'a str,
     from: &Expr,
     upto: &Expr,
-    body: &'a [Stmt],
-) -> Result<Option<Turns<'a>>, ExpandFault>
+    body: &'a [Stmt<'t>],
+) -> Result<Option<Turns<'a, 't>>, ExpandFault>
     ensures { (s : Visibility) → Answers (turns_works s scope.now) expand_fault_view result
         (loop_of s line variable.now (in_expression scope.now.numbers (expr_view from.now))
         (in_expression scope.now.numbers (expr_view upto.now))

@@ -12,7 +12,6 @@ ghost use Rattle.dn_module.specs.Faults.{expand_fault_view};
 use crate::fault::ExpandFault;
 use crate::names::NameTable;
 use dn_base::items::Items;
-use dn_base::text::Text;
 use dn_parse::syntax::{Body, Param, Stmt};
 use indexmap::IndexSet;
 use std::alloc::{AllocError, Global};
@@ -22,17 +21,17 @@ const MAX_MODULES: usize = 256;
 
 /// A module that was declared.
 #[derive(Clone, Copy)]
-pub struct Module<'a> {
+pub struct Module<'a, 't> {
     pub title: &'a str,
-    pub params: &'a [Param],
-    pub body: &'a [Stmt],
+    pub params: &'a [Param<'t>],
+    pub body: &'a [Stmt<'t>],
 }
 
-impl<'a> Module<'a> {
+impl<'a, 't> Module<'a, 't> {
     ghost use Rattle.dn_module.specs.Stack.{body_view, module_view};
 
     /// The module that has these parts.
-    pub fn new(title: &'a Text, params: &'a Items<Param>, body: &'a Body) -> Module<'a>
+    pub fn new(title: &'a str, params: &'a Items<Param<'t>>, body: &'a Body<'t>) -> Module<'a, 't>
         ensures { module_view result ≡ record {
           title = title.now;
           params = map param_view
@@ -41,7 +40,7 @@ impl<'a> Module<'a> {
         } }
     {
         Module {
-            title: title.as_str(),
+            title,
             params: params.as_slice(),
             body: body.as_slice(),
         }
@@ -60,9 +59,9 @@ pub enum Visible {
 /// The modules that are known, in the order in which they were declared, at most 256. No two have one name,
 /// and no module has two parameters of one name.
 #[derive(Drop)]
-pub struct Modules<'a> {
+pub struct Modules<'a, 't> {
     names: NameTable,
-    modules: Vec<Module<'a>>,
+    modules: Vec<Module<'a, 't>>,
     ghost same: { names ≡ map (λ m. m.title.now) modules.items },
     ghost few: { length modules.items ≤ 256 },
     ghost different: { IsTrue (list_all (λ m. not (has_twice (map (λ p. word_of_param (param_view p)) m.params.now))) modules.items) },
@@ -82,11 +81,11 @@ impl Visible {
     }
 }
 
-impl<'a> Modules<'a> {
+impl<'a, 't> Modules<'a, 't> {
     ghost use Rattle.dn_module.specs.Stack.{module_view, module_views, visibility_view};
 
     /// No modules. It takes no memory.
-    pub fn new(alloc: Global) -> Modules<'a>
+    pub fn new(alloc: Global) -> Modules<'a, 't>
         ensures { module_views result ≡ [] }
     {
         Modules {
@@ -96,7 +95,7 @@ impl<'a> Modules<'a> {
     }
 
     /// Adds the module that a statement with this line declares. After a fault the modules are unchanged.
-    pub fn add(&mut self, alloc: Global, line: u32, module: Module<'a>) -> Result<(), ExpandFault>
+    pub fn add(&mut self, alloc: Global, line: u32, module: Module<'a, 't>) -> Result<(), ExpandFault>
         ensures added { Answers (λ _. module_views self.new) expand_fault_view result
             (with_module (module_views self.old) line (module_view «module».entry)) }
         ensures unchanged { OnErr result (module_views self.new ≡ module_views self.old) }
@@ -116,7 +115,7 @@ impl<'a> Modules<'a> {
 
     /// The module with this name among those that a statement may use, and its number. `None` exactly where
     /// none of them has it.
-    pub fn find(&self, visible: Visible, title: &str) -> Option<(u16, Module<'a>)>
+    pub fn find(&self, visible: Visible, title: &str) -> Option<(u16, Module<'a, 't>)>
         ensures found { option_map (λ m. (m.0, module_view m.1)) result ≡ module_from 0 title.now
             (usable (visibility_view visible) (module_views self.now)) }
         ensures different { IfSome result (λ m. has_twice
@@ -134,11 +133,11 @@ impl<'a> Modules<'a> {
 }
 
 /// Puts a module and its name last. For want of memory both lists are unchanged.
-fn put<'a>(
+fn put<'a, 't>(
     alloc: Global,
     names: &mut NameTable,
-    modules: &mut Vec<Module<'a>>,
-    module: Module<'a>,
+    modules: &mut Vec<Module<'a, 't>>,
+    module: Module<'a, 't>,
 ) -> Result<(), ExpandFault>
     requires room { length names.old < 1024 }
     requires new_name { list_any (bytes_eq «module».title.now) names.old ≡ false }
@@ -169,11 +168,11 @@ fn has_twice(alloc: Global, params: &[Param]) -> Result<bool, AllocError>
 }
 
 /// The word of a parameter.
-pub fn word_of(param: &Param) -> &str
+pub fn word_of<'b>(param: &'b Param) -> &'b str
     ensures { result.now ≡ word_of_param (param_view param.now) }
 {
     match param {
-        Param::Num(word) => word.as_str(),
-        Param::Node(word) => word.as_str(),
+        Param::Num(word) => word,
+        Param::Node(word) => word,
     }
 }

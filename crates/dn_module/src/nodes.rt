@@ -1,7 +1,7 @@
 //! The nodes that declarations make.
 
 ghost use Rattle.std.specs.Prelude.{◌≡◌, ◌≤◌, [], None, Some, length, map, option_map};
-ghost use Rattle.dn_parse.specs.Views.{name_view, maybe_name_view, block_view, dest_view, entry_view, spec_view, role_view, declaration_view};
+ghost use Rattle.dn_parse.specs.Views.{name_view, maybe_name_view, block_view, dest_view, entry_view, spec_view, role_view, unit_view, declaration_view};
 ghost use Rattle.dn_net.specs.declared.node.Role.TheVariants.{Unit as unit_role};
 ghost use Rattle.dn_kind.specs.Kind.{kind_place};
 ghost use Rattle.dn_module.specs.Values.{each, full_name, full_name_or_none};
@@ -18,7 +18,7 @@ use dn_base::items::Items;
 use dn_base::text::Text;
 use dn_kind::kinds::Kinds;
 use dn_net::node::{Block, Role};
-use dn_parse::syntax::{BlockExpr, Decl, DeclRole, DestExpr, EntryExpr, NameExpr, Spec};
+use dn_parse::syntax::{BlockExpr, Decl, DeclRole, DestExpr, EntryExpr, NameExpr, Spec, UnitExpr};
 use std::alloc::Global;
 
 /// The node that a declaration makes, with this line, or the fault of its statement.
@@ -55,30 +55,37 @@ fn draft_of(
 {
     match decl {
         Decl::Node { role, name, spec } => node_draft(alloc, scope, line, *role, name, spec),
-        Decl::Unit {
-            name,
-            kind,
-            page,
-            slots,
-            reach,
-            ports,
-        } => {
-            let name = declared_name(alloc, scope, name.as_slice())?;
-            let kind = kind_number(kinds, kind.as_str())?;
-            let page = value_within(scope, 255, page)? as u8;
-            let slots = value_within(scope, 4_294_967_295, slots)? as u32;
-            let reach = value_within(scope, 255, reach)? as u8;
-            let ports = references(alloc, scope, ports.as_slice())?;
-            let unit = DraftUnit {
-                kind,
-                page,
-                slots,
-                reach,
-                ports,
-            };
-            Ok(unit_draft(alloc, line, name, unit))
-        }
+        Decl::Unit(unit) => unit_of(alloc, kinds, scope, line, unit),
     }
+}
+
+/// The unit that a declaration makes.
+fn unit_of(
+    alloc: Global,
+    kinds: &Kinds,
+    scope: &Scope,
+    line: u32,
+    unit: &UnitExpr,
+) -> Result<Draft, NameFault>
+    requires few_kinds { length kinds.now.list.items ≤ 255 }
+    ensures { Answers (λ x. x) name_fault_view result
+        (draft_of (map (λ k. meaning (k.vtable, k.value)) kinds.now.list.items) line
+        (in_declaration scope.now (unit_view unit.now))) }
+{
+    let name = declared_name(alloc, scope, unit.name.as_slice())?;
+    let kind = kind_number(kinds, unit.kind)?;
+    let page = value_within(scope, 255, &unit.page)? as u8;
+    let slots = value_within(scope, 4_294_967_295, &unit.slots)? as u32;
+    let reach = value_within(scope, 255, &unit.reach)? as u8;
+    let ports = references(alloc, scope, unit.ports.as_slice())?;
+    let unit = DraftUnit {
+        kind,
+        page,
+        slots,
+        reach,
+        ports,
+    };
+    Ok(unit_draft(alloc, line, name, unit))
 }
 
 /// A unit with this full name. It takes no memory.
@@ -124,13 +131,16 @@ fn node_draft(
     line: u32,
     role: DeclRole,
     name: &NameExpr,
-    spec: &Spec,
+    spec: &Option<Box<Spec>>,
 ) -> Result<Draft, NameFault>
     ensures { Answers (λ x. x) name_fault_view result
         (node_draft line (role_view role) (in_declared scope.now (name_view name.now))
         (in_spec scope.now (spec_view spec.now))) }
 {
     let name = declared_name(alloc, scope, name.as_slice())?;
+    let Some(spec) = spec else {
+        return Ok(bare_draft(alloc, line, role_of(role), name));
+    };
     let accepts = blocks(alloc, scope, spec.accepts.as_slice())?;
     let entries = entries(alloc, scope, spec.entries.as_slice())?;
     let over = over(alloc, scope, &spec.over)?;
@@ -143,6 +153,29 @@ fn node_draft(
         over,
         unit: None,
     })
+}
+
+/// A node without parts. It takes no memory.
+fn bare_draft(alloc: Global, line: u32, role: Role, name: Text) -> Draft
+    ensures { result ≡ record {
+      line = line;
+      role = role;
+      name = name;
+      accepts = [];
+      entries = [];
+      over = None;
+      unit = None;
+    } }
+{
+    Draft {
+        line,
+        role,
+        name,
+        accepts: Items::new(alloc),
+        entries: Items::new(alloc),
+        over: None,
+        unit: None,
+    }
 }
 
 fn role_of(role: DeclRole) -> Role

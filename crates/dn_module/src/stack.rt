@@ -15,54 +15,54 @@ use std::mem;
 
 /// The turns of a loop that are left: from one number to another, which is no less.
 #[derive(Clone, Copy)]
-pub struct Turns<'a> {
+pub struct Turns<'a, 't> {
     /// The line of the loop.
     pub line: u32,
     pub variable: &'a str,
     pub next: u64,
     pub last: u64,
-    pub body: &'a [Stmt],
+    pub body: &'a [Stmt<'t>],
 }
 
 /// What is left of a body: the turns of the loop that is at work in it, and then the statements after it.
 #[derive(Clone, Copy)]
-pub struct Rest<'a> {
-    pub turns: Option<Turns<'a>>,
-    pub statements: &'a [Stmt],
+pub struct Rest<'a, 't> {
+    pub turns: Option<Turns<'a, 't>>,
+    pub statements: &'a [Stmt<'t>],
 }
 
 /// What is next: a statement, or the next turn of a loop.
 #[derive(Clone, Copy)]
-pub enum Work<'a> {
-    Statement(&'a Stmt),
-    Turn(Turns<'a>),
+pub enum Work<'a, 't> {
+    Statement(&'a Stmt<'t>),
+    Turn(Turns<'a, 't>),
 }
 
 /// A use of a module that is not at its end, or the text itself.
 #[derive(Drop)]
-pub struct Use<'a> {
+pub struct Use<'a, 't> {
     /// What stands for the words of its innermost body.
     pub scope: Scope,
     pub visible: Visible,
     /// What is left of its innermost body.
-    pub inner: Rest<'a>,
+    pub inner: Rest<'a, 't>,
     /// What is left of the bodies round it, the innermost last. Each body but the outermost is a turn of a
     /// loop.
-    pub outer: Vec<Rest<'a>>,
+    pub outer: Vec<Rest<'a, 't>>,
 }
 
 /// The uses that are not at their ends.
 #[derive(Drop)]
-pub struct Stack<'a> {
+pub struct Stack<'a, 't> {
     /// The innermost.
-    pub inner: Use<'a>,
+    pub inner: Use<'a, 't>,
     /// Those round it, the innermost last.
-    pub outer: Vec<Use<'a>>,
+    pub outer: Vec<Use<'a, 't>>,
 }
 
-impl<'a> Use<'a> {
+impl<'a, 't> Use<'a, 't> {
     /// A use at its beginning. It takes no memory.
-    pub fn new(alloc: Global, scope: Scope, visible: Visible, body: &'a [Stmt]) -> Use<'a>
+    pub fn new(alloc: Global, scope: Scope, visible: Visible, body: &'a [Stmt<'t>]) -> Use<'a, 't>
         ensures { use_works result ≡ statements (visibility_view visible)
             (in_items scope (body_view body.now)) }
     {
@@ -78,7 +78,7 @@ impl<'a> Use<'a> {
     }
 
     /// What is next in the use, whose rest stays. `None` exactly where it is at its end.
-    fn next(&mut self) -> Option<Work<'a>>
+    fn next(&mut self) -> Option<Work<'a, 't>>
         ensures some { IfSome result (λ w. use_works self.old ≡ work_view
             (visibility_view self.new.visible) self.new.scope w ∷ use_works self.new) }
         ensures none { IfNone result (use_works self.old ≡ []) }
@@ -99,7 +99,7 @@ impl<'a> Use<'a> {
     }
 
     /// Goes into the turn of a loop that is next in the innermost body. For want of memory the use is unchanged.
-    pub fn enter_turn(&mut self, alloc: Global, turns: Turns<'a>) -> Result<(), ExpandFault>
+    pub fn enter_turn(&mut self, alloc: Global, turns: Turns<'a, 't>) -> Result<(), ExpandFault>
         requires free { self.old.inner.turns ≡ None }
         ensures err { IfErr result (λ e. e ≡ no_memory) }
         ensures unchanged { OnErr result (use_works self.new ≡ use_works self.old) }
@@ -120,9 +120,9 @@ impl<'a> Use<'a> {
     }
 }
 
-impl<'a> Stack<'a> {
+impl<'a, 't> Stack<'a, 't> {
     /// The stack of a text at its beginning. It takes no memory.
-    pub fn new(alloc: Global, body: &'a [Stmt]) -> Stack<'a>
+    pub fn new(alloc: Global, body: &'a [Stmt<'t>]) -> Stack<'a, 't>
         ensures { stack_works result ≡ statements outside (body_view body.now) }
     {
         Stack {
@@ -132,7 +132,7 @@ impl<'a> Stack<'a> {
     }
 
     /// What is next, which then is in the innermost use. `None` exactly where all is done.
-    pub fn next(&mut self) -> Option<Work<'a>>
+    pub fn next(&mut self) -> Option<Work<'a, 't>>
         ensures some { IfSome result (λ w. stack_works self.old ≡ work_view
             (visibility_view self.new.inner.visible) self.new.inner.scope w ∷ stack_works self.new) }
         ensures none { IfNone result (stack_works self.old ≡ []) }
@@ -151,7 +151,7 @@ impl<'a> Stack<'a> {
     }
 
     /// Goes into a use. For want of memory the stack is unchanged.
-    pub fn enter(&mut self, inner: Use<'a>) -> Result<(), ExpandFault>
+    pub fn enter(&mut self, inner: Use<'a, 't>) -> Result<(), ExpandFault>
         ensures err { IfErr result (λ e. e ≡ no_memory) }
         ensures unchanged { OnErr result (stack_works self.new ≡ stack_works self.old) }
         ensures entered { OnOk result (stack_works self.new ≡ use_works inner.entry ++ stack_works
@@ -165,7 +165,7 @@ impl<'a> Stack<'a> {
 }
 
 /// What is first in a body, and what is left of the body then. `None` exactly where it is at its end.
-fn first<'a>(rest: Rest<'a>) -> Option<(Work<'a>, Rest<'a>)>
+fn first<'a, 't>(rest: Rest<'a, 't>) -> Option<(Work<'a, 't>, Rest<'a, 't>)>
     ensures works { (s : Visibility) (r : Replacement) → rest_works s r rest.entry ≡ first_works s
         r result }
     ensures free { IfSome result (λ f. f.1.turns ≡ None) }
@@ -188,7 +188,7 @@ fn first<'a>(rest: Rest<'a>) -> Option<(Work<'a>, Rest<'a>)>
 }
 
 /// The turns after the next one, if there are any.
-fn after<'a>(turns: Turns<'a>) -> Option<Turns<'a>>
+fn after<'a, 't>(turns: Turns<'a, 't>) -> Option<Turns<'a, 't>>
     ensures { (s : Visibility) (r : Replacement) → turns_works s r result ≡ after_works s r
         turns.entry }
 {

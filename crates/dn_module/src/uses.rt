@@ -29,14 +29,14 @@ pub struct Given {
 }
 
 /// The use of a module that was found, with its number, from the statement's arguments and its prefix.
-pub fn used<'a>(
+pub fn used<'a, 't>(
     alloc: Global,
     scope: &Scope,
     line: u32,
-    found: Option<(u16, Module<'a>)>,
+    found: Option<(u16, Module<'a, 't>)>,
     args: &[Arg],
     prefix: &[PartExpr],
-) -> Result<Use<'a>, ExpandFault>
+) -> Result<Use<'a, 't>, ExpandFault>
     requires different { IfSome found (λ m. has_twice
         (map word_of_param (map param_view m.1.params.now)) ≡ false) }
     ensures { Answers use_works expand_fault_view result

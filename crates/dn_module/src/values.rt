@@ -84,7 +84,7 @@ pub fn value(scope: &Scope, expr: &Expr) -> Result<u64, Flaw>
 {
     match expr {
         Expr::Number(number) => Ok(*number),
-        Expr::Variable(word) => variable(scope, word.as_str()),
+        Expr::Variable(word) => variable(scope, word),
         Expr::Sum(members) => sum(scope, members.as_slice()),
         Expr::Product(members) => product(scope, members.as_slice()),
         Expr::Minus(from, less) => difference(value(scope, from)?, value(scope, less)?),
@@ -222,7 +222,7 @@ fn argument<'a>(scope: &'a Scope, name: &[PartExpr]) -> Option<&'a str>
 {
     match name {
         [part] => match part.index {
-            None => scope.node(part.title.as_str()),
+            None => scope.node(part.title),
             Some(_) => None,
         },
         _ => None,
@@ -259,7 +259,7 @@ fn push_part(out: &mut String, scope: &Scope, part: &PartExpr) -> Result<(), Nam
     ensures { Appends result (string_bytes out.old) (string_bytes out.new)
         (part_text (in_part scope.now.numbers (part_view part.now))) }
 {
-    out.push_str(part.title.as_str())?;
+    out.push_str(part.title)?;
     if let Some(index) = &part.index {
         let number = value(scope, index)?;
         write!(out, "[{number}]")?;

@@ -87,23 +87,23 @@ fault_halted last all b ts line (Refused n) s e = next_stop last all b ts line (
 fault_halted last all b ts line (DeepHalt n) s e = next_stop last all b ts line (deep n) s e
 fault_halted last all b ts line HaltMemory s e = tt
 
-pub step_going : (r : Result CodeBlocks Misplaced) (b : CodeBlocks) (s : Step) → Answers blocks_view misplaced_view r s → r ≡ Ok b → s ≡ Ok (blocks_view b)
-step_going (Ok c) b s h e = let same : c ≡ b = cc in h ∙ ap (λ (d : CodeBlocks). Ok (blocks_view d)) same
-step_going (Err m) b s h e = cc
+pub step_going : {X : Type 0} (v : X → Blocks) (r : Result X Misplaced) (x : X) (s : Step) → Answers v misplaced_view r s → r ≡ Ok x → s ≡ Ok (v x)
+step_going v (Ok y) x s h e = let same : y ≡ x = cc in h ∙ ap (λ z. Ok (v z)) same
+step_going v (Err m) x s h e = cc
 
 misplaced_by : (m : Misplaced) (s : Step) (line : ℕ) (next : Blocks → Result Tree TextFault) → IfSome (misplaced_view m) (λ r. s ≡ Err r) → IfSome (misplaced_fault m line) (λ f. by_step s line next ≡ Err f)
 misplaced_by Forbidden s line next h = ap (λ (x : Step). by_step x line next) h
 misplaced_by Crowded s line next h = ap (λ (x : Step). by_step x line next) h
 misplaced_by NoRoom s line next h = tt
 
-pub fault_misplaced : (last : ℕ) (all : List Token) (b : Blocks) (ts : List Token) (line : ℕ) (s : Statement) (after : List Token) (r : Result CodeBlocks Misplaced) (m : Misplaced) → first_line ts ≡ Some line → whole_statement_at ts ≡ Ok (s, after) → Answers blocks_view misplaced_view r (step b (record { line = line; statement = s })) → r ≡ Err m → IfSome (misplaced_fault m line) (λ f. judge last all b ts ≡ Err f)
-fault_misplaced last all b ts line s after r m h e st is =
-    let stepped = subst (λ (x : Result CodeBlocks Misplaced). Answers blocks_view misplaced_view x (step b (record { line = line; statement = s }))) is st in
+pub fault_misplaced : {X : Type 0} (v : X → Blocks) (last : ℕ) (all : List Token) (b : Blocks) (ts : List Token) (line : ℕ) (s : Statement) (after : List Token) (r : Result X Misplaced) (m : Misplaced) → first_line ts ≡ Some line → whole_statement_at ts ≡ Ok (s, after) → Answers v misplaced_view r (step b (record { line = line; statement = s })) → r ≡ Err m → IfSome (misplaced_fault m line) (λ f. judge last all b ts ≡ Err f)
+fault_misplaced {X} v last all b ts line s after r m h e st is =
+    let stepped = subst (λ (x : Result X Misplaced). Answers v misplaced_view x (step b (record { line = line; statement = s }))) is st in
     subst (λ (q : Result Tree TextFault). IfSome (misplaced_fault m line) (λ f. q ≡ Err f)) (sym (next_step last all b ts line s after h e)) (misplaced_by m (step b (record { line = line; statement = s })) line (λ c. judge last all c after) stepped)
 
-pub placed_on : (last : ℕ) (all : List Token) (b : Blocks) (ts : List Token) (line : ℕ) (s : Statement) (after : List Token) (r : Result CodeBlocks Misplaced) (c : CodeBlocks) → first_line ts ≡ Some line → whole_statement_at ts ≡ Ok (s, after) → Answers blocks_view misplaced_view r (step b (record { line = line; statement = s })) → r ≡ Ok c → judge last all b ts ≡ judge last all (blocks_view c) after
-placed_on last all b ts line s after r c h e st is =
-    next_step last all b ts line s after h e ∙ ap (λ (x : Step). by_step x line (λ d. judge last all d after)) (step_going r c (step b (record { line = line; statement = s })) st is)
+pub placed_on : {X : Type 0} (v : X → Blocks) (last : ℕ) (all : List Token) (b : Blocks) (ts : List Token) (line : ℕ) (s : Statement) (after : List Token) (r : Result X Misplaced) (x : X) → first_line ts ≡ Some line → whole_statement_at ts ≡ Ok (s, after) → Answers v misplaced_view r (step b (record { line = line; statement = s })) → r ≡ Ok x → judge last all b ts ≡ judge last all (v x) after
+placed_on v last all b ts line s after r x h e st is =
+    next_step last all b ts line s after h e ∙ ap (λ (q : Step). by_step q line (λ d. judge last all d after)) (step_going v r x (step b (record { line = line; statement = s })) st is)
 
 -- the open blocks at the end
 reverse_none : (fs : List CodeFrame) → length fs ≡ 0 → reverse (map frame_view fs) ≡ []

@@ -2,6 +2,7 @@ pub mod Tree
 pub mod Actions
 pub mod Forms
 pub mod Syntax
+pub mod Few
 pub mod Views
 pub mod Machine
 pub mod Whole

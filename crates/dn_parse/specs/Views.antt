@@ -1,5 +1,6 @@
 -- The tree that the code's tree is.
-use Rattle.std.specs.Prelude.{List, map, reverse, Option, option_map}
+use Rattle.std.specs.Prelude.{List, [], map, reverse, Option, None, Some, option_map}
+use Rattle.std.specs.Global.{Box}
 use Rattle.dn_parse.specs.declared.syntax.Expr.{Expr}
 use Rattle.dn_parse.specs.declared.syntax.Expr.TheOpen.{Expr-F, Number, Variable, Sum, Product, Minus}
 use Rattle.dn_parse.specs.declared.syntax.Expr.TheFolds.{fold-Expr}
@@ -8,6 +9,9 @@ use Rattle.dn_parse.specs.declared.syntax.BlockExpr.{BlockExpr}
 use Rattle.dn_parse.specs.declared.syntax.DestExpr.{DestExpr}
 use Rattle.dn_parse.specs.declared.syntax.EntryExpr.{EntryExpr}
 use Rattle.dn_parse.specs.declared.syntax.Spec.{Spec as CodeSpec}
+use Rattle.dn_parse.specs.declared.syntax.UnitExpr.{UnitExpr}
+use Rattle.dn_parse.specs.declared.syntax.GrantExpr.{GrantExpr}
+use Rattle.dn_parse.specs.declared.syntax.RouteExpr.{RouteExpr}
 use Rattle.dn_parse.specs.declared.syntax.Param.{Param as CodeParam}
 use Rattle.dn_parse.specs.declared.syntax.Param.TheVariants.{Num as NumParam, Node as NodeParam}
 use Rattle.dn_parse.specs.declared.syntax.Arg.{Arg as CodeArg}
@@ -35,7 +39,7 @@ use Rattle.dn_parse.specs.Tree.{Expression, constant, variable, sum, product, mi
 -- one level of an expression, with its parts in their places
 abbrev pub expr_step : Expr-F Expression → Expression
 expr_step (Number n) = constant n
-expr_step (Variable t) = variable t
+expr_step (Variable t) = variable t.now
 expr_step (Sum v) = sum (expressions v.items)
 expr_step (Product v) = product (expressions v.items)
 expr_step (Minus a b) = minus a.value b.value
@@ -48,9 +52,13 @@ expr_view = fold-Expr Expression expr_step
 abbrev pub maybe_expr_view : Option Expr → Option Expression
 maybe_expr_view o = option_map expr_view o
 
+-- an index that may be left out
+abbrev pub index_view : Option (Box Expr) → Option Expression
+index_view o = option_map (λ b. expr_view b.value) o
+
 -- a part of a name
 abbrev pub part_view : PartExpr → Part
-part_view p = record { title = p.title; index = maybe_expr_view p.index }
+part_view p = record { title = p.title.now; index = index_view p.index }
 
 -- a name
 abbrev pub name_view : List PartExpr → List Part
@@ -72,14 +80,15 @@ entry_view m = record { block = block_view m.block; dests = map dest_view m.dest
 abbrev pub maybe_name_view : Option (List PartExpr) → Option (List Part)
 maybe_name_view o = option_map name_view o
 
--- the parts of a node
-abbrev pub spec_view : CodeSpec → Spec
-spec_view s = record { accepts = map block_view s.accepts; entries = map entry_view s.entries; over = maybe_name_view s.over }
+-- the parts of a node, of which there may be none
+abbrev pub spec_view : Option (Box CodeSpec) → Spec
+spec_view None = record { accepts = []; entries = []; over = None }
+spec_view (Some s) = record { accepts = map block_view s.value.accepts; entries = map entry_view s.value.entries; over = maybe_name_view s.value.over }
 
 -- a parameter of a module
 abbrev pub param_view : CodeParam → Param
-param_view (NumParam w) = number_param w
-param_view (NodeParam w) = node_param w
+param_view (NumParam w) = number_param w.now
+param_view (NodeParam w) = node_param w.now
 
 -- an argument of a use
 abbrev pub arg_view : CodeArg → Arg
@@ -92,19 +101,31 @@ role_view Plain = plain_role
 role_view Agent = agent_role
 role_view Vectors = vectors_role
 
+-- a unit
+abbrev pub unit_view : UnitExpr → Declaration
+unit_view u = unit (name_view u.name) u.kind.now (expr_view u.page) (expr_view u.slots) (expr_view u.reach) (map name_view u.ports)
+
 -- a declaration
 abbrev pub declaration_view : CodeDeclaration → Declaration
 declaration_view (Node role name spec) = node (role_view role) (name_view name) (spec_view spec)
-declaration_view (UnitCase name kind page slots reach ports) = unit (name_view name) kind (expr_view page) (expr_view slots) (expr_view reach) (map name_view ports)
+declaration_view (UnitCase u) = unit_view u.value
+
+-- what a grant asks for
+abbrev pub grant_view : GrantExpr → Order
+grant_view g = grant g.id.now (name_view g.agent) (name_view g.node) (expr_view g.base) (expr_view g.size) g.mode
+
+-- what a route asks for
+abbrev pub route_view : RouteExpr → Order
+route_view r = route r.id.now (name_view r.agent) (expr_view r.line) (name_view r.node)
 
 -- what a command asks for
 abbrev pub order_view : CodeOrder → Order
 order_view (Resolve n e m) = resolve (name_view n) (expr_view e) m
 order_view (Lookup n e m) = lookup (name_view n) (expr_view e) m
 order_view (View n m) = view (name_view n) m
-order_view (Grant w agent n base size m) = grant w (name_view agent) (name_view n) (expr_view base) (expr_view size) m
-order_view (Route w agent line n) = route w (name_view agent) (expr_view line) (name_view n)
-order_view (Revoke w) = revoke w
+order_view (Grant g) = grant_view g.value
+order_view (Route r) = route_view r.value
+order_view (Revoke w) = revoke w.now
 order_view Dump = dump
 order_view Split = split
 order_view (Absorb n) = absorb (name_view n)
@@ -112,9 +133,9 @@ order_view (Absorb n) = absorb (name_view n)
 -- one statement
 abbrev pub statement_view : CodeStatement → Statement
 statement_view (DeclCase d) = declares (declaration_view d)
-statement_view (ModuleCase w ps) = heads_module w (map param_view ps)
-statement_view (InstanceCase w xs n) = uses w (map arg_view xs) (name_view n)
-statement_view (LoopCase w from upto) = heads_loop w (expr_view from) (expr_view upto)
+statement_view (ModuleCase w ps) = heads_module w.now (map param_view ps)
+statement_view (InstanceCase w xs n) = uses w.now (map arg_view xs) (name_view n)
+statement_view (LoopCase w from upto) = heads_loop w.now (expr_view from) (expr_view upto)
 statement_view EndCase = ends
 statement_view BeginCase = begins
 statement_view (OrderCase o) = orders (order_view o)
@@ -122,9 +143,9 @@ statement_view (OrderCase o) = orders (order_view o)
 -- one level of a statement of the tree, with the statements in it in their places
 abbrev pub stmt_step : Stmt-F Item → Item
 stmt_step (StmtDecl line d) = declared line (declaration_view d)
-stmt_step (StmtModule line w ps body) = module_of line w (map param_view ps) (items body.items)
-stmt_step (StmtInstance line w xs n) = instance line w (map arg_view xs) (name_view n)
-stmt_step (StmtLoop line w from upto body) = loop line w (expr_view from.value) (expr_view upto.value) (items body.items)
+stmt_step (StmtModule line w ps body) = module_of line w.now (map param_view ps) (items body.items)
+stmt_step (StmtInstance line w xs n) = instance line w.now (map arg_view xs) (name_view n)
+stmt_step (StmtLoop line w from upto body) = loop line w.now (expr_view from.value) (expr_view upto.value) (items body.items)
 
 -- a statement of the tree
 abbrev pub item_view : Stmt → Item
@@ -140,8 +161,8 @@ tree_view s = record { body = items (map item_view s.body.items); commands = map
 
 -- the open blocks: the code keeps the innermost last
 abbrev pub opener_view : CodeOpener → Opener
-opener_view (OpenerModule w ps) = opens_module w (map param_view ps)
-opener_view (OpenerLoop w from upto) = opens_loop w (expr_view from) (expr_view upto)
+opener_view (OpenerModule w ps) = opens_module w.now (map param_view ps)
+opener_view (OpenerLoop w from upto) = opens_loop w.now (expr_view from) (expr_view upto)
 
 -- an open block
 abbrev pub frame_view : CodeFrame → Frame

@@ -10,41 +10,41 @@ ghost use Rattle.dn_parse.specs.Faults.{misplaced_view};
 use crate::statements::Statement;
 use crate::syntax::{Body, Cmd, Expr, Param, Stmt};
 use dn_base::items::Items;
-use dn_base::text::Text;
 use std::alloc::{AllocError, AllocFailed, Global};
+use std::mem;
 
 /// What opens a block.
 #[derive(Drop)]
-pub enum Opener {
+pub enum Opener<'a> {
     Module {
-        title: Text,
-        params: Items<Param>,
+        title: &'a str,
+        params: Items<Param<'a>>,
     },
     Loop {
-        variable: Text,
-        from: Expr,
-        upto: Expr,
+        variable: &'a str,
+        from: Expr<'a>,
+        upto: Expr<'a>,
     },
 }
 
 /// An open block: what opened it with its line, and the statements before it.
 #[derive(Drop)]
-pub struct Frame {
+pub struct Frame<'a> {
     pub line: u32,
-    pub opener: Opener,
-    pub before: Body,
+    pub opener: Opener<'a>,
+    pub before: Body<'a>,
 }
 
 /// What the statements so far came to.
 #[derive(Drop)]
-pub struct Blocks {
+pub struct Blocks<'a> {
     /// The open blocks, the innermost last.
-    pub frames: Vec<Frame>,
+    pub frames: Vec<Frame<'a>>,
     /// The statements in the innermost block.
-    pub body: Body,
+    pub body: Body<'a>,
     /// Whether `begin` was there.
     pub begun: bool,
-    pub commands: Items<Cmd>,
+    pub commands: Items<Cmd<'a>>,
 }
 
 /// Why a statement is not placed.
@@ -84,7 +84,7 @@ impl<T: Drop> From<AllocFailed<T>> for Misplaced {
 const MOST_BLOCKS: usize = 16;
 
 /// No statement.
-pub fn none(alloc: Global) -> Blocks
+pub fn none<'a>(alloc: Global) -> Blocks<'a>
     ensures { blocks_view result ≡ no_blocks_yet }
 {
     Blocks {
@@ -95,49 +95,48 @@ pub fn none(alloc: Global) -> Blocks
     }
 }
 
-/// The blocks with one statement more in the innermost.
-fn with_item(blocks: Blocks, item: Stmt) -> Result<Blocks, Misplaced>
-    ensures { Answers blocks_view misplaced_view result
-        (with_item (blocks_view blocks) (item_view item)) }
+/// Puts one statement more in the innermost block.
+fn put_item<'a>(blocks: &mut Blocks<'a>, item: Stmt<'a>) -> Result<(), Misplaced>
+    ensures { Answers (λ _. blocks_view blocks.new) misplaced_view result
+        (with_item (blocks_view blocks.old) (item_view item.entry)) }
 {
-    let mut blocks = blocks;
     blocks.body.push(item)?;
-    Ok(blocks)
+    Ok(())
 }
 
-/// The blocks with one more open.
-fn with_frame(alloc: Global, blocks: Blocks, line: u32, opener: Opener) -> Result<Blocks, Misplaced>
-    ensures { Answers blocks_view misplaced_view result
-        (with_frame (blocks_view blocks) line (opener_view opener)) }
+/// Opens one more block.
+fn put_frame<'a>(
+    alloc: Global,
+    blocks: &mut Blocks<'a>,
+    line: u32,
+    opener: Opener<'a>,
+) -> Result<(), Misplaced>
+    ensures { Answers (λ _. blocks_view blocks.new) misplaced_view result
+        (with_frame (blocks_view blocks.old) line (opener_view opener.entry)) }
 {
     if blocks.frames.len() >= MOST_BLOCKS {
         return Err(Misplaced::Crowded);
     }
-    let Blocks {
-        frames,
-        body,
-        begun,
-        commands,
-    } = blocks;
-    let mut frames = frames;
-    frames.push(Frame {
+    let before = mem::replace(&mut blocks.body, Vec::new(alloc));
+    blocks.frames.push(Frame {
         line,
         opener,
-        before: body,
+        before,
     })?;
-    Ok(Blocks {
-        frames,
-        body: Vec::new(alloc),
-        begun,
-        commands,
-    })
+    Ok(())
 }
 
 /// A block that is closed, as one statement.
-fn closed_block(alloc: Global, line: u32, opener: Opener, body: Body) -> Result<Stmt, AllocError>
+fn closed_block<'a>(
+    alloc: Global,
+    line: u32,
+    opener: Opener<'a>,
+    body: Body<'a>,
+) -> Result<Stmt<'a>, AllocError>
     ensures { IfOk result (λ s. (before : List Item) → item_view s ≡
-        closed_block (record { line = line; opener = opener_view opener; before = before })
-        (map item_view body.items)) }
+        closed_block (record
+        { line = line; opener = opener_view opener.entry; before = before })
+        (map item_view body.entry.items)) }
 {
     match opener {
         Opener::Module { title, params } => Ok(Stmt::Module {
@@ -160,19 +159,12 @@ fn closed_block(alloc: Global, line: u32, opener: Opener, body: Body) -> Result<
     }
 }
 
-/// The blocks with the innermost closed.
-fn without_frame(alloc: Global, blocks: Blocks) -> Result<Blocks, Misplaced>
-    ensures { Answers blocks_view misplaced_view result
-        (without_frame (blocks_view blocks) (blocks_view blocks).frames) }
+/// Closes the innermost block.
+fn close_frame<'a>(alloc: Global, blocks: &mut Blocks<'a>) -> Result<(), Misplaced>
+    ensures { Answers (λ _. blocks_view blocks.new) misplaced_view result
+        (without_frame (blocks_view blocks.old) (blocks_view blocks.old).frames) }
 {
-    let Blocks {
-        frames,
-        body,
-        begun,
-        commands,
-    } = blocks;
-    let mut frames = frames;
-    let Some(frame) = frames.pop() else {
+    let Some(frame) = blocks.frames.pop() else {
         return Err(Misplaced::Forbidden);
     };
     let Frame {
@@ -180,65 +172,61 @@ fn without_frame(alloc: Global, blocks: Blocks) -> Result<Blocks, Misplaced>
         opener,
         before,
     } = frame;
-    let mut before = before;
-    before.push(closed_block(alloc, line, opener, body)?)?;
-    Ok(Blocks {
-        frames,
-        body: before,
-        begun,
-        commands,
-    })
+    let body = mem::replace(&mut blocks.body, before);
+    let block = closed_block(alloc, line, opener, body)?;
+    blocks.body.push(block)?;
+    Ok(())
 }
 
-/// The blocks with a module open, which stands in no other block.
-fn with_module(
+/// Opens a module, which stands in no other block.
+fn put_module<'a>(
     alloc: Global,
-    blocks: Blocks,
+    blocks: &mut Blocks<'a>,
     line: u32,
-    title: Text,
-    params: Items<Param>,
-) -> Result<Blocks, Misplaced>
-    ensures { Answers blocks_view misplaced_view result
-        (outside_blocks (blocks_view blocks).frames
-        (with_frame (blocks_view blocks) line (opens_module title (map param_view params)))) }
+    title: &'a str,
+    params: Items<Param<'a>>,
+) -> Result<(), Misplaced>
+    ensures { Answers (λ _. blocks_view blocks.new) misplaced_view result
+        (outside_blocks (blocks_view blocks.old).frames
+        (with_frame (blocks_view blocks.old) line
+        (opens_module title.now (map param_view params.entry)))) }
 {
     if !blocks.frames.is_empty() {
         return Err(Misplaced::Forbidden);
     }
-    with_frame(alloc, blocks, line, Opener::Module { title, params })
+    put_frame(alloc, blocks, line, Opener::Module { title, params })
 }
 
-/// The blocks after `begin`, which stands in no block.
-fn with_begin(blocks: Blocks) -> Result<Blocks, Misplaced>
-    ensures { Answers blocks_view misplaced_view result
-        (outside_blocks (blocks_view blocks).frames (with_begin (blocks_view blocks))) }
+/// Begins, which stands in no block.
+fn put_begin<'a>(blocks: &mut Blocks<'a>) -> Result<(), Misplaced>
+    ensures { Answers (λ _. blocks_view blocks.new) misplaced_view result
+        (outside_blocks (blocks_view blocks.old).frames (with_begin (blocks_view blocks.old))) }
 {
     if !blocks.frames.is_empty() {
         return Err(Misplaced::Forbidden);
     }
-    let mut blocks = blocks;
     blocks.begun = true;
-    Ok(blocks)
+    Ok(())
 }
 
 /// A statement before `begin`.
-fn before_begin(
+fn before_begin<'a>(
     alloc: Global,
-    blocks: Blocks,
+    blocks: &mut Blocks<'a>,
     line: u32,
-    statement: Statement,
-) -> Result<Blocks, Misplaced>
-    ensures { Answers blocks_view misplaced_view result
-        (before_begin (blocks_view blocks) line (statement_view statement)) }
+    statement: Statement<'a>,
+) -> Result<(), Misplaced>
+    ensures { Answers (λ _. blocks_view blocks.new) misplaced_view result
+        (before_begin (blocks_view blocks.old) line (statement_view statement.entry)) }
 {
     match statement {
-        Statement::Decl(decl) => with_item(blocks, Stmt::Decl { line, decl }),
-        Statement::Module { title, params } => with_module(alloc, blocks, line, title, params),
+        Statement::Decl(decl) => put_item(blocks, Stmt::Decl { line, decl }),
+        Statement::Module { title, params } => put_module(alloc, blocks, line, title, params),
         Statement::Instance {
             title,
             args,
             prefix,
-        } => with_item(
+        } => put_item(
             blocks,
             Stmt::Instance {
                 line,
@@ -251,7 +239,7 @@ fn before_begin(
             variable,
             from,
             upto,
-        } => with_frame(
+        } => put_frame(
             alloc,
             blocks,
             line,
@@ -261,35 +249,38 @@ fn before_begin(
                 upto,
             },
         ),
-        Statement::End => without_frame(alloc, blocks),
-        Statement::Begin => with_begin(blocks),
+        Statement::End => close_frame(alloc, blocks),
+        Statement::Begin => put_begin(blocks),
         Statement::Order(_) => Err(Misplaced::Forbidden),
     }
 }
 
 /// A statement after `begin`.
-fn after_begin(blocks: Blocks, line: u32, statement: Statement) -> Result<Blocks, Misplaced>
-    ensures { Answers blocks_view misplaced_view result
-        (after_begin (blocks_view blocks) line (statement_view statement)) }
+fn after_begin<'a>(
+    blocks: &mut Blocks<'a>,
+    line: u32,
+    statement: Statement<'a>,
+) -> Result<(), Misplaced>
+    ensures { Answers (λ _. blocks_view blocks.new) misplaced_view result
+        (after_begin (blocks_view blocks.old) line (statement_view statement.entry)) }
 {
     let Statement::Order(order) = statement else {
         return Err(Misplaced::Forbidden);
     };
-    let mut blocks = blocks;
     blocks.commands.push(Cmd { line, order })?;
-    Ok(blocks)
+    Ok(())
 }
 
-/// The blocks with one statement more, which begins in this line.
-pub fn with_statement(
+/// Puts one statement more into the blocks, which begins in this line.
+pub fn put_statement<'a>(
     alloc: Global,
-    blocks: Blocks,
+    blocks: &mut Blocks<'a>,
     line: u32,
-    statement: Statement,
-) -> Result<Blocks, Misplaced>
-    ensures { Answers blocks_view misplaced_view result
-        (step (blocks_view blocks)
-        (record { line = line; statement = statement_view statement })) }
+    statement: Statement<'a>,
+) -> Result<(), Misplaced>
+    ensures { Answers (λ _. blocks_view blocks.new) misplaced_view result
+        (step (blocks_view blocks.old)
+        (record { line = line; statement = statement_view statement.entry })) }
 {
     if blocks.begun {
         after_begin(blocks, line, statement)

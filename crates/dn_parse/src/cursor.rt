@@ -8,10 +8,9 @@ ghost use Rattle.dn_parse.specs.Descent.{after_sign, after_keyword, after_word, 
 ghost use Rattle.dn_base.specs.Answers.{Answers};
 ghost use Rattle.dn_parse.specs.Faults.{halt_view, Reads, IsShorter};
 
-use dn_base::text::Text;
 use dn_token::cursor::Cursor;
 use dn_token::token::{Keyword, Lexeme, Sign, Token};
-use std::alloc::{AllocError, AllocFailed, Global};
+use std::alloc::{AllocError, AllocFailed};
 
 /// Why a part is not read. The number is that of the tokens that are left, the one at which it
 /// stops among them.
@@ -150,15 +149,15 @@ pub fn the_word<'a>(tokens: Cursor<'a>, word: &str) -> Result<Cursor<'a>, Halt>
 
 /// A word that is not reserved.
 #[tactic(auto, unfolding(crate::specs::Descent::word_at))]
-pub fn word<'a>(alloc: Global, tokens: Cursor<'a>) -> Read<'a, Text>
-    ensures gives { Reads (λ x. x) result (word_at (cursor_view tokens.entry)) }
+pub fn word<'a>(tokens: Cursor<'a>) -> Read<'a, &'a str>
+    ensures gives { Reads (λ x. x.now) result (word_at (cursor_view tokens.entry)) }
     ensures shorter { IfOk result (λ p. IsShorter p.1 tokens.entry) }
 {
     let Some((token, rest)) = next(tokens) else {
         return Err(refusal(tokens));
     };
     match token.lexeme {
-        Lexeme::Word(word) => Ok((Text::of(alloc, word)?, rest)),
+        Lexeme::Word(word) => Ok((word, rest)),
         _ => Err(refusal(tokens)),
     }
 }

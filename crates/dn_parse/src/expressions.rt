@@ -9,14 +9,17 @@ ghost use Rattle.dn_parse.specs.Faults.{Reads, ReadsNext, IsShorter};
 
 use crate::cursor::{Halt, Next, Read, after_sign, next, refusal, sign};
 use crate::syntax::Expr;
-use dn_base::text::Text;
 use dn_token::cursor::Cursor;
 use dn_token::token::{Lexeme, Sign};
 use std::alloc::{AllocError, Global};
 
 /// Two members of a sum or of a product, in a vector.
-fn two_members(alloc: Global, first: Expr, second: Expr) -> Result<Vec<Expr>, AllocError>
-    ensures { IfOk result (λ v. v.items ≡ first ∷ second ∷ []) }
+fn two_members<'a>(
+    alloc: Global,
+    first: Expr<'a>,
+    second: Expr<'a>,
+) -> Result<Vec<Expr<'a>>, AllocError>
+    ensures { IfOk result (λ v. v.items ≡ first.entry ∷ second.entry ∷ []) }
 {
     let mut members = Vec::with_capacity(alloc, 2)?;
     members.push(first)?;
@@ -25,17 +28,17 @@ fn two_members(alloc: Global, first: Expr, second: Expr) -> Result<Vec<Expr>, Al
 }
 
 /// The sum of two members or more.
-fn sum_of(members: Vec<Expr>) -> Expr
+fn sum_of<'a>(members: Vec<Expr<'a>>) -> Expr<'a>
     requires { 1 < vec_len members }
-    ensures { expr_view result ≡ summed (map expr_view members.items) }
+    ensures { expr_view result ≡ summed (map expr_view members.entry.items) }
 {
     Expr::Sum(members)
 }
 
 /// The product of two members or more.
-fn product_of(members: Vec<Expr>) -> Expr
+fn product_of<'a>(members: Vec<Expr<'a>>) -> Expr<'a>
     requires { 1 < vec_len members }
-    ensures { expr_view result ≡ multiplied (map expr_view members.items) }
+    ensures { expr_view result ≡ multiplied (map expr_view members.entry.items) }
 {
     Expr::Product(members)
 }
@@ -43,7 +46,7 @@ fn product_of(members: Vec<Expr>) -> Expr
 /// `number | word | "(" expr [ "-" expr ] ")"`, where so many parentheses may still be opened.
 #[cycle(expressions)]
 #[tactic(auto, unfolding(crate::specs::Descent::factor_at))]
-fn factor<'a>(alloc: Global, tokens: Cursor<'a>, depth: u8) -> Read<'a, Expr>
+fn factor<'a>(alloc: Global, tokens: Cursor<'a>, depth: u8) -> Read<'a, Expr<'a>>
     ensures gives { Reads expr_view result (factor_at depth (cursor_view tokens.entry)) }
     ensures shorter { IfOk result (λ p. IsShorter p.1 tokens.entry) }
 {
@@ -52,7 +55,7 @@ fn factor<'a>(alloc: Global, tokens: Cursor<'a>, depth: u8) -> Read<'a, Expr>
     };
     match token.lexeme {
         Lexeme::Number(number) => Ok((Expr::Number(number), rest)),
-        Lexeme::Word(word) => Ok((Expr::Variable(Text::of(alloc, word)?), rest)),
+        Lexeme::Word(word) => Ok((Expr::Variable(word), rest)),
         Lexeme::Sign(Sign::OpenParenthesis) => {
             if depth == 0 {
                 return Err(Halt::Deep(tokens.left()));
@@ -66,7 +69,7 @@ fn factor<'a>(alloc: Global, tokens: Cursor<'a>, depth: u8) -> Read<'a, Expr>
 /// `expr [ "-" expr ] ")"`
 #[cycle(expressions)]
 #[tactic(auto, unfolding(crate::specs::Descent::after_open_at))]
-fn after_open<'a>(alloc: Global, tokens: Cursor<'a>, depth: u8) -> Read<'a, Expr>
+fn after_open<'a>(alloc: Global, tokens: Cursor<'a>, depth: u8) -> Read<'a, Expr<'a>>
     ensures gives { Reads expr_view result (after_open_at depth (cursor_view tokens.entry)) }
     ensures shorter { IfOk result (λ p. IsShorter p.1 tokens.entry) }
 {
@@ -84,7 +87,7 @@ fn after_open<'a>(alloc: Global, tokens: Cursor<'a>, depth: u8) -> Read<'a, Expr
 /// `[ "*" factor ]`
 #[cycle(expressions)]
 #[tactic(auto, unfolding(crate::specs::Descent::next_factor_at))]
-fn next_factor<'a>(alloc: Global, tokens: Cursor<'a>, depth: u8) -> Next<'a, Expr>
+fn next_factor<'a>(alloc: Global, tokens: Cursor<'a>, depth: u8) -> Next<'a, Expr<'a>>
     ensures gives { ReadsNext expr_view result (next_factor_at depth (cursor_view tokens.entry)) }
     ensures shorter { IfOk result (λ o. IfSome o (λ p. IsShorter p.1 tokens.entry)) }
 {
@@ -97,7 +100,7 @@ fn next_factor<'a>(alloc: Global, tokens: Cursor<'a>, depth: u8) -> Next<'a, Exp
 
 /// `factor { "*" factor }`, as one expression
 #[cycle(expressions)]
-fn term<'a>(alloc: Global, tokens: Cursor<'a>, depth: u8) -> Read<'a, Expr>
+fn term<'a>(alloc: Global, tokens: Cursor<'a>, depth: u8) -> Read<'a, Expr<'a>>
     ensures gives { Reads expr_view result (term_at depth (cursor_view tokens.entry)) }
     ensures shorter { IfOk result (λ p. IsShorter p.1 tokens.entry) }
 {
@@ -118,7 +121,7 @@ fn term<'a>(alloc: Global, tokens: Cursor<'a>, depth: u8) -> Read<'a, Expr>
 /// `[ "+" term ]`
 #[cycle(expressions)]
 #[tactic(auto, unfolding(crate::specs::Descent::next_term_at))]
-fn next_term<'a>(alloc: Global, tokens: Cursor<'a>, depth: u8) -> Next<'a, Expr>
+fn next_term<'a>(alloc: Global, tokens: Cursor<'a>, depth: u8) -> Next<'a, Expr<'a>>
     ensures gives { ReadsNext expr_view result (next_term_at depth (cursor_view tokens.entry)) }
     ensures shorter { IfOk result (λ o. IfSome o (λ p. IsShorter p.1 tokens.entry)) }
 {
@@ -131,7 +134,7 @@ fn next_term<'a>(alloc: Global, tokens: Cursor<'a>, depth: u8) -> Next<'a, Expr>
 
 /// `term { "+" term }`, as one expression
 #[cycle(expressions)]
-pub fn expr<'a>(alloc: Global, tokens: Cursor<'a>, depth: u8) -> Read<'a, Expr>
+pub fn expr<'a>(alloc: Global, tokens: Cursor<'a>, depth: u8) -> Read<'a, Expr<'a>>
     ensures gives { Reads expr_view result (expr_at depth (cursor_view tokens.entry)) }
     ensures shorter { IfOk result (λ p. IsShorter p.1 tokens.entry) }
 {

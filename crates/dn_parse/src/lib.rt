@@ -8,6 +8,7 @@
 mod blocks;
 mod cursor;
 mod expressions;
+pub mod few;
 pub mod laws;
 mod nodes;
 pub mod reader;

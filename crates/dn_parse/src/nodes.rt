@@ -2,12 +2,13 @@
 
 ghost use Rattle.std.specs.Prelude.{◌≡◌, ◌<◌, [], ◌∷◌, map, IfOk, IfSome};
 ghost use Rattle.dn_token.specs.Cursor.{cursor_view};
-ghost use Rattle.dn_parse.specs.Views.{maybe_expr_view, part_view, name_view, block_view, dest_view, entry_view, maybe_name_view, spec_view};
+ghost use Rattle.dn_parse.specs.Views.{maybe_expr_view, index_view, part_view, name_view, block_view, dest_view, entry_view, maybe_name_view, spec_view};
 ghost use Rattle.dn_parse.specs.Descent.{index_at, part_at, next_part_at, name_at, upper_at, block_at, next_block_at, blocks_at, addr_at, dest_at, next_dest_at, dests_at, entry_at, next_entry_at, entries_at, accept_at, map_at, over_at, spec_at};
 ghost use Rattle.dn_parse.specs.Faults.{Reads, ReadsNext, IsShorter, IsNoLonger};
 
 use crate::cursor::{Next, Read, after_keyword, after_sign, keyword, sign, word};
 use crate::expressions::expr;
+use crate::few::Few;
 use crate::syntax::{BlockExpr, DestExpr, EntryExpr, Expr, NameExpr, PartExpr, Spec};
 use dn_base::items::Items;
 use dn_token::cursor::Cursor;
@@ -19,8 +20,8 @@ const MOST_OPEN: u8 = 32;
 
 /// `[ "[" expr "]" ]`, where so many parentheses may still be opened
 #[tactic(auto, unfolding(crate::specs::Descent::index_at))]
-fn index<'a>(alloc: Global, tokens: Cursor<'a>, depth: u8) -> Read<'a, Option<Expr>>
-    ensures gives { Reads maybe_expr_view result (index_at depth (cursor_view tokens.entry)) }
+fn index<'a>(alloc: Global, tokens: Cursor<'a>, depth: u8) -> Read<'a, Option<Box<Expr<'a>>>>
+    ensures gives { Reads index_view result (index_at depth (cursor_view tokens.entry)) }
     ensures shorter { IfOk result (λ p. IsNoLonger p.1 tokens.entry) }
 {
     let Some(rest) = after_sign(tokens, Sign::OpenBracket) else {
@@ -28,23 +29,23 @@ fn index<'a>(alloc: Global, tokens: Cursor<'a>, depth: u8) -> Read<'a, Option<Ex
     };
     let (index, rest) = expr(alloc, rest, depth)?;
     let rest = sign(rest, Sign::CloseBracket)?;
-    Ok((Some(index), rest))
+    Ok((Some(Box::new(alloc, index)?), rest))
 }
 
 /// `word [ "[" expr "]" ]`
 #[tactic(auto, unfolding(crate::specs::Descent::part_at))]
-fn part<'a>(alloc: Global, tokens: Cursor<'a>, depth: u8) -> Read<'a, PartExpr>
+fn part<'a>(alloc: Global, tokens: Cursor<'a>, depth: u8) -> Read<'a, PartExpr<'a>>
     ensures gives { Reads part_view result (part_at depth (cursor_view tokens.entry)) }
     ensures shorter { IfOk result (λ p. IsShorter p.1 tokens.entry) }
 {
-    let (title, rest) = word(alloc, tokens)?;
+    let (title, rest) = word(tokens)?;
     let (index, rest) = index(alloc, rest, depth)?;
     Ok((PartExpr { title, index }, rest))
 }
 
 /// `[ "." part ]`
 #[tactic(auto, unfolding(crate::specs::Descent::next_part_at))]
-fn next_part<'a>(alloc: Global, tokens: Cursor<'a>, depth: u8) -> Next<'a, PartExpr>
+fn next_part<'a>(alloc: Global, tokens: Cursor<'a>, depth: u8) -> Next<'a, PartExpr<'a>>
     ensures gives { ReadsNext part_view result (next_part_at depth (cursor_view tokens.entry)) }
     ensures shorter { IfOk result (λ o. IfSome o (λ p. IsShorter p.1 tokens.entry)) }
 {
@@ -55,25 +56,16 @@ fn next_part<'a>(alloc: Global, tokens: Cursor<'a>, depth: u8) -> Next<'a, PartE
     Ok(Some((part, rest)))
 }
 
-/// The name of a single part, with room for that part alone.
-fn name_of_one(alloc: Global, part: PartExpr) -> Result<NameExpr, AllocError>
-    ensures { IfOk result (λ name. name ≡ part ∷ []) }
-{
-    let mut parts = Items::from_vec(Vec::with_capacity(alloc, 1)?);
-    parts.push(part)?;
-    Ok(parts)
-}
-
 /// `part { "." part }`
-pub fn name<'a>(alloc: Global, tokens: Cursor<'a>, depth: u8) -> Read<'a, NameExpr>
+pub fn name<'a>(alloc: Global, tokens: Cursor<'a>, depth: u8) -> Read<'a, NameExpr<'a>>
     ensures gives { Reads name_view result (name_at depth (cursor_view tokens.entry)) }
     ensures shorter { IfOk result (λ p. IsShorter p.1 tokens.entry) }
 {
     let (first, after) = part(alloc, tokens, depth)?;
-    let mut parts = name_of_one(alloc, first)?;
+    let mut parts = Few::of(first);
     let mut rest = after;
     'parts: while let Some((part, after)) = next_part(alloc, rest, depth)? {
-        parts.push(part)?;
+        parts = parts.with(alloc, part)?;
         rest = after;
     }
     Ok((parts, rest))
@@ -81,7 +73,7 @@ pub fn name<'a>(alloc: Global, tokens: Cursor<'a>, depth: u8) -> Read<'a, NameEx
 
 /// `[ "-" expr ]`
 #[tactic(auto, unfolding(crate::specs::Descent::upper_at))]
-fn upper<'a>(alloc: Global, tokens: Cursor<'a>) -> Read<'a, Option<Expr>>
+fn upper<'a>(alloc: Global, tokens: Cursor<'a>) -> Read<'a, Option<Expr<'a>>>
     ensures gives { Reads maybe_expr_view result (upper_at (cursor_view tokens.entry)) }
     ensures shorter { IfOk result (λ p. IsNoLonger p.1 tokens.entry) }
 {
@@ -94,7 +86,7 @@ fn upper<'a>(alloc: Global, tokens: Cursor<'a>) -> Read<'a, Option<Expr>>
 
 /// `expr [ "-" expr ]`
 #[tactic(auto, unfolding(crate::specs::Descent::block_at))]
-fn block<'a>(alloc: Global, tokens: Cursor<'a>) -> Read<'a, BlockExpr>
+fn block<'a>(alloc: Global, tokens: Cursor<'a>) -> Read<'a, BlockExpr<'a>>
     ensures gives { Reads block_view result (block_at (cursor_view tokens.entry)) }
     ensures shorter { IfOk result (λ p. IsShorter p.1 tokens.entry) }
 {
@@ -105,7 +97,7 @@ fn block<'a>(alloc: Global, tokens: Cursor<'a>) -> Read<'a, BlockExpr>
 
 /// `[ "," block ]`
 #[tactic(auto, unfolding(crate::specs::Descent::next_block_at))]
-fn next_block<'a>(alloc: Global, tokens: Cursor<'a>) -> Next<'a, BlockExpr>
+fn next_block<'a>(alloc: Global, tokens: Cursor<'a>) -> Next<'a, BlockExpr<'a>>
     ensures gives { ReadsNext block_view result (next_block_at (cursor_view tokens.entry)) }
     ensures shorter { IfOk result (λ o. IfSome o (λ p. IsShorter p.1 tokens.entry)) }
 {
@@ -117,7 +109,7 @@ fn next_block<'a>(alloc: Global, tokens: Cursor<'a>) -> Next<'a, BlockExpr>
 }
 
 /// `block { "," block }`
-fn blocks<'a>(alloc: Global, tokens: Cursor<'a>) -> Read<'a, Items<BlockExpr>>
+fn blocks<'a>(alloc: Global, tokens: Cursor<'a>) -> Read<'a, Items<BlockExpr<'a>>>
     ensures gives { Reads (map block_view) result (blocks_at (cursor_view tokens.entry)) }
     ensures shorter { IfOk result (λ p. IsShorter p.1 tokens.entry) }
 {
@@ -134,7 +126,7 @@ fn blocks<'a>(alloc: Global, tokens: Cursor<'a>) -> Read<'a, Items<BlockExpr>>
 
 /// `[ "at" expr ]`
 #[tactic(auto, unfolding(crate::specs::Descent::addr_at))]
-fn addr<'a>(alloc: Global, tokens: Cursor<'a>) -> Read<'a, Option<Expr>>
+fn addr<'a>(alloc: Global, tokens: Cursor<'a>) -> Read<'a, Option<Expr<'a>>>
     ensures gives { Reads maybe_expr_view result (addr_at (cursor_view tokens.entry)) }
     ensures shorter { IfOk result (λ p. IsNoLonger p.1 tokens.entry) }
 {
@@ -147,7 +139,7 @@ fn addr<'a>(alloc: Global, tokens: Cursor<'a>) -> Read<'a, Option<Expr>>
 
 /// `name [ "at" expr ]`
 #[tactic(auto, unfolding(crate::specs::Descent::dest_at))]
-fn dest<'a>(alloc: Global, tokens: Cursor<'a>) -> Read<'a, DestExpr>
+fn dest<'a>(alloc: Global, tokens: Cursor<'a>) -> Read<'a, DestExpr<'a>>
     ensures gives { Reads dest_view result (dest_at (cursor_view tokens.entry)) }
     ensures shorter { IfOk result (λ p. IsShorter p.1 tokens.entry) }
 {
@@ -158,7 +150,7 @@ fn dest<'a>(alloc: Global, tokens: Cursor<'a>) -> Read<'a, DestExpr>
 
 /// `[ "and" dest ]`
 #[tactic(auto, unfolding(crate::specs::Descent::next_dest_at))]
-fn next_dest<'a>(alloc: Global, tokens: Cursor<'a>) -> Next<'a, DestExpr>
+fn next_dest<'a>(alloc: Global, tokens: Cursor<'a>) -> Next<'a, DestExpr<'a>>
     ensures gives { ReadsNext dest_view result (next_dest_at (cursor_view tokens.entry)) }
     ensures shorter { IfOk result (λ o. IfSome o (λ p. IsShorter p.1 tokens.entry)) }
 {
@@ -170,7 +162,7 @@ fn next_dest<'a>(alloc: Global, tokens: Cursor<'a>) -> Next<'a, DestExpr>
 }
 
 /// `dest { "and" dest }`, at most eight: a ninth is left where it stands.
-fn dests<'a>(alloc: Global, tokens: Cursor<'a>) -> Read<'a, Items<DestExpr>>
+fn dests<'a>(alloc: Global, tokens: Cursor<'a>) -> Read<'a, Items<DestExpr<'a>>>
     ensures gives { Reads (map dest_view) result (dests_at (cursor_view tokens.entry)) }
     ensures shorter { IfOk result (λ p. IsShorter p.1 tokens.entry) }
 {
@@ -193,7 +185,7 @@ fn dests<'a>(alloc: Global, tokens: Cursor<'a>) -> Read<'a, Items<DestExpr>>
 
 /// `block "to" dest { "and" dest }`
 #[tactic(auto, unfolding(crate::specs::Descent::entry_at))]
-fn entry<'a>(alloc: Global, tokens: Cursor<'a>) -> Read<'a, EntryExpr>
+fn entry<'a>(alloc: Global, tokens: Cursor<'a>) -> Read<'a, EntryExpr<'a>>
     ensures gives { Reads entry_view result (entry_at (cursor_view tokens.entry)) }
     ensures shorter { IfOk result (λ p. IsShorter p.1 tokens.entry) }
 {
@@ -205,7 +197,7 @@ fn entry<'a>(alloc: Global, tokens: Cursor<'a>) -> Read<'a, EntryExpr>
 
 /// `[ "," entry ]`
 #[tactic(auto, unfolding(crate::specs::Descent::next_entry_at))]
-fn next_entry<'a>(alloc: Global, tokens: Cursor<'a>) -> Next<'a, EntryExpr>
+fn next_entry<'a>(alloc: Global, tokens: Cursor<'a>) -> Next<'a, EntryExpr<'a>>
     ensures gives { ReadsNext entry_view result (next_entry_at (cursor_view tokens.entry)) }
     ensures shorter { IfOk result (λ o. IfSome o (λ p. IsShorter p.1 tokens.entry)) }
 {
@@ -217,7 +209,7 @@ fn next_entry<'a>(alloc: Global, tokens: Cursor<'a>) -> Next<'a, EntryExpr>
 }
 
 /// `entry { "," entry }`
-fn entries<'a>(alloc: Global, tokens: Cursor<'a>) -> Read<'a, Items<EntryExpr>>
+fn entries<'a>(alloc: Global, tokens: Cursor<'a>) -> Read<'a, Items<EntryExpr<'a>>>
     ensures gives { Reads (map entry_view) result (entries_at (cursor_view tokens.entry)) }
     ensures shorter { IfOk result (λ p. IsShorter p.1 tokens.entry) }
 {
@@ -234,7 +226,7 @@ fn entries<'a>(alloc: Global, tokens: Cursor<'a>) -> Read<'a, Items<EntryExpr>>
 
 /// `[ "accept" "[" block { "," block } "]" ]`
 #[tactic(auto, unfolding(crate::specs::Descent::accept_at))]
-fn accept<'a>(alloc: Global, tokens: Cursor<'a>) -> Read<'a, Items<BlockExpr>>
+fn accept<'a>(alloc: Global, tokens: Cursor<'a>) -> Read<'a, Items<BlockExpr<'a>>>
     ensures gives { Reads (map block_view) result (accept_at (cursor_view tokens.entry)) }
 {
     let Some(rest) = after_keyword(tokens, Keyword::Accept) else {
@@ -248,7 +240,7 @@ fn accept<'a>(alloc: Global, tokens: Cursor<'a>) -> Read<'a, Items<BlockExpr>>
 
 /// `[ "map" "[" entry { "," entry } "]" ]`
 #[tactic(auto, unfolding(crate::specs::Descent::map_at))]
-fn map<'a>(alloc: Global, tokens: Cursor<'a>) -> Read<'a, Items<EntryExpr>>
+fn map<'a>(alloc: Global, tokens: Cursor<'a>) -> Read<'a, Items<EntryExpr<'a>>>
     ensures gives { Reads (map entry_view) result (map_at (cursor_view tokens.entry)) }
 {
     let Some(rest) = after_keyword(tokens, Keyword::Map) else {
@@ -262,7 +254,7 @@ fn map<'a>(alloc: Global, tokens: Cursor<'a>) -> Read<'a, Items<EntryExpr>>
 
 /// `[ "over" name ]`
 #[tactic(auto, unfolding(crate::specs::Descent::over_at))]
-fn over<'a>(alloc: Global, tokens: Cursor<'a>) -> Read<'a, Option<NameExpr>>
+fn over<'a>(alloc: Global, tokens: Cursor<'a>) -> Read<'a, Option<NameExpr<'a>>>
     ensures gives { Reads maybe_name_view result (over_at (cursor_view tokens.entry)) }
 {
     let Some(rest) = after_keyword(tokens, Keyword::Over) else {
@@ -272,18 +264,37 @@ fn over<'a>(alloc: Global, tokens: Cursor<'a>) -> Read<'a, Option<NameExpr>>
     Ok((Some(name), rest))
 }
 
-/// `[ accept ] [ map ] [ over ]`
-#[tactic(auto, unfolding(crate::specs::Descent::spec_at))]
-pub fn spec<'a>(alloc: Global, tokens: Cursor<'a>) -> Read<'a, Spec>
-    ensures gives { Reads spec_view result (spec_at (cursor_view tokens.entry)) }
+/// The parts of a node, where there is one.
+fn some_parts<'a>(
+    alloc: Global,
+    accepts: Items<BlockExpr<'a>>,
+    entries: Items<EntryExpr<'a>>,
+    over: Option<NameExpr<'a>>,
+) -> Result<Option<Box<Spec<'a>>>, AllocError>
+    ensures { IfOk result (λ s. spec_view s ≡ record {
+      accepts = map block_view accepts.entry;
+      entries = map entry_view entries.entry;
+      over = maybe_name_view over.entry;
+    }) }
 {
-    let (accepts, rest) = accept(alloc, tokens)?;
-    let (entries, rest) = map(alloc, rest)?;
-    let (over, rest) = over(alloc, rest)?;
+    if accepts.as_slice().is_empty() && entries.as_slice().is_empty() && over.is_none() {
+        return Ok(None);
+    }
     let spec = Spec {
         accepts,
         entries,
         over,
     };
-    Ok((spec, rest))
+    Ok(Some(Box::new(alloc, spec)?))
+}
+
+/// `[ accept ] [ map ] [ over ]`
+#[tactic(auto, unfolding(crate::specs::Descent::spec_at))]
+pub fn spec<'a>(alloc: Global, tokens: Cursor<'a>) -> Read<'a, Option<Box<Spec<'a>>>>
+    ensures gives { Reads spec_view result (spec_at (cursor_view tokens.entry)) }
+{
+    let (accepts, rest) = accept(alloc, tokens)?;
+    let (entries, rest) = map(alloc, rest)?;
+    let (over, rest) = over(alloc, rest)?;
+    Ok((some_parts(alloc, accepts, entries, over)?, rest))
 }

@@ -10,7 +10,7 @@ ghost use Rattle.dn_parse.specs.Views.{statement_view, blocks_view, tree_view};
 ghost use Rattle.dn_base.specs.Answers.{Answers};
 ghost use Rattle.dn_parse.specs.Faults.{parse_fault_view, halt_fault, misplaced_fault, trouble_view, Reads, IsShorter};
 
-use crate::blocks::{Blocks, Misplaced, none, with_statement};
+use crate::blocks::{Blocks, Misplaced, none, put_statement};
 use crate::cursor::{Halt, Read, sign};
 use crate::statements::{Statement, read_statement};
 use crate::syntax::Tree;
@@ -46,7 +46,7 @@ pub enum ParseFault {
 const MAX_TEXT: usize = 4_194_304;
 
 /// Reads a text.
-pub fn read(alloc: Global, text: &[u8]) -> Result<Tree, ParseFault>
+pub fn read<'a>(alloc: Global, text: &'a [u8]) -> Result<Tree<'a>, ParseFault>
     ensures { Answers tree_view parse_fault_view result (text_reading text.now) }
 {
     if text.len() > MAX_TEXT {
@@ -117,7 +117,7 @@ fn fault_of<'a>(halt: Halt, tokens: Cursor<'a>, last: u32) -> ParseFault
 
 /// A statement and its `;`.
 #[tactic(auto, unfolding(crate::specs::Descent::whole_statement_at))]
-fn whole_statement<'a>(alloc: Global, tokens: Cursor<'a>) -> Read<'a, Statement>
+fn whole_statement<'a>(alloc: Global, tokens: Cursor<'a>) -> Read<'a, Statement<'a>>
     ensures gives { Reads statement_view result (whole_statement_at (cursor_view tokens.entry)) }
     ensures shorter { IfOk result (λ p. IsShorter p.1 tokens.entry) }
 {
@@ -152,33 +152,33 @@ fn first_line<'a>(tokens: Cursor<'a>) -> Option<u32>
     Some(token.line)
 }
 
-/// The blocks with the next statement, which begins in this line, and the tokens after it.
-fn next_place<'a>(
+/// Puts the next statement into the blocks, which begins in this line, and gives the tokens after it.
+fn put_next<'a>(
     alloc: Global,
-    blocks: Blocks,
+    blocks: &mut Blocks<'a>,
     rest: Cursor<'a>,
     line: u32,
-) -> Result<(Blocks, Cursor<'a>), Trouble>
+) -> Result<Cursor<'a>, Trouble>
     requires { first_line (cursor_view rest) ≡ Some line }
-    ensures ok { IfOk result (λ p. (last : ℕ) (all : List SpecToken) →
-        judge last all (blocks_view blocks) (cursor_view rest.entry)
-        ≡ judge last all (blocks_view p.0) (cursor_view p.1)) }
-    ensures shorter { IfOk result (λ p. IsShorter p.1 rest.entry) }
+    ensures ok { IfOk result (λ after. (last : ℕ) (all : List SpecToken) →
+        judge last all (blocks_view blocks.old) (cursor_view rest.entry)
+        ≡ judge last all (blocks_view blocks.new) (cursor_view after)) }
+    ensures shorter { IfOk result (λ after. IsShorter after rest.entry) }
     ensures err { IfErr result (λ e. (last : ℕ) (all : List SpecToken) →
         IfSome (trouble_view e last all)
-        (λ f. judge last all (blocks_view blocks) (cursor_view rest.entry) ≡ Err f)) }
+        (λ f. judge last all (blocks_view blocks.old) (cursor_view rest.entry) ≡ Err f)) }
 {
     match whole_statement(alloc, rest) {
         Err(halt) => Err(Trouble::Halted(halt)),
-        Ok((statement, after)) => match with_statement(alloc, blocks, line, statement) {
-            Ok(blocks) => Ok((blocks, after)),
+        Ok((statement, after)) => match put_statement(alloc, blocks, line, statement) {
+            Ok(()) => Ok(after),
             Err(misplaced) => Err(Trouble::Misplaced(misplaced, line)),
         },
     }
 }
 
 /// The blocks that the tokens come to, up to their end.
-fn all_placed<'a>(alloc: Global, tokens: Cursor<'a>) -> Result<Blocks, Trouble>
+fn all_placed<'a>(alloc: Global, tokens: Cursor<'a>) -> Result<Blocks<'a>, Trouble>
     ensures ok { IfOk result (λ b. (last : ℕ) (all : List SpecToken) →
         judge last all no_blocks_yet (cursor_view tokens.entry)
         ≡ at_stop whole last all (blocks_view b)) }
@@ -186,24 +186,18 @@ fn all_placed<'a>(alloc: Global, tokens: Cursor<'a>) -> Result<Blocks, Trouble>
         IfSome (trouble_view e last all)
         (λ f. judge last all no_blocks_yet (cursor_view tokens.entry) ≡ Err f)) }
 {
-    let Some(line) = first_line(tokens) else {
-        return Ok(none(alloc));
-    };
-    let (first, after) = next_place(alloc, none(alloc), tokens, line)?;
-    let mut blocks = first;
-    let mut rest = after;
+    let mut blocks = none(alloc);
+    let mut rest = tokens;
     'statements: while let Some(line) = first_line(rest) {
-        let (more, after) = next_place(alloc, blocks, rest, line)?;
-        blocks = more;
-        rest = after;
+        rest = put_next(alloc, &mut blocks, rest, line)?;
     }
     Ok(blocks)
 }
 
 /// The tree, where no block is open at the end.
-fn finished_tree(blocks: Blocks, last: u32) -> Result<Tree, ParseFault>
+fn finished_tree<'a>(blocks: Blocks<'a>, last: u32) -> Result<Tree<'a>, ParseFault>
     ensures { (all : List SpecToken) →
-        Answers tree_view parse_fault_view result (at_stop whole last all (blocks_view blocks)) }
+        Answers tree_view parse_fault_view result (at_stop whole last all (blocks_view blocks.entry)) }
 {
     if !blocks.frames.is_empty() {
         return Err(ParseFault::Block { line: last });
@@ -215,7 +209,7 @@ fn finished_tree(blocks: Blocks, last: u32) -> Result<Tree, ParseFault>
 }
 
 /// The tree of a list of tokens, or its first fault; the last line is that of the end of the text.
-fn statements<'a>(alloc: Global, tokens: Cursor<'a>, last: u32) -> Result<Tree, ParseFault>
+fn statements<'a>(alloc: Global, tokens: Cursor<'a>, last: u32) -> Result<Tree<'a>, ParseFault>
     ensures { Answers tree_view parse_fault_view result
         (judge last (cursor_view tokens.entry) no_blocks_yet (cursor_view tokens.entry)) }
 {

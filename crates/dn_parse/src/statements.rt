@@ -11,9 +11,10 @@ use crate::cursor::{
 };
 use crate::expressions::expr;
 use crate::nodes::{name, spec};
-use crate::syntax::{Arg, Decl, DeclRole, Expr, Mode, NameExpr, Order, Param};
+use crate::syntax::{
+    Arg, Decl, DeclRole, Expr, GrantExpr, Mode, NameExpr, Order, Param, RouteExpr, UnitExpr,
+};
 use dn_base::items::Items;
-use dn_base::text::Text;
 use dn_token::cursor::Cursor;
 use dn_token::keyword::spelling;
 use dn_token::token::{Keyword, Lexeme, Sign};
@@ -27,60 +28,60 @@ const MOST_INSIDE: u8 = 31;
 
 /// A statement as it stands between two `;`: a module or a loop is its head.
 #[derive(Drop)]
-pub enum Statement {
-    Decl(Decl),
+pub enum Statement<'a> {
+    Decl(Decl<'a>),
     Module {
-        title: Text,
-        params: Items<Param>,
+        title: &'a str,
+        params: Items<Param<'a>>,
     },
     Instance {
-        title: Text,
-        args: Items<Arg>,
-        prefix: NameExpr,
+        title: &'a str,
+        args: Items<Arg<'a>>,
+        prefix: NameExpr<'a>,
     },
     Loop {
-        variable: Text,
-        from: Expr,
-        upto: Expr,
+        variable: &'a str,
+        from: Expr<'a>,
+        upto: Expr<'a>,
     },
     End,
     Begin,
-    Order(Order),
+    Order(Order<'a>),
 }
 
 /// A word of either sort.
 #[tactic(auto, unfolding(crate::specs::Descent::any_word_at))]
-fn any_word<'a>(alloc: Global, tokens: Cursor<'a>) -> Read<'a, Text>
-    ensures gives { Reads (λ x. x) result (any_word_at (cursor_view tokens.entry)) }
+fn any_word<'a>(tokens: Cursor<'a>) -> Read<'a, &'a str>
+    ensures gives { Reads (λ x. x.now) result (any_word_at (cursor_view tokens.entry)) }
 {
     let Some((token, rest)) = next(tokens) else {
         return Err(refusal(tokens));
     };
     match token.lexeme {
-        Lexeme::Word(word) => Ok((Text::of(alloc, word)?, rest)),
-        Lexeme::Keyword(word) => Ok((Text::of(alloc, spelling(word))?, rest)),
+        Lexeme::Word(word) => Ok((word, rest)),
+        Lexeme::Keyword(word) => Ok((spelling(word), rest)),
         _ => Err(refusal(tokens)),
     }
 }
 
 /// `"num" word | "node" word`
 #[tactic(auto, unfolding(crate::specs::Descent::param_at))]
-fn param<'a>(alloc: Global, tokens: Cursor<'a>) -> Read<'a, Param>
+fn param<'a>(alloc: Global, tokens: Cursor<'a>) -> Read<'a, Param<'a>>
     ensures gives { Reads param_view result (param_at (cursor_view tokens.entry)) }
     ensures shorter { IfOk result (λ p. IsShorter p.1 tokens.entry) }
 {
     let Some(rest) = after_keyword(tokens, Keyword::Num) else {
         let rest = keyword(tokens, Keyword::Node)?;
-        let (name, rest) = word(alloc, rest)?;
+        let (name, rest) = word(rest)?;
         return Ok((Param::Node(name), rest));
     };
-    let (name, rest) = word(alloc, rest)?;
+    let (name, rest) = word(rest)?;
     Ok((Param::Num(name), rest))
 }
 
 /// `[ "," param ]`
 #[tactic(auto, unfolding(crate::specs::Descent::next_param_at))]
-fn next_param<'a>(alloc: Global, tokens: Cursor<'a>) -> Next<'a, Param>
+fn next_param<'a>(alloc: Global, tokens: Cursor<'a>) -> Next<'a, Param<'a>>
     ensures gives { ReadsNext param_view result (next_param_at (cursor_view tokens.entry)) }
     ensures shorter { IfOk result (λ o. IfSome o (λ p. IsShorter p.1 tokens.entry)) }
 {
@@ -92,7 +93,7 @@ fn next_param<'a>(alloc: Global, tokens: Cursor<'a>) -> Next<'a, Param>
 }
 
 /// `param { "," param }`
-fn some_params<'a>(alloc: Global, tokens: Cursor<'a>) -> Read<'a, Items<Param>>
+fn some_params<'a>(alloc: Global, tokens: Cursor<'a>) -> Read<'a, Items<Param<'a>>>
     ensures gives { Reads (map param_view) result (params_at (cursor_view tokens.entry)) }
     ensures shorter { IfOk result (λ p. IsShorter p.1 tokens.entry) }
 {
@@ -109,7 +110,7 @@ fn some_params<'a>(alloc: Global, tokens: Cursor<'a>) -> Read<'a, Items<Param>>
 
 /// `[ param { "," param } ] ")"`
 #[tactic(auto, unfolding(crate::specs::Descent::closed_params_at))]
-fn params<'a>(alloc: Global, tokens: Cursor<'a>) -> Read<'a, Items<Param>>
+fn params<'a>(alloc: Global, tokens: Cursor<'a>) -> Read<'a, Items<Param<'a>>>
     ensures gives { Reads (map param_view) result (closed_params_at (cursor_view tokens.entry)) }
 {
     if let Some(rest) = after_sign(tokens, Sign::CloseParenthesis) {
@@ -122,7 +123,7 @@ fn params<'a>(alloc: Global, tokens: Cursor<'a>) -> Read<'a, Items<Param>>
 
 /// `expr | "node" name`
 #[tactic(auto, unfolding(crate::specs::Descent::arg_at))]
-fn arg<'a>(alloc: Global, tokens: Cursor<'a>) -> Read<'a, Arg>
+fn arg<'a>(alloc: Global, tokens: Cursor<'a>) -> Read<'a, Arg<'a>>
     ensures gives { Reads arg_view result (arg_at (cursor_view tokens.entry)) }
     ensures shorter { IfOk result (λ p. IsShorter p.1 tokens.entry) }
 {
@@ -136,7 +137,7 @@ fn arg<'a>(alloc: Global, tokens: Cursor<'a>) -> Read<'a, Arg>
 
 /// `[ "," arg ]`
 #[tactic(auto, unfolding(crate::specs::Descent::next_arg_at))]
-fn next_arg<'a>(alloc: Global, tokens: Cursor<'a>) -> Next<'a, Arg>
+fn next_arg<'a>(alloc: Global, tokens: Cursor<'a>) -> Next<'a, Arg<'a>>
     ensures gives { ReadsNext arg_view result (next_arg_at (cursor_view tokens.entry)) }
     ensures shorter { IfOk result (λ o. IfSome o (λ p. IsShorter p.1 tokens.entry)) }
 {
@@ -148,7 +149,7 @@ fn next_arg<'a>(alloc: Global, tokens: Cursor<'a>) -> Next<'a, Arg>
 }
 
 /// `arg { "," arg }`
-fn some_args<'a>(alloc: Global, tokens: Cursor<'a>) -> Read<'a, Items<Arg>>
+fn some_args<'a>(alloc: Global, tokens: Cursor<'a>) -> Read<'a, Items<Arg<'a>>>
     ensures gives { Reads (map arg_view) result (args_at (cursor_view tokens.entry)) }
     ensures shorter { IfOk result (λ p. IsShorter p.1 tokens.entry) }
 {
@@ -165,7 +166,7 @@ fn some_args<'a>(alloc: Global, tokens: Cursor<'a>) -> Read<'a, Items<Arg>>
 
 /// `[ arg { "," arg } ] ")"`
 #[tactic(auto, unfolding(crate::specs::Descent::closed_args_at))]
-fn args<'a>(alloc: Global, tokens: Cursor<'a>) -> Read<'a, Items<Arg>>
+fn args<'a>(alloc: Global, tokens: Cursor<'a>) -> Read<'a, Items<Arg<'a>>>
     ensures gives { Reads (map arg_view) result (closed_args_at (cursor_view tokens.entry)) }
 {
     if let Some(rest) = after_sign(tokens, Sign::CloseParenthesis) {
@@ -178,7 +179,7 @@ fn args<'a>(alloc: Global, tokens: Cursor<'a>) -> Read<'a, Items<Arg>>
 
 /// `[ "," name ]`
 #[tactic(auto, unfolding(crate::specs::Descent::next_port_at))]
-fn next_port<'a>(alloc: Global, tokens: Cursor<'a>) -> Next<'a, NameExpr>
+fn next_port<'a>(alloc: Global, tokens: Cursor<'a>) -> Next<'a, NameExpr<'a>>
     ensures gives { ReadsNext name_view result (next_port_at (cursor_view tokens.entry)) }
     ensures shorter { IfOk result (λ o. IfSome o (λ p. IsShorter p.1 tokens.entry)) }
 {
@@ -190,7 +191,7 @@ fn next_port<'a>(alloc: Global, tokens: Cursor<'a>) -> Next<'a, NameExpr>
 }
 
 /// `name { "," name }`, at most eight: a ninth is left where it stands.
-fn ports<'a>(alloc: Global, tokens: Cursor<'a>) -> Read<'a, Items<NameExpr>>
+fn ports<'a>(alloc: Global, tokens: Cursor<'a>) -> Read<'a, Items<NameExpr<'a>>>
     ensures gives { Reads (map name_view) result (ports_at (cursor_view tokens.entry)) }
     ensures shorter { IfOk result (λ p. IsShorter p.1 tokens.entry) }
 {
@@ -213,7 +214,7 @@ fn ports<'a>(alloc: Global, tokens: Cursor<'a>) -> Read<'a, Items<NameExpr>>
 
 /// `name "is" spec`
 #[tactic(auto, unfolding(crate::specs::Descent::node_at))]
-fn node<'a>(alloc: Global, tokens: Cursor<'a>, role: DeclRole) -> Read<'a, Decl>
+fn node<'a>(alloc: Global, tokens: Cursor<'a>, role: DeclRole) -> Read<'a, Decl<'a>>
     ensures gives { Reads declaration_view result
         (node_at (role_view role) (cursor_view tokens.entry)) }
 {
@@ -225,7 +226,7 @@ fn node<'a>(alloc: Global, tokens: Cursor<'a>, role: DeclRole) -> Read<'a, Decl>
 
 /// A reserved word, and then an expression.
 #[tactic(auto, unfolding(crate::specs::Descent::measure_at))]
-fn measure<'a>(alloc: Global, tokens: Cursor<'a>, word: Keyword) -> Read<'a, Expr>
+fn measure<'a>(alloc: Global, tokens: Cursor<'a>, word: Keyword) -> Read<'a, Expr<'a>>
     ensures gives { Reads expr_view result (measure_at word (cursor_view tokens.entry)) }
 {
     let rest = keyword(tokens, word)?;
@@ -234,18 +235,18 @@ fn measure<'a>(alloc: Global, tokens: Cursor<'a>, word: Keyword) -> Read<'a, Exp
 
 /// `name "kind" any "page" expr "slots" expr "reach" expr "to" name { "," name }`
 #[tactic(auto, unfolding(crate::specs::Descent::unit_at))]
-fn unit<'a>(alloc: Global, tokens: Cursor<'a>) -> Read<'a, Decl>
+fn unit<'a>(alloc: Global, tokens: Cursor<'a>) -> Read<'a, Decl<'a>>
     ensures gives { Reads declaration_view result (unit_at (cursor_view tokens.entry)) }
 {
     let (name, rest) = name(alloc, tokens, MOST_OPEN)?;
     let rest = keyword(rest, Keyword::Kind)?;
-    let (kind, rest) = any_word(alloc, rest)?;
+    let (kind, rest) = any_word(rest)?;
     let (page, rest) = measure(alloc, rest, Keyword::Page)?;
     let (slots, rest) = measure(alloc, rest, Keyword::Slots)?;
     let (reach, rest) = measure(alloc, rest, Keyword::Reach)?;
     let rest = keyword(rest, Keyword::To)?;
     let (ports, rest) = ports(alloc, rest)?;
-    let unit = Decl::Unit {
+    let unit = UnitExpr {
         name,
         kind,
         page,
@@ -253,15 +254,15 @@ fn unit<'a>(alloc: Global, tokens: Cursor<'a>) -> Read<'a, Decl>
         reach,
         ports,
     };
-    Ok((unit, rest))
+    Ok((Decl::Unit(Box::new(alloc, unit)?), rest))
 }
 
 /// `word "(" [ param { "," param } ] ")"`
 #[tactic(auto, unfolding(crate::specs::Descent::module_at))]
-fn module<'a>(alloc: Global, tokens: Cursor<'a>) -> Read<'a, Statement>
+fn module<'a>(alloc: Global, tokens: Cursor<'a>) -> Read<'a, Statement<'a>>
     ensures gives { Reads statement_view result (module_at (cursor_view tokens.entry)) }
 {
-    let (title, rest) = word(alloc, tokens)?;
+    let (title, rest) = word(tokens)?;
     let rest = sign(rest, Sign::OpenParenthesis)?;
     let (params, rest) = params(alloc, rest)?;
     Ok((Statement::Module { title, params }, rest))
@@ -269,10 +270,10 @@ fn module<'a>(alloc: Global, tokens: Cursor<'a>) -> Read<'a, Statement>
 
 /// `word "(" [ arg { "," arg } ] ")" "as" name`
 #[tactic(auto, unfolding(crate::specs::Descent::use_at))]
-fn instance<'a>(alloc: Global, tokens: Cursor<'a>) -> Read<'a, Statement>
+fn instance<'a>(alloc: Global, tokens: Cursor<'a>) -> Read<'a, Statement<'a>>
     ensures gives { Reads statement_view result (use_at (cursor_view tokens.entry)) }
 {
-    let (title, rest) = word(alloc, tokens)?;
+    let (title, rest) = word(tokens)?;
     let rest = sign(rest, Sign::OpenParenthesis)?;
     let (args, rest) = args(alloc, rest)?;
     let rest = keyword(rest, Keyword::As)?;
@@ -287,10 +288,10 @@ fn instance<'a>(alloc: Global, tokens: Cursor<'a>) -> Read<'a, Statement>
 
 /// `word "in" expr ".." expr`
 #[tactic(auto, unfolding(crate::specs::Descent::loop_at))]
-fn loop_head<'a>(alloc: Global, tokens: Cursor<'a>) -> Read<'a, Statement>
+fn loop_head<'a>(alloc: Global, tokens: Cursor<'a>) -> Read<'a, Statement<'a>>
     ensures gives { Reads statement_view result (loop_at (cursor_view tokens.entry)) }
 {
-    let (variable, rest) = word(alloc, tokens)?;
+    let (variable, rest) = word(tokens)?;
     let (from, rest) = measure(alloc, rest, Keyword::In)?;
     let rest = sign(rest, Sign::Dots)?;
     let (upto, rest) = expr(alloc, rest, MOST_OPEN)?;
@@ -327,7 +328,7 @@ fn access<'a>(tokens: Cursor<'a>) -> Read<'a, Mode>
 
 /// `name expr [ access ]`, of `resolve`
 #[tactic(auto, unfolding(crate::specs::Descent::resolve_at))]
-fn resolve<'a>(alloc: Global, tokens: Cursor<'a>) -> Read<'a, Order>
+fn resolve<'a>(alloc: Global, tokens: Cursor<'a>) -> Read<'a, Order<'a>>
     ensures gives { Reads order_view result (resolve_at (cursor_view tokens.entry)) }
 {
     let (name, rest) = name(alloc, tokens, MOST_OPEN)?;
@@ -338,7 +339,7 @@ fn resolve<'a>(alloc: Global, tokens: Cursor<'a>) -> Read<'a, Order>
 
 /// `name expr [ access ]`, of `lookup`
 #[tactic(auto, unfolding(crate::specs::Descent::lookup_at))]
-fn lookup<'a>(alloc: Global, tokens: Cursor<'a>) -> Read<'a, Order>
+fn lookup<'a>(alloc: Global, tokens: Cursor<'a>) -> Read<'a, Order<'a>>
     ensures gives { Reads order_view result (lookup_at (cursor_view tokens.entry)) }
 {
     let (name, rest) = name(alloc, tokens, MOST_OPEN)?;
@@ -349,7 +350,7 @@ fn lookup<'a>(alloc: Global, tokens: Cursor<'a>) -> Read<'a, Order>
 
 /// `name [ access ]`, of `view`
 #[tactic(auto, unfolding(crate::specs::Descent::view_at))]
-fn view<'a>(alloc: Global, tokens: Cursor<'a>) -> Read<'a, Order>
+fn view<'a>(alloc: Global, tokens: Cursor<'a>) -> Read<'a, Order<'a>>
     ensures gives { Reads order_view result (view_at (cursor_view tokens.entry)) }
 {
     let (name, rest) = name(alloc, tokens, MOST_OPEN)?;
@@ -359,28 +360,42 @@ fn view<'a>(alloc: Global, tokens: Cursor<'a>) -> Read<'a, Order>
 
 /// `word name name expr expr [ access ]`
 #[tactic(auto, unfolding(crate::specs::Descent::grant_at))]
-fn grant<'a>(alloc: Global, tokens: Cursor<'a>) -> Read<'a, Order>
+fn grant<'a>(alloc: Global, tokens: Cursor<'a>) -> Read<'a, Order<'a>>
     ensures gives { Reads order_view result (grant_at (cursor_view tokens.entry)) }
 {
-    let (id, rest) = word(alloc, tokens)?;
+    let (id, rest) = word(tokens)?;
     let (agent, rest) = name(alloc, rest, MOST_OPEN)?;
     let (node, rest) = name(alloc, rest, MOST_OPEN)?;
     let (base, rest) = expr(alloc, rest, MOST_OPEN)?;
     let (size, rest) = expr(alloc, rest, MOST_OPEN)?;
     let (mode, rest) = access(rest)?;
-    Ok((Order::Grant(id, agent, node, base, size, mode), rest))
+    let grant = GrantExpr {
+        id,
+        agent,
+        node,
+        base,
+        size,
+        mode,
+    };
+    Ok((Order::Grant(Box::new(alloc, grant)?), rest))
 }
 
 /// `word name expr name`
 #[tactic(auto, unfolding(crate::specs::Descent::route_at))]
-fn route<'a>(alloc: Global, tokens: Cursor<'a>) -> Read<'a, Order>
+fn route<'a>(alloc: Global, tokens: Cursor<'a>) -> Read<'a, Order<'a>>
     ensures gives { Reads order_view result (route_at (cursor_view tokens.entry)) }
 {
-    let (id, rest) = word(alloc, tokens)?;
+    let (id, rest) = word(tokens)?;
     let (agent, rest) = name(alloc, rest, MOST_OPEN)?;
     let (line, rest) = expr(alloc, rest, MOST_OPEN)?;
     let (node, rest) = name(alloc, rest, MOST_OPEN)?;
-    Ok((Order::Route(id, agent, line, node), rest))
+    let route = RouteExpr {
+        id,
+        agent,
+        line,
+        node,
+    };
+    Ok((Order::Route(Box::new(alloc, route)?), rest))
 }
 
 /// What follows the word of a command; `whole` begins with the word.
@@ -390,7 +405,7 @@ fn order<'a>(
     word_of: Keyword,
     whole: Cursor<'a>,
     tokens: Cursor<'a>,
-) -> Read<'a, Order>
+) -> Read<'a, Order<'a>>
     ensures gives { Reads order_view result
         (order_at word_of (cursor_view whole.entry) (cursor_view tokens.entry)) }
 {
@@ -401,7 +416,7 @@ fn order<'a>(
         Keyword::Grant => grant(alloc, tokens),
         Keyword::Route => route(alloc, tokens),
         Keyword::Revoke => {
-            let (id, rest) = word(alloc, tokens)?;
+            let (id, rest) = word(tokens)?;
             Ok((Order::Revoke(id), rest))
         }
         Keyword::Dump => Ok((Order::Dump, tokens)),
@@ -421,7 +436,7 @@ fn keyword_statement<'a>(
     word: Keyword,
     whole: Cursor<'a>,
     tokens: Cursor<'a>,
-) -> Read<'a, Statement>
+) -> Read<'a, Statement<'a>>
     ensures gives { Reads statement_view result
         (keyword_statement_at word (cursor_view whole.entry) (cursor_view tokens.entry)) }
 {
@@ -452,7 +467,7 @@ fn keyword_statement<'a>(
 
 /// A statement, up to its `;`.
 #[tactic(auto, unfolding(crate::specs::Descent::statement_at))]
-pub fn read_statement<'a>(alloc: Global, tokens: Cursor<'a>) -> Read<'a, Statement>
+pub fn read_statement<'a>(alloc: Global, tokens: Cursor<'a>) -> Read<'a, Statement<'a>>
     ensures gives { Reads statement_view result (statement_at (cursor_view tokens.entry)) }
 {
     let Some(token) = tokens.peek() else {

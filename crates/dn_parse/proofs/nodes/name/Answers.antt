@@ -15,7 +15,7 @@ returns-in_err-first-clause-gives c =
 
 pub parts-init : goal.parts-init
 parts-init c =
-    let one : part_view c.in_ok-first.first ∷ [] ≡ map part_view c.in_ok-parts.parts = ap (map part_view) (sym c.in_ok-parts.ensures) in
+    let one : part_view c.in_ok-first.first ∷ [] ≡ map part_view c.of-parts.result = ap (map part_view) (sym c.of-parts.ensures) in
     record {
       shorter = c.in_ok-first.ensures.shorter;
       before = subst (λ l. Found (next_part_at c.args.depth) (name_at c.args.depth (cursor_view c.args.tokens)) l (cursor_view c.in_ok-first.after)) one (found_first _ _ _ (name_first c.args.depth _ _ _ c.in_ok-first.ensures.gives));
@@ -23,7 +23,7 @@ parts-init c =
 
 pub parts-preserved : goal.parts-preserved
 parts-preserved c =
-    let more = sym (ap (map part_view) c.in_ok-push.ensures.ok ∙ map-append part_view _ _) in
+    let more = sym (ap (map part_view) c.in_ok-parts.ensures ∙ map-append part_view _ _) in
     let is = c.in_ok-part.ensures.gives ∙ ap (λ o. Ok (option_map (λ p. (part_view p.0, cursor_view p.1)) o)) c.in-Some.is in
     let shorter = subst (λ o. IfSome o (λ p. length (cursor_view p.1) < length (cursor_view c.parts.rest))) c.in-Some.is c.in_ok-part.ensures.shorter in
     record {

@@ -6,16 +6,11 @@ use Rattle.dn_parse.specs.Views.{blocks_view}
 use Rattle.dn_parse.proofs.Judge.{judge_end}
 use Rattle.dn_parse.proofs.reader.all_placed.Goals as goal
 
-pub returns-in_default-clause-ok : goal.returns-in_default-clause-ok
-returns-in_default-clause-ok c =
-    let ended : cursor_view c.args.tokens ≡ [] = search rules in
-    λ last all. ap (judge last all no_blocks_yet) ended ∙ judge_end last all no_blocks_yet ∙ ap (at_stop whole last all) (sym c.none.ensures)
-
 pub statements-init : goal.statements-init
-statements-init c = λ last all. ap (λ (b : Blocks). judge last all b (cursor_view c.args.tokens)) (sym c.none-2.ensures) ∙ c.in_ok-first.ensures.ok last all
+statements-init c = λ last all. ap (λ (b : Blocks). judge last all b (cursor_view c.args.tokens)) (sym c.none-blocks.ensures)
 
 pub statements-preserved : goal.statements-preserved
-statements-preserved c = λ last all. c.statements.invariant last all ∙ c.in_ok-more.ensures.ok last all
+statements-preserved c = λ last all. c.statements.invariant last all ∙ c.in_ok-rest.ensures.ok last all
 
 pub returns-clause-ok : goal.returns-clause-ok
 returns-clause-ok c =
