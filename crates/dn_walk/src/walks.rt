@@ -1,7 +1,7 @@
 //! The table of the live walks of a net.
 
-ghost use Rattle.std.specs.Prelude.{◌≡◌, ◌<◌, ◌≤◌, ◌-◌, List, map, length, IfOk, IsTrue, option_map};
-ghost use Rattle.std.specs.List.{All};
+ghost use Rattle.std.specs.Prelude.{◌≡◌, ◌<◌, ◌≤◌, ◌-◌, ◌++◌, List, drop, map, length, IfOk, IsTrue, option_map};
+ghost use Rattle.std.specs.List.{All, flat_map};
 ghost use Rattle.std.specs.List.Sorted.{IsNonDecreasingBy};
 ghost use Rattle.dn_base.specs.Answers.{Checks};
 ghost use Rattle.dn_net.specs.Rules.{KeepsNodeRules};
@@ -26,6 +26,7 @@ use crate::leads::unit_numbers;
 use crate::leg::net_legs;
 use crate::level::{Levels, WALK_LIMIT};
 use crate::way::{Goal, least_start, way};
+use dn_base::items::Items;
 use dn_interval::{Span, SpanSet};
 use dn_net::net::Net;
 use std::alloc::{AllocError, Global};
@@ -98,7 +99,7 @@ pub fn walks(alloc: Global, net: &Net) -> Result<WalkTable, WalkFault>
     }
     levels = levels.grown(alloc, &legs)?;
     check_depth(alloc, net, &levels)?;
-    let rows = table_rows(alloc, &levels)?;
+    let rows = table_rows(alloc, levels)?;
     check_units(alloc, net, &rows)?;
     Ok(WalkTable {
         rows,
@@ -161,16 +162,45 @@ fn check_units(alloc: Global, net: &Net, rows: &[WalkRow]) -> Result<(), WalkFau
     Ok(())
 }
 
-/// The rows of the sorted levels but the first.
-fn table_rows(alloc: Global, levels: &Levels) -> Result<Vec<WalkRow>, AllocError>
-    requires some { 0 < length levels.now.sorted.items }
-    requires room { levels.now.room ≤ WALK_LIMIT }
-    ensures { IfOk result (λ rows. (legs : List (List Leg)) → AreLevels legs levels.now
-        → map row_view rows.items ≡ told_walks legs (length levels.now.sorted.items - 1)) }
+/// The rows of the sorted levels but the first. They are put behind those of the last level that has
+/// any and turned round, so that the rows of that level are not held twice.
+fn table_rows(alloc: Global, levels: Levels) -> Result<Vec<WalkRow>, AllocError>
+    requires some { 0 < length levels.sorted.items }
+    requires room { levels.room ≤ WALK_LIMIT }
+    ensures { IfOk result (λ rows. (legs : List (List Leg)) → AreLevels legs levels
+        → map row_view rows.items ≡ told_walks legs (length levels.sorted.items - 1)) }
 {
-    let mut rows = Vec::with_capacity(alloc, WALK_LIMIT - levels.room)?;
-    for level in &levels.sorted[1..] {
+    let Levels {
+        mut sorted,
+        room,
+        ..
+    } = levels;
+    let mut rows = last_rows(alloc, &mut sorted);
+    let last = rows.len();
+    let all = WALK_LIMIT - room;
+    rows.reserve(all.saturating_sub(last))?;
+    for level in &sorted[1..] {
         rows.extend_from_slice(level.as_slice())?;
     }
+    rows.rotate_left(last);
     Ok(rows)
+}
+
+/// Takes away the last levels, to the last one that has a row, and gives its rows. The first level
+/// stays.
+fn last_rows(alloc: Global, sorted: &mut Vec<Items<WalkRow>>) -> Vec<WalkRow>
+    requires some { 0 < length sorted.old.items }
+    ensures some { 0 < length sorted.new.items }
+    ensures rows { flat_map (λ x. x) (drop 1 sorted.new.items) ++ result.items
+        ≡ flat_map (λ x. x) (drop 1 sorted.old.items) }
+{
+    while sorted.len() > 1 {
+        if let Some(level) = sorted.pop() {
+            let rows = level.into_vec();
+            if !rows.is_empty() {
+                return rows;
+            }
+        }
+    }
+    Vec::new(alloc)
 }
