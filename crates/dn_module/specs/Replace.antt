@@ -27,6 +27,11 @@ abbrev pub naming_by : Option (List ℕ × List (List ℕ × List ℕ)) → Nami
 naming_by None = as_they_stand
 naming_by (Some names) = under names.0 names.1
 
+-- the numbers that stand for the parameters of the module in whose body a name stands, if it does
+abbrev pub numbers_by : Option (List (List ℕ × ℕ)) → List (List ℕ × ℕ)
+numbers_by None = []
+numbers_by (Some numbers) = numbers
+
 -- what is replaced: variables by numbers, and names
 pub record Replacement : Type 0 where
   pub numbers : List (List ℕ × ℕ)
