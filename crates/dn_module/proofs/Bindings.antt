@@ -1,11 +1,6 @@
 -- The use of a module, from its arguments.
-use Rattle.std.proofs.Common.{◌≡◌, ◌∙◌, ap, sym, subst, refl, ℕ, suc, ◌+◌, ◌<◌, Bool, true, false, not, ◌||◌, ◌&&◌, cond, List, [], ◌∷◌, ◌++◌, length, map, drop, get_or, Some, IfSome, Result, Ok, Err}
+use Rattle.std.proofs.Common.{◌≡◌, ◌∙◌, ap, refl, ℕ, suc, ◌+◌, ◌<◌, Bool, true, false, cond, List, [], ◌∷◌, length, map, drop, get_or, Some, IfSome, Result, Ok, Err}
 use Rattle.std.specs.Option.{option_map}
-use Rattle.std.proofs.lemmas.List.{append_assoc, append-nil}
-use Rattle.std.proofs.lemmas.List.Folds.{list_any-append}
-use Rattle.std.proofs.lemmas.Cmp.{nat_list_eq_equiv}
-use Rattle.std.specs.List.{list_any, list_all}
-use Rattle.std.specs.Str.{bytes_eq}
 use Rattle.dn_parse.specs.declared.syntax.Param.{Param as CodeParam}
 use Rattle.dn_parse.specs.declared.syntax.Arg.{Arg as CodeArg}
 use Rattle.dn_parse.specs.Tree.{Param, number_param, node_param, Arg, number_arg, node_arg, Part}
@@ -14,11 +9,11 @@ use Rattle.dn_module.specs.declared.values.NameFault.{NameFault}
 use Rattle.dn_module.specs.declared.values.NameFault.TheVariants.{Flawed, OutOfMemory}
 use Rattle.dn_module.specs.Values.{Flaw, unknown_word, out_of_range, ◌>>=◌, each, full_name}
 use Rattle.dn_module.specs.Drafts.{at_line}
-use Rattle.dn_module.specs.Expand.{Module, Work, statements, within_module, fit, fits_param, word_of_param, has_twice, Given, number, named, given_by, number_pair, node_pair, numbers_of, nodes_of, used_body, use_of}
+use Rattle.dn_module.specs.Expand.{Module, Work, statements, within_module, fit, fits_param, word_of_param, Given, given_by, numbers_of, nodes_of, used_body, use_of}
 use Rattle.dn_module.specs.Machine.{replaced_by}
 use Rattle.dn_module.specs.Replace.{Replacement, under, in_items, in_arg}
 use Rattle.dn_module.proofs.Each.{drop_next}
-use Rattle.dn_module.specs.Faults.{ExpansionFault, has_other_arguments, flaw_fault, flaw_view, name_fault_view}
+use Rattle.dn_module.specs.Faults.{ExpansionFault, has_other_arguments, flaw_fault, name_fault_view}
 
 -- arguments that fit are as many as the parameters
 pub fit_length : (ps : List Param) (xs : List Arg) → fit ps xs ≡ true → length ps ≡ length xs

@@ -1,5 +1,5 @@
 -- What the machine of expansion still has to do, read off its stack.
-use Rattle.std.specs.Prelude.{ℕ, suc, ◌+◌, Bool, true, if◌then◌else◌, nat_lt, List, [], ◌∷◌, ◌++◌, map, reverse, drop, Option, Some, None}
+use Rattle.std.specs.Prelude.{ℕ, suc, Bool, true, if◌then◌else◌, nat_lt, List, [], ◌∷◌, ◌++◌, map, reverse, drop, Option, Some, None}
 use Rattle.dn_parse.specs.declared.syntax.Stmt.{Stmt}
 use Rattle.dn_parse.specs.Tree.{Items, items}
 use Rattle.dn_parse.specs.Views.{item_view, param_view}

@@ -1,5 +1,5 @@
 -- What stands for the words of parameters, by their places.
-use Rattle.std.specs.Prelude.{ℕ, List, [], drop, Option, None, Some}
+use Rattle.std.specs.Prelude.{ℕ, List, drop, Option, None, Some}
 use Rattle.dn_module.specs.declared.words.Given.{Given as CodeGiven}
 use Rattle.dn_module.specs.declared.words.Given.TheVariants.{Number, Named}
 use Rattle.dn_module.specs.Expand.{Given, number, named, numbers_of}

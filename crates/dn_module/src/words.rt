@@ -36,8 +36,10 @@ impl Model for Words {
 
     ghost Value = { List (List ℕ × ℕ) × List (List ℕ × List ℕ) };
 
-    ghost view = { λ w. (numbers_from w.from w.titles (map given_view w.values),
-        nodes_of w.titles (map given_view w.values)) };
+    ghost view = { λ w. (
+      numbers_from w.from w.titles (map given_view w.values),
+      nodes_of w.titles (map given_view w.values),
+    ) };
 
     ghost invariant = { λ w. has_twice w.titles ≡ false };
 }
@@ -46,8 +48,10 @@ impl Words {
     /// Different words, each with the value at its place. It takes no memory.
     pub fn new(titles: Titles, values: Items<Given>) -> Words
         requires different { has_twice titles ≡ false }
-        ensures { result ≡ (numbers_of titles (map given_view values),
-            nodes_of titles (map given_view values)) }
+        ensures { result ≡ (
+          numbers_of titles (map given_view values),
+          nodes_of titles (map given_view values),
+        ) }
     {
         Words {
             titles,

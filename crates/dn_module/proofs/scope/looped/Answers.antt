@@ -1,4 +1,4 @@
-use Rattle.std.proofs.Common.{◌≡◌, ◌∙◌, sym, arith}
+use Rattle.std.proofs.Common.{◌∙◌, sym, arith}
 use Rattle.dn_module.proofs.Scopes.{innermost_met, innermost_other}
 use Rattle.dn_module.proofs.scope.looped.Goals as goal
 

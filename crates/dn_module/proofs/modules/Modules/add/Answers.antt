@@ -6,7 +6,7 @@ use Rattle.dn_module.specs.Expand.{is_module, has_twice, word_of_param}
 use Rattle.dn_module.specs.Stack.{module_view, known_view, module_views}
 use Rattle.dn_base.proofs.Lists.{length-last}
 use Rattle.dn_module.proofs.Limits.{found_is}
-use Rattle.dn_module.proofs.Naming.{few_modules, module_twice, module_added, is_module-titles, titles_are, either, by_answer, is_once}
+use Rattle.dn_module.proofs.Naming.{few_modules, module_twice, module_added, is_module-titles, titles_are, by_answer, is_once}
 use Rattle.dn_module.proofs.modules.Modules.add.Goals as goal
 
 pub returns-then-is_some-clause-added : goal.returns-then-is_some-clause-added

@@ -1,4 +1,4 @@
-use Rattle.std.proofs.Common.{◌≡◌, ◌∙◌, ap, sym, map, reverse, option_map}
+use Rattle.std.proofs.Common.{◌∙◌, ap, sym, map, reverse, option_map}
 use Rattle.dn_module.specs.Replace.{looked_up, numbers_by}
 use Rattle.dn_module.proofs.Scopes.{found_within, found_outside, numbered}
 use Rattle.dn_module.proofs.scope.Scope.number.Goals as goal

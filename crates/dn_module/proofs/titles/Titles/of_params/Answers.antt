@@ -1,4 +1,4 @@
-use Rattle.std.proofs.Common.{◌≡◌, ◌∙◌, sym, ap, arith, not, ◌<◌, ◌≤◌, length, map, [], ◌∷◌, ◌++◌}
+use Rattle.std.proofs.Common.{◌∙◌, sym, ap, arith, not, ◌<◌, ◌≤◌, length, map, [], ◌∷◌, ◌++◌}
 use Rattle.std.specs.String.{string_bytes}
 use Rattle.dn_module.specs.Expand.{has_twice}
 use Rattle.dn_module.proofs.Naming.{word_met, word_new, words_put, words_all, words_are, was_known, put_last}
