@@ -7,9 +7,10 @@ pub mod Bindings
 pub mod Limits
 pub mod Replaced
 pub mod Scopes
-pub mod Titles
+pub mod Naming
 pub mod Unreplaced
 pub mod Works
 pub mod Whole
 pub mod Yields
 pub mod Passed
+pub mod Places

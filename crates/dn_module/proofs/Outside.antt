@@ -1,7 +1,7 @@
 -- Outside of modules and loops nothing is replaced.
-use Rattle.std.proofs.Common.{◌≡◌, ◌∙◌, ap, refl, ℕ, List, [], ◌∷◌, map, Option, Some, None, option_map}
+use Rattle.std.proofs.Common.{◌≡◌, ◌∙◌, ap, refl, List, [], ◌∷◌, map, Option, Some, None}
 use Rattle.dn_parse.specs.Tree.{Expression, constant, variable, sum, product, minus, Expressions, no_expressions, and_expression, Part}
-use Rattle.dn_module.specs.Replace.{Replacement, as_they_stand, in_expression, in_expressions, in_option, in_part, in_declared}
+use Rattle.dn_module.specs.Replace.{in_expression, in_expressions, in_option, in_part, in_declared}
 use Rattle.dn_module.specs.Flaws.{nothing_replaced}
 
 mutual

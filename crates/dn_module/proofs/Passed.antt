@@ -1,5 +1,5 @@
 -- What a test passes of the node of each declaration, it passes of each node of a text.
-use Rattle.std.proofs.Common.{◌≡◌, ◌∙◌, ap, sym, refl, subst, ℕ, zero, suc, Bool, true, false, cond, ◌&&◌, not, nat_lt, List, [], ◌∷◌, ◌++◌, map, length, IsTrue, Option, Some, None, IfOk, Result, Ok, Err}
+use Rattle.std.proofs.Common.{◌≡◌, refl, subst, ℕ, zero, suc, Bool, true, false, cond, not, nat_lt, List, [], ◌∷◌, ◌++◌, length, IsTrue, Option, Some, None, IfOk, Result, Ok, Err}
 use Rattle.std.specs.List.{list_all, position_or_len}
 use Rattle.std.specs.Str.{bytes_eq}
 use Rattle.dn_base.specs.Answers.{Answers}
@@ -9,19 +9,18 @@ use Rattle.dn_net.specs.Decode.{is_unit, is_formed}
 use Rattle.dn_kind.specs.Kind.{Meaning, kind_place}
 use Rattle.dn_kind.specs.Units.{has_kind}
 use Rattle.dn_module.specs.declared.draft.Draft.{Draft}
-use Rattle.dn_module.specs.declared.command.Command.{Command}
 use Rattle.dn_module.specs.declared.expansion.Expanded.{Expanded}
 use Rattle.dn_module.specs.declared.fault.ExpandFault.{ExpandFault}
-use Rattle.dn_module.specs.Values.{Flaw, ◌>>=◌, each, value_within, full_name, full_name_or_none}
-use Rattle.dn_module.specs.Drafts.{at_line, block_of, entry_of, role_of, known_kind, node_draft, unit_draft, draft_of, declared_by, names, is_known, limit_passed, by_limit, with_draft, refers_to_known, node_in, node_of}
+use Rattle.dn_module.specs.Values.{◌>>=◌, each, value_within, full_name, full_name_or_none}
+use Rattle.dn_module.specs.Drafts.{block_of, entry_of, role_of, known_kind, node_draft, unit_draft, declared_by, names, is_known, limit_passed, by_limit, with_draft, refers_to_known, node_in, node_of}
 use Rattle.dn_module.specs.Commands.{commands_of}
-use Rattle.dn_module.specs.Expand.{State, nothing_yet, Visibility, outside, Work, statement, turns, statements, with_module, usable, module_from, use_of, loop_of, item_rewriting, rewriting, all_rewritings, most_steps, Outcome, expansion_of}
+use Rattle.dn_module.specs.Expand.{State, nothing_yet, Visibility, outside, Work, statement, turns, statements, with_module, usable, module_from, use_of, loop_of, item_rewriting, rewriting, all_rewritings, most_steps, expansion_of}
 use Rattle.dn_module.specs.Finish.{outcome_of, outcome_view}
 use Rattle.dn_module.specs.Faults.{ExpansionFault, is_duplicate, is_unknown, expand_fault_view}
 use Rattle.dn_base.proofs.Booleans.{and_parts}
-use Rattle.dn_base.proofs.Lists.{length-map, list_all-last}
+use Rattle.dn_base.proofs.Lists.{list_all-last}
 use Rattle.dn_module.proofs.Whole.{body_state, whole}
-use Rattle.dn_module.proofs.Yields.{Yields, Any, any, bind, given, at_yields, yielded}
+use Rattle.dn_module.proofs.Yields.{Yields, any, bind, given, at_yields, yielded}
 
 -- each draft passes
 abbrev pub AllPass : (Draft → Bool) → List Draft → Type 0

@@ -1,10 +1,10 @@
 -- Replacing numbers in what was replaced before is replacing all of them at once.
-use Rattle.std.proofs.Common.{◌≡◌, ◌∙◌, ap, sym, refl, ℕ, List, [], ◌∷◌, ◌++◌, map, filter, true, false, Bool, not, Option, None, Some, option_map, cond}
+use Rattle.std.proofs.Common.{◌≡◌, ◌∙◌, ap, sym, refl, ℕ, List, [], ◌∷◌, ◌++◌, map, true, false, Bool, not, Option, None, Some, option_map, cond}
 use Rattle.std.proofs.lemmas.List.Elements.{filter-append}
 use Rattle.std.proofs.lemmas.Cmp.{nat_list_eq_equiv}
 use Rattle.std.specs.Str.{bytes_eq}
 use Rattle.dn_parse.specs.Tree.{Expression, constant, variable, sum, product, minus, Expressions, no_expressions, and_expression, Part, Block, Dest, Entry, Spec, Arg, number_arg, node_arg, Declaration, node, unit, Item, declared, module_of, instance, loop, Items, no_items, and_item}
-use Rattle.dn_module.specs.Replace.{looked_up, without, Naming, as_they_stand, under, Replacement, one_number, hiding, number_or, in_expression, in_expressions, in_option, in_part, whole_name, prefixed, in_declared, word_of, node_by, named_or, in_reference, in_block, in_dest, in_entry, in_spec, in_arg, in_declaration, in_item, in_items}
+use Rattle.dn_module.specs.Replace.{looked_up, without, Naming, as_they_stand, under, Replacement, one_number, hiding, number_or, in_expression, in_expressions, in_option, in_part, prefixed, in_declared, word_of, node_by, named_or, in_reference, in_block, in_dest, in_entry, in_spec, in_arg, in_declaration, in_item, in_items}
 
 abbrev Numbers : Type 0
 Numbers = List (List ℕ × ℕ)

@@ -1,16 +1,11 @@
 -- What stands for the words of a body, in the entries that are kept.
-use Rattle.std.proofs.Common.{◌≡◌, ◌∙◌, ap, sym, refl, arith, ℕ, ◌+◌, ◌-◌, ◌<◌, ◌≤◌, List, [], ◌∷◌, ◌++◌, length, get_or, take, map, reverse, Option, None, Some, cond}
+use Rattle.std.proofs.Common.{◌≡◌, ◌∙◌, ap, sym, refl, arith, ℕ, zero, suc, Bool, true, false, ◌+◌, ◌-◌, ◌<◌, ◌≤◌, List, [], ◌∷◌, ◌++◌, length, get_or, take, map, reverse, None, Some, cond}
 use Rattle.std.proofs.lemmas.List.{map_more, reverse-append}
-use Rattle.std.specs.Map.{lookup}
+use Rattle.std.proofs.lemmas.Cmp.{nat_list_eq_equiv}
 use Rattle.std.specs.Str.{bytes_eq}
 use Rattle.dn_module.specs.declared.scope.Number.{Number}
 use Rattle.dn_module.specs.Replace.{looked_up}
 use Rattle.dn_module.proofs.Replaced.{looked_up-append, or_else}
-
--- a look-up by the bytes of a key
-pub looked_up-lookup : {S A : Type 0} (text : S → List ℕ) (w : List ℕ) (es : List (S × A)) → lookup (λ k. bytes_eq w (text k)) es ≡ looked_up w (map (λ e. (text e.0, e.1)) es)
-looked_up-lookup text w [] = refl
-looked_up-lookup text w (e ∷ es) = ap (λ o. cond (bytes_eq w (text e.0)) (Some e.1) o) (looked_up-lookup text w es)
 
 -- what an inner list has
 pub found_within : {A : Type 0} (w : List ℕ) (xs ys : List (List ℕ × A)) (a : A) → Some a ≡ looked_up w xs → Some a ≡ looked_up w (xs ++ ys)
@@ -21,15 +16,40 @@ pub found_outside : {A : Type 0} (w : List ℕ) (xs ys : List (List ℕ × A)) �
 found_outside w xs ys e = looked_up-append w xs ys ∙ ap (λ o. or_else o (looked_up w ys)) (sym e)
 
 abbrev pub numbered : Number → List ℕ × ℕ
-numbered n = (n.word, n.number)
+numbered n = (n.word.now, n.number)
+
+-- an item is the same, whatever stands for one past the end
+pub at_any : {A : Type 0} (xs : List A) (i : ℕ) (d : A) → i < length xs → get_or xs i d ≡ get_or xs i (get_or xs i d)
+at_any [] i d h = absurd (omega arith)
+at_any (x ∷ xs) zero d h = refl
+at_any (x ∷ xs) (suc i) d h = at_any_next xs i d (get_or xs i d) (omega arith)
+  where
+    at_any_next : {A : Type 0} (xs : List A) (i : ℕ) (d e : A) → i < length xs → get_or xs i d ≡ get_or xs i e
+    at_any_next [] i d e h = absurd (omega arith)
+    at_any_next (x ∷ xs) zero d e h = refl
+    at_any_next (x ∷ xs) (suc i) d e h = at_any_next xs i d e (omega arith)
 
 -- the last of the loop variables is the innermost
-pub innermost_first : (w : List ℕ) (ns : List Number) (left : ℕ) (n : Number) → 0 < left → left ≤ length ns → n ≡ get_or ns (left - 1) n
-    → looked_up w (reverse (map numbered (take left ns))) ≡ cond (bytes_eq w n.word) (Some n.number) (looked_up w (reverse (map numbered (take (left - 1) ns))))
-innermost_first w ns left n more within at =
-    let one : left ≡ (left - 1) + 1 = omega arith in
-    let before = map numbered (take (left - 1) ns) in
-    ap (λ k. looked_up w (reverse (map numbered (take k ns)))) one
-    ∙ ap (λ l. looked_up w (reverse l)) (map_more numbered ns (left - 1) n (omega arith))
-    ∙ ap (λ (m : Number). looked_up w (reverse (before ++ numbered m ∷ []))) (sym at)
-    ∙ ap (looked_up w) (reverse-append before (numbered n ∷ []))
+module _ (w : List ℕ) (ns : List Number) (left : ℕ) (d : Number) where
+  -- the last one
+  abbrev innermost : Number
+  innermost = get_or ns (left - 1) d
+
+  innermost_first : 0 < left → left ≤ length ns → looked_up w (reverse (map numbered (take left ns))) ≡ cond (bytes_eq w innermost.word.now) (Some innermost.number) (looked_up w (reverse (map numbered (take (left - 1) ns))))
+  innermost_first more within =
+      let one : left ≡ (left - 1) + 1 = omega arith in
+      let before = map numbered (take (left - 1) ns) in
+      ap (λ k. looked_up w (reverse (map numbered (take k ns)))) one
+      ∙ ap (λ l. looked_up w (reverse l)) (map_more numbered ns (left - 1) innermost (omega arith))
+      ∙ ap (λ (m : Number). looked_up w (reverse (before ++ numbered m ∷ []))) (sym (at_any ns (left - 1) d (omega arith)))
+      ∙ ap (looked_up w) (reverse-append before (numbered innermost ∷ []))
+
+  pub innermost_met : 0 < left → left ≤ length ns → bytes_eq innermost.word.now w ≡ true → looked_up w (reverse (map numbered (take left ns))) ≡ Some innermost.number
+  innermost_met more within is =
+      innermost_first more within
+      ∙ ap (λ (b : Bool). cond b (Some innermost.number) (looked_up w (reverse (map numbered (take (left - 1) ns))))) (nat_list_eq_equiv.symm w innermost.word.now ∙ is)
+
+  pub innermost_other : 0 < left → left ≤ length ns → bytes_eq innermost.word.now w ≡ false → looked_up w (reverse (map numbered (take left ns))) ≡ looked_up w (reverse (map numbered (take (left - 1) ns)))
+  innermost_other more within is =
+      innermost_first more within
+      ∙ ap (λ (b : Bool). cond b (Some innermost.number) (looked_up w (reverse (map numbered (take (left - 1) ns))))) (nat_list_eq_equiv.symm w innermost.word.now ∙ is)

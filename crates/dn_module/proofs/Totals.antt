@@ -1,8 +1,8 @@
 -- Sums and products of values, member by member.
-use Rattle.std.proofs.Common.{rules, arith, ◌≡◌, ◌∙◌, ap, sym, subst, refl, ℕ, zero, suc, ◌+◌, ◌*◌, ◌^◌, ◌<◌, ◌≤◌, ◌⊎◌, inl, inr, if◌then◌else◌, nat_lt, Bool, true, false, List, [], ◌∷◌, map, drop, get_or, length, Result, Ok, Err}
+use Rattle.std.proofs.Common.{rules, arith, ◌≡◌, ◌∙◌, ap, sym, subst, refl, ℕ, zero, suc, ◌+◌, ◌*◌, ◌^◌, ◌<◌, ◌≤◌, ◌⊎◌, inl, inr, if◌then◌else◌, nat_lt, true, false, List, ◌∷◌, map, drop, get_or, length, Result, Ok, Err}
 use Rattle.std.proofs.Math.ListN.{drop_of_length-le}
 use Rattle.std.proofs.Math.Nat.{mul_assoc, mul-zero, mul-suc, mul-one}
-use Rattle.dn_parse.specs.Tree.{Expression, Expressions, expressions}
+use Rattle.dn_parse.specs.Tree.{Expression, expressions}
 use Rattle.dn_module.specs.Values.{Flaw, out_of_range, ◌>>=◌, value, values, fitting, sum_of, product_of}
 use Rattle.dn_module.specs.Replace.{in_expression, in_expressions}
 use Rattle.dn_module.proofs.Each.{drop_next}

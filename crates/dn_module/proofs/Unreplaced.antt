@@ -1,7 +1,7 @@
 -- Where nothing is replaced, a tree stays as it is.
-use Rattle.std.proofs.Common.{◌≡◌, ◌∙◌, ap, refl, ℕ, List, [], ◌∷◌, map, Option, None, Some, option_map}
+use Rattle.std.proofs.Common.{◌≡◌, ap, refl, List, [], ◌∷◌, map, Option, None, Some, option_map}
 use Rattle.dn_parse.specs.Tree.{Expression, constant, variable, sum, product, minus, Expressions, no_expressions, and_expression, Part, Block, Dest, Entry, Spec, Arg, number_arg, node_arg, Declaration, node, unit, Item, declared, module_of, instance, loop, Items, no_items, and_item}
-use Rattle.dn_module.specs.Replace.{as_they_stand, Replacement, in_expression, in_expressions, in_option, in_part, in_declared, in_reference, in_block, in_dest, in_entry, in_spec, in_arg, in_declaration, in_item, in_items}
+use Rattle.dn_module.specs.Replace.{in_expression, in_expressions, in_option, in_part, in_reference, in_block, in_dest, in_entry, in_spec, in_arg, in_declaration, in_item, in_items}
 use Rattle.dn_module.specs.Flaws.{nothing_replaced}
 
 map_same : {X : Type 0} (f : X → X) → ((x : X) → f x ≡ x) → (xs : List X) → map f xs ≡ xs

@@ -4,7 +4,7 @@ use Rattle.std.proofs.lemmas.List.{append_assoc, reverse-append}
 use Rattle.dn_module.specs.declared.stack.Turns.{Turns}
 use Rattle.dn_module.specs.declared.stack.Rest.{Rest}
 use Rattle.dn_module.specs.declared.stack.Use.{Use}
-use Rattle.dn_module.specs.Expand.{Visibility, State, Work, line_of, turns, statements, with_drafts, item_rewriting, rewriting, all_rewritings, most_steps}
+use Rattle.dn_module.specs.Expand.{Visibility, State, Work, line_of, statements, with_drafts, item_rewriting, rewriting, all_rewritings, most_steps}
 use Rattle.dn_module.specs.Machine.{in_front, with_declaration}
 use Rattle.dn_kind.specs.Kind.{Meaning}
 use Rattle.dn_module.specs.Values.{◌>>=◌}

@@ -4,6 +4,7 @@ pub mod Replace
 pub mod Drafts
 pub mod Commands
 pub mod Expand
+pub mod Words
 pub mod Flaws
 pub mod Stack
 pub mod Machine

@@ -4,12 +4,11 @@ use Rattle.dn_parse.specs.Tree.{Arg, Part, Declaration}
 use Rattle.dn_kind.specs.Kind.{Meaning}
 use Rattle.dn_module.specs.declared.draft.Draft.{Draft}
 use Rattle.dn_module.specs.declared.machine.Made.{Made}
-use Rattle.dn_module.specs.declared.modules.Module.{Module as CodeModule}
-use Rattle.dn_module.specs.declared.uses.Given.{Given}
+use Rattle.dn_module.specs.declared.modules.Known.{Known}
 use Rattle.dn_module.specs.Drafts.{declared_by, with_draft}
-use Rattle.dn_module.specs.Expand.{Module, State, Work, given_by, number_pair, node_pair, numbers_of, nodes_of}
+use Rattle.dn_module.specs.Expand.{Module, State, Work, given_by, numbers_of, nodes_of}
 use Rattle.dn_module.specs.Replace.{Replacement, under}
-use Rattle.dn_module.specs.Stack.{module_views, module_view}
+use Rattle.dn_module.specs.Stack.{module_views, known_view}
 use Rattle.dn_module.specs.Values.{◌>>=◌, Flaw, each, full_name}
 use Rattle.dn_module.specs.Faults.{ExpansionFault}
 
@@ -38,25 +37,15 @@ limit_by nodes agents units parts more =
     else (if nat_lt 64 units then Some 64
     else (if nat_lt 16384 (parts + more) then Some 16384 else None)))
 
--- a module with its number
-abbrev pub pair_view : ℕ × CodeModule → ℕ × Module
-pair_view m = (m.0, module_view m.1)
+-- a module that was found, with its number
+abbrev pub found_view : ℕ × Known → ℕ × Module
+found_view k = (k.0, known_view k.1)
 
 -- what stands for parameters: the numbers and the full names
 abbrev pub bound : List (List ℕ) → List Arg → Result (List (List ℕ × ℕ) × List (List ℕ × List ℕ)) Flaw
 bound words args = do
   givens ← each given_by args
   Ok (numbers_of words givens, nodes_of words givens)
-
--- what stands for the parameters so far
-abbrev pub given_view : Given → List (List ℕ × ℕ) × List (List ℕ × List ℕ)
-given_view g = (g.numbers, g.nodes)
-
--- what stands for parameters, and one more of them
-abbrev pub given_more : List ℕ → List (List ℕ × ℕ) × List (List ℕ × List ℕ) → Arg → Result (List (List ℕ × ℕ) × List (List ℕ × List ℕ)) Flaw
-given_more word given arg = do
-  g ← given_by arg
-  Ok (given.0 ++ number_pair word g, given.1 ++ node_pair word g)
 
 -- what is replaced in the body of a module
 abbrev pub replaced_by : List (List ℕ) → List Arg → List Part → Result Replacement Flaw

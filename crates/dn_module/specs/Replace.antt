@@ -1,5 +1,5 @@
 -- Replacing text in trees: numbers for variables, and full names for the names of a module.
-use Rattle.std.specs.Prelude.{ℕ, Bool, if◌then◌else◌, not, List, [], ◌∷◌, map, filter, Option, Some, None, option_map}
+use Rattle.std.specs.Prelude.{ℕ, if◌then◌else◌, not, List, [], ◌∷◌, map, filter, Option, Some, None, option_map}
 use Rattle.std.specs.Str.{bytes_eq}
 use Rattle.dn_parse.specs.Tree.{Expression, constant, variable, sum, product, minus, Expressions, no_expressions, and_expression, Part, Block, Dest, Entry, Spec, Arg, number_arg, node_arg, Declaration, node, unit, Item, declared, module_of, instance, loop, Items, no_items, and_item}
 
@@ -26,6 +26,11 @@ prefix_of (under prefix nodes) = Some prefix
 abbrev pub naming_by : Option (List ℕ × List (List ℕ × List ℕ)) → Naming
 naming_by None = as_they_stand
 naming_by (Some names) = under names.0 names.1
+
+-- the numbers that stand for the parameters of the module in whose body a name stands, if it does
+abbrev pub numbers_by : Option (List (List ℕ × ℕ)) → List (List ℕ × ℕ)
+numbers_by None = []
+numbers_by (Some numbers) = numbers
 
 -- what is replaced: variables by numbers, and names
 pub record Replacement : Type 0 where

@@ -1,9 +1,10 @@
 -- What the machine of expansion still has to do, read off its stack.
-use Rattle.std.specs.Prelude.{ℕ, suc, ◌+◌, Bool, true, if◌then◌else◌, nat_lt, List, [], ◌∷◌, ◌++◌, map, reverse, drop, Option, Some, None}
+use Rattle.std.specs.Prelude.{ℕ, suc, Bool, true, if◌then◌else◌, nat_lt, List, [], ◌∷◌, ◌++◌, map, reverse, drop, Option, Some, None}
 use Rattle.dn_parse.specs.declared.syntax.Stmt.{Stmt}
 use Rattle.dn_parse.specs.Tree.{Items, items}
 use Rattle.dn_parse.specs.Views.{item_view, param_view}
 use Rattle.dn_module.specs.declared.modules.Module.{Module as CodeModule}
+use Rattle.dn_module.specs.declared.modules.Known.{Known}
 use Rattle.dn_module.specs.declared.modules.Modules.{Modules}
 use Rattle.dn_module.specs.declared.modules.Visible.{Visible}
 use Rattle.dn_module.specs.declared.modules.Visible.TheVariants.{All, First}
@@ -34,9 +35,13 @@ body_view body = items (map item_view body)
 abbrev pub module_view : CodeModule → Module
 module_view m = record { title = m.title.now; params = map param_view m.params.now; body = body_view m.body.now }
 
+-- a module that is known
+abbrev pub known_view : Known → Module
+known_view k = module_view k.module
+
 -- the modules, in order
 abbrev pub module_views : Modules → List Module
-module_views ms = map module_view ms.modules.items
+module_views ms = map known_view ms.modules.items
 
 -- the body of a loop with what is replaced round it
 abbrev pub loop_body : Replacement → Turns → Items

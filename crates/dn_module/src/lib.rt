@@ -19,6 +19,7 @@ mod names;
 mod nodes;
 mod scope;
 mod stack;
+mod titles;
 mod uses;
 mod values;
 mod words;

@@ -102,7 +102,7 @@ fn step<'a, 't>(
     match work {
         Work::Statement(statement) => take(alloc, kinds, stack, made, statement),
         Work::Turn(turns) => {
-            stack.inner.enter_turn(alloc, turns)?;
+            stack.inner.enter_turn(turns)?;
             Ok(())
         }
     }

@@ -1,7 +1,7 @@
 //! The modules that were declared.
 
-ghost use Rattle.std.specs.Prelude.{◌≡◌, [], ◌∷◌, ◌++◌, ◌<◌, ◌≤◌, map, length, IfOk, IfErr, IfSome, OnOk, OnErr, option_map, false, IsTrue, not};
-ghost use Rattle.std.specs.List.{list_all, list_any};
+ghost use Rattle.std.specs.Prelude.{◌≡◌, [], ◌∷◌, ◌++◌, ◌<◌, ◌≤◌, map, length, IfErr, OnOk, OnErr, option_map, false};
+ghost use Rattle.std.specs.List.{list_any};
 ghost use Rattle.std.specs.Str.{bytes_eq};
 ghost use Rattle.dn_parse.specs.Views.{param_view};
 ghost use Rattle.dn_module.specs.Expand.{has_twice, word_of_param, with_module, module_from, usable};
@@ -11,10 +11,10 @@ ghost use Rattle.dn_module.specs.Faults.{expand_fault_view};
 
 use crate::fault::ExpandFault;
 use crate::names::NameTable;
+use crate::titles::Titles;
 use dn_base::items::Items;
 use dn_parse::syntax::{Body, Param, Stmt};
-use indexmap::IndexSet;
-use std::alloc::{AllocError, Global};
+use std::alloc::Global;
 
 /// The most modules of a text.
 const MAX_MODULES: usize = 256;
@@ -47,6 +47,15 @@ impl<'a, 't> Module<'a, 't> {
     }
 }
 
+/// A module that is known, with the words of its parameters, of which no two are one.
+#[derive(Drop)]
+pub struct Known<'a, 't> {
+    pub module: Module<'a, 't>,
+    pub titles: Titles,
+    ghost words: { titles ≡ map word_of_param (map param_view module.params.now) },
+    ghost different: { has_twice titles ≡ false },
+}
+
 /// Which modules a statement may use.
 #[derive(Clone, Copy, Debug, PartialEq, Eq)]
 pub enum Visible {
@@ -61,10 +70,9 @@ pub enum Visible {
 #[derive(Drop)]
 pub struct Modules<'a, 't> {
     names: NameTable,
-    modules: Vec<Module<'a, 't>>,
-    ghost same: { names ≡ map (λ m. m.title.now) modules.items },
+    modules: Vec<Known<'a, 't>>,
+    ghost same: { names ≡ map (λ m. m.module.title.now) modules.items },
     ghost few: { length modules.items ≤ 256 },
-    ghost different: { IsTrue (list_all (λ m. not (has_twice (map (λ p. word_of_param (param_view p)) m.params.now))) modules.items) },
 }
 
 impl Visible {
@@ -82,7 +90,7 @@ impl Visible {
 }
 
 impl<'a, 't> Modules<'a, 't> {
-    ghost use Rattle.dn_module.specs.Stack.{module_view, module_views, visibility_view};
+    ghost use Rattle.dn_module.specs.Stack.{known_view, module_view, module_views, visibility_view};
 
     /// No modules. It takes no memory.
     pub fn new(alloc: Global) -> Modules<'a, 't>
@@ -95,7 +103,12 @@ impl<'a, 't> Modules<'a, 't> {
     }
 
     /// Adds the module that a statement with this line declares. After a fault the modules are unchanged.
-    pub fn add(&mut self, alloc: Global, line: u32, module: Module<'a, 't>) -> Result<(), ExpandFault>
+    pub fn add(
+        &mut self,
+        alloc: Global,
+        line: u32,
+        module: Module<'a, 't>,
+    ) -> Result<(), ExpandFault>
         ensures added { Answers (λ _. module_views self.new) expand_fault_view result
             (with_module (module_views self.old) line (module_view «module».entry)) }
         ensures unchanged { OnErr result (module_views self.new ≡ module_views self.old) }
@@ -106,27 +119,26 @@ impl<'a, 't> Modules<'a, 't> {
         if self.names.find(module.title).is_some() {
             return Err(ExpandFault::Duplicate { line });
         }
-        if has_twice(alloc, module.params)? {
+        let Some(titles) = Titles::of_params(alloc, module.params)? else {
             return Err(ExpandFault::Duplicate { line });
-        }
-        put(alloc, &mut self.names, &mut self.modules, module)?;
+        };
+        let known = Known { module, titles };
+        put(alloc, &mut self.names, &mut self.modules, known)?;
         Ok(())
     }
 
     /// The module with this name among those that a statement may use, and its number. `None` exactly where
     /// none of them has it.
-    pub fn find(&self, visible: Visible, title: &str) -> Option<(u16, Module<'a, 't>)>
-        ensures found { option_map (λ m. (m.0, module_view m.1)) result ≡ module_from 0 title.now
+    pub fn find(&self, visible: Visible, title: &str) -> Option<(u16, &Known<'a, 't>)>
+        ensures found { option_map (λ k. (k.0, known_view k.1.now)) result ≡ module_from 0 title.now
             (usable (visibility_view visible) (module_views self.now)) }
-        ensures different { IfSome result (λ m. has_twice
-            (map word_of_param (map param_view m.1.params.now)) ≡ false) }
     {
         let number = self.names.find(title)?;
         if !visible.includes(number) {
             return None;
         }
         match self.modules.get(usize::from(number)) {
-            Some(module) => Some((number, *module)),
+            Some(known) => Some((number, known)),
             None => None,
         }
     }
@@ -136,43 +148,19 @@ impl<'a, 't> Modules<'a, 't> {
 fn put<'a, 't>(
     alloc: Global,
     names: &mut NameTable,
-    modules: &mut Vec<Module<'a, 't>>,
-    module: Module<'a, 't>,
+    modules: &mut Vec<Known<'a, 't>>,
+    known: Known<'a, 't>,
 ) -> Result<(), ExpandFault>
     requires room { length names.old < 1024 }
-    requires new_name { list_any (bytes_eq «module».title.now) names.old ≡ false }
-    ensures names { OnOk result (names.new ≡ names.old ++ «module».entry.title.now ∷ []) }
-    ensures modules { OnOk result (modules.new.items ≡ modules.old.items ++ «module».entry ∷ []) }
+    requires new_name { list_any (bytes_eq known.module.title.now) names.old ≡ false }
+    ensures names { OnOk result (names.new ≡ names.old ++ known.entry.module.title.now ∷ []) }
+    ensures modules { OnOk result (modules.new.items ≡ modules.old.items ++ known.entry ∷ []) }
     ensures names_err { OnErr result (names.new ≡ names.old) }
     ensures modules_err { OnErr result (modules.new.items ≡ modules.old.items) }
     ensures err { IfErr result (λ e. e ≡ no_memory) }
 {
     modules.reserve(1)?;
-    let _ = names.add(alloc, module.title)?;
-    modules.push(module)?;
+    let _ = names.add(alloc, known.module.title)?;
+    modules.push(known)?;
     Ok(())
-}
-
-/// Whether two of the parameters have one name.
-fn has_twice(alloc: Global, params: &[Param]) -> Result<bool, AllocError>
-    ensures { IfOk result (λ b. b ≡ has_twice (map word_of_param (map param_view params.now))) }
-{
-    let mut words: IndexSet<String> = IndexSet::new(alloc);
-    for param in params {
-        let word = String::from_str(alloc, word_of(param))?;
-        if !words.insert(word)? {
-            return Ok(true);
-        }
-    }
-    Ok(false)
-}
-
-/// The word of a parameter.
-pub fn word_of<'b>(param: &'b Param) -> &'b str
-    ensures { result.now ≡ word_of_param (param_view param.now) }
-{
-    match param {
-        Param::Num(word) => word,
-        Param::Node(word) => word,
-    }
 }

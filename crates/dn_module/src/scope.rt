@@ -1,7 +1,7 @@
 //! What stands for the words of a body: numbers for variables, and full names for names.
 
 ghost use Rattle.std.specs.Prelude.{◌≡◌, [], ◌∷◌, ◌++◌, ◌<◌, drop, map, reverse, OnOk, OnErr, Option, Some, None, option_map};
-ghost use Rattle.dn_module.specs.Replace.{looked_up, node_by, as_they_stand, under, prefix_of};
+ghost use Rattle.dn_module.specs.Replace.{looked_up, node_by, numbers_by, as_they_stand, under, prefix_of};
 
 use crate::words::Words;
 use dn_base::text::Text;
@@ -11,73 +11,69 @@ use std::marker::Model;
 /// What stands for the words of a body, which contracts see as what is replaced in it: the numbers of its
 /// variables, the innermost first, and the names of the module in whose body it stands, if it does.
 #[derive(Drop)]
-pub struct Scope {
+pub struct Scope<'a> {
     /// The loop variables, the innermost last. They are few, since few loops stand in one another.
-    loops: Vec<Number>,
-    /// The number parameters.
-    params: Words<u64>,
-    /// The names of a module's body.
-    names: Option<Names>,
+    loops: Vec<Number<'a>>,
+    /// The use of a module in whose body it stands.
+    within: Option<Within>,
 }
 
 /// A variable with its number.
-#[derive(Drop)]
-pub struct Number {
-    word: Text,
+#[derive(Clone, Copy)]
+pub struct Number<'a> {
+    word: &'a str,
     number: u64,
 }
 
-/// The names of a module's body: the full name of the use, and what stands for the node parameters.
+/// The use of a module: its full name, and what stands for the parameters.
 #[derive(Drop)]
-pub struct Names {
+pub struct Within {
     prefix: Text,
-    nodes: Words<Text>,
+    words: Words,
 }
 
-impl Model for Scope {
+impl<'a> Model for Scope<'a> {
     ghost use Rattle.std.specs.Prelude.{map, reverse, ◌++◌, option_map};
-    ghost use Rattle.dn_module.specs.Replace.{Replacement, naming_by};
+    ghost use Rattle.dn_module.specs.Replace.{Replacement, naming_by, numbers_by};
 
     ghost Value = { Replacement };
 
     ghost view = { λ s. record {
-      numbers = reverse (map (λ n. (n.word, n.number)) s.loops.items) ++ s.params;
-      naming = naming_by (option_map (λ n. (n.prefix, n.nodes)) s.names);
+      numbers = reverse (map (λ n. (n.word.now, n.number)) s.loops.items)
+          ++ numbers_by (option_map (λ w. w.words.0) s.within);
+      naming = naming_by (option_map (λ w. (w.prefix, w.words.1)) s.within);
     } };
 }
 
-impl Scope {
+impl<'a> Scope<'a> {
     /// Outside of modules and loops nothing is replaced. It takes no memory.
-    pub fn outside(alloc: Global) -> Scope
+    pub fn outside(alloc: Global) -> Scope<'a>
         ensures { result ≡ record { numbers = []; naming = as_they_stand } }
     {
         Scope {
             loops: Vec::new(alloc),
-            params: Words::new(alloc),
-            names: None,
+            within: None,
         }
     }
 
-    /// The body of a used module: the full name of the use, the number parameters and the node parameters.
-    /// It takes no memory.
-    pub fn of_use(alloc: Global, prefix: Text, params: Words<u64>, nodes: Words<Text>) -> Scope
-        ensures { result ≡ record { numbers = params; naming = under prefix nodes } }
+    /// The body of a used module: the full name of the use, and what stands for the parameters. It takes no
+    /// memory.
+    pub fn of_use(alloc: Global, prefix: Text, words: Words) -> Scope<'a>
+        ensures { result ≡ record { numbers = words.0; naming = under prefix words.1 } }
     {
         Scope {
             loops: Vec::new(alloc),
-            params,
-            names: Some(Names { prefix, nodes }),
+            within: Some(Within { prefix, words }),
         }
     }
 
     /// Goes into a turn of a loop: its variable with its number becomes the innermost. For want of memory
     /// the scope is unchanged.
-    pub fn enter(&mut self, alloc: Global, word: &str, number: u64) -> Result<(), AllocError>
+    pub fn enter(&mut self, word: &'a str, number: u64) -> Result<(), AllocError>
         ensures ok { OnOk result (self.new ≡ record
             { numbers = (word.now, number) ∷ self.old.numbers; naming = self.old.naming }) }
         ensures err { OnErr result (self.new ≡ self.old) }
     {
-        let word = Text::of(alloc, word)?;
         self.loops.push(Number { word, number })?;
         Ok(())
     }
@@ -88,7 +84,9 @@ impl Scope {
             record { numbers = drop 1 self.old.numbers; naming = self.old.naming } }
     {
         if self.loops.pop().is_none() {
-            self.params.without_first();
+            if let Some(within) = &mut self.within {
+                within.words.without_first_number();
+            }
         }
     }
 
@@ -98,7 +96,7 @@ impl Scope {
     {
         match looped(self.loops.as_slice(), word) {
             Some(number) => Some(number),
-            None => self.params.get(word).copied(),
+            None => parameter(&self.within, word),
         }
     }
 
@@ -106,11 +104,8 @@ impl Scope {
     pub fn node(&self, word: &str) -> Option<&str>
         ensures { option_map (λ t. t.now) result ≡ node_by self.now.naming (Some word.now) }
     {
-        match &self.names {
-            Some(names) => match names.nodes.get(word) {
-                Some(text) => Some(text.as_str()),
-                None => None,
-            },
+        match &self.within {
+            Some(within) => within.words.name(word),
             None => None,
         }
     }
@@ -119,22 +114,32 @@ impl Scope {
     pub fn prefix(&self) -> Option<&str>
         ensures { option_map (λ t. t.now) result ≡ prefix_of self.now.naming }
     {
-        match &self.names {
-            Some(names) => Some(names.prefix.as_str()),
+        match &self.within {
+            Some(within) => Some(within.prefix.as_str()),
             None => None,
         }
     }
 }
 
+/// The number that stands for a parameter. `None` exactly where none does.
+fn parameter(within: &Option<Within>, word: &str) -> Option<u64>
+    ensures { result ≡ looked_up word.now (numbers_by (option_map (λ w. w.words.0) within.now)) }
+{
+    match within {
+        Some(within) => within.words.number(word),
+        None => None,
+    }
+}
+
 /// The number of a loop variable, of the innermost with this name.
 fn looped(loops: &[Number], word: &str) -> Option<u64>
-    ensures { result ≡ looked_up word.now (reverse (map (λ n. (n.word, n.number)) loops.now)) }
+    ensures { result ≡ looked_up word.now (reverse (map (λ n. (n.word.now, n.number)) loops.now)) }
 {
     let mut left = loops.len();
     while left > 0 {
         left -= 1;
         let number = &loops[left];
-        if number.word.as_str() == word {
+        if number.word == word {
             return Some(number.number);
         }
     }

@@ -42,7 +42,7 @@ pub enum Work<'a, 't> {
 #[derive(Drop)]
 pub struct Use<'a, 't> {
     /// What stands for the words of its innermost body.
-    pub scope: Scope,
+    pub scope: Scope<'a>,
     pub visible: Visible,
     /// What is left of its innermost body.
     pub inner: Rest<'a, 't>,
@@ -62,9 +62,14 @@ pub struct Stack<'a, 't> {
 
 impl<'a, 't> Use<'a, 't> {
     /// A use at its beginning. It takes no memory.
-    pub fn new(alloc: Global, scope: Scope, visible: Visible, body: &'a [Stmt<'t>]) -> Use<'a, 't>
+    pub fn new(
+        alloc: Global,
+        scope: Scope<'a>,
+        visible: Visible,
+        body: &'a [Stmt<'t>],
+    ) -> Use<'a, 't>
         ensures { use_works result ≡ statements (visibility_view visible)
-            (in_items scope (body_view body.now)) }
+            (in_items scope.entry (body_view body.now)) }
     {
         Use {
             scope,
@@ -99,7 +104,7 @@ impl<'a, 't> Use<'a, 't> {
     }
 
     /// Goes into the turn of a loop that is next in the innermost body. For want of memory the use is unchanged.
-    pub fn enter_turn(&mut self, alloc: Global, turns: Turns<'a, 't>) -> Result<(), ExpandFault>
+    pub fn enter_turn(&mut self, turns: Turns<'a, 't>) -> Result<(), ExpandFault>
         requires free { self.old.inner.turns ≡ None }
         ensures err { IfErr result (λ e. e ≡ no_memory) }
         ensures unchanged { OnErr result (use_works self.new ≡ use_works self.old) }
@@ -107,7 +112,7 @@ impl<'a, 't> Use<'a, 't> {
             (visibility_view self.old.visible) self.old.scope turns.entry ++ use_works self.old) }
     {
         self.outer.reserve(1)?;
-        self.scope.enter(alloc, turns.variable, turns.next)?;
+        self.scope.enter(turns.variable, turns.next)?;
         self.outer.push(Rest {
             turns: after(turns),
             statements: self.inner.statements,

@@ -1,128 +1,100 @@
 //! The use of a module.
 
-ghost use Rattle.std.specs.Prelude.{◌≡◌, map, option_map, length, IfSome, false};
-ghost use Rattle.std.specs.List.{list_any};
-ghost use Rattle.std.specs.Str.{bytes_eq};
+ghost use Rattle.std.specs.Prelude.{◌≡◌, map, option_map, false};
 ghost use Rattle.dn_parse.specs.Views.{param_view, arg_view, name_view};
 ghost use Rattle.dn_module.specs.Replace.{in_arg, in_declared};
-ghost use Rattle.dn_module.specs.Expand.{has_twice, word_of_param, fits_param, fit, use_of};
+ghost use Rattle.dn_module.specs.Expand.{has_twice, fits_param, fit, use_of, given_by};
 ghost use Rattle.dn_module.specs.Stack.{use_works};
-ghost use Rattle.dn_module.specs.Machine.{pair_view, bound, given_view, given_more, replaced_by};
+ghost use Rattle.dn_module.specs.Machine.{found_view, replaced_by};
+ghost use Rattle.dn_module.specs.Values.{each};
+ghost use Rattle.dn_module.specs.Words.{given_view};
 ghost use Rattle.dn_base.specs.Answers.{Answers};
 ghost use Rattle.dn_module.specs.Faults.{expand_fault_view, name_fault_view};
 
 use crate::fault::ExpandFault;
-use crate::modules::{Module, Visible, word_of};
+use crate::modules::{Known, Visible};
 use crate::scope::Scope;
 use crate::stack::Use;
+use crate::titles::Titles;
 use crate::values::{NameFault, declared_name, reference, value};
-use crate::words::Words;
-use dn_base::text::Text;
+use crate::words::{Given, Words};
+use dn_base::items::Items;
 use dn_parse::syntax::{Arg, Param, PartExpr};
 use std::alloc::Global;
-
-/// What stands for the parameters of a module: the numbers and the full names.
-#[derive(Drop)]
-pub struct Given {
-    numbers: Words<u64>,
-    nodes: Words<Text>,
-}
 
 /// The use of a module that was found, with its number, from the statement's arguments and its prefix.
 pub fn used<'a, 't>(
     alloc: Global,
     scope: &Scope,
     line: u32,
-    found: Option<(u16, Module<'a, 't>)>,
+    found: Option<(u16, &Known<'a, 't>)>,
     args: &[Arg],
     prefix: &[PartExpr],
 ) -> Result<Use<'a, 't>, ExpandFault>
-    requires different { IfSome found (λ m. has_twice
-        (map word_of_param (map param_view m.1.params.now)) ≡ false) }
     ensures { Answers use_works expand_fault_view result
         (use_of line (map (in_arg scope.now) (map arg_view args.now))
-        (in_declared scope.now (name_view prefix.now)) (option_map pair_view found.entry)) }
+        (in_declared scope.now (name_view prefix.now))
+        (option_map (λ k. found_view (k.0, k.1.now)) found.entry)) }
 {
-    let Some((number, module)) = found else {
+    let Some((number, known)) = found else {
         return Err(ExpandFault::Unknown { line });
     };
-    if !fit(module.params, args) {
+    if !fit(known.module.params, args) {
         return Err(ExpandFault::Arguments { line });
     }
-    match inner_scope(alloc, scope, module.params, args, prefix) {
-        Ok(inner) => Ok(Use::new(alloc, inner, Visible::First(number), module.body)),
+    match inner_scope(alloc, scope, &known.titles, args, prefix) {
+        Ok(inner) => Ok(Use::new(alloc, inner, Visible::First(number), known.module.body)),
         Err(fault) => Err(fault.at(line)),
     }
 }
 
 /// What stands for the words of a module's body, with an argument for each parameter.
-fn inner_scope(
+fn inner_scope<'a>(
     alloc: Global,
     scope: &Scope,
-    params: &[Param],
+    titles: &Titles,
     args: &[Arg],
     prefix: &[PartExpr],
-) -> Result<Scope, NameFault>
-    requires different { has_twice (map word_of_param (map param_view params.now)) ≡ false }
-    requires count { length params.now ≡ length args.now }
+) -> Result<Scope<'a>, NameFault>
+    requires different { has_twice titles.now ≡ false }
     ensures { Answers (λ x. x) name_fault_view result
-        (replaced_by (map word_of_param (map param_view params.now))
-        (map (in_arg scope.now) (map arg_view args.now))
+        (replaced_by titles.now (map (in_arg scope.now) (map arg_view args.now))
         (in_declared scope.now (name_view prefix.now))) }
 {
-    let given = give_all(alloc, scope, params, args)?;
+    let values = values_of(alloc, scope, args)?;
     let text = declared_name(alloc, scope, prefix)?;
-    let Given { numbers, nodes } = given;
-    Ok(Scope::of_use(alloc, text, numbers, nodes))
+    let words = Words::new(titles.share()?, values);
+    Ok(Scope::of_use(alloc, text, words))
 }
 
-/// What stands for the parameters, from an argument for each.
-fn give_all(
-    alloc: Global,
-    scope: &Scope,
-    params: &[Param],
-    args: &[Arg],
-) -> Result<Given, NameFault>
-    requires different { has_twice (map word_of_param (map param_view params.now)) ≡ false }
-    requires count { length params.now ≡ length args.now }
-    ensures { Answers given_view name_fault_view result
-        (bound (map word_of_param (map param_view params.now))
-        (map (in_arg scope.now) (map arg_view args.now))) }
+/// The values of arguments.
+fn values_of(alloc: Global, scope: &Scope, args: &[Arg]) -> Result<Items<Given>, NameFault>
+    ensures { Answers (map given_view) name_fault_view result
+        (each given_by (map (in_arg scope.now) (map arg_view args.now))) }
 {
-    let mut given = Given {
-        numbers: Words::new(alloc),
-        nodes: Words::new(alloc),
-    };
-    for i in 0..params.len() {
-        give(alloc, scope, &mut given, word_of(&params[i]), &args[i])?;
+    let mut made = Vec::with_capacity(alloc, args.len())?;
+    for arg in args {
+        let value = value_of(alloc, scope, arg)?;
+        made.push(value)?;
     }
-    Ok(given)
+    Ok(Items::from_vec(made))
 }
 
-/// Lets the value of an argument stand for a word for which nothing stands.
-fn give(
-    alloc: Global,
-    scope: &Scope,
-    given: &mut Given,
-    word: &str,
-    arg: &Arg,
-) -> Result<(), NameFault>
-    requires new_number { list_any (λ b. bytes_eq word.now b.0) given.old.numbers ≡ false }
-    requires new_node { list_any (λ b. bytes_eq word.now b.0) given.old.nodes ≡ false }
-    ensures { Answers (λ _. given_view given.new) name_fault_view result
-        (given_more word.now (given_view given.old) (in_arg scope.now (arg_view arg.now))) }
+/// The value of an argument.
+fn value_of(alloc: Global, scope: &Scope, arg: &Arg) -> Result<Given, NameFault>
+    ensures { Answers given_view name_fault_view result
+        (given_by (in_arg scope.now (arg_view arg.now))) }
 {
     match arg {
         Arg::Num(expr) => {
             let number = value(scope, expr)?;
-            given.numbers.add(alloc, word, number)?;
+            Ok(Given::Number(number))
         }
         Arg::Node(name) => {
             let text = reference(alloc, scope, name.as_slice())?;
-            given.nodes.add(alloc, word, text)?;
+            Ok(Given::Named(text))
         }
     }
-    Ok(())
 }
 
 /// Whether the arguments are as many as the parameters, and of their sorts.

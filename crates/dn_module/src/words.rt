@@ -1,63 +1,137 @@
-//! What stands for words.
+//! What stands for the words of a module's parameters.
 
-ghost use Rattle.std.specs.Prelude.{◌≡◌, [], ◌∷◌, ◌++◌, OnOk, OnErr, drop, false};
-ghost use Rattle.std.specs.List.{list_any};
-ghost use Rattle.std.specs.Option.{option_copied};
-ghost use Rattle.std.specs.Str.{bytes_eq};
+ghost use Rattle.std.specs.Prelude.{◌≡◌, List, ℕ, map, drop, option_map, slice_get, is_some, false};
+ghost use Rattle.dn_module.specs.Expand.{has_twice, numbers_of, nodes_of};
 ghost use Rattle.dn_module.specs.Replace.{looked_up};
+ghost use Rattle.dn_module.specs.Words.{given_view, number_part, name_part, part_in, numbers_from};
 
-use indexmap::IndexMap;
-use std::alloc::{AllocError, Global};
+use crate::titles::Titles;
+use dn_base::items::Items;
+use dn_base::text::Text;
 use std::marker::Model;
 
-/// Different words in the order in which they were added, each with what stands for it. One is found by
-/// its hash.
+/// The value of an argument.
 #[derive(Drop)]
-pub struct Words<T> {
-    entries: IndexMap<String, T>,
+pub enum Given {
+    /// A number.
+    Number(u64),
+    /// The full name of a node.
+    Named(Text),
 }
 
-impl<T> Model for Words<T> {
-    ghost use Rattle.std.specs.Prelude.{List, ℕ, map};
-    ghost use Rattle.std.specs.String.{string_bytes};
-
-    ghost Value = { List (List ℕ × T) };
-
-    ghost view = { λ s. map (λ e. (string_bytes e.0, e.1)) s.entries.entries };
+/// What stands for the words of a module's parameters: at the place of each word its value. Contracts see
+/// the numbers and the full names, each with its word.
+#[derive(Drop)]
+pub struct Words {
+    titles: Titles,
+    values: Items<Given>,
+    /// The numbers before this place stand for nothing more.
+    from: usize,
 }
 
-impl<T: Drop> Words<T> {
-    /// No words. It takes no memory.
-    pub fn new(alloc: Global) -> Words<T>
-        ensures { result ≡ [] }
+impl Model for Words {
+    ghost use Rattle.std.specs.Prelude.{List, ℕ, ◌≡◌, map, false};
+    ghost use Rattle.dn_module.specs.Expand.{has_twice, nodes_of};
+    ghost use Rattle.dn_module.specs.Words.{given_view, numbers_from};
+
+    ghost Value = { List (List ℕ × ℕ) × List (List ℕ × List ℕ) };
+
+    ghost view = { λ w. (
+      numbers_from w.from w.titles (map given_view w.values),
+      nodes_of w.titles (map given_view w.values),
+    ) };
+
+    ghost invariant = { λ w. has_twice w.titles ≡ false };
+}
+
+impl Words {
+    /// Different words, each with the value at its place. It takes no memory.
+    pub fn new(titles: Titles, values: Items<Given>) -> Words
+        requires different { has_twice titles ≡ false }
+        ensures { result ≡ (
+          numbers_of titles (map given_view values),
+          nodes_of titles (map given_view values),
+        ) }
     {
         Words {
-            entries: IndexMap::new(alloc),
+            titles,
+            values,
+            from: 0,
         }
     }
 
-    /// What stands for a word. `None` exactly where it is not there.
-    pub fn get(&self, word: &str) -> Option<&T>
-        ensures { option_copied result ≡ looked_up word.now self.now }
+    /// The number that stands for a word. `None` exactly where none does.
+    pub fn number(&self, word: &str) -> Option<u64>
+        ensures { result ≡ looked_up word.now self.now.0 }
     {
-        self.entries.get(word)
+        let Some(place) = self.titles.place(word) else {
+            return None;
+        };
+        if place < self.from {
+            return None;
+        }
+        number_at(self.values.as_slice(), place)
     }
 
-    /// Adds a word that is not there. For want of memory the words are unchanged.
-    pub fn add(&mut self, alloc: Global, word: &str, value: T) -> Result<(), AllocError>
-        requires new_word { list_any (λ b. bytes_eq word.now b.0) self.old ≡ false }
-        ensures ok { OnOk result (self.new ≡ self.old ++ (word.now, value) ∷ []) }
-        ensures err { OnErr result (self.new ≡ self.old) }
+    /// The full name that stands for a word. `None` exactly where none does.
+    pub fn name(&self, word: &str) -> Option<&str>
+        ensures { option_map (λ t. t.now) result ≡ looked_up word.now self.now.1 }
     {
-        let word = String::from_str(alloc, word)?;
-        let _ = self.entries.insert(word, value)?;
-        Ok(())
+        let Some(place) = self.titles.place(word) else {
+            return None;
+        };
+        name_at(self.values.as_slice(), place)
     }
 
-    /// Takes the first word away, where there is one.
-    pub fn without_first(&mut self)
-        ensures { self.new ≡ drop 1 self.old }
+    /// Takes the first number away, where there is one.
+    pub fn without_first_number(&mut self)
+        ensures { self.new ≡ (drop 1 self.old.0, self.old.1) }
     {
-        let _ = self.entries.shift_remove_index(0);
+        self.from = after_number(self.values.as_slice(), self.from);
     }
+}
+
+/// The number at a place. `None` exactly where there is none.
+fn number_at(values: &[Given], place: usize) -> Option<u64>
+    ensures { result ≡ part_in number_part (slice_get (map given_view values.now) place) }
+{
+    match values.get(place) {
+        Some(Given::Number(number)) => Some(*number),
+        _ => None,
+    }
+}
+
+/// The full name at a place. `None` exactly where there is none.
+fn name_at(values: &[Given], place: usize) -> Option<&str>
+    ensures { option_map (λ t. t.now) result ≡
+        part_in name_part (slice_get (map given_view values.now) place) }
+{
+    match values.get(place) {
+        Some(Given::Named(text)) => Some(text.as_str()),
+        _ => None,
+    }
+}
+
+/// The place after the first number from a place on, or past all values.
+fn after_number(values: &[Given], from: usize) -> usize
+    ensures { (words : List (List ℕ)) →
+        numbers_from result words (map given_view values.now) ≡
+        drop 1 (numbers_from from words (map given_view values.now)) }
+{
+    let mut place = from;
+    while place < values.len() {
+        let value = &values[place];
+        place += 1;
+        if is_number(value) {
+            return place;
+        }
+    }
+    place
+}
+
+/// Whether a value is a number.
+fn is_number(value: &Given) -> bool
+    ensures { result ≡ is_some (number_part (given_view value.now)) }
+{
+    matches!(value, Given::Number(_))
 }

@@ -1,4 +1,4 @@
-use Rattle.std.proofs.Common.{arith, rules, ◌≡◌, ◌∙◌, ap, sym, subst, List, [], ◌∷◌, ◌++◌, ◌≤◌, length, map, ◌+◌, take, drop, get_or, Bool, true, ◌&&◌, Ok}
+use Rattle.std.proofs.Common.{arith, ◌≡◌, ◌∙◌, ap, sym, subst, List, [], ◌∷◌, ◌++◌, map, ◌+◌, take, drop, get_or, Bool, true, ◌&&◌}
 use Rattle.std.proofs.lemmas.List.{map_more, take_all}
 use Rattle.std.proofs.lemmas.List.Folds.{list_all_more}
 use Rattle.std.specs.List.{list_all}
@@ -8,7 +8,7 @@ use Rattle.dn_module.specs.Values.{each}
 use Rattle.dn_module.specs.Drafts.{node_in, node_of, refers_to_known}
 use Rattle.dn_module.proofs.Each.{followed, made_next}
 use Rattle.dn_module.proofs.Known.{new_name, formed_at}
-use Rattle.dn_module.proofs.Closed.{closed, net_length}
+use Rattle.dn_module.proofs.Closed.{closed}
 use Rattle.dn_module.proofs.link.linked_net.Goals as goal
 
 pub add-requires-clause-new_name : goal.add-requires-clause-new_name

@@ -1,4 +1,4 @@
-use Rattle.std.proofs.Common.{◌∙◌, sym, ap, arith, map, ◌<◌}
+use Rattle.std.proofs.Common.{◌∙◌, sym, arith, map, ◌<◌}
 use Rattle.std.proofs.lemmas.Result.{err_from_is_err_and}
 use Rattle.dn_module.specs.Expand.{most_steps, statements, outside, nothing_yet}
 use Rattle.dn_module.specs.Machine.{state_view}

@@ -5,7 +5,7 @@ use Rattle.dn_module.proofs.scope.looped.Given as goal
 abbrev pub invariant-loop-left : goal.invariant-loop-left
 invariant-loop-left l = record {
   within : l.left ≤ length l.loops;
-  same : looked_up l.word (reverse (map (λ n. (n.word, n.number)) l.loops)) ≡ looked_up l.word (reverse (map (λ n. (n.word, n.number)) (take l.left l.loops)));
+  same : looked_up l.word (reverse (map (λ n. (n.word.now, n.number)) l.loops)) ≡ looked_up l.word (reverse (map (λ n. (n.word.now, n.number)) (take l.left l.loops)));
 }
 
 abbrev pub decreases-loop-left : goal.decreases-loop-left

@@ -1,5 +1,5 @@
 -- Modules by their names, and the words of their parameters.
-use Rattle.std.proofs.Common.{◌≡◌, ◌∙◌, ap, sym, refl, arith, ℕ, zero, suc, ◌+◌, ◌<◌, ◌≤◌, nat_lt, Bool, true, false, not, ◌||◌, cond, List, [], ◌∷◌, ◌++◌, length, map, take, drop, get_or, slice_get, position, Some, None, IsTrue, Result, Ok, Err, OnOk, OnErr}
+use Rattle.std.proofs.Common.{◌≡◌, ◌∙◌, ap, sym, refl, arith, ℕ, zero, suc, ◌+◌, ◌<◌, ◌≤◌, nat_lt, Bool, true, false, not, ◌||◌, cond, List, [], ◌∷◌, ◌++◌, length, map, take, drop, get_or, slice_get, position, Some, None, Result, Ok, Err, OnOk, OnErr}
 use Rattle.std.proofs.lemmas.Bool.Decides.{nat_tests}
 use Rattle.std.proofs.lemmas.Bool.{ltb-false, ltb-true}
 use Rattle.std.proofs.lemmas.List.{length-map, map_more, map-append, take-append-drop, take_all}
@@ -7,11 +7,12 @@ use Rattle.std.specs.List.{prefix_len, list_any}
 use Rattle.std.specs.Str.{bytes_eq}
 use Rattle.dn_parse.specs.declared.syntax.Param.{Param as CodeParam}
 use Rattle.dn_parse.specs.Views.{param_view}
-use Rattle.dn_module.specs.declared.modules.Module.{Module as CodeModule}
+use Rattle.dn_module.specs.declared.modules.Known.{Known}
 use Rattle.dn_module.specs.Expand.{Module, Visibility, outside, within_module, module_from, usable, has_twice, is_module, word_of_param, with_module}
 use Rattle.dn_module.specs.Drafts.{is_known}
-use Rattle.dn_module.specs.Stack.{sees, module_view}
+use Rattle.dn_module.specs.Stack.{sees, known_view}
 use Rattle.dn_module.proofs.Known.{twice-push, twice-append}
+use Rattle.dn_module.proofs.Scopes.{at_any}
 use Rattle.dn_base.proofs.Lists.{list_any-map}
 use Rattle.dn_module.specs.Faults.{is_duplicate}
 
@@ -110,15 +111,15 @@ module _ (title : List ℕ) where
       go false t = cut ms 0 before (ltb-false _ _ t)
 
 -- the names of the modules that are kept
-pub titles_are : (ms : List CodeModule) → map (λ m. m.title) (map module_view ms) ≡ map (λ m. m.title.now) ms
+pub titles_are : (ks : List Known) → map (λ m. m.title) (map known_view ks) ≡ map (λ k. k.module.title.now) ks
 titles_are [] = refl
-titles_are (m ∷ ms) = ap (λ l. m.title.now ∷ l) (titles_are ms)
+titles_are (k ∷ ks) = ap (λ l. k.module.title.now ∷ l) (titles_are ks)
 
 pub is_module-titles : (ms : List Module) (title : List ℕ) → is_module ms title ≡ is_known (map (λ m. m.title) ms) title
 is_module-titles [] title = refl
 is_module-titles (m ∷ ms) title = ap (λ b. bytes_eq title m.title || b) (is_module-titles ms title)
 
-pub is_once : (b : Bool) → IsTrue (not b) → b ≡ false
+pub is_once : (b : Bool) → true ≡ not b → b ≡ false
 is_once true h = cc
 is_once false h = refl
 
@@ -130,23 +131,34 @@ pub words_are : (ps : List CodeParam) → map word_of_param (map param_view ps) 
 words_are [] = refl
 words_are (p ∷ ps) = ap (λ l. word_of_param (param_view p) ∷ l) (words_are ps)
 
-words_more : (ps : List CodeParam) (i : ℕ) (p : CodeParam) → i < length ps → p ≡ get_or ps i p → has_twice (param_words (take (i + 1) ps)) ≡ (is_known (param_words (take i ps)) (word_of_param (param_view p)) || has_twice (param_words (take i ps)))
-words_more ps i p h e =
-    ap has_twice (map_more (λ (q : CodeParam). word_of_param (param_view q)) ps i p h)
-    ∙ twice-push (param_words (take i ps)) (word_of_param (param_view (get_or ps i p)))
-    ∙ ap (λ (q : CodeParam). is_known (param_words (take i ps)) (word_of_param (param_view q)) || has_twice (param_words (take i ps))) (sym e)
+-- the word of a parameter, whatever stands for one past the end
+abbrev word_at : List CodeParam → ℕ → CodeParam → List ℕ
+word_at ps i d = word_of_param (param_view (get_or ps i d))
 
--- a word that was there before comes twice
-pub word_met : (ps : List CodeParam) (i : ℕ) (p : CodeParam) → i < length ps → p ≡ get_or ps i p → is_known (param_words (take i ps)) (word_of_param (param_view p)) ≡ true → has_twice (param_words ps) ≡ true
-word_met ps i p h e k =
-    let front : has_twice (param_words (take (i + 1) ps)) ≡ true = words_more ps i p h e ∙ ap (λ b. b || has_twice (param_words (take i ps))) k in
-    let parts : param_words ps ≡ param_words (take (i + 1) ps) ++ param_words (drop (i + 1) ps) =
-    ap param_words (sym (take-append-drop (i + 1) ps)) ∙ map-append (λ (q : CodeParam). word_of_param (param_view q)) (take (i + 1) ps) (drop (i + 1) ps) in
-    ap has_twice parts ∙ twice-append (param_words (take (i + 1) ps)) (param_words (drop (i + 1) ps)) front
+module _ (ps : List CodeParam) (i : ℕ) (d : CodeParam) (h : i < length ps) where
+  words_more : has_twice (param_words (take (i + 1) ps)) ≡ (is_known (param_words (take i ps)) (word_at ps i d) || has_twice (param_words (take i ps)))
+  words_more =
+      ap has_twice (map_more (λ (q : CodeParam). word_of_param (param_view q)) ps i (get_or ps i d) h)
+      ∙ twice-push (param_words (take i ps)) (word_of_param (param_view (get_or ps i (get_or ps i d))))
+      ∙ ap (λ (q : CodeParam). is_known (param_words (take i ps)) (word_of_param (param_view q)) || has_twice (param_words (take i ps))) (sym (at_any ps i d h))
 
--- one that was not there comes once
-pub word_new : (ps : List CodeParam) (i : ℕ) (p : CodeParam) → i < length ps → p ≡ get_or ps i p → is_known (param_words (take i ps)) (word_of_param (param_view p)) ≡ false → has_twice (param_words (take i ps)) ≡ false → has_twice (param_words (take (i + 1) ps)) ≡ false
-word_new ps i p h e k l = words_more ps i p h e ∙ ap (λ b. b || has_twice (param_words (take i ps))) k ∙ l
+  -- a word that was there before comes twice
+  pub word_met : is_known (param_words (take i ps)) (word_at ps i d) ≡ true → has_twice (param_words ps) ≡ true
+  word_met k =
+      let front : has_twice (param_words (take (i + 1) ps)) ≡ true = words_more ∙ ap (λ b. b || has_twice (param_words (take i ps))) k in
+      let parts : param_words ps ≡ param_words (take (i + 1) ps) ++ param_words (drop (i + 1) ps) =
+      ap param_words (sym (take-append-drop (i + 1) ps)) ∙ map-append (λ (q : CodeParam). word_of_param (param_view q)) (take (i + 1) ps) (drop (i + 1) ps) in
+      ap has_twice parts ∙ twice-append (param_words (take (i + 1) ps)) (param_words (drop (i + 1) ps)) front
+
+  -- one that was not there comes once
+  pub word_new : is_known (param_words (take i ps)) (word_at ps i d) ≡ false → has_twice (param_words (take i ps)) ≡ false → has_twice (param_words (take (i + 1) ps)) ≡ false
+  word_new k l = words_more ∙ ap (λ b. b || has_twice (param_words (take i ps))) k ∙ l
+
+  -- the words of the parameters so far, and one more
+  pub words_put : param_words (take i ps) ++ word_at ps i d ∷ [] ≡ param_words (take (i + 1) ps)
+  words_put =
+      ap (λ (q : CodeParam). param_words (take i ps) ++ word_of_param (param_view q) ∷ []) (at_any ps i d h)
+      ∙ sym (map_more (λ (q : CodeParam). word_of_param (param_view q)) ps i (get_or ps i d) h)
 
 -- a word that was put among others, by the answer of the set that keeps them
 module _ {S : Type 0} (text : S → List ℕ) (keys : List S) (key : S) where
@@ -167,12 +179,6 @@ module _ {S : Type 0} (text : S → List ℕ) (keys : List S) (key : S) where
     go : (b : Bool) → is_new ≡ not b → now ≡ cond b keys (keys ++ key ∷ []) → map text now ≡ map text keys ++ text key ∷ []
     go true e is = cc
     go false e is = ap (map text) is ∙ map-append text keys (key ∷ [])
-
--- the words of the parameters so far, and one more
-pub words_put : (ps : List CodeParam) (i : ℕ) (p : CodeParam) → i < length ps → p ≡ get_or ps i p → param_words (take i ps) ++ word_of_param (param_view p) ∷ [] ≡ param_words (take (i + 1) ps)
-words_put ps i p h e =
-    ap (λ (q : CodeParam). param_words (take i ps) ++ word_of_param (param_view q) ∷ []) e
-    ∙ sym (map_more (λ (q : CodeParam). word_of_param (param_view q)) ps i p h)
 
 pub words_all : (ps : List CodeParam) (i : ℕ) → length ps ≤ i → param_words (take i ps) ≡ map word_of_param (map param_view ps)
 words_all ps i h = ap param_words (take_all i ps h) ∙ sym (words_are ps)

@@ -1,0 +1,11 @@
+use Rattle.std.proofs.Common.{◌≡◌, map, drop}
+use Rattle.dn_parse.specs.Views.{arg_view}
+use Rattle.dn_module.specs.Expand.{given_by}
+use Rattle.dn_module.specs.Values.{each}
+use Rattle.dn_module.specs.Replace.{in_arg}
+use Rattle.dn_module.specs.Words.{given_view}
+use Rattle.dn_module.proofs.Each.{followed}
+use Rattle.dn_module.proofs.uses.values_of.Given as goal
+
+abbrev pub invariant-loop-arg : goal.invariant-loop-arg
+invariant-loop-arg l = each given_by (map (in_arg l.scope) (map arg_view l.args)) ≡ followed (map given_view l.made.items) (each given_by (map (in_arg l.scope) (map arg_view (drop l.arg-index l.args))))

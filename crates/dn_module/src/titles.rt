@@ -1,0 +1,79 @@
+//! The words of a module's parameters.
+
+ghost use Rattle.std.specs.Prelude.{◌≡◌, map, position, IfOk, IfSome, not, is_some};
+ghost use Rattle.std.specs.Str.{bytes_eq};
+ghost use Rattle.std.specs.String.{string_bytes};
+ghost use Rattle.dn_parse.specs.Views.{param_view};
+ghost use Rattle.dn_module.specs.Expand.{has_twice, word_of_param};
+
+use dn_parse::syntax::Param;
+use indexmap::IndexSet;
+use std::alloc::{AllocError, Global};
+use std::marker::Model;
+use std::rc::Rc;
+
+/// The words of a module's parameters in their order, which all its uses share. The place of one is found
+/// by its hash.
+#[derive(Drop)]
+pub struct Titles {
+    words: Rc<IndexSet<String>>,
+}
+
+impl Model for Titles {
+    ghost use Rattle.std.specs.Prelude.{List, ℕ, map};
+    ghost use Rattle.std.specs.String.{string_bytes};
+
+    ghost Value = { List (List ℕ) };
+
+    ghost view = { λ t. map (λ s. string_bytes s) t.words.value.keys };
+}
+
+impl Titles {
+    /// The words of these parameters. `None` exactly where two have one word.
+    pub fn of_params(alloc: Global, params: &[Param]) -> Result<Option<Titles>, AllocError>
+        ensures words { IfOk result (λ found. IfSome found
+            (λ t. t ≡ map word_of_param (map param_view params.now))) }
+        ensures different { IfOk result (λ found. is_some found ≡
+            not (has_twice (map word_of_param (map param_view params.now)))) }
+    {
+        let mut words: IndexSet<String> = IndexSet::new(alloc);
+        for i in 0..params.len() {
+            let param = &params[i];
+            let word = word_of(alloc, param)?;
+            if !words.insert(word)? {
+                return Ok(None);
+            }
+        }
+        let words = Rc::new(alloc, words)?;
+        Ok(Some(Titles { words }))
+    }
+
+    /// The same words once more. Only their number of owners is changed.
+    pub fn share(&self) -> Result<Titles, AllocError>
+        ensures { IfOk result (λ t. t ≡ self.now) }
+    {
+        let words = self.words.clone()?;
+        Ok(Titles { words })
+    }
+
+    /// The place of a word, counted from 0. `None` exactly where it is not there.
+    pub fn place(&self, word: &str) -> Option<usize>
+        ensures { result ≡ position (bytes_eq word.now) self.now }
+    {
+        let words = self.words.as_ref();
+        match words.get_index_of(word) {
+            Some(place) => Some(place),
+            None => None,
+        }
+    }
+}
+
+/// A copy of the word of a parameter.
+fn word_of(alloc: Global, param: &Param) -> Result<String, AllocError>
+    ensures { IfOk result (λ w. string_bytes w ≡ word_of_param (param_view param.now)) }
+{
+    match param {
+        Param::Num(word) => String::from_str(alloc, word),
+        Param::Node(word) => String::from_str(alloc, word),
+    }
+}
