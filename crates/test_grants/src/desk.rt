@@ -35,6 +35,7 @@ use dn_placement::roles::is_agent;
 use dn_tables::placement::Placement;
 use dn_vector::fault::RouteFault;
 use dn_vector::route::route;
+use dn_view::exact::exact;
 use dn_view::resolve::resolve;
 use dn_view::view::view;
 use dn_walk::walks::walks;
@@ -217,6 +218,37 @@ impl Desk {
         ))
     }
 
+    /// Whether the first admissible placement of a request would be admissible for its first so many addresses
+    /// alone. `None` where there is no placement, or the request has not so many addresses.
+    pub fn is_exact(
+        &self,
+        alloc: Global,
+        board: &Board,
+        kinds: &Kinds,
+        request: &Request,
+        size: u64,
+    ) -> Result<Option<bool>, Unmade>
+        requires lawful { All (λ k. IsLawful (meaning (k.vtable, k.value))) kinds.now.list.items }
+        requires board { IsBoard (map (λ k. meaning (k.vtable, k.value)) kinds.now.list.items) board.now }
+        requires desk { IsDesk (map (λ k. meaning (k.vtable, k.value)) kinds.now.list.items)
+            board.now.net self.now }
+    {
+        if !is_agent(&board.net, request.agent) || !is_formed(request) {
+            return Err(Unmade::Unformed);
+        }
+        if size == 0 || size > request.size {
+            return Ok(None);
+        }
+        let tables = self.book.tables();
+        let (net, flats) = (&board.net, &board.flats);
+        let Some(placement) = first(alloc, net, flats, kinds, tables, request, None)? else {
+            return Ok(None);
+        };
+        let part = front_of(request, size);
+        let answer = exact(alloc, net, flats, kinds, tables, &part, &placement)?;
+        Ok(Some(answer))
+    }
+
     /// The first admissible placement of a request, at an address of its agent where one is given. `Unformed`
     /// where the request has no agent, no rights or no buffer.
     pub fn first(
@@ -312,6 +344,19 @@ fn first_beside(
         request,
         None,
     )
+}
+
+/// A request for the first so many addresses of the buffer of another.
+fn front_of(request: &Request, size: u64) -> Request
+    ensures { result ≡ record {
+      agent = request.now.agent;
+      node = request.now.node;
+      base = request.now.base;
+      size = size;
+      rights = request.now.rights;
+    } }
+{
+    Request { size, ..*request }
 }
 
 /// Whether a request has rights, and a buffer that ends at the last address or before.

@@ -64,6 +64,11 @@ fn place_pages(rt: &impl Abort, alloc: Global, kinds: &Kinds, board: &Board) -> 
         }
         None => assert!(rt; false),
     }
+    // That placement shows the page, and more than its first half.
+    let exact = desk.is_exact(alloc, board, kinds, &page, 0x1000)?;
+    assert!(rt; exact == Some(true));
+    let exact = desk.is_exact(alloc, board, kinds, &page, 0x800)?;
+    assert!(rt; exact == Some(false));
     Ok(())
 }
 
