@@ -45,7 +45,8 @@ pub fn made(
     command: Command,
 ) -> Option<Outcome>
     requires lawful { All (λ k. IsLawful (meaning (k.vtable, k.value))) kinds.now.list.items }
-    requires board { IsBoard (map (λ k. meaning (k.vtable, k.value)) kinds.now.list.items) board.now }
+    requires board { IsBoard (map (λ k. meaning (k.vtable, k.value)) kinds.now.list.items)
+        board.now }
     requires desk { IsDesk (map (λ k. meaning (k.vtable, k.value)) kinds.now.list.items)
         board.now.net desk.old }
     ensures { IsDesk (map (λ k. meaning (k.vtable, k.value)) kinds.now.list.items)

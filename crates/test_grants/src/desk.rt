@@ -9,10 +9,13 @@ ghost use Rattle.dn_kind.specs.Rights.{are_rights};
 ghost use Rattle.dn_kind.specs.Units.{IsLegalWith};
 ghost use Rattle.dn_flat.specs.Stages.{AreFlats};
 ghost use Rattle.dn_placement.specs.Order.{IsFirst};
+ghost use Rattle.dn_placement.specs.Placement.{IsPlacement};
+ghost use Rattle.dn_placement.specs.Slots.{slots_of_set};
 ghost use Rattle.dn_book.specs.Book.{slots_of};
 ghost use Rattle.dn_book.specs.Tables.{IsKept};
-ghost use Rattle.test_grants.specs.Desk.{IsBoard, IsDesk};
+ghost use Rattle.test_grants.specs.Desk.{IsBoard, IsDesk, part};
 
+use crate::own::is_hop_free;
 use bitflags::Flags;
 use dn_base::OutOfMemory;
 use dn_base::device::MakeFault;
@@ -84,7 +87,8 @@ impl Desk {
         failing: &[u32],
     ) -> Result<Result<Desk, MakeFault>, Unmade>
         requires lawful { All (λ k. IsLawful (meaning (k.vtable, k.value))) kinds.now.list.items }
-        requires board { IsBoard (map (λ k. meaning (k.vtable, k.value)) kinds.now.list.items) board.now }
+        requires board { IsBoard (map (λ k. meaning (k.vtable, k.value)) kinds.now.list.items)
+            board.now }
         ensures { IfOk result (λ made. IfOk made (IsDesk
             (map (λ k. meaning (k.vtable, k.value)) kinds.now.list.items) board.now.net)) }
     {
@@ -105,7 +109,8 @@ impl Desk {
         request: &Request,
     ) -> Option<Result<u64, GrantFault>>
         requires lawful { All (λ k. IsLawful (meaning (k.vtable, k.value))) kinds.now.list.items }
-        requires board { IsBoard (map (λ k. meaning (k.vtable, k.value)) kinds.now.list.items) board.now }
+        requires board { IsBoard (map (λ k. meaning (k.vtable, k.value)) kinds.now.list.items)
+            board.now }
         requires desk { IsDesk (map (λ k. meaning (k.vtable, k.value)) kinds.now.list.items)
             board.now.net self.old }
         ensures { IsDesk (map (λ k. meaning (k.vtable, k.value)) kinds.now.list.items)
@@ -138,7 +143,8 @@ impl Desk {
         node: u16,
     ) -> Option<Result<u64, RouteFault>>
         requires lawful { All (λ k. IsLawful (meaning (k.vtable, k.value))) kinds.now.list.items }
-        requires board { IsBoard (map (λ k. meaning (k.vtable, k.value)) kinds.now.list.items) board.now }
+        requires board { IsBoard (map (λ k. meaning (k.vtable, k.value)) kinds.now.list.items)
+            board.now }
         requires desk { IsDesk (map (λ k. meaning (k.vtable, k.value)) kinds.now.list.items)
             board.now.net self.old }
         ensures { IsDesk (map (λ k. meaning (k.vtable, k.value)) kinds.now.list.items)
@@ -169,7 +175,8 @@ impl Desk {
         id: u32,
     ) -> Option<Result<(), RevokeFault>>
         requires lawful { All (λ k. IsLawful (meaning (k.vtable, k.value))) kinds.now.list.items }
-        requires board { IsBoard (map (λ k. meaning (k.vtable, k.value)) kinds.now.list.items) board.now }
+        requires board { IsBoard (map (λ k. meaning (k.vtable, k.value)) kinds.now.list.items)
+            board.now }
         requires desk { IsDesk (map (λ k. meaning (k.vtable, k.value)) kinds.now.list.items)
             board.now.net self.old }
         ensures { IsDesk (map (λ k. meaning (k.vtable, k.value)) kinds.now.list.items)
@@ -192,7 +199,8 @@ impl Desk {
         request: &Request,
     ) -> Result<Option<Result<(), CommitFault>>, Unmade>
         requires lawful { All (λ k. IsLawful (meaning (k.vtable, k.value))) kinds.now.list.items }
-        requires board { IsBoard (map (λ k. meaning (k.vtable, k.value)) kinds.now.list.items) board.now }
+        requires board { IsBoard (map (λ k. meaning (k.vtable, k.value)) kinds.now.list.items)
+            board.now }
         requires desk { IsDesk (map (λ k. meaning (k.vtable, k.value)) kinds.now.list.items)
             board.now.net self.old }
         ensures { IsDesk (map (λ k. meaning (k.vtable, k.value)) kinds.now.list.items)
@@ -218,39 +226,71 @@ impl Desk {
         ))
     }
 
-    /// Whether the first admissible placement of a request would be admissible for its first so many addresses
-    /// alone. `None` where there is no placement, or the request has not so many addresses.
+    /// Whether a placement of a request is admissible for its first so many addresses alone, with
+    /// these rights. `None` where the request has not so many, or the rights are none.
     pub fn is_exact(
         &self,
         alloc: Global,
         board: &Board,
         kinds: &Kinds,
         request: &Request,
+        placement: &Placement,
         size: u64,
+        rights: Rights,
     ) -> Result<Option<bool>, Unmade>
         requires lawful { All (λ k. IsLawful (meaning (k.vtable, k.value))) kinds.now.list.items }
-        requires board { IsBoard (map (λ k. meaning (k.vtable, k.value)) kinds.now.list.items) board.now }
+        requires board { IsBoard (map (λ k. meaning (k.vtable, k.value)) kinds.now.list.items)
+            board.now }
         requires desk { IsDesk (map (λ k. meaning (k.vtable, k.value)) kinds.now.list.items)
             board.now.net self.now }
+        requires placed { IsPlacement board.now.net
+            (slots_of_set (map (λ k. meaning (k.vtable, k.value)) kinds.now.list.items)
+            self.now.book.set) request.now placement.now }
     {
-        if !is_agent(&board.net, request.agent) || !is_formed(request) {
-            return Err(Unmade::Unformed);
-        }
-        if size == 0 || size > request.size {
+        if size == 0 || size > request.size || !are_rights(rights) {
             return Ok(None);
         }
+        let part = part_of(request, size, rights);
         let tables = self.book.tables();
         let (net, flats) = (&board.net, &board.flats);
-        let Some(placement) = first(alloc, net, flats, kinds, tables, request, None)? else {
-            return Ok(None);
-        };
-        let part = front_of(request, size);
-        let answer = exact(alloc, net, flats, kinds, tables, &part, &placement)?;
+        let answer = exact(alloc, net, flats, kinds, tables, &part, placement)?;
         Ok(Some(answer))
     }
 
-    /// The first admissible placement of a request, at an address of its agent where one is given. `Unformed`
-    /// where the request has no agent, no rights or no buffer.
+    /// A placement of a request with another of its hops for its own. `None` where it has not so many
+    /// hops, or not all slots of the hop are free.
+    pub fn with_own(
+        &self,
+        alloc: Global,
+        board: &Board,
+        kinds: &Kinds,
+        request: &Request,
+        placement: &Placement,
+        own: u8,
+    ) -> Option<Placement>
+        requires lawful { All (λ k. IsLawful (meaning (k.vtable, k.value))) kinds.now.list.items }
+        requires board { IsBoard (map (λ k. meaning (k.vtable, k.value)) kinds.now.list.items)
+            board.now }
+        requires desk { IsDesk (map (λ k. meaning (k.vtable, k.value)) kinds.now.list.items)
+            board.now.net self.now }
+        requires placed { IsPlacement board.now.net
+            (slots_of_set (map (λ k. meaning (k.vtable, k.value)) kinds.now.list.items)
+            self.now.book.set) request.now placement.now }
+        ensures placed { IfSome result (IsPlacement board.now.net
+            (slots_of_set (map (λ k. meaning (k.vtable, k.value)) kinds.now.list.items)
+            self.now.book.set) request.now) }
+    {
+        let _kinds = kinds;
+        let hops = placement.hops();
+        let hop = *hops.get(usize::from(own))?;
+        if !is_hop_free(&board.net, self.book.tables(), request, hop) {
+            return None;
+        }
+        Some(Placement::new(alloc, placement.v(), hops, own))
+    }
+
+    /// The first admissible placement of a request, at an address of its agent where one is given.
+    /// `Unformed` where the request has no agent, no rights or no buffer.
     pub fn first(
         &self,
         alloc: Global,
@@ -260,15 +300,20 @@ impl Desk {
         at: Option<u64>,
     ) -> Result<Option<Placement>, Unmade>
         requires lawful { All (λ k. IsLawful (meaning (k.vtable, k.value))) kinds.now.list.items }
-        requires board { IsBoard (map (λ k. meaning (k.vtable, k.value)) kinds.now.list.items) board.now }
+        requires board { IsBoard (map (λ k. meaning (k.vtable, k.value)) kinds.now.list.items)
+            board.now }
         requires desk { IsDesk (map (λ k. meaning (k.vtable, k.value)) kinds.now.list.items)
             board.now.net self.now }
+        ensures placed { IfOk result (λ found. IfSome found (IsPlacement board.now.net
+            (slots_of_set (map (λ k. meaning (k.vtable, k.value)) kinds.now.list.items)
+            self.now.book.set) request.now)) }
     {
         if !is_agent(&board.net, request.agent) || !is_formed(request) {
             return Err(Unmade::Unformed);
         }
+        let (net, flats) = (&board.net, &board.flats);
         let tables = self.book.tables();
-        Ok(first(alloc, &board.net, &board.flats, kinds, tables, request, at)?)
+        Ok(first(alloc, net, flats, kinds, tables, request, at)?)
     }
 
     /// What a name resolves to for an access under the tables. `Unformed` where its node is not there.
@@ -281,7 +326,8 @@ impl Desk {
         access: Access,
     ) -> Result<Names, Unmade>
         requires lawful { All (λ k. IsLawful (meaning (k.vtable, k.value))) kinds.now.list.items }
-        requires board { IsBoard (map (λ k. meaning (k.vtable, k.value)) kinds.now.list.items) board.now }
+        requires board { IsBoard (map (λ k. meaning (k.vtable, k.value)) kinds.now.list.items)
+            board.now }
         requires desk { IsDesk (map (λ k. meaning (k.vtable, k.value)) kinds.now.list.items)
             board.now.net self.now }
     {
@@ -302,7 +348,8 @@ impl Desk {
         access: Access,
     ) -> Result<Rows, Unmade>
         requires lawful { All (λ k. IsLawful (meaning (k.vtable, k.value))) kinds.now.list.items }
-        requires board { IsBoard (map (λ k. meaning (k.vtable, k.value)) kinds.now.list.items) board.now }
+        requires board { IsBoard (map (λ k. meaning (k.vtable, k.value)) kinds.now.list.items)
+            board.now }
         requires desk { IsDesk (map (λ k. meaning (k.vtable, k.value)) kinds.now.list.items)
             board.now.net self.now }
     {
@@ -323,7 +370,8 @@ fn first_beside(
     request: &Request,
 ) -> Result<Option<Placement>, OutOfMemory>
     requires lawful { All (λ k. IsLawful (meaning (k.vtable, k.value))) kinds.now.list.items }
-    requires board { IsBoard (map (λ k. meaning (k.vtable, k.value)) kinds.now.list.items) board.now }
+    requires board { IsBoard (map (λ k. meaning (k.vtable, k.value)) kinds.now.list.items)
+        board.now }
     requires kept { IsKept board.now.net
         (map (λ k. meaning (k.vtable, k.value)) kinds.now.list.items) book.now.grants book.now.set }
     requires agent { IsTrue (is_agent_at (slice_get board.now.net request.now.agent)) }
@@ -346,17 +394,15 @@ fn first_beside(
     )
 }
 
-/// A request for the first so many addresses of the buffer of another.
-fn front_of(request: &Request, size: u64) -> Request
-    ensures { result ≡ record {
-      agent = request.now.agent;
-      node = request.now.node;
-      base = request.now.base;
-      size = size;
-      rights = request.now.rights;
-    } }
+/// A request for the first so many addresses of the buffer of another, with these rights.
+fn part_of(request: &Request, size: u64, rights: Rights) -> Request
+    ensures { result ≡ part request.now size rights }
 {
-    Request { size, ..*request }
+    Request {
+        size,
+        rights,
+        ..*request
+    }
 }
 
 /// Whether a request has rights, and a buffer that ends at the last address or before.

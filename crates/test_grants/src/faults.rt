@@ -45,7 +45,8 @@ fn script_of(
     seed: u64,
 ) -> Result<Script, Fail>
     requires lawful { All (λ k. IsLawful (meaning (k.vtable, k.value))) kinds.now.list.items }
-    requires board { IsBoard (map (λ k. meaning (k.vtable, k.value)) kinds.now.list.items) board.now }
+    requires board { IsBoard (map (λ k. meaning (k.vtable, k.value)) kinds.now.list.items)
+        board.now }
 {
     let mut desk = Desk::make(alloc, board, kinds, 1000, &[])??;
     let asked = asked_of(alloc, &board.net, choice.most)?;
@@ -85,7 +86,8 @@ fn compare_tables(
     after: &[Names],
 ) -> Result<(), Fail>
     requires lawful { All (λ k. IsLawful (meaning (k.vtable, k.value))) kinds.now.list.items }
-    requires board { IsBoard (map (λ k. meaning (k.vtable, k.value)) kinds.now.list.items) board.now }
+    requires board { IsBoard (map (λ k. meaning (k.vtable, k.value)) kinds.now.list.items)
+        board.now }
     requires desk { IsDesk (map (λ k. meaning (k.vtable, k.value)) kinds.now.list.items)
         board.now.net desk.now }
 {
@@ -107,7 +109,8 @@ fn play(
     script: &Script,
 ) -> Result<bool, Fail>
     requires lawful { All (λ k. IsLawful (meaning (k.vtable, k.value))) kinds.now.list.items }
-    requires board { IsBoard (map (λ k. meaning (k.vtable, k.value)) kinds.now.list.items) board.now }
+    requires board { IsBoard (map (λ k. meaning (k.vtable, k.value)) kinds.now.list.items)
+        board.now }
     requires desk { IsDesk (map (λ k. meaning (k.vtable, k.value)) kinds.now.list.items)
         board.now.net desk.old }
 {
@@ -138,7 +141,8 @@ fn stops(
     call: u32,
 ) -> Result<bool, Fail>
     requires lawful { All (λ k. IsLawful (meaning (k.vtable, k.value))) kinds.now.list.items }
-    requires board { IsBoard (map (λ k. meaning (k.vtable, k.value)) kinds.now.list.items) board.now }
+    requires board { IsBoard (map (λ k. meaning (k.vtable, k.value)) kinds.now.list.items)
+        board.now }
 {
     match Desk::make(alloc, board, kinds, 1000, &[call])? {
         Err(fault) => {
@@ -165,7 +169,8 @@ fn fail_each(
     seed: u64,
 ) -> Result<(), Fail>
     requires lawful { All (λ k. IsLawful (meaning (k.vtable, k.value))) kinds.now.list.items }
-    requires board { IsBoard (map (λ k. meaning (k.vtable, k.value)) kinds.now.list.items) board.now }
+    requires board { IsBoard (map (λ k. meaning (k.vtable, k.value)) kinds.now.list.items)
+        board.now }
 {
     let script = script_of(alloc, kinds, board, choice, seed)?;
     for call in 0..1000u32 {

@@ -38,7 +38,8 @@ fn is_granted(
     request: &Request,
 ) -> Result<bool, Fail>
     requires lawful { All (λ k. IsLawful (meaning (k.vtable, k.value))) kinds.now.list.items }
-    requires board { IsBoard (map (λ k. meaning (k.vtable, k.value)) kinds.now.list.items) board.now }
+    requires board { IsBoard (map (λ k. meaning (k.vtable, k.value)) kinds.now.list.items)
+        board.now }
     requires desk { IsDesk (map (λ k. meaning (k.vtable, k.value)) kinds.now.list.items)
         board.now.net desk.old }
     ensures { IsDesk (map (λ k. meaning (k.vtable, k.value)) kinds.now.list.items)
@@ -68,7 +69,8 @@ fn routed_to(
     node: u16,
 ) -> Result<Option<u64>, Fail>
     requires lawful { All (λ k. IsLawful (meaning (k.vtable, k.value))) kinds.now.list.items }
-    requires board { IsBoard (map (λ k. meaning (k.vtable, k.value)) kinds.now.list.items) board.now }
+    requires board { IsBoard (map (λ k. meaning (k.vtable, k.value)) kinds.now.list.items)
+        board.now }
     requires desk { IsDesk (map (λ k. meaning (k.vtable, k.value)) kinds.now.list.items)
         board.now.net desk.old }
     ensures { IsDesk (map (λ k. meaning (k.vtable, k.value)) kinds.now.list.items)
@@ -99,7 +101,8 @@ fn compare_grants(
     rights: Rights,
 ) -> Result<u32, Fail>
     requires lawful { All (λ k. IsLawful (meaning (k.vtable, k.value))) kinds.now.list.items }
-    requires board { IsBoard (map (λ k. meaning (k.vtable, k.value)) kinds.now.list.items) board.now }
+    requires board { IsBoard (map (λ k. meaning (k.vtable, k.value)) kinds.now.list.items)
+        board.now }
     requires desk { IsDesk (map (λ k. meaning (k.vtable, k.value)) kinds.now.list.items)
         board.now.net desk.old }
     ensures { IsDesk (map (λ k. meaning (k.vtable, k.value)) kinds.now.list.items)
@@ -179,7 +182,8 @@ fn compare_routes(
     asked: &[Asked],
 ) -> Result<u32, Fail>
     requires lawful { All (λ k. IsLawful (meaning (k.vtable, k.value))) kinds.now.list.items }
-    requires board { IsBoard (map (λ k. meaning (k.vtable, k.value)) kinds.now.list.items) board.now }
+    requires board { IsBoard (map (λ k. meaning (k.vtable, k.value)) kinds.now.list.items)
+        board.now }
     requires desk { IsDesk (map (λ k. meaning (k.vtable, k.value)) kinds.now.list.items)
         board.now.net desk.old }
     ensures { IsDesk (map (λ k. meaning (k.vtable, k.value)) kinds.now.list.items)
@@ -208,7 +212,8 @@ fn compare_all(
     choice: Choice,
 ) -> Result<u32, Fail>
     requires lawful { All (λ k. IsLawful (meaning (k.vtable, k.value))) kinds.now.list.items }
-    requires board { IsBoard (map (λ k. meaning (k.vtable, k.value)) kinds.now.list.items) board.now }
+    requires board { IsBoard (map (λ k. meaning (k.vtable, k.value)) kinds.now.list.items)
+        board.now }
     requires desk { IsDesk (map (λ k. meaning (k.vtable, k.value)) kinds.now.list.items)
         board.now.net desk.old }
     ensures { IsDesk (map (λ k. meaning (k.vtable, k.value)) kinds.now.list.items)
@@ -247,7 +252,8 @@ fn follow(
     seed: u64,
 ) -> Result<u32, Fail>
     requires lawful { All (λ k. IsLawful (meaning (k.vtable, k.value))) kinds.now.list.items }
-    requires board { IsBoard (map (λ k. meaning (k.vtable, k.value)) kinds.now.list.items) board.now }
+    requires board { IsBoard (map (λ k. meaning (k.vtable, k.value)) kinds.now.list.items)
+        board.now }
 {
     let mut desk = Desk::make(alloc, board, kinds, 0, &[])??;
     let mut dice = Dice::new(seed);

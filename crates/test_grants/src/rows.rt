@@ -46,7 +46,8 @@ const FIRST_PAGE: Hop = Hop {
 /// A page is placed, and half a page is not: its placement would show more.
 fn place_pages(rt: &impl Abort, alloc: Global, kinds: &Kinds, board: &Board) -> Result<(), Fail>
     requires lawful { All (λ k. IsLawful (meaning (k.vtable, k.value))) kinds.now.list.items }
-    requires board { IsBoard (map (λ k. meaning (k.vtable, k.value)) kinds.now.list.items) board.now }
+    requires board { IsBoard (map (λ k. meaning (k.vtable, k.value)) kinds.now.list.items)
+        board.now }
 {
     let desk = Desk::make(alloc, board, kinds, 0, &[])??;
     let page = buffer(0x4000, 0x1000);
@@ -61,21 +62,23 @@ fn place_pages(rt: &impl Abort, alloc: Global, kinds: &Kinds, board: &Board) -> 
         Some(first) => {
             assert!(rt; first.v() == 0 && first.own() == 0);
             assert!(rt; first.hops() == [FIRST_PAGE].as_slice());
+            // It shows the page, for writing too, and more than its first half.
+            let (size, rights) = (page.size, Rights::WRITE);
+            let whole = desk.is_exact(alloc, board, kinds, &page, &first, size, rights)?;
+            assert!(rt; whole == Some(true));
+            let half = desk.is_exact(alloc, board, kinds, &page, &first, size / 2, rights)?;
+            assert!(rt; half == Some(false));
         }
         None => assert!(rt; false),
     }
-    // That placement shows the page, and more than its first half.
-    let exact = desk.is_exact(alloc, board, kinds, &page, 0x1000)?;
-    assert!(rt; exact == Some(true));
-    let exact = desk.is_exact(alloc, board, kinds, &page, 0x800)?;
-    assert!(rt; exact == Some(false));
     Ok(())
 }
 
 /// A page is committed, seen and revoked.
 fn commit_page(rt: &impl Abort, alloc: Global, kinds: &Kinds, board: &Board) -> Result<(), Fail>
     requires lawful { All (λ k. IsLawful (meaning (k.vtable, k.value))) kinds.now.list.items }
-    requires board { IsBoard (map (λ k. meaning (k.vtable, k.value)) kinds.now.list.items) board.now }
+    requires board { IsBoard (map (λ k. meaning (k.vtable, k.value)) kinds.now.list.items)
+        board.now }
 {
     let page = buffer(0x4000, 0x1000);
     let mut desk = Desk::make(alloc, board, kinds, 8, &[])??;
@@ -106,7 +109,8 @@ fn commit_page(rt: &impl Abort, alloc: Global, kinds: &Kinds, board: &Board) -> 
 /// A page is not committed over a device whose call 1 fails, and the book is not sound any more.
 fn stop_page(rt: &impl Abort, alloc: Global, kinds: &Kinds, board: &Board) -> Result<(), Fail>
     requires lawful { All (λ k. IsLawful (meaning (k.vtable, k.value))) kinds.now.list.items }
-    requires board { IsBoard (map (λ k. meaning (k.vtable, k.value)) kinds.now.list.items) board.now }
+    requires board { IsBoard (map (λ k. meaning (k.vtable, k.value)) kinds.now.list.items)
+        board.now }
 {
     let mut desk = Desk::make(alloc, board, kinds, 8, &[1])??;
     let given = desk.commit(alloc, board, kinds, 0, &buffer(0x4000, 0x1000))?;
@@ -136,7 +140,8 @@ fn grant_pages(
     pages: &[(u32, u64, u64, Result<u64, GrantFault>)],
 ) -> Result<(), Fail>
     requires lawful { All (λ k. IsLawful (meaning (k.vtable, k.value))) kinds.now.list.items }
-    requires board { IsBoard (map (λ k. meaning (k.vtable, k.value)) kinds.now.list.items) board.now }
+    requires board { IsBoard (map (λ k. meaning (k.vtable, k.value)) kinds.now.list.items)
+        board.now }
     requires desk { IsDesk (map (λ k. meaning (k.vtable, k.value)) kinds.now.list.items)
         board.now.net desk.old }
     ensures { IsDesk (map (λ k. meaning (k.vtable, k.value)) kinds.now.list.items)
@@ -157,7 +162,8 @@ fn clear_and_refuse(
     board: &Board,
 ) -> Result<(), Fail>
     requires lawful { All (λ k. IsLawful (meaning (k.vtable, k.value))) kinds.now.list.items }
-    requires board { IsBoard (map (λ k. meaning (k.vtable, k.value)) kinds.now.list.items) board.now }
+    requires board { IsBoard (map (λ k. meaning (k.vtable, k.value)) kinds.now.list.items)
+        board.now }
 {
     let mut desk = Desk::make(alloc, board, kinds, 40, &[])??;
     let pages = [
@@ -200,7 +206,8 @@ fn route_lines(
     lines: &[(u32, Name, u16, Result<u64, RouteFault>)],
 ) -> Result<(), Fail>
     requires lawful { All (λ k. IsLawful (meaning (k.vtable, k.value))) kinds.now.list.items }
-    requires board { IsBoard (map (λ k. meaning (k.vtable, k.value)) kinds.now.list.items) board.now }
+    requires board { IsBoard (map (λ k. meaning (k.vtable, k.value)) kinds.now.list.items)
+        board.now }
     requires desk { IsDesk (map (λ k. meaning (k.vtable, k.value)) kinds.now.list.items)
         board.now.net desk.old }
     ensures { IsDesk (map (λ k. meaning (k.vtable, k.value)) kinds.now.list.items)
@@ -231,7 +238,8 @@ fn route_to_two_cores(
     board: &Board,
 ) -> Result<(), Fail>
     requires lawful { All (λ k. IsLawful (meaning (k.vtable, k.value))) kinds.now.list.items }
-    requires board { IsBoard (map (λ k. meaning (k.vtable, k.value)) kinds.now.list.items) board.now }
+    requires board { IsBoard (map (λ k. meaning (k.vtable, k.value)) kinds.now.list.items)
+        board.now }
 {
     let mut desk = Desk::make(alloc, board, kinds, 64, &[])??;
     let lines = [
