@@ -259,6 +259,7 @@ impl Desk {
 
     /// A placement of a request with another of its hops for its own. `None` where it has not so many
     /// hops, or not all slots of the hop are free.
+    #[tactic(auto, using(crate::proofs::Owns::owned))]
     pub fn with_own(
         &self,
         alloc: Global,
@@ -291,6 +292,7 @@ impl Desk {
 
     /// The first admissible placement of a request, at an address of its agent where one is given.
     /// `Unformed` where the request has no agent, no rights or no buffer.
+    #[tactic(auto, using(crate::proofs::Parts::first_placed))]
     pub fn first(
         &self,
         alloc: Global,

@@ -13,6 +13,7 @@ use dn_tables::placement::Hop;
 use dn_tables::set::TableSet;
 
 /// Whether every slot is free that a hop takes for a request.
+#[tactic(auto, using(crate::proofs::Owns::unit_kept, crate::proofs::Owns::unit_found, crate::proofs::Owns::hop_free))]
 pub(crate) fn is_hop_free(net: &Net, tables: &TableSet, request: &Request, hop: Hop) -> bool
     requires units { units_of tables.now ≡ map (λ n. n.unit) net.now }
     ensures { IsTrue result → IsFreeHop net.now (slots_of_set [] tables.now) request.now hop }
@@ -44,17 +45,16 @@ fn takes_free(tables: &TableSet, unit: &Unit, size: u64, hop: Hop) -> bool
 }
 
 /// Whether slots of a unit are free.
+#[tactic(auto, using(crate::proofs::Owns::slot_before, crate::proofs::Owns::up_to))]
 fn are_free(tables: &TableSet, unit: u16, first: u32, last: u32) -> bool
     requires there { IsTrue (has_slot tables.now unit last) }
     ensures { IsTrue result → (slot : ℕ) → first ≤ slot → slot ≤ last
         → IsTrue (is_free_in tables.now unit slot) }
 {
-    let mut slot = first;
-    'slots: while slot < last {
+    for slot in first..last {
         if !is_free(tables, unit, slot) {
             return false;
         }
-        slot += 1;
     }
     is_free(tables, unit, last)
 }
