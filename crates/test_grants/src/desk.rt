@@ -9,10 +9,13 @@ ghost use Rattle.dn_kind.specs.Rights.{are_rights};
 ghost use Rattle.dn_kind.specs.Units.{IsLegalWith};
 ghost use Rattle.dn_flat.specs.Stages.{AreFlats};
 ghost use Rattle.dn_placement.specs.Order.{IsFirst};
+ghost use Rattle.dn_placement.specs.Placement.{IsPlacement};
+ghost use Rattle.dn_placement.specs.Slots.{slots_of_set};
 ghost use Rattle.dn_book.specs.Book.{slots_of};
 ghost use Rattle.dn_book.specs.Tables.{IsKept};
-ghost use Rattle.test_grants.specs.Desk.{IsBoard, IsDesk};
+ghost use Rattle.test_grants.specs.Desk.{IsBoard, IsDesk, part};
 
+use crate::own::is_hop_free;
 use bitflags::Flags;
 use dn_base::OutOfMemory;
 use dn_base::device::MakeFault;
@@ -35,6 +38,7 @@ use dn_placement::roles::is_agent;
 use dn_tables::placement::Placement;
 use dn_vector::fault::RouteFault;
 use dn_vector::route::route;
+use dn_view::exact::exact;
 use dn_view::resolve::resolve;
 use dn_view::view::view;
 use dn_walk::walks::walks;
@@ -222,8 +226,73 @@ impl Desk {
         ))
     }
 
-    /// The first admissible placement of a request, at an address of its agent where one is given. `Unformed`
-    /// where the request has no agent, no rights or no buffer.
+    /// Whether a placement of a request is admissible for its first so many addresses alone, with
+    /// these rights. `None` where the request has not so many, or the rights are none.
+    pub fn is_exact(
+        &self,
+        alloc: Global,
+        board: &Board,
+        kinds: &Kinds,
+        request: &Request,
+        placement: &Placement,
+        size: u64,
+        rights: Rights,
+    ) -> Result<Option<bool>, Unmade>
+        requires lawful { All (λ k. IsLawful (meaning (k.vtable, k.value))) kinds.now.list.items }
+        requires board { IsBoard
+            (map (λ k. meaning (k.vtable, k.value)) kinds.now.list.items) board.now }
+        requires desk { IsDesk (map (λ k. meaning (k.vtable, k.value)) kinds.now.list.items)
+            board.now.net self.now }
+        requires placed { IsPlacement board.now.net
+            (slots_of_set (map (λ k. meaning (k.vtable, k.value)) kinds.now.list.items)
+            self.now.book.set) request.now placement.now }
+    {
+        if size == 0 || size > request.size || !are_rights(rights) {
+            return Ok(None);
+        }
+        let part = part_of(request, size, rights);
+        let tables = self.book.tables();
+        let (net, flats) = (&board.net, &board.flats);
+        let answer = exact(alloc, net, flats, kinds, tables, &part, placement)?;
+        Ok(Some(answer))
+    }
+
+    /// A placement of a request with another of its hops for its own. `None` where it has not so many
+    /// hops, or not all slots of the hop are free.
+    #[tactic(auto, using(crate::proofs::Owns::owned))]
+    pub fn with_own(
+        &self,
+        alloc: Global,
+        board: &Board,
+        kinds: &Kinds,
+        request: &Request,
+        placement: &Placement,
+        own: u8,
+    ) -> Option<Placement>
+        requires lawful { All (λ k. IsLawful (meaning (k.vtable, k.value))) kinds.now.list.items }
+        requires board { IsBoard
+            (map (λ k. meaning (k.vtable, k.value)) kinds.now.list.items) board.now }
+        requires desk { IsDesk (map (λ k. meaning (k.vtable, k.value)) kinds.now.list.items)
+            board.now.net self.now }
+        requires placed { IsPlacement board.now.net
+            (slots_of_set (map (λ k. meaning (k.vtable, k.value)) kinds.now.list.items)
+            self.now.book.set) request.now placement.now }
+        ensures placed { IfSome result (IsPlacement board.now.net
+            (slots_of_set (map (λ k. meaning (k.vtable, k.value)) kinds.now.list.items)
+            self.now.book.set) request.now) }
+    {
+        let _kinds = kinds;
+        let hops = placement.hops();
+        let hop = *hops.get(usize::from(own))?;
+        if !is_hop_free(&board.net, self.book.tables(), request, hop) {
+            return None;
+        }
+        Some(Placement::new(alloc, placement.v(), hops, own))
+    }
+
+    /// The first admissible placement of a request, at an address of its agent where one is given.
+    /// `Unformed` where the request has no agent, no rights or no buffer.
+    #[tactic(auto, using(crate::proofs::Parts::first_placed))]
     pub fn first(
         &self,
         alloc: Global,
@@ -237,12 +306,16 @@ impl Desk {
             (map (λ k. meaning (k.vtable, k.value)) kinds.now.list.items) board.now }
         requires desk { IsDesk (map (λ k. meaning (k.vtable, k.value)) kinds.now.list.items)
             board.now.net self.now }
+        ensures placed { IfOk result (λ found. IfSome found (IsPlacement board.now.net
+            (slots_of_set (map (λ k. meaning (k.vtable, k.value)) kinds.now.list.items)
+            self.now.book.set) request.now)) }
     {
         if !is_agent(&board.net, request.agent) || !is_formed(request) {
             return Err(Unmade::Unformed);
         }
+        let (net, flats) = (&board.net, &board.flats);
         let tables = self.book.tables();
-        Ok(first(alloc, &board.net, &board.flats, kinds, tables, request, at)?)
+        Ok(first(alloc, net, flats, kinds, tables, request, at)?)
     }
 
     /// What a name resolves to for an access under the tables. `Unformed` where its node is not there.
@@ -321,6 +394,17 @@ fn first_beside(
         request,
         None,
     )
+}
+
+/// A request for the first so many addresses of the buffer of another, with these rights.
+fn part_of(request: &Request, size: u64, rights: Rights) -> Request
+    ensures { result ≡ part request.now size rights }
+{
+    Request {
+        size,
+        rights,
+        ..*request
+    }
 }
 
 /// Whether a request has rights, and a buffer that ends at the last address or before.

@@ -1,15 +1,20 @@
-//! First placements, compared with the first of all that trying all of them finds.
+//! First placements, compared with the first of all that trying all of them finds; and of each of
+//! them, whether it is admissible with another own hop, for parts of its buffer and for other rights.
 
 ghost use Rattle.std.specs.Prelude.{map};
 ghost use Rattle.std.specs.List.{All};
 ghost use Rattle.dn_kind.specs.Kind.{IsLawful};
+ghost use Rattle.dn_placement.specs.Placement.{IsPlacement};
+ghost use Rattle.dn_placement.specs.Slots.{slots_of_set};
 ghost use Rattle.test_grants.specs.Desk.{IsBoard, IsDesk};
 
 use crate::boards::{chain_board, port_board, row_board};
 use crate::commands::{CHAINS, Choice, Dice, PORTS, ROWS, made};
 use crate::desk::{Board, Desk};
 use crate::records::{asked_of, views_of};
-use crate::search::{Found, Site, admissible_placements, first_of, held_of, taken_of};
+use crate::search::{
+    Found, Site, admissible_placements, first_of, held_of, shows_exactly, taken_of,
+};
 use dn_kind::kinds::Kinds;
 use dn_kind::rights::Rights;
 use dn_placement::request::Request;
@@ -33,17 +38,117 @@ fn is_same(given: &Option<Placement>, wanted: Option<&Found>) -> bool {
     }
 }
 
-/// Compares the first placement of a request at an address of the agent, or at any.
+/// What was compared.
+#[derive(Clone, Copy, Default)]
+struct Counts {
+    /// The requests that have a placement.
+    placed: u32,
+    /// The placements that were asked for and are admissible.
+    exact: u32,
+    /// Those that are not.
+    inexact: u32,
+}
+
+impl Counts {
+    /// Both together.
+    fn with(self, more: Counts) -> Counts {
+        Counts {
+            placed: self.placed.saturating_add(more.placed),
+            exact: self.exact.saturating_add(more.exact),
+            inexact: self.inexact.saturating_add(more.inexact),
+        }
+    }
+}
+
+/// Compares whether a placement of a request is admissible for each first part of its buffer with each
+/// of the rights.
+fn compare_parts(
+    rt: &impl Abort,
+    alloc: Global,
+    kinds: &Kinds,
+    board: &Board,
+    desk: &Desk,
+    site: &Site<'_>,
+    request: &Request,
+    placement: &Placement,
+) -> Result<Counts, Fail>
+    requires lawful { All (λ k. IsLawful (meaning (k.vtable, k.value))) kinds.now.list.items }
+    requires board { IsBoard
+        (map (λ k. meaning (k.vtable, k.value)) kinds.now.list.items) board.now }
+    requires desk { IsDesk (map (λ k. meaning (k.vtable, k.value)) kinds.now.list.items)
+        board.now.net desk.now }
+    requires placed { IsPlacement board.now.net
+        (slots_of_set (map (λ k. meaning (k.vtable, k.value)) kinds.now.list.items)
+        desk.now.book.set) request.now placement.now }
+{
+    let mut counts = Counts::default();
+    for before in 0..request.size {
+        let size = before + 1;
+        for rights in [Rights::READ, Rights::WRITE, Rights::both()] {
+            let part = Request {
+                size,
+                rights,
+                ..*request
+            };
+            let wanted = shows_exactly(alloc, &board.net, site, &part, placement)?;
+            let given = desk.is_exact(alloc, board, kinds, request, placement, size, rights)?;
+            assert!(rt; given == Some(wanted));
+            counts = counts.with(Counts {
+                placed: 0,
+                exact: u32::from(wanted),
+                inexact: u32::from(!wanted),
+            });
+        }
+    }
+    Ok(counts)
+}
+
+/// Compares for a placement of a request, with each of its hops whose slots are free for its own,
+/// whether it is admissible for parts of its buffer.
+fn compare_owns(
+    rt: &impl Abort,
+    alloc: Global,
+    kinds: &Kinds,
+    board: &Board,
+    desk: &Desk,
+    site: &Site<'_>,
+    request: &Request,
+    placement: &Placement,
+) -> Result<Counts, Fail>
+    requires lawful { All (λ k. IsLawful (meaning (k.vtable, k.value))) kinds.now.list.items }
+    requires board { IsBoard
+        (map (λ k. meaning (k.vtable, k.value)) kinds.now.list.items) board.now }
+    requires desk { IsDesk (map (λ k. meaning (k.vtable, k.value)) kinds.now.list.items)
+        board.now.net desk.now }
+    requires placed { IsPlacement board.now.net
+        (slots_of_set (map (λ k. meaning (k.vtable, k.value)) kinds.now.list.items)
+        desk.now.book.set) request.now placement.now }
+{
+    let mut counts = Counts::default();
+    for own in 0..3 {
+        let other = desk.with_own(alloc, board, kinds, request, placement, own);
+        assert!(rt; other.is_some() || own != placement.own());
+        if let Some(other) = &other {
+            let more = compare_parts(rt, alloc, kinds, board, desk, site, request, other)?;
+            counts = counts.with(more);
+        }
+    }
+    Ok(counts)
+}
+
+/// Compares the first placement of a request at an address of the agent, or at any; and of that
+/// one, whether it is admissible with another own hop and for parts of its buffer.
 fn compare_at(
     rt: &impl Abort,
     alloc: Global,
     kinds: &Kinds,
     board: &Board,
     desk: &Desk,
+    site: &Site<'_>,
     request: &Request,
     all: &[Found],
     at: Option<u64>,
-) -> Result<(), Fail>
+) -> Result<Counts, Fail>
     requires lawful { All (λ k. IsLawful (meaning (k.vtable, k.value))) kinds.now.list.items }
     requires board { IsBoard
         (map (λ k. meaning (k.vtable, k.value)) kinds.now.list.items) board.now }
@@ -53,11 +158,13 @@ fn compare_at(
     let wanted = first_of(alloc, &board.net, all, at)?;
     let given = desk.first(alloc, board, kinds, request, at)?;
     assert!(rt; is_same(&given, wanted));
-    Ok(())
+    match &given {
+        Some(placement) => { compare_owns(rt, alloc, kinds, board, desk, site, request, placement) }
+        None => Ok(Counts::default()),
+    }
 }
 
-/// Compares the first placements of requests: at any address, and at each of the agent's. Answers how many of
-/// the requests have one.
+/// Compares the first placements of requests: at any address, and at each of the agent's.
 fn compare(
     rt: &impl Abort,
     alloc: Global,
@@ -67,24 +174,26 @@ fn compare(
     site: &Site<'_>,
     requests: &[Request],
     most: u64,
-) -> Result<u32, Fail>
+) -> Result<Counts, Fail>
     requires lawful { All (λ k. IsLawful (meaning (k.vtable, k.value))) kinds.now.list.items }
     requires board { IsBoard
         (map (λ k. meaning (k.vtable, k.value)) kinds.now.list.items) board.now }
     requires desk { IsDesk (map (λ k. meaning (k.vtable, k.value)) kinds.now.list.items)
         board.now.net desk.now }
 {
-    let mut placed = 0u32;
+    let mut counts = Counts::default();
     for request in requests {
         let all = admissible_placements(alloc, &board.net, site, request, most)?;
         let all = all.as_slice();
-        compare_at(rt, alloc, kinds, board, desk, request, all, None)?;
+        let first = compare_at(rt, alloc, kinds, board, desk, site, request, all, None)?;
+        counts = counts.with(first);
         for at in 0..most {
-            compare_at(rt, alloc, kinds, board, desk, request, all, Some(at))?;
+            let more = compare_at(rt, alloc, kinds, board, desk, site, request, all, Some(at))?;
+            counts = counts.with(more);
         }
-        placed = placed.saturating_add(u32::from(!all.is_empty()));
+        counts.placed = counts.placed.saturating_add(u32::from(!all.is_empty()));
     }
-    Ok(placed)
+    Ok(counts)
 }
 
 /// Requests of all agents, for buffers of one to four addresses from each below 6 of the first two nodes on, with
@@ -124,8 +233,7 @@ fn push_requests(
     Ok(())
 }
 
-/// Compares beside no live grant, and again after a few commands that look random. Answers how many requests had
-/// a placement.
+/// Compares beside no live grant, and again after a few commands that look random.
 fn follow(
     rt: &impl Abort,
     alloc: Global,
@@ -133,7 +241,7 @@ fn follow(
     board: &Board,
     choice: Choice,
     seed: u64,
-) -> Result<u32, Fail>
+) -> Result<Counts, Fail>
     requires lawful { All (λ k. IsLawful (meaning (k.vtable, k.value))) kinds.now.list.items }
     requires board { IsBoard
         (map (λ k. meaning (k.vtable, k.value)) kinds.now.list.items) board.now }
@@ -142,7 +250,7 @@ fn follow(
     let asked = asked_of(alloc, &board.net, choice.most)?;
     let requests = requests(alloc, board)?;
     let mut dice = Dice::new(seed);
-    let mut placed = 0u32;
+    let mut counts = Counts::default();
     for number in 0..9 {
         if number % 8 == 0 {
             let taken = taken_of(alloc, &board.net, &desk.book)?;
@@ -156,11 +264,11 @@ fn follow(
             let requests = requests.as_slice();
             let most = choice.most;
             let more = compare(rt, alloc, kinds, board, &desk, &site, requests, most)?;
-            placed = placed.saturating_add(more);
+            counts = counts.with(more);
         }
         let _outcome = made(alloc, kinds, board, &mut desk, dice.command(choice));
     }
-    Ok(placed)
+    Ok(counts)
 }
 
 #[test]
@@ -168,13 +276,13 @@ fn finds_the_first_of_all_placements(rt: HostRuntime) -> Result<(), Fail> {
     let alloc = rt.alloc();
     let kinds = program_kinds!(alloc);
     let board = port_board(alloc, &kinds)?;
-    let placed = follow(&rt, alloc, &kinds, &board, PORTS, 1)?;
-    assert!(rt; placed >= 20);
+    let counts = follow(&rt, alloc, &kinds, &board, PORTS, 1)?;
+    assert!(rt; counts.placed >= 20 && counts.exact >= 100 && counts.inexact >= 100);
     let board = row_board(alloc, &kinds)?;
-    let placed = follow(&rt, alloc, &kinds, &board, ROWS, 3)?;
-    assert!(rt; placed >= 20);
+    let counts = follow(&rt, alloc, &kinds, &board, ROWS, 3)?;
+    assert!(rt; counts.placed >= 20 && counts.exact >= 100 && counts.inexact >= 50);
     let board = chain_board(alloc, &kinds)?;
-    let placed = follow(&rt, alloc, &kinds, &board, CHAINS, 3)?;
-    assert!(rt; placed >= 20);
+    let counts = follow(&rt, alloc, &kinds, &board, CHAINS, 3)?;
+    assert!(rt; counts.placed >= 20 && counts.exact >= 100);
     Ok(())
 }

@@ -16,6 +16,7 @@ pub mod desk;
 mod faults;
 #[cfg(test)]
 mod firsts;
+mod own;
 #[cfg(test)]
 mod records;
 #[cfg(test)]

@@ -62,6 +62,12 @@ fn place_pages(rt: &impl Abort, alloc: Global, kinds: &Kinds, board: &Board) -> 
         Some(first) => {
             assert!(rt; first.v() == 0 && first.own() == 0);
             assert!(rt; first.hops() == [FIRST_PAGE].as_slice());
+            // It shows the page, for writing too, and more than its first half.
+            let (size, rights) = (page.size, Rights::WRITE);
+            let whole = desk.is_exact(alloc, board, kinds, &page, &first, size, rights)?;
+            assert!(rt; whole == Some(true));
+            let half = desk.is_exact(alloc, board, kinds, &page, &first, size / 2, rights)?;
+            assert!(rt; half == Some(false));
         }
         None => assert!(rt; false),
     }

@@ -11,7 +11,7 @@ use dn_net::names::Names;
 use dn_net::net::Net;
 use dn_net::node::{Name, Unit};
 use dn_placement::request::Request;
-use dn_tables::placement::Hop;
+use dn_tables::placement::{Hop, Placement};
 use std::alloc::Global;
 use std::test::Fail;
 
@@ -317,6 +317,22 @@ fn is_admissible(
         }
     }
     Ok(true)
+}
+
+/// Whether a placement is admissible for a request, with the live grants beside it.
+pub fn shows_exactly(
+    alloc: Global,
+    net: &Net,
+    site: &Site<'_>,
+    request: &Request,
+    placement: &Placement,
+) -> Result<bool, Fail>
+    requires { All KeepsRules net.now }
+{
+    let (hops, own) = (placement.hops(), placement.own());
+    let mut placed = Vec::new(alloc);
+    push_taken(alloc, net, request, hops, own, &mut placed)?;
+    is_admissible(alloc, net, site, request, placement.v(), placed.as_slice())
 }
 
 /// The names of an address before, and the buffer's where it stands there for the access.
