@@ -1,17 +1,11 @@
 //! The program: it hands its words, standard input and standard output to the tool, and ends with its status.
 #![tactic(auto)]
 
-ghost use Rattle.std.specs.Prelude.{◌≡◌, ◌∷◌, [], map, IfOk};
-ghost use Rattle.std.specs.List.{All};
-ghost use Rattle.dn_kind.specs.Kind.{IsLawful};
-ghost use Rattle.dn_kinds.specs.Layouts.{pages, remap, vectors};
-
 use dn_base::memory_tables::MemTables;
 use dn_base::sink::Sink;
 use dn_base::source::Source;
 use dn_base::streams::{StdSink, StdSource};
 use dn_kind::kinds::Kinds;
-use dn_kind::unit_kind::UnitKind;
 use dn_kinds::pages::{Pages, pages_are_lawful};
 use dn_kinds::remap::{Remap, remap_is_lawful};
 use dn_kinds::vectors::{Vectors, vectors_are_lawful};
@@ -55,57 +49,22 @@ fn words_of<R: Env + AllocGlobal>(rt: &R) -> Result<Words, WordsFault> {
     Ok(words)
 }
 
-/// The kinds of units that the program knows: `pages`, `remap` and `vectors`, in this order.
-fn known_kinds(alloc: Global) -> Result<Kinds, AllocError>
-    ensures kinds { IfOk result (λ known. map (λ k. meaning (k.vtable, k.value)) known.list.items
-        ≡ pages ∷ remap ∷ vectors ∷ []) }
-    ensures lawful { IfOk result (λ known.
-        All (λ k. IsLawful (meaning (k.vtable, k.value))) known.list.items) }
-{
-    pages_are_lawful();
-    remap_is_lawful();
-    vectors_are_lawful();
-    let mut known = Kinds::none(alloc);
-    known.add(boxed_pages(alloc)?)?;
-    known.add(boxed_remap(alloc)?)?;
-    known.add(boxed_vectors(alloc)?)?;
-    Ok(known)
-}
-
-/// The kind `pages`.
-fn boxed_pages(alloc: Global) -> Result<Box<dyn UnitKind>, AllocError>
-    ensures { IfOk result (λ kind. meaning kind ≡ pages) }
-{
-    let kind: Box<dyn UnitKind> = Box::new(alloc, Pages)?;
-    Ok(kind)
-}
-
-/// The kind `remap`.
-fn boxed_remap(alloc: Global) -> Result<Box<dyn UnitKind>, AllocError>
-    ensures { IfOk result (λ kind. meaning kind ≡ remap) }
-{
-    let kind: Box<dyn UnitKind> = Box::new(alloc, Remap)?;
-    Ok(kind)
-}
-
-/// The kind `vectors`.
-fn boxed_vectors(alloc: Global) -> Result<Box<dyn UnitKind>, AllocError>
-    ensures { IfOk result (λ kind. meaning kind ≡ vectors) }
-{
-    let kind: Box<dyn UnitKind> = Box::new(alloc, Vectors)?;
-    Ok(kind)
-}
-
-/// Answers the words with the kinds of units that the program knows. The tables are emulated in
-/// memory, and keep no log. Want of memory for kinds and tables is an error, and then nothing was
-/// read or written.
+/// Answers the words with the kinds of units that the program knows: `pages`, `remap` and `vectors`,
+/// in this order. The tables are emulated in memory, and keep no log. Want of memory for kinds and
+/// tables is an error, and then nothing was read or written.
 fn answer<S: Source, K: Sink>(
     alloc: Global,
     words: &Words,
     source: &mut S,
     sink: &mut K,
 ) -> Result<u8, AllocError> {
-    let kinds = known_kinds(alloc)?;
+    pages_are_lawful();
+    remap_is_lawful();
+    vectors_are_lawful();
+    let mut kinds = Kinds::none(alloc);
+    kinds.add(Box::new(alloc, Pages)?)?;
+    kinds.add(Box::new(alloc, Remap)?)?;
+    kinds.add(Box::new(alloc, Vectors)?)?;
     let mut device = MemTables::new(alloc, 0, Vec::new(alloc))?;
     Ok(run::run(alloc, words, &kinds, source, sink, &mut device))
 }
