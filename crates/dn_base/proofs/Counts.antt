@@ -1,5 +1,5 @@
 -- Counted calls in a row: laws of Rose and IsCounted for this crate and those above it.
-use Rattle.std.proofs.Common.{◌≡◌, ◌≤◌, ◌∙◌, refl, ℕ, Bool, true, false, arith}
+use Rattle.std.proofs.Common.{◌≤◌, ◌∙◌, refl, ℕ, Bool, false, arith}
 use Rattle.dn_base.specs.Outside.{Faults, IsCounted, Rose}
 
 -- a count that rose, and did not fall after, rose

@@ -1,18 +1,16 @@
 -- Events that are added in order, part after part.
-use Rattle.std.proofs.Common.{◌≡◌, ℕ, zero, suc, ◌+◌, ◌<◌, ◌≤◌, Bool, true, false, if◌then◌else◌, List, [], ◌∷◌, ◌++◌, filter, length, take, Option, refl, sym, ap, ◌∙◌, subst, arith, append-nil, length-append, IsTrue}
+use Rattle.std.proofs.Common.{◌≡◌, ℕ, zero, suc, ◌+◌, ◌<◌, Bool, true, false, if◌then◌else◌, List, [], ◌∷◌, ◌++◌, filter, length, take, Option, refl, sym, ap, ◌∙◌, subst, arith, append-nil, length-append}
 use Rattle.std.specs.List.{flat_map}
-use Rattle.std.proofs.lemmas.List.{take_all, take-append-le, take_at}
+use Rattle.std.proofs.lemmas.List.{take_all, take-append-le}
 use Rattle.std.proofs.Math.Seq.{take-append-add}
 use Rattle.dn_base.specs.Device.{Logged}
 use Rattle.dn_base.specs.declared.device.TableEvent.{TableEvent}
 use Rattle.dn_base.specs.declared.device.TableEvent.TheVariants.{Write}
 use Rattle.dn_base.specs.declared.device.UnitWords.{UnitWords}
 use Rattle.dn_base.proofs.Logs.{Logged-none, Logged-then}
-use Rattle.dn_kind.specs.Kind.{Meaning}
 use Rattle.dn_tables.specs.declared.table.NodeTable.{NodeTable}
-use Rattle.dn_tables.specs.Writes.{WordWrite, AreMade, clear_writes, events_of, put_writes}
-use Rattle.dn_book.specs.Sets.{clear_log, is_used_by, put_log}
-use Rattle.dn_book.specs.Writes.{AreAdded, Put}
+use Rattle.dn_tables.specs.Writes.{WordWrite, AreMade, events_of}
+use Rattle.dn_book.specs.Writes.{AreAdded}
 
 take_events : (unit k : ℕ) (ws : List WordWrite) → events_of unit (take k ws) ≡ take k (events_of unit ws)
 take_events unit zero ws = refl

@@ -1,5 +1,5 @@
 -- The set of a net with words 0 and no use keeps the book in which no grant lives.
-use Rattle.std.proofs.Common.{◌≡◌, ℕ, zero, suc, ◌+◌, ◌*◌, ◌<◌, List, [], ◌∷◌, ◌++◌, map, replicate, slice_get, slice_index_or, Option, Some, None, IsTrue, refl, sym, ap, ◌∙◌, subst, arith}
+use Rattle.std.proofs.Common.{◌≡◌, ℕ, zero, suc, ◌+◌, ◌*◌, List, [], ◌∷◌, ◌++◌, replicate, slice_get, slice_index_or, Option, Some, None, refl, sym, ap, ◌∙◌, arith}
 use Rattle.std.proofs.lemmas.List.{replicate-append-replicate}
 use Rattle.std.proofs.Math.Nat.{suc-mul}
 use Rattle.dn_net.specs.declared.node.NodeDecl.{NodeDecl}
@@ -9,11 +9,10 @@ use Rattle.dn_kind.specs.declared.unit_kind.Record.{Record}
 use Rattle.dn_kind.specs.Kind.{Meaning}
 use Rattle.dn_kind.specs.Tables.{Held}
 use Rattle.dn_tables.specs.declared.table.NodeTable.{NodeTable}
-use Rattle.dn_tables.specs.declared.table.SlotUse.{SlotUse}
-use Rattle.dn_tables.specs.Set.{FitsNet, fresh_by, fresh_set, has_slot, unused, use_in, uses_of_table, width_by, words_of}
+use Rattle.dn_tables.specs.Set.{FitsNet, fresh_by, fresh_set, unused, use_in, width_by, words_of}
 use Rattle.dn_book.specs.Book.{records_of}
 use Rattle.dn_book.specs.Laws.{TablesHoldRecords}
-use Rattle.dn_book.specs.Tables.{IsKept, packed_node, packed_nodes, packed_slot, packed_slots, packed_tables, packed_unit, use_of}
+use Rattle.dn_book.specs.Tables.{IsKept, packed_node, packed_nodes, packed_slot, packed_slots, packed_unit}
 use Rattle.dn_book.proofs.Faithful.{empty_book_is_faithful}
 use Rattle.dn_book.proofs.Live.{book_held}
 use Rattle.dn_book.proofs.Packed.{AreKinds, Holds, set_holds, tables_hold}

@@ -1,5 +1,5 @@
 -- Uses that are changed slot by slot and hop by hop.
-use Rattle.std.proofs.Common.{◌≡◌, ◌≢◌, ℕ, zero, suc, ◌+◌, ◌-◌, ◌<◌, ◌≤◌, ◌⊎◌, inl, inr, Bool, true, false, if◌then◌else◌, ◌&&◌, ◌||◌, nat_eq, nat_le, nat_lt, List, [], ◌∷◌, ◌++◌, length, map, take, slice_get, slice_set, slice_index_or, get_or, is_some, Option, Some, None, IsTrue, refl, sym, ap, ◌∙◌, subst, arith, eqb-true, eq-eqb, leb-true, ltb-true}
+use Rattle.std.proofs.Common.{◌≡◌, ◌≢◌, ℕ, zero, suc, ◌+◌, ◌-◌, ◌<◌, ◌≤◌, inl, inr, Bool, true, false, if◌then◌else◌, ◌&&◌, ◌||◌, nat_eq, nat_le, nat_lt, List, [], ◌∷◌, ◌++◌, length, map, take, slice_get, slice_set, slice_index_or, is_some, Option, Some, None, IsTrue, refl, sym, ap, ◌∙◌, subst, arith, eqb-true, eq-eqb, leb-true, ltb-true}
 use Rattle.std.specs.List.{list_any, AllPairs}
 use Rattle.std.proofs.lemmas.List.{length-take-le, take_more}
 use Rattle.std.proofs.lemmas.Option.{same_Some, get_or_from_slice_get, slice_get_within}
@@ -10,19 +10,17 @@ use Rattle.dn_net.specs.declared.node.Unit.{Unit as UnitPart}
 use Rattle.dn_net.specs.Chain.{Member}
 use Rattle.dn_net.specs.Decode.{unit_at}
 use Rattle.dn_kind.specs.declared.rights.Rights.{Rights}
-use Rattle.dn_kind.specs.declared.unit_kind.Record.{Record}
 use Rattle.dn_kind.specs.Rights.{both_rights}
 use Rattle.dn_tables.specs.declared.placement.Hop.{Hop}
 use Rattle.dn_tables.specs.declared.table.NodeTable.{NodeTable}
 use Rattle.dn_tables.specs.declared.table.SlotUse.{SlotUse}
-use Rattle.dn_tables.specs.Set.{IsSet, fits_by, fits_kinds, has_slot, table_on_device, has_slot_by, is_sized, tables_from, tables_of_set, unit_in, unit_of_table, units_of, unused, use_in, uses_of_table, with_table, with_use, with_uses, words_of}
+use Rattle.dn_tables.specs.Set.{IsSet, fits_by, fits_kinds, has_slot, table_on_device, has_slot_by, tables_from, tables_of_set, unit_in, units_of, unused, use_in, with_use, with_uses, words_of}
 use Rattle.dn_tables.proofs.Kept.{IsSlot, all_changed, map_changed, slot_in_set, table_of_unit}
-use Rattle.dn_placement.specs.Records.{first_slot, last_slot, hop_record, hop_record_by, is_taken_by, slot_record}
+use Rattle.dn_placement.specs.Records.{first_slot, last_slot, hop_record_by, is_taken_by, slot_record}
 use Rattle.dn_book.specs.Book.{is_taken}
-use Rattle.dn_book.specs.Sets.{AreChanged, AreHopsChanged, FitsUnit, KeepsFit, changed_by, is_at, put_at}
+use Rattle.dn_book.specs.Sets.{AreChanged, AreHopsChanged, FitsUnit, changed_by, is_at, put_at}
 use Rattle.dn_book.specs.Writes.{Put, hop_slots, hop_slots_by, slots_from}
 use Rattle.dn_book.proofs.Facts.{fit_none, fit_then}
-use Rattle.dn_book.proofs.Frames.{kept_of, other_of, same_or}
 use Rattle.dn_book.proofs.Hops.{first_before}
 use Rattle.dn_book.proofs.InOrder.{units_apart}
 use Rattle.dn_book.proofs.Units.{unit_by_units}

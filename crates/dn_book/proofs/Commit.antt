@@ -1,8 +1,7 @@
 -- From the parts of a commit to what its contract says.
-use Rattle.std.proofs.Common.{◌≡◌, ◌≢◌, ℕ, zero, suc, ◌+◌, ◌-◌, ◌*◌, ◌<◌, ◌≤◌, Bool, true, false, if◌then◌else◌, ◌==◌, nat_eq, List, [], ◌∷◌, ◌++◌, filter, length, map, reverse, slice_get, Option, Some, None, IsSome, IsTrue, refl, sym, ap, ◌∙◌, subst, arith, eqb-true}
+use Rattle.std.proofs.Common.{◌≡◌, ℕ, ◌+◌, ◌-◌, ◌*◌, ◌<◌, Bool, true, false, if◌then◌else◌, ◌==◌, nat_eq, List, [], ◌∷◌, ◌++◌, filter, reverse, slice_get, Option, Some, None, IsSome, IsTrue, refl, sym, ap, ◌∙◌, subst, arith, eqb-true}
 use Rattle.std.specs.List.{All, flat_map, list_any}
 use Rattle.dn_base.specs.Device.{UnitSize, sizes_of}
-use Rattle.dn_base.specs.declared.device.TableEvent.{TableEvent}
 use Rattle.dn_base.specs.declared.device.UnitWords.{UnitWords}
 use Rattle.std.specs.Option.{IfSome}
 use Rattle.std.proofs.lemmas.Option.{same_Some}
@@ -16,29 +15,28 @@ use Rattle.dn_net.specs.Legal.{IsLegalNet}
 use Rattle.dn_kind.specs.declared.unit_kind.Record.{Record}
 use Rattle.dn_kind.specs.Kind.{Meaning, IsLawful}
 use Rattle.dn_kind.specs.Rights.{both_rights}
-use Rattle.dn_kind.specs.Tables.{AreHeld, Held}
-use Rattle.dn_kind.specs.Units.{IsLegalWith, KeepsUnitShape, unit_shape}
+use Rattle.dn_kind.specs.Tables.{Held}
+use Rattle.dn_kind.specs.Units.{IsLegalWith, unit_shape}
 use Rattle.dn_tables.specs.declared.placement.Hop.{Hop}
 use Rattle.dn_tables.specs.declared.table.NodeTable.{NodeTable}
 use Rattle.dn_tables.specs.declared.table.SlotUse.{SlotUse}
-use Rattle.dn_tables.specs.Set.{FitsNet, IsEmpty, IsOnDevice, has_slot, has_slot_by, packed_for, packed_by, record_kept, tables_of_set, unit_in, use_in, width_in, width_of_table, words_of}
+use Rattle.dn_tables.specs.Set.{FitsNet, IsOnDevice, has_slot, has_slot_by, packed_for, packed_by, tables_of_set, use_in, width_in, width_of_table, words_of}
 use Rattle.dn_tables.specs.Writes.{events_of, put_writes, writes_from}
 use Rattle.dn_tables.proofs.Kept.{table_of_unit}
 use Rattle.dn_placement.specs.Records.{hop_rights}
 use Rattle.dn_book.specs.declared.grant.Grant.{Grant}
 use Rattle.dn_book.specs.Book.{IsSound, is_taken, owns_slot, records_of, slots_of, uses_of, uses_slot}
 use Rattle.dn_book.specs.Laws.{IsGrantFor}
-use Rattle.dn_book.specs.Sets.{AreFit, AreHopsChanged, AreOpen, KeepsFit, MayUse, after_puts, changed_by, hop_owner, is_used_by, one_more, put_log}
+use Rattle.dn_book.specs.Sets.{AreFit, AreHopsChanged, AreOpen, MayUse, after_puts, changed_by, hop_owner, is_used_by, one_more, put_log}
 use Rattle.dn_book.specs.Tables.{IsKept, packed_tables, use_of}
 use Rattle.dn_book.specs.Writes.{Put, grant_slots, hop_slots, is_empty, joined_slots, kind_by, put_events, put_events_by, puts_of}
 use Rattle.dn_book.proofs.Changes.{has_slot_kept}
 use Rattle.dn_book.proofs.Facts.{fit_then, fits_net_kept}
 use Rattle.dn_book.proofs.Frames.{SameFrame, frame_puts, same_flat}
 use Rattle.dn_book.proofs.Given.{GrantGives, by_owns, by_uses, gives_taken, unused_none}
-use Rattle.dn_book.proofs.InOrder.{hop_member}
-use Rattle.dn_book.proofs.Live.{book_held, by_place, few_uses, gives_held, gives_put, no_owner_of, picked_empty, put_gives, put_gives_behind, puts_held, records_granted, used_zero, uses_granted, hop_put_gives}
-use Rattle.dn_book.proofs.Packed.{AreKinds, Holds, IsKind, empty_there, held_after, kind_of, puts_hold, set_holds, width_is}
-use Rattle.dn_book.proofs.Sound.{Comes, comes, granted_sound, none_of, placed_fit}
+use Rattle.dn_book.proofs.Live.{book_held, by_place, few_uses, gives_held, no_owner_of, picked_empty, put_gives, put_gives_behind, puts_held, records_granted, used_zero, uses_granted, hop_put_gives}
+use Rattle.dn_book.proofs.Packed.{AreKinds, Holds, empty_there, held_after, kind_of, puts_hold, set_holds, width_is}
+use Rattle.dn_book.proofs.Sound.{comes, granted_sound, placed_fit}
 use Rattle.dn_book.proofs.Units.{unit_fits}
 
 -- WRITES BY A SET ARE THOSE BY THE NET

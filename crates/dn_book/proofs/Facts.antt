@@ -1,5 +1,5 @@
 -- Small facts that answers share.
-use Rattle.std.proofs.Common.{◌≡◌, ◌∙◌, List, Bool, true, false, Result, Ok, Err, OnOk, is_err, refl}
+use Rattle.std.proofs.Common.{◌≡◌, ◌∙◌, List, false, Result, Ok, Err, OnOk, is_err, refl}
 use Rattle.dn_net.specs.declared.node.NodeDecl.{NodeDecl}
 use Rattle.dn_kind.specs.Kind.{Meaning}
 use Rattle.dn_tables.specs.declared.table.NodeTable.{NodeTable}

@@ -1,12 +1,11 @@
 -- A faithful book stays so as an admissible grant comes, and as grants go.
-use Rattle.std.proofs.Common.{◌≡◌, ◌≢◌, ℕ, zero, suc, ◌+◌, ◌-◌, ◌/◌, ◌^◌, ◌<◌, ◌≤◌, ◌⊎◌, inl, inr, ◌↔◌, Bool, true, false, if◌then◌else◌, ◌&&◌, nat_eq, nat_le, List, [], ◌∷◌, ◌++◌, slice_get, Option, Some, None, IsTrue, refl, sym, ap, ◌∙◌, subst, arith, pow_pos}
-use Rattle.std.proofs.lemmas.Option.{same_Some}
+use Rattle.std.proofs.Common.{◌≡◌, ℕ, zero, suc, ◌+◌, ◌-◌, ◌/◌, ◌^◌, ◌<◌, ◌≤◌, ◌⊎◌, inl, inr, Bool, true, false, if◌then◌else◌, nat_eq, nat_le, List, [], ◌∷◌, ◌++◌, slice_get, Option, Some, None, IsTrue, refl, sym, ap, ◌∙◌, subst, arith, pow_pos}
 use Rattle.dn_base.proofs.Members.{member_left, member_right}
 use Rattle.dn_net.specs.declared.node.Name.{Name}
 use Rattle.dn_net.specs.declared.node.NodeDecl.{NodeDecl}
 use Rattle.dn_net.specs.declared.node.Unit.{Unit as UnitPart}
-use Rattle.dn_net.specs.Chain.{IsChain, Member, Reaches}
-use Rattle.dn_net.specs.Decode.{Resolves, Step, is_accepted, is_agent_at, step_limit, steps, top, unit_at}
+use Rattle.dn_net.specs.Chain.{IsChain, Member}
+use Rattle.dn_net.specs.Decode.{Resolves, Step, top, unit_at}
 use Rattle.dn_net.specs.Legal.{IsLegalNet}
 use Rattle.dn_net.proofs.Stops.{shallow_reach}
 use Rattle.dn_kind.specs.declared.rights.Access.{Access}
@@ -20,17 +19,16 @@ use Rattle.dn_kind.proofs.Ways.{chain_passes_slots, legal_one_row_of_slots, more
 use Rattle.dn_tables.specs.declared.placement.Hop.{Hop}
 use Rattle.dn_placement.specs.Exposure.{Adds, IsAdmissible}
 use Rattle.dn_placement.specs.Placement.{IsPlacement, name_on}
-use Rattle.dn_placement.specs.Records.{first_slot, hop_record, hop_rights, joined_records, last_slot, or_record, slot_record}
+use Rattle.dn_placement.specs.Records.{first_slot, hop_rights, joined_records, last_slot, or_record, slot_record}
 use Rattle.dn_book.specs.declared.grant.Grant.{Grant}
-use Rattle.dn_book.specs.Book.{IsFaithful, IsGiven, IsGranted, IsSound, Owes, grant_records, open_slots, owns_slot, records_of, uses_slot, without}
-use Rattle.dn_book.specs.Laws.{EmptyBookIsFaithful, GrantKeepsBook, IsGrantFor, RevokeKeepsBook}
-use Rattle.dn_book.specs.Sets.{FitsUnit}
+use Rattle.dn_book.specs.Book.{IsFaithful, IsGranted, IsSound, Owes, grant_records, open_slots, owns_slot, records_of, uses_slot, without}
+use Rattle.dn_book.specs.Laws.{EmptyBookIsFaithful, GrantKeepsBook, RevokeKeepsBook}
 use Rattle.dn_book.proofs.Frames.{same_or}
-use Rattle.dn_book.proofs.Given.{GrantGives, between_gives, by_owns, gives_taken, given_by, held_in, in_held, uses_given}
+use Rattle.dn_book.proofs.Given.{between_gives, by_owns, gives_taken, given_by, held_in, in_held, uses_given}
 use Rattle.dn_book.proofs.Hops.{div_mono}
 use Rattle.dn_book.proofs.Live.{book_held}
-use Rattle.dn_book.proofs.Sound.{PlacedHop, granted_sound, given_gives, in_without, last_cases, placed_hop, revoked_sound, without_in}
-use Rattle.dn_book.proofs.Through.{AllHold, HoldsHop, WayOver, allowed_there, allowing_held, allowing_more, chain_under, leads_accepted, leads_on, passed_held, passes_append, passes_more, resolves, way_over}
+use Rattle.dn_book.proofs.Sound.{granted_sound, given_gives, in_without, last_cases, placed_hop, revoked_sound, without_in}
+use Rattle.dn_book.proofs.Through.{AllHold, WayOver, allowed_there, allowing_held, allowing_more, chain_under, leads_accepted, leads_on, passed_held, passes_append, passes_more, resolves, way_over}
 
 -- THE EMPTY BOOK
 

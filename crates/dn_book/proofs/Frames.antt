@@ -1,19 +1,15 @@
 -- What putting and clearing slots leaves of a set: units, widths, uses, and the words of other slots.
-use Rattle.std.proofs.Common.{◌≡◌, ℕ, zero, suc, ◌+◌, ◌-◌, ◌*◌, ◌<◌, ◌≤◌, ◌⊎◌, inl, inr, Bool, true, false, if◌then◌else◌, ◌&&◌, ◌==◌, nat_lt, List, [], ◌∷◌, ◌++◌, filter, map, length, take, drop, replicate, slice_get, slice_index_or, Option, Some, None, IsTrue, refl, sym, ap, ◌∙◌, subst, arith, append_assoc, length-append, length-drop, nat_eq, eqb-true, eq-eqb, ltb-true}
-use Rattle.std.specs.List.{list_all, flat_map}
-use Rattle.std.proofs.lemmas.List.{take-append-drop, take-append-le, drop-append-le, length-take-le, length-replicate}
+use Rattle.std.proofs.Common.{◌≡◌, ℕ, zero, suc, ◌+◌, ◌-◌, ◌*◌, ◌<◌, ◌≤◌, ◌⊎◌, inl, inr, Bool, true, false, if◌then◌else◌, ◌==◌, List, [], ◌∷◌, ◌++◌, filter, length, take, drop, replicate, slice_get, slice_index_or, Option, Some, refl, sym, ap, ◌∙◌, subst, arith, append_assoc, length-append, length-drop, nat_eq, eqb-true, eq-eqb}
+use Rattle.std.specs.List.{flat_map}
+use Rattle.std.proofs.lemmas.List.{take-append-drop, take-append-le, drop-append-le, length-take-le}
 use Rattle.std.proofs.Math.Seq.{drop-append-add}
 use Rattle.std.proofs.Math.Nat.{mul-le-mul_right, suc-mul}
-use Rattle.dn_base.specs.declared.device.TableEvent.{TableEvent}
-use Rattle.dn_base.proofs.Lists.{list_all-at}
-use Rattle.dn_net.specs.declared.node.NodeDecl.{NodeDecl}
-use Rattle.dn_net.specs.declared.node.Unit.{Unit as UnitPart}
 use Rattle.dn_net.specs.Chain.{Member}
 use Rattle.dn_kind.specs.Kind.{Meaning}
 use Rattle.dn_kind.specs.Tables.{slot_words}
 use Rattle.dn_tables.specs.declared.table.NodeTable.{NodeTable}
 use Rattle.dn_tables.specs.declared.table.SlotUse.{SlotUse}
-use Rattle.dn_tables.specs.Set.{FitsNet, IsEmpty, fits_by, fits_kinds, has_slot, has_slot_by, packed_for, packed_in, put_over, units_of, unit_in, unit_of_table, unused, use_in, uses_of_table, width_in, width_of_table, with_slot, with_table, with_words, words_in, words_of_table}
+use Rattle.dn_tables.specs.Set.{IsEmpty, fits_by, packed_for, packed_in, put_over, unit_in, unit_of_table, unused, use_in, uses_of_table, width_in, width_of_table, with_slot, with_table, with_words, words_in, words_of_table}
 use Rattle.dn_tables.specs.Writes.{clear_writes, clears_from, events_of, put_writes, writes_from}
 use Rattle.dn_tables.proofs.Kept.{all_changed, map_changed}
 use Rattle.dn_book.specs.Sets.{KeepsFit, after_clears, after_puts, clear_log, is_used_by, put_log}

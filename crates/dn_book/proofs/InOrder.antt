@@ -1,5 +1,5 @@
 -- The hops of a grant in either order, and what is known as the records of one after the other are put.
-use Rattle.std.proofs.Common.{◌≡◌, ◌≢◌, ℕ, zero, suc, ◌+◌, ◌-◌, ◌<◌, ◌≤◌, ◌⊎◌, inl, inr, Bool, true, false, List, [], ◌∷◌, ◌++◌, length, take, drop, reverse, slice_get, get_or, Option, Some, None, IsTrue, refl, sym, ap, ◌∙◌, subst, arith, append_assoc, append-nil}
+use Rattle.std.proofs.Common.{◌≡◌, ◌≢◌, ℕ, zero, suc, ◌+◌, ◌-◌, ◌<◌, ◌≤◌, ◌⊎◌, inl, inr, false, List, [], ◌∷◌, ◌++◌, length, take, drop, reverse, slice_get, get_or, Option, Some, None, IsTrue, refl, sym, ap, ◌∙◌, subst, arith, append_assoc, append-nil}
 use Rattle.std.specs.List.{All, AllPairs}
 use Rattle.std.proofs.lemmas.List.{length-reverse, take_more, take_all, take-append-drop, get_or-reverse}
 use Rattle.std.proofs.lemmas.Option.{same_Some, get_or_from_slice_get, slice_get-get_or, slice_get_within}
@@ -10,14 +10,14 @@ use Rattle.dn_net.specs.Chain.{Member}
 use Rattle.dn_net.specs.Decode.{unit_at}
 use Rattle.dn_kind.specs.declared.rights.Rights.{Rights}
 use Rattle.dn_kind.specs.Kind.{Meaning, IsLawful}
-use Rattle.dn_kind.specs.Rights.{are_rights, both_rights}
+use Rattle.dn_kind.specs.Rights.{are_rights}
 use Rattle.dn_kind.specs.Units.{KeepsUnitShape}
 use Rattle.dn_tables.specs.declared.placement.Hop.{Hop}
 use Rattle.dn_tables.specs.declared.table.NodeTable.{NodeTable}
-use Rattle.dn_tables.specs.Set.{FitsNet, IsSet, unit_in}
+use Rattle.dn_tables.specs.Set.{FitsNet, IsSet}
 use Rattle.dn_placement.specs.Records.{hop_rights, first_slot}
 use Rattle.dn_book.specs.declared.grant.Grant.{Grant}
-use Rattle.dn_book.specs.Sets.{AreFit, AreOpen, ArePut, FitsUnit}
+use Rattle.dn_book.specs.Sets.{AreFit, AreOpen, ArePut}
 use Rattle.dn_book.specs.Writes.{Put, grant_slots, hop_slots, hop_slots_by, hops_slots, joined_slots}
 use Rattle.dn_book.proofs.Ranges.{FitsPut, HopPuts, of_hop, hop_fits_put, open_after, slot_count}
 use Rattle.dn_book.proofs.Units.{unit_fits}

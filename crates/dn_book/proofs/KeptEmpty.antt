@@ -1,5 +1,5 @@
 -- In a set of tables that keeps a book the words of a slot that holds no record are 0.
-use Rattle.std.proofs.Common.{◌≡◌, ◌∙◌, sym, ap, refl, subst, ℕ, zero, suc, ◌+◌, ◌*◌, ◌<◌, ◌≤◌, List, [], ◌∷◌, ◌++◌, map, length, take, drop, replicate, slice_get, Option, Some, None, option_map, IsTrue, arith, eqb-true}
+use Rattle.std.proofs.Common.{◌≡◌, ◌∙◌, sym, ap, refl, subst, ℕ, zero, suc, ◌+◌, ◌*◌, ◌<◌, List, [], ◌∷◌, ◌++◌, length, take, drop, replicate, slice_get, Option, Some, None, IsTrue, arith, eqb-true}
 use Rattle.std.specs.List.{All, list_any}
 use Rattle.std.proofs.lemmas.Bool.{and_parts, not-true}
 use Rattle.std.proofs.lemmas.List.{length-replicate, take_at}
@@ -7,18 +7,18 @@ use Rattle.std.proofs.Math.Seq.{drop-append-add}
 use Rattle.dn_base.proofs.Lists.{list_all-at}
 use Rattle.dn_net.specs.declared.node.NodeDecl.{NodeDecl}
 use Rattle.dn_net.specs.declared.node.Unit.{Unit as UnitPart}
-use Rattle.dn_net.specs.Decode.{unit_at, unit_of}
+use Rattle.dn_net.specs.Decode.{unit_at}
 use Rattle.dn_kind.specs.declared.unit_kind.Record.{Record}
 use Rattle.dn_kind.specs.Kind.{IsLawful, IsPackable, Meaning, is_plain, is_within}
 use Rattle.dn_kind.specs.Tables.{Held, IsHeld, record_of_unit, slot_words}
-use Rattle.dn_kind.specs.Units.{KeepsUnitShape, fits_shape, is_shaped, unit_shape}
+use Rattle.dn_kind.specs.Units.{KeepsUnitShape, fits_shape, unit_shape}
 use Rattle.dn_kind.proofs.Held.{held_records_fit, kind_lawful}
 use Rattle.dn_tables.specs.declared.table.NodeTable.{NodeTable}
-use Rattle.dn_tables.specs.Set.{IsEmpty, fits_by, fits_kinds, has_slot, is_wide, record_kept, unit_in, width_in, width_of_table, words_in, words_of, words_of_table}
+use Rattle.dn_tables.specs.Set.{fits_by, fits_kinds, is_wide, unit_in, width_in, width_of_table, words_in, words_of}
 use Rattle.dn_tables.proofs.Kept.{table_of_unit, unit_of_slot}
 use Rattle.dn_book.specs.declared.grant.Grant.{Grant}
 use Rattle.dn_book.specs.Book.{owns_slot, records_of, uses_slot}
-use Rattle.dn_book.specs.Tables.{IsKept, packed_node, packed_nodes, packed_slot, packed_slots, packed_unit, tables_of}
+use Rattle.dn_book.specs.Tables.{IsKept, packed_node, packed_nodes, packed_slot, packed_slots, packed_unit}
 use Rattle.dn_book.specs.Kept.{KeptRecordsAreProper, KeptSlotsAreTheBooks}
 use Rattle.dn_book.proofs.KeptSlots.{AreEmptyZero, kept_slots, unit_of_fit, unowned_has_both, unused_holds_none}
 

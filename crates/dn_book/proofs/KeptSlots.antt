@@ -1,10 +1,9 @@
 -- A set of tables that keeps a book has the slots as the book leaves them: free where no grant uses
 -- them, and owned where a grant owns them.
-use Rattle.std.proofs.Common.{◌≡◌, ◌∙◌, sym, ap, refl, subst, ℕ, zero, suc, ◌+◌, ◌-◌, ◌*◌, ◌/◌, ◌^◌, ◌<◌, ◌≤◌, inl, inr, Bool, true, false, if◌then◌else◌, ◌&&◌, ◌==◌, not, nat_eq, nat_le, nat_lt, is_some, List, [], ◌∷◌, map, length, filter, take, drop, get_or, replicate, slice_get, Option, Some, None, IsTrue, true≢false, arith, leb-true, eqb-true}
-use Rattle.std.specs.List.{All, list_all, list_any}
-use Rattle.std.proofs.lemmas.Bool.{and_parts, or_parts, cases_lt, lt-ltb, ltb-false, eq-eqb, ne_eqb}
-use Rattle.std.proofs.lemmas.List.{drop_all, get_or_past, nil_from_length}
-use Rattle.std.proofs.lemmas.List.Elements.{All-replicate}
+use Rattle.std.proofs.Common.{◌≡◌, ◌∙◌, sym, ap, refl, subst, ℕ, zero, suc, ◌+◌, ◌-◌, ◌*◌, ◌^◌, ◌<◌, ◌≤◌, inl, inr, Bool, true, false, if◌then◌else◌, ◌&&◌, ◌==◌, not, nat_eq, nat_le, is_some, List, [], ◌∷◌, map, length, filter, take, drop, get_or, replicate, slice_get, Option, Some, None, IsTrue, true≢false, arith, leb-true, eqb-true}
+use Rattle.std.specs.List.{list_all, list_any}
+use Rattle.std.proofs.lemmas.Bool.{and_parts, or_parts, lt-ltb, ltb-false, ne_eqb}
+use Rattle.std.proofs.lemmas.List.{drop_all, get_or_past}
 use Rattle.std.proofs.lemmas.Map.Keys.{any_passes_from_place}
 use Rattle.std.proofs.lemmas.Nat.{pow_pos}
 use Rattle.std.proofs.Math.Nat.{div-lt_iff_lt-mul, mul-le-mul_right}
@@ -18,18 +17,18 @@ use Rattle.dn_kind.specs.declared.rights.Rights.{Rights}
 use Rattle.dn_kind.specs.declared.unit_kind.Record.{Record}
 use Rattle.dn_kind.specs.Kind.{Meaning}
 use Rattle.dn_kind.specs.Rights.{both_rights}
-use Rattle.dn_kind.specs.Tables.{Held, slot_words}
+use Rattle.dn_kind.specs.Tables.{slot_words}
 use Rattle.dn_tables.specs.declared.placement.Hop.{Hop}
 use Rattle.dn_tables.specs.declared.table.NodeTable.{NodeTable}
 use Rattle.dn_tables.specs.declared.table.SlotUse.{SlotUse}
-use Rattle.dn_tables.specs.Set.{IsEmpty, IsSet, has_slot, has_slot_by, is_sized, is_sized_by, record_kept, unit_in, unit_of_table, units_of, unused, use_in, uses_of_table, width_in, width_of_table, words_in, words_of_table}
+use Rattle.dn_tables.specs.Set.{IsEmpty, IsSet, has_slot, has_slot_by, is_sized, is_sized_by, unit_in, unit_of_table, units_of, unused, use_in, uses_of_table, width_in, width_of_table, words_of_table}
 use Rattle.dn_tables.proofs.Kept.{sized_unit}
 use Rattle.dn_placement.specs.declared.request.Request.{Request}
 use Rattle.dn_placement.specs.Placement.{Joins, Leads}
-use Rattle.dn_placement.specs.Records.{first_slot, hop_record, hop_record_by, hop_rights, hops_records, is_taken_by, last_slot, or_record, placed_records, slot_record}
+use Rattle.dn_placement.specs.Records.{first_slot, hop_record, hop_record_by, hop_rights, hops_records, is_taken_by, last_slot, or_record, slot_record}
 use Rattle.dn_placement.specs.Slots.{Slots, has_owner_in, is_free_in, is_zero_slot, slots_of_set}
 use Rattle.dn_book.specs.declared.grant.Grant.{Grant}
-use Rattle.dn_book.specs.Book.{IsGrant, IsSound, grant_records, is_taken, is_taken_by_own, owner_of, owns_slot, records_of, slots_of, uses_of, uses_slot}
+use Rattle.dn_book.specs.Book.{IsGrant, grant_records, is_taken, is_taken_by_own, owner_of, owns_slot, records_of, slots_of, uses_slot}
 use Rattle.dn_book.specs.Tables.{IsKept, use_of}
 
 -- the unit of a node, of a set that keeps the units of the net

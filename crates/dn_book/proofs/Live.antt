@@ -1,5 +1,5 @@
 -- What a book keeps of each slot as a grant comes and as one goes: its record, how many grants use it, and its owner.
-use Rattle.std.proofs.Common.{◌≡◌, ◌≢◌, ℕ, zero, suc, ◌+◌, ◌-◌, ◌<◌, ◌≤◌, ◌⊎◌, inl, inr, Bool, true, false, if◌then◌else◌, ◌&&◌, ◌||◌, ◌==◌, not, nat_eq, List, [], ◌∷◌, ◌++◌, length, filter, slice_get, is_some, reverse, Option, Some, None, IsSome, IsTrue, refl, sym, ap, ◌∙◌, subst, arith, eqb-true, eq-eqb, length-append}
+use Rattle.std.proofs.Common.{◌≡◌, ◌≢◌, ℕ, suc, ◌+◌, ◌-◌, ◌<◌, ◌≤◌, ◌⊎◌, inl, inr, Bool, true, false, if◌then◌else◌, ◌||◌, ◌==◌, not, nat_eq, List, [], ◌∷◌, ◌++◌, length, filter, slice_get, reverse, Option, Some, None, IsTrue, refl, sym, ap, ◌∙◌, subst, arith, eqb-true, eq-eqb, length-append}
 use Rattle.std.specs.List.{AllPairs, list_any}
 use Rattle.std.proofs.lemmas.List.Elements.{filter-append}
 use Rattle.std.proofs.lemmas.List.{reverse-append}
@@ -12,13 +12,9 @@ use Rattle.dn_net.specs.Chain.{Member}
 use Rattle.dn_net.specs.Decode.{unit_at}
 use Rattle.dn_net.specs.Legal.{IsLegalNet}
 use Rattle.dn_kind.specs.declared.unit_kind.Record.{Record}
-use Rattle.dn_kind.specs.Kind.{is_within}
 use Rattle.dn_kind.specs.Rights.{are_rights, both_rights}
 use Rattle.dn_kind.specs.Tables.{AreHeld, Held, IsHeld}
-use Rattle.dn_kind.specs.Units.{unit_shape}
 use Rattle.dn_tables.specs.declared.placement.Hop.{Hop}
-use Rattle.dn_tables.specs.declared.table.SlotUse.{SlotUse}
-use Rattle.dn_placement.specs.Placement.{IsPlacement}
 use Rattle.dn_placement.specs.Records.{first_slot, hop_record, hop_rights, last_slot, slot_record}
 use Rattle.dn_book.specs.declared.grant.Grant.{Grant}
 use Rattle.dn_book.specs.Book.{IsGiven, IsSound, is_taken, owner_of, owns_slot, records_of, slots_of, uses_of, uses_slot, without}
@@ -28,12 +24,12 @@ use Rattle.dn_book.specs.Tables.{use_of}
 use Rattle.dn_book.specs.Writes.{Put, clears_of, empty_slots, grant_slots, hop_slots, hop_slots_by, is_empty, joined_slots, puts_of}
 use Rattle.dn_book.proofs.Changes.{is_at_parts, is_at_self}
 use Rattle.dn_book.proofs.Frames.{same_or}
-use Rattle.dn_book.proofs.Given.{Agree, GrantGives, HopGives, Owns, Uses, between_gives, by_owns, by_uses, given_by, held_in, held_none, hop_gives, in_held, member_of, none_unused, owned_used, owns_by, place_of, taken_gives, unused_none, uses_by, uses_given, uses_gives}
+use Rattle.dn_book.proofs.Given.{GrantGives, between_gives, by_owns, by_uses, given_by, held_in, held_none, hop_gives, in_held, member_of, none_unused, owned_used, owns_by, place_of, taken_gives, unused_none}
 use Rattle.dn_book.proofs.Hops.{first_before, last_there}
-use Rattle.dn_book.proofs.InOrder.{IsIn, hop_at, hop_member, hops_at, in_all, joined_member, rights_of, turn_front, units_apart, behind_at, from_behind}
+use Rattle.dn_book.proofs.InOrder.{hop_at, hop_member, in_all, joined_member, rights_of, turn_front, units_apart, from_behind}
 use Rattle.dn_book.proofs.Packed.{after_other, after_there, cleared_other, cleared_there, held_after, held_cleared}
 use Rattle.dn_book.proofs.Ranges.{in_hop, of_hop, record_within, slot_count}
-use Rattle.dn_book.proofs.Sound.{Comes, comes, given_gives, gives_one, granted_sound, in_without, last_cases, none_of, placed_apart, placed_fit, revoked_sound, without_in}
+use Rattle.dn_book.proofs.Sound.{comes, given_gives, granted_sound, in_without, last_cases, placed_fit, revoked_sound, without_in}
 
 -- THE RECORDS OF SOUND BOOKS ARE RECORDS THAT THE UNITS CAN HOLD
 

@@ -1,13 +1,12 @@
 -- The list of the names that a book owes.
-use Rattle.std.proofs.Common.{◌≡◌, ℕ, zero, suc, ◌+◌, ◌-◌, ◌<◌, ◌≤◌, ◌⊎◌, inl, inr, ◌↔◌, Bool, true, false, if◌then◌else◌, ◌&&◌, nat_eq, nat_le, nat_lt, List, [], ◌∷◌, ◌++◌, slice_get, IsTrue, refl, sym, ap, ◌∙◌, subst, arith, eqb-true, eq-eqb, leb-true, ltb-true}
+use Rattle.std.proofs.Common.{◌≡◌, ℕ, ◌+◌, ◌-◌, ◌<◌, ◌≤◌, ◌⊎◌, inl, inr, ◌↔◌, Bool, true, false, if◌then◌else◌, ◌&&◌, nat_eq, nat_le, nat_lt, List, [], ◌∷◌, ◌++◌, IsTrue, refl, sym, ap, ◌∙◌, subst, arith, eqb-true, eq-eqb, leb-true, ltb-true}
 use Rattle.dn_base.proofs.Booleans.{and_from, and_parts}
 use Rattle.dn_base.proofs.Members.{member_cases, member_left, member_right}
 use Rattle.dn_base.proofs.Orders.{le-leb, lt-ltb}
 use Rattle.dn_net.specs.declared.node.Name.{Name}
-use Rattle.dn_net.specs.declared.node.NodeDecl.{NodeDecl}
 use Rattle.dn_net.specs.Chain.{Member}
-use Rattle.dn_net.specs.Decode.{is_accepted, is_agent_at, step_limit, steps}
-use Rattle.dn_net.specs.Names.{is_ascending, is_before_first, name_lt, resolved_names, sorted_names}
+use Rattle.dn_net.specs.Decode.{is_accepted, step_limit, steps}
+use Rattle.dn_net.specs.Names.{is_ascending, is_before_first, name_lt, resolved_names}
 use Rattle.dn_net.proofs.Ascending.{before_members, end_names_ascend, itself, sorted_ascending, turned}
 use Rattle.dn_net.proofs.Resolution.{end_names_are_ends, names_in}
 use Rattle.dn_kind.specs.declared.rights.Access.{Access}
@@ -16,7 +15,7 @@ use Rattle.dn_kind.specs.Tables.{allowing, resolved_names_under, step_limit_unde
 use Rattle.dn_placement.specs.Exposure.{Adds}
 use Rattle.dn_placement.specs.Placement.{name_on}
 use Rattle.dn_book.specs.declared.grant.Grant.{Grant}
-use Rattle.dn_book.specs.Book.{IsFaithful, IsGranted, Owes, granted_by, granted_names, owed_names, records_of}
+use Rattle.dn_book.specs.Book.{IsGranted, granted_by, granted_names, owed_names, records_of}
 use Rattle.dn_book.specs.Laws.{OwedNamesAreOwed, OwedNamesAreResolved}
 
 -- the test of a name at which a grant gives one

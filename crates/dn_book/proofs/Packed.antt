@@ -1,24 +1,23 @@
 -- Sets whose words are the packed words of records.
-use Rattle.std.proofs.Common.{◌≡◌, ℕ, zero, suc, ◌+◌, ◌-◌, ◌*◌, ◌%◌, ◌<◌, ◌≤◌, ◌⊎◌, inl, inr, Bool, true, false, if◌then◌else◌, ◌&&◌, nat_eq, nat_lt, List, [], ◌∷◌, ◌++◌, map, length, take, drop, replicate, slice_get, Option, Some, None, IsTrue, refl, sym, ap, ◌∙◌, subst, arith, append_assoc, length-append, ltb-true, ltb-false, eqb-true}
-use Rattle.std.specs.List.{All, list_all}
+use Rattle.std.proofs.Common.{◌≡◌, ℕ, zero, suc, ◌+◌, ◌-◌, ◌*◌, ◌%◌, ◌<◌, ◌≤◌, inl, inr, Bool, true, false, if◌then◌else◌, nat_lt, List, [], ◌∷◌, ◌++◌, length, take, drop, replicate, slice_get, Option, Some, None, IsTrue, refl, sym, ap, ◌∙◌, subst, arith, append_assoc, length-append, ltb-true, ltb-false, eqb-true}
+use Rattle.std.specs.List.{All}
 use Rattle.std.proofs.lemmas.List.{length-replicate, take_at}
 use Rattle.std.proofs.lemmas.Option.{same_Some}
 use Rattle.std.proofs.Math.Nat.{suc-mul}
 use Rattle.std.proofs.Math.Seq.{drop-append-add, drop-append_seam, take-append-add}
 use Rattle.dn_base.proofs.Booleans.{and_parts}
-use Rattle.dn_base.proofs.Orders.{lt-ltb}
 use Rattle.dn_base.proofs.Lists.{list_all-at}
 use Rattle.dn_net.specs.declared.node.NodeDecl.{NodeDecl}
 use Rattle.dn_net.specs.declared.node.Unit.{Unit as UnitPart}
 use Rattle.dn_net.specs.Chain.{Member}
-use Rattle.dn_net.specs.Decode.{unit_at, unit_of}
+use Rattle.dn_net.specs.Decode.{unit_at}
 use Rattle.dn_kind.specs.declared.unit_kind.Record.{Record}
 use Rattle.dn_kind.specs.Kind.{Meaning, IsLawful, IsPackable, gate_word, is_plain, is_within}
 use Rattle.dn_kind.specs.Tables.{AreHeld, Held, IsHeld, record_held, record_of_unit, record_spelled, record_within, slot_words}
-use Rattle.dn_kind.specs.Units.{KeepsUnitShape, fits_shape, is_shaped, unit_shape}
+use Rattle.dn_kind.specs.Units.{KeepsUnitShape, fits_shape, unit_shape}
 use Rattle.dn_kind.proofs.Held.{kind_lawful}
 use Rattle.dn_tables.specs.declared.table.NodeTable.{NodeTable}
-use Rattle.dn_tables.specs.Set.{FitsNet, IsEmpty, fits_by, fits_kinds, is_wide, packed_by, packed_for, packed_in, put_over, record_kept, unit_in, unit_of_table, width_in, width_of_table, with_slot, with_table, with_words, words_in, words_of, words_of_table}
+use Rattle.dn_tables.specs.Set.{FitsNet, IsEmpty, fits_by, is_wide, packed_by, packed_for, packed_in, put_over, record_kept, width_in, width_of_table, with_slot, with_table, with_words, words_of, words_of_table}
 use Rattle.dn_tables.proofs.Kept.{table_of_unit}
 use Rattle.dn_tables.proofs.Fresh.{kind_there}
 use Rattle.dn_book.specs.Sets.{after_clears, after_puts, is_at}
@@ -26,7 +25,7 @@ use Rattle.dn_book.specs.Tables.{packed_node, packed_nodes, packed_slot, packed_
 use Rattle.dn_book.specs.Writes.{Put}
 use Rattle.dn_book.proofs.Changes.{is_at_parts, is_at_self}
 use Rattle.dn_book.proofs.Facts.{fits_net_kept}
-use Rattle.dn_book.proofs.Frames.{fit_with_slot, same_or}
+use Rattle.dn_book.proofs.Frames.{fit_with_slot}
 use Rattle.dn_book.proofs.Units.{unit_fits}
 
 -- THE SLOTS OF ONE UNIT

@@ -1,7 +1,7 @@
 -- The slots of a hop one after the other, with their records.
-use Rattle.std.proofs.Common.{◌≡◌, ℕ, zero, suc, ◌+◌, ◌-◌, ◌*◌, ◌/◌, ◌%◌, ◌^◌, ◌<◌, ◌≤◌, ◌⊎◌, inl, inr, Bool, true, false, ◌&&◌, ◌==◌, filter, nat_le, nat_lt, List, [], ◌∷◌, ◌++◌, length, slice_get, get_or, Option, Some, None, IsTrue, refl, sym, ap, ◌∙◌, subst, arith, pow_pos, pow-add, lt-ltb, add-mul, div-add-mod', div-mul-le_self, lt_of_mul-lt-mul_right}
-use Rattle.std.specs.List.{All, list_all}
-use Rattle.std.proofs.Math.Nat.{le-div_iff_mul-le, pow-le-pow_right}
+use Rattle.std.proofs.Common.{◌≡◌, ℕ, zero, suc, ◌+◌, ◌-◌, ◌*◌, ◌/◌, ◌%◌, ◌^◌, ◌<◌, ◌≤◌, ◌⊎◌, inl, inr, false, ◌==◌, filter, nat_lt, List, [], ◌∷◌, ◌++◌, length, slice_get, Option, Some, IsTrue, refl, sym, ap, ◌∙◌, subst, arith, pow_pos, pow-add, lt-ltb, add-mul, div-add-mod', lt_of_mul-lt-mul_right}
+use Rattle.std.specs.List.{All}
+use Rattle.std.proofs.Math.Nat.{le-div_iff_mul-le}
 use Rattle.std.proofs.lemmas.Option.{same_Some, get_or_from_slice_get}
 use Rattle.dn_base.proofs.Booleans.{and_parts, and_from}
 use Rattle.dn_net.specs.declared.node.Unit.{Unit as UnitPart}
@@ -17,7 +17,7 @@ use Rattle.dn_kind.proofs.Held.{kind_lawful}
 use Rattle.dn_tables.specs.declared.placement.Hop.{Hop}
 use Rattle.dn_tables.specs.declared.table.NodeTable.{NodeTable}
 use Rattle.dn_tables.specs.declared.table.SlotUse.{SlotUse}
-use Rattle.dn_tables.specs.Set.{IsEmpty, IsPackableIn, IsSet, fits_kinds, has_slot, has_slot_by, packed_by, packed_for, packed_in, unit_in, unit_of_table, width_in, width_of_table, words_in, words_of_table}
+use Rattle.dn_tables.specs.Set.{IsEmpty, IsPackableIn, IsSet, fits_kinds, has_slot, has_slot_by, packed_by, packed_for, packed_in, unit_in, unit_of_table, width_in, width_of_table, words_of_table}
 use Rattle.dn_tables.proofs.Kept.{IsSlot, slot_in_set, table_of_unit}
 use Rattle.dn_tables.proofs.Slots.{IsKindOf, kind_of_slot}
 use Rattle.dn_placement.specs.Records.{first_slot, last_slot, slot_record}

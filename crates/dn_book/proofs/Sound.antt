@@ -1,16 +1,15 @@
 -- A sound book stays so as a grant comes that is a placement, and as grants go.
-use Rattle.std.proofs.Common.{◌≡◌, ◌≢◌, ℕ, zero, suc, ◌+◌, ◌-◌, ◌*◌, ◌^◌, ◌<◌, ◌≤◌, ◌⊎◌, inl, inr, Bool, true, false, if◌then◌else◌, ◌&&◌, ◌||◌, ◌==◌, not, nat_eq, List, [], ◌∷◌, ◌++◌, length, filter, drop, slice_get, get_or, is_some, Option, Some, None, IsSome, IsTrue, refl, sym, ap, ◌∙◌, subst, arith, eqb-true, eq-eqb}
+use Rattle.std.proofs.Common.{◌≡◌, ◌≢◌, ℕ, zero, suc, ◌+◌, ◌-◌, ◌^◌, ◌<◌, ◌≤◌, ◌⊎◌, inl, inr, Bool, true, false, if◌then◌else◌, ◌==◌, not, nat_eq, List, [], ◌∷◌, ◌++◌, length, drop, slice_get, get_or, Some, IsSome, IsTrue, refl, sym, ap, ◌∙◌, subst, arith, eqb-true, eq-eqb}
 use Rattle.std.specs.List.{AllPairs, list_any}
 use Rattle.std.proofs.lemmas.List.Kept.{AllPairs-filter}
 use Rattle.std.proofs.lemmas.List.Quantifiers.{all_pairs_push}
 use Rattle.std.proofs.lemmas.Option.{same_Some, slice_get_within, slice_get-get_or}
 use Rattle.dn_base.proofs.Lists.{length-last}
-use Rattle.dn_base.proofs.Members.{any_member, member_any, member_cases}
-use Rattle.dn_net.specs.declared.node.Name.{Name}
+use Rattle.dn_base.proofs.Members.{member_any, member_cases}
 use Rattle.dn_net.specs.declared.node.NodeDecl.{NodeDecl}
 use Rattle.dn_net.specs.declared.node.Unit.{Unit as UnitPart}
-use Rattle.dn_net.specs.Chain.{IsChain, Member}
-use Rattle.dn_net.specs.Decode.{Step, unit_at}
+use Rattle.dn_net.specs.Chain.{Member}
+use Rattle.dn_net.specs.Decode.{unit_at}
 use Rattle.dn_net.specs.Legal.{IsLegalNet}
 use Rattle.dn_net.specs.UnitRules.{LeadsTo}
 use Rattle.dn_net.proofs.Members.{member_filter}
@@ -20,15 +19,15 @@ use Rattle.dn_kind.specs.Rights.{both_rights}
 use Rattle.dn_tables.specs.declared.placement.Hop.{Hop}
 use Rattle.dn_tables.specs.Placement.{Place}
 use Rattle.dn_placement.specs.declared.request.Request.{Request}
-use Rattle.dn_placement.specs.Placement.{IsFreeHop, IsPlacement, IsUsable, Joins, Leads, Meets}
+use Rattle.dn_placement.specs.Placement.{IsFreeHop, IsPlacement, IsUsable, Joins, Leads}
 use Rattle.dn_placement.specs.Placement.IsUsable.{is_free, is_shared}
 use Rattle.dn_placement.specs.Records.{first_slot, hop_record, hop_rights, last_slot, slot_record}
 use Rattle.dn_placement.specs.Slots.{Slots}
 use Rattle.dn_book.specs.declared.grant.Grant.{Grant}
-use Rattle.dn_book.specs.Book.{AreOwnAlone, IsGiven, IsGrant, IsSound, has_id, is_taken, open_slots, owns_slot, records_of, slots_of, uses_slot, without}
+use Rattle.dn_book.specs.Book.{AreOwnAlone, IsGiven, IsGrant, IsSound, has_id, open_slots, owns_slot, records_of, slots_of, uses_slot, without}
 use Rattle.dn_book.specs.Laws.{IsGrantFor}
 use Rattle.dn_book.specs.Sets.{AreFit, FitsUnit}
-use Rattle.dn_book.proofs.Given.{GrantGives, HopGives, Uses, by_owns, by_uses, given_by, grant_gives, gives_taken, held_in, hop_gives, in_held, member_of, owned_used, owns_by, place_of, taken_gives, uses_by, uses_given, uses_gives}
+use Rattle.dn_book.proofs.Given.{GrantGives, HopGives, Uses, by_owns, given_by, gives_taken, hop_gives, in_held, member_of, owned_used, owns_by, place_of, taken_gives, uses_by, uses_given}
 use Rattle.dn_book.proofs.Frames.{same_or}
 use Rattle.dn_book.proofs.InOrder.{units_apart}
 

@@ -1,26 +1,24 @@
 -- Chains under records, and where the records of a grant's hops lead.
-use Rattle.std.proofs.Common.{◌≡◌, ◌≢◌, ℕ, zero, suc, ◌+◌, ◌-◌, ◌*◌, ◌/◌, ◌%◌, ◌^◌, ◌<◌, ◌≤◌, ◌⊎◌, inl, inr, Bool, true, false, if◌then◌else◌, ◌&&◌, nat_eq, nat_le, List, [], ◌∷◌, ◌++◌, slice_get, is_some, Option, Some, None, IsTrue, refl, sym, ap, ◌∙◌, subst, arith, append_assoc, zero-add, suc-add, pow_pos, add-mul, div-add-mod', leb-true}
+use Rattle.std.proofs.Common.{◌≡◌, ℕ, zero, suc, ◌+◌, ◌-◌, ◌*◌, ◌/◌, ◌%◌, ◌^◌, ◌<◌, ◌≤◌, inl, inr, Bool, true, false, if◌then◌else◌, nat_le, List, [], ◌∷◌, ◌++◌, slice_get, is_some, Option, Some, None, IsTrue, refl, sym, ap, ◌∙◌, subst, arith, append_assoc, zero-add, suc-add, pow_pos, add-mul, div-add-mod'}
 use Rattle.std.specs.List.{list_all}
 use Rattle.std.proofs.Math.Nat.{le-div_iff_mul-le}
 use Rattle.std.proofs.lemmas.Option.{same_Some}
-use Rattle.dn_base.proofs.Members.{member_left, member_right}
 use Rattle.dn_net.specs.declared.node.Name.{Name}
 use Rattle.dn_net.specs.declared.node.NodeDecl.{NodeDecl}
 use Rattle.dn_net.specs.declared.node.Unit.{Unit as UnitPart}
 use Rattle.dn_net.specs.Chain.{IsChain, Member, Reaches}
-use Rattle.dn_net.specs.Decode.{Resolves, Step, decode, is_accepted, is_formed, is_stop, is_stop_at, sent_names, steps, top, unit_at, unit_of}
+use Rattle.dn_net.specs.Decode.{Step, is_accepted, is_formed, is_stop, is_stop_at, sent_names, top, unit_at}
 use Rattle.dn_net.specs.Legal.{IsLegalNet}
 use Rattle.dn_net.proofs.Steps.{node_at, unit_is_bare}
 use Rattle.dn_kind.specs.declared.rights.Access.{Access}
 use Rattle.dn_kind.specs.declared.unit_kind.Record.{Record}
 use Rattle.dn_kind.specs.Rights.{allows}
-use Rattle.dn_kind.specs.Tables.{AreHeld, Extends, Held, IsHeld, ResolvesUnder, StepUnder, allowing, output, record_allowing, steps_by_unit, steps_under, to_port}
+use Rattle.dn_kind.specs.Tables.{AreHeld, Extends, Held, IsHeld, ResolvesUnder, StepUnder, allowing, output, record_allowing, steps_by_unit, to_port}
 use Rattle.dn_kind.specs.Ways.{PassesIn, Slot, slot_in}
 use Rattle.dn_kind.proofs.Bounds.{reach_under_is_within}
 use Rattle.dn_tables.specs.declared.placement.Hop.{Hop}
 use Rattle.dn_placement.specs.declared.request.Request.{Request}
-use Rattle.dn_placement.specs.Placement.{Joins, Leads, Meets, name_on}
-use Rattle.dn_placement.specs.Records.{first_slot}
+use Rattle.dn_placement.specs.Placement.{Leads, Meets, name_on}
 use Rattle.dn_placement.specs.Slots.{Slots}
 
 -- CHAINS

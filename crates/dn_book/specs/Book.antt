@@ -1,6 +1,6 @@
 -- A book of live grants: the records that they put into slots, when it is sound, and which names it
 -- owes to agents.
-use Rattle.std.specs.Prelude.{◌≡◌, ◌≢◌, ℕ, suc, ◌+◌, ◌-◌, ◌<◌, ◌≤◌, ◌⊎◌, ◌↔◌, Bool, true, false, if◌then◌else◌, ◌&&◌, ◌||◌, ◌==◌, not, nat_eq, nat_le, nat_lt, is_some, List, [], ◌∷◌, ◌++◌, length, filter, slice_get, Option, Some, None, IsTrue}
+use Rattle.std.specs.Prelude.{◌≡◌, ◌≢◌, ℕ, ◌+◌, ◌-◌, ◌≤◌, ◌⊎◌, ◌↔◌, Bool, false, if◌then◌else◌, ◌&&◌, ◌==◌, not, nat_eq, nat_le, nat_lt, is_some, List, [], ◌∷◌, ◌++◌, length, filter, slice_get, Option, Some, None, IsTrue}
 use Rattle.std.specs.List.{list_any, AllPairs}
 use Rattle.dn_net.specs.declared.node.Name.{Name}
 use Rattle.dn_net.specs.declared.node.NodeDecl.{NodeDecl}
@@ -12,7 +12,6 @@ use Rattle.dn_kind.specs.declared.unit_kind.Record.{Record}
 use Rattle.dn_kind.specs.Rights.{allows, are_rights, both_rights}
 use Rattle.dn_kind.specs.Tables.{Held, ResolvesUnder, allowing}
 use Rattle.dn_tables.specs.declared.placement.Hop.{Hop}
-use Rattle.dn_placement.specs.declared.request.Request.{Request}
 use Rattle.dn_placement.specs.Exposure.{Adds}
 use Rattle.dn_placement.specs.Placement.{IsPlacement, name_on}
 use Rattle.dn_placement.specs.Records.{hop_record, hop_rights, or_record, placed_records}

@@ -1,5 +1,5 @@
 -- What the parts of a grant and of a revoke leave of a set of tables, slot by slot.
-use Rattle.std.specs.Prelude.{◌≡◌, ◌≢◌, ℕ, suc, ◌+◌, ◌-◌, ◌*◌, ◌^◌, ◌%◌, ◌<◌, ◌≤◌, Bool, true, false, if◌then◌else◌, ◌&&◌, nat_eq, ◌==◌, List, [], ◌∷◌, filter, length, replicate, slice_get, Option, Some, None, IsSome, IsTrue}
+use Rattle.std.specs.Prelude.{◌≡◌, ◌≢◌, ℕ, suc, ◌+◌, ◌-◌, ◌*◌, ◌^◌, ◌%◌, ◌<◌, ◌≤◌, Bool, false, if◌then◌else◌, ◌&&◌, nat_eq, ◌==◌, List, [], ◌∷◌, filter, length, replicate, Option, Some, None, IsSome, IsTrue}
 use Rattle.std.specs.List.{AllPairs, flat_map, list_any}
 use Rattle.dn_base.specs.declared.device.TableEvent.{TableEvent}
 use Rattle.dn_net.specs.declared.node.NodeDecl.{NodeDecl}
@@ -12,7 +12,7 @@ use Rattle.dn_kind.specs.Kind.{Meaning}
 use Rattle.dn_tables.specs.declared.placement.Hop.{Hop}
 use Rattle.dn_tables.specs.declared.table.NodeTable.{NodeTable}
 use Rattle.dn_tables.specs.declared.table.SlotUse.{SlotUse}
-use Rattle.dn_tables.specs.Set.{IsEmpty, IsPackableIn, fits_kinds, has_slot, packed_in, units_of, use_in, width_in, with_slot, words_of, tables_of_set}
+use Rattle.dn_tables.specs.Set.{IsEmpty, fits_kinds, has_slot, packed_in, units_of, use_in, width_in, with_slot, words_of, tables_of_set}
 use Rattle.dn_tables.specs.Writes.{clear_writes, events_of, put_writes}
 use Rattle.dn_book.specs.Book.{is_taken}
 use Rattle.dn_book.specs.Writes.{AreAdded, Put}

@@ -1,5 +1,5 @@
 -- What a grant and a revoke write to a device, in order.
-use Rattle.std.specs.Prelude.{◌≡◌, ℕ, zero, suc, ◌-◌, ◌*◌, ◌<◌, Bool, true, false, if◌then◌else◌, List, [], ◌∷◌, ◌++◌, length, take, reverse, replicate, slice_get, Option, Some, None}
+use Rattle.std.specs.Prelude.{◌≡◌, ℕ, zero, suc, ◌-◌, ◌*◌, ◌<◌, Bool, true, false, if◌then◌else◌, List, [], ◌∷◌, ◌++◌, length, take, reverse, slice_get, Option, Some, None}
 use Rattle.std.specs.List.{flat_map}
 use Rattle.dn_base.specs.Device.{Logged}
 use Rattle.dn_base.specs.declared.device.TableEvent.{TableEvent}

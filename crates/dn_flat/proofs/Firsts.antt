@@ -1,16 +1,14 @@
 -- What a node comes to by no step and by one, from what it accepts and from its legs.
-use Rattle.std.proofs.Common.{◌≡◌, ℕ, zero, suc, ◌+◌, ◌-◌, ◌<◌, ◌≤◌, ◌↔◌, inl, inr, Bool, true, false, ◌&&◌, nat_le, nat_eq, List, [], ◌∷◌, map, length, slice_get, Option, Some, None, option_map, refl, sym, ap, ◌∙◌, subst, arith, IsTrue, eqb-true, eq-eqb}
-use Rattle.std.specs.List.{All}
-use Rattle.std.proofs.lemmas.Bool.{and_parts, and_from, false≢true}
+use Rattle.std.proofs.Common.{◌≡◌, ℕ, zero, suc, ◌+◌, ◌-◌, ◌<◌, ◌↔◌, Bool, true, ◌&&◌, nat_le, nat_eq, List, [], ◌∷◌, length, slice_get, Option, Some, None, option_map, refl, sym, ap, ◌∙◌, subst, arith, eqb-true, eq-eqb}
+use Rattle.std.proofs.lemmas.Bool.{and_parts, and_from}
 use Rattle.dn_base.proofs.Members.{any_member, member_any}
 use Rattle.dn_interval.specs.declared.row.End.{End}
-use Rattle.dn_net.specs.declared.node.Block.{Block}
 use Rattle.dn_net.specs.declared.node.Name.{Name}
 use Rattle.dn_net.specs.declared.node.NodeDecl.{NodeDecl}
 use Rattle.dn_net.specs.Chain.{Member, IsChain}
-use Rattle.dn_net.specs.Decode.{Step, within}
+use Rattle.dn_net.specs.Decode.{Step}
 use Rattle.dn_net.specs.Rules.{KeepsNodeRules}
-use Rattle.dn_net.specs.Walks.{Choice, Follows, Leads, legs, legs_of, moved_name, Leg as NetLeg}
+use Rattle.dn_net.specs.Walks.{Choice, Follows, legs, legs_of, Leg as NetLeg}
 use Rattle.dn_net.proofs.Apart.{node_apart}
 use Rattle.dn_net.proofs.Choices.{chain_is_walk}
 use Rattle.dn_net.proofs.Legs.{leads_of_leg, leg_of_leads}

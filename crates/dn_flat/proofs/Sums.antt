@@ -1,12 +1,11 @@
 -- Rows of what is reached in j steps, whose names go on by the rows for k steps, are what is reached in j + k.
-use Rattle.std.proofs.Common.{◌≡◌, ℕ, zero, suc, ◌+◌, ◌-◌, ◌<◌, ◌≤◌, ◌⊎◌, ◌↔◌, inl, inr, Bool, true, false, ◌&&◌, ◌||◌, List, [], ◌∷◌, ◌++◌, length, slice_get, Option, Some, None, refl, sym, ap, ◌∙◌, subst, arith, All}
-use Rattle.std.proofs.lemmas.Bool.{or_cases, false≢true}
+use Rattle.std.proofs.Common.{◌≡◌, ℕ, ◌+◌, ◌-◌, ◌≤◌, ◌⊎◌, ◌↔◌, inl, inr, Bool, true, false, ◌&&◌, ◌||◌, List, length, slice_get, Some, sym, ap, ◌∙◌, arith, All}
+use Rattle.std.proofs.lemmas.Bool.{or_cases}
 use Rattle.dn_interval.specs.declared.row.End.{End}
 use Rattle.dn_interval.specs.declared.row.Row.{Row}
 use Rattle.dn_interval.specs.declared.row.Seg.{Seg}
 use Rattle.dn_interval.specs.declared.span.TheConstants.{TOP}
-use Rattle.dn_interval.specs.Spans.{in_span}
-use Rattle.dn_interval.specs.Rows.{AreNormal, SegmentsGive, GivenBy, EndsFit, ends_within}
+use Rattle.dn_interval.specs.Rows.{AreNormal, SegmentsGive, EndsFit, ends_within}
 use Rattle.dn_interval.specs.Strands.{segs_give, rows_give}
 use Rattle.dn_interval.specs.Onward.{seg_goes, rows_go, gives_by}
 use Rattle.dn_interval.proofs.Goes.{composed}
@@ -17,7 +16,7 @@ use Rattle.dn_net.specs.declared.node.Name.{Name}
 use Rattle.dn_net.specs.declared.node.NodeDecl.{NodeDecl}
 use Rattle.dn_net.specs.Decode.{Step, is_accepted, is_stop}
 use Rattle.dn_flat.specs.declared.reach.Reach.{Reach}
-use Rattle.dn_flat.specs.Stages.{EndsBefore, GoesIn, IsReach, AreReaches}
+use Rattle.dn_flat.specs.Stages.{EndsBefore, GoesIn, AreReaches}
 use Rattle.dn_flat.specs.Views.{name_of_end, end_of}
 use Rattle.dn_flat.proofs.Chains.{joined, parted, before_sum}
 

@@ -1,5 +1,5 @@
 -- The nodes of the names that rows give.
-use Rattle.std.proofs.Common.{◌≡◌, ℕ, zero, suc, ◌+◌, ◌-◌, ◌<◌, ◌≤◌, inl, inr, true, nat_lt, List, [], ◌∷◌, length, slice_get, Option, Some, None, refl, subst, arith, IsTrue, lt-ltb}
+use Rattle.std.proofs.Common.{◌≡◌, ℕ, ◌+◌, ◌-◌, ◌<◌, ◌≤◌, inl, inr, true, nat_lt, List, [], ◌∷◌, length, slice_get, Option, Some, None, refl, subst, arith, IsTrue, lt-ltb}
 use Rattle.std.specs.List.{list_all}
 use Rattle.std.proofs.lemmas.Bool.{false≢true}
 use Rattle.std.proofs.lemmas.Option.{slice_get_within}

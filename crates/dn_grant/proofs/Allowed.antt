@@ -22,7 +22,7 @@ use Rattle.dn_book.specs.declared.book.CommitFault.TheVariants.{Device as commit
 use Rattle.dn_book.specs.Book.{IsFaithful, IsSound, has_id, slots_of}
 use Rattle.dn_book.specs.Laws.{IsGrantFor}
 use Rattle.dn_grant.specs.declared.fault.GrantFault.{GrantFault}
-use Rattle.dn_grant.specs.declared.fault.GrantFault.TheVariants.{IdUsed, NoAgent, NoTarget, NotAccepted, BookFull, Device}
+use Rattle.dn_grant.specs.declared.fault.GrantFault.TheVariants.{IdUsed, NoAgent, NoTarget, BookFull, Device}
 use Rattle.dn_grant.specs.Faults.{fault_of_commit}
 use Rattle.dn_grant.specs.Grant.{NoAddition, grant_at}
 use Rattle.dn_grant.specs.Refusal.{grant_refusal, is_target_at, refusal_by, refused_address}

@@ -1,5 +1,5 @@
 -- The first address that a node does not accept: the nearest of those behind its blocks.
-use Rattle.std.proofs.Common.{◌≡◌, ◌∙◌, sym, ap, refl, subst, ℕ, zero, suc, ◌+◌, ◌-◌, ◌<◌, ◌≤◌, ◌⊎◌, inl, inr, Bool, true, false, if◌then◌else◌, ◌&&◌, not, nat_eq, nat_le, nat_lt, List, [], ◌∷◌, Option, Some, None, option_map, min, IsTrue, true≢false, arith, leb-true, ltb-true}
+use Rattle.std.proofs.Common.{◌≡◌, ◌∙◌, sym, ap, refl, subst, ℕ, zero, suc, ◌+◌, ◌-◌, ◌<◌, ◌≤◌, inl, inr, Bool, true, false, if◌then◌else◌, nat_eq, nat_le, nat_lt, List, [], ◌∷◌, Option, Some, None, option_map, min, true≢false, arith, leb-true, ltb-true}
 use Rattle.std.proofs.lemmas.Bool.{cases_lt, and_parts, le-leb, lt-ltb}
 use Rattle.std.proofs.Math.Nat.{min-eq_left}
 use Rattle.dn_base.specs.Members.{Member}

@@ -1,5 +1,5 @@
 -- The first address that a node does not accept, by the blocks that it accepts.
-use Rattle.std.specs.Prelude.{ℕ, ◌+◌, min, Bool, if◌then◌else◌, ◌&&◌, not, nat_lt, List, [], ◌∷◌, Option}
+use Rattle.std.specs.Prelude.{ℕ, ◌+◌, min, if◌then◌else◌, ◌&&◌, not, nat_lt, List, [], ◌∷◌, Option}
 use Rattle.dn_net.specs.declared.node.Block.{Block}
 use Rattle.dn_net.specs.declared.node.NodeDecl.{NodeDecl}
 use Rattle.dn_net.specs.Decode.{is_accepted_at, top}

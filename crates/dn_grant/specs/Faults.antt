@@ -1,5 +1,5 @@
 -- Which answers are faults of the device, and what becomes of a commit's fault.
-use Rattle.std.specs.Prelude.{Bool, true, false, Result, Ok, Err}
+use Rattle.std.specs.Prelude.{Bool, true, false, Result, Err}
 use Rattle.dn_book.specs.declared.book.CommitFault.{CommitFault}
 use Rattle.dn_book.specs.declared.book.CommitFault.TheVariants.{Device as commit_device, OutOfMemory as commit_memory}
 use Rattle.dn_grant.specs.declared.fault.GrantFault.{GrantFault}

@@ -1,5 +1,5 @@
 -- What calls answer, held against the reading of bytes.
-use Rattle.std.proofs.Common.{◌≡◌, ◌∙◌, ℕ, zero, suc, ◌+◌, ◌-◌, ◌<◌, ◌≤◌, Bool, true, false, if◌then◌else◌, nat_lt, List, [], ◌∷◌, drop, length, get_or, Option, Some, None, IfSome, Result, Ok, Err, IfOk, refl, sym, ap, subst, arith, length-drop, lt-ltb}
+use Rattle.std.proofs.Common.{◌≡◌, ◌∙◌, ℕ, suc, ◌+◌, ◌-◌, ◌<◌, ◌≤◌, if◌then◌else◌, List, [], ◌∷◌, drop, length, get_or, Option, Some, None, IfSome, Result, Ok, Err, IfOk, ap, subst, arith, length-drop, lt-ltb}
 use Rattle.dn_base.proofs.Orders.{le-ltb}
 use Rattle.dn_base.specs.Answers.{Answers}
 use Rattle.dn_net.specs.declared.node.NodeDecl.{NodeDecl}

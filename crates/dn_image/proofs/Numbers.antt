@@ -1,9 +1,9 @@
 -- Bytes of numbers, and words of bytes.
-use Rattle.std.proofs.Common.{◌≡◌, ℕ, zero, suc, ◌+◌, ◌-◌, ◌*◌, ◌/◌, ◌%◌, ◌^◌, ◌<◌, ◌≤◌, Bool, true, List, [], ◌∷◌, ◌++◌, length, take, drop, slice_index, nat_lt, IsTrue, refl, sym, ap, ◌∙◌, arith, ltb-true, lt-ltb, length-append, length-drop, append_assoc, append-nil}
-use Rattle.std.proofs.Math.Nat.{div-div-eq-div-mul, div-one, pow-succ'}
-use Rattle.std.proofs.lemmas.List.{drop_at, take_at, drop-drop, length-take-le, take-append-drop}
+use Rattle.std.proofs.Common.{◌≡◌, ℕ, zero, suc, ◌+◌, ◌-◌, ◌*◌, ◌/◌, ◌%◌, ◌^◌, ◌<◌, ◌≤◌, List, [], ◌∷◌, ◌++◌, length, take, drop, slice_index, nat_lt, IsTrue, refl, sym, ap, ◌∙◌, arith, ltb-true, lt-ltb, length-append, length-drop, append_assoc, append-nil}
+use Rattle.std.proofs.Math.Nat.{div-div-eq-div-mul, pow-succ'}
+use Rattle.std.proofs.lemmas.List.{drop_at, drop-drop, length-take-le, take-append-drop}
 use Rattle.std.specs.Int.{byte_at, bytes_low_first}
-use Rattle.std.specs.List.{AllByRecursion, flat_map, list_all}
+use Rattle.std.specs.List.{list_all}
 use Rattle.byteorder.specs.Endian.{little_from, little_number, little_bytes}
 use Rattle.byteorder.specs.Numbers.{little_from-cons, little_from-append, little_from-lt, little_number-reads_back, length-bytes_low_first}
 use Rattle.dn_base.proofs.Booleans.{and_parts, and_from}

@@ -1,8 +1,8 @@
 -- Where the bytes of nodes stand in an image.
-use Rattle.std.proofs.Common.{◌≡◌, ℕ, zero, suc, ◌+◌, ◌-◌, ◌*◌, ◌<◌, ◌≤◌, min, Bool, true, false, nat_lt, List, [], ◌∷◌, ◌++◌, map, length, take, drop, replicate, slice_get, slice_index_or, Option, Some, None, Bor, is_some, IsTrue, refl, sym, ap, ◌∙◌, subst, arith, length-drop, length-append, append_assoc, append-nil, ltb-true, lt-ltb, if◌then◌else◌}
+use Rattle.std.proofs.Common.{◌≡◌, ℕ, zero, suc, ◌+◌, ◌-◌, ◌*◌, ◌<◌, ◌≤◌, min, Bool, true, false, nat_lt, List, [], ◌∷◌, ◌++◌, map, length, take, drop, replicate, slice_get, Option, Some, None, Bor, is_some, IsTrue, refl, sym, ap, ◌∙◌, subst, arith, length-drop, length-append, append_assoc, ltb-true, lt-ltb, if◌then◌else◌}
 use Rattle.std.proofs.Math.Nat.{min-eq_left, min-eq_right}
 use Rattle.std.specs.Option.{option_map, option_copied}
-use Rattle.std.proofs.lemmas.List.{drop-drop, take_at, length-replicate}
+use Rattle.std.proofs.lemmas.List.{drop-drop}
 use Rattle.std.proofs.lemmas.Option.{same_Some}
 use Rattle.dn_base.proofs.Orders.{ltb-false, le-ltb}
 use Rattle.dn_net.specs.declared.node.NodeDecl.{NodeDecl}
@@ -18,7 +18,7 @@ use Rattle.dn_tables.specs.Set.{unit_in, units_of, words_in, words_of, fits_by, 
 use Rattle.dn_tables.proofs.Kept.{table_of_unit, slot_room}
 use Rattle.dn_base.proofs.Lists.{list_all-at, length-map, slice_get_within}
 use Rattle.dn_image.specs.Image.{count_unit, unit_count, width_by, width_of, word_count, head_bytes, first_words, unit_bytes, units_bytes}
-use Rattle.dn_image.specs.Reading.{BrokenImage, Field, exactly, word_field, header_fields, unit_fields, units_fields, image_fields, broken_in, broken_image, node_size, nodes_size, node_words, words_from, image_words, record_by}
+use Rattle.dn_image.specs.Reading.{Field, exactly, word_field, header_fields, unit_fields, units_fields, image_fields, broken_in, broken_image, node_size, nodes_size, node_words, words_from, record_by}
 use Rattle.dn_image.specs.Bytes.{word_bytes, words_spelled}
 use Rattle.dn_image.proofs.Numbers.{length_words, slot_spelled}
 use Rattle.dn_image.specs.Reading.BrokenImage.{ends, shape}

@@ -1,5 +1,5 @@
 -- What is read is an image, and each image is read.
-use Rattle.std.proofs.Common.{◌≡◌, ℕ, zero, suc, ◌+◌, ◌-◌, ◌*◌, ◌^◌, ◌<◌, ◌≤◌, Bool, true, false, if◌then◌else◌, ◌&&◌, ◌||◌, ◌==◌, nat_lt, List, [], ◌∷◌, ◌++◌, length, take, drop, replicate, slice_get, Option, Some, None, Result, Ok, Err, IsTrue, refl, sym, ap, ◌∙◌, subst, arith, length-drop, length-append, append_assoc, append-nil, eqb-true}
+use Rattle.std.proofs.Common.{◌≡◌, ℕ, suc, ◌+◌, ◌-◌, ◌*◌, ◌^◌, ◌<◌, ◌≤◌, Bool, true, false, if◌then◌else◌, ◌||◌, ◌==◌, nat_lt, List, [], ◌∷◌, ◌++◌, length, take, drop, replicate, Option, Some, None, Result, Ok, IsTrue, refl, sym, ap, ◌∙◌, subst, arith, length-append, append_assoc, append-nil, eqb-true}
 use Rattle.std.specs.List.{list_all}
 use Rattle.std.proofs.lemmas.List.{drop-drop, drop_at, take_at, take-append-drop, length-take-le, nil_from_length}
 use Rattle.byteorder.specs.Endian.{little_bytes, little_number}
@@ -10,8 +10,8 @@ use Rattle.dn_net.specs.declared.node.NodeDecl.{NodeDecl}
 use Rattle.dn_net.specs.declared.node.Unit.{Unit as UnitPart}
 use Rattle.dn_kind.specs.Kind.{Meaning}
 use Rattle.dn_image.specs.Bytes.{AreBytes, word_bytes, words_spelled}
-use Rattle.dn_image.specs.Image.{mark, count_unit, unit_count, word_count, width_of, head_of, head_bytes, unit_bytes, units_bytes, image_head, image_of, is_version, is_filled, are_filled, first_words, ImageWords, IsImageOf}
-use Rattle.dn_image.specs.Reading.{BrokenImage, Field, exactly, word_field, version_field, header_fields, unit_fields, units_fields, image_fields, broken_in, broken_image, node_size, node_words, words_from, image_words, version_of, reading_by, image_reading}
+use Rattle.dn_image.specs.Image.{mark, count_unit, unit_count, word_count, head_bytes, unit_bytes, units_bytes, image_head, image_of, is_version, is_filled, are_filled, ImageWords, IsImageOf}
+use Rattle.dn_image.specs.Reading.{BrokenImage, Field, exactly, word_field, version_field, header_fields, unit_fields, units_fields, broken_in, broken_image, node_size, node_words, words_from, image_words, version_of, reading_by, image_reading}
 use Rattle.dn_image.specs.Reading.BrokenImage.{header, shape}
 use Rattle.dn_image.specs.Laws.{ImageIsRead, ReadIsImage}
 use Rattle.dn_image.proofs.Fields.{right_field, exactly_right, exactly_given, words_there, words_right, right_first, IsRight, ended}

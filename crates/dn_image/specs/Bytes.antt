@@ -1,5 +1,5 @@
 -- Numbers in little-endian bytes.
-use Rattle.std.specs.Prelude.{◌≡◌, ℕ, zero, suc, ◌*◌, ◌<◌, List, [], ◌∷◌, drop, length}
+use Rattle.std.specs.Prelude.{◌≡◌, ℕ, zero, suc, ◌<◌, List, [], ◌∷◌, drop, length}
 use Rattle.std.specs.List.{AllByRecursion, flat_map}
 use Rattle.byteorder.specs.Endian.{little_bytes, little_number}
 

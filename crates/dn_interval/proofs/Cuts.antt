@@ -7,7 +7,7 @@ use Rattle.dn_interval.specs.declared.row.Row.{Row}
 use Rattle.dn_interval.specs.declared.row.Seg.{Seg}
 use Rattle.dn_interval.specs.Spans.{in_span}
 use Rattle.dn_interval.specs.Rows.{Apart}
-use Rattle.dn_interval.specs.Strands.{segs_give, ends_give, row_gives, rows_give}
+use Rattle.dn_interval.specs.Strands.{segs_give, ends_give, rows_give}
 use Rattle.dn_interval.specs.Onward.{seg_goes}
 use Rattle.dn_interval.proofs.Membership.{in_above, in_below, lo_of, hi_of}
 use Rattle.dn_interval.proofs.Pieces.{drop_past}

@@ -1,5 +1,5 @@
 -- Rows whose names go on: the names that they give, each followed by what its node gives.
-use Rattle.std.proofs.Common.{◌≡◌, ℕ, zero, suc, ◌+◌, ◌-◌, ◌<◌, ◌≤◌, ◌⊎◌, ◌↔◌, inl, inr, Bool, true, false, ◌&&◌, ◌||◌, nat_lt, List, [], ◌∷◌, map, length, slice_get, Option, Some, None, refl, sym, ap, ◌∙◌, subst, arith, ltb-true, All}
+use Rattle.std.proofs.Common.{◌≡◌, ℕ, zero, suc, ◌+◌, ◌-◌, ◌<◌, ◌≤◌, ◌↔◌, inl, inr, Bool, true, nat_lt, List, [], ◌∷◌, map, length, slice_get, Option, Some, None, refl, sym, ap, subst, arith, ltb-true, All}
 use Rattle.std.specs.List.{list_all, list_any}
 use Rattle.std.proofs.lemmas.Bool.{or_cases, and_parts, and_from, false≢true}
 use Rattle.std.proofs.lemmas.List.Elements.{All-tail}

@@ -5,10 +5,10 @@ use Rattle.dn_net.specs.declared.node.Name.{Name}
 use Rattle.dn_net.specs.declared.node.NodeDecl.{NodeDecl}
 use Rattle.dn_net.specs.declared.node.Unit.{Unit as UnitPart}
 use Rattle.dn_net.specs.Chain.{Member, IsChain}
-use Rattle.dn_net.specs.Decode.{top, is_stop, is_stop_at, unit_at, steps, step_limit, Step}
+use Rattle.dn_net.specs.Decode.{top, is_stop, is_stop_at, unit_at, step_limit, Step}
 use Rattle.dn_net.specs.Legal.{IsLegalNet}
 use Rattle.dn_net.specs.Units.{has_plain_shape}
-use Rattle.dn_net.specs.UnitRules.{IsShallow, LeadsTo, LeadsOn, IsUnitRow}
+use Rattle.dn_net.specs.UnitRules.{LeadsOn, IsUnitRow}
 use Rattle.dn_net.proofs.Chains.{chain_front}
 use Rattle.dn_net.proofs.Plain.{plain_at}
 use Rattle.dn_kind.specs.declared.unit_kind.Record.{Record}

@@ -1,5 +1,5 @@
 -- In a net in which each node that is referred to exists, what a node at a number refers to exists.
-use Rattle.std.proofs.Common.{◌≡◌, ◌∙◌, ap, sym, subst, ℕ, zero, suc, List, [], ◌∷◌, Bool, true, false, ◌&&◌, nat_lt, length, slice_get, Option, Some, None, option_map, IsTrue, refl}
+use Rattle.std.proofs.Common.{◌≡◌, subst, ℕ, List, Bool, ◌&&◌, nat_lt, length, slice_get, Option, Some, None, option_map, IsTrue, refl}
 use Rattle.std.specs.List.{list_all}
 use Rattle.dn_base.proofs.Booleans.{and_parts}
 use Rattle.dn_base.proofs.Lists.{list_all-at}

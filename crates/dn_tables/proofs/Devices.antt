@@ -1,13 +1,12 @@
 -- The tables of a set, as a device tells them.
-use Rattle.std.proofs.Common.{◌≡◌, ℕ, zero, suc, ◌+◌, ◌<◌, ◌≤◌, Bool, true, false, if◌then◌else◌, nat_lt, ◌==◌, List, [], ◌∷◌, ◌++◌, map, length, slice_get, slice_set, Option, Some, None, IfSome, refl, sym, ap, ◌∙◌, subst, arith}
+use Rattle.std.proofs.Common.{◌≡◌, ℕ, zero, suc, ◌+◌, ◌<◌, true, false, if◌then◌else◌, nat_lt, ◌==◌, List, [], ◌∷◌, ◌++◌, length, slice_set, Option, Some, None, IfSome, refl, sym, ap, ◌∙◌, subst, arith}
 use Rattle.std.specs.Option.{option_map}
-use Rattle.std.proofs.lemmas.List.{length-set}
 use Rattle.dn_base.proofs.Orders.{lt-ltb, eq-eqb, ne_eqb}
-use Rattle.dn_base.specs.Device.{UnitSize, size_of, sizes_of, has_word, with_word}
+use Rattle.dn_base.specs.Device.{UnitSize, sizes_of, has_word, with_word}
 use Rattle.dn_base.specs.declared.device.UnitWords.{UnitWords}
 use Rattle.dn_net.specs.declared.node.Unit.{Unit as UnitPart}
 use Rattle.dn_tables.specs.declared.table.NodeTable.{NodeTable}
-use Rattle.dn_tables.specs.Set.{unit_of_table, unit_in, words_of_table, words_in, table_on_device, tables_from, tables_of_set, with_table, with_words, IsOnDevice}
+use Rattle.dn_tables.specs.Set.{unit_in, words_in, table_on_device, tables_from, tables_of_set, with_table, with_words, IsOnDevice}
 use Rattle.dn_tables.specs.Writes.{WordWrite, words_after, device_after, set_after}
 use Rattle.dn_tables.proofs.Kept.{with_table_twice, no_change}
 use Rattle.dn_tables.proofs.Values.{length_after}

@@ -1,7 +1,7 @@
 -- Gate words: a slot whose last word is 0 holds no record, so one that is half written holds none.
-use Rattle.std.proofs.Common.{◌≡◌, ℕ, zero, suc, ◌+◌, ◌-◌, ◌*◌, ◌%◌, ◌<◌, ◌≤◌, Bool, true, false, if◌then◌else◌, nat_lt, List, [], ◌∷◌, length, take, drop, min, replicate, get_or, slice_get, slice_set, Option, Some, None, IsTrue, refl, sym, ap, ◌∙◌, subst, arith, length-drop}
+use Rattle.std.proofs.Common.{◌≡◌, ℕ, zero, suc, ◌+◌, ◌-◌, ◌*◌, ◌%◌, ◌<◌, ◌≤◌, Bool, true, false, if◌then◌else◌, nat_lt, List, [], ◌∷◌, length, take, drop, min, replicate, get_or, slice_get, slice_set, Option, Some, None, refl, sym, ap, ◌∙◌, arith, length-drop}
 use Rattle.std.specs.List.{All}
-use Rattle.std.proofs.lemmas.List.{length-set, length-take, length-take-le, length-replicate, get_or-drop, get_or-take, get_or-replicate, get_or-set_same, take-replicate}
+use Rattle.std.proofs.lemmas.List.{length-set, length-take, length-take-le, length-replicate, get_or-drop, get_or-take, get_or-replicate, get_or-set_same}
 use Rattle.dn_net.specs.declared.node.Unit.{Unit as UnitPart}
 use Rattle.dn_kind.specs.declared.unit_kind.Record.{Record}
 use Rattle.dn_kind.specs.Kind.{Meaning, IsLawful, gate_word}

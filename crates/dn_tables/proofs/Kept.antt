@@ -1,17 +1,16 @@
 -- Sets in which the table of one node is changed.
-use Rattle.std.proofs.Common.{◌≡◌, ℕ, zero, suc, ◌+◌, ◌*◌, ◌<◌, ◌≤◌, Bool, true, false, ◌&&◌, ◌==◌, nat_le, List, [], ◌∷◌, map, length, get_or, slice_get, slice_set, Option, Some, None, IsTrue, refl, sym, ap, ◌∙◌, subst, arith, eqb-true, leb-true, ltb-true}
+use Rattle.std.proofs.Common.{◌≡◌, ℕ, zero, suc, ◌+◌, ◌*◌, ◌<◌, ◌≤◌, Bool, ◌&&◌, ◌==◌, nat_le, List, [], ◌∷◌, map, length, get_or, slice_get, slice_set, Option, Some, None, IsTrue, refl, sym, ap, ◌∙◌, subst, arith, eqb-true, leb-true, ltb-true}
 use Rattle.std.specs.List.{list_all}
 use Rattle.std.proofs.lemmas.List.{length-set}
 use Rattle.std.proofs.lemmas.Option.{same_Some, get_or_from_slice_get}
 use Rattle.std.proofs.Math.Nat.{mul-le-mul_right, suc-mul}
 use Rattle.dn_base.proofs.Booleans.{and_parts, and_from}
-use Rattle.dn_base.proofs.Lists.{slice_get-at, list_all-at}
+use Rattle.dn_base.proofs.Lists.{list_all-at}
 use Rattle.dn_net.specs.declared.node.Unit.{Unit as UnitPart}
-use Rattle.dn_kind.specs.Kind.{Meaning, is_plain}
+use Rattle.dn_kind.specs.Kind.{is_plain}
 use Rattle.dn_kind.specs.Units.{unit_shape}
 use Rattle.dn_tables.specs.declared.table.NodeTable.{NodeTable}
-use Rattle.dn_tables.specs.declared.table.SlotUse.{SlotUse}
-use Rattle.dn_tables.specs.Set.{is_sized, is_sized_by, with_table, with_words, with_uses, unit_of_table, unit_in, has_slot_by, has_slot, fits_by, fits_kinds, is_wide, units_of, IsSet}
+use Rattle.dn_tables.specs.Set.{is_sized, is_sized_by, with_table, unit_of_table, unit_in, has_slot_by, has_slot, IsSet}
 
 -- a changed table stands where the table stood
 pub with_table_is : (set : List NodeTable) (node : ℕ) (t : NodeTable) (f : NodeTable → NodeTable) → slice_get set node ≡ Some t → slice_set set node (f t) ≡ with_table set node f

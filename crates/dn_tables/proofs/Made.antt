@@ -1,18 +1,17 @@
 -- Writes that were made in order: on words, and in the set of which these are the words of a unit.
-use Rattle.std.proofs.Common.{◌≡◌, ℕ, zero, suc, ◌+◌, ◌-◌, ◌*◌, ◌<◌, ◌≤◌, ◌⊎◌, inl, inr, Bool, true, false, List, [], ◌∷◌, ◌++◌, length, take, drop, get_or, replicate, slice_get, slice_set, Option, Some, None, IsTrue, refl, sym, ap, ◌∙◌, subst, arith, append_assoc, length-append, length-drop}
+use Rattle.std.proofs.Common.{◌≡◌, ℕ, zero, suc, ◌+◌, ◌-◌, ◌<◌, ◌≤◌, Bool, true, false, List, [], ◌∷◌, ◌++◌, length, take, drop, get_or, replicate, slice_get, slice_set, Option, Some, None, IsTrue, refl, sym, ap, ◌∙◌, subst, arith, length-append, length-drop}
 use Rattle.std.specs.Option.{option_map}
-use Rattle.std.specs.List.{All, list_all}
-use Rattle.std.proofs.lemmas.List.{take_all, take_more, length-take-le, take_at, take-append-le, length_push, length-replicate}
+use Rattle.std.proofs.lemmas.List.{take_all, take_more, length-take-le, take_at, take-append-le, length_push}
 use Rattle.dn_base.specs.Device.{Logged, UnitSize, has_word, sizes_of, with_word}
 use Rattle.dn_base.proofs.Logs.{Logged-none, Logged-then}
 use Rattle.dn_base.specs.declared.device.TableEvent.{TableEvent}
 use Rattle.dn_base.specs.declared.device.TableEvent.TheVariants.{Write}
 use Rattle.dn_base.specs.declared.device.UnitWords.{UnitWords}
 use Rattle.dn_tables.specs.declared.table.NodeTable.{NodeTable}
-use Rattle.dn_tables.specs.Set.{with_table, with_words, put_over, IsSet, IsOnDevice, has_slot, unit_of_table, words_of_table, tables_of_set}
-use Rattle.dn_tables.specs.Writes.{WordWrite, writes_from, clears_from, events_of, words_after, device_after, set_after, AreWritten, AreMade}
+use Rattle.dn_tables.specs.Set.{with_words, IsSet, IsOnDevice, has_slot, unit_of_table, words_of_table, tables_of_set}
+use Rattle.dn_tables.specs.Writes.{WordWrite, writes_from, clears_from, events_of, words_after, device_after, AreWritten, AreMade}
 use Rattle.dn_tables.proofs.Devices.{word_on_device, on_device_after}
-use Rattle.dn_tables.proofs.Kept.{with_table_is, same_change, IsSlot, slot_in_set, set_kept}
+use Rattle.dn_tables.proofs.Kept.{with_table_is, IsSlot, slot_in_set, set_kept}
 use Rattle.dn_tables.proofs.Values.{after_append, length_after, writes_last, writes_split, length_writes}
 
 -- events, one row after another

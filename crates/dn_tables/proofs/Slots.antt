@@ -1,7 +1,7 @@
 -- The record of a slot after it was put or cleared, or was half so.
-use Rattle.std.proofs.Common.{◌≡◌, ℕ, zero, suc, ◌+◌, ◌-◌, ◌*◌, ◌<◌, ◌≤◌, ◌⊎◌, inl, inr, Bool, true, false, if◌then◌else◌, nat_lt, List, [], ◌∷◌, map, length, take, replicate, slice_get, Option, Some, None, Result, Ok, Err, OnOk, OnErr, is_err, IsTrue, refl, sym, ap, ◌∙◌, subst, arith, lt-ltb, eqb-true}
-use Rattle.std.specs.List.{All, list_all}
-use Rattle.std.proofs.lemmas.List.{take_all, length-replicate}
+use Rattle.std.proofs.Common.{◌≡◌, ℕ, zero, suc, ◌+◌, ◌-◌, ◌*◌, ◌<◌, ◌≤◌, ◌⊎◌, inl, inr, Bool, true, false, if◌then◌else◌, List, [], ◌∷◌, map, length, take, replicate, slice_get, Option, Some, None, Result, Ok, Err, OnOk, OnErr, is_err, IsTrue, refl, sym, ap, ◌∙◌, subst, arith, lt-ltb, eqb-true}
+use Rattle.std.specs.List.{All}
+use Rattle.std.proofs.lemmas.List.{take_all}
 use Rattle.std.proofs.lemmas.List.Elements.{All-map}
 use Rattle.std.proofs.lemmas.Option.{same_Some}
 use Rattle.dn_base.proofs.Lists.{list_all-at}
@@ -9,12 +9,12 @@ use Rattle.dn_base.specs.declared.device.TableEvent.{TableEvent}
 use Rattle.dn_base.specs.declared.device.UnitWords.{UnitWords}
 use Rattle.dn_net.specs.declared.node.Unit.{Unit as UnitPart}
 use Rattle.dn_kind.specs.declared.unit_kind.Record.{Record}
-use Rattle.dn_kind.specs.Kind.{Meaning, IsLawful, IsPackable, is_within, gate_word}
+use Rattle.dn_kind.specs.Kind.{Meaning, IsLawful, IsPackable, gate_word}
 use Rattle.dn_kind.specs.Tables.{slot_words, record_within, record_spelled, record_of_unit}
 use Rattle.dn_kind.specs.Units.{unit_shape}
 use Rattle.dn_kind.proofs.Held.{kind_lawful}
 use Rattle.dn_tables.specs.declared.table.NodeTable.{NodeTable}
-use Rattle.dn_tables.specs.Set.{with_table, with_words, put_over, with_slot, unit_in, width_in, words_in, unit_of_table, width_of_table, words_of_table, words_of, units_of, fits_by, fits_kinds, is_wide, packed_by, packed_for, packed_in, IsPackableIn, IsEmpty, record_kept}
+use Rattle.dn_tables.specs.Set.{with_words, put_over, with_slot, width_in, unit_of_table, width_of_table, words_of_table, words_of, units_of, fits_by, fits_kinds, is_wide, packed_by, packed_for, packed_in, IsPackableIn, IsEmpty, record_kept}
 use Rattle.dn_tables.specs.Writes.{WordWrite, writes_from, put_writes, clear_writes, clears_from, words_after, set_after, AreMade}
 use Rattle.dn_tables.proofs.Gates.{gate_while_put, gate_while_cleared, none_by_gate}
 use Rattle.dn_tables.proofs.Kept.{IsSlot, same_change, get_changed, no_change, map_changed, all_changed}

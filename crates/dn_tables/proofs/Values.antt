@@ -1,6 +1,6 @@
 -- Words after writes: a row of values put over words, and words of a slot that are cleared.
 use Rattle.std.proofs.Common.{◌≡◌, ℕ, zero, suc, ◌+◌, ◌-◌, ◌*◌, ◌<◌, ◌≤◌, List, [], ◌∷◌, ◌++◌, length, take, drop, replicate, get_or, slice_set, refl, sym, ap, ◌∙◌, arith, append_assoc}
-use Rattle.std.proofs.lemmas.List.{length-set, take-append-drop, drop-set, length_push, replicate_more, length-replicate, length-take-le, drop_at, take_at, get_or-drop, get_or-append_right, get_or-take, get_or-replicate, length-drop, take_more, take_more_set}
+use Rattle.std.proofs.lemmas.List.{length-set, take-append-drop, drop-set, length_push, replicate_more, length-replicate, length-take-le, drop_at, take_at, get_or-drop, get_or-append_right, length-drop, take_more, take_more_set}
 use Rattle.dn_kind.specs.Tables.{slot_words}
 use Rattle.dn_tables.specs.Set.{put_over}
 use Rattle.dn_tables.specs.Writes.{WordWrite, writes_from, words_after, clears_from}

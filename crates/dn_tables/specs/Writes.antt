@@ -5,11 +5,10 @@ use Rattle.dn_base.specs.Device.{Logged, UnitSize, size_of, with_word}
 use Rattle.dn_base.specs.declared.device.TableEvent.{TableEvent}
 use Rattle.dn_base.specs.declared.device.TableEvent.TheVariants.{Make, Write}
 use Rattle.dn_base.specs.declared.device.UnitWords.{UnitWords}
-use Rattle.dn_net.specs.declared.node.NodeDecl.{NodeDecl}
 use Rattle.dn_kind.specs.declared.unit_kind.Record.{Record}
 use Rattle.dn_kind.specs.Kind.{Meaning}
 use Rattle.dn_tables.specs.declared.table.NodeTable.{NodeTable}
-use Rattle.dn_tables.specs.Set.{packed_in, width_in, with_table, with_words, tables_of_set, fresh_set}
+use Rattle.dn_tables.specs.Set.{packed_in, width_in, with_table, with_words}
 
 -- a write of one word of a unit
 pub record WordWrite : Type 0 where

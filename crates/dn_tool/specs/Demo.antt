@@ -1,6 +1,6 @@
 -- A demonstration: the commands of its text are gone through as those of a script, but their replies are
 -- told to no one, and one line sums up what came of them.
-use Rattle.std.specs.Prelude.{◌≡◌, ◌⊎◌, ℕ, zero, suc, ◌+◌, ◌==◌, ◌&&◌, Bool, true, false, if◌then◌else◌, nat_lt, List, [], ◌∷◌, length, slice_get, Option, Some, None, is_some}
+use Rattle.std.specs.Prelude.{◌≡◌, ◌⊎◌, ℕ, zero, suc, ◌+◌, ◌==◌, ◌&&◌, Bool, true, false, if◌then◌else◌, nat_lt, List, ◌∷◌, length, slice_get, Option, Some, None, is_some}
 use Rattle.dn_base.specs.declared.device.TableEvent.{TableEvent}
 use Rattle.dn_base.specs.declared.device.UnitWords.{UnitWords}
 use Rattle.dn_base.specs.Outside.{IsWritten}

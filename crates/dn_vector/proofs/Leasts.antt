@@ -1,7 +1,6 @@
 -- The least of the vectors of spans, span by span.
-use Rattle.std.proofs.Common.{◌≡◌, ◌∙◌, sym, ap, refl, subst, ℕ, ◌+◌, ◌<◌, ◌≤◌, ◌⊎◌, inl, inr, true, ◌&&◌, ◌||◌, nat_le, List, [], ◌∷◌, ◌++◌, length, take, drop, get_or, Some, IsTrue, arith, leb-true}
-use Rattle.std.specs.List.{list_any}
-use Rattle.std.proofs.lemmas.Bool.{and_parts, and_from, le-leb, or_cases, or_left, or_right, cases_lt}
+use Rattle.std.proofs.Common.{◌≡◌, ◌∙◌, sym, ap, subst, ℕ, ◌+◌, ◌<◌, ◌≤◌, ◌⊎◌, inl, inr, true, ◌||◌, nat_le, List, ◌∷◌, ◌++◌, length, take, drop, get_or, arith, leb-true}
+use Rattle.std.proofs.lemmas.Bool.{and_parts, and_from, le-leb, or_cases, or_left, or_right}
 use Rattle.std.proofs.lemmas.List.{take-append-drop}
 use Rattle.std.proofs.lemmas.List.Folds.{list_any_more, list_any-append}
 use Rattle.dn_base.proofs.Lists.{drop_at}
@@ -10,7 +9,6 @@ use Rattle.dn_interval.specs.Spans.{AreMaximal, StandFrom, has, in_span}
 use Rattle.dn_interval.proofs.Standing.{rest_stands, stands_above}
 use Rattle.dn_net.specs.declared.node.NodeDecl.{NodeDecl}
 use Rattle.dn_tables.specs.Placement.{Place}
-use Rattle.dn_placement.specs.Order.{IsFirst}
 use Rattle.dn_book.specs.declared.grant.Grant.{Grant}
 use Rattle.dn_vector.specs.Route.{HasNoPlace, IsLeastVector, NoVector}
 use Rattle.dn_vector.specs.Search.{IsLeastAmong, IsLeastOf}

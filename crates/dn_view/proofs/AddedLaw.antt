@@ -1,6 +1,6 @@
 -- An addition that gives an agent exactly one name more has, in the slots that the name's chain passes,
 -- an admissible placement.
-use Rattle.std.proofs.Common.{◌≡◌, ◌∙◌, sym, ap, refl, subst, ℕ, zero, suc, ◌+◌, ◌-◌, ◌*◌, ◌/◌, ◌%◌, ◌^◌, ◌<◌, ◌≤◌, ◌⊎◌, ◌↔◌, inl, inr, Bool, true, false, if◌then◌else◌, not, nat_eq, nat_le, List, [], ◌∷◌, length, Option, Some, None, slice_get, IsTrue, arith, pow_pos, div-lt_iff_lt-mul}
+use Rattle.std.proofs.Common.{◌≡◌, ◌∙◌, sym, ap, refl, subst, ℕ, zero, suc, ◌+◌, ◌-◌, ◌*◌, ◌/◌, ◌^◌, ◌<◌, ◌≤◌, ◌⊎◌, ◌↔◌, inl, inr, Bool, true, false, if◌then◌else◌, not, nat_eq, List, [], ◌∷◌, length, Option, Some, None, slice_get, IsTrue, arith, pow_pos, div-lt_iff_lt-mul}
 use Rattle.std.proofs.lemmas.Bool.{cases_lt, eq-eqb, ne_eqb}
 use Rattle.dn_net.specs.declared.node.Name.{Name}
 use Rattle.dn_net.specs.declared.node.NodeDecl.{NodeDecl}
@@ -19,12 +19,12 @@ use Rattle.dn_tables.specs.Placement.{Place}
 use Rattle.dn_placement.specs.declared.request.Request.{Request}
 use Rattle.dn_placement.specs.Exposure.{Adds, Gives}
 use Rattle.dn_placement.specs.Order.{IsSuited}
-use Rattle.dn_placement.specs.Placement.{IsFreeHop, IsUsable, Joins, Leads, Meets, is_free, is_shared, name_on}
+use Rattle.dn_placement.specs.Placement.{IsUsable, Joins, Leads, Meets, is_free, is_shared}
 use Rattle.dn_placement.specs.Records.{first_slot, hop_rights, hops_records, joined_records, last_slot, slot_record}
 use Rattle.dn_placement.specs.Slots.{Slots}
 use Rattle.dn_view.specs.Addition.{AreProper, GivesExactly, IsAddition, RefusalIsComplete, name_at}
 use Rattle.dn_view.proofs.AddedHops.{HoldAll, hops_hold, hops_sub, record_is, record_of, slot_is}
-use Rattle.dn_view.proofs.AddedRights.{allowed_here, allowed_there, both_allow, both_or_not, joined_below, joined_cases, joined_left, joined_right, mask_held, mask_less, mask_more, some_allowed}
+use Rattle.dn_view.proofs.AddedRights.{allowed_here, both_allow, both_or_not, joined_below, joined_cases, joined_left, joined_right, mask_held, mask_less, mask_more, some_allowed}
 use Rattle.dn_view.proofs.AddedRows.{HopStep, Row, accepted_ends, chain_append, chain_more, chain_of_row, fixed_under, one_from_stop, one_to_stop, one_way_within, row_of, step_more, stop_of_hop, stop_part, through_record, unit_unaccepted}
 use Rattle.dn_view.proofs.AddedWays.{few_hops, hop_fits, hops_differ, last_chain, last_length, last_of, no_stops, on_row, other_end, page_of, passes_slot, resolves, resolves_fixed, row_at, stops_fixed}
 

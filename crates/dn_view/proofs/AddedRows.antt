@@ -1,18 +1,17 @@
 -- A chain under records is a row of hops: steps of the net to a unit, and one through the record of a
 -- slot, again and again.
-use Rattle.std.proofs.Common.{◌≡◌, ◌∙◌, sym, ap, refl, subst, ℕ, zero, suc, ◌+◌, ◌-◌, ◌*◌, ◌/◌, ◌%◌, ◌^◌, ◌<◌, ◌≤◌, ◌⊎◌, inl, inr, Bool, true, false, if◌then◌else◌, ◌&&◌, nat_le, List, [], ◌∷◌, ◌++◌, length, Option, Some, None, is_some, slice_get, IsTrue, arith, zero-add, suc-add}
+use Rattle.std.proofs.Common.{◌≡◌, ◌∙◌, sym, ap, refl, subst, ℕ, zero, suc, ◌+◌, ◌-◌, ◌*◌, ◌/◌, ◌%◌, ◌^◌, ◌≤◌, ◌⊎◌, inl, inr, Bool, true, false, if◌then◌else◌, nat_le, List, [], ◌∷◌, length, Option, Some, None, is_some, slice_get, IsTrue, arith, zero-add, suc-add}
 use Rattle.std.specs.List.{list_all}
 use Rattle.std.proofs.lemmas.Bool.{and_parts}
 use Rattle.dn_net.specs.declared.node.Name.{Name}
 use Rattle.dn_net.specs.declared.node.NodeDecl.{NodeDecl}
 use Rattle.dn_net.specs.declared.node.Unit.{Unit as UnitPart}
 use Rattle.dn_net.specs.Chain.{IsChain, Member, Reaches}
-use Rattle.dn_net.specs.Decode.{Step, in_some_block, is_accepted, is_accepted_at, is_formed, is_stop, is_stop_at, sent_names, steps, top, unit_at, unit_of}
+use Rattle.dn_net.specs.Decode.{Step, in_some_block, is_accepted, is_accepted_at, is_formed, is_stop, is_stop_at, sent_names, steps, top, unit_at}
 use Rattle.dn_net.specs.UnitRules.{NoFork}
 use Rattle.dn_net.proofs.Steps.{node_at, unit_is_bare}
-use Rattle.dn_net.proofs.Stops.{stop_still}
 use Rattle.dn_kind.specs.declared.unit_kind.Record.{Record}
-use Rattle.dn_kind.specs.Tables.{Extends, Held, StepUnder, output, steps_by_unit, steps_under, to_port}
+use Rattle.dn_kind.specs.Tables.{Extends, Held, StepUnder, output, steps_by_unit, to_port}
 use Rattle.dn_tables.specs.declared.placement.Hop.{Hop}
 
 -- CHAINS

@@ -1,6 +1,6 @@
 -- Rows of a legal net under records that its units can hold: they have at most three hops, in different
 -- units, and the name behind the last leads to the row's end alone.
-use Rattle.std.proofs.Common.{◌≡◌, ◌∙◌, sym, ap, refl, subst, ℕ, zero, suc, ◌+◌, ◌-◌, ◌*◌, ◌/◌, ◌%◌, ◌^◌, ◌<◌, ◌≤◌, ◌⊎◌, inl, inr, Bool, true, false, ◌&&◌, nat_lt, nat_le, List, [], ◌∷◌, ◌++◌, map, length, Option, Some, None, IsSome, slice_get, IsTrue, arith, leb-true, ltb-true, pow_pos, pow-add, mod-lt, mul-le-mul_right, suc-mul, append_assoc}
+use Rattle.std.proofs.Common.{◌≡◌, ◌∙◌, sym, ap, refl, subst, ℕ, zero, suc, ◌+◌, ◌-◌, ◌*◌, ◌/◌, ◌%◌, ◌^◌, ◌<◌, ◌≤◌, ◌⊎◌, inl, inr, Bool, true, false, ◌&&◌, nat_lt, nat_le, List, [], ◌∷◌, ◌++◌, map, length, Some, IsSome, slice_get, IsTrue, arith, leb-true, ltb-true, pow_pos, pow-add, mod-lt, mul-le-mul_right, suc-mul, append_assoc}
 use Rattle.std.proofs.lemmas.List.{length-map}
 use Rattle.std.proofs.lemmas.Option.{slice_get_within}
 use Rattle.std.proofs.lemmas.Bool.{and_parts}
@@ -13,18 +13,18 @@ use Rattle.dn_net.specs.Chain.{IsChain, Member, Reaches}
 use Rattle.dn_net.specs.Decode.{Resolves, Step, StopsAt, is_accepted, is_stop, steps, unit_at}
 use Rattle.dn_net.specs.Legal.{IsLegalNet}
 use Rattle.dn_net.specs.Units.{has_plain_shape}
-use Rattle.dn_net.specs.UnitRules.{IsUnitRow, LeadsOn, LeadsTo}
+use Rattle.dn_net.specs.UnitRules.{IsUnitRow, LeadsTo}
 use Rattle.dn_net.proofs.Plain.{plain_at}
 use Rattle.dn_net.proofs.Stops.{shallow_reach}
 use Rattle.dn_kind.specs.declared.unit_kind.Record.{Record}
 use Rattle.dn_kind.specs.Kind.{is_within}
-use Rattle.dn_kind.specs.Tables.{AreHeld, Extends, Held, IsHeld, ResolvesUnder, StepUnder}
+use Rattle.dn_kind.specs.Tables.{AreHeld, Held, IsHeld, ResolvesUnder, StepUnder}
 use Rattle.dn_kind.specs.Units.{unit_shape}
 use Rattle.dn_kind.specs.Ways.{Passes, PassesIn, Slot, slot_in}
 use Rattle.dn_kind.proofs.Bounds.{reach_under_is_within}
 use Rattle.dn_kind.proofs.Ways.{chain_passes_slots}
 use Rattle.dn_tables.specs.declared.placement.Hop.{Hop}
-use Rattle.dn_view.proofs.AddedRows.{HopStep, Row, accepted_ends, accepted_still, chain_append, chain_more, chain_of_row, fixed_under, one_from_stop, one_to_stop, one_value, one_way_within, row_of, step_more, stop_of_hop, stop_part, through_record, unit_still, unit_unaccepted}
+use Rattle.dn_view.proofs.AddedRows.{HopStep, Row, accepted_still, chain_append, chain_more, chain_of_row, fixed_under, one_value, one_way_within, stop_of_hop, stop_part, through_record, unit_still, unit_unaccepted}
 
 -- an output is below the reach
 low_output : (p a page reach : ℕ) → p < 2 ^ (reach - page) → page ≤ reach →

@@ -1,5 +1,5 @@
 -- Rows and segments that show exactly a buffer, or nothing.
-use Rattle.std.proofs.Common.{◌≡◌, ℕ, ◌+◌, ◌-◌, ◌<◌, ◌≤◌, ◌⊎◌, ◌↔◌, inl, inr, Bool, true, false, ◌&&◌, ◌==◌, nat_le, nat_eq, List, [], ◌∷◌, map, length, slice_get, Option, Some, None, IsTrue, refl, sym, ap, ◌∙◌, subst, arith, leb-true, le-leb, eqb-true, eq-eqb}
+use Rattle.std.proofs.Common.{◌≡◌, ℕ, ◌+◌, ◌-◌, ◌<◌, ◌≤◌, ◌↔◌, inl, inr, true, false, ◌&&◌, ◌==◌, nat_le, nat_eq, List, [], ◌∷◌, map, length, IsTrue, refl, sym, ap, ◌∙◌, subst, arith, leb-true, eqb-true, eq-eqb}
 use Rattle.std.proofs.lemmas.Bool.{and_parts, false≢true}
 use Rattle.dn_interval.specs.declared.row.End.{End}
 use Rattle.dn_interval.specs.declared.row.Row.{Row}
@@ -7,7 +7,6 @@ use Rattle.dn_interval.specs.declared.row.Seg.{Seg}
 use Rattle.dn_interval.specs.declared.span.Span.{Span}
 use Rattle.dn_interval.specs.declared.span.TheConstants.{TOP}
 use Rattle.dn_interval.specs.Rows.{Member as Named, AreNormal, SegmentsGive, GivenBy, moved}
-use Rattle.dn_interval.specs.Spans.{in_span}
 use Rattle.dn_interval.specs.Strands.{segs_give}
 use Rattle.dn_interval.proofs.Membership.{in_from, or_left}
 use Rattle.dn_interval.proofs.Normal.{one_normal}

@@ -1,5 +1,5 @@
 -- The part of a segment that stands in a slot.
-use Rattle.std.proofs.Common.{◌≡◌, ℕ, zero, suc, ◌⊎◌, inl, inr, nat_lt, lt-ltb, ◌+◌, ◌-◌, ◌*◌, ◌/◌, ◌%◌, ◌^◌, ◌<◌, ◌≤◌, max, min, Bool, true, false, ◌&&◌, ◌||◌, nat_le, nat_eq, List, [], ◌∷◌, length, drop, get_or, add-one, slice_get, Option, Some, None, IsTrue, refl, sym, ap, ◌∙◌, subst, arith, pow_pos, leb-true, le-leb, eqb-true, eq-eqb}
+use Rattle.std.proofs.Common.{◌≡◌, ℕ, zero, suc, ◌⊎◌, inl, inr, nat_lt, lt-ltb, ◌+◌, ◌-◌, ◌*◌, ◌/◌, ◌%◌, ◌^◌, ◌<◌, ◌≤◌, max, min, Bool, true, false, ◌&&◌, ◌||◌, nat_le, nat_eq, List, [], ◌∷◌, length, drop, get_or, add-one, slice_get, Option, Some, None, IsTrue, refl, sym, ap, ◌∙◌, arith, pow_pos, leb-true, le-leb, eqb-true, eq-eqb}
 use Rattle.std.proofs.Math.Bool.{or-false}
 use Rattle.std.proofs.Math.ListN.{drop_of_length-le}
 use Rattle.std.proofs.Math.Seq.{drop-cons}
@@ -12,7 +12,6 @@ use Rattle.dn_flat.specs.declared.flat.Flat.{Flat}
 use Rattle.dn_view.specs.declared.pass.Part.{Part}
 use Rattle.dn_interval.specs.declared.row.End.{End}
 use Rattle.dn_interval.specs.declared.row.Seg.{Seg}
-use Rattle.dn_interval.specs.declared.span.Span.{Span}
 use Rattle.dn_interval.specs.declared.span.TheConstants.{TOP}
 use Rattle.dn_interval.specs.Spans.{in_span}
 use Rattle.dn_net.specs.declared.node.Name.{Name}
@@ -23,7 +22,7 @@ use Rattle.dn_kind.specs.declared.unit_kind.Record.{Record}
 use Rattle.dn_kind.specs.Kind.{is_plain, is_within}
 use Rattle.dn_kind.specs.Tables.{Held, to_port, output}
 use Rattle.dn_kind.specs.Units.{unit_shape}
-use Rattle.dn_kind.proofs.Outputs.{has_pages, page_is, output_small}
+use Rattle.dn_kind.proofs.Outputs.{output_small}
 use Rattle.dn_view.specs.Passes.{has_rows, rows_part, in_slot, names_go, outputs, outputs_by, seg_name}
 use Rattle.dn_view.proofs.Pages.{pages_ascend, IsPartIn, part_in, in_part, of_part, part_names, same_test, true_all, all_true}
 

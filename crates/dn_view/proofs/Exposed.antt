@@ -1,10 +1,8 @@
 -- An admissible placement is one whose added records show exactly what is asked for.
-use Rattle.std.proofs.Common.{◌≡◌, ℕ, zero, suc, ◌+◌, ◌-◌, ◌*◌, ◌/◌, ◌%◌, ◌^◌, ◌<◌, ◌≤◌, ◌⊎◌, ◌↔◌, inl, inr, Bool, true, false, if◌then◌else◌, not, nat_le, nat_lt, List, [], ◌∷◌, length, slice_get, Option, Some, None, IsTrue, refl, sym, ap, ◌∙◌, subst, arith, pow_pos, leb-true, eqb-true}
-use Rattle.std.specs.List.{All, list_all}
-use Rattle.std.proofs.lemmas.Bool.{and_parts, false≢true}
+use Rattle.std.proofs.Common.{◌≡◌, ℕ, zero, suc, ◌+◌, ◌-◌, ◌*◌, ◌/◌, ◌%◌, ◌^◌, ◌<◌, ◌≤◌, ◌⊎◌, ◌↔◌, inl, inr, Bool, true, false, if◌then◌else◌, nat_le, List, [], ◌∷◌, slice_get, Option, Some, None, IsTrue, refl, sym, ap, ◌∙◌, subst, arith, pow_pos, leb-true}
+use Rattle.std.specs.List.{All}
+use Rattle.std.proofs.lemmas.Bool.{false≢true}
 use Rattle.std.proofs.lemmas.List.Elements.{All-nil, All-cons}
-use Rattle.std.proofs.lemmas.Option.{same_Some}
-use Rattle.std.proofs.Math.Nat.{le-div_iff_mul-le}
 use Rattle.dn_interval.specs.declared.row.End.{End}
 use Rattle.dn_interval.specs.declared.span.TheConstants.{TOP}
 use Rattle.dn_net.specs.declared.node.Name.{Name}
@@ -16,7 +14,6 @@ use Rattle.dn_net.specs.Legal.{IsLegalNet}
 use Rattle.dn_kind.specs.declared.rights.Access.{Access}
 use Rattle.dn_kind.specs.declared.rights.Access.TheVariants.{Read, Write}
 use Rattle.dn_kind.specs.Rights.{allows, both_rights, are_rights}
-use Rattle.dn_kind.specs.Kind.{Meaning, IsLawful}
 use Rattle.dn_kind.specs.Tables.{Held, output, to_port, StepUnder, ResolvesUnder, AreHeld, allowing, record_allowing}
 use Rattle.dn_flat.proofs.Chains.{joined}
 use Rattle.dn_flat.specs.Views.{name_of_end, end_of}
@@ -29,8 +26,7 @@ use Rattle.dn_placement.specs.Records.{first_slot, last_slot, slot_record, place
 use Rattle.dn_placement.specs.Slots.{Slots}
 use Rattle.dn_view.specs.Exact.{IsAdded, IsAsked, IsExactAt, AreExact}
 use Rattle.dn_view.specs.Passes.{outputs, outputs_by}
-use Rattle.dn_view.specs.Records.{IsFitted, AreFitted, fresh_records}
-use Rattle.dn_view.specs.Through.{IsShownNewly}
+use Rattle.dn_view.specs.Records.{IsFitted, AreFitted}
 use Rattle.dn_view.proofs.Held.{allowed_are_held}
 use Rattle.dn_view.proofs.Newly.{blocked, resolves_all, newly_is_new}
 use Rattle.dn_view.proofs.Pages.{pages_ascend, output_of_hop}

@@ -1,6 +1,6 @@
 -- Hops that fit their units, and the records that they put into slots.
-use Rattle.std.proofs.Common.{◌≡◌, ℕ, suc, ◌+◌, ◌-◌, ◌*◌, ◌/◌, ◌%◌, ◌^◌, ◌<◌, ◌≤◌, Bool, true, false, if◌then◌else◌, ◌&&◌, nat_eq, nat_le, nat_lt, List, [], ◌∷◌, length, drop, get_or, slice_get, add-one, pow_pos, pow-add, leb-true, eqb-true, lt-ltb, Option, Some, None, is_some, IsTrue, refl, sym, ap, ◌∙◌, subst, arith}
-use Rattle.std.proofs.Math.Nat.{pow-le-pow_right, one-le-pow, mul-le-mul_right, mul-le-mul_left, mod-lt}
+use Rattle.std.proofs.Common.{◌≡◌, ℕ, ◌+◌, ◌-◌, ◌*◌, ◌/◌, ◌^◌, ◌<◌, ◌≤◌, Bool, true, false, if◌then◌else◌, ◌&&◌, nat_eq, nat_le, nat_lt, List, length, drop, get_or, add-one, pow_pos, pow-add, leb-true, eqb-true, lt-ltb, Option, Some, None, is_some, IsTrue, refl, sym, ap, ◌∙◌, subst, arith}
+use Rattle.std.proofs.Math.Nat.{pow-le-pow_right, mul-le-mul_right}
 use Rattle.std.proofs.lemmas.Option.{same_Some, slice_get_within}
 use Rattle.std.proofs.Math.ListN.{drop_of_length-le}
 use Rattle.std.proofs.Math.Seq.{drop-cons}
@@ -11,7 +11,7 @@ use Rattle.dn_net.specs.Units.{has_plain_shape, has_plain_units}
 use Rattle.dn_net.proofs.Plain.{plain_at}
 use Rattle.dn_kind.specs.declared.rights.Rights.{Rights}
 use Rattle.dn_kind.specs.declared.unit_kind.Record.{Record}
-use Rattle.dn_kind.specs.Kind.{is_plain, is_within}
+use Rattle.dn_kind.specs.Kind.{is_within}
 use Rattle.dn_kind.specs.Rights.{are_rights}
 use Rattle.dn_kind.specs.Tables.{IsHeld}
 use Rattle.dn_kind.specs.Units.{unit_shape}

@@ -1,5 +1,5 @@
 -- A free slot holds no record.
-use Rattle.std.proofs.Common.{◌≡◌, ℕ, ◌+◌, ◌*◌, ◌<◌, ◌≤◌, ◌==◌, Bool, true, false, if◌then◌else◌, ◌&&◌, nat_lt, List, [], ◌∷◌, map, length, slice_get, Option, Some, None, IsTrue, refl, sym, ap, ◌∙◌, subst, ltb-true, eqb-true}
+use Rattle.std.proofs.Common.{◌≡◌, ℕ, ◌==◌, Bool, true, false, nat_lt, List, [], ◌∷◌, length, slice_get, Option, Some, None, IsTrue, refl, ap, ◌∙◌, subst, ltb-true, eqb-true}
 use Rattle.std.specs.List.{All, list_all}
 use Rattle.std.specs.Option.{option_map}
 use Rattle.std.proofs.lemmas.Bool.{and_parts}
@@ -8,9 +8,9 @@ use Rattle.dn_net.specs.declared.node.NodeDecl.{NodeDecl}
 use Rattle.dn_net.specs.declared.node.Unit.{Unit as UnitPart}
 use Rattle.dn_net.proofs.Places.{list_all-at}
 use Rattle.dn_kind.specs.Kind.{Meaning, IsLawful, gate_word}
-use Rattle.dn_kind.specs.Tables.{record_spelled, record_of_unit, record_within, slot_words}
+use Rattle.dn_kind.specs.Tables.{record_spelled, record_of_unit, slot_words}
 use Rattle.dn_tables.specs.declared.table.NodeTable.{NodeTable}
-use Rattle.dn_tables.specs.Set.{IsSet, FitsNet, is_sized, is_wide, fits_by, fits_kinds, unit_in, unit_of_table, words_of, words_of_table, width_of_table, record_kept, use_in}
+use Rattle.dn_tables.specs.Set.{IsSet, FitsNet, is_sized, is_wide, fits_by, unit_of_table, words_of_table, width_of_table, record_kept, use_in}
 use Rattle.dn_tables.proofs.Gates.{none_by_gate}
 use Rattle.dn_tables.proofs.Kept.{IsSizedUnit, sized_of, slot_room}
 use Rattle.dn_placement.specs.Slots.{is_zero_slot, is_free_in}

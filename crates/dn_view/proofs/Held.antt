@@ -1,13 +1,12 @@
 -- The records that a set of tables keeps, as those that its words hold.
-use Rattle.std.proofs.Common.{◌≡◌, ℕ, ◌/◌, ◌^◌, ◌<◌, ◌≤◌, Bool, true, false, if◌then◌else◌, nat_lt, List, map, slice_get, Option, Some, None, IsTrue, refl, sym, ap, ◌∙◌, subst, arith}
+use Rattle.std.proofs.Common.{◌≡◌, ℕ, ◌<◌, ◌≤◌, Bool, true, false, if◌then◌else◌, nat_lt, List, slice_get, Option, Some, None, IsTrue, refl, sym, ap, ◌∙◌, subst, arith}
 use Rattle.std.specs.Option.{option_map}
 use Rattle.std.specs.List.{All}
 use Rattle.std.proofs.lemmas.Bool.{lt-ltb, ltb-true}
 use Rattle.std.proofs.lemmas.Option.{same_Some, slice_get-map}
-use Rattle.dn_net.specs.declared.node.Name.{Name}
 use Rattle.dn_net.specs.declared.node.NodeDecl.{NodeDecl}
 use Rattle.dn_net.specs.declared.node.Unit.{Unit as UnitPart}
-use Rattle.dn_net.specs.Decode.{unit_at, unit_of, is_stop}
+use Rattle.dn_net.specs.Decode.{unit_at, unit_of}
 use Rattle.dn_net.specs.Units.{has_plain_units}
 use Rattle.dn_net.proofs.Plain.{plain_at}
 use Rattle.dn_kind.specs.declared.shape.Shape.{Shape}
@@ -15,12 +14,12 @@ use Rattle.dn_kind.specs.declared.rights.Access.{Access}
 use Rattle.dn_kind.specs.declared.unit_kind.Record.{Record}
 use Rattle.dn_kind.specs.Rights.{allows}
 use Rattle.dn_kind.specs.Kind.{Meaning, IsLawful, is_plain, is_within}
-use Rattle.dn_kind.specs.Tables.{Held, record_spelled, record_of_unit, record_held, record_allowing, allowing, IsHeld, AreHeld}
+use Rattle.dn_kind.specs.Tables.{Held, record_spelled, record_of_unit, record_held, record_allowing, allowing, AreHeld}
 use Rattle.dn_kind.specs.Units.{IsLegalWith, unit_shape}
 use Rattle.dn_kind.proofs.Held.{held_records_fit}
-use Rattle.dn_kind.proofs.Outputs.{has_pages, IsStopIn, stop_in}
+use Rattle.dn_kind.proofs.Outputs.{has_pages}
 use Rattle.dn_tables.specs.declared.table.NodeTable.{NodeTable}
-use Rattle.dn_tables.specs.Set.{FitsNet, has_slot, has_slot_by, unit_in, unit_of_table, units_of, words_of, record_kept}
+use Rattle.dn_tables.specs.Set.{FitsNet, has_slot, has_slot_by, unit_in, unit_of_table, words_of, record_kept}
 use Rattle.dn_tables.proofs.Fresh.{shape_there, plain_there}
 
 -- a set that fits a net keeps its units

@@ -1,14 +1,14 @@
 -- What is newly shown where records are added in slots that hold none.
-use Rattle.std.proofs.Common.{◌≡◌, ℕ, zero, suc, ◌+◌, ◌/◌, ◌^◌, ◌<◌, ◌≤◌, ◌⊎◌, ◌↔◌, inl, inr, Bool, true, false, if◌then◌else◌, nat_le, List, [], ◌∷◌, slice_get, Option, Some, None, IsTrue, refl, sym, ap, ◌∙◌, subst, arith, leb-true}
+use Rattle.std.proofs.Common.{◌≡◌, ℕ, zero, suc, ◌+◌, ◌/◌, ◌^◌, ◌⊎◌, ◌↔◌, inl, inr, List, [], Option, Some, None, IsTrue, refl, sym, subst}
 use Rattle.dn_net.specs.declared.node.Name.{Name}
 use Rattle.dn_net.specs.declared.node.NodeDecl.{NodeDecl}
 use Rattle.dn_net.specs.declared.node.Unit.{Unit as UnitPart}
 use Rattle.dn_net.specs.Chain.{Member, IsChain, Reaches}
-use Rattle.dn_net.specs.Decode.{top, is_accepted, is_stop, is_stop_at, unit_at, Step, Resolves, StopsAt}
+use Rattle.dn_net.specs.Decode.{is_accepted, is_stop, is_stop_at, unit_at, Resolves, StopsAt}
 use Rattle.dn_net.specs.Legal.{IsLegalNet}
 use Rattle.dn_kind.specs.declared.rights.Access.{Access}
 use Rattle.dn_kind.specs.declared.unit_kind.Record.{Record}
-use Rattle.dn_kind.specs.Tables.{Held, output, steps_by_unit, steps_under, StepUnder, ResolvesUnder, AreHeld, Extends, allowing, record_allowing}
+use Rattle.dn_kind.specs.Tables.{Held, output, steps_under, StepUnder, ResolvesUnder, AreHeld, Extends, allowing, record_allowing}
 use Rattle.dn_kind.proofs.Bounds.{reach_under_is_within}
 use Rattle.dn_kind.proofs.Ways.{more_records_keep_names, legal_one_way_to_unit, ends_here}
 use Rattle.dn_flat.proofs.Chains.{joined}

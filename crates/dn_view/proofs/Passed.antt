@@ -1,9 +1,8 @@
 -- What segments come to through a slot, as a relation; and level by level.
-use Rattle.std.proofs.Common.{◌≡◌, ℕ, zero, suc, ◌+◌, ◌-◌, ◌^◌, ◌<◌, ◌≤◌, ◌⊎◌, ◌↔◌, inl, inr, Bool, true, false, ◌&&◌, ◌||◌, nat_le, nat_lt, nat_eq, List, [], ◌∷◌, length, slice_get, Option, Some, None, IsTrue, refl, sym, ap, ◌∙◌, subst, arith, le-leb, leb-true, eqb-true, eq-eqb, ltb-true}
+use Rattle.std.proofs.Common.{◌≡◌, ℕ, zero, suc, ◌+◌, ◌-◌, ◌^◌, ◌<◌, ◌≤◌, ◌⊎◌, ◌↔◌, inl, inr, Bool, true, ◌&&◌, ◌||◌, nat_le, nat_lt, nat_eq, List, [], ◌∷◌, length, slice_get, Option, Some, None, IsTrue, refl, sym, ap, ◌∙◌, subst, arith, le-leb, leb-true, eqb-true, eq-eqb, ltb-true}
 use Rattle.std.specs.List.{list_any, list_all}
 use Rattle.std.proofs.lemmas.Bool.{and_parts, or_cases, false≢true}
 use Rattle.dn_interval.specs.declared.row.End.{End}
-use Rattle.dn_interval.specs.declared.row.Row.{Row}
 use Rattle.dn_interval.specs.declared.row.Seg.{Seg}
 use Rattle.dn_interval.specs.declared.span.TheConstants.{TOP}
 use Rattle.dn_interval.specs.Onward.{gives_by, rows_of}
@@ -18,7 +17,6 @@ use Rattle.dn_net.specs.declared.node.Unit.{Unit as UnitPart}
 use Rattle.dn_net.specs.Chain.{Member}
 use Rattle.dn_net.specs.Decode.{top, is_stop, is_stop_at, unit_at, Resolves, StopsAt}
 use Rattle.dn_net.specs.Legal.{IsLegalNet}
-use Rattle.dn_kind.specs.Levels.{are_there}
 use Rattle.dn_kind.specs.Tables.{Held, AreHeld, ResolvesUnder, steps_by_unit, steps_under}
 use Rattle.dn_kind.proofs.Bounds.{Led, led}
 use Rattle.dn_kind.proofs.Nodes.{steps_under_there}
@@ -28,7 +26,7 @@ use Rattle.dn_flat.specs.Views.{name_of_end, end_of, ResolvesFrom, StopsFrom}
 use Rattle.dn_view.specs.declared.pass.Part.{Part}
 use Rattle.dn_view.specs.declared.pass.Part.TheVariants.{Accepts, Stops}
 use Rattle.dn_view.specs.Passes.{rows_part, outputs, outputs_by, names_go, seg_name, seg_passes, segs_pass}
-use Rattle.dn_view.specs.Through.{Through, UpTo, ComesThrough, Newly, ComesNewly, IsPassedOn}
+use Rattle.dn_view.specs.Through.{Through, ComesThrough, Newly, ComesNewly, IsPassedOn}
 use Rattle.dn_view.proofs.Fitted.{IsSmall, small_unit}
 use Rattle.dn_view.proofs.Pages.{power_below}
 use Rattle.dn_view.proofs.Ways.{stop_step, resolves_through}

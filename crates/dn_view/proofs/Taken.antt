@@ -1,5 +1,5 @@
 -- The records that a pass goes by are those that units can hold.
-use Rattle.std.proofs.Common.{◌≡◌, ℕ, suc, ◌<◌, ◌≤◌, Bool, true, false, if◌then◌else◌, nat_eq, List, [], ◌∷◌, Option, Some, None, IsTrue, refl, sym, ap, ◌∙◌, subst, arith}
+use Rattle.std.proofs.Common.{◌≡◌, ℕ, suc, ◌<◌, ◌≤◌, Bool, true, false, if◌then◌else◌, nat_eq, List, [], ◌∷◌, Option, Some, None, IsTrue, refl, sym, ◌∙◌, subst, arith}
 use Rattle.std.specs.List.{All}
 use Rattle.std.proofs.lemmas.List.Elements.{All-head, All-tail}
 use Rattle.std.proofs.lemmas.Option.{same_Some}
@@ -15,7 +15,7 @@ use Rattle.dn_kind.specs.Tables.{Held, IsHeld, AreHeld, allowing}
 use Rattle.dn_tables.specs.declared.placement.Hop.{Hop}
 use Rattle.dn_tables.specs.Placement.{Place}
 use Rattle.dn_placement.specs.declared.request.Request.{Request}
-use Rattle.dn_placement.specs.Records.{hop_record, hop_rights, hops_records, or_record, placed_records, joined_records}
+use Rattle.dn_placement.specs.Records.{hop_record, hop_rights, hops_records, or_record, placed_records}
 use Rattle.dn_view.specs.declared.records.Records.{Records}
 use Rattle.dn_view.specs.declared.records.Records.TheVariants.{Kept, Fresh, Joined}
 use Rattle.dn_view.specs.Records.{IsFitted, AreFitted, IsFitting, fresh_record, records_taken}

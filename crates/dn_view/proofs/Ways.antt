@@ -1,20 +1,20 @@
 -- What names resolve to under records, unit by unit.
-use Rattle.std.proofs.Common.{◌≡◌, ℕ, zero, suc, ◌+◌, ◌/◌, ◌^◌, ◌<◌, ◌≤◌, ◌⊎◌, ◌↔◌, inl, inr, Bool, true, false, if◌then◌else◌, nat_le, List, [], ◌∷◌, length, slice_get, Option, Some, None, is_some, IsSome, IsTrue, refl, sym, ap, ◌∙◌, subst, arith}
+use Rattle.std.proofs.Common.{◌≡◌, ℕ, zero, suc, ◌+◌, ◌/◌, ◌^◌, ◌≤◌, ◌⊎◌, ◌↔◌, inl, inr, true, false, if◌then◌else◌, List, [], ◌∷◌, length, slice_get, Option, Some, None, is_some, IsSome, IsTrue, refl, sym, ap, ◌∙◌, subst, arith}
 use Rattle.dn_net.specs.declared.node.Name.{Name}
 use Rattle.dn_net.specs.declared.node.NodeDecl.{NodeDecl}
 use Rattle.dn_net.specs.declared.node.Unit.{Unit as UnitPart}
 use Rattle.dn_net.specs.Chain.{Member, IsChain, Reaches, ReachesWithin}
-use Rattle.dn_net.specs.Decode.{top, is_formed, is_accepted, is_stop, is_stop_at, unit_of, unit_at, sent_names, steps, step_limit, Step, Resolves, StopsAt}
+use Rattle.dn_net.specs.Decode.{is_formed, is_accepted, is_stop, is_stop_at, unit_of, unit_at, sent_names, steps, step_limit, Step, Resolves, StopsAt}
 use Rattle.dn_net.specs.Legal.{IsLegalNet}
-use Rattle.dn_net.specs.UnitRules.{LeadsTo, LeadsOn, IsUnitRow}
+use Rattle.dn_net.specs.UnitRules.{LeadsOn, IsUnitRow}
 use Rattle.dn_net.proofs.Steps.{unit_is_bare, node_at}
 use Rattle.dn_net.proofs.Stops.{shallow_reach}
-use Rattle.dn_kind.specs.Tables.{Held, output, steps_by_unit, steps_under, step_limit_under, StepUnder, ResolvesUnder, AreHeld, ReachUnderIsWithin}
+use Rattle.dn_kind.specs.Tables.{Held, output, steps_by_unit, step_limit_under, StepUnder, ResolvesUnder, AreHeld}
 use Rattle.dn_kind.proofs.Bounds.{Led, led, reach_under_is_within}
 use Rattle.dn_kind.proofs.Ways.{chain_more, stop_from_step}
 use Rattle.dn_flat.proofs.Chains.{joined}
 use Rattle.dn_view.specs.Passes.{outputs, outputs_by}
-use Rattle.dn_view.specs.Through.{Through, UpTo, ComesThrough}
+use Rattle.dn_view.specs.Through.{UpTo, ComesThrough}
 
 -- a unit has no step of the net
 bare : (net : List NodeDecl) → IsLegalNet net → (x : Name) (u : UnitPart) → unit_at net x.node ≡ Some u → steps net x ≡ []

@@ -1,5 +1,5 @@
 -- A placement with another of its hops for its own; the units of a net and those of its tables.
-use Rattle.std.proofs.Common.{◌≡◌, ℕ, zero, suc, ◌<◌, ◌≤◌, List, [], ◌∷◌, map, slice_get, option_map, Option, Some, None, IsTrue, refl, subst, ◌∙◌, ◌⊎◌, inl, inr, Bool, true, arith}
+use Rattle.std.proofs.Common.{◌≡◌, ℕ, zero, suc, ◌<◌, ◌≤◌, List, [], ◌∷◌, map, slice_get, option_map, Option, Some, None, IsTrue, refl, subst, ◌∙◌, ◌⊎◌, inl, inr, Bool, arith}
 use Rattle.std.proofs.lemmas.Bool.{cases_lt, lt-ltb, ltb-true}
 use Rattle.dn_net.specs.declared.node.NodeDecl.{NodeDecl}
 use Rattle.dn_net.specs.declared.node.Unit.{Unit as UnitPart}

@@ -1,5 +1,5 @@
 -- A placement of a buffer is one of the buffer's first so many addresses, for any rights.
-use Rattle.std.proofs.Common.{◌≡◌, ℕ, ◌+◌, ◌-◌, ◌/◌, ◌^◌, ◌<◌, ◌≤◌, List, [], ◌∷◌, Option, Some, None, IfSome, arith}
+use Rattle.std.proofs.Common.{ℕ, ◌≤◌, List, [], ◌∷◌, Option, Some, None, IfSome, arith}
 use Rattle.std.proofs.Math.Pow.{shr_mono}
 use Rattle.dn_net.specs.declared.node.NodeDecl.{NodeDecl}
 use Rattle.dn_net.specs.declared.node.Unit.{Unit as UnitPart}
@@ -9,7 +9,7 @@ use Rattle.dn_tables.specs.Placement.{Place}
 use Rattle.dn_placement.specs.declared.request.Request.{Request}
 use Rattle.dn_placement.specs.Order.{IsFirst}
 use Rattle.dn_placement.specs.Placement.{IsFreeHop, IsPlacement, Joins, Leads, Meets}
-use Rattle.dn_placement.specs.Records.{first_slot, last_slot}
+use Rattle.dn_placement.specs.Records.{last_slot}
 use Rattle.dn_placement.specs.Slots.{Slots}
 use Rattle.test_grants.specs.Desk.{part}
 

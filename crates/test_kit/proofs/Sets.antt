@@ -7,7 +7,7 @@ use Rattle.std.specs.List.Sorted.{IsPermutation}
 use Rattle.dn_net.specs.declared.node.Name.{Name}
 use Rattle.dn_net.specs.Chain.{Member}
 use Rattle.dn_net.specs.Names.{name_lt, name_eq, with_name, is_before_first, is_ascending, sorted_names}
-use Rattle.dn_net.proofs.Ascending.{before_members, transitive, turned, itself, equal, sorted_ascending, with_ascending}
+use Rattle.dn_net.proofs.Ascending.{before_members, turned, itself, equal, sorted_ascending, with_ascending}
 use Rattle.dn_net.proofs.Least.{both_true}
 use Rattle.dn_net.proofs.Resolution.{member_left, member_right, member_cases, name_same, with_in, with_has, names_in}
 

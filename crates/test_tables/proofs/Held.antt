@@ -1,9 +1,8 @@
 -- Slots of a set that has the units of a net.
-use Rattle.std.proofs.Common.{◌≡◌, ◌∙◌, ap, sym, subst, refl, ℕ, zero, suc, ◌+◌, ◌-◌, ◌*◌, ◌/◌, ◌<◌, ◌≤◌, ◌==◌, List, [], ◌∷◌, ◌++◌, map, length, take, drop, replicate, slice_get, Option, Some, None, option_map, is_some, Bool, true, false, ◌||◌, IsTrue, arith}
+use Rattle.std.proofs.Common.{◌≡◌, ◌∙◌, ap, sym, subst, refl, ℕ, zero, suc, ◌+◌, ◌-◌, ◌*◌, ◌<◌, ◌==◌, List, [], ◌∷◌, ◌++◌, map, length, drop, replicate, slice_get, Option, Some, None, option_map, Bool, true, false, ◌||◌, IsTrue, arith}
 use Rattle.std.specs.Prelude.{IsSome}
 use Rattle.std.specs.List.{list_all}
 use Rattle.std.proofs.lemmas.List.{length-drop, length-take-le}
-use Rattle.std.proofs.lemmas.Option.{same_Some}
 use Rattle.dn_base.proofs.Booleans.{and_parts}
 use Rattle.dn_base.proofs.Orders.{eq-eqb}
 use Rattle.dn_base.proofs.Lists.{list_all-at}
@@ -17,7 +16,7 @@ use Rattle.dn_kind.specs.Kind.{Meaning, is_plain}
 use Rattle.dn_kind.specs.Tables.{slot_words}
 use Rattle.dn_kind.specs.Units.{KeepsUnitShape, fits_shape, unit_shape}
 use Rattle.dn_tables.specs.declared.table.NodeTable.{NodeTable}
-use Rattle.dn_tables.specs.Set.{IsEmpty, IsOnDevice, IsPackableIn, IsSet, has_slot, has_slot_by, is_sized, table_on_device, tables_from, tables_of_set, unit_in, units_of, width_in, width_of_table, with_use, words_in, words_of_table, with_uses}
+use Rattle.dn_tables.specs.Set.{IsEmpty, IsOnDevice, IsPackableIn, IsSet, has_slot, has_slot_by, is_sized, table_on_device, tables_from, tables_of_set, unit_in, units_of, width_in, width_of_table, with_use, words_in, words_of_table}
 use Rattle.dn_tables.proofs.Fresh.{zero_words}
 use Rattle.dn_tables.proofs.Kept.{map_changed, sized_of, slot_room, table_of_unit, unit_of_slot}
 use Rattle.dn_image.specs.Image.{are_filled, is_filled}

@@ -1,4 +1,4 @@
-use Rattle.std.proofs.Common.{◌≡◌, ◌≤◌, ◌++◌, ◌-◌, replicate, vec_capacity, vec_len}
+use Rattle.std.proofs.Common.{◌≡◌, ◌++◌, ◌-◌, replicate, vec_capacity, vec_len}
 use Rattle.dn_base.proofs.filled.fill.Given as goal
 
 abbrev pub invariant-loop-value : goal.invariant-loop-value

@@ -1,5 +1,5 @@
-use Rattle.std.proofs.Common.{◌≡◌, ◌∙◌, ap, subst, List, slice_set}
-use Rattle.dn_base.specs.Device.{PlacedAt, sizes_of, with_word}
+use Rattle.std.proofs.Common.{◌∙◌, ap, subst, List}
+use Rattle.dn_base.specs.Device.{PlacedAt, sizes_of}
 use Rattle.dn_base.specs.declared.device.UnitWords.{UnitWords}
 use Rattle.dn_base.proofs.Placed.{set_placed, sizes_kept}
 use Rattle.dn_base.proofs.memory_tables.set_word.Goals as goal

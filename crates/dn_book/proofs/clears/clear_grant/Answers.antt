@@ -1,10 +1,10 @@
-use Rattle.std.proofs.Common.{◌≡◌, ◌∙◌, sym, ap, subst, rules, arith, get_or, length, map, slice_get, take, Some, true, false, is_err}
+use Rattle.std.proofs.Common.{◌≡◌, ◌∙◌, ap, subst, rules, arith, get_or, length, true, false, is_err}
 use Rattle.dn_base.specs.Outside.{IsCounted}
 use Rattle.dn_base.proofs.Counts.{counted_then}
 use Rattle.dn_kind.specs.declared.rights.Rights.{Rights}
 use Rattle.dn_tables.specs.declared.placement.Hop.{Hop}
 use Rattle.dn_placement.specs.Records.{hop_rights}
-use Rattle.dn_book.specs.Writes.{grant_slots, joined_slots}
+use Rattle.dn_book.specs.Writes.{grant_slots}
 use Rattle.dn_book.proofs.InOrder.{front_all, front_hop, hop_member, joined_more, rest_of_lists, turn_front}
 use Rattle.dn_book.proofs.Parts.{clear_end, clear_next, clear_stopped}
 use Rattle.dn_book.proofs.clears.clear_grant.Goals as goal

@@ -1,6 +1,4 @@
-use Rattle.std.proofs.Common.{◌≡◌, ◌∙◌, refl, sym, rules, true, false, is_err, eq-eqb}
-use Rattle.dn_base.proofs.Orders.{ne_eqb}
-use Rattle.dn_tables.specs.Set.{use_in}
+use Rattle.std.proofs.Common.{◌≡◌, ◌∙◌, refl, sym, rules, true, false, is_err}
 use Rattle.dn_book.specs.Sets.{put_at}
 use Rattle.dn_book.proofs.Facts.{ok_by_err}
 use Rattle.dn_book.proofs.Parts.{clear_one, clear_passed}

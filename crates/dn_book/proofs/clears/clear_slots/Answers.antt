@@ -1,10 +1,9 @@
-use Rattle.std.proofs.Common.{◌≡◌, ◌∙◌, ◌<◌, ◌≤◌, suc, sym, subst, rules, arith, filter, Some, true, false, is_err}
+use Rattle.std.proofs.Common.{◌≡◌, ◌∙◌, ◌<◌, ◌≤◌, suc, subst, rules, arith, Some, true, false, is_err}
 use Rattle.dn_base.specs.Outside.{IsCounted}
 use Rattle.dn_base.proofs.Counts.{counted_none, counted_then}
 use Rattle.dn_kind.specs.Rights.{both_rights}
 use Rattle.dn_placement.specs.Records.{first_slot, last_slot, slot_record}
 use Rattle.dn_tables.specs.Set.{unit_in}
-use Rattle.dn_book.specs.Sets.{AreCleared}
 use Rattle.dn_book.proofs.Frames.{SameFrame}
 use Rattle.dn_book.proofs.Hops.{first_before}
 use Rattle.dn_book.proofs.Parts.{clear_begin, clear_end, clear_next, clear_stopped, cleared_frame}

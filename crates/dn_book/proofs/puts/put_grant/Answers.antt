@@ -1,8 +1,7 @@
-use Rattle.std.proofs.Common.{◌≡◌, ◌∙◌, ◌-◌, ◌<◌, ◌≤◌, ℕ, refl, sym, ap, subst, rules, arith, get_or, length, map, reverse, slice_get, List, Some, true, false, is_err}
-use Rattle.std.specs.List.{All}
+use Rattle.std.proofs.Common.{◌≡◌, ◌∙◌, ◌-◌, ◌<◌, refl, sym, ap, subst, rules, arith, get_or, length, map, reverse, slice_get, List, Some, true, false, is_err}
 use Rattle.dn_base.specs.Outside.{IsCounted}
 use Rattle.dn_base.proofs.Counts.{counted_then}
-use Rattle.dn_kind.specs.Kind.{Meaning, IsLawful}
+use Rattle.dn_kind.specs.Kind.{Meaning}
 use Rattle.dn_tables.specs.declared.placement.Hop.{Hop}
 use Rattle.dn_tables.proofs.Slots.{all_of_map}
 use Rattle.dn_placement.specs.Records.{hop_rights}

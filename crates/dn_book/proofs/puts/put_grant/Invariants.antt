@@ -1,4 +1,4 @@
-use Rattle.std.proofs.Common.{◌≡◌, false, length, map, reverse, take}
+use Rattle.std.proofs.Common.{false, map, reverse, take}
 use Rattle.dn_base.specs.Outside.{IsCounted}
 use Rattle.dn_tables.specs.Set.{IsOnDevice}
 use Rattle.dn_book.specs.Sets.{ArePut}

@@ -1,9 +1,6 @@
-use Rattle.std.proofs.Common.{◌≡◌, ◌∙◌, refl, sym, rules, inl, map, List, true, false, is_err, eq-eqb}
-use Rattle.dn_base.proofs.Orders.{ne_eqb}
+use Rattle.std.proofs.Common.{◌≡◌, ◌∙◌, refl, sym, rules, inl, map, List, true, false, is_err}
 use Rattle.dn_kind.specs.Kind.{Meaning}
-use Rattle.dn_tables.specs.Set.{packed_in, use_in, with_slot}
-use Rattle.dn_tables.specs.Writes.{put_writes}
-use Rattle.dn_book.specs.Sets.{KeepsFit, is_used_by, put_at}
+use Rattle.dn_book.specs.Sets.{put_at}
 use Rattle.dn_book.proofs.Facts.{ok_by_err}
 use Rattle.dn_book.proofs.Parts.{put_one, put_passed}
 use Rattle.dn_book.proofs.puts.put_slot.Goals as goal

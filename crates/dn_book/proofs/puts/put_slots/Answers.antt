@@ -1,13 +1,11 @@
-use Rattle.std.proofs.Common.{◌≡◌, ◌∙◌, ◌-◌, ◌<◌, ◌≤◌, suc, refl, sym, subst, rules, arith, map, List, [], ◌∷◌, true, false, is_err}
-use Rattle.std.specs.List.{All}
+use Rattle.std.proofs.Common.{◌≡◌, ◌-◌, ◌<◌, ◌≤◌, suc, sym, subst, rules, arith, map, List, [], ◌∷◌, true, false, is_err}
 use Rattle.dn_base.proofs.Counts.{counted_none, counted_then}
 use Rattle.dn_base.specs.Outside.{IsCounted}
-use Rattle.dn_kind.specs.Kind.{Meaning, IsLawful}
+use Rattle.dn_kind.specs.Kind.{Meaning}
 use Rattle.dn_tables.specs.Set.{IsPackableIn}
 use Rattle.dn_tables.proofs.Slots.{all_of_map}
 use Rattle.dn_placement.specs.Records.{first_slot, last_slot}
 use Rattle.dn_book.specs.Sets.{AreOpen, ArePut, put_at}
-use Rattle.dn_book.specs.Writes.{slots_from, hop_slots_by}
 use Rattle.dn_book.proofs.Parts.{put_begin, put_end, put_next, put_stopped}
 use Rattle.dn_book.proofs.Hops.{first_before}
 use Rattle.dn_book.proofs.Ranges.{HopPuts, IsTurn, hop_turn, rest_of_hop, so_far, so_far_all, so_far_more, so_far_none}

@@ -1,4 +1,4 @@
-use Rattle.std.proofs.Common.{◌≡◌, refl, subst, rules, filter, map, reverse, List, false, is_err}
+use Rattle.std.proofs.Common.{◌≡◌, subst, rules, filter, map, reverse, List, false, is_err}
 use Rattle.dn_kind.specs.Kind.{Meaning}
 use Rattle.dn_book.specs.Sets.{is_used_by, put_log}
 use Rattle.dn_book.specs.Writes.{AreAdded, fence_events, grant_slots, joined_slots}

@@ -1,5 +1,5 @@
-use Rattle.std.proofs.Common.{◌≡◌, ◌+◌, ◌≤◌, ◌^◌, arith}
-use Rattle.dn_book.proofs.Hops.{has_bounds, are_small, last_there, HasBounds, AreSmall}
+use Rattle.std.proofs.Common.{◌+◌, ◌≤◌, ◌^◌, arith}
+use Rattle.dn_book.proofs.Hops.{are_small, AreSmall}
 use Rattle.dn_book.proofs.slots.end_slot.Goals as goal
 
 pub overflow_add-result : goal.overflow_add-result

@@ -1,5 +1,5 @@
 use Rattle.std.proofs.Common.{take}
-use Rattle.dn_book.specs.Sets.{AreHopsChanged, hop_owner, one_less, one_more}
+use Rattle.dn_book.specs.Sets.{AreHopsChanged, hop_owner, one_more}
 use Rattle.dn_book.proofs.uses.add_uses.Given as goal
 
 abbrev pub invariant-loop-place : goal.invariant-loop-place

@@ -1,12 +1,10 @@
-use Rattle.std.proofs.Common.{◌≡◌, ◌∙◌, ◌<◌, ◌≤◌, sym, ap, subst, arith, get_or, length, slice_get, take, List, Option, Some}
-use Rattle.std.proofs.lemmas.List.{take_all}
+use Rattle.std.proofs.Common.{◌≡◌, ◌<◌, sym, subst, get_or, slice_get, Some}
 use Rattle.dn_kind.specs.Rights.{both_rights}
 use Rattle.dn_tables.specs.declared.placement.Hop.{Hop}
 use Rattle.dn_tables.specs.declared.table.SlotUse.{SlotUse}
 use Rattle.dn_tables.specs.Set.{use_in}
-use Rattle.dn_book.specs.Sets.{AreChanged, AreHopsChanged, MayUse, hop_owner, one_less, one_more}
-use Rattle.dn_book.specs.Writes.{hop_slots}
-use Rattle.dn_book.proofs.Changes.{hop_ordered, hop_slot_there, hops_later, hops_next, hops_none}
+use Rattle.dn_book.specs.Sets.{one_less}
+use Rattle.dn_book.proofs.Changes.{hop_ordered, hop_slot_there, hops_later, hops_next}
 use Rattle.dn_book.proofs.InOrder.{front_hop, hop_member}
 use Rattle.dn_book.proofs.uses.end_uses.Goals as goal
 

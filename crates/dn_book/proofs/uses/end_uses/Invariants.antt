@@ -1,5 +1,5 @@
 use Rattle.std.proofs.Common.{take}
-use Rattle.dn_book.specs.Sets.{AreHopsChanged, hop_owner, one_less, one_more}
+use Rattle.dn_book.specs.Sets.{AreHopsChanged, one_less}
 use Rattle.dn_book.proofs.uses.end_uses.Given as goal
 
 abbrev pub invariant-loop-hop : goal.invariant-loop-hop

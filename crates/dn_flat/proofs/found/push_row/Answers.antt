@@ -1,5 +1,5 @@
 -- One name of the row more.
-use Rattle.std.proofs.Common.{◌≡◌, ◌<◌, ap, ◌∙◌, subst, length, nat_lt, true, sym, ◌||◌, ◌&&◌}
+use Rattle.std.proofs.Common.{◌≡◌, subst, length, nat_lt, true, sym, ◌||◌, ◌&&◌}
 use Rattle.std.specs.List.{list_all}
 use Rattle.dn_interval.specs.declared.row.End.{End}
 use Rattle.dn_interval.specs.Onward.{ends_go, gives_by}

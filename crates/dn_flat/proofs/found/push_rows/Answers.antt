@@ -1,5 +1,5 @@
 -- One row more.
-use Rattle.std.proofs.Common.{◌≡◌, ◌||◌, true}
+use Rattle.std.proofs.Common.{◌||◌, true}
 use Rattle.dn_interval.specs.declared.row.Row.{Row}
 use Rattle.dn_interval.specs.Strands.{segs_give}
 use Rattle.dn_interval.specs.Onward.{row_goes, rows_go, gives_by}

@@ -1,5 +1,5 @@
 -- What the node accepts, whether it is a unit, and its legs.
-use Rattle.std.proofs.Common.{◌≡◌, ◌∙◌, ap, refl, subst, ◌&&◌, length}
+use Rattle.std.proofs.Common.{◌∙◌, ap, refl, subst, ◌&&◌}
 use Rattle.dn_interval.specs.Spans.{has}
 use Rattle.dn_interval.specs.Rows.{AreNormal, SegmentsGive}
 use Rattle.dn_interval.specs.Strands.{segs_give}

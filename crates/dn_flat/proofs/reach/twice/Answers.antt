@@ -1,5 +1,5 @@
 -- What was done, and what the names that go on come to.
-use Rattle.std.proofs.Common.{◌≡◌, ◌+◌, ap, subst}
+use Rattle.std.proofs.Common.{◌+◌, ap, subst}
 use Rattle.dn_interval.specs.Rows.{AreNormal, SegmentsGive}
 use Rattle.dn_interval.specs.Strands.{segs_give}
 use Rattle.dn_net.specs.Decode.{is_accepted, is_stop}

@@ -1,5 +1,5 @@
 -- The names that go on are those of the new segments alone.
-use Rattle.std.proofs.Common.{◌≡◌, ◌∙◌, ◌||◌, ℕ, Bool, ap, subst, IsTrue}
+use Rattle.std.proofs.Common.{◌∙◌, ◌||◌, ℕ, Bool, ap, subst, IsTrue}
 use Rattle.std.proofs.lemmas.Result.{IfOk-weaker}
 use Rattle.dn_interval.specs.declared.row.End.{End}
 use Rattle.dn_interval.specs.Rows.{AreNormal, SegmentsGive}

@@ -1,5 +1,5 @@
 -- One level more; and what is reached in fewer than 66 steps, or where nothing goes on, is all.
-use Rattle.std.proofs.Common.{◌≡◌, ◌∙◌, ◌≤◌, ◌+◌, ap, sym, subst, refl, arith, false, true, IsTrue, [], length}
+use Rattle.std.proofs.Common.{◌≡◌, ◌∙◌, ◌≤◌, ◌+◌, sym, subst, refl, arith, false, true, IsTrue, [], length}
 use Rattle.dn_interval.specs.Rows.{ends_within}
 use Rattle.dn_interval.specs.Strands.{segs_give}
 use Rattle.dn_interval.specs.Onward.{rows_go, gives_by}

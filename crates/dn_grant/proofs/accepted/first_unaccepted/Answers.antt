@@ -1,6 +1,5 @@
-use Rattle.std.proofs.Common.{◌≡◌, ◌∙◌, sym, rules, ℕ, ◌+◌, ap, subst, List, [], slice_get, drop, length}
+use Rattle.std.proofs.Common.{◌≡◌, ◌∙◌, rules, ap, subst, List, [], slice_get, drop}
 use Rattle.dn_base.proofs.Lists.{drop_all}
-use Rattle.dn_net.specs.Decode.{top}
 use Rattle.dn_net.specs.declared.node.Block.{Block}
 use Rattle.dn_grant.specs.Accepted.{nearest}
 use Rattle.dn_grant.proofs.Nearest.{IsFirstUnaccepted, nearest_is_first}

@@ -1,5 +1,4 @@
-use Rattle.std.proofs.Common.{◌≡◌, ◌∙◌, sym, refl, map, None, ℕ}
-use Rattle.dn_grant.specs.Refusal.{grant_refusal}
+use Rattle.std.proofs.Common.{◌∙◌, sym, refl, map}
 use Rattle.std.proofs.lemmas.Result.{err_from_is_err_and}
 use Rattle.dn_tables.proofs.Slots.{all_of_map}
 use Rattle.dn_grant.proofs.Allowed.{allowed_is, allowed_within, allowed_grant, no_addition, not_memory, still_faithful}

@@ -1,4 +1,4 @@
-use Rattle.std.proofs.Common.{◌≡◌, ◌∙◌, ◌+◌, ◌-◌, ◌++◌, [], Ok, Err, Result, ap, sym, subst, map, take, drop, length, List, ℕ, Some, None, append-nil, rules, arith}
+use Rattle.std.proofs.Common.{◌≡◌, ◌∙◌, ◌+◌, ◌-◌, ◌++◌, [], Ok, Err, Result, ap, sym, subst, map, take, drop, length, List, ℕ, append-nil, rules, arith}
 use Rattle.std.proofs.lemmas.List.{take_rest, length-drop}
 use Rattle.dn_base.specs.Answers.{Answers}
 use Rattle.dn_kind.specs.Kind.{Meaning}

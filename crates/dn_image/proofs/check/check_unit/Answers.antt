@@ -1,6 +1,6 @@
-use Rattle.std.proofs.Common.{◌≡◌, ◌∙◌, ◌≤◌, ap, sym, rules, false, true, List, ℕ, length, map, take, slice_get, arith, IsTrue, refl}
+use Rattle.std.proofs.Common.{◌≡◌, ◌∙◌, ap, sym, false, true, List, length, map, take, IsTrue}
 use Rattle.dn_kind.specs.Kind.{Meaning}
-use Rattle.dn_image.specs.Image.{head_of, head_bytes, width_by, width_of}
+use Rattle.dn_image.specs.Image.{head_of, head_bytes}
 use Rattle.dn_image.proofs.Places.{head_wrong, unit_cut, unit_whole}
 use Rattle.dn_image.proofs.check.check_unit.Goals as goal
 

@@ -1,4 +1,4 @@
-use Rattle.std.proofs.Common.{◌≡◌, map, List, arith}
+use Rattle.std.proofs.Common.{map, List, arith}
 use Rattle.dn_kind.specs.Kind.{Meaning}
 use Rattle.dn_image.proofs.Answered.{all_bytes, found_by, only_by}
 use Rattle.dn_image.proofs.read.read.Goals as goal

@@ -1,4 +1,4 @@
-use Rattle.std.proofs.Common.{◌≡◌, ◌∙◌, ◌*◌, ap, arith}
+use Rattle.std.proofs.Common.{◌∙◌, ◌*◌, ap}
 use Rattle.std.proofs.lemmas.List.{take_rest}
 use Rattle.byteorder.specs.Endian.{little_number}
 use Rattle.dn_image.proofs.Numbers.{spelled_next, spelled_last}

@@ -1,9 +1,9 @@
-use Rattle.std.proofs.Common.{◌≡◌, ◌∙◌, ◌≤◌, ◌+◌, ◌++◌, ◌∷◌, [], ap, sym, subst, map, drop, length, List, ℕ, append_assoc, append-nil, arith}
+use Rattle.std.proofs.Common.{◌∙◌, ◌+◌, ◌++◌, ◌∷◌, [], ap, sym, map, drop, length, List, ℕ, append_assoc, append-nil, arith}
 use Rattle.std.specs.Option.{option_copied}
 use Rattle.std.proofs.lemmas.List.{drop_all, take_rest, length-drop}
 use Rattle.dn_kind.specs.Kind.{Meaning}
 use Rattle.dn_tables.proofs.Fresh.{shape_there}
-use Rattle.dn_image.specs.Reading.{node_size, nodes_size, node_words, words_from}
+use Rattle.dn_image.specs.Reading.{node_size, node_words, words_from}
 use Rattle.dn_image.proofs.Places.{whole_size, size_step, words_step}
 use Rattle.dn_image.proofs.read.read_words.Goals as goal
 

@@ -1,4 +1,4 @@
-use Rattle.std.proofs.Common.{◌≡◌, ◌∙◌, ◌<◌, ◌≤◌, ◌*◌, ap, sym, length, take, refl, arith}
+use Rattle.std.proofs.Common.{◌≡◌, ◌∙◌, ◌<◌, ◌*◌, ap, length, take, arith}
 use Rattle.std.proofs.lemmas.List.{length-set, take_rest, take_more_set}
 use Rattle.byteorder.specs.Endian.{little_number}
 use Rattle.dn_image.proofs.Numbers.{spelled_next, spelled_last}

@@ -1,4 +1,4 @@
-use Rattle.std.proofs.Common.{◌≡◌, ◌∙◌, ◌≤◌, ◌<◌, ◌+◌, ◌-◌, ◌*◌, ap, sym, map, take, drop, length, List, ℕ, slice_get, Option, Some, None, IsTrue, refl, rules, arith}
+use Rattle.std.proofs.Common.{◌≡◌, ◌∙◌, ◌≤◌, ◌+◌, ◌-◌, ap, sym, map, take, drop, length, List, ℕ, slice_get, Some, None, IsTrue, refl, rules, arith}
 use Rattle.std.specs.Option.{option_map, option_copied}
 use Rattle.std.proofs.lemmas.List.{take_rest, length-drop, drop-drop}
 use Rattle.dn_net.specs.declared.node.Unit.{Unit as UnitPart}
@@ -8,7 +8,7 @@ use Rattle.dn_kind.specs.Units.{is_shaped}
 use Rattle.dn_tables.proofs.Fresh.{shape_there}
 use Rattle.dn_image.specs.Bytes.{words_spelled}
 use Rattle.dn_image.specs.Image.{word_count}
-use Rattle.dn_image.specs.Reading.{node_size, nodes_size, node_words, words_from, image_words}
+use Rattle.dn_image.specs.Reading.{node_size, nodes_size, node_words, image_words}
 use Rattle.dn_image.proofs.Places.{whole_size, node_within, words_at_node, held_at, none_past, few_slots}
 use Rattle.dn_image.proofs.slots.record_in.Goals as goal
 

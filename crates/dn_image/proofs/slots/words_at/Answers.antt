@@ -1,4 +1,4 @@
-use Rattle.std.proofs.Common.{◌≡◌, ◌∙◌, ◌≤◌, ◌+◌, ◌*◌, ap, sym, map, take, List, arith}
+use Rattle.std.proofs.Common.{◌≡◌, ap, map, take, List, arith}
 use Rattle.std.specs.Option.{option_copied}
 use Rattle.dn_kind.specs.Kind.{Meaning}
 use Rattle.dn_tables.proofs.Fresh.{shape_there}

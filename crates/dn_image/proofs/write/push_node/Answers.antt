@@ -1,6 +1,5 @@
-use Rattle.std.proofs.Common.{◌≡◌, ◌∙◌, ◌++◌, ap, sym, map, List, ℕ, Option}
+use Rattle.std.proofs.Common.{◌∙◌, ◌++◌, ap, sym, map, List, ℕ}
 use Rattle.std.specs.Option.{option_copied}
-use Rattle.dn_net.specs.declared.node.Unit.{Unit as UnitPart}
 use Rattle.dn_kind.specs.Kind.{Meaning}
 use Rattle.dn_tables.specs.Set.{words_in}
 use Rattle.dn_tables.proofs.Slots.{on_ok_then}

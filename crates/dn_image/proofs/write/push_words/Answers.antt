@@ -1,4 +1,4 @@
-use Rattle.std.proofs.Common.{◌≡◌, ◌∙◌, ◌+◌, ◌++◌, ap, sym, get_or, drop, List, ℕ, append_assoc, append-nil, arith}
+use Rattle.std.proofs.Common.{◌∙◌, ◌+◌, ◌++◌, ap, sym, get_or, drop, List, ℕ, append_assoc, append-nil, arith}
 use Rattle.std.proofs.lemmas.List.{drop_more, drop_all}
 use Rattle.byteorder.specs.Endian.{little_bytes}
 use Rattle.dn_image.specs.Bytes.{word_bytes}

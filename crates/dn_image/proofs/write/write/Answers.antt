@@ -1,10 +1,10 @@
-use Rattle.std.proofs.Common.{◌≡◌, ◌∙◌, ◌+◌, ◌++◌, ap, sym, map, drop, List, ℕ, append_assoc, append-nil, arith}
+use Rattle.std.proofs.Common.{◌∙◌, ◌+◌, ◌++◌, ap, sym, map, drop, List, ℕ, append_assoc, append-nil, arith}
 use Rattle.std.specs.Option.{option_copied}
 use Rattle.std.proofs.lemmas.List.{drop_all}
 use Rattle.dn_kind.specs.Kind.{Meaning}
 use Rattle.dn_tables.specs.Set.{words_of, words_in}
 use Rattle.byteorder.specs.Endian.{little_bytes}
-use Rattle.dn_image.specs.Image.{image_head, mark, written_version, unit_bytes, units_bytes}
+use Rattle.dn_image.specs.Image.{mark, written_version, unit_bytes, units_bytes}
 use Rattle.dn_image.proofs.Places.{unit_of_net, bytes_step}
 use Rattle.dn_image.proofs.write.write.Goals as goal
 

@@ -2,7 +2,6 @@
 use Rattle.std.proofs.Common.{◌≡◌, ◌∙◌, ◌<◌, ◌+◌, ◌-◌, true, ◌∷◌, [], ◌++◌, take, drop, length, is_ok, sym, ap, subst, arith, rules}
 use Rattle.std.proofs.lemmas.Bool.Decides.{nat_tests}
 use Rattle.dn_interval.specs.Rows.{Apart}
-use Rattle.dn_interval.specs.Runs.{row_of}
 use Rattle.dn_interval.specs.Strands.{rows_give}
 use Rattle.dn_interval.proofs.Pieces.{drop_at, drop_past, first_and_rest}
 use Rattle.dn_interval.proofs.Turns.{Turning, turn_begun, turn_longer, turn_apart, turn_ended}

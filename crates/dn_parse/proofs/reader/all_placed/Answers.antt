@@ -1,7 +1,6 @@
 use Rattle.std.proofs.Common.{rules, ◌≡◌, ◌∙◌, ap, sym, []}
 use Rattle.dn_token.specs.Cursor.{cursor_view}
-use Rattle.dn_parse.specs.Machine.{whole}
-use Rattle.dn_parse.specs.Whole.{judge, no_blocks_yet, at_stop, Blocks}
+use Rattle.dn_parse.specs.Whole.{judge, Blocks}
 use Rattle.dn_parse.specs.Views.{blocks_view}
 use Rattle.dn_parse.proofs.Judge.{judge_end}
 use Rattle.dn_parse.proofs.reader.all_placed.Goals as goal

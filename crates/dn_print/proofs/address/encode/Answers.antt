@@ -1,5 +1,5 @@
 -- One digit more.
-use Rattle.std.proofs.Common.{◌≡◌, ◌∙◌, ◌-◌, ◌/◌, ◌%◌, false, ap, sym, arith, drop, length-set}
+use Rattle.std.proofs.Common.{◌∙◌, ◌-◌, ◌/◌, ◌%◌, false, ap, sym, arith, drop, length-set}
 use Rattle.std.proofs.lemmas.List.{drop_all}
 use Rattle.std.specs.Fmt.{digits_onto, digit_glyph}
 use Rattle.dn_print.proofs.Digits.{whole_digits, last_digit, next_digit, digit_put, hexadecimal_ascii}

@@ -1,4 +1,4 @@
-use Rattle.std.proofs.Common.{rules, ◌≡◌, ◌∙◌, ◌++◌, [], ap, sym, min, length, List, ℕ, append_assoc, append-nil, refl}
+use Rattle.std.proofs.Common.{◌≡◌, ◌∙◌, ◌++◌, [], ap, sym, min, length, List, ℕ, append_assoc, append-nil}
 use Rattle.dn_print.specs.Dump.{line_text, lines_text}
 use Rattle.dn_print.proofs.Dumped.{one_line, no_items}
 use Rattle.dn_print.proofs.dump.push_lines.Goals as goal

@@ -1,4 +1,4 @@
-use Rattle.std.proofs.Common.{◌≡◌, ◌∙◌, ◌++◌, ◌∷◌, [], ap, sym, replicate, length, List, ℕ}
+use Rattle.std.proofs.Common.{◌≡◌, ◌∙◌, ◌++◌, ◌∷◌, [], ap, sym, replicate, List, ℕ}
 use Rattle.std.specs.Option.{option_map}
 use Rattle.dn_base.specs.declared.device.UnitWords.{UnitWords}
 use Rattle.dn_tables.specs.Set.{table_on_device}

@@ -1,9 +1,8 @@
-use Rattle.std.proofs.Common.{◌≡◌, ◌∙◌, ◌+◌, ◌≤◌, ap, sym, rules, arith, true, false, is_ok, length, min, slice_get, Some, take}
+use Rattle.std.proofs.Common.{◌≡◌, ◌∙◌, ◌≤◌, ap, sym, rules, arith, true, false, is_ok, length, slice_get, Some, take}
 use Rattle.std.proofs.lemmas.List.{length-take}
 use Rattle.dn_base.proofs.Lists.{slice_get-at}
 use Rattle.dn_base.proofs.Counts.{counted_then}
 use Rattle.dn_base.specs.Device.{has_unit, is_make_fault}
-use Rattle.dn_tables.specs.declared.table.NodeTable.{NodeTable}
 use Rattle.dn_tables.proofs.Fresh.{none_later, units_next, logged_next, told_next, units_stopped, units_all}
 use Rattle.dn_tables.proofs.set.make_units.Goals as goal
 

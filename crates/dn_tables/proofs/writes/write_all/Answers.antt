@@ -1,5 +1,5 @@
-use Rattle.std.proofs.Common.{rules, arith, ◌≡◌, true, is_err, refl}
-use Rattle.std.proofs.lemmas.List.{length-set, get_or_default}
+use Rattle.std.proofs.Common.{rules, arith, ◌≡◌, true, is_err}
+use Rattle.std.proofs.lemmas.List.{get_or_default}
 use Rattle.dn_base.proofs.Counts.{counted_then}
 use Rattle.dn_tables.proofs.Made.{value_written, value_failed}
 use Rattle.dn_tables.proofs.writes.write_all.Goals as goal

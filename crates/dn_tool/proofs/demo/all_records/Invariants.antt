@@ -1,4 +1,4 @@
-use Rattle.std.proofs.Common.{◌≡◌, ◌≤◌, ◌*◌, ◌^◌, map, List}
+use Rattle.std.proofs.Common.{◌≡◌, ◌≤◌, ◌*◌, ◌^◌, map}
 use Rattle.dn_net.specs.Decode.{unit_at}
 use Rattle.dn_kind.specs.Tables.{record_held}
 use Rattle.dn_tables.specs.Set.{words_of}

@@ -1,4 +1,4 @@
-use Rattle.std.proofs.Common.{◌≡◌, ◌∙◌, ap, sym, subst, refl, arith, rules, map, List, ℕ, ◌+◌, ◌≤◌, Bool, if◌then◌else◌, IsTrue, Option, Some, is_some}
+use Rattle.std.proofs.Common.{◌≡◌, ◌∙◌, ap, sym, arith, map, List, ℕ, ◌+◌, Bool, if◌then◌else◌, Option, Some, is_some}
 use Rattle.dn_net.specs.declared.node.Unit.{Unit as UnitPart}
 use Rattle.dn_net.specs.Decode.{unit_at}
 use Rattle.dn_net.specs.Rules.{count_below}

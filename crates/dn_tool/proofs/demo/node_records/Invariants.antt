@@ -1,4 +1,4 @@
-use Rattle.std.proofs.Common.{◌≡◌, ◌≤◌, map, List, is_some}
+use Rattle.std.proofs.Common.{◌≡◌, ◌≤◌, map, is_some}
 use Rattle.dn_net.specs.Rules.{count_below}
 use Rattle.dn_kind.specs.Tables.{record_held}
 use Rattle.dn_tables.specs.Set.{words_of}

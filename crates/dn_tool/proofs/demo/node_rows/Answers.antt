@@ -1,7 +1,7 @@
-use Rattle.std.proofs.Common.{◌≡◌, ◌∙◌, ap, sym, subst, refl, arith, rules, map, length, List, ℕ, Bool, true, if◌then◌else◌, slice_get, IsTrue}
+use Rattle.std.proofs.Common.{◌≡◌, ◌∙◌, ap, sym, subst, map, length, List, Bool, if◌then◌else◌, slice_get, IsTrue}
 use Rattle.std.proofs.lemmas.List.{length-map}
 use Rattle.dn_interval.specs.declared.row.Row.{Row}
-use Rattle.dn_interval.specs.Listed.{Seen, seen_by}
+use Rattle.dn_interval.specs.Listed.{seen_by}
 use Rattle.dn_interval.specs.Rows.{AreNormal}
 use Rattle.dn_net.specs.declared.node.NodeDecl.{NodeDecl}
 use Rattle.dn_net.specs.Decode.{is_agent_at}

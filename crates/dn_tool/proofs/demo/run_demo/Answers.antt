@@ -1,24 +1,15 @@
-use Rattle.std.proofs.Common.{rules, ◌≡◌, ◌∙◌, ◌+◌, ◌<◌, ◌≤◌, if◌then◌else◌, [], ap, sym, subst, map, List, ℕ, Bool, true, false, length, get_or, Err, Ok, None, Result, is_ok, refl, arith}
-use Rattle.dn_base.specs.Outside.{IsWritten}
-use Rattle.dn_base.proofs.Counts.{counted_none, counted_then}
-use Rattle.dn_base.proofs.Told.{if_some_then, written_none}
+use Rattle.std.proofs.Common.{rules, ◌≡◌, ◌∙◌, ◌+◌, ◌<◌, ◌≤◌, if◌then◌else◌, ap, sym, subst, map, List, Bool, length, get_or, Err, arith}
+use Rattle.dn_base.proofs.Counts.{counted_then}
 use Rattle.dn_kind.specs.Kind.{Meaning}
 use Rattle.dn_tables.proofs.Slots.{all_of_map}
-use Rattle.dn_tables.specs.Set.{tables_of_set}
 use Rattle.dn_book.specs.declared.grant.Grant.{Grant}
-use Rattle.dn_book.specs.Tables.{tables_of}
-use Rattle.dn_demo.specs.Summary.{summary_text}
-use Rattle.dn_tool.specs.declared.halt.Halt.{Halt}
-use Rattle.dn_tool.specs.declared.halt.Halt.TheVariants.{NoMemory}
 use Rattle.dn_tool.specs.Books.{GivesOwed}
-use Rattle.dn_tool.specs.Demo.{has_granted, has_revoked, summary_with}
+use Rattle.dn_tool.specs.Demo.{has_granted, has_revoked}
 use Rattle.dn_tool.specs.Halt.{ending_status, make_halt}
-use Rattle.dn_tool.specs.Played.{device_tables}
 use Rattle.dn_tool.specs.State.{state_view}
 use Rattle.dn_tool.specs.Turn.{State}
 use Rattle.dn_tool.proofs.Demos.{IsTallied, line_status, one_at_most, shown_halted, shown_unmade, shown_written, tallied_more, tallied_start, words_told}
 use Rattle.dn_tool.proofs.Kept.{legal_with, state_owed}
-use Rattle.dn_tool.proofs.Played.{device_told}
 use Rattle.dn_tool.proofs.demo.run_demo.Goals as goal
 
 pub returns-in_err-state-clause-shown : goal.returns-in_err-state-clause-shown

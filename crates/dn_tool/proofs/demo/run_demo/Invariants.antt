@@ -1,6 +1,5 @@
-use Rattle.std.proofs.Common.{◌≡◌, ◌≤◌, false, map, length, List}
+use Rattle.std.proofs.Common.{◌≤◌, false, map, length}
 use Rattle.dn_base.specs.Outside.{IsCounted}
-use Rattle.dn_kind.specs.Kind.{Meaning}
 use Rattle.dn_tables.specs.Set.{IsOnDevice}
 use Rattle.dn_tool.specs.State.{IsState, state_view}
 use Rattle.dn_tool.proofs.Demos.{IsTallied}

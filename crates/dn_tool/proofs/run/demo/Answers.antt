@@ -1,8 +1,6 @@
 use Rattle.std.proofs.Common.{◌≡◌, sym, subst, map, List, ℕ, false, refl}
 use Rattle.dn_kind.specs.Kind.{Meaning}
-use Rattle.dn_words.specs.declared.words.Task.{Task}
 use Rattle.dn_words.specs.declared.words.Task.TheVariants.{Demo}
-use Rattle.dn_demo.specs.Text.{demo_text}
 use Rattle.dn_tool.specs.Answer.{Answer, IsAnswered, demo_answer, is_script, text_answer}
 use Rattle.dn_tool.specs.Halt.{ending_status}
 use Rattle.dn_tool.proofs.Unanswered.{unanswered}

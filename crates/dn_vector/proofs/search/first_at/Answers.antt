@@ -1,10 +1,6 @@
 use Rattle.std.proofs.Common.{◌≡◌, subst, map, None, Some, IfOk, IfSome}
 use Rattle.dn_tables.proofs.Slots.{all_of_map}
-use Rattle.dn_tables.specs.declared.table.NodeTable.{NodeTable}
 use Rattle.dn_tables.specs.Set.{IsSet}
-use Rattle.dn_kind.specs.Kind.{Meaning}
-use Rattle.dn_net.specs.declared.node.NodeDecl.{NodeDecl}
-use Rattle.std.proofs.Common.{List}
 use Rattle.dn_placement.specs.Order.{IsFirst, NoneSuited}
 use Rattle.dn_placement.specs.Slots.{Slots, slots_of_set}
 use Rattle.dn_book.specs.Book.{slots_of}

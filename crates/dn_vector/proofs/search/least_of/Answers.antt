@@ -1,9 +1,8 @@
-use Rattle.std.proofs.Common.{◌≡◌, ◌∙◌, sym, refl, subst, ℕ, ◌<◌, ◌≤◌, inl, inr, None, Some, arith}
+use Rattle.std.proofs.Common.{subst, inl, inr, Some, arith}
 use Rattle.std.proofs.lemmas.Bool.{cases_lt}
 use Rattle.dn_placement.specs.Order.{IsFirst, NoneSuited}
 use Rattle.dn_book.specs.Book.{slots_of}
 use Rattle.dn_vector.specs.Route.{HasNoPlace}
-use Rattle.dn_vector.specs.Vectors.{vector_request}
 use Rattle.dn_vector.proofs.search.least_of.Goals as goal
 
 pub loop-vector-preserved : goal.loop-vector-preserved

@@ -1,4 +1,4 @@
-use Rattle.std.proofs.Common.{◌≡◌, ◌∙◌, sym, ap, subst, take, List, true}
+use Rattle.std.proofs.Common.{◌∙◌, sym, ap, subst, true}
 use Rattle.dn_base.proofs.Lists.{take_past}
 use Rattle.dn_interval.specs.Spans.{AreMaximal, has}
 use Rattle.dn_vector.specs.Search.{IsLeastAmong}

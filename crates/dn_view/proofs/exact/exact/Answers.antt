@@ -1,23 +1,14 @@
-use Rattle.std.proofs.Common.{◌≡◌, ◌∙◌, ◌≤◌, ◌<◌, ◌+◌, ◌↔◌, ◌⊎◌, inl, inr, ℕ, Bool, true, false, nat_eq, ap, subst, sym, refl, map, length, slice_get, List, IsTrue, arith, eqb-true, eq-eqb, rules}
+use Rattle.std.proofs.Common.{◌≡◌, ◌↔◌, true, false, map, List}
 use Rattle.std.specs.List.{All}
 use Rattle.std.proofs.lemmas.Result.{IfOk-weaker}
-use Rattle.dn_interval.specs.declared.row.End.{End}
-use Rattle.dn_interval.specs.declared.row.Seg.{Seg}
-use Rattle.dn_interval.specs.declared.span.TheConstants.{TOP}
-use Rattle.dn_interval.specs.Rows.{AreNormal, SegmentsGive}
-use Rattle.dn_interval.specs.Strands.{segs_give}
-use Rattle.dn_net.specs.declared.node.NodeDecl.{NodeDecl}
-use Rattle.dn_net.specs.Decode.{is_agent_at}
 use Rattle.dn_kind.specs.declared.rights.Access.TheVariants.{Read, Write}
 use Rattle.dn_kind.specs.Kind.{Meaning, IsLawful}
-use Rattle.dn_kind.specs.Rights.{allows}
-use Rattle.dn_kind.specs.Tables.{Held, AreHeld}
-use Rattle.dn_flat.specs.Views.{name_of_end}
+use Rattle.dn_kind.specs.Tables.{Held}
 use Rattle.dn_placement.specs.Exposure.{IsAdmissible}
 use Rattle.dn_placement.specs.Slots.{slots_of_set}
 use Rattle.dn_tables.specs.Set.{record_kept}
 use Rattle.dn_tables.proofs.Slots.{all_of_map}
-use Rattle.dn_view.specs.Exact.{IsAdded, IsExactAt, AreExact}
+use Rattle.dn_view.specs.Exact.{AreExact}
 use Rattle.dn_view.proofs.Held.{kept_are_held}
 use Rattle.dn_view.proofs.Exposed.{admissible_is_exact, exact_both, not_exact}
 use Rattle.dn_view.proofs.Free.{free_empty}

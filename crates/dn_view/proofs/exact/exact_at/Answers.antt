@@ -1,28 +1,19 @@
-use Rattle.std.proofs.Common.{◌≡◌, ◌∙◌, ◌≤◌, ◌<◌, ◌+◌, ◌↔◌, ◌⊎◌, inl, inr, ℕ, Bool, true, false, nat_eq, ◌==◌, ◌&&◌, ap, subst, sym, refl, map, length, slice_get, List, IsTrue, arith, eqb-true, eq-eqb, rules}
-use Rattle.std.specs.List.{All}
+use Rattle.std.proofs.Common.{◌≡◌, ◌∙◌, ◌≤◌, ◌<◌, ◌↔◌, ℕ, true, nat_eq, ◌==◌, ap, subst, sym, refl, map, length, slice_get, List, eqb-true, rules}
 use Rattle.dn_interval.specs.declared.row.End.{End}
 use Rattle.dn_interval.specs.declared.row.Row.{Row}
 use Rattle.dn_interval.specs.declared.row.Seg.{Seg}
 use Rattle.dn_interval.specs.declared.span.TheConstants.{TOP}
 use Rattle.dn_interval.specs.Rows.{AreNormal, SegmentsGive}
 use Rattle.dn_interval.specs.Strands.{segs_give}
-use Rattle.dn_net.specs.declared.node.NodeDecl.{NodeDecl}
 use Rattle.dn_net.specs.Decode.{is_agent_at}
-use Rattle.dn_kind.specs.declared.rights.Access.TheVariants.{Read, Write}
-use Rattle.dn_kind.specs.Kind.{Meaning, IsLawful}
+use Rattle.dn_kind.specs.Kind.{Meaning}
 use Rattle.dn_kind.specs.Rights.{allows}
-use Rattle.dn_kind.specs.Tables.{Held, AreHeld}
+use Rattle.dn_kind.specs.Tables.{Held}
 use Rattle.dn_flat.specs.Views.{name_of_end}
-use Rattle.dn_placement.specs.Exposure.{IsAdmissible}
-use Rattle.dn_placement.specs.Slots.{slots_of_set}
 use Rattle.dn_tables.specs.Set.{record_kept}
-use Rattle.dn_tables.proofs.Slots.{all_of_map}
-use Rattle.dn_view.specs.Exact.{IsAdded, IsExactAt, AreExact, are_buffer}
+use Rattle.dn_view.specs.Exact.{IsAdded, IsExactAt, are_buffer}
 use Rattle.dn_view.proofs.Agents.{agent_there}
-use Rattle.dn_view.proofs.Held.{kept_are_held}
-use Rattle.std.proofs.lemmas.Bool.{and_parts, false≢true}
-use Rattle.std.proofs.lemmas.Result.{IfOk-weaker}
-use Rattle.dn_view.specs.Through.{ComesNewly}
+use Rattle.std.proofs.lemmas.Bool.{and_parts}
 use Rattle.dn_view.proofs.Added.{added_is, exact_no_agent, exact_agent, not_asked}
 use Rattle.dn_view.proofs.Buffers.{exact_buffer, exact_none}
 use Rattle.dn_view.proofs.exact.exact_at.Goals as goal

@@ -1,4 +1,4 @@
-use Rattle.std.proofs.Common.{◌≡◌, ℕ, ◌<◌, map, slice_get, IsTrue}
+use Rattle.std.proofs.Common.{ℕ, ◌<◌, map, slice_get, IsTrue}
 use Rattle.dn_net.specs.Decode.{is_agent_at}
 use Rattle.dn_tables.specs.Set.{record_kept}
 use Rattle.dn_view.specs.Exact.{IsExactAt}

@@ -1,8 +1,7 @@
-use Rattle.std.proofs.Common.{◌≡◌, ◌∙◌, ◌-◌, ◌+◌, ◌≤◌, ◌<◌, ◌||◌, ◌⊎◌, ◌↔◌, ℕ, true, suc, ap, subst, sym, map, length, List, IsTrue, arith}
+use Rattle.std.proofs.Common.{◌≡◌, ◌∙◌, ◌-◌, ◌+◌, ◌⊎◌, ◌↔◌, true, suc, ap, subst, sym, map, List, arith}
 use Rattle.std.specs.List.{All}
 use Rattle.dn_interval.specs.declared.row.End.{End}
 use Rattle.dn_interval.specs.declared.row.Seg.{Seg}
-use Rattle.dn_interval.specs.declared.span.TheConstants.{TOP}
 use Rattle.dn_interval.specs.Onward.{gives_by}
 use Rattle.dn_interval.specs.Strands.{segs_give}
 use Rattle.dn_kind.specs.Kind.{Meaning, IsLawful}
@@ -10,14 +9,12 @@ use Rattle.dn_kind.specs.Tables.{Held, AreHeld, allowing}
 use Rattle.dn_flat.specs.Views.{name_of_end}
 use Rattle.dn_placement.specs.Records.{joined_records, placed_records}
 use Rattle.dn_tables.specs.Set.{record_kept}
-use Rattle.dn_tables.proofs.Slots.{all_of_map, on_ok_then}
-use Rattle.dn_view.specs.declared.pass.Part.TheVariants.{Accepts, Stops}
+use Rattle.dn_tables.proofs.Slots.{all_of_map}
+use Rattle.dn_view.specs.declared.pass.Part.TheVariants.{Stops}
 use Rattle.dn_view.specs.Passes.{rows_part, segs_pass}
 use Rattle.dn_view.specs.Records.{fresh_records}
-use Rattle.dn_view.specs.Through.{ComesThrough, ComesNewly, IsPassedOn}
+use Rattle.dn_view.specs.Through.{IsPassedOn}
 use Rattle.dn_view.proofs.Held.{kept_are_held, allowed_are_held}
-use Rattle.dn_view.proofs.Taken.{allowed_taken_are_held}
-use Rattle.dn_view.specs.declared.records.Records.TheVariants.{Fresh, Joined}
 use Rattle.dn_view.proofs.Passed.{NewlyComes, newly_next, newly_end, newly_whole, then_both, both_turned}
 use Rattle.dn_view.proofs.exact.newly_shown.Goals as goal
 

@@ -1,13 +1,11 @@
-use Rattle.std.proofs.Common.{◌≡◌, ◌∙◌, ◌≤◌, ◌<◌, ◌/◌, ◌^◌, ap, sym, map, List, ℕ, slice_get, nat_lt, false, Some, None, IsTrue, if◌then◌else◌, rules, arith}
+use Rattle.std.proofs.Common.{◌≡◌, ◌∙◌, ◌≤◌, ◌<◌, ◌/◌, ◌^◌, ap, sym, map, List, slice_get, false, Some, None, arith}
 use Rattle.std.specs.Option.{option_map, option_copied}
 use Rattle.std.specs.List.{All}
 use Rattle.dn_net.specs.declared.node.Unit.{Unit as UnitPart}
-use Rattle.dn_net.specs.Decode.{unit_at}
-use Rattle.dn_kind.specs.Kind.{Meaning, IsLawful, is_plain}
-use Rattle.dn_kind.specs.Levels.{name_list}
-use Rattle.dn_kind.specs.Tables.{Held, record_allowing, allowing}
-use Rattle.dn_kind.proofs.Outputs.{IsStopIn, stop_in, no_stop, step_in}
-use Rattle.dn_tables.specs.Set.{record_kept, has_slot_by}
+use Rattle.dn_kind.specs.Kind.{Meaning, IsLawful}
+use Rattle.dn_kind.specs.Tables.{record_allowing, allowing}
+use Rattle.dn_kind.proofs.Outputs.{IsStopIn, stop_in, step_in}
+use Rattle.dn_tables.specs.Set.{record_kept}
 use Rattle.dn_tables.proofs.Slots.{all_of_map}
 use Rattle.dn_view.proofs.Held.{none_past, kept_are_held, IsFoundUnit, found_unit, held_within, slot_there, slot_past}
 use Rattle.dn_view.proofs.output.output.Goals as goal

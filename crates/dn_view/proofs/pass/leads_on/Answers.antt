@@ -1,4 +1,4 @@
-use Rattle.std.proofs.Common.{◌≡◌, ◌∙◌, ap, sym, drop, slice_get, List, ℕ, Bool}
+use Rattle.std.proofs.Common.{◌∙◌, ap, sym, slice_get, ℕ, Bool}
 use Rattle.std.specs.List.{list_any}
 use Rattle.std.proofs.Math.ListN.{drop_of_length-le}
 use Rattle.dn_interval.specs.Onward.{rows_of}

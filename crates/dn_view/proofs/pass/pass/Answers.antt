@@ -1,4 +1,4 @@
-use Rattle.std.proofs.Common.{◌≡◌, ℕ, Bool, ◌||◌, ◌∙◌, ap, map, List}
+use Rattle.std.proofs.Common.{ℕ, Bool, ◌||◌, ◌∙◌, ap, map, List}
 use Rattle.dn_interval.specs.declared.row.End.{End}
 use Rattle.dn_interval.specs.declared.row.Seg.{Seg}
 use Rattle.dn_interval.specs.Strands.{segs_give}

@@ -1,4 +1,4 @@
-use Rattle.std.proofs.Common.{◌≡◌, ◌∙◌, ◌≤◌, ℕ, Bool, ap, sym, subst, map, length, List, Some, None, IsTrue, nat_lt, arith}
+use Rattle.std.proofs.Common.{◌≡◌, ◌∙◌, ◌≤◌, ℕ, Bool, ap, sym, subst, map, List, Some, IsTrue, nat_lt, arith}
 use Rattle.std.specs.List.{All, list_all}
 use Rattle.std.specs.Option.{option_copied}
 use Rattle.dn_interval.specs.declared.row.End.{End}
@@ -14,7 +14,7 @@ use Rattle.dn_tables.specs.Set.{record_kept}
 use Rattle.dn_tables.proofs.Slots.{all_of_map}
 use Rattle.dn_view.specs.Passes.{rows_part, names_go, outputs, seg_name}
 use Rattle.dn_view.specs.Records.{records_taken}
-use Rattle.dn_view.proofs.Cuts.{slots_more, slots_none, slots_all, none_leads, none_pushed, no_unit_goes}
+use Rattle.dn_view.proofs.Cuts.{slots_more, slots_none, slots_all, none_leads, none_pushed}
 use Rattle.dn_view.proofs.Held.{kept_are_held}
 use Rattle.dn_view.proofs.pass.pass_seg.Goals as goal
 

@@ -1,16 +1,12 @@
-use Rattle.std.proofs.Common.{◌≡◌, ◌∙◌, ◌≤◌, ◌<◌, ℕ, ap, sym, subst, map, length, List, slice_get, Some, None, IsTrue, rules, arith, nat_lt, ltb-true}
+use Rattle.std.proofs.Common.{◌∙◌, ◌<◌, sym, subst, map, length, List, arith, nat_lt, ltb-true}
 use Rattle.std.specs.List.{All}
-use Rattle.dn_interval.specs.Strands.{segs_give}
-use Rattle.dn_interval.specs.Onward.{gives_by}
 use Rattle.dn_kind.specs.Kind.{Meaning, IsLawful}
 use Rattle.dn_kind.specs.Tables.{Held, AreHeld, allowing}
 use Rattle.dn_kind.proofs.Nodes.{ports_there}
 use Rattle.dn_net.proofs.Places.{list_all-at}
 use Rattle.dn_tables.specs.Set.{record_kept}
 use Rattle.dn_tables.proofs.Slots.{all_of_map}
-use Rattle.dn_view.specs.Passes.{rows_part}
 use Rattle.dn_view.specs.Records.{records_taken}
-use Rattle.dn_view.proofs.Cuts.{slot_pushed, slot_kept}
 use Rattle.dn_view.proofs.Fitted.{IsSmall, small_unit}
 use Rattle.dn_view.proofs.Held.{kept_are_held, slot_there, held_within, legal_plain}
 use Rattle.dn_view.proofs.Taken.{allowed_taken_are_held}

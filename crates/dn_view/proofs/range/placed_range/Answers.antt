@@ -1,7 +1,7 @@
-use Rattle.std.proofs.Common.{◌≡◌, ℕ, ◌∙◌, ◌≤◌, ◌<◌, ◌⊎◌, inl, inr, ◌+◌, ap, sym, subst, drop, get_or, arith, List, Option, Some, None}
+use Rattle.std.proofs.Common.{ℕ, ◌∙◌, ◌≤◌, inl, inr, ◌+◌, ap, sym, subst, drop, arith, List, Option}
 use Rattle.dn_kind.specs.declared.unit_kind.Record.{Record}
 use Rattle.dn_tables.specs.declared.placement.Hop.{Hop}
-use Rattle.dn_placement.specs.Records.{hop_record, hop_rights, hops_records, or_record, placed_records}
+use Rattle.dn_placement.specs.Records.{hop_rights, hops_records, or_record}
 use Rattle.dn_view.proofs.Fitted.{hops_next, hops_end}
 use Rattle.dn_view.proofs.range.placed_range.Goals as goal
 

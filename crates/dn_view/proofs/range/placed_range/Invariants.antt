@@ -1,6 +1,4 @@
-use Rattle.std.proofs.Common.{◌≡◌, ℕ, ◌≤◌, ◌<◌, ◌⊎◌, drop, Some}
-use Rattle.dn_net.specs.declared.node.Unit.{Unit as UnitPart}
-use Rattle.dn_net.specs.Decode.{unit_at}
+use Rattle.std.proofs.Common.{◌≡◌, ℕ, ◌≤◌, ◌<◌, ◌⊎◌, drop}
 use Rattle.dn_placement.specs.Records.{hops_records, placed_records}
 use Rattle.dn_view.proofs.range.placed_range.Given as goal
 

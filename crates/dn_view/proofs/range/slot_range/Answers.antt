@@ -1,4 +1,4 @@
-use Rattle.std.proofs.Common.{◌≡◌, ◌≤◌, arith}
+use Rattle.std.proofs.Common.{◌≤◌, arith}
 use Rattle.dn_view.proofs.Fitted.{small_unit}
 use Rattle.dn_view.proofs.range.slot_range.Goals as goal
 

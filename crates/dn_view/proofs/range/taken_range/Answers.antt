@@ -1,4 +1,4 @@
-use Rattle.std.proofs.Common.{◌≡◌, ◌≤◌, inl, inr, subst, arith}
+use Rattle.std.proofs.Common.{inl, inr, arith}
 use Rattle.dn_view.specs.Records.{records_taken}
 use Rattle.dn_view.proofs.Taken.{taken_are_held, held_past}
 use Rattle.dn_view.proofs.range.taken_range.Goals as goal

@@ -1,6 +1,5 @@
-use Rattle.std.proofs.Common.{◌≡◌, ap, ◌∙◌, Some, option_map}
+use Rattle.std.proofs.Common.{ap, ◌∙◌, Some}
 use Rattle.std.specs.Option.{option_copied}
-use Rattle.dn_net.specs.Decode.{unit_at}
 use Rattle.dn_view.proofs.Fitted.{small_unit}
 use Rattle.dn_view.proofs.Held.{at_is}
 use Rattle.dn_view.proofs.records.unit_page.Goals as goal

@@ -7,8 +7,7 @@ use Rattle.dn_kind.specs.Tables.{Held, steps_under, step_limit_under, resolved_n
 use Rattle.dn_kind.specs.Levels.{are_there}
 use Rattle.dn_kind.specs.Tables.{allowing}
 use Rattle.dn_tables.specs.Set.{record_kept}
-use Rattle.dn_kind.proofs.Nodes.{resolved_under_there}
-use Rattle.dn_kind.proofs.Stages.{is_empty, ends_by, ends_at_start, ends_next, ends_at_empty, ends_at_last, set_is_ends, set_within}
+use Rattle.dn_kind.proofs.Stages.{is_empty, ends_by, ends_at_start, ends_next, ends_at_empty, ends_at_last, set_is_ends}
 use Rattle.dn_view.proofs.resolve.resolve.Goals as goal
 use Rattle.dn_view.proofs.resolve.resolve.Goals.{else-loop-test, then-loop-test+then-is_empty}
 

@@ -1,6 +1,5 @@
-use Rattle.std.proofs.Common.{◌≡◌, ◌∙◌, ◌-◌, ◌||◌, ◌↔◌, ◌+◌, true, ℕ, suc, ap, subst, sym, map, List, arith}
+use Rattle.std.proofs.Common.{◌≡◌, ◌∙◌, ◌-◌, ◌||◌, ◌↔◌, ◌+◌, true, suc, ap, subst, sym, map, List, arith}
 use Rattle.std.specs.List.{All}
-use Rattle.dn_interval.specs.declared.row.End.{End}
 use Rattle.dn_interval.specs.declared.row.Seg.{Seg}
 use Rattle.dn_interval.specs.Onward.{gives_by}
 use Rattle.dn_interval.specs.Strands.{segs_give}

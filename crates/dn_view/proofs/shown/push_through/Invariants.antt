@@ -1,4 +1,4 @@
-use Rattle.std.proofs.Common.{◌≡◌, ℕ, ◌-◌, ◌≤◌, ◌↔◌, map}
+use Rattle.std.proofs.Common.{ℕ, ◌-◌, ◌≤◌, ◌↔◌, map}
 use Rattle.dn_interval.specs.declared.row.End.{End}
 use Rattle.dn_interval.specs.declared.span.TheConstants.{TOP}
 use Rattle.dn_kind.specs.Tables.{allowing}

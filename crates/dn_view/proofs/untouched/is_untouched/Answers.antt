@@ -1,5 +1,4 @@
-use Rattle.std.proofs.Common.{◌≡◌, ◌∙◌, ap, sym, subst, refl, false, slice_get, not, Bool, true, List, rules}
-use Rattle.dn_interval.specs.declared.row.Row.{Row}
+use Rattle.std.proofs.Common.{◌≡◌, ◌∙◌, ap, sym, false, slice_get, not, Bool, true, rules}
 use Rattle.dn_interval.specs.Onward.{rows_of}
 use Rattle.dn_view.specs.declared.pass.Part.TheVariants.{Stops}
 use Rattle.dn_view.specs.Passes.{rows_part}

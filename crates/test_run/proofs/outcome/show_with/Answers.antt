@@ -1,4 +1,4 @@
-use Rattle.std.proofs.Common.{rules, ◌≡◌, [], ℕ, List, Option, Some, ap}
+use Rattle.std.proofs.Common.{rules, ◌≡◌, [], Some, ap}
 use Rattle.dn_base.specs.Device.{log_told}
 use Rattle.test_run.proofs.outcome.show_with.Goals as goal
 

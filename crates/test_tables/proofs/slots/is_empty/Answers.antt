@@ -1,5 +1,5 @@
 -- The words that were looked at are those of a slot, as many as a record has.
-use Rattle.std.proofs.Common.{◌≡◌, ◌∙◌, ◌==◌, ap, sym, List, ℕ}
+use Rattle.std.proofs.Common.{◌∙◌, ◌==◌, ap, sym, List, ℕ}
 use Rattle.std.specs.List.{list_all}
 use Rattle.test_tables.proofs.Held.{zero_slot}
 use Rattle.test_tables.proofs.slots.is_empty.Goals as goal

@@ -1,5 +1,5 @@
 -- The kind of the unit fits its shape, and the rest was tested.
-use Rattle.std.proofs.Common.{◌≡◌, ℕ, List, map}
+use Rattle.std.proofs.Common.{List, map}
 use Rattle.dn_kind.specs.Kind.{Meaning}
 use Rattle.test_tables.proofs.Held.{packable}
 use Rattle.test_tables.proofs.slots.put.Goals as goal

@@ -1,4 +1,4 @@
-use Rattle.std.proofs.Common.{◌≡◌, ◌∙◌, ◌<◌, ◌≤◌, ◌++◌, ◌∷◌, [], ◌-◌, ap, sym, subst, length, replicate, slice_set, rules}
+use Rattle.std.proofs.Common.{◌≡◌, ◌∙◌, ◌<◌, ◌≤◌, ◌++◌, ◌∷◌, [], ◌-◌, ap, length, replicate, slice_set, rules}
 use Rattle.dn_base.proofs.Rests.{set_written, set_behind}
 use Rattle.dn_base.proofs.filled.Filled.set.Goals as goal
 

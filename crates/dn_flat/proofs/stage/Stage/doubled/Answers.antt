@@ -1,5 +1,5 @@
 -- One node more, for twice as many steps.
-use Rattle.std.proofs.Common.{◌≡◌, ◌∙◌, ◌+◌, ◌<◌, ap, sym, subst, length, arith, IsTrue, true}
+use Rattle.std.proofs.Common.{◌≡◌, ◌∙◌, ◌+◌, ◌<◌, ap, sym, subst, length, arith, true}
 use Rattle.dn_interval.specs.Rows.{ends_within}
 use Rattle.dn_flat.specs.declared.reach.Reach.{Reach}
 use Rattle.dn_flat.specs.Stages.{IsReach, AreReaches, IsStage}

@@ -1,4 +1,4 @@
-use Rattle.std.proofs.Common.{◌≡◌, ◌+◌, ◌∙◌, ap, sym, refl, length, slice_set, arith}
+use Rattle.std.proofs.Common.{◌+◌, ◌∙◌, ap, refl, length, slice_set, arith}
 use Rattle.std.proofs.lemmas.List.{length-set}
 use Rattle.dn_tables.specs.declared.table.NodeTable.{NodeTable}
 use Rattle.dn_tables.specs.declared.table.SlotUse.{SlotUse}

@@ -1,4 +1,4 @@
-use Rattle.std.proofs.Common.{◌≡◌, ◌∙◌, ap, sym, subst, map, List, IsTrue}
+use Rattle.std.proofs.Common.{◌∙◌, sym, subst, map, List, IsTrue}
 use Rattle.std.specs.List.{list_all}
 use Rattle.dn_kind.specs.Kind.{Meaning}
 use Rattle.dn_tables.specs.declared.table.NodeTable.{NodeTable}

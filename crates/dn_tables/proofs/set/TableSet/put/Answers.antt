@@ -1,12 +1,11 @@
-use Rattle.std.proofs.Common.{◌≡◌, ◌∙◌, ◌+◌, ◌≤◌, ap, sym, subst, refl, rules, arith, length, is_err, slice_get, slice_set, true, ℕ, List, IsTrue, map, take}
+use Rattle.std.proofs.Common.{◌∙◌, ap, is_err, slice_set, List, map, take}
 use Rattle.std.specs.List.{All}
 use Rattle.dn_base.proofs.Lists.{list_all-at}
 use Rattle.dn_kind.specs.Kind.{Meaning, IsLawful}
-use Rattle.dn_tables.specs.declared.table.NodeTable.{NodeTable}
-use Rattle.dn_tables.specs.Set.{fits_by, words_of_table, unit_of_table}
-use Rattle.dn_tables.specs.Writes.{AreMade, put_writes, clear_writes}
+use Rattle.dn_tables.specs.Set.{fits_by, unit_of_table}
+use Rattle.dn_tables.specs.Writes.{AreMade, put_writes}
 use Rattle.dn_tables.proofs.Made.{IsCallIn, call_in, words_on_device, call_keeps, call_made, call_on_device}
-use Rattle.dn_tables.proofs.Slots.{all_of_map, all_made, on_ok, on_err, puts_of_table, put_stands, put_recorded, put_stopped, clears_of_table, clear_stands, clear_stopped, units_stay, fits_stay}
+use Rattle.dn_tables.proofs.Slots.{all_of_map, all_made, on_ok, on_err, puts_of_table, put_stands, put_recorded, put_stopped, units_stay, fits_stay}
 use Rattle.dn_tables.proofs.set.TableSet.put.Goals as goal
 
 pub put-requires-clause-fits : goal.put-requires-clause-fits

@@ -1,4 +1,4 @@
-use Rattle.std.proofs.Common.{◌≡◌, ◌∙◌, sym, map, List, IsTrue}
+use Rattle.std.proofs.Common.{◌∙◌, sym, map, List}
 use Rattle.dn_base.proofs.Lists.{list_all-at}
 use Rattle.dn_kind.specs.Kind.{Meaning}
 use Rattle.dn_tables.specs.Set.{fits_by}

@@ -1,4 +1,4 @@
-use Rattle.std.proofs.Common.{◌≡◌, ◌∙◌, ◌<◌, ap, sym, get_or, length, arith}
+use Rattle.std.proofs.Common.{◌∙◌, ◌<◌, ap, sym, get_or, length, arith}
 use Rattle.std.proofs.lemmas.List.{get_or_default}
 use Rattle.dn_tables.specs.Set.{unused, uses_of_table}
 use Rattle.dn_tables.proofs.Kept.{slot_in_set, IsSlot}

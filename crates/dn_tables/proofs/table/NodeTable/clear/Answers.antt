@@ -1,4 +1,4 @@
-use Rattle.std.proofs.Common.{◌≡◌, ◌+◌, ◌*◌, ◌≤◌, subst, length, arith}
+use Rattle.std.proofs.Common.{◌≡◌, ◌+◌, ◌*◌, ◌≤◌, length}
 use Rattle.dn_tables.proofs.Kept.{unit_of_slot, sized_of, slot_room}
 use Rattle.dn_tables.proofs.table.NodeTable.clear.Goals as goal
 

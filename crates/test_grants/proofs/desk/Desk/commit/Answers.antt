@@ -1,4 +1,4 @@
-use Rattle.std.proofs.Common.{rules, ◌≡◌, ◌∙◌, sym, None, IsTrue}
+use Rattle.std.proofs.Common.{rules, ◌≡◌, None, IsTrue}
 use Rattle.dn_kind.specs.Rights.{are_rights}
 use Rattle.dn_grant.specs.Refusal.{grant_refusal}
 use Rattle.dn_grant.proofs.Allowed.{allowed_grant, allowed_is, allowed_within}

@@ -1,4 +1,4 @@
-use Rattle.std.proofs.Common.{rules, ◌≡◌, ◌≤◌, map}
+use Rattle.std.proofs.Common.{rules, ◌≤◌, map}
 use Rattle.dn_placement.specs.Slots.{slots_of_set}
 use Rattle.test_grants.proofs.Parts.{part_placed}
 use Rattle.test_grants.proofs.desk.Desk.is_exact.Goals as goal

@@ -1,4 +1,4 @@
-use Rattle.std.proofs.Common.{rules, ◌≡◌, ◌∙◌, sym, map, slice_get, [], Some}
+use Rattle.std.proofs.Common.{rules, ◌≡◌, map, slice_get, [], Some}
 use Rattle.dn_placement.specs.Placement.{IsFreeHop}
 use Rattle.dn_placement.specs.Slots.{slots_of_set}
 use Rattle.test_grants.proofs.Owns.{owned}
