@@ -8,7 +8,7 @@ use Rattle.dn_tool.specs.Demo.{has_granted, has_revoked}
 use Rattle.dn_tool.specs.Halt.{ending_status, make_halt}
 use Rattle.dn_tool.specs.State.{state_view}
 use Rattle.dn_tool.specs.Turn.{State}
-use Rattle.dn_tool.proofs.Demos.{IsTallied, line_status, one_at_most, shown_halted, shown_unmade, shown_written, tallied_more, tallied_start, words_told}
+use Rattle.dn_tool.proofs.Demos.{IsTallied, line_status, one_at_most, shown_halted, shown_unmade, shown_written, tallied_more, tallied_start}
 use Rattle.dn_tool.proofs.Kept.{legal_with, state_owed}
 use Rattle.dn_tool.proofs.demo.run_demo.Goals as goal
 
@@ -84,25 +84,15 @@ loop-command-preserved g c =
 pub returns-in_err-write_summary-clause-shown : goal.returns-in_err-write_summary-clause-shown
 returns-in_err-write_summary-clause-shown g c =
     let kinds : List Meaning = map (λ k. (goal.UnitKind-dyn g (k.vtable, k.value)).meaning k.value) c.args.kinds.now.list.items in
-    let net = c.args.platform.now.net in
     let cs = c.args.platform.now.commands in
-    let i = c.loop-command.command-index in
-    let over : length cs ≤ i = search rules in
-    let few : i ≤ length cs = c.loop-command.invariant.few in
-    let book = c.loop-command.state.book in
-    let told = words_told kinds net book.grants book.set _ _ c.loop-command.invariant.state.kept c.loop-command.invariant.on_device in
+    let over : length cs ≤ c.loop-command.command-index = search rules in
     let ended : c.from_residual-in_err-write_summary.result ≡ Err c.in_err-write_summary.field-0.0 = search rules in
     let status : ending_status c.from_residual-in_err-write_summary.result ≡ line_status c.write_summary.result = ap ending_status ended ∙ sym (ap line_status c.in_err-write_summary.was) in
-    shown_written kinds net c.args.agents cs i (ending_status c.from_residual-in_err-write_summary.result) (state_view c.loop-command.state) c.write_summary.result _ _ _ _ _ c.loop-command.granted c.loop-command.revoked (omega (arith, over, few)) told c.loop-command.invariant.tallied status c.write_summary.ensures.no_device c.write_summary.ensures.written
+    shown_written kinds c.args.platform.now.net c.args.agents cs c.loop-command.command-index (ending_status c.from_residual-in_err-write_summary.result) (state_view c.loop-command.state) c.write_summary.result _ _ _ _ _ c.loop-command.granted c.loop-command.revoked c.loop-command.state.book.set _ over c.loop-command.invariant.few c.loop-command.invariant.state.kept c.loop-command.invariant.on_device c.loop-command.invariant.tallied status c.write_summary.ensures.no_device c.write_summary.ensures.written
 
 pub returns-clause-shown : goal.returns-clause-shown
 returns-clause-shown g c =
     let kinds : List Meaning = map (λ k. (goal.UnitKind-dyn g (k.vtable, k.value)).meaning k.value) c.args.kinds.now.list.items in
-    let net = c.args.platform.now.net in
     let cs = c.args.platform.now.commands in
-    let i = c.loop-command.command-index in
-    let over : length cs ≤ i = search rules in
-    let few : i ≤ length cs = c.loop-command.invariant.few in
-    let book = c.loop-command.state.book in
-    let told = words_told kinds net book.grants book.set _ _ c.loop-command.invariant.state.kept c.loop-command.invariant.on_device in
-    shown_written kinds net c.args.agents cs i 0 (state_view c.loop-command.state) c.write_summary.result _ _ _ _ _ c.loop-command.granted c.loop-command.revoked (omega (arith, over, few)) told c.loop-command.invariant.tallied (sym (ap line_status c.in_ok-write_summary.was)) c.write_summary.ensures.no_device c.write_summary.ensures.written
+    let over : length cs ≤ c.loop-command.command-index = search rules in
+    shown_written kinds c.args.platform.now.net c.args.agents cs c.loop-command.command-index 0 (state_view c.loop-command.state) c.write_summary.result _ _ _ _ _ c.loop-command.granted c.loop-command.revoked c.loop-command.state.book.set _ over c.loop-command.invariant.few c.loop-command.invariant.state.kept c.loop-command.invariant.on_device c.loop-command.invariant.tallied (sym (ap line_status c.in_ok-write_summary.was)) c.write_summary.ensures.no_device c.write_summary.ensures.written
