@@ -19,6 +19,7 @@ use dn_net::node::{NodeDecl, Role, Unit};
 use std::alloc::Global;
 use std::process::Abort;
 use std::test::Fail;
+use test_plans::program_kinds;
 
 /// The numbers of the kinds in the lists of these tests.
 const PAGES: u8 = 0;
@@ -97,13 +98,7 @@ fn checked(
     first: Row,
     second: Row,
 ) -> Result<Result<(), UnitFault>, Fail> {
-    pages_are_lawful();
-    remap_is_lawful();
-    vectors_are_lawful();
-    let mut kinds = Kinds::none(alloc);
-    kinds.add(Box::new(alloc, Pages)?)?;
-    kinds.add(Box::new(alloc, Remap)?)?;
-    kinds.add(Box::new(alloc, Vectors)?)?;
+    let kinds = program_kinds!(alloc);
     let count = kinds.len();
     let mut net = Net::new(alloc);
     let number = add(alloc, &mut net, count, Text::of(alloc, "ram")?, None)?;
