@@ -169,6 +169,6 @@ opener_view (OpenerLoop w from upto) = opens_loop w.now (expr_view from) (expr_v
 abbrev pub frame_view : CodeFrame → Frame
 frame_view f = record { line = f.line; opener = opener_view f.opener; before = map item_view f.before.items }
 
--- the open blocks, of which the code keeps the innermost last
+-- the blocks before the commands, of which the code keeps the innermost last
 abbrev pub blocks_view : CodeBlocks → Blocks
-blocks_view b = record { frames = reverse (map frame_view b.frames.items); body = map item_view b.body.items; begun = b.begun; commands = map command_view b.commands }
+blocks_view b = record { frames = reverse (map frame_view b.frames.items); body = map item_view b.body.items; begun = b.begun; commands = [] }
