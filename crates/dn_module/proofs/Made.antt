@@ -1,5 +1,5 @@
 -- What is made of commands one after another, of which none is kept.
-use Rattle.std.proofs.Common.{◌≡◌, ◌∙◌, ap, sym, subst, refl, true, ℕ, List, [], ◌∷◌, ◌++◌, append-nil, Option, Some, None, Result, Ok, Err, IfSome, IsTrue}
+use Rattle.std.proofs.Common.{◌≡◌, ◌∙◌, ap, sym, subst, refl, true, ℕ, List, [], ◌∷◌, ◌++◌, append-nil, Option, Some, None, Result, Ok, Err, IfSome, IsTrue, is_ok, suc}
 use Rattle.std.proofs.lemmas.Bool.{false≢true}
 use Rattle.std.specs.List.{list_all}
 use Rattle.dn_base.proofs.Lists.{list_all-last}
@@ -65,3 +65,13 @@ pub all_known : {X : Type 0} (f : X → Result Command ExpansionFault) (count : 
 all_known f count whole all none m =
     let cut : m.made ++ [] ≡ m.made = append-nil m.made in
     subst (λ (w : Making). IsTrue (list_all (names_within count) (commands_or_none w))) (sym (whole_is f count whole all none m)) (subst (λ (l : List Command). IsTrue (list_all (names_within count) l)) (sym cut) m.known)
+
+-- they are as many as they were made of
+pub made_count : {X : Type 0} (f : X → Result Command ExpansionFault) (xs : List X) → is_ok (each f xs) ≡ true → length (commands_or_none (each f xs)) ≡ length xs
+made_count f [] h = refl
+made_count {X} f (x ∷ xs) h = by (f x) (each f xs) (made_count f xs) h
+  where
+    by : (r : Result Command ExpansionFault) (s : Making) → (is_ok s ≡ true → length (commands_or_none s) ≡ length xs) → is_ok (r >>= (λ y. s >>= (λ ys. Ok (y ∷ ys)))) ≡ true → length (commands_or_none (r >>= (λ y. s >>= (λ ys. Ok (y ∷ ys))))) ≡ suc (length xs)
+    by (Err e) s rest h = absurd (false≢true h)
+    by (Ok y) (Err e) rest h = absurd (false≢true h)
+    by (Ok y) (Ok ys) rest h = ap suc (rest refl)

@@ -1,6 +1,6 @@
 //! The commands of a text, of which none is kept: each is made when it is walked.
 
-ghost use Rattle.std.specs.Prelude.{◌≡◌, [], ◌∷◌, true, Ok, IfOk, OnErr, MatchOption, is_ok};
+ghost use Rattle.std.specs.Prelude.{◌≡◌, [], ◌∷◌, length, true, Ok, IfOk, OnErr, MatchOption, is_ok};
 ghost use Rattle.dn_parse.specs.Script.{script_view};
 ghost use Rattle.dn_module.specs.Commands.{commands_of};
 
@@ -42,6 +42,13 @@ impl<'a> Commands<'a> {
         ensures { commands_of names (script_view script.entry) ≡ Ok result }
     {
         Commands { names, script }
+    }
+
+    /// How many commands there are.
+    pub fn len(&self) -> u32
+        ensures { result ≡ length self.now }
+    {
+        self.script.len()
     }
 
     /// The place before the first command.

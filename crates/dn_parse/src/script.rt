@@ -88,6 +88,13 @@ impl<'a> Script<'a> {
         }
     }
 
+    /// How many commands there are.
+    pub fn len(self) -> u32
+        ensures { result ≡ length (script_view self.entry) }
+    {
+        self.count
+    }
+
     /// The first command and those after it, or nothing where there is none. It takes as long as
     /// that command has tokens.
     ///

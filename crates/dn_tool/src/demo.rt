@@ -67,6 +67,8 @@ pub(crate) fn run_demo<K: Sink, D: Tables>(
     let mut state = State::make(alloc, kinds, platform, device)?;
     let mut granted = 0;
     let mut revoked = 0;
+    // No count passes the number of commands.
+    let _most = platform.commands.len();
     let mut rest = platform.commands.cursor();
     'commands: while let Some(command) = rest.next(alloc)? {
         let before = state.book.grants().len();
