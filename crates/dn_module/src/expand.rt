@@ -45,11 +45,7 @@ pub fn expand<'a>(
 }
 
 /// The commands, and then the net of the nodes that were made.
-fn finish<'a>(
-    alloc: Global,
-    drafts: Drafts,
-    asked: Script<'a>,
-) -> Result<Expanded<'a>, ExpandFault>
+fn finish<'a>(alloc: Global, drafts: Drafts, asked: Script<'a>) -> Result<Expanded<'a>, ExpandFault>
     requires formed { list_all (λ d. is_formed (node_in (names drafts) d)) drafts ≡ true }
     ensures { Answers outcome_view expand_fault_view result
         (outcome_of drafts (script_view asked.entry)) }

@@ -10,10 +10,7 @@ use std::alloc::Global;
 use std::test::Fail;
 
 /// What a text that is well formed expands to, or the first fault.
-fn expanded<'a>(
-    alloc: Global,
-    text: &'a str,
-) -> Result<Result<Expanded<'a>, ExpandFault>, Fail> {
+fn expanded<'a>(alloc: Global, text: &'a str) -> Result<Result<Expanded<'a>, ExpandFault>, Fail> {
     let tree = read(alloc, text.as_bytes())?;
     Ok(expand(alloc, &tree, &Kinds::none(alloc)))
 }
