@@ -3,11 +3,12 @@ use Rattle.std.proofs.Common.{◌≡◌, ◌∙◌, ap, sym, refl, subst, ℕ, z
 use Rattle.std.proofs.lemmas.List.{append-nil, append_assoc}
 use Rattle.dn_token.specs.Token.{Token}
 use Rattle.dn_parse.specs.Tree.{Statement, declares, heads_module, uses, heads_loop, ends, begins, orders, Order, Command, Tree}
-use Rattle.dn_parse.specs.Machine.{Stop, whole}
+use Rattle.dn_parse.specs.Machine.{Stop, whole, refused, deep}
 use Rattle.dn_parse.specs.Whole.{TextFault, block_fault, first_line, Blocks, Step, by_step, step, before_begin, after_begin, at_stop, judge, forbidden}
 use Rattle.dn_parse.specs.Descent.{Read, Next, and_then, whole_statement_at}
 use Rattle.dn_parse.specs.Commands.{ordered, command_at, found, next_in, next_command, with_more, commands_from, past, behind_commands, with_commands}
 use Rattle.dn_parse.specs.declared.cursor.Halt.{Halt}
+use Rattle.dn_parse.specs.declared.cursor.Halt.TheVariants.{Refused, Deep as DeepHalt, OutOfMemory as HaltMemory}
 use Rattle.dn_parse.specs.Faults.{halt_view, halt_fault}
 use Rattle.dn_parse.proofs.Judge.{next_step, fault_halted, judge_end}
 
@@ -50,6 +51,12 @@ none_fewer n ts l e =
 pub stands : (n : ℕ) (ts : List Token) → 0 < n → length (commands_from n ts) ≡ n → next_command ts ≡ None → ⊥
 stands zero ts h l e = absurd (omega arith)
 stands (suc n) ts h l e = none_fewer n ts l e
+
+-- only memory can be wanted where a command stands
+pub memory_alone : (n : ℕ) (ts : List Token) (line : ℕ) (h : Halt) → 0 < n → length (commands_from n ts) ≡ n → first_line ts ≡ Some line → IfSome (halt_view h) (λ z. command_at line ts ≡ Err z) → h ≡ HaltMemory
+memory_alone n ts line (Refused k) h l s e = absurd (stands n ts h l (next_stops ts line (refused k) s e))
+memory_alone n ts line (DeepHalt k) h l s e = absurd (stands n ts h l (next_stops ts line (deep k) s e))
+memory_alone n ts line HaltMemory h l s e = refl
 
 pub others : (n : ℕ) (ts : List Token) (c : Command × List Token) → 0 < n → length (commands_from n ts) ≡ n → next_command ts ≡ Some c → length (commands_from (n - 1) c.1) ≡ n - 1
 others zero ts c h l e = absurd (omega arith)
