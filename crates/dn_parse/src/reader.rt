@@ -155,10 +155,7 @@ fn put_next<'a>(
 }
 
 /// The blocks that the tokens come to, up to `begin` or to their end, and the tokens behind.
-fn blocks_before<'a>(
-    alloc: Global,
-    tokens: Cursor<'a>,
-) -> Result<(Blocks<'a>, Cursor<'a>), Trouble>
+fn blocks_before<'a>(alloc: Global, tokens: Cursor<'a>) -> Result<(Blocks<'a>, Cursor<'a>), Trouble>
     ensures ok { IfOk result (λ p. (last : ℕ) (all : List SpecToken) →
         judge last all no_blocks_yet (cursor_view tokens.entry)
         ≡ judge last all (blocks_view p.0) (cursor_view p.1)) }
@@ -179,10 +176,7 @@ fn blocks_before<'a>(
 }
 
 /// The blocks and the commands that the tokens come to.
-fn all_placed<'a>(
-    alloc: Global,
-    tokens: Cursor<'a>,
-) -> Result<(Blocks<'a>, Script<'a>), Trouble>
+fn all_placed<'a>(alloc: Global, tokens: Cursor<'a>) -> Result<(Blocks<'a>, Script<'a>), Trouble>
     ensures ok { IfOk result (λ p. (last : ℕ) (all : List SpecToken) →
         judge last all no_blocks_yet (cursor_view tokens.entry)
         ≡ at_stop whole last all (with_commands (blocks_view p.0) (script_view p.1))) }

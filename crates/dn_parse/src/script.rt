@@ -64,11 +64,7 @@ impl<'a> Script<'a> {
     }
 
     /// The tokens after the next command, which begins in this line, or why no command stands there.
-    fn after_command(
-        alloc: Global,
-        tokens: Cursor<'a>,
-        line: u32,
-    ) -> Result<Cursor<'a>, Trouble>
+    fn after_command(alloc: Global, tokens: Cursor<'a>, line: u32) -> Result<Cursor<'a>, Trouble>
         requires { first_line (cursor_view tokens) ≡ Some line }
         ensures ok { IfOk result (λ rest.
             option_map (λ c. c.1) (next_command (cursor_view tokens.entry))
@@ -120,8 +116,12 @@ impl<'a> Script<'a> {
                 },
             ))),
             Ok(None) => unreachable!(),
-            Err(Halt::OutOfMemory) => Err(AllocError),
-            Err(Halt::Refused(_) | Halt::Deep(_)) => unreachable!(),
+            Err(halt) => {
+                let Halt::OutOfMemory = halt else {
+                    unreachable!()
+                };
+                Err(AllocError)
+            }
         }
     }
 }

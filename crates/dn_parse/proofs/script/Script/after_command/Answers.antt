@@ -13,8 +13,8 @@ pub returns-in-Ok-Some-clause-ok : goal.returns-in-Ok-Some-clause-ok
 returns-in-Ok-Some-clause-ok c =
     let is : c.in-Ok-Some.field-0 ≡ Some (c.in-Ok-Some.found, c.in-Ok-Some.rest) = search rules in
     let next : next_command (cursor_view c.args.tokens) ≡ Some (command_view c.in-Ok-Some.found, cursor_view c.in-Ok-Some.rest) =
-        next_is (cursor_view c.args.tokens) c.args.line _ c.requires c.in-Ok-Some.ensures.gives
-        ∙ ap (λ (o : Option (Cmd × Cursor)). option_map (λ (q : Cmd × Cursor). (command_view q.0, cursor_view q.1)) o) is in
+    next_is (cursor_view c.args.tokens) c.args.line _ c.requires c.in-Ok-Some.ensures.gives
+    ∙ ap (λ (o : Option (Cmd × Cursor)). option_map (λ (q : Cmd × Cursor). (command_view q.0, cursor_view q.1)) o) is in
     ap (λ (o : Option (Command × List Token)). option_map (λ (d : Command × List Token). d.1) o) next
 
 pub returns-in-Ok-None-clause-err : goal.returns-in-Ok-None-clause-err

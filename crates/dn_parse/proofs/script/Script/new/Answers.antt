@@ -19,8 +19,8 @@ returns-in_err-rest-clause-err c =
     let same : c.from_residual.result ≡ Err c.in_err-rest.field-0.0 = search rules in
     subst (λ (r : Result Script Trouble). IfErr r (λ e. (last : ℕ) → (all : List Token) → (b : Blocks) → b.begun ≡ true → IfSome (trouble_view e last all) (λ f. judge last all b ts ≡ Err f))) (sym same)
     (λ last all b g. fault_before (trouble_view c.in_err-rest.field-0.0 last all) (judge last all b ts) (judge last all (with_commands b (commands_from c.commands.count ts)) (cursor_view c.commands.rest))
-        (judge_commands last all c.commands.count b ts (cursor_view c.commands.rest) g c.commands.invariant.read)
-        (c.in_err-rest.ensures.err last all (with_commands b (commands_from c.commands.count ts)) g))
+    (judge_commands last all c.commands.count b ts (cursor_view c.commands.rest) g c.commands.invariant.read)
+    (c.in_err-rest.ensures.err last all (with_commands b (commands_from c.commands.count ts)) g))
 
 pub overflow_add-count : goal.overflow_add-count
 unfolding cursor_view

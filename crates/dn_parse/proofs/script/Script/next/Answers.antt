@@ -28,8 +28,8 @@ invariant_of-result c =
     let p : Command × List Token = (command_view c.in-Ok-Some.command, cursor_view c.in-Ok-Some.rest) in
     let is : c.in-Ok-Some.field-0 ≡ Some (c.in-Ok-Some.command, c.in-Ok-Some.rest) = search rules in
     let next : next_command (cursor_view c.args.self.first) ≡ Some p =
-        next_is (cursor_view c.args.self.first) c.in-Some.line _ line c.in-Ok-Some.ensures.gives
-        ∙ ap (λ (o : Option (Cmd × Cursor)). option_map (λ (q : Cmd × Cursor). (command_view q.0, cursor_view q.1)) o) is in
+    next_is (cursor_view c.args.self.first) c.in-Some.line _ line c.in-Ok-Some.ensures.gives
+    ∙ ap (λ (o : Option (Cmd × Cursor)). option_map (λ (q : Cmd × Cursor). (command_view q.0, cursor_view q.1)) o) is in
     record { read = others c.args.self.count (cursor_view c.args.self.first) p some c.args.self.read next }
 
 pub returns-in-Ok-Some : goal.returns-in-Ok-Some
@@ -40,8 +40,8 @@ returns-in-Ok-Some c =
     let p : Command × List Token = (command_view c.in-Ok-Some.command, cursor_view c.in-Ok-Some.rest) in
     let is : c.in-Ok-Some.field-0 ≡ Some (c.in-Ok-Some.command, c.in-Ok-Some.rest) = search rules in
     let next : next_command (cursor_view c.args.self.first) ≡ Some p =
-        next_is (cursor_view c.args.self.first) c.in-Some.line _ line c.in-Ok-Some.ensures.gives
-        ∙ ap (λ (o : Option (Cmd × Cursor)). option_map (λ (q : Cmd × Cursor). (command_view q.0, cursor_view q.1)) o) is in
+    next_is (cursor_view c.args.self.first) c.in-Some.line _ line c.in-Ok-Some.ensures.gives
+    ∙ ap (λ (o : Option (Cmd × Cursor)). option_map (λ (q : Cmd × Cursor). (command_view q.0, cursor_view q.1)) o) is in
     front_is c.args.self.count (cursor_view c.args.self.first) p some next
 
 pub unreachable-requires-in-Ok-None : goal.unreachable-requires-in-Ok-None
@@ -50,9 +50,6 @@ unreachable-requires-in-Ok-None c =
     let line : first_line (cursor_view c.args.self.first) ≡ Some c.in-Some.line = sym c.first_line.ensures ∙ c.in-Some.is in
     let is : c.in-Ok-None.field-0 ≡ None = search rules in
     let none : next_command (cursor_view c.args.self.first) ≡ None =
-        next_is (cursor_view c.args.self.first) c.in-Some.line _ line c.in-Ok-None.ensures.gives
-        ∙ ap (λ (o : Option (Cmd × Cursor)). option_map (λ (q : Cmd × Cursor). (command_view q.0, cursor_view q.1)) o) is in
+    next_is (cursor_view c.args.self.first) c.in-Some.line _ line c.in-Ok-None.ensures.gives
+    ∙ ap (λ (o : Option (Cmd × Cursor)). option_map (λ (q : Cmd × Cursor). (command_view q.0, cursor_view q.1)) o) is in
     stands c.args.self.count (cursor_view c.args.self.first) some c.args.self.read none
-
-pub unreachable-requires-in-Err-Refused : goal.unreachable-requires-in-Err-Refused
-unreachable-requires-in-Err-Refused c = ?
