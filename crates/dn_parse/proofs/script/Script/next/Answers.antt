@@ -8,7 +8,7 @@ use Rattle.dn_parse.specs.Whole.{first_line}
 use Rattle.dn_parse.specs.Views.{command_view}
 use Rattle.dn_parse.specs.Commands.{commands_from, next_command}
 use Rattle.dn_parse.specs.Script.{script_view}
-use Rattle.dn_parse.proofs.Scripts.{no_line, next_is, stands, others, front_is}
+use Rattle.dn_parse.proofs.Scripts.{no_line, next_is, stands, memory_alone, others, front_is}
 use Rattle.dn_parse.proofs.script.Script.next.Goals as goal
 
 pub returns-then-self-eq0 : goal.returns-then-self-eq0
@@ -53,3 +53,9 @@ unreachable-requires-in-Ok-None c =
     next_is (cursor_view c.args.self.first) c.in-Some.line _ line c.in-Ok-None.ensures.gives
     ∙ ap (λ (o : Option (Cmd × Cursor)). option_map (λ (q : Cmd × Cursor). (command_view q.0, cursor_view q.1)) o) is in
     stands c.args.self.count (cursor_view c.args.self.first) some c.args.self.read none
+
+pub unreachable-requires-in_default-halt : goal.unreachable-requires-in_default-halt
+unreachable-requires-in_default-halt c =
+    let some : 0 < c.args.self.count = omega (arith, c.if-self-eq0.false) in
+    let line : first_line (cursor_view c.args.self.first) ≡ Some c.in-Some.line = sym c.first_line.ensures ∙ c.in-Some.is in
+    c.in_default-halt.not-OutOfMemory (memory_alone c.args.self.count (cursor_view c.args.self.first) c.in-Some.line c.in-Err.halt some c.args.self.read line c.in-Err.ensures.gives)
