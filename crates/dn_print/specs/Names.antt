@@ -35,10 +35,6 @@ names_text net (x ∷ xs) = name_text net x ++ more_names_text net xs
 abbrev pub Appended : List ℕ → List ℕ → Bool → List ℕ → Type 0
 Appended before after done text = after ≡ (if done then before ++ text else before)
 
--- each name is in one of so many nodes
-abbrev pub names_exist : ℕ → List Name → Bool
-names_exist count xs = list_all (λ x. nat_lt x.node count) xs
-
 -- each destination is in one of so many nodes
 abbrev pub dests_within : ℕ → List Dest → Bool
 dests_within count ds = list_all (λ d. nat_lt d.node count) ds

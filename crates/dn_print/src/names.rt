@@ -2,7 +2,8 @@
 
 ghost use Rattle.std.specs.Prelude.{◌≡◌, ◌<◌, ◌++◌, length, IfOk, OnOk, IsTrue, is_ok};
 ghost use Rattle.std.specs.String.{string_bytes};
-ghost use Rattle.dn_print.specs.Names.{Appended, name_text, names_text, names_exist};
+ghost use Rattle.dn_kind.specs.Levels.{are_there};
+ghost use Rattle.dn_print.specs.Names.{Appended, name_text, names_text};
 
 use crate::OutOfMemory;
 use crate::address::write_address;
@@ -13,7 +14,7 @@ use std::alloc::Global;
 /// The names joined by `, `, or `nothing` where there are none, without a line end. `Err` is want
 /// of memory.
 pub fn names_text(alloc: Global, net: &Net, names: &[Name]) -> Result<Vec<u8>, OutOfMemory>
-    requires { IsTrue (names_exist (length net.now) names.now) }
+    requires { IsTrue (are_there (length net.now) names.now) }
     ensures { IfOk result (λ v. v.items ≡ names_text net.now names.now) }
 {
     let text = names_string(alloc, net, names)?;
@@ -22,7 +23,7 @@ pub fn names_text(alloc: Global, net: &Net, names: &[Name]) -> Result<Vec<u8>, O
 
 /// Appends the names as [`names_text`] has them. For want of memory nothing is appended.
 pub fn push_names(out: &mut String, net: &Net, names: &[Name]) -> Result<(), OutOfMemory>
-    requires { IsTrue (names_exist (length net.now) names.now) }
+    requires { IsTrue (are_there (length net.now) names.now) }
     ensures { Appended (string_bytes out.old) (string_bytes out.new) (is_ok result)
         (names_text net.now names.now) }
 {
@@ -45,7 +46,7 @@ pub fn push_name(out: &mut String, net: &Net, name: Name) -> Result<(), OutOfMem
 
 /// The names as [`names_text`] has them.
 fn names_string(alloc: Global, net: &Net, names: &[Name]) -> Result<String, OutOfMemory>
-    requires { IsTrue (names_exist (length net.now) names.now) }
+    requires { IsTrue (are_there (length net.now) names.now) }
     ensures { IfOk result (λ text. string_bytes text ≡ names_text net.now names.now) }
 {
     let mut out = String::new(alloc);
@@ -55,7 +56,7 @@ fn names_string(alloc: Global, net: &Net, names: &[Name]) -> Result<String, OutO
 
 /// Appends the names to a text that is given up for want of memory.
 fn write_names(out: &mut String, net: &Net, names: &[Name]) -> Result<(), OutOfMemory>
-    requires { IsTrue (names_exist (length net.now) names.now) }
+    requires { IsTrue (are_there (length net.now) names.now) }
     ensures { OnOk result (string_bytes out.new ≡
         string_bytes out.old ++ names_text net.now names.now) }
 {

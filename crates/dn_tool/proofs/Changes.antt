@@ -310,3 +310,27 @@ state_kept k k' b i =
 pub on_ok : {A E : Type 0} (r : Result A E) (P : Type 0) → P → OnOk r P
 on_ok (Ok a) P p = p
 on_ok (Err e) P p = tt
+
+-- a change of a state that is kept, made under the number of its id
+
+pub state_granted : (kinds : List Meaning) (net : List NodeDecl) (k after : Kept) (id : List ℕ) (rq : Request) (n v : ℕ) (book : BookState) (log log' : Option (List TableEvent)) → n ≡ id_number k.ids id → IsGrantMade net k.book.grants n rq v book.grants → IsGrantLogged net kinds k.book.grants k.book.cleared n rq false log log' → after.book ≡ book → after.ids ≡ with_id k.ids id → book.cleared ≡ false → IsChanged (IsGrantTurn kinds net (state_view k) id rq) (state_view after) (granted_text id v) log log'
+state_granted kinds net k after id rq n v book log log' number made logged b i fenced =
+    granted_turn kinds net (state_view k) (state_view after) id rq v book.grants log log'
+    (subst (λ m. IsGrantMade net k.book.grants m rq v book.grants) number made)
+    (subst (λ m. IsGrantLogged net kinds k.book.grants k.book.cleared m rq false log log') number logged)
+    (state_left after book (with_id k.ids id) false b i fenced)
+
+pub state_routed : (kinds : List Meaning) (net : List NodeDecl) (k after : Kept) (id : List ℕ) (agent line node n v : ℕ) (book : BookState) (log log' : Option (List TableEvent)) → n ≡ id_number k.ids id → IsRouteMade net k.book.grants n agent line node v book.grants → IsRouteLogged net kinds k.book.grants k.book.cleared n agent line node false log log' → after.book ≡ book → after.ids ≡ with_id k.ids id → book.cleared ≡ false → IsChanged (IsRouteTurn kinds net (state_view k) id agent line node) (state_view after) (routed_text id v) log log'
+state_routed kinds net k after id agent line node n v book log log' number made logged b i fenced =
+    routed_turn kinds net (state_view k) (state_view after) id agent line node v book.grants log log'
+    (subst (λ m. IsRouteMade net k.book.grants m agent line node v book.grants) number made)
+    (subst (λ m. IsRouteLogged net kinds k.book.grants k.book.cleared m agent line node false log log') number logged)
+    (state_left after book (with_id k.ids id) false b i fenced)
+
+pub state_revoked : (kinds : List Meaning) (net : List NodeDecl) (k after : Kept) (id : List ℕ) (n : ℕ) (book : BookState) (log log' : Option (List TableEvent)) → n ≡ id_number k.ids id → (has_id n k.book.grants ≡ false → ⊥) → ((g : Grant) → Member g k.book.grants → g.id ≡ n → AreAdded (revoke_events net kinds k.book.grants g) false log log') → book.grants ≡ without n k.book.grants → after.book ≡ book → after.ids ≡ with_id k.ids id → book.cleared ≡ true → IsChanged (IsRevokeTurn kinds net (state_view k) id) (state_view after) (revoked_text id) log log'
+state_revoked kinds net k after id n book log log' number known added taken b i cleared =
+    revoked_turn kinds net (state_view k) (state_view after) id book.grants log log'
+    (subst (λ m. has_id m k.book.grants ≡ true) number (lives_by (has_id n k.book.grants) known))
+    (λ g m e. added g m (e ∙ sym number))
+    (taken ∙ ap (λ m. without m k.book.grants) number)
+    (state_left after book (with_id k.ids id) true b i cleared)

@@ -158,7 +158,7 @@ tallied_more kinds net commands i s c log log' log'' granted revoked granted' re
         ∙ ap (passing_turns p start (take (i + 1) commands)) (sym turns)
 
 -- the words that a device tells are the tables of the book
-pub words_told : (kinds : List Meaning) (net : List NodeDecl) (book : List GrantPart) (set : List NodeTable) (sizes : List UnitSize) (told : Option (List UnitWords)) → IsKept net kinds book set → IsOnDevice set sizes told → IfSome told (λ tables. tables ≡ device_tables 0 net (tables_of net kinds book))
+words_told : (kinds : List Meaning) (net : List NodeDecl) (book : List GrantPart) (set : List NodeTable) (sizes : List UnitSize) (told : Option (List UnitWords)) → IsKept net kinds book set → IsOnDevice set sizes told → IfSome told (λ tables. tables ≡ device_tables 0 net (tables_of net kinds book))
 words_told kinds net book set sizes told kept on =
     if_some_then told (λ tables. tables ≡ tables_of_set set) (λ tables. tables ≡ device_tables 0 net (tables_of net kinds book)) (λ tables e. e ∙ device_told set net (tables_of net kinds book) kept.fits.units kept.words) on.words
 
@@ -234,11 +234,11 @@ line_status (Ok a) = 0
 line_status (Err h) = ending_status (Err h)
 
 -- all commands were gone through, and the line was written as far as it was
-pub shown_written : (kinds : List Meaning) (net : List NodeDecl) (agents : ℕ) (commands : List Command) (i status : ℕ) (s : State) (r : Result (Unit {0}) Halt) (before after : Option (List ℕ)) (log log' : Option (List TableEvent)) (told' : Option (List UnitWords)) (granted revoked : ℕ) → i ≡ length commands → IfSome told' (λ tables. tables ≡ device_tables 0 net (tables_of net kinds s.book)) → IsTallied kinds net commands i s log log' granted revoked → status ≡ line_status r → is_device_halt r ≡ false
+pub shown_written : (kinds : List Meaning) (net : List NodeDecl) (agents : ℕ) (commands : List Command) (i status : ℕ) (s : State) (r : Result (Unit {0}) Halt) (before after : Option (List ℕ)) (log log' : Option (List TableEvent)) (told' : Option (List UnitWords)) (granted revoked : ℕ) (set : List NodeTable) (sizes : List UnitSize) → length commands ≤ i → i ≤ length commands → IsKept net kinds s.book set → IsOnDevice set sizes told' → IsTallied kinds net commands i s log log' granted revoked → status ≡ line_status r → is_device_halt r ≡ false
     → IsWritten before after (is_ok r) (is_write_halt r) (summary_text (summary_with kinds net agents granted revoked s.book))
     → IsShown kinds net agents commands status before after log log' told'
-shown_written kinds net agents commands i status s r before after log log' told' granted revoked over told f is no_device w =
-    inl (summed_up kinds net agents commands i status s before after log log' told' granted revoked (is_ok r) (is_write_halt r) over told f (zero_by r no_device is) (three_by r no_device is) (ended_by r no_device is) w)
+shown_written kinds net agents commands i status s r before after log log' told' granted revoked set sizes over few kept on f is no_device w =
+    inl (summed_up kinds net agents commands i status s before after log log' told' granted revoked (is_ok r) (is_write_halt r) (omega (arith, over, few)) (words_told kinds net s.book set sizes told' kept on) f (zero_by r no_device is) (three_by r no_device is) (ended_by r no_device is) w)
   where
     zero_by : (q : Result (Unit {0}) Halt) → is_device_halt q ≡ false → status ≡ line_status q → (status == 0) ≡ is_ok q
     zero_by (Ok a) d e = ap (λ n. n == 0) e

@@ -1,5 +1,5 @@
 -- What is known of the book that is kept, for the calls that take it.
-use Rattle.std.proofs.Common.{◌≡◌, ◌∙◌, ap, sym, subst, ℕ, List, None, Ok, IsTrue, slice_get}
+use Rattle.std.proofs.Common.{◌≡◌, ◌∙◌, ap, sym, subst, ℕ, List, Option, IfSome, Some, None, Ok, IsTrue, slice_get}
 use Rattle.std.specs.List.{All}
 use Rattle.dn_net.specs.declared.node.Name.{Name}
 use Rattle.dn_net.specs.declared.node.NodeDecl.{NodeDecl}
@@ -12,10 +12,12 @@ use Rattle.dn_kind.proofs.Shapes.{shape_fault_is_first}
 use Rattle.dn_image.specs.Image.{are_filled, image, written_version}
 use Rattle.dn_image.specs.Reading.{broken_image, version_of}
 use Rattle.dn_lookup.specs.Lookup.{lookup_of}
+use Rattle.dn_tables.specs.declared.table.NodeTable.{NodeTable}
 use Rattle.dn_tables.specs.Set.{words_of}
 use Rattle.dn_book.specs.Book.{owed_names}
 use Rattle.dn_tool.specs.declared.state.State.{State as Kept}
 use Rattle.dn_tool.specs.Books.{GivesOwed, IsKeptFaithful}
+use Rattle.dn_tool.specs.Platform.{PlatformState}
 use Rattle.dn_tool.specs.State.{IsState}
 use Rattle.dn_tool.proofs.Lookups.{faithful_image_gives_owed, image_is_whole}
 
@@ -44,3 +46,9 @@ pub state_image_whole : (kinds : List Meaning) (net : List NodeDecl) (k : Kept) 
 state_image_whole kinds net k bytes s is =
     let whole = image_is_whole kinds net (words_of k.book.set) s.filled in
     (ap (broken_image net kinds) is ∙ whole.0, whole.1 ∙ sym (ap version_of is))
+
+-- the bytes that were made of the tables, or kept, are the image of the tables
+pub kept_image : (kinds : List Meaning) (p q : PlatformState) (kept : Option (List ℕ)) (bytes : List ℕ) (set set' : List NodeTable) → p ≡ q → IfSome kept (λ b. b ≡ image p.net kinds (words_of set)) → kept ≡ Some bytes → set ≡ set' → bytes ≡ image q.net kinds (words_of set')
+kept_image kinds p q kept bytes set set' same is some tables =
+    let at : bytes ≡ image p.net kinds (words_of set) = subst (λ (o : Option (List ℕ)). IfSome o (λ b. b ≡ image p.net kinds (words_of set))) some is in
+    at ∙ ap (λ (r : PlatformState). image r.net kinds (words_of set)) same ∙ ap (λ (s : List NodeTable). image q.net kinds (words_of s)) tables

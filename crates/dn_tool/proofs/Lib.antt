@@ -1,4 +1,3 @@
-pub mod Exists
 pub mod Demos
 pub mod Endings
 pub mod Inputs

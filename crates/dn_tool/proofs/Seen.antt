@@ -1,17 +1,14 @@
 -- The rows of what a node's addresses come to under records, and that they are those of what is owed.
-use Rattle.std.proofs.Common.{◌≡◌, ◌∙◌, ap, sym, refl, arith, ℕ, zero, suc, ◌<◌, ◌↔◌, inl, inr, true, List, [], ◌∷◌, map, length, slice_get, IsTrue}
+use Rattle.std.proofs.Common.{◌≡◌, ◌∙◌, ap, sym, ℕ, ◌↔◌, List, map, slice_get, IsTrue}
 use Rattle.dn_interval.specs.declared.row.End.{End}
 use Rattle.dn_interval.specs.declared.row.Row.{Row}
-use Rattle.dn_interval.specs.Rows.{Member as EndIn, AllAbove, Ascending, AreNormal}
+use Rattle.dn_interval.specs.Rows.{Member as EndIn, AreNormal}
 use Rattle.dn_interval.specs.Listed.{listed_rows, seen_by}
 use Rattle.dn_interval.proofs.Listing.{normal_are_listed}
 use Rattle.dn_net.specs.declared.node.Name.{Name}
 use Rattle.dn_net.specs.declared.node.NodeDecl.{NodeDecl}
-use Rattle.dn_net.specs.Chain.{Member}
 use Rattle.dn_net.specs.Decode.{is_accepted, is_agent_at}
-use Rattle.dn_net.specs.Names.{name_lt, is_before_first, is_ascending}
-use Rattle.dn_net.proofs.Ascending.{end_names_ascend, before_members}
-use Rattle.dn_net.proofs.Least.{both_true}
+use Rattle.dn_net.proofs.Ascending.{end_names_ascend}
 use Rattle.dn_net.proofs.Resolution.{end_names_are_ends}
 use Rattle.dn_kind.specs.declared.rights.Access.{Access}
 use Rattle.dn_kind.specs.Tables.{Held, allowing, record_allowing, resolved_names_under, step_limit_under, steps_under}
@@ -20,24 +17,8 @@ use Rattle.dn_view.specs.Views.{ResolvesFromUnder}
 use Rattle.dn_book.specs.declared.grant.Grant.{Grant}
 use Rattle.dn_book.specs.Book.{IsFaithful, owed_names, records_of}
 use Rattle.dn_book.proofs.Owed.{owed_names_are_resolved}
+use Rattle.dn_shape.proofs.Passing.{ends_in, ends_ascend}
 use Rattle.dn_tool.specs.Viewed.{owed_rows}
-
--- a name stands in a list exactly where its end stands in the list of their ends
-end_in : (xs : List Name) (y : End) → EndIn y (map end_of xs) ↔ Member (name_of_end y) xs
-end_in [] y = ((λ m. m), (λ m. m))
-end_in (x ∷ xs) y =
-    let later = end_in xs y in (
-      (λ m. elim m [ inl e ↦ inl (ap name_of_end e) | inr n ↦ inr (later.0 n) ]),
-      (λ m. elim m [ inl e ↦ inl (ap end_of e) | inr n ↦ inr (later.1 n) ]),
-    )
-
-all_above : (x : Name) (xs : List Name) → ((z : Name) → Member z xs → name_lt x z ≡ true) → AllAbove (end_of x) (map end_of xs)
-all_above x [] before = tt
-all_above x (y ∷ ys) before = (before y (inl refl), all_above x ys (λ z m. before z (inr m)))
-
-ends_ascend : (xs : List Name) → is_ascending xs ≡ true → Ascending (map end_of xs)
-ends_ascend [] up = tt
-ends_ascend (x ∷ xs) up = (all_above x xs (λ z m. before_members x z xs up m), ends_ascend xs (both_true (is_before_first x xs) (is_ascending xs) up).1)
 
 -- the ends that an address of a node comes to
 abbrev ends_at : List NodeDecl → Held → ℕ → ℕ → List End
@@ -46,7 +27,7 @@ ends_at net h n a = map end_of (resolved_names_under net h (record { node = n; a
 resolves_end : (net : List NodeDecl) (h : Held) (n a : ℕ) (y : End) → EndIn y (ends_at net h n a) ↔ ResolvesFromUnder net h n a y
 resolves_end net h n a y =
     let x : Name = record { node = n; addr = a } in
-    let in_list = end_in (resolved_names_under net h x) y in
+    let in_list = ends_in (resolved_names_under net h x) (name_of_end y) in
     let law = end_names_are_ends (steps_under net h) (is_accepted net) step_limit_under x (name_of_end y) in
     ((λ m. law.0 (in_list.0 m)), (λ r. in_list.1 (law.1 r)))
 
@@ -68,9 +49,3 @@ rows_are_owed net book access n h rows faithful agent same normal =
     rows_listed net (allowing access h) n rows normal
     ∙ ap (λ (k : Held). listed_rows (ends_at net k n)) (held_same net book access h same)
     ∙ ap listed_rows owed
-
--- an agent is there
-pub agent_there : (net : List NodeDecl) (n : ℕ) → IsTrue (is_agent_at (slice_get net n)) → n < length net
-agent_there [] n e = cc
-agent_there (d ∷ ds) zero e = omega arith
-agent_there (d ∷ ds) (suc n) e = let later = agent_there ds n e in omega (arith, later)

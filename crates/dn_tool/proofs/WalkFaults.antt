@@ -1,6 +1,5 @@
 -- The nodes that the rules on walks name are there.
 use Rattle.std.proofs.Common.{◌≡◌, ◌∙◌, ap, sym, subst, refl, arith, ℕ, zero, suc, ◌+◌, ◌<◌, if◌then◌else◌, Bool, true, false, nat_lt, List, [], ◌∷◌, ◌++◌, map, filter, flat_map, length, Option, IfSome, Some, None, option_map, IsTrue, lt-ltb}
-use Rattle.std.proofs.lemmas.Bool.{ltb-true}
 use Rattle.std.proofs.lemmas.Option.{none-some, same_Some}
 use Rattle.std.specs.List.{list_all}
 use Rattle.std.specs.Option.{is_some}
@@ -13,9 +12,10 @@ use Rattle.dn_net.specs.UnitRules.{Fork, is_fork, fork_at, least_fork, unit_lead
 use Rattle.dn_net.proofs.Endless.{is_wide_net, endless_fault_is}
 use Rattle.dn_net.proofs.Least.{true_both}
 use Rattle.dn_net.proofs.Places.{both}
-use Rattle.dn_print.specs.Names.{names_exist}
+use Rattle.dn_net.proofs.Stops.{IsFirstStopOr, first_stop_is, listed_stop, stop_there}
+use Rattle.dn_kind.specs.Levels.{are_there}
+use Rattle.dn_kind.proofs.Nodes.{steps_there, sorted_there}
 use Rattle.dn_tool.specs.Refused.{AreNodesWithin}
-use Rattle.dn_tool.proofs.Exists.{steps_exist, sorted_exist, stops_exist}
 
 -- what passes a test of a list
 filter_there : {X : Type 0} (p q : X → Bool) (xs : List X) → IsTrue (list_all q xs) → IsTrue (list_all q (filter p xs))
@@ -30,15 +30,15 @@ filter_there {X} p q (x ∷ xs) h = go (filter_there p q xs b.1) (p x) refl
     go later false e = rw e later
 
 -- the names of a way
-behind_exist : (count : ℕ) (xs : List Name) (rest : Name → List Name) → IsTrue (names_exist count xs) → ((z : Name) → IsTrue (names_exist count (rest z))) → IsTrue (names_exist count (behind (first_of xs) rest))
+behind_exist : (count : ℕ) (xs : List Name) (rest : Name → List Name) → IsTrue (are_there count xs) → ((z : Name) → IsTrue (are_there count (rest z))) → IsTrue (are_there count (behind (first_of xs) rest))
 behind_exist count [] rest h later = refl
-behind_exist count (x ∷ xs) rest h later = true_both _ _ (both (nat_lt x.node count) (names_exist count xs) h).0 (later x)
+behind_exist count (x ∷ xs) rest h later = true_both _ _ (both (nat_lt x.node count) (are_there count xs) h).0 (later x)
 
-way_exist : (net : List NodeDecl) → IsTrue (is_closed net) → (leads : ℕ → Name → Bool) (k : ℕ) (x : Name) → IsTrue (names_exist (length net) (way_by (steps net) leads k x))
+way_exist : (net : List NodeDecl) → IsTrue (is_closed net) → (leads : ℕ → Name → Bool) (k : ℕ) (x : Name) → IsTrue (are_there (length net) (way_by (steps net) leads k x))
 way_exist net closed leads zero x = refl
 way_exist net closed leads (suc k) x =
     behind_exist (length net) (sorted_names (filter (leads k) (steps net x))) (λ z. way_by (steps net) leads k z)
-    (sorted_exist (length net) (filter (leads k) (steps net x)) (filter_there (leads k) (λ y. nat_lt y.node (length net)) (steps net x) (steps_exist net x closed)))
+    (sorted_there (length net) (filter (leads k) (steps net x)) (filter_there (leads k) (λ y. nat_lt y.node (length net)) (steps net x) (steps_there net x closed)))
     (λ z. way_exist net closed leads k z)
 
 -- the least name is in a node below the bound
@@ -57,10 +57,10 @@ least_there p (suc n) x e = go (least_there p n x) (least_below p n) refl (first
 least_name_there : (net : List NodeDecl) (p : Name → Bool) (x : Name) → least_name net p ≡ Some x → IsTrue (nat_lt x.node (length net))
 least_name_there net p x e = lt-ltb x.node (length net) (least_there p (length net) x e)
 
-cycle_exist : (net : List NodeDecl) → IsTrue (is_closed net) → (c : ℕ) → IsTrue (names_exist (length net) (cycle_names net c))
+cycle_exist : (net : List NodeDecl) → IsTrue (is_closed net) → (c : ℕ) → IsTrue (are_there (length net) (cycle_names net c))
 cycle_exist net closed c = go (least_name net (comes_back net c)) refl
   where
-    go : (o : Option Name) → least_name net (comes_back net c) ≡ o → IsTrue (names_exist (length net) (cycle_from net c o))
+    go : (o : Option Name) → least_name net (comes_back net c) ≡ o → IsTrue (are_there (length net) (cycle_from net c o))
     go None at = refl
     go (Some x) at = true_both _ _ (least_name_there net (comes_back net c) x at) (way_exist net closed (comes_to net x) c x)
 
@@ -79,13 +79,9 @@ endless_exist net closed None b e = path_exist net closed step_limit b e
 
 -- a fork: the name and the unit that it reaches
 first_there : (net : List NodeDecl) (x s : Name) → first_of (stop_names net x) ≡ Some s → s.node < length net
-first_there net x s e = go (stop_names net x) (stops_exist net x) e
-  where
-    go : (xs : List Name) → IsTrue (names_exist (length net) xs) → first_of xs ≡ Some s → s.node < length net
-    go [] h f = cc
-    go (y ∷ ys) h f =
-        let same : y ≡ s = same_Some y s f in
-        subst (λ (z : Name). z.node < length net) same (ltb-true y.node (length net) (both (nat_lt y.node (length net)) (names_exist (length net) ys) h).0)
+first_there net x s e =
+    let f : IsFirstStopOr net x (Some s) = subst (IsFirstStopOr net x) e (first_stop_is net x) in
+    stop_there net s (listed_stop net x s f.listed).0
 
 abbrev IsForkThere : List NodeDecl → Fork → Type 0
 IsForkThere net f = (f.name.node < length net) × (f.unit < length net)
@@ -103,67 +99,67 @@ fork_there net f e = go (least_name net (is_fork net)) refl e
     go (Some x) is g = at x (least_there (is_fork net) (length net) x is) (first_of (stop_names net x)) refl g
 
 -- a row of units
-abbrev are_there : ℕ → List ℕ → Bool
-are_there count us = list_all (λ u. nat_lt u count) us
+abbrev are_units_there : ℕ → List ℕ → Bool
+are_units_there count us = list_all (λ u. nat_lt u count) us
 
 abbrev rows_there : ℕ → List (List ℕ) → Bool
-rows_there count rows = list_all (are_there count) rows
+rows_there count rows = list_all (are_units_there count) rows
 
 both_there : (count : ℕ) (xs ys : List (List ℕ)) → IsTrue (rows_there count xs) → IsTrue (rows_there count ys) → IsTrue (rows_there count (xs ++ ys))
 both_there count [] ys h k = k
 both_there count (x ∷ xs) ys h k =
-    let b = both (are_there count x) (rows_there count xs) h in
+    let b = both (are_units_there count x) (rows_there count xs) h in
     true_both _ _ b.0 (both_there count xs ys b.1 k)
 
 front_there : (count u : ℕ) (rows : List (List ℕ)) → IsTrue (nat_lt u count) → IsTrue (rows_there count rows) → IsTrue (rows_there count (map (λ us. u ∷ us) rows))
 front_there count u [] h k = refl
 front_there count u (us ∷ rows) h k =
-    let b = both (are_there count us) (rows_there count rows) k in
+    let b = both (are_units_there count us) (rows_there count rows) k in
     true_both _ _ (true_both _ _ h b.0) (front_there count u rows h b.1)
 
-each_there : (count : ℕ) (rows : ℕ → List (List ℕ)) → ((u : ℕ) → IsTrue (rows_there count (rows u))) → (first : List ℕ) → IsTrue (are_there count first) → IsTrue (rows_there count (flat_map (λ u. map (λ us. u ∷ us) (rows u)) first))
+each_there : (count : ℕ) (rows : ℕ → List (List ℕ)) → ((u : ℕ) → IsTrue (rows_there count (rows u))) → (first : List ℕ) → IsTrue (are_units_there count first) → IsTrue (rows_there count (flat_map (λ u. map (λ us. u ∷ us) (rows u)) first))
 each_there count rows good [] h = refl
 each_there count rows good (u ∷ us) h =
-    let b = both (nat_lt u count) (are_there count us) h in
+    let b = both (nat_lt u count) (are_units_there count us) h in
     both_there count (map (λ vs. u ∷ vs) (rows u)) (flat_map (λ v. map (λ vs. v ∷ vs) (rows v)) us) (front_there count u (rows u) b.0 (good u)) (each_there count rows good us b.1)
 
-rows_from_there : (count : ℕ) (next : ℕ → List ℕ) → ((u : ℕ) → IsTrue (are_there count (next u))) → (k : ℕ) (first : List ℕ) → IsTrue (are_there count first) → IsTrue (rows_there count (rows_from next k first))
+rows_from_there : (count : ℕ) (next : ℕ → List ℕ) → ((u : ℕ) → IsTrue (are_units_there count (next u))) → (k : ℕ) (first : List ℕ) → IsTrue (are_units_there count first) → IsTrue (rows_there count (rows_from next k first))
 unfolding rows_from
 rows_from_there count next good zero first h = refl
 rows_from_there count next good (suc k) first h = each_there count (λ u. rows_from next k (next u)) (λ u. rows_from_there count next good k (next u) (good u)) first h
 
-numbers_there : (number : ℕ) (net : List NodeDecl) → IsTrue (are_there (number + length net) (units_from number net))
+numbers_there : (number : ℕ) (net : List NodeDecl) → IsTrue (are_units_there (number + length net) (units_from number net))
 numbers_there number [] = refl
-numbers_there number (n ∷ ns) = go (let e : suc number + length ns ≡ number + length (n ∷ ns) = omega arith in subst (λ (c : ℕ). IsTrue (are_there c (units_from (suc number) ns))) e (numbers_there (suc number) ns)) (is_some n.unit)
+numbers_there number (n ∷ ns) = go (let e : suc number + length ns ≡ number + length (n ∷ ns) = omega arith in subst (λ (c : ℕ). IsTrue (are_units_there c (units_from (suc number) ns))) e (numbers_there (suc number) ns)) (is_some n.unit)
   where
-    go : IsTrue (are_there (number + length (n ∷ ns)) (units_from (suc number) ns)) → (b : Bool) → IsTrue (are_there (number + length (n ∷ ns)) (if b then number ∷ units_from (suc number) ns else units_from (suc number) ns))
+    go : IsTrue (are_units_there (number + length (n ∷ ns)) (units_from (suc number) ns)) → (b : Bool) → IsTrue (are_units_there (number + length (n ∷ ns)) (if b then number ∷ units_from (suc number) ns else units_from (suc number) ns))
     go later true = true_both _ _ (lt-ltb number (number + length (n ∷ ns)) (omega arith)) later
     go later false = later
 
-units_there : (net : List NodeDecl) → IsTrue (are_there (length net) (unit_numbers net))
-units_there net = let e : 0 + length net ≡ length net = omega arith in subst (λ (c : ℕ). IsTrue (are_there c (unit_numbers net))) e (numbers_there 0 net)
+units_there : (net : List NodeDecl) → IsTrue (are_units_there (length net) (unit_numbers net))
+units_there net = let e : 0 + length net ≡ length net = omega arith in subst (λ (c : ℕ). IsTrue (are_units_there c (unit_numbers net))) e (numbers_there 0 net)
 
-next_there : (net : List NodeDecl) (u : ℕ) → IsTrue (are_there (length net) (next_units net u))
+next_there : (net : List NodeDecl) (u : ℕ) → IsTrue (are_units_there (length net) (next_units net u))
 next_there net u = filter_there (unit_leads net u) (λ w. nat_lt w (length net)) (unit_numbers net) (units_there net)
 
 unit_rows_there : (net : List NodeDecl) (k : ℕ) → IsTrue (rows_there (length net) (unit_rows net k))
 unit_rows_there net k = rows_from_there (length net) (next_units net) (next_there net) k (unit_numbers net) (units_there net)
 
-first_row_there : (count : ℕ) (rows : List (List ℕ)) (us : List ℕ) → IsTrue (rows_there count rows) → first_row rows ≡ Some us → IsTrue (are_there count us)
+first_row_there : (count : ℕ) (rows : List (List ℕ)) (us : List ℕ) → IsTrue (rows_there count rows) → first_row rows ≡ Some us → IsTrue (are_units_there count us)
 first_row_there count [] us h e = absurd (none-some us e)
-first_row_there count (vs ∷ rows) us h e = subst (λ (ws : List ℕ). IsTrue (are_there count ws)) (same_Some vs us e) (both (are_there count vs) (rows_there count rows) h).0
+first_row_there count (vs ∷ rows) us h e = subst (λ (ws : List ℕ). IsTrue (are_units_there count ws)) (same_Some vs us e) (both (are_units_there count vs) (rows_there count rows) h).0
 
-large_there : (net : List NodeDecl) (k : ℕ) (us : List ℕ) → large_row net k ≡ Some us → IsTrue (are_there (length net) us)
-large_there net k us e = first_row_there (length net) (filter (is_large net) (unit_rows net k)) us (filter_there (is_large net) (are_there (length net)) (unit_rows net k) (unit_rows_there net k)) e
+large_there : (net : List NodeDecl) (k : ℕ) (us : List ℕ) → large_row net k ≡ Some us → IsTrue (are_units_there (length net) us)
+large_there net k us e = first_row_there (length net) (filter (is_large net) (unit_rows net k)) us (filter_there (is_large net) (are_units_there (length net)) (unit_rows net k) (unit_rows_there net k)) e
 
 or_else_there : {A : Type 0} (P : A → Type 0) (o r : Option A) → ((a : A) → o ≡ Some a → P a) → ((a : A) → r ≡ Some a → P a) → (a : A) → or_else o r ≡ Some a → P a
 or_else_there P (Some b) r one other a e = one a e
 or_else_there P None r one other a e = other a e
 
-chain_there : (net : List NodeDecl) (us : List ℕ) → first_chain net ≡ Some us → IsTrue (are_there (length net) us)
+chain_there : (net : List NodeDecl) (us : List ℕ) → first_chain net ≡ Some us → IsTrue (are_units_there (length net) us)
 unfolding first_chain
 chain_there net us e =
-    let P : List ℕ → Type 0 = λ vs. IsTrue (are_there (length net) vs) in
+    let P : List ℕ → Type 0 = λ vs. IsTrue (are_units_there (length net) vs) in
     or_else_there P (first_row (unit_rows net 4)) (or_else (large_row net 1) (or_else (large_row net 2) (large_row net 3)))
     (λ vs f. first_row_there (length net) (unit_rows net 4) vs (unit_rows_there net 4) f)
     (λ vs f. or_else_there P (large_row net 1) (or_else (large_row net 2) (large_row net 3)) (large_there net 1) (λ ws g. or_else_there P (large_row net 2) (large_row net 3) (large_there net 2) (large_there net 3) ws g) vs f)

@@ -7,8 +7,9 @@ use Rattle.dn_net.specs.declared.node.Name.{Name}
 use Rattle.dn_net.specs.declared.node.NodeDecl.{NodeDecl}
 use Rattle.dn_net.specs.Rules.{BrokenNode, out_of_range, overlapping, repeating, past_space}
 use Rattle.dn_net.specs.WalkRules.{Broken, is_wide, has_loop, is_deep, has_fork, has_chain}
+use Rattle.dn_kind.specs.Levels.{are_there}
 use Rattle.dn_module.specs.Faults.{ExpansionFault, is_duplicate, is_unknown, has_other_arguments, has_no_value, passes_limit}
-use Rattle.dn_print.specs.Names.{name_text, names_exist}
+use Rattle.dn_print.specs.Names.{name_text}
 use Rattle.dn_print.specs.Statement.{node_name, joined}
 use Rattle.dn_tool.specs.declared.refusal.Rule.{Rule}
 use Rattle.dn_tool.specs.declared.refusal.Rule.TheVariants.{Length, Token, Statement, Block, Nesting, Duplicate, Unknown, Arguments, Value, TooMany, Range, Overlap, Repeat, VectorSpace, UnitShape, Wide, Loop, Deep, Fork, Chain}
@@ -130,7 +131,7 @@ IsNodeWithin count (past_space node) = node < count
 -- each node that a broken rule on walks names is one of so many
 abbrev pub AreNodesWithin : ℕ → Broken → Type 0
 AreNodesWithin count is_wide = Unit {0}
-AreNodesWithin count (has_loop cycle) = IsTrue (names_exist count cycle)
-AreNodesWithin count (is_deep path) = IsTrue (names_exist count path)
+AreNodesWithin count (has_loop cycle) = IsTrue (are_there count cycle)
+AreNodesWithin count (is_deep path) = IsTrue (are_there count path)
 AreNodesWithin count (has_fork name unit) = (name.node < count) × (unit < count)
 AreNodesWithin count (has_chain units) = IsTrue (list_all (λ u. nat_lt u count) units)

@@ -6,9 +6,10 @@ ghost use Rattle.dn_parse.specs.Faults.{parse_fault_view};
 ghost use Rattle.dn_module.specs.Faults.{expand_fault_view};
 ghost use Rattle.std.specs.String.{string_bytes};
 ghost use Rattle.dn_net.specs.Rules.{node_fault_view};
+ghost use Rattle.dn_kind.specs.Levels.{are_there};
 ghost use Rattle.dn_kind.specs.Units.{unit_fault_view};
 ghost use Rattle.dn_walk.specs.Rows.{walk_fault_view};
-ghost use Rattle.dn_print.specs.Names.{name_text, names_exist};
+ghost use Rattle.dn_print.specs.Names.{name_text};
 ghost use Rattle.dn_tool.specs.Refused.{rule_name, by_text, by_line, by_limit, showing, text_refusal, expand_refusal, node_refusal, unit_refusal, walk_refusal, chain_text, fork_text, units_text, IsNodeWithin, AreNodesWithin};
 
 use dn_base::text::Text;
@@ -255,7 +256,7 @@ fn chain_refusal(
     net: &Net,
     names: &[Name],
 ) -> Result<Refusal, AllocError>
-    requires { IsTrue (names_exist (length net.now) names.now) }
+    requires { IsTrue (are_there (length net.now) names.now) }
     ensures { IfOk result (λ r. r ≡ showing rule (chain_text net.now names.now)) }
 {
     let mut text = String::new(alloc);
@@ -265,7 +266,7 @@ fn chain_refusal(
 
 /// Appends the names with ` -> ` between each two. For want of memory a part may have been appended.
 fn push_chain(out: &mut String, net: &Net, names: &[Name]) -> Result<(), AllocError>
-    requires { IsTrue (names_exist (length net.now) names.now) }
+    requires { IsTrue (are_there (length net.now) names.now) }
     ensures { OnOk result (string_bytes out.new ≡
         string_bytes out.old ++ chain_text net.now names.now) }
 {

@@ -6,6 +6,7 @@ ghost use Rattle.std.specs.String.{string_bytes};
 ghost use Rattle.dn_net.specs.declared.node.Name.{Name as NamePart};
 ghost use Rattle.dn_net.specs.Decode.{is_agent_at, over_within};
 ghost use Rattle.dn_kind.specs.Kind.{IsLawful};
+ghost use Rattle.dn_kind.specs.Levels.{are_there};
 ghost use Rattle.dn_kind.specs.Units.{shape_fault};
 ghost use Rattle.dn_module.specs.Commands.{names_within};
 ghost use Rattle.dn_interval.specs.Listed.{seen_by};
@@ -15,7 +16,7 @@ ghost use Rattle.dn_image.specs.Reading.{broken_image, version_of};
 ghost use Rattle.dn_lookup.specs.Lookup.{lookup_of};
 ghost use Rattle.dn_book.specs.Book.{owed_names};
 ghost use Rattle.dn_book.specs.Tables.{IsKept};
-ghost use Rattle.dn_print.specs.Names.{names_exist, names_text};
+ghost use Rattle.dn_print.specs.Names.{names_text};
 ghost use Rattle.dn_tool.specs.Found.{access_of, access_text, asked_text, lookup_text, names_under, owed_text, resolve_text, resolved_text};
 ghost use Rattle.dn_tool.specs.State.{IsState};
 ghost use Rattle.dn_tool.specs.Turn.{is_change, is_dump, reply};
@@ -121,7 +122,7 @@ fn asked(
 
 /// The names, joined by commas.
 fn names_of(alloc: Global, platform: &Platform, found: &[Name]) -> Result<String, AllocError>
-    requires { IsTrue (names_exist (length platform.now.net) found.now) }
+    requires { IsTrue (are_there (length platform.now.net) found.now) }
     ensures { IfOk result (λ s. string_bytes s ≡ names_text platform.now.net found.now) }
 {
     let mut text = String::new(alloc);

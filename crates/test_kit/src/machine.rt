@@ -3,7 +3,7 @@
 ghost use Rattle.std.specs.Prelude.{◌≡◌, IfOk, IsTrue, length};
 ghost use Rattle.dn_interval.specs.Rows.{ends_within};
 ghost use Rattle.dn_net.specs.Legal.{IsLegalNet};
-ghost use Rattle.dn_print.specs.Names.{names_exist};
+ghost use Rattle.dn_kind.specs.Levels.{are_there};
 
 use crate::resolve::resolve;
 use crate::unmade::Unmade;
@@ -16,6 +16,7 @@ use dn_tool::compile::{CompileFault, compile};
 use dn_walk::walks::WalkTable;
 use std::alloc::Global;
 use std::marker::Model;
+use test_plans::program_kinds;
 
 /// A legal net with its live walks. Contracts see the list of the nodes' declarations.
 #[derive(Drop)]
@@ -64,7 +65,7 @@ impl Machine {
 
     /// The accepted names to which a name resolves. A name in a node that is not there is refused.
     pub fn resolved(&self, alloc: Global, name: Name) -> Result<Names, Unmade>
-        ensures there { IfOk result (λ names. IsTrue (names_exist (length self.now) names)) }
+        ensures there { IfOk result (λ names. IsTrue (are_there (length self.now) names)) }
     {
         if name.node >= self.net.nodes() {
             return Err(Unmade::Refused);

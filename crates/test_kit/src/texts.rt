@@ -9,6 +9,7 @@ use dn_net::net::Net;
 use dn_parse::reader::read;
 use dn_print::net::net_text;
 use std::alloc::Global;
+use test_plans::program_kinds;
 
 /// The net of a text. It may break the rules on nodes, on units and on walks.
 pub fn net_of(alloc: Global, text: &str) -> Result<Net, Unmade>

@@ -9,12 +9,10 @@ ghost use Rattle.dn_tool.specs.Answer.{IsAnswered, answer as answer_of, demo_ans
 use dn_base::memory::{MemSink, MemSource};
 use dn_base::memory_tables::MemTables;
 use dn_kind::kinds::Kinds;
-use dn_kinds::pages::{Pages, pages_are_lawful};
-use dn_kinds::remap::{Remap, remap_is_lawful};
-use dn_kinds::vectors::{Vectors, vectors_are_lawful};
 use dn_tool::run;
 use dn_tool::words::Words;
 use std::alloc::{AllocError, Global};
+use test_plans::program_kinds;
 
 /// For how many events the device has room.
 const ROOM: u32 = 1000;
@@ -59,13 +57,7 @@ pub fn answer(
 ) -> Result<Outcome, AllocError>
     requires { 0 < most }
 {
-    pages_are_lawful();
-    remap_is_lawful();
-    vectors_are_lawful();
-    let mut kinds = Kinds::none(alloc);
-    kinds.add(Box::new(alloc, Pages)?)?;
-    kinds.add(Box::new(alloc, Remap)?)?;
-    kinds.add(Box::new(alloc, Vectors)?)?;
+    let kinds = program_kinds!(alloc);
     answer_with(alloc, words, &kinds, text, most, failing)
 }
 
@@ -127,13 +119,7 @@ pub struct Shown {
 pub fn show(alloc: Global, agents: u8, writes: &[u32], calls: &[u32]) -> Result<Shown, AllocError>
     requires { 0 < agents }
 {
-    pages_are_lawful();
-    remap_is_lawful();
-    vectors_are_lawful();
-    let mut kinds = Kinds::none(alloc);
-    kinds.add(Box::new(alloc, Pages)?)?;
-    kinds.add(Box::new(alloc, Remap)?)?;
-    kinds.add(Box::new(alloc, Vectors)?)?;
+    let kinds = program_kinds!(alloc);
     show_with(alloc, agents, &kinds, writes, calls)
 }
 

@@ -41,6 +41,36 @@ fn port_image(word: u64) -> [u8; 48] {
     image
 }
 
+/// A name of the agent of the board with pages.
+const ASKED: Name = Name {
+    node: 4,
+    addr: 0x10,
+};
+
+/// Where it comes to by a record of page 4.
+const PAGED: Name = Name {
+    node: 0,
+    addr: 0x4010,
+};
+
+/// Compares where it comes to for reading and for writing.
+fn compare_both(
+    rt: &impl Abort,
+    alloc: Global,
+    net: &Net,
+    kinds: &Kinds,
+    image: &[u8],
+    reading: Option<Name>,
+    writing: Option<Name>,
+) -> Result<(), Fail>
+    requires lawful { All (λ k. IsLawful (meaning (k.vtable, k.value))) kinds.now.list.items }
+    requires legal { IsLegalWith
+        (map (λ k. meaning (k.vtable, k.value)) kinds.now.list.items) net.now }
+{
+    compare(rt, alloc, net, kinds, image, ASKED, Access::Read, reading)?;
+    compare(rt, alloc, net, kinds, image, ASKED, Access::Write, writing)
+}
+
 /// Compares the one name, or none, to which an address of an agent comes.
 fn compare(
     rt: &impl Abort,
@@ -105,14 +135,7 @@ fn follow_records(rt: &impl Abort, alloc: Global, kinds: &Kinds) -> Result<(), F
     requires { All (λ k. IsLawful (meaning (k.vtable, k.value))) kinds.now.list.items }
 {
     let net = page_board(alloc, kinds)?;
-    let from = Name {
-        node: 4,
-        addr: 0x10,
-    };
-    let there = Some(Name {
-        node: 0,
-        addr: 0x4010,
-    });
+    let there = Some(PAGED);
     for (word, wanted) in [
         (0x8000401, there),
         // A bit that must be 0 is set.
@@ -125,8 +148,7 @@ fn follow_records(rt: &impl Abort, alloc: Global, kinds: &Kinds) -> Result<(), F
     ] {
         let image = page_image(2, word);
         compare_word(rt, alloc, &net, kinds, &image, 5, word)?;
-        compare(rt, alloc, &net, kinds, &image, from, Access::Read, wanted)?;
-        compare(rt, alloc, &net, kinds, &image, from, Access::Write, wanted)?;
+        compare_both(rt, alloc, &net, kinds, &image, wanted, wanted)?;
     }
     Ok(())
 }
@@ -136,14 +158,7 @@ fn ask_rights(rt: &impl Abort, alloc: Global, kinds: &Kinds) -> Result<(), Fail>
     requires { All (λ k. IsLawful (meaning (k.vtable, k.value))) kinds.now.list.items }
 {
     let net = page_board(alloc, kinds)?;
-    let from = Name {
-        node: 4,
-        addr: 0x10,
-    };
-    let there = Some(Name {
-        node: 0,
-        addr: 0x4010,
-    });
+    let there = Some(PAGED);
     for (version, word, reading, writing) in [
         // Writing is denied, then reading, then both.
         (2, 0x8000421, there, None),
@@ -155,8 +170,7 @@ fn ask_rights(rt: &impl Abort, alloc: Global, kinds: &Kinds) -> Result<(), Fail>
         (1, 0x8000401, there, there),
     ] {
         let image = page_image(version, word);
-        compare(rt, alloc, &net, kinds, &image, from, Access::Read, reading)?;
-        compare(rt, alloc, &net, kinds, &image, from, Access::Write, writing)?;
+        compare_both(rt, alloc, &net, kinds, &image, reading, writing)?;
     }
     Ok(())
 }

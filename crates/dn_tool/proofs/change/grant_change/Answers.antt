@@ -10,12 +10,12 @@ use Rattle.dn_grant.specs.declared.fault.GrantFault.TheVariants.{Device, OutOfMe
 use Rattle.dn_grant.specs.Grant.{IsGrantLogged, IsGrantMade, IsGrantRefused}
 use Rattle.dn_tool.specs.declared.halt.Halt.TheVariants.{DeviceFault, NoMemory}
 use Rattle.dn_tool.specs.Changed.{granted_text}
-use Rattle.dn_tool.specs.Ids.{id_number, with_id}
+use Rattle.dn_tool.specs.Ids.{id_number}
 use Rattle.dn_tool.specs.State.{IsChanged, state_view}
 use Rattle.dn_tool.specs.declared.state.State.{State as Kept}
 use Rattle.dn_tool.specs.Turn.{IsGrantTurn, State, named}
 use Rattle.dn_tool.proofs.Books.{placed_keeps}
-use Rattle.dn_tool.proofs.Changes.{grant_stopped, granted_turn, halted_after, not_granted_turn, state_left, state_named, state_same}
+use Rattle.dn_tool.proofs.Changes.{grant_stopped, halted_after, not_granted_turn, state_granted, state_named, state_same}
 use Rattle.dn_tool.proofs.Kept.{state_faithful}
 use Rattle.dn_tool.proofs.change.grant_change.Goals as goal
 
@@ -31,45 +31,24 @@ renew-requires-clause-faithful g c =
 pub returns-in_err-granted-in-Ok-clause-changed : goal.returns-in_err-granted-in-Ok-clause-changed
 returns-in_err-granted-in-Ok-clause-changed g c =
     let kinds : List Meaning = map (λ k. (goal.UnitKind-dyn g (k.vtable, k.value)).meaning k.value) c.args.kinds.now.list.items in
-    let net : List NodeDecl = c.args.net.now in
     let state = c.args.state.now in
-    let s : State = state_view state in
-    let id : List ℕ = c.args.id.now in
-    let rq = c.args.request.now in
-    let number : c.in_ok-number.number ≡ id_number state.ids id = c.in_ok-number.ensures.number in
-    let made : IsGrantMade net state.book.grants (id_number state.ids id) rq c.in-Ok.v c.grant.new.book.grants = subst (λ n. IsGrantMade net state.book.grants n rq c.in-Ok.v c.grant.new.book.grants) number (c.in-Ok.ensures.turn (λ e. cc) (λ e. cc)) in
-    let logged : IsGrantLogged net kinds state.book.grants state.book.cleared (id_number state.ids id) rq false (g.D.Tables.log c.args.device.now) (g.D.Tables.log c.grant.new.device) = subst (λ n. IsGrantLogged net kinds state.book.grants state.book.cleared n rq false (g.D.Tables.log c.args.device.now) (g.D.Tables.log c.grant.new.device)) number c.in-Ok.ensures.granted in
-    let left : record { book = c.grant.new.book.grants; cleared = false; ids = with_id state.ids id } ≡ state_view c.renew.new.state = state_left c.renew.new.state c.grant.new.book (with_id state.ids id) false c.renew.ensures.same.0 (c.renew.ensures.same.1 ∙ c.in_ok-number.ensures.ids) c.in-Ok.ensures.fenced in
-    let turned = granted_turn kinds net s (state_view c.renew.new.state) id rq c.in-Ok.v c.grant.new.book.grants (g.D.Tables.log c.args.device.now) (g.D.Tables.log c.grant.new.device) made logged left in
     let ended : c.from_residual-in_err-granted-in-Ok.result ≡ Err NoMemory = search rules in
-    halted_after (IsGrantTurn kinds net s id rq) c.from_residual-in_err-granted-in-Ok.result (state_view c.renew.new.state) (state_view c.renew.new.state) (granted_text id c.in-Ok.v) _ _ ended turned
+    halted_after (IsGrantTurn kinds c.args.net.now (state_view state) c.args.id.now c.args.request.now) c.from_residual-in_err-granted-in-Ok.result (state_view c.renew.new.state) (state_view c.renew.new.state) (granted_text c.args.id.now c.in-Ok.v) _ _ ended
+    (state_granted kinds c.args.net.now state c.renew.new.state c.args.id.now c.args.request.now c.in_ok-number.number c.in-Ok.v c.grant.new.book _ _ c.in_ok-number.ensures.number (c.in-Ok.ensures.turn (λ e. cc) (λ e. cc)) c.in-Ok.ensures.granted c.renew.ensures.same.0 (c.renew.ensures.same.1 ∙ c.in_ok-number.ensures.ids) c.in-Ok.ensures.fenced)
 
 pub returns-in_ok-granted-in-Ok-clause-changed : goal.returns-in_ok-granted-in-Ok-clause-changed
 returns-in_ok-granted-in-Ok-clause-changed g c =
     let kinds : List Meaning = map (λ k. (goal.UnitKind-dyn g (k.vtable, k.value)).meaning k.value) c.args.kinds.now.list.items in
-    let net : List NodeDecl = c.args.net.now in
     let state = c.args.state.now in
-    let s : State = state_view state in
-    let id : List ℕ = c.args.id.now in
-    let rq = c.args.request.now in
-    let number : c.in_ok-number.number ≡ id_number state.ids id = c.in_ok-number.ensures.number in
-    let made : IsGrantMade net state.book.grants (id_number state.ids id) rq c.in-Ok.v c.grant.new.book.grants = subst (λ n. IsGrantMade net state.book.grants n rq c.in-Ok.v c.grant.new.book.grants) number (c.in-Ok.ensures.turn (λ e. cc) (λ e. cc)) in
-    let logged : IsGrantLogged net kinds state.book.grants state.book.cleared (id_number state.ids id) rq false (g.D.Tables.log c.args.device.now) (g.D.Tables.log c.grant.new.device) = subst (λ n. IsGrantLogged net kinds state.book.grants state.book.cleared n rq false (g.D.Tables.log c.args.device.now) (g.D.Tables.log c.grant.new.device)) number c.in-Ok.ensures.granted in
-    let left : record { book = c.grant.new.book.grants; cleared = false; ids = with_id state.ids id } ≡ state_view c.renew.new.state = state_left c.renew.new.state c.grant.new.book (with_id state.ids id) false c.renew.ensures.same.0 (c.renew.ensures.same.1 ∙ c.in_ok-number.ensures.ids) c.in-Ok.ensures.fenced in
-    let turned = granted_turn kinds net s (state_view c.renew.new.state) id rq c.in-Ok.v c.grant.new.book.grants (g.D.Tables.log c.args.device.now) (g.D.Tables.log c.grant.new.device) made logged left in
-    subst (λ (t : List ℕ). IsChanged (IsGrantTurn kinds net s id rq) (state_view c.renew.new.state) t (g.D.Tables.log c.args.device.now) (g.D.Tables.log c.grant.new.device)) (sym c.in_ok-granted-in-Ok.ensures) turned
+    subst (λ (t : List ℕ). IsChanged (IsGrantTurn kinds c.args.net.now (state_view state) c.args.id.now c.args.request.now) (state_view c.renew.new.state) t (g.D.Tables.log c.args.device.now) (g.D.Tables.log c.grant.new.device)) (sym c.in_ok-granted-in-Ok.ensures)
+    (state_granted kinds c.args.net.now state c.renew.new.state c.args.id.now c.args.request.now c.in_ok-number.number c.in-Ok.v c.grant.new.book _ _ c.in_ok-number.ensures.number (c.in-Ok.ensures.turn (λ e. cc) (λ e. cc)) c.in-Ok.ensures.granted c.renew.ensures.same.0 (c.renew.ensures.same.1 ∙ c.in_ok-number.ensures.ids) c.in-Ok.ensures.fenced)
 
 pub returns-in-Err-Device-clause-changed : goal.returns-in-Err-Device-clause-changed
 returns-in-Err-Device-clause-changed g c =
     let kinds : List Meaning = map (λ k. (goal.UnitKind-dyn g (k.vtable, k.value)).meaning k.value) c.args.kinds.now.list.items in
-    let net : List NodeDecl = c.args.net.now in
     let state = c.args.state.now in
-    let s : State = state_view state in
-    let id : List ℕ = c.args.id.now in
-    let rq = c.args.request.now in
-    let number : c.in_ok-number.number ≡ id_number state.ids id = c.in_ok-number.ensures.number in
-    let logged : IsGrantLogged net kinds state.book.grants state.book.cleared (id_number state.ids id) rq true (g.D.Tables.log c.args.device.now) (g.D.Tables.log c.grant.new.device) = subst (λ n. IsGrantLogged net kinds state.book.grants state.book.cleared n rq true (g.D.Tables.log c.args.device.now) (g.D.Tables.log c.grant.new.device)) number (c.grant.ensures.stopped (c.in-Err-Device.is ∙ ap Err c.in-Err-Device.field-0-is)) in
-    grant_stopped kinds net s s id rq (Err DeviceFault) (g.D.Tables.log c.args.device.now) (g.D.Tables.log c.grant.new.device) refl logged
+    let logged = subst (λ n. IsGrantLogged c.args.net.now kinds state.book.grants state.book.cleared n c.args.request.now true (g.D.Tables.log c.args.device.now) (g.D.Tables.log c.grant.new.device)) c.in_ok-number.ensures.number (c.grant.ensures.stopped (c.in-Err-Device.is ∙ ap Err c.in-Err-Device.field-0-is)) in
+    grant_stopped kinds c.args.net.now (state_view state) (state_view state) c.args.id.now c.args.request.now (Err DeviceFault) _ _ refl logged
 
 pub returns-in_ok-grant_refused-in-Err : goal.returns-in_ok-grant_refused-in-Err
 returns-in_ok-grant_refused-in-Err g c =

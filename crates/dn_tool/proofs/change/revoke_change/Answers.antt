@@ -1,19 +1,17 @@
 use Rattle.std.proofs.Common.{rules, ◌≡◌, ◌∙◌, ap, sym, subst, refl, List, ℕ, map, Err, true, false}
 use Rattle.dn_net.specs.declared.node.NodeDecl.{NodeDecl}
-use Rattle.dn_net.specs.Chain.{Member}
 use Rattle.dn_kind.specs.Kind.{Meaning}
 use Rattle.dn_book.specs.declared.book.RevokeFault.TheVariants.{Device, NoGrant}
 use Rattle.dn_book.specs.declared.grant.Grant.{Grant}
-use Rattle.dn_book.specs.Book.{IsFaithful, has_id, without}
-use Rattle.dn_book.specs.Writes.{AreAdded, revoke_events}
+use Rattle.dn_book.specs.Book.{IsFaithful, has_id}
 use Rattle.dn_tool.specs.declared.halt.Halt.TheVariants.{DeviceFault, NoMemory}
 use Rattle.dn_tool.specs.Changed.{revoked_text}
-use Rattle.dn_tool.specs.Ids.{id_number, with_id}
+use Rattle.dn_tool.specs.Ids.{id_number}
 use Rattle.dn_tool.specs.State.{IsChanged, state_view}
 use Rattle.dn_tool.specs.declared.state.State.{State as Kept}
 use Rattle.dn_tool.specs.Turn.{IsRevokeTurn, State, named}
 use Rattle.dn_tool.proofs.Books.{without_keeps}
-use Rattle.dn_tool.proofs.Changes.{halted_after, lives_by, not_revoked_turn, revoke_stopped, revoked_turn, state_left, state_named, state_same}
+use Rattle.dn_tool.proofs.Changes.{halted_after, lives_by, not_revoked_turn, revoke_stopped, state_named, state_revoked, state_same}
 use Rattle.dn_tool.proofs.Kept.{state_faithful}
 use Rattle.dn_tool.proofs.change.revoke_change.Goals as goal
 
@@ -28,33 +26,17 @@ renew-requires-clause-faithful g c =
 pub returns-in_err-revoked-in-Ok-clause-changed : goal.returns-in_err-revoked-in-Ok-clause-changed
 returns-in_err-revoked-in-Ok-clause-changed g c =
     let kinds : List Meaning = map (λ k. (goal.UnitKind-dyn g (k.vtable, k.value)).meaning k.value) c.args.kinds.now.list.items in
-    let net : List NodeDecl = c.args.net.now in
     let state = c.args.state.now in
-    let s : State = state_view state in
-    let id : List ℕ = c.args.id.now in
-    let number : c.in_ok-number.number ≡ id_number state.ids id = c.in_ok-number.ensures.number in
-    let has : has_id (id_number state.ids id) state.book.grants ≡ true = subst (λ n. has_id n state.book.grants ≡ true) number (lives_by (has_id c.in_ok-number.number state.book.grants) (λ e. let x = c.in-Ok.ensures.unknown.1 e in cc)) in
-    let added : (k : Grant) → Member k state.book.grants → k.id ≡ id_number state.ids id → AreAdded (revoke_events net kinds state.book.grants k) false (g.D.Tables.log c.args.device.now) (g.D.Tables.log c.revoke.new.device) = λ k m e. c.in-Ok.ensures.added k m (e ∙ sym number) in
-    let taken : c.revoke.new.self.grants ≡ without (id_number state.ids id) state.book.grants = c.in-Ok.ensures.revoked ∙ ap (λ n. without n state.book.grants) number in
-    let left : record { book = c.revoke.new.self.grants; cleared = true; ids = with_id state.ids id } ≡ state_view c.renew.new.state = state_left c.renew.new.state c.revoke.new.self (with_id state.ids id) true c.renew.ensures.same.0 (c.renew.ensures.same.1 ∙ c.in_ok-number.ensures.ids) c.in-Ok.ensures.cleared in
-    let turned = revoked_turn kinds net s (state_view c.renew.new.state) id c.revoke.new.self.grants (g.D.Tables.log c.args.device.now) (g.D.Tables.log c.revoke.new.device) has added taken left in
     let ended : c.from_residual-in_err-revoked-in-Ok.result ≡ Err NoMemory = search rules in
-    halted_after (IsRevokeTurn kinds net s id) c.from_residual-in_err-revoked-in-Ok.result (state_view c.renew.new.state) (state_view c.renew.new.state) (revoked_text id) _ _ ended turned
+    halted_after (IsRevokeTurn kinds c.args.net.now (state_view state) c.args.id.now) c.from_residual-in_err-revoked-in-Ok.result (state_view c.renew.new.state) (state_view c.renew.new.state) (revoked_text c.args.id.now) _ _ ended
+    (state_revoked kinds c.args.net.now state c.renew.new.state c.args.id.now c.in_ok-number.number c.revoke.new.self _ _ c.in_ok-number.ensures.number (λ e. let x = c.in-Ok.ensures.unknown.1 e in cc) c.in-Ok.ensures.added c.in-Ok.ensures.revoked c.renew.ensures.same.0 (c.renew.ensures.same.1 ∙ c.in_ok-number.ensures.ids) c.in-Ok.ensures.cleared)
 
 pub returns-in_ok-revoked-in-Ok-clause-changed : goal.returns-in_ok-revoked-in-Ok-clause-changed
 returns-in_ok-revoked-in-Ok-clause-changed g c =
     let kinds : List Meaning = map (λ k. (goal.UnitKind-dyn g (k.vtable, k.value)).meaning k.value) c.args.kinds.now.list.items in
-    let net : List NodeDecl = c.args.net.now in
     let state = c.args.state.now in
-    let s : State = state_view state in
-    let id : List ℕ = c.args.id.now in
-    let number : c.in_ok-number.number ≡ id_number state.ids id = c.in_ok-number.ensures.number in
-    let has : has_id (id_number state.ids id) state.book.grants ≡ true = subst (λ n. has_id n state.book.grants ≡ true) number (lives_by (has_id c.in_ok-number.number state.book.grants) (λ e. let x = c.in-Ok.ensures.unknown.1 e in cc)) in
-    let added : (k : Grant) → Member k state.book.grants → k.id ≡ id_number state.ids id → AreAdded (revoke_events net kinds state.book.grants k) false (g.D.Tables.log c.args.device.now) (g.D.Tables.log c.revoke.new.device) = λ k m e. c.in-Ok.ensures.added k m (e ∙ sym number) in
-    let taken : c.revoke.new.self.grants ≡ without (id_number state.ids id) state.book.grants = c.in-Ok.ensures.revoked ∙ ap (λ n. without n state.book.grants) number in
-    let left : record { book = c.revoke.new.self.grants; cleared = true; ids = with_id state.ids id } ≡ state_view c.renew.new.state = state_left c.renew.new.state c.revoke.new.self (with_id state.ids id) true c.renew.ensures.same.0 (c.renew.ensures.same.1 ∙ c.in_ok-number.ensures.ids) c.in-Ok.ensures.cleared in
-    let turned = revoked_turn kinds net s (state_view c.renew.new.state) id c.revoke.new.self.grants (g.D.Tables.log c.args.device.now) (g.D.Tables.log c.revoke.new.device) has added taken left in
-    subst (λ (t : List ℕ). IsChanged (IsRevokeTurn kinds net s id) (state_view c.renew.new.state) t (g.D.Tables.log c.args.device.now) (g.D.Tables.log c.revoke.new.device)) (sym c.in_ok-revoked-in-Ok.ensures) turned
+    subst (λ (t : List ℕ). IsChanged (IsRevokeTurn kinds c.args.net.now (state_view state) c.args.id.now) (state_view c.renew.new.state) t (g.D.Tables.log c.args.device.now) (g.D.Tables.log c.revoke.new.device)) (sym c.in_ok-revoked-in-Ok.ensures)
+    (state_revoked kinds c.args.net.now state c.renew.new.state c.args.id.now c.in_ok-number.number c.revoke.new.self _ _ c.in_ok-number.ensures.number (λ e. let x = c.in-Ok.ensures.unknown.1 e in cc) c.in-Ok.ensures.added c.in-Ok.ensures.revoked c.renew.ensures.same.0 (c.renew.ensures.same.1 ∙ c.in_ok-number.ensures.ids) c.in-Ok.ensures.cleared)
 
 pub returns-in_ok-refused-in-Err-NoGrant-clause-changed : goal.returns-in_ok-refused-in-Err-NoGrant-clause-changed
 returns-in_ok-refused-in-Err-NoGrant-clause-changed g c =
@@ -82,12 +64,8 @@ returns-in_ok-refused-in-Err-NoGrant-clause-state g c =
 pub returns-in-Err-Device-clause-changed : goal.returns-in-Err-Device-clause-changed
 returns-in-Err-Device-clause-changed g c =
     let kinds : List Meaning = map (λ k. (goal.UnitKind-dyn g (k.vtable, k.value)).meaning k.value) c.args.kinds.now.list.items in
-    let net : List NodeDecl = c.args.net.now in
-    let state = c.args.state.now in
-    let s : State = state_view state in
-    let id : List ℕ = c.args.id.now in
-    let number : c.in_ok-number.number ≡ id_number state.ids id = c.in_ok-number.ensures.number in
+    let book = c.args.state.now.book.grants in
+    let number = c.in_ok-number.ensures.number in
     let failed : c.revoke.result ≡ Err Device = c.in-Err-Device.is ∙ ap Err c.in-Err-Device.field-0-is in
-    let has : has_id (id_number state.ids id) state.book.grants ≡ true = subst (λ n. has_id n state.book.grants ≡ true) number (lives_by (has_id c.in_ok-number.number state.book.grants) (λ e. let x = c.revoke.ensures.unknown.1 e in let y = failed in cc)) in
-    let added : (k : Grant) → Member k state.book.grants → k.id ≡ id_number state.ids id → AreAdded (revoke_events net kinds state.book.grants k) true (g.D.Tables.log c.args.device.now) (g.D.Tables.log c.revoke.new.device) = λ k m e. c.in-Err-Device.ensures.added k m (e ∙ sym number) in
-    revoke_stopped kinds net s s id (Err DeviceFault) (g.D.Tables.log c.args.device.now) (g.D.Tables.log c.revoke.new.device) refl has added
+    let has = subst (λ n. has_id n book ≡ true) number (lives_by (has_id c.in_ok-number.number book) (λ e. let x = c.revoke.ensures.unknown.1 e in let y = failed in cc)) in
+    revoke_stopped kinds c.args.net.now (state_view c.args.state.now) (state_view c.args.state.now) c.args.id.now (Err DeviceFault) (g.D.Tables.log c.args.device.now) (g.D.Tables.log c.revoke.new.device) refl has (λ k m e. c.in-Err-Device.ensures.added k m (e ∙ sym number))

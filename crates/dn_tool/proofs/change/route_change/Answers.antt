@@ -10,12 +10,12 @@ use Rattle.dn_vector.specs.declared.fault.RouteFault.TheVariants.{Device, OutOfM
 use Rattle.dn_vector.specs.Route.{IsRouteLogged, IsRouteMade, IsRouteRefused}
 use Rattle.dn_tool.specs.declared.halt.Halt.TheVariants.{DeviceFault, NoMemory}
 use Rattle.dn_tool.specs.Changed.{routed_text}
-use Rattle.dn_tool.specs.Ids.{id_number, with_id}
+use Rattle.dn_tool.specs.Ids.{id_number}
 use Rattle.dn_tool.specs.State.{IsChanged, state_view}
 use Rattle.dn_tool.specs.declared.state.State.{State as Kept}
 use Rattle.dn_tool.specs.Turn.{IsRouteTurn, State, named}
 use Rattle.dn_tool.proofs.Books.{placed_route_keeps}
-use Rattle.dn_tool.proofs.Changes.{halted_after, not_routed_turn, route_stopped, routed_turn, state_left, state_named, state_same}
+use Rattle.dn_tool.proofs.Changes.{halted_after, not_routed_turn, route_stopped, state_named, state_routed, state_same}
 use Rattle.dn_tool.proofs.Kept.{state_faithful}
 use Rattle.dn_tool.proofs.change.route_change.Goals as goal
 
@@ -23,67 +23,31 @@ pub renew-requires-clause-faithful : goal.renew-requires-clause-faithful
 renew-requires-clause-faithful g c =
     let kinds : List Meaning = map (λ k. (goal.UnitKind-dyn g (k.vtable, k.value)).meaning k.value) c.args.kinds.now.list.items in
     let net : List NodeDecl = c.args.net.now in
-    let state = c.args.state.now in
-    let s : State = state_view state in
-    let id : List ℕ = c.args.id.now in
-    let agent : ℕ = c.args.agent in
-    let line : ℕ = c.args.line in
-    let node : ℕ = c.args.node in
-    let number : c.in_ok-number.number ≡ id_number state.ids id = c.in_ok-number.ensures.number in
-    let made : IsRouteMade net state.book.grants c.in_ok-number.number agent line node c.in-Ok.vector c.route.new.book.grants = c.in-Ok.ensures.turn (λ e. cc) (λ e. cc) in
-    let kept = placed_route_keeps net state.book.grants c.in_ok-number.number agent line node c.in-Ok.vector made.place c.requires.legal.legal (state_faithful kinds net state c.requires.state) made.placed in
+    let made : IsRouteMade net c.args.state.now.book.grants c.in_ok-number.number c.args.agent c.args.line c.args.node c.in-Ok.vector c.route.new.book.grants = c.in-Ok.ensures.turn (λ e. cc) (λ e. cc) in
+    let kept = placed_route_keeps net c.args.state.now.book.grants c.in_ok-number.number c.args.agent c.args.line c.args.node c.in-Ok.vector made.place c.requires.legal.legal (state_faithful kinds net c.args.state.now c.requires.state) made.placed in
     subst (λ (b : List Grant). IsFaithful net b) (sym made.appended) kept.faithful
 
 pub returns-in_err-routed-in-Ok-clause-changed : goal.returns-in_err-routed-in-Ok-clause-changed
 returns-in_err-routed-in-Ok-clause-changed g c =
-    let ended : c.from_residual-in_err-routed-in-Ok.result ≡ Err NoMemory = search rules in
     let kinds : List Meaning = map (λ k. (goal.UnitKind-dyn g (k.vtable, k.value)).meaning k.value) c.args.kinds.now.list.items in
-    let net : List NodeDecl = c.args.net.now in
     let state = c.args.state.now in
-    let s : State = state_view state in
-    let id : List ℕ = c.args.id.now in
-    let agent : ℕ = c.args.agent in
-    let line : ℕ = c.args.line in
-    let node : ℕ = c.args.node in
-    let number : c.in_ok-number.number ≡ id_number state.ids id = c.in_ok-number.ensures.number in
-    let v : ℕ = c.in-Ok.vector in
-    let made : IsRouteMade net state.book.grants (id_number state.ids id) agent line node v c.route.new.book.grants = subst (λ n. IsRouteMade net state.book.grants n agent line node v c.route.new.book.grants) number (c.in-Ok.ensures.turn (λ e. cc) (λ e. cc)) in
-    let logged : IsRouteLogged net kinds state.book.grants state.book.cleared (id_number state.ids id) agent line node false (g.D.Tables.log c.args.device.now) (g.D.Tables.log c.route.new.device) = subst (λ n. IsRouteLogged net kinds state.book.grants state.book.cleared n agent line node false (g.D.Tables.log c.args.device.now) (g.D.Tables.log c.route.new.device)) number c.in-Ok.ensures.routed in
-    let left : record { book = c.route.new.book.grants; cleared = false; ids = with_id state.ids id } ≡ state_view c.renew.new.state = state_left c.renew.new.state c.route.new.book (with_id state.ids id) false c.renew.ensures.same.0 (c.renew.ensures.same.1 ∙ c.in_ok-number.ensures.ids) c.in-Ok.ensures.fenced in
-    let turned = routed_turn kinds net s (state_view c.renew.new.state) id agent line node v c.route.new.book.grants (g.D.Tables.log c.args.device.now) (g.D.Tables.log c.route.new.device) made logged left in
-    halted_after (IsRouteTurn kinds net s id agent line node) c.from_residual-in_err-routed-in-Ok.result (state_view c.renew.new.state) (state_view c.renew.new.state) (routed_text id v) _ _ ended turned
+    let ended : c.from_residual-in_err-routed-in-Ok.result ≡ Err NoMemory = search rules in
+    halted_after (IsRouteTurn kinds c.args.net.now (state_view state) c.args.id.now c.args.agent c.args.line c.args.node) c.from_residual-in_err-routed-in-Ok.result (state_view c.renew.new.state) (state_view c.renew.new.state) (routed_text c.args.id.now c.in-Ok.vector) _ _ ended
+    (state_routed kinds c.args.net.now state c.renew.new.state c.args.id.now c.args.agent c.args.line c.args.node c.in_ok-number.number c.in-Ok.vector c.route.new.book _ _ c.in_ok-number.ensures.number (c.in-Ok.ensures.turn (λ e. cc) (λ e. cc)) c.in-Ok.ensures.routed c.renew.ensures.same.0 (c.renew.ensures.same.1 ∙ c.in_ok-number.ensures.ids) c.in-Ok.ensures.fenced)
 
 pub returns-in_ok-routed-in-Ok-clause-changed : goal.returns-in_ok-routed-in-Ok-clause-changed
 returns-in_ok-routed-in-Ok-clause-changed g c =
     let kinds : List Meaning = map (λ k. (goal.UnitKind-dyn g (k.vtable, k.value)).meaning k.value) c.args.kinds.now.list.items in
-    let net : List NodeDecl = c.args.net.now in
     let state = c.args.state.now in
-    let s : State = state_view state in
-    let id : List ℕ = c.args.id.now in
-    let agent : ℕ = c.args.agent in
-    let line : ℕ = c.args.line in
-    let node : ℕ = c.args.node in
-    let number : c.in_ok-number.number ≡ id_number state.ids id = c.in_ok-number.ensures.number in
-    let v : ℕ = c.in-Ok.vector in
-    let made : IsRouteMade net state.book.grants (id_number state.ids id) agent line node v c.route.new.book.grants = subst (λ n. IsRouteMade net state.book.grants n agent line node v c.route.new.book.grants) number (c.in-Ok.ensures.turn (λ e. cc) (λ e. cc)) in
-    let logged : IsRouteLogged net kinds state.book.grants state.book.cleared (id_number state.ids id) agent line node false (g.D.Tables.log c.args.device.now) (g.D.Tables.log c.route.new.device) = subst (λ n. IsRouteLogged net kinds state.book.grants state.book.cleared n agent line node false (g.D.Tables.log c.args.device.now) (g.D.Tables.log c.route.new.device)) number c.in-Ok.ensures.routed in
-    let left : record { book = c.route.new.book.grants; cleared = false; ids = with_id state.ids id } ≡ state_view c.renew.new.state = state_left c.renew.new.state c.route.new.book (with_id state.ids id) false c.renew.ensures.same.0 (c.renew.ensures.same.1 ∙ c.in_ok-number.ensures.ids) c.in-Ok.ensures.fenced in
-    let turned = routed_turn kinds net s (state_view c.renew.new.state) id agent line node v c.route.new.book.grants (g.D.Tables.log c.args.device.now) (g.D.Tables.log c.route.new.device) made logged left in
-    subst (λ (t : List ℕ). IsChanged (IsRouteTurn kinds net s id agent line node) (state_view c.renew.new.state) t (g.D.Tables.log c.args.device.now) (g.D.Tables.log c.route.new.device)) (sym c.in_ok-routed-in-Ok.ensures) turned
+    subst (λ (t : List ℕ). IsChanged (IsRouteTurn kinds c.args.net.now (state_view state) c.args.id.now c.args.agent c.args.line c.args.node) (state_view c.renew.new.state) t (g.D.Tables.log c.args.device.now) (g.D.Tables.log c.route.new.device)) (sym c.in_ok-routed-in-Ok.ensures)
+    (state_routed kinds c.args.net.now state c.renew.new.state c.args.id.now c.args.agent c.args.line c.args.node c.in_ok-number.number c.in-Ok.vector c.route.new.book _ _ c.in_ok-number.ensures.number (c.in-Ok.ensures.turn (λ e. cc) (λ e. cc)) c.in-Ok.ensures.routed c.renew.ensures.same.0 (c.renew.ensures.same.1 ∙ c.in_ok-number.ensures.ids) c.in-Ok.ensures.fenced)
 
 pub returns-in-Err-Device-clause-changed : goal.returns-in-Err-Device-clause-changed
 returns-in-Err-Device-clause-changed g c =
     let kinds : List Meaning = map (λ k. (goal.UnitKind-dyn g (k.vtable, k.value)).meaning k.value) c.args.kinds.now.list.items in
-    let net : List NodeDecl = c.args.net.now in
     let state = c.args.state.now in
-    let s : State = state_view state in
-    let id : List ℕ = c.args.id.now in
-    let agent : ℕ = c.args.agent in
-    let line : ℕ = c.args.line in
-    let node : ℕ = c.args.node in
-    let number : c.in_ok-number.number ≡ id_number state.ids id = c.in_ok-number.ensures.number in
-    let logged : IsRouteLogged net kinds state.book.grants state.book.cleared (id_number state.ids id) agent line node true (g.D.Tables.log c.args.device.now) (g.D.Tables.log c.route.new.device) = subst (λ n. IsRouteLogged net kinds state.book.grants state.book.cleared n agent line node true (g.D.Tables.log c.args.device.now) (g.D.Tables.log c.route.new.device)) number (c.route.ensures.stopped (c.in-Err-Device.is ∙ ap Err c.in-Err-Device.field-0-is)) in
-    route_stopped kinds net s s id agent line node (Err DeviceFault) (g.D.Tables.log c.args.device.now) (g.D.Tables.log c.route.new.device) refl logged
+    let logged = subst (λ n. IsRouteLogged c.args.net.now kinds state.book.grants state.book.cleared n c.args.agent c.args.line c.args.node true (g.D.Tables.log c.args.device.now) (g.D.Tables.log c.route.new.device)) c.in_ok-number.ensures.number (c.route.ensures.stopped (c.in-Err-Device.is ∙ ap Err c.in-Err-Device.field-0-is)) in
+    route_stopped kinds c.args.net.now (state_view state) (state_view state) c.args.id.now c.args.agent c.args.line c.args.node (Err DeviceFault) _ _ refl logged
 
 pub returns-in_ok-route_refused-in-Err : goal.returns-in_ok-route_refused-in-Err
 returns-in_ok-route_refused-in-Err g c =

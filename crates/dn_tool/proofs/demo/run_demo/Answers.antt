@@ -10,7 +10,7 @@ use Rattle.dn_tool.specs.Demo.{has_granted, has_revoked}
 use Rattle.dn_tool.specs.Halt.{ending_status, make_halt}
 use Rattle.dn_tool.specs.State.{state_view}
 use Rattle.dn_tool.specs.Turn.{State}
-use Rattle.dn_tool.proofs.Demos.{IsTallied, line_status, one_at_most, shown_halted, shown_unmade, shown_unread, shown_written, tallied_more, tallied_start, words_told}
+use Rattle.dn_tool.proofs.Demos.{IsTallied, line_status, one_at_most, shown_halted, shown_unmade, shown_unread, shown_written, tallied_more, tallied_start}
 use Rattle.dn_tool.proofs.Places.{IsNext, first_place, first_rest, last_place, next_of, place}
 use Rattle.dn_tool.proofs.Kept.{legal_with, state_owed}
 use Rattle.dn_tool.proofs.demo.run_demo.Goals as goal
@@ -102,11 +102,9 @@ returns-in_err-write_summary-clause-shown g c =
     let i : ℕ = place cs c.commands.rest in
     let none : c.commands.rest ≡ [] = (subst (λ o. MatchOption o ((c.commands.rest ≡ []) × (c.next.new.self ≡ [])) (λ d. c.commands.rest ≡ d ∷ c.next.new.self)) c.in_default.is c.in_ok-command.ensures.next).0 in
     let over : i ≡ length cs = last_place cs c.commands.rest none in
-    let book = c.commands.state.book in
-    let told = words_told kinds net book.grants book.set _ _ c.commands.invariant.state.kept c.commands.invariant.on_device in
     let ended : c.from_residual-in_err-write_summary.result ≡ Err c.in_err-write_summary.field-0.0 = search rules in
     let status : ending_status c.from_residual-in_err-write_summary.result ≡ line_status c.write_summary.result = ap ending_status ended ∙ sym (ap line_status c.in_err-write_summary.was) in
-    shown_written kinds net c.args.agents cs i (ending_status c.from_residual-in_err-write_summary.result) (state_view c.commands.state) c.write_summary.result _ _ _ _ _ c.commands.granted c.commands.revoked over told c.commands.invariant.tallied status c.write_summary.ensures.no_device c.write_summary.ensures.written
+    shown_written kinds net c.args.agents cs i (ending_status c.from_residual-in_err-write_summary.result) (state_view c.commands.state) c.write_summary.result _ _ _ _ _ c.commands.granted c.commands.revoked c.commands.state.book.set _ (omega (arith, over)) (omega (arith, over)) c.commands.invariant.state.kept c.commands.invariant.on_device c.commands.invariant.tallied status c.write_summary.ensures.no_device c.write_summary.ensures.written
 
 pub returns-clause-shown : goal.returns-clause-shown
 returns-clause-shown g c =
@@ -116,6 +114,4 @@ returns-clause-shown g c =
     let i : ℕ = place cs c.commands.rest in
     let none : c.commands.rest ≡ [] = (subst (λ o. MatchOption o ((c.commands.rest ≡ []) × (c.next.new.self ≡ [])) (λ d. c.commands.rest ≡ d ∷ c.next.new.self)) c.in_default.is c.in_ok-command.ensures.next).0 in
     let over : i ≡ length cs = last_place cs c.commands.rest none in
-    let book = c.commands.state.book in
-    let told = words_told kinds net book.grants book.set _ _ c.commands.invariant.state.kept c.commands.invariant.on_device in
-    shown_written kinds net c.args.agents cs i 0 (state_view c.commands.state) c.write_summary.result _ _ _ _ _ c.commands.granted c.commands.revoked over told c.commands.invariant.tallied (sym (ap line_status c.in_ok-write_summary.was)) c.write_summary.ensures.no_device c.write_summary.ensures.written
+    shown_written kinds net c.args.agents cs i 0 (state_view c.commands.state) c.write_summary.result _ _ _ _ _ c.commands.granted c.commands.revoked c.commands.state.book.set _ (omega (arith, over)) (omega (arith, over)) c.commands.invariant.state.kept c.commands.invariant.on_device c.commands.invariant.tallied (sym (ap line_status c.in_ok-write_summary.was)) c.write_summary.ensures.no_device c.write_summary.ensures.written

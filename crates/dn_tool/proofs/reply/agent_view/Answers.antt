@@ -10,11 +10,12 @@ use Rattle.dn_kind.specs.Tables.{Held, allowing}
 use Rattle.dn_tables.specs.declared.table.NodeTable.{NodeTable}
 use Rattle.dn_tables.specs.Set.{record_kept}
 use Rattle.dn_view.specs.Views.{AreViewed, ResolvesFromUnder}
+use Rattle.dn_view.proofs.Agents.{agent_there}
 use Rattle.dn_tool.specs.Found.{access_of}
 use Rattle.dn_tool.specs.Platform.{PlatformState}
 use Rattle.dn_tool.specs.Viewed.{owed_rows, viewed_text}
 use Rattle.dn_tool.proofs.Kept.{legal_with}
-use Rattle.dn_tool.proofs.Seen.{agent_there, rows_are_owed}
+use Rattle.dn_tool.proofs.Seen.{rows_are_owed}
 use Rattle.dn_tool.proofs.reply.agent_view.Goals as goal
 
 pub view-requires-clause-legal : goal.view-requires-clause-legal

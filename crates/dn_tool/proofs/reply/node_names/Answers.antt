@@ -3,12 +3,13 @@ use Rattle.std.specs.String.{string_bytes}
 use Rattle.dn_net.specs.declared.node.Name.{Name}
 use Rattle.dn_net.specs.declared.node.NodeDecl.{NodeDecl}
 use Rattle.dn_kind.specs.Kind.{Meaning}
+use Rattle.dn_kind.specs.Levels.{are_there}
 use Rattle.dn_kind.specs.Tables.{Held, allowing, resolved_names_under}
 use Rattle.dn_kind.proofs.Nodes.{resolved_under_there}
 use Rattle.dn_tables.specs.declared.table.NodeTable.{NodeTable}
 use Rattle.dn_tables.specs.Set.{record_kept}
 use Rattle.dn_book.specs.Tables.{IsKept}
-use Rattle.dn_print.specs.Names.{names_exist, names_text}
+use Rattle.dn_print.specs.Names.{names_text}
 use Rattle.dn_tool.specs.Found.{names_under}
 use Rattle.dn_tool.proofs.Kept.{legal_with}
 use Rattle.dn_tool.proofs.Seen.{held_same}
@@ -25,7 +26,7 @@ names_of-requires g c =
     let net : List NodeDecl = c.platform.inside.net in
     let h : Held = allowing c.args.access (record_kept kinds c.tables.result.now) in
     let found : c.list.result.now ≡ resolved_names_under net h c.args.name = c.list.ensures.value ∙ c.in_ok-found.ensures.names in
-    rw (← c.platform.view_is) (subst (λ (l : List Name). IsTrue (names_exist (length net) l)) (sym found) (resolved_under_there net h c.args.name))
+    rw (← c.platform.view_is) (subst (λ (l : List Name). IsTrue (are_there (length net) l)) (sym found) (resolved_under_there net h c.args.name))
 
 pub returns : goal.returns
 returns g c =

@@ -2,9 +2,9 @@ use Rattle.std.proofs.Common.{rules, arith, ◌≡◌, ◌∙◌, ◌++◌, [], 
 use Rattle.dn_net.specs.declared.node.Name.{Name}
 use Rattle.dn_net.specs.Decode.{is_accepted, steps, step_limit}
 use Rattle.dn_net.specs.Names.{each_step, passing_names, sorted_names, resolved_names}
-use Rattle.dn_print.specs.Names.{names_exist}
-use Rattle.dn_tool.proofs.Exists.{resolved_exist}
-use Rattle.test_kit.proofs.Levels.{is_empty, resolved_by, resolved_at_start, resolved_next, resolved_at_empty, resolved_at_end, set_resolves, resolved_within}
+use Rattle.dn_kind.specs.Levels.{are_there}
+use Rattle.dn_kind.proofs.Stages.{is_empty, ends_at_empty, set_is_ends, set_within}
+use Rattle.test_kit.proofs.Levels.{resolved_by, resolved_at_start, resolved_next, resolved_at_end, resolved_there}
 use Rattle.test_kit.proofs.resolve.resolve.Goals as goal
 use Rattle.test_kit.proofs.resolve.resolve.Goals.{else-loop-test, then-loop-test+then-is_empty}
 
@@ -14,7 +14,7 @@ loop-init c =
     let none : c.new-accepted.result.items ≡ [] = c.new-accepted.ensures.items in
     record {
       so_far = ap (λ (l : List Name). resolved_by c.args.net.now (suc step_limit - 0) l c.insert.new.self) none ∙ ap (λ (l : List Name). resolved_by c.args.net.now (suc step_limit - 0) [] l) level ∙ resolved_at_start c.args.net.now c.args.name;
-      there = subst (λ (l : List Name). IsTrue (names_exist (length c.args.net.now) l)) (sym level) (search rules);
+      there = subst (λ (l : List Name). IsTrue (are_there (length c.args.net.now) l)) (sym level) (search rules);
     }
 
 pub loop-preserved : goal.loop-preserved
@@ -31,14 +31,14 @@ pub returns-clause-resolved : goal.returns-clause-resolved
 returns-clause-resolved c =
     let whole : sorted_names c.loop.accepted.items ≡ resolved_names c.args.net.now c.args.name = elim c.loop-test.branch [
       | else-loop-test w ↦ resolved_at_end c.args.net.now c.loop.counter c.loop.accepted.items c.loop.level (resolved_names c.args.net.now c.args.name) (let b = w.loop-test.false in omega arith) c.loop.invariant.so_far
-      | then-loop-test+then-is_empty w ↦ resolved_at_empty c.args.net.now (suc step_limit - c.loop.counter) c.loop.accepted.items c.loop.level (resolved_names c.args.net.now c.args.name) (is_empty c.loop.level (search rules)) c.loop.invariant.so_far
+      | then-loop-test+then-is_empty w ↦ ends_at_empty (steps c.args.net.now) (is_accepted c.args.net.now) (suc step_limit - c.loop.counter) c.loop.accepted.items c.loop.level (resolved_names c.args.net.now c.args.name) (is_empty c.loop.level (search rules)) c.loop.invariant.so_far
     ] in
-    set_resolves c.loop.accepted.items (resolved_names c.args.net.now c.args.name) c.set_of.result whole c.set_of.ensures
+    set_is_ends c.loop.accepted.items (resolved_names c.args.net.now c.args.name) c.set_of.result whole c.set_of.ensures
 
 pub returns-clause-there : goal.returns-clause-there
 returns-clause-there c =
     let whole : sorted_names c.loop.accepted.items ≡ resolved_names c.args.net.now c.args.name = elim c.loop-test.branch [
       | else-loop-test w ↦ resolved_at_end c.args.net.now c.loop.counter c.loop.accepted.items c.loop.level (resolved_names c.args.net.now c.args.name) (let b = w.loop-test.false in omega arith) c.loop.invariant.so_far
-      | then-loop-test+then-is_empty w ↦ resolved_at_empty c.args.net.now (suc step_limit - c.loop.counter) c.loop.accepted.items c.loop.level (resolved_names c.args.net.now c.args.name) (is_empty c.loop.level (search rules)) c.loop.invariant.so_far
+      | then-loop-test+then-is_empty w ↦ ends_at_empty (steps c.args.net.now) (is_accepted c.args.net.now) (suc step_limit - c.loop.counter) c.loop.accepted.items c.loop.level (resolved_names c.args.net.now c.args.name) (is_empty c.loop.level (search rules)) c.loop.invariant.so_far
     ] in
-    resolved_within (length c.args.net.now) c.loop.accepted.items (resolved_names c.args.net.now c.args.name) c.set_of.result whole (resolved_exist c.args.net.now c.args.name) c.set_of.ensures
+    set_within (length c.args.net.now) c.loop.accepted.items (resolved_names c.args.net.now c.args.name) c.set_of.result whole (resolved_there c.args.net.now c.args.name) c.set_of.ensures
