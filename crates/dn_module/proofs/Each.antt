@@ -15,7 +15,8 @@ drop_next xs i x h at =
     ∙ ap (λ z. z ∷ drop (suc i) xs) (sym at)
     ∙ ap (λ n. x ∷ drop n xs) (sym (add-one i))
 
-after_one : {Y E : Type 0} (made : List Y) (y : Y) (o : Result (List Y) E) → followed made (o >>= (λ ys. Ok (y ∷ ys))) ≡ followed (made ++ y ∷ []) o
+-- one that is made, and then those behind it
+pub after_one : {Y E : Type 0} (made : List Y) (y : Y) (o : Result (List Y) E) → followed made (o >>= (λ ys. Ok (y ∷ ys))) ≡ followed (made ++ y ∷ []) o
 after_one made y (Err e) = refl
 after_one made y (Ok ys) = ap (λ l. Ok l) (sym (append_assoc made (y ∷ []) ys))
 

@@ -1,5 +1,5 @@
 -- The commands of a tree, with the values of their expressions and the numbers of the nodes that they name.
-use Rattle.std.specs.Prelude.{ℕ, Bool, true, ◌&&◌, nat_lt, List, Option, Some, None, Result, Ok}
+use Rattle.std.specs.Prelude.{ℕ, Bool, true, false, ◌&&◌, nat_lt, List, [], Option, Some, None, Result, Ok, Err}
 use Rattle.dn_parse.specs.Tree.{Part, Order, resolve, lookup, view, grant, route, revoke, dump, split, absorb, Command as CommandOf}
 use Rattle.dn_module.specs.declared.command.Command.{Command}
 use Rattle.dn_module.specs.declared.command.Command.TheVariants.{Resolve, Lookup, View, Grant, Route, Revoke, Dump, Split, Absorb}
@@ -49,6 +49,11 @@ command_of known (absorb name) = do
 abbrev pub commands_of : List (List ℕ) → List CommandOf → Result (List Command) ExpansionFault
 commands_of known commands = each (λ c. at_line c.line (command_of known c.order)) commands
 
+-- the commands, where none has a fault
+abbrev pub commands_or_none : Result (List Command) ExpansionFault → List Command
+commands_or_none (Ok commands) = commands
+commands_or_none (Err fault) = []
+
 -- the node that a command names is one of so many, or it names none
 abbrev pub node_within : ℕ → Option ℕ → Bool
 node_within count None = true
@@ -65,3 +70,8 @@ names_within count (Revoke id) = true
 names_within count Dump = true
 names_within count Split = true
 names_within count (Absorb target) = node_within count target.node
+
+-- a command is made, and each node that it names is one of so many
+abbrev pub makes_within : ℕ → Result Command ExpansionFault → Bool
+makes_within count (Ok command) = names_within count command
+makes_within count (Err fault) = false

@@ -1,11 +1,7 @@
 //! The commands of a script.
 
-use dn_base::items::Items;
 use dn_base::text::Text;
 use dn_parse::syntax::Mode;
-
-/// The commands, in order.
-pub type Commands = Items<Command>;
 
 /// A command of a script. The first text of a grant, a route and a revoke is its id. The mode of
 /// the first four is the access that the command says, where it says one.

@@ -1,182 +1,106 @@
-//! From the commands of a tree to those of a script. They stand outside of modules and loops.
+//! The commands of a text, of which none is kept: each is made when it is walked.
 
-ghost use Rattle.std.specs.Prelude.{map, length, Ok, IfOk, IsTrue};
-ghost use Rattle.std.specs.List.{list_all};
-ghost use Rattle.dn_parse.specs.Tree.{resolve as asks_resolve, lookup as asks_lookup, view as asks_view, absorb as asks_absorb};
-ghost use Rattle.dn_parse.specs.Views.{name_view, expr_view, grant_view, route_view, order_view, command_view};
-ghost use Rattle.dn_module.specs.Commands.{target_of, command_of, commands_of, node_within, names_within};
-ghost use Rattle.dn_module.specs.Values.{value, full_name};
-ghost use Rattle.dn_module.specs.Drafts.{at_line};
-ghost use Rattle.dn_base.specs.Answers.{Answers};
-ghost use Rattle.dn_module.specs.Faults.{expand_fault_view, name_fault_view, some_flaw};
+ghost use Rattle.std.specs.Prelude.{◌≡◌, [], ◌∷◌, length, true, Ok, IfOk, OnErr, MatchOption, is_ok};
+ghost use Rattle.dn_parse.specs.Script.{script_view};
+ghost use Rattle.dn_module.specs.Commands.{commands_of};
 
-use crate::command::{Command, Commands, Target};
-use crate::fault::ExpandFault;
+use crate::command::Command;
 use crate::names::NameTable;
-use crate::scope::Scope;
-use crate::values::{Flaw, NameFault, declared_name, value};
-use dn_base::items::Items;
-use dn_base::text::Text;
-use dn_parse::syntax;
-use dn_parse::syntax::{Expr, GrantExpr, Mode, NameExpr, Order, RouteExpr};
-use std::alloc::Global;
+use crate::orders::command;
+use crate::values::NameFault;
+use dn_parse::script::Script;
+use std::alloc::{AllocError, Global};
+use std::marker::Model;
 
-/// The commands, with the nodes that they name by their numbers, or the first fault.
-pub fn commands(
-    alloc: Global,
-    names: &NameTable,
-    commands: &[syntax::Cmd],
-) -> Result<Commands, ExpandFault>
-    ensures made { Answers (λ x. x) expand_fault_view result
-        (commands_of names.now (map command_view commands.now)) }
-    ensures known { IfOk result (λ made. IsTrue (list_all (names_within (length names.now)) made)) }
-{
-    let mut made = Vec::with_capacity(alloc, commands.len())?;
-    for asked in commands {
-        let command = command_at(alloc, names, asked)?;
-        made.push(command)?;
+/// The commands of a text, in order, each with its values and its nodes. None of them is kept: a cursor
+/// reads each again from the text. Contracts see their list.
+#[derive(Drop)]
+pub struct Commands<'a> {
+    /// The names of the nodes.
+    names: NameTable,
+    script: Script<'a>,
+}
+
+impl<'a> Model for Commands<'a> {
+    ghost use Rattle.std.specs.Prelude.{List, ◌≡◌, true, is_ok};
+    ghost use Rattle.dn_parse.specs.Script.{script_view};
+    ghost use Rattle.dn_module.specs.declared.command.Command.{Command};
+    ghost use Rattle.dn_module.specs.Commands.{commands_of, commands_or_none};
+
+    ghost Value = { List Command };
+
+    ghost view = { λ s. commands_or_none (commands_of s.names (script_view s.script)) };
+
+    ghost invariant = { λ s. is_ok (commands_of s.names (script_view s.script)) ≡ true };
+}
+
+impl<'a> Commands<'a> {
+    /// The commands of a script, with the names of the nodes. The caller went over them, and found no
+    /// fault.
+    pub fn new(names: NameTable, script: Script<'a>) -> Commands<'a>
+        requires { is_ok (commands_of names (script_view script)) ≡ true }
+        ensures { commands_of names (script_view script.entry) ≡ Ok result }
+    {
+        Commands { names, script }
     }
-    Ok(Items::from_vec(made))
-}
 
-/// A command, or the fault of its statement.
-fn command_at(alloc: Global, names: &NameTable, asked: &syntax::Cmd) -> Result<Command, ExpandFault>
-    ensures made { Answers (λ x. x) expand_fault_view result
-        (at_line asked.now.line (command_of names.now (order_view asked.now.order))) }
-    ensures known { IfOk result (λ c. IsTrue (names_within (length names.now) c)) }
-{
-    match command(alloc, names, &asked.order) {
-        Ok(command) => Ok(command),
-        Err(fault) => Err(fault.at(asked.line)),
+    /// How many commands there are.
+    pub fn len(&self) -> u32
+        ensures { result ≡ length self.now }
+    {
+        self.script.len()
+    }
+
+    /// The place before the first command.
+    pub fn cursor<'c>(&'c self) -> CommandCursor<'c, 'a>
+        ensures { result ≡ self.now }
+    {
+        CommandCursor {
+            names: &self.names,
+            rest: self.script,
+        }
     }
 }
 
-/// A command, with the nodes that it names by their numbers.
-fn command(alloc: Global, names: &NameTable, order: &Order) -> Result<Command, NameFault>
-    ensures made { Answers (λ x. x) name_fault_view result
-        (command_of names.now (order_view order.now)) }
-    ensures known { IfOk result (λ c. IsTrue (names_within (length names.now) c)) }
-{
-    match order {
-        Order::Resolve(name, expr, mode) => resolve(alloc, names, name, expr, *mode),
-        Order::Lookup(name, expr, mode) => lookup(alloc, names, name, expr, *mode),
-        Order::View(name, mode) => view(alloc, names, name, *mode),
-        Order::Grant(asked) => grant(alloc, names, asked),
-        Order::Route(asked) => route(alloc, names, asked),
-        Order::Revoke(id) => revoke(alloc, id),
-        Order::Dump => Ok(Command::Dump),
-        Order::Split => Ok(Command::Split),
-        Order::Absorb(name) => absorb(alloc, names, name),
+/// A place before a command of a text, or behind the last. Contracts see the commands that are still to
+/// come.
+#[derive(Drop)]
+pub struct CommandCursor<'c, 'a> {
+    names: &'c NameTable,
+    rest: Script<'a>,
+}
+
+impl<'c, 'a> Model for CommandCursor<'c, 'a> {
+    ghost use Rattle.std.specs.Prelude.{List, ◌≡◌, true, is_ok};
+    ghost use Rattle.dn_parse.specs.Script.{script_view};
+    ghost use Rattle.dn_module.specs.declared.command.Command.{Command};
+    ghost use Rattle.dn_module.specs.Commands.{commands_of, commands_or_none};
+
+    ghost Value = { List Command };
+
+    ghost view = { λ s. commands_or_none (commands_of s.names.now (script_view s.rest)) };
+
+    ghost invariant = { λ s. is_ok (commands_of s.names.now (script_view s.rest)) ≡ true };
+}
+
+impl<'c, 'a> CommandCursor<'c, 'a> {
+    /// Makes the next command, and goes behind it; `None` behind the last. `Err` is want of memory, and
+    /// leaves the place as it was.
+    pub fn next(&mut self, alloc: Global) -> Result<Option<Command>, AllocError>
+        ensures next { IfOk result (λ o. MatchOption o
+            ((self.old ≡ []) × (self.new ≡ [])) (λ c. self.old ≡ c ∷ self.new)) }
+        ensures err { OnErr result (self.new ≡ self.old) }
+    {
+        let Some((asked, behind)) = self.rest.next(alloc)? else {
+            return Ok(None);
+        };
+        match command(alloc, self.names, &asked.order) {
+            Ok(command) => {
+                self.rest = behind;
+                Ok(Some(command))
+            }
+            Err(NameFault::OutOfMemory) => Err(AllocError),
+            Err(NameFault::Flawed(_)) => unreachable!(),
+        }
     }
-}
-
-/// A node as a command names it, with its number where it is there.
-fn target(alloc: Global, names: &NameTable, name: &NameExpr) -> Result<Target, NameFault>
-    ensures made { Answers (λ x. x) name_fault_view result
-        (target_of names.now (name_view name.now)) }
-    ensures known { IfOk result (λ t. IsTrue (node_within (length names.now) t.node)) }
-{
-    let text = full_name(alloc, name)?;
-    let node = names.find(text.as_str());
-    Ok(Target { text, node })
-}
-
-/// The full name that a name spells.
-#[tactic(auto, using(crate::proofs::Outside::name_stays))]
-fn full_name(alloc: Global, name: &NameExpr) -> Result<Text, NameFault>
-    ensures { Answers (λ x. x) name_fault_view result (full_name (name_view name.now)) }
-{
-    declared_name(alloc, &Scope::outside(alloc), name.as_slice())
-}
-
-/// The value of an expression.
-#[tactic(auto, using(crate::proofs::Outside::expression_stays))]
-fn number(alloc: Global, expr: &Expr) -> Result<u64, Flaw>
-    ensures { Answers (λ x. x) some_flaw result (value (expr_view expr.now)) }
-{
-    value(&Scope::outside(alloc), expr)
-}
-
-fn resolve(
-    alloc: Global,
-    names: &NameTable,
-    name: &NameExpr,
-    expr: &Expr,
-    mode: Mode,
-) -> Result<Command, NameFault>
-    ensures made { Answers (λ x. x) name_fault_view result
-        (command_of names.now (asks_resolve (name_view name.now) (expr_view expr.now) mode)) }
-    ensures known { IfOk result (λ c. IsTrue (names_within (length names.now) c)) }
-{
-    let target = target(alloc, names, name)?;
-    let addr = number(alloc, expr)?;
-    Ok(Command::Resolve(target, addr, mode))
-}
-
-fn lookup(
-    alloc: Global,
-    names: &NameTable,
-    name: &NameExpr,
-    expr: &Expr,
-    mode: Mode,
-) -> Result<Command, NameFault>
-    ensures made { Answers (λ x. x) name_fault_view result
-        (command_of names.now (asks_lookup (name_view name.now) (expr_view expr.now) mode)) }
-    ensures known { IfOk result (λ c. IsTrue (names_within (length names.now) c)) }
-{
-    let target = target(alloc, names, name)?;
-    let addr = number(alloc, expr)?;
-    Ok(Command::Lookup(target, addr, mode))
-}
-
-fn view(alloc: Global, names: &NameTable, name: &NameExpr, mode: Mode) -> Result<Command, NameFault>
-    ensures made { Answers (λ x. x) name_fault_view result
-        (command_of names.now (asks_view (name_view name.now) mode)) }
-    ensures known { IfOk result (λ c. IsTrue (names_within (length names.now) c)) }
-{
-    let target = target(alloc, names, name)?;
-    Ok(Command::View(target, mode))
-}
-
-fn absorb(alloc: Global, names: &NameTable, name: &NameExpr) -> Result<Command, NameFault>
-    ensures made { Answers (λ x. x) name_fault_view result
-        (command_of names.now (asks_absorb (name_view name.now))) }
-    ensures known { IfOk result (λ c. IsTrue (names_within (length names.now) c)) }
-{
-    let target = target(alloc, names, name)?;
-    Ok(Command::Absorb(target))
-}
-
-/// A grant to the first node named, of addresses of the second.
-fn grant(alloc: Global, names: &NameTable, asked: &GrantExpr) -> Result<Command, NameFault>
-    ensures made { Answers (λ x. x) name_fault_view result
-        (command_of names.now (grant_view asked.now)) }
-    ensures known { IfOk result (λ c. IsTrue (names_within (length names.now) c)) }
-{
-    let agent = target(alloc, names, &asked.agent)?;
-    let node = target(alloc, names, &asked.node)?;
-    let base = number(alloc, &asked.base)?;
-    let size = number(alloc, &asked.size)?;
-    let id = Text::of(alloc, asked.id)?;
-    let mode = asked.mode;
-    Ok(Command::Grant(id, agent, node, base, size, mode))
-}
-
-/// A route of a line of the first node named to the second.
-fn route(alloc: Global, names: &NameTable, asked: &RouteExpr) -> Result<Command, NameFault>
-    ensures made { Answers (λ x. x) name_fault_view result
-        (command_of names.now (route_view asked.now)) }
-    ensures known { IfOk result (λ c. IsTrue (names_within (length names.now) c)) }
-{
-    let agent = target(alloc, names, &asked.agent)?;
-    let line = number(alloc, &asked.line)?;
-    let node = target(alloc, names, &asked.node)?;
-    let id = Text::of(alloc, asked.id)?;
-    Ok(Command::Route(id, agent, line, node))
-}
-
-fn revoke(alloc: Global, id: &str) -> Result<Command, NameFault>
-    ensures { Answers (λ x. x) name_fault_view result (Ok (Command.Revoke id.now)) }
-{
-    Ok(Command::Revoke(Text::of(alloc, id)?))
 }

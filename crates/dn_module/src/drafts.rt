@@ -93,6 +93,13 @@ impl Drafts {
         &self.known
     }
 
+    /// The full names of the nodes alone, in order.
+    pub fn into_names(self) -> NameTable
+        ensures { result ≡ names self }
+    {
+        self.known
+    }
+
     /// Adds a node: its full name was not there before, and no limit is passed. The limits are those on
     /// nodes, on agents, on units and on parts, in this order. After a fault the nodes are unchanged.
     pub fn add(&mut self, alloc: Global, draft: Draft) -> Result<(), ExpandFault>

@@ -2,7 +2,8 @@
 
 ghost use Rattle.std.specs.Prelude.{◌≡◌, ◌≤◌, true, IfOk, IsTrue, length, map};
 ghost use Rattle.std.specs.List.{list_all};
-ghost use Rattle.dn_parse.specs.Views.{command_view, tree_view};
+ghost use Rattle.dn_parse.specs.Script.{script_view};
+ghost use Rattle.dn_parse.specs.Views.{tree_view};
 ghost use Rattle.dn_net.specs.Decode.{is_formed};
 ghost use Rattle.dn_kind.specs.Units.{has_kind};
 ghost use Rattle.dn_module.specs.Drafts.{names, node_in};
@@ -11,19 +12,25 @@ ghost use Rattle.dn_module.specs.Finish.{outcome_of, outcome_view};
 ghost use Rattle.dn_base.specs.Answers.{Answers};
 ghost use Rattle.dn_module.specs.Faults.{expand_fault_view};
 
-use crate::commands::commands;
+use crate::commands::Commands;
 use crate::drafts::Drafts;
 pub use crate::expansion::Expanded;
 use crate::fault::ExpandFault;
 use crate::link::linked_net;
 use crate::machine::expand_body;
+use crate::orders::check_commands;
 use dn_kind::kinds::Kinds;
-use dn_parse::syntax::{Cmd, Tree};
+use dn_parse::script::Script;
+use dn_parse::syntax::Tree;
 use std::alloc::Global;
 
 /// Expands a tree with these kinds of units, at most 255. The rules on nodes and on units are not
 /// tested.
-pub fn expand(alloc: Global, tree: &Tree, kinds: &Kinds) -> Result<Expanded, ExpandFault>
+pub fn expand<'a>(
+    alloc: Global,
+    tree: &Tree<'a>,
+    kinds: &Kinds,
+) -> Result<Expanded<'a>, ExpandFault>
     requires few_kinds { length kinds.now.list.items ≤ 255 }
     // It gives what replacing text gives, or the first fault.
     ensures expansion { Answers outcome_view expand_fault_view result
@@ -34,16 +41,17 @@ pub fn expand(alloc: Global, tree: &Tree, kinds: &Kinds) -> Result<Expanded, Exp
         (list_all (λ n. has_kind (length kinds.now.list.items) n.unit) e.net)) }
 {
     let made = expand_body(alloc, kinds, tree.body.as_slice())?;
-    finish(alloc, &made.drafts, tree.commands.as_slice())
+    finish(alloc, made.drafts, tree.commands)
 }
 
 /// The commands, and then the net of the nodes that were made.
-fn finish(alloc: Global, drafts: &Drafts, asked: &[Cmd]) -> Result<Expanded, ExpandFault>
-    requires formed { list_all (λ d. is_formed (node_in (names drafts.now) d)) drafts.now ≡ true }
+fn finish<'a>(alloc: Global, drafts: Drafts, asked: Script<'a>) -> Result<Expanded<'a>, ExpandFault>
+    requires formed { list_all (λ d. is_formed (node_in (names drafts) d)) drafts ≡ true }
     ensures { Answers outcome_view expand_fault_view result
-        (outcome_of drafts.now (map command_view asked.now)) }
+        (outcome_of drafts (script_view asked.entry)) }
 {
-    let commands = commands(alloc, drafts.names(), asked)?;
+    check_commands(alloc, drafts.names(), asked)?;
     let net = linked_net(alloc, drafts.names(), drafts.as_slice())?;
+    let commands = Commands::new(drafts.into_names(), asked);
     Ok(Expanded { net, commands })
 }

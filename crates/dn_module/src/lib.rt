@@ -6,7 +6,7 @@
 #![tactic(auto)]
 
 pub mod command;
-mod commands;
+pub mod commands;
 pub mod draft;
 mod drafts;
 pub mod expand;
@@ -17,6 +17,7 @@ mod machine;
 mod modules;
 mod names;
 mod nodes;
+mod orders;
 mod scope;
 mod stack;
 mod titles;

@@ -3,12 +3,12 @@ use Rattle.std.proofs.Common.{◌≡◌, ◌∙◌, ap, sym, refl, subst, ℕ, s
 use Rattle.std.proofs.lemmas.List.{length-map, length-reverse, map-append, reverse-append}
 use Rattle.dn_token.specs.declared.token.Sign.TheVariants.{Semicolon}
 use Rattle.dn_token.specs.Token.{Token, tokens}
-use Rattle.dn_parse.specs.Tree.{Statement, Tree, items}
+use Rattle.dn_parse.specs.Tree.{Statement, Command, Tree, items}
 use Rattle.dn_parse.specs.Actions.{statement}
 use Rattle.dn_parse.specs.Forms.{is_sign}
 use Rattle.dn_parse.specs.Syntax.{statement_form}
 use Rattle.dn_parse.specs.Machine.{Stop, whole, refused, deep, Outcome, stopped, with_statement, between, inside, run, go, closed}
-use Rattle.dn_parse.specs.Whole.{TextFault, block_fault, first_line, Frame, Blocks, Step, by_step, step, at_stop, judged, judge, without_frame, closed_block, line_of, line_at, reading, no_blocks_yet, last_line, too_long, bad_token, of_token_list, text_reading}
+use Rattle.dn_parse.specs.Whole.{TextFault, block_fault, first_line, Frame, Blocks, Step, by_step, step, before_begin, after_begin, at_stop, judged, judge, without_frame, closed_block, line_of, line_at, reading, no_blocks_yet, last_line, too_long, bad_token, of_token_list, text_reading}
 use Rattle.dn_parse.specs.Descent.{and_then, Read, or_refused, after_sign, sign_at, statement_at, whole_statement_at}
 use Rattle.dn_parse.specs.declared.cursor.Halt.{Halt}
 use Rattle.dn_parse.specs.declared.cursor.Halt.TheVariants.{Refused, Deep as DeepHalt, OutOfMemory as HaltMemory}
@@ -19,7 +19,8 @@ use Rattle.dn_parse.specs.declared.blocks.Frame.{Frame as CodeFrame}
 use Rattle.dn_parse.specs.declared.syntax.Tree.{Tree as CodeTree}
 use Rattle.dn_parse.specs.declared.reader.ParseFault.{ParseFault}
 use Rattle.dn_base.specs.Answers.{Answers}
-use Rattle.dn_parse.specs.Views.{frame_view, blocks_view, item_view, command_view, tree_view}
+use Rattle.dn_parse.specs.Views.{frame_view, blocks_view, item_view, tree_view}
+use Rattle.dn_parse.specs.Commands.{with_commands}
 use Rattle.dn_parse.specs.Faults.{halt_view, misplaced_view, parse_fault_view, halt_fault, misplaced_fault}
 use Rattle.dn_parse.proofs.Does.{DoesBy}
 use Rattle.dn_parse.proofs.Heads.{statement_does}
@@ -87,7 +88,7 @@ fault_halted last all b ts line (Refused n) s e = next_stop last all b ts line (
 fault_halted last all b ts line (DeepHalt n) s e = next_stop last all b ts line (deep n) s e
 fault_halted last all b ts line HaltMemory s e = tt
 
-pub step_going : {X : Type 0} (v : X → Blocks) (r : Result X Misplaced) (x : X) (s : Step) → Answers v misplaced_view r s → r ≡ Ok x → s ≡ Ok (v x)
+step_going : {X : Type 0} (v : X → Blocks) (r : Result X Misplaced) (x : X) (s : Step) → Answers v misplaced_view r s → r ≡ Ok x → s ≡ Ok (v x)
 step_going v (Ok y) x s h e = let same : y ≡ x = cc in h ∙ ap (λ z. Ok (v z)) same
 step_going v (Err m) x s h e = cc
 
@@ -96,24 +97,36 @@ misplaced_by Forbidden s line next h = ap (λ (x : Step). by_step x line next) h
 misplaced_by Crowded s line next h = ap (λ (x : Step). by_step x line next) h
 misplaced_by NoRoom s line next h = tt
 
-pub fault_misplaced : {X : Type 0} (v : X → Blocks) (last : ℕ) (all : List Token) (b : Blocks) (ts : List Token) (line : ℕ) (s : Statement) (after : List Token) (r : Result X Misplaced) (m : Misplaced) → first_line ts ≡ Some line → whole_statement_at ts ≡ Ok (s, after) → Answers v misplaced_view r (step b (record { line = line; statement = s })) → r ≡ Err m → IfSome (misplaced_fault m line) (λ f. judge last all b ts ≡ Err f)
+fault_misplaced : {X : Type 0} (v : X → Blocks) (last : ℕ) (all : List Token) (b : Blocks) (ts : List Token) (line : ℕ) (s : Statement) (after : List Token) (r : Result X Misplaced) (m : Misplaced) → first_line ts ≡ Some line → whole_statement_at ts ≡ Ok (s, after) → Answers v misplaced_view r (step b (record { line = line; statement = s })) → r ≡ Err m → IfSome (misplaced_fault m line) (λ f. judge last all b ts ≡ Err f)
 fault_misplaced {X} v last all b ts line s after r m h e st is =
     let stepped = subst (λ (x : Result X Misplaced). Answers v misplaced_view x (step b (record { line = line; statement = s }))) is st in
     subst (λ (q : Result Tree TextFault). IfSome (misplaced_fault m line) (λ f. q ≡ Err f)) (sym (next_step last all b ts line s after h e)) (misplaced_by m (step b (record { line = line; statement = s })) line (λ c. judge last all c after) stepped)
 
-pub placed_on : {X : Type 0} (v : X → Blocks) (last : ℕ) (all : List Token) (b : Blocks) (ts : List Token) (line : ℕ) (s : Statement) (after : List Token) (r : Result X Misplaced) (x : X) → first_line ts ≡ Some line → whole_statement_at ts ≡ Ok (s, after) → Answers v misplaced_view r (step b (record { line = line; statement = s })) → r ≡ Ok x → judge last all b ts ≡ judge last all (v x) after
+placed_on : {X : Type 0} (v : X → Blocks) (last : ℕ) (all : List Token) (b : Blocks) (ts : List Token) (line : ℕ) (s : Statement) (after : List Token) (r : Result X Misplaced) (x : X) → first_line ts ≡ Some line → whole_statement_at ts ≡ Ok (s, after) → Answers v misplaced_view r (step b (record { line = line; statement = s })) → r ≡ Ok x → judge last all b ts ≡ judge last all (v x) after
 placed_on v last all b ts line s after r x h e st is =
     next_step last all b ts line s after h e ∙ ap (λ (q : Step). by_step q line (λ d. judge last all d after)) (step_going v r x (step b (record { line = line; statement = s })) st is)
+
+-- the next statement before the commands
+before_steps : {X : Type 0} (v : X → Blocks) (r : Result X Misplaced) (b : Blocks) (line : ℕ) (s : Statement) → b.begun ≡ false → Answers v misplaced_view r (before_begin b line s) → Answers v misplaced_view r (step b (record { line = line; statement = s }))
+before_steps v r b line s g st =
+    let same : step b (record { line = line; statement = s }) ≡ before_begin b line s = ap (λ (t : Bool). cond t (after_begin b line s) (before_begin b line s)) g in
+    subst (λ (q : Step). Answers v misplaced_view r q) (sym same) st
+
+pub misplaced_before : {X : Type 0} (v : X → Blocks) (last : ℕ) (all : List Token) (b : Blocks) (ts : List Token) (line : ℕ) (s : Statement) (after : List Token) (r : Result X Misplaced) (m : Misplaced) → first_line ts ≡ Some line → whole_statement_at ts ≡ Ok (s, after) → b.begun ≡ false → Answers v misplaced_view r (before_begin b line s) → r ≡ Err m → IfSome (misplaced_fault m line) (λ f. judge last all b ts ≡ Err f)
+misplaced_before v last all b ts line s after r m h e g st is = fault_misplaced v last all b ts line s after r m h e (before_steps v r b line s g st) is
+
+pub placed_before : {X : Type 0} (v : X → Blocks) (last : ℕ) (all : List Token) (b : Blocks) (ts : List Token) (line : ℕ) (s : Statement) (after : List Token) (r : Result X Misplaced) (x : X) → first_line ts ≡ Some line → whole_statement_at ts ≡ Ok (s, after) → b.begun ≡ false → Answers v misplaced_view r (before_begin b line s) → r ≡ Ok x → judge last all b ts ≡ judge last all (v x) after
+placed_before v last all b ts line s after r x h e g st is = placed_on v last all b ts line s after r x h e (before_steps v r b line s g st) is
 
 -- the open blocks at the end
 reverse_none : (fs : List CodeFrame) → length fs ≡ 0 → reverse (map frame_view fs) ≡ []
 reverse_none [] e = refl
 reverse_none (f ∷ fs) e = absurd (omega arith)
 
-pub finished_seen : (b : CodeBlocks) (last : ℕ) (ts : List Token) → length b.frames.items ≡ 0 → at_stop whole last ts (blocks_view b) ≡ Ok (record { body = items (map item_view b.body.items); commands = map command_view b.commands })
-finished_seen b last ts e = finished_by (reverse (map frame_view b.frames.items)) (reverse_none b.frames.items e)
+pub finished_seen : (b : CodeBlocks) (cs : List Command) (last : ℕ) (ts : List Token) → length b.frames.items ≡ 0 → at_stop whole last ts (with_commands (blocks_view b) cs) ≡ Ok (record { body = items (map item_view b.body.items); commands = cs })
+finished_seen b cs last ts e = finished_by (reverse (map frame_view b.frames.items)) (reverse_none b.frames.items e)
   where
-    finished_by : (fs : List Frame) → fs ≡ [] → at_stop whole last ts (record { frames = fs; body = map item_view b.body.items; begun = b.begun; commands = map command_view b.commands }) ≡ Ok (record { body = items (map item_view b.body.items); commands = map command_view b.commands })
+    finished_by : (fs : List Frame) → fs ≡ [] → at_stop whole last ts (record { frames = fs; body = map item_view b.body.items; begun = b.begun; commands = cs }) ≡ Ok (record { body = items (map item_view b.body.items); commands = cs })
     finished_by [] e = refl
     finished_by (f ∷ fs) e = cc
 
@@ -124,8 +137,8 @@ unfinished_by b last ts h = go b.frames h
     go [] h = absurd (omega arith)
     go (f ∷ fs) h = refl
 
-pub unfinished_seen : (b : CodeBlocks) (last : ℕ) (ts : List Token) → 0 < length b.frames.items → at_stop whole last ts (blocks_view b) ≡ Err (block_fault last)
-unfinished_seen b last ts h = unfinished_by (blocks_view b) last ts (omega (arith, length-reverse (map frame_view b.frames.items), length-map b.frames.items frame_view))
+pub unfinished_seen : (b : CodeBlocks) (cs : List Command) (last : ℕ) (ts : List Token) → 0 < length b.frames.items → at_stop whole last ts (with_commands (blocks_view b) cs) ≡ Err (block_fault last)
+unfinished_seen b cs last ts h = unfinished_by (with_commands (blocks_view b) cs) last ts (omega (arith, length-reverse (map frame_view b.frames.items), length-map b.frames.items frame_view))
 
 -- the innermost block closed
 pub without_last : (b : Blocks) (front : List CodeFrame) (f : CodeFrame) (frames : List CodeFrame) → frames ≡ front ++ f ∷ [] → without_frame b (reverse (map frame_view frames)) ≡ Ok (record { frames = reverse (map frame_view front); body = (frame_view f).before ++ closed_block (frame_view f) b.body ∷ []; begun = b.begun; commands = b.commands })

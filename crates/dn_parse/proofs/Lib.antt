@@ -17,3 +17,4 @@ pub mod Does
 pub mod Readers
 pub mod Heads
 pub mod Judge
+pub mod Scripts

@@ -8,8 +8,8 @@ use Rattle.dn_parse.specs.declared.cursor.Halt.{Halt}
 use Rattle.dn_parse.specs.declared.cursor.Halt.TheVariants.{Refused, Deep, OutOfMemory as NoParts}
 use Rattle.dn_parse.specs.declared.blocks.Misplaced.{Misplaced}
 use Rattle.dn_parse.specs.declared.blocks.Misplaced.TheVariants.{Forbidden, Crowded, OutOfMemory as NoBlocks}
-use Rattle.dn_parse.specs.declared.reader.Trouble.{Trouble}
-use Rattle.dn_parse.specs.declared.reader.Trouble.TheVariants.{Halted, Misplaced as MisplacedAt}
+use Rattle.dn_parse.specs.declared.blocks.Trouble.{Trouble}
+use Rattle.dn_parse.specs.declared.blocks.Trouble.TheVariants.{Halted, Misplaced as MisplacedAt}
 use Rattle.dn_parse.specs.declared.reader.ParseFault.{ParseFault}
 use Rattle.dn_parse.specs.declared.reader.ParseFault.TheVariants.{Length, Token as BadToken, Statement, Block, Nesting, OutOfMemory}
 use Rattle.dn_token.specs.Token.{Token}

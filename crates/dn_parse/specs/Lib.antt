@@ -8,4 +8,6 @@ pub mod Machine
 pub mod Whole
 pub mod Laws
 pub mod Descent
+pub mod Commands
+pub mod Script
 pub mod Faults

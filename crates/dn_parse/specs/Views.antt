@@ -29,6 +29,7 @@ use Rattle.dn_parse.specs.declared.syntax.Stmt.TheOpen.{Stmt-F, Decl as StmtDecl
 use Rattle.dn_parse.specs.declared.syntax.Stmt.TheFolds.{fold-Stmt}
 use Rattle.dn_parse.specs.declared.syntax.Cmd.{Cmd as CodeCommand}
 use Rattle.dn_parse.specs.declared.syntax.Tree.{Tree as CodeTree}
+use Rattle.dn_parse.specs.Script.{script_view}
 use Rattle.dn_parse.specs.declared.blocks.Opener.{Opener as CodeOpener}
 use Rattle.dn_parse.specs.declared.blocks.Opener.TheVariants.{Module as OpenerModule, Loop as OpenerLoop}
 use Rattle.dn_parse.specs.declared.blocks.Frame.{Frame as CodeFrame}
@@ -157,7 +158,7 @@ command_view c = record { line = c.line; order = order_view c.order }
 
 -- the tree of a text
 abbrev pub tree_view : CodeTree → Tree
-tree_view s = record { body = items (map item_view s.body.items); commands = map command_view s.commands }
+tree_view s = record { body = items (map item_view s.body.items); commands = script_view s.commands }
 
 -- the open blocks: the code keeps the innermost last
 abbrev pub opener_view : CodeOpener → Opener
@@ -168,6 +169,6 @@ opener_view (OpenerLoop w from upto) = opens_loop w.now (expr_view from) (expr_v
 abbrev pub frame_view : CodeFrame → Frame
 frame_view f = record { line = f.line; opener = opener_view f.opener; before = map item_view f.before.items }
 
--- the open blocks, of which the code keeps the innermost last
+-- the blocks before the commands, of which the code keeps the innermost last
 abbrev pub blocks_view : CodeBlocks → Blocks
-blocks_view b = record { frames = reverse (map frame_view b.frames.items); body = map item_view b.body.items; begun = b.begun; commands = map command_view b.commands }
+blocks_view b = record { frames = reverse (map frame_view b.frames.items); body = map item_view b.body.items; begun = b.begun; commands = [] }

@@ -2,13 +2,14 @@
 
 ghost use Rattle.std.specs.Prelude.{◌≡◌, List, map, IfOk};
 ghost use Rattle.dn_parse.specs.Tree.{Item};
-ghost use Rattle.dn_parse.specs.Whole.{no_blocks_yet, closed_block, step, with_item, with_frame, with_begin, without_frame, outside_blocks, opens_module, before_begin, after_begin};
+ghost use Rattle.dn_parse.specs.Whole.{no_blocks_yet, closed_block, with_item, with_frame, with_begin, without_frame, outside_blocks, opens_module, before_begin};
 ghost use Rattle.dn_parse.specs.Views.{item_view, param_view, statement_view, opener_view, blocks_view};
 ghost use Rattle.dn_base.specs.Answers.{Answers};
 ghost use Rattle.dn_parse.specs.Faults.{misplaced_view};
 
+use crate::cursor::Halt;
 use crate::statements::Statement;
-use crate::syntax::{Body, Cmd, Expr, Param, Stmt};
+use crate::syntax::{Body, Expr, Param, Stmt};
 use dn_base::items::Items;
 use std::alloc::{AllocError, AllocFailed, Global};
 use std::mem;
@@ -35,7 +36,7 @@ pub struct Frame<'a> {
     pub before: Body<'a>,
 }
 
-/// What the statements so far came to.
+/// What the statements before the commands came to.
 #[derive(Drop)]
 pub struct Blocks<'a> {
     /// The open blocks, the innermost last.
@@ -44,7 +45,6 @@ pub struct Blocks<'a> {
     pub body: Body<'a>,
     /// Whether `begin` was there.
     pub begun: bool,
-    pub commands: Items<Cmd<'a>>,
 }
 
 /// Why a statement is not placed.
@@ -80,6 +80,13 @@ impl<T: Drop> From<AllocFailed<T>> for Misplaced {
     }
 }
 
+/// Why the statements are not all placed.
+pub enum Trouble {
+    Halted(Halt),
+    /// A statement is misplaced, which begins in this line.
+    Misplaced(Misplaced, u32),
+}
+
 /// The most blocks that may be open.
 const MOST_BLOCKS: usize = 16;
 
@@ -91,7 +98,6 @@ pub fn none<'a>(alloc: Global) -> Blocks<'a>
         frames: Vec::new(alloc),
         body: Vec::new(alloc),
         begun: false,
-        commands: Items::new(alloc),
     }
 }
 
@@ -209,8 +215,8 @@ fn put_begin<'a>(blocks: &mut Blocks<'a>) -> Result<(), Misplaced>
     Ok(())
 }
 
-/// A statement before `begin`.
-fn before_begin<'a>(
+/// Puts one statement more into the blocks, which begins in this line and stands before the commands.
+pub fn put_statement<'a>(
     alloc: Global,
     blocks: &mut Blocks<'a>,
     line: u32,
@@ -252,39 +258,5 @@ fn before_begin<'a>(
         Statement::End => close_frame(alloc, blocks),
         Statement::Begin => put_begin(blocks),
         Statement::Order(_) => Err(Misplaced::Forbidden),
-    }
-}
-
-/// A statement after `begin`.
-fn after_begin<'a>(
-    blocks: &mut Blocks<'a>,
-    line: u32,
-    statement: Statement<'a>,
-) -> Result<(), Misplaced>
-    ensures { Answers (λ _. blocks_view blocks.new) misplaced_view result
-        (after_begin (blocks_view blocks.old) line (statement_view statement.entry)) }
-{
-    let Statement::Order(order) = statement else {
-        return Err(Misplaced::Forbidden);
-    };
-    blocks.commands.push(Cmd { line, order })?;
-    Ok(())
-}
-
-/// Puts one statement more into the blocks, which begins in this line.
-pub fn put_statement<'a>(
-    alloc: Global,
-    blocks: &mut Blocks<'a>,
-    line: u32,
-    statement: Statement<'a>,
-) -> Result<(), Misplaced>
-    ensures { Answers (λ _. blocks_view blocks.new) misplaced_view result
-        (step (blocks_view blocks.old)
-        (record { line = line; statement = statement_view statement.entry })) }
-{
-    if blocks.begun {
-        after_begin(blocks, line, statement)
-    } else {
-        before_begin(alloc, blocks, line, statement)
     }
 }

@@ -4,6 +4,7 @@ ghost use Rattle.std.specs.Prelude.{◌≡◌, ◌∷◌, [], ◌<◌, length, o
 ghost use Rattle.dn_token.specs.Cursor.{cursor_view};
 ghost use Rattle.dn_parse.specs.declared.cursor.Halt.TheVariants.{Refused};
 ghost use Rattle.dn_token.specs.Lexing.{token_view};
+ghost use Rattle.dn_parse.specs.Whole.{first_line};
 ghost use Rattle.dn_parse.specs.Descent.{after_sign, after_keyword, after_word, sign_at, keyword_at, the_word_at, word_at};
 ghost use Rattle.dn_base.specs.Answers.{Answers};
 ghost use Rattle.dn_parse.specs.Faults.{halt_view, Reads, IsShorter};
@@ -59,6 +60,14 @@ pub fn next<'a>(tokens: Cursor<'a>) -> Option<(Token<'a>, Cursor<'a>)>
 {
     let token = tokens.peek()?;
     Some((token, tokens.advance()))
+}
+
+/// The line of the next token.
+pub fn first_line<'a>(tokens: Cursor<'a>) -> Option<u32>
+    ensures { result ≡ first_line (cursor_view tokens.entry) }
+{
+    let token = tokens.peek()?;
+    Some(token.line)
 }
 
 /// The tokens after this sign, if it is the next token.

@@ -12,5 +12,6 @@ pub mod few;
 pub mod laws;
 mod nodes;
 pub mod reader;
+pub mod script;
 mod statements;
 pub mod syntax;

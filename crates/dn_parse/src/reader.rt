@@ -1,21 +1,22 @@
 //! The reading of a whole text: its tree, or the first fault with its line.
 
-ghost use Rattle.std.specs.Prelude.{◌≡◌, ◌∷◌, [], ◌+◌, ◌^◌, ◌<◌, List, ℕ, length, Some, Err, IfSome, IfOk, IfErr, MatchOption};
+ghost use Rattle.std.specs.Prelude.{◌≡◌, ◌∷◌, [], ◌+◌, ◌^◌, ◌<◌, List, ℕ, length, false, Some, Err, IfSome, IfOk, IfErr, MatchOption};
 ghost use Rattle.dn_token.specs.Cursor.{cursor_view};
 ghost use Rattle.dn_token.specs.Token.{Token as SpecToken};
 ghost use Rattle.dn_parse.specs.Machine.{whole};
 ghost use Rattle.dn_parse.specs.Whole.{line_at, last_line, first_line, at_stop, judge, no_blocks_yet, text_reading};
-ghost use Rattle.dn_parse.specs.Descent.{whole_statement_at};
-ghost use Rattle.dn_parse.specs.Views.{statement_view, blocks_view, tree_view};
+ghost use Rattle.dn_parse.specs.Commands.{with_commands};
+ghost use Rattle.dn_parse.specs.Views.{blocks_view, tree_view};
+ghost use Rattle.dn_parse.specs.Script.{script_view};
 ghost use Rattle.dn_base.specs.Answers.{Answers};
 ghost use Rattle.dn_parse.specs.Faults.{parse_fault_view, halt_fault, misplaced_fault, trouble_view, Reads, IsShorter};
 
-use crate::blocks::{Blocks, Misplaced, none, put_statement};
-use crate::cursor::{Halt, Read, sign};
-use crate::statements::{Statement, read_statement};
+use crate::blocks::{Blocks, Misplaced, Trouble, none, put_statement};
+use crate::cursor::{Halt, first_line};
+use crate::script::Script;
+use crate::statements::whole_statement;
 use crate::syntax::Tree;
 use dn_token::cursor::Cursor;
-use dn_token::token::Sign;
 use std::alloc::Global;
 use thiserror::Error;
 
@@ -115,17 +116,6 @@ fn fault_of<'a>(halt: Halt, tokens: Cursor<'a>, last: u32) -> ParseFault
     }
 }
 
-/// A statement and its `;`.
-#[tactic(auto, unfolding(crate::specs::Descent::whole_statement_at))]
-fn whole_statement<'a>(alloc: Global, tokens: Cursor<'a>) -> Read<'a, Statement<'a>>
-    ensures gives { Reads statement_view result (whole_statement_at (cursor_view tokens.entry)) }
-    ensures shorter { IfOk result (λ p. IsShorter p.1 tokens.entry) }
-{
-    let (statement, rest) = read_statement(alloc, tokens)?;
-    let rest = sign(rest, Sign::Semicolon)?;
-    Ok((statement, rest))
-}
-
 /// The fault of a statement that is misplaced.
 fn misplaced_fault(misplaced: Misplaced, line: u32) -> ParseFault
     ensures { parse_fault_view result ≡ misplaced_fault misplaced line }
@@ -137,29 +127,16 @@ fn misplaced_fault(misplaced: Misplaced, line: u32) -> ParseFault
     }
 }
 
-/// Why the statements are not all placed.
-enum Trouble {
-    Halted(Halt),
-    /// A statement is misplaced, which begins in this line.
-    Misplaced(Misplaced, u32),
-}
-
-/// The line of the next token.
-fn first_line<'a>(tokens: Cursor<'a>) -> Option<u32>
-    ensures { result ≡ first_line (cursor_view tokens.entry) }
-{
-    let token = tokens.peek()?;
-    Some(token.line)
-}
-
-/// Puts the next statement into the blocks, which begins in this line, and gives the tokens after it.
+/// Puts the next statement into the blocks, which begins in this line and stands before the commands,
+/// and gives the tokens after it.
 fn put_next<'a>(
     alloc: Global,
     blocks: &mut Blocks<'a>,
     rest: Cursor<'a>,
     line: u32,
 ) -> Result<Cursor<'a>, Trouble>
-    requires { first_line (cursor_view rest) ≡ Some line }
+    requires begins { first_line (cursor_view rest) ≡ Some line }
+    requires before { blocks.old.begun ≡ false }
     ensures ok { IfOk result (λ after. (last : ℕ) (all : List SpecToken) →
         judge last all (blocks_view blocks.old) (cursor_view rest.entry)
         ≡ judge last all (blocks_view blocks.new) (cursor_view after)) }
@@ -177,34 +154,60 @@ fn put_next<'a>(
     }
 }
 
-/// The blocks that the tokens come to, up to their end.
-fn all_placed<'a>(alloc: Global, tokens: Cursor<'a>) -> Result<Blocks<'a>, Trouble>
-    ensures ok { IfOk result (λ b. (last : ℕ) (all : List SpecToken) →
+/// The blocks that the tokens come to, up to `begin` or to their end, and the tokens behind.
+fn blocks_before<'a>(alloc: Global, tokens: Cursor<'a>) -> Result<(Blocks<'a>, Cursor<'a>), Trouble>
+    ensures ok { IfOk result (λ p. (last : ℕ) (all : List SpecToken) →
         judge last all no_blocks_yet (cursor_view tokens.entry)
-        ≡ at_stop whole last all (blocks_view b)) }
+        ≡ judge last all (blocks_view p.0) (cursor_view p.1)) }
+    ensures ended { IfOk result (λ p. p.0.begun ≡ false → cursor_view p.1 ≡ []) }
     ensures err { IfErr result (λ e. (last : ℕ) (all : List SpecToken) →
         IfSome (trouble_view e last all)
         (λ f. judge last all no_blocks_yet (cursor_view tokens.entry) ≡ Err f)) }
 {
     let mut blocks = none(alloc);
     let mut rest = tokens;
-    'statements: while let Some(line) = first_line(rest) {
+    'statements: while !blocks.begun {
+        let Some(line) = first_line(rest) else {
+            return Ok((blocks, rest));
+        };
         rest = put_next(alloc, &mut blocks, rest, line)?;
     }
-    Ok(blocks)
+    Ok((blocks, rest))
+}
+
+/// The blocks and the commands that the tokens come to.
+fn all_placed<'a>(alloc: Global, tokens: Cursor<'a>) -> Result<(Blocks<'a>, Script<'a>), Trouble>
+    ensures ok { IfOk result (λ p. (last : ℕ) (all : List SpecToken) →
+        judge last all no_blocks_yet (cursor_view tokens.entry)
+        ≡ at_stop whole last all (with_commands (blocks_view p.0) (script_view p.1))) }
+    ensures err { IfErr result (λ e. (last : ℕ) (all : List SpecToken) →
+        IfSome (trouble_view e last all)
+        (λ f. judge last all no_blocks_yet (cursor_view tokens.entry) ≡ Err f)) }
+{
+    let (blocks, rest) = blocks_before(alloc, tokens)?;
+    if !blocks.begun {
+        return Ok((blocks, Script::none(rest)));
+    }
+    let commands = Script::new(alloc, rest)?;
+    Ok((blocks, commands))
 }
 
 /// The tree, where no block is open at the end.
-fn finished_tree<'a>(blocks: Blocks<'a>, last: u32) -> Result<Tree<'a>, ParseFault>
-    ensures { (all : List SpecToken) →
-        Answers tree_view parse_fault_view result (at_stop whole last all (blocks_view blocks.entry)) }
+fn finished_tree<'a>(
+    blocks: Blocks<'a>,
+    commands: Script<'a>,
+    last: u32,
+) -> Result<Tree<'a>, ParseFault>
+    ensures { (all : List SpecToken) → Answers tree_view parse_fault_view result
+        (at_stop whole last all
+        (with_commands (blocks_view blocks.entry) (script_view commands.entry))) }
 {
     if !blocks.frames.is_empty() {
         return Err(ParseFault::Block { line: last });
     }
     Ok(Tree {
         body: blocks.body,
-        commands: blocks.commands,
+        commands,
     })
 }
 
@@ -214,7 +217,7 @@ fn statements<'a>(alloc: Global, tokens: Cursor<'a>, last: u32) -> Result<Tree<'
         (judge last (cursor_view tokens.entry) no_blocks_yet (cursor_view tokens.entry)) }
 {
     match all_placed(alloc, tokens) {
-        Ok(blocks) => finished_tree(blocks, last),
+        Ok((blocks, commands)) => finished_tree(blocks, commands, last),
         Err(Trouble::Halted(halt)) => Err(fault_of(halt, tokens, last)),
         Err(Trouble::Misplaced(misplaced, line)) => Err(misplaced_fault(misplaced, line)),
     }

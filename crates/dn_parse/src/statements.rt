@@ -2,8 +2,9 @@
 
 ghost use Rattle.std.specs.Prelude.{◌≡◌, ◌<◌, map, IfOk, IfSome};
 ghost use Rattle.dn_token.specs.Cursor.{cursor_view};
-ghost use Rattle.dn_parse.specs.Views.{expr_view, name_view, param_view, arg_view, role_view, declaration_view, order_view, statement_view};
-ghost use Rattle.dn_parse.specs.Descent.{any_word_at, param_at, next_param_at, params_at, closed_params_at, arg_at, next_arg_at, args_at, closed_args_at, next_port_at, ports_at, node_at, measure_at, unit_at, module_at, use_at, loop_at, mode_at, access_at, resolve_at, lookup_at, view_at, grant_at, route_at, order_at, keyword_statement_at, statement_at};
+ghost use Rattle.dn_parse.specs.Views.{expr_view, name_view, param_view, arg_view, role_view, declaration_view, order_view, statement_view, command_view};
+ghost use Rattle.dn_parse.specs.Descent.{any_word_at, param_at, next_param_at, params_at, closed_params_at, arg_at, next_arg_at, args_at, closed_args_at, next_port_at, ports_at, node_at, measure_at, unit_at, module_at, use_at, loop_at, mode_at, access_at, resolve_at, lookup_at, view_at, grant_at, route_at, order_at, keyword_statement_at, statement_at, whole_statement_at};
+ghost use Rattle.dn_parse.specs.Commands.{command_at};
 ghost use Rattle.dn_parse.specs.Faults.{Reads, ReadsNext, IsShorter};
 
 use crate::cursor::{
@@ -12,7 +13,7 @@ use crate::cursor::{
 use crate::expressions::expr;
 use crate::nodes::{name, spec};
 use crate::syntax::{
-    Arg, Decl, DeclRole, Expr, GrantExpr, Mode, NameExpr, Order, Param, RouteExpr, UnitExpr,
+    Arg, Cmd, Decl, DeclRole, Expr, GrantExpr, Mode, NameExpr, Order, Param, RouteExpr, UnitExpr,
 };
 use dn_base::items::Items;
 use dn_token::cursor::Cursor;
@@ -467,7 +468,7 @@ fn keyword_statement<'a>(
 
 /// A statement, up to its `;`.
 #[tactic(auto, unfolding(crate::specs::Descent::statement_at))]
-pub fn read_statement<'a>(alloc: Global, tokens: Cursor<'a>) -> Read<'a, Statement<'a>>
+fn read_statement<'a>(alloc: Global, tokens: Cursor<'a>) -> Read<'a, Statement<'a>>
     ensures gives { Reads statement_view result (statement_at (cursor_view tokens.entry)) }
 {
     let Some(token) = tokens.peek() else {
@@ -480,5 +481,29 @@ pub fn read_statement<'a>(alloc: Global, tokens: Cursor<'a>) -> Read<'a, Stateme
         }
         Lexeme::Keyword(word) => keyword_statement(alloc, word, tokens, tokens.advance()),
         _ => Err(refusal(tokens)),
+    }
+}
+
+/// A statement and its `;`.
+#[tactic(auto, unfolding(crate::specs::Descent::whole_statement_at))]
+pub fn whole_statement<'a>(alloc: Global, tokens: Cursor<'a>) -> Read<'a, Statement<'a>>
+    ensures gives { Reads statement_view result (whole_statement_at (cursor_view tokens.entry)) }
+    ensures shorter { IfOk result (λ p. IsShorter p.1 tokens.entry) }
+{
+    let (statement, rest) = read_statement(alloc, tokens)?;
+    let rest = sign(rest, Sign::Semicolon)?;
+    Ok((statement, rest))
+}
+
+/// A command with its `;`, which begins in this line; or nothing, where the statement there is none.
+#[tactic(auto, unfolding(crate::specs::Commands::command_at))]
+pub fn command<'a>(alloc: Global, tokens: Cursor<'a>, line: u32) -> Next<'a, Cmd<'a>>
+    ensures gives { ReadsNext command_view result (command_at line (cursor_view tokens.entry)) }
+    ensures shorter { IfOk result (λ o. IfSome o (λ p. IsShorter p.1 tokens.entry)) }
+{
+    let (statement, rest) = whole_statement(alloc, tokens)?;
+    match statement {
+        Statement::Order(order) => Ok(Some((Cmd { line, order }, rest))),
+        _ => Ok(None),
     }
 }

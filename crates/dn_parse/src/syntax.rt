@@ -1,13 +1,14 @@
 //! The tree of a text of the whole language. Its words are pieces of the text.
 
 use crate::few::Few;
+use crate::script::Script;
 use dn_base::items::Items;
 
 /// A text: its statements before `begin`, and its commands.
 #[derive(Drop)]
 pub struct Tree<'a> {
     pub body: Body<'a>,
-    pub commands: Items<Cmd<'a>>,
+    pub commands: Script<'a>,
 }
 
 /// The statements of a text, of a module or of a loop, in their order.

@@ -34,7 +34,7 @@ use Rattle.dn_tool.specs.Halt.{ending_status, is_device_halt, is_write_halt, mak
 use Rattle.dn_tool.specs.Played.{IsPlayed, device_tables}
 use Rattle.dn_tool.specs.State.{CameThrough, IsChanged, IsTurned}
 use Rattle.dn_tool.specs.Turn.{IsTurn, State, Turn, answered, is_change, reply, start, state_after}
-use Rattle.dn_tool.proofs.Played.{IsGone, device_told, gone_more, gone_start, halted_by, more_turns, played_whole, turns_count, unmade_by, whole_turns}
+use Rattle.dn_tool.proofs.Played.{IsGone, device_told, gone_more, gone_start, halted_by, halted_unmade, more_turns, played_whole, turns_count, unmade_by, whole_turns}
 
 -- the unit that a net tells of a node
 pub unit_told : (net : List NodeDecl) (node : ℕ) (o : Option UnitPart) → option_map (λ d. d.unit) (slice_get net node) ≡ Some o → unit_at net node ≡ o
@@ -219,6 +219,14 @@ shown_halted kinds net agents commands i c s next r halt ended before log log' l
     either WriteFault e = cc
     either DeviceFault e = inl refl
     either NoMemory e = inr refl
+
+-- there was no memory to make a command
+pub shown_unread : (kinds : List Meaning) (net : List NodeDecl) (agents : ℕ) (commands : List Command) (i : ℕ) (s : State) (ended : Result ℕ Halt) (before : Option (List ℕ)) (log log' : Option (List TableEvent)) (told' : Option (List UnitWords)) (granted revoked : ℕ) → ended ≡ Err NoMemory → i ≤ length commands → IsTallied kinds net commands i s log log' granted revoked → IsShown kinds net agents commands (ending_status ended) before before log log' told'
+shown_unread kinds net agents commands i s ended before log log' told' granted revoked by within f = inr (record {
+  played = halted_unmade kinds net commands i s ended None None log log' told' by within f.gone;
+  why = inr (ap ending_status by);
+  unwritten = refl;
+})
 
 -- how a run ends that wrote its line
 abbrev pub line_status : Result (Unit {0}) Halt → ℕ

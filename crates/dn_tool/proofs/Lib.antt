@@ -10,6 +10,7 @@ pub mod WalkFaults
 pub mod Written
 pub mod Empty
 pub mod Played
+pub mod Places
 pub mod Viewed
 pub mod Lookups
 pub mod Unanswered

@@ -328,6 +328,11 @@ halted_by {X} kinds net commands i c s next r halt ended a b d log log' log'' to
         played_before kinds net commands i (ending_status (Err halt)) s a d log log'' told' (omega (arith, within)) (ap (λ (h : Halt). ending_status (Err h)) z.memory) here
     go (inr z) = played_in kinds net commands i (ending_status (Err halt)) s c z.turn a b d log log' log'' told' within at (free halt) (going halt) g z.is_turn z.came
 
+-- it stopped for want of memory, before a command was made
+pub halted_unmade : (kinds : List Meaning) (net : List NodeDecl) (commands : List Command) (i : ℕ) (s : State) (ended : Result ℕ Halt) (a b : Option (List ℕ)) (log log' : Option (List TableEvent)) (told' : Option (List UnitWords)) → ended ≡ Err NoMemory → i ≤ length commands → IsGone kinds net commands i s a b log log' → IsPlayed kinds net commands (ending_status ended) a b log log' told'
+halted_unmade kinds net commands i s ended a b log log' told' by within g =
+    subst (λ (e : Result ℕ Halt). IsPlayed kinds net commands (ending_status e) a b log log' told') (sym by) (played_before kinds net commands i 7 s a b log log' told' within refl g)
+
 -- the turns of what was gone through
 
 pub more_turns : (kinds : List Meaning) (net : List NodeDecl) (commands : List Command) (i : ℕ) (s : State) (c : Command) (t : Turn) (a b d : Option (List ℕ)) (log log' log'' : Option (List TableEvent)) (g : IsGone kinds net commands i s a b log log') (within : i < length commands) (at : c ≡ get_or commands i c) (is : IsTurn kinds net s c t) (owed : GivesOwed kinds net t.next.book) (w : Added b d t.reply) (l : Logged log' log'' t.events) → (gone_more kinds net commands i s c t a b d log log' log'' g within at is owed w l).turns ≡ g.turns ++ t ∷ []

@@ -17,7 +17,7 @@ use crate::refusal;
 use crate::refusal::Refusal;
 use dn_kind::kinds::Kinds;
 use dn_kind::units;
-use dn_module::command::Commands;
+use dn_module::commands::Commands;
 use dn_module::expand;
 use dn_module::expand::Expanded;
 use dn_net::net::Net;
@@ -40,16 +40,16 @@ pub enum CompileFault {
 ///
 /// The net is legal, the walks are its live walks, and each node that a command names is there.
 #[derive(Drop)]
-pub struct Platform {
+pub struct Platform<'a> {
     /// The net.
     pub net: Net,
     /// The live walks of the net.
     pub walks: WalkTable,
-    /// The commands, in order.
-    pub commands: Commands,
+    /// The commands, in order, of which none is kept.
+    pub commands: Commands<'a>,
 }
 
-impl Model for Platform {
+impl<'a> Model for Platform<'a> {
     ghost use Rattle.dn_tool.specs.Platform.{IsPlatform, PlatformState};
 
     ghost Value = { PlatformState };
@@ -59,7 +59,7 @@ impl Model for Platform {
     ghost invariant = { λ p. IsPlatform (record { net = p.net; walks = p.walks; commands = p.commands }) };
 }
 
-impl Platform {
+impl<'a> Platform<'a> {
     /// What every platform is, for a proof of its caller. It does nothing.
     pub fn facts(&self)
         ensures { IsPlatform self.now }
@@ -70,7 +70,11 @@ impl Platform {
 
 /// Compiles a text, where these kinds of units are known. It is refused exactly where it breaks a
 /// rule.
-pub fn compile(alloc: Global, text: &[u8], kinds: &Kinds) -> Result<Platform, CompileFault>
+pub fn compile<'a>(
+    alloc: Global,
+    text: &'a [u8],
+    kinds: &Kinds,
+) -> Result<Platform<'a>, CompileFault>
     requires few_kinds { length kinds.now.list.items ≤ 255 }
     requires lawful { All (λ k. IsLawful (meaning (k.vtable, k.value))) kinds.now.list.items }
     ensures answer { Answers platform_view compile_fault_view result
@@ -90,7 +94,11 @@ pub fn compile(alloc: Global, text: &[u8], kinds: &Kinds) -> Result<Platform, Co
 
 /// The platform of a net and its commands, where the net keeps the node rules, the rule on the shape
 /// of units and the rules on walks.
-fn platform_of(alloc: Global, expanded: Expanded, kinds: &Kinds) -> Result<Platform, CompileFault>
+fn platform_of<'a>(
+    alloc: Global,
+    expanded: Expanded<'a>,
+    kinds: &Kinds,
+) -> Result<Platform<'a>, CompileFault>
     requires lawful { All (λ k. IsLawful (meaning (k.vtable, k.value))) kinds.now.list.items }
     requires closed { IsTrue (is_closed expanded.net) }
     requires known { IsTrue (list_all (names_within (length expanded.net)) expanded.commands) }

@@ -67,12 +67,19 @@ pub(crate) fn run_demo<K: Sink, D: Tables>(
     let mut state = State::make(alloc, kinds, platform, device)?;
     let mut granted = 0;
     let mut revoked = 0;
-    for command in platform.commands.as_slice() {
+    // No count passes the number of commands.
+    let _most = platform.commands.len();
+    let mut rest = platform.commands.cursor();
+    'commands: while let Some(command) = rest.next(alloc)? {
         let before = state.book.grants().len();
-        play(alloc, kinds, platform, &mut state, command, device)?;
+        let ended = play(alloc, kinds, platform, &mut state, &command, device);
         let after = state.book.grants().len();
-        granted = counted(granted, has_granted(command, before, after));
-        revoked = counted(revoked, has_revoked(command, before, after));
+        let grants = has_granted(&command, before, after);
+        let revokes = has_revoked(&command, before, after);
+        drop(command);
+        ended?;
+        granted = counted(granted, grants);
+        revoked = counted(revoked, revokes);
     }
     write_summary(
         alloc, agents, kinds, platform, &mut state, granted, revoked, sink,

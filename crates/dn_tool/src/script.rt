@@ -56,8 +56,11 @@ pub(crate) fn run_script<K: Sink, D: Tables>(
 {
     platform.facts();
     let mut state = State::make(alloc, kinds, platform, device)?;
-    for command in platform.commands.as_slice() {
-        answer(alloc, kinds, platform, &mut state, command, sink, device)?;
+    let mut rest = platform.commands.cursor();
+    'commands: while let Some(command) = rest.next(alloc)? {
+        let ended = answer(alloc, kinds, platform, &mut state, &command, sink, device);
+        drop(command);
+        ended?;
     }
     Ok(DONE)
 }

@@ -10,7 +10,7 @@ use std::alloc::Global;
 use std::test::Fail;
 
 /// What a text that is well formed expands to, or the first fault.
-fn expanded(alloc: Global, text: &str) -> Result<Result<Expanded, ExpandFault>, Fail> {
+fn expanded<'a>(alloc: Global, text: &'a str) -> Result<Result<Expanded<'a>, ExpandFault>, Fail> {
     let tree = read(alloc, text.as_bytes())?;
     Ok(expand(alloc, &tree, &Kinds::none(alloc)))
 }
@@ -18,10 +18,13 @@ fn expanded(alloc: Global, text: &str) -> Result<Result<Expanded, ExpandFault>, 
 /// The address that the command `resolve` has in a text without nodes.
 fn asked(alloc: Global, text: &str) -> Result<Result<u64, ExpandFault>, Fail> {
     match expanded(alloc, text)? {
-        Ok(made) => match made.commands.as_slice().first() {
-            Some(Command::Resolve(_, addr, _)) => Ok(Ok(*addr)),
-            _ => Ok(Err(ExpandFault::OutOfMemory)),
-        },
+        Ok(made) => {
+            let mut rest = made.commands.cursor();
+            match rest.next(alloc)? {
+                Some(Command::Resolve(_, addr, _)) => Ok(Ok(addr)),
+                _ => Ok(Err(ExpandFault::OutOfMemory)),
+            }
+        }
         Err(fault) => Ok(Err(fault)),
     }
 }

@@ -1,14 +1,17 @@
-use Rattle.std.proofs.Common.{rules, ◌≡◌, ◌∙◌, ◌+◌, ◌<◌, ◌≤◌, if◌then◌else◌, ap, sym, subst, map, List, Bool, length, get_or, Err, arith}
+use Rattle.std.proofs.Common.{rules, ◌≡◌, ◌∙◌, ◌+◌, ◌<◌, ◌≤◌, if◌then◌else◌, [], ◌∷◌, ap, sym, subst, map, List, Bool, length, MatchOption, IsTrue, ℕ, Err, arith}
 use Rattle.dn_base.proofs.Counts.{counted_then}
 use Rattle.dn_kind.specs.Kind.{Meaning}
 use Rattle.dn_tables.proofs.Slots.{all_of_map}
 use Rattle.dn_book.specs.declared.grant.Grant.{Grant}
+use Rattle.dn_module.specs.declared.command.Command.{Command}
+use Rattle.dn_tool.specs.declared.halt.Halt.TheVariants.{NoMemory}
 use Rattle.dn_tool.specs.Books.{GivesOwed}
 use Rattle.dn_tool.specs.Demo.{has_granted, has_revoked}
 use Rattle.dn_tool.specs.Halt.{ending_status, make_halt}
 use Rattle.dn_tool.specs.State.{state_view}
 use Rattle.dn_tool.specs.Turn.{State}
-use Rattle.dn_tool.proofs.Demos.{IsTallied, line_status, one_at_most, shown_halted, shown_unmade, shown_written, tallied_more, tallied_start}
+use Rattle.dn_tool.proofs.Demos.{IsTallied, line_status, one_at_most, shown_halted, shown_unmade, shown_unread, shown_written, tallied_more, tallied_start}
+use Rattle.dn_tool.proofs.Places.{IsNext, first_place, first_rest, last_place, next_of, place}
 use Rattle.dn_tool.proofs.Kept.{legal_with, state_owed}
 use Rattle.dn_tool.proofs.demo.run_demo.Goals as goal
 
@@ -18,81 +21,97 @@ returns-in_err-state-clause-shown g c =
     let ended : c.from_residual.result ≡ Err (make_halt c.in_err-state.field-0.0) = search rules in
     shown_unmade kinds c.args.platform.now.net c.args.agents c.args.platform.now.commands c.make.result c.in_err-state.field-0.0 c.from_residual.result _ _ _ _ _ _ c.in_err-state.was ended c.make.ensures.made
 
-pub loop-command-init : goal.loop-command-init
-loop-command-init g c =
+pub commands-init : goal.commands-init
+commands-init g c =
     let kinds : List Meaning = map (λ k. (goal.UnitKind-dyn g (k.vtable, k.value)).meaning k.value) c.args.kinds.now.list.items in
     let net = c.args.platform.now.net in
-    let cs = c.args.platform.now.commands in
+    let cs : List Command = c.args.platform.now.commands in
+    let all : c.cursor.result ≡ cs = search rules in
+    let none : place cs c.cursor.result ≡ 0 = first_place cs c.cursor.result all in
     let owed = state_owed kinds net c.in_ok-state.state (all_of_map _ c.args.kinds.now.list.items c.requires.lawful) (legal_with kinds net c.requires.shaped c.facts.ensures.walked.legal) c.in_ok-state.ensures.state in
+    let tallied = subst (λ (s : State). IsTallied kinds net cs 0 s (g.D.Tables.log c.args.device.now) (g.D.Tables.log c.make.new.device) 0 0) (sym c.in_ok-state.ensures.start) (tallied_start kinds net cs _ _ _ _ _ (subst (λ (s : State). GivesOwed kinds net s.book) c.in_ok-state.ensures.start owed) c.in_ok-state.ensures.made) in
     record {
-      few = omega arith;
+      behind = first_rest cs c.cursor.result all;
       few_granted = omega arith;
       few_revoked = omega arith;
       state = c.in_ok-state.ensures.state;
       on_device = c.in_ok-state.ensures.on_device;
-      tallied = subst (λ (s : State). IsTallied kinds net cs 0 s (g.D.Tables.log c.args.device.now) (g.D.Tables.log c.make.new.device) 0 0) (sym c.in_ok-state.ensures.start) (tallied_start kinds net cs _ _ _ _ _ (subst (λ (s : State). GivesOwed kinds net s.book) c.in_ok-state.ensures.start owed) c.in_ok-state.ensures.made);
+      tallied = subst (λ (i : ℕ). IsTallied kinds net cs i (state_view c.in_ok-state.state) (g.D.Tables.log c.args.device.now) (g.D.Tables.log c.make.new.device) 0 0) (sym none) tallied;
       device_counted = c.in_ok-state.ensures.counted;
     }
 
-pub returns-in_err-play-clause-shown : goal.returns-in_err-play-clause-shown
-returns-in_err-play-clause-shown g c =
+pub returns-in_err-command-clause-shown : goal.returns-in_err-command-clause-shown
+returns-in_err-command-clause-shown g c =
     let kinds : List Meaning = map (λ k. (goal.UnitKind-dyn g (k.vtable, k.value)).meaning k.value) c.args.kinds.now.list.items in
-    let cs = c.args.platform.now.commands in
-    let i = c.loop-command.command-index in
-    let within : i < length cs = search rules in
-    let at : c.command-item.result ≡ get_or cs i c.command-item.result = search rules in
-    let ended : c.from_residual-in_err-play.result ≡ Err c.in_err-play.field-0.0 = search rules in
-    shown_halted kinds c.args.platform.now.net c.args.agents cs i c.command-item.result (state_view c.loop-command.state) (state_view c.play.new.state) c.play.result c.in_err-play.field-0.0 c.from_residual-in_err-play.result _ _ _ _ _ c.loop-command.granted c.loop-command.revoked c.in_err-play.was ended c.play.ensures.no_write within at c.loop-command.invariant.tallied c.play.ensures.through
+    let cs : List Command = c.args.platform.now.commands in
+    let ended : c.from_residual-in_err-command.result ≡ Err NoMemory = search rules in
+    shown_unread kinds c.args.platform.now.net c.args.agents cs (place cs c.commands.rest) (state_view c.commands.state) c.from_residual-in_err-command.result _ _ _ _ c.commands.granted c.commands.revoked ended (omega arith) c.commands.invariant.tallied
 
-pub loop-command-preserved : goal.loop-command-preserved
-loop-command-preserved g c =
+pub returns-in_err-ended-clause-shown : goal.returns-in_err-ended-clause-shown
+returns-in_err-ended-clause-shown g c =
+    let kinds : List Meaning = map (λ k. (goal.UnitKind-dyn g (k.vtable, k.value)).meaning k.value) c.args.kinds.now.list.items in
+    let cs : List Command = c.args.platform.now.commands in
+    let next : c.commands.rest ≡ c.in-Some.command ∷ c.next.new.self = subst (λ o. MatchOption o ((c.commands.rest ≡ []) × (c.next.new.self ≡ [])) (λ d. c.commands.rest ≡ d ∷ c.next.new.self)) c.in-Some.is c.in_ok-command.ensures.next in
+    let at : IsNext cs c.commands.rest c.next.new.self c.in-Some.command = next_of cs c.commands.rest c.next.new.self c.in-Some.command c.commands.invariant.behind next in
+    let ended : c.from_residual-in_err-ended.result ≡ Err c.in_err-ended.field-0.0 = search rules in
+    shown_halted kinds c.args.platform.now.net c.args.agents cs (place cs c.commands.rest) c.in-Some.command (state_view c.commands.state) (state_view c.play.new.state) c.play.result c.in_err-ended.field-0.0 c.from_residual-in_err-ended.result _ _ _ _ _ c.commands.granted c.commands.revoked c.in_err-ended.was ended c.play.ensures.no_write at.within at.at c.commands.invariant.tallied c.play.ensures.through
+
+pub commands-preserved : goal.commands-preserved
+commands-preserved g c =
     let kinds : List Meaning = map (λ k. (goal.UnitKind-dyn g (k.vtable, k.value)).meaning k.value) c.args.kinds.now.list.items in
     let net = c.args.platform.now.net in
-    let cs = c.args.platform.now.commands in
-    let i = c.loop-command.command-index in
-    let within : i < length cs = search rules in
-    let at : c.command-item.result ≡ get_or cs i c.command-item.result = search rules in
-    let command = c.command-item.result in
-    let before : List Grant = c.loop-command.state.book.grants in
+    let cs : List Command = c.args.platform.now.commands in
+    let i : ℕ = place cs c.commands.rest in
+    let next : c.commands.rest ≡ c.in-Some.command ∷ c.next.new.self = subst (λ o. MatchOption o ((c.commands.rest ≡ []) × (c.next.new.self ≡ [])) (λ d. c.commands.rest ≡ d ∷ c.next.new.self)) c.in-Some.is c.in_ok-command.ensures.next in
+    let at : IsNext cs c.commands.rest c.next.new.self c.in-Some.command = next_of cs c.commands.rest c.next.new.self c.in-Some.command c.commands.invariant.behind next in
+    let further : place cs c.next.new.self ≡ i + 1 = at.next in
+    let command = c.in-Some.command in
+    let before : List Grant = c.commands.state.book.grants in
     let after : List Grant = c.play.new.state.book.grants in
     let legal = legal_with kinds net c.requires.shaped c.facts.ensures.walked.legal in
-    let owed = state_owed kinds net c.play.new.state (all_of_map _ c.args.kinds.now.list.items c.requires.lawful) legal c.in_ok-play.ensures.state in
+    let owed = state_owed kinds net c.play.new.state (all_of_map _ c.args.kinds.now.list.items c.requires.lawful) legal c.in_ok-ended.ensures.state in
     let lived : c.len-before.result ≡ length before = search rules in
     let lives : c.len-after.result ≡ length after = search rules in
-    let made : c.has_granted.result ≡ has_granted command (length before) (length after) =
-    c.has_granted.ensures ∙ (λ j. has_granted command (lived j) (lives j)) in
-    let gone : c.has_revoked.result ≡ has_revoked command (length before) (length after) =
-    c.has_revoked.ensures ∙ (λ j. has_revoked command (lived j) (lives j)) in
-    let granted : c.counted-granted.result ≡ c.loop-command.granted + (if has_granted command (length before) (length after) then 1 else 0) =
-    c.counted-granted.ensures ∙ ap (λ (b : Bool). c.loop-command.granted + (if b then 1 else 0)) made in
-    let revoked : c.counted-revoked.result ≡ c.loop-command.revoked + (if has_revoked command (length before) (length after) then 1 else 0) =
-    c.counted-revoked.ensures ∙ ap (λ (b : Bool). c.loop-command.revoked + (if b then 1 else 0)) gone in
+    let made : c.has_granted-grants.result ≡ has_granted command (length before) (length after) =
+    c.has_granted-grants.ensures ∙ (λ j. has_granted command (lived j) (lives j)) in
+    let gone : c.has_revoked-revokes.result ≡ has_revoked command (length before) (length after) =
+    c.has_revoked-revokes.ensures ∙ (λ j. has_revoked command (lived j) (lives j)) in
+    let granted : c.counted-granted.result ≡ c.commands.granted + (if has_granted command (length before) (length after) then 1 else 0) =
+    c.counted-granted.ensures ∙ ap (λ (b : Bool). c.commands.granted + (if b then 1 else 0)) made in
+    let revoked : c.counted-revoked.result ≡ c.commands.revoked + (if has_revoked command (length before) (length after) then 1 else 0) =
+    c.counted-revoked.ensures ∙ ap (λ (b : Bool). c.commands.revoked + (if b then 1 else 0)) gone in
     let one = one_at_most (has_granted command (length before) (length after)) in
     let other = one_at_most (has_revoked command (length before) (length after)) in
-    let few_granted = c.loop-command.invariant.few_granted in
-    let few_revoked = c.loop-command.invariant.few_revoked in
+    let few_granted = c.commands.invariant.few_granted in
+    let few_revoked = c.commands.invariant.few_revoked in
     record {
-      few = omega (arith, within);
-      few_granted = omega (arith, granted, one, few_granted);
-      few_revoked = omega (arith, revoked, other, few_revoked);
-      state = c.in_ok-play.ensures.state;
-      on_device = c.in_ok-play.ensures.on_device;
-      tallied = tallied_more kinds net cs i (state_view c.loop-command.state) command _ _ _ c.loop-command.granted c.loop-command.revoked c.counted-granted.result c.counted-revoked.result (state_view c.play.new.state) c.loop-command.invariant.tallied within at c.in_ok-play.ensures.through owed granted revoked;
-      device_counted = counted_then _ _ _ _ c.loop-command.invariant.device_counted c.in_ok-play.ensures.counted;
+      behind = at.behind;
+      few_granted = omega (arith, further, granted, one, few_granted);
+      few_revoked = omega (arith, further, revoked, other, few_revoked);
+      state = c.in_ok-ended.ensures.state;
+      on_device = c.in_ok-ended.ensures.on_device;
+      tallied = subst (λ (n : ℕ). IsTallied kinds net cs n (state_view c.play.new.state) (g.D.Tables.log c.args.device.now) (g.D.Tables.log c.play.new.device) c.counted-granted.result c.counted-revoked.result) (sym at.next) (tallied_more kinds net cs i (state_view c.commands.state) command _ _ _ c.commands.granted c.commands.revoked c.counted-granted.result c.counted-revoked.result (state_view c.play.new.state) c.commands.invariant.tallied at.within at.at c.in_ok-ended.ensures.through owed granted revoked);
+      device_counted = counted_then _ _ _ _ c.commands.invariant.device_counted c.in_ok-ended.ensures.counted;
     }
 
 pub returns-in_err-write_summary-clause-shown : goal.returns-in_err-write_summary-clause-shown
 returns-in_err-write_summary-clause-shown g c =
     let kinds : List Meaning = map (λ k. (goal.UnitKind-dyn g (k.vtable, k.value)).meaning k.value) c.args.kinds.now.list.items in
-    let cs = c.args.platform.now.commands in
-    let over : length cs ≤ c.loop-command.command-index = search rules in
+    let net = c.args.platform.now.net in
+    let cs : List Command = c.args.platform.now.commands in
+    let i : ℕ = place cs c.commands.rest in
+    let none : c.commands.rest ≡ [] = (subst (λ o. MatchOption o ((c.commands.rest ≡ []) × (c.next.new.self ≡ [])) (λ d. c.commands.rest ≡ d ∷ c.next.new.self)) c.in_default.is c.in_ok-command.ensures.next).0 in
+    let over : i ≡ length cs = last_place cs c.commands.rest none in
     let ended : c.from_residual-in_err-write_summary.result ≡ Err c.in_err-write_summary.field-0.0 = search rules in
     let status : ending_status c.from_residual-in_err-write_summary.result ≡ line_status c.write_summary.result = ap ending_status ended ∙ sym (ap line_status c.in_err-write_summary.was) in
-    shown_written kinds c.args.platform.now.net c.args.agents cs c.loop-command.command-index (ending_status c.from_residual-in_err-write_summary.result) (state_view c.loop-command.state) c.write_summary.result _ _ _ _ _ c.loop-command.granted c.loop-command.revoked c.loop-command.state.book.set _ over c.loop-command.invariant.few c.loop-command.invariant.state.kept c.loop-command.invariant.on_device c.loop-command.invariant.tallied status c.write_summary.ensures.no_device c.write_summary.ensures.written
+    shown_written kinds net c.args.agents cs i (ending_status c.from_residual-in_err-write_summary.result) (state_view c.commands.state) c.write_summary.result _ _ _ _ _ c.commands.granted c.commands.revoked c.commands.state.book.set _ (omega (arith, over)) (omega (arith, over)) c.commands.invariant.state.kept c.commands.invariant.on_device c.commands.invariant.tallied status c.write_summary.ensures.no_device c.write_summary.ensures.written
 
 pub returns-clause-shown : goal.returns-clause-shown
 returns-clause-shown g c =
     let kinds : List Meaning = map (λ k. (goal.UnitKind-dyn g (k.vtable, k.value)).meaning k.value) c.args.kinds.now.list.items in
-    let cs = c.args.platform.now.commands in
-    let over : length cs ≤ c.loop-command.command-index = search rules in
-    shown_written kinds c.args.platform.now.net c.args.agents cs c.loop-command.command-index 0 (state_view c.loop-command.state) c.write_summary.result _ _ _ _ _ c.loop-command.granted c.loop-command.revoked c.loop-command.state.book.set _ over c.loop-command.invariant.few c.loop-command.invariant.state.kept c.loop-command.invariant.on_device c.loop-command.invariant.tallied (sym (ap line_status c.in_ok-write_summary.was)) c.write_summary.ensures.no_device c.write_summary.ensures.written
+    let net = c.args.platform.now.net in
+    let cs : List Command = c.args.platform.now.commands in
+    let i : ℕ = place cs c.commands.rest in
+    let none : c.commands.rest ≡ [] = (subst (λ o. MatchOption o ((c.commands.rest ≡ []) × (c.next.new.self ≡ [])) (λ d. c.commands.rest ≡ d ∷ c.next.new.self)) c.in_default.is c.in_ok-command.ensures.next).0 in
+    let over : i ≡ length cs = last_place cs c.commands.rest none in
+    shown_written kinds net c.args.agents cs i 0 (state_view c.commands.state) c.write_summary.result _ _ _ _ _ c.commands.granted c.commands.revoked c.commands.state.book.set _ (omega (arith, over)) (omega (arith, over)) c.commands.invariant.state.kept c.commands.invariant.on_device c.commands.invariant.tallied (sym (ap line_status c.in_ok-write_summary.was)) c.write_summary.ensures.no_device c.write_summary.ensures.written

@@ -1,7 +1,7 @@
 use Rattle.std.proofs.Common.{arith}
 use Rattle.dn_token.specs.Cursor.{cursor_view}
 use Rattle.dn_parse.proofs.Judge.{statement_no_longer}
-use Rattle.dn_parse.proofs.reader.whole_statement.Goals as goal
+use Rattle.dn_parse.proofs.statements.whole_statement.Goals as goal
 
 pub returns-clause-shorter : goal.returns-clause-shorter
 returns-clause-shorter c =

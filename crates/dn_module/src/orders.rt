@@ -1,0 +1,186 @@
+//! From a command of a text to that of a script. It stands outside of modules and loops.
+
+ghost use Rattle.std.specs.Prelude.{◌≡◌, length, Ok, Err, IfOk, IfErr, IfSome, OnOk, IsTrue};
+ghost use Rattle.std.specs.List.{list_all};
+ghost use Rattle.dn_parse.specs.Tree.{resolve as asks_resolve, lookup as asks_lookup, view as asks_view, absorb as asks_absorb};
+ghost use Rattle.dn_parse.specs.Views.{name_view, expr_view, grant_view, route_view, order_view};
+ghost use Rattle.dn_parse.specs.Script.{script_view};
+ghost use Rattle.dn_module.specs.Commands.{target_of, command_of, commands_of, commands_or_none, node_within, names_within, makes_within};
+ghost use Rattle.dn_module.specs.Values.{value, full_name};
+ghost use Rattle.dn_module.specs.Drafts.{at_line};
+ghost use Rattle.dn_base.specs.Answers.{Answers};
+ghost use Rattle.dn_module.specs.Faults.{expand_fault_view, name_fault_view, some_flaw};
+
+use crate::command::{Command, Target};
+use crate::fault::ExpandFault;
+use crate::names::NameTable;
+use crate::scope::Scope;
+use crate::values::{Flaw, NameFault, declared_name, value};
+use dn_base::text::Text;
+use dn_parse::script::Script;
+use dn_parse::syntax::{Cmd, Expr, GrantExpr, Mode, NameExpr, Order, RouteExpr};
+use std::alloc::Global;
+
+/// Goes once over the commands of a script, and keeps none: `Ok` where each has its values, else the
+/// first fault.
+pub fn check_commands<'a>(
+    alloc: Global,
+    names: &NameTable,
+    script: Script<'a>,
+) -> Result<(), ExpandFault>
+    ensures made { Answers
+        (λ _. commands_or_none (commands_of names.now (script_view script.entry)))
+        expand_fault_view result (commands_of names.now (script_view script.entry)) }
+    ensures known { OnOk result (IsTrue (list_all (names_within (length names.now))
+        (commands_or_none (commands_of names.now (script_view script.entry))))) }
+{
+    let mut rest = script;
+    'commands: while let Some((asked, behind)) = rest.next(alloc)? {
+        check_command(alloc, names, asked)?;
+        rest = behind;
+    }
+    Ok(())
+}
+
+/// Makes a command and lets it go, or the fault of its statement.
+fn check_command<'a>(alloc: Global, names: &NameTable, asked: Cmd<'a>) -> Result<(), ExpandFault>
+    ensures made { OnOk result (IsTrue (makes_within (length names.now)
+        (at_line asked.entry.line (command_of names.now (order_view asked.entry.order))))) }
+    ensures fault { IfErr result (λ e. IfSome (expand_fault_view e) (λ f.
+        at_line asked.entry.line (command_of names.now (order_view asked.entry.order)) ≡ Err f)) }
+{
+    match command(alloc, names, &asked.order) {
+        Ok(_) => Ok(()),
+        Err(fault) => Err(fault.at(asked.line)),
+    }
+}
+
+/// A command, with the nodes that it names by their numbers.
+pub fn command(alloc: Global, names: &NameTable, order: &Order) -> Result<Command, NameFault>
+    ensures made { Answers (λ x. x) name_fault_view result
+        (command_of names.now (order_view order.now)) }
+    ensures known { IfOk result (λ c. IsTrue (names_within (length names.now) c)) }
+{
+    match order {
+        Order::Resolve(name, expr, mode) => resolve(alloc, names, name, expr, *mode),
+        Order::Lookup(name, expr, mode) => lookup(alloc, names, name, expr, *mode),
+        Order::View(name, mode) => view(alloc, names, name, *mode),
+        Order::Grant(asked) => grant(alloc, names, asked),
+        Order::Route(asked) => route(alloc, names, asked),
+        Order::Revoke(id) => revoke(alloc, id),
+        Order::Dump => Ok(Command::Dump),
+        Order::Split => Ok(Command::Split),
+        Order::Absorb(name) => absorb(alloc, names, name),
+    }
+}
+
+/// A node as a command names it, with its number where it is there.
+fn target(alloc: Global, names: &NameTable, name: &NameExpr) -> Result<Target, NameFault>
+    ensures made { Answers (λ x. x) name_fault_view result
+        (target_of names.now (name_view name.now)) }
+    ensures known { IfOk result (λ t. IsTrue (node_within (length names.now) t.node)) }
+{
+    let text = full_name(alloc, name)?;
+    let node = names.find(text.as_str());
+    Ok(Target { text, node })
+}
+
+/// The full name that a name spells.
+#[tactic(auto, using(crate::proofs::Outside::name_stays))]
+fn full_name(alloc: Global, name: &NameExpr) -> Result<Text, NameFault>
+    ensures { Answers (λ x. x) name_fault_view result (full_name (name_view name.now)) }
+{
+    declared_name(alloc, &Scope::outside(alloc), name.as_slice())
+}
+
+/// The value of an expression.
+#[tactic(auto, using(crate::proofs::Outside::expression_stays))]
+fn number(alloc: Global, expr: &Expr) -> Result<u64, Flaw>
+    ensures { Answers (λ x. x) some_flaw result (value (expr_view expr.now)) }
+{
+    value(&Scope::outside(alloc), expr)
+}
+
+fn resolve(
+    alloc: Global,
+    names: &NameTable,
+    name: &NameExpr,
+    expr: &Expr,
+    mode: Mode,
+) -> Result<Command, NameFault>
+    ensures made { Answers (λ x. x) name_fault_view result
+        (command_of names.now (asks_resolve (name_view name.now) (expr_view expr.now) mode)) }
+    ensures known { IfOk result (λ c. IsTrue (names_within (length names.now) c)) }
+{
+    let target = target(alloc, names, name)?;
+    let addr = number(alloc, expr)?;
+    Ok(Command::Resolve(target, addr, mode))
+}
+
+fn lookup(
+    alloc: Global,
+    names: &NameTable,
+    name: &NameExpr,
+    expr: &Expr,
+    mode: Mode,
+) -> Result<Command, NameFault>
+    ensures made { Answers (λ x. x) name_fault_view result
+        (command_of names.now (asks_lookup (name_view name.now) (expr_view expr.now) mode)) }
+    ensures known { IfOk result (λ c. IsTrue (names_within (length names.now) c)) }
+{
+    let target = target(alloc, names, name)?;
+    let addr = number(alloc, expr)?;
+    Ok(Command::Lookup(target, addr, mode))
+}
+
+fn view(alloc: Global, names: &NameTable, name: &NameExpr, mode: Mode) -> Result<Command, NameFault>
+    ensures made { Answers (λ x. x) name_fault_view result
+        (command_of names.now (asks_view (name_view name.now) mode)) }
+    ensures known { IfOk result (λ c. IsTrue (names_within (length names.now) c)) }
+{
+    let target = target(alloc, names, name)?;
+    Ok(Command::View(target, mode))
+}
+
+fn absorb(alloc: Global, names: &NameTable, name: &NameExpr) -> Result<Command, NameFault>
+    ensures made { Answers (λ x. x) name_fault_view result
+        (command_of names.now (asks_absorb (name_view name.now))) }
+    ensures known { IfOk result (λ c. IsTrue (names_within (length names.now) c)) }
+{
+    let target = target(alloc, names, name)?;
+    Ok(Command::Absorb(target))
+}
+
+/// A grant to the first node named, of addresses of the second.
+fn grant(alloc: Global, names: &NameTable, asked: &GrantExpr) -> Result<Command, NameFault>
+    ensures made { Answers (λ x. x) name_fault_view result
+        (command_of names.now (grant_view asked.now)) }
+    ensures known { IfOk result (λ c. IsTrue (names_within (length names.now) c)) }
+{
+    let agent = target(alloc, names, &asked.agent)?;
+    let node = target(alloc, names, &asked.node)?;
+    let base = number(alloc, &asked.base)?;
+    let size = number(alloc, &asked.size)?;
+    let id = Text::of(alloc, asked.id)?;
+    let mode = asked.mode;
+    Ok(Command::Grant(id, agent, node, base, size, mode))
+}
+
+/// A route of a line of the first node named to the second.
+fn route(alloc: Global, names: &NameTable, asked: &RouteExpr) -> Result<Command, NameFault>
+    ensures made { Answers (λ x. x) name_fault_view result
+        (command_of names.now (route_view asked.now)) }
+    ensures known { IfOk result (λ c. IsTrue (names_within (length names.now) c)) }
+{
+    let agent = target(alloc, names, &asked.agent)?;
+    let line = number(alloc, &asked.line)?;
+    let node = target(alloc, names, &asked.node)?;
+    let id = Text::of(alloc, asked.id)?;
+    Ok(Command::Route(id, agent, line, node))
+}
+
+fn revoke(alloc: Global, id: &str) -> Result<Command, NameFault>
+    ensures { Answers (λ x. x) name_fault_view result (Ok (Command.Revoke id.now)) }
+{
+    Ok(Command::Revoke(Text::of(alloc, id)?))
+}

@@ -1,0 +1,27 @@
+use Rattle.std.proofs.Common.{rules, ◌≡◌, ◌∙◌, ap, List, Option, Some, None, Ok, option_map}
+use Rattle.dn_token.specs.Token.{Token}
+use Rattle.dn_token.specs.Cursor.{cursor_view}
+use Rattle.dn_token.specs.declared.cursor.Cursor.{Cursor}
+use Rattle.dn_parse.specs.declared.syntax.Cmd.{Cmd}
+use Rattle.dn_parse.specs.Tree.{Command}
+use Rattle.dn_parse.specs.Commands.{next_command}
+use Rattle.dn_parse.specs.Views.{command_view}
+use Rattle.dn_parse.proofs.Scripts.{next_is, no_command, command_halts}
+use Rattle.dn_parse.proofs.script.Script.after_command.Goals as goal
+
+pub returns-in-Ok-Some-clause-ok : goal.returns-in-Ok-Some-clause-ok
+returns-in-Ok-Some-clause-ok c =
+    let is : c.in-Ok-Some.field-0 ≡ Some (c.in-Ok-Some.found, c.in-Ok-Some.rest) = search rules in
+    let next : next_command (cursor_view c.args.tokens) ≡ Some (command_view c.in-Ok-Some.found, cursor_view c.in-Ok-Some.rest) =
+    next_is (cursor_view c.args.tokens) c.args.line _ c.requires c.in-Ok-Some.ensures.gives
+    ∙ ap (λ (o : Option (Cmd × Cursor)). option_map (λ (q : Cmd × Cursor). (command_view q.0, cursor_view q.1)) o) is in
+    ap (λ (o : Option (Command × List Token)). option_map (λ (d : Command × List Token). d.1) o) next
+
+pub returns-in-Ok-None-clause-err : goal.returns-in-Ok-None-clause-err
+returns-in-Ok-None-clause-err c =
+    let is : c.in-Ok-None.field-0 ≡ None = search rules in
+    let gives = c.in-Ok-None.ensures.gives ∙ ap (λ (o : Option (Cmd × Cursor)). Ok (option_map (λ (q : Cmd × Cursor). (command_view q.0, cursor_view q.1)) o)) is in
+    λ last all b g. no_command last all b (cursor_view c.args.tokens) c.args.line g c.requires gives
+
+pub returns-in-Err-clause-err : goal.returns-in-Err-clause-err
+returns-in-Err-clause-err c = λ last all b g. command_halts last all b (cursor_view c.args.tokens) c.args.line c.in-Err.halt c.requires c.in-Err.ensures.gives
