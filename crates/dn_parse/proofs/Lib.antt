@@ -11,6 +11,7 @@ pub mod Free
 pub mod Stopped
 pub mod Shallow
 pub mod Series
+pub mod Members
 pub mod Nested
 pub mod Firsts
 pub mod Does

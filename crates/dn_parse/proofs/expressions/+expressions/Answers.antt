@@ -10,7 +10,8 @@ use Rattle.dn_parse.specs.Tree.{Expression}
 use Rattle.dn_parse.specs.Faults.{halt_view}
 use Rattle.dn_parse.specs.Views.{expr_view}
 use Rattle.dn_parse.specs.Descent.{next_factor_at, factors_at, next_term_at, terms_at}
-use Rattle.dn_parse.proofs.Series.{Found, halted, found_more}
+use Rattle.dn_parse.proofs.Members.{member_shortens, member_found}
+use Rattle.dn_parse.proofs.Series.{halted}
 use Rattle.dn_parse.proofs.Nested.{factor_nested, factors_begun, term_stop, term_ends, term_halts, terms_begun, expr_stop, expr_ends, expr_halts}
 use Rattle.dn_parse.proofs.expressions.+expressions.Goals as goal
 
@@ -21,27 +22,22 @@ term-returns-in_err-first-clause-gives t c =
 
 pub term-factors-init : goal.term-factors-init
 term-factors-init t c =
-    let begun = factors_begun c.args.depth _ _ _ c.in_ok-first.ensures.gives in
-    let is = c.in_ok-next.ensures.gives ∙ ap (λ o. Ok (option_map (λ p. (expr_view p.0, cursor_view p.1)) o)) c.in-Some.is in
-    let shorter = subst (λ o. IfSome o (λ p. length (cursor_view p.1) < length (cursor_view c.in_ok-first.after))) c.in-Some.is c.in_ok-next.ensures.shorter in
-    let two = sym (ap (map expr_view) c.in_ok-members.ensures) in
+    let less = member_shortens expr_view cursor_view _ _ _ _ c.in-Some.is c.in_ok-next.ensures.shorter in
     let several = ap length c.in_ok-members.ensures in
     record {
       several = omega (arith, several);
-      shorter = omega (arith, shorter, c.in_ok-first.ensures.shorter);
-      before = subst (λ l. Found (next_factor_at c.args.depth) (factors_at c.args.depth (cursor_view c.args.tokens)) l (cursor_view c.in-Some.after)) two (found_more begun _ _ is shorter);
+      shorter = omega (arith, less, c.in_ok-first.ensures.shorter);
+      before = member_found expr_view cursor_view (_ ∷ []) _ _ _ _ _ (factors_begun c.args.depth _ _ _ c.in_ok-first.ensures.gives) c.in_ok-next.ensures.gives c.in-Some.is c.in_ok-next.ensures.shorter c.in_ok-members.ensures;
     }
 
 pub term-factors-preserved : goal.term-factors-preserved
 term-factors-preserved t c =
-    let more : map expr_view c.factors.members.items ++ expr_view c.in-Some-2.factor ∷ [] ≡ map expr_view c.push.new.self.items = sym (ap (map expr_view) c.in_ok-push.ensures.items ∙ map-append expr_view _ _) in
-    let is = c.in_ok-factor.ensures.gives ∙ ap (λ o. Ok (option_map (λ p. (expr_view p.0, cursor_view p.1)) o)) c.in-Some-2.is in
-    let shorter = subst (λ o. IfSome o (λ p. length (cursor_view p.1) < length (cursor_view c.factors.rest))) c.in-Some-2.is c.in_ok-factor.ensures.shorter in
-    let several = ap length more in
+    let less = member_shortens expr_view cursor_view _ _ _ _ c.in-Some-2.is c.in_ok-factor.ensures.shorter in
+    let several = ap length c.in_ok-push.ensures.items in
     record {
       several = search rules;
-      shorter = omega (arith, shorter, c.factors.invariant.shorter);
-      before = subst (λ l. Found (next_factor_at c.args.depth) (factors_at c.args.depth (cursor_view c.args.tokens)) l (cursor_view c.in-Some-2.after)) more (found_more c.factors.invariant.before _ _ is shorter);
+      shorter = omega (arith, less, c.factors.invariant.shorter);
+      before = member_found expr_view cursor_view _ _ _ _ _ _ c.factors.invariant.before c.in_ok-factor.ensures.gives c.in-Some-2.is c.in_ok-factor.ensures.shorter c.in_ok-push.ensures.items;
     }
 
 pub term-returns-in_err-next-clause-gives : goal.term-returns-in_err-next-clause-gives
@@ -72,27 +68,22 @@ expr-returns-in_err-first-clause-gives t c =
 
 pub expr-terms-init : goal.expr-terms-init
 expr-terms-init t c =
-    let begun = terms_begun c.args.depth _ _ _ c.in_ok-first.ensures.gives in
-    let is = c.in_ok-next.ensures.gives ∙ ap (λ o. Ok (option_map (λ p. (expr_view p.0, cursor_view p.1)) o)) c.in-Some.is in
-    let shorter = subst (λ o. IfSome o (λ p. length (cursor_view p.1) < length (cursor_view c.in_ok-first.after))) c.in-Some.is c.in_ok-next.ensures.shorter in
-    let two = sym (ap (map expr_view) c.in_ok-members.ensures) in
+    let less = member_shortens expr_view cursor_view _ _ _ _ c.in-Some.is c.in_ok-next.ensures.shorter in
     let several = ap length c.in_ok-members.ensures in
     record {
       several = omega (arith, several);
-      shorter = omega (arith, shorter, c.in_ok-first.ensures.shorter);
-      before = subst (λ l. Found (next_term_at c.args.depth) (terms_at c.args.depth (cursor_view c.args.tokens)) l (cursor_view c.in-Some.after)) two (found_more begun _ _ is shorter);
+      shorter = omega (arith, less, c.in_ok-first.ensures.shorter);
+      before = member_found expr_view cursor_view (_ ∷ []) _ _ _ _ _ (terms_begun c.args.depth _ _ _ c.in_ok-first.ensures.gives) c.in_ok-next.ensures.gives c.in-Some.is c.in_ok-next.ensures.shorter c.in_ok-members.ensures;
     }
 
 pub expr-terms-preserved : goal.expr-terms-preserved
 expr-terms-preserved t c =
-    let more : map expr_view c.terms.members.items ++ expr_view c.in-Some-2.term ∷ [] ≡ map expr_view c.push.new.self.items = sym (ap (map expr_view) c.in_ok-push.ensures.items ∙ map-append expr_view _ _) in
-    let is = c.in_ok-term.ensures.gives ∙ ap (λ o. Ok (option_map (λ p. (expr_view p.0, cursor_view p.1)) o)) c.in-Some-2.is in
-    let shorter = subst (λ o. IfSome o (λ p. length (cursor_view p.1) < length (cursor_view c.terms.rest))) c.in-Some-2.is c.in_ok-term.ensures.shorter in
-    let several = ap length more in
+    let less = member_shortens expr_view cursor_view _ _ _ _ c.in-Some-2.is c.in_ok-term.ensures.shorter in
+    let several = ap length c.in_ok-push.ensures.items in
     record {
       several = search rules;
-      shorter = omega (arith, shorter, c.terms.invariant.shorter);
-      before = subst (λ l. Found (next_term_at c.args.depth) (terms_at c.args.depth (cursor_view c.args.tokens)) l (cursor_view c.in-Some-2.after)) more (found_more c.terms.invariant.before _ _ is shorter);
+      shorter = omega (arith, less, c.terms.invariant.shorter);
+      before = member_found expr_view cursor_view _ _ _ _ _ _ c.terms.invariant.before c.in_ok-term.ensures.gives c.in-Some-2.is c.in_ok-term.ensures.shorter c.in_ok-push.ensures.items;
     }
 
 pub expr-returns-in_err-next-clause-gives : goal.expr-returns-in_err-next-clause-gives
