@@ -2,9 +2,9 @@ use Rattle.std.proofs.Common.{◌∙◌, sym, ap, map, subst}
 use Rattle.dn_base.proofs.Lists.{length-map}
 use Rattle.std.proofs.lemmas.Result.{err_from_is_err_and}
 use Rattle.dn_base.specs.Answers.{Answers}
-use Rattle.dn_parse.specs.Views.{command_view, tree_view}
+use Rattle.dn_parse.specs.Views.{tree_view}
 use Rattle.dn_module.specs.Expand.{all_rewritings, most_steps, nothing_yet, outside, statements}
-use Rattle.dn_module.specs.Finish.{outcome_of, outcome_view}
+use Rattle.dn_module.specs.Finish.{outcome_view}
 use Rattle.dn_module.specs.Machine.{state_view}
 use Rattle.dn_module.specs.Stack.{body_view}
 use Rattle.dn_module.specs.Faults.{expand_fault_view}
@@ -29,8 +29,7 @@ pub returns-clause-expansion : goal.returns-clause-expansion
 returns-clause-expansion g c =
     let kinds = map (λ k. (goal.UnitKind-dyn g (k.vtable, k.value)).meaning k.value) c.args.kinds.now.list.items in
     let body = ap (λ b. all_rewritings kinds most_steps (statements outside (body_view b)) nothing_yet) c.as_slice.ensures.value in
-    let done = subst (λ cs. Answers outcome_view expand_fault_view c.finish.result (outcome_of c.in_ok-made.made.drafts (map command_view cs))) c.as_slice-2.ensures c.finish.ensures in
-    subst (Answers outcome_view expand_fault_view c.finish.result) (body_made kinds (tree_view c.args.tree.now) (state_view c.in_ok-made.made) (sym body ∙ c.in_ok-made.ensures)) done
+    subst (Answers outcome_view expand_fault_view c.finish.result) (body_made kinds (tree_view c.args.tree.now) (state_view c.in_ok-made.made) (sym body ∙ c.in_ok-made.ensures)) c.finish.ensures
 
 pub returns-clause-units : goal.returns-clause-units
 returns-clause-units g c =
