@@ -1,17 +1,32 @@
 -- One member more of a row, as the code keeps it: a list of values of its own, and the rest behind a cursor.
-use Rattle.std.proofs.Common.{◌≡◌, ◌∙◌, ap, sym, subst, ◌<◌, List, [], ◌∷◌, ◌++◌, length, map, Option, Some, IfSome, Ok, option_map}
+use Rattle.std.proofs.Common.{◌≡◌, ◌∙◌, ap, sym, subst, ◌<◌, List, [], ◌∷◌, ◌++◌, length, map, Option, Some, None, Ok, option_map}
 use Rattle.std.proofs.lemmas.List.{map-append}
+use Rattle.dn_token.specs.declared.cursor.Cursor.{Cursor}
+use Rattle.dn_token.specs.Cursor.{cursor_view}
 use Rattle.dn_token.specs.Token.{Token}
 use Rattle.dn_parse.specs.Descent.{Next, Read}
+use Rattle.dn_parse.specs.Faults.{IsShorter, Shortens}
 use Rattle.dn_parse.proofs.Series.{Found, found_more}
 
-module _ {A C X : Type 0} (view : A → X) (left : C → List Token) where
-  -- where a member was read, fewer tokens are left
-  pub member_shortens : (o : Option (A × C)) (x : A) (after before : C) → o ≡ Some (x, after) → IfSome o (λ p. length (left p.1) < length (left before)) → length (left after) < length (left before)
-  member_shortens o x after before is h = subst (λ (v : Option (A × C)). IfSome v (λ p. length (left p.1) < length (left before))) is h
+-- where a member was read, fewer tokens are left
+pub member_shortens : {A : Type 0} (o : Option A) (x : A) (after before : Cursor) → o ≡ Some x → Shortens o after before → length (cursor_view after) < length (cursor_view before)
+member_shortens {A} o x after before is h = subst (λ (v : Option A). Shortens v after before) is h
+
+-- where none was, the tokens are as they were
+pub none_stays : {A : Type 0} (o : Option A) (after before : Cursor) → o ≡ None → Shortens o after before → cursor_view after ≡ cursor_view before
+none_stays {A} o after before is h = subst (λ (v : Option A). Shortens v after before) is h
+
+module _ {A X : Type 0} (view : A → X) where
+  -- the member that was read
+  pub member_read : (r : Next X) (o : Option A) (x : A) (after : List Token) → r ≡ Ok (option_map (λ y. (view y, after)) o) → o ≡ Some x → r ≡ Ok (Some (view x, after))
+  member_read r o x after read is = read ∙ ap (λ (v : Option A). Ok (option_map (λ y. (view y, after)) v)) is
+
+  -- no member was read
+  pub none_read : (r : Next X) (o : Option A) (after : List Token) → r ≡ Ok (option_map (λ y. (view y, after)) o) → o ≡ None → r ≡ Ok None
+  none_read r o after read is = read ∙ ap (λ (v : Option A). Ok (option_map (λ y. (view y, after)) v)) is
 
   -- a member that was pushed is the next one found
-  pub member_found : {next : List Token → Next X} {whole : Read (List X)} (found pushed : List A) (rest : C) (o : Option (A × C)) (x : A) (after : C) → Found next whole (map view found) (left rest) → next (left rest) ≡ Ok (option_map (λ p. (view p.0, left p.1)) o) → o ≡ Some (x, after) → IfSome o (λ p. length (left p.1) < length (left rest)) → pushed ≡ found ++ x ∷ [] → Found next whole (map view pushed) (left after)
+  pub member_found : {next : List Token → Next X} {whole : Read (List X)} (found pushed : List A) (rest : Cursor) (o : Option A) (x : A) (after : Cursor) → Found next whole (map view found) (cursor_view rest) → next (cursor_view rest) ≡ Ok (option_map (λ y. (view y, cursor_view after)) o) → o ≡ Some x → Shortens o after rest → pushed ≡ found ++ x ∷ [] → Found next whole (map view pushed) (cursor_view after)
   member_found {next} {whole} found pushed rest o x after before read is shorter push =
       let more : map view found ++ view x ∷ [] ≡ map view pushed = sym (ap (map view) push ∙ map-append view found (x ∷ [])) in
-      subst (λ (l : List X). Found next whole l (left after)) more (found_more before (view x) (left after) (read ∙ ap (λ (v : Option (A × C)). Ok (option_map (λ p. (view p.0, left p.1)) v)) is) (member_shortens o x after rest is shorter))
+      subst (λ (l : List X). Found next whole l (cursor_view after)) more (found_more before (view x) (cursor_view after) (member_read (next (cursor_view rest)) o x (cursor_view after) read is) (member_shortens o x after rest is shorter))

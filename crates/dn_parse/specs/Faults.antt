@@ -1,6 +1,6 @@
 -- The faults of the code as those of the definitions, and what a call that reads a part answers.
 -- Want of memory is none of the faults: it may befall any call.
-use Rattle.std.specs.Prelude.{ℕ, ◌<◌, ◌≤◌, List, length, Option, None, Some, option_map, Result}
+use Rattle.std.specs.Prelude.{◌≡◌, ℕ, ◌<◌, ◌≤◌, Bool, true, false, List, length, Option, None, Some, option_map, Result}
 use Rattle.dn_base.specs.Answers.{Answers}
 use Rattle.dn_token.specs.declared.cursor.Cursor.{Cursor}
 use Rattle.dn_token.specs.Cursor.{cursor_view}
@@ -24,16 +24,26 @@ halt_view (Deep n) = Some (deep n)
 halt_view NoParts = None
 
 -- a part was read, and these tokens follow it; or this is where the reading stops
-abbrev pub Reads : {X Y : Type 0} → (X → Y) → Result (X × Cursor) Halt → Read Y → Type 0
-Reads view result read = Answers (λ p. (view p.0, cursor_view p.1)) halt_view result read
+abbrev pub Reads : {X Y : Type 0} → (X → Y) → Result X Halt → Cursor → Read Y → Type 0
+Reads view result rest read = Answers (λ x. (view x, cursor_view rest)) halt_view result read
 
 -- the same of a part that may be left out
-abbrev pub ReadsNext : {X Y : Type 0} → (X → Y) → Result (Option (X × Cursor)) Halt → Next Y → Type 0
-ReadsNext view result next = Answers (λ o. option_map (λ p. (view p.0, cursor_view p.1)) o) halt_view result next
+abbrev pub ReadsNext : {X Y : Type 0} → (X → Y) → Result (Option X) Halt → Cursor → Next Y → Type 0
+ReadsNext view result rest next = Answers (λ o. option_map (λ x. (view x, cursor_view rest)) o) halt_view result next
+
+-- a token was found, and these tokens follow it; or it was not, and the tokens are as they were
+abbrev pub GoesOn : Bool → List Token → List Token → Option (List Token) → Type 0
+GoesOn true before after found = found ≡ Some after
+GoesOn false before after found = (found ≡ None) × (after ≡ before)
 
 -- fewer tokens are left
 abbrev pub IsShorter : Cursor → Cursor → Type 0
 IsShorter rest tokens = length (cursor_view rest) < length (cursor_view tokens)
+
+-- fewer tokens are left, where a part was read; where it was left out, they are as they were
+abbrev pub Shortens : {X : Type 0} → Option X → Cursor → Cursor → Type 0
+Shortens None rest tokens = cursor_view rest ≡ cursor_view tokens
+Shortens (Some x) rest tokens = IsShorter rest tokens
 
 -- no more tokens are left
 abbrev pub IsNoLonger : Cursor → Cursor → Type 0

@@ -1,13 +1,13 @@
 //! Expressions.
 
-ghost use Rattle.std.specs.Prelude.{◌≡◌, ◌<◌, [], ◌∷◌, map, IfOk, IfSome, vec_len};
+ghost use Rattle.std.specs.Prelude.{◌≡◌, ◌<◌, [], ◌∷◌, map, IfOk, vec_len};
 ghost use Rattle.dn_token.specs.Cursor.{cursor_view};
 ghost use Rattle.dn_parse.specs.Actions.{summed, multiplied};
 ghost use Rattle.dn_parse.specs.Views.{expr_view};
 ghost use Rattle.dn_parse.specs.Descent.{factor_at, next_factor_at, term_at, next_term_at, expr_at, after_open_at};
-ghost use Rattle.dn_parse.specs.Faults.{Reads, ReadsNext, IsShorter};
+ghost use Rattle.dn_parse.specs.Faults.{Reads, ReadsNext, IsShorter, Shortens};
 
-use crate::cursor::{Halt, Next, Read, after_sign, next, refusal, sign};
+use crate::cursor::{Halt, after_sign, refusal, sign};
 use crate::syntax::Expr;
 use dn_token::cursor::Cursor;
 use dn_token::token::{Lexeme, Sign};
@@ -46,21 +46,28 @@ fn product_of<'a>(members: Vec<Expr<'a>>) -> Expr<'a>
 /// `number | word | "(" expr [ "-" expr ] ")"`, where so many parentheses may still be opened.
 #[cycle(expressions)]
 #[tactic(auto, unfolding(crate::specs::Descent::factor_at))]
-fn factor<'a>(alloc: Global, tokens: Cursor<'a>, depth: u8) -> Read<'a, Expr<'a>>
-    ensures gives { Reads expr_view result (factor_at depth (cursor_view tokens.entry)) }
-    ensures shorter { IfOk result (λ p. IsShorter p.1 tokens.entry) }
+fn factor<'a>(alloc: Global, tokens: &mut Cursor<'a>, depth: u8) -> Result<Expr<'a>, Halt>
+    ensures gives { Reads expr_view result tokens.new (factor_at depth (cursor_view tokens.old)) }
+    ensures shorter { IfOk result (λ _. IsShorter tokens.new tokens.old) }
 {
-    let Some((token, rest)) = next(tokens) else {
+    let Some(token) = tokens.peek() else {
         return Err(refusal(tokens));
     };
     match token.lexeme {
-        Lexeme::Number(number) => Ok((Expr::Number(number), rest)),
-        Lexeme::Word(word) => Ok((Expr::Variable(word), rest)),
+        Lexeme::Number(number) => {
+            *tokens = tokens.advance();
+            Ok(Expr::Number(number))
+        }
+        Lexeme::Word(word) => {
+            *tokens = tokens.advance();
+            Ok(Expr::Variable(word))
+        }
         Lexeme::Sign(Sign::OpenParenthesis) => {
             if depth == 0 {
                 return Err(Halt::Deep(tokens.left()));
             }
-            after_open(alloc, rest, depth - 1)
+            *tokens = tokens.advance();
+            after_open(alloc, tokens, depth - 1)
         }
         _ => Err(refusal(tokens)),
     }
@@ -69,85 +76,92 @@ fn factor<'a>(alloc: Global, tokens: Cursor<'a>, depth: u8) -> Read<'a, Expr<'a>
 /// `expr [ "-" expr ] ")"`
 #[cycle(expressions)]
 #[tactic(auto, unfolding(crate::specs::Descent::after_open_at))]
-fn after_open<'a>(alloc: Global, tokens: Cursor<'a>, depth: u8) -> Read<'a, Expr<'a>>
-    ensures gives { Reads expr_view result (after_open_at depth (cursor_view tokens.entry)) }
-    ensures shorter { IfOk result (λ p. IsShorter p.1 tokens.entry) }
+fn after_open<'a>(alloc: Global, tokens: &mut Cursor<'a>, depth: u8) -> Result<Expr<'a>, Halt>
+    ensures gives { Reads expr_view result tokens.new
+        (after_open_at depth (cursor_view tokens.old)) }
+    ensures shorter { IfOk result (λ _. IsShorter tokens.new tokens.old) }
 {
-    let (first, rest) = expr(alloc, tokens, depth)?;
-    let Some(rest) = after_sign(rest, Sign::Minus) else {
-        let rest = sign(rest, Sign::CloseParenthesis)?;
-        return Ok((first, rest));
-    };
-    let (second, rest) = expr(alloc, rest, depth)?;
-    let rest = sign(rest, Sign::CloseParenthesis)?;
+    let first = expr(alloc, tokens, depth)?;
+    if !after_sign(tokens, Sign::Minus) {
+        sign(tokens, Sign::CloseParenthesis)?;
+        return Ok(first);
+    }
+    let second = expr(alloc, tokens, depth)?;
+    sign(tokens, Sign::CloseParenthesis)?;
     let difference = Expr::Minus(Box::new(alloc, first)?, Box::new(alloc, second)?);
-    Ok((difference, rest))
+    Ok(difference)
 }
 
 /// `[ "*" factor ]`
 #[cycle(expressions)]
 #[tactic(auto, unfolding(crate::specs::Descent::next_factor_at))]
-fn next_factor<'a>(alloc: Global, tokens: Cursor<'a>, depth: u8) -> Next<'a, Expr<'a>>
-    ensures gives { ReadsNext expr_view result (next_factor_at depth (cursor_view tokens.entry)) }
-    ensures shorter { IfOk result (λ o. IfSome o (λ p. IsShorter p.1 tokens.entry)) }
+fn next_factor<'a>(
+    alloc: Global,
+    tokens: &mut Cursor<'a>,
+    depth: u8,
+) -> Result<Option<Expr<'a>>, Halt>
+    ensures gives { ReadsNext expr_view result tokens.new
+        (next_factor_at depth (cursor_view tokens.old)) }
+    ensures shorter { IfOk result (λ o. Shortens o tokens.new tokens.old) }
 {
-    let Some(rest) = after_sign(tokens, Sign::Times) else {
+    if !after_sign(tokens, Sign::Times) {
         return Ok(None);
-    };
-    let (factor, rest) = factor(alloc, rest, depth)?;
-    Ok(Some((factor, rest)))
+    }
+    let factor = factor(alloc, tokens, depth)?;
+    Ok(Some(factor))
 }
 
 /// `factor { "*" factor }`, as one expression
 #[cycle(expressions)]
-fn term<'a>(alloc: Global, tokens: Cursor<'a>, depth: u8) -> Read<'a, Expr<'a>>
-    ensures gives { Reads expr_view result (term_at depth (cursor_view tokens.entry)) }
-    ensures shorter { IfOk result (λ p. IsShorter p.1 tokens.entry) }
+fn term<'a>(alloc: Global, tokens: &mut Cursor<'a>, depth: u8) -> Result<Expr<'a>, Halt>
+    ensures gives { Reads expr_view result tokens.new (term_at depth (cursor_view tokens.old)) }
+    ensures shorter { IfOk result (λ _. IsShorter tokens.new tokens.old) }
 {
-    let (first, after) = factor(alloc, tokens, depth)?;
-    let next = next_factor(alloc, after, depth)?;
-    let Some((second, after)) = next else {
-        return Ok((first, after));
+    let first = factor(alloc, tokens, depth)?;
+    let next = next_factor(alloc, tokens, depth)?;
+    let Some(second) = next else {
+        return Ok(first);
     };
     let mut members = two_members(alloc, first, second)?;
-    let mut rest = after;
-    'factors: while let Some((factor, after)) = next_factor(alloc, rest, depth)? {
+    'factors: while let Some(factor) = next_factor(alloc, tokens, depth)? {
         members.push(factor)?;
-        rest = after;
     }
-    Ok((product_of(members), rest))
+    Ok(product_of(members))
 }
 
 /// `[ "+" term ]`
 #[cycle(expressions)]
 #[tactic(auto, unfolding(crate::specs::Descent::next_term_at))]
-fn next_term<'a>(alloc: Global, tokens: Cursor<'a>, depth: u8) -> Next<'a, Expr<'a>>
-    ensures gives { ReadsNext expr_view result (next_term_at depth (cursor_view tokens.entry)) }
-    ensures shorter { IfOk result (λ o. IfSome o (λ p. IsShorter p.1 tokens.entry)) }
+fn next_term<'a>(
+    alloc: Global,
+    tokens: &mut Cursor<'a>,
+    depth: u8,
+) -> Result<Option<Expr<'a>>, Halt>
+    ensures gives { ReadsNext expr_view result tokens.new
+        (next_term_at depth (cursor_view tokens.old)) }
+    ensures shorter { IfOk result (λ o. Shortens o tokens.new tokens.old) }
 {
-    let Some(rest) = after_sign(tokens, Sign::Plus) else {
+    if !after_sign(tokens, Sign::Plus) {
         return Ok(None);
-    };
-    let (term, rest) = term(alloc, rest, depth)?;
-    Ok(Some((term, rest)))
+    }
+    let term = term(alloc, tokens, depth)?;
+    Ok(Some(term))
 }
 
 /// `term { "+" term }`, as one expression
 #[cycle(expressions)]
-pub fn expr<'a>(alloc: Global, tokens: Cursor<'a>, depth: u8) -> Read<'a, Expr<'a>>
-    ensures gives { Reads expr_view result (expr_at depth (cursor_view tokens.entry)) }
-    ensures shorter { IfOk result (λ p. IsShorter p.1 tokens.entry) }
+pub fn expr<'a>(alloc: Global, tokens: &mut Cursor<'a>, depth: u8) -> Result<Expr<'a>, Halt>
+    ensures gives { Reads expr_view result tokens.new (expr_at depth (cursor_view tokens.old)) }
+    ensures shorter { IfOk result (λ _. IsShorter tokens.new tokens.old) }
 {
-    let (first, after) = term(alloc, tokens, depth)?;
-    let next = next_term(alloc, after, depth)?;
-    let Some((second, after)) = next else {
-        return Ok((first, after));
+    let first = term(alloc, tokens, depth)?;
+    let next = next_term(alloc, tokens, depth)?;
+    let Some(second) = next else {
+        return Ok(first);
     };
     let mut members = two_members(alloc, first, second)?;
-    let mut rest = after;
-    'terms: while let Some((term, after)) = next_term(alloc, rest, depth)? {
+    'terms: while let Some(term) = next_term(alloc, tokens, depth)? {
         members.push(term)?;
-        rest = after;
     }
-    Ok((sum_of(members), rest))
+    Ok(sum_of(members))
 }

@@ -1,12 +1,12 @@
 //! Names, and the parts of a node.
 
-ghost use Rattle.std.specs.Prelude.{◌≡◌, ◌<◌, [], ◌∷◌, map, IfOk, IfSome};
+ghost use Rattle.std.specs.Prelude.{◌≡◌, ◌<◌, [], ◌∷◌, map, IfOk};
 ghost use Rattle.dn_token.specs.Cursor.{cursor_view};
 ghost use Rattle.dn_parse.specs.Views.{maybe_expr_view, index_view, part_view, name_view, block_view, dest_view, entry_view, maybe_name_view, spec_view};
 ghost use Rattle.dn_parse.specs.Descent.{index_at, part_at, next_part_at, name_at, upper_at, block_at, next_block_at, blocks_at, addr_at, dest_at, next_dest_at, dests_at, entry_at, next_entry_at, entries_at, accept_at, map_at, over_at, spec_at};
-ghost use Rattle.dn_parse.specs.Faults.{Reads, ReadsNext, IsShorter, IsNoLonger};
+ghost use Rattle.dn_parse.specs.Faults.{Reads, ReadsNext, IsShorter, Shortens, IsNoLonger};
 
-use crate::cursor::{Next, Read, after_keyword, after_sign, keyword, sign, word};
+use crate::cursor::{Halt, after_keyword, after_sign, keyword, sign, word};
 use crate::expressions::expr;
 use crate::few::Few;
 use crate::syntax::{BlockExpr, DestExpr, EntryExpr, Expr, NameExpr, PartExpr, Spec};
@@ -20,248 +20,251 @@ const MOST_OPEN: u8 = 32;
 
 /// `[ "[" expr "]" ]`, where so many parentheses may still be opened
 #[tactic(auto, unfolding(crate::specs::Descent::index_at))]
-fn index<'a>(alloc: Global, tokens: Cursor<'a>, depth: u8) -> Read<'a, Option<Box<Expr<'a>>>>
-    ensures gives { Reads index_view result (index_at depth (cursor_view tokens.entry)) }
-    ensures shorter { IfOk result (λ p. IsNoLonger p.1 tokens.entry) }
+fn index<'a>(
+    alloc: Global,
+    tokens: &mut Cursor<'a>,
+    depth: u8,
+) -> Result<Option<Box<Expr<'a>>>, Halt>
+    ensures gives { Reads index_view result tokens.new (index_at depth (cursor_view tokens.old)) }
+    ensures shorter { IfOk result (λ _. IsNoLonger tokens.new tokens.old) }
 {
-    let Some(rest) = after_sign(tokens, Sign::OpenBracket) else {
-        return Ok((None, tokens));
-    };
-    let (index, rest) = expr(alloc, rest, depth)?;
-    let rest = sign(rest, Sign::CloseBracket)?;
-    Ok((Some(Box::new(alloc, index)?), rest))
+    if !after_sign(tokens, Sign::OpenBracket) {
+        return Ok(None);
+    }
+    let index = expr(alloc, tokens, depth)?;
+    sign(tokens, Sign::CloseBracket)?;
+    Ok(Some(Box::new(alloc, index)?))
 }
 
 /// `word [ "[" expr "]" ]`
 #[tactic(auto, unfolding(crate::specs::Descent::part_at))]
-fn part<'a>(alloc: Global, tokens: Cursor<'a>, depth: u8) -> Read<'a, PartExpr<'a>>
-    ensures gives { Reads part_view result (part_at depth (cursor_view tokens.entry)) }
-    ensures shorter { IfOk result (λ p. IsShorter p.1 tokens.entry) }
+fn part<'a>(alloc: Global, tokens: &mut Cursor<'a>, depth: u8) -> Result<PartExpr<'a>, Halt>
+    ensures gives { Reads part_view result tokens.new (part_at depth (cursor_view tokens.old)) }
+    ensures shorter { IfOk result (λ _. IsShorter tokens.new tokens.old) }
 {
-    let (title, rest) = word(tokens)?;
-    let (index, rest) = index(alloc, rest, depth)?;
-    Ok((PartExpr { title, index }, rest))
+    let title = word(tokens)?;
+    let index = index(alloc, tokens, depth)?;
+    Ok(PartExpr { title, index })
 }
 
 /// `[ "." part ]`
 #[tactic(auto, unfolding(crate::specs::Descent::next_part_at))]
-fn next_part<'a>(alloc: Global, tokens: Cursor<'a>, depth: u8) -> Next<'a, PartExpr<'a>>
-    ensures gives { ReadsNext part_view result (next_part_at depth (cursor_view tokens.entry)) }
-    ensures shorter { IfOk result (λ o. IfSome o (λ p. IsShorter p.1 tokens.entry)) }
+fn next_part<'a>(
+    alloc: Global,
+    tokens: &mut Cursor<'a>,
+    depth: u8,
+) -> Result<Option<PartExpr<'a>>, Halt>
+    ensures gives { ReadsNext part_view result tokens.new
+        (next_part_at depth (cursor_view tokens.old)) }
+    ensures shorter { IfOk result (λ o. Shortens o tokens.new tokens.old) }
 {
-    let Some(rest) = after_sign(tokens, Sign::Dot) else {
+    if !after_sign(tokens, Sign::Dot) {
         return Ok(None);
-    };
-    let (part, rest) = part(alloc, rest, depth)?;
-    Ok(Some((part, rest)))
+    }
+    let part = part(alloc, tokens, depth)?;
+    Ok(Some(part))
 }
 
 /// `part { "." part }`
-pub fn name<'a>(alloc: Global, tokens: Cursor<'a>, depth: u8) -> Read<'a, NameExpr<'a>>
-    ensures gives { Reads name_view result (name_at depth (cursor_view tokens.entry)) }
-    ensures shorter { IfOk result (λ p. IsShorter p.1 tokens.entry) }
+pub fn name<'a>(alloc: Global, tokens: &mut Cursor<'a>, depth: u8) -> Result<NameExpr<'a>, Halt>
+    ensures gives { Reads name_view result tokens.new (name_at depth (cursor_view tokens.old)) }
+    ensures shorter { IfOk result (λ _. IsShorter tokens.new tokens.old) }
 {
-    let (first, after) = part(alloc, tokens, depth)?;
+    let first = part(alloc, tokens, depth)?;
     let mut parts = Few::of(first);
-    let mut rest = after;
-    'parts: while let Some((part, after)) = next_part(alloc, rest, depth)? {
+    'parts: while let Some(part) = next_part(alloc, tokens, depth)? {
         parts = parts.with(alloc, part)?;
-        rest = after;
     }
-    Ok((parts, rest))
+    Ok(parts)
 }
 
 /// `[ "-" expr ]`
 #[tactic(auto, unfolding(crate::specs::Descent::upper_at))]
-fn upper<'a>(alloc: Global, tokens: Cursor<'a>) -> Read<'a, Option<Expr<'a>>>
-    ensures gives { Reads maybe_expr_view result (upper_at (cursor_view tokens.entry)) }
-    ensures shorter { IfOk result (λ p. IsNoLonger p.1 tokens.entry) }
+fn upper<'a>(alloc: Global, tokens: &mut Cursor<'a>) -> Result<Option<Expr<'a>>, Halt>
+    ensures gives { Reads maybe_expr_view result tokens.new (upper_at (cursor_view tokens.old)) }
+    ensures shorter { IfOk result (λ _. IsNoLonger tokens.new tokens.old) }
 {
-    let Some(rest) = after_sign(tokens, Sign::Minus) else {
-        return Ok((None, tokens));
-    };
-    let (hi, rest) = expr(alloc, rest, MOST_OPEN)?;
-    Ok((Some(hi), rest))
+    if !after_sign(tokens, Sign::Minus) {
+        return Ok(None);
+    }
+    let hi = expr(alloc, tokens, MOST_OPEN)?;
+    Ok(Some(hi))
 }
 
 /// `expr [ "-" expr ]`
 #[tactic(auto, unfolding(crate::specs::Descent::block_at))]
-fn block<'a>(alloc: Global, tokens: Cursor<'a>) -> Read<'a, BlockExpr<'a>>
-    ensures gives { Reads block_view result (block_at (cursor_view tokens.entry)) }
-    ensures shorter { IfOk result (λ p. IsShorter p.1 tokens.entry) }
+fn block<'a>(alloc: Global, tokens: &mut Cursor<'a>) -> Result<BlockExpr<'a>, Halt>
+    ensures gives { Reads block_view result tokens.new (block_at (cursor_view tokens.old)) }
+    ensures shorter { IfOk result (λ _. IsShorter tokens.new tokens.old) }
 {
-    let (lo, rest) = expr(alloc, tokens, MOST_OPEN)?;
-    let (hi, rest) = upper(alloc, rest)?;
-    Ok((BlockExpr { lo, hi }, rest))
+    let lo = expr(alloc, tokens, MOST_OPEN)?;
+    let hi = upper(alloc, tokens)?;
+    Ok(BlockExpr { lo, hi })
 }
 
 /// `[ "," block ]`
 #[tactic(auto, unfolding(crate::specs::Descent::next_block_at))]
-fn next_block<'a>(alloc: Global, tokens: Cursor<'a>) -> Next<'a, BlockExpr<'a>>
-    ensures gives { ReadsNext block_view result (next_block_at (cursor_view tokens.entry)) }
-    ensures shorter { IfOk result (λ o. IfSome o (λ p. IsShorter p.1 tokens.entry)) }
+fn next_block<'a>(alloc: Global, tokens: &mut Cursor<'a>) -> Result<Option<BlockExpr<'a>>, Halt>
+    ensures gives { ReadsNext block_view result tokens.new
+        (next_block_at (cursor_view tokens.old)) }
+    ensures shorter { IfOk result (λ o. Shortens o tokens.new tokens.old) }
 {
-    let Some(rest) = after_sign(tokens, Sign::Comma) else {
+    if !after_sign(tokens, Sign::Comma) {
         return Ok(None);
-    };
-    let (block, rest) = block(alloc, rest)?;
-    Ok(Some((block, rest)))
+    }
+    let block = block(alloc, tokens)?;
+    Ok(Some(block))
 }
 
 /// `block { "," block }`
-fn blocks<'a>(alloc: Global, tokens: Cursor<'a>) -> Read<'a, Items<BlockExpr<'a>>>
-    ensures gives { Reads (map block_view) result (blocks_at (cursor_view tokens.entry)) }
-    ensures shorter { IfOk result (λ p. IsShorter p.1 tokens.entry) }
+fn blocks<'a>(alloc: Global, tokens: &mut Cursor<'a>) -> Result<Items<BlockExpr<'a>>, Halt>
+    ensures gives { Reads (map block_view) result tokens.new (blocks_at (cursor_view tokens.old)) }
+    ensures shorter { IfOk result (λ _. IsShorter tokens.new tokens.old) }
 {
-    let (first, after) = block(alloc, tokens)?;
+    let first = block(alloc, tokens)?;
     let mut blocks = Items::new(alloc);
     blocks.push(first)?;
-    let mut rest = after;
-    'list: while let Some((block, after)) = next_block(alloc, rest)? {
+    'list: while let Some(block) = next_block(alloc, tokens)? {
         blocks.push(block)?;
-        rest = after;
     }
-    Ok((blocks, rest))
+    Ok(blocks)
 }
 
 /// `[ "at" expr ]`
 #[tactic(auto, unfolding(crate::specs::Descent::addr_at))]
-fn addr<'a>(alloc: Global, tokens: Cursor<'a>) -> Read<'a, Option<Expr<'a>>>
-    ensures gives { Reads maybe_expr_view result (addr_at (cursor_view tokens.entry)) }
-    ensures shorter { IfOk result (λ p. IsNoLonger p.1 tokens.entry) }
+fn addr<'a>(alloc: Global, tokens: &mut Cursor<'a>) -> Result<Option<Expr<'a>>, Halt>
+    ensures gives { Reads maybe_expr_view result tokens.new (addr_at (cursor_view tokens.old)) }
+    ensures shorter { IfOk result (λ _. IsNoLonger tokens.new tokens.old) }
 {
-    let Some(rest) = after_keyword(tokens, Keyword::At) else {
-        return Ok((None, tokens));
-    };
-    let (addr, rest) = expr(alloc, rest, MOST_OPEN)?;
-    Ok((Some(addr), rest))
+    if !after_keyword(tokens, Keyword::At) {
+        return Ok(None);
+    }
+    let addr = expr(alloc, tokens, MOST_OPEN)?;
+    Ok(Some(addr))
 }
 
 /// `name [ "at" expr ]`
 #[tactic(auto, unfolding(crate::specs::Descent::dest_at))]
-fn dest<'a>(alloc: Global, tokens: Cursor<'a>) -> Read<'a, DestExpr<'a>>
-    ensures gives { Reads dest_view result (dest_at (cursor_view tokens.entry)) }
-    ensures shorter { IfOk result (λ p. IsShorter p.1 tokens.entry) }
+fn dest<'a>(alloc: Global, tokens: &mut Cursor<'a>) -> Result<DestExpr<'a>, Halt>
+    ensures gives { Reads dest_view result tokens.new (dest_at (cursor_view tokens.old)) }
+    ensures shorter { IfOk result (λ _. IsShorter tokens.new tokens.old) }
 {
-    let (name, rest) = name(alloc, tokens, MOST_OPEN)?;
-    let (addr, rest) = addr(alloc, rest)?;
-    Ok((DestExpr { name, addr }, rest))
+    let name = name(alloc, tokens, MOST_OPEN)?;
+    let addr = addr(alloc, tokens)?;
+    Ok(DestExpr { name, addr })
 }
 
 /// `[ "and" dest ]`
 #[tactic(auto, unfolding(crate::specs::Descent::next_dest_at))]
-fn next_dest<'a>(alloc: Global, tokens: Cursor<'a>) -> Next<'a, DestExpr<'a>>
-    ensures gives { ReadsNext dest_view result (next_dest_at (cursor_view tokens.entry)) }
-    ensures shorter { IfOk result (λ o. IfSome o (λ p. IsShorter p.1 tokens.entry)) }
+fn next_dest<'a>(alloc: Global, tokens: &mut Cursor<'a>) -> Result<Option<DestExpr<'a>>, Halt>
+    ensures gives { ReadsNext dest_view result tokens.new (next_dest_at (cursor_view tokens.old)) }
+    ensures shorter { IfOk result (λ o. Shortens o tokens.new tokens.old) }
 {
-    let Some(rest) = after_keyword(tokens, Keyword::And) else {
+    if !after_keyword(tokens, Keyword::And) {
         return Ok(None);
-    };
-    let (dest, rest) = dest(alloc, rest)?;
-    Ok(Some((dest, rest)))
+    }
+    let dest = dest(alloc, tokens)?;
+    Ok(Some(dest))
 }
 
 /// `dest { "and" dest }`, at most eight: a ninth is left where it stands.
-fn dests<'a>(alloc: Global, tokens: Cursor<'a>) -> Read<'a, Items<DestExpr<'a>>>
-    ensures gives { Reads (map dest_view) result (dests_at (cursor_view tokens.entry)) }
-    ensures shorter { IfOk result (λ p. IsShorter p.1 tokens.entry) }
+fn dests<'a>(alloc: Global, tokens: &mut Cursor<'a>) -> Result<Items<DestExpr<'a>>, Halt>
+    ensures gives { Reads (map dest_view) result tokens.new (dests_at (cursor_view tokens.old)) }
+    ensures shorter { IfOk result (λ _. IsShorter tokens.new tokens.old) }
 {
-    let (first, after) = dest(alloc, tokens)?;
+    let first = dest(alloc, tokens)?;
     let mut dests = Items::new(alloc);
     dests.push(first)?;
-    let mut rest = after;
     let mut left = 7_u8;
     'dests: while left > 0 {
-        let next = next_dest(alloc, rest)?;
-        let Some((dest, after)) = next else {
-            return Ok((dests, rest));
+        let next = next_dest(alloc, tokens)?;
+        let Some(dest) = next else {
+            return Ok(dests);
         };
         dests.push(dest)?;
-        rest = after;
         left -= 1;
     }
-    Ok((dests, rest))
+    Ok(dests)
 }
 
 /// `block "to" dest { "and" dest }`
 #[tactic(auto, unfolding(crate::specs::Descent::entry_at))]
-fn entry<'a>(alloc: Global, tokens: Cursor<'a>) -> Read<'a, EntryExpr<'a>>
-    ensures gives { Reads entry_view result (entry_at (cursor_view tokens.entry)) }
-    ensures shorter { IfOk result (λ p. IsShorter p.1 tokens.entry) }
+fn entry<'a>(alloc: Global, tokens: &mut Cursor<'a>) -> Result<EntryExpr<'a>, Halt>
+    ensures gives { Reads entry_view result tokens.new (entry_at (cursor_view tokens.old)) }
+    ensures shorter { IfOk result (λ _. IsShorter tokens.new tokens.old) }
 {
-    let (block, rest) = block(alloc, tokens)?;
-    let rest = keyword(rest, Keyword::To)?;
-    let (dests, rest) = dests(alloc, rest)?;
-    Ok((EntryExpr { block, dests }, rest))
+    let block = block(alloc, tokens)?;
+    keyword(tokens, Keyword::To)?;
+    let dests = dests(alloc, tokens)?;
+    Ok(EntryExpr { block, dests })
 }
 
 /// `[ "," entry ]`
 #[tactic(auto, unfolding(crate::specs::Descent::next_entry_at))]
-fn next_entry<'a>(alloc: Global, tokens: Cursor<'a>) -> Next<'a, EntryExpr<'a>>
-    ensures gives { ReadsNext entry_view result (next_entry_at (cursor_view tokens.entry)) }
-    ensures shorter { IfOk result (λ o. IfSome o (λ p. IsShorter p.1 tokens.entry)) }
+fn next_entry<'a>(alloc: Global, tokens: &mut Cursor<'a>) -> Result<Option<EntryExpr<'a>>, Halt>
+    ensures gives { ReadsNext entry_view result tokens.new
+        (next_entry_at (cursor_view tokens.old)) }
+    ensures shorter { IfOk result (λ o. Shortens o tokens.new tokens.old) }
 {
-    let Some(rest) = after_sign(tokens, Sign::Comma) else {
+    if !after_sign(tokens, Sign::Comma) {
         return Ok(None);
-    };
-    let (entry, rest) = entry(alloc, rest)?;
-    Ok(Some((entry, rest)))
+    }
+    let entry = entry(alloc, tokens)?;
+    Ok(Some(entry))
 }
 
 /// `entry { "," entry }`
-fn entries<'a>(alloc: Global, tokens: Cursor<'a>) -> Read<'a, Items<EntryExpr<'a>>>
-    ensures gives { Reads (map entry_view) result (entries_at (cursor_view tokens.entry)) }
-    ensures shorter { IfOk result (λ p. IsShorter p.1 tokens.entry) }
+fn entries<'a>(alloc: Global, tokens: &mut Cursor<'a>) -> Result<Items<EntryExpr<'a>>, Halt>
+    ensures gives { Reads (map entry_view) result tokens.new (entries_at (cursor_view tokens.old)) }
+    ensures shorter { IfOk result (λ _. IsShorter tokens.new tokens.old) }
 {
-    let (first, after) = entry(alloc, tokens)?;
+    let first = entry(alloc, tokens)?;
     let mut entries = Items::new(alloc);
     entries.push(first)?;
-    let mut rest = after;
-    'entries: while let Some((entry, after)) = next_entry(alloc, rest)? {
+    'entries: while let Some(entry) = next_entry(alloc, tokens)? {
         entries.push(entry)?;
-        rest = after;
     }
-    Ok((entries, rest))
+    Ok(entries)
 }
 
 /// `[ "accept" "[" block { "," block } "]" ]`
 #[tactic(auto, unfolding(crate::specs::Descent::accept_at))]
-fn accept<'a>(alloc: Global, tokens: Cursor<'a>) -> Read<'a, Items<BlockExpr<'a>>>
-    ensures gives { Reads (map block_view) result (accept_at (cursor_view tokens.entry)) }
+fn accept<'a>(alloc: Global, tokens: &mut Cursor<'a>) -> Result<Items<BlockExpr<'a>>, Halt>
+    ensures gives { Reads (map block_view) result tokens.new (accept_at (cursor_view tokens.old)) }
 {
-    let Some(rest) = after_keyword(tokens, Keyword::Accept) else {
-        return Ok((Items::new(alloc), tokens));
-    };
-    let rest = sign(rest, Sign::OpenBracket)?;
-    let (blocks, rest) = blocks(alloc, rest)?;
-    let rest = sign(rest, Sign::CloseBracket)?;
-    Ok((blocks, rest))
+    if !after_keyword(tokens, Keyword::Accept) {
+        return Ok(Items::new(alloc));
+    }
+    sign(tokens, Sign::OpenBracket)?;
+    let blocks = blocks(alloc, tokens)?;
+    sign(tokens, Sign::CloseBracket)?;
+    Ok(blocks)
 }
 
 /// `[ "map" "[" entry { "," entry } "]" ]`
 #[tactic(auto, unfolding(crate::specs::Descent::map_at))]
-fn map<'a>(alloc: Global, tokens: Cursor<'a>) -> Read<'a, Items<EntryExpr<'a>>>
-    ensures gives { Reads (map entry_view) result (map_at (cursor_view tokens.entry)) }
+fn map<'a>(alloc: Global, tokens: &mut Cursor<'a>) -> Result<Items<EntryExpr<'a>>, Halt>
+    ensures gives { Reads (map entry_view) result tokens.new (map_at (cursor_view tokens.old)) }
 {
-    let Some(rest) = after_keyword(tokens, Keyword::Map) else {
-        return Ok((Items::new(alloc), tokens));
-    };
-    let rest = sign(rest, Sign::OpenBracket)?;
-    let (entries, rest) = entries(alloc, rest)?;
-    let rest = sign(rest, Sign::CloseBracket)?;
-    Ok((entries, rest))
+    if !after_keyword(tokens, Keyword::Map) {
+        return Ok(Items::new(alloc));
+    }
+    sign(tokens, Sign::OpenBracket)?;
+    let entries = entries(alloc, tokens)?;
+    sign(tokens, Sign::CloseBracket)?;
+    Ok(entries)
 }
 
 /// `[ "over" name ]`
 #[tactic(auto, unfolding(crate::specs::Descent::over_at))]
-fn over<'a>(alloc: Global, tokens: Cursor<'a>) -> Read<'a, Option<NameExpr<'a>>>
-    ensures gives { Reads maybe_name_view result (over_at (cursor_view tokens.entry)) }
+fn over<'a>(alloc: Global, tokens: &mut Cursor<'a>) -> Result<Option<NameExpr<'a>>, Halt>
+    ensures gives { Reads maybe_name_view result tokens.new (over_at (cursor_view tokens.old)) }
 {
-    let Some(rest) = after_keyword(tokens, Keyword::Over) else {
-        return Ok((None, tokens));
-    };
-    let (name, rest) = name(alloc, rest, MOST_OPEN)?;
-    Ok((Some(name), rest))
+    if !after_keyword(tokens, Keyword::Over) {
+        return Ok(None);
+    }
+    let name = name(alloc, tokens, MOST_OPEN)?;
+    Ok(Some(name))
 }
 
 /// The parts of a node, where there is one.
@@ -290,11 +293,11 @@ fn some_parts<'a>(
 
 /// `[ accept ] [ map ] [ over ]`
 #[tactic(auto, unfolding(crate::specs::Descent::spec_at))]
-pub fn spec<'a>(alloc: Global, tokens: Cursor<'a>) -> Read<'a, Option<Box<Spec<'a>>>>
-    ensures gives { Reads spec_view result (spec_at (cursor_view tokens.entry)) }
+pub fn spec<'a>(alloc: Global, tokens: &mut Cursor<'a>) -> Result<Option<Box<Spec<'a>>>, Halt>
+    ensures gives { Reads spec_view result tokens.new (spec_at (cursor_view tokens.old)) }
 {
-    let (accepts, rest) = accept(alloc, tokens)?;
-    let (entries, rest) = map(alloc, rest)?;
-    let (over, rest) = over(alloc, rest)?;
-    Ok((some_parts(alloc, accepts, entries, over)?, rest))
+    let accepts = accept(alloc, tokens)?;
+    let entries = map(alloc, tokens)?;
+    let over = over(alloc, tokens)?;
+    Ok(some_parts(alloc, accepts, entries, over)?)
 }

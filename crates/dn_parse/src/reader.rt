@@ -9,7 +9,7 @@ ghost use Rattle.dn_parse.specs.Commands.{with_commands};
 ghost use Rattle.dn_parse.specs.Views.{blocks_view, tree_view};
 ghost use Rattle.dn_parse.specs.Script.{script_view};
 ghost use Rattle.dn_base.specs.Answers.{Answers};
-ghost use Rattle.dn_parse.specs.Faults.{parse_fault_view, halt_fault, misplaced_fault, trouble_view, Reads, IsShorter};
+ghost use Rattle.dn_parse.specs.Faults.{parse_fault_view, halt_fault, misplaced_fault, trouble_view, IsShorter};
 
 use crate::blocks::{Blocks, Misplaced, Trouble, none, put_statement};
 use crate::cursor::{Halt, first_line};
@@ -127,52 +127,50 @@ fn misplaced_fault(misplaced: Misplaced, line: u32) -> ParseFault
     }
 }
 
-/// Puts the next statement into the blocks, which begins in this line and stands before the commands,
-/// and gives the tokens after it.
+/// Puts the next statement into the blocks, which begins in this line and stands before the commands.
 fn put_next<'a>(
     alloc: Global,
     blocks: &mut Blocks<'a>,
-    rest: Cursor<'a>,
+    tokens: &mut Cursor<'a>,
     line: u32,
-) -> Result<Cursor<'a>, Trouble>
-    requires begins { first_line (cursor_view rest) ≡ Some line }
+) -> Result<(), Trouble>
+    requires begins { first_line (cursor_view tokens.old) ≡ Some line }
     requires before { blocks.old.begun ≡ false }
-    ensures ok { IfOk result (λ after. (last : ℕ) (all : List SpecToken) →
-        judge last all (blocks_view blocks.old) (cursor_view rest.entry)
-        ≡ judge last all (blocks_view blocks.new) (cursor_view after)) }
-    ensures shorter { IfOk result (λ after. IsShorter after rest.entry) }
+    ensures ok { IfOk result (λ _. (last : ℕ) (all : List SpecToken) →
+        judge last all (blocks_view blocks.old) (cursor_view tokens.old)
+        ≡ judge last all (blocks_view blocks.new) (cursor_view tokens.new)) }
+    ensures shorter { IfOk result (λ _. IsShorter tokens.new tokens.old) }
     ensures err { IfErr result (λ e. (last : ℕ) (all : List SpecToken) →
         IfSome (trouble_view e last all)
-        (λ f. judge last all (blocks_view blocks.old) (cursor_view rest.entry) ≡ Err f)) }
+        (λ f. judge last all (blocks_view blocks.old) (cursor_view tokens.old) ≡ Err f)) }
 {
-    match whole_statement(alloc, rest) {
+    match whole_statement(alloc, tokens) {
         Err(halt) => Err(Trouble::Halted(halt)),
-        Ok((statement, after)) => match put_statement(alloc, blocks, line, statement) {
-            Ok(()) => Ok(after),
+        Ok(statement) => match put_statement(alloc, blocks, line, statement) {
+            Ok(()) => Ok(()),
             Err(misplaced) => Err(Trouble::Misplaced(misplaced, line)),
         },
     }
 }
 
-/// The blocks that the tokens come to, up to `begin` or to their end, and the tokens behind.
-fn blocks_before<'a>(alloc: Global, tokens: Cursor<'a>) -> Result<(Blocks<'a>, Cursor<'a>), Trouble>
-    ensures ok { IfOk result (λ p. (last : ℕ) (all : List SpecToken) →
-        judge last all no_blocks_yet (cursor_view tokens.entry)
-        ≡ judge last all (blocks_view p.0) (cursor_view p.1)) }
-    ensures ended { IfOk result (λ p. p.0.begun ≡ false → cursor_view p.1 ≡ []) }
+/// The blocks that the tokens come to, up to `begin` or to their end.
+fn blocks_before<'a>(alloc: Global, tokens: &mut Cursor<'a>) -> Result<Blocks<'a>, Trouble>
+    ensures ok { IfOk result (λ b. (last : ℕ) (all : List SpecToken) →
+        judge last all no_blocks_yet (cursor_view tokens.old)
+        ≡ judge last all (blocks_view b) (cursor_view tokens.new)) }
+    ensures ended { IfOk result (λ b. b.begun ≡ false → cursor_view tokens.new ≡ []) }
     ensures err { IfErr result (λ e. (last : ℕ) (all : List SpecToken) →
         IfSome (trouble_view e last all)
-        (λ f. judge last all no_blocks_yet (cursor_view tokens.entry) ≡ Err f)) }
+        (λ f. judge last all no_blocks_yet (cursor_view tokens.old) ≡ Err f)) }
 {
     let mut blocks = none(alloc);
-    let mut rest = tokens;
     'statements: while !blocks.begun {
-        let Some(line) = first_line(rest) else {
-            return Ok((blocks, rest));
+        let Some(line) = first_line(tokens) else {
+            return Ok(blocks);
         };
-        rest = put_next(alloc, &mut blocks, rest, line)?;
+        put_next(alloc, &mut blocks, tokens, line)?;
     }
-    Ok((blocks, rest))
+    Ok(blocks)
 }
 
 /// The blocks and the commands that the tokens come to.
@@ -184,7 +182,8 @@ fn all_placed<'a>(alloc: Global, tokens: Cursor<'a>) -> Result<(Blocks<'a>, Scri
         IfSome (trouble_view e last all)
         (λ f. judge last all no_blocks_yet (cursor_view tokens.entry) ≡ Err f)) }
 {
-    let (blocks, rest) = blocks_before(alloc, tokens)?;
+    let mut rest = tokens;
+    let blocks = blocks_before(alloc, &mut rest)?;
     if !blocks.begun {
         return Ok((blocks, Script::none(rest)));
     }

@@ -53,8 +53,8 @@ impl<'a> Script<'a> {
     {
         let mut count = 0;
         let mut rest = tokens;
-        'commands: while let Some(line) = first_line(rest) {
-            rest = Script::after_command(alloc, rest, line)?;
+        'commands: while let Some(line) = first_line(&rest) {
+            Script::pass_command(alloc, &mut rest, line)?;
             count += 1;
         }
         Ok(Script {
@@ -63,21 +63,21 @@ impl<'a> Script<'a> {
         })
     }
 
-    /// The tokens after the next command, which begins in this line, or why no command stands there.
-    fn after_command(alloc: Global, tokens: Cursor<'a>, line: u32) -> Result<Cursor<'a>, Trouble>
-        requires { first_line (cursor_view tokens) ≡ Some line }
-        ensures ok { IfOk result (λ rest.
-            option_map (λ c. c.1) (next_command (cursor_view tokens.entry))
-            ≡ Some (cursor_view rest)) }
-        ensures shorter { IfOk result (λ rest. IsShorter rest tokens.entry) }
+    /// Goes on behind the next command, which begins in this line, or says why no command stands there.
+    fn pass_command(alloc: Global, tokens: &mut Cursor<'a>, line: u32) -> Result<(), Trouble>
+        requires { first_line (cursor_view tokens.old) ≡ Some line }
+        ensures ok { IfOk result (λ _.
+            option_map (λ c. c.1) (next_command (cursor_view tokens.old))
+            ≡ Some (cursor_view tokens.new)) }
+        ensures shorter { IfOk result (λ _. IsShorter tokens.new tokens.old) }
         ensures err { IfErr result (λ e. (last : ℕ) (all : List SpecToken) (b : SpecBlocks) →
             b.begun ≡ true → IfSome (trouble_view e last all)
-            (λ f. judge last all b (cursor_view tokens.entry) ≡ Err f)) }
+            (λ f. judge last all b (cursor_view tokens.old) ≡ Err f)) }
     {
         match command(alloc, tokens, line) {
-            Ok(Some((found, rest))) => {
+            Ok(Some(found)) => {
                 drop(found);
-                Ok(rest)
+                Ok(())
             }
             Ok(None) => Err(Trouble::Misplaced(Misplaced::Forbidden, line)),
             Err(halt) => Err(Trouble::Halted(halt)),
@@ -104,11 +104,12 @@ impl<'a> Script<'a> {
         if self.count == 0 {
             return Ok(None);
         }
-        let Some(line) = first_line(self.first) else {
+        let Some(line) = first_line(&self.first) else {
             unreachable!()
         };
-        match command(alloc, self.first, line) {
-            Ok(Some((command, rest))) => Ok(Some((
+        let mut rest = self.first;
+        match command(alloc, &mut rest, line) {
+            Ok(Some(command)) => Ok(Some((
                 command,
                 Script {
                     first: rest,

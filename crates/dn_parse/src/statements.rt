@@ -5,10 +5,10 @@ ghost use Rattle.dn_token.specs.Cursor.{cursor_view};
 ghost use Rattle.dn_parse.specs.Views.{expr_view, name_view, param_view, arg_view, role_view, declaration_view, order_view, statement_view, command_view};
 ghost use Rattle.dn_parse.specs.Descent.{any_word_at, param_at, next_param_at, params_at, closed_params_at, arg_at, next_arg_at, args_at, closed_args_at, next_port_at, ports_at, node_at, measure_at, unit_at, module_at, use_at, loop_at, mode_at, access_at, resolve_at, lookup_at, view_at, grant_at, route_at, order_at, keyword_statement_at, statement_at, whole_statement_at};
 ghost use Rattle.dn_parse.specs.Commands.{command_at};
-ghost use Rattle.dn_parse.specs.Faults.{Reads, ReadsNext, IsShorter};
+ghost use Rattle.dn_parse.specs.Faults.{Reads, ReadsNext, IsShorter, Shortens};
 
 use crate::cursor::{
-    Next, Read, after_keyword, after_sign, after_word, keyword, next, refusal, sign, the_word, word,
+    Halt, after_keyword, after_sign, after_word, keyword, refusal, sign, the_word, word,
 };
 use crate::expressions::expr;
 use crate::nodes::{name, spec};
@@ -52,201 +52,200 @@ pub enum Statement<'a> {
 
 /// A word of either sort.
 #[tactic(auto, unfolding(crate::specs::Descent::any_word_at))]
-fn any_word<'a>(tokens: Cursor<'a>) -> Read<'a, &'a str>
-    ensures gives { Reads (λ x. x.now) result (any_word_at (cursor_view tokens.entry)) }
+fn any_word<'a>(tokens: &mut Cursor<'a>) -> Result<&'a str, Halt>
+    ensures gives { Reads (λ x. x.now) result tokens.new (any_word_at (cursor_view tokens.old)) }
 {
-    let Some((token, rest)) = next(tokens) else {
+    let Some(token) = tokens.peek() else {
         return Err(refusal(tokens));
     };
-    match token.lexeme {
-        Lexeme::Word(word) => Ok((word, rest)),
-        Lexeme::Keyword(word) => Ok((spelling(word), rest)),
-        _ => Err(refusal(tokens)),
-    }
+    let word = match token.lexeme {
+        Lexeme::Word(word) => word,
+        Lexeme::Keyword(word) => spelling(word),
+        _ => return Err(refusal(tokens)),
+    };
+    *tokens = tokens.advance();
+    Ok(word)
 }
 
 /// `"num" word | "node" word`
 #[tactic(auto, unfolding(crate::specs::Descent::param_at))]
-fn param<'a>(alloc: Global, tokens: Cursor<'a>) -> Read<'a, Param<'a>>
-    ensures gives { Reads param_view result (param_at (cursor_view tokens.entry)) }
-    ensures shorter { IfOk result (λ p. IsShorter p.1 tokens.entry) }
+fn param<'a>(alloc: Global, tokens: &mut Cursor<'a>) -> Result<Param<'a>, Halt>
+    ensures gives { Reads param_view result tokens.new (param_at (cursor_view tokens.old)) }
+    ensures shorter { IfOk result (λ _. IsShorter tokens.new tokens.old) }
 {
-    let Some(rest) = after_keyword(tokens, Keyword::Num) else {
-        let rest = keyword(tokens, Keyword::Node)?;
-        let (name, rest) = word(rest)?;
-        return Ok((Param::Node(name), rest));
-    };
-    let (name, rest) = word(rest)?;
-    Ok((Param::Num(name), rest))
+    if !after_keyword(tokens, Keyword::Num) {
+        keyword(tokens, Keyword::Node)?;
+        let name = word(tokens)?;
+        return Ok(Param::Node(name));
+    }
+    let name = word(tokens)?;
+    Ok(Param::Num(name))
 }
 
 /// `[ "," param ]`
 #[tactic(auto, unfolding(crate::specs::Descent::next_param_at))]
-fn next_param<'a>(alloc: Global, tokens: Cursor<'a>) -> Next<'a, Param<'a>>
-    ensures gives { ReadsNext param_view result (next_param_at (cursor_view tokens.entry)) }
-    ensures shorter { IfOk result (λ o. IfSome o (λ p. IsShorter p.1 tokens.entry)) }
+fn next_param<'a>(alloc: Global, tokens: &mut Cursor<'a>) -> Result<Option<Param<'a>>, Halt>
+    ensures gives { ReadsNext param_view result tokens.new
+        (next_param_at (cursor_view tokens.old)) }
+    ensures shorter { IfOk result (λ o. Shortens o tokens.new tokens.old) }
 {
-    let Some(rest) = after_sign(tokens, Sign::Comma) else {
+    if !after_sign(tokens, Sign::Comma) {
         return Ok(None);
-    };
-    let (param, rest) = param(alloc, rest)?;
-    Ok(Some((param, rest)))
+    }
+    let param = param(alloc, tokens)?;
+    Ok(Some(param))
 }
 
 /// `param { "," param }`
-fn some_params<'a>(alloc: Global, tokens: Cursor<'a>) -> Read<'a, Items<Param<'a>>>
-    ensures gives { Reads (map param_view) result (params_at (cursor_view tokens.entry)) }
-    ensures shorter { IfOk result (λ p. IsShorter p.1 tokens.entry) }
+fn some_params<'a>(alloc: Global, tokens: &mut Cursor<'a>) -> Result<Items<Param<'a>>, Halt>
+    ensures gives { Reads (map param_view) result tokens.new (params_at (cursor_view tokens.old)) }
+    ensures shorter { IfOk result (λ _. IsShorter tokens.new tokens.old) }
 {
-    let (first, after) = param(alloc, tokens)?;
+    let first = param(alloc, tokens)?;
     let mut params = Items::new(alloc);
     params.push(first)?;
-    let mut rest = after;
-    'params: while let Some((param, after)) = next_param(alloc, rest)? {
+    'params: while let Some(param) = next_param(alloc, tokens)? {
         params.push(param)?;
-        rest = after;
     }
-    Ok((params, rest))
+    Ok(params)
 }
 
 /// `[ param { "," param } ] ")"`
 #[tactic(auto, unfolding(crate::specs::Descent::closed_params_at))]
-fn params<'a>(alloc: Global, tokens: Cursor<'a>) -> Read<'a, Items<Param<'a>>>
-    ensures gives { Reads (map param_view) result (closed_params_at (cursor_view tokens.entry)) }
+fn params<'a>(alloc: Global, tokens: &mut Cursor<'a>) -> Result<Items<Param<'a>>, Halt>
+    ensures gives { Reads (map param_view) result tokens.new
+        (closed_params_at (cursor_view tokens.old)) }
 {
-    if let Some(rest) = after_sign(tokens, Sign::CloseParenthesis) {
-        return Ok((Items::new(alloc), rest));
+    if after_sign(tokens, Sign::CloseParenthesis) {
+        return Ok(Items::new(alloc));
     }
-    let (params, rest) = some_params(alloc, tokens)?;
-    let rest = sign(rest, Sign::CloseParenthesis)?;
-    Ok((params, rest))
+    let params = some_params(alloc, tokens)?;
+    sign(tokens, Sign::CloseParenthesis)?;
+    Ok(params)
 }
 
 /// `expr | "node" name`
 #[tactic(auto, unfolding(crate::specs::Descent::arg_at))]
-fn arg<'a>(alloc: Global, tokens: Cursor<'a>) -> Read<'a, Arg<'a>>
-    ensures gives { Reads arg_view result (arg_at (cursor_view tokens.entry)) }
-    ensures shorter { IfOk result (λ p. IsShorter p.1 tokens.entry) }
+fn arg<'a>(alloc: Global, tokens: &mut Cursor<'a>) -> Result<Arg<'a>, Halt>
+    ensures gives { Reads arg_view result tokens.new (arg_at (cursor_view tokens.old)) }
+    ensures shorter { IfOk result (λ _. IsShorter tokens.new tokens.old) }
 {
-    let Some(rest) = after_keyword(tokens, Keyword::Node) else {
-        let (value, rest) = expr(alloc, tokens, MOST_INSIDE)?;
-        return Ok((Arg::Num(value), rest));
-    };
-    let (node, rest) = name(alloc, rest, MOST_INSIDE)?;
-    Ok((Arg::Node(node), rest))
+    if !after_keyword(tokens, Keyword::Node) {
+        let value = expr(alloc, tokens, MOST_INSIDE)?;
+        return Ok(Arg::Num(value));
+    }
+    let node = name(alloc, tokens, MOST_INSIDE)?;
+    Ok(Arg::Node(node))
 }
 
 /// `[ "," arg ]`
 #[tactic(auto, unfolding(crate::specs::Descent::next_arg_at))]
-fn next_arg<'a>(alloc: Global, tokens: Cursor<'a>) -> Next<'a, Arg<'a>>
-    ensures gives { ReadsNext arg_view result (next_arg_at (cursor_view tokens.entry)) }
-    ensures shorter { IfOk result (λ o. IfSome o (λ p. IsShorter p.1 tokens.entry)) }
+fn next_arg<'a>(alloc: Global, tokens: &mut Cursor<'a>) -> Result<Option<Arg<'a>>, Halt>
+    ensures gives { ReadsNext arg_view result tokens.new (next_arg_at (cursor_view tokens.old)) }
+    ensures shorter { IfOk result (λ o. Shortens o tokens.new tokens.old) }
 {
-    let Some(rest) = after_sign(tokens, Sign::Comma) else {
+    if !after_sign(tokens, Sign::Comma) {
         return Ok(None);
-    };
-    let (arg, rest) = arg(alloc, rest)?;
-    Ok(Some((arg, rest)))
+    }
+    let arg = arg(alloc, tokens)?;
+    Ok(Some(arg))
 }
 
 /// `arg { "," arg }`
-fn some_args<'a>(alloc: Global, tokens: Cursor<'a>) -> Read<'a, Items<Arg<'a>>>
-    ensures gives { Reads (map arg_view) result (args_at (cursor_view tokens.entry)) }
-    ensures shorter { IfOk result (λ p. IsShorter p.1 tokens.entry) }
+fn some_args<'a>(alloc: Global, tokens: &mut Cursor<'a>) -> Result<Items<Arg<'a>>, Halt>
+    ensures gives { Reads (map arg_view) result tokens.new (args_at (cursor_view tokens.old)) }
+    ensures shorter { IfOk result (λ _. IsShorter tokens.new tokens.old) }
 {
-    let (first, after) = arg(alloc, tokens)?;
+    let first = arg(alloc, tokens)?;
     let mut args = Items::new(alloc);
     args.push(first)?;
-    let mut rest = after;
-    'list: while let Some((arg, after)) = next_arg(alloc, rest)? {
+    'list: while let Some(arg) = next_arg(alloc, tokens)? {
         args.push(arg)?;
-        rest = after;
     }
-    Ok((args, rest))
+    Ok(args)
 }
 
 /// `[ arg { "," arg } ] ")"`
 #[tactic(auto, unfolding(crate::specs::Descent::closed_args_at))]
-fn args<'a>(alloc: Global, tokens: Cursor<'a>) -> Read<'a, Items<Arg<'a>>>
-    ensures gives { Reads (map arg_view) result (closed_args_at (cursor_view tokens.entry)) }
+fn args<'a>(alloc: Global, tokens: &mut Cursor<'a>) -> Result<Items<Arg<'a>>, Halt>
+    ensures gives { Reads (map arg_view) result tokens.new
+        (closed_args_at (cursor_view tokens.old)) }
 {
-    if let Some(rest) = after_sign(tokens, Sign::CloseParenthesis) {
-        return Ok((Items::new(alloc), rest));
+    if after_sign(tokens, Sign::CloseParenthesis) {
+        return Ok(Items::new(alloc));
     }
-    let (args, rest) = some_args(alloc, tokens)?;
-    let rest = sign(rest, Sign::CloseParenthesis)?;
-    Ok((args, rest))
+    let args = some_args(alloc, tokens)?;
+    sign(tokens, Sign::CloseParenthesis)?;
+    Ok(args)
 }
 
 /// `[ "," name ]`
 #[tactic(auto, unfolding(crate::specs::Descent::next_port_at))]
-fn next_port<'a>(alloc: Global, tokens: Cursor<'a>) -> Next<'a, NameExpr<'a>>
-    ensures gives { ReadsNext name_view result (next_port_at (cursor_view tokens.entry)) }
-    ensures shorter { IfOk result (λ o. IfSome o (λ p. IsShorter p.1 tokens.entry)) }
+fn next_port<'a>(alloc: Global, tokens: &mut Cursor<'a>) -> Result<Option<NameExpr<'a>>, Halt>
+    ensures gives { ReadsNext name_view result tokens.new (next_port_at (cursor_view tokens.old)) }
+    ensures shorter { IfOk result (λ o. Shortens o tokens.new tokens.old) }
 {
-    let Some(rest) = after_sign(tokens, Sign::Comma) else {
+    if !after_sign(tokens, Sign::Comma) {
         return Ok(None);
-    };
-    let (port, rest) = name(alloc, rest, MOST_OPEN)?;
-    Ok(Some((port, rest)))
+    }
+    let port = name(alloc, tokens, MOST_OPEN)?;
+    Ok(Some(port))
 }
 
 /// `name { "," name }`, at most eight: a ninth is left where it stands.
-fn ports<'a>(alloc: Global, tokens: Cursor<'a>) -> Read<'a, Items<NameExpr<'a>>>
-    ensures gives { Reads (map name_view) result (ports_at (cursor_view tokens.entry)) }
-    ensures shorter { IfOk result (λ p. IsShorter p.1 tokens.entry) }
+fn ports<'a>(alloc: Global, tokens: &mut Cursor<'a>) -> Result<Items<NameExpr<'a>>, Halt>
+    ensures gives { Reads (map name_view) result tokens.new (ports_at (cursor_view tokens.old)) }
+    ensures shorter { IfOk result (λ _. IsShorter tokens.new tokens.old) }
 {
-    let (first, after) = name(alloc, tokens, MOST_OPEN)?;
+    let first = name(alloc, tokens, MOST_OPEN)?;
     let mut ports = Items::new(alloc);
     ports.push(first)?;
-    let mut rest = after;
     let mut left = 7_u8;
     'ports: while left > 0 {
-        let next = next_port(alloc, rest)?;
-        let Some((port, after)) = next else {
-            return Ok((ports, rest));
+        let next = next_port(alloc, tokens)?;
+        let Some(port) = next else {
+            return Ok(ports);
         };
         ports.push(port)?;
-        rest = after;
         left -= 1;
     }
-    Ok((ports, rest))
+    Ok(ports)
 }
 
 /// `name "is" spec`
 #[tactic(auto, unfolding(crate::specs::Descent::node_at))]
-fn node<'a>(alloc: Global, tokens: Cursor<'a>, role: DeclRole) -> Read<'a, Decl<'a>>
-    ensures gives { Reads declaration_view result
-        (node_at (role_view role) (cursor_view tokens.entry)) }
+fn node<'a>(alloc: Global, tokens: &mut Cursor<'a>, role: DeclRole) -> Result<Decl<'a>, Halt>
+    ensures gives { Reads declaration_view result tokens.new
+        (node_at (role_view role) (cursor_view tokens.old)) }
 {
-    let (name, rest) = name(alloc, tokens, MOST_OPEN)?;
-    let rest = keyword(rest, Keyword::Is)?;
-    let (spec, rest) = spec(alloc, rest)?;
-    Ok((Decl::Node { role, name, spec }, rest))
+    let name = name(alloc, tokens, MOST_OPEN)?;
+    keyword(tokens, Keyword::Is)?;
+    let spec = spec(alloc, tokens)?;
+    Ok(Decl::Node { role, name, spec })
 }
 
 /// A reserved word, and then an expression.
 #[tactic(auto, unfolding(crate::specs::Descent::measure_at))]
-fn measure<'a>(alloc: Global, tokens: Cursor<'a>, word: Keyword) -> Read<'a, Expr<'a>>
-    ensures gives { Reads expr_view result (measure_at word (cursor_view tokens.entry)) }
+fn measure<'a>(alloc: Global, tokens: &mut Cursor<'a>, word: Keyword) -> Result<Expr<'a>, Halt>
+    ensures gives { Reads expr_view result tokens.new (measure_at word (cursor_view tokens.old)) }
 {
-    let rest = keyword(tokens, word)?;
-    expr(alloc, rest, MOST_OPEN)
+    keyword(tokens, word)?;
+    expr(alloc, tokens, MOST_OPEN)
 }
 
 /// `name "kind" any "page" expr "slots" expr "reach" expr "to" name { "," name }`
 #[tactic(auto, unfolding(crate::specs::Descent::unit_at))]
-fn unit<'a>(alloc: Global, tokens: Cursor<'a>) -> Read<'a, Decl<'a>>
-    ensures gives { Reads declaration_view result (unit_at (cursor_view tokens.entry)) }
+fn unit<'a>(alloc: Global, tokens: &mut Cursor<'a>) -> Result<Decl<'a>, Halt>
+    ensures gives { Reads declaration_view result tokens.new (unit_at (cursor_view tokens.old)) }
 {
-    let (name, rest) = name(alloc, tokens, MOST_OPEN)?;
-    let rest = keyword(rest, Keyword::Kind)?;
-    let (kind, rest) = any_word(rest)?;
-    let (page, rest) = measure(alloc, rest, Keyword::Page)?;
-    let (slots, rest) = measure(alloc, rest, Keyword::Slots)?;
-    let (reach, rest) = measure(alloc, rest, Keyword::Reach)?;
-    let rest = keyword(rest, Keyword::To)?;
-    let (ports, rest) = ports(alloc, rest)?;
+    let name = name(alloc, tokens, MOST_OPEN)?;
+    keyword(tokens, Keyword::Kind)?;
+    let kind = any_word(tokens)?;
+    let page = measure(alloc, tokens, Keyword::Page)?;
+    let slots = measure(alloc, tokens, Keyword::Slots)?;
+    let reach = measure(alloc, tokens, Keyword::Reach)?;
+    keyword(tokens, Keyword::To)?;
+    let ports = ports(alloc, tokens)?;
     let unit = UnitExpr {
         name,
         kind,
@@ -255,121 +254,121 @@ fn unit<'a>(alloc: Global, tokens: Cursor<'a>) -> Read<'a, Decl<'a>>
         reach,
         ports,
     };
-    Ok((Decl::Unit(Box::new(alloc, unit)?), rest))
+    Ok(Decl::Unit(Box::new(alloc, unit)?))
 }
 
 /// `word "(" [ param { "," param } ] ")"`
 #[tactic(auto, unfolding(crate::specs::Descent::module_at))]
-fn module<'a>(alloc: Global, tokens: Cursor<'a>) -> Read<'a, Statement<'a>>
-    ensures gives { Reads statement_view result (module_at (cursor_view tokens.entry)) }
+fn module<'a>(alloc: Global, tokens: &mut Cursor<'a>) -> Result<Statement<'a>, Halt>
+    ensures gives { Reads statement_view result tokens.new (module_at (cursor_view tokens.old)) }
 {
-    let (title, rest) = word(tokens)?;
-    let rest = sign(rest, Sign::OpenParenthesis)?;
-    let (params, rest) = params(alloc, rest)?;
-    Ok((Statement::Module { title, params }, rest))
+    let title = word(tokens)?;
+    sign(tokens, Sign::OpenParenthesis)?;
+    let params = params(alloc, tokens)?;
+    Ok(Statement::Module { title, params })
 }
 
 /// `word "(" [ arg { "," arg } ] ")" "as" name`
 #[tactic(auto, unfolding(crate::specs::Descent::use_at))]
-fn instance<'a>(alloc: Global, tokens: Cursor<'a>) -> Read<'a, Statement<'a>>
-    ensures gives { Reads statement_view result (use_at (cursor_view tokens.entry)) }
+fn instance<'a>(alloc: Global, tokens: &mut Cursor<'a>) -> Result<Statement<'a>, Halt>
+    ensures gives { Reads statement_view result tokens.new (use_at (cursor_view tokens.old)) }
 {
-    let (title, rest) = word(tokens)?;
-    let rest = sign(rest, Sign::OpenParenthesis)?;
-    let (args, rest) = args(alloc, rest)?;
-    let rest = keyword(rest, Keyword::As)?;
-    let (prefix, rest) = name(alloc, rest, MOST_OPEN)?;
+    let title = word(tokens)?;
+    sign(tokens, Sign::OpenParenthesis)?;
+    let args = args(alloc, tokens)?;
+    keyword(tokens, Keyword::As)?;
+    let prefix = name(alloc, tokens, MOST_OPEN)?;
     let instance = Statement::Instance {
         title,
         args,
         prefix,
     };
-    Ok((instance, rest))
+    Ok(instance)
 }
 
 /// `word "in" expr ".." expr`
 #[tactic(auto, unfolding(crate::specs::Descent::loop_at))]
-fn loop_head<'a>(alloc: Global, tokens: Cursor<'a>) -> Read<'a, Statement<'a>>
-    ensures gives { Reads statement_view result (loop_at (cursor_view tokens.entry)) }
+fn loop_head<'a>(alloc: Global, tokens: &mut Cursor<'a>) -> Result<Statement<'a>, Halt>
+    ensures gives { Reads statement_view result tokens.new (loop_at (cursor_view tokens.old)) }
 {
-    let (variable, rest) = word(tokens)?;
-    let (from, rest) = measure(alloc, rest, Keyword::In)?;
-    let rest = sign(rest, Sign::Dots)?;
-    let (upto, rest) = expr(alloc, rest, MOST_OPEN)?;
+    let variable = word(tokens)?;
+    let from = measure(alloc, tokens, Keyword::In)?;
+    sign(tokens, Sign::Dots)?;
+    let upto = expr(alloc, tokens, MOST_OPEN)?;
     let head = Statement::Loop {
         variable,
         from,
         upto,
     };
-    Ok((head, rest))
+    Ok(head)
 }
 
 /// `"read" | "write"`
 #[tactic(auto, unfolding(crate::specs::Descent::mode_at))]
-fn mode<'a>(tokens: Cursor<'a>) -> Read<'a, Mode>
-    ensures gives { Reads (λ m. m) result (mode_at (cursor_view tokens.entry)) }
+fn mode<'a>(tokens: &mut Cursor<'a>) -> Result<Mode, Halt>
+    ensures gives { Reads (λ m. m) result tokens.new (mode_at (cursor_view tokens.old)) }
 {
-    let Some(rest) = after_word(tokens, "read") else {
-        let rest = the_word(tokens, "write")?;
-        return Ok((Mode::Write, rest));
-    };
-    Ok((Mode::Read, rest))
+    if !after_word(tokens, "read") {
+        the_word(tokens, "write")?;
+        return Ok(Mode::Write);
+    }
+    Ok(Mode::Read)
 }
 
 /// `[ "for" ( "read" | "write" ) ]`
 #[tactic(auto, unfolding(crate::specs::Descent::access_at))]
-fn access<'a>(tokens: Cursor<'a>) -> Read<'a, Mode>
-    ensures gives { Reads (λ m. m) result (access_at (cursor_view tokens.entry)) }
+fn access<'a>(tokens: &mut Cursor<'a>) -> Result<Mode, Halt>
+    ensures gives { Reads (λ m. m) result tokens.new (access_at (cursor_view tokens.old)) }
 {
-    match after_keyword(tokens, Keyword::For) {
-        Some(rest) => mode(rest),
-        None => Ok((Mode::Unsaid, tokens)),
+    if !after_keyword(tokens, Keyword::For) {
+        return Ok(Mode::Unsaid);
     }
+    mode(tokens)
 }
 
 /// `name expr [ access ]`, of `resolve`
 #[tactic(auto, unfolding(crate::specs::Descent::resolve_at))]
-fn resolve<'a>(alloc: Global, tokens: Cursor<'a>) -> Read<'a, Order<'a>>
-    ensures gives { Reads order_view result (resolve_at (cursor_view tokens.entry)) }
+fn resolve<'a>(alloc: Global, tokens: &mut Cursor<'a>) -> Result<Order<'a>, Halt>
+    ensures gives { Reads order_view result tokens.new (resolve_at (cursor_view tokens.old)) }
 {
-    let (name, rest) = name(alloc, tokens, MOST_OPEN)?;
-    let (addr, rest) = expr(alloc, rest, MOST_OPEN)?;
-    let (mode, rest) = access(rest)?;
-    Ok((Order::Resolve(name, addr, mode), rest))
+    let name = name(alloc, tokens, MOST_OPEN)?;
+    let addr = expr(alloc, tokens, MOST_OPEN)?;
+    let mode = access(tokens)?;
+    Ok(Order::Resolve(name, addr, mode))
 }
 
 /// `name expr [ access ]`, of `lookup`
 #[tactic(auto, unfolding(crate::specs::Descent::lookup_at))]
-fn lookup<'a>(alloc: Global, tokens: Cursor<'a>) -> Read<'a, Order<'a>>
-    ensures gives { Reads order_view result (lookup_at (cursor_view tokens.entry)) }
+fn lookup<'a>(alloc: Global, tokens: &mut Cursor<'a>) -> Result<Order<'a>, Halt>
+    ensures gives { Reads order_view result tokens.new (lookup_at (cursor_view tokens.old)) }
 {
-    let (name, rest) = name(alloc, tokens, MOST_OPEN)?;
-    let (addr, rest) = expr(alloc, rest, MOST_OPEN)?;
-    let (mode, rest) = access(rest)?;
-    Ok((Order::Lookup(name, addr, mode), rest))
+    let name = name(alloc, tokens, MOST_OPEN)?;
+    let addr = expr(alloc, tokens, MOST_OPEN)?;
+    let mode = access(tokens)?;
+    Ok(Order::Lookup(name, addr, mode))
 }
 
 /// `name [ access ]`, of `view`
 #[tactic(auto, unfolding(crate::specs::Descent::view_at))]
-fn view<'a>(alloc: Global, tokens: Cursor<'a>) -> Read<'a, Order<'a>>
-    ensures gives { Reads order_view result (view_at (cursor_view tokens.entry)) }
+fn view<'a>(alloc: Global, tokens: &mut Cursor<'a>) -> Result<Order<'a>, Halt>
+    ensures gives { Reads order_view result tokens.new (view_at (cursor_view tokens.old)) }
 {
-    let (name, rest) = name(alloc, tokens, MOST_OPEN)?;
-    let (mode, rest) = access(rest)?;
-    Ok((Order::View(name, mode), rest))
+    let name = name(alloc, tokens, MOST_OPEN)?;
+    let mode = access(tokens)?;
+    Ok(Order::View(name, mode))
 }
 
 /// `word name name expr expr [ access ]`
 #[tactic(auto, unfolding(crate::specs::Descent::grant_at))]
-fn grant<'a>(alloc: Global, tokens: Cursor<'a>) -> Read<'a, Order<'a>>
-    ensures gives { Reads order_view result (grant_at (cursor_view tokens.entry)) }
+fn grant<'a>(alloc: Global, tokens: &mut Cursor<'a>) -> Result<Order<'a>, Halt>
+    ensures gives { Reads order_view result tokens.new (grant_at (cursor_view tokens.old)) }
 {
-    let (id, rest) = word(tokens)?;
-    let (agent, rest) = name(alloc, rest, MOST_OPEN)?;
-    let (node, rest) = name(alloc, rest, MOST_OPEN)?;
-    let (base, rest) = expr(alloc, rest, MOST_OPEN)?;
-    let (size, rest) = expr(alloc, rest, MOST_OPEN)?;
-    let (mode, rest) = access(rest)?;
+    let id = word(tokens)?;
+    let agent = name(alloc, tokens, MOST_OPEN)?;
+    let node = name(alloc, tokens, MOST_OPEN)?;
+    let base = expr(alloc, tokens, MOST_OPEN)?;
+    let size = expr(alloc, tokens, MOST_OPEN)?;
+    let mode = access(tokens)?;
     let grant = GrantExpr {
         id,
         agent,
@@ -378,25 +377,25 @@ fn grant<'a>(alloc: Global, tokens: Cursor<'a>) -> Read<'a, Order<'a>>
         size,
         mode,
     };
-    Ok((Order::Grant(Box::new(alloc, grant)?), rest))
+    Ok(Order::Grant(Box::new(alloc, grant)?))
 }
 
 /// `word name expr name`
 #[tactic(auto, unfolding(crate::specs::Descent::route_at))]
-fn route<'a>(alloc: Global, tokens: Cursor<'a>) -> Read<'a, Order<'a>>
-    ensures gives { Reads order_view result (route_at (cursor_view tokens.entry)) }
+fn route<'a>(alloc: Global, tokens: &mut Cursor<'a>) -> Result<Order<'a>, Halt>
+    ensures gives { Reads order_view result tokens.new (route_at (cursor_view tokens.old)) }
 {
-    let (id, rest) = word(tokens)?;
-    let (agent, rest) = name(alloc, rest, MOST_OPEN)?;
-    let (line, rest) = expr(alloc, rest, MOST_OPEN)?;
-    let (node, rest) = name(alloc, rest, MOST_OPEN)?;
+    let id = word(tokens)?;
+    let agent = name(alloc, tokens, MOST_OPEN)?;
+    let line = expr(alloc, tokens, MOST_OPEN)?;
+    let node = name(alloc, tokens, MOST_OPEN)?;
     let route = RouteExpr {
         id,
         agent,
         line,
         node,
     };
-    Ok((Order::Route(Box::new(alloc, route)?), rest))
+    Ok(Order::Route(Box::new(alloc, route)?))
 }
 
 /// What follows the word of a command; `whole` begins with the word.
@@ -404,11 +403,11 @@ fn route<'a>(alloc: Global, tokens: Cursor<'a>) -> Read<'a, Order<'a>>
 fn order<'a>(
     alloc: Global,
     word_of: Keyword,
-    whole: Cursor<'a>,
-    tokens: Cursor<'a>,
-) -> Read<'a, Order<'a>>
-    ensures gives { Reads order_view result
-        (order_at word_of (cursor_view whole.entry) (cursor_view tokens.entry)) }
+    whole: &Cursor<'a>,
+    tokens: &mut Cursor<'a>,
+) -> Result<Order<'a>, Halt>
+    ensures gives { Reads order_view result tokens.new
+        (order_at word_of (cursor_view whole.now) (cursor_view tokens.old)) }
 {
     match word_of {
         Keyword::Resolve => resolve(alloc, tokens),
@@ -417,14 +416,14 @@ fn order<'a>(
         Keyword::Grant => grant(alloc, tokens),
         Keyword::Route => route(alloc, tokens),
         Keyword::Revoke => {
-            let (id, rest) = word(tokens)?;
-            Ok((Order::Revoke(id), rest))
+            let id = word(tokens)?;
+            Ok(Order::Revoke(id))
         }
-        Keyword::Dump => Ok((Order::Dump, tokens)),
-        Keyword::Split => Ok((Order::Split, tokens)),
+        Keyword::Dump => Ok(Order::Dump),
+        Keyword::Split => Ok(Order::Split),
         Keyword::Absorb => {
-            let (name, rest) = name(alloc, tokens, MOST_OPEN)?;
-            Ok((Order::Absorb(name), rest))
+            let name = name(alloc, tokens, MOST_OPEN)?;
+            Ok(Order::Absorb(name))
         }
         _ => Err(refusal(whole)),
     }
@@ -435,75 +434,85 @@ fn order<'a>(
 fn keyword_statement<'a>(
     alloc: Global,
     word: Keyword,
-    whole: Cursor<'a>,
-    tokens: Cursor<'a>,
-) -> Read<'a, Statement<'a>>
-    ensures gives { Reads statement_view result
-        (keyword_statement_at word (cursor_view whole.entry) (cursor_view tokens.entry)) }
+    whole: &Cursor<'a>,
+    tokens: &mut Cursor<'a>,
+) -> Result<Statement<'a>, Halt>
+    ensures gives { Reads statement_view result tokens.new
+        (keyword_statement_at word (cursor_view whole.now) (cursor_view tokens.old)) }
 {
     match word {
         Keyword::Agent => {
-            let (node, rest) = node(alloc, tokens, DeclRole::Agent)?;
-            Ok((Statement::Decl(node), rest))
+            let node = node(alloc, tokens, DeclRole::Agent)?;
+            Ok(Statement::Decl(node))
         }
         Keyword::Vectors => {
-            let (node, rest) = node(alloc, tokens, DeclRole::Vectors)?;
-            Ok((Statement::Decl(node), rest))
+            let node = node(alloc, tokens, DeclRole::Vectors)?;
+            Ok(Statement::Decl(node))
         }
         Keyword::Unit => {
-            let (unit, rest) = unit(alloc, tokens)?;
-            Ok((Statement::Decl(unit), rest))
+            let unit = unit(alloc, tokens)?;
+            Ok(Statement::Decl(unit))
         }
         Keyword::Module => module(alloc, tokens),
         Keyword::Use => instance(alloc, tokens),
         Keyword::For => loop_head(alloc, tokens),
-        Keyword::End => Ok((Statement::End, tokens)),
-        Keyword::Begin => Ok((Statement::Begin, tokens)),
+        Keyword::End => Ok(Statement::End),
+        Keyword::Begin => Ok(Statement::Begin),
         _ => {
-            let (order, rest) = order(alloc, word, whole, tokens)?;
-            Ok((Statement::Order(order), rest))
+            let order = order(alloc, word, whole, tokens)?;
+            Ok(Statement::Order(order))
         }
     }
 }
 
 /// A statement, up to its `;`.
 #[tactic(auto, unfolding(crate::specs::Descent::statement_at))]
-fn read_statement<'a>(alloc: Global, tokens: Cursor<'a>) -> Read<'a, Statement<'a>>
-    ensures gives { Reads statement_view result (statement_at (cursor_view tokens.entry)) }
+fn read_statement<'a>(alloc: Global, tokens: &mut Cursor<'a>) -> Result<Statement<'a>, Halt>
+    ensures gives { Reads statement_view result tokens.new (statement_at (cursor_view tokens.old)) }
 {
     let Some(token) = tokens.peek() else {
         return Err(refusal(tokens));
     };
     match token.lexeme {
         Lexeme::Word(_) => {
-            let (node, rest) = node(alloc, tokens, DeclRole::Plain)?;
-            Ok((Statement::Decl(node), rest))
+            let node = node(alloc, tokens, DeclRole::Plain)?;
+            Ok(Statement::Decl(node))
         }
-        Lexeme::Keyword(word) => keyword_statement(alloc, word, tokens, tokens.advance()),
+        Lexeme::Keyword(word) => {
+            let whole = *tokens;
+            *tokens = tokens.advance();
+            keyword_statement(alloc, word, &whole, tokens)
+        }
         _ => Err(refusal(tokens)),
     }
 }
 
 /// A statement and its `;`.
 #[tactic(auto, unfolding(crate::specs::Descent::whole_statement_at))]
-pub fn whole_statement<'a>(alloc: Global, tokens: Cursor<'a>) -> Read<'a, Statement<'a>>
-    ensures gives { Reads statement_view result (whole_statement_at (cursor_view tokens.entry)) }
-    ensures shorter { IfOk result (λ p. IsShorter p.1 tokens.entry) }
+pub fn whole_statement<'a>(alloc: Global, tokens: &mut Cursor<'a>) -> Result<Statement<'a>, Halt>
+    ensures gives { Reads statement_view result tokens.new
+        (whole_statement_at (cursor_view tokens.old)) }
+    ensures shorter { IfOk result (λ _. IsShorter tokens.new tokens.old) }
 {
-    let (statement, rest) = read_statement(alloc, tokens)?;
-    let rest = sign(rest, Sign::Semicolon)?;
-    Ok((statement, rest))
+    let statement = read_statement(alloc, tokens)?;
+    sign(tokens, Sign::Semicolon)?;
+    Ok(statement)
 }
 
 /// A command with its `;`, which begins in this line; or nothing, where the statement there is none.
 #[tactic(auto, unfolding(crate::specs::Commands::command_at))]
-pub fn command<'a>(alloc: Global, tokens: Cursor<'a>, line: u32) -> Next<'a, Cmd<'a>>
-    ensures gives { ReadsNext command_view result (command_at line (cursor_view tokens.entry)) }
-    ensures shorter { IfOk result (λ o. IfSome o (λ p. IsShorter p.1 tokens.entry)) }
+pub fn command<'a>(
+    alloc: Global,
+    tokens: &mut Cursor<'a>,
+    line: u32,
+) -> Result<Option<Cmd<'a>>, Halt>
+    ensures gives { ReadsNext command_view result tokens.new
+        (command_at line (cursor_view tokens.old)) }
+    ensures shorter { IfOk result (λ o. IfSome o (λ _. IsShorter tokens.new tokens.old)) }
 {
-    let (statement, rest) = whole_statement(alloc, tokens)?;
+    let statement = whole_statement(alloc, tokens)?;
     match statement {
-        Statement::Order(order) => Ok(Some((Cmd { line, order }, rest))),
+        Statement::Order(order) => Ok(Some(Cmd { line, order })),
         _ => Ok(None),
     }
 }

@@ -26,19 +26,19 @@ decreases-after_open l = 10 * l.depth + 6
 abbrev pub invariant-term-factors : goal.invariant-term-factors
 invariant-term-factors l = record {
   several : 1 < length l.members.items;
-  shorter : length (cursor_view l.rest) < length (cursor_view l.fn.tokens);
-  before : Found (next_factor_at l.fn.depth) (factors_at l.fn.depth (cursor_view l.fn.tokens)) (map expr_view l.members.items) (cursor_view l.rest);
+  shorter : length (cursor_view l.tokens) < length (cursor_view l.fn.tokens);
+  before : Found (next_factor_at l.fn.depth) (factors_at l.fn.depth (cursor_view l.fn.tokens)) (map expr_view l.members.items) (cursor_view l.tokens);
 }
 
 abbrev pub decreases-term-factors : goal.decreases-term-factors
-decreases-term-factors l = length (cursor_view l.rest)
+decreases-term-factors l = length (cursor_view l.tokens)
 
 abbrev pub invariant-expr-terms : goal.invariant-expr-terms
 invariant-expr-terms l = record {
   several : 1 < length l.members.items;
-  shorter : length (cursor_view l.rest) < length (cursor_view l.fn.tokens);
-  before : Found (next_term_at l.fn.depth) (terms_at l.fn.depth (cursor_view l.fn.tokens)) (map expr_view l.members.items) (cursor_view l.rest);
+  shorter : length (cursor_view l.tokens) < length (cursor_view l.fn.tokens);
+  before : Found (next_term_at l.fn.depth) (terms_at l.fn.depth (cursor_view l.fn.tokens)) (map expr_view l.members.items) (cursor_view l.tokens);
 }
 
 abbrev pub decreases-expr-terms : goal.decreases-expr-terms
-decreases-expr-terms l = length (cursor_view l.rest)
+decreases-expr-terms l = length (cursor_view l.tokens)

@@ -7,9 +7,9 @@ use Rattle.dn_parse.proofs.nodes.blocks.Given as goal
 
 abbrev pub invariant-list : goal.invariant-list
 invariant-list l = record {
-  shorter : length (cursor_view l.rest) < length (cursor_view l.fn.tokens);
-  before : Found next_block_at (blocks_at (cursor_view l.fn.tokens)) (map block_view l.blocks) (cursor_view l.rest);
+  shorter : length (cursor_view l.tokens) < length (cursor_view l.fn.tokens);
+  before : Found next_block_at (blocks_at (cursor_view l.fn.tokens)) (map block_view l.blocks) (cursor_view l.tokens);
 }
 
 abbrev pub decreases-list : goal.decreases-list
-decreases-list l = length (cursor_view l.rest)
+decreases-list l = length (cursor_view l.tokens)

@@ -6,8 +6,8 @@ use Rattle.dn_parse.proofs.nodes.dests.Given as goal
 
 abbrev pub invariant-dests : goal.invariant-dests
 invariant-dests l = record {
-  shorter : length (cursor_view l.rest) < length (cursor_view l.fn.tokens);
-  before : dests_at (cursor_view l.fn.tokens) ≡ with_front (map dest_view l.dests) (row next_dest_at l.left (cursor_view l.rest));
+  shorter : length (cursor_view l.tokens) < length (cursor_view l.fn.tokens);
+  before : dests_at (cursor_view l.fn.tokens) ≡ with_front (map dest_view l.dests) (row next_dest_at l.left (cursor_view l.tokens));
 }
 
 abbrev pub decreases-dests : goal.decreases-dests

@@ -7,9 +7,9 @@ use Rattle.dn_parse.proofs.nodes.entries.Given as goal
 
 abbrev pub invariant-entries : goal.invariant-entries
 invariant-entries l = record {
-  shorter : length (cursor_view l.rest) < length (cursor_view l.fn.tokens);
-  before : Found next_entry_at (entries_at (cursor_view l.fn.tokens)) (map entry_view l.entries) (cursor_view l.rest);
+  shorter : length (cursor_view l.tokens) < length (cursor_view l.fn.tokens);
+  before : Found next_entry_at (entries_at (cursor_view l.fn.tokens)) (map entry_view l.entries) (cursor_view l.tokens);
 }
 
 abbrev pub decreases-entries : goal.decreases-entries
-decreases-entries l = length (cursor_view l.rest)
+decreases-entries l = length (cursor_view l.tokens)

@@ -7,9 +7,9 @@ use Rattle.dn_parse.proofs.nodes.name.Given as goal
 
 abbrev pub invariant-parts : goal.invariant-parts
 invariant-parts l = record {
-  shorter : length (cursor_view l.rest) < length (cursor_view l.fn.tokens);
-  before : Found (next_part_at l.fn.depth) (name_at l.fn.depth (cursor_view l.fn.tokens)) (map part_view l.parts) (cursor_view l.rest);
+  shorter : length (cursor_view l.tokens) < length (cursor_view l.fn.tokens);
+  before : Found (next_part_at l.fn.depth) (name_at l.fn.depth (cursor_view l.fn.tokens)) (map part_view l.parts) (cursor_view l.tokens);
 }
 
 abbrev pub decreases-parts : goal.decreases-parts
-decreases-parts l = length (cursor_view l.rest)
+decreases-parts l = length (cursor_view l.tokens)

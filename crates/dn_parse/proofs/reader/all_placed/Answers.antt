@@ -17,7 +17,7 @@ use Rattle.dn_parse.proofs.reader.all_placed.Goals as goal
 pub returns-then-not-blocks-clause-ok : goal.returns-then-not-blocks-clause-ok
 returns-then-not-blocks-clause-ok c =
     let before : c.in_ok-blocks.blocks.begun ≡ false = search rules in
-    let ended : cursor_view c.in_ok-blocks.rest ≡ [] = c.in_ok-blocks.ensures.ended before in
+    let ended : cursor_view c.blocks_before.new.tokens ≡ [] = c.in_ok-blocks.ensures.ended before in
     λ last all.
     c.in_ok-blocks.ensures.ok last all
     ∙ ap (judge last all (blocks_view c.in_ok-blocks.blocks)) ended
@@ -30,7 +30,7 @@ returns-in_err-commands-clause-err c =
     let begun : c.in_ok-blocks.blocks.begun ≡ true = search rules in
     let same : c.from_residual-in_err-commands.result ≡ Err c.in_err-commands.field-0.0 = search rules in
     subst (λ (r : Result (CodeBlocks × Script) Trouble). IfErr r (λ e. (last : ℕ) → (all : List Token) → IfSome (trouble_view e last all) (λ f. judge last all no_blocks_yet ts ≡ Err f))) (sym same)
-    (λ last all. fault_before (trouble_view c.in_err-commands.field-0.0 last all) (judge last all no_blocks_yet ts) (judge last all (blocks_view c.in_ok-blocks.blocks) (cursor_view c.in_ok-blocks.rest))
+    (λ last all. fault_before (trouble_view c.in_err-commands.field-0.0 last all) (judge last all no_blocks_yet ts) (judge last all (blocks_view c.in_ok-blocks.blocks) (cursor_view c.blocks_before.new.tokens))
     (c.in_ok-blocks.ensures.ok last all)
     (c.in_err-commands.ensures.err last all (blocks_view c.in_ok-blocks.blocks) begun))
 

@@ -6,7 +6,7 @@ use Rattle.dn_parse.specs.Views.{blocks_view}
 use Rattle.dn_parse.proofs.reader.blocks_before.Given as goal
 
 abbrev pub invariant-statements : goal.invariant-statements
-invariant-statements l = (last : ℕ) (all : List Token) → judge last all no_blocks_yet (cursor_view l.fn.tokens) ≡ judge last all (blocks_view l.blocks) (cursor_view l.rest)
+invariant-statements l = (last : ℕ) (all : List Token) → judge last all no_blocks_yet (cursor_view l.fn.tokens) ≡ judge last all (blocks_view l.blocks) (cursor_view l.tokens)
 
 abbrev pub decreases-statements : goal.decreases-statements
-decreases-statements l = length (cursor_view l.rest)
+decreases-statements l = length (cursor_view l.tokens)

@@ -6,8 +6,8 @@ use Rattle.dn_parse.proofs.statements.ports.Given as goal
 
 abbrev pub invariant-ports : goal.invariant-ports
 invariant-ports l = record {
-  shorter : length (cursor_view l.rest) < length (cursor_view l.fn.tokens);
-  before : ports_at (cursor_view l.fn.tokens) ≡ with_front (map name_view l.ports) (row next_port_at l.left (cursor_view l.rest));
+  shorter : length (cursor_view l.tokens) < length (cursor_view l.fn.tokens);
+  before : ports_at (cursor_view l.fn.tokens) ≡ with_front (map name_view l.ports) (row next_port_at l.left (cursor_view l.tokens));
 }
 
 abbrev pub decreases-ports : goal.decreases-ports

@@ -7,9 +7,9 @@ use Rattle.dn_parse.proofs.statements.some_args.Given as goal
 
 abbrev pub invariant-list : goal.invariant-list
 invariant-list l = record {
-  shorter : length (cursor_view l.rest) < length (cursor_view l.fn.tokens);
-  before : Found next_arg_at (args_at (cursor_view l.fn.tokens)) (map arg_view l.args) (cursor_view l.rest);
+  shorter : length (cursor_view l.tokens) < length (cursor_view l.fn.tokens);
+  before : Found next_arg_at (args_at (cursor_view l.fn.tokens)) (map arg_view l.args) (cursor_view l.tokens);
 }
 
 abbrev pub decreases-list : goal.decreases-list
-decreases-list l = length (cursor_view l.rest)
+decreases-list l = length (cursor_view l.tokens)

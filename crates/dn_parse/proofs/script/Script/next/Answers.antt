@@ -1,7 +1,6 @@
 use Rattle.std.proofs.Common.{rules, ◌≡◌, ◌∙◌, ap, sym, ℕ, ◌<◌, List, Option, Some, None, option_map, arith}
 use Rattle.dn_token.specs.Token.{Token}
 use Rattle.dn_token.specs.Cursor.{cursor_view}
-use Rattle.dn_token.specs.declared.cursor.Cursor.{Cursor}
 use Rattle.dn_parse.specs.declared.syntax.Cmd.{Cmd}
 use Rattle.dn_parse.specs.Tree.{Command}
 use Rattle.dn_parse.specs.Whole.{first_line}
@@ -25,11 +24,11 @@ pub invariant_of-result : goal.invariant_of-result
 invariant_of-result c =
     let some : 0 < c.args.self.count = omega (arith, c.if-self-eq0.false) in
     let line : first_line (cursor_view c.args.self.first) ≡ Some c.in-Some.line = sym c.first_line.ensures ∙ c.in-Some.is in
-    let p : Command × List Token = (command_view c.in-Ok-Some.command, cursor_view c.in-Ok-Some.rest) in
-    let is : c.in-Ok-Some.field-0 ≡ Some (c.in-Ok-Some.command, c.in-Ok-Some.rest) = search rules in
+    let p : Command × List Token = (command_view c.in-Ok-Some.command, cursor_view c.command.new.tokens) in
+    let is : c.in-Ok-Some.field-0 ≡ Some c.in-Ok-Some.command = search rules in
     let next : next_command (cursor_view c.args.self.first) ≡ Some p =
     next_is (cursor_view c.args.self.first) c.in-Some.line _ line c.in-Ok-Some.ensures.gives
-    ∙ ap (λ (o : Option (Cmd × Cursor)). option_map (λ (q : Cmd × Cursor). (command_view q.0, cursor_view q.1)) o) is in
+    ∙ ap (λ (o : Option Cmd). option_map (λ (q : Cmd). (command_view q, cursor_view c.command.new.tokens)) o) is in
     record { read = others c.args.self.count (cursor_view c.args.self.first) p some c.args.self.read next }
 
 pub returns-in-Ok-Some : goal.returns-in-Ok-Some
@@ -37,11 +36,11 @@ unfolding script_view
 returns-in-Ok-Some c =
     let some : 0 < c.args.self.count = omega (arith, c.if-self-eq0.false) in
     let line : first_line (cursor_view c.args.self.first) ≡ Some c.in-Some.line = sym c.first_line.ensures ∙ c.in-Some.is in
-    let p : Command × List Token = (command_view c.in-Ok-Some.command, cursor_view c.in-Ok-Some.rest) in
-    let is : c.in-Ok-Some.field-0 ≡ Some (c.in-Ok-Some.command, c.in-Ok-Some.rest) = search rules in
+    let p : Command × List Token = (command_view c.in-Ok-Some.command, cursor_view c.command.new.tokens) in
+    let is : c.in-Ok-Some.field-0 ≡ Some c.in-Ok-Some.command = search rules in
     let next : next_command (cursor_view c.args.self.first) ≡ Some p =
     next_is (cursor_view c.args.self.first) c.in-Some.line _ line c.in-Ok-Some.ensures.gives
-    ∙ ap (λ (o : Option (Cmd × Cursor)). option_map (λ (q : Cmd × Cursor). (command_view q.0, cursor_view q.1)) o) is in
+    ∙ ap (λ (o : Option Cmd). option_map (λ (q : Cmd). (command_view q, cursor_view c.command.new.tokens)) o) is in
     front_is c.args.self.count (cursor_view c.args.self.first) p some next
 
 pub unreachable-requires-in-Ok-None : goal.unreachable-requires-in-Ok-None
@@ -51,7 +50,7 @@ unreachable-requires-in-Ok-None c =
     let is : c.in-Ok-None.field-0 ≡ None = search rules in
     let none : next_command (cursor_view c.args.self.first) ≡ None =
     next_is (cursor_view c.args.self.first) c.in-Some.line _ line c.in-Ok-None.ensures.gives
-    ∙ ap (λ (o : Option (Cmd × Cursor)). option_map (λ (q : Cmd × Cursor). (command_view q.0, cursor_view q.1)) o) is in
+    ∙ ap (λ (o : Option Cmd). option_map (λ (q : Cmd). (command_view q, cursor_view c.command.new.tokens)) o) is in
     stands c.args.self.count (cursor_view c.args.self.first) some c.args.self.read none
 
 pub unreachable-requires-in_default-halt : goal.unreachable-requires-in_default-halt
