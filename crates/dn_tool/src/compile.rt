@@ -106,7 +106,7 @@ fn platform_of<'a>(
         (list_all (λ n. has_kind (length kinds.now.list.items) n.unit) expanded.net) }
     ensures answer { Answers platform_view compile_fault_view result (with_refusal
         (expansion_compilation (map (λ k. meaning (k.vtable, k.value)) kinds.now.list.items)
-        (Ok (outcome_view expanded)))) }
+        (Ok (outcome_view expanded.entry)))) }
     ensures shaped { IfOk result (λ p.
         shape_fault (map (λ k. meaning (k.vtable, k.value)) kinds.now.list.items) p.net ≡ None) }
 {

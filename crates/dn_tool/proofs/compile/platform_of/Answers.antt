@@ -27,8 +27,8 @@ returns-in-Err-check_units-clause-answer g c =
 pub walk_refusal-requires : goal.walk_refusal-requires
 walk_refusal-requires g c = walk_fault_within c.args.expanded.net _ c.requires.closed c.in-Err-walks.ensures.checks
 
-pub returns-in-Err-walks-clause-answer : goal.returns-in-Err-walks-clause-answer
-returns-in-Err-walks-clause-answer g c =
+pub returns-clause-answer : goal.returns-clause-answer
+returns-clause-answer g c =
     let kinds : List Meaning = map (λ k. (goal.UnitKind-dyn g (k.vtable, k.value)).meaning k.value) c.args.kinds.now.list.items in
     let checked : node_fault c.args.expanded.net ≡ None = search rules in
     let shaped : shape_fault kinds c.args.expanded.net ≡ None = search rules in

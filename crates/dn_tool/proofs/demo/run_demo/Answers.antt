@@ -26,12 +26,12 @@ commands-init g c =
     let kinds : List Meaning = map (λ k. (goal.UnitKind-dyn g (k.vtable, k.value)).meaning k.value) c.args.kinds.now.list.items in
     let net = c.args.platform.now.net in
     let cs : List Command = c.args.platform.now.commands in
-    let all : c.cursor.result ≡ cs = search rules in
-    let none : place cs c.cursor.result ≡ 0 = first_place cs c.cursor.result all in
+    let all : c.cursor-rest.result ≡ cs = search rules in
+    let none : place cs c.cursor-rest.result ≡ 0 = first_place cs c.cursor-rest.result all in
     let owed = state_owed kinds net c.in_ok-state.state (all_of_map _ c.args.kinds.now.list.items c.requires.lawful) (legal_with kinds net c.requires.shaped c.facts.ensures.walked.legal) c.in_ok-state.ensures.state in
     let tallied = subst (λ (s : State). IsTallied kinds net cs 0 s (g.D.Tables.log c.args.device.now) (g.D.Tables.log c.make.new.device) 0 0) (sym c.in_ok-state.ensures.start) (tallied_start kinds net cs _ _ _ _ _ (subst (λ (s : State). GivesOwed kinds net s.book) c.in_ok-state.ensures.start owed) c.in_ok-state.ensures.made) in
     record {
-      behind = first_rest cs c.cursor.result all;
+      behind = first_rest cs c.cursor-rest.result all;
       few_granted = omega arith;
       few_revoked = omega arith;
       state = c.in_ok-state.ensures.state;
@@ -54,7 +54,7 @@ returns-in_err-ended-clause-shown g c =
     let next : c.commands.rest ≡ c.in-Some.command ∷ c.next.new.self = subst (λ o. MatchOption o ((c.commands.rest ≡ []) × (c.next.new.self ≡ [])) (λ d. c.commands.rest ≡ d ∷ c.next.new.self)) c.in-Some.is c.in_ok-command.ensures.next in
     let at : IsNext cs c.commands.rest c.next.new.self c.in-Some.command = next_of cs c.commands.rest c.next.new.self c.in-Some.command c.commands.invariant.behind next in
     let ended : c.from_residual-in_err-ended.result ≡ Err c.in_err-ended.field-0.0 = search rules in
-    shown_halted kinds c.args.platform.now.net c.args.agents cs (place cs c.commands.rest) c.in-Some.command (state_view c.commands.state) (state_view c.play.new.state) c.play.result c.in_err-ended.field-0.0 c.from_residual-in_err-ended.result _ _ _ _ _ c.commands.granted c.commands.revoked c.in_err-ended.was ended c.play.ensures.no_write at.within at.at c.commands.invariant.tallied c.play.ensures.through
+    shown_halted kinds c.args.platform.now.net c.args.agents cs (place cs c.commands.rest) c.in-Some.command (state_view c.commands.state) (state_view c.play-ended.new.state) c.play-ended.result c.in_err-ended.field-0.0 c.from_residual-in_err-ended.result _ _ _ _ _ c.commands.granted c.commands.revoked c.in_err-ended.was ended c.play-ended.ensures.no_write at.within at.at c.commands.invariant.tallied c.play-ended.ensures.through
 
 pub commands-preserved : goal.commands-preserved
 commands-preserved g c =
@@ -67,9 +67,9 @@ commands-preserved g c =
     let further : place cs c.next.new.self ≡ i + 1 = at.next in
     let command = c.in-Some.command in
     let before : List Grant = c.commands.state.book.grants in
-    let after : List Grant = c.play.new.state.book.grants in
+    let after : List Grant = c.play-ended.new.state.book.grants in
     let legal = legal_with kinds net c.requires.shaped c.facts.ensures.walked.legal in
-    let owed = state_owed kinds net c.play.new.state (all_of_map _ c.args.kinds.now.list.items c.requires.lawful) legal c.in_ok-ended.ensures.state in
+    let owed = state_owed kinds net c.play-ended.new.state (all_of_map _ c.args.kinds.now.list.items c.requires.lawful) legal c.in_ok-ended.ensures.state in
     let lived : c.len-before.result ≡ length before = search rules in
     let lives : c.len-after.result ≡ length after = search rules in
     let made : c.has_granted-grants.result ≡ has_granted command (length before) (length after) =
@@ -90,7 +90,7 @@ commands-preserved g c =
       few_revoked = omega (arith, further, revoked, other, few_revoked);
       state = c.in_ok-ended.ensures.state;
       on_device = c.in_ok-ended.ensures.on_device;
-      tallied = subst (λ (n : ℕ). IsTallied kinds net cs n (state_view c.play.new.state) (g.D.Tables.log c.args.device.now) (g.D.Tables.log c.play.new.device) c.counted-granted.result c.counted-revoked.result) (sym at.next) (tallied_more kinds net cs i (state_view c.commands.state) command _ _ _ c.commands.granted c.commands.revoked c.counted-granted.result c.counted-revoked.result (state_view c.play.new.state) c.commands.invariant.tallied at.within at.at c.in_ok-ended.ensures.through owed granted revoked);
+      tallied = subst (λ (n : ℕ). IsTallied kinds net cs n (state_view c.play-ended.new.state) (g.D.Tables.log c.args.device.now) (g.D.Tables.log c.play-ended.new.device) c.counted-granted.result c.counted-revoked.result) (sym at.next) (tallied_more kinds net cs i (state_view c.commands.state) command _ _ _ c.commands.granted c.commands.revoked c.counted-granted.result c.counted-revoked.result (state_view c.play-ended.new.state) c.commands.invariant.tallied at.within at.at c.in_ok-ended.ensures.through owed granted revoked);
       device_counted = counted_then _ _ _ _ c.commands.invariant.device_counted c.in_ok-ended.ensures.counted;
     }
 

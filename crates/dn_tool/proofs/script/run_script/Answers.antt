@@ -30,12 +30,12 @@ commands-init g c =
     let kinds : List Meaning = map (λ k. (goal.UnitKind-dyn g (k.vtable, k.value)).meaning k.value) c.args.kinds.now.list.items in
     let net = c.args.platform.now.net in
     let cs : List Command = c.args.platform.now.commands in
-    let all : c.cursor.result ≡ cs = search rules in
-    let none : place cs c.cursor.result ≡ 0 = first_place cs c.cursor.result all in
+    let all : c.cursor-rest.result ≡ cs = search rules in
+    let none : place cs c.cursor-rest.result ≡ 0 = first_place cs c.cursor-rest.result all in
     let owed = state_owed kinds net c.in_ok-state.state (all_of_map _ c.args.kinds.now.list.items c.requires.lawful) (legal_with kinds net c.requires.shaped c.facts.ensures.walked.legal) c.in_ok-state.ensures.state in
     let gone = subst (λ (s : State). IsGone kinds net cs 0 s (g.K.Sink.written c.args.sink.now) (g.K.Sink.written c.args.sink.now) (g.D.Tables.log c.args.device.now) (g.D.Tables.log c.make.new.device)) (sym c.in_ok-state.ensures.start) (gone_start kinds net cs _ _ _ _ _ _ _ (subst (λ (s : State). GivesOwed kinds net s.book) c.in_ok-state.ensures.start owed) refl c.in_ok-state.ensures.made) in
     record {
-      behind = first_rest cs c.cursor.result all;
+      behind = first_rest cs c.cursor-rest.result all;
       known = subst (λ (l : List Command). IsTrue (list_all (names_within (length net)) l)) (sym all) c.facts.ensures.known;
       state = c.in_ok-state.ensures.state;
       on_device = c.in_ok-state.ensures.on_device;
@@ -51,12 +51,6 @@ returns-in_err-command-clause-played g c =
     let ended : c.from_residual-in_err-command.result ≡ Err NoMemory = search rules in
     halted_unmade kinds c.args.platform.now.net cs (place cs c.commands.rest) (state_view c.commands.state) c.from_residual-in_err-command.result _ _ _ _ _ ended (omega arith) c.commands.invariant.gone
 
-pub answer-requires-known : goal.answer-requires-known
-answer-requires-known g c =
-    let net = c.args.platform.now.net in
-    let next : c.commands.rest ≡ c.in-Some.command ∷ c.next.new.self = subst (λ o. MatchOption o ((c.commands.rest ≡ []) × (c.next.new.self ≡ [])) (λ d. c.commands.rest ≡ d ∷ c.next.new.self)) c.in-Some.is c.in_ok-command.ensures.next in
-    (known_next (names_within (length net)) c.commands.rest c.next.new.self c.in-Some.command next c.commands.invariant.known).0
-
 pub returns-in_err-ended-clause-played : goal.returns-in_err-ended-clause-played
 returns-in_err-ended-clause-played g c =
     let kinds : List Meaning = map (λ k. (goal.UnitKind-dyn g (k.vtable, k.value)).meaning k.value) c.args.kinds.now.list.items in
@@ -64,7 +58,7 @@ returns-in_err-ended-clause-played g c =
     let next : c.commands.rest ≡ c.in-Some.command ∷ c.next.new.self = subst (λ o. MatchOption o ((c.commands.rest ≡ []) × (c.next.new.self ≡ [])) (λ d. c.commands.rest ≡ d ∷ c.next.new.self)) c.in-Some.is c.in_ok-command.ensures.next in
     let at : IsNext cs c.commands.rest c.next.new.self c.in-Some.command = next_of cs c.commands.rest c.next.new.self c.in-Some.command c.commands.invariant.behind next in
     let ended : c.from_residual-in_err-ended.result ≡ Err c.in_err-ended.field-0.0 = search rules in
-    halted_by kinds c.args.platform.now.net cs (place cs c.commands.rest) c.in-Some.command (state_view c.commands.state) (state_view c.answer.new.state) c.answer.result c.in_err-ended.field-0.0 c.from_residual-in_err-ended.result _ _ _ _ _ _ _ c.in_err-ended.was ended at.within at.at c.commands.invariant.gone c.answer.ensures.through
+    halted_by kinds c.args.platform.now.net cs (place cs c.commands.rest) c.in-Some.command (state_view c.commands.state) (state_view c.answer-ended.new.state) c.answer-ended.result c.in_err-ended.field-0.0 c.from_residual-in_err-ended.result _ _ _ _ _ _ _ c.in_err-ended.was ended at.within at.at c.commands.invariant.gone c.answer-ended.ensures.through
 
 pub commands-preserved : goal.commands-preserved
 commands-preserved g c =
@@ -76,14 +70,14 @@ commands-preserved g c =
     let at : IsNext cs c.commands.rest c.next.new.self c.in-Some.command = next_of cs c.commands.rest c.next.new.self c.in-Some.command c.commands.invariant.behind next in
     let turned = c.in_ok-ended.ensures.through in
     let legal = legal_with kinds net c.requires.shaped c.facts.ensures.walked.legal in
-    let owed = state_owed kinds net c.answer.new.state (all_of_map _ c.args.kinds.now.list.items c.requires.lawful) legal c.in_ok-ended.ensures.state in
-    let gone = subst (λ (s : State). IsGone kinds net cs (i + 1) s (g.K.Sink.written c.args.sink.now) (g.K.Sink.written c.answer.new.sink) (g.D.Tables.log c.args.device.now) (g.D.Tables.log c.answer.new.device)) turned.left (gone_more kinds net cs i (state_view c.commands.state) c.in-Some.command turned.turn _ _ _ _ _ _ c.commands.invariant.gone at.within at.at turned.is_turn (subst (λ (s : State). GivesOwed kinds net s.book) (sym turned.left) owed) turned.written turned.logged) in
+    let owed = state_owed kinds net c.answer-ended.new.state (all_of_map _ c.args.kinds.now.list.items c.requires.lawful) legal c.in_ok-ended.ensures.state in
+    let gone = subst (λ (s : State). IsGone kinds net cs (i + 1) s (g.K.Sink.written c.args.sink.now) (g.K.Sink.written c.answer-ended.new.sink) (g.D.Tables.log c.args.device.now) (g.D.Tables.log c.answer-ended.new.device)) turned.left (gone_more kinds net cs i (state_view c.commands.state) c.in-Some.command turned.turn _ _ _ _ _ _ c.commands.invariant.gone at.within at.at turned.is_turn (subst (λ (s : State). GivesOwed kinds net s.book) (sym turned.left) owed) turned.written turned.logged) in
     record {
       behind = at.behind;
       known = (known_next (names_within (length net)) c.commands.rest c.next.new.self c.in-Some.command next c.commands.invariant.known).1;
       state = c.in_ok-ended.ensures.state;
       on_device = c.in_ok-ended.ensures.on_device;
-      gone = subst (λ (n : ℕ). IsGone kinds net cs n (state_view c.answer.new.state) (g.K.Sink.written c.args.sink.now) (g.K.Sink.written c.answer.new.sink) (g.D.Tables.log c.args.device.now) (g.D.Tables.log c.answer.new.device)) (sym at.next) gone;
+      gone = subst (λ (n : ℕ). IsGone kinds net cs n (state_view c.answer-ended.new.state) (g.K.Sink.written c.args.sink.now) (g.K.Sink.written c.answer-ended.new.sink) (g.D.Tables.log c.args.device.now) (g.D.Tables.log c.answer-ended.new.device)) (sym at.next) gone;
       sink_counted = counted_then _ _ _ _ c.commands.invariant.sink_counted c.in_ok-ended.ensures.sink_counted;
       device_counted = counted_then _ _ _ _ c.commands.invariant.device_counted c.in_ok-ended.ensures.device_counted;
     }
