@@ -1,6 +1,5 @@
 pub mod Closed
 pub mod Each
-pub mod Interned
 pub mod Made
 pub mod Known
 pub mod Outside

@@ -1,6 +1,6 @@
 use Rattle.std.proofs.Common.{◌∙◌, sym}
 use Rattle.std.specs.Rc.{rc_str_bytes}
-use Rattle.dn_module.proofs.Interned.{kept_is}
+use Rattle.dn_module.proofs.Known.{kept_is}
 use Rattle.dn_module.proofs.shared.Interner.shared.Goals as goal
 
 pub returns-in-Some : goal.returns-in-Some
