@@ -1,12 +1,14 @@
 -- Names among others: the place of one, and whether any comes twice.
-use Rattle.std.proofs.Common.{◌≡◌, ◌∙◌, ap, sym, refl, ℕ, ◌+◌, ◌<◌, List, [], ◌∷◌, ◌++◌, map, take, drop, get_or, true, false, Bool, length, arith, position, None, Some, ◌||◌}
+use Rattle.std.proofs.Common.{◌≡◌, ◌∙◌, ap, sym, refl, ℕ, ◌+◌, ◌<◌, List, [], ◌∷◌, ◌++◌, map, take, drop, get_or, true, false, Bool, length, arith, position, None, Some, if◌then◌else◌, ◌||◌}
 use Rattle.std.proofs.lemmas.Grind.{common_steps}
 use Rattle.std.proofs.lemmas.Bool.{false≢true}
 use Rattle.std.proofs.lemmas.Cmp.{nat_list_eq_equiv}
 use Rattle.std.proofs.lemmas.List.Folds.{list_any-append, list_any_at, list_all_at}
 use Rattle.std.proofs.lemmas.List.Quantifiers.{position-Some}
 use Rattle.std.proofs.lemmas.List.{map_more, map-append, take-append-drop}
-use Rattle.std.specs.List.{list_all, list_any}
+use Rattle.std.proofs.lemmas.Option.{none-some, same_Some}
+use Rattle.std.proofs.lemmas.Slice.Eq.{bytes_eq-Decides}
+use Rattle.std.specs.List.{find, list_all, list_any}
 use Rattle.std.specs.Str.{bytes_eq}
 use Rattle.dn_module.specs.declared.draft.Draft.{Draft}
 use Rattle.dn_net.specs.declared.node.NodeDecl.{NodeDecl}
@@ -22,6 +24,14 @@ is_known-Some known text number e =
 
 pub is_known-None : (known : List (List ℕ)) (text : List ℕ) → position (bytes_eq text) known ≡ None → is_known known text ≡ false
 is_known-None known text e = let h = prefix_len-any (bytes_eq text) known in grind (arith, common_steps, h)
+
+pub kept_is : {X : Type 0} (bytes : X → List ℕ) (text : List ℕ) (xs : List X) (x : X) → find (λ k. bytes_eq text (bytes k)) xs ≡ Some x → bytes x ≡ text
+kept_is bytes text [] x at = absurd (none-some x at)
+kept_is {X} bytes text (y ∷ ys) x at = go (bytes_eq text (bytes y)) refl (λ later. kept_is bytes text ys x later) at
+  where
+    go : (same : Bool) → bytes_eq text (bytes y) ≡ same → (find (λ (k : X). bytes_eq text (bytes k)) ys ≡ Some x → bytes x ≡ text) → (if same then Some y else find (λ (k : X). bytes_eq text (bytes k)) ys) ≡ Some x → bytes x ≡ text
+    go true same later found = ap bytes (sym (same_Some y x found)) ∙ sym ((bytes_eq-Decides text (bytes y)).0 same)
+    go false same later found = later found
 
 twice_step : (a b d e : Bool) → (d ≡ true → e ≡ true) → (a || d) ≡ true → ((a || b) || e) ≡ true
 twice_step true b d e k l = refl

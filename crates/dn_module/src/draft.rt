@@ -1,7 +1,7 @@
 //! The nodes that declarations make, before the nodes to which they refer have numbers.
 
+use crate::shared::SharedName;
 use dn_base::items::Items;
-use dn_base::text::Text;
 use dn_net::node::{Block, Role};
 
 /// A node as it is declared, with the full names of the nodes to which it refers.
@@ -11,11 +11,11 @@ pub struct Draft {
     pub line: u32,
     pub role: Role,
     /// The full name.
-    pub name: Text,
+    pub name: SharedName,
     pub accepts: Items<Block>,
     pub entries: Items<DraftEntry>,
     /// The full name of the node that serves the rest.
-    pub over: Option<Text>,
+    pub over: Option<SharedName>,
     pub unit: Option<DraftUnit>,
 }
 
@@ -29,7 +29,7 @@ pub struct DraftEntry {
 /// A destination: the full name of its node, and the address to which the block's first one goes.
 #[derive(Drop)]
 pub struct DraftDest {
-    pub to: Text,
+    pub to: SharedName,
     pub addr: u64,
 }
 
@@ -44,5 +44,5 @@ pub struct DraftUnit {
     /// Outputs are below `2^reach`.
     pub reach: u8,
     /// The full names of the nodes to which it sends.
-    pub ports: Items<Text>,
+    pub ports: Items<SharedName>,
 }

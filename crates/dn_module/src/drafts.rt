@@ -113,7 +113,7 @@ impl Drafts {
         let agents = self.agents + usize::from(is_agent(draft.role));
         let units = self.units + usize::from(is_unit(draft.role));
         let parts = self.parts + parts_of(&draft);
-        put(alloc, &mut self.drafts, &mut self.known, draft)?;
+        put(&mut self.drafts, &mut self.known, draft)?;
         self.agents = agents;
         self.units = units;
         self.parts = parts;
@@ -142,12 +142,7 @@ impl Drafts {
 }
 
 /// Puts a node and its full name last. For want of memory both lists are unchanged.
-fn put(
-    alloc: Global,
-    drafts: &mut Vec<Draft>,
-    known: &mut NameTable,
-    draft: Draft,
-) -> Result<(), ExpandFault>
+fn put(drafts: &mut Vec<Draft>, known: &mut NameTable, draft: Draft) -> Result<(), ExpandFault>
     requires room { length known.old < 1024 }
     requires new_name { is_known known.old draft.name ≡ false }
     ensures drafts { OnOk result (drafts.new.items ≡ drafts.old.items ++ draft ∷ []) }
@@ -157,7 +152,7 @@ fn put(
     ensures err { IfErr result (λ e. e ≡ no_memory) }
 {
     drafts.reserve(1)?;
-    let _ = known.add(alloc, draft.name.as_str())?;
+    let _ = known.add(draft.name.share()?)?;
     drafts.push(draft)?;
     Ok(())
 }

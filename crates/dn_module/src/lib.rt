@@ -19,6 +19,7 @@ mod names;
 mod nodes;
 mod orders;
 mod scope;
+mod shared;
 mod stack;
 mod titles;
 mod uses;

@@ -13,6 +13,7 @@ ghost use Rattle.dn_module.specs.Faults.{expand_fault_view};
 use crate::draft::{Draft, DraftDest, DraftEntry, DraftUnit};
 use crate::fault::ExpandFault;
 use crate::names::NameTable;
+use crate::shared::SharedName;
 use dn_base::items::Items;
 use dn_base::text::Text;
 use dn_net::net::Net;
@@ -187,7 +188,11 @@ fn unit_in(alloc: Global, names: &NameTable, unit: &DraftUnit) -> Result<Unit, L
 }
 
 /// The numbers of the nodes with these full names.
-fn numbers_of(alloc: Global, names: &NameTable, texts: &[Text]) -> Result<Items<u16>, LinkFault>
+fn numbers_of(
+    alloc: Global,
+    names: &NameTable,
+    texts: &[SharedName],
+) -> Result<Items<u16>, LinkFault>
     ensures numbers { IfOk result (λ made. made ≡ map (number_of names.now) texts.now) }
     ensures known { IfOk result (λ _. list_all (is_known names.now) texts.now ≡ true) }
     ensures unknown { IsErrOf result LinkFault.Unknown → list_all (is_known names.now) texts.now ≡

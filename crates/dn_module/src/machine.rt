@@ -16,6 +16,7 @@ use crate::fault::ExpandFault;
 use crate::modules::{Module, Modules};
 use crate::nodes::declared_by;
 use crate::scope::Scope;
+use crate::shared::Interner;
 use crate::stack::{Stack, Turns, Work};
 use crate::uses::used;
 use crate::values::{NameFault, value};
@@ -26,11 +27,13 @@ use std::alloc::Global;
 /// The most steps: each statement that is reached is one, and each turn of a loop.
 const MOST_STEPS: u32 = 65_536;
 
-/// What the statements so far have made: the modules that are known, and the nodes.
+/// What the statements so far have made: the modules that are known, the nodes, and the full names that
+/// they have and refer to.
 #[derive(Drop)]
 pub struct Made<'a, 't> {
     pub modules: Modules<'a, 't>,
     pub drafts: Drafts,
+    pub interner: Interner,
 }
 
 /// What the statements of a text make, or the first fault.
@@ -48,6 +51,7 @@ pub fn expand_body<'a, 't>(
     let mut made = Made {
         modules: Modules::new(alloc),
         drafts: Drafts::new(alloc),
+        interner: Interner::new(alloc),
     };
     let mut left = MOST_STEPS;
     while let Some(work) = stack.next() {
@@ -127,7 +131,8 @@ fn take<'a, 't>(
     match statement {
         Stmt::Decl { line, decl } => {
             let scope = &stack.inner.scope;
-            declare(alloc, kinds, scope, &mut made.drafts, *line, decl)
+            let (interner, drafts) = (&mut made.interner, &mut made.drafts);
+            declare(alloc, kinds, interner, scope, drafts, *line, decl)
         }
         Stmt::Module {
             line,
@@ -146,7 +151,7 @@ fn take<'a, 't>(
             let found = made.modules.find(stack.inner.visible, title);
             let scope = &stack.inner.scope;
             let (args, prefix) = (args.as_slice(), prefix.as_slice());
-            let inner = used(alloc, scope, *line, found, args, prefix)?;
+            let inner = used(alloc, &mut made.interner, scope, *line, found, args, prefix)?;
             stack.enter(inner)
         }
         Stmt::Loop {
@@ -168,6 +173,7 @@ fn take<'a, 't>(
 fn declare(
     alloc: Global,
     kinds: &Kinds,
+    interner: &mut Interner,
     scope: &Scope,
     drafts: &mut Drafts,
     line: u32,
@@ -178,7 +184,7 @@ fn declare(
         (with_declaration (map (λ k. meaning (k.vtable, k.value)) kinds.now.list.items)
         drafts.old line (in_declaration scope.now (declaration_view decl.now))) }
 {
-    let draft = declared_by(alloc, kinds, scope, line, decl)?;
+    let draft = declared_by(alloc, kinds, interner, scope, line, decl)?;
     drafts.add(alloc, draft)
 }
 

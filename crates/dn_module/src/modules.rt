@@ -11,6 +11,7 @@ ghost use Rattle.dn_module.specs.Faults.{expand_fault_view};
 
 use crate::fault::ExpandFault;
 use crate::names::NameTable;
+use crate::shared::SharedName;
 use crate::titles::Titles;
 use dn_base::items::Items;
 use dn_parse::syntax::{Body, Param, Stmt};
@@ -160,7 +161,8 @@ fn put<'a, 't>(
     ensures err { IfErr result (λ e. e ≡ no_memory) }
 {
     modules.reserve(1)?;
-    let _ = names.add(alloc, known.module.title)?;
+    let name = SharedName::of(alloc, known.module.title)?;
+    let _ = names.add(name)?;
     modules.push(known)?;
     Ok(())
 }

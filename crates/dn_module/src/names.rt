@@ -4,24 +4,26 @@ ghost use Rattle.std.specs.Prelude.{◌≡◌, [], ◌∷◌, ◌++◌, if◌the
 ghost use Rattle.std.specs.List.{list_any};
 ghost use Rattle.std.specs.Str.{bytes_eq};
 
+use crate::shared::SharedName;
 use indexmap::IndexSet;
 use std::alloc::{AllocError, Global};
 use std::marker::Model;
+use std::rc::RcStr;
 
 /// Different names, numbered in the order in which they were added, at most 1,024. Contracts see the
 /// list of their bytes.
 #[derive(Drop)]
 pub struct NameTable {
-    names: IndexSet<String>,
+    names: IndexSet<RcStr>,
 }
 
 impl Model for NameTable {
     ghost use Rattle.std.specs.Prelude.{List, ℕ, map, length, ◌≤◌};
-    ghost use Rattle.std.specs.String.{string_bytes};
+    ghost use Rattle.std.specs.Rc.{rc_str_bytes};
 
     ghost Value = { List (List ℕ) };
 
-    ghost view = { λ n. map (λ s. string_bytes s) n.names.keys };
+    ghost view = { λ n. map (λ s. rc_str_bytes s) n.names.keys };
 
     ghost invariant = { λ n. length n.names.keys ≤ 1024 };
 }
@@ -48,16 +50,15 @@ impl NameTable {
 
     /// Adds a name, and answers whether it is new. One that is there already is not added again, and for
     /// want of memory the names are unchanged.
-    pub fn add(&mut self, alloc: Global, text: &str) -> Result<bool, AllocError>
+    pub fn add(&mut self, name: SharedName) -> Result<bool, AllocError>
         requires room { length self.old < 1024 }
         ensures is_new { IfOk result (λ is_new. is_new ≡ not
-            (list_any (bytes_eq text.now) self.old)) }
+            (list_any (bytes_eq name) self.old)) }
         ensures added { IfOk result (λ is_new. self.new ≡
-            (if is_new then self.old ++ text.now ∷ [] else self.old)) }
+            (if is_new then self.old ++ name ∷ [] else self.old)) }
         ensures err { OnErr result (self.new ≡ self.old) }
     {
-        let name = String::from_str(alloc, text)?;
-        let is_new = self.names.insert(name)?;
+        let is_new = self.names.insert(name.into_text())?;
         Ok(is_new)
     }
 }

@@ -13,9 +13,9 @@ ghost use Rattle.dn_module.specs.Faults.{expand_fault_view, name_fault_view, som
 use crate::draft::{Draft, DraftDest, DraftEntry, DraftUnit};
 use crate::fault::ExpandFault;
 use crate::scope::Scope;
-use crate::values::{Flaw, NameFault, declared_name, reference, value, value_or, value_within};
+use crate::shared::{Interner, SharedName};
+use crate::values::{Flaw, NameFault, reference, shared_name, value, value_or, value_within};
 use dn_base::items::Items;
-use dn_base::text::Text;
 use dn_kind::kinds::Kinds;
 use dn_net::node::{Block, Role};
 use dn_parse::syntax::{BlockExpr, Decl, DeclRole, DestExpr, EntryExpr, NameExpr, Spec, UnitExpr};
@@ -25,6 +25,7 @@ use std::alloc::Global;
 pub fn declared_by(
     alloc: Global,
     kinds: &Kinds,
+    interner: &mut Interner,
     scope: &Scope,
     line: u32,
     decl: &Decl,
@@ -34,7 +35,7 @@ pub fn declared_by(
         (declared_by (map (λ k. meaning (k.vtable, k.value)) kinds.now.list.items) line
         (in_declaration scope.now (declaration_view decl.now))) }
 {
-    match draft_of(alloc, kinds, scope, line, decl) {
+    match draft_of(alloc, kinds, interner, scope, line, decl) {
         Ok(draft) => Ok(draft),
         Err(fault) => Err(fault.at(line)),
     }
@@ -44,6 +45,7 @@ pub fn declared_by(
 fn draft_of(
     alloc: Global,
     kinds: &Kinds,
+    interner: &mut Interner,
     scope: &Scope,
     line: u32,
     decl: &Decl,
@@ -54,8 +56,10 @@ fn draft_of(
         (in_declaration scope.now (declaration_view decl.now))) }
 {
     match decl {
-        Decl::Node { role, name, spec } => node_draft(alloc, scope, line, *role, name, spec),
-        Decl::Unit(unit) => unit_of(alloc, kinds, scope, line, unit),
+        Decl::Node { role, name, spec } => node_draft(
+            alloc, interner, scope, line, *role, name, spec,
+        ),
+        Decl::Unit(unit) => unit_of(alloc, kinds, interner, scope, line, unit),
     }
 }
 
@@ -63,6 +67,7 @@ fn draft_of(
 fn unit_of(
     alloc: Global,
     kinds: &Kinds,
+    interner: &mut Interner,
     scope: &Scope,
     line: u32,
     unit: &UnitExpr,
@@ -72,12 +77,12 @@ fn unit_of(
         (draft_of (map (λ k. meaning (k.vtable, k.value)) kinds.now.list.items) line
         (in_declaration scope.now (unit_view unit.now))) }
 {
-    let name = declared_name(alloc, scope, unit.name.as_slice())?;
+    let name = shared_name(alloc, interner, scope, unit.name.as_slice())?;
     let kind = kind_number(kinds, unit.kind)?;
     let page = value_within(scope, 255, &unit.page)? as u8;
     let slots = value_within(scope, 4_294_967_295, &unit.slots)? as u32;
     let reach = value_within(scope, 255, &unit.reach)? as u8;
-    let ports = references(alloc, scope, unit.ports.as_slice())?;
+    let ports = references(alloc, interner, scope, unit.ports.as_slice())?;
     let unit = DraftUnit {
         kind,
         page,
@@ -89,7 +94,7 @@ fn unit_of(
 }
 
 /// A unit with this full name. It takes no memory.
-fn unit_draft(alloc: Global, line: u32, name: Text, unit: DraftUnit) -> Draft
+fn unit_draft(alloc: Global, line: u32, name: SharedName, unit: DraftUnit) -> Draft
     ensures { result ≡ record {
       line = line;
       role = unit_role;
@@ -127,6 +132,7 @@ fn kind_number(kinds: &Kinds, name: &str) -> Result<u8, Flaw>
 /// A node with its parts.
 fn node_draft(
     alloc: Global,
+    interner: &mut Interner,
     scope: &Scope,
     line: u32,
     role: DeclRole,
@@ -137,13 +143,13 @@ fn node_draft(
         (node_draft line (role_view role) (in_declared scope.now (name_view name.now))
         (in_spec scope.now (spec_view spec.now))) }
 {
-    let name = declared_name(alloc, scope, name.as_slice())?;
+    let name = shared_name(alloc, interner, scope, name.as_slice())?;
     let Some(spec) = spec else {
         return Ok(bare_draft(alloc, line, role_of(role), name));
     };
     let accepts = blocks(alloc, scope, spec.accepts.as_slice())?;
-    let entries = entries(alloc, scope, spec.entries.as_slice())?;
-    let over = over(alloc, scope, &spec.over)?;
+    let entries = entries(alloc, interner, scope, spec.entries.as_slice())?;
+    let over = over(alloc, interner, scope, &spec.over)?;
     Ok(Draft {
         line,
         role: role_of(role),
@@ -156,7 +162,7 @@ fn node_draft(
 }
 
 /// A node without parts. It takes no memory.
-fn bare_draft(alloc: Global, line: u32, role: Role, name: Text) -> Draft
+fn bare_draft(alloc: Global, line: u32, role: Role, name: SharedName) -> Draft
     ensures { result ≡ record {
       line = line;
       role = role;
@@ -189,15 +195,20 @@ fn role_of(role: DeclRole) -> Role
 }
 
 /// The full name of the node that serves the rest, where there is one.
-fn over(alloc: Global, scope: &Scope, name: &Option<NameExpr>) -> Result<Option<Text>, NameFault>
+fn over(
+    alloc: Global,
+    interner: &mut Interner,
+    scope: &Scope,
+    name: &Option<NameExpr>,
+) -> Result<Option<SharedName>, NameFault>
     ensures { Answers (λ x. x) name_fault_view result
         (full_name_or_none (option_map (in_reference scope.now) (maybe_name_view name.now))) }
 {
     match name {
         None => Ok(None),
         Some(name) => {
-            let text = reference(alloc, scope, name.as_slice())?;
-            Ok(Some(text))
+            let name = reference(alloc, interner, scope, name.as_slice())?;
+            Ok(Some(name))
         }
     }
 }
@@ -225,17 +236,24 @@ fn blocks(alloc: Global, scope: &Scope, ranges: &[BlockExpr]) -> Result<Items<Bl
 }
 
 /// A destination of a block with this first address, which is its own where none is given.
-fn dest(alloc: Global, scope: &Scope, lo: u64, dest: &DestExpr) -> Result<DraftDest, NameFault>
+fn dest(
+    alloc: Global,
+    interner: &mut Interner,
+    scope: &Scope,
+    lo: u64,
+    dest: &DestExpr,
+) -> Result<DraftDest, NameFault>
     ensures { Answers (λ x. x) name_fault_view result
         (dest_of lo (in_dest scope.now (dest_view dest.now))) }
 {
-    let to = reference(alloc, scope, dest.name.as_slice())?;
+    let to = reference(alloc, interner, scope, dest.name.as_slice())?;
     let addr = value_or(scope, lo, &dest.addr)?;
     Ok(DraftDest { to, addr })
 }
 
 fn dests(
     alloc: Global,
+    interner: &mut Interner,
     scope: &Scope,
     lo: u64,
     dests: &[DestExpr],
@@ -245,23 +263,29 @@ fn dests(
 {
     let mut made = Vec::with_capacity(alloc, dests.len())?;
     for expr in dests {
-        let dest = dest(alloc, scope, lo, expr)?;
+        let dest = dest(alloc, interner, scope, lo, expr)?;
         made.push(dest)?;
     }
     Ok(Items::from_vec(made))
 }
 
-fn entry(alloc: Global, scope: &Scope, mapping: &EntryExpr) -> Result<DraftEntry, NameFault>
+fn entry(
+    alloc: Global,
+    interner: &mut Interner,
+    scope: &Scope,
+    mapping: &EntryExpr,
+) -> Result<DraftEntry, NameFault>
     ensures { Answers (λ x. x) name_fault_view result
         (entry_of (in_entry scope.now (entry_view mapping.now))) }
 {
     let block = block(scope, &mapping.block)?;
-    let dests = dests(alloc, scope, block.lo, mapping.dests.as_slice())?;
+    let dests = dests(alloc, interner, scope, block.lo, mapping.dests.as_slice())?;
     Ok(DraftEntry { block, dests })
 }
 
 fn entries(
     alloc: Global,
+    interner: &mut Interner,
     scope: &Scope,
     mappings: &[EntryExpr],
 ) -> Result<Items<DraftEntry>, NameFault>
@@ -270,20 +294,25 @@ fn entries(
 {
     let mut made = Vec::with_capacity(alloc, mappings.len())?;
     for mapping in mappings {
-        let entry = entry(alloc, scope, mapping)?;
+        let entry = entry(alloc, interner, scope, mapping)?;
         made.push(entry)?;
     }
     Ok(Items::from_vec(made))
 }
 
 /// The full names to which names refer.
-fn references(alloc: Global, scope: &Scope, names: &[NameExpr]) -> Result<Items<Text>, NameFault>
+fn references(
+    alloc: Global,
+    interner: &mut Interner,
+    scope: &Scope,
+    names: &[NameExpr],
+) -> Result<Items<SharedName>, NameFault>
     ensures { Answers (λ x. x) name_fault_view result
         (each full_name (map (in_reference scope.now) (map name_view names.now))) }
 {
     let mut made = Vec::with_capacity(alloc, names.len())?;
     for name in names {
-        let text = reference(alloc, scope, name.as_slice())?;
+        let text = reference(alloc, interner, scope, name.as_slice())?;
         made.push(text)?;
     }
     Ok(Items::from_vec(made))

@@ -3,6 +3,7 @@
 ghost use Rattle.std.specs.Prelude.{◌≡◌, [], ◌∷◌, ◌++◌, ◌<◌, drop, map, reverse, OnOk, OnErr, Option, Some, None, option_map};
 ghost use Rattle.dn_module.specs.Replace.{looked_up, node_by, numbers_by, as_they_stand, under, prefix_of};
 
+use crate::shared::SharedName;
 use crate::words::Words;
 use dn_base::text::Text;
 use std::alloc::{AllocError, Global};
@@ -101,7 +102,7 @@ impl<'a> Scope<'a> {
     }
 
     /// The full name that stands for a node parameter. `None` exactly where the word is none.
-    pub fn node(&self, word: &str) -> Option<&str>
+    pub fn node(&self, word: &str) -> Option<&SharedName>
         ensures { option_map (λ t. t.now) result ≡ node_by self.now.naming (Some word.now) }
     {
         match &self.within {

@@ -14,6 +14,7 @@ ghost use Rattle.dn_module.specs.Faults.{expand_fault_view, name_fault_view};
 use crate::fault::ExpandFault;
 use crate::modules::{Known, Visible};
 use crate::scope::Scope;
+use crate::shared::Interner;
 use crate::stack::Use;
 use crate::titles::Titles;
 use crate::values::{NameFault, declared_name, reference, value};
@@ -25,6 +26,7 @@ use std::alloc::Global;
 /// The use of a module that was found, with its number, from the statement's arguments and its prefix.
 pub fn used<'a, 't>(
     alloc: Global,
+    interner: &mut Interner,
     scope: &Scope,
     line: u32,
     found: Option<(u16, &Known<'a, 't>)>,
@@ -42,7 +44,7 @@ pub fn used<'a, 't>(
     if !fit(known.module.params, args) {
         return Err(ExpandFault::Arguments { line });
     }
-    match inner_scope(alloc, scope, &known.titles, args, prefix) {
+    match inner_scope(alloc, interner, scope, &known.titles, args, prefix) {
         Ok(inner) => Ok(Use::new(alloc, inner, Visible::First(number), known.module.body)),
         Err(fault) => Err(fault.at(line)),
     }
@@ -51,6 +53,7 @@ pub fn used<'a, 't>(
 /// What stands for the words of a module's body, with an argument for each parameter.
 fn inner_scope<'a>(
     alloc: Global,
+    interner: &mut Interner,
     scope: &Scope,
     titles: &Titles,
     args: &[Arg],
@@ -61,27 +64,37 @@ fn inner_scope<'a>(
         (replaced_by titles.now (map (in_arg scope.now) (map arg_view args.now))
         (in_declared scope.now (name_view prefix.now))) }
 {
-    let values = values_of(alloc, scope, args)?;
+    let values = values_of(alloc, interner, scope, args)?;
     let text = declared_name(alloc, scope, prefix)?;
     let words = Words::new(titles.share()?, values);
     Ok(Scope::of_use(alloc, text, words))
 }
 
 /// The values of arguments.
-fn values_of(alloc: Global, scope: &Scope, args: &[Arg]) -> Result<Items<Given>, NameFault>
+fn values_of(
+    alloc: Global,
+    interner: &mut Interner,
+    scope: &Scope,
+    args: &[Arg],
+) -> Result<Items<Given>, NameFault>
     ensures { Answers (map given_view) name_fault_view result
         (each given_by (map (in_arg scope.now) (map arg_view args.now))) }
 {
     let mut made = Vec::with_capacity(alloc, args.len())?;
     for arg in args {
-        let value = value_of(alloc, scope, arg)?;
+        let value = value_of(alloc, interner, scope, arg)?;
         made.push(value)?;
     }
     Ok(Items::from_vec(made))
 }
 
 /// The value of an argument.
-fn value_of(alloc: Global, scope: &Scope, arg: &Arg) -> Result<Given, NameFault>
+fn value_of(
+    alloc: Global,
+    interner: &mut Interner,
+    scope: &Scope,
+    arg: &Arg,
+) -> Result<Given, NameFault>
     ensures { Answers given_view name_fault_view result
         (given_by (in_arg scope.now (arg_view arg.now))) }
 {
@@ -91,8 +104,8 @@ fn value_of(alloc: Global, scope: &Scope, arg: &Arg) -> Result<Given, NameFault>
             Ok(Given::Number(number))
         }
         Arg::Node(name) => {
-            let text = reference(alloc, scope, name.as_slice())?;
-            Ok(Given::Named(text))
+            let name = reference(alloc, interner, scope, name.as_slice())?;
+            Ok(Given::Named(name))
         }
     }
 }

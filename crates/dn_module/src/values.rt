@@ -13,6 +13,7 @@ ghost use Rattle.dn_module.specs.Faults.{expand_fault_view, name_fault_view, som
 
 use crate::fault::ExpandFault;
 use crate::scope::Scope;
+use crate::shared::{Interner, SharedName};
 use dn_base::text::Text;
 use dn_parse::syntax::{Expr, PartExpr};
 use std::alloc::{AllocError, AllocFailed, Global};
@@ -202,21 +203,40 @@ pub fn declared_name(alloc: Global, scope: &Scope, name: &[PartExpr]) -> Result<
     Ok(Text::from_string(text))
 }
 
+/// The same full name, which all who declare it and refer to it share.
+pub fn shared_name(
+    alloc: Global,
+    interner: &mut Interner,
+    scope: &Scope,
+    name: &[PartExpr],
+) -> Result<SharedName, NameFault>
+    ensures { Answers (λ x. x) name_fault_view result
+        (full_name (in_declared scope.now (name_view name.now))) }
+{
+    let text = declared_name(alloc, scope, name)?;
+    Ok(interner.shared(alloc, text.as_str())?)
+}
+
 /// The full name to which a name refers: one part without an index that spells a node parameter is the
 /// argument's, and any other is as a declared name.
-pub fn reference(alloc: Global, scope: &Scope, name: &[PartExpr]) -> Result<Text, NameFault>
+pub fn reference(
+    alloc: Global,
+    interner: &mut Interner,
+    scope: &Scope,
+    name: &[PartExpr],
+) -> Result<SharedName, NameFault>
     ensures { Answers (λ x. x) name_fault_view result
         (full_name (in_reference scope.now (name_view name.now))) }
 {
     match argument(scope, name) {
-        Some(text) => Ok(Text::of(alloc, text)?),
-        None => declared_name(alloc, scope, name),
+        Some(known) => Ok(known.share()?),
+        None => shared_name(alloc, interner, scope, name),
     }
 }
 
 /// The full name that stands for a name of one part without an index. `None` exactly where it spells no
 /// node parameter.
-fn argument<'a>(scope: &'a Scope, name: &[PartExpr]) -> Option<&'a str>
+fn argument<'a>(scope: &'a Scope, name: &[PartExpr]) -> Option<&'a SharedName>
     ensures { option_map (λ t. t.now) result ≡ node_by scope.now.naming
         (word_of (name_view name.now)) }
 {

@@ -5,9 +5,9 @@ ghost use Rattle.dn_module.specs.Expand.{has_twice, numbers_of, nodes_of};
 ghost use Rattle.dn_module.specs.Replace.{looked_up};
 ghost use Rattle.dn_module.specs.Words.{given_view, number_part, name_part, part_in, numbers_from};
 
+use crate::shared::SharedName;
 use crate::titles::Titles;
 use dn_base::items::Items;
-use dn_base::text::Text;
 use std::marker::Model;
 
 /// The value of an argument.
@@ -16,7 +16,7 @@ pub enum Given {
     /// A number.
     Number(u64),
     /// The full name of a node.
-    Named(Text),
+    Named(SharedName),
 }
 
 /// What stands for the words of a module's parameters: at the place of each word its value. Contracts see
@@ -74,7 +74,7 @@ impl Words {
     }
 
     /// The full name that stands for a word. `None` exactly where none does.
-    pub fn name(&self, word: &str) -> Option<&str>
+    pub fn name(&self, word: &str) -> Option<&SharedName>
         ensures { option_map (λ t. t.now) result ≡ looked_up word.now self.now.1 }
     {
         let Some(place) = self.titles.place(word) else {
@@ -102,12 +102,12 @@ fn number_at(values: &[Given], place: usize) -> Option<u64>
 }
 
 /// The full name at a place. `None` exactly where there is none.
-fn name_at(values: &[Given], place: usize) -> Option<&str>
+fn name_at(values: &[Given], place: usize) -> Option<&SharedName>
     ensures { option_map (λ t. t.now) result ≡
         part_in name_part (slice_get (map given_view values.now) place) }
 {
     match values.get(place) {
-        Some(Given::Named(text)) => Some(text.as_str()),
+        Some(Given::Named(name)) => Some(name),
         _ => None,
     }
 }

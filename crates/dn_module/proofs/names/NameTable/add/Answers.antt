@@ -1,5 +1,5 @@
-use Rattle.std.proofs.Common.{rules, ◌≡◌, ◌∙◌, sym, ap, not, List, ℕ}
-use Rattle.std.specs.String.{string_bytes}
+use Rattle.std.proofs.Common.{◌∙◌, sym, ap, not, List, ℕ}
+use Rattle.std.specs.Rc.{rc_str_bytes}
 use Rattle.std.specs.List.{list_any}
 use Rattle.std.specs.Str.{bytes_eq}
 use Rattle.dn_base.proofs.Lists.{list_any-map}
@@ -8,7 +8,6 @@ use Rattle.dn_module.proofs.names.NameTable.add.Goals as goal
 pub returns-clause-is_new : goal.returns-clause-is_new
 returns-clause-is_new c =
     let keys = c.self.inside.names.keys in
-    let bytes : string_bytes c.in_ok-name.name ≡ c.args.text.now = search rules in
     c.in_ok-is_new.ensures.added
-    ∙ ap (λ (t : List ℕ). not (list_any (λ k. bytes_eq t (string_bytes k)) keys)) bytes
-    ∙ ap not (sym (list_any-map (λ s. string_bytes s) (bytes_eq c.args.text.now) keys) ∙ ap (list_any (bytes_eq c.args.text.now)) c.self.view_is)
+    ∙ ap (λ (t : List ℕ). not (list_any (λ k. bytes_eq t (rc_str_bytes k)) keys)) c.into_text.ensures
+    ∙ ap not (sym (list_any-map (λ s. rc_str_bytes s) (bytes_eq c.args.name) keys) ∙ ap (list_any (bytes_eq c.args.name)) c.self.view_is)
