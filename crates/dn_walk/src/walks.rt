@@ -162,8 +162,9 @@ fn check_units(alloc: Global, net: &Net, rows: &[WalkRow]) -> Result<(), WalkFau
     Ok(())
 }
 
-/// The rows of the sorted levels but the first. They are put behind those of the last level that has
-/// any and turned round, so that the rows of that level are not held twice.
+/// The rows of the sorted levels but the first. The levels are put one before the other, from the last
+/// row to the first, and each is let go once its rows were put, so that those of one level alone are held
+/// twice at a time.
 fn table_rows(alloc: Global, levels: Levels) -> Result<Vec<WalkRow>, AllocError>
     requires some { 0 < length levels.sorted.items }
     requires room { levels.room ≤ WALK_LIMIT }
@@ -176,13 +177,17 @@ fn table_rows(alloc: Global, levels: Levels) -> Result<Vec<WalkRow>, AllocError>
         ..
     } = levels;
     let mut rows = last_rows(alloc, &mut sorted);
-    let last = rows.len();
+    rows.reverse();
     let all = WALK_LIMIT - room;
-    rows.reserve(all.saturating_sub(last))?;
-    for level in &sorted[1..] {
-        rows.extend_from_slice(level.as_slice())?;
+    rows.reserve(all.saturating_sub(rows.len()))?;
+    while sorted.len() > 1 {
+        if let Some(level) = sorted.pop() {
+            let mut more = level.into_vec();
+            more.reverse();
+            rows.extend_from_slice(more.as_slice())?;
+        }
     }
-    rows.rotate_left(last);
+    rows.reverse();
     Ok(rows)
 }
 
