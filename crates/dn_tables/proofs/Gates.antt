@@ -19,6 +19,12 @@ gate_is_last (w ∷ []) (suc n) e = absurd (omega arith)
 gate_is_last (w ∷ v ∷ ws) zero e = absurd (omega arith)
 gate_is_last (w ∷ v ∷ ws) (suc n) e = gate_is_last (v ∷ ws) n (omega arith)
 
+-- what stands at a place of a list is the same whatever stands behind the list
+default_of : (ws : List ℕ) (at w : ℕ) → at < length ws → get_or ws at w ≡ get_or ws at 0
+default_of [] at w l = absurd (omega arith)
+default_of (v ∷ ws) zero w l = refl
+default_of (v ∷ ws) (suc at) w l = default_of ws at w (omega arith)
+
 -- the gate word of a slot is the last of its words
 pub gate_of_slot : (n slot : ℕ) (ws : List ℕ) → slot * suc n + suc n ≤ length ws → gate_word (slot_words (suc n) ws slot) ≡ get_or ws (slot * suc n + n) 0
 gate_of_slot n slot ws l =
@@ -27,6 +33,14 @@ gate_of_slot n slot ws l =
     gate_is_last (slot_words (suc n) ws slot) n t
     ∙ get_or-take (suc n) (drop (slot * suc n) ws) n 0 (omega arith)
     ∙ get_or-drop (slot * suc n) ws n 0
+
+-- the same of any number of words but none, where the word is known
+pub gate_of_width : (width slot : ℕ) (ws : List ℕ) (w : ℕ) → 1 ≤ width → slot * width + width ≤ length ws → w ≡ get_or ws (slot * width + (width - 1)) w → w ≡ gate_word (slot_words width ws slot)
+gate_of_width zero slot ws w h l e = absurd (omega arith)
+gate_of_width (suc n) slot ws w h l e =
+    let same : suc n - 1 ≡ n = omega arith in
+    let at : w ≡ get_or ws (slot * suc n + n) w = e ∙ ap (λ m. get_or ws (slot * suc n + m) w) same in
+    at ∙ default_of ws (slot * suc n + n) w (omega arith) ∙ sym (gate_of_slot n slot ws l)
 
 -- the last word of a slot whose words are 0 is 0
 gate_of_empty : (n slot : ℕ) (ws : List ℕ) → slot_words (suc n) ws slot ≡ replicate (suc n) 0 → get_or ws (slot * suc n + n) 0 ≡ 0

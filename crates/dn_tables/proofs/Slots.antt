@@ -1,5 +1,5 @@
 -- The record of a slot after it was put or cleared, or was half so.
-use Rattle.std.proofs.Common.{◌≡◌, ℕ, zero, suc, ◌+◌, ◌-◌, ◌*◌, ◌<◌, ◌≤◌, ◌⊎◌, inl, inr, Bool, true, false, if◌then◌else◌, List, [], ◌∷◌, map, length, take, replicate, slice_get, Option, Some, None, Result, Ok, Err, OnOk, OnErr, is_err, IsTrue, refl, sym, ap, ◌∙◌, subst, arith, lt-ltb, eqb-true}
+use Rattle.std.proofs.Common.{◌≡◌, ℕ, zero, suc, ◌+◌, ◌*◌, ◌<◌, ◌≤◌, ◌⊎◌, inl, inr, Bool, true, false, if◌then◌else◌, List, [], ◌∷◌, map, length, take, replicate, slice_get, Option, Some, None, Result, Ok, Err, OnOk, OnErr, is_err, IsTrue, refl, sym, ap, ◌∙◌, subst, arith, lt-ltb, eqb-true}
 use Rattle.std.specs.List.{All}
 use Rattle.std.proofs.lemmas.List.{take_all}
 use Rattle.std.proofs.lemmas.List.Elements.{All-map}
@@ -49,6 +49,12 @@ kind_of_slot kinds set node slot t s fits = by (slice_get kinds s.part.kind) ref
     by : (k : Option Meaning) → slice_get kinds s.part.kind ≡ k → IsTrue (is_wide k t.width) → IsKindOf kinds t s.part
     by None e f = cc
     by (Some kind) e f = record { kind = kind; found = e; wide = eqb-true kind.words t.width f }
+
+-- the records of the kind of a unit have as many words as its table has for each slot
+pub width_of_kind : (kinds : List Meaning) (width : ℕ) (o : Option UnitPart) (u : UnitPart) → o ≡ Some u → IsTrue (fits_by kinds width o) → (kind : Meaning) → slice_get kinds u.kind ≡ Some kind → kind.words ≡ width
+width_of_kind kinds width o u e fits kind at =
+    let wide : IsTrue (is_wide (slice_get kinds u.kind) width) = subst (λ p. IsTrue (fits_by kinds width p)) e fits in
+    eqb-true kind.words width (subst (λ k. IsTrue (is_wide k width)) at wide)
 
 -- the words of a record of the unit
 packed_is : (kinds : List Meaning) (t : NodeTable) (u : UnitPart) (r : Record) (k : IsKindOf kinds t u) → t.unit ≡ Some u → packed_for kinds t.unit r ≡ k.kind.pack (unit_shape u) r

@@ -1,5 +1,5 @@
 -- A set of tables: the words of each unit of a net, and the uses and owners of its slots.
-use Rattle.std.specs.Prelude.{◌≡◌, ℕ, zero, suc, ◌*◌, ◌+◌, Bool, true, false, ◌&&◌, ◌==◌, nat_le, nat_lt, List, [], ◌∷◌, ◌++◌, map, length, take, drop, replicate, slice_get, slice_index_or, slice_set, Option, Some, None, IfSome, IsTrue}
+use Rattle.std.specs.Prelude.{◌≡◌, ℕ, zero, suc, ◌*◌, Bool, true, false, ◌&&◌, ◌==◌, nat_le, nat_lt, List, [], ◌∷◌, ◌++◌, map, length, take, drop, replicate, slice_get, slice_index_or, slice_set, Option, Some, None, IfSome, IsTrue}
 use Rattle.std.specs.List.{list_all}
 use Rattle.dn_base.specs.Device.{UnitSize, sizes_of}
 use Rattle.dn_base.specs.declared.device.UnitWords.{UnitWords}

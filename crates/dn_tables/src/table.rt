@@ -6,7 +6,7 @@ ghost use Rattle.std.specs.Option.{option_copied};
 ghost use Rattle.dn_base.specs.Device.{has_word};
 ghost use Rattle.dn_base.specs.Outside.{IsCounted};
 ghost use Rattle.dn_net.specs.declared.node.Unit.{Unit as UnitPart};
-ghost use Rattle.dn_kind.specs.Kind.{Meaning, IsLawful, IsPackable};
+ghost use Rattle.dn_kind.specs.Kind.{Meaning, IsLawful, IsPackable, gate_word};
 ghost use Rattle.dn_kind.specs.Tables.{record_of_unit, slot_words};
 ghost use Rattle.dn_kind.specs.Units.{is_shaped, has_shape, unit_shape};
 ghost use Rattle.dn_tables.specs.Set.{fits_by, fresh_by, has_slot_by, is_sized, packed_for, width_by, with_words};
@@ -82,9 +82,38 @@ impl NodeTable {
         SlotWords::read(&self.words, first, self.width)
     }
 
+    /// The gate word of a slot: the last of its words, without bit 0 of which it holds no record.
+    fn gate(&self, slot: u32) -> u64
+        requires sized { IsTrue (is_sized self.now) }
+        requires there { IsTrue (has_slot_by self.now.unit slot) }
+        ensures { result ≡ gate_word (slot_words self.now.width self.now.words slot) }
+    {
+        let first = slot as usize * usize::from(self.width);
+        self.words.get(first + usize::from(self.width - 1))
+    }
+
     /// The record that a slot holds. `None` exactly where its words spell none, where the port is
     /// none of the unit's, or where the output is past its reach.
     pub(crate) fn record_at(&self, kinds: &Kinds, slot: u32) -> Option<Record>
+        requires lawful { All (λ k. IsLawful (meaning (k.vtable, k.value))) kinds.now.list.items }
+        requires fits { IsTrue (fits_by
+            (map (λ k. meaning (k.vtable, k.value)) kinds.now.list.items)
+            self.now.width self.now.unit) }
+        requires sized { IsTrue (is_sized self.now) }
+        requires there { IsTrue (has_slot_by self.now.unit slot) }
+        ensures { result ≡ record_of_unit
+            (map (λ k. meaning (k.vtable, k.value)) kinds.now.list.items)
+            self.now.unit (Some self.now.words) slot }
+    {
+        // Most slots hold none, and this tells it without a look at the kind.
+        if self.gate(slot) == 0 {
+            return None;
+        }
+        self.spelled_record(kinds, slot)
+    }
+
+    /// The record that the words of a slot spell, where the unit can hold it.
+    fn spelled_record(&self, kinds: &Kinds, slot: u32) -> Option<Record>
         requires lawful { All (λ k. IsLawful (meaning (k.vtable, k.value))) kinds.now.list.items }
         requires fits { IsTrue (fits_by
             (map (λ k. meaning (k.vtable, k.value)) kinds.now.list.items)

@@ -1,4 +1,4 @@
-use Rattle.std.proofs.Common.{◌≡◌, ◌∙◌, ◌≤◌, ap, sym, rules, arith, true, false, is_ok, length, slice_get, Some, take}
+use Rattle.std.proofs.Common.{◌≡◌, ◌∙◌, ◌≤◌, ap, sym, rules, arith, false, is_ok, length, slice_get, Some, take}
 use Rattle.std.proofs.lemmas.List.{length-take}
 use Rattle.dn_base.proofs.Lists.{slice_get-at}
 use Rattle.dn_base.proofs.Counts.{counted_then}
