@@ -9,5 +9,6 @@ pub mod Whole
 pub mod Laws
 pub mod Descent
 pub mod Commands
+pub mod Plain
 pub mod Script
 pub mod Faults

@@ -11,6 +11,7 @@ mod expressions;
 pub mod few;
 pub mod laws;
 mod nodes;
+mod plain;
 pub mod reader;
 pub mod script;
 mod statements;
