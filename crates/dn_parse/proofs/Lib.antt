@@ -19,3 +19,4 @@ pub mod Readers
 pub mod Heads
 pub mod Judge
 pub mod Scripts
+pub mod PlainOnes

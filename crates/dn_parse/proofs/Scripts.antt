@@ -30,20 +30,20 @@ unfolding next_command
 next_stops ts line z h e = ap (λ (l : Option ℕ). next_in l ts) h ∙ ap found e
 
 -- the first of several
-more_is : (n : ℕ) (ts : List Token) (o : Found) → next_command ts ≡ o → commands_from (suc n) ts ≡ with_more o (commands_from n)
+pub more_is : (n : ℕ) (ts : List Token) (o : Found) → next_command ts ≡ o → commands_from (suc n) ts ≡ with_more o (commands_from n)
 unfolding commands_from
 more_is n ts o e = ap (λ (p : Found). with_more p (commands_from n)) e
 
-past_is : (n : ℕ) (ts : List Token) (o : Found) → next_command ts ≡ o → behind_commands (suc n) ts ≡ past o (behind_commands n)
+pub past_is : (n : ℕ) (ts : List Token) (o : Found) → next_command ts ≡ o → behind_commands (suc n) ts ≡ past o (behind_commands n)
 unfolding behind_commands
 past_is n ts o e = ap (λ (p : Found). past p (behind_commands n)) e
 
-fewer : (n : ℕ) (ts : List Token) (c : Command × List Token) → length (commands_from (suc n) ts) ≡ suc n → next_command ts ≡ Some c → length (commands_from n c.1) ≡ n
+pub fewer : (n : ℕ) (ts : List Token) (c : Command × List Token) → length (commands_from (suc n) ts) ≡ suc n → next_command ts ≡ Some c → length (commands_from n c.1) ≡ n
 fewer n ts c l e =
     let longer : length (commands_from (suc n) ts) ≡ suc (length (commands_from n c.1)) = ap length (more_is n ts (Some c) e) in
     omega (arith, longer, l)
 
-none_fewer : (n : ℕ) (ts : List Token) → length (commands_from (suc n) ts) ≡ suc n → next_command ts ≡ None → ⊥
+pub none_fewer : (n : ℕ) (ts : List Token) → length (commands_from (suc n) ts) ≡ suc n → next_command ts ≡ None → ⊥
 none_fewer n ts l e =
     let none : length (commands_from (suc n) ts) ≡ 0 = ap length (more_is n ts None e) in
     absurd (omega (arith, none, l))
@@ -87,7 +87,7 @@ one_begun : (ts rest : List Token) → option_map (λ (c : Command × List Token
 unfolding commands_from behind_commands
 one_begun ts rest e = one_alone (next_command ts) rest e
 
-behind_zero : (ts : List Token) → behind_commands zero ts ≡ ts
+pub behind_zero : (ts : List Token) → behind_commands zero ts ≡ ts
 unfolding behind_commands
 behind_zero ts = refl
 

@@ -2,7 +2,7 @@
 use Rattle.std.specs.Prelude.{Bool, true, false, ◌&&◌, List, Option}
 use Rattle.std.specs.List.{list_all}
 use Rattle.std.specs.Option.{is_none}
-use Rattle.dn_parse.specs.Tree.{Expression, constant, variable, sum, product, minus, Part, Order, resolve, lookup, view, grant, route, revoke, dump, split, absorb}
+use Rattle.dn_parse.specs.Tree.{Command, Expression, constant, variable, sum, product, minus, Part, Order, resolve, lookup, view, grant, route, revoke, dump, split, absorb}
 
 -- an expression that is a number
 abbrev pub is_constant : Expression → Bool
@@ -31,3 +31,7 @@ is_plain (revoke id) = true
 is_plain dump = true
 is_plain split = true
 is_plain (absorb name) = is_bare name
+
+-- commands that are all plain
+abbrev pub are_plain : List Command → Bool
+are_plain commands = list_all (λ c. is_plain c.order) commands

@@ -1,11 +1,13 @@
 //! The commands of a text, of which none is kept.
 
-ghost use Rattle.std.specs.Prelude.{◌≡◌, [], length};
+ghost use Rattle.std.specs.Prelude.{◌≡◌, [], length, IsTrue};
 ghost use Rattle.dn_token.specs.Cursor.{cursor_view};
 ghost use Rattle.dn_parse.specs.Commands.{commands_from};
+ghost use Rattle.dn_parse.specs.Plain.{are_plain, is_plain};
 
 use crate::blocks::{Misplaced, Trouble};
 use crate::cursor::{Halt, first_line};
+use crate::plain::is_plain;
 use crate::statements::command;
 use crate::syntax::Cmd;
 use dn_token::cursor::Cursor;
@@ -19,7 +21,10 @@ pub struct Script<'a> {
     first: Cursor<'a>,
     /// How many there are.
     count: u32,
+    /// Whether each of them is plain, as far as was looked.
+    plain: bool,
     ghost read: { length (commands_from count (cursor_view first)) ≡ count },
+    ghost known: { IsTrue plain → IsTrue (are_plain (commands_from count (cursor_view first))) },
 }
 
 impl<'a> Script<'a> {
@@ -39,6 +44,7 @@ impl<'a> Script<'a> {
         Script {
             first: tokens,
             count: 0,
+            plain: true,
         }
     }
 
@@ -52,23 +58,29 @@ impl<'a> Script<'a> {
             (λ f. judge last all b (cursor_view tokens.entry) ≡ Err f)) }
     {
         let mut count = 0;
+        let mut plain = true;
         let mut rest = tokens;
         'commands: while let Some(line) = first_line(&rest) {
-            Script::pass_command(alloc, &mut rest, line)?;
+            let one = Script::pass_command(alloc, &mut rest, line)?;
+            plain &= one;
             count += 1;
         }
         Ok(Script {
             first: tokens,
             count,
+            plain,
         })
     }
 
-    /// Goes on behind the next command, which begins in this line, or says why no command stands there.
-    fn pass_command(alloc: Global, tokens: &mut Cursor<'a>, line: u32) -> Result<(), Trouble>
+    /// Goes on behind the next command, which begins in this line, and tells whether it is plain; or says
+    /// why no command stands there.
+    fn pass_command(alloc: Global, tokens: &mut Cursor<'a>, line: u32) -> Result<bool, Trouble>
         requires { first_line (cursor_view tokens.old) ≡ Some line }
         ensures ok { IfOk result (λ _.
             option_map (λ c. c.1) (next_command (cursor_view tokens.old))
             ≡ Some (cursor_view tokens.new)) }
+        ensures plain { IfOk result (λ p.
+            option_map (λ c. is_plain c.0.order) (next_command (cursor_view tokens.old)) ≡ Some p) }
         ensures shorter { IfOk result (λ _. IsShorter tokens.new tokens.old) }
         ensures err { IfErr result (λ e. (last : ℕ) (all : List SpecToken) (b : SpecBlocks) →
             b.begun ≡ true → IfSome (trouble_view e last all)
@@ -76,12 +88,21 @@ impl<'a> Script<'a> {
     {
         match command(alloc, tokens, line) {
             Ok(Some(found)) => {
+                let plain = is_plain(&found.order);
                 drop(found);
-                Ok(())
+                Ok(plain)
             }
             Ok(None) => Err(Trouble::Misplaced(Misplaced::Forbidden, line)),
             Err(halt) => Err(Trouble::Halted(halt)),
         }
+    }
+
+    /// Whether each command is plain, where that is known: each expression of it is a number, and no name
+    /// of it has an index.
+    pub fn is_plain(self) -> bool
+        ensures { IsTrue result → IsTrue (are_plain (script_view self.entry)) }
+    {
+        self.plain
     }
 
     /// How many commands there are.
@@ -114,6 +135,7 @@ impl<'a> Script<'a> {
                 Script {
                     first: rest,
                     count: self.count - 1,
+                    plain: self.plain,
                 },
             ))),
             Ok(None) => unreachable!(),

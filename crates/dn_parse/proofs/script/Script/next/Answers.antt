@@ -1,4 +1,5 @@
-use Rattle.std.proofs.Common.{rules, ◌≡◌, ◌∙◌, ap, sym, ℕ, ◌<◌, List, Option, Some, None, option_map, arith}
+use Rattle.std.proofs.Common.{rules, ◌≡◌, ◌∙◌, ap, sym, subst, IsTrue, ℕ, ◌<◌, List, Option, Some, None, option_map, arith}
+use Rattle.std.proofs.lemmas.Bool.{and_parts}
 use Rattle.dn_token.specs.Token.{Token}
 use Rattle.dn_token.specs.Cursor.{cursor_view}
 use Rattle.dn_parse.specs.declared.syntax.Cmd.{Cmd}
@@ -6,6 +7,7 @@ use Rattle.dn_parse.specs.Tree.{Command}
 use Rattle.dn_parse.specs.Whole.{first_line}
 use Rattle.dn_parse.specs.Views.{command_view}
 use Rattle.dn_parse.specs.Commands.{commands_from, next_command}
+use Rattle.dn_parse.specs.Plain.{is_plain, are_plain}
 use Rattle.dn_parse.specs.Script.{script_view}
 use Rattle.dn_parse.proofs.Scripts.{no_line, next_is, stands, memory_alone, others, front_is}
 use Rattle.dn_parse.proofs.script.Script.next.Goals as goal
@@ -29,7 +31,11 @@ invariant_of-result c =
     let next : next_command (cursor_view c.args.self.first) ≡ Some p =
     next_is (cursor_view c.args.self.first) c.in-Some.line _ line c.in-Ok-Some.ensures.gives
     ∙ ap (λ (o : Option Cmd). option_map (λ (q : Cmd). (command_view q, cursor_view c.command.new.tokens)) o) is in
-    record { read = others c.args.self.count (cursor_view c.args.self.first) p some c.args.self.read next }
+    let front = front_is c.args.self.count (cursor_view c.args.self.first) p some next in
+    record {
+      read = others c.args.self.count (cursor_view c.args.self.first) p some c.args.self.read next;
+      known = λ h. (and_parts (is_plain p.0.order) _ (subst (λ (cs : List Command). IsTrue (are_plain cs)) front (c.args.self.known h))).1;
+    }
 
 pub returns-in-Ok-Some : goal.returns-in-Ok-Some
 unfolding script_view
