@@ -1,6 +1,7 @@
 pub mod Closed
 pub mod Each
 pub mod Made
+pub mod PlainMade
 pub mod Known
 pub mod Outside
 pub mod Totals

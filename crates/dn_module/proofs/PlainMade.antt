@@ -1,0 +1,91 @@
+-- Commands of which each expression is a number and no name has an index have no fault.
+use Rattle.std.proofs.Common.{rules, ◌≡◌, ◌∙◌, ap, sym, subst, refl, true, false, Bool, ◌&&◌, ℕ, nat_lt, List, [], ◌∷◌, Option, Some, None, Result, Ok, Err, IsTrue, is_ok, length, position}
+use Rattle.std.proofs.lemmas.Bool.{and_parts, false≢true}
+use Rattle.std.specs.List.{list_all}
+use Rattle.std.specs.Option.{is_none}
+use Rattle.dn_parse.specs.Tree.{Expression, constant, variable, sum, product, minus, Part, Order, resolve, lookup, view, grant, route, revoke, dump, split, absorb, Command as CommandOf}
+use Rattle.dn_parse.specs.Plain.{is_constant, is_bare, is_plain, are_plain}
+use Rattle.dn_module.specs.declared.command.Command.{Command}
+use Rattle.dn_module.specs.declared.command.Target.{Target}
+use Rattle.dn_module.specs.Values.{◌>>=◌, Flaw, each, value, full_name, part_text, part_by, dotted}
+use Rattle.dn_module.specs.Drafts.{at_line, number_in}
+use Rattle.dn_module.specs.Faults.{ExpansionFault}
+use Rattle.dn_module.specs.Commands.{target_of, command_of, commands_of, commands_or_none, node_within, names_within, makes_within}
+
+-- what follows a part that has no fault has none by itself
+ok_then : {A B E : Type 0} (r : Result A E) (f : A → Result B E) → is_ok r ≡ true → ((a : A) → is_ok (f a) ≡ true) → is_ok (r >>= f) ≡ true
+ok_then (Ok a) f h k = k a
+ok_then (Err e) f h k = absurd (false≢true h)
+
+-- the texts of the parts of a name without indices
+bare_texts : (ps : List Part) → IsTrue (is_bare ps) → is_ok (each part_text ps) ≡ true
+bare_texts [] h = refl
+bare_texts (p ∷ ps) h = by p.index (and_parts (is_none p.index) (is_bare ps) h) (bare_texts ps)
+  where
+    by : (o : Option Expression) → IsTrue (is_none o) × IsTrue (is_bare ps) → (IsTrue (is_bare ps) → is_ok (each part_text ps) ≡ true) → is_ok (part_by p.title o >>= (λ y. each part_text ps >>= (λ ys. Ok (y ∷ ys)))) ≡ true
+    by None q more = ok_then (each part_text ps) (λ ys. Ok (p.title ∷ ys)) (more q.1) (λ ys. refl)
+    by (Some e) q more = absurd (false≢true q.0)
+
+-- a number is its own value
+constant_value : (e : Expression) → IsTrue (is_constant e) → is_ok (value e) ≡ true
+constant_value (constant n) h = refl
+constant_value (variable w) h = absurd (false≢true h)
+constant_value (sum es) h = absurd (false≢true h)
+constant_value (product es) h = absurd (false≢true h)
+constant_value (minus e f) h = absurd (false≢true h)
+
+module _ (known : List (List ℕ)) (line : ℕ) where
+  -- what a command makes of a part
+  abbrev pub Within : Result Command Flaw → Type 0
+  Within r = IsTrue (makes_within (length known) (at_line line r))
+
+  valued : (e : Expression) (f : ℕ → Result Command Flaw) → IsTrue (is_constant e) → ((n : ℕ) → Within (f n)) → Within (value e >>= f)
+  valued (constant n) f h k = k n
+  valued (variable w) f h k = absurd (false≢true h)
+  valued (sum es) f h k = absurd (false≢true h)
+  valued (product es) f h k = absurd (false≢true h)
+  valued (minus e g) f h k = absurd (false≢true h)
+
+  there : (text : List ℕ) → IsTrue (node_within (length known) (number_in known text))
+  there text = search rules
+
+  targeted : (name : List Part) (f : Target → Result Command Flaw) → IsTrue (is_bare name) → ((t : Target) → IsTrue (node_within (length known) t.node) → Within (f t)) → Within (target_of known name >>= f)
+  targeted name f h k = go (each part_text name) (bare_texts name h)
+    where
+      go : (r : Result (List (List ℕ)) Flaw) → is_ok r ≡ true → Within (((r >>= (λ ts. Ok (dotted ts))) >>= (λ text. Ok (record { text = text; node = number_in known text }))) >>= f)
+      go (Ok ts) e = k (record { text = dotted ts; node = number_in known (dotted ts) }) (there (dotted ts))
+      go (Err e) q = absurd (false≢true q)
+
+  -- a plain command is made, and its nodes are there
+  pub plain_made : (o : Order) → IsTrue (is_plain o) → Within (command_of known o)
+  plain_made (resolve name e m) h = let p = and_parts (is_bare name) (is_constant e) h in targeted name _ p.0 (λ t w. valued e _ p.1 (λ n. w))
+  plain_made (lookup name e m) h = let p = and_parts (is_bare name) (is_constant e) h in targeted name _ p.0 (λ t w. valued e _ p.1 (λ n. w))
+  plain_made (view name m) h = targeted name _ h (λ t w. w)
+  plain_made (grant id agent name e f m) h =
+      let p = and_parts (is_bare agent) _ h in
+      let q = and_parts (is_bare name) _ p.1 in
+      let r = and_parts (is_constant e) (is_constant f) q.1 in
+      targeted agent _ p.0 (λ a v. targeted name _ q.0 (λ t w. valued e _ r.0 (λ n. valued f _ r.1 (λ s. rw v w))))
+  plain_made (route id agent e name) h =
+      let p = and_parts (is_bare agent) _ h in
+      let q = and_parts (is_constant e) (is_bare name) p.1 in
+      targeted agent _ p.0 (λ a v. valued e _ q.0 (λ n. targeted name _ q.1 (λ t w. rw v w)))
+  plain_made (revoke id) h = refl
+  plain_made dump h = refl
+  plain_made split h = refl
+  plain_made (absorb name) h = targeted name _ h (λ t w. w)
+
+-- commands that are all plain are all made, and their nodes are there
+pub plain_list : (known : List (List ℕ)) (cs : List CommandOf) → IsTrue (are_plain cs) → (is_ok (commands_of known cs) ≡ true) × IsTrue (list_all (names_within (length known)) (commands_or_none (commands_of known cs)))
+plain_list known [] h = (refl, refl)
+plain_list known (c ∷ cs) h = let p = and_parts (is_plain c.order) _ h in by (at_line c.line (command_of known c.order)) (commands_of known cs) (plain_made known c.line c.order p.0) (plain_list known cs p.1)
+  where
+    by : (r : Result Command ExpansionFault) (s : Result (List Command) ExpansionFault) → IsTrue (makes_within (length known) r) → (is_ok s ≡ true) × IsTrue (list_all (names_within (length known)) (commands_or_none s)) → (is_ok (r >>= (λ y. s >>= (λ ys. Ok (y ∷ ys)))) ≡ true) × IsTrue (list_all (names_within (length known)) (commands_or_none (r >>= (λ y. s >>= (λ ys. Ok (y ∷ ys))))))
+    by (Ok y) (Ok ys) w q = (refl, rw w q.1)
+    by (Ok y) (Err e) w q = absurd (false≢true q.0)
+    by (Err e) s w q = absurd (false≢true w)
+
+-- where no command has a fault, these are they
+pub made_is : (r : Result (List Command) ExpansionFault) → is_ok r ≡ true → r ≡ Ok (commands_or_none r)
+made_is (Ok cs) h = refl
+made_is (Err e) h = absurd (false≢true h)
