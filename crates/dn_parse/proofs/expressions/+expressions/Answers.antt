@@ -120,6 +120,6 @@ pub factor-returns-else-depth-eq0-clause-gives : goal.factor-returns-else-depth-
 factor-returns-else-depth-eq0-clause-gives t c =
     let d = c.args.depth in
     let some : 0 < d = omega arith in
-    let opens : cursor_view c.args.tokens.now ≡ token_view c.in-Some.token ∷ cursor_view c.advance-in-Sign-OpenParenthesis.result = search rules in
+    let opens : cursor_view c.args.tokens.now ≡ token_view c.in-Some.token ∷ cursor_view c.step-in-Sign-OpenParenthesis.new.self = search rules in
     let opened : lexeme_view c.in-Some.token.lexeme ≡ sign OpenParenthesis = search rules in
-    subst (Answers (λ x. (expr_view x, cursor_view c.after_open.new.tokens)) halt_view c.after_open.result) (sym (factor_nested d (cursor_view c.args.tokens.now) (token_view c.in-Some.token) (cursor_view c.advance-in-Sign-OpenParenthesis.result) opens opened some)) c.after_open.ensures.gives
+    subst (Answers (λ x. (expr_view x, cursor_view c.after_open.new.tokens)) halt_view c.after_open.result) (sym (factor_nested d (cursor_view c.args.tokens.now) (token_view c.in-Some.token) (cursor_view c.step-in-Sign-OpenParenthesis.new.self) opens opened some)) c.after_open.ensures.gives
