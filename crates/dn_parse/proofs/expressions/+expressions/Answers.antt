@@ -1,6 +1,5 @@
 use Rattle.std.proofs.Common.{rules, ◌≡◌, ◌∙◌, ap, sym, subst, ◌<◌, List, [], ◌∷◌, length, map, Ok, arith}
 use Rattle.dn_token.specs.Cursor.{cursor_view}
-use Rattle.std.proofs.lemmas.List.{map-append}
 use Rattle.std.proofs.lemmas.Result.{err_from_is_err_and}
 use Rattle.dn_token.specs.declared.token.Sign.TheVariants.{OpenParenthesis}
 use Rattle.dn_token.specs.Token.{Token, sign}
@@ -9,7 +8,6 @@ use Rattle.dn_base.specs.Answers.{Answers}
 use Rattle.dn_parse.specs.Tree.{Expression}
 use Rattle.dn_parse.specs.Faults.{halt_view}
 use Rattle.dn_parse.specs.Views.{expr_view}
-use Rattle.dn_parse.specs.Descent.{next_factor_at, factors_at, next_term_at, terms_at}
 use Rattle.dn_parse.specs.Actions.{summed, multiplied}
 use Rattle.dn_parse.proofs.Members.{member_shortens, member_found, none_read, none_stays}
 use Rattle.dn_parse.proofs.Series.{halted}
