@@ -1,4 +1,4 @@
-use Rattle.std.proofs.Common.{arith}
+use Rattle.std.proofs.Common.{rules, arith}
 use Rattle.dn_token.specs.Cursor.{cursor_view}
 use Rattle.dn_parse.proofs.Judge.{statement_no_longer}
 use Rattle.dn_parse.proofs.statements.whole_statement.Goals as goal
