@@ -5,7 +5,7 @@ use Rattle.dn_token.specs.declared.cursor.Cursor.{Cursor}
 use Rattle.dn_token.specs.Cursor.{cursor_view}
 use Rattle.dn_token.specs.Token.{Token}
 use Rattle.dn_parse.specs.Descent.{Next, Read}
-use Rattle.dn_parse.specs.Faults.{IsShorter, Shortens}
+use Rattle.dn_parse.specs.Faults.{Shortens}
 use Rattle.dn_parse.proofs.Series.{Found, found_more}
 
 -- where a member was read, fewer tokens are left

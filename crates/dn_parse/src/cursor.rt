@@ -66,7 +66,7 @@ pub fn after_sign<'a>(tokens: &mut Cursor<'a>, sign: Sign) -> bool
     };
     match token.lexeme {
         Lexeme::Sign(found) if found == sign => {
-            *tokens = tokens.advance();
+            tokens.step();
             true
         }
         _ => false,
@@ -85,7 +85,7 @@ pub fn after_keyword<'a>(tokens: &mut Cursor<'a>, word: Keyword) -> bool
     };
     match token.lexeme {
         Lexeme::Keyword(found) if found == word => {
-            *tokens = tokens.advance();
+            tokens.step();
             true
         }
         _ => false,
@@ -103,7 +103,7 @@ pub fn after_word<'a>(tokens: &mut Cursor<'a>, word: &str) -> bool
     };
     match token.lexeme {
         Lexeme::Word(found) if found == word => {
-            *tokens = tokens.advance();
+            tokens.step();
             true
         }
         _ => false,
@@ -159,6 +159,7 @@ pub fn the_word<'a>(tokens: &mut Cursor<'a>, word: &str) -> Result<(), Halt>
 }
 
 /// A word that is not reserved.
+#[inline(always)]
 #[tactic(auto, unfolding(crate::specs::Descent::word_at))]
 pub fn word<'a>(tokens: &mut Cursor<'a>) -> Result<&'a str, Halt>
     ensures gives { Reads (λ x. x.now) result tokens.new (word_at (cursor_view tokens.old)) }
@@ -170,6 +171,6 @@ pub fn word<'a>(tokens: &mut Cursor<'a>) -> Result<&'a str, Halt>
     let Lexeme::Word(word) = token.lexeme else {
         return Err(refusal(tokens));
     };
-    *tokens = tokens.advance();
+    tokens.step();
     Ok(word)
 }

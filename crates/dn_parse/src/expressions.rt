@@ -55,18 +55,18 @@ fn factor<'a>(alloc: Global, tokens: &mut Cursor<'a>, depth: u8) -> Result<Expr<
     };
     match token.lexeme {
         Lexeme::Number(number) => {
-            *tokens = tokens.advance();
+            tokens.step();
             Ok(Expr::Number(number))
         }
         Lexeme::Word(word) => {
-            *tokens = tokens.advance();
+            tokens.step();
             Ok(Expr::Variable(word))
         }
         Lexeme::Sign(Sign::OpenParenthesis) => {
             if depth == 0 {
                 return Err(Halt::Deep(tokens.left()));
             }
-            *tokens = tokens.advance();
+            tokens.step();
             after_open(alloc, tokens, depth - 1)
         }
         _ => Err(refusal(tokens)),

@@ -3,7 +3,7 @@
 ghost use Rattle.std.specs.Prelude.{◌≡◌, ◌<◌, [], ◌∷◌, map, IfOk};
 ghost use Rattle.dn_token.specs.Cursor.{cursor_view};
 ghost use Rattle.dn_parse.specs.Views.{maybe_expr_view, index_view, part_view, name_view, block_view, dest_view, entry_view, maybe_name_view, spec_view};
-ghost use Rattle.dn_parse.specs.Descent.{index_at, part_at, next_part_at, name_at, upper_at, block_at, next_block_at, blocks_at, addr_at, dest_at, next_dest_at, dests_at, entry_at, next_entry_at, entries_at, accept_at, map_at, over_at, spec_at};
+ghost use Rattle.dn_parse.specs.Descent.{index_at, part_at, next_part_at, name_at, upper_at, block_at, next_block_at, blocks_at, in_brackets, addr_at, dest_at, next_dest_at, dests_at, entry_at, next_entry_at, entries_at, accept_at, map_at, over_at, spec_at};
 ghost use Rattle.dn_parse.specs.Faults.{Reads, ReadsNext, IsShorter, Shortens, IsNoLonger};
 
 use crate::cursor::{Halt, after_keyword, after_sign, keyword, sign, word};
@@ -37,6 +37,7 @@ fn index<'a>(
 }
 
 /// `word [ "[" expr "]" ]`
+#[inline(always)]
 #[tactic(auto, unfolding(crate::specs::Descent::part_at))]
 fn part<'a>(alloc: Global, tokens: &mut Cursor<'a>, depth: u8) -> Result<PartExpr<'a>, Halt>
     ensures gives { Reads part_view result tokens.new (part_at depth (cursor_view tokens.old)) }
@@ -48,6 +49,7 @@ fn part<'a>(alloc: Global, tokens: &mut Cursor<'a>, depth: u8) -> Result<PartExp
 }
 
 /// `[ "." part ]`
+#[inline(never)]
 #[tactic(auto, unfolding(crate::specs::Descent::next_part_at))]
 fn next_part<'a>(
     alloc: Global,
@@ -227,6 +229,18 @@ fn entries<'a>(alloc: Global, tokens: &mut Cursor<'a>) -> Result<Items<EntryExpr
     Ok(entries)
 }
 
+/// `"[" block { "," block } "]"`
+#[inline(never)]
+fn accepted<'a>(alloc: Global, tokens: &mut Cursor<'a>) -> Result<Items<BlockExpr<'a>>, Halt>
+    ensures gives { Reads (map block_view) result tokens.new
+        (in_brackets blocks_at (cursor_view tokens.old)) }
+{
+    sign(tokens, Sign::OpenBracket)?;
+    let blocks = blocks(alloc, tokens)?;
+    sign(tokens, Sign::CloseBracket)?;
+    Ok(blocks)
+}
+
 /// `[ "accept" "[" block { "," block } "]" ]`
 #[tactic(auto, unfolding(crate::specs::Descent::accept_at))]
 fn accept<'a>(alloc: Global, tokens: &mut Cursor<'a>) -> Result<Items<BlockExpr<'a>>, Halt>
@@ -235,10 +249,19 @@ fn accept<'a>(alloc: Global, tokens: &mut Cursor<'a>) -> Result<Items<BlockExpr<
     if !after_keyword(tokens, Keyword::Accept) {
         return Ok(Items::new(alloc));
     }
+    accepted(alloc, tokens)
+}
+
+/// `"[" entry { "," entry } "]"`
+#[inline(never)]
+fn mapped<'a>(alloc: Global, tokens: &mut Cursor<'a>) -> Result<Items<EntryExpr<'a>>, Halt>
+    ensures gives { Reads (map entry_view) result tokens.new
+        (in_brackets entries_at (cursor_view tokens.old)) }
+{
     sign(tokens, Sign::OpenBracket)?;
-    let blocks = blocks(alloc, tokens)?;
+    let entries = entries(alloc, tokens)?;
     sign(tokens, Sign::CloseBracket)?;
-    Ok(blocks)
+    Ok(entries)
 }
 
 /// `[ "map" "[" entry { "," entry } "]" ]`
@@ -249,10 +272,7 @@ fn map<'a>(alloc: Global, tokens: &mut Cursor<'a>) -> Result<Items<EntryExpr<'a>
     if !after_keyword(tokens, Keyword::Map) {
         return Ok(Items::new(alloc));
     }
-    sign(tokens, Sign::OpenBracket)?;
-    let entries = entries(alloc, tokens)?;
-    sign(tokens, Sign::CloseBracket)?;
-    Ok(entries)
+    mapped(alloc, tokens)
 }
 
 /// `[ "over" name ]`

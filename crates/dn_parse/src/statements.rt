@@ -1,10 +1,11 @@
 //! Statements, each up to its `;`.
 
-ghost use Rattle.std.specs.Prelude.{◌≡◌, ◌<◌, map, IfOk, IfSome};
+ghost use Rattle.std.specs.Prelude.{◌≡◌, ◌<◌, length, map, IfOk, IfSome};
 ghost use Rattle.dn_token.specs.Cursor.{cursor_view};
 ghost use Rattle.dn_parse.specs.Views.{expr_view, name_view, param_view, arg_view, role_view, declaration_view, order_view, statement_view, command_view};
-ghost use Rattle.dn_parse.specs.Descent.{any_word_at, param_at, next_param_at, params_at, closed_params_at, arg_at, next_arg_at, args_at, closed_args_at, next_port_at, ports_at, node_at, measure_at, unit_at, module_at, use_at, loop_at, mode_at, access_at, resolve_at, lookup_at, view_at, grant_at, route_at, order_at, keyword_statement_at, statement_at, whole_statement_at};
+ghost use Rattle.dn_parse.specs.Descent.{any_word_at, param_at, next_param_at, params_at, closed_params_at, arg_at, next_arg_at, args_at, closed_args_at, next_port_at, ports_at, node_at, as_declared, measure_at, unit_at, module_at, use_at, loop_at, mode_at, access_at, resolve_at, lookup_at, view_at, grant_at, route_at, order_at, keyword_statement_at, statement_at, whole_statement_at};
 ghost use Rattle.dn_parse.specs.Commands.{command_at};
+ghost use Rattle.dn_parse.specs.declared.cursor.Halt.TheVariants.{Refused};
 ghost use Rattle.dn_parse.specs.Faults.{Reads, ReadsNext, IsShorter, Shortens};
 
 use crate::cursor::{
@@ -63,7 +64,7 @@ fn any_word<'a>(tokens: &mut Cursor<'a>) -> Result<&'a str, Halt>
         Lexeme::Keyword(word) => spelling(word),
         _ => return Err(refusal(tokens)),
     };
-    *tokens = tokens.advance();
+    tokens.step();
     Ok(word)
 }
 
@@ -222,6 +223,20 @@ fn node<'a>(alloc: Global, tokens: &mut Cursor<'a>, role: DeclRole) -> Result<De
     keyword(tokens, Keyword::Is)?;
     let spec = spec(alloc, tokens)?;
     Ok(Decl::Node { role, name, spec })
+}
+
+/// `name "is" spec`, as a statement
+#[inline(never)]
+fn declared<'a>(
+    alloc: Global,
+    tokens: &mut Cursor<'a>,
+    role: DeclRole,
+) -> Result<Statement<'a>, Halt>
+    ensures gives { Reads statement_view result tokens.new
+        (as_declared (node_at (role_view role) (cursor_view tokens.old))) }
+{
+    let node = node(alloc, tokens, role)?;
+    Ok(Statement::Decl(node))
 }
 
 /// A reserved word, and then an expression.
@@ -441,14 +456,8 @@ fn keyword_statement<'a>(
         (keyword_statement_at word (cursor_view whole.now) (cursor_view tokens.old)) }
 {
     match word {
-        Keyword::Agent => {
-            let node = node(alloc, tokens, DeclRole::Agent)?;
-            Ok(Statement::Decl(node))
-        }
-        Keyword::Vectors => {
-            let node = node(alloc, tokens, DeclRole::Vectors)?;
-            Ok(Statement::Decl(node))
-        }
+        Keyword::Agent => declared(alloc, tokens, DeclRole::Agent),
+        Keyword::Vectors => declared(alloc, tokens, DeclRole::Vectors),
         Keyword::Unit => {
             let unit = unit(alloc, tokens)?;
             Ok(Statement::Decl(unit))
@@ -474,28 +483,37 @@ fn read_statement<'a>(alloc: Global, tokens: &mut Cursor<'a>) -> Result<Statemen
         return Err(refusal(tokens));
     };
     match token.lexeme {
-        Lexeme::Word(_) => {
-            let node = node(alloc, tokens, DeclRole::Plain)?;
-            Ok(Statement::Decl(node))
-        }
+        Lexeme::Word(_) => declared(alloc, tokens, DeclRole::Plain),
         Lexeme::Keyword(word) => {
             let whole = *tokens;
-            *tokens = tokens.advance();
+            tokens.step();
             keyword_statement(alloc, word, &whole, tokens)
         }
         _ => Err(refusal(tokens)),
     }
 }
 
+/// The refusal of what follows a statement where no `;` does.
+#[cold]
+#[inline(never)]
+fn unclosed<'a>(statement: Statement<'a>, tokens: &Cursor<'a>) -> Halt
+    ensures { result ≡ Refused (length (cursor_view tokens.now)) }
+{
+    drop(statement);
+    refusal(tokens)
+}
+
 /// A statement and its `;`.
-#[tactic(auto, unfolding(crate::specs::Descent::whole_statement_at))]
+#[tactic(auto, unfolding(crate::specs::Descent::whole_statement_at, crate::specs::Descent::sign_at))]
 pub fn whole_statement<'a>(alloc: Global, tokens: &mut Cursor<'a>) -> Result<Statement<'a>, Halt>
     ensures gives { Reads statement_view result tokens.new
         (whole_statement_at (cursor_view tokens.old)) }
     ensures shorter { IfOk result (λ _. IsShorter tokens.new tokens.old) }
 {
     let statement = read_statement(alloc, tokens)?;
-    sign(tokens, Sign::Semicolon)?;
+    if !after_sign(tokens, Sign::Semicolon) {
+        return Err(unclosed(statement, tokens));
+    }
     Ok(statement)
 }
 

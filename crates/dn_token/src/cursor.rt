@@ -43,6 +43,7 @@ impl<'a> Cursor<'a> {
     }
 
     /// The place before the first token of a text that begins in this line and has so many.
+    #[inline(always)]
     fn at(text: &'a [u8], line: u32, left: u32) -> Cursor<'a>
         requires good { is_good (tokens_of line text.now) ≡ true }
         requires counted { left ≡ length (good_tokens (tokens_of line text.now)) }
@@ -82,12 +83,22 @@ impl<'a> Cursor<'a> {
         }
     }
 
-    /// The place behind the next token. Without one it stays where it is.
+    /// The place behind the next token.
+    #[inline(always)]
     pub fn advance(self) -> Cursor<'a>
         requires { 0 < length (cursor_view self) }
         ensures { cursor_view result ≡ behind_view self.entry }
     {
         Cursor::at(self.rest, self.line, self.left - 1)
+    }
+
+    /// Goes on behind the next token.
+    #[inline(never)]
+    pub fn step(&mut self)
+        requires { 0 < length (cursor_view self.old) }
+        ensures { cursor_view self.new ≡ behind_view self.old }
+    {
+        *self = self.advance();
     }
 
     /// How many tokens are still to come.

@@ -72,6 +72,7 @@ pub fn tokens<'a>(alloc: Global, text: &'a [u8]) -> Result<Vec<Token<'a>>, Token
 
 /// The first token of a text that begins in this line, with what follows it, or the line of a bad
 /// place that stands first.
+#[inline(always)]
 pub fn next_token<'a>(text: &'a [u8], line: u32) -> Result<Option<(Token<'a>, &'a [u8])>, u32>
     requires { line + length text.now < 2 ^ 32 }
     ensures gives { tokens_of line text.now ≡ first_and_rest result }

@@ -1,6 +1,5 @@
 use Rattle.std.proofs.Common.{rules, ◌≡◌, ◌∙◌, ap, sym, subst, ◌<◌, List, [], ◌∷◌, length, map, Ok, arith}
 use Rattle.dn_token.specs.Cursor.{cursor_view}
-use Rattle.std.proofs.lemmas.List.{map-append}
 use Rattle.std.proofs.lemmas.Result.{err_from_is_err_and}
 use Rattle.dn_token.specs.declared.token.Sign.TheVariants.{OpenParenthesis}
 use Rattle.dn_token.specs.Token.{Token, sign}
@@ -9,7 +8,6 @@ use Rattle.dn_base.specs.Answers.{Answers}
 use Rattle.dn_parse.specs.Tree.{Expression}
 use Rattle.dn_parse.specs.Faults.{halt_view}
 use Rattle.dn_parse.specs.Views.{expr_view}
-use Rattle.dn_parse.specs.Descent.{next_factor_at, factors_at, next_term_at, terms_at}
 use Rattle.dn_parse.specs.Actions.{summed, multiplied}
 use Rattle.dn_parse.proofs.Members.{member_shortens, member_found, none_read, none_stays}
 use Rattle.dn_parse.proofs.Series.{halted}
@@ -120,6 +118,6 @@ pub factor-returns-else-depth-eq0-clause-gives : goal.factor-returns-else-depth-
 factor-returns-else-depth-eq0-clause-gives t c =
     let d = c.args.depth in
     let some : 0 < d = omega arith in
-    let opens : cursor_view c.args.tokens.now ≡ token_view c.in-Some.token ∷ cursor_view c.advance-in-Sign-OpenParenthesis.result = search rules in
+    let opens : cursor_view c.args.tokens.now ≡ token_view c.in-Some.token ∷ cursor_view c.step-in-Sign-OpenParenthesis.new.self = search rules in
     let opened : lexeme_view c.in-Some.token.lexeme ≡ sign OpenParenthesis = search rules in
-    subst (Answers (λ x. (expr_view x, cursor_view c.after_open.new.tokens)) halt_view c.after_open.result) (sym (factor_nested d (cursor_view c.args.tokens.now) (token_view c.in-Some.token) (cursor_view c.advance-in-Sign-OpenParenthesis.result) opens opened some)) c.after_open.ensures.gives
+    subst (Answers (λ x. (expr_view x, cursor_view c.after_open.new.tokens)) halt_view c.after_open.result) (sym (factor_nested d (cursor_view c.args.tokens.now) (token_view c.in-Some.token) (cursor_view c.step-in-Sign-OpenParenthesis.new.self) opens opened some)) c.after_open.ensures.gives

@@ -1,6 +1,5 @@
-use Rattle.std.proofs.Common.{◌≡◌, ◌∙◌, ap, sym, subst, ◌<◌, [], ◌∷◌, ◌++◌, List, length, map, Ok, option_map, IfSome, arith}
+use Rattle.std.proofs.Common.{◌≡◌, ◌∙◌, ap, sym, subst, [], ◌∷◌, ◌++◌, List, map, arith}
 use Rattle.dn_token.specs.Cursor.{cursor_view}
-use Rattle.std.proofs.lemmas.List.{map-append}
 use Rattle.std.proofs.lemmas.Result.{err_from_is_err_and}
 use Rattle.dn_parse.specs.declared.syntax.BlockExpr.{BlockExpr}
 use Rattle.dn_parse.specs.Views.{block_view}

@@ -1,6 +1,5 @@
-use Rattle.std.proofs.Common.{◌≡◌, ◌∙◌, ap, sym, subst, ◌<◌, [], ◌∷◌, length, map, Ok, option_map, IfSome, arith}
+use Rattle.std.proofs.Common.{◌≡◌, ap, sym, subst, [], ◌∷◌, map, arith}
 use Rattle.dn_token.specs.Cursor.{cursor_view}
-use Rattle.std.proofs.lemmas.List.{map-append}
 use Rattle.std.proofs.lemmas.Result.{err_from_is_err_and}
 use Rattle.dn_parse.specs.Views.{part_view}
 use Rattle.dn_parse.specs.Descent.{next_part_at, name_at}

@@ -1,4 +1,4 @@
-use Rattle.std.proofs.Common.{arith}
+use Rattle.std.proofs.Common.{rules, arith}
 use Rattle.dn_token.specs.Cursor.{cursor_view}
 use Rattle.dn_parse.proofs.Judge.{statement_no_longer}
 use Rattle.dn_parse.proofs.statements.whole_statement.Goals as goal
@@ -6,5 +6,5 @@ use Rattle.dn_parse.proofs.statements.whole_statement.Goals as goal
 pub returns-clause-shorter : goal.returns-clause-shorter
 returns-clause-shorter c =
     let no_longer = statement_no_longer (cursor_view c.args.tokens.now) _ _ c.in_ok-statement.ensures.gives in
-    let shorter = c.in_ok-sign.ensures.shorter in
+    let shorter = c.after_sign.ensures.shorter (search rules) in
     omega (arith, no_longer, shorter)
