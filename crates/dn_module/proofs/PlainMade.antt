@@ -1,5 +1,5 @@
 -- Commands of which each expression is a number and no name has an index have no fault.
-use Rattle.std.proofs.Common.{rules, ◌≡◌, ◌∙◌, ap, sym, subst, refl, true, false, Bool, ◌&&◌, ℕ, nat_lt, List, [], ◌∷◌, Option, Some, None, Result, Ok, Err, IsTrue, is_ok, length, position}
+use Rattle.std.proofs.Common.{rules, ◌≡◌, refl, true, ℕ, List, [], ◌∷◌, Option, Some, None, Result, Ok, Err, IsTrue, is_ok, length}
 use Rattle.std.proofs.lemmas.Bool.{and_parts, false≢true}
 use Rattle.std.specs.List.{list_all}
 use Rattle.std.specs.Option.{is_none}
@@ -7,7 +7,7 @@ use Rattle.dn_parse.specs.Tree.{Expression, constant, variable, sum, product, mi
 use Rattle.dn_parse.specs.Plain.{is_constant, is_bare, is_plain, are_plain}
 use Rattle.dn_module.specs.declared.command.Command.{Command}
 use Rattle.dn_module.specs.declared.command.Target.{Target}
-use Rattle.dn_module.specs.Values.{◌>>=◌, Flaw, each, value, full_name, part_text, part_by, dotted}
+use Rattle.dn_module.specs.Values.{◌>>=◌, Flaw, each, value, part_text, part_by, dotted}
 use Rattle.dn_module.specs.Drafts.{at_line, number_in}
 use Rattle.dn_module.specs.Faults.{ExpansionFault}
 use Rattle.dn_module.specs.Commands.{target_of, command_of, commands_of, commands_or_none, node_within, names_within, makes_within}

@@ -1,4 +1,4 @@
-use Rattle.std.proofs.Common.{rules, ◌≡◌, ◌∙◌, ◌+◌, ◌<◌, ◌≤◌, if◌then◌else◌, [], ◌∷◌, ap, sym, subst, map, List, Bool, length, MatchOption, IsTrue, ℕ, Err, arith}
+use Rattle.std.proofs.Common.{rules, ◌≡◌, ◌∙◌, ◌+◌, if◌then◌else◌, [], ◌∷◌, ap, sym, subst, map, List, Bool, length, MatchOption, ℕ, Err, arith}
 use Rattle.dn_base.proofs.Counts.{counted_then}
 use Rattle.dn_kind.specs.Kind.{Meaning}
 use Rattle.dn_tables.proofs.Slots.{all_of_map}

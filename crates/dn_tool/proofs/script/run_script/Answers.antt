@@ -1,4 +1,4 @@
-use Rattle.std.proofs.Common.{rules, ◌≡◌, ◌∙◌, ◌+◌, ◌<◌, ◌≤◌, [], ◌∷◌, ap, sym, subst, map, List, length, MatchOption, IsTrue, ℕ, Err, refl, arith}
+use Rattle.std.proofs.Common.{rules, ◌≡◌, ◌∙◌, ◌+◌, [], ◌∷◌, sym, subst, map, List, length, MatchOption, IsTrue, ℕ, Err, refl, arith}
 use Rattle.std.specs.List.{list_all}
 use Rattle.dn_base.proofs.Counts.{counted_none, counted_then}
 use Rattle.dn_base.proofs.Told.{if_some_then}
