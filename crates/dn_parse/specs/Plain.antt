@@ -1,5 +1,5 @@
 -- Commands whose parts have their values as they stand.
-use Rattle.std.specs.Prelude.{Bool, true, false, ◌&&◌, List, Option}
+use Rattle.std.specs.Prelude.{Bool, true, false, ◌&&◌, List}
 use Rattle.std.specs.List.{list_all}
 use Rattle.std.specs.Option.{is_none}
 use Rattle.dn_parse.specs.Tree.{Command, Expression, constant, variable, sum, product, minus, Part, Order, resolve, lookup, view, grant, route, revoke, dump, split, absorb}

@@ -70,6 +70,7 @@ impl<'a> Cursor<'a> {
     }
 
     /// The next token.
+    #[inline(always)]
     pub fn peek(self) -> Option<Token<'a>>
         ensures { MatchOption result (cursor_view self.entry ≡ [])
             (λ t. cursor_view self.entry ≡ token_view t ∷ behind_view self.entry) }

@@ -101,6 +101,7 @@ pub fn next_token<'a>(text: &'a [u8], line: u32) -> Result<Option<(Token<'a>, &'
 }
 
 /// The first byte, and those after it.
+#[inline(always)]
 fn next(text: &[u8]) -> Option<(u8, &[u8])>
     ensures { MatchOption result (text.now ≡ []) (λ found. text.now ≡ found.0 ∷ found.1.now) }
 {
@@ -110,18 +111,21 @@ fn next(text: &[u8]) -> Option<(u8, &[u8])>
     }
 }
 
+#[inline(always)]
 fn is_letter(byte: u8) -> bool
     ensures { result ≡ is_letter byte }
 {
     matches!(byte, b'a'..=b'z' | b'A'..=b'Z' | b'_')
 }
 
+#[inline(always)]
 fn is_digit(byte: u8) -> bool
     ensures { result ≡ is_digit byte }
 {
     matches!(byte, b'0'..=b'9')
 }
 
+#[inline(always)]
 fn is_blank(byte: u8) -> bool
     ensures { result ≡ is_blank byte }
 {
@@ -129,6 +133,7 @@ fn is_blank(byte: u8) -> bool
 }
 
 /// Whether a comment begins here.
+#[inline(always)]
 fn is_comment(text: &[u8]) -> bool
     ensures { result ≡ begins_comment text.now }
 {
@@ -147,6 +152,7 @@ fn after_comment(text: &[u8]) -> &[u8]
 }
 
 /// The longest run of letters, digits and `_`, and what follows it.
+#[inline(always)]
 fn split_run(text: &[u8]) -> (&[u8], &[u8])
     ensures run { result.0.now ≡ run text.now }
     ensures rest { result.1.now ≡ after_run text.now }
@@ -159,6 +165,7 @@ fn split_run(text: &[u8]) -> (&[u8], &[u8])
 }
 
 /// The token at the front of a text that is not blank there, and what follows it.
+#[inline(always)]
 fn front<'a>(text: &'a [u8]) -> Option<(Lexeme<'a>, &'a [u8])>
     ensures seen { MatchOption result (front_of text.now ≡ bad)
         (λ found. front_of text.now ≡ taken (lexeme_view found.0) found.1.now) }
@@ -177,13 +184,13 @@ fn front<'a>(text: &'a [u8]) -> Option<(Lexeme<'a>, &'a [u8])>
 }
 
 /// What a run is that begins with a letter.
+#[inline(always)]
 fn word_lexeme<'a>(run: &'a [u8]) -> Lexeme<'a>
     requires { IsAscii run.now }
     ensures { lexeme_view result ≡ word_lexeme run.now }
 {
-    let Ok(word) = str::from_utf8(run) else {
-        unreachable!()
-    };
+    // A run is ASCII, as the `requires` says.
+    let word = unsafe { str::from_utf8_unchecked(run) };
     match keyword_of(word) {
         Some(keyword) => Lexeme::Keyword(keyword),
         None => Lexeme::Word(word),
@@ -191,6 +198,7 @@ fn word_lexeme<'a>(run: &'a [u8]) -> Lexeme<'a>
 }
 
 /// The sign at the front, the longer one first.
+#[inline(always)]
 fn sign_front<'a>(text: &'a [u8]) -> Option<(Lexeme<'a>, &'a [u8])>
     ensures seen { MatchOption result (sign_front_of text.now ≡ bad)
         (λ found. sign_front_of text.now ≡ taken (lexeme_view found.0) found.1.now) }
@@ -204,6 +212,7 @@ fn sign_front<'a>(text: &'a [u8]) -> Option<(Lexeme<'a>, &'a [u8])>
 }
 
 /// The sign that one byte is.
+#[inline(always)]
 fn sign_of(byte: u8) -> Option<Sign>
     ensures { result ≡ sign_of byte }
 {

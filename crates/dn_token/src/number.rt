@@ -6,6 +6,7 @@ ghost use Rattle.dn_token.specs.Token.{number_of, fitting, digits_number, decima
 /// The number that a run spells: decimal digits, or `0x` and hexadecimal digits of either case.
 /// None where it spells none, or one past 2^64 - 1.
 #[tactic(auto, unfolding(crate::specs::Token::number_of))]
+#[inline(always)]
 pub fn number_of(run: &[u8]) -> Option<u64>
     ensures { result ≡ number_of run.now }
 {
@@ -15,6 +16,7 @@ pub fn number_of(run: &[u8]) -> Option<u64>
     }
 }
 
+#[inline(always)]
 fn decimal(digits: &[u8]) -> Option<u64>
     ensures { result ≡ fitting (digits_number 10 decimal_value digits.now) }
 {
@@ -28,6 +30,7 @@ fn decimal(digits: &[u8]) -> Option<u64>
     Some(number)
 }
 
+#[inline(always)]
 fn hexadecimal(digits: &[u8]) -> Option<u64>
     ensures { result ≡ fitting (digits_number 16 hex_value digits.now) }
 {
@@ -43,6 +46,7 @@ fn hexadecimal(digits: &[u8]) -> Option<u64>
     Some(number)
 }
 
+#[inline(always)]
 fn decimal_value(digit: u8) -> Option<u64>
     ensures { result ≡ decimal_value digit }
 {
@@ -52,6 +56,7 @@ fn decimal_value(digit: u8) -> Option<u64>
     }
 }
 
+#[inline(always)]
 fn hexadecimal_value(digit: u8) -> Option<u64>
     ensures { result ≡ hex_value digit }
 {

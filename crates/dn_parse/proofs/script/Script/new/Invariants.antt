@@ -1,4 +1,4 @@
-use Rattle.std.proofs.Common.{◌≡◌, ◌+◌, ◌≤◌, length, IsTrue}
+use Rattle.std.proofs.Common.{◌+◌, ◌≤◌, length, IsTrue}
 use Rattle.dn_token.specs.Cursor.{cursor_view}
 use Rattle.dn_parse.specs.Commands.{commands_from}
 use Rattle.dn_parse.specs.Plain.{are_plain}
