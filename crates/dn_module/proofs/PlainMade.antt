@@ -1,10 +1,9 @@
--- Commands of which each expression is a number and no name has an index have no fault.
+-- Commands of which each expression is a number, indices of names among them, have no fault.
 use Rattle.std.proofs.Common.{rules, ◌≡◌, refl, true, ℕ, List, [], ◌∷◌, Option, Some, None, Result, Ok, Err, IsTrue, is_ok, length}
 use Rattle.std.proofs.lemmas.Bool.{and_parts, false≢true}
 use Rattle.std.specs.List.{list_all}
-use Rattle.std.specs.Option.{is_none}
 use Rattle.dn_parse.specs.Tree.{Expression, constant, variable, sum, product, minus, Part, Order, resolve, lookup, view, grant, route, revoke, dump, split, absorb, Command as CommandOf}
-use Rattle.dn_parse.specs.Plain.{is_constant, is_bare, is_plain, are_plain}
+use Rattle.dn_parse.specs.Plain.{is_constant, is_constant_index, is_constant_name, is_plain, are_plain}
 use Rattle.dn_module.specs.declared.command.Command.{Command}
 use Rattle.dn_module.specs.declared.command.Target.{Target}
 use Rattle.dn_module.specs.Values.{◌>>=◌, Flaw, each, value, part_text, part_by, dotted}
@@ -17,15 +16,6 @@ ok_then : {A B E : Type 0} (r : Result A E) (f : A → Result B E) → is_ok r �
 ok_then (Ok a) f h k = k a
 ok_then (Err e) f h k = absurd (false≢true h)
 
--- the texts of the parts of a name without indices
-bare_texts : (ps : List Part) → IsTrue (is_bare ps) → is_ok (each part_text ps) ≡ true
-bare_texts [] h = refl
-bare_texts (p ∷ ps) h = by p.index (and_parts (is_none p.index) (is_bare ps) h) (bare_texts ps)
-  where
-    by : (o : Option Expression) → IsTrue (is_none o) × IsTrue (is_bare ps) → (IsTrue (is_bare ps) → is_ok (each part_text ps) ≡ true) → is_ok (part_by p.title o >>= (λ y. each part_text ps >>= (λ ys. Ok (y ∷ ys)))) ≡ true
-    by None q more = ok_then (each part_text ps) (λ ys. Ok (p.title ∷ ys)) (more q.1) (λ ys. refl)
-    by (Some e) q more = absurd (false≢true q.0)
-
 -- a number is its own value
 constant_value : (e : Expression) → IsTrue (is_constant e) → is_ok (value e) ≡ true
 constant_value (constant n) h = refl
@@ -33,6 +23,18 @@ constant_value (variable w) h = absurd (false≢true h)
 constant_value (sum es) h = absurd (false≢true h)
 constant_value (product es) h = absurd (false≢true h)
 constant_value (minus e f) h = absurd (false≢true h)
+
+-- the text of a part whose index is a number
+constant_part : (title : List ℕ) (o : Option Expression) → IsTrue (is_constant_index o) → is_ok (part_by title o) ≡ true
+constant_part title None h = refl
+constant_part title (Some e) h = ok_then (value e) _ (constant_value e h) (λ n. refl)
+
+-- the texts of the parts of a name whose indices are numbers
+constant_texts : (ps : List Part) → IsTrue (is_constant_name ps) → is_ok (each part_text ps) ≡ true
+constant_texts [] h = refl
+constant_texts (p ∷ ps) h =
+    let q = and_parts (is_constant_index p.index) (is_constant_name ps) h in
+    ok_then (part_text p) _ (constant_part p.title p.index q.0) (λ t. ok_then (each part_text ps) (λ ts. Ok (t ∷ ts)) (constant_texts ps q.1) (λ ts. refl))
 
 module _ (known : List (List ℕ)) (line : ℕ) where
   -- what a command makes of a part
@@ -49,8 +51,8 @@ module _ (known : List (List ℕ)) (line : ℕ) where
   there : (text : List ℕ) → IsTrue (node_within (length known) (number_in known text))
   there text = search rules
 
-  targeted : (name : List Part) (f : Target → Result Command Flaw) → IsTrue (is_bare name) → ((t : Target) → IsTrue (node_within (length known) t.node) → Within (f t)) → Within (target_of known name >>= f)
-  targeted name f h k = go (each part_text name) (bare_texts name h)
+  targeted : (name : List Part) (f : Target → Result Command Flaw) → IsTrue (is_constant_name name) → ((t : Target) → IsTrue (node_within (length known) t.node) → Within (f t)) → Within (target_of known name >>= f)
+  targeted name f h k = go (each part_text name) (constant_texts name h)
     where
       go : (r : Result (List (List ℕ)) Flaw) → is_ok r ≡ true → Within (((r >>= (λ ts. Ok (dotted ts))) >>= (λ text. Ok (record { text = text; node = number_in known text }))) >>= f)
       go (Ok ts) e = k (record { text = dotted ts; node = number_in known (dotted ts) }) (there (dotted ts))
@@ -58,17 +60,17 @@ module _ (known : List (List ℕ)) (line : ℕ) where
 
   -- a plain command is made, and its nodes are there
   pub plain_made : (o : Order) → IsTrue (is_plain o) → Within (command_of known o)
-  plain_made (resolve name e m) h = let p = and_parts (is_bare name) (is_constant e) h in targeted name _ p.0 (λ t w. valued e _ p.1 (λ n. w))
-  plain_made (lookup name e m) h = let p = and_parts (is_bare name) (is_constant e) h in targeted name _ p.0 (λ t w. valued e _ p.1 (λ n. w))
+  plain_made (resolve name e m) h = let p = and_parts (is_constant_name name) (is_constant e) h in targeted name _ p.0 (λ t w. valued e _ p.1 (λ n. w))
+  plain_made (lookup name e m) h = let p = and_parts (is_constant_name name) (is_constant e) h in targeted name _ p.0 (λ t w. valued e _ p.1 (λ n. w))
   plain_made (view name m) h = targeted name _ h (λ t w. w)
   plain_made (grant id agent name e f m) h =
-      let p = and_parts (is_bare agent) _ h in
-      let q = and_parts (is_bare name) _ p.1 in
+      let p = and_parts (is_constant_name agent) _ h in
+      let q = and_parts (is_constant_name name) _ p.1 in
       let r = and_parts (is_constant e) (is_constant f) q.1 in
       targeted agent _ p.0 (λ a v. targeted name _ q.0 (λ t w. valued e _ r.0 (λ n. valued f _ r.1 (λ s. rw v w))))
   plain_made (route id agent e name) h =
-      let p = and_parts (is_bare agent) _ h in
-      let q = and_parts (is_constant e) (is_bare name) p.1 in
+      let p = and_parts (is_constant_name agent) _ h in
+      let q = and_parts (is_constant e) (is_constant_name name) p.1 in
       targeted agent _ p.0 (λ a v. valued e _ q.0 (λ n. targeted name _ q.1 (λ t w. rw v w)))
   plain_made (revoke id) h = refl
   plain_made dump h = refl

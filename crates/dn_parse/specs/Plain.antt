@@ -1,7 +1,6 @@
 -- Commands whose parts have their values as they stand.
-use Rattle.std.specs.Prelude.{Bool, true, false, ◌&&◌, List}
+use Rattle.std.specs.Prelude.{Bool, true, false, ◌&&◌, List, Option, None, Some}
 use Rattle.std.specs.List.{list_all}
-use Rattle.std.specs.Option.{is_none}
 use Rattle.dn_parse.specs.Tree.{Command, Expression, constant, variable, sum, product, minus, Part, Order, resolve, lookup, view, grant, route, revoke, dump, split, absorb}
 
 -- an expression that is a number
@@ -12,25 +11,26 @@ is_constant (sum es) = false
 is_constant (product es) = false
 is_constant (minus e f) = false
 
--- a part of a name without an index
-abbrev pub has_no_index : Part → Bool
-has_no_index p = is_none p.index
+-- an index that is left out, or is a number
+abbrev pub is_constant_index : Option Expression → Bool
+is_constant_index None = true
+is_constant_index (Some e) = is_constant e
 
--- a name of which no part has an index
-abbrev pub is_bare : List Part → Bool
-is_bare ps = list_all has_no_index ps
+-- a name of which each index is a number
+abbrev pub is_constant_name : List Part → Bool
+is_constant_name ps = list_all (λ p. is_constant_index p.index) ps
 
--- a command of which each expression is a number, and no name has an index
+-- a command of which each expression is a number, indices of names among them
 abbrev pub is_plain : Order → Bool
-is_plain (resolve name e m) = is_bare name && is_constant e
-is_plain (lookup name e m) = is_bare name && is_constant e
-is_plain (view name m) = is_bare name
-is_plain (grant id agent name e f m) = is_bare agent && (is_bare name && (is_constant e && is_constant f))
-is_plain (route id agent e name) = is_bare agent && (is_constant e && is_bare name)
+is_plain (resolve name e m) = is_constant_name name && is_constant e
+is_plain (lookup name e m) = is_constant_name name && is_constant e
+is_plain (view name m) = is_constant_name name
+is_plain (grant id agent name e f m) = is_constant_name agent && (is_constant_name name && (is_constant e && is_constant f))
+is_plain (route id agent e name) = is_constant_name agent && (is_constant e && is_constant_name name)
 is_plain (revoke id) = true
 is_plain dump = true
 is_plain split = true
-is_plain (absorb name) = is_bare name
+is_plain (absorb name) = is_constant_name name
 
 -- commands that are all plain
 abbrev pub are_plain : List Command → Bool

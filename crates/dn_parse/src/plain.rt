@@ -1,8 +1,8 @@
 //! Commands whose parts have their values as they stand.
 
 ghost use Rattle.std.specs.Prelude.{◌≡◌};
-ghost use Rattle.dn_parse.specs.Views.{expr_view, name_view, order_view};
-ghost use Rattle.dn_parse.specs.Plain.{is_constant, is_bare, is_plain};
+ghost use Rattle.dn_parse.specs.Views.{expr_view, maybe_expr_view, name_view, order_view};
+ghost use Rattle.dn_parse.specs.Plain.{is_constant, is_constant_index, is_constant_name, is_plain};
 
 use crate::syntax::{Expr, Order, PartExpr};
 
@@ -16,40 +16,50 @@ fn is_constant(expr: &Expr) -> bool
     }
 }
 
-/// Whether no part of a name has an index.
-fn is_bare(name: &[PartExpr]) -> bool
-    ensures { result ≡ is_bare (name_view name.now) }
+/// Whether an index is left out, or is a number.
+fn is_constant_index(index: &Option<Expr>) -> bool
+    ensures { result ≡ is_constant_index (maybe_expr_view index.now) }
+{
+    match index {
+        None => true,
+        Some(expr) => is_constant(expr),
+    }
+}
+
+/// Whether each index of a name is a number.
+fn is_constant_name(name: &[PartExpr]) -> bool
+    ensures { result ≡ is_constant_name (name_view name.now) }
 {
     for part in name {
-        if part.index.is_some() {
+        if !is_constant_index(&part.index) {
             return false;
         }
     }
     true
 }
 
-/// Whether each expression of a command is a number, and no name of it has an index.
+/// Whether each expression of a command is a number, indices of names among them.
 pub fn is_plain(order: &Order) -> bool
     ensures { result ≡ is_plain (order_view order.now) }
 {
     match order {
-        Order::Resolve(name, expr, _) => is_bare(name.as_slice()) && is_constant(expr),
-        Order::Lookup(name, expr, _) => is_bare(name.as_slice()) && is_constant(expr),
-        Order::View(name, _) => is_bare(name.as_slice()),
+        Order::Resolve(name, expr, _) => is_constant_name(name.as_slice()) && is_constant(expr),
+        Order::Lookup(name, expr, _) => is_constant_name(name.as_slice()) && is_constant(expr),
+        Order::View(name, _) => is_constant_name(name.as_slice()),
         Order::Grant(asked) => {
-            is_bare(asked.agent.as_slice())
-                && is_bare(asked.node.as_slice())
+            is_constant_name(asked.agent.as_slice())
+                && is_constant_name(asked.node.as_slice())
                 && is_constant(&asked.base)
                 && is_constant(&asked.size)
         }
         Order::Route(asked) => {
-            is_bare(asked.agent.as_slice())
+            is_constant_name(asked.agent.as_slice())
                 && is_constant(&asked.line)
-                && is_bare(asked.node.as_slice())
+                && is_constant_name(asked.node.as_slice())
         }
         Order::Revoke(_) => true,
         Order::Dump => true,
         Order::Split => true,
-        Order::Absorb(name) => is_bare(name.as_slice()),
+        Order::Absorb(name) => is_constant_name(name.as_slice()),
     }
 }

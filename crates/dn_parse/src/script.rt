@@ -97,8 +97,8 @@ impl<'a> Script<'a> {
         }
     }
 
-    /// Whether each command is plain, where that is known: each expression of it is a number, and no name
-    /// of it has an index.
+    /// Whether each command is plain, where that is known: each expression of it is a number, indices of
+    /// names among them.
     pub fn is_plain(self) -> bool
         ensures { IsTrue result → IsTrue (are_plain (script_view self.entry)) }
     {
