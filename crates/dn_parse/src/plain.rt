@@ -1,7 +1,7 @@
 //! Commands whose parts have their values as they stand.
 
 ghost use Rattle.std.specs.Prelude.{◌≡◌};
-ghost use Rattle.dn_parse.specs.Views.{expr_view, maybe_expr_view, name_view, order_view};
+ghost use Rattle.dn_parse.specs.Views.{expr_view, index_view, name_view, order_view};
 ghost use Rattle.dn_parse.specs.Plain.{is_constant, is_constant_index, is_constant_name, is_plain};
 
 use crate::syntax::{Expr, Order, PartExpr};
@@ -17,8 +17,8 @@ fn is_constant(expr: &Expr) -> bool
 }
 
 /// Whether an index is left out, or is a number.
-fn is_constant_index(index: &Option<Expr>) -> bool
-    ensures { result ≡ is_constant_index (maybe_expr_view index.now) }
+fn is_constant_index(index: &Option<Box<Expr>>) -> bool
+    ensures { result ≡ is_constant_index (index_view index.now) }
 {
     match index {
         None => true,
