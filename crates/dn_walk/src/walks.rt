@@ -1,6 +1,6 @@
 //! The table of the live walks of a net.
 
-ghost use Rattle.std.specs.Prelude.{◌≡◌, ◌<◌, ◌≤◌, ◌-◌, ◌++◌, List, drop, map, length, IfOk, IsTrue, option_map};
+ghost use Rattle.std.specs.Prelude.{◌≡◌, ◌<◌, ◌≤◌, ◌++◌, drop, map, length, IfOk, IsTrue, option_map};
 ghost use Rattle.std.specs.List.{All, flat_map};
 ghost use Rattle.std.specs.List.Sorted.{IsNonDecreasingBy};
 ghost use Rattle.dn_base.specs.Answers.{Checks};
@@ -8,14 +8,12 @@ ghost use Rattle.dn_net.specs.Rules.{KeepsNodeRules};
 ghost use Rattle.dn_net.specs.Decode.{step_limit};
 ghost use Rattle.dn_net.specs.Legal.{IsNet};
 ghost use Rattle.dn_net.specs.Units.{has_plain_units};
-ghost use Rattle.dn_net.specs.UnitRules.{IsShallow};
+ghost use Rattle.dn_net.specs.UnitRules.{IsShallow, unit_numbers};
 ghost use Rattle.dn_net.specs.Walks.{live_walks};
 ghost use Rattle.dn_net.specs.WalkRules.{unit_fault, walk_fault, has_loop, is_deep};
-ghost use Rattle.dn_walk.specs.declared.leg.Leg.{Leg};
 ghost use Rattle.dn_walk.specs.declared.level.TheConstants.{WALK_LIMIT};
 ghost use Rattle.dn_walk.specs.declared.walks.WalkRow.{WalkRow};
 ghost use Rattle.dn_walk.specs.Rows.{AreWalksOf, walk_fault_view, row_view, told_by_walk};
-ghost use Rattle.dn_walk.specs.Levels.{AreLevels, told_walks};
 ghost use Rattle.dn_walk.specs.Ways.{told_cycle, told_path};
 
 use crate::accepted::accepted_sets;
@@ -49,29 +47,31 @@ pub struct WalkRow {
     pub len: u8,
 }
 
-/// The live walks of a net, by length, start, span and choices, and what its nodes accept.
+/// The live walks of a net, by length, start, span and choices, and what its nodes accept. The walks lie in
+/// pieces, one behind the other; contracts see one list.
 #[derive(Drop)]
 pub struct WalkTable {
-    rows: Vec<WalkRow>,
+    pieces: Vec<Items<WalkRow>>,
     accepted: Vec<SpanSet>,
 }
 
 impl Model for WalkTable {
+    ghost use Rattle.std.specs.List.{flat_map};
     ghost use Rattle.dn_walk.specs.Rows.{Table};
 
     ghost Value = { Table };
 
-    ghost view = { λ t. record { rows = t.rows.items; accepted = t.accepted.items } };
+    ghost view = { λ t. record { rows = flat_map (λ x. x) t.pieces.items; accepted = t.accepted.items } };
 }
 
 impl WalkTable {
-    /// The live walks, by length, then by start, then by the first and the last address of the
-    /// span, and then by their choices: of one entry the destination that stands earlier in it
-    /// comes first.
-    pub fn rows(&self) -> &[WalkRow]
-        ensures { result.now ≡ self.now.rows }
+    /// The live walks, in pieces one behind the other, by length, then by start, then by the first and
+    /// the last address of the span, and then by their choices: of one entry the destination that
+    /// stands earlier in it comes first.
+    pub fn rows(&self) -> &[Items<WalkRow>]
+        ensures { flat_map (λ x. x) result.now ≡ self.now.rows }
     {
-        self.rows.as_slice()
+        self.pieces.as_slice()
     }
 
     /// For each node, by its number, the addresses that it accepts.
@@ -99,10 +99,9 @@ pub fn walks(alloc: Global, net: &Net) -> Result<WalkTable, WalkFault>
     }
     levels = levels.grown(alloc, &legs)?;
     check_depth(alloc, net, &levels)?;
-    let rows = table_rows(alloc, levels)?;
-    check_units(alloc, net, &rows)?;
+    let pieces = checked_rows(alloc, net, levels)?;
     Ok(WalkTable {
-        rows,
+        pieces,
         accepted: accepted_sets(alloc, net)?,
     })
 }
@@ -139,24 +138,49 @@ fn check_depth(alloc: Global, net: &Net, levels: &Levels) -> Result<(), WalkFaul
     Err(WalkFault::Deep { path })
 }
 
+/// The rows of the sorted levels but the first, in pieces, where the net breaks no rule on units. They are
+/// put into one piece for a net that has units, since the rules are tested over all of them.
+fn checked_rows(alloc: Global, net: &Net, levels: Levels) -> Result<Vec<Items<WalkRow>>, WalkFault>
+    requires rules { KeepsNodeRules net.now }
+    requires shapes { IsTrue (has_plain_units net.now) }
+    requires shallow { IsShallow net.now }
+    requires is_net { IsNet net.now }
+    requires some { 0 < length levels.sorted.items }
+    requires room { levels.room ≤ WALK_LIMIT }
+    requires walks { map row_view (flat_map (λ x. x) (drop 1 levels.sorted.items))
+        ≡ map told_by_walk (live_walks net.now step_limit) }
+    ensures checks { Checks walk_fault_view result (unit_fault net.now) }
+    ensures rows { IfOk result (λ pieces. flat_map (λ x. x) pieces.items
+        ≡ flat_map (λ x. x) (drop 1 levels.sorted.items)) }
+{
+    let units = unit_numbers(alloc, net)?;
+    if units.is_empty() {
+        let Levels { mut sorted, .. } = levels;
+        let _still = sorted.remove(0);
+        return Ok(sorted);
+    }
+    let rows = table_rows(alloc, levels)?;
+    check_units(alloc, net, &rows, &units)?;
+    let mut pieces = Vec::new(alloc);
+    pieces.push(Items::from_vec(rows))?;
+    Ok(pieces)
+}
+
 /// Refuses a net in which a name forks on its way to a unit, or a row of units is too long or has
 /// too many slots. The rows are its live walks.
-fn check_units(alloc: Global, net: &Net, rows: &[WalkRow]) -> Result<(), WalkFault>
+fn check_units(alloc: Global, net: &Net, rows: &[WalkRow], units: &[u16]) -> Result<(), WalkFault>
     requires rules { KeepsNodeRules net.now }
     requires shapes { IsTrue (has_plain_units net.now) }
     requires shallow { IsShallow net.now }
     requires is_net { IsNet net.now }
     requires walks { map row_view rows.now ≡ map told_by_walk (live_walks net.now step_limit) }
+    requires units { units.now ≡ unit_numbers net.now }
     ensures { Checks walk_fault_view result (unit_fault net.now) }
 {
-    let units = unit_numbers(alloc, net)?;
-    if units.is_empty() {
-        return Ok(());
-    }
     if let Some(Fork { name, unit }) = least_fork(net, rows) {
         return Err(WalkFault::Fork { name, unit });
     }
-    if let Some(units) = first_chain(alloc, net, rows, &units)? {
+    if let Some(units) = first_chain(alloc, net, rows, units)? {
         return Err(WalkFault::Chain { units });
     }
     Ok(())
@@ -168,8 +192,8 @@ fn check_units(alloc: Global, net: &Net, rows: &[WalkRow]) -> Result<(), WalkFau
 fn table_rows(alloc: Global, levels: Levels) -> Result<Vec<WalkRow>, AllocError>
     requires some { 0 < length levels.sorted.items }
     requires room { levels.room ≤ WALK_LIMIT }
-    ensures { IfOk result (λ rows. (legs : List (List Leg)) → AreLevels legs levels
-        → map row_view rows.items ≡ told_walks legs (length levels.sorted.items - 1)) }
+    ensures { IfOk result (λ rows. rows.items
+        ≡ flat_map (λ x. x) (drop 1 levels.sorted.items)) }
 {
     let Levels {
         mut sorted,

@@ -1,5 +1,6 @@
 //! The live walks of nets, and the rules on walks.
 
+use dn_base::items::Items;
 use dn_net::node::Name;
 use dn_walk::fault::WalkFault;
 use dn_walk::walks::{WalkRow, WalkTable, walks};
@@ -34,12 +35,14 @@ fn answer(alloc: Global, walks: Result<WalkTable, WalkFault>) -> Result<String, 
     }
 }
 
-fn rows(alloc: Global, rows: &[WalkRow]) -> Result<String, AllocError> {
+fn rows(alloc: Global, pieces: &[Items<WalkRow>]) -> Result<String, AllocError> {
     let mut text = String::new(alloc);
-    for row in rows {
-        let (lo, hi) = (row.span.lo, row.span.hi);
-        let (start, end, base, len) = (row.start, row.end, row.base, row.len);
-        write!(text, "{start} {lo:x}-{hi:x} {end}@{base:x} {len};")?;
+    for piece in pieces {
+        for row in piece.as_slice() {
+            let (lo, hi) = (row.span.lo, row.span.hi);
+            let (start, end, base, len) = (row.start, row.end, row.base, row.len);
+            write!(text, "{start} {lo:x}-{hi:x} {end}@{base:x} {len};")?;
+        }
     }
     Ok(text)
 }

@@ -1,19 +1,12 @@
 -- The first fork, or else the first chain, is the rule on units that is broken.
-use Rattle.std.proofs.Common.{◌≡◌, ◌∙◌, None, option_map, ap, sym, map, length, arith}
-use Rattle.std.proofs.lemmas.Bool.Decides.{nat_tests}
-use Rattle.dn_base.proofs.Lists.{nil_from_length}
+use Rattle.std.proofs.Common.{◌≡◌, ◌∙◌, None, option_map, ap, sym, map}
 use Rattle.dn_net.specs.UnitRules.{least_fork}
 use Rattle.dn_net.specs.WalkRules.{has_chain}
-use Rattle.dn_net.proofs.Legal.{no_units, fork_part, chain_part}
+use Rattle.dn_net.proofs.Legal.{fork_part, chain_part}
 use Rattle.dn_walk.specs.Rows.{row_view}
 use Rattle.dn_walk.proofs.Overs.{rows_there, none_of}
 use Rattle.dn_walk.proofs.Shown.{fork_view, shown_is_least}
 use Rattle.dn_walk.proofs.walks.check_units.Goals as goal
-
-pub returns-then-is_empty : goal.returns-then-is_empty
-returns-then-is_empty c =
-    let none : length c.in_ok-units.units.items ≡ 0 = grind (arith, nat_tests, c.is_empty.ensures, c.if-is_empty.true) in
-    no_units c.args.net.now (sym c.in_ok-units.ensures ∙ nil_from_length c.in_ok-units.units.items none)
 
 pub least_fork-requires-clause-starts : goal.least_fork-requires-clause-starts
 least_fork-requires-clause-starts c = λ k d l. (rows_there c.args.net.now c.requires.rules c.args.rows.now c.requires.walks k d l).0
@@ -32,11 +25,11 @@ returns-in-Some-2 c =
     let net = c.args.net.now in
     let least = shown_is_least net c.requires.rules c.requires.shallow c.requires.is_net.formed (map row_view c.args.rows.now) c.requires.walks c.least_fork.result c.least_fork.ensures in
     let none : least_fork net ≡ None = least ∙ ap (option_map fork_view) (none_of c.least_fork.result c.in_default.not-Some) in
-    chain_part net none ∙ ap (option_map has_chain) (sym c.in_ok-units-2.ensures ∙ c.in-Some-2.is)
+    chain_part net none ∙ ap (option_map has_chain) (sym c.in_ok-units.ensures ∙ c.in-Some-2.is)
 
 pub returns : goal.returns
 returns c =
     let net = c.args.net.now in
     let least = shown_is_least net c.requires.rules c.requires.shallow c.requires.is_net.formed (map row_view c.args.rows.now) c.requires.walks c.least_fork.result c.least_fork.ensures in
     let none : least_fork net ≡ None = least ∙ ap (option_map fork_view) (none_of c.least_fork.result c.in_default.not-Some) in
-    chain_part net none ∙ ap (option_map has_chain) (sym c.in_ok-units-2.ensures ∙ none_of c.in_ok-units-2.field-0 c.in_default-2.not-Some)
+    chain_part net none ∙ ap (option_map has_chain) (sym c.in_ok-units.ensures ∙ none_of c.in_ok-units.field-0 c.in_default-2.not-Some)

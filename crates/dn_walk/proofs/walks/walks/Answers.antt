@@ -21,7 +21,7 @@ use Rattle.dn_net.proofs.Endless.{no_fault_is_shallow}
 use Rattle.dn_net.proofs.Legal.{first_part, second_part, legal_breaks_no_rule}
 use Rattle.dn_net.proofs.Places.{length-map}
 use Rattle.dn_walk.proofs.Nodes.{all_legs_of}
-use Rattle.dn_walk.proofs.Told.{rows_are}
+use Rattle.dn_walk.proofs.Told.{rows_are, table_is}
 use Rattle.dn_walk.proofs.Verdict.{Acyclic, steps_are, limit_is, wide_is, loop_is, deep_is, legal_is, cycle_told, path_told, sorted_by_start, empty_on}
 use Rattle.dn_walk.proofs.walks.walks.Goals as goal
 use Rattle.dn_walk.proofs.walks.walks.Goals.{then-levels-test+else-not-is_empty, else-levels-test}
@@ -219,8 +219,8 @@ returns-in_err-check_depth-clause-checks c =
     let p = err_from_is_err_and c.from_residual-in_err-check_depth.result c.from_residual-in_err-check_depth.ensures.1 in
     rw (p.1, p.2) (names_broken is_deep _ _ _ _ (path_same net l h) deep c.in_err-check_depth.ensures)
 
-pub table_rows-requires-clause-room : goal.table_rows-requires-clause-room
-table_rows-requires-clause-room c =
+pub checked_rows-requires-clause-room : goal.checked_rows-requires-clause-room
+checked_rows-requires-clause-room c =
     let net = c.args.net.now in
     let old = c.levels.levels in
     let inv = c.levels.invariant in
@@ -230,8 +230,8 @@ table_rows-requires-clause-room c =
     let k = inv.shallow in
     let r = h.room in let e = limit_is in omega arith
 
-pub check_units-requires-clause-shallow : goal.check_units-requires-clause-shallow
-check_units-requires-clause-shallow c =
+pub checked_rows-requires-clause-shallow : goal.checked_rows-requires-clause-shallow
+checked_rows-requires-clause-shallow c =
     let net = c.args.net.now in
     let old = c.levels.levels in
     let inv = c.levels.invariant in
@@ -244,8 +244,8 @@ check_units-requires-clause-shallow c =
     let legal = legal_is net c.requires.rules (length old.sorted.items) (length l.sorted.items) suc_is inv.acyclic k (few net l h) (ap (λ rows. least_of (start_names false rows)) (sym h.newest) ∙ none) in
     no_fault_is_shallow net c.requires.rules legal.none
 
-pub check_units-requires-clause-walks : goal.check_units-requires-clause-walks
-check_units-requires-clause-walks c =
+pub checked_rows-requires-clause-walks : goal.checked_rows-requires-clause-walks
+checked_rows-requires-clause-walks c =
     let net = c.args.net.now in
     let old = c.levels.levels in
     let inv = c.levels.invariant in
@@ -257,11 +257,11 @@ check_units-requires-clause-walks c =
     let none = path_told net (map (map row_view) l.sorted.items) (map row_view l.newest.items) (no_names is_deep _ c.in_ok-check_depth.ensures) in
     let legal = legal_is net c.requires.rules (length old.sorted.items) (length l.sorted.items) suc_is inv.acyclic k (few net l h) (ap (λ rows. least_of (start_names false rows)) (sym h.newest) ∙ none) in
     let pred : length l.sorted.items - 1 ≡ length old.sorted.items = omega arith in
-    let same = c.in_ok-rows.ensures (map told_legs net) h ∙ ap (told_walks (map told_legs net)) pred ∙ legal.rows in
-    ap (map row_view) c.deref-3.ensures.value ∙ same
+    let some : 0 < length l.sorted.items = omega arith in
+    table_is (map told_legs net) (length l.sorted.items) l.sorted.items some h.sorted ∙ ap (told_walks (map told_legs net)) pred ∙ legal.rows
 
-pub returns-in_err-check_units-clause-checks : goal.returns-in_err-check_units-clause-checks
-returns-in_err-check_units-clause-checks c =
+pub returns-in_err-pieces-clause-checks : goal.returns-in_err-pieces-clause-checks
+returns-in_err-pieces-clause-checks c =
     let net = c.args.net.now in
     let old = c.levels.levels in
     let inv = c.levels.invariant in
@@ -272,8 +272,8 @@ returns-in_err-check_units-clause-checks c =
     let suc_is : length l.sorted.items ≡ suc (length old.sorted.items) = omega arith in
     let none = path_told net (map (map row_view) l.sorted.items) (map row_view l.newest.items) (no_names is_deep _ c.in_ok-check_depth.ensures) in
     let legal = legal_is net c.requires.rules (length old.sorted.items) (length l.sorted.items) suc_is inv.acyclic k (few net l h) (ap (λ rows. least_of (start_names false rows)) (sym h.newest) ∙ none) in
-    let p = err_from_is_err_and c.from_residual-in_err-check_units.result c.from_residual-in_err-check_units.ensures.1 in
-    rw (p.1, p.2) (unit_broken net _ legal.none c.in_err-check_units.ensures)
+    let p = err_from_is_err_and c.from_residual-in_err-pieces.result c.from_residual-in_err-pieces.ensures.1 in
+    rw (p.1, p.2) (unit_broken net _ legal.none c.in_err-pieces.ensures.checks)
 
 pub returns-clause-checks : goal.returns-clause-checks
 returns-clause-checks c =
@@ -287,7 +287,7 @@ returns-clause-checks c =
     let suc_is : length l.sorted.items ≡ suc (length old.sorted.items) = omega arith in
     let none = path_told net (map (map row_view) l.sorted.items) (map row_view l.newest.items) (no_names is_deep _ c.in_ok-check_depth.ensures) in
     let legal = legal_is net c.requires.rules (length old.sorted.items) (length l.sorted.items) suc_is inv.acyclic k (few net l h) (ap (λ rows. least_of (start_names false rows)) (sym h.newest) ∙ none) in
-    second_part net legal.none ∙ c.in_ok-check_units.ensures
+    second_part net legal.none ∙ c.in_ok-pieces.ensures.checks
 
 pub returns-clause-walks : goal.returns-clause-walks
 returns-clause-walks c =
@@ -302,9 +302,10 @@ returns-clause-walks c =
     let none = path_told net (map (map row_view) l.sorted.items) (map row_view l.newest.items) (no_names is_deep _ c.in_ok-check_depth.ensures) in
     let legal = legal_is net c.requires.rules (length old.sorted.items) (length l.sorted.items) suc_is inv.acyclic k (few net l h) (ap (λ rows. least_of (start_names false rows)) (sym h.newest) ∙ none) in
     let pred : length l.sorted.items - 1 ≡ length old.sorted.items = omega arith in
-    let same = c.in_ok-rows.ensures (map told_legs net) h ∙ ap (told_walks (map told_legs net)) pred ∙ legal.rows in
+    let some : 0 < length l.sorted.items = omega arith in
+    let same = ap (map row_view) c.in_ok-pieces.ensures.rows ∙ table_is (map told_legs net) (length l.sorted.items) l.sorted.items some h.sorted ∙ ap (told_walks (map told_legs net)) pred ∙ legal.rows in
     record {
-      legal = (legal_breaks_no_rule net c.facts.ensures c.requires.rules.closed).0 (none_broken net c.requires.rules.each, c.requires.shapes, second_part net legal.none ∙ c.in_ok-check_units.ensures);
+      legal = (legal_breaks_no_rule net c.facts.ensures c.requires.rules.closed).0 (none_broken net c.requires.rules.each, c.requires.shapes, second_part net legal.none ∙ c.in_ok-pieces.ensures.checks);
       same = same;
       accepted = c.in_ok-accepted_sets.ensures;
     }
