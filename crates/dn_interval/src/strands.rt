@@ -25,9 +25,9 @@ pub fn strands_of(alloc: Global, segs: &[Seg]) -> Result<Vec<Strand>, OutOfMemor
         (λ (s : Strand). s.span.lo) strands.items) }
 {
     let mut single = each_alone(alloc, segs)?;
-    single.sort_unstable_by_key(|strand| (strand.node, strand.slide, strand.span.lo));
+    single.sort_by_key(|strand| (strand.node, strand.slide, strand.span.lo))?;
     let mut strands = joined(alloc, single.as_slice())?;
-    strands.sort_unstable_by_key(|strand| strand.span.lo);
+    strands.sort_by_key(|strand| strand.span.lo)?;
     Ok(strands)
 }
 

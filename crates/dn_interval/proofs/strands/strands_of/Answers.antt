@@ -16,19 +16,19 @@ maximal_permuted xs ys p m = λ k d l a y e b. sym (permuted xs ys p a y) ∙ (A
 
 pub joined-requires : goal.joined-requires
 joined-requires c =
-    subst (IsSorted strand_cmp) (sym c.as_slice.ensures.value) (c.sort_unstable_by_key.ensures.sorted (λ (s : Strand). (s.node, s.slide, s.span.lo)) (answers_always _ _ _ (λ f a r g h. search rules)))
+    subst (IsSorted strand_cmp) (sym c.as_slice.ensures.value) (c.in_ok-sort_by_key.ensures.sorted (λ (s : Strand). (s.node, s.slide, s.span.lo)) (answers_always _ _ _ (λ f a r g h. search rules)))
 
 pub returns-clause-same : goal.returns-clause-same
 returns-clause-same c = λ a y.
-    sym (permuted c.in_ok-strands.strands.items c.sort_unstable_by_key-2.new.self.items c.sort_unstable_by_key-2.ensures.permutation a y)
+    sym (permuted c.in_ok-strands.strands.items c.sort_by_key-2.new.self.items c.sort_by_key-2.ensures.permutation a y)
     ∙ c.in_ok-strands.ensures.same a y
     ∙ ap (λ t. strands_give t a y) c.as_slice.ensures.value
-    ∙ sym (permuted c.in_ok-single.single.items c.sort_unstable_by_key.new.self.items c.sort_unstable_by_key.ensures.permutation a y)
+    ∙ sym (permuted c.in_ok-single.single.items c.sort_by_key.new.self.items c.sort_by_key.ensures.permutation a y)
     ∙ c.in_ok-single.ensures a y
 
 pub returns-clause-maximal : goal.returns-clause-maximal
-returns-clause-maximal c = maximal_permuted c.in_ok-strands.strands.items c.sort_unstable_by_key-2.new.self.items c.sort_unstable_by_key-2.ensures.permutation c.in_ok-strands.ensures.maximal
+returns-clause-maximal c = maximal_permuted c.in_ok-strands.strands.items c.sort_by_key-2.new.self.items c.sort_by_key-2.ensures.permutation c.in_ok-strands.ensures.maximal
 
 pub returns-clause-sorted : goal.returns-clause-sorted
 returns-clause-sorted c =
-    IsNonDecreasingBy-from_sort (λ (s : Strand). s.span.lo) _ (c.sort_unstable_by_key-2.ensures.sorted (λ (s : Strand). s.span.lo) (answers_always _ _ _ (λ f a r g h. search rules)))
+    IsNonDecreasingBy-from_sort (λ (s : Strand). s.span.lo) _ (c.in_ok-sort_by_key-2.ensures.sorted (λ (s : Strand). s.span.lo) (answers_always _ _ _ (λ f a r g h. search rules)))
