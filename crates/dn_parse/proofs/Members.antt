@@ -25,6 +25,10 @@ module _ {A X : Type 0} (view : A → X) where
   pub none_read : (r : Next X) (o : Option A) (after : List Token) → r ≡ Ok (option_map (λ y. (view y, after)) o) → o ≡ None → r ≡ Ok None
   none_read r o after read is = read ∙ ap (λ (v : Option A). Ok (option_map (λ y. (view y, after)) v)) is
 
+  -- the first member, where it was pushed alone
+  pub one_pushed : (x : A) (none pushed : List A) → none ≡ [] → pushed ≡ none ++ x ∷ [] → view x ∷ [] ≡ map view pushed
+  one_pushed x none pushed n p = sym (ap (map view) (p ∙ ap (λ (l : List A). l ++ x ∷ []) n))
+
   -- a member that was pushed is the next one found
   pub member_found : {next : List Token → Next X} {whole : Read (List X)} (found pushed : List A) (rest : Cursor) (o : Option A) (x : A) (after : Cursor) → Found next whole (map view found) (cursor_view rest) → next (cursor_view rest) ≡ Ok (option_map (λ y. (view y, cursor_view after)) o) → o ≡ Some x → Shortens o after rest → pushed ≡ found ++ x ∷ [] → Found next whole (map view pushed) (cursor_view after)
   member_found {next} {whole} found pushed rest o x after before read is shorter push =

@@ -7,6 +7,8 @@ use Rattle.dn_parse.specs.Machine.{Stop, whole, refused, deep}
 use Rattle.dn_parse.specs.Whole.{TextFault, block_fault, first_line, Blocks, Step, by_step, step, before_begin, after_begin, at_stop, judge, forbidden}
 use Rattle.dn_parse.specs.Descent.{Read, Next, and_then, whole_statement_at}
 use Rattle.dn_parse.specs.Commands.{ordered, command_at, found, next_in, next_command, with_more, commands_from, past, behind_commands, with_commands}
+use Rattle.dn_parse.specs.Views.{command_view}
+use Rattle.dn_parse.specs.declared.syntax.Cmd.{Cmd}
 use Rattle.dn_parse.specs.declared.cursor.Halt.{Halt}
 use Rattle.dn_parse.specs.declared.cursor.Halt.TheVariants.{Refused, Deep as DeepHalt, OutOfMemory as HaltMemory}
 use Rattle.dn_parse.specs.Faults.{halt_view, halt_fault}
@@ -24,6 +26,10 @@ no_line ts h = ap (λ (l : Option ℕ). next_in l ts) h
 pub next_is : (ts : List Token) (line : ℕ) (o : Found) → first_line ts ≡ Some line → command_at line ts ≡ Ok o → next_command ts ≡ o
 unfolding next_command
 next_is ts line o h e = ap (λ (l : Option ℕ). next_in l ts) h ∙ ap found e
+
+-- the same of what a reading answers
+pub answered_is : (ts : List Token) (line : ℕ) (o asked : Option Cmd) (after : List Token) → first_line ts ≡ Some line → command_at line ts ≡ Ok (option_map (λ c. (command_view c, after)) o) → o ≡ asked → next_command ts ≡ option_map (λ c. (command_view c, after)) asked
+answered_is ts line o asked after h e is = next_is ts line _ h e ∙ ap (λ (q : Option Cmd). option_map (λ (c : Cmd). (command_view c, after)) q) is
 
 pub next_stops : (ts : List Token) (line : ℕ) (z : Stop) → first_line ts ≡ Some line → command_at line ts ≡ Err z → next_command ts ≡ None
 unfolding next_command

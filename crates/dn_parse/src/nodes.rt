@@ -9,6 +9,7 @@ ghost use Rattle.dn_parse.specs.Faults.{Reads, ReadsNext, IsShorter, Shortens, I
 use crate::cursor::{Halt, after_keyword, after_sign, keyword, sign, word};
 use crate::expressions::expr;
 use crate::few::Few;
+use crate::listed::{Member, eight_members, members};
 use crate::syntax::{BlockExpr, DestExpr, EntryExpr, Expr, NameExpr, PartExpr, Spec};
 use dn_base::items::Items;
 use dn_token::cursor::Cursor;
@@ -118,18 +119,35 @@ fn next_block<'a>(alloc: Global, tokens: &mut Cursor<'a>) -> Result<Option<Block
     Ok(Some(block))
 }
 
+impl<'a> Member<'a> for BlockExpr<'a> {
+    ghost use Rattle.dn_parse.specs.Tree.{Block};
+    ghost use Rattle.dn_parse.specs.Views.{block_view};
+    ghost use Rattle.dn_parse.specs.Descent.{block_at, next_block_at};
+
+    ghost Tree = { Block };
+
+    ghost view = { block_view };
+
+    ghost first_at = { block_at };
+
+    ghost next_at = { next_block_at };
+
+    fn first(alloc: Global, tokens: &mut Cursor<'a>) -> Result<BlockExpr<'a>, Halt> {
+        block(alloc, tokens)
+    }
+
+    fn next(alloc: Global, tokens: &mut Cursor<'a>) -> Result<Option<BlockExpr<'a>>, Halt> {
+        next_block(alloc, tokens)
+    }
+}
+
 /// `block { "," block }`
+#[tactic(auto, unfolding(crate::specs::Descent::blocks_at))]
 fn blocks<'a>(alloc: Global, tokens: &mut Cursor<'a>) -> Result<Items<BlockExpr<'a>>, Halt>
     ensures gives { Reads (map block_view) result tokens.new (blocks_at (cursor_view tokens.old)) }
     ensures shorter { IfOk result (λ _. IsShorter tokens.new tokens.old) }
 {
-    let first = block(alloc, tokens)?;
-    let mut blocks = Items::new(alloc);
-    blocks.push(first)?;
-    'list: while let Some(block) = next_block(alloc, tokens)? {
-        blocks.push(block)?;
-    }
-    Ok(blocks)
+    members(alloc, tokens)
 }
 
 /// `[ "at" expr ]`
@@ -169,24 +187,35 @@ fn next_dest<'a>(alloc: Global, tokens: &mut Cursor<'a>) -> Result<Option<DestEx
     Ok(Some(dest))
 }
 
+impl<'a> Member<'a> for DestExpr<'a> {
+    ghost use Rattle.dn_parse.specs.Tree.{Dest};
+    ghost use Rattle.dn_parse.specs.Views.{dest_view};
+    ghost use Rattle.dn_parse.specs.Descent.{dest_at, next_dest_at};
+
+    ghost Tree = { Dest };
+
+    ghost view = { dest_view };
+
+    ghost first_at = { dest_at };
+
+    ghost next_at = { next_dest_at };
+
+    fn first(alloc: Global, tokens: &mut Cursor<'a>) -> Result<DestExpr<'a>, Halt> {
+        dest(alloc, tokens)
+    }
+
+    fn next(alloc: Global, tokens: &mut Cursor<'a>) -> Result<Option<DestExpr<'a>>, Halt> {
+        next_dest(alloc, tokens)
+    }
+}
+
 /// `dest { "and" dest }`, at most eight: a ninth is left where it stands.
+#[tactic(auto, unfolding(crate::specs::Descent::dests_at))]
 fn dests<'a>(alloc: Global, tokens: &mut Cursor<'a>) -> Result<Items<DestExpr<'a>>, Halt>
     ensures gives { Reads (map dest_view) result tokens.new (dests_at (cursor_view tokens.old)) }
     ensures shorter { IfOk result (λ _. IsShorter tokens.new tokens.old) }
 {
-    let first = dest(alloc, tokens)?;
-    let mut dests = Items::new(alloc);
-    dests.push(first)?;
-    let mut left = 7_u8;
-    'dests: while left > 0 {
-        let next = next_dest(alloc, tokens)?;
-        let Some(dest) = next else {
-            return Ok(dests);
-        };
-        dests.push(dest)?;
-        left -= 1;
-    }
-    Ok(dests)
+    eight_members(alloc, tokens)
 }
 
 /// `block "to" dest { "and" dest }`
@@ -215,18 +244,35 @@ fn next_entry<'a>(alloc: Global, tokens: &mut Cursor<'a>) -> Result<Option<Entry
     Ok(Some(entry))
 }
 
+impl<'a> Member<'a> for EntryExpr<'a> {
+    ghost use Rattle.dn_parse.specs.Tree.{Entry};
+    ghost use Rattle.dn_parse.specs.Views.{entry_view};
+    ghost use Rattle.dn_parse.specs.Descent.{entry_at, next_entry_at};
+
+    ghost Tree = { Entry };
+
+    ghost view = { entry_view };
+
+    ghost first_at = { entry_at };
+
+    ghost next_at = { next_entry_at };
+
+    fn first(alloc: Global, tokens: &mut Cursor<'a>) -> Result<EntryExpr<'a>, Halt> {
+        entry(alloc, tokens)
+    }
+
+    fn next(alloc: Global, tokens: &mut Cursor<'a>) -> Result<Option<EntryExpr<'a>>, Halt> {
+        next_entry(alloc, tokens)
+    }
+}
+
 /// `entry { "," entry }`
+#[tactic(auto, unfolding(crate::specs::Descent::entries_at))]
 fn entries<'a>(alloc: Global, tokens: &mut Cursor<'a>) -> Result<Items<EntryExpr<'a>>, Halt>
     ensures gives { Reads (map entry_view) result tokens.new (entries_at (cursor_view tokens.old)) }
     ensures shorter { IfOk result (λ _. IsShorter tokens.new tokens.old) }
 {
-    let first = entry(alloc, tokens)?;
-    let mut entries = Items::new(alloc);
-    entries.push(first)?;
-    'entries: while let Some(entry) = next_entry(alloc, tokens)? {
-        entries.push(entry)?;
-    }
-    Ok(entries)
+    members(alloc, tokens)
 }
 
 /// `"[" block { "," block } "]"`

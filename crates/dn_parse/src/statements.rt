@@ -12,6 +12,7 @@ use crate::cursor::{
     Halt, after_keyword, after_sign, after_word, keyword, refusal, sign, the_word, word,
 };
 use crate::expressions::expr;
+use crate::listed::{Member, eight_members, members};
 use crate::nodes::{name, spec};
 use crate::syntax::{
     Arg, Cmd, Decl, DeclRole, Expr, GrantExpr, Mode, NameExpr, Order, Param, RouteExpr, UnitExpr,
@@ -97,18 +98,35 @@ fn next_param<'a>(alloc: Global, tokens: &mut Cursor<'a>) -> Result<Option<Param
     Ok(Some(param))
 }
 
+impl<'a> Member<'a> for Param<'a> {
+    ghost use Rattle.dn_parse.specs.Tree.{Param as Parameter};
+    ghost use Rattle.dn_parse.specs.Views.{param_view};
+    ghost use Rattle.dn_parse.specs.Descent.{param_at, next_param_at};
+
+    ghost Tree = { Parameter };
+
+    ghost view = { param_view };
+
+    ghost first_at = { param_at };
+
+    ghost next_at = { next_param_at };
+
+    fn first(alloc: Global, tokens: &mut Cursor<'a>) -> Result<Param<'a>, Halt> {
+        param(alloc, tokens)
+    }
+
+    fn next(alloc: Global, tokens: &mut Cursor<'a>) -> Result<Option<Param<'a>>, Halt> {
+        next_param(alloc, tokens)
+    }
+}
+
 /// `param { "," param }`
+#[tactic(auto, unfolding(crate::specs::Descent::params_at))]
 fn some_params<'a>(alloc: Global, tokens: &mut Cursor<'a>) -> Result<Items<Param<'a>>, Halt>
     ensures gives { Reads (map param_view) result tokens.new (params_at (cursor_view tokens.old)) }
     ensures shorter { IfOk result (λ _. IsShorter tokens.new tokens.old) }
 {
-    let first = param(alloc, tokens)?;
-    let mut params = Items::new(alloc);
-    params.push(first)?;
-    'params: while let Some(param) = next_param(alloc, tokens)? {
-        params.push(param)?;
-    }
-    Ok(params)
+    members(alloc, tokens)
 }
 
 /// `[ param { "," param } ] ")"`
@@ -152,18 +170,35 @@ fn next_arg<'a>(alloc: Global, tokens: &mut Cursor<'a>) -> Result<Option<Arg<'a>
     Ok(Some(arg))
 }
 
+impl<'a> Member<'a> for Arg<'a> {
+    ghost use Rattle.dn_parse.specs.Tree.{Arg as Argument};
+    ghost use Rattle.dn_parse.specs.Views.{arg_view};
+    ghost use Rattle.dn_parse.specs.Descent.{arg_at, next_arg_at};
+
+    ghost Tree = { Argument };
+
+    ghost view = { arg_view };
+
+    ghost first_at = { arg_at };
+
+    ghost next_at = { next_arg_at };
+
+    fn first(alloc: Global, tokens: &mut Cursor<'a>) -> Result<Arg<'a>, Halt> {
+        arg(alloc, tokens)
+    }
+
+    fn next(alloc: Global, tokens: &mut Cursor<'a>) -> Result<Option<Arg<'a>>, Halt> {
+        next_arg(alloc, tokens)
+    }
+}
+
 /// `arg { "," arg }`
+#[tactic(auto, unfolding(crate::specs::Descent::args_at))]
 fn some_args<'a>(alloc: Global, tokens: &mut Cursor<'a>) -> Result<Items<Arg<'a>>, Halt>
     ensures gives { Reads (map arg_view) result tokens.new (args_at (cursor_view tokens.old)) }
     ensures shorter { IfOk result (λ _. IsShorter tokens.new tokens.old) }
 {
-    let first = arg(alloc, tokens)?;
-    let mut args = Items::new(alloc);
-    args.push(first)?;
-    'list: while let Some(arg) = next_arg(alloc, tokens)? {
-        args.push(arg)?;
-    }
-    Ok(args)
+    members(alloc, tokens)
 }
 
 /// `[ arg { "," arg } ] ")"`
@@ -193,24 +228,36 @@ fn next_port<'a>(alloc: Global, tokens: &mut Cursor<'a>) -> Result<Option<NameEx
     Ok(Some(port))
 }
 
+impl<'a> Member<'a> for NameExpr<'a> {
+    ghost use Rattle.std.specs.Prelude.{List};
+    ghost use Rattle.dn_parse.specs.Tree.{Part};
+    ghost use Rattle.dn_parse.specs.Views.{name_view};
+    ghost use Rattle.dn_parse.specs.Descent.{name_at, next_port_at};
+
+    ghost Tree = { List Part };
+
+    ghost view = { name_view };
+
+    ghost first_at = { name_at 32 };
+
+    ghost next_at = { next_port_at };
+
+    fn first(alloc: Global, tokens: &mut Cursor<'a>) -> Result<NameExpr<'a>, Halt> {
+        name(alloc, tokens, MOST_OPEN)
+    }
+
+    fn next(alloc: Global, tokens: &mut Cursor<'a>) -> Result<Option<NameExpr<'a>>, Halt> {
+        next_port(alloc, tokens)
+    }
+}
+
 /// `name { "," name }`, at most eight: a ninth is left where it stands.
+#[tactic(auto, unfolding(crate::specs::Descent::ports_at))]
 fn ports<'a>(alloc: Global, tokens: &mut Cursor<'a>) -> Result<Items<NameExpr<'a>>, Halt>
     ensures gives { Reads (map name_view) result tokens.new (ports_at (cursor_view tokens.old)) }
     ensures shorter { IfOk result (λ _. IsShorter tokens.new tokens.old) }
 {
-    let first = name(alloc, tokens, MOST_OPEN)?;
-    let mut ports = Items::new(alloc);
-    ports.push(first)?;
-    let mut left = 7_u8;
-    'ports: while left > 0 {
-        let next = next_port(alloc, tokens)?;
-        let Some(port) = next else {
-            return Ok(ports);
-        };
-        ports.push(port)?;
-        left -= 1;
-    }
-    Ok(ports)
+    eight_members(alloc, tokens)
 }
 
 /// `name "is" spec`

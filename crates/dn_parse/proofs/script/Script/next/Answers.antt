@@ -1,15 +1,14 @@
-use Rattle.std.proofs.Common.{rules, ◌≡◌, ◌∙◌, ap, sym, subst, IsTrue, ℕ, ◌<◌, List, Option, Some, None, option_map, arith}
+use Rattle.std.proofs.Common.{rules, ◌≡◌, ◌∙◌, ap, sym, subst, IsTrue, ℕ, ◌<◌, List, Some, None, arith}
 use Rattle.std.proofs.lemmas.Bool.{and_parts}
 use Rattle.dn_token.specs.Token.{Token}
 use Rattle.dn_token.specs.Cursor.{cursor_view}
-use Rattle.dn_parse.specs.declared.syntax.Cmd.{Cmd}
 use Rattle.dn_parse.specs.Tree.{Command}
 use Rattle.dn_parse.specs.Whole.{first_line}
 use Rattle.dn_parse.specs.Views.{command_view}
 use Rattle.dn_parse.specs.Commands.{commands_from, next_command}
 use Rattle.dn_parse.specs.Plain.{is_plain, are_plain}
 use Rattle.dn_parse.specs.Script.{script_view}
-use Rattle.dn_parse.proofs.Scripts.{no_line, next_is, stands, memory_alone, others, front_is}
+use Rattle.dn_parse.proofs.Scripts.{no_line, answered_is, stands, memory_alone, others, front_is}
 use Rattle.dn_parse.proofs.script.Script.next.Goals as goal
 
 pub returns-then-self-eq0 : goal.returns-then-self-eq0
@@ -25,12 +24,8 @@ unreachable-requires c =
 pub invariant_of-result : goal.invariant_of-result
 invariant_of-result c =
     let some : 0 < c.args.self.count = omega (arith, c.if-self-eq0.false) in
-    let line : first_line (cursor_view c.args.self.first) ≡ Some c.in-Some.line = sym c.first_line.ensures ∙ c.in-Some.is in
     let p : Command × List Token = (command_view c.in-Ok-Some.command, cursor_view c.command.new.tokens) in
-    let is : c.in-Ok-Some.field-0 ≡ Some c.in-Ok-Some.command = search rules in
-    let next : next_command (cursor_view c.args.self.first) ≡ Some p =
-    next_is (cursor_view c.args.self.first) c.in-Some.line _ line c.in-Ok-Some.ensures.gives
-    ∙ ap (λ (o : Option Cmd). option_map (λ (q : Cmd). (command_view q, cursor_view c.command.new.tokens)) o) is in
+    let next : next_command (cursor_view c.args.self.first) ≡ Some p = answered_is _ c.in-Some.line c.in-Ok-Some.field-0 (Some c.in-Ok-Some.command) (cursor_view c.command.new.tokens) (sym c.first_line.ensures ∙ c.in-Some.is) c.in-Ok-Some.ensures.gives (search rules) in
     let front = front_is c.args.self.count (cursor_view c.args.self.first) p some next in
     record {
       read = others c.args.self.count (cursor_view c.args.self.first) p some c.args.self.read next;
@@ -41,22 +36,14 @@ pub returns-in-Ok-Some : goal.returns-in-Ok-Some
 unfolding script_view
 returns-in-Ok-Some c =
     let some : 0 < c.args.self.count = omega (arith, c.if-self-eq0.false) in
-    let line : first_line (cursor_view c.args.self.first) ≡ Some c.in-Some.line = sym c.first_line.ensures ∙ c.in-Some.is in
     let p : Command × List Token = (command_view c.in-Ok-Some.command, cursor_view c.command.new.tokens) in
-    let is : c.in-Ok-Some.field-0 ≡ Some c.in-Ok-Some.command = search rules in
-    let next : next_command (cursor_view c.args.self.first) ≡ Some p =
-    next_is (cursor_view c.args.self.first) c.in-Some.line _ line c.in-Ok-Some.ensures.gives
-    ∙ ap (λ (o : Option Cmd). option_map (λ (q : Cmd). (command_view q, cursor_view c.command.new.tokens)) o) is in
+    let next : next_command (cursor_view c.args.self.first) ≡ Some p = answered_is _ c.in-Some.line c.in-Ok-Some.field-0 (Some c.in-Ok-Some.command) (cursor_view c.command.new.tokens) (sym c.first_line.ensures ∙ c.in-Some.is) c.in-Ok-Some.ensures.gives (search rules) in
     front_is c.args.self.count (cursor_view c.args.self.first) p some next
 
 pub unreachable-requires-in-Ok-None : goal.unreachable-requires-in-Ok-None
 unreachable-requires-in-Ok-None c =
     let some : 0 < c.args.self.count = omega (arith, c.if-self-eq0.false) in
-    let line : first_line (cursor_view c.args.self.first) ≡ Some c.in-Some.line = sym c.first_line.ensures ∙ c.in-Some.is in
-    let is : c.in-Ok-None.field-0 ≡ None = search rules in
-    let none : next_command (cursor_view c.args.self.first) ≡ None =
-    next_is (cursor_view c.args.self.first) c.in-Some.line _ line c.in-Ok-None.ensures.gives
-    ∙ ap (λ (o : Option Cmd). option_map (λ (q : Cmd). (command_view q, cursor_view c.command.new.tokens)) o) is in
+    let none : next_command (cursor_view c.args.self.first) ≡ None = answered_is _ c.in-Some.line c.in-Ok-None.field-0 None (cursor_view c.command.new.tokens) (sym c.first_line.ensures ∙ c.in-Some.is) c.in-Ok-None.ensures.gives (search rules) in
     stands c.args.self.count (cursor_view c.args.self.first) some c.args.self.read none
 
 pub unreachable-requires-in_default-halt : goal.unreachable-requires-in_default-halt
