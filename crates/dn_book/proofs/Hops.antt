@@ -1,5 +1,5 @@
 -- The slots of a hop: where they begin and end, and the records that it puts into them.
-use Rattle.std.proofs.Common.{ℕ, zero, ◌+◌, ◌-◌, ◌*◌, ◌/◌, ◌^◌, ◌<◌, ◌≤◌, length, IsTrue, arith, pow_pos}
+use Rattle.std.proofs.Common.{◌≡◌, ℕ, zero, suc, ◌+◌, ◌-◌, ◌*◌, ◌/◌, ◌^◌, ◌<◌, ◌≤◌, length, IsTrue, arith, pow_pos}
 use Rattle.std.proofs.Math.Nat.{pow-le-pow_right, mul-le-mul_right, le-div_iff_mul-le, div-lt_iff_lt-mul}
 use Rattle.dn_net.specs.declared.node.Unit.{Unit as UnitPart}
 use Rattle.dn_net.specs.Units.{has_plain_shape}
@@ -35,6 +35,13 @@ last_there u size hop f =
 -- the first is no later than the last
 pub first_before : (u : UnitPart) (size : ℕ) (hop : Hop) → FitsUnit u size hop → first_slot u hop ≤ last_slot u size hop
 first_before u size hop f = let s = f.some in div_mono (2 ^ u.page) hop.x (hop.x + size - 1) (pow_pos u.page) (omega arith)
+
+-- a loop over the slots of a hop that has come to its end is behind the last of them
+pub behind_last : (u : UnitPart) (size : ℕ) (hop : Hop) (first end slot : ℕ) → FitsUnit u size hop → first ≡ first_slot u hop → end ≡ suc (last_slot u size hop) → (first ≤ end → slot ≤ end) → end ≤ slot → slot ≡ suc (last_slot u size hop)
+behind_last u size hop first end slot fits begins ends auto past =
+    let order = first_before u size hop fits in
+    let most : slot ≤ end = auto (omega arith) in
+    omega arith
 
 -- the addresses of a hop are small
 pub record AreSmall (u : UnitPart) (size : ℕ) (hop : Hop) : Type 0 where

@@ -94,29 +94,18 @@ owns_uses net node slot g t = go (slice_get g.placement.hops g.placement.own) re
     go (Some hop) e t =
         any_passes_from_place (is_taken net g.request.size node slot) g.placement.hops g.placement.own hop e t
 
--- no grant uses a slot that is not there
-none_uses : (net : List NodeDecl) (book : List Grant) (node slot : ℕ) →
+-- no grant passes a test that only those that use a slot pass, where the slot is not there
+none_passes : (net : List NodeDecl) (book : List Grant) (node slot : ℕ) (test : Grant → Bool) →
+    ((g : Grant) → test g ≡ true → uses_slot net node slot g ≡ true) →
     ((g : Grant) → Member g book → IsGrant net g) → has_slot_by (unit_at net node) slot ≡ false →
-    list_any (uses_slot net node slot) book ≡ false
-none_uses net book node slot each past = go (list_any (uses_slot net node slot) book) refl
+    list_any test book ≡ false
+none_passes net book node slot test users each past = go (list_any test book) refl
   where
-    go : (b : Bool) → list_any (uses_slot net node slot) book ≡ b → b ≡ false
+    go : (b : Bool) → list_any test book ≡ b → b ≡ false
     go false e = refl
     go true e =
-        let found = any_member (uses_slot net node slot) book e in
-        absurd (true≢false (sym (uses_there net node slot found.0 (each found.0 found.1) found.2) ∙ past))
-
--- and none owns it
-none_owns : (net : List NodeDecl) (book : List Grant) (node slot : ℕ) →
-    ((g : Grant) → Member g book → IsGrant net g) → has_slot_by (unit_at net node) slot ≡ false →
-    list_any (owns_slot net node slot) book ≡ false
-none_owns net book node slot each past = go (list_any (owns_slot net node slot) book) refl
-  where
-    go : (b : Bool) → list_any (owns_slot net node slot) book ≡ b → b ≡ false
-    go false e = refl
-    go true e =
-        let found = any_member (owns_slot net node slot) book e in
-        let uses = owns_uses net node slot found.0 found.2 in
+        let found = any_member test book e in
+        let uses = users found.0 found.2 in
         absurd (true≢false (sym (uses_there net node slot found.0 (each found.0 found.1) uses) ∙ past))
 
 -- an owner is there exactly where some grant owns the slot
@@ -314,7 +303,7 @@ module _ (net : List NodeDecl) (kinds : List Meaning) (book : List Grant) (set :
           is_free_in set node slot ≡ not (list_any (uses_slot net node slot) book)
       go false e =
           let past = past_slot set node slot is e in
-          let none = none_uses net book node slot kept.sound.grants (absent node slot e) in
+          let none = none_passes net book node slot (uses_slot net node slot) (λ g t. t) kept.sound.grants (absent node slot e) in
           ap (λ u. (u.uses == 0) && is_zero_slot set node slot) past.lone
           ∙ past.zero ∙ sym (ap not none)
       go true e = by (list_any (uses_slot net node slot) book) refl
@@ -341,7 +330,7 @@ module _ (net : List NodeDecl) (kinds : List Meaning) (book : List Grant) (set :
           has_owner_in set node slot ≡ list_any (owns_slot net node slot) book
       go false e =
           ap (λ u. is_some u.owner) (past_slot set node slot is e).lone
-          ∙ sym (none_owns net book node slot kept.sound.grants (absent node slot e))
+          ∙ sym (none_passes net book node slot (owns_slot net node slot) (owns_uses net node slot) kept.sound.grants (absent node slot e))
       go true e =
           ap (λ (u : SlotUse). is_some u.owner) (kept.uses node slot e) ∙ owner_there net book node slot
 

@@ -1,16 +1,17 @@
 -- The list of the names that a book owes.
-use Rattle.std.proofs.Common.{◌≡◌, ℕ, ◌+◌, ◌-◌, ◌<◌, ◌≤◌, ◌⊎◌, inl, inr, ◌↔◌, Bool, true, false, if◌then◌else◌, ◌&&◌, nat_eq, nat_le, nat_lt, List, [], ◌∷◌, ◌++◌, IsTrue, refl, sym, ap, ◌∙◌, subst, arith, eqb-true, eq-eqb, leb-true, ltb-true}
+use Rattle.std.proofs.Common.{◌≡◌, ℕ, ◌+◌, ◌-◌, ◌<◌, ◌≤◌, inl, inr, ◌↔◌, Bool, true, false, if◌then◌else◌, ◌&&◌, nat_eq, nat_le, nat_lt, List, [], ◌∷◌, ◌++◌, IsTrue, refl, sym, ap, ◌∙◌, subst, arith, eqb-true, eq-eqb, leb-true, ltb-true}
 use Rattle.dn_base.proofs.Booleans.{and_from, and_parts}
 use Rattle.dn_base.proofs.Members.{member_cases, member_left, member_right}
 use Rattle.dn_base.proofs.Orders.{le-leb, lt-ltb}
 use Rattle.dn_net.specs.declared.node.Name.{Name}
 use Rattle.dn_net.specs.Chain.{Member}
 use Rattle.dn_net.specs.Decode.{is_accepted, step_limit, steps}
-use Rattle.dn_net.specs.Names.{is_ascending, is_before_first, name_lt, resolved_names}
-use Rattle.dn_net.proofs.Ascending.{before_members, end_names_ascend, itself, sorted_ascending, turned}
+use Rattle.dn_net.specs.Names.{resolved_names}
+use Rattle.dn_net.proofs.Ascending.{end_names_ascend, sorted_ascending}
 use Rattle.dn_net.proofs.Resolution.{end_names_are_ends, names_in}
 use Rattle.dn_kind.specs.declared.rights.Access.{Access}
 use Rattle.dn_kind.specs.Rights.{allows}
+use Rattle.dn_kind.proofs.Sets.{ascending_same}
 use Rattle.dn_kind.specs.Tables.{allowing, resolved_names_under, step_limit_under, steps_under}
 use Rattle.dn_placement.specs.Exposure.{Adds}
 use Rattle.dn_placement.specs.Placement.{name_on}
@@ -86,32 +87,6 @@ owed_names_are_owed net book access x y = (
     | inr b ↦ member_right (resolved_names net x) (granted_names book access x) y ((by_grants book access x y).1 b)
   ])),
 )
-
--- ASCENDING LISTS WITH THE SAME NAMES ARE ONE
-
-not_itself : (x z : Name) → x ≡ z → name_lt x z ≡ true → ⊥
-not_itself x z e l = let f : name_lt x x ≡ true = subst (λ w. name_lt x w ≡ true) (sym e) l in let g : false ≡ true = sym (itself x) ∙ f in cc
-
-not_turned : (x y : Name) → name_lt x y ≡ true → name_lt y x ≡ true → ⊥
-not_turned x y l m = let g : false ≡ true = sym (turned x y l) ∙ m in cc
-
-same_first : (x y : Name) (xs ys : List Name) → is_ascending (x ∷ xs) ≡ true → is_ascending (y ∷ ys) ≡ true → (y ≡ x) ⊎ Member x ys → (x ≡ y) ⊎ Member y xs → x ≡ y
-same_first x y xs ys up down (inl e) n = sym e
-same_first x y xs ys up down (inr m) (inl e) = e
-same_first x y xs ys up down (inr m) (inr n) = absurd (not_turned x y (before_members x y xs up n) (before_members y x ys down m))
-
-rest_in : (x y z : Name) (xs ys : List Name) → x ≡ y → is_ascending (x ∷ xs) ≡ true → Member z xs → (y ≡ z) ⊎ Member z ys → Member z ys
-rest_in x y z xs ys e up m (inl f) = absurd (not_itself x z (e ∙ f) (before_members x z xs up m))
-rest_in x y z xs ys e up m (inr n) = n
-
-ascending_same : (xs ys : List Name) → is_ascending xs ≡ true → is_ascending ys ≡ true → ((z : Name) → Member z xs ↔ Member z ys) → xs ≡ ys
-ascending_same [] [] up down s = refl
-ascending_same [] (y ∷ ys) up down s = absurd ((s y).1 (inl refl))
-ascending_same (x ∷ xs) [] up down s = absurd ((s x).0 (inl refl))
-ascending_same (x ∷ xs) (y ∷ ys) up down s =
-    let e : x ≡ y = same_first x y xs ys up down ((s x).0 (inl refl)) ((s y).1 (inl refl)) in
-    let rest : xs ≡ ys = ascending_same xs ys (and_parts (is_before_first x xs) (is_ascending xs) up).1 (and_parts (is_before_first y ys) (is_ascending ys) down).1 (λ z. ((λ m. rest_in x y z xs ys e up m ((s z).0 (inr m))), (λ m. rest_in y x z ys xs (sym e) down m ((s z).1 (inr m))))) in
-    ap (λ w. w ∷ xs) e ∙ ap (λ l. y ∷ l) rest
 
 pub owed_names_are_resolved : OwedNamesAreResolved
 owed_names_are_resolved net book faithful access x agent =

@@ -279,6 +279,15 @@ width_is net kinds set f node u k t at e =
     let c : IsTrue (is_wide (Some k.kind) t.width) = subst (λ o. IsTrue (is_wide o t.width)) k.at b in
     sym (eqb-true k.kind.words t.width c)
 
+-- the words of a unit's table are those of its slots, one behind the other
+words_are : (net : List NodeDecl) (kinds : List Meaning) (h : Held) (set : List NodeTable) → Holds net kinds h set → (node : ℕ) (u : UnitPart) (kind : IsKind net kinds u) (t : NodeTable) → unit_at net node ≡ Some u → slice_get set node ≡ Some t → t.words ≡ packed_slots kind.kind u (h node) 0 u.slots
+words_are net kinds h set s node u kind t e at =
+    let z : 0 + node ≡ node = omega arith in
+    node_words kinds h 0 node net set t s.words at
+    ∙ ap (λ n. packed_node kinds (unit_at net node) (h n)) z
+    ∙ ap (λ o. packed_node kinds o (h node)) e
+    ∙ unit_words net kinds h u kind (h node)
+
 -- a slot with no record is empty
 pub empty_there : (net : List NodeDecl) (kinds : List Meaning) → AreKinds net kinds → (h : Held) (set : List NodeTable) → Holds net kinds h set → (node slot : ℕ) (u : UnitPart) → unit_at net node ≡ Some u → slot < u.slots → h node slot ≡ None → IsEmpty set node slot
 empty_there net kinds k h set s node slot u e l none =
@@ -286,9 +295,8 @@ empty_there net kinds k h set s node slot u e l none =
     let there = table_of_unit set node u (unit_fits net kinds set s.fits node ∙ e) in
     let t : NodeTable = there.0 in
     let w : t.width ≡ kind.kind.words = width_is net kinds set s.fits node u kind t there.1 there.2 in
-    let z : 0 + node ≡ node = omega arith in
     let y : 0 + slot ≡ slot = omega arith in
-    let words : t.words ≡ packed_slots kind.kind u (h node) 0 u.slots = node_words kinds h 0 node net set t s.words there.1 ∙ ap (λ n. packed_node kinds (unit_at net node) (h n)) z ∙ ap (λ o. packed_node kinds o (h node)) e ∙ unit_words net kinds h u kind (h node) in
+    let words : t.words ≡ packed_slots kind.kind u (h node) 0 u.slots = words_are net kinds h set s node u kind t e there.1 in
     ap (λ o. slot_words (width_of_table o) (words_of_table o) slot) there.1
     ∙ ap (λ n. slot_words n t.words slot) w
     ∙ ap (λ ws. slot_words kind.kind.words ws slot) words
@@ -306,7 +314,7 @@ slot_holds net kinds k h h' set s node slot u kind e l vs is wide held' same =
     let w : t.width ≡ kind.kind.words = width_is net kinds set s.fits node u kind t there.1 there.2 in
     let z : 0 + node ≡ node = omega arith in
     let y : 0 + slot ≡ slot = omega arith in
-    let words : t.words ≡ packed_slots kind.kind u (h node) 0 u.slots = node_words kinds h 0 node net set t s.words there.1 ∙ ap (λ n. packed_node kinds (unit_at net node) (h n)) z ∙ ap (λ o. packed_node kinds o (h node)) e ∙ unit_words net kinds h u kind (h node) in
+    let words : t.words ≡ packed_slots kind.kind u (h node) 0 u.slots = words_are net kinds h set s node u kind t e there.1 in
     let changed : put_over t.words (slot * t.width) vs ≡ packed_node kinds (unit_at net node) (h' (0 + node)) =
     ap (λ n. put_over t.words (slot * n) vs) w
     ∙ ap (λ ws. put_over ws (slot * kind.kind.words) vs) words

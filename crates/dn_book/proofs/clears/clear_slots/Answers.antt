@@ -5,7 +5,7 @@ use Rattle.dn_kind.specs.Rights.{both_rights}
 use Rattle.dn_placement.specs.Records.{first_slot, last_slot, slot_record}
 use Rattle.dn_tables.specs.Set.{unit_in}
 use Rattle.dn_book.proofs.Frames.{SameFrame}
-use Rattle.dn_book.proofs.Hops.{first_before}
+use Rattle.dn_book.proofs.Hops.{behind_last}
 use Rattle.dn_book.proofs.Parts.{clear_begin, clear_end, clear_next, clear_stopped, cleared_frame}
 use Rattle.dn_book.proofs.Ranges.{rest_of_hop, slot_there, so_far, so_far_all, so_far_more, so_far_none}
 use Rattle.dn_book.proofs.clears.clear_slots.Goals as goal
@@ -48,11 +48,4 @@ loop-slot-preserved g c =
 
 pub returns-clause-cleared : goal.returns-clause-cleared
 returns-clause-cleared g c r =
-    let last : c.loop-slot.slot ≡ suc (last_slot c.args.unit.now c.args.size c.args.hop.now) =
-    let a = c.loop-slot.auto.slot-end in
-    let b = c.loop-slot-test.false in
-    let v = c.end_slot-slot-end.ensures.value in
-    let f = c.first_slot-slot.ensures.value in
-    let o = first_before c.args.unit.now c.args.size c.args.hop.now c.requires.there in
-    omega arith in
-    clear_end _ _ _ _ _ _ (so_far_all c.args.unit.now c.args.size r c.args.hop.now c.loop-slot.slot last) (c.loop-slot.invariant.cleared r)
+    clear_end _ _ _ _ _ _ (so_far_all c.args.unit.now c.args.size r c.args.hop.now c.loop-slot.slot (behind_last c.args.unit.now c.args.size c.args.hop.now c.first_slot-slot.result c.end_slot-slot-end.result c.loop-slot.slot c.requires.there c.first_slot-slot.ensures.value c.end_slot-slot-end.ensures.value c.loop-slot.auto.slot-end c.loop-slot-test.false)) (c.loop-slot.invariant.cleared r)

@@ -7,12 +7,12 @@ use Rattle.dn_tables.proofs.Slots.{all_of_map}
 use Rattle.dn_placement.specs.Records.{first_slot, last_slot}
 use Rattle.dn_book.specs.Sets.{AreOpen, ArePut, put_at}
 use Rattle.dn_book.proofs.Parts.{put_begin, put_end, put_next, put_stopped}
-use Rattle.dn_book.proofs.Hops.{first_before}
+use Rattle.dn_book.proofs.Hops.{behind_last}
 use Rattle.dn_book.proofs.Ranges.{HopPuts, IsTurn, hop_turn, rest_of_hop, so_far, so_far_all, so_far_more, so_far_none}
 use Rattle.dn_book.proofs.puts.put_slots.Goals as goal
 
-pub put_slot-requires-clause-fits : goal.put_slot-requires-clause-fits
-put_slot-requires-clause-fits g c =
+pub put_slot-requires : goal.put_slot-requires
+put_slot-requires g c =
     let kinds : List Meaning = map (λ k. (goal.UnitKind-dyn g (k.vtable, k.value)).meaning k.value) c.args.kinds.now.list.items in
     let hop : HopPuts kinds c.args.tables.now c.args.unit.now c.args.size c.args.rights c.args.hop.now = record {
       lawful = all_of_map (λ k. (goal.UnitKind-dyn g (k.vtable, k.value)).meaning k.value) c.args.kinds.now.list.items c.requires.lawful;
@@ -27,61 +27,14 @@ put_slot-requires-clause-fits g c =
     let low : first_slot c.args.unit.now c.args.hop.now ≤ c.loop-slot.slot = let a = c.loop-slot.auto.slot in let v = c.first_slot-slot.ensures.value in omega arith in
     let high : c.loop-slot.slot < suc (last_slot c.args.unit.now c.args.size c.args.hop.now) = let a = c.loop-slot-test.true in let v = c.end_slot-slot-end.ensures.value in omega arith in
     let turn : IsTurn kinds c.loop-slot.tables _ = hop_turn kinds c.args.tables.now c.loop-slot.tables c.args.unit.now c.args.size c.args.rights c.args.hop.now c.loop-slot.slot _ _ hop low high c.loop-slot.invariant.put in
-    turn.fits
-
-pub put_slot-requires-clause-there : goal.put_slot-requires-clause-there
-put_slot-requires-clause-there g c =
-    let kinds : List Meaning = map (λ k. (goal.UnitKind-dyn g (k.vtable, k.value)).meaning k.value) c.args.kinds.now.list.items in
-    let hop : HopPuts kinds c.args.tables.now c.args.unit.now c.args.size c.args.rights c.args.hop.now = record {
-      lawful = all_of_map (λ k. (goal.UnitKind-dyn g (k.vtable, k.value)).meaning k.value) c.args.kinds.now.list.items c.requires.lawful;
-      is_set = c.facts.ensures;
-      fits = c.requires.fits;
-      at = c.requires.is_unit;
-      shaped = c.requires.shaped;
-      fit = c.requires.there;
-      rights = c.requires.rights;
-      opened = c.requires.open;
-    } in
-    let low : first_slot c.args.unit.now c.args.hop.now ≤ c.loop-slot.slot = let a = c.loop-slot.auto.slot in let v = c.first_slot-slot.ensures.value in omega arith in
-    let high : c.loop-slot.slot < suc (last_slot c.args.unit.now c.args.size c.args.hop.now) = let a = c.loop-slot-test.true in let v = c.end_slot-slot-end.ensures.value in omega arith in
-    let turn : IsTurn kinds c.loop-slot.tables _ = hop_turn kinds c.args.tables.now c.loop-slot.tables c.args.unit.now c.args.size c.args.rights c.args.hop.now c.loop-slot.slot _ _ hop low high c.loop-slot.invariant.put in
-    turn.there
-
-pub put_slot-requires-clause-packable : goal.put_slot-requires-clause-packable
-put_slot-requires-clause-packable g c =
-    let kinds : List Meaning = map (λ k. (goal.UnitKind-dyn g (k.vtable, k.value)).meaning k.value) c.args.kinds.now.list.items in
-    let hop : HopPuts kinds c.args.tables.now c.args.unit.now c.args.size c.args.rights c.args.hop.now = record {
-      lawful = all_of_map (λ k. (goal.UnitKind-dyn g (k.vtable, k.value)).meaning k.value) c.args.kinds.now.list.items c.requires.lawful;
-      is_set = c.facts.ensures;
-      fits = c.requires.fits;
-      at = c.requires.is_unit;
-      shaped = c.requires.shaped;
-      fit = c.requires.there;
-      rights = c.requires.rights;
-      opened = c.requires.open;
-    } in
-    let low : first_slot c.args.unit.now c.args.hop.now ≤ c.loop-slot.slot = let a = c.loop-slot.auto.slot in let v = c.first_slot-slot.ensures.value in omega arith in
-    let high : c.loop-slot.slot < suc (last_slot c.args.unit.now c.args.size c.args.hop.now) = let a = c.loop-slot-test.true in let v = c.end_slot-slot-end.ensures.value in omega arith in
-    let turn : IsTurn kinds c.loop-slot.tables _ = hop_turn kinds c.args.tables.now c.loop-slot.tables c.args.unit.now c.args.size c.args.rights c.args.hop.now c.loop-slot.slot _ _ hop low high c.loop-slot.invariant.put in
-    subst (IsPackableIn kinds c.loop-slot.tables c.args.hop.now.unit) (sym c.slot_record-holds.ensures) turn.packable
-
-pub put_slot-requires-clause-open : goal.put_slot-requires-clause-open
-put_slot-requires-clause-open g c =
-    let kinds : List Meaning = map (λ k. (goal.UnitKind-dyn g (k.vtable, k.value)).meaning k.value) c.args.kinds.now.list.items in
-    let hop : HopPuts kinds c.args.tables.now c.args.unit.now c.args.size c.args.rights c.args.hop.now = record {
-      lawful = all_of_map (λ k. (goal.UnitKind-dyn g (k.vtable, k.value)).meaning k.value) c.args.kinds.now.list.items c.requires.lawful;
-      is_set = c.facts.ensures;
-      fits = c.requires.fits;
-      at = c.requires.is_unit;
-      shaped = c.requires.shaped;
-      fit = c.requires.there;
-      rights = c.requires.rights;
-      opened = c.requires.open;
-    } in
-    let low : first_slot c.args.unit.now c.args.hop.now ≤ c.loop-slot.slot = let a = c.loop-slot.auto.slot in let v = c.first_slot-slot.ensures.value in omega arith in
-    let high : c.loop-slot.slot < suc (last_slot c.args.unit.now c.args.size c.args.hop.now) = let a = c.loop-slot-test.true in let v = c.end_slot-slot-end.ensures.value in omega arith in
-    let turn : IsTurn kinds c.loop-slot.tables _ = hop_turn kinds c.args.tables.now c.loop-slot.tables c.args.unit.now c.args.size c.args.rights c.args.hop.now c.loop-slot.slot _ _ hop low high c.loop-slot.invariant.put in
-    subst (λ r. AreOpen c.loop-slot.tables (put_at c.args.hop.now.unit c.loop-slot.slot r ∷ [])) (sym c.slot_record-holds.ensures) turn.opened
+    record {
+      lawful = c.requires.lawful;
+      fits = turn.fits;
+      on_device = c.loop-slot.invariant.on_device;
+      there = turn.there;
+      «open» = subst (λ r. AreOpen c.loop-slot.tables (put_at c.args.hop.now.unit c.loop-slot.slot r ∷ [])) (sym c.slot_record-holds.ensures) turn.opened;
+      packable = subst (IsPackableIn kinds c.loop-slot.tables c.args.hop.now.unit) (sym c.slot_record-holds.ensures) turn.packable;
+    }
 
 pub returns-in_err-put_slot-clause-put : goal.returns-in_err-put_slot-clause-put
 returns-in_err-put_slot-clause-put g c =
@@ -108,14 +61,7 @@ loop-slot-preserved g c =
 pub returns-clause-put : goal.returns-clause-put
 returns-clause-put g c =
     let kinds : List Meaning = map (λ k. (goal.UnitKind-dyn g (k.vtable, k.value)).meaning k.value) c.args.kinds.now.list.items in
-    let last : c.loop-slot.slot ≡ suc (last_slot c.args.unit.now c.args.size c.args.hop.now) =
-    let a = c.loop-slot.auto.slot-end in
-    let b = c.loop-slot-test.false in
-    let v = c.end_slot-slot-end.ensures.value in
-    let f = c.first_slot-slot.ensures.value in
-    let o = first_before c.args.unit.now c.args.size c.args.hop.now c.requires.there in
-    omega arith in
-    put_end kinds _ _ _ _ _ _ (so_far_all c.args.unit.now c.args.size c.args.rights c.args.hop.now c.loop-slot.slot last) c.loop-slot.invariant.put
+    put_end kinds _ _ _ _ _ _ (so_far_all c.args.unit.now c.args.size c.args.rights c.args.hop.now c.loop-slot.slot (behind_last c.args.unit.now c.args.size c.args.hop.now c.first_slot-slot.result c.end_slot-slot-end.result c.loop-slot.slot c.requires.there c.first_slot-slot.ensures.value c.end_slot-slot-end.ensures.value c.loop-slot.auto.slot-end c.loop-slot-test.false)) c.loop-slot.invariant.put
 
 pub loop-slot-init : goal.loop-slot-init
 loop-slot-init g c =

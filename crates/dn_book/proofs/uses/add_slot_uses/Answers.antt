@@ -4,7 +4,7 @@ use Rattle.dn_placement.specs.Records.{first_slot, last_slot, slot_record}
 use Rattle.dn_tables.specs.declared.table.SlotUse.{SlotUse}
 use Rattle.dn_book.specs.Sets.{one_more, put_at}
 use Rattle.dn_book.proofs.Changes.{IsUseTurn, changed_none, changed_one, changed_whole, changed_slot, use_turn}
-use Rattle.dn_book.proofs.Hops.{first_before}
+use Rattle.dn_book.proofs.Hops.{behind_last}
 use Rattle.dn_book.proofs.Ranges.{so_far_none}
 use Rattle.dn_book.proofs.uses.add_slot_uses.Goals as goal
 
@@ -49,11 +49,4 @@ loop-slot-preserved c =
 
 pub returns : goal.returns
 returns c =
-    let last : c.loop-slot.slot ≡ suc (last_slot c.args.unit.now c.args.size c.args.hop.now) =
-    let a = c.loop-slot.auto.slot-end in
-    let b = c.loop-slot-test.false in
-    let v = c.end_slot-slot-end.ensures.value in
-    let f = c.first_slot-slot.ensures.value in
-    let o = first_before c.args.unit.now c.args.size c.args.hop.now c.requires.there in
-    omega arith in
-    changed_whole (one_more c.args.owner) c.args.tables.now c.loop-slot.tables c.args.unit.now c.args.size c.args.hop.now c.loop-slot.slot last c.loop-slot.invariant
+    changed_whole (one_more c.args.owner) c.args.tables.now c.loop-slot.tables c.args.unit.now c.args.size c.args.hop.now c.loop-slot.slot (behind_last c.args.unit.now c.args.size c.args.hop.now c.first_slot-slot.result c.end_slot-slot-end.result c.loop-slot.slot c.requires.there c.first_slot-slot.ensures.value c.end_slot-slot-end.ensures.value c.loop-slot.auto.slot-end c.loop-slot-test.false) c.loop-slot.invariant

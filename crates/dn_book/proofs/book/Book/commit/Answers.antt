@@ -1,4 +1,4 @@
-use Rattle.std.proofs.Common.{◌≡◌, ◌∙◌, ◌++◌, ◌∷◌, [], sym, ap, subst, rules, option_copied, filter, map, reverse, List, None, true, false, is_err, IsTrue}
+use Rattle.std.proofs.Common.{◌≡◌, ◌∙◌, ◌++◌, ◌∷◌, [], sym, ap, subst, rules, option_copied, filter, map, reverse, List, None, Bool, true, false, is_err, IsTrue}
 use Rattle.std.specs.List.{flat_map}
 use Rattle.dn_kind.specs.Kind.{Meaning}
 use Rattle.dn_kind.specs.Rights.{are_rights}
@@ -14,116 +14,67 @@ use Rattle.dn_book.proofs.Commit.{Coming, coming_fit, coming_log, coming_open, c
 use Rattle.dn_book.proofs.Facts.{ok_by_err}
 use Rattle.dn_book.proofs.Serials.{AreApart, is_behind, some_behind, taken_back}
 use Rattle.dn_book.proofs.Sound.{granted_sound}
+use Rattle.dn_book.proofs.book.Book.commit.Given.{Over}
+use Rattle.dn_book.proofs.book.Book.commit.Goals.{In-Some, After-write_grant}
 use Rattle.dn_book.proofs.book.Book.commit.Goals as goal
 
-pub write_grant-requires-clause-hops : goal.write_grant-requires-clause-hops
-write_grant-requires-clause-hops g c =
+-- the grant that was found is the one that came in
+same_grant : (g : Over) (c : In-Some g) → c.in-Some.live.now ≡ c.args.grant
+same_grant g c =
     let new : has_id c.args.grant.id c.self.inside.grants ≡ false = ap (λ (b : BookState). has_id c.args.grant.id b.grants) c.self.view_is ∙ c.requires.placed.new in
-    let pushed : c.push.new.self ≡ c.self.inside.grants ++ c.args.grant ∷ [] = c.in_ok-push.ensures.pushed in
-    let same : c.in-Some.live.now ≡ c.args.grant = is_behind c.self.inside.grants c.push.new.self c.args.grant c.in-Some.live.now new pushed (sym (ap option_copied c.in-Some.is) ∙ c.get.ensures) in
+    is_behind c.self.inside.grants c.push.new.self c.args.grant c.in-Some.live.now new c.in_ok-push.ensures.pushed (sym (ap option_copied c.in-Some.is) ∙ c.get.ensures)
+
+-- what is known of it
+coming : (g : Over) (c : In-Some g) → Coming c.args.net.now (map (λ k. (goal.UnitKind-dyn g (k.vtable, k.value)).meaning k.value) c.args.kinds.now.list.items) c.self.inside.grants c.in-Some.live.now c.self.inside.tables
+coming g c = record {
+  lawful = all_of_map (λ k. (goal.UnitKind-dyn g (k.vtable, k.value)).meaning k.value) c.args.kinds.now.list.items c.requires.lawful;
+  legal = c.requires.legal;
+  kept = subst (λ (b : BookState). IsKept c.args.net.now (map (λ k. (goal.UnitKind-dyn g (k.vtable, k.value)).meaning k.value) c.args.kinds.now.list.items) b.grants b.set) (sym c.self.view_is) c.requires.kept;
+  placed = subst (λ (w : Grant). IsGrantFor c.args.net.now c.self.inside.grants w) (sym (same_grant g c)) (subst (λ (b : BookState). IsGrantFor c.args.net.now b.grants c.args.grant) (sym c.self.view_is) c.requires.placed);
+}
+
+-- the set once its records were put
+made : (g : Over) (c : After-write_grant g) → is_err c.write_grant.result ≡ false → c.write_grant.new.tables ≡ after_puts (map (λ k. (goal.UnitKind-dyn g (k.vtable, k.value)).meaning k.value) c.args.kinds.now.list.items) c.self.inside.tables (filter (is_used_by 0 c.self.inside.tables) (joined_slots (reverse (grant_slots c.args.net.now c.in-Some.live.now))))
+made g c was = ok_by_err c.write_grant.result _ c.write_grant.ensures.done was
+
+-- what the device was told, whether a write failed or none did
+told : (g : Over) (c : After-write_grant g) (failed : Bool) → c.in-Some.live.now ≡ c.args.grant → Coming c.args.net.now (map (λ k. (goal.UnitKind-dyn g (k.vtable, k.value)).meaning k.value) c.args.kinds.now.list.items) c.self.inside.grants c.in-Some.live.now c.self.inside.tables → is_err c.write_grant.result ≡ failed → AreAdded (grant_events c.args.net.now (map (λ k. (goal.UnitKind-dyn g (k.vtable, k.value)).meaning k.value) c.args.kinds.now.list.items) c.args.self.now.grants c.args.self.now.cleared c.args.grant) failed (g.D.Tables.log c.args.device.now) (g.D.Tables.log c.write_grant.new.device)
+told g c failed same comes was =
     let kinds : List Meaning = map (λ k. (goal.UnitKind-dyn g (k.vtable, k.value)).meaning k.value) c.args.kinds.now.list.items in
-    let coming : Coming c.args.net.now kinds c.self.inside.grants c.in-Some.live.now c.self.inside.tables = record {
-      lawful = all_of_map (λ k. (goal.UnitKind-dyn g (k.vtable, k.value)).meaning k.value) c.args.kinds.now.list.items c.requires.lawful;
-      legal = c.requires.legal;
-      kept = subst (λ (b : BookState). IsKept c.args.net.now kinds b.grants b.set) (sym c.self.view_is) c.requires.kept;
-      placed = subst (λ (w : Grant). IsGrantFor c.args.net.now c.self.inside.grants w) (sym same) (subst (λ (b : BookState). IsGrantFor c.args.net.now b.grants c.args.grant) (sym c.self.view_is) c.requires.placed);
-    } in
-    coming_fit c.args.net.now kinds c.self.inside.grants c.in-Some.live.now c.self.inside.tables coming
+    let log : AreAdded (fence_events c.self.inside.cleared ++ flat_map (put_events c.args.net.now kinds) (puts_of c.args.net.now c.self.inside.grants c.in-Some.live.now)) failed (g.D.Tables.log c.args.device.now) (g.D.Tables.log c.write_grant.new.device) =
+    subst (λ es. AreAdded (fence_events c.self.inside.cleared ++ es) failed (g.D.Tables.log c.args.device.now) (g.D.Tables.log c.write_grant.new.device)) (coming_log c.args.net.now kinds c.self.inside.grants c.in-Some.live.now c.self.inside.tables comes) (subst (λ f. AreAdded (fence_events c.self.inside.cleared ++ put_log kinds c.self.inside.tables (filter (is_used_by 0 c.self.inside.tables) (joined_slots (reverse (grant_slots c.args.net.now c.in-Some.live.now))))) f (g.D.Tables.log c.args.device.now) (g.D.Tables.log c.write_grant.new.device)) was c.write_grant.ensures.added) in
+    subst (λ (b : BookState). AreAdded (grant_events c.args.net.now kinds b.grants b.cleared c.args.grant) failed (g.D.Tables.log c.args.device.now) (g.D.Tables.log c.write_grant.new.device)) c.self.view_is (subst (λ (w : Grant). AreAdded (grant_events c.args.net.now kinds c.self.inside.grants c.self.inside.cleared w) failed (g.D.Tables.log c.args.device.now) (g.D.Tables.log c.write_grant.new.device)) same log)
+
+pub write_grant-requires-clause-hops : goal.write_grant-requires-clause-hops
+write_grant-requires-clause-hops g c = coming_fit _ _ _ _ _ (coming g (goal.at.write_grant-requires-clause-hops g c).In-Some)
 
 pub write_grant-requires-clause-open : goal.write_grant-requires-clause-open
-write_grant-requires-clause-open g c =
-    let new : has_id c.args.grant.id c.self.inside.grants ≡ false = ap (λ (b : BookState). has_id c.args.grant.id b.grants) c.self.view_is ∙ c.requires.placed.new in
-    let pushed : c.push.new.self ≡ c.self.inside.grants ++ c.args.grant ∷ [] = c.in_ok-push.ensures.pushed in
-    let same : c.in-Some.live.now ≡ c.args.grant = is_behind c.self.inside.grants c.push.new.self c.args.grant c.in-Some.live.now new pushed (sym (ap option_copied c.in-Some.is) ∙ c.get.ensures) in
-    let kinds : List Meaning = map (λ k. (goal.UnitKind-dyn g (k.vtable, k.value)).meaning k.value) c.args.kinds.now.list.items in
-    let coming : Coming c.args.net.now kinds c.self.inside.grants c.in-Some.live.now c.self.inside.tables = record {
-      lawful = all_of_map (λ k. (goal.UnitKind-dyn g (k.vtable, k.value)).meaning k.value) c.args.kinds.now.list.items c.requires.lawful;
-      legal = c.requires.legal;
-      kept = subst (λ (b : BookState). IsKept c.args.net.now kinds b.grants b.set) (sym c.self.view_is) c.requires.kept;
-      placed = subst (λ (w : Grant). IsGrantFor c.args.net.now c.self.inside.grants w) (sym same) (subst (λ (b : BookState). IsGrantFor c.args.net.now b.grants c.args.grant) (sym c.self.view_is) c.requires.placed);
-    } in
-    coming_open c.args.net.now kinds c.self.inside.grants c.in-Some.live.now c.self.inside.tables coming
+write_grant-requires-clause-open g c = coming_open _ _ _ _ _ (coming g (goal.at.write_grant-requires-clause-open g c).In-Some)
 
 pub returns-then-is_err-clause-added : goal.returns-then-is_err-clause-added
 returns-then-is_err-clause-added g c other =
-    let new : has_id c.args.grant.id c.self.inside.grants ≡ false = ap (λ (b : BookState). has_id c.args.grant.id b.grants) c.self.view_is ∙ c.requires.placed.new in
-    let pushed : c.push.new.self ≡ c.self.inside.grants ++ c.args.grant ∷ [] = c.in_ok-push.ensures.pushed in
-    let same : c.in-Some.live.now ≡ c.args.grant = is_behind c.self.inside.grants c.push.new.self c.args.grant c.in-Some.live.now new pushed (sym (ap option_copied c.in-Some.is) ∙ c.get.ensures) in
-    let kinds : List Meaning = map (λ k. (goal.UnitKind-dyn g (k.vtable, k.value)).meaning k.value) c.args.kinds.now.list.items in
-    let coming : Coming c.args.net.now kinds c.self.inside.grants c.in-Some.live.now c.self.inside.tables = record {
-      lawful = all_of_map (λ k. (goal.UnitKind-dyn g (k.vtable, k.value)).meaning k.value) c.args.kinds.now.list.items c.requires.lawful;
-      legal = c.requires.legal;
-      kept = subst (λ (b : BookState). IsKept c.args.net.now kinds b.grants b.set) (sym c.self.view_is) c.requires.kept;
-      placed = subst (λ (w : Grant). IsGrantFor c.args.net.now c.self.inside.grants w) (sym same) (subst (λ (b : BookState). IsGrantFor c.args.net.now b.grants c.args.grant) (sym c.self.view_is) c.requires.placed);
-    } in
     let was : is_err c.write_grant.result ≡ true = search rules in
-    let log : AreAdded (fence_events c.self.inside.cleared ++ flat_map (put_events c.args.net.now kinds) (puts_of c.args.net.now c.self.inside.grants c.in-Some.live.now)) true (g.D.Tables.log c.args.device.now) (g.D.Tables.log c.write_grant.new.device) =
-    subst (λ es. AreAdded (fence_events c.self.inside.cleared ++ es) true (g.D.Tables.log c.args.device.now) (g.D.Tables.log c.write_grant.new.device)) (coming_log c.args.net.now kinds c.self.inside.grants c.in-Some.live.now c.self.inside.tables coming) (subst (λ f. AreAdded (fence_events c.self.inside.cleared ++ put_log kinds c.self.inside.tables (filter (is_used_by 0 c.self.inside.tables) (joined_slots (reverse (grant_slots c.args.net.now c.in-Some.live.now))))) f (g.D.Tables.log c.args.device.now) (g.D.Tables.log c.write_grant.new.device)) was c.write_grant.ensures.added) in
-    subst (λ (b : BookState). AreAdded (grant_events c.args.net.now kinds b.grants b.cleared c.args.grant) true (g.D.Tables.log c.args.device.now) (g.D.Tables.log c.write_grant.new.device)) c.self.view_is (subst (λ (w : Grant). AreAdded (grant_events c.args.net.now kinds c.self.inside.grants c.self.inside.cleared w) true (g.D.Tables.log c.args.device.now) (g.D.Tables.log c.write_grant.new.device)) same log)
+    told g (goal.at.returns-then-is_err-clause-added g c).After-write_grant true (same_grant g (goal.at.returns-then-is_err-clause-added g c).In-Some) (coming g (goal.at.returns-then-is_err-clause-added g c).In-Some) was
 
 pub add_uses-requires-clause-hops : goal.add_uses-requires-clause-hops
-add_uses-requires-clause-hops g c =
-    let new : has_id c.args.grant.id c.self.inside.grants ≡ false = ap (λ (b : BookState). has_id c.args.grant.id b.grants) c.self.view_is ∙ c.requires.placed.new in
-    let pushed : c.push.new.self ≡ c.self.inside.grants ++ c.args.grant ∷ [] = c.in_ok-push.ensures.pushed in
-    let same : c.in-Some.live.now ≡ c.args.grant = is_behind c.self.inside.grants c.push.new.self c.args.grant c.in-Some.live.now new pushed (sym (ap option_copied c.in-Some.is) ∙ c.get.ensures) in
-    let kinds : List Meaning = map (λ k. (goal.UnitKind-dyn g (k.vtable, k.value)).meaning k.value) c.args.kinds.now.list.items in
-    let coming : Coming c.args.net.now kinds c.self.inside.grants c.in-Some.live.now c.self.inside.tables = record {
-      lawful = all_of_map (λ k. (goal.UnitKind-dyn g (k.vtable, k.value)).meaning k.value) c.args.kinds.now.list.items c.requires.lawful;
-      legal = c.requires.legal;
-      kept = subst (λ (b : BookState). IsKept c.args.net.now kinds b.grants b.set) (sym c.self.view_is) c.requires.kept;
-      placed = subst (λ (w : Grant). IsGrantFor c.args.net.now c.self.inside.grants w) (sym same) (subst (λ (b : BookState). IsGrantFor c.args.net.now b.grants c.args.grant) (sym c.self.view_is) c.requires.placed);
-    } in
-    coming_fit c.args.net.now kinds c.self.inside.grants c.in-Some.live.now c.self.inside.tables coming
+add_uses-requires-clause-hops g c = coming_fit _ _ _ _ _ (coming g (goal.at.add_uses-requires-clause-hops g c).In-Some)
 
 pub add_uses-requires-clause-may : goal.add_uses-requires-clause-may
 add_uses-requires-clause-may g c =
-    let new : has_id c.args.grant.id c.self.inside.grants ≡ false = ap (λ (b : BookState). has_id c.args.grant.id b.grants) c.self.view_is ∙ c.requires.placed.new in
-    let pushed : c.push.new.self ≡ c.self.inside.grants ++ c.args.grant ∷ [] = c.in_ok-push.ensures.pushed in
-    let same : c.in-Some.live.now ≡ c.args.grant = is_behind c.self.inside.grants c.push.new.self c.args.grant c.in-Some.live.now new pushed (sym (ap option_copied c.in-Some.is) ∙ c.get.ensures) in
-    let kinds : List Meaning = map (λ k. (goal.UnitKind-dyn g (k.vtable, k.value)).meaning k.value) c.args.kinds.now.list.items in
-    let coming : Coming c.args.net.now kinds c.self.inside.grants c.in-Some.live.now c.self.inside.tables = record {
-      lawful = all_of_map (λ k. (goal.UnitKind-dyn g (k.vtable, k.value)).meaning k.value) c.args.kinds.now.list.items c.requires.lawful;
-      legal = c.requires.legal;
-      kept = subst (λ (b : BookState). IsKept c.args.net.now kinds b.grants b.set) (sym c.self.view_is) c.requires.kept;
-      placed = subst (λ (w : Grant). IsGrantFor c.args.net.now c.self.inside.grants w) (sym same) (subst (λ (b : BookState). IsGrantFor c.args.net.now b.grants c.args.grant) (sym c.self.view_is) c.requires.placed);
-    } in
     let was : is_err c.write_grant.result ≡ false = search rules in
-    let made : c.write_grant.new.tables ≡ after_puts kinds c.self.inside.tables (filter (is_used_by 0 c.self.inside.tables) (joined_slots (reverse (grant_slots c.args.net.now c.in-Some.live.now)))) = ok_by_err c.write_grant.result _ c.write_grant.ensures.done was in
-    coming_uses c.args.net.now kinds c.self.inside.grants c.in-Some.live.now c.self.inside.tables coming c.write_grant.new.tables made
+    coming_uses _ _ _ _ _ (coming g (goal.at.add_uses-requires-clause-may g c).In-Some) _ (made g (goal.at.add_uses-requires-clause-may g c).After-write_grant was)
 
 pub returns-clause-kept : goal.returns-clause-kept
 returns-clause-kept g c =
-    let new : has_id c.args.grant.id c.self.inside.grants ≡ false = ap (λ (b : BookState). has_id c.args.grant.id b.grants) c.self.view_is ∙ c.requires.placed.new in
-    let pushed : c.push.new.self ≡ c.self.inside.grants ++ c.args.grant ∷ [] = c.in_ok-push.ensures.pushed in
-    let same : c.in-Some.live.now ≡ c.args.grant = is_behind c.self.inside.grants c.push.new.self c.args.grant c.in-Some.live.now new pushed (sym (ap option_copied c.in-Some.is) ∙ c.get.ensures) in
     let kinds : List Meaning = map (λ k. (goal.UnitKind-dyn g (k.vtable, k.value)).meaning k.value) c.args.kinds.now.list.items in
-    let coming : Coming c.args.net.now kinds c.self.inside.grants c.in-Some.live.now c.self.inside.tables = record {
-      lawful = all_of_map (λ k. (goal.UnitKind-dyn g (k.vtable, k.value)).meaning k.value) c.args.kinds.now.list.items c.requires.lawful;
-      legal = c.requires.legal;
-      kept = subst (λ (b : BookState). IsKept c.args.net.now kinds b.grants b.set) (sym c.self.view_is) c.requires.kept;
-      placed = subst (λ (w : Grant). IsGrantFor c.args.net.now c.self.inside.grants w) (sym same) (subst (λ (b : BookState). IsGrantFor c.args.net.now b.grants c.args.grant) (sym c.self.view_is) c.requires.placed);
-    } in
     let was : is_err c.write_grant.result ≡ false = search rules in
-    let made : c.write_grant.new.tables ≡ after_puts kinds c.self.inside.tables (filter (is_used_by 0 c.self.inside.tables) (joined_slots (reverse (grant_slots c.args.net.now c.in-Some.live.now)))) = ok_by_err c.write_grant.result _ c.write_grant.ensures.done was in
-    let all : c.push.new.self ≡ c.self.inside.grants ++ c.in-Some.live.now ∷ [] = pushed ∙ ap (λ (w : Grant). c.self.inside.grants ++ w ∷ []) (sym same) in
-    subst (λ (b : List Grant). IsKept c.args.net.now kinds b c.add_uses.new.tables) (sym all) (committed c.args.net.now kinds c.self.inside.grants c.in-Some.live.now c.self.inside.tables coming c.write_grant.new.tables c.add_uses.new.tables made c.add_uses.ensures)
+    let all : c.push.new.self ≡ c.self.inside.grants ++ c.in-Some.live.now ∷ [] = c.in_ok-push.ensures.pushed ∙ ap (λ (w : Grant). c.self.inside.grants ++ w ∷ []) (sym (same_grant g (goal.at.returns-clause-kept g c).In-Some)) in
+    subst (λ (b : List Grant). IsKept c.args.net.now kinds b c.add_uses.new.tables) (sym all) (committed c.args.net.now kinds c.self.inside.grants c.in-Some.live.now c.self.inside.tables (coming g (goal.at.returns-clause-kept g c).In-Some) c.write_grant.new.tables c.add_uses.new.tables (made g (goal.at.returns-clause-kept g c).After-write_grant was) c.add_uses.ensures)
 
 pub returns-clause-added : goal.returns-clause-added
 returns-clause-added g c other =
-    let new : has_id c.args.grant.id c.self.inside.grants ≡ false = ap (λ (b : BookState). has_id c.args.grant.id b.grants) c.self.view_is ∙ c.requires.placed.new in
-    let pushed : c.push.new.self ≡ c.self.inside.grants ++ c.args.grant ∷ [] = c.in_ok-push.ensures.pushed in
-    let same : c.in-Some.live.now ≡ c.args.grant = is_behind c.self.inside.grants c.push.new.self c.args.grant c.in-Some.live.now new pushed (sym (ap option_copied c.in-Some.is) ∙ c.get.ensures) in
-    let kinds : List Meaning = map (λ k. (goal.UnitKind-dyn g (k.vtable, k.value)).meaning k.value) c.args.kinds.now.list.items in
-    let coming : Coming c.args.net.now kinds c.self.inside.grants c.in-Some.live.now c.self.inside.tables = record {
-      lawful = all_of_map (λ k. (goal.UnitKind-dyn g (k.vtable, k.value)).meaning k.value) c.args.kinds.now.list.items c.requires.lawful;
-      legal = c.requires.legal;
-      kept = subst (λ (b : BookState). IsKept c.args.net.now kinds b.grants b.set) (sym c.self.view_is) c.requires.kept;
-      placed = subst (λ (w : Grant). IsGrantFor c.args.net.now c.self.inside.grants w) (sym same) (subst (λ (b : BookState). IsGrantFor c.args.net.now b.grants c.args.grant) (sym c.self.view_is) c.requires.placed);
-    } in
     let was : is_err c.write_grant.result ≡ false = search rules in
-    let log : AreAdded (fence_events c.self.inside.cleared ++ flat_map (put_events c.args.net.now kinds) (puts_of c.args.net.now c.self.inside.grants c.in-Some.live.now)) false (g.D.Tables.log c.args.device.now) (g.D.Tables.log c.write_grant.new.device) =
-    subst (λ es. AreAdded (fence_events c.self.inside.cleared ++ es) false (g.D.Tables.log c.args.device.now) (g.D.Tables.log c.write_grant.new.device)) (coming_log c.args.net.now kinds c.self.inside.grants c.in-Some.live.now c.self.inside.tables coming) (subst (λ f. AreAdded (fence_events c.self.inside.cleared ++ put_log kinds c.self.inside.tables (filter (is_used_by 0 c.self.inside.tables) (joined_slots (reverse (grant_slots c.args.net.now c.in-Some.live.now))))) f (g.D.Tables.log c.args.device.now) (g.D.Tables.log c.write_grant.new.device)) was c.write_grant.ensures.added) in
-    subst (λ (b : BookState). AreAdded (grant_events c.args.net.now kinds b.grants b.cleared c.args.grant) false (g.D.Tables.log c.args.device.now) (g.D.Tables.log c.write_grant.new.device)) c.self.view_is (subst (λ (w : Grant). AreAdded (grant_events c.args.net.now kinds c.self.inside.grants c.self.inside.cleared w) false (g.D.Tables.log c.args.device.now) (g.D.Tables.log c.write_grant.new.device)) same log)
+    told g (goal.at.returns-clause-added g c).After-write_grant false (same_grant g (goal.at.returns-clause-added g c).In-Some) (coming g (goal.at.returns-clause-added g c).In-Some) was
 
 pub remove-requires : goal.remove-requires
 remove-requires g c =
@@ -146,8 +97,4 @@ unreachable-requires g c =
     some_behind c.self.inside.grants c.push.new.self c.args.grant new pushed (sym (ap option_copied none) ∙ c.get.ensures)
 
 pub write_grant-requires-clause-rights : goal.write_grant-requires-clause-rights
-write_grant-requires-clause-rights g c =
-    let new : has_id c.args.grant.id c.self.inside.grants ≡ false = ap (λ (b : BookState). has_id c.args.grant.id b.grants) c.self.view_is ∙ c.requires.placed.new in
-    let pushed : c.push.new.self ≡ c.self.inside.grants ++ c.args.grant ∷ [] = c.in_ok-push.ensures.pushed in
-    let same : c.in-Some.live.now ≡ c.args.grant = is_behind c.self.inside.grants c.push.new.self c.args.grant c.in-Some.live.now new pushed (sym (ap option_copied c.in-Some.is) ∙ c.get.ensures) in
-    subst (λ (w : Grant). IsTrue (are_rights w.request.rights)) (sym same) c.requires.placed.rights
+write_grant-requires-clause-rights g c = subst (λ (w : Grant). IsTrue (are_rights w.request.rights)) (sym (same_grant g (goal.at.write_grant-requires-clause-rights g c).In-Some)) c.requires.placed.rights

@@ -1,4 +1,4 @@
-use Rattle.std.proofs.Common.{◌≡◌, ◌∙◌, refl, sym, ap, subst, rules, filter, map, option_copied, List, None, true, false, is_err}
+use Rattle.std.proofs.Common.{◌≡◌, ◌∙◌, refl, sym, ap, subst, rules, filter, map, option_copied, List, None, Bool, true, false, is_err}
 use Rattle.std.proofs.lemmas.Bool.{false≢true}
 use Rattle.dn_net.specs.Chain.{Member}
 use Rattle.dn_kind.specs.Kind.{Meaning}
@@ -13,7 +13,35 @@ use Rattle.dn_book.proofs.Faithful.{revoke_keeps_book}
 use Rattle.dn_book.proofs.Live.{one_grant}
 use Rattle.dn_book.proofs.Revoke.{Going, going_fit, going_log, going_uses, revoked}
 use Rattle.dn_book.proofs.Serials.{AreApart, IsLive, has_live, live_found, none_live}
+use Rattle.dn_book.proofs.book.Book.revoke.Given.{Over}
+use Rattle.dn_book.proofs.book.Book.revoke.Goals.{In-Some, After-clear_grant}
 use Rattle.dn_book.proofs.book.Book.revoke.Goals as goal
+
+-- the grant that was found has the id
+found : (g : Over) (c : In-Some g) → IsLive c.self.inside.grants c.args.id c.in-Some.live.now
+found g c = live_found c.self.inside.grants c.args.id c.in-Some.live.now (sym (ap option_copied c.in-Some.is) ∙ c.get.ensures)
+
+-- what is known of it
+going : (g : Over) (c : In-Some g) → Going c.args.net.now (map (λ k. (goal.UnitKind-dyn g (k.vtable, k.value)).meaning k.value) c.args.kinds.now.list.items) c.self.inside.grants c.in-Some.live.now c.self.inside.tables
+going g c = record {
+  lawful = all_of_map (λ k. (goal.UnitKind-dyn g (k.vtable, k.value)).meaning k.value) c.args.kinds.now.list.items c.requires.lawful;
+  legal = c.requires.legal;
+  kept = subst (λ (b : BookState). IsKept c.args.net.now (map (λ k. (goal.UnitKind-dyn g (k.vtable, k.value)).meaning k.value) c.args.kinds.now.list.items) b.grants b.set) (sym c.self.view_is) c.requires.kept;
+  live = (found g c).live;
+}
+
+-- so a grant lives that has the id
+known : (g : Over) (c : In-Some g) → has_id c.args.id c.args.self.now.grants ≡ true
+known g c = sym (ap (λ (b : BookState). has_id c.args.id b.grants) c.self.view_is) ∙ has_live c.self.inside.grants c.args.id c.in-Some.live.now (found g c)
+
+-- what the device was told, whether a write failed or none did
+told : (g : Over) (c : After-clear_grant g) (failed : Bool) → IsLive c.self.inside.grants c.args.id c.in-Some.live.now → Going c.args.net.now (map (λ k. (goal.UnitKind-dyn g (k.vtable, k.value)).meaning k.value) c.args.kinds.now.list.items) c.self.inside.grants c.in-Some.live.now c.self.inside.tables → is_err c.clear_grant.result ≡ failed → (k : Grant) → Member k c.args.self.now.grants → k.id ≡ c.args.id → AreAdded (revoke_events c.args.net.now (map (λ k. (goal.UnitKind-dyn g (k.vtable, k.value)).meaning k.value) c.args.kinds.now.list.items) c.args.self.now.grants k) failed (g.D.Tables.log c.args.device.now) (g.D.Tables.log c.clear_grant.new.device)
+told g c failed live goes was k m e =
+    let kinds : List Meaning = map (λ k. (goal.UnitKind-dyn g (k.vtable, k.value)).meaning k.value) c.args.kinds.now.list.items in
+    let one : k ≡ c.in-Some.live.now = one_grant c.args.net.now c.requires.legal.legal c.self.inside.grants c.in-Some.live.now goes.kept.sound live.live k (subst (λ (b : BookState). Member k b.grants) (sym c.self.view_is) m) (e ∙ sym live.same) in
+    let log : AreAdded (revoke_events c.args.net.now kinds c.self.inside.grants c.in-Some.live.now) failed (g.D.Tables.log c.args.device.now) (g.D.Tables.log c.clear_grant.new.device) =
+    subst (λ es. AreAdded es failed (g.D.Tables.log c.args.device.now) (g.D.Tables.log c.clear_grant.new.device)) (going_log c.args.net.now kinds c.self.inside.grants c.in-Some.live.now c.self.inside.tables goes) (subst (λ f. AreAdded (clear_log c.self.inside.tables (filter (is_used_by 1 c.self.inside.tables) (joined_slots (grant_slots c.args.net.now c.in-Some.live.now)))) f (g.D.Tables.log c.args.device.now) (g.D.Tables.log c.clear_grant.new.device)) was c.clear_grant.ensures.cleared.added) in
+    subst (λ (b : BookState). AreAdded (revoke_events c.args.net.now kinds b.grants k) failed (g.D.Tables.log c.args.device.now) (g.D.Tables.log c.clear_grant.new.device)) c.self.view_is (subst (λ (w : Grant). AreAdded (revoke_events c.args.net.now kinds c.self.inside.grants w) failed (g.D.Tables.log c.args.device.now) (g.D.Tables.log c.clear_grant.new.device)) (sym one) log)
 
 pub returns-in_default-clause-unknown : goal.returns-in_default-clause-unknown
 returns-in_default-clause-unknown g c =
@@ -29,64 +57,24 @@ returns-in_default-clause-added g c k m e =
     absurd (false≢true (sym no ∙ yes))
 
 pub clear_grant-requires-clause-hops : goal.clear_grant-requires-clause-hops
-clear_grant-requires-clause-hops g c =
-    let kinds : List Meaning = map (λ k. (goal.UnitKind-dyn g (k.vtable, k.value)).meaning k.value) c.args.kinds.now.list.items in
-    let found : IsLive c.self.inside.grants c.args.id c.in-Some.live.now = live_found c.self.inside.grants c.args.id c.in-Some.live.now (sym (ap option_copied c.in-Some.is) ∙ c.get.ensures) in
-    let going : Going c.args.net.now kinds c.self.inside.grants c.in-Some.live.now c.self.inside.tables = record {
-      lawful = all_of_map (λ k. (goal.UnitKind-dyn g (k.vtable, k.value)).meaning k.value) c.args.kinds.now.list.items c.requires.lawful;
-      legal = c.requires.legal;
-      kept = subst (λ (b : BookState). IsKept c.args.net.now kinds b.grants b.set) (sym c.self.view_is) c.requires.kept;
-      live = found.live;
-    } in
-    going_fit c.args.net.now kinds c.self.inside.grants c.in-Some.live.now c.self.inside.tables going
+clear_grant-requires-clause-hops g c = going_fit _ _ _ _ _ (going g (goal.at.clear_grant-requires-clause-hops g c).In-Some)
 
 pub returns-then-is_err-clause-added : goal.returns-then-is_err-clause-added
-returns-then-is_err-clause-added g c k m e =
-    let kinds : List Meaning = map (λ k. (goal.UnitKind-dyn g (k.vtable, k.value)).meaning k.value) c.args.kinds.now.list.items in
-    let found : IsLive c.self.inside.grants c.args.id c.in-Some.live.now = live_found c.self.inside.grants c.args.id c.in-Some.live.now (sym (ap option_copied c.in-Some.is) ∙ c.get.ensures) in
-    let going : Going c.args.net.now kinds c.self.inside.grants c.in-Some.live.now c.self.inside.tables = record {
-      lawful = all_of_map (λ k. (goal.UnitKind-dyn g (k.vtable, k.value)).meaning k.value) c.args.kinds.now.list.items c.requires.lawful;
-      legal = c.requires.legal;
-      kept = subst (λ (b : BookState). IsKept c.args.net.now kinds b.grants b.set) (sym c.self.view_is) c.requires.kept;
-      live = found.live;
-    } in
+returns-then-is_err-clause-added g c =
     let was : is_err c.clear_grant.result ≡ true = search rules in
-    let one : k ≡ c.in-Some.live.now = one_grant c.args.net.now c.requires.legal.legal c.self.inside.grants c.in-Some.live.now going.kept.sound found.live k (subst (λ (b : BookState). Member k b.grants) (sym c.self.view_is) m) (e ∙ sym found.same) in
-    let log : AreAdded (revoke_events c.args.net.now kinds c.self.inside.grants c.in-Some.live.now) true (g.D.Tables.log c.args.device.now) (g.D.Tables.log c.clear_grant.new.device) =
-    subst (λ es. AreAdded es true (g.D.Tables.log c.args.device.now) (g.D.Tables.log c.clear_grant.new.device)) (going_log c.args.net.now kinds c.self.inside.grants c.in-Some.live.now c.self.inside.tables going) (subst (λ f. AreAdded (clear_log c.self.inside.tables (filter (is_used_by 1 c.self.inside.tables) (joined_slots (grant_slots c.args.net.now c.in-Some.live.now)))) f (g.D.Tables.log c.args.device.now) (g.D.Tables.log c.clear_grant.new.device)) was c.clear_grant.ensures.cleared.added) in
-    subst (λ (b : BookState). AreAdded (revoke_events c.args.net.now kinds b.grants k) true (g.D.Tables.log c.args.device.now) (g.D.Tables.log c.clear_grant.new.device)) c.self.view_is (subst (λ (w : Grant). AreAdded (revoke_events c.args.net.now kinds c.self.inside.grants w) true (g.D.Tables.log c.args.device.now) (g.D.Tables.log c.clear_grant.new.device)) (sym one) log)
+    told g (goal.at.returns-then-is_err-clause-added g c).After-clear_grant true (found g (goal.at.returns-then-is_err-clause-added g c).In-Some) (going g (goal.at.returns-then-is_err-clause-added g c).In-Some) was
 
 pub returns-then-is_err-clause-unknown : goal.returns-then-is_err-clause-unknown
-returns-then-is_err-clause-unknown g c =
-    let found : IsLive c.self.inside.grants c.args.id c.in-Some.live.now = live_found c.self.inside.grants c.args.id c.in-Some.live.now (sym (ap option_copied c.in-Some.is) ∙ c.get.ensures) in
-    let yes : has_id c.args.id c.args.self.now.grants ≡ true = sym (ap (λ (b : BookState). has_id c.args.id b.grants) c.self.view_is) ∙ has_live c.self.inside.grants c.args.id c.in-Some.live.now found in
-    ((λ e. cc), (λ e. absurd (false≢true (sym e ∙ yes))))
+returns-then-is_err-clause-unknown g c = ((λ e. cc), (λ e. absurd (false≢true (sym e ∙ known g (goal.at.returns-then-is_err-clause-unknown g c).In-Some))))
 
 pub end_uses-requires-clause-hops : goal.end_uses-requires-clause-hops
-end_uses-requires-clause-hops g c =
-    let kinds : List Meaning = map (λ k. (goal.UnitKind-dyn g (k.vtable, k.value)).meaning k.value) c.args.kinds.now.list.items in
-    let found : IsLive c.self.inside.grants c.args.id c.in-Some.live.now = live_found c.self.inside.grants c.args.id c.in-Some.live.now (sym (ap option_copied c.in-Some.is) ∙ c.get.ensures) in
-    let going : Going c.args.net.now kinds c.self.inside.grants c.in-Some.live.now c.self.inside.tables = record {
-      lawful = all_of_map (λ k. (goal.UnitKind-dyn g (k.vtable, k.value)).meaning k.value) c.args.kinds.now.list.items c.requires.lawful;
-      legal = c.requires.legal;
-      kept = subst (λ (b : BookState). IsKept c.args.net.now kinds b.grants b.set) (sym c.self.view_is) c.requires.kept;
-      live = found.live;
-    } in
-    going_fit c.args.net.now kinds c.self.inside.grants c.in-Some.live.now c.self.inside.tables going
+end_uses-requires-clause-hops g c = going_fit _ _ _ _ _ (going g (goal.at.end_uses-requires-clause-hops g c).In-Some)
 
 pub end_uses-requires-clause-used : goal.end_uses-requires-clause-used
 end_uses-requires-clause-used g c =
-    let kinds : List Meaning = map (λ k. (goal.UnitKind-dyn g (k.vtable, k.value)).meaning k.value) c.args.kinds.now.list.items in
-    let found : IsLive c.self.inside.grants c.args.id c.in-Some.live.now = live_found c.self.inside.grants c.args.id c.in-Some.live.now (sym (ap option_copied c.in-Some.is) ∙ c.get.ensures) in
-    let going : Going c.args.net.now kinds c.self.inside.grants c.in-Some.live.now c.self.inside.tables = record {
-      lawful = all_of_map (λ k. (goal.UnitKind-dyn g (k.vtable, k.value)).meaning k.value) c.args.kinds.now.list.items c.requires.lawful;
-      legal = c.requires.legal;
-      kept = subst (λ (b : BookState). IsKept c.args.net.now kinds b.grants b.set) (sym c.self.view_is) c.requires.kept;
-      live = found.live;
-    } in
     let was : is_err c.clear_grant.result ≡ false = search rules in
     let made : c.clear_grant.new.tables ≡ after_clears c.self.inside.tables (filter (is_used_by 1 c.self.inside.tables) (joined_slots (grant_slots c.args.net.now c.in-Some.live.now))) = c.clear_grant.ensures.cleared.done was in
-    going_uses c.args.net.now kinds c.self.inside.grants c.in-Some.live.now c.self.inside.tables going c.clear_grant.new.tables made
+    going_uses _ _ _ _ _ (going g (goal.at.end_uses-requires-clause-used g c).In-Some) c.clear_grant.new.tables made
 
 pub remove-requires : goal.remove-requires
 remove-requires g c = subst (λ (b : BookState). AreApart b.grants) (sym c.self.view_is) c.requires.kept.sound.ids
@@ -102,37 +90,16 @@ returns-clause-faithful g c f =
 pub returns-clause-kept : goal.returns-clause-kept
 returns-clause-kept g c =
     let kinds : List Meaning = map (λ k. (goal.UnitKind-dyn g (k.vtable, k.value)).meaning k.value) c.args.kinds.now.list.items in
-    let found : IsLive c.self.inside.grants c.args.id c.in-Some.live.now = live_found c.self.inside.grants c.args.id c.in-Some.live.now (sym (ap option_copied c.in-Some.is) ∙ c.get.ensures) in
-    let going : Going c.args.net.now kinds c.self.inside.grants c.in-Some.live.now c.self.inside.tables = record {
-      lawful = all_of_map (λ k. (goal.UnitKind-dyn g (k.vtable, k.value)).meaning k.value) c.args.kinds.now.list.items c.requires.lawful;
-      legal = c.requires.legal;
-      kept = subst (λ (b : BookState). IsKept c.args.net.now kinds b.grants b.set) (sym c.self.view_is) c.requires.kept;
-      live = found.live;
-    } in
     let was : is_err c.clear_grant.result ≡ false = search rules in
     let made : c.clear_grant.new.tables ≡ after_clears c.self.inside.tables (filter (is_used_by 1 c.self.inside.tables) (joined_slots (grant_slots c.args.net.now c.in-Some.live.now))) = c.clear_grant.ensures.cleared.done was in
-    let all : c.remove.new.self ≡ without c.in-Some.live.now.id c.self.inside.grants = c.remove.ensures ∙ ap (λ n. without n c.self.inside.grants) (sym found.same) in
+    let all : c.remove.new.self ≡ without c.in-Some.live.now.id c.self.inside.grants = c.remove.ensures ∙ ap (λ n. without n c.self.inside.grants) (sym (found g (goal.at.returns-clause-kept g c).In-Some).same) in
     let changed : AreHopsChanged c.args.net.now c.in-Some.live.now.request.size (λ place. one_less) c.in-Some.live.now.placement.hops c.clear_grant.new.tables c.end_uses.new.tables = c.end_uses.ensures in
-    subst (λ (b : List Grant). IsKept c.args.net.now kinds b c.end_uses.new.tables) (sym all) (revoked c.args.net.now kinds c.self.inside.grants c.in-Some.live.now c.self.inside.tables going c.clear_grant.new.tables c.end_uses.new.tables made changed)
+    subst (λ (b : List Grant). IsKept c.args.net.now kinds b c.end_uses.new.tables) (sym all) (revoked c.args.net.now kinds c.self.inside.grants c.in-Some.live.now c.self.inside.tables (going g (goal.at.returns-clause-kept g c).In-Some) c.clear_grant.new.tables c.end_uses.new.tables made changed)
 
 pub returns-clause-added : goal.returns-clause-added
-returns-clause-added g c k m e =
-    let kinds : List Meaning = map (λ k. (goal.UnitKind-dyn g (k.vtable, k.value)).meaning k.value) c.args.kinds.now.list.items in
-    let found : IsLive c.self.inside.grants c.args.id c.in-Some.live.now = live_found c.self.inside.grants c.args.id c.in-Some.live.now (sym (ap option_copied c.in-Some.is) ∙ c.get.ensures) in
-    let going : Going c.args.net.now kinds c.self.inside.grants c.in-Some.live.now c.self.inside.tables = record {
-      lawful = all_of_map (λ k. (goal.UnitKind-dyn g (k.vtable, k.value)).meaning k.value) c.args.kinds.now.list.items c.requires.lawful;
-      legal = c.requires.legal;
-      kept = subst (λ (b : BookState). IsKept c.args.net.now kinds b.grants b.set) (sym c.self.view_is) c.requires.kept;
-      live = found.live;
-    } in
+returns-clause-added g c =
     let was : is_err c.clear_grant.result ≡ false = search rules in
-    let one : k ≡ c.in-Some.live.now = one_grant c.args.net.now c.requires.legal.legal c.self.inside.grants c.in-Some.live.now going.kept.sound found.live k (subst (λ (b : BookState). Member k b.grants) (sym c.self.view_is) m) (e ∙ sym found.same) in
-    let log : AreAdded (revoke_events c.args.net.now kinds c.self.inside.grants c.in-Some.live.now) false (g.D.Tables.log c.args.device.now) (g.D.Tables.log c.clear_grant.new.device) =
-    subst (λ es. AreAdded es false (g.D.Tables.log c.args.device.now) (g.D.Tables.log c.clear_grant.new.device)) (going_log c.args.net.now kinds c.self.inside.grants c.in-Some.live.now c.self.inside.tables going) (subst (λ f. AreAdded (clear_log c.self.inside.tables (filter (is_used_by 1 c.self.inside.tables) (joined_slots (grant_slots c.args.net.now c.in-Some.live.now)))) f (g.D.Tables.log c.args.device.now) (g.D.Tables.log c.clear_grant.new.device)) was c.clear_grant.ensures.cleared.added) in
-    subst (λ (b : BookState). AreAdded (revoke_events c.args.net.now kinds b.grants k) false (g.D.Tables.log c.args.device.now) (g.D.Tables.log c.clear_grant.new.device)) c.self.view_is (subst (λ (w : Grant). AreAdded (revoke_events c.args.net.now kinds c.self.inside.grants w) false (g.D.Tables.log c.args.device.now) (g.D.Tables.log c.clear_grant.new.device)) (sym one) log)
+    told g (goal.at.returns-clause-added g c).After-clear_grant false (found g (goal.at.returns-clause-added g c).In-Some) (going g (goal.at.returns-clause-added g c).In-Some) was
 
 pub returns-clause-unknown : goal.returns-clause-unknown
-returns-clause-unknown g c =
-    let found : IsLive c.self.inside.grants c.args.id c.in-Some.live.now = live_found c.self.inside.grants c.args.id c.in-Some.live.now (sym (ap option_copied c.in-Some.is) ∙ c.get.ensures) in
-    let yes : has_id c.args.id c.args.self.now.grants ≡ true = sym (ap (λ (b : BookState). has_id c.args.id b.grants) c.self.view_is) ∙ has_live c.self.inside.grants c.args.id c.in-Some.live.now found in
-    ((λ e. cc), (λ e. absurd (false≢true (sym e ∙ yes))))
+returns-clause-unknown g c = ((λ e. cc), (λ e. absurd (false≢true (sym e ∙ known g (goal.at.returns-clause-unknown g c).In-Some))))
