@@ -1,5 +1,5 @@
 -- The lookup of an agent's address in the bytes of an image.
-use Rattle.std.specs.Prelude.{ℕ, Bool, if◌then◌else◌, ◌==◌, ◌&&◌, List, slice_get, Option, Some, None, Result, Ok, Err}
+use Rattle.std.specs.Prelude.{◌≡◌, ℕ, Bool, if◌then◌else◌, ◌==◌, ◌&&◌, List, slice_get, Option, Some, None, Result, Ok, Err}
 use Rattle.dn_net.specs.declared.node.Name.{Name}
 use Rattle.dn_net.specs.declared.node.NodeDecl.{NodeDecl}
 use Rattle.dn_net.specs.Decode.{is_agent_at}
@@ -10,8 +10,9 @@ use Rattle.dn_kind.specs.declared.unit_kind.Record.{Record}
 use Rattle.dn_kind.specs.Rights.{allows}
 use Rattle.dn_kind.specs.Kind.{Meaning}
 use Rattle.dn_kind.specs.Tables.{Held, record_held, allowing, resolved_names_under}
+use Rattle.dn_kind.specs.Units.{KeepsUnitShape}
 use Rattle.dn_image.specs.Image.{ImageWords, tables_of}
-use Rattle.dn_image.specs.Reading.{BrokenImage, image_reading, image_fault_view, image_words}
+use Rattle.dn_image.specs.Reading.{BrokenImage, broken_image, image_reading, image_fault_view, image_words}
 use Rattle.dn_lookup.specs.declared.lookup.LookupFault.{LookupFault}
 use Rattle.dn_lookup.specs.declared.lookup.LookupFault.TheVariants.{NoAgent, Image, OutOfMemory}
 
@@ -19,6 +20,11 @@ use Rattle.dn_lookup.specs.declared.lookup.LookupFault.TheVariants.{NoAgent, Ima
 pub data NoLookup : Type 0 where
   no_agent : NoLookup
   no_image : BrokenImage → NoLookup
+
+-- the bytes are an image of the net, whose units have the shapes that these kinds ask for
+pub record IsImageFor (net : List NodeDecl) (kinds : List Meaning) (bytes : List ℕ) : Type 0 where
+  pub shaped : KeepsUnitShape kinds net
+  pub whole : broken_image net kinds bytes ≡ None
 
 -- the records of an image that allow an access
 abbrev pub image_records : List NodeDecl → List Meaning → ImageWords → Access → Held

@@ -1,16 +1,14 @@
 //! Names level by level: each level has the names one step on from those of the level before it.
 
-ghost use Rattle.std.specs.Prelude.{◌≡◌, ◌++◌, [], ◌∷◌, ◌+◌, ◌<◌, ◌^◌, length, map, None, IfOk, OnOk, IsTrue};
+ghost use Rattle.std.specs.Prelude.{◌≡◌, ◌++◌, [], ◌∷◌, ◌+◌, ◌<◌, ◌^◌, length, map, IfOk, OnOk, IsTrue};
 ghost use Rattle.std.specs.List.{All};
 ghost use Rattle.dn_net.specs.Decode.{is_accepted};
 ghost use Rattle.dn_net.specs.Names.{each_step, passing_names, sorted_names};
 ghost use Rattle.dn_net.specs.Rules.{KeepsNodeRules};
 ghost use Rattle.dn_kind.specs.Kind.{IsLawful};
 ghost use Rattle.dn_kind.specs.Tables.{resolved_names_under, steps_under};
-ghost use Rattle.dn_kind.specs.Units.{KeepsUnitShape};
-ghost use Rattle.dn_image.specs.Reading.{broken_image};
 ghost use Rattle.dn_kind.specs.Levels.{are_there};
-ghost use Rattle.dn_lookup.specs.Lookup.{bytes_records};
+ghost use Rattle.dn_lookup.specs.Lookup.{IsImageFor, bytes_records};
 
 use crate::output::output;
 use dn_kind::kinds::Kinds;
@@ -38,11 +36,8 @@ pub(crate) fn resolve(
 ) -> Result<Names, AllocError>
     requires lawful { All (λ k. IsLawful (meaning (k.vtable, k.value))) kinds.now.list.items }
     requires rules { KeepsNodeRules net.now }
-    requires shaped { KeepsUnitShape
-        (map (λ k. meaning (k.vtable, k.value)) kinds.now.list.items) net.now }
-    requires whole { broken_image net.now
-        (map (λ k. meaning (k.vtable, k.value)) kinds.now.list.items) bytes.now
-        ≡ None }
+    requires image { IsImageFor net.now
+        (map (λ k. meaning (k.vtable, k.value)) kinds.now.list.items) bytes.now }
     requires there { name.node < length net.now }
     ensures resolved { IfOk result (λ names. names ≡ resolved_names_under net.now
         (bytes_records net.now (map (λ k. meaning (k.vtable, k.value)) kinds.now.list.items) bytes.now version access)
@@ -83,11 +78,8 @@ fn next_level(
 ) -> Result<Names, AllocError>
     requires lawful { All (λ k. IsLawful (meaning (k.vtable, k.value))) kinds.now.list.items }
     requires rules { KeepsNodeRules net.now }
-    requires shaped { KeepsUnitShape
-        (map (λ k. meaning (k.vtable, k.value)) kinds.now.list.items) net.now }
-    requires whole { broken_image net.now
-        (map (λ k. meaning (k.vtable, k.value)) kinds.now.list.items) bytes.now
-        ≡ None }
+    requires image { IsImageFor net.now
+        (map (λ k. meaning (k.vtable, k.value)) kinds.now.list.items) bytes.now }
     requires there { IsTrue (are_there (length net.now) level.now) }
     ensures accepted { OnOk result (accepted.new.items ≡
         accepted.old.items ++ passing_names (is_accepted net.now) level.now) }
@@ -118,11 +110,8 @@ fn push_steps(
 ) -> Result<(), AllocError>
     requires lawful { All (λ k. IsLawful (meaning (k.vtable, k.value))) kinds.now.list.items }
     requires rules { KeepsNodeRules net.now }
-    requires shaped { KeepsUnitShape
-        (map (λ k. meaning (k.vtable, k.value)) kinds.now.list.items) net.now }
-    requires whole { broken_image net.now
-        (map (λ k. meaning (k.vtable, k.value)) kinds.now.list.items) bytes.now
-        ≡ None }
+    requires image { IsImageFor net.now
+        (map (λ k. meaning (k.vtable, k.value)) kinds.now.list.items) bytes.now }
     requires there { name.node < length net.now }
     ensures accepted { OnOk result (accepted.new.items ≡
         accepted.old.items ++ passing_names (is_accepted net.now) (name ∷ [])) }

@@ -5,10 +5,8 @@ ghost use Rattle.std.specs.List.{All};
 ghost use Rattle.dn_net.specs.Decode.{is_stop};
 ghost use Rattle.dn_kind.specs.Kind.{IsLawful};
 ghost use Rattle.dn_kind.specs.Tables.{output, steps_under};
-ghost use Rattle.dn_kind.specs.Units.{KeepsUnitShape};
-ghost use Rattle.dn_image.specs.Reading.{broken_image};
 ghost use Rattle.dn_kind.specs.Levels.{name_list};
-ghost use Rattle.dn_lookup.specs.Lookup.{bytes_records, lets_through};
+ghost use Rattle.dn_lookup.specs.Lookup.{IsImageFor, bytes_records, lets_through};
 
 use dn_image::slots::record_in;
 use dn_kind::kinds::Kinds;
@@ -40,11 +38,8 @@ pub(crate) fn output(
     name: Name,
 ) -> Option<Name>
     requires lawful { All (λ k. IsLawful (meaning (k.vtable, k.value))) kinds.now.list.items }
-    requires shaped { KeepsUnitShape
-        (map (λ k. meaning (k.vtable, k.value)) kinds.now.list.items) net.now }
-    requires whole { broken_image net.now
-        (map (λ k. meaning (k.vtable, k.value)) kinds.now.list.items) bytes.now
-        ≡ None }
+    requires image { IsImageFor net.now
+        (map (λ k. meaning (k.vtable, k.value)) kinds.now.list.items) bytes.now }
     requires there { name.node < length net.now }
     requires stop { IsTrue (is_stop net.now name) }
     ensures { name_list result ≡ steps_under net.now

@@ -2,7 +2,6 @@ use Rattle.std.proofs.Common.{rules, arith, ◌≡◌, ◌∙◌, ◌++◌, [], 
 use Rattle.dn_net.specs.declared.node.Name.{Name}
 use Rattle.dn_net.specs.Decode.{is_accepted}
 use Rattle.dn_net.specs.Names.{each_step, passing_names, sorted_names}
-use Rattle.dn_kind.specs.Kind.{Meaning}
 use Rattle.dn_kind.specs.Tables.{Held, steps_under, step_limit_under, resolved_names_under}
 use Rattle.dn_kind.specs.Levels.{are_there}
 use Rattle.dn_lookup.specs.Lookup.{bytes_records}
@@ -13,8 +12,7 @@ use Rattle.dn_lookup.proofs.levels.resolve.Goals.{else-loop-test, then-loop-test
 
 pub loop-init : goal.loop-init
 loop-init g c =
-    let kinds : List Meaning = map (λ k. (goal.UnitKind-dyn g (k.vtable, k.value)).meaning k.value) c.args.kinds.now.list.items in
-    let h : Held = bytes_records c.args.net.now kinds c.args.bytes.now c.args.version c.args.access in
+    let h : Held = bytes_records c.args.net.now (map (λ k. (goal.UnitKind-dyn g (k.vtable, k.value)).meaning k.value) c.args.kinds.now.list.items) c.args.bytes.now c.args.version c.args.access in
     let f : Name → List Name = steps_under c.args.net.now h in
     let p : Name → Bool = is_accepted c.args.net.now in
     let level : c.insert.new.self ≡ c.args.name ∷ [] = search rules in
@@ -26,8 +24,7 @@ loop-init g c =
 
 pub loop-preserved : goal.loop-preserved
 loop-preserved g c =
-    let kinds : List Meaning = map (λ k. (goal.UnitKind-dyn g (k.vtable, k.value)).meaning k.value) c.args.kinds.now.list.items in
-    let h : Held = bytes_records c.args.net.now kinds c.args.bytes.now c.args.version c.args.access in
+    let h : Held = bytes_records c.args.net.now (map (λ k. (goal.UnitKind-dyn g (k.vtable, k.value)).meaning k.value) c.args.kinds.now.list.items) c.args.bytes.now c.args.version c.args.access in
     let f : Name → List Name = steps_under c.args.net.now h in
     let p : Name → Bool = is_accepted c.args.net.now in
     let same : c.list-in-loop.result.now ≡ c.loop.level = search rules in
@@ -38,26 +35,16 @@ loop-preserved g c =
       there = c.in_ok-level.ensures.there;
     }
 
-pub returns-clause-resolved : goal.returns-clause-resolved
-returns-clause-resolved g c =
-    let kinds : List Meaning = map (λ k. (goal.UnitKind-dyn g (k.vtable, k.value)).meaning k.value) c.args.kinds.now.list.items in
-    let h : Held = bytes_records c.args.net.now kinds c.args.bytes.now c.args.version c.args.access in
+pub returns : goal.returns
+returns g c =
+    let h : Held = bytes_records c.args.net.now (map (λ k. (goal.UnitKind-dyn g (k.vtable, k.value)).meaning k.value) c.args.kinds.now.list.items) c.args.bytes.now c.args.version c.args.access in
     let f : Name → List Name = steps_under c.args.net.now h in
     let p : Name → Bool = is_accepted c.args.net.now in
     let whole : sorted_names c.loop.accepted.items ≡ resolved_names_under c.args.net.now h c.args.name = elim c.loop-test.branch [
       | else-loop-test w ↦ ends_at_last f p c.loop.counter c.loop.accepted.items c.loop.level (resolved_names_under c.args.net.now h c.args.name) (let b = w.loop-test.false in omega arith) c.loop.invariant.so_far
       | then-loop-test+then-is_empty w ↦ ends_at_empty f p (suc step_limit_under - c.loop.counter) c.loop.accepted.items c.loop.level (resolved_names_under c.args.net.now h c.args.name) (is_empty c.loop.level (search rules)) c.loop.invariant.so_far
     ] in
-    set_is_ends c.loop.accepted.items (resolved_names_under c.args.net.now h c.args.name) c.set_of.result whole c.set_of.ensures
-
-pub returns-clause-there : goal.returns-clause-there
-returns-clause-there g c =
-    let kinds : List Meaning = map (λ k. (goal.UnitKind-dyn g (k.vtable, k.value)).meaning k.value) c.args.kinds.now.list.items in
-    let h : Held = bytes_records c.args.net.now kinds c.args.bytes.now c.args.version c.args.access in
-    let f : Name → List Name = steps_under c.args.net.now h in
-    let p : Name → Bool = is_accepted c.args.net.now in
-    let whole : sorted_names c.loop.accepted.items ≡ resolved_names_under c.args.net.now h c.args.name = elim c.loop-test.branch [
-      | else-loop-test w ↦ ends_at_last f p c.loop.counter c.loop.accepted.items c.loop.level (resolved_names_under c.args.net.now h c.args.name) (let b = w.loop-test.false in omega arith) c.loop.invariant.so_far
-      | then-loop-test+then-is_empty w ↦ ends_at_empty f p (suc step_limit_under - c.loop.counter) c.loop.accepted.items c.loop.level (resolved_names_under c.args.net.now h c.args.name) (is_empty c.loop.level (search rules)) c.loop.invariant.so_far
-    ] in
-    set_within (length c.args.net.now) c.loop.accepted.items (resolved_names_under c.args.net.now h c.args.name) c.set_of.result whole (resolved_under_there c.args.net.now h c.args.name) c.set_of.ensures
+    record {
+      resolved = set_is_ends c.loop.accepted.items (resolved_names_under c.args.net.now h c.args.name) c.set_of.result whole c.set_of.ensures;
+      there = set_within (length c.args.net.now) c.loop.accepted.items (resolved_names_under c.args.net.now h c.args.name) c.set_of.result whole (resolved_under_there c.args.net.now h c.args.name) c.set_of.ensures;
+    }

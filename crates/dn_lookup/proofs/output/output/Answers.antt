@@ -1,9 +1,8 @@
-use Rattle.std.proofs.Common.{◌≡◌, ◌∙◌, ◌≤◌, ◌/◌, ◌^◌, ap, sym, map, List, ℕ, slice_get, Some, None, IsTrue, if◌then◌else◌, rules, arith}
+use Rattle.std.proofs.Common.{◌≡◌, ◌∙◌, ◌≤◌, ◌/◌, ◌^◌, ap, sym, map, slice_get, Some, None, IsTrue, if◌then◌else◌, rules, arith}
 use Rattle.std.specs.Option.{option_map, option_copied}
 use Rattle.std.specs.List.{All}
-use Rattle.dn_net.specs.declared.node.Unit.{Unit as UnitPart}
-use Rattle.dn_kind.specs.Kind.{Meaning, IsLawful, is_plain}
-use Rattle.dn_kind.specs.Tables.{Held, record_held}
+use Rattle.dn_kind.specs.Kind.{IsLawful, is_plain}
+use Rattle.dn_kind.specs.Tables.{record_held}
 use Rattle.dn_kind.specs.Units.{unit_shape}
 use Rattle.dn_tables.proofs.Fresh.{shape_there, plain_there}
 use Rattle.dn_tables.proofs.Slots.{all_of_map}
@@ -11,78 +10,62 @@ use Rattle.dn_image.specs.Reading.{image_words}
 use Rattle.dn_kind.specs.Levels.{name_list}
 use Rattle.dn_lookup.specs.Lookup.{bytes_records, record_through}
 use Rattle.dn_kind.proofs.Outputs.{has_pages, IsStopIn, stop_in, no_stop, step_in, within_unit}
+use Rattle.dn_lookup.proofs.output.output.Given.{Over}
+use Rattle.dn_lookup.proofs.output.output.Goals.{In_ok-unit, In_ok-record}
 use Rattle.dn_lookup.proofs.output.output.Goals as goal
+
+-- the unit in which the name stops
+there : (g : Over) (c : In_ok-unit g) → option_map (λ d. d.unit) (slice_get c.args.net.now c.args.name.node) ≡ Some (Some c.in_ok-unit.unit.now)
+there g c = c.unit.ensures ∙ ap (λ o. Some (option_copied o)) c.in_ok-unit.was
+
+plain : (g : Over) (c : In_ok-unit g) → IsTrue (is_plain (unit_shape c.in_ok-unit.unit.now))
+plain g c = plain_there (map (λ k. (goal.UnitKind-dyn g (k.vtable, k.value)).meaning k.value) c.args.kinds.now.list.items) c.in_ok-unit.unit.now (shape_there (map (λ k. (goal.UnitKind-dyn g (k.vtable, k.value)).meaning k.value) c.args.kinds.now.list.items) c.args.net.now c.args.name.node (Some c.in_ok-unit.unit.now) c.requires.image.shaped (there g c))
+
+stop : (g : Over) (c : In_ok-unit g) → IsStopIn c.args.net.now c.args.name c.in_ok-unit.unit.now
+stop g c = stop_in c.args.net.now c.args.name c.in_ok-unit.unit.now c.requires.stop (there g c)
+
+-- the record that its slot holds
+held : (g : Over) (c : In_ok-record g) → record_held c.args.net.now (map (λ k. (goal.UnitKind-dyn g (k.vtable, k.value)).meaning k.value) c.args.kinds.now.list.items) (image_words c.args.net.now (map (λ k. (goal.UnitKind-dyn g (k.vtable, k.value)).meaning k.value) c.args.kinds.now.list.items) c.args.bytes.now) c.args.name.node (c.args.name.addr / 2 ^ c.in_ok-unit.unit.now.page) ≡ Some c.in_ok-record.record
+held g c = sym c.record_in.ensures ∙ c.in_ok-record.was
 
 pub overflow_shr-slot : goal.overflow_shr-slot
 overflow_shr-slot g c =
-    let kinds : List Meaning = map (λ k. (goal.UnitKind-dyn g (k.vtable, k.value)).meaning k.value) c.args.kinds.now.list.items in
-    let u : UnitPart = c.in_ok-unit.unit.now in
-    let there : option_map (λ d. d.unit) (slice_get c.args.net.now c.args.name.node) ≡ Some (Some u) = c.unit.ensures ∙ ap (λ o. Some (option_copied o)) c.in_ok-unit.was in
-    let plain : IsTrue (is_plain (unit_shape u)) = plain_there kinds u (shape_there kinds c.args.net.now c.args.name.node (Some u) c.requires.shaped there) in
-    let page : u.page ≤ 40 = (has_pages (unit_shape u) plain).page in
+    let page : c.in_ok-unit.unit.now.page ≤ 40 = (has_pages (unit_shape c.in_ok-unit.unit.now) (plain g (goal.at.overflow_shr-slot g c).In_ok-unit)).page in
     omega arith
 
 pub sent-requires-clause-plain : goal.sent-requires-clause-plain
-sent-requires-clause-plain g c =
-    let kinds : List Meaning = map (λ k. (goal.UnitKind-dyn g (k.vtable, k.value)).meaning k.value) c.args.kinds.now.list.items in
-    let u : UnitPart = c.in_ok-unit.unit.now in
-    let there : option_map (λ d. d.unit) (slice_get c.args.net.now c.args.name.node) ≡ Some (Some u) = c.unit.ensures ∙ ap (λ o. Some (option_copied o)) c.in_ok-unit.was in
-    let plain : IsTrue (is_plain (unit_shape u)) = plain_there kinds u (shape_there kinds c.args.net.now c.args.name.node (Some u) c.requires.shaped there) in
-    plain
+sent-requires-clause-plain g c = plain g (goal.at.sent-requires-clause-plain g c).In_ok-unit
 
 pub sent-requires-clause-within : goal.sent-requires-clause-within
 sent-requires-clause-within g c =
-    let kinds : List Meaning = map (λ k. (goal.UnitKind-dyn g (k.vtable, k.value)).meaning k.value) c.args.kinds.now.list.items in
-    let u : UnitPart = c.in_ok-unit.unit.now in
-    let there : option_map (λ d. d.unit) (slice_get c.args.net.now c.args.name.node) ≡ Some (Some u) = c.unit.ensures ∙ ap (λ o. Some (option_copied o)) c.in_ok-unit.was in
-    let plain : IsTrue (is_plain (unit_shape u)) = plain_there kinds u (shape_there kinds c.args.net.now c.args.name.node (Some u) c.requires.shaped there) in
-    let stop : IsStopIn c.args.net.now c.args.name u = stop_in c.args.net.now c.args.name u c.requires.stop there in
-    let words : List (List ℕ) = image_words c.args.net.now kinds c.args.bytes.now in
-    let h : Held = bytes_records c.args.net.now kinds c.args.bytes.now c.args.version c.args.access in
-    let lawful : All IsLawful kinds = all_of_map (λ k. (goal.UnitKind-dyn g (k.vtable, k.value)).meaning k.value) c.args.kinds.now.list.items c.requires.lawful in
-    let held : record_held c.args.net.now kinds words c.args.name.node (c.args.name.addr / 2 ^ u.page) ≡ Some c.in_ok-record.record = sym c.record_in.ensures ∙ c.in_ok-record.was in
-    within_unit c.args.net.now kinds words c.args.name (c.args.name.addr / 2 ^ u.page) u c.in_ok-record.record lawful stop.unit held
+    let lawful : All IsLawful (map (λ k. (goal.UnitKind-dyn g (k.vtable, k.value)).meaning k.value) c.args.kinds.now.list.items) = all_of_map (λ k. (goal.UnitKind-dyn g (k.vtable, k.value)).meaning k.value) c.args.kinds.now.list.items c.requires.lawful in
+    within_unit c.args.net.now (map (λ k. (goal.UnitKind-dyn g (k.vtable, k.value)).meaning k.value) c.args.kinds.now.list.items) (image_words c.args.net.now (map (λ k. (goal.UnitKind-dyn g (k.vtable, k.value)).meaning k.value) c.args.kinds.now.list.items) c.args.bytes.now) c.args.name (c.args.name.addr / 2 ^ c.in_ok-unit.unit.now.page) c.in_ok-unit.unit.now c.in_ok-record.record lawful (stop g (goal.at.sent-requires-clause-within g c).In_ok-unit).unit (held g (goal.at.sent-requires-clause-within g c).In_ok-record)
 
 pub returns : goal.returns
 returns g c =
-    let kinds : List Meaning = map (λ k. (goal.UnitKind-dyn g (k.vtable, k.value)).meaning k.value) c.args.kinds.now.list.items in
-    let u : UnitPart = c.in_ok-unit.unit.now in
-    let there : option_map (λ d. d.unit) (slice_get c.args.net.now c.args.name.node) ≡ Some (Some u) = c.unit.ensures ∙ ap (λ o. Some (option_copied o)) c.in_ok-unit.was in
-    let plain : IsTrue (is_plain (unit_shape u)) = plain_there kinds u (shape_there kinds c.args.net.now c.args.name.node (Some u) c.requires.shaped there) in
-    let stop : IsStopIn c.args.net.now c.args.name u = stop_in c.args.net.now c.args.name u c.requires.stop there in
-    let words : List (List ℕ) = image_words c.args.net.now kinds c.args.bytes.now in
-    let h : Held = bytes_records c.args.net.now kinds c.args.bytes.now c.args.version c.args.access in
-    let held : record_held c.args.net.now kinds words c.args.name.node (c.args.name.addr / 2 ^ u.page) ≡ Some c.in_ok-record.record = sym c.record_in.ensures ∙ c.in_ok-record.was in
-    let through : h c.args.name.node (c.args.name.addr / 2 ^ u.page) ≡ Some c.in_ok-record.record = ap (record_through c.args.version c.args.access) held ∙ ap (λ b. if b then Some c.in_ok-record.record else None) (sym c.lets_through.ensures ∙ c.if-not-lets_through.false) in
-    c.sent.ensures ∙ sym (step_in c.args.net.now h c.args.name u (Some c.in_ok-record.record) stop through)
+    let through : (bytes_records c.args.net.now (map (λ k. (goal.UnitKind-dyn g (k.vtable, k.value)).meaning k.value) c.args.kinds.now.list.items) c.args.bytes.now c.args.version c.args.access) c.args.name.node (c.args.name.addr / 2 ^ c.in_ok-unit.unit.now.page) ≡ Some c.in_ok-record.record = ap (record_through c.args.version c.args.access) (held g (goal.at.returns g c).In_ok-record) ∙ ap (λ b. if b then Some c.in_ok-record.record else None) (sym c.lets_through.ensures ∙ c.if-not-lets_through.false) in
+    c.sent.ensures ∙ sym (step_in c.args.net.now (bytes_records c.args.net.now (map (λ k. (goal.UnitKind-dyn g (k.vtable, k.value)).meaning k.value) c.args.kinds.now.list.items) c.args.bytes.now c.args.version c.args.access) c.args.name c.in_ok-unit.unit.now (Some c.in_ok-record.record) (stop g (goal.at.returns g c).In_ok-unit) through)
 
 pub returns-then-not-lets_through : goal.returns-then-not-lets_through
 returns-then-not-lets_through g c =
-    let kinds : List Meaning = map (λ k. (goal.UnitKind-dyn g (k.vtable, k.value)).meaning k.value) c.args.kinds.now.list.items in
-    let u : UnitPart = c.in_ok-unit.unit.now in
-    let there : option_map (λ d. d.unit) (slice_get c.args.net.now c.args.name.node) ≡ Some (Some u) = c.unit.ensures ∙ ap (λ o. Some (option_copied o)) c.in_ok-unit.was in
-    let plain : IsTrue (is_plain (unit_shape u)) = plain_there kinds u (shape_there kinds c.args.net.now c.args.name.node (Some u) c.requires.shaped there) in
-    let stop : IsStopIn c.args.net.now c.args.name u = stop_in c.args.net.now c.args.name u c.requires.stop there in
-    let words : List (List ℕ) = image_words c.args.net.now kinds c.args.bytes.now in
-    let h : Held = bytes_records c.args.net.now kinds c.args.bytes.now c.args.version c.args.access in
-    let held : record_held c.args.net.now kinds words c.args.name.node (c.args.name.addr / 2 ^ u.page) ≡ Some c.in_ok-record.record = sym c.record_in.ensures ∙ c.in_ok-record.was in
-    let through : h c.args.name.node (c.args.name.addr / 2 ^ u.page) ≡ None = ap (record_through c.args.version c.args.access) held ∙ ap (λ b. if b then Some c.in_ok-record.record else None) (sym c.lets_through.ensures ∙ c.if-not-lets_through.true) in
-    sym (step_in c.args.net.now h c.args.name u None stop through)
+    let through : (bytes_records c.args.net.now (map (λ k. (goal.UnitKind-dyn g (k.vtable, k.value)).meaning k.value) c.args.kinds.now.list.items) c.args.bytes.now c.args.version c.args.access) c.args.name.node (c.args.name.addr / 2 ^ c.in_ok-unit.unit.now.page) ≡ None = ap (record_through c.args.version c.args.access) (held g (goal.at.returns-then-not-lets_through g c).In_ok-record) ∙ ap (λ b. if b then Some c.in_ok-record.record else None) (sym c.lets_through.ensures ∙ c.if-not-lets_through.true) in
+    sym (step_in c.args.net.now (bytes_records c.args.net.now (map (λ k. (goal.UnitKind-dyn g (k.vtable, k.value)).meaning k.value) c.args.kinds.now.list.items) c.args.bytes.now c.args.version c.args.access) c.args.name c.in_ok-unit.unit.now None (stop g (goal.at.returns-then-not-lets_through g c).In_ok-unit) through)
 
 pub returns-in_err-record : goal.returns-in_err-record
 returns-in_err-record g c =
-    let kinds : List Meaning = map (λ k. (goal.UnitKind-dyn g (k.vtable, k.value)).meaning k.value) c.args.kinds.now.list.items in
-    let u : UnitPart = c.in_ok-unit.unit.now in
-    let there : option_map (λ d. d.unit) (slice_get c.args.net.now c.args.name.node) ≡ Some (Some u) = c.unit.ensures ∙ ap (λ o. Some (option_copied o)) c.in_ok-unit.was in
-    let plain : IsTrue (is_plain (unit_shape u)) = plain_there kinds u (shape_there kinds c.args.net.now c.args.name.node (Some u) c.requires.shaped there) in
-    let stop : IsStopIn c.args.net.now c.args.name u = stop_in c.args.net.now c.args.name u c.requires.stop there in
-    let words : List (List ℕ) = image_words c.args.net.now kinds c.args.bytes.now in
-    let h : Held = bytes_records c.args.net.now kinds c.args.bytes.now c.args.version c.args.access in
     let none : c.from_residual-in_err-record.result ≡ None = search rules in
-    let held : record_held c.args.net.now kinds words c.args.name.node (c.args.name.addr / 2 ^ u.page) ≡ None = sym c.record_in.ensures ∙ c.in_err-record.was in
-    let through : h c.args.name.node (c.args.name.addr / 2 ^ u.page) ≡ None = ap (record_through c.args.version c.args.access) held in
-    ap name_list none ∙ sym (step_in c.args.net.now h c.args.name u None stop through)
+    let empty : record_held c.args.net.now (map (λ k. (goal.UnitKind-dyn g (k.vtable, k.value)).meaning k.value) c.args.kinds.now.list.items) (image_words c.args.net.now (map (λ k. (goal.UnitKind-dyn g (k.vtable, k.value)).meaning k.value) c.args.kinds.now.list.items) c.args.bytes.now) c.args.name.node (c.args.name.addr / 2 ^ c.in_ok-unit.unit.now.page) ≡ None = sym c.record_in.ensures ∙ c.in_err-record.was in
+    let through : (bytes_records c.args.net.now (map (λ k. (goal.UnitKind-dyn g (k.vtable, k.value)).meaning k.value) c.args.kinds.now.list.items) c.args.bytes.now c.args.version c.args.access) c.args.name.node (c.args.name.addr / 2 ^ c.in_ok-unit.unit.now.page) ≡ None = ap (record_through c.args.version c.args.access) empty in
+    ap name_list none ∙ sym (step_in c.args.net.now (bytes_records c.args.net.now (map (λ k. (goal.UnitKind-dyn g (k.vtable, k.value)).meaning k.value) c.args.kinds.now.list.items) c.args.bytes.now c.args.version c.args.access) c.args.name c.in_ok-unit.unit.now None (stop g (goal.at.returns-in_err-record g c).In_ok-unit) through)
 
 pub returns-in_err-unit : goal.returns-in_err-unit
 returns-in_err-unit g c =
     absurd (no_stop c.args.net.now c.args.name c.requires.stop (c.unit.ensures ∙ ap (λ o. Some (option_copied o)) c.in_err-unit.was))
+
+pub record_in-requires : goal.record_in-requires
+record_in-requires g c = record {
+  lawful = c.requires.lawful;
+  shaped = c.requires.image.shaped;
+  whole = c.requires.image.whole;
+  there = c.requires.there;
+}
