@@ -1,6 +1,6 @@
 -- Where the bytes of nodes stand in an image.
 use Rattle.std.proofs.Common.{◌≡◌, ℕ, zero, suc, ◌+◌, ◌-◌, ◌*◌, ◌<◌, ◌≤◌, min, Bool, true, false, nat_lt, List, [], ◌∷◌, ◌++◌, map, length, take, drop, replicate, slice_get, Option, Some, None, Bor, is_some, IsTrue, refl, sym, ap, ◌∙◌, subst, arith, length-drop, length-append, append_assoc, ltb-true, lt-ltb, if◌then◌else◌}
-use Rattle.std.proofs.Math.Nat.{min-eq_left, min-eq_right}
+use Rattle.std.proofs.Math.Nat.{min-eq_left, min-eq_right, mul-le-mul_right}
 use Rattle.std.specs.Option.{option_map, option_copied}
 use Rattle.std.proofs.lemmas.List.{drop-drop}
 use Rattle.std.proofs.lemmas.Option.{same_Some}
@@ -274,6 +274,41 @@ none_past kinds u ws slot l = go (slice_get kinds u.kind) ws
     go None w = refl
     go (Some kind) None = refl
     go (Some kind) (Some v) = ap (λ b. if b then record_within u (kind.unpack (slot_words kind.words v slot)) else None) (le-ltb slot u.slots l)
+
+-- what is known of a unit of the net, of whose image these are the bytes
+pub record IsUnitIn (net : List NodeDecl) (kinds : List Meaning) (bytes : List ℕ) (node : ℕ) (u : UnitPart) : Type 0 where
+  pub there : option_map (λ d. d.unit) (slice_get net node) ≡ Some (Some u)
+  pub shaped : IsTrue (is_shaped kinds u)
+  pub size : length bytes ≡ 8 + nodes_size kinds net
+  pub within : nodes_size kinds (take node net) + node_size kinds (Some u) ≤ nodes_size kinds net
+
+-- its words are within the bytes
+pub words_within : (net : List NodeDecl) (kinds : List Meaning) (bytes : List ℕ) (node : ℕ) (u : UnitPart) (at : ℕ) → IsUnitIn net kinds bytes node u → at ≡ 16 + nodes_size kinds (take node net) → at + 8 * word_count kinds (Some u) ≤ length bytes
+words_within net kinds bytes node u at i e =
+    let size = i.size in
+    let within = i.within in
+    omega (arith, size, within, e)
+
+-- where the words of a slot begin, by the width as it was read
+pub record IsPlace (w slots size slot width : ℕ) : Type 0 where
+  pub same : width ≡ w
+  pub room : slot * w + w ≤ slots * w
+  pub bytes : 8 * (slots * w) ≤ size
+  pub place : slot * width ≡ slot * w
+
+pub slot_place : (w slots size slot width : ℕ) → width ≡ w → slot < slots → 8 * (slots * w) ≤ size → IsPlace w slots size slot width
+slot_place w slots size slot width e l bytes = record {
+  same = e;
+  room = slot_room slot slots w (slots * w) l refl;
+  bytes = bytes;
+  place = ap (λ n. slot * n) e;
+}
+
+-- and its number is small
+pub first_small : (slot width n : ℕ) → slot < 4294967296 → width ≡ n → n ≤ 4 → slot * width ≤ 17179869184
+first_small slot width n l e most =
+    let m : slot * width ≤ 4294967296 * width = mul-le-mul_right width (omega arith) in
+    omega arith
 
 -- a unit that is shaped has few slots
 pub few_slots : (kinds : List Meaning) (u : UnitPart) → IsTrue (is_shaped kinds u) → u.slots ≤ 262144

@@ -1,6 +1,6 @@
 //! The words that an image says.
 
-ghost use Rattle.std.specs.Prelude.{◌≡◌, ◌*◌, ◌<◌, ◌≤◌, [], length, map, slice_index_or, IfOk, IsTrue, None, Ok};
+ghost use Rattle.std.specs.Prelude.{◌≡◌, ◌+◌, ◌*◌, ◌<◌, ◌≤◌, [], length, map, slice_index_or, IfOk, IsTrue, Ok};
 ghost use Rattle.std.specs.List.{All};
 ghost use Rattle.std.specs.Option.{option_copied};
 ghost use Rattle.dn_base.specs.Answers.{Answers};
@@ -8,7 +8,7 @@ ghost use Rattle.dn_kind.specs.Kind.{IsLawful};
 ghost use Rattle.dn_kind.specs.Units.{KeepsUnitShape, has_shape};
 ghost use Rattle.dn_image.specs.Bytes.{words_spelled};
 ghost use Rattle.dn_image.specs.Image.{ImageWords, IsImageOf};
-ghost use Rattle.dn_image.specs.Reading.{broken_image, image_fault_view, image_reading, image_words, node_size, node_words};
+ghost use Rattle.dn_image.specs.Reading.{image_fault_view, image_reading, image_words, node_size, node_words, nodes_size};
 
 use crate::check::check;
 use crate::fault::ImageFault;
@@ -101,9 +101,8 @@ fn read_words(
     requires lawful { All (λ k. IsLawful (meaning (k.vtable, k.value))) kinds.now.list.items }
     requires shaped { KeepsUnitShape
         (map (λ k. meaning (k.vtable, k.value)) kinds.now.list.items) net.now }
-    requires whole { broken_image net.now
-        (map (λ k. meaning (k.vtable, k.value)) kinds.now.list.items) bytes.now
-        ≡ None }
+    requires size { 8 + nodes_size (map (λ k. meaning (k.vtable, k.value)) kinds.now.list.items)
+        net.now ≡ length bytes.now }
     ensures { IfOk result (λ words. words.items
         ≡ image_words net.now (map (λ k. meaning (k.vtable, k.value)) kinds.now.list.items) bytes.now) }
 {

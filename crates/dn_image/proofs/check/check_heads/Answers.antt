@@ -7,7 +7,18 @@ use Rattle.dn_image.specs.declared.fault.ImageFault.{ImageFault}
 use Rattle.dn_image.specs.Image.{count_unit}
 use Rattle.dn_image.specs.Reading.{Field, Passes, broken_in, unit_fields, units_fields}
 use Rattle.dn_image.proofs.Places.{fields_step, count_least}
+use Rattle.dn_image.proofs.check.check_heads.Given.{Over}
+use Rattle.dn_image.proofs.check.check_heads.Goals.{After-unit-unit}
 use Rattle.dn_image.proofs.check.check_heads.Goals as goal
+
+-- the fields of the nodes so far are right
+before : (g : Over) (c : After-unit-unit g) → (more : List Field) → broken_in c.args.total (units_fields (map (λ k. (goal.UnitKind-dyn g (k.vtable, k.value)).meaning k.value) c.args.kinds.now.list.items) 0 0 c.args.net.now ++ more) c.args.rest.now ≡ broken_in c.args.total (unit_fields (map (λ k. (goal.UnitKind-dyn g (k.vtable, k.value)).meaning k.value) c.args.kinds.now.list.items) c.loop-node.place c.loop-node.node (option_copied c.unit-unit.result) ++ ((units_fields (map (λ k. (goal.UnitKind-dyn g (k.vtable, k.value)).meaning k.value) c.args.kinds.now.list.items) (count_unit (option_copied c.unit-unit.result) c.loop-node.place) (c.loop-node.node + 1) (drop (c.loop-node.node + 1) c.args.net.now)) ++ more)) (take (length c.args.rest.now - c.loop-node.at) (drop c.loop-node.at c.args.rest.now))
+before g c more =
+    let kinds : List Meaning = map (λ k. (goal.UnitKind-dyn g (k.vtable, k.value)).meaning k.value) c.args.kinds.now.list.items in
+    let o = option_copied c.unit-unit.result in
+    let next : List Field = units_fields kinds (count_unit o c.loop-node.place) (c.loop-node.node + 1) (drop (c.loop-node.node + 1) c.args.net.now) in
+    let rest : take (length c.args.rest.now - c.loop-node.at) (drop c.loop-node.at c.args.rest.now) ≡ drop c.loop-node.at c.args.rest.now = take_rest c.args.rest.now c.loop-node.at in
+    c.loop-node.invariant.passed more ∙ ap (λ (l : List Field). broken_in c.args.total l (drop c.loop-node.at c.args.rest.now)) (fields_step kinds c.args.net.now c.loop-node.node c.loop-node.place o more c.unit-unit.ensures) ∙ ap (broken_in c.args.total (unit_fields kinds c.loop-node.place c.loop-node.node o ++ (next ++ more))) (sym rest)
 
 pub check_node-requires-clause-shaped : goal.check_node-requires-clause-shaped
 check_node-requires-clause-shaped g c = shape_there _ c.args.net.now c.loop-node.node _ c.requires.shaped c.unit-unit.ensures
@@ -18,8 +29,6 @@ loop-node-preserved g c =
     let o = option_copied c.unit-unit.result in
     let next : List Field = units_fields kinds (count_unit o c.loop-node.place) (c.loop-node.node + 1) (drop (c.loop-node.node + 1) c.args.net.now) in
     let rest : take (length c.args.rest.now - c.loop-node.at) (drop c.loop-node.at c.args.rest.now) ≡ drop c.loop-node.at c.args.rest.now = take_rest c.args.rest.now c.loop-node.at in
-    let before : (more : List Field) → broken_in c.args.total (units_fields kinds 0 0 c.args.net.now ++ more) c.args.rest.now ≡ broken_in c.args.total (unit_fields kinds c.loop-node.place c.loop-node.node o ++ (next ++ more)) (take (length c.args.rest.now - c.loop-node.at) (drop c.loop-node.at c.args.rest.now)) =
-    λ more. c.loop-node.invariant.passed more ∙ ap (λ (l : List Field). broken_in c.args.total l (drop c.loop-node.at c.args.rest.now)) (fields_step kinds c.args.net.now c.loop-node.node c.loop-node.place o more c.unit-unit.ensures) ∙ ap (broken_in c.args.total (unit_fields kinds c.loop-node.place c.loop-node.node o ++ (next ++ more))) (sym rest) in
     let d = length-drop c.loop-node.at c.args.rest.now in
     let e = ap length rest in
     let size = c.in_ok-at.ensures.whole in
@@ -29,7 +38,7 @@ loop-node-preserved g c =
       few = subst (λ n. n ≤ c.loop-node.node + 1) (sym c.count_unit-place.ensures) (count_least o c.loop-node.place c.loop-node.node c.loop-node.invariant.few);
       within = omega (arith, d, e, size, within);
       passed = λ more.
-          before more
+          before g (goal.at.loop-node-preserved g c).After-unit-unit more
           ∙ c.in_ok-at.ensures.passes (next ++ more)
           ∙ ap (λ (l : List ℕ). broken_in c.args.total (next ++ more) (drop c.in_ok-at.field-0 l)) rest
           ∙ ap (broken_in c.args.total (next ++ more)) (drop-drop c.in_ok-at.field-0 c.loop-node.at c.args.rest.now)
@@ -41,11 +50,8 @@ returns-in_err-at-clause-passes g c =
     let kinds : List Meaning = map (λ k. (goal.UnitKind-dyn g (k.vtable, k.value)).meaning k.value) c.args.kinds.now.list.items in
     let o = option_copied c.unit-unit.result in
     let next : List Field = units_fields kinds (count_unit o c.loop-node.place) (c.loop-node.node + 1) (drop (c.loop-node.node + 1) c.args.net.now) in
-    let rest : take (length c.args.rest.now - c.loop-node.at) (drop c.loop-node.at c.args.rest.now) ≡ drop c.loop-node.at c.args.rest.now = take_rest c.args.rest.now c.loop-node.at in
-    let before : (more : List Field) → broken_in c.args.total (units_fields kinds 0 0 c.args.net.now ++ more) c.args.rest.now ≡ broken_in c.args.total (unit_fields kinds c.loop-node.place c.loop-node.node o ++ (next ++ more)) (take (length c.args.rest.now - c.loop-node.at) (drop c.loop-node.at c.args.rest.now)) =
-    λ more. c.loop-node.invariant.passed more ∙ ap (λ (l : List Field). broken_in c.args.total l (drop c.loop-node.at c.args.rest.now)) (fields_step kinds c.args.net.now c.loop-node.node c.loop-node.place o more c.unit-unit.ensures) ∙ ap (broken_in c.args.total (unit_fields kinds c.loop-node.place c.loop-node.node o ++ (next ++ more))) (sym rest) in
     let same : c.from_residual.result ≡ Err c.in_err-at.field-0.0 = search rules in
-    subst (λ (r : Result ℕ ImageFault). Passes c.args.total c.args.rest.now (units_fields kinds 0 0 c.args.net.now) (λ size. size) r) (sym same) (λ more. before more ∙ c.in_err-at.ensures.passes (next ++ more))
+    subst (λ (r : Result ℕ ImageFault). Passes c.args.total c.args.rest.now (units_fields kinds 0 0 c.args.net.now) (λ size. size) r) (sym same) (λ more. before g (goal.at.returns-in_err-at-clause-passes g c).After-unit-unit more ∙ c.in_err-at.ensures.passes (next ++ more))
 
 pub returns-clause-passes : goal.returns-clause-passes
 returns-clause-passes g c =

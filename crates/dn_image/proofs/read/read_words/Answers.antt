@@ -3,8 +3,8 @@ use Rattle.std.specs.Option.{option_copied}
 use Rattle.std.proofs.lemmas.List.{drop_all, take_rest, length-drop}
 use Rattle.dn_kind.specs.Kind.{Meaning}
 use Rattle.dn_tables.proofs.Fresh.{shape_there}
-use Rattle.dn_image.specs.Reading.{node_size, node_words, words_from}
-use Rattle.dn_image.proofs.Places.{whole_size, size_step, words_step}
+use Rattle.dn_image.specs.Reading.{node_words, words_from}
+use Rattle.dn_image.proofs.Places.{size_step, words_step}
 use Rattle.dn_image.proofs.read.read_words.Goals as goal
 
 pub read_node-requires-clause-shaped : goal.read_node-requires-clause-shaped
@@ -24,7 +24,7 @@ loop-node-init g c =
     let kinds : List Meaning = map (λ k. (goal.UnitKind-dyn g (k.vtable, k.value)).meaning k.value) c.args.kinds.now.list.items in
     record {
       last = c.nodes-node-end.ensures;
-      size = sym (whole_size c.args.net.now kinds c.args.bytes.now c.requires.whole);
+      size = c.requires.size;
       so_far = ap (λ (l : List (List ℕ)). l ++ words_from kinds c.args.net.now (drop 8 c.args.bytes.now)) c.new-words.ensures.items;
     }
 

@@ -1,67 +1,53 @@
-use Rattle.std.proofs.Common.{◌≡◌, ◌∙◌, ◌≤◌, ◌+◌, ◌-◌, ap, sym, map, take, drop, length, List, ℕ, slice_get, Some, None, IsTrue, refl, rules, arith}
+use Rattle.std.proofs.Common.{◌≡◌, ◌∙◌, ◌+◌, ◌-◌, ap, sym, map, take, drop, length, List, ℕ, slice_get, Some, None, refl, rules, arith}
 use Rattle.std.specs.Option.{option_map, option_copied}
 use Rattle.std.proofs.lemmas.List.{take_rest, length-drop, drop-drop}
 use Rattle.dn_net.specs.declared.node.Unit.{Unit as UnitPart}
 use Rattle.dn_kind.specs.Kind.{Meaning}
 use Rattle.dn_kind.specs.Tables.{record_of_unit}
-use Rattle.dn_kind.specs.Units.{is_shaped}
 use Rattle.dn_tables.proofs.Fresh.{shape_there}
 use Rattle.dn_image.specs.Bytes.{words_spelled}
 use Rattle.dn_image.specs.Image.{word_count}
-use Rattle.dn_image.specs.Reading.{node_size, nodes_size, node_words, image_words}
-use Rattle.dn_image.proofs.Places.{whole_size, node_within, words_at_node, held_at, none_past, few_slots}
+use Rattle.dn_image.specs.Reading.{nodes_size, node_words, image_words}
+use Rattle.dn_image.proofs.Places.{IsUnitIn, words_within, whole_size, node_within, words_at_node, held_at, none_past, few_slots}
+use Rattle.dn_image.proofs.slots.record_in.Given.{Over}
+use Rattle.dn_image.proofs.slots.record_in.Goals.{In_ok-unit}
 use Rattle.dn_image.proofs.slots.record_in.Goals as goal
 
-pub record_of-requires-clause-shaped : goal.record_of-requires-clause-shaped
-record_of-requires-clause-shaped g c =
+-- the unit that was found
+unit_in : (g : Over) (c : In_ok-unit g) → IsUnitIn c.args.net.now (map (λ k. (goal.UnitKind-dyn g (k.vtable, k.value)).meaning k.value) c.args.kinds.now.list.items) c.args.bytes.now c.args.node c.in_ok-unit.unit.now
+unit_in g c =
     let kinds : List Meaning = map (λ k. (goal.UnitKind-dyn g (k.vtable, k.value)).meaning k.value) c.args.kinds.now.list.items in
-    let u : UnitPart = c.in_ok-unit.unit.now in
-    let there : option_map (λ d. d.unit) (slice_get c.args.net.now c.args.node) ≡ Some (Some u) = c.unit.ensures ∙ ap (λ o. Some (option_copied o)) c.in_ok-unit.was in
-    let shaped : IsTrue (is_shaped kinds u) = shape_there kinds c.args.net.now c.args.node (Some u) c.requires.shaped there in
-    shaped
+    let there : option_map (λ d. d.unit) (slice_get c.args.net.now c.args.node) ≡ Some (Some c.in_ok-unit.unit.now) = c.unit.ensures ∙ ap (λ o. Some (option_copied o)) c.in_ok-unit.was in
+    record {
+      there = there;
+      shaped = shape_there kinds c.args.net.now c.args.node (Some c.in_ok-unit.unit.now) c.requires.shaped there;
+      size = whole_size c.args.net.now kinds c.args.bytes.now c.requires.whole;
+      within = node_within kinds c.args.net.now c.args.node (Some c.in_ok-unit.unit.now) there;
+    }
+
+pub record_of-requires-clause-shaped : goal.record_of-requires-clause-shaped
+record_of-requires-clause-shaped g c = (unit_in g (goal.at.record_of-requires-clause-shaped g c).In_ok-unit).shaped
 
 pub record_of-requires-clause-room : goal.record_of-requires-clause-room
 record_of-requires-clause-room g c =
-    let kinds : List Meaning = map (λ k. (goal.UnitKind-dyn g (k.vtable, k.value)).meaning k.value) c.args.kinds.now.list.items in
-    let u : UnitPart = c.in_ok-unit.unit.now in
-    let there : option_map (λ d. d.unit) (slice_get c.args.net.now c.args.node) ≡ Some (Some u) = c.unit.ensures ∙ ap (λ o. Some (option_copied o)) c.in_ok-unit.was in
-    let shaped : IsTrue (is_shaped kinds u) = shape_there kinds c.args.net.now c.args.node (Some u) c.requires.shaped there in
-    let size = whole_size c.args.net.now kinds c.args.bytes.now c.requires.whole in
-    let within : nodes_size kinds (take c.args.node c.args.net.now) + node_size kinds (Some u) ≤ nodes_size kinds c.args.net.now = node_within kinds c.args.net.now c.args.node (Some u) there in
-    let at = c.words_at.ensures in
+    let room = words_within _ _ _ _ _ c.words_at.result (unit_in g (goal.at.record_of-requires-clause-room g c).In_ok-unit) c.words_at.ensures in
     let d = length-drop c.words_at.result c.args.bytes.now in
     let e = ap length (take_rest c.args.bytes.now c.words_at.result) in
-    omega (arith, size, within, at, d, e)
+    omega (arith, room, d, e)
 
 pub slice_bounds-record_of-start : goal.slice_bounds-record_of-start
 slice_bounds-record_of-start g c =
-    let kinds : List Meaning = map (λ k. (goal.UnitKind-dyn g (k.vtable, k.value)).meaning k.value) c.args.kinds.now.list.items in
-    let u : UnitPart = c.in_ok-unit.unit.now in
-    let there : option_map (λ d. d.unit) (slice_get c.args.net.now c.args.node) ≡ Some (Some u) = c.unit.ensures ∙ ap (λ o. Some (option_copied o)) c.in_ok-unit.was in
-    let shaped : IsTrue (is_shaped kinds u) = shape_there kinds c.args.net.now c.args.node (Some u) c.requires.shaped there in
-    let size = whole_size c.args.net.now kinds c.args.bytes.now c.requires.whole in
-    let within : nodes_size kinds (take c.args.node c.args.net.now) + node_size kinds (Some u) ≤ nodes_size kinds c.args.net.now = node_within kinds c.args.net.now c.args.node (Some u) there in
-    let at = c.words_at.ensures in
-    omega (arith, size, within, at)
+    let room = words_within _ _ _ _ _ c.words_at.result (unit_in g (goal.at.slice_bounds-record_of-start g c).In_ok-unit) c.words_at.ensures in
+    omega (arith, room)
 
 pub slice_bounds-record_of-count : goal.slice_bounds-record_of-count
 slice_bounds-record_of-count g c =
-    let kinds : List Meaning = map (λ k. (goal.UnitKind-dyn g (k.vtable, k.value)).meaning k.value) c.args.kinds.now.list.items in
-    let u : UnitPart = c.in_ok-unit.unit.now in
-    let there : option_map (λ d. d.unit) (slice_get c.args.net.now c.args.node) ≡ Some (Some u) = c.unit.ensures ∙ ap (λ o. Some (option_copied o)) c.in_ok-unit.was in
-    let shaped : IsTrue (is_shaped kinds u) = shape_there kinds c.args.net.now c.args.node (Some u) c.requires.shaped there in
-    let size = whole_size c.args.net.now kinds c.args.bytes.now c.requires.whole in
-    let within : nodes_size kinds (take c.args.node c.args.net.now) + node_size kinds (Some u) ≤ nodes_size kinds c.args.net.now = node_within kinds c.args.net.now c.args.node (Some u) there in
-    let at = c.words_at.ensures in
-    omega (arith, size, within, at)
+    let room = words_within _ _ _ _ _ c.words_at.result (unit_in g (goal.at.slice_bounds-record_of-count g c).In_ok-unit) c.words_at.ensures in
+    omega (arith, room)
 
 pub overflow_cast-slot : goal.overflow_cast-slot
 overflow_cast-slot g c =
-    let kinds : List Meaning = map (λ k. (goal.UnitKind-dyn g (k.vtable, k.value)).meaning k.value) c.args.kinds.now.list.items in
-    let u : UnitPart = c.in_ok-unit.unit.now in
-    let there : option_map (λ d. d.unit) (slice_get c.args.net.now c.args.node) ≡ Some (Some u) = c.unit.ensures ∙ ap (λ o. Some (option_copied o)) c.in_ok-unit.was in
-    let shaped : IsTrue (is_shaped kinds u) = shape_there kinds c.args.net.now c.args.node (Some u) c.requires.shaped there in
-    let few = few_slots kinds u shaped in
+    let few = few_slots (map (λ k. (goal.UnitKind-dyn g (k.vtable, k.value)).meaning k.value) c.args.kinds.now.list.items) c.in_ok-unit.unit.now (unit_in g (goal.at.overflow_cast-slot g c).In_ok-unit).shaped in
     let less = c.if-slot-from.false in
     let from = c.from.ensures in
     omega (arith, few, less, from)
@@ -70,10 +56,7 @@ pub returns : goal.returns
 returns g c =
     let kinds : List Meaning = map (λ k. (goal.UnitKind-dyn g (k.vtable, k.value)).meaning k.value) c.args.kinds.now.list.items in
     let u : UnitPart = c.in_ok-unit.unit.now in
-    let there : option_map (λ d. d.unit) (slice_get c.args.net.now c.args.node) ≡ Some (Some u) = c.unit.ensures ∙ ap (λ o. Some (option_copied o)) c.in_ok-unit.was in
-    let shaped : IsTrue (is_shaped kinds u) = shape_there kinds c.args.net.now c.args.node (Some u) c.requires.shaped there in
-    let size = whole_size c.args.net.now kinds c.args.bytes.now c.requires.whole in
-    let within : nodes_size kinds (take c.args.node c.args.net.now) + node_size kinds (Some u) ≤ nodes_size kinds c.args.net.now = node_within kinds c.args.net.now c.args.node (Some u) there in
+    let there = (unit_in g (goal.at.returns g c).In_ok-unit).there in
     let at = c.words_at.ensures in
     let n : ℕ = nodes_size kinds (take c.args.node c.args.net.now) in
     let place : 8 + n + 8 ≡ c.words_at.result = omega (arith, at) in
@@ -87,8 +70,7 @@ pub returns-then-slot-from : goal.returns-then-slot-from
 returns-then-slot-from g c =
     let kinds : List Meaning = map (λ k. (goal.UnitKind-dyn g (k.vtable, k.value)).meaning k.value) c.args.kinds.now.list.items in
     let u : UnitPart = c.in_ok-unit.unit.now in
-    let there : option_map (λ d. d.unit) (slice_get c.args.net.now c.args.node) ≡ Some (Some u) = c.unit.ensures ∙ ap (λ o. Some (option_copied o)) c.in_ok-unit.was in
-    let shaped : IsTrue (is_shaped kinds u) = shape_there kinds c.args.net.now c.args.node (Some u) c.requires.shaped there in
+    let there = (unit_in g (goal.at.returns-then-slot-from g c).In_ok-unit).there in
     let past = c.if-slot-from.true in
     let from = c.from.ensures in
     sym (held_at c.args.net.now kinds (image_words c.args.net.now kinds c.args.bytes.now) c.args.node c.args.slot (Some u) (slice_get (image_words c.args.net.now kinds c.args.bytes.now) c.args.node) there refl
