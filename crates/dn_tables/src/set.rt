@@ -223,15 +223,8 @@ impl TableSet {
         ensures { self.new ≡ with_use self.old unit slot
             (record { uses = (use_in self.old unit slot).uses + 1; owner = owner }) }
     {
-        let before = self.use_at(unit, slot);
-        let table = &mut self.nodes[usize::from(unit)];
-        table.uses.set(
-            slot as usize,
-            SlotUse {
-                uses: before.uses + 1,
-                owner,
-            },
-        );
+        let uses = self.use_at(unit, slot).uses + 1;
+        self.set_use(unit, slot, SlotUse { uses, owner });
     }
 
     /// Lowers the uses of a slot by one, and ends its owner.
@@ -241,15 +234,17 @@ impl TableSet {
         ensures { self.new ≡ with_use self.old unit slot
             (record { uses = (use_in self.old unit slot).uses - 1; owner = None }) }
     {
-        let before = self.use_at(unit, slot);
+        let uses = self.use_at(unit, slot).uses - 1;
+        self.set_use(unit, slot, SlotUse { uses, owner: None });
+    }
+
+    /// Sets who uses a slot.
+    fn set_use(&mut self, unit: u16, slot: u32, users: SlotUse)
+        requires { IsTrue (has_slot self.old unit slot) }
+        ensures { self.new ≡ with_use self.old unit slot users }
+    {
         let table = &mut self.nodes[usize::from(unit)];
-        table.uses.set(
-            slot as usize,
-            SlotUse {
-                uses: before.uses - 1,
-                owner: None,
-            },
-        );
+        table.uses.set(slot as usize, users);
     }
 
     /// Who uses a slot.
