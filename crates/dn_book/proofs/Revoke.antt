@@ -6,7 +6,6 @@ use Rattle.dn_net.specs.declared.node.NodeDecl.{NodeDecl}
 use Rattle.dn_net.specs.declared.node.Unit.{Unit as UnitPart}
 use Rattle.dn_net.specs.Chain.{Member}
 use Rattle.dn_net.specs.Decode.{unit_at}
-use Rattle.dn_net.specs.Legal.{IsLegalNet}
 use Rattle.dn_kind.specs.Kind.{Meaning, IsLawful}
 use Rattle.dn_kind.specs.Rights.{both_rights}
 use Rattle.dn_kind.specs.Tables.{Held}
@@ -60,24 +59,18 @@ pub record Going (net : List NodeDecl) (kinds : List Meaning) (book : List Grant
   pub live : Member g book
 
 module _ (net : List NodeDecl) (kinds : List Meaning) (book : List Grant) (g : Grant) (set : List NodeTable) (c : Going net kinds book g set) where
-  legal : IsLegalNet net
-  legal = c.legal.legal
-
   k : AreKinds net kinds
   k = record { lawful = c.lawful; shaped = c.legal.shaped }
 
-  sound : IsSound net book
-  sound = c.kept.sound
-
   pub going_fit : AreFit net g.request.size g.placement.hops
-  going_fit = placed_fit net legal _ g.request g.placement (sound.grants g c.live).placed
+  going_fit = placed_fit net c.legal.legal _ g.request g.placement (c.kept.sound.grants g c.live).placed
 
   holds : Holds net kinds (records_of net book) set
-  holds = record { fits = c.kept.fits; words = c.kept.words; held = book_held net legal book sound }
+  holds = record { fits = c.kept.fits; words = c.kept.words; held = book_held net c.legal.legal book c.kept.sound }
 
   use_there : (n q : ℕ) (t : _) → GrantGives net g n q t → use_in set n q ≡ use_of net book n q
   use_there n q t h =
-      let u = (gives_held net g going_fit (sound.grants g c.live).rights n q t h).unit in
+      let u = (gives_held net g going_fit (c.kept.sound.grants g c.live).rights n q t h).unit in
       c.kept.uses n q (subst (λ o. IsTrue (has_slot_by o q)) (sym (unit_fits net kinds set c.kept.fits n ∙ u.1)) (lt-ltb q u.0.slots u.2))
 
   used : (n q : ℕ) (t : _) → GrantGives net g n q t → uses_slot net n q g ≡ true
@@ -90,11 +83,11 @@ module _ (net : List NodeDecl) (kinds : List Meaning) (book : List Grant) (g : G
       once : (s : Put) → Member s (joined_slots (grant_slots net g)) → is_used_by 1 set s ≡ is_empty (records_of net (without g.id book) s.unit s.slot)
       once s m =
           let h = (put_gives net g going_fit s m).gives in
-          ap (λ (u : SlotUse). u.uses == 1) (use_there s.unit s.slot s.holds h) ∙ used_once net legal book g sound c.live s.unit s.slot (used s.unit s.slot s.holds h)
+          ap (λ (u : SlotUse). u.uses == 1) (use_there s.unit s.slot s.holds h) ∙ used_once net c.legal.legal book g c.kept.sound c.live s.unit s.slot (used s.unit s.slot s.holds h)
 
   -- and so are the writes
   pub going_log : clear_log set (filter (is_used_by 1 set) (joined_slots (grant_slots net g))) ≡ flat_map (clear_events net kinds) (clears_of net book g)
-  going_log = ap (clear_log set) going_clears ∙ clear_log_is net kinds k set c.kept.fits (clears_of net book g) (clears_there net legal book g sound c.live)
+  going_log = ap (clear_log set) going_clears ∙ clear_log_is net kinds k set c.kept.fits (clears_of net book g) (clears_there net c.legal.legal book g c.kept.sound c.live)
 
   -- the grant uses its slots
   pub going_uses : (set' : List NodeTable) → set' ≡ after_clears set (filter (is_used_by 1 set) (joined_slots (grant_slots net g))) → (place : ℕ) (hop : Hop) → slice_get g.placement.hops place ≡ Some hop → (s : Put) → Member s (hop_slots net g.request.size both_rights hop) → 0 < (use_in set' s.unit s.slot).uses
@@ -103,12 +96,12 @@ module _ (net : List NodeDecl) (kinds : List Meaning) (book : List Grant) (g : G
       let h = hop_put_gives net g going_fit place hop at s m in
       let b = by_place net g place hop s.unit s.slot h.0 h.1 in
       let same : use_in set' s.unit s.slot ≡ use_of net book s.unit s.slot = frame.use_of s.unit s.slot ∙ use_there s.unit s.slot h.0 b in
-      subst (λ (u : SlotUse). 0 < u.uses) (sym same) (some_use net legal book g sound c.live s.unit s.slot (used s.unit s.slot h.0 b))
+      subst (λ (u : SlotUse). 0 < u.uses) (sym same) (some_use net c.legal.legal book g c.kept.sound c.live s.unit s.slot (used s.unit s.slot h.0 b))
 
   -- THE BOOK AFTERWARDS
 
   after : IsSound net (without g.id book)
-  after = revoked_sound net g.id book sound
+  after = revoked_sound net g.id book c.kept.sound
 
   pub revoked : (set' set'' : List NodeTable) → set' ≡ after_clears set (filter (is_used_by 1 set) (joined_slots (grant_slots net g))) → AreHopsChanged net g.request.size (λ place. one_less) g.placement.hops set' set'' → IsKept net kinds (without g.id book) set''
   revoked set' set'' made changed = record {
@@ -123,19 +116,19 @@ module _ (net : List NodeDecl) (kinds : List Meaning) (book : List Grant) (g : G
       is = made ∙ ap (after_clears set) going_clears
 
       then' : Holds net kinds (held_cleared (records_of net book) (clears_of net book g)) (after_clears set (clears_of net book g))
-      then' = clears_hold net kinds k (records_of net book) set (clears_of net book g) (clears_there net legal book g sound c.live) holds
+      then' = clears_hold net kinds k (records_of net book) set (clears_of net book g) (clears_there net c.legal.legal book g c.kept.sound c.live) holds
 
       frame : SameFrame set set'
       frame = subst (SameFrame set) (sym is) (frame_clears set (clears_of net book g))
 
       same : ◌≡◌ {A = Held} (held_cleared (records_of net book) (clears_of net book g)) (records_of net (without g.id book))
-      same = λ i n q. records_revoked net legal book g sound c.live n q i
+      same = λ i n q. records_revoked net c.legal.legal book g c.kept.sound c.live n q i
 
       new : Holds net kinds (records_of net (without g.id book)) set''
       new = record {
         fits = fits_net_kept net kinds set set'' (fit_then set set' set'' frame.fits changed.fits) c.kept.fits;
         words = changed.same_words ∙ ap words_of is ∙ then'.words ∙ ap (packed_tables net kinds) same;
-        held = book_held net legal (without g.id book) after;
+        held = book_held net c.legal.legal (without g.id book) after;
       }
 
       uses : (n q : ℕ) → IsTrue (has_slot set'' n q) → use_in set'' n q ≡ use_of net (without g.id book) n q
@@ -144,4 +137,4 @@ module _ (net : List NodeDecl) (kinds : List Meaning) (book : List Grant) (g : G
           let first : IsTrue (has_slot set n q) = sym (has_slot_kept set set' n q frame.fits.units) ∙ before in
           changed.uses n q before
           ∙ ap (changed_by net g.request.size (λ place. one_less) 0 g.placement.hops n q) (frame.use_of n q ∙ c.kept.uses n q first)
-          ∙ uses_revoked net legal book g sound c.live n q
+          ∙ uses_revoked net c.legal.legal book g c.kept.sound c.live n q

@@ -1,4 +1,4 @@
-use Rattle.std.proofs.Common.{◌≡◌, ◌∙◌, refl, sym, rules, true, false, is_err}
+use Rattle.std.proofs.Common.{◌≡◌, ◌∙◌, refl, sym, rules, false, is_err}
 use Rattle.dn_book.specs.Sets.{put_at}
 use Rattle.dn_book.proofs.Facts.{ok_by_err}
 use Rattle.dn_book.proofs.Parts.{clear_one, clear_passed}

@@ -1,4 +1,4 @@
-use Rattle.std.proofs.Common.{◌≡◌, ◌∙◌, refl, sym, rules, inl, map, List, true, false, is_err}
+use Rattle.std.proofs.Common.{◌≡◌, ◌∙◌, refl, sym, rules, inl, map, List, false, is_err}
 use Rattle.dn_kind.specs.Kind.{Meaning}
 use Rattle.dn_book.specs.Sets.{put_at}
 use Rattle.dn_book.proofs.Facts.{ok_by_err}

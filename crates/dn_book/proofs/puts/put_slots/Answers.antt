@@ -1,4 +1,4 @@
-use Rattle.std.proofs.Common.{◌≡◌, ◌-◌, ◌<◌, ◌≤◌, suc, sym, subst, rules, arith, map, List, [], ◌∷◌, true, false, is_err}
+use Rattle.std.proofs.Common.{◌≡◌, ◌<◌, ◌≤◌, suc, sym, subst, rules, arith, map, List, [], ◌∷◌, true, false, is_err}
 use Rattle.dn_base.proofs.Counts.{counted_none, counted_then}
 use Rattle.dn_base.specs.Outside.{IsCounted}
 use Rattle.dn_kind.specs.Kind.{Meaning}

@@ -1,4 +1,4 @@
-use Rattle.std.proofs.Common.{◌≡◌, ◌-◌, ◌<◌, ◌≤◌, suc, refl, sym, subst, arith}
+use Rattle.std.proofs.Common.{◌<◌, ◌≤◌, suc, refl, sym, subst, arith}
 use Rattle.dn_kind.specs.Rights.{both_rights}
 use Rattle.dn_placement.specs.Records.{first_slot, last_slot, slot_record}
 use Rattle.dn_tables.specs.declared.table.SlotUse.{SlotUse}
