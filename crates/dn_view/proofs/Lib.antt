@@ -1,6 +1,7 @@
 pub mod Added
 pub mod Agents
 pub mod Buffers
+pub mod Courses
 pub mod Cuts
 pub mod Exposed
 pub mod Fitted

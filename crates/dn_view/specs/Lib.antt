@@ -1,7 +1,10 @@
+pub mod Courses
 pub mod Exact
 pub mod Passes
 pub mod Records
+pub mod Systems
 pub mod Through
+pub mod Trials
 pub mod Untouched
 pub mod Addition
 pub mod Views

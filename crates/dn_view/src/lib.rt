@@ -1,6 +1,7 @@
 //! What agents see under tables, and whether a placement shows exactly its buffer.
 #![tactic(auto)]
 
+mod course;
 pub mod exact;
 pub mod laws;
 mod output;
@@ -9,5 +10,7 @@ mod range;
 mod records;
 pub mod resolve;
 mod shown;
+pub mod system;
+mod trial;
 mod untouched;
 pub mod view;

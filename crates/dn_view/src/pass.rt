@@ -1,34 +1,29 @@
 //! Passes through units: what segments of names in units come to through one slot each.
 
-ghost use Rattle.std.specs.Prelude.{◌≡◌, ℕ, ◌+◌, ◌-◌, ◌*◌, ◌/◌, ◌%◌, ◌^◌, ◌<◌, ◌≤◌, ◌⊎◌, ◌&&◌, ◌||◌, nat_lt, length, map, slice_get, Some, None, OnOk, IsTrue};
-ghost use Rattle.std.specs.List.{All, list_all, list_any};
+ghost use Rattle.std.specs.Prelude.{◌≡◌, ℕ, ◌+◌, ◌-◌, ◌*◌, ◌/◌, ◌%◌, ◌^◌, ◌<◌, ◌≤◌, ◌⊎◌, ◌&&◌, ◌||◌, nat_lt, length, slice_get, Some, None, OnOk, IsTrue};
+ghost use Rattle.std.specs.List.{list_all, list_any};
 ghost use Rattle.std.specs.Option.{option_copied};
 ghost use Rattle.dn_interval.specs.declared.row.End.{End};
 ghost use Rattle.dn_interval.specs.Onward.{gives_by, rows_of};
 ghost use Rattle.dn_interval.specs.Spans.{in_span};
 ghost use Rattle.dn_interval.specs.Strands.{segs_give};
 ghost use Rattle.dn_net.specs.Decode.{unit_at};
-ghost use Rattle.dn_kind.specs.Kind.{IsLawful, is_plain, is_within};
-ghost use Rattle.dn_kind.specs.Tables.{allowing};
-ghost use Rattle.dn_kind.specs.Units.{IsLegalWith, unit_shape};
-ghost use Rattle.dn_flat.specs.Stages.{AreFlats};
-ghost use Rattle.dn_tables.specs.Set.{FitsNet, record_kept};
+ghost use Rattle.dn_kind.specs.Kind.{is_plain, is_within};
+ghost use Rattle.dn_kind.specs.Units.{unit_shape};
+ghost use Rattle.dn_view.specs.Courses.{IsCourse, course_records};
 ghost use Rattle.dn_view.specs.Passes.{has_rows, in_slot, names_go, outputs, rows_part, seg_name, seg_passes, segs_pass};
-ghost use Rattle.dn_view.specs.Records.{IsFitting, records_taken};
 
+use crate::course::Course;
 use crate::range::slot_range;
-use crate::records::{Records, record_for};
+use crate::records::record_for;
 use dn_base::OutOfMemory;
 use dn_flat::flats::Flats;
 use dn_interval::onward::follow;
 use dn_interval::{Rows, Seg, Span};
-use dn_kind::kinds::Kinds;
 use dn_kind::output::sent;
-use dn_kind::rights::Access;
 use dn_kind::unit_kind::Record;
 use dn_net::net::Net;
 use dn_net::node::Unit;
-use dn_tables::set::TableSet;
 
 /// Which rows of a flattened view.
 #[derive(Clone, Copy)]
@@ -43,68 +38,39 @@ pub(crate) enum Part {
 /// nodes to which these send. A name that is in no unit comes to nothing.
 pub(crate) fn pass(
     out: &mut Vec<Seg>,
-    net: &Net,
-    flats: &Flats,
-    kinds: &Kinds,
-    tables: &TableSet,
-    records: Records,
-    access: Access,
+    course: Course,
     part: Part,
     segs: &[Seg],
 ) -> Result<(), OutOfMemory>
-    requires lawful { All (λ k. IsLawful (meaning (k.vtable, k.value))) kinds.now.list.items }
-    requires legal { IsLegalWith
-        (map (λ k. meaning (k.vtable, k.value)) kinds.now.list.items) net.now }
-    requires flat { AreFlats net.now flats.now }
-    requires fits { FitsNet net.now
-        (map (λ k. meaning (k.vtable, k.value)) kinds.now.list.items) tables.now }
-    requires fitting { IsFitting net.now records }
+    requires { IsCourse (λ k. meaning (k.vtable, k.value)) course }
     ensures { OnOk result ((a : ℕ) (z : End) → segs_give out.new.items a z
-        ≡ (segs_give out.old.items a z || segs_pass net.now (allowing access (records_taken net.now
-        (record_kept (map (λ k. meaning (k.vtable, k.value)) kinds.now.list.items) tables.now) records.entry))
-        (gives_by (rows_part part) flats.now) segs.now a z)) }
+        ≡ (segs_give out.old.items a z || segs_pass course.entry.system.net.now
+        (course_records (λ k. meaning (k.vtable, k.value)) course.entry)
+        (gives_by (rows_part part) course.entry.system.flats.now) segs.now a z)) }
 {
     for seg in segs {
-        pass_seg(out, net, flats, kinds, tables, records, access, part, *seg)?;
+        pass_seg(out, course, part, *seg)?;
     }
     Ok(())
 }
 
 /// Adds what the names of a segment come to.
-fn pass_seg(
-    out: &mut Vec<Seg>,
-    net: &Net,
-    flats: &Flats,
-    kinds: &Kinds,
-    tables: &TableSet,
-    records: Records,
-    access: Access,
-    part: Part,
-    seg: Seg,
-) -> Result<(), OutOfMemory>
-    requires lawful { All (λ k. IsLawful (meaning (k.vtable, k.value))) kinds.now.list.items }
-    requires legal { IsLegalWith
-        (map (λ k. meaning (k.vtable, k.value)) kinds.now.list.items) net.now }
-    requires flat { AreFlats net.now flats.now }
-    requires fits { FitsNet net.now
-        (map (λ k. meaning (k.vtable, k.value)) kinds.now.list.items) tables.now }
-    requires fitting { IsFitting net.now records }
+fn pass_seg(out: &mut Vec<Seg>, course: Course, part: Part, seg: Seg) -> Result<(), OutOfMemory>
+    requires { IsCourse (λ k. meaning (k.vtable, k.value)) course }
     ensures { OnOk result ((a : ℕ) (z : End) → segs_give out.new.items a z
-        ≡ (segs_give out.old.items a z || seg_passes net.now (allowing access (records_taken net.now
-        (record_kept (map (λ k. meaning (k.vtable, k.value)) kinds.now.list.items) tables.now) records.entry))
-        (gives_by (rows_part part) flats.now) seg a z)) }
+        ≡ (segs_give out.old.items a z || seg_passes course.entry.system.net.now
+        (course_records (λ k. meaning (k.vtable, k.value)) course.entry)
+        (gives_by (rows_part part) course.entry.system.flats.now) seg a z)) }
 {
-    let Some(unit) = unit_of(net, seg.node) else {
+    let Some(unit) = unit_of(course.system.net, seg.node) else {
         return Ok(());
     };
-    if !leads_on(flats, unit, part) {
+    if !leads_on(course.system.flats, unit, part) {
         return Ok(());
     }
-    let range = slot_range(net, records, unit, seg);
+    let range = slot_range(course.system.net, course.records, unit, seg);
     for slot in range.0..range.1 {
-        pass_slot(
-            out, net, flats, kinds, tables, records, access, part, unit, seg, slot,
-        )?;
+        pass_slot(out, course, part, unit, seg, slot)?;
     }
     Ok(())
 }
@@ -112,37 +78,33 @@ fn pass_seg(
 /// Adds what the names of a segment come to through one slot.
 fn pass_slot(
     out: &mut Vec<Seg>,
-    net: &Net,
-    flats: &Flats,
-    kinds: &Kinds,
-    tables: &TableSet,
-    records: Records,
-    access: Access,
+    course: Course,
     part: Part,
     unit: &Unit,
     seg: Seg,
     slot: u64,
 ) -> Result<(), OutOfMemory>
-    requires lawful { All (λ k. IsLawful (meaning (k.vtable, k.value))) kinds.now.list.items }
-    requires legal { IsLegalWith
-        (map (λ k. meaning (k.vtable, k.value)) kinds.now.list.items) net.now }
-    requires flat { AreFlats net.now flats.now }
-    requires fits { FitsNet net.now
-        (map (λ k. meaning (k.vtable, k.value)) kinds.now.list.items) tables.now }
-    requires fitting { IsFitting net.now records }
-    requires unit { unit_at net.now seg.node ≡ Some unit.now }
+    requires course { IsCourse (λ k. meaning (k.vtable, k.value)) course }
+    requires unit { unit_at course.system.net.now seg.node ≡ Some unit.now }
     requires there { slot < unit.now.slots }
     requires begins { seg.base / 2 ^ unit.now.page ≤ slot }
     requires ends { slot ≤ (seg.base + (seg.span.hi - seg.span.lo)) / 2 ^ unit.now.page }
     ensures { OnOk result ((a : ℕ) (z : End) → segs_give out.new.items a z
         ≡ (segs_give out.old.items a z || (in_slot unit.now.page slot seg a
-        && names_go (gives_by (rows_part part) flats.now) (outputs net.now (allowing access (records_taken net.now
-        (record_kept (map (λ k. meaning (k.vtable, k.value)) kinds.now.list.items) tables.now) records.entry))
-        (seg_name seg a)) z))) }
+        && names_go (gives_by (rows_part part) course.entry.system.flats.now)
+        (outputs course.entry.system.net.now
+        (course_records (λ k. meaning (k.vtable, k.value)) course.entry) (seg_name seg a)) z))) }
 {
-    match record_for(net, kinds, tables, records, access, seg.node, slot as u32) {
+    match record_for(course, seg.node, slot as u32) {
         None => Ok(()),
-        Some(record) => push_sent(out, flats, part, sent_part(unit, record, seg, slot)),
+        Some(record) => {
+            push_sent(
+                out,
+                course.system.flats,
+                part,
+                sent_part(unit, record, seg, slot),
+            )
+        }
     }
 }
 

@@ -1,24 +1,21 @@
 //! The records of slots by which a pass through units goes.
 
-ghost use Rattle.std.specs.Prelude.{◌≡◌, ◌≤◌, map, Some, IsSome, IsTrue};
-ghost use Rattle.std.specs.List.{All};
+ghost use Rattle.std.specs.Prelude.{◌≡◌, ◌≤◌, Some, IsSome, IsTrue};
 ghost use Rattle.dn_net.specs.declared.node.Unit.{Unit as UnitPart};
 ghost use Rattle.dn_net.specs.Decode.{unit_at};
 ghost use Rattle.dn_net.specs.Units.{has_plain_units};
-ghost use Rattle.dn_kind.specs.Kind.{IsLawful};
-ghost use Rattle.dn_kind.specs.Tables.{Held, allowing};
-ghost use Rattle.dn_kind.specs.Units.{IsLegalWith};
-ghost use Rattle.dn_tables.specs.Set.{FitsNet, has_slot, record_kept};
+ghost use Rattle.dn_kind.specs.Tables.{Held};
+ghost use Rattle.dn_tables.specs.Set.{has_slot};
 ghost use Rattle.dn_placement.specs.Records.{hop_record, hop_rights, or_record, placed_records};
+ghost use Rattle.dn_view.specs.Courses.{IsCourse, course_records};
 ghost use Rattle.dn_view.specs.Records.{AreFitted, IsFitted, IsFitting, fresh_record, records_taken};
 
-use dn_kind::kinds::Kinds;
-use dn_kind::rights::{Access, Rights};
+use crate::course::Course;
+use dn_kind::rights::Rights;
 use dn_kind::unit_kind::Record;
 use dn_net::net::Net;
 use dn_placement::request::Request;
 use dn_tables::placement::{Hop, Placement};
-use dn_tables::set::TableSet;
 
 /// Which records a pass goes by.
 #[derive(Clone, Copy)]
@@ -32,29 +29,14 @@ pub(crate) enum Records<'a> {
 }
 
 /// The record of a slot that is taken, where it allows the access.
-pub(crate) fn record_for(
-    net: &Net,
-    kinds: &Kinds,
-    tables: &TableSet,
-    records: Records,
-    access: Access,
-    node: u16,
-    slot: u32,
-) -> Option<Record>
-    requires lawful { All (λ k. IsLawful (meaning (k.vtable, k.value))) kinds.now.list.items }
-    requires fits { FitsNet net.now
-        (map (λ k. meaning (k.vtable, k.value)) kinds.now.list.items) tables.now }
-    requires legal { IsLegalWith
-        (map (λ k. meaning (k.vtable, k.value)) kinds.now.list.items) net.now }
-    requires fitting { IsFitting net.now records }
-    requires there { IsTrue (has_slot tables.now node slot) }
-    ensures { result ≡ allowing access (records_taken net.now
-        (record_kept (map (λ k. meaning (k.vtable, k.value)) kinds.now.list.items) tables.now) records.entry)
-        node slot }
+pub(crate) fn record_for(course: Course, node: u16, slot: u32) -> Option<Record>
+    requires course { IsCourse (λ k. meaning (k.vtable, k.value)) course }
+    requires there { IsTrue (has_slot course.tables.now node slot) }
+    ensures { result ≡ course_records (λ k. meaning (k.vtable, k.value)) course.entry node slot }
 {
-    let kept = tables.record_at(kinds, node, slot);
-    let record = taken(net, records, kept, node, slot)?;
-    if record.rights.allows(access) {
+    let kept = course.tables.record_at(course.system.kinds, node, slot);
+    let record = taken(course.system.net, course.records, kept, node, slot)?;
+    if record.rights.allows(course.access) {
         Some(record)
     } else {
         None

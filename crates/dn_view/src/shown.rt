@@ -1,32 +1,22 @@
 //! What names in units come to, unit by unit.
 
-ghost use Rattle.std.specs.Prelude.{◌≡◌, ℕ, ◌≤◌, ◌⊎◌, ◌↔◌, ◌<◌, length, map, slice_get, OnOk, IfOk, IsTrue};
-ghost use Rattle.std.specs.List.{All};
+ghost use Rattle.std.specs.Prelude.{◌≡◌, ℕ, ◌≤◌, ◌⊎◌, ◌↔◌, ◌<◌, length, slice_get, OnOk, IfOk, IsTrue};
 ghost use Rattle.dn_interval.specs.declared.row.End.{End};
 ghost use Rattle.dn_interval.specs.declared.span.TheConstants.{TOP};
 ghost use Rattle.dn_interval.specs.Strands.{rows_give, segs_give};
 ghost use Rattle.dn_interval.specs.Onward.{gives_by, rows_of};
-ghost use Rattle.dn_kind.specs.Kind.{IsLawful};
-ghost use Rattle.dn_kind.specs.Tables.{allowing};
-ghost use Rattle.dn_kind.specs.Units.{IsLegalWith};
-ghost use Rattle.dn_flat.specs.Stages.{AreFlats};
 ghost use Rattle.dn_flat.specs.Views.{name_of_end};
-ghost use Rattle.dn_tables.specs.Set.{FitsNet, record_kept};
+ghost use Rattle.dn_view.specs.Courses.{IsCourse, course_records};
 ghost use Rattle.dn_view.specs.Passes.{rows_part, segs_pass};
 ghost use Rattle.dn_view.specs.declared.pass.Part.TheVariants.{Stops};
-ghost use Rattle.dn_view.specs.Records.{IsFitting, records_taken};
 ghost use Rattle.dn_view.specs.Through.{ComesThrough};
 
+use crate::course::Course;
 use crate::pass::{Part, part_rows, pass};
-use crate::records::Records;
 use dn_base::OutOfMemory;
 use dn_flat::flats::Flats;
 use dn_interval::onward::follow;
 use dn_interval::{Seg, Span, TOP};
-use dn_kind::kinds::Kinds;
-use dn_kind::rights::Access;
-use dn_net::net::Net;
-use dn_tables::set::TableSet;
 use std::alloc::Global;
 
 /// The most units in a row.
@@ -37,25 +27,14 @@ pub(crate) const UNITS: u32 = 3;
 pub(crate) fn push_through(
     alloc: Global,
     shown: &mut Vec<Seg>,
-    net: &Net,
-    flats: &Flats,
-    kinds: &Kinds,
-    tables: &TableSet,
-    records: Records,
-    access: Access,
+    course: Course,
     stops: Vec<Seg>,
 ) -> Result<(), OutOfMemory>
-    requires lawful { All (λ k. IsLawful (meaning (k.vtable, k.value))) kinds.now.list.items }
-    requires legal { IsLegalWith
-        (map (λ k. meaning (k.vtable, k.value)) kinds.now.list.items) net.now }
-    requires flat { AreFlats net.now flats.now }
-    requires fits { FitsNet net.now
-        (map (λ k. meaning (k.vtable, k.value)) kinds.now.list.items) tables.now }
-    requires fitting { IsFitting net.now records }
+    requires { IsCourse (λ k. meaning (k.vtable, k.value)) course }
     ensures { OnOk result ((a : ℕ) (z : End) → a ≤ TOP → IsTrue (segs_give shown.new.items a z)
         ↔ (IsTrue (segs_give shown.old.items a z)
-        ⊎ ((s : End) × IsTrue (segs_give stops.items a s) × ComesThrough net.now (allowing access (records_taken net.now
-        (record_kept (map (λ k. meaning (k.vtable, k.value)) kinds.now.list.items) tables.now) records.entry))
+        ⊎ ((s : End) × IsTrue (segs_give stops.items a s) × ComesThrough course.entry.system.net.now
+        (course_records (λ k. meaning (k.vtable, k.value)) course.entry)
         (name_of_end s) (name_of_end z)))) }
 {
     if stops.is_empty() {
@@ -64,18 +43,8 @@ pub(crate) fn push_through(
     let mut level = stops;
     for _ in 0..UNITS {
         let segs = level.as_slice();
-        pass(
-            shown,
-            net,
-            flats,
-            kinds,
-            tables,
-            records,
-            access,
-            Part::Accepts,
-            segs,
-        )?;
-        level = passed_stops(alloc, net, flats, kinds, tables, records, access, segs)?;
+        pass(shown, course, Part::Accepts, segs)?;
+        level = passed_stops(alloc, course, segs)?;
     }
     Ok(())
 }
@@ -83,38 +52,17 @@ pub(crate) fn push_through(
 /// The names in units to which the names of segments come through the records of their slots.
 pub(crate) fn passed_stops(
     alloc: Global,
-    net: &Net,
-    flats: &Flats,
-    kinds: &Kinds,
-    tables: &TableSet,
-    records: Records,
-    access: Access,
+    course: Course,
     segs: &[Seg],
 ) -> Result<Vec<Seg>, OutOfMemory>
-    requires lawful { All (λ k. IsLawful (meaning (k.vtable, k.value))) kinds.now.list.items }
-    requires legal { IsLegalWith
-        (map (λ k. meaning (k.vtable, k.value)) kinds.now.list.items) net.now }
-    requires flat { AreFlats net.now flats.now }
-    requires fits { FitsNet net.now
-        (map (λ k. meaning (k.vtable, k.value)) kinds.now.list.items) tables.now }
-    requires fitting { IsFitting net.now records }
+    requires { IsCourse (λ k. meaning (k.vtable, k.value)) course }
     ensures { IfOk result (λ stops. (a : ℕ) (z : End) → segs_give stops.items a z
-        ≡ segs_pass net.now (allowing access (records_taken net.now
-        (record_kept (map (λ k. meaning (k.vtable, k.value)) kinds.now.list.items) tables.now) records.entry))
-        (gives_by (rows_part Stops) flats.now) segs.now a z) }
+        ≡ segs_pass course.entry.system.net.now
+        (course_records (λ k. meaning (k.vtable, k.value)) course.entry)
+        (gives_by (rows_part Stops) course.entry.system.flats.now) segs.now a z) }
 {
     let mut stops = Vec::new(alloc);
-    pass(
-        &mut stops,
-        net,
-        flats,
-        kinds,
-        tables,
-        records,
-        access,
-        Part::Stops,
-        segs,
-    )?;
+    pass(&mut stops, course, Part::Stops, segs)?;
     Ok(stops)
 }
 

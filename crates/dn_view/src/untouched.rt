@@ -2,54 +2,44 @@
 
 ghost use Rattle.std.specs.Prelude.{◌≡◌, ◌<◌, length, IsTrue};
 ghost use Rattle.dn_net.specs.Decode.{unit_at};
-ghost use Rattle.dn_net.specs.Legal.{IsLegalNet};
 ghost use Rattle.dn_kind.specs.Tables.{Held};
-ghost use Rattle.dn_flat.specs.Stages.{AreFlats};
 ghost use Rattle.dn_view.specs.Exact.{IsExactAt};
+ghost use Rattle.dn_view.specs.Systems.{IsSystem};
+ghost use Rattle.dn_view.specs.Trials.{IsTrial};
 ghost use Rattle.dn_view.specs.Untouched.{can_meet, has_hop, leads_to_units, rows_meet};
 ghost use Rattle.dn_view.specs.declared.pass.Part.TheVariants.{Stops};
 ghost use Rattle.std.specs.List.{list_any};
 
 use crate::exact::is_asked;
 use crate::pass::{Part, leads_on, part_rows, unit_of};
-use dn_flat::flats::Flats;
+use crate::system::System;
+use crate::trial::Trial;
 use dn_interval::{End, Row};
-use dn_kind::rights::Access;
-use dn_net::net::Net;
-use dn_placement::request::Request;
 use dn_tables::placement::Placement;
 
 /// Whether nothing is asked for at a node, and no name to which the node leads can come to a hop of the
 /// placement: then it shows nothing newly, whatever the tables hold. It takes no memory.
-pub(crate) fn is_untouched(
-    net: &Net,
-    flats: &Flats,
-    request: &Request,
-    placement: &Placement,
-    access: Access,
-    node: u16,
-) -> bool
-    requires legal { IsLegalNet net.now }
-    requires flat { AreFlats net.now flats.now }
-    requires there { node < length flats.now }
-    ensures { IsTrue result → (h : Held) →
-        IsExactAt net.now h request.now placement.now access node }
+pub(crate) fn is_untouched(trial: Trial, node: u16) -> bool
+    requires trial { IsTrial (λ k. meaning (k.vtable, k.value)) trial }
+    requires there { node < length trial.system.flats.now }
+    ensures { IsTrue result → (h : Held) → IsExactAt trial.entry.system.net.now h
+        trial.entry.request.now trial.entry.placement.now trial.entry.access node }
 {
-    if is_asked(request, node, access) {
+    if is_asked(trial.request, node, trial.access) {
         return false;
     }
-    let rows = part_rows(flats, node, Part::Stops);
-    !rows_meet(net, flats, placement, rows.rows())
+    let rows = part_rows(trial.system.flats, node, Part::Stops);
+    !rows_meet(trial, rows.rows())
 }
 
 /// Whether some name of the rows can come to a hop.
-fn rows_meet(net: &Net, flats: &Flats, placement: &Placement, rows: &[Row]) -> bool
-    requires legal { IsLegalNet net.now }
-    requires flat { AreFlats net.now flats.now }
-    ensures { result ≡ rows_meet net.now flats.now placement.now.hops rows.now }
+fn rows_meet(trial: Trial, rows: &[Row]) -> bool
+    requires { IsTrial (λ k. meaning (k.vtable, k.value)) trial }
+    ensures { result ≡ rows_meet trial.entry.system.net.now trial.entry.system.flats.now
+        trial.entry.placement.now.hops rows.now }
 {
     for row in rows {
-        if ends_meet(net, flats, placement, row.ends()) {
+        if ends_meet(trial, row.ends()) {
             return true;
         }
     }
@@ -57,14 +47,13 @@ fn rows_meet(net: &Net, flats: &Flats, placement: &Placement, rows: &[Row]) -> b
 }
 
 /// Whether one of the names can come to a hop.
-fn ends_meet(net: &Net, flats: &Flats, placement: &Placement, ends: &[End]) -> bool
-    requires legal { IsLegalNet net.now }
-    requires flat { AreFlats net.now flats.now }
-    ensures { result
-        ≡ list_any (λ e. can_meet net.now flats.now placement.now.hops e.node) ends.now }
+fn ends_meet(trial: Trial, ends: &[End]) -> bool
+    requires { IsTrial (λ k. meaning (k.vtable, k.value)) trial }
+    ensures { result ≡ list_any (λ e. can_meet trial.entry.system.net.now
+        trial.entry.system.flats.now trial.entry.placement.now.hops e.node) ends.now }
 {
     for end in ends {
-        if can_meet(net, flats, placement, end.node) {
+        if can_meet(trial, end.node) {
             return true;
         }
     }
@@ -72,12 +61,12 @@ fn ends_meet(net: &Net, flats: &Flats, placement: &Placement, ends: &[End]) -> b
 }
 
 /// Whether what stands in a node can come to a hop: to one in the node itself, or through it to others.
-fn can_meet(net: &Net, flats: &Flats, placement: &Placement, node: u16) -> bool
-    requires legal { IsLegalNet net.now }
-    requires flat { AreFlats net.now flats.now }
-    ensures { result ≡ can_meet net.now flats.now placement.now.hops node }
+fn can_meet(trial: Trial, node: u16) -> bool
+    requires { IsTrial (λ k. meaning (k.vtable, k.value)) trial }
+    ensures { result ≡ can_meet trial.entry.system.net.now trial.entry.system.flats.now
+        trial.entry.placement.now.hops node }
 {
-    has_hop(placement, node) || leads_to_units(net, flats, node)
+    has_hop(trial.placement, node) || leads_to_units(trial.system, node)
 }
 
 /// Whether one of the hops stands in the node.
@@ -88,13 +77,12 @@ fn has_hop(placement: &Placement, node: u16) -> bool
 }
 
 /// Whether the node is a unit with a port whose node leads to units.
-fn leads_to_units(net: &Net, flats: &Flats, node: u16) -> bool
-    requires legal { IsLegalNet net.now }
-    requires flat { AreFlats net.now flats.now }
-    ensures { result ≡ leads_to_units flats.now (unit_at net.now node) }
+fn leads_to_units(system: System, node: u16) -> bool
+    requires { IsSystem (λ k. meaning (k.vtable, k.value)) system }
+    ensures { result ≡ leads_to_units system.entry.flats.now (unit_at system.entry.net.now node) }
 {
-    match unit_of(net, node) {
-        Some(unit) => leads_on(flats, unit, Part::Stops),
+    match unit_of(system.net, node) {
+        Some(unit) => leads_on(system.flats, unit, Part::Stops),
         None => false,
     }
 }

@@ -1,4 +1,4 @@
-use Rattle.std.proofs.Common.{◌≡◌, ◌∙◌, ◌≤◌, ◌<◌, ◌↔◌, ℕ, true, nat_eq, ◌==◌, ap, subst, sym, refl, map, length, slice_get, List, eqb-true, rules}
+use Rattle.std.proofs.Common.{◌≡◌, ◌∙◌, ◌≤◌, ◌<◌, ◌↔◌, ℕ, true, nat_eq, ◌==◌, ap, subst, sym, refl, length, slice_get, List, eqb-true, rules}
 use Rattle.dn_interval.specs.declared.row.End.{End}
 use Rattle.dn_interval.specs.declared.row.Row.{Row}
 use Rattle.dn_interval.specs.declared.row.Seg.{Seg}
@@ -6,12 +6,11 @@ use Rattle.dn_interval.specs.declared.span.TheConstants.{TOP}
 use Rattle.dn_interval.specs.Rows.{AreNormal, SegmentsGive}
 use Rattle.dn_interval.specs.Strands.{segs_give}
 use Rattle.dn_net.specs.Decode.{is_agent_at}
-use Rattle.dn_kind.specs.Kind.{Meaning}
 use Rattle.dn_kind.specs.Rights.{allows}
 use Rattle.dn_kind.specs.Tables.{Held}
 use Rattle.dn_flat.specs.Views.{name_of_end}
-use Rattle.dn_tables.specs.Set.{record_kept}
 use Rattle.dn_view.specs.Exact.{IsAdded, IsExactAt, are_buffer}
+use Rattle.dn_view.specs.Trials.{trial_records}
 use Rattle.dn_view.proofs.Agents.{agent_there}
 use Rattle.std.proofs.lemmas.Bool.{and_parts}
 use Rattle.dn_view.proofs.Added.{added_is, exact_no_agent, exact_agent, not_asked}
@@ -20,53 +19,49 @@ use Rattle.dn_view.proofs.exact.exact_at.Goals as goal
 
 pub returns-then-not-is_agent : goal.returns-then-not-is_agent
 returns-then-not-is_agent g c =
-    let kinds : List Meaning = map (λ k. (goal.UnitKind-dyn g (k.vtable, k.value)).meaning k.value) c.args.kinds.now.list.items in
-    let net = c.args.net.now in
-    let h : Held = record_kept kinds c.args.tables.now in
-    let rq = c.args.request.now in
-    let p = c.args.placement.now in
-    exact_no_agent net h rq p c.args.access c.args.node (sym c.if-not-is_agent.ensures)
+    let net = c.args.trial.system.net.now in
+    let h : Held = trial_records (λ k. (goal.UnitKind-dyn g (k.vtable, k.value)).meaning k.value) c.args.trial in
+    let rq = c.args.trial.request.now in
+    let p = c.args.trial.placement.now in
+    exact_no_agent net h rq p c.args.trial.access c.args.node (sym c.if-not-is_agent.ensures)
 
 pub returns-then-is_untouched : goal.returns-then-is_untouched
 returns-then-is_untouched g c =
-    let kinds : List Meaning = map (λ k. (goal.UnitKind-dyn g (k.vtable, k.value)).meaning k.value) c.args.kinds.now.list.items in
-    let net = c.args.net.now in
-    let h : Held = record_kept kinds c.args.tables.now in
-    let rq = c.args.request.now in
-    let p = c.args.placement.now in
-    exact_agent net h rq p c.args.access c.args.node (sym c.if-not-is_agent.ensures) ((λ _. c.if-is_untouched.ensures refl h), (λ _. refl))
+    let net = c.args.trial.system.net.now in
+    let h : Held = trial_records (λ k. (goal.UnitKind-dyn g (k.vtable, k.value)).meaning k.value) c.args.trial in
+    let rq = c.args.trial.request.now in
+    let p = c.args.trial.placement.now in
+    exact_agent net h rq p c.args.trial.access c.args.node (sym c.if-not-is_agent.ensures) ((λ _. c.if-is_untouched.ensures refl h), (λ _. refl))
 
 pub returns-then-is_asked : goal.returns-then-is_asked
 returns-then-is_asked g c =
-    let kinds : List Meaning = map (λ k. (goal.UnitKind-dyn g (k.vtable, k.value)).meaning k.value) c.args.kinds.now.list.items in
-    let net = c.args.net.now in
-    let h : Held = record_kept kinds c.args.tables.now in
-    let rq = c.args.request.now in
-    let p = c.args.placement.now in
+    let net = c.args.trial.system.net.now in
+    let h : Held = trial_records (λ k. (goal.UnitKind-dyn g (k.vtable, k.value)).meaning k.value) c.args.trial in
+    let rq = c.args.trial.request.now in
+    let p = c.args.trial.placement.now in
     let node = c.args.node in
     let agent : is_agent_at (slice_get net node) ≡ true = sym c.if-not-is_agent.ensures in
-    let there : node < length c.args.flats.now = subst (λ n. node < n) (sym c.requires.flat.every) (agent_there net node agent) in
+    let there : node < length c.args.trial.system.flats.now = subst (λ n. node < n) (sym c.requires.system.flat.every) (agent_there net node agent) in
     let shown : List Seg = c.in_ok-shown.shown.items in
-    let is : (a : ℕ) (z : End) → a ≤ TOP → (segs_give shown a z ≡ true) ↔ IsAdded net h rq p c.args.access (record { node = node; addr = a }) (name_of_end z) = added_is net h rq p c.args.access node c.args.flats.now c.requires.flat there c.in_ok-stops.stops.items shown c.in_ok-stops.ensures c.in_ok-shown.ensures in
+    let is : (a : ℕ) (z : End) → a ≤ TOP → (segs_give shown a z ≡ true) ↔ IsAdded net h rq p c.args.trial.access (record { node = node; addr = a }) (name_of_end z) = added_is net h rq p c.args.trial.access node c.args.trial.system.flats.now c.requires.system.flat there c.in_ok-stops.stops.items shown c.in_ok-stops.ensures c.in_ok-shown.ensures in
     let rows : List Row = c.in_ok-rows.rows in
-    let asked = and_parts (nat_eq node rq.agent) (allows rq.rights c.args.access) (sym c.if-is_asked.ensures) in
+    let asked = and_parts (nat_eq node rq.agent) (allows rq.rights c.args.trial.access) (sym c.if-is_asked.ensures) in
     let same : c.is_buffer.result ≡ are_buffer rows rq p.v = c.is_buffer.ensures ∙ ap (λ v. are_buffer rows rq v) c.v.ensures in
     let normal : AreNormal (SegmentsGive shown) rows = subst (λ (s : List Seg). AreNormal (SegmentsGive s) rows) c.as_slice.ensures.value c.in_ok-rows.ensures.normal in
-    exact_agent net h rq p c.args.access node agent (subst (λ b. (b ≡ true) ↔ IsExactAt net h rq p c.args.access node) (sym same)
-    (exact_buffer net h rq p c.args.access node shown rows c.requires.fitted.some c.requires.within (eqb-true node rq.agent asked.0) asked.1 is normal))
+    exact_agent net h rq p c.args.trial.access node agent (subst (λ b. (b ≡ true) ↔ IsExactAt net h rq p c.args.trial.access node) (sym same)
+    (exact_buffer net h rq p c.args.trial.access node shown rows c.requires.fitted.some c.requires.within (eqb-true node rq.agent asked.0) asked.1 is normal))
 
 pub returns : goal.returns
 returns g c =
-    let kinds : List Meaning = map (λ k. (goal.UnitKind-dyn g (k.vtable, k.value)).meaning k.value) c.args.kinds.now.list.items in
-    let net = c.args.net.now in
-    let h : Held = record_kept kinds c.args.tables.now in
-    let rq = c.args.request.now in
-    let p = c.args.placement.now in
+    let net = c.args.trial.system.net.now in
+    let h : Held = trial_records (λ k. (goal.UnitKind-dyn g (k.vtable, k.value)).meaning k.value) c.args.trial in
+    let rq = c.args.trial.request.now in
+    let p = c.args.trial.placement.now in
     let node = c.args.node in
     let agent : is_agent_at (slice_get net node) ≡ true = sym c.if-not-is_agent.ensures in
-    let there : node < length c.args.flats.now = subst (λ n. node < n) (sym c.requires.flat.every) (agent_there net node agent) in
+    let there : node < length c.args.trial.system.flats.now = subst (λ n. node < n) (sym c.requires.system.flat.every) (agent_there net node agent) in
     let shown : List Seg = c.in_ok-shown.shown.items in
-    let is : (a : ℕ) (z : End) → a ≤ TOP → (segs_give shown a z ≡ true) ↔ IsAdded net h rq p c.args.access (record { node = node; addr = a }) (name_of_end z) = added_is net h rq p c.args.access node c.args.flats.now c.requires.flat there c.in_ok-stops.stops.items shown c.in_ok-stops.ensures c.in_ok-shown.ensures in
+    let is : (a : ℕ) (z : End) → a ≤ TOP → (segs_give shown a z ≡ true) ↔ IsAdded net h rq p c.args.trial.access (record { node = node; addr = a }) (name_of_end z) = added_is net h rq p c.args.trial.access node c.args.trial.system.flats.now c.requires.system.flat there c.in_ok-stops.stops.items shown c.in_ok-stops.ensures c.in_ok-shown.ensures in
     let same : c.is_empty.result ≡ (length shown == 0) = search rules in
-    exact_agent net h rq p c.args.access node agent (subst (λ b. (b ≡ true) ↔ IsExactAt net h rq p c.args.access node) (sym same)
-    (exact_none net h rq p c.args.access node shown (not_asked net h rq p c.args.access node (sym c.if-is_asked.ensures)) is))
+    exact_agent net h rq p c.args.trial.access node agent (subst (λ b. (b ≡ true) ↔ IsExactAt net h rq p c.args.trial.access node) (sym same)
+    (exact_none net h rq p c.args.trial.access node shown (not_asked net h rq p c.args.trial.access node (sym c.if-is_asked.ensures)) is))

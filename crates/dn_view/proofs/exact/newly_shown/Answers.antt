@@ -1,20 +1,16 @@
-use Rattle.std.proofs.Common.{◌≡◌, ◌∙◌, ◌-◌, ◌+◌, ◌⊎◌, ◌↔◌, true, suc, ap, subst, sym, map, List, arith}
-use Rattle.std.specs.List.{All}
+use Rattle.std.proofs.Common.{◌≡◌, ◌∙◌, ◌-◌, ◌+◌, ◌⊎◌, ◌↔◌, true, suc, ap, subst, sym, List, arith}
 use Rattle.dn_interval.specs.declared.row.End.{End}
 use Rattle.dn_interval.specs.declared.row.Seg.{Seg}
 use Rattle.dn_interval.specs.Onward.{gives_by}
 use Rattle.dn_interval.specs.Strands.{segs_give}
-use Rattle.dn_kind.specs.Kind.{Meaning, IsLawful}
-use Rattle.dn_kind.specs.Tables.{Held, AreHeld, allowing}
+use Rattle.dn_kind.specs.Tables.{Held, AreHeld}
 use Rattle.dn_flat.specs.Views.{name_of_end}
-use Rattle.dn_placement.specs.Records.{joined_records, placed_records}
-use Rattle.dn_tables.specs.Set.{record_kept}
-use Rattle.dn_tables.proofs.Slots.{all_of_map}
 use Rattle.dn_view.specs.declared.pass.Part.TheVariants.{Stops}
 use Rattle.dn_view.specs.Passes.{rows_part, segs_pass}
-use Rattle.dn_view.specs.Records.{fresh_records}
 use Rattle.dn_view.specs.Through.{IsPassedOn}
-use Rattle.dn_view.proofs.Held.{kept_are_held, allowed_are_held}
+use Rattle.dn_view.specs.declared.records.Records.TheVariants.{Kept}
+use Rattle.dn_view.specs.Trials.{course_by, fresh_in, joined_in, kept_in}
+use Rattle.dn_view.proofs.Courses.{course_held}
 use Rattle.dn_view.proofs.Passed.{NewlyComes, newly_next, newly_end, newly_whole, then_both, both_turned}
 use Rattle.dn_view.proofs.exact.newly_shown.Goals as goal
 
@@ -23,17 +19,12 @@ loop-init g c a z low = ((λ x. x), (λ x. x))
 
 pub loop-preserved : goal.loop-preserved
 loop-preserved g c a z low =
-    let kinds : List Meaning = map (λ k. (goal.UnitKind-dyn g (k.vtable, k.value)).meaning k.value) c.args.kinds.now.list.items in
-    let lawful : All IsLawful kinds = all_of_map (λ k. (goal.UnitKind-dyn g (k.vtable, k.value)).meaning k.value) c.args.kinds.now.list.items c.requires.lawful in
-    let net = c.args.net.now in
-    let flats = c.args.flats.now in
-    let h : Held = record_kept kinds c.args.tables.now in
-    let kept : AreHeld net h = kept_are_held net kinds c.args.tables.now lawful c.requires.fits in
-    let added : Held = placed_records net c.args.request.now c.args.placement.now in
-    let old : Held = allowing c.args.access h in
-    let fresh : Held = allowing c.args.access (fresh_records h added) in
-    let all : Held = allowing c.args.access (joined_records h added) in
-    let held : AreHeld net old = allowed_are_held net h c.args.access kept in
+    let net = c.args.trial.system.net.now in
+    let flats = c.args.trial.system.flats.now in
+    let old : Held = kept_in (λ k. (goal.UnitKind-dyn g (k.vtable, k.value)).meaning k.value) c.args.trial in
+    let fresh : Held = fresh_in (λ k. (goal.UnitKind-dyn g (k.vtable, k.value)).meaning k.value) c.args.trial in
+    let all : Held = joined_in (λ k. (goal.UnitKind-dyn g (k.vtable, k.value)).meaning k.value) c.args.trial in
+    let held : AreHeld net old = course_held (λ k. (goal.UnitKind-dyn g (k.vtable, k.value)).meaning k.value) (course_by c.args.trial Kept) (record { system = c.requires.system; fits = c.requires.fits; fitting = tt }) in
     let level : List Seg = c.loop.level.items in
     let same : c.as_slice-segs.result.now ≡ level = c.as_slice-segs.ensures.value in
     let left : 3 - c.loop.counter ≡ suc (3 - (c.loop.counter + 1)) = (let t = c.loop-test.true in omega arith) in
@@ -42,21 +33,15 @@ loop-preserved g c a z low =
     let level' : List Seg = c.in_ok-level.level.items in
     then_both (c.loop.invariant a z low)
     (subst (λ n. NewlyComes net old fresh all shown level n a z ↔ NewlyComes net old fresh all shown' level' (3 - (c.loop.counter + 1)) a z) (sym left)
-    (newly_next net c.requires.legal.legal old fresh all held flats c.requires.flat shown shown' level level' (3 - (c.loop.counter + 1)) a z
+    (newly_next net c.requires.system.legal.legal old fresh all held flats c.requires.system.flat shown shown' level level' (3 - (c.loop.counter + 1)) a z
     (subst (λ (l : List Seg). (segs_give shown' a z ≡ true) ↔ ((segs_give shown a z ≡ true) ⊎ ((s : End) × (segs_give l a s ≡ true) × IsPassedOn net fresh all (name_of_end s) (name_of_end z)))) same (c.in_ok-push_newly.ensures a z low))
     (λ t. c.in_ok-level.ensures a t ∙ ap (λ (l : List Seg). segs_pass net old (gives_by (rows_part Stops) flats) l a t) same)))
 
 pub returns : goal.returns
 returns g c a z low =
-    let kinds : List Meaning = map (λ k. (goal.UnitKind-dyn g (k.vtable, k.value)).meaning k.value) c.args.kinds.now.list.items in
-    let lawful : All IsLawful kinds = all_of_map (λ k. (goal.UnitKind-dyn g (k.vtable, k.value)).meaning k.value) c.args.kinds.now.list.items c.requires.lawful in
-    let net = c.args.net.now in
-    let flats = c.args.flats.now in
-    let h : Held = record_kept kinds c.args.tables.now in
-    let kept : AreHeld net h = kept_are_held net kinds c.args.tables.now lawful c.requires.fits in
-    let added : Held = placed_records net c.args.request.now c.args.placement.now in
-    let old : Held = allowing c.args.access h in
-    let fresh : Held = allowing c.args.access (fresh_records h added) in
-    let all : Held = allowing c.args.access (joined_records h added) in
+    let net = c.args.trial.system.net.now in
+    let old : Held = kept_in (λ k. (goal.UnitKind-dyn g (k.vtable, k.value)).meaning k.value) c.args.trial in
+    let fresh : Held = fresh_in (λ k. (goal.UnitKind-dyn g (k.vtable, k.value)).meaning k.value) c.args.trial in
+    let all : Held = joined_in (λ k. (goal.UnitKind-dyn g (k.vtable, k.value)).meaning k.value) c.args.trial in
     let none : 3 - c.loop.counter ≡ 0 = (let t = c.loop-test.false in omega arith) in
     both_turned (then_both (both_turned (newly_whole net old fresh all c.new-shown.result.items c.args.stops.items a z c.new-shown.ensures.items)) (then_both (c.loop.invariant a z low) (subst (λ n. NewlyComes net old fresh all c.loop.shown.items c.loop.level.items n a z ↔ (segs_give c.loop.shown.items a z ≡ true)) (sym none) (newly_end net old fresh all c.loop.shown.items c.loop.level.items a z))))

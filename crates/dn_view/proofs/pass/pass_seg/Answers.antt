@@ -1,5 +1,5 @@
-use Rattle.std.proofs.Common.{◌≡◌, ◌∙◌, ◌≤◌, ℕ, Bool, ap, sym, subst, map, List, Some, IsTrue, nat_lt, arith}
-use Rattle.std.specs.List.{All, list_all}
+use Rattle.std.proofs.Common.{◌≡◌, ◌∙◌, ◌≤◌, ℕ, Bool, ap, sym, subst, map, Some, IsTrue, nat_lt, arith}
+use Rattle.std.specs.List.{list_all}
 use Rattle.std.specs.Option.{option_copied}
 use Rattle.dn_interval.specs.declared.row.End.{End}
 use Rattle.dn_interval.specs.Strands.{segs_give}
@@ -7,38 +7,34 @@ use Rattle.dn_interval.specs.Spans.{in_span}
 use Rattle.dn_interval.specs.Onward.{gives_by}
 use Rattle.dn_net.specs.declared.node.Unit.{Unit as UnitPart}
 use Rattle.dn_net.specs.Decode.{unit_at}
-use Rattle.dn_kind.specs.Kind.{Meaning, IsLawful}
-use Rattle.dn_kind.specs.Tables.{Held, AreHeld, record_allowing, allowing}
+use Rattle.dn_kind.specs.Tables.{Held, AreHeld, record_allowing}
 use Rattle.dn_kind.proofs.Nodes.{ports_there}
 use Rattle.dn_tables.specs.Set.{record_kept}
-use Rattle.dn_tables.proofs.Slots.{all_of_map}
+use Rattle.dn_view.specs.Courses.{course_records}
 use Rattle.dn_view.specs.Passes.{rows_part, names_go, outputs, seg_name}
-use Rattle.dn_view.specs.Records.{records_taken}
 use Rattle.dn_view.proofs.Cuts.{slots_more, slots_none, slots_all, none_leads, none_pushed}
-use Rattle.dn_view.proofs.Held.{kept_are_held}
+use Rattle.dn_view.proofs.Courses.{system_held}
 use Rattle.dn_view.proofs.pass.pass_seg.Goals as goal
 
 pub leads_on-requires : goal.leads_on-requires
 leads_on-requires g c =
-    let at : unit_at c.args.net.now c.args.seg.node ≡ Some c.in-Some.unit.now = sym c.unit_of.ensures ∙ ap option_copied c.in-Some.is in
-    subst (λ n. IsTrue (list_all (λ p. nat_lt p n) c.in-Some.unit.now.ports)) (sym c.requires.flat.every) (ports_there c.args.net.now c.args.seg.node c.in-Some.unit.now c.requires.legal.legal.nodes.closed at)
+    let at : unit_at c.args.course.system.net.now c.args.seg.node ≡ Some c.in-Some.unit.now = sym c.unit_of.ensures ∙ ap option_copied c.in-Some.is in
+    subst (λ n. IsTrue (list_all (λ p. nat_lt p n) c.in-Some.unit.now.ports)) (sym c.requires.system.flat.every) (ports_there c.args.course.system.net.now c.args.seg.node c.in-Some.unit.now c.requires.system.legal.legal.nodes.closed at)
 
 pub returns-then-not-leads_on : goal.returns-then-not-leads_on
 returns-then-not-leads_on g c a z =
-    let kinds : List Meaning = map (λ k. (goal.UnitKind-dyn g (k.vtable, k.value)).meaning k.value) c.args.kinds.now.list.items in
-    let net = c.args.net.now in
-    let h : Held = allowing c.args.access (records_taken net (record_kept kinds c.args.tables.now) c.args.records) in
-    let next : ℕ → ℕ → End → Bool = gives_by (rows_part c.args.part) c.args.flats.now in
+    let net = c.args.course.system.net.now in
+    let h : Held = course_records (λ k. (goal.UnitKind-dyn g (k.vtable, k.value)).meaning k.value) c.args.course in
+    let next : ℕ → ℕ → End → Bool = gives_by (rows_part c.args.part) c.args.course.system.flats.now in
     let s = c.args.seg in
     let at : unit_at net s.node ≡ Some c.in-Some.unit.now = sym c.unit_of.ensures ∙ ap option_copied c.in-Some.is in
-    none_pushed (segs_give c.args.out.now.items a z) (in_span s.span a) (names_go next (outputs net h (seg_name s a)) z) (none_leads net h c.args.flats.now c.args.part s c.in-Some.unit.now a z at (sym c.if-not-leads_on.ensures))
+    none_pushed (segs_give c.args.out.now.items a z) (in_span s.span a) (names_go next (outputs net h (seg_name s a)) z) (none_leads net h c.args.course.system.flats.now c.args.part s c.in-Some.unit.now a z at (sym c.if-not-leads_on.ensures))
 
 pub loop-slot-init : goal.loop-slot-init
 loop-slot-init g c =
-    let kinds : List Meaning = map (λ k. (goal.UnitKind-dyn g (k.vtable, k.value)).meaning k.value) c.args.kinds.now.list.items in
-    let net = c.args.net.now in
-    let h : Held = allowing c.args.access (records_taken net (record_kept kinds c.args.tables.now) c.args.records) in
-    let next : ℕ → ℕ → End → Bool = gives_by (rows_part c.args.part) c.args.flats.now in
+    let net = c.args.course.system.net.now in
+    let h : Held = course_records (λ k. (goal.UnitKind-dyn g (k.vtable, k.value)).meaning k.value) c.args.course in
+    let next : ℕ → ℕ → End → Bool = gives_by (rows_part c.args.part) c.args.course.system.flats.now in
     let s = c.args.seg in
     record {
       from = omega arith;
@@ -47,10 +43,9 @@ loop-slot-init g c =
 
 pub loop-slot-preserved : goal.loop-slot-preserved
 loop-slot-preserved g c =
-    let kinds : List Meaning = map (λ k. (goal.UnitKind-dyn g (k.vtable, k.value)).meaning k.value) c.args.kinds.now.list.items in
-    let net = c.args.net.now in
-    let h : Held = allowing c.args.access (records_taken net (record_kept kinds c.args.tables.now) c.args.records) in
-    let next : ℕ → ℕ → End → Bool = gives_by (rows_part c.args.part) c.args.flats.now in
+    let net = c.args.course.system.net.now in
+    let h : Held = course_records (λ k. (goal.UnitKind-dyn g (k.vtable, k.value)).meaning k.value) c.args.course in
+    let next : ℕ → ℕ → End → Bool = gives_by (rows_part c.args.part) c.args.course.system.flats.now in
     let s = c.args.seg in
     let f = c.loop-slot.invariant.from in
     record {
@@ -60,16 +55,14 @@ loop-slot-preserved g c =
 
 pub returns : goal.returns
 returns g c a z =
-    let kinds : List Meaning = map (λ k. (goal.UnitKind-dyn g (k.vtable, k.value)).meaning k.value) c.args.kinds.now.list.items in
-    let net = c.args.net.now in
-    let h : Held = allowing c.args.access (records_taken net (record_kept kinds c.args.tables.now) c.args.records) in
-    let next : ℕ → ℕ → End → Bool = gives_by (rows_part c.args.part) c.args.flats.now in
+    let net = c.args.course.system.net.now in
+    let h : Held = course_records (λ k. (goal.UnitKind-dyn g (k.vtable, k.value)).meaning k.value) c.args.course in
+    let next : ℕ → ℕ → End → Bool = gives_by (rows_part c.args.part) c.args.course.system.flats.now in
     let s = c.args.seg in
     let at : unit_at net s.node ≡ Some c.in-Some.unit.now = sym c.unit_of.ensures ∙ ap option_copied c.in-Some.is in
     let u : UnitPart = c.in-Some.unit.now in
-    let lawful : All IsLawful kinds = all_of_map (λ k. (goal.UnitKind-dyn g (k.vtable, k.value)).meaning k.value) c.args.kinds.now.list.items c.requires.lawful in
-    let kept : AreHeld net (record_kept kinds c.args.tables.now) = kept_are_held net kinds c.args.tables.now lawful c.requires.fits in
+    let kept : AreHeld net (record_kept (map (λ k. (goal.UnitKind-dyn g (k.vtable, k.value)).meaning k.value) c.args.course.system.kinds.now.list.items) c.args.course.tables.now) = system_held (λ k. (goal.UnitKind-dyn g (k.vtable, k.value)).meaning k.value) c.args.course.system c.args.course.tables.now c.requires.system c.requires.fits in
     let over : c.slot_range-range.result.1 ≤ c.loop-slot.slot = c.loop-slot-test.false in
     slots_all net h next s u c.slot_range-range.result.0 c.slot_range-range.result.1 c.loop-slot.slot a z (segs_give c.args.out.now.items a z) (segs_give c.loop-slot.out.items a z) at over
-    (λ slot first last out. ap (record_allowing c.args.access) (c.slot_range-range.ensures.rest (record_kept kinds c.args.tables.now) slot kept first last out))
+    (λ slot first last out. ap (record_allowing c.args.course.access) (c.slot_range-range.ensures.rest (record_kept (map (λ k. (goal.UnitKind-dyn g (k.vtable, k.value)).meaning k.value) c.args.course.system.kinds.now.list.items) c.args.course.tables.now) slot kept first last out))
     (c.loop-slot.invariant.so_far a z)

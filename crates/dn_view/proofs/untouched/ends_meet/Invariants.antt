@@ -5,4 +5,4 @@ use Rattle.dn_view.specs.Untouched.{can_meet}
 use Rattle.dn_view.proofs.untouched.ends_meet.Given as goal
 
 abbrev pub invariant-loop-end : goal.invariant-loop-end
-invariant-loop-end l = list_any (λ (e : End). can_meet l.net l.flats l.placement.hops e.node) l.ends ≡ list_any (λ (e : End). can_meet l.net l.flats l.placement.hops e.node) (drop l.end-index l.ends)
+invariant-loop-end g l = list_any (λ (e : End). can_meet l.trial.system.net.now l.trial.system.flats.now l.trial.placement.now.hops e.node) l.ends ≡ list_any (λ (e : End). can_meet l.trial.system.net.now l.trial.system.flats.now l.trial.placement.now.hops e.node) (drop l.end-index l.ends)

@@ -7,13 +7,13 @@ use Rattle.dn_view.proofs.Unmet.{untouched}
 use Rattle.dn_view.proofs.untouched.is_untouched.Goals as goal
 
 pub returns : goal.returns
-returns c t h =
-    untouched c.args.net.now c.requires.legal c.args.flats.now c.requires.flat c.args.request.now c.args.placement.now c.args.access h c.args.node c.requires.there (sym c.if-is_asked.ensures)
-    (none c.rows_meet.result (ap (rows_meet c.args.net.now c.args.flats.now c.args.placement.now.hops) rows_are ∙ sym c.rows_meet.ensures) t)
+returns g c t h =
+    untouched c.args.trial.system.net.now c.requires.trial.system.legal.legal c.args.trial.system.flats.now c.requires.trial.system.flat c.args.trial.request.now c.args.trial.placement.now c.args.trial.access h c.args.node c.requires.there (sym c.if-is_asked.ensures)
+    (none c.rows_meet.result (ap (rows_meet c.args.trial.system.net.now c.args.trial.system.flats.now c.args.trial.placement.now.hops) rows_are ∙ sym c.rows_meet.ensures) t)
   where
-    rows_are : rows_of (rows_part Stops) (slice_get c.args.flats.now c.args.node) ≡ c.rows.result.now
+    rows_are : rows_of (rows_part Stops) (slice_get c.args.trial.system.flats.now c.args.node) ≡ c.rows.result.now
     rows_are = search rules
 
-    none : (b : Bool) → rows_meet c.args.net.now c.args.flats.now c.args.placement.now.hops (rows_of (rows_part Stops) (slice_get c.args.flats.now c.args.node)) ≡ b → not b ≡ true → rows_meet c.args.net.now c.args.flats.now c.args.placement.now.hops (rows_of (rows_part Stops) (slice_get c.args.flats.now c.args.node)) ≡ false
+    none : (b : Bool) → rows_meet c.args.trial.system.net.now c.args.trial.system.flats.now c.args.trial.placement.now.hops (rows_of (rows_part Stops) (slice_get c.args.trial.system.flats.now c.args.node)) ≡ b → not b ≡ true → rows_meet c.args.trial.system.net.now c.args.trial.system.flats.now c.args.trial.placement.now.hops (rows_of (rows_part Stops) (slice_get c.args.trial.system.flats.now c.args.node)) ≡ false
     none true e n = cc
     none false e n = e

@@ -5,4 +5,4 @@ use Rattle.dn_view.specs.Untouched.{can_meet}
 use Rattle.dn_view.proofs.untouched.rows_meet.Given as goal
 
 abbrev pub invariant-loop-row : goal.invariant-loop-row
-invariant-loop-row l = list_any (λ (r : Row). list_any (λ e. can_meet l.net l.flats l.placement.hops e.node) r.ends) l.rows ≡ list_any (λ (r : Row). list_any (λ e. can_meet l.net l.flats l.placement.hops e.node) r.ends) (drop l.row-index l.rows)
+invariant-loop-row g l = list_any (λ (r : Row). list_any (λ e. can_meet l.trial.system.net.now l.trial.system.flats.now l.trial.placement.now.hops e.node) r.ends) l.rows ≡ list_any (λ (r : Row). list_any (λ e. can_meet l.trial.system.net.now l.trial.system.flats.now l.trial.placement.now.hops e.node) r.ends) (drop l.row-index l.rows)

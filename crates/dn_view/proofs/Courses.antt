@@ -1,0 +1,28 @@
+-- What a system under tables gives, and a course in it: records that its units can hold.
+use Rattle.std.proofs.Common.{map, List}
+use Rattle.std.specs.List.{All}
+use Rattle.std.specs.declared.alloc.Global.{Global}
+use Rattle.std.specs.declared.dyn_box.DynBox.{DynBox}
+use Rattle.dn_kind.specs.Kind.{Meaning, IsLawful}
+use Rattle.dn_kind.specs.Tables.{AreHeld}
+use Rattle.dn_tables.specs.declared.table.NodeTable.{NodeTable}
+use Rattle.dn_tables.specs.Set.{FitsNet, record_kept}
+use Rattle.dn_tables.proofs.Slots.{all_of_map}
+use Rattle.dn_view.specs.declared.course.Course.{Course}
+use Rattle.dn_view.specs.declared.system.System.{System}
+use Rattle.dn_view.specs.Courses.{IsCourse, course_records}
+use Rattle.dn_view.specs.Systems.{IsSystem}
+use Rattle.dn_view.proofs.Held.{kept_are_held}
+use Rattle.dn_view.proofs.Taken.{allowed_taken_are_held}
+
+-- the kinds of a system are lawful
+pub system_lawful : {K : Type 0} {V : K → Type 0} (means : DynBox K Global V → Meaning) (system : System K V) → IsSystem means system → All IsLawful (map means system.kinds.now.list.items)
+system_lawful means system is = all_of_map means system.kinds.now.list.items is.lawful
+
+-- what tables that fit a system keep its units can hold
+pub system_held : {K : Type 0} {V : K → Type 0} (means : DynBox K Global V → Meaning) (system : System K V) (set : List NodeTable) → IsSystem means system → FitsNet system.net.now (map means system.kinds.now.list.items) set → AreHeld system.net.now (record_kept (map means system.kinds.now.list.items) set)
+system_held means system set is fits = kept_are_held system.net.now (map means system.kinds.now.list.items) set (system_lawful means system is) fits
+
+-- so can they the records of a course
+pub course_held : {K : Type 0} {V : K → Type 0} (means : DynBox K Global V → Meaning) (course : Course K V) → IsCourse means course → AreHeld course.system.net.now (course_records means course)
+course_held means course is = allowed_taken_are_held course.system.net.now (record_kept (map means course.system.kinds.now.list.items) course.tables.now) course.records course.access is.system.legal.legal.shapes (system_held means course.system course.tables.now is.system is.fits) is.fitting
