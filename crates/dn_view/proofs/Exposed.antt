@@ -9,7 +9,7 @@ use Rattle.dn_net.specs.declared.node.Name.{Name}
 use Rattle.dn_net.specs.declared.node.NodeDecl.{NodeDecl}
 use Rattle.dn_net.specs.declared.node.Unit.{Unit as UnitPart}
 use Rattle.dn_net.specs.Chain.{Member, IsChain}
-use Rattle.dn_net.specs.Decode.{top, is_agent_at, is_stop, is_stop_at, unit_at, decode, sent_names, steps, Step, StopsAt}
+use Rattle.dn_net.specs.Decode.{top, is_agent_at, is_stop, is_stop_at, unit_at, decode, sent_names, Step, StopsAt}
 use Rattle.dn_net.specs.Legal.{IsLegalNet}
 use Rattle.dn_kind.specs.declared.rights.Access.{Access}
 use Rattle.dn_kind.specs.declared.rights.Access.TheVariants.{Read, Write}

@@ -1,6 +1,6 @@
 //! What an agent sees under tables.
 
-ghost use Rattle.std.specs.Prelude.{◌≡◌, ◌<◌, length, map, IfNone, IfOk, IfSome, IsTrue};
+ghost use Rattle.std.specs.Prelude.{◌<◌, length, map, IfNone, IfOk, IfSome, IsTrue};
 ghost use Rattle.dn_interval.specs.Rows.{ends_within};
 ghost use Rattle.dn_net.specs.Legal.{IsLegalNet};
 ghost use Rattle.dn_kind.specs.Tables.{Held, allowing};

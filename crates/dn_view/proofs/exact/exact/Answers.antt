@@ -1,4 +1,4 @@
-use Rattle.std.proofs.Common.{◌≡◌, ◌↔◌, true, false, map, List}
+use Rattle.std.proofs.Common.{◌≡◌, ◌↔◌, true, map, List}
 use Rattle.std.specs.List.{All}
 use Rattle.std.proofs.lemmas.Result.{IfOk-weaker}
 use Rattle.dn_kind.specs.declared.rights.Access.TheVariants.{Read, Write}

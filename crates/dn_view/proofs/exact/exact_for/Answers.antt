@@ -1,4 +1,4 @@
-use Rattle.std.proofs.Common.{◌≡◌, ◌≤◌, ◌+◌, ◌↔◌, ℕ, true, false, subst, sym, length, slice_get, IsTrue, arith}
+use Rattle.std.proofs.Common.{◌≡◌, ◌≤◌, ◌↔◌, ℕ, true, subst, sym, length, slice_get, IsTrue, arith}
 use Rattle.dn_net.specs.Decode.{is_agent_at}
 use Rattle.dn_kind.specs.Tables.{Held}
 use Rattle.dn_view.specs.Exact.{IsExactAt}

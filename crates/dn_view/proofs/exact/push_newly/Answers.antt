@@ -1,4 +1,4 @@
-use Rattle.std.proofs.Common.{◌-◌, ◌≤◌, ◌⊎◌, ◌↔◌, ℕ, List, IsTrue}
+use Rattle.std.proofs.Common.{◌≤◌, ◌⊎◌, ◌↔◌, ℕ, List, IsTrue}
 use Rattle.dn_interval.specs.declared.row.End.{End}
 use Rattle.dn_interval.specs.declared.row.Seg.{Seg}
 use Rattle.dn_interval.specs.declared.span.TheConstants.{TOP}

@@ -1,4 +1,4 @@
-use Rattle.std.proofs.Common.{◌≡◌, ◌∙◌, ◌≤◌, ◌<◌, ◌/◌, ◌^◌, ap, sym, map, List, slice_get, false, Some, None, arith}
+use Rattle.std.proofs.Common.{◌≡◌, ◌∙◌, ◌≤◌, ◌<◌, ◌/◌, ◌^◌, ap, sym, map, List, slice_get, Some, None, arith}
 use Rattle.std.specs.Option.{option_map, option_copied}
 use Rattle.std.specs.List.{All}
 use Rattle.dn_net.specs.declared.node.Unit.{Unit as UnitPart}

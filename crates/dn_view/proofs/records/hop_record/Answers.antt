@@ -1,4 +1,4 @@
-use Rattle.std.proofs.Common.{◌≤◌, ◌-◌, ◌/◌, ◌^◌, arith, div-le_self}
+use Rattle.std.proofs.Common.{◌≤◌, ◌/◌, ◌^◌, arith, div-le_self}
 use Rattle.dn_view.proofs.Fitted.{HasEnds, small_ends}
 use Rattle.dn_view.proofs.records.hop_record.Goals as goal
 
