@@ -1,17 +1,14 @@
 //! Granting a buffer.
 
 ghost use Rattle.std.specs.Prelude.{◌≡◌, ◌≢◌, ◌≤◌, ◌+◌, map, not, true, false, is_err, slice_get, None, IfOk, IfSome, OnOk, OnErr, IsTrue};
-ghost use Rattle.std.specs.List.{All};
 ghost use Rattle.dn_base.specs.Outside.{IsCounted};
 ghost use Rattle.dn_net.specs.Decode.{is_agent_at, top};
-ghost use Rattle.dn_kind.specs.Kind.{IsLawful};
 ghost use Rattle.dn_kind.specs.Rights.{are_rights};
-ghost use Rattle.dn_kind.specs.Units.{IsLegalWith};
-ghost use Rattle.dn_flat.specs.Stages.{AreFlats};
 ghost use Rattle.dn_tables.specs.Set.{FitsNet, IsOnDevice};
 ghost use Rattle.dn_placement.specs.Order.{IsFirst, NoneSuited};
 ghost use Rattle.dn_book.specs.Book.{IsFaithful, slots_of};
 ghost use Rattle.dn_book.specs.Tables.{IsKept};
+ghost use Rattle.dn_view.specs.Systems.{IsSystem};
 ghost use Rattle.dn_grant.specs.Faults.{is_grant_fault};
 ghost use Rattle.dn_grant.specs.Grant.{IsGrantLogged, IsGrantTurn, NoAddition};
 ghost use Rattle.dn_grant.specs.Refusal.{grant_refusal};
@@ -22,12 +19,10 @@ use dn_base::OutOfMemory;
 use dn_base::device::Tables;
 use dn_book::book::Book;
 use dn_book::grant::Grant;
-use dn_flat::flats::Flats;
-use dn_kind::kinds::Kinds;
-use dn_net::net::Net;
 use dn_place::first::first;
 use dn_placement::request::Request;
 use dn_tables::placement::Placement;
+use dn_view::system::System;
 use std::alloc::Global;
 
 /// Grants a request under an id at the first admissible placement, and answers the first address of
@@ -45,53 +40,50 @@ use std::alloc::Global;
 pub fn grant<D: Tables>(
     alloc: Global,
     book: &mut Book,
-    net: &Net,
-    flats: &Flats,
-    kinds: &Kinds,
+    system: System,
     id: u32,
     request: &Request,
     device: &mut D,
 ) -> Result<u64, GrantFault>
-    requires lawful { All (λ k. IsLawful (meaning (k.vtable, k.value))) kinds.now.list.items }
-    requires legal { IsLegalWith
-        (map (λ k. meaning (k.vtable, k.value)) kinds.now.list.items) net.now }
-    requires flat { AreFlats net.now flats.now }
+    requires system { IsSystem (λ k. meaning (k.vtable, k.value)) system }
     requires sound { book.old.sound ≡ true }
-    requires kept { IsKept net.now
-        (map (λ k. meaning (k.vtable, k.value)) kinds.now.list.items) book.old.grants book.old.set }
+    requires kept { IsKept system.net.now
+        (map (λ k. meaning (k.vtable, k.value)) system.kinds.now.list.items)
+        book.old.grants book.old.set }
     requires on_device { IsOnDevice book.old.set (D.units device.old) (D.words device.old) }
     requires rights { IsTrue (are_rights request.now.rights) }
     ensures turn { result ≢ Err GrantFault.Device → result ≢ Err GrantFault.OutOfMemory →
-        IsGrantTurn net.now book.old.grants id request.now result book.new.grants }
-    ensures refused { IfSome (grant_refusal net.now book.old.grants id request.now)
+        IsGrantTurn system.entry.net.now book.old.grants id request.now result book.new.grants }
+    ensures refused { IfSome (grant_refusal system.entry.net.now book.old.grants id request.now)
         (λ why. result ≡ Err why) }
     ensures complete { result ≡ Err GrantFault.NoPlacement → request.now.size ≡ 1 →
-        NoAddition net.now book.old.grants request.now }
+        NoAddition system.entry.net.now book.old.grants request.now }
     ensures stays { OnErr result (book.new.grants ≡ book.old.grants) }
     ensures unchanged { is_err result ≡ true → result ≢ Err GrantFault.Device →
         (book.new ≡ book.old) × (device.new ≡ device.old) }
-    ensures kept { OnOk result (IsKept net.now
-        (map (λ k. meaning (k.vtable, k.value)) kinds.now.list.items) book.new.grants book.new.set) }
-    ensures faithful { OnOk result (IsFaithful net.now book.old.grants →
-        IsFaithful net.now book.new.grants) }
+    ensures kept { OnOk result (IsKept system.entry.net.now
+        (map (λ k. meaning (k.vtable, k.value)) system.entry.kinds.now.list.items)
+        book.new.grants book.new.set) }
+    ensures faithful { OnOk result (IsFaithful system.entry.net.now book.old.grants →
+        IsFaithful system.entry.net.now book.new.grants) }
     ensures fenced { OnOk result (book.new.cleared ≡ false) }
     ensures sound { book.new.sound ≡ not (is_grant_fault result) }
-    ensures fits { FitsNet net.now
-        (map (λ k. meaning (k.vtable, k.value)) kinds.now.list.items) book.new.set }
-    ensures granted { OnOk result (IsGrantLogged net.now
-        (map (λ k. meaning (k.vtable, k.value)) kinds.now.list.items)
+    ensures fits { FitsNet system.entry.net.now
+        (map (λ k. meaning (k.vtable, k.value)) system.entry.kinds.now.list.items) book.new.set }
+    ensures granted { OnOk result (IsGrantLogged system.entry.net.now
+        (map (λ k. meaning (k.vtable, k.value)) system.entry.kinds.now.list.items)
         book.old.grants book.old.cleared id request.now false (D.log device.old) (D.log device.new)) }
-    ensures stopped { result ≡ Err GrantFault.Device → IsGrantLogged net.now
-        (map (λ k. meaning (k.vtable, k.value)) kinds.now.list.items)
+    ensures stopped { result ≡ Err GrantFault.Device → IsGrantLogged system.entry.net.now
+        (map (λ k. meaning (k.vtable, k.value)) system.entry.kinds.now.list.items)
         book.old.grants book.old.cleared id request.now true (D.log device.old) (D.log device.new) }
     ensures on_device { IsOnDevice book.new.set (D.units device.new) (D.words device.new) }
     ensures counted { IsCounted (D.faults device.old) (D.faults device.new)
         (is_grant_fault result) }
 {
-    if let Some(why) = refusal(book, net, id, request) {
+    if let Some(why) = refusal(book, system.net, id, request) {
         return Err(why);
     }
-    let Some(placement) = first_in_book(alloc, book, net, flats, kinds, request)? else {
+    let Some(placement) = first_in_book(alloc, book, system, request)? else {
         return Err(GrantFault::NoPlacement);
     };
     let v = placement.v();
@@ -100,7 +92,7 @@ pub fn grant<D: Tables>(
         request: *request,
         placement,
     };
-    book.commit(alloc, net, kinds, grant, device)?;
+    book.commit(alloc, system.net, system.kinds, grant, device)?;
     Ok(v)
 }
 
@@ -109,27 +101,23 @@ pub fn grant<D: Tables>(
 fn first_in_book(
     alloc: Global,
     book: &Book,
-    net: &Net,
-    flats: &Flats,
-    kinds: &Kinds,
+    system: System,
     request: &Request,
 ) -> Result<Option<Placement>, OutOfMemory>
-    requires lawful { All (λ k. IsLawful (meaning (k.vtable, k.value))) kinds.now.list.items }
-    requires legal { IsLegalWith
-        (map (λ k. meaning (k.vtable, k.value)) kinds.now.list.items) net.now }
-    requires flat { AreFlats net.now flats.now }
-    requires kept { IsKept net.now
-        (map (λ k. meaning (k.vtable, k.value)) kinds.now.list.items) book.now.grants book.now.set }
-    requires agent { IsTrue (is_agent_at (slice_get net.now request.now.agent)) }
+    requires system { IsSystem (λ k. meaning (k.vtable, k.value)) system }
+    requires kept { IsKept system.net.now
+        (map (λ k. meaning (k.vtable, k.value)) system.kinds.now.list.items)
+        book.now.grants book.now.set }
+    requires agent { IsTrue (is_agent_at (slice_get system.net.now request.now.agent)) }
     requires rights { IsTrue (are_rights request.now.rights) }
     requires some { 1 ≤ request.now.size }
     requires buffer { request.now.base + request.now.size ≤ top + 1 }
-    ensures first { IfOk result (λ found. IfSome found (λ p. IsFirst net.now
-        (slots_of net.now book.now.grants) request.now None p)) }
-    ensures none { IfOk result (λ found. found ≡ None → NoneSuited net.now
-        (slots_of net.now book.now.grants) request.now None) }
+    ensures first { IfOk result (λ found. IfSome found (λ p. IsFirst system.entry.net.now
+        (slots_of system.entry.net.now book.now.grants) request.now None p)) }
+    ensures none { IfOk result (λ found. found ≡ None → NoneSuited system.entry.net.now
+        (slots_of system.entry.net.now book.now.grants) request.now None) }
 {
     let tables = book.tables();
     tables.facts();
-    first(alloc, net, flats, kinds, tables, request, None)
+    first(alloc, system, tables, request, None)
 }

@@ -5,13 +5,12 @@ ghost use Rattle.std.specs.List.{All};
 ghost use Rattle.dn_net.specs.Decode.{is_agent_at, top};
 ghost use Rattle.dn_kind.specs.Kind.{IsLawful};
 ghost use Rattle.dn_kind.specs.Rights.{are_rights};
-ghost use Rattle.dn_kind.specs.Units.{IsLegalWith};
-ghost use Rattle.dn_flat.specs.Stages.{AreFlats};
 ghost use Rattle.dn_tables.specs.Set.{FitsNet, fits_kinds, has_slot, record_kept};
 ghost use Rattle.dn_placement.specs.Exposure.{IsAdmissible};
 ghost use Rattle.dn_placement.specs.Order.{IsFirst, NoneSuited};
 ghost use Rattle.dn_placement.specs.Placement.{IsPlacement};
 ghost use Rattle.dn_placement.specs.Slots.{slots_of_set};
+ghost use Rattle.dn_view.specs.Systems.{IsSystem};
 ghost use Rattle.dn_place.specs.Candidates.{Answers};
 ghost use Rattle.dn_place.specs.Hops.{hops_of};
 ghost use Rattle.dn_place.specs.Slots.{slot_of};
@@ -25,13 +24,11 @@ use crate::quest::Quest;
 use crate::slot::Slot;
 use crate::tables::slot_at;
 use dn_base::OutOfMemory;
-use dn_flat::flats::Flats;
-use dn_kind::kinds::Kinds;
-use dn_net::net::Net;
 use dn_placement::request::Request;
 use dn_tables::placement::Placement;
 use dn_tables::set::TableSet;
 use dn_view::exact::exact;
+use dn_view::system::System;
 use std::alloc::Global;
 use std::marker::{Brand, PhantomData};
 
@@ -40,88 +37,80 @@ use std::marker::{Brand, PhantomData};
 /// `Err` is want of memory.
 pub fn first(
     alloc: Global,
-    net: &Net,
-    flats: &Flats,
-    kinds: &Kinds,
+    system: System,
     tables: &TableSet,
     request: &Request,
     at: Option<u64>,
 ) -> Result<Option<Placement>, OutOfMemory>
-    requires lawful { All (λ k. IsLawful (meaning (k.vtable, k.value))) kinds.now.list.items }
-    requires legal { IsLegalWith
-        (map (λ k. meaning (k.vtable, k.value)) kinds.now.list.items) net.now }
-    requires flat { AreFlats net.now flats.now }
-    requires fits { FitsNet net.now
-        (map (λ k. meaning (k.vtable, k.value)) kinds.now.list.items) tables.now }
-    requires agent { IsTrue (is_agent_at (slice_get net.now request.now.agent)) }
+    requires system { IsSystem (λ k. meaning (k.vtable, k.value)) system }
+    requires fits { FitsNet system.net.now
+        (map (λ k. meaning (k.vtable, k.value)) system.kinds.now.list.items) tables.now }
+    requires agent { IsTrue (is_agent_at (slice_get system.net.now request.now.agent)) }
     requires rights { IsTrue (are_rights request.now.rights) }
     requires some { 1 ≤ request.now.size }
     requires buffer { request.now.base + request.now.size ≤ top + 1 }
-    ensures first { IfOk result (λ found. IfSome found (λ p. IsFirst net.now
-        (slots_of_set (map (λ k. meaning (k.vtable, k.value)) kinds.now.list.items) tables.now)
-        request.now at p)) }
-    ensures none { IfOk result (λ found. found ≡ None → NoneSuited net.now
-        (slots_of_set (map (λ k. meaning (k.vtable, k.value)) kinds.now.list.items) tables.now)
-        request.now at) }
+    ensures first { IfOk result (λ found. IfSome found (λ p. IsFirst system.entry.net.now
+        (slots_of_set (map (λ k. meaning (k.vtable, k.value)) system.entry.kinds.now.list.items)
+        tables.now) request.now at p)) }
+    ensures none { IfOk result (λ found. found ≡ None → NoneSuited system.entry.net.now
+        (slots_of_set (map (λ k. meaning (k.vtable, k.value)) system.entry.kinds.now.list.items)
+        tables.now) request.now at) }
 {
-    net.facts();
-    by_tables::<Brand>(alloc, net, flats, kinds, tables, request, at)
+    system.net.facts();
+    by_tables::<Brand>(alloc, system, tables, request, at)
 }
 
 /// The same, where what is looked for is told by the aim.
 fn by_tables<A: Aim>(
     alloc: Global,
-    net: &Net,
-    flats: &Flats,
-    kinds: &Kinds,
+    system: System,
     tables: &TableSet,
     request: &Request,
     at: Option<u64>,
 ) -> Result<Option<Placement>, OutOfMemory>
-    requires lawful { All (λ k. IsLawful (meaning (k.vtable, k.value))) kinds.now.list.items }
-    requires legal { IsLegalWith
-        (map (λ k. meaning (k.vtable, k.value)) kinds.now.list.items) net.now }
-    requires flat { AreFlats net.now flats.now }
-    requires fits { FitsNet net.now
-        (map (λ k. meaning (k.vtable, k.value)) kinds.now.list.items) tables.now }
+    requires system { IsSystem (λ k. meaning (k.vtable, k.value)) system }
+    requires fits { FitsNet system.net.now
+        (map (λ k. meaning (k.vtable, k.value)) system.kinds.now.list.items) tables.now }
     requires rights { IsTrue (are_rights request.now.rights) }
     requires aim { A.sought ≡ record {
-      net = net.now;
-      slots = slots_of_set (map (λ k. meaning (k.vtable, k.value)) kinds.now.list.items) tables.now;
+      net = system.net.now;
+      slots = slots_of_set (map (λ k. meaning (k.vtable, k.value)) system.kinds.now.list.items)
+          tables.now;
       request = request.now;
       at = at;
     } }
     requires ready { IsReady A.sought }
     ensures { IfOk result (λ found. Answers A.sought [] found) }
 {
+    let kinds = system.kinds;
     let met = |unit: u16, slot: u32| -> Slot
         requires lawful { All (λ k. IsLawful (meaning (k.vtable, k.value))) kinds.now.list.items }
-        requires fits { IsTrue (fits_kinds (map (λ k. meaning (k.vtable, k.value)) kinds.now.list.items) tables.now) }
+        requires fits { IsTrue (fits_kinds
+            (map (λ k. meaning (k.vtable, k.value)) kinds.now.list.items) tables.now) }
         requires there { IsTrue (has_slot tables.now unit slot) }
         ensures { result ≡ slot_of (slots_of_set
-            (map (λ k. meaning (k.vtable, k.value)) kinds.entry.now.list.items) tables.entry.now) unit slot }
+            (map (λ k. meaning (k.vtable, k.value)) kinds.entry.now.list.items)
+            tables.entry.now) unit slot }
     { slot_at(kinds, tables, unit, slot) };
     let exact = |v: u64, hops: Hops, own: u8| -> Result<bool, OutOfMemory>
-        requires lawful { All (λ k. IsLawful (meaning (k.vtable, k.value))) kinds.now.list.items }
-        requires legal { IsLegalWith (map (λ k. meaning (k.vtable, k.value)) kinds.now.list.items) net.now }
-        requires flat { AreFlats net.now flats.now }
-        requires fits { FitsNet net.now
-            (map (λ k. meaning (k.vtable, k.value)) kinds.now.list.items) tables.now }
+        requires system { IsSystem (λ k. meaning (k.vtable, k.value)) system }
+        requires fits { FitsNet system.net.now
+            (map (λ k. meaning (k.vtable, k.value)) system.kinds.now.list.items) tables.now }
         requires rights { IsTrue (are_rights request.now.rights) }
         requires own { own < length (hops_of hops) }
-        requires placed { IsPlacement net.now
-            (slots_of_set (map (λ k. meaning (k.vtable, k.value)) kinds.now.list.items) tables.now)
-            request.now (record { v = v; hops = hops_of hops; own = own }) }
-        ensures { IfOk result (λ yes. IsTrue yes ↔ IsAdmissible net.entry.now
-            (record_kept (map (λ k. meaning (k.vtable, k.value)) kinds.entry.now.list.items) tables.entry.now)
-            request.entry.now (record { v = v; hops = hops_of hops; own = own })) }
+        requires placed { IsPlacement system.net.now
+            (slots_of_set (map (λ k. meaning (k.vtable, k.value)) system.kinds.now.list.items)
+            tables.now) request.now (record { v = v; hops = hops_of hops; own = own }) }
+        ensures { IfOk result (λ yes. IsTrue yes ↔ IsAdmissible system.entry.net.now
+            (record_kept (map (λ k. meaning (k.vtable, k.value)) system.entry.kinds.now.list.items)
+            tables.entry.now) request.entry.now (record { v = v; hops = hops_of hops; own = own })) }
     {
         let placement = hops.placed(alloc, v, own);
-        exact(alloc, net, flats, kinds, tables, request, &placement)
+        exact(alloc, system, tables, request, &placement)
     };
     let platform = Platform::<'_, A, _, _> {
-        net,
-        flats,
+        net: system.net,
+        flats: system.flats,
         request: *request,
         at,
         met,

@@ -1,14 +1,11 @@
 //! Routing a line of an agent to an interrupt vector.
 
 ghost use Rattle.std.specs.Prelude.{◌≡◌, ◌≢◌, map, not, true, false, is_err, IfSome, OnOk, OnErr};
-ghost use Rattle.std.specs.List.{All};
 ghost use Rattle.dn_base.specs.Outside.{IsCounted};
-ghost use Rattle.dn_kind.specs.Kind.{IsLawful};
-ghost use Rattle.dn_kind.specs.Units.{IsLegalWith};
-ghost use Rattle.dn_flat.specs.Stages.{AreFlats};
 ghost use Rattle.dn_tables.specs.Set.{FitsNet, IsOnDevice};
 ghost use Rattle.dn_book.specs.Book.{IsFaithful};
 ghost use Rattle.dn_book.specs.Tables.{IsKept};
+ghost use Rattle.dn_view.specs.Systems.{IsSystem};
 ghost use Rattle.dn_vector.specs.Faults.{is_route_fault};
 ghost use Rattle.dn_vector.specs.Refusal.{route_refusal};
 ghost use Rattle.dn_vector.specs.Route.{IsRouteLogged, IsRouteTurn, NoAddition};
@@ -20,9 +17,7 @@ use crate::vectors::free_vectors;
 use dn_base::device::Tables;
 use dn_book::book::Book;
 use dn_book::grant::Grant;
-use dn_flat::flats::Flats;
-use dn_kind::kinds::Kinds;
-use dn_net::net::Net;
+use dn_view::system::System;
 use std::alloc::Global;
 
 /// Routes a line of an agent to the least vector of a node that no live grant has and that has an
@@ -40,53 +35,51 @@ use std::alloc::Global;
 pub fn route<D: Tables>(
     alloc: Global,
     book: &mut Book,
-    net: &Net,
-    flats: &Flats,
-    kinds: &Kinds,
+    system: System,
     id: u32,
     agent: u16,
     line: u64,
     node: u16,
     device: &mut D,
 ) -> Result<u64, RouteFault>
-    requires lawful { All (λ k. IsLawful (meaning (k.vtable, k.value))) kinds.now.list.items }
-    requires legal { IsLegalWith (map (λ k. meaning (k.vtable, k.value)) kinds.now.list.items) net.now }
-    requires flat { AreFlats net.now flats.now }
+    requires system { IsSystem (λ k. meaning (k.vtable, k.value)) system }
     requires sound { book.old.sound ≡ true }
-    requires kept { IsKept net.now
-        (map (λ k. meaning (k.vtable, k.value)) kinds.now.list.items) book.old.grants book.old.set }
+    requires kept { IsKept system.net.now
+        (map (λ k. meaning (k.vtable, k.value)) system.kinds.now.list.items)
+        book.old.grants book.old.set }
     requires on_device { IsOnDevice book.old.set (D.units device.old) (D.words device.old) }
     ensures turn { result ≢ Err RouteFault.Device → result ≢ Err RouteFault.OutOfMemory →
-        IsRouteTurn net.now book.old.grants id agent line node result book.new.grants }
-    ensures refused { IfSome (route_refusal net.now book.old.grants id agent node)
+        IsRouteTurn system.entry.net.now book.old.grants id agent line node result book.new.grants }
+    ensures refused { IfSome (route_refusal system.entry.net.now book.old.grants id agent node)
         (λ why. result ≡ Err why) }
     ensures complete { result ≡ Err RouteFault.NoPlacement →
-        NoAddition net.now book.old.grants agent line node }
+        NoAddition system.entry.net.now book.old.grants agent line node }
     ensures stays { OnErr result (book.new.grants ≡ book.old.grants) }
     ensures unchanged { is_err result ≡ true → result ≢ Err RouteFault.Device →
         (book.new ≡ book.old) × (device.new ≡ device.old) }
-    ensures kept { OnOk result (IsKept net.now
-        (map (λ k. meaning (k.vtable, k.value)) kinds.now.list.items) book.new.grants book.new.set) }
-    ensures faithful { OnOk result (IsFaithful net.now book.old.grants →
-        IsFaithful net.now book.new.grants) }
+    ensures kept { OnOk result (IsKept system.entry.net.now
+        (map (λ k. meaning (k.vtable, k.value)) system.entry.kinds.now.list.items)
+        book.new.grants book.new.set) }
+    ensures faithful { OnOk result (IsFaithful system.entry.net.now book.old.grants →
+        IsFaithful system.entry.net.now book.new.grants) }
     ensures fenced { OnOk result (book.new.cleared ≡ false) }
     ensures sound { book.new.sound ≡ not (is_route_fault result) }
-    ensures fits { FitsNet net.now
-        (map (λ k. meaning (k.vtable, k.value)) kinds.now.list.items) book.new.set }
-    ensures routed { OnOk result (IsRouteLogged net.now
-        (map (λ k. meaning (k.vtable, k.value)) kinds.now.list.items) book.old.grants
+    ensures fits { FitsNet system.entry.net.now
+        (map (λ k. meaning (k.vtable, k.value)) system.entry.kinds.now.list.items) book.new.set }
+    ensures routed { OnOk result (IsRouteLogged system.entry.net.now
+        (map (λ k. meaning (k.vtable, k.value)) system.entry.kinds.now.list.items) book.old.grants
         book.old.cleared id agent line node false (D.log device.old) (D.log device.new)) }
-    ensures stopped { result ≡ Err RouteFault.Device → IsRouteLogged net.now
-        (map (λ k. meaning (k.vtable, k.value)) kinds.now.list.items) book.old.grants
+    ensures stopped { result ≡ Err RouteFault.Device → IsRouteLogged system.entry.net.now
+        (map (λ k. meaning (k.vtable, k.value)) system.entry.kinds.now.list.items) book.old.grants
         book.old.cleared id agent line node true (D.log device.old) (D.log device.new) }
     ensures on_device { IsOnDevice book.new.set (D.units device.new) (D.words device.new) }
     ensures counted { IsCounted (D.faults device.old) (D.faults device.new) (is_route_fault result) }
 {
-    if let Some(why) = refusal(book, net, id, agent, node) {
+    if let Some(why) = refusal(book, system.net, id, agent, node) {
         return Err(why);
     }
-    let free = free_vectors(alloc, net, book.grants(), node)?;
-    let found = least_vector(alloc, book, net, flats, kinds, agent, line, node, &free)?;
+    let free = free_vectors(alloc, system.net, book.grants(), node)?;
+    let found = least_vector(alloc, book, system, agent, line, node, &free)?;
     let Some(Found { vector, placement }) = found else {
         return Err(RouteFault::NoPlacement);
     };
@@ -95,6 +88,6 @@ pub fn route<D: Tables>(
         request: vector_request(agent, node, vector),
         placement,
     };
-    book.commit(alloc, net, kinds, grant, device)?;
+    book.commit(alloc, system.net, system.kinds, grant, device)?;
     Ok(vector)
 }

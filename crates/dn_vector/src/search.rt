@@ -1,30 +1,25 @@
 //! The least vector that has an admissible placement at a line.
 
 ghost use Rattle.std.specs.Prelude.{◌≡◌, ◌<◌, ◌≤◌, ◌+◌, ℕ, true, map, slice_get, None, Some, IfOk, IfSome, IsTrue};
-ghost use Rattle.std.specs.List.{All};
 ghost use Rattle.dn_interval.specs.Spans.{has};
 ghost use Rattle.dn_net.specs.Decode.{is_agent_at, top};
-ghost use Rattle.dn_kind.specs.Kind.{IsLawful};
 ghost use Rattle.dn_kind.specs.Rights.{are_rights};
-ghost use Rattle.dn_kind.specs.Units.{IsLegalWith};
-ghost use Rattle.dn_flat.specs.Stages.{AreFlats};
 ghost use Rattle.dn_placement.specs.Order.{IsFirst, NoneSuited};
 ghost use Rattle.dn_book.specs.Book.{slots_of};
 ghost use Rattle.dn_book.specs.Tables.{IsKept};
+ghost use Rattle.dn_view.specs.Systems.{IsSystem};
 ghost use Rattle.dn_vector.specs.Route.{HasNoPlace};
 ghost use Rattle.dn_vector.specs.Search.{IsLeastAmong, IsLeastOf};
 ghost use Rattle.dn_vector.specs.Vectors.{vector_request};
 
 use dn_base::OutOfMemory;
 use dn_book::book::Book;
-use dn_flat::flats::Flats;
 use dn_interval::{Span, SpanSet};
-use dn_kind::kinds::Kinds;
 use dn_kind::rights::Rights;
-use dn_net::net::Net;
 use dn_place::first::first;
 use dn_placement::request::Request;
 use dn_tables::placement::Placement;
+use dn_view::system::System;
 use std::alloc::Global;
 
 /// A vector, and where its line is placed.
@@ -41,28 +36,26 @@ pub struct Found {
 pub fn least_vector(
     alloc: Global,
     book: &Book,
-    net: &Net,
-    flats: &Flats,
-    kinds: &Kinds,
+    system: System,
     agent: u16,
     line: u64,
     node: u16,
     vectors: &SpanSet,
 ) -> Result<Option<Found>, OutOfMemory>
-    requires lawful { All (λ k. IsLawful (meaning (k.vtable, k.value))) kinds.now.list.items }
-    requires legal { IsLegalWith
-        (map (λ k. meaning (k.vtable, k.value)) kinds.now.list.items) net.now }
-    requires flat { AreFlats net.now flats.now }
-    requires kept { IsKept net.now
-        (map (λ k. meaning (k.vtable, k.value)) kinds.now.list.items) book.now.grants book.now.set }
-    requires agent { IsTrue (is_agent_at (slice_get net.now agent)) }
+    requires system { IsSystem (λ k. meaning (k.vtable, k.value)) system }
+    requires kept { IsKept system.net.now
+        (map (λ k. meaning (k.vtable, k.value)) system.kinds.now.list.items)
+        book.now.grants book.now.set }
+    requires agent { IsTrue (is_agent_at (slice_get system.net.now agent)) }
     ensures found { IfOk result (λ found. IfSome found (λ f.
-        IsLeastAmong net.now book.now.grants agent line node vectors.now f.vector f.placement)) }
+        IsLeastAmong system.entry.net.now book.now.grants agent line node vectors.now
+        f.vector f.placement)) }
     ensures none { IfOk result (λ found. found ≡ None → (vector : ℕ) →
-        has vectors.now vector ≡ true → HasNoPlace net.now book.now.grants agent line node vector) }
+        has vectors.now vector ≡ true →
+        HasNoPlace system.entry.net.now book.now.grants agent line node vector) }
 {
     for span in vectors.spans() {
-        if let Some(found) = least_of(alloc, book, net, flats, kinds, agent, line, node, *span)? {
+        if let Some(found) = least_of(alloc, book, system, agent, line, node, *span)? {
             return Ok(Some(found));
         }
     }
@@ -74,30 +67,26 @@ pub fn least_vector(
 fn least_of(
     alloc: Global,
     book: &Book,
-    net: &Net,
-    flats: &Flats,
-    kinds: &Kinds,
+    system: System,
     agent: u16,
     line: u64,
     node: u16,
     span: Span,
 ) -> Result<Option<Found>, OutOfMemory>
-    requires lawful { All (λ k. IsLawful (meaning (k.vtable, k.value))) kinds.now.list.items }
-    requires legal { IsLegalWith
-        (map (λ k. meaning (k.vtable, k.value)) kinds.now.list.items) net.now }
-    requires flat { AreFlats net.now flats.now }
-    requires kept { IsKept net.now
-        (map (λ k. meaning (k.vtable, k.value)) kinds.now.list.items) book.now.grants book.now.set }
-    requires agent { IsTrue (is_agent_at (slice_get net.now agent)) }
+    requires system { IsSystem (λ k. meaning (k.vtable, k.value)) system }
+    requires kept { IsKept system.net.now
+        (map (λ k. meaning (k.vtable, k.value)) system.kinds.now.list.items)
+        book.now.grants book.now.set }
+    requires agent { IsTrue (is_agent_at (slice_get system.net.now agent)) }
     ensures found { IfOk result (λ found. IfSome found (λ f.
-        IsLeastOf net.now book.now.grants agent line node span f.vector f.placement)) }
+        IsLeastOf system.entry.net.now book.now.grants agent line node span f.vector f.placement)) }
     ensures none { IfOk result (λ found. found ≡ None → (vector : ℕ) →
         span.lo ≤ vector → vector ≤ span.hi →
-        HasNoPlace net.now book.now.grants agent line node vector) }
+        HasNoPlace system.entry.net.now book.now.grants agent line node vector) }
 {
     for vector in span.lo..span.hi + 1 {
         let request = vector_request(agent, node, vector);
-        if let Some(placement) = first_at(alloc, book, net, flats, kinds, &request, line)? {
+        if let Some(placement) = first_at(alloc, book, system, &request, line)? {
             return Ok(Some(Found { vector, placement }));
         }
     }
@@ -109,30 +98,26 @@ fn least_of(
 fn first_at(
     alloc: Global,
     book: &Book,
-    net: &Net,
-    flats: &Flats,
-    kinds: &Kinds,
+    system: System,
     request: &Request,
     at: u64,
 ) -> Result<Option<Placement>, OutOfMemory>
-    requires lawful { All (λ k. IsLawful (meaning (k.vtable, k.value))) kinds.now.list.items }
-    requires legal { IsLegalWith
-        (map (λ k. meaning (k.vtable, k.value)) kinds.now.list.items) net.now }
-    requires flat { AreFlats net.now flats.now }
-    requires kept { IsKept net.now
-        (map (λ k. meaning (k.vtable, k.value)) kinds.now.list.items) book.now.grants book.now.set }
-    requires agent { IsTrue (is_agent_at (slice_get net.now request.now.agent)) }
+    requires system { IsSystem (λ k. meaning (k.vtable, k.value)) system }
+    requires kept { IsKept system.net.now
+        (map (λ k. meaning (k.vtable, k.value)) system.kinds.now.list.items)
+        book.now.grants book.now.set }
+    requires agent { IsTrue (is_agent_at (slice_get system.net.now request.now.agent)) }
     requires rights { IsTrue (are_rights request.now.rights) }
     requires some { 1 ≤ request.now.size }
     requires buffer { request.now.base + request.now.size ≤ top + 1 }
-    ensures first { IfOk result (λ found. IfSome found (λ p. IsFirst net.now
-        (slots_of net.now book.now.grants) request.now (Some at) p)) }
-    ensures none { IfOk result (λ found. found ≡ None → NoneSuited net.now
-        (slots_of net.now book.now.grants) request.now (Some at)) }
+    ensures first { IfOk result (λ found. IfSome found (λ p. IsFirst system.entry.net.now
+        (slots_of system.entry.net.now book.now.grants) request.now (Some at) p)) }
+    ensures none { IfOk result (λ found. found ≡ None → NoneSuited system.entry.net.now
+        (slots_of system.entry.net.now book.now.grants) request.now (Some at)) }
 {
     let tables = book.tables();
     tables.facts();
-    first(alloc, net, flats, kinds, tables, request, Some(at))
+    first(alloc, system, tables, request, Some(at))
 }
 
 /// The request for a vector: one address of its node, for reading and writing.

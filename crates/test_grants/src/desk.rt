@@ -40,6 +40,7 @@ use dn_vector::fault::RouteFault;
 use dn_vector::route::route;
 use dn_view::exact::exact;
 use dn_view::resolve::resolve;
+use dn_view::system::System;
 use dn_view::view::view;
 use dn_walk::walks::walks;
 use std::alloc::Global;
@@ -100,11 +101,11 @@ impl Desk {
     }
 
     /// Grants a request. `None`, and nothing is done, where the book is not sound or the rights are none.
-    pub fn grant(
+    pub fn grant<'a>(
         &mut self,
         alloc: Global,
-        board: &Board,
-        kinds: &Kinds,
+        board: &'a Board,
+        kinds: &'a Kinds,
         id: u32,
         request: &Request,
     ) -> Option<Result<u64, GrantFault>>
@@ -119,24 +120,20 @@ impl Desk {
         if !self.book.is_sound() || !are_rights(request.rights) {
             return None;
         }
-        Some(grant(
-            alloc,
-            &mut self.book,
-            &board.net,
-            &board.flats,
+        let system = System {
+            net: &board.net,
+            flats: &board.flats,
             kinds,
-            id,
-            request,
-            &mut self.device,
-        ))
+        };
+        Some(grant(alloc, &mut self.book, system, id, request, &mut self.device))
     }
 
     /// Routes a line of an agent to a vector of a node. `None`, and nothing is done, where the book is not sound.
-    pub fn route(
+    pub fn route<'a>(
         &mut self,
         alloc: Global,
-        board: &Board,
-        kinds: &Kinds,
+        board: &'a Board,
+        kinds: &'a Kinds,
         id: u32,
         agent: u16,
         line: u64,
@@ -153,12 +150,15 @@ impl Desk {
         if !self.book.is_sound() {
             return None;
         }
+        let system = System {
+            net: &board.net,
+            flats: &board.flats,
+            kinds,
+        };
         Some(route(
             alloc,
             &mut self.book,
-            &board.net,
-            &board.flats,
-            kinds,
+            system,
             id,
             agent,
             line,
@@ -228,11 +228,11 @@ impl Desk {
 
     /// Whether a placement of a request is admissible for its first so many addresses alone, with
     /// these rights. `None` where the request has not so many, or the rights are none.
-    pub fn is_exact(
+    pub fn is_exact<'a>(
         &self,
         alloc: Global,
-        board: &Board,
-        kinds: &Kinds,
+        board: &'a Board,
+        kinds: &'a Kinds,
         request: &Request,
         placement: &Placement,
         size: u64,
@@ -252,8 +252,12 @@ impl Desk {
         }
         let part = part_of(request, size, rights);
         let tables = self.book.tables();
-        let (net, flats) = (&board.net, &board.flats);
-        let answer = exact(alloc, net, flats, kinds, tables, &part, placement)?;
+        let system = System {
+            net: &board.net,
+            flats: &board.flats,
+            kinds,
+        };
+        let answer = exact(alloc, system, tables, &part, placement)?;
         Ok(Some(answer))
     }
 
@@ -293,11 +297,11 @@ impl Desk {
     /// The first admissible placement of a request, at an address of its agent where one is given.
     /// `Unformed` where the request has no agent, no rights or no buffer.
     #[tactic(auto, using(crate::proofs::Parts::first_placed))]
-    pub fn first(
+    pub fn first<'a>(
         &self,
         alloc: Global,
-        board: &Board,
-        kinds: &Kinds,
+        board: &'a Board,
+        kinds: &'a Kinds,
         request: &Request,
         at: Option<u64>,
     ) -> Result<Option<Placement>, Unmade>
@@ -313,9 +317,13 @@ impl Desk {
         if !is_agent(&board.net, request.agent) || !is_formed(request) {
             return Err(Unmade::Unformed);
         }
-        let (net, flats) = (&board.net, &board.flats);
         let tables = self.book.tables();
-        Ok(first(alloc, net, flats, kinds, tables, request, at)?)
+        let system = System {
+            net: &board.net,
+            flats: &board.flats,
+            kinds,
+        };
+        Ok(first(alloc, system, tables, request, at)?)
     }
 
     /// What a name resolves to for an access under the tables. `Unformed` where its node is not there.
@@ -341,11 +349,11 @@ impl Desk {
     }
 
     /// What a node sees for an access under the tables. `Unformed` where it is not there.
-    pub fn seen(
+    pub fn seen<'a>(
         &self,
         alloc: Global,
-        board: &Board,
-        kinds: &Kinds,
+        board: &'a Board,
+        kinds: &'a Kinds,
         node: u16,
         access: Access,
     ) -> Result<Rows, Unmade>
@@ -359,15 +367,20 @@ impl Desk {
             return Err(Unmade::Unformed);
         }
         let tables = self.book.tables();
-        Ok(view(alloc, &board.net, &board.flats, kinds, tables, node, access)?)
+        let system = System {
+            net: &board.net,
+            flats: &board.flats,
+            kinds,
+        };
+        Ok(view(alloc, system, tables, node, access)?)
     }
 }
 
 /// The first admissible placement of a request in the slots as a sound book leaves them.
-fn first_beside(
+fn first_beside<'a>(
     alloc: Global,
-    board: &Board,
-    kinds: &Kinds,
+    board: &'a Board,
+    kinds: &'a Kinds,
     book: &Book,
     request: &Request,
 ) -> Result<Option<Placement>, OutOfMemory>
@@ -385,15 +398,12 @@ fn first_beside(
 {
     let tables = book.tables();
     tables.facts();
-    first(
-        alloc,
-        &board.net,
-        &board.flats,
+    let system = System {
+        net: &board.net,
+        flats: &board.flats,
         kinds,
-        tables,
-        request,
-        None,
-    )
+    };
+    first(alloc, system, tables, request, None)
 }
 
 /// A request for the first so many addresses of the buffer of another, with these rights.

@@ -14,15 +14,15 @@ use Rattle.dn_place.proofs.first.by_tables.Goals as goal
 
 pub first_of-requires-clause-sound : goal.first_of-requires-clause-sound
 first_of-requires-clause-sound g c =
-    let kinds : List Meaning = map (λ k. (goal.UnitKind-dyn g (k.vtable, k.value)).meaning k.value) c.args.kinds.now.list.items in
-    let net : c.args.net.now ≡ g.A.Aim.sought.net = sym (ap (λ (s : Sought). s.net) c.requires.aim) in
+    let kinds : List Meaning = map (λ k. (goal.UnitKind-dyn g (k.vtable, k.value)).meaning k.value) c.args.system.kinds.now.list.items in
+    let net : c.args.system.net.now ≡ g.A.Aim.sought.net = sym (ap (λ (s : Sought). s.net) c.requires.aim) in
     record {
       is_net = net;
       is_request = sym (ap (λ (s : Sought). s.request) c.requires.aim);
       is_at = sym (ap (λ (s : Sought). s.at) c.requires.aim);
-      flat = subst (λ (n : List NodeDecl). AreFlats n c.args.flats.now) net c.requires.flat;
-      can_ask = λ unit slot l. (c.requires.lawful, (c.requires.fits.wide, slot_in_set kinds c.args.net.now c.args.tables.now unit slot c.requires.fits (subst (λ (n : List NodeDecl). slot < slot_count (unit_at n unit)) (sym net) l)));
+      flat = subst (λ (n : List NodeDecl). AreFlats n c.args.system.flats.now) net c.requires.system.flat;
+      can_ask = λ unit slot l. (c.requires.system.lawful, (c.requires.fits.wide, slot_in_set kinds c.args.system.net.now c.args.tables.now unit slot c.requires.fits (subst (λ (n : List NodeDecl). slot < slot_count (unit_at n unit)) (sym net) l)));
       is_met = λ unit slot found l posted. subst (λ (s : Sought). found ≡ slot_of s.slots unit slot) (sym c.requires.aim) posted;
-      can_test = λ v hops own p. (c.requires.lawful, (c.requires.legal, (c.requires.flat, (c.requires.fits, (c.requires.rights, (slice_get_within (hops_of hops) own p.own p.is_own, subst (λ (s : Sought). IsPlacement s.net s.slots s.request (record { v = v; hops = hops_of hops; own = own })) c.requires.aim p))))));
+      can_test = λ v hops own p. (c.requires.system, (c.requires.fits, (c.requires.rights, (slice_get_within (hops_of hops) own p.own p.is_own, subst (λ (s : Sought). IsPlacement s.net s.slots s.request (record { v = v; hops = hops_of hops; own = own })) c.requires.aim p))));
       is_tested = λ v hops own answer p posted. subst (λ (s : Sought). IfOk answer (λ yes. IsTrue yes ↔ IsAdmissible s.net s.slots.held s.request (record { v = v; hops = hops_of hops; own = own }))) (sym c.requires.aim) posted.1;
     }

@@ -2,4 +2,4 @@ use Rattle.dn_place.proofs.Readies.{ready}
 use Rattle.dn_place.proofs.first.first.Goals as goal
 
 pub by_tables-requires-clause-ready : goal.by_tables-requires-clause-ready
-by_tables-requires-clause-ready g c = ready c.args.net.now _ c.args.request.now c.args.at c.requires.legal.legal c.requires.agent c.requires.some c.requires.buffer
+by_tables-requires-clause-ready g c = ready c.args.system.net.now _ c.args.request.now c.args.at c.requires.system.legal.legal c.requires.agent c.requires.some c.requires.buffer

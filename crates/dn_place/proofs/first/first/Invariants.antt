@@ -5,8 +5,8 @@ use Rattle.dn_place.proofs.first.first.Given as goal
 abbrev pub ghosts-by_tables : goal.ghosts-by_tables
 ghosts-by_tables g a = record {
   sought = record {
-    net = a.net.now;
-    slots = slots_of_set (map (λ k. (g.dyn-1.0.entry k.vtable).1.meaning k.value) a.kinds.now.list.items) a.tables.now;
+    net = a.system.net.now;
+    slots = slots_of_set (map (λ k. (g.dyn-1.0.entry k.vtable).1.meaning k.value) a.system.kinds.now.list.items) a.tables.now;
     request = a.request.now;
     at = a.at;
   };

@@ -9,11 +9,11 @@ use Rattle.dn_vector.proofs.route.route.Goals as goal
 
 pub least_vector-requires-clause-agent : goal.least_vector-requires-clause-agent
 least_vector-requires-clause-agent g c =
-    (allowed_is c.args.net.now c.args.book.now.grants c.args.id c.args.agent c.args.node (sym c.refusal.ensures ∙ c.in_default.is)).agent_is
+    (allowed_is c.args.system.net.now c.args.book.now.grants c.args.id c.args.agent c.args.node (sym c.refusal.ensures ∙ c.in_default.is)).agent_is
 
 pub commit-requires-clause-placed : goal.commit-requires-clause-placed
 commit-requires-clause-placed g c =
-    let net = c.args.net.now in
+    let net = c.args.system.net.now in
     let book = c.args.book.now.grants in
     let free = subst (λ gs. (a : ℕ) → has c.in_ok-free.free a ≡ is_free_vector net gs c.args.node a) c.grants.ensures c.in_ok-free.ensures.free in
     placed_grant net book c.args.id c.args.agent c.args.line c.args.node c.in-Some-found.field-0.vector c.in-Some-found.field-0.placement
@@ -25,7 +25,7 @@ commit-requires-clause-placed g c =
 
 pub returns-in_default-found-clause-turn : goal.returns-in_default-found-clause-turn
 returns-in_default-found-clause-turn g c =
-    let net = c.args.net.now in
+    let net = c.args.system.net.now in
     let book = c.args.book.now.grants in
     let free = subst (λ gs. (a : ℕ) → has c.in_ok-free.free a ≡ is_free_vector net gs c.args.node a) c.grants.ensures c.in_ok-free.ensures.free in
     λ device memory. (
@@ -38,7 +38,7 @@ returns-in_default-found-clause-turn g c =
 
 pub returns-in_err-commit-clause-stopped : goal.returns-in_err-commit-clause-stopped
 returns-in_err-commit-clause-stopped g c =
-    let net = c.args.net.now in
+    let net = c.args.system.net.now in
     let book = c.args.book.now.grants in
     let free = subst (λ gs. (a : ℕ) → has c.in_ok-free.free a ≡ is_free_vector net gs c.args.node a) c.grants.ensures c.in_ok-free.ensures.free in
     let q = err_from_is_err_and c.from_residual-in_err-commit.result c.from_residual-in_err-commit.ensures.1 in
@@ -52,7 +52,7 @@ returns-in_err-commit-clause-stopped g c =
 
 pub returns-clause-turn : goal.returns-clause-turn
 returns-clause-turn g c =
-    let net = c.args.net.now in
+    let net = c.args.system.net.now in
     let book = c.args.book.now.grants in
     let free = subst (λ gs. (a : ℕ) → has c.in_ok-free.free a ≡ is_free_vector net gs c.args.node a) c.grants.ensures c.in_ok-free.ensures.free in
     λ device memory. placed_made net book _ c.args.id c.args.agent c.args.line c.args.node c.in-Some-found.field-0.vector c.in-Some-found.field-0.placement
@@ -65,11 +65,11 @@ returns-clause-turn g c =
 
 pub returns-clause-faithful : goal.returns-clause-faithful
 returns-clause-faithful g c =
-    let net = c.args.net.now in
+    let net = c.args.system.net.now in
     let book = c.args.book.now.grants in
     let free = subst (λ gs. (a : ℕ) → has c.in_ok-free.free a ≡ is_free_vector net gs c.args.node a) c.grants.ensures c.in_ok-free.ensures.free in
     still_faithful net book _ c.args.id c.args.agent c.args.line c.args.node c.in-Some-found.field-0.vector c.in-Some-found.field-0.placement
-    c.vector_request.result c.vector_request.ensures c.requires.legal.legal c.requires.kept.sound
+    c.vector_request.result c.vector_request.ensures c.requires.system.legal.legal c.requires.kept.sound
     (record {
       allowed = sym c.refusal.ensures ∙ c.in_default.is;
       placed = least_free net book c.args.agent c.args.line c.args.node c.in_ok-free.free _ _ free (rw c.in-Some-found.is at c.in_ok-found.ensures.found);
@@ -78,7 +78,7 @@ returns-clause-faithful g c =
 
 pub returns-clause-routed : goal.returns-clause-routed
 returns-clause-routed g c =
-    let net = c.args.net.now in
+    let net = c.args.system.net.now in
     let book = c.args.book.now.grants in
     let free = subst (λ gs. (a : ℕ) → has c.in_ok-free.free a ≡ is_free_vector net gs c.args.node a) c.grants.ensures c.in_ok-free.ensures.free in
     placed_logged net _ book _ c.args.id c.args.agent c.args.line c.args.node c.in-Some-found.field-0.vector c.in-Some-found.field-0.placement
@@ -91,10 +91,10 @@ returns-clause-routed g c =
 
 pub returns-in_default-found-clause-complete : goal.returns-in_default-found-clause-complete
 returns-in_default-found-clause-complete g c =
-    let net = c.args.net.now in
+    let net = c.args.system.net.now in
     let book = c.args.book.now.grants in
-    let ks = map (λ k. (goal.UnitKind-dyn g (k.vtable, k.value)).meaning k.value) c.args.kinds.now.list.items in
+    let ks = map (λ k. (goal.UnitKind-dyn g (k.vtable, k.value)).meaning k.value) c.args.system.kinds.now.list.items in
     let free = subst (λ gs. (a : ℕ) → has c.in_ok-free.free a ≡ is_free_vector net gs c.args.node a) c.grants.ensures c.in_ok-free.ensures.free in
-    λ e. no_addition net ks book c.args.book.now.set c.args.id c.args.agent c.args.line c.args.node c.requires.legal.legal
-    (all_of_map _ c.args.kinds.now.list.items c.requires.lawful) c.requires.kept (sym c.refusal.ensures ∙ c.in_default.is)
+    λ e. no_addition net ks book c.args.book.now.set c.args.id c.args.agent c.args.line c.args.node c.requires.system.legal.legal
+    (all_of_map _ c.args.system.kinds.now.list.items c.requires.system.lawful) c.requires.kept (sym c.refusal.ensures ∙ c.in_default.is)
     (none_free net book c.args.agent c.args.line c.args.node c.in_ok-free.free free (c.in_ok-found.ensures.none c.in_default-found.is))

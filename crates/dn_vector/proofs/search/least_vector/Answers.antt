@@ -7,14 +7,14 @@ use Rattle.dn_vector.proofs.search.least_vector.Goals as goal
 
 pub loop-span-preserved : goal.loop-span-preserved
 loop-span-preserved g c =
-    one_more c.args.net.now c.args.book.now.grants c.args.agent c.args.line c.args.node c.spans-span-items.result.now c.loop-span.span-index c.span-item.result
+    one_more c.args.system.net.now c.args.book.now.grants c.args.agent c.args.line c.args.node c.spans-span-items.result.now c.loop-span.span-index c.span-item.result
     c.loop-span-test.true c.span-item.is c.loop-span.invariant (c.in_ok-found.ensures.none c.in_default.is)
 
 pub returns-in-Some-clause-found : goal.returns-in-Some-clause-found
 returns-in-Some-clause-found g c =
-    subst (λ l. IsLeastAmong c.args.net.now c.args.book.now.grants c.args.agent c.args.line c.args.node l c.in-Some.found.vector c.in-Some.found.placement)
+    subst (λ l. IsLeastAmong c.args.system.net.now c.args.book.now.grants c.args.agent c.args.line c.args.node l c.in-Some.found.vector c.in-Some.found.placement)
     c.spans-span-items.ensures.value
-    (least_here c.args.net.now c.args.book.now.grants c.args.agent c.args.line c.args.node c.spans-span-items.result.now c.loop-span.span-index c.span-item.result _ _
+    (least_here c.args.system.net.now c.args.book.now.grants c.args.agent c.args.line c.args.node c.spans-span-items.result.now c.loop-span.span-index c.span-item.result _ _
     c.loop-span-test.true c.span-item.is (subst AreMaximal (sym c.spans-span-items.ensures.value) c.spans-span-items.ensures.maximal) c.loop-span.invariant
     (rw c.in-Some.is at c.in_ok-found.ensures.found))
 
