@@ -1,6 +1,6 @@
 //! Numbers by their spellings.
 
-ghost use Rattle.std.specs.Prelude.{◌≡◌};
+ghost use Rattle.std.specs.Prelude.{◌≡◌, ◌≤◌};
 ghost use Rattle.dn_token.specs.Token.{number_of, fitting, digits_number, decimal_value, hex_value};
 
 /// The number that a run spells: decimal digits, or `0x` and hexadecimal digits of either case.
@@ -11,28 +11,68 @@ pub fn number_of(run: &[u8]) -> Option<u64>
     ensures { result ≡ number_of run.now }
 {
     match run.strip_prefix(b"0x") {
-        Some(digits) => hexadecimal(digits),
-        None => decimal(run),
+        Some(digits) => spelled::<Hexadecimal>(digits),
+        None => spelled::<Decimal>(run),
     }
 }
 
-#[inline(always)]
-fn decimal(digits: &[u8]) -> Option<u64>
-    ensures { result ≡ fitting (digits_number 10 decimal_value digits.now) }
-{
-    if digits.is_empty() {
-        return None;
-    }
-    let mut number: u64 = 0;
-    for digit in digits {
-        number = number.checked_mul(10)?.checked_add(decimal_value(*digit)?)?;
-    }
-    Some(number)
+/// A way to write numbers by digits.
+trait Radix {
+    ghost use Rattle.std.specs.Prelude.{◌≡◌, ℕ, Option};
+
+    /// How many digits there are.
+    ghost RADIX: { ℕ };
+    /// What a byte stands for, where it is a digit.
+    ghost value: { ℕ → Option ℕ };
+
+    const RADIX: u64;
+
+    /// What a byte stands for. None where it is no digit.
+    fn value(byte: u8) -> Option<u64>
+        ensures { result ≡ value byte };
 }
 
+/// Ten digits.
+struct Decimal;
+
+impl Radix for Decimal {
+    ghost use Rattle.dn_token.specs.Token.{decimal_value};
+
+    ghost RADIX = { 10 };
+
+    ghost value = { decimal_value };
+
+    const RADIX: u64 = 10;
+
+    #[inline(always)]
+    fn value(byte: u8) -> Option<u64> {
+        decimal_value(byte)
+    }
+}
+
+/// Sixteen digits, those past nine of either case.
+struct Hexadecimal;
+
+impl Radix for Hexadecimal {
+    ghost use Rattle.dn_token.specs.Token.{hex_value};
+
+    ghost RADIX = { 16 };
+
+    ghost value = { hex_value };
+
+    const RADIX: u64 = 16;
+
+    #[inline(always)]
+    fn value(byte: u8) -> Option<u64> {
+        hexadecimal_value(byte)
+    }
+}
+
+/// The number that digits spell. None where there is none, one is no digit, or the number is past 2^64 - 1.
 #[inline(always)]
-fn hexadecimal(digits: &[u8]) -> Option<u64>
-    ensures { result ≡ fitting (digits_number 16 hex_value digits.now) }
+fn spelled<R: Radix>(digits: &[u8]) -> Option<u64>
+    requires { 1 ≤ R.RADIX }
+    ensures { result ≡ fitting (digits_number R.RADIX R.value digits.now) }
 {
     if digits.is_empty() {
         return None;
@@ -40,8 +80,8 @@ fn hexadecimal(digits: &[u8]) -> Option<u64>
     let mut number: u64 = 0;
     for digit in digits {
         number = number
-            .checked_mul(16)?
-            .checked_add(hexadecimal_value(*digit)?)?;
+            .checked_mul(R::RADIX)?
+            .checked_add(R::value(*digit)?)?;
     }
     Some(number)
 }

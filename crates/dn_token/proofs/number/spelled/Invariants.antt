@@ -1,0 +1,9 @@
+use Rattle.std.proofs.Common.{◌≡◌, ◌<◌, ◌^◌, drop, Some}
+use Rattle.dn_token.specs.Token.{spelled_from, fitting}
+use Rattle.dn_token.proofs.number.spelled.Given as goal
+
+abbrev pub invariant-loop-digit : goal.invariant-loop-digit
+invariant-loop-digit g l = record {
+  spelled : fitting (spelled_from g.R.Radix.RADIX g.R.Radix.value (Some 0) l.digits) ≡ fitting (spelled_from g.R.Radix.RADIX g.R.Radix.value (Some l.number) (drop l.digit-index l.digits));
+  fits : l.number < 2 ^ 64;
+}
