@@ -73,7 +73,8 @@ pub fn route<D: Tables>(
         (map (λ k. meaning (k.vtable, k.value)) system.entry.kinds.now.list.items) book.old.grants
         book.old.cleared id agent line node true (D.log device.old) (D.log device.new) }
     ensures on_device { IsOnDevice book.new.set (D.units device.new) (D.words device.new) }
-    ensures counted { IsCounted (D.faults device.old) (D.faults device.new) (is_route_fault result) }
+    ensures counted { IsCounted (D.faults device.old) (D.faults device.new)
+        (is_route_fault result) }
 {
     if let Some(why) = refusal(book, system.net, id, agent, node) {
         return Err(why);
