@@ -1,5 +1,5 @@
 -- A placement with another of its hops for its own; the units of a net and those of its tables.
-use Rattle.std.proofs.Common.{◌≡◌, ℕ, zero, suc, ◌<◌, ◌≤◌, List, [], ◌∷◌, map, slice_get, option_map, Option, Some, None, IsTrue, refl, subst, ◌∙◌, ◌⊎◌, inl, inr, Bool, arith}
+use Rattle.std.proofs.Common.{◌≡◌, ℕ, ◌<◌, ◌≤◌, List, [], map, slice_get, option_map, Option, Some, None, IsTrue, subst, ◌∙◌, ◌⊎◌, inl, inr, Bool, arith}
 use Rattle.std.proofs.lemmas.Bool.{cases_lt, lt-ltb, ltb-true}
 use Rattle.dn_net.specs.declared.node.NodeDecl.{NodeDecl}
 use Rattle.dn_net.specs.declared.node.Unit.{Unit as UnitPart}
@@ -9,24 +9,11 @@ use Rattle.dn_tables.specs.declared.placement.Hop.{Hop}
 use Rattle.dn_tables.specs.declared.table.NodeTable.{NodeTable}
 use Rattle.dn_tables.specs.Placement.{Place}
 use Rattle.dn_tables.specs.Set.{has_slot, has_slot_by, unit_in, units_of}
+use Rattle.dn_book.proofs.Units.{unit_by_units}
 use Rattle.dn_placement.specs.declared.request.Request.{Request}
 use Rattle.dn_placement.specs.Placement.{IsFreeHop, IsPlacement}
 use Rattle.dn_placement.specs.Records.{first_slot, last_slot}
 use Rattle.dn_placement.specs.Slots.{is_free_in, slots_of_set}
-
--- the units of tables that fit a net are those of the net
-units_same : (set : List NodeTable) (net : List NodeDecl) (n : ℕ) → units_of set ≡ map (λ (d : NodeDecl). d.unit) net → unit_in set n ≡ unit_at net n
-units_same [] [] n e = refl
-units_same [] (d ∷ net) n e = cc
-units_same (t ∷ set) [] n e = cc
-units_same (t ∷ set) (d ∷ net) zero e = heads (units_of set) (map (λ (d : NodeDecl). d.unit) net) t.unit d.unit e
-  where
-    heads : (xs ys : List (Option UnitPart)) (a b : Option UnitPart) → a ∷ xs ≡ b ∷ ys → a ≡ b
-    heads xs ys a b p = cc
-units_same (t ∷ set) (d ∷ net) (suc n) e = units_same set net n (tails (units_of set) (map (λ (d : NodeDecl). d.unit) net) t.unit d.unit e)
-  where
-    tails : (xs ys : List (Option UnitPart)) (a b : Option UnitPart) → a ∷ xs ≡ b ∷ ys → xs ≡ ys
-    tails xs ys a b p = cc
 
 -- the unit that a node was found to be
 pub unit_found : (net : List NodeDecl) (n : ℕ) (u : UnitPart) → option_map (λ (d : NodeDecl). d.unit) (slice_get net n) ≡ Some (Some u) → unit_at net n ≡ Some u
@@ -37,7 +24,7 @@ unit_found net n u e = there (slice_get net n) e
     there (Some d) e = cc
 
 pub unit_kept : (set : List NodeTable) (net : List NodeDecl) (n : ℕ) (u : UnitPart) → units_of set ≡ map (λ (d : NodeDecl). d.unit) net → option_map (λ (d : NodeDecl). d.unit) (slice_get net n) ≡ Some (Some u) → unit_in set n ≡ Some u
-unit_kept set net n u same e = units_same set net n same ∙ unit_found net n u e
+unit_kept set net n u same e = unit_by_units net set same n ∙ unit_found net n u e
 
 -- a hop whose slots are free in its unit is free
 pub hop_free : (net : List NodeDecl) (set : List NodeTable) (rq : Request) (hop : Hop) (u : UnitPart) → unit_at net hop.unit ≡ Some u → ((slot : ℕ) → first_slot u hop ≤ slot → slot ≤ last_slot u rq.size hop → IsTrue (is_free_in set hop.unit slot)) → IsFreeHop net (slots_of_set [] set) rq hop

@@ -1,14 +1,22 @@
 -- What the helpers of these tests carry from call to call.
-use Rattle.std.specs.Prelude.{◌≡◌, ℕ, true, List, Some}
+use Rattle.std.specs.Prelude.{◌≡◌, ◌≤◌, ◌+◌, ℕ, true, List, map, slice_get, Some, IsTrue}
+use Rattle.std.specs.declared.alloc.Global.{Global}
+use Rattle.std.specs.declared.dyn_box.DynBox.{DynBox}
 use Rattle.dn_base.specs.Device.{sizes_of}
 use Rattle.dn_net.specs.declared.node.NodeDecl.{NodeDecl}
+use Rattle.dn_net.specs.Decode.{is_agent_at, top}
 use Rattle.dn_kind.specs.declared.rights.Rights.{Rights}
 use Rattle.dn_kind.specs.Kind.{Meaning}
 use Rattle.dn_kind.specs.Units.{IsLegalWith}
 use Rattle.dn_flat.specs.Stages.{AreFlats}
+use Rattle.dn_tables.specs.Placement.{Place}
 use Rattle.dn_tables.specs.Set.{FitsNet, IsOnDevice}
 use Rattle.dn_placement.specs.declared.request.Request.{Request}
+use Rattle.dn_placement.specs.Placement.{IsPlacement}
+use Rattle.dn_placement.specs.Slots.{slots_of_set}
 use Rattle.dn_book.specs.Tables.{IsKept}
+use Rattle.dn_view.specs.declared.system.System.{System}
+use Rattle.dn_view.specs.Systems.{IsSystem}
 use Rattle.test_grants.specs.declared.desk.Board.{Board}
 use Rattle.test_grants.specs.declared.desk.Desk.{Desk}
 
@@ -17,11 +25,28 @@ pub record IsBoard (kinds : List Meaning) (b : Board) : Type 0 where
   pub legal : IsLegalWith kinds b.net
   pub flat : AreFlats b.net b.flats
 
--- a book whose tables keep its grants while it is sound, and the device that has these tables
-pub record IsDesk (kinds : List Meaning) (net : List NodeDecl) (d : Desk) : Type 0 where
-  pub kept : d.book.sound ≡ true → IsKept net kinds d.book.grants d.book.set
-  pub fits : FitsNet net kinds d.book.set
+-- what the kinds of a system mean
+abbrev pub kinds_of : {K : Type 0} {V : K → Type 0} → (DynBox K Global V → Meaning) → System K V → List Meaning
+kinds_of means system = map means system.kinds.now.list.items
+
+-- a system with a book whose tables keep its grants while it is sound, and the device that has these tables
+pub record IsDesk {K : Type 0} {V : K → Type 0} (means : DynBox K Global V → Meaning) (d : Desk K V) : Type 0 where
+  pub system : IsSystem means d.system
+  pub kept : d.book.sound ≡ true → IsKept d.system.net.now (kinds_of means d.system) d.book.grants d.book.set
+  pub fits : FitsNet d.system.net.now (kinds_of means d.system) d.book.set
   pub on_device : IsOnDevice d.book.set (sizes_of d.device.tables) (Some d.device.tables)
+
+-- a placement of the request in the slots as the tables of a desk leave them
+abbrev pub IsPlaced : {K : Type 0} {V : K → Type 0} → (DynBox K Global V → Meaning) → Desk K V → Request → Place → Type 0
+IsPlaced means d rq p = IsPlacement d.system.net.now (slots_of_set (kinds_of means d.system) d.book.set) rq p
+
+-- the agent of the request is one
+abbrev pub HasAgent : List NodeDecl → Request → Type 0
+HasAgent net rq = IsTrue (is_agent_at (slice_get net rq.agent))
+
+-- the buffer ends at the last address or before
+abbrev pub EndsWithin : Request → Type 0
+EndsWithin rq = rq.base + rq.size ≤ top + 1
 
 -- the request for the first so many addresses of a buffer, with these rights
 abbrev pub part : Request → ℕ → Rights → Request

@@ -1,19 +1,16 @@
 //! Calls on a book and its device, made where what they ask holds.
 
-ghost use Rattle.std.specs.Prelude.{◌≡◌, ◌≤◌, ◌+◌, map, slice_get, None, IfOk, IfSome, IsTrue};
+ghost use Rattle.std.specs.Prelude.{◌≡◌, ◌≤◌, map, None, IfOk, IfSome, IsTrue};
 ghost use Rattle.std.specs.List.{All};
-ghost use Rattle.dn_net.specs.Decode.{is_agent_at, top};
 ghost use Rattle.dn_net.specs.Legal.{IsLegalNet};
 ghost use Rattle.dn_kind.specs.Kind.{IsLawful};
 ghost use Rattle.dn_kind.specs.Rights.{are_rights};
-ghost use Rattle.dn_kind.specs.Units.{IsLegalWith};
 ghost use Rattle.dn_flat.specs.Stages.{AreFlats};
 ghost use Rattle.dn_placement.specs.Order.{IsFirst};
-ghost use Rattle.dn_placement.specs.Placement.{IsPlacement};
-ghost use Rattle.dn_placement.specs.Slots.{slots_of_set};
 ghost use Rattle.dn_book.specs.Book.{slots_of};
 ghost use Rattle.dn_book.specs.Tables.{IsKept};
-ghost use Rattle.test_grants.specs.Desk.{IsBoard, IsDesk, part};
+ghost use Rattle.dn_view.specs.Systems.{IsSystem};
+ghost use Rattle.test_grants.specs.Desk.{EndsWithin, HasAgent, IsBoard, IsDesk, IsPlaced, kinds_of, part};
 
 use crate::own::is_hop_free;
 use bitflags::Flags;
@@ -44,7 +41,7 @@ use dn_view::system::System;
 use dn_view::view::view;
 use dn_walk::walks::walks;
 use std::alloc::Global;
-use test_plans::Unmade;
+use test_plans::{Plan, Unmade};
 
 /// A net, and what each node of it sees.
 #[derive(Drop)]
@@ -53,20 +50,36 @@ pub struct Board {
     pub flats: Flats,
 }
 
-/// A book of grants, and the device that has its tables.
+/// A book of grants on a system, and the device that has its tables.
 #[derive(Drop)]
-pub struct Desk {
+pub struct Desk<'a> {
+    pub system: System<'a>,
     pub book: Book,
     pub device: MemTables,
 }
 
-/// The net with what its nodes see.
-pub fn board_of(alloc: Global, kinds: &Kinds, net: Net) -> Result<Board, Unmade>
-    requires { IsLegalWith (map (λ k. meaning (k.vtable, k.value)) kinds.now.list.items) net }
+/// The board of a plan.
+pub fn board_of(alloc: Global, kinds: &Kinds, plan: Plan) -> Result<Board, Unmade>
+    requires { All (λ k. IsLawful (meaning (k.vtable, k.value))) kinds.now.list.items }
     ensures { IfOk result (IsBoard (map (λ k. meaning (k.vtable, k.value)) kinds.now.list.items)) }
 {
+    let net = plan.net(alloc, kinds)?;
     let flats = flats_of(alloc, &net)?;
     Ok(Board { net, flats })
+}
+
+/// The system of a board and its kinds.
+pub fn system_of<'a>(board: &'a Board, kinds: &'a Kinds) -> System<'a>
+    requires lawful { All (λ k. IsLawful (meaning (k.vtable, k.value))) kinds.now.list.items }
+    requires board { IsBoard
+        (map (λ k. meaning (k.vtable, k.value)) kinds.now.list.items) board.now }
+    ensures { IsSystem (λ k. meaning (k.vtable, k.value)) result }
+{
+    System {
+        net: &board.net,
+        flats: &board.flats,
+        kinds,
+    }
 }
 
 /// What each node of a net sees.
@@ -78,83 +91,61 @@ fn flats_of(alloc: Global, net: &Net) -> Result<Flats, Unmade>
     Ok(flatten_all(alloc, net, &walks)?)
 }
 
-impl Desk {
-    /// A book of no grant over a device that has room for so many events and fails at these calls.
-    pub fn make(
-        alloc: Global,
-        board: &Board,
-        kinds: &Kinds,
-        room: u32,
-        failing: &[u32],
-    ) -> Result<Result<Desk, MakeFault>, Unmade>
-        requires lawful { All (λ k. IsLawful (meaning (k.vtable, k.value))) kinds.now.list.items }
-        requires board { IsBoard
-            (map (λ k. meaning (k.vtable, k.value)) kinds.now.list.items) board.now }
-        ensures { IfOk result (λ made. IfOk made (IsDesk
-            (map (λ k. meaning (k.vtable, k.value)) kinds.now.list.items) board.now.net)) }
-    {
-        let mut device = MemTables::new(alloc, room, failing.to_vec(alloc)?)?;
-        match Book::make(alloc, &board.net, kinds, &mut device) {
-            Ok(book) => Ok(Ok(Desk { book, device })),
-            Err(fault) => Ok(Err(fault)),
-        }
+/// A book of no grant over a device that has room for so many events and fails at these calls.
+pub fn desk_of<'a>(
+    alloc: Global,
+    system: System<'a>,
+    room: u32,
+    failing: &[u32],
+) -> Result<Result<Desk<'a>, MakeFault>, Unmade>
+    requires { IsSystem (λ k. meaning (k.vtable, k.value)) system }
+    ensures { IfOk result (λ made. IfOk made (IsDesk (λ k. meaning (k.vtable, k.value)))) }
+{
+    let mut device = MemTables::new(alloc, room, failing.to_vec(alloc)?)?;
+    match Book::make(alloc, system.net, system.kinds, &mut device) {
+        Ok(book) => Ok(Ok(Desk {
+            system,
+            book,
+            device,
+        })),
+        Err(fault) => Ok(Err(fault)),
     }
+}
 
+impl<'a> Desk<'a> {
     /// Grants a request. `None`, and nothing is done, where the book is not sound or the rights are none.
-    pub fn grant<'a>(
+    pub fn grant(
         &mut self,
         alloc: Global,
-        board: &'a Board,
-        kinds: &'a Kinds,
         id: u32,
         request: &Request,
     ) -> Option<Result<u64, GrantFault>>
-        requires lawful { All (λ k. IsLawful (meaning (k.vtable, k.value))) kinds.now.list.items }
-        requires board { IsBoard
-            (map (λ k. meaning (k.vtable, k.value)) kinds.now.list.items) board.now }
-        requires desk { IsDesk (map (λ k. meaning (k.vtable, k.value)) kinds.now.list.items)
-            board.now.net self.old }
-        ensures { IsDesk (map (λ k. meaning (k.vtable, k.value)) kinds.now.list.items)
-            board.now.net self.new }
+        requires { IsDesk (λ k. meaning (k.vtable, k.value)) self.old }
+        ensures { IsDesk (λ k. meaning (k.vtable, k.value)) self.new }
     {
         if !self.book.is_sound() || !are_rights(request.rights) {
             return None;
         }
-        let system = System {
-            net: &board.net,
-            flats: &board.flats,
-            kinds,
-        };
+        let system = self.system;
         Some(grant(alloc, &mut self.book, system, id, request, &mut self.device))
     }
 
     /// Routes a line of an agent to a vector of a node. `None`, and nothing is done, where the book is not sound.
-    pub fn route<'a>(
+    pub fn route(
         &mut self,
         alloc: Global,
-        board: &'a Board,
-        kinds: &'a Kinds,
         id: u32,
-        agent: u16,
-        line: u64,
+        line: Name,
         node: u16,
     ) -> Option<Result<u64, RouteFault>>
-        requires lawful { All (λ k. IsLawful (meaning (k.vtable, k.value))) kinds.now.list.items }
-        requires board { IsBoard
-            (map (λ k. meaning (k.vtable, k.value)) kinds.now.list.items) board.now }
-        requires desk { IsDesk (map (λ k. meaning (k.vtable, k.value)) kinds.now.list.items)
-            board.now.net self.old }
-        ensures { IsDesk (map (λ k. meaning (k.vtable, k.value)) kinds.now.list.items)
-            board.now.net self.new }
+        requires { IsDesk (λ k. meaning (k.vtable, k.value)) self.old }
+        ensures { IsDesk (λ k. meaning (k.vtable, k.value)) self.new }
     {
         if !self.book.is_sound() {
             return None;
         }
-        let system = System {
-            net: &board.net,
-            flats: &board.flats,
-            kinds,
-        };
+        let system = self.system;
+        let (agent, line) = (line.node, line.addr);
         Some(route(
             alloc,
             &mut self.book,
@@ -168,24 +159,15 @@ impl Desk {
     }
 
     /// Revokes the grant of an id. `None`, and nothing is done, where the book is not sound.
-    pub fn revoke(
-        &mut self,
-        board: &Board,
-        kinds: &Kinds,
-        id: u32,
-    ) -> Option<Result<(), RevokeFault>>
-        requires lawful { All (λ k. IsLawful (meaning (k.vtable, k.value))) kinds.now.list.items }
-        requires board { IsBoard
-            (map (λ k. meaning (k.vtable, k.value)) kinds.now.list.items) board.now }
-        requires desk { IsDesk (map (λ k. meaning (k.vtable, k.value)) kinds.now.list.items)
-            board.now.net self.old }
-        ensures { IsDesk (map (λ k. meaning (k.vtable, k.value)) kinds.now.list.items)
-            board.now.net self.new }
+    pub fn revoke(&mut self, id: u32) -> Option<Result<(), RevokeFault>>
+        requires { IsDesk (λ k. meaning (k.vtable, k.value)) self.old }
+        ensures { IsDesk (λ k. meaning (k.vtable, k.value)) self.new }
     {
         if !self.book.is_sound() {
             return None;
         }
-        Some(self.book.revoke(&board.net, kinds, id, &mut self.device))
+        let System { net, kinds, .. } = self.system;
+        Some(self.book.revoke(net, kinds, id, &mut self.device))
     }
 
     /// Commits the grant of a request at its first admissible placement. `None`, and nothing is done, where the book
@@ -193,26 +175,20 @@ impl Desk {
     pub fn commit(
         &mut self,
         alloc: Global,
-        board: &Board,
-        kinds: &Kinds,
         id: u32,
         request: &Request,
     ) -> Result<Option<Result<(), CommitFault>>, Unmade>
-        requires lawful { All (λ k. IsLawful (meaning (k.vtable, k.value))) kinds.now.list.items }
-        requires board { IsBoard
-            (map (λ k. meaning (k.vtable, k.value)) kinds.now.list.items) board.now }
-        requires desk { IsDesk (map (λ k. meaning (k.vtable, k.value)) kinds.now.list.items)
-            board.now.net self.old }
-        ensures { IsDesk (map (λ k. meaning (k.vtable, k.value)) kinds.now.list.items)
-            board.now.net self.new }
+        requires { IsDesk (λ k. meaning (k.vtable, k.value)) self.old }
+        ensures { IsDesk (λ k. meaning (k.vtable, k.value)) self.new }
     {
         if !self.book.is_sound() || !are_rights(request.rights) {
             return Ok(None);
         }
-        if let Some(_why) = refusal(&self.book, &board.net, id, request) {
+        let system = self.system;
+        if let Some(_why) = refusal(&self.book, system.net, id, request) {
             return Ok(None);
         }
-        let Some(placement) = first_beside(alloc, board, kinds, &self.book, request)? else {
+        let Some(placement) = first_beside(alloc, system, &self.book, request)? else {
             return Ok(None);
         };
         let grant = Grant {
@@ -222,42 +198,30 @@ impl Desk {
         };
         Ok(Some(
             self.book
-                .commit(alloc, &board.net, kinds, grant, &mut self.device),
+                .commit(alloc, system.net, system.kinds, grant, &mut self.device),
         ))
     }
 
     /// Whether a placement of a request is admissible for its first so many addresses alone, with
     /// these rights. `None` where the request has not so many, or the rights are none.
-    pub fn is_exact<'a>(
+    pub fn is_exact(
         &self,
         alloc: Global,
-        board: &'a Board,
-        kinds: &'a Kinds,
         request: &Request,
         placement: &Placement,
         size: u64,
         rights: Rights,
     ) -> Result<Option<bool>, Unmade>
-        requires lawful { All (λ k. IsLawful (meaning (k.vtable, k.value))) kinds.now.list.items }
-        requires board { IsBoard
-            (map (λ k. meaning (k.vtable, k.value)) kinds.now.list.items) board.now }
-        requires desk { IsDesk (map (λ k. meaning (k.vtable, k.value)) kinds.now.list.items)
-            board.now.net self.now }
-        requires placed { IsPlacement board.now.net
-            (slots_of_set (map (λ k. meaning (k.vtable, k.value)) kinds.now.list.items)
-            self.now.book.set) request.now placement.now }
+        requires desk { IsDesk (λ k. meaning (k.vtable, k.value)) self.now }
+        requires placed { IsPlaced (λ k. meaning (k.vtable, k.value))
+            self.now request.now placement.now }
     {
         if size == 0 || size > request.size || !are_rights(rights) {
             return Ok(None);
         }
         let part = part_of(request, size, rights);
         let tables = self.book.tables();
-        let system = System {
-            net: &board.net,
-            flats: &board.flats,
-            kinds,
-        };
-        let answer = exact(alloc, system, tables, &part, placement)?;
+        let answer = exact(alloc, self.system, tables, &part, placement)?;
         Ok(Some(answer))
     }
 
@@ -267,28 +231,19 @@ impl Desk {
     pub fn with_own(
         &self,
         alloc: Global,
-        board: &Board,
-        kinds: &Kinds,
         request: &Request,
         placement: &Placement,
         own: u8,
     ) -> Option<Placement>
-        requires lawful { All (λ k. IsLawful (meaning (k.vtable, k.value))) kinds.now.list.items }
-        requires board { IsBoard
-            (map (λ k. meaning (k.vtable, k.value)) kinds.now.list.items) board.now }
-        requires desk { IsDesk (map (λ k. meaning (k.vtable, k.value)) kinds.now.list.items)
-            board.now.net self.now }
-        requires placed { IsPlacement board.now.net
-            (slots_of_set (map (λ k. meaning (k.vtable, k.value)) kinds.now.list.items)
-            self.now.book.set) request.now placement.now }
-        ensures placed { IfSome result (IsPlacement board.now.net
-            (slots_of_set (map (λ k. meaning (k.vtable, k.value)) kinds.now.list.items)
-            self.now.book.set) request.now) }
+        requires desk { IsDesk (λ k. meaning (k.vtable, k.value)) self.now }
+        requires placed { IsPlaced (λ k. meaning (k.vtable, k.value))
+            self.now request.now placement.now }
+        ensures placed { IfSome result
+            (IsPlaced (λ k. meaning (k.vtable, k.value)) self.now request.now) }
     {
-        let _kinds = kinds;
         let hops = placement.hops();
         let hop = *hops.get(usize::from(own))?;
-        if !is_hop_free(&board.net, self.book.tables(), request, hop) {
+        if !is_hop_free(self.system.net, self.book.tables(), request, hop) {
             return None;
         }
         Some(Placement::new(alloc, placement.v(), hops, own))
@@ -297,112 +252,66 @@ impl Desk {
     /// The first admissible placement of a request, at an address of its agent where one is given.
     /// `Unformed` where the request has no agent, no rights or no buffer.
     #[tactic(auto, using(crate::proofs::Parts::first_placed))]
-    pub fn first<'a>(
+    pub fn first(
         &self,
         alloc: Global,
-        board: &'a Board,
-        kinds: &'a Kinds,
         request: &Request,
         at: Option<u64>,
     ) -> Result<Option<Placement>, Unmade>
-        requires lawful { All (λ k. IsLawful (meaning (k.vtable, k.value))) kinds.now.list.items }
-        requires board { IsBoard
-            (map (λ k. meaning (k.vtable, k.value)) kinds.now.list.items) board.now }
-        requires desk { IsDesk (map (λ k. meaning (k.vtable, k.value)) kinds.now.list.items)
-            board.now.net self.now }
-        ensures placed { IfOk result (λ found. IfSome found (IsPlacement board.now.net
-            (slots_of_set (map (λ k. meaning (k.vtable, k.value)) kinds.now.list.items)
-            self.now.book.set) request.now)) }
+        requires desk { IsDesk (λ k. meaning (k.vtable, k.value)) self.now }
+        ensures placed { IfOk result (λ found. IfSome found
+            (IsPlaced (λ k. meaning (k.vtable, k.value)) self.now request.now)) }
     {
-        if !is_agent(&board.net, request.agent) || !is_formed(request) {
+        let system = self.system;
+        if !is_agent(system.net, request.agent) || !is_formed(request) {
             return Err(Unmade::Unformed);
         }
         let tables = self.book.tables();
-        let system = System {
-            net: &board.net,
-            flats: &board.flats,
-            kinds,
-        };
         Ok(first(alloc, system, tables, request, at)?)
     }
 
     /// What a name resolves to for an access under the tables. `Unformed` where its node is not there.
-    pub fn resolved(
-        &self,
-        alloc: Global,
-        board: &Board,
-        kinds: &Kinds,
-        name: Name,
-        access: Access,
-    ) -> Result<Names, Unmade>
-        requires lawful { All (λ k. IsLawful (meaning (k.vtable, k.value))) kinds.now.list.items }
-        requires board { IsBoard
-            (map (λ k. meaning (k.vtable, k.value)) kinds.now.list.items) board.now }
-        requires desk { IsDesk (map (λ k. meaning (k.vtable, k.value)) kinds.now.list.items)
-            board.now.net self.now }
+    pub fn resolved(&self, alloc: Global, name: Name, access: Access) -> Result<Names, Unmade>
+        requires { IsDesk (λ k. meaning (k.vtable, k.value)) self.now }
     {
-        if name.node >= board.net.nodes() {
+        let System { net, kinds, .. } = self.system;
+        if name.node >= net.nodes() {
             return Err(Unmade::Unformed);
         }
-        let tables = self.book.tables();
-        Ok(resolve(alloc, &board.net, kinds, tables, name, access)?)
+        Ok(resolve(alloc, net, kinds, self.book.tables(), name, access)?)
     }
 
     /// What a node sees for an access under the tables. `Unformed` where it is not there.
-    pub fn seen<'a>(
-        &self,
-        alloc: Global,
-        board: &'a Board,
-        kinds: &'a Kinds,
-        node: u16,
-        access: Access,
-    ) -> Result<Rows, Unmade>
-        requires lawful { All (λ k. IsLawful (meaning (k.vtable, k.value))) kinds.now.list.items }
-        requires board { IsBoard
-            (map (λ k. meaning (k.vtable, k.value)) kinds.now.list.items) board.now }
-        requires desk { IsDesk (map (λ k. meaning (k.vtable, k.value)) kinds.now.list.items)
-            board.now.net self.now }
+    pub fn seen(&self, alloc: Global, node: u16, access: Access) -> Result<Rows, Unmade>
+        requires { IsDesk (λ k. meaning (k.vtable, k.value)) self.now }
     {
-        if node >= board.net.nodes() {
+        let system = self.system;
+        if node >= system.net.nodes() {
             return Err(Unmade::Unformed);
         }
-        let tables = self.book.tables();
-        let system = System {
-            net: &board.net,
-            flats: &board.flats,
-            kinds,
-        };
-        Ok(view(alloc, system, tables, node, access)?)
+        Ok(view(alloc, system, self.book.tables(), node, access)?)
     }
 }
 
 /// The first admissible placement of a request in the slots as a sound book leaves them.
-fn first_beside<'a>(
+fn first_beside(
     alloc: Global,
-    board: &'a Board,
-    kinds: &'a Kinds,
+    system: System<'_>,
     book: &Book,
     request: &Request,
 ) -> Result<Option<Placement>, OutOfMemory>
-    requires lawful { All (λ k. IsLawful (meaning (k.vtable, k.value))) kinds.now.list.items }
-    requires board { IsBoard
-        (map (λ k. meaning (k.vtable, k.value)) kinds.now.list.items) board.now }
-    requires kept { IsKept board.now.net
-        (map (λ k. meaning (k.vtable, k.value)) kinds.now.list.items) book.now.grants book.now.set }
-    requires agent { IsTrue (is_agent_at (slice_get board.now.net request.now.agent)) }
+    requires system { IsSystem (λ k. meaning (k.vtable, k.value)) system }
+    requires kept { IsKept system.net.now (kinds_of (λ k. meaning (k.vtable, k.value)) system)
+        book.now.grants book.now.set }
+    requires agent { HasAgent system.net.now request.now }
     requires rights { IsTrue (are_rights request.now.rights) }
     requires some { 1 ≤ request.now.size }
-    requires buffer { request.now.base + request.now.size ≤ top + 1 }
-    ensures { IfOk result (λ found. IfSome found (λ p. IsFirst board.now.net
-        (slots_of board.now.net book.now.grants) request.now None p)) }
+    requires buffer { EndsWithin request.now }
+    ensures { IfOk result (λ found. IfSome found (λ p. IsFirst system.entry.net.now
+        (slots_of system.entry.net.now book.now.grants) request.now None p)) }
 {
     let tables = book.tables();
     tables.facts();
-    let system = System {
-        net: &board.net,
-        flats: &board.flats,
-        kinds,
-    };
     first(alloc, system, tables, request, None)
 }
 
@@ -421,7 +330,7 @@ fn part_of(request: &Request, size: u64, rights: Rights) -> Request
 fn is_formed(request: &Request) -> bool
     ensures rights { IsTrue result → IsTrue (are_rights request.now.rights) }
     ensures some { IsTrue result → 1 ≤ request.now.size }
-    ensures buffer { IsTrue result → request.now.base + request.now.size ≤ top + 1 }
+    ensures buffer { IsTrue result → EndsWithin request.now }
 {
     are_rights(request.rights)
         && request.size >= 1

@@ -6,22 +6,8 @@
 //! tests this first.
 #![tactic(auto)]
 
-#[cfg(test)]
-mod additions;
 pub mod boards;
-#[cfg(test)]
-mod commands;
 pub mod desk;
-#[cfg(test)]
-mod faults;
-#[cfg(test)]
-mod firsts;
 mod own;
 #[cfg(test)]
-mod records;
-#[cfg(test)]
-mod refusals;
-#[cfg(test)]
-mod rows;
-#[cfg(test)]
-mod search;
+mod tests;

@@ -2,6 +2,7 @@
 
 ghost use Rattle.std.specs.Prelude.{◌≡◌};
 
+use crate::shape;
 use dn_kind::rights::Rights;
 use dn_kind::shape::Shape;
 use dn_kind::unit_kind::{Record, UnitKind};
@@ -9,21 +10,23 @@ use dn_kinds::pages::Pages;
 use dn_kinds::remap::Remap;
 use dn_kinds::vectors::Vectors;
 
+/// A record.
+fn to(port: u8, page: u64, rights: Rights) -> Record
+    ensures { result ≡ record { port = port; page = page; rights = rights } }
+{
+    Record { port, page, rights }
+}
+
 /// A record that is there.
 fn spelled(port: u8, page: u64, rights: Rights) -> Option<Record> {
-    Some(Record { port, page, rights })
+    Some(to(port, page, rights))
 }
 
 /// A shape of 16 slots and a reach of 56.
-fn shape(page: u8, ports: u8) -> Shape
+fn wide(page: u8, ports: u8) -> Shape
     ensures { result ≡ record { page = page; slots = 16; reach = 56; ports = ports } }
 {
-    Shape {
-        page,
-        slots: 16,
-        reach: 56,
-        ports,
-    }
+    shape(page, 16, 56, ports)
 }
 
 #[test]
@@ -79,26 +82,14 @@ fn reads_words_of_vectors(rt: HostRuntime) {
 #[test]
 fn packs_records(rt: HostRuntime) {
     let mut words = [u64::MAX; 4];
-    let record = Record {
-        port: 0,
-        page: 0x80004,
-        rights: Rights::both(),
-    };
-    Pages.pack(shape(12, 1), record, &mut words);
+    let both = to(0, 0x80004, Rights::both());
+    Pages.pack(wide(12, 1), both, &mut words);
     assert_eq!(rt; words, [0x8000401, 0, 0, 0]);
-    let record = Record {
-        port: 3,
-        page: 0x80004,
-        rights: Rights::WRITE,
-    };
-    Remap.pack(shape(12, 8), record, &mut words);
+    let writing = to(3, 0x80004, Rights::WRITE);
+    Remap.pack(wide(12, 8), writing, &mut words);
     assert_eq!(rt; words, [0x8000417, 0, 0, 0]);
-    let record = Record {
-        port: 2,
-        page: 0x20,
-        rights: Rights::READ,
-    };
-    Vectors.pack(shape(0, 8), record, &mut words);
+    let reading = to(2, 0x20, Rights::READ);
+    Vectors.pack(wide(0, 8), reading, &mut words);
     assert_eq!(rt; words, [0x20, 0x25, 0, 0]);
 }
 
@@ -115,7 +106,7 @@ fn fits_shapes(rt: HostRuntime) {
         (0, 9, false, false, false),
         (1, 8, false, true, false),
     ] {
-        let shape = shape(page, ports);
+        let shape = wide(page, ports);
         assert_eq!(rt; Pages.fits(shape), pages, "pages, {page}, {ports}");
         assert_eq!(rt; Remap.fits(shape), remap, "remap, {page}, {ports}");
         assert_eq!(rt; Vectors.fits(shape), vectors, "vectors, {page}, {ports}");

@@ -20,6 +20,18 @@ mod slots;
 #[cfg(test)]
 mod units;
 
+/// A shape of page, slots, reach and ports.
+pub fn shape(page: u8, slots: u32, reach: u8, ports: u8) -> Shape
+    ensures { result ≡ record { page = page; slots = slots; reach = reach; ports = ports } }
+{
+    Shape {
+        page,
+        slots,
+        reach,
+        ports,
+    }
+}
+
 /// A unit of this shape, of the kind of a number. Its ports are all node 0. `Err` is want of memory.
 pub fn unit_of(alloc: Global, kind: u8, shape: Shape) -> Result<Unit, AllocError>
     ensures kind { IfOk result (λ u. u.kind ≡ kind) }

@@ -4,8 +4,7 @@ ghost use Rattle.std.specs.Prelude.{IsTrue};
 ghost use Rattle.std.specs.List.{list_all};
 ghost use Rattle.dn_kind.specs.Units.{has_kind};
 
-use crate::unit_of;
-use dn_base::items::Items;
+use crate::{shape, unit_of};
 use dn_base::text::Text;
 use dn_kind::kinds::Kinds;
 use dn_kind::shape::Shape;
@@ -15,28 +14,11 @@ use dn_kinds::pages::{Pages, pages_are_lawful};
 use dn_kinds::remap::{Remap, remap_is_lawful};
 use dn_kinds::vectors::{Vectors, vectors_are_lawful};
 use dn_net::net::Net;
-use dn_net::node::{NodeDecl, Role, Unit};
+use dn_net::node::{Role, Unit};
 use std::alloc::Global;
 use std::process::Abort;
 use std::test::Fail;
-use test_plans::program_kinds;
-
-/// The numbers of the kinds in the lists of these tests.
-const PAGES: u8 = 0;
-
-const REMAP: u8 = 1;
-
-const VECTORS: u8 = 2;
-
-/// A shape of page, slots, reach and ports.
-fn shape(page: u8, slots: u32, reach: u8, ports: u8) -> Shape {
-    Shape {
-        page,
-        slots,
-        reach,
-        ports,
-    }
-}
+use test_plans::{PAGES, REMAP, VECTORS, bare_node, program_kinds};
 
 /// Adds a unit, or a plain node, whose kind is one of so many, and answers its number. `None`, and an unchanged
 /// net, where the name is taken or the net is full.
@@ -58,14 +40,7 @@ fn add(
         Some(_) => Role::Unit,
         None => Role::Plain,
     };
-    let number = net.add(NodeDecl {
-        text: title,
-        role,
-        accepts: Items::new(alloc),
-        entries: Items::new(alloc),
-        over: None,
-        unit,
-    })?;
+    let number = net.add(bare_node(alloc, title, role, unit))?;
     Ok(Some(number))
 }
 
@@ -132,42 +107,29 @@ fn lists_kinds_in_their_order(rt: HostRuntime) -> Result<(), Fail> {
 }
 
 #[test]
-fn takes_units_at_each_limit(rt: HostRuntime) -> Result<(), Fail> {
+fn takes_units_up_to_each_limit(rt: HostRuntime) -> Result<(), Fail> {
     let right = (REMAP, shape(12, 16, 32, 1));
-    for row in [
-        (REMAP, shape(12, 262_144, 32, 1)),
-        (REMAP, shape(40, 1, 40, 1)),
-        (REMAP, shape(12, 16, 56, 1)),
-        (REMAP, shape(12, 16, 12, 1)),
-        (REMAP, shape(12, 16, 32, 8)),
-        (PAGES, shape(12, 16, 32, 1)),
-        (VECTORS, shape(0, 16, 32, 8)),
-    ] {
-        let (kind, shape) = row;
-        let given = checked(&rt, rt.alloc(), right, row)?;
-        assert_eq!(rt; given, Ok(()), "{kind} {shape:?}");
-    }
-    Ok(())
-}
-
-#[test]
-fn refuses_units_past_each_limit(rt: HostRuntime) -> Result<(), Fail> {
     let refused = Err(UnitFault::UnitShape { node: 2 });
-    let right = (REMAP, shape(12, 16, 32, 1));
-    for row in [
-        (REMAP, shape(12, 262_145, 32, 1)),
-        (REMAP, shape(12, 0, 32, 1)),
-        (REMAP, shape(41, 1, 56, 1)),
-        (REMAP, shape(12, 16, 57, 1)),
-        (REMAP, shape(12, 16, 11, 1)),
-        (REMAP, shape(12, 16, 32, 9)),
-        (REMAP, shape(12, 16, 32, 0)),
-        (PAGES, shape(12, 16, 32, 2)),
-        (VECTORS, shape(1, 16, 32, 8)),
+    for (kind, shape, wanted) in [
+        (REMAP, shape(12, 262_144, 32, 1), Ok(())),
+        (REMAP, shape(40, 1, 40, 1), Ok(())),
+        (REMAP, shape(12, 16, 56, 1), Ok(())),
+        (REMAP, shape(12, 16, 12, 1), Ok(())),
+        (REMAP, shape(12, 16, 32, 8), Ok(())),
+        (PAGES, shape(12, 16, 32, 1), Ok(())),
+        (VECTORS, shape(0, 16, 32, 8), Ok(())),
+        (REMAP, shape(12, 262_145, 32, 1), refused),
+        (REMAP, shape(12, 0, 32, 1), refused),
+        (REMAP, shape(41, 1, 56, 1), refused),
+        (REMAP, shape(12, 16, 57, 1), refused),
+        (REMAP, shape(12, 16, 11, 1), refused),
+        (REMAP, shape(12, 16, 32, 9), refused),
+        (REMAP, shape(12, 16, 32, 0), refused),
+        (PAGES, shape(12, 16, 32, 2), refused),
+        (VECTORS, shape(1, 16, 32, 8), refused),
     ] {
-        let (kind, shape) = row;
-        let given = checked(&rt, rt.alloc(), right, row)?;
-        assert_eq!(rt; given, refused, "{kind} {shape:?}");
+        let given = checked(&rt, rt.alloc(), right, (kind, shape))?;
+        assert_eq!(rt; given, wanted, "{kind} {shape:?}");
     }
     Ok(())
 }

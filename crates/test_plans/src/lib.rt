@@ -8,7 +8,7 @@
 pub mod plan;
 pub mod unmade;
 
-pub use plan::Plan;
+pub use plan::{Plan, bare_node, to};
 pub use unmade::Unmade;
 
 /// The number of the kind `pages` in the list of kinds.
@@ -32,5 +32,17 @@ macro_rules! program_kinds {
         kinds.add(Box::new($alloc, dn_kinds::remap::Remap)?)?;
         kinds.add(Box::new($alloc, dn_kinds::vectors::Vectors)?)?;
         kinds
+    }};
+}
+
+/// Runs each of these functions, which take the runtime, its allocator and the kinds of the program.
+#[macro_export]
+macro_rules! run_with_kinds {
+    ($rt:expr; $($check:ident),+) => {{
+        let rt = $rt;
+        let alloc = rt.alloc();
+        let kinds = $crate::program_kinds!(alloc);
+        $( $check(&rt, alloc, &kinds)?; )+
+        Ok(())
     }};
 }

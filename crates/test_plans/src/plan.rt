@@ -1,12 +1,13 @@
 //! Plans of nets.
 
-ghost use Rattle.std.specs.Prelude.{◌≡◌, ◌<◌, ◌&&◌, nat_lt, map, IfOk, IsTrue};
+ghost use Rattle.std.specs.Prelude.{◌≡◌, ◌<◌, ◌&&◌, [], nat_lt, map, None, IfOk, IsTrue};
 ghost use Rattle.std.specs.List.{All, list_all};
 ghost use Rattle.std.specs.Option.{option_copied};
 ghost use Rattle.dn_net.specs.Decode.{is_bare, is_closed, is_formed, over_within, ports_within, refers_within};
 ghost use Rattle.dn_kind.specs.Kind.{IsLawful};
 ghost use Rattle.dn_kind.specs.Units.{IsLegalWith, has_kind};
 
+use crate::PAGES;
 use crate::unmade::Unmade;
 use dn_base::items::Items;
 use dn_base::text::Text;
@@ -35,15 +36,21 @@ impl Plan {
     /// core on the bus, node 3.
     pub fn bus(alloc: Global) -> Result<Plan, Unmade> {
         let mut plan = Plan::new(alloc);
-        plan.node("dram", Role::Plain)?;
-        plan.accepts(0, 0x3fff_ffff)?;
-        plan.node("uart", Role::Plain)?;
-        plan.accepts(0, 0xfff)?;
-        plan.node("bus", Role::Plain)?;
-        plan.maps(0x1000_0000, 0x1000_0fff, &[Dest { node: 1, addr: 0 }])?;
-        plan.maps(0x8000_0000, 0xbfff_ffff, &[Dest { node: 0, addr: 0 }])?;
+        plan.accepting("dram", Role::Plain, 0, 0x3fff_ffff)?;
+        plan.accepting("uart", Role::Plain, 0, 0xfff)?;
+        plan.mapping("bus", Role::Plain, 0x1000_0000, 0x1000_0fff, to(1, 0))?;
+        plan.maps(0x8000_0000, 0xbfff_ffff, &[to(0, 0)])?;
         plan.node("core0", Role::Agent)?;
         plan.over(2)?;
+        Ok(plan)
+    }
+
+    /// The bus, and behind it an agent `dma`, node 4, whose addresses go through a unit `smmu` of 16
+    /// pages, node 5.
+    pub fn pages(alloc: Global) -> Result<Plan, Unmade> {
+        let mut plan = Plan::bus(alloc)?;
+        plan.mapping("dma", Role::Agent, 0, 0xffff, to(5, 0))?;
+        plan.unit("smmu", PAGES, 12, 16, 32, &[2])?;
         Ok(plan)
     }
 
@@ -51,6 +58,25 @@ impl Plan {
     pub fn node(&mut self, title: &str, role: Role) -> Result<(), Unmade> {
         let alloc = *self.nodes.allocator();
         self.begin(title, role, None, alloc)
+    }
+
+    /// Begins a node that accepts the addresses from `lo` to `hi`.
+    pub fn accepting(&mut self, title: &str, role: Role, lo: u64, hi: u64) -> Result<(), Unmade> {
+        self.node(title, role)?;
+        self.accepts(lo, hi)
+    }
+
+    /// Begins a node that sends the addresses from `lo` to `hi` to a destination.
+    pub fn mapping(
+        &mut self,
+        title: &str,
+        role: Role,
+        lo: u64,
+        hi: u64,
+        dest: Dest,
+    ) -> Result<(), Unmade> {
+        self.node(title, role)?;
+        self.maps(lo, hi, &[dest])
     }
 
     /// Begins a node that is a unit: its kind by its number, the exponent of its page, its slots, the
@@ -83,14 +109,8 @@ impl Plan {
         unit: Option<Unit>,
         alloc: Global,
     ) -> Result<(), Unmade> {
-        self.nodes.push(NodeDecl {
-            text: Text::of(alloc, title)?,
-            role,
-            accepts: Items::new(alloc),
-            entries: Items::new(alloc),
-            over: None,
-            unit,
-        })?;
+        let node = bare_node(alloc, Text::of(alloc, title)?, role, unit);
+        self.nodes.push(node)?;
         Ok(())
     }
 
@@ -137,6 +157,32 @@ impl Plan {
         check_units(&net, kinds)?;
         let _walks = walks(alloc, &net)?;
         Ok(net)
+    }
+}
+
+/// A destination.
+pub fn to(node: u16, addr: u64) -> Dest {
+    Dest { node, addr }
+}
+
+/// A node without parts, which may be a unit.
+pub fn bare_node(alloc: Global, text: Text, role: Role, unit: Option<Unit>) -> NodeDecl
+    ensures { result ≡ record {
+      text = text;
+      role = role;
+      accepts = [];
+      entries = [];
+      over = None;
+      unit = unit;
+    } }
+{
+    NodeDecl {
+        text,
+        role,
+        accepts: Items::new(alloc),
+        entries: Items::new(alloc),
+        over: None,
+        unit,
     }
 }
 

@@ -5,7 +5,7 @@ use dn_net::rules::NodeFault;
 use dn_walk::fault::WalkFault;
 use std::alloc::{AllocError, AllocFailed};
 
-/// Why a plan has no net.
+/// Why a plan or a text has no net, or a net no answer.
 #[derive(Clone, Copy, Debug, PartialEq, Eq)]
 pub enum Unmade {
     /// A part was given before a node.
@@ -19,6 +19,8 @@ pub enum Unmade {
     Units(UnitFault),
     /// A rule on walks is broken.
     Walks,
+    /// A text is refused, or something names a node that is not there.
+    Refused,
     /// There was no memory.
     OutOfMemory,
 }

@@ -12,20 +12,6 @@
 //! it.
 #![tactic(auto)]
 
-#[cfg(test)]
-mod cuts;
-#[cfg(test)]
-mod demos;
-#[cfg(test)]
-mod devices;
-#[cfg(test)]
-mod faults;
 pub mod outcome;
 #[cfg(test)]
-mod pieces;
-#[cfg(test)]
-mod rows;
-#[cfg(test)]
-mod stops;
-#[cfg(test)]
-mod units;
+mod tests;

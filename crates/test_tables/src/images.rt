@@ -1,25 +1,20 @@
 //! Images: the bytes that are written of tables, and what is read of bytes.
 
-ghost use Rattle.std.specs.Prelude.{map};
 ghost use Rattle.std.specs.List.{All};
 ghost use Rattle.dn_kind.specs.Kind.{IsLawful};
-ghost use Rattle.dn_kind.specs.Units.{IsLegalWith, KeepsUnitShape};
-ghost use Rattle.dn_tables.specs.Set.{FitsNet, IsOnDevice};
+ghost use Rattle.test_tables.specs.Slots.{IsBench, IsBoard};
 
-use crate::boards::{page_board, vector_board};
-use crate::slots::{Place, put, to_page};
-use dn_base::device::Tables;
-use dn_base::memory_tables::MemTables;
+use crate::boards::vector_plan;
+use crate::slots::{Bench, Place, bench_of, put, to_page};
 use dn_image::fault::ImageFault;
 use dn_image::read::read;
 use dn_image::write::write;
 use dn_kind::kinds::Kinds;
 use dn_net::net::Net;
-use dn_tables::set::TableSet;
 use std::alloc::Global;
 use std::process::Abort;
 use std::test::Fail;
-use test_plans::program_kinds;
+use test_plans::{Plan, run_with_kinds};
 
 /// The first bytes of an image of the board with pages: the header, the head of its one unit, and
 /// its first two words, each a record of both accesses.
@@ -54,84 +49,64 @@ fn fresh_image() -> [u8; 144] {
     image
 }
 
-/// Puts a record of port 0 that allows both accesses.
-pub fn put_page<D: Tables>(
-    rt: &impl Abort,
-    net: &Net,
-    kinds: &Kinds,
-    set: &mut TableSet,
-    device: &mut D,
-    at: Place,
-    page: u64,
-)
-    requires lawful { All (λ k. IsLawful (meaning (k.vtable, k.value))) kinds.now.list.items }
-    requires legal { IsLegalWith
-        (map (λ k. meaning (k.vtable, k.value)) kinds.now.list.items) net.now }
-    requires fits { FitsNet net.now
-        (map (λ k. meaning (k.vtable, k.value)) kinds.now.list.items) set.old }
-    requires on_device { IsOnDevice set.old (D.units device.old) (D.words device.old) }
-    ensures fits { FitsNet net.now
-        (map (λ k. meaning (k.vtable, k.value)) kinds.now.list.items) set.new }
-    ensures on_device { IsOnDevice set.new (D.units device.new) (D.words device.new) }
+/// Puts records of port 0 that allow both accesses, each into a slot of a unit, of a page.
+pub fn put_pages(rt: &impl Abort, kinds: &Kinds, bench: &mut Bench, pages: &[(u16, u32, u64)])
+    requires { IsBench (λ k. meaning (k.vtable, k.value)) kinds.now.list.items bench.old }
+    ensures { IsBench (λ k. meaning (k.vtable, k.value)) kinds.now.list.items bench.new }
 {
-    let given = put(net, kinds, set, device, at, to_page(page));
-    assert_eq!(rt; given, Some(Ok(())), "{at:?}");
+    'pages: for (unit, slot, page) in pages {
+        let at = Place {
+            unit: *unit,
+            slot: *slot,
+        };
+        let given = put(kinds, bench, at, to_page(*page));
+        assert_eq!(rt; given, Some(Ok(())), "{at:?}");
+    }
 }
 
-/// Compares the bytes that are written of tables.
+/// Compares the bytes that are written of new tables where these pages are put.
 fn compare_bytes(
     rt: &impl Abort,
     alloc: Global,
-    net: &Net,
     kinds: &Kinds,
-    set: &TableSet,
+    plan: Plan,
+    pages: &[(u16, u32, u64)],
     wanted: &[u8],
 ) -> Result<(), Fail>
-    requires lawful { All (λ k. IsLawful (meaning (k.vtable, k.value))) kinds.now.list.items }
-    requires fits { FitsNet net.now
-        (map (λ k. meaning (k.vtable, k.value)) kinds.now.list.items) set.now }
+    requires { All (λ k. IsLawful (meaning (k.vtable, k.value))) kinds.now.list.items }
 {
-    let image = write(alloc, net, kinds, set)?;
+    let mut bench = bench_of(alloc, kinds, plan, 0, &[])??;
+    put_pages(rt, kinds, &mut bench, pages);
+    compare_image(rt, alloc, kinds, &bench, wanted)
+}
+
+/// Compares the bytes that are written of tables.
+fn compare_image(
+    rt: &impl Abort,
+    alloc: Global,
+    kinds: &Kinds,
+    bench: &Bench,
+    wanted: &[u8],
+) -> Result<(), Fail>
+    requires { IsBench (λ k. meaning (k.vtable, k.value)) kinds.now.list.items bench.now }
+{
+    let image = write(alloc, &bench.net, kinds, &bench.set)?;
     assert_eq!(rt; image.as_slice(), wanted);
     Ok(())
 }
 
-/// An image has 0 where there is no record.
-fn write_fresh(rt: &impl Abort, alloc: Global, kinds: &Kinds) -> Result<(), Fail>
+/// An image has 0 where there is no record, and else the words of each record, of one word or of two.
+fn write_images(rt: &impl Abort, alloc: Global, kinds: &Kinds) -> Result<(), Fail>
     requires { All (λ k. IsLawful (meaning (k.vtable, k.value))) kinds.now.list.items }
 {
-    let net = page_board(alloc, kinds)?;
-    let mut device = MemTables::new(alloc, 0, Vec::new(alloc))?;
-    let set = TableSet::make(alloc, &net, kinds, &mut device)?;
-    compare_bytes(rt, alloc, &net, kinds, &set, &fresh_image())
-}
-
-/// It has the words of each record.
-fn write_pages(rt: &impl Abort, alloc: Global, kinds: &Kinds) -> Result<(), Fail>
-    requires { All (λ k. IsLawful (meaning (k.vtable, k.value))) kinds.now.list.items }
-{
-    let net = page_board(alloc, kinds)?;
-    let mut device = MemTables::new(alloc, 0, Vec::new(alloc))?;
-    let mut set = TableSet::make(alloc, &net, kinds, &mut device)?;
-    let second = Place { unit: 5, slot: 1 };
-    put_page(rt, &net, kinds, &mut set, &mut device, second, 0x80005);
-    let first = Place { unit: 5, slot: 0 };
-    put_page(rt, &net, kinds, &mut set, &mut device, first, 0x80004);
-    compare_bytes(rt, alloc, &net, kinds, &set, &page_image())
-}
-
-/// So it is with records of two words.
-fn write_vectors(rt: &impl Abort, alloc: Global, kinds: &Kinds) -> Result<(), Fail>
-    requires { All (λ k. IsLawful (meaning (k.vtable, k.value))) kinds.now.list.items }
-{
-    let net = vector_board(alloc, kinds)?;
-    let mut device = MemTables::new(alloc, 0, Vec::new(alloc))?;
-    let mut set = TableSet::make(alloc, &net, kinds, &mut device)?;
-    let first = Place { unit: 2, slot: 2 };
-    put_page(rt, &net, kinds, &mut set, &mut device, first, 0x20);
-    let second = Place { unit: 2, slot: 3 };
-    put_page(rt, &net, kinds, &mut set, &mut device, second, 0x21);
-    compare_bytes(rt, alloc, &net, kinds, &set, &VECTOR_IMAGE)
+    let plan = Plan::pages(alloc)?;
+    compare_bytes(rt, alloc, kinds, plan, &[], &fresh_image())?;
+    let pages = [(5, 1, 0x80005), (5, 0, 0x80004)];
+    let plan = Plan::pages(alloc)?;
+    compare_bytes(rt, alloc, kinds, plan, &pages, &page_image())?;
+    let vectors = [(2, 2, 0x20), (2, 3, 0x21)];
+    let plan = vector_plan(alloc)?;
+    compare_bytes(rt, alloc, kinds, plan, &vectors, &VECTOR_IMAGE)
 }
 
 /// What is read of bytes: the version, and the words of a node. `None` where there is no such node.
@@ -142,9 +117,7 @@ pub fn said(
     bytes: &[u8],
     node: u16,
 ) -> Result<Option<(u16, Vec<u64>)>, ImageFault>
-    requires lawful { All (λ k. IsLawful (meaning (k.vtable, k.value))) kinds.now.list.items }
-    requires shaped { KeepsUnitShape
-        (map (λ k. meaning (k.vtable, k.value)) kinds.now.list.items) net.now }
+    requires { IsBoard (λ k. meaning (k.vtable, k.value)) kinds.now.list.items net.now }
 {
     let image = read(alloc, net, kinds, bytes)?;
     if node >= net.nodes() {
@@ -158,7 +131,7 @@ pub fn said(
 fn read_versions(rt: &impl Abort, alloc: Global, kinds: &Kinds) -> Result<(), Fail>
     requires { All (λ k. IsLawful (meaning (k.vtable, k.value))) kinds.now.list.items }
 {
-    let net = page_board(alloc, kinds)?;
+    let net = Plan::pages(alloc)?.net(alloc, kinds)?;
     let mut wanted = [0; 16];
     wanted[0] = 0x8000401;
     wanted[1] = 0x8000501;
@@ -177,7 +150,7 @@ fn read_versions(rt: &impl Abort, alloc: Global, kinds: &Kinds) -> Result<(), Fa
 fn read_wrong_fields(rt: &impl Abort, alloc: Global, kinds: &Kinds) -> Result<(), Fail>
     requires { All (λ k. IsLawful (meaning (k.vtable, k.value))) kinds.now.list.items }
 {
-    let net = page_board(alloc, kinds)?;
+    let net = Plan::pages(alloc)?.net(alloc, kinds)?;
     let image = page_image();
     for length in [143] {
         assert!(rt; length <= 144);
@@ -206,11 +179,5 @@ fn read_wrong_fields(rt: &impl Abort, alloc: Global, kinds: &Kinds) -> Result<()
 
 #[test]
 fn writes_and_reads_images(rt: HostRuntime) -> Result<(), Fail> {
-    let alloc = rt.alloc();
-    let kinds = program_kinds!(alloc);
-    write_fresh(&rt, alloc, &kinds)?;
-    write_pages(&rt, alloc, &kinds)?;
-    write_vectors(&rt, alloc, &kinds)?;
-    read_versions(&rt, alloc, &kinds)?;
-    read_wrong_fields(&rt, alloc, &kinds)
+    run_with_kinds!(rt; write_images, read_versions, read_wrong_fields)
 }

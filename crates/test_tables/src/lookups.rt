@@ -1,15 +1,12 @@
 //! Lookups in images.
 
-ghost use Rattle.std.specs.Prelude.{map};
 ghost use Rattle.std.specs.List.{All};
 ghost use Rattle.dn_kind.specs.Kind.{IsLawful};
-ghost use Rattle.dn_kind.specs.Units.{IsLegalWith, KeepsUnitShape};
-ghost use Rattle.dn_tables.specs.Set.{FitsNet};
+ghost use Rattle.test_tables.specs.Slots.{IsBench, IsBoard};
 
-use crate::boards::{page_board, port_board, row_board};
-use crate::images::{put_page, said};
-use crate::slots::Place;
-use dn_base::memory_tables::MemTables;
+use crate::boards::{port_plan, row_plan};
+use crate::images::{put_pages, said};
+use crate::slots::{Bench, bench_of};
 use dn_image::check::check;
 use dn_image::fault::ImageFault;
 use dn_image::write::write;
@@ -18,11 +15,10 @@ use dn_kind::rights::Access;
 use dn_lookup::lookup::{LookupFault, lookup};
 use dn_net::net::Net;
 use dn_net::node::Name;
-use dn_tables::set::TableSet;
 use std::alloc::Global;
 use std::process::Abort;
 use std::test::Fail;
-use test_plans::program_kinds;
+use test_plans::{Plan, run_with_kinds};
 
 /// The image of the board with pages whose first word is this.
 fn page_image(version: u8, word: u64) -> [u8; 144] {
@@ -63,9 +59,7 @@ fn compare_both(
     reading: Option<Name>,
     writing: Option<Name>,
 ) -> Result<(), Fail>
-    requires lawful { All (λ k. IsLawful (meaning (k.vtable, k.value))) kinds.now.list.items }
-    requires legal { IsLegalWith
-        (map (λ k. meaning (k.vtable, k.value)) kinds.now.list.items) net.now }
+    requires { IsBoard (λ k. meaning (k.vtable, k.value)) kinds.now.list.items net.now }
 {
     compare(rt, alloc, net, kinds, image, ASKED, Access::Read, reading)?;
     compare(rt, alloc, net, kinds, image, ASKED, Access::Write, writing)
@@ -82,9 +76,7 @@ fn compare(
     access: Access,
     wanted: Option<Name>,
 ) -> Result<(), Fail>
-    requires lawful { All (λ k. IsLawful (meaning (k.vtable, k.value))) kinds.now.list.items }
-    requires legal { IsLegalWith
-        (map (λ k. meaning (k.vtable, k.value)) kinds.now.list.items) net.now }
+    requires { IsBoard (λ k. meaning (k.vtable, k.value)) kinds.now.list.items net.now }
 {
     let names = lookup(alloc, net, kinds, image, from.node, from.addr, access)?;
     assert_eq!(rt; names.list(), wanted.as_slice(), "{from:?} {access:?}");
@@ -102,9 +94,7 @@ fn compare_word(
     unit: u16,
     word: u64,
 ) -> Result<(), Fail>
-    requires lawful { All (λ k. IsLawful (meaning (k.vtable, k.value))) kinds.now.list.items }
-    requires legal { IsLegalWith
-        (map (λ k. meaning (k.vtable, k.value)) kinds.now.list.items) net.now }
+    requires { IsBoard (λ k. meaning (k.vtable, k.value)) kinds.now.list.items net.now }
 {
     assert_eq!(rt; check(net, kinds, image), Ok(2));
     let first = first_word(alloc, net, kinds, image, unit)?;
@@ -120,9 +110,7 @@ fn first_word(
     image: &[u8],
     unit: u16,
 ) -> Result<Option<u64>, ImageFault>
-    requires lawful { All (λ k. IsLawful (meaning (k.vtable, k.value))) kinds.now.list.items }
-    requires shaped { KeepsUnitShape
-        (map (λ k. meaning (k.vtable, k.value)) kinds.now.list.items) net.now }
+    requires { IsBoard (λ k. meaning (k.vtable, k.value)) kinds.now.list.items net.now }
 {
     match said(alloc, net, kinds, image, unit)? {
         Some((_version, words)) => Ok(words.first().copied()),
@@ -134,7 +122,7 @@ fn first_word(
 fn follow_records(rt: &impl Abort, alloc: Global, kinds: &Kinds) -> Result<(), Fail>
     requires { All (λ k. IsLawful (meaning (k.vtable, k.value))) kinds.now.list.items }
 {
-    let net = page_board(alloc, kinds)?;
+    let net = Plan::pages(alloc)?.net(alloc, kinds)?;
     let there = Some(PAGED);
     for (word, wanted) in [
         (0x8000401, there),
@@ -157,7 +145,7 @@ fn follow_records(rt: &impl Abort, alloc: Global, kinds: &Kinds) -> Result<(), F
 fn ask_rights(rt: &impl Abort, alloc: Global, kinds: &Kinds) -> Result<(), Fail>
     requires { All (λ k. IsLawful (meaning (k.vtable, k.value))) kinds.now.list.items }
 {
-    let net = page_board(alloc, kinds)?;
+    let net = Plan::pages(alloc)?.net(alloc, kinds)?;
     let there = Some(PAGED);
     for (version, word, reading, writing) in [
         // Writing is denied, then reading, then both.
@@ -180,7 +168,7 @@ fn ask_rights(rt: &impl Abort, alloc: Global, kinds: &Kinds) -> Result<(), Fail>
 fn ask_ports(rt: &impl Abort, alloc: Global, kinds: &Kinds) -> Result<(), Fail>
     requires { All (λ k. IsLawful (meaning (k.vtable, k.value))) kinds.now.list.items }
 {
-    let net = port_board(alloc, kinds)?;
+    let net = port_plan(alloc)?.net(alloc, kinds)?;
     let from = Name {
         node: 2,
         addr: 0x10,
@@ -203,38 +191,27 @@ fn ask_ports(rt: &impl Abort, alloc: Global, kinds: &Kinds) -> Result<(), Fail>
     Ok(())
 }
 
-/// An address goes through two units.
+/// An address goes through two units, of which the first has a record for its first page, and the second for its
+/// first two.
 fn go_through_two(rt: &impl Abort, alloc: Global, kinds: &Kinds) -> Result<(), Fail>
     requires { All (λ k. IsLawful (meaning (k.vtable, k.value))) kinds.now.list.items }
 {
-    let net = row_board(alloc, kinds)?;
-    let mut device = MemTables::new(alloc, 0, Vec::new(alloc))?;
-    let mut set = TableSet::make(alloc, &net, kinds, &mut device)?;
-    let own = Place { unit: 5, slot: 0 };
-    put_page(rt, &net, kinds, &mut set, &mut device, own, 0);
-    let first = Place { unit: 7, slot: 0 };
-    put_page(rt, &net, kinds, &mut set, &mut device, first, 0x80004);
-    let second = Place { unit: 7, slot: 1 };
-    put_page(rt, &net, kinds, &mut set, &mut device, second, 0x80006);
-    compare_row(rt, alloc, &net, kinds, &set)
+    let mut bench = bench_of(alloc, kinds, row_plan(alloc)?, 0, &[])??;
+    put_pages(
+        rt,
+        kinds,
+        &mut bench,
+        &[(5, 0, 0), (7, 0, 0x80004), (7, 1, 0x80006)],
+    );
+    compare_row(rt, alloc, kinds, &bench)
 }
 
-/// Compares where addresses come to in the image of tables of two units, of which the first has a
-/// record for its first page, and the second for its first two.
-fn compare_row(
-    rt: &impl Abort,
-    alloc: Global,
-    net: &Net,
-    kinds: &Kinds,
-    set: &TableSet,
-) -> Result<(), Fail>
-    requires lawful { All (λ k. IsLawful (meaning (k.vtable, k.value))) kinds.now.list.items }
-    requires legal { IsLegalWith
-        (map (λ k. meaning (k.vtable, k.value)) kinds.now.list.items) net.now }
-    requires fits { FitsNet net.now
-        (map (λ k. meaning (k.vtable, k.value)) kinds.now.list.items) set.now }
+/// Compares where addresses come to in the image of these tables.
+fn compare_row(rt: &impl Abort, alloc: Global, kinds: &Kinds, bench: &Bench) -> Result<(), Fail>
+    requires { IsBench (λ k. meaning (k.vtable, k.value)) kinds.now.list.items bench.now }
 {
-    let written = write(alloc, net, kinds, set)?;
+    let net = &bench.net;
+    let written = write(alloc, net, kinds, &bench.set)?;
     let image = written.as_slice();
     assert_eq!(rt; image.len(), 2104);
     for (addr, wanted) in [
@@ -254,7 +231,7 @@ fn compare_row(
 fn ask_without(rt: &impl Abort, alloc: Global, kinds: &Kinds) -> Result<(), Fail>
     requires { All (λ k. IsLawful (meaning (k.vtable, k.value))) kinds.now.list.items }
 {
-    let net = page_board(alloc, kinds)?;
+    let net = Plan::pages(alloc)?.net(alloc, kinds)?;
     let image = page_image(2, 0);
     // The core reaches the memory through no unit.
     let from = Name {
@@ -280,11 +257,5 @@ fn ask_without(rt: &impl Abort, alloc: Global, kinds: &Kinds) -> Result<(), Fail
 
 #[test]
 fn looks_up_in_the_bytes_of_an_image(rt: HostRuntime) -> Result<(), Fail> {
-    let alloc = rt.alloc();
-    let kinds = program_kinds!(alloc);
-    follow_records(&rt, alloc, &kinds)?;
-    ask_rights(&rt, alloc, &kinds)?;
-    ask_ports(&rt, alloc, &kinds)?;
-    go_through_two(&rt, alloc, &kinds)?;
-    ask_without(&rt, alloc, &kinds)
+    run_with_kinds!(rt; follow_records, ask_rights, ask_ports, go_through_two, ask_without)
 }

@@ -1,18 +1,16 @@
 //! Calls on the slots of a set of tables, made where what they ask holds.
 
-ghost use Rattle.std.specs.Prelude.{◌≡◌, ◌==◌, map, Some, IsTrue, IsSome};
+ghost use Rattle.std.specs.Prelude.{◌≡◌, ◌==◌, map, IfOk, IsTrue, IsSome};
 ghost use Rattle.std.specs.List.{All, list_all};
 ghost use Rattle.std.specs.Option.{option_copied};
-ghost use Rattle.dn_base.specs.Device.{sizes_of};
-ghost use Rattle.dn_net.specs.declared.node.Unit.{Unit as UnitPart};
 ghost use Rattle.dn_kind.specs.Kind.{IsLawful};
 ghost use Rattle.dn_kind.specs.Rights.{are_rights};
-ghost use Rattle.dn_kind.specs.Units.{IsLegalWith, unit_shape};
-ghost use Rattle.test_tables.specs.Slots.{CanHold};
-ghost use Rattle.dn_tables.specs.Set.{FitsNet, IsEmpty, IsOnDevice, has_slot, has_slot_by, unit_in, units_of};
+ghost use Rattle.dn_kind.specs.Units.{unit_shape};
+ghost use Rattle.dn_tables.specs.Set.{IsEmpty, has_slot, has_slot_by, unit_in, units_of};
+ghost use Rattle.test_tables.specs.Slots.{CanHold, CanHoldIn, IsBench};
 
 use bitflags::Flags;
-use dn_base::device::{DeviceFault, Tables};
+use dn_base::device::{DeviceFault, MakeFault, Tables};
 use dn_base::filled::Filled;
 use dn_base::memory_tables::MemTables;
 use dn_kind::kinds::Kinds;
@@ -22,12 +20,22 @@ use dn_kind::unit_kind::Record;
 use dn_net::net::Net;
 use dn_net::node::Unit;
 use dn_tables::set::TableSet;
+use std::alloc::Global;
+use test_plans::{Plan, Unmade};
 
 /// A slot of a unit, by the number of the unit's node.
 #[derive(Clone, Copy, Debug, PartialEq, Eq)]
 pub struct Place {
     pub unit: u16,
     pub slot: u32,
+}
+
+/// A net, the tables of its units, and the device that has them.
+#[derive(Drop)]
+pub struct Bench {
+    pub net: Net,
+    pub set: TableSet,
+    pub device: MemTables,
 }
 
 /// A record of port 0 that allows both accesses.
@@ -85,8 +93,7 @@ fn are_zero(words: &[u64]) -> bool
 /// Whether the unit that a node is can hold a record.
 fn is_packable(net: &Net, set: &TableSet, node: u16, wanted: Record) -> bool
     requires units { units_of set.now ≡ map (λ n. n.unit) net.now }
-    ensures { IsTrue result → (u : UnitPart) → unit_in set.now node ≡ Some u →
-        CanHold (unit_shape u) wanted }
+    ensures { IsTrue result → CanHoldIn set.now node wanted }
 {
     if node >= net.nodes() {
         return false;
@@ -114,69 +121,70 @@ fn are_rights(rights: Rights) -> bool
     1 <= rights.bits() && rights.bits() <= 3
 }
 
+/// New tables of the net of a plan, over a device that has room for so many events and fails at these calls.
+pub fn bench_of(
+    alloc: Global,
+    kinds: &Kinds,
+    plan: Plan,
+    room: u32,
+    failing: &[u32],
+) -> Result<Result<Bench, MakeFault>, Unmade>
+    requires { All (λ k. IsLawful (meaning (k.vtable, k.value))) kinds.now.list.items }
+    ensures { IfOk result (λ made. IfOk made
+        (IsBench (λ k. meaning (k.vtable, k.value)) kinds.now.list.items)) }
+{
+    let net = plan.net(alloc, kinds)?;
+    let mut device = MemTables::new(alloc, room, failing.to_vec(alloc)?)?;
+    match TableSet::make(alloc, &net, kinds, &mut device) {
+        Ok(set) => Ok(Ok(Bench { net, set, device })),
+        Err(fault) => Ok(Err(fault)),
+    }
+}
+
 /// Puts a record into a slot. `None`, and nothing is done, where the slot is not there or not
 /// empty, or the unit cannot hold the record.
-pub fn put<D: Tables>(
-    net: &Net,
+pub fn put(
     kinds: &Kinds,
-    set: &mut TableSet,
-    device: &mut D,
+    bench: &mut Bench,
     at: Place,
     wanted: Record,
 ) -> Option<Result<(), DeviceFault>>
-    requires lawful { All (λ k. IsLawful (meaning (k.vtable, k.value))) kinds.now.list.items }
-    requires legal { IsLegalWith
-        (map (λ k. meaning (k.vtable, k.value)) kinds.now.list.items) net.now }
-    requires fits { FitsNet net.now
-        (map (λ k. meaning (k.vtable, k.value)) kinds.now.list.items) set.old }
-    requires on_device { IsOnDevice set.old (D.units device.old) (D.words device.old) }
-    ensures fits { FitsNet net.now
-        (map (λ k. meaning (k.vtable, k.value)) kinds.now.list.items) set.new }
-    ensures on_device { IsOnDevice set.new (D.units device.new) (D.words device.new) }
+    requires { IsBench (λ k. meaning (k.vtable, k.value)) kinds.now.list.items bench.old }
+    ensures { IsBench (λ k. meaning (k.vtable, k.value)) kinds.now.list.items bench.new }
 {
-    if !is_there(net, set, at) {
+    if !is_there(&bench.net, &bench.set, at) {
         return None;
     }
-    if !is_empty(set, at) {
+    if !is_empty(&bench.set, at) {
         return None;
     }
-    if !is_packable(net, set, at.unit, wanted) {
+    if !is_packable(&bench.net, &bench.set, at.unit, wanted) {
         return None;
     }
-    Some(set.put(kinds, at.unit, at.slot, wanted, device))
+    let (unit, slot) = (at.unit, at.slot);
+    Some(bench.set.put(kinds, unit, slot, wanted, &mut bench.device))
 }
 
 /// Clears a slot. `None`, and nothing is done, where it is not there.
-pub fn clear<D: Tables>(
-    net: &Net,
-    kinds: &Kinds,
-    set: &mut TableSet,
-    device: &mut D,
-    at: Place,
-) -> Option<Result<(), DeviceFault>>
-    requires fits { FitsNet net.now
-        (map (λ k. meaning (k.vtable, k.value)) kinds.now.list.items) set.old }
-    requires on_device { IsOnDevice set.old (D.units device.old) (D.words device.old) }
-    ensures fits { FitsNet net.now
-        (map (λ k. meaning (k.vtable, k.value)) kinds.now.list.items) set.new }
-    ensures on_device { IsOnDevice set.new (D.units device.new) (D.words device.new) }
+pub fn clear(kinds: &Kinds, bench: &mut Bench, at: Place) -> Option<Result<(), DeviceFault>>
+    requires { IsBench (λ k. meaning (k.vtable, k.value)) kinds.now.list.items bench.old }
+    ensures { IsBench (λ k. meaning (k.vtable, k.value)) kinds.now.list.items bench.new }
 {
-    if !is_there(net, set, at) {
+    let _kinds = kinds;
+    if !is_there(&bench.net, &bench.set, at) {
         return None;
     }
-    Some(set.clear(at.unit, at.slot, device))
+    Some(bench.set.clear(at.unit, at.slot, &mut bench.device))
 }
 
 /// The record of a slot. `None` where it holds none, or is not there.
-pub fn record_of(net: &Net, kinds: &Kinds, set: &TableSet, at: Place) -> Option<Record>
-    requires lawful { All (λ k. IsLawful (meaning (k.vtable, k.value))) kinds.now.list.items }
-    requires fits { FitsNet net.now
-        (map (λ k. meaning (k.vtable, k.value)) kinds.now.list.items) set.now }
+pub fn record_of(kinds: &Kinds, bench: &Bench, at: Place) -> Option<Record>
+    requires { IsBench (λ k. meaning (k.vtable, k.value)) kinds.now.list.items bench.now }
 {
-    if !is_there(net, set, at) {
+    if !is_there(&bench.net, &bench.set, at) {
         return None;
     }
-    set.record_at(kinds, at.unit, at.slot)
+    bench.set.record_at(kinds, at.unit, at.slot)
 }
 
 /// The words of a unit. `None` where it is not there.
@@ -191,17 +199,12 @@ pub fn words<'a>(net: &Net, set: &'a TableSet, unit: u16) -> Option<&'a Filled<u
 }
 
 /// The words of a unit on the device of the set. `None` where it is not there.
-pub fn device_words<'a>(
-    net: &Net,
-    set: &TableSet,
-    device: &'a MemTables,
-    unit: u16,
-) -> Option<&'a Filled<u64>>
-    requires units { units_of set.now ≡ map (λ n. n.unit) net.now }
-    requires on_device { IsOnDevice set.now (sizes_of device.now.tables) (Some device.now.tables) }
+pub fn device_words<'a>(kinds: &Kinds, bench: &'a Bench, unit: u16) -> Option<&'a Filled<u64>>
+    requires { IsBench (λ k. meaning (k.vtable, k.value)) kinds.now.list.items bench.now }
 {
-    if is_there(net, set, Place { unit, slot: 0 }) {
-        Some(device.words(unit))
+    let _kinds = kinds;
+    if is_there(&bench.net, &bench.set, Place { unit, slot: 0 }) {
+        Some(bench.device.words(unit))
     } else {
         None
     }

@@ -1,9 +1,8 @@
 //! Bytes that are an image of a net of two units, or are not at one place each.
 
-ghost use Rattle.std.specs.Prelude.{map};
 ghost use Rattle.std.specs.List.{All};
 ghost use Rattle.dn_kind.specs.Kind.{IsLawful};
-ghost use Rattle.dn_kind.specs.Units.{IsLegalWith};
+ghost use Rattle.test_tables.specs.Slots.{IsBoard};
 
 use crate::boards::two_units;
 use dn_image::check::check;
@@ -16,7 +15,7 @@ use dn_net::net::Net;
 use std::alloc::Global;
 use std::process::Abort;
 use std::test::Fail;
-use test_plans::program_kinds;
+use test_plans::run_with_kinds;
 
 /// Compares what is said of bytes as an image of the net of two units: the version, or the first
 /// fault. Whoever reads the bytes, or looks up in them, is told the same.
@@ -28,9 +27,7 @@ fn compare(
     bytes: &[u8],
     wanted: Result<u16, ImageFault>,
 ) -> Result<(), Fail>
-    requires lawful { All (λ k. IsLawful (meaning (k.vtable, k.value))) kinds.now.list.items }
-    requires legal { IsLegalWith
-        (map (λ k. meaning (k.vtable, k.value)) kinds.now.list.items) net.now }
+    requires { IsBoard (λ k. meaning (k.vtable, k.value)) kinds.now.list.items net.now }
 {
     assert_eq!(rt; check(net, kinds, bytes), wanted);
     let version = read(alloc, net, kinds, bytes).map(|image| image.version());
@@ -53,7 +50,7 @@ const IMAGE: [u8; 56] = [
 fn take_versions(rt: &impl Abort, alloc: Global, kinds: &Kinds) -> Result<(), Fail>
     requires { All (λ k. IsLawful (meaning (k.vtable, k.value))) kinds.now.list.items }
 {
-    let net = two_units(alloc, kinds)?;
+    let net = two_units(alloc)?.net(alloc, kinds)?;
     compare(rt, alloc, &net, kinds, &IMAGE, Ok(2))?;
     let mut first = IMAGE;
     first[4] = 1;
@@ -64,7 +61,7 @@ fn take_versions(rt: &impl Abort, alloc: Global, kinds: &Kinds) -> Result<(), Fa
 fn refuse_lengths(rt: &impl Abort, alloc: Global, kinds: &Kinds) -> Result<(), Fail>
     requires { All (λ k. IsLawful (meaning (k.vtable, k.value))) kinds.now.list.items }
 {
-    let net = two_units(alloc, kinds)?;
+    let net = two_units(alloc)?.net(alloc, kinds)?;
     for at in 0..56 {
         let wanted = Err(ImageFault::Short { at: at as u64 });
         compare(rt, alloc, &net, kinds, &IMAGE[..at], wanted)?;
@@ -79,7 +76,7 @@ fn refuse_lengths(rt: &impl Abort, alloc: Global, kinds: &Kinds) -> Result<(), F
 fn name_fields(rt: &impl Abort, alloc: Global, kinds: &Kinds) -> Result<(), Fail>
     requires { All (λ k. IsLawful (meaning (k.vtable, k.value))) kinds.now.list.items }
 {
-    let net = two_units(alloc, kinds)?;
+    let net = two_units(alloc)?.net(alloc, kinds)?;
     for (at, byte, wanted) in [
         (0, b'd', ImageFault::Header { at: 0 }),
         (3, b'N', ImageFault::Header { at: 0 }),
@@ -105,9 +102,5 @@ fn name_fields(rt: &impl Abort, alloc: Global, kinds: &Kinds) -> Result<(), Fail
 
 #[test]
 fn takes_exactly_the_images_of_a_net(rt: HostRuntime) -> Result<(), Fail> {
-    let alloc = rt.alloc();
-    let kinds = program_kinds!(alloc);
-    take_versions(&rt, alloc, &kinds)?;
-    refuse_lengths(&rt, alloc, &kinds)?;
-    name_fields(&rt, alloc, &kinds)
+    run_with_kinds!(rt; take_versions, refuse_lengths, name_fields)
 }

@@ -9,12 +9,12 @@ use Rattle.test_grants.proofs.desk.first_beside.Goals as goal
 
 pub returns : goal.returns
 returns g c =
-    let ks = map (λ k. (goal.UnitKind-dyn g (k.vtable, k.value)).meaning k.value) c.args.kinds.now.list.items in
+    let ks = map (λ k. (goal.UnitKind-dyn g (k.vtable, k.value)).meaning k.value) c.args.system.kinds.now.list.items in
     let set = c.tables-tables.result.now in
-    let net = c.args.board.now.net in
+    let net = c.args.system.net.now in
     let book = c.args.book.now.grants in
     let is : IsSet set = record { few = c.facts.ensures.few; sized = c.facts.ensures.sized } in
     let slots : ◌≡◌ {A = Slots} (slots_of_set ks set) (slots_of net book) =
-    kept_slots_are_the_books net ks book set (all_of_map _ c.args.kinds.now.list.items c.requires.lawful) c.requires.board.legal.shaped is
+    kept_slots_are_the_books net ks book set (all_of_map _ c.args.system.kinds.now.list.items c.requires.system.lawful) c.requires.system.legal.shaped is
     (rw c.tables-tables.ensures c.requires.kept) in
     subst (λ s. IfOk c.first.result (λ found. IfSome found (λ p. IsFirst net s c.args.request.now None p))) slots c.first.ensures.first

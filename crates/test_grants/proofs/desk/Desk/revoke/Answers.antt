@@ -1,9 +1,8 @@
-use Rattle.test_grants.proofs.Keeping.{revoked_keeps}
+use Rattle.test_grants.proofs.Keeping.{desk_after, revoked_keeps}
 use Rattle.test_grants.proofs.desk.Desk.revoke.Goals as goal
 
 pub returns : goal.returns
-returns g c = record {
-  kept = revoked_keeps _ _ _ _ _ c.revoke.result c.requires.desk.kept c.revoke.ensures.kept c.revoke.ensures.unchanged c.revoke.ensures.sound;
-  fits = c.revoke.ensures.fits;
-  on_device = c.revoke.ensures.on_device;
-}
+returns g c =
+    desk_after c.requires.system
+    (revoked_keeps _ _ _ _ _ c.revoke.result c.requires.kept c.revoke.ensures.kept c.revoke.ensures.unchanged c.revoke.ensures.sound)
+    c.revoke.ensures.fits c.revoke.ensures.on_device

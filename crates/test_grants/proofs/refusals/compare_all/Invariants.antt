@@ -1,9 +1,0 @@
--- The book keeps its grants from one call to the next.
-use Rattle.std.proofs.Common.{map}
-use Rattle.test_grants.specs.Desk.{IsDesk}
-use Rattle.test_grants.proofs.refusals.compare_all.Given as goal
-
-abbrev pub invariant-loop-rights : goal.invariant-loop-rights
-invariant-loop-rights g l =
-    let kinds = map (λ k. (goal.UnitKind-dyn g (k.vtable, k.value)).meaning k.value) l.kinds.list.items in
-    IsDesk kinds l.board.net l.desk

@@ -1,0 +1,80 @@
+//! Tests of runs over a device: the units that are made, and a run that stops at one of them.
+
+use crate::outcome::{Failing, answer};
+use crate::tests::rows::words_of;
+use dn_base::device::TableEvent;
+use dn_tool::run::{DEVICE_FAULT, DONE, REFUSED};
+use std::test::Fail;
+
+/// Two units, of which the first has two words for each slot, and commands.
+const UNITS: &str = "vectors cpu is accept [0x20-0x2f];
+agent nic is map [0x0-0x3 to irt at 0x0];
+unit irt kind vectors page 0 slots 4 reach 8 to cpu;
+unit mmu kind pages page 12 slots 3 reach 20 to cpu;
+begin;
+lookup nic 1;
+resolve irt 1;
+";
+
+/// What they are answered.
+const ANSWERED: &str = "nic@0x1: nothing\nirt@0x1: nothing\n";
+
+/// Only these calls of the device fail.
+fn failing_calls(calls: &[u32]) -> Failing<'_> {
+    Failing {
+        reads: &[],
+        writes: &[],
+        device: calls,
+    }
+}
+
+#[test]
+fn makes_each_unit_with_words_of_zero(rt: HostRuntime) -> Result<(), Fail> {
+    let alloc = rt.alloc();
+    let words = words_of(alloc, &["run"])?;
+    let none = failing_calls(&[]);
+    let outcome = answer(alloc, &words, UNITS.as_bytes(), 4096, none)?;
+    assert_eq!(rt; outcome.status, DONE);
+    assert_eq!(rt; outcome.sink.written(), ANSWERED.as_bytes());
+    let made = [
+        TableEvent::Make { unit: 2, words: 8 },
+        TableEvent::Make { unit: 3, words: 3 },
+    ];
+    assert_eq!(rt; outcome.device.log(), &made[..]);
+    Ok(())
+}
+
+#[test]
+fn stops_where_a_unit_is_not_made(rt: HostRuntime) -> Result<(), Fail> {
+    let alloc = rt.alloc();
+    let words = words_of(alloc, &["run"])?;
+    for call in 0..2u32 {
+        let calls = [call];
+        let outcome = answer(alloc, &words, UNITS.as_bytes(), 4096, failing_calls(&calls))?;
+        assert_eq!(rt; outcome.status, DEVICE_FAULT);
+        assert_eq!(rt; outcome.sink.written(), "".as_bytes());
+        assert_eq!(rt; outcome.device.log().len(), call as usize);
+    }
+    Ok(())
+}
+
+#[test]
+fn leaves_the_device_where_no_script_is_run(rt: HostRuntime) -> Result<(), Fail> {
+    let alloc = rt.alloc();
+    let first = [0];
+    let check = words_of(alloc, &["check"])?;
+    let printed = answer(alloc, &check, UNITS.as_bytes(), 4096, failing_calls(&first))?;
+    assert_eq!(rt; printed.status, DONE);
+    assert_eq!(rt; printed.device.log().len(), 0);
+    let run = words_of(alloc, &["run"])?;
+    let refused = answer(
+        alloc,
+        &run,
+        "a is; a is;".as_bytes(),
+        4096,
+        failing_calls(&first),
+    )?;
+    assert_eq!(rt; refused.status, REFUSED);
+    assert_eq!(rt; refused.device.log().len(), 0);
+    Ok(())
+}

@@ -1,0 +1,279 @@
+//! Tests of runs with grants, routes and revokes, of which each call of the device fails in turn.
+
+use crate::outcome::{Failing, Outcome, answer};
+use crate::tests::rows::{front, words_of};
+use dn_base::device::TableEvent;
+use dn_tool::run::{DEVICE_FAULT, DONE};
+use std::alloc::{AllocError, Global};
+use std::process::Abort;
+use std::test::Fail;
+
+/// The platform of a script.
+#[derive(Clone, Copy)]
+enum Platform {
+    /// A card behind `bridge`, node 2, and `smmu`, node 4.
+    Card,
+    /// A network card whose interrupts go through `irt`, node 2.
+    Network,
+}
+
+/// A script, and what is worked out by hand for a run in which no call fails: the replies and the
+/// events.
+#[derive(Clone, Copy)]
+struct Script<'a> {
+    platform: Platform,
+    text: &'a str,
+    replies: &'a str,
+    events: &'a [TableEvent],
+}
+
+/// A script with these replies and events.
+fn script_of<'a>(
+    platform: Platform,
+    text: &'a str,
+    replies: &'a str,
+    events: &'a [TableEvent],
+) -> Script<'a> {
+    Script {
+        platform,
+        text,
+        replies,
+        events,
+    }
+}
+
+/// How many events there are, and how many bytes of replies, once some turns were gone through.
+#[derive(Clone, Copy)]
+struct Done {
+    events: u32,
+    bytes: usize,
+}
+
+/// The event of a unit that is made.
+fn made(unit: u16, words: u32) -> TableEvent {
+    TableEvent::Make { unit, words }
+}
+
+/// The event of a write.
+fn written(unit: u16, word: u32, value: u64) -> TableEvent {
+    TableEvent::Write { unit, word, value }
+}
+
+/// What events leave in a word: the last value that is written there, and else 0.
+fn word_in(events: &[TableEvent], unit: u16, word: u32) -> u64 {
+    let mut last = 0;
+    for event in events {
+        if let TableEvent::Write {
+            unit: other,
+            word: place,
+            value,
+        } = *event
+        {
+            if other == unit && place == word {
+                last = value;
+            }
+        }
+    }
+    last
+}
+
+/// Where the words that events leave lead a page of the card or a line of the network card: to a
+/// page of the memory or to a vector, or nowhere.
+fn end_of(platform: Platform, events: &[TableEvent], input: u16) -> Option<u64> {
+    let input = u32::from(input);
+    match platform {
+        Platform::Card => {
+            // Four pages are a slot of `bridge`, which may send them to the four slots of `smmu`
+            // alone.
+            let near = word_in(events, 2, input / 4);
+            let far = word_in(events, 4, input % 4);
+            (near == 1 && far % 256 == 1).then_some(far / 256)
+        }
+        Platform::Network => {
+            let vector = word_in(events, 2, 2 * input);
+            let gate = word_in(events, 2, 2 * input + 1);
+            (gate == 1).then_some(vector)
+        }
+    }
+}
+
+/// Runs a script over a device of which one call fails.
+fn run_failing(alloc: Global, script: &Script<'_>, call: u32) -> Result<Outcome, AllocError> {
+    let calls = [call];
+    let failing = Failing {
+        reads: &[],
+        writes: &[],
+        device: &calls,
+    };
+    let words = words_of(alloc, &["run"])?;
+    answer(alloc, &words, script.text.as_bytes(), 4096, failing)
+}
+
+/// Each page or line leads where it did before a turn, or where it does behind it.
+fn compare_ends(
+    rt: &impl Abort,
+    script: &Script<'_>,
+    log: &[TableEvent],
+    before: Done,
+    behind: Done,
+) {
+    let old = front(script.events, before.events);
+    let new = front(script.events, behind.events);
+    for input in 0..16u16 {
+        let given = end_of(script.platform, log, input);
+        let is_old = given == end_of(script.platform, old, input);
+        let is_new = given == end_of(script.platform, new, input);
+        assert!(rt; is_old || is_new, "input {input} of {log:?}");
+    }
+}
+
+/// Fails each call of a turn: the replies of the turns before it are written, exactly the events
+/// before the call were done, and each page or line leads where it did before the turn or behind
+/// it.
+fn fail_in_turn(
+    rt: &impl Abort,
+    alloc: Global,
+    script: &Script<'_>,
+    before: Done,
+    behind: Done,
+) -> Result<(), Fail> {
+    let replies = script.replies.as_bytes();
+    let bytes = before.bytes.min(replies.len());
+    for call in before.events..behind.events {
+        let outcome = run_failing(alloc, script, call)?;
+        let log = outcome.device.log();
+        assert_eq!(rt; outcome.status, DEVICE_FAULT, "{call}");
+        assert_eq!(rt; outcome.sink.written(), &replies[..bytes], "{call}");
+        assert_eq!(rt; log, front(script.events, call), "{call}");
+        compare_ends(rt, script, log, before, behind);
+    }
+    Ok(())
+}
+
+/// Fails each call of a script, turn by turn, and then one more, which is not made.
+fn fail_each(
+    rt: &impl Abort,
+    alloc: Global,
+    script: &Script<'_>,
+    turns: &[Done],
+) -> Result<(), Fail> {
+    let mut before = Done {
+        events: 0,
+        bytes: 0,
+    };
+    for behind in turns {
+        fail_in_turn(rt, alloc, script, before, *behind)?;
+        before = *behind;
+    }
+    let outcome = run_failing(alloc, script, before.events)?;
+    assert_eq!(rt; outcome.status, DONE);
+    assert_eq!(rt; outcome.sink.written(), script.replies.as_bytes());
+    assert_eq!(rt; outcome.device.log(), script.events);
+    Ok(())
+}
+
+/// Three buffers for a card behind two units in a row.
+const CARD: &str = "dram is accept [0x0-0xffff];
+agent card is map [0x0-0xffff to bridge at 0x0];
+unit bridge kind remap page 14 slots 4 reach 16 to host;
+host is map [0x0-0x3fff to smmu at 0x0];
+unit smmu kind pages page 12 slots 4 reach 16 to dram;
+begin;
+grant a card dram 0x4000 0x1000;
+grant b card dram 0x9000 0x2000;
+revoke a;
+grant c card dram 0x2000 0x1000;
+revoke b;
+revoke c;
+";
+
+/// What it is answered.
+const GRANTED: &str = "a at 0x0
+b at 0x1000
+a revoked
+c at 0x0
+b revoked
+c revoked
+";
+
+#[test]
+fn stops_in_grants_and_revokes(rt: HostRuntime) -> Result<(), Fail> {
+    let events = [
+        made(2, 4),
+        made(4, 4),
+        written(4, 0, 0x401),
+        written(2, 0, 1),
+        written(4, 1, 0x901),
+        written(4, 2, 0xa01),
+        written(4, 0, 0),
+        TableEvent::Fence,
+        written(4, 0, 0x201),
+        written(4, 1, 0),
+        written(4, 2, 0),
+        written(2, 0, 0),
+        written(4, 0, 0),
+    ];
+    let script = script_of(Platform::Card, CARD, GRANTED, &events);
+    // With both buffers the first pages lead to them, and no other page leads anywhere.
+    for (page, end) in [
+        (0, Some(4)),
+        (1, Some(9)),
+        (2, Some(10)),
+        (3, None),
+        (4, None),
+    ] {
+        let granted = front(&events, 6);
+        assert_eq!(rt; end_of(Platform::Card, granted, page), end, "{page}");
+    }
+    let turns = [
+        (2, 0),
+        (4, 9),
+        (6, 21),
+        (7, 31),
+        (9, 40),
+        (11, 50),
+        (13, 60),
+    ]
+    .map(|(events, bytes)| Done { events, bytes });
+    fail_each(&rt, rt.alloc(), &script, &turns)
+}
+
+/// Two lines of a network card, one after the other.
+const NETWORK: &str = "vectors cpu0 is accept [0x20-0x2f];
+agent nic is map [0x0-0x3 to irt at 0x0];
+unit irt kind vectors page 0 slots 4 reach 8 to cpu0;
+begin;
+route r1 nic 2 cpu0;
+lookup nic 2;
+revoke r1;
+route r2 nic 3 cpu0;
+";
+
+/// What it is answered.
+const ROUTED: &str = "r1 vector 0x20
+nic@0x2: cpu0@0x20
+r1 revoked
+r2 vector 0x20
+";
+
+#[test]
+fn stops_in_routes(rt: HostRuntime) -> Result<(), Fail> {
+    let events = [
+        made(2, 8),
+        written(2, 4, 0x20),
+        written(2, 5, 1),
+        written(2, 5, 0),
+        written(2, 4, 0),
+        TableEvent::Fence,
+        written(2, 6, 0x20),
+        written(2, 7, 1),
+    ];
+    let script = script_of(Platform::Network, NETWORK, ROUTED, &events);
+    assert_eq!(rt; end_of(Platform::Network, front(&events, 3), 2), Some(0x20));
+    assert_eq!(rt; end_of(Platform::Network, front(&events, 3), 3), None);
+    let turns = [(1, 0), (3, 15), (3, 34), (5, 45), (8, 60)].map(|(events, bytes)| Done {
+        events,
+        bytes,
+    });
+    fail_each(&rt, rt.alloc(), &script, &turns)
+}
