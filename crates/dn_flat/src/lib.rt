@@ -1,8 +1,8 @@
 //! What a node sees: for each of its addresses the names to which it resolves, as the fewest rows.
 //!
 //! A [`stage::Stage`] has for each node of a net what its addresses come to in fewer than so many steps and in
-//! exactly so many. [`flat::flatten`] goes level by level from one node, by the stage for one step, and
-//! [`flats::flatten_all`] doubles the stage until no chain is longer.
+//! exactly so many. By the stage for one step [`flat::flatten`] goes level by level from one node, and
+//! [`flats::flatten_all`] from every node.
 #![tactic(auto)]
 
 pub mod flat;

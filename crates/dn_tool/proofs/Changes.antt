@@ -36,7 +36,7 @@ use Rattle.dn_tool.specs.Changed.{grant_refused_text, granted_text, revoke_refus
 use Rattle.dn_tool.specs.Halt.{ending_status, is_device_halt, is_write_halt}
 use Rattle.dn_tool.specs.Ids.{id_number, with_id}
 use Rattle.dn_tool.specs.Played.{CameIn}
-use Rattle.dn_tool.specs.State.{CameThrough, CameThroughChange, IsChanged, IsHalted, IsState, state_view}
+use Rattle.dn_tool.specs.State.{CameThrough, CameThroughChange, IsChanged, IsFirst, IsHalted, IsState, state_view}
 use Rattle.dn_tool.specs.Turn.{IsGrantTurn, IsRevokeTurn, IsRouteTurn, IsTurn, State, Turn, answered, entered, is_change, named, reply}
 
 -- all events were added
@@ -206,6 +206,12 @@ not_revoked_turn kinds net s next id log log' none same left = record {
   left = left;
 }
 
+-- turns
+
+-- a turn of one sort is one of another, by what both are made of
+pub changed_as : {A : Type 0} (P : A → Turn → Type 0) (a b : A) (r : Result (List ℕ) Halt) (next : State) (log log' : Option (List TableEvent)) → a ≡ b → CameThroughChange (P a) r next log log' → CameThroughChange (P b) r next log log'
+changed_as {A} P a b r next log log' e c = subst (λ (x : A). CameThroughChange (P x) r next log log') e c
+
 -- replies
 
 -- the reply was written, or a part of it
@@ -254,13 +260,14 @@ state_named k s id book b g e i =
     ∙ ap (λ (x : BookState). record { book = x.grants; cleared = x.cleared; ids = k.ids }) (sym b)
 
 -- what is kept of a state where the book and the image are as they were
-pub state_same : (kinds : List Meaning) (net : List NodeDecl) (k k' : Kept) → IsState kinds net k → k'.book ≡ k.book → k'.image ≡ k.image → IfSome k'.flats (AreFlats net) → IsState kinds net k'
-state_same kinds net k k' s b i f = record {
+pub state_same : (kinds : List Meaning) (net : List NodeDecl) (k k' : Kept) → IsState kinds net k → k'.book ≡ k.book → k'.image ≡ k.image → IfSome k'.first (IsFirst net) → IfSome k'.flats (AreFlats net) → IsState kinds net k'
+state_same kinds net k k' s b i v f = record {
   sound = subst (λ (x : BookState). x.sound ≡ true) (sym b) s.sound;
   faithful = subst (λ (x : BookState). IsFaithful net x.grants) (sym b) s.faithful;
   kept = subst (λ (x : BookState). IsKept net kinds x.grants x.set) (sym b) s.kept;
   filled = subst (λ (x : BookState). IsTrue (are_filled kinds net (words_of x.set))) (sym b) s.filled;
   bytes = subst (λ (o : Option (List ℕ)). IfSome o (λ bytes. bytes ≡ image net kinds (words_of k'.book.set))) (sym i) (subst (λ (x : BookState). IfSome k.image (λ bytes. bytes ≡ image net kinds (words_of x.set))) (sym b) s.bytes);
+  first = v;
   flat = f;
 }
 

@@ -6,7 +6,8 @@ use Rattle.std.specs.List.{list_all}
 use Rattle.dn_net.specs.declared.node.NodeDecl.{NodeDecl}
 use Rattle.dn_net.specs.declared.node.Unit.{Unit as UnitPart}
 use Rattle.dn_kind.specs.Kind.{Meaning, is_plain}
-use Rattle.dn_kind.specs.Units.{fits_shape, has_kind, has_shape, shape_fault, shape_fault_from, unit_shape}
+use Rattle.dn_kind.specs.Units.{KeepsUnitShape, fits_shape, has_kind, has_shape, shape_fault, shape_fault_from, unit_shape}
+use Rattle.dn_kind.proofs.Shapes.{shape_fault_is_first}
 use Rattle.dn_net.proofs.Least.{true_both}
 
 -- a fault names one of the nodes
@@ -43,6 +44,6 @@ kinds_from kinds number (d ∷ ds) e = go (kinds_from kinds (number + 1) ds) (ha
     go later true is f = true_both _ _ (kind_there kinds d.unit is) (later f)
     go later false is f = cc
 
--- the kind of each unit is there where no unit breaks the rule
-pub kinds_there : (kinds : List Meaning) (net : List NodeDecl) → shape_fault kinds net ≡ None → IsTrue (list_all (λ n. has_kind (length kinds) n.unit) net)
-kinds_there kinds net e = kinds_from kinds 0 net e
+-- the kind of each unit is there where each unit keeps the rule
+pub kinds_fit : (kinds : List Meaning) (net : List NodeDecl) → KeepsUnitShape kinds net → IsTrue (list_all (λ n. has_kind (length kinds) n.unit) net)
+kinds_fit kinds net fit = kinds_from kinds 0 net ((shape_fault_is_first kinds net).0.1 fit)

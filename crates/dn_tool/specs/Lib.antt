@@ -11,6 +11,7 @@ pub mod State
 pub mod Demo
 pub mod Answer
 pub mod Halt
+pub mod Machine
 pub mod Platform
 pub mod Reshape
 pub mod Reread

@@ -1,26 +1,39 @@
 -- What the code keeps of a script: the book with its tables, the ids, and what is made of them once.
-use Rattle.std.specs.Prelude.{◌≡◌, ◌⊎◌, ℕ, true, List, Option, Result, Ok, Err, IsTrue}
+use Rattle.std.specs.Prelude.{◌≡◌, ◌⊎◌, ℕ, true, List, Option, Some, None, Result, Ok, Err, IsTrue}
 use Rattle.std.specs.Option.{IfSome}
 use Rattle.dn_base.specs.declared.device.TableEvent.{TableEvent}
-use Rattle.dn_base.specs.Device.{Logged}
+use Rattle.dn_base.specs.declared.device.UnitWords.{UnitWords}
+use Rattle.dn_base.specs.Device.{Logged, UnitSize}
 use Rattle.dn_base.specs.Outside.{Added}
 use Rattle.dn_net.specs.declared.node.NodeDecl.{NodeDecl}
 use Rattle.dn_kind.specs.Kind.{Meaning}
-use Rattle.dn_flat.specs.Stages.{AreFlats}
-use Rattle.dn_tables.specs.Set.{words_of}
+use Rattle.dn_flat.specs.Stages.{AreFlats, IsFlat}
+use Rattle.dn_tables.specs.Set.{IsOnDevice, words_of}
 use Rattle.dn_image.specs.Image.{are_filled, image}
 use Rattle.dn_book.specs.Book.{IsFaithful}
 use Rattle.dn_book.specs.Tables.{IsKept}
 use Rattle.dn_tool.specs.declared.halt.Halt.{Halt}
 use Rattle.dn_tool.specs.declared.halt.Halt.TheVariants.{NoMemory}
+use Rattle.dn_tool.specs.declared.machine.Machine.{Machine}
+use Rattle.dn_tool.specs.declared.state.FirstView.{FirstView}
 use Rattle.dn_tool.specs.declared.state.State.{State as Kept}
 use Rattle.dn_tool.specs.Halt.{ending_status}
+use Rattle.dn_tool.specs.Machine.{IsMachine, kinds_of}
 use Rattle.dn_tool.specs.Played.{CameIn}
 use Rattle.dn_tool.specs.Turn.{State, Turn}
 
 -- the state of the script
 abbrev pub state_view : Kept → State
 state_view k = record { book = k.book.grants; cleared = k.book.cleared; ids = k.ids }
+
+-- what is kept of the first agent is what it sees
+abbrev pub IsFirst : List NodeDecl → FirstView → Type 0
+IsFirst net first = IsFlat net first.agent first.flat
+
+-- it is kept, and the agent is this one
+abbrev pub IsFirstOf : ℕ → Option FirstView → Type 0
+IsFirstOf agent (Some first) = first.agent ≡ agent
+IsFirstOf agent None = ⊥
 
 -- no call of the device failed, the book is faithful and the tables keep it in words of 64 bits, the
 -- bytes are the image of the tables, and the views are those of the net, where they were made
@@ -30,7 +43,29 @@ pub record IsState (kinds : List Meaning) (net : List NodeDecl) (k : Kept) : Typ
   pub kept : IsKept net kinds k.book.grants k.book.set
   pub filled : IsTrue (are_filled kinds net (words_of k.book.set))
   pub bytes : IfSome k.image (λ bytes. bytes ≡ image net kinds (words_of k.book.set))
+  pub first : IfSome k.first (IsFirst net)
   pub flat : IfSome k.flats (AreFlats net)
+
+-- a machine, and the state in which a command meets it
+pub record IsReady {K : Type 0} {V : K → Type 0} (means : (k : K) × V k → Meaning)
+    (m : Machine K V) (k : Kept) : Type 0 where
+  pub machine : IsMachine means m
+  pub state : IsState (kinds_of means m) m.net.now k
+
+-- the same where a device has the tables, with these units and words
+pub record IsReadyOn {K : Type 0} {V : K → Type 0} (means : (k : K) × V k → Meaning)
+    (m : Machine K V) (k : Kept) (units : List UnitSize) (words : Option (List UnitWords))
+    : Type 0 where
+  pub machine : IsMachine means m
+  pub state : IsState (kinds_of means m) m.net.now k
+  pub on_device : IsOnDevice k.book.set units words
+
+-- the state behind a command that changes nothing: no more than what is kept of it may be new
+pub record IsStill {K : Type 0} {V : K → Type 0} (means : (k : K) × V k → Meaning)
+    (m : Machine K V) (k k' : Kept) : Type 0 where
+  pub state : IsState (kinds_of means m) m.net.now k'
+  pub book : k'.book ≡ k.book
+  pub ids : k'.ids ≡ k.ids
 
 -- a turn of this sort was gone through whole
 pub record IsTurned (P : Turn → Type 0) (next : State) (before after : Option (List ℕ))

@@ -1,96 +1,64 @@
 //! The commands that change the book: grants, routes and revokes.
 
-ghost use Rattle.std.specs.Prelude.{◌≡◌, ◌≢◌, None, true, false, map, IfOk, IsTrue, OnOk};
-ghost use Rattle.std.specs.List.{All};
-ghost use Rattle.dn_base.specs.Outside.{IsCounted};
-ghost use Rattle.dn_kind.specs.Kind.{IsLawful};
-ghost use Rattle.dn_kind.specs.Units.{IsLegalWith, shape_fault};
+ghost use Rattle.std.specs.Prelude.{◌≡◌, ◌≢◌, true, IfOk, IsTrue, OnOk};
 ghost use Rattle.dn_kind.specs.Rights.{are_rights};
-ghost use Rattle.dn_tables.specs.Set.{IsOnDevice};
-ghost use Rattle.dn_walk.specs.Rows.{AreWalksOf};
 ghost use Rattle.dn_tool.specs.Changed.{grant_refused_text, granted_text, refused_text, revoked_text, route_refused_text, routed_text};
-ghost use Rattle.dn_tool.specs.Halt.{is_device_halt, is_write_halt};
-ghost use Rattle.dn_tool.specs.State.{CameThroughChange, IsState, state_view};
+ghost use Rattle.dn_tool.specs.Halt.{HaltsByDevice};
+ghost use Rattle.dn_tool.specs.Machine.{kinds_of};
+ghost use Rattle.dn_tool.specs.State.{CameThroughChange, IsReadyOn, state_view};
 ghost use Rattle.dn_tool.specs.Turn.{IsGrantTurn, IsRevokeTurn, IsRouteTurn, IsTurn, is_change, number_or_none, request_of, rights_of};
 ghost use Rattle.dn_grant.specs.declared.fault.GrantFault.TheVariants.{Device as grant_device, OutOfMemory as grant_memory};
 ghost use Rattle.dn_vector.specs.declared.fault.RouteFault.TheVariants.{Device as route_device, OutOfMemory as route_memory};
 
-use crate::compile::Platform;
 use crate::halt::Halt;
+use crate::machine::Machine;
 use crate::state::{State, keep_flats, renew};
 use dn_base::device::Tables;
 use dn_base::items::Items;
 use dn_book::book::RevokeFault;
 use dn_grant::fault::GrantFault;
 use dn_grant::grant::grant;
-use dn_kind::kinds::Kinds;
 use dn_kind::rights::Rights;
 use dn_module::command::{Command, Target};
-use dn_net::net::Net;
 use dn_parse::syntax::Mode;
 use dn_placement::request::Request;
 use dn_vector::fault::RouteFault;
 use dn_vector::route::route;
-use dn_walk::walks::WalkTable;
+use dn_view::system::System;
 use std::alloc::{AllocError, Global};
 
 /// Does a command that changes the book, and answers its reply. All memory of the change is taken before
 /// the first call of the device.
 pub(crate) fn change<D: Tables>(
     alloc: Global,
-    kinds: &Kinds,
-    platform: &Platform,
+    machine: Machine,
     state: &mut State,
     command: &Command,
     device: &mut D,
 ) -> Result<Items<u8>, Halt>
-    requires lawful { All (λ k. IsLawful (meaning (k.vtable, k.value))) kinds.now.list.items }
-    requires shaped { shape_fault
-        (map (λ k. meaning (k.vtable, k.value)) kinds.now.list.items) platform.now.net
-        ≡ None }
-    requires state { IsState (map (λ k. meaning (k.vtable, k.value)) kinds.now.list.items)
-        platform.now.net state.old }
-    requires on_device { IsOnDevice state.old.book.set (D.units device.old) (D.words device.old) }
+    requires ready { IsReadyOn meaning machine state.old (D.units device.old) (D.words device.old) }
     requires change { is_change command.now ≡ true }
     ensures changed { CameThroughChange
-        (IsTurn (map (λ k. meaning (k.vtable, k.value)) kinds.now.list.items) platform.now.net
+        (IsTurn (kinds_of meaning machine.entry) machine.entry.net.now
         (state_view state.old) command.now)
         result (state_view state.new) (D.log device.old) (D.log device.new) }
-    ensures state { OnOk result (IsState
-        (map (λ k. meaning (k.vtable, k.value)) kinds.now.list.items)
-        platform.now.net state.new) }
-    ensures on_device { OnOk result
-        (IsOnDevice state.new.book.set (D.units device.new) (D.words device.new)) }
-    ensures no_write { is_write_halt result ≡ false }
-    ensures counted { IsCounted (D.faults device.old) (D.faults device.new)
-        (is_device_halt result) }
+    ensures ready { OnOk result
+        (IsReadyOn meaning machine.entry state.new (D.units device.new) (D.words device.new)) }
+    ensures halted { HaltsByDevice result (D.faults device.old) (D.faults device.new) }
 {
-    platform.facts();
-    let net = &platform.net;
-    let walks = &platform.walks;
     match command {
         Command::Grant(id, from, target, base, size, mode) => {
             let request = request_of(from, target, *base, *size, *mode);
             let id = id.as_str();
-            grant_change(alloc, kinds, net, walks, state, id, &request, device)
+            grant_change(alloc, machine, state, id, &request, device)
         }
         Command::Route(id, from, line, target) => {
             let agent = number_or_none(from.node);
             let node = number_or_none(target.node);
-            route_change(
-                alloc,
-                kinds,
-                net,
-                walks,
-                state,
-                id.as_str(),
-                agent,
-                *line,
-                node,
-                device,
-            )
+            let id = id.as_str();
+            route_change(alloc, machine, state, id, agent, *line, node, device)
         }
-        Command::Revoke(id) => revoke_change(alloc, kinds, net, state, id.as_str(), device),
+        Command::Revoke(id) => revoke_change(alloc, machine, state, id.as_str(), device),
         _ => unreachable!(),
     }
 }
@@ -131,52 +99,32 @@ fn request_of(from: &Target, target: &Target, base: u64, size: u64, mode: Mode) 
 /// Grants a request at the first admissible placement, or refuses it.
 fn grant_change<D: Tables>(
     alloc: Global,
-    kinds: &Kinds,
-    net: &Net,
-    walks: &WalkTable,
+    machine: Machine,
     state: &mut State,
     id: &str,
     request: &Request,
     device: &mut D,
 ) -> Result<Items<u8>, Halt>
-    requires lawful { All (λ k. IsLawful (meaning (k.vtable, k.value))) kinds.now.list.items }
-    requires legal { IsLegalWith
-        (map (λ k. meaning (k.vtable, k.value)) kinds.now.list.items) net.now }
-    requires walked { AreWalksOf net.now walks.now }
-    requires state { IsState (map (λ k. meaning (k.vtable, k.value)) kinds.now.list.items)
-        net.now state.old }
-    requires on_device { IsOnDevice state.old.book.set (D.units device.old) (D.words device.old) }
+    requires ready { IsReadyOn meaning machine state.old (D.units device.old) (D.words device.old) }
     requires rights { IsTrue (are_rights request.now.rights) }
     ensures changed { CameThroughChange
-        (IsGrantTurn (map (λ k. meaning (k.vtable, k.value)) kinds.now.list.items) net.now
+        (IsGrantTurn (kinds_of meaning machine.entry) machine.entry.net.now
         (state_view state.old) id.now request.now)
         result (state_view state.new) (D.log device.old) (D.log device.new) }
-    ensures state { OnOk result (IsState
-        (map (λ k. meaning (k.vtable, k.value)) kinds.now.list.items)
-        net.now state.new) }
-    ensures on_device { OnOk result
-        (IsOnDevice state.new.book.set (D.units device.new) (D.words device.new)) }
-    ensures no_write { is_write_halt result ≡ false }
-    ensures counted { IsCounted (D.faults device.old) (D.faults device.new)
-        (is_device_halt result) }
+    ensures ready { OnOk result
+        (IsReadyOn meaning machine.entry state.new (D.units device.new) (D.words device.new)) }
+    ensures halted { HaltsByDevice result (D.faults device.old) (D.faults device.new) }
 {
     let number = state.ids.number(alloc, id)?;
-    keep_flats(alloc, net, walks, &mut state.flats)?;
+    keep_flats(alloc, machine, &mut state.flats)?;
     let Some(flats) = &state.flats else {
         unreachable!()
     };
-    match grant(
-        alloc,
-        &mut state.book,
-        net,
-        flats,
-        kinds,
-        number,
-        request,
-        device,
-    ) {
+    let Machine { net, kinds, .. } = machine;
+    let system = System { net, flats, kinds };
+    match grant(alloc, &mut state.book, system, number, request, device) {
         Ok(v) => {
-            renew(net, kinds, state);
+            renew(machine, state);
             Ok(granted(alloc, id, v)?)
         }
         Err(GrantFault::Device) => Err(Halt::DeviceFault),
@@ -188,9 +136,7 @@ fn grant_change<D: Tables>(
 /// Routes a line to the least free vector that has an admissible placement there, or refuses it.
 fn route_change<D: Tables>(
     alloc: Global,
-    kinds: &Kinds,
-    net: &Net,
-    walks: &WalkTable,
+    machine: Machine,
     state: &mut State,
     id: &str,
     agent: u16,
@@ -198,37 +144,26 @@ fn route_change<D: Tables>(
     node: u16,
     device: &mut D,
 ) -> Result<Items<u8>, Halt>
-    requires lawful { All (λ k. IsLawful (meaning (k.vtable, k.value))) kinds.now.list.items }
-    requires legal { IsLegalWith
-        (map (λ k. meaning (k.vtable, k.value)) kinds.now.list.items) net.now }
-    requires walked { AreWalksOf net.now walks.now }
-    requires state { IsState (map (λ k. meaning (k.vtable, k.value)) kinds.now.list.items)
-        net.now state.old }
-    requires on_device { IsOnDevice state.old.book.set (D.units device.old) (D.words device.old) }
+    requires ready { IsReadyOn meaning machine state.old (D.units device.old) (D.words device.old) }
     ensures changed { CameThroughChange
-        (IsRouteTurn (map (λ k. meaning (k.vtable, k.value)) kinds.now.list.items) net.now
+        (IsRouteTurn (kinds_of meaning machine.entry) machine.entry.net.now
         (state_view state.old) id.now agent line node)
         result (state_view state.new) (D.log device.old) (D.log device.new) }
-    ensures state { OnOk result (IsState
-        (map (λ k. meaning (k.vtable, k.value)) kinds.now.list.items)
-        net.now state.new) }
-    ensures on_device { OnOk result
-        (IsOnDevice state.new.book.set (D.units device.new) (D.words device.new)) }
-    ensures no_write { is_write_halt result ≡ false }
-    ensures counted { IsCounted (D.faults device.old) (D.faults device.new)
-        (is_device_halt result) }
+    ensures ready { OnOk result
+        (IsReadyOn meaning machine.entry state.new (D.units device.new) (D.words device.new)) }
+    ensures halted { HaltsByDevice result (D.faults device.old) (D.faults device.new) }
 {
     let number = state.ids.number(alloc, id)?;
-    keep_flats(alloc, net, walks, &mut state.flats)?;
+    keep_flats(alloc, machine, &mut state.flats)?;
     let Some(flats) = &state.flats else {
         unreachable!()
     };
+    let Machine { net, kinds, .. } = machine;
+    let system = System { net, flats, kinds };
     match route(
         alloc,
         &mut state.book,
-        net,
-        flats,
-        kinds,
+        system,
         number,
         agent,
         line,
@@ -236,7 +171,7 @@ fn route_change<D: Tables>(
         device,
     ) {
         Ok(vector) => {
-            renew(net, kinds, state);
+            renew(machine, state);
             Ok(routed(alloc, id, vector)?)
         }
         Err(RouteFault::Device) => Err(Halt::DeviceFault),
@@ -248,35 +183,25 @@ fn route_change<D: Tables>(
 /// Takes the grant of an id out of the book, where it lives.
 fn revoke_change<D: Tables>(
     alloc: Global,
-    kinds: &Kinds,
-    net: &Net,
+    machine: Machine,
     state: &mut State,
     id: &str,
     device: &mut D,
 ) -> Result<Items<u8>, Halt>
-    requires lawful { All (λ k. IsLawful (meaning (k.vtable, k.value))) kinds.now.list.items }
-    requires legal { IsLegalWith
-        (map (λ k. meaning (k.vtable, k.value)) kinds.now.list.items) net.now }
-    requires state { IsState (map (λ k. meaning (k.vtable, k.value)) kinds.now.list.items)
-        net.now state.old }
-    requires on_device { IsOnDevice state.old.book.set (D.units device.old) (D.words device.old) }
+    requires ready { IsReadyOn meaning machine state.old (D.units device.old) (D.words device.old) }
     ensures changed { CameThroughChange
-        (IsRevokeTurn (map (λ k. meaning (k.vtable, k.value)) kinds.now.list.items) net.now
+        (IsRevokeTurn (kinds_of meaning machine.entry) machine.entry.net.now
         (state_view state.old) id.now)
         result (state_view state.new) (D.log device.old) (D.log device.new) }
-    ensures state { OnOk result (IsState
-        (map (λ k. meaning (k.vtable, k.value)) kinds.now.list.items)
-        net.now state.new) }
-    ensures on_device { OnOk result
-        (IsOnDevice state.new.book.set (D.units device.new) (D.words device.new)) }
-    ensures no_write { is_write_halt result ≡ false }
-    ensures counted { IsCounted (D.faults device.old) (D.faults device.new)
-        (is_device_halt result) }
+    ensures ready { OnOk result
+        (IsReadyOn meaning machine.entry state.new (D.units device.new) (D.words device.new)) }
+    ensures halted { HaltsByDevice result (D.faults device.old) (D.faults device.new) }
 {
     let number = state.ids.number(alloc, id)?;
+    let Machine { net, kinds, .. } = machine;
     match state.book.revoke(net, kinds, number, device) {
         Ok(()) => {
-            renew(net, kinds, state);
+            renew(machine, state);
             Ok(revoked(alloc, id)?)
         }
         Err(RevokeFault::NoGrant) => Ok(refused(alloc, id, "NoGrant")?),

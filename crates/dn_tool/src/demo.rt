@@ -1,78 +1,73 @@
 //! A demonstration that is run: its commands without their replies, and one line that sums up what came of them.
 
-ghost use Rattle.std.specs.Prelude.{◌≡◌, ◌+◌, ◌-◌, ◌^◌, ◌<◌, [], None, false, if◌then◌else◌, is_ok, length, map, IfOk, OnOk};
-ghost use Rattle.std.specs.List.{All};
-ghost use Rattle.dn_base.specs.Outside.{IsCounted, IsWritten};
+ghost use Rattle.std.specs.Prelude.{◌≡◌, ◌+◌, ◌-◌, ◌^◌, ◌<◌, [], None, if◌then◌else◌, length, IfOk, OnOk};
 ghost use Rattle.dn_net.specs.Decode.{unit_at};
-ghost use Rattle.dn_kind.specs.Kind.{IsLawful};
 ghost use Rattle.dn_kind.specs.Tables.{record_held};
-ghost use Rattle.dn_kind.specs.Units.{shape_fault};
 ghost use Rattle.dn_flat.specs.Stages.{AreFlats};
-ghost use Rattle.dn_tables.specs.Set.{FitsNet, IsOnDevice, words_of};
-ghost use Rattle.dn_book.specs.Book.{IsFaithful};
-ghost use Rattle.dn_book.specs.Tables.{IsKept};
+ghost use Rattle.dn_tables.specs.Set.{FitsNet, words_of};
 ghost use Rattle.dn_demo.specs.Summary.{summary_text};
 ghost use Rattle.dn_tool.specs.Demo.{IsShown, agent_rows, has_granted, has_revoked, held_records, held_slots, sum_below, summary_with};
-ghost use Rattle.dn_tool.specs.Halt.{ending_status, is_device_halt, is_write_halt};
-ghost use Rattle.dn_tool.specs.State.{CameThrough, IsState, state_view};
+ghost use Rattle.dn_tool.specs.Halt.{HaltsByDevice, HaltsByEither, HaltsBySink, Writes, ending_status};
+ghost use Rattle.dn_tool.specs.Machine.{IsMachine, kinds_of};
+ghost use Rattle.dn_tool.specs.State.{CameThrough, IsReady, IsReadyOn, state_view};
 ghost use Rattle.dn_tool.specs.Turn.{IsTurn, is_change};
 
 use crate::change::change;
-use crate::compile::Platform;
 use crate::halt::Halt;
+use crate::machine::Machine;
 use crate::output::write_output;
 use crate::script::DONE;
 use crate::state::{State, keep_flats};
 use dn_base::device::Tables;
 use dn_base::sink::Sink;
-use dn_book::book::Book;
 use dn_demo::summary::{Summary, summary_text};
 use dn_flat::flats::Flats;
 use dn_image::write;
-use dn_kind::kinds::Kinds;
 use dn_kind::rights::Access;
 use dn_module::command::Command;
-use dn_net::net::Net;
+use dn_module::commands::Commands;
 use dn_placement::roles::is_agent;
 use dn_tables::set::TableSet;
+use dn_view::system::System;
 use dn_view::view::view;
 use std::alloc::{AllocError, Global};
+
+/// How many grants a demonstration made, and how many it revoked.
+#[derive(Clone, Copy)]
+struct Tally {
+    granted: u64,
+    revoked: u64,
+}
 
 /// Makes the units, does each command in order, and then writes the line that sums up what came of
 /// them. The status is `DONE`.
 pub(crate) fn run_demo<K: Sink, D: Tables>(
     alloc: Global,
+    machine: Machine,
     agents: u8,
-    kinds: &Kinds,
-    platform: &Platform,
+    commands: &Commands,
     sink: &mut K,
     device: &mut D,
 ) -> Result<u8, Halt>
-    requires lawful { All (λ k. IsLawful (meaning (k.vtable, k.value))) kinds.now.list.items }
-    requires shaped { shape_fault
-        (map (λ k. meaning (k.vtable, k.value)) kinds.now.list.items) platform.now.net
-        ≡ None }
+    requires machine { IsMachine meaning machine }
     requires none { D.units device.old ≡ [] }
     ensures shown { IsShown
-        (map (λ k. meaning (k.vtable, k.value)) kinds.now.list.items) platform.now.net
-        agents platform.now.commands (ending_status result) (K.written sink.old) (K.written sink.new)
+        (kinds_of meaning machine.entry) machine.entry.net.now
+        agents commands.now (ending_status result) (K.written sink.old) (K.written sink.new)
         (D.log device.old) (D.log device.new) (D.words device.new) }
     ensures done { IfOk result (λ status. status ≡ 0) }
-    ensures sink_counted { IsCounted (K.faults sink.old) (K.faults sink.new)
-        (is_write_halt result) }
-    ensures device_counted { IsCounted (D.faults device.old) (D.faults device.new)
-        (is_device_halt result) }
+    ensures halted { HaltsByEither result (K.faults sink.old) (K.faults sink.new)
+        (D.faults device.old) (D.faults device.new) }
 {
-    platform.facts();
-    let mut state = State::make(alloc, kinds, platform, device)?;
+    let mut state = State::make(alloc, machine, device)?;
     let mut granted = 0;
     let mut revoked = 0;
     // No count passes the number of commands.
-    let _most = platform.commands.len();
-    let mut rest = platform.commands.cursor();
+    let _most = commands.len();
+    let mut rest = commands.cursor();
     'commands: while let Some(command) = rest.next(alloc)? {
         let before = state.book.grants().len();
-        let ended = play(alloc, kinds, platform, &mut state, &command, device);
+        let ended = play(alloc, machine, &mut state, &command, device);
         let after = state.book.grants().len();
         let grants = has_granted(&command, before, after);
         let revokes = has_revoked(&command, before, after);
@@ -81,45 +76,32 @@ pub(crate) fn run_demo<K: Sink, D: Tables>(
         granted = counted(granted, grants);
         revoked = counted(revoked, revokes);
     }
-    write_summary(
-        alloc, agents, kinds, platform, &mut state, granted, revoked, sink,
-    )?;
+    let tally = Tally { granted, revoked };
+    write_summary(alloc, machine, agents, tally, &mut state, sink)?;
     Ok(DONE)
 }
 
 /// Does a command, without its reply.
 fn play<D: Tables>(
     alloc: Global,
-    kinds: &Kinds,
-    platform: &Platform,
+    machine: Machine,
     state: &mut State,
     command: &Command,
     device: &mut D,
 ) -> Result<(), Halt>
-    requires lawful { All (λ k. IsLawful (meaning (k.vtable, k.value))) kinds.now.list.items }
-    requires shaped { shape_fault
-        (map (λ k. meaning (k.vtable, k.value)) kinds.now.list.items) platform.now.net
-        ≡ None }
-    requires state { IsState (map (λ k. meaning (k.vtable, k.value)) kinds.now.list.items)
-        platform.now.net state.old }
-    requires on_device { IsOnDevice state.old.book.set (D.units device.old) (D.words device.old) }
+    requires ready { IsReadyOn meaning machine state.old (D.units device.old) (D.words device.old) }
     ensures through { CameThrough
-        (IsTurn (map (λ k. meaning (k.vtable, k.value)) kinds.now.list.items) platform.now.net
+        (IsTurn (kinds_of meaning machine.entry) machine.entry.net.now
         (state_view state.old) command.now)
         result (state_view state.new) None None (D.log device.old) (D.log device.new) }
-    ensures state { OnOk result (IsState
-        (map (λ k. meaning (k.vtable, k.value)) kinds.now.list.items)
-        platform.now.net state.new) }
-    ensures on_device { OnOk result
-        (IsOnDevice state.new.book.set (D.units device.new) (D.words device.new)) }
-    ensures no_write { is_write_halt result ≡ false }
-    ensures counted { IsCounted (D.faults device.old) (D.faults device.new)
-        (is_device_halt result) }
+    ensures ready { OnOk result
+        (IsReadyOn meaning machine.entry state.new (D.units device.new) (D.words device.new)) }
+    ensures halted { HaltsByDevice result (D.faults device.old) (D.faults device.new) }
 {
     if !is_change(command) {
         return Ok(());
     }
-    change(alloc, kinds, platform, state, command, device)?;
+    change(alloc, machine, state, command, device)?;
     Ok(())
 }
 
@@ -155,68 +137,52 @@ fn counted(count: u64, passed: bool) -> u64
     if passed { count + 1 } else { count }
 }
 
-/// Writes the line that sums up a demonstration in which so many grants were made and revoked.
+/// Writes the line that sums up a demonstration of which this was counted.
 fn write_summary<K: Sink>(
     alloc: Global,
+    machine: Machine,
     agents: u8,
-    kinds: &Kinds,
-    platform: &Platform,
+    tally: Tally,
     state: &mut State,
-    granted: u64,
-    revoked: u64,
     sink: &mut K,
 ) -> Result<(), Halt>
-    requires lawful { All (λ k. IsLawful (meaning (k.vtable, k.value))) kinds.now.list.items }
-    requires shaped { shape_fault
-        (map (λ k. meaning (k.vtable, k.value)) kinds.now.list.items) platform.now.net
-        ≡ None }
-    requires state { IsState (map (λ k. meaning (k.vtable, k.value)) kinds.now.list.items)
-        platform.now.net state.old }
-    ensures written { IsWritten (K.written sink.old) (K.written sink.new)
-        (is_ok result) (is_write_halt result) (summary_text (summary_with
-        (map (λ k. meaning (k.vtable, k.value)) kinds.now.list.items) platform.now.net agents
-        granted revoked state.old.book.grants)) }
-    ensures no_device { is_device_halt result ≡ false }
-    ensures counted { IsCounted (K.faults sink.old) (K.faults sink.new) (is_write_halt result) }
+    requires ready { IsReady meaning machine state.old }
+    ensures written { Writes result (K.written sink.old) (K.written sink.new)
+        (summary_text (summary_with
+        (kinds_of meaning machine.entry) machine.entry.net.now agents
+        tally.granted tally.revoked state.old.book.grants)) }
+    ensures halted { HaltsBySink result (K.faults sink.old) (K.faults sink.new) }
 {
-    let line = summary_line(alloc, agents, kinds, platform, state, granted, revoked)?;
+    let line = summary_line(alloc, machine, agents, tally, state)?;
     write_output(sink, line.as_slice())
 }
 
-/// The line that sums up a demonstration in which so many grants were made and revoked.
+/// The line that sums up a demonstration of which this was counted.
 fn summary_line(
     alloc: Global,
+    machine: Machine,
     agents: u8,
-    kinds: &Kinds,
-    platform: &Platform,
+    tally: Tally,
     state: &mut State,
-    granted: u64,
-    revoked: u64,
 ) -> Result<Vec<u8>, AllocError>
-    requires lawful { All (λ k. IsLawful (meaning (k.vtable, k.value))) kinds.now.list.items }
-    requires shaped { shape_fault
-        (map (λ k. meaning (k.vtable, k.value)) kinds.now.list.items) platform.now.net
-        ≡ None }
-    requires state { IsState (map (λ k. meaning (k.vtable, k.value)) kinds.now.list.items)
-        platform.now.net state.old }
+    requires ready { IsReady meaning machine state.old }
     ensures { IfOk result (λ line. line.items ≡ summary_text (summary_with
-        (map (λ k. meaning (k.vtable, k.value)) kinds.now.list.items) platform.now.net agents
-        granted revoked state.old.book.grants)) }
+        (kinds_of meaning machine.entry) machine.entry.net.now agents
+        tally.granted tally.revoked state.old.book.grants)) }
 {
-    platform.facts();
-    keep_flats(alloc, &platform.net, &platform.walks, &mut state.flats)?;
+    keep_flats(alloc, machine, &mut state.flats)?;
     let Some(flats) = &state.flats else {
         unreachable!()
     };
     let tables = state.book.tables();
     let summary = Summary {
         agents,
-        nodes: platform.net.nodes(),
-        grants: granted,
-        revoked,
-        rows: all_rows(alloc, kinds, platform, &state.book, flats)?,
-        records: all_records(kinds, &platform.net, tables),
-        image: write::write(alloc, &platform.net, kinds, tables)?.len() as u64,
+        nodes: machine.net.nodes(),
+        grants: tally.granted,
+        revoked: tally.revoked,
+        rows: all_rows(alloc, machine, state, flats)?,
+        records: all_records(machine, tables),
+        image: write::write(alloc, machine.net, machine.kinds, tables)?.len() as u64,
     };
     summary_text(alloc, summary)
 }
@@ -224,26 +190,19 @@ fn summary_line(
 /// How many rows all agents see for reading. `Err` is want of memory, or more than 64 bits can count.
 fn all_rows(
     alloc: Global,
-    kinds: &Kinds,
-    platform: &Platform,
-    book: &Book,
+    machine: Machine,
+    state: &State,
     flats: &Flats,
 ) -> Result<u64, AllocError>
-    requires lawful { All (λ k. IsLawful (meaning (k.vtable, k.value))) kinds.now.list.items }
-    requires shaped { shape_fault
-        (map (λ k. meaning (k.vtable, k.value)) kinds.now.list.items) platform.now.net
-        ≡ None }
-    requires faithful { IsFaithful platform.now.net book.now.grants }
-    requires kept { IsKept platform.now.net
-        (map (λ k. meaning (k.vtable, k.value)) kinds.now.list.items)
-        book.now.grants book.now.set }
-    requires flat { AreFlats platform.now.net flats.now }
+    requires ready { IsReady meaning machine state.now }
+    requires flat { AreFlats machine.net.now flats.now }
     ensures { IfOk result (λ rows. rows ≡
-        sum_below (agent_rows platform.now.net book.now.grants) (length platform.now.net)) }
+        sum_below (agent_rows machine.entry.net.now state.now.book.grants)
+        (length machine.entry.net.now)) }
 {
     let mut total = 0;
-    for node in 0..platform.net.nodes() {
-        let rows = node_rows(alloc, kinds, platform, book, flats, node)?;
+    for node in 0..machine.net.nodes() {
+        let rows = node_rows(alloc, machine, state, flats, node)?;
         total = sum(total, rows)?;
     }
     Ok(total)
@@ -259,72 +218,56 @@ fn sum(total: u64, rows: u64) -> Result<u64, AllocError>
 /// How many rows a node sees for reading, where it is an agent.
 fn node_rows(
     alloc: Global,
-    kinds: &Kinds,
-    platform: &Platform,
-    book: &Book,
+    machine: Machine,
+    state: &State,
     flats: &Flats,
     node: u16,
 ) -> Result<u64, AllocError>
-    requires lawful { All (λ k. IsLawful (meaning (k.vtable, k.value))) kinds.now.list.items }
-    requires shaped { shape_fault
-        (map (λ k. meaning (k.vtable, k.value)) kinds.now.list.items) platform.now.net
-        ≡ None }
-    requires faithful { IsFaithful platform.now.net book.now.grants }
-    requires kept { IsKept platform.now.net
-        (map (λ k. meaning (k.vtable, k.value)) kinds.now.list.items)
-        book.now.grants book.now.set }
-    requires flat { AreFlats platform.now.net flats.now }
-    requires there { node < length platform.now.net }
-    ensures { IfOk result (λ rows. rows ≡ agent_rows platform.now.net book.now.grants node) }
+    requires ready { IsReady meaning machine state.now }
+    requires flat { AreFlats machine.net.now flats.now }
+    requires there { node < length machine.net.now }
+    ensures { IfOk result (λ rows.
+        rows ≡ agent_rows machine.entry.net.now state.now.book.grants node) }
 {
-    platform.facts();
-    if !is_agent(&platform.net, node) {
+    if !is_agent(machine.net, node) {
         return Ok(0);
     }
-    let seen = view(
-        alloc,
-        &platform.net,
-        flats,
-        kinds,
-        book.tables(),
-        node,
-        Access::Read,
-    )?;
+    let Machine { net, kinds, .. } = machine;
+    let system = System { net, flats, kinds };
+    let seen = view(alloc, system, state.book.tables(), node, Access::Read)?;
     Ok(seen.rows().len() as u64)
 }
 
 /// How many slots of all units hold a record.
-fn all_records(kinds: &Kinds, net: &Net, tables: &TableSet) -> u64
-    requires lawful { All (λ k. IsLawful (meaning (k.vtable, k.value))) kinds.now.list.items }
-    requires fits { FitsNet net.now
-        (map (λ k. meaning (k.vtable, k.value)) kinds.now.list.items) tables.now }
-    ensures { result ≡ held_records net.now (record_held net.now
-        (map (λ k. meaning (k.vtable, k.value)) kinds.now.list.items) (words_of tables.now)) }
+fn all_records(machine: Machine, tables: &TableSet) -> u64
+    requires machine { IsMachine meaning machine }
+    requires fits { FitsNet machine.net.now (kinds_of meaning machine) tables.now }
+    ensures { result ≡ held_records machine.entry.net.now (record_held machine.entry.net.now
+        (kinds_of meaning machine.entry) (words_of tables.now)) }
 {
     let mut total = 0;
-    for node in 0..net.nodes() {
-        total += node_records(kinds, net, tables, node);
+    for node in 0..machine.net.nodes() {
+        total += node_records(machine, tables, node);
     }
     total
 }
 
 /// How many slots of a node hold a record.
-fn node_records(kinds: &Kinds, net: &Net, tables: &TableSet, node: u16) -> u64
-    requires lawful { All (λ k. IsLawful (meaning (k.vtable, k.value))) kinds.now.list.items }
-    requires fits { FitsNet net.now
-        (map (λ k. meaning (k.vtable, k.value)) kinds.now.list.items) tables.now }
-    requires there { node < length net.now }
+fn node_records(machine: Machine, tables: &TableSet, node: u16) -> u64
+    requires machine { IsMachine meaning machine }
+    requires fits { FitsNet machine.net.now (kinds_of meaning machine) tables.now }
+    requires there { node < length machine.net.now }
     ensures few { result < 2 ^ 32 }
-    ensures count { result ≡ held_slots (record_held net.now
-        (map (λ k. meaning (k.vtable, k.value)) kinds.now.list.items) (words_of tables.now))
-        node (unit_at net.now node) }
+    ensures count { result ≡ held_slots (record_held machine.entry.net.now
+        (kinds_of meaning machine.entry) (words_of tables.now))
+        node (unit_at machine.entry.net.now node) }
 {
-    let Some(unit) = net.unit(node) else {
+    let Some(unit) = machine.net.unit(node) else {
         return 0;
     };
     let mut total = 0;
     for slot in 0..unit.slots {
-        total = counted(total, tables.record_at(kinds, node, slot).is_some());
+        total = counted(total, tables.record_at(machine.kinds, node, slot).is_some());
     }
     total
 }

@@ -14,6 +14,7 @@ mod demo;
 mod halt;
 pub mod ids;
 pub mod laws;
+pub mod machine;
 mod output;
 pub mod refusal;
 pub mod reply;

@@ -1,9 +1,7 @@
 //! Writing an output, and the image line by line.
 
-ghost use Rattle.std.specs.Prelude.{◌≡◌, false, is_ok};
-ghost use Rattle.dn_base.specs.Outside.{IsCounted, IsWritten};
 ghost use Rattle.dn_print.specs.Dump.{dump_text};
-ghost use Rattle.dn_tool.specs.Halt.{is_device_halt, is_write_halt};
+ghost use Rattle.dn_tool.specs.Halt.{HaltsBySink, Writes};
 
 use crate::halt::Halt;
 use dn_base::sink::{Sink, WriteFault};
@@ -17,10 +15,8 @@ const PIECE: usize = 32_768;
 /// Writes the output.
 #[tactic(auto, using(dn_base::proofs::Told::written_stopped))]
 pub(crate) fn write_output<K: Sink>(sink: &mut K, output: &[u8]) -> Result<(), Halt>
-    ensures written { IsWritten (K.written sink.old) (K.written sink.new)
-        (is_ok result) (is_write_halt result) output.now }
-    ensures counted { IsCounted (K.faults sink.old) (K.faults sink.new) (is_write_halt result) }
-    ensures no_device { is_device_halt result ≡ false }
+    ensures written { Writes result (K.written sink.old) (K.written sink.new) output.now }
+    ensures halted { HaltsBySink result (K.faults sink.old) (K.faults sink.new) }
 {
     match whole::write_whole(sink, output) {
         Ok(()) => Ok(()),
@@ -31,10 +27,9 @@ pub(crate) fn write_output<K: Sink>(sink: &mut K, output: &[u8]) -> Result<(), H
 
 /// Writes the text of an image piece by piece, so that no more than a piece of it is in memory.
 pub(crate) fn write_dump<K: Sink>(alloc: Global, image: &[u8], sink: &mut K) -> Result<(), Halt>
-    ensures written { IsWritten (K.written sink.old) (K.written sink.new)
-        (is_ok result) (is_write_halt result) (dump_text image.now) }
-    ensures counted { IsCounted (K.faults sink.old) (K.faults sink.new) (is_write_halt result) }
-    ensures no_device { is_device_halt result ≡ false }
+    ensures written { Writes result (K.written sink.old) (K.written sink.new)
+        (dump_text image.now) }
+    ensures halted { HaltsBySink result (K.faults sink.old) (K.faults sink.new) }
 {
     let heading = dump::heading_text(alloc, image.len())?;
     write_output(sink, heading.as_bytes())?;

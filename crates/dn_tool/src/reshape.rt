@@ -1,14 +1,15 @@
 //! The replies to the commands that make another net of the net, which stays as it is.
 
-ghost use Rattle.std.specs.Prelude.{◌≡◌, ◌<◌, None, length, map, IfOk, IsTrue};
+ghost use Rattle.std.specs.Prelude.{◌≡◌, ◌<◌, length, map, IfOk, IsTrue};
 ghost use Rattle.std.specs.List.{All, list_all};
 ghost use Rattle.dn_kind.specs.Kind.{IsLawful};
-ghost use Rattle.dn_kind.specs.Units.{has_kind, shape_fault};
+ghost use Rattle.dn_kind.specs.Units.{has_kind};
 ghost use Rattle.dn_net.specs.Decode.{is_closed, over_within};
 ghost use Rattle.dn_shape.specs.Absorb.{absorb_outcome};
+ghost use Rattle.dn_tool.specs.Machine.{IsMachine, kinds_of};
 ghost use Rattle.dn_tool.specs.Reshape.{made_text, limit_text, split_text, fault_text, unfit_text, absorbed_text, no_node_text, absorb_text};
 
-use crate::compile::Platform;
+use crate::machine::Machine;
 use dn_kind::kinds::Kinds;
 use dn_module::command::Target;
 use dn_net::net::Net;
@@ -17,64 +18,42 @@ use dn_shape::{absorb, split};
 use std::alloc::{AllocError, Global};
 
 /// The reply to `split`: the split net, or the limit that it would pass. `Err` is want of memory.
-pub fn split_reply(alloc: Global, kinds: &Kinds, platform: &Platform) -> Result<Vec<u8>, AllocError>
-    requires lawful { All (λ k. IsLawful (meaning (k.vtable, k.value))) kinds.now.list.items }
-    requires shaped { shape_fault
-        (map (λ k. meaning (k.vtable, k.value)) kinds.now.list.items) platform.now.net
-        ≡ None }
+pub fn split_reply(alloc: Global, machine: Machine) -> Result<Vec<u8>, AllocError>
+    requires machine { IsMachine meaning machine }
     ensures { IfOk result (λ v. v.items ≡
-        split_text (map (λ k. meaning (k.vtable, k.value)) kinds.now.list.items) platform.now.net) }
+        split_text (kinds_of meaning machine.entry) machine.entry.net.now) }
 {
-    platform.facts();
-    match split::split(alloc, &platform.net) {
-        Ok(made) => made_reply(alloc, kinds, "split", &made),
+    match split::split(alloc, machine.net) {
+        Ok(made) => made_reply(alloc, machine.kinds, "split", &made),
         Err(SplitFault::TooMany { limit }) => limit_reply(alloc, "split", limit),
         Err(SplitFault::OutOfMemory) => Err(AllocError),
     }
 }
 
 /// The reply to `absorb`: the net past the node, or why there is none. `Err` is want of memory.
-pub fn absorb_reply(
-    alloc: Global,
-    kinds: &Kinds,
-    platform: &Platform,
-    target: &Target,
-) -> Result<Vec<u8>, AllocError>
-    requires lawful { All (λ k. IsLawful (meaning (k.vtable, k.value))) kinds.now.list.items }
-    requires shaped { shape_fault
-        (map (λ k. meaning (k.vtable, k.value)) kinds.now.list.items) platform.now.net
-        ≡ None }
-    requires there { IsTrue (over_within (length platform.now.net) target.now.node) }
+pub fn absorb_reply(alloc: Global, machine: Machine, target: &Target) -> Result<Vec<u8>, AllocError>
+    requires machine { IsMachine meaning machine }
+    requires there { IsTrue (over_within (length machine.net.now) target.now.node) }
     ensures { IfOk result (λ v. v.items ≡
-        absorb_text (map (λ k. meaning (k.vtable, k.value)) kinds.now.list.items) platform.now.net target.now) }
+        absorb_text (kinds_of meaning machine.entry) machine.entry.net.now target.now) }
 {
     let name = target.text.as_str();
     match target.node {
-        Some(node) => past_reply(alloc, kinds, platform, name, node),
+        Some(node) => past_reply(alloc, machine, name, node),
         None => no_node(alloc, name),
     }
 }
 
 /// The reply to `absorb` of a node that is there.
-fn past_reply(
-    alloc: Global,
-    kinds: &Kinds,
-    platform: &Platform,
-    name: &str,
-    node: u16,
-) -> Result<Vec<u8>, AllocError>
-    requires lawful { All (λ k. IsLawful (meaning (k.vtable, k.value))) kinds.now.list.items }
-    requires shaped { shape_fault
-        (map (λ k. meaning (k.vtable, k.value)) kinds.now.list.items) platform.now.net
-        ≡ None }
-    requires there { node < length platform.now.net }
+fn past_reply(alloc: Global, machine: Machine, name: &str, node: u16) -> Result<Vec<u8>, AllocError>
+    requires machine { IsMachine meaning machine }
+    requires there { node < length machine.net.now }
     ensures { IfOk result (λ v. v.items ≡
-        absorbed_text (map (λ k. meaning (k.vtable, k.value)) kinds.now.list.items) name.now
-        (absorb_outcome platform.now.net node)) }
+        absorbed_text (kinds_of meaning machine.entry) name.now
+        (absorb_outcome machine.entry.net.now node)) }
 {
-    platform.facts();
-    match absorb::absorb(alloc, &platform.net, node) {
-        Ok(made) => made_reply(alloc, kinds, "absorb", &made),
+    match absorb::absorb(alloc, machine.net, node) {
+        Ok(made) => made_reply(alloc, machine.kinds, "absorb", &made),
         Err(AbsorbFault::NotAbsorbable { why }) => unfit(alloc, name, why),
         Err(AbsorbFault::TooMany { limit }) => limit_reply(alloc, name, limit),
         Err(AbsorbFault::OutOfMemory) => Err(AllocError),

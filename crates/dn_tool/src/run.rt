@@ -8,7 +8,8 @@ ghost use Rattle.dn_kind.specs.Kind.{IsLawful};
 ghost use Rattle.dn_kind.specs.Units.{shape_fault};
 ghost use Rattle.dn_words.specs.Words.{task_of};
 ghost use Rattle.dn_tool.specs.Answer.{IsAnswered, IsInput, IsSaid, answer, demo_answer, is_script, reads, task_answer, text_answer, usage};
-ghost use Rattle.dn_tool.specs.Halt.{ending_status, is_device_halt, is_free, is_write_halt};
+ghost use Rattle.dn_tool.specs.Halt.{HaltsByEither, HaltsBySink, ending_status, is_free};
+ghost use Rattle.dn_tool.specs.Machine.{IsMachine, kinds_of};
 ghost use Rattle.dn_print.specs.Statement.{net_text};
 
 use crate::compile;
@@ -16,6 +17,7 @@ use crate::compile::{CompileFault, Platform};
 use crate::demo::run_demo;
 use crate::halt::{Halt, status_of};
 pub use crate::halt::{DEVICE_FAULT, NO_MEMORY, WRITE_FAULT};
+use crate::machine::Machine;
 use crate::output::write_output;
 use crate::refusal::Refusal;
 pub use crate::script::DONE;
@@ -139,8 +141,7 @@ pub fn demo<K: Sink, D: Tables>(
 fn refuse_words<K: Sink>(sink: &mut K) -> Result<u8, Halt>
     ensures said { IsSaid 1 usage (ending_status result) (K.written sink.old) (K.written sink.new) }
     ensures status { IfOk result (λ s. s ≡ 1) }
-    ensures no_device { is_device_halt result ≡ false }
-    ensures counted { IsCounted (K.faults sink.old) (K.faults sink.new) (is_write_halt result) }
+    ensures halted { HaltsBySink result (K.faults sink.old) (K.faults sink.new) }
 {
     say(sink, "usage: netconf COMMAND [N]\n".as_bytes(), WRONG_WORDS)
 }
@@ -165,10 +166,8 @@ fn answer_text<K: Sink, D: Tables>(
         (text_answer task (map (λ k. meaning (k.vtable, k.value)) kinds.now.list.items) text.now)
         ≡ false → device.new ≡ device.old }
     ensures which { IfOk result (λ s. (s ≡ 0) ⊎ (s ≡ 4)) }
-    ensures sink_counted { IsCounted (K.faults sink.old) (K.faults sink.new)
-        (is_write_halt result) }
-    ensures device_counted { IsCounted (D.faults device.old) (D.faults device.new)
-        (is_device_halt result) }
+    ensures halted { HaltsByEither result (K.faults sink.old) (K.faults sink.new)
+        (D.faults device.old) (D.faults device.new) }
     ensures short { IfOk result (λ s. s ≡ 0 → length text.now < input_limit) }
 {
     match compile::compile(alloc, text, kinds) {
@@ -202,37 +201,32 @@ fn answer_task<K: Sink, D: Tables>(
         (task_answer task (map (λ k. meaning (k.vtable, k.value)) kinds.now.list.items)
         platform.now.net platform.now.commands) ≡ false → device.new ≡ device.old }
     ensures done { IfOk result (λ s. s ≡ 0) }
-    ensures sink_counted { IsCounted (K.faults sink.old) (K.faults sink.new)
-        (is_write_halt result) }
-    ensures device_counted { IsCounted (D.faults device.old) (D.faults device.new)
-        (is_device_halt result) }
+    ensures halted { HaltsByEither result (K.faults sink.old) (K.faults sink.new)
+        (D.faults device.old) (D.faults device.new) }
 {
+    let machine = Machine {
+        kinds,
+        net: &platform.net,
+        walks: &platform.walks,
+    };
+    let commands = &platform.commands;
     match task {
-        Task::Run => run_script(alloc, kinds, platform, sink, device),
-        Task::Check => print_net(alloc, kinds, platform, sink),
-        Task::Demo(agents) => run_demo(alloc, agents, kinds, platform, sink, device),
+        Task::Run => run_script(alloc, machine, commands, sink, device),
+        Task::Check => print_net(alloc, machine, sink),
+        Task::Demo(agents) => run_demo(alloc, machine, agents, commands, sink, device),
     }
 }
 
 /// Writes the net, a statement for each node. The status is `DONE`.
-fn print_net<K: Sink>(
-    alloc: Global,
-    kinds: &Kinds,
-    platform: &Platform,
-    sink: &mut K,
-) -> Result<u8, Halt>
-    requires lawful { All (λ k. IsLawful (meaning (k.vtable, k.value))) kinds.now.list.items }
-    requires shaped { shape_fault
-        (map (λ k. meaning (k.vtable, k.value)) kinds.now.list.items) platform.now.net
-        ≡ None }
+fn print_net<K: Sink>(alloc: Global, machine: Machine, sink: &mut K) -> Result<u8, Halt>
+    requires machine { IsMachine meaning machine }
     ensures said { IsSaid 0
-        (net_text (map (λ k. meaning (k.vtable, k.value)) kinds.now.list.items) platform.now.net)
+        (net_text (kinds_of meaning machine.entry) machine.entry.net.now)
         (ending_status result) (K.written sink.old) (K.written sink.new) }
     ensures done { IfOk result (λ s. s ≡ 0) }
-    ensures no_device { is_device_halt result ≡ false }
-    ensures counted { IsCounted (K.faults sink.old) (K.faults sink.new) (is_write_halt result) }
+    ensures halted { HaltsBySink result (K.faults sink.old) (K.faults sink.new) }
 {
-    let text = dn_print::net::net_text(alloc, &platform.net, kinds)?;
+    let text = dn_print::net::net_text(alloc, machine.net, machine.kinds)?;
     say(sink, text.as_slice(), DONE)
 }
 
@@ -241,8 +235,7 @@ fn refuse<K: Sink>(alloc: Global, refusal: &Refusal, sink: &mut K) -> Result<u8,
     ensures said { IsSaid 4 (refusal.now.text ++ codes "\n")
         (ending_status result) (K.written sink.old) (K.written sink.new) }
     ensures status { IfOk result (λ s. s ≡ 4) }
-    ensures no_device { is_device_halt result ≡ false }
-    ensures counted { IsCounted (K.faults sink.old) (K.faults sink.new) (is_write_halt result) }
+    ensures halted { HaltsBySink result (K.faults sink.old) (K.faults sink.new) }
 {
     let text = refusal.text();
     let line = format!(in alloc; "{text}\n")?;
@@ -255,8 +248,7 @@ fn say<K: Sink>(sink: &mut K, output: &[u8], status: u8) -> Result<u8, Halt>
     ensures said { IsSaid status output.now
         (ending_status result) (K.written sink.old) (K.written sink.new) }
     ensures status { IfOk result (λ s. s ≡ status) }
-    ensures no_device { is_device_halt result ≡ false }
-    ensures counted { IsCounted (K.faults sink.old) (K.faults sink.new) (is_write_halt result) }
+    ensures halted { HaltsBySink result (K.faults sink.old) (K.faults sink.new) }
 {
     write_output(sink, output)?;
     Ok(status)

@@ -1,34 +1,39 @@
 //! What is kept of a script while its commands are answered.
 
-ghost use Rattle.std.specs.Prelude.{◌≡◌, ◌^◌, ◌<◌, [], None, true, is_ok, length, map, nat_lt, IfOk, IfSome, IsSome, IsTrue, OnOk};
-ghost use Rattle.std.specs.List.{All, list_all};
+ghost use Rattle.std.specs.Prelude.{◌≡◌, ◌^◌, ◌<◌, [], true, is_ok, length, map, nat_lt, IfOk, IfSome, IsSome, IsTrue, OnOk};
+ghost use Rattle.std.specs.List.{list_all};
 ghost use Rattle.dn_base.specs.Device.{is_make_fault};
 ghost use Rattle.dn_base.specs.Outside.{IsCounted};
-ghost use Rattle.dn_kind.specs.Kind.{IsLawful};
-ghost use Rattle.dn_kind.specs.Units.{shape_fault};
 ghost use Rattle.dn_flat.specs.Stages.{AreFlats};
 ghost use Rattle.dn_image.specs.Image.{are_filled, image};
-ghost use Rattle.dn_tables.specs.Set.{FitsNet, IsOnDevice, fresh_set, tables_of_set, units_of, words_in, words_of};
+ghost use Rattle.dn_tables.specs.Set.{FitsNet, fresh_set, tables_of_set, units_of, words_in, words_of};
 ghost use Rattle.dn_tables.specs.Writes.{AreUnitsMade};
 ghost use Rattle.dn_walk.specs.Rows.{AreWalksOf};
 ghost use Rattle.dn_book.specs.Book.{IsFaithful};
 ghost use Rattle.dn_book.specs.Tables.{IsKept};
-ghost use Rattle.dn_tool.specs.State.{IsState, state_view};
+ghost use Rattle.dn_tool.specs.Machine.{IsMachine, kinds_of};
+ghost use Rattle.dn_tool.specs.State.{IsFirst, IsFirstOf, IsReadyOn, IsStill, state_view};
 ghost use Rattle.dn_tool.specs.Turn.{start};
 
-use crate::compile::Platform;
 use crate::ids::Ids;
+use crate::machine::Machine;
 use dn_base::device::{MakeFault, Tables};
 use dn_base::filled::Filled;
 use dn_base::items::Items;
 use dn_book::book::Book;
+use dn_flat::flat::{Flat, flatten};
 use dn_flat::flats::{Flats, flatten_all};
 use dn_image::write;
-use dn_kind::kinds::Kinds;
 use dn_net::net::Net;
 use dn_tables::set::TableSet;
-use dn_walk::walks::WalkTable;
 use std::alloc::{AllocError, Global};
+
+/// The agent whose view was asked for first, and what it sees in the net.
+#[derive(Drop)]
+pub struct FirstView {
+    pub agent: u16,
+    pub flat: Flat,
+}
 
 /// The book with its tables, the ids that came so far, and what is made once and kept: the image of
 /// the present tables, and the views of the net.
@@ -40,7 +45,9 @@ pub struct State {
     pub ids: Ids,
     /// The image of the tables, where a command asked for it since they changed last.
     pub image: Option<Items<u8>>,
-    /// What each node sees in the net, where a command asked for it.
+    /// What the agent sees in the net whose view was asked for first.
+    pub first: Option<FirstView>,
+    /// What each node sees in the net, where a command asked for all.
     pub flats: Option<Flats>,
 }
 
@@ -55,33 +62,28 @@ impl State {
     /// nothing else was done to the device.
     pub fn make<D: Tables>(
         alloc: Global,
-        kinds: &Kinds,
-        platform: &Platform,
+        machine: Machine,
         device: &mut D,
     ) -> Result<State, MakeFault>
-        requires lawful { All (λ k. IsLawful (meaning (k.vtable, k.value))) kinds.now.list.items }
-        requires shaped { shape_fault (map (λ k. meaning (k.vtable, k.value)) kinds.now.list.items)
-            platform.now.net ≡ None }
+        requires machine { IsMachine meaning machine }
         requires none { D.units device.old ≡ [] }
-        ensures state { IfOk result (IsState
-            (map (λ k. meaning (k.vtable, k.value)) kinds.now.list.items) platform.now.net) }
+        ensures ready { IfOk result (λ s.
+            IsReadyOn meaning machine.entry s (D.units device.new) (D.words device.new)) }
         ensures start { IfOk result (λ s. state_view s ≡ start) }
-        ensures on_device { IfOk result (λ s.
-            IsOnDevice s.book.set (D.units device.new) (D.words device.new)) }
-        ensures made { AreUnitsMade (tables_of_set (fresh_set
-            (map (λ k. meaning (k.vtable, k.value)) kinds.now.list.items) platform.now.net))
+        ensures made { AreUnitsMade (tables_of_set
+            (fresh_set (kinds_of meaning machine.entry) machine.entry.net.now))
             (is_ok result) (is_make_fault result) (D.log device.old) (D.log device.new)
             (D.units device.new) (D.words device.old) (D.words device.new) }
         ensures counted { IsCounted (D.faults device.old)
             (D.faults device.new) (is_make_fault result) }
     {
-        platform.facts();
-        let book = Book::make(alloc, &platform.net, kinds, device)?;
-        are_filled(&platform.net, kinds, book.tables());
+        let book = Book::make(alloc, machine.net, machine.kinds, device)?;
+        are_filled(machine, book.tables());
         Ok(State {
             book,
             ids: Ids::new(alloc),
             image: None,
+            first: None,
             flats: None,
         })
     }
@@ -90,44 +92,63 @@ impl State {
 /// Makes the image of the tables, where it is not kept. `Err` is want of memory.
 pub fn keep_image(
     alloc: Global,
-    net: &Net,
-    kinds: &Kinds,
+    machine: Machine,
     tables: &TableSet,
     kept: &mut Option<Items<u8>>,
 ) -> Result<(), AllocError>
-    requires lawful { All (λ k. IsLawful (meaning (k.vtable, k.value))) kinds.now.list.items }
-    requires fits { FitsNet net.now
-        (map (λ k. meaning (k.vtable, k.value)) kinds.now.list.items) tables.now }
+    requires machine { IsMachine meaning machine }
+    requires fits { FitsNet machine.net.now (kinds_of meaning machine) tables.now }
     requires kept { IfSome kept.old (λ bytes. bytes
-        ≡ image net.now (map (λ k. meaning (k.vtable, k.value)) kinds.now.list.items) (words_of tables.now)) }
+        ≡ image machine.net.now (kinds_of meaning machine) (words_of tables.now)) }
     ensures kept { IfSome kept.new (λ bytes. bytes
-        ≡ image net.now (map (λ k. meaning (k.vtable, k.value)) kinds.now.list.items) (words_of tables.now)) }
+        ≡ image machine.entry.net.now (kinds_of meaning machine.entry) (words_of tables.now)) }
     ensures made { OnOk result (IsSome kept.new) }
 {
     if kept.is_some() {
         return Ok(());
     }
-    let bytes = write::write(alloc, net, kinds, tables)?;
+    let bytes = write::write(alloc, machine.net, machine.kinds, tables)?;
     *kept = Some(Items::from_vec(bytes));
+    Ok(())
+}
+
+/// Makes what an agent sees, where none was asked for before. `Err` is want of memory.
+pub fn keep_first(
+    alloc: Global,
+    machine: Machine,
+    first: &mut Option<FirstView>,
+    agent: u16,
+) -> Result<(), AllocError>
+    requires walked { AreWalksOf machine.net.now machine.walks.now }
+    requires first { IfSome first.old (IsFirst machine.net.now) }
+    requires same { IfSome first.old (λ f. f.agent ≡ agent) }
+    requires there { agent < length machine.net.now }
+    ensures first { IfSome first.new (IsFirst machine.entry.net.now) }
+    ensures made { OnOk result (IsFirstOf agent first.new) }
+{
+    if first.is_some() {
+        return Ok(());
+    }
+    let flat = flatten(alloc, machine.net, machine.walks, agent)?;
+    *first = Some(FirstView { agent, flat });
     Ok(())
 }
 
 /// Flattens the nodes of a net, where their views are not kept. `Err` is want of memory.
 pub fn keep_flats(
     alloc: Global,
-    net: &Net,
-    walks: &WalkTable,
+    machine: Machine,
     flats: &mut Option<Flats>,
 ) -> Result<(), AllocError>
-    requires walked { AreWalksOf net.now walks.now }
-    requires flat { IfSome flats.old (AreFlats net.now) }
-    ensures flat { IfSome flats.new (AreFlats net.now) }
+    requires walked { AreWalksOf machine.net.now machine.walks.now }
+    requires flat { IfSome flats.old (AreFlats machine.net.now) }
+    ensures flat { IfSome flats.new (AreFlats machine.entry.net.now) }
     ensures made { OnOk result (IsSome flats.new) }
 {
     if flats.is_some() {
         return Ok(());
     }
-    *flats = Some(flatten_all(alloc, net, walks)?);
+    *flats = Some(flatten_all(alloc, machine.net, machine.walks)?);
     Ok(())
 }
 
@@ -161,32 +182,29 @@ fn has_small_words(net: &Net, tables: &TableSet, node: u16)
 
 /// The tables have the words of each node, for a proof of its caller. It looks at each node once, and
 /// at no word.
-fn are_filled(net: &Net, kinds: &Kinds, tables: &TableSet)
-    requires lawful { All (λ k. IsLawful (meaning (k.vtable, k.value))) kinds.now.list.items }
-    requires fits { FitsNet net.now
-        (map (λ k. meaning (k.vtable, k.value)) kinds.now.list.items) tables.now }
-    ensures { IsTrue (are_filled (map (λ k. meaning (k.vtable, k.value)) kinds.now.list.items)
-        net.now (words_of tables.now)) }
+fn are_filled(machine: Machine, tables: &TableSet)
+    requires { FitsNet machine.net.now (kinds_of meaning machine) tables.now }
+    ensures { IsTrue (are_filled (kinds_of meaning machine.entry)
+        machine.entry.net.now (words_of tables.now)) }
 {
     tables.facts();
+    let net = machine.net;
     for node in 0..net.nodes() {
         has_small_words(net, tables, node);
     }
-    let _kinds = kinds;
 }
 
 /// Drops the image, since the tables have changed.
-pub fn renew(net: &Net, kinds: &Kinds, state: &mut State)
-    requires lawful { All (λ k. IsLawful (meaning (k.vtable, k.value))) kinds.now.list.items }
+pub fn renew(machine: Machine, state: &mut State)
+    requires machine { IsMachine meaning machine }
     requires sound { state.old.book.sound ≡ true }
-    requires faithful { IsFaithful net.now state.old.book.grants }
-    requires kept { IsKept net.now (map (λ k. meaning (k.vtable, k.value)) kinds.now.list.items)
+    requires faithful { IsFaithful machine.net.now state.old.book.grants }
+    requires kept { IsKept machine.net.now (kinds_of meaning machine)
         state.old.book.grants state.old.book.set }
-    requires flat { IfSome state.old.flats (AreFlats net.now) }
-    ensures state { IsState
-        (map (λ k. meaning (k.vtable, k.value)) kinds.now.list.items) net.now state.new }
-    ensures same { (state.new.book ≡ state.old.book) × (state.new.ids ≡ state.old.ids) }
+    requires first { IfSome state.old.first (IsFirst machine.net.now) }
+    requires flat { IfSome state.old.flats (AreFlats machine.net.now) }
+    ensures still { IsStill meaning machine.entry state.old state.new }
 {
     state.image = None;
-    are_filled(net, kinds, state.book.tables());
+    are_filled(machine, state.book.tables());
 }

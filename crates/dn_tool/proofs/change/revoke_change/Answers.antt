@@ -2,46 +2,38 @@ use Rattle.std.proofs.Common.{rules, ◌≡◌, ◌∙◌, ap, sym, subst, refl,
 use Rattle.dn_net.specs.declared.node.NodeDecl.{NodeDecl}
 use Rattle.dn_kind.specs.Kind.{Meaning}
 use Rattle.dn_book.specs.declared.book.RevokeFault.TheVariants.{Device, NoGrant}
-use Rattle.dn_book.specs.declared.grant.Grant.{Grant}
-use Rattle.dn_book.specs.Book.{IsFaithful, has_id}
+use Rattle.dn_book.specs.Book.{has_id}
 use Rattle.dn_tool.specs.declared.halt.Halt.TheVariants.{DeviceFault, NoMemory}
 use Rattle.dn_tool.specs.Changed.{revoked_text}
 use Rattle.dn_tool.specs.Ids.{id_number}
 use Rattle.dn_tool.specs.State.{IsChanged, state_view}
 use Rattle.dn_tool.specs.declared.state.State.{State as Kept}
 use Rattle.dn_tool.specs.Turn.{IsRevokeTurn, State, named}
-use Rattle.dn_tool.proofs.Books.{without_keeps}
 use Rattle.dn_tool.proofs.Changes.{halted_after, lives_by, not_revoked_turn, revoke_stopped, state_named, state_revoked, state_same}
-use Rattle.dn_tool.proofs.Kept.{state_faithful}
 use Rattle.dn_tool.proofs.change.revoke_change.Goals as goal
 
 pub renew-requires-clause-faithful : goal.renew-requires-clause-faithful
-renew-requires-clause-faithful g c =
-    let kinds : List Meaning = map (λ k. (goal.UnitKind-dyn g (k.vtable, k.value)).meaning k.value) c.args.kinds.now.list.items in
-    let net : List NodeDecl = c.args.net.now in
-    let state = c.args.state.now in
-    let kept = without_keeps net state.book.grants c.in_ok-number.number c.requires.legal.legal (state_faithful kinds net state c.requires.state) in
-    subst (λ (b : List Grant). IsFaithful net b) (sym c.in-Ok.ensures.revoked) kept.faithful
+renew-requires-clause-faithful g c = c.in-Ok.ensures.faithful c.requires.ready.state.faithful
 
 pub returns-in_err-revoked-in-Ok-clause-changed : goal.returns-in_err-revoked-in-Ok-clause-changed
 returns-in_err-revoked-in-Ok-clause-changed g c =
-    let kinds : List Meaning = map (λ k. (goal.UnitKind-dyn g (k.vtable, k.value)).meaning k.value) c.args.kinds.now.list.items in
+    let kinds : List Meaning = map (λ k. (goal.UnitKind-dyn g (k.vtable, k.value)).meaning k.value) c.args.machine.kinds.now.list.items in
     let state = c.args.state.now in
     let ended : c.from_residual-in_err-revoked-in-Ok.result ≡ Err NoMemory = search rules in
-    halted_after (IsRevokeTurn kinds c.args.net.now (state_view state) c.args.id.now) c.from_residual-in_err-revoked-in-Ok.result (state_view c.renew.new.state) (state_view c.renew.new.state) (revoked_text c.args.id.now) _ _ ended
-    (state_revoked kinds c.args.net.now state c.renew.new.state c.args.id.now c.in_ok-number.number c.revoke.new.self _ _ c.in_ok-number.ensures.number (λ e. let x = c.in-Ok.ensures.unknown.1 e in cc) c.in-Ok.ensures.added c.in-Ok.ensures.revoked c.renew.ensures.same.0 (c.renew.ensures.same.1 ∙ c.in_ok-number.ensures.ids) c.in-Ok.ensures.cleared)
+    halted_after (IsRevokeTurn kinds c.args.machine.net.now (state_view state) c.args.id.now) c.from_residual-in_err-revoked-in-Ok.result (state_view c.renew.new.state) (state_view c.renew.new.state) (revoked_text c.args.id.now) _ _ ended
+    (state_revoked kinds c.args.machine.net.now state c.renew.new.state c.args.id.now c.in_ok-number.number c.revoke.new.self _ _ c.in_ok-number.ensures.number (λ e. let x = c.in-Ok.ensures.unknown.1 e in cc) c.in-Ok.ensures.added c.in-Ok.ensures.revoked c.renew.ensures.still.book (c.renew.ensures.still.ids ∙ c.in_ok-number.ensures.ids) c.in-Ok.ensures.cleared)
 
 pub returns-in_ok-revoked-in-Ok-clause-changed : goal.returns-in_ok-revoked-in-Ok-clause-changed
 returns-in_ok-revoked-in-Ok-clause-changed g c =
-    let kinds : List Meaning = map (λ k. (goal.UnitKind-dyn g (k.vtable, k.value)).meaning k.value) c.args.kinds.now.list.items in
+    let kinds : List Meaning = map (λ k. (goal.UnitKind-dyn g (k.vtable, k.value)).meaning k.value) c.args.machine.kinds.now.list.items in
     let state = c.args.state.now in
-    subst (λ (t : List ℕ). IsChanged (IsRevokeTurn kinds c.args.net.now (state_view state) c.args.id.now) (state_view c.renew.new.state) t (g.D.Tables.log c.args.device.now) (g.D.Tables.log c.revoke.new.device)) (sym c.in_ok-revoked-in-Ok.ensures)
-    (state_revoked kinds c.args.net.now state c.renew.new.state c.args.id.now c.in_ok-number.number c.revoke.new.self _ _ c.in_ok-number.ensures.number (λ e. let x = c.in-Ok.ensures.unknown.1 e in cc) c.in-Ok.ensures.added c.in-Ok.ensures.revoked c.renew.ensures.same.0 (c.renew.ensures.same.1 ∙ c.in_ok-number.ensures.ids) c.in-Ok.ensures.cleared)
+    subst (λ (t : List ℕ). IsChanged (IsRevokeTurn kinds c.args.machine.net.now (state_view state) c.args.id.now) (state_view c.renew.new.state) t (g.D.Tables.log c.args.device.now) (g.D.Tables.log c.revoke.new.device)) (sym c.in_ok-revoked-in-Ok.ensures)
+    (state_revoked kinds c.args.machine.net.now state c.renew.new.state c.args.id.now c.in_ok-number.number c.revoke.new.self _ _ c.in_ok-number.ensures.number (λ e. let x = c.in-Ok.ensures.unknown.1 e in cc) c.in-Ok.ensures.added c.in-Ok.ensures.revoked c.renew.ensures.still.book (c.renew.ensures.still.ids ∙ c.in_ok-number.ensures.ids) c.in-Ok.ensures.cleared)
 
 pub returns-in_ok-refused-in-Err-NoGrant-clause-changed : goal.returns-in_ok-refused-in-Err-NoGrant-clause-changed
 returns-in_ok-refused-in-Err-NoGrant-clause-changed g c =
-    let kinds : List Meaning = map (λ k. (goal.UnitKind-dyn g (k.vtable, k.value)).meaning k.value) c.args.kinds.now.list.items in
-    let net : List NodeDecl = c.args.net.now in
+    let kinds : List Meaning = map (λ k. (goal.UnitKind-dyn g (k.vtable, k.value)).meaning k.value) c.args.machine.kinds.now.list.items in
+    let net : List NodeDecl = c.args.machine.net.now in
     let state = c.args.state.now in
     let s : State = state_view state in
     let id : List ℕ = c.args.id.now in
@@ -49,23 +41,27 @@ returns-in_ok-refused-in-Err-NoGrant-clause-changed g c =
     let failed : c.revoke.result ≡ Err NoGrant = c.in-Err-NoGrant.is ∙ ap Err c.in-Err-NoGrant.field-0-is in
     let same = c.revoke.ensures.unchanged failed in
     let none : has_id (id_number state.ids id) state.book.grants ≡ false = subst (λ n. has_id n state.book.grants ≡ false) number (c.revoke.ensures.unknown.0 failed) in
-    let after : Kept = record { book = c.revoke.new.self; ids = c.number.new.self; image = state.image; flats = state.flats } in
+    let after : Kept = record { book = c.revoke.new.self; ids = c.number.new.self; image = state.image; first = state.first; flats = state.flats } in
     let left : named s id ≡ state_view after = state_named after s id state.book same.0 refl refl c.in_ok-number.ensures.ids in
     subst (λ (t : List ℕ). IsChanged (IsRevokeTurn kinds net s id) (state_view after) t (g.D.Tables.log c.args.device.now) (g.D.Tables.log c.revoke.new.device)) (sym c.in_ok-refused-in-Err-NoGrant.ensures) (not_revoked_turn kinds net s (state_view after) id (g.D.Tables.log c.args.device.now) (g.D.Tables.log c.revoke.new.device) none (ap g.D.Tables.log same.1) left)
 
-pub returns-in_ok-refused-in-Err-NoGrant-clause-state : goal.returns-in_ok-refused-in-Err-NoGrant-clause-state
-returns-in_ok-refused-in-Err-NoGrant-clause-state g c =
-    let kinds : List Meaning = map (λ k. (goal.UnitKind-dyn g (k.vtable, k.value)).meaning k.value) c.args.kinds.now.list.items in
+pub returns-in_ok-refused-in-Err-NoGrant-clause-ready : goal.returns-in_ok-refused-in-Err-NoGrant-clause-ready
+returns-in_ok-refused-in-Err-NoGrant-clause-ready g c =
+    let kinds : List Meaning = map (λ k. (goal.UnitKind-dyn g (k.vtable, k.value)).meaning k.value) c.args.machine.kinds.now.list.items in
     let state = c.args.state.now in
     let same = c.revoke.ensures.unchanged (c.in-Err-NoGrant.is ∙ ap Err c.in-Err-NoGrant.field-0-is) in
-    let after : Kept = record { book = c.revoke.new.self; ids = c.number.new.self; image = state.image; flats = state.flats } in
-    state_same kinds c.args.net.now state after c.requires.state same.0 refl c.requires.state.flat
+    let after : Kept = record { book = c.revoke.new.self; ids = c.number.new.self; image = state.image; first = state.first; flats = state.flats } in
+    record {
+      machine = c.requires.ready.machine;
+      state = state_same kinds c.args.machine.net.now state after c.requires.ready.state same.0 refl c.requires.ready.state.first c.requires.ready.state.flat;
+      on_device = c.revoke.ensures.on_device;
+    }
 
 pub returns-in-Err-Device-clause-changed : goal.returns-in-Err-Device-clause-changed
 returns-in-Err-Device-clause-changed g c =
-    let kinds : List Meaning = map (λ k. (goal.UnitKind-dyn g (k.vtable, k.value)).meaning k.value) c.args.kinds.now.list.items in
+    let kinds : List Meaning = map (λ k. (goal.UnitKind-dyn g (k.vtable, k.value)).meaning k.value) c.args.machine.kinds.now.list.items in
     let book = c.args.state.now.book.grants in
     let number = c.in_ok-number.ensures.number in
     let failed : c.revoke.result ≡ Err Device = c.in-Err-Device.is ∙ ap Err c.in-Err-Device.field-0-is in
     let has = subst (λ n. has_id n book ≡ true) number (lives_by (has_id c.in_ok-number.number book) (λ e. let x = c.revoke.ensures.unknown.1 e in let y = failed in cc)) in
-    revoke_stopped kinds c.args.net.now (state_view c.args.state.now) (state_view c.args.state.now) c.args.id.now (Err DeviceFault) (g.D.Tables.log c.args.device.now) (g.D.Tables.log c.revoke.new.device) refl has (λ k m e. c.in-Err-Device.ensures.added k m (e ∙ sym number))
+    revoke_stopped kinds c.args.machine.net.now (state_view c.args.state.now) (state_view c.args.state.now) c.args.id.now (Err DeviceFault) (g.D.Tables.log c.args.device.now) (g.D.Tables.log c.revoke.new.device) refl has (λ k m e. c.in-Err-Device.ensures.added k m (e ∙ sym number))

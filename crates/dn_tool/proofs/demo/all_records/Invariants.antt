@@ -8,5 +8,5 @@ use Rattle.dn_tool.proofs.demo.all_records.Given as goal
 abbrev pub invariant-loop-node : goal.invariant-loop-node
 invariant-loop-node g l = record {
   few : l.total ≤ l.node * 2 ^ 32;
-  count : l.total ≡ sum_below (λ n. held_slots (record_held l.net (map (λ k. (goal.UnitKind-dyn g (k.vtable, k.value)).meaning k.value) l.kinds.list.items) (words_of l.tables)) n (unit_at l.net n)) l.node;
+  count : l.total ≡ sum_below (λ n. held_slots (record_held l.fn.machine.net.now (map (λ k. (goal.UnitKind-dyn g (k.vtable, k.value)).meaning k.value) l.fn.machine.kinds.now.list.items) (words_of l.tables)) n (unit_at l.fn.machine.net.now n)) l.node;
 }

@@ -7,5 +7,5 @@ use Rattle.dn_tool.proofs.demo.node_records.Given as goal
 abbrev pub invariant-loop-slot : goal.invariant-loop-slot
 invariant-loop-slot g l = record {
   few : l.total ≤ l.slot;
-  count : l.total ≡ count_below (λ slot. is_some (record_held l.net (map (λ k. (goal.UnitKind-dyn g (k.vtable, k.value)).meaning k.value) l.kinds.list.items) (words_of l.tables) l.node slot)) l.slot;
+  count : l.total ≡ count_below (λ slot. is_some (record_held l.fn.machine.net.now (map (λ k. (goal.UnitKind-dyn g (k.vtable, k.value)).meaning k.value) l.fn.machine.kinds.now.list.items) (words_of l.tables) l.node slot)) l.slot;
 }

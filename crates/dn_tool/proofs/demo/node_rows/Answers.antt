@@ -2,7 +2,6 @@ use Rattle.std.proofs.Common.{◌≡◌, ◌∙◌, ap, sym, subst, map, length,
 use Rattle.std.proofs.lemmas.List.{length-map}
 use Rattle.dn_interval.specs.declared.row.Row.{Row}
 use Rattle.dn_interval.specs.Listed.{seen_by}
-use Rattle.dn_interval.specs.Rows.{AreNormal}
 use Rattle.dn_net.specs.declared.node.NodeDecl.{NodeDecl}
 use Rattle.dn_net.specs.Decode.{is_agent_at}
 use Rattle.dn_kind.specs.declared.rights.Access.TheVariants.{Read as reading}
@@ -10,28 +9,20 @@ use Rattle.dn_kind.specs.Kind.{Meaning}
 use Rattle.dn_kind.specs.Tables.{allowing}
 use Rattle.dn_tables.specs.declared.table.NodeTable.{NodeTable}
 use Rattle.dn_tables.specs.Set.{record_kept}
-use Rattle.dn_view.specs.Views.{ResolvesFromUnder}
-use Rattle.dn_tool.specs.Platform.{PlatformState}
+use Rattle.dn_view.specs.Views.{AreViewed}
 use Rattle.dn_tool.specs.Viewed.{owed_rows}
-use Rattle.dn_tool.proofs.Kept.{legal_with}
 use Rattle.dn_tool.proofs.Seen.{rows_are_owed}
 use Rattle.dn_tool.proofs.demo.node_rows.Goals as goal
 
-pub view-requires-clause-legal : goal.view-requires-clause-legal
-view-requires-clause-legal g c =
-    let kinds : List Meaning = map (λ k. (goal.UnitKind-dyn g (k.vtable, k.value)).meaning k.value) c.args.kinds.now.list.items in
-    legal_with kinds c.platform.inside.net (rw (← c.platform.view_is) at c.requires.shaped) c.platform.invariant.walked.legal
-
 pub returns : goal.returns
 returns g c =
-    let kinds : List Meaning = map (λ k. (goal.UnitKind-dyn g (k.vtable, k.value)).meaning k.value) c.args.kinds.now.list.items in
-    let net : List NodeDecl = c.args.platform.now.net in
-    let book = c.args.book.now in
+    let kinds : List Meaning = map (λ k. (goal.UnitKind-dyn g (k.vtable, k.value)).meaning k.value) c.args.machine.kinds.now.list.items in
+    let net : List NodeDecl = c.args.machine.net.now in
+    let book = c.args.state.now.book in
     let rows : List Row = c.in_ok-seen.seen in
-    let under : AreNormal (ResolvesFromUnder net (allowing reading (record_kept kinds c.tables.result.now)) c.args.node) rows = subst (λ (p : PlatformState). AreNormal (ResolvesFromUnder p.net (allowing reading (record_kept kinds c.tables.result.now)) c.args.node) rows) c.platform.view_is c.in_ok-seen.ensures.rows in
-    let normal : AreNormal (ResolvesFromUnder net (allowing reading (record_kept kinds book.set)) c.args.node) rows = subst (λ (s : List NodeTable). AreNormal (ResolvesFromUnder net (allowing reading (record_kept kinds s)) c.args.node) rows) c.tables.ensures under in
-    let agent : IsTrue (is_agent_at (slice_get net c.args.node)) = subst (λ (p : PlatformState). IsTrue (is_agent_at (slice_get p.net c.args.node))) c.platform.view_is (sym c.if-not-is_agent.ensures) in
-    let owed : map seen_by rows ≡ owed_rows net book.grants reading c.args.node = rows_are_owed net book.grants reading c.args.node (record_kept kinds book.set) rows c.requires.faithful agent c.requires.kept.held normal in
+    let normal : AreViewed net (allowing reading (record_kept kinds book.set)) c.args.node rows = subst (λ (s : List NodeTable). AreViewed net (allowing reading (record_kept kinds s)) c.args.node rows) c.tables.ensures c.in_ok-seen.ensures.rows in
+    let agent : IsTrue (is_agent_at (slice_get net c.args.node)) = sym c.if-not-is_agent.ensures in
+    let owed : map seen_by rows ≡ owed_rows net book.grants reading c.args.node = rows_are_owed net book.grants reading c.args.node (record_kept kinds book.set) rows c.requires.ready.state.faithful agent c.requires.ready.state.kept.held normal in
     ap length c.rows.ensures.value
     ∙ sym (length-map rows seen_by)
     ∙ ap length owed

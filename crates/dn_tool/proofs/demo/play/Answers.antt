@@ -8,13 +8,13 @@ use Rattle.dn_tool.proofs.demo.play.Goals as goal
 
 pub returns-then-not-is_change-clause-through : goal.returns-then-not-is_change-clause-through
 returns-then-not-is_change-clause-through g c =
-    let kinds : List Meaning = map (λ k. (goal.UnitKind-dyn g (k.vtable, k.value)).meaning k.value) c.args.kinds.now.list.items in
-    quiet_still kinds c.args.platform.now.net (state_view c.args.state.now) c.args.command.now (g.D.Tables.log c.args.device.now) (sym c.if-not-is_change.ensures)
+    let kinds : List Meaning = map (λ k. (goal.UnitKind-dyn g (k.vtable, k.value)).meaning k.value) c.args.machine.kinds.now.list.items in
+    quiet_still kinds c.args.machine.net.now (state_view c.args.state.now) c.args.command.now (g.D.Tables.log c.args.device.now) (sym c.if-not-is_change.ensures)
 
 pub returns-in_err-change-clause-through : goal.returns-in_err-change-clause-through
 returns-in_err-change-clause-through g c =
-    let kinds : List Meaning = map (λ k. (goal.UnitKind-dyn g (k.vtable, k.value)).meaning k.value) c.args.kinds.now.list.items in
-    let P : Turn → Type 0 = IsTurn kinds c.args.platform.now.net (state_view c.args.state.now) c.args.command.now in
+    let kinds : List Meaning = map (λ k. (goal.UnitKind-dyn g (k.vtable, k.value)).meaning k.value) c.args.machine.kinds.now.list.items in
+    let P : Turn → Type 0 = IsTurn kinds c.args.machine.net.now (state_view c.args.state.now) c.args.command.now in
     let ended : c.from_residual.result ≡ Err c.in_err-change.field-0.0 = search rules in
     subst (λ (r : Result (Unit {0}) Halt). CameThrough P r (state_view c.change.new.state) None None (g.D.Tables.log c.args.device.now) (g.D.Tables.log c.change.new.device)) (sym ended) (c.in_err-change.ensures.changed None)
 

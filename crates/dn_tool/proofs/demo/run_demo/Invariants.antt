@@ -1,19 +1,17 @@
 use Rattle.std.proofs.Common.{◌≡◌, ◌≤◌, false, map, drop, length}
 use Rattle.dn_base.specs.Outside.{IsCounted}
-use Rattle.dn_tables.specs.Set.{IsOnDevice}
-use Rattle.dn_tool.specs.State.{IsState, state_view}
+use Rattle.dn_tool.specs.State.{IsReadyOn, state_view}
 use Rattle.dn_tool.proofs.Places.{place}
 use Rattle.dn_tool.proofs.Demos.{IsTallied}
 use Rattle.dn_tool.proofs.demo.run_demo.Given as goal
 
 abbrev pub invariant-commands : goal.invariant-commands
 invariant-commands g l = record {
-  behind : l.rest ≡ drop (place l.platform.commands l.rest) l.platform.commands;
-  few_granted : l.granted ≤ place l.platform.commands l.rest;
-  few_revoked : l.revoked ≤ place l.platform.commands l.rest;
-  state : IsState (map (λ k. (goal.UnitKind-dyn g (k.vtable, k.value)).meaning k.value) l.kinds.list.items) l.platform.net l.state;
-  on_device : IsOnDevice l.state.book.set (g.D.Tables.units l.device) (g.D.Tables.words l.device);
-  tallied : IsTallied (map (λ k. (goal.UnitKind-dyn g (k.vtable, k.value)).meaning k.value) l.kinds.list.items) l.platform.net l.platform.commands (place l.platform.commands l.rest) (state_view l.state) (g.D.Tables.log l.fn.device) (g.D.Tables.log l.device) l.granted l.revoked;
+  behind : l.rest ≡ drop (place l.commands l.rest) l.commands;
+  few_granted : l.granted ≤ place l.commands l.rest;
+  few_revoked : l.revoked ≤ place l.commands l.rest;
+  ready : IsReadyOn (λ k. (goal.UnitKind-dyn g k).meaning k.1) l.fn.machine l.state (g.D.Tables.units l.device) (g.D.Tables.words l.device);
+  tallied : IsTallied (map (λ k. (goal.UnitKind-dyn g (k.vtable, k.value)).meaning k.value) l.fn.machine.kinds.now.list.items) l.fn.machine.net.now l.commands (place l.commands l.rest) (state_view l.state) (g.D.Tables.log l.fn.device) (g.D.Tables.log l.device) l.granted l.revoked;
   device_counted : IsCounted (g.D.Tables.faults l.fn.device) (g.D.Tables.faults l.device) false;
 }
 

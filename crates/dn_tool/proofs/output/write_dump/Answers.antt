@@ -2,7 +2,7 @@ use Rattle.std.proofs.Common.{rules, ◌≡◌, ◌∙◌, ◌++◌, [], ap, sym
 use Rattle.dn_base.proofs.Counts.{counted_then}
 use Rattle.dn_print.specs.Dump.{dump_text, heading_text, lines_text}
 use Rattle.dn_print.proofs.Dumped.{one_piece, no_items}
-use Rattle.dn_tool.specs.Halt.{is_write_halt}
+use Rattle.dn_tool.specs.Halt.{is_device_halt, is_write_halt}
 use Rattle.dn_tool.proofs.Written.{begun, ended, gone_on, stopped_before, stopped_in}
 use Rattle.dn_tool.proofs.output.write_dump.Goals as goal
 
@@ -22,7 +22,7 @@ loop-piece-init g c =
     record {
       size = ap (λ i. i.size) is ∙ c.chunks-piece-items.ensures.size;
       so_far = gone_on _ _ _ c.as_bytes.result.now (dump_text c.args.image.now) (lines_text c.into_iter-piece-iterator.result.rest.now) (dump_text c.args.image.now) (begun _ (dump_text c.args.image.now)) (ap (λ (l : List ℕ). l ++ lines_text c.args.image.now) (sym heading) ∙ ap (λ (l : List ℕ). c.as_bytes.result.now ++ lines_text l) (sym rest)) (c.in_ok-write_output.ensures.written.whole refl);
-      counted = c.in_ok-write_output.ensures.counted;
+      counted = c.in_ok-write_output.ensures.halted.counted;
     }
 
 pub returns-in_err-push_lines-clause-written : goal.returns-in_err-push_lines-clause-written
@@ -31,10 +31,11 @@ returns-in_err-push_lines-clause-written g c =
     let failed : is_write_halt c.from_residual-in_err-push_lines.result ≡ false = search rules in
     rw (done, failed) (stopped_before _ _ _ _ c.loop-piece.invariant.so_far)
 
-pub returns-in_err-push_lines-clause-counted : goal.returns-in_err-push_lines-clause-counted
-returns-in_err-push_lines-clause-counted g c =
+pub returns-in_err-push_lines-clause-halted : goal.returns-in_err-push_lines-clause-halted
+returns-in_err-push_lines-clause-halted g c =
     let failed : is_write_halt c.from_residual-in_err-push_lines.result ≡ false = search rules in
-    rw failed c.loop-piece.invariant.counted
+    let no_device : is_device_halt c.from_residual-in_err-push_lines.result ≡ false = search rules in
+    record { no_device = no_device; counted = rw failed c.loop-piece.invariant.counted }
 
 pub loop-piece-preserved : goal.loop-piece-preserved
 loop-piece-preserved g c =
@@ -45,7 +46,7 @@ loop-piece-preserved g c =
     record {
       size = s.0 ∙ c.loop-piece.invariant.size;
       so_far = gone_on _ _ _ c.as_slice.result.now _ (lines_text c.next.new.self.rest.now) _ c.loop-piece.invariant.so_far (next ∙ ap (λ (l : List ℕ). l ++ lines_text c.next.new.self.rest.now) (sym lines)) (c.in_ok-write_output-2.ensures.written.whole refl);
-      counted = counted_then _ _ _ _ c.loop-piece.invariant.counted c.in_ok-write_output-2.ensures.counted;
+      counted = counted_then _ _ _ _ c.loop-piece.invariant.counted c.in_ok-write_output-2.ensures.halted.counted;
     }
 
 pub returns-in_err-write_output-2-clause-written : goal.returns-in_err-write_output-2-clause-written
@@ -59,15 +60,19 @@ returns-in_err-write_output-2-clause-written g c =
     let stop : is_ok c.write_output-in-loop-piece.result ≡ false = search rules in
     rw (done, failed) (stopped_in _ _ _ _ c.as_slice.result.now _ (lines_text c.next.new.self.rest.now) _ c.loop-piece.invariant.so_far (next ∙ ap (λ (l : List ℕ). l ++ lines_text c.next.new.self.rest.now) (sym lines)) (rw stop at c.write_output-in-loop-piece.ensures.written))
 
-pub returns-in_err-write_output-2-clause-counted : goal.returns-in_err-write_output-2-clause-counted
-returns-in_err-write_output-2-clause-counted g c =
+pub returns-in_err-write_output-2-clause-halted : goal.returns-in_err-write_output-2-clause-halted
+returns-in_err-write_output-2-clause-halted g c =
     let failed : is_write_halt c.from_residual-in_err-write_output-2.result ≡ is_write_halt c.write_output-in-loop-piece.result = search rules in
-    rw failed (counted_then _ _ _ _ c.loop-piece.invariant.counted c.write_output-in-loop-piece.ensures.counted)
+    let no_device : is_device_halt c.from_residual-in_err-write_output-2.result ≡ false = search rules in
+    record {
+      no_device = no_device;
+      counted = rw failed (counted_then _ _ _ _ c.loop-piece.invariant.counted c.write_output-in-loop-piece.ensures.halted.counted);
+    }
 
 pub returns-clause-written : goal.returns-clause-written
 returns-clause-written g c =
     let none : c.loop-piece.piece-iterator.rest.now ≡ [] = no_items c.loop-piece.piece-iterator.rest.now c.in-None.ensures.steps.1.0 in
     ended _ _ _ _ c.loop-piece.invariant.so_far (ap lines_text none)
 
-pub returns-clause-counted : goal.returns-clause-counted
-returns-clause-counted g c = c.loop-piece.invariant.counted
+pub returns-clause-halted : goal.returns-clause-halted
+returns-clause-halted g c = record { no_device = refl; counted = c.loop-piece.invariant.counted }

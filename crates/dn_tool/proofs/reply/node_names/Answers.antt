@@ -8,34 +8,27 @@ use Rattle.dn_kind.specs.Tables.{Held, allowing, resolved_names_under}
 use Rattle.dn_kind.proofs.Nodes.{resolved_under_there}
 use Rattle.dn_tables.specs.declared.table.NodeTable.{NodeTable}
 use Rattle.dn_tables.specs.Set.{record_kept}
-use Rattle.dn_book.specs.Tables.{IsKept}
 use Rattle.dn_print.specs.Names.{names_text}
 use Rattle.dn_tool.specs.Found.{names_under}
-use Rattle.dn_tool.proofs.Kept.{legal_with}
 use Rattle.dn_tool.proofs.Seen.{held_same}
 use Rattle.dn_tool.proofs.reply.node_names.Goals as goal
 
-pub resolve-requires-clause-legal : goal.resolve-requires-clause-legal
-resolve-requires-clause-legal g c =
-    let kinds : List Meaning = map (λ k. (goal.UnitKind-dyn g (k.vtable, k.value)).meaning k.value) c.args.kinds.now.list.items in
-    legal_with kinds c.platform.inside.net (rw (← c.platform.view_is) at c.requires.shaped) c.platform.invariant.walked.legal
-
 pub names_of-requires : goal.names_of-requires
 names_of-requires g c =
-    let kinds : List Meaning = map (λ k. (goal.UnitKind-dyn g (k.vtable, k.value)).meaning k.value) c.args.kinds.now.list.items in
-    let net : List NodeDecl = c.platform.inside.net in
+    let kinds : List Meaning = map (λ k. (goal.UnitKind-dyn g (k.vtable, k.value)).meaning k.value) c.args.machine.kinds.now.list.items in
+    let net : List NodeDecl = c.args.machine.net.now in
     let h : Held = allowing c.args.access (record_kept kinds c.tables.result.now) in
     let found : c.list.result.now ≡ resolved_names_under net h c.args.name = c.list.ensures.value ∙ c.in_ok-found.ensures.names in
-    rw (← c.platform.view_is) (subst (λ (l : List Name). IsTrue (are_there (length net) l)) (sym found) (resolved_under_there net h c.args.name))
+    subst (λ (l : List Name). IsTrue (are_there (length net) l)) (sym found) (resolved_under_there net h c.args.name)
 
 pub returns : goal.returns
 returns g c =
-    let kinds : List Meaning = map (λ k. (goal.UnitKind-dyn g (k.vtable, k.value)).meaning k.value) c.args.kinds.now.list.items in
-    let net : List NodeDecl = c.platform.inside.net in
-    let kept : IsKept net kinds c.args.book.now.grants c.args.book.now.set = rw (← c.platform.view_is) at c.requires.kept in
-    let found : c.list.result.now ≡ names_under net c.args.book.now.grants c.args.access c.args.name =
+    let kinds : List Meaning = map (λ k. (goal.UnitKind-dyn g (k.vtable, k.value)).meaning k.value) c.args.machine.kinds.now.list.items in
+    let net : List NodeDecl = c.args.machine.net.now in
+    let book = c.args.state.now.book in
+    let found : c.list.result.now ≡ names_under net book.grants c.args.access c.args.name =
     c.list.ensures.value
     ∙ c.in_ok-found.ensures.names
     ∙ ap (λ (s : List NodeTable). resolved_names_under net (allowing c.args.access (record_kept kinds s)) c.args.name) c.tables.ensures
-    ∙ ap (λ (h : Held). resolved_names_under net h c.args.name) (held_same net c.args.book.now.grants c.args.access (record_kept kinds c.args.book.now.set) kept.held) in
-    rw (← c.platform.view_is) (subst (λ (l : List Name). IfOk c.names_of.result (λ s. string_bytes s ≡ names_text net l)) found (rw (← c.platform.view_is) at c.names_of.ensures))
+    ∙ ap (λ (h : Held). resolved_names_under net h c.args.name) (held_same net book.grants c.args.access (record_kept kinds book.set) c.requires.ready.state.kept.held) in
+    subst (λ (l : List Name). IfOk c.names_of.result (λ s. string_bytes s ≡ names_text net l)) found c.names_of.ensures

@@ -5,13 +5,13 @@ use Rattle.dn_kind.specs.Kind.{Meaning}
 use Rattle.dn_kind.specs.Units.{has_kind}
 use Rattle.dn_shape.specs.Split.{split_outcome}
 use Rattle.dn_tool.proofs.Reshaped.{split_known}
-use Rattle.dn_tool.proofs.Shaped.{kinds_there}
+use Rattle.dn_tool.proofs.Shaped.{kinds_fit}
 use Rattle.dn_tool.proofs.reshape.split_reply.Goals as goal
 
 pub made_reply-requires-clause-known : goal.made_reply-requires-clause-known
 made_reply-requires-clause-known g c =
-    let kinds : List Meaning = map (λ k. (goal.UnitKind-dyn g (k.vtable, k.value)).meaning k.value) c.args.kinds.now.list.items in
-    let net = c.platform.inside.net in
-    let there = kinds_there kinds net (rw (← c.platform.view_is) at c.requires.shaped) in
+    let kinds : List Meaning = map (λ k. (goal.UnitKind-dyn g (k.vtable, k.value)).meaning k.value) c.args.machine.kinds.now.list.items in
+    let net = c.args.machine.net.now in
+    let there = kinds_fit kinds net c.requires.machine.legal.shaped in
     let made : split_outcome net ≡ Ok c.in-Ok.made = search rules in
-    subst (λ (n : ℕ). IsTrue (list_all (λ d. has_kind n d.unit) c.in-Ok.made)) (length-map c.args.kinds.now.list.items _) (split_known (length kinds) net c.in-Ok.made there made)
+    subst (λ (n : ℕ). IsTrue (list_all (λ d. has_kind n d.unit) c.in-Ok.made)) (length-map c.args.machine.kinds.now.list.items _) (split_known (length kinds) net c.in-Ok.made there made)

@@ -1,20 +1,18 @@
 use Rattle.std.proofs.Common.{◌≡◌, IsTrue, false, map, drop, length}
 use Rattle.std.specs.List.{list_all}
 use Rattle.dn_base.specs.Outside.{IsCounted}
-use Rattle.dn_tables.specs.Set.{IsOnDevice}
 use Rattle.dn_module.specs.Commands.{names_within}
-use Rattle.dn_tool.specs.State.{IsState, state_view}
+use Rattle.dn_tool.specs.State.{IsReadyOn, state_view}
 use Rattle.dn_tool.proofs.Places.{place}
 use Rattle.dn_tool.proofs.Played.{IsGone}
 use Rattle.dn_tool.proofs.script.run_script.Given as goal
 
 abbrev pub invariant-commands : goal.invariant-commands
 invariant-commands g l = record {
-  behind : l.rest ≡ drop (place l.platform.commands l.rest) l.platform.commands;
-  known : IsTrue (list_all (names_within (length l.platform.net)) l.rest);
-  state : IsState (map (λ k. (goal.UnitKind-dyn g (k.vtable, k.value)).meaning k.value) l.kinds.list.items) l.platform.net l.state;
-  on_device : IsOnDevice l.state.book.set (g.D.Tables.units l.device) (g.D.Tables.words l.device);
-  gone : IsGone (map (λ k. (goal.UnitKind-dyn g (k.vtable, k.value)).meaning k.value) l.kinds.list.items) l.platform.net l.platform.commands (place l.platform.commands l.rest) (state_view l.state) (g.K.Sink.written l.fn.sink) (g.K.Sink.written l.sink) (g.D.Tables.log l.fn.device) (g.D.Tables.log l.device);
+  behind : l.rest ≡ drop (place l.commands l.rest) l.commands;
+  known : IsTrue (list_all (names_within (length l.fn.machine.net.now)) l.rest);
+  ready : IsReadyOn (λ k. (goal.UnitKind-dyn g k).meaning k.1) l.fn.machine l.state (g.D.Tables.units l.device) (g.D.Tables.words l.device);
+  gone : IsGone (map (λ k. (goal.UnitKind-dyn g (k.vtable, k.value)).meaning k.value) l.fn.machine.kinds.now.list.items) l.fn.machine.net.now l.commands (place l.commands l.rest) (state_view l.state) (g.K.Sink.written l.fn.sink) (g.K.Sink.written l.sink) (g.D.Tables.log l.fn.device) (g.D.Tables.log l.device);
   sink_counted : IsCounted (g.K.Sink.faults l.fn.sink) (g.K.Sink.faults l.sink) false;
   device_counted : IsCounted (g.D.Tables.faults l.fn.device) (g.D.Tables.faults l.device) false;
 }
