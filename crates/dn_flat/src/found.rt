@@ -5,7 +5,7 @@ ghost use Rattle.std.specs.List.{All, list_all};
 ghost use Rattle.dn_interval.specs.declared.span.TheConstants.{TOP};
 ghost use Rattle.dn_interval.specs.Onward.{seg_goes, row_goes, rows_go, gives_by};
 ghost use Rattle.dn_interval.specs.Rows.{AreNormal, SegmentsGive, EndsFit, ends_within};
-ghost use Rattle.dn_flat.specs.Added.{Adds};
+ghost use Rattle.dn_flat.specs.Added.{FindsMore};
 
 use crate::flat::Flat;
 use crate::reach::Reach;
@@ -59,7 +59,7 @@ pub(crate) fn whole(node: u16) -> Seg
 pub(crate) fn push_rows(found: &mut Found, nodes: &[Reach], rows: &Rows) -> Result<(), OutOfMemory>
     requires there { IsTrue (ends_within (length nodes.now) rows.now) }
     ensures adds { OnOk result
-        (Adds found.old found.new (λ by. rows_go (gives_by by nodes.now) rows.now)) }
+        (FindsMore found.old found.new (λ by. rows_go (gives_by by nodes.now) rows.now)) }
     // Each name that the rows give is at or below the last address.
     ensures fit { OnOk result (All EndsFit rows.now) }
 {
@@ -75,7 +75,7 @@ fn push_row(found: &mut Found, nodes: &[Reach], row: &Row) -> Result<(), OutOfMe
     requires there { IsTrue (list_all (λ e. nat_lt e.node (length nodes.now)) row.now.ends) }
     requires fit { EndsFit row.now }
     ensures { OnOk result
-        (Adds found.old found.new (λ by. row_goes (gives_by by nodes.now) row.now)) }
+        (FindsMore found.old found.new (λ by. row_goes (gives_by by nodes.now) row.now)) }
 {
     let span = row.span();
     let ends = row.ends();
@@ -92,7 +92,7 @@ fn push_row(found: &mut Found, nodes: &[Reach], row: &Row) -> Result<(), OutOfMe
 
 /// Adds what the addresses of a segment come to, by what its node comes to.
 fn push(found: &mut Found, reach: &Reach, seg: Seg) -> Result<(), OutOfMemory>
-    ensures { OnOk result (Adds found.old found.new (λ by. seg_goes (by reach.now) seg)) }
+    ensures { OnOk result (FindsMore found.old found.new (λ by. seg_goes (by reach.now) seg)) }
 {
     follow(&mut found.accepts, seg, &reach.done.accepts)?;
     follow(&mut found.stops, seg, &reach.done.stops)?;
