@@ -1,3 +1,4 @@
+pub mod Added
 pub mod Firsts
 pub mod Shared
 pub mod Stages
