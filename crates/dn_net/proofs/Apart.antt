@@ -1,5 +1,5 @@
 -- What the node rules say of the blocks of one node.
-use Rattle.std.proofs.Common.{◌≡◌, ℕ, zero, suc, ◌+◌, ◌-◌, ◌≤◌, Bool, true, false, if◌then◌else◌, nat_le, nat_lt, List, [], ◌∷◌, Some, refl, sym, ap, ◌∙◌, arith, IsTrue, leb-true, true≢false, slice_get}
+use Rattle.std.proofs.Common.{◌≡◌, ℕ, zero, suc, ◌+◌, ◌-◌, ◌≤◌, Bool, true, false, if◌then◌else◌, nat_le, nat_lt, List, [], ◌∷◌, Option, Some, refl, sym, ap, ◌∙◌, arith, IsTrue, leb-true, true≢false, slice_get}
 use Rattle.std.proofs.lemmas.Bool.{lt-ltb}
 use Rattle.std.specs.List.{All, list_all}
 use Rattle.dn_net.specs.declared.node.Dest.{Dest}
