@@ -21,7 +21,7 @@ lawful kind least most width back shut rights = record { least = least; most = m
 
 -- a kind of one word keeps the laws, by what is said of the word
 module _ (name : List ℕ) (fits : Shape → Bool) (word : Shape → Record → ℕ) (spelled : ℕ → Option Record) where
-  kind : Meaning
+  abbrev kind : Meaning
   kind = record { name = name; words = 1; fits = fits; pack = λ shape r. word shape r ∷ []; unpack = unpack_word spelled }
 
   pub word_is_lawful : ((shape : Shape) (r : Record) → IsPackable kind shape r → spelled (word shape r) ≡ Some r) → ((w : ℕ) → w % 2 ≡ 0 → spelled w ≡ None) → ((w : ℕ) (r : Record) → spelled w ≡ Some r → IsTrue (are_rights r.rights)) → IsLawful kind
