@@ -27,7 +27,7 @@ use dn_base::device::{MakeFault, Tables};
 use dn_kind::kinds::Kinds;
 use dn_net::net::Net;
 use dn_tables::set::TableSet;
-use std::alloc::{AllocError, Global};
+use std::alloc::Global;
 use std::marker::Model;
 use thiserror::Error;
 
@@ -40,14 +40,6 @@ pub enum CommitFault {
     /// There was no memory for the grant.
     #[error("OutOfMemory")]
     OutOfMemory,
-}
-
-impl From<AllocError> for CommitFault {
-    ghost from_gives = { λ _ e. e ≡ no_memory };
-
-    fn from(_e: AllocError) -> CommitFault {
-        CommitFault::OutOfMemory
-    }
 }
 
 /// Why a grant is not revoked.
@@ -199,7 +191,9 @@ impl Book {
             (is_commit_fault result) }
     {
         let id = grant.id;
-        self.grants.push(grant)?;
+        let Ok(()) = self.grants.push(grant) else {
+            return Err(CommitFault::OutOfMemory);
+        };
         let Some(live) = self.grants.get(id) else {
             unreachable!()
         };

@@ -87,7 +87,7 @@ fn reading(alloc: Global, net: &Net, kinds: &Kinds, bytes: &[u8]) -> Result<Imag
         bytes.now) }
 {
     let version = check(net, kinds, bytes)?;
-    let words = read_words(alloc, net, kinds, bytes)?;
+    let words = read_words(alloc, net, kinds, bytes).or(Err(ImageFault::OutOfMemory))?;
     Ok(Image { version, words })
 }
 

@@ -152,7 +152,7 @@ fn take<'a, 't>(
             let scope = &stack.inner.scope;
             let (args, prefix) = (args.as_slice(), prefix.as_slice());
             let inner = used(alloc, &mut made.interner, scope, *line, found, args, prefix)?;
-            stack.enter(inner)
+            Ok(stack.enter(inner)?)
         }
         Stmt::Loop {
             line,

@@ -1,16 +1,14 @@
 //! What is still to be done while a tree is expanded.
 
-ghost use Rattle.std.specs.Prelude.{◌≡◌, ◌∷◌, [], ◌++◌, IfSome, IfNone, IfErr, OnOk, OnErr, None};
+ghost use Rattle.std.specs.Prelude.{◌≡◌, ◌∷◌, [], ◌++◌, IfSome, IfNone, OnOk, OnErr, None};
 ghost use Rattle.dn_module.specs.Expand.{Visibility, outside, statements};
 ghost use Rattle.dn_module.specs.Replace.{Replacement, in_items};
 ghost use Rattle.dn_module.specs.Stack.{visibility_view, body_view, rest_works, first_works, turns_works, turn_works, after_works, use_works, stack_works, work_view};
-ghost use Rattle.dn_module.specs.declared.fault.ExpandFault.TheVariants.{OutOfMemory as no_memory};
 
-use crate::fault::ExpandFault;
 use crate::modules::Visible;
 use crate::scope::Scope;
 use dn_parse::syntax::Stmt;
-use std::alloc::Global;
+use std::alloc::{AllocError, Global};
 use std::mem;
 
 /// The turns of a loop that are left: from one number to another, which is no less.
@@ -104,9 +102,8 @@ impl<'a, 't> Use<'a, 't> {
     }
 
     /// Goes into the turn of a loop that is next in the innermost body. For want of memory the use is unchanged.
-    pub fn enter_turn(&mut self, turns: Turns<'a, 't>) -> Result<(), ExpandFault>
+    pub fn enter_turn(&mut self, turns: Turns<'a, 't>) -> Result<(), AllocError>
         requires free { self.old.inner.turns ≡ None }
-        ensures err { IfErr result (λ e. e ≡ no_memory) }
         ensures unchanged { OnErr result (use_works self.new ≡ use_works self.old) }
         ensures entered { OnOk result (use_works self.new ≡ turn_works
             (visibility_view self.old.visible) self.old.scope turns.entry ++ use_works self.old) }
@@ -156,8 +153,7 @@ impl<'a, 't> Stack<'a, 't> {
     }
 
     /// Goes into a use. For want of memory the stack is unchanged.
-    pub fn enter(&mut self, inner: Use<'a, 't>) -> Result<(), ExpandFault>
-        ensures err { IfErr result (λ e. e ≡ no_memory) }
+    pub fn enter(&mut self, inner: Use<'a, 't>) -> Result<(), AllocError>
         ensures unchanged { OnErr result (stack_works self.new ≡ stack_works self.old) }
         ensures entered { OnOk result (stack_works self.new ≡ use_works inner.entry ++ stack_works
             self.old) }

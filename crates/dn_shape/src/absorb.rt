@@ -44,7 +44,7 @@ pub fn absorb(alloc: Global, net: &Net, node: u16) -> Result<Net, AbsorbFault>
     if let Some(why) = why_not(net, node) {
         return Err(AbsorbFault::NotAbsorbable { why });
     }
-    let made = net_past(alloc, net, node)?;
+    let made = net_past(alloc, net, node).or(Err(AbsorbFault::OutOfMemory))?;
     match passed_limit(&made) {
         Some(limit) => Err(AbsorbFault::TooMany { limit }),
         None => Ok(made),

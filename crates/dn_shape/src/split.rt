@@ -38,8 +38,8 @@ pub fn split(alloc: Global, net: &Net) -> Result<Net, SplitFault>
             limit: MAX_NODES as u32,
         });
     }
-    let mut made = sending_nodes(alloc, net)?;
-    add_accepters(alloc, net, &mut made)?;
+    let mut made = sending_nodes(alloc, net).or(Err(SplitFault::OutOfMemory))?;
+    add_accepters(alloc, net, &mut made).or(Err(SplitFault::OutOfMemory))?;
     match passed_limit(&made) {
         Some(limit) => Err(SplitFault::TooMany { limit }),
         None => Ok(made),

@@ -73,7 +73,7 @@ impl TableSet {
         ensures counted { IsCounted (D.faults device.old)
             (D.faults device.new) (is_make_fault result) }
     {
-        let set = fresh(alloc, net, kinds)?;
+        let set = fresh(alloc, net, kinds).or(Err(MakeFault::OutOfMemory))?;
         make_units(set.nodes.as_slice(), device)?;
         Ok(set)
     }

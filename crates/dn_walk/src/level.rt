@@ -61,7 +61,8 @@ impl Levels {
             room,
         } = self;
         let next = extended(alloc, legs, &newest, room)?;
-        sorted.push(in_order(newest)?)?;
+        let level = in_order(newest)?;
+        sorted.push(level).or(Err(WalkFault::OutOfMemory))?;
         let room = room - next.len();
         Ok(Levels {
             sorted,

@@ -162,7 +162,9 @@ fn checked_rows(alloc: Global, net: &Net, levels: Levels) -> Result<Vec<Items<Wa
     let rows = table_rows(alloc, levels)?;
     check_units(alloc, net, &rows, &units)?;
     let mut pieces = Vec::new(alloc);
-    pieces.push(Items::from_vec(rows))?;
+    pieces
+        .push(Items::from_vec(rows))
+        .or(Err(WalkFault::OutOfMemory))?;
     Ok(pieces)
 }
 

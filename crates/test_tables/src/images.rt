@@ -123,7 +123,10 @@ pub fn said(
     if node >= net.nodes() {
         return Ok(None);
     }
-    let words = image.words(node).to_vec(alloc)?;
+    let words = image
+        .words(node)
+        .to_vec(alloc)
+        .or(Err(ImageFault::OutOfMemory))?;
     Ok(Some((image.version(), words)))
 }
 
