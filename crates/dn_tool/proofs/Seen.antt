@@ -58,3 +58,8 @@ rows_are_owed net book access n h rows faithful agent same normal =
 pub seen_is_owed : (net : List NodeDecl) (kinds : List Meaning) (k : Kept) (access : Access) (n : ℕ) (rows : List Row) (P : List Seen → Type 0) → IsState kinds net k → IsTrue (is_agent_at (slice_get net n)) → AreViewed net (allowing access (record_kept kinds k.book.set)) n rows → P (map seen_by rows) → P (owed_rows net k.book.grants access n)
 seen_is_owed net kinds k access n rows P state agent normal p =
     subst P (rows_are_owed net k.book.grants access n (record_kept kinds k.book.set) rows state.faithful agent state.kept.held normal) p
+
+-- the same of what it sees under any tables
+pub fixed_is_owed : (net : List NodeDecl) (kinds : List Meaning) (k : Kept) (access : Access) (n : ℕ) (rows : List Row) (P : List Seen → Type 0) → IsState kinds net k → IsTrue (is_agent_at (slice_get net n)) → ((h : Held) → AreViewed net h n rows) → P (map seen_by rows) → P (owed_rows net k.book.grants access n)
+fixed_is_owed net kinds k access n rows P state agent fixed p =
+    seen_is_owed net kinds k access n rows P state agent (fixed (allowing access (record_kept kinds k.book.set))) p

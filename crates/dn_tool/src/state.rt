@@ -12,7 +12,7 @@ ghost use Rattle.dn_walk.specs.Rows.{AreWalksOf};
 ghost use Rattle.dn_book.specs.Book.{IsFaithful};
 ghost use Rattle.dn_book.specs.Tables.{IsKept};
 ghost use Rattle.dn_tool.specs.Machine.{IsMachine, kinds_of};
-ghost use Rattle.dn_tool.specs.State.{IsFirst, IsFirstOf, IsReadyOn, IsStill, state_view};
+ghost use Rattle.dn_tool.specs.State.{IsFirst, IsReadyOn, IsStill, state_view};
 ghost use Rattle.dn_tool.specs.Turn.{start};
 
 use crate::ids::Ids;
@@ -112,7 +112,7 @@ pub fn keep_image(
     Ok(())
 }
 
-/// Makes what an agent sees, where none was asked for before. `Err` is want of memory.
+/// Makes what an agent sees, where no view of an agent was asked for before. `Err` is want of memory.
 pub fn keep_first(
     alloc: Global,
     machine: Machine,
@@ -121,10 +121,8 @@ pub fn keep_first(
 ) -> Result<(), AllocError>
     requires walked { AreWalksOf machine.net.now machine.walks.now }
     requires first { IfSome first.old (IsFirst machine.net.now) }
-    requires same { IfSome first.old (λ f. f.agent ≡ agent) }
     requires there { agent < length machine.net.now }
     ensures first { IfSome first.new (IsFirst machine.entry.net.now) }
-    ensures made { OnOk result (IsFirstOf agent first.new) }
 {
     if first.is_some() {
         return Ok(());
