@@ -5,13 +5,14 @@ ghost use Rattle.dn_parse.specs.Tree.{Item};
 ghost use Rattle.dn_parse.specs.Whole.{no_blocks_yet, closed_block, with_item, with_frame, with_begin, without_frame, outside_blocks, opens_module, before_begin};
 ghost use Rattle.dn_parse.specs.Views.{item_view, param_view, statement_view, opener_view, blocks_view};
 ghost use Rattle.dn_base.specs.Answers.{Answers};
+ghost use Rattle.dn_parse.specs.declared.blocks.Misplaced.TheVariants.{OutOfMemory as no_memory};
 ghost use Rattle.dn_parse.specs.Faults.{misplaced_view};
 
 use crate::cursor::Halt;
 use crate::statements::Statement;
 use crate::syntax::{Body, Expr, Param, Stmt};
 use dn_base::items::Items;
-use std::alloc::{AllocError, AllocFailed, Global};
+use std::alloc::{AllocFailed, Global};
 use std::mem;
 
 /// What opens a block.
@@ -58,21 +59,7 @@ pub enum Misplaced {
     OutOfMemory,
 }
 
-impl From<AllocError> for Misplaced {
-    ghost use Rattle.std.specs.Prelude.{◌≡◌};
-    ghost use Rattle.dn_parse.specs.declared.blocks.Misplaced.TheVariants.{OutOfMemory as no_memory};
-
-    ghost from_gives = { λ _ e. e ≡ no_memory };
-
-    fn from(_error: AllocError) -> Misplaced {
-        Misplaced::OutOfMemory
-    }
-}
-
 impl<T: Drop> From<AllocFailed<T>> for Misplaced {
-    ghost use Rattle.std.specs.Prelude.{◌≡◌};
-    ghost use Rattle.dn_parse.specs.declared.blocks.Misplaced.TheVariants.{OutOfMemory as no_memory};
-
     ghost from_gives = { λ _ e. e ≡ no_memory };
 
     fn from(_error: AllocFailed<T>) -> Misplaced {
@@ -138,7 +125,7 @@ fn closed_block<'a>(
     line: u32,
     opener: Opener<'a>,
     body: Body<'a>,
-) -> Result<Stmt<'a>, AllocError>
+) -> Result<Stmt<'a>, Misplaced>
     ensures { IfOk result (λ s. (before : List Item) → item_view s ≡
         closed_block (record
         { line = line; opener = opener_view opener.entry; before = before })
