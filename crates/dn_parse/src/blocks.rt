@@ -83,7 +83,7 @@ fn closed_block<'a>(
     line: u32,
     opener: Opener<'a>,
     body: Body<'a>,
-) -> Result<Stmt<'a>, Misplaced>
+) -> Result<Stmt<'a>, AllocFailed<Expr<'a>>>
     ensures { IfOk result (λ s. (before : List Item) → item_view s ≡
         closed_block (record
         { line = line; opener = opener_view opener.entry; before = before })

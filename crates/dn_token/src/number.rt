@@ -56,11 +56,10 @@ fn spelled(radix: Radix, digits: &[u8]) -> Option<u64>
     if digits.is_empty() {
         return None;
     }
-    let base = base_of(radix);
     let mut number: u64 = 0;
     for digit in digits {
         number = number
-            .checked_mul(base)?
+            .checked_mul(base_of(radix))?
             .checked_add(value_of(radix, *digit)?)?;
     }
     Some(number)
