@@ -8,7 +8,6 @@ ghost use Rattle.dn_token.specs.Words.{spelling};
 use crate::token::Keyword;
 
 /// The reserved word that a word is, if it is one.
-#[tactic(auto, using(crate::proofs::Words::by_length))]
 pub fn keyword_of(word: &str) -> Option<Keyword>
     ensures { result ≡ reserved_word word.now }
 {
