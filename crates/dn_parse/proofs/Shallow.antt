@@ -10,8 +10,8 @@ use Rattle.dn_parse.specs.Machine.{Fed, on, over, stuck, feed, Stop, whole, refu
 use Rattle.dn_parse.specs.Laws.{IsDeep, IsShallow, open_parentheses}
 use Rattle.dn_parse.proofs.Counted.{opened, counts_agree}
 use Rattle.dn_parse.proofs.Taken.{Deep, SaysAll, says_all, deep_is_closed}
-use Rattle.dn_parse.proofs.Sets.{both_left, both_right}
-use Rattle.dn_parse.proofs.Reach.{count, semicolon_told, parenthesis_told}
+use Rattle.dn_parse.proofs.Sets.{both_left, both_right, sign_told}
+use Rattle.dn_parse.proofs.Reach.{count}
 use Rattle.dn_parse.proofs.Final.{Within, within, final, deep_is_first}
 use Rattle.dn_parse.proofs.Whole.{spelled_is_read}
 
