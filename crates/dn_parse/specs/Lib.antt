@@ -8,6 +8,7 @@ pub mod Machine
 pub mod Whole
 pub mod Laws
 pub mod Descent
+pub mod Rows
 pub mod Commands
 pub mod Plain
 pub mod Script

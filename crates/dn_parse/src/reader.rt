@@ -11,7 +11,7 @@ ghost use Rattle.dn_parse.specs.Script.{script_view};
 ghost use Rattle.dn_base.specs.Answers.{Answers};
 ghost use Rattle.dn_parse.specs.Faults.{parse_fault_view, halt_fault, misplaced_fault, trouble_view, IsShorter};
 
-use crate::blocks::{Blocks, Misplaced, Trouble, none, put_statement};
+use crate::blocks::{Blocks, Misplaced, Trouble};
 use crate::cursor::{Halt, first_line};
 use crate::script::Script;
 use crate::statements::whole_statement;
@@ -146,7 +146,7 @@ fn put_next<'a>(
 {
     match whole_statement(alloc, tokens) {
         Err(halt) => Err(Trouble::Halted(halt)),
-        Ok(statement) => match put_statement(alloc, blocks, line, statement) {
+        Ok(statement) => match blocks.put(alloc, line, statement) {
             Ok(()) => Ok(()),
             Err(misplaced) => Err(Trouble::Misplaced(misplaced, line)),
         },
@@ -163,7 +163,7 @@ fn blocks_before<'a>(alloc: Global, tokens: &mut Cursor<'a>) -> Result<Blocks<'a
         IfSome (trouble_view e last all)
         (λ f. judge last all no_blocks_yet (cursor_view tokens.old) ≡ Err f)) }
 {
-    let mut blocks = none(alloc);
+    let mut blocks = Blocks::none(alloc);
     'statements: while !blocks.begun {
         let Some(line) = first_line(tokens) else {
             return Ok(blocks);

@@ -7,13 +7,14 @@ ghost use Rattle.dn_token.specs.Lexing.{begins_comment, front_of, sign_front_of,
 ghost use Rattle.dn_token.specs.Going.{tokens_of};
 ghost use Rattle.dn_token.specs.Ahead.{first_and_rest};
 ghost use Rattle.dn_base.specs.Answers.{Answers};
+ghost use Rattle.dn_token.specs.declared.lexer.TokenFault.TheVariants.{OutOfMemory as no_memory};
 ghost use Rattle.dn_token.specs.Faults.{token_fault_view};
 
 use crate::cursor::Cursor;
 use crate::keyword::keyword_of;
 use crate::number::number_of;
 use crate::token::{Lexeme, Sign, Token};
-use std::alloc::{AllocError, AllocFailed, Global};
+use std::alloc::{AllocFailed, Global};
 use thiserror::Error;
 
 /// Why a text has no list of tokens.
@@ -27,21 +28,7 @@ pub enum TokenFault {
     OutOfMemory,
 }
 
-impl From<AllocError> for TokenFault {
-    ghost use Rattle.std.specs.Prelude.{◌≡◌};
-    ghost use Rattle.dn_token.specs.declared.lexer.TokenFault.TheVariants.{OutOfMemory as no_memory};
-
-    ghost from_gives = { λ _ e. e ≡ no_memory };
-
-    fn from(_error: AllocError) -> TokenFault {
-        TokenFault::OutOfMemory
-    }
-}
-
 impl<T: Drop> From<AllocFailed<T>> for TokenFault {
-    ghost use Rattle.std.specs.Prelude.{◌≡◌};
-    ghost use Rattle.dn_token.specs.declared.lexer.TokenFault.TheVariants.{OutOfMemory as no_memory};
-
     ghost from_gives = { λ _ e. e ≡ no_memory };
 
     fn from(_error: AllocFailed<T>) -> TokenFault {

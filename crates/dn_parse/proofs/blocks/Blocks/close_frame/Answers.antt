@@ -5,11 +5,11 @@ use Rattle.dn_parse.specs.Tree.{Item}
 use Rattle.dn_parse.specs.Whole.{closed_block}
 use Rattle.dn_parse.specs.Views.{frame_view, item_view, blocks_view}
 use Rattle.dn_parse.proofs.Judge.{without_last}
-use Rattle.dn_parse.proofs.blocks.close_frame.Goals as goal
+use Rattle.dn_parse.proofs.blocks.Blocks.close_frame.Goals as goal
 
 pub returns : goal.returns
 returns c =
-    let at = c.args.blocks.now in
+    let at = c.args.self.now in
     let f = c.in-Some.frame in
     let frames : at.frames.items ≡ c.pop.new.self.items ++ f ∷ [] = c.pop.ensures.items ∙ ap (λ o. c.pop.new.self.items ++ option_to_list o) c.in-Some.is in
     let inside : c.replace-body.result.items ≡ at.body.items = search rules in
