@@ -9,7 +9,7 @@ use Rattle.dn_module.specs.Values.{value, part_text, after_dots, full_name}
 use Rattle.dn_print.specs.Names.{address_text}
 use Rattle.dn_print.proofs.Titles.{Title, Label, label_by, label_text, IsSmall, IsLabel, AreLabels, IsFull}
 use Rattle.dn_print.proofs.Lexes.{word_token, number_token, sign_token, Closed, Quiet, closed_then, open_then, word_closed, decimal_closed, address_closed, bracket_open, close_open, dot_closed, as_closed}
-use Rattle.dn_print.proofs.Shown.{Shown, Row, row_none, row_cons, first_shown}
+use Rattle.dn_print.proofs.Shown.{Shown, Row, row_none, row_cons, both_shown, first_shown}
 
 -- what may follow a number
 abbrev pub NumberEnd : List Token → Type 0

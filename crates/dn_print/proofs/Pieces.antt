@@ -129,19 +129,19 @@ and_mark line = record {
 }
 
 -- each item is so, and passes a test
-pub each_passes : {X : Type 0} {P : X → Type 0} (test : X → Bool) (xs : List X) → Each P xs → IsTrue (list_all test xs) → Each (λ x. P x × IsTrue (test x)) xs
-each_passes test [] h k = tt
-each_passes test (x ∷ xs) h k =
+pub each_passes : {X : Type 0} (P : X → Type 0) (test : X → Bool) (xs : List X) → Each P xs → IsTrue (list_all test xs) → Each (λ x. P x × IsTrue (test x)) xs
+each_passes P test [] h k = tt
+each_passes P test (x ∷ xs) h k =
     let ks = and_parts (test x) (list_all test xs) k in
-    ((h.0, ks.0), each_passes test xs h.1 ks.1)
+    ((h.0, ks.0), each_passes P test xs h.1 ks.1)
 
 dests_shown : (net : List NodeDecl) (known : List (List ℕ)) → Named net known → (line lo : ℕ) (ds : List DraftDest) → Each GoodDest ds → 1 ≤ length ds → length ds ≤ 8 → IsTrue (dests_known known ds) → Shown line (dests_text net (map (dest_in known) ds)) dests_at EntryEnd (each (dest_of lo)) ds
 unfolding dests_at
 dests_shown net known named line lo [] h some few k = absurd (omega (arith, some))
 dests_shown net known named line lo (d ∷ ds) h some few k =
-    let all = each_passes (λ (e : DraftDest). is_known known e.to) (d ∷ ds) h k in
+    let all = each_passes GoodDest (λ (e : DraftDest). is_known known e.to) (d ∷ ds) h k in
     let one = λ (e : DraftDest) (g : GoodDest e × IsTrue (is_known known e.to)). dest_shown net known named line lo e g.0 g.1 in
-    most_shown 7 (omega (arith, few)) (one d all.0) (row_shown (and_mark line) (λ e. GoodDest e × IsTrue (is_known known e.to)) (λ e. dest_text net (dest_in known e)) (λ es. marked (codes " and ") (dest_text net) (map (dest_in known) es)) refl (λ e es. refl) one ds all.1)
+    most_shown 7 (omega (arith, few)) (one d all.0) (row_shown (and_mark line) (λ (e : DraftDest). GoodDest e × IsTrue (is_known known e.to)) (λ (e : DraftDest). dest_text net (dest_in known e)) (λ (es : List DraftDest). marked (codes " and ") (dest_text net) (map (dest_in known) es)) refl (λ e es. refl) one ds all.1)
 
 -- an entry
 to_quiet : (t : List ℕ) → Quiet (codes " to " ++ t)
@@ -182,6 +182,6 @@ entries_known known es = list_all (λ e. dests_known known e.dests) es
 pub entries_shown : (net : List NodeDecl) (known : List (List ℕ)) → Named net known → (line : ℕ) (e : DraftEntry) (es : List DraftEntry) → Each GoodEntry (e ∷ es) → IsTrue (entries_known known (e ∷ es)) → Shown line (entries_text net (map (entry_in known) (e ∷ es))) entries_at EntriesEnd (each entry_of) (e ∷ es)
 unfolding entries_at next_entry_at
 entries_shown net known named line e es h k =
-    let all = each_passes (λ (x : DraftEntry). dests_known known x.dests) (e ∷ es) h k in
+    let all = each_passes GoodEntry (λ (x : DraftEntry). dests_known known x.dests) (e ∷ es) h k in
     let one = λ (x : DraftEntry) (g : GoodEntry x × IsTrue (dests_known known x.dests)). entry_shown net known named line x g.0 g.1 in
-    first_shown (one e all.0) (row_shown (comma_mark line entry_at EntryEnd (comma_ends_entry line)) (λ x. GoodEntry x × IsTrue (dests_known known x.dests)) (λ x. entry_text net (entry_in known x)) (λ xs. marked (codes ", ") (entry_text net) (map (entry_in known) xs)) refl (λ x xs. refl) one es all.1)
+    first_shown (one e all.0) (row_shown (comma_mark line entry_at EntryEnd (comma_ends_entry line)) (λ (x : DraftEntry). GoodEntry x × IsTrue (dests_known known x.dests)) (λ (x : DraftEntry). entry_text net (entry_in known x)) (λ (xs : List DraftEntry). marked (codes ", ") (entry_text net) (map (entry_in known) xs)) refl (λ x xs. refl) one es all.1)

@@ -49,9 +49,9 @@ ports_shown : (net : List NodeDecl) (known : List (List ℕ)) → Named net know
 unfolding ports_at next_port_at
 ports_shown net known named line [] h some few k = absurd (omega (arith, some))
 ports_shown net known named line (t ∷ ts) h some few k =
-    let all = each_passes (is_known known) (t ∷ ts) h k in
+    let all = each_passes IsFull (is_known known) (t ∷ ts) h k in
     let one = λ (u : List ℕ) (g : IsFull u × IsTrue (is_known known u)). port_shown net known named line u g.0 g.1 in
-    most_shown 7 (omega (arith, few)) (one t all.0) (row_shown (comma_mark line (name_at 32) NameEnd (comma_ends_name line)) (λ u. IsFull u × IsTrue (is_known known u)) (λ u. node_name net (number_of known u)) (λ us. marked (codes ", ") (node_name net) (map (number_of known) us)) refl (λ u us. refl) one ts all.1)
+    most_shown 7 (omega (arith, few)) (one t all.0) (row_shown (comma_mark line (name_at 32) NameEnd (comma_ends_name line)) (λ (u : List ℕ). IsFull u × IsTrue (is_known known u)) (λ (u : List ℕ). node_name net (number_of known u)) (λ (us : List (List ℕ)). marked (codes ", ") (node_name net) (map (number_of known) us)) refl (λ u us. refl) one ts all.1)
 
 -- the word of a kind
 abbrev kind_token : ℕ → List ℕ → Token
