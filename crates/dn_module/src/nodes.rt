@@ -227,12 +227,12 @@ fn blocks(alloc: Global, scope: &Scope, ranges: &[BlockExpr]) -> Result<Items<Bl
     ensures { Answers (λ x. x) name_fault_view result
         (each block_of (map (in_block scope.now.numbers) (map block_view ranges.now))) }
 {
-    let mut made = Vec::with_capacity(alloc, ranges.len())?;
+    let mut made = Items::from_vec(Vec::with_capacity(alloc, ranges.len())?);
     for range in ranges {
         let block = block(scope, range)?;
         made.push(block)?;
     }
-    Ok(Items::from_vec(made))
+    Ok(made)
 }
 
 /// A destination of a block with this first address, which is its own where none is given.
@@ -261,12 +261,12 @@ fn dests(
     ensures { Answers (λ x. x) name_fault_view result
         (each (dest_of lo) (map (in_dest scope.now) (map dest_view dests.now))) }
 {
-    let mut made = Vec::with_capacity(alloc, dests.len())?;
+    let mut made = Items::from_vec(Vec::with_capacity(alloc, dests.len())?);
     for expr in dests {
         let dest = dest(alloc, interner, scope, lo, expr)?;
         made.push(dest)?;
     }
-    Ok(Items::from_vec(made))
+    Ok(made)
 }
 
 fn entry(
@@ -292,12 +292,12 @@ fn entries(
     ensures { Answers (λ x. x) name_fault_view result
         (each entry_of (map (in_entry scope.now) (map entry_view mappings.now))) }
 {
-    let mut made = Vec::with_capacity(alloc, mappings.len())?;
+    let mut made = Items::from_vec(Vec::with_capacity(alloc, mappings.len())?);
     for mapping in mappings {
         let entry = entry(alloc, interner, scope, mapping)?;
         made.push(entry)?;
     }
-    Ok(Items::from_vec(made))
+    Ok(made)
 }
 
 /// The full names to which names refer.
@@ -310,10 +310,10 @@ fn references(
     ensures { Answers (λ x. x) name_fault_view result
         (each full_name (map (in_reference scope.now) (map name_view names.now))) }
 {
-    let mut made = Vec::with_capacity(alloc, names.len())?;
+    let mut made = Items::from_vec(Vec::with_capacity(alloc, names.len())?);
     for name in names {
         let text = reference(alloc, interner, scope, name.as_slice())?;
         made.push(text)?;
     }
-    Ok(Items::from_vec(made))
+    Ok(made)
 }
