@@ -2,13 +2,13 @@
 //!
 //! Each `write_` call appends to a text that is given up for want of memory; the text then has any part.
 
-ghost use Rattle.std.specs.Prelude.{◌≡◌, ◌<◌, ◌++◌, length, codes, map, slice_get, IfOk, OnOk, IsTrue};
+ghost use Rattle.std.specs.Prelude.{◌≡◌, ◌<◌, ◌++◌, length, map, slice_get, IfOk, OnOk, IsTrue};
 ghost use Rattle.std.specs.List.{All, list_all};
 ghost use Rattle.std.specs.String.{string_bytes};
 ghost use Rattle.dn_net.specs.Decode.{is_closed};
 ghost use Rattle.dn_kind.specs.Kind.{IsLawful};
 ghost use Rattle.dn_kind.specs.Units.{has_kind};
-ghost use Rattle.dn_print.specs.Statement.{net_text, role_text, statement_at, parts_at};
+ghost use Rattle.dn_print.specs.Statement.{net_text, role_text, statement_at, body_at, parts_at};
 
 use crate::{OutOfMemory, parts};
 use dn_kind::kinds::Kinds;
@@ -32,30 +32,24 @@ pub fn net_text(alloc: Global, net: &Net, kinds: &Kinds) -> Result<Vec<u8>, OutO
     let mut out = String::new(alloc);
     for node in 0..net.nodes() {
         write_statement(&mut out, net, kinds, node)?;
-        out.push_str(";\n")?;
     }
     Ok(out.into_bytes())
 }
 
-/// Appends the statement of a node, up to the end of its line.
+/// Appends the statement of a node and the end of its line.
 fn write_statement(out: &mut String, net: &Net, kinds: &Kinds, node: u16) -> Result<(), OutOfMemory>
     requires there { node < length net.now }
     requires closed { IsTrue (is_closed net.now) }
     requires lawful { All (λ k. IsLawful (meaning (k.vtable, k.value))) kinds.now.list.items }
     requires known { IsTrue
         (list_all (λ n. has_kind (length kinds.now.list.items) n.unit) net.now) }
-    ensures { OnOk result (string_bytes out.new ++ codes ";\n" ≡ string_bytes out.old ++ statement_at
+    ensures { OnOk result (string_bytes out.new ≡ string_bytes out.old ++ statement_at
         (map (λ k. meaning (k.vtable, k.value)) kinds.now.list.items) net.now (slice_get net.now node)) }
 {
     out.push_str(role_word(net.role(node)))?;
     out.push_str(net.text(node))?;
-    match net.unit(node) {
-        Some(unit) => {
-            let kind = kinds.kind(usize::from(unit.kind));
-            parts::write_unit(out, net, kind.name(), unit)
-        }
-        None => write_parts(out, net, node),
-    }
+    write_body(out, net, kinds, node)?;
+    out.push_str(";\n")
 }
 
 /// The word before a node's name, and the space after it.
@@ -67,6 +61,25 @@ fn role_word(role: Role) -> &'static str
         Role::Agent => "agent ",
         Role::Vectors => "vectors ",
         Role::Unit => "unit ",
+    }
+}
+
+/// Appends what stands after a node's name.
+fn write_body(out: &mut String, net: &Net, kinds: &Kinds, node: u16) -> Result<(), OutOfMemory>
+    requires there { node < length net.now }
+    requires closed { IsTrue (is_closed net.now) }
+    requires lawful { All (λ k. IsLawful (meaning (k.vtable, k.value))) kinds.now.list.items }
+    requires known { IsTrue
+        (list_all (λ n. has_kind (length kinds.now.list.items) n.unit) net.now) }
+    ensures { OnOk result (string_bytes out.new ≡ string_bytes out.old ++ body_at
+        (map (λ k. meaning (k.vtable, k.value)) kinds.now.list.items) net.now (slice_get net.now node)) }
+{
+    match net.unit(node) {
+        Some(unit) => {
+            let kind = kinds.kind(usize::from(unit.kind));
+            parts::write_unit(out, net, kind.name(), unit)
+        }
+        None => write_parts(out, net, node),
     }
 }
 
