@@ -55,14 +55,14 @@ role_of vectors_role = Vectors
 
 -- a node that neither accepts nor maps anything
 abbrev pub bare_draft : ℕ → Role → List ℕ → Option DraftUnit → Draft
-bare_draft line role name unit = record {
+bare_draft line role name parts = record {
   line = line;
   role = role;
   name = name;
   accepts = [];
   entries = [];
   over = None;
-  unit = unit;
+  unit = parts;
 }
 
 -- a node, its expressions and the indices of its references taken from left to right
