@@ -151,7 +151,7 @@ fn put(drafts: &mut Vec<Draft>, known: &mut NameTable, draft: Draft) -> Result<(
 {
     drafts.reserve(1)?;
     let _ = known.add(draft.name.share()?)?;
-    drafts.push(draft)?;
+    drafts.push_reserved(draft);
     Ok(())
 }
 

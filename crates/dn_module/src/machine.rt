@@ -14,7 +14,7 @@ ghost use Rattle.dn_module.specs.Faults.{expand_fault_view};
 use crate::drafts::Drafts;
 use crate::fault::ExpandFault;
 use crate::modules::{Module, Modules};
-use crate::nodes::declared_by;
+use crate::nodes::draft_of;
 use crate::scope::Scope;
 use crate::shared::Interner;
 use crate::stack::{Stack, Turns, Work};
@@ -184,8 +184,10 @@ fn declare(
         (with_declaration (map (λ k. meaning (k.vtable, k.value)) kinds.now.list.items)
         drafts.old line (in_declaration scope.now (declaration_view decl.now))) }
 {
-    let draft = declared_by(alloc, kinds, interner, scope, line, decl)?;
-    drafts.add(alloc, draft)
+    match draft_of(alloc, kinds, interner, scope, line, decl) {
+        Ok(draft) => drafts.add(alloc, draft),
+        Err(fault) => Err(fault.at(line)),
+    }
 }
 
 /// The turns of a loop, if it has any.

@@ -161,6 +161,6 @@ fn put<'a, 't>(
     modules.reserve(1)?;
     let name = SharedName::of(alloc, known.module.title)?;
     let _ = names.add(name)?;
-    modules.push(known)?;
+    modules.push_reserved(known);
     Ok(())
 }

@@ -110,10 +110,10 @@ impl<'a, 't> Use<'a, 't> {
     {
         self.outer.reserve(1)?;
         self.scope.enter(turns.variable, turns.next)?;
-        self.outer.push(Rest {
+        self.outer.push_reserved(Rest {
             turns: after(turns),
             statements: self.inner.statements,
-        })?;
+        });
         self.inner = Rest {
             turns: None,
             statements: turns.body,
@@ -160,7 +160,7 @@ impl<'a, 't> Stack<'a, 't> {
     {
         self.outer.reserve(1)?;
         let outer = mem::replace(&mut self.inner, inner);
-        self.outer.push(outer)?;
+        self.outer.push_reserved(outer);
         Ok(())
     }
 }

@@ -60,11 +60,7 @@ impl Titles {
     pub fn place(&self, word: &str) -> Option<usize>
         ensures { result ≡ position (bytes_eq word.now) self.now }
     {
-        let words = self.words.as_ref();
-        match words.get_index_of(word) {
-            Some(place) => Some(place),
-            None => None,
-        }
+        self.words.as_ref().get_index_of(word)
     }
 }
 

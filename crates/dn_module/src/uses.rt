@@ -80,12 +80,12 @@ fn values_of(
     ensures { Answers (map given_view) name_fault_view result
         (each given_by (map (in_arg scope.now) (map arg_view args.now))) }
 {
-    let mut made = Vec::with_capacity(alloc, args.len())?;
+    let mut made = Items::from_vec(Vec::with_capacity(alloc, args.len())?);
     for arg in args {
         let value = value_of(alloc, interner, scope, arg)?;
         made.push(value)?;
     }
-    Ok(Items::from_vec(made))
+    Ok(made)
 }
 
 /// The value of an argument.

@@ -16,7 +16,7 @@ use crate::scope::Scope;
 use crate::shared::{Interner, SharedName};
 use dn_base::text::Text;
 use dn_parse::syntax::{Expr, PartExpr};
-use std::alloc::{AllocError, AllocFailed, Global};
+use std::alloc::{AllocError, Global};
 
 /// One more than the largest value.
 const LIMIT: u128 = 1 << 64;
@@ -64,14 +64,6 @@ impl From<AllocError> for NameFault {
     ghost from_gives = { λ _ e. e ≡ no_memory };
 
     fn from(_error: AllocError) -> NameFault {
-        NameFault::OutOfMemory
-    }
-}
-
-impl<T: Drop> From<AllocFailed<T>> for NameFault {
-    ghost from_gives = { λ _ e. e ≡ no_memory };
-
-    fn from(_error: AllocFailed<T>) -> NameFault {
         NameFault::OutOfMemory
     }
 }

@@ -91,7 +91,7 @@ fn write_parts(out: &mut String, net: &Net, node: u16) -> Result<(), OutOfMemory
         string_bytes out.old ++ parts_at net.now (slice_get net.now node)) }
 {
     out.push_str(" is")?;
-    parts::write_accept(out, net.accepts(node))?;
+    parts::write_accept(out, net, net.accepts(node))?;
     parts::write_map(out, net, net.entries(node))?;
     parts::write_over(out, net, net.over(node))
 }
