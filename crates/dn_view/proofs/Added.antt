@@ -24,15 +24,6 @@ use Rattle.dn_view.specs.Records.{fresh_records}
 use Rattle.dn_view.specs.Through.{ComesNewly}
 use Rattle.dn_view.proofs.Viewed.{node_stops}
 
-module _ (net : List NodeDecl) (h : Held) (rq : Request) (p : Place) (access : Access) (node : ℕ) where
-  -- a node that is no agent
-  pub exact_no_agent : is_agent_at (slice_get net node) ≡ false → (true ≡ true) ↔ (IsTrue (is_agent_at (slice_get net node)) → IsExactAt net h rq p access node)
-  exact_no_agent e = ((λ t a. absurd (false≢true (sym e ∙ a))), (λ f. refl))
-
-  -- an agent
-  pub exact_agent : {P : Type 0} → is_agent_at (slice_get net node) ≡ true → P ↔ IsExactAt net h rq p access node → P ↔ (IsTrue (is_agent_at (slice_get net node)) → IsExactAt net h rq p access node)
-  exact_agent e f = ((λ x a. f.0 x), (λ k. f.1 (k e)))
-
   pub not_asked : (nat_eq node rq.agent && allows rq.rights access) ≡ false → node ≡ rq.agent → IsTrue (allows rq.rights access) → ⊥
   not_asked e own allowed = absurd (false≢true (sym e ∙ ap (λ b. b && allows rq.rights access) (eq-eqb node rq.agent own) ∙ allowed))
 
