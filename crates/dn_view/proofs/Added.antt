@@ -24,6 +24,7 @@ use Rattle.dn_view.specs.Records.{fresh_records}
 use Rattle.dn_view.specs.Through.{ComesNewly}
 use Rattle.dn_view.proofs.Viewed.{node_stops}
 
+module _ (net : List NodeDecl) (h : Held) (rq : Request) (p : Place) (access : Access) (node : ℕ) where
   pub not_asked : (nat_eq node rq.agent && allows rq.rights access) ≡ false → node ≡ rq.agent → IsTrue (allows rq.rights access) → ⊥
   not_asked e own allowed = absurd (false≢true (sym e ∙ ap (λ b. b && allows rq.rights access) (eq-eqb node rq.agent own) ∙ allowed))
 
