@@ -115,6 +115,7 @@ pub(crate) fn power(exponent: u8) -> u64
 }
 
 /// The slots that a hop takes of its unit.
+#[derive(Clone, Copy)]
 struct HopSlots {
     /// How many addresses a slot has.
     page: u64,
