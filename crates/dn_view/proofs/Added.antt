@@ -1,5 +1,5 @@
 -- What an agent's addresses show newly, from the segments of its stops.
-use Rattle.std.proofs.Common.{◌≡◌, ℕ, ◌<◌, ◌≤◌, ◌↔◌, true, false, ◌&&◌, nat_eq, List, length, slice_get, IsTrue, refl, sym, ap, ◌∙◌, eq-eqb}
+use Rattle.std.proofs.Common.{◌≡◌, ℕ, ◌<◌, ◌≤◌, ◌↔◌, true, false, ◌&&◌, nat_eq, List, length, slice_get, IsTrue, sym, ap, ◌∙◌, eq-eqb}
 use Rattle.std.proofs.lemmas.Bool.{false≢true}
 use Rattle.dn_interval.specs.declared.row.End.{End}
 use Rattle.dn_interval.specs.declared.row.Seg.{Seg}
@@ -7,7 +7,7 @@ use Rattle.dn_interval.specs.declared.span.TheConstants.{TOP}
 use Rattle.dn_interval.specs.Onward.{rows_of}
 use Rattle.dn_interval.specs.Strands.{segs_give, rows_give}
 use Rattle.dn_net.specs.declared.node.NodeDecl.{NodeDecl}
-use Rattle.dn_net.specs.Decode.{is_agent_at, StopsAt}
+use Rattle.dn_net.specs.Decode.{StopsAt}
 use Rattle.dn_kind.specs.declared.rights.Access.{Access}
 use Rattle.dn_kind.specs.Rights.{allows}
 use Rattle.dn_kind.specs.Tables.{Held, allowing}
@@ -18,7 +18,7 @@ use Rattle.dn_tables.specs.Placement.{Place}
 use Rattle.dn_placement.specs.declared.request.Request.{Request}
 use Rattle.dn_placement.specs.Records.{joined_records, placed_records}
 use Rattle.dn_view.specs.declared.pass.Part.TheVariants.{Stops}
-use Rattle.dn_view.specs.Exact.{IsAdded, IsExactAt}
+use Rattle.dn_view.specs.Exact.{IsAdded}
 use Rattle.dn_view.specs.Passes.{rows_part}
 use Rattle.dn_view.specs.Records.{fresh_records}
 use Rattle.dn_view.specs.Through.{ComesNewly}

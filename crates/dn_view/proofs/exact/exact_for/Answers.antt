@@ -1,5 +1,4 @@
-use Rattle.std.proofs.Common.{◌≡◌, ◌≤◌, ◌+◌, ◌↔◌, ℕ, true, subst, sym, length, slice_get, IsTrue, arith}
-use Rattle.dn_net.specs.Decode.{is_agent_at}
+use Rattle.std.proofs.Common.{◌≡◌, ◌≤◌, ◌↔◌, ℕ, true, subst, sym, length, arith}
 use Rattle.dn_view.specs.Trials.{IsExactIn}
 use Rattle.dn_view.proofs.Agents.{Agent, all_nodes, not_all, one_more}
 use Rattle.dn_view.proofs.exact.exact_for.Goals.{then-node-own+in_ok-other+else-not-other, else-node-own}
