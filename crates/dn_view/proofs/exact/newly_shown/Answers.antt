@@ -23,8 +23,8 @@ loop-preserved g c a z low =
     then_both (c.loop.invariant a z low)
     (subst (λ n. NewlyComes net old fresh all c.loop.shown.items c.loop.level.items n a z ↔ NewlyComes net old fresh all shown' level' (3 - (c.loop.counter + 1)) a z) (sym (one_less c.loop.counter c.loop-test.true))
     (newly_next net c.requires.system.legal.legal old fresh all held c.args.trial.system.flats.now c.requires.system.flat c.loop.shown.items shown' c.loop.level.items level' (3 - (c.loop.counter + 1)) a z
-    ((rw c.as_slice-segs.ensures.value at c.in_ok-push_newly.ensures) a z low)
-    ((rw c.as_slice-segs.ensures.value at c.in_ok-level.ensures) a)))
+    (rw c.as_slice-segs.ensures.value at (c.in_ok-push_newly.ensures a z low))
+    (λ t. rw c.as_slice-segs.ensures.value at (c.in_ok-level.ensures a t))))
 
 pub returns : goal.returns
 returns g c a z low =

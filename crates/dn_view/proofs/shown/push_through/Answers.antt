@@ -16,8 +16,8 @@ loop-preserved g c a z low =
     then_both (c.loop.invariant a z low)
     (subst (λ n. Comes c.args.course.system.net.now h c.loop.shown.items c.loop.level.items n a z ↔ Comes c.args.course.system.net.now h c.pass.new.out.items c.in_ok-level.level.items (3 - (c.loop.counter + 1)) a z) (sym (one_less c.loop.counter c.loop-test.true))
     (comes_next c.args.course.system.net.now c.requires.system.legal.legal h held c.args.course.system.flats.now c.requires.system.flat c.loop.shown.items c.pass.new.out.items c.loop.level.items c.in_ok-level.level.items (3 - (c.loop.counter + 1)) a z
-    ((rw c.as_slice-segs.ensures.value at c.in_ok-pass.ensures) a z)
-    ((rw c.as_slice-segs.ensures.value at c.in_ok-level.ensures) a)))
+    (rw c.as_slice-segs.ensures.value at (c.in_ok-pass.ensures a z))
+    (λ t. rw c.as_slice-segs.ensures.value at (c.in_ok-level.ensures a t))))
 
 pub returns : goal.returns
 returns g c a z low =
