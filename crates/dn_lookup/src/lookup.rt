@@ -67,11 +67,15 @@ pub fn lookup(
     if !is_agent(net, agent) {
         return Err(LookupFault::NoAgent);
     }
-    let version = check(net, kinds, image).map_err(LookupFault::Image)?;
+    let version = match check(net, kinds, image) {
+        Ok(version) => version,
+        Err(fault) => return Err(LookupFault::Image(fault)),
+    };
     let name = Name { node: agent, addr };
-    lookup_whole(alloc, net, kinds, image, version, access, name).map_err(
-        |_| LookupFault::OutOfMemory,
-    )
+    match lookup_whole(alloc, net, kinds, image, version, access, name) {
+        Ok(names) => Ok(names),
+        Err(_) => Err(LookupFault::OutOfMemory),
+    }
 }
 
 /// The names to which an agent's name comes for an access, in bytes that are an image of the net and
