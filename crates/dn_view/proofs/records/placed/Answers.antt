@@ -6,7 +6,7 @@ use Rattle.dn_view.proofs.records.placed.Goals as goal
 use Rattle.dn_view.proofs.records.placed.Goals.{After-hop_record-record}
 
 -- the records of the hops behind the one at hand
-rest : After-hop_record-record → Option Record
+abbrev rest : After-hop_record-record → Option Record
 rest c = hops_records c.args.net.now c.args.request.now.size c.args.request.now.rights c.args.placement.now.own (c.loop-place.place + 1) (drop (c.loop-place.place + 1) c.hops-hops.result.now) c.args.node c.args.slot
 
 whole : (c : After-hop_record-record) → placed_records c.args.net.now c.args.request.now c.args.placement.now c.args.node c.args.slot ≡ or_record c.hop_record-record.result (rest c)
