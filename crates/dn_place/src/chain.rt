@@ -11,13 +11,12 @@ ghost use Rattle.dn_place.specs.Sought.{IsReady};
 
 use crate::hops::Hops;
 use crate::marks::{Reach, can_stand, is_allowed};
-use crate::quest::{Quest, unit_of};
+use crate::quest::{Found, Quest, unit_of};
 use crate::rows::{is_clear, output, rows_toward, wanted};
 use crate::slots::{next_input, power};
 use crate::whole::by_agent;
-use dn_base::OutOfMemory;
 use dn_net::node::Unit;
-use dn_tables::placement::{Hop, Placement};
+use dn_tables::placement::Hop;
 use std::alloc::Global;
 
 /// The first placement of so many hops that ends with the chosen ones.
@@ -28,7 +27,7 @@ pub(crate) fn by_hops<Q: Quest>(
     reach: &Reach,
     count: u8,
     chosen: Hops,
-) -> Result<Option<Placement>, OutOfMemory>
+) -> Found
     requires sound { Q.is_sound quest.now }
     requires ready { IsReady (Q.sought quest.now) }
     requires marked { AreMarked (Q.sought quest.now) reach.now.first.items
@@ -64,7 +63,7 @@ fn by_unit<Q: Quest>(
     count: u8,
     chosen: Hops,
     unit: u16,
-) -> Result<Option<Placement>, OutOfMemory>
+) -> Found
     requires sound { Q.is_sound quest.now }
     requires ready { IsReady (Q.sought quest.now) }
     requires marked { AreMarked (Q.sought quest.now) reach.now.first.items
@@ -100,7 +99,7 @@ fn by_port<Q: Quest>(
     translator: &Unit,
     unit: u16,
     port: u8,
-) -> Result<Option<Placement>, OutOfMemory>
+) -> Found
     requires sound { Q.is_sound quest.now }
     requires ready { IsReady (Q.sought quest.now) }
     requires marked { AreMarked (Q.sought quest.now) reach.now.first.items
@@ -144,7 +143,7 @@ fn by_output<Q: Quest>(
     unit: u16,
     port: u8,
     y: u64,
-) -> Result<Option<Placement>, OutOfMemory>
+) -> Found
     requires sound { Q.is_sound quest.now }
     requires ready { IsReady (Q.sought quest.now) }
     requires marked { AreMarked (Q.sought quest.now) reach.now.first.items
@@ -192,7 +191,7 @@ fn by_input<Q: Quest>(
     chosen: Hops,
     translator: &Unit,
     hop: Hop,
-) -> Result<Option<Placement>, OutOfMemory>
+) -> Found
     requires sound { Q.is_sound quest.now }
     requires ready { IsReady (Q.sought quest.now) }
     requires marked { AreMarked (Q.sought quest.now) reach.now.first.items

@@ -20,7 +20,7 @@ use crate::chain::by_hops;
 use crate::hops::Hops;
 use crate::marks::reach_of;
 use crate::platform::{Aim, Platform};
-use crate::quest::Quest;
+use crate::quest::{Found, Quest};
 use crate::slot::Slot;
 use crate::tables::slot_at;
 use dn_base::OutOfMemory;
@@ -67,7 +67,7 @@ fn by_tables<A: Aim>(
     tables: &TableSet,
     request: &Request,
     at: Option<u64>,
-) -> Result<Option<Placement>, OutOfMemory>
+) -> Found
     requires system { IsSystem (λ k. meaning (k.vtable, k.value)) system }
     requires fits { FitsNet system.net.now
         (map (λ k. meaning (k.vtable, k.value)) system.kinds.now.list.items) tables.now }
@@ -121,7 +121,7 @@ fn by_tables<A: Aim>(
 }
 
 /// The first placement that is looked for. `None` exactly where there is none.
-fn first_of<Q: Quest>(alloc: Global, quest: &Q) -> Result<Option<Placement>, OutOfMemory>
+fn first_of<Q: Quest>(alloc: Global, quest: &Q) -> Found
     requires sound { Q.is_sound quest.now }
     requires ready { IsReady (Q.sought quest.now) }
     ensures { IfOk result (λ found. Answers (Q.sought quest.now) [] found) }

@@ -10,6 +10,10 @@ use dn_base::OutOfMemory;
 use dn_flat::flat::Flat;
 use dn_net::node::Unit;
 use dn_placement::request::Request;
+use dn_tables::placement::Placement;
+
+/// The placement that is found, if one is. `Err` is want of memory.
+pub(crate) type Found = Result<Option<Placement>, OutOfMemory>;
 
 /// A request, and the platform on which a placement of it is looked for.
 pub(crate) trait Quest {

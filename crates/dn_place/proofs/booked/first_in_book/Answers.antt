@@ -1,11 +1,11 @@
 use Rattle.std.proofs.Common.{◌≡◌, subst, map, None, IfOk, IfSome}
-use Rattle.dn_placement.specs.Order.{IsFirst}
-use Rattle.dn_placement.specs.Slots.{Slots, slots_of_set}
 use Rattle.dn_tables.proofs.Slots.{all_of_map}
 use Rattle.dn_tables.specs.Set.{IsSet}
+use Rattle.dn_placement.specs.Order.{IsFirst, NoneSuited}
+use Rattle.dn_placement.specs.Slots.{Slots, slots_of_set}
 use Rattle.dn_book.specs.Book.{slots_of}
 use Rattle.dn_book.proofs.KeptEmpty.{kept_slots_are_the_books}
-use Rattle.test_grants.proofs.desk.first_beside.Goals as goal
+use Rattle.dn_place.proofs.booked.first_in_book.Goals as goal
 
 pub returns : goal.returns
 returns g c =
@@ -17,4 +17,7 @@ returns g c =
     let slots : ◌≡◌ {A = Slots} (slots_of_set ks set) (slots_of net book) =
     kept_slots_are_the_books net ks book set (all_of_map _ c.args.system.kinds.now.list.items c.requires.system.lawful) c.requires.system.legal.shaped is
     (rw c.tables-tables.ensures c.requires.kept) in
-    subst (λ s. IfOk c.first.result (λ found. IfSome found (λ p. IsFirst net s c.args.request.now None p))) slots c.first.ensures.first
+    record {
+      first = subst (λ s. IfOk c.first.result (λ found. IfSome found (λ p. IsFirst net s c.args.request.now c.args.at p))) slots c.first.ensures.first;
+      none = subst (λ s. IfOk c.first.result (λ found. found ≡ None → NoneSuited net s c.args.request.now c.args.at)) slots c.first.ensures.none;
+    }
