@@ -21,7 +21,7 @@ ghost use Rattle.dn_tool.specs.Viewed.{no_agent_text, owed_rows, view_text, view
 
 use crate::machine::Machine;
 use crate::reshape;
-use crate::state::{State, keep_flats, keep_first, keep_image};
+use crate::state::{State, keep_first, keep_flats, keep_image};
 use dn_image::write::VERSION;
 use dn_interval::Rows;
 use dn_kind::rights::Access;
