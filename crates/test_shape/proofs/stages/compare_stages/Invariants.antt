@@ -3,4 +3,4 @@ use Rattle.dn_flat.specs.Stages.{IsStage}
 use Rattle.test_shape.proofs.stages.compare_stages.Given as goal
 
 abbrev pub invariant-loop : goal.invariant-loop
-invariant-loop l = IsStage l.net l.stage
+invariant-loop g l = IsStage l.net l.stage
