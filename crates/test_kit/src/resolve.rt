@@ -30,9 +30,6 @@ pub fn resolve(alloc: Global, net: &Net, name: Name) -> Result<Names, AllocError
     let mut level = Names::new(alloc);
     level.insert(name)?;
     for _ in 0..LEVELS {
-        if level.list().is_empty() {
-            break;
-        }
         level = next_level(alloc, net, level.list(), &mut accepted)?;
     }
     set_of(alloc, accepted)
