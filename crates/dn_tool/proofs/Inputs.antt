@@ -60,11 +60,6 @@ input_answer left after w task kinds text whole P asked read taken end input p =
         let all : text_answer task kinds whole ≡ answer w kinds whole = ap (text_answer task kinds) (sym (text_read task whole read)) ∙ ap (λ o. asked_answer o kinds whole) (sym asked) in
         subst P (same ∙ all) p
 
--- the same of a task that was found in the words, and is no demonstration
-pub found_answer : (left after : Option (List ℕ)) (w : List (List ℕ)) (o : Option Task) (task : Task) (kinds : List Meaning) (text whole : List ℕ) (P : Answer → Type 0) → o ≡ task_of w → o ≡ Some task → ((agents : ℕ) → task ≡ Demo agents → ⊥) → Taken left after text → (length text < input_limit → AtEnd after) → IsInput w left whole → P (text_answer task kinds text) → P (answer w kinds whole)
-found_answer left after w o task kinds text whole P found is other taken end input p =
-    input_answer left after w task kinds text whole P (sym found ∙ is) (task_is_read task other) taken end input p
-
 -- other words have the usage line, whatever the text
 pub usage_answer : (w : List (List ℕ)) (kinds : List Meaning) (text : List ℕ) (P : Answer → Type 0) → task_of w ≡ None → P (said 1 usage) → P (answer w kinds text)
 usage_answer w kinds text P e p = let same : said 1 usage ≡ answer w kinds text = ap (λ o. asked_answer o kinds text) (sym e) in subst P same p
