@@ -53,23 +53,22 @@ fn prints_names_or_nothing(rt: HostRuntime) -> Result<(), Fail> {
     Ok(())
 }
 
-/// Texts, each with the rows of what its last node sees, which is node 2.
-const VIEWS: [(&str, &str); 3] = [
-    ("dram is; uart is; core is over dram;", ""),
-    (
-        "dram is accept [0-0x3fffffff]; uart is accept [0-0xfff]; core is map [0x80000000-0xbfffffff to dram at 0, 0x10000000-0x10000fff to uart at 0];",
-        "0x10000000-0x10000fff uart@0x0\n0x80000000-0xbfffffff dram@0x0\n",
-    ),
-    (
-        "dram is accept [0-0x4fffffff]; uart is accept [0-0xfff]; core is map [0x10000000-0x10000fff to uart at 0 and dram at 0x40000000];",
-        "0x10000000-0x10000fff dram@0x40000000, uart@0x0\n",
-    ),
-];
-
 #[test]
 fn prints_a_line_for_each_row(rt: HostRuntime) -> Result<(), Fail> {
     let alloc = rt.alloc();
-    for (text, wanted) in VIEWS {
+    // What the last of three nodes sees.
+    let rows = [
+        ("dram is; uart is; core is over dram;", ""),
+        (
+            "dram is accept [0-0x3fffffff]; uart is accept [0-0xfff]; core is map [0x80000000-0xbfffffff to dram at 0, 0x10000000-0x10000fff to uart at 0];",
+            "0x10000000-0x10000fff uart@0x0\n0x80000000-0xbfffffff dram@0x0\n",
+        ),
+        (
+            "dram is accept [0-0x4fffffff]; uart is accept [0-0xfff]; core is map [0x10000000-0x10000fff to uart at 0 and dram at 0x40000000];",
+            "0x10000000-0x10000fff dram@0x40000000, uart@0x0\n",
+        ),
+    ];
+    for (text, wanted) in rows {
         let machine = Machine::of_text(alloc, text)?;
         let flat = machine.flat(alloc, 2)?;
         let printed = rows_text(alloc, machine.net(), &flat.accepts)?;
