@@ -130,16 +130,16 @@ text_does s value n tells [] = record { it = λ line k vs. refl }
 text_does s value n tells (t ∷ ts) = go_on (value t.lexeme) (tells t.lexeme) where
   go_on : (o : Option (List ℕ)) → TellsBy s n t.lexeme o → Does (takes s) n n (t ∷ ts) [] text (value_or o ts (t ∷ ts))
   go_on None e = record { it = λ line k vs. refuse_go s t.lexeme line n k vs (suc (length ts)) (λ p. run p ts) e }
-  go_on (Some w) (e, q, c) = record {
+  go_on (Some w) (e, q, c, d) = record {
     it = record {
-      runs = λ line k vs. take_go s t.lexeme line n k vs (suc (length ts)) (λ p. run p ts) e ∙ counted n n t.lexeme line k (kept s t.lexeme vs) (suc (length ts)) (λ p. run p ts) c ∙ ap (λ us. run (inside line n k us) ts) (q vs);
+      runs = λ line k vs. take_go s t.lexeme line n k vs (suc (length ts)) (λ p. run p ts) e ∙ counted n n t.lexeme line k (kept s t.lexeme vs) (suc (length ts)) (λ p. run p ts) (c, d) ∙ ap (λ us. run (inside line n k us) ts) (q vs);
       no_longer = omega arith;
     };
   }
 
 -- a word that is not reserved, and a word of either sort
 word_tells : (n : ℕ) (l : Lexeme) → TellsBy a_word n l (word_of l)
-word_tells n (word w) = (refl, (λ vs. refl), (refl, refl))
+word_tells n (word w) = (refl, (λ vs. refl), refl, refl)
 word_tells n (keyword j) = refl
 word_tells n (number x) = refl
 word_tells n (sign s) = refl
@@ -149,8 +149,8 @@ unfolding word_at
 word_does n ts = text_does a_word word_of n (word_tells n) ts
 
 any_tells : (n : ℕ) (l : Lexeme) → TellsBy any_word n l (any_of l)
-any_tells n (word w) = (refl, (λ vs. refl), (refl, refl))
-any_tells n (keyword j) = (refl, (λ vs. refl), (refl, refl))
+any_tells n (word w) = (refl, (λ vs. refl), refl, refl)
+any_tells n (keyword j) = (refl, (λ vs. refl), refl, refl)
 any_tells n (number x) = refl
 any_tells n (sign s) = refl
 
