@@ -2,8 +2,7 @@
 
 ghost use Rattle.std.specs.Prelude.{◌≡◌, [], ◌∷◌, ◌++◌, true, false, replicate, List, Option, IfSome, OnOk, OnErr, is_err};
 ghost use Rattle.std.specs.Option.{option_map};
-ghost use Rattle.dn_base.specs.Device.{Logged, UnitSize, has_unit, has_word, is_make_fault, sizes_of, with_word};
-ghost use Rattle.dn_base.specs.Outside.{Faults, IsCounted};
+ghost use Rattle.dn_base.specs.Terms.{Faults, IsCounted, Logged, UnitSize, has_unit, has_word, is_make_fault, sizes_of, with_word};
 ghost use Rattle.dn_base.specs.declared.device.TableEvent.{TableEvent};
 ghost use Rattle.dn_base.specs.declared.device.UnitWords.{UnitWords};
 

@@ -1,8 +1,7 @@
 //! Reading a source to its end, and writing a whole piece.
 
 ghost use Rattle.std.specs.Prelude.{◌≡◌, ◌-◌, ◌<◌, ◌≤◌, [], take, IfOk, IfSome, IsErrOf, is_err, is_ok, vec_len};
-ghost use Rattle.dn_base.specs.Faults.{is_input_fault, is_write_fault};
-ghost use Rattle.dn_base.specs.Outside.{AtEnd, IsCounted, IsWritten, Taken, TakenAtMost, input_limit};
+ghost use Rattle.dn_base.specs.Terms.{AtEnd, IsCounted, IsWritten, Taken, TakenAtMost, input_limit, is_input_fault, is_write_fault};
 
 use crate::sink::{Sink, WriteFault};
 use crate::source::Source;

@@ -1,19 +1,12 @@
 //! The live grants, with the tables that hold their records.
 
 ghost use Rattle.std.specs.Prelude.{◌≡◌, ◌≢◌, ◌↔◌, [], ◌∷◌, ◌++◌, Err, true, false, not, map, IfOk, OnOk, OnErr, is_ok, is_err};
-ghost use Rattle.dn_net.specs.Chain.{Member};
+ghost use Rattle.dn_net.specs.Terms.{Member};
 ghost use Rattle.std.specs.List.{All};
-ghost use Rattle.dn_base.specs.Device.{is_make_fault};
-ghost use Rattle.dn_base.specs.Outside.{IsCounted};
-ghost use Rattle.dn_kind.specs.Kind.{IsLawful};
-ghost use Rattle.dn_kind.specs.Units.{IsLegalWith};
-ghost use Rattle.dn_tables.specs.Set.{FitsNet, IsOnDevice, fresh_set, tables_of_set};
-ghost use Rattle.dn_tables.specs.Writes.{AreUnitsMade};
-ghost use Rattle.dn_book.specs.Book.{IsFaithful, has_id, without};
-ghost use Rattle.dn_book.specs.Faults.{is_commit_fault, is_revoke_fault};
-ghost use Rattle.dn_book.specs.Laws.{IsGrantFor};
-ghost use Rattle.dn_book.specs.Tables.{IsKept};
-ghost use Rattle.dn_book.specs.Writes.{AreAdded, grant_events, revoke_events};
+ghost use Rattle.dn_base.specs.Terms.{IsCounted, is_make_fault};
+ghost use Rattle.dn_kind.specs.Terms.{IsLawful, IsLegalWith};
+ghost use Rattle.dn_tables.specs.Terms.{AreUnitsMade, FitsNet, IsOnDevice, fresh_set, tables_of_set};
+ghost use Rattle.dn_book.specs.Terms.{AreAdded, IsFaithful, IsGrantFor, IsKept, grant_events, has_id, is_commit_fault, is_revoke_fault, revoke_events, without};
 ghost use Rattle.dn_book.specs.declared.book.CommitFault.TheVariants.{OutOfMemory as no_memory};
 ghost use Rattle.dn_book.specs.declared.book.RevokeFault.TheVariants.{NoGrant as no_grant};
 ghost use Rattle.dn_book.specs.declared.grant.Grant.{Grant as GrantPart};

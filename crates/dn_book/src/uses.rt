@@ -2,12 +2,10 @@
 
 ghost use Rattle.std.specs.Prelude.{◌≡◌, ◌==◌, ◌<◌, map, Some, IsTrue};
 ghost use Rattle.dn_net.specs.declared.node.Unit.{Unit as UnitPart};
-ghost use Rattle.dn_net.specs.Chain.{Member};
-ghost use Rattle.dn_net.specs.Decode.{unit_at};
-ghost use Rattle.dn_kind.specs.Rights.{both_rights};
-ghost use Rattle.dn_tables.specs.Set.{has_slot, unit_in, units_of, use_in};
-ghost use Rattle.dn_book.specs.Sets.{AreChanged, AreFit, AreHopsChanged, EachSlot, FitsUnit, MayUse, hop_owner, one_less, one_more};
-ghost use Rattle.dn_book.specs.Writes.{Put, hop_slots, hop_slots_by};
+ghost use Rattle.dn_net.specs.Terms.{Member, unit_at};
+ghost use Rattle.dn_kind.specs.Terms.{both_rights};
+ghost use Rattle.dn_tables.specs.Terms.{has_slot, unit_in, units_of, use_in};
+ghost use Rattle.dn_book.specs.Terms.{AreChanged, AreFit, AreHopsChanged, EachSlot, FitsUnit, MayUse, Put, hop_owner, hop_slots, hop_slots_by, one_less, one_more};
 
 use crate::grant::Grant;
 use crate::slots::{end_slot, first_slot};

@@ -2,7 +2,7 @@
 
 ghost use Rattle.std.specs.Prelude.{◌≡◌, ◌++◌, IfOk, OnOk};
 ghost use Rattle.std.specs.String.{string_bytes};
-ghost use Rattle.dn_demo.specs.Summary.{left_text, made_text, summary_text};
+ghost use Rattle.dn_demo.specs.Terms.{left_text, made_text, summary_text};
 
 use crate::OutOfMemory;
 use std::alloc::Global;

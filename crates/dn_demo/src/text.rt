@@ -2,7 +2,7 @@
 
 ghost use Rattle.std.specs.Prelude.{◌≡◌, ◌<◌, ◌++◌, IfOk, OnOk};
 ghost use Rattle.std.specs.String.{string_bytes};
-ghost use Rattle.dn_demo.specs.Text.{commands_of, demo_text, grant_text, grants_of, loop_text, platform_text, revoke_text, revokes_of, texts_below};
+ghost use Rattle.dn_demo.specs.Terms.{commands_of, demo_text, grant_text, grants_of, loop_text, platform_text, revoke_text, revokes_of, texts_below};
 
 use crate::OutOfMemory;
 use std::alloc::Global;

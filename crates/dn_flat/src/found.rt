@@ -3,9 +3,8 @@
 ghost use Rattle.std.specs.Prelude.{◌≡◌, ◌<◌, [], nat_lt, length, OnOk, IfOk, IsTrue};
 ghost use Rattle.std.specs.List.{All, list_all};
 ghost use Rattle.dn_interval.specs.declared.span.TheConstants.{TOP};
-ghost use Rattle.dn_interval.specs.Onward.{seg_goes, row_goes, rows_go, gives_by};
-ghost use Rattle.dn_interval.specs.Rows.{AreNormal, SegmentsGive, EndsFit, ends_within};
-ghost use Rattle.dn_flat.specs.Added.{FindsMore};
+ghost use Rattle.dn_interval.specs.Terms.{AreNormal, EndsFit, SegmentsGive, ends_within, gives_by, row_goes, rows_go, seg_goes};
+ghost use Rattle.dn_flat.specs.Terms.{FindsMore};
 
 use crate::flat::Flat;
 use crate::reach::Reach;

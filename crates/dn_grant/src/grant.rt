@@ -1,15 +1,12 @@
 //! Granting a buffer.
 
 ghost use Rattle.std.specs.Prelude.{◌≡◌, ◌≢◌, map, not, true, false, is_err, IfSome, OnOk, OnErr, IsTrue};
-ghost use Rattle.dn_base.specs.Outside.{IsCounted};
-ghost use Rattle.dn_kind.specs.Rights.{are_rights};
-ghost use Rattle.dn_tables.specs.Set.{FitsNet, IsOnDevice};
-ghost use Rattle.dn_book.specs.Book.{IsFaithful};
-ghost use Rattle.dn_book.specs.Tables.{IsKept};
-ghost use Rattle.dn_view.specs.Systems.{IsSystem};
-ghost use Rattle.dn_grant.specs.Faults.{is_grant_fault};
-ghost use Rattle.dn_grant.specs.Grant.{IsGrantLogged, IsGrantTurn, NoAddition};
-ghost use Rattle.dn_grant.specs.Refusal.{grant_refusal};
+ghost use Rattle.dn_base.specs.Terms.{IsCounted};
+ghost use Rattle.dn_kind.specs.Terms.{are_rights};
+ghost use Rattle.dn_tables.specs.Terms.{FitsNet, IsOnDevice};
+ghost use Rattle.dn_book.specs.Terms.{IsFaithful, IsKept};
+ghost use Rattle.dn_view.specs.Terms.{IsSystem};
+ghost use Rattle.dn_grant.specs.Terms.{IsGrantLogged, IsGrantTurn, NoAddition, grant_refusal, is_grant_fault};
 
 use crate::fault::GrantFault;
 use crate::refusal::refusal;

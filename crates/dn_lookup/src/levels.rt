@@ -1,11 +1,9 @@
 //! Names level by level: each level has the names one step on from those of the level before it.
 
 ghost use Rattle.std.specs.Prelude.{◌≡◌, ◌++◌, [], ◌∷◌, ◌+◌, ◌<◌, ◌^◌, length, IfOk, OnOk, IsTrue};
-ghost use Rattle.dn_net.specs.Decode.{is_accepted};
-ghost use Rattle.dn_net.specs.Names.{each_step, passing_names, sorted_names};
-ghost use Rattle.dn_kind.specs.Tables.{resolved_names_under, steps_under};
-ghost use Rattle.dn_kind.specs.Levels.{are_there};
-ghost use Rattle.dn_lookup.specs.Images.{IsImage, records_in};
+ghost use Rattle.dn_net.specs.Terms.{each_step, is_accepted, passing_names, sorted_names};
+ghost use Rattle.dn_kind.specs.Terms.{are_there, resolved_names_under, steps_under};
+ghost use Rattle.dn_lookup.specs.Terms.{IsImage, records_in};
 
 use crate::image::Image;
 use crate::output::output;

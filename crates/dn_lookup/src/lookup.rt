@@ -2,14 +2,11 @@
 
 ghost use Rattle.std.specs.Prelude.{◌≡◌, ◌≢◌, ◌<◌, length, map, slice_get, IfOk, Ok, Err, None, IsTrue};
 ghost use Rattle.std.specs.List.{All};
-ghost use Rattle.dn_base.specs.Answers.{Answers};
-ghost use Rattle.dn_net.specs.Decode.{is_agent_at};
-ghost use Rattle.dn_net.specs.Legal.{IsLegalNet};
-ghost use Rattle.dn_kind.specs.Kind.{IsLawful};
-ghost use Rattle.dn_kind.specs.Units.{KeepsUnitShape};
-ghost use Rattle.dn_kind.specs.Levels.{are_there};
-ghost use Rattle.dn_image.specs.Reading.{broken_image, version_of};
-ghost use Rattle.dn_lookup.specs.Lookup.{lookup_fault_view, lookup_of};
+ghost use Rattle.dn_base.specs.Terms.{Answers};
+ghost use Rattle.dn_net.specs.Terms.{IsLegalNet, is_agent_at};
+ghost use Rattle.dn_kind.specs.Terms.{IsLawful, KeepsUnitShape, are_there};
+ghost use Rattle.dn_image.specs.Terms.{broken_image, version_of};
+ghost use Rattle.dn_lookup.specs.Terms.{lookup_fault_view, lookup_of};
 
 use crate::image::Image;
 use crate::levels::resolve;

@@ -1,11 +1,9 @@
 //! One step in a unit, by the record of a slot in the bytes of an image.
 
 ghost use Rattle.std.specs.Prelude.{◌≡◌, ◌<◌, ◌^◌, [], ◌∷◌, length, None, Some, IsTrue};
-ghost use Rattle.dn_net.specs.Decode.{is_stop};
-ghost use Rattle.dn_kind.specs.Tables.{output, steps_under};
-ghost use Rattle.dn_kind.specs.Levels.{name_list};
-ghost use Rattle.dn_lookup.specs.Images.{IsImage, records_in};
-ghost use Rattle.dn_lookup.specs.Lookup.{lets_through};
+ghost use Rattle.dn_net.specs.Terms.{is_stop};
+ghost use Rattle.dn_kind.specs.Terms.{name_list, output, steps_under};
+ghost use Rattle.dn_lookup.specs.Terms.{IsImage, lets_through, records_in};
 
 use crate::image::Image;
 use dn_image::slots::record_in;

@@ -1,12 +1,9 @@
 //! The nodes that are made, within the limits of a net.
 
 ghost use Rattle.std.specs.Prelude.{◌≡◌, [], ◌∷◌, ◌++◌, ◌+◌, ◌<◌, ◌≤◌, length, false, OnOk, OnErr, IfSome, IfNone, None, Some, Err, option_map};
-ghost use Rattle.dn_net.specs.Decode.{is_agent, is_unit};
-ghost use Rattle.dn_module.specs.Drafts.{with_draft, is_known, parts_of, names, limit_passed};
-ghost use Rattle.dn_module.specs.Expand.{has_twice};
-ghost use Rattle.dn_module.specs.Machine.{limit_by};
-ghost use Rattle.dn_base.specs.Answers.{Answers};
-ghost use Rattle.dn_module.specs.Faults.{expand_fault_view};
+ghost use Rattle.dn_net.specs.Terms.{is_agent, is_unit};
+ghost use Rattle.dn_module.specs.Terms.{expand_fault_view, has_twice, is_known, limit_by, limit_passed, names, parts_of, with_draft};
+ghost use Rattle.dn_base.specs.Terms.{Answers};
 
 use crate::draft::Draft;
 use crate::fault::ExpandFault;

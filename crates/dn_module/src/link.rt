@@ -2,13 +2,10 @@
 
 ghost use Rattle.std.specs.Prelude.{◌≡◌, ◌≤◌, true, false, map, length, IfOk, IsTrue};
 ghost use Rattle.std.specs.List.{list_all};
-ghost use Rattle.dn_net.specs.Decode.{is_closed, is_formed};
-ghost use Rattle.dn_module.specs.Values.{each};
+ghost use Rattle.dn_net.specs.Terms.{is_closed, is_formed};
+ghost use Rattle.dn_module.specs.Terms.{Links, each, expand_fault_view, has_twice};
 ghost use Rattle.dn_module.specs.Drafts.{names as names_in, number_of, is_known, dests_known, refers_to_known, dest_in, entry_in, unit_in, node_in, node_of};
-ghost use Rattle.dn_module.specs.Expand.{has_twice};
-ghost use Rattle.dn_module.specs.Flaws.{Links};
-ghost use Rattle.dn_base.specs.Answers.{Answers};
-ghost use Rattle.dn_module.specs.Faults.{expand_fault_view};
+ghost use Rattle.dn_base.specs.Terms.{Answers};
 
 use crate::draft::{Draft, DraftDest, DraftEntry, DraftUnit};
 use crate::fault::ExpandFault;

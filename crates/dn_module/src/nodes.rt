@@ -1,14 +1,11 @@
 //! The nodes that declarations make.
 
 ghost use Rattle.std.specs.Prelude.{◌≡◌, ◌≤◌, ℕ, Some, length, map, option_map};
-ghost use Rattle.dn_parse.specs.Views.{name_view, maybe_name_view, block_view, dest_view, entry_view, spec_view, role_view, unit_view, declaration_view};
+ghost use Rattle.dn_parse.specs.Terms.{block_view, declaration_view, dest_view, entry_view, maybe_name_view, name_view, role_view, spec_view, unit_view};
 ghost use Rattle.dn_net.specs.declared.node.Role.TheVariants.{Unit as unit_role};
-ghost use Rattle.dn_kind.specs.Kind.{kind_place};
-ghost use Rattle.dn_module.specs.Values.{each, full_name, full_name_or_none};
-ghost use Rattle.dn_module.specs.Replace.{in_block, in_dest, in_entry, in_reference, in_declared, in_spec, in_declaration};
-ghost use Rattle.dn_module.specs.Drafts.{block_of, dest_of, entry_of, role_of, bare_draft, node_draft, known_kind, draft_of};
-ghost use Rattle.dn_base.specs.Answers.{Answers};
-ghost use Rattle.dn_module.specs.Faults.{name_fault_view, some_flaw};
+ghost use Rattle.dn_kind.specs.Terms.{kind_place};
+ghost use Rattle.dn_module.specs.Terms.{bare_draft, block_of, dest_of, draft_of, each, entry_of, full_name, full_name_or_none, in_block, in_declaration, in_declared, in_dest, in_entry, in_reference, in_spec, known_kind, name_fault_view, node_draft, role_of, some_flaw};
+ghost use Rattle.dn_base.specs.Terms.{Answers};
 
 use crate::draft::{Draft, DraftDest, DraftEntry, DraftUnit};
 use crate::scope::Scope;

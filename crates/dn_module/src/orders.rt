@@ -3,15 +3,11 @@
 ghost use Rattle.std.specs.Prelude.{◌≡◌, ℕ, length, Ok, Err, IfOk, IfErr, IfSome, OnOk, IsTrue};
 ghost use Rattle.std.specs.List.{list_all};
 ghost use Rattle.dn_parse.specs.Tree.{view as asks_view, absorb as asks_absorb};
-ghost use Rattle.dn_parse.specs.Views.{name_view, expr_view, grant_view, route_view, order_view};
-ghost use Rattle.dn_parse.specs.Script.{script_view};
+ghost use Rattle.dn_parse.specs.Terms.{expr_view, grant_view, name_view, order_view, route_view, script_view};
 ghost use Rattle.dn_module.specs.declared.command.Command.{Command};
 ghost use Rattle.dn_module.specs.declared.command.Target.{Target};
-ghost use Rattle.dn_module.specs.Commands.{target_of, asked_of, command_of, commands_of, commands_or_none, node_within, names_within, makes_within};
-ghost use Rattle.dn_module.specs.Values.{value, full_name};
-ghost use Rattle.dn_module.specs.Drafts.{at_line};
-ghost use Rattle.dn_base.specs.Answers.{Answers};
-ghost use Rattle.dn_module.specs.Faults.{expand_fault_view, name_fault_view, some_flaw};
+ghost use Rattle.dn_module.specs.Terms.{asked_of, at_line, command_of, commands_of, commands_or_none, expand_fault_view, full_name, makes_within, name_fault_view, names_within, node_within, some_flaw, target_of, value};
+ghost use Rattle.dn_base.specs.Terms.{Answers};
 
 use crate::command::{Command, Target};
 use crate::fault::ExpandFault;

@@ -1,9 +1,7 @@
 //! What is still to be done while a tree is expanded.
 
 ghost use Rattle.std.specs.Prelude.{◌≡◌, ◌∷◌, [], ◌++◌, IfSome, IfNone, OnOk, OnErr, None};
-ghost use Rattle.dn_module.specs.Expand.{Visibility, outside, statements};
-ghost use Rattle.dn_module.specs.Replace.{Replacement, in_items};
-ghost use Rattle.dn_module.specs.Stack.{visibility_view, body_view, rest_works, first_works, turns_works, turn_works, after_works, use_works, stack_works, work_view};
+ghost use Rattle.dn_module.specs.Terms.{Replacement, Visibility, after_works, body_view, first_works, in_items, outside, rest_works, stack_works, statements, turn_works, turns_works, use_works, visibility_view, work_view};
 
 use crate::modules::Visible;
 use crate::scope::Scope;

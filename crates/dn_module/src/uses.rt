@@ -1,15 +1,9 @@
 //! The use of a module.
 
 ghost use Rattle.std.specs.Prelude.{◌≡◌, map, option_map, false};
-ghost use Rattle.dn_parse.specs.Views.{param_view, arg_view, name_view};
-ghost use Rattle.dn_module.specs.Replace.{in_arg, in_declared};
-ghost use Rattle.dn_module.specs.Expand.{has_twice, fits_param, fit, use_of, given_by};
-ghost use Rattle.dn_module.specs.Stack.{use_works};
-ghost use Rattle.dn_module.specs.Machine.{found_view, replaced_by};
-ghost use Rattle.dn_module.specs.Values.{each};
-ghost use Rattle.dn_module.specs.Words.{given_view};
-ghost use Rattle.dn_base.specs.Answers.{Answers};
-ghost use Rattle.dn_module.specs.Faults.{expand_fault_view, name_fault_view};
+ghost use Rattle.dn_parse.specs.Terms.{arg_view, name_view, param_view};
+ghost use Rattle.dn_module.specs.Terms.{each, expand_fault_view, fit, fits_param, found_view, given_by, given_view, has_twice, in_arg, in_declared, name_fault_view, replaced_by, use_of, use_works};
+ghost use Rattle.dn_base.specs.Terms.{Answers};
 
 use crate::fault::ExpandFault;
 use crate::modules::{Known, Visible};

@@ -1,3 +1,4 @@
+pub mod Terms
 pub mod Tree
 pub mod Actions
 pub mod Forms

@@ -1,12 +1,9 @@
 //! The blocks of a text while it is read: what is open, what stands where, and what is forbidden.
 
 ghost use Rattle.std.specs.Prelude.{◌≡◌, List, map, IfOk};
-ghost use Rattle.dn_parse.specs.Tree.{Item};
-ghost use Rattle.dn_parse.specs.Whole.{no_blocks_yet, closed_block, with_item, with_frame, with_begin, without_frame, outside_blocks, opens_module, before_begin};
-ghost use Rattle.dn_parse.specs.Views.{item_view, param_view, statement_view, opener_view, blocks_view};
-ghost use Rattle.dn_base.specs.Answers.{Answers};
+ghost use Rattle.dn_parse.specs.Terms.{Item, before_begin, blocks_view, closed_block, item_view, misplaced_view, no_blocks_yet, opener_view, opens_module, outside_blocks, param_view, statement_view, with_begin, with_frame, with_item, without_frame};
+ghost use Rattle.dn_base.specs.Terms.{Answers};
 ghost use Rattle.dn_parse.specs.declared.blocks.Misplaced.TheVariants.{OutOfMemory as no_memory};
-ghost use Rattle.dn_parse.specs.Faults.{misplaced_view};
 
 use crate::cursor::Halt;
 use crate::statements::Statement;

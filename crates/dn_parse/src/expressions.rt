@@ -1,11 +1,8 @@
 //! Expressions.
 
 ghost use Rattle.std.specs.Prelude.{◌≡◌, ◌<◌, [], ◌∷◌, map, IfOk, vec_len};
-ghost use Rattle.dn_token.specs.Cursor.{cursor_view};
-ghost use Rattle.dn_parse.specs.Views.{expr_view};
-ghost use Rattle.dn_parse.specs.Descent.{factor_at, expr_at, after_open_at};
-ghost use Rattle.dn_parse.specs.Rows.{as_one, sign_of, member_at, next_member_at, joined_at};
-ghost use Rattle.dn_parse.specs.Faults.{Reads, ReadsNext, IsShorter, Shortens};
+ghost use Rattle.dn_token.specs.Terms.{cursor_view};
+ghost use Rattle.dn_parse.specs.Terms.{IsShorter, Reads, ReadsNext, Shortens, after_open_at, as_one, expr_at, expr_view, factor_at, joined_at, member_at, next_member_at, sign_of};
 
 use crate::cursor::{Halt, after_sign, refusal, sign};
 use crate::syntax::Expr;

@@ -1,12 +1,11 @@
 //! The first admissible placement beside the grants of a book.
 
 ghost use Rattle.std.specs.Prelude.{◌≡◌, ◌≤◌, ◌+◌, map, slice_get, None, IfOk, IfSome, IsTrue};
-ghost use Rattle.dn_net.specs.Decode.{is_agent_at, top};
-ghost use Rattle.dn_kind.specs.Rights.{are_rights};
-ghost use Rattle.dn_placement.specs.Order.{IsFirst, NoneSuited};
-ghost use Rattle.dn_book.specs.Book.{slots_of};
-ghost use Rattle.dn_book.specs.Tables.{IsKept};
-ghost use Rattle.dn_view.specs.Systems.{IsSystem};
+ghost use Rattle.dn_net.specs.Terms.{is_agent_at, top};
+ghost use Rattle.dn_kind.specs.Terms.{are_rights};
+ghost use Rattle.dn_placement.specs.Terms.{IsFirst, NoneSuited};
+ghost use Rattle.dn_book.specs.Terms.{IsKept, slots_of};
+ghost use Rattle.dn_view.specs.Terms.{IsSystem};
 
 use crate::first::first;
 use dn_base::OutOfMemory;

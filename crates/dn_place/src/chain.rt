@@ -1,13 +1,9 @@
 //! The search, hop by hop from memory's end to the agent's end.
 
 ghost use Rattle.std.specs.Prelude.{◌≡◌, ◌∷◌, ◌%◌, ◌*◌, ◌/◌, ◌^◌, ◌+◌, ◌-◌, ◌<◌, ◌≤◌, ℕ, Some, IfOk, length, slice_get};
-ghost use Rattle.dn_net.specs.Decode.{unit_at};
-ghost use Rattle.dn_placement.specs.Placement.{Meets};
-ghost use Rattle.dn_place.specs.Candidates.{Answers, IsChosen, ending, to_unit, to_port, to_output};
-ghost use Rattle.dn_place.specs.Hops.{hops_of};
-ghost use Rattle.dn_place.specs.Marks.{AreMarked, AreUnitsFrom, IsEntry};
-ghost use Rattle.dn_place.specs.Slots.{AreUsable};
-ghost use Rattle.dn_place.specs.Sought.{IsReady};
+ghost use Rattle.dn_net.specs.Terms.{unit_at};
+ghost use Rattle.dn_placement.specs.Terms.{Meets};
+ghost use Rattle.dn_place.specs.Terms.{Answers, AreMarked, AreUnitsFrom, AreUsable, IsChosen, IsEntry, IsReady, ending, hops_of, to_output, to_port, to_unit};
 
 use crate::hops::Hops;
 use crate::marks::{Reach, can_stand, is_allowed};

@@ -2,19 +2,12 @@
 
 ghost use Rattle.std.specs.Prelude.{◌≡◌, ◌<◌, ◌≤◌, ◌+◌, ◌↔◌, length, map, slice_get, IfOk, IfSome, IsTrue, None, []};
 ghost use Rattle.std.specs.List.{All};
-ghost use Rattle.dn_net.specs.Decode.{is_agent_at, top};
-ghost use Rattle.dn_kind.specs.Kind.{IsLawful};
-ghost use Rattle.dn_kind.specs.Rights.{are_rights};
-ghost use Rattle.dn_tables.specs.Set.{FitsNet, fits_kinds, has_slot, record_kept};
-ghost use Rattle.dn_placement.specs.Exposure.{IsAdmissible};
-ghost use Rattle.dn_placement.specs.Order.{IsFirst, NoneSuited};
-ghost use Rattle.dn_placement.specs.Placement.{IsPlacement};
-ghost use Rattle.dn_placement.specs.Slots.{slots_of_set};
-ghost use Rattle.dn_view.specs.Systems.{IsSystem};
-ghost use Rattle.dn_place.specs.Candidates.{Answers};
-ghost use Rattle.dn_place.specs.Hops.{hops_of};
-ghost use Rattle.dn_place.specs.Slots.{slot_of};
-ghost use Rattle.dn_place.specs.Sought.{IsReady};
+ghost use Rattle.dn_net.specs.Terms.{is_agent_at, top};
+ghost use Rattle.dn_kind.specs.Terms.{IsLawful, are_rights};
+ghost use Rattle.dn_tables.specs.Terms.{FitsNet, fits_kinds, has_slot, record_kept};
+ghost use Rattle.dn_placement.specs.Terms.{IsAdmissible, IsFirst, IsPlacement, NoneSuited, slots_of_set};
+ghost use Rattle.dn_view.specs.Terms.{IsSystem};
+ghost use Rattle.dn_place.specs.Terms.{Answers, IsReady, hops_of, slot_of};
 
 use crate::chain::by_hops;
 use crate::hops::Hops;

@@ -1,8 +1,8 @@
 //! What the search asks of a request and of the platform on which it is made.
 
 ghost use Rattle.std.specs.Prelude.{◌≡◌, IfSome, IfNone, Some, None};
-ghost use Rattle.dn_net.specs.Decode.{unit_at};
-ghost use Rattle.dn_place.specs.Sought.{IsFormed, IsReady};
+ghost use Rattle.dn_net.specs.Terms.{unit_at};
+ghost use Rattle.dn_place.specs.Terms.{IsFormed, IsReady};
 
 use crate::hops::Hops;
 use crate::slot::Slot;

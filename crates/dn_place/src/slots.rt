@@ -1,9 +1,8 @@
 //! The slots of a hop.
 
 ghost use Rattle.std.specs.Prelude.{◌≡◌, ◌<◌, ◌≤◌, ◌+◌, ◌-◌, ◌*◌, ◌/◌, ◌%◌, ◌^◌, IsTrue, ◌↔◌, IfSome, IfNone, false};
-ghost use Rattle.dn_net.specs.Decode.{unit_at};
-ghost use Rattle.dn_place.specs.Slots.{AreBarred, AreFree, AreShut, AreUsable, IsWithin, is_free_slot, is_usable_slot, slot_of};
-ghost use Rattle.dn_place.specs.Sought.{IsReady, slot_count};
+ghost use Rattle.dn_net.specs.Terms.{unit_at};
+ghost use Rattle.dn_place.specs.Terms.{AreBarred, AreFree, AreShut, AreUsable, IsReady, IsWithin, is_free_slot, is_usable_slot, slot_count, slot_of};
 
 use crate::quest::Quest;
 use crate::slot::Slot;

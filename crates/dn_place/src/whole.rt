@@ -1,12 +1,9 @@
 //! The search among the placements whose hops are all chosen: the agent's address, and the own hop.
 
 ghost use Rattle.std.specs.Prelude.{◌≡◌, ◌≤◌, ◌↔◌, false, Some, IfOk, IfSome, IfNone, IsTrue, length};
-ghost use Rattle.dn_kind.specs.Rights.{both_rights};
-ghost use Rattle.dn_placement.specs.Order.{IsAt, hop_page};
-ghost use Rattle.dn_placement.specs.Placement.{Leads};
-ghost use Rattle.dn_place.specs.Candidates.{Answers, CanOwn, IsAddressed, IsChosen, PagesBelow, PagesFrom, ending, to_address, to_page};
-ghost use Rattle.dn_place.specs.Hops.{hops_of};
-ghost use Rattle.dn_place.specs.Sought.{IsReady};
+ghost use Rattle.dn_kind.specs.Terms.{both_rights};
+ghost use Rattle.dn_placement.specs.Terms.{IsAt, Leads, hop_page};
+ghost use Rattle.dn_place.specs.Terms.{Answers, CanOwn, IsAddressed, IsChosen, IsReady, PagesBelow, PagesFrom, ending, hops_of, to_address, to_page};
 
 use crate::hops::Hops;
 use crate::quest::{Found, Quest, unit_of};

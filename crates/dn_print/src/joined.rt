@@ -3,7 +3,7 @@
 ghost use Rattle.std.specs.Prelude.{◌≡◌, ◌++◌, length, OnOk, IsTrue};
 ghost use Rattle.std.specs.List.{list_all};
 ghost use Rattle.std.specs.String.{string_bytes};
-ghost use Rattle.dn_print.specs.Statement.{joined};
+ghost use Rattle.dn_print.specs.Terms.{joined};
 
 use crate::OutOfMemory;
 use dn_net::net::Net;

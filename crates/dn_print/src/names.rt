@@ -2,8 +2,8 @@
 
 ghost use Rattle.std.specs.Prelude.{◌≡◌, ◌<◌, ◌++◌, length, nat_lt, IfOk, OnOk, IsTrue, is_ok};
 ghost use Rattle.std.specs.String.{string_bytes};
-ghost use Rattle.dn_kind.specs.Levels.{are_there};
-ghost use Rattle.dn_print.specs.Names.{Appended, name_text, names_text};
+ghost use Rattle.dn_kind.specs.Terms.{are_there};
+ghost use Rattle.dn_print.specs.Terms.{Appended, name_text, names_text};
 
 use crate::OutOfMemory;
 use crate::address::write_address;

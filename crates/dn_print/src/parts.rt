@@ -5,9 +5,8 @@
 ghost use Rattle.std.specs.Prelude.{◌≡◌, ◌++◌, length, true, nat_lt, OnOk, IsTrue};
 ghost use Rattle.std.specs.List.{list_all};
 ghost use Rattle.std.specs.String.{string_bytes};
-ghost use Rattle.dn_net.specs.Decode.{over_within};
-ghost use Rattle.dn_print.specs.Names.{dests_within, entries_within};
-ghost use Rattle.dn_print.specs.Statement.{block_text, node_name, dest_text, entry_text, accept_text, map_text, over_text, unit_text};
+ghost use Rattle.dn_net.specs.Terms.{over_within};
+ghost use Rattle.dn_print.specs.Terms.{accept_text, block_text, dest_text, dests_within, entries_within, entry_text, map_text, node_name, over_text, unit_text};
 
 use crate::OutOfMemory;
 use crate::joined::{Item, write_joined};

@@ -3,9 +3,8 @@
 ghost use Rattle.std.specs.Prelude.{◌≡◌, ◌++◌, length, map, nat_lt, IfOk, OnOk, IsTrue, is_ok};
 ghost use Rattle.std.specs.List.{list_all};
 ghost use Rattle.std.specs.String.{string_bytes};
-ghost use Rattle.dn_interval.specs.Listed.{seen_by};
-ghost use Rattle.dn_print.specs.Names.{Appended};
-ghost use Rattle.dn_print.specs.Rows.{end_text, row_text, rows_text, ends_exist};
+ghost use Rattle.dn_interval.specs.Terms.{seen_by};
+ghost use Rattle.dn_print.specs.Terms.{Appended, end_text, ends_exist, row_text, rows_text};
 
 use crate::OutOfMemory;
 use crate::address::write_address;

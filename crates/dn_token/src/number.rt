@@ -1,8 +1,7 @@
 //! Numbers by their spellings.
 
 ghost use Rattle.std.specs.Prelude.{◌≡◌};
-ghost use Rattle.dn_token.specs.Token.{number_of, fitting, digits_number, decimal_value, hex_value};
-ghost use Rattle.dn_token.specs.Lexing.{base_of, value_of};
+ghost use Rattle.dn_token.specs.Terms.{base_of, decimal_value, digits_number, fitting, hex_value, number_of, value_of};
 
 /// The number that a run spells: decimal digits, or `0x` and hexadecimal digits of either case.
 /// None where it spells none, or one past 2^64 - 1.

@@ -2,13 +2,12 @@
 
 ghost use Rattle.std.specs.Prelude.{◌≡◌, ◌<◌, length, nat_lt, option_map, Some, IfOk, IfSome, IsTrue};
 ghost use Rattle.std.specs.List.{list_all};
-ghost use Rattle.dn_parse.specs.Faults.{parse_fault_view};
-ghost use Rattle.dn_module.specs.Faults.{expand_fault_view};
-ghost use Rattle.dn_net.specs.Rules.{node_fault_view};
-ghost use Rattle.dn_kind.specs.Levels.{are_there};
-ghost use Rattle.dn_kind.specs.Units.{unit_fault_view};
-ghost use Rattle.dn_walk.specs.Rows.{walk_fault_view};
-ghost use Rattle.dn_tool.specs.Refused.{rule_name, by_text, by_line, by_limit, showing, text_refusal, expand_refusal, node_refusal, unit_refusal, walk_refusal, chain_text, fork_text, units_text, IsNodeWithin, AreNodesWithin};
+ghost use Rattle.dn_parse.specs.Terms.{parse_fault_view};
+ghost use Rattle.dn_module.specs.Terms.{expand_fault_view};
+ghost use Rattle.dn_net.specs.Terms.{node_fault_view};
+ghost use Rattle.dn_kind.specs.Terms.{are_there, unit_fault_view};
+ghost use Rattle.dn_walk.specs.Terms.{walk_fault_view};
+ghost use Rattle.dn_tool.specs.Terms.{AreNodesWithin, IsNodeWithin, by_limit, by_line, by_text, chain_text, expand_refusal, fork_text, node_refusal, rule_name, showing, text_refusal, unit_refusal, units_text, walk_refusal};
 
 use dn_base::text::Text;
 use dn_kind::units::UnitFault;

@@ -2,12 +2,10 @@
 
 ghost use Rattle.std.specs.Prelude.{◌≡◌, ◌<◌, length, map, IfOk, IsTrue};
 ghost use Rattle.std.specs.List.{All, list_all};
-ghost use Rattle.dn_kind.specs.Kind.{IsLawful};
-ghost use Rattle.dn_kind.specs.Units.{has_kind};
-ghost use Rattle.dn_net.specs.Decode.{is_closed, over_within};
-ghost use Rattle.dn_shape.specs.Absorb.{absorb_outcome};
-ghost use Rattle.dn_tool.specs.Machine.{IsMachine, kinds_of};
-ghost use Rattle.dn_tool.specs.Reshape.{made_text, limit_text, split_text, reason_text, unfit_text, absorbed_text, no_node_text, absorb_text};
+ghost use Rattle.dn_kind.specs.Terms.{IsLawful, has_kind};
+ghost use Rattle.dn_net.specs.Terms.{is_closed, over_within};
+ghost use Rattle.dn_shape.specs.Terms.{absorb_outcome};
+ghost use Rattle.dn_tool.specs.Terms.{IsMachine, absorb_text, absorbed_text, kinds_of, limit_text, made_text, no_node_text, reason_text, split_text, unfit_text};
 
 use crate::machine::Machine;
 use dn_kind::kinds::Kinds;

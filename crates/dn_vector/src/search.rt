@@ -1,13 +1,11 @@
 //! The least vector that has an admissible placement at a line.
 
 ghost use Rattle.std.specs.Prelude.{◌≡◌, ◌≤◌, ℕ, true, map, slice_get, None, IfOk, IfSome, IsTrue};
-ghost use Rattle.dn_interval.specs.Spans.{has};
-ghost use Rattle.dn_net.specs.Decode.{is_agent_at};
-ghost use Rattle.dn_book.specs.Tables.{IsKept};
-ghost use Rattle.dn_view.specs.Systems.{IsSystem};
-ghost use Rattle.dn_vector.specs.Route.{HasNoPlace};
-ghost use Rattle.dn_vector.specs.Search.{IsLeastAmong, IsLeastOf};
-ghost use Rattle.dn_vector.specs.Vectors.{vector_request};
+ghost use Rattle.dn_interval.specs.Terms.{has};
+ghost use Rattle.dn_net.specs.Terms.{is_agent_at};
+ghost use Rattle.dn_book.specs.Terms.{IsKept};
+ghost use Rattle.dn_view.specs.Terms.{IsSystem};
+ghost use Rattle.dn_vector.specs.Terms.{HasNoPlace, IsLeastAmong, IsLeastOf, vector_request};
 
 use dn_base::OutOfMemory;
 use dn_book::book::Book;

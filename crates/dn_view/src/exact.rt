@@ -2,17 +2,13 @@
 
 ghost use Rattle.std.specs.Prelude.{◌≡◌, ℕ, ◌+◌, ◌≤◌, ◌⊎◌, ◌↔◌, ◌&&◌, nat_eq, map, slice_get, IfOk, OnOk, IsTrue};
 ghost use Rattle.dn_interval.specs.declared.span.TheConstants.{TOP};
-ghost use Rattle.dn_interval.specs.Strands.{segs_give};
-ghost use Rattle.dn_net.specs.Decode.{is_agent_at};
-ghost use Rattle.dn_kind.specs.Rights.{allows, are_rights};
-ghost use Rattle.dn_flat.specs.Views.{name_of_end};
-ghost use Rattle.dn_tables.specs.Set.{FitsNet, record_kept};
-ghost use Rattle.dn_placement.specs.Exposure.{IsAdmissible};
-ghost use Rattle.dn_placement.specs.Placement.{IsPlacement};
-ghost use Rattle.dn_placement.specs.Slots.{slots_of_set};
-ghost use Rattle.dn_view.specs.Exact.{are_buffer, is_buffer_end, is_buffer_row};
-ghost use Rattle.dn_view.specs.Systems.{IsSystem};
-ghost use Rattle.dn_view.specs.Trials.{AreExactIn, ComesIn, IsExactIn, IsPassedIn, IsTrial};
+ghost use Rattle.dn_interval.specs.Terms.{segs_give};
+ghost use Rattle.dn_net.specs.Terms.{is_agent_at};
+ghost use Rattle.dn_kind.specs.Terms.{allows, are_rights};
+ghost use Rattle.dn_flat.specs.Terms.{name_of_end};
+ghost use Rattle.dn_tables.specs.Terms.{FitsNet, record_kept};
+ghost use Rattle.dn_placement.specs.Terms.{IsAdmissible, IsPlacement, slots_of_set};
+ghost use Rattle.dn_view.specs.Terms.{AreExactIn, ComesIn, IsExactIn, IsPassedIn, IsSystem, IsTrial, are_buffer, is_buffer_end, is_buffer_row};
 
 use crate::course::Course;
 use crate::pass::{Part, pass};

@@ -1,11 +1,10 @@
 //! One step in a unit, by the record of a slot of a set of tables.
 
 ghost use Rattle.std.specs.Prelude.{◌≡◌, ◌<◌, ◌^◌, [], ◌∷◌, length, map, None, Some, IsTrue};
-ghost use Rattle.dn_net.specs.Decode.{is_stop};
-ghost use Rattle.dn_kind.specs.Levels.{name_list};
-ghost use Rattle.dn_kind.specs.Tables.{allowing, steps_under};
-ghost use Rattle.dn_tables.specs.Set.{record_kept};
-ghost use Rattle.dn_view.specs.Systems.{AreTables};
+ghost use Rattle.dn_net.specs.Terms.{is_stop};
+ghost use Rattle.dn_kind.specs.Terms.{allowing, name_list, steps_under};
+ghost use Rattle.dn_tables.specs.Terms.{record_kept};
+ghost use Rattle.dn_view.specs.Terms.{AreTables};
 
 use dn_kind::kinds::Kinds;
 use dn_kind::output::sent;

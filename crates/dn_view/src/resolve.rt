@@ -3,14 +3,10 @@
 
 ghost use Rattle.std.specs.Prelude.{◌≡◌, ◌++◌, [], ◌∷◌, ◌<◌, length, map, IfOk, OnOk, IsTrue};
 ghost use Rattle.std.specs.List.{All};
-ghost use Rattle.dn_net.specs.Decode.{is_accepted};
-ghost use Rattle.dn_net.specs.Names.{each_step, passing_names, sorted_names};
-ghost use Rattle.dn_kind.specs.Kind.{IsLawful};
-ghost use Rattle.dn_kind.specs.Levels.{are_there};
-ghost use Rattle.dn_kind.specs.Tables.{allowing, resolved_names_under, steps_under};
-ghost use Rattle.dn_kind.specs.Units.{IsLegalWith};
-ghost use Rattle.dn_tables.specs.Set.{FitsNet, record_kept};
-ghost use Rattle.dn_view.specs.Systems.{AreTables};
+ghost use Rattle.dn_net.specs.Terms.{each_step, is_accepted, passing_names, sorted_names};
+ghost use Rattle.dn_kind.specs.Terms.{IsLawful, IsLegalWith, allowing, are_there, resolved_names_under, steps_under};
+ghost use Rattle.dn_tables.specs.Terms.{FitsNet, record_kept};
+ghost use Rattle.dn_view.specs.Terms.{AreTables};
 
 use crate::output::output;
 use dn_base::OutOfMemory;

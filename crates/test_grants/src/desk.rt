@@ -2,12 +2,11 @@
 
 ghost use Rattle.std.specs.Prelude.{◌≡◌, ◌≤◌, map, IfOk, IfSome, IsTrue};
 ghost use Rattle.std.specs.List.{All};
-ghost use Rattle.dn_net.specs.Legal.{IsLegalNet};
-ghost use Rattle.dn_kind.specs.Kind.{IsLawful};
-ghost use Rattle.dn_kind.specs.Rights.{are_rights};
-ghost use Rattle.dn_flat.specs.Stages.{AreFlats};
-ghost use Rattle.dn_view.specs.Systems.{IsSystem};
-ghost use Rattle.test_grants.specs.Desk.{EndsWithin, IsBoard, IsDesk, IsPlaced, part};
+ghost use Rattle.dn_net.specs.Terms.{IsLegalNet};
+ghost use Rattle.dn_kind.specs.Terms.{IsLawful, are_rights};
+ghost use Rattle.dn_flat.specs.Terms.{AreFlats};
+ghost use Rattle.dn_view.specs.Terms.{IsSystem};
+ghost use Rattle.test_grants.specs.Terms.{EndsWithin, IsBoard, IsDesk, IsPlaced, part};
 
 use crate::own::is_hop_free;
 use bitflags::Flags;

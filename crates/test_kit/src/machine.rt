@@ -1,9 +1,9 @@
 //! A net that keeps all rules.
 
 ghost use Rattle.std.specs.Prelude.{◌≡◌, IfOk, IsTrue, length};
-ghost use Rattle.dn_interval.specs.Rows.{ends_within};
-ghost use Rattle.dn_net.specs.Legal.{IsLegalNet};
-ghost use Rattle.dn_kind.specs.Levels.{are_there};
+ghost use Rattle.dn_interval.specs.Terms.{ends_within};
+ghost use Rattle.dn_net.specs.Terms.{IsLegalNet};
+ghost use Rattle.dn_kind.specs.Terms.{are_there};
 
 use crate::resolve::resolve;
 use dn_flat::flat::{Flat, flatten};

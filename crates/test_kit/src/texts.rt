@@ -2,8 +2,8 @@
 
 ghost use Rattle.std.specs.Prelude.{◌≤◌, length, IfOk, IsTrue};
 ghost use Rattle.std.specs.List.{list_all};
-ghost use Rattle.dn_net.specs.Decode.{is_closed};
-ghost use Rattle.dn_kind.specs.Units.{has_kind};
+ghost use Rattle.dn_net.specs.Terms.{is_closed};
+ghost use Rattle.dn_kind.specs.Terms.{has_kind};
 
 use dn_kind::kinds::Kinds;
 use dn_module::expand::expand;

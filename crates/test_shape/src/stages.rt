@@ -1,8 +1,8 @@
 //! Stages, compared with chains of steps, address by address.
 
 ghost use Rattle.std.specs.Prelude.{◌<◌, length};
-ghost use Rattle.dn_flat.specs.Stages.{IsStage};
-ghost use Rattle.dn_net.specs.Legal.{IsLegalNet};
+ghost use Rattle.dn_flat.specs.Terms.{IsStage};
+ghost use Rattle.dn_net.specs.Terms.{IsLegalNet};
 
 use crate::{legal, names_at};
 use dn_flat::stage::Stage;

@@ -2,11 +2,9 @@
 
 ghost use Rattle.std.specs.Prelude.{◌≡◌, ◌==◌, map, IfOk, IsTrue, IsSome};
 ghost use Rattle.std.specs.List.{All, list_all};
-ghost use Rattle.dn_kind.specs.Kind.{IsLawful};
-ghost use Rattle.dn_kind.specs.Rights.{are_rights};
-ghost use Rattle.dn_kind.specs.Units.{unit_shape};
-ghost use Rattle.dn_tables.specs.Set.{IsEmpty, has_slot, unit_in, units_of};
-ghost use Rattle.test_tables.specs.Slots.{CanHold, CanHoldIn, IsBench};
+ghost use Rattle.dn_kind.specs.Terms.{IsLawful, are_rights, unit_shape};
+ghost use Rattle.dn_tables.specs.Terms.{IsEmpty, has_slot, unit_in, units_of};
+ghost use Rattle.test_tables.specs.Terms.{CanHold, CanHoldIn, IsBench};
 
 use bitflags::Flags;
 use dn_base::device::{DeviceFault, MakeFault, Tables};

@@ -1,6 +1,6 @@
 //! Additions, found by trying all of up to three records.
 
-ghost use Rattle.dn_net.specs.Legal.{IsLegalNet};
+ghost use Rattle.dn_net.specs.Terms.{IsLegalNet};
 
 use crate::tests::records::{Held, ends_of, port_of, power};
 use crate::tests::search::{Site, Taken, held_of, is_free};

@@ -1,7 +1,7 @@
 //! Records in slots, and what names come to under them, one step at a time.
 
 ghost use Rattle.std.specs.Prelude.{◌<◌, length};
-ghost use Rattle.dn_net.specs.Legal.{IsLegalNet};
+ghost use Rattle.dn_net.specs.Terms.{IsLegalNet};
 
 use dn_kind::rights::Access;
 use dn_kind::unit_kind::Record;

@@ -1,6 +1,6 @@
 //! Placements, found by trying all of them.
 
-ghost use Rattle.dn_net.specs.Legal.{IsLegalNet};
+ghost use Rattle.dn_net.specs.Terms.{IsLegalNet};
 
 use crate::tests::records::{Asked, Ends, Held, asked_of, ends_of, port_of, power, views_of};
 use dn_book::book::Book;
