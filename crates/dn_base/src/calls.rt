@@ -1,8 +1,7 @@
 //! The numbers of an object's calls, and which of them fail.
 
 ghost use Rattle.std.specs.Prelude.{◌≡◌, ◌==◌, ◌+◌, ◌<◌, ◌≤◌, ◌^◌, true, false};
-ghost use Rattle.dn_base.specs.Memory.{faults_of, no_calls};
-ghost use Rattle.dn_base.specs.Outside.{IsCounted, next_count};
+ghost use Rattle.dn_base.specs.Terms.{IsCounted, faults_of, next_count, no_calls};
 ghost use Rattle.std.specs.List.{list_any};
 
 use std::marker::Model;

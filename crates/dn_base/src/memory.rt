@@ -5,10 +5,8 @@
 //! number 2^32 - 1 never fails, and with an empty list none does.
 
 ghost use Rattle.std.specs.Prelude.{◌≡◌, ◌≢◌, ◌==◌, ◌+◌, ◌<◌, ◌≤◌, ◌^◌, ◌↔◌, min, Some, [], length, take, IfOk, OnErr, IsErrOf, IsOk, Err, is_err};
-ghost use Rattle.dn_base.specs.Faults.{is_write_fault};
-ghost use Rattle.dn_base.specs.Outside.{IsCounted, Taken, Added, next_count};
+ghost use Rattle.dn_base.specs.Terms.{Added, IsCounted, Taken, faults_of, is_write_fault, next_count, no_calls};
 ghost use Rattle.std.specs.List.{list_any};
-ghost use Rattle.dn_base.specs.Memory.{faults_of, no_calls};
 
 use crate::calls::Calls;
 use crate::sink::{Sink, WriteFault};

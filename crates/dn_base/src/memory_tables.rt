@@ -5,9 +5,7 @@
 
 ghost use Rattle.std.specs.Prelude.{◌≡◌, ◌≢◌, ◌==◌, ◌+◌, ◌<◌, ◌≤◌, ◌^◌, [], ◌∷◌, ◌++◌, true, false, replicate, Some, OnOk, OnErr, IfOk, IsOk, IsErrOf, Err, is_err, refl};
 ghost use Rattle.std.specs.List.{list_any};
-ghost use Rattle.dn_base.specs.Device.{Logged, PlacedAt, has_unit, has_word, is_make_fault, log_told, log_with, sizes_of, told_with, with_word, words_of_unit};
-ghost use Rattle.dn_base.specs.Memory.{faults_of, no_calls};
-ghost use Rattle.dn_base.specs.Outside.{IsCounted, next_count};
+ghost use Rattle.dn_base.specs.Terms.{IsCounted, Logged, PlacedAt, faults_of, has_unit, has_word, is_make_fault, log_told, log_with, next_count, no_calls, sizes_of, told_with, with_word, words_of_unit};
 ghost use Rattle.dn_base.specs.declared.device.TableEvent.{TableEvent};
 ghost use Rattle.dn_base.specs.declared.device.UnitWords.{UnitWords};
 

@@ -6,4 +6,5 @@ pub mod Serials
 pub mod Sets
 pub mod State
 pub mod Tables
+pub mod Terms
 pub mod Writes

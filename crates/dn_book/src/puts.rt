@@ -2,16 +2,13 @@
 
 ghost use Rattle.std.specs.Prelude.{◌≡◌, ◌<◌, ◌++◌, [], ◌∷◌, filter, map, reverse, Some, IsTrue, OnOk, is_err};
 ghost use Rattle.std.specs.List.{All};
-ghost use Rattle.dn_base.specs.Outside.{IsCounted};
+ghost use Rattle.dn_base.specs.Terms.{IsCounted};
 ghost use Rattle.dn_net.specs.declared.node.Unit.{Unit as UnitPart};
-ghost use Rattle.dn_net.specs.Decode.{unit_at};
-ghost use Rattle.dn_kind.specs.Kind.{IsLawful};
-ghost use Rattle.dn_kind.specs.Rights.{are_rights};
-ghost use Rattle.dn_kind.specs.Units.{KeepsUnitShape, is_shaped};
-ghost use Rattle.dn_placement.specs.Records.{hop_rights};
-ghost use Rattle.dn_tables.specs.Set.{FitsNet, IsOnDevice, IsPackableIn, fits_kinds, has_slot, unit_in};
-ghost use Rattle.dn_book.specs.Sets.{AreFit, AreOpen, ArePut, FitsUnit, KeepsFit, after_puts, is_used_by, put_at, put_log};
-ghost use Rattle.dn_book.specs.Writes.{AreAdded, fence_events, grant_slots, hop_slots, hop_slots_by, joined_slots};
+ghost use Rattle.dn_net.specs.Terms.{unit_at};
+ghost use Rattle.dn_kind.specs.Terms.{IsLawful, KeepsUnitShape, are_rights, is_shaped};
+ghost use Rattle.dn_placement.specs.Terms.{hop_rights};
+ghost use Rattle.dn_tables.specs.Terms.{FitsNet, IsOnDevice, IsPackableIn, fits_kinds, has_slot, unit_in};
+ghost use Rattle.dn_book.specs.Terms.{AreAdded, AreFit, AreOpen, ArePut, FitsUnit, KeepsFit, after_puts, fence_events, grant_slots, hop_slots, hop_slots_by, is_used_by, joined_slots, put_at, put_log};
 
 use crate::grant::Grant;
 use crate::slots::{end_slot, first_slot, slot_record};

@@ -1,16 +1,15 @@
 -- What is known of a request for which no refusal holds.
-use Rattle.std.proofs.Common.{◌≡◌, ◌∙◌, sym, refl, subst, ℕ, ◌+◌, ◌<◌, ◌≤◌, Bool, true, false, if◌then◌else◌, not, nat_le, List, [], ◌∷◌, ◌++◌, length, slice_get, Option, Some, None, Result, Err, IsTrue}
+use Rattle.std.proofs.Common.{◌≡◌, sym, refl, subst, ℕ, ◌+◌, ◌<◌, ◌≤◌, Bool, true, false, if◌then◌else◌, not, nat_le, List, [], ◌∷◌, ◌++◌, length, slice_get, Option, Some, None, Result, Err, IsTrue}
 use Rattle.std.proofs.lemmas.Bool.{leb-false}
 use Rattle.std.specs.List.{All}
 use Rattle.dn_net.specs.declared.node.NodeDecl.{NodeDecl}
 use Rattle.dn_net.specs.Legal.{IsLegalNet}
 use Rattle.dn_kind.specs.Kind.{IsLawful, Meaning}
 use Rattle.dn_tables.specs.declared.table.NodeTable.{NodeTable}
-use Rattle.dn_view.specs.Addition.{AreProper}
 use Rattle.dn_view.proofs.AddedLaw.{refusal_is_complete}
 use Rattle.dn_book.specs.Tables.{IsKept}
 use Rattle.dn_book.proofs.Faithful.{grant_keeps_book}
-use Rattle.dn_book.proofs.KeptEmpty.{kept_records_are_proper}
+use Rattle.dn_place.proofs.Proper.{proper_slots}
 use Rattle.dn_net.specs.Decode.{is_agent_at, top}
 use Rattle.dn_kind.specs.Rights.{are_rights}
 use Rattle.dn_tables.specs.Placement.{Place}
@@ -106,17 +105,6 @@ pub not_memory : (f : CommitFault) (w : GrantFault) →
     ◌≡◌ {A = Result (Unit {0}) CommitFault} (Err f) (Err commit_memory) → ⊥
 not_memory commit_device w e h m = cc
 not_memory commit_memory w e h m = cc
-
--- the slots as a book that is kept leaves them are proper
-proper_slots : (net : List NodeDecl) (kinds : List Meaning) (book : List Grant) (set : List NodeTable) →
-    All IsLawful kinds → IsKept net kinds book set → AreProper net (slots_of net book)
-proper_slots net kinds book set lawful kept =
-    let k = kept_records_are_proper net kinds book set lawful kept in
-    record {
-      held = k.0;
-      empty = λ node slot free r e. (let f : None ≡ Some r = sym (k.1 node slot free) ∙ e in cc);
-      shared = k.2;
-    }
 
 -- where no placement is admissible, no addition gives one address
 pub no_addition : (net : List NodeDecl) (kinds : List Meaning) (book : List Grant) (set : List NodeTable)

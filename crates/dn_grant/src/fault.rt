@@ -1,7 +1,7 @@
 //! Why a request is not granted.
 
 ghost use Rattle.std.specs.Prelude.{◌≡◌};
-ghost use Rattle.dn_grant.specs.Faults.{fault_of_commit};
+ghost use Rattle.dn_grant.specs.Terms.{fault_of_commit};
 ghost use Rattle.dn_grant.specs.declared.fault.GrantFault.TheVariants.{OutOfMemory as no_memory};
 
 use dn_book::book::CommitFault;

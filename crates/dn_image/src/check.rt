@@ -3,11 +3,9 @@
 ghost use Rattle.std.specs.Prelude.{◌≡◌, ◌≢◌, ◌↔◌, Err, ◌++◌, ◌+◌, ◌*◌, ◌<◌, ◌≤◌, ◌^◌, length, map, take, Option, Some, IfOk, IsTrue};
 ghost use Rattle.std.specs.List.{All};
 ghost use Rattle.std.specs.Option.{option_copied};
-ghost use Rattle.dn_base.specs.Answers.{Answers};
-ghost use Rattle.dn_kind.specs.Kind.{IsLawful};
-ghost use Rattle.dn_kind.specs.Units.{KeepsUnitShape, has_shape, is_shaped};
-ghost use Rattle.dn_image.specs.Image.{count_unit};
-ghost use Rattle.dn_image.specs.Reading.{Passes, broken_image, header_fields, image_fault_view, reading_by, unit_fields, units_fields, version_of};
+ghost use Rattle.dn_base.specs.Terms.{Answers};
+ghost use Rattle.dn_kind.specs.Terms.{IsLawful, KeepsUnitShape, has_shape, is_shaped};
+ghost use Rattle.dn_image.specs.Terms.{Passes, broken_image, count_unit, header_fields, image_fault_view, reading_by, unit_fields, units_fields, version_of};
 
 use crate::fault::ImageFault;
 use crate::slots::{count_words, record_width};

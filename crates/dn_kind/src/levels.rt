@@ -2,9 +2,8 @@
 
 ghost use Rattle.std.specs.Prelude.{◌≡◌, ◌++◌, ◌+◌, ◌<◌, ◌^◌, map, nat_le, IfOk, OnOk, IsTrue};
 ghost use Rattle.std.specs.List.{list_all};
-ghost use Rattle.dn_net.specs.Decode.{moved, top};
-ghost use Rattle.dn_net.specs.Names.{sorted_names};
-ghost use Rattle.dn_kind.specs.Levels.{name_list};
+ghost use Rattle.dn_net.specs.Terms.{moved, sorted_names, top};
+ghost use Rattle.dn_kind.specs.Terms.{name_list};
 
 use dn_net::names::Names;
 use dn_net::node::{Dest, Name};

@@ -53,6 +53,18 @@ role_of plain_role = Plain
 role_of agent_role = Agent
 role_of vectors_role = Vectors
 
+-- a node that neither accepts nor maps anything
+abbrev pub bare_draft : ℕ → Role → List ℕ → Option DraftUnit → Draft
+bare_draft line role name parts = record {
+  line = line;
+  role = role;
+  name = name;
+  accepts = [];
+  entries = [];
+  over = None;
+  unit = parts;
+}
+
 -- a node, its expressions and the indices of its references taken from left to right
 abbrev pub node_draft : ℕ → RoleOf → List Part → Spec → Result Draft Flaw
 node_draft line role name spec = do
@@ -86,15 +98,8 @@ unit_draft kinds line name kind page slots reach ports = do
   s ← value_within 4294967295 slots
   r ← value_within 255 reach
   texts ← each full_name ports
-  Ok (record {
-    line = line;
-    role = UnitRole;
-    name = text;
-    accepts = [];
-    entries = [];
-    over = None;
-    unit = Some (record { kind = number; page = p; slots = s; reach = r; ports = texts });
-  })
+  Ok (bare_draft line UnitRole text
+      (Some (record { kind = number; page = p; slots = s; reach = r; ports = texts })))
 
 -- the draft of a declaration
 abbrev pub draft_of : List Meaning → ℕ → Declaration → Result Draft Flaw

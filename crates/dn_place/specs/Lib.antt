@@ -5,3 +5,4 @@ pub mod Platforms
 pub mod Rows
 pub mod Slots
 pub mod Sought
+pub mod Terms

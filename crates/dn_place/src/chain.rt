@@ -1,23 +1,18 @@
 //! The search, hop by hop from memory's end to the agent's end.
 
 ghost use Rattle.std.specs.Prelude.{◌≡◌, ◌∷◌, ◌%◌, ◌*◌, ◌/◌, ◌^◌, ◌+◌, ◌-◌, ◌<◌, ◌≤◌, ℕ, Some, IfOk, length, slice_get};
-ghost use Rattle.dn_net.specs.Decode.{unit_at};
-ghost use Rattle.dn_placement.specs.Placement.{Meets};
-ghost use Rattle.dn_place.specs.Candidates.{Answers, IsChosen, ending, to_unit, to_port, to_output};
-ghost use Rattle.dn_place.specs.Hops.{hops_of};
-ghost use Rattle.dn_place.specs.Marks.{AreMarked, AreUnitsFrom, IsEntry};
-ghost use Rattle.dn_place.specs.Slots.{AreUsable};
-ghost use Rattle.dn_place.specs.Sought.{IsReady};
+ghost use Rattle.dn_net.specs.Terms.{unit_at};
+ghost use Rattle.dn_placement.specs.Terms.{Meets};
+ghost use Rattle.dn_place.specs.Terms.{Answers, AreMarked, AreUnitsFrom, AreUsable, IsChosen, IsEntry, IsReady, ending, hops_of, to_output, to_port, to_unit};
 
 use crate::hops::Hops;
 use crate::marks::{Reach, can_stand, is_allowed};
-use crate::quest::{Quest, unit_of};
+use crate::quest::{Found, Quest, unit_of};
 use crate::rows::{is_clear, output, rows_toward, wanted};
 use crate::slots::{next_input, power};
 use crate::whole::by_agent;
-use dn_base::OutOfMemory;
 use dn_net::node::Unit;
-use dn_tables::placement::{Hop, Placement};
+use dn_tables::placement::Hop;
 use std::alloc::Global;
 
 /// The first placement of so many hops that ends with the chosen ones.
@@ -28,7 +23,7 @@ pub(crate) fn by_hops<Q: Quest>(
     reach: &Reach,
     count: u8,
     chosen: Hops,
-) -> Result<Option<Placement>, OutOfMemory>
+) -> Found
     requires sound { Q.is_sound quest.now }
     requires ready { IsReady (Q.sought quest.now) }
     requires marked { AreMarked (Q.sought quest.now) reach.now.first.items
@@ -64,7 +59,7 @@ fn by_unit<Q: Quest>(
     count: u8,
     chosen: Hops,
     unit: u16,
-) -> Result<Option<Placement>, OutOfMemory>
+) -> Found
     requires sound { Q.is_sound quest.now }
     requires ready { IsReady (Q.sought quest.now) }
     requires marked { AreMarked (Q.sought quest.now) reach.now.first.items
@@ -100,7 +95,7 @@ fn by_port<Q: Quest>(
     translator: &Unit,
     unit: u16,
     port: u8,
-) -> Result<Option<Placement>, OutOfMemory>
+) -> Found
     requires sound { Q.is_sound quest.now }
     requires ready { IsReady (Q.sought quest.now) }
     requires marked { AreMarked (Q.sought quest.now) reach.now.first.items
@@ -144,7 +139,7 @@ fn by_output<Q: Quest>(
     unit: u16,
     port: u8,
     y: u64,
-) -> Result<Option<Placement>, OutOfMemory>
+) -> Found
     requires sound { Q.is_sound quest.now }
     requires ready { IsReady (Q.sought quest.now) }
     requires marked { AreMarked (Q.sought quest.now) reach.now.first.items
@@ -192,7 +187,7 @@ fn by_input<Q: Quest>(
     chosen: Hops,
     translator: &Unit,
     hop: Hop,
-) -> Result<Option<Placement>, OutOfMemory>
+) -> Found
     requires sound { Q.is_sound quest.now }
     requires ready { IsReady (Q.sought quest.now) }
     requires marked { AreMarked (Q.sought quest.now) reach.now.first.items

@@ -2,7 +2,7 @@
 
 ghost use Rattle.std.specs.Prelude.{◌≡◌, ◌≤◌, ◌++◌, length, IfOk, OnOk};
 ghost use Rattle.std.specs.String.{string_bytes};
-ghost use Rattle.dn_print.specs.Dump.{dump_text, heading_text, line_text, lines_text};
+ghost use Rattle.dn_print.specs.Terms.{dump_text, heading_text, line_text, lines_text};
 
 use crate::OutOfMemory;
 use std::alloc::Global;

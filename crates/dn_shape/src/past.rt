@@ -3,15 +3,10 @@
 ghost use Rattle.std.specs.Prelude.{◌≡◌, ◌<◌, ◌≤◌, ◌+◌, ◌-◌, ◌++◌, ℕ, length, map, slice_get, option_map, Some, IfOk, OnOk};
 ghost use Rattle.std.specs.List.{All};
 ghost use Rattle.dn_interval.specs.declared.row.End.{End};
-ghost use Rattle.dn_interval.specs.Listed.{seen_by};
-ghost use Rattle.dn_interval.specs.Strands.{segs_give};
-ghost use Rattle.dn_net.specs.Rules.{KeepsNodeRules};
-ghost use Rattle.dn_net.specs.Walks.{extended, still};
-ghost use Rattle.dn_shape.specs.Absorb.{dest_of_end, entry_of_row, rows_past};
-ghost use Rattle.dn_shape.specs.Past.{LeadOn, told_give, told_onward, walks_past};
-ghost use Rattle.dn_walk.specs.Legs.{told_legs};
-ghost use Rattle.dn_walk.specs.Levels.{told_on};
-ghost use Rattle.dn_walk.specs.Rows.{row_view, told_by_walk};
+ghost use Rattle.dn_interval.specs.Terms.{seen_by, segs_give};
+ghost use Rattle.dn_net.specs.Terms.{KeepsNodeRules, extended, still};
+ghost use Rattle.dn_shape.specs.Terms.{LeadOn, dest_of_end, entry_of_row, rows_past, told_give, told_onward, walks_past};
+ghost use Rattle.dn_walk.specs.Terms.{row_view, told_by_walk, told_legs, told_on};
 
 use dn_base::OutOfMemory;
 use dn_base::items::Items;

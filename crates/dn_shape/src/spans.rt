@@ -1,9 +1,9 @@
 //! The maximal spans of what a node accepts.
 
 ghost use Rattle.std.specs.Prelude.{◌≡◌, ◌<◌, length, map, slice_get, option_map, IfOk, Some};
-ghost use Rattle.dn_net.specs.Rules.{KeepsNodeRules};
-ghost use Rattle.dn_shape.specs.Split.{maximal_spans};
-ghost use Rattle.dn_walk.specs.Legs.{span_view};
+ghost use Rattle.dn_net.specs.Terms.{KeepsNodeRules};
+ghost use Rattle.dn_shape.specs.Terms.{maximal_spans};
+ghost use Rattle.dn_walk.specs.Terms.{span_view};
 
 use dn_base::OutOfMemory;
 use dn_interval::Span;

@@ -3,14 +3,10 @@
 ghost use Rattle.std.specs.Prelude.{◌≡◌, ◌++◌, ℕ, ◌+◌, ◌*◌, ◌-◌, ◌<◌, ◌≤◌, ◌^◌, [], true, length, map, replicate, slice_get, Option, Some, None, IfOk, IsTrue, is_err};
 ghost use Rattle.std.specs.List.{All};
 ghost use Rattle.std.specs.Option.{option_copied};
-ghost use Rattle.dn_base.specs.Device.{has_word};
-ghost use Rattle.dn_base.specs.Outside.{IsCounted};
+ghost use Rattle.dn_base.specs.Terms.{IsCounted, has_word};
 ghost use Rattle.dn_net.specs.declared.node.Unit.{Unit as UnitPart};
-ghost use Rattle.dn_kind.specs.Kind.{Meaning, IsLawful, IsPackable, gate_word};
-ghost use Rattle.dn_kind.specs.Tables.{record_of_unit, slot_words};
-ghost use Rattle.dn_kind.specs.Units.{is_shaped, has_shape, unit_shape};
-ghost use Rattle.dn_tables.specs.Set.{fits_by, fresh_by, has_slot_by, is_sized, packed_for, width_by, with_words};
-ghost use Rattle.dn_tables.specs.Writes.{AreWritten, clears_from, writes_from};
+ghost use Rattle.dn_kind.specs.Terms.{IsLawful, IsPackable, Meaning, gate_word, has_shape, is_shaped, record_of_unit, slot_words, unit_shape};
+ghost use Rattle.dn_tables.specs.Terms.{AreWritten, clears_from, fits_by, fresh_by, has_slot_by, is_sized, packed_for, width_by, with_words, writes_from};
 
 use crate::words::SlotWords;
 use crate::writes::{clear_all, write_all};

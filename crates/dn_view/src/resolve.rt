@@ -3,13 +3,10 @@
 
 ghost use Rattle.std.specs.Prelude.{◌≡◌, ◌++◌, [], ◌∷◌, ◌<◌, length, map, IfOk, OnOk, IsTrue};
 ghost use Rattle.std.specs.List.{All};
-ghost use Rattle.dn_net.specs.Decode.{is_accepted};
-ghost use Rattle.dn_net.specs.Names.{each_step, passing_names, sorted_names};
-ghost use Rattle.dn_kind.specs.Kind.{IsLawful};
-ghost use Rattle.dn_kind.specs.Levels.{are_there};
-ghost use Rattle.dn_kind.specs.Tables.{allowing, resolved_names_under, steps_under};
-ghost use Rattle.dn_kind.specs.Units.{IsLegalWith};
-ghost use Rattle.dn_tables.specs.Set.{FitsNet, record_kept};
+ghost use Rattle.dn_net.specs.Terms.{each_step, is_accepted, passing_names, sorted_names};
+ghost use Rattle.dn_kind.specs.Terms.{IsLawful, IsLegalWith, allowing, are_there, resolved_names_under, steps_under};
+ghost use Rattle.dn_tables.specs.Terms.{FitsNet, record_kept};
+ghost use Rattle.dn_view.specs.Terms.{AreTables};
 
 use crate::output::output;
 use dn_base::OutOfMemory;
@@ -74,11 +71,8 @@ fn next_level(
     level: &[Name],
     accepted: &mut Vec<Name>,
 ) -> Result<Names, OutOfMemory>
-    requires lawful { All (λ k. IsLawful (meaning (k.vtable, k.value))) kinds.now.list.items }
-    requires legal { IsLegalWith
-        (map (λ k. meaning (k.vtable, k.value)) kinds.now.list.items) net.now }
-    requires fits { FitsNet net.now
-        (map (λ k. meaning (k.vtable, k.value)) kinds.now.list.items) tables.now }
+    requires tables { AreTables (λ k. meaning (k.vtable, k.value))
+        kinds.now.list.items net.now tables.now }
     requires there { IsTrue (are_there (length net.now) level.now) }
     ensures accepted { OnOk result (accepted.new.items ≡
         accepted.old.items ++ passing_names (is_accepted net.now) level.now) }
@@ -104,11 +98,8 @@ fn push_steps(
     accepted: &mut Vec<Name>,
     next: &mut Vec<Name>,
 ) -> Result<(), OutOfMemory>
-    requires lawful { All (λ k. IsLawful (meaning (k.vtable, k.value))) kinds.now.list.items }
-    requires legal { IsLegalWith
-        (map (λ k. meaning (k.vtable, k.value)) kinds.now.list.items) net.now }
-    requires fits { FitsNet net.now
-        (map (λ k. meaning (k.vtable, k.value)) kinds.now.list.items) tables.now }
+    requires tables { AreTables (λ k. meaning (k.vtable, k.value))
+        kinds.now.list.items net.now tables.now }
     requires there { name.node < length net.now }
     ensures accepted { OnOk result (accepted.new.items ≡
         accepted.old.items ++ passing_names (is_accepted net.now) (name ∷ [])) }

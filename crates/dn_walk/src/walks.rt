@@ -3,18 +3,11 @@
 ghost use Rattle.std.specs.Prelude.{◌≡◌, ◌<◌, ◌≤◌, ◌++◌, drop, map, length, IfOk, IsTrue, option_map};
 ghost use Rattle.std.specs.List.{All, flat_map};
 ghost use Rattle.std.specs.List.Sorted.{IsNonDecreasingBy};
-ghost use Rattle.dn_base.specs.Answers.{Checks};
-ghost use Rattle.dn_net.specs.Rules.{KeepsNodeRules};
-ghost use Rattle.dn_net.specs.Decode.{step_limit};
-ghost use Rattle.dn_net.specs.Legal.{IsNet};
-ghost use Rattle.dn_net.specs.Units.{has_plain_units};
-ghost use Rattle.dn_net.specs.UnitRules.{IsShallow, unit_numbers};
-ghost use Rattle.dn_net.specs.Walks.{live_walks};
-ghost use Rattle.dn_net.specs.WalkRules.{unit_fault, walk_fault, has_loop, is_deep};
+ghost use Rattle.dn_base.specs.Terms.{Checks};
+ghost use Rattle.dn_net.specs.Terms.{IsNet, IsShallow, KeepsNodeRules, has_loop, has_plain_units, is_deep, live_walks, step_limit, unit_fault, unit_numbers, walk_fault};
 ghost use Rattle.dn_walk.specs.declared.level.TheConstants.{WALK_LIMIT};
 ghost use Rattle.dn_walk.specs.declared.walks.WalkRow.{WalkRow};
-ghost use Rattle.dn_walk.specs.Rows.{AreWalksOf, walk_fault_view, row_view, told_by_walk};
-ghost use Rattle.dn_walk.specs.Ways.{told_cycle, told_path};
+ghost use Rattle.dn_walk.specs.Terms.{AreWalksOf, row_view, told_by_walk, told_cycle, told_path, walk_fault_view};
 
 use crate::accepted::accepted_sets;
 use crate::chain::first_chain;
@@ -162,7 +155,9 @@ fn checked_rows(alloc: Global, net: &Net, levels: Levels) -> Result<Vec<Items<Wa
     let rows = table_rows(alloc, levels)?;
     check_units(alloc, net, &rows, &units)?;
     let mut pieces = Vec::new(alloc);
-    pieces.push(Items::from_vec(rows))?;
+    pieces
+        .push(Items::from_vec(rows))
+        .or(Err(WalkFault::OutOfMemory))?;
     Ok(pieces)
 }
 

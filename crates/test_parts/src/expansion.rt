@@ -27,9 +27,10 @@ fn names_of(alloc: Global, net: &Net) -> Result<String, AllocError> {
 }
 
 #[test]
-fn takes_bodies_in_their_order(rt: HostRuntime) -> Result<(), Fail> {
+fn expands_or_names_the_first_fault(rt: HostRuntime) -> Result<(), Fail> {
     let alloc = rt.alloc();
     let rows = [
+        // Bodies are taken in their order.
         ("for i in 2..4; a[i] is; end; begin;", " a[2] a[3] a[4]"),
         ("for i in 3..2; a[i] is; end; b is; begin;", " b"),
         (
@@ -76,18 +77,7 @@ fn takes_bodies_in_their_order(rt: HostRuntime) -> Result<(), Fail> {
             "module m(num k, node k); end; begin;",
             "Duplicate { line: 1 }",
         ),
-    ];
-    for (text, wanted) in rows {
-        let names = names(alloc, text)?;
-        assert_eq!(rt; names.as_str(), wanted);
-    }
-    Ok(())
-}
-
-#[test]
-fn counts_each_statement_and_each_turn(rt: HostRuntime) -> Result<(), Fail> {
-    let alloc = rt.alloc();
-    let rows = [
+        // Each statement and each turn counts.
         ("for i in 0..65534;\nend; begin;", ""),
         ("for i in 0..65533;\nend; a is; begin;", " a"),
         (

@@ -3,9 +3,8 @@
 ghost use Rattle.std.specs.Prelude.{◌≡◌, ◌<◌, ◌&&◌, [], nat_lt, map, None, IfOk, IsTrue};
 ghost use Rattle.std.specs.List.{All, list_all};
 ghost use Rattle.std.specs.Option.{option_copied};
-ghost use Rattle.dn_net.specs.Decode.{is_bare, is_closed, is_formed, over_within, ports_within, refers_within};
-ghost use Rattle.dn_kind.specs.Kind.{IsLawful};
-ghost use Rattle.dn_kind.specs.Units.{IsLegalWith, has_kind};
+ghost use Rattle.dn_net.specs.Terms.{is_bare, is_closed, is_formed, over_within, ports_within, refers_within};
+ghost use Rattle.dn_kind.specs.Terms.{IsLawful, IsLegalWith, has_kind};
 
 use crate::PAGES;
 use crate::unmade::Unmade;

@@ -1,8 +1,8 @@
 //! Bytes that are an image of a net of two units, or are not at one place each.
 
 ghost use Rattle.std.specs.List.{All};
-ghost use Rattle.dn_kind.specs.Kind.{IsLawful};
-ghost use Rattle.test_tables.specs.Slots.{IsBoard};
+ghost use Rattle.dn_kind.specs.Terms.{IsLawful};
+ghost use Rattle.test_tables.specs.Terms.{IsBoard};
 
 use crate::boards::two_units;
 use dn_image::check::check;

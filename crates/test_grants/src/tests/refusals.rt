@@ -1,8 +1,8 @@
 //! Refusals of one address, compared with what trying all additions of up to three records finds.
 
 ghost use Rattle.std.specs.List.{All};
-ghost use Rattle.dn_kind.specs.Kind.{IsLawful};
-ghost use Rattle.test_grants.specs.Desk.{IsDesk};
+ghost use Rattle.dn_kind.specs.Terms.{IsLawful};
+ghost use Rattle.test_grants.specs.Terms.{IsDesk};
 
 use crate::desk::{Desk, board_of, desk_of, system_of};
 use crate::tests::additions::{Given, all_given};

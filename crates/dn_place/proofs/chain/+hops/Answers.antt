@@ -59,7 +59,6 @@ by_port-by_output-requires g t c =
     let hops = (hops_of c.args.chosen) in
     let front = to_port c.args.count hops c.args.unit c.args.port in
     let node = get_or c.as_slice.result.now c.from.result 0 in
-    let read = port_read c.as_slice.result.now c.args.translator.now.ports c.from.result c.args.port c.as_slice.ensures c.from.ensures c.requires.port in
     let here = (row_asked (g.Q.Quest.sought c.args.quest.now) hops c.row-item.result c.wanted-target.result c.request.result c.request-size.result c.in-Some.y c.wanted-target.ensures c.request.ensures c.request-size.ensures).0 c.in-Some.ensures.some in
     let same : c.request-size.result.size ≡ (g.Q.Quest.sought c.args.quest.now).request.size = ap (λ (r : Request). r.size) c.request-size.ensures in
     let reached : c.in-Some.y + (g.Q.Quest.sought c.args.quest.now).request.size ≤ 2 ^ c.args.translator.now.reach = omega (arith, c.power-end.ensures, c.if-y-size.true, same) in

@@ -13,8 +13,7 @@ use Rattle.dn_view.proofs.resolve.resolve.Goals.{else-loop-test, then-loop-test+
 
 pub loop-init : goal.loop-init
 loop-init g c =
-    let kinds : List Meaning = map (λ k. (goal.UnitKind-dyn g (k.vtable, k.value)).meaning k.value) c.args.kinds.now.list.items in
-    let h : Held = allowing c.args.access (record_kept kinds c.args.tables.now) in
+    let h : Held = allowing c.args.access (record_kept (map (λ k. (goal.UnitKind-dyn g (k.vtable, k.value)).meaning k.value) c.args.kinds.now.list.items) c.args.tables.now) in
     let f : Name → List Name = steps_under c.args.net.now h in
     let p : Name → Bool = is_accepted c.args.net.now in
     let level : c.insert.new.self ≡ c.args.name ∷ [] = search rules in

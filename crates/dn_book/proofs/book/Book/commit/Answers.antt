@@ -22,7 +22,7 @@ use Rattle.dn_book.proofs.book.Book.commit.Goals as goal
 same_grant : (g : Over) (c : In-Some g) → c.in-Some.live.now ≡ c.args.grant
 same_grant g c =
     let new : has_id c.args.grant.id c.self.inside.grants ≡ false = ap (λ (b : BookState). has_id c.args.grant.id b.grants) c.self.view_is ∙ c.requires.placed.new in
-    is_behind c.self.inside.grants c.push.new.self c.args.grant c.in-Some.live.now new c.in_ok-push.ensures.pushed (sym (ap option_copied c.in-Some.is) ∙ c.get.ensures)
+    is_behind c.self.inside.grants c.push.new.self c.args.grant c.in-Some.live.now new c.in-Ok.ensures.pushed (sym (ap option_copied c.in-Some.is) ∙ c.get.ensures)
 
 -- what is known of it
 coming : (g : Over) (c : In-Some g) → Coming c.args.net.now (map (λ k. (goal.UnitKind-dyn g (k.vtable, k.value)).meaning k.value) c.args.kinds.now.list.items) c.self.inside.grants c.in-Some.live.now c.self.inside.tables
@@ -68,7 +68,7 @@ pub returns-clause-kept : goal.returns-clause-kept
 returns-clause-kept g c =
     let kinds : List Meaning = map (λ k. (goal.UnitKind-dyn g (k.vtable, k.value)).meaning k.value) c.args.kinds.now.list.items in
     let was : is_err c.write_grant.result ≡ false = search rules in
-    let all : c.push.new.self ≡ c.self.inside.grants ++ c.in-Some.live.now ∷ [] = c.in_ok-push.ensures.pushed ∙ ap (λ (w : Grant). c.self.inside.grants ++ w ∷ []) (sym (same_grant g (goal.at.returns-clause-kept g c).In-Some)) in
+    let all : c.push.new.self ≡ c.self.inside.grants ++ c.in-Some.live.now ∷ [] = c.in-Ok.ensures.pushed ∙ ap (λ (w : Grant). c.self.inside.grants ++ w ∷ []) (sym (same_grant g (goal.at.returns-clause-kept g c).In-Some)) in
     subst (λ (b : List Grant). IsKept c.args.net.now kinds b c.add_uses.new.tables) (sym all) (committed c.args.net.now kinds c.self.inside.grants c.in-Some.live.now c.self.inside.tables (coming g (goal.at.returns-clause-kept g c).In-Some) c.write_grant.new.tables c.add_uses.new.tables (made g (goal.at.returns-clause-kept g c).After-write_grant was) c.add_uses.ensures)
 
 pub returns-clause-added : goal.returns-clause-added
@@ -78,7 +78,7 @@ returns-clause-added g c other =
 
 pub remove-requires : goal.remove-requires
 remove-requires g c =
-    let pushed : c.push.new.self ≡ c.self.inside.grants ++ c.args.grant ∷ [] = c.in_ok-push.ensures.pushed in
+    let pushed : c.push.new.self ≡ c.self.inside.grants ++ c.args.grant ∷ [] = c.in-Ok.ensures.pushed in
     let sound : IsSound c.args.net.now c.self.inside.grants = subst (λ (b : BookState). IsSound c.args.net.now b.grants) (sym c.self.view_is) c.requires.kept.sound in
     let placed : IsGrantFor c.args.net.now c.self.inside.grants c.args.grant = subst (λ (b : BookState). IsGrantFor c.args.net.now b.grants c.args.grant) (sym c.self.view_is) c.requires.placed in
     subst (λ (gs : List Grant). AreApart gs) (sym pushed) (granted_sound c.args.net.now c.requires.legal.legal c.self.inside.grants c.args.grant sound placed).ids
@@ -86,14 +86,14 @@ remove-requires g c =
 pub returns-then-is_err-clause-refused : goal.returns-then-is_err-clause-refused
 returns-then-is_err-clause-refused g c =
     let new : has_id c.args.grant.id c.self.inside.grants ≡ false = ap (λ (b : BookState). has_id c.args.grant.id b.grants) c.self.view_is ∙ c.requires.placed.new in
-    let pushed : c.push.new.self ≡ c.self.inside.grants ++ c.args.grant ∷ [] = c.in_ok-push.ensures.pushed in
+    let pushed : c.push.new.self ≡ c.self.inside.grants ++ c.args.grant ∷ [] = c.in-Ok.ensures.pushed in
     c.remove.ensures ∙ taken_back c.self.inside.grants c.push.new.self c.args.grant new pushed ∙ ap (λ (b : BookState). b.grants) c.self.view_is
 
 pub unreachable-requires : goal.unreachable-requires
 unreachable-requires g c =
     let none : c.get.result ≡ None = search rules in
     let new : has_id c.args.grant.id c.self.inside.grants ≡ false = ap (λ (b : BookState). has_id c.args.grant.id b.grants) c.self.view_is ∙ c.requires.placed.new in
-    let pushed : c.push.new.self ≡ c.self.inside.grants ++ c.args.grant ∷ [] = c.in_ok-push.ensures.pushed in
+    let pushed : c.push.new.self ≡ c.self.inside.grants ++ c.args.grant ∷ [] = c.in-Ok.ensures.pushed in
     some_behind c.self.inside.grants c.push.new.self c.args.grant new pushed (sym (ap option_copied none) ∙ c.get.ensures)
 
 pub write_grant-requires-clause-rights : goal.write_grant-requires-clause-rights
