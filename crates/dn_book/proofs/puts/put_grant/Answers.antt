@@ -1,4 +1,4 @@
-use Rattle.std.proofs.Common.{◌≡◌, ◌∙◌, ℕ, ◌-◌, ◌<◌, refl, tt, sym, ap, subst, rules, arith, get_or, length, map, reverse, slice_get, List, Option, Some, IsSome, IfSome, IsTrue, true, false, is_err}
+use Rattle.std.proofs.Common.{◌≡◌, ◌∙◌, ℕ, ◌-◌, ◌<◌, refl, sym, ap, subst, rules, arith, get_or, length, map, reverse, slice_get, List, Option, Some, IsSome, IfSome, IsTrue, true, false, is_err}
 use Rattle.dn_base.specs.Outside.{IsCounted}
 use Rattle.dn_base.proofs.Counts.{counted_then}
 use Rattle.dn_net.specs.declared.node.Unit.{Unit as UnitPart}
@@ -36,7 +36,7 @@ put_hop-requires g c =
       fits = fits.wide;
       on_device = c.loop-behind.invariant.on_device;
       is_unit = unit_fits c.args.net.now kinds c.loop-behind.tables fits hop.unit;
-      some = subst (λ (o : Option UnitPart). IsSome o) (sym here.1) tt;
+      some = subst (λ (o : Option UnitPart). IsSome o) (sym here.1) refl;
       there = subst (λ (o : Option UnitPart). IfSome o (λ u. FitsUnit u c.args.grant.now.request.size hop)) (sym here.1) here.2.fit;
       shaped = subst (λ (o : Option UnitPart). IsTrue (has_shape kinds o)) (sym here.1) here.2.shaped;
       rights = subst (λ (r : Rights). IsTrue (are_rights r)) (sym rights) here.2.rights;
