@@ -32,7 +32,7 @@ each_cons f x xs y ys e g = rw (e, g) refl
 
 -- as many values as items
 each_counts : {X Y : Type 0} (f : X → Result Y Flaw) (xs : List X) → Yields (λ ys. length xs ≡ length ys) (each f xs)
-each_counts f [] = given refl
+each_counts f [] = record { it = refl }
 each_counts f (x ∷ xs) = bind (f x) _ (any (f x)) (λ y p. bind (each f xs) _ (each_counts f xs) (λ ys n. given (ap (λ (k : ℕ). suc k) n)))
 
 pub row_none : {X Y : Type 0} (line : ℕ) (next : List Token → Next X) (Fit End : List Token → Type 0) (value : X → Result Y Flaw) → ((rest : List Token) → End rest → next rest ≡ Ok None) → ((rest : List Token) → End rest → Fit rest) → Row line [] next Fit End value []
@@ -113,6 +113,6 @@ first_shown {X} {Y} {line} {text} {tail_text} {reader} {next} item tail = both_s
 -- the same of at most so many behind it
 pub most_shown : {X Y : Type 0} {line : ℕ} {text tail_text : List ℕ} {reader : Reader X} {next : List Token → Next X} {Fit End : List Token → Type 0} {value : X → Result Y Flaw} {y : Y} {ys : List Y} (n : ℕ) → length ys ≤ n → Shown line text reader Fit value y → Row line tail_text next Fit End value ys → Shown line (text ++ tail_text) (first_and_most n reader next) End (each value) (y ∷ ys)
 most_shown {X} {Y} {line} {text} {tail_text} {reader} {next} {Fit} {End} {value} {y} {ys} n few item tail = both_shown (first_and_most n reader next) item tail (λ rest h one.
-    let c = yielded _ (each value tail.trees) ys (each_counts value tail.trees) tail.valued in
+    let c : length tail.trees ≡ length ys = yielded _ (each value tail.trees) ys (each_counts value tail.trees) tail.valued in
     most_read n reader next (item.tokens ++ (tail.tokens ++ rest)) item.tree (tail.tokens ++ rest) one
     ∙ ap (with_front (item.tree ∷ [])) (tail.read n (omega (arith, c, few)) rest h))
