@@ -168,3 +168,18 @@ fn takes_commands_before_references(rt: HostRuntime) -> Result<(), Fail> {
     }
     Ok(())
 }
+
+#[test]
+fn names_each_fault(rt: HostRuntime) -> Result<(), Fail> {
+    use ExpandFault::{Arguments, Duplicate, OutOfMemory, TooMany, Unknown, Value};
+    let alloc = rt.alloc();
+    let line = 1;
+    let (twice, unknown, other) = (Duplicate { line }, Unknown { line }, Arguments { line });
+    let (value, many) = (Value { line }, TooMany { line, limit: 256 });
+    let words = format!(in alloc; "{twice} {unknown} {other} {value} {many} {OutOfMemory}")?;
+    assert_eq!(rt;
+        words.as_str(),
+        "Duplicate Unknown Arguments Value TooMany OutOfMemory"
+    );
+    Ok(())
+}
