@@ -4,7 +4,8 @@ ghost use Rattle.std.specs.Prelude.{◌≡◌, [], ◌∷◌, ◌++◌, ◌<◌,
 ghost use Rattle.std.specs.List.{list_any};
 ghost use Rattle.std.specs.Str.{bytes_eq};
 ghost use Rattle.dn_parse.specs.Terms.{param_view};
-ghost use Rattle.dn_module.specs.Terms.{expand_fault_view, has_twice, module_from, usable, with_module, word_of_param};
+ghost use Rattle.dn_module.specs.Expand.{has_twice, module_from, usable, with_module, word_of_param};
+ghost use Rattle.dn_module.specs.Faults.{expand_fault_view};
 ghost use Rattle.dn_base.specs.Terms.{Answers};
 
 use crate::fault::ExpandFault;

@@ -2,7 +2,8 @@
 
 ghost use Rattle.std.specs.Prelude.{◌≡◌, [], length, IsTrue};
 ghost use Rattle.dn_token.specs.Terms.{cursor_view};
-ghost use Rattle.dn_parse.specs.Terms.{are_plain, commands_from, is_plain};
+ghost use Rattle.dn_parse.specs.Commands.{commands_from};
+ghost use Rattle.dn_parse.specs.Plain.{are_plain, is_plain};
 
 use crate::blocks::{Misplaced, Trouble};
 use crate::cursor::{Halt, first_line};

@@ -1,7 +1,9 @@
 //! A cursor over the tokens of a text, of which none is kept.
 
 ghost use Rattle.std.specs.Prelude.{◌≡◌, ◌+◌, ◌^◌, ◌<◌, length, true};
-ghost use Rattle.dn_token.specs.Terms.{ahead, how_many, is_good, tokens, tokens_of};
+ghost use Rattle.dn_token.specs.Going.{tokens_of};
+ghost use Rattle.dn_token.specs.Token.{tokens};
+ghost use Rattle.dn_token.specs.Ahead.{is_good, ahead, how_many};
 
 use crate::lexer::next_token;
 use crate::token::{Lexeme, Token};
