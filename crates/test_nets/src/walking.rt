@@ -86,7 +86,7 @@ bus is accept [20-29, 0xfffffffffffff6-0xfffffffffffffe] map [10-19 to memory at
 ";
 
 #[test]
-fn lists_the_walks_or_names_the_broken_rule(rt: HostRuntime) -> Result<(), Fail> {
+fn lists_the_walks_or_names_the_loop(rt: HostRuntime) -> Result<(), Fail> {
     compare_each(
         &rt,
         &[
@@ -107,7 +107,16 @@ fn lists_the_walks_or_names_the_broken_rule(rt: HostRuntime) -> Result<(), Fail>
                 "a is map [0-9 to b at 100]; b is map [105-110 to a at 50];",
                 "0 0-9 1@64 1;1 69-6e 0@32 1;0 5-9 0@32 2;",
             ),
-            // The least fork: two names fork and reach the unit, and the one in the node of the lesser number is named.
+        ],
+    )
+}
+
+#[test]
+fn names_the_least_fork_before_a_unit(rt: HostRuntime) -> Result<(), Fail> {
+    compare_each(
+        &rt,
+        &[
+            // Two names fork and reach the unit, and the one in the node of the lesser number is named.
             (
                 "m is accept [0-15]; unit u kind pages page 0 slots 16 reach 8 to m; b is map [4-7 to u at 0 and m at 0]; a is map [0-3 to m at 0 and u at 0];",
                 "Fork 2@4 1",
@@ -127,7 +136,16 @@ fn lists_the_walks_or_names_the_broken_rule(rt: HostRuntime) -> Result<(), Fail>
                 "a is map [0-3 to u at 0]; m is accept [0-15]; unit u kind pages page 0 slots 16 reach 8 to n; n is map [0-3 to m at 0 and m at 8];",
                 "0 0-3 2@0 1;3 0-3 1@0 1;3 0-3 1@8 1;",
             ),
-            // The first row of units: a unit behind itself, and a port that is the unit.
+        ],
+    )
+}
+
+#[test]
+fn names_the_first_row_of_units(rt: HostRuntime) -> Result<(), Fail> {
+    compare_each(
+        &rt,
+        &[
+            // A unit behind itself, and a port that is the unit.
             (
                 "n is over u; unit u kind remap page 12 slots 4 reach 16 to n;",
                 "Chain 1 1 1 1",
