@@ -7,7 +7,7 @@ ghost use Rattle.std.specs.List.{All, list_all};
 ghost use Rattle.std.specs.String.{string_bytes};
 ghost use Rattle.dn_net.specs.Terms.{is_closed};
 ghost use Rattle.dn_kind.specs.Terms.{IsLawful, has_kind};
-ghost use Rattle.dn_print.specs.Terms.{body_at, net_text, parts_at, role_text, statement_at};
+ghost use Rattle.dn_print.specs.Terms.{body_at, net_text, parts_at, role_text};
 
 use crate::{OutOfMemory, parts};
 use dn_kind::kinds::Kinds;
@@ -30,25 +30,12 @@ pub fn net_text(alloc: Global, net: &Net, kinds: &Kinds) -> Result<Vec<u8>, OutO
 {
     let mut out = String::new(alloc);
     for node in 0..net.nodes() {
-        write_statement(&mut out, net, kinds, node)?;
+        out.push_str(role_word(net.role(node)))?;
+        out.push_str(net.text(node))?;
+        write_body(&mut out, net, kinds, node)?;
+        out.push_str(";\n")?;
     }
     Ok(out.into_bytes())
-}
-
-/// Appends the statement of a node and the end of its line.
-fn write_statement(out: &mut String, net: &Net, kinds: &Kinds, node: u16) -> Result<(), OutOfMemory>
-    requires there { node < length net.now }
-    requires closed { IsTrue (is_closed net.now) }
-    requires lawful { All (λ k. IsLawful (meaning (k.vtable, k.value))) kinds.now.list.items }
-    requires known { IsTrue
-        (list_all (λ n. has_kind (length kinds.now.list.items) n.unit) net.now) }
-    ensures { OnOk result (string_bytes out.new ≡ string_bytes out.old ++ statement_at
-        (map (λ k. meaning (k.vtable, k.value)) kinds.now.list.items) net.now (slice_get net.now node)) }
-{
-    out.push_str(role_word(net.role(node)))?;
-    out.push_str(net.text(node))?;
-    write_body(out, net, kinds, node)?;
-    out.push_str(";\n")
 }
 
 /// The word before a node's name, and the space after it.

@@ -335,7 +335,7 @@ module _ (net : List NodeDecl) (slots : Slots) (agent node base : ℕ) (rights :
             within = omega (arith, inside);
             reached = omega (arith, below);
             usable = usable x r.2 hop r.0 w (among hop (inl refl));
-            meets = subst (λ (s : Name). Meets net rq s.node s.addr ks) w.to_is rest.0;
+            meets = subst (λ (s : Name). Meets net rq s.node s.addr ks) (sym w.to_is) rest.0;
           } in
           (meets_hop x r.2 hop r.0 ks w, (joins, rest.1))
 

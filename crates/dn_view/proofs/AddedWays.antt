@@ -47,17 +47,9 @@ row_at net h g [] x y k r f = r
 row_at net h g (hop ∷ hops) x y k r f =
     let w : HopStep net h x hop r.0 r.2 = r.3 in
     let w' : HopStep net g x hop r.0 r.2 = record {
-      unit = w.unit;
-      is_unit = w.is_unit;
-      low = w.low;
+      through = w.through;
       before = w.before;
-      rec = w.rec;
       holds = f hop (inl refl) w.unit w.is_unit w.rec w.holds;
-      is_rec = w.is_rec;
-      node = w.node;
-      is_port = w.is_port;
-      out = w.out;
-      to_is = w.to_is;
     } in
     (r.0, r.1, r.2, w', row_at net h g hops r.2 y r.1 r.4 (λ k m. f k (inr m)), r.5)
 
@@ -167,7 +159,7 @@ module _ (net : List NodeDecl) (legal : IsLegalNet net) where
     is_part = w.is_unit;
     has_port = member_get w.unit.ports hop.port w.node w.is_port;
     below = (hop_fits h held x hop j z w).below;
-    reaches = (j', subst (λ s. IsChain (Step net) j' s (record { node = hop'.unit; addr = hop'.x })) w.to_is w'.before);
+    reaches = (j', subst (λ s. IsChain (Step net) j' s (record { node = hop'.unit; addr = hop'.x })) (sym w.to_is) w'.before);
     is_stop = stop_of_hop net h z t hop' j' w';
     is_end = refl;
   }
