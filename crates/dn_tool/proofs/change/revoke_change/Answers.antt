@@ -24,7 +24,7 @@ returns-in_ok-refused-in-Err-NoGrant-clause-changed g c =
     let failed : c.revoke.result ≡ Err NoGrant = c.in-Err-NoGrant.is ∙ ap Err c.in-Err-NoGrant.field-0-is in
     let same = c.revoke.ensures.unchanged failed in
     let after : Kept = record { book = c.revoke.new.self; ids = c.number.new.self; image = c.args.state.now.image; first = c.args.state.now.first; flats = c.args.state.now.flats } in
-    replied_as _ _ c.in_ok-refused-in-Err-NoGrant.ensures (state_not_revoked _ c.args.machine.net.now c.args.state.now after c.args.id.now c.in_ok-number.number _ _ c.in_ok-number.ensures.number (c.revoke.ensures.unknown.0 failed) (ap g.D.Tables.log same.1) same.0 c.in_ok-number.ensures.ids)
+    replied_as _ _ c.in_ok-refused-in-Err-NoGrant.ensures (state_not_revoked (map (λ k. (goal.UnitKind-dyn g (k.vtable, k.value)).meaning k.value) c.args.machine.kinds.now.list.items) c.args.machine.net.now c.args.state.now after c.args.id.now c.in_ok-number.number _ _ c.in_ok-number.ensures.number (c.revoke.ensures.unknown.0 failed) (ap g.D.Tables.log same.1) same.0 c.in_ok-number.ensures.ids)
 
 pub returns-in_ok-refused-in-Err-NoGrant-clause-ready : goal.returns-in_ok-refused-in-Err-NoGrant-clause-ready
 returns-in_ok-refused-in-Err-NoGrant-clause-ready g c =

@@ -33,7 +33,7 @@ returns-in_ok-route_refused-in-Err g c =
     let after : Kept = record { book = c.route.new.book; ids = c.number.new.self; image = c.args.state.now.image; first = c.args.state.now.first; flats = c.keep_flats.new.flats } in
     let same = c.in-Err.ensures.unchanged refl (fails_otherwise c.in-Err.why Device (search rules)) in
     record {
-      changed = replied_as _ _ c.in_ok-route_refused-in-Err.ensures (state_not_routed _ c.args.machine.net.now c.args.state.now after c.args.id.now c.args.agent c.args.line c.args.node c.in_ok-number.number c.in-Err.why _ _ c.in_ok-number.ensures.number (c.in-Err.ensures.turn (fails_otherwise c.in-Err.why Device (search rules)) (fails_otherwise c.in-Err.why OutOfMemory (search rules))).0 (ap g.D.Tables.log same.1) same.0 c.in_ok-number.ensures.ids);
+      changed = replied_as _ _ c.in_ok-route_refused-in-Err.ensures (state_not_routed (map (λ k. (goal.UnitKind-dyn g (k.vtable, k.value)).meaning k.value) c.args.machine.kinds.now.list.items) c.args.machine.net.now c.args.state.now after c.args.id.now c.args.agent c.args.line c.args.node c.in_ok-number.number c.in-Err.why _ _ c.in_ok-number.ensures.number (c.in-Err.ensures.turn (fails_otherwise c.in-Err.why Device (search rules)) (fails_otherwise c.in-Err.why OutOfMemory (search rules))).0 (ap g.D.Tables.log same.1) same.0 c.in_ok-number.ensures.ids);
       ready = record { machine = c.requires.ready.machine; state = state_same _ c.args.machine.net.now c.args.state.now after c.requires.ready.state same.0 refl c.requires.ready.state.first c.in_ok-keep_flats.ensures.flat; on_device = c.in-Err.ensures.on_device };
       halted = record { no_write = refl; counted = subst (λ d. IsCounted (g.D.Tables.faults c.args.device.now) (g.D.Tables.faults d) false) (sym same.1) (counted_none _) };
     }

@@ -1,4 +1,4 @@
-use Rattle.std.proofs.Common.{rules, ◌≡◌, ◌∙◌, ◌+◌, if◌then◌else◌, ap, List, Bool, length, arith}
+use Rattle.std.proofs.Common.{rules, ◌≡◌, ◌∙◌, ◌+◌, if◌then◌else◌, ap, List, map, Bool, length, arith}
 use Rattle.dn_base.proofs.Counts.{counted_none, counted_then}
 use Rattle.dn_book.specs.declared.grant.Grant.{Grant}
 use Rattle.dn_module.specs.declared.command.Command.{Command}
@@ -12,7 +12,7 @@ use Rattle.dn_tool.proofs.demo.run_demo.Goals as goal
 
 pub returns-in_err-state-clause-shown : goal.returns-in_err-state-clause-shown
 returns-in_err-state-clause-shown g c =
-    shown_unmade _ c.args.machine.net.now c.args.agents c.args.commands.now c.make.result c.in_err-state.field-0.0 c.from_residual.result _ _ _ _ _ _ c.in_err-state.was (search rules) c.make.ensures.made
+    shown_unmade (map (λ k. (goal.UnitKind-dyn g (k.vtable, k.value)).meaning k.value) c.args.machine.kinds.now.list.items) c.args.machine.net.now c.args.agents c.args.commands.now c.make.result c.in_err-state.field-0.0 c.from_residual.result _ _ _ _ _ _ c.in_err-state.was (search rules) c.make.ensures.made
 
 pub commands-init : goal.commands-init
 commands-init g c =

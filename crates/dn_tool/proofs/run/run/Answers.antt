@@ -25,7 +25,7 @@ returns-in-Err-OutOfMemory-clause-answered g c text input = unanswered _ _ 7 _ _
 -- what holds of the answer to what was read holds of the answer to the whole text
 whole : (g : Over) (c : After-answer_text g) (text : List ℕ) (P : Answer → Type 0) → IsInput c.args.words.now (g.S.Source.left c.args.source.now) text → P (text_answer c.in-Ok-Some.task (map (λ k. (goal.UnitKind-dyn g (k.vtable, k.value)).meaning k.value) c.args.kinds.now.list.items) c.in-Ok.text.items) → P (answer c.args.words.now (map (λ k. (goal.UnitKind-dyn g (k.vtable, k.value)).meaning k.value) c.args.kinds.now.list.items) text)
 whole g c text P input told =
-    input_answer _ (g.S.Source.left c.read_whole.new.source) c.args.words.now c.in-Ok-Some.task _ c.in-Ok.text.items text P (sym c.in-Ok-Some.ensures.task ∙ c.in-Ok-Some.field-0-is) (task_is_read c.in-Ok-Some.task c.in_default.not-Demo) c.in-Ok.ensures.taken (λ h. c.in-Ok.ensures.end (search rules)) input told
+    input_answer (g.S.Source.left c.args.source.now) (g.S.Source.left c.read_whole.new.source) c.args.words.now c.in-Ok-Some.task (map (λ k. (goal.UnitKind-dyn g (k.vtable, k.value)).meaning k.value) c.args.kinds.now.list.items) c.in-Ok.text.items text P (sym c.in-Ok-Some.ensures.task ∙ c.in-Ok-Some.field-0-is) (task_is_read c.in-Ok-Some.task c.in_default.not-Demo) c.in-Ok.ensures.taken (λ h. c.in-Ok.ensures.end (search rules)) input told
 
 pub returns-clause-answered : goal.returns-clause-answered
 returns-clause-answered g c text input =

@@ -1,4 +1,4 @@
-use Rattle.std.proofs.Common.{rules, ◌≡◌, sym, subst, List, length, IsTrue, refl, arith}
+use Rattle.std.proofs.Common.{rules, ◌≡◌, sym, subst, List, map, length, IsTrue, refl, arith}
 use Rattle.std.specs.List.{list_all}
 use Rattle.dn_base.proofs.Counts.{counted_none, counted_then}
 use Rattle.dn_module.specs.declared.command.Command.{Command}
@@ -12,7 +12,7 @@ use Rattle.dn_tool.proofs.script.run_script.Goals as goal
 
 pub returns-in_err-state-clause-played : goal.returns-in_err-state-clause-played
 returns-in_err-state-clause-played g c =
-    unmade_by _ c.args.machine.net.now c.args.commands.now c.make.result c.in_err-state.field-0.0 c.from_residual.result _ _ _ _ _ _ _ c.in_err-state.was (search rules) refl c.make.ensures.made
+    unmade_by (map (λ k. (goal.UnitKind-dyn g (k.vtable, k.value)).meaning k.value) c.args.machine.kinds.now.list.items) c.args.machine.net.now c.args.commands.now c.make.result c.in_err-state.field-0.0 c.from_residual.result _ _ _ _ _ _ _ c.in_err-state.was (search rules) refl c.make.ensures.made
 
 pub commands-init : goal.commands-init
 commands-init g c =
