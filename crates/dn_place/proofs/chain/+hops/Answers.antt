@@ -23,18 +23,18 @@ pub by_hops-loop-unit-init : goal.by_hops-loop-unit-init
 by_hops-loop-unit-init g t c = sifted_begun (g.Q.Quest.sought c.args.quest.now) c.args.stage.count (hops_of c.args.stage.chosen) c.as_slice-units.result.now (subst (λ (l : List ℕ). AreUnitsFrom (g.Q.Quest.sought c.args.quest.now).net 0 l) (sym c.as_slice-units.ensures.value) c.requires.stage.units)
 
 pub by_hops-returns-in-Some : goal.by_hops-returns-in-Some
-by_hops-returns-in-Some g t c = sifted_found (g.Q.Quest.sought c.args.quest.now) c.args.stage.count (hops_of c.args.stage.chosen) c.as_slice-units.result.now c.loop-unit.unit-index (get_or c.as_slice-units.result.now c.loop-unit.unit-index 0) c.in-Some.placement (omega (arith, c.count.ensures, c.if-count.false)) c.loop-unit-test.true refl (rw c.in-Some.is at c.in_ok-placement.ensures) c.loop-unit.invariant
+by_hops-returns-in-Some g t c = sifted_found (g.Q.Quest.sought c.args.quest.now) c.args.stage.count (hops_of c.args.stage.chosen) c.as_slice-units.result.now c.loop-unit.unit-index (get_or c.as_slice-units.result.now c.loop-unit.unit-index 0) c.in-Some.placement (omega (arith, c.count.ensures, c.if-count-stage.false)) c.loop-unit-test.true refl (rw c.in-Some.is at c.in_ok-placement.ensures) c.loop-unit.invariant
 
 pub by_hops-loop-unit-preserved : goal.by_hops-loop-unit-preserved
-by_hops-loop-unit-preserved g t c = sifted_on (g.Q.Quest.sought c.args.quest.now) c.args.stage.count (hops_of c.args.stage.chosen) c.as_slice-units.result.now c.loop-unit.unit-index (get_or c.as_slice-units.result.now c.loop-unit.unit-index 0) (omega (arith, c.count.ensures, c.if-count.false)) c.loop-unit-test.true refl
+by_hops-loop-unit-preserved g t c = sifted_on (g.Q.Quest.sought c.args.quest.now) c.args.stage.count (hops_of c.args.stage.chosen) c.as_slice-units.result.now c.loop-unit.unit-index (get_or c.as_slice-units.result.now c.loop-unit.unit-index 0) (omega (arith, c.count.ensures, c.if-count-stage.false)) c.loop-unit-test.true refl
     (elim c.if-can_stand.branch [
       | by_hops-then-can_stand+in_ok-placement+in_default w ↦ rw w.in_default.is at w.in_ok-placement.ensures
-      | by_hops-else-can_stand w ↦ unmarked (g.Q.Quest.sought c.args.quest.now) c.args.stage.count (hops_of c.args.stage.chosen) (get_or c.as_slice-units.result.now c.loop-unit.unit-index 0) (c.args.stage.count - c.count-2.result) c.args.stage.reach.now.first.items c.args.stage.reach.now.second.items c.args.stage.reach.now.third.items c.requires.stage.ready c.requires.stage.marked (omega (arith, c.count.ensures, c.if-count.false)) c.requires.stage.chosen.most (omega (arith, c.count-2.ensures)) (sym c.can_stand.ensures ∙ w.if-can_stand.false)
+      | by_hops-else-can_stand w ↦ unmarked (g.Q.Quest.sought c.args.quest.now) c.args.stage.count (hops_of c.args.stage.chosen) (get_or c.as_slice-units.result.now c.loop-unit.unit-index 0) (c.args.stage.count - c.count-2.result) c.args.stage.reach.now.first.items c.args.stage.reach.now.second.items c.args.stage.reach.now.third.items c.requires.stage.ready c.requires.stage.marked (omega (arith, c.count.ensures, c.if-count-stage.false)) c.requires.stage.chosen.most (omega (arith, c.count-2.ensures)) (sym c.can_stand.ensures ∙ w.if-can_stand.false)
     ])
     c.loop-unit.invariant
 
 pub by_hops-returns : goal.by_hops-returns
-by_hops-returns g t c = sifted_done (g.Q.Quest.sought c.args.quest.now) c.args.stage.count (hops_of c.args.stage.chosen) c.as_slice-units.result.now c.loop-unit.unit-index (omega (arith, c.count.ensures, c.if-count.false)) c.loop-unit-test.false c.loop-unit.invariant
+by_hops-returns g t c = sifted_done (g.Q.Quest.sought c.args.quest.now) c.args.stage.count (hops_of c.args.stage.chosen) c.as_slice-units.result.now c.loop-unit.unit-index (omega (arith, c.count.ensures, c.if-count-stage.false)) c.loop-unit-test.false c.loop-unit.invariant
 
 pub by_unit-returns-in-Some-2 : goal.by_unit-returns-in-Some-2
 by_unit-returns-in-Some-2 g t c = found_first (g.Q.Quest.sought c.args.quest.now) (to_unit c.args.stage.count (hops_of c.args.stage.chosen) c.args.unit) c.loop-port.port c.in-Some-2.placement c.loop-port.invariant (rw c.in-Some-2.is at c.in_ok-placement.ensures)
@@ -156,8 +156,8 @@ by_output-inputs-preserved-then-next-x g t c = rw c.power-page.ensures (record {
 pub by_input-by_hops-requires : goal.by_input-by_hops-requires
 by_input-by_hops-requires g t c =
     let next = chosen_on (g.Q.Quest.sought c.args.quest.now) c.args.stage.count (hops_of c.args.stage.chosen) c.args.hop.unit c.args.hop.port c.args.hop.y c.args.hop.x c.args.translator.now c.requires.stage.chosen c.requires.more c.requires.unit c.requires.port c.requires.agree c.requires.within c.requires.reached c.requires.usable c.requires.meets in
-    let chosen : IsChosen (g.Q.Quest.sought c.args.quest.now) c.args.stage.count (hops_of c.behind.result) = subst (λ (l : List Hop). IsChosen (g.Q.Quest.sought c.args.quest.now) c.args.stage.count l) (sym c.behind.ensures) next in
-    let longer : length (hops_of c.behind.result) ≡ suc (length (hops_of c.args.stage.chosen)) = ap length c.behind.ensures in
+    let chosen : IsChosen (g.Q.Quest.sought c.args.quest.now) c.args.stage.count (hops_of c.behind-chosen.result) = subst (λ (l : List Hop). IsChosen (g.Q.Quest.sought c.args.quest.now) c.args.stage.count l) (sym c.behind-chosen.ensures) next in
+    let longer : length (hops_of c.behind-chosen.result) ≡ suc (length (hops_of c.args.stage.chosen)) = ap length c.behind-chosen.ensures in
     search rules
 
 pub by_input-returns-then-not-is_allowed : goal.by_input-returns-then-not-is_allowed
