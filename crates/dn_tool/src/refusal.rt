@@ -7,6 +7,7 @@ ghost use Rattle.dn_module.specs.Terms.{expand_fault_view};
 ghost use Rattle.dn_net.specs.Terms.{node_fault_view};
 ghost use Rattle.dn_kind.specs.Terms.{are_there, unit_fault_view};
 ghost use Rattle.dn_walk.specs.Terms.{walk_fault_view};
+ghost use Rattle.dn_print.specs.Terms.{name_text};
 ghost use Rattle.dn_tool.specs.Terms.{AreNodesWithin, IsNodeWithin, by_limit, by_line, by_text, chain_text, expand_refusal, fork_text, node_refusal, rule_name, showing, text_refusal, unit_refusal, units_text, walk_refusal};
 
 use dn_base::text::Text;
@@ -105,7 +106,6 @@ pub struct Refusal {
 }
 
 impl Model for Refusal {
-    ghost use Rattle.dn_print.specs.Names.{name_text};
     ghost use Rattle.dn_tool.specs.Refused.{Refused};
 
     ghost Value = { Refused };
