@@ -68,6 +68,13 @@ log_with s event = if nat_lt (length s.log) s.room then s.log ++ event ∷ [] el
 abbrev pub told_with : TablesState → Bool
 told_with s = s.told && nat_lt (length s.log) s.room
 
+-- a call kept its event where there is room, and nothing where it failed
+pub record KeepsEvent (event : TableEvent) (old new : TablesState) (failed : Bool) : Type 0 where
+  pub log : failed ≡ false → new.log ≡ log_with old event
+  pub told : failed ≡ false → new.told ≡ told_with old
+  pub unlogged : failed ≡ true → (new.log ≡ old.log) × (new.told ≡ old.told)
+  pub room : new.room ≡ old.room
+
 -- the words of a unit that was made
 abbrev pub words_of_unit : List UnitWords → ℕ → List ℕ
 words_of_unit [] unit = []

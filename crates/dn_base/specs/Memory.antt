@@ -1,6 +1,7 @@
 -- What contracts see of the objects in memory and of the numbers of their calls.
-use Rattle.std.specs.Prelude.{ℕ, ◌==◌, List, length, true}
-use Rattle.dn_base.specs.Outside.{Faults}
+use Rattle.std.specs.Prelude.{◌≡◌, ℕ, ◌+◌, ◌^◌, ◌≤◌, ◌==◌, Bool, List, length, true, false}
+use Rattle.std.specs.List.{list_any}
+use Rattle.dn_base.specs.Outside.{Faults, next_count}
 
 -- the calls of an object: the number of the next one, the faults, and which calls fail
 pub record CallState : Type 0 where
@@ -15,6 +16,15 @@ no_calls failing = record { call = 0; faults = 0; failing = failing }
 -- none fails where no number is listed, and each fault is answered by its call
 abbrev pub faults_of : CallState → Faults
 faults_of calls = record { count = calls.faults; never = length calls.failing == 0; answered = true }
+
+-- a call was made: it failed exactly where its number is listed, and was counted as a fault then
+pub record IsCall (old new : CallState) (failed : Bool) : Type 0 where
+  pub fails : failed ≡ list_any (λ n. n == old.call) old.failing
+  pub late : 2 ^ 32 ≤ old.call → failed ≡ false
+  pub numbered : new.call ≡ next_count old.call
+  pub raised : failed ≡ true → new.faults ≡ old.faults + 1
+  pub few : new.faults ≤ 2 ^ 32
+  pub same : new.failing ≡ old.failing
 
 -- bytes in memory: what is left, at most how many a call gives, and the calls
 pub record SourceState : Type 0 where

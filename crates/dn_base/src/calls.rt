@@ -1,8 +1,7 @@
 //! The numbers of an object's calls, and which of them fail.
 
-ghost use Rattle.std.specs.Prelude.{◌≡◌, ◌==◌, ◌+◌, ◌<◌, ◌≤◌, ◌^◌, true, false};
-ghost use Rattle.dn_base.specs.Memory.{faults_of, no_calls};
-ghost use Rattle.dn_base.specs.Outside.{IsCounted, next_count};
+ghost use Rattle.std.specs.Prelude.{◌≡◌, ◌==◌, ◌<◌, ◌^◌, true};
+ghost use Rattle.dn_base.specs.Terms.{IsCall, IsCounted, faults_of, no_calls};
 ghost use Rattle.std.specs.List.{list_any};
 
 use std::marker::Model;
@@ -56,13 +55,8 @@ impl Calls {
 
     /// Numbers the next call and answers whether it fails, which is then counted as a fault.
     pub fn fails(&mut self) -> bool
-        ensures listed { result ≡ list_any (λ n. n == self.old.call) self.old.failing }
-        ensures late { 2 ^ 32 ≤ self.old.call → result ≡ false }
-        ensures numbered { self.new.call ≡ next_count self.old.call }
+        ensures called { IsCall self.old self.new result }
         ensures counted { IsCounted (faults_of self.old) (faults_of self.new) result }
-        ensures raised { result ≡ true → self.new.faults ≡ self.old.faults + 1 }
-        ensures few { self.new.faults ≤ 2 ^ 32 }
-        ensures same { self.new.failing ≡ self.old.failing }
     {
         let failing = is_failing(&self.failing, self.call);
         self.call = self.call.saturating_add(1);

@@ -2,14 +2,11 @@
 
 ghost use Rattle.std.specs.Prelude.{◌≡◌, [], ◌∷◌, ◌++◌, true, false, replicate, List, Option, IfSome, OnOk, OnErr, is_err};
 ghost use Rattle.std.specs.Option.{option_map};
-ghost use Rattle.dn_base.specs.Device.{Logged, UnitSize, has_unit, has_word, is_make_fault, sizes_of, with_word};
-ghost use Rattle.dn_base.specs.Outside.{Faults, IsCounted};
-ghost use Rattle.dn_base.specs.declared.device.MakeFault.TheVariants.{OutOfMemory as no_memory};
+ghost use Rattle.dn_base.specs.Terms.{Faults, IsCounted, Logged, UnitSize, has_unit, has_word, is_make_fault, sizes_of, with_word};
 ghost use Rattle.dn_base.specs.declared.device.TableEvent.{TableEvent};
 ghost use Rattle.dn_base.specs.declared.device.UnitWords.{UnitWords};
 
 use crate::filled::Filled;
-use std::alloc::AllocError;
 use thiserror::Error;
 
 /// What was done to a device, in one call that did not fail.
@@ -41,14 +38,6 @@ pub enum MakeFault {
     /// There was no memory for the words. It counts as no fault.
     #[error("OutOfMemory")]
     OutOfMemory,
-}
-
-impl From<AllocError> for MakeFault {
-    ghost from_gives = { λ _ e. e ≡ no_memory };
-
-    fn from(_e: AllocError) -> MakeFault {
-        MakeFault::OutOfMemory
-    }
 }
 
 /// A write or a fence failed. The device counts it.

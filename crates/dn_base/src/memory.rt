@@ -4,11 +4,8 @@
 //! value. A call fails exactly where its number stands in the object's list `failing`, so a call past
 //! number 2^32 - 1 never fails, and with an empty list none does.
 
-ghost use Rattle.std.specs.Prelude.{◌≡◌, ◌≢◌, ◌==◌, ◌+◌, ◌<◌, ◌≤◌, ◌^◌, ◌↔◌, min, Some, [], length, take, IfOk, OnErr, IsErrOf, IsOk, Err, is_err};
-ghost use Rattle.dn_base.specs.Faults.{is_write_fault};
-ghost use Rattle.dn_base.specs.Outside.{IsCounted, Taken, Added, next_count};
-ghost use Rattle.std.specs.List.{list_any};
-ghost use Rattle.dn_base.specs.Memory.{faults_of, no_calls};
+ghost use Rattle.std.specs.Prelude.{◌≡◌, ◌<◌, ◌≤◌, ◌↔◌, min, Some, [], length, take, IfOk, OnErr, is_err};
+ghost use Rattle.dn_base.specs.Terms.{Added, IsCall, IsCounted, Taken, faults_of, is_write_fault, no_calls};
 
 use crate::calls::Calls;
 use crate::sink::{Sink, WriteFault};
@@ -74,14 +71,8 @@ impl Source for MemSource {
         ensures untaken { OnErr result (self.new.left ≡ self.old.left) }
         ensures counted { IsCounted (faults_of self.old.calls)
             (faults_of self.new.calls) (is_err result) }
-        ensures raised { OnErr result (self.new.calls.faults ≡ self.old.calls.faults + 1) }
-        ensures few { self.new.calls.faults ≤ 2 ^ 32 }
-        ensures late { 2 ^ 32 ≤ self.old.calls.call → IsOk result }
-        ensures fails { is_err result ≡
-            list_any (λ n. n == self.old.calls.call) self.old.calls.failing }
-        ensures numbered { self.new.calls.call ≡ next_count self.old.calls.call }
-        ensures same { (self.new.most ≡ self.old.most) ×
-            (self.new.calls.failing ≡ self.old.calls.failing) }
+        ensures called { IsCall self.old.calls self.new.calls (is_err result) }
+        ensures same { self.new.most ≡ self.old.most }
     {
         if self.calls.fails() {
             return Err(ReadFault::Failed);
@@ -148,14 +139,7 @@ impl Sink for MemSink {
         ensures untaken { OnErr result (self.new.written ≡ self.old.written) }
         ensures counted { IsCounted (faults_of self.old.calls)
             (faults_of self.new.calls) (is_write_fault result) }
-        ensures raised { IsErrOf result WriteFault.Failed →
-            self.new.calls.faults ≡ self.old.calls.faults + 1 }
-        ensures few { self.new.calls.faults ≤ 2 ^ 32 }
-        ensures late { 2 ^ 32 ≤ self.old.calls.call → result ≢ Err WriteFault.Failed }
-        ensures fails { is_write_fault result ≡
-            list_any (λ n. n == self.old.calls.call) self.old.calls.failing }
-        ensures numbered { self.new.calls.call ≡ next_count self.old.calls.call }
-        ensures same { self.new.calls.failing ≡ self.old.calls.failing }
+        ensures called { IsCall self.old.calls self.new.calls (is_write_fault result) }
     {
         if self.calls.fails() {
             return Err(WriteFault::Failed);

@@ -3,11 +3,8 @@
 //! Its calls are numbered as those of the objects of [`crate::memory`] are, `make`, `write` and
 //! `fence` together. It keeps its first events, as many as it was given room for.
 
-ghost use Rattle.std.specs.Prelude.{◌≡◌, ◌≢◌, ◌==◌, ◌+◌, ◌<◌, ◌≤◌, ◌^◌, [], ◌∷◌, ◌++◌, true, false, replicate, Some, OnOk, OnErr, IfOk, IsOk, IsErrOf, Err, is_err, refl};
-ghost use Rattle.std.specs.List.{list_any};
-ghost use Rattle.dn_base.specs.Device.{Logged, PlacedAt, has_unit, has_word, is_make_fault, log_told, log_with, sizes_of, told_with, with_word, words_of_unit};
-ghost use Rattle.dn_base.specs.Memory.{faults_of, no_calls};
-ghost use Rattle.dn_base.specs.Outside.{IsCounted, next_count};
+ghost use Rattle.std.specs.Prelude.{◌≡◌, ◌<◌, ◌≤◌, [], ◌∷◌, ◌++◌, true, false, replicate, Some, OnOk, OnErr, IfOk, is_err, refl};
+ghost use Rattle.dn_base.specs.Terms.{IsCall, IsCounted, KeepsEvent, Logged, PlacedAt, faults_of, has_unit, has_word, is_make_fault, log_told, log_with, no_calls, sizes_of, told_with, with_word, words_of_unit};
 ghost use Rattle.dn_base.specs.declared.device.TableEvent.{TableEvent};
 ghost use Rattle.dn_base.specs.declared.device.UnitWords.{UnitWords};
 
@@ -149,20 +146,8 @@ impl Tables for MemTables {
             × (self.new.tables ≡ self.old.tables) × (log_told self.new ≡ log_told self.old)) }
         ensures counted { IsCounted (faults_of self.old.calls)
             (faults_of self.new.calls) (is_make_fault result) }
-        ensures kept { OnOk result (self.new.log
-            ≡ log_with self.old (TableEvent.Make unit count)) }
-        ensures told { OnOk result (self.new.told ≡ told_with self.old) }
-        ensures unlogged { OnErr result
-            ((self.new.log ≡ self.old.log) × (self.new.told ≡ self.old.told)) }
-        ensures raised { IsErrOf result MakeFault.Device →
-            self.new.calls.faults ≡ self.old.calls.faults + 1 }
-        ensures few { self.new.calls.faults ≤ 2 ^ 32 }
-        ensures late { 2 ^ 32 ≤ self.old.calls.call → result ≢ Err MakeFault.Device }
-        ensures fails { is_make_fault result ≡
-            list_any (λ n. n == self.old.calls.call) self.old.calls.failing }
-        ensures numbered { self.new.calls.call ≡ next_count self.old.calls.call }
-        ensures stays { (self.new.room ≡ self.old.room)
-            × (self.new.calls.failing ≡ self.old.calls.failing) }
+        ensures kept { KeepsEvent (TableEvent.Make unit count) self.old self.new (is_err result) }
+        ensures called { IsCall self.old.calls self.new.calls (is_make_fault result) }
     {
         if self.calls.fails() {
             return Err(MakeFault::Device);
@@ -196,19 +181,9 @@ impl Tables for MemTables {
             × (log_told self.new ≡ log_told self.old)) }
         ensures counted { IsCounted (faults_of self.old.calls)
             (faults_of self.new.calls) (is_err result) }
-        ensures kept { OnOk result (self.new.log
-            ≡ log_with self.old (TableEvent.Write unit word value)) }
-        ensures told { OnOk result (self.new.told ≡ told_with self.old) }
-        ensures unlogged { OnErr result
-            ((self.new.log ≡ self.old.log) × (self.new.told ≡ self.old.told)) }
-        ensures raised { OnErr result (self.new.calls.faults ≡ self.old.calls.faults + 1) }
-        ensures few { self.new.calls.faults ≤ 2 ^ 32 }
-        ensures late { 2 ^ 32 ≤ self.old.calls.call → IsOk result }
-        ensures fails { is_err result ≡
-            list_any (λ n. n == self.old.calls.call) self.old.calls.failing }
-        ensures numbered { self.new.calls.call ≡ next_count self.old.calls.call }
-        ensures stays { (self.new.room ≡ self.old.room)
-            × (self.new.calls.failing ≡ self.old.calls.failing) }
+        ensures kept { KeepsEvent (TableEvent.Write unit word value)
+            self.old self.new (is_err result) }
+        ensures called { IsCall self.old.calls self.new.calls (is_err result) }
     {
         if self.calls.fails() {
             return Err(DeviceFault);
@@ -231,18 +206,8 @@ impl Tables for MemTables {
         ensures same { OnErr result (log_told self.new ≡ log_told self.old) }
         ensures counted { IsCounted (faults_of self.old.calls)
             (faults_of self.new.calls) (is_err result) }
-        ensures kept { OnOk result (self.new.log ≡ log_with self.old TableEvent.Fence) }
-        ensures told { OnOk result (self.new.told ≡ told_with self.old) }
-        ensures unlogged { OnErr result
-            ((self.new.log ≡ self.old.log) × (self.new.told ≡ self.old.told)) }
-        ensures raised { OnErr result (self.new.calls.faults ≡ self.old.calls.faults + 1) }
-        ensures few { self.new.calls.faults ≤ 2 ^ 32 }
-        ensures late { 2 ^ 32 ≤ self.old.calls.call → IsOk result }
-        ensures fails { is_err result ≡
-            list_any (λ n. n == self.old.calls.call) self.old.calls.failing }
-        ensures numbered { self.new.calls.call ≡ next_count self.old.calls.call }
-        ensures stays { (self.new.room ≡ self.old.room)
-            × (self.new.calls.failing ≡ self.old.calls.failing) }
+        ensures kept { KeepsEvent TableEvent.Fence self.old self.new (is_err result) }
+        ensures called { IsCall self.old.calls self.new.calls (is_err result) }
     {
         if self.calls.fails() {
             return Err(DeviceFault);

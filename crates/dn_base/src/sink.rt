@@ -1,8 +1,7 @@
 //! What bytes go to, and the faults of a write.
 
 ghost use Rattle.std.specs.Prelude.{◌≡◌, ℕ, ◌<◌, ◌≤◌, Option, List, length, take, IfOk, OnErr};
-ghost use Rattle.dn_base.specs.Faults.{is_write_fault};
-ghost use Rattle.dn_base.specs.Outside.{Faults, IsCounted, Added};
+ghost use Rattle.dn_base.specs.Terms.{Added, Faults, IsCounted, is_write_fault};
 
 use thiserror::Error;
 

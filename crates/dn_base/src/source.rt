@@ -1,7 +1,7 @@
 //! What bytes come from, and the fault of a read.
 
 ghost use Rattle.std.specs.Prelude.{◌≡◌, ℕ, ◌<◌, ◌≤◌, ◌↔◌, Option, List, [], length, take, IfOk, IfSome, OnErr, is_err};
-ghost use Rattle.dn_base.specs.Outside.{Faults, IsCounted, Taken, AtEnd};
+ghost use Rattle.dn_base.specs.Terms.{AtEnd, Faults, IsCounted, Taken};
 
 use thiserror::Error;
 

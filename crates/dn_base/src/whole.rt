@@ -1,13 +1,11 @@
 //! Reading a source to its end, and writing a whole piece.
 
 ghost use Rattle.std.specs.Prelude.{◌≡◌, ◌-◌, ◌<◌, ◌≤◌, [], take, IfOk, IfSome, IsErrOf, is_err, is_ok, vec_len};
-ghost use Rattle.dn_base.specs.Faults.{is_input_fault, is_write_fault};
-ghost use Rattle.dn_base.specs.Outside.{AtEnd, IsCounted, IsWritten, Taken, TakenAtMost, input_limit};
-ghost use Rattle.dn_base.specs.declared.whole.InputFault.TheVariants.{OutOfMemory as no_memory, Failed as failed};
+ghost use Rattle.dn_base.specs.Terms.{AtEnd, IsCounted, IsWritten, Taken, TakenAtMost, input_limit, is_input_fault, is_write_fault};
 
 use crate::sink::{Sink, WriteFault};
-use crate::source::{ReadFault, Source};
-use std::alloc::{AllocError, Global};
+use crate::source::Source;
+use std::alloc::Global;
 use thiserror::Error;
 
 /// The most bytes that [`read_whole`] takes: one more than the longest text, so that a text that is
@@ -26,22 +24,6 @@ pub enum InputFault {
     /// There was no memory to keep the text in.
     #[error("OutOfMemory")]
     OutOfMemory,
-}
-
-impl From<AllocError> for InputFault {
-    ghost from_gives = { λ _ e. e ≡ no_memory };
-
-    fn from(_e: AllocError) -> InputFault {
-        InputFault::OutOfMemory
-    }
-}
-
-impl From<ReadFault> for InputFault {
-    ghost from_gives = { λ _ e. e ≡ failed };
-
-    fn from(_e: ReadFault) -> InputFault {
-        InputFault::Failed
-    }
 }
 
 /// Reads until the source ends or [`INPUT_LIMIT`] bytes are taken, and answers what was taken. No read is
@@ -70,11 +52,15 @@ pub fn read_whole<S: Source>(alloc: Global, source: &mut S) -> Result<Vec<u8>, I
     let mut piece = [0u8; PIECE];
     while text.len() < INPUT_LIMIT {
         let room = (INPUT_LIMIT - text.len()).min(PIECE);
-        let count = source.read(&mut piece[..room])?;
+        let Ok(count) = source.read(&mut piece[..room]) else {
+            return Err(InputFault::Failed);
+        };
         if count == 0 {
             return Ok(text);
         }
-        text.extend_from_slice(&piece[..count])?;
+        let Ok(()) = text.extend_from_slice(&piece[..count]) else {
+            return Err(InputFault::OutOfMemory);
+        };
     }
     Ok(text)
 }

@@ -15,7 +15,7 @@ use Rattle.dn_kind.specs.declared.unit_kind.Record.{Record}
 use Rattle.dn_kind.specs.Kind.{Meaning, IsLawful, IsPackable, gate_word, is_plain, is_within}
 use Rattle.dn_kind.specs.Tables.{AreHeld, Held, IsHeld, record_held, record_of_unit, record_spelled, record_within, slot_words}
 use Rattle.dn_kind.specs.Units.{KeepsUnitShape, fits_shape, unit_shape}
-use Rattle.dn_kind.proofs.Held.{kind_lawful}
+use Rattle.dn_kind.proofs.Held.{kind_lawful, held_past}
 use Rattle.dn_tables.specs.declared.table.NodeTable.{NodeTable}
 use Rattle.dn_tables.specs.Set.{FitsNet, IsEmpty, fits_by, is_wide, packed_by, packed_for, packed_in, put_over, record_kept, width_in, width_of_table, with_slot, with_table, with_words, words_of, words_of_table}
 use Rattle.dn_tables.proofs.Kept.{table_of_unit}
@@ -223,18 +223,7 @@ spelled_slot kind law u (Some r) p =
     let may : IsPackable kind (unit_shape u) r = p r refl in
     ap (record_within u) (law.reads_back (unit_shape u) r may) ∙ ap (λ b. if b then Some r else None) may.within
 
--- no record where there is no slot
-none_past : (net : List NodeDecl) (h : Held) → AreHeld net h → (node slot : ℕ) (u : UnitPart) → unit_at net node ≡ Some u → u.slots ≤ slot → h node slot ≡ None
-none_past net h held node slot u e l = by (h node slot) refl
-  where
-    by : (o : Option Record) → h node slot ≡ o → o ≡ None
-    by None at = refl
-    by (Some r) at =
-        let w = (held node slot r at).unit in
-        let s : w.0 ≡ u = same_Some w.0 u (sym w.1 ∙ e) in
-        let m : slot < u.slots = subst (λ (v : UnitPart). slot < v.slots) s w.2 in
-        absurd (omega arith)
-
+-- no record where there is no unit
 none_outside : (net : List NodeDecl) (h : Held) → AreHeld net h → (node slot : ℕ) → unit_at net node ≡ None → h node slot ≡ None
 none_outside net h held node slot e = by (h node slot) refl
   where
@@ -256,7 +245,7 @@ tables_hold net kinds k h held node slot = by (unit_at net node) refl
         ∙ there kind (nat_lt slot u.slots) refl
       where
         there : (kind : IsKind net kinds u) (b : Bool) → nat_lt slot u.slots ≡ b → (if b then record_within u (kind.kind.unpack (slot_words kind.kind.words (packed_node kinds (Some u) (h node)) slot)) else None) ≡ h node slot
-        there kind false f = sym (none_past net h held node slot u e (omega (arith, ltb-false slot u.slots f)))
+        there kind false f = sym (held_past net h held node slot u e (omega (arith, ltb-false slot u.slots f)))
         there kind true f =
             let p : ArePackable kind.kind u (h node) = all_packable net kinds h held node u kind e in
             let l : slot < u.slots = ltb-true slot u.slots f in

@@ -2,8 +2,10 @@ pub mod Book
 pub mod Faults
 pub mod Kept
 pub mod Laws
+pub mod Puts
 pub mod Serials
 pub mod Sets
 pub mod State
 pub mod Tables
+pub mod Terms
 pub mod Writes

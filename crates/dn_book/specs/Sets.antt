@@ -1,5 +1,5 @@
 -- What the parts of a grant and of a revoke leave of a set of tables, slot by slot.
-use Rattle.std.specs.Prelude.{◌≡◌, ◌≢◌, ℕ, suc, ◌+◌, ◌-◌, ◌*◌, ◌^◌, ◌%◌, ◌<◌, ◌≤◌, Bool, false, if◌then◌else◌, ◌&&◌, nat_eq, ◌==◌, List, [], ◌∷◌, filter, length, replicate, Option, Some, None, IsSome, IsTrue}
+use Rattle.std.specs.Prelude.{◌≡◌, ◌≢◌, ℕ, suc, ◌+◌, ◌-◌, ◌*◌, ◌^◌, ◌%◌, ◌<◌, ◌≤◌, Bool, false, if◌then◌else◌, ◌&&◌, nat_eq, ◌==◌, List, [], ◌∷◌, filter, length, replicate, slice_get, Option, Some, None, IsSome, IsTrue}
 use Rattle.std.specs.List.{AllPairs, flat_map, list_any}
 use Rattle.dn_base.specs.declared.device.TableEvent.{TableEvent}
 use Rattle.dn_net.specs.declared.node.NodeDecl.{NodeDecl}
@@ -9,13 +9,15 @@ use Rattle.dn_net.specs.Decode.{unit_at}
 use Rattle.dn_net.specs.Units.{has_plain_shape}
 use Rattle.dn_kind.specs.declared.unit_kind.Record.{Record}
 use Rattle.dn_kind.specs.Kind.{Meaning}
+use Rattle.dn_kind.specs.Rights.{both_rights}
 use Rattle.dn_tables.specs.declared.placement.Hop.{Hop}
 use Rattle.dn_tables.specs.declared.table.NodeTable.{NodeTable}
 use Rattle.dn_tables.specs.declared.table.SlotUse.{SlotUse}
-use Rattle.dn_tables.specs.Set.{IsEmpty, fits_kinds, has_slot, packed_in, units_of, use_in, width_in, with_slot, words_of, tables_of_set}
+use Rattle.dn_tables.specs.Set.{IsEmpty, KeepsFit, has_slot, packed_in, use_in, width_in, with_slot, words_of, tables_of_set}
 use Rattle.dn_tables.specs.Writes.{clear_writes, events_of, put_writes}
+use Rattle.dn_book.specs.declared.grant.Grant.{Grant}
 use Rattle.dn_book.specs.Book.{is_taken}
-use Rattle.dn_book.specs.Writes.{AreAdded, Put}
+use Rattle.dn_book.specs.Writes.{AreAdded, Put, hop_slots}
 
 -- the hop fits this unit: it is there with its port, and inputs and outputs are within its slots and
 -- its reach
@@ -33,6 +35,11 @@ pub record AreFit (net : List NodeDecl) (size : ℕ) (hops : List Hop) : Type 0 
       (u : UnitPart) × (unit_at net hop.unit ≡ Some u) × FitsUnit u size hop
   pub apart : AllPairs (λ (a b : Hop). a.unit ≢ b.unit) hops
 
+-- what holds of each slot of the hops of a grant, by the place of its hop
+abbrev pub EachSlot : List NodeDecl → Grant → (ℕ → Put → Type 0) → Type 0
+EachSlot net grant P = (place : ℕ) (hop : Hop) → slice_get grant.placement.hops place ≡ Some hop →
+    (s : Put) → Member s (hop_slots net grant.request.size both_rights hop) → P place s
+
 -- so many live grants use the slot
 abbrev pub is_used_by : ℕ → List NodeTable → Put → Bool
 is_used_by uses set s = (use_in set s.unit s.slot).uses == uses
@@ -40,11 +47,6 @@ is_used_by uses set s = (use_in set s.unit s.slot).uses == uses
 -- a record that is put into a slot of a unit
 abbrev pub put_at : ℕ → ℕ → Record → Put
 put_at unit slot r = record { unit = unit; slot = slot; holds = r }
-
--- the second set has the units of the first, and fits the kinds that the first fits
-pub record KeepsFit (set set' : List NodeTable) : Type 0 where
-  pub units : units_of set' ≡ units_of set
-  pub wide : (kinds : List Meaning) → IsTrue (fits_kinds kinds set) → IsTrue (fits_kinds kinds set')
 
 -- the set after records were put, one after the other
 abbrev pub after_puts : List Meaning → List NodeTable → List Put → List NodeTable

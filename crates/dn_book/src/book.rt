@@ -1,19 +1,12 @@
 //! The live grants, with the tables that hold their records.
 
 ghost use Rattle.std.specs.Prelude.{◌≡◌, ◌≢◌, ◌↔◌, [], ◌∷◌, ◌++◌, Err, true, false, not, map, IfOk, OnOk, OnErr, is_ok, is_err};
-ghost use Rattle.dn_net.specs.Chain.{Member};
+ghost use Rattle.dn_net.specs.Terms.{Member};
 ghost use Rattle.std.specs.List.{All};
-ghost use Rattle.dn_base.specs.Device.{is_make_fault};
-ghost use Rattle.dn_base.specs.Outside.{IsCounted};
-ghost use Rattle.dn_kind.specs.Kind.{IsLawful};
-ghost use Rattle.dn_kind.specs.Units.{IsLegalWith};
-ghost use Rattle.dn_tables.specs.Set.{FitsNet, IsOnDevice, fresh_set, tables_of_set};
-ghost use Rattle.dn_tables.specs.Writes.{AreUnitsMade};
-ghost use Rattle.dn_book.specs.Book.{IsFaithful, has_id, without};
-ghost use Rattle.dn_book.specs.Faults.{is_commit_fault, is_revoke_fault};
-ghost use Rattle.dn_book.specs.Laws.{IsGrantFor};
-ghost use Rattle.dn_book.specs.Tables.{IsKept};
-ghost use Rattle.dn_book.specs.Writes.{AreAdded, grant_events, revoke_events};
+ghost use Rattle.dn_base.specs.Terms.{IsCounted, is_make_fault};
+ghost use Rattle.dn_kind.specs.Terms.{IsLawful, IsLegalWith};
+ghost use Rattle.dn_tables.specs.Terms.{AreUnitsMade, FitsNet, IsOnDevice, fresh_set, tables_of_set};
+ghost use Rattle.dn_book.specs.Terms.{AreAdded, IsFaithful, IsGrantFor, IsKept, grant_events, has_id, is_commit_fault, is_revoke_fault, revoke_events, without};
 ghost use Rattle.dn_book.specs.declared.book.CommitFault.TheVariants.{OutOfMemory as no_memory};
 ghost use Rattle.dn_book.specs.declared.book.RevokeFault.TheVariants.{NoGrant as no_grant};
 ghost use Rattle.dn_book.specs.declared.grant.Grant.{Grant as GrantPart};
@@ -27,7 +20,7 @@ use dn_base::device::{MakeFault, Tables};
 use dn_kind::kinds::Kinds;
 use dn_net::net::Net;
 use dn_tables::set::TableSet;
-use std::alloc::{AllocError, Global};
+use std::alloc::Global;
 use std::marker::Model;
 use thiserror::Error;
 
@@ -40,14 +33,6 @@ pub enum CommitFault {
     /// There was no memory for the grant.
     #[error("OutOfMemory")]
     OutOfMemory,
-}
-
-impl From<AllocError> for CommitFault {
-    ghost from_gives = { λ _ e. e ≡ no_memory };
-
-    fn from(_e: AllocError) -> CommitFault {
-        CommitFault::OutOfMemory
-    }
 }
 
 /// Why a grant is not revoked.
@@ -199,7 +184,9 @@ impl Book {
             (is_commit_fault result) }
     {
         let id = grant.id;
-        self.grants.push(grant)?;
+        let Ok(()) = self.grants.push(grant) else {
+            return Err(CommitFault::OutOfMemory);
+        };
         let Some(live) = self.grants.get(id) else {
             unreachable!()
         };

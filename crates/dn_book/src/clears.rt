@@ -1,14 +1,13 @@
 //! Clearing the slots of a grant: from the agent's end to memory's, and in each hop by ascending slot.
 
 ghost use Rattle.std.specs.Prelude.{◌≡◌, [], ◌∷◌, map, Some, IsTrue, is_err};
-ghost use Rattle.dn_base.specs.Outside.{IsCounted};
+ghost use Rattle.dn_base.specs.Terms.{IsCounted};
 ghost use Rattle.dn_net.specs.declared.node.Unit.{Unit as UnitPart};
-ghost use Rattle.dn_net.specs.Decode.{unit_at};
+ghost use Rattle.dn_net.specs.Terms.{unit_at};
 ghost use Rattle.dn_kind.specs.declared.rights.Rights.{Rights as RightsPart};
 ghost use Rattle.dn_kind.specs.declared.unit_kind.Record.{Record as RecordPart};
-ghost use Rattle.dn_tables.specs.Set.{IsOnDevice, has_slot, unit_in, units_of};
-ghost use Rattle.dn_book.specs.Sets.{AreCleared, AreFit, FitsUnit, put_at};
-ghost use Rattle.dn_book.specs.Writes.{grant_slots, hop_slots, hop_slots_by, joined_slots};
+ghost use Rattle.dn_tables.specs.Terms.{IsOnDevice, has_slot, unit_in, units_of};
+ghost use Rattle.dn_book.specs.Terms.{AreCleared, AreFit, FitsUnit, grant_slots, hop_slots, hop_slots_by, joined_slots, put_at};
 
 use crate::grant::Grant;
 use crate::slots::{end_slot, first_slot};

@@ -2,7 +2,7 @@
 
 ghost use Rattle.std.specs.Prelude.{◌≡◌, ◌≢◌, ◌==◌, [], ◌∷◌, ◌++◌, false, find, length, option_copied, AllPairs, OnOk, OnErr};
 ghost use Rattle.std.specs.Map.Iter.{ShowsInOrder, deref};
-ghost use Rattle.dn_book.specs.Book.{has_id, without};
+ghost use Rattle.dn_book.specs.Terms.{has_id, without};
 ghost use Rattle.dn_book.specs.declared.grant.Grant.{Grant as GrantPart};
 
 use crate::grant::Grant;

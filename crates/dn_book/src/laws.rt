@@ -1,6 +1,6 @@
 //! Laws on the definitions, each the contract of a function that does nothing.
 
-ghost use Rattle.dn_book.specs.Laws.{EmptyBookIsFaithful, GrantKeepsBook, OwedNamesAreOwed, OwedNamesAreResolved, RevokeKeepsBook, TablesHoldRecords};
+ghost use Rattle.dn_book.specs.Terms.{EmptyBookIsFaithful, GrantKeepsBook, OwedNamesAreOwed, OwedNamesAreResolved, RevokeKeepsBook, TablesHoldRecords};
 
 /// The empty book is sound and faithful.
 pub fn empty_book_is_faithful()

@@ -1,8 +1,8 @@
 //! The slots that a hop takes of its unit, and the records that it puts into them.
 
 ghost use Rattle.std.specs.Prelude.{◌≡◌, ◌<◌, ◌≤◌, suc};
-ghost use Rattle.dn_book.specs.Sets.{FitsUnit};
-ghost use Rattle.dn_placement.specs.Records.{first_slot, last_slot, slot_record};
+ghost use Rattle.dn_book.specs.Terms.{FitsUnit};
+ghost use Rattle.dn_placement.specs.Terms.{first_slot, last_slot, slot_record};
 
 use dn_kind::rights::Rights;
 use dn_kind::unit_kind::Record;

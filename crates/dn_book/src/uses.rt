@@ -1,14 +1,11 @@
 //! How many live grants use the slots of a grant, and whether it owns them.
 
-ghost use Rattle.std.specs.Prelude.{◌≡◌, ◌==◌, ℕ, ◌<◌, map, slice_get, Some, IsTrue};
+ghost use Rattle.std.specs.Prelude.{◌≡◌, ◌==◌, ◌<◌, map, Some, IsTrue};
 ghost use Rattle.dn_net.specs.declared.node.Unit.{Unit as UnitPart};
-ghost use Rattle.dn_net.specs.Chain.{Member};
-ghost use Rattle.dn_net.specs.Decode.{unit_at};
-ghost use Rattle.dn_kind.specs.Rights.{both_rights};
-ghost use Rattle.dn_tables.specs.declared.placement.Hop.{Hop as HopPart};
-ghost use Rattle.dn_tables.specs.Set.{has_slot, unit_in, units_of, use_in};
-ghost use Rattle.dn_book.specs.Sets.{AreChanged, AreFit, AreHopsChanged, FitsUnit, MayUse, hop_owner, one_less, one_more};
-ghost use Rattle.dn_book.specs.Writes.{Put, hop_slots, hop_slots_by};
+ghost use Rattle.dn_net.specs.Terms.{Member, unit_at};
+ghost use Rattle.dn_kind.specs.Terms.{both_rights};
+ghost use Rattle.dn_tables.specs.Terms.{has_slot, unit_in, units_of, use_in};
+ghost use Rattle.dn_book.specs.Terms.{AreChanged, AreFit, AreHopsChanged, EachSlot, FitsUnit, MayUse, Put, hop_owner, hop_slots, hop_slots_by, one_less, one_more};
 
 use crate::grant::Grant;
 use crate::slots::{end_slot, first_slot};
@@ -44,10 +41,8 @@ fn hop_owner(id: u32, own: usize, place: usize) -> Option<u32>
 pub(crate) fn add_uses(tables: &mut TableSet, net: &Net, grant: &Grant)
     requires units { units_of tables.old ≡ map (λ d. d.unit) net.now }
     requires hops { AreFit net.now grant.now.request.size grant.now.placement.hops }
-    requires may { (place : ℕ) (hop : HopPart) → slice_get grant.now.placement.hops place
-        ≡ Some hop →
-        (s : Put) → Member s (hop_slots net.now grant.now.request.size both_rights hop) →
-        MayUse (hop_owner grant.now.id grant.now.placement.own place) tables.old s }
+    requires may { EachSlot net.now grant.now (λ place. MayUse
+        (hop_owner grant.now.id grant.now.placement.own place) tables.old) }
     ensures { AreHopsChanged net.now grant.now.request.size
         (λ place. one_more (hop_owner grant.now.id grant.now.placement.own place))
         grant.now.placement.hops tables.old tables.new }
@@ -94,10 +89,8 @@ fn add_slot_uses(tables: &mut TableSet, unit: &Unit, size: u64, hop: &Hop, owner
 pub(crate) fn end_uses(tables: &mut TableSet, net: &Net, grant: &Grant)
     requires units { units_of tables.old ≡ map (λ d. d.unit) net.now }
     requires hops { AreFit net.now grant.now.request.size grant.now.placement.hops }
-    requires used { (place : ℕ) (hop : HopPart) → slice_get grant.now.placement.hops place
-        ≡ Some hop →
-        (s : Put) → Member s (hop_slots net.now grant.now.request.size both_rights hop) →
-        0 < (use_in tables.old s.unit s.slot).uses }
+    requires used { EachSlot net.now grant.now (λ place s.
+        0 < (use_in tables.old s.unit s.slot).uses) }
     ensures { AreHopsChanged net.now grant.now.request.size (λ place. one_less)
         grant.now.placement.hops tables.old tables.new }
 {

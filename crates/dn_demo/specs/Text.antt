@@ -1,6 +1,8 @@
 -- The generated text of a demonstration: a platform with so many agents, their grants, and revokes.
 use Rattle.std.specs.Prelude.{ℕ, zero, suc, false, ◌+◌, ◌-◌, ◌*◌, List, [], ◌++◌, codes}
 use Rattle.std.specs.Fmt.{decimal, digits}
+use Rattle.dn_demo.specs.declared.text.Commands.{Commands}
+use Rattle.dn_demo.specs.declared.text.Commands.TheVariants.{Grants, Revokes}
 
 -- the texts of the numbers below a count, one after the other
 abbrev pub texts_below : (ℕ → List ℕ) → ℕ → List ℕ
@@ -41,10 +43,6 @@ grant_text agent buffer =
 unfoldable pub grants_of : ℕ → List ℕ
 grants_of agent = texts_below (grant_text agent) 16
 
--- the grants of all agents, agent by agent
-abbrev pub grants_text : ℕ → List ℕ
-grants_text agents = texts_below grants_of agents
-
 -- the revoke of the grant of a buffer of an agent
 abbrev pub revoke_text : ℕ → ℕ → List ℕ
 revoke_text agent buffer = codes "revoke " ++ (id_text agent buffer ++ codes ";\n")
@@ -53,10 +51,11 @@ revoke_text agent buffer = codes "revoke " ++ (id_text agent buffer ++ codes ";\
 unfoldable pub revokes_of : ℕ → List ℕ
 revokes_of agent = texts_below (λ pair. revoke_text agent (2 * pair + 1)) 8
 
--- the revokes of all agents, agent by agent
-abbrev pub revokes_text : ℕ → List ℕ
-revokes_text agents = texts_below revokes_of agents
+-- the commands of a sort of an agent
+abbrev pub commands_of : Commands → ℕ → List ℕ
+commands_of Grants = grants_of
+commands_of Revokes = revokes_of
 
 -- the text of the demonstration with so many agents
 abbrev pub demo_text : ℕ → List ℕ
-demo_text agents = platform_text agents ++ (grants_text agents ++ revokes_text agents)
+demo_text agents = platform_text agents ++ (texts_below grants_of agents ++ texts_below revokes_of agents)

@@ -2,7 +2,7 @@
 
 ghost use Rattle.std.specs.Prelude.{◌≡◌, ◌++◌, IfOk, OnOk};
 ghost use Rattle.std.specs.String.{string_bytes};
-ghost use Rattle.dn_demo.specs.Summary.{left_text, made_text, summary_text};
+ghost use Rattle.dn_demo.specs.Terms.{left_text, made_text, summary_text};
 
 use crate::OutOfMemory;
 use std::alloc::Global;
@@ -40,16 +40,10 @@ pub fn summary_text(alloc: Global, summary: Summary) -> Result<Vec<u8>, OutOfMem
 fn write_made(out: &mut String, summary: Summary) -> Result<(), OutOfMemory>
     ensures { OnOk result (string_bytes out.new ≡ string_bytes out.old ++ made_text summary) }
 {
-    let Summary {
-        agents,
-        nodes,
-        grants,
-        revoked,
-        ..
-    } = summary;
     write!(
         out,
-        "demo {agents}: nodes {nodes} grants {grants} revoked {revoked}"
+        "demo {}: nodes {} grants {} revoked {}",
+        summary.agents, summary.nodes, summary.grants, summary.revoked
     )
 }
 
@@ -57,11 +51,9 @@ fn write_made(out: &mut String, summary: Summary) -> Result<(), OutOfMemory>
 fn write_left(out: &mut String, summary: Summary) -> Result<(), OutOfMemory>
     ensures { OnOk result (string_bytes out.new ≡ string_bytes out.old ++ left_text summary) }
 {
-    let Summary {
-        rows,
-        records,
-        image,
-        ..
-    } = summary;
-    write!(out, " rows {rows} records {records} image {image}\n")
+    write!(
+        out,
+        " rows {} records {} image {}\n",
+        summary.rows, summary.records, summary.image
+    )
 }

@@ -2,7 +2,7 @@
 
 ghost use Rattle.std.specs.Prelude.{◌≡◌, ◌<◌, ◌++◌, IfOk, OnOk};
 ghost use Rattle.std.specs.String.{string_bytes};
-ghost use Rattle.dn_demo.specs.Text.{demo_text, grant_text, grants_of, grants_text, loop_text, platform_text, revoke_text, revokes_of, revokes_text};
+ghost use Rattle.dn_demo.specs.Terms.{commands_of, demo_text, grant_text, grants_of, loop_text, platform_text, revoke_text, revokes_of, texts_below};
 
 use crate::OutOfMemory;
 use std::alloc::Global;
@@ -13,6 +13,13 @@ pub const BUFFERS: u8 = 16;
 /// From the first address of a buffer to that of the next, in bytes.
 pub const STRIDE: u64 = 0x4000;
 
+/// A sort of commands, of which each agent has its own.
+#[derive(Clone, Copy)]
+enum Commands {
+    Grants,
+    Revokes,
+}
+
 /// The text of the demonstration with so many agents, from 1 on: a platform in which each agent stands
 /// behind a unit of its own, sixteen grants of three pages for each agent, and then the revoke of every
 /// second one of them. `Err` is want of memory.
@@ -22,8 +29,8 @@ pub fn demo_text(alloc: Global, agents: u8) -> Result<Vec<u8>, OutOfMemory>
 {
     let mut out = String::new(alloc);
     write_platform(&mut out, agents)?;
-    write_grants(&mut out, agents)?;
-    write_revokes(&mut out, agents)?;
+    write_commands(&mut out, agents, Commands::Grants)?;
+    write_commands(&mut out, agents, Commands::Revokes)?;
     Ok(out.into_bytes())
 }
 
@@ -48,14 +55,26 @@ fn write_loop(out: &mut String, last: u8) -> Result<(), OutOfMemory>
     write!(out, "for i in 0..{last};\n")
 }
 
-/// Appends the grants of all agents, agent by agent.
-fn write_grants(out: &mut String, agents: u8) -> Result<(), OutOfMemory>
-    ensures { OnOk result (string_bytes out.new ≡ string_bytes out.old ++ grants_text agents) }
+/// Appends the commands of this sort of all agents, agent by agent.
+fn write_commands(out: &mut String, agents: u8, commands: Commands) -> Result<(), OutOfMemory>
+    ensures { OnOk result (string_bytes out.new
+        ≡ string_bytes out.old ++ texts_below (commands_of commands) agents) }
 {
     for agent in 0..agents {
-        write_grants_of(out, agent)?;
+        write_commands_of(out, agent, commands)?;
     }
     Ok(())
+}
+
+/// Appends the commands of this sort of an agent.
+fn write_commands_of(out: &mut String, agent: u8, commands: Commands) -> Result<(), OutOfMemory>
+    ensures { OnOk result (string_bytes out.new
+        ≡ string_bytes out.old ++ commands_of commands agent) }
+{
+    match commands {
+        Commands::Grants => write_grants_of(out, agent),
+        Commands::Revokes => write_revokes_of(out, agent),
+    }
 }
 
 /// Appends the grants of an agent.
@@ -78,16 +97,6 @@ fn write_grant(out: &mut String, agent: u8, buffer: u8) -> Result<(), OutOfMemor
         out,
         "grant g_{agent}_{buffer} a[{agent}] dram 0x{base:x} 0x3000;\n"
     )
-}
-
-/// Appends the revokes of all agents, agent by agent.
-fn write_revokes(out: &mut String, agents: u8) -> Result<(), OutOfMemory>
-    ensures { OnOk result (string_bytes out.new ≡ string_bytes out.old ++ revokes_text agents) }
-{
-    for agent in 0..agents {
-        write_revokes_of(out, agent)?;
-    }
-    Ok(())
 }
 
 /// Appends the revokes of an agent: of the buffers with odd numbers.

@@ -1,15 +1,11 @@
 -- Chains one behind the other.
-use Rattle.std.proofs.Common.{◌≡◌, ℕ, zero, suc, ◌+◌, ◌-◌, ◌<◌, ◌≤◌, ◌⊎◌, ◌↔◌, inl, inr, refl, sym, subst, arith}
+use Rattle.std.proofs.Common.{◌≡◌, ℕ, zero, suc, ◌+◌, ◌-◌, ◌<◌, ◌≤◌, ◌⊎◌, ◌↔◌, inl, inr, refl, subst, arith}
 use Rattle.dn_net.specs.Chain.{IsChain}
+use Rattle.dn_net.proofs.Chains.{chain_join}
 use Rattle.dn_flat.specs.Stages.{ReachesBefore}
 
 pub joined : {X : Type 0} (S : X → X → Type 0) (j k : ℕ) (x y z : X) → IsChain S j x y → IsChain S k y z → IsChain S (j + k) x z
-joined S zero k x y z c d =
-    let e : k ≡ 0 + k = omega arith in
-    subst (λ n. IsChain S n x z) e (subst (λ w. IsChain S k w z) (sym c) d)
-joined S (suc j) k x y z c d =
-    let e : suc (j + k) ≡ suc j + k = omega arith in
-    subst (λ n. IsChain S n x z) e (c.0, c.1, joined S j k c.0 y z c.2 d)
+joined S j k x y z c d = chain_join S j k x y z c d
 
 pub parted : {X : Type 0} (S : X → X → Type 0) (j k : ℕ) (x z : X) → IsChain S (j + k) x z → (y : X) × IsChain S j x y × IsChain S k y z
 parted S zero k x z c =

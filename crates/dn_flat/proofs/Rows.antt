@@ -1,39 +1,20 @@
 -- The rows of a view: what a node's addresses resolve to, made address by address.
-use Rattle.std.proofs.Common.{◌≡◌, ◌∙◌, ap, sym, refl, ℕ, ◌↔◌, inl, inr, List, [], ◌∷◌, map, length, true}
+use Rattle.std.proofs.Common.{◌≡◌, ◌∙◌, ap, sym, ℕ, ◌↔◌, List, map, length}
 use Rattle.std.proofs.lemmas.List.{length-map}
 use Rattle.dn_interval.specs.declared.row.End.{End}
 use Rattle.dn_interval.specs.declared.row.Row.{Row}
-use Rattle.dn_interval.specs.Rows.{Member as EndIn, AllAbove, Ascending, AreNormal}
+use Rattle.dn_interval.specs.Rows.{Member as EndIn, AreNormal}
 use Rattle.dn_interval.specs.Listed.{seen_by}
 use Rattle.dn_interval.proofs.Fronts.{listed_are_normal}
 use Rattle.dn_interval.proofs.Listing.{normal_are_listed}
 use Rattle.dn_net.specs.declared.node.Name.{Name}
 use Rattle.dn_net.specs.declared.node.NodeDecl.{NodeDecl}
-use Rattle.dn_net.specs.Chain.{Member}
 use Rattle.dn_net.specs.Decode.{is_accepted, steps, step_limit}
-use Rattle.dn_net.specs.Names.{name_lt, is_before_first, is_ascending, resolved_names}
-use Rattle.dn_net.proofs.Ascending.{end_names_ascend, before_members}
-use Rattle.dn_net.proofs.Least.{both_true}
+use Rattle.dn_net.specs.Names.{resolved_names}
+use Rattle.dn_net.proofs.Ascending.{end_names_ascend}
 use Rattle.dn_net.proofs.Resolution.{end_names_are_ends}
+use Rattle.dn_walk.proofs.Ends.{end_in, ends_ascend}
 use Rattle.dn_flat.specs.Views.{name_of_end, end_of, ResolvesFrom, view_rows, ViewRowsAreNormal}
-
--- a name stands in a list exactly where its end stands in the list of their ends
-end_in : (xs : List Name) (y : End) → EndIn y (map end_of xs) ↔ Member (name_of_end y) xs
-end_in [] y = ((λ m. m), (λ m. m))
-end_in (x ∷ xs) y =
-    let later = end_in xs y in (
-      (λ m. elim m [ inl e ↦ inl (ap name_of_end e) | inr n ↦ inr (later.0 n) ]),
-      (λ m. elim m [ inl e ↦ inl (ap end_of e) | inr n ↦ inr (later.1 n) ]),
-    )
-
--- a name that comes before each other does so as rows have them
-all_above : (x : Name) (xs : List Name) → ((z : Name) → Member z xs → name_lt x z ≡ true) → AllAbove (end_of x) (map end_of xs)
-all_above x [] before = tt
-all_above x (y ∷ ys) before = (before y (inl refl), all_above x ys (λ z m. before z (inr m)))
-
-ends_ascend : (xs : List Name) → is_ascending xs ≡ true → Ascending (map end_of xs)
-ends_ascend [] up = tt
-ends_ascend (x ∷ xs) up = (all_above x xs (λ z m. before_members x z xs up m), ends_ascend xs (both_true (is_before_first x xs) (is_ascending xs) up).1)
 
 -- the ends that an address of a node resolves to
 abbrev pub ends_at : List NodeDecl → ℕ → ℕ → List End
@@ -42,7 +23,7 @@ ends_at net n a = map end_of (resolved_names net (record { node = n; addr = a })
 resolves_end : (net : List NodeDecl) (n a : ℕ) (y : End) → EndIn y (ends_at net n a) ↔ ResolvesFrom net n a y
 resolves_end net n a y =
     let x : Name = record { node = n; addr = a } in
-    let in_list = end_in (resolved_names net x) y in
+    let in_list = end_in (resolved_names net x) (name_of_end y) in
     let law = end_names_are_ends (steps net) (is_accepted net) step_limit x (name_of_end y) in
     ((λ m. law.0 (in_list.0 m)), (λ r. in_list.1 (law.1 r)))
 

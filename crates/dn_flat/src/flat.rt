@@ -1,9 +1,9 @@
 //! The flattened view of a node.
 
 ghost use Rattle.std.specs.Prelude.{◌<◌, IfOk, IsTrue, length};
-ghost use Rattle.dn_interval.specs.Rows.{AreNormal, ends_within};
-ghost use Rattle.dn_walk.specs.Rows.{AreWalksOf};
-ghost use Rattle.dn_flat.specs.Views.{ResolvesFrom, StopsFrom};
+ghost use Rattle.dn_interval.specs.Terms.{AreNormal, ends_within};
+ghost use Rattle.dn_walk.specs.Terms.{AreWalksOf};
+ghost use Rattle.dn_flat.specs.Terms.{ResolvesFrom, StopsFrom};
 
 use crate::stage::first_stage;
 use dn_base::OutOfMemory;

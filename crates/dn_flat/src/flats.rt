@@ -1,10 +1,10 @@
 //! The flattened views of all nodes of a net.
 
 ghost use Rattle.std.specs.Prelude.{◌≡◌, ◌+◌, ◌<◌, ◌++◌, [], ◌∷◌, List, IfOk, OnOk, IsTrue, Some, length, slice_get};
-ghost use Rattle.dn_net.specs.Legal.{IsLegalNet};
-ghost use Rattle.dn_walk.specs.Rows.{AreWalksOf};
+ghost use Rattle.dn_net.specs.Terms.{IsLegalNet};
+ghost use Rattle.dn_walk.specs.Terms.{AreWalksOf};
 ghost use Rattle.dn_flat.specs.declared.flat.Flat.{Flat};
-ghost use Rattle.dn_flat.specs.Stages.{AreFlats, AreFlatsBelow, IsStage};
+ghost use Rattle.dn_flat.specs.Terms.{AreFlats, AreFlatsBelow, IsStage};
 
 use crate::flat::Flat;
 use crate::stage::{Stage, first_stage};

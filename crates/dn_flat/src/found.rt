@@ -1,12 +1,10 @@
 //! Segments of what rows come to, by what their nodes come to.
 
-ghost use Rattle.std.specs.Prelude.{◌≡◌, ℕ, ◌<◌, ◌≤◌, ◌||◌, [], nat_lt, length, OnOk, IfOk, IsTrue};
+ghost use Rattle.std.specs.Prelude.{◌≡◌, ◌<◌, [], nat_lt, length, OnOk, IfOk, IsTrue};
 ghost use Rattle.std.specs.List.{All, list_all};
-ghost use Rattle.dn_interval.specs.declared.row.End.{End};
 ghost use Rattle.dn_interval.specs.declared.span.TheConstants.{TOP};
-ghost use Rattle.dn_interval.specs.Onward.{seg_goes, row_goes, rows_go, gives_by};
-ghost use Rattle.dn_interval.specs.Rows.{AreNormal, SegmentsGive, EndsFit, ends_within};
-ghost use Rattle.dn_interval.specs.Strands.{segs_give};
+ghost use Rattle.dn_interval.specs.Terms.{AreNormal, EndsFit, SegmentsGive, ends_within, gives_by, row_goes, rows_go, seg_goes};
+ghost use Rattle.dn_flat.specs.Terms.{FindsMore};
 
 use crate::flat::Flat;
 use crate::reach::Reach;
@@ -59,15 +57,8 @@ pub(crate) fn whole(node: u16) -> Seg
 /// Adds what the names of rows come to, by what their nodes come to.
 pub(crate) fn push_rows(found: &mut Found, nodes: &[Reach], rows: &Rows) -> Result<(), OutOfMemory>
     requires there { IsTrue (ends_within (length nodes.now) rows.now) }
-    ensures accepts { OnOk result ((a : ℕ) (z : End) → segs_give found.new.accepts.items a z
-        ≡ (segs_give found.old.accepts.items a z
-        || rows_go (gives_by (λ r. r.done.accepts) nodes.now) rows.now a z)) }
-    ensures stops { OnOk result ((a : ℕ) (z : End) → segs_give found.new.stops.items a z
-        ≡ (segs_give found.old.stops.items a z
-        || rows_go (gives_by (λ r. r.done.stops) nodes.now) rows.now a z)) }
-    ensures go { OnOk result ((a : ℕ) (z : End) → segs_give found.new.go.items a z
-        ≡ (segs_give found.old.go.items a z
-        || rows_go (gives_by (λ r. r.go) nodes.now) rows.now a z)) }
+    ensures adds { OnOk result
+        (FindsMore found.old found.new (λ by. rows_go (gives_by by nodes.now) rows.now)) }
     // Each name that the rows give is at or below the last address.
     ensures fit { OnOk result (All EndsFit rows.now) }
 {
@@ -82,15 +73,8 @@ pub(crate) fn push_rows(found: &mut Found, nodes: &[Reach], rows: &Rows) -> Resu
 fn push_row(found: &mut Found, nodes: &[Reach], row: &Row) -> Result<(), OutOfMemory>
     requires there { IsTrue (list_all (λ e. nat_lt e.node (length nodes.now)) row.now.ends) }
     requires fit { EndsFit row.now }
-    ensures accepts { OnOk result ((a : ℕ) (z : End) → segs_give found.new.accepts.items a z
-        ≡ (segs_give found.old.accepts.items a z
-        || row_goes (gives_by (λ r. r.done.accepts) nodes.now) row.now a z)) }
-    ensures stops { OnOk result ((a : ℕ) (z : End) → segs_give found.new.stops.items a z
-        ≡ (segs_give found.old.stops.items a z
-        || row_goes (gives_by (λ r. r.done.stops) nodes.now) row.now a z)) }
-    ensures go { OnOk result ((a : ℕ) (z : End) → segs_give found.new.go.items a z
-        ≡ (segs_give found.old.go.items a z
-        || row_goes (gives_by (λ r. r.go) nodes.now) row.now a z)) }
+    ensures { OnOk result
+        (FindsMore found.old found.new (λ by. row_goes (gives_by by nodes.now) row.now)) }
 {
     let span = row.span();
     let ends = row.ends();
@@ -107,12 +91,7 @@ fn push_row(found: &mut Found, nodes: &[Reach], row: &Row) -> Result<(), OutOfMe
 
 /// Adds what the addresses of a segment come to, by what its node comes to.
 fn push(found: &mut Found, reach: &Reach, seg: Seg) -> Result<(), OutOfMemory>
-    ensures accepts { OnOk result ((a : ℕ) (z : End) → segs_give found.new.accepts.items a z
-        ≡ (segs_give found.old.accepts.items a z || seg_goes reach.now.done.accepts seg a z)) }
-    ensures stops { OnOk result ((a : ℕ) (z : End) → segs_give found.new.stops.items a z
-        ≡ (segs_give found.old.stops.items a z || seg_goes reach.now.done.stops seg a z)) }
-    ensures go { OnOk result ((a : ℕ) (z : End) → segs_give found.new.go.items a z
-        ≡ (segs_give found.old.go.items a z || seg_goes reach.now.go seg a z)) }
+    ensures { OnOk result (FindsMore found.old found.new (λ by. seg_goes (by reach.now) seg)) }
 {
     follow(&mut found.accepts, seg, &reach.done.accepts)?;
     follow(&mut found.stops, seg, &reach.done.stops)?;

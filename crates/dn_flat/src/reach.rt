@@ -4,16 +4,12 @@ ghost use Rattle.std.specs.Prelude.{◌≡◌, ℕ, ◌+◌, ◌-◌, ◌<◌, �
 ghost use Rattle.std.specs.List.{All};
 ghost use Rattle.dn_interval.specs.declared.row.End.{End};
 ghost use Rattle.dn_interval.specs.declared.span.TheConstants.{TOP};
-ghost use Rattle.dn_interval.specs.Rows.{ends_within};
-ghost use Rattle.dn_interval.specs.Spans.{has, in_span};
-ghost use Rattle.dn_interval.specs.Strands.{seg_gives, segs_give};
+ghost use Rattle.dn_interval.specs.Terms.{ends_within, has, in_span, seg_gives, segs_give};
 ghost use Rattle.dn_net.specs.declared.node.NodeDecl.{NodeDecl};
-ghost use Rattle.dn_net.specs.Decode.{is_accepted, is_stop};
-ghost use Rattle.dn_net.specs.Rules.{KeepsNodeRules};
+ghost use Rattle.dn_net.specs.Terms.{KeepsNodeRules, is_accepted, is_stop};
 ghost use Rattle.dn_walk.specs.declared.leg.Leg.{Leg};
-ghost use Rattle.dn_walk.specs.Legs.{told_legs};
-ghost use Rattle.dn_flat.specs.Firsts.{is_same, stays, leg_gives, legs_give};
-ghost use Rattle.dn_flat.specs.Stages.{IsLedTo, IsReach, AreReaches};
+ghost use Rattle.dn_walk.specs.Terms.{told_legs};
+ghost use Rattle.dn_flat.specs.Terms.{AreReaches, IsLedBy, IsLedTo, IsReach, is_same, leg_gives, legs_give, stays};
 
 use crate::flat::Flat;
 use crate::found::{Found, flat_of, push_rows, whole};
@@ -50,9 +46,7 @@ impl Reach {
 
 /// Where a row leads each address to that address of a node: the node.
 fn led_by(row: &Row) -> Option<u16>
-    ensures lo { IfSome result (λ other. row.now.span.lo ≡ 0) }
-    ensures hi { IfSome result (λ other. row.now.span.hi ≡ TOP) }
-    ensures ends { IfSome result (λ other. row.now.ends ≡ record { node = other; base = 0 } ∷ []) }
+    ensures { IfSome result (λ other. IsLedBy other row.now) }
 {
     let [end] = row.ends() else {
         return None;

@@ -3,16 +3,12 @@
 ghost use Rattle.std.specs.Prelude.{◌≡◌, ℕ, ◌+◌, ◌*◌, ◌<◌, ◌≤◌, ◌↔◌, ◌||◌, Some, option_map, slice_get, length, IfOk, IfSome, OnOk, IsTrue, List};
 ghost use Rattle.dn_interval.specs.declared.row.End.{End};
 ghost use Rattle.dn_interval.specs.declared.span.TheConstants.{TOP};
-ghost use Rattle.dn_interval.specs.Onward.{rows_go, gives_by};
-ghost use Rattle.dn_interval.specs.Rows.{AreNormal, ends_within};
-ghost use Rattle.dn_interval.specs.Strands.{segs_give};
+ghost use Rattle.dn_interval.specs.Terms.{AreNormal, ends_within, gives_by, rows_go, segs_give};
 ghost use Rattle.dn_net.specs.declared.node.NodeDecl.{NodeDecl};
-ghost use Rattle.dn_net.specs.Legal.{IsLegalNet};
-ghost use Rattle.dn_net.specs.Rules.{KeepsNodeRules};
-ghost use Rattle.dn_walk.specs.Rows.{AreAccepted};
+ghost use Rattle.dn_net.specs.Terms.{IsLegalNet, KeepsNodeRules};
+ghost use Rattle.dn_walk.specs.Terms.{AreAccepted};
 ghost use Rattle.dn_flat.specs.declared.reach.Reach.{Reach};
-ghost use Rattle.dn_flat.specs.Stages.{GoesIn, IsDone, IsStage, IsFlat, IsLedTo, AreReaches};
-ghost use Rattle.dn_flat.specs.Views.{ResolvesFrom, StopsFrom};
+ghost use Rattle.dn_flat.specs.Terms.{AreReaches, GoesIn, IsDone, IsFlat, IsLedTo, IsStage, ResolvesFrom, StopsFrom};
 
 use crate::flat::Flat;
 use crate::found::{Found, flat_of, push_rows, whole};

@@ -2,3 +2,4 @@ pub mod Accepted
 pub mod Faults
 pub mod Grant
 pub mod Refusal
+pub mod Terms

@@ -2,10 +2,8 @@
 
 ghost use Rattle.std.specs.Prelude.{◌≡◌, ℕ, ◌≤◌, ◌<◌, true, false, length, slice_get};
 ghost use Rattle.std.specs.List.{All};
-ghost use Rattle.dn_net.specs.Decode.{is_accepted_at};
-ghost use Rattle.dn_net.specs.Rules.{KeepsRules};
-ghost use Rattle.dn_grant.specs.Accepted.{nearer};
-ghost use Rattle.dn_grant.specs.Refusal.{refused_address};
+ghost use Rattle.dn_net.specs.Terms.{KeepsRules, is_accepted_at};
+ghost use Rattle.dn_grant.specs.Terms.{nearer, refused_address};
 
 use dn_net::net::Net;
 use dn_net::node::{Block, Name, TOP};

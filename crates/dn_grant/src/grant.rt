@@ -1,27 +1,20 @@
 //! Granting a buffer.
 
-ghost use Rattle.std.specs.Prelude.{◌≡◌, ◌≢◌, ◌≤◌, ◌+◌, map, not, true, false, is_err, slice_get, None, IfOk, IfSome, OnOk, OnErr, IsTrue};
-ghost use Rattle.dn_base.specs.Outside.{IsCounted};
-ghost use Rattle.dn_net.specs.Decode.{is_agent_at, top};
-ghost use Rattle.dn_kind.specs.Rights.{are_rights};
-ghost use Rattle.dn_tables.specs.Set.{FitsNet, IsOnDevice};
-ghost use Rattle.dn_placement.specs.Order.{IsFirst, NoneSuited};
-ghost use Rattle.dn_book.specs.Book.{IsFaithful, slots_of};
-ghost use Rattle.dn_book.specs.Tables.{IsKept};
-ghost use Rattle.dn_view.specs.Systems.{IsSystem};
-ghost use Rattle.dn_grant.specs.Faults.{is_grant_fault};
-ghost use Rattle.dn_grant.specs.Grant.{IsGrantLogged, IsGrantTurn, NoAddition};
-ghost use Rattle.dn_grant.specs.Refusal.{grant_refusal};
+ghost use Rattle.std.specs.Prelude.{◌≡◌, ◌≢◌, map, not, true, false, is_err, IfSome, OnOk, OnErr, IsTrue};
+ghost use Rattle.dn_base.specs.Terms.{IsCounted};
+ghost use Rattle.dn_kind.specs.Terms.{are_rights};
+ghost use Rattle.dn_tables.specs.Terms.{FitsNet, IsOnDevice};
+ghost use Rattle.dn_book.specs.Terms.{IsFaithful, IsKept};
+ghost use Rattle.dn_view.specs.Terms.{IsSystem};
+ghost use Rattle.dn_grant.specs.Terms.{IsGrantLogged, IsGrantTurn, NoAddition, grant_refusal, is_grant_fault};
 
 use crate::fault::GrantFault;
 use crate::refusal::refusal;
-use dn_base::OutOfMemory;
 use dn_base::device::Tables;
-use dn_book::book::Book;
+use dn_book::book::{Book, CommitFault};
 use dn_book::grant::Grant;
-use dn_place::first::first;
+use dn_place::booked::first_in_book;
 use dn_placement::request::Request;
-use dn_tables::placement::Placement;
 use dn_view::system::System;
 use std::alloc::Global;
 
@@ -83,8 +76,10 @@ pub fn grant<D: Tables>(
     if let Some(why) = refusal(book, system.net, id, request) {
         return Err(why);
     }
-    let Some(placement) = first_in_book(alloc, book, system, request)? else {
-        return Err(GrantFault::NoPlacement);
+    let placement = match first_in_book(alloc, book, system, request, None) {
+        Ok(Some(placement)) => placement,
+        Ok(None) => return Err(GrantFault::NoPlacement),
+        Err(_) => return Err(GrantFault::OutOfMemory),
     };
     let v = placement.v();
     let grant = Grant {
@@ -92,32 +87,9 @@ pub fn grant<D: Tables>(
         request: *request,
         placement,
     };
-    book.commit(alloc, system.net, system.kinds, grant, device)?;
-    Ok(v)
-}
-
-/// The first admissible placement of a request in the slots as a book leaves them. `None` exactly where
-/// no placement is admissible. `Err` is want of memory.
-fn first_in_book(
-    alloc: Global,
-    book: &Book,
-    system: System,
-    request: &Request,
-) -> Result<Option<Placement>, OutOfMemory>
-    requires system { IsSystem (λ k. meaning (k.vtable, k.value)) system }
-    requires kept { IsKept system.net.now
-        (map (λ k. meaning (k.vtable, k.value)) system.kinds.now.list.items)
-        book.now.grants book.now.set }
-    requires agent { IsTrue (is_agent_at (slice_get system.net.now request.now.agent)) }
-    requires rights { IsTrue (are_rights request.now.rights) }
-    requires some { 1 ≤ request.now.size }
-    requires buffer { request.now.base + request.now.size ≤ top + 1 }
-    ensures first { IfOk result (λ found. IfSome found (λ p. IsFirst system.entry.net.now
-        (slots_of system.entry.net.now book.now.grants) request.now None p)) }
-    ensures none { IfOk result (λ found. found ≡ None → NoneSuited system.entry.net.now
-        (slots_of system.entry.net.now book.now.grants) request.now None) }
-{
-    let tables = book.tables();
-    tables.facts();
-    first(alloc, system, tables, request, None)
+    match book.commit(alloc, system.net, system.kinds, grant, device) {
+        Ok(()) => Ok(v),
+        Err(CommitFault::Device) => Err(GrantFault::Device),
+        Err(CommitFault::OutOfMemory) => Err(GrantFault::OutOfMemory),
+    }
 }

@@ -2,8 +2,8 @@
 
 ghost use Rattle.std.specs.Prelude.{◌≡◌, ◌<◌, length, slice_get, IsTrue};
 ghost use Rattle.std.specs.List.{All};
-ghost use Rattle.dn_net.specs.Rules.{KeepsRules};
-ghost use Rattle.dn_grant.specs.Refusal.{grant_refusal, is_target_at};
+ghost use Rattle.dn_net.specs.Terms.{KeepsRules};
+ghost use Rattle.dn_grant.specs.Terms.{grant_refusal, is_target_at};
 
 use crate::accepted::refused_address;
 use crate::fault::GrantFault;

@@ -7,11 +7,11 @@ use Rattle.std.proofs.lemmas.Option.{same_Some}
 use Rattle.dn_base.proofs.Orders.{ltb-false, le-ltb}
 use Rattle.dn_net.specs.declared.node.NodeDecl.{NodeDecl}
 use Rattle.dn_net.specs.declared.node.Unit.{Unit as UnitPart}
+use Rattle.dn_net.proofs.Steps.{unit_is}
 use Rattle.dn_kind.specs.Kind.{Meaning, is_plain}
 use Rattle.dn_kind.specs.Tables.{slot_words, record_within, record_spelled, record_of_unit, record_held}
 use Rattle.dn_kind.specs.declared.shape.Shape.{Shape}
 use Rattle.dn_kind.specs.Units.{is_shaped, unit_shape}
-use Rattle.dn_net.specs.Decode.{unit_at, unit_of}
 use Rattle.dn_tables.proofs.Fresh.{kind_there as shaped_kind, plain_there}
 use Rattle.dn_tables.specs.declared.table.NodeTable.{NodeTable}
 use Rattle.dn_tables.specs.Set.{unit_in, units_of, words_in, words_of, fits_by, fits_kinds, is_wide}
@@ -256,15 +256,8 @@ node_within kinds (n ∷ ns) zero o e = let f = ap (node_size kinds) (same_Some 
 node_within kinds (n ∷ ns) (suc i) o e = let h = node_within kinds ns i o e in omega arith
 
 -- the record that a slot of a node holds, by what the node is
-unit_at_is : (net : List NodeDecl) (i : ℕ) (o : Option UnitPart) → option_map (λ d. d.unit) (slice_get net i) ≡ Some o → unit_at net i ≡ o
-unit_at_is net i o e = go (slice_get net i) e
-  where
-    go : (p : Option NodeDecl) → option_map (λ d. d.unit) p ≡ Some o → unit_of p ≡ o
-    go None f = cc
-    go (Some d) f = same_Some d.unit o f
-
 pub held_at : (net : List NodeDecl) (kinds : List Meaning) (words : List (List ℕ)) (i slot : ℕ) (o : Option UnitPart) (ws : Option (List ℕ)) → option_map (λ d. d.unit) (slice_get net i) ≡ Some o → slice_get words i ≡ ws → record_held net kinds words i slot ≡ record_of_unit kinds o ws slot
-held_at net kinds words i slot o ws e f = ap (λ p. record_of_unit kinds p (slice_get words i) slot) (unit_at_is net i o e) ∙ ap (λ w. record_of_unit kinds o w slot) f
+held_at net kinds words i slot o ws e f = ap (λ p. record_of_unit kinds p (slice_get words i) slot) (unit_is net i o e) ∙ ap (λ w. record_of_unit kinds o w slot) f
 
 -- there is none past the last slot
 pub none_past : (kinds : List Meaning) (u : UnitPart) (ws : Option (List ℕ)) (slot : ℕ) → u.slots ≤ slot → record_of_unit kinds (Some u) ws slot ≡ None

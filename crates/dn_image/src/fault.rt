@@ -1,9 +1,5 @@
 //! Why bytes are no image of a net.
 
-ghost use Rattle.std.specs.Prelude.{◌≡◌};
-ghost use Rattle.dn_image.specs.declared.fault.ImageFault.TheVariants.{OutOfMemory as no_memory};
-
-use std::alloc::AllocError;
 use thiserror::Error;
 
 /// The first field of bytes that is not as in an image of the net, or want of memory. For each
@@ -25,12 +21,4 @@ pub enum ImageFault {
     /// There was no memory for the words.
     #[error("OutOfMemory")]
     OutOfMemory,
-}
-
-impl From<AllocError> for ImageFault {
-    ghost from_gives = { λ _ e. e ≡ no_memory };
-
-    fn from(_e: AllocError) -> ImageFault {
-        ImageFault::OutOfMemory
-    }
 }

@@ -1,7 +1,6 @@
 //! Laws on images, each the contract of a function that does nothing.
 
-ghost use Rattle.dn_image.specs.Bytes.{BytesOfNumber};
-ghost use Rattle.dn_image.specs.Laws.{ImageIsRead, ReadIsImage};
+ghost use Rattle.dn_image.specs.Terms.{BytesOfNumber, ImageIsRead, ReadIsImage};
 
 /// Bytes are those of the number that they spell, the lowest first: eight bytes those of a word.
 pub fn bytes_of_number()

@@ -3,12 +3,9 @@
 ghost use Rattle.std.specs.Prelude.{◌≡◌, ◌+◌, ◌*◌, ◌<◌, ◌≤◌, [], length, map, slice_index_or, IfOk, IsTrue, Ok};
 ghost use Rattle.std.specs.List.{All};
 ghost use Rattle.std.specs.Option.{option_copied};
-ghost use Rattle.dn_base.specs.Answers.{Answers};
-ghost use Rattle.dn_kind.specs.Kind.{IsLawful};
-ghost use Rattle.dn_kind.specs.Units.{KeepsUnitShape, has_shape};
-ghost use Rattle.dn_image.specs.Bytes.{words_spelled};
-ghost use Rattle.dn_image.specs.Image.{ImageWords, IsImageOf};
-ghost use Rattle.dn_image.specs.Reading.{image_fault_view, image_reading, image_words, node_size, node_words, nodes_size};
+ghost use Rattle.dn_base.specs.Terms.{Answers};
+ghost use Rattle.dn_kind.specs.Terms.{IsLawful, KeepsUnitShape, has_shape};
+ghost use Rattle.dn_image.specs.Terms.{ImageWords, IsImageOf, image_fault_view, image_reading, image_words, node_size, node_words, nodes_size, words_spelled};
 
 use crate::check::check;
 use crate::fault::ImageFault;
@@ -87,7 +84,7 @@ fn reading(alloc: Global, net: &Net, kinds: &Kinds, bytes: &[u8]) -> Result<Imag
         bytes.now) }
 {
     let version = check(net, kinds, bytes)?;
-    let words = read_words(alloc, net, kinds, bytes)?;
+    let words = read_words(alloc, net, kinds, bytes).or(Err(ImageFault::OutOfMemory))?;
     Ok(Image { version, words })
 }
 

@@ -3,12 +3,8 @@
 ghost use Rattle.std.specs.Prelude.{◌≡◌, ◌+◌, ◌*◌, ◌<◌, ◌≤◌, ◌++◌, length, map, take, slice_get, None, Some, IsTrue};
 ghost use Rattle.std.specs.List.{All};
 ghost use Rattle.std.specs.Option.{option_copied};
-ghost use Rattle.dn_kind.specs.Kind.{IsLawful};
-ghost use Rattle.dn_kind.specs.Tables.{record_held, record_of_unit};
-ghost use Rattle.dn_kind.specs.Units.{KeepsUnitShape, has_shape, is_shaped};
-ghost use Rattle.dn_image.specs.Bytes.{words_spelled};
-ghost use Rattle.dn_image.specs.Image.{width_of, word_count};
-ghost use Rattle.dn_image.specs.Reading.{broken_image, image_words, node_size, nodes_size, record_by};
+ghost use Rattle.dn_kind.specs.Terms.{IsLawful, KeepsUnitShape, has_shape, is_shaped, record_held, record_of_unit};
+ghost use Rattle.dn_image.specs.Terms.{broken_image, image_words, node_size, nodes_size, record_by, width_of, word_count, words_spelled};
 
 use crate::write::{HEAD, HEADER};
 use byteorder::{ByteOrder, LittleEndian};

@@ -4,10 +4,9 @@ ghost use Rattle.std.specs.Prelude.{◌≡◌, ◌++◌, ◌+◌, ◌*◌, ◌-�
 ghost use Rattle.std.specs.List.{All};
 ghost use Rattle.std.specs.Option.{option_copied};
 ghost use Rattle.byteorder.specs.Endian.{little_bytes};
-ghost use Rattle.dn_kind.specs.Kind.{IsLawful, Meaning};
-ghost use Rattle.dn_tables.specs.Set.{FitsNet, fits_kinds, unit_in, units_of, words_in, words_of};
-ghost use Rattle.dn_image.specs.Bytes.{word_bytes};
-ghost use Rattle.dn_image.specs.Image.{count_unit, head_of, image, mark, unit_bytes, unit_count, written_version};
+ghost use Rattle.dn_kind.specs.Terms.{IsLawful, Meaning};
+ghost use Rattle.dn_tables.specs.Terms.{FitsNet, fits_kinds, unit_in, units_of, words_in, words_of};
+ghost use Rattle.dn_image.specs.Terms.{count_unit, head_of, image, mark, unit_bytes, unit_count, word_bytes, written_version};
 
 use crate::slots::record_width;
 use byteorder::{ByteOrder, LittleEndian};

@@ -1,5 +1,5 @@
 -- Names in order: a sorted list of names without those that come twice ascends, and has the same names.
-use Rattle.std.proofs.Common.{◌≡◌, ℕ, suc, ◌+◌, ◌-◌, ◌<◌, ◌≤◌, ◌⊎◌, inl, inr, Bool, true, false, ◌&&◌, ◌||◌, cond, nat_lt, nat_eq, List, [], ◌∷◌, length, get_or, refl, sym, ap, ◌∙◌, subst, arith, IsTrue, eqb-true, eq-eqb, lt-ltb}
+use Rattle.std.proofs.Common.{◌≡◌, ℕ, ◌+◌, ◌-◌, ◌<◌, ◌≤◌, ◌⊎◌, inl, inr, Bool, true, false, ◌&&◌, ◌||◌, cond, nat_lt, nat_eq, List, [], ◌∷◌, length, refl, sym, ap, ◌∙◌, arith, IsTrue, eqb-true, eq-eqb, lt-ltb}
 use Rattle.std.specs.List.{dedup, dedup_from}
 use Rattle.std.specs.List.Sorted.{IsSorted}
 use Rattle.std.specs.Ordering.{ordering_then, nat_cmp, is_lt}
@@ -9,7 +9,7 @@ use Rattle.dn_interval.specs.declared.row.End.{End}
 use Rattle.dn_interval.specs.Rows.{end_lt, AllAbove, Ascending, HasEnds}
 use Rattle.dn_interval.specs.Strands.{ends_give}
 use Rattle.dn_interval.proofs.Membership.{or_left}
-use Rattle.dn_interval.proofs.Order.{less, equal}
+use Rattle.dn_interval.proofs.Order.{less, equal, rest_sorted}
 
 abbrev pub end_eq : End → End → Bool
 end_eq x y = nat_eq x.node y.node && nat_eq x.base y.base
@@ -79,10 +79,7 @@ AllFrom x (y ∷ ys) = NoLater x y × AllFrom x ys
 
 pub rising : (x : End) (xs : List End) → IsSorted end_cmp (x ∷ xs) → Rising x xs
 rising x [] h = tt
-rising x (y ∷ ys) h = (no_later x y (h 0 x (omega arith) (omega arith)), rising y ys (λ k d u v. further k d (h (suc k) d (omega arith) (omega arith))))
-  where
-    further : (k : ℕ) (d : End) → is_lt (end_cmp (get_or (x ∷ y ∷ ys) (suc k + 1) d) (get_or (x ∷ y ∷ ys) (suc k) d)) ≡ false → is_lt (end_cmp (get_or (y ∷ ys) (k + 1) d) (get_or (y ∷ ys) k d)) ≡ false
-    further k d h = let e : suc k + 1 ≡ suc (k + 1) = omega arith in subst (λ n. is_lt (end_cmp (get_or (x ∷ y ∷ ys) n d) (get_or (y ∷ ys) k d)) ≡ false) e h
+rising x (y ∷ ys) h = (no_later x y (h 0 x (omega arith) (omega arith)), rising y ys (rest_sorted end_cmp x y ys h))
 
 all_from : (x y : End) (ys : List End) → NoLater x y → AllFrom y ys → AllFrom x ys
 all_from x y [] a p = tt

@@ -8,15 +8,29 @@ use Rattle.std.proofs.lemmas.Bool.{or_cases, and_parts, and_from, eqb-true, eq-e
 use Rattle.std.proofs.lemmas.List.Folds.{list_any-append}
 use Rattle.dn_interval.specs.declared.row.End.{End}
 use Rattle.dn_interval.specs.declared.strand.Strand.{Strand}
+use Rattle.dn_interval.specs.declared.span.Span.{Span}
 use Rattle.dn_interval.specs.declared.span.TheConstants.{TOP}
 use Rattle.dn_interval.specs.Spans.{in_span}
 use Rattle.dn_interval.specs.Strands.{slid, strand_gives, strands_give, strand_cmp, IsMaximal}
 use Rattle.dn_interval.proofs.Membership.{never_true, lo_of, hi_of}
-use Rattle.dn_interval.proofs.Order.{less, equal}
+use Rattle.dn_interval.proofs.Order.{less, equal, rest_sorted}
+
+-- by node, by slide, and where these are the same by a relation of spans
+abbrev pub By : (Span → Span → Type 0) → Strand → Strand → Type 0
+By R s t = (s.node < t.node) ⊎ ((s.node ≡ t.node) × ((s.slide < t.slide) ⊎ ((s.slide ≡ t.slide) × R s.span t.span)))
+
+by_on : (R : Span → Span → Type 0) → ((p q r : Span) → R p q → R q r → R p r) → (s t u : Strand) → By R s t → By R t u → By R s u
+by_on R on s t u (inl l) (inl k) = inl (omega arith)
+by_on R on s t u (inl l) (inr (e, g)) = inl (omega arith)
+by_on R on s t u (inr (e, g)) (inl k) = inl (omega arith)
+by_on R on s t u (inr (e, inl l)) (inr (f, inl k)) = inr (e ∙ f, inl (omega arith))
+by_on R on s t u (inr (e, inl l)) (inr (f, inr k)) = inr (e ∙ f, inl (omega (arith, k.0)))
+by_on R on s t u (inr (e, inr g)) (inr (f, inl k)) = inr (e ∙ f, inl (omega (arith, g.0)))
+by_on R on s t u (inr (e, inr g)) (inr (f, inr k)) = inr (e ∙ f, inr (g.0 ∙ k.0, on s.span t.span u.span g.1 k.1))
 
 -- the second stands behind the first: by node, by slide, or with a gap between them
 abbrev pub Follows : Strand → Strand → Type 0
-Follows s t = (s.node < t.node) ⊎ ((s.node ≡ t.node) × ((s.slide < t.slide) ⊎ ((s.slide ≡ t.slide) × (s.span.hi + 2 ≤ t.span.lo))))
+Follows = By (λ p q. p.hi + 2 ≤ q.lo)
 
 abbrev pub AllPrecede : List Strand → Strand → Type 0
 AllPrecede [] t = Unit {0}
@@ -32,7 +46,7 @@ Ordered (s ∷ ss) = AllFollow s ss × Ordered ss
 
 -- by node, by slide and by first address
 abbrev pub ComesBefore : Strand → Strand → Type 0
-ComesBefore s t = (s.node < t.node) ⊎ ((s.node ≡ t.node) × ((s.slide < t.slide) ⊎ ((s.slide ≡ t.slide) × (s.span.lo ≤ t.span.lo))))
+ComesBefore = By (λ p q. p.lo ≤ q.lo)
 
 -- each of the strands comes no later than the next
 abbrev pub NoLater : Strand → Strand → Type 0
@@ -74,10 +88,7 @@ comes_before s t h = elim (cases_order s.node t.node) [
 
 pub in_order : (s : Strand) (ts : List Strand) → IsSorted strand_cmp (s ∷ ts) → InOrder s ts
 in_order s [] h = tt
-in_order s (t ∷ ts) h = (comes_before s t (h 0 s (omega arith) (omega arith)), in_order t ts (λ k d u v. further k d (h (suc k) d (omega arith) (omega arith))))
-  where
-    further : (k : ℕ) (d : Strand) → is_lt (strand_cmp (get_or (s ∷ t ∷ ts) (suc k + 1) d) (get_or (s ∷ t ∷ ts) (suc k) d)) ≡ false → is_lt (strand_cmp (get_or (t ∷ ts) (k + 1) d) (get_or (t ∷ ts) k d)) ≡ false
-    further k d h = let e : suc k + 1 ≡ suc (k + 1) = omega arith in subst (λ n. is_lt (strand_cmp (get_or (s ∷ t ∷ ts) n d) (get_or (t ∷ ts) k d)) ≡ false) e h
+in_order s (t ∷ ts) h = (comes_before s t (h 0 s (omega arith) (omega arith)), in_order t ts (rest_sorted strand_cmp s t ts h))
 
 -- one that comes before and does not go on with the next is followed by it
 pub followed : (s t : Strand) → ComesBefore s t → ((s.node ≡ t.node) → (s.slide ≡ t.slide) → (t.span.lo ≤ s.span.hi + 1) → ⊥) → Follows s t
@@ -86,13 +97,7 @@ followed s t (inr (e, inl l)) n = inr (e, inl l)
 followed s t (inr (e, inr (f, l))) n = inr (e, inr (f, elim (cases_lt (s.span.hi + 1) t.span.lo) [ inl k ↦ omega arith | inr k ↦ absurd (n e f k) ]))
 
 pub follows_on : (s t u : Strand) → Follows s t → Follows t u → Follows s u
-follows_on s t u (inl l) (inl k) = inl (omega arith)
-follows_on s t u (inl l) (inr (e, g)) = inl (omega arith)
-follows_on s t u (inr (e, g)) (inl k) = inl (omega arith)
-follows_on s t u (inr (e, inl l)) (inr (f, inl k)) = inr (e ∙ f, inl (omega arith))
-follows_on s t u (inr (e, inl l)) (inr (f, inr k)) = inr (e ∙ f, inl (omega (arith, k.0)))
-follows_on s t u (inr (e, inr g)) (inr (f, inl k)) = inr (e ∙ f, inl (omega (arith, g.0)))
-follows_on s t u (inr (e, inr g)) (inr (f, inr k)) = inr (e ∙ f, inr (g.0 ∙ k.0, omega (arith, g.1, k.1, t.span.ordered)))
+follows_on = by_on (λ p q. p.hi + 2 ≤ q.lo) (λ p q r a b. omega (arith, a, b, q.ordered))
 
 pub precede_on : (ss : List Strand) (t u : Strand) → AllPrecede ss t → Follows t u → AllPrecede ss u
 precede_on [] t u p f = tt
@@ -120,13 +125,7 @@ ordered_push [] t p f = (tt, tt)
 ordered_push (s ∷ ss) t p f = (follow_push s t ss p.0 f.0, ordered_push ss t p.1 f.1)
 
 comes_on : (s t u : Strand) → ComesBefore s t → ComesBefore t u → ComesBefore s u
-comes_on s t u (inl l) (inl k) = inl (omega arith)
-comes_on s t u (inl l) (inr (e, g)) = inl (omega arith)
-comes_on s t u (inr (e, g)) (inl k) = inl (omega arith)
-comes_on s t u (inr (e, inl l)) (inr (f, inl k)) = inr (e ∙ f, inl (omega arith))
-comes_on s t u (inr (e, inl l)) (inr (f, inr k)) = inr (e ∙ f, inl (omega (arith, k.0)))
-comes_on s t u (inr (e, inr g)) (inr (f, inl k)) = inr (e ∙ f, inl (omega (arith, g.0)))
-comes_on s t u (inr (e, inr g)) (inr (f, inr k)) = inr (e ∙ f, inr (g.0 ∙ k.0, omega (arith, g.1, k.1)))
+comes_on = by_on (λ p q. p.lo ≤ q.lo) (λ p q r a b. omega (arith, a, b))
 
 in_order_from : (s t : Strand) (us : List Strand) → ComesBefore s t → InOrder t us → InOrder s us
 in_order_from s t [] f p = tt

@@ -8,7 +8,7 @@ use Rattle.dn_interval.specs.declared.span.Span.{Span}
 use Rattle.dn_interval.specs.Spans.{in_span, has, StandFrom}
 use Rattle.dn_interval.proofs.Membership.{same_bool, or_left, or_right, in_from, lo_of, hi_of, has-append}
 use Rattle.dn_interval.proofs.Standing.{EndBefore, stand_lower, end_later, stands_above, front_stands, rest_stands, end_before, stand_past, stand_joined}
-use Rattle.dn_interval.proofs.Places.{ends_ascend, end_within, stand_within}
+use Rattle.dn_interval.proofs.Places.{ends_ascend, end_within, stand_within, first_by_last}
 
 -- the last span ends no earlier than any address of the list
 ends_by : (from : ℕ) (x : Span) (xs : List Span) (d : Span) (a : ℕ) → StandFrom from (x ∷ xs) → has (x ∷ xs) a ≡ true → a ≤ (get_or (x ∷ xs) (length xs) d).hi
@@ -112,18 +112,26 @@ between_has f m b s j a h =
     ∙ ap (λ t. in_span s a || (has f a || t)) (sym (has-append m b a))
     ∙ ap (λ t. in_span s a || t) (sym (has-append f (m ++ b) a))
 
-module _ (xs : List Span) (s j : Span) (i n a : ℕ) (p : StandFrom 0 xs) (le : i ≤ n) (w : n ≤ length xs) (e : a ≡ s.lo - 1) (front : AllWithin (λ (t : Span). t.hi < a) xs 0 i) (behind : AllWithin (λ (t : Span). s.hi + 1 < t.lo) xs n (length xs)) (h : (x : ℕ) → in_span j x ≡ (in_span s x || has (take (n - i) (drop i xs)) x)) where
-  parts : xs ≡ take i xs ++ (take (n - i) (drop i xs) ++ drop n xs)
-  parts = split_between xs i n le
+-- spans that stand apart, and have the addresses of a span besides those of others
+pub record IsPut (xs : List Span) (s : Span) (ys : List Span) : Type 0 where
+  pub stands : StandFrom 0 ys
+  pub have : (x : ℕ) → has ys x ≡ (in_span s x || has xs x)
 
-  pub put_stands : StandFrom 0 (take i xs ++ j ∷ drop n xs)
+module _ (xs : List Span) (s j : Span) (i n a : ℕ) (p : StandFrom 0 xs) (v : i ≤ length xs) (w : n ≤ length xs) (e : a ≡ s.lo - 1) (front : AllWithin (λ (t : Span). t.hi < a) xs 0 i) (behind : AllWithin (λ (t : Span). s.hi + 1 < t.lo) xs n (length xs)) (h : (x : ℕ) → in_span j x ≡ (in_span s x || has (take (n - i) (drop i xs)) x)) where
+  parts : xs ≡ take i xs ++ (take (n - i) (drop i xs) ++ drop n xs)
+  parts = split_between xs i n (first_by_last xs s i n a (omega arith) v front behind)
+
+  put_stands : StandFrom 0 (take i xs ++ j ∷ drop n xs)
   put_stands =
       between_stands (take i xs) (take (n - i) (drop i xs)) (drop n xs) s j (subst (StandFrom 0) parts p)
       (end_within xs i s.lo (λ k d u v. omega (arith, front k d u v)) (omega arith))
       (stand_lower (s.hi + 2) (s.hi + 1 + 1) (drop n xs) (stand_within 0 xs n (s.hi + 1) p behind) (omega arith)) h
 
-  pub put_has : (x : ℕ) → has (take i xs ++ j ∷ drop n xs) x ≡ (in_span s x || has xs x)
+  put_has : (x : ℕ) → has (take i xs ++ j ∷ drop n xs) x ≡ (in_span s x || has xs x)
   put_has x = between_has (take i xs) (take (n - i) (drop i xs)) (drop n xs) s j x h ∙ ap (λ t. in_span s x || has t x) (sym parts)
+
+  pub put_is : IsPut xs s (take i xs ++ j ∷ drop n xs)
+  put_is = record { stands = put_stands; have = put_has }
 
 -- the spans between two places stand apart
 pub part_stands : (xs : List Span) (i n : ℕ) → StandFrom 0 xs → i ≤ n → StandFrom 0 (take (n - i) (drop i xs))

@@ -24,6 +24,13 @@ pub or_right : (x y : Bool) → y ≡ true → (x || y) ≡ true
 or_right true y e = refl
 or_right false y e = e
 
+-- of a first test of two parts, whose second holds, and of other tests, which fail, the first part is left
+pub only_first : (x y z : Bool) → y ≡ true → z ≡ false → x ≡ ((x && y) || z)
+only_first true true z e f = refl
+only_first true false z e f = cc
+only_first false y true e f = cc
+only_first false y false e f = refl
+
 -- a span has the addresses between its ends
 
 pub in_from : (s : Span) (a : ℕ) → s.lo ≤ a → a ≤ s.hi → in_span s a ≡ true

@@ -1,5 +1,6 @@
 -- A function from addresses to sets of names has at most one list of normal rows.
 use Rattle.std.proofs.Common.{◌≡◌, ℕ, suc, ◌+◌, ◌-◌, ◌<◌, ◌≤◌, ◌⊎◌, ◌↔◌, inl, inr, Bool, true, false, ◌&&◌, ◌||◌, nat_lt, nat_eq, List, [], ◌∷◌, map, refl, sym, ap, ◌∙◌, subst, arith, IsTrue, eqb-true, ltb-true, lt-ltb, eq-eqb}
+use Rattle.std.proofs.lemmas.Bool.{cases_lt}
 use Rattle.dn_interval.specs.declared.row.End.{End}
 use Rattle.dn_interval.specs.declared.row.Row.{Row}
 use Rattle.dn_interval.specs.declared.span.TheConstants.{TOP}
@@ -131,6 +132,13 @@ pub behind_first : (r : Row) (rs : List Row) (a : ℕ) (y : End) → r.span.hi <
 behind_first r rs a y l (inl g) = let q : a ≤ r.span.hi = hi_of r.span a g.0 in absurd (omega arith)
 behind_first r rs a y l (inr g) = g
 
+-- what rows give behind their first one, others give behind a first one that ends there, where they give it at all
+behind_both : (r s : Row) (rs ss : List Row) → Apart (suc r.span.hi) rs → r.span.hi ≡ s.span.hi → (a : ℕ) (y : End) → (GivenBy (r ∷ rs) a y → GivenBy (s ∷ ss) a y) → GivenBy rs a y → GivenBy ss a y
+behind_both r s rs ss p hi a y same g = elim (cases_lt r.span.hi a) [
+  | inl l ↦ behind_first s ss a y (omega arith) (same (inr g))
+  | inr k ↦ absurd (nothing_below (suc r.span.hi) rs p a y (omega arith) g)
+]
+
 -- the first row of one list begins no earlier than that of the other
 no_earlier : (from : ℕ) (r s : Row) (rs ss : List Row) → Apart from (r ∷ rs) → Apart from (s ∷ ss) → ((a : ℕ) (y : End) → a ≤ TOP → GivenBy (r ∷ rs) a y → GivenBy (s ∷ ss) a y) → r.span.lo < s.span.lo → ⊥
 no_earlier from r s rs ss p q same l =
@@ -232,21 +240,7 @@ same_rows (r ∷ rs) (s ∷ ss) from p q same = cons_same row (same_rows rs ss (
     row = same_row r s (same_span r.span s.span lo hi) ends
 
     tails : (a : ℕ) (y : End) → a ≤ TOP → GivenBy rs a y ↔ GivenBy ss a y
-    tails a y t = (down, up)
-      where
-        down : GivenBy rs a y → GivenBy ss a y
-        down g = go (cases r.span.hi a)
-          where
-            go : (r.span.hi < a) ⊎ ((r.span.hi ≡ a) ⊎ (a < r.span.hi)) → GivenBy ss a y
-            go (inl l) = behind_first s ss a y (omega (arith, hi)) ((same a y t).0 (inr g))
-            go (inr k) = absurd (nothing_below (suc r.span.hi) rs p.4 a y (omega arith) g)
-
-        up : GivenBy ss a y → GivenBy rs a y
-        up g = go (cases s.span.hi a)
-          where
-            go : (s.span.hi < a) ⊎ ((s.span.hi ≡ a) ⊎ (a < s.span.hi)) → GivenBy rs a y
-            go (inl l) = behind_first r rs a y (omega (arith, hi)) ((same a y t).1 (inr g))
-            go (inr k) = absurd (nothing_below (suc s.span.hi) ss q.4 a y (omega arith) g)
+    tails a y t = (behind_both r s rs ss p.4 hi a y (same a y t).0, behind_both s r ss rs q.4 (sym hi) a y (same a y t).1)
 
 pub one_list : OneListOfRows
 one_list rs ss p q same = same_rows rs ss 0 p q same

@@ -7,7 +7,7 @@ use Rattle.dn_interval.specs.declared.span.TheConstants.{TOP}
 use Rattle.dn_interval.specs.Spans.{in_span, has, StandFrom}
 use Rattle.dn_interval.proofs.Pieces.{drop_at, drop_past}
 use Rattle.dn_interval.proofs.Membership.{same_bool, never_true, or_left, or_right, in_from, lo_of, hi_of, in_below, in_above, has-append}
-use Rattle.dn_interval.proofs.Standing.{EndBefore, end_joined, stands_above, none_below, stand_joined}
+use Rattle.dn_interval.proofs.Standing.{EndBefore, end_joined, stands_above, none_below, stand_joined, stand_lower}
 
 pub record Pass (made : List Span) (left whole : ℕ → Bool) : Type 0 where
   pub apart : StandFrom 0 made
@@ -146,6 +146,13 @@ no_last_hole from l x = elim (cases_lt x from) [
 pub rest_at : (from : ℕ) (xs : List Span) (i : ℕ) (s : Span) → i < length xs → s ≡ get_or xs i s → StandFrom from (drop i xs) → StandFrom (s.hi + 2) (drop (i + 1) xs)
 rest_at from xs i s l e p = (subst (StandFrom from) (drop_at xs i s l e) p).1
 
+pub rest_stands : (xs : List Span) (i : ℕ) (s : Span) → i < length xs → s ≡ get_or xs i s → StandFrom 0 (drop i xs) → StandFrom 0 (drop (i + 1) xs)
+rest_stands xs i s l e p = stand_lower 0 (s.hi + 2) (drop (i + 1) xs) (rest_at 0 xs i s l e p) (omega arith)
+
+-- what two spans have in common was put behind the spans made, or they have nothing in common
+abbrev pub Met : Span → Span → List Span → List Span → Type 0
+Met s t made met = ((p : Span) × (p.lo ≡ max s.lo t.lo) × (p.hi ≡ min s.hi t.hi) × (met ≡ made ++ p ∷ [])) ⊎ ((min s.hi t.hi < max s.lo t.lo) × (met ≡ made))
+
 module _ (xs ys : List Span) (i j : ℕ) (s t : Span) (made : List Span) (whole : ℕ → Bool) (il : i < length xs) (se : s ≡ get_or xs i s) (jl : j < length ys) (te : t ≡ get_or ys j t) (sp : StandFrom 0 (drop i xs)) (tp : StandFrom 0 (drop j ys)) (pass : Pass made (λ x. has (drop i xs) x && has (drop j ys) x) whole) where
   xs_at : drop i xs ≡ s ∷ drop (i + 1) xs
   xs_at = drop_at xs i s il se
@@ -168,27 +175,35 @@ module _ (xs ys : List Span) (i j : ℕ) (s t : Span) (made : List Span) (whole 
       ∙ second_goes 0 0 s t (drop (i + 1) xs) (drop (j + 1) ys) (subst (StandFrom 0) xs_at sp) (subst (StandFrom 0) ys_at tp) l x
       ∙ ap (λ l. (in_span s x && in_span t x) || (has l x && has (drop (j + 1) ys) x)) (sym xs_at)
 
-  pub first_taken : (p : Span) → p.lo ≡ max s.lo t.lo → p.hi ≡ min s.hi t.hi → s.hi < t.hi → Pass (made ++ p ∷ []) (λ x. has (drop (i + 1) xs) x && has (drop j ys) x) whole
+  first_taken : (p : Span) → p.lo ≡ max s.lo t.lo → p.hi ≡ min s.hi t.hi → s.hi < t.hi → Pass (made ++ p ∷ []) (λ x. has (drop (i + 1) xs) x && has (drop j ys) x) whole
   first_taken p lo hi l =
       pushed made p (λ x. has (drop i xs) x && has (drop j ys) x) (λ x. has (drop (i + 1) xs) x && has (drop j ys) x) whole pass
       (λ x. first l x ∙ ap (λ b. b || (has (drop (i + 1) xs) x && has (drop j ys) x)) (sym (both s t p x lo hi)))
       (λ x e. omega (arith, hi, stands_above (s.hi + 2) (drop (i + 1) xs) x (rest_at 0 xs i s il se sp) (and_parts (has (drop (i + 1) xs) x) (has (drop j ys) x) e).0))
 
-  pub first_left : min s.hi t.hi < max s.lo t.lo → s.hi < t.hi → Pass made (λ x. has (drop (i + 1) xs) x && has (drop j ys) x) whole
+  first_left : min s.hi t.hi < max s.lo t.lo → s.hi < t.hi → Pass made (λ x. has (drop (i + 1) xs) x && has (drop j ys) x) whole
   first_left n l =
       passed made (λ x. has (drop i xs) x && has (drop j ys) x) (λ x. has (drop (i + 1) xs) x && has (drop j ys) x) whole pass
       (λ x. first l x ∙ ap (λ b. b || (has (drop (i + 1) xs) x && has (drop j ys) x)) (neither s t x n))
 
-  pub second_taken : (p : Span) → p.lo ≡ max s.lo t.lo → p.hi ≡ min s.hi t.hi → t.hi ≤ s.hi → Pass (made ++ p ∷ []) (λ x. has (drop i xs) x && has (drop (j + 1) ys) x) whole
+  pub first_met : (met : List Span) → Met s t made met → s.hi < t.hi → Pass met (λ x. has (drop (i + 1) xs) x && has (drop j ys) x) whole
+  first_met met (inl m) l = subst (λ v. Pass v (λ x. has (drop (i + 1) xs) x && has (drop j ys) x) whole) (sym m.3) (first_taken m.0 m.1 m.2 l)
+  first_met met (inr m) l = subst (λ v. Pass v (λ x. has (drop (i + 1) xs) x && has (drop j ys) x) whole) (sym m.1) (first_left m.0 l)
+
+  second_taken : (p : Span) → p.lo ≡ max s.lo t.lo → p.hi ≡ min s.hi t.hi → t.hi ≤ s.hi → Pass (made ++ p ∷ []) (λ x. has (drop i xs) x && has (drop (j + 1) ys) x) whole
   second_taken p lo hi l =
       pushed made p (λ x. has (drop i xs) x && has (drop j ys) x) (λ x. has (drop i xs) x && has (drop (j + 1) ys) x) whole pass
       (λ x. second l x ∙ ap (λ b. b || (has (drop i xs) x && has (drop (j + 1) ys) x)) (sym (both s t p x lo hi)))
       (λ x e. omega (arith, hi, stands_above (t.hi + 2) (drop (j + 1) ys) x (rest_at 0 ys j t jl te tp) (and_parts (has (drop i xs) x) (has (drop (j + 1) ys) x) e).1))
 
-  pub second_left : min s.hi t.hi < max s.lo t.lo → t.hi ≤ s.hi → Pass made (λ x. has (drop i xs) x && has (drop (j + 1) ys) x) whole
+  second_left : min s.hi t.hi < max s.lo t.lo → t.hi ≤ s.hi → Pass made (λ x. has (drop i xs) x && has (drop (j + 1) ys) x) whole
   second_left n l =
       passed made (λ x. has (drop i xs) x && has (drop j ys) x) (λ x. has (drop i xs) x && has (drop (j + 1) ys) x) whole pass
       (λ x. second l x ∙ ap (λ b. b || (has (drop i xs) x && has (drop (j + 1) ys) x)) (neither s t x n))
+
+  pub second_met : (met : List Span) → Met s t made met → t.hi ≤ s.hi → Pass met (λ x. has (drop i xs) x && has (drop (j + 1) ys) x) whole
+  second_met met (inl m) l = subst (λ v. Pass v (λ x. has (drop i xs) x && has (drop (j + 1) ys) x) whole) (sym m.3) (second_taken m.0 m.1 m.2 l)
+  second_met met (inr m) l = subst (λ v. Pass v (λ x. has (drop i xs) x && has (drop (j + 1) ys) x) whole) (sym m.1) (second_left m.0 l)
 
 pub meeting_ended : (xs ys : List Span) (i j : ℕ) (made : List Span) (whole : ℕ → Bool) → Pass made (λ x. has (drop i xs) x && has (drop j ys) x) whole → (length xs ≤ i) ⊎ (length ys ≤ j) → (x : ℕ) → has made x ≡ whole x
 meeting_ended xs ys i j made whole pass e = ended made (λ x. has (drop i xs) x && has (drop j ys) x) whole pass (λ x. none x e)

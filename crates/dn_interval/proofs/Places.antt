@@ -1,10 +1,10 @@
 -- What stands where in a list of spans that stand apart: found by place, as a binary search finds it.
-use Rattle.std.proofs.Common.{◌≡◌, ℕ, zero, suc, ◌+◌, ◌<◌, ◌≤◌, Bool, true, false, ◌&&◌, ◌||◌, leb, ltb, Option, Some, None, List, [], ◌∷◌, take, drop, length, get_or, refl, sym, ap, ◌∙◌, inl, inr, arith}
+use Rattle.std.proofs.Common.{◌≡◌, ℕ, zero, suc, ◌+◌, ◌<◌, ◌≤◌, Bool, true, false, ◌||◌, leb, ltb, Option, Some, None, List, [], ◌∷◌, take, drop, length, get_or, refl, sym, ap, ◌∙◌, inl, inr, arith}
 use Rattle.std.specs.List.{AllWithin, slice_get}
 use Rattle.std.proofs.lemmas.Bool.{le-leb, lt-ltb, ltb-true, leb-true, cases_lt}
 use Rattle.dn_interval.specs.declared.span.Span.{Span}
 use Rattle.dn_interval.specs.Spans.{has, StandFrom}
-use Rattle.dn_interval.proofs.Membership.{in_above}
+use Rattle.dn_interval.proofs.Membership.{in_above, only_first}
 use Rattle.dn_interval.proofs.Standing.{EndBefore, none_below}
 
 stands_at : (from : ℕ) (xs : List Span) (j : ℕ) (d : Span) → StandFrom from xs → j < length xs → from ≤ (get_or xs j d).lo
@@ -43,13 +43,7 @@ begins_by a (Some s) = leb s.lo a
 pub found : (from : ℕ) (xs : List Span) (i a : ℕ) → StandFrom from xs → i ≤ length xs → AllWithin (λ (s : Span). s.hi < a) xs 0 i → AllWithin (λ (s : Span). a ≤ s.hi) xs i (length xs) → begins_by a (slice_get xs i) ≡ has xs a
 found from [] zero a p l f b = refl
 found from [] (suc i) a p l f b = absurd (omega arith)
-found from (s ∷ xs) zero a p l f b = go (leb s.lo a) (leb a s.hi) (has xs a) (le-leb a s.hi (b 0 s (omega arith) (omega arith))) (none_below (s.hi + 2) xs a p.1 (omega (arith, b 0 s (omega arith) (omega arith))))
-  where
-    go : (x y z : Bool) → y ≡ true → z ≡ false → x ≡ ((x && y) || z)
-    go true true z e f = refl
-    go true false z e f = cc
-    go false y true e f = cc
-    go false y false e f = refl
+found from (s ∷ xs) zero a p l f b = only_first (leb s.lo a) (leb a s.hi) (has xs a) (le-leb a s.hi (b 0 s (omega arith) (omega arith))) (none_below (s.hi + 2) xs a p.1 (omega (arith, b 0 s (omega arith) (omega arith))))
 found from (s ∷ xs) (suc i) a p l f b =
     found (s.hi + 2) xs i a p.1 (omega arith) (λ k d u v. f (suc k) d (omega arith) (omega arith)) (λ k d u v. b (suc k) d (omega arith) (omega arith)) ∙ ap (λ t. t || has xs a) (sym (in_above s a (f 0 s (omega arith) (omega arith))))
 

@@ -411,15 +411,20 @@ sweep_ended whole made from v a y = sym (go (rows_give made a y) (leb from a)) �
 
 -- one turn of the sweep, up to what runs in the next row
 
+pub record Turn (whole : ℕ → End → Bool) (made : List Row) (from : ℕ) (running rest : List Strand) : Type 0 where
+  pub state : Sweeping whole made from running rest
+  pub some : 0 < length running
+  pub ahead : All (λ (s : Strand). from < s.span.lo) rest
+
 module _ (to n : ℕ) (run rest xs later : List Strand) (runs_are : xs ≡ run ++ take n rest) (later_are : later ≡ drop n rest) where
-  pub turn_state : (whole : ℕ → End → Bool) (made : List Row) (from : ℕ) (was : List Strand) → Sweeping whole made from run rest → was ≡ run → 0 < length was + length rest → (0 < length was → to ≡ from) → ((d : Strand) → length was ≡ 0 → (get_or rest 0 d).span.lo ≡ to) → from ≤ to → All (λ (s : Strand). to ≤ s.span.lo) rest → All (λ (s : Strand). s.span.lo ≡ to) (take n rest) → Sweeping whole made to xs later
+  turn_state : (whole : ℕ → End → Bool) (made : List Row) (from : ℕ) (was : List Strand) → Sweeping whole made from run rest → was ≡ run → 0 < length was + length rest → (0 < length was → to ≡ from) → ((d : Strand) → length was ≡ 0 → (get_or rest 0 d).span.lo ≡ to) → from ≤ to → All (λ (s : Strand). to ≤ s.span.lo) rest → All (λ (s : Strand). s.span.lo ≡ to) (take n rest) → Sweeping whole made to xs later
   turn_state whole made from was v same some on begins l p q =
       subst (λ t. Sweeping whole made to t later) (sym runs_are)
       (subst (λ t. Sweeping whole made to (run ++ take n rest) t) (sym later_are)
       (running_more whole made to run rest n
       (advanced whole made from to run rest v (subst (λ t. 0 < length t + length rest) same some) (subst (λ t. 0 < length t → to ≡ from) same on) (subst (λ t. (d : Strand) → length t ≡ 0 → (get_or rest 0 d).span.lo ≡ to) same begins) l p) q))
 
-  pub turn_some : (was : List Strand) → was ≡ run → 0 < length was + length rest → ((d : Strand) → length was ≡ 0 → (get_or rest 0 d).span.lo ≡ to) → All (λ (s : Strand). to < s.span.lo) (drop n rest) → 0 < length xs
+  turn_some : (was : List Strand) → was ≡ run → 0 < length was + length rest → ((d : Strand) → length was ≡ 0 → (get_or rest 0 d).span.lo ≡ to) → All (λ (s : Strand). to < s.span.lo) (drop n rest) → 0 < length xs
   turn_some was same some begins p = subst (λ t. 0 < length t) (sym runs_are) (go run rest n (subst (λ t. 0 < length t + length rest) same some) (subst (λ t. (d : Strand) → length t ≡ 0 → (get_or rest 0 d).span.lo ≡ to) same begins) p)
     where
       go : (run rest : List Strand) (n : ℕ) → 0 < length run + length rest → ((d : Strand) → length run ≡ 0 → (get_or rest 0 d).span.lo ≡ to) → All (λ (s : Strand). to < s.span.lo) (drop n rest) → 0 < length (run ++ take n rest)
@@ -428,5 +433,9 @@ module _ (to n : ℕ) (run rest xs later : List Strand) (runs_are : xs ≡ run +
       go [] (t ∷ ts) zero some begins p = let e : t.span.lo ≡ to = begins t refl in absurd (omega (arith, p 0 t (omega arith)))
       go [] (t ∷ ts) (suc n) some begins p = omega arith
 
-  pub turn_ahead : All (λ (s : Strand). to < s.span.lo) (drop n rest) → All (λ (s : Strand). to < s.span.lo) later
-  turn_ahead p = subst (All (λ (s : Strand). to < s.span.lo)) (sym later_are) p
+  pub turn_is : (whole : ℕ → End → Bool) (made : List Row) (from : ℕ) (was : List Strand) → Sweeping whole made from run rest → was ≡ run → 0 < length was + length rest → (0 < length was → to ≡ from) → ((d : Strand) → length was ≡ 0 → (get_or rest 0 d).span.lo ≡ to) → from ≤ to → All (λ (s : Strand). to ≤ s.span.lo) rest → All (λ (s : Strand). s.span.lo ≡ to) (take n rest) → All (λ (s : Strand). to < s.span.lo) (drop n rest) → Turn whole made to xs later
+  turn_is whole made from was v same some on begins l p q b = record {
+    state = turn_state whole made from was v same some on begins l p q;
+    some = turn_some was same some begins b;
+    ahead = subst (All (λ (s : Strand). to < s.span.lo)) (sym later_are) b;
+  }

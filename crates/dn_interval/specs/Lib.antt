@@ -5,3 +5,4 @@ pub mod Rows
 pub mod Runs
 pub mod Spans
 pub mod Strands
+pub mod Terms

@@ -2,10 +2,7 @@
 
 ghost use Rattle.std.specs.Prelude.{◌≡◌, ◌-◌, ◌^◌};
 ghost use Rattle.dn_interval.specs.declared.span.TheConstants.{TOP};
-ghost use Rattle.dn_interval.specs.Listed.{ListedRowsAreNormal, NormalRowsAreListed};
-ghost use Rattle.dn_interval.specs.Onward.{RowsGoOn};
-ghost use Rattle.dn_interval.specs.Rows.{OneListOfRows};
-ghost use Rattle.dn_interval.specs.Spans.{OneListOfSpans};
+ghost use Rattle.dn_interval.specs.Terms.{ListedRowsAreNormal, NormalRowsAreListed, OneListOfRows, OneListOfSpans, RowsGoOn};
 
 /// Two lists of maximal spans that have the same addresses are one list.
 pub fn one_list_of_spans()

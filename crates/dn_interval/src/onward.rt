@@ -3,10 +3,7 @@
 ghost use Rattle.std.specs.Prelude.{◌≡◌, ℕ, ◌+◌, ◌-◌, ◌≤◌, ◌&&◌, ◌||◌, nat_eq, take, length, OnOk, OnErr};
 ghost use Rattle.dn_interval.specs.declared.row.End.{End};
 ghost use Rattle.dn_interval.specs.declared.span.TheConstants.{TOP};
-ghost use Rattle.dn_interval.specs.Onward.{seg_goes};
-ghost use Rattle.dn_interval.specs.Rows.{EndsFit};
-ghost use Rattle.dn_interval.specs.Spans.{in_span};
-ghost use Rattle.dn_interval.specs.Strands.{seg_gives, segs_give, row_gives};
+ghost use Rattle.dn_interval.specs.Terms.{EndsFit, in_span, row_gives, seg_gives, seg_goes, segs_give};
 
 use crate::row::{End, Row, Seg};
 use crate::rows::{Rows, ended_before};

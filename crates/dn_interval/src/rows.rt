@@ -7,9 +7,7 @@ ghost use Rattle.dn_interval.specs.declared.row.Seg.{Seg};
 ghost use Rattle.dn_interval.specs.declared.row.End.{End};
 ghost use Rattle.dn_interval.specs.declared.row.Row.{Row};
 ghost use Rattle.dn_interval.specs.declared.strand.Strand.{Strand};
-ghost use Rattle.dn_interval.specs.Spans.{in_span};
-ghost use Rattle.dn_interval.specs.Rows.{Apart, AreNormal, SegmentsGive, Ascending, EndsFit, HasEnds};
-ghost use Rattle.dn_interval.specs.Strands.{slid, strands_give, slides_give, ends_give, rows_give, segs_give, IsMaximal};
+ghost use Rattle.dn_interval.specs.Terms.{Apart, AreNormal, Ascending, EndsFit, HasEnds, IsMaximal, SegmentsGive, ends_give, in_span, rows_give, segs_give, slid, slides_give, strands_give};
 
 use crate::row::{End, Ends, Row, Seg};
 use crate::span::{Span, TOP};

@@ -2,9 +2,7 @@
 
 ghost use Rattle.std.specs.Prelude.{◌≡◌, ◌≢◌, ℕ, ◌+◌, ◌-◌, ◌≤◌, ◌<◌, ◌&&◌, ◌||◌, [], true, IfOk};
 ghost use Rattle.dn_interval.specs.declared.row.End.{End};
-ghost use Rattle.dn_interval.specs.Rows.{Apart};
-ghost use Rattle.dn_interval.specs.Runs.{is_in_turn, row_of, does_go_on};
-ghost use Rattle.dn_interval.specs.Strands.{seg_gives, segs_give, rows_give};
+ghost use Rattle.dn_interval.specs.Terms.{Apart, does_go_on, is_in_turn, row_of, rows_give, seg_gives, segs_give};
 
 use crate::row::{End, Ends, Row, Seg};
 use crate::span::Span;

@@ -4,7 +4,7 @@ ghost use Rattle.std.specs.Prelude.{◌≡◌, ℕ, ◌≤◌, ◌<◌, ◌+◌,
 ghost use Rattle.std.specs.List.{All};
 ghost use Rattle.std.specs.List.Sorted.{IsPartitionPoint};
 ghost use Rattle.dn_interval.specs.declared.span.Span.{Span};
-ghost use Rattle.dn_interval.specs.Spans.{in_span, has, AreMaximal};
+ghost use Rattle.dn_interval.specs.Terms.{AreMaximal, has, in_span};
 
 use crate::span::{Span, TOP};
 use dn_base::OutOfMemory;

@@ -6,7 +6,7 @@ ghost use Rattle.std.specs.List.Sorted.{IsSorted, IsNonDecreasingBy};
 ghost use Rattle.dn_interval.specs.declared.row.Seg.{Seg};
 ghost use Rattle.dn_interval.specs.declared.row.End.{End};
 ghost use Rattle.dn_interval.specs.declared.strand.Strand.{Strand};
-ghost use Rattle.dn_interval.specs.Strands.{strand_gives, strands_give, seg_gives, segs_give, strand_cmp, IsMaximal};
+ghost use Rattle.dn_interval.specs.Terms.{IsMaximal, seg_gives, segs_give, strand_cmp, strand_gives, strands_give};
 
 use crate::row::Seg;
 use crate::span::{Span, TOP};

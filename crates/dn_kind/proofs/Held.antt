@@ -1,5 +1,5 @@
 -- What is known of the records that tables hold, and of the kinds that spell them.
-use Rattle.std.proofs.Common.{◌≡◌, ℕ, Bool, true, false, if◌then◌else◌, nat_lt, List, slice_get, Option, Some, None, IsTrue, refl, subst}
+use Rattle.std.proofs.Common.{◌≡◌, ◌∙◌, ℕ, ◌<◌, ◌≤◌, Bool, true, false, if◌then◌else◌, nat_lt, List, slice_get, Option, Some, None, IsTrue, refl, sym, subst, arith}
 use Rattle.std.specs.List.{All}
 use Rattle.std.proofs.lemmas.Bool.{ltb-true}
 use Rattle.std.proofs.lemmas.List.Elements.{All-get_or}
@@ -11,7 +11,7 @@ use Rattle.dn_net.proofs.Members.{some_same}
 use Rattle.dn_kind.specs.declared.unit_kind.Record.{Record}
 use Rattle.dn_kind.specs.Kind.{Meaning, IsLawful, is_within}
 use Rattle.dn_kind.specs.Units.{unit_shape}
-use Rattle.dn_kind.specs.Tables.{slot_words, record_within, record_spelled, record_of_unit, IsHeld, HeldRecordsFit}
+use Rattle.dn_kind.specs.Tables.{slot_words, record_within, record_spelled, record_of_unit, Held, IsHeld, AreHeld, HeldRecordsFit}
 
 -- the kind of a number is lawful where all are
 pub kind_lawful : (kinds : List Meaning) (i : ℕ) (kind : Meaning) → All IsLawful kinds → slice_get kinds i ≡ Some kind → IsLawful kind
@@ -44,3 +44,15 @@ module _ (net : List NodeDecl) (kinds : List Meaning) (lawful : All IsLawful kin
 
 pub held_records_fit : HeldRecordsFit
 held_records_fit net kinds words lawful node slot r e = by_unit net kinds lawful node slot r (unit_at net node) refl (slice_get words node) e
+
+-- no record is held past the last slot of a unit
+pub held_past : (net : List NodeDecl) (h : Held) → AreHeld net h → (node slot : ℕ) (u : UnitPart) → unit_at net node ≡ Some u → u.slots ≤ slot → h node slot ≡ None
+held_past net h held node slot u at l = by (h node slot) refl
+  where
+    by : (o : Option Record) → h node slot ≡ o → o ≡ None
+    by None e = refl
+    by (Some r) e =
+        let v = (held node slot r e).unit in
+        let same : v.0 ≡ u = some_same v.0 u (sym v.1 ∙ at) in
+        let low : slot < u.slots = subst (λ (w : UnitPart). slot < w.slots) same v.2 in
+        absurd (omega arith)

@@ -8,12 +8,13 @@ use Rattle.dn_base.proofs.Booleans.{and_parts}
 use Rattle.dn_net.specs.declared.node.Name.{Name}
 use Rattle.dn_net.specs.declared.node.NodeDecl.{NodeDecl}
 use Rattle.dn_net.specs.declared.node.Unit.{Unit as UnitPart}
-use Rattle.dn_net.specs.Decode.{top, unit_at, unit_of, is_stop, is_stop_at}
+use Rattle.dn_net.specs.Decode.{top, unit_at, is_stop, is_stop_at}
 use Rattle.dn_kind.specs.declared.shape.Shape.{Shape}
 use Rattle.dn_kind.specs.declared.unit_kind.Record.{Record}
 use Rattle.dn_kind.specs.Kind.{Meaning, IsLawful, is_plain, is_within}
 use Rattle.dn_kind.specs.Tables.{Held, IsHeld, record_held, to_port, output, steps_by_unit, steps_under}
 use Rattle.dn_kind.specs.Units.{unit_shape}
+use Rattle.dn_net.proofs.Steps.{unit_is}
 use Rattle.dn_kind.proofs.Held.{held_records_fit}
 
 -- what a plain shape says of page and reach
@@ -53,6 +54,10 @@ output_small s r a plain within =
 pub port_there : (s : Shape) (r : Record) → IsTrue (is_within s r) → r.port < s.ports
 port_there s r within = ltb-true r.port s.ports (and_parts (nat_lt r.port s.ports) (nat_lt r.page (2 ^ (s.reach - s.page))) within).0
 
+-- so it fits, with the size of a page as it is shifted
+pub output_fits : (s : Shape) (r : Record) (a : ℕ) → IsTrue (is_plain s) → IsTrue (is_within s r) → r.page * (1 * 2 ^ s.page % 18446744073709551616) + a % (1 * 2 ^ s.page % 18446744073709551616) < 72057594037927936
+output_fits s r a plain within = subst (λ n. r.page * n + a % n < 72057594037927936) (sym (page_is s.page (has_pages s plain).page)) (output_small s r a plain within)
+
 -- the name that is sent
 pub sent_is : (u : UnitPart) (r : Record) (a port p : ℕ) (d : ℕ) → IsTrue (is_plain (unit_shape u)) → r.port < length u.ports → port ≡ get_or u.ports r.port d → ◌≡◌ {A = List Name} (record { node = port; addr = r.page * (1 * 2 ^ u.page % 18446744073709551616) + a % (1 * 2 ^ u.page % 18446744073709551616) } ∷ []) (output u (Some r) a)
 sent_is u r a port p d plain l at =
@@ -69,24 +74,17 @@ sent_is u r a port p d plain l at =
     slice_get-at' (x ∷ xs) (suc i) d l = slice_get-at' xs i d (omega arith)
 
 -- the step of a name in a unit
-unit_at_is : (net : List NodeDecl) (i : ℕ) (o : Option UnitPart) → option_map (λ d. d.unit) (slice_get net i) ≡ Some o → unit_at net i ≡ o
-unit_at_is net i o e = go (slice_get net i) e
-  where
-    go : (p : Option NodeDecl) → option_map (λ d. d.unit) p ≡ Some o → unit_of p ≡ o
-    go None f = cc
-    go (Some d) f = same_Some d.unit o f
-
 pub record IsStopIn (net : List NodeDecl) (x : Name) (u : UnitPart) : Type 0 where
   pub unit : unit_at net x.node ≡ Some u
   pub within : nat_le x.addr top ≡ true
 
 pub stop_in : (net : List NodeDecl) (x : Name) (u : UnitPart) → IsTrue (is_stop net x) → option_map (λ d. d.unit) (slice_get net x.node) ≡ Some (Some u) → IsStopIn net x u
 stop_in net x u stop e =
-    let at : unit_at net x.node ≡ Some u = unit_at_is net x.node (Some u) e in
+    let at : unit_at net x.node ≡ Some u = unit_is net x.node (Some u) e in
     record { unit = at; within = subst (λ o. IsTrue (is_stop_at x.addr o)) at stop }
 
 pub no_stop : (net : List NodeDecl) (x : Name) → IsTrue (is_stop net x) → option_map (λ d. d.unit) (slice_get net x.node) ≡ Some None → ⊥
-no_stop net x stop e = let f : false ≡ true = subst (λ o. IsTrue (is_stop_at x.addr o)) (unit_at_is net x.node None e) stop in cc
+no_stop net x stop e = let f : false ≡ true = subst (λ o. IsTrue (is_stop_at x.addr o)) (unit_is net x.node None e) stop in cc
 
 -- is to the output of the record of its slot
 pub step_in : (net : List NodeDecl) (h : Held) (x : Name) (u : UnitPart) (o : Option Record) → IsStopIn net x u → h x.node (x.addr / 2 ^ u.page) ≡ o → steps_under net h x ≡ output u o x.addr

@@ -3,7 +3,7 @@
 ghost use Rattle.std.specs.Prelude.{◌≡◌, ◌<◌, ◌++◌, [], ◌∷◌, length, slice_get, map, Some, option_map, IfSome, OnOk, OnErr};
 ghost use Rattle.std.specs.List.{All};
 ghost use Rattle.std.specs.Str.{bytes_eq};
-ghost use Rattle.dn_kind.specs.Kind.{IsLawful, kind_place};
+ghost use Rattle.dn_kind.specs.Terms.{IsLawful, kind_place};
 
 use crate::unit_kind::UnitKind;
 use std::alloc::{AllocError, Global};

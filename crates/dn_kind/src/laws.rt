@@ -1,10 +1,7 @@
 //! Laws on the definitions, each the contract of a function that does nothing.
 
 ghost use Rattle.std.specs.Prelude.{◌≡◌};
-ghost use Rattle.dn_kind.specs.Cleared.{ClearedTablesAllow, LawOfAccess};
-ghost use Rattle.dn_kind.specs.Tables.{HeldRecordsFit, MoreRecordsKeepNames, NamesUnderAreResolved, ReachUnderIsWithin, step_limit_under};
-ghost use Rattle.dn_kind.specs.Units.{ShapeFaultIsFirst};
-ghost use Rattle.dn_kind.specs.Ways.{ChainPassesSlots, LegalOneRowOfSlots, LegalOneWayToUnit, OneRowOfSlots, OneWayToUnit};
+ghost use Rattle.dn_kind.specs.Terms.{ChainPassesSlots, ClearedTablesAllow, HeldRecordsFit, LawOfAccess, LegalOneRowOfSlots, LegalOneWayToUnit, MoreRecordsKeepNames, NamesUnderAreResolved, OneRowOfSlots, OneWayToUnit, ReachUnderIsWithin, ShapeFaultIsFirst, step_limit_under};
 
 /// A net has no fault on the shape of its units exactly where each unit is shaped as a unit may be
 /// and as its kind asks; a fault is the first unit that is not.

@@ -1,9 +1,7 @@
 //! Where the record of a slot sends an address.
 
 ghost use Rattle.std.specs.Prelude.{◌≡◌, [], ◌∷◌, Some, IsTrue};
-ghost use Rattle.dn_kind.specs.Kind.{is_plain, is_within};
-ghost use Rattle.dn_kind.specs.Tables.{output};
-ghost use Rattle.dn_kind.specs.Units.{unit_shape};
+ghost use Rattle.dn_kind.specs.Terms.{is_plain, is_within, output, unit_shape};
 
 use crate::unit_kind::Record;
 use dn_net::node::{Name, Unit};

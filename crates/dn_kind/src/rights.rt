@@ -1,7 +1,7 @@
 //! Accesses, and the rights of a record.
 
 ghost use Rattle.std.specs.Prelude.{⊤, ◌≡◌, [], ◌∷◌, codes};
-ghost use Rattle.dn_kind.specs.Rights.{allows, both_rights};
+ghost use Rattle.dn_kind.specs.Terms.{allows, both_rights};
 
 use bitflags::{Flag, Flags, bitflag_items};
 

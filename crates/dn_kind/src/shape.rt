@@ -1,8 +1,7 @@
 //! The shape of a unit.
 
 ghost use Rattle.std.specs.Prelude.{◌≡◌, ◌≤◌, length};
-ghost use Rattle.dn_kind.specs.Kind.{is_plain};
-ghost use Rattle.dn_kind.specs.Units.{unit_shape};
+ghost use Rattle.dn_kind.specs.Terms.{is_plain, unit_shape};
 
 use dn_net::node::{Unit, is_plain_shape};
 pub use dn_net::node::{MAX_PAGE, MAX_PORTS, MAX_REACH, MAX_SLOTS};

@@ -1,9 +1,7 @@
 //! The record that a slot of a unit holds.
 
 ghost use Rattle.std.specs.Prelude.{◌≡◌, length, IsTrue};
-ghost use Rattle.dn_kind.specs.Kind.{is_plain};
-ghost use Rattle.dn_kind.specs.Tables.{record_within};
-ghost use Rattle.dn_kind.specs.Units.{unit_shape};
+ghost use Rattle.dn_kind.specs.Terms.{is_plain, record_within, unit_shape};
 
 use crate::shape::shape_of;
 use crate::unit_kind::{Record, UnitKind};

@@ -1,7 +1,7 @@
 //! Records, and the kinds of units as trait objects.
 
 ghost use Rattle.std.specs.Prelude.{◌≡◌, ◌-◌, ◌++◌, length, replicate, IsTrue};
-ghost use Rattle.dn_kind.specs.Kind.{Meaning, IsPackable, is_plain, is_within};
+ghost use Rattle.dn_kind.specs.Terms.{IsPackable, Meaning, is_plain, is_within};
 
 use crate::rights::Rights;
 use crate::shape::Shape;

@@ -3,10 +3,9 @@
 ghost use Rattle.std.specs.Prelude.{◌≡◌, ◌<◌, length, map, OnOk, IsTrue};
 ghost use Rattle.std.specs.List.{All, list_all};
 ghost use Rattle.std.specs.Option.{option_copied};
-ghost use Rattle.dn_base.specs.Answers.{Checks};
-ghost use Rattle.dn_net.specs.Units.{has_plain_units};
-ghost use Rattle.dn_kind.specs.Kind.{IsLawful};
-ghost use Rattle.dn_kind.specs.Units.{has_kind, has_shape, is_shaped, shape_fault, unit_fault_view};
+ghost use Rattle.dn_base.specs.Terms.{Checks};
+ghost use Rattle.dn_net.specs.Terms.{has_plain_units};
+ghost use Rattle.dn_kind.specs.Terms.{IsLawful, has_kind, has_shape, is_shaped, shape_fault, unit_fault_view};
 
 use crate::kinds::Kinds;
 use crate::shape::{MAX_PORTS, shape_of};

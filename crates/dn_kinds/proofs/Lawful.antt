@@ -1,12 +1,12 @@
 -- The shipped kinds keep the laws of kinds.
-use Rattle.std.proofs.Common.{◌≡◌, ℕ, ◌+◌, ◌*◌, ◌%◌, ◌<◌, true, ◌&&◌, if◌then◌else◌, ◌==◌, List, [], ◌∷◌, length, Some, None, IsTrue, refl, sym, ap, ◌∙◌, arith, lit≤, eqb-true}
+use Rattle.std.proofs.Common.{◌≡◌, ℕ, ◌+◌, ◌*◌, ◌%◌, ◌<◌, ◌≤◌, Bool, true, ◌&&◌, if◌then◌else◌, ◌==◌, List, [], ◌∷◌, length, Option, Some, None, IsTrue, refl, sym, ap, ◌∙◌, arith, lit≤, eqb-true}
 use Rattle.std.proofs.lemmas.Bool.{and_parts, ltb-true}
 use Rattle.dn_kind.specs.declared.rights.Access.TheVariants.{Read, Write}
 use Rattle.dn_kind.specs.declared.shape.Shape.{Shape}
 use Rattle.dn_kind.specs.declared.unit_kind.Record.{Record}
 use Rattle.dn_kind.specs.Rights.{are_rights}
 use Rattle.dn_kind.specs.Kind.{Meaning, IsPackable, IsLawful, gate_word}
-use Rattle.dn_kinds.specs.Layouts.{bits, denied, denials, rights_left, record_with, pack_pages, unpack_pages, pages, pack_remap, unpack_remap, remap, pack_vectors, unpack_vectors, vectors}
+use Rattle.dn_kinds.specs.Layouts.{bits, denied, denials, rights_left, record_with, unpack_word, pack_pages, spelled_pages, pages, pack_remap, spelled_remap, remap, pack_vectors, unpack_vectors, vectors}
 use Rattle.dn_kinds.proofs.Gates.{port_small, page_small, denied_small, rights_back, read_are_rights, gate_clear, PagesBits, pages_bits, RemapBits, remap_bits, VectorsBits, vectors_bits}
 
 -- the port of a kind with one port is 0
@@ -15,7 +15,29 @@ lone_port kind shape r p one =
     let there : r.port < shape.ports = ltb-true _ _ (and_parts _ _ p.within).0 in
     omega arith
 
-pages_back : (shape : Shape) (r : Record) → IsPackable pages shape r → unpack_pages (pack_pages shape r) ≡ Some r
+-- the laws of a kind, one after another
+lawful : (kind : Meaning) → 1 ≤ kind.words → kind.words ≤ 4 → ((shape : Shape) (r : Record) → IsPackable kind shape r → length (kind.pack shape r) ≡ kind.words) → ((shape : Shape) (r : Record) → IsPackable kind shape r → kind.unpack (kind.pack shape r) ≡ Some r) → ((ws : List ℕ) → length ws ≡ kind.words → gate_word ws % 2 ≡ 0 → kind.unpack ws ≡ None) → ((ws : List ℕ) (r : Record) → kind.unpack ws ≡ Some r → IsTrue (are_rights r.rights)) → IsLawful kind
+lawful kind least most width back shut rights = record { least = least; most = most; width = width; reads_back = back; shut = shut; rights = rights }
+
+-- a kind of one word keeps the laws, by what is said of the word
+module _ (name : List ℕ) (fits : Shape → Bool) (word : Shape → Record → ℕ) (spelled : ℕ → Option Record) where
+  abbrev kind : Meaning
+  kind = record { name = name; words = 1; fits = fits; pack = λ shape r. word shape r ∷ []; unpack = unpack_word spelled }
+
+  pub word_is_lawful : ((shape : Shape) (r : Record) → IsPackable kind shape r → spelled (word shape r) ≡ Some r) → ((w : ℕ) → w % 2 ≡ 0 → spelled w ≡ None) → ((w : ℕ) (r : Record) → spelled w ≡ Some r → IsTrue (are_rights r.rights)) → IsLawful kind
+  word_is_lawful back shut rights = lawful kind (lit≤ tt) (lit≤ tt) (λ shape r p. refl) back word_shut word_rights
+    where
+      word_shut : (ws : List ℕ) → length ws ≡ 1 → gate_word ws % 2 ≡ 0 → unpack_word spelled ws ≡ None
+      word_shut [] n h = refl
+      word_shut (w ∷ []) n h = shut w h
+      word_shut (w ∷ v ∷ ws) n h = refl
+
+      word_rights : (ws : List ℕ) (r : Record) → unpack_word spelled ws ≡ Some r → IsTrue (are_rights r.rights)
+      word_rights [] r e = cc
+      word_rights (w ∷ []) r e = rights w r e
+      word_rights (w ∷ v ∷ ws) r e = cc
+
+pages_back : (shape : Shape) (r : Record) → IsPackable pages shape r → unpack_word spelled_pages (pack_pages shape r) ≡ Some r
 pages_back shape r p =
     let w : ℕ = 1 + denials r.rights + 256 * r.page in
     let b : PagesBits (denied Read r.rights) (denied Write r.rights) r.page w = pages_bits _ _ _ (denied_small Read r.rights) (denied_small Write r.rights) (page_small pages shape r p) in
@@ -29,27 +51,10 @@ pages_back shape r p =
     ∙ ap (record_with 0 r.page) left
     ∙ ap (λ n. Some (record { port = n; page = r.page; rights = r.rights })) (sym port)
 
-pages_shut : (ws : List ℕ) → length ws ≡ 1 → gate_word ws % 2 ≡ 0 → unpack_pages ws ≡ None
-pages_shut [] n h = refl
-pages_shut (w ∷ []) n h = rw (gate_clear w h) refl
-pages_shut (w ∷ v ∷ ws) n h = refl
-
-pages_rights : (ws : List ℕ) (r : Record) → unpack_pages ws ≡ Some r → IsTrue (are_rights r.rights)
-pages_rights [] r e = cc
-pages_rights (w ∷ []) r e = read_are_rights 0 (bits w 8 56) w ((bits w 0 1 == 1) && (bits w 1 3 == 0) && (bits w 6 2 == 0)) r e
-pages_rights (w ∷ v ∷ ws) r e = cc
-
 pub pages_are_lawful : IsLawful pages
-pages_are_lawful = record {
-  least = lit≤ tt;
-  most = lit≤ tt;
-  width = λ shape r p. refl;
-  reads_back = pages_back;
-  shut = pages_shut;
-  rights = pages_rights;
-}
+pages_are_lawful = word_is_lawful pages.name pages.fits (λ shape r. 1 + denials r.rights + 256 * r.page) spelled_pages pages_back (λ w h. rw (gate_clear w h) refl) (λ w r e. read_are_rights 0 (bits w 8 56) w ((bits w 0 1 == 1) && (bits w 1 3 == 0) && (bits w 6 2 == 0)) r e)
 
-remap_back : (shape : Shape) (r : Record) → IsPackable remap shape r → unpack_remap (pack_remap shape r) ≡ Some r
+remap_back : (shape : Shape) (r : Record) → IsPackable remap shape r → unpack_word spelled_remap (pack_remap shape r) ≡ Some r
 remap_back shape r p =
     let w : ℕ = 1 + 2 * r.port + denials r.rights + 256 * r.page in
     let b : RemapBits r.port (denied Read r.rights) (denied Write r.rights) r.page w = remap_bits _ _ _ _ (port_small remap shape r p) (denied_small Read r.rights) (denied_small Write r.rights) (page_small remap shape r p) in
@@ -60,25 +65,8 @@ remap_back shape r p =
     ∙ ap (λ n. record_with r.port n (rights_left w)) b.page
     ∙ ap (record_with r.port r.page) left
 
-remap_shut : (ws : List ℕ) → length ws ≡ 1 → gate_word ws % 2 ≡ 0 → unpack_remap ws ≡ None
-remap_shut [] n h = refl
-remap_shut (w ∷ []) n h = rw (gate_clear w h) refl
-remap_shut (w ∷ v ∷ ws) n h = refl
-
-remap_rights : (ws : List ℕ) (r : Record) → unpack_remap ws ≡ Some r → IsTrue (are_rights r.rights)
-remap_rights [] r e = cc
-remap_rights (w ∷ []) r e = read_are_rights (bits w 1 3) (bits w 8 56) w ((bits w 0 1 == 1) && (bits w 6 2 == 0)) r e
-remap_rights (w ∷ v ∷ ws) r e = cc
-
 pub remap_is_lawful : IsLawful remap
-remap_is_lawful = record {
-  least = lit≤ tt;
-  most = lit≤ tt;
-  width = λ shape r p. refl;
-  reads_back = remap_back;
-  shut = remap_shut;
-  rights = remap_rights;
-}
+remap_is_lawful = word_is_lawful remap.name remap.fits (λ shape r. 1 + 2 * r.port + denials r.rights + 256 * r.page) spelled_remap remap_back (λ w h. rw (gate_clear w h) refl) (λ w r e. read_are_rights (bits w 1 3) (bits w 8 56) w ((bits w 0 1 == 1) && (bits w 6 2 == 0)) r e)
 
 vectors_back : (shape : Shape) (r : Record) → IsPackable vectors shape r → unpack_vectors (pack_vectors shape r) ≡ Some r
 vectors_back shape r p =
@@ -103,11 +91,4 @@ vectors_rights (a ∷ w ∷ []) r e = read_are_rights (bits w 1 3) a w ((bits w 
 vectors_rights (a ∷ w ∷ v ∷ ws) r e = cc
 
 pub vectors_are_lawful : IsLawful vectors
-vectors_are_lawful = record {
-  least = lit≤ tt;
-  most = lit≤ tt;
-  width = λ shape r p. refl;
-  reads_back = vectors_back;
-  shut = vectors_shut;
-  rights = vectors_rights;
-}
+vectors_are_lawful = lawful vectors (lit≤ tt) (lit≤ tt) (λ shape r p. refl) vectors_back vectors_shut vectors_rights

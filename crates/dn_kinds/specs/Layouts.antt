@@ -40,19 +40,23 @@ abbrev pub record_with : ℕ → ℕ → Option Rights → Option Record
 record_with port page None = None
 record_with port page (Some rights) = Some (record { port = port; page = page; rights = rights })
 
+-- the record that one word alone spells
+abbrev pub unpack_word : (ℕ → Option Record) → List ℕ → Option Record
+unpack_word spelled [] = None
+unpack_word spelled (w ∷ []) = spelled w
+unpack_word spelled (w ∷ v ∷ ws) = None
+
 -- the word of a record of `pages`: bit 0 the gate, bits 1 to 3 zero, bits 4 and 5 the denials, bits
 -- 6 and 7 zero, bits 8 to 63 the output page; the port is 0
 abbrev pub pack_pages : Shape → Record → List ℕ
 pack_pages shape r = (1 + denials r.rights + 2 ^ 8 * r.page) ∷ []
 
 -- the record that a word spells in `pages`
-abbrev pub unpack_pages : List ℕ → Option Record
-unpack_pages [] = None
-unpack_pages (w ∷ []) =
+abbrev pub spelled_pages : ℕ → Option Record
+spelled_pages w =
     if (bits w 0 1 == 1) && (bits w 1 3 == 0) && (bits w 6 2 == 0)
     then record_with 0 (bits w 8 56) (rights_left w)
     else None
-unpack_pages (w ∷ v ∷ ws) = None
 
 -- the kind `pages`
 abbrev pub pages : Meaning
@@ -61,7 +65,7 @@ pages = record {
   words = 1;
   fits = λ shape. shape.ports == 1;
   pack = pack_pages;
-  unpack = unpack_pages;
+  unpack = unpack_word spelled_pages;
 }
 
 -- the word of a record of `remap`: as in `pages`, but for the port in bits 1 to 3
@@ -69,13 +73,11 @@ abbrev pub pack_remap : Shape → Record → List ℕ
 pack_remap shape r = (1 + 2 ^ 1 * r.port + denials r.rights + 2 ^ 8 * r.page) ∷ []
 
 -- the record that a word spells in `remap`
-abbrev pub unpack_remap : List ℕ → Option Record
-unpack_remap [] = None
-unpack_remap (w ∷ []) =
+abbrev pub spelled_remap : ℕ → Option Record
+spelled_remap w =
     if (bits w 0 1 == 1) && (bits w 6 2 == 0)
     then record_with (bits w 1 3) (bits w 8 56) (rights_left w)
     else None
-unpack_remap (w ∷ v ∷ ws) = None
 
 -- the kind `remap`
 abbrev pub remap : Meaning
@@ -84,7 +86,7 @@ remap = record {
   words = 1;
   fits = λ shape. nat_le 1 shape.ports && nat_le shape.ports 8;
   pack = pack_remap;
-  unpack = unpack_remap;
+  unpack = unpack_word spelled_remap;
 }
 
 -- the words of a record of `vectors`: word 0 the output address; in word 1 bit 0 the gate, bits 1

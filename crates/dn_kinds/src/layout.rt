@@ -1,7 +1,7 @@
 //! What the layouts share: bits of a word, and the rights in a gate word.
 
 ghost use Rattle.std.specs.Prelude.{◌≡◌, ◌<◌};
-ghost use Rattle.dn_kinds.specs.Layouts.{bits, denials, rights_left};
+ghost use Rattle.dn_kinds.specs.Terms.{bits, denials, rights_left};
 
 use dn_kind::rights::{Access, Rights};
 

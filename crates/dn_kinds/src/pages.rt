@@ -1,8 +1,8 @@
 //! Units whose records are pages of one port.
 
 ghost use Rattle.std.specs.Prelude.{◌≡◌, ◌+◌, ◌-◌, ◌*◌, ◌<◌, ◌≤◌, ◌++◌};
-ghost use Rattle.dn_kind.specs.Kind.{IsLawful};
-ghost use Rattle.dn_kinds.specs.Layouts.{pages};
+ghost use Rattle.dn_kind.specs.Terms.{IsLawful};
+ghost use Rattle.dn_kinds.specs.Terms.{pages};
 
 use crate::layout::{GATE, PAGE, bits, denials, rights_left};
 use dn_kind::shape::Shape;

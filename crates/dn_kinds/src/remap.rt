@@ -1,8 +1,8 @@
 //! Units whose records are pages of several ports.
 
 ghost use Rattle.std.specs.Prelude.{◌≡◌, ◌+◌, ◌-◌, ◌*◌, ◌<◌, ◌≤◌, ◌++◌};
-ghost use Rattle.dn_kind.specs.Kind.{IsLawful};
-ghost use Rattle.dn_kinds.specs.Layouts.{remap};
+ghost use Rattle.dn_kind.specs.Terms.{IsLawful};
+ghost use Rattle.dn_kinds.specs.Terms.{remap};
 
 use crate::layout::{GATE, PAGE, PORT, bits, denials, rights_left};
 use dn_kind::shape::{MAX_PORTS, Shape};

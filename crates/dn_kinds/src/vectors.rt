@@ -1,8 +1,8 @@
 //! Units whose records are single addresses, as interrupt vectors are.
 
 ghost use Rattle.std.specs.Prelude.{◌≡◌, ◌+◌, ◌-◌, ◌*◌, ◌<◌, ◌≤◌, ◌++◌};
-ghost use Rattle.dn_kind.specs.Kind.{IsLawful};
-ghost use Rattle.dn_kinds.specs.Layouts.{vectors};
+ghost use Rattle.dn_kind.specs.Terms.{IsLawful};
+ghost use Rattle.dn_kinds.specs.Terms.{vectors};
 
 use crate::layout::{GATE, PORT, bits, denials, rights_left};
 use dn_kind::shape::{MAX_PORTS, Shape};

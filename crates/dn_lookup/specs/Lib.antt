@@ -1,1 +1,3 @@
+pub mod Images
 pub mod Lookup
+pub mod Terms

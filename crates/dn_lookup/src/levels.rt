@@ -1,66 +1,40 @@
 //! Names level by level: each level has the names one step on from those of the level before it.
 
-ghost use Rattle.std.specs.Prelude.{◌≡◌, ◌++◌, [], ◌∷◌, ◌+◌, ◌<◌, ◌^◌, length, map, IfOk, OnOk, IsTrue};
-ghost use Rattle.std.specs.List.{All};
-ghost use Rattle.dn_net.specs.Decode.{is_accepted};
-ghost use Rattle.dn_net.specs.Names.{each_step, passing_names, sorted_names};
-ghost use Rattle.dn_net.specs.Rules.{KeepsNodeRules};
-ghost use Rattle.dn_kind.specs.Kind.{IsLawful};
-ghost use Rattle.dn_kind.specs.Tables.{resolved_names_under, steps_under};
-ghost use Rattle.dn_kind.specs.Levels.{are_there};
-ghost use Rattle.dn_lookup.specs.Lookup.{IsImageFor, bytes_records};
+ghost use Rattle.std.specs.Prelude.{◌≡◌, ◌++◌, [], ◌∷◌, ◌+◌, ◌<◌, ◌^◌, length, IfOk, OnOk, IsTrue};
+ghost use Rattle.dn_net.specs.Terms.{each_step, is_accepted, passing_names, sorted_names};
+ghost use Rattle.dn_kind.specs.Terms.{are_there, resolved_names_under, steps_under};
+ghost use Rattle.dn_lookup.specs.Terms.{IsImage, records_in};
 
+use crate::image::Image;
 use crate::output::output;
-use dn_kind::kinds::Kinds;
-use dn_kind::levels::{push_moved, push_sent, set_of};
+use dn_kind::levels::{LEVELS, first_level, push_moved, push_sent, set_of};
 use dn_kind::rights::Access;
 use dn_net::names::Names;
-use dn_net::net::Net;
 use dn_net::node::Name;
 use dn_net::step::Step;
 use std::alloc::{AllocError, Global};
-
-/// How many levels of names there are: the name itself, and those after each of 1 to 259 steps.
-const LEVELS: u16 = 260;
 
 /// The accepted names that a name reaches in at most 259 steps under the records of an image. `Err`
 /// is want of memory.
 pub(crate) fn resolve(
     alloc: Global,
-    net: &Net,
-    kinds: &Kinds,
-    bytes: &[u8],
-    version: u16,
+    image: Image,
     access: Access,
     name: Name,
 ) -> Result<Names, AllocError>
-    requires lawful { All (λ k. IsLawful (meaning (k.vtable, k.value))) kinds.now.list.items }
-    requires rules { KeepsNodeRules net.now }
-    requires image { IsImageFor net.now
-        (map (λ k. meaning (k.vtable, k.value)) kinds.now.list.items) bytes.now }
-    requires there { name.node < length net.now }
-    ensures resolved { IfOk result (λ names. names ≡ resolved_names_under net.now
-        (bytes_records net.now (map (λ k. meaning (k.vtable, k.value)) kinds.now.list.items) bytes.now version access)
-        name) }
-    ensures there { IfOk result (λ names. IsTrue (are_there (length net.now) names)) }
+    requires image { IsImage (λ k. meaning (k.vtable, k.value)) image }
+    requires there { name.node < length image.net.now }
+    ensures resolved { IfOk result (λ names. names ≡ resolved_names_under image.entry.net.now
+        (records_in (λ k. meaning (k.vtable, k.value)) image.entry access) name) }
+    ensures there { IfOk result (λ names. IsTrue (are_there (length image.entry.net.now) names)) }
 {
     let mut accepted = Vec::new(alloc);
-    let mut level = Names::new(alloc);
-    level.insert(name)?;
+    let mut level = first_level(alloc, name)?;
     for _ in 0..LEVELS {
         if level.list().is_empty() {
             break;
         }
-        level = next_level(
-            alloc,
-            net,
-            kinds,
-            bytes,
-            version,
-            access,
-            level.list(),
-            &mut accepted,
-        )?;
+        level = next_level(alloc, image, access, level.list(), &mut accepted)?;
     }
     set_of(alloc, accepted)
 }
@@ -68,61 +42,46 @@ pub(crate) fn resolve(
 /// The names one step on from those of a level. Those of the level that are accepted are appended.
 fn next_level(
     alloc: Global,
-    net: &Net,
-    kinds: &Kinds,
-    bytes: &[u8],
-    version: u16,
+    image: Image,
     access: Access,
     level: &[Name],
     accepted: &mut Vec<Name>,
 ) -> Result<Names, AllocError>
-    requires lawful { All (λ k. IsLawful (meaning (k.vtable, k.value))) kinds.now.list.items }
-    requires rules { KeepsNodeRules net.now }
-    requires image { IsImageFor net.now
-        (map (λ k. meaning (k.vtable, k.value)) kinds.now.list.items) bytes.now }
-    requires there { IsTrue (are_there (length net.now) level.now) }
+    requires image { IsImage (λ k. meaning (k.vtable, k.value)) image }
+    requires there { IsTrue (are_there (length image.net.now) level.now) }
     ensures accepted { OnOk result (accepted.new.items ≡
-        accepted.old.items ++ passing_names (is_accepted net.now) level.now) }
-    ensures next { IfOk result (λ names. names ≡ sorted_names (each_step (steps_under net.now
-        (bytes_records net.now (map (λ k. meaning (k.vtable, k.value)) kinds.now.list.items) bytes.now version access))
-        level.now)) }
-    ensures there { IfOk result (λ names. IsTrue (are_there (length net.now) names)) }
+        accepted.old.items ++ passing_names (is_accepted image.entry.net.now) level.now) }
+    ensures next { IfOk result (λ names. names ≡ sorted_names (each_step
+        (steps_under image.entry.net.now
+        (records_in (λ k. meaning (k.vtable, k.value)) image.entry access)) level.now)) }
+    ensures there { IfOk result (λ names. IsTrue (are_there (length image.entry.net.now) names)) }
 {
     let mut next = Vec::new(alloc);
     for name in level {
-        push_steps(
-            net, kinds, bytes, version, access, *name, accepted, &mut next,
-        )?;
+        push_steps(image, access, *name, accepted, &mut next)?;
     }
     set_of(alloc, next)
 }
 
 /// Appends the names one step on from a name, and where it is accepted, the name itself to the others.
 fn push_steps(
-    net: &Net,
-    kinds: &Kinds,
-    bytes: &[u8],
-    version: u16,
+    image: Image,
     access: Access,
     name: Name,
     accepted: &mut Vec<Name>,
     next: &mut Vec<Name>,
 ) -> Result<(), AllocError>
-    requires lawful { All (λ k. IsLawful (meaning (k.vtable, k.value))) kinds.now.list.items }
-    requires rules { KeepsNodeRules net.now }
-    requires image { IsImageFor net.now
-        (map (λ k. meaning (k.vtable, k.value)) kinds.now.list.items) bytes.now }
-    requires there { name.node < length net.now }
+    requires image { IsImage (λ k. meaning (k.vtable, k.value)) image }
+    requires there { name.node < length image.net.now }
     ensures accepted { OnOk result (accepted.new.items ≡
-        accepted.old.items ++ passing_names (is_accepted net.now) (name ∷ [])) }
-    ensures next { OnOk result (next.new.items ≡ next.old.items ++ steps_under net.now
-        (bytes_records net.now (map (λ k. meaning (k.vtable, k.value)) kinds.now.list.items) bytes.now version access)
-        name) }
+        accepted.old.items ++ passing_names (is_accepted image.entry.net.now) (name ∷ [])) }
+    ensures next { OnOk result (next.new.items ≡ next.old.items ++ steps_under image.entry.net.now
+        (records_in (λ k. meaning (k.vtable, k.value)) image.entry access) name) }
 {
-    match net.step(name) {
+    match image.net.step(name) {
         Step::Accepted => Ok(accepted.push(name)?),
         Step::To(dests, offset) => push_moved(next, dests, offset),
-        Step::Stop => push_sent(next, output(net, kinds, bytes, version, access, name)),
+        Step::Stop => push_sent(next, output(image, access, name)),
         Step::Nothing => Ok(()),
     }
 }

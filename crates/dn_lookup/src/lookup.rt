@@ -2,16 +2,13 @@
 
 ghost use Rattle.std.specs.Prelude.{◌≡◌, ◌≢◌, ◌<◌, length, map, slice_get, IfOk, Ok, Err, None, IsTrue};
 ghost use Rattle.std.specs.List.{All};
-ghost use Rattle.dn_base.specs.Answers.{Answers};
-ghost use Rattle.dn_net.specs.Decode.{is_agent_at};
-ghost use Rattle.dn_net.specs.Legal.{IsLegalNet};
-ghost use Rattle.dn_kind.specs.Kind.{IsLawful};
-ghost use Rattle.dn_kind.specs.Units.{KeepsUnitShape};
-ghost use Rattle.dn_kind.specs.Levels.{are_there};
-ghost use Rattle.dn_image.specs.Reading.{broken_image, version_of};
-ghost use Rattle.dn_lookup.specs.Lookup.{lookup_fault_view, lookup_of};
-ghost use Rattle.dn_lookup.specs.declared.lookup.LookupFault.TheVariants.{OutOfMemory as no_memory, Image as no_image};
+ghost use Rattle.dn_base.specs.Terms.{Answers};
+ghost use Rattle.dn_net.specs.Terms.{IsLegalNet, is_agent_at};
+ghost use Rattle.dn_kind.specs.Terms.{IsLawful, KeepsUnitShape, are_there};
+ghost use Rattle.dn_image.specs.Terms.{broken_image, version_of};
+ghost use Rattle.dn_lookup.specs.Terms.{lookup_fault_view, lookup_of};
 
+use crate::image::Image;
 use crate::levels::resolve;
 use dn_image::check::check;
 use dn_image::fault::ImageFault;
@@ -35,22 +32,6 @@ pub enum LookupFault {
     /// There was no memory for the names.
     #[error("OutOfMemory")]
     OutOfMemory,
-}
-
-impl From<AllocError> for LookupFault {
-    ghost from_gives = { λ _ e. e ≡ no_memory };
-
-    fn from(_e: AllocError) -> LookupFault {
-        LookupFault::OutOfMemory
-    }
-}
-
-impl From<ImageFault> for LookupFault {
-    ghost from_gives = { λ fault e. e ≡ no_image fault };
-
-    fn from(fault: ImageFault) -> LookupFault {
-        LookupFault::Image(fault)
-    }
 }
 
 /// The names to which an agent's address comes for an access, under the records of an image of the
@@ -83,9 +64,15 @@ pub fn lookup(
     if !is_agent(net, agent) {
         return Err(LookupFault::NoAgent);
     }
-    let version = check(net, kinds, image)?;
+    let version = match check(net, kinds, image) {
+        Ok(version) => version,
+        Err(fault) => return Err(LookupFault::Image(fault)),
+    };
     let name = Name { node: agent, addr };
-    Ok(lookup_whole(alloc, net, kinds, image, version, access, name)?)
+    match lookup_whole(alloc, net, kinds, image, version, access, name) {
+        Ok(names) => Ok(names),
+        Err(_) => Err(LookupFault::OutOfMemory),
+    }
 }
 
 /// The names to which an agent's name comes for an access, in bytes that are an image of the net and
@@ -114,7 +101,13 @@ pub fn lookup_whole(
     // Each name is in a node that is there.
     ensures there { IfOk result (λ names. IsTrue (are_there (length net.now) names)) }
 {
-    resolve(alloc, net, kinds, image, version, access, name)
+    let image = Image {
+        net,
+        kinds,
+        bytes: image,
+        version,
+    };
+    resolve(alloc, image, access, name)
 }
 
 /// Whether a node is there, and an agent.

@@ -1,5 +1,5 @@
 -- The use of a module, from its arguments.
-use Rattle.std.proofs.Common.{◌≡◌, ◌∙◌, ap, refl, ℕ, suc, ◌+◌, ◌<◌, Bool, true, false, cond, List, [], ◌∷◌, length, map, drop, get_or, Some, IfSome, Result, Ok, Err}
+use Rattle.std.proofs.Common.{◌≡◌, ◌∙◌, ap, refl, ℕ, suc, ◌+◌, ◌<◌, Bool, true, false, cond, List, [], ◌∷◌, length, map, drop, get_or, sym, Option, Some, IfSome, Result, Ok, Err}
 use Rattle.std.specs.Option.{option_map}
 use Rattle.dn_parse.specs.declared.syntax.Param.{Param as CodeParam}
 use Rattle.dn_parse.specs.declared.syntax.Arg.{Arg as CodeArg}
@@ -68,9 +68,9 @@ naming_of t given = t >>= (λ text. Ok (named_by text given))
 abbrev used_works : ℕ → Module → List Given → List ℕ → Result (List Work) ExpansionFault
 used_works place m gs text = Ok (statements (within_module place) (used_body m gs text))
 
-pub use_is : (line : ℕ) (xs : List Arg) (prefix : List Part) (place : ℕ) (m : Module) → fit m.params xs ≡ true
+use_in : (line : ℕ) (xs : List Arg) (prefix : List Part) (place : ℕ) (m : Module) → fit m.params xs ≡ true
     → use_of line xs prefix (Some (place, m)) ≡ (at_line line (replaced_by (map word_of_param m.params) xs prefix) >>= body_works place m)
-use_is line xs prefix place m fits = rw fits (go (each given_by xs) (full_name prefix)) where
+use_in line xs prefix place m fits = rw fits (go (each given_by xs) (full_name prefix)) where
   go : (gs : Result (List Given) Flaw) (t : Result (List ℕ) Flaw)
       → (at_line line gs >>= (λ givens. at_line line t >>= used_works place m givens))
       ≡ (at_line line ((gs >>= collected (map word_of_param m.params)) >>= naming_of t) >>= body_works place m)
@@ -80,8 +80,19 @@ use_is line xs prefix place m fits = rw fits (go (each given_by xs) (full_name p
   go (Ok gs) (Err out_of_range) = refl
   go (Ok gs) (Ok text) = refl
 
-pub unfit_use : (line : ℕ) (xs : List Arg) (prefix : List Part) (place : ℕ) (m : Module) → fit m.params xs ≡ false → use_of line xs prefix (Some (place, m)) ≡ Err (has_other_arguments line)
-unfit_use line xs prefix place m fits = rw fits refl
+-- the use of a module that was found, where its parameters have these words
+module _ (line : ℕ) (r : Replacement) (args : List CodeArg) (prefix : List Part) (place : ℕ) (m : Module) (found : Option (ℕ × Module)) (is : found ≡ Some (place, m)) where
+  abbrev pub inner_args : List Arg
+  inner_args = map (in_arg r) (map arg_view args)
+
+  pub unfit_use : fit m.params (map arg_view args) ≡ false → use_of line inner_args prefix found ≡ Err (has_other_arguments line)
+  unfit_use fits = ap (use_of line inner_args prefix) is ∙ rw (fit_in r m.params (map arg_view args) ∙ fits) refl
+
+  pub use_is : (words : List (List ℕ)) → words ≡ map word_of_param m.params → fit m.params (map arg_view args) ≡ true → use_of line inner_args prefix found ≡ (at_line line (replaced_by words inner_args prefix) >>= body_works place m)
+  use_is words same fits =
+      ap (use_of line inner_args prefix) is
+      ∙ use_in line inner_args prefix place m (fit_in r m.params (map arg_view args) ∙ fits)
+      ∙ ap (λ ws. at_line line (replaced_by ws inner_args prefix) >>= body_works place m) (sym same)
 
 -- the flaw of a part is a fault of its statement
 pub flaw_at : {X Y : Type 0} (line : ℕ) (fault : NameFault) (made : Result X Flaw) (f : X → Result Y ExpansionFault) (whole : Result Y ExpansionFault) → whole ≡ (at_line line made >>= f) → IfSome (name_fault_view fault) (λ g. made ≡ Err g) → IfSome (option_map (flaw_fault line) (name_fault_view fault)) (λ g. whole ≡ Err g)

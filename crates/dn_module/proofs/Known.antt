@@ -1,5 +1,5 @@
 -- Names among others: the place of one, and whether any comes twice.
-use Rattle.std.proofs.Common.{◌≡◌, ◌∙◌, ap, sym, refl, ℕ, ◌+◌, ◌<◌, List, [], ◌∷◌, ◌++◌, map, take, drop, get_or, true, false, Bool, length, arith, position, None, Some, if◌then◌else◌, ◌||◌}
+use Rattle.std.proofs.Common.{◌≡◌, ◌∙◌, ap, sym, refl, ℕ, ◌+◌, ◌<◌, List, [], ◌∷◌, ◌++◌, map, take, drop, get_or, true, false, Bool, length, arith, position, Option, None, Some, if◌then◌else◌, ◌||◌}
 use Rattle.std.proofs.lemmas.Grind.{common_steps}
 use Rattle.std.proofs.lemmas.Bool.{false≢true}
 use Rattle.std.proofs.lemmas.Cmp.{nat_list_eq_equiv}
@@ -13,7 +13,7 @@ use Rattle.std.specs.Str.{bytes_eq}
 use Rattle.dn_module.specs.declared.draft.Draft.{Draft}
 use Rattle.dn_net.specs.declared.node.NodeDecl.{NodeDecl}
 use Rattle.dn_net.specs.Decode.{is_formed}
-use Rattle.dn_base.proofs.Lists.{list_any-map, prefix_len-any}
+use Rattle.dn_base.proofs.Lists.{list_any-map, position-map, prefix_len-any}
 use Rattle.dn_module.specs.Drafts.{is_known, node_in}
 use Rattle.dn_module.specs.Expand.{has_twice}
 
@@ -24,6 +24,10 @@ is_known-Some known text number e =
 
 pub is_known-None : (known : List (List ℕ)) (text : List ℕ) → position (bytes_eq text) known ≡ None → is_known known text ≡ false
 is_known-None known text e = let h = prefix_len-any (bytes_eq text) known in grind (arith, common_steps, h)
+
+-- a place among names that are seen by their bytes
+pub place_seen : {X : Type 0} (text : X → List ℕ) (w : List ℕ) (keys : List X) {view : List (List ℕ)} {o : Option ℕ} → map text keys ≡ view → o ≡ position (λ k. bytes_eq w (text k)) keys → o ≡ position (bytes_eq w) view
+place_seen text w keys seen is = is ∙ sym (position-map text (bytes_eq w) keys) ∙ ap (position (bytes_eq w)) seen
 
 pub kept_is : {X : Type 0} (bytes : X → List ℕ) (text : List ℕ) (xs : List X) (x : X) → find (λ k. bytes_eq text (bytes k)) xs ≡ Some x → bytes x ≡ text
 kept_is bytes text [] x at = absurd (none-some x at)

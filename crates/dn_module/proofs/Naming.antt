@@ -1,5 +1,5 @@
 -- Modules by their names, and the words of their parameters.
-use Rattle.std.proofs.Common.{◌≡◌, ◌∙◌, ap, sym, refl, arith, ℕ, zero, suc, ◌+◌, ◌<◌, ◌≤◌, nat_lt, Bool, true, false, not, ◌||◌, cond, List, [], ◌∷◌, ◌++◌, length, map, take, drop, get_or, slice_get, position, Some, None, Result, Ok, Err, OnOk, OnErr}
+use Rattle.std.proofs.Common.{◌≡◌, ◌∙◌, ap, sym, refl, arith, ℕ, zero, suc, ◌+◌, ◌<◌, ◌≤◌, nat_lt, Bool, true, false, not, ◌||◌, cond, List, [], ◌∷◌, ◌++◌, length, map, take, drop, get_or, slice_get, position, is_some, Option, Some, None, Result, Ok, Err, OnOk, OnErr}
 use Rattle.std.proofs.lemmas.Bool.Decides.{nat_tests}
 use Rattle.std.proofs.lemmas.Bool.{ltb-false, ltb-true}
 use Rattle.std.proofs.lemmas.List.{length-map, map_more, map-append, take-append-drop, take_all}
@@ -12,6 +12,7 @@ use Rattle.dn_module.specs.Expand.{Module, Visibility, outside, within_module, m
 use Rattle.dn_module.specs.Drafts.{is_known}
 use Rattle.dn_module.specs.Stack.{sees, known_view}
 use Rattle.dn_module.proofs.Known.{twice-push, twice-append}
+use Rattle.dn_module.proofs.Limits.{found_is}
 use Rattle.dn_module.proofs.Scopes.{at_any}
 use Rattle.dn_base.proofs.Lists.{list_any-map}
 use Rattle.dn_module.specs.Faults.{is_duplicate}
@@ -184,8 +185,16 @@ pub words_all : (ps : List CodeParam) (i : ℕ) → length ps ≤ i → param_wo
 words_all ps i h = ap param_words (take_all i ps h) ∙ sym (words_are ps)
 
 -- one more module: the limit, what is there already, and what becomes of it
-pub few_modules : (n : ℕ) → n < 256 → nat_lt 256 (n + 1) ≡ false
+few_modules : (n : ℕ) → n < 256 → nat_lt 256 (n + 1) ≡ false
 few_modules n h = grind (arith, nat_tests)
+
+-- there is room for one module more
+pub module_room : (ks : List Known) → length ks < 256 → nat_lt 256 (length (map known_view ks) + 1) ≡ false
+module_room ks h = ap (λ (n : ℕ). nat_lt 256 (n + 1)) (length-map ks known_view) ∙ few_modules (length ks) h
+
+-- a module of a name is there exactly where the name is found
+pub module_known : (names : List (List ℕ)) (ks : List Known) (title : List ℕ) (found : Option ℕ) → names ≡ map (λ k. k.module.title.now) ks → found ≡ position (bytes_eq title) names → is_module (map known_view ks) title ≡ is_some found
+module_known names ks title found same is = is_module-titles (map known_view ks) title ∙ ap (λ l. is_known l title) (titles_are ks ∙ sym same) ∙ found_is names title found is
 
 pub module_twice : (ms : List Module) (line : ℕ) (m : Module) → nat_lt 256 (length ms + 1) ≡ false → (is_module ms m.title || has_twice (map word_of_param m.params)) ≡ true → with_module ms line m ≡ Err (is_duplicate line)
 module_twice ms line m n h = rw (n, h) refl

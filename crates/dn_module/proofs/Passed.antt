@@ -4,15 +4,19 @@ use Rattle.std.specs.List.{list_all, position_or_len}
 use Rattle.std.specs.Str.{bytes_eq}
 use Rattle.dn_base.specs.Answers.{Answers}
 use Rattle.dn_parse.specs.Tree.{Part, Role as RoleOf, plain_role, agent_role, vectors_role, Spec, Expression, Declaration, node, unit, Item, declared, module_of, instance, loop, Tree}
+use Rattle.dn_net.specs.declared.node.Block.{Block}
 use Rattle.dn_net.specs.declared.node.NodeDecl.{NodeDecl}
+use Rattle.dn_net.specs.declared.node.Role.TheVariants.{Unit as UnitRole}
 use Rattle.dn_net.specs.Decode.{is_unit, is_formed}
 use Rattle.dn_kind.specs.Kind.{Meaning, kind_place}
 use Rattle.dn_kind.specs.Units.{has_kind}
 use Rattle.dn_module.specs.declared.draft.Draft.{Draft}
+use Rattle.dn_module.specs.declared.draft.DraftEntry.{DraftEntry}
+use Rattle.dn_module.specs.declared.draft.DraftUnit.{DraftUnit}
 use Rattle.dn_module.specs.declared.expansion.Expanded.{Expanded}
 use Rattle.dn_module.specs.declared.fault.ExpandFault.{ExpandFault}
 use Rattle.dn_module.specs.Values.{◌>>=◌, each, value_within, full_name, full_name_or_none}
-use Rattle.dn_module.specs.Drafts.{block_of, entry_of, role_of, known_kind, node_draft, unit_draft, declared_by, names, is_known, limit_passed, by_limit, with_draft, refers_to_known, node_in, node_of}
+use Rattle.dn_module.specs.Drafts.{block_of, entry_of, role_of, known_kind, bare_draft, node_draft, unit_draft, declared_by, names, is_known, limit_passed, by_limit, with_draft, refers_to_known, node_in, node_of}
 use Rattle.dn_module.specs.Commands.{commands_of}
 use Rattle.dn_module.specs.Expand.{State, nothing_yet, Visibility, outside, Work, statement, turns, statements, with_module, usable, module_from, use_of, loop_of, item_rewriting, rewriting, all_rewritings, most_steps, expansion_of}
 use Rattle.dn_module.specs.Finish.{outcome_of, outcome_view}
@@ -59,54 +63,42 @@ module _ (kinds : List Meaning) (P : Draft → Bool) (each_passes : (line : ℕ)
   pub body_passes : (tree : Tree) → Yields (λ made. AllPass P made.drafts) (body_state kinds tree)
   body_passes tree = all_pass most_steps (statements outside tree.body) nothing_yet refl
 
--- the node of each declaration is formed
+-- the kind of a unit is there
+kind_below : (kinds : List Meaning) (name : List ℕ) → Yields (λ n. IsTrue (nat_lt n (length kinds))) (known_kind (kind_place kinds name))
+kind_below kinds name = go (nat_lt place (length kinds)) refl
+  where
+    place : ℕ
+    place = position_or_len (λ k. bytes_eq name k.name) kinds
+
+    go : (b : Bool) → nat_lt place (length kinds) ≡ b → Yields (λ n. IsTrue (nat_lt n (length kinds))) (known_kind (cond b (Some place) None))
+    go true e = record { it = e }
+    go false e = record { it = tt }
+
+-- the node of each declaration is so, where a node of any parts and a unit of any kind are
+module _ (kinds : List Meaning) (P : Draft → Type 0) (of_node : (line : ℕ) (role : RoleOf) (name : List ℕ) (accepts : List Block) (entries : List DraftEntry) (over : Option (List ℕ)) → P (record { line = line; role = role_of role; name = name; accepts = accepts; entries = entries; over = over; unit = None })) (of_unit : (line : ℕ) (name : List ℕ) (u : DraftUnit) → IsTrue (nat_lt u.kind (length kinds)) → P (bare_draft line UnitRole name (Some u))) where
+  node_yields : (line : ℕ) (role : RoleOf) (name : List Part) (spec : Spec) → Yields P (node_draft line role name spec)
+  node_yields line role name spec =
+      bind (full_name name) _ (any _) (λ text h. bind (each block_of spec.accepts) _ (any _) (λ accepts h. bind (each entry_of spec.entries) _ (any _) (λ entries h. bind (full_name_or_none spec.over) _ (any _) (λ over h. given (of_node line role text accepts entries over)))))
+
+  unit_yields : (line : ℕ) (name : List Part) (kind : List ℕ) (page slots reach : Expression) (ports : List (List Part)) → Yields P (unit_draft kinds line name kind page slots reach ports)
+  unit_yields line name kind page slots reach ports =
+      bind (full_name name) _ (any _) (λ text h. bind (known_kind (kind_place kinds kind)) _ (kind_below kinds kind) (λ number below. bind (value_within 255 page) _ (any _) (λ p h. bind (value_within 4294967295 slots) _ (any _) (λ s h. bind (value_within 255 reach) _ (any _) (λ r h. bind (each full_name ports) _ (any _) (λ texts h. given (of_unit line text _ below)))))))
+
+  declared_yields : (line : ℕ) (d : Declaration) → Yields P (declared_by kinds line d)
+  declared_yields line (node role name spec) = at_yields P line (node_draft line role name spec) (node_yields line role name spec)
+  declared_yields line (unit name kind page slots reach ports) = at_yields P line (unit_draft kinds line name kind page slots reach ports) (unit_yields line name kind page slots reach ports)
+
 role_is_none : (r : RoleOf) → IsTrue (not (is_unit (role_of r)))
 role_is_none plain_role = refl
 role_is_none agent_role = refl
 role_is_none vectors_role = refl
 
-module _ (kinds : List Meaning) (known : List (List ℕ)) where
-  abbrev Formed : Draft → Type 0
-  Formed d = IsTrue (is_formed (node_in known d))
+-- the node of each declaration is formed, and the kind of each is there
+declared_formed : (kinds : List Meaning) (known : List (List ℕ)) (line : ℕ) (d : Declaration) → Yields (λ x. IsTrue (is_formed (node_in known x))) (declared_by kinds line d)
+declared_formed kinds known = declared_yields kinds (λ x. IsTrue (is_formed (node_in known x))) (λ line role name accepts entries over. role_is_none role) (λ line name u below. refl)
 
-  node_formed : (line : ℕ) (role : RoleOf) (name : List Part) (spec : Spec) → Yields Formed (node_draft line role name spec)
-  node_formed line role name spec =
-      bind (full_name name) _ (any _) (λ text h. bind (each block_of spec.accepts) _ (any _) (λ accepts h. bind (each entry_of spec.entries) _ (any _) (λ entries h. bind (full_name_or_none spec.over) _ (any _) (λ over h. given (role_is_none role)))))
-
-  unit_formed : (line : ℕ) (name : List Part) (kind : List ℕ) (page slots reach : Expression) (ports : List (List Part)) → Yields Formed (unit_draft kinds line name kind page slots reach ports)
-  unit_formed line name kind page slots reach ports =
-      bind (full_name name) _ (any _) (λ text h. bind (known_kind (kind_place kinds kind)) _ (any _) (λ number h. bind (value_within 255 page) _ (any _) (λ p h. bind (value_within 4294967295 slots) _ (any _) (λ s h. bind (value_within 255 reach) _ (any _) (λ r h. bind (each full_name ports) _ (any _) (λ texts h. given refl))))))
-
-  pub declared_formed : (line : ℕ) (d : Declaration) → Yields Formed (declared_by kinds line d)
-  declared_formed line (node role name spec) = at_yields Formed line (node_draft line role name spec) (node_formed line role name spec)
-  declared_formed line (unit name kind page slots reach ports) = at_yields Formed line (unit_draft kinds line name kind page slots reach ports) (unit_formed line name kind page slots reach ports)
-
--- the kind of each declaration is there
-module _ (kinds : List Meaning) (known : List (List ℕ)) where
-  abbrev Kinded : Draft → Type 0
-  Kinded d = IsTrue (has_kind (length kinds) (node_in known d).unit)
-
-  kind_below : (name : List ℕ) → Yields (λ n. IsTrue (nat_lt n (length kinds))) (known_kind (kind_place kinds name))
-  kind_below name = go (nat_lt place (length kinds)) refl
-    where
-      place : ℕ
-      place = position_or_len (λ k. bytes_eq name k.name) kinds
-
-      go : (b : Bool) → nat_lt place (length kinds) ≡ b → Yields (λ n. IsTrue (nat_lt n (length kinds))) (known_kind (cond b (Some place) None))
-      go true e = record { it = e }
-      go false e = record { it = tt }
-
-  node_kinded : (line : ℕ) (role : RoleOf) (name : List Part) (spec : Spec) → Yields Kinded (node_draft line role name spec)
-  node_kinded line role name spec =
-      bind (full_name name) _ (any _) (λ text h. bind (each block_of spec.accepts) _ (any _) (λ accepts h. bind (each entry_of spec.entries) _ (any _) (λ entries h. bind (full_name_or_none spec.over) _ (any _) (λ over h. given refl))))
-
-  unit_kinded : (line : ℕ) (name : List Part) (kind : List ℕ) (page slots reach : Expression) (ports : List (List Part)) → Yields Kinded (unit_draft kinds line name kind page slots reach ports)
-  unit_kinded line name kind page slots reach ports =
-      bind (full_name name) _ (any _) (λ text h. bind (known_kind (kind_place kinds kind)) _ (kind_below kind) (λ number below. bind (value_within 255 page) _ (any _) (λ p h. bind (value_within 4294967295 slots) _ (any _) (λ s h. bind (value_within 255 reach) _ (any _) (λ r h. bind (each full_name ports) _ (any _) (λ texts h. given below))))))
-
-  pub declared_kinded : (line : ℕ) (d : Declaration) → Yields Kinded (declared_by kinds line d)
-  declared_kinded line (node role name spec) = at_yields Kinded line (node_draft line role name spec) (node_kinded line role name spec)
-  declared_kinded line (unit name kind page slots reach ports) = at_yields Kinded line (unit_draft kinds line name kind page slots reach ports) (unit_kinded line name kind page slots reach ports)
+declared_kinded : (kinds : List Meaning) (known : List (List ℕ)) (line : ℕ) (d : Declaration) → Yields (λ x. IsTrue (has_kind (length kinds) (node_in known x).unit)) (declared_by kinds line d)
+declared_kinded kinds known = declared_yields kinds (λ x. IsTrue (has_kind (length kinds) (node_in known x).unit)) (λ line role name accepts entries over. refl) (λ line name u below. below)
 
 -- the nodes of drafts pass, where their drafts do
 module _ (Q : NodeDecl → Bool) (known : List (List ℕ)) where

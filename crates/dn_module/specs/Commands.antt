@@ -1,6 +1,6 @@
 -- The commands of a tree, with the values of their expressions and the numbers of the nodes that they name.
 use Rattle.std.specs.Prelude.{ℕ, Bool, true, false, ◌&&◌, nat_lt, List, [], Option, Some, None, Result, Ok, Err}
-use Rattle.dn_parse.specs.Tree.{Part, Order, resolve, lookup, view, grant, route, revoke, dump, split, absorb, Command as CommandOf}
+use Rattle.dn_parse.specs.Tree.{Expression, Part, Order, resolve, lookup, view, grant, route, revoke, dump, split, absorb, Command as CommandOf}
 use Rattle.dn_module.specs.declared.command.Command.{Command}
 use Rattle.dn_module.specs.declared.command.Command.TheVariants.{Resolve, Lookup, View, Grant, Route, Revoke, Dump, Split, Absorb}
 use Rattle.dn_module.specs.declared.command.Target.{Target}
@@ -14,16 +14,20 @@ target_of known name = do
   text ← full_name name
   Ok (record { text = text; node = number_in known text })
 
+-- what is asked at a node and an address of it
+abbrev pub asked_of : List (List ℕ) → List Part → Expression → (Target → ℕ → Command) →
+    Result Command Flaw
+asked_of known name e asks = do
+  target ← target_of known name
+  addr ← value e
+  Ok (asks target addr)
+
 -- a command, its expressions taken from left to right
 abbrev pub command_of : List (List ℕ) → Order → Result Command Flaw
-command_of known (resolve name e m) = do
-  target ← target_of known name
-  addr ← value e
-  Ok (Resolve target addr m)
-command_of known (lookup name e m) = do
-  target ← target_of known name
-  addr ← value e
-  Ok (Lookup target addr m)
+command_of known (resolve name e m) =
+    asked_of known name e (λ target addr. Resolve target addr m)
+command_of known (lookup name e m) =
+    asked_of known name e (λ target addr. Lookup target addr m)
 command_of known (view name m) = do
   target ← target_of known name
   Ok (View target m)

@@ -1,10 +1,15 @@
--- What a call that appends to a text answers, and what it appends.
-use Rattle.std.specs.Prelude.{◌≡◌, ℕ, List, [], ◌++◌, IfSome, Result, Ok, Err}
+-- What a call that appends to a text answers, and what it appends; and what one answers that links a part.
+use Rattle.std.specs.Prelude.{◌≡◌, ℕ, Bool, true, false, List, [], ◌++◌, IfSome, Result, Ok, Err}
 use Rattle.dn_module.specs.declared.values.NameFault.{NameFault}
 use Rattle.dn_parse.specs.Tree.{Part}
 use Rattle.dn_module.specs.Faults.{name_fault_view}
 use Rattle.dn_module.specs.Replace.{Replacement, as_they_stand}
-use Rattle.dn_module.specs.Values.{◌>>=◌, Flaw, each, part_text, after_dots}
+use Rattle.dn_module.specs.Values.{◌>>=◌, Flaw, unknown_word, each, part_text, after_dots}
+
+-- A part that is linked refers to nodes that are all there. The only flaw of one that is not is that a node is not there.
+abbrev pub Links : {X : Type 0} → Result X NameFault → Bool → Type 0
+Links (Ok x) known = known ≡ true
+Links (Err e) known = IfSome (name_fault_view e) (λ f. (f ≡ unknown_word) × (known ≡ false))
 
 -- a text with what is made behind it
 abbrev pub behind : List ℕ → Result (List ℕ) Flaw → Result (List ℕ) Flaw

@@ -1,3 +1,4 @@
+pub mod Terms
 pub mod Values
 pub mod Faults
 pub mod Replace

@@ -1,8 +1,8 @@
 //! The commands of a text, of which none is kept: each is made when it is walked.
 
 ghost use Rattle.std.specs.Prelude.{◌≡◌, [], ◌∷◌, length, true, Ok, IfOk, OnErr, MatchOption, is_ok};
-ghost use Rattle.dn_parse.specs.Script.{script_view};
-ghost use Rattle.dn_module.specs.Commands.{commands_of};
+ghost use Rattle.dn_parse.specs.Terms.{script_view};
+ghost use Rattle.dn_module.specs.Terms.{commands_of};
 
 use crate::command::Command;
 use crate::names::NameTable;

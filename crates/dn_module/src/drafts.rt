@@ -1,19 +1,15 @@
 //! The nodes that are made, within the limits of a net.
 
-ghost use Rattle.std.specs.Prelude.{◌≡◌, [], ◌∷◌, ◌++◌, ◌+◌, ◌<◌, ◌≤◌, length, false, OnOk, OnErr, IfErr, IfSome, IfNone, None, Some, Err, option_map};
-ghost use Rattle.dn_net.specs.Decode.{is_agent, is_unit};
-ghost use Rattle.dn_module.specs.Drafts.{with_draft, is_known, parts_of, names, limit_passed};
-ghost use Rattle.dn_module.specs.Expand.{has_twice};
-ghost use Rattle.dn_module.specs.Machine.{limit_by};
-ghost use Rattle.dn_module.specs.declared.fault.ExpandFault.TheVariants.{OutOfMemory as no_memory};
-ghost use Rattle.dn_base.specs.Answers.{Answers};
-ghost use Rattle.dn_module.specs.Faults.{expand_fault_view};
+ghost use Rattle.std.specs.Prelude.{◌≡◌, [], ◌∷◌, ◌++◌, ◌+◌, ◌<◌, ◌≤◌, length, false, OnOk, OnErr, IfSome, IfNone, None, Some, Err, option_map};
+ghost use Rattle.dn_net.specs.Terms.{is_agent, is_unit};
+ghost use Rattle.dn_module.specs.Terms.{expand_fault_view, has_twice, is_known, limit_by, limit_passed, names, parts_of, with_draft};
+ghost use Rattle.dn_base.specs.Terms.{Answers};
 
 use crate::draft::Draft;
 use crate::fault::ExpandFault;
 use crate::names::NameTable;
 use dn_net::node::Role;
-use std::alloc::Global;
+use std::alloc::{AllocError, Global};
 use std::marker::Model;
 
 /// The most nodes of a net.
@@ -142,18 +138,17 @@ impl Drafts {
 }
 
 /// Puts a node and its full name last. For want of memory both lists are unchanged.
-fn put(drafts: &mut Vec<Draft>, known: &mut NameTable, draft: Draft) -> Result<(), ExpandFault>
+fn put(drafts: &mut Vec<Draft>, known: &mut NameTable, draft: Draft) -> Result<(), AllocError>
     requires room { length known.old < 1024 }
     requires new_name { is_known known.old draft.name ≡ false }
     ensures drafts { OnOk result (drafts.new.items ≡ drafts.old.items ++ draft ∷ []) }
     ensures known { OnOk result (known.new ≡ known.old ++ draft.name ∷ []) }
     ensures drafts_err { OnErr result (drafts.new.items ≡ drafts.old.items) }
     ensures known_err { OnErr result (known.new ≡ known.old) }
-    ensures err { IfErr result (λ e. e ≡ no_memory) }
 {
     drafts.reserve(1)?;
     let _ = known.add(draft.name.share()?)?;
-    drafts.push(draft)?;
+    drafts.push_reserved(draft);
     Ok(())
 }
 

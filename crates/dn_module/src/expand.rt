@@ -2,15 +2,11 @@
 
 ghost use Rattle.std.specs.Prelude.{◌≡◌, ◌≤◌, true, IfOk, IsTrue, length, map};
 ghost use Rattle.std.specs.List.{list_all};
-ghost use Rattle.dn_parse.specs.Script.{script_view};
-ghost use Rattle.dn_parse.specs.Views.{tree_view};
-ghost use Rattle.dn_net.specs.Decode.{is_formed};
-ghost use Rattle.dn_kind.specs.Units.{has_kind};
-ghost use Rattle.dn_module.specs.Drafts.{names, node_in};
-ghost use Rattle.dn_module.specs.Expand.{expansion_of};
-ghost use Rattle.dn_module.specs.Finish.{outcome_of, outcome_view};
-ghost use Rattle.dn_base.specs.Answers.{Answers};
-ghost use Rattle.dn_module.specs.Faults.{expand_fault_view};
+ghost use Rattle.dn_parse.specs.Terms.{script_view, tree_view};
+ghost use Rattle.dn_net.specs.Terms.{is_formed};
+ghost use Rattle.dn_kind.specs.Terms.{has_kind};
+ghost use Rattle.dn_module.specs.Terms.{expand_fault_view, expansion_of, names, node_in, outcome_of, outcome_view};
+ghost use Rattle.dn_base.specs.Terms.{Answers};
 
 use crate::commands::Commands;
 use crate::drafts::Drafts;

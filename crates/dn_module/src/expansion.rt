@@ -2,7 +2,7 @@
 
 ghost use Rattle.std.specs.Prelude.{IsTrue, length};
 ghost use Rattle.std.specs.List.{list_all};
-ghost use Rattle.dn_net.specs.Decode.{is_closed};
+ghost use Rattle.dn_net.specs.Terms.{is_closed};
 ghost use Rattle.dn_module.specs.Commands.{names_within};
 
 use crate::commands::Commands;

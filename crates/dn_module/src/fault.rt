@@ -3,7 +3,7 @@
 ghost use Rattle.std.specs.Prelude.{◌≡◌};
 ghost use Rattle.dn_module.specs.declared.fault.ExpandFault.TheVariants.{OutOfMemory as no_memory};
 
-use std::alloc::{AllocError, AllocFailed};
+use std::alloc::AllocError;
 use thiserror::Error;
 
 /// Why a tree gives no net. Each line is that of the statement's first token, counted from 1; a turn of a
@@ -37,14 +37,6 @@ impl From<AllocError> for ExpandFault {
     ghost from_gives = { λ _ e. e ≡ no_memory };
 
     fn from(_error: AllocError) -> ExpandFault {
-        ExpandFault::OutOfMemory
-    }
-}
-
-impl<T: Drop> From<AllocFailed<T>> for ExpandFault {
-    ghost from_gives = { λ _ e. e ≡ no_memory };
-
-    fn from(_error: AllocFailed<T>) -> ExpandFault {
         ExpandFault::OutOfMemory
     }
 }

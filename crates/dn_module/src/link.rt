@@ -1,49 +1,22 @@
 //! From drafts to the net: the nodes to which they refer get their numbers.
 
-ghost use Rattle.std.specs.Prelude.{◌≡◌, ◌≤◌, true, false, map, length, IfOk, IsErrOf, IsTrue};
+ghost use Rattle.std.specs.Prelude.{◌≡◌, ◌≤◌, true, false, map, length, IfOk, IsTrue};
 ghost use Rattle.std.specs.List.{list_all};
-ghost use Rattle.dn_net.specs.Decode.{is_closed, is_formed};
-ghost use Rattle.dn_module.specs.Values.{each};
+ghost use Rattle.dn_net.specs.Terms.{is_closed, is_formed};
+ghost use Rattle.dn_module.specs.Terms.{Links, each, expand_fault_view, has_twice};
 ghost use Rattle.dn_module.specs.Drafts.{names as names_in, number_of, is_known, dests_known, refers_to_known, dest_in, entry_in, unit_in, node_in, node_of};
-ghost use Rattle.dn_module.specs.Expand.{has_twice};
-ghost use Rattle.dn_module.specs.declared.link.LinkFault.TheVariants.{OutOfMemory as no_memory};
-ghost use Rattle.dn_base.specs.Answers.{Answers};
-ghost use Rattle.dn_module.specs.Faults.{expand_fault_view};
+ghost use Rattle.dn_base.specs.Terms.{Answers};
 
 use crate::draft::{Draft, DraftDest, DraftEntry, DraftUnit};
 use crate::fault::ExpandFault;
 use crate::names::NameTable;
 use crate::shared::SharedName;
+use crate::values::{Flaw, NameFault};
 use dn_base::items::Items;
 use dn_base::text::Text;
 use dn_net::net::Net;
 use dn_net::node::{Block, Dest, Entry, NodeDecl, Unit};
-use std::alloc::{AllocError, AllocFailed, Global};
-
-/// Why a node is not linked.
-#[derive(Clone, Copy, Debug, PartialEq, Eq)]
-enum LinkFault {
-    /// A node to which it refers does not exist.
-    Unknown,
-    /// There was no memory for it.
-    OutOfMemory,
-}
-
-impl From<AllocError> for LinkFault {
-    ghost from_gives = { λ _ e. e ≡ no_memory };
-
-    fn from(_error: AllocError) -> LinkFault {
-        LinkFault::OutOfMemory
-    }
-}
-
-impl<T: Drop> From<AllocFailed<T>> for LinkFault {
-    ghost from_gives = { λ _ e. e ≡ no_memory };
-
-    fn from(_error: AllocFailed<T>) -> LinkFault {
-        LinkFault::OutOfMemory
-    }
-}
+use std::alloc::{AllocError, Global};
 
 /// The net of the drafts, or the first fault: a draft refers to a node that does not exist. The names are
 /// those of the drafts.
@@ -73,17 +46,14 @@ fn node_of(alloc: Global, names: &NameTable, draft: &Draft) -> Result<NodeDecl, 
 {
     match node_in(alloc, names, draft) {
         Ok(decl) => Ok(decl),
-        Err(LinkFault::Unknown) => Err(ExpandFault::Unknown { line: draft.line }),
-        Err(LinkFault::OutOfMemory) => Err(ExpandFault::OutOfMemory),
+        Err(fault) => Err(fault.at(draft.line)),
     }
 }
 
 /// The node of a draft, with the nodes to which it refers by their numbers.
-fn node_in(alloc: Global, names: &NameTable, draft: &Draft) -> Result<NodeDecl, LinkFault>
+fn node_in(alloc: Global, names: &NameTable, draft: &Draft) -> Result<NodeDecl, NameFault>
     ensures node { IfOk result (λ n. n ≡ node_in names.now draft.now) }
-    ensures known { IfOk result (λ _. refers_to_known names.now draft.now ≡ true) }
-    ensures unknown { IsErrOf result LinkFault.Unknown → refers_to_known names.now draft.now ≡
-        false }
+    ensures links { Links result (refers_to_known names.now draft.now) }
 {
     let over = match &draft.over {
         Some(text) => Some(number_of(names, text.as_str())?),
@@ -97,112 +67,113 @@ fn node_in(alloc: Global, names: &NameTable, draft: &Draft) -> Result<NodeDecl, 
         text: Text::of(alloc, draft.name.as_str())?,
         role: draft.role,
         accepts: copied(alloc, draft.accepts.as_slice())?,
-        entries: entries_of(alloc, names, draft.entries.as_slice())?,
+        entries: all_linked(alloc, names, draft.entries.as_slice())?,
         over,
         unit,
     })
 }
 
 /// The number of the node with this full name.
-fn number_of(names: &NameTable, text: &str) -> Result<u16, LinkFault>
+fn number_of(names: &NameTable, text: &str) -> Result<u16, NameFault>
     ensures number { IfOk result (λ n. n ≡ number_of names.now text.now) }
-    ensures known { IfOk result (λ _. is_known names.now text.now ≡ true) }
-    ensures unknown { IsErrOf result LinkFault.Unknown → is_known names.now text.now ≡ false }
+    ensures links { Links result (is_known names.now text.now) }
 {
     match names.find(text) {
         Some(number) => Ok(number),
-        None => Err(LinkFault::Unknown),
+        None => Err(NameFault::Flawed(Flaw::Unknown)),
     }
 }
 
-/// The destination, with its node by its number.
-fn dest_in(names: &NameTable, dest: &DraftDest) -> Result<Dest, LinkFault>
-    ensures dest { IfOk result (λ d. d ≡ dest_in names.now dest.now) }
-    ensures known { IfOk result (λ _. is_known names.now dest.now.to ≡ true) }
-    ensures unknown { IsErrOf result LinkFault.Unknown → is_known names.now dest.now.to ≡ false }
-{
-    let node = number_of(names, dest.to.as_str())?;
-    Ok(Dest {
-        node,
-        addr: dest.addr,
-    })
+/// What refers to nodes by their full names, and comes to refer to them by their numbers.
+trait Named {
+    ghost use Rattle.std.specs.Prelude.{ℕ, Bool, List, ◌≡◌, IfOk};
+    ghost use Rattle.dn_module.specs.Flaws.{Links};
+
+    /// What it is with numbers.
+    type Linked: Drop;
+
+    /// It with the numbers of these names.
+    ghost linked_by: { List (List ℕ) → Self → Self.Linked };
+    /// Whether each node to which it refers is among these names.
+    ghost known_by: { List (List ℕ) → Self → Bool };
+
+    /// It with numbers.
+    fn linked(&self, alloc: Global, names: &NameTable) -> Result<Self::Linked, NameFault>
+        ensures linked { IfOk result (λ l. l ≡ linked_by names.now self.now) }
+        ensures links { Links result (known_by names.now self.now) };
 }
 
-fn dests_of(alloc: Global, names: &NameTable, dests: &[DraftDest]) -> Result<Items<Dest>, LinkFault>
-    ensures dests { IfOk result (λ made. made ≡ map (dest_in names.now) dests.now) }
-    ensures known { IfOk result (λ _. dests_known names.now dests.now ≡ true) }
-    ensures unknown { IsErrOf result LinkFault.Unknown → dests_known names.now dests.now ≡ false }
-{
-    let mut made = Vec::with_capacity(alloc, dests.len())?;
-    for dest in dests {
-        made.push(dest_in(names, dest)?)?;
-    }
-    Ok(Items::from_vec(made))
-}
-
-/// The map entry, with its destinations by their numbers.
-fn entry_of(alloc: Global, names: &NameTable, entry: &DraftEntry) -> Result<Entry, LinkFault>
-    ensures entry { IfOk result (λ e. e ≡ entry_in names.now entry.now) }
-    ensures known { IfOk result (λ _. dests_known names.now entry.now.dests ≡ true) }
-    ensures unknown { IsErrOf result LinkFault.Unknown → dests_known names.now entry.now.dests ≡
-        false }
-{
-    Ok(Entry {
-        block: entry.block,
-        dests: dests_of(alloc, names, entry.dests.as_slice())?,
-    })
-}
-
-fn entries_of(
+/// Each of the parts, with numbers.
+fn all_linked<P: Named>(
     alloc: Global,
     names: &NameTable,
-    entries: &[DraftEntry],
-) -> Result<Items<Entry>, LinkFault>
-    ensures entries { IfOk result (λ made. made ≡ map (entry_in names.now) entries.now) }
-    ensures known { IfOk result (λ _. list_all (λ e. dests_known names.now e.dests) entries.now ≡
-        true) }
-    ensures unknown { IsErrOf result LinkFault.Unknown → list_all
-        (λ e. dests_known names.now e.dests) entries.now ≡ false }
+    parts: &[P],
+) -> Result<Items<P::Linked>, NameFault>
+    ensures linked { IfOk result (λ made. made ≡ map (P.linked_by names.now) parts.now) }
+    ensures links { Links result (list_all (P.known_by names.now) parts.now) }
 {
-    let mut made = Vec::with_capacity(alloc, entries.len())?;
-    for entry in entries {
-        made.push(entry_of(alloc, names, entry)?)?;
+    let mut made = Items::from_vec(Vec::with_capacity(alloc, parts.len())?);
+    for part in parts {
+        made.push(part.linked(alloc, names)?)?;
     }
-    Ok(Items::from_vec(made))
+    Ok(made)
+}
+
+impl Named for DraftDest {
+    type Linked = Dest;
+
+    ghost linked_by = { λ known d. dest_in known d };
+
+    ghost known_by = { λ known d. is_known known d.to };
+
+    fn linked(&self, _alloc: Global, names: &NameTable) -> Result<Dest, NameFault> {
+        let node = number_of(names, self.to.as_str())?;
+        Ok(Dest {
+            node,
+            addr: self.addr,
+        })
+    }
+}
+
+impl Named for DraftEntry {
+    type Linked = Entry;
+
+    ghost linked_by = { λ known e. entry_in known e };
+
+    ghost known_by = { λ known e. dests_known known e.dests };
+
+    fn linked(&self, alloc: Global, names: &NameTable) -> Result<Entry, NameFault> {
+        Ok(Entry {
+            block: self.block,
+            dests: all_linked(alloc, names, self.dests.as_slice())?,
+        })
+    }
+}
+
+impl Named for SharedName {
+    type Linked = u16;
+
+    ghost linked_by = { λ known text. number_of known text };
+
+    ghost known_by = { λ known text. is_known known text };
+
+    fn linked(&self, _alloc: Global, names: &NameTable) -> Result<u16, NameFault> {
+        number_of(names, self.as_str())
+    }
 }
 
 /// The unit, with its ports by their numbers.
-fn unit_in(alloc: Global, names: &NameTable, unit: &DraftUnit) -> Result<Unit, LinkFault>
+fn unit_in(alloc: Global, names: &NameTable, unit: &DraftUnit) -> Result<Unit, NameFault>
     ensures unit { IfOk result (λ u. u ≡ unit_in names.now unit.now) }
-    ensures known { IfOk result (λ _. list_all (is_known names.now) unit.now.ports ≡ true) }
-    ensures unknown { IsErrOf result LinkFault.Unknown → list_all (is_known names.now)
-        unit.now.ports ≡ false }
+    ensures links { Links result (list_all (is_known names.now) unit.now.ports) }
 {
     Ok(Unit {
         kind: unit.kind,
         page: unit.page,
         slots: unit.slots,
         reach: unit.reach,
-        ports: numbers_of(alloc, names, unit.ports.as_slice())?,
+        ports: all_linked(alloc, names, unit.ports.as_slice())?,
     })
-}
-
-/// The numbers of the nodes with these full names.
-fn numbers_of(
-    alloc: Global,
-    names: &NameTable,
-    texts: &[SharedName],
-) -> Result<Items<u16>, LinkFault>
-    ensures numbers { IfOk result (λ made. made ≡ map (number_of names.now) texts.now) }
-    ensures known { IfOk result (λ _. list_all (is_known names.now) texts.now ≡ true) }
-    ensures unknown { IsErrOf result LinkFault.Unknown → list_all (is_known names.now) texts.now ≡
-        false }
-{
-    let mut made = Vec::with_capacity(alloc, texts.len())?;
-    for text in texts {
-        made.push(number_of(names, text.as_str())?)?;
-    }
-    Ok(Items::from_vec(made))
 }
 
 /// A copy of the blocks.

@@ -1,20 +1,14 @@
 //! The expansion of the statements of a text, a step at a time.
 
 ghost use Rattle.std.specs.Prelude.{◌≡◌, ◌≤◌, None, length, map};
-ghost use Rattle.dn_parse.specs.Views.{declaration_view, expr_view, item_view};
-ghost use Rattle.dn_module.specs.Drafts.{at_line};
-ghost use Rattle.dn_module.specs.Expand.{nothing_yet, statements, outside, Visibility, line_of, line_of_item, loop_of, rewriting, item_rewriting, all_rewritings, most_steps};
-ghost use Rattle.dn_module.specs.Replace.{Replacement, in_declaration, in_expression, in_item, in_items, hiding};
-ghost use Rattle.dn_module.specs.Stack.{visibility_view, body_view, turns_works, stack_works, work_view};
-ghost use Rattle.dn_module.specs.Machine.{state_view, in_front, with_declaration};
-ghost use Rattle.dn_module.specs.Values.{value};
-ghost use Rattle.dn_base.specs.Answers.{Answers};
-ghost use Rattle.dn_module.specs.Faults.{expand_fault_view};
+ghost use Rattle.dn_parse.specs.Terms.{declaration_view, expr_view, item_view};
+ghost use Rattle.dn_module.specs.Terms.{Replacement, Visibility, all_rewritings, at_line, body_view, expand_fault_view, hiding, in_declaration, in_expression, in_front, in_item, in_items, item_rewriting, line_of, line_of_item, loop_of, most_steps, nothing_yet, outside, rewriting, stack_works, state_view, statements, turns_works, value, visibility_view, with_declaration, work_view};
+ghost use Rattle.dn_base.specs.Terms.{Answers};
 
 use crate::drafts::Drafts;
 use crate::fault::ExpandFault;
 use crate::modules::{Module, Modules};
-use crate::nodes::declared_by;
+use crate::nodes::draft_of;
 use crate::scope::Scope;
 use crate::shared::Interner;
 use crate::stack::{Stack, Turns, Work};
@@ -152,7 +146,7 @@ fn take<'a, 't>(
             let scope = &stack.inner.scope;
             let (args, prefix) = (args.as_slice(), prefix.as_slice());
             let inner = used(alloc, &mut made.interner, scope, *line, found, args, prefix)?;
-            stack.enter(inner)
+            Ok(stack.enter(inner)?)
         }
         Stmt::Loop {
             line,
@@ -184,8 +178,10 @@ fn declare(
         (with_declaration (map (λ k. meaning (k.vtable, k.value)) kinds.now.list.items)
         drafts.old line (in_declaration scope.now (declaration_view decl.now))) }
 {
-    let draft = declared_by(alloc, kinds, interner, scope, line, decl)?;
-    drafts.add(alloc, draft)
+    match draft_of(alloc, kinds, interner, scope, line, decl) {
+        Ok(draft) => drafts.add(alloc, draft),
+        Err(fault) => Err(fault.at(line)),
+    }
 }
 
 /// The turns of a loop, if it has any.

@@ -1,13 +1,12 @@
 //! The modules that were declared.
 
-ghost use Rattle.std.specs.Prelude.{◌≡◌, [], ◌∷◌, ◌++◌, ◌<◌, ◌≤◌, map, length, IfErr, OnOk, OnErr, option_map, false};
+ghost use Rattle.std.specs.Prelude.{◌≡◌, [], ◌∷◌, ◌++◌, ◌<◌, ◌≤◌, map, length, OnOk, OnErr, option_map, false};
 ghost use Rattle.std.specs.List.{list_any};
 ghost use Rattle.std.specs.Str.{bytes_eq};
-ghost use Rattle.dn_parse.specs.Views.{param_view};
-ghost use Rattle.dn_module.specs.Expand.{has_twice, word_of_param, with_module, module_from, usable};
-ghost use Rattle.dn_module.specs.declared.fault.ExpandFault.TheVariants.{OutOfMemory as no_memory};
-ghost use Rattle.dn_base.specs.Answers.{Answers};
+ghost use Rattle.dn_parse.specs.Terms.{param_view};
+ghost use Rattle.dn_module.specs.Expand.{has_twice, module_from, usable, with_module, word_of_param};
 ghost use Rattle.dn_module.specs.Faults.{expand_fault_view};
+ghost use Rattle.dn_base.specs.Terms.{Answers};
 
 use crate::fault::ExpandFault;
 use crate::names::NameTable;
@@ -15,7 +14,7 @@ use crate::shared::SharedName;
 use crate::titles::Titles;
 use dn_base::items::Items;
 use dn_parse::syntax::{Body, Param, Stmt};
-use std::alloc::Global;
+use std::alloc::{AllocError, Global};
 
 /// The most modules of a text.
 const MAX_MODULES: usize = 256;
@@ -151,18 +150,17 @@ fn put<'a, 't>(
     names: &mut NameTable,
     modules: &mut Vec<Known<'a, 't>>,
     known: Known<'a, 't>,
-) -> Result<(), ExpandFault>
+) -> Result<(), AllocError>
     requires room { length names.old < 1024 }
     requires new_name { list_any (bytes_eq known.module.title.now) names.old ≡ false }
     ensures names { OnOk result (names.new ≡ names.old ++ known.entry.module.title.now ∷ []) }
     ensures modules { OnOk result (modules.new.items ≡ modules.old.items ++ known.entry ∷ []) }
     ensures names_err { OnErr result (names.new ≡ names.old) }
     ensures modules_err { OnErr result (modules.new.items ≡ modules.old.items) }
-    ensures err { IfErr result (λ e. e ≡ no_memory) }
 {
     modules.reserve(1)?;
     let name = SharedName::of(alloc, known.module.title)?;
     let _ = names.add(name)?;
-    modules.push(known)?;
+    modules.push_reserved(known);
     Ok(())
 }

@@ -1,17 +1,12 @@
 //! The nodes that declarations make.
 
-ghost use Rattle.std.specs.Prelude.{◌≡◌, ◌≤◌, [], None, Some, length, map, option_map};
-ghost use Rattle.dn_parse.specs.Views.{name_view, maybe_name_view, block_view, dest_view, entry_view, spec_view, role_view, unit_view, declaration_view};
-ghost use Rattle.dn_net.specs.declared.node.Role.TheVariants.{Unit as unit_role};
-ghost use Rattle.dn_kind.specs.Kind.{kind_place};
-ghost use Rattle.dn_module.specs.Values.{each, full_name, full_name_or_none};
-ghost use Rattle.dn_module.specs.Replace.{in_block, in_dest, in_entry, in_reference, in_declared, in_spec, in_declaration};
-ghost use Rattle.dn_module.specs.Drafts.{block_of, dest_of, entry_of, role_of, node_draft, known_kind, draft_of, declared_by};
-ghost use Rattle.dn_base.specs.Answers.{Answers};
-ghost use Rattle.dn_module.specs.Faults.{expand_fault_view, name_fault_view, some_flaw};
+ghost use Rattle.std.specs.Prelude.{◌≡◌, ◌≤◌, length, map, option_map};
+ghost use Rattle.dn_parse.specs.Terms.{block_view, declaration_view, dest_view, entry_view, maybe_name_view, name_view, role_view, spec_view, unit_view};
+ghost use Rattle.dn_kind.specs.Terms.{kind_place};
+ghost use Rattle.dn_module.specs.Terms.{bare_draft, block_of, dest_of, draft_of, each, entry_of, full_name, full_name_or_none, in_block, in_declaration, in_declared, in_dest, in_entry, in_reference, in_spec, known_kind, name_fault_view, node_draft, role_of, some_flaw};
+ghost use Rattle.dn_base.specs.Terms.{Answers};
 
 use crate::draft::{Draft, DraftDest, DraftEntry, DraftUnit};
-use crate::fault::ExpandFault;
 use crate::scope::Scope;
 use crate::shared::{Interner, SharedName};
 use crate::values::{Flaw, NameFault, reference, shared_name, value, value_or, value_within};
@@ -21,28 +16,8 @@ use dn_net::node::{Block, Role};
 use dn_parse::syntax::{BlockExpr, Decl, DeclRole, DestExpr, EntryExpr, NameExpr, Spec, UnitExpr};
 use std::alloc::Global;
 
-/// The node that a declaration makes, with this line, or the fault of its statement.
-pub fn declared_by(
-    alloc: Global,
-    kinds: &Kinds,
-    interner: &mut Interner,
-    scope: &Scope,
-    line: u32,
-    decl: &Decl,
-) -> Result<Draft, ExpandFault>
-    requires few_kinds { length kinds.now.list.items ≤ 255 }
-    ensures { Answers (λ x. x) expand_fault_view result
-        (declared_by (map (λ k. meaning (k.vtable, k.value)) kinds.now.list.items) line
-        (in_declaration scope.now (declaration_view decl.now))) }
-{
-    match draft_of(alloc, kinds, interner, scope, line, decl) {
-        Ok(draft) => Ok(draft),
-        Err(fault) => Err(fault.at(line)),
-    }
-}
-
-/// The node that a declaration makes.
-fn draft_of(
+/// The node that a declaration makes, with this line.
+pub fn draft_of(
     alloc: Global,
     kinds: &Kinds,
     interner: &mut Interner,
@@ -90,30 +65,7 @@ fn unit_of(
         reach,
         ports,
     };
-    Ok(unit_draft(alloc, line, name, unit))
-}
-
-/// A unit with this full name. It takes no memory.
-fn unit_draft(alloc: Global, line: u32, name: SharedName, unit: DraftUnit) -> Draft
-    ensures { result ≡ record {
-      line = line;
-      role = unit_role;
-      name = name;
-      accepts = [];
-      entries = [];
-      over = None;
-      unit = Some unit;
-    } }
-{
-    Draft {
-        line,
-        role: Role::Unit,
-        name,
-        accepts: Items::new(alloc),
-        entries: Items::new(alloc),
-        over: None,
-        unit: Some(unit),
-    }
+    Ok(bare_draft(alloc, line, Role::Unit, name, Some(unit)))
 }
 
 /// The number of the kind with this name.
@@ -145,7 +97,7 @@ fn node_draft(
 {
     let name = shared_name(alloc, interner, scope, name.as_slice())?;
     let Some(spec) = spec else {
-        return Ok(bare_draft(alloc, line, role_of(role), name));
+        return Ok(bare_draft(alloc, line, role_of(role), name, None));
     };
     let accepts = blocks(alloc, scope, spec.accepts.as_slice())?;
     let entries = entries(alloc, interner, scope, spec.entries.as_slice())?;
@@ -161,17 +113,15 @@ fn node_draft(
     })
 }
 
-/// A node without parts. It takes no memory.
-fn bare_draft(alloc: Global, line: u32, role: Role, name: SharedName) -> Draft
-    ensures { result ≡ record {
-      line = line;
-      role = role;
-      name = name;
-      accepts = [];
-      entries = [];
-      over = None;
-      unit = None;
-    } }
+/// A node that neither accepts nor maps anything. It takes no memory.
+fn bare_draft(
+    alloc: Global,
+    line: u32,
+    role: Role,
+    name: SharedName,
+    unit: Option<DraftUnit>,
+) -> Draft
+    ensures { result ≡ bare_draft line role name unit }
 {
     Draft {
         line,
@@ -180,7 +130,7 @@ fn bare_draft(alloc: Global, line: u32, role: Role, name: SharedName) -> Draft
         accepts: Items::new(alloc),
         entries: Items::new(alloc),
         over: None,
-        unit: None,
+        unit,
     }
 }
 
@@ -227,12 +177,12 @@ fn blocks(alloc: Global, scope: &Scope, ranges: &[BlockExpr]) -> Result<Items<Bl
     ensures { Answers (λ x. x) name_fault_view result
         (each block_of (map (in_block scope.now.numbers) (map block_view ranges.now))) }
 {
-    let mut made = Vec::with_capacity(alloc, ranges.len())?;
+    let mut made = Items::from_vec(Vec::with_capacity(alloc, ranges.len())?);
     for range in ranges {
         let block = block(scope, range)?;
         made.push(block)?;
     }
-    Ok(Items::from_vec(made))
+    Ok(made)
 }
 
 /// A destination of a block with this first address, which is its own where none is given.
@@ -261,12 +211,12 @@ fn dests(
     ensures { Answers (λ x. x) name_fault_view result
         (each (dest_of lo) (map (in_dest scope.now) (map dest_view dests.now))) }
 {
-    let mut made = Vec::with_capacity(alloc, dests.len())?;
+    let mut made = Items::from_vec(Vec::with_capacity(alloc, dests.len())?);
     for expr in dests {
         let dest = dest(alloc, interner, scope, lo, expr)?;
         made.push(dest)?;
     }
-    Ok(Items::from_vec(made))
+    Ok(made)
 }
 
 fn entry(
@@ -292,12 +242,12 @@ fn entries(
     ensures { Answers (λ x. x) name_fault_view result
         (each entry_of (map (in_entry scope.now) (map entry_view mappings.now))) }
 {
-    let mut made = Vec::with_capacity(alloc, mappings.len())?;
+    let mut made = Items::from_vec(Vec::with_capacity(alloc, mappings.len())?);
     for mapping in mappings {
         let entry = entry(alloc, interner, scope, mapping)?;
         made.push(entry)?;
     }
-    Ok(Items::from_vec(made))
+    Ok(made)
 }
 
 /// The full names to which names refer.
@@ -310,10 +260,10 @@ fn references(
     ensures { Answers (λ x. x) name_fault_view result
         (each full_name (map (in_reference scope.now) (map name_view names.now))) }
 {
-    let mut made = Vec::with_capacity(alloc, names.len())?;
+    let mut made = Items::from_vec(Vec::with_capacity(alloc, names.len())?);
     for name in names {
         let text = reference(alloc, interner, scope, name.as_slice())?;
         made.push(text)?;
     }
-    Ok(Items::from_vec(made))
+    Ok(made)
 }

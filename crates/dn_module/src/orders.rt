@@ -1,15 +1,13 @@
 //! From a command of a text to that of a script. It stands outside of modules and loops.
 
-ghost use Rattle.std.specs.Prelude.{◌≡◌, length, Ok, Err, IfOk, IfErr, IfSome, OnOk, IsTrue};
+ghost use Rattle.std.specs.Prelude.{◌≡◌, ℕ, length, Ok, Err, IfOk, IfErr, IfSome, OnOk, IsTrue};
 ghost use Rattle.std.specs.List.{list_all};
-ghost use Rattle.dn_parse.specs.Tree.{resolve as asks_resolve, lookup as asks_lookup, view as asks_view, absorb as asks_absorb};
-ghost use Rattle.dn_parse.specs.Views.{name_view, expr_view, grant_view, route_view, order_view};
-ghost use Rattle.dn_parse.specs.Script.{script_view};
-ghost use Rattle.dn_module.specs.Commands.{target_of, command_of, commands_of, commands_or_none, node_within, names_within, makes_within};
-ghost use Rattle.dn_module.specs.Values.{value, full_name};
-ghost use Rattle.dn_module.specs.Drafts.{at_line};
-ghost use Rattle.dn_base.specs.Answers.{Answers};
-ghost use Rattle.dn_module.specs.Faults.{expand_fault_view, name_fault_view, some_flaw};
+ghost use Rattle.dn_parse.specs.Tree.{view as asks_view, absorb as asks_absorb};
+ghost use Rattle.dn_parse.specs.Terms.{expr_view, grant_view, name_view, order_view, route_view, script_view};
+ghost use Rattle.dn_module.specs.declared.command.Command.{Command};
+ghost use Rattle.dn_module.specs.declared.command.Target.{Target};
+ghost use Rattle.dn_module.specs.Terms.{asked_of, at_line, command_of, commands_of, commands_or_none, expand_fault_view, full_name, makes_within, name_fault_view, names_within, node_within, some_flaw, target_of, value};
+ghost use Rattle.dn_base.specs.Terms.{Answers};
 
 use crate::command::{Command, Target};
 use crate::fault::ExpandFault;
@@ -65,8 +63,14 @@ pub fn command(alloc: Global, names: &NameTable, order: &Order) -> Result<Comman
     ensures known { IfOk result (λ c. IsTrue (names_within (length names.now) c)) }
 {
     match order {
-        Order::Resolve(name, expr, mode) => resolve(alloc, names, name, expr, *mode),
-        Order::Lookup(name, expr, mode) => lookup(alloc, names, name, expr, *mode),
+        Order::Resolve(name, expr, mode) => {
+            let (target, addr) = asked(alloc, names, name, expr)?;
+            Ok(Command::Resolve(target, addr, *mode))
+        }
+        Order::Lookup(name, expr, mode) => {
+            let (target, addr) = asked(alloc, names, name, expr)?;
+            Ok(Command::Lookup(target, addr, *mode))
+        }
         Order::View(name, mode) => view(alloc, names, name, *mode),
         Order::Grant(asked) => grant(alloc, names, asked),
         Order::Route(asked) => route(alloc, names, asked),
@@ -104,36 +108,21 @@ fn number(alloc: Global, expr: &Expr) -> Result<u64, Flaw>
     value(&Scope::outside(alloc), expr)
 }
 
-fn resolve(
+/// A node and an address of it, as a command names them, for whatever it asks there.
+fn asked(
     alloc: Global,
     names: &NameTable,
     name: &NameExpr,
     expr: &Expr,
-    mode: Mode,
-) -> Result<Command, NameFault>
-    ensures made { Answers (λ x. x) name_fault_view result
-        (command_of names.now (asks_resolve (name_view name.now) (expr_view expr.now) mode)) }
-    ensures known { IfOk result (λ c. IsTrue (names_within (length names.now) c)) }
+) -> Result<(Target, u64), NameFault>
+    ensures made { (asks : Target → ℕ → Command) →
+        Answers (λ p. asks p.0 p.1) name_fault_view result
+        (asked_of names.now (name_view name.now) (expr_view expr.now) asks) }
+    ensures known { IfOk result (λ p. IsTrue (node_within (length names.now) p.0.node)) }
 {
     let target = target(alloc, names, name)?;
     let addr = number(alloc, expr)?;
-    Ok(Command::Resolve(target, addr, mode))
-}
-
-fn lookup(
-    alloc: Global,
-    names: &NameTable,
-    name: &NameExpr,
-    expr: &Expr,
-    mode: Mode,
-) -> Result<Command, NameFault>
-    ensures made { Answers (λ x. x) name_fault_view result
-        (command_of names.now (asks_lookup (name_view name.now) (expr_view expr.now) mode)) }
-    ensures known { IfOk result (λ c. IsTrue (names_within (length names.now) c)) }
-{
-    let target = target(alloc, names, name)?;
-    let addr = number(alloc, expr)?;
-    Ok(Command::Lookup(target, addr, mode))
+    Ok((target, addr))
 }
 
 fn view(alloc: Global, names: &NameTable, name: &NameExpr, mode: Mode) -> Result<Command, NameFault>

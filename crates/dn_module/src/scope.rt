@@ -1,7 +1,7 @@
 //! What stands for the words of a body: numbers for variables, and full names for names.
 
 ghost use Rattle.std.specs.Prelude.{◌≡◌, [], ◌∷◌, ◌++◌, ◌<◌, drop, map, reverse, OnOk, OnErr, Option, Some, None, option_map};
-ghost use Rattle.dn_module.specs.Replace.{looked_up, node_by, numbers_by, as_they_stand, under, prefix_of};
+ghost use Rattle.dn_module.specs.Terms.{as_they_stand, looked_up, node_by, numbers_by, prefix_of, under};
 
 use crate::shared::SharedName;
 use crate::words::Words;

@@ -1,16 +1,12 @@
 //! What is still to be done while a tree is expanded.
 
-ghost use Rattle.std.specs.Prelude.{◌≡◌, ◌∷◌, [], ◌++◌, IfSome, IfNone, IfErr, OnOk, OnErr, None};
-ghost use Rattle.dn_module.specs.Expand.{Visibility, outside, statements};
-ghost use Rattle.dn_module.specs.Replace.{Replacement, in_items};
-ghost use Rattle.dn_module.specs.Stack.{visibility_view, body_view, rest_works, first_works, turns_works, turn_works, after_works, use_works, stack_works, work_view};
-ghost use Rattle.dn_module.specs.declared.fault.ExpandFault.TheVariants.{OutOfMemory as no_memory};
+ghost use Rattle.std.specs.Prelude.{◌≡◌, ◌∷◌, [], ◌++◌, IfSome, IfNone, OnOk, OnErr, None};
+ghost use Rattle.dn_module.specs.Terms.{Replacement, Visibility, after_works, body_view, first_works, in_items, outside, rest_works, stack_works, statements, turn_works, turns_works, use_works, visibility_view, work_view};
 
-use crate::fault::ExpandFault;
 use crate::modules::Visible;
 use crate::scope::Scope;
 use dn_parse::syntax::Stmt;
-use std::alloc::Global;
+use std::alloc::{AllocError, Global};
 use std::mem;
 
 /// The turns of a loop that are left: from one number to another, which is no less.
@@ -104,19 +100,18 @@ impl<'a, 't> Use<'a, 't> {
     }
 
     /// Goes into the turn of a loop that is next in the innermost body. For want of memory the use is unchanged.
-    pub fn enter_turn(&mut self, turns: Turns<'a, 't>) -> Result<(), ExpandFault>
+    pub fn enter_turn(&mut self, turns: Turns<'a, 't>) -> Result<(), AllocError>
         requires free { self.old.inner.turns ≡ None }
-        ensures err { IfErr result (λ e. e ≡ no_memory) }
         ensures unchanged { OnErr result (use_works self.new ≡ use_works self.old) }
         ensures entered { OnOk result (use_works self.new ≡ turn_works
             (visibility_view self.old.visible) self.old.scope turns.entry ++ use_works self.old) }
     {
         self.outer.reserve(1)?;
         self.scope.enter(turns.variable, turns.next)?;
-        self.outer.push(Rest {
+        self.outer.push_reserved(Rest {
             turns: after(turns),
             statements: self.inner.statements,
-        })?;
+        });
         self.inner = Rest {
             turns: None,
             statements: turns.body,
@@ -156,15 +151,14 @@ impl<'a, 't> Stack<'a, 't> {
     }
 
     /// Goes into a use. For want of memory the stack is unchanged.
-    pub fn enter(&mut self, inner: Use<'a, 't>) -> Result<(), ExpandFault>
-        ensures err { IfErr result (λ e. e ≡ no_memory) }
+    pub fn enter(&mut self, inner: Use<'a, 't>) -> Result<(), AllocError>
         ensures unchanged { OnErr result (stack_works self.new ≡ stack_works self.old) }
         ensures entered { OnOk result (stack_works self.new ≡ use_works inner.entry ++ stack_works
             self.old) }
     {
         self.outer.reserve(1)?;
         let outer = mem::replace(&mut self.inner, inner);
-        self.outer.push(outer)?;
+        self.outer.push_reserved(outer);
         Ok(())
     }
 }

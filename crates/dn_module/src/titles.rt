@@ -3,8 +3,8 @@
 ghost use Rattle.std.specs.Prelude.{◌≡◌, map, position, IfOk, IfSome, not, is_some};
 ghost use Rattle.std.specs.Str.{bytes_eq};
 ghost use Rattle.std.specs.String.{string_bytes};
-ghost use Rattle.dn_parse.specs.Views.{param_view};
-ghost use Rattle.dn_module.specs.Expand.{has_twice, word_of_param};
+ghost use Rattle.dn_parse.specs.Terms.{param_view};
+ghost use Rattle.dn_module.specs.Terms.{has_twice, word_of_param};
 
 use dn_parse::syntax::Param;
 use indexmap::IndexSet;
@@ -60,11 +60,7 @@ impl Titles {
     pub fn place(&self, word: &str) -> Option<usize>
         ensures { result ≡ position (bytes_eq word.now) self.now }
     {
-        let words = self.words.as_ref();
-        match words.get_index_of(word) {
-            Some(place) => Some(place),
-            None => None,
-        }
+        self.words.as_ref().get_index_of(word)
     }
 }
 

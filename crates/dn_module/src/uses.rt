@@ -1,15 +1,9 @@
 //! The use of a module.
 
 ghost use Rattle.std.specs.Prelude.{◌≡◌, map, option_map, false};
-ghost use Rattle.dn_parse.specs.Views.{param_view, arg_view, name_view};
-ghost use Rattle.dn_module.specs.Replace.{in_arg, in_declared};
-ghost use Rattle.dn_module.specs.Expand.{has_twice, fits_param, fit, use_of, given_by};
-ghost use Rattle.dn_module.specs.Stack.{use_works};
-ghost use Rattle.dn_module.specs.Machine.{found_view, replaced_by};
-ghost use Rattle.dn_module.specs.Values.{each};
-ghost use Rattle.dn_module.specs.Words.{given_view};
-ghost use Rattle.dn_base.specs.Answers.{Answers};
-ghost use Rattle.dn_module.specs.Faults.{expand_fault_view, name_fault_view};
+ghost use Rattle.dn_parse.specs.Terms.{arg_view, name_view, param_view};
+ghost use Rattle.dn_module.specs.Terms.{each, expand_fault_view, fit, fits_param, found_view, given_by, given_view, has_twice, in_arg, in_declared, name_fault_view, replaced_by, use_of, use_works};
+ghost use Rattle.dn_base.specs.Terms.{Answers};
 
 use crate::fault::ExpandFault;
 use crate::modules::{Known, Visible};
@@ -80,12 +74,12 @@ fn values_of(
     ensures { Answers (map given_view) name_fault_view result
         (each given_by (map (in_arg scope.now) (map arg_view args.now))) }
 {
-    let mut made = Vec::with_capacity(alloc, args.len())?;
+    let mut made = Items::from_vec(Vec::with_capacity(alloc, args.len())?);
     for arg in args {
         let value = value_of(alloc, interner, scope, arg)?;
         made.push(value)?;
     }
-    Ok(Items::from_vec(made))
+    Ok(made)
 }
 
 /// The value of an argument.

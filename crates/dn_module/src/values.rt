@@ -3,20 +3,17 @@
 ghost use Rattle.std.specs.Prelude.{◌≡◌, ◌≤◌, ◌^◌, if◌then◌else◌, nat_lt, map, IfOk, Option, option_map};
 ghost use Rattle.std.specs.String.{string_bytes};
 ghost use Rattle.dn_parse.specs.Tree.{expressions, variable as variable_of, sum as sum_expression, product as product_expression};
-ghost use Rattle.dn_parse.specs.Views.{expr_view, maybe_expr_view, part_view, name_view};
-ghost use Rattle.dn_module.specs.Values.{value, value_or, value_within, fitting, difference, part_text, full_name};
-ghost use Rattle.dn_module.specs.Replace.{in_expression, in_option, in_part, in_declared, in_reference, node_by, word_of};
-ghost use Rattle.dn_module.specs.Flaws.{Appends, dots_before};
+ghost use Rattle.dn_parse.specs.Terms.{expr_view, maybe_expr_view, name_view, part_view};
+ghost use Rattle.dn_module.specs.Terms.{Appends, difference, dots_before, expand_fault_view, fitting, flaw_fault, full_name, in_declared, in_expression, in_option, in_part, in_reference, name_fault_view, node_by, part_text, some_flaw, value, value_or, value_within, word_of};
 ghost use Rattle.dn_module.specs.declared.values.NameFault.TheVariants.{OutOfMemory as no_memory, Flawed as flawed};
-ghost use Rattle.dn_base.specs.Answers.{Answers};
-ghost use Rattle.dn_module.specs.Faults.{expand_fault_view, name_fault_view, some_flaw, flaw_fault};
+ghost use Rattle.dn_base.specs.Terms.{Answers};
 
 use crate::fault::ExpandFault;
 use crate::scope::Scope;
 use crate::shared::{Interner, SharedName};
 use dn_base::text::Text;
 use dn_parse::syntax::{Expr, PartExpr};
-use std::alloc::{AllocError, AllocFailed, Global};
+use std::alloc::{AllocError, Global};
 
 /// One more than the largest value.
 const LIMIT: u128 = 1 << 64;
@@ -64,14 +61,6 @@ impl From<AllocError> for NameFault {
     ghost from_gives = { λ _ e. e ≡ no_memory };
 
     fn from(_error: AllocError) -> NameFault {
-        NameFault::OutOfMemory
-    }
-}
-
-impl<T: Drop> From<AllocFailed<T>> for NameFault {
-    ghost from_gives = { λ _ e. e ≡ no_memory };
-
-    fn from(_error: AllocFailed<T>) -> NameFault {
         NameFault::OutOfMemory
     }
 }

@@ -1,9 +1,7 @@
 //! What stands for the words of a module's parameters.
 
 ghost use Rattle.std.specs.Prelude.{◌≡◌, List, ℕ, map, drop, option_map, slice_get, is_some, false};
-ghost use Rattle.dn_module.specs.Expand.{has_twice, numbers_of, nodes_of};
-ghost use Rattle.dn_module.specs.Replace.{looked_up};
-ghost use Rattle.dn_module.specs.Words.{given_view, number_part, name_part, part_in, numbers_from};
+ghost use Rattle.dn_module.specs.Terms.{given_view, has_twice, looked_up, name_part, nodes_of, number_part, numbers_from, numbers_of, part_in};
 
 use crate::shared::SharedName;
 use crate::titles::Titles;

@@ -1,5 +1,5 @@
 -- What the node rules say of the blocks of one node.
-use Rattle.std.proofs.Common.{◌≡◌, ℕ, zero, suc, ◌+◌, ◌-◌, ◌≤◌, Bool, true, false, if◌then◌else◌, nat_le, nat_lt, List, [], ◌∷◌, Some, refl, sym, ap, ◌∙◌, arith, IsTrue, leb-true, true≢false, slice_get}
+use Rattle.std.proofs.Common.{◌≡◌, ℕ, zero, suc, ◌+◌, ◌-◌, ◌≤◌, Bool, true, false, if◌then◌else◌, nat_le, nat_lt, List, [], ◌∷◌, Option, Some, refl, sym, ap, ◌∙◌, arith, IsTrue, leb-true, true≢false, slice_get}
 use Rattle.std.proofs.lemmas.Bool.{lt-ltb}
 use Rattle.std.specs.List.{All, list_all}
 use Rattle.dn_net.specs.declared.node.Dest.{Dest}
@@ -35,26 +35,22 @@ counted (f ∷ es) (suc i) a e at w =
     more : (x y z : ℕ) → z ≡ x + y → 1 ≤ y → 1 ≤ z
     more x y z e l = omega arith
 
+-- behind one that is counted there is no other
+none_behind : (g e : Entry) (es : List Entry) (j a : ℕ) (f : Entry) → maps_at (g ∷ es) a ≤ 1 → ◌≡◌ {A = Option Entry} (Some g) (Some e) → IsTrue (within a e.block) → slice_get es j ≡ Some f → IsTrue (within a f.block) → ⊥
+none_behind g e es j a f few at w bt v =
+    let s : within a g.block ≡ true = ap (λ t. within a t.block) (some_same g e at) ∙ w in
+    let c : maps_at (g ∷ es) a ≡ 1 + maps_at es a = maps_at-cons g es a ∙ ap (λ b. (if b then 1 else 0) + maps_at es a) s in
+    many (maps_at es a) (maps_at (g ∷ es) a) c (counted es j a f bt v) few
+  where
+    many : (y z : ℕ) → z ≡ 1 + y → 1 ≤ y → z ≤ 1 → ⊥
+    many y z e l m = omega arith
+
 -- two are counted twice
 counted_twice : (es : List Entry) (i j a : ℕ) (e f : Entry) → maps_at es a ≤ 1 → slice_get es i ≡ Some e → slice_get es j ≡ Some f → IsTrue (within a e.block) → IsTrue (within a f.block) → i ≡ j
 counted_twice [] i j a e f few at bt w v = cc
 counted_twice (g ∷ es) zero zero a e f few at bt w v = refl
-counted_twice (g ∷ es) zero (suc j) a e f few at bt w v =
-    let s : within a g.block ≡ true = ap (λ t. within a t.block) (some_same g e at) ∙ w in
-    let c : maps_at (g ∷ es) a ≡ 1 + maps_at es a = maps_at-cons g es a ∙ ap (λ b. (if b then 1 else 0) + maps_at es a) s in
-    let r : 1 ≤ maps_at es a = counted es j a f bt v in
-    absurd (many (maps_at es a) (maps_at (g ∷ es) a) c r few)
-  where
-    many : (y z : ℕ) → z ≡ 1 + y → 1 ≤ y → z ≤ 1 → ⊥
-    many y z e l m = omega arith
-counted_twice (g ∷ es) (suc i) zero a e f few at bt w v =
-    let s : within a g.block ≡ true = ap (λ t. within a t.block) (some_same g f bt) ∙ v in
-    let c : maps_at (g ∷ es) a ≡ 1 + maps_at es a = maps_at-cons g es a ∙ ap (λ b. (if b then 1 else 0) + maps_at es a) s in
-    let r : 1 ≤ maps_at es a = counted es i a e at w in
-    absurd (many (maps_at es a) (maps_at (g ∷ es) a) c r few)
-  where
-    many : (y z : ℕ) → z ≡ 1 + y → 1 ≤ y → z ≤ 1 → ⊥
-    many y z e l m = omega arith
+counted_twice (g ∷ es) zero (suc j) a e f few at bt w v = absurd (none_behind g e es j a f few at w bt v)
+counted_twice (g ∷ es) (suc i) zero a e f few at bt w v = absurd (none_behind g f es i a e few bt v at w)
 counted_twice (g ∷ es) (suc i) (suc j) a e f few at bt w v = ap suc (counted_twice es i j a e f (fewer (if within a g.block then 1 else 0) (maps_at es a) (maps_at (g ∷ es) a) (maps_at-cons g es a) few) at bt w v)
   where
     fewer : (x y z : ℕ) → z ≡ x + y → z ≤ 1 → y ≤ 1

@@ -8,8 +8,8 @@ use Rattle.dn_net.specs.Chain.{Member}
 use Rattle.dn_net.specs.Names.{name_lt, name_eq, with_name, is_before_first, is_ascending, sorted_names, passing_names, reached_names, end_names}
 use Rattle.dn_net.proofs.Least.{either_true, both_true, true_left, true_right, true_both}
 
-comes : (x y : Name) → name_lt x y ≡ true → (x.node < y.node) ⊎ ((x.node ≡ y.node) × (x.addr < y.addr))
-comes x y h = elim (either_true (nat_lt x.node y.node) ((x.node == y.node) && nat_lt x.addr y.addr) h) [
+pub lower_is : (x y : Name) → name_lt x y ≡ true → (x.node < y.node) ⊎ ((x.node ≡ y.node) × (x.addr < y.addr))
+lower_is x y h = elim (either_true (nat_lt x.node y.node) ((x.node == y.node) && nat_lt x.addr y.addr) h) [
   | inl e ↦ inl (ltb-true _ _ e)
   | inr e ↦ (let b = both_true (x.node == y.node) (nat_lt x.addr y.addr) e in inr (eqb-true _ _ b.0, ltb-true _ _ b.1))
 ]
@@ -22,11 +22,11 @@ not_before : (x y : Name) → ((x.node < y.node) ⊎ ((x.node ≡ y.node) × (x.
 not_before x y never = by (name_lt x y) refl
   where
     by : (b : Bool) → name_lt x y ≡ b → b ≡ false
-    by true e = absurd (never (comes x y e))
+    by true e = absurd (never (lower_is x y e))
     by false e = refl
 
 pub transitive : (x y z : Name) → name_lt x y ≡ true → name_lt y z ≡ true → name_lt x z ≡ true
-transitive x y z p q = before x z (by (comes x y p) (comes y z q))
+transitive x y z p q = before x z (by (lower_is x y p) (lower_is y z q))
   where
     by : (x.node < y.node) ⊎ ((x.node ≡ y.node) × (x.addr < y.addr)) → (y.node < z.node) ⊎ ((y.node ≡ z.node) × (y.addr < z.addr)) → (x.node < z.node) ⊎ ((x.node ≡ z.node) × (x.addr < z.addr))
     by (inl a) (inl b) = inl (omega arith)
@@ -35,7 +35,7 @@ transitive x y z p q = before x z (by (comes x y p) (comes y z q))
     by (inr a) (inr b) = let e = a.0 in let f = b.0 in let g = a.1 in let h = b.1 in inr (omega arith, omega arith)
 
 pub turned : (x y : Name) → name_lt x y ≡ true → name_lt y x ≡ false
-turned x y p = not_before y x (λ q. by (comes x y p) q)
+turned x y p = not_before y x (λ q. by (lower_is x y p) q)
   where
     by : (x.node < y.node) ⊎ ((x.node ≡ y.node) × (x.addr < y.addr)) → (y.node < x.node) ⊎ ((y.node ≡ x.node) × (y.addr < x.addr)) → ⊥
     by (inl a) (inl b) = omega arith
@@ -51,7 +51,7 @@ unequal y x p = by (name_eq x y) refl
     go (inr a) e f = let g = a.1 in omega arith
 
     by : (b : Bool) → name_eq x y ≡ b → b ≡ false
-    by true e = let h = both_true (x.node == y.node) (x.addr == y.addr) e in absurd (go (comes y x p) (eqb-true _ _ h.0) (eqb-true _ _ h.1))
+    by true e = let h = both_true (x.node == y.node) (x.addr == y.addr) e in absurd (go (lower_is y x p) (eqb-true _ _ h.0) (eqb-true _ _ h.1))
     by false e = refl
 
 pub itself : (x : Name) → name_lt x x ≡ false

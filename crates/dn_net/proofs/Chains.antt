@@ -13,7 +13,8 @@ chain_front S zero k x y l c = (x, refl)
 chain_front S (suc n) zero x y l c = absurd (omega arith)
 chain_front S (suc n) (suc k) x y l c = let r = chain_front S n k c.0 y (omega arith) c.2 in (r.0, (c.0, c.1, r.1))
 
-chain_join : {X : Type 0} (S : X → X → Type 0) (j k : ℕ) (x y z : X) → IsChain S j x y → IsChain S k y z → IsChain S (j + k) x z
+-- chains one behind the other
+pub chain_join : {X : Type 0} (S : X → X → Type 0) (j k : ℕ) (x y z : X) → IsChain S j x y → IsChain S k y z → IsChain S (j + k) x z
 chain_join S zero k x y z c d =
     let e : k ≡ 0 + k = omega arith in
     subst (λ n. IsChain S n x z) e (subst (λ w. IsChain S k w z) (sym c) d)

@@ -15,7 +15,7 @@ use Rattle.dn_net.proofs.Least.{least_overlap_is_least}
 use Rattle.dn_net.proofs.Blocks.{spans_overlap, spans_count}
 
 -- a part of a node that is there
-pub part_is : {Y : Type 0} (f : NodeDecl → Y) (o : Option NodeDecl) (d : NodeDecl) (y : Y) → o ≡ Some d → option_map f o ≡ Some y → f d ≡ y
+part_is : {Y : Type 0} (f : NodeDecl → Y) (o : Option NodeDecl) (d : NodeDecl) (y : Y) → o ≡ Some d → option_map f o ≡ Some y → f d ≡ y
 part_is f None d y e g = cc
 part_is f (Some n) d y e g = let s : n ≡ d = cc in let t : f n ≡ y = cc in ap f (sym s) ∙ t
 
@@ -38,12 +38,18 @@ least_is_none d none = by (least_overlap d) refl
     by (Some y) e = let r = (least_overlap_is_least d).0 y e in let f : true ≡ false = sym r.overlap ∙ none y in cc
 
 -- what the parts of a node and its blocks in any order say of its rules
-module _ (d : NodeDecl) (accepts : List Block) (entries : List Entry) (acc : d.accepts ≡ accepts) (ent : d.entries ≡ entries) where
+module _ (o : Option NodeDecl) (d : NodeDecl) (at : o ≡ Some d) (accepts : List Block) (entries : List Entry) (accs : option_map (λ d. d.accepts) o ≡ Some accepts) (ents : option_map (λ d. d.entries) o ≡ Some entries) where
+  acc : d.accepts ≡ accepts
+  acc = part_is (λ d. d.accepts) o d accepts at accs
+
+  ent : d.entries ≡ entries
+  ent = part_is (λ d. d.entries) o d entries at ents
+
   pub range_is : (b : Bool) → (list_all block_in_range accepts && list_all entry_in_range entries) ≡ b → is_in_range d ≡ b
   range_is b h = (λ i. list_all block_in_range (acc i) && list_all entry_in_range (ent i)) ∙ h
 
-  pub repeats_is : (b : Bool) (u : Option UnitPart) → d.unit ≡ u → (list_any (λ e. dests_repeat e.dests) entries || unit_repeats u) ≡ b → repeats d ≡ b
-  repeats_is b u e h = (λ i. list_any (λ e. dests_repeat e.dests) (ent i) || unit_repeats (e i)) ∙ h
+  pub repeats_is : (b : Bool) (u : Option UnitPart) → option_map (λ d. d.unit) o ≡ Some u → (list_any (λ e. dests_repeat e.dests) entries || unit_repeats u) ≡ b → repeats d ≡ b
+  repeats_is b u us h = let e = part_is (λ d. d.unit) o d u at us in (λ i. list_any (λ e. dests_repeat e.dests) (ent i) || unit_repeats (e i)) ∙ h
 
   module _ (spans : List Span) (same : IsPermutation (node_spans entries accepts) spans) where
     of_node : IsPermutation (node_spans d.entries d.accepts) spans
@@ -55,8 +61,11 @@ module _ (d : NodeDecl) (accepts : List Block) (entries : List Entry) (acc : d.a
     pub no_overlap_is : ((b : ℕ) → overlaps_in spans b ≡ false) → least_overlap d ≡ None
     no_overlap_is none = least_is_none d (λ b. sym (spans_overlap d spans of_node b) ∙ none b)
 
-    pub space_is : (b : Bool) (role : Role) (over : Option ℕ) → d.role ≡ role → d.over ≡ over → (not (is_vectors role) || ((nat_le (length entries) 0 && not (is_some over)) && nat_le (count_below (is_accepted_in spans) (top + 1)) 4096)) ≡ b → passes_vector_space d ≡ b
-    space_is b role over r o h = (λ i. not (is_vectors (r i)) || ((nat_le (length (ent i)) 0 && not (is_some (o i))) && nat_le (sym (spans_count d spans of_node) i) 4096)) ∙ h
+    pub space_is : (b : Bool) (role : Role) (over : Option ℕ) → option_map (λ d. d.role) o ≡ Some role → option_map (λ d. d.over) o ≡ Some over → (not (is_vectors role) || ((nat_le (length entries) 0 && not (is_some over)) && nat_le (count_below (is_accepted_in spans) (top + 1)) 4096)) ≡ b → passes_vector_space d ≡ b
+    space_is b role over rs os h =
+        let r = part_is (λ d. d.role) o d role at rs in
+        let p = part_is (λ d. d.over) o d over at os in
+        (λ i. not (is_vectors (r i)) || ((nat_le (length (ent i)) 0 && not (is_some (p i))) && nat_le (sym (spans_count d spans of_node) i) 4096)) ∙ h
 
 pub fault_range : (number : ℕ) (d : NodeDecl) → is_in_range d ≡ false → fault_of_node number d ≡ Some (out_of_range number)
 fault_range number d range = rw range refl

@@ -12,7 +12,7 @@ use Rattle.dn_net.specs.UnitRules.{Fork, is_fork, fork_at, least_fork, IsShallow
 use Rattle.dn_net.proofs.Cycles.{stepping_in_range}
 use Rattle.dn_net.proofs.Firsts.{NoLater, IsLeastName, least_name_is}
 use Rattle.dn_net.proofs.Stops.{stop_listed, listed_stop, stop_there, stop_unit, IsFirstStop, IsFirstStopOr, first_stop_is}
-use Rattle.dn_net.proofs.Ways.{lower_is}
+use Rattle.dn_net.proofs.Ascending.{lower_is}
 
 least_fork_is : (net : List NodeDecl) → least_fork net ≡ fork_at net (least_name net (is_fork net))
 unfolding least_fork

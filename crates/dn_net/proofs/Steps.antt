@@ -7,10 +7,18 @@ use Rattle.dn_net.specs.declared.node.Dest.{Dest}
 use Rattle.dn_net.specs.declared.node.Entry.{Entry}
 use Rattle.dn_net.specs.declared.node.NodeDecl.{NodeDecl}
 use Rattle.dn_net.specs.declared.node.Unit.{Unit as UnitPart}
-use Rattle.dn_net.specs.Decode.{top, within, in_some_block, Sent, by_entries, is_formed, formed_by, is_bare, is_unit, unit_of, is_accepted_at, refers_within, over_within, ports_within, decode}
+use Rattle.dn_net.specs.Decode.{top, within, in_some_block, Sent, by_entries, is_formed, formed_by, is_bare, is_unit, unit_at, unit_of, is_accepted_at, refers_within, over_within, ports_within, decode}
 use Rattle.dn_net.specs.Rules.{is_in_range, block_in_range, entry_in_range, dest_in_range}
 use Rattle.dn_net.specs.Parts.{over_dests}
 use Rattle.dn_net.proofs.Places.{both, list_all-at, list_all-implied}
+
+-- the unit of a number, of what its node says
+pub unit_is : (net : List NodeDecl) (i : ℕ) (o : Option UnitPart) → option_map (λ d. d.unit) (slice_get net i) ≡ Some o → unit_at net i ≡ o
+unit_is net i o e = by (slice_get net i) e
+  where
+    by : (d : Option NodeDecl) → option_map (λ d. d.unit) d ≡ Some o → unit_of d ≡ o
+    by None f = cc
+    by (Some d) f = cc
 
 within_both : (lo hi a : ℕ) → IsTrue (nat_le lo a && nat_le a hi) → (lo ≤ a) × (a ≤ hi)
 within_both lo hi a w = let b = both (nat_le lo a) (nat_le a hi) w in (leb-true lo a b.0, leb-true a hi b.1)

@@ -1,9 +1,9 @@
 -- Rows of units: which units lead to which, all rows of a length in order, and the row that is carried.
-use Rattle.std.proofs.Common.{◌≡◌, ℕ, zero, suc, ◌+◌, ◌^◌, ◌<◌, ◌≤◌, ◌⊎◌, inl, inr, Bool, true, false, if◌then◌else◌, ◌==◌, List, [], ◌∷◌, ◌++◌, map, filter, length, slice_get, Option, Some, None, is_some, IsSome, IsTrue, refl, sym, ap, ◌∙◌, subst, arith, ltb-true, eqb-true}
+use Rattle.std.proofs.Common.{◌≡◌, ℕ, zero, suc, ◌+◌, ◌^◌, ◌<◌, ◌≤◌, ◌⊎◌, inl, inr, Bool, true, false, if◌then◌else◌, ◌==◌, List, [], ◌∷◌, map, filter, length, slice_get, Option, Some, None, is_some, IsSome, IsTrue, refl, sym, ap, ◌∙◌, subst, arith, ltb-true, eqb-true}
 use Rattle.std.specs.List.{flat_map}
 use Rattle.std.proofs.lemmas.Bool.{lt-ltb, eq-eqb, cases_lt}
 use Rattle.std.proofs.lemmas.Option.{slice_get_within}
-use Rattle.dn_base.proofs.Members.{any_member, member_any, member_cases, map_member, member_map}
+use Rattle.dn_base.proofs.Members.{any_member, member_any, map_member, member_map}
 use Rattle.dn_net.specs.declared.node.Name.{Name}
 use Rattle.dn_net.specs.declared.node.NodeDecl.{NodeDecl}
 use Rattle.dn_net.specs.declared.node.Unit.{Unit as UnitPart}
@@ -14,6 +14,7 @@ use Rattle.dn_net.specs.Firsts.{or_else, first_below}
 use Rattle.dn_net.specs.UnitRules.{reaches_unit, port_leads, part_leads, unit_leads, units_from, unit_numbers, next_units, rows_from, unit_rows, slots_product, slots_limit, is_large, first_row, large_row, first_chain, IsShallow, LeadsTo, LeadsOn, IsUnitRow, NoLaterRow, IsFirstOfFour, IsLargeRow, IsFirstLarge, HasShortRows, ChainIsFirst}
 use Rattle.dn_net.proofs.Firsts.{IsFirstOr, first_is}
 use Rattle.dn_net.proofs.Members.{member_filter, filter_member, member_flat_map, flat_map_member}
+use Rattle.dn_net.proofs.Pairs.{Pairwise, pairs_filter, pairs_flat_map, pairs_map, pairs_more}
 use Rattle.dn_net.proofs.Stops.{stop_listed, listed_stop}
 
 -- WHICH UNITS LEAD TO WHICH
@@ -65,8 +66,7 @@ leads_found net shallow u w l =
 -- THE NUMBERS OF THE UNITS
 -- each number comes before those behind it
 abbrev pub Ascending : List ℕ → Type 0
-Ascending [] = Unit {0}
-Ascending (u ∷ us) = ((v : ℕ) → Member v us → u < v) × Ascending us
+Ascending = Pairwise (λ u v. u < v)
 
 -- what stands among the units from a number on
 units_low : (number : ℕ) (net : List NodeDecl) (v : ℕ) → Member v (units_from number net) → number ≤ v
@@ -124,14 +124,6 @@ unit_there net u h = by (slice_get net u) refl h
     by None e k = cc
     by (Some n) e k = slice_get_within net u n e
 
-ascending_filter : (p : ℕ → Bool) (us : List ℕ) → Ascending us → Ascending (filter p us)
-ascending_filter p [] a = tt
-ascending_filter p (u ∷ us) a = by (ascending_filter p us a.1) (p u)
-  where
-    by : Ascending (filter p us) → (b : Bool) → Ascending (if b then u ∷ filter p us else filter p us)
-    by rest true = ((λ v m. a.0 v (member_filter p us v m).0), rest)
-    by rest false = rest
-
 -- ROWS
 -- a row from some first units, each other of which is listed for the one before it
 abbrev pub RowIn : (ℕ → List ℕ) → List ℕ → List ℕ → Type 0
@@ -168,45 +160,23 @@ listed_row next (suc k) first us m =
 
 -- each row comes no later than those behind it
 abbrev pub InTurn : List (List ℕ) → Type 0
-InTurn [] = Unit {0}
-InTurn (us ∷ rows) = ((vs : List ℕ) → Member vs rows → NoLaterRow us vs) × InTurn rows
+InTurn = Pairwise NoLaterRow
 
 same_row : (us : List ℕ) → NoLaterRow us us
 same_row [] = tt
 same_row (u ∷ us) = inr (refl, same_row us)
 
-turn_filter : (p : List ℕ → Bool) (rows : List (List ℕ)) → InTurn rows → InTurn (filter p rows)
-turn_filter p [] t = tt
-turn_filter p (us ∷ rows) t = by (turn_filter p rows t.1) (p us)
-  where
-    by : InTurn (filter p rows) → (b : Bool) → InTurn (if b then us ∷ filter p rows else filter p rows)
-    by rest true = ((λ vs m. t.0 vs (member_filter p rows vs m).0), rest)
-    by rest false = rest
-
 turn_map : (u : ℕ) (rows : List (List ℕ)) → InTurn rows → InTurn (map (λ us. u ∷ us) rows)
-turn_map u [] t = tt
-turn_map u (us ∷ rows) t = (
-  (λ vs m. let r = map_member (λ us. u ∷ us) rows vs m in subst (λ ws. NoLaterRow (u ∷ us) ws) r.2 (inr (refl, t.0 r.0 r.1))),
-  turn_map u rows t.1,
-)
-
-turn_join : (rows others : List (List ℕ)) → InTurn rows → InTurn others → ((us vs : List ℕ) → Member us rows → Member vs others → NoLaterRow us vs) → InTurn (rows ++ others)
-turn_join [] others t s f = s
-turn_join (us ∷ rows) others t s f = (
-  (λ vs m. elim (member_cases rows others vs m) [ inl n ↦ t.0 vs n | inr n ↦ f us vs (inl refl) n ]),
-  turn_join rows others t.1 s (λ ws vs m n. f ws vs (inr m) n),
-)
+turn_map u rows t = pairs_map NoLaterRow (λ us. u ∷ us) rows (pairs_more NoLaterRow (λ us vs. NoLaterRow (u ∷ us) (u ∷ vs)) rows (λ us vs m n r. inr (refl, r)) t)
 
 turn_flat : (f : ℕ → List (List ℕ)) (first : List ℕ) → Ascending first → ((u : ℕ) → InTurn (f u)) → InTurn (flat_map (λ u. map (λ us. u ∷ us) (f u)) first)
-turn_flat f [] a t = tt
-turn_flat f (u ∷ us) a t = turn_join (map (λ vs. u ∷ vs) (f u)) (flat_map (λ u. map (λ us. u ∷ us) (f u)) us) (turn_map u (f u) (t u)) (turn_flat f us a.1 t) across
+turn_flat f first a t = pairs_flat_map (λ u v. u < v) NoLaterRow (λ u. map (λ us. u ∷ us) (f u)) first a (λ u m. turn_map u (f u) (t u)) across
   where
-    across : (vs ws : List ℕ) → Member vs (map (λ vs. u ∷ vs) (f u)) → Member ws (flat_map (λ u. map (λ us. u ∷ us) (f u)) us) → NoLaterRow vs ws
-    across vs ws m n =
-        let p = map_member (λ vs. u ∷ vs) (f u) vs m in
-        let q = member_flat_map (λ u. map (λ us. u ∷ us) (f u)) us ws n in
-        let r = map_member (λ vs. q.0 ∷ vs) (f q.0) ws q.2 in
-        subst (λ ws. NoLaterRow vs ws) r.2 (subst (λ vs. NoLaterRow vs (q.0 ∷ r.0)) p.2 (inl (a.0 q.0 q.1)))
+    across : (u v : ℕ) (us vs : List ℕ) → Member u first → Member v first → u < v → Member us (map (λ us. u ∷ us) (f u)) → Member vs (map (λ us. v ∷ us) (f v)) → NoLaterRow us vs
+    across u v us vs m n l p q =
+        let r = map_member (λ us. u ∷ us) (f u) us p in
+        let s = map_member (λ us. v ∷ us) (f v) vs q in
+        subst (λ ws. NoLaterRow us ws) s.2 (subst (λ ws. NoLaterRow ws (v ∷ s.0)) r.2 (inl l))
 
 -- the rows are in order
 pub rows_in_turn : (next : ℕ → List ℕ) → ((u : ℕ) → Ascending (next u)) → (k : ℕ) (first : List ℕ) → Ascending first → InTurn (rows_from next k first)
@@ -263,7 +233,7 @@ units_of_row net k us m = let r = listed_row (next_units net) k (unit_numbers ne
 
 -- in order
 unit_rows_in_turn : (net : List NodeDecl) (k : ℕ) → InTurn (unit_rows net k)
-unit_rows_in_turn net k = rows_in_turn (next_units net) (λ u. ascending_filter (unit_leads net u) (unit_numbers net) (units_ascend 0 net)) k (unit_numbers net) (units_ascend 0 net)
+unit_rows_in_turn net k = rows_in_turn (next_units net) (λ u. pairs_filter (λ u v. u < v) (unit_leads net u) (unit_numbers net) (units_ascend 0 net)) k (unit_numbers net) (units_ascend 0 net)
 
 -- THE FIRST ROWS
 -- the first row of so many units, or that there is none
@@ -290,7 +260,7 @@ LargeOr net k None = (vs : List ℕ) → IsUnitRow net vs → length vs ≡ k �
 LargeOr net k (Some us) = IsLargeOf net k us
 
 large_is : (net : List NodeDecl) → IsShallow net → (k : ℕ) → LargeOr net k (large_row net k)
-large_is net shallow k = by (large_row net k) (first_row_is (filter (is_large net) (unit_rows net k)) (turn_filter (is_large net) (unit_rows net k) (unit_rows_in_turn net k)))
+large_is net shallow k = by (large_row net k) (first_row_is (filter (is_large net) (unit_rows net k)) (pairs_filter NoLaterRow (is_large net) (unit_rows net k) (unit_rows_in_turn net k)))
   where
     among : (vs : List ℕ) → IsUnitRow net vs → length vs ≡ k → slots_limit < slots_product net vs → Member vs (filter (is_large net) (unit_rows net k))
     among vs r e l = filter_member (is_large net) (unit_rows net k) vs (row_of_units net shallow k vs e r) (lt-ltb slots_limit (slots_product net vs) l)

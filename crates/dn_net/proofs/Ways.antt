@@ -1,5 +1,5 @@
 -- The least list of names along a chain, found name by name, and what `Loop` and `Deep` carry.
-use Rattle.std.proofs.Common.{◌≡◌, ℕ, zero, suc, ◌-◌, ◌<◌, ◌≤◌, ◌⊎◌, ◌↔◌, inl, inr, Bool, true, false, if◌then◌else◌, ◌&&◌, ◌==◌, nat_lt, List, [], ◌∷◌, filter, length, Option, Some, None, refl, sym, ◌∙◌, subst, arith, IsTrue, ltb-true, eqb-true}
+use Rattle.std.proofs.Common.{◌≡◌, ℕ, zero, suc, ◌-◌, ◌<◌, ◌≤◌, ◌⊎◌, ◌↔◌, inl, inr, Bool, true, false, if◌then◌else◌, List, [], ◌∷◌, filter, length, Option, Some, None, refl, sym, ◌∙◌, subst, arith, IsTrue}
 use Rattle.dn_net.specs.declared.node.Name.{Name}
 use Rattle.dn_net.specs.declared.node.NodeDecl.{NodeDecl}
 use Rattle.dn_net.specs.Chain.{Member, IsChain}
@@ -7,32 +7,13 @@ use Rattle.dn_net.specs.Decode.{top, steps, step_limit, Step}
 use Rattle.dn_net.specs.Names.{name_lt, name_eq, with_name, sorted_names}
 use Rattle.dn_net.specs.WalkRules.{first_of, behind, way_by, least_name, comes_to, comes_back, goes_on, cycle_from, path_from, path_names, NotAfter, Along, IsLeastCycle, CycleIsLeast, IsLeastPath, PathIsLeast}
 use Rattle.dn_net.specs.Rules.{KeepsNodeRules}
-use Rattle.dn_net.proofs.Least.{both_true, either_true}
+use Rattle.dn_net.proofs.Ascending.{transitive}
 use Rattle.dn_net.proofs.Cycles.{name_same, comes_to_is_chain, goes_on_is_chain, stepping_in_range}
 use Rattle.dn_net.proofs.Firsts.{NoLater, lower_node, lower_addr, IsLeastName, least_name_is, IsShortest, shortest_cycle_is}
 use Rattle.dn_net.proofs.Members.{member_filter, filter_member, some_same}
 
-pub lower_is : (x y : Name) → IsTrue (name_lt x y) → (x.node < y.node) ⊎ ((x.node ≡ y.node) × (x.addr < y.addr))
-lower_is x y h = elim (either_true (nat_lt x.node y.node) ((x.node == y.node) && nat_lt x.addr y.addr) h) [
-  | inl e ↦ inl (ltb-true _ _ e)
-  | inr e ↦ (let b = both_true (x.node == y.node) (nat_lt x.addr y.addr) e in inr (eqb-true _ _ b.0, ltb-true _ _ b.1))
-]
-
-lower_than : (x y : Name) → (x.node < y.node) ⊎ ((x.node ≡ y.node) × (x.addr < y.addr)) → IsTrue (name_lt x y)
-lower_than x y (inl l) = lower_node x y l
-lower_than x y (inr e) = lower_addr x y e.0 e.1
-
-pub lower_still : (x y z : Name) → IsTrue (name_lt x y) → IsTrue (name_lt y z) → IsTrue (name_lt x z)
-lower_still x y z p q = lower_than x z (by (lower_is x y p) (lower_is y z q))
-  where
-    by : (x.node < y.node) ⊎ ((x.node ≡ y.node) × (x.addr < y.addr)) → (y.node < z.node) ⊎ ((y.node ≡ z.node) × (y.addr < z.addr)) → (x.node < z.node) ⊎ ((x.node ≡ z.node) × (x.addr < z.addr))
-    by (inl a) (inl b) = inl (omega arith)
-    by (inl a) (inr b) = let e = b.0 in inl (omega arith)
-    by (inr a) (inl b) = let e = a.0 in inl (omega arith)
-    by (inr a) (inr b) = let e = a.0 in let f = b.0 in let g = a.1 in let h = b.1 in inr (omega arith, omega arith)
-
 pub no_later_still : (x y z : Name) → NoLater x y → NoLater y z → NoLater x z
-no_later_still x y z (inl p) (inl q) = inl (lower_still x y z p q)
+no_later_still x y z (inl p) (inl q) = inl (transitive x y z p q)
 no_later_still x y z (inl p) (inr e) = inl (subst (λ w. IsTrue (name_lt x w)) e p)
 no_later_still x y z (inr e) (inl q) = inl (subst (λ w. IsTrue (name_lt w z)) (sym e) q)
 no_later_still x y z (inr e) (inr f) = inr (e ∙ f)

@@ -8,7 +8,7 @@ use Rattle.dn_net.specs.declared.node.Block.{Block}
 use Rattle.dn_net.specs.declared.node.Dest.{Dest}
 use Rattle.dn_net.specs.declared.node.Entry.{Entry}
 use Rattle.dn_net.specs.declared.node.Role.{Role}
-use Rattle.dn_net.specs.declared.node.Role.TheVariants.{Plain, Agent, Vectors, Unit as UnitRole}
+use Rattle.dn_net.specs.declared.node.Role.TheVariants.{Agent, Unit as UnitRole}
 use Rattle.dn_net.specs.declared.node.Unit.{Unit as UnitPart}
 use Rattle.dn_net.specs.declared.node.NodeDecl.{NodeDecl}
 use Rattle.dn_net.specs.declared.step.Step.{Step as StepCase}
@@ -137,9 +137,7 @@ ports_within count (Some u) = list_all (λ p. nat_lt p count) u.ports
 -- the role is that of a unit
 abbrev pub is_unit : Role → Bool
 is_unit UnitRole = true
-is_unit Plain = false
-is_unit Agent = false
-is_unit Vectors = false
+is_unit _ = false
 
 -- the node is one from which addresses are asked
 abbrev pub is_agent : Role → Bool

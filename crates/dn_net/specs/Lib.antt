@@ -7,6 +7,7 @@ pub mod Order
 pub mod Parts
 pub mod Rules
 pub mod Spans
+pub mod Terms
 pub mod UnitRules
 pub mod Units
 pub mod WalkRules

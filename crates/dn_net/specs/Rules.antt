@@ -6,7 +6,7 @@ use Rattle.dn_net.specs.declared.node.Block.{Block}
 use Rattle.dn_net.specs.declared.node.Dest.{Dest}
 use Rattle.dn_net.specs.declared.node.Entry.{Entry}
 use Rattle.dn_net.specs.declared.node.Role.{Role}
-use Rattle.dn_net.specs.declared.node.Role.TheVariants.{Plain, Agent, Vectors, Unit as UnitRole}
+use Rattle.dn_net.specs.declared.node.Role.TheVariants.{Vectors}
 use Rattle.dn_net.specs.declared.node.Unit.{Unit as UnitPart}
 use Rattle.dn_net.specs.declared.node.NodeDecl.{NodeDecl}
 use Rattle.dn_net.specs.declared.rules.NodeFault.{NodeFault}
@@ -111,9 +111,7 @@ count_below p (suc k) = count_below p k + (if p k then 1 else 0)
 -- the role is that of interrupt vectors
 abbrev pub is_vectors : Role → Bool
 is_vectors Vectors = true
-is_vectors Plain = false
-is_vectors Agent = false
-is_vectors UnitRole = false
+is_vectors _ = false
 
 -- how many addresses the node accepts
 abbrev pub accepted_count : NodeDecl → ℕ

@@ -2,7 +2,7 @@
 
 ghost use Rattle.std.specs.Prelude.{◌≡◌, ℕ, IfOk, nat_lt, if◌then◌else◌};
 ghost use Rattle.std.specs.List.Sorted.{IsNonDecreasingBy};
-ghost use Rattle.dn_net.specs.Decode.{in_some_block};
+ghost use Rattle.dn_net.specs.Terms.{in_some_block};
 
 use crate::node::Block;
 use dn_base::items::Items;

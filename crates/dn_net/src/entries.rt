@@ -3,9 +3,7 @@
 ghost use Rattle.std.specs.Prelude.{◌≡◌, ◌≤◌, ◌<◌, ◌-◌, ℕ, Bool, Option, Some, IfOk, IfNone, IfSome, IsTrue, All, Contains};
 ghost use Rattle.std.specs.List.{list_all, count_by};
 ghost use Rattle.std.specs.List.Sorted.{IsNonDecreasingBy, IsPermutation};
-ghost use Rattle.dn_net.specs.Decode.{within, by_over, by_entries};
-ghost use Rattle.dn_net.specs.Rules.{entry_in_range};
-ghost use Rattle.dn_net.specs.Order.{places_from};
+ghost use Rattle.dn_net.specs.Terms.{by_entries, by_over, entry_in_range, places_from, within};
 ghost use Rattle.dn_net.specs.declared.node.Entry.{Entry};
 
 use crate::node::Entry;

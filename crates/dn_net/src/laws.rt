@@ -1,10 +1,6 @@
 //! Laws on the definitions of the net, each the contract of a function that does nothing.
 
-ghost use Rattle.dn_net.specs.Legal.{AreLimits, LegalBreaksNoRule};
-ghost use Rattle.dn_net.specs.Names.{EndNamesAreEnds, EndNamesAscend, ReachedIsWithin, AfterStepsIsChain};
-ghost use Rattle.dn_net.specs.Rules.{LeastOverlapIsLeast};
-ghost use Rattle.dn_net.specs.UnitRules.{ChainIsFirst, ForkIsLeast};
-ghost use Rattle.dn_net.specs.WalkRules.{CycleIsLeast, EndlessIsRefused, NoFaultIsShallow, PathIsLeast, ReachIsWithin, ShortestCycleIsShortest};
+ghost use Rattle.dn_net.specs.Terms.{AfterStepsIsChain, AreLimits, ChainIsFirst, CycleIsLeast, EndNamesAreEnds, EndNamesAscend, EndlessIsRefused, ForkIsLeast, LeastOverlapIsLeast, LegalBreaksNoRule, NoFaultIsShallow, PathIsLeast, ReachIsWithin, ReachedIsWithin, ShortestCycleIsShortest};
 
 /// The names that are listed are exactly those that pass a test and end a chain of at most so many steps. What a name
 /// resolves to is so listed, and so are its stops.

@@ -2,7 +2,7 @@
 
 ghost use Rattle.std.specs.Prelude.{◌≡◌, ◌↔◌, ◌<◌, ◌≤◌, ℕ, [], false, Some, length, slice_get, slice_index_or, OnOk, OnErr, IsTrue};
 ghost use Rattle.dn_net.specs.declared.node.Name.{Name};
-ghost use Rattle.dn_net.specs.Names.{with_name, name_lt, is_ascending};
+ghost use Rattle.dn_net.specs.Terms.{is_ascending, name_lt, with_name};
 
 use crate::OutOfMemory;
 use crate::node::Name;

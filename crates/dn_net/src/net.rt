@@ -4,9 +4,7 @@ ghost use Rattle.std.specs.Prelude.{◌≡◌, ◌≢◌, ◌↔◌, [], ◌∷�
 ghost use Rattle.std.specs.List.{list_any, list_all};
 ghost use Rattle.std.specs.Str.{bytes_eq};
 ghost use Rattle.std.specs.Option.{option_copied, is_some};
-ghost use Rattle.dn_net.specs.Decode.{is_formed, unit_at, in_some_block};
-ghost use Rattle.dn_net.specs.Legal.{node_limit, IsNet};
-ghost use Rattle.dn_net.specs.Parts.{over_dests, over_is_based};
+ghost use Rattle.dn_net.specs.Terms.{IsNet, in_some_block, is_formed, node_limit, over_dests, over_is_based, unit_at};
 
 use crate::accepts::AcceptList;
 use crate::entries::EntryList;

@@ -1,8 +1,7 @@
 //! Names, and the parts of a node's declaration.
 
 ghost use Rattle.std.specs.Prelude.{◌≡◌};
-ghost use Rattle.dn_net.specs.Decode.{within};
-ghost use Rattle.dn_net.specs.Units.{has_plain_shape, is_plain_shape};
+ghost use Rattle.dn_net.specs.Terms.{has_plain_shape, is_plain_shape, within};
 
 use dn_base::items::Items;
 use dn_base::text::Text;

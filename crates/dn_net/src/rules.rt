@@ -4,12 +4,9 @@ ghost use Rattle.std.specs.Prelude.{◌≡◌, ◌<◌, ◌+◌, ◌&&◌, ◌||
 ghost use Rattle.std.specs.List.{list_all, list_any};
 ghost use Rattle.std.specs.Option.{option_copied, is_some};
 ghost use Rattle.std.specs.List.Sorted.{IsNonDecreasingBy};
-ghost use Rattle.dn_base.specs.Answers.{Checks};
-ghost use Rattle.dn_net.specs.Decode.{top};
-ghost use Rattle.dn_net.specs.Spans.{is_accepted_in};
+ghost use Rattle.dn_base.specs.Terms.{Checks};
+ghost use Rattle.dn_net.specs.Terms.{KeepsRules, block_in_range, count_below, dest_in_range, dests_repeat, entry_in_range, fault_of_node, has_plain_unit, has_plain_units, is_accepted_in, is_vectors, node_fault, node_fault_view, ports_repeat, same_dest, top, unit_repeats};
 ghost use Rattle.dn_net.specs.declared.node.NodeDecl.{NodeDecl};
-ghost use Rattle.dn_net.specs.Units.{has_plain_unit, has_plain_units};
-ghost use Rattle.dn_net.specs.Rules.{node_fault, node_fault_view, KeepsRules, fault_of_node, is_vectors, count_below, block_in_range, dest_in_range, entry_in_range, same_dest, dests_repeat, ports_repeat, unit_repeats};
 
 use crate::net::Net;
 use crate::node::{Block, Dest, Entry, Role, TOP, Unit};

@@ -3,9 +3,7 @@
 ghost use Rattle.std.specs.Prelude.{◌≡◌, ℕ, ◌+◌, ◌<◌, ◌≤◌, ◌&&◌, ◌||◌, nat_lt, false, IfOk, IfSome, IfNone, IsTrue, All};
 ghost use Rattle.std.specs.List.{list_all};
 ghost use Rattle.std.specs.List.Sorted.{IsPermutation, IsNonDecreasingBy};
-ghost use Rattle.dn_net.specs.Decode.{top};
-ghost use Rattle.dn_net.specs.Rules.{block_in_range, entry_in_range, count_below};
-ghost use Rattle.dn_net.specs.Spans.{node_spans, overlaps_in, is_accepted_in};
+ghost use Rattle.dn_net.specs.Terms.{block_in_range, count_below, entry_in_range, is_accepted_in, node_spans, overlaps_in, top};
 
 use crate::node::{Block, Entry};
 use std::alloc::{AllocError, Global};

@@ -2,9 +2,7 @@
 
 ghost use Rattle.std.specs.Prelude.{◌≡◌, ◌≢◌, ◌↔◌, ℕ, Option, length, map, ◌-◌, ◌<◌, ◌≤◌, nat_lt, nat_le, IsTrue, slice_get, Some};
 ghost use Rattle.std.specs.List.{All, list_all, count_by};
-ghost use Rattle.dn_net.specs.Decode.{is_accepted, is_stop, steps, step_view, leads_within, leads_in_range, is_closed, decode, sent_names, by_over, by_entries, top, within};
-ghost use Rattle.dn_net.specs.Parts.{over_dests};
-ghost use Rattle.dn_net.specs.Rules.{KeepsRules, entry_in_range};
+ghost use Rattle.dn_net.specs.Terms.{KeepsRules, by_entries, by_over, decode, entry_in_range, is_accepted, is_closed, is_stop, leads_in_range, leads_within, over_dests, sent_names, step_view, steps, top, within};
 
 use crate::entries::EntryList;
 use crate::net::Net;

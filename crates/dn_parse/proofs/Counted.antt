@@ -1,8 +1,6 @@
 -- The parentheses that are open behind the front of a spelling: the machine counts as many as the laws do.
 use Rattle.std.proofs.Common.{◌≡◌, ◌∙◌, inl, inr, ap, sym, refl, subst, ℕ, zero, suc, ◌+◌, ◌-◌, ◌==◌, eqb-true, Bool, true, false, cond, not, ◌&&◌, if◌then◌else◌, List, [], ◌∷◌, ◌++◌, append_assoc, arith}
 use Rattle.std.proofs.lemmas.List.Sums.{sum_by-cons}
-use denote.Enum.Declared.{tag_of}
-use Rattle.dn_token.specs.contracts.token.Sign.{the_type as the_signs}
 use Rattle.dn_token.specs.declared.token.Sign.{Sign}
 use Rattle.dn_token.specs.declared.token.Sign.TheVariants.{Semicolon, OpenParenthesis, CloseParenthesis}
 use Rattle.dn_token.specs.Token.{Lexeme, Token, word, keyword, number, sign}
@@ -14,7 +12,7 @@ use Rattle.dn_parse.specs.Syntax.{in_parentheses, Parenthesised, SpellsText, Via
 use Rattle.dn_parse.specs.Machine.{parentheses}
 use Rattle.dn_parse.specs.Laws.{opening, closing, open_parentheses}
 use Rattle.dn_parse.proofs.Taken.{Inner}
-use Rattle.dn_parse.proofs.Sets.{both_left, both_right, not_true}
+use Rattle.dn_parse.proofs.Sets.{both_left, both_right, not_true, sign_told}
 
 -- the parentheses that the machine has open behind a list, with so many before it
 abbrev pub opened : ℕ → List Token → ℕ
@@ -49,34 +47,19 @@ abbrev sort_is : Sign → Sort → Bool
 sort_is m (the_sign s) = same_sign m s
 sort_is m _ = false
 
-signs_alike : (m s u : Sign) → same_sign s u ≡ true → same_sign m u ≡ same_sign m s
-signs_alike m s u e = ap (λ (n : ℕ). n == tag_of the_signs m) (eqb-true (tag_of the_signs u) (tag_of the_signs s) e)
+no_sign : (m : Sign) (s : Sort) (l : Lexeme) → ((u : Sign) → is s (sign u) ≡ false) → is s l ≡ true → is_sign m l ≡ false
+no_sign m s (word w) never e = refl
+no_sign m s (keyword k) never e = refl
+no_sign m s (number n) never e = refl
+no_sign m s (sign u) never e = let f = never u in cc
 
 sort_told : (m : Sign) (s : Sort) (l : Lexeme) → is s l ≡ true → is_sign m l ≡ sort_is m s
-sort_told m a_word (word w) e = refl
-sort_told m a_word (keyword k) e = cc
-sort_told m a_word (number n) e = cc
-sort_told m a_word (sign u) e = cc
-sort_told m any_word (word w) e = refl
-sort_told m any_word (keyword k) e = refl
-sort_told m any_word (number n) e = cc
-sort_told m any_word (sign u) e = cc
-sort_told m a_number (word w) e = cc
-sort_told m a_number (keyword k) e = cc
-sort_told m a_number (number n) e = refl
-sort_told m a_number (sign u) e = cc
-sort_told m (the_word v) (word w) e = refl
-sort_told m (the_word v) (keyword k) e = cc
-sort_told m (the_word v) (number n) e = cc
-sort_told m (the_word v) (sign u) e = cc
-sort_told m (the_keyword x) (word w) e = cc
-sort_told m (the_keyword x) (keyword k) e = refl
-sort_told m (the_keyword x) (number n) e = cc
-sort_told m (the_keyword x) (sign u) e = cc
-sort_told m (the_sign s) (word w) e = cc
-sort_told m (the_sign s) (keyword k) e = cc
-sort_told m (the_sign s) (number n) e = cc
-sort_told m (the_sign s) (sign u) e = signs_alike m s u e
+sort_told m a_word l e = no_sign m a_word l (λ u. refl) e
+sort_told m any_word l e = no_sign m any_word l (λ u. refl) e
+sort_told m a_number l e = no_sign m a_number l (λ u. refl) e
+sort_told m (the_word w) l e = no_sign m (the_word w) l (λ u. refl) e
+sort_told m (the_keyword k) l e = no_sign m (the_keyword k) l (λ u. refl) e
+sort_told m (the_sign s) l e = ap (is_sign m) (sign_told s l e)
 
 -- so many are open behind a token that opens one, or closes one, or does neither
 abbrev after : Bool → Bool → ℕ → ℕ
@@ -202,15 +185,9 @@ steps_opened n m (t ∷ ts) (j, s, a) =
     let l = t.lexeme in
     ap (λ (i : ℕ). opened i ts) (step_parentheses n j (is_sign OpenParenthesis l) (is_sign CloseParenthesis l) (is_sign Semicolon l) s.0 s.1) ∙ steps_opened j m ts a
 
-open_told : (u : Sign) → same_sign OpenParenthesis u ≡ true → same_sign CloseParenthesis u ≡ false
-open_told u e = signs_alike CloseParenthesis OpenParenthesis u e
-
 -- a token that opens one closes none
 not_both : (l : Lexeme) → is_sign OpenParenthesis l ≡ true → is_sign CloseParenthesis l ≡ false
-not_both (word w) e = refl
-not_both (keyword k) e = refl
-not_both (number n) e = refl
-not_both (sign u) e = open_told u e
+not_both l e = ap (is_sign CloseParenthesis) (sign_told OpenParenthesis l e)
 
 step_counts : (n m : ℕ) (o c : Bool) → step_of o c n m → (o ≡ true → c ≡ false) → n + cond o 1 0 ≡ m + cond c 1 0
 step_counts n m true true s h = let f = h refl in cc

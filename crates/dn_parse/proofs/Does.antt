@@ -1,5 +1,5 @@
 -- What the machine does with a form is what is read from the tokens: the steps by which parts are put together.
-use Rattle.std.proofs.Common.{◌≡◌, ◌∙◌, ap, sym, refl, subst, ℕ, zero, suc, ◌<◌, ◌≤◌, Bool, true, false, cond, List, [], ◌∷◌, ◌++◌, length, Some, None, Result, Ok, Err, append_assoc, append-nil, arith}
+use Rattle.std.proofs.Common.{◌≡◌, ◌∙◌, ap, sym, refl, subst, ℕ, zero, suc, ◌<◌, ◌≤◌, Bool, true, false, cond, List, [], ◌∷◌, ◌++◌, length, Option, Some, None, Result, Ok, Err, append_assoc, append-nil, arith}
 use denote.Enum.Bare.{same_true}
 use Rattle.dn_token.specs.contracts.token.Sign.{the_type as the_signs}
 use Rattle.dn_token.specs.declared.token.Keyword.{Keyword}
@@ -10,7 +10,7 @@ use Rattle.dn_parse.specs.Forms.{Form, takes, does, either, many, Sort, a_word, 
 use Rattle.dn_parse.specs.Forms.{and_then as both}
 use Rattle.dn_parse.specs.Syntax.{the, this, mark, at_most}
 use Rattle.dn_parse.specs.Machine.{taken, followed, or_else, repeated, move, fed, feed, Stop, refused, Outcome, stopped, Place, inside, run, go, go_in, is_deep, parentheses}
-use Rattle.dn_parse.specs.Descent.{and_then, Read, Next, Reader, optional, after, after_sign, after_keyword, after_word, or_refused, sign_at, keyword_at, the_word_at, word_of, any_of, value_or, word_at, any_word_at, with_front, row, row_from, row_at, one_more}
+use Rattle.dn_parse.specs.Descent.{and_then, Read, Next, Reader, optional, after, after_sign, after_keyword, after_word, or_refused, sign_at, keyword_at, the_word_at, word_of, any_of, value_or, value_at, word_at, any_word_at, with_front, row, row_from, row_at, one_more}
 use Rattle.dn_parse.proofs.Turns.{run_then, run_does}
 
 -- From the values that were pushed so far a form makes one value: what was read, or the same stop. The parentheses that are open are counted before and behind it.
@@ -120,48 +120,45 @@ unfolding sign_at after_sign
 sign_after s n m [] p q = record { it = λ line k vs. refl }
 sign_after s n m (t ∷ ts) p q = one_token (the_sign s) n m t ts (sign_counts s n m p q) (λ l vs. refl) (is_sign s t.lexeme) refl
 
--- a word
-word_token : (l : Lexeme) (t : Token) (ts : List Token) (n : ℕ) → t.lexeme ≡ l → Does (takes a_word) n n (t ∷ ts) [] text (value_or (word_of l) ts (t ∷ ts))
-word_token (word w) t ts n e = record {
-  it = record {
-    runs = λ line k vs. ap (λ l. go (feed (takes a_word ∷ k) vs l) line n l (suc (length ts)) (λ p. run p ts)) e;
-    no_longer = omega arith;
-  };
-}
-word_token (keyword j) t ts n e = record { it = λ line k vs. ap (λ l. go (feed (takes a_word ∷ k) vs l) line n l (suc (length ts)) (λ p. run p ts)) e }
-word_token (number x) t ts n e = record { it = λ line k vs. ap (λ l. go (feed (takes a_word ∷ k) vs l) line n l (suc (length ts)) (λ p. run p ts)) e }
-word_token (sign s) t ts n e = record { it = λ line k vs. ap (λ l. go (feed (takes a_word ∷ k) vs l) line n l (suc (length ts)) (λ p. run p ts)) e }
+-- what a token of a sort says leaves the parentheses as they are, and a token that says nothing is not of the sort
+abbrev TellsBy : Sort → ℕ → Lexeme → Option (List ℕ) → Type 0
+TellsBy s n l None = is s l ≡ false
+TellsBy s n l (Some w) = (is s l ≡ true) × ((vs : List Value) → kept s l vs ≡ text w ∷ vs) × (parentheses n l ≡ n) × (is_deep n l ≡ false)
+
+text_does : (s : Sort) (value : Lexeme → Option (List ℕ)) (n : ℕ) → ((l : Lexeme) → TellsBy s n l (value l)) → (ts : List Token) → Does (takes s) n n ts [] text (value_at value ts)
+text_does s value n tells [] = record { it = λ line k vs. refl }
+text_does s value n tells (t ∷ ts) = go_on (value t.lexeme) (tells t.lexeme) where
+  go_on : (o : Option (List ℕ)) → TellsBy s n t.lexeme o → Does (takes s) n n (t ∷ ts) [] text (value_or o ts (t ∷ ts))
+  go_on None e = record { it = λ line k vs. refuse_go s t.lexeme line n k vs (suc (length ts)) (λ p. run p ts) e }
+  go_on (Some w) (e, q, c, d) = record {
+    it = record {
+      runs = λ line k vs. take_go s t.lexeme line n k vs (suc (length ts)) (λ p. run p ts) e ∙ counted n n t.lexeme line k (kept s t.lexeme vs) (suc (length ts)) (λ p. run p ts) (c, d) ∙ ap (λ us. run (inside line n k us) ts) (q vs);
+      no_longer = omega arith;
+    };
+  }
+
+-- a word that is not reserved, and a word of either sort
+word_tells : (n : ℕ) (l : Lexeme) → TellsBy a_word n l (word_of l)
+word_tells n (word w) = (refl, (λ vs. refl), refl, refl)
+word_tells n (keyword j) = refl
+word_tells n (number x) = refl
+word_tells n (sign s) = refl
 
 pub word_does : (n : ℕ) (ts : List Token) → Does (takes a_word) n n ts [] text (word_at ts)
 unfolding word_at
-word_does n [] = record { it = λ line k vs. refl }
-word_does n (t ∷ ts) = word_token t.lexeme t ts n refl
+word_does n ts = text_does a_word word_of n (word_tells n) ts
 
-any_token : (l : Lexeme) (t : Token) (ts : List Token) (n : ℕ) → t.lexeme ≡ l → Does (takes any_word) n n (t ∷ ts) [] text (value_or (any_of l) ts (t ∷ ts))
-any_token (word w) t ts n e = record {
-  it = record {
-    runs = λ line k vs. ap (λ l. go (feed (takes any_word ∷ k) vs l) line n l (suc (length ts)) (λ p. run p ts)) e;
-    no_longer = omega arith;
-  };
-}
-any_token (keyword j) t ts n e = record {
-  it = record {
-    runs = λ line k vs. ap (λ l. go (feed (takes any_word ∷ k) vs l) line n l (suc (length ts)) (λ p. run p ts)) e;
-    no_longer = omega arith;
-  };
-}
-any_token (number x) t ts n e = record { it = λ line k vs. ap (λ l. go (feed (takes any_word ∷ k) vs l) line n l (suc (length ts)) (λ p. run p ts)) e }
-any_token (sign s) t ts n e = record { it = λ line k vs. ap (λ l. go (feed (takes any_word ∷ k) vs l) line n l (suc (length ts)) (λ p. run p ts)) e }
+any_tells : (n : ℕ) (l : Lexeme) → TellsBy any_word n l (any_of l)
+any_tells n (word w) = (refl, (λ vs. refl), refl, refl)
+any_tells n (keyword j) = (refl, (λ vs. refl), refl, refl)
+any_tells n (number x) = refl
+any_tells n (sign s) = refl
 
 pub any_word_does : (n : ℕ) (ts : List Token) → Does (takes any_word) n n ts [] text (any_word_at ts)
 unfolding any_word_at
-any_word_does n [] = record { it = λ line k vs. refl }
-any_word_does n (t ∷ ts) = any_token t.lexeme t ts n refl
+any_word_does n ts = text_does any_word any_of n (any_tells n) ts
 
 -- one form or else another, by the token with which the first begins
-abbrev pub Begun : Sort → Lexeme → Type 0
-Begun s l = (vs : List Value) → kept s l vs ≡ vs
-
 choose_token : {X : Type 0} (s : Sort) (f g : Form) (n j m : ℕ) (t : Token) (ts : List Token) (ws : List Value) (val : X → Value) (present : List Token → Read X) (absent : Read X) → Counts s n j → ((l : Lexeme) (vs : List Value) → kept s l vs ≡ vs) → ((rest : List Token) → Does f j m rest ws val (present rest)) → Does g n m (t ∷ ts) ws val absent → (b : Bool) → is s t.lexeme ≡ b → Does (either (both (takes s) f) g) n m (t ∷ ts) ws val (optional (cond b (Some ts) None) present absent)
 choose_token s f g n j m t ts ws val present absent c q h h' true e =
     let l = t.lexeme in

@@ -7,8 +7,7 @@ use Rattle.dn_parse.specs.Forms.{Form, takes, does, and_then, either, many, pare
 use Rattle.dn_parse.specs.Syntax.{after_open, statement_form, expr, term, factor, less, more_terms, more_factors, index, part_form, more_parts, name_form, upper, block_form, at_addr, dest_form, more_dests, entry_form, more_blocks, accept, more_entries, map_form, over, spec_form, plain_form, agent_form, vectors_form, more_names, unit_form, param_form, more_params, params_form, module_form, arg_form, more_args, args_form, use_form, loop_form, access_form, maybe_access, command_form}
 use Rattle.dn_parse.specs.Machine.{Move, to, skips, refuses, taken, followed, or_else, repeated, move, Fed, on, stuck, closed, fed, feed}
 use Rattle.dn_parse.specs.Machine.{over as ended}
-use Rattle.dn_parse.proofs.Sets.{both_left, both_right}
-use Rattle.dn_parse.proofs.Reach.{semicolon_told, parenthesis_told}
+use Rattle.dn_parse.proofs.Sets.{both_left, both_right, sign_told}
 
 -- a form that takes no `;`
 abbrev pub is_free : Form → Bool
@@ -47,7 +46,7 @@ other_token : (s : Sort) (l : Lexeme) (b : Bool) → is_sign Semicolon l ≡ b �
 other_token s l true e i h = absurd (clash (is s (sign Semicolon)) (told i) h)
   where
     told : is s l ≡ true → is s (sign Semicolon) ≡ true
-    told i = rw (semicolon_told l e) at i
+    told i = rw (sign_told Semicolon l e) at i
 
     clash : (b : Bool) → b ≡ true → not b ≡ true → ⊥
     clash true e f = cc
@@ -59,7 +58,7 @@ takes_free s vs l true e h = (other_token s l (is_sign Semicolon l) refl e h, tt
 takes_free s vs l false e h = tt
 
 parenthesised_free : (vs : List Value) (l : Lexeme) (b : Bool) → is_sign OpenParenthesis l ≡ b → FreeMove l (taken b (after_open ∷ []) vs)
-parenthesised_free vs l true e = (ap (is_sign Semicolon) (parenthesis_told l e), (open_free, tt))
+parenthesised_free vs l true e = (ap (is_sign Semicolon) (sign_told OpenParenthesis l e), (open_free, tt))
 parenthesised_free vs l false e = tt
 
 followed_free : (m : Move) (g : Form) (l : Lexeme) → is_free g ≡ true → FreeMove l m → ((ws : List Value) → FreeMove l (move g ws l)) → FreeMove l (followed m g (λ ws. move g ws l))

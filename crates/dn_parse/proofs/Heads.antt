@@ -1,8 +1,5 @@
 -- What is read of each statement is what the machine does with its form.
 use Rattle.std.proofs.Common.{◌≡◌, ◌∙◌, ap, sym, refl, ℕ, suc, Bool, true, false, cond, List, [], ◌∷◌, ◌++◌, length, codes, Option, Some, None, Ok, Err, arith}
-use denote.Enum.Bare.{same_true}
-use Rattle.dn_token.specs.contracts.token.Sign.{the_type as the_signs}
-use Rattle.dn_token.specs.contracts.token.Keyword.{the_type as the_keywords}
 use Rattle.dn_parse.specs.declared.syntax.Mode.TheVariants.{Unsaid, Read as ForRead, Write as ForWrite}
 use Rattle.dn_token.specs.declared.token.Keyword.{Keyword}
 use Rattle.dn_token.specs.declared.token.Keyword.TheVariants.{Agent, Vectors, Unit as UnitWord, Module, Use, For, In, End, Begin, Is, Accept, Map, To, And, At, Over, Kind, Page, Slots, Reach, As, Num, Node, Resolve, Lookup, View, Grant, Route, Revoke, Dump, Split, Absorb}
@@ -10,14 +7,15 @@ use Rattle.dn_token.specs.declared.token.Sign.{Sign}
 use Rattle.dn_token.specs.declared.token.Sign.TheVariants.{Comma, OpenParenthesis, CloseParenthesis, Dots}
 use Rattle.dn_token.specs.Token.{Lexeme, Token, word, keyword, number, sign}
 use Rattle.dn_parse.specs.Tree.{Expression, Part, Role, plain_role, agent_role, vectors_role, Spec, Param, Arg, number_arg, node_arg, Declaration, node, unit, Order, revoke, absorb, Statement, declares, heads_module, uses, orders}
-use Rattle.dn_parse.specs.Actions.{Value, Action, perform, text, expression, name, names, spec, param, params, arg, args, mode, statement, first_name, next_name, make_number_param, make_node_param, no_params, first_param, next_param, make_number_arg, make_node_arg, no_args, first_arg, next_arg, make_plain, make_agent, make_vectors, make_unit, make_module, make_use, make_loop, make_end, make_begin, no_access, for_read, for_write, make_resolve, make_lookup, make_view, make_grant, make_route, make_revoke, make_dump, make_split, make_absorb}
+use Rattle.dn_parse.specs.Actions.{Value, Action, perform, text, expression, name, names, spec, param, params, arg, args, mode, statement, first_item, next_item, make_number_param, make_node_param, no_params, make_number_arg, make_node_arg, no_args, make_plain, make_agent, make_vectors, make_unit, make_module, make_use, make_loop, make_end, make_begin, no_access, for_read, for_write, make_resolve, make_lookup, make_view, make_grant, make_route, make_revoke, make_dump, make_split, make_absorb}
 use Rattle.dn_parse.specs.Forms.{Form, takes, does, either, a_word, any_word, the_keyword, the_sign, is, is_sign}
 use Rattle.dn_parse.specs.Forms.{and_then as both}
 use Rattle.dn_parse.specs.Syntax.{the, this, mark, factor, term, expr, part_form, name_form, spec_form, more_names, param_form, more_params, params_form, arg_form, more_args, args_form, plain_form, agent_form, vectors_form, unit_form, module_form, use_form, loop_form, access_form, maybe_access, command_form, statement_form}
 use Rattle.dn_parse.specs.Machine.{Move, to, skips, refuses, taken, followed, or_else, move, Fed, on, stuck, fed, inside, run, go, feed, refused}
 use Rattle.dn_parse.specs.Descent.{and_then, optional, Read, Reader, sign_at, keyword_at, word_at, any_word_at, row, with_front, after_sign, after_keyword, the_word_at, name_at, expr_at, spec_at, param_at, next_param_at, params_at, closed_params_at, arg_at, next_arg_at, args_at, closed_args_at, next_port_at, ports_at, node_at, measure_at, unit_at, module_at, use_at, loop_at, mode_at, access_at, resolve_at, lookup_at, view_at, grant_at, route_at, order_at, as_declared, keyword_statement_at, statement_by, statement_at}
-use Rattle.dn_parse.proofs.Does.{Does, Row, does_by, seq, pass, last, act, sign_counts, keyword_after, sign_after, word_does, any_word_does, if_keyword, if_word, the_word_after, seq_on, does_same, assoc, row_does, most_row_does}
-use Rattle.dn_parse.proofs.Readers.{bind_same, step_does, expr_read, expr_does, name_read, name_does, spec_does}
+use Rattle.dn_parse.proofs.Does.{Does, Row, does_by, seq, pass, last, act, keyword_after, sign_after, word_does, any_word_does, if_keyword, if_word, the_word_after, seq_on, does_same, assoc, most_row_does}
+use Rattle.dn_parse.proofs.Readers.{bind_same, sign_row, row_read, expr_read, expr_does, name_read, name_does, spec_does}
+use Rattle.dn_parse.proofs.Sets.{keyword_told, sign_told}
 use Rattle.dn_parse.proofs.Turns.{run_fed}
 
 -- a value made of what was read
@@ -50,17 +48,11 @@ feeds_alike refuses a M k vs l e = ap (λ b. fed (followed (taken b [] (perform 
 
 listed_token : {X Y : Type 0} (P M : Form) (a : Action) (listV : List X → Value) (ws : List Value) (val : Y → Value) (reader : Reader (List X)) (fin : List X × List Token → Read Y) → ClosedList P M a listV ws val reader fin → (t : Token) (ts : List Token) (b : Bool) → is_sign CloseParenthesis t.lexeme ≡ b → Listed P a M (t ∷ ts) ws val reader fin (cond b (Some ts) None)
 listed_token P M a listV ws val reader fin c t ts true e =
-    let l : t.lexeme ≡ sign CloseParenthesis = close_told t.lexeme e in
+    let l = sign_told CloseParenthesis t.lexeme e in
     does_by (both (either P (does a)) (both (mark CloseParenthesis) M)) M 1 0 0 (t ∷ ts) ts ws (listV [] ∷ ws) val (fin ([], ts))
     (λ line k vs. ap (λ u. go (feed (both (either P (does a)) (both (mark CloseParenthesis) M) ∷ k) (ws ++ vs) u) line 1 u (suc (length ts)) (λ p. run p ts)) l ∙ ap (λ m. go (fed (followed (or_else m (move (does a) (ws ++ vs) (sign CloseParenthesis))) (both (mark CloseParenthesis) M) (λ us. move (both (mark CloseParenthesis) M) us (sign CloseParenthesis))) k (λ us. feed k us (sign CloseParenthesis))) line 1 (sign CloseParenthesis) (suc (length ts)) (λ p. run p ts)) (c.refusing (ws ++ vs)) ∙ ap (λ us. run (inside line 0 (M ∷ k) us) ts) (c.empties (ws ++ vs)))
     (omega arith)
     (c.ending [] ts)
-  where
-    close_told : (l : Lexeme) → is_sign CloseParenthesis l ≡ true → l ≡ sign CloseParenthesis
-    close_told (word w) e = cc
-    close_told (keyword j) e = cc
-    close_told (number x) e = cc
-    close_told (sign u) e = ap sign (same_true the_signs tt u CloseParenthesis e)
 listed_token P M a listV ws val reader fin c t ts false e =
     does_by (both (either P (does a)) (both (mark CloseParenthesis) M)) (both P (both (mark CloseParenthesis) M)) 1 1 0 (t ∷ ts) (t ∷ ts) ws ws val (and_then (and_then (reader (t ∷ ts)) close_list) fin)
     (λ line k vs. run_fed line 1 (both (either P (does a)) (both (mark CloseParenthesis) M) ∷ k) (both P (both (mark CloseParenthesis) M) ∷ k) (ws ++ vs) (ws ++ vs) t ts (feeds_alike (move P (ws ++ vs) t.lexeme) a M k (ws ++ vs) t.lexeme e))
@@ -77,30 +69,18 @@ param_does : (ts : List Token) → Does param_form 1 1 ts [] param (param_at ts)
 unfolding param_form param_at
 param_does ts = if_keyword _ _ Num ts (λ r. seq (word_at r) _ (word_does 1 r) (λ w r'. last _ make_number_param (λ vs. refl))) (pass (keyword_at Node ts) _ (keyword_after Node 1 ts) (λ r. seq (word_at r) _ (word_does 1 r) (λ w r'. last _ make_node_param (λ vs. refl))))
 
-param_row : Row (the_sign Comma) (both param_form (does next_param)) 1 params param_at next_param_at
-unfolding next_param_at after_sign
-param_row = record {
-  counts = sign_counts Comma 1 1 refl refl;
-  keeps = λ l vs. refl;
-  nexts = λ ts. refl;
-  steps = step_does param_form 1 param params param_at next_param param_does (λ es x vs. refl);
-}
+params_does : (ts : List Token) → Does (both param_form (both (does first_item) more_params)) 1 1 ts [] params (params_at ts)
+unfolding more_params params_at next_param_at after_sign
+params_does ts = row_read Comma param_form 1 param params param_at next_param_at refl refl (λ ts. refl) param_does (λ x vs. refl) (λ es x vs. refl) ts
 
-abbrev some_params : Form
-some_params = both param_form (both (does first_param) more_params)
-
-params_does : (ts : List Token) → Does (both param_form (both (does first_param) more_params)) 1 1 ts [] params (params_at ts)
-unfolding more_params params_at
-params_does ts = seq (param_at ts) _ (param_does ts) (λ e rest. act (params (e ∷ []) ∷ []) first_param _ (λ vs. refl) (row_does (the_sign Comma) _ 1 params param_at next_param_at param_row rest (e ∷ [])))
-
-params_refuse : (vs : List Value) → move (both param_form (both (does first_param) more_params)) vs (sign CloseParenthesis) ≡ refuses
+params_refuse : (vs : List Value) → move (both param_form (both (does first_item) more_params)) vs (sign CloseParenthesis) ≡ refuses
 unfolding param_form
 params_refuse vs = refl
 
 abbrev module_end : List ℕ → List Param × List Token → Read Statement
 module_end w ps = Ok (heads_module w ps.0, ps.1)
 
-module_list : (w : List ℕ) → ClosedList (both param_form (both (does first_param) more_params)) (does make_module) no_params params (text w ∷ []) statement params_at (module_end w)
+module_list : (w : List ℕ) → ClosedList (both param_form (both (does first_item) more_params)) (does make_module) no_params params (text w ∷ []) statement params_at (module_end w)
 module_list w = record {
   reads = params_does;
   empties = λ vs. refl;
@@ -113,7 +93,7 @@ after_module = both (takes a_word) (both (mark OpenParenthesis) (both params_for
 
 module_does : (ts : List Token) → Does after_module 0 0 ts [] statement (module_at ts)
 unfolding params_form module_at closed_params_at
-module_does ts = seq (word_at ts) _ (word_does 0 ts) (λ w rest. pass (sign_at OpenParenthesis rest) _ (sign_after OpenParenthesis 0 1 rest refl refl) (λ r. listed (both param_form (both (does first_param) more_params)) (does make_module) no_params params (text w ∷ []) statement params_at (module_end w) (module_list w) r))
+module_does ts = seq (word_at ts) _ (word_does 0 ts) (λ w rest. pass (sign_at OpenParenthesis rest) _ (sign_after OpenParenthesis 0 1 rest refl refl) (λ r. listed (both param_form (both (does first_item) more_params)) (does make_module) no_params params (text w ∷ []) statement params_at (module_end w) (module_list w) r))
 
 -- arguments and instances
 abbrev number_arg_form : Form
@@ -137,16 +117,10 @@ arg_alike (to j us) k vs l e = refl
 arg_alike (skips us) k vs l e = refl
 arg_alike refuses k vs l e = ap (λ b. fed (followed (taken b [] vs) node_arg_form (λ us. move node_arg_form us l)) k (λ us. feed k us l)) e
 
-node_told : (l : Lexeme) → is (the_keyword Node) l ≡ true → l ≡ keyword Node
-node_told (word w) e = cc
-node_told (keyword j) e = ap keyword (same_true the_keywords tt j Node e)
-node_told (number x) e = cc
-node_told (sign u) e = cc
-
 arg_token : (t : Token) (ts : List Token) (b : Bool) → is (the_keyword Node) t.lexeme ≡ b → Does (either number_arg_form (both (the Node) node_arg_form)) 1 1 (t ∷ ts) [] arg (arg_by (cond b (Some ts) None) (t ∷ ts))
 arg_token t ts true e =
     does_by (either number_arg_form (both (the Node) node_arg_form)) node_arg_form 1 1 1 (t ∷ ts) ts [] [] arg (and_then (name_at 31 ts) (λ n. Ok (node_arg n.0, n.1)))
-    (λ line k vs. ap (λ u. go (feed (either number_arg_form (both (the Node) node_arg_form) ∷ k) vs u) line 1 u (suc (length ts)) (λ p. run p ts)) (node_told t.lexeme e) ∙ ap (λ m. go (fed (or_else m (move (both (the Node) node_arg_form) vs (keyword Node))) k (λ us. feed k us (keyword Node))) line 1 (keyword Node) (suc (length ts)) (λ p. run p ts)) (no_expr_at_node vs))
+    (λ line k vs. ap (λ u. go (feed (either number_arg_form (both (the Node) node_arg_form) ∷ k) vs u) line 1 u (suc (length ts)) (λ p. run p ts)) (keyword_told Node t.lexeme e) ∙ ap (λ m. go (fed (or_else m (move (both (the Node) node_arg_form) vs (keyword Node))) k (λ us. feed k us (keyword Node))) line 1 (keyword Node) (suc (length ts)) (λ p. run p ts)) (no_expr_at_node vs))
     (omega arith)
     (seq (name_at 31 ts) _ (name_read 1 31 refl ts) (λ n r. last _ make_node_arg (λ vs. refl)))
 arg_token t ts false e =
@@ -160,27 +134,18 @@ unfolding arg_form arg_at after_keyword
 arg_does [] = does_by (either number_arg_form (both (the Node) node_arg_form)) number_arg_form 1 1 1 [] [] [] [] arg (and_then (expr_at 31 []) (λ x. Ok (number_arg x.0, x.1))) (λ line k vs. refl) (omega arith) (number_arg_does [])
 arg_does (t ∷ ts) = arg_token t ts (is (the_keyword Node) t.lexeme) refl
 
-arg_row : Row (the_sign Comma) (both arg_form (does next_arg)) 1 args arg_at next_arg_at
-unfolding next_arg_at after_sign
-arg_row = record {
-  counts = sign_counts Comma 1 1 refl refl;
-  keeps = λ l vs. refl;
-  nexts = λ ts. refl;
-  steps = step_does arg_form 1 arg args arg_at next_arg arg_does (λ es x vs. refl);
-}
+args_does : (ts : List Token) → Does (both arg_form (both (does first_item) more_args)) 1 1 ts [] args (args_at ts)
+unfolding more_args args_at next_arg_at after_sign
+args_does ts = row_read Comma arg_form 1 arg args arg_at next_arg_at refl refl (λ ts. refl) arg_does (λ x vs. refl) (λ es x vs. refl) ts
 
-args_does : (ts : List Token) → Does (both arg_form (both (does first_arg) more_args)) 1 1 ts [] args (args_at ts)
-unfolding more_args args_at
-args_does ts = seq (arg_at ts) _ (arg_does ts) (λ e rest. act (args (e ∷ []) ∷ []) first_arg _ (λ vs. refl) (row_does (the_sign Comma) _ 1 args arg_at next_arg_at arg_row rest (e ∷ [])))
-
-args_refuse : (vs : List Value) → move (both arg_form (both (does first_arg) more_args)) vs (sign CloseParenthesis) ≡ refuses
+args_refuse : (vs : List Value) → move (both arg_form (both (does first_item) more_args)) vs (sign CloseParenthesis) ≡ refuses
 unfolding arg_form expr term factor
 args_refuse vs = refl
 
 abbrev use_end : List ℕ → List Arg × List Token → Read Statement
 use_end w xs = and_then (keyword_at As xs.1) (λ rest. and_then (name_at 32 rest) (λ prefix. Ok (uses w xs.0 prefix.0, prefix.1)))
 
-use_list : (w : List ℕ) → ClosedList (both arg_form (both (does first_arg) more_args)) (both (the As) (both name_form (does make_use))) no_args args (text w ∷ []) statement args_at (use_end w)
+use_list : (w : List ℕ) → ClosedList (both arg_form (both (does first_item) more_args)) (both (the As) (both name_form (does make_use))) no_args args (text w ∷ []) statement args_at (use_end w)
 use_list w = record {
   reads = args_does;
   empties = λ vs. refl;
@@ -193,7 +158,7 @@ after_use = both (takes a_word) (both (mark OpenParenthesis) (both args_form (bo
 
 use_does : (ts : List Token) → Does after_use 0 0 ts [] statement (use_at ts)
 unfolding args_form use_at closed_args_at
-use_does ts = seq (word_at ts) _ (word_does 0 ts) (λ w rest. pass (sign_at OpenParenthesis rest) _ (sign_after OpenParenthesis 0 1 rest refl refl) (λ r. listed (both arg_form (both (does first_arg) more_args)) (both (the As) (both name_form (does make_use))) no_args args (text w ∷ []) statement args_at (use_end w) (use_list w) r))
+use_does ts = seq (word_at ts) _ (word_does 0 ts) (λ w rest. pass (sign_at OpenParenthesis rest) _ (sign_after OpenParenthesis 0 1 rest refl refl) (λ r. listed (both arg_form (both (does first_item) more_args)) (both (the As) (both name_form (does make_use))) no_args args (text w ∷ []) statement args_at (use_end w) (use_list w) r))
 
 -- nodes
 abbrev node_rest : Action → Form
@@ -208,14 +173,9 @@ measure_seq : {X : Type 0} {g : Form} {ws : List Value} {val : X → Value} (k :
 unfolding measure_at
 measure_seq k ts next h = does_same _ _ (assoc (keyword_at k ts) (λ rest. expr_at 32 rest) next) (pass (keyword_at k ts) _ (keyword_after k 0 ts) (λ r. seq (expr_at 32 r) _ (expr_does r) h))
 
-port_row : Row (the_sign Comma) (both name_form (does next_name)) 0 names (name_at 32) next_port_at
+port_row : Row (the_sign Comma) (both name_form (does next_item)) 0 names (name_at 32) next_port_at
 unfolding next_port_at after_sign
-port_row = record {
-  counts = sign_counts Comma 0 0 refl refl;
-  keeps = λ l vs. refl;
-  nexts = λ ts. refl;
-  steps = step_does name_form 0 name names (name_at 32) next_name name_does (λ es x vs. refl);
-}
+port_row = sign_row Comma name_form 0 name names (name_at 32) next_port_at refl refl (λ ts. refl) name_does (λ es x vs. refl)
 
 abbrev unit_with : List Part → List ℕ → Expression → Expression → Expression → List (List Part) × List Token → Read Declaration
 unit_with n kind page slots reach ps = Ok (unit n kind page slots reach ps.0, ps.1)
@@ -227,12 +187,12 @@ ports_same f ts = assoc (name_at 32 ts) _ _
 abbrev declared_statement : Declaration → Value
 declared_statement d = statement (declares d)
 
-ports_does : (n : List Part) (kind : List ℕ) (page slots reach : Expression) (ts : List Token) → Does (both name_form (both (does first_name) (both (more_names 7) (does make_unit)))) 0 0 ts (expression reach ∷ expression slots ∷ expression page ∷ text kind ∷ name n ∷ []) declared_statement (and_then (ports_at ts) (unit_with n kind page slots reach))
+ports_does : (n : List Part) (kind : List ℕ) (page slots reach : Expression) (ts : List Token) → Does (both name_form (both (does first_item) (both (more_names 7) (does make_unit)))) 0 0 ts (expression reach ∷ expression slots ∷ expression page ∷ text kind ∷ name n ∷ []) declared_statement (and_then (ports_at ts) (unit_with n kind page slots reach))
 unfolding more_names
-ports_does n kind page slots reach ts = does_same _ _ (ports_same (unit_with n kind page slots reach) ts) (seq (name_at 32 ts) _ (name_does ts) (λ p rest. act (names (p ∷ []) ∷ expression reach ∷ expression slots ∷ expression page ∷ text kind ∷ name n ∷ []) first_name _ (λ vs. refl) (seq_on (with_front (p ∷ []) (row next_port_at 7 rest)) _ (most_row_does (the_sign Comma) _ 0 names (name_at 32) next_port_at port_row 7 rest (p ∷ [])) (λ ps r. last _ make_unit (λ vs. refl)))))
+ports_does n kind page slots reach ts = does_same _ _ (ports_same (unit_with n kind page slots reach) ts) (seq (name_at 32 ts) _ (name_does ts) (λ p rest. act (names (p ∷ []) ∷ expression reach ∷ expression slots ∷ expression page ∷ text kind ∷ name n ∷ []) first_item _ (λ vs. refl) (seq_on (with_front (p ∷ []) (row next_port_at 7 rest)) _ (most_row_does (the_sign Comma) _ 0 names (name_at 32) next_port_at port_row 7 rest (p ∷ [])) (λ ps r. last _ make_unit (λ vs. refl)))))
 
 abbrev after_unit : Form
-after_unit = both name_form (both (the Kind) (both (takes any_word) (both (the Page) (both expr (both (the Slots) (both expr (both (the Reach) (both expr (both (the To) (both name_form (both (does first_name) (both (more_names 7) (does make_unit)))))))))))))
+after_unit = both name_form (both (the Kind) (both (takes any_word) (both (the Page) (both expr (both (the Slots) (both expr (both (the Reach) (both expr (both (the To) (both name_form (both (does first_item) (both (more_names 7) (does make_unit)))))))))))))
 
 unit_does : (ts : List Token) → Does after_unit 0 0 ts [] statement (as_declared (unit_at ts))
 unfolding unit_at
@@ -298,133 +258,65 @@ plain_first : (w : List ℕ) (t : Token) (ts : List Token) → t.lexeme ≡ word
 unfolding statement_form plain_form agent_form vectors_form unit_form module_form use_form loop_form command_form name_form part_form
 plain_first w t ts e line k vs = run_fed line 0 (statement_form ∷ k) (node_rest make_plain ∷ k) vs vs t ts (ap (feed (statement_form ∷ k) vs) e ∙ ap (feed (node_rest make_plain ∷ k) vs) (sym e))
 
-feeds_agent : (k : List Form) (vs : List Value) → feed (statement_form ∷ k) vs (keyword Agent) ≡ on (node_rest make_agent ∷ k) vs
-unfolding statement_form plain_form agent_form vectors_form unit_form module_form use_form loop_form command_form name_form part_form
-feeds_agent k vs = refl
+-- what may follow a reserved word with which a statement begins
+abbrev head : Keyword → Option Form
+head Agent = Some (node_rest make_agent)
+head Vectors = Some (node_rest make_vectors)
+head UnitWord = Some after_unit
+head Module = Some after_module
+head Use = Some after_use
+head For = Some after_for
+head End = Some (does make_end)
+head Begin = Some (does make_begin)
+head Resolve = Some (both name_form (both expr (both maybe_access (does make_resolve))))
+head Lookup = Some (both name_form (both expr (both maybe_access (does make_lookup))))
+head View = Some (both name_form (both maybe_access (does make_view)))
+head Grant = Some (both (takes a_word) (both name_form (both name_form (both expr (both expr (both maybe_access (does make_grant)))))))
+head Route = Some (both (takes a_word) (both name_form (both expr (both name_form (does make_route)))))
+head Revoke = Some (both (takes a_word) (does make_revoke))
+head Dump = Some (does make_dump)
+head Split = Some (does make_split)
+head Absorb = Some (both name_form (does make_absorb))
+head _ = None
 
-feeds_vectors : (k : List Form) (vs : List Value) → feed (statement_form ∷ k) vs (keyword Vectors) ≡ on (node_rest make_vectors ∷ k) vs
-unfolding statement_form plain_form agent_form vectors_form unit_form module_form use_form loop_form command_form name_form part_form
-feeds_vectors k vs = refl
+abbrev by_head : Option Form → List Form → List Value → Fed
+by_head (Some f) k vs = on (f ∷ k) vs
+by_head None k vs = stuck
 
-feeds_unit : (k : List Form) (vs : List Value) → feed (statement_form ∷ k) vs (keyword UnitWord) ≡ on (after_unit ∷ k) vs
+feeds : (j : Keyword) (k : List Form) (vs : List Value) → feed (statement_form ∷ k) vs (keyword j) ≡ by_head (head j) k vs
 unfolding statement_form plain_form agent_form vectors_form unit_form module_form use_form loop_form command_form name_form part_form
-feeds_unit k vs = refl
-
-feeds_module : (k : List Form) (vs : List Value) → feed (statement_form ∷ k) vs (keyword Module) ≡ on (after_module ∷ k) vs
-unfolding statement_form plain_form agent_form vectors_form unit_form module_form use_form loop_form command_form name_form part_form
-feeds_module k vs = refl
-
-feeds_use : (k : List Form) (vs : List Value) → feed (statement_form ∷ k) vs (keyword Use) ≡ on (after_use ∷ k) vs
-unfolding statement_form plain_form agent_form vectors_form unit_form module_form use_form loop_form command_form name_form part_form
-feeds_use k vs = refl
-
-feeds_for : (k : List Form) (vs : List Value) → feed (statement_form ∷ k) vs (keyword For) ≡ on (after_for ∷ k) vs
-unfolding statement_form plain_form agent_form vectors_form unit_form module_form use_form loop_form command_form name_form part_form
-feeds_for k vs = refl
-
-feeds_in : (k : List Form) (vs : List Value) → feed (statement_form ∷ k) vs (keyword In) ≡ stuck
-unfolding statement_form plain_form agent_form vectors_form unit_form module_form use_form loop_form command_form name_form part_form
-feeds_in k vs = refl
-
-feeds_end : (k : List Form) (vs : List Value) → feed (statement_form ∷ k) vs (keyword End) ≡ on ((does make_end) ∷ k) vs
-unfolding statement_form plain_form agent_form vectors_form unit_form module_form use_form loop_form command_form name_form part_form
-feeds_end k vs = refl
-
-feeds_begin : (k : List Form) (vs : List Value) → feed (statement_form ∷ k) vs (keyword Begin) ≡ on ((does make_begin) ∷ k) vs
-unfolding statement_form plain_form agent_form vectors_form unit_form module_form use_form loop_form command_form name_form part_form
-feeds_begin k vs = refl
-
-feeds_is : (k : List Form) (vs : List Value) → feed (statement_form ∷ k) vs (keyword Is) ≡ stuck
-unfolding statement_form plain_form agent_form vectors_form unit_form module_form use_form loop_form command_form name_form part_form
-feeds_is k vs = refl
-
-feeds_accept : (k : List Form) (vs : List Value) → feed (statement_form ∷ k) vs (keyword Accept) ≡ stuck
-unfolding statement_form plain_form agent_form vectors_form unit_form module_form use_form loop_form command_form name_form part_form
-feeds_accept k vs = refl
-
-feeds_map : (k : List Form) (vs : List Value) → feed (statement_form ∷ k) vs (keyword Map) ≡ stuck
-unfolding statement_form plain_form agent_form vectors_form unit_form module_form use_form loop_form command_form name_form part_form
-feeds_map k vs = refl
-
-feeds_to : (k : List Form) (vs : List Value) → feed (statement_form ∷ k) vs (keyword To) ≡ stuck
-unfolding statement_form plain_form agent_form vectors_form unit_form module_form use_form loop_form command_form name_form part_form
-feeds_to k vs = refl
-
-feeds_and : (k : List Form) (vs : List Value) → feed (statement_form ∷ k) vs (keyword And) ≡ stuck
-unfolding statement_form plain_form agent_form vectors_form unit_form module_form use_form loop_form command_form name_form part_form
-feeds_and k vs = refl
-
-feeds_at : (k : List Form) (vs : List Value) → feed (statement_form ∷ k) vs (keyword At) ≡ stuck
-unfolding statement_form plain_form agent_form vectors_form unit_form module_form use_form loop_form command_form name_form part_form
-feeds_at k vs = refl
-
-feeds_over : (k : List Form) (vs : List Value) → feed (statement_form ∷ k) vs (keyword Over) ≡ stuck
-unfolding statement_form plain_form agent_form vectors_form unit_form module_form use_form loop_form command_form name_form part_form
-feeds_over k vs = refl
-
-feeds_kind : (k : List Form) (vs : List Value) → feed (statement_form ∷ k) vs (keyword Kind) ≡ stuck
-unfolding statement_form plain_form agent_form vectors_form unit_form module_form use_form loop_form command_form name_form part_form
-feeds_kind k vs = refl
-
-feeds_page : (k : List Form) (vs : List Value) → feed (statement_form ∷ k) vs (keyword Page) ≡ stuck
-unfolding statement_form plain_form agent_form vectors_form unit_form module_form use_form loop_form command_form name_form part_form
-feeds_page k vs = refl
-
-feeds_slots : (k : List Form) (vs : List Value) → feed (statement_form ∷ k) vs (keyword Slots) ≡ stuck
-unfolding statement_form plain_form agent_form vectors_form unit_form module_form use_form loop_form command_form name_form part_form
-feeds_slots k vs = refl
-
-feeds_reach : (k : List Form) (vs : List Value) → feed (statement_form ∷ k) vs (keyword Reach) ≡ stuck
-unfolding statement_form plain_form agent_form vectors_form unit_form module_form use_form loop_form command_form name_form part_form
-feeds_reach k vs = refl
-
-feeds_as : (k : List Form) (vs : List Value) → feed (statement_form ∷ k) vs (keyword As) ≡ stuck
-unfolding statement_form plain_form agent_form vectors_form unit_form module_form use_form loop_form command_form name_form part_form
-feeds_as k vs = refl
-
-feeds_num : (k : List Form) (vs : List Value) → feed (statement_form ∷ k) vs (keyword Num) ≡ stuck
-unfolding statement_form plain_form agent_form vectors_form unit_form module_form use_form loop_form command_form name_form part_form
-feeds_num k vs = refl
-
-feeds_node : (k : List Form) (vs : List Value) → feed (statement_form ∷ k) vs (keyword Node) ≡ stuck
-unfolding statement_form plain_form agent_form vectors_form unit_form module_form use_form loop_form command_form name_form part_form
-feeds_node k vs = refl
-
-feeds_resolve : (k : List Form) (vs : List Value) → feed (statement_form ∷ k) vs (keyword Resolve) ≡ on ((both name_form (both expr (both maybe_access (does make_resolve)))) ∷ k) vs
-unfolding statement_form plain_form agent_form vectors_form unit_form module_form use_form loop_form command_form name_form part_form
-feeds_resolve k vs = refl
-
-feeds_lookup : (k : List Form) (vs : List Value) → feed (statement_form ∷ k) vs (keyword Lookup) ≡ on ((both name_form (both expr (both maybe_access (does make_lookup)))) ∷ k) vs
-unfolding statement_form plain_form agent_form vectors_form unit_form module_form use_form loop_form command_form name_form part_form
-feeds_lookup k vs = refl
-
-feeds_view : (k : List Form) (vs : List Value) → feed (statement_form ∷ k) vs (keyword View) ≡ on ((both name_form (both maybe_access (does make_view))) ∷ k) vs
-unfolding statement_form plain_form agent_form vectors_form unit_form module_form use_form loop_form command_form name_form part_form
-feeds_view k vs = refl
-
-feeds_grant : (k : List Form) (vs : List Value) → feed (statement_form ∷ k) vs (keyword Grant) ≡ on ((both (takes a_word) (both name_form (both name_form (both expr (both expr (both maybe_access (does make_grant))))))) ∷ k) vs
-unfolding statement_form plain_form agent_form vectors_form unit_form module_form use_form loop_form command_form name_form part_form
-feeds_grant k vs = refl
-
-feeds_route : (k : List Form) (vs : List Value) → feed (statement_form ∷ k) vs (keyword Route) ≡ on ((both (takes a_word) (both name_form (both expr (both name_form (does make_route))))) ∷ k) vs
-unfolding statement_form plain_form agent_form vectors_form unit_form module_form use_form loop_form command_form name_form part_form
-feeds_route k vs = refl
-
-feeds_revoke : (k : List Form) (vs : List Value) → feed (statement_form ∷ k) vs (keyword Revoke) ≡ on ((both (takes a_word) (does make_revoke)) ∷ k) vs
-unfolding statement_form plain_form agent_form vectors_form unit_form module_form use_form loop_form command_form name_form part_form
-feeds_revoke k vs = refl
-
-feeds_dump : (k : List Form) (vs : List Value) → feed (statement_form ∷ k) vs (keyword Dump) ≡ on ((does make_dump) ∷ k) vs
-unfolding statement_form plain_form agent_form vectors_form unit_form module_form use_form loop_form command_form name_form part_form
-feeds_dump k vs = refl
-
-feeds_split : (k : List Form) (vs : List Value) → feed (statement_form ∷ k) vs (keyword Split) ≡ on ((does make_split) ∷ k) vs
-unfolding statement_form plain_form agent_form vectors_form unit_form module_form use_form loop_form command_form name_form part_form
-feeds_split k vs = refl
-
-feeds_absorb : (k : List Form) (vs : List Value) → feed (statement_form ∷ k) vs (keyword Absorb) ≡ on ((both name_form (does make_absorb)) ∷ k) vs
-unfolding statement_form plain_form agent_form vectors_form unit_form module_form use_form loop_form command_form name_form part_form
-feeds_absorb k vs = refl
+feeds Agent k vs = refl
+feeds Vectors k vs = refl
+feeds UnitWord k vs = refl
+feeds Module k vs = refl
+feeds Use k vs = refl
+feeds For k vs = refl
+feeds In k vs = refl
+feeds End k vs = refl
+feeds Begin k vs = refl
+feeds Is k vs = refl
+feeds Accept k vs = refl
+feeds Map k vs = refl
+feeds To k vs = refl
+feeds And k vs = refl
+feeds At k vs = refl
+feeds Over k vs = refl
+feeds Kind k vs = refl
+feeds Page k vs = refl
+feeds Slots k vs = refl
+feeds Reach k vs = refl
+feeds As k vs = refl
+feeds Num k vs = refl
+feeds Node k vs = refl
+feeds Resolve k vs = refl
+feeds Lookup k vs = refl
+feeds View k vs = refl
+feeds Grant k vs = refl
+feeds Route k vs = refl
+feeds Revoke k vs = refl
+feeds Dump k vs = refl
+feeds Split k vs = refl
+feeds Absorb k vs = refl
 
 feeds_number : (x : ℕ) (k : List Form) (vs : List Value) → feed (statement_form ∷ k) vs (number x) ≡ stuck
 unfolding statement_form plain_form agent_form vectors_form unit_form module_form use_form loop_form command_form name_form part_form
@@ -436,38 +328,38 @@ feeds_sign s k vs = refl
 
 keyword_token : (j : Keyword) (t : Token) (ts : List Token) → t.lexeme ≡ keyword j → Does statement_form 0 0 (t ∷ ts) [] statement (keyword_statement_at j (t ∷ ts) ts)
 unfolding keyword_statement_at order_at
-keyword_token Agent t ts e = by_word (node_rest make_agent) Agent t ts _ e feeds_agent (node_does agent_role make_agent (λ n s vs. refl) ts)
-keyword_token Vectors t ts e = by_word (node_rest make_vectors) Vectors t ts _ e feeds_vectors (node_does vectors_role make_vectors (λ n s vs. refl) ts)
-keyword_token UnitWord t ts e = by_word (after_unit) UnitWord t ts _ e feeds_unit (unit_does ts)
-keyword_token Module t ts e = by_word (after_module) Module t ts _ e feeds_module (module_does ts)
-keyword_token Use t ts e = by_word (after_use) Use t ts _ e feeds_use (use_does ts)
-keyword_token For t ts e = by_word (after_for) For t ts _ e feeds_for (loop_does ts)
-keyword_token In t ts e = refused_word (keyword In) t ts e feeds_in
-keyword_token End t ts e = by_word (does make_end) End t ts _ e feeds_end (last _ make_end (λ vs. refl))
-keyword_token Begin t ts e = by_word (does make_begin) Begin t ts _ e feeds_begin (last _ make_begin (λ vs. refl))
-keyword_token Is t ts e = refused_word (keyword Is) t ts e feeds_is
-keyword_token Accept t ts e = refused_word (keyword Accept) t ts e feeds_accept
-keyword_token Map t ts e = refused_word (keyword Map) t ts e feeds_map
-keyword_token To t ts e = refused_word (keyword To) t ts e feeds_to
-keyword_token And t ts e = refused_word (keyword And) t ts e feeds_and
-keyword_token At t ts e = refused_word (keyword At) t ts e feeds_at
-keyword_token Over t ts e = refused_word (keyword Over) t ts e feeds_over
-keyword_token Kind t ts e = refused_word (keyword Kind) t ts e feeds_kind
-keyword_token Page t ts e = refused_word (keyword Page) t ts e feeds_page
-keyword_token Slots t ts e = refused_word (keyword Slots) t ts e feeds_slots
-keyword_token Reach t ts e = refused_word (keyword Reach) t ts e feeds_reach
-keyword_token As t ts e = refused_word (keyword As) t ts e feeds_as
-keyword_token Num t ts e = refused_word (keyword Num) t ts e feeds_num
-keyword_token Node t ts e = refused_word (keyword Node) t ts e feeds_node
-keyword_token Resolve t ts e = order_word (both name_form (both expr (both maybe_access (does make_resolve)))) Resolve t ts _ e feeds_resolve (resolve_does ts)
-keyword_token Lookup t ts e = order_word (both name_form (both expr (both maybe_access (does make_lookup)))) Lookup t ts _ e feeds_lookup (lookup_does ts)
-keyword_token View t ts e = order_word (both name_form (both maybe_access (does make_view))) View t ts _ e feeds_view (view_does ts)
-keyword_token Grant t ts e = order_word (both (takes a_word) (both name_form (both name_form (both expr (both expr (both maybe_access (does make_grant))))))) Grant t ts _ e feeds_grant (grant_does ts)
-keyword_token Route t ts e = order_word (both (takes a_word) (both name_form (both expr (both name_form (does make_route))))) Route t ts _ e feeds_route (route_does ts)
-keyword_token Revoke t ts e = order_word (both (takes a_word) (does make_revoke)) Revoke t ts _ e feeds_revoke (revoke_does ts)
-keyword_token Dump t ts e = order_word (does make_dump) Dump t ts _ e feeds_dump (last _ make_dump (λ vs. refl))
-keyword_token Split t ts e = order_word (does make_split) Split t ts _ e feeds_split (last _ make_split (λ vs. refl))
-keyword_token Absorb t ts e = order_word (both name_form (does make_absorb)) Absorb t ts _ e feeds_absorb (name_order make_absorb absorb (λ n vs. refl) ts)
+keyword_token Agent t ts e = by_word (node_rest make_agent) Agent t ts _ e (feeds Agent) (node_does agent_role make_agent (λ n s vs. refl) ts)
+keyword_token Vectors t ts e = by_word (node_rest make_vectors) Vectors t ts _ e (feeds Vectors) (node_does vectors_role make_vectors (λ n s vs. refl) ts)
+keyword_token UnitWord t ts e = by_word (after_unit) UnitWord t ts _ e (feeds UnitWord) (unit_does ts)
+keyword_token Module t ts e = by_word (after_module) Module t ts _ e (feeds Module) (module_does ts)
+keyword_token Use t ts e = by_word (after_use) Use t ts _ e (feeds Use) (use_does ts)
+keyword_token For t ts e = by_word (after_for) For t ts _ e (feeds For) (loop_does ts)
+keyword_token In t ts e = refused_word (keyword In) t ts e (feeds In)
+keyword_token End t ts e = by_word (does make_end) End t ts _ e (feeds End) (last _ make_end (λ vs. refl))
+keyword_token Begin t ts e = by_word (does make_begin) Begin t ts _ e (feeds Begin) (last _ make_begin (λ vs. refl))
+keyword_token Is t ts e = refused_word (keyword Is) t ts e (feeds Is)
+keyword_token Accept t ts e = refused_word (keyword Accept) t ts e (feeds Accept)
+keyword_token Map t ts e = refused_word (keyword Map) t ts e (feeds Map)
+keyword_token To t ts e = refused_word (keyword To) t ts e (feeds To)
+keyword_token And t ts e = refused_word (keyword And) t ts e (feeds And)
+keyword_token At t ts e = refused_word (keyword At) t ts e (feeds At)
+keyword_token Over t ts e = refused_word (keyword Over) t ts e (feeds Over)
+keyword_token Kind t ts e = refused_word (keyword Kind) t ts e (feeds Kind)
+keyword_token Page t ts e = refused_word (keyword Page) t ts e (feeds Page)
+keyword_token Slots t ts e = refused_word (keyword Slots) t ts e (feeds Slots)
+keyword_token Reach t ts e = refused_word (keyword Reach) t ts e (feeds Reach)
+keyword_token As t ts e = refused_word (keyword As) t ts e (feeds As)
+keyword_token Num t ts e = refused_word (keyword Num) t ts e (feeds Num)
+keyword_token Node t ts e = refused_word (keyword Node) t ts e (feeds Node)
+keyword_token Resolve t ts e = order_word (both name_form (both expr (both maybe_access (does make_resolve)))) Resolve t ts _ e (feeds Resolve) (resolve_does ts)
+keyword_token Lookup t ts e = order_word (both name_form (both expr (both maybe_access (does make_lookup)))) Lookup t ts _ e (feeds Lookup) (lookup_does ts)
+keyword_token View t ts e = order_word (both name_form (both maybe_access (does make_view))) View t ts _ e (feeds View) (view_does ts)
+keyword_token Grant t ts e = order_word (both (takes a_word) (both name_form (both name_form (both expr (both expr (both maybe_access (does make_grant))))))) Grant t ts _ e (feeds Grant) (grant_does ts)
+keyword_token Route t ts e = order_word (both (takes a_word) (both name_form (both expr (both name_form (does make_route))))) Route t ts _ e (feeds Route) (route_does ts)
+keyword_token Revoke t ts e = order_word (both (takes a_word) (does make_revoke)) Revoke t ts _ e (feeds Revoke) (revoke_does ts)
+keyword_token Dump t ts e = order_word (does make_dump) Dump t ts _ e (feeds Dump) (last _ make_dump (λ vs. refl))
+keyword_token Split t ts e = order_word (does make_split) Split t ts _ e (feeds Split) (last _ make_split (λ vs. refl))
+keyword_token Absorb t ts e = order_word (both name_form (does make_absorb)) Absorb t ts _ e (feeds Absorb) (name_order make_absorb absorb (λ n vs. refl) ts)
 
 by_token : (l : Lexeme) (t : Token) (ts : List Token) → t.lexeme ≡ l → Does statement_form 0 0 (t ∷ ts) [] statement (statement_by l (t ∷ ts) ts)
 by_token (word w) t ts e = does_by statement_form (node_rest make_plain) 0 0 0 (t ∷ ts) (t ∷ ts) [] [] statement (as_declared (node_at plain_role (t ∷ ts))) (λ line k vs. plain_first w t ts e line k vs) (omega arith) (node_does plain_role make_plain (λ n s vs. refl) (t ∷ ts))

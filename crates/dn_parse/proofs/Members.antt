@@ -4,9 +4,9 @@ use Rattle.std.proofs.lemmas.List.{map-append}
 use Rattle.dn_token.specs.declared.cursor.Cursor.{Cursor}
 use Rattle.dn_token.specs.Cursor.{cursor_view}
 use Rattle.dn_token.specs.Token.{Token}
-use Rattle.dn_parse.specs.Descent.{Next, Read}
+use Rattle.dn_parse.specs.Descent.{Next, Read, Reader, first_and}
 use Rattle.dn_parse.specs.Faults.{Shortens}
-use Rattle.dn_parse.proofs.Series.{Found, found_more}
+use Rattle.dn_parse.proofs.Series.{Found, found_first, found_more, first_read}
 
 -- where a member was read, fewer tokens are left
 pub member_shortens : {A : Type 0} (o : Option A) (x : A) (after before : Cursor) → o ≡ Some x → Shortens o after before → length (cursor_view after) < length (cursor_view before)
@@ -28,6 +28,10 @@ module _ {A X : Type 0} (view : A → X) where
   -- the first member, where it was pushed alone
   pub one_pushed : (x : A) (none pushed : List A) → none ≡ [] → pushed ≡ none ++ x ∷ [] → view x ∷ [] ≡ map view pushed
   one_pushed x none pushed n p = sym (ap (map view) (p ∙ ap (λ (l : List A). l ++ x ∷ []) n))
+
+  -- the first member is the first one found
+  pub first_found : (reader : Reader X) (next : List Token → Next X) (none pushed : List A) (x : A) (ts : List Token) (after : Cursor) → reader ts ≡ Ok (view x, cursor_view after) → none ≡ [] → pushed ≡ none ++ x ∷ [] → Found next (first_and reader next ts) (map view pushed) (cursor_view after)
+  first_found reader next none pushed x ts after read n p = subst (λ (l : List X). Found next (first_and reader next ts) l (cursor_view after)) (one_pushed x none pushed n p) (found_first (first_and reader next ts) (view x) (cursor_view after) (first_read reader next ts (view x) (cursor_view after) read))
 
   -- a member that was pushed is the next one found
   pub member_found : {next : List Token → Next X} {whole : Read (List X)} (found pushed : List A) (rest : Cursor) (o : Option A) (x : A) (after : Cursor) → Found next whole (map view found) (cursor_view rest) → next (cursor_view rest) ≡ Ok (option_map (λ y. (view y, cursor_view after)) o) → o ≡ Some x → Shortens o after rest → pushed ≡ found ++ x ∷ [] → Found next whole (map view pushed) (cursor_view after)

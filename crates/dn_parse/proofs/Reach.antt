@@ -4,18 +4,16 @@ use denote.Enum.Declared.{tag_of}
 use Rattle.std.proofs.lemmas.Slice.Eq.{bytes_eq-Decides}
 use Rattle.dn_token.specs.contracts.token.Sign.{the_type as the_signs}
 use Rattle.dn_token.specs.contracts.token.Keyword.{the_type as the_keywords}
-use Rattle.dn_token.specs.declared.token.Sign.{Sign}
-use Rattle.dn_token.specs.declared.token.Sign.TheVariants.{Semicolon, Comma, OpenBracket, CloseBracket, OpenParenthesis, CloseParenthesis, Minus, Plus, Times, Dot, Dots}
+use Rattle.dn_token.specs.declared.token.Sign.TheVariants.{Semicolon, OpenParenthesis, CloseParenthesis}
 use Rattle.dn_token.specs.Token.{Lexeme, Token, word, keyword, number, sign}
 use Rattle.dn_parse.specs.Tree.{Placed, constant}
 use Rattle.dn_parse.specs.Actions.{Value, perform, expression}
-use Rattle.dn_token.specs.Words.{same_sign}
 use Rattle.dn_parse.specs.Forms.{Form, takes, does, and_then, either, many, parenthesised, Sort, a_word, any_word, a_number, the_word, the_keyword, the_sign, is, is_sign, kept, Spells}
 use Rattle.dn_parse.specs.Syntax.{SpellsText, statement_form, statement_of, Parenthesised, after_open, expr, term, factor, less, more_terms, more_factors}
 use Rattle.dn_parse.specs.Machine.{Fed, on, over, stuck, feed, Stop, whole, refused, deep, Outcome, Place, between, inside, run, go, go_in, is_deep, parentheses}
 use Rattle.dn_parse.proofs.Counted.{opened}
 use Rattle.dn_parse.proofs.Taken.{SpellsAll, Deep, SaysAll, says_all, bounded, deep_is_closed}
-use Rattle.dn_parse.proofs.Sets.{both_left, both_right, may_skip}
+use Rattle.dn_parse.proofs.Sets.{both_left, both_right, may_skip, sign_told}
 use Rattle.dn_parse.proofs.Begins.{left_out}
 use Rattle.dn_parse.proofs.Spelled.{is_opened}
 use Rattle.dn_parse.proofs.Whole.{statement_needed}
@@ -27,45 +25,6 @@ SpellsFrom (inside line n k vs) ts ss = (xs : List Token) × (stop : Token) × (
 
 abbrev pub ViableFrom : Place → List Token → Type 0
 ViableFrom p ts = (more : List Token) × (ss : List Placed) × SpellsFrom p (ts ++ more) ss
-
--- the sign that a test asks for
-sign_told : (s : Sign) → same_sign Semicolon s ≡ true → sign s ≡ sign Semicolon
-sign_told Semicolon e = refl
-sign_told Comma e = cc
-sign_told OpenBracket e = cc
-sign_told CloseBracket e = cc
-sign_told OpenParenthesis e = cc
-sign_told CloseParenthesis e = cc
-sign_told Minus e = cc
-sign_told Plus e = cc
-sign_told Times e = cc
-sign_told Dot e = cc
-sign_told Dots e = cc
-
-pub semicolon_told : (l : Lexeme) → is_sign Semicolon l ≡ true → l ≡ sign Semicolon
-semicolon_told (word w) e = cc
-semicolon_told (keyword k) e = cc
-semicolon_told (number n) e = cc
-semicolon_told (sign s) e = sign_told s e
-
-open_told : (s : Sign) → same_sign OpenParenthesis s ≡ true → sign s ≡ sign OpenParenthesis
-open_told Semicolon e = cc
-open_told Comma e = cc
-open_told OpenBracket e = cc
-open_told CloseBracket e = cc
-open_told OpenParenthesis e = refl
-open_told CloseParenthesis e = cc
-open_told Minus e = cc
-open_told Plus e = cc
-open_told Times e = cc
-open_told Dot e = cc
-open_told Dots e = cc
-
-pub parenthesis_told : (l : Lexeme) → is_sign OpenParenthesis l ≡ true → l ≡ sign OpenParenthesis
-parenthesis_told (word w) e = cc
-parenthesis_told (keyword k) e = cc
-parenthesis_told (number n) e = cc
-parenthesis_told (sign s) e = open_told s e
 
 -- a spelling of each form
 any_token : (l : Lexeme) → Token
@@ -164,7 +123,7 @@ pub back_on : (line n m : ℕ) (k k' : List Form) (vs ws : List Value) (t : Toke
 back_on line n m k k' vs ws t h ts ss (xs, stop, ys, us, more, e, s, semi, l, text) = (t ∷ xs, stop, ys, us, more, ap (λ (j : List Token). t ∷ j) e, h xs us s, semi, l, text)
 
 pub back_over : (line n : ℕ) (k : List Form) (vs ws : List Value) (t : Token) → SaysAll Deep k vs t (over ws) → Back (inside line n k vs) between t (λ ss. record { line = line; statement = statement_of ws } ∷ ss)
-back_over line n k vs ws t h ts ss text = ([], t, ts, ws, ss, refl, h.0, semicolon_told t.lexeme h.1, refl, text)
+back_over line n k vs ws t h ts ss text = ([], t, ts, ws, ss, refl, h.0, sign_told Semicolon t.lexeme h.1, refl, text)
 
 -- a statement begins as one inside it
 pub back_first : (t : Token) (n : ℕ) (ts : List Token) (ss : List Placed) → SpellsFrom (inside t.line n (statement_form ∷ []) []) (t ∷ ts) ss → SpellsText (t ∷ ts) ss
@@ -207,7 +166,7 @@ reached_back p q t f b c ts ss (refused n) (front, rest, e, l, v) = (t ∷ front
 reached_back p q t f b c ts ss (deep n) (front, u, rest, e, l, v, o, m) = (t ∷ front, u, rest, ap (λ (j : List Token). t ∷ j) e, l, viable_back p q t f b (front ++ u ∷ []) v, o, ap (λ (j : ℕ). opened j front) (sym c) ∙ m)
 
 deep_here : (p q : Place) (t : Token) (f : List Placed → List Placed) → Back p q t f → (ts : List Token) (ss : List Placed) → is_sign OpenParenthesis t.lexeme ≡ true → (count p == 32) ≡ true → ReachedAt p (t ∷ ts) ss (deep (suc (length ts)))
-deep_here p q t f b ts ss o m = ([], t, ts, refl, refl, viable_back p q t f b [] (viable_from q), parenthesis_told t.lexeme o, eqb-true (count p) 32 m)
+deep_here p q t f b ts ss o m = ([], t, ts, refl, refl, viable_back p q t f b [] (viable_from q), sign_told OpenParenthesis t.lexeme o, eqb-true (count p) 32 m)
 
 reached_on : (line n : ℕ) (k k' : List Form) (vs ws : List Value) (t : Token) (ts : List Token) → SaysAll Deep k vs t (on k' ws) → (b : Bool) → is_deep n t.lexeme ≡ b → Reached (inside line (parentheses n t.lexeme) k' ws) ts (run (inside line (parentheses n t.lexeme) k' ws) ts) → Reached (inside line n k vs) (t ∷ ts) (go_in b (inside line (parentheses n t.lexeme) k' ws) (suc (length ts)) (λ q. run q ts))
 reached_on line n k k' vs ws t ts h true e r = deep_here (inside line n k vs) (inside line (parentheses n t.lexeme) k' ws) t (λ ss. ss) (back_on line n (parentheses n t.lexeme) k k' vs ws t h) ts [] (both_left (is_sign OpenParenthesis t.lexeme) (n == 32) e) (both_right (is_sign OpenParenthesis t.lexeme) (n == 32) e)
@@ -218,7 +177,7 @@ reached_on line n k k' vs ws t ts h false e r =
 reached_go : (line n : ℕ) (k : List Form) (vs : List Value) (t : Token) (ts : List Token) (d : Fed) → SaysAll Deep k vs t d → ((q : Place) → Reached q ts (run q ts)) → Reached (inside line n k vs) (t ∷ ts) (go d line n t.lexeme (suc (length ts)) (λ q. run q ts))
 reached_go line n k vs t ts (on k' ws) h r = reached_on line n k k' vs ws t ts h (is_deep n t.lexeme) refl (r (inside line (parentheses n t.lexeme) k' ws))
 reached_go line n k vs t ts (over ws) h r =
-    let none : 0 ≡ parentheses n t.lexeme = ap (parentheses n) (sym (semicolon_told t.lexeme h.1)) in
+    let none : 0 ≡ parentheses n t.lexeme = ap (parentheses n) (sym (sign_told Semicolon t.lexeme h.1)) in
     reached_back (inside line n k vs) between t (λ ss. record { line = line; statement = statement_of ws } ∷ ss) (back_over line n k vs ws t h) none ts (run between ts).statements (run between ts).stop (r between)
 reached_go line n k vs t ts stuck h r = ([], t ∷ ts, refl, refl, viable_from (inside line n k vs))
 

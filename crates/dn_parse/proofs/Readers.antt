@@ -1,16 +1,17 @@
 -- What is read of each part is what the machine does with its form.
 use Rattle.std.proofs.Common.{◌≡◌, ◌∙◌, eq-eqb, eqb-true, ap, sym, refl, subst, ℕ, zero, suc, ◌+◌, ◌-◌, ◌==◌, Bool, true, false, List, [], ◌∷◌, ◌++◌, length, Option, Some, None, Result, Ok, Err, arith}
 use Rattle.dn_token.specs.declared.token.Keyword.{Keyword}
+use Rattle.dn_token.specs.declared.token.Sign.{Sign}
 use Rattle.dn_token.specs.declared.token.Keyword.TheVariants.{Accept, Map, To, And, At, Over}
 use Rattle.dn_token.specs.declared.token.Sign.TheVariants.{Semicolon, Comma, OpenBracket, CloseBracket, OpenParenthesis, CloseParenthesis, Minus, Plus, Times, Dot, Dots}
 use Rattle.dn_token.specs.Token.{Lexeme, Token, word, keyword, number, sign}
 use Rattle.dn_parse.specs.Tree.{Expression, minus, Block, Dest, Entry}
-use Rattle.dn_parse.specs.Actions.{Value, Action, perform, text, expression, members, perhaps, part, name, perhaps_name, block, blocks, dest, dests, entry, entries, spec, make_variable, first_member, next_member, make_sum, make_product, make_difference, no_expression, some_expression, make_part, first_part, next_part, no_name, some_name, make_block, no_blocks, first_block, next_block, make_dest, first_dest, next_dest, make_entry, no_entries, first_entry, next_entry, make_spec, keep}
-use Rattle.dn_parse.specs.Forms.{Form, does, either, the_keyword, the_sign}
+use Rattle.dn_parse.specs.Actions.{summed, multiplied, Value, Action, perform, text, expression, members, perhaps, part, name, perhaps_name, block, blocks, dest, dests, entry, entries, spec, make_variable, first_item, next_item, make_sum, make_product, make_difference, no_expression, some_expression, make_part, no_name, some_name, make_block, no_blocks, make_dest, make_entry, no_entries, make_spec, keep}
+use Rattle.dn_parse.specs.Forms.{Form, does, either, many, the_keyword, the_sign, is_sign}
 use Rattle.dn_parse.specs.Forms.{and_then as both}
-use Rattle.dn_parse.specs.Syntax.{factor, more_factors, term, more_terms, expr, less, after_open, index, part_form, more_parts, name_form, upper, block_form, at_addr, dest_form, more_dests, entry_form, more_blocks, accept, more_entries, map_form, over, spec_form}
-use Rattle.dn_parse.specs.Machine.{Stop, inside, run, go, go_in, feed}
-use Rattle.dn_parse.specs.Descent.{and_then, optional, less_with, word_at, keyword_at, Read, Reader, sign_at, row_at, row, with_front, after_sign, after_keyword, factor_of, nested_at, factor_at, next_factor_at, factors_at, term_at, next_term_at, terms_at, expr_at, after_open_at, index_at, part_at, next_part_at, name_at, upper_at, block_at, next_block_at, blocks_at, addr_at, dest_at, next_dest_at, dests_at, entry_at, next_entry_at, entries_at, accept_at, map_at, over_at, spec_at}
+use Rattle.dn_parse.specs.Syntax.{mark, factor, more_factors, term, more_terms, expr, less, after_open, index, part_form, more_parts, name_form, upper, block_form, at_addr, dest_form, more_dests, entry_form, more_blocks, accept, more_entries, map_form, over, spec_form}
+use Rattle.dn_parse.specs.Machine.{Stop, inside, run, go, go_in, feed, is_deep, parentheses}
+use Rattle.dn_parse.specs.Descent.{and_then, optional, after, one_more, first_and, in_brackets, less_with, word_at, keyword_at, Read, Next, Reader, sign_at, row_at, row, with_front, after_sign, after_keyword, factor_of, nested_at, factor_at, next_factor_at, factors_at, term_at, next_term_at, terms_at, expr_at, after_open_at, index_at, part_at, next_part_at, name_at, upper_at, block_at, next_block_at, blocks_at, addr_at, dest_at, next_dest_at, dests_at, entry_at, next_entry_at, entries_at, accept_at, map_at, over_at, spec_at}
 use Rattle.dn_parse.proofs.Does.{Does, Row, does_by, seq, pass, last, act, keyword_counts, sign_counts, keyword_after, sign_after, word_does, if_keyword, if_sign, seq_on, pass_last, does_same, assoc, row_does, most_row_does}
 use Rattle.dn_parse.proofs.Nested.{one_less}
 use Rattle.dn_parse.proofs.Turns.{run_does}
@@ -28,39 +29,37 @@ bind_same (Ok a) f g e = e a
 bind_same (Err z) f g e = refl
 
 -- one part more
-pub step_does : {X : Type 0} (f : Form) (n : ℕ) (valX : X → Value) (acc : List X → Value) (reader : Reader X) (a : Action) → ((ts : List Token) → Does f n n ts [] valX (reader ts)) → ((es : List X) (x : X) (vs : List Value) → perform a (valX x ∷ acc es ∷ vs) ≡ acc (es ++ x ∷ []) ∷ vs) → (es : List X) (rest : List Token) → Does (both f (does a)) n n rest (acc es ∷ []) (λ x. acc (es ++ x ∷ [])) (reader rest)
-step_does f n valX acc reader a h e es rest = does_same _ _ (bind_ok (reader rest)) (seq (reader rest) (λ p. Ok (p.0, p.1)) (h rest) (λ x r. last x a (e es x)))
+pub step_does : {X : Type 0} (f : Form) (n : ℕ) (valX : X → Value) (acc : List X → Value) (reader : Reader X) → ((ts : List Token) → Does f n n ts [] valX (reader ts)) → ((es : List X) (x : X) (vs : List Value) → perform next_item (valX x ∷ acc es ∷ vs) ≡ acc (es ++ x ∷ []) ∷ vs) → (es : List X) (rest : List Token) → Does (both f (does next_item)) n n rest (acc es ∷ []) (λ x. acc (es ++ x ∷ [])) (reader rest)
+step_does f n valX acc reader h e es rest = does_same _ _ (bind_ok (reader rest)) (seq (reader rest) (λ p. Ok (p.0, p.1)) (h rest) (λ x r. last x next_item (e es x)))
   where
     bind_ok : {A : Type 0} (r : Result A Stop) → and_then r (λ p. Ok p) ≡ r
     bind_ok (Ok a) = refl
     bind_ok (Err z) = refl
 
--- factors and terms, from what is read of a factor
-factor_row : (n d : ℕ) → IsRead n factor (factor_at d) → Row (the_sign Times) (both factor (does next_member)) n members (factor_at d) (next_factor_at d)
-unfolding next_factor_at after_sign
-factor_row n d h = record {
-  counts = sign_counts Times n n refl refl;
+-- a row of parts, one behind another by a sign
+pub sign_row : {X : Type 0} (s : Sign) (f : Form) (n : ℕ) (valX : X → Value) (acc : List X → Value) (reader : Reader X) (next : List Token → Next X) → parentheses n (sign s) ≡ n → is_deep n (sign s) ≡ false → ((ts : List Token) → next ts ≡ optional (after (is_sign s) ts) (λ rest. one_more (reader rest)) (Ok None)) → ((ts : List Token) → Does f n n ts [] valX (reader ts)) → ((es : List X) (x : X) (vs : List Value) → perform next_item (valX x ∷ acc es ∷ vs) ≡ acc (es ++ x ∷ []) ∷ vs) → Row (the_sign s) (both f (does next_item)) n acc reader next
+sign_row s f n valX acc reader next p d nexts h e = record {
+  counts = sign_counts s n n p d;
   keeps = λ l vs. refl;
-  nexts = λ ts. refl;
-  steps = step_does factor n expression members (factor_at d) next_member h (λ es x vs. refl);
+  nexts = nexts;
+  steps = step_does f n valX acc reader h e;
 }
+
+-- the first part, and then the row
+pub row_read : {X : Type 0} (s : Sign) (f : Form) (n : ℕ) (valX : X → Value) (acc : List X → Value) (reader : Reader X) (next : List Token → Next X) → parentheses n (sign s) ≡ n → is_deep n (sign s) ≡ false → ((ts : List Token) → next ts ≡ optional (after (is_sign s) ts) (λ rest. one_more (reader rest)) (Ok None)) → ((ts : List Token) → Does f n n ts [] valX (reader ts)) → ((x : X) (vs : List Value) → perform first_item (valX x ∷ vs) ≡ acc (x ∷ []) ∷ vs) → ((es : List X) (x : X) (vs : List Value) → perform next_item (valX x ∷ acc es ∷ vs) ≡ acc (es ++ x ∷ []) ∷ vs) → (ts : List Token) → Does (both f (both (does first_item) (many (both (mark s) (both f (does next_item)))))) n n ts [] acc (first_and reader next ts)
+row_read s f n valX acc reader next p d nexts h begun added ts = seq (reader ts) _ (h ts) (λ x rest. act (acc (x ∷ []) ∷ []) first_item _ (λ vs. begun x vs) (row_does (the_sign s) _ n acc reader next (sign_row s f n valX acc reader next p d nexts h added) rest (x ∷ [])))
+
+-- factors and terms, from what is read of a member
+members_read : (s : Sign) (f : Form) (n : ℕ) (reader : Reader Expression) (next : List Token → Next Expression) (a : Action) (joined : List Expression → Expression) → parentheses n (sign s) ≡ n → is_deep n (sign s) ≡ false → ((ts : List Token) → next ts ≡ optional (after (is_sign s) ts) (λ rest. one_more (reader rest)) (Ok None)) → ((es : List Expression) (vs : List Value) → perform a (members es ∷ vs) ≡ expression (joined es) ∷ vs) → IsRead n f reader → IsRead n (both f (both (does first_item) (both (many (both (mark s) (both f (does next_item)))) (does a)))) (λ ts. and_then (first_and reader next ts) (λ ms. Ok (joined ms.0, ms.1)))
+members_read s f n reader next a joined p d nexts made h ts = does_same _ _ (assoc (reader ts) _ _) (seq (reader ts) _ (h ts) (λ e rest. act (members (e ∷ []) ∷ []) first_item _ (λ vs. refl) (seq_on (with_front (e ∷ []) (row_at next rest)) _ (row_does (the_sign s) _ n members reader next (sign_row s f n expression members reader next p d nexts h (λ es x vs. refl)) rest (e ∷ [])) (λ es more. last _ a (λ vs. made es vs)))))
 
 term_read : (n d : ℕ) → IsRead n factor (factor_at d) → IsRead n term (term_at d)
-unfolding term term_at factors_at more_factors
-term_read n d h ts = does_same _ _ (assoc (factor_at d ts) _ _) (seq (factor_at d ts) _ (h ts) (λ e rest. act (members (e ∷ []) ∷ []) first_member _ (λ vs. refl) (seq_on (with_front (e ∷ []) (row_at (next_factor_at d) rest)) _ (row_does (the_sign Times) _ n members (factor_at d) (next_factor_at d) (factor_row n d h) rest (e ∷ [])) (λ es more. last _ make_product (λ vs. refl)))))
-
-term_row : (n d : ℕ) → IsRead n term (term_at d) → Row (the_sign Plus) (both term (does next_member)) n members (term_at d) (next_term_at d)
-unfolding next_term_at after_sign
-term_row n d h = record {
-  counts = sign_counts Plus n n refl refl;
-  keeps = λ l vs. refl;
-  nexts = λ ts. refl;
-  steps = step_does term n expression members (term_at d) next_member h (λ es x vs. refl);
-}
+unfolding term term_at factors_at more_factors next_factor_at after_sign
+term_read n d h = members_read Times factor n (factor_at d) (next_factor_at d) make_product multiplied refl refl (λ ts. refl) (λ es vs. refl) h
 
 expr_by : (n d : ℕ) → IsRead n term (term_at d) → IsRead n expr (expr_at d)
-unfolding expr expr_at terms_at more_terms
-expr_by n d h ts = does_same _ _ (assoc (term_at d ts) _ _) (seq (term_at d ts) _ (h ts) (λ e rest. act (members (e ∷ []) ∷ []) first_member _ (λ vs. refl) (seq_on (with_front (e ∷ []) (row_at (next_term_at d) rest)) _ (row_does (the_sign Plus) _ n members (term_at d) (next_term_at d) (term_row n d h) rest (e ∷ [])) (λ es more. last _ make_sum (λ vs. refl)))))
+unfolding expr expr_at terms_at more_terms next_term_at after_sign
+expr_by n d h = members_read Plus term n (term_at d) (next_term_at d) make_sum summed refl refl (λ ts. refl) (λ es vs. refl) h
 
 -- what follows a parenthesis
 abbrev pub closing : Expression × List Token → Read Expression
@@ -156,18 +155,9 @@ part_does : (n d : ℕ) → Left n d → (ts : List Token) → Does part_form n 
 unfolding part_form part_at
 part_does n d left ts = seq (word_at ts) _ (word_does n ts) (λ w rest. seq (index_at d rest) _ (index_does n d left rest) (λ i r. last _ make_part (λ vs. refl)))
 
-part_row : (n d : ℕ) → Left n d → Row (the_sign Dot) (both part_form (does next_part)) n name (part_at d) (next_part_at d)
-unfolding next_part_at after_sign
-part_row n d left = record {
-  counts = sign_counts Dot n n refl refl;
-  keeps = λ l vs. refl;
-  nexts = λ ts. refl;
-  steps = step_does part_form n part name (part_at d) next_part (part_does n d left) (λ es x vs. refl);
-}
-
 pub name_read : (n d : ℕ) → Left n d → (ts : List Token) → Does name_form n n ts [] name (name_at d ts)
-unfolding name_form name_at more_parts
-name_read n d left ts = seq (part_at d ts) _ (part_does n d left ts) (λ e rest. act (name (e ∷ []) ∷ []) first_part _ (λ vs. refl) (row_does (the_sign Dot) _ n name (part_at d) (next_part_at d) (part_row n d left) rest (e ∷ [])))
+unfolding name_form name_at more_parts next_part_at after_sign
+name_read n d left ts = row_read Dot part_form n part name (part_at d) (next_part_at d) refl refl (λ ts. refl) (part_does n d left) (λ x vs. refl) (λ es x vs. refl) ts
 
 pub name_does : (ts : List Token) → Does name_form 0 0 ts [] name (name_at 32 ts)
 name_does ts = name_read 0 32 refl ts
@@ -181,14 +171,9 @@ block_does : (ts : List Token) → Does block_form 0 0 ts [] block (block_at ts)
 unfolding block_form block_at
 block_does ts = seq (expr_at 32 ts) _ (expr_does ts) (λ lo rest. seq (upper_at rest) _ (upper_does rest) (λ hi r. last _ make_block (λ vs. refl)))
 
-block_row : Row (the_sign Comma) (both block_form (does next_block)) 0 blocks block_at next_block_at
+block_row : Row (the_sign Comma) (both block_form (does next_item)) 0 blocks block_at next_block_at
 unfolding next_block_at after_sign
-block_row = record {
-  counts = sign_counts Comma 0 0 refl refl;
-  keeps = λ l vs. refl;
-  nexts = λ ts. refl;
-  steps = step_does block_form 0 block blocks block_at next_block block_does (λ es x vs. refl);
-}
+block_row = sign_row Comma block_form 0 block blocks block_at next_block_at refl refl (λ ts. refl) block_does (λ es x vs. refl)
 
 -- destinations and entries
 addr_does : (ts : List Token) → Does at_addr 0 0 ts [] perhaps (addr_at ts)
@@ -199,13 +184,13 @@ dest_does : (ts : List Token) → Does dest_form 0 0 ts [] dest (dest_at ts)
 unfolding dest_form dest_at
 dest_does ts = seq (name_at 32 ts) _ (name_does ts) (λ n rest. seq (addr_at rest) _ (addr_does rest) (λ a r. last _ make_dest (λ vs. refl)))
 
-dest_row : Row (the_keyword And) (both dest_form (does next_dest)) 0 dests dest_at next_dest_at
+dest_row : Row (the_keyword And) (both dest_form (does next_item)) 0 dests dest_at next_dest_at
 unfolding next_dest_at after_keyword
 dest_row = record {
   counts = keyword_counts And 0;
   keeps = λ l vs. refl;
   nexts = λ ts. refl;
-  steps = step_does dest_form 0 dest dests dest_at next_dest dest_does (λ es x vs. refl);
+  steps = step_does dest_form 0 dest dests dest_at dest_does (λ es x vs. refl);
 }
 
 abbrev entry_with : Block → List Dest × List Token → Read Entry
@@ -215,42 +200,29 @@ entry_same : (b : Block) (ts : List Token) → and_then (dest_at ts) (λ first. 
 unfolding dests_at
 entry_same b ts = assoc (dest_at ts) _ _
 
-dests_does : (b : Block) (ts : List Token) → Does (both dest_form (both (does first_dest) (both (more_dests 7) (does make_entry)))) 0 0 ts (block b ∷ []) entry (and_then (dests_at ts) (entry_with b))
+dests_does : (b : Block) (ts : List Token) → Does (both dest_form (both (does first_item) (both (more_dests 7) (does make_entry)))) 0 0 ts (block b ∷ []) entry (and_then (dests_at ts) (entry_with b))
 unfolding more_dests
-dests_does b ts = does_same _ _ (entry_same b ts) (seq (dest_at ts) _ (dest_does ts) (λ d rest. act (dests (d ∷ []) ∷ block b ∷ []) first_dest _ (λ vs. refl) (seq_on (with_front (d ∷ []) (row next_dest_at 7 rest)) _ (most_row_does (the_keyword And) _ 0 dests dest_at next_dest_at dest_row 7 rest (d ∷ [])) (λ ds r. last _ make_entry (λ vs. refl)))))
+dests_does b ts = does_same _ _ (entry_same b ts) (seq (dest_at ts) _ (dest_does ts) (λ d rest. act (dests (d ∷ []) ∷ block b ∷ []) first_item _ (λ vs. refl) (seq_on (with_front (d ∷ []) (row next_dest_at 7 rest)) _ (most_row_does (the_keyword And) _ 0 dests dest_at next_dest_at dest_row 7 rest (d ∷ [])) (λ ds r. last _ make_entry (λ vs. refl)))))
 
 entry_does : (ts : List Token) → Does entry_form 0 0 ts [] entry (entry_at ts)
 unfolding entry_form entry_at
 entry_does ts = seq (block_at ts) _ (block_does ts) (λ b rest. pass (keyword_at To rest) _ (keyword_after To 0 rest) (λ r. dests_does b r))
 
-entry_row : Row (the_sign Comma) (both entry_form (does next_entry)) 0 entries entry_at next_entry_at
+entry_row : Row (the_sign Comma) (both entry_form (does next_item)) 0 entries entry_at next_entry_at
 unfolding next_entry_at after_sign
-entry_row = record {
-  counts = sign_counts Comma 0 0 refl refl;
-  keeps = λ l vs. refl;
-  nexts = λ ts. refl;
-  steps = step_does entry_form 0 entry entries entry_at next_entry entry_does (λ es x vs. refl);
-}
+entry_row = sign_row Comma entry_form 0 entry entries entry_at next_entry_at refl refl (λ ts. refl) entry_does (λ es x vs. refl)
 
 -- lists in brackets
-abbrev closed_list : {X : Type 0} → List X × List Token → Read (List X)
-closed_list l = and_then (sign_at CloseBracket l.1) (λ rest. Ok (l.0, rest))
-
-blocks_same : (inner : List Token) → and_then (block_at inner) (λ first. and_then (with_front (first.0 ∷ []) (row_at next_block_at first.1)) closed_list) ≡ and_then (blocks_at inner) closed_list
-unfolding blocks_at
-blocks_same inner = assoc (block_at inner) _ _
+list_does : {X : Type 0} (f : Form) (valX : X → Value) (acc : List X → Value) (reader : Reader X) (next : List Token → Next X) → Row (the_sign Comma) (both f (does next_item)) 0 acc reader next → ((ts : List Token) → Does f 0 0 ts [] valX (reader ts)) → ((x : X) (vs : List Value) → perform first_item (valX x ∷ vs) ≡ acc (x ∷ []) ∷ vs) → (ts : List Token) → Does (both (mark OpenBracket) (both f (both (does first_item) (both (many (both (mark Comma) (both f (does next_item)))) (mark CloseBracket))))) 0 0 ts [] acc (in_brackets (first_and reader next) ts)
+list_does f valX acc reader next row h e ts = pass (sign_at OpenBracket ts) _ (sign_after OpenBracket 0 0 ts refl refl) (λ inner. does_same _ _ (assoc (reader inner) _ _) (seq (reader inner) _ (h inner) (λ x r. act (acc (x ∷ []) ∷ []) first_item _ (λ vs. e x vs) (seq_on (with_front (x ∷ []) (row_at next r)) _ (row_does (the_sign Comma) _ 0 acc reader next row r (x ∷ [])) (λ xs r'. pass_last acc xs (sign_at CloseBracket r') (sign_after CloseBracket 0 0 r' refl refl))))))
 
 accept_does : (ts : List Token) → Does accept 0 0 ts [] blocks (accept_at ts)
-unfolding accept accept_at more_blocks
-accept_does ts = if_keyword _ _ Accept ts (λ rest. pass (sign_at OpenBracket rest) _ (sign_after OpenBracket 0 0 rest refl refl) (λ inner. does_same _ _ (blocks_same inner) (seq (block_at inner) _ (block_does inner) (λ b r. act (blocks (b ∷ []) ∷ []) first_block _ (λ vs. refl) (seq_on (with_front (b ∷ []) (row_at next_block_at r)) _ (row_does (the_sign Comma) _ 0 blocks block_at next_block_at block_row r (b ∷ [])) (λ bs r'. pass_last blocks bs (sign_at CloseBracket r') (sign_after CloseBracket 0 0 r' refl refl))))))) (last _ no_blocks (λ vs. refl))
-
-entries_same : (inner : List Token) → and_then (entry_at inner) (λ first. and_then (with_front (first.0 ∷ []) (row_at next_entry_at first.1)) closed_list) ≡ and_then (entries_at inner) closed_list
-unfolding entries_at
-entries_same inner = assoc (entry_at inner) _ _
+unfolding accept accept_at more_blocks blocks_at
+accept_does ts = if_keyword _ _ Accept ts (list_does block_form block blocks block_at next_block_at block_row block_does (λ b vs. refl)) (last _ no_blocks (λ vs. refl))
 
 map_does : (ts : List Token) → Does map_form 0 0 ts [] entries (map_at ts)
-unfolding map_form map_at more_entries
-map_does ts = if_keyword _ _ Map ts (λ rest. pass (sign_at OpenBracket rest) _ (sign_after OpenBracket 0 0 rest refl refl) (λ inner. does_same _ _ (entries_same inner) (seq (entry_at inner) _ (entry_does inner) (λ e r. act (entries (e ∷ []) ∷ []) first_entry _ (λ vs. refl) (seq_on (with_front (e ∷ []) (row_at next_entry_at r)) _ (row_does (the_sign Comma) _ 0 entries entry_at next_entry_at entry_row r (e ∷ [])) (λ es r'. pass_last entries es (sign_at CloseBracket r') (sign_after CloseBracket 0 0 r' refl refl))))))) (last _ no_entries (λ vs. refl))
+unfolding map_form map_at more_entries entries_at
+map_does ts = if_keyword _ _ Map ts (list_does entry_form entry entries entry_at next_entry_at entry_row entry_does (λ e vs. refl)) (last _ no_entries (λ vs. refl))
 
 over_does : (ts : List Token) → Does over 0 0 ts [] perhaps_name (over_at ts)
 unfolding over over_at

@@ -1,6 +1,6 @@
 -- The tokens with which a form may begin, and those with which it may go on at its end; and what makes each choice of the machine the right one.
-use Rattle.std.proofs.Common.{◌≡◌, ◌∙◌, ◌⊎◌, inl, inr, sym, refl, subst, ℕ, Bool, true, false, not, ◌&&◌, ◌||◌, ◌==◌, eqb-true, eq-eqb, List, [], ◌∷◌, ◌++◌}
-use denote.Enum.Declared.{tag_of}
+use Rattle.std.proofs.Common.{◌≡◌, ◌∙◌, ◌⊎◌, inl, inr, ap, sym, refl, subst, ℕ, Bool, true, false, not, ◌&&◌, ◌||◌, List, [], ◌∷◌, ◌++◌}
+use denote.Enum.Bare.{same_true}
 use Rattle.std.proofs.lemmas.Slice.Eq.{bytes_eq-Decides}
 use Rattle.dn_token.specs.contracts.token.Sign.{the_type as the_signs}
 use Rattle.dn_token.specs.contracts.token.Keyword.{the_type as the_keywords}
@@ -9,8 +9,7 @@ use Rattle.dn_token.specs.declared.token.Sign.{Sign}
 use Rattle.dn_token.specs.declared.token.Sign.TheVariants.{OpenParenthesis}
 use Rattle.dn_token.specs.Token.{Lexeme, Token, word, keyword, number, sign}
 use Rattle.dn_parse.specs.Actions.{Value, perform}
-use Rattle.dn_token.specs.Words.{same_keyword, same_sign}
-use Rattle.dn_parse.specs.Forms.{Form, takes, does, and_then, either, many, parenthesised, Sort, a_word, any_word, a_number, the_word, the_keyword, the_sign, is, is_sign}
+use Rattle.dn_parse.specs.Forms.{Form, takes, does, and_then, either, many, parenthesised, Sort, a_word, any_word, a_number, the_word, the_keyword, the_sign, is_any, is_the_word, is_keyword, is_sign, is}
 use Rattle.dn_parse.proofs.Taken.{Inner}
 
 -- whether a form may be left out
@@ -44,24 +43,19 @@ goes_on (either f g) = goes_on f ++ (goes_on g ++ given (may_skip g) (starts f))
 goes_on (many f) = starts f ++ goes_on f
 goes_on parenthesised = []
 
--- two sorts of tokens have a token in common
-abbrev pub is_wordy : Sort → Bool
-is_wordy a_word = true
-is_wordy any_word = true
-is_wordy a_number = false
-is_wordy (the_word w) = true
-is_wordy (the_keyword k) = true
-is_wordy (the_sign s) = false
-
 -- it has words that are not reserved
 abbrev pub is_free_word : Sort → Bool
-is_free_word a_word = true
-is_free_word any_word = true
 is_free_word a_number = false
-is_free_word (the_word w) = true
 is_free_word (the_keyword k) = false
 is_free_word (the_sign s) = false
+is_free_word s = true
 
+-- it has words, reserved or not
+abbrev pub is_wordy : Sort → Bool
+is_wordy (the_keyword k) = true
+is_wordy s = is_free_word s
+
+-- two sorts of tokens have a token in common
 abbrev pub meets : Sort → Sort → Bool
 meets a_word u = is_free_word u
 meets any_word u = is_wordy u
@@ -154,83 +148,69 @@ among_first xs ys l e = among_append xs ys l ∙ one_left (among xs l) (among ys
 pub among_second : (xs ys : List Sort) (l : Lexeme) → among ys l ≡ true → among (xs ++ ys) l ≡ true
 among_second xs ys l e = among_append xs ys l ∙ one_right (among xs l) (among ys l) e
 
+-- the word, the reserved word or the sign that a test asks for
+pub word_told : (v : List ℕ) (l : Lexeme) → is_the_word v l ≡ true → l ≡ word v
+word_told v (word w) e = ap word ((bytes_eq-Decides w v).0 e)
+word_told v (keyword k) e = cc
+word_told v (number n) e = cc
+word_told v (sign s) e = cc
+
+pub keyword_told : (k : Keyword) (l : Lexeme) → is_keyword k l ≡ true → l ≡ keyword k
+keyword_told k (word w) e = cc
+keyword_told k (keyword j) e = ap keyword (same_true the_keywords tt j k e)
+keyword_told k (number n) e = cc
+keyword_told k (sign s) e = cc
+
+pub sign_told : (s : Sign) (l : Lexeme) → is_sign s l ≡ true → l ≡ sign s
+sign_told s (word w) e = cc
+sign_told s (keyword k) e = cc
+sign_told s (number n) e = cc
+sign_told s (sign u) e = ap sign (same_true the_signs tt u s e)
+
 -- two sorts of one token meet
-same_by : (k l m : ℕ) → (m == k) ≡ true → (m == l) ≡ true → (k == l) ≡ true
-same_by k l m e f = eq-eqb k l (sym (eqb-true m k e) ∙ eqb-true m l f)
+free_word : (u : Sort) (w : List ℕ) → is u (word w) ≡ true → is_free_word u ≡ true
+free_word a_word w e = refl
+free_word any_word w e = refl
+free_word a_number w e = cc
+free_word (the_word v) w e = refl
+free_word (the_keyword k) w e = cc
+free_word (the_sign s) w e = cc
 
-word_for_word : (u : Sort) (w : List ℕ) → is u (word w) ≡ true → is_free_word u ≡ true
-word_for_word a_word w e = refl
-word_for_word any_word w e = refl
-word_for_word a_number w e = cc
-word_for_word (the_word v) w e = refl
-word_for_word (the_keyword k) w e = cc
-word_for_word (the_sign s) w e = cc
+wordy : (u : Sort) (l : Lexeme) → is_any l ≡ true → is u l ≡ true → is_wordy u ≡ true
+wordy a_word l e f = refl
+wordy any_word l e f = refl
+wordy a_number (word w) e f = cc
+wordy a_number (keyword k) e f = cc
+wordy a_number (number n) e f = cc
+wordy a_number (sign x) e f = cc
+wordy (the_word v) l e f = refl
+wordy (the_keyword k) l e f = refl
+wordy (the_sign s) (word w) e f = cc
+wordy (the_sign s) (keyword k) e f = cc
+wordy (the_sign s) (number n) e f = cc
+wordy (the_sign s) (sign x) e f = cc
 
-number_for_number : (u : Sort) (n : ℕ) → is u (number n) ≡ true → is u (number 0) ≡ true
-number_for_number a_word n e = cc
-number_for_number any_word n e = cc
-number_for_number a_number n e = refl
-number_for_number (the_word w) n e = cc
-number_for_number (the_keyword k) n e = cc
-number_for_number (the_sign s) n e = cc
-
-keyword_for_keyword : (u : Sort) (k m : Keyword) → same_keyword k m ≡ true → is u (keyword m) ≡ true → is u (keyword k) ≡ true
-keyword_for_keyword a_word k m s e = cc
-keyword_for_keyword any_word k m s e = refl
-keyword_for_keyword a_number k m s e = cc
-keyword_for_keyword (the_word w) k m s e = cc
-keyword_for_keyword (the_keyword l) k m s e = same_by (tag_of the_keywords k) (tag_of the_keywords l) (tag_of the_keywords m) s e
-keyword_for_keyword (the_sign x) k m s e = cc
-
-sign_for_sign : (u : Sort) (k m : Sign) → same_sign k m ≡ true → is u (sign m) ≡ true → is u (sign k) ≡ true
-sign_for_sign a_word k m s e = cc
-sign_for_sign any_word k m s e = cc
-sign_for_sign a_number k m s e = cc
-sign_for_sign (the_word w) k m s e = cc
-sign_for_sign (the_keyword l) k m s e = cc
-sign_for_sign (the_sign x) k m s e = same_by (tag_of the_signs k) (tag_of the_signs x) (tag_of the_signs m) s e
-
-wordy_word : (u : Sort) (w : List ℕ) → is u (word w) ≡ true → is_wordy u ≡ true
-wordy_word a_word w e = refl
-wordy_word any_word w e = refl
-wordy_word a_number w e = cc
-wordy_word (the_word v) w e = refl
-wordy_word (the_keyword k) w e = refl
-wordy_word (the_sign s) w e = cc
-
-wordy_keyword : (u : Sort) (k : Keyword) → is u (keyword k) ≡ true → is_wordy u ≡ true
-wordy_keyword a_word k e = cc
-wordy_keyword any_word k e = refl
-wordy_keyword a_number k e = cc
-wordy_keyword (the_word w) k e = cc
-wordy_keyword (the_keyword l) k e = refl
-wordy_keyword (the_sign s) k e = cc
+number_alike : (u : Sort) (n : ℕ) → is u (number n) ≡ is u (number 0)
+number_alike a_word n = refl
+number_alike any_word n = refl
+number_alike a_number n = refl
+number_alike (the_word w) n = refl
+number_alike (the_keyword k) n = refl
+number_alike (the_sign s) n = refl
 
 pub common : (s u : Sort) (l : Lexeme) → is s l ≡ true → is u l ≡ true → meets s u ≡ true
-common a_word u (word w) e f = word_for_word u w f
+common a_word u (word w) e f = free_word u w f
 common a_word u (keyword k) e f = cc
 common a_word u (number n) e f = cc
 common a_word u (sign x) e f = cc
-common any_word u (word w) e f = wordy_word u w f
-common any_word u (keyword k) e f = wordy_keyword u k f
-common any_word u (number n) e f = cc
-common any_word u (sign x) e f = cc
+common any_word u l e f = wordy u l e f
 common a_number u (word w) e f = cc
 common a_number u (keyword k) e f = cc
-common a_number u (number n) e f = number_for_number u n f
+common a_number u (number n) e f = sym (number_alike u n) ∙ f
 common a_number u (sign x) e f = cc
-common (the_word v) u (word w) e f = subst (λ (x : List ℕ). is u (word x) ≡ true) ((bytes_eq-Decides w v).0 e) f
-common (the_word v) u (keyword k) e f = cc
-common (the_word v) u (number n) e f = cc
-common (the_word v) u (sign x) e f = cc
-common (the_keyword k) u (word w) e f = cc
-common (the_keyword k) u (keyword m) e f = keyword_for_keyword u k m e f
-common (the_keyword k) u (number n) e f = cc
-common (the_keyword k) u (sign x) e f = cc
-common (the_sign s) u (word w) e f = cc
-common (the_sign s) u (keyword k) e f = cc
-common (the_sign s) u (number n) e f = cc
-common (the_sign s) u (sign x) e f = sign_for_sign u s x e f
+common (the_word v) u l e f = subst (λ (x : Lexeme). is u x ≡ true) (word_told v l e) f
+common (the_keyword k) u l e f = subst (λ (x : Lexeme). is u x ≡ true) (keyword_told k l e) f
+common (the_sign s) u l e f = subst (λ (x : Lexeme). is u x ≡ true) (sign_told s l e) f
 
 -- a token of sorts that meet none of others is of none of the others
 absurd_bool : (b : Bool) → b ≡ true → b ≡ false → ⊥

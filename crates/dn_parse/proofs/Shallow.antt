@@ -10,8 +10,8 @@ use Rattle.dn_parse.specs.Machine.{Fed, on, over, stuck, feed, Stop, whole, refu
 use Rattle.dn_parse.specs.Laws.{IsDeep, IsShallow, open_parentheses}
 use Rattle.dn_parse.proofs.Counted.{opened, counts_agree}
 use Rattle.dn_parse.proofs.Taken.{Deep, SaysAll, says_all, deep_is_closed}
-use Rattle.dn_parse.proofs.Sets.{both_left, both_right}
-use Rattle.dn_parse.proofs.Reach.{count, semicolon_told, parenthesis_told}
+use Rattle.dn_parse.proofs.Sets.{both_left, both_right, sign_told}
+use Rattle.dn_parse.proofs.Reach.{count}
 use Rattle.dn_parse.proofs.Final.{Within, within, final, deep_is_first}
 use Rattle.dn_parse.proofs.Whole.{spelled_is_read}
 
@@ -23,7 +23,7 @@ IsBefore n (deep m) = n ≤ m
 
 -- after a token the place has the parentheses that the token leaves open
 over_none : (t : Token) (n : ℕ) → is_sign Semicolon t.lexeme ≡ true → 0 ≡ parentheses n t.lexeme
-over_none t n e = ap (parentheses n) (sym (semicolon_told t.lexeme e))
+over_none t n e = ap (parentheses n) (sym (sign_told Semicolon t.lexeme e))
 
 -- a parenthesis ends no statement
 not_both : (l : Lexeme) → l ≡ sign OpenParenthesis → is_sign Semicolon l ≡ true → ⊥
@@ -86,7 +86,7 @@ one_more_open n l o = rw o refl
 -- no parenthesis there is nested too deep
 not_deep : (n : ℕ) (l : Lexeme) → is_deep n l ≡ true → parentheses n l ≤ 32 → ⊥
 not_deep n l e h =
-    let o = parenthesis_told l (both_left (is_sign OpenParenthesis l) (n == 32) e) in
+    let o = sign_told OpenParenthesis l (both_left (is_sign OpenParenthesis l) (n == 32) e) in
     let full : n ≡ 32 = eqb-true n 32 (both_right (is_sign OpenParenthesis l) (n == 32) e) in
     let more = one_more_open n l o in
     omega arith

@@ -1,3 +1,4 @@
+pub mod Terms
 pub mod Tree
 pub mod Actions
 pub mod Forms
@@ -8,6 +9,7 @@ pub mod Machine
 pub mod Whole
 pub mod Laws
 pub mod Descent
+pub mod Rows
 pub mod Commands
 pub mod Plain
 pub mod Script

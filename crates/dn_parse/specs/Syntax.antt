@@ -6,7 +6,7 @@ use Rattle.dn_token.specs.declared.token.Sign.{Sign}
 use Rattle.dn_token.specs.declared.token.Sign.TheVariants.{Semicolon, Comma, OpenBracket, CloseBracket, OpenParenthesis, CloseParenthesis, Minus, Plus, Times, Dot, Dots}
 use Rattle.dn_token.specs.Token.{Token, sign}
 use Rattle.dn_parse.specs.Tree.{Statement, Placed, ends}
-use Rattle.dn_parse.specs.Actions.{Value, statement, keep, make_variable, first_member, next_member, make_sum, make_product, make_difference, no_expression, some_expression, make_part, first_part, next_part, no_name, some_name, first_name, next_name, make_block, no_blocks, first_block, next_block, make_dest, first_dest, next_dest, make_entry, no_entries, first_entry, next_entry, make_spec, make_number_param, make_node_param, no_params, first_param, next_param, make_number_arg, make_node_arg, no_args, first_arg, next_arg, make_plain, make_agent, make_vectors, make_unit, make_module, make_use, make_loop, make_end, make_begin, no_access, for_read, for_write, make_resolve, make_lookup, make_view, make_grant, make_route, make_revoke, make_dump, make_split, make_absorb}
+use Rattle.dn_parse.specs.Actions.{Value, statement, keep, make_variable, first_item, next_item, make_sum, make_product, make_difference, no_expression, some_expression, make_part, no_name, some_name, make_block, no_blocks, make_dest, make_entry, no_entries, make_spec, make_number_param, make_node_param, no_params, make_number_arg, make_node_arg, no_args, make_plain, make_agent, make_vectors, make_unit, make_module, make_use, make_loop, make_end, make_begin, no_access, for_read, for_write, make_resolve, make_lookup, make_view, make_grant, make_route, make_revoke, make_dump, make_split, make_absorb}
 use Rattle.dn_parse.specs.Forms.{Form, takes, does, many, parenthesised, either, and_then, a_word, any_word, a_number, the_word, the_keyword, the_sign, in_order, one_of, Spells}
 
 -- one reserved word
@@ -36,19 +36,19 @@ factor = one_of (takes a_number) (and_then (takes a_word) (does make_variable) �
 
 -- { "*" factor }
 unfoldable pub more_factors : Form
-more_factors = many (in_order (mark Times) (factor ∷ does next_member ∷ []))
+more_factors = many (in_order (mark Times) (factor ∷ does next_item ∷ []))
 
 -- term = factor { "*" factor }
 unfoldable pub term : Form
-term = in_order factor (does first_member ∷ more_factors ∷ does make_product ∷ [])
+term = in_order factor (does first_item ∷ more_factors ∷ does make_product ∷ [])
 
 -- { "+" term }
 unfoldable pub more_terms : Form
-more_terms = many (in_order (mark Plus) (term ∷ does next_member ∷ []))
+more_terms = many (in_order (mark Plus) (term ∷ does next_item ∷ []))
 
 -- expr = term { "+" term }
 unfoldable pub expr : Form
-expr = in_order term (does first_member ∷ more_terms ∷ does make_sum ∷ [])
+expr = in_order term (does first_item ∷ more_terms ∷ does make_sum ∷ [])
 
 -- "-" expr
 unfoldable pub less : Form
@@ -76,11 +76,11 @@ part_form = in_order (takes a_word) (index ∷ does make_part ∷ [])
 
 -- { "." part }
 unfoldable pub more_parts : Form
-more_parts = many (in_order (mark Dot) (part_form ∷ does next_part ∷ []))
+more_parts = many (in_order (mark Dot) (part_form ∷ does next_item ∷ []))
 
 -- name = part { "." part }
 unfoldable pub name_form : Form
-name_form = in_order part_form (does first_part ∷ more_parts ∷ [])
+name_form = in_order part_form (does first_item ∷ more_parts ∷ [])
 
 -- [ "-" expr ]
 unfoldable pub upper : Form
@@ -100,27 +100,27 @@ dest_form = in_order name_form (at_addr ∷ does make_dest ∷ [])
 
 -- { "and" dest }, at most so many times
 unfoldable pub more_dests : ℕ → Form
-more_dests n = at_most n (in_order (the And) (dest_form ∷ does next_dest ∷ []))
+more_dests n = at_most n (in_order (the And) (dest_form ∷ does next_item ∷ []))
 
 -- entry = block "to" dest { "and" dest }          (1 to 8 dest)
 unfoldable pub entry_form : Form
-entry_form = in_order block_form (the To ∷ dest_form ∷ does first_dest ∷ more_dests 7 ∷ does make_entry ∷ [])
+entry_form = in_order block_form (the To ∷ dest_form ∷ does first_item ∷ more_dests 7 ∷ does make_entry ∷ [])
 
 -- { "," block }
 unfoldable pub more_blocks : Form
-more_blocks = many (in_order (mark Comma) (block_form ∷ does next_block ∷ []))
+more_blocks = many (in_order (mark Comma) (block_form ∷ does next_item ∷ []))
 
 -- [ "accept" "[" block { "," block } "]" ]
 unfoldable pub accept : Form
-accept = either (in_order (the Accept) (mark OpenBracket ∷ block_form ∷ does first_block ∷ more_blocks ∷ mark CloseBracket ∷ [])) (does no_blocks)
+accept = either (in_order (the Accept) (mark OpenBracket ∷ block_form ∷ does first_item ∷ more_blocks ∷ mark CloseBracket ∷ [])) (does no_blocks)
 
 -- { "," entry }
 unfoldable pub more_entries : Form
-more_entries = many (in_order (mark Comma) (entry_form ∷ does next_entry ∷ []))
+more_entries = many (in_order (mark Comma) (entry_form ∷ does next_item ∷ []))
 
 -- [ "map" "[" entry { "," entry } "]" ]
 unfoldable pub map_form : Form
-map_form = either (in_order (the Map) (mark OpenBracket ∷ entry_form ∷ does first_entry ∷ more_entries ∷ mark CloseBracket ∷ [])) (does no_entries)
+map_form = either (in_order (the Map) (mark OpenBracket ∷ entry_form ∷ does first_item ∷ more_entries ∷ mark CloseBracket ∷ [])) (does no_entries)
 
 -- [ "over" name ]
 unfoldable pub over : Form
@@ -144,11 +144,11 @@ vectors_form = in_order (the Vectors) (name_form ∷ the Is ∷ spec_form ∷ do
 
 -- { "," name }, at most so many times
 unfoldable pub more_names : ℕ → Form
-more_names n = at_most n (in_order (mark Comma) (name_form ∷ does next_name ∷ []))
+more_names n = at_most n (in_order (mark Comma) (name_form ∷ does next_item ∷ []))
 
 -- unit = "unit" name "kind" any "page" expr "slots" expr "reach" expr "to" name { "," name }    (1 to 8 names)
 unfoldable pub unit_form : Form
-unit_form = in_order (the UnitWord) (name_form ∷ the Kind ∷ takes any_word ∷ the Page ∷ expr ∷ the Slots ∷ expr ∷ the Reach ∷ expr ∷ the To ∷ name_form ∷ does first_name ∷ more_names 7 ∷ does make_unit ∷ [])
+unit_form = in_order (the UnitWord) (name_form ∷ the Kind ∷ takes any_word ∷ the Page ∷ expr ∷ the Slots ∷ expr ∷ the Reach ∷ expr ∷ the To ∷ name_form ∷ does first_item ∷ more_names 7 ∷ does make_unit ∷ [])
 
 -- param = ( "num" | "node" ) word
 unfoldable pub param_form : Form
@@ -156,11 +156,11 @@ param_form = one_of (in_order (the Num) (takes a_word ∷ does make_number_param
 
 -- { "," param }
 unfoldable pub more_params : Form
-more_params = many (in_order (mark Comma) (param_form ∷ does next_param ∷ []))
+more_params = many (in_order (mark Comma) (param_form ∷ does next_item ∷ []))
 
 -- [ param { "," param } ]
 unfoldable pub params_form : Form
-params_form = either (in_order param_form (does first_param ∷ more_params ∷ [])) (does no_params)
+params_form = either (in_order param_form (does first_item ∷ more_params ∷ [])) (does no_params)
 
 -- module = "module" word "(" [ param { "," param } ] ")"
 unfoldable pub module_form : Form
@@ -172,11 +172,11 @@ arg_form = one_of (in_order expr (does make_number_arg ∷ [])) (in_order (the N
 
 -- { "," arg }
 unfoldable pub more_args : Form
-more_args = many (in_order (mark Comma) (arg_form ∷ does next_arg ∷ []))
+more_args = many (in_order (mark Comma) (arg_form ∷ does next_item ∷ []))
 
 -- [ arg { "," arg } ]
 unfoldable pub args_form : Form
-args_form = either (in_order arg_form (does first_arg ∷ more_args ∷ [])) (does no_args)
+args_form = either (in_order arg_form (does first_item ∷ more_args ∷ [])) (does no_args)
 
 -- instance = "use" word "(" [ arg { "," arg } ] ")" "as" name
 unfoldable pub use_form : Form

@@ -1,17 +1,15 @@
 //! The blocks of a text while it is read: what is open, what stands where, and what is forbidden.
 
 ghost use Rattle.std.specs.Prelude.{◌≡◌, List, map, IfOk};
-ghost use Rattle.dn_parse.specs.Tree.{Item};
-ghost use Rattle.dn_parse.specs.Whole.{no_blocks_yet, closed_block, with_item, with_frame, with_begin, without_frame, outside_blocks, opens_module, before_begin};
-ghost use Rattle.dn_parse.specs.Views.{item_view, param_view, statement_view, opener_view, blocks_view};
-ghost use Rattle.dn_base.specs.Answers.{Answers};
-ghost use Rattle.dn_parse.specs.Faults.{misplaced_view};
+ghost use Rattle.dn_parse.specs.Terms.{Item, before_begin, blocks_view, closed_block, item_view, misplaced_view, no_blocks_yet, opener_view, opens_module, outside_blocks, param_view, statement_view, with_begin, with_frame, with_item, without_frame};
+ghost use Rattle.dn_base.specs.Terms.{Answers};
+ghost use Rattle.dn_parse.specs.declared.blocks.Misplaced.TheVariants.{OutOfMemory as no_memory};
 
 use crate::cursor::Halt;
 use crate::statements::Statement;
 use crate::syntax::{Body, Expr, Param, Stmt};
 use dn_base::items::Items;
-use std::alloc::{AllocError, AllocFailed, Global};
+use std::alloc::{AllocFailed, Global};
 use std::mem;
 
 /// What opens a block.
@@ -58,21 +56,7 @@ pub enum Misplaced {
     OutOfMemory,
 }
 
-impl From<AllocError> for Misplaced {
-    ghost use Rattle.std.specs.Prelude.{◌≡◌};
-    ghost use Rattle.dn_parse.specs.declared.blocks.Misplaced.TheVariants.{OutOfMemory as no_memory};
-
-    ghost from_gives = { λ _ e. e ≡ no_memory };
-
-    fn from(_error: AllocError) -> Misplaced {
-        Misplaced::OutOfMemory
-    }
-}
-
 impl<T: Drop> From<AllocFailed<T>> for Misplaced {
-    ghost use Rattle.std.specs.Prelude.{◌≡◌};
-    ghost use Rattle.dn_parse.specs.declared.blocks.Misplaced.TheVariants.{OutOfMemory as no_memory};
-
     ghost from_gives = { λ _ e. e ≡ no_memory };
 
     fn from(_error: AllocFailed<T>) -> Misplaced {
@@ -90,55 +74,13 @@ pub enum Trouble {
 /// The most blocks that may be open.
 const MOST_BLOCKS: usize = 16;
 
-/// No statement.
-pub fn none<'a>(alloc: Global) -> Blocks<'a>
-    ensures { blocks_view result ≡ no_blocks_yet }
-{
-    Blocks {
-        frames: Vec::new(alloc),
-        body: Vec::new(alloc),
-        begun: false,
-    }
-}
-
-/// Puts one statement more in the innermost block.
-fn put_item<'a>(blocks: &mut Blocks<'a>, item: Stmt<'a>) -> Result<(), Misplaced>
-    ensures { Answers (λ _. blocks_view blocks.new) misplaced_view result
-        (with_item (blocks_view blocks.old) (item_view item.entry)) }
-{
-    blocks.body.push(item)?;
-    Ok(())
-}
-
-/// Opens one more block.
-fn put_frame<'a>(
-    alloc: Global,
-    blocks: &mut Blocks<'a>,
-    line: u32,
-    opener: Opener<'a>,
-) -> Result<(), Misplaced>
-    ensures { Answers (λ _. blocks_view blocks.new) misplaced_view result
-        (with_frame (blocks_view blocks.old) line (opener_view opener.entry)) }
-{
-    if blocks.frames.len() >= MOST_BLOCKS {
-        return Err(Misplaced::Crowded);
-    }
-    let before = mem::replace(&mut blocks.body, Vec::new(alloc));
-    blocks.frames.push(Frame {
-        line,
-        opener,
-        before,
-    })?;
-    Ok(())
-}
-
 /// A block that is closed, as one statement.
 fn closed_block<'a>(
     alloc: Global,
     line: u32,
     opener: Opener<'a>,
     body: Body<'a>,
-) -> Result<Stmt<'a>, AllocError>
+) -> Result<Stmt<'a>, AllocFailed<Expr<'a>>>
     ensures { IfOk result (λ s. (before : List Item) → item_view s ≡
         closed_block (record
         { line = line; opener = opener_view opener.entry; before = before })
@@ -165,98 +107,128 @@ fn closed_block<'a>(
     }
 }
 
-/// Closes the innermost block.
-fn close_frame<'a>(alloc: Global, blocks: &mut Blocks<'a>) -> Result<(), Misplaced>
-    ensures { Answers (λ _. blocks_view blocks.new) misplaced_view result
-        (without_frame (blocks_view blocks.old) (blocks_view blocks.old).frames) }
-{
-    let Some(frame) = blocks.frames.pop() else {
-        return Err(Misplaced::Forbidden);
-    };
-    let Frame {
-        line,
-        opener,
-        before,
-    } = frame;
-    let body = mem::replace(&mut blocks.body, before);
-    let block = closed_block(alloc, line, opener, body)?;
-    blocks.body.push(block)?;
-    Ok(())
-}
-
-/// Opens a module, which stands in no other block.
-fn put_module<'a>(
-    alloc: Global,
-    blocks: &mut Blocks<'a>,
-    line: u32,
-    title: &'a str,
-    params: Items<Param<'a>>,
-) -> Result<(), Misplaced>
-    ensures { Answers (λ _. blocks_view blocks.new) misplaced_view result
-        (outside_blocks (blocks_view blocks.old).frames
-        (with_frame (blocks_view blocks.old) line
-        (opens_module title.now (map param_view params.entry)))) }
-{
-    if !blocks.frames.is_empty() {
-        return Err(Misplaced::Forbidden);
+impl<'a> Blocks<'a> {
+    /// No statement.
+    pub fn none(alloc: Global) -> Blocks<'a>
+        ensures { blocks_view result ≡ no_blocks_yet }
+    {
+        Blocks {
+            frames: Vec::new(alloc),
+            body: Vec::new(alloc),
+            begun: false,
+        }
     }
-    put_frame(alloc, blocks, line, Opener::Module { title, params })
-}
 
-/// Begins, which stands in no block.
-fn put_begin<'a>(blocks: &mut Blocks<'a>) -> Result<(), Misplaced>
-    ensures { Answers (λ _. blocks_view blocks.new) misplaced_view result
-        (outside_blocks (blocks_view blocks.old).frames (with_begin (blocks_view blocks.old))) }
-{
-    if !blocks.frames.is_empty() {
-        return Err(Misplaced::Forbidden);
+    /// Puts one statement more in the innermost block.
+    fn put_item(&mut self, item: Stmt<'a>) -> Result<(), Misplaced>
+        ensures { Answers (λ _. blocks_view self.new) misplaced_view result
+            (with_item (blocks_view self.old) (item_view item.entry)) }
+    {
+        self.body.push(item)?;
+        Ok(())
     }
-    blocks.begun = true;
-    Ok(())
-}
 
-/// Puts one statement more into the blocks, which begins in this line and stands before the commands.
-pub fn put_statement<'a>(
-    alloc: Global,
-    blocks: &mut Blocks<'a>,
-    line: u32,
-    statement: Statement<'a>,
-) -> Result<(), Misplaced>
-    ensures { Answers (λ _. blocks_view blocks.new) misplaced_view result
-        (before_begin (blocks_view blocks.old) line (statement_view statement.entry)) }
-{
-    match statement {
-        Statement::Decl(decl) => put_item(blocks, Stmt::Decl { line, decl }),
-        Statement::Module { title, params } => put_module(alloc, blocks, line, title, params),
-        Statement::Instance {
-            title,
-            args,
-            prefix,
-        } => put_item(
-            blocks,
-            Stmt::Instance {
+    /// Opens one more block.
+    fn put_frame(&mut self, alloc: Global, line: u32, opener: Opener<'a>) -> Result<(), Misplaced>
+        ensures { Answers (λ _. blocks_view self.new) misplaced_view result
+            (with_frame (blocks_view self.old) line (opener_view opener.entry)) }
+    {
+        if self.frames.len() >= MOST_BLOCKS {
+            return Err(Misplaced::Crowded);
+        }
+        let before = mem::replace(&mut self.body, Vec::new(alloc));
+        self.frames.push(Frame {
+            line,
+            opener,
+            before,
+        })?;
+        Ok(())
+    }
+
+    /// Closes the innermost block.
+    fn close_frame(&mut self, alloc: Global) -> Result<(), Misplaced>
+        ensures { Answers (λ _. blocks_view self.new) misplaced_view result
+            (without_frame (blocks_view self.old) (blocks_view self.old).frames) }
+    {
+        let Some(frame) = self.frames.pop() else {
+            return Err(Misplaced::Forbidden);
+        };
+        let Frame {
+            line,
+            opener,
+            before,
+        } = frame;
+        let body = mem::replace(&mut self.body, before);
+        let block = closed_block(alloc, line, opener, body)?;
+        self.body.push(block)?;
+        Ok(())
+    }
+
+    /// Opens a module, which stands in no other block.
+    fn put_module(
+        &mut self,
+        alloc: Global,
+        line: u32,
+        title: &'a str,
+        params: Items<Param<'a>>,
+    ) -> Result<(), Misplaced>
+        ensures { Answers (λ _. blocks_view self.new) misplaced_view result
+            (outside_blocks (blocks_view self.old).frames
+            (with_frame (blocks_view self.old) line
+            (opens_module title.now (map param_view params.entry)))) }
+    {
+        if !self.frames.is_empty() {
+            return Err(Misplaced::Forbidden);
+        }
+        self.put_frame(alloc, line, Opener::Module { title, params })
+    }
+
+    /// Begins, which stands in no block.
+    fn put_begin(&mut self) -> Result<(), Misplaced>
+        ensures { Answers (λ _. blocks_view self.new) misplaced_view result
+            (outside_blocks (blocks_view self.old).frames (with_begin (blocks_view self.old))) }
+    {
+        if !self.frames.is_empty() {
+            return Err(Misplaced::Forbidden);
+        }
+        self.begun = true;
+        Ok(())
+    }
+
+    /// Puts the next statement into the blocks, which begins in this line and stands before the commands.
+    pub fn put(&mut self, alloc: Global, line: u32, next: Statement<'a>) -> Result<(), Misplaced>
+        ensures { Answers (λ _. blocks_view self.new) misplaced_view result
+            (before_begin (blocks_view self.old) line (statement_view next.entry)) }
+    {
+        match next {
+            Statement::Decl(decl) => self.put_item(Stmt::Decl { line, decl }),
+            Statement::Module { title, params } => self.put_module(alloc, line, title, params),
+            Statement::Instance {
+                title,
+                args,
+                prefix,
+            } => self.put_item(Stmt::Instance {
                 line,
                 title,
                 args,
                 prefix,
-            },
-        ),
-        Statement::Loop {
-            variable,
-            from,
-            upto,
-        } => put_frame(
-            alloc,
-            blocks,
-            line,
-            Opener::Loop {
+            }),
+            Statement::Loop {
                 variable,
                 from,
                 upto,
-            },
-        ),
-        Statement::End => close_frame(alloc, blocks),
-        Statement::Begin => put_begin(blocks),
-        Statement::Order(_) => Err(Misplaced::Forbidden),
+            } => self.put_frame(
+                alloc,
+                line,
+                Opener::Loop {
+                    variable,
+                    from,
+                    upto,
+                },
+            ),
+            Statement::End => self.close_frame(alloc),
+            Statement::Begin => self.put_begin(),
+            Statement::Order(_) => Err(Misplaced::Forbidden),
+        }
     }
 }

@@ -1,12 +1,10 @@
 //! Single tokens at the front of those that are still to come, and where a reading stops.
 
 ghost use Rattle.std.specs.Prelude.{◌≡◌, ◌<◌, length, true, Ok, Err, IfOk};
-ghost use Rattle.dn_token.specs.Cursor.{cursor_view};
+ghost use Rattle.dn_token.specs.Terms.{cursor_view};
 ghost use Rattle.dn_parse.specs.declared.cursor.Halt.TheVariants.{Refused};
-ghost use Rattle.dn_parse.specs.Whole.{first_line};
-ghost use Rattle.dn_parse.specs.Descent.{after_sign, after_keyword, after_word, sign_at, keyword_at, the_word_at, word_at};
-ghost use Rattle.dn_base.specs.Answers.{Answers};
-ghost use Rattle.dn_parse.specs.Faults.{halt_view, Reads, GoesOn, IsShorter};
+ghost use Rattle.dn_parse.specs.Terms.{GoesOn, IsShorter, Reads, after_keyword, after_sign, after_word, first_line, halt_view, keyword_at, sign_at, the_word_at, word_at};
+ghost use Rattle.dn_base.specs.Terms.{Answers};
 
 use dn_token::cursor::Cursor;
 use dn_token::token::{Keyword, Lexeme, Sign};

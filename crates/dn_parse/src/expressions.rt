@@ -1,17 +1,21 @@
 //! Expressions.
 
 ghost use Rattle.std.specs.Prelude.{◌≡◌, ◌<◌, [], ◌∷◌, map, IfOk, vec_len};
-ghost use Rattle.dn_token.specs.Cursor.{cursor_view};
-ghost use Rattle.dn_parse.specs.Actions.{summed, multiplied};
-ghost use Rattle.dn_parse.specs.Views.{expr_view};
-ghost use Rattle.dn_parse.specs.Descent.{factor_at, next_factor_at, term_at, next_term_at, expr_at, after_open_at};
-ghost use Rattle.dn_parse.specs.Faults.{Reads, ReadsNext, IsShorter, Shortens};
+ghost use Rattle.dn_token.specs.Terms.{cursor_view};
+ghost use Rattle.dn_parse.specs.Terms.{IsShorter, Reads, ReadsNext, Shortens, after_open_at, as_one, expr_at, expr_view, factor_at, joined_at, member_at, next_member_at, sign_of};
 
 use crate::cursor::{Halt, after_sign, refusal, sign};
 use crate::syntax::Expr;
 use dn_token::cursor::Cursor;
 use dn_token::token::{Lexeme, Sign};
 use std::alloc::{AllocError, Global};
+
+/// A row of members: a product of factors, or a sum of products.
+#[derive(Clone, Copy)]
+pub enum Row {
+    Product,
+    Sum,
+}
 
 /// Two members of a sum or of a product, in a vector.
 fn two_members<'a>(
@@ -27,20 +31,25 @@ fn two_members<'a>(
     Ok(members)
 }
 
-/// The sum of two members or more.
-fn sum_of<'a>(members: Vec<Expr<'a>>) -> Expr<'a>
+/// The sum or the product of two members or more.
+fn as_one<'a>(row: Row, members: Vec<Expr<'a>>) -> Expr<'a>
     requires { 1 < vec_len members }
-    ensures { expr_view result ≡ summed (map expr_view members.entry.items) }
+    ensures { expr_view result ≡ as_one row (map expr_view members.entry.items) }
 {
-    Expr::Sum(members)
+    match row {
+        Row::Product => Expr::Product(members),
+        Row::Sum => Expr::Sum(members),
+    }
 }
 
-/// The product of two members or more.
-fn product_of<'a>(members: Vec<Expr<'a>>) -> Expr<'a>
-    requires { 1 < vec_len members }
-    ensures { expr_view result ≡ multiplied (map expr_view members.entry.items) }
+/// The sign between two members.
+fn sign_of(row: Row) -> Sign
+    ensures { result ≡ sign_of row }
 {
-    Expr::Product(members)
+    match row {
+        Row::Product => Sign::Times,
+        Row::Sum => Sign::Plus,
+    }
 }
 
 /// `number | word | "(" expr [ "-" expr ] ")"`, where so many parentheses may still be opened.
@@ -92,76 +101,65 @@ fn after_open<'a>(alloc: Global, tokens: &mut Cursor<'a>, depth: u8) -> Result<E
     Ok(difference)
 }
 
-/// `[ "*" factor ]`
+/// A member: a factor, or a product
 #[cycle(expressions)]
-#[tactic(auto, unfolding(crate::specs::Descent::next_factor_at))]
-fn next_factor<'a>(
+#[tactic(auto, unfolding(crate::specs::Rows::joined_at, crate::specs::Rows::members_at, crate::specs::Rows::next_member_at, crate::specs::Descent::term_at, crate::specs::Descent::factors_at, crate::specs::Descent::next_factor_at))]
+fn member<'a>(alloc: Global, tokens: &mut Cursor<'a>, depth: u8, row: Row) -> Result<Expr<'a>, Halt>
+    ensures gives { Reads expr_view result tokens.new
+        (member_at row depth (cursor_view tokens.old)) }
+    ensures shorter { IfOk result (λ _. IsShorter tokens.new tokens.old) }
+{
+    match row {
+        Row::Product => factor(alloc, tokens, depth),
+        Row::Sum => joined(alloc, tokens, depth, Row::Product),
+    }
+}
+
+/// `[ "*" factor ]`, or `[ "+" term ]`
+#[cycle(expressions)]
+#[tactic(auto, unfolding(crate::specs::Rows::next_member_at))]
+fn next_member<'a>(
     alloc: Global,
     tokens: &mut Cursor<'a>,
     depth: u8,
+    row: Row,
 ) -> Result<Option<Expr<'a>>, Halt>
     ensures gives { ReadsNext expr_view result tokens.new
-        (next_factor_at depth (cursor_view tokens.old)) }
+        (next_member_at row depth (cursor_view tokens.old)) }
     ensures shorter { IfOk result (λ o. Shortens o tokens.new tokens.old) }
 {
-    if !after_sign(tokens, Sign::Times) {
+    if !after_sign(tokens, sign_of(row)) {
         return Ok(None);
     }
-    let factor = factor(alloc, tokens, depth)?;
-    Ok(Some(factor))
+    let member = member(alloc, tokens, depth, row)?;
+    Ok(Some(member))
 }
 
-/// `factor { "*" factor }`, as one expression
+/// `factor { "*" factor }`, or `term { "+" term }`, as one expression
 #[cycle(expressions)]
-fn term<'a>(alloc: Global, tokens: &mut Cursor<'a>, depth: u8) -> Result<Expr<'a>, Halt>
-    ensures gives { Reads expr_view result tokens.new (term_at depth (cursor_view tokens.old)) }
+fn joined<'a>(alloc: Global, tokens: &mut Cursor<'a>, depth: u8, row: Row) -> Result<Expr<'a>, Halt>
+    ensures gives { Reads expr_view result tokens.new
+        (joined_at row depth (cursor_view tokens.old)) }
     ensures shorter { IfOk result (λ _. IsShorter tokens.new tokens.old) }
 {
-    let first = factor(alloc, tokens, depth)?;
-    let next = next_factor(alloc, tokens, depth)?;
+    let first = member(alloc, tokens, depth, row)?;
+    let next = next_member(alloc, tokens, depth, row)?;
     let Some(second) = next else {
         return Ok(first);
     };
     let mut members = two_members(alloc, first, second)?;
-    'factors: while let Some(factor) = next_factor(alloc, tokens, depth)? {
-        members.push(factor)?;
+    'more: while let Some(member) = next_member(alloc, tokens, depth, row)? {
+        members.push(member)?;
     }
-    Ok(product_of(members))
-}
-
-/// `[ "+" term ]`
-#[cycle(expressions)]
-#[tactic(auto, unfolding(crate::specs::Descent::next_term_at))]
-fn next_term<'a>(
-    alloc: Global,
-    tokens: &mut Cursor<'a>,
-    depth: u8,
-) -> Result<Option<Expr<'a>>, Halt>
-    ensures gives { ReadsNext expr_view result tokens.new
-        (next_term_at depth (cursor_view tokens.old)) }
-    ensures shorter { IfOk result (λ o. Shortens o tokens.new tokens.old) }
-{
-    if !after_sign(tokens, Sign::Plus) {
-        return Ok(None);
-    }
-    let term = term(alloc, tokens, depth)?;
-    Ok(Some(term))
+    Ok(as_one(row, members))
 }
 
 /// `term { "+" term }`, as one expression
 #[cycle(expressions)]
+#[tactic(auto, unfolding(crate::specs::Rows::joined_at, crate::specs::Rows::members_at, crate::specs::Rows::next_member_at, crate::specs::Descent::expr_at, crate::specs::Descent::terms_at, crate::specs::Descent::next_term_at))]
 pub fn expr<'a>(alloc: Global, tokens: &mut Cursor<'a>, depth: u8) -> Result<Expr<'a>, Halt>
     ensures gives { Reads expr_view result tokens.new (expr_at depth (cursor_view tokens.old)) }
     ensures shorter { IfOk result (λ _. IsShorter tokens.new tokens.old) }
 {
-    let first = term(alloc, tokens, depth)?;
-    let next = next_term(alloc, tokens, depth)?;
-    let Some(second) = next else {
-        return Ok(first);
-    };
-    let mut members = two_members(alloc, first, second)?;
-    'terms: while let Some(term) = next_term(alloc, tokens, depth)? {
-        members.push(term)?;
-    }
-    Ok(sum_of(members))
+    joined(alloc, tokens, depth, Row::Sum)
 }

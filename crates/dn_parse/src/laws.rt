@@ -1,6 +1,6 @@
 //! Laws that tie the machine of the reading to the grammar.
 
-ghost use Rattle.dn_parse.specs.Laws.{StopIsFinal, ReadIsSpelled, SpelledIsRead, ShallowIsRead, RefusedIsFirst, DeepIsFirst, DeepStops, StopKeepsStatements};
+ghost use Rattle.dn_parse.specs.Terms.{DeepIsFirst, DeepStops, ReadIsSpelled, RefusedIsFirst, ShallowIsRead, SpelledIsRead, StopIsFinal, StopKeepsStatements};
 
 /// What is refused at a token, or is nested too deep there, is so whatever follows it.
 pub fn stop_is_final()

@@ -1,9 +1,8 @@
 //! Parts of one sort, one behind another.
 
 ghost use Rattle.std.specs.Prelude.{◌<◌, map, IfOk};
-ghost use Rattle.dn_token.specs.Cursor.{cursor_view};
-ghost use Rattle.dn_parse.specs.Descent.{first_and, first_and_most};
-ghost use Rattle.dn_parse.specs.Faults.{Reads, IsShorter};
+ghost use Rattle.dn_token.specs.Terms.{cursor_view};
+ghost use Rattle.dn_parse.specs.Terms.{IsShorter, Reads, first_and, first_and_most};
 
 use crate::cursor::Halt;
 use dn_base::items::Items;

@@ -1,10 +1,8 @@
 //! Names, and the parts of a node.
 
 ghost use Rattle.std.specs.Prelude.{◌≡◌, ◌<◌, [], ◌∷◌, map, IfOk};
-ghost use Rattle.dn_token.specs.Cursor.{cursor_view};
-ghost use Rattle.dn_parse.specs.Views.{maybe_expr_view, index_view, part_view, name_view, block_view, dest_view, entry_view, maybe_name_view, spec_view};
-ghost use Rattle.dn_parse.specs.Descent.{index_at, part_at, next_part_at, name_at, upper_at, block_at, next_block_at, blocks_at, in_brackets, addr_at, dest_at, next_dest_at, dests_at, entry_at, next_entry_at, entries_at, accept_at, map_at, over_at, spec_at};
-ghost use Rattle.dn_parse.specs.Faults.{Reads, ReadsNext, IsShorter, Shortens, IsNoLonger};
+ghost use Rattle.dn_token.specs.Terms.{cursor_view};
+ghost use Rattle.dn_parse.specs.Terms.{IsNoLonger, IsShorter, Reads, ReadsNext, Shortens, accept_at, addr_at, block_at, block_view, blocks_at, dest_at, dest_view, dests_at, entries_at, entry_at, entry_view, in_brackets, index_at, index_view, map_at, maybe_expr_view, maybe_name_view, name_at, name_view, next_block_at, next_dest_at, next_entry_at, next_part_at, over_at, part_at, part_view, spec_at, spec_view, upper_at};
 
 use crate::cursor::{Halt, after_keyword, after_sign, keyword, sign, word};
 use crate::expressions::expr;

@@ -1,8 +1,7 @@
 //! Commands whose parts have their values as they stand.
 
 ghost use Rattle.std.specs.Prelude.{◌≡◌};
-ghost use Rattle.dn_parse.specs.Views.{expr_view, index_view, name_view, order_view};
-ghost use Rattle.dn_parse.specs.Plain.{is_constant, is_constant_index, is_constant_name, is_plain};
+ghost use Rattle.dn_parse.specs.Terms.{expr_view, index_view, is_constant, is_constant_index, is_constant_name, is_plain, name_view, order_view};
 
 use crate::syntax::{Expr, Order, PartExpr};
 

@@ -1,17 +1,12 @@
 //! The reading of a whole text: its tree, or the first fault with its line.
 
 ghost use Rattle.std.specs.Prelude.{◌≡◌, ◌∷◌, [], ◌+◌, ◌^◌, ◌<◌, List, ℕ, length, false, Some, Err, IfSome, IfOk, IfErr, MatchOption};
-ghost use Rattle.dn_token.specs.Cursor.{cursor_view};
+ghost use Rattle.dn_token.specs.Terms.{cursor_view};
 ghost use Rattle.dn_token.specs.Token.{Token as SpecToken};
-ghost use Rattle.dn_parse.specs.Machine.{whole};
-ghost use Rattle.dn_parse.specs.Whole.{line_at, last_line, first_line, at_stop, judge, no_blocks_yet, text_reading};
-ghost use Rattle.dn_parse.specs.Commands.{with_commands};
-ghost use Rattle.dn_parse.specs.Views.{blocks_view, tree_view};
-ghost use Rattle.dn_parse.specs.Script.{script_view};
-ghost use Rattle.dn_base.specs.Answers.{Answers};
-ghost use Rattle.dn_parse.specs.Faults.{parse_fault_view, halt_fault, misplaced_fault, trouble_view, IsShorter};
+ghost use Rattle.dn_parse.specs.Terms.{IsShorter, at_stop, blocks_view, first_line, halt_fault, judge, last_line, line_at, misplaced_fault, no_blocks_yet, parse_fault_view, script_view, text_reading, tree_view, trouble_view, whole, with_commands};
+ghost use Rattle.dn_base.specs.Terms.{Answers};
 
-use crate::blocks::{Blocks, Misplaced, Trouble, none, put_statement};
+use crate::blocks::{Blocks, Misplaced, Trouble};
 use crate::cursor::{Halt, first_line};
 use crate::script::Script;
 use crate::statements::whole_statement;
@@ -146,7 +141,7 @@ fn put_next<'a>(
 {
     match whole_statement(alloc, tokens) {
         Err(halt) => Err(Trouble::Halted(halt)),
-        Ok(statement) => match put_statement(alloc, blocks, line, statement) {
+        Ok(statement) => match blocks.put(alloc, line, statement) {
             Ok(()) => Ok(()),
             Err(misplaced) => Err(Trouble::Misplaced(misplaced, line)),
         },
@@ -163,7 +158,7 @@ fn blocks_before<'a>(alloc: Global, tokens: &mut Cursor<'a>) -> Result<Blocks<'a
         IfSome (trouble_view e last all)
         (λ f. judge last all no_blocks_yet (cursor_view tokens.old) ≡ Err f)) }
 {
-    let mut blocks = none(alloc);
+    let mut blocks = Blocks::none(alloc);
     'statements: while !blocks.begun {
         let Some(line) = first_line(tokens) else {
             return Ok(blocks);

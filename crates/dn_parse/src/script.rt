@@ -1,7 +1,7 @@
 //! The commands of a text, of which none is kept.
 
 ghost use Rattle.std.specs.Prelude.{◌≡◌, [], length, IsTrue};
-ghost use Rattle.dn_token.specs.Cursor.{cursor_view};
+ghost use Rattle.dn_token.specs.Terms.{cursor_view};
 ghost use Rattle.dn_parse.specs.Commands.{commands_from};
 ghost use Rattle.dn_parse.specs.Plain.{are_plain, is_plain};
 

@@ -1,12 +1,9 @@
 //! Statements, each up to its `;`.
 
 ghost use Rattle.std.specs.Prelude.{◌≡◌, ◌<◌, length, map, IfOk, IfSome};
-ghost use Rattle.dn_token.specs.Cursor.{cursor_view};
-ghost use Rattle.dn_parse.specs.Views.{expr_view, name_view, param_view, arg_view, role_view, declaration_view, order_view, statement_view, command_view};
-ghost use Rattle.dn_parse.specs.Descent.{any_word_at, param_at, next_param_at, params_at, closed_params_at, arg_at, next_arg_at, args_at, closed_args_at, next_port_at, ports_at, node_at, as_declared, measure_at, unit_at, module_at, use_at, loop_at, mode_at, access_at, resolve_at, lookup_at, view_at, grant_at, route_at, order_at, keyword_statement_at, statement_at, whole_statement_at};
-ghost use Rattle.dn_parse.specs.Commands.{command_at};
+ghost use Rattle.dn_token.specs.Terms.{cursor_view};
+ghost use Rattle.dn_parse.specs.Terms.{IsShorter, Reads, ReadsNext, Shortens, access_at, any_word_at, arg_at, arg_view, args_at, as_declared, closed_args_at, closed_params_at, command_at, command_view, declaration_view, expr_view, grant_at, keyword_statement_at, lookup_at, loop_at, measure_at, mode_at, module_at, name_view, next_arg_at, next_param_at, next_port_at, node_at, order_at, order_view, param_at, param_view, params_at, ports_at, resolve_at, role_view, route_at, statement_at, statement_view, unit_at, use_at, view_at, whole_statement_at};
 ghost use Rattle.dn_parse.specs.declared.cursor.Halt.TheVariants.{Refused};
-ghost use Rattle.dn_parse.specs.Faults.{Reads, ReadsNext, IsShorter, Shortens};
 
 use crate::cursor::{
     Halt, after_keyword, after_sign, after_word, keyword, refusal, sign, the_word, word,

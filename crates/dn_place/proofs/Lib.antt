@@ -5,6 +5,7 @@ pub mod Meetings
 pub mod Nexts
 pub mod Openings
 pub mod Pages
+pub mod Proper
 pub mod Readies
 pub mod Stretches
 pub mod Tops

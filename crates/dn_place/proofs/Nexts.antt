@@ -34,23 +34,13 @@ use Rattle.dn_place.proofs.Marked.{marked_hop}
 
 -- a placement's next hop, whose numbers begin so
 pub record Next (s : Sought) (count : ℕ) (hops : List Hop) (q : Place) (given : List ℕ) : Type 0 where
-  pub before : List Hop
-  pub hop : Hop
-  pub ends : q.hops ≡ before ++ (hop ∷ hops)
-  pub joins : Joins s.net s.slots s.request hop hops
-  pub after : List ℕ
-  pub key : key_of s.net q ≡ ending count hops ++ numbers hop after
+  pub opens : Opened s hops q (ending count hops)
   pub rest : List ℕ
-  pub split : numbers hop after ≡ given ++ rest
+  pub split : numbers opens.hop opens.rest ≡ given ++ rest
 
 pub next_of : (s : Sought) (count : ℕ) (hops : List Hop) (q : Place) (given : List ℕ) → length hops < count → IsUnder s (ending count hops ++ given) q → Next s count hops q given
 next_of s count hops q given l u = record {
-  before = w.before;
-  hop = w.hop;
-  ends = w.ends;
-  joins = w.joins;
-  after = w.rest;
-  key = w.key;
+  opens = w;
   rest = u.begins.0;
   split = cancel (ending count hops) (numbers w.hop w.rest) (given ++ u.begins.0) (sym w.key ∙ key);
 }
@@ -82,8 +72,8 @@ joins_in s u hop nearer e w = subst (λ (v : UnitPart). JoinsIn s v hop nearer) 
 
 -- by unit
 
-unit_of : (s : Sought) (count : ℕ) (hops : List Hop) (q : Place) (unit : ℕ) → (w : Next s count hops q (unit ∷ [])) → w.hop.unit ≡ unit
-unit_of s count hops q unit w = heads w.hop.unit unit (w.hop.port ∷ w.hop.y ∷ w.hop.x ∷ w.after) w.rest w.split
+unit_of : (s : Sought) (count : ℕ) (hops : List Hop) (q : Place) (unit : ℕ) → (w : Next s count hops q (unit ∷ [])) → w.opens.hop.unit ≡ unit
+unit_of s count hops q unit w = heads w.opens.hop.unit unit (w.opens.hop.port ∷ w.opens.hop.y ∷ w.opens.hop.x ∷ w.opens.rest) w.rest w.split
   where
     heads : (a d : ℕ) (m r : List ℕ) → (a ∷ m) ≡ (d ∷ r) → a ≡ d
     heads a d m r p = cc
@@ -92,10 +82,10 @@ unit_of s count hops q unit w = heads w.hop.unit unit (w.hop.port ∷ w.hop.y �
 pub unit_next : (s : Sought) (count : ℕ) (hops : List Hop) (q : Place) → length hops < count → IsUnder s (ending count hops) q → (j : ℕ) × (x : UnitPart) × (unit_at s.net j ≡ Some x) × Begins (ending count hops ++ j ∷ []) (key_of s.net q)
 unit_next s count hops q l u =
     let w = next_of s count hops q [] l (subst (λ f. IsUnder s f q) (sym (append_none (ending count hops))) u) in
-    (w.hop.unit, w.joins.unit, w.joins.is_unit, (w.hop.port ∷ w.hop.y ∷ w.hop.x ∷ w.after, w.key ∙ sym (one_more (ending count hops) w.hop.unit (w.hop.port ∷ w.hop.y ∷ w.hop.x ∷ w.after))))
+    (w.opens.hop.unit, w.opens.joins.unit, w.opens.joins.is_unit, (w.opens.hop.port ∷ w.opens.hop.y ∷ w.opens.hop.x ∷ w.opens.rest, w.opens.key ∙ sym (one_more (ending count hops) w.opens.hop.unit (w.opens.hop.port ∷ w.opens.hop.y ∷ w.opens.hop.x ∷ w.opens.rest))))
 
 pub no_unit : (s : Sought) (count : ℕ) (hops : List Hop) (unit : ℕ) → length hops < count → unit_at s.net unit ≡ None → NoneUnder s (to_unit count hops unit)
-no_unit s count hops unit l e = record { none = λ q u. let w = next_of s count hops q (unit ∷ []) l u in absurd (never w.joins.unit (sym w.joins.is_unit ∙ ap (unit_at s.net) (unit_of s count hops q unit w) ∙ e)) }
+no_unit s count hops unit l e = record { none = λ q u. let w = next_of s count hops q (unit ∷ []) l u in absurd (never w.opens.joins.unit (sym w.opens.joins.is_unit ∙ ap (unit_at s.net) (unit_of s count hops q unit w) ∙ e)) }
   where
     never : (u : UnitPart) → Some u ≡ None → ⊥
     never u p = cc
@@ -109,8 +99,8 @@ ports_done s count hops unit u bound l e m below = none_left s (to_unit count ho
     go q v =
         let w = next_of s count hops q (unit ∷ []) l v in
         let same = unit_of s count hops q unit w in
-        let j = joins_in s u w.hop hops (ap (unit_at s.net) same ∙ e) w.joins in
-        (w.hop.port, omega (arith, slice_get_within u.ports w.hop.port j.node j.is_port), (w.hop.y ∷ w.hop.x ∷ w.after, w.key ∙ ap (λ n. ending count hops ++ (n ∷ w.hop.port ∷ w.hop.y ∷ w.hop.x ∷ w.after)) same ∙ sym (one_more (to_unit count hops unit) w.hop.port (w.hop.y ∷ w.hop.x ∷ w.after) ∙ one_more (ending count hops) unit (w.hop.port ∷ w.hop.y ∷ w.hop.x ∷ w.after))))
+        let j = joins_in s u w.opens.hop hops (ap (unit_at s.net) same ∙ e) w.opens.joins in
+        (w.opens.hop.port, omega (arith, slice_get_within u.ports w.opens.hop.port j.node j.is_port), (w.opens.hop.y ∷ w.opens.hop.x ∷ w.opens.rest, w.opens.key ∙ ap (λ n. ending count hops ++ (n ∷ w.opens.hop.port ∷ w.opens.hop.y ∷ w.opens.hop.x ∷ w.opens.rest)) same ∙ sym (one_more (to_unit count hops unit) w.opens.hop.port (w.opens.hop.y ∷ w.opens.hop.x ∷ w.opens.rest) ∙ one_more (ending count hops) unit (w.opens.hop.port ∷ w.opens.hop.y ∷ w.opens.hop.x ∷ w.opens.rest))))
 
 -- by output
 
@@ -136,18 +126,18 @@ pub record Port (s : Sought) (u : UnitPart) (hops : List Hop) (q : Place) (unit 
 
 pub through_port : (s : Sought) (count : ℕ) (hops : List Hop) (q : Place) (unit port : ℕ) (u : UnitPart) → length hops < count → unit_at s.net unit ≡ Some u → IsUnder s (to_port count hops unit port) q → Port s u hops q unit port (to_port count hops unit port)
 through_port s count hops q unit port u l e v = record {
-  y = w.hop.y;
-  x = w.hop.x;
-  through = renamed s u hops w.hop unit port w.hop.y same.0 same.1 refl (joins_in s u w.hop hops (ap (unit_at s.net) same.0 ∙ e) w.joins);
-  rest = w.after;
-  key = w.key ∙ ap (λ n. ending count hops ++ (n ∷ w.hop.port ∷ w.hop.y ∷ w.hop.x ∷ w.after)) same.0 ∙ ap (λ n. ending count hops ++ (unit ∷ n ∷ w.hop.y ∷ w.hop.x ∷ w.after)) same.1 ∙ sym (one_more (to_unit count hops unit) port (w.hop.y ∷ w.hop.x ∷ w.after) ∙ one_more (ending count hops) unit (port ∷ w.hop.y ∷ w.hop.x ∷ w.after));
+  y = w.opens.hop.y;
+  x = w.opens.hop.x;
+  through = renamed s u hops w.opens.hop unit port w.opens.hop.y same.0 same.1 refl (joins_in s u w.opens.hop hops (ap (unit_at s.net) same.0 ∙ e) w.opens.joins);
+  rest = w.opens.rest;
+  key = w.opens.key ∙ ap (λ n. ending count hops ++ (n ∷ w.opens.hop.port ∷ w.opens.hop.y ∷ w.opens.hop.x ∷ w.opens.rest)) same.0 ∙ ap (λ n. ending count hops ++ (unit ∷ n ∷ w.opens.hop.y ∷ w.opens.hop.x ∷ w.opens.rest)) same.1 ∙ sym (one_more (to_unit count hops unit) port (w.opens.hop.y ∷ w.opens.hop.x ∷ w.opens.rest) ∙ one_more (ending count hops) unit (port ∷ w.opens.hop.y ∷ w.opens.hop.x ∷ w.opens.rest));
 }
   where
     w : Next s count hops q (unit ∷ port ∷ [])
     w = next_of s count hops q (unit ∷ port ∷ []) l (subst (λ f. IsUnder s f q) (one_more (ending count hops) unit (port ∷ [])) v)
 
-    same : (w.hop.unit ≡ unit) × (w.hop.port ≡ port) × (w.hop.y ∷ w.hop.x ∷ w.after ≡ w.rest)
-    same = parts w.hop.unit w.hop.port unit port (w.hop.y ∷ w.hop.x ∷ w.after) w.rest w.split
+    same : (w.opens.hop.unit ≡ unit) × (w.opens.hop.port ≡ port) × (w.opens.hop.y ∷ w.opens.hop.x ∷ w.opens.rest ≡ w.rest)
+    same = parts w.opens.hop.unit w.opens.hop.port unit port (w.opens.hop.y ∷ w.opens.hop.x ∷ w.opens.rest) w.rest w.split
 
 weaker : (s : Sought) (front : List ℕ) (j : ℕ) (q : Place) → IsUnder s (front ++ j ∷ []) q → IsUnder s front q
 weaker s front j q u = record { is = u.is; begins = (j ∷ u.begins.0, u.begins.1 ∙ one_more front j u.begins.0) }
@@ -278,11 +268,11 @@ unmarked s count hops unit place first second third ready m l most e f = record 
 
     go : (q : Place) → IsUnder s (to_unit count hops unit) q → Next s count hops q (unit ∷ []) → ⊥
     go q u w =
-        let number : length q.hops ≡ count = key_head (length q.hops) count (hops_key q.hops ++ (q.v ∷ hop_page s.net (slice_get q.hops q.own) ∷ (length q.hops - q.own) ∷ [])) (hops_key hops ++ numbers w.hop w.after) w.key in
-        let long : length q.hops ≡ length w.before + suc (length hops) = ap length w.ends ∙ length-append w.before (w.hop ∷ hops) in
-        let here : place ≡ suc (length w.before) = omega arith in
+        let number : length q.hops ≡ count = key_head (length q.hops) count (hops_key q.hops ++ (q.v ∷ hop_page s.net (slice_get q.hops q.own) ∷ (length q.hops - q.own) ∷ [])) (hops_key hops ++ numbers w.opens.hop w.opens.rest) w.opens.key in
+        let long : length q.hops ≡ length w.opens.before + suc (length hops) = ap length w.opens.ends ∙ length-append w.opens.before (w.opens.hop ∷ hops) in
+        let here : place ≡ suc (length w.opens.before) = omega arith in
         let p = u.is.is_placement in
-        false≢true (sym f ∙ ap (λ n. mark_at first second third n unit) here ∙ ap (mark_at first second third (suc (length w.before))) (sym (unit_of s count hops q unit w)) ∙ marked_hop s first second third q.v w.before w.hop hops ready p.fits m (subst (λ (h : List Hop). Meets s.net s.request s.request.agent q.v h) w.ends p.meets) (subst (λ (h : List Hop). Leads s.net s.slots s.request h) w.ends p.leads) (omega arith))
+        false≢true (sym f ∙ ap (λ n. mark_at first second third n unit) here ∙ ap (mark_at first second third (suc (length w.opens.before))) (sym (unit_of s count hops q unit w)) ∙ marked_hop s first second third q.v w.opens.before w.opens.hop hops ready p.fits m (subst (λ (h : List Hop). Meets s.net s.request s.request.agent q.v h) w.opens.ends p.meets) (subst (λ (h : List Hop). Leads s.net s.slots s.request h) w.opens.ends p.leads) (omega arith))
 
 -- a placement ends with the chosen hops
 pub ends_with : (s : Sought) (count : ℕ) (hops : List Hop) (q : Place) → length hops ≤ count → IsUnder s (ending count hops) q → (before : List Hop) × (q.hops ≡ before ++ hops)
@@ -292,7 +282,7 @@ ends_with s count hops q l u = go (cases_lt (length hops) count)
     all e = (whole s hops q [] (subst (λ f. IsUnder s f q) (ap (λ n. ending n hops) (sym e) ∙ sym (append_none (ending (length hops) hops))) u)).same
 
     go : (length hops < count) ⊎ (count ≤ length hops) → (before : List Hop) × (q.hops ≡ before ++ hops)
-    go (inl m) = let w = next_of s count hops q [] m (subst (λ f. IsUnder s f q) (sym (append_none (ending count hops))) u) in (w.before ++ w.hop ∷ [], w.ends ∙ sym (append_assoc w.before (w.hop ∷ []) hops))
+    go (inl m) = let w = next_of s count hops q [] m (subst (λ f. IsUnder s f q) (sym (append_none (ending count hops))) u) in (w.opens.before ++ w.opens.hop ∷ [], w.opens.ends ∙ sym (append_assoc w.opens.before (w.opens.hop ∷ []) hops))
     go (inr m) = ([], all (omega arith))
 
 -- an input that the address asked for does not reach
@@ -322,15 +312,15 @@ not_allowed s count hops unit port y x u entry ready e l one unit_is asked other
     go q v None p = asked p
     go q v (Some at) p =
         let w = next_of s count hops q (unit ∷ port ∷ y ∷ x ∷ []) l (subst (λ f. IsUnder s f q) nested v) in
-        let same = heads w.hop.unit w.hop.port w.hop.y w.hop.x unit port y x w.after w.rest w.split in
-        let number : length q.hops ≡ count = key_head (length q.hops) count (hops_key q.hops ++ (q.v ∷ hop_page s.net (slice_get q.hops q.own) ∷ (length q.hops - q.own) ∷ [])) (hops_key hops ++ numbers w.hop w.after) w.key in
-        let long : length q.hops ≡ length w.before + suc (length hops) = ap length w.ends ∙ length-append w.before (w.hop ∷ hops) in
-        let alone = w.ends ∙ ap (λ (b : List Hop). b ++ (w.hop ∷ hops)) (bare w.before (omega arith)) in
+        let same = heads w.opens.hop.unit w.opens.hop.port w.opens.hop.y w.opens.hop.x unit port y x w.opens.rest w.rest w.split in
+        let number : length q.hops ≡ count = key_head (length q.hops) count (hops_key q.hops ++ (q.v ∷ hop_page s.net (slice_get q.hops q.own) ∷ (length q.hops - q.own) ∷ [])) (hops_key hops ++ numbers w.opens.hop w.opens.rest) w.opens.key in
+        let long : length q.hops ≡ length w.opens.before + suc (length hops) = ap length w.opens.ends ∙ length-append w.opens.before (w.opens.hop ∷ hops) in
+        let alone = w.opens.ends ∙ ap (λ (b : List Hop). b ++ (w.opens.hop ∷ hops)) (bare w.opens.before (omega arith)) in
         let here : q.v ≡ at = subst (λ (o : Option ℕ). IsAt o q.v) p v.is.is_at in
-        let meets : StopsAt s.net (name_on s.request.agent q.v 0) (name_on w.hop.unit w.hop.x 0) = (subst (λ (h : List Hop). Meets s.net s.request s.request.agent q.v h) alone v.is.is_placement.meets) 0 ready.some in
-        let given = subst (λ (n : ℕ). StopsAt s.net (record { node = s.request.agent; addr = n }) (name_on w.hop.unit w.hop.x 0)) (let k : q.v + 0 ≡ at = omega arith in k) meets in
+        let meets : StopsAt s.net (name_on s.request.agent q.v 0) (name_on w.opens.hop.unit w.opens.hop.x 0) = (subst (λ (h : List Hop). Meets s.net s.request s.request.agent q.v h) alone v.is.is_placement.meets) 0 ready.some in
+        let given = subst (λ (n : ℕ). StopsAt s.net (record { node = s.request.agent; addr = n }) (name_on w.opens.hop.unit w.opens.hop.x 0)) (let k : q.v + 0 ≡ at = omega arith in k) meets in
         let low : at ≤ top = omega (arith, v.is.is_placement.fits, ready.some) in
-        other (e at (name_on w.hop.unit w.hop.x 0) p low given ∙ ap (λ (z : End). Some z) (made w.hop.unit unit (w.hop.x + 0) x same.0 (omega (arith, same.1))))
+        other (e at (name_on w.opens.hop.unit w.opens.hop.x 0) p low given ∙ ap (λ (z : End). Some z) (made w.opens.hop.unit unit (w.opens.hop.x + 0) x same.0 (omega (arith, same.1))))
 
 -- inputs that slots bar
 pub inputs_barred : (s : Sought) (count : ℕ) (hops : List Hop) (unit port y x to : ℕ) (u : UnitPart) → length hops < count → unit_at s.net unit ≡ Some u → x % 2 ^ u.page ≡ y % 2 ^ u.page → AreBarred s u (record { unit = unit; port = port; x = x; y = y }) to → NoneBelow s (to_output count hops unit port y) x → NoneBelow s (to_output count hops unit port y) to

@@ -182,21 +182,22 @@ none_owned s hops v own page both refused = record { none = λ q u. refused (mov
         same : ◌≡◌ {A = Held} (joined_records s.slots.held (placed_records s.net s.request q)) (joined_records s.slots.held (placed_records s.net s.request (record { v = v; hops = hops; own = own })))
         same = λ j node slot. or_record (s.slots.held node slot) (each node slot j)
 
+-- the distance of the own hop of a placement of these hops, and the page of its unit
+abbrev near : List Hop → Place → ℕ
+near hops q = length hops - q.own
+
+abbrev own_page : Sought → List Hop → Place → ℕ
+own_page s hops q = hop_page s.net (slice_get hops q.own)
+
 -- a placement goes on with the distance of its own hop
 pub back_of : (s : Sought) (hops : List Hop) (v page : ℕ) (q : Place) → IsUnder s (to_page (length hops) hops v page) q → (j : ℕ) × (j < suc (length hops)) × Begins (to_page (length hops) hops v page ++ j ∷ []) (key_of s.net q)
-back_of s hops v page q u = (near, omega arith, ([], w.key ∙ ap (λ n. front ++ (n ∷ own_page ∷ near ∷ [])) t.0 ∙ ap (λ n. front ++ (v ∷ n ∷ near ∷ [])) t.1 ∙ sym nested))
+back_of s hops v page q u = (near hops q, omega arith, ([], w.key ∙ ap (λ n. front ++ (n ∷ own_page s hops q ∷ near hops q ∷ [])) t.0 ∙ ap (λ n. front ++ (v ∷ n ∷ near hops q ∷ [])) t.1 ∙ sym nested))
   where
     front : List ℕ
     front = ending (length hops) hops
 
-    near : ℕ
-    near = length hops - q.own
-
-    own_page : ℕ
-    own_page = hop_page s.net (slice_get hops q.own)
-
-    nested : ((((front ++ v ∷ []) ++ page ∷ []) ++ near ∷ []) ++ []) ≡ front ++ (v ∷ page ∷ near ∷ [])
-    nested = one_more ((front ++ v ∷ []) ++ page ∷ []) near [] ∙ one_more (front ++ v ∷ []) page (near ∷ []) ∙ one_more front v (page ∷ near ∷ [])
+    nested : ((((front ++ v ∷ []) ++ page ∷ []) ++ near hops q ∷ []) ++ []) ≡ front ++ (v ∷ page ∷ near hops q ∷ [])
+    nested = one_more ((front ++ v ∷ []) ++ page ∷ []) (near hops q) [] ∙ one_more (front ++ v ∷ []) page (near hops q ∷ []) ∙ one_more front v (page ∷ near hops q ∷ [])
 
     w : Whole s hops q (v ∷ page ∷ [])
     w = whole s hops q (v ∷ page ∷ []) (subst (λ f. IsUnder s f q) (one_more front v (page ∷ [])) u)
@@ -204,8 +205,8 @@ back_of s hops v page q u = (near, omega arith, ([], w.key ∙ ap (λ n. front +
     parts : (a b d e : ℕ) (m r : List ℕ) → (a ∷ b ∷ m) ≡ (d ∷ e ∷ r) → (a ≡ d) × (b ≡ e)
     parts a b d e m r p = (cc, cc)
 
-    t : (q.v ≡ v) × (own_page ≡ page)
-    t = parts q.v own_page v page (near ∷ []) w.rest w.tail
+    t : (q.v ≡ v) × (own_page s hops q ≡ page)
+    t = parts q.v (own_page s hops q) v page (near hops q ∷ []) w.rest w.tail
 
 pub backs_done : (s : Sought) (hops : List Hop) (v page bound : ℕ) → length hops < bound → NoneBelow s (to_page (length hops) hops v page) bound → NoneUnder s (to_page (length hops) hops v page)
 backs_done s hops v page bound l below = none_left s _ bound below (λ q u. let w = back_of s hops v page q u in (w.0, omega (arith, w.1), w.2))
@@ -222,25 +223,19 @@ pub record Paged (s : Sought) (hops : List Hop) (q : Place) (front : List ℕ) :
 
 pub page_there : (s : Sought) (hops : List Hop) (v : ℕ) (q : Place) → IsUnder s (to_address (length hops) hops v) q → Paged s hops q (to_address (length hops) hops v)
 page_there s hops v q u = record {
-  page = own_page;
+  page = own_page s hops q;
   place = q.own;
   hop = u.is.is_placement.own;
   is_hop = owned;
   is_page = sym (ap (hop_page s.net) owned);
-  begins = (near ∷ [], w.key ∙ ap (λ n. front ++ (n ∷ own_page ∷ near ∷ [])) t ∙ sym nested);
+  begins = (near hops q ∷ [], w.key ∙ ap (λ n. front ++ (n ∷ own_page s hops q ∷ near hops q ∷ [])) t ∙ sym nested);
 }
   where
     front : List ℕ
     front = ending (length hops) hops
 
-    near : ℕ
-    near = length hops - q.own
-
-    own_page : ℕ
-    own_page = hop_page s.net (slice_get hops q.own)
-
-    nested : (((front ++ v ∷ []) ++ own_page ∷ []) ++ near ∷ []) ≡ front ++ (v ∷ own_page ∷ near ∷ [])
-    nested = one_more (front ++ v ∷ []) own_page (near ∷ []) ∙ one_more front v (own_page ∷ near ∷ [])
+    nested : (((front ++ v ∷ []) ++ own_page s hops q ∷ []) ++ near hops q ∷ []) ≡ front ++ (v ∷ own_page s hops q ∷ near hops q ∷ [])
+    nested = one_more (front ++ v ∷ []) (own_page s hops q) (near hops q ∷ []) ∙ one_more front v (own_page s hops q ∷ near hops q ∷ [])
 
     w : Whole s hops q (v ∷ [])
     w = whole s hops q (v ∷ []) u
@@ -249,7 +244,7 @@ page_there s hops v q u = record {
     parts a d m r p = cc
 
     t : q.v ≡ v
-    t = parts q.v v (own_page ∷ near ∷ []) w.rest w.tail
+    t = parts q.v v (own_page s hops q ∷ near hops q ∷ []) w.rest w.tail
 
     owned : slice_get hops q.own ≡ Some u.is.is_placement.own
     owned = sym (ap (λ l. slice_get l q.own) w.same) ∙ u.is.is_placement.is_own

@@ -1,10 +1,11 @@
 -- Answers of the search among the placements whose keys begin so.
-use Rattle.std.specs.Prelude.{◌≡◌, ℕ, ◌<◌, ◌≤◌, false, List, [], ◌∷◌, ◌++◌, length, slice_get, Option, Some, None}
+use Rattle.std.specs.Prelude.{◌≡◌, ℕ, ◌+◌, ◌<◌, ◌≤◌, false, List, [], ◌∷◌, ◌++◌, length, slice_get, Option, Some, None}
+use Rattle.dn_net.specs.Decode.{top}
 use Rattle.dn_tables.specs.declared.placement.Hop.{Hop}
 use Rattle.dn_tables.specs.Placement.{Place}
 use Rattle.dn_placement.specs.Keys.{Begins}
-use Rattle.dn_placement.specs.Order.{IsSuited, hop_page, hops_key, key_of, precedes}
-use Rattle.dn_placement.specs.Placement.{IsFreeHop, Leads}
+use Rattle.dn_placement.specs.Order.{IsAt, IsSuited, hop_page, hops_key, key_of, precedes}
+use Rattle.dn_placement.specs.Placement.{IsFreeHop, Leads, Meets}
 use Rattle.dn_place.specs.Sought.{Sought}
 
 -- a placement that is looked for, and whose key begins so
@@ -59,6 +60,15 @@ pub record IsChosen (s : Sought) (count : ℕ) (hops : List Hop) : Type 0 where
   pub leads : Leads s.net s.slots s.request hops
   pub most : count ≤ 3
   pub within : length hops ≤ count
+
+-- all hops are chosen, and the agent meets them from this address, which is the one that is asked for, if
+-- one is
+pub record IsAddressed (s : Sought) (hops : List Hop) (v : ℕ) : Type 0 where
+  pub chosen : IsChosen s (length hops) hops
+  pub some : 1 ≤ length hops
+  pub fits : v + s.request.size ≤ top + 1
+  pub at : IsAt s.at v
+  pub meets : Meets s.net s.request s.request.agent v hops
 
 -- each page of the hops that is at least this one is at least that one
 abbrev pub PagesFrom : Sought → List Hop → ℕ → ℕ → Type 0

@@ -1,6 +1,7 @@
 -- What a hop meets in the slots of a unit.
-use Rattle.std.specs.Prelude.{◌≡◌, ℕ, ◌+◌, ◌-◌, ◌/◌, ◌%◌, ◌^◌, ◌<◌, ◌≤◌, Bool, true, false, not, if◌then◌else◌, ◌&&◌, ◌==◌, nat_eq, Option, Some, None, IsTrue}
+use Rattle.std.specs.Prelude.{◌≡◌, ℕ, ◌+◌, ◌-◌, ◌*◌, ◌/◌, ◌%◌, ◌^◌, ◌<◌, ◌≤◌, Bool, true, false, not, if◌then◌else◌, ◌&&◌, ◌==◌, nat_eq, Option, Some, None, IsTrue}
 use Rattle.dn_net.specs.declared.node.Unit.{Unit as UnitPart}
+use Rattle.dn_net.specs.Decode.{unit_at}
 use Rattle.dn_kind.specs.declared.unit_kind.Record.{Record}
 use Rattle.dn_tables.specs.declared.placement.Hop.{Hop}
 use Rattle.dn_placement.specs.Slots.{Slots}
@@ -35,6 +36,11 @@ is_usable_slot port page Barred = false
 abbrev pub AreUsable : Slots → ℕ → ℕ → ℕ → ℕ → ℕ → Type 0
 AreUsable slots unit first last port page = (slot : ℕ) → first ≤ slot → slot ≤ last →
     IsTrue (is_usable_slot port (page + (slot - first)) (slot_of slots unit slot))
+
+-- the unit of a hop is this one, and the hop ends within its slots
+pub record IsWithin (s : Sought) (u : UnitPart) (hop : Hop) : Type 0 where
+  pub unit : unit_at s.net hop.unit ≡ Some u
+  pub ends : hop.x + s.request.size ≤ u.slots * 2 ^ u.page
 
 -- each slot from a first to a last one is free
 abbrev pub AreFree : Slots → ℕ → ℕ → ℕ → Type 0

@@ -2,25 +2,18 @@
 
 ghost use Rattle.std.specs.Prelude.{◌≡◌, ◌<◌, ◌≤◌, ◌+◌, ◌↔◌, length, map, slice_get, IfOk, IfSome, IsTrue, None, []};
 ghost use Rattle.std.specs.List.{All};
-ghost use Rattle.dn_net.specs.Decode.{is_agent_at, top};
-ghost use Rattle.dn_kind.specs.Kind.{IsLawful};
-ghost use Rattle.dn_kind.specs.Rights.{are_rights};
-ghost use Rattle.dn_tables.specs.Set.{FitsNet, fits_kinds, has_slot, record_kept};
-ghost use Rattle.dn_placement.specs.Exposure.{IsAdmissible};
-ghost use Rattle.dn_placement.specs.Order.{IsFirst, NoneSuited};
-ghost use Rattle.dn_placement.specs.Placement.{IsPlacement};
-ghost use Rattle.dn_placement.specs.Slots.{slots_of_set};
-ghost use Rattle.dn_view.specs.Systems.{IsSystem};
-ghost use Rattle.dn_place.specs.Candidates.{Answers};
-ghost use Rattle.dn_place.specs.Hops.{hops_of};
-ghost use Rattle.dn_place.specs.Slots.{slot_of};
-ghost use Rattle.dn_place.specs.Sought.{IsReady};
+ghost use Rattle.dn_net.specs.Terms.{is_agent_at, top};
+ghost use Rattle.dn_kind.specs.Terms.{IsLawful, are_rights};
+ghost use Rattle.dn_tables.specs.Terms.{FitsNet, fits_kinds, has_slot, record_kept};
+ghost use Rattle.dn_placement.specs.Terms.{IsAdmissible, IsFirst, IsPlacement, NoneSuited, slots_of_set};
+ghost use Rattle.dn_view.specs.Terms.{IsSystem};
+ghost use Rattle.dn_place.specs.Terms.{Answers, IsReady, hops_of, slot_of};
 
-use crate::chain::by_hops;
+use crate::chain::{Stage, by_hops};
 use crate::hops::Hops;
 use crate::marks::reach_of;
 use crate::platform::{Aim, Platform};
-use crate::quest::Quest;
+use crate::quest::{Found, Quest};
 use crate::slot::Slot;
 use crate::tables::slot_at;
 use dn_base::OutOfMemory;
@@ -67,7 +60,7 @@ fn by_tables<A: Aim>(
     tables: &TableSet,
     request: &Request,
     at: Option<u64>,
-) -> Result<Option<Placement>, OutOfMemory>
+) -> Found
     requires system { IsSystem (λ k. meaning (k.vtable, k.value)) system }
     requires fits { FitsNet system.net.now
         (map (λ k. meaning (k.vtable, k.value)) system.kinds.now.list.items) tables.now }
@@ -121,14 +114,20 @@ fn by_tables<A: Aim>(
 }
 
 /// The first placement that is looked for. `None` exactly where there is none.
-fn first_of<Q: Quest>(alloc: Global, quest: &Q) -> Result<Option<Placement>, OutOfMemory>
+fn first_of<Q: Quest>(alloc: Global, quest: &Q) -> Found
     requires sound { Q.is_sound quest.now }
     requires ready { IsReady (Q.sought quest.now) }
     ensures { IfOk result (λ found. Answers (Q.sought quest.now) [] found) }
 {
     let reach = reach_of(alloc, quest)?;
     for count in 1..4 {
-        if let Some(placement) = by_hops(alloc, quest, &reach, count, Hops::Zero)? {
+        let stage = Stage {
+            alloc,
+            reach: &reach,
+            count,
+            chosen: Hops::Zero,
+        };
+        if let Some(placement) = by_hops(quest, stage)? {
             return Ok(Some(placement));
         }
     }

@@ -1,7 +1,7 @@
 //! The hops that are chosen so far.
 
 ghost use Rattle.std.specs.Prelude.{◌≡◌, ◌<◌, ◌∷◌, length, slice_get};
-ghost use Rattle.dn_place.specs.Hops.{hops_of};
+ghost use Rattle.dn_place.specs.Terms.{hops_of};
 
 use dn_tables::placement::{Hop, Placement};
 use std::alloc::Global;

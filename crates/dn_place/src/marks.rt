@@ -3,12 +3,10 @@
 
 ghost use Rattle.std.specs.Prelude.{◌≡◌, ◌<◌, ◌-◌, ◌++◌, [], ◌∷◌, ℕ, OnOk, is_some, true, false, Some, None, IfOk, IfSome, IfNone, IsTrue, length, map, slice_get};
 ghost use Rattle.dn_interval.specs.declared.row.End.{End};
-ghost use Rattle.dn_interval.specs.Rows.{EndsFit, GivenBy, HasEnds, Member, moved};
-ghost use Rattle.dn_interval.specs.Spans.{in_span};
+ghost use Rattle.dn_interval.specs.Terms.{EndsFit, GivenBy, HasEnds, Member, in_span, moved};
 ghost use Rattle.dn_net.specs.declared.node.Unit.{Unit as UnitPart};
-ghost use Rattle.dn_net.specs.Decode.{unit_at};
-ghost use Rattle.dn_place.specs.Marks.{is_marked, mark_at, Keeps, Marks, MarksAll, MarksEnds, MarksRows, MarksAfter, MarkedBelow, AreMarked, AreUnitsFrom, IsEntry};
-ghost use Rattle.dn_place.specs.Sought.{IsReady};
+ghost use Rattle.dn_net.specs.Terms.{unit_at};
+ghost use Rattle.dn_place.specs.Terms.{AreMarked, AreUnitsFrom, IsEntry, IsReady, Keeps, MarkedBelow, Marks, MarksAfter, MarksAll, MarksEnds, MarksRows, is_marked, mark_at};
 
 use crate::quest::{Quest, unit_of};
 use dn_base::OutOfMemory;

@@ -1,8 +1,8 @@
 //! What the search asks of a request and of the platform on which it is made.
 
 ghost use Rattle.std.specs.Prelude.{◌≡◌, IfSome, IfNone, Some, None};
-ghost use Rattle.dn_net.specs.Decode.{unit_at};
-ghost use Rattle.dn_place.specs.Sought.{IsFormed, IsReady};
+ghost use Rattle.dn_net.specs.Terms.{unit_at};
+ghost use Rattle.dn_place.specs.Terms.{IsFormed, IsReady};
 
 use crate::hops::Hops;
 use crate::slot::Slot;
@@ -10,6 +10,10 @@ use dn_base::OutOfMemory;
 use dn_flat::flat::Flat;
 use dn_net::node::Unit;
 use dn_placement::request::Request;
+use dn_tables::placement::Placement;
+
+/// The placement that is found, if one is. `Err` is want of memory.
+pub(crate) type Found = Result<Option<Placement>, OutOfMemory>;
 
 /// A request, and the platform on which a placement of it is looked for.
 pub(crate) trait Quest {

@@ -2,9 +2,8 @@
 
 ghost use Rattle.std.specs.Prelude.{◌≡◌, ◌<◌, ◌≤◌, ◌+◌, ℕ, IfSome, IfNone};
 ghost use Rattle.std.specs.List.{list_all};
-ghost use Rattle.dn_interval.specs.Rows.{Apart};
-ghost use Rattle.dn_place.specs.Hops.{hops_of};
-ghost use Rattle.dn_place.specs.Rows.{InRow, wanted, rows_toward, is_clear, is_past};
+ghost use Rattle.dn_interval.specs.Terms.{Apart};
+ghost use Rattle.dn_place.specs.Terms.{InRow, hops_of, is_clear, is_past, rows_toward, wanted};
 
 use crate::hops::Hops;
 use dn_flat::flat::Flat;

@@ -1,9 +1,8 @@
 //! The slots of a hop.
 
 ghost use Rattle.std.specs.Prelude.{◌≡◌, ◌<◌, ◌≤◌, ◌+◌, ◌-◌, ◌*◌, ◌/◌, ◌%◌, ◌^◌, IsTrue, ◌↔◌, IfSome, IfNone, false};
-ghost use Rattle.dn_net.specs.Decode.{unit_at};
-ghost use Rattle.dn_place.specs.Slots.{AreBarred, AreFree, AreShut, AreUsable, is_free_slot, is_usable_slot, slot_of};
-ghost use Rattle.dn_place.specs.Sought.{IsReady, slot_count};
+ghost use Rattle.dn_net.specs.Terms.{unit_at};
+ghost use Rattle.dn_place.specs.Terms.{AreBarred, AreFree, AreShut, AreUsable, IsReady, IsWithin, is_free_slot, is_usable_slot, slot_count, slot_of};
 
 use crate::quest::Quest;
 use crate::slot::Slot;
@@ -114,21 +113,47 @@ pub(crate) fn power(exponent: u8) -> u64
     1u64 << exponent
 }
 
+/// The slots that a hop takes of its unit.
+#[derive(Clone, Copy)]
+struct HopSlots {
+    /// How many addresses a slot has.
+    page: u64,
+    first: u32,
+    last: u32,
+}
+
+/// The slots that a hop takes.
+fn slots_of_hop<Q: Quest>(quest: &Q, translator: &Unit, hop: Hop) -> HopSlots
+    requires sound { Q.is_sound quest.now }
+    requires ready { IsReady (Q.sought quest.now) }
+    requires within { IsWithin (Q.sought quest.now) translator.now hop }
+    ensures page { result.page ≡ 2 ^ translator.now.page }
+    ensures first { result.first ≡ hop.x / 2 ^ translator.now.page }
+    ensures last { result.last
+        ≡ (hop.x + (Q.sought quest.now).request.size - 1) / 2 ^ translator.now.page }
+    ensures ordered { result.first ≤ result.last }
+    ensures below { result.last < translator.now.slots }
+    ensures there { result.last < slot_count (unit_at (Q.sought quest.now).net hop.unit) }
+    ensures few { result.last < 262144 }
+{
+    let size = quest.request().size;
+    let page = power(translator.page);
+    let first = (hop.x / page) as u32;
+    let last = ((hop.x + size - 1) / page) as u32;
+    HopSlots { page, first, last }
+}
+
 /// Whether the slots of a hop are free.
 pub(crate) fn is_hop_free<Q: Quest>(quest: &Q, translator: &Unit, hop: Hop) -> bool
     requires sound { Q.is_sound quest.now }
     requires ready { IsReady (Q.sought quest.now) }
-    requires unit { unit_at (Q.sought quest.now).net hop.unit ≡ Some translator.now }
-    requires within { hop.x + (Q.sought quest.now).request.size
-        ≤ translator.now.slots * 2 ^ translator.now.page }
+    requires within { IsWithin (Q.sought quest.now) translator.now hop }
     ensures { IsTrue result ↔ AreFree (Q.sought quest.now).slots hop.unit
         (hop.x / 2 ^ translator.now.page)
         ((hop.x + (Q.sought quest.now).request.size - 1) / 2 ^ translator.now.page) }
 {
-    let page = power(translator.page);
-    let first = (hop.x / page) as u32;
-    let last = ((hop.x + quest.request().size - 1) / page) as u32;
-    are_free(quest, hop.unit, first, last)
+    let slots = slots_of_hop(quest, translator, hop);
+    are_free(quest, hop.unit, slots.first, slots.last)
 }
 
 /// The first input of a unit from the hop's on, in its place in a slot, that may find its slots
@@ -136,9 +161,7 @@ pub(crate) fn is_hop_free<Q: Quest>(quest: &Q, translator: &Unit, hop: Hop) -> b
 pub(crate) fn next_input<Q: Quest>(quest: &Q, translator: &Unit, hop: Hop) -> u64
     requires sound { Q.is_sound quest.now }
     requires ready { IsReady (Q.sought quest.now) }
-    requires unit { unit_at (Q.sought quest.now).net hop.unit ≡ Some translator.now }
-    requires within { hop.x + (Q.sought quest.now).request.size
-        ≤ translator.now.slots * 2 ^ translator.now.page }
+    requires within { IsWithin (Q.sought quest.now) translator.now hop }
     requires reached { hop.y + (Q.sought quest.now).request.size ≤ 2 ^ translator.now.reach }
     ensures onward { hop.x ≤ result }
     ensures agree { result % 2 ^ translator.now.page ≡ hop.x % 2 ^ translator.now.page }
@@ -149,15 +172,13 @@ pub(crate) fn next_input<Q: Quest>(quest: &Q, translator: &Unit, hop: Hop) -> u6
         ((hop.x + (Q.sought quest.now).request.size - 1) / 2 ^ translator.now.page)
         hop.port (hop.y / 2 ^ translator.now.page) }
 {
-    let page = power(translator.page);
-    let first = (hop.x / page) as u32;
-    let last = ((hop.x + quest.request().size - 1) / page) as u32;
-    let output = hop.y / page;
-    match last_unusable(quest, hop.unit, first, last, hop.port, output) {
+    let slots = slots_of_hop(quest, translator, hop);
+    let output = hop.y / slots.page;
+    match last_unusable(quest, hop.unit, slots.first, slots.last, hop.port, output) {
         Some(slot) => {
             let found = quest.slot(hop.unit, slot);
-            let next = past_slot(found, slot, first, hop.port, output);
-            u64::from(next) * page + hop.x % page
+            let next = past_slot(found, slot, slots.first, hop.port, output);
+            u64::from(next) * slots.page + hop.x % slots.page
         }
         None => hop.x,
     }

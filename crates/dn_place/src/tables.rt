@@ -2,10 +2,10 @@
 
 ghost use Rattle.std.specs.Prelude.{◌≡◌, ◌↔◌, IsTrue, false, map};
 ghost use Rattle.std.specs.List.{All};
-ghost use Rattle.dn_kind.specs.Kind.{IsLawful};
-ghost use Rattle.dn_tables.specs.Set.{fits_kinds, has_slot};
-ghost use Rattle.dn_placement.specs.Slots.{is_zero_slot, slots_of_set};
-ghost use Rattle.dn_place.specs.Slots.{shared_by, slot_of};
+ghost use Rattle.dn_kind.specs.Terms.{IsLawful};
+ghost use Rattle.dn_tables.specs.Terms.{fits_kinds, has_slot};
+ghost use Rattle.dn_placement.specs.Terms.{is_zero_slot, slots_of_set};
+ghost use Rattle.dn_place.specs.Terms.{shared_by, slot_of};
 
 use crate::slot::Slot;
 use dn_kind::kinds::Kinds;

@@ -1,30 +1,21 @@
 //! The search among the placements whose hops are all chosen: the agent's address, and the own hop.
 
-ghost use Rattle.std.specs.Prelude.{◌≡◌, ◌+◌, ◌<◌, ◌≤◌, ◌↔◌, false, Some, IfOk, IfSome, IfNone, IsTrue, length};
-ghost use Rattle.dn_net.specs.Decode.{top};
-ghost use Rattle.dn_kind.specs.Rights.{both_rights};
-ghost use Rattle.dn_placement.specs.Order.{IsAt, hop_page};
-ghost use Rattle.dn_placement.specs.Placement.{Leads, Meets};
-ghost use Rattle.dn_place.specs.Candidates.{Answers, CanOwn, IsChosen, PagesBelow, PagesFrom, ending, to_address, to_page};
-ghost use Rattle.dn_place.specs.Hops.{hops_of};
-ghost use Rattle.dn_place.specs.Sought.{IsReady};
+ghost use Rattle.std.specs.Prelude.{◌≡◌, ◌≤◌, ◌↔◌, false, Some, IfOk, IfSome, IfNone, IsTrue, length};
+ghost use Rattle.dn_kind.specs.Terms.{both_rights};
+ghost use Rattle.dn_placement.specs.Terms.{IsAt, Leads, hop_page};
+ghost use Rattle.dn_place.specs.Terms.{Answers, CanOwn, IsAddressed, IsChosen, IsReady, PagesBelow, PagesFrom, ending, hops_of, to_address, to_page};
 
 use crate::hops::Hops;
-use crate::quest::{Quest, unit_of};
+use crate::quest::{Found, Quest, unit_of};
 use crate::rows::{output, rows_toward, wanted};
 use crate::slots::is_hop_free;
-use dn_base::OutOfMemory;
 use dn_kind::rights::Rights;
-use dn_tables::placement::{Hop, Placement};
+use dn_tables::placement::Hop;
 use std::alloc::Global;
 
 /// The first placement of just these hops: each row of the agent that gives the input of the first
 /// hop fixes one address.
-pub(crate) fn by_agent<Q: Quest>(
-    alloc: Global,
-    quest: &Q,
-    hops: Hops,
-) -> Result<Option<Placement>, OutOfMemory>
+pub(crate) fn by_agent<Q: Quest>(alloc: Global, quest: &Q, hops: Hops) -> Found
     requires sound { Q.is_sound quest.now }
     requires ready { IsReady (Q.sought quest.now) }
     requires chosen { IsChosen (Q.sought quest.now) (length (hops_of hops)) (hops_of hops) }
@@ -58,20 +49,10 @@ fn is_at(at: Option<u64>, v: u64) -> bool
 }
 
 /// The same at an address of the agent: the own hop with the smaller page first.
-fn by_address<Q: Quest>(
-    alloc: Global,
-    quest: &Q,
-    hops: Hops,
-    v: u64,
-) -> Result<Option<Placement>, OutOfMemory>
+fn by_address<Q: Quest>(alloc: Global, quest: &Q, hops: Hops, v: u64) -> Found
     requires sound { Q.is_sound quest.now }
     requires ready { IsReady (Q.sought quest.now) }
-    requires chosen { IsChosen (Q.sought quest.now) (length (hops_of hops)) (hops_of hops) }
-    requires some { 1 ≤ length (hops_of hops) }
-    requires fits { v + (Q.sought quest.now).request.size ≤ top + 1 }
-    requires at { IsAt (Q.sought quest.now).at v }
-    requires meets { Meets (Q.sought quest.now).net (Q.sought quest.now).request
-        (Q.sought quest.now).request.agent v (hops_of hops) }
+    requires addressed { IsAddressed (Q.sought quest.now) (hops_of hops) v }
     ensures { IfOk result (λ found. Answers (Q.sought quest.now)
         (to_address (length (hops_of hops)) (hops_of hops) v) found) }
 {
@@ -86,21 +67,10 @@ fn by_address<Q: Quest>(
 }
 
 /// The same with an own hop of this page: the one nearer memory first.
-fn by_page<Q: Quest>(
-    alloc: Global,
-    quest: &Q,
-    hops: Hops,
-    v: u64,
-    page: u8,
-) -> Result<Option<Placement>, OutOfMemory>
+fn by_page<Q: Quest>(alloc: Global, quest: &Q, hops: Hops, v: u64, page: u8) -> Found
     requires sound { Q.is_sound quest.now }
     requires ready { IsReady (Q.sought quest.now) }
-    requires chosen { IsChosen (Q.sought quest.now) (length (hops_of hops)) (hops_of hops) }
-    requires some { 1 ≤ length (hops_of hops) }
-    requires fits { v + (Q.sought quest.now).request.size ≤ top + 1 }
-    requires at { IsAt (Q.sought quest.now).at v }
-    requires meets { Meets (Q.sought quest.now).net (Q.sought quest.now).request
-        (Q.sought quest.now).request.agent v (hops_of hops) }
+    requires addressed { IsAddressed (Q.sought quest.now) (hops_of hops) v }
     ensures { IfOk result (λ found. Answers (Q.sought quest.now)
         (to_page (length (hops_of hops)) (hops_of hops) v page) found) }
 {

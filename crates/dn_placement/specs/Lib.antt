@@ -5,3 +5,4 @@ pub mod Placement
 pub mod Records
 pub mod Roles
 pub mod Slots
+pub mod Terms

@@ -1,6 +1,6 @@
 //! Laws on the definitions, each the contract of a function that does nothing.
 
-ghost use Rattle.dn_placement.specs.Order.{FirstIsOne, PlacementsAreOrdered};
+ghost use Rattle.dn_placement.specs.Terms.{FirstIsOne, PlacementsAreOrdered};
 
 /// The order of placements is strict, and of two different placements of one request one comes
 /// before the other.

@@ -8,8 +8,8 @@ use Rattle.dn_parse.specs.Descent.{one_more, after_sign, sign_at, word_at, row_a
 use Rattle.dn_module.specs.Values.{value, part_text, after_dots, full_name}
 use Rattle.dn_print.specs.Names.{address_text}
 use Rattle.dn_print.proofs.Titles.{Title, Label, label_by, label_text, IsSmall, IsLabel, AreLabels, IsFull}
-use Rattle.dn_print.proofs.Lexes.{word_token, number_token, sign_token, Closed, Quiet, closed_then, open_then, word_closed, decimal_closed, address_closed, bracket_open, close_open, dot_closed}
-use Rattle.dn_print.proofs.Shown.{Shown, Row, row_none, row_cons, first_shown}
+use Rattle.dn_print.proofs.Lexes.{word_token, number_token, sign_token, Closed, Quiet, closed_then, open_then, word_closed, decimal_closed, address_closed, bracket_open, close_open, dot_closed, as_closed}
+use Rattle.dn_print.proofs.Shown.{Shown, Row, row_none, row_cons, both_shown, first_shown}
 
 -- what may follow a number
 abbrev pub NumberEnd : List Token → Type 0
@@ -54,7 +54,7 @@ index_quiet : (n : ℕ) → Quiet (codes "[" ++ (decimal n ++ codes "]"))
 index_quiet n = record { it = λ rest h. refl }
 
 pub close_closed : (line : ℕ) → Closed line (codes "]") (sign_token line CloseBracket ∷ [])
-close_closed line = record { it = λ rest h. (close_open line).it rest }
+close_closed line = as_closed (close_open line)
 
 pub close_quiet : Quiet (codes "]")
 close_quiet = record { it = λ rest h. refl }
@@ -134,7 +134,7 @@ first_by line w None t h = ([], refl)
 first_by line w (Some n) t h = (sign_token line OpenBracket ∷ number_token line n ∷ sign_token line CloseBracket ∷ [], refl)
 
 pub name_first : (line : ℕ) (text : List ℕ) (full : IsFull text) → (ts : List Token) × ((name_shown line text full).tokens ≡ word_token line full.first.title ∷ ts)
-unfolding name_shown first_shown part_shown
+unfolding name_shown first_shown both_shown part_shown
 name_first line text full =
     let f = first_by line full.first.title full.first.index full.one.0 full.one.1 in
     (f.0 ++ (more_shown line full.more full.all).tokens, ap (λ (l : List Token). l ++ (more_shown line full.more full.all).tokens) f.1)

@@ -3,15 +3,16 @@ use Rattle.std.proofs.Common.{◌≡◌, ◌∙◌, ap, ap₂, sym, refl, subst,
 use Rattle.std.specs.Fmt.{digits, decimal}
 use Rattle.std.specs.List.{list_all, prefix_len}
 use Rattle.dn_token.specs.declared.token.Keyword.{Keyword}
-use Rattle.dn_token.specs.declared.token.Keyword.TheVariants.{Agent, Vectors, Unit as UnitWord, Is, Accept, Map, To, And, At, Over, Kind, Page, Slots, Reach}
 use Rattle.dn_token.specs.declared.token.Sign.{Sign}
 use Rattle.dn_token.specs.declared.token.Sign.TheVariants.{Semicolon, Comma, OpenBracket, CloseBracket, Minus, Dot}
 use Rattle.dn_token.specs.Token.{Lexeme, Token, word, keyword, number, sign, taken, tokens_from, with_token, then_tokens, front, run, after_run, number_of, number_front, word_lexeme, is_word_byte, is_letter, is_digit, is_line_feed, is_blank, is_slash, begins_with}
+use Rattle.dn_token.specs.Words.{spelling}
 use Rattle.dn_token.specs.Going.{tokens_of}
-use Rattle.dn_token.proofs.Going.{enough, tokens_go_on}
+use Rattle.dn_token.proofs.Going.{tokens_go_on}
 use Rattle.dn_token.proofs.Lexed.{with_tokens}
 use Rattle.dn_print.specs.Names.{address_text}
 use Rattle.dn_print.proofs.Digits.{decimal_number, hexadecimal_number, decimal_digits, decimal_word, hexadecimal_word, decimal_some}
+use Rattle.dn_print.proofs.Words.{IsReserved, keyword_reserved}
 use Rattle.dn_base.proofs.Booleans.{and_parts}
 
 -- a token of a line
@@ -74,6 +75,10 @@ quiet_none = record { it = λ rest h. h }
 
 pub closed_none : (line : ℕ) → Closed line [] []
 closed_none line = record { it = λ rest h. with_none (tokens_of line rest) }
+
+-- a piece that is these tokens whatever follows is so where no letter, digit or `_` does
+pub as_closed : {line : ℕ} {p : List ℕ} {ts : List Token} → Open line p ts → Closed line p ts
+as_closed o = record { it = λ rest h. o.it rest }
 
 -- one token
 token_step : (line b : ℕ) (s : List ℕ) (l : Lexeme) (rest : List ℕ) → is_line_feed b ≡ false → is_blank b ≡ false → is_slash b ≡ false → front b s ≡ taken l rest → tokens_of line (b ∷ s) ≡ with_tokens (record { lexeme = l; line = line } ∷ []) (tokens_of line rest)
@@ -164,96 +169,55 @@ decimal_closed line n h = digits_closed line n (decimal n) (decimal_some n) (dec
 pub address_closed : (line n : ℕ) → n < 2 ^ 64 → Closed line (address_text n) (number_token line n ∷ [])
 address_closed line n h = number_closed line 48 (120 ∷ digits 16 false n) n refl (hexadecimal_word n) (hexadecimal_number n h)
 
--- what is written between names and numbers
-one_open : (t : Token) (n line : ℕ) (rest : List ℕ) → length rest < n → with_token t (tokens_from n line rest) ≡ with_tokens (t ∷ []) (tokens_of line rest)
-one_open t n line rest h = ap (with_token t) (enough n (suc (length rest)) line rest h (omega arith)) ∙ with_one t (tokens_of line rest)
+-- a reserved word
+reserved_closed : (line : ℕ) (w : List ℕ) (k : Keyword) → IsReserved k w → Closed line w (keyword_token line k ∷ [])
+reserved_closed line [] k h = absurd h
+reserved_closed line (b ∷ w) k h = word_closed line b w (keyword k) h.0 h.1 h.2
 
-two_open : (t u : Token) (n line : ℕ) (rest : List ℕ) → length rest < n → with_token t (with_token u (tokens_from n line rest)) ≡ with_tokens (t ∷ u ∷ []) (tokens_of line rest)
-two_open t u n line rest h = ap (with_token t) (one_open u n line rest h) ∙ with_one t (with_tokens (u ∷ []) (tokens_of line rest)) ∙ with_both (t ∷ []) (u ∷ []) (tokens_of line rest)
+pub keyword_closed : (line : ℕ) (k : Keyword) → Closed line (spelling k) (keyword_token line k ∷ [])
+keyword_closed line k = reserved_closed line (spelling k) k (keyword_reserved k)
 
-pub at_open : (line : ℕ) → Open line (codes " at ") (keyword_token line At ∷ [])
-unfolding tokens_from word_lexeme
-at_open line = record { it = λ rest. one_open (keyword_token line At) (suc (suc (length rest))) line rest (omega arith) }
-
-pub to_open : (line : ℕ) → Open line (codes " to ") (keyword_token line To ∷ [])
-unfolding tokens_from word_lexeme
-to_open line = record { it = λ rest. one_open (keyword_token line To) (suc (suc (length rest))) line rest (omega arith) }
-
-pub and_open : (line : ℕ) → Open line (codes " and ") (keyword_token line And ∷ [])
-unfolding tokens_from word_lexeme
-and_open line = record { it = λ rest. one_open (keyword_token line And) (suc (suc (suc (length rest)))) line rest (omega arith) }
-
-pub over_open : (line : ℕ) → Open line (codes " over ") (keyword_token line Over ∷ [])
-unfolding tokens_from word_lexeme
-over_open line = record { it = λ rest. one_open (keyword_token line Over) (suc (suc (suc (suc (length rest))))) line rest (omega arith) }
-
-pub agent_open : (line : ℕ) → Open line (codes "agent ") (keyword_token line Agent ∷ [])
-unfolding tokens_from word_lexeme
-agent_open line = record { it = λ rest. one_open (keyword_token line Agent) (suc (suc (suc (suc (suc (length rest)))))) line rest (omega arith) }
-
-pub vectors_open : (line : ℕ) → Open line (codes "vectors ") (keyword_token line Vectors ∷ [])
-unfolding tokens_from word_lexeme
-vectors_open line = record { it = λ rest. one_open (keyword_token line Vectors) (suc (suc (suc (suc (suc (suc (suc (length rest)))))))) line rest (omega arith) }
-
-pub unit_open : (line : ℕ) → Open line (codes "unit ") (keyword_token line UnitWord ∷ [])
-unfolding tokens_from word_lexeme
-unit_open line = record { it = λ rest. one_open (keyword_token line UnitWord) (suc (suc (suc (suc (length rest))))) line rest (omega arith) }
-
-pub kind_open : (line : ℕ) → Open line (codes " kind ") (keyword_token line Kind ∷ [])
-unfolding tokens_from word_lexeme
-kind_open line = record { it = λ rest. one_open (keyword_token line Kind) (suc (suc (suc (suc (length rest))))) line rest (omega arith) }
-
-pub page_open : (line : ℕ) → Open line (codes " page ") (keyword_token line Page ∷ [])
-unfolding tokens_from word_lexeme
-page_open line = record { it = λ rest. one_open (keyword_token line Page) (suc (suc (suc (suc (length rest))))) line rest (omega arith) }
-
-pub slots_open : (line : ℕ) → Open line (codes " slots ") (keyword_token line Slots ∷ [])
-unfolding tokens_from word_lexeme
-slots_open line = record { it = λ rest. one_open (keyword_token line Slots) (suc (suc (suc (suc (suc (length rest)))))) line rest (omega arith) }
-
-pub reach_open : (line : ℕ) → Open line (codes " reach ") (keyword_token line Reach ∷ [])
-unfolding tokens_from word_lexeme
-reach_open line = record { it = λ rest. one_open (keyword_token line Reach) (suc (suc (suc (suc (suc (length rest)))))) line rest (omega arith) }
-
-pub accept_open : (line : ℕ) → Open line (codes " accept [") (keyword_token line Accept ∷ sign_token line OpenBracket ∷ [])
-unfolding tokens_from word_lexeme
-accept_open line = record { it = λ rest. two_open (keyword_token line Accept) (sign_token line OpenBracket) (suc (suc (suc (suc (suc (suc (length rest))))))) line rest (omega arith) }
-
-pub map_open : (line : ℕ) → Open line (codes " map [") (keyword_token line Map ∷ sign_token line OpenBracket ∷ [])
-unfolding tokens_from word_lexeme
-map_open line = record { it = λ rest. two_open (keyword_token line Map) (sign_token line OpenBracket) (suc (suc (suc (length rest)))) line rest (omega arith) }
-
-pub comma_open : (line : ℕ) → Open line (codes ", ") (sign_token line Comma ∷ [])
-unfolding tokens_from word_lexeme
-comma_open line = record { it = λ rest. one_open (sign_token line Comma) (suc (length rest)) line rest (omega arith) }
-
-pub minus_open : (line : ℕ) → Open line (codes "-") (sign_token line Minus ∷ [])
-unfolding tokens_from word_lexeme
-minus_open line = record { it = λ rest. one_open (sign_token line Minus) (suc (length rest)) line rest (omega arith) }
-
-pub bracket_open : (line : ℕ) → Open line (codes "[") (sign_token line OpenBracket ∷ [])
-unfolding tokens_from word_lexeme
-bracket_open line = record { it = λ rest. one_open (sign_token line OpenBracket) (suc (length rest)) line rest (omega arith) }
-
-pub close_open : (line : ℕ) → Open line (codes "]") (sign_token line CloseBracket ∷ [])
-unfolding tokens_from word_lexeme
-close_open line = record { it = λ rest. one_open (sign_token line CloseBracket) (suc (length rest)) line rest (omega arith) }
-
+-- a space, before a piece and behind one
 blank_open : (line : ℕ) → Open line (codes " ") []
 unfolding tokens_from
 blank_open line = record { it = λ rest. with_none (tokens_of line rest) }
 
-is_closed : (line : ℕ) → Closed line (codes "is") (keyword_token line Is ∷ [])
-unfolding word_lexeme
-is_closed line = word_closed line 105 (115 ∷ []) (keyword Is) refl refl refl
+pub behind_blank : {line : ℕ} {p : List ℕ} {ts : List Token} → Closed line p ts → Closed line (codes " " ++ p) ts
+behind_blank {line} c = open_then (blank_open line) c
 
-pub is_word_closed : (line : ℕ) → Closed line (codes " is") (keyword_token line Is ∷ [])
-is_word_closed line = open_then (blank_open line) (is_closed line)
+before_blank : {line : ℕ} {p : List ℕ} {ts : List Token} → Closed line p ts → Open line (p ++ codes " ") ts
+before_blank {line} {p} {ts} c = record {
+  it = λ rest. ap (tokens_of line) (append_assoc p (codes " ") rest) ∙ c.it (codes " " ++ rest) refl ∙ ap (with_tokens ts) ((blank_open line).it rest ∙ sym (with_none (tokens_of line rest)));
+}
+
+-- a reserved word with a space behind it, and with one before it too
+pub keyword_open : (line : ℕ) (k : Keyword) → Open line (spelling k ++ codes " ") (keyword_token line k ∷ [])
+keyword_open line k = before_blank (keyword_closed line k)
+
+pub keyword_between : (line : ℕ) (k : Keyword) → Open line (codes " " ++ (spelling k ++ codes " ")) (keyword_token line k ∷ [])
+unfolding tokens_from
+keyword_between line k = record { it = (keyword_open line k).it }
+
+-- a sign of one byte
+sign_open : (line b : ℕ) (s : Sign) → is_line_feed b ≡ false → is_blank b ≡ false → is_slash b ≡ false → ((rest : List ℕ) → front b rest ≡ taken (sign s) rest) → Open line (b ∷ []) (sign_token line s ∷ [])
+sign_open line b s p q r e = record { it = λ rest. token_step line b rest (sign s) rest p q r (e rest) }
+
+pub minus_open : (line : ℕ) → Open line (codes "-") (sign_token line Minus ∷ [])
+minus_open line = sign_open line 45 Minus refl refl refl (λ rest. refl)
+
+pub bracket_open : (line : ℕ) → Open line (codes "[") (sign_token line OpenBracket ∷ [])
+bracket_open line = sign_open line 91 OpenBracket refl refl refl (λ rest. refl)
+
+pub close_open : (line : ℕ) → Open line (codes "]") (sign_token line CloseBracket ∷ [])
+close_open line = sign_open line 93 CloseBracket refl refl refl (λ rest. refl)
+
+pub comma_open : (line : ℕ) → Open line (codes ", ") (sign_token line Comma ∷ [])
+comma_open line = before_blank (as_closed (sign_open line 44 Comma refl refl refl (λ rest. refl)))
 
 -- the end of a statement and of its line
 pub end_open : (line : ℕ) (rest : List ℕ) → tokens_of line (codes ";\n" ++ rest) ≡ with_tokens (sign_token line Semicolon ∷ []) (tokens_of (line + 1) rest)
-unfolding tokens_from word_lexeme
-end_open line rest = one_open (sign_token line Semicolon) (suc (length rest)) (line + 1) rest (omega arith)
+unfolding tokens_from
+end_open line rest = (sign_open line 59 Semicolon refl refl refl (λ s. refl)).it (codes "\n" ++ rest)
 
 dot_at : (s : List ℕ) → begins_with (λ c. c == 46) s ≡ false → front 46 s ≡ taken (sign Dot) s
 dot_at s h = rw h refl

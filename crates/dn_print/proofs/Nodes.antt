@@ -1,8 +1,10 @@
 -- The statement of a node as it is printed: its tokens, what is read from them, and the node that this declares.
 use Rattle.std.proofs.Common.{◌≡◌, ◌∙◌, ap, sym, refl, subst, ℕ, ◌+◌, List, [], ◌∷◌, ◌++◌, map, ◌&&◌, codes, Option, Some, None, option_map, Ok, IsTrue, append_assoc}
+use Rattle.dn_token.specs.declared.token.Keyword.{Keyword}
 use Rattle.dn_token.specs.declared.token.Keyword.TheVariants.{Agent, Vectors, Is, Accept, Map, Over}
 use Rattle.dn_token.specs.declared.token.Sign.TheVariants.{Semicolon, OpenBracket, CloseBracket}
 use Rattle.dn_token.specs.Token.{Token}
+use Rattle.dn_token.specs.Words.{spelling}
 use Rattle.dn_parse.specs.Tree.{Part, Block as BlockOf, Entry as EntryOf, Spec, Role as RoleOf, plain_role, agent_role, vectors_role, Declaration, node, declares}
 use Rattle.dn_token.specs.Going.{tokens_of}
 use Rattle.dn_parse.specs.Descent.{after_sign, after_keyword, sign_at, keyword_at, name_at, blocks_at, entries_at, accept_at, map_at, over_at, spec_at, node_at, keyword_statement_at, statement_at, whole_statement_at}
@@ -20,7 +22,7 @@ use Rattle.dn_print.specs.Statement.{accept_text, map_text, over_text, role_text
 use Rattle.dn_base.proofs.Booleans.{and_parts}
 use Rattle.dn_print.proofs.Titles.{IsFull}
 use Rattle.dn_print.proofs.Formed.{Each, Maybe, GoodBlock, GoodEntry, GoodNode}
-use Rattle.dn_print.proofs.Lexes.{word_token, sign_token, keyword_token, Closed, Open, Quiet, closed_then, open_then, quiet_then, quiet_none, closed_none, accept_open, map_open, over_open, agent_open, vectors_open, is_word_closed, end_open, with_both}
+use Rattle.dn_print.proofs.Lexes.{word_token, sign_token, keyword_token, Closed, Open, Quiet, closed_then, open_then, quiet_then, quiet_none, closed_none, keyword_closed, keyword_open, keyword_between, bracket_open, behind_blank, end_open, with_both}
 use Rattle.dn_print.proofs.Shown.{Shown}
 use Rattle.dn_print.proofs.Labels.{NameEnd, name_shown, name_first, close_closed, close_quiet}
 use Rattle.dn_print.proofs.Pieces.{Named, BlocksEnd, EntriesEnd, blocks_shown, entries_known, entries_shown}
@@ -51,13 +53,14 @@ accept_read line bs ts rest e =
     rw whole refl
 
 accept_shown : (line : ℕ) (bs : List Block) → Each GoodBlock bs → Shown line (accept_text bs) accept_at AcceptEnd (each block_of) bs
+unfolding spelling
 accept_shown line [] h = record { tokens = []; tree = []; lexed = closed_none line; read = λ rest e. no_accept rest e; valued = refl }
 accept_shown line (b ∷ bs) h =
     let blocks = blocks_shown line b bs h in
     record {
       tokens = keyword_token line Accept ∷ sign_token line OpenBracket ∷ (blocks.tokens ++ (sign_token line CloseBracket ∷ []));
       tree = blocks.tree;
-      lexed = open_then (accept_open line) (closed_then blocks.lexed close_quiet (close_closed line));
+      lexed = open_then (keyword_between line Accept) (open_then (bracket_open line) (closed_then blocks.lexed close_quiet (close_closed line)));
       read = λ rest e. accept_read line blocks.tree blocks.tokens rest (blocks.read (sign_token line CloseBracket ∷ rest) (close_ends_blocks line rest));
       valued = blocks.valued;
     }
@@ -91,6 +94,7 @@ record MapShown (line : ℕ) (text : List ℕ) (es : List DraftEntry) : Type 0 w
   heads : (rest : List Token) → AcceptEnd rest → AcceptEnd (shown.tokens ++ rest)
 
 map_shown : (net : List NodeDecl) (known : List (List ℕ)) → Named net known → (line : ℕ) (es : List DraftEntry) → Each GoodEntry es → IsTrue (entries_known known es) → MapShown line (map_text net (map (entry_in known) es)) es
+unfolding spelling
 map_shown net known named line [] h k = record {
   shown = record { tokens = []; tree = []; lexed = closed_none line; read = λ rest e. no_map rest e; valued = refl };
   quiet = quiet_none;
@@ -102,7 +106,7 @@ map_shown net known named line (e ∷ es) h k =
       shown = record {
         tokens = keyword_token line Map ∷ sign_token line OpenBracket ∷ (entries.tokens ++ (sign_token line CloseBracket ∷ []));
         tree = entries.tree;
-        lexed = open_then (map_open line) (closed_then entries.lexed close_quiet (close_closed line));
+        lexed = open_then (keyword_between line Map) (open_then (bracket_open line) (closed_then entries.lexed close_quiet (close_closed line)));
         read = λ rest g. map_read line entries.tree entries.tokens rest (entries.read (sign_token line CloseBracket ∷ rest) (close_ends_entries line rest));
         valued = entries.valued;
       };
@@ -134,6 +138,7 @@ record OverShown (line : ℕ) (text : List ℕ) (o : Option (List ℕ)) : Type 0
   maps : (rest : List Token) → SpecEnd rest → MapEnd (shown.tokens ++ rest)
 
 over_shown : (net : List NodeDecl) (known : List (List ℕ)) → Named net known → (line : ℕ) (o : Option (List ℕ)) → Maybe IsFull o → IsTrue (over_known known o) → OverShown line (over_text net (option_map (number_of known) o)) o
+unfolding spelling
 over_shown net known named line None h k = record {
   shown = record { tokens = []; tree = None; lexed = closed_none line; read = λ rest e. no_over rest e.1; valued = refl };
   quiet = quiet_none;
@@ -147,7 +152,7 @@ over_shown net known named line (Some t) h k =
       shown = record {
         tokens = keyword_token line Over ∷ name.tokens;
         tree = Some name.tree;
-        lexed = open_then (over_open line) (subst (λ (u : List ℕ). Closed line u name.tokens) (sym (named t k)) name.lexed);
+        lexed = open_then (keyword_between line Over) (subst (λ (u : List ℕ). Closed line u name.tokens) (sym (named t k)) name.lexed);
         read = λ rest e. over_read line name.tree name.tokens rest (name.read rest e.0);
         valued = rw v refl;
       };
@@ -221,6 +226,7 @@ abbrev rest_text : List NodeDecl → List (List ℕ) → Draft → List ℕ
 rest_text net known d = codes " is" ++ (accept_text d.accepts ++ (map_text net (map (entry_in known) d.entries) ++ over_text net (option_map (number_of known) d.over)))
 
 body_shown : (net : List NodeDecl) (known : List (List ℕ)) → Named net known → (line : ℕ) (d : Draft) → GoodNode d → IsTrue (refers_to_known known d) → Body line (d.name ++ rest_text net known d) d
+unfolding spelling
 body_shown net known named line d h k =
     let n = name_shown line d.name h.name in
     let f = name_first line d.name h.name in
@@ -231,7 +237,7 @@ body_shown net known named line d h k =
       more = f.0 ++ (keyword_token line Is ∷ s.tokens);
       name = n.tree;
       spec = s.tree;
-      lexed = subst (λ (l : List Token). Closed line (d.name ++ rest_text net known d) l) same (closed_then n.lexed (is_quiet (accept_text d.accepts ++ (map_text net (map (entry_in known) d.entries) ++ over_text net (option_map (number_of known) d.over)))) (closed_then (is_word_closed line) s.quiet s.lexed));
+      lexed = subst (λ (l : List Token). Closed line (d.name ++ rest_text net known d) l) same (closed_then n.lexed (is_quiet (accept_text d.accepts ++ (map_text net (map (entry_in known) d.entries) ++ over_text net (option_map (number_of known) d.over)))) (closed_then (behind_blank (keyword_closed line Is)) s.quiet s.lexed));
       read = λ role rest e. ap (λ (l : List Token). node_at role (l ++ rest)) (sym same) ∙ node_read role line n.tree s.tree n.tokens s.tokens rest (n.read (keyword_token line Is ∷ (s.tokens ++ rest)) (is_ends_name line (s.tokens ++ rest))) (s.read rest e);
       named = n.valued;
       accepts = s.accepts;
@@ -290,7 +296,20 @@ body_declared kinds line text d b role =
     let o = b.over in
     rw (n, a, e, o) refl
 
+-- a body behind the word that says what the node is, and a space
+marked_said : (kinds : List Meaning) (net : List NodeDecl) (known : List (List ℕ)) (line : ℕ) (d : Draft) → Body line (d.name ++ rest_text net known d) d → (role : RoleOf) (k : Keyword) (mark : List ℕ) → Open line mark (keyword_token line k ∷ []) → ((ts rest : List Token) (d : Declaration) → node_at role ts ≡ Ok (d, sign_token line Semicolon ∷ rest) → whole_statement_at (keyword_token line k ∷ ts) ≡ Ok (declares d, rest)) → Said kinds line (mark ++ (d.name ++ (rest_text net known d ++ codes ";\n"))) (role_of role) None d
+marked_said kinds net known line d b role k mark opens reads = record {
+  first = keyword_token line k;
+  more = word_token line b.word ∷ (b.more ++ (sign_token line Semicolon ∷ []));
+  begins = refl;
+  declaration = node role b.name b.spec;
+  lexed = λ rest. marked_lexed line mark (d.name ++ (rest_text net known d ++ codes ";\n")) (keyword_token line k) (word_token line b.word ∷ (b.more ++ (sign_token line Semicolon ∷ []))) opens rest (end_lexed line d.name (rest_text net known d) (word_token line b.word ∷ b.more) b.lexed rest);
+  read = λ rest. reads (word_token line b.word ∷ ((b.more ++ (sign_token line Semicolon ∷ [])) ++ rest)) rest (node role b.name b.spec) (body_read line (d.name ++ rest_text net known d) d b role rest);
+  declared = body_declared kinds line (d.name ++ rest_text net known d) d b role;
+}
+
 said_by : (kinds : List Meaning) (net : List NodeDecl) (known : List (List ℕ)) (line : ℕ) (d : Draft) → Body line (d.name ++ rest_text net known d) d → (role : RoleOf) → Said kinds line (role_text (role_of role) ++ (d.name ++ (rest_text net known d ++ codes ";\n"))) (role_of role) None d
+unfolding spelling
 said_by kinds net known line d b plain_role = record {
   first = word_token line b.word;
   more = b.more ++ (sign_token line Semicolon ∷ []);
@@ -300,24 +319,8 @@ said_by kinds net known line d b plain_role = record {
   read = λ rest. plain_read line b.word ((b.more ++ (sign_token line Semicolon ∷ [])) ++ rest) rest (node plain_role b.name b.spec) (body_read line (d.name ++ rest_text net known d) d b plain_role rest);
   declared = body_declared kinds line (d.name ++ rest_text net known d) d b plain_role;
 }
-said_by kinds net known line d b agent_role = record {
-  first = keyword_token line Agent;
-  more = word_token line b.word ∷ (b.more ++ (sign_token line Semicolon ∷ []));
-  begins = refl;
-  declaration = node agent_role b.name b.spec;
-  lexed = λ rest. marked_lexed line (codes "agent ") (d.name ++ (rest_text net known d ++ codes ";\n")) (keyword_token line Agent) (word_token line b.word ∷ (b.more ++ (sign_token line Semicolon ∷ []))) (agent_open line) rest (end_lexed line d.name (rest_text net known d) (word_token line b.word ∷ b.more) b.lexed rest);
-  read = λ rest. agent_read line (word_token line b.word ∷ ((b.more ++ (sign_token line Semicolon ∷ [])) ++ rest)) rest (node agent_role b.name b.spec) (body_read line (d.name ++ rest_text net known d) d b agent_role rest);
-  declared = body_declared kinds line (d.name ++ rest_text net known d) d b agent_role;
-}
-said_by kinds net known line d b vectors_role = record {
-  first = keyword_token line Vectors;
-  more = word_token line b.word ∷ (b.more ++ (sign_token line Semicolon ∷ []));
-  begins = refl;
-  declaration = node vectors_role b.name b.spec;
-  lexed = λ rest. marked_lexed line (codes "vectors ") (d.name ++ (rest_text net known d ++ codes ";\n")) (keyword_token line Vectors) (word_token line b.word ∷ (b.more ++ (sign_token line Semicolon ∷ []))) (vectors_open line) rest (end_lexed line d.name (rest_text net known d) (word_token line b.word ∷ b.more) b.lexed rest);
-  read = λ rest. vectors_read line (word_token line b.word ∷ ((b.more ++ (sign_token line Semicolon ∷ [])) ++ rest)) rest (node vectors_role b.name b.spec) (body_read line (d.name ++ rest_text net known d) d b vectors_role rest);
-  declared = body_declared kinds line (d.name ++ rest_text net known d) d b vectors_role;
-}
+said_by kinds net known line d b agent_role = marked_said kinds net known line d b agent_role Agent (codes "agent ") (keyword_open line Agent) (agent_read line)
+said_by kinds net known line d b vectors_role = marked_said kinds net known line d b vectors_role Vectors (codes "vectors ") (keyword_open line Vectors) (vectors_read line)
 
 -- the line of a node that is no unit
 pub node_said : (kinds : List Meaning) (net : List NodeDecl) (known : List (List ℕ)) → Named net known → (line : ℕ) (d : Draft) → GoodNode d → IsTrue (refers_to_known known d) → Said kinds line (statement_text kinds net (node_in known d)) d.role d.unit d

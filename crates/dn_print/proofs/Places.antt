@@ -1,12 +1,17 @@
 -- What holds of each item of a list: by its place, and one after another; lists of values of which no two are equal; sums.
-use Rattle.std.proofs.Common.{◌≡◌, ◌≢◌, ◌∙◌, ap, sym, refl, ℕ, zero, suc, ◌+◌, ◌<◌, ◌≤◌, Bool, true, false, ◌||◌, List, [], ◌∷◌, ◌++◌, map, length, length-append, get_or, fold, arith, true≢false, bytes_eq}
-use Rattle.std.specs.List.{All, AllPairs, list_any}
+use Rattle.std.proofs.Common.{◌≡◌, ◌≢◌, ◌∙◌, ap, sym, refl, ℕ, zero, suc, ◌+◌, ◌<◌, ◌≤◌, Bool, true, false, ◌||◌, List, [], ◌∷◌, ◌++◌, map, length, length-append, get_or, fold, IsTrue, arith, true≢false, bytes_eq}
+use Rattle.std.specs.List.{All, AllPairs, list_all, list_any}
 use Rattle.std.proofs.lemmas.List.{get_or-map}
 use Rattle.std.proofs.lemmas.List.Quantifiers.{all_pairs_push}
 use Rattle.std.proofs.lemmas.List.Sums.{fold-append}
 use Rattle.std.proofs.lemmas.Slice.Eq.{bytes_eq-Decides}
 use Rattle.std.proofs.Math.Seq.{get_or-append_seam}
 use Rattle.dn_print.proofs.Formed.{Each}
+
+-- a test that each item passes is passed by all
+pub all_true : {X : Type 0} (xs : List X) → IsTrue (list_all (λ x. true) xs)
+all_true [] = refl
+all_true (x ∷ xs) = all_true xs
 
 pub each_of_all : {X : Type 0} (P : X → Type 0) (xs : List X) → All P xs → Each P xs
 each_of_all P [] h = tt

@@ -9,7 +9,7 @@ use Rattle.dn_parse.specs.Tree.{Expression, expressions, Role, plain_role, agent
 use Rattle.dn_parse.specs.Actions.{summed, multiplied}
 use Rattle.dn_parse.specs.Forms.{is_sign, is_the_word}
 use Rattle.dn_parse.specs.Machine.{Stop}
-use Rattle.dn_parse.specs.Descent.{and_then, word_of, any_of, Read, Next, Reader, optional, after, after_sign, after_keyword, after_word, or_refused, sign_at, keyword_at, the_word_at, word_at, any_word_at, value_or, with_front, row, row_from, row_at, one_more, after_comma, first_and, next_by, term_with, expr_with, after_open_with, at_sign, factor_of, factor_with, nested_at, factor_at, next_factor_at, factors_at, term_at, next_term_at, terms_at, expr_at, first_and_most, expr_after, in_brackets, index_at, part_at, next_part_at, name_at, upper_at, block_at, next_block_at, blocks_at, addr_at, dest_at, next_dest_at, dests_at, entry_at, next_entry_at, entries_at, accept_at, map_at, over_at, spec_at, param_at, next_param_at, params_at, closed_params_at, arg_at, next_arg_at, args_at, closed_args_at, next_port_at, ports_at, node_at, measure_at, unit_at, module_at, use_at, loop_at, mode_at, access_at, resolve_at, lookup_at, view_at, grant_at, route_at, order_at, as_declared, keyword_statement_at, statement_by, statement_at, whole_statement_at}
+use Rattle.dn_parse.specs.Descent.{and_then, word_of, any_of, Read, Next, Reader, optional, after, after_sign, after_keyword, after_word, or_refused, sign_at, keyword_at, the_word_at, word_at, any_word_at, value_or, value_at, with_front, row, row_from, row_at, one_more, after_comma, first_and, next_by, term_with, expr_with, after_open_with, at_sign, factor_of, factor_with, nested_at, factor_at, next_factor_at, factors_at, term_at, next_term_at, terms_at, expr_at, first_and_most, expr_after, in_brackets, index_at, part_at, next_part_at, name_at, upper_at, block_at, next_block_at, blocks_at, addr_at, dest_at, next_dest_at, dests_at, entry_at, next_entry_at, entries_at, accept_at, map_at, over_at, spec_at, param_at, next_param_at, params_at, closed_params_at, arg_at, next_arg_at, args_at, closed_args_at, next_port_at, ports_at, node_at, measure_at, unit_at, module_at, use_at, loop_at, mode_at, access_at, resolve_at, lookup_at, view_at, grant_at, route_at, order_at, as_declared, keyword_statement_at, statement_by, statement_at, whole_statement_at}
 use Rattle.dn_print.proofs.Titles.{Title}
 use Rattle.dn_print.proofs.Words.{IsWord, title_word, keyword_word}
 use Rattle.dn_print.proofs.Formed.{Each, Maybe}
@@ -101,27 +101,33 @@ the_word_leaves : (w : List ℕ) (ts : List Token) → Proper ts → Leaves (the
 unfolding the_word_at
 the_word_leaves w ts h = or_leaves (after_word w ts) ts (the_word_left w ts h)
 
-word_by : (l : Lexeme) (ts all : List Token) → ProperLexeme l → Proper ts → Reads Title (value_or (word_of l) ts all)
-word_by (word w) ts all h p = given h p
-word_by (keyword k) ts all h p = record { it = tt }
-word_by (number n) ts all h p = record { it = tt }
-word_by (sign s) ts all h p = record { it = tt }
+or_value : {X : Type 0} {P : X → Type 0} (o : Option X) (ts all : List Token) → Maybe P o → Proper ts → Reads P (value_or o ts all)
+or_value None ts all h p = record { it = tt }
+or_value (Some x) ts all h p = given h p
+
+value_reads : {X : Type 0} {P : X → Type 0} (value : Lexeme → Option X) → ((l : Lexeme) → ProperLexeme l → Maybe P (value l)) → (ts : List Token) → Proper ts → Reads P (value_at value ts)
+value_reads value good [] h = record { it = tt }
+value_reads value good (t ∷ ts) h = or_value (value t.lexeme) ts (t ∷ ts) (good t.lexeme h.0) h.1
+
+word_title : (l : Lexeme) → ProperLexeme l → Maybe Title (word_of l)
+word_title (word w) h = h
+word_title (keyword k) h = tt
+word_title (number n) h = tt
+word_title (sign s) h = tt
 
 word_reads : (ts : List Token) → Proper ts → Reads Title (word_at ts)
 unfolding word_at
-word_reads [] h = record { it = tt }
-word_reads (t ∷ ts) h = word_by t.lexeme ts (t ∷ ts) h.0 h.1
+word_reads ts h = value_reads word_of word_title ts h
 
-any_by : (l : Lexeme) (ts all : List Token) → ProperLexeme l → Proper ts → Reads IsWord (value_or (any_of l) ts all)
-any_by (word w) ts all h p = given (title_word w h) p
-any_by (keyword k) ts all h p = given (keyword_word k) p
-any_by (number n) ts all h p = record { it = tt }
-any_by (sign s) ts all h p = record { it = tt }
+any_title : (l : Lexeme) → ProperLexeme l → Maybe IsWord (any_of l)
+any_title (word w) h = title_word w h
+any_title (keyword k) h = keyword_word k
+any_title (number n) h = tt
+any_title (sign s) h = tt
 
 any_reads : (ts : List Token) → Proper ts → Reads IsWord (any_word_at ts)
 unfolding any_word_at
-any_reads [] h = record { it = tt }
-any_reads (t ∷ ts) h = any_by t.lexeme ts (t ∷ ts) h.0 h.1
+any_reads ts h = value_reads any_of any_title ts h
 
 -- rows
 more_next : {X : Type 0} {P : X → Type 0} (r : Read X) → Reads P r → Nexts P (one_more r)
@@ -238,13 +244,9 @@ unfolding name_at
 name_reads d ts h = first_reads (part_at d) (next_part_at d) (part_reads d) (next_part_reads d) ts h
 
 -- the parts of a node
-upper_reads : (ts : List Token) → Proper ts → Reads (Maybe Small) (upper_at ts)
-unfolding upper_at
-upper_reads ts h = maybe_reads (expr_at 32) (expr_reads 32) (after_sign Minus ts) ts (sign_left Minus ts h) h
-
 block_reads : (ts : List Token) → Proper ts → Reads SmallBlock (block_at ts)
-unfolding block_at
-block_reads ts h = bind (expr_at 32 ts) _ (expr_reads 32 ts h) (λ e r p q. bind (upper_at r) _ (upper_reads r q) (λ f r' p' q'. given (p, p') q'))
+unfolding block_at upper_at
+block_reads ts h = bind (expr_at 32 ts) _ (expr_reads 32 ts h) (λ e r p q. bind (upper_at r) _ (maybe_reads (expr_at 32) (expr_reads 32) (after_sign Minus r) r (sign_left Minus r q) q) (λ f r' p' q'. given (p, p') q'))
 
 comma_nexts : {X : Type 0} {P : X → Type 0} (reader : Reader X) → ((ts : List Token) → Proper ts → Reads P (reader ts)) → (ts : List Token) → Proper ts → Nexts P (after_comma reader ts)
 comma_nexts reader good ts h = optional_next (after_sign Comma ts) _ (sign_left Comma ts h) (λ rest p. more_next (reader rest) (good rest p))
@@ -253,13 +255,9 @@ blocks_reads : (ts : List Token) → Proper ts → Reads (Some1 SmallBlock) (blo
 unfolding blocks_at next_block_at
 blocks_reads ts h = first_reads block_at next_block_at block_reads (comma_nexts block_at block_reads) ts h
 
-addr_reads : (ts : List Token) → Proper ts → Reads (Maybe Small) (addr_at ts)
-unfolding addr_at
-addr_reads ts h = maybe_reads (expr_at 32) (expr_reads 32) (after_keyword At ts) ts (keyword_left At ts h) h
-
 dest_reads : (ts : List Token) → Proper ts → Reads NamedDest (dest_at ts)
-unfolding dest_at
-dest_reads ts h = bind (name_at 32 ts) _ (name_reads 32 ts h) (λ n r p q. bind (addr_at r) _ (addr_reads r q) (λ a r' p' q'. given (p, p') q'))
+unfolding dest_at addr_at
+dest_reads ts h = bind (name_at 32 ts) _ (name_reads 32 ts h) (λ n r p q. bind (addr_at r) _ (maybe_reads (expr_at 32) (expr_reads 32) (after_keyword At r) r (keyword_left At r q) q) (λ a r' p' q'. given (p, p') q'))
 
 next_dest_reads : (ts : List Token) → Proper ts → Nexts NamedDest (next_dest_at ts)
 unfolding next_dest_at

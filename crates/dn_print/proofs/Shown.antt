@@ -1,10 +1,12 @@
 -- A piece of a printed text: its tokens, what is read from them, and the value of that. Rows of such pieces.
-use Rattle.std.proofs.Common.{◌≡◌, ◌∙◌, ap, refl, ℕ, zero, suc, ◌≤◌, List, [], ◌∷◌, ◌++◌, length, length-append, None, Result, Ok, arith, append_assoc}
+use Rattle.std.proofs.Common.{◌≡◌, ◌∙◌, ap, sym, refl, subst, ℕ, zero, suc, ◌≤◌, List, [], ◌∷◌, ◌++◌, length, length-append, None, Result, Ok, arith, append_assoc}
 use Rattle.dn_token.specs.Token.{Token}
 use Rattle.dn_parse.specs.Descent.{and_then, Next, Reader, with_front, row, row_from, row_at, one_more, first_and, first_and_most}
 use Rattle.dn_parse.proofs.Series.{first_read, most_read}
 use Rattle.dn_module.specs.Values.{Flaw, each}
-use Rattle.dn_print.proofs.Lexes.{Closed, Quiet, closed_then, closed_none, quiet_none}
+use Rattle.dn_module.proofs.Yields.{Yields, any, bind, given, yielded}
+use Rattle.dn_print.proofs.Formed.{Each}
+use Rattle.dn_print.proofs.Lexes.{Closed, Open, Quiet, closed_then, open_then, closed_none, quiet_none}
 
 -- The text is these tokens in this line; before what fits they are read as this tree; and its value is y.
 pub record Shown {X Y : Type 0} (line : ℕ) (text : List ℕ) (reader : Reader X) (Fit : List Token → Type 0) (value : X → Result Y Flaw) (y : Y) : Type 0 where
@@ -23,11 +25,15 @@ pub record Row {X Y : Type 0} (line : ℕ) (text : List ℕ) (next : List Token 
   pub read : (n : ℕ) → length trees ≤ n → (rest : List Token) → End rest → row next n (tokens ++ rest) ≡ Ok (trees, rest)
   pub heads : (rest : List Token) → End rest → Fit (tokens ++ rest)
   pub valued : each value trees ≡ Ok ys
-  pub counted : length trees ≡ length ys
   pub enough : length trees ≤ length tokens
 
 pub each_cons : {X Y : Type 0} (f : X → Result Y Flaw) (x : X) (xs : List X) (y : Y) (ys : List Y) → f x ≡ Ok y → each f xs ≡ Ok ys → each f (x ∷ xs) ≡ Ok (y ∷ ys)
 each_cons f x xs y ys e g = rw (e, g) refl
+
+-- as many values as items
+each_counts : {X Y : Type 0} (f : X → Result Y Flaw) (xs : List X) → Yields (λ ys. length xs ≡ length ys) (each f xs)
+each_counts f [] = record { it = refl }
+each_counts f (x ∷ xs) = bind (f x) _ (any (f x)) (λ y p. bind (each f xs) _ (each_counts f xs) (λ ys n. given (ap (λ (k : ℕ). suc k) n)))
 
 pub row_none : {X Y : Type 0} (line : ℕ) (next : List Token → Next X) (Fit End : List Token → Type 0) (value : X → Result Y Flaw) → ((rest : List Token) → End rest → next rest ≡ Ok None) → ((rest : List Token) → End rest → Fit rest) → Row line [] next Fit End value []
 row_none line next Fit End value none heads = record {
@@ -38,7 +44,6 @@ row_none line next Fit End value none heads = record {
   read = reads;
   heads = heads;
   valued = refl;
-  counted = refl;
   enough = omega arith;
 } where
   reads : (n : ℕ) → 0 ≤ n → (rest : List Token) → End rest → row next n rest ≡ Ok ([], rest)
@@ -60,47 +65,54 @@ row_cons {X} {Y} {line} {text} {tail_text} {reader} {next} {Fit} {End} {value} {
   read = reads;
   heads = λ rest h. fit ((item.tokens ++ tail.tokens) ++ rest);
   valued = each_cons value item.tree tail.trees y ys item.valued tail.valued;
-  counted = ap (λ (n : ℕ). suc n) tail.counted;
   enough = let l = length-append item.tokens tail.tokens in let e = tail.enough in omega arith;
 } where
   reads : (n : ℕ) → length (item.tree ∷ tail.trees) ≤ n → (rest : List Token) → End rest → row next n (t ∷ ((item.tokens ++ tail.tokens) ++ rest)) ≡ Ok (item.tree ∷ tail.trees, rest)
   reads zero l rest h = absurd (omega (arith, l))
   reads (suc n) l rest h = row_step next reader t item.tokens tail.tokens rest item.tree tail.trees n (one ((item.tokens ++ tail.tokens) ++ rest)) (item.read (tail.tokens ++ rest) (tail.heads rest h)) (tail.read n (omega (arith, l)) rest h)
 
--- the first piece, and those behind it
-unfoldable pub first_shown : {X Y : Type 0} {line : ℕ} {text tail_text : List ℕ} {reader : Reader X} {next : List Token → Next X} {Fit End : List Token → Type 0} {value : X → Result Y Flaw} {y : Y} {ys : List Y} → Shown line text reader Fit value y → Row line tail_text next Fit End value ys → Shown line (text ++ tail_text) (first_and reader next) End (each value) (y ∷ ys)
-unfolding row_at
-first_shown {X} {Y} {line} {text} {tail_text} {reader} {next} {Fit} {End} {value} {y} {ys} item tail = record {
+-- What stands before each piece of a row but the first: its text is this token, behind which a piece is read. The row ends
+-- before what has none.
+pub record Mark {X : Type 0} (line : ℕ) (text : List ℕ) (reader : Reader X) (next : List Token → Next X) (Fit End : List Token → Type 0) : Type 0 where
+  pub token : Token
+  pub lexed : Open line text (token ∷ [])
+  pub quiet : (t : List ℕ) → Quiet (text ++ t)
+  pub one : (ts : List Token) → next (token ∷ ts) ≡ one_more (reader ts)
+  pub fit : (ts : List Token) → Fit (token ∷ ts)
+  pub none : (rest : List Token) → End rest → next rest ≡ Ok None
+  pub ends : (rest : List Token) → End rest → Fit rest
+
+-- the pieces of a list, each behind a mark, where each item that is so is a piece
+pub row_shown : {X Y : Type 0} {line : ℕ} {mark : List ℕ} {reader : Reader X} {next : List Token → Next X} {Fit End : List Token → Type 0} {value : X → Result Y Flaw} (m : Mark line mark reader next Fit End) (P : Y → Type 0) (text : Y → List ℕ) (texts : List Y → List ℕ) → texts [] ≡ [] → ((y : Y) (ys : List Y) → texts (y ∷ ys) ≡ mark ++ (text y ++ texts ys)) → ((y : Y) → P y → Shown line (text y) reader Fit value y) → (ys : List Y) → Each P ys → Row line (texts ys) next Fit End value ys
+row_shown {X} {Y} {line} {mark} {reader} {next} {Fit} {End} {value} m P text texts none more item [] h = subst (λ (t : List ℕ). Row line t next Fit End value []) (sym none) (row_none line next Fit End value m.none m.ends)
+row_shown {X} {Y} {line} {mark} {reader} {next} {Fit} {End} {value} m P text texts none more item (y ∷ ys) h =
+    let first = item y h.0 in
+    let tail = row_shown m P text texts none more item ys h.1 in
+    let lexed = open_then m.lexed (closed_then first.lexed tail.quiet tail.lexed) in
+    subst (λ (t : List ℕ). Row line t next Fit End value (y ∷ ys)) (sym (more y ys)) (row_cons (mark ++ (text y ++ texts ys)) m.token first tail lexed (m.quiet (text y ++ texts ys)) m.one m.fit)
+
+-- the first piece and those behind it, where a reader takes the first and then the row
+unfoldable pub both_shown : {X Y : Type 0} {line : ℕ} {text tail_text : List ℕ} {reader : Reader X} {next : List Token → Next X} {Fit End : List Token → Type 0} {value : X → Result Y Flaw} {y : Y} {ys : List Y} (whole : Reader (List X)) (item : Shown line text reader Fit value y) (tail : Row line tail_text next Fit End value ys) → ((rest : List Token) → End rest → reader (item.tokens ++ (tail.tokens ++ rest)) ≡ Ok (item.tree, tail.tokens ++ rest) → whole (item.tokens ++ (tail.tokens ++ rest)) ≡ Ok (item.tree ∷ tail.trees, rest)) → Shown line (text ++ tail_text) whole End (each value) (y ∷ ys)
+both_shown {X} {Y} {line} {text} {tail_text} {reader} {next} {Fit} {End} {value} {y} {ys} whole item tail reads = record {
   tokens = item.tokens ++ tail.tokens;
   tree = item.tree ∷ tail.trees;
   lexed = closed_then item.lexed tail.quiet tail.lexed;
-  read = reads;
+  read = λ rest h. ap whole (append_assoc item.tokens tail.tokens rest) ∙ reads rest h (item.read (tail.tokens ++ rest) (tail.heads rest h));
   valued = each_cons value item.tree tail.trees y ys item.valued tail.valued;
-} where
-  room : (rest : List Token) → length tail.trees ≤ suc (length (tail.tokens ++ rest))
-  room rest = let l = length-append tail.tokens rest in let e = tail.enough in omega arith
+}
 
-  at : (rest : List Token) → End rest → row_at next (tail.tokens ++ rest) ≡ Ok (tail.trees, rest)
-  at rest h = tail.read (suc (length (tail.tokens ++ rest))) (room rest) rest h
-
-  reads : (rest : List Token) → End rest → first_and reader next ((item.tokens ++ tail.tokens) ++ rest) ≡ Ok (item.tree ∷ tail.trees, rest)
-  reads rest h =
-      ap (first_and reader next) (append_assoc item.tokens tail.tokens rest)
-      ∙ first_read reader next (item.tokens ++ (tail.tokens ++ rest)) item.tree (tail.tokens ++ rest) (item.read (tail.tokens ++ rest) (tail.heads rest h))
-      ∙ ap (with_front (item.tree ∷ [])) (at rest h)
+-- the first piece, and all those behind it
+unfoldable pub first_shown : {X Y : Type 0} {line : ℕ} {text tail_text : List ℕ} {reader : Reader X} {next : List Token → Next X} {Fit End : List Token → Type 0} {value : X → Result Y Flaw} {y : Y} {ys : List Y} → Shown line text reader Fit value y → Row line tail_text next Fit End value ys → Shown line (text ++ tail_text) (first_and reader next) End (each value) (y ∷ ys)
+unfolding row_at
+first_shown {X} {Y} {line} {text} {tail_text} {reader} {next} item tail = both_shown (first_and reader next) item tail (λ rest h one.
+    let l = length-append tail.tokens rest in
+    let e = tail.enough in
+    first_read reader next (item.tokens ++ (tail.tokens ++ rest)) item.tree (tail.tokens ++ rest) one
+    ∙ ap (with_front (item.tree ∷ [])) (tail.read (suc (length (tail.tokens ++ rest))) (omega arith) rest h))
 
 -- the same of at most so many behind it
 pub most_shown : {X Y : Type 0} {line : ℕ} {text tail_text : List ℕ} {reader : Reader X} {next : List Token → Next X} {Fit End : List Token → Type 0} {value : X → Result Y Flaw} {y : Y} {ys : List Y} (n : ℕ) → length ys ≤ n → Shown line text reader Fit value y → Row line tail_text next Fit End value ys → Shown line (text ++ tail_text) (first_and_most n reader next) End (each value) (y ∷ ys)
-most_shown {X} {Y} {line} {text} {tail_text} {reader} {next} {Fit} {End} {value} {y} {ys} n few item tail = record {
-  tokens = item.tokens ++ tail.tokens;
-  tree = item.tree ∷ tail.trees;
-  lexed = closed_then item.lexed tail.quiet tail.lexed;
-  read = reads;
-  valued = each_cons value item.tree tail.trees y ys item.valued tail.valued;
-} where
-  reads : (rest : List Token) → End rest → first_and_most n reader next ((item.tokens ++ tail.tokens) ++ rest) ≡ Ok (item.tree ∷ tail.trees, rest)
-  reads rest h =
-      let c = tail.counted in
-      ap (first_and_most n reader next) (append_assoc item.tokens tail.tokens rest)
-      ∙ most_read n reader next (item.tokens ++ (tail.tokens ++ rest)) item.tree (tail.tokens ++ rest) (item.read (tail.tokens ++ rest) (tail.heads rest h))
-      ∙ ap (with_front (item.tree ∷ [])) (tail.read n (omega (arith, c, few)) rest h)
+most_shown {X} {Y} {line} {text} {tail_text} {reader} {next} {Fit} {End} {value} {y} {ys} n few item tail = both_shown (first_and_most n reader next) item tail (λ rest h one.
+    let c : length tail.trees ≡ length ys = yielded _ (each value tail.trees) ys (each_counts value tail.trees) tail.valued in
+    most_read n reader next (item.tokens ++ (tail.tokens ++ rest)) item.tree (tail.tokens ++ rest) one
+    ∙ ap (with_front (item.tree ∷ [])) (tail.read n (omega (arith, c, few)) rest h))

@@ -5,8 +5,9 @@ use Rattle.std.specs.List.{list_all}
 use Rattle.dn_token.specs.declared.token.Keyword.TheVariants.{Unit as UnitWord, Kind, Page, Slots, Reach, To}
 use Rattle.dn_token.specs.declared.token.Sign.TheVariants.{Semicolon, Comma}
 use Rattle.dn_token.specs.Token.{Token, word_lexeme}
+use Rattle.dn_token.specs.Words.{spelling}
 use Rattle.dn_parse.specs.Tree.{constant, Part, Declaration, unit, declares}
-use Rattle.dn_parse.specs.Descent.{any_of, one_more, after_sign, after_keyword, sign_at, keyword_at, any_word_at, measure_at, name_at, next_port_at, ports_at, unit_at, keyword_statement_at, statement_at, whole_statement_at}
+use Rattle.dn_parse.specs.Descent.{any_of, after_sign, after_keyword, sign_at, keyword_at, any_word_at, measure_at, name_at, next_port_at, ports_at, unit_at, keyword_statement_at, statement_at, whole_statement_at}
 use Rattle.dn_net.specs.declared.node.NodeDecl.{NodeDecl}
 use Rattle.dn_net.specs.declared.node.Role.TheVariants.{Unit as UnitRole}
 use Rattle.dn_kind.specs.Kind.{Meaning, kind_place}
@@ -17,17 +18,17 @@ use Rattle.dn_module.specs.Drafts.{is_known, declared_by, refers_to_known, numbe
 use Rattle.dn_print.specs.Statement.{marked, node_name, kind_text, ports_text, unit_text, statement_text}
 use Rattle.dn_base.proofs.Booleans.{and_parts}
 use Rattle.dn_print.proofs.Titles.{IsFull}
-use Rattle.dn_print.proofs.Words.{IsWord}
-use Rattle.dn_print.proofs.Formed.{Each, GoodParts, GoodDraft, unit_with}
-use Rattle.dn_print.proofs.Lexes.{number_token, sign_token, keyword_token, Closed, Quiet, closed_then, open_then, word_closed, decimal_closed, unit_open, kind_open, page_open, slots_open, reach_open, to_open, comma_open}
-use Rattle.dn_print.proofs.Shown.{Shown, Row, row_none, row_cons, most_shown}
+use Rattle.dn_print.proofs.Words.{IsWord, any_word}
+use Rattle.dn_print.proofs.Formed.{Each, GoodParts, GoodDraft, few_ports, some_ports, unit_with}
+use Rattle.dn_print.proofs.Lexes.{number_token, sign_token, keyword_token, Closed, Quiet, closed_then, open_then, word_closed, decimal_closed, keyword_open, keyword_between}
+use Rattle.dn_print.proofs.Shown.{Shown, row_shown, most_shown}
 use Rattle.dn_print.proofs.Labels.{NameEnd, number_read, name_shown}
-use Rattle.dn_print.proofs.Pieces.{Named}
+use Rattle.dn_print.proofs.Pieces.{Named, CommasEnd, comma_mark, each_passes}
 use Rattle.dn_print.proofs.Nodes.{Said, node_said, end_lexed, marked_lexed}
 
 -- the ports of a unit
 abbrev PortsEnd : List Token → Type 0
-PortsEnd rest = NameEnd rest × (after_sign Comma rest ≡ None)
+PortsEnd rest = CommasEnd NameEnd rest
 
 port_shown : (net : List NodeDecl) (known : List (List ℕ)) → Named net known → (line : ℕ) (t : List ℕ) → IsFull t → IsTrue (is_known known t) → Shown line (node_name net (number_of known t)) (name_at 32) NameEnd full_name t
 port_shown net known named line t h k =
@@ -40,36 +41,17 @@ port_shown net known named line t h k =
       valued = name.valued;
     }
 
-comma_quiet : (t : List ℕ) → Quiet (codes ", " ++ t)
-comma_quiet t = record { it = λ rest h. refl }
-
-next_port_read : (line : ℕ) (ts : List Token) → next_port_at (sign_token line Comma ∷ ts) ≡ one_more (name_at 32 ts)
-unfolding next_port_at after_sign
-next_port_read line ts = refl
-
-no_next_port : (rest : List Token) → PortsEnd rest → next_port_at rest ≡ Ok None
-unfolding next_port_at
-no_next_port rest h = rw (h.1) refl
-
 comma_ends_name : (line : ℕ) (ts : List Token) → NameEnd (sign_token line Comma ∷ ts)
 unfolding after_sign
 comma_ends_name line ts = (refl, refl)
 
-more_ports_shown : (net : List NodeDecl) (known : List (List ℕ)) → Named net known → (line : ℕ) (ts : List (List ℕ)) → Each IsFull ts → IsTrue (list_all (is_known known) ts) → Row line (marked (codes ", ") (node_name net) (map (number_of known) ts)) next_port_at NameEnd PortsEnd full_name ts
-more_ports_shown net known named line [] h k = row_none line next_port_at NameEnd PortsEnd full_name no_next_port (λ rest e. e.0)
-more_ports_shown net known named line (t ∷ ts) h k =
-    let ks = and_parts (is_known known t) (list_all (is_known known) ts) k in
-    let item = port_shown net known named line t h.0 ks.0 in
-    let tail = more_ports_shown net known named line ts h.1 ks.1 in
-    let lexed = open_then (comma_open line) (closed_then item.lexed tail.quiet tail.lexed) in
-    row_cons (codes ", " ++ (node_name net (number_of known t) ++ marked (codes ", ") (node_name net) (map (number_of known) ts))) (sign_token line Comma) item tail lexed (comma_quiet (node_name net (number_of known t) ++ marked (codes ", ") (node_name net) (map (number_of known) ts))) (next_port_read line) (comma_ends_name line)
-
 ports_shown : (net : List NodeDecl) (known : List (List ℕ)) → Named net known → (line : ℕ) (ts : List (List ℕ)) → Each IsFull ts → 1 ≤ length ts → length ts ≤ 8 → IsTrue (list_all (is_known known) ts) → Shown line (ports_text net (map (number_of known) ts)) ports_at PortsEnd (each full_name) ts
-unfolding ports_at
+unfolding ports_at next_port_at
 ports_shown net known named line [] h some few k = absurd (omega (arith, some))
 ports_shown net known named line (t ∷ ts) h some few k =
-    let ks = and_parts (is_known known t) (list_all (is_known known) ts) k in
-    most_shown 7 (omega (arith, few)) (port_shown net known named line t h.0 ks.0) (more_ports_shown net known named line ts h.1 ks.1)
+    let all = each_passes IsFull (is_known known) (t ∷ ts) h k in
+    let one = λ (u : List ℕ) (g : IsFull u × IsTrue (is_known known u)). port_shown net known named line u g.0 g.1 in
+    most_shown 7 (omega (arith, few)) (one t all.0) (row_shown (comma_mark line (name_at 32) NameEnd (comma_ends_name line)) (λ (u : List ℕ). IsFull u × IsTrue (is_known known u)) (λ (u : List ℕ). node_name net (number_of known u)) (λ (us : List (List ℕ)). marked (codes ", ") (node_name net) (map (number_of known) us)) refl (λ u us. refl) one ts all.1)
 
 -- the word of a kind
 abbrev kind_token : ℕ → List ℕ → Token
@@ -108,11 +90,12 @@ to_quiet : (t : List ℕ) → Quiet (codes " to " ++ t)
 to_quiet t = record { it = λ rest h. refl }
 
 parts_closed : (line : ℕ) (w : List ℕ) (u : DraftUnit) (p : List ℕ) (ts : List Token) → IsWord w → u.page < 2 ^ 64 → u.slots < 2 ^ 64 → u.reach < 2 ^ 64 → Closed line p ts → Closed line (codes " kind " ++ (w ++ (codes " page " ++ (decimal u.page ++ (codes " slots " ++ (decimal u.slots ++ (codes " reach " ++ (decimal u.reach ++ (codes " to " ++ p))))))))) (parts_tokens line w u ts)
+unfolding spelling
 parts_closed line w u p ts h a b c ports =
-    let reach = closed_then (decimal_closed line u.reach c) (to_quiet p) (open_then (to_open line) ports) in
-    let slots = closed_then (decimal_closed line u.slots b) (reach_quiet (decimal u.reach ++ (codes " to " ++ p))) (open_then (reach_open line) reach) in
-    let page = closed_then (decimal_closed line u.page a) (slots_quiet (decimal u.slots ++ (codes " reach " ++ (decimal u.reach ++ (codes " to " ++ p))))) (open_then (slots_open line) slots) in
-    open_then (kind_open line) (closed_then (kind_closed line w h) (page_quiet (decimal u.page ++ (codes " slots " ++ (decimal u.slots ++ (codes " reach " ++ (decimal u.reach ++ (codes " to " ++ p))))))) (open_then (page_open line) page))
+    let reach = closed_then (decimal_closed line u.reach c) (to_quiet p) (open_then (keyword_between line To) ports) in
+    let slots = closed_then (decimal_closed line u.slots b) (reach_quiet (decimal u.reach ++ (codes " to " ++ p))) (open_then (keyword_between line Reach) reach) in
+    let page = closed_then (decimal_closed line u.page a) (slots_quiet (decimal u.slots ++ (codes " reach " ++ (decimal u.reach ++ (codes " to " ++ p))))) (open_then (keyword_between line Slots) slots) in
+    open_then (keyword_between line Kind) (closed_then (kind_closed line w h) (page_quiet (decimal u.page ++ (codes " slots " ++ (decimal u.slots ++ (codes " reach " ++ (decimal u.reach ++ (codes " to " ++ p))))))) (open_then (keyword_between line Page) page))
 
 -- what is read of it
 kind_ends_name : (line : ℕ) (ts : List Token) → NameEnd (keyword_token line Kind ∷ ts)
@@ -148,33 +131,40 @@ unit_declared kinds line name text w u ports n k a b c p =
 abbrev line_tokens : ℕ → List ℕ → DraftUnit → List Token → List Token → List Token
 line_tokens line w u name ports = name ++ parts_tokens line w u ports
 
+-- the ports of a unit of good parts
+abbrev ports_said : (kinds : List Meaning) (net : List NodeDecl) (known : List (List ℕ)) → Named net known → (line : ℕ) (u : DraftUnit) → GoodParts kinds u → IsTrue (list_all (is_known known) u.ports) → Shown line (ports_text net (map (number_of known) u.ports)) ports_at PortsEnd (each full_name) u.ports
+ports_said kinds net known named line u h k = ports_shown net known named line u.ports h.ports (some_ports kinds u h) (few_ports kinds u h) k
+
 unit_said : (kinds : List Meaning) (net : List NodeDecl) (known : List (List ℕ)) → Named net known → (line before : ℕ) (text : List ℕ) (u : DraftUnit) → IsFull text → GoodParts kinds u → IsTrue (list_all (is_known known) u.ports) → Said kinds line (codes "unit " ++ (text ++ (unit_text (kind_text kinds u.kind) net (unit_in known u) ++ codes ";\n"))) UnitRole (Some u) (unit_with before text u)
+unfolding spelling
 unit_said kinds net known named line before text u full h k =
     let w : List ℕ = kind_text kinds u.kind in
     let name = name_shown line text full in
-    let ports = ports_shown net known named line u.ports h.ports h.some h.few k in
+    let ports = ports_said kinds net known named line u h k in
     let tokens : List Token = line_tokens line w u name.tokens ports.tokens in
-    let a = h.page in
-    let b = h.slots in
-    let c = h.reach in
-    let closed = closed_then name.lexed (kind_quiet (w ++ (codes " page " ++ (decimal u.page ++ (codes " slots " ++ (decimal u.slots ++ (codes " reach " ++ (decimal u.reach ++ (codes " to " ++ ports_text net (map (number_of known) u.ports)))))))))) (parts_closed line w u (ports_text net (map (number_of known) u.ports)) ports.tokens h.word (omega (arith, a)) (omega (arith, b)) (omega (arith, c)) ports.lexed) in
+    let said = h.printable known in
+    let a = said.page in
+    let b = said.slots in
+    let c = said.reach in
+    let closed = closed_then name.lexed (kind_quiet (w ++ (codes " page " ++ (decimal u.page ++ (codes " slots " ++ (decimal u.slots ++ (codes " reach " ++ (decimal u.reach ++ (codes " to " ++ ports_text net (map (number_of known) u.ports)))))))))) (parts_closed line w u (ports_text net (map (number_of known) u.ports)) ports.tokens (any_word w said.word) (omega (arith, a)) (omega (arith, b)) (omega (arith, c)) ports.lexed) in
     record {
       first = keyword_token line UnitWord;
       more = tokens ++ (sign_token line Semicolon ∷ []);
       begins = refl;
       declaration = unit name.tree w (constant u.page) (constant u.slots) (constant u.reach) ports.tree;
-      lexed = λ rest. marked_lexed line (codes "unit ") (text ++ (unit_text w net (unit_in known u) ++ codes ";\n")) (keyword_token line UnitWord) (tokens ++ (sign_token line Semicolon ∷ [])) (unit_open line) rest (end_lexed line text (unit_text w net (unit_in known u)) tokens closed rest);
+      lexed = λ rest. marked_lexed line (codes "unit ") (text ++ (unit_text w net (unit_in known u) ++ codes ";\n")) (keyword_token line UnitWord) (tokens ++ (sign_token line Semicolon ∷ [])) (keyword_open line UnitWord) rest (end_lexed line text (unit_text w net (unit_in known u)) tokens closed rest);
       read = λ rest. statement_read line ((tokens ++ (sign_token line Semicolon ∷ [])) ++ rest) rest (unit name.tree w (constant u.page) (constant u.slots) (constant u.reach) ports.tree) (reads rest);
-      declared = unit_declared kinds line name.tree text w u ports.tree name.valued h.place a b c ports.valued;
+      declared = unit_declared kinds line name.tree text w u ports.tree name.valued said.first a b c ports.valued;
     }
   where
-    reads : (rest : List Token) → unit_at ((line_tokens line (kind_text kinds u.kind) u (name_shown line text full).tokens (ports_shown net known named line u.ports h.ports h.some h.few k).tokens ++ (sign_token line Semicolon ∷ [])) ++ rest) ≡ Ok (unit (name_shown line text full).tree (kind_text kinds u.kind) (constant u.page) (constant u.slots) (constant u.reach) (ports_shown net known named line u.ports h.ports h.some h.few k).tree, sign_token line Semicolon ∷ rest)
+    reads : (rest : List Token) → unit_at ((line_tokens line (kind_text kinds u.kind) u (name_shown line text full).tokens (ports_said kinds net known named line u h k).tokens ++ (sign_token line Semicolon ∷ [])) ++ rest) ≡ Ok (unit (name_shown line text full).tree (kind_text kinds u.kind) (constant u.page) (constant u.slots) (constant u.reach) (ports_said kinds net known named line u h k).tree, sign_token line Semicolon ∷ rest)
     reads rest =
         let w : List ℕ = kind_text kinds u.kind in
+        let said = h.printable known in
         let name = name_shown line text full in
-        let ports = ports_shown net known named line u.ports h.ports h.some h.few k in
+        let ports = ports_said kinds net known named line u h k in
         ap unit_at (append_assoc (line_tokens line w u name.tokens ports.tokens) (sign_token line Semicolon ∷ []) rest)
-        ∙ unit_read line name.tree w u ports.tree name.tokens ports.tokens (sign_token line Semicolon ∷ rest) (kind_any w h.word) (name.read (parts_tokens line w u (ports.tokens ++ (sign_token line Semicolon ∷ rest))) (kind_ends_name line _)) (ports.read (sign_token line Semicolon ∷ rest) (semicolon_ends_ports line rest))
+        ∙ unit_read line name.tree w u ports.tree name.tokens ports.tokens (sign_token line Semicolon ∷ rest) (kind_any w (any_word w said.word)) (name.read (parts_tokens line w u (ports.tokens ++ (sign_token line Semicolon ∷ rest))) (kind_ends_name line _)) (ports.read (sign_token line Semicolon ∷ rest) (semicolon_ends_ports line rest))
 
 -- the line of any node
 pub statement_said : (kinds : List Meaning) (net : List NodeDecl) (known : List (List ℕ)) → Named net known → (line : ℕ) (d : Draft) → GoodDraft kinds d → IsTrue (refers_to_known known d) → Said kinds line (statement_text kinds net (node_in known d)) d.role d.unit d

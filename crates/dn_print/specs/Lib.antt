@@ -5,3 +5,4 @@ pub mod ReadBack
 pub mod Dump
 pub mod Spelled
 pub mod Printable
+pub mod Terms

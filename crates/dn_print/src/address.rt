@@ -3,7 +3,7 @@
 ghost use Rattle.std.specs.Prelude.{◌≡◌, ◌≤◌, ◌<◌, ◌++◌, drop, false, OnOk, IsAscii};
 ghost use Rattle.std.specs.Fmt.{digits, digit_glyph};
 ghost use Rattle.std.specs.String.{string_bytes};
-ghost use Rattle.dn_print.specs.Names.{address_text};
+ghost use Rattle.dn_print.specs.Terms.{address_text};
 
 use crate::OutOfMemory;
 use std::str::from_utf8_unchecked;

@@ -1,7 +1,6 @@
 //! The law that ties the printed net to the reading.
 
-ghost use Rattle.dn_print.specs.Printable.{PrintableIsReadBack, TextsArePrintable};
-ghost use Rattle.dn_print.specs.ReadBack.{ReadBack};
+ghost use Rattle.dn_print.specs.Terms.{PrintableIsReadBack, ReadBack, TextsArePrintable};
 
 /// The text of a net that came of a text is read and expanded to that net, with no commands, where
 /// the same kinds of units are known.

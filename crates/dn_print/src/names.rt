@@ -1,23 +1,25 @@
 //! The text of a name and of a list of names.
 
-ghost use Rattle.std.specs.Prelude.{◌≡◌, ◌<◌, ◌++◌, length, IfOk, OnOk, IsTrue, is_ok};
+ghost use Rattle.std.specs.Prelude.{◌≡◌, ◌<◌, ◌++◌, length, nat_lt, IfOk, OnOk, IsTrue, is_ok};
 ghost use Rattle.std.specs.String.{string_bytes};
-ghost use Rattle.dn_kind.specs.Levels.{are_there};
-ghost use Rattle.dn_print.specs.Names.{Appended, name_text, names_text};
+ghost use Rattle.dn_kind.specs.Terms.{are_there};
+ghost use Rattle.dn_print.specs.Terms.{Appended, name_text, names_text};
 
 use crate::OutOfMemory;
 use crate::address::write_address;
+use crate::joined::Item;
+use dn_net::names::Names;
 use dn_net::net::Net;
 use dn_net::node::Name;
 use std::alloc::Global;
 
 /// The names joined by `, `, or `nothing` where there are none, without a line end. `Err` is want
 /// of memory.
-pub fn names_text(alloc: Global, net: &Net, names: &[Name]) -> Result<Vec<u8>, OutOfMemory>
+pub fn names_text(alloc: Global, net: &Net, names: &Names) -> Result<Vec<u8>, OutOfMemory>
     requires { IsTrue (are_there (length net.now) names.now) }
     ensures { IfOk result (λ v. v.items ≡ names_text net.now names.now) }
 {
-    let text = names_string(alloc, net, names)?;
+    let text = names_string(alloc, net, names.list())?;
     Ok(text.into_bytes())
 }
 
@@ -40,7 +42,7 @@ pub fn push_name(out: &mut String, net: &Net, name: Name) -> Result<(), OutOfMem
         (name_text net.now name) }
 {
     let mut text = String::new(*out.allocator());
-    write_name(&mut text, net, name)?;
+    name.write(&mut text, net)?;
     out.push_str(text.as_str())
 }
 
@@ -63,20 +65,23 @@ fn write_names(out: &mut String, net: &Net, names: &[Name]) -> Result<(), OutOfM
     let [first, rest @ ..] = names else {
         return out.push_str("nothing");
     };
-    write_name(out, net, *first)?;
+    first.write(out, net)?;
     for name in rest {
         out.push_str(", ")?;
-        write_name(out, net, *name)?;
+        name.write(out, net)?;
     }
     Ok(())
 }
 
-/// Appends a name to a text that is given up for want of memory.
-pub(crate) fn write_name(out: &mut String, net: &Net, name: Name) -> Result<(), OutOfMemory>
-    requires { name.node < length net.now }
-    ensures { OnOk result (string_bytes out.new ≡ string_bytes out.old ++ name_text net.now name) }
-{
-    out.push_str(net.text(name.node))?;
-    out.push('@')?;
-    write_address(out, name.addr)
+/// The full name of its node, `@` and its address in hexadecimal.
+impl Item for Name {
+    ghost text = { λ net x. name_text net x };
+
+    ghost within = { λ count x. nat_lt x.node count };
+
+    fn write(&self, out: &mut String, net: &Net) -> Result<(), OutOfMemory> {
+        out.push_str(net.text(self.node))?;
+        out.push('@')?;
+        write_address(out, self.addr)
+    }
 }

@@ -5,10 +5,9 @@
 ghost use Rattle.std.specs.Prelude.{◌≡◌, ◌<◌, ◌++◌, length, map, slice_get, IfOk, OnOk, IsTrue};
 ghost use Rattle.std.specs.List.{All, list_all};
 ghost use Rattle.std.specs.String.{string_bytes};
-ghost use Rattle.dn_net.specs.Decode.{is_closed};
-ghost use Rattle.dn_kind.specs.Kind.{IsLawful};
-ghost use Rattle.dn_kind.specs.Units.{has_kind};
-ghost use Rattle.dn_print.specs.Statement.{net_text, role_text, statement_at, body_at, parts_at};
+ghost use Rattle.dn_net.specs.Terms.{is_closed};
+ghost use Rattle.dn_kind.specs.Terms.{IsLawful, has_kind};
+ghost use Rattle.dn_print.specs.Terms.{body_at, net_text, parts_at, role_text, statement_at};
 
 use crate::{OutOfMemory, parts};
 use dn_kind::kinds::Kinds;
@@ -91,7 +90,7 @@ fn write_parts(out: &mut String, net: &Net, node: u16) -> Result<(), OutOfMemory
         string_bytes out.old ++ parts_at net.now (slice_get net.now node)) }
 {
     out.push_str(" is")?;
-    parts::write_accept(out, net.accepts(node))?;
+    parts::write_accept(out, net, net.accepts(node))?;
     parts::write_map(out, net, net.entries(node))?;
     parts::write_over(out, net, net.over(node))
 }

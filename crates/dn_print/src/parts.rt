@@ -2,26 +2,26 @@
 //!
 //! Each call appends to a text that is given up for want of memory; the text then has any part.
 
-ghost use Rattle.std.specs.Prelude.{◌≡◌, ◌++◌, [], length, nat_lt, OnOk, IsTrue};
+ghost use Rattle.std.specs.Prelude.{◌≡◌, ◌++◌, length, true, nat_lt, OnOk, IsTrue};
 ghost use Rattle.std.specs.List.{list_all};
 ghost use Rattle.std.specs.String.{string_bytes};
-ghost use Rattle.dn_net.specs.Decode.{over_within};
-ghost use Rattle.dn_print.specs.Names.{dests_within, entries_within};
-ghost use Rattle.dn_print.specs.Statement.{block_text, blocks_text, dest_text, dests_text, entry_text, entries_text, accept_text, map_text, over_text, ports_text, unit_text};
+ghost use Rattle.dn_net.specs.Terms.{over_within};
+ghost use Rattle.dn_print.specs.Terms.{accept_text, block_text, dest_text, dests_within, entries_within, entry_text, map_text, node_name, over_text, unit_text};
 
 use crate::OutOfMemory;
+use crate::joined::{Item, write_joined};
 use dn_net::net::Net;
 use dn_net::node::{Block, Dest, Entry, Unit};
 
 /// Appends what a node accepts, if it accepts anything.
-pub(crate) fn write_accept(out: &mut String, blocks: &[Block]) -> Result<(), OutOfMemory>
+pub(crate) fn write_accept(out: &mut String, net: &Net, blocks: &[Block]) -> Result<(), OutOfMemory>
     ensures { OnOk result (string_bytes out.new ≡ string_bytes out.old ++ accept_text blocks.now) }
 {
     if blocks.is_empty() {
         return Ok(());
     }
     out.push_str(" accept [")?;
-    write_blocks(out, blocks)?;
+    write_joined(out, net, ", ", blocks)?;
     out.push_str("]")
 }
 
@@ -35,7 +35,7 @@ pub(crate) fn write_map(out: &mut String, net: &Net, entries: &[Entry]) -> Resul
         return Ok(());
     }
     out.push_str(" map [")?;
-    write_entries(out, net, entries)?;
+    write_joined(out, net, ", ", entries)?;
     out.push_str("]")
 }
 
@@ -71,93 +71,54 @@ pub(crate) fn write_unit(
         out,
         " kind {kind} page {page} slots {slots} reach {reach} to "
     )?;
-    write_ports(out, net, unit.ports.as_slice())
+    write_joined(out, net, ", ", unit.ports.as_slice())
 }
 
-fn write_blocks(out: &mut String, blocks: &[Block]) -> Result<(), OutOfMemory>
-    ensures { OnOk result (string_bytes out.new ≡ string_bytes out.old ++ blocks_text blocks.now) }
-{
-    let [first, rest @ ..] = blocks else {
-        return Ok(());
-    };
-    write_block(out, *first)?;
-    for block in rest {
-        out.push_str(", ")?;
-        write_block(out, *block)?;
+/// Its first and its last address.
+impl Item for Block {
+    ghost text = { λ net b. block_text b };
+
+    ghost within = { λ count b. true };
+
+    fn write(&self, out: &mut String, _net: &Net) -> Result<(), OutOfMemory> {
+        let Block { lo, hi } = *self;
+        write!(out, "0x{lo:x}-0x{hi:x}")
     }
-    Ok(())
 }
 
-fn write_block(out: &mut String, block: Block) -> Result<(), OutOfMemory>
-    ensures { OnOk result (string_bytes out.new ≡ string_bytes out.old ++ block_text block) }
-{
-    let Block { lo, hi } = block;
-    write!(out, "0x{lo:x}-0x{hi:x}")
-}
+/// Its block, and where it is sent.
+impl Item for Entry {
+    ghost text = { λ net e. entry_text net e };
 
-fn write_entries(out: &mut String, net: &Net, entries: &[Entry]) -> Result<(), OutOfMemory>
-    requires { IsTrue (entries_within (length net.now) entries.now) }
-    ensures { OnOk result (string_bytes out.new ≡
-        string_bytes out.old ++ entries_text net.now entries.now) }
-{
-    let [first, rest @ ..] = entries else {
-        return Ok(());
-    };
-    write_entry(out, net, first)?;
-    for entry in rest {
-        out.push_str(", ")?;
-        write_entry(out, net, entry)?;
+    ghost within = { λ count e. dests_within count e.dests };
+
+    fn write(&self, out: &mut String, net: &Net) -> Result<(), OutOfMemory> {
+        self.block.write(out, net)?;
+        out.push_str(" to ")?;
+        write_joined(out, net, " and ", self.dests.as_slice())
     }
-    Ok(())
 }
 
-fn write_entry(out: &mut String, net: &Net, entry: &Entry) -> Result<(), OutOfMemory>
-    requires { IsTrue (dests_within (length net.now) entry.now.dests) }
-    ensures { OnOk result (string_bytes out.new ≡
-        string_bytes out.old ++ entry_text net.now entry.now) }
-{
-    write_block(out, entry.block)?;
-    out.push_str(" to ")?;
-    write_dests(out, net, entry.dests.as_slice())
-}
+/// The full name of its node, and its address.
+impl Item for Dest {
+    ghost text = { λ net d. dest_text net d };
 
-fn write_dests(out: &mut String, net: &Net, dests: &[Dest]) -> Result<(), OutOfMemory>
-    requires { IsTrue (dests_within (length net.now) dests.now) }
-    ensures { OnOk result (string_bytes out.new ≡
-        string_bytes out.old ++ dests_text net.now dests.now) }
-{
-    let [first, rest @ ..] = dests else {
-        return Ok(());
-    };
-    write_dest(out, net, *first)?;
-    for dest in rest {
-        out.push_str(" and ")?;
-        write_dest(out, net, *dest)?;
+    ghost within = { λ count d. nat_lt d.node count };
+
+    fn write(&self, out: &mut String, net: &Net) -> Result<(), OutOfMemory> {
+        let text = net.text(self.node);
+        let addr = self.addr;
+        write!(out, "{text} at 0x{addr:x}")
     }
-    Ok(())
 }
 
-fn write_dest(out: &mut String, net: &Net, dest: Dest) -> Result<(), OutOfMemory>
-    requires { IsTrue (nat_lt dest.node (length net.now)) }
-    ensures { OnOk result (string_bytes out.new ≡ string_bytes out.old ++ dest_text net.now dest) }
-{
-    let text = net.text(dest.node);
-    let addr = dest.addr;
-    write!(out, "{text} at 0x{addr:x}")
-}
+/// The full name of the node of this number.
+impl Item for u16 {
+    ghost text = { λ net m. node_name net m };
 
-fn write_ports(out: &mut String, net: &Net, ports: &[u16]) -> Result<(), OutOfMemory>
-    requires { IsTrue (list_all (λ p. nat_lt p (length net.now)) ports.now) }
-    ensures { OnOk result (string_bytes out.new ≡
-        string_bytes out.old ++ ports_text net.now ports.now) }
-{
-    let [first, rest @ ..] = ports else {
-        return Ok(());
-    };
-    out.push_str(net.text(*first))?;
-    for port in rest {
-        out.push_str(", ")?;
-        out.push_str(net.text(*port))?;
+    ghost within = { λ count m. nat_lt m count };
+
+    fn write(&self, out: &mut String, net: &Net) -> Result<(), OutOfMemory> {
+        out.push_str(net.text(*self))
     }
-    Ok(())
 }

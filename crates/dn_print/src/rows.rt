@@ -1,14 +1,14 @@
 //! The text of rows.
 
-ghost use Rattle.std.specs.Prelude.{◌≡◌, ◌<◌, ◌++◌, length, map, nat_lt, IfOk, OnOk, IsTrue, is_ok};
+ghost use Rattle.std.specs.Prelude.{◌≡◌, ◌++◌, length, map, nat_lt, IfOk, OnOk, IsTrue, is_ok};
 ghost use Rattle.std.specs.List.{list_all};
 ghost use Rattle.std.specs.String.{string_bytes};
-ghost use Rattle.dn_interval.specs.Listed.{seen_by};
-ghost use Rattle.dn_print.specs.Names.{Appended};
-ghost use Rattle.dn_print.specs.Rows.{end_text, ends_text, row_text, rows_text, ends_exist};
+ghost use Rattle.dn_interval.specs.Terms.{seen_by};
+ghost use Rattle.dn_print.specs.Terms.{Appended, end_text, ends_exist, row_text, rows_text};
 
+use crate::OutOfMemory;
 use crate::address::write_address;
-use crate::{OutOfMemory, names};
+use crate::joined::{Item, write_joined};
 use dn_interval::{End, Row, Rows, Span};
 use dn_net::net::Net;
 use dn_net::node::Name;
@@ -68,33 +68,21 @@ fn write_row(out: &mut String, net: &Net, row: &Row) -> Result<(), OutOfMemory>
     out.push('-')?;
     write_address(out, hi)?;
     out.push(' ')?;
-    write_ends(out, net, row.ends())?;
+    write_joined(out, net, ", ", row.ends())?;
     out.push('\n')
 }
 
-fn write_ends(out: &mut String, net: &Net, ends: &[End]) -> Result<(), OutOfMemory>
-    requires { IsTrue (list_all (λ e. nat_lt e.node (length net.now)) ends.now) }
-    ensures { OnOk result (string_bytes out.new ≡
-        string_bytes out.old ++ ends_text net.now ends.now) }
-{
-    let [first, rest @ ..] = ends else {
-        return Ok(());
-    };
-    write_end(out, net, *first)?;
-    for end in rest {
-        out.push_str(", ")?;
-        write_end(out, net, *end)?;
-    }
-    Ok(())
-}
+/// As a name that resolves there.
+impl Item for End {
+    ghost text = { λ net e. end_text net e };
 
-fn write_end(out: &mut String, net: &Net, end: End) -> Result<(), OutOfMemory>
-    requires { end.node < length net.now }
-    ensures { OnOk result (string_bytes out.new ≡ string_bytes out.old ++ end_text net.now end) }
-{
-    let name = Name {
-        node: end.node,
-        addr: end.base,
-    };
-    names::write_name(out, net, name)
+    ghost within = { λ count e. nat_lt e.node count };
+
+    fn write(&self, out: &mut String, net: &Net) -> Result<(), OutOfMemory> {
+        let name = Name {
+            node: self.node,
+            addr: self.base,
+        };
+        name.write(out, net)
+    }
 }

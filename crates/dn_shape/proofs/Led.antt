@@ -24,14 +24,16 @@ use Rattle.dn_net.proofs.Least.{maps_at, maps_at-cons, within_to, both_true}
 use Rattle.dn_net.proofs.Legs.{leads_in_range}
 use Rattle.dn_net.proofs.Places.{both}
 use Rattle.dn_net.proofs.Steps.{node_at}
+use Rattle.dn_walk.proofs.Ends.{end_in}
 use Rattle.dn_shape.specs.Absorb.{is_over_to, maps_to, leads_to, steps_past, rows_past, dest_of_end, entry_of_row, is_rewritten, node_led_past, node_past, nodes_past, net_past}
 use Rattle.dn_shape.specs.Views.{AbsorbKeepsRules}
 use Rattle.dn_shape.proofs.Absorbed.{Fit, fit_of, net_past_at, own_never}
 use Rattle.dn_shape.proofs.Closed.{true_and}
 use Rattle.dn_shape.proofs.Named.{NamesDiffer, texts, differ_as}
-use Rattle.dn_shape.proofs.Passing.{end_name, ends_past, ends_past_ascend, ends_in, past_in}
+use Rattle.dn_shape.proofs.Passing.{end_name, ends_past, ends_past_ascend, past_in}
+use Rattle.dn_shape.proofs.Ruled.{sends_no_vectors}
 use Rattle.dn_shape.proofs.Renamed.{step_there, accepted_stays}
-use Rattle.dn_shape.proofs.Sending.{all_of_each, none_of_each, all_each}
+use Rattle.dn_shape.proofs.Sending.{all_of_each, none_of_each, all_each, part_stays}
 
 -- a step keeps in range
 step_low : (net : List NodeDecl) → KeepsNodeRules net → (x y : Name) → Step net x y → y.addr ≤ top
@@ -210,7 +212,7 @@ module _ (net : List NodeDecl) (legal : IsLegalNet net) (m : ℕ) (n : NodeDecl)
         let q = row_apart 0 (rows_past net m i) r apart h in
         let t : r.hi ≤ TOP = q.2 in
         let give = row_gives (rows_past net m i) r a (end_moved (a - r.lo) e) h l k (member_moved (a - r.lo) r.ends e g) in
-        (ends_in (steps_past net m (record { node = i; addr = a })) (end_name (end_moved (a - r.lo) e))).0 (((listed_are_normal (ends_past net m i) (ends_past_ascend net m i)).1 a (end_moved (a - r.lo) e) (omega arith)).1 give)
+        (end_in (steps_past net m (record { node = i; addr = a })) (end_name (end_moved (a - r.lo) e))).0 (((listed_are_normal (ends_past net m i) (ends_past_ascend net m i)).1 a (end_moved (a - r.lo) e) (omega arith)).1 give)
 
     row_in_range : (r : Seen) → Member r (rows_past net m i) → IsTrue (entry_in_range (entry_of_row r))
     row_in_range r h =
@@ -271,14 +273,7 @@ module _ (net : List NodeDecl) (legal : IsLegalNet net) (m : ℕ) (n : NodeDecl)
         nowhere (e ∷ es) o h k = let l = leb-true (length (e ∷ es)) 0 h in absurd (omega arith)
 
         no_vectors : is_vectors d.role ≡ false
-        no_vectors = by (is_vectors d.role) refl
-          where
-            by : (b : Bool) → is_vectors d.role ≡ b → b ≡ false
-            by false e = refl
-            by true e =
-                let s : IsTrue ((nat_le (length d.entries) 0 && not (is_some d.over)) && nat_le (accepted_count d) 4096) = ap (λ b. not b || ((nat_le (length d.entries) 0 && not (is_some d.over)) && nat_le (accepted_count d) 4096)) (sym e) ∙ kept.space in
-                let p = both (nat_le (length d.entries) 0) (not (is_some d.over)) (both (nat_le (length d.entries) 0 && not (is_some d.over)) (nat_le (accepted_count d) 4096) s).0 in
-                absurd (true≢false (sym leads ∙ nowhere d.entries d.over p.0 p.1))
+        no_vectors = sends_no_vectors d kept (λ p q. true≢false (sym leads ∙ nowhere d.entries d.over p q))
 
     led_refers : (d : NodeDecl) → IsTrue (refers_within (length net) d) → IsTrue (refers_within (length net) (node_led_past net m i d))
     led_refers d h =
@@ -322,11 +317,7 @@ past_length net m k [] = refl
 past_length net m k (n ∷ ns) = ap suc (past_length net m (suc k) ns)
 
 one_text : (net : List NodeDecl) (m i : ℕ) (d : NodeDecl) → (node_past net m i d).text ≡ d.text
-one_text net m i d = by (is_rewritten m i d)
-  where
-    by : (b : Bool) → (if b then node_led_past net m i d else d).text ≡ d.text
-    by true = refl
-    by false = refl
+one_text net m i d = part_stays (λ n. n.text) (is_rewritten m i d) (node_led_past net m i d) d refl
 
 pub past_texts : (net : List NodeDecl) (m k : ℕ) (ns : List NodeDecl) → texts (nodes_past net m k ns) ≡ texts ns
 past_texts net m k [] = refl

@@ -4,39 +4,22 @@ use Rattle.std.proofs.lemmas.Bool.{false≢true}
 use Rattle.dn_base.specs.Members.{Member}
 use Rattle.dn_interval.specs.declared.row.End.{End}
 use Rattle.dn_interval.specs.declared.span.TheConstants.{TOP}
-use Rattle.dn_interval.specs.Rows.{AllAbove, Ascending, moved as end_moved}
+use Rattle.dn_interval.specs.Rows.{Ascending, moved as end_moved}
 use Rattle.dn_interval.specs.Listed.{Seen, SeenApart, SeenGive}
 use Rattle.dn_interval.proofs.Fronts.{listed_are_normal}
 use Rattle.dn_net.specs.declared.node.Name.{Name}
 use Rattle.dn_net.specs.declared.node.NodeDecl.{NodeDecl}
 use Rattle.dn_net.specs.Decode.{top, within, in_some_block, moved, by_entries, decode, sent_names, steps, Step}
-use Rattle.dn_net.specs.Names.{name_lt, is_before_first, is_ascending, each_step}
-use Rattle.dn_net.proofs.Ascending.{sorted_ascending, before_members}
-use Rattle.dn_net.proofs.Least.{both_true, within_from, within_to}
+use Rattle.dn_net.specs.Names.{each_step}
+use Rattle.dn_net.proofs.Ascending.{sorted_ascending}
+use Rattle.dn_net.proofs.Least.{within_from, within_to}
 use Rattle.dn_net.proofs.Resolution.{names_in, each_in}
+use Rattle.dn_walk.proofs.Ends.{end_in, ends_ascend}
 use Rattle.dn_shape.specs.Absorb.{names_past, steps_past, row_end, rows_past, dest_of_end, entry_of_row, node_led_past}
 
 -- a name of a row as a name of the net
 abbrev pub end_name : End → Name
 end_name e = record { node = e.node; addr = e.base }
-
--- a name stands in a list exactly where its end stands in the list of their ends
-pub ends_in : (xs : List Name) (y : Name) → Member (row_end y) (map row_end xs) ↔ Member y xs
-ends_in [] y = ((λ m. m), (λ m. m))
-ends_in (x ∷ xs) y =
-    let later = ends_in xs y in (
-      (λ m. elim m [ inl e ↦ inl (ap end_name e) | inr n ↦ inr (later.0 n) ]),
-      (λ m. elim m [ inl e ↦ inl (ap row_end e) | inr n ↦ inr (later.1 n) ]),
-    )
-
--- names that ascend do so as rows have them
-all_above : (x : Name) (xs : List Name) → ((z : Name) → Member z xs → name_lt x z ≡ true) → AllAbove (row_end x) (map row_end xs)
-all_above x [] before = tt
-all_above x (y ∷ ys) before = (before y (inl refl), all_above x ys (λ z m. before z (inr m)))
-
-pub ends_ascend : (xs : List Name) → is_ascending xs ≡ true → Ascending (map row_end xs)
-ends_ascend [] up = tt
-ends_ascend (x ∷ xs) up = (all_above x xs (λ z m. before_members x z xs up m), ends_ascend xs (both_true (is_before_first x xs) (is_ascending xs) up).1)
 
 -- the names past a node, as the rows have them
 abbrev pub ends_past : List NodeDecl → ℕ → ℕ → ℕ → List End
@@ -106,5 +89,5 @@ led_steps net m i a n y at = by (nat_le a top) refl (in_some_block a n.accepts) 
         let rows = by_rows 0 (rows_past net m i) normal.0 a y in
         let low : a ≤ TOP = leb-true a top e in
         let give = normal.1 a (row_end y) low in
-        let same = ends_in (steps_past net m (record { node = i; addr = a })) y in
+        let same = end_in (steps_past net m (record { node = i; addr = a })) y in
         ((λ h. same.0 (give.1 (rows.0 h))), (λ h. rows.1 (give.0 (same.1 h))))

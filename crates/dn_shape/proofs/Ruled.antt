@@ -125,22 +125,27 @@ not_overlapping x l = by (nat_lt 1 x) refl
     by true e = let k = ltb-true 1 x e in absurd (omega arith)
     by false e = no_and (nat_lt 0 x)
 
--- a vectors node is not divided
-divided_no_vectors : (n : NodeDecl) → KeepsRules n → is_divided n ≡ true → is_vectors n.role ≡ false
-divided_no_vectors n kept d = by (is_vectors n.role) refl
+-- a node that has a map or an `over` is no vectors node
+pub sends_no_vectors : (n : NodeDecl) → KeepsRules n → (nat_le (length n.entries) 0 ≡ true → not (is_some n.over) ≡ true → ⊥) → is_vectors n.role ≡ false
+sends_no_vectors n kept sends = by (is_vectors n.role) refl
   where
     by : (b : Bool) → is_vectors n.role ≡ b → b ≡ false
     by false e = refl
     by true e =
         let s : IsTrue ((nat_le (length n.entries) 0 && not (is_some n.over)) && nat_le (accepted_count n) 4096) = ap (λ b. not b || ((nat_le (length n.entries) 0 && not (is_some n.over)) && nat_le (accepted_count n) 4096)) (sym e) ∙ kept.space in
         let p = both (nat_le (length n.entries) 0) (not (is_some n.over)) (both (nat_le (length n.entries) 0 && not (is_some n.over)) (nat_le (accepted_count n) 4096) s).0 in
-        let q = (both (nat_lt 0 (length n.accepts)) (nat_lt 0 (length n.entries) || is_some n.over) d).1 in
-        absurd (none (nat_lt 0 (length n.entries)) refl (is_some n.over) (leb-true (length n.entries) 0 p.0) p.1 q)
-      where
-        none : (u : Bool) → nat_lt 0 (length n.entries) ≡ u → (v : Bool) → length n.entries ≤ 0 → not v ≡ true → (u || v) ≡ true → ⊥
-        none true e v l m h = let k = ltb-true 0 (length n.entries) e in omega arith
-        none false e true l m h = false≢true m
-        none false e false l m h = false≢true h
+        absurd (sends p.0 p.1)
+
+-- a vectors node is not divided
+divided_no_vectors : (n : NodeDecl) → KeepsRules n → is_divided n ≡ true → is_vectors n.role ≡ false
+divided_no_vectors n kept d =
+    let q = (both (nat_lt 0 (length n.accepts)) (nat_lt 0 (length n.entries) || is_some n.over) d).1 in
+    sends_no_vectors n kept (λ l m. none (nat_lt 0 (length n.entries)) refl (is_some n.over) (leb-true (length n.entries) 0 l) m q)
+  where
+    none : (u : Bool) → nat_lt 0 (length n.entries) ≡ u → (v : Bool) → length n.entries ≤ 0 → not v ≡ true → (u || v) ≡ true → ⊥
+    none true e v l m h = let k = ltb-true 0 (length n.entries) e in omega arith
+    none false e true l m h = false≢true m
+    none false e false l m h = false≢true h
 
 pub sent_keeps : (m : ℕ) (n : NodeDecl) → IsApart n → KeepsRules n → KeepsRules (sending_node m n)
 sent_keeps m n apart kept = by (is_divided n) refl

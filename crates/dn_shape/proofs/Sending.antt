@@ -1,5 +1,6 @@
 -- What the nodes of a split net keep of those of the net.
-use Rattle.std.proofs.Common.{◌≡◌, ℕ, ◌+◌, ◌<◌, ◌≤◌, inl, inr, Bool, true, false, not, if◌then◌else◌, ◌&&◌, ◌||◌, nat_le, nat_lt, List, [], ◌∷◌, ◌++◌, length, Option, Some, None, is_some, refl, ap, ◌∙◌, subst, arith, IsTrue, leb-true, ltb-true, All}
+use Rattle.std.proofs.Common.{◌≡◌, ℕ, ◌+◌, ◌<◌, ◌≤◌, inl, inr, Bool, true, false, not, if◌then◌else◌, ◌&&◌, ◌||◌, nat_le, nat_lt, List, [], ◌∷◌, ◌++◌, length, Option, Some, None, is_some, refl, sym, ap, ◌∙◌, subst, arith, IsTrue, leb-true, ltb-true, All}
+use mir.Val.{bool_byte}
 use Rattle.std.specs.List.{list_all, list_any}
 use Rattle.dn_base.specs.Members.{Member}
 use Rattle.dn_base.proofs.Members.{member_cases}
@@ -14,13 +15,22 @@ use Rattle.dn_shape.specs.Split.{is_divided, new_nodes, divided_count, sender_to
 use Rattle.dn_shape.proofs.Free.{free_number_is_first}
 use Rattle.dn_shape.proofs.Named.{NamesDiffer, texts, differ_as}
 
+-- a part of a node that another node has too, of the one or the other
+pub part_stays : {Y : Type 0} (f : NodeDecl → Y) (b : Bool) (n d : NodeDecl) → f n ≡ f d → f (if b then n else d) ≡ f d
+part_stays f true n d e = e
+part_stays f false n d e = refl
+
+-- how many nodes are made of a node, as the code counts them
+pub counted : (b : Bool) (n : NodeDecl) (k : ℕ) → k ≡ bool_byte b → is_divided n ≡ b → k ≡ new_nodes n
+counted b n k e d = e ∙ byte b ∙ ap (λ p. if p then 1 else 0) (sym d)
+  where
+    byte : (b : Bool) → bool_byte b ≡ (if b then 1 else 0)
+    byte true = refl
+    byte false = refl
+
 -- the names stay
 one_text : (m : ℕ) (n : NodeDecl) → (sending_node m n).text ≡ n.text
-one_text m n = by (is_divided n)
-  where
-    by : (b : Bool) → (if b then sender_to m n else n).text ≡ n.text
-    by true = refl
-    by false = refl
+one_text m n = part_stays (λ d. d.text) (is_divided n) (sender_to m n) n refl
 
 pub sending_texts : (next : ℕ) (net : List NodeDecl) → texts (sending_nodes next net) ≡ texts net
 sending_texts next [] = refl

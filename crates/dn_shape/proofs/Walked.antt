@@ -36,9 +36,10 @@ use Rattle.dn_walk.specs.Rows.{Told, row_view, told_by_walk}
 use Rattle.dn_walk.proofs.Bridge.{met_told, each_onto}
 use Rattle.dn_walk.proofs.Nodes.{legs_are, legs_of_node}
 use Rattle.dn_walk.proofs.Told.{at_member}
+use Rattle.dn_walk.proofs.Ends.{end_in}
 use Rattle.dn_shape.specs.Absorb.{steps_past, rows_past}
 use Rattle.dn_shape.specs.Past.{LeadOn, onward, walks_past, told_onward, told_gives, told_give}
-use Rattle.dn_shape.proofs.Passing.{end_name, ends_past, ends_past_ascend, past_in, ends_in}
+use Rattle.dn_shape.proofs.Passing.{end_name, ends_past, ends_past_ascend, past_in}
 use Rattle.dn_shape.proofs.Renamed.{name_is, node_there}
 
 -- what is told of the walks that go on by the legs of a node
@@ -307,11 +308,11 @@ module _ (net : List NodeDecl) (rules : KeepsNodeRules net) (m i : ℕ) (there :
             let w = member_map told_by_walk (walks_past net m i) r.0 r.1 in
             let g = gives_to w.0 a y (ap (λ t. told_gives t a y) w.2 ∙ r.2) in
             let f = member_flat_map (onward net m) (extended net (still i)) w.0 w.1 in
-            (ends_in (steps_past net m here) (end_name y)).1 (given_past (end_name y) f.0 f.1 w.0 (f.0.to.node == m) refl f.2 g.0 g.1)
+            (end_in (steps_past net m here) (end_name y)).1 (given_past (end_name y) f.0 f.1 w.0 (f.0.to.node == m) refl f.2 g.0 g.1)
 
         back : Member y (ends_past net m i a) → told_give (map told_by_walk (walks_past net m i)) a y ≡ true
         back h =
-            let g = past_given (end_name y) ((ends_in (steps_past net m here) (end_name y)).0 h) in
+            let g = past_given (end_name y) ((end_in (steps_past net m here) (end_name y)).0 h) in
             member_any (λ t. told_gives t a y) (map told_by_walk (walks_past net m i)) (told_by_walk g.walk) (map_member told_by_walk (walks_past net m i) g.walk g.member) (gives_from g.walk a y g.inside g.to)
 
 pub first_row : (net : List NodeDecl) → KeepsNodeRules net → (i : ℕ) → i < length net → (w : Walk) → Member w (extended net (still i)) → IsRow net 1 w

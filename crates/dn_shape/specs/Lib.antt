@@ -3,4 +3,5 @@ pub mod Faults
 pub mod Limits
 pub mod Past
 pub mod Split
+pub mod Terms
 pub mod Views

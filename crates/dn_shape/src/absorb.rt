@@ -3,15 +3,10 @@
 ghost use Rattle.std.specs.Prelude.{◌≡◌, ◌<◌, ◌==◌, length, slice_get, option_map, IfOk, Some};
 ghost use Rattle.std.specs.List.{list_any};
 ghost use Rattle.std.specs.Option.{option_copied};
-ghost use Rattle.dn_base.specs.Answers.{Answers};
-ghost use Rattle.dn_net.specs.Decode.{is_agent};
-ghost use Rattle.dn_net.specs.Legal.{IsLegalNet};
-ghost use Rattle.dn_net.specs.Rules.{KeepsNodeRules, is_vectors};
-ghost use Rattle.dn_shape.specs.Absorb.{absorb_outcome, has_port, is_port, leads_to, node_led_past, maps_to, net_past, node_past, why_not_at};
-ghost use Rattle.dn_shape.specs.Faults.{absorb_fault_view};
-ghost use Rattle.dn_shape.specs.Past.{LeadOn};
-ghost use Rattle.dn_shape.specs.Views.{HaveEqualViews, IsRuledNet};
-ghost use Rattle.dn_walk.specs.Legs.{told_legs};
+ghost use Rattle.dn_base.specs.Terms.{Answers};
+ghost use Rattle.dn_net.specs.Terms.{IsLegalNet, KeepsNodeRules, is_agent, is_vectors};
+ghost use Rattle.dn_shape.specs.Terms.{HaveEqualViews, IsRuledNet, LeadOn, absorb_fault_view, absorb_outcome, has_port, is_port, leads_to, maps_to, net_past, node_past, why_not_at};
+ghost use Rattle.dn_walk.specs.Terms.{told_legs};
 
 use crate::copy::{node_copy, unit_copy};
 use crate::fault::{AbsorbFault, Why};
@@ -44,7 +39,7 @@ pub fn absorb(alloc: Global, net: &Net, node: u16) -> Result<Net, AbsorbFault>
     if let Some(why) = why_not(net, node) {
         return Err(AbsorbFault::NotAbsorbable { why });
     }
-    let made = net_past(alloc, net, node)?;
+    let made = net_past(alloc, net, node).or(Err(AbsorbFault::OutOfMemory))?;
     match passed_limit(&made) {
         Some(limit) => Err(AbsorbFault::TooMany { limit }),
         None => Ok(made),
@@ -177,7 +172,8 @@ fn nodes_past(alloc: Global, net: &Net, past: u16, onward: &[Leg]) -> Result<Net
     Ok(made)
 }
 
-/// A node, led past the absorbed one where it leads to it.
+/// A node, which has the rows past the absorbed one in place of its map and its `over` where it leads to
+/// it.
 fn node_past(
     alloc: Global,
     net: &Net,
@@ -195,24 +191,6 @@ fn node_past(
     if node == past || !leads_to(net, node, past) {
         return node_copy(alloc, net, node);
     }
-    node_led_past(alloc, net, past, onward, node)
-}
-
-/// A node with the rows past the absorbed one in place of its map and its `over`.
-fn node_led_past(
-    alloc: Global,
-    net: &Net,
-    past: u16,
-    onward: &[Leg],
-    node: u16,
-) -> Result<NodeDecl, OutOfMemory>
-    requires rules { KeepsNodeRules net.now }
-    requires onward { option_map told_legs (slice_get net.now past) ≡ Some onward.now }
-    requires lead { LeadOn onward.now }
-    requires there { node < length net.now }
-    ensures { IfOk result (λ n. option_map (node_led_past net.now past node)
-        (slice_get net.now node) ≡ Some n) }
-{
     Ok(NodeDecl {
         text: Text::of(alloc, net.text(node))?,
         role: net.role(node),

@@ -1,10 +1,5 @@
 //! Why a net is not split, and why a node is not absorbed.
 
-ghost use Rattle.std.specs.Prelude.{◌≡◌};
-ghost use Rattle.dn_shape.specs.declared.fault.SplitFault.TheVariants.{OutOfMemory as no_memory_to_split};
-ghost use Rattle.dn_shape.specs.declared.fault.AbsorbFault.TheVariants.{OutOfMemory as no_memory};
-
-use std::alloc::AllocError;
 use thiserror::Error;
 
 /// Why a net is not split.
@@ -47,20 +42,4 @@ pub enum AbsorbFault {
     /// There was no memory for the net.
     #[error("OutOfMemory")]
     OutOfMemory,
-}
-
-impl From<AllocError> for SplitFault {
-    ghost from_gives = { λ _ e. e ≡ no_memory_to_split };
-
-    fn from(_error: AllocError) -> SplitFault {
-        SplitFault::OutOfMemory
-    }
-}
-
-impl From<AllocError> for AbsorbFault {
-    ghost from_gives = { λ _ e. e ≡ no_memory };
-
-    fn from(_error: AllocError) -> AbsorbFault {
-        AbsorbFault::OutOfMemory
-    }
 }

@@ -1,7 +1,6 @@
 //! Laws on splitting and absorbing, each the contract of a function that does nothing.
 
-ghost use Rattle.dn_shape.specs.Split.{FreeNumberIsFirst, SpansAreMaximal};
-ghost use Rattle.dn_shape.specs.Views.{AbsorbKeepsRules, AbsorbKeepsViews, SplitKeepsRules, SplitKeepsViews};
+ghost use Rattle.dn_shape.specs.Terms.{AbsorbKeepsRules, AbsorbKeepsViews, FreeNumberIsFirst, SpansAreMaximal, SplitKeepsRules, SplitKeepsViews};
 
 /// The spans of a new node have exactly the addresses that the divided one accepted; no two of
 /// them overlap or are adjacent.

@@ -1,9 +1,9 @@
 //! The maximal spans of what a node accepts.
 
 ghost use Rattle.std.specs.Prelude.{◌≡◌, ◌<◌, length, map, slice_get, option_map, IfOk, Some};
-ghost use Rattle.dn_net.specs.Rules.{KeepsNodeRules};
-ghost use Rattle.dn_shape.specs.Split.{maximal_spans};
-ghost use Rattle.dn_walk.specs.Legs.{span_view};
+ghost use Rattle.dn_net.specs.Terms.{KeepsNodeRules};
+ghost use Rattle.dn_shape.specs.Terms.{maximal_spans};
+ghost use Rattle.dn_walk.specs.Terms.{span_view};
 
 use dn_base::OutOfMemory;
 use dn_interval::Span;
@@ -33,10 +33,17 @@ fn blocks_of(alloc: Global, spans: &[Span]) -> Result<Vec<Block>, OutOfMemory>
 {
     let mut blocks = Vec::with_capacity(alloc, spans.len())?;
     for span in spans {
-        blocks.push(Block {
-            lo: span.lo,
-            hi: span.hi,
-        })?;
+        blocks.push(block_of(*span))?;
     }
     Ok(blocks)
+}
+
+/// A span, as a block.
+pub(crate) fn block_of(span: Span) -> Block
+    ensures { result ≡ span_view span }
+{
+    Block {
+        lo: span.lo,
+        hi: span.hi,
+    }
 }

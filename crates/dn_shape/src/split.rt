@@ -1,13 +1,10 @@
 //! Splitting a net.
 
 ghost use Rattle.std.specs.Prelude.{◌≡◌, ◌<◌, ◌≤◌, ◌+◌, ◌++◌, length, map, slice_get, option_map, IfOk, OnOk, Some};
-ghost use Rattle.dn_base.specs.Answers.{Answers};
+ghost use Rattle.dn_base.specs.Terms.{Answers};
 ghost use Rattle.dn_net.specs.declared.node.NodeDecl.{NodeDecl};
-ghost use Rattle.dn_net.specs.Legal.{IsLegalNet, node_limit};
-ghost use Rattle.dn_net.specs.Rules.{KeepsNodeRules};
-ghost use Rattle.dn_shape.specs.Faults.{split_fault_view};
-ghost use Rattle.dn_shape.specs.Split.{split_outcome, is_divided, new_nodes, divided_count, entry_onto, sender_to, sending_node, sending_nodes, accepter_text, free_number, accepter, with_accepter, with_accepters, split_name};
-ghost use Rattle.dn_shape.specs.Views.{HaveEqualViews, IsRuledNet};
+ghost use Rattle.dn_net.specs.Terms.{IsLegalNet, KeepsNodeRules, node_limit};
+ghost use Rattle.dn_shape.specs.Terms.{HaveEqualViews, IsRuledNet, accepter, accepter_text, divided_count, entry_onto, free_number, is_divided, new_nodes, sender_to, sending_node, sending_nodes, split_fault_view, split_name, split_outcome, with_accepter, with_accepters};
 
 use crate::copy::{entries_copy, node_copy, unit_copy};
 use crate::fault::SplitFault;
@@ -38,8 +35,8 @@ pub fn split(alloc: Global, net: &Net) -> Result<Net, SplitFault>
             limit: MAX_NODES as u32,
         });
     }
-    let mut made = sending_nodes(alloc, net)?;
-    add_accepters(alloc, net, &mut made)?;
+    let mut made = sending_nodes(alloc, net).or(Err(SplitFault::OutOfMemory))?;
+    add_accepters(alloc, net, &mut made).or(Err(SplitFault::OutOfMemory))?;
     match passed_limit(&made) {
         Some(limit) => Err(SplitFault::TooMany { limit }),
         None => Ok(made),

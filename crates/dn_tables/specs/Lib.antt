@@ -1,3 +1,4 @@
 pub mod Placement
 pub mod Set
+pub mod Terms
 pub mod Writes

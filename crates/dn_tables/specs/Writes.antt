@@ -52,27 +52,29 @@ device_after unit (w ∷ writes) tables = device_after unit writes (with_word ta
 abbrev pub set_after : ℕ → List WordWrite → List NodeTable → List NodeTable
 set_after node writes set = with_table set node (λ t. with_words t (words_after writes t.words))
 
--- writes to a unit were made in order, on a device and on words: all of them, or those before the one that failed
-pub record AreWritten (unit : ℕ) (writes : List WordWrite) (failed : Bool)
-    (log log' : Option (List TableEvent)) (told told' : Option (List UnitWords)) (words words' : List ℕ)
+-- writes to a unit were made in order, on a device and on what keeps them too: all of them, or those before the one
+-- that failed
+pub record AreDone {X : Type 0} (after : List WordWrite → X → X) (unit : ℕ) (writes : List WordWrite) (failed : Bool)
+    (log log' : Option (List TableEvent)) (told told' : Option (List UnitWords)) (old new : X)
     : Type 0 where
   pub made : ℕ
   pub all : failed ≡ false → made ≡ length writes
   pub less : failed ≡ true → made < length writes
   pub logged : Logged log log' (events_of unit (take made writes))
   pub on_device : told' ≡ option_map (device_after unit (take made writes)) told
-  pub kept : words' ≡ words_after (take made writes) words
+  pub kept : new ≡ after (take made writes) old
 
--- writes to a unit were made in order, on a device and in a set: all of them, or those before the one that failed
-pub record AreMade (unit : ℕ) (writes : List WordWrite) (failed : Bool)
-    (log log' : Option (List TableEvent)) (told told' : Option (List UnitWords)) (set set' : List NodeTable)
-    : Type 0 where
-  pub made : ℕ
-  pub all : failed ≡ false → made ≡ length writes
-  pub less : failed ≡ true → made < length writes
-  pub logged : Logged log log' (events_of unit (take made writes))
-  pub on_device : told' ≡ option_map (device_after unit (take made writes)) told
-  pub kept : set' ≡ set_after unit (take made writes) set
+-- so they were, on a device and on words
+abbrev pub AreWritten : ℕ → List WordWrite → Bool →
+    Option (List TableEvent) → Option (List TableEvent) →
+    Option (List UnitWords) → Option (List UnitWords) → List ℕ → List ℕ → Type 0
+AreWritten = AreDone words_after
+
+-- so they were, on a device and in a set
+abbrev pub AreMade : ℕ → List WordWrite → Bool →
+    Option (List TableEvent) → Option (List TableEvent) →
+    Option (List UnitWords) → Option (List UnitWords) → List NodeTable → List NodeTable → Type 0
+AreMade unit = AreDone (set_after unit) unit
 
 -- the event of a unit that was made
 abbrev pub make_event : UnitWords → TableEvent

@@ -1,7 +1,7 @@
 //! Where a buffer is placed: the hops through units, from the agent's end.
 
 ghost use Rattle.std.specs.Prelude.{◌≡◌, ◌<◌, ◌≤◌, length};
-ghost use Rattle.dn_tables.specs.Placement.{IsPlace};
+ghost use Rattle.dn_tables.specs.Terms.{IsPlace};
 
 use smallvec::SmallVec;
 use std::alloc::Global;

@@ -1,9 +1,8 @@
 //! Writes of words to a device, each of which is kept once it was made.
 
 ghost use Rattle.std.specs.Prelude.{◌≡◌, ℕ, ◌+◌, ◌*◌, ◌-◌, ◌<◌, ◌≤◌, ◌^◌, true, length, is_err};
-ghost use Rattle.dn_base.specs.Device.{has_word};
-ghost use Rattle.dn_base.specs.Outside.{IsCounted};
-ghost use Rattle.dn_tables.specs.Writes.{AreWritten, clears_from, writes_from};
+ghost use Rattle.dn_base.specs.Terms.{IsCounted, has_word};
+ghost use Rattle.dn_tables.specs.Terms.{AreWritten, clears_from, writes_from};
 
 use dn_base::device::{DeviceFault, Tables};
 use dn_base::filled::Filled;

@@ -4,7 +4,15 @@ use Rattle.std.proofs.Math.Nat.{mul-le-mul_right}
 use Rattle.std.proofs.lemmas.Bool.{le-ltb, lt-ltb}
 use Rattle.std.proofs.lemmas.List.{drop_all}
 use Rattle.std.proofs.Math.Seq.{drop-cons}
+use Rattle.dn_token.specs.declared.number.Radix.{Radix}
+use Rattle.dn_token.specs.declared.number.Radix.TheVariants.{Decimal, Hexadecimal}
 use Rattle.dn_token.specs.Token.{spelled_from, with_digit, fitting, digits_number}
+use Rattle.dn_token.specs.Lexing.{base_of}
+
+-- there is a digit
+pub some_base : (radix : Radix) → 1 ≤ base_of radix
+some_base Decimal = omega arith
+some_base Hexadecimal = omega arith
 
 -- no number comes back
 none_stays : (base : ℕ) (value : ℕ → Option ℕ) (s : List ℕ) → spelled_from base value None s ≡ None
@@ -42,9 +50,9 @@ some_digits base value [] h = absurd (omega arith)
 some_digits base value (b ∷ s) h = refl
 
 -- a spelling with no number stops at this digit
-pub stopped : (base : ℕ) (value : ℕ → Option ℕ) (s : List ℕ) (n i : ℕ) → 0 < length s → i < length s → fitting (spelled_from base value (Some 0) s) ≡ fitting (spelled_from base value (Some n) (drop i s)) → fitting (spelled_from base value (Some n) (get_or s i 0 ∷ drop (suc i) s)) ≡ None → fitting (digits_number base value s) ≡ None
-stopped base value s n i some within before stop =
-    ap fitting (some_digits base value s some) ∙ before ∙ ap (λ (t : List ℕ). fitting (spelled_from base value (Some n) t)) (drop-cons s i 0 within) ∙ stop
+pub stopped : (base : ℕ) (value : ℕ → Option ℕ) (s : List ℕ) (n i : ℕ) → i < length s → fitting (spelled_from base value (Some 0) s) ≡ fitting (spelled_from base value (Some n) (drop i s)) → fitting (spelled_from base value (Some n) (get_or s i 0 ∷ drop (suc i) s)) ≡ None → fitting (digits_number base value s) ≡ None
+stopped base value s n i within before stop =
+    ap fitting (some_digits base value s (omega arith)) ∙ before ∙ ap (λ (t : List ℕ). fitting (spelled_from base value (Some n) t)) (drop-cons s i 0 within) ∙ stop
 
 -- each digit is taken
 pub finished : (base : ℕ) (value : ℕ → Option ℕ) (s : List ℕ) (n i : ℕ) → 0 < length s → length s ≤ i → n < 2 ^ 64 → fitting (spelled_from base value (Some 0) s) ≡ fitting (spelled_from base value (Some n) (drop i s)) → fitting (digits_number base value s) ≡ Some n

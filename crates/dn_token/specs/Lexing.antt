@@ -6,7 +6,9 @@ use Rattle.dn_token.specs.declared.token.Keyword.{Keyword}
 use Rattle.dn_token.specs.declared.token.Lexeme.{Lexeme as CodeLexeme}
 use Rattle.dn_token.specs.declared.token.Lexeme.TheVariants.{Word as WordCase, Keyword as KeywordCase, Number as NumberCase, Sign as SignCase}
 use Rattle.dn_token.specs.declared.token.Token.{Token as CodeToken}
-use Rattle.dn_token.specs.Token.{Lexeme, Token, Front, word, keyword, number, sign, bad, front, reserved, dots_or_sign, is_slash, begins_with}
+use Rattle.dn_token.specs.declared.number.Radix.{Radix}
+use Rattle.dn_token.specs.declared.number.Radix.TheVariants.{Decimal, Hexadecimal}
+use Rattle.dn_token.specs.Token.{Lexeme, Token, Front, word, keyword, number, sign, bad, front, reserved, decimal_value, hex_value, dots_or_sign, is_slash, begins_with}
 
 -- the lexeme of the subject that a lexeme of the code is
 abbrev pub lexeme_view : CodeLexeme → Lexeme
@@ -46,3 +48,13 @@ reserved_word w = keyword_among reserved w
 -- the reserved words of one length
 abbrev pub of_length : ℕ → List (List ℕ × Keyword) → List (List ℕ × Keyword)
 of_length n rs = filter (λ r. length r.0 == n) rs
+
+-- how many digits a way to write numbers has
+abbrev pub base_of : Radix → ℕ
+base_of Decimal = 10
+base_of Hexadecimal = 16
+
+-- what a byte stands for as a digit of it
+abbrev pub value_of : Radix → ℕ → Option ℕ
+value_of Decimal b = decimal_value b
+value_of Hexadecimal b = hex_value b

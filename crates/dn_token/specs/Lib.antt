@@ -1,3 +1,4 @@
+pub mod Terms
 pub mod Token
 pub mod Lexing
 pub mod Words

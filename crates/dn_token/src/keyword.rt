@@ -1,9 +1,7 @@
 //! The reserved words by their spellings, and their spellings.
 
 ghost use Rattle.std.specs.Prelude.{◌≡◌};
-ghost use Rattle.dn_token.specs.Token.{reserved};
-ghost use Rattle.dn_token.specs.Lexing.{keyword_among, of_length, reserved_word};
-ghost use Rattle.dn_token.specs.Words.{spelling};
+ghost use Rattle.dn_token.specs.Terms.{keyword_among, of_length, reserved, reserved_word, spelling};
 
 use crate::token::Keyword;
 

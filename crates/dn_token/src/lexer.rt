@@ -2,18 +2,15 @@
 
 ghost use Rattle.std.specs.Prelude.{◌≡◌, ◌+◌, ◌^◌, ◌<◌, [], ◌∷◌, length, map, IfSome, IfOk, MatchOption};
 ghost use Rattle.std.specs.Str.{IsAscii};
-ghost use Rattle.dn_token.specs.Token.{tokens, is_letter, is_digit, is_blank, after_comment, run, after_run, word_lexeme, sign_of, taken, bad};
-ghost use Rattle.dn_token.specs.Lexing.{begins_comment, front_of, sign_front_of, lexeme_view, token_view};
-ghost use Rattle.dn_token.specs.Going.{tokens_of};
-ghost use Rattle.dn_token.specs.Ahead.{first_and_rest};
-ghost use Rattle.dn_base.specs.Answers.{Answers};
-ghost use Rattle.dn_token.specs.Faults.{token_fault_view};
+ghost use Rattle.dn_token.specs.Terms.{after_comment, after_run, bad, begins_comment, first_and_rest, front_of, is_blank, is_digit, is_letter, lexeme_view, run, sign_front_of, sign_of, taken, token_fault_view, token_view, tokens, tokens_of, word_lexeme};
+ghost use Rattle.dn_base.specs.Terms.{Answers};
+ghost use Rattle.dn_token.specs.declared.lexer.TokenFault.TheVariants.{OutOfMemory as no_memory};
 
 use crate::cursor::Cursor;
 use crate::keyword::keyword_of;
 use crate::number::number_of;
 use crate::token::{Lexeme, Sign, Token};
-use std::alloc::{AllocError, AllocFailed, Global};
+use std::alloc::{AllocFailed, Global};
 use thiserror::Error;
 
 /// Why a text has no list of tokens.
@@ -27,21 +24,7 @@ pub enum TokenFault {
     OutOfMemory,
 }
 
-impl From<AllocError> for TokenFault {
-    ghost use Rattle.std.specs.Prelude.{◌≡◌};
-    ghost use Rattle.dn_token.specs.declared.lexer.TokenFault.TheVariants.{OutOfMemory as no_memory};
-
-    ghost from_gives = { λ _ e. e ≡ no_memory };
-
-    fn from(_error: AllocError) -> TokenFault {
-        TokenFault::OutOfMemory
-    }
-}
-
 impl<T: Drop> From<AllocFailed<T>> for TokenFault {
-    ghost use Rattle.std.specs.Prelude.{◌≡◌};
-    ghost use Rattle.dn_token.specs.declared.lexer.TokenFault.TheVariants.{OutOfMemory as no_memory};
-
     ghost from_gives = { λ _ e. e ≡ no_memory };
 
     fn from(_error: AllocFailed<T>) -> TokenFault {

@@ -1,7 +1,7 @@
 //! Numbers by their spellings.
 
-ghost use Rattle.std.specs.Prelude.{◌≡◌, ◌≤◌};
-ghost use Rattle.dn_token.specs.Token.{number_of, fitting, digits_number, decimal_value, hex_value};
+ghost use Rattle.std.specs.Prelude.{◌≡◌};
+ghost use Rattle.dn_token.specs.Terms.{base_of, decimal_value, digits_number, fitting, hex_value, number_of, value_of};
 
 /// The number that a run spells: decimal digits, or `0x` and hexadecimal digits of either case.
 /// None where it spells none, or one past 2^64 - 1.
@@ -11,68 +11,46 @@ pub fn number_of(run: &[u8]) -> Option<u64>
     ensures { result ≡ number_of run.now }
 {
     match run.strip_prefix(b"0x") {
-        Some(digits) => spelled::<Hexadecimal>(digits),
-        None => spelled::<Decimal>(run),
+        Some(digits) => spelled(Radix::Hexadecimal, digits),
+        None => spelled(Radix::Decimal, run),
     }
 }
 
-/// A way to write numbers by digits.
-trait Radix {
-    ghost use Rattle.std.specs.Prelude.{◌≡◌, ℕ, Option};
-
-    /// How many digits there are.
-    ghost RADIX: { ℕ };
-    /// What a byte stands for, where it is a digit.
-    ghost value: { ℕ → Option ℕ };
-
-    const RADIX: u64;
-
-    /// What a byte stands for. None where it is no digit.
-    fn value(byte: u8) -> Option<u64>
-        ensures { result ≡ value byte };
+/// The two ways to write numbers by digits.
+#[derive(Clone, Copy)]
+pub enum Radix {
+    /// Ten digits.
+    Decimal,
+    /// Sixteen digits, those past nine of either case.
+    Hexadecimal,
 }
 
-/// Ten digits.
-struct Decimal;
-
-impl Radix for Decimal {
-    ghost use Rattle.dn_token.specs.Token.{decimal_value};
-
-    ghost RADIX = { 10 };
-
-    ghost value = { decimal_value };
-
-    const RADIX: u64 = 10;
-
-    #[inline(always)]
-    fn value(byte: u8) -> Option<u64> {
-        decimal_value(byte)
+/// How many digits there are.
+#[inline(always)]
+fn base_of(radix: Radix) -> u64
+    ensures { result ≡ base_of radix }
+{
+    match radix {
+        Radix::Decimal => 10,
+        Radix::Hexadecimal => 16,
     }
 }
 
-/// Sixteen digits, those past nine of either case.
-struct Hexadecimal;
-
-impl Radix for Hexadecimal {
-    ghost use Rattle.dn_token.specs.Token.{hex_value};
-
-    ghost RADIX = { 16 };
-
-    ghost value = { hex_value };
-
-    const RADIX: u64 = 16;
-
-    #[inline(always)]
-    fn value(byte: u8) -> Option<u64> {
-        hexadecimal_value(byte)
+/// What a byte stands for. None where it is no digit.
+#[inline(always)]
+fn value_of(radix: Radix, byte: u8) -> Option<u64>
+    ensures { result ≡ value_of radix byte }
+{
+    match radix {
+        Radix::Decimal => decimal_value(byte),
+        Radix::Hexadecimal => hexadecimal_value(byte),
     }
 }
 
 /// The number that digits spell. None where there is none, one is no digit, or the number is past 2^64 - 1.
 #[inline(always)]
-fn spelled<R: Radix>(digits: &[u8]) -> Option<u64>
-    requires { 1 ≤ R.RADIX }
-    ensures { result ≡ fitting (digits_number R.RADIX R.value digits.now) }
+fn spelled(radix: Radix, digits: &[u8]) -> Option<u64>
+    ensures { result ≡ fitting (digits_number (base_of radix) (value_of radix) digits.now) }
 {
     if digits.is_empty() {
         return None;
@@ -80,8 +58,8 @@ fn spelled<R: Radix>(digits: &[u8]) -> Option<u64>
     let mut number: u64 = 0;
     for digit in digits {
         number = number
-            .checked_mul(R::RADIX)?
-            .checked_add(R::value(*digit)?)?;
+            .checked_mul(base_of(radix))?
+            .checked_add(value_of(radix, *digit)?)?;
     }
     Some(number)
 }

@@ -1,5 +1,5 @@
 -- What a demonstration counts, number by number, and commands of which no reply is told.
-use Rattle.std.proofs.Common.{◌≡◌, ◌∙◌, ap, sym, refl, subst, arith, ℕ, suc, ◌+◌, ◌<◌, ◌≤◌, ◌==◌, Bool, true, false, if◌then◌else◌, List, [], ◌∷◌, ◌++◌, take, length, get_or, Option, Some, None, Result, Ok, Err, is_ok, ◌⊎◌, inl, inr, slice_get, option_map, add_assoc}
+use Rattle.std.proofs.Common.{◌≡◌, ◌∙◌, ap, sym, refl, subst, arith, ℕ, suc, ◌+◌, ◌<◌, ◌≤◌, ◌==◌, Bool, true, false, if◌then◌else◌, List, [], ◌∷◌, ◌++◌, take, length, get_or, Option, None, Result, Ok, Err, is_ok, ◌⊎◌, inl, inr, add_assoc}
 use Rattle.std.specs.Option.{IfSome}
 use Rattle.std.proofs.lemmas.List.{take_more}
 use Rattle.std.proofs.Math.Seq.{take-length}
@@ -12,8 +12,6 @@ use Rattle.dn_base.specs.Outside.{IsWritten}
 use Rattle.dn_base.proofs.Logs.{Logged-none}
 use Rattle.dn_base.proofs.Told.{if_some_then}
 use Rattle.dn_net.specs.declared.node.NodeDecl.{NodeDecl}
-use Rattle.dn_net.specs.declared.node.Unit.{Unit as UnitPart}
-use Rattle.dn_net.specs.Decode.{unit_at, unit_of}
 use Rattle.dn_net.specs.Rules.{count_below}
 use Rattle.dn_net.proofs.Tally.{count_below-suc}
 use Rattle.dn_kind.specs.Kind.{Meaning}
@@ -35,14 +33,6 @@ use Rattle.dn_tool.specs.Played.{IsPlayed, device_tables}
 use Rattle.dn_tool.specs.State.{CameThrough, IsChanged, IsTurned}
 use Rattle.dn_tool.specs.Turn.{IsTurn, State, Turn, answered, is_change, reply, start, state_after}
 use Rattle.dn_tool.proofs.Played.{IsGone, device_told, gone_more, gone_start, halted_by, halted_unmade, more_turns, played_whole, turns_count, unmade_by, whole_turns}
-
--- the unit that a net tells of a node
-pub unit_told : (net : List NodeDecl) (node : ℕ) (o : Option UnitPart) → option_map (λ d. d.unit) (slice_get net node) ≡ Some o → unit_at net node ≡ o
-unit_told net node o e = by (slice_get net node) e
-  where
-    by : (d : Option NodeDecl) → option_map (λ d. d.unit) d ≡ Some o → unit_of d ≡ o
-    by None f = cc
-    by (Some d) f = cc
 
 -- a test that passes counts one at most
 pub one_at_most : (b : Bool) → (if b then 1 else 0) ≤ 1

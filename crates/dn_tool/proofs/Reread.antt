@@ -45,6 +45,7 @@ use Rattle.dn_shape.specs.Views.{IsRuledNet}
 use Rattle.dn_shape.proofs.Led.{absorb_keeps_rules}
 use Rattle.dn_shape.proofs.Passing.{ends_past, ends_past_ascend}
 use Rattle.dn_shape.proofs.Ruled.{split_keeps_rules}
+use Rattle.dn_shape.proofs.Sending.{part_stays}
 use Rattle.dn_tool.specs.Compiled.{by_node_rules, by_unit_rule, by_walk_rules, compilation, expansion_compilation, reading_compilation}
 use Rattle.dn_tool.specs.Reread.{IsReadBack, SplitIsReadBack, AbsorbIsReadBack, AreReadBack, CompiledIsReadBack}
 
@@ -195,11 +196,7 @@ all_accepters_say kinds base (n ∷ ns) h g = all_accepters_say kinds (with_acce
     by true = each_both (Says kinds) base (accepter base n ∷ []) h (accepter_says kinds base n g.0, tt)
 
 sending_role : (m : ℕ) (n : NodeDecl) → (sending_node m n).role ≡ n.role
-sending_role m n = by (is_divided n)
-  where
-    by : (b : Bool) → (if b then sender_to m n else n).role ≡ n.role
-    by true = refl
-    by false = refl
+sending_role m n = part_stays (λ d. d.role) (is_divided n) (sender_to m n) n refl
 
 sending_counted : (f : Role → ℕ) (k next : ℕ) (ns : List NodeDecl) → counted f k (sending_nodes next ns) ≡ counted f k ns
 sending_counted f k next [] = refl
@@ -257,11 +254,7 @@ all_past_say kinds net m i [] h = tt
 all_past_say kinds net m i (n ∷ ns) h = (past_says kinds net m i n h.0, all_past_say kinds net m (suc i) ns h.1)
 
 past_role : (net : List NodeDecl) (m i : ℕ) (n : NodeDecl) → (node_past net m i n).role ≡ n.role
-past_role net m i n = by (is_rewritten m i n)
-  where
-    by : (b : Bool) → (if b then node_led_past net m i n else n).role ≡ n.role
-    by true = refl
-    by false = refl
+past_role net m i n = part_stays (λ d. d.role) (is_rewritten m i n) (node_led_past net m i n) n refl
 
 past_counted : (f : Role → ℕ) (k : ℕ) (net : List NodeDecl) (m i : ℕ) (ns : List NodeDecl) → counted f k (nodes_past net m i ns) ≡ counted f k ns
 past_counted f k net m i [] = refl

@@ -1,9 +1,9 @@
 -- The rows of what a node's addresses come to under records, and that they are those of what is owed.
-use Rattle.std.proofs.Common.{◌≡◌, ◌∙◌, ap, sym, ℕ, ◌↔◌, List, map, slice_get, IsTrue}
+use Rattle.std.proofs.Common.{◌≡◌, ◌∙◌, ap, sym, subst, ℕ, ◌↔◌, List, map, slice_get, IsTrue}
 use Rattle.dn_interval.specs.declared.row.End.{End}
 use Rattle.dn_interval.specs.declared.row.Row.{Row}
 use Rattle.dn_interval.specs.Rows.{Member as EndIn, AreNormal}
-use Rattle.dn_interval.specs.Listed.{listed_rows, seen_by}
+use Rattle.dn_interval.specs.Listed.{Seen, listed_rows, seen_by}
 use Rattle.dn_interval.proofs.Listing.{normal_are_listed}
 use Rattle.dn_net.specs.declared.node.Name.{Name}
 use Rattle.dn_net.specs.declared.node.NodeDecl.{NodeDecl}
@@ -11,13 +11,17 @@ use Rattle.dn_net.specs.Decode.{is_accepted, is_agent_at}
 use Rattle.dn_net.proofs.Ascending.{end_names_ascend}
 use Rattle.dn_net.proofs.Resolution.{end_names_are_ends}
 use Rattle.dn_kind.specs.declared.rights.Access.{Access}
+use Rattle.dn_kind.specs.Kind.{Meaning}
 use Rattle.dn_kind.specs.Tables.{Held, allowing, record_allowing, resolved_names_under, step_limit_under, steps_under}
 use Rattle.dn_flat.specs.Views.{name_of_end, end_of}
-use Rattle.dn_view.specs.Views.{ResolvesFromUnder}
+use Rattle.dn_tables.specs.Set.{record_kept}
+use Rattle.dn_view.specs.Views.{AreViewed, ResolvesFromUnder}
 use Rattle.dn_book.specs.declared.grant.Grant.{Grant}
 use Rattle.dn_book.specs.Book.{IsFaithful, owed_names, records_of}
 use Rattle.dn_book.proofs.Owed.{owed_names_are_resolved}
-use Rattle.dn_shape.proofs.Passing.{ends_in, ends_ascend}
+use Rattle.dn_walk.proofs.Ends.{end_in, ends_ascend}
+use Rattle.dn_tool.specs.declared.state.State.{State as Kept}
+use Rattle.dn_tool.specs.State.{IsState}
 use Rattle.dn_tool.specs.Viewed.{owed_rows}
 
 -- the ends that an address of a node comes to
@@ -27,7 +31,7 @@ ends_at net h n a = map end_of (resolved_names_under net h (record { node = n; a
 resolves_end : (net : List NodeDecl) (h : Held) (n a : ℕ) (y : End) → EndIn y (ends_at net h n a) ↔ ResolvesFromUnder net h n a y
 resolves_end net h n a y =
     let x : Name = record { node = n; addr = a } in
-    let in_list = ends_in (resolved_names_under net h x) (name_of_end y) in
+    let in_list = end_in (resolved_names_under net h x) (name_of_end y) in
     let law = end_names_are_ends (steps_under net h) (is_accepted net) step_limit_under x (name_of_end y) in
     ((λ m. law.0 (in_list.0 m)), (λ r. in_list.1 (law.1 r)))
 
@@ -49,3 +53,13 @@ rows_are_owed net book access n h rows faithful agent same normal =
     rows_listed net (allowing access h) n rows normal
     ∙ ap (λ (k : Held). listed_rows (ends_at net k n)) (held_same net book access h same)
     ∙ ap listed_rows owed
+
+-- so what holds of the rows that a node sees under the tables of a book that is kept holds of those of what it owes
+pub seen_is_owed : (net : List NodeDecl) (kinds : List Meaning) (k : Kept) (access : Access) (n : ℕ) (rows : List Row) (P : List Seen → Type 0) → IsState kinds net k → IsTrue (is_agent_at (slice_get net n)) → AreViewed net (allowing access (record_kept kinds k.book.set)) n rows → P (map seen_by rows) → P (owed_rows net k.book.grants access n)
+seen_is_owed net kinds k access n rows P state agent normal p =
+    subst P (rows_are_owed net k.book.grants access n (record_kept kinds k.book.set) rows state.faithful agent state.kept.held normal) p
+
+-- the same of what it sees under any tables
+pub fixed_is_owed : (net : List NodeDecl) (kinds : List Meaning) (k : Kept) (access : Access) (n : ℕ) (rows : List Row) (P : List Seen → Type 0) → IsState kinds net k → IsTrue (is_agent_at (slice_get net n)) → ((h : Held) → AreViewed net h n rows) → P (map seen_by rows) → P (owed_rows net k.book.grants access n)
+fixed_is_owed net kinds k access n rows P state agent fixed p =
+    seen_is_owed net kinds k access n rows P state agent (fixed (allowing access (record_kept kinds k.book.set))) p

@@ -21,16 +21,6 @@ grant_fault_text NoPlacement = codes "NoPlacement"
 grant_fault_text Device = []
 grant_fault_text OutOfMemory = []
 
--- a fault of a route as it is printed
-abbrev pub route_fault_text : RouteFault → List ℕ
-route_fault_text id_used = codes "IdUsed"
-route_fault_text no_agent = codes "NoAgent"
-route_fault_text no_target = codes "NoTarget"
-route_fault_text book_full = codes "BookFull"
-route_fault_text no_placement = codes "NoPlacement"
-route_fault_text device_fault = []
-route_fault_text no_memory = []
-
 -- the reply to a grant, which has the first address of the buffer in its agent
 abbrev pub granted_text : List ℕ → ℕ → List ℕ
 granted_text id v = id ++ (codes " at " ++ (address_text v ++ codes "\n"))
@@ -43,9 +33,15 @@ grant_refused_text id why = refused_text id (grant_fault_text why)
 abbrev pub routed_text : List ℕ → ℕ → List ℕ
 routed_text id vector = id ++ (codes " vector " ++ (address_text vector ++ codes "\n"))
 
--- the reply to a route that is refused
+-- the reply to a route that is refused; a fault of the device and want of memory are not printed
 abbrev pub route_refused_text : List ℕ → RouteFault → List ℕ
-route_refused_text id why = refused_text id (route_fault_text why)
+route_refused_text id id_used = refused_text id (codes "IdUsed")
+route_refused_text id no_agent = refused_text id (codes "NoAgent")
+route_refused_text id no_target = refused_text id (codes "NoTarget")
+route_refused_text id book_full = refused_text id (codes "BookFull")
+route_refused_text id no_placement = refused_text id (codes "NoPlacement")
+route_refused_text id device_fault = refused_text id []
+route_refused_text id no_memory = refused_text id []
 
 -- the reply to a revoke
 abbrev pub revoked_text : List ℕ → List ℕ

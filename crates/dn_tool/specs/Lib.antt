@@ -1,6 +1,7 @@
 pub mod Refused
 pub mod Compiled
 pub mod Found
+pub mod Terms
 pub mod Viewed
 pub mod Turn
 pub mod Books

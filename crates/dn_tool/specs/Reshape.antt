@@ -27,21 +27,17 @@ divided_text kinds (Err limit) = limit_text (codes "split") limit
 abbrev pub split_text : List Meaning → List NodeDecl → List ℕ
 split_text kinds net = divided_text kinds (split_outcome net)
 
--- the word for the reason for which a node cannot be absorbed
-abbrev pub why_text : Why → List ℕ
-why_text Accepts = codes "accepts"
-why_text Agent = codes "agent"
-why_text Unit = codes "unit"
-why_text Port = codes "port"
-why_text SelfStep = codes "self"
-
--- the reply by a fault and the word behind it
-abbrev pub fault_text : List ℕ → List ℕ → List ℕ → List ℕ
-fault_text name fault word = name ++ (codes " refused: " ++ (fault ++ (codes " " ++ (word ++ codes "\n"))))
+-- the reply by the word for the reason for which the node of this name cannot be absorbed
+abbrev pub reason_text : List ℕ → List ℕ → List ℕ
+reason_text name word = name ++ (codes " refused: NotAbsorbable " ++ (word ++ codes "\n"))
 
 -- the reply where the node of this name cannot be absorbed
 abbrev pub unfit_text : List ℕ → Why → List ℕ
-unfit_text name why = fault_text name (codes "NotAbsorbable") (why_text why)
+unfit_text name Accepts = reason_text name (codes "accepts")
+unfit_text name Agent = reason_text name (codes "agent")
+unfit_text name Unit = reason_text name (codes "unit")
+unfit_text name Port = reason_text name (codes "port")
+unfit_text name SelfStep = reason_text name (codes "self")
 
 -- the reply where the node of this name is not absorbed
 abbrev pub refusal_text : List ℕ → Refusal → List ℕ

@@ -1,5 +1,5 @@
 -- What the code keeps of a script: the book with its tables, the ids, and what is made of them once.
-use Rattle.std.specs.Prelude.{◌≡◌, ◌⊎◌, ℕ, true, List, Option, Some, None, Result, Ok, Err, IsTrue}
+use Rattle.std.specs.Prelude.{◌≡◌, ◌⊎◌, ℕ, true, List, Option, Result, Ok, Err, IsTrue}
 use Rattle.std.specs.Option.{IfSome}
 use Rattle.dn_base.specs.declared.device.TableEvent.{TableEvent}
 use Rattle.dn_base.specs.declared.device.UnitWords.{UnitWords}
@@ -29,11 +29,6 @@ state_view k = record { book = k.book.grants; cleared = k.book.cleared; ids = k.
 -- what is kept of the first agent is what it sees
 abbrev pub IsFirst : List NodeDecl → FirstView → Type 0
 IsFirst net first = IsFlat net first.agent first.flat
-
--- it is kept, and the agent is this one
-abbrev pub IsFirstOf : ℕ → Option FirstView → Type 0
-IsFirstOf agent (Some first) = first.agent ≡ agent
-IsFirstOf agent None = ⊥
 
 -- no call of the device failed, the book is faithful and the tables keep it in words of 64 bits, the
 -- bytes are the image of the tables, and the views are those of the net, where they were made

@@ -1,12 +1,8 @@
 //! The commands that change the book: grants, routes and revokes.
 
 ghost use Rattle.std.specs.Prelude.{◌≡◌, ◌≢◌, true, IfOk, IsTrue, OnOk};
-ghost use Rattle.dn_kind.specs.Rights.{are_rights};
-ghost use Rattle.dn_tool.specs.Changed.{grant_refused_text, granted_text, refused_text, revoked_text, route_refused_text, routed_text};
-ghost use Rattle.dn_tool.specs.Halt.{HaltsByDevice};
-ghost use Rattle.dn_tool.specs.Machine.{kinds_of};
-ghost use Rattle.dn_tool.specs.State.{CameThroughChange, IsReadyOn, state_view};
-ghost use Rattle.dn_tool.specs.Turn.{IsGrantTurn, IsRevokeTurn, IsRouteTurn, IsTurn, is_change, number_or_none, request_of, rights_of};
+ghost use Rattle.dn_kind.specs.Terms.{are_rights};
+ghost use Rattle.dn_tool.specs.Terms.{CameThroughChange, HaltsByDevice, IsGrantTurn, IsReadyOn, IsRevokeTurn, IsRouteTurn, IsTurn, grant_refused_text, granted_text, is_change, kinds_of, number_or_none, refused_text, request_of, revoked_text, rights_of, route_refused_text, routed_text, state_view};
 ghost use Rattle.dn_grant.specs.declared.fault.GrantFault.TheVariants.{Device as grant_device, OutOfMemory as grant_memory};
 ghost use Rattle.dn_vector.specs.declared.fault.RouteFault.TheVariants.{Device as route_device, OutOfMemory as route_memory};
 

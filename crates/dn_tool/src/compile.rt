@@ -2,16 +2,11 @@
 
 ghost use Rattle.std.specs.Prelude.{◌≡◌, ◌≤◌, IfOk, IfSome, IsTrue, None, Result, Ok, Err, length, map};
 ghost use Rattle.std.specs.List.{All, list_all};
-ghost use Rattle.dn_net.specs.Decode.{is_closed};
-ghost use Rattle.dn_kind.specs.Kind.{IsLawful};
-ghost use Rattle.dn_kind.specs.Units.{has_kind, shape_fault};
-ghost use Rattle.dn_module.specs.Commands.{names_within};
-ghost use Rattle.dn_module.specs.Finish.{outcome_view};
-ghost use Rattle.dn_tool.specs.Platform.{IsPlatform};
-ghost use Rattle.dn_base.specs.Answers.{Answers};
-ghost use Rattle.dn_module.specs.Expand.{Outcome};
-ghost use Rattle.dn_tool.specs.Compiled.{compilation, compile_fault_view, expansion_compilation, platform_view, with_refusal};
-ghost use Rattle.dn_tool.specs.Refused.{Refused};
+ghost use Rattle.dn_net.specs.Terms.{is_closed};
+ghost use Rattle.dn_kind.specs.Terms.{IsLawful, has_kind, shape_fault};
+ghost use Rattle.dn_module.specs.Terms.{Outcome, names_within, outcome_view};
+ghost use Rattle.dn_tool.specs.Terms.{IsPlatform, Refused, compilation, compile_fault_view, expansion_compilation, platform_view, with_refusal};
+ghost use Rattle.dn_base.specs.Terms.{Answers};
 
 use crate::refusal;
 use crate::refusal::Refusal;

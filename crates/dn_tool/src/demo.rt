@@ -1,16 +1,12 @@
 //! A demonstration that is run: its commands without their replies, and one line that sums up what came of them.
 
 ghost use Rattle.std.specs.Prelude.{◌≡◌, ◌+◌, ◌-◌, ◌^◌, ◌<◌, [], None, if◌then◌else◌, length, IfOk, OnOk};
-ghost use Rattle.dn_net.specs.Decode.{unit_at};
-ghost use Rattle.dn_kind.specs.Tables.{record_held};
-ghost use Rattle.dn_flat.specs.Stages.{AreFlats};
-ghost use Rattle.dn_tables.specs.Set.{FitsNet, words_of};
-ghost use Rattle.dn_demo.specs.Summary.{summary_text};
-ghost use Rattle.dn_tool.specs.Demo.{IsShown, agent_rows, has_granted, has_revoked, held_records, held_slots, sum_below, summary_with};
-ghost use Rattle.dn_tool.specs.Halt.{HaltsByDevice, HaltsByEither, HaltsBySink, Writes, ending_status};
-ghost use Rattle.dn_tool.specs.Machine.{IsMachine, kinds_of};
-ghost use Rattle.dn_tool.specs.State.{CameThrough, IsReady, IsReadyOn, state_view};
-ghost use Rattle.dn_tool.specs.Turn.{IsTurn, is_change};
+ghost use Rattle.dn_net.specs.Terms.{unit_at};
+ghost use Rattle.dn_kind.specs.Terms.{record_held};
+ghost use Rattle.dn_flat.specs.Terms.{AreFlats};
+ghost use Rattle.dn_tables.specs.Terms.{FitsNet, words_of};
+ghost use Rattle.dn_demo.specs.Terms.{summary_text};
+ghost use Rattle.dn_tool.specs.Terms.{CameThrough, HaltsByDevice, HaltsByEither, HaltsBySink, IsMachine, IsReady, IsReadyOn, IsShown, IsTurn, Writes, agent_rows, ending_status, has_granted, has_revoked, held_records, held_slots, is_change, kinds_of, state_view, sum_below, summary_with};
 
 use crate::change::change;
 use crate::halt::Halt;

@@ -1,7 +1,7 @@
 //! Why an answer stops before its end.
 
 ghost use Rattle.std.specs.Prelude.{◌≡◌};
-ghost use Rattle.dn_tool.specs.Halt.{ending_status, make_halt};
+ghost use Rattle.dn_tool.specs.Terms.{ending_status, make_halt};
 ghost use Rattle.dn_tool.specs.declared.halt.Halt.TheVariants.{NoMemory as no_memory};
 
 use dn_base::device::MakeFault;

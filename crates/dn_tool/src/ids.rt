@@ -2,7 +2,7 @@
 
 ghost use Rattle.std.specs.Prelude.{◌≡◌, [], length, position, IfOk, OnOk};
 ghost use Rattle.std.specs.Str.{bytes_eq};
-ghost use Rattle.dn_tool.specs.Ids.{id_number, with_id};
+ghost use Rattle.dn_tool.specs.Terms.{id_number, with_id};
 
 use indexmap::IndexSet;
 use std::alloc::{AllocError, Global};

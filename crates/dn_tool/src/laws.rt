@@ -1,8 +1,7 @@
 //! Laws on scripts and on the nets that commands make, each the contract of a function that does
 //! nothing.
 
-ghost use Rattle.dn_tool.specs.Books.{BooksStayFaithful, FaithfulImageGivesOwed};
-ghost use Rattle.dn_tool.specs.Reread.{AbsorbIsReadBack, CompiledIsReadBack, SplitIsReadBack};
+ghost use Rattle.dn_tool.specs.Terms.{AbsorbIsReadBack, BooksStayFaithful, CompiledIsReadBack, FaithfulImageGivesOwed, SplitIsReadBack};
 
 /// The book after each number of the turns of a script over a legal net is sound and faithful.
 pub fn books_stay_faithful()

@@ -1,7 +1,7 @@
 //! Writing an output, and the image line by line.
 
-ghost use Rattle.dn_print.specs.Dump.{dump_text};
-ghost use Rattle.dn_tool.specs.Halt.{HaltsBySink, Writes};
+ghost use Rattle.dn_print.specs.Terms.{dump_text};
+ghost use Rattle.dn_tool.specs.Terms.{HaltsBySink, Writes};
 
 use crate::halt::Halt;
 use dn_base::sink::{Sink, WriteFault};

@@ -1,16 +1,14 @@
 //! The refusal of a text: the rule that it breaks, and the line that says so.
 
-ghost use Rattle.std.specs.Prelude.{◌≡◌, ◌<◌, ◌++◌, length, nat_lt, option_map, Some, IfOk, IfSome, OnOk, IsTrue};
+ghost use Rattle.std.specs.Prelude.{◌≡◌, ◌<◌, length, nat_lt, option_map, Some, IfOk, IfSome, IsTrue};
 ghost use Rattle.std.specs.List.{list_all};
-ghost use Rattle.dn_parse.specs.Faults.{parse_fault_view};
-ghost use Rattle.dn_module.specs.Faults.{expand_fault_view};
-ghost use Rattle.std.specs.String.{string_bytes};
-ghost use Rattle.dn_net.specs.Rules.{node_fault_view};
-ghost use Rattle.dn_kind.specs.Levels.{are_there};
-ghost use Rattle.dn_kind.specs.Units.{unit_fault_view};
-ghost use Rattle.dn_walk.specs.Rows.{walk_fault_view};
-ghost use Rattle.dn_print.specs.Names.{name_text};
-ghost use Rattle.dn_tool.specs.Refused.{rule_name, by_text, by_line, by_limit, showing, text_refusal, expand_refusal, node_refusal, unit_refusal, walk_refusal, chain_text, fork_text, units_text, IsNodeWithin, AreNodesWithin};
+ghost use Rattle.dn_parse.specs.Terms.{parse_fault_view};
+ghost use Rattle.dn_module.specs.Terms.{expand_fault_view};
+ghost use Rattle.dn_net.specs.Terms.{node_fault_view};
+ghost use Rattle.dn_kind.specs.Terms.{are_there, unit_fault_view};
+ghost use Rattle.dn_walk.specs.Terms.{walk_fault_view};
+ghost use Rattle.dn_print.specs.Terms.{name_text};
+ghost use Rattle.dn_tool.specs.Terms.{AreNodesWithin, IsNodeWithin, by_limit, by_line, by_text, chain_text, expand_refusal, fork_text, node_refusal, rule_name, showing, text_refusal, unit_refusal, units_text, walk_refusal};
 
 use dn_base::text::Text;
 use dn_kind::units::UnitFault;
@@ -19,6 +17,7 @@ use dn_net::net::Net;
 use dn_net::node::Name;
 use dn_net::rules::NodeFault;
 use dn_parse::reader::ParseFault;
+use dn_print::joined::write_joined;
 use dn_print::names;
 use dn_walk::fault::WalkFault;
 use std::alloc::{AllocError, Global};
@@ -107,7 +106,6 @@ pub struct Refusal {
 }
 
 impl Model for Refusal {
-    ghost use Rattle.dn_print.specs.Names.{name_text};
     ghost use Rattle.dn_tool.specs.Refused.{Refused};
 
     ghost Value = { Refused };
@@ -260,25 +258,8 @@ fn chain_refusal(
     ensures { IfOk result (λ r. r ≡ showing rule (chain_text net.now names.now)) }
 {
     let mut text = String::new(alloc);
-    push_chain(&mut text, net, names)?;
+    write_joined(&mut text, net, " -> ", names)?;
     Refusal::showing(alloc, rule, text.as_str())
-}
-
-/// Appends the names with ` -> ` between each two. For want of memory a part may have been appended.
-fn push_chain(out: &mut String, net: &Net, names: &[Name]) -> Result<(), AllocError>
-    requires { IsTrue (are_there (length net.now) names.now) }
-    ensures { OnOk result (string_bytes out.new ≡
-        string_bytes out.old ++ chain_text net.now names.now) }
-{
-    let [first, rest @ ..] = names else {
-        return Ok(());
-    };
-    names::push_name(out, net, *first)?;
-    for name in rest {
-        out.push_str(" -> ")?;
-        names::push_name(out, net, *name)?;
-    }
-    Ok(())
 }
 
 /// The refusal of a fork, whose line has the name that forks and the unit that it reaches.
@@ -300,24 +281,6 @@ fn units_refusal(alloc: Global, net: &Net, units: &[u16]) -> Result<Refusal, All
     ensures { IfOk result (λ r. r ≡ showing Rule.Chain (units_text net.now units.now)) }
 {
     let mut text = String::new(alloc);
-    push_units(&mut text, net, units)?;
+    write_joined(&mut text, net, " ", units)?;
     Refusal::showing(alloc, Rule::Chain, text.as_str())
-}
-
-/// Appends the full names with a space between each two. For want of memory a part may have been
-/// appended.
-fn push_units(out: &mut String, net: &Net, units: &[u16]) -> Result<(), AllocError>
-    requires { IsTrue (list_all (λ u. nat_lt u (length net.now)) units.now) }
-    ensures { OnOk result (string_bytes out.new ≡
-        string_bytes out.old ++ units_text net.now units.now) }
-{
-    let [first, rest @ ..] = units else {
-        return Ok(());
-    };
-    out.push_str(net.text(*first))?;
-    for unit in rest {
-        out.push_str(" ")?;
-        out.push_str(net.text(*unit))?;
-    }
-    Ok(())
 }

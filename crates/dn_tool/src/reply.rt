@@ -3,25 +3,20 @@
 ghost use Rattle.std.specs.Prelude.{◌≡◌, ◌<◌, List, None, Ok, false, length, map, slice_get, IfOk, IfSome, IsTrue};
 ghost use Rattle.std.specs.String.{string_bytes};
 ghost use Rattle.dn_net.specs.declared.node.Name.{Name as NamePart};
-ghost use Rattle.dn_net.specs.Decode.{is_agent_at, over_within};
-ghost use Rattle.dn_kind.specs.Levels.{are_there};
-ghost use Rattle.dn_module.specs.Commands.{names_within};
-ghost use Rattle.dn_interval.specs.Listed.{seen_by};
-ghost use Rattle.dn_interval.specs.Rows.{ends_within};
-ghost use Rattle.dn_image.specs.Image.{written_version};
-ghost use Rattle.dn_image.specs.Reading.{broken_image, version_of};
-ghost use Rattle.dn_lookup.specs.Lookup.{lookup_of};
-ghost use Rattle.dn_book.specs.Book.{owed_names};
-ghost use Rattle.dn_print.specs.Names.{names_text};
-ghost use Rattle.dn_tool.specs.Found.{access_of, access_text, asked_text, lookup_text, names_under, resolve_text};
-ghost use Rattle.dn_tool.specs.Machine.{IsMachine, kinds_of};
-ghost use Rattle.dn_tool.specs.State.{IsReady, IsStill};
-ghost use Rattle.dn_tool.specs.Turn.{is_change, is_dump, reply};
-ghost use Rattle.dn_tool.specs.Viewed.{no_agent_text, owed_rows, view_text, viewed_text};
+ghost use Rattle.dn_net.specs.Terms.{IsLegalNet, is_agent_at, over_within};
+ghost use Rattle.dn_kind.specs.Terms.{Held, are_there};
+ghost use Rattle.dn_view.specs.Terms.{AreViewed};
+ghost use Rattle.dn_module.specs.Terms.{names_within};
+ghost use Rattle.dn_interval.specs.Terms.{ends_within, seen_by};
+ghost use Rattle.dn_image.specs.Terms.{broken_image, version_of, written_version};
+ghost use Rattle.dn_lookup.specs.Terms.{lookup_of};
+ghost use Rattle.dn_book.specs.Terms.{owed_names};
+ghost use Rattle.dn_print.specs.Terms.{names_text};
+ghost use Rattle.dn_tool.specs.Terms.{IsFirst, IsMachine, IsReady, IsStill, access_of, access_text, asked_text, is_change, is_dump, kinds_of, lookup_text, names_under, no_agent_text, owed_rows, reply, resolve_text, view_text, viewed_text};
 
 use crate::machine::Machine;
 use crate::reshape;
-use crate::state::{State, keep_first, keep_flats, keep_image};
+use crate::state::{FirstView, State, keep_first, keep_flats, keep_image};
 use dn_image::write::VERSION;
 use dn_interval::Rows;
 use dn_kind::rights::Access;
@@ -290,8 +285,8 @@ fn no_agent(alloc: Global, text: &str) -> Result<String, AllocError>
 }
 
 /// What an agent sees under the tables, below a heading with this text, the access and the number of
-/// rows. What all nodes see is made only where the agent reaches a unit, or is not the first one whose
-/// view is asked for.
+/// rows. What all nodes see is made once, and only where the agent reaches a unit, or is not the first
+/// one whose view is asked for.
 fn agent_view(
     alloc: Global,
     machine: Machine,
@@ -307,50 +302,15 @@ fn agent_view(
         (owed_rows machine.entry.net.now state.old.book.grants (access_of mode) node)) }
     ensures still { IsStill meaning machine.entry state.old state.new }
 {
-    if !is_first(state, node) {
-        return shared_view(alloc, machine, state, text, mode, node);
-    }
+    let Machine { net, kinds, .. } = machine;
     keep_first(alloc, machine, &mut state.first, node)?;
-    let Some(first) = &state.first else {
-        unreachable!()
-    };
-    if let Some(rows) = fixed_view(machine.net, &first.flat, node) {
-        return rows_text(alloc, machine.net, text, mode, rows);
+    if let Some(rows) = first_rows(net, &state.first, node) {
+        return rows_text(alloc, net, text, mode, rows);
     }
-    shared_view(alloc, machine, state, text, mode, node)
-}
-
-/// Whether no view of another agent was asked for before that of this one.
-fn is_first(state: &State, node: u16) -> bool
-    ensures { IsTrue result → IfSome state.now.first (λ f. f.agent ≡ node) }
-{
-    match &state.first {
-        Some(first) => first.agent == node,
-        None => true,
-    }
-}
-
-/// The same by what all nodes see: it is made once, and nodes share it.
-fn shared_view(
-    alloc: Global,
-    machine: Machine,
-    state: &mut State,
-    text: &str,
-    mode: Mode,
-    node: u16,
-) -> Result<String, AllocError>
-    requires ready { IsReady meaning machine state.old }
-    requires agent { IsTrue (is_agent_at (slice_get machine.net.now node)) }
-    ensures reply { IfOk result (λ s. string_bytes s ≡
-        viewed_text machine.entry.net.now text.now mode
-        (owed_rows machine.entry.net.now state.old.book.grants (access_of mode) node)) }
-    ensures still { IsStill meaning machine.entry state.old state.new }
-{
     keep_flats(alloc, machine, &mut state.flats)?;
     let Some(flats) = &state.flats else {
         unreachable!()
     };
-    let Machine { net, kinds, .. } = machine;
     if let Some(rows) = fixed_view(net, flats.of(node), node) {
         return rows_text(alloc, net, text, mode, rows);
     }
@@ -358,6 +318,20 @@ fn shared_view(
     let access = access_of(mode);
     let rows = view(alloc, system, state.book.tables(), node, access)?;
     rows_text(alloc, net, text, mode, &rows)
+}
+
+/// To what the addresses of a node resolve under any tables, where what it sees is kept as that of the
+/// first agent, and they reach no unit.
+fn first_rows<'a>(net: &Net, first: &'a Option<FirstView>, node: u16) -> Option<&'a Rows>
+    requires legal { IsLegalNet net.now }
+    requires first { IfSome first.now (IsFirst net.now) }
+    ensures rows { IfSome result (λ rows. (h : Held) → AreViewed net.now h node rows.now) }
+    ensures within { IfSome result (λ rows. IsTrue (ends_within (length net.now) rows.now)) }
+{
+    match first {
+        Some(first) if first.agent == node => fixed_view(net, &first.flat, node),
+        _ => None,
+    }
 }
 
 /// Rows below a heading with this text, the access and their number.

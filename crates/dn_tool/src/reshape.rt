@@ -2,12 +2,10 @@
 
 ghost use Rattle.std.specs.Prelude.{◌≡◌, ◌<◌, length, map, IfOk, IsTrue};
 ghost use Rattle.std.specs.List.{All, list_all};
-ghost use Rattle.dn_kind.specs.Kind.{IsLawful};
-ghost use Rattle.dn_kind.specs.Units.{has_kind};
-ghost use Rattle.dn_net.specs.Decode.{is_closed, over_within};
-ghost use Rattle.dn_shape.specs.Absorb.{absorb_outcome};
-ghost use Rattle.dn_tool.specs.Machine.{IsMachine, kinds_of};
-ghost use Rattle.dn_tool.specs.Reshape.{made_text, limit_text, split_text, fault_text, unfit_text, absorbed_text, no_node_text, absorb_text};
+ghost use Rattle.dn_kind.specs.Terms.{IsLawful, has_kind};
+ghost use Rattle.dn_net.specs.Terms.{is_closed, over_within};
+ghost use Rattle.dn_shape.specs.Terms.{absorb_outcome};
+ghost use Rattle.dn_tool.specs.Terms.{IsMachine, absorb_text, absorbed_text, kinds_of, limit_text, made_text, no_node_text, reason_text, split_text, unfit_text};
 
 use crate::machine::Machine;
 use dn_kind::kinds::Kinds;
@@ -88,19 +86,19 @@ fn unfit(alloc: Global, name: &str, why: Why) -> Result<Vec<u8>, AllocError>
     ensures { IfOk result (λ v. v.items ≡ unfit_text name.now why) }
 {
     match why {
-        Why::Accepts => fault_reply(alloc, name, "NotAbsorbable", "accepts"),
-        Why::Agent => fault_reply(alloc, name, "NotAbsorbable", "agent"),
-        Why::Unit => fault_reply(alloc, name, "NotAbsorbable", "unit"),
-        Why::Port => fault_reply(alloc, name, "NotAbsorbable", "port"),
-        Why::SelfStep => fault_reply(alloc, name, "NotAbsorbable", "self"),
+        Why::Accepts => reason_reply(alloc, name, "accepts"),
+        Why::Agent => reason_reply(alloc, name, "agent"),
+        Why::Unit => reason_reply(alloc, name, "unit"),
+        Why::Port => reason_reply(alloc, name, "port"),
+        Why::SelfStep => reason_reply(alloc, name, "self"),
     }
 }
 
-/// The reply by a fault and the word behind it.
-fn fault_reply(alloc: Global, name: &str, fault: &str, word: &str) -> Result<Vec<u8>, AllocError>
-    ensures { IfOk result (λ v. v.items ≡ fault_text name.now fault.now word.now) }
+/// The reply by the word for the reason.
+fn reason_reply(alloc: Global, name: &str, word: &str) -> Result<Vec<u8>, AllocError>
+    ensures { IfOk result (λ v. v.items ≡ reason_text name.now word.now) }
 {
-    Ok(format!(in alloc; "{name} refused: {fault} {word}\n")?.into_bytes())
+    Ok(format!(in alloc; "{name} refused: NotAbsorbable {word}\n")?.into_bytes())
 }
 
 /// The reply where there is no such node.

@@ -3,14 +3,11 @@
 ghost use Rattle.std.specs.Prelude.{◌≡◌, ◌≢◌, ℕ, List, ◌==◌, ◌-◌, ◌<◌, ◌≤◌, ◌⊎◌, ◌++◌, [], true, false, codes, length, map, IfOk, None, take};
 ghost use Rattle.std.specs.List.{All};
 ghost use Rattle.std.specs.Option.{IfSome};
-ghost use Rattle.dn_base.specs.Outside.{AtEnd, IsCounted, Taken, TakenAtMost, input_limit};
-ghost use Rattle.dn_kind.specs.Kind.{IsLawful};
-ghost use Rattle.dn_kind.specs.Units.{shape_fault};
-ghost use Rattle.dn_words.specs.Words.{task_of};
-ghost use Rattle.dn_tool.specs.Answer.{IsAnswered, IsInput, IsSaid, answer, demo_answer, is_script, reads, task_answer, text_answer, usage};
-ghost use Rattle.dn_tool.specs.Halt.{HaltsByEither, HaltsBySink, ending_status, is_free};
-ghost use Rattle.dn_tool.specs.Machine.{IsMachine, kinds_of};
-ghost use Rattle.dn_print.specs.Statement.{net_text};
+ghost use Rattle.dn_base.specs.Terms.{AtEnd, IsCounted, Taken, TakenAtMost, input_limit};
+ghost use Rattle.dn_kind.specs.Terms.{IsLawful, shape_fault};
+ghost use Rattle.dn_words.specs.Terms.{task_of};
+ghost use Rattle.dn_tool.specs.Terms.{HaltsByEither, HaltsBySink, IsAnswered, IsInput, IsMachine, IsSaid, answer, demo_answer, ending_status, is_free, is_script, kinds_of, reads, task_answer, text_answer, usage};
+ghost use Rattle.dn_print.specs.Terms.{net_text};
 
 use crate::compile;
 use crate::compile::{CompileFault, Platform};

@@ -2,15 +2,11 @@
 
 ghost use Rattle.std.specs.Prelude.{◌≡◌, [], false, length, IfOk, IsTrue, OnOk};
 ghost use Rattle.std.specs.List.{list_all};
-ghost use Rattle.dn_image.specs.Image.{image};
-ghost use Rattle.dn_book.specs.Tables.{tables_of};
-ghost use Rattle.dn_print.specs.Dump.{dump_text};
-ghost use Rattle.dn_module.specs.Commands.{names_within};
-ghost use Rattle.dn_tool.specs.Halt.{HaltsByEither, HaltsBySink, Writes, ending_status};
-ghost use Rattle.dn_tool.specs.Machine.{IsMachine, kinds_of};
-ghost use Rattle.dn_tool.specs.Played.{IsPlayed};
-ghost use Rattle.dn_tool.specs.State.{CameThrough, IsReady, IsReadyOn, IsStill, state_view};
-ghost use Rattle.dn_tool.specs.Turn.{IsTurn, is_change, is_dump, reply};
+ghost use Rattle.dn_image.specs.Terms.{image};
+ghost use Rattle.dn_book.specs.Terms.{tables_of};
+ghost use Rattle.dn_print.specs.Terms.{dump_text};
+ghost use Rattle.dn_module.specs.Terms.{names_within};
+ghost use Rattle.dn_tool.specs.Terms.{CameThrough, HaltsByEither, HaltsBySink, IsMachine, IsPlayed, IsReady, IsReadyOn, IsStill, IsTurn, Writes, ending_status, is_change, is_dump, kinds_of, reply, state_view};
 
 use crate::change::change;
 use crate::halt::Halt;

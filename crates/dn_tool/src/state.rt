@@ -2,18 +2,13 @@
 
 ghost use Rattle.std.specs.Prelude.{◌≡◌, ◌^◌, ◌<◌, [], true, is_ok, length, map, nat_lt, IfOk, IfSome, IsSome, IsTrue, OnOk};
 ghost use Rattle.std.specs.List.{list_all};
-ghost use Rattle.dn_base.specs.Device.{is_make_fault};
-ghost use Rattle.dn_base.specs.Outside.{IsCounted};
-ghost use Rattle.dn_flat.specs.Stages.{AreFlats};
-ghost use Rattle.dn_image.specs.Image.{are_filled, image};
-ghost use Rattle.dn_tables.specs.Set.{FitsNet, fresh_set, tables_of_set, units_of, words_in, words_of};
-ghost use Rattle.dn_tables.specs.Writes.{AreUnitsMade};
-ghost use Rattle.dn_walk.specs.Rows.{AreWalksOf};
-ghost use Rattle.dn_book.specs.Book.{IsFaithful};
-ghost use Rattle.dn_book.specs.Tables.{IsKept};
-ghost use Rattle.dn_tool.specs.Machine.{IsMachine, kinds_of};
-ghost use Rattle.dn_tool.specs.State.{IsFirst, IsFirstOf, IsReadyOn, IsStill, state_view};
-ghost use Rattle.dn_tool.specs.Turn.{start};
+ghost use Rattle.dn_base.specs.Terms.{IsCounted, is_make_fault};
+ghost use Rattle.dn_flat.specs.Terms.{AreFlats};
+ghost use Rattle.dn_image.specs.Terms.{are_filled, image};
+ghost use Rattle.dn_tables.specs.Terms.{AreUnitsMade, FitsNet, fresh_set, tables_of_set, units_of, words_in, words_of};
+ghost use Rattle.dn_walk.specs.Terms.{AreWalksOf};
+ghost use Rattle.dn_book.specs.Terms.{IsFaithful, IsKept};
+ghost use Rattle.dn_tool.specs.Terms.{IsFirst, IsMachine, IsReadyOn, IsStill, kinds_of, start, state_view};
 
 use crate::ids::Ids;
 use crate::machine::Machine;
@@ -112,7 +107,7 @@ pub fn keep_image(
     Ok(())
 }
 
-/// Makes what an agent sees, where none was asked for before. `Err` is want of memory.
+/// Makes what an agent sees, where no view of an agent was asked for before. `Err` is want of memory.
 pub fn keep_first(
     alloc: Global,
     machine: Machine,
@@ -121,10 +116,8 @@ pub fn keep_first(
 ) -> Result<(), AllocError>
     requires walked { AreWalksOf machine.net.now machine.walks.now }
     requires first { IfSome first.old (IsFirst machine.net.now) }
-    requires same { IfSome first.old (λ f. f.agent ≡ agent) }
     requires there { agent < length machine.net.now }
     ensures first { IfSome first.new (IsFirst machine.entry.net.now) }
-    ensures made { OnOk result (IsFirstOf agent first.new) }
 {
     if first.is_some() {
         return Ok(());

@@ -6,11 +6,10 @@ use Rattle.std.specs.List.{All}
 use Rattle.dn_net.specs.declared.node.NodeDecl.{NodeDecl}
 use Rattle.dn_net.specs.Legal.{IsLegalNet}
 use Rattle.dn_tables.specs.declared.table.NodeTable.{NodeTable}
-use Rattle.dn_view.specs.Addition.{AreProper}
 use Rattle.dn_view.proofs.AddedLaw.{refusal_is_complete}
 use Rattle.dn_book.specs.Tables.{IsKept}
 use Rattle.dn_book.proofs.Faithful.{grant_keeps_book}
-use Rattle.dn_book.proofs.KeptEmpty.{kept_records_are_proper}
+use Rattle.dn_place.proofs.Proper.{proper_slots}
 use Rattle.dn_net.specs.Decode.{is_agent_at}
 use Rattle.dn_kind.specs.Kind.{IsLawful, Meaning}
 use Rattle.dn_tables.specs.Placement.{Place}
@@ -135,17 +134,6 @@ placed_logged net kinds book cleared id agent line node v p rq failed log log' e
   placed = is;
   added = subst (λ r. AreAdded (grant_events net kinds book cleared (grant_of id r p)) failed log log') e added;
 }
-
--- the slots as a book that is kept leaves them are proper
-proper_slots : (net : List NodeDecl) (kinds : List Meaning) (book : List Grant) (set : List NodeTable) →
-    All IsLawful kinds → IsKept net kinds book set → AreProper net (slots_of net book)
-proper_slots net kinds book set lawful kept =
-    let k = kept_records_are_proper net kinds book set lawful kept in
-    record {
-      held = k.0;
-      empty = λ node slot free r e. (let f : None ≡ Some r = sym (k.1 node slot free) ∙ e in cc);
-      shared = k.2;
-    }
 
 -- where no vector has an admissible placement, no addition gives one
 pub no_addition : (net : List NodeDecl) (kinds : List Meaning) (book : List Grant) (set : List NodeTable)

@@ -2,4 +2,5 @@ pub mod Faults
 pub mod Refusal
 pub mod Route
 pub mod Search
+pub mod Terms
 pub mod Vectors

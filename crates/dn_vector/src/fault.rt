@@ -1,7 +1,7 @@
 //! Why a line is not routed.
 
 ghost use Rattle.std.specs.Prelude.{◌≡◌};
-ghost use Rattle.dn_vector.specs.Faults.{fault_of_commit};
+ghost use Rattle.dn_vector.specs.Terms.{fault_of_commit};
 ghost use Rattle.dn_vector.specs.declared.fault.RouteFault.TheVariants.{OutOfMemory as no_memory};
 
 use dn_book::book::CommitFault;

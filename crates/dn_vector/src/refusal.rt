@@ -1,7 +1,7 @@
 //! The refusals of a route that need no search.
 
 ghost use Rattle.std.specs.Prelude.{◌≡◌};
-ghost use Rattle.dn_vector.specs.Refusal.{route_refusal};
+ghost use Rattle.dn_vector.specs.Terms.{route_refusal};
 
 use crate::fault::RouteFault;
 use dn_book::book::Book;

@@ -1,14 +1,11 @@
 //! Routing a line of an agent to an interrupt vector.
 
 ghost use Rattle.std.specs.Prelude.{◌≡◌, ◌≢◌, map, not, true, false, is_err, IfSome, OnOk, OnErr};
-ghost use Rattle.dn_base.specs.Outside.{IsCounted};
-ghost use Rattle.dn_tables.specs.Set.{FitsNet, IsOnDevice};
-ghost use Rattle.dn_book.specs.Book.{IsFaithful};
-ghost use Rattle.dn_book.specs.Tables.{IsKept};
-ghost use Rattle.dn_view.specs.Systems.{IsSystem};
-ghost use Rattle.dn_vector.specs.Faults.{is_route_fault};
-ghost use Rattle.dn_vector.specs.Refusal.{route_refusal};
-ghost use Rattle.dn_vector.specs.Route.{IsRouteLogged, IsRouteTurn, NoAddition};
+ghost use Rattle.dn_base.specs.Terms.{IsCounted};
+ghost use Rattle.dn_tables.specs.Terms.{FitsNet, IsOnDevice};
+ghost use Rattle.dn_book.specs.Terms.{IsFaithful, IsKept};
+ghost use Rattle.dn_view.specs.Terms.{IsSystem};
+ghost use Rattle.dn_vector.specs.Terms.{IsRouteLogged, IsRouteTurn, NoAddition, is_route_fault, route_refusal};
 
 use crate::fault::RouteFault;
 use crate::refusal::refusal;

@@ -1,22 +1,17 @@
 //! The least vector that has an admissible placement at a line.
 
-ghost use Rattle.std.specs.Prelude.{◌≡◌, ◌<◌, ◌≤◌, ◌+◌, ℕ, true, map, slice_get, None, Some, IfOk, IfSome, IsTrue};
-ghost use Rattle.dn_interval.specs.Spans.{has};
-ghost use Rattle.dn_net.specs.Decode.{is_agent_at, top};
-ghost use Rattle.dn_kind.specs.Rights.{are_rights};
-ghost use Rattle.dn_placement.specs.Order.{IsFirst, NoneSuited};
-ghost use Rattle.dn_book.specs.Book.{slots_of};
-ghost use Rattle.dn_book.specs.Tables.{IsKept};
-ghost use Rattle.dn_view.specs.Systems.{IsSystem};
-ghost use Rattle.dn_vector.specs.Route.{HasNoPlace};
-ghost use Rattle.dn_vector.specs.Search.{IsLeastAmong, IsLeastOf};
-ghost use Rattle.dn_vector.specs.Vectors.{vector_request};
+ghost use Rattle.std.specs.Prelude.{◌≡◌, ◌≤◌, ℕ, true, map, slice_get, None, IfOk, IfSome, IsTrue};
+ghost use Rattle.dn_interval.specs.Terms.{has};
+ghost use Rattle.dn_net.specs.Terms.{is_agent_at};
+ghost use Rattle.dn_book.specs.Terms.{IsKept};
+ghost use Rattle.dn_view.specs.Terms.{IsSystem};
+ghost use Rattle.dn_vector.specs.Terms.{HasNoPlace, IsLeastAmong, IsLeastOf, vector_request};
 
 use dn_base::OutOfMemory;
 use dn_book::book::Book;
 use dn_interval::{Span, SpanSet};
 use dn_kind::rights::Rights;
-use dn_place::first::first;
+use dn_place::booked::first_in_book;
 use dn_placement::request::Request;
 use dn_tables::placement::Placement;
 use dn_view::system::System;
@@ -86,38 +81,11 @@ fn least_of(
 {
     for vector in span.lo..span.hi + 1 {
         let request = vector_request(agent, node, vector);
-        if let Some(placement) = first_at(alloc, book, system, &request, line)? {
+        if let Some(placement) = first_in_book(alloc, book, system, &request, Some(line))? {
             return Ok(Some(Found { vector, placement }));
         }
     }
     Ok(None)
-}
-
-/// The first admissible placement of a request at an address of its agent, in the slots as a book
-/// leaves them. `None` exactly where there is none. `Err` is want of memory.
-fn first_at(
-    alloc: Global,
-    book: &Book,
-    system: System,
-    request: &Request,
-    at: u64,
-) -> Result<Option<Placement>, OutOfMemory>
-    requires system { IsSystem (λ k. meaning (k.vtable, k.value)) system }
-    requires kept { IsKept system.net.now
-        (map (λ k. meaning (k.vtable, k.value)) system.kinds.now.list.items)
-        book.now.grants book.now.set }
-    requires agent { IsTrue (is_agent_at (slice_get system.net.now request.now.agent)) }
-    requires rights { IsTrue (are_rights request.now.rights) }
-    requires some { 1 ≤ request.now.size }
-    requires buffer { request.now.base + request.now.size ≤ top + 1 }
-    ensures first { IfOk result (λ found. IfSome found (λ p. IsFirst system.entry.net.now
-        (slots_of system.entry.net.now book.now.grants) request.now (Some at) p)) }
-    ensures none { IfOk result (λ found. found ≡ None → NoneSuited system.entry.net.now
-        (slots_of system.entry.net.now book.now.grants) request.now (Some at)) }
-{
-    let tables = book.tables();
-    tables.facts();
-    first(alloc, system, tables, request, Some(at))
 }
 
 /// The request for a vector: one address of its node, for reading and writing.

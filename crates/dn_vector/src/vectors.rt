@@ -2,10 +2,9 @@
 
 ghost use Rattle.std.specs.Prelude.{◌≡◌, ◌<◌, ◌≤◌, ℕ, length, IfOk};
 ghost use Rattle.std.specs.List.{list_any};
-ghost use Rattle.dn_interval.specs.Spans.{has, AreMaximal};
-ghost use Rattle.dn_net.specs.Decode.{top};
-ghost use Rattle.dn_net.specs.Rules.{KeepsNodeRules};
-ghost use Rattle.dn_vector.specs.Vectors.{has_vector, in_some_span, is_free_vector};
+ghost use Rattle.dn_interval.specs.Terms.{AreMaximal, has};
+ghost use Rattle.dn_net.specs.Terms.{KeepsNodeRules, top};
+ghost use Rattle.dn_vector.specs.Terms.{has_vector, in_some_span, is_free_vector};
 
 use dn_base::OutOfMemory;
 use dn_book::grant::Grant;

@@ -1,5 +1,5 @@
 -- What an agent's addresses show newly, from the segments of its stops.
-use Rattle.std.proofs.Common.{◌≡◌, ℕ, ◌<◌, ◌≤◌, ◌↔◌, true, false, ◌&&◌, nat_eq, List, length, slice_get, IsTrue, refl, sym, ap, ◌∙◌, eq-eqb}
+use Rattle.std.proofs.Common.{◌≡◌, ℕ, ◌<◌, ◌≤◌, ◌↔◌, true, false, ◌&&◌, nat_eq, List, length, slice_get, IsTrue, sym, ap, ◌∙◌, eq-eqb}
 use Rattle.std.proofs.lemmas.Bool.{false≢true}
 use Rattle.dn_interval.specs.declared.row.End.{End}
 use Rattle.dn_interval.specs.declared.row.Seg.{Seg}
@@ -7,7 +7,7 @@ use Rattle.dn_interval.specs.declared.span.TheConstants.{TOP}
 use Rattle.dn_interval.specs.Onward.{rows_of}
 use Rattle.dn_interval.specs.Strands.{segs_give, rows_give}
 use Rattle.dn_net.specs.declared.node.NodeDecl.{NodeDecl}
-use Rattle.dn_net.specs.Decode.{is_agent_at, StopsAt}
+use Rattle.dn_net.specs.Decode.{StopsAt}
 use Rattle.dn_kind.specs.declared.rights.Access.{Access}
 use Rattle.dn_kind.specs.Rights.{allows}
 use Rattle.dn_kind.specs.Tables.{Held, allowing}
@@ -18,21 +18,13 @@ use Rattle.dn_tables.specs.Placement.{Place}
 use Rattle.dn_placement.specs.declared.request.Request.{Request}
 use Rattle.dn_placement.specs.Records.{joined_records, placed_records}
 use Rattle.dn_view.specs.declared.pass.Part.TheVariants.{Stops}
-use Rattle.dn_view.specs.Exact.{IsAdded, IsExactAt}
+use Rattle.dn_view.specs.Exact.{IsAdded}
 use Rattle.dn_view.specs.Passes.{rows_part}
 use Rattle.dn_view.specs.Records.{fresh_records}
 use Rattle.dn_view.specs.Through.{ComesNewly}
 use Rattle.dn_view.proofs.Viewed.{node_stops}
 
 module _ (net : List NodeDecl) (h : Held) (rq : Request) (p : Place) (access : Access) (node : ℕ) where
-  -- a node that is no agent
-  pub exact_no_agent : is_agent_at (slice_get net node) ≡ false → (true ≡ true) ↔ (IsTrue (is_agent_at (slice_get net node)) → IsExactAt net h rq p access node)
-  exact_no_agent e = ((λ t a. absurd (false≢true (sym e ∙ a))), (λ f. refl))
-
-  -- an agent
-  pub exact_agent : {P : Type 0} → is_agent_at (slice_get net node) ≡ true → P ↔ IsExactAt net h rq p access node → P ↔ (IsTrue (is_agent_at (slice_get net node)) → IsExactAt net h rq p access node)
-  exact_agent e f = ((λ x a. f.0 x), (λ k. f.1 (k e)))
-
   pub not_asked : (nat_eq node rq.agent && allows rq.rights access) ≡ false → node ≡ rq.agent → IsTrue (allows rq.rights access) → ⊥
   not_asked e own allowed = absurd (false≢true (sym e ∙ ap (λ b. b && allows rq.rights access) (eq-eqb node rq.agent own) ∙ allowed))
 

@@ -1,17 +1,27 @@
 -- What a system under tables gives, and a course in it: records that its units can hold.
-use Rattle.std.proofs.Common.{map, List}
+use Rattle.std.proofs.Common.{◌↔◌, map, List, IsTrue}
 use Rattle.std.specs.List.{All}
 use Rattle.std.specs.declared.alloc.Global.{Global}
 use Rattle.std.specs.declared.dyn_box.DynBox.{DynBox}
+use Rattle.dn_kind.specs.declared.rights.Access.{Access}
 use Rattle.dn_kind.specs.Kind.{Meaning, IsLawful}
+use Rattle.dn_kind.specs.Rights.{are_rights}
 use Rattle.dn_kind.specs.Tables.{AreHeld}
 use Rattle.dn_tables.specs.declared.table.NodeTable.{NodeTable}
-use Rattle.dn_tables.specs.Set.{FitsNet, record_kept}
+use Rattle.dn_tables.specs.Placement.{Place}
+use Rattle.dn_tables.specs.Set.{FitsNet, IsSet, record_kept}
 use Rattle.dn_tables.proofs.Slots.{all_of_map}
+use Rattle.dn_placement.specs.declared.request.Request.{Request}
+use Rattle.dn_placement.specs.Exposure.{IsAdmissible}
+use Rattle.dn_placement.specs.Placement.{IsPlacement}
+use Rattle.dn_placement.specs.Slots.{slots_of_set}
 use Rattle.dn_view.specs.declared.course.Course.{Course}
 use Rattle.dn_view.specs.declared.system.System.{System}
 use Rattle.dn_view.specs.Courses.{IsCourse, course_records}
+use Rattle.dn_view.specs.Exact.{AreExact}
 use Rattle.dn_view.specs.Systems.{IsSystem}
+use Rattle.dn_view.proofs.Exposed.{admissible_is_exact}
+use Rattle.dn_view.proofs.Free.{free_empty}
 use Rattle.dn_view.proofs.Held.{kept_are_held}
 use Rattle.dn_view.proofs.Taken.{allowed_taken_are_held}
 
@@ -26,3 +36,7 @@ system_held means system set is fits = kept_are_held system.net.now (map means s
 -- so can they the records of a course
 pub course_held : {K : Type 0} {V : K → Type 0} (means : DynBox K Global V → Meaning) (course : Course K V) → IsCourse means course → AreHeld course.system.net.now (course_records means course)
 course_held means course is = allowed_taken_are_held course.system.net.now (record_kept (map means course.system.kinds.now.list.items) course.tables.now) course.records course.access is.system.legal.legal.shapes (system_held means course.system course.tables.now is.system is.fits) is.fitting
+
+-- a placement is admissible where it is exact for each access
+pub system_exact : {K : Type 0} {V : K → Type 0} (means : DynBox K Global V → Meaning) (system : System K V) (set : List NodeTable) (rq : Request) (p : Place) → IsSystem means system → FitsNet system.net.now (map means system.kinds.now.list.items) set → IsSet set → IsTrue (are_rights rq.rights) → IsPlacement system.net.now (slots_of_set (map means system.kinds.now.list.items) set) rq p → ((access : Access) → AreExact system.net.now (record_kept (map means system.kinds.now.list.items) set) rq p access) ↔ IsAdmissible system.net.now (record_kept (map means system.kinds.now.list.items) set) rq p
+system_exact means system set rq p is fits whole rights placed = admissible_is_exact system.net.now (slots_of_set (map means system.kinds.now.list.items) set) rq p is.legal.legal (system_held means system set is fits) rights (free_empty system.net.now (map means system.kinds.now.list.items) set (system_lawful means system is) fits whole) placed

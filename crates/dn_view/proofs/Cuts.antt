@@ -30,39 +30,50 @@ pub sent_name : (o : Option ℕ) (a : ℕ) (x : Name) → ◌≡◌ {A = List Na
 sent_name None a x e = cc
 sent_name (Some p) a x e = let f : ◌≡◌ {A = Name} x (record { node = p; addr = a }) = cc in (ap (λ (n : Name). Some n.node) (sym f), ap (λ (n : Name). n.addr) f)
 
-module _ (u : UnitPart) (r : Record) (s : Seg) (slot from to : ℕ) (x : Name) (plain : IsTrue (is_plain (unit_shape u))) (within : IsTrue (is_within (unit_shape u) r)) (begins : s.base / 2 ^ u.page ≤ slot) (ends : slot ≤ (s.base + (s.span.hi - s.span.lo)) / 2 ^ u.page) (ef : from ≡ max s.base (slot * 2 ^ u.page)) (et : to ≡ min (s.base + (s.span.hi - s.span.lo)) (slot * 2 ^ u.page + (2 ^ u.page - 1))) (ex : x.addr ≡ r.page * 2 ^ u.page + from % 2 ^ u.page) where
+-- the part of a segment from one name to another that stands in a slot of a unit, and the name to which the
+-- record of the slot sends the first
+pub record IsCut (u : UnitPart) (r : Record) (s : Seg) (slot from to : ℕ) (x : Name) : Type 0 where
+  pub plain : IsTrue (is_plain (unit_shape u))
+  pub within : IsTrue (is_within (unit_shape u) r)
+  pub begins : s.base / 2 ^ u.page ≤ slot
+  pub ends : slot ≤ (s.base + (s.span.hi - s.span.lo)) / 2 ^ u.page
+  pub from_is : from ≡ max s.base (slot * 2 ^ u.page)
+  pub to_is : to ≡ min (s.base + (s.span.hi - s.span.lo)) (slot * 2 ^ u.page + (2 ^ u.page - 1))
+  pub name_is : x.addr ≡ r.page * 2 ^ u.page + from % 2 ^ u.page
+
+module _ (u : UnitPart) (r : Record) (s : Seg) (slot from to : ℕ) (x : Name) (k : IsCut u r s slot from to x) where
   pub in_part_is : (a : ℕ) → (nat_le (s.span.lo + (from - s.base)) a && nat_le a (s.span.lo + (to - s.base))) ≡ in_slot u.page slot s a
   in_part_is a = same_test (nat_le (s.span.lo + (from - s.base)) a && nat_le a (s.span.lo + (to - s.base))) (in_slot u.page slot s a) into back
     where
       into : IsTrue (nat_le (s.span.lo + (from - s.base)) a && nat_le a (s.span.lo + (to - s.base))) → IsTrue (in_slot u.page slot s a)
       into t =
           let b = and_parts (nat_le (s.span.lo + (from - s.base)) a) (nat_le a (s.span.lo + (to - s.base))) t in
-          let p = in_part (2 ^ u.page) s.base s.span.lo s.span.hi slot (pow_pos u.page) s.span.ordered begins ends from to ef et a (leb-true (s.span.lo + (from - s.base)) a b.0) (leb-true a (s.span.lo + (to - s.base)) b.1) in
+          let p = in_part (2 ^ u.page) s.base s.span.lo s.span.hi slot (pow_pos u.page) s.span.ordered k.begins k.ends from to k.from_is k.to_is a (leb-true (s.span.lo + (from - s.base)) a b.0) (leb-true a (s.span.lo + (to - s.base)) b.1) in
           true_all (nat_le s.span.lo a) (nat_le a s.span.hi) (nat_eq ((s.base + (a - s.span.lo)) / 2 ^ u.page) slot) (le-leb s.span.lo a p.0) (le-leb a s.span.hi p.1) (eq-eqb ((s.base + (a - s.span.lo)) / 2 ^ u.page) slot p.2)
 
       back : IsTrue (in_slot u.page slot s a) → IsTrue (nat_le (s.span.lo + (from - s.base)) a && nat_le a (s.span.lo + (to - s.base)))
       back t =
           let b = all_true (nat_le s.span.lo a) (nat_le a s.span.hi) (nat_eq ((s.base + (a - s.span.lo)) / 2 ^ u.page) slot) t in
-          let p = of_part (2 ^ u.page) s.base s.span.lo s.span.hi slot (pow_pos u.page) s.span.ordered begins ends from to ef et a (leb-true s.span.lo a b.0) (leb-true a s.span.hi b.1) (eqb-true ((s.base + (a - s.span.lo)) / 2 ^ u.page) slot b.2) in
+          let p = of_part (2 ^ u.page) s.base s.span.lo s.span.hi slot (pow_pos u.page) s.span.ordered k.begins k.ends from to k.from_is k.to_is a (leb-true s.span.lo a b.0) (leb-true a s.span.hi b.1) (eqb-true ((s.base + (a - s.span.lo)) / 2 ^ u.page) slot b.2) in
           ap (λ c. c && nat_le a (s.span.lo + (to - s.base))) (le-leb (s.span.lo + (from - s.base)) a p.0) ∙ le-leb a (s.span.lo + (to - s.base)) p.1
 
   pub part_name : (a : ℕ) → IsTrue (nat_le (s.span.lo + (from - s.base)) a && nat_le a (s.span.lo + (to - s.base))) → x.addr + (a - (s.span.lo + (from - s.base))) ≡ r.page * 2 ^ u.page + (s.base + (a - s.span.lo)) % 2 ^ u.page
   part_name a t =
       let b = and_parts (nat_le (s.span.lo + (from - s.base)) a) (nat_le a (s.span.lo + (to - s.base))) t in
-      ap (λ n. n + (a - (s.span.lo + (from - s.base)))) ex
-      ∙ part_names (2 ^ u.page) s.base s.span.lo s.span.hi slot (pow_pos u.page) s.span.ordered begins ends from to ef et a (r.page * 2 ^ u.page) (leb-true (s.span.lo + (from - s.base)) a b.0) (leb-true a (s.span.lo + (to - s.base)) b.1)
+      ap (λ n. n + (a - (s.span.lo + (from - s.base)))) k.name_is
+      ∙ part_names (2 ^ u.page) s.base s.span.lo s.span.hi slot (pow_pos u.page) s.span.ordered k.begins k.ends from to k.from_is k.to_is a (r.page * 2 ^ u.page) (leb-true (s.span.lo + (from - s.base)) a b.0) (leb-true a (s.span.lo + (to - s.base)) b.1)
 
   -- the last name of the part is at or below the last address
   pub part_fits : x.addr + ((s.span.lo + (to - s.base)) - (s.span.lo + (from - s.base))) ≤ TOP
   part_fits =
-      let p : IsPartIn (2 ^ u.page) s.base s.span.lo s.span.hi slot (pow_pos u.page) s.span.ordered begins ends from to = part_in (2 ^ u.page) s.base s.span.lo s.span.hi slot (pow_pos u.page) s.span.ordered begins ends from to ef et in
+      let p : IsPartIn (2 ^ u.page) s.base s.span.lo s.span.hi slot (pow_pos u.page) s.span.ordered k.begins k.ends from to = part_in (2 ^ u.page) s.base s.span.lo s.span.hi slot (pow_pos u.page) s.span.ordered k.begins k.ends from to k.from_is k.to_is in
       let p1 = p.onward in
       let p2 = p.order in
       let a : ℕ = s.span.lo + (to - s.base) in
       let f : s.span.lo + (from - s.base) ≤ a = omega arith in
-      let e = part_names (2 ^ u.page) s.base s.span.lo s.span.hi slot (pow_pos u.page) s.span.ordered begins ends from to ef et a (r.page * 2 ^ u.page) f (omega arith) in
-      let small = output_small (unit_shape u) r (s.base + (a - s.span.lo)) plain within in
-      let g = ex in
+      let e = part_names (2 ^ u.page) s.base s.span.lo s.span.hi slot (pow_pos u.page) s.span.ordered k.begins k.ends from to k.from_is k.to_is a (r.page * 2 ^ u.page) f (omega arith) in
+      let small = output_small (unit_shape u) r (s.base + (a - s.span.lo)) k.plain k.within in
+      let g = k.name_is in
       omega arith
 
 -- what the name of an address in a slot with this record, or with none, goes on to

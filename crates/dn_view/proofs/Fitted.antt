@@ -65,6 +65,12 @@ hops_next net size rights own place hops node slot d l =
     ap (λ hs. hops_records net size rights own place hs node slot) (drop-cons hops place d l)
     ∙ ap (λ n. or_record (hop_record net size (hop_rights rights own place) (get_or hops place d) node slot) (hops_records net size rights own n (drop n hops) node slot)) (sym (add-one place))
 
+-- the same, where the rights and the record of the hop at the place were found
+pub hops_on : (net : List NodeDecl) (size : ℕ) (rights these : Rights) (own place : ℕ) (hops : List Hop) (node slot : ℕ) (d : Hop) (this : Option Record) → place < length hops → these ≡ hop_rights rights own place → this ≡ hop_record net size these (get_or hops place d) node slot → hops_records net size rights own place (drop place hops) node slot ≡ or_record this (hops_records net size rights own (place + 1) (drop (place + 1) hops) node slot)
+hops_on net size rights these own place hops node slot d this l er e =
+    hops_next net size rights own place hops node slot d l
+    ∙ ap (λ o. or_record o (hops_records net size rights own (place + 1) (drop (place + 1) hops) node slot)) (sym (e ∙ ap (λ r. hop_record net size r (get_or hops place d) node slot) er))
+
 -- a record is found at a hop
 pub hop_found : (whole this rest : Option Record) → whole ≡ or_record this rest → true ≡ is_some this → this ≡ whole
 hop_found whole this rest e f = sym (e ∙ record_by this rest true (sym f))

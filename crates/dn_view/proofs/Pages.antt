@@ -125,7 +125,6 @@ module _ (w base lo hi page : ℕ) (pos : 0 < w) (ordered : lo ≤ hi) (begins :
       let p : IsPartIn from to = part_in from to ef et in
       let p1 = p.onward in
       let p2 = p.order in
-      let p3 = p.within in
       let p4 = p.first in
       let p5 = p.last in
       let e : from / w ≡ page = page_is w from page pos p4 (omega arith) in

@@ -182,6 +182,10 @@ comes_end net h shown level a z = (into, (λ e. inl e))
     into (inl e) = e
     into (inr r) = absurd r.2
 
+-- of three levels one fewer is left
+pub one_less : (i : ℕ) → i < 3 → 3 - i ≡ suc (3 - (i + 1))
+one_less i l = omega arith
+
 pub then_both : {A B C : Type 0} → A ↔ B → B ↔ C → A ↔ C
 then_both f g = ((λ a. g.0 (f.0 a)), (λ c. f.1 (g.1 c)))
 

@@ -1,11 +1,8 @@
 -- The records that a pass goes by are those that units can hold.
-use Rattle.std.proofs.Common.{◌≡◌, ℕ, suc, ◌<◌, ◌≤◌, Bool, true, false, if◌then◌else◌, nat_eq, List, [], ◌∷◌, Option, Some, None, IsTrue, refl, sym, ◌∙◌, subst, arith}
+use Rattle.std.proofs.Common.{◌≡◌, ℕ, suc, ◌≤◌, Bool, true, false, if◌then◌else◌, nat_eq, List, [], ◌∷◌, Option, Some, None, IsTrue, refl}
 use Rattle.std.specs.List.{All}
 use Rattle.std.proofs.lemmas.List.Elements.{All-head, All-tail}
-use Rattle.std.proofs.lemmas.Option.{same_Some}
 use Rattle.dn_net.specs.declared.node.NodeDecl.{NodeDecl}
-use Rattle.dn_net.specs.declared.node.Unit.{Unit as UnitPart}
-use Rattle.dn_net.specs.Decode.{unit_at}
 use Rattle.dn_net.specs.Units.{has_plain_units}
 use Rattle.dn_kind.specs.declared.rights.Access.{Access}
 use Rattle.dn_kind.specs.declared.rights.Rights.{Rights}
@@ -56,15 +53,3 @@ taken_are_held net h (Joined rq p) plain held fitting node slot r e = or_is {P =
 
 pub allowed_taken_are_held : (net : List NodeDecl) (h : Held) (records : Records) (access : Access) → IsTrue (has_plain_units net) → AreHeld net h → IsFitting net records → AreHeld net (allowing access (records_taken net h records))
 allowed_taken_are_held net h records access plain held fitting = allowed_are_held net (records_taken net h records) access (taken_are_held net h records plain held fitting)
-
--- no record is held past the last slot of a unit
-pub held_past : (net : List NodeDecl) (h : Held) → AreHeld net h → (node slot : ℕ) (u : UnitPart) → unit_at net node ≡ Some u → u.slots ≤ slot → h node slot ≡ None
-held_past net h held node slot u at l = by (h node slot) refl
-  where
-    by : (o : Option Record) → h node slot ≡ o → o ≡ None
-    by None e = refl
-    by (Some r) e =
-        let v = (held node slot r e).unit in
-        let same : v.0 ≡ u = same_Some v.0 u (sym v.1 ∙ at) in
-        let low : slot < u.slots = subst (λ (w : UnitPart). slot < w.slots) same v.2 in
-        absurd (omega arith)

@@ -87,17 +87,11 @@ module _ (net : List NodeDecl) (legal : IsLegalNet net) (flats : List Flat) (are
   abbrev added : Held
   added = placed_records net rq p
 
-  abbrev old : Held
-  old = allowing access h
-
   abbrev fresh : Held
   fresh = allowing access (fresh_records h added)
 
-  abbrev all : Held
-  all = allowing access (joined_records h added)
-
   -- what stands where no hop can be met does not come to one
-  not_newly : (t z : Name) → can_meet net flats p.hops t.node ≡ false → Newly net old fresh all 3 t z → ⊥
+  not_newly : (t z : Name) → can_meet net flats p.hops t.node ≡ false → Newly net (allowing access h) fresh (allowing access (joined_records h added)) 3 t z → ⊥
   not_newly t z none k = by k
     where
       parts : (has_hop p.hops t.node ≡ false) × (leads_to_units flats (unit_at net t.node) ≡ false)
@@ -114,9 +108,9 @@ module _ (net : List NodeDecl) (legal : IsLegalNet net) (flats : List Flat) (are
       not_fresh w None m = absurd m
       not_fresh w (Some u) m = absurd (subst (λ o. Member w (output u o t.addr)) (empty (t.addr / 2 ^ u.page)) m)
 
-      not_on : (w v : Name) (o : Option UnitPart) → unit_at net t.node ≡ o → leads_to_units flats o ≡ false → Member w (outputs_by old t o) → StopsAt net w v → ⊥
+      not_on : (w v : Name) (o : Option UnitPart) → unit_at net t.node ≡ o → leads_to_units flats o ≡ false → Member w (outputs_by (allowing access h) t o) → StopsAt net w v → ⊥
       not_on w v None e f m st = absurd m
-      not_on w v (Some u) e f m st = on (old t.node (t.addr / 2 ^ u.page)) m
+      not_on w v (Some u) e f m st = on (allowing access h t.node (t.addr / 2 ^ u.page)) m
         where
           leads : ℕ → Bool
           leads port = has_rows (rows_of (rows_part Stops) (slice_get flats port))
@@ -142,7 +136,7 @@ module _ (net : List NodeDecl) (legal : IsLegalNet net) (flats : List Flat) (are
           on None k = absurd k
           on (Some r) k = at (slice_get u.ports r.port) r.port (r.page * 2 ^ u.page + t.addr % 2 ^ u.page) refl k
 
-      by : Newly net old fresh all 3 t z → ⊥
+      by : Newly net (allowing access h) fresh (allowing access (joined_records h added)) 3 t z → ⊥
       by (inl n) = not_fresh n.0 (unit_at net t.node) n.1
       by (inr n) = not_on n.0 n.2.0 (unit_at net t.node) refl parts.1 n.1 n.2.1
 

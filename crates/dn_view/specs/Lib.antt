@@ -3,6 +3,7 @@ pub mod Exact
 pub mod Passes
 pub mod Records
 pub mod Systems
+pub mod Terms
 pub mod Through
 pub mod Trials
 pub mod Untouched

@@ -1,18 +1,14 @@
 //! Whether a placement shows exactly its buffer.
 
-ghost use Rattle.std.specs.Prelude.{◌≡◌, ℕ, ◌+◌, ◌≤◌, ◌<◌, ◌⊎◌, ◌↔◌, ◌&&◌, nat_eq, length, map, slice_get, IfOk, OnOk, IsTrue};
+ghost use Rattle.std.specs.Prelude.{◌≡◌, ℕ, ◌+◌, ◌≤◌, ◌⊎◌, ◌↔◌, ◌&&◌, nat_eq, map, slice_get, IfOk, OnOk, IsTrue};
 ghost use Rattle.dn_interval.specs.declared.span.TheConstants.{TOP};
-ghost use Rattle.dn_interval.specs.Strands.{segs_give};
-ghost use Rattle.dn_net.specs.Decode.{is_agent_at};
-ghost use Rattle.dn_kind.specs.Rights.{allows, are_rights};
-ghost use Rattle.dn_flat.specs.Views.{name_of_end};
-ghost use Rattle.dn_tables.specs.Set.{FitsNet, record_kept};
-ghost use Rattle.dn_placement.specs.Exposure.{IsAdmissible};
-ghost use Rattle.dn_placement.specs.Placement.{IsPlacement};
-ghost use Rattle.dn_placement.specs.Slots.{slots_of_set};
-ghost use Rattle.dn_view.specs.Exact.{are_buffer, is_buffer_end, is_buffer_row};
-ghost use Rattle.dn_view.specs.Systems.{IsSystem};
-ghost use Rattle.dn_view.specs.Trials.{AreExactIn, ComesIn, IsExactIn, IsPassedIn, IsTrial};
+ghost use Rattle.dn_interval.specs.Terms.{segs_give};
+ghost use Rattle.dn_net.specs.Terms.{is_agent_at};
+ghost use Rattle.dn_kind.specs.Terms.{allows, are_rights};
+ghost use Rattle.dn_flat.specs.Terms.{name_of_end};
+ghost use Rattle.dn_tables.specs.Terms.{FitsNet, record_kept};
+ghost use Rattle.dn_placement.specs.Terms.{IsAdmissible, IsPlacement, slots_of_set};
+ghost use Rattle.dn_view.specs.Terms.{AreExactIn, ComesIn, IsExactIn, IsPassedIn, IsSystem, IsTrial, are_buffer, is_buffer_end, is_buffer_row};
 
 use crate::course::Course;
 use crate::pass::{Part, pass};
@@ -24,9 +20,8 @@ use crate::untouched::is_untouched;
 use dn_base::OutOfMemory;
 use dn_interval::{End, Row, Rows, Seg};
 use dn_kind::rights::Access;
-use dn_net::net::Net;
-use dn_net::node::Role;
 use dn_placement::request::Request;
+use dn_placement::roles::is_agent;
 use dn_tables::placement::Placement;
 use dn_tables::set::TableSet;
 use std::alloc::Global;
@@ -120,21 +115,6 @@ pub(crate) fn is_asked(request: &Request, node: u16, access: Access) -> bool
     ensures { result ≡ (nat_eq node request.now.agent && allows request.now.rights access) }
 {
     node == request.agent && request.rights.allows(access)
-}
-
-/// Whether a node is there, and an agent.
-fn is_agent(net: &Net, node: u16) -> bool
-    ensures { result ≡ is_agent_at (slice_get net.now node) }
-{
-    node < net.nodes() && has_agent_role(net, node)
-}
-
-/// Whether a node is an agent.
-fn has_agent_role(net: &Net, node: u16) -> bool
-    requires { node < length net.now }
-    ensures { result ≡ is_agent_at (slice_get net.now node) }
-{
-    net.role(node) == Role::Agent
 }
 
 /// What is shown newly of the names in units that segments give.

@@ -1,13 +1,10 @@
 //! One step in a unit, by the record of a slot of a set of tables.
 
 ghost use Rattle.std.specs.Prelude.{◌≡◌, ◌<◌, ◌^◌, [], ◌∷◌, length, map, None, Some, IsTrue};
-ghost use Rattle.std.specs.List.{All};
-ghost use Rattle.dn_net.specs.Decode.{is_stop};
-ghost use Rattle.dn_kind.specs.Kind.{IsLawful};
-ghost use Rattle.dn_kind.specs.Levels.{name_list};
-ghost use Rattle.dn_kind.specs.Tables.{allowing, steps_under};
-ghost use Rattle.dn_kind.specs.Units.{IsLegalWith};
-ghost use Rattle.dn_tables.specs.Set.{FitsNet, record_kept};
+ghost use Rattle.dn_net.specs.Terms.{is_stop};
+ghost use Rattle.dn_kind.specs.Terms.{allowing, name_list, steps_under};
+ghost use Rattle.dn_tables.specs.Terms.{record_kept};
+ghost use Rattle.dn_view.specs.Terms.{AreTables};
 
 use dn_kind::kinds::Kinds;
 use dn_kind::output::sent;
@@ -25,11 +22,8 @@ pub(crate) fn output(
     access: Access,
     name: Name,
 ) -> Option<Name>
-    requires lawful { All (λ k. IsLawful (meaning (k.vtable, k.value))) kinds.now.list.items }
-    requires legal { IsLegalWith
-        (map (λ k. meaning (k.vtable, k.value)) kinds.now.list.items) net.now }
-    requires fits { FitsNet net.now
-        (map (λ k. meaning (k.vtable, k.value)) kinds.now.list.items) tables.now }
+    requires tables { AreTables (λ k. meaning (k.vtable, k.value))
+        kinds.now.list.items net.now tables.now }
     requires there { name.node < length net.now }
     requires stop { IsTrue (is_stop net.now name) }
     ensures { name_list result ≡ steps_under net.now

@@ -4,14 +4,10 @@ ghost use Rattle.std.specs.Prelude.{◌≡◌, ℕ, ◌+◌, ◌-◌, ◌*◌, �
 ghost use Rattle.std.specs.List.{list_all, list_any};
 ghost use Rattle.std.specs.Option.{option_copied};
 ghost use Rattle.dn_interval.specs.declared.row.End.{End};
-ghost use Rattle.dn_interval.specs.Onward.{gives_by, rows_of};
-ghost use Rattle.dn_interval.specs.Spans.{in_span};
-ghost use Rattle.dn_interval.specs.Strands.{segs_give};
-ghost use Rattle.dn_net.specs.Decode.{unit_at};
-ghost use Rattle.dn_kind.specs.Kind.{is_plain, is_within};
-ghost use Rattle.dn_kind.specs.Units.{unit_shape};
-ghost use Rattle.dn_view.specs.Courses.{IsCourse, course_records};
-ghost use Rattle.dn_view.specs.Passes.{has_rows, in_slot, names_go, outputs, rows_part, seg_name, seg_passes, segs_pass};
+ghost use Rattle.dn_interval.specs.Terms.{gives_by, in_span, rows_of, segs_give};
+ghost use Rattle.dn_net.specs.Terms.{unit_at};
+ghost use Rattle.dn_kind.specs.Terms.{is_plain, is_within, unit_shape};
+ghost use Rattle.dn_view.specs.Terms.{IsCourse, course_records, has_rows, in_slot, names_go, outputs, rows_part, seg_name, seg_passes, segs_pass};
 
 use crate::course::Course;
 use crate::range::slot_range;

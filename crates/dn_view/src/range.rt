@@ -2,12 +2,11 @@
 
 ghost use Rattle.std.specs.Prelude.{◌≡◌, ℕ, ◌+◌, ◌-◌, ◌/◌, ◌^◌, ◌<◌, ◌≤◌, ◌⊎◌, Some, None, IsTrue};
 ghost use Rattle.dn_net.specs.declared.node.Unit.{Unit as UnitPart};
-ghost use Rattle.dn_net.specs.Decode.{unit_at};
-ghost use Rattle.dn_net.specs.Units.{has_plain_units};
-ghost use Rattle.dn_kind.specs.Tables.{Held, AreHeld};
+ghost use Rattle.dn_net.specs.Terms.{has_plain_units, unit_at};
+ghost use Rattle.dn_kind.specs.Terms.{AreHeld, Held};
 ghost use Rattle.dn_kind.specs.declared.rights.Rights.{Rights};
-ghost use Rattle.dn_placement.specs.Records.{hop_record, placed_records};
-ghost use Rattle.dn_view.specs.Records.{AreFitted, IsFitted, IsFitting, records_taken};
+ghost use Rattle.dn_placement.specs.Terms.{hop_record, placed_records};
+ghost use Rattle.dn_view.specs.Terms.{AreFitted, IsFitted, IsFitting, records_taken};
 
 use crate::records::{Records, unit_page};
 use dn_interval::Seg;

@@ -2,13 +2,11 @@
 
 ghost use Rattle.std.specs.Prelude.{◌≡◌, ◌≤◌, Some, IsSome, IsTrue};
 ghost use Rattle.dn_net.specs.declared.node.Unit.{Unit as UnitPart};
-ghost use Rattle.dn_net.specs.Decode.{unit_at};
-ghost use Rattle.dn_net.specs.Units.{has_plain_units};
-ghost use Rattle.dn_kind.specs.Tables.{Held};
-ghost use Rattle.dn_tables.specs.Set.{has_slot};
-ghost use Rattle.dn_placement.specs.Records.{hop_record, hop_rights, or_record, placed_records};
-ghost use Rattle.dn_view.specs.Courses.{IsCourse, course_records};
-ghost use Rattle.dn_view.specs.Records.{AreFitted, IsFitted, IsFitting, fresh_record, records_taken};
+ghost use Rattle.dn_net.specs.Terms.{has_plain_units, unit_at};
+ghost use Rattle.dn_kind.specs.Terms.{Held};
+ghost use Rattle.dn_tables.specs.Terms.{has_slot};
+ghost use Rattle.dn_placement.specs.Terms.{hop_record, hop_rights, or_record, placed_records};
+ghost use Rattle.dn_view.specs.Terms.{AreFitted, IsCourse, IsFitted, IsFitting, course_records, fresh_record, records_taken};
 
 use crate::course::Course;
 use dn_kind::rights::Rights;

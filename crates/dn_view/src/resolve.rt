@@ -3,18 +3,15 @@
 
 ghost use Rattle.std.specs.Prelude.{◌≡◌, ◌++◌, [], ◌∷◌, ◌<◌, length, map, IfOk, OnOk, IsTrue};
 ghost use Rattle.std.specs.List.{All};
-ghost use Rattle.dn_net.specs.Decode.{is_accepted};
-ghost use Rattle.dn_net.specs.Names.{each_step, passing_names, sorted_names};
-ghost use Rattle.dn_kind.specs.Kind.{IsLawful};
-ghost use Rattle.dn_kind.specs.Levels.{are_there};
-ghost use Rattle.dn_kind.specs.Tables.{allowing, resolved_names_under, steps_under};
-ghost use Rattle.dn_kind.specs.Units.{IsLegalWith};
-ghost use Rattle.dn_tables.specs.Set.{FitsNet, record_kept};
+ghost use Rattle.dn_net.specs.Terms.{each_step, is_accepted, passing_names, sorted_names};
+ghost use Rattle.dn_kind.specs.Terms.{IsLawful, IsLegalWith, allowing, are_there, resolved_names_under, steps_under};
+ghost use Rattle.dn_tables.specs.Terms.{FitsNet, record_kept};
+ghost use Rattle.dn_view.specs.Terms.{AreTables};
 
 use crate::output::output;
 use dn_base::OutOfMemory;
 use dn_kind::kinds::Kinds;
-use dn_kind::levels::{push_moved, push_sent, set_of};
+use dn_kind::levels::{LEVELS, first_level, push_moved, push_sent, set_of};
 use dn_kind::rights::Access;
 use dn_net::names::Names;
 use dn_net::net::Net;
@@ -22,9 +19,6 @@ use dn_net::node::Name;
 use dn_net::step::Step;
 use dn_tables::set::TableSet;
 use std::alloc::Global;
-
-/// How many levels of names there are: the name itself, and those after each of 1 to 259 steps.
-const LEVELS: u16 = 260;
 
 /// What a name resolves to for an access under the tables. `Err` is want of memory.
 pub fn resolve(
@@ -45,8 +39,7 @@ pub fn resolve(
         (record_kept (map (λ k. meaning (k.vtable, k.value)) kinds.now.list.items) tables.now)) name) }
 {
     let mut accepted = Vec::new(alloc);
-    let mut level = Names::new(alloc);
-    level.insert(name)?;
+    let mut level = first_level(alloc, name)?;
     for _ in 0..LEVELS {
         if level.list().is_empty() {
             break;
@@ -74,11 +67,8 @@ fn next_level(
     level: &[Name],
     accepted: &mut Vec<Name>,
 ) -> Result<Names, OutOfMemory>
-    requires lawful { All (λ k. IsLawful (meaning (k.vtable, k.value))) kinds.now.list.items }
-    requires legal { IsLegalWith
-        (map (λ k. meaning (k.vtable, k.value)) kinds.now.list.items) net.now }
-    requires fits { FitsNet net.now
-        (map (λ k. meaning (k.vtable, k.value)) kinds.now.list.items) tables.now }
+    requires tables { AreTables (λ k. meaning (k.vtable, k.value))
+        kinds.now.list.items net.now tables.now }
     requires there { IsTrue (are_there (length net.now) level.now) }
     ensures accepted { OnOk result (accepted.new.items ≡
         accepted.old.items ++ passing_names (is_accepted net.now) level.now) }
@@ -104,11 +94,8 @@ fn push_steps(
     accepted: &mut Vec<Name>,
     next: &mut Vec<Name>,
 ) -> Result<(), OutOfMemory>
-    requires lawful { All (λ k. IsLawful (meaning (k.vtable, k.value))) kinds.now.list.items }
-    requires legal { IsLegalWith
-        (map (λ k. meaning (k.vtable, k.value)) kinds.now.list.items) net.now }
-    requires fits { FitsNet net.now
-        (map (λ k. meaning (k.vtable, k.value)) kinds.now.list.items) tables.now }
+    requires tables { AreTables (λ k. meaning (k.vtable, k.value))
+        kinds.now.list.items net.now tables.now }
     requires there { name.node < length net.now }
     ensures accepted { OnOk result (accepted.new.items ≡
         accepted.old.items ++ passing_names (is_accepted net.now) (name ∷ [])) }

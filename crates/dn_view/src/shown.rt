@@ -3,13 +3,10 @@
 ghost use Rattle.std.specs.Prelude.{◌≡◌, ℕ, ◌≤◌, ◌⊎◌, ◌↔◌, ◌<◌, length, slice_get, OnOk, IfOk, IsTrue};
 ghost use Rattle.dn_interval.specs.declared.row.End.{End};
 ghost use Rattle.dn_interval.specs.declared.span.TheConstants.{TOP};
-ghost use Rattle.dn_interval.specs.Strands.{rows_give, segs_give};
-ghost use Rattle.dn_interval.specs.Onward.{gives_by, rows_of};
-ghost use Rattle.dn_flat.specs.Views.{name_of_end};
-ghost use Rattle.dn_view.specs.Courses.{IsCourse, course_records};
-ghost use Rattle.dn_view.specs.Passes.{rows_part, segs_pass};
+ghost use Rattle.dn_interval.specs.Terms.{gives_by, rows_give, rows_of, segs_give};
+ghost use Rattle.dn_flat.specs.Terms.{name_of_end};
+ghost use Rattle.dn_view.specs.Terms.{ComesThrough, IsCourse, course_records, rows_part, segs_pass};
 ghost use Rattle.dn_view.specs.declared.pass.Part.TheVariants.{Stops};
-ghost use Rattle.dn_view.specs.Through.{ComesThrough};
 
 use crate::course::Course;
 use crate::pass::{Part, part_rows, pass};

@@ -1,12 +1,9 @@
 //! Which nodes show nothing newly, since no name to which they lead can come to a hop of a placement.
 
 ghost use Rattle.std.specs.Prelude.{◌≡◌, ◌<◌, length, IsTrue};
-ghost use Rattle.dn_net.specs.Decode.{unit_at};
-ghost use Rattle.dn_kind.specs.Tables.{Held};
-ghost use Rattle.dn_view.specs.Exact.{IsExactAt};
-ghost use Rattle.dn_view.specs.Systems.{IsSystem};
-ghost use Rattle.dn_view.specs.Trials.{IsTrial};
-ghost use Rattle.dn_view.specs.Untouched.{can_meet, has_hop, leads_to_units, rows_meet};
+ghost use Rattle.dn_net.specs.Terms.{unit_at};
+ghost use Rattle.dn_kind.specs.Terms.{Held};
+ghost use Rattle.dn_view.specs.Terms.{IsExactAt, IsSystem, IsTrial, can_meet, has_hop, leads_to_units, rows_meet};
 ghost use Rattle.dn_view.specs.declared.pass.Part.TheVariants.{Stops};
 ghost use Rattle.std.specs.List.{list_any};
 

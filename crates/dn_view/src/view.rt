@@ -1,13 +1,12 @@
 //! What an agent sees under tables.
 
 ghost use Rattle.std.specs.Prelude.{◌<◌, length, map, IfNone, IfOk, IfSome, IsTrue};
-ghost use Rattle.dn_interval.specs.Rows.{ends_within};
-ghost use Rattle.dn_net.specs.Legal.{IsLegalNet};
-ghost use Rattle.dn_kind.specs.Tables.{Held, allowing};
-ghost use Rattle.dn_flat.specs.Stages.{IsFlat};
-ghost use Rattle.dn_tables.specs.Set.{FitsNet, record_kept};
-ghost use Rattle.dn_view.specs.Systems.{IsSystem};
-ghost use Rattle.dn_view.specs.Views.{AreViewed, ReachesUnit};
+ghost use Rattle.dn_interval.specs.Terms.{ends_within};
+ghost use Rattle.dn_net.specs.Terms.{IsLegalNet};
+ghost use Rattle.dn_kind.specs.Terms.{Held, allowing};
+ghost use Rattle.dn_flat.specs.Terms.{IsFlat};
+ghost use Rattle.dn_tables.specs.Terms.{FitsNet, record_kept};
+ghost use Rattle.dn_view.specs.Terms.{AreViewed, IsSystem, ReachesUnit};
 
 use crate::course::Course;
 use crate::pass::Part;

@@ -13,7 +13,8 @@ use Rattle.dn_walk.specs.declared.walks.WalkRow.{WalkRow}
 use Rattle.dn_walk.specs.Rows.{Told, row_view}
 use Rattle.dn_walk.specs.Ways.{least_of, lesser_name, start_name, start_names, is_cyclic}
 use Rattle.dn_net.proofs.Firsts.{NoLater}
-use Rattle.dn_net.proofs.Ways.{IsFirstName, IsFirstNameOr, first_sorted, no_later_still, either_way, lower_is}
+use Rattle.dn_net.proofs.Ascending.{lower_is}
+use Rattle.dn_net.proofs.Ways.{IsFirstName, IsFirstNameOr, first_sorted, no_later_still, either_way}
 
 -- a name is not before itself, nor before one that is before it
 never_both : (x y : Name) → IsTrue (name_lt x y) → NoLater y x → ⊥

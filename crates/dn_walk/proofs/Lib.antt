@@ -1,5 +1,6 @@
 pub mod Accepts
 pub mod Bridge
+pub mod Ends
 pub mod Holes
 pub mod Keys
 pub mod Least

@@ -52,16 +52,16 @@ meets_parts t l h = by (nat_le t.base l.hi) (nat_le l.lo (told_last t)) refl ref
     by true false e f h = cc
     by false b e f h = cc
 
-pub max_is : (a b : ℕ) → max a b ≡ greater a b
-max_is a b = by (nat_lt a b) refl
+-- of two numbers, by a test of one against the other
+chosen : (a b x y m : ℕ) → (a < b → m ≡ x) → (b ≤ a → m ≡ y) → m ≡ (if nat_lt a b then x else y)
+chosen a b x y m less more = by (nat_lt a b) refl
   where
-    by : (c : Bool) → nat_lt a b ≡ c → max a b ≡ (if c then b else a)
-    by true e = let l = ltb-true a b e in omega arith
-    by false e = let l = ltb-false a b e in omega arith
+    by : (c : Bool) → nat_lt a b ≡ c → m ≡ (if c then x else y)
+    by true e = less (ltb-true a b e)
+    by false e = more (ltb-false a b e)
+
+pub max_is : (a b : ℕ) → max a b ≡ greater a b
+max_is a b = chosen a b b a (max a b) (λ l. omega arith) (λ l. omega arith)
 
 pub min_is : (a b : ℕ) → min a b ≡ lesser_of a b
-min_is a b = by (nat_lt b a) refl
-  where
-    by : (c : Bool) → nat_lt b a ≡ c → min a b ≡ (if c then b else a)
-    by true e = let l = ltb-true b a e in omega arith
-    by false e = let l = ltb-false b a e in omega arith
+min_is a b = chosen b a b a (min a b) (λ l. omega arith) (λ l. omega arith)

@@ -64,23 +64,19 @@ legs_at net i accepts entries over l a e o = by (slice_get net i) refl a e o
         ∙ map-append told_legs (take i net) (n ∷ [])
         ∙ ap (λ x. map told_legs (take i net) ++ x ∷ []) (legs_are n ∙ ap (λ x. legs_by x n.entries n.over) a' ∙ ap (λ x. legs_by accepts x n.over) e' ∙ ap (λ x. legs_by accepts entries x) o')
 
-pub accepts_in_range : (net : List NodeDecl) (i : ℕ) (accepts : List Block) → All KeepsRules net → option_map (λ d. d.accepts) (slice_get net i) ≡ Some accepts → IsTrue (list_all block_in_range accepts)
-accepts_in_range net i accepts h a = by (slice_get net i) refl a
+-- what holds of a part of each node that keeps the rules holds of the part as it is read
+part_keeps : {Y : Type 0} (P : Y → Type 0) (part : NodeDecl → Y) → ((n : NodeDecl) → KeepsRules n → P (part n)) → (net : List NodeDecl) (i : ℕ) (y : Y) → All KeepsRules net → option_map part (slice_get net i) ≡ Some y → P y
+part_keeps P part holds net i y h a = by (slice_get net i) refl a
   where
-    by : (u : Option NodeDecl) → slice_get net i ≡ u → option_map (λ d. d.accepts) u ≡ Some accepts → IsTrue (list_all block_in_range accepts)
+    by : (u : Option NodeDecl) → slice_get net i ≡ u → option_map part u ≡ Some y → P y
     by None u a = cc
-    by (Some n) u a =
-        let a' : n.accepts ≡ accepts = cc in
-        subst (λ l. IsTrue (list_all block_in_range l)) a' (both (list_all block_in_range n.accepts) (list_all entry_in_range n.entries) (kept_at net i h n u).in_range).0
+    by (Some n) u a = let same : part n ≡ y = cc in subst P same (holds n (kept_at net i h n u))
+
+pub accepts_in_range : (net : List NodeDecl) (i : ℕ) (accepts : List Block) → All KeepsRules net → option_map (λ d. d.accepts) (slice_get net i) ≡ Some accepts → IsTrue (list_all block_in_range accepts)
+accepts_in_range = part_keeps (λ l. IsTrue (list_all block_in_range l)) (λ d. d.accepts) (λ n k. (both (list_all block_in_range n.accepts) (list_all entry_in_range n.entries) k.in_range).0)
 
 pub entries_in_range : (net : List NodeDecl) (i : ℕ) (entries : List Entry) → All KeepsRules net → option_map (λ d. d.entries) (slice_get net i) ≡ Some entries → IsTrue (list_all entry_in_range entries)
-entries_in_range net i entries h a = by (slice_get net i) refl a
-  where
-    by : (u : Option NodeDecl) → slice_get net i ≡ u → option_map (λ d. d.entries) u ≡ Some entries → IsTrue (list_all entry_in_range entries)
-    by None u a = cc
-    by (Some n) u a =
-        let a' : n.entries ≡ entries = cc in
-        subst (λ l. IsTrue (list_all entry_in_range l)) a' (both (list_all block_in_range n.accepts) (list_all entry_in_range n.entries) (kept_at net i h n u).in_range).1
+entries_in_range = part_keeps (λ l. IsTrue (list_all entry_in_range l)) (λ d. d.entries) (λ n k. (both (list_all block_in_range n.accepts) (list_all entry_in_range n.entries) k.in_range).1)
 
 -- they lead on in range, and neither their first nor their last addresses descend
 pub legs_of_node : (net : List NodeDecl) → KeepsNodeRules net → (i : ℕ) (n : NodeDecl) → slice_get net i ≡ Some n → AreLegs (length net) (told_legs n)

@@ -8,14 +8,6 @@ use Rattle.dn_net.specs.declared.node.Unit.{Unit as UnitPart}
 use Rattle.dn_net.specs.Decode.{unit_of, unit_at, over_within, ports_within, refers_within, is_closed}
 use Rattle.dn_net.specs.UnitRules.{units_from, unit_numbers}
 
--- it is the unit of the number
-pub unit_is : (net : List NodeDecl) (i : ℕ) (u : Option UnitPart) → option_map (λ d. d.unit) (slice_get net i) ≡ Some u → unit_at net i ≡ u
-unit_is net i u at = by (slice_get net i) at
-  where
-    by : (o : Option NodeDecl) → option_map (λ d. d.unit) o ≡ Some u → unit_of o ≡ u
-    by None e = cc
-    by (Some n) e = cc
-
 -- its ports are of the net
 pub ports_there : (net : List NodeDecl) (i : ℕ) (u : Option UnitPart) → IsTrue (is_closed net) → option_map (λ d. d.unit) (slice_get net i) ≡ Some u → IsTrue (ports_within (length net) u)
 ports_there net i u closed at = within net i closed at

@@ -20,7 +20,8 @@ use Rattle.dn_net.proofs.Forks.{fork_is_least}
 use Rattle.dn_net.proofs.Least.{within_from, within_to}
 use Rattle.dn_net.proofs.Resolution.{name_same}
 use Rattle.dn_net.proofs.Stops.{stop_unit, unit_stop, stop_still}
-use Rattle.dn_net.proofs.Ways.{lower_is, lower_still, either_way}
+use Rattle.dn_net.proofs.Ascending.{lower_is, transitive}
+use Rattle.dn_net.proofs.Ways.{either_way}
 use Rattle.dn_walk.specs.declared.fork.Fork.{Fork}
 use Rattle.dn_walk.specs.declared.walks.WalkRow.{WalkRow}
 use Rattle.dn_walk.specs.Rows.{Told, row_view, told_by_walk}
@@ -52,7 +53,7 @@ not_before f g h = by (either_way f.name g.name)
     ]
 
 no_later_fork : (f g h : Fork) → NoLaterFork f g → NoLaterFork g h → NoLaterFork f h
-no_later_fork f g h (inl p) (inl q) = inl (lower_still f.name g.name h.name p q)
+no_later_fork f g h (inl p) (inl q) = inl (transitive f.name g.name h.name p q)
 no_later_fork f g h (inl p) (inr e) = inl (subst (λ w. IsTrue (name_lt f.name w)) e.0 p)
 no_later_fork f g h (inr e) (inl q) = inl (subst (λ w. IsTrue (name_lt w h.name)) (sym e.0) q)
 no_later_fork f g h (inr e) (inr k) = let p = e.1 in let q = k.1 in inr (e.0 ∙ k.0, omega arith)
@@ -64,7 +65,7 @@ not_below_itself x y e l =
     elim (lower_is x y l) [ inl k ↦ absurd (omega arith) | inr k ↦ (let m = k.1 in absurd (omega arith)) ]
 
 one_fork : (f g : Fork) → NoLaterFork f g → NoLaterFork g f → (f.name ≡ g.name) × (f.unit ≡ g.unit)
-one_fork f g (inl p) (inl q) = absurd (not_below_itself f.name f.name refl (lower_still f.name g.name f.name p q))
+one_fork f g (inl p) (inl q) = absurd (not_below_itself f.name f.name refl (transitive f.name g.name f.name p q))
 one_fork f g (inl p) (inr e) = absurd (not_below_itself f.name g.name (sym e.0) p)
 one_fork f g (inr e) (inl q) = absurd (not_below_itself g.name f.name (sym e.0) q)
 one_fork f g (inr e) (inr k) = let p = e.1 in let q = k.1 in (e.0, omega arith)

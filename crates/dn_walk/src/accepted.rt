@@ -1,10 +1,9 @@
 //! What the nodes of a net accept, as sets of addresses.
 
 ghost use Rattle.std.specs.Prelude.{◌≡◌, ◌<◌, ℕ, length, slice_get, IfOk};
-ghost use Rattle.dn_interval.specs.Spans.{has};
-ghost use Rattle.dn_net.specs.Decode.{is_accepted_at};
-ghost use Rattle.dn_net.specs.Rules.{KeepsNodeRules};
-ghost use Rattle.dn_walk.specs.Rows.{AreAccepted};
+ghost use Rattle.dn_interval.specs.Terms.{has};
+ghost use Rattle.dn_net.specs.Terms.{KeepsNodeRules, is_accepted_at};
+ghost use Rattle.dn_walk.specs.Terms.{AreAccepted};
 
 use crate::spans::{accept_spans, covered};
 use dn_base::OutOfMemory;

@@ -2,13 +2,8 @@
 
 ghost use Rattle.std.specs.Prelude.{◌≡◌, ◌<◌, ◌≤◌, ◌∷◌, length, map, IfOk, IsTrue};
 ghost use Rattle.std.specs.List.{All};
-ghost use Rattle.dn_net.specs.Decode.{step_limit, unit_at};
-ghost use Rattle.dn_net.specs.Rules.{KeepsNodeRules};
-ghost use Rattle.dn_net.specs.Units.{has_plain_units};
-ghost use Rattle.dn_net.specs.UnitRules.{IsShallow, first_chain, slots_of, unit_numbers};
-ghost use Rattle.dn_net.specs.Walks.{live_walks};
-ghost use Rattle.dn_walk.specs.Rows.{row_view, told_by_walk};
-ghost use Rattle.dn_walk.specs.Units.{chain_by, first_over};
+ghost use Rattle.dn_net.specs.Terms.{IsShallow, KeepsNodeRules, first_chain, has_plain_units, live_walks, slots_of, step_limit, unit_at, unit_numbers};
+ghost use Rattle.dn_walk.specs.Terms.{chain_by, first_over, row_view, told_by_walk};
 
 use crate::leads::next_units;
 use crate::walks::WalkRow;

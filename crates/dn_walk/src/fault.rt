@@ -5,7 +5,7 @@ ghost use Rattle.dn_walk.specs.declared.fault.WalkFault.TheVariants.{OutOfMemory
 
 use dn_base::items::Items;
 use dn_net::node::Name;
-use std::alloc::{AllocError, AllocFailed};
+use std::alloc::AllocError;
 use std::fmt;
 use std::fmt::{Debug, Formatter, Write};
 use thiserror::Error;
@@ -51,14 +51,6 @@ impl From<AllocError> for WalkFault {
     ghost from_gives = { λ _ e. e ≡ no_memory };
 
     fn from(_error: AllocError) -> WalkFault {
-        WalkFault::OutOfMemory
-    }
-}
-
-impl<T: Drop> From<AllocFailed<T>> for WalkFault {
-    ghost from_gives = { λ _ e. e ≡ no_memory };
-
-    fn from(_error: AllocFailed<T>) -> WalkFault {
         WalkFault::OutOfMemory
     }
 }

@@ -2,13 +2,9 @@
 
 ghost use Rattle.std.specs.Prelude.{◌≡◌, ◌<◌, nat_lt, length, map};
 ghost use Rattle.std.specs.List.{All};
-ghost use Rattle.dn_net.specs.Decode.{steps};
-ghost use Rattle.dn_net.specs.Names.{name_eq};
-ghost use Rattle.dn_net.specs.Rules.{KeepsNodeRules};
+ghost use Rattle.dn_net.specs.Terms.{KeepsNodeRules, name_eq, steps};
 ghost use Rattle.dn_walk.specs.declared.walks.WalkRow.{WalkRow};
-ghost use Rattle.dn_walk.specs.Rows.{row_view};
-ghost use Rattle.dn_walk.specs.Units.{fork_before, lesser_fork, shows_fork, with_shown, IsLeastShown};
-ghost use Rattle.dn_walk.specs.Ways.{start_name};
+ghost use Rattle.dn_walk.specs.Terms.{IsLeastShown, fork_before, lesser_fork, row_view, shows_fork, start_name, with_shown};
 
 use crate::walks::WalkRow;
 use crate::way::is_before;

@@ -1,6 +1,6 @@
 //! Laws on live walks and on gaps, each the contract of a function that does nothing.
 
-ghost use Rattle.dn_net.specs.WalkRules.{ChainIsWalk, CycleIsRow, GapsAreAll, LiveWalksAreAll, LiveWalksAreInOrder};
+ghost use Rattle.dn_net.specs.Terms.{ChainIsWalk, CycleIsRow, GapsAreAll, LiveWalksAreAll, LiveWalksAreInOrder};
 
 /// The list has exactly the live walks of 1 to k choices.
 pub fn live_walks_are_all()

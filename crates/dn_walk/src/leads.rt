@@ -3,12 +3,9 @@
 ghost use Rattle.std.specs.Prelude.{◌≡◌, ◌<◌, ◌≤◌, ◌*◌, ℕ, [], min, nat_lt, filter, length, map, slice_index_or, slice_set, IfOk, IsTrue};
 ghost use Rattle.std.specs.List.{All, list_all};
 ghost use Rattle.std.specs.Option.{option_copied};
-ghost use Rattle.dn_net.specs.Decode.{is_closed, ports_within};
-ghost use Rattle.dn_net.specs.Units.{has_plain_shape, has_plain_unit, has_plain_units};
-ghost use Rattle.dn_net.specs.UnitRules.{unit_numbers};
+ghost use Rattle.dn_net.specs.Terms.{has_plain_shape, has_plain_unit, has_plain_units, is_closed, ports_within, unit_numbers};
 ghost use Rattle.dn_walk.specs.declared.walks.WalkRow.{WalkRow};
-ghost use Rattle.dn_walk.specs.Rows.{row_view};
-ghost use Rattle.dn_walk.specs.Units.{AreLows, leads_by_lows, next_by, next_told};
+ghost use Rattle.dn_walk.specs.Terms.{AreLows, leads_by_lows, next_by, next_told, row_view};
 
 use crate::walks::WalkRow;
 use dn_base::items::Items;

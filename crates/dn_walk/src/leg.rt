@@ -2,8 +2,8 @@
 
 ghost use Rattle.std.specs.Prelude.{◌≡◌, ◌++◌, ◌||◌, map, IfOk, OnOk, IsTrue, ◌<◌, length};
 ghost use Rattle.std.specs.List.{All, list_all};
-ghost use Rattle.dn_net.specs.Rules.{KeepsNodeRules, block_in_range, entry_in_range};
-ghost use Rattle.dn_walk.specs.Legs.{AreLegs, told_legs, legs_by, gaps_by, plain_entry_legs, dest_leg, gap_leg, span_view};
+ghost use Rattle.dn_net.specs.Terms.{KeepsNodeRules, block_in_range, entry_in_range};
+ghost use Rattle.dn_walk.specs.Terms.{AreLegs, dest_leg, gap_leg, gaps_by, legs_by, plain_entry_legs, span_view, told_legs};
 
 use crate::spans::{block_spans, covered};
 use dn_base::OutOfMemory;

@@ -3,12 +3,9 @@
 ghost use Rattle.std.specs.Prelude.{◌≡◌, ◌+◌, ◌-◌, ◌≤◌, ◌<◌, ◌++◌, ◌∷◌, [], map, filter, length, vec_len, IfOk, IfErr, OnOk, IsTrue, List};
 ghost use Rattle.std.specs.List.{All, flat_map};
 ghost use Rattle.std.specs.List.Sorted.{IsNonDecreasingBy};
-ghost use Rattle.dn_net.specs.Walks.{in_order};
-ghost use Rattle.dn_net.specs.WalkRules.{walk_limit};
+ghost use Rattle.dn_net.specs.Terms.{in_order, walk_limit};
 ghost use Rattle.dn_walk.specs.declared.leg.Leg.{Leg};
-ghost use Rattle.dn_walk.specs.Rows.{row_view};
-ghost use Rattle.dn_walk.specs.Legs.{AreLegs};
-ghost use Rattle.dn_walk.specs.Levels.{told_last, told_meets, told_onto, told_extended, told_stills, told_before, told_walks, AreLevels, IsRowOf, IsWideWhere};
+ghost use Rattle.dn_walk.specs.Terms.{AreLegs, AreLevels, IsRowOf, IsWideWhere, row_view, told_before, told_extended, told_last, told_meets, told_onto, told_stills, told_walks};
 
 use crate::fault::WalkFault;
 use crate::leg::Leg;
@@ -61,7 +58,8 @@ impl Levels {
             room,
         } = self;
         let next = extended(alloc, legs, &newest, room)?;
-        sorted.push(in_order(newest)?)?;
+        let level = in_order(newest)?;
+        sorted.push(level).or(Err(WalkFault::OutOfMemory))?;
         let room = room - next.len();
         Ok(Levels {
             sorted,

@@ -2,9 +2,9 @@
 
 ghost use Rattle.std.specs.Prelude.{◌≡◌, ℕ, ◌++◌, map, IfOk, IsTrue};
 ghost use Rattle.std.specs.List.{list_all};
-ghost use Rattle.dn_net.specs.Rules.{block_in_range, entry_in_range};
-ghost use Rattle.dn_interval.specs.Spans.{has};
-ghost use Rattle.dn_walk.specs.Legs.{span_view};
+ghost use Rattle.dn_net.specs.Terms.{block_in_range, entry_in_range};
+ghost use Rattle.dn_interval.specs.Terms.{has};
+ghost use Rattle.dn_walk.specs.Terms.{span_view};
 
 use dn_base::OutOfMemory;
 use dn_interval::{Span, SpanSet};

@@ -3,13 +3,9 @@
 ghost use Rattle.std.specs.Prelude.{◌≡◌, ◌+◌, ◌≤◌, ◌<◌, ◌∷◌, ◌||◌, not, map, filter, length, IfOk, IsTrue, None, nat_le};
 ghost use Rattle.std.specs.List.{All, list_all};
 ghost use Rattle.std.specs.List.Sorted.{IsNonDecreasingBy};
-ghost use Rattle.dn_net.specs.Decode.{steps, moved, top};
-ghost use Rattle.dn_net.specs.Names.{name_lt};
-ghost use Rattle.dn_net.specs.Rules.{KeepsNodeRules};
-ghost use Rattle.dn_net.specs.WalkRules.{way_by};
+ghost use Rattle.dn_net.specs.Terms.{KeepsNodeRules, moved, name_lt, steps, top, way_by};
 ghost use Rattle.dn_walk.specs.declared.walks.WalkRow.{WalkRow};
-ghost use Rattle.dn_walk.specs.Rows.{row_view};
-ghost use Rattle.dn_walk.specs.Ways.{least_of, lesser_name, start_names, is_cyclic, told_leads, level_leads, levels_lead};
+ghost use Rattle.dn_walk.specs.Terms.{is_cyclic, least_of, lesser_name, level_leads, levels_lead, row_view, start_names, told_leads};
 
 use crate::walks::WalkRow;
 use dn_base::items::Items;

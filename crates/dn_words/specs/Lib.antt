@@ -1,2 +1,3 @@
+pub mod Terms
 pub mod Words
 pub mod Split

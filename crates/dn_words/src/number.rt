@@ -2,7 +2,7 @@
 
 ghost use Rattle.std.specs.Prelude.{◌≡◌, ◌≤◌, IfSome, decimal};
 ghost use Rattle.std.specs.Str.{bytes_eq};
-ghost use Rattle.dn_words.specs.Words.{agents_of};
+ghost use Rattle.dn_words.specs.Terms.{agents_of};
 
 use itoa::Buffer;
 

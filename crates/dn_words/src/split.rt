@@ -4,8 +4,7 @@ ghost use Rattle.std.specs.Prelude.{◌≡◌, map, option_map, IfOk, IsTrue};
 ghost use Rattle.std.specs.List.{list_all};
 ghost use Rattle.std.specs.String.{string_bytes};
 ghost use Rattle.clap.specs.Words.{app_of, found_of};
-ghost use Rattle.dn_words.specs.Split.{parts_found, parts_of, parts_view, program};
-ghost use Rattle.dn_words.specs.Words.{is_plain};
+ghost use Rattle.dn_words.specs.Terms.{is_plain, parts_found, parts_of, parts_view, program};
 
 use clap::error::ErrorKind;
 use clap::{Arg, ArgMatches, Command};

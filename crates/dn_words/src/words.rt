@@ -3,7 +3,7 @@
 ghost use Rattle.std.specs.Prelude.{◌≡◌, [], ◌∷◌, ◌++◌, IfOk, OnOk, OnErr, map, option_map};
 ghost use Rattle.std.specs.List.{list_all};
 ghost use Rattle.std.specs.String.{string_bytes};
-ghost use Rattle.dn_words.specs.Words.{HasAgents, is_plain, task_of, task_of_parts, task_of_word};
+ghost use Rattle.dn_words.specs.Terms.{HasAgents, is_plain, task_of, task_of_parts, task_of_word};
 
 use crate::split::Parts;
 use crate::{number, split};

@@ -5,7 +5,7 @@
 #![tactic(auto)]
 
 ghost use Rattle.std.specs.Prelude.{◌≡◌, [], ◌∷◌, IfOk};
-ghost use Rattle.dn_words.specs.Words.{task_of};
+ghost use Rattle.dn_words.specs.Terms.{task_of};
 
 use dn_words::words::{Task, Words};
 use std::alloc::{AllocError, Global};

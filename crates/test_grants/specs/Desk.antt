@@ -1,10 +1,9 @@
 -- What the helpers of these tests carry from call to call.
-use Rattle.std.specs.Prelude.{◌≡◌, ◌≤◌, ◌+◌, ℕ, true, List, map, slice_get, Some, IsTrue}
+use Rattle.std.specs.Prelude.{◌≡◌, ◌≤◌, ◌+◌, ℕ, true, List, map, Some}
 use Rattle.std.specs.declared.alloc.Global.{Global}
 use Rattle.std.specs.declared.dyn_box.DynBox.{DynBox}
 use Rattle.dn_base.specs.Device.{sizes_of}
-use Rattle.dn_net.specs.declared.node.NodeDecl.{NodeDecl}
-use Rattle.dn_net.specs.Decode.{is_agent_at, top}
+use Rattle.dn_net.specs.Decode.{top}
 use Rattle.dn_kind.specs.declared.rights.Rights.{Rights}
 use Rattle.dn_kind.specs.Kind.{Meaning}
 use Rattle.dn_kind.specs.Units.{IsLegalWith}
@@ -39,10 +38,6 @@ pub record IsDesk {K : Type 0} {V : K → Type 0} (means : DynBox K Global V →
 -- a placement of the request in the slots as the tables of a desk leave them
 abbrev pub IsPlaced : {K : Type 0} {V : K → Type 0} → (DynBox K Global V → Meaning) → Desk K V → Request → Place → Type 0
 IsPlaced means d rq p = IsPlacement d.system.net.now (slots_of_set (kinds_of means d.system) d.book.set) rq p
-
--- the agent of the request is one
-abbrev pub HasAgent : List NodeDecl → Request → Type 0
-HasAgent net rq = IsTrue (is_agent_at (slice_get net rq.agent))
 
 -- the buffer ends at the last address or before
 abbrev pub EndsWithin : Request → Type 0

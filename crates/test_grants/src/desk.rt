@@ -1,20 +1,15 @@
 //! Calls on a book and its device, made where what they ask holds.
 
-ghost use Rattle.std.specs.Prelude.{◌≡◌, ◌≤◌, map, None, IfOk, IfSome, IsTrue};
+ghost use Rattle.std.specs.Prelude.{◌≡◌, ◌≤◌, map, IfOk, IfSome, IsTrue};
 ghost use Rattle.std.specs.List.{All};
-ghost use Rattle.dn_net.specs.Legal.{IsLegalNet};
-ghost use Rattle.dn_kind.specs.Kind.{IsLawful};
-ghost use Rattle.dn_kind.specs.Rights.{are_rights};
-ghost use Rattle.dn_flat.specs.Stages.{AreFlats};
-ghost use Rattle.dn_placement.specs.Order.{IsFirst};
-ghost use Rattle.dn_book.specs.Book.{slots_of};
-ghost use Rattle.dn_book.specs.Tables.{IsKept};
-ghost use Rattle.dn_view.specs.Systems.{IsSystem};
-ghost use Rattle.test_grants.specs.Desk.{EndsWithin, HasAgent, IsBoard, IsDesk, IsPlaced, kinds_of, part};
+ghost use Rattle.dn_net.specs.Terms.{IsLegalNet};
+ghost use Rattle.dn_kind.specs.Terms.{IsLawful, are_rights};
+ghost use Rattle.dn_flat.specs.Terms.{AreFlats};
+ghost use Rattle.dn_view.specs.Terms.{IsSystem};
+ghost use Rattle.test_grants.specs.Terms.{EndsWithin, IsBoard, IsDesk, IsPlaced, part};
 
 use crate::own::is_hop_free;
 use bitflags::Flags;
-use dn_base::OutOfMemory;
 use dn_base::device::MakeFault;
 use dn_base::memory_tables::MemTables;
 use dn_book::book::{Book, CommitFault, RevokeFault};
@@ -29,6 +24,7 @@ use dn_kind::rights::{Access, Rights};
 use dn_net::names::Names;
 use dn_net::net::Net;
 use dn_net::node::{Name, TOP};
+use dn_place::booked::first_in_book;
 use dn_place::first::first;
 use dn_placement::request::Request;
 use dn_placement::roles::is_agent;
@@ -188,7 +184,7 @@ impl<'a> Desk<'a> {
         if let Some(_why) = refusal(&self.book, system.net, id, request) {
             return Ok(None);
         }
-        let Some(placement) = first_beside(alloc, system, &self.book, request)? else {
+        let Some(placement) = first_in_book(alloc, &self.book, system, request, None)? else {
             return Ok(None);
         };
         let grant = Grant {
@@ -291,28 +287,6 @@ impl<'a> Desk<'a> {
         }
         Ok(view(alloc, system, self.book.tables(), node, access)?)
     }
-}
-
-/// The first admissible placement of a request in the slots as a sound book leaves them.
-fn first_beside(
-    alloc: Global,
-    system: System<'_>,
-    book: &Book,
-    request: &Request,
-) -> Result<Option<Placement>, OutOfMemory>
-    requires system { IsSystem (λ k. meaning (k.vtable, k.value)) system }
-    requires kept { IsKept system.net.now (kinds_of (λ k. meaning (k.vtable, k.value)) system)
-        book.now.grants book.now.set }
-    requires agent { HasAgent system.net.now request.now }
-    requires rights { IsTrue (are_rights request.now.rights) }
-    requires some { 1 ≤ request.now.size }
-    requires buffer { EndsWithin request.now }
-    ensures { IfOk result (λ found. IfSome found (λ p. IsFirst system.entry.net.now
-        (slots_of system.entry.net.now book.now.grants) request.now None p)) }
-{
-    let tables = book.tables();
-    tables.facts();
-    first(alloc, system, tables, request, None)
 }
 
 /// A request for the first so many addresses of the buffer of another, with these rights.

@@ -1,10 +1,8 @@
 //! Placements with another of their hops for their own.
 
 ghost use Rattle.std.specs.Prelude.{◌≡◌, ◌<◌, ◌≤◌, ℕ, [], map, Some, IsTrue};
-ghost use Rattle.dn_tables.specs.Set.{has_slot, unit_in, units_of};
-ghost use Rattle.dn_placement.specs.Placement.{IsFreeHop};
-ghost use Rattle.dn_placement.specs.Records.{first_slot, last_slot};
-ghost use Rattle.dn_placement.specs.Slots.{is_free_in, is_zero_slot, slots_of_set};
+ghost use Rattle.dn_tables.specs.Terms.{has_slot, unit_in, units_of};
+ghost use Rattle.dn_placement.specs.Terms.{IsFreeHop, first_slot, is_free_in, is_zero_slot, last_slot, slots_of_set};
 
 use dn_net::net::Net;
 use dn_net::node::Unit;

@@ -6,7 +6,7 @@
 #![tactic(auto)]
 
 ghost use Rattle.std.specs.Prelude.{◌≡◌, IfOk};
-ghost use Rattle.dn_kind.specs.Units.{unit_shape};
+ghost use Rattle.dn_kind.specs.Terms.{unit_shape};
 
 use dn_base::items::Items;
 use dn_kind::shape::Shape;

@@ -2,7 +2,7 @@
 
 ghost use Rattle.std.specs.Prelude.{IsTrue};
 ghost use Rattle.std.specs.List.{list_all};
-ghost use Rattle.dn_kind.specs.Units.{has_kind};
+ghost use Rattle.dn_kind.specs.Terms.{has_kind};
 
 use crate::{shape, unit_of};
 use dn_base::text::Text;

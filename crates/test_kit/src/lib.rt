@@ -8,7 +8,5 @@
 pub mod machine;
 pub mod resolve;
 pub mod texts;
-pub mod unmade;
 
 pub use machine::Machine;
-pub use unmade::Unmade;

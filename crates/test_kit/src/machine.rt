@@ -1,12 +1,11 @@
 //! A net that keeps all rules.
 
 ghost use Rattle.std.specs.Prelude.{◌≡◌, IfOk, IsTrue, length};
-ghost use Rattle.dn_interval.specs.Rows.{ends_within};
-ghost use Rattle.dn_net.specs.Legal.{IsLegalNet};
-ghost use Rattle.dn_kind.specs.Levels.{are_there};
+ghost use Rattle.dn_interval.specs.Terms.{ends_within};
+ghost use Rattle.dn_net.specs.Terms.{IsLegalNet};
+ghost use Rattle.dn_kind.specs.Terms.{are_there};
 
 use crate::resolve::resolve;
-use crate::unmade::Unmade;
 use dn_flat::flat::{Flat, flatten};
 use dn_flat::flats::{Flats, flatten_all};
 use dn_net::names::Names;
@@ -16,7 +15,7 @@ use dn_tool::compile::{CompileFault, compile};
 use dn_walk::walks::WalkTable;
 use std::alloc::Global;
 use std::marker::Model;
-use test_plans::program_kinds;
+use test_plans::{Unmade, program_kinds};
 
 /// A legal net with its live walks. Contracts see the list of the nodes' declarations.
 #[derive(Drop)]

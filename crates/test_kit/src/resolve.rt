@@ -1,10 +1,8 @@
 //! To what a name resolves, level by level.
 
 ghost use Rattle.std.specs.Prelude.{◌≡◌, ◌++◌, ◌<◌, length, IfOk, OnOk, IsTrue};
-ghost use Rattle.dn_net.specs.Decode.{is_accepted, steps};
-ghost use Rattle.dn_net.specs.Names.{each_step, passing_names, resolved_names, sorted_names};
-ghost use Rattle.dn_net.specs.Rules.{KeepsNodeRules};
-ghost use Rattle.dn_kind.specs.Levels.{are_there};
+ghost use Rattle.dn_net.specs.Terms.{KeepsNodeRules, each_step, is_accepted, passing_names, resolved_names, sorted_names, steps};
+ghost use Rattle.dn_kind.specs.Terms.{are_there};
 
 use dn_kind::levels::{push_moved, set_of};
 use dn_net::names::Names;
@@ -30,9 +28,6 @@ pub fn resolve(alloc: Global, net: &Net, name: Name) -> Result<Names, AllocError
     let mut level = Names::new(alloc);
     level.insert(name)?;
     for _ in 0..LEVELS {
-        if level.list().is_empty() {
-            break;
-        }
         level = next_level(alloc, net, level.list(), &mut accepted)?;
     }
     set_of(alloc, accepted)

@@ -4,13 +4,13 @@ use dn_net::node::{Name, TOP};
 use dn_net::step::Step;
 use std::alloc::Global;
 use std::test::Fail;
-use test_kit::{Machine, Unmade};
+use test_kit::Machine;
 
 /// A bus that accepts, maps and sends on, a memory behind it, and a unit in front of both, which is node 2.
-fn board(alloc: Global) -> Result<Machine, Unmade> {
+fn board(alloc: Global) -> Result<Machine, Fail> {
     let text =
         "bus is accept [0-9] map [10-19 to bus at 100] over ram; ram is accept [0-99]; unit mmu kind remap page 12 slots 16 reach 32 to bus, ram;";
-    Machine::of_text(alloc, text)
+    Ok(Machine::of_text(alloc, text)?)
 }
 
 /// The step of a name, and the first name to which it leads.

@@ -5,7 +5,7 @@
 #![tactic(auto)]
 
 ghost use Rattle.std.specs.Prelude.{◌≡◌, IfNone, None};
-ghost use Rattle.dn_net.specs.Rules.{node_fault};
+ghost use Rattle.dn_net.specs.Terms.{node_fault};
 
 use dn_net::net::Net;
 use dn_net::rules::NodeFault;

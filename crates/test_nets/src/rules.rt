@@ -6,72 +6,44 @@ use dn_net::rules::NodeFault;
 use std::test::Fail;
 use test_kit::texts::net_of;
 
-#[test]
-fn names_the_least_overlap(rt: HostRuntime) -> Result<(), Fail> {
-    let alloc = rt.alloc();
-    let rows = [
-        ("a is map [10-19 to a, 0-9 to a];", None),
-        ("a is map [0-9 to a, 20-29 to a, 5-6 to a];", Some(5)),
-        (
-            "a is map [50-60 to a, 0-5 to a, 55-70 to a, 5 to a];",
-            Some(5),
-        ),
-        ("a is accept [0-9, 5-15];", None),
-        ("a is accept [0-9] map [9-12 to a];", Some(9)),
-        ("a is accept [0-100, 2-3] map [50-51 to a];", Some(50)),
-        (
-            "a is accept [0-0xffffffffffffff] map [0xffffffffffffff to a];",
-            Some(TOP),
-        ),
-    ];
-    for (text, addr) in rows {
-        let net = net_of(alloc, text)?;
-        let fault = addr.map(|addr| NodeFault::Overlap { node: 0, addr });
-        assert_eq!(rt; fault_of(alloc, &net), fault, "{text}");
-    }
-    Ok(())
+/// The fault of node 0, two of whose blocks have an address, which is the least of such.
+fn overlap(addr: u64) -> Option<NodeFault> {
+    Some(NodeFault::Overlap { node: 0, addr })
 }
 
 #[test]
-fn keeps_addresses_in_range(rt: HostRuntime) -> Result<(), Fail> {
+fn names_the_first_rule_that_is_broken(rt: HostRuntime) -> Result<(), Fail> {
     let alloc = rt.alloc();
     let range = Some(NodeFault::Range { node: 0 });
+    let space = Some(NodeFault::VectorSpace { node: 0 });
+    let repeat = Some(NodeFault::Repeat { node: 0 });
     let rows = [
+        // The least overlap is named.
+        ("a is map [10-19 to a, 0-9 to a];", None),
+        ("a is map [0-9 to a, 20-29 to a, 5-6 to a];", overlap(5)),
+        (
+            "a is map [50-60 to a, 0-5 to a, 55-70 to a, 5 to a];",
+            overlap(5),
+        ),
+        ("a is accept [0-9, 5-15];", None),
+        ("a is accept [0-9] map [9-12 to a];", overlap(9)),
+        ("a is accept [0-100, 2-3] map [50-51 to a];", overlap(50)),
+        (
+            "a is accept [0-0xffffffffffffff] map [0xffffffffffffff to a];",
+            overlap(TOP),
+        ),
+        // Addresses are in range.
         ("a is accept [0-0xffffffffffffff];", None),
         ("a is accept [1-0];", range),
         ("a is accept [0-0x100000000000000];", range),
         ("a is map [2-3 to a at 0xfffffffffffffe];", None),
         ("a is map [2-3 to a at 0xffffffffffffff];", range),
-    ];
-    for (text, fault) in rows {
-        let net = net_of(alloc, text)?;
-        assert_eq!(rt; fault_of(alloc, &net), fault, "{text}");
-    }
-    Ok(())
-}
-
-#[test]
-fn keeps_vectors_apart(rt: HostRuntime) -> Result<(), Fail> {
-    let alloc = rt.alloc();
-    let space = Some(NodeFault::VectorSpace { node: 0 });
-    let rows = [
+        // Vectors are kept apart.
         ("vectors a is accept [1-4096, 10-20];", None),
         ("vectors a is accept [5-4096, 0-4095];", space),
         ("vectors a is map [0 to a];", space),
         ("vectors a is over a;", space),
-    ];
-    for (text, fault) in rows {
-        let net = net_of(alloc, text)?;
-        assert_eq!(rt; fault_of(alloc, &net), fault, "{text}");
-    }
-    Ok(())
-}
-
-#[test]
-fn names_no_destination_twice(rt: HostRuntime) -> Result<(), Fail> {
-    let alloc = rt.alloc();
-    let repeat = Some(NodeFault::Repeat { node: 0 });
-    let rows = [
+        // No destination is named twice.
         ("a is map [0 to a at 1 and a at 2 and a at 3];", None),
         ("a is map [0 to a at 1 and a at 2 and a at 1];", repeat),
         (
@@ -89,22 +61,26 @@ fn names_no_destination_twice(rt: HostRuntime) -> Result<(), Fail> {
 #[test]
 fn names_no_port_twice(rt: HostRuntime) -> Result<(), Fail> {
     let alloc = rt.alloc();
+    let nodes = "a is; b is; c is; unit u kind remap page 12 slots 4 reach 32 to c, a, ";
     let fault = NodeFault::Repeat { node: 3 };
-    let rows = [
-        (
-            "a is; b is; c is; unit u kind remap page 12 slots 4 reach 32 to c, a, b;",
-            None,
-        ),
-        (
-            "a is; b is; c is; unit u kind remap page 12 slots 4 reach 32 to c, a, a;",
-            Some(fault),
-        ),
-    ];
-    for (text, wanted) in rows {
-        let net = net_of(alloc, text)?;
-        assert_eq!(rt; fault_of(alloc, &net), wanted, "{text}");
+    for (last, wanted) in [("b;", None), ("a;", Some(fault))] {
+        let text = [nodes, last].concat(alloc)?;
+        let net = net_of(alloc, text.as_str())?;
+        assert_eq!(rt; fault_of(alloc, &net), wanted, "{last}");
     }
-    let text = format!(in alloc; "{fault}")?;
-    assert_eq!(rt; text.as_str(), "Repeat");
+    Ok(())
+}
+
+#[test]
+fn names_each_rule(rt: HostRuntime) -> Result<(), Fail> {
+    use NodeFault::{OutOfMemory, Overlap, Range, Repeat, VectorSpace};
+    let node = 3;
+    let (range, overlap) = (Range { node }, Overlap { node, addr: 1 });
+    let (repeat, space) = (Repeat { node }, VectorSpace { node });
+    let text = format!(in rt.alloc(); "{range} {overlap} {repeat} {space} {OutOfMemory}")?;
+    assert_eq!(rt;
+        text.as_str(),
+        "Range Overlap Repeat VectorSpace OutOfMemory"
+    );
     Ok(())
 }

@@ -5,6 +5,7 @@ use dn_net::node::Name;
 use dn_walk::fault::WalkFault;
 use dn_walk::walks::{WalkRow, WalkTable, walks};
 use std::alloc::{AllocError, Global};
+use std::process::Abort;
 use std::test::Fail;
 use test_kit::texts::net_of;
 
@@ -23,16 +24,21 @@ fn told(alloc: Global, text: &str) -> Result<String, Fail> {
 fn answer(alloc: Global, walks: Result<WalkTable, WalkFault>) -> Result<String, AllocError> {
     match walks {
         Ok(table) => rows(alloc, table.rows()),
-        Err(WalkFault::Wide) => String::from_str(alloc, "Wide"),
-        Err(WalkFault::OutOfMemory) => String::from_str(alloc, "no memory"),
-        Err(WalkFault::Loop { cycle }) => names(alloc, "Loop", cycle.as_slice()),
-        Err(WalkFault::Deep { path }) => names(alloc, "Deep", path.as_slice()),
-        Err(WalkFault::Fork { name, unit }) => {
-            let (node, addr) = (name.node, name.addr);
-            format!(in alloc; "Fork {node}@{addr:x} {unit}")
-        }
-        Err(WalkFault::Chain { units }) => numbers(alloc, units.as_slice()),
+        Err(fault) => broken(alloc, &fault),
     }
+}
+
+/// The words of the rule that is broken, and the names and units that it shows.
+fn broken(alloc: Global, fault: &WalkFault) -> Result<String, AllocError> {
+    let mut text = format!(in alloc; "{fault}")?;
+    match fault {
+        WalkFault::Wide | WalkFault::OutOfMemory => {}
+        WalkFault::Loop { cycle } => push_names(&mut text, cycle.as_slice())?,
+        WalkFault::Deep { path } => push_names(&mut text, path.as_slice())?,
+        WalkFault::Fork { name, unit } => write!(text, " {}@{:x} {unit}", name.node, name.addr)?,
+        WalkFault::Chain { units } => push_numbers(&mut text, units.as_slice())?,
+    }
+    Ok(text)
 }
 
 fn rows(alloc: Global, pieces: &[Items<WalkRow>]) -> Result<String, AllocError> {
@@ -47,20 +53,27 @@ fn rows(alloc: Global, pieces: &[Items<WalkRow>]) -> Result<String, AllocError> 
     Ok(text)
 }
 
-fn names(alloc: Global, word: &str, names: &[Name]) -> Result<String, AllocError> {
-    let mut text = String::from_str(alloc, word)?;
+fn push_names(text: &mut String, names: &[Name]) -> Result<(), AllocError> {
     for name in names {
         write!(text, " {}@{:x}", name.node, name.addr)?;
     }
-    Ok(text)
+    Ok(())
 }
 
-fn numbers(alloc: Global, units: &[u16]) -> Result<String, AllocError> {
-    let mut text = String::from_str(alloc, "Chain")?;
+fn push_numbers(text: &mut String, units: &[u16]) -> Result<(), AllocError> {
     for unit in units {
         write!(text, " {unit}")?;
     }
-    Ok(text)
+    Ok(())
+}
+
+/// Compares what is told of each text with what is wanted.
+fn compare_each<R: Abort + AllocGlobal>(rt: &R, rows: &[(&str, &str)]) -> Result<(), Fail> {
+    for (text, wanted) in rows {
+        let told = told(rt.alloc(), text)?;
+        assert_eq!(rt; told.as_str(), *wanted, "{text}");
+    }
+    Ok(())
 }
 
 /// A bus with a memory and a device, and a core in front of it.
@@ -76,42 +89,99 @@ bus is accept [20-29, 0xfffffffffffff6-0xfffffffffffffe] map [10-19 to memory at
 ";
 
 #[test]
-fn lists_the_walks_of_a_bus(rt: HostRuntime) -> Result<(), Fail> {
-    let told = told(rt.alloc(), BUS)?;
-    assert_eq!(rt;
-        told.as_str(),
-        "2 10000000-10000fff 1@0 1;2 80000000-bfffffff 0@0 1;3 0-ffffffffffffff 2@0 1;3 10000000-10000fff 1@0 2;3 80000000-bfffffff 0@0 2;"
-    );
-    Ok(())
+fn lists_the_walks_or_names_the_loop(rt: HostRuntime) -> Result<(), Fail> {
+    compare_each(
+        &rt,
+        &[
+            (
+                BUS,
+                "2 10000000-10000fff 1@0 1;2 80000000-bfffffff 0@0 1;3 0-ffffffffffffff 2@0 1;3 10000000-10000fff 1@0 2;3 80000000-bfffffff 0@0 2;",
+            ),
+            (
+                GAPS,
+                "1 0-9 0@0 1;1 a-13 0@5 1;1 1e-fffffffffffff5 0@1e 1;1 ffffffffffffff-ffffffffffffff 0@ffffffffffffff 1;",
+            ),
+            // A loop, and none.
+            (
+                "a is map [0-9 to b at 100]; b is map [105-110 to a at 5];",
+                "Loop 0@5 1@69 0@5",
+            ),
+            (
+                "a is map [0-9 to b at 100]; b is map [105-110 to a at 50];",
+                "0 0-9 1@64 1;1 69-6e 0@32 1;0 5-9 0@32 2;",
+            ),
+        ],
+    )
 }
 
 #[test]
-fn lists_the_walks_of_gaps(rt: HostRuntime) -> Result<(), Fail> {
-    let told = told(rt.alloc(), GAPS)?;
-    assert_eq!(rt;
-        told.as_str(),
-        "1 0-9 0@0 1;1 a-13 0@5 1;1 1e-fffffffffffff5 0@1e 1;1 ffffffffffffff-ffffffffffffff 0@ffffffffffffff 1;"
-    );
-    Ok(())
+fn names_the_least_fork_before_a_unit(rt: HostRuntime) -> Result<(), Fail> {
+    compare_each(
+        &rt,
+        &[
+            // Two names fork and reach the unit, and the one in the node of the lesser number is named.
+            (
+                "m is accept [0-15]; unit u kind pages page 0 slots 16 reach 8 to m; b is map [4-7 to u at 0 and m at 0]; a is map [0-3 to m at 0 and u at 0];",
+                "Fork 2@4 1",
+            ),
+            // The least name is named, though the next one reaches a lesser unit too, in two steps.
+            (
+                "a is map [2-3 to w at 0 and b at 0]; b is map [1 to u at 0]; m is accept [0-15]; unit u kind pages page 0 slots 16 reach 8 to m; unit w kind pages page 0 slots 16 reach 8 to m;",
+                "Fork 0@2 4",
+            ),
+            // The name reaches two units, and the lesser is named.
+            (
+                "a is map [0-3 to w at 0 and u at 0]; m is accept [0-15]; unit u kind pages page 0 slots 16 reach 8 to m; unit w kind pages page 0 slots 16 reach 8 to m;",
+                "Fork 0@0 2",
+            ),
+            // Two destinations behind the unit are no fork.
+            (
+                "a is map [0-3 to u at 0]; m is accept [0-15]; unit u kind pages page 0 slots 16 reach 8 to n; n is map [0-3 to m at 0 and m at 8];",
+                "0 0-3 2@0 1;3 0-3 1@0 1;3 0-3 1@8 1;",
+            ),
+        ],
+    )
 }
 
 #[test]
-fn names_a_loop(rt: HostRuntime) -> Result<(), Fail> {
-    let rows = [
-        (
-            "a is map [0-9 to b at 100]; b is map [105-110 to a at 5];",
-            "Loop 0@5 1@69 0@5",
-        ),
-        (
-            "a is map [0-9 to b at 100]; b is map [105-110 to a at 50];",
-            "0 0-9 1@64 1;1 69-6e 0@32 1;0 5-9 0@32 2;",
-        ),
-    ];
-    for (text, wanted) in rows {
-        let told = told(rt.alloc(), text)?;
-        assert_eq!(rt; told.as_str(), wanted, "{text}");
-    }
-    Ok(())
+fn names_the_first_row_of_units(rt: HostRuntime) -> Result<(), Fail> {
+    compare_each(
+        &rt,
+        &[
+            // A unit behind itself, and a port that is the unit.
+            (
+                "n is over u; unit u kind remap page 12 slots 4 reach 16 to n;",
+                "Chain 1 1 1 1",
+            ),
+            (
+                "unit u kind remap page 12 slots 4 reach 16 to u;",
+                "Chain 0 0 0 0",
+            ),
+            // Three units in a row, and a fourth in front of them.
+            (
+                "m is accept [0]; unit u kind pages page 0 slots 1 reach 8 to m; unit v kind pages page 0 slots 1 reach 8 to u; unit w kind pages page 0 slots 1 reach 8 to v; unit x kind pages page 0 slots 1 reach 8 to w;",
+                "Chain 4 3 2 1",
+            ),
+            // Slots that multiply to 2^20, and to more.
+            (
+                "m is accept [0]; unit u kind pages page 0 slots 1024 reach 16 to m; unit v kind pages page 0 slots 1024 reach 16 to u;",
+                "",
+            ),
+            (
+                "m is accept [0]; unit u kind pages page 0 slots 1024 reach 16 to m; unit v kind pages page 0 slots 1025 reach 16 to u;",
+                "Chain 2 1",
+            ),
+            // The port's node leads to the other unit at addresses past the reach alone.
+            (
+                "m is accept [0]; n is map [0x100-0x1ff to u at 0]; unit u kind pages page 0 slots 1024 reach 16 to m; unit v kind pages page 0 slots 2048 reach 8 to n;",
+                "1 100-1ff 2@0 1;",
+            ),
+            (
+                "m is accept [0]; n is map [0xff-0x1ff to u at 0]; unit u kind pages page 0 slots 1024 reach 16 to m; unit v kind pages page 0 slots 2048 reach 8 to n;",
+                "Chain 3 2",
+            ),
+        ],
+    )
 }
 
 #[test]
@@ -147,75 +217,10 @@ fn ends_chains_at_sixty_four_steps(rt: HostRuntime) -> Result<(), Fail> {
 }
 
 #[test]
-fn names_the_least_fork(rt: HostRuntime) -> Result<(), Fail> {
-    let rows = [
-        // Two names fork and reach the unit: the one in the node of the lesser number is named.
-        (
-            "m is accept [0-15]; unit u kind pages page 0 slots 16 reach 8 to m; b is map [4-7 to u at 0 and m at 0]; a is map [0-3 to m at 0 and u at 0];",
-            "Fork 2@4 1",
-        ),
-        // The least name is named, though the next one reaches a lesser unit too, in two steps.
-        (
-            "a is map [2-3 to w at 0 and b at 0]; b is map [1 to u at 0]; m is accept [0-15]; unit u kind pages page 0 slots 16 reach 8 to m; unit w kind pages page 0 slots 16 reach 8 to m;",
-            "Fork 0@2 4",
-        ),
-        // The name reaches two units, and the lesser is named.
-        (
-            "a is map [0-3 to w at 0 and u at 0]; m is accept [0-15]; unit u kind pages page 0 slots 16 reach 8 to m; unit w kind pages page 0 slots 16 reach 8 to m;",
-            "Fork 0@0 2",
-        ),
-        // Two destinations behind the unit are no fork.
-        (
-            "a is map [0-3 to u at 0]; m is accept [0-15]; unit u kind pages page 0 slots 16 reach 8 to n; n is map [0-3 to m at 0 and m at 8];",
-            "0 0-3 2@0 1;3 0-3 1@0 1;3 0-3 1@8 1;",
-        ),
-    ];
-    for (text, wanted) in rows {
-        let told = told(rt.alloc(), text)?;
-        assert_eq!(rt; told.as_str(), wanted, "{text}");
-    }
-    Ok(())
-}
-
-#[test]
-fn names_the_first_row_of_units(rt: HostRuntime) -> Result<(), Fail> {
-    let rows = [
-        // A unit behind itself, and a port that is the unit.
-        (
-            "n is over u; unit u kind remap page 12 slots 4 reach 16 to n;",
-            "Chain 1 1 1 1",
-        ),
-        (
-            "unit u kind remap page 12 slots 4 reach 16 to u;",
-            "Chain 0 0 0 0",
-        ),
-        // Three units in a row, and a fourth in front of them.
-        (
-            "m is accept [0]; unit u kind pages page 0 slots 1 reach 8 to m; unit v kind pages page 0 slots 1 reach 8 to u; unit w kind pages page 0 slots 1 reach 8 to v; unit x kind pages page 0 slots 1 reach 8 to w;",
-            "Chain 4 3 2 1",
-        ),
-        // Slots that multiply to 2^20, and to more.
-        (
-            "m is accept [0]; unit u kind pages page 0 slots 1024 reach 16 to m; unit v kind pages page 0 slots 1024 reach 16 to u;",
-            "",
-        ),
-        (
-            "m is accept [0]; unit u kind pages page 0 slots 1024 reach 16 to m; unit v kind pages page 0 slots 1025 reach 16 to u;",
-            "Chain 2 1",
-        ),
-        // The port's node leads to the other unit at addresses past the reach alone.
-        (
-            "m is accept [0]; n is map [0x100-0x1ff to u at 0]; unit u kind pages page 0 slots 1024 reach 16 to m; unit v kind pages page 0 slots 2048 reach 8 to n;",
-            "1 100-1ff 2@0 1;",
-        ),
-        (
-            "m is accept [0]; n is map [0xff-0x1ff to u at 0]; unit u kind pages page 0 slots 1024 reach 16 to m; unit v kind pages page 0 slots 2048 reach 8 to n;",
-            "Chain 3 2",
-        ),
-    ];
-    for (text, wanted) in rows {
-        let told = told(rt.alloc(), text)?;
-        assert_eq!(rt; told.as_str(), wanted, "{text}");
-    }
+fn names_the_rules_that_no_text_here_breaks(rt: HostRuntime) -> Result<(), Fail> {
+    let wide = broken(rt.alloc(), &WalkFault::Wide)?;
+    assert_eq!(rt; wide.as_str(), "Wide");
+    let none = broken(rt.alloc(), &WalkFault::OutOfMemory)?;
+    assert_eq!(rt; none.as_str(), "OutOfMemory");
     Ok(())
 }

@@ -36,31 +36,21 @@ fn tell(text: &mut String, row: &Row) -> Result<(), OutOfMemory> {
 }
 
 #[test]
-fn rows_go_on(rt: HostRuntime) -> Result<(), Fail> {
-    let parts = [(0, 0xff, 0, 0), (0x100, 0x1ff, 0, 0x100)];
-    let rows = rows_of(rt.alloc(), &parts)?;
-    let told = told(rt.alloc(), &rows)?;
-    assert_eq!(rt; told.as_str(), "0-1ff 0@0;");
-    Ok(())
-}
-
-#[test]
-fn rows_break_where_the_names_do_not_go_on(rt: HostRuntime) -> Result<(), Fail> {
-    let parts = [(0, 0xff, 0, 0), (0x100, 0x1ff, 0, 0x200)];
-    let rows = rows_of(rt.alloc(), &parts)?;
-    let told = told(rt.alloc(), &rows)?;
-    assert_eq!(rt; told.as_str(), "0-ff 0@0;100-1ff 0@200;");
-    Ok(())
-}
-
-#[test]
-fn rows_break_where_a_name_comes_or_goes(rt: HostRuntime) -> Result<(), Fail> {
-    let parts = [(0, 0xff, 0, 0), (0x80, 0x8f, 1, 0)];
-    let rows = rows_of(rt.alloc(), &parts)?;
-    let told = told(rt.alloc(), &rows)?;
-    assert_eq!(rt; told.as_str(), "0-7f 0@0;80-8f 0@80 1@0;90-ff 0@90;");
-    assert!(rt; rows.at(0x8f).is_some());
-    assert!(rt; rows.at(0x100).is_none());
+fn rows_go_on_and_break(rt: HostRuntime) -> Result<(), Fail> {
+    let alloc = rt.alloc();
+    let goes_on = rows_of(alloc, &[(0, 0xff, 0, 0), (0x100, 0x1ff, 0, 0x100)])?;
+    assert_eq!(rt; told(alloc, &goes_on)?.as_str(), "0-1ff 0@0;");
+    // The names do not go on.
+    let breaks = rows_of(alloc, &[(0, 0xff, 0, 0), (0x100, 0x1ff, 0, 0x200)])?;
+    assert_eq!(rt; told(alloc, &breaks)?.as_str(), "0-ff 0@0;100-1ff 0@200;");
+    // A name comes and goes.
+    let comes = rows_of(alloc, &[(0, 0xff, 0, 0), (0x80, 0x8f, 1, 0)])?;
+    assert_eq!(rt;
+        told(alloc, &comes)?.as_str(),
+        "0-7f 0@0;80-8f 0@80 1@0;90-ff 0@90;"
+    );
+    assert!(rt; comes.at(0x8f).is_some());
+    assert!(rt; comes.at(0x100).is_none());
     Ok(())
 }
 

@@ -3,9 +3,8 @@
 ghost use Rattle.std.specs.Prelude.{◌≡◌, ◌<◌, ◌&&◌, [], nat_lt, map, None, IfOk, IsTrue};
 ghost use Rattle.std.specs.List.{All, list_all};
 ghost use Rattle.std.specs.Option.{option_copied};
-ghost use Rattle.dn_net.specs.Decode.{is_bare, is_closed, is_formed, over_within, ports_within, refers_within};
-ghost use Rattle.dn_kind.specs.Kind.{IsLawful};
-ghost use Rattle.dn_kind.specs.Units.{IsLegalWith, has_kind};
+ghost use Rattle.dn_net.specs.Terms.{is_bare, is_closed, is_formed, over_within, ports_within, refers_within};
+ghost use Rattle.dn_kind.specs.Terms.{IsLawful, IsLegalWith, has_kind};
 
 use crate::PAGES;
 use crate::unmade::Unmade;
@@ -49,7 +48,7 @@ impl Plan {
     /// pages, node 5.
     pub fn pages(alloc: Global) -> Result<Plan, Unmade> {
         let mut plan = Plan::bus(alloc)?;
-        plan.mapping("dma", Role::Agent, 0, 0xffff, to(5, 0))?;
+        plan.agent("dma", 0xffff, to(5, 0))?;
         plan.unit("smmu", PAGES, 12, 16, 32, &[2])?;
         Ok(plan)
     }
@@ -77,6 +76,11 @@ impl Plan {
     ) -> Result<(), Unmade> {
         self.node(title, role)?;
         self.maps(lo, hi, &[dest])
+    }
+
+    /// Begins an agent that sends the addresses up to `hi` to a destination.
+    pub fn agent(&mut self, title: &str, hi: u64, dest: Dest) -> Result<(), Unmade> {
+        self.mapping(title, Role::Agent, 0, hi, dest)
     }
 
     /// Begins a node that is a unit: its kind by its number, the exponent of its page, its slots, the

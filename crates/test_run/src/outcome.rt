@@ -2,8 +2,8 @@
 
 ghost use Rattle.std.specs.Prelude.{◌≡◌, ◌≢◌, ◌<◌, ◌≤◌, [], Some, length, map, IfOk};
 ghost use Rattle.std.specs.List.{All};
-ghost use Rattle.dn_base.specs.Device.{log_told};
-ghost use Rattle.dn_kind.specs.Kind.{IsLawful};
+ghost use Rattle.dn_base.specs.Terms.{log_told};
+ghost use Rattle.dn_kind.specs.Terms.{IsLawful};
 ghost use Rattle.dn_tool.specs.Answer.{IsAnswered, answer as answer_of, demo_answer};
 
 use dn_base::memory::{MemSink, MemSource};

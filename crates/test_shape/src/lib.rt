@@ -5,7 +5,7 @@
 #![tactic(auto)]
 
 ghost use Rattle.std.specs.Prelude.{◌≡◌, ◌+◌, IfOk, IfSome};
-ghost use Rattle.dn_net.specs.Legal.{IsLegalNet};
+ghost use Rattle.dn_net.specs.Terms.{IsLegalNet};
 
 use dn_interval::{End, Rows};
 use dn_net::net::Net;

@@ -1,10 +1,8 @@
 //! Stages, compared with chains of steps, address by address.
 
-ghost use Rattle.std.specs.Prelude.{◌≡◌, ◌*◌, ◌<◌, ◌≤◌, length, IfOk};
-ghost use Rattle.std.specs.List.{All};
-ghost use Rattle.dn_flat.specs.Stages.{IsStage};
-ghost use Rattle.dn_net.specs.Legal.{IsLegalNet};
-ghost use Rattle.dn_net.specs.Rules.{KeepsRules};
+ghost use Rattle.std.specs.Prelude.{◌<◌, length};
+ghost use Rattle.dn_flat.specs.Terms.{IsStage};
+ghost use Rattle.dn_net.specs.Terms.{IsLegalNet};
 
 use crate::{legal, names_at};
 use dn_flat::stage::Stage;
@@ -15,7 +13,7 @@ use dn_net::step::Step;
 use std::alloc::{AllocError, Global};
 use std::process::Abort;
 use std::test::Fail;
-use test_plans::{PAGES, Plan, Unmade};
+use test_plans::{PAGES, Plan, Unmade, to};
 
 /// Where chains of steps from a name are after some steps, and the accepted names and the names in units that
 /// they met before.
@@ -50,7 +48,7 @@ fn add_dests(names: &mut Names, dests: &[Dest], offset: u64) -> Result<(), Alloc
 
 /// The search after one step more.
 fn advance(alloc: Global, net: &Net, search: Search) -> Result<Search, Unmade>
-    requires { All KeepsRules net.now }
+    requires { IsLegalNet net.now }
 {
     let Search {
         at,
@@ -78,7 +76,7 @@ fn advance(alloc: Global, net: &Net, search: Search) -> Result<Search, Unmade>
 
 /// Compares what a stage has of a name with the search of so many steps.
 fn compare(rt: &impl Abort, alloc: Global, net: &Net, stage: &Stage, name: Name) -> Result<(), Fail>
-    requires rules { All KeepsRules net.now }
+    requires legal { IsLegalNet net.now }
     requires there { name.node < length stage.now.nodes }
 {
     let mut search = begin(alloc, name)?;
@@ -112,7 +110,7 @@ fn compare_all(
     stage: &Stage,
     addresses: u64,
 ) -> Result<(), Fail>
-    requires rules { All KeepsRules net.now }
+    requires legal { IsLegalNet net.now }
     requires stage { IsStage net.now stage.now }
 {
     for node in 0..net.nodes() {
@@ -123,90 +121,79 @@ fn compare_all(
     Ok(())
 }
 
-/// Compares a stage in this way, and answers the one for twice as many steps.
-fn doubled(
-    rt: &impl Abort,
-    alloc: Global,
-    net: &Net,
-    stage: &Stage,
-    addresses: u64,
-) -> Result<Stage, Fail>
-    requires legal { IsLegalNet net.now }
-    requires stage { IsStage net.now stage.now }
-    requires few { stage.now.steps ≤ 64 }
-    ensures stage { IfOk result (λ twice. IsStage net.now twice) }
-    ensures steps { IfOk result (λ twice. twice.steps ≡ 2 * stage.now.steps) }
-{
-    compare_all(rt, alloc, net, stage, addresses)?;
-    Ok(stage.doubled(alloc, net)?)
-}
-
 /// Compares the stages for 1, 2, 4 and so on to 64 steps.
 fn compare_stages(rt: &impl Abort, alloc: Global, net: &Net, addresses: u64) -> Result<(), Fail>
     requires { IsLegalNet net.now }
 {
-    let one = Stage::start(alloc, net)?;
-    assert_eq!(rt; one.steps(), 1);
-    let two = doubled(rt, alloc, net, &one, addresses)?;
-    let four = doubled(rt, alloc, net, &two, addresses)?;
-    let eight = doubled(rt, alloc, net, &four, addresses)?;
-    let sixteen = doubled(rt, alloc, net, &eight, addresses)?;
-    let half = doubled(rt, alloc, net, &sixteen, addresses)?;
-    let all = doubled(rt, alloc, net, &half, addresses)?;
-    assert_eq!(rt; all.steps(), 64);
-    compare_all(rt, alloc, net, &all, addresses)
+    let mut stage = Stage::start(alloc, net)?;
+    for _ in 0..6 {
+        compare_all(rt, alloc, net, &stage, addresses)?;
+        assert!(rt; stage.steps() <= 32);
+        stage = stage.doubled(alloc, net)?;
+    }
+    assert_eq!(rt; stage.steps(), 64);
+    compare_all(rt, alloc, net, &stage, addresses)
 }
 
-#[test]
-fn follows_a_chain_of_64_steps(rt: HostRuntime) -> Result<(), Fail> {
-    let alloc = rt.alloc();
-    let mut plan = Plan::new(alloc);
-    // Each address goes to the next, up to 64, and the other node comes in at each.
-    plan.node("a", Role::Plain)?;
-    plan.accepts(64, 64)?;
-    plan.maps(0, 63, &[Dest { node: 0, addr: 1 }])?;
-    plan.node("b", Role::Agent)?;
-    plan.maps(
-        0,
-        9,
-        &[Dest { node: 0, addr: 30 }, Dest { node: 0, addr: 40 }],
-    )?;
-    plan.maps(10, 19, &[Dest { node: 0, addr: 56 }])?;
+/// The same over the net of a plan.
+fn compare_plan(rt: &impl Abort, alloc: Global, plan: Plan, addresses: u64) -> Result<(), Fail> {
     let net = legal(alloc, plan)?;
-    compare_stages(&rt, alloc, &net, 66)
+    compare_stages(rt, alloc, &net, addresses)
 }
 
-#[test]
-fn follows_forks_and_stops_in_units(rt: HostRuntime) -> Result<(), Fail> {
-    let alloc = rt.alloc();
+/// Each address goes to the next, up to 64, and another node comes in at some.
+fn chain_plan(alloc: Global) -> Result<Plan, Unmade> {
     let mut plan = Plan::new(alloc);
-    plan.node("c", Role::Plain)?;
-    plan.accepts(8, 11)?;
+    plan.accepting("a", Role::Plain, 64, 64)?;
+    plan.maps(0, 63, &[to(0, 1)])?;
+    plan.node("b", Role::Agent)?;
+    plan.maps(0, 9, &[to(0, 30), to(0, 40)])?;
+    plan.maps(10, 19, &[to(0, 56)])?;
+    Ok(plan)
+}
+
+/// Two ways that meet again, and two steps to a unit, and none from it.
+fn fork_plan(alloc: Global) -> Result<Plan, Unmade> {
+    let mut plan = Plan::new(alloc);
+    plan.accepting("c", Role::Plain, 8, 11)?;
     plan.accepts(0, 3)?;
     plan.over(1)?;
-    plan.node("d", Role::Plain)?;
-    plan.accepts(4, 5)?;
-    plan.maps(6, 7, &[Dest { node: 0, addr: 8 }])?;
-    // Two ways that meet again.
+    plan.accepting("d", Role::Plain, 4, 5)?;
+    plan.maps(6, 7, &[to(0, 8)])?;
     plan.node("b", Role::Agent)?;
-    plan.maps(
-        0,
-        3,
-        &[Dest { node: 0, addr: 4 }, Dest { node: 1, addr: 4 }],
-    )?;
-    plan.maps(
-        8,
-        11,
-        &[Dest { node: 0, addr: 0 }, Dest { node: 0, addr: 8 }],
-    )?;
+    plan.maps(0, 3, &[to(0, 4), to(1, 4)])?;
+    plan.maps(8, 11, &[to(0, 0), to(0, 8)])?;
     plan.over(0)?;
-    // Two steps to a unit, and none from it.
     plan.unit("u", PAGES, 2, 2, 8, &[0])?;
-    plan.node("e", Role::Plain)?;
-    plan.maps(0, 7, &[Dest { node: 3, addr: 0 }])?;
-    plan.node("f", Role::Agent)?;
-    plan.maps(1, 4, &[Dest { node: 4, addr: 4 }])?;
+    plan.mapping("e", Role::Plain, 0, 7, to(3, 0))?;
+    plan.mapping("f", Role::Agent, 1, 4, to(4, 4))?;
     plan.over(2)?;
-    let net = legal(alloc, plan)?;
-    compare_stages(&rt, alloc, &net, 16)
+    Ok(plan)
+}
+
+/// Blocks that overlap and touch, two ways to one name, neighbours that go on and neighbours that break.
+fn block_plan(alloc: Global) -> Result<Plan, Unmade> {
+    let mut plan = Plan::new(alloc);
+    plan.accepting("a", Role::Plain, 8, 20)?;
+    plan.accepts(0, 3)?;
+    plan.accepts(4, 10)?;
+    plan.mapping("b", Role::Plain, 0, 9, to(0, 0))?;
+    plan.maps(10, 19, &[to(0, 10)])?;
+    plan.maps(20, 29, &[to(0, 10)])?;
+    plan.accepting("c", Role::Plain, 15, 16)?;
+    plan.maps(0, 9, &[to(0, 2)])?;
+    plan.accepting("d", Role::Plain, 0, 0)?;
+    plan.maps(2, 11, &[to(1, 0), to(2, 0)])?;
+    plan.maps(12, 15, &[to(1, 16)])?;
+    plan.mapping("e", Role::Plain, 5, 9, to(3, 8))?;
+    plan.over(3)?;
+    Ok(plan)
+}
+
+#[test]
+fn gives_chains_of_steps(rt: HostRuntime) -> Result<(), Fail> {
+    let alloc = rt.alloc();
+    compare_plan(&rt, alloc, chain_plan(alloc)?, 66)?;
+    compare_plan(&rt, alloc, fork_plan(alloc)?, 16)?;
+    compare_plan(&rt, alloc, block_plan(alloc)?, 32)
 }

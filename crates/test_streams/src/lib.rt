@@ -6,7 +6,7 @@
 #![tactic(auto)]
 
 ghost use Rattle.std.specs.Prelude.{◌≡◌, ◌<◌, IfOk};
-ghost use Rattle.dn_base.specs.Memory.{no_calls};
+ghost use Rattle.dn_base.specs.Terms.{no_calls};
 
 use dn_base::memory::MemSource;
 use std::alloc::{AllocError, Global};

@@ -96,22 +96,22 @@ fn writes_to_a_writer_of_the_system(rt: HostRuntime) -> Result<(), Fail> {
     Ok(())
 }
 
-/// The source of a reader of `abc` whose first call fails.
-fn broken_once(error: ErrorKind) -> StdSource<FailsOnce<&'static [u8]>> {
-    StdSource::new(FailsOnce {
+/// A reader or writer whose first call fails by an error.
+fn failing_once<S>(error: ErrorKind, inner: S) -> FailsOnce<S> {
+    FailsOnce {
         error: Some(error),
-        inner: b"abc",
-    })
+        inner,
+    }
 }
 
 #[test]
 fn answers_each_fault_of_a_reader(rt: HostRuntime) -> Result<(), Fail> {
     for error in ERRORS {
-        let mut source = broken_once(error);
+        let mut source = StdSource::new(failing_once(error, b"abc".as_slice()));
         let mut piece = [0; 2];
         assert_eq!(rt; source.read(&mut piece), Err(ReadFault::Failed));
         assert_eq!(rt; source.read(&mut piece), Ok(2));
-        let mut source = broken_once(error);
+        let mut source = StdSource::new(failing_once(error, b"abc".as_slice()));
         let read = whole::read_whole(rt.alloc(), &mut source);
         assert!(rt; matches!(&read, Err(InputFault::Failed)));
         let text = whole::read_whole(rt.alloc(), &mut source)?;
@@ -124,25 +124,13 @@ fn answers_each_fault_of_a_reader(rt: HostRuntime) -> Result<(), Fail> {
 fn answers_each_fault_of_a_writer(rt: HostRuntime) -> Result<(), Fail> {
     for error in ERRORS {
         let mut kept = Vec::new(rt.alloc());
-        let mut sink = StdSink::new(FailsOnce {
-            error: Some(error),
-            inner: &mut kept,
-        });
+        let mut sink = StdSink::new(failing_once(error, &mut kept));
         assert_eq!(rt; sink.write(b"ab"), Err(WriteFault::Failed));
         assert_eq!(rt; sink.write(b"cd"), Ok(2));
         assert_eq!(rt; kept.as_slice(), b"cd".as_slice());
-    }
-    Ok(())
-}
-
-#[test]
-fn makes_no_write_again(rt: HostRuntime) -> Result<(), Fail> {
-    for error in ERRORS {
+        // No write is made again.
         let mut kept = Vec::new(rt.alloc());
-        let mut sink = StdSink::new(FailsOnce {
-            error: Some(error),
-            inner: &mut kept,
-        });
+        let mut sink = StdSink::new(failing_once(error, &mut kept));
         let written = whole::write_whole(&mut sink, b"abc");
         assert_eq!(rt; written, Err(WriteFault::Failed));
         assert!(rt; kept.is_empty());

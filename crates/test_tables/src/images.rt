@@ -1,8 +1,8 @@
 //! Images: the bytes that are written of tables, and what is read of bytes.
 
 ghost use Rattle.std.specs.List.{All};
-ghost use Rattle.dn_kind.specs.Kind.{IsLawful};
-ghost use Rattle.test_tables.specs.Slots.{IsBench, IsBoard};
+ghost use Rattle.dn_kind.specs.Terms.{IsLawful};
+ghost use Rattle.test_tables.specs.Terms.{IsBench, IsBoard};
 
 use crate::boards::vector_plan;
 use crate::slots::{Bench, Place, bench_of, put, to_page};
@@ -123,7 +123,10 @@ pub fn said(
     if node >= net.nodes() {
         return Ok(None);
     }
-    let words = image.words(node).to_vec(alloc)?;
+    let words = image
+        .words(node)
+        .to_vec(alloc)
+        .or(Err(ImageFault::OutOfMemory))?;
     Ok(Some((image.version(), words)))
 }
 

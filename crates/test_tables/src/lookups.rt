@@ -1,8 +1,8 @@
 //! Lookups in images.
 
 ghost use Rattle.std.specs.List.{All};
-ghost use Rattle.dn_kind.specs.Kind.{IsLawful};
-ghost use Rattle.test_tables.specs.Slots.{IsBench, IsBoard};
+ghost use Rattle.dn_kind.specs.Terms.{IsLawful};
+ghost use Rattle.test_tables.specs.Terms.{IsBench, IsBoard};
 
 use crate::boards::{port_plan, row_plan};
 use crate::images::{put_pages, said};

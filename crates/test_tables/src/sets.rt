@@ -1,8 +1,8 @@
 //! Sets of tables: how they are made, and what their calls leave.
 
 ghost use Rattle.std.specs.List.{All};
-ghost use Rattle.dn_kind.specs.Kind.{IsLawful};
-ghost use Rattle.test_tables.specs.Slots.{IsBench};
+ghost use Rattle.dn_kind.specs.Terms.{IsLawful};
+ghost use Rattle.test_tables.specs.Terms.{IsBench};
 
 use crate::boards::{two_units, vector_plan};
 use crate::slots::{

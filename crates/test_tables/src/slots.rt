@@ -2,12 +2,9 @@
 
 ghost use Rattle.std.specs.Prelude.{◌≡◌, ◌==◌, map, IfOk, IsTrue, IsSome};
 ghost use Rattle.std.specs.List.{All, list_all};
-ghost use Rattle.std.specs.Option.{option_copied};
-ghost use Rattle.dn_kind.specs.Kind.{IsLawful};
-ghost use Rattle.dn_kind.specs.Rights.{are_rights};
-ghost use Rattle.dn_kind.specs.Units.{unit_shape};
-ghost use Rattle.dn_tables.specs.Set.{IsEmpty, has_slot, has_slot_by, unit_in, units_of};
-ghost use Rattle.test_tables.specs.Slots.{CanHold, CanHoldIn, IsBench};
+ghost use Rattle.dn_kind.specs.Terms.{IsLawful, are_rights, unit_shape};
+ghost use Rattle.dn_tables.specs.Terms.{IsEmpty, has_slot, unit_in, units_of};
+ghost use Rattle.test_tables.specs.Terms.{CanHold, CanHoldIn, IsBench};
 
 use bitflags::Flags;
 use dn_base::device::{DeviceFault, MakeFault, Tables};
@@ -56,15 +53,8 @@ pub fn is_there(net: &Net, set: &TableSet, at: Place) -> bool
     if at.unit >= net.nodes() {
         return false;
     }
-    has_slot(net.unit(at.unit), at.slot)
-}
-
-/// Whether a unit has the slot.
-fn has_slot(unit: Option<&Unit>, slot: u32) -> bool
-    ensures { result ≡ has_slot_by (option_copied unit.entry) slot }
-{
-    match unit {
-        Some(unit) => slot < unit.slots,
+    match net.unit(at.unit) {
+        Some(unit) => at.slot < unit.slots,
         None => false,
     }
 }

@@ -4,11 +4,6 @@
 //! The wanted texts are worked out by hand. Views are compared with what a name resolves to, too.
 #![tactic(auto)]
 
-ghost use Rattle.std.specs.Prelude.{◌≡◌, ◌+◌, IfSome};
-
-use dn_interval::End;
-use dn_net::node::Name;
-
 #[cfg(test)]
 mod printing;
 #[cfg(test)]
@@ -16,14 +11,19 @@ mod stages;
 #[cfg(test)]
 mod views;
 
-/// The name that a row with this end gives to the address so many after its first one. `None` where its address
-/// would be past the greatest number.
-pub fn name_after(end: End, by: u64) -> Option<Name>
-    ensures { IfSome result (λ x. (x.node ≡ end.node) × (x.addr ≡ end.base + by)) }
-{
-    let addr = end.base.checked_add(by)?;
-    Some(Name {
-        node: end.node,
-        addr,
-    })
+use dn_print::rows::rows_text;
+use std::alloc::Global;
+use test_kit::Machine;
+use test_plans::Unmade;
+
+/// What a node sees, as printed rows: the accepted names, and the names in units. A node that is not there is refused.
+pub fn seen_texts(
+    alloc: Global,
+    machine: &Machine,
+    node: u16,
+) -> Result<(Vec<u8>, Vec<u8>), Unmade> {
+    let flat = machine.flat(alloc, node)?;
+    let accepts = rows_text(alloc, machine.net(), &flat.accepts)?;
+    let stops = rows_text(alloc, machine.net(), &flat.stops)?;
+    Ok((accepts, stops))
 }

@@ -1,9 +1,8 @@
 //! The printed texts of nets, of names and of rows.
 
+use crate::seen_texts;
 use dn_net::node::Name;
 use dn_print::names::names_text;
-use dn_print::rows::rows_text;
-use std::alloc::Global;
 use std::test::Fail;
 use test_kit::Machine;
 use test_kit::texts::printed;
@@ -48,22 +47,16 @@ fn prints_names_or_nothing(rt: HostRuntime) -> Result<(), Fail> {
     ];
     for (addr, text) in rows {
         let names = machine.resolved(alloc, Name { node: 2, addr })?;
-        let printed = names_text(alloc, machine.net(), names.list())?;
+        let printed = names_text(alloc, machine.net(), &names)?;
         assert_eq!(rt; printed.as_slice(), text.as_bytes(), "{text}");
     }
     Ok(())
 }
 
-/// The rows of what the last of three nodes sees in a text.
-fn view_text(alloc: Global, text: &str) -> Result<Vec<u8>, Fail> {
-    let machine = Machine::of_text(alloc, text)?;
-    let flat = machine.flat(alloc, 2)?;
-    Ok(rows_text(alloc, machine.net(), &flat.accepts)?)
-}
-
 #[test]
 fn prints_a_line_for_each_row(rt: HostRuntime) -> Result<(), Fail> {
     let alloc = rt.alloc();
+    // What the last of three nodes sees.
     let rows = [
         ("dram is; uart is; core is over dram;", ""),
         (
@@ -76,7 +69,8 @@ fn prints_a_line_for_each_row(rt: HostRuntime) -> Result<(), Fail> {
         ),
     ];
     for (text, wanted) in rows {
-        let printed = view_text(alloc, text)?;
+        let machine = Machine::of_text(alloc, text)?;
+        let (printed, _) = seen_texts(alloc, &machine, 2)?;
         assert_eq!(rt; printed.as_slice(), wanted.as_bytes(), "{text}");
     }
     Ok(())

@@ -1,22 +1,11 @@
-//! Stages of nets: compared with chains of steps, and on a net of very many walks.
+//! What is seen past very many walks, by stages too, and what all nodes see at once.
 
-ghost use Rattle.std.specs.Prelude.{◌<◌, length};
-ghost use Rattle.std.specs.List.{All};
-ghost use Rattle.dn_flat.specs.Stages.{IsStage};
-ghost use Rattle.dn_net.specs.Rules.{KeepsRules};
-
-use crate::views::{SMALL, names_at};
+use crate::seen_texts;
+use crate::views::SMALL;
 use dn_flat::stage::Stage;
 use dn_interval::{End, Rows, Span};
-use dn_net::names::Names;
-use dn_net::net::Net;
-use dn_net::node::{Dest, Name};
-use dn_net::step::Step;
-use dn_print::rows::rows_text;
-use std::alloc::{AllocError, Global};
-use std::process::Abort;
 use std::test::Fail;
-use test_kit::{Machine, Unmade};
+use test_kit::Machine;
 
 /// Two nodes a level, each of which sends all of its addresses to both of the next: 1,048,500 live walks.
 const CROWD: &str = "agent a[0] is map [0x0-0xff to a[1] and b[1]];
@@ -29,93 +18,11 @@ a[17] is accept [0x0-0xff];
 b[17] is accept [0x0-0xff];
 ";
 
-/// Adds where a step leads.
-fn add_dests(names: &mut Names, dests: &[Dest], offset: u64) -> Result<(), AllocError> {
-    for dest in dests {
-        names.insert(Name {
-            node: dest.node,
-            addr: dest.addr.wrapping_add(offset),
-        })?;
-    }
-    Ok(())
-}
-
-/// The names one step on from some. Those of these that are accepted are added to others.
-fn next_names(
-    alloc: Global,
-    net: &Net,
-    names: &Names,
-    accepted: &mut Names,
-) -> Result<Names, Unmade>
-    requires { All KeepsRules net.now }
-{
-    let mut next = Names::new(alloc);
-    for name in names.list() {
-        if name.node >= net.nodes() {
-            return Err(Unmade::Refused);
-        }
-        match net.step(*name) {
-            Step::Accepted => accepted.insert(*name)?,
-            Step::To(dests, offset) => add_dests(&mut next, dests, offset)?,
-            Step::Stop | Step::Nothing => {}
-        }
-    }
-    Ok(next)
-}
-
-/// Compares what a stage has of a name with the chains of steps from it.
-fn compare(rt: &impl Abort, alloc: Global, net: &Net, stage: &Stage, name: Name) -> Result<(), Fail>
-    requires rules { All KeepsRules net.now }
-    requires there { name.node < length stage.now.nodes }
-{
-    let mut accepted = Names::new(alloc);
-    let mut level = Names::new(alloc);
-    level.insert(name)?;
-    for _ in 0..stage.steps() {
-        level = next_names(alloc, net, &level, &mut accepted)?;
-    }
-    let done = names_at(alloc, &stage.done(name.node).accepts, name.addr)?;
-    let go = names_at(alloc, stage.go(name.node), name.addr)?;
-    assert_eq!(rt; done.as_slice(), accepted.list(), "done {name:?}");
-    assert_eq!(rt; go.as_slice(), level.list(), "go {name:?}");
-    Ok(())
-}
-
-/// Compares what a stage has of each node's first addresses.
-fn compare_all(rt: &impl Abort, alloc: Global, net: &Net, stage: &Stage) -> Result<(), Fail>
-    requires rules { All KeepsRules net.now }
-    requires stage { IsStage net.now stage.now }
-{
-    for node in 0..net.nodes() {
-        for addr in 0..32 {
-            compare(rt, alloc, net, stage, Name { node, addr })?;
-        }
-    }
-    Ok(())
-}
-
-#[test]
-fn gives_chains_of_steps(rt: HostRuntime) -> Result<(), Fail> {
-    let alloc = rt.alloc();
-    let machine = Machine::of_text(alloc, SMALL)?;
-    let net = machine.net();
-    let one = Stage::start(alloc, net)?;
-    assert_eq!(rt; one.steps(), 1);
-    compare_all(&rt, alloc, net, &one)?;
-    let two = one.doubled(alloc, net)?;
-    assert_eq!(rt; two.steps(), 2);
-    compare_all(&rt, alloc, net, &two)?;
-    let four = two.doubled(alloc, net)?;
-    assert_eq!(rt; four.steps(), 4);
-    compare_all(&rt, alloc, net, &four)
-}
-
 #[test]
 fn sees_past_many_walks(rt: HostRuntime) -> Result<(), Fail> {
     let alloc = rt.alloc();
     let machine = Machine::of_text(alloc, CROWD)?;
-    let flat = machine.flat(alloc, 0)?;
-    let text = rows_text(alloc, machine.net(), &flat.accepts)?;
+    let (text, _) = seen_texts(alloc, &machine, 0)?;
     assert_eq!(rt;
         text.as_slice(),
         b"0x0-0xff a[17]@0x0, b[17]@0x0\n".as_slice()

@@ -1,12 +1,12 @@
 //! What each node of a net sees, printed as rows, and compared with what its names resolve to.
 
-use crate::name_after;
-use dn_interval::Rows;
+use crate::seen_texts;
 use dn_net::node::Name;
-use dn_print::rows::rows_text;
-use std::alloc::{AllocError, Global};
+use std::alloc::Global;
+use std::process::Abort;
 use std::test::Fail;
 use test_kit::Machine;
+use test_shape::names_at;
 
 /// A bus with a memory and a device, an agent in front of it, and one behind a unit, which is node 4.
 const BOARD: &str = "dram is accept [0-0x3fffffff];
@@ -25,85 +25,20 @@ d is accept [0] map [2-11 to b at 0 and c at 0, 12-15 to b at 16];
 e is map [5-9 to d at 8] over d;
 ";
 
-/// What a node sees: the accepted names, and those in units.
-fn seen(alloc: Global, machine: &Machine, node: u16) -> Result<(Vec<u8>, Vec<u8>), Fail> {
-    let flat = machine.flat(alloc, node)?;
-    let accepts = rows_text(alloc, machine.net(), &flat.accepts)?;
-    let stops = rows_text(alloc, machine.net(), &flat.stops)?;
-    Ok((accepts, stops))
-}
-
-#[test]
-fn sees_memories_and_devices(rt: HostRuntime) -> Result<(), Fail> {
-    let alloc = rt.alloc();
-    let machine = Machine::of_text(alloc, BOARD)?;
-    let rows = [
-        (
-            3,
-            "0x10000000-0x10000fff uart@0x0\n0x80000000-0xbfffffff dram@0x0\n",
-        ),
-        (5, ""),
-        (1, "0x0-0xfff uart@0x0\n"),
-        (4, ""),
-    ];
-    for (node, wanted) in rows {
-        let (accepts, _) = seen(alloc, &machine, node)?;
-        assert_eq!(rt; accepts.as_slice(), wanted.as_bytes(), "node {node}");
+/// Compares what nodes of a text see: the accepted names, and those in units.
+fn compare_seen(
+    rt: &impl Abort,
+    alloc: Global,
+    text: &str,
+    rows: &[(u16, &str, &str)],
+) -> Result<(), Fail> {
+    let machine = Machine::of_text(alloc, text)?;
+    for (node, accepts, stops) in rows {
+        let seen = seen_texts(alloc, &machine, *node)?;
+        assert_eq!(rt; seen.0.as_slice(), accepts.as_bytes(), "node {node}");
+        assert_eq!(rt; seen.1.as_slice(), stops.as_bytes(), "node {node}");
     }
     Ok(())
-}
-
-#[test]
-fn stops_in_units(rt: HostRuntime) -> Result<(), Fail> {
-    let alloc = rt.alloc();
-    let machine = Machine::of_text(alloc, BOARD)?;
-    let rows = [
-        (3, ""),
-        (5, "0x0-0xffff mmu@0x0\n"),
-        (1, ""),
-        (4, "0x0-0xffffffffffffff mmu@0x0\n"),
-    ];
-    for (node, wanted) in rows {
-        let (_, stops) = seen(alloc, &machine, node)?;
-        assert_eq!(rt; stops.as_slice(), wanted.as_bytes(), "node {node}");
-    }
-    Ok(())
-}
-
-#[test]
-fn joins_and_breaks_rows(rt: HostRuntime) -> Result<(), Fail> {
-    let alloc = rt.alloc();
-    let machine = Machine::of_text(alloc, SMALL)?;
-    let rows = [
-        (0, "0x0-0x14 a@0x0\n"),
-        (1, "0x0-0x13 a@0x0\n0x14-0x1d a@0xa\n"),
-        (2, "0x0-0x9 a@0x2\n0xf-0x10 c@0xf\n"),
-        (3, "0x0-0x0 d@0x0\n0x2-0xb a@0x0, a@0x2\n0xc-0xf a@0x10\n"),
-        (
-            4,
-            "0x0-0x0 d@0x0\n0x2-0x4 a@0x0, a@0x2\n0x5-0x8 a@0x6, a@0x8\n0x9-0x9 a@0x10\n0xa-0xb a@0x8, a@0xa\n0xc-0xf a@0x10\n",
-        ),
-    ];
-    for (node, wanted) in rows {
-        let (accepts, stops) = seen(alloc, &machine, node)?;
-        assert_eq!(rt; accepts.as_slice(), wanted.as_bytes(), "node {node}");
-        assert_eq!(rt; stops.as_slice(), "".as_bytes(), "node {node}");
-    }
-    Ok(())
-}
-
-/// The names that rows give to an address.
-pub(crate) fn names_at(alloc: Global, rows: &Rows, addr: u64) -> Result<Vec<Name>, AllocError> {
-    let mut names = Vec::new(alloc);
-    if let Some(row) = rows.at(addr) {
-        let moved = addr.wrapping_sub(row.span().lo);
-        for end in row.ends() {
-            if let Some(name) = name_after(*end, moved) {
-                names.push(name)?;
-            }
-        }
-    }
-    Ok(names)
 }
 
 #[test]
@@ -119,4 +54,47 @@ fn sees_what_its_names_resolve_to(rt: HostRuntime) -> Result<(), Fail> {
         }
     }
     Ok(())
+}
+
+#[test]
+fn sees_memories_and_devices_and_stops_in_units(rt: HostRuntime) -> Result<(), Fail> {
+    compare_seen(
+        &rt,
+        rt.alloc(),
+        BOARD,
+        &[
+            (
+                3,
+                "0x10000000-0x10000fff uart@0x0\n0x80000000-0xbfffffff dram@0x0\n",
+                "",
+            ),
+            (5, "", "0x0-0xffff mmu@0x0\n"),
+            (1, "0x0-0xfff uart@0x0\n", ""),
+            (4, "", "0x0-0xffffffffffffff mmu@0x0\n"),
+        ],
+    )
+}
+
+#[test]
+fn joins_and_breaks_rows(rt: HostRuntime) -> Result<(), Fail> {
+    compare_seen(
+        &rt,
+        rt.alloc(),
+        SMALL,
+        &[
+            (0, "0x0-0x14 a@0x0\n", ""),
+            (1, "0x0-0x13 a@0x0\n0x14-0x1d a@0xa\n", ""),
+            (2, "0x0-0x9 a@0x2\n0xf-0x10 c@0xf\n", ""),
+            (
+                3,
+                "0x0-0x0 d@0x0\n0x2-0xb a@0x0, a@0x2\n0xc-0xf a@0x10\n",
+                "",
+            ),
+            (
+                4,
+                "0x0-0x0 d@0x0\n0x2-0x4 a@0x0, a@0x2\n0x5-0x8 a@0x6, a@0x8\n0x9-0x9 a@0x10\n0xa-0xb a@0x8, a@0xa\n0xc-0xf a@0x10\n",
+                "",
+            ),
+        ],
+    )
 }

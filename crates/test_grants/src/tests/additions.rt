@@ -1,7 +1,6 @@
 //! Additions, found by trying all of up to three records.
 
-ghost use Rattle.std.specs.List.{All};
-ghost use Rattle.dn_net.specs.Rules.{KeepsRules};
+ghost use Rattle.dn_net.specs.Terms.{IsLegalNet};
 
 use crate::tests::records::{Held, ends_of, port_of, power};
 use crate::tests::search::{Site, Taken, held_of, is_free};
@@ -83,7 +82,7 @@ fn is_behind(records: &Records, held: Held) -> bool {
 /// What additions of up to three records for rights give: each records in different free slots, of which one
 /// has the rights and every other both.
 pub fn all_given(alloc: Global, net: &Net, site: &Site, rights: Rights) -> Result<Vec<Given>, Fail>
-    requires { All KeepsRules net.now }
+    requires { IsLegalNet net.now }
 {
     let all = free_records(alloc, net, site.taken.as_slice())?;
     let mut level = Vec::new(alloc);
@@ -109,7 +108,7 @@ fn push_given(
     records: &Records,
     given: &mut Vec<Given>,
 ) -> Result<(), Fail>
-    requires { All KeepsRules net.now }
+    requires { IsLegalNet net.now }
 {
     let owns = if rights == Rights::both() {
         1
@@ -143,7 +142,7 @@ fn given_by(
     rights: Rights,
     added: &[Held],
 ) -> Result<Option<Given>, Fail>
-    requires { All KeepsRules net.now }
+    requires { IsLegalNet net.now }
 {
     let mut held = held_of(alloc, site.taken.as_slice())?;
     held.extend_from_slice(added)?;
@@ -200,7 +199,7 @@ fn passes_no_owned(
     added: &[Held],
     one: Given,
 ) -> Result<bool, Fail>
-    requires { All KeepsRules net.now }
+    requires { IsLegalNet net.now }
 {
     let mut held = Vec::new(alloc);
     for taken in &site.taken {

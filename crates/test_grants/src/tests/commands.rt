@@ -1,6 +1,6 @@
 //! Commands on books, chosen as if at random.
 
-ghost use Rattle.test_grants.specs.Desk.{IsDesk};
+ghost use Rattle.test_grants.specs.Terms.{IsDesk};
 
 use crate::boards::{chain_plan, port_plan, row_plan, vector_plan};
 use crate::desk::Desk;

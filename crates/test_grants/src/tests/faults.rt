@@ -1,9 +1,9 @@
 //! Each call of the device failed in turn: what the book and the device are left with.
 
 ghost use Rattle.std.specs.List.{All};
-ghost use Rattle.dn_kind.specs.Kind.{IsLawful};
-ghost use Rattle.dn_view.specs.Systems.{IsSystem};
-ghost use Rattle.test_grants.specs.Desk.{IsDesk};
+ghost use Rattle.dn_kind.specs.Terms.{IsLawful};
+ghost use Rattle.dn_view.specs.Terms.{IsSystem};
+ghost use Rattle.test_grants.specs.Terms.{IsDesk};
 
 use crate::desk::{Desk, board_of, desk_of, system_of};
 use crate::tests::commands::{Choice, Command, Dice, Outcome, Small, made};

@@ -2,8 +2,8 @@
 //! them, whether it is admissible with another own hop, for parts of its buffer and for other rights.
 
 ghost use Rattle.std.specs.List.{All};
-ghost use Rattle.dn_kind.specs.Kind.{IsLawful};
-ghost use Rattle.test_grants.specs.Desk.{IsDesk, IsPlaced};
+ghost use Rattle.dn_kind.specs.Terms.{IsLawful};
+ghost use Rattle.test_grants.specs.Terms.{IsDesk, IsPlaced};
 
 use crate::desk::{Desk, board_of, desk_of, system_of};
 use crate::tests::commands::{Dice, Small, make_many};

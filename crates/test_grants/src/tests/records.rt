@@ -1,8 +1,7 @@
 //! Records in slots, and what names come to under them, one step at a time.
 
 ghost use Rattle.std.specs.Prelude.{◌<◌, length};
-ghost use Rattle.std.specs.List.{All};
-ghost use Rattle.dn_net.specs.Rules.{KeepsRules};
+ghost use Rattle.dn_net.specs.Terms.{IsLegalNet};
 
 use dn_kind::rights::Access;
 use dn_kind::unit_kind::Record;
@@ -43,7 +42,7 @@ pub fn ends_of(
     access: Access,
     name: Name,
 ) -> Result<Ends, Fail>
-    requires { All KeepsRules net.now }
+    requires { IsLegalNet net.now }
 {
     let mut ends = Ends {
         accepted: Names::new(alloc),
@@ -69,7 +68,7 @@ fn follow(
     pending: &mut Vec<Name>,
     ends: &mut Ends,
 ) -> Result<(), Fail>
-    requires { All KeepsRules net.now }
+    requires { IsLegalNet net.now }
 {
     if name.node >= net.nodes() {
         return Ok(());
@@ -123,22 +122,6 @@ pub fn port_of(unit: &Unit, port: u8) -> Option<u16> {
     unit.ports.as_slice().get(usize::from(port)).copied()
 }
 
-/// To what each of these names resolves under records.
-pub fn views_of(
-    alloc: Global,
-    net: &Net,
-    held: &[Held],
-    asked: &[Asked],
-) -> Result<Vec<Names>, Fail>
-    requires { All KeepsRules net.now }
-{
-    let mut views = Vec::new(alloc);
-    for each in asked {
-        views.push(ends_of(alloc, net, held, each.access, each.name)?.accepted)?;
-    }
-    Ok(views)
-}
-
 /// A name of an agent that is asked for an access.
 #[derive(Clone, Copy)]
 pub struct Asked {
@@ -149,7 +132,7 @@ pub struct Asked {
 /// Those of the first so many addresses of all agents from which a unit is reached, with both accesses, in order.
 /// What other addresses resolve to is the same under any records.
 pub fn asked_of(alloc: Global, net: &Net, most: u64) -> Result<Vec<Asked>, Fail>
-    requires { All KeepsRules net.now }
+    requires { IsLegalNet net.now }
 {
     let mut asked = Vec::new(alloc);
     for node in 0..net.nodes() {
@@ -164,7 +147,7 @@ pub fn asked_of(alloc: Global, net: &Net, most: u64) -> Result<Vec<Asked>, Fail>
 
 /// Adds a name with both accesses, where a unit is reached from it.
 fn push_asked(alloc: Global, net: &Net, name: Name, asked: &mut Vec<Asked>) -> Result<(), Fail>
-    requires { All KeepsRules net.now }
+    requires { IsLegalNet net.now }
 {
     let ends = ends_of(alloc, net, &[], Access::Read, name)?;
     if !ends.stopped.list().is_empty() {

@@ -1,7 +1,7 @@
 //! Worked examples of views, placements, books, grants and routes.
 
-ghost use Rattle.dn_view.specs.Systems.{IsSystem};
-ghost use Rattle.test_grants.specs.Desk.{IsDesk};
+ghost use Rattle.dn_view.specs.Terms.{IsSystem};
+ghost use Rattle.test_grants.specs.Terms.{IsDesk};
 
 use crate::boards::vector_plan;
 use crate::desk::{Desk, board_of, desk_of, system_of};

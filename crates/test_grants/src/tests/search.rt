@@ -1,9 +1,8 @@
 //! Placements, found by trying all of them.
 
-ghost use Rattle.std.specs.List.{All};
-ghost use Rattle.dn_net.specs.Rules.{KeepsRules};
+ghost use Rattle.dn_net.specs.Terms.{IsLegalNet};
 
-use crate::tests::records::{Asked, Ends, Held, asked_of, ends_of, port_of, power, views_of};
+use crate::tests::records::{Asked, Ends, Held, asked_of, ends_of, port_of, power};
 use dn_book::book::Book;
 use dn_kind::rights::{Access, Rights};
 use dn_kind::unit_kind::Record;
@@ -94,7 +93,7 @@ fn push_hops(hops: &mut Vec<Hop>, unit: &Unit, node: u16, port: u8, size: u64) -
 
 /// Where chains of steps in the net end from each address of a stretch.
 fn stretch(alloc: Global, net: &Net, from: Name, size: u64) -> Result<Vec<Ends>, Fail>
-    requires { All KeepsRules net.now }
+    requires { IsLegalNet net.now }
 {
     let mut all = Vec::new(alloc);
     for i in 0..size {
@@ -162,7 +161,7 @@ fn longer_ways(
     hops: &[Hop],
     ways: &[Way],
 ) -> Result<Vec<Way>, Fail>
-    requires { All KeepsRules net.now }
+    requires { IsLegalNet net.now }
 {
     let mut longer = Vec::new(alloc);
     for way in ways {
@@ -295,12 +294,15 @@ pub fn held_of(alloc: Global, taken: &[Taken]) -> Result<Vec<Held>, Fail> {
 
 /// The site of a book, for the first so many addresses of all agents.
 pub fn site_of(alloc: Global, net: &Net, book: &Book, most: u64) -> Result<Site, Fail>
-    requires { All KeepsRules net.now }
+    requires { IsLegalNet net.now }
 {
     let asked = asked_of(alloc, net, most)?;
     let taken = taken_of(alloc, net, book)?;
     let held = held_of(alloc, taken.as_slice())?;
-    let before = views_of(alloc, net, held.as_slice(), asked.as_slice())?;
+    let mut before = Vec::new(alloc);
+    for each in asked.as_slice() {
+        before.push(ends_of(alloc, net, held.as_slice(), each.access, each.name)?.accepted)?;
+    }
     Ok(Site {
         taken,
         asked,
@@ -318,7 +320,7 @@ fn is_admissible(
     v: u64,
     placed: &[Taken],
 ) -> Result<bool, Fail>
-    requires { All KeepsRules net.now }
+    requires { IsLegalNet net.now }
 {
     let mut held = held_of(alloc, site.taken.as_slice())?;
     for each in placed {
@@ -342,7 +344,7 @@ pub fn shows_exactly(
     request: &Request,
     placement: &Placement,
 ) -> Result<bool, Fail>
-    requires { All KeepsRules net.now }
+    requires { IsLegalNet net.now }
 {
     let (hops, own) = (placement.hops(), placement.own());
     let mut placed = Vec::new(alloc);
@@ -375,7 +377,7 @@ fn with_buffer(
 
 /// The ways of up to three hops from the agent's first so many addresses to the buffer.
 fn ways_to(alloc: Global, net: &Net, request: &Request, most: u64) -> Result<Vec<Way>, Fail>
-    requires { All KeepsRules net.now }
+    requires { IsLegalNet net.now }
 {
     let hops = all_hops(alloc, net, request.size)?;
     let mut ways = Vec::new(alloc);
@@ -401,7 +403,7 @@ fn push_meeting(
     ways: &[Way],
     found: &mut Vec<Way>,
 ) -> Result<(), Fail>
-    requires { All KeepsRules net.now }
+    requires { IsLegalNet net.now }
 {
     for way in ways {
         if let Some(tip) = tip_of(net, request.agent, way) {
@@ -430,7 +432,7 @@ pub fn admissible_placements(
     request: &Request,
     most: u64,
 ) -> Result<Vec<Found>, Fail>
-    requires { All KeepsRules net.now }
+    requires { IsLegalNet net.now }
 {
     let mut found = Vec::new(alloc);
     for way in ways_to(alloc, net, request, most)? {

@@ -21,13 +21,13 @@ returns c = λ net k node are is.
         accepts = normal_of (EndsBefore net (is_accepted net) (k + k) node) found.accepts.items c.in_ok-done.done.accepts (λ a y t.
             accepts_on net k nodes are k node reach.go is.go more.fit c.requires.there (segs_give first a y) (segs_give found.accepts.items a y) a y t
             (begun_by (EndsBefore net (is_accepted net) k node) c.whole.result reach.done.accepts (segs_give none.accepts.items a y) (segs_give first a y) a y is.done.accepts c.whole.ensures.base c.whole.ensures.lo c.whole.ensures.hi t (ap (λ s. segs_give s a y) c.new-found.ensures.accepts) (c.in_ok-follow.ensures.ok a y))
-            (more.accepts a y)) c.in_ok-done.ensures.accepts;
+            (more.adds.accepts a y)) c.in_ok-done.ensures.accepts;
         stops = normal_of (EndsBefore net (is_stop net) (k + k) node) found.stops.items c.in_ok-done.done.stops (λ a y t.
             stops_on net k nodes are k node reach.go is.go more.fit c.requires.there (segs_give second a y) (segs_give found.stops.items a y) a y t
             (begun_by (EndsBefore net (is_stop net) k node) c.whole-2.result reach.done.stops (segs_give none.stops.items a y) (segs_give second a y) a y is.done.stops c.whole-2.ensures.base c.whole-2.ensures.lo c.whole-2.ensures.hi t (ap (λ s. segs_give s a y) c.new-found.ensures.stops) (c.in_ok-follow-2.ensures.ok a y))
-            (more.stops a y)) c.in_ok-done.ensures.stops;
+            (more.adds.stops a y)) c.in_ok-done.ensures.stops;
       };
       go = normal_of (GoesIn net (k + k) node) found.go.items c.in_ok-go.go (λ a y t.
-          goes_on net k nodes are k node reach.go is.go more.fit c.requires.there (segs_give none.go.items a y) (segs_give found.go.items a y) a y t (ap (λ s. segs_give s a y) c.new-found.ensures.go) (more.go a y))
+          goes_on net k nodes are k node reach.go is.go more.fit c.requires.there (segs_give none.go.items a y) (segs_give found.go.items a y) a y t (ap (λ s. segs_give s a y) c.new-found.ensures.go) (more.adds.go a y))
           (subst (λ s. AreNormal (SegmentsGive s) c.in_ok-go.go) c.deref.ensures.value c.in_ok-go.ensures.normal);
     }

@@ -16,6 +16,6 @@ returns-clause-go c =
     let go = c.push_rows.new.found.go.items in
     IfOk-weaker c.normal.result (λ rows. AreNormal (SegmentsGive c.deref.result.now) rows) (λ rows. AreNormal (λ a z. IsTrue (goes a z)) rows)
     (λ rows n. normal_of (λ a z. IsTrue (goes a z)) go rows
-    (λ a z t. means_along (segs_give go a z) (goes a z) (c.in_ok-push_rows.ensures.go a z ∙ ap (λ s. segs_give s a z || goes a z) c.clear.ensures.items) ((λ e. e), (λ e. e)))
+    (λ a z t. means_along (segs_give go a z) (goes a z) (c.in_ok-push_rows.ensures.adds.go a z ∙ ap (λ s. segs_give s a z || goes a z) c.clear.ensures.items) ((λ e. e), (λ e. e)))
     (subst (λ s. AreNormal (SegmentsGive s) rows) c.deref.ensures.value n))
     c.normal.ensures.normal

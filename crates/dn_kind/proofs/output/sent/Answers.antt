@@ -1,6 +1,6 @@
-use Rattle.std.proofs.Common.{◌≡◌, ◌∙◌, ℕ, List, get_or, ◌≤◌, ◌<◌, ◌*◌, ◌%◌, ◌^◌, ap, length, arith}
+use Rattle.std.proofs.Common.{◌∙◌, ℕ, List, get_or, ◌≤◌, ◌<◌, ap, length, arith}
 use Rattle.dn_kind.specs.Units.{unit_shape}
-use Rattle.dn_kind.proofs.Outputs.{HasPages, has_pages, page_is, page_some, output_small, port_there, sent_is}
+use Rattle.dn_kind.proofs.Outputs.{HasPages, has_pages, page_some, output_fits, port_there, sent_is}
 use Rattle.dn_kind.proofs.output.sent.Goals as goal
 
 pub overflow_shl-page : goal.overflow_shl-page
@@ -11,22 +11,12 @@ overflow_shl-page c =
 
 pub overflow_mul-result : goal.overflow_mul-result
 overflow_mul-result c =
-    let s : HasPages (unit_shape c.args.unit.now) = has_pages (unit_shape c.args.unit.now) c.requires.plain in
-    let page : c.args.unit.now.page ≤ 40 = s.page in
-    let same : 1 * 2 ^ c.args.unit.now.page % 18446744073709551616 ≡ 2 ^ c.args.unit.now.page = page_is c.args.unit.now.page page in
-    let small = output_small (unit_shape c.args.unit.now) c.args.record c.args.addr c.requires.plain c.requires.within in
-    let first : c.args.record.page * (1 * 2 ^ c.args.unit.now.page % 18446744073709551616) ≡ c.args.record.page * 2 ^ c.args.unit.now.page = ap (λ n. c.args.record.page * n) same in
-    let rest : c.args.addr % (1 * 2 ^ c.args.unit.now.page % 18446744073709551616) ≡ c.args.addr % 2 ^ c.args.unit.now.page = ap (λ n. c.args.addr % n) same in
+    let fits = output_fits (unit_shape c.args.unit.now) c.args.record c.args.addr c.requires.plain c.requires.within in
     omega arith
 
 pub overflow_add-result : goal.overflow_add-result
 overflow_add-result c =
-    let s : HasPages (unit_shape c.args.unit.now) = has_pages (unit_shape c.args.unit.now) c.requires.plain in
-    let page : c.args.unit.now.page ≤ 40 = s.page in
-    let same : 1 * 2 ^ c.args.unit.now.page % 18446744073709551616 ≡ 2 ^ c.args.unit.now.page = page_is c.args.unit.now.page page in
-    let small = output_small (unit_shape c.args.unit.now) c.args.record c.args.addr c.requires.plain c.requires.within in
-    let first : c.args.record.page * (1 * 2 ^ c.args.unit.now.page % 18446744073709551616) ≡ c.args.record.page * 2 ^ c.args.unit.now.page = ap (λ n. c.args.record.page * n) same in
-    let rest : c.args.addr % (1 * 2 ^ c.args.unit.now.page % 18446744073709551616) ≡ c.args.addr % 2 ^ c.args.unit.now.page = ap (λ n. c.args.addr % n) same in
+    let fits = output_fits (unit_shape c.args.unit.now) c.args.record c.args.addr c.requires.plain c.requires.within in
     omega arith
 
 pub bounds-as_slice-from : goal.bounds-as_slice-from

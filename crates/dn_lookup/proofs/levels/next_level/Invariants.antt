@@ -8,10 +8,10 @@ use Rattle.dn_lookup.proofs.levels.next_level.Given as goal
 
 abbrev pub invariant-loop-name : goal.invariant-loop-name
 invariant-loop-name g l =
-    let kinds = map (λ k. (goal.UnitKind-dyn g (k.vtable, k.value)).meaning k.value) l.kinds.list.items in
-    let f = steps_under l.net (bytes_records l.net kinds l.bytes l.version l.access) in
+    let kinds = map (λ k. (goal.UnitKind-dyn g (k.vtable, k.value)).meaning k.value) l.image.kinds.now.list.items in
+    let f = steps_under l.image.net.now (bytes_records l.image.net.now kinds l.image.bytes.now l.image.version l.access) in
     record {
-      accepted : l.accepted.items ++ passing_names (is_accepted l.net) (drop l.name-index l.level) ≡ l.initial.accepted.items ++ passing_names (is_accepted l.net) l.level;
+      accepted : l.accepted.items ++ passing_names (is_accepted l.image.net.now) (drop l.name-index l.level) ≡ l.initial.accepted.items ++ passing_names (is_accepted l.image.net.now) l.level;
       next : l.next.items ++ each_step f (drop l.name-index l.level) ≡ each_step f l.level;
-      there : IsTrue (are_there (length l.net) (drop l.name-index l.level));
+      there : IsTrue (are_there (length l.image.net.now) (drop l.name-index l.level));
     }

@@ -8,9 +8,9 @@ use Rattle.dn_lookup.proofs.levels.resolve.Given as goal
 
 abbrev pub invariant-loop : goal.invariant-loop
 invariant-loop g l =
-    let kinds = map (λ k. (goal.UnitKind-dyn g (k.vtable, k.value)).meaning k.value) l.kinds.list.items in
-    let h = bytes_records l.net kinds l.bytes l.version l.access in
+    let kinds = map (λ k. (goal.UnitKind-dyn g (k.vtable, k.value)).meaning k.value) l.image.kinds.now.list.items in
+    let h = bytes_records l.image.net.now kinds l.image.bytes.now l.image.version l.access in
     record {
-      so_far : ends_by (steps_under l.net h) (is_accepted l.net) (suc step_limit_under - l.counter) l.accepted.items l.level ≡ resolved_names_under l.net h l.fn.name;
-      there : IsTrue (are_there (length l.net) l.level);
+      so_far : ends_by (steps_under l.image.net.now h) (is_accepted l.image.net.now) (suc step_limit_under - l.counter) l.accepted.items l.level ≡ resolved_names_under l.image.net.now h l.fn.name;
+      there : IsTrue (are_there (length l.image.net.now) l.level);
     }

@@ -12,4 +12,8 @@ returns-clause-exact g c =
     answer_looked_up c.args.net.now kinds c.args.image.now c.args.access c.args.name c.args.version c.resolve.result lawful c.requires.agent c.requires.whole c.requires.version c.resolve.ensures.resolved
 
 pub resolve-requires-clause-image : goal.resolve-requires-clause-image
-resolve-requires-clause-image g c = record { shaped = c.requires.shaped; whole = c.requires.whole }
+resolve-requires-clause-image g c = record {
+  lawful = c.requires.lawful;
+  rules = c.requires.legal.nodes;
+  is = record { shaped = c.requires.shaped; whole = c.requires.whole };
+}

@@ -15,17 +15,17 @@ use Rattle.dn_lookup.proofs.output.output.Goals.{In_ok-unit, In_ok-record}
 use Rattle.dn_lookup.proofs.output.output.Goals as goal
 
 -- the unit in which the name stops
-there : (g : Over) (c : In_ok-unit g) → option_map (λ d. d.unit) (slice_get c.args.net.now c.args.name.node) ≡ Some (Some c.in_ok-unit.unit.now)
+there : (g : Over) (c : In_ok-unit g) → option_map (λ d. d.unit) (slice_get c.args.image.net.now c.args.name.node) ≡ Some (Some c.in_ok-unit.unit.now)
 there g c = c.unit.ensures ∙ ap (λ o. Some (option_copied o)) c.in_ok-unit.was
 
 plain : (g : Over) (c : In_ok-unit g) → IsTrue (is_plain (unit_shape c.in_ok-unit.unit.now))
-plain g c = plain_there (map (λ k. (goal.UnitKind-dyn g (k.vtable, k.value)).meaning k.value) c.args.kinds.now.list.items) c.in_ok-unit.unit.now (shape_there (map (λ k. (goal.UnitKind-dyn g (k.vtable, k.value)).meaning k.value) c.args.kinds.now.list.items) c.args.net.now c.args.name.node (Some c.in_ok-unit.unit.now) c.requires.image.shaped (there g c))
+plain g c = plain_there (map (λ k. (goal.UnitKind-dyn g (k.vtable, k.value)).meaning k.value) c.args.image.kinds.now.list.items) c.in_ok-unit.unit.now (shape_there (map (λ k. (goal.UnitKind-dyn g (k.vtable, k.value)).meaning k.value) c.args.image.kinds.now.list.items) c.args.image.net.now c.args.name.node (Some c.in_ok-unit.unit.now) c.requires.image.is.shaped (there g c))
 
-stop : (g : Over) (c : In_ok-unit g) → IsStopIn c.args.net.now c.args.name c.in_ok-unit.unit.now
-stop g c = stop_in c.args.net.now c.args.name c.in_ok-unit.unit.now c.requires.stop (there g c)
+stop : (g : Over) (c : In_ok-unit g) → IsStopIn c.args.image.net.now c.args.name c.in_ok-unit.unit.now
+stop g c = stop_in c.args.image.net.now c.args.name c.in_ok-unit.unit.now c.requires.stop (there g c)
 
 -- the record that its slot holds
-held : (g : Over) (c : In_ok-record g) → record_held c.args.net.now (map (λ k. (goal.UnitKind-dyn g (k.vtable, k.value)).meaning k.value) c.args.kinds.now.list.items) (image_words c.args.net.now (map (λ k. (goal.UnitKind-dyn g (k.vtable, k.value)).meaning k.value) c.args.kinds.now.list.items) c.args.bytes.now) c.args.name.node (c.args.name.addr / 2 ^ c.in_ok-unit.unit.now.page) ≡ Some c.in_ok-record.record
+held : (g : Over) (c : In_ok-record g) → record_held c.args.image.net.now (map (λ k. (goal.UnitKind-dyn g (k.vtable, k.value)).meaning k.value) c.args.image.kinds.now.list.items) (image_words c.args.image.net.now (map (λ k. (goal.UnitKind-dyn g (k.vtable, k.value)).meaning k.value) c.args.image.kinds.now.list.items) c.args.image.bytes.now) c.args.name.node (c.args.name.addr / 2 ^ c.in_ok-unit.unit.now.page) ≡ Some c.in_ok-record.record
 held g c = sym c.record_in.ensures ∙ c.in_ok-record.was
 
 pub overflow_shr-slot : goal.overflow_shr-slot
@@ -38,34 +38,34 @@ sent-requires-clause-plain g c = plain g (goal.at.sent-requires-clause-plain g c
 
 pub sent-requires-clause-within : goal.sent-requires-clause-within
 sent-requires-clause-within g c =
-    let lawful : All IsLawful (map (λ k. (goal.UnitKind-dyn g (k.vtable, k.value)).meaning k.value) c.args.kinds.now.list.items) = all_of_map (λ k. (goal.UnitKind-dyn g (k.vtable, k.value)).meaning k.value) c.args.kinds.now.list.items c.requires.lawful in
-    within_unit c.args.net.now (map (λ k. (goal.UnitKind-dyn g (k.vtable, k.value)).meaning k.value) c.args.kinds.now.list.items) (image_words c.args.net.now (map (λ k. (goal.UnitKind-dyn g (k.vtable, k.value)).meaning k.value) c.args.kinds.now.list.items) c.args.bytes.now) c.args.name (c.args.name.addr / 2 ^ c.in_ok-unit.unit.now.page) c.in_ok-unit.unit.now c.in_ok-record.record lawful (stop g (goal.at.sent-requires-clause-within g c).In_ok-unit).unit (held g (goal.at.sent-requires-clause-within g c).In_ok-record)
+    let lawful : All IsLawful (map (λ k. (goal.UnitKind-dyn g (k.vtable, k.value)).meaning k.value) c.args.image.kinds.now.list.items) = all_of_map (λ k. (goal.UnitKind-dyn g (k.vtable, k.value)).meaning k.value) c.args.image.kinds.now.list.items c.requires.image.lawful in
+    within_unit c.args.image.net.now (map (λ k. (goal.UnitKind-dyn g (k.vtable, k.value)).meaning k.value) c.args.image.kinds.now.list.items) (image_words c.args.image.net.now (map (λ k. (goal.UnitKind-dyn g (k.vtable, k.value)).meaning k.value) c.args.image.kinds.now.list.items) c.args.image.bytes.now) c.args.name (c.args.name.addr / 2 ^ c.in_ok-unit.unit.now.page) c.in_ok-unit.unit.now c.in_ok-record.record lawful (stop g (goal.at.sent-requires-clause-within g c).In_ok-unit).unit (held g (goal.at.sent-requires-clause-within g c).In_ok-record)
 
 pub returns : goal.returns
 returns g c =
-    let through : (bytes_records c.args.net.now (map (λ k. (goal.UnitKind-dyn g (k.vtable, k.value)).meaning k.value) c.args.kinds.now.list.items) c.args.bytes.now c.args.version c.args.access) c.args.name.node (c.args.name.addr / 2 ^ c.in_ok-unit.unit.now.page) ≡ Some c.in_ok-record.record = ap (record_through c.args.version c.args.access) (held g (goal.at.returns g c).In_ok-record) ∙ ap (λ b. if b then Some c.in_ok-record.record else None) (sym c.lets_through.ensures ∙ c.if-not-lets_through.false) in
-    c.sent.ensures ∙ sym (step_in c.args.net.now (bytes_records c.args.net.now (map (λ k. (goal.UnitKind-dyn g (k.vtable, k.value)).meaning k.value) c.args.kinds.now.list.items) c.args.bytes.now c.args.version c.args.access) c.args.name c.in_ok-unit.unit.now (Some c.in_ok-record.record) (stop g (goal.at.returns g c).In_ok-unit) through)
+    let through : (bytes_records c.args.image.net.now (map (λ k. (goal.UnitKind-dyn g (k.vtable, k.value)).meaning k.value) c.args.image.kinds.now.list.items) c.args.image.bytes.now c.args.image.version c.args.access) c.args.name.node (c.args.name.addr / 2 ^ c.in_ok-unit.unit.now.page) ≡ Some c.in_ok-record.record = ap (record_through c.args.image.version c.args.access) (held g (goal.at.returns g c).In_ok-record) ∙ ap (λ b. if b then Some c.in_ok-record.record else None) (sym c.lets_through.ensures ∙ c.if-not-lets_through.false) in
+    c.sent.ensures ∙ sym (step_in c.args.image.net.now (bytes_records c.args.image.net.now (map (λ k. (goal.UnitKind-dyn g (k.vtable, k.value)).meaning k.value) c.args.image.kinds.now.list.items) c.args.image.bytes.now c.args.image.version c.args.access) c.args.name c.in_ok-unit.unit.now (Some c.in_ok-record.record) (stop g (goal.at.returns g c).In_ok-unit) through)
 
 pub returns-then-not-lets_through : goal.returns-then-not-lets_through
 returns-then-not-lets_through g c =
-    let through : (bytes_records c.args.net.now (map (λ k. (goal.UnitKind-dyn g (k.vtable, k.value)).meaning k.value) c.args.kinds.now.list.items) c.args.bytes.now c.args.version c.args.access) c.args.name.node (c.args.name.addr / 2 ^ c.in_ok-unit.unit.now.page) ≡ None = ap (record_through c.args.version c.args.access) (held g (goal.at.returns-then-not-lets_through g c).In_ok-record) ∙ ap (λ b. if b then Some c.in_ok-record.record else None) (sym c.lets_through.ensures ∙ c.if-not-lets_through.true) in
-    sym (step_in c.args.net.now (bytes_records c.args.net.now (map (λ k. (goal.UnitKind-dyn g (k.vtable, k.value)).meaning k.value) c.args.kinds.now.list.items) c.args.bytes.now c.args.version c.args.access) c.args.name c.in_ok-unit.unit.now None (stop g (goal.at.returns-then-not-lets_through g c).In_ok-unit) through)
+    let through : (bytes_records c.args.image.net.now (map (λ k. (goal.UnitKind-dyn g (k.vtable, k.value)).meaning k.value) c.args.image.kinds.now.list.items) c.args.image.bytes.now c.args.image.version c.args.access) c.args.name.node (c.args.name.addr / 2 ^ c.in_ok-unit.unit.now.page) ≡ None = ap (record_through c.args.image.version c.args.access) (held g (goal.at.returns-then-not-lets_through g c).In_ok-record) ∙ ap (λ b. if b then Some c.in_ok-record.record else None) (sym c.lets_through.ensures ∙ c.if-not-lets_through.true) in
+    sym (step_in c.args.image.net.now (bytes_records c.args.image.net.now (map (λ k. (goal.UnitKind-dyn g (k.vtable, k.value)).meaning k.value) c.args.image.kinds.now.list.items) c.args.image.bytes.now c.args.image.version c.args.access) c.args.name c.in_ok-unit.unit.now None (stop g (goal.at.returns-then-not-lets_through g c).In_ok-unit) through)
 
 pub returns-in_err-record : goal.returns-in_err-record
 returns-in_err-record g c =
     let none : c.from_residual-in_err-record.result ≡ None = search rules in
-    let empty : record_held c.args.net.now (map (λ k. (goal.UnitKind-dyn g (k.vtable, k.value)).meaning k.value) c.args.kinds.now.list.items) (image_words c.args.net.now (map (λ k. (goal.UnitKind-dyn g (k.vtable, k.value)).meaning k.value) c.args.kinds.now.list.items) c.args.bytes.now) c.args.name.node (c.args.name.addr / 2 ^ c.in_ok-unit.unit.now.page) ≡ None = sym c.record_in.ensures ∙ c.in_err-record.was in
-    let through : (bytes_records c.args.net.now (map (λ k. (goal.UnitKind-dyn g (k.vtable, k.value)).meaning k.value) c.args.kinds.now.list.items) c.args.bytes.now c.args.version c.args.access) c.args.name.node (c.args.name.addr / 2 ^ c.in_ok-unit.unit.now.page) ≡ None = ap (record_through c.args.version c.args.access) empty in
-    ap name_list none ∙ sym (step_in c.args.net.now (bytes_records c.args.net.now (map (λ k. (goal.UnitKind-dyn g (k.vtable, k.value)).meaning k.value) c.args.kinds.now.list.items) c.args.bytes.now c.args.version c.args.access) c.args.name c.in_ok-unit.unit.now None (stop g (goal.at.returns-in_err-record g c).In_ok-unit) through)
+    let empty : record_held c.args.image.net.now (map (λ k. (goal.UnitKind-dyn g (k.vtable, k.value)).meaning k.value) c.args.image.kinds.now.list.items) (image_words c.args.image.net.now (map (λ k. (goal.UnitKind-dyn g (k.vtable, k.value)).meaning k.value) c.args.image.kinds.now.list.items) c.args.image.bytes.now) c.args.name.node (c.args.name.addr / 2 ^ c.in_ok-unit.unit.now.page) ≡ None = sym c.record_in.ensures ∙ c.in_err-record.was in
+    let through : (bytes_records c.args.image.net.now (map (λ k. (goal.UnitKind-dyn g (k.vtable, k.value)).meaning k.value) c.args.image.kinds.now.list.items) c.args.image.bytes.now c.args.image.version c.args.access) c.args.name.node (c.args.name.addr / 2 ^ c.in_ok-unit.unit.now.page) ≡ None = ap (record_through c.args.image.version c.args.access) empty in
+    ap name_list none ∙ sym (step_in c.args.image.net.now (bytes_records c.args.image.net.now (map (λ k. (goal.UnitKind-dyn g (k.vtable, k.value)).meaning k.value) c.args.image.kinds.now.list.items) c.args.image.bytes.now c.args.image.version c.args.access) c.args.name c.in_ok-unit.unit.now None (stop g (goal.at.returns-in_err-record g c).In_ok-unit) through)
 
 pub returns-in_err-unit : goal.returns-in_err-unit
 returns-in_err-unit g c =
-    absurd (no_stop c.args.net.now c.args.name c.requires.stop (c.unit.ensures ∙ ap (λ o. Some (option_copied o)) c.in_err-unit.was))
+    absurd (no_stop c.args.image.net.now c.args.name c.requires.stop (c.unit.ensures ∙ ap (λ o. Some (option_copied o)) c.in_err-unit.was))
 
 pub record_in-requires : goal.record_in-requires
 record_in-requires g c = record {
-  lawful = c.requires.lawful;
-  shaped = c.requires.image.shaped;
-  whole = c.requires.image.whole;
+  lawful = c.requires.image.lawful;
+  shaped = c.requires.image.is.shaped;
+  whole = c.requires.image.is.whole;
   there = c.requires.there;
 }

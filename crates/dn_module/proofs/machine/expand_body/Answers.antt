@@ -3,7 +3,7 @@ use Rattle.std.proofs.lemmas.Result.{err_from_is_err_and}
 use Rattle.dn_module.specs.Expand.{most_steps, statements, outside, nothing_yet}
 use Rattle.dn_module.specs.Machine.{state_view}
 use Rattle.dn_module.specs.Faults.{expand_fault_view}
-use Rattle.dn_module.specs.Stack.{visibility_view, body_view, stack_works, work_view}
+use Rattle.dn_module.specs.Stack.{body_view, stack_works}
 use Rattle.dn_module.proofs.Works.{most_steps_are, begun, work_first, step_on, fault_on}
 use Rattle.dn_module.proofs.machine.expand_body.Goals as goal
 
@@ -16,22 +16,14 @@ loop-work-init g c =
 pub loop-work-preserved : goal.loop-work-preserved
 loop-work-preserved g c =
     let kinds = map (λ k. (goal.UnitKind-dyn g (k.vtable, k.value)).meaning k.value) c.args.kinds.now.list.items in
-    let left = c.loop-work.left in
-    let at = c.next.new.self in
-    let st = state_view c.loop-work.made in
-    let w = work_view (visibility_view at.inner.visible) at.inner.scope c.in-Some.work in
-    let more : 0 < left = omega arith in
+    let more : 0 < c.loop-work.left = omega arith in
     c.loop-work.invariant
-    ∙ work_first kinds left _ _ st c.in-Some.ensures.some
-    ∙ step_on kinds left w (stack_works at) st (stack_works c.step.new.stack, state_view c.step.new.made) more c.in_ok-step.ensures
+    ∙ work_first kinds c.loop-work.left _ _ _ c.in-Some.ensures.some
+    ∙ step_on kinds c.loop-work.left _ _ _ (stack_works c.step.new.stack, state_view c.step.new.made) more c.in_ok-step.ensures
 
 pub returns-in_err-step : goal.returns-in_err-step
 returns-in_err-step g c =
     let kinds = map (λ k. (goal.UnitKind-dyn g (k.vtable, k.value)).meaning k.value) c.args.kinds.now.list.items in
-    let left = c.loop-work.left in
-    let at = c.next.new.self in
-    let st = state_view c.loop-work.made in
-    let w = work_view (visibility_view at.inner.visible) at.inner.scope c.in-Some.work in
-    let more : 0 < left = omega arith in
+    let more : 0 < c.loop-work.left = omega arith in
     let p = err_from_is_err_and c.from_residual.result c.from_residual.ensures.1 in
-    rw (p.1, p.2) (fault_on kinds left w (stack_works at) st (expand_fault_view c.in_err-step.field-0.0) _ more (c.loop-work.invariant ∙ work_first kinds left _ _ st c.in-Some.ensures.some) c.in_err-step.ensures)
+    rw (p.1, p.2) (fault_on kinds c.loop-work.left _ _ _ (expand_fault_view c.in_err-step.field-0.0) _ more (c.loop-work.invariant ∙ work_first kinds c.loop-work.left _ _ _ c.in-Some.ensures.some) c.in_err-step.ensures)

@@ -7,4 +7,4 @@ use Rattle.dn_module.proofs.Each.{followed}
 use Rattle.dn_module.proofs.nodes.blocks.Given as goal
 
 abbrev pub invariant-loop-range : goal.invariant-loop-range
-invariant-loop-range l = each block_of (map (in_block l.scope.numbers) (map block_view l.ranges)) ≡ followed l.made.items (each block_of (map (in_block l.scope.numbers) (map block_view (drop l.range-index l.ranges))))
+invariant-loop-range l = each block_of (map (in_block l.scope.numbers) (map block_view l.ranges)) ≡ followed l.made (each block_of (map (in_block l.scope.numbers) (map block_view (drop l.range-index l.ranges))))

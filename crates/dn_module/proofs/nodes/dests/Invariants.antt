@@ -7,4 +7,4 @@ use Rattle.dn_module.proofs.Each.{followed}
 use Rattle.dn_module.proofs.nodes.dests.Given as goal
 
 abbrev pub invariant-loop-expr : goal.invariant-loop-expr
-invariant-loop-expr l = each (dest_of l.lo) (map (in_dest l.scope) (map dest_view l.dests)) ≡ followed l.made.items (each (dest_of l.lo) (map (in_dest l.scope) (map dest_view (drop l.expr-index l.dests))))
+invariant-loop-expr l = each (dest_of l.lo) (map (in_dest l.scope) (map dest_view l.dests)) ≡ followed l.made (each (dest_of l.lo) (map (in_dest l.scope) (map dest_view (drop l.expr-index l.dests))))

@@ -7,4 +7,4 @@ use Rattle.dn_module.proofs.Each.{followed}
 use Rattle.dn_module.proofs.nodes.entries.Given as goal
 
 abbrev pub invariant-loop-mapping : goal.invariant-loop-mapping
-invariant-loop-mapping l = each entry_of (map (in_entry l.scope) (map entry_view l.mappings)) ≡ followed l.made.items (each entry_of (map (in_entry l.scope) (map entry_view (drop l.mapping-index l.mappings))))
+invariant-loop-mapping l = each entry_of (map (in_entry l.scope) (map entry_view l.mappings)) ≡ followed l.made (each entry_of (map (in_entry l.scope) (map entry_view (drop l.mapping-index l.mappings))))

@@ -6,4 +6,4 @@ use Rattle.dn_module.proofs.Each.{followed}
 use Rattle.dn_module.proofs.nodes.references.Given as goal
 
 abbrev pub invariant-loop-name : goal.invariant-loop-name
-invariant-loop-name l = each full_name (map (in_reference l.scope) (map name_view l.names)) ≡ followed l.made.items (each full_name (map (in_reference l.scope) (map name_view (drop l.name-index l.names))))
+invariant-loop-name l = each full_name (map (in_reference l.scope) (map name_view l.names)) ≡ followed l.made (each full_name (map (in_reference l.scope) (map name_view (drop l.name-index l.names))))

@@ -8,4 +8,4 @@ use Rattle.dn_module.proofs.Each.{followed}
 use Rattle.dn_module.proofs.uses.values_of.Given as goal
 
 abbrev pub invariant-loop-arg : goal.invariant-loop-arg
-invariant-loop-arg l = each given_by (map (in_arg l.scope) (map arg_view l.args)) ≡ followed (map given_view l.made.items) (each given_by (map (in_arg l.scope) (map arg_view (drop l.arg-index l.args))))
+invariant-loop-arg l = each given_by (map (in_arg l.scope) (map arg_view l.args)) ≡ followed (map given_view l.made) (each given_by (map (in_arg l.scope) (map arg_view (drop l.arg-index l.args))))

@@ -1,10 +1,9 @@
 -- A row of parts: the first one, and then one more as long as one stands there.
-use Rattle.std.proofs.Common.{subst, arith}
+use Rattle.std.proofs.Common.{arith}
 use Rattle.std.proofs.lemmas.Result.{err_from_is_err_and}
 use Rattle.dn_token.specs.Cursor.{cursor_view}
-use Rattle.dn_parse.specs.Descent.{first_and}
-use Rattle.dn_parse.proofs.Members.{one_pushed, member_shortens, member_found}
-use Rattle.dn_parse.proofs.Series.{Found, halted, found_first, first_stops, first_read}
+use Rattle.dn_parse.proofs.Members.{first_found, member_shortens, member_found}
+use Rattle.dn_parse.proofs.Series.{halted, first_stops}
 use Rattle.dn_parse.proofs.listed.members.Goals as goal
 
 pub returns-in_err-first-clause-gives : goal.returns-in_err-first-clause-gives
@@ -13,13 +12,10 @@ returns-in_err-first-clause-gives g c =
     rw (p.1, p.2) (halted _ _ _ c.in_err-first.ensures.gives (first_stops g.M.Member.first_at g.M.Member.next_at (cursor_view c.args.tokens.now)))
 
 pub list-init : goal.list-init
-list-init g c =
-    let view = g.M.Member.view in
-    let one = one_pushed view c.in_ok-first.first _ _ c.new-members.ensures c.in_ok-push.ensures.ok in
-    record {
-      shorter = c.in_ok-first.ensures.shorter;
-      before = subst (λ l. Found g.M.Member.next_at (first_and g.M.Member.first_at g.M.Member.next_at (cursor_view c.args.tokens.now)) l (cursor_view c.first.new.tokens)) one (found_first _ _ _ (first_read g.M.Member.first_at g.M.Member.next_at (cursor_view c.args.tokens.now) _ _ c.in_ok-first.ensures.gives));
-    }
+list-init g c = record {
+  shorter = c.in_ok-first.ensures.shorter;
+  before = first_found g.M.Member.view g.M.Member.first_at g.M.Member.next_at _ _ c.in_ok-first.first _ _ c.in_ok-first.ensures.gives c.new-members.ensures c.in_ok-push.ensures.ok;
+}
 
 pub list-preserved : goal.list-preserved
 list-preserved g c =

@@ -14,13 +14,19 @@ use Rattle.dn_place.proofs.whole.by_agent.Goals.{in-Some+then-is_at+in_ok-placem
 pub rows-init : goal.rows-init
 rows-init g c = set_out _ _ _ c.rows_toward-row-items.ensures.apart
 
-pub by_address-requires-clause-meets : goal.by_address-requires-clause-meets
-by_address-requires-clause-meets g c =
+pub by_address-requires-clause-addressed : goal.by_address-requires-clause-addressed
+by_address-requires-clause-addressed g c =
     let hops = hops_of c.args.hops in
     let front = ending (length hops) hops in
     let flat : IsFlat (g.Q.Quest.sought c.args.quest.now).net (g.Q.Quest.sought c.args.quest.now).request.agent c.flat-flat.result.now = subst (λ (r : Request). IsFlat (g.Q.Quest.sought c.args.quest.now).net r.agent c.flat-flat.result.now) c.request.ensures c.flat-flat.ensures in
     let here = (row_asked (g.Q.Quest.sought c.args.quest.now) hops c.row-item.result c.wanted-target.result c.request-2.result c.request-size.result c.in-Some.v c.wanted-target.ensures c.request-2.ensures c.request-size.ensures).0 c.in-Some.ensures.some in
-    step_meets (g.Q.Quest.sought c.args.quest.now) front c.rows_toward-row-items.result.now (g.Q.Quest.sought c.args.quest.now).request.agent hops c.flat-flat.result.now c.rows.row-index c.row-item.result c.in-Some.v flat (row_fits _ _ _ _ here) c.rows_toward-row-items.ensures.rows c.rows-test.true c.row-item.is c.rows.invariant here (clear_of c.flat-flat.result.now hops c.in-Some.v (g.Q.Quest.sought c.args.quest.now).request.size c.requires.some)
+    record {
+      chosen = c.requires.chosen;
+      some = c.requires.some;
+      fits = row_fits _ _ _ _ here;
+      at = subst (λ o. IsAt o c.in-Some.v) c.at.ensures (c.is_at.ensures.0 c.if-is_at.true);
+      meets = step_meets (g.Q.Quest.sought c.args.quest.now) front c.rows_toward-row-items.result.now (g.Q.Quest.sought c.args.quest.now).request.agent hops c.flat-flat.result.now c.rows.row-index c.row-item.result c.in-Some.v flat (row_fits _ _ _ _ here) c.rows_toward-row-items.ensures.rows c.rows-test.true c.row-item.is c.rows.invariant here (clear_of c.flat-flat.result.now hops c.in-Some.v (g.Q.Quest.sought c.args.quest.now).request.size c.requires.some);
+    }
 
 pub returns-in-Some-2 : goal.returns-in-Some-2
 returns-in-Some-2 g c =

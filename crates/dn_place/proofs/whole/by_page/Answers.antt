@@ -12,15 +12,15 @@ pub loop-back-init : goal.loop-back-init
 loop-back-init g c = backs_begun _ _ _ _
 
 pub is_exact-requires-clause-placed : goal.is_exact-requires-clause-placed
-is_exact-requires-clause-placed g c = placed (g.Q.Quest.sought c.args.quest.now) (hops_of c.args.hops) c.args.v (c.count-count.result - c.loop-back.back) c.args.page c.requires.ready c.requires.chosen c.requires.some c.requires.fits c.requires.meets (c.can_own.ensures.yes c.if-can_own.true)
+is_exact-requires-clause-placed g c = placed (g.Q.Quest.sought c.args.quest.now) (hops_of c.args.hops) c.args.v (c.count-count.result - c.loop-back.back) c.args.page c.requires.ready c.requires.addressed.chosen c.requires.addressed.some c.requires.addressed.fits c.requires.addressed.meets (c.can_own.ensures.yes c.if-can_own.true)
 
 pub returns-then-branch : goal.returns-then-branch
 returns-then-branch g c =
     let can = c.can_own.ensures.yes c.if-can_own.true in
-    let is = placed (g.Q.Quest.sought c.args.quest.now) (hops_of c.args.hops) c.args.v (c.count-count.result - c.loop-back.back) c.args.page c.requires.ready c.requires.chosen c.requires.some c.requires.fits c.requires.meets can in
+    let is = placed (g.Q.Quest.sought c.args.quest.now) (hops_of c.args.hops) c.args.v (c.count-count.result - c.loop-back.back) c.args.page c.requires.ready c.requires.addressed.chosen c.requires.addressed.some c.requires.addressed.fits c.requires.addressed.meets can in
     rw c.placed.ensures (backs_found (g.Q.Quest.sought c.args.quest.now) (hops_of c.args.hops) c.args.v c.args.page c.loop-back.back (c.count-count.result - c.loop-back.back)
     (omega (arith, c.count-count.ensures)) can
-    (record { is_placement = is; is_at = c.requires.at; admissible = c.in_ok-is_exact.ensures.0 c.if-branch.true })
+    (record { is_placement = is; is_at = c.requires.addressed.at; admissible = c.in_ok-is_exact.ensures.0 c.if-branch.true })
     c.loop-back.invariant)
 
 pub returns-then-has_both : goal.returns-then-has_both

@@ -1,18 +1,9 @@
 -- One node more.
-use Rattle.std.proofs.Common.{◌≡◌, ◌∙◌, ℕ, Bool, true, false, refl, ◌+◌, if◌then◌else◌, ap, sym, drop, arith}
-use mir.Val.{bool_byte}
-use Rattle.dn_net.specs.declared.node.NodeDecl.{NodeDecl}
+use Rattle.std.proofs.Common.{◌≡◌, true, ◌+◌, ap, drop, arith}
 use Rattle.dn_shape.specs.Split.{is_divided, new_nodes, divided_count}
 use Rattle.dn_shape.proofs.Read.{rest_at, said}
-use Rattle.dn_shape.proofs.Sending.{few_new}
+use Rattle.dn_shape.proofs.Sending.{counted, few_new}
 use Rattle.dn_shape.proofs.split.divided_count.Goals as goal
-
-counted : (b : Bool) (n : NodeDecl) (k : ℕ) → k ≡ bool_byte b → is_divided n ≡ b → k ≡ new_nodes n
-counted b n k e d = e ∙ byte b ∙ ap (λ p. if p then 1 else 0) (sym d)
-  where
-    byte : (b : Bool) → bool_byte b ≡ (if b then 1 else 0)
-    byte true = refl
-    byte false = refl
 
 pub loop-node-preserved : goal.loop-node-preserved
 loop-node-preserved c =

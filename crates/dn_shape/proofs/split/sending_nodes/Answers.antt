@@ -1,22 +1,13 @@
 -- One node more.
-use Rattle.std.proofs.Common.{◌≡◌, ◌∙◌, ℕ, Bool, true, false, refl, ◌+◌, ◌++◌, ◌∷◌, [], if◌then◌else◌, ap, sym, subst, drop, length, arith, IsTrue, append_assoc}
+use Rattle.std.proofs.Common.{◌≡◌, ◌∙◌, true, ◌+◌, ◌++◌, ◌∷◌, [], ap, sym, subst, drop, length, arith, IsTrue, append_assoc}
 use Rattle.dn_net.specs.Decode.{is_formed}
 use Rattle.dn_net.proofs.Places.{length-last}
 use Rattle.dn_net.proofs.Steps.{node_at}
-use mir.Val.{bool_byte}
-use Rattle.dn_net.specs.declared.node.NodeDecl.{NodeDecl}
 use Rattle.dn_shape.specs.Split.{is_divided, new_nodes, divided_count, sending_node, sending_nodes}
 use Rattle.dn_shape.proofs.Named.{new_node}
 use Rattle.dn_shape.proofs.Read.{rest_at, said}
-use Rattle.dn_shape.proofs.Sending.{sending_formed, sending_differ}
+use Rattle.dn_shape.proofs.Sending.{counted, sending_formed, sending_differ}
 use Rattle.dn_shape.proofs.split.sending_nodes.Goals as goal
-
-counted : (b : Bool) (n : NodeDecl) (k : ℕ) → k ≡ bool_byte b → is_divided n ≡ b → k ≡ new_nodes n
-counted b n k e d = e ∙ byte b ∙ ap (λ p. if p then 1 else 0) (sym d)
-  where
-    byte : (b : Bool) → bool_byte b ≡ (if b then 1 else 0)
-    byte true = refl
-    byte false = refl
 
 pub add-requires-clause-formed : goal.add-requires-clause-formed
 add-requires-clause-formed c =

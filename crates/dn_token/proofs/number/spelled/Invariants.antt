@@ -1,9 +1,10 @@
 use Rattle.std.proofs.Common.{◌≡◌, ◌<◌, ◌^◌, drop, Some}
 use Rattle.dn_token.specs.Token.{spelled_from, fitting}
+use Rattle.dn_token.specs.Lexing.{base_of, value_of}
 use Rattle.dn_token.proofs.number.spelled.Given as goal
 
 abbrev pub invariant-loop-digit : goal.invariant-loop-digit
-invariant-loop-digit g l = record {
-  spelled : fitting (spelled_from g.R.Radix.RADIX g.R.Radix.value (Some 0) l.digits) ≡ fitting (spelled_from g.R.Radix.RADIX g.R.Radix.value (Some l.number) (drop l.digit-index l.digits));
+invariant-loop-digit l = record {
+  spelled : fitting (spelled_from (base_of l.radix) (value_of l.radix) (Some 0) l.digits) ≡ fitting (spelled_from (base_of l.radix) (value_of l.radix) (Some l.number) (drop l.digit-index l.digits));
   fits : l.number < 2 ^ 64;
 }

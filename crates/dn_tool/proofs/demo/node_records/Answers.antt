@@ -7,8 +7,9 @@ use Rattle.dn_kind.specs.Kind.{Meaning}
 use Rattle.dn_kind.specs.Tables.{Held, record_held}
 use Rattle.dn_tables.specs.Set.{words_of}
 use Rattle.dn_view.proofs.Held.{kept_is_held, slot_there}
+use Rattle.dn_net.proofs.Steps.{unit_is}
 use Rattle.dn_tool.specs.Demo.{held_slots}
-use Rattle.dn_tool.proofs.Demos.{count_more, count_none, one_at_most, unit_told}
+use Rattle.dn_tool.proofs.Demos.{count_more, count_none, one_at_most}
 use Rattle.dn_tool.proofs.demo.node_records.Goals as goal
 
 pub loop-slot-init : goal.loop-slot-init
@@ -17,7 +18,7 @@ loop-slot-init g c = record { few = omega arith; count = sym (count_none _) }
 pub record_at-requires-clause-there : goal.record_at-requires-clause-there
 record_at-requires-clause-there g c =
     let kinds : List Meaning = map (λ k. (goal.UnitKind-dyn g (k.vtable, k.value)).meaning k.value) c.args.machine.kinds.now.list.items in
-    let unit : unit_at c.args.machine.net.now c.args.node ≡ Some c.in-Some.unit.now = unit_told c.args.machine.net.now c.args.node (Some c.in-Some.unit.now) c.in-Some.ensures in
+    let unit : unit_at c.args.machine.net.now c.args.node ≡ Some c.in-Some.unit.now = unit_is c.args.machine.net.now c.args.node (Some c.in-Some.unit.now) c.in-Some.ensures in
     slot_there c.args.machine.net.now kinds c.args.tables.now c.requires.fits c.args.node c.loop-slot.slot c.in-Some.unit.now unit c.loop-slot-test.true
 
 pub loop-slot-preserved : goal.loop-slot-preserved
@@ -40,7 +41,7 @@ pub returns-clause-count : goal.returns-clause-count
 returns-clause-count g c =
     let kinds : List Meaning = map (λ k. (goal.UnitKind-dyn g (k.vtable, k.value)).meaning k.value) c.args.machine.kinds.now.list.items in
     let held : Held = record_held c.args.machine.net.now kinds (words_of c.args.tables.now) in
-    let unit : unit_at c.args.machine.net.now c.args.node ≡ Some c.in-Some.unit.now = unit_told c.args.machine.net.now c.args.node (Some c.in-Some.unit.now) c.in-Some.ensures in
+    let unit : unit_at c.args.machine.net.now c.args.node ≡ Some c.in-Some.unit.now = unit_is c.args.machine.net.now c.args.node (Some c.in-Some.unit.now) c.in-Some.ensures in
     let all : c.loop-slot.slot ≡ c.in-Some.unit.now.slots = omega (arith, c.loop-slot-test.false, c.loop-slot.auto.slot-end) in
     c.loop-slot.invariant.count
     ∙ ap (λ (n : ℕ). count_below (λ q. is_some (held c.args.node q)) n) all

@@ -1,30 +1,52 @@
-use Rattle.std.proofs.Common.{◌≡◌, subst, map, List, IfOk}
+use Rattle.std.proofs.Common.{◌≡◌, subst, map, List, Option, IfOk, IfSome}
 use Rattle.std.specs.String.{string_bytes}
 use Rattle.dn_interval.specs.declared.row.Row.{Row}
-use Rattle.dn_interval.specs.Listed.{Seen, seen_by}
 use Rattle.dn_net.specs.declared.node.NodeDecl.{NodeDecl}
+use Rattle.dn_flat.specs.declared.flat.Flat.{Flat}
+use Rattle.dn_flat.specs.Stages.{AreFlats}
 use Rattle.dn_kind.specs.declared.rights.Access.{Access}
 use Rattle.dn_kind.specs.Kind.{Meaning}
-use Rattle.dn_kind.specs.Tables.{Held, allowing}
+use Rattle.dn_kind.specs.Tables.{allowing}
+use Rattle.dn_tables.specs.declared.table.NodeTable.{NodeTable}
 use Rattle.dn_tables.specs.Set.{record_kept}
 use Rattle.dn_view.specs.Views.{AreViewed}
 use Rattle.dn_view.proofs.Agents.{agent_there}
 use Rattle.dn_tool.specs.Found.{access_of}
-use Rattle.dn_tool.specs.Viewed.{owed_rows, viewed_text}
-use Rattle.dn_tool.proofs.Seen.{rows_are_owed}
+use Rattle.dn_tool.specs.Viewed.{viewed_text}
+use Rattle.dn_tool.proofs.Seen.{fixed_is_owed, seen_is_owed}
 use Rattle.dn_tool.proofs.reply.agent_view.Goals as goal
 
 pub keep_first-requires-clause-there : goal.keep_first-requires-clause-there
 keep_first-requires-clause-there g c = agent_there c.args.machine.net.now c.args.node c.requires.agent
 
+pub returns-in-Some-clause-reply : goal.returns-in-Some-clause-reply
+returns-in-Some-clause-reply g c =
+    fixed_is_owed c.args.machine.net.now _ c.args.state.now (access_of c.args.mode) c.args.node c.in-Some.rows.now
+    (λ r. IfOk c.rows_text.result (λ s. string_bytes s ≡ viewed_text c.args.machine.net.now c.args.text.now c.args.mode r))
+    c.requires.ready.state c.requires.agent c.in-Some.ensures.rows c.rows_text.ensures
+
+pub fixed_view-requires-clause-flat : goal.fixed_view-requires-clause-flat
+fixed_view-requires-clause-flat g c =
+    let net : List NodeDecl = c.args.machine.net.now in
+    let are : AreFlats net c.in-Some-flats.flats = subst (λ (o : Option (List Flat)). IfSome o (AreFlats net)) c.in-Some-flats.is c.in_ok-keep_flats.ensures.flat in
+    are.each c.args.node c.of.result.now c.of.ensures
+
 pub returns-in-Some-fixed_view-clause-reply : goal.returns-in-Some-fixed_view-clause-reply
 returns-in-Some-fixed_view-clause-reply g c =
+    fixed_is_owed c.args.machine.net.now _ c.args.state.now (access_of c.args.mode) c.args.node c.in-Some-fixed_view.rows.now
+    (λ r. IfOk c.rows_text-in-Some-fixed_view.result (λ s. string_bytes s ≡ viewed_text c.args.machine.net.now c.args.text.now c.args.mode r))
+    c.requires.ready.state c.requires.agent c.in-Some-fixed_view.ensures.rows c.rows_text-in-Some-fixed_view.ensures
+
+pub view-requires-clause-there : goal.view-requires-clause-there
+view-requires-clause-there g c = agent_there c.args.machine.net.now c.args.node c.requires.agent
+
+pub returns-clause-reply : goal.returns-clause-reply
+returns-clause-reply g c =
     let kinds : List Meaning = map (λ k. (goal.UnitKind-dyn g (k.vtable, k.value)).meaning k.value) c.args.machine.kinds.now.list.items in
     let net : List NodeDecl = c.args.machine.net.now in
     let state = c.args.state.now in
     let access : Access = access_of c.args.mode in
-    let h : Held = allowing access (record_kept kinds state.book.set) in
-    let rows : List Row = c.in-Some-fixed_view.rows.now in
-    let normal : AreViewed net h c.args.node rows = c.in-Some-fixed_view.ensures.rows h in
-    let owed : map seen_by rows ≡ owed_rows net state.book.grants access c.args.node = rows_are_owed net state.book.grants access c.args.node (record_kept kinds state.book.set) rows c.requires.ready.state.faithful c.requires.agent c.requires.ready.state.kept.held normal in
-    subst (λ (r : List Seen). IfOk c.rows_text.result (λ s. string_bytes s ≡ viewed_text net c.args.text.now c.args.mode r)) owed c.rows_text.ensures
+    let rows : List Row = c.in_ok-rows.rows in
+    let set : AreViewed net (allowing c.access_of-access.result (record_kept kinds state.book.set)) c.args.node rows = subst (λ (s : List NodeTable). AreViewed net (allowing c.access_of-access.result (record_kept kinds s)) c.args.node rows) c.tables.ensures c.in_ok-rows.ensures.rows in
+    let normal : AreViewed net (allowing access (record_kept kinds state.book.set)) c.args.node rows = subst (λ (a : Access). AreViewed net (allowing a (record_kept kinds state.book.set)) c.args.node rows) c.access_of-access.ensures set in
+    seen_is_owed net kinds state access c.args.node rows (λ r. IfOk c.rows_text-2.result (λ s. string_bytes s ≡ viewed_text net c.args.text.now c.args.mode r)) c.requires.ready.state c.requires.agent normal c.rows_text-2.ensures

@@ -1,17 +1,11 @@
-use Rattle.std.proofs.Common.{◌≡◌, ◌∙◌, ◌-◌, ◌+◌, ◌⊎◌, ◌↔◌, true, suc, ap, subst, sym, List, arith}
-use Rattle.dn_interval.specs.declared.row.End.{End}
+use Rattle.std.proofs.Common.{◌≡◌, ◌-◌, ◌+◌, ◌↔◌, true, subst, sym, List, arith}
 use Rattle.dn_interval.specs.declared.row.Seg.{Seg}
-use Rattle.dn_interval.specs.Onward.{gives_by}
 use Rattle.dn_interval.specs.Strands.{segs_give}
 use Rattle.dn_kind.specs.Tables.{Held, AreHeld}
-use Rattle.dn_flat.specs.Views.{name_of_end}
-use Rattle.dn_view.specs.declared.pass.Part.TheVariants.{Stops}
-use Rattle.dn_view.specs.Passes.{rows_part, segs_pass}
-use Rattle.dn_view.specs.Through.{IsPassedOn}
 use Rattle.dn_view.specs.declared.records.Records.TheVariants.{Kept}
 use Rattle.dn_view.specs.Trials.{course_by, fresh_in, joined_in, kept_in}
 use Rattle.dn_view.proofs.Courses.{course_held}
-use Rattle.dn_view.proofs.Passed.{NewlyComes, newly_next, newly_end, newly_whole, then_both, both_turned}
+use Rattle.dn_view.proofs.Passed.{NewlyComes, newly_next, newly_end, newly_whole, one_less, then_both, both_turned}
 use Rattle.dn_view.proofs.exact.newly_shown.Goals as goal
 
 pub loop-init : goal.loop-init
@@ -20,22 +14,17 @@ loop-init g c a z low = ((λ x. x), (λ x. x))
 pub loop-preserved : goal.loop-preserved
 loop-preserved g c a z low =
     let net = c.args.trial.system.net.now in
-    let flats = c.args.trial.system.flats.now in
     let old : Held = kept_in (λ k. (goal.UnitKind-dyn g (k.vtable, k.value)).meaning k.value) c.args.trial in
     let fresh : Held = fresh_in (λ k. (goal.UnitKind-dyn g (k.vtable, k.value)).meaning k.value) c.args.trial in
     let all : Held = joined_in (λ k. (goal.UnitKind-dyn g (k.vtable, k.value)).meaning k.value) c.args.trial in
     let held : AreHeld net old = course_held (λ k. (goal.UnitKind-dyn g (k.vtable, k.value)).meaning k.value) (course_by c.args.trial Kept) (record { system = c.requires.system; fits = c.requires.fits; fitting = tt }) in
-    let level : List Seg = c.loop.level.items in
-    let same : c.as_slice-segs.result.now ≡ level = c.as_slice-segs.ensures.value in
-    let left : 3 - c.loop.counter ≡ suc (3 - (c.loop.counter + 1)) = (let t = c.loop-test.true in omega arith) in
-    let shown : List Seg = c.loop.shown.items in
     let shown' : List Seg = c.push_newly.new.shown.items in
     let level' : List Seg = c.in_ok-level.level.items in
     then_both (c.loop.invariant a z low)
-    (subst (λ n. NewlyComes net old fresh all shown level n a z ↔ NewlyComes net old fresh all shown' level' (3 - (c.loop.counter + 1)) a z) (sym left)
-    (newly_next net c.requires.system.legal.legal old fresh all held flats c.requires.system.flat shown shown' level level' (3 - (c.loop.counter + 1)) a z
-    (subst (λ (l : List Seg). (segs_give shown' a z ≡ true) ↔ ((segs_give shown a z ≡ true) ⊎ ((s : End) × (segs_give l a s ≡ true) × IsPassedOn net fresh all (name_of_end s) (name_of_end z)))) same (c.in_ok-push_newly.ensures a z low))
-    (λ t. c.in_ok-level.ensures a t ∙ ap (λ (l : List Seg). segs_pass net old (gives_by (rows_part Stops) flats) l a t) same)))
+    (subst (λ n. NewlyComes net old fresh all c.loop.shown.items c.loop.level.items n a z ↔ NewlyComes net old fresh all shown' level' (3 - (c.loop.counter + 1)) a z) (sym (one_less c.loop.counter c.loop-test.true))
+    (newly_next net c.requires.system.legal.legal old fresh all held c.args.trial.system.flats.now c.requires.system.flat c.loop.shown.items shown' c.loop.level.items level' (3 - (c.loop.counter + 1)) a z
+    (rw c.as_slice-segs.ensures.value at (c.in_ok-push_newly.ensures a z low))
+    (λ t. rw c.as_slice-segs.ensures.value at (c.in_ok-level.ensures a t))))
 
 pub returns : goal.returns
 returns g c a z low =

@@ -31,26 +31,17 @@ returns-then-not-leads_on g c a z =
     none_pushed (segs_give c.args.out.now.items a z) (in_span s.span a) (names_go next (outputs net h (seg_name s a)) z) (none_leads net h c.args.course.system.flats.now c.args.part s c.in-Some.unit.now a z at (sym c.if-not-leads_on.ensures))
 
 pub loop-slot-init : goal.loop-slot-init
-loop-slot-init g c =
-    let net = c.args.course.system.net.now in
-    let h : Held = course_records (λ k. (goal.UnitKind-dyn g (k.vtable, k.value)).meaning k.value) c.args.course in
-    let next : ℕ → ℕ → End → Bool = gives_by (rows_part c.args.part) c.args.course.system.flats.now in
-    let s = c.args.seg in
-    record {
-      from = omega arith;
-      so_far = λ a z. slots_none c.in-Some.unit.now.page c.slot_range-range.result.0 s a (segs_give c.args.out.now.items a z) (names_go next (outputs net h (seg_name s a)) z);
-    }
+loop-slot-init g c = record {
+  from = omega arith;
+  so_far = λ a z. slots_none c.in-Some.unit.now.page c.slot_range-range.result.0 c.args.seg a (segs_give c.args.out.now.items a z) _;
+}
 
 pub loop-slot-preserved : goal.loop-slot-preserved
 loop-slot-preserved g c =
-    let net = c.args.course.system.net.now in
-    let h : Held = course_records (λ k. (goal.UnitKind-dyn g (k.vtable, k.value)).meaning k.value) c.args.course in
-    let next : ℕ → ℕ → End → Bool = gives_by (rows_part c.args.part) c.args.course.system.flats.now in
-    let s = c.args.seg in
     let f = c.loop-slot.invariant.from in
     record {
       from = omega arith;
-      so_far = λ a z. slots_more c.in-Some.unit.now.page c.slot_range-range.result.0 c.loop-slot.slot s a (segs_give c.args.out.now.items a z) (segs_give c.loop-slot.out.items a z) (segs_give c.pass_slot.new.out.items a z) (names_go next (outputs net h (seg_name s a)) z) f (c.loop-slot.invariant.so_far a z) (c.in_ok-pass_slot.ensures a z);
+      so_far = λ a z. slots_more c.in-Some.unit.now.page c.slot_range-range.result.0 c.loop-slot.slot c.args.seg a (segs_give c.args.out.now.items a z) (segs_give c.loop-slot.out.items a z) (segs_give c.pass_slot.new.out.items a z) _ f (c.loop-slot.invariant.so_far a z) (c.in_ok-pass_slot.ensures a z);
     }
 
 pub returns : goal.returns

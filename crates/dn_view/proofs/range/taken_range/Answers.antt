@@ -1,6 +1,7 @@
 use Rattle.std.proofs.Common.{inl, inr, arith}
 use Rattle.dn_view.specs.Records.{records_taken}
-use Rattle.dn_view.proofs.Taken.{taken_are_held, held_past}
+use Rattle.dn_kind.proofs.Held.{held_past}
+use Rattle.dn_view.proofs.Taken.{taken_are_held}
 use Rattle.dn_view.proofs.range.taken_range.Goals as goal
 
 pub returns-in_default : goal.returns-in_default

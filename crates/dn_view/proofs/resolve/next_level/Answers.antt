@@ -30,4 +30,4 @@ returns-clause-there g c =
     let h : Held = allowing c.args.access (record_kept kinds c.args.tables.now) in
     let over : length c.args.level.now ≤ c.loop-name.name-index = let b = c.loop-name-test.false in omega arith in
     let given : c.loop-name.next.items ≡ each_step (steps_under c.args.net.now h) c.args.level.now = sym (append-nil c.loop-name.next.items) ∙ ap (λ (l : List Name). c.loop-name.next.items ++ each_step (steps_under c.args.net.now h) l) (sym (drop_of_length-le c.args.level.now over)) ∙ c.loop-name.invariant.next in
-    set_there (length c.args.net.now) c.loop-name.next.items (each_step (steps_under c.args.net.now h) c.args.level.now) c.set_of.result given (each_under_there c.args.net.now h c.args.level.now c.requires.legal.legal.nodes.closed) c.set_of.ensures
+    set_there (length c.args.net.now) c.loop-name.next.items (each_step (steps_under c.args.net.now h) c.args.level.now) c.set_of.result given (each_under_there c.args.net.now h c.args.level.now c.requires.tables.legal.legal.nodes.closed) c.set_of.ensures

@@ -1,18 +1,19 @@
 -- The levels of the code are those of the net, so what they show is the rule that the net breaks.
-use Rattle.std.proofs.Common.{◌≡◌, ◌∙◌, ℕ, Option, option_map, IfSome, get_or, refl, suc, ◌+◌, ◌-◌, ◌<◌, ◌≤◌, ◌⊎◌, inl, inr, List, [], ◌∷◌, map, length, vec_len, true, false, None, Some, sym, ap, subst, arith, rules}
-use Rattle.std.specs.List.{All}
+use Rattle.std.proofs.Common.{◌≡◌, ◌∙◌, ℕ, Option, option_map, IfSome, get_or, refl, suc, ◌+◌, ◌-◌, ◌<◌, ◌≤◌, ◌⊎◌, inl, inr, List, [], ◌∷◌, map, drop, length, vec_len, true, false, None, Some, sym, ap, subst, arith, rules}
+use Rattle.std.specs.List.{All, flat_map}
 use Rattle.std.specs.List.Sorted.{IsNonDecreasingBy}
 use Rattle.std.proofs.lemmas.Bool.Decides.{nat_tests}
 use Rattle.std.proofs.lemmas.Result.{err_from_is_err_and}
 use Rattle.dn_net.specs.Decode.{step_limit}
 use Rattle.dn_net.specs.Rules.{KeepsNodeRules}
 use Rattle.dn_net.specs.WalkRules.{Broken, walk_limit, endless_fault, unit_fault, walk_fault, is_wide, has_loop, is_deep}
+use Rattle.dn_net.specs.Walks.{live_walks}
 use Rattle.dn_net.specs.declared.node.NodeDecl.{NodeDecl}
 use Rattle.dn_net.specs.declared.node.Name.{Name}
 use Rattle.dn_walk.specs.declared.leg.Leg.{Leg}
 use Rattle.dn_walk.specs.declared.level.Levels.{Levels}
 use Rattle.dn_walk.specs.declared.walks.WalkRow.{WalkRow}
-use Rattle.dn_walk.specs.Rows.{row_view}
+use Rattle.dn_walk.specs.Rows.{row_view, told_by_walk}
 use Rattle.dn_walk.specs.Legs.{told_legs}
 use Rattle.dn_walk.specs.Levels.{AreLevels, told_level, told_levels, told_walks}
 use Rattle.dn_walk.specs.Ways.{least_of, start_names, told_cycle, told_path}
@@ -22,9 +23,9 @@ use Rattle.dn_net.proofs.Legal.{first_part, second_part, legal_breaks_no_rule}
 use Rattle.dn_net.proofs.Places.{length-map}
 use Rattle.dn_walk.proofs.Nodes.{all_legs_of}
 use Rattle.dn_walk.proofs.Told.{rows_are, table_is}
-use Rattle.dn_walk.proofs.Verdict.{Acyclic, steps_are, limit_is, wide_is, loop_is, deep_is, legal_is, cycle_told, path_told, sorted_by_start, empty_on}
+use Rattle.dn_walk.proofs.Verdict.{Acyclic, Legal, steps_are, limit_is, wide_is, loop_is, deep_is, legal_is, cycle_told, path_told, sorted_by_start, empty_on}
 use Rattle.dn_walk.proofs.walks.walks.Goals as goal
-use Rattle.dn_walk.proofs.walks.walks.Goals.{then-levels-test+else-not-is_empty, else-levels-test}
+use Rattle.dn_walk.proofs.walks.walks.Goals.{In_ok-levels-2, In_ok-levels-3, In_ok-check_newest-2, then-levels-test+else-not-is_empty, else-levels-test}
 
 -- levels made from the legs of the net
 same_levels : (net : List NodeDecl) (legs now : List (List Leg)) (l : Levels) → now ≡ legs → legs ≡ map told_legs net → AreLevels now l → AreLevels (map told_legs net) l
@@ -97,6 +98,40 @@ deep_at net checked k c names s l (inr e) a w told =
     let g : told_path net (told_levels (map told_legs net) c) [] ≡ Some names = subst (λ rows. told_path net (told_levels (map told_legs net) c) rows ≡ Some names) f told in
     cc
 
+-- a level more that is too wide breaks the rule on how many walks there are
+too_wide : (net : List NodeDecl) (legs now : List (List Leg)) (k : ℕ) → KeepsNodeRules net → now ≡ legs → legs ≡ map told_legs net → Acyclic net k → k ≤ 64 → walk_limit < length (told_walks now (k + 1)) → walk_fault net ≡ Some is_wide
+too_wide net legs now k rules e f acyclic shallow w =
+    first_part net is_wide (wide_is net rules k acyclic shallow (subst (λ x. walk_limit < length (told_walks x (k + 1))) (e ∙ f) w))
+
+-- the levels after a turn are those of the net, and there are 64 of them at most
+turned : (c : In_ok-levels-2) → AreLevels (map told_legs c.args.net.now) c.in_ok-levels-2.levels
+turned c = same_levels c.args.net.now c.in_ok-legs.legs.items c.deref.result.now c.in_ok-levels-2.levels c.deref.ensures.value c.in_ok-legs.ensures.legs c.in_ok-levels-2.ensures.levels
+
+turned_few : (c : In_ok-levels-2) → length c.levels.levels.sorted.items < 64
+turned_few c =
+    let size : vec_len c.levels.levels.sorted ≡ length c.levels.levels.sorted.items = search rules in
+    omega (arith, c.len.ensures, c.levels-test.true)
+
+-- so are those with the last one
+ended : (c : In_ok-levels-3) → AreLevels (map told_legs c.args.net.now) c.in_ok-levels-3.levels
+ended c = same_levels c.args.net.now c.in_ok-legs.legs.items c.deref-2.result.now c.in_ok-levels-3.levels c.deref-2.ensures.value c.in_ok-legs.ensures.legs c.in_ok-levels-3.ensures.levels
+
+-- where the last one has no walk, no rule on cycles and depth is broken
+sound : (c : In_ok-check_newest-2) → AreLevels (map told_legs c.args.net.now) c.in_ok-levels-3.levels → Legal c.args.net.now (length c.levels.levels.sorted.items)
+sound c h =
+    let net = c.args.net.now in
+    let l = c.in_ok-levels-3.levels in
+    let one = c.in_ok-levels-3.ensures.one_more in
+    let none = path_told net (map (map row_view) l.sorted.items) (map row_view l.newest.items) (no_names is_deep _ c.in_ok-check_newest-2.ensures) in
+    legal_is net c.requires.rules (length c.levels.levels.sorted.items) (length l.sorted.items) (omega arith) c.levels.invariant.acyclic c.levels.invariant.shallow (few net l h) (ap (λ rows. least_of (start_names false rows)) (sym h.newest) ∙ none)
+
+-- and the rows of all levels but the first are the live walks
+tabled : (net : List NodeDecl) (l : Levels) (k : ℕ) → length l.sorted.items ≡ k + 1 → AreLevels (map told_legs net) l → Legal net k → map row_view (flat_map (λ x. x) (drop 1 l.sorted.items)) ≡ map told_by_walk (live_walks net step_limit)
+tabled net l k one h legal =
+    let pred : length l.sorted.items - 1 ≡ k = omega arith in
+    let some : 0 < length l.sorted.items = omega arith in
+    table_is (map told_legs net) (length l.sorted.items) l.sorted.items some h.sorted ∙ ap (told_walks (map told_legs net)) pred ∙ legal.rows
+
 pub grown-requires-clause-legs : goal.grown-requires-clause-legs
 grown-requires-clause-legs c =
     all_legs_of c.args.net.now c.requires.rules c.deref.result.now (c.deref.ensures.value ∙ c.in_ok-legs.ensures.legs)
@@ -109,203 +144,116 @@ pub levels-preserved : goal.levels-preserved
 levels-preserved c =
     let net = c.args.net.now in
     let old = c.levels.levels in
-    let inv = c.levels.invariant in
     let l = c.in_ok-levels-2.levels in
-    let h = same_levels net c.in_ok-legs.legs.items c.deref.result.now l c.deref.ensures.value c.in_ok-legs.ensures.legs c.in_ok-levels-2.ensures.levels in
+    let place = (goal.at.levels-preserved c).In_ok-levels-2 in
+    let h = turned place in
+    let k = turned_few place in
     let one = c.in_ok-levels-2.ensures.one_more in
-    let size : vec_len old.sorted ≡ length old.sorted.items = search rules in
-    let k : length old.sorted.items < 64 = omega (arith, c.len.ensures, c.levels-test.true) in
-    let none = cycle_told net (map (map row_view) l.sorted.items) (map row_view l.newest.items) (no_names has_loop _ c.in_ok-check_cycles.ensures) in
+    let none = cycle_told net (map (map row_view) l.sorted.items) (map row_view l.newest.items) (no_names has_loop _ c.in_ok-check_newest.ensures) in
     record {
       levels = h;
       shallow = omega arith;
-      acyclic = acyclic_more net (length old.sorted.items) (length l.sorted.items) one inv.acyclic (ap (λ rows. least_of (start_names true rows)) (sym h.newest) ∙ none);
+      acyclic = acyclic_more net (length old.sorted.items) (length l.sorted.items) one c.levels.invariant.acyclic (ap (λ rows. least_of (start_names true rows)) (sym h.newest) ∙ none);
     }
 
 pub returns-in_err-levels-2-clause-checks : goal.returns-in_err-levels-2-clause-checks
 returns-in_err-levels-2-clause-checks c =
-    let net = c.args.net.now in
-    let old = c.levels.levels in
     let inv = c.levels.invariant in
-    let wide : walk_limit < length (told_walks c.deref.result.now (length old.sorted.items + 1)) → walk_fault net ≡ Some is_wide = λ w. first_part net is_wide (wide_is net c.requires.rules (length old.sorted.items) inv.acyclic inv.shallow (subst (λ x. walk_limit < length (told_walks x (length old.sorted.items + 1))) (c.deref.ensures.value ∙ c.in_ok-legs.ensures.legs) w)) in
+    let wide = too_wide c.args.net.now c.in_ok-legs.legs.items c.deref.result.now (length c.levels.levels.sorted.items) c.requires.rules c.deref.ensures.value c.in_ok-legs.ensures.legs inv.acyclic inv.shallow in
     let p = err_from_is_err_and c.from_residual-in_err-levels-2.result c.from_residual-in_err-levels-2.ensures.1 in
     rw (p.1, p.2) (wide_broken _ _ _ wide c.in_err-levels-2.ensures.wide)
 
 pub returns-in_err-levels-3-clause-checks : goal.returns-in_err-levels-3-clause-checks
 returns-in_err-levels-3-clause-checks c =
-    let net = c.args.net.now in
-    let old = c.levels.levels in
     let inv = c.levels.invariant in
-    let wide : walk_limit < length (told_walks c.deref-2.result.now (length old.sorted.items + 1)) → walk_fault net ≡ Some is_wide = λ w. first_part net is_wide (wide_is net c.requires.rules (length old.sorted.items) inv.acyclic inv.shallow (subst (λ x. walk_limit < length (told_walks x (length old.sorted.items + 1))) (c.deref-2.ensures.value ∙ c.in_ok-legs.ensures.legs) w)) in
+    let wide = too_wide c.args.net.now c.in_ok-legs.legs.items c.deref-2.result.now (length c.levels.levels.sorted.items) c.requires.rules c.deref-2.ensures.value c.in_ok-legs.ensures.legs inv.acyclic inv.shallow in
     let p = err_from_is_err_and c.from_residual-in_err-levels-3.result c.from_residual-in_err-levels-3.ensures.1 in
     rw (p.1, p.2) (wide_broken _ _ _ wide c.in_err-levels-3.ensures.wide)
 
-pub check_cycles-requires-clause-there : goal.check_cycles-requires-clause-there
-check_cycles-requires-clause-there c =
-    let net = c.args.net.now in
-    let old = c.levels.levels in
-    let inv = c.levels.invariant in
-    let l = c.in_ok-levels-2.levels in
-    let h = same_levels net c.in_ok-legs.legs.items c.deref.result.now l c.deref.ensures.value c.in_ok-legs.ensures.legs c.in_ok-levels-2.ensures.levels in
+pub check_newest-requires-clause-there : goal.check_newest-requires-clause-there
+check_newest-requires-clause-there c =
+    let place = (goal.at.check_newest-requires-clause-there c).In_ok-levels-2 in
     let one = c.in_ok-levels-2.ensures.one_more in
-    let size : vec_len old.sorted ≡ length old.sorted.items = search rules in
-    let k : length old.sorted.items < 64 = omega (arith, c.len.ensures, c.levels-test.true) in
-    starts_there net c.requires.rules l h (omega arith)
+    let k = turned_few place in
+    starts_there c.args.net.now c.requires.rules c.in_ok-levels-2.levels (turned place) (omega arith)
 
-pub check_cycles-requires-clause-sorted : goal.check_cycles-requires-clause-sorted
-check_cycles-requires-clause-sorted c =
+pub check_newest-requires-clause-sorted : goal.check_newest-requires-clause-sorted
+check_newest-requires-clause-sorted c =
+    sorted_starts c.args.net.now c.in_ok-levels-2.levels (turned (goal.at.check_newest-requires-clause-sorted c).In_ok-levels-2)
+
+pub check_newest-requires-2-clause-there : goal.check_newest-requires-2-clause-there
+check_newest-requires-2-clause-there c =
+    let one = c.in_ok-levels-3.ensures.one_more in
+    let k = c.levels.invariant.shallow in
+    starts_there c.args.net.now c.requires.rules c.in_ok-levels-3.levels (ended (goal.at.check_newest-requires-2-clause-there c).In_ok-levels-3) (omega arith)
+
+pub check_newest-requires-2-clause-sorted : goal.check_newest-requires-2-clause-sorted
+check_newest-requires-2-clause-sorted c =
+    sorted_starts c.args.net.now c.in_ok-levels-3.levels (ended (goal.at.check_newest-requires-2-clause-sorted c).In_ok-levels-3)
+
+pub returns-in_err-check_newest-clause-checks : goal.returns-in_err-check_newest-clause-checks
+returns-in_err-check_newest-clause-checks c =
     let net = c.args.net.now in
-    let old = c.levels.levels in
-    let inv = c.levels.invariant in
     let l = c.in_ok-levels-2.levels in
-    let h = same_levels net c.in_ok-legs.legs.items c.deref.result.now l c.deref.ensures.value c.in_ok-legs.ensures.legs c.in_ok-levels-2.ensures.levels in
-    let one = c.in_ok-levels-2.ensures.one_more in
-    let size : vec_len old.sorted ≡ length old.sorted.items = search rules in
-    let k : length old.sorted.items < 64 = omega (arith, c.len.ensures, c.levels-test.true) in
-    sorted_starts net l h
+    let place = (goal.at.returns-in_err-check_newest-clause-checks c).In_ok-levels-2 in
+    let h = turned place in
+    let k = turned_few place in
+    let suc_is : length l.sorted.items ≡ suc (length c.levels.levels.sorted.items) = c.in_ok-levels-2.ensures.one_more ∙ omega arith in
+    let loop : (names : List Name) → told_cycle net (told_levels (map told_legs net) (length l.sorted.items)) (told_level (map told_legs net) (length l.sorted.items)) ≡ Some names → walk_fault net ≡ Some (has_loop names) = λ names told. first_part net (has_loop names) (loop_is net c.requires.rules (length c.levels.levels.sorted.items) (length l.sorted.items) names suc_is c.levels.invariant.acyclic (omega arith) (few net l h) told) in
+    let p = err_from_is_err_and c.from_residual-in_err-check_newest.result c.from_residual-in_err-check_newest.ensures.1 in
+    rw (p.1, p.2) (names_broken has_loop _ _ _ _ (cycle_same net l h) loop c.in_err-check_newest.ensures)
 
-pub check_depth-requires-clause-there : goal.check_depth-requires-clause-there
-check_depth-requires-clause-there c =
+pub returns-in_err-check_newest-2-clause-checks : goal.returns-in_err-check_newest-2-clause-checks
+returns-in_err-check_newest-2-clause-checks c =
     let net = c.args.net.now in
     let old = c.levels.levels in
     let inv = c.levels.invariant in
     let l = c.in_ok-levels-3.levels in
-    let h = same_levels net c.in_ok-legs.legs.items c.deref-2.result.now l c.deref-2.ensures.value c.in_ok-legs.ensures.legs c.in_ok-levels-3.ensures.levels in
-    let one = c.in_ok-levels-3.ensures.one_more in
-    let k = inv.shallow in
-    starts_there net c.requires.rules l h (omega arith)
-
-pub check_depth-requires-clause-sorted : goal.check_depth-requires-clause-sorted
-check_depth-requires-clause-sorted c =
-    let net = c.args.net.now in
-    let old = c.levels.levels in
-    let inv = c.levels.invariant in
-    let l = c.in_ok-levels-3.levels in
-    let h = same_levels net c.in_ok-legs.legs.items c.deref-2.result.now l c.deref-2.ensures.value c.in_ok-legs.ensures.legs c.in_ok-levels-3.ensures.levels in
-    let one = c.in_ok-levels-3.ensures.one_more in
-    let k = inv.shallow in
-    sorted_starts net l h
-
-pub returns-in_err-check_cycles-clause-checks : goal.returns-in_err-check_cycles-clause-checks
-returns-in_err-check_cycles-clause-checks c =
-    let net = c.args.net.now in
-    let old = c.levels.levels in
-    let inv = c.levels.invariant in
-    let l = c.in_ok-levels-2.levels in
-    let h = same_levels net c.in_ok-legs.legs.items c.deref.result.now l c.deref.ensures.value c.in_ok-legs.ensures.legs c.in_ok-levels-2.ensures.levels in
-    let one = c.in_ok-levels-2.ensures.one_more in
-    let size : vec_len old.sorted ≡ length old.sorted.items = search rules in
-    let k : length old.sorted.items < 64 = omega (arith, c.len.ensures, c.levels-test.true) in
-    let suc_is : length l.sorted.items ≡ suc (length old.sorted.items) = omega arith in
-    let loop : (names : List Name) → told_cycle net (told_levels (map told_legs net) (length l.sorted.items)) (told_level (map told_legs net) (length l.sorted.items)) ≡ Some names → walk_fault net ≡ Some (has_loop names) = λ names told. first_part net (has_loop names) (loop_is net c.requires.rules (length old.sorted.items) (length l.sorted.items) names suc_is inv.acyclic (omega arith) (few net l h) told) in
-    let p = err_from_is_err_and c.from_residual-in_err-check_cycles.result c.from_residual-in_err-check_cycles.ensures.1 in
-    rw (p.1, p.2) (names_broken has_loop _ _ _ _ (cycle_same net l h) loop c.in_err-check_cycles.ensures)
-
-pub returns-in_err-check_depth-clause-checks : goal.returns-in_err-check_depth-clause-checks
-returns-in_err-check_depth-clause-checks c =
-    let net = c.args.net.now in
-    let old = c.levels.levels in
-    let inv = c.levels.invariant in
-    let l = c.in_ok-levels-3.levels in
-    let h = same_levels net c.in_ok-legs.legs.items c.deref-2.result.now l c.deref-2.ensures.value c.in_ok-legs.ensures.legs c.in_ok-levels-3.ensures.levels in
-    let one = c.in_ok-levels-3.ensures.one_more in
-    let k = inv.shallow in
+    let h = ended (goal.at.returns-in_err-check_newest-2-clause-checks c).In_ok-levels-3 in
     let size : vec_len old.sorted ≡ length old.sorted.items = search rules in
     let ended : Ended net (length old.sorted.items) = elim c.levels-test.branch [
       | then-levels-test+else-not-is_empty w ↦ (let none : length old.newest.items ≡ 0 = grind (arith, nat_tests, w.is_empty.ensures, w.if-not-is_empty.false) in inr (sym inv.levels.newest ∙ ap (map row_view) (nothing old.newest.items none)))
       | else-levels-test w ↦ inl (omega (arith, c.len.ensures, w.levels-test.false))
     ] in
-    let deep : (names : List Name) → told_path net (told_levels (map told_legs net) (length l.sorted.items)) (told_level (map told_legs net) (length l.sorted.items)) ≡ Some names → walk_fault net ≡ Some (is_deep names) = λ names told. first_part net (is_deep names) (deep_at net c.requires.rules (length old.sorted.items) (length l.sorted.items) names one k ended inv.acyclic (few net l h) told) in
-    let p = err_from_is_err_and c.from_residual-in_err-check_depth.result c.from_residual-in_err-check_depth.ensures.1 in
-    rw (p.1, p.2) (names_broken is_deep _ _ _ _ (path_same net l h) deep c.in_err-check_depth.ensures)
+    let deep : (names : List Name) → told_path net (told_levels (map told_legs net) (length l.sorted.items)) (told_level (map told_legs net) (length l.sorted.items)) ≡ Some names → walk_fault net ≡ Some (is_deep names) = λ names told. first_part net (is_deep names) (deep_at net c.requires.rules (length old.sorted.items) (length l.sorted.items) names c.in_ok-levels-3.ensures.one_more inv.shallow ended inv.acyclic (few net l h) told) in
+    let p = err_from_is_err_and c.from_residual-in_err-check_newest-2.result c.from_residual-in_err-check_newest-2.ensures.1 in
+    rw (p.1, p.2) (names_broken is_deep _ _ _ _ (path_same net l h) deep c.in_err-check_newest-2.ensures)
 
 pub checked_rows-requires-clause-room : goal.checked_rows-requires-clause-room
 checked_rows-requires-clause-room c =
-    let net = c.args.net.now in
-    let old = c.levels.levels in
-    let inv = c.levels.invariant in
-    let l = c.in_ok-levels-3.levels in
-    let h = same_levels net c.in_ok-legs.legs.items c.deref-2.result.now l c.deref-2.ensures.value c.in_ok-legs.ensures.legs c.in_ok-levels-3.ensures.levels in
-    let one = c.in_ok-levels-3.ensures.one_more in
-    let k = inv.shallow in
+    let h = ended (goal.at.checked_rows-requires-clause-room c).In_ok-levels-3 in
     let r = h.room in let e = limit_is in omega arith
 
 pub checked_rows-requires-clause-shallow : goal.checked_rows-requires-clause-shallow
 checked_rows-requires-clause-shallow c =
-    let net = c.args.net.now in
-    let old = c.levels.levels in
-    let inv = c.levels.invariant in
-    let l = c.in_ok-levels-3.levels in
-    let h = same_levels net c.in_ok-legs.legs.items c.deref-2.result.now l c.deref-2.ensures.value c.in_ok-legs.ensures.legs c.in_ok-levels-3.ensures.levels in
-    let one = c.in_ok-levels-3.ensures.one_more in
-    let k = inv.shallow in
-    let suc_is : length l.sorted.items ≡ suc (length old.sorted.items) = omega arith in
-    let none = path_told net (map (map row_view) l.sorted.items) (map row_view l.newest.items) (no_names is_deep _ c.in_ok-check_depth.ensures) in
-    let legal = legal_is net c.requires.rules (length old.sorted.items) (length l.sorted.items) suc_is inv.acyclic k (few net l h) (ap (λ rows. least_of (start_names false rows)) (sym h.newest) ∙ none) in
-    no_fault_is_shallow net c.requires.rules legal.none
+    let at = goal.at.checked_rows-requires-clause-shallow c in
+    no_fault_is_shallow c.args.net.now c.requires.rules (sound at.In_ok-check_newest-2 (ended at.In_ok-levels-3)).none
 
 pub checked_rows-requires-clause-walks : goal.checked_rows-requires-clause-walks
 checked_rows-requires-clause-walks c =
-    let net = c.args.net.now in
-    let old = c.levels.levels in
-    let inv = c.levels.invariant in
-    let l = c.in_ok-levels-3.levels in
-    let h = same_levels net c.in_ok-legs.legs.items c.deref-2.result.now l c.deref-2.ensures.value c.in_ok-legs.ensures.legs c.in_ok-levels-3.ensures.levels in
-    let one = c.in_ok-levels-3.ensures.one_more in
-    let k = inv.shallow in
-    let suc_is : length l.sorted.items ≡ suc (length old.sorted.items) = omega arith in
-    let none = path_told net (map (map row_view) l.sorted.items) (map row_view l.newest.items) (no_names is_deep _ c.in_ok-check_depth.ensures) in
-    let legal = legal_is net c.requires.rules (length old.sorted.items) (length l.sorted.items) suc_is inv.acyclic k (few net l h) (ap (λ rows. least_of (start_names false rows)) (sym h.newest) ∙ none) in
-    let pred : length l.sorted.items - 1 ≡ length old.sorted.items = omega arith in
-    let some : 0 < length l.sorted.items = omega arith in
-    table_is (map told_legs net) (length l.sorted.items) l.sorted.items some h.sorted ∙ ap (told_walks (map told_legs net)) pred ∙ legal.rows
+    let at = goal.at.checked_rows-requires-clause-walks c in
+    let h = ended at.In_ok-levels-3 in
+    tabled c.args.net.now c.in_ok-levels-3.levels (length c.levels.levels.sorted.items) c.in_ok-levels-3.ensures.one_more h (sound at.In_ok-check_newest-2 h)
 
 pub returns-in_err-pieces-clause-checks : goal.returns-in_err-pieces-clause-checks
 returns-in_err-pieces-clause-checks c =
-    let net = c.args.net.now in
-    let old = c.levels.levels in
-    let inv = c.levels.invariant in
-    let l = c.in_ok-levels-3.levels in
-    let h = same_levels net c.in_ok-legs.legs.items c.deref-2.result.now l c.deref-2.ensures.value c.in_ok-legs.ensures.legs c.in_ok-levels-3.ensures.levels in
-    let one = c.in_ok-levels-3.ensures.one_more in
-    let k = inv.shallow in
-    let suc_is : length l.sorted.items ≡ suc (length old.sorted.items) = omega arith in
-    let none = path_told net (map (map row_view) l.sorted.items) (map row_view l.newest.items) (no_names is_deep _ c.in_ok-check_depth.ensures) in
-    let legal = legal_is net c.requires.rules (length old.sorted.items) (length l.sorted.items) suc_is inv.acyclic k (few net l h) (ap (λ rows. least_of (start_names false rows)) (sym h.newest) ∙ none) in
+    let at = goal.at.returns-in_err-pieces-clause-checks c in
     let p = err_from_is_err_and c.from_residual-in_err-pieces.result c.from_residual-in_err-pieces.ensures.1 in
-    rw (p.1, p.2) (unit_broken net _ legal.none c.in_err-pieces.ensures.checks)
+    rw (p.1, p.2) (unit_broken c.args.net.now _ (sound at.In_ok-check_newest-2 (ended at.In_ok-levels-3)).none c.in_err-pieces.ensures.checks)
 
 pub returns-clause-checks : goal.returns-clause-checks
 returns-clause-checks c =
-    let net = c.args.net.now in
-    let old = c.levels.levels in
-    let inv = c.levels.invariant in
-    let l = c.in_ok-levels-3.levels in
-    let h = same_levels net c.in_ok-legs.legs.items c.deref-2.result.now l c.deref-2.ensures.value c.in_ok-legs.ensures.legs c.in_ok-levels-3.ensures.levels in
-    let one = c.in_ok-levels-3.ensures.one_more in
-    let k = inv.shallow in
-    let suc_is : length l.sorted.items ≡ suc (length old.sorted.items) = omega arith in
-    let none = path_told net (map (map row_view) l.sorted.items) (map row_view l.newest.items) (no_names is_deep _ c.in_ok-check_depth.ensures) in
-    let legal = legal_is net c.requires.rules (length old.sorted.items) (length l.sorted.items) suc_is inv.acyclic k (few net l h) (ap (λ rows. least_of (start_names false rows)) (sym h.newest) ∙ none) in
-    second_part net legal.none ∙ c.in_ok-pieces.ensures.checks
+    let at = goal.at.returns-clause-checks c in
+    second_part c.args.net.now (sound at.In_ok-check_newest-2 (ended at.In_ok-levels-3)).none ∙ c.in_ok-pieces.ensures.checks
 
 pub returns-clause-walks : goal.returns-clause-walks
 returns-clause-walks c =
     let net = c.args.net.now in
-    let old = c.levels.levels in
-    let inv = c.levels.invariant in
-    let l = c.in_ok-levels-3.levels in
-    let h = same_levels net c.in_ok-legs.legs.items c.deref-2.result.now l c.deref-2.ensures.value c.in_ok-legs.ensures.legs c.in_ok-levels-3.ensures.levels in
-    let one = c.in_ok-levels-3.ensures.one_more in
-    let k = inv.shallow in
-    let suc_is : length l.sorted.items ≡ suc (length old.sorted.items) = omega arith in
-    let none = path_told net (map (map row_view) l.sorted.items) (map row_view l.newest.items) (no_names is_deep _ c.in_ok-check_depth.ensures) in
-    let legal = legal_is net c.requires.rules (length old.sorted.items) (length l.sorted.items) suc_is inv.acyclic k (few net l h) (ap (λ rows. least_of (start_names false rows)) (sym h.newest) ∙ none) in
-    let pred : length l.sorted.items - 1 ≡ length old.sorted.items = omega arith in
-    let some : 0 < length l.sorted.items = omega arith in
-    let same = ap (map row_view) c.in_ok-pieces.ensures.rows ∙ table_is (map told_legs net) (length l.sorted.items) l.sorted.items some h.sorted ∙ ap (told_walks (map told_legs net)) pred ∙ legal.rows in
+    let at = goal.at.returns-clause-walks c in
+    let h = ended at.In_ok-levels-3 in
+    let legal = sound at.In_ok-check_newest-2 h in
     record {
       legal = (legal_breaks_no_rule net c.facts.ensures c.requires.rules.closed).0 (none_broken net c.requires.rules.each, c.requires.shapes, second_part net legal.none ∙ c.in_ok-pieces.ensures.checks);
-      same = same;
+      same = ap (map row_view) c.in_ok-pieces.ensures.rows ∙ tabled net c.in_ok-levels-3.levels (length c.levels.levels.sorted.items) c.in_ok-levels-3.ensures.one_more h legal;
       accepted = c.in_ok-accepted_sets.ensures;
     }

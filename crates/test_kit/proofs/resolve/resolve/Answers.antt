@@ -3,10 +3,9 @@ use Rattle.dn_net.specs.declared.node.Name.{Name}
 use Rattle.dn_net.specs.Decode.{is_accepted, steps, step_limit}
 use Rattle.dn_net.specs.Names.{each_step, passing_names, sorted_names, resolved_names}
 use Rattle.dn_kind.specs.Levels.{are_there}
-use Rattle.dn_kind.proofs.Stages.{is_empty, ends_at_empty, set_is_ends, set_within}
+use Rattle.dn_kind.proofs.Stages.{set_is_ends, set_within}
 use Rattle.test_kit.proofs.Levels.{resolved_by, resolved_at_start, resolved_next, resolved_at_end, resolved_there}
 use Rattle.test_kit.proofs.resolve.resolve.Goals as goal
-use Rattle.test_kit.proofs.resolve.resolve.Goals.{else-loop-test, then-loop-test+then-is_empty}
 
 pub loop-init : goal.loop-init
 loop-init c =
@@ -19,7 +18,7 @@ loop-init c =
 
 pub loop-preserved : goal.loop-preserved
 loop-preserved c =
-    let same : c.list-in-loop.result.now ≡ c.loop.level = search rules in
+    let same : c.list.result.now ≡ c.loop.level = search rules in
     let more : c.next_level.new.accepted.items ≡ c.loop.accepted.items ++ passing_names (is_accepted c.args.net.now) c.loop.level = c.in_ok-level.ensures.accepted ∙ ap (λ (l : List Name). c.loop.accepted.items ++ passing_names (is_accepted c.args.net.now) l) same in
     let next : c.in_ok-level.level ≡ sorted_names (each_step (steps c.args.net.now) c.loop.level) = c.in_ok-level.ensures.next ∙ ap (λ (l : List Name). sorted_names (each_step (steps c.args.net.now) l)) same in
     record {
@@ -27,18 +26,10 @@ loop-preserved c =
       there = c.in_ok-level.ensures.there;
     }
 
-pub returns-clause-resolved : goal.returns-clause-resolved
-returns-clause-resolved c =
-    let whole : sorted_names c.loop.accepted.items ≡ resolved_names c.args.net.now c.args.name = elim c.loop-test.branch [
-      | else-loop-test w ↦ resolved_at_end c.args.net.now c.loop.counter c.loop.accepted.items c.loop.level (resolved_names c.args.net.now c.args.name) (let b = w.loop-test.false in omega arith) c.loop.invariant.so_far
-      | then-loop-test+then-is_empty w ↦ ends_at_empty (steps c.args.net.now) (is_accepted c.args.net.now) (suc step_limit - c.loop.counter) c.loop.accepted.items c.loop.level (resolved_names c.args.net.now c.args.name) (is_empty c.loop.level (search rules)) c.loop.invariant.so_far
-    ] in
-    set_is_ends c.loop.accepted.items (resolved_names c.args.net.now c.args.name) c.set_of.result whole c.set_of.ensures
-
-pub returns-clause-there : goal.returns-clause-there
-returns-clause-there c =
-    let whole : sorted_names c.loop.accepted.items ≡ resolved_names c.args.net.now c.args.name = elim c.loop-test.branch [
-      | else-loop-test w ↦ resolved_at_end c.args.net.now c.loop.counter c.loop.accepted.items c.loop.level (resolved_names c.args.net.now c.args.name) (let b = w.loop-test.false in omega arith) c.loop.invariant.so_far
-      | then-loop-test+then-is_empty w ↦ ends_at_empty (steps c.args.net.now) (is_accepted c.args.net.now) (suc step_limit - c.loop.counter) c.loop.accepted.items c.loop.level (resolved_names c.args.net.now c.args.name) (is_empty c.loop.level (search rules)) c.loop.invariant.so_far
-    ] in
-    set_within (length c.args.net.now) c.loop.accepted.items (resolved_names c.args.net.now c.args.name) c.set_of.result whole (resolved_there c.args.net.now c.args.name) c.set_of.ensures
+pub returns : goal.returns
+returns c =
+    let whole : sorted_names c.loop.accepted.items ≡ resolved_names c.args.net.now c.args.name = resolved_at_end c.args.net.now c.loop.counter c.loop.accepted.items c.loop.level (resolved_names c.args.net.now c.args.name) (let past = c.loop-test.false in omega arith) c.loop.invariant.so_far in
+    record {
+      resolved = set_is_ends c.loop.accepted.items (resolved_names c.args.net.now c.args.name) c.set_of.result whole c.set_of.ensures;
+      there = set_within (length c.args.net.now) c.loop.accepted.items (resolved_names c.args.net.now c.args.name) c.set_of.result whole (resolved_there c.args.net.now c.args.name) c.set_of.ensures;
+    }

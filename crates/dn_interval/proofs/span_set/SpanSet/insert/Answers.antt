@@ -1,9 +1,10 @@
 -- The span, joined with those that it touches, stands in their place.
-use Rattle.std.proofs.Common.{◌≡◌, ◌∙◌, ℕ, ◌≤◌, ◌||◌, Bool, List, ◌++◌, ◌∷◌, Result, Ok, Err, OnOk, OnErr, sym, subst, ap, take, drop, arith}
+use Rattle.std.proofs.Common.{◌≡◌, ◌∙◌, ℕ, ◌||◌, Bool, List, ◌++◌, ◌∷◌, Result, Ok, Err, OnOk, OnErr, sym, subst, ap, take, drop, arith}
 use Rattle.dn_interval.specs.declared.span.Span.{Span}
 use Rattle.dn_interval.specs.Spans.{in_span, has, StandFrom}
-use Rattle.dn_interval.proofs.Joining.{put_stands, put_has, part_stands}
+use Rattle.dn_interval.proofs.Joining.{IsPut, put_is, part_stands}
 use Rattle.dn_interval.proofs.Places.{first_by_last}
+use Rattle.dn_interval.proofs.span_set.SpanSet.insert.Goals.{After-join-joined}
 use Rattle.dn_interval.proofs.span_set.SpanSet.insert.Goals as goal
 
 stands_after : {T E : Type 0} (r : Result T E) (xs ys zs : List Span) → OnOk r (zs ≡ ys) → OnErr r (zs ≡ xs) → StandFrom 0 xs → StandFrom 0 ys → StandFrom 0 zs
@@ -19,28 +20,25 @@ join-joined-requires-clause-apart c =
     part_stands c.as_slice-spans.result.now c.ended_before-first.result c.begun_by-last.result (subst (StandFrom 0) (sym c.as_slice-spans.ensures.value) c.self.invariant)
     (first_by_last c.as_slice-spans.result.now c.args.span c.ended_before-first.result c.begun_by-last.result c.saturating_sub.result (omega arith) c.ended_before-first.ensures.within c.ended_before-first.ensures.place.0 c.begun_by-last.ensures.place.1)
 
+-- the spans with the one that was joined in the place of those that it touches
+put_there : (c : After-join-joined) → IsPut c.self.inside.spans.items c.args.span (take c.ended_before-first.result c.self.inside.spans.items ++ c.join-joined.result ∷ drop c.begun_by-last.result c.self.inside.spans.items)
+put_there c =
+    let same = c.as_slice-spans.ensures.value in
+    let first = c.ended_before-first.ensures in
+    let last = c.begun_by-last.ensures in
+    subst (λ xs. IsPut xs c.args.span (take c.ended_before-first.result xs ++ c.join-joined.result ∷ drop c.begun_by-last.result xs)) same
+    (put_is c.as_slice-spans.result.now c.args.span c.join-joined.result c.ended_before-first.result c.begun_by-last.result c.saturating_sub.result (subst (StandFrom 0) (sym same) c.self.invariant) first.within last.within c.saturating_sub.ensures first.place.0 last.place.1 c.join-joined.ensures)
+
 pub invariant_of-self : goal.invariant_of-self
 invariant_of-self c =
-    let xs = c.as_slice-spans.result.now in
-    let i = c.ended_before-first.result in
-    let n = c.begun_by-last.result in
-    let same = c.as_slice-spans.ensures.value in
-    let stands : StandFrom 0 xs = subst (StandFrom 0) (sym same) c.self.invariant in
-    let le : i ≤ n = first_by_last xs c.args.span i n c.saturating_sub.result (omega arith) c.ended_before-first.ensures.within c.ended_before-first.ensures.place.0 c.begun_by-last.ensures.place.1 in
-    let new = put_stands xs c.args.span c.join-joined.result i n c.saturating_sub.result stands le c.begun_by-last.ensures.within c.saturating_sub.ensures c.ended_before-first.ensures.place.0 c.begun_by-last.ensures.place.1 c.join-joined.ensures in
-    stands_after c.put.result c.self.inside.spans.items (take i c.self.inside.spans.items ++ c.join-joined.result ∷ drop n c.self.inside.spans.items) c.put.new.spans.items c.put.ensures.ok c.put.ensures.err c.self.invariant (subst (λ t. StandFrom 0 (take i t ++ c.join-joined.result ∷ drop n t)) same new)
+    let old = c.self.inside.spans.items in
+    stands_after c.put.result old (take c.ended_before-first.result old ++ c.join-joined.result ∷ drop c.begun_by-last.result old) c.put.new.spans.items c.put.ensures.ok c.put.ensures.err c.self.invariant (put_there (goal.at.invariant_of-self c).After-join-joined).stands
 
 pub returns-clause-maximal : goal.returns-clause-maximal
 returns-clause-maximal c = invariant_of-self c
 
 pub returns-clause-ok : goal.returns-clause-ok
 returns-clause-ok c =
-    let xs = c.as_slice-spans.result.now in
-    let i = c.ended_before-first.result in
-    let n = c.begun_by-last.result in
-    let same = c.as_slice-spans.ensures.value in
-    let stands : StandFrom 0 xs = subst (StandFrom 0) (sym same) c.self.invariant in
-    let le : i ≤ n = first_by_last xs c.args.span i n c.saturating_sub.result (omega arith) c.ended_before-first.ensures.within c.ended_before-first.ensures.place.0 c.begun_by-last.ensures.place.1 in
-    let new = put_has xs c.args.span c.join-joined.result i n c.saturating_sub.result stands le c.begun_by-last.ensures.within c.saturating_sub.ensures c.ended_before-first.ensures.place.0 c.begun_by-last.ensures.place.1 c.join-joined.ensures in
-    let here = λ (x : ℕ). subst (λ t. has (take i t ++ c.join-joined.result ∷ drop n t) x ≡ (in_span c.args.span x || has t x)) same (new x) ∙ ap (λ t. in_span c.args.span x || has t x) c.self.view_is in
-    has_after c.put.result (λ x. in_span c.args.span x || has c.args.self.now x) (take i c.self.inside.spans.items ++ c.join-joined.result ∷ drop n c.self.inside.spans.items) c.put.new.spans.items c.put.ensures.ok here
+    let old = c.self.inside.spans.items in
+    let here = λ (x : ℕ). (put_there (goal.at.returns-clause-ok c).After-join-joined).have x ∙ ap (λ t. in_span c.args.span x || has t x) c.self.view_is in
+    has_after c.put.result (λ x. in_span c.args.span x || has c.args.self.now x) (take c.ended_before-first.result old ++ c.join-joined.result ∷ drop c.begun_by-last.result old) c.put.new.spans.items c.put.ensures.ok here

@@ -1,24 +1,19 @@
-use Rattle.std.proofs.Common.{◌≡◌, ◌∙◌, sym, ap, arith, length, map, ◌||◌, is_some, [], ◌∷◌, ◌++◌, Ok}
-use Rattle.std.proofs.lemmas.List.{length-map, map-append}
+use Rattle.std.proofs.Common.{◌∙◌, sym, ap, arith, map, ◌||◌, is_some, [], ◌∷◌, ◌++◌, Ok}
+use Rattle.std.proofs.lemmas.List.{map-append}
 use Rattle.dn_module.specs.declared.modules.Known.{Known}
-use Rattle.dn_module.specs.Drafts.{is_known}
-use Rattle.dn_module.specs.Expand.{is_module, has_twice, word_of_param}
+use Rattle.dn_module.specs.Expand.{has_twice, word_of_param}
 use Rattle.dn_module.specs.Stack.{module_view, known_view, module_views}
 use Rattle.dn_base.proofs.Lists.{length-last}
 use Rattle.dn_module.proofs.Limits.{found_is}
-use Rattle.dn_module.proofs.Naming.{few_modules, module_twice, module_added, is_module-titles, titles_are, by_answer, is_once}
+use Rattle.dn_module.proofs.Naming.{module_room, module_known, module_twice, module_added, by_answer, is_once}
 use Rattle.dn_module.proofs.modules.Modules.add.Goals as goal
 
 pub returns-then-is_some-clause-added : goal.returns-then-is_some-clause-added
 returns-then-is_some-clause-added c =
     let self = c.args.self.now in
     let m = module_view c.args.module in
-    let count : length (module_views self) ≡ length self.modules.items = length-map self.modules.items known_view in
-    let room = few_modules (length (module_views self)) (omega arith) in
-    let known : is_module (module_views self) m.title ≡ is_some c.find.result =
-    is_module-titles (module_views self) m.title ∙ ap (λ l. is_known l m.title) (titles_are self.modules.items ∙ sym self.same) ∙ found_is self.names m.title c.find.result c.find.ensures in
-    module_twice (module_views self) c.args.line m room
-    (ap (λ b. b || has_twice (map word_of_param m.params)) (known ∙ sym c.is_some.ensures ∙ c.if-is_some.true))
+    module_twice (module_views self) c.args.line m (module_room self.modules.items (omega arith))
+    (ap (λ b. b || has_twice (map word_of_param m.params)) (module_known self.names self.modules.items m.title c.find.result self.same c.find.ensures ∙ sym c.is_some.ensures ∙ c.if-is_some.true))
 
 pub put-requires-clause-new_name : goal.put-requires-clause-new_name
 put-requires-clause-new_name c =
@@ -42,11 +37,7 @@ pub returns-clause-added : goal.returns-clause-added
 returns-clause-added c =
     let self = c.args.self.now in
     let m = module_view c.args.module in
-    let count : length (module_views self) ≡ length self.modules.items = length-map self.modules.items known_view in
-    let room = few_modules (length (module_views self)) (omega arith) in
-    let known : is_module (module_views self) m.title ≡ is_some c.find.result =
-    is_module-titles (module_views self) m.title ∙ ap (λ l. is_known l m.title) (titles_are self.modules.items ∙ sym self.same) ∙ found_is self.names m.title c.find.result c.find.ensures in
     let different = is_once (has_twice (map word_of_param m.params)) (ap (λ o. is_some o) (sym c.in-Some.is) ∙ c.in_ok-titles.ensures.different) in
-    module_added (module_views self) c.args.line m room
-    (ap (λ b. b || has_twice (map word_of_param m.params)) (known ∙ sym c.is_some.ensures ∙ c.if-is_some.false) ∙ different)
+    module_added (module_views self) c.args.line m (module_room self.modules.items (omega arith))
+    (ap (λ b. b || has_twice (map word_of_param m.params)) (module_known self.names self.modules.items m.title c.find.result self.same c.find.ensures ∙ sym c.is_some.ensures ∙ c.if-is_some.false) ∙ different)
     ∙ ap (λ l. Ok l) (sym (map-append known_view self.modules.items (_ ∷ [])) ∙ ap (map known_view) (sym c.in_ok-put.ensures.modules))

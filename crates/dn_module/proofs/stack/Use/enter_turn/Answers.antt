@@ -10,7 +10,7 @@ returns-clause-entered c =
     let at = c.args.self.now in
     let s = visibility_view at.visible in
     let outer : c.reserve.new.self.items ≡ at.outer.items = search rules in
-    rw (c.in_ok-enter.ensures.ok, c.in_ok-push.ensures.items, outer)
+    rw (c.in_ok-enter.ensures.ok, c.push_reserved.ensures.items, outer)
     (turn_entered s at.scope c.args.turns at.inner (record { turns = c.after.result; statements = at.inner.statements }) (record { turns = None; statements = c.args.turns.body }) at.outer.items
     (free_rest s at.scope at.inner c.requires.free)
     (ap (λ ws. ws ++ statements s (in_items at.scope (body_view at.inner.statements.now))) (c.after.ensures s at.scope))

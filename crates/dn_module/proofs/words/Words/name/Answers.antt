@@ -5,17 +5,11 @@ use Rattle.dn_module.proofs.Places.{no_name, name_there}
 use Rattle.dn_module.proofs.words.Words.name.Goals as goal
 
 pub returns-in_default : goal.returns-in_default
-returns-in_default c =
-    let w = c.args.word.now in
-    let inside = c.self.inside in
-    sym (no_name w inside.titles (map given_view inside.values) (sym c.in_default.ensures))
-    ∙ ap (λ v. looked_up w v.1) c.self.view_is
+returns-in_default c = sym (no_name c.args.word.now c.self.inside.titles (map given_view c.self.inside.values) (sym c.in_default.ensures)) ∙ ap (λ v. looked_up c.args.word.now v.1) c.self.view_is
 
 pub returns : goal.returns
 returns c =
-    let w = c.args.word.now in
-    let inside = c.self.inside in
     c.name_at.ensures
     ∙ ap (λ vs. part_in name_part (slice_get (map given_view vs) c.in-Some.place)) c.as_slice.ensures
-    ∙ sym (name_there w inside.titles (map given_view inside.values) c.in-Some.place c.self.invariant (sym c.in-Some.ensures))
-    ∙ ap (λ v. looked_up w v.1) c.self.view_is
+    ∙ sym (name_there _ _ _ c.in-Some.place c.self.invariant (sym c.in-Some.ensures))
+    ∙ ap (λ v. looked_up c.args.word.now v.1) c.self.view_is

@@ -1,38 +1,30 @@
 use Rattle.std.proofs.Common.{sym, true, false}
-use Rattle.dn_net.proofs.Faults.{part_is, range_is, repeats_is, overlap_is, no_overlap_is, space_is, fault_overlap, fault_repeat, fault_space, no_fault}
+use Rattle.dn_net.proofs.Faults.{range_is, repeats_is, overlap_is, no_overlap_is, space_is, fault_overlap, fault_repeat, fault_space, no_fault}
 use Rattle.dn_net.proofs.net.Net.check_node.Goals as goal
 
 pub returns-in-Some : goal.returns-in-Some
 returns-in-Some c d at =
-    let acc = part_is (λ d. d.accepts) _ d _ at c.accepts-accepts.ensures in
-    let ent = part_is (λ d. d.entries) _ d _ at c.entries-entries.ensures in
+    let acc = c.accepts-accepts.ensures in
+    let ent = c.entries-entries.ensures in
     let spans = c.deref.ensures.value in
-    fault_overlap _ d _ (range_is d _ _ acc ent true (sym c.if-not-are_in_range.ensures)) (overlap_is d _ _ acc ent _ c.in-Ok.ensures.same _ (rw spans at c.in-Some.ensures.found) (rw spans at c.in-Some.ensures.least))
+    fault_overlap _ d _ (range_is _ d at _ _ acc ent true (sym c.if-not-are_in_range.ensures)) (overlap_is _ d at _ _ acc ent _ c.in-Ok.ensures.same _ (rw spans at c.in-Some.ensures.found) (rw spans at c.in-Some.ensures.least))
 
 pub returns-then-has_repeat : goal.returns-then-has_repeat
 returns-then-has_repeat c d at =
-    let acc = part_is (λ d. d.accepts) _ d _ at c.accepts-accepts.ensures in
-    let ent = part_is (λ d. d.entries) _ d _ at c.entries-entries.ensures in
-    let unit = part_is (λ d. d.unit) _ d _ at c.unit.ensures in
-    let spans = c.deref.ensures.value in
-    fault_repeat _ d (range_is d _ _ acc ent true (sym c.if-not-are_in_range.ensures)) (no_overlap_is d _ _ acc ent _ c.in-Ok.ensures.same (rw spans at c.in_default-first_overlap.ensures.none)) (repeats_is d _ _ acc ent true _ unit (sym c.if-has_repeat.ensures))
+    let acc = c.accepts-accepts.ensures in
+    let ent = c.entries-entries.ensures in
+    let range = range_is _ d at _ _ acc ent true (sym c.if-not-are_in_range.ensures) in
+    let overlap = no_overlap_is _ d at _ _ acc ent _ c.in-Ok.ensures.same (rw c.deref.ensures.value at c.in_default-first_overlap.ensures.none) in
+    fault_repeat _ d range overlap (repeats_is _ d at _ _ acc ent true _ c.unit.ensures (sym c.if-has_repeat.ensures))
 
 pub returns-then-not-has_vector_space : goal.returns-then-not-has_vector_space
 returns-then-not-has_vector_space c d at =
-    let acc = part_is (λ d. d.accepts) _ d _ at c.accepts-accepts.ensures in
-    let ent = part_is (λ d. d.entries) _ d _ at c.entries-entries.ensures in
-    let unit = part_is (λ d. d.unit) _ d _ at c.unit.ensures in
-    let role = part_is (λ d. d.role) _ d _ at c.role.ensures in
-    let over = part_is (λ d. d.over) _ d _ at c.over.ensures in
-    let spans = c.deref.ensures.value in
-    fault_space _ d (range_is d _ _ acc ent true (sym c.if-not-are_in_range.ensures)) (no_overlap_is d _ _ acc ent _ c.in-Ok.ensures.same (rw spans at c.in_default-first_overlap.ensures.none)) (repeats_is d _ _ acc ent false _ unit (sym c.if-has_repeat.ensures)) (space_is d _ _ acc ent _ c.in-Ok.ensures.same false _ _ role over (rw c.deref-2.ensures.value at (sym c.if-not-has_vector_space.ensures)))
+    let acc = c.accepts-accepts.ensures in
+    let ent = c.entries-entries.ensures in
+    fault_space _ d (range_is _ d at _ _ acc ent true (sym c.if-not-are_in_range.ensures)) (no_overlap_is _ d at _ _ acc ent _ c.in-Ok.ensures.same (rw c.deref.ensures.value at c.in_default-first_overlap.ensures.none)) (repeats_is _ d at _ _ acc ent false _ c.unit.ensures (sym c.if-has_repeat.ensures)) (space_is _ d at _ _ acc ent _ c.in-Ok.ensures.same false _ _ c.role.ensures c.over.ensures (rw c.deref-2.ensures.value at (sym c.if-not-has_vector_space.ensures)))
 
 pub returns : goal.returns
 returns c d at =
-    let acc = part_is (λ d. d.accepts) _ d _ at c.accepts-accepts.ensures in
-    let ent = part_is (λ d. d.entries) _ d _ at c.entries-entries.ensures in
-    let unit = part_is (λ d. d.unit) _ d _ at c.unit.ensures in
-    let role = part_is (λ d. d.role) _ d _ at c.role.ensures in
-    let over = part_is (λ d. d.over) _ d _ at c.over.ensures in
-    let spans = c.deref.ensures.value in
-    no_fault _ d (range_is d _ _ acc ent true (sym c.if-not-are_in_range.ensures)) (no_overlap_is d _ _ acc ent _ c.in-Ok.ensures.same (rw spans at c.in_default-first_overlap.ensures.none)) (repeats_is d _ _ acc ent false _ unit (sym c.if-has_repeat.ensures)) (space_is d _ _ acc ent _ c.in-Ok.ensures.same true _ _ role over (rw c.deref-2.ensures.value at (sym c.if-not-has_vector_space.ensures)))
+    let acc = c.accepts-accepts.ensures in
+    let ent = c.entries-entries.ensures in
+    no_fault _ d (range_is _ d at _ _ acc ent true (sym c.if-not-are_in_range.ensures)) (no_overlap_is _ d at _ _ acc ent _ c.in-Ok.ensures.same (rw c.deref.ensures.value at c.in_default-first_overlap.ensures.none)) (repeats_is _ d at _ _ acc ent false _ c.unit.ensures (sym c.if-has_repeat.ensures)) (space_is _ d at _ _ acc ent _ c.in-Ok.ensures.same true _ _ c.role.ensures c.over.ensures (rw c.deref-2.ensures.value at (sym c.if-not-has_vector_space.ensures)))

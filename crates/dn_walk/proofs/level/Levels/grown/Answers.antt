@@ -1,5 +1,5 @@
 -- One level more, and as many walks less room.
-use Rattle.std.proofs.Common.{◌≡◌, ◌∙◌, ◌+◌, ◌-◌, sym, ap, map, length, vec_len, arith, rules, subst}
+use Rattle.std.proofs.Common.{◌≡◌, ◌∙◌, ◌+◌, ◌-◌, ◌++◌, [], ◌∷◌, sym, ap, map, length, vec_len, arith, rules, subst}
 use Rattle.std.proofs.lemmas.List.{length_push}
 use Rattle.dn_net.proofs.Places.{length-map}
 use Rattle.dn_walk.specs.Rows.{row_view}
@@ -26,13 +26,13 @@ returns-clause-levels c =
     let legs = c.args.legs.now in
     let k = length c.args.self.sorted.items in
     let newest : map row_view c.deref.result.now ≡ told_level legs k = ap (map row_view) c.deref.ensures.value ∙ c.requires.levels.newest in
-    let items = c.in_ok-push.ensures.items in
-    let more : length c.push.new.self.items ≡ k + 1 = ap length items ∙ length_push c.args.self.sorted.items c.in_ok-in_order.field-0 in
+    let items : c.push.new.self.items ≡ c.args.self.sorted.items ++ c.in_ok-level.level ∷ [] = search rules in
+    let more : length c.push.new.self.items ≡ k + 1 = ap length items ∙ length_push c.args.self.sorted.items c.in_ok-level.level in
     let made = c.in_ok-next.ensures.made in
     let items_are : vec_len c.in_ok-next.next ≡ length c.in_ok-next.next.items = search rules in
     let size : c.len.result ≡ length (map row_view c.in_ok-next.next.items) = c.len.ensures ∙ items_are ∙ sym (length-map row_view c.in_ok-next.next.items) in
     record {
-      sorted = ap (map (map row_view)) items ∙ grown_sorted legs k c.args.self.sorted.items c.args.self.newest.items c.in_ok-in_order.field-0 c.requires.levels.sorted c.requires.levels.newest c.in_ok-in_order.ensures ∙ ap (told_levels legs) (sym more);
+      sorted = ap (map (map row_view)) items ∙ grown_sorted legs k c.args.self.sorted.items c.args.self.newest.items c.in_ok-level.level c.requires.levels.sorted c.requires.levels.newest c.in_ok-level.ensures ∙ ap (told_levels legs) (sym more);
       newest = grown_level legs k (map row_view c.deref.result.now) (map row_view c.in_ok-next.next.items) newest made ∙ ap (told_level legs) (sym more);
       room = subst (λ m. (c.args.self.room - c.len.result) + length (told_walks legs m) ≡ walk_limit) (sym more) (grown_room legs k c.args.self.room c.len.result (map row_view c.deref.result.now) (map row_view c.in_ok-next.next.items) newest made c.requires.levels.room size (omega (arith, c.len.ensures, c.in_ok-next.ensures.fits)));
     }

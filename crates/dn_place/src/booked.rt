@@ -1,0 +1,44 @@
+//! The first admissible placement beside the grants of a book.
+
+ghost use Rattle.std.specs.Prelude.{◌≡◌, ◌≤◌, ◌+◌, map, slice_get, None, IfOk, IfSome, IsTrue};
+ghost use Rattle.dn_net.specs.Terms.{is_agent_at, top};
+ghost use Rattle.dn_kind.specs.Terms.{are_rights};
+ghost use Rattle.dn_placement.specs.Terms.{IsFirst, NoneSuited};
+ghost use Rattle.dn_book.specs.Terms.{IsKept, slots_of};
+ghost use Rattle.dn_view.specs.Terms.{IsSystem};
+
+use crate::first::first;
+use dn_base::OutOfMemory;
+use dn_book::book::Book;
+use dn_placement::request::Request;
+use dn_tables::placement::Placement;
+use dn_view::system::System;
+use std::alloc::Global;
+
+/// The first admissible placement of a request in the slots as a book leaves them; where an address is
+/// given, of those at this address of the agent. `None` exactly where no placement is admissible.
+/// `Err` is want of memory.
+pub fn first_in_book(
+    alloc: Global,
+    book: &Book,
+    system: System,
+    request: &Request,
+    at: Option<u64>,
+) -> Result<Option<Placement>, OutOfMemory>
+    requires system { IsSystem (λ k. meaning (k.vtable, k.value)) system }
+    requires kept { IsKept system.net.now
+        (map (λ k. meaning (k.vtable, k.value)) system.kinds.now.list.items)
+        book.now.grants book.now.set }
+    requires agent { IsTrue (is_agent_at (slice_get system.net.now request.now.agent)) }
+    requires rights { IsTrue (are_rights request.now.rights) }
+    requires some { 1 ≤ request.now.size }
+    requires buffer { request.now.base + request.now.size ≤ top + 1 }
+    ensures first { IfOk result (λ found. IfSome found (λ p. IsFirst system.entry.net.now
+        (slots_of system.entry.net.now book.now.grants) request.now at p)) }
+    ensures none { IfOk result (λ found. found ≡ None → NoneSuited system.entry.net.now
+        (slots_of system.entry.net.now book.now.grants) request.now at) }
+{
+    let tables = book.tables();
+    tables.facts();
+    first(alloc, system, tables, request, at)
+}
