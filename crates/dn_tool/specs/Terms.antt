@@ -15,4 +15,4 @@ pub use Rattle.dn_tool.specs.Reread.{AbsorbIsReadBack, CompiledIsReadBack, Split
 pub use Rattle.dn_tool.specs.Reshape.{absorb_text, absorbed_text, limit_text, made_text, no_node_text, reason_text, split_text, unfit_text}
 pub use Rattle.dn_tool.specs.State.{CameThrough, CameThroughChange, IsFirst, IsReady, IsReadyOn, IsStill, state_view}
 pub use Rattle.dn_tool.specs.Turn.{IsGrantTurn, IsRevokeTurn, IsRouteTurn, IsTurn, is_change, is_dump, number_or_none, reply, request_of, rights_of, start}
-pub use Rattle.dn_tool.specs.Viewed.{no_agent_text, owed_rows, view_text, viewed_text}
+pub use Rattle.dn_tool.specs.Viewed.{OwedRowsAreNormal, no_agent_text, owed_rows, view_text, viewed_text}

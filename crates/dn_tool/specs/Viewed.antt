@@ -1,15 +1,19 @@
 -- The reply to `view`: what an agent is owed, in rows.
-use Rattle.std.specs.Prelude.{ℕ, if◌then◌else◌, List, ◌++◌, map, length, codes, slice_get, Option, Some, None}
+use Rattle.std.specs.Prelude.{ℕ, ◌≤◌, ◌↔◌, if◌then◌else◌, List, ◌++◌, map, length, codes, slice_get, Option, Some, None, IsTrue}
 use Rattle.std.specs.Fmt.{decimal}
-use Rattle.dn_interval.specs.Listed.{Seen, listed_rows}
+use Rattle.dn_interval.specs.declared.row.End.{End}
+use Rattle.dn_interval.specs.declared.span.TheConstants.{TOP}
+use Rattle.dn_interval.specs.Listed.{Seen, SeenApart, SeenGive, listed_rows}
 use Rattle.dn_net.specs.declared.node.NodeDecl.{NodeDecl}
 use Rattle.dn_net.specs.Decode.{is_agent_at}
 use Rattle.dn_kind.specs.declared.rights.Access.{Access}
+use Rattle.dn_kind.specs.Tables.{allowing}
 use Rattle.dn_parse.specs.declared.syntax.Mode.{Mode}
 use Rattle.dn_flat.specs.Views.{end_of}
+use Rattle.dn_view.specs.Views.{ResolvesFromUnder}
 use Rattle.dn_module.specs.declared.command.Target.{Target}
 use Rattle.dn_book.specs.declared.grant.Grant.{Grant}
-use Rattle.dn_book.specs.Book.{owed_names}
+use Rattle.dn_book.specs.Book.{IsFaithful, owed_names, records_of}
 use Rattle.dn_print.specs.Rows.{rows_text}
 use Rattle.dn_tool.specs.Found.{access_of, access_text}
 
@@ -17,6 +21,22 @@ use Rattle.dn_tool.specs.Found.{access_of, access_text}
 abbrev pub owed_rows : List NodeDecl → List Grant → Access → ℕ → List Seen
 owed_rows net book access n =
     listed_rows (λ a. map end_of (owed_names net book access (record { node = n; addr = a })))
+
+-- The rows that a node is owed are normal rows of what its addresses resolve to for the access under the records
+-- to which the live grants of the book come: they stand apart, two that touch do not go on with one another,
+-- and they give to every address exactly the names to which it resolves under these records.
+pub record AreOwedRows (net : List NodeDecl) (book : List Grant) (access : Access) (n : ℕ)
+    : Type 0 where
+  pub apart : SeenApart 0 (owed_rows net book access n)
+  pub exact : (a : ℕ) (y : End) → a ≤ TOP →
+      ResolvesFromUnder net (allowing access (records_of net book)) n a y
+      ↔ SeenGive (owed_rows net book access n) a y
+
+-- So it is for each agent and access, where the book is faithful.
+abbrev pub OwedRowsAreNormal : Type 0
+OwedRowsAreNormal = (net : List NodeDecl) (book : List Grant) → IsFaithful net book →
+    (access : Access) (n : ℕ) → IsTrue (is_agent_at (slice_get net n)) →
+    AreOwedRows net book access n
 
 -- rows below a heading that has the access as it was said, and their number
 abbrev pub viewed_text : List NodeDecl → List ℕ → Mode → List Seen → List ℕ

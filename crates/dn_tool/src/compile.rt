@@ -20,15 +20,27 @@ use dn_parse::reader;
 use dn_walk::walks;
 use dn_walk::walks::WalkTable;
 use std::alloc::{AllocError, Global};
+use std::fmt;
+use std::fmt::{Debug, Formatter, Write};
 use std::marker::Model;
+use thiserror::Error;
 
 /// Why a text is not compiled.
-#[derive(Drop)]
+#[derive(Drop, Error)]
 pub enum CompileFault {
     /// The text breaks a rule; the first that it breaks.
+    #[error("Refused")]
     Refused(Refusal),
     /// There was no memory for the platform.
+    #[error("OutOfMemory")]
     OutOfMemory,
+}
+
+/// The name of the fault; the refusal is left out.
+impl Debug for CompileFault {
+    fn fmt<W: Write>(&self, f: &mut Formatter<W>) -> Result<(), fmt::Error> {
+        write!(f, "{self}")
+    }
 }
 
 /// A compiled text: its net, the live walks of that net, and its commands.

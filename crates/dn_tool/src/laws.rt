@@ -1,7 +1,7 @@
-//! Laws on scripts and on the nets that commands make, each the contract of a function that does
-//! nothing.
+//! Laws on scripts, on the rows that they print and on the nets that commands make, each the
+//! contract of a function that does nothing.
 
-ghost use Rattle.dn_tool.specs.Terms.{AbsorbIsReadBack, BooksStayFaithful, CompiledIsReadBack, FaithfulImageGivesOwed, SplitIsReadBack};
+ghost use Rattle.dn_tool.specs.Terms.{AbsorbIsReadBack, BooksStayFaithful, CompiledIsReadBack, FaithfulImageGivesOwed, OwedRowsAreNormal, SplitIsReadBack};
 
 /// The book after each number of the turns of a script over a legal net is sound and faithful.
 pub fn books_stay_faithful()
@@ -11,6 +11,12 @@ pub fn books_stay_faithful()
 /// The image of the tables of a sound and faithful book gives what the book owes.
 pub fn faithful_image_gives_owed()
     ensures { FaithfulImageGivesOwed }
+{}
+
+/// The rows that `view` prints for an agent are the normal rows of what its addresses resolve to under
+/// the records of the book, where the book is faithful, as it is after each turn of a script.
+pub fn owed_rows_are_normal()
+    ensures { OwedRowsAreNormal }
 {}
 
 /// The net that splitting makes of a printable legal net is printable: its text, which `split`

@@ -1,10 +1,12 @@
-//! Tests of runs in which a read or a write fails, of those calls that no run makes, and of words with which nothing
-//! is read.
+//! Tests of runs in which a read or a write fails, of those calls that no run makes, of words with which nothing is read,
+//! and of the names of the faults of a text.
 
 use crate::outcome::{Failing, answer};
 use crate::tests::rows::{comes_to, words_of};
 use dn_base::sink::Sink;
 use dn_base::source::Source;
+use dn_tool::compile::CompileFault;
+use dn_tool::refusal::{Refusal, Rule};
 use dn_tool::run::{DONE, READ_FAULT, REFUSED, WRITE_FAULT, WRONG_WORDS};
 use std::alloc::{AllocError, Global};
 use std::test::Fail;
@@ -137,5 +139,14 @@ fn makes_no_call_again_and_none_beside(rt: HostRuntime) -> Result<(), Fail> {
         let given = then_fails(rt.alloc(), word, failing)?;
         assert_eq!(rt; given, wanted, "{word} {reads:?} {writes:?}");
     }
+    Ok(())
+}
+
+#[test]
+fn names_each_fault_of_a_text(rt: HostRuntime) -> Result<(), Fail> {
+    let alloc = rt.alloc();
+    let refused = CompileFault::Refused(Refusal::of_text(alloc, Rule::Length)?);
+    let words = format!(in alloc; "{refused} {}", CompileFault::OutOfMemory)?;
+    assert_eq!(rt; words.as_str(), "Refused OutOfMemory");
     Ok(())
 }
