@@ -7,7 +7,7 @@
 
 pub mod command;
 pub mod commands;
-pub mod draft;
+mod draft;
 mod drafts;
 pub mod expand;
 mod expansion;
