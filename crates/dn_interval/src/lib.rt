@@ -2,8 +2,10 @@
 //!
 //! An address is a number up to [`TOP`]. A [`Span`] is a run of addresses, and a [`SpanSet`] a set of
 //! addresses, which contracts see as the ascending list of its maximal spans. A [`Seg`] gives each
-//! address of a span a name, and [`Rows`] are the normal rows of what segments give. Where names go on by the
-//! rows of their nodes, [`onward::follow`] gives the segments of what they come to.
+//! address of a span a name, and [`Rows`] are the normal rows of what segments give. [`strands_of`] joins segments
+//! without cutting any: there are never more [`Strand`]s than segments, where rows of what overlaps can have as many
+//! names as segments times rows. Where names go on by the rows of their nodes, [`onward::follow`] gives the segments
+//! of what they come to.
 #![tactic(auto)]
 
 pub mod laws;
@@ -13,10 +15,12 @@ pub mod rows;
 mod runs;
 pub mod span;
 pub mod span_set;
-mod strand;
-mod strands;
+pub mod strand;
+pub mod strands;
 
 pub use row::{End, Row, Seg};
 pub use rows::Rows;
 pub use span::{Span, TOP};
 pub use span_set::SpanSet;
+pub use strand::Strand;
+pub use strands::strands_of;
