@@ -42,8 +42,7 @@ pub record IsGrantMade (net : List NodeDecl) (book : List Grant) (id : ℕ) (rq 
   pub address : v ≡ place.v
   pub appended : next ≡ book ++ grant_at id rq place ∷ []
 
--- the request is refused so: by the first refusal that holds, of those that need no search and then of
--- no placement
+-- the refusal is the first of the request that holds; that no placement is admissible is the last
 abbrev pub IsGrantRefused : List NodeDecl → List Grant → ℕ → Request → GrantRefusal → Type 0
 IsGrantRefused net book id rq no_placement = IsUnplaced net book id rq
 IsGrantRefused net book id rq why = grant_refusal net book id rq ≡ Some why

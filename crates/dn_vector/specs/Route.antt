@@ -84,8 +84,7 @@ pub record IsRouteMade (net : List NodeDecl) (book : List Grant) (id agent line 
   pub placed : IsPlacedRoute net book id agent line node vector place
   pub appended : next ≡ book ++ route_at id agent node vector place ∷ []
 
--- the route is refused so: by the first refusal that holds, of those that need no search and then of
--- no placement
+-- the refusal is the first of the route that holds; that no vector has a placement is the last
 abbrev pub IsRouteRefused : List NodeDecl → List Grant → ℕ → ℕ → ℕ → ℕ → RouteRefusal → Type 0
 IsRouteRefused net book id agent line node no_placement =
     IsUnplacedRoute net book id agent line node
