@@ -1,5 +1,5 @@
 -- The replies to the commands that change the book.
-use Rattle.std.specs.Prelude.{ℕ, List, [], ◌++◌, codes}
+use Rattle.std.specs.Prelude.{ℕ, List, ◌++◌, codes}
 use Rattle.dn_grant.specs.Refusal.{GrantRefusal, id_used, no_agent, no_target, not_accepted, book_full, no_placement}
 use Rattle.dn_vector.specs.Refusal.{RouteRefusal}
 use Rattle.dn_vector.specs.Refusal as route

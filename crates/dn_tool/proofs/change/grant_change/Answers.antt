@@ -41,10 +41,12 @@ returns-in-Err-Device-clause-changed g c =
     let logged = subst (λ n. IsGrantLogged c.args.machine.net.now kinds state.book.grants state.book.cleared n c.args.request.now true (g.D.Tables.log c.args.device.now) (g.D.Tables.log c.grant.new.device)) c.in_ok-number.ensures.number (c.grant.ensures.stopped (c.in-Err-Device.is ∙ ap Err c.in-Err-Device.field-0-is)) in
     grant_stopped kinds c.args.machine.net.now (state_view state) (state_view state) c.args.id.now c.args.request.now (Err DeviceFault) _ _ refl logged
 
-pub grant_refused-in-Err-requires : goal.grant_refused-in-Err-requires
-grant_refused-in-Err-requires g c =
-    let said = grant_said c.in-Err.why (search rules) (search rules) in
-    subst (λ (o : Option GrantRefusal). IsSome o) (sym said.1) tt
+pub grant_refused-requires : goal.grant_refused-requires
+grant_refused-requires g c =
+    let no_device : c.in-Err.why ≢ Device = search rules in
+    let no_memory : c.in-Err.why ≢ OutOfMemory = search rules in
+    let said = grant_said c.in-Err.why no_device no_memory in
+    subst (λ (o : Option GrantRefusal). IsSome o) (sym said.1) refl
 
 pub returns-in_ok-grant_refused-in-Err : goal.returns-in_ok-grant_refused-in-Err
 returns-in_ok-grant_refused-in-Err g c =

@@ -41,10 +41,12 @@ returns-in-Err-Device-clause-changed g c =
     let logged = subst (λ n. IsRouteLogged c.args.machine.net.now kinds state.book.grants state.book.cleared n c.args.agent c.args.line c.args.node true (g.D.Tables.log c.args.device.now) (g.D.Tables.log c.route.new.device)) c.in_ok-number.ensures.number (c.route.ensures.stopped (c.in-Err-Device.is ∙ ap Err c.in-Err-Device.field-0-is)) in
     route_stopped kinds c.args.machine.net.now (state_view state) (state_view state) c.args.id.now c.args.agent c.args.line c.args.node (Err DeviceFault) _ _ refl logged
 
-pub route_refused-in-Err-requires : goal.route_refused-in-Err-requires
-route_refused-in-Err-requires g c =
-    let said = route_said c.in-Err.why (search rules) (search rules) in
-    subst (λ (o : Option RouteRefusal). IsSome o) (sym said.1) tt
+pub route_refused-requires : goal.route_refused-requires
+route_refused-requires g c =
+    let no_device : c.in-Err.why ≢ Device = search rules in
+    let no_memory : c.in-Err.why ≢ OutOfMemory = search rules in
+    let said = route_said c.in-Err.why no_device no_memory in
+    subst (λ (o : Option RouteRefusal). IsSome o) (sym said.1) refl
 
 pub returns-in_ok-route_refused-in-Err : goal.returns-in_ok-route_refused-in-Err
 returns-in_ok-route_refused-in-Err g c =
