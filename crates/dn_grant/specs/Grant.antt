@@ -11,9 +11,7 @@ use Rattle.dn_view.specs.Addition.{GivesExactly, IsAddition}
 use Rattle.dn_book.specs.declared.grant.Grant.{Grant}
 use Rattle.dn_book.specs.Book.{slots_of}
 use Rattle.dn_book.specs.Writes.{AreAdded, grant_events}
-use Rattle.dn_grant.specs.declared.fault.GrantFault.{GrantFault}
-use Rattle.dn_grant.specs.declared.fault.GrantFault.TheVariants.{NoPlacement, Device, OutOfMemory}
-use Rattle.dn_grant.specs.Refusal.{grant_refusal}
+use Rattle.dn_grant.specs.Refusal.{GrantRefusal, no_placement, grant_refusal}
 
 -- the grant of a request at a placement
 abbrev pub grant_at : ℕ → Request → Place → Grant
@@ -44,19 +42,24 @@ pub record IsGrantMade (net : List NodeDecl) (book : List Grant) (id : ℕ) (rq 
   pub address : v ≡ place.v
   pub appended : next ≡ book ++ grant_at id rq place ∷ []
 
--- the request is refused so; by a fault of the device and for want of memory it is not refused
-abbrev pub IsGrantRefused : List NodeDecl → List Grant → ℕ → Request → GrantFault → Type 0
-IsGrantRefused net book id rq NoPlacement = IsUnplaced net book id rq
-IsGrantRefused net book id rq Device = ⊥
-IsGrantRefused net book id rq OutOfMemory = ⊥
+-- the refusal is the first of the request that holds; that no placement is admissible is the last
+abbrev pub IsGrantRefused : List NodeDecl → List Grant → ℕ → Request → GrantRefusal → Type 0
+IsGrantRefused net book id rq no_placement = IsUnplaced net book id rq
 IsGrantRefused net book id rq why = grant_refusal net book id rq ≡ Some why
 
 -- A turn of `grant`: the first refusal that holds, and the book stays; or the agent's address of the
 -- first admissible placement, and the grant is appended.
-abbrev pub IsGrantTurn : List NodeDecl → List Grant → ℕ → Request → Result ℕ GrantFault →
+abbrev pub IsGrantTurn : List NodeDecl → List Grant → ℕ → Request → Result ℕ GrantRefusal →
     List Grant → Type 0
 IsGrantTurn net book id rq (Ok v) next = IsGrantMade net book id rq v next
 IsGrantTurn net book id rq (Err why) next = IsGrantRefused net book id rq why × (next ≡ book)
+
+-- What a call of `grant` comes to: a turn; or it fails, where no refusal holds that needs no search,
+-- and the book stays.
+abbrev pub IsGrantOutcome : List NodeDecl → List Grant → ℕ → Request → Option (Result ℕ GrantRefusal) →
+    List Grant → Type 0
+IsGrantOutcome net book id rq (Some made) next = IsGrantTurn net book id rq made next
+IsGrantOutcome net book id rq None next = (grant_refusal net book id rq ≡ None) × (next ≡ book)
 
 -- the events of a grant at the first admissible placement were added to a log: all of them, or those
 -- before the one that failed

@@ -1,4 +1,4 @@
--- Why a request for a grant is refused before any placement is sought.
+-- Why a request for a grant is refused, and the refusals that need no search.
 use Rattle.std.specs.Prelude.{ℕ, zero, suc, ◌+◌, Bool, false, if◌then◌else◌, not, nat_eq, nat_le, List, length, slice_get, Option, Some, None}
 use Rattle.dn_net.specs.declared.node.NodeDecl.{NodeDecl}
 use Rattle.dn_net.specs.Decode.{is_accepted_at, is_agent_at}
@@ -6,8 +6,16 @@ use Rattle.dn_net.specs.Rules.{is_vectors}
 use Rattle.dn_placement.specs.declared.request.Request.{Request}
 use Rattle.dn_book.specs.declared.grant.Grant.{Grant}
 use Rattle.dn_book.specs.Book.{has_id}
-use Rattle.dn_grant.specs.declared.fault.GrantFault.{GrantFault}
-use Rattle.dn_grant.specs.declared.fault.GrantFault.TheVariants.{IdUsed, NoAgent, NoTarget, NotAccepted, BookFull}
+
+-- why a request is refused: a live grant has the id; the agent is none; the node is none or has
+-- interrupt vectors; the node does not accept this address; the book is full; no placement serves
+pub data GrantRefusal : Type 0 where
+  id_used : GrantRefusal
+  no_agent : GrantRefusal
+  no_target : GrantRefusal
+  not_accepted : ℕ → GrantRefusal
+  book_full : GrantRefusal
+  no_placement : GrantRefusal
 
 -- a node is there, and its addresses are no interrupt vectors
 abbrev pub is_target_at : Option NodeDecl → Bool
@@ -27,15 +35,16 @@ refused_address n base size =
     if nat_eq size 0 then Some base else unaccepted_from n base size
 
 -- the refusal for an address, and where there is none the one for want of room in the book
-abbrev pub refusal_by : List Grant → Option ℕ → Option GrantFault
-refusal_by book (Some first) = Some (NotAccepted first)
-refusal_by book None = if nat_le 4096 (length book) then Some BookFull else None
+abbrev pub refusal_by : List Grant → Option ℕ → Option GrantRefusal
+refusal_by book (Some first) = Some (not_accepted first)
+refusal_by book None = if nat_le 4096 (length book) then Some book_full else None
 
--- the first refusal of a request that holds: the id is that of a live grant; the agent is none; the
--- node is none or has interrupt vectors; the node does not accept all of the buffer; the book is full
-abbrev pub grant_refusal : List NodeDecl → List Grant → ℕ → Request → Option GrantFault
+-- the first refusal of a request that holds, of those that need no search: the id is that of a live
+-- grant; the agent is none; the node is none or has interrupt vectors; the node does not accept all
+-- of the buffer; the book is full
+abbrev pub grant_refusal : List NodeDecl → List Grant → ℕ → Request → Option GrantRefusal
 grant_refusal net book id rq =
-    if has_id id book then Some IdUsed
-    else (if not (is_agent_at (slice_get net rq.agent)) then Some NoAgent
-    else (if not (is_target_at (slice_get net rq.node)) then Some NoTarget
+    if has_id id book then Some id_used
+    else (if not (is_agent_at (slice_get net rq.agent)) then Some no_agent
+    else (if not (is_target_at (slice_get net rq.node)) then Some no_target
     else refusal_by book (refused_address (slice_get net rq.node) rq.base rq.size)))

@@ -1,12 +1,12 @@
 //! Granting a buffer.
 
-ghost use Rattle.std.specs.Prelude.{◌≡◌, ◌≢◌, map, not, true, false, is_err, IfSome, OnOk, OnErr, IsTrue};
+ghost use Rattle.std.specs.Prelude.{◌≡◌, ◌≢◌, map, not, true, false, is_err, OnOk, IsTrue};
 ghost use Rattle.dn_base.specs.Terms.{IsCounted};
 ghost use Rattle.dn_kind.specs.Terms.{are_rights};
 ghost use Rattle.dn_tables.specs.Terms.{FitsNet, IsOnDevice};
 ghost use Rattle.dn_book.specs.Terms.{IsFaithful, IsKept};
 ghost use Rattle.dn_view.specs.Terms.{IsSystem};
-ghost use Rattle.dn_grant.specs.Terms.{IsGrantLogged, IsGrantTurn, NoAddition, grant_refusal, is_grant_fault};
+ghost use Rattle.dn_grant.specs.Terms.{IsGrantLogged, IsGrantOutcome, NoAddition, grant_answer_view, is_grant_fault};
 
 use crate::fault::GrantFault;
 use crate::refusal::refusal;
@@ -45,13 +45,10 @@ pub fn grant<D: Tables>(
         book.old.grants book.old.set }
     requires on_device { IsOnDevice book.old.set (D.units device.old) (D.words device.old) }
     requires rights { IsTrue (are_rights request.now.rights) }
-    ensures turn { result ≢ Err GrantFault.Device → result ≢ Err GrantFault.OutOfMemory →
-        IsGrantTurn system.entry.net.now book.old.grants id request.now result book.new.grants }
-    ensures refused { IfSome (grant_refusal system.entry.net.now book.old.grants id request.now)
-        (λ why. result ≡ Err why) }
+    ensures turn { IsGrantOutcome system.entry.net.now book.old.grants id request.now
+        (grant_answer_view result) book.new.grants }
     ensures complete { result ≡ Err GrantFault.NoPlacement → request.now.size ≡ 1 →
         NoAddition system.entry.net.now book.old.grants request.now }
-    ensures stays { OnErr result (book.new.grants ≡ book.old.grants) }
     ensures unchanged { is_err result ≡ true → result ≢ Err GrantFault.Device →
         (book.new ≡ book.old) × (device.new ≡ device.old) }
     ensures kept { OnOk result (IsKept system.entry.net.now

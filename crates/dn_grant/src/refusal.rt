@@ -1,9 +1,10 @@
 //! The refusals of a request that need no search.
 
-ghost use Rattle.std.specs.Prelude.{◌≡◌, ◌<◌, length, slice_get, IsTrue};
+ghost use Rattle.std.specs.Prelude.{◌≡◌, ◌<◌, length, slice_get, Some, IsTrue};
+ghost use Rattle.std.specs.Option.{option_map};
 ghost use Rattle.std.specs.List.{All};
 ghost use Rattle.dn_net.specs.Terms.{KeepsRules};
-ghost use Rattle.dn_grant.specs.Terms.{grant_refusal, is_target_at};
+ghost use Rattle.dn_grant.specs.Terms.{grant_fault_view, grant_refusal, is_target_at};
 
 use crate::accepted::refused_address;
 use crate::fault::GrantFault;
@@ -18,7 +19,8 @@ const MAX_GRANTS: usize = 4096;
 /// The first refusal of a request that holds before a placement is sought. It takes no memory.
 pub fn refusal(book: &Book, net: &Net, id: u32, request: &Request) -> Option<GrantFault>
     requires rules { All KeepsRules net.now }
-    ensures { result ≡ grant_refusal net.now book.now.grants id request.now }
+    ensures { option_map grant_fault_view result ≡ option_map (λ why. Some why)
+        (grant_refusal net.now book.now.grants id request.now) }
 {
     if book.has_id(id) {
         return Some(GrantFault::IdUsed);

@@ -1,5 +1,5 @@
 -- From what grants, routes and revokes say to the turns of a script.
-use Rattle.std.specs.Option.{IfSome}
+use Rattle.std.specs.Option.{IfSome, option_map}
 use Rattle.std.proofs.Common.{◌≡◌, ◌≢◌, ◌∙◌, ap, sym, subst, refl, arith, ℕ, ◌<◌, ◌⊎◌, inl, inr, Bool, true, false, List, [], ◌∷◌, take, length, Option, Some, None, Result, Ok, Err, is_ok, IsTrue, OnOk, ◌==◌, ◌||◌, eqb-true}
 use Rattle.std.proofs.Math.Seq.{take-length}
 use Rattle.dn_base.specs.declared.device.TableEvent.{TableEvent}
@@ -17,9 +17,17 @@ use Rattle.dn_book.specs.declared.grant.Grant.{Grant}
 use Rattle.dn_book.specs.Book.{has_id, slots_of, without}
 use Rattle.dn_book.specs.Writes.{AreAdded, grant_events, revoke_events}
 use Rattle.dn_grant.specs.declared.fault.GrantFault.{GrantFault}
-use Rattle.dn_grant.specs.Grant.{IsGrantLogged, IsGrantMade, IsGrantRefused, grant_at}
+use Rattle.dn_grant.specs.declared.fault.GrantFault.TheVariants as grant_fault
+use Rattle.dn_grant.specs.Faults.{grant_answer_view, grant_fault_view}
+use Rattle.dn_grant.specs.Grant.{IsGrantLogged, IsGrantMade, IsGrantOutcome, IsGrantRefused, grant_at}
+use Rattle.dn_grant.specs.Refusal as grant_refusal
+use Rattle.dn_grant.specs.Refusal.{GrantRefusal}
 use Rattle.dn_vector.specs.declared.fault.RouteFault.{RouteFault}
-use Rattle.dn_vector.specs.Route.{IsPlacedRoute, IsRouteLogged, IsRouteMade, IsRouteRefused, route_at}
+use Rattle.dn_vector.specs.declared.fault.RouteFault.TheVariants as route_fault
+use Rattle.dn_vector.specs.Faults.{route_answer_view, route_fault_view}
+use Rattle.dn_vector.specs.Refusal as route_refusal
+use Rattle.dn_vector.specs.Refusal.{RouteRefusal}
+use Rattle.dn_vector.specs.Route.{IsPlacedRoute, IsRouteLogged, IsRouteMade, IsRouteOutcome, IsRouteRefused, route_at}
 use Rattle.dn_vector.specs.Vectors.{vector_request}
 use Rattle.dn_book.specs.Book.{IsFaithful}
 use Rattle.dn_book.specs.State.{BookState}
@@ -107,8 +115,24 @@ pub grant_stopped : (kinds : List Meaning) (net : List NodeDecl) (s next : State
 grant_stopped kinds net s next id rq r log log' e logged =
     stopped_inside (IsGrantTurn kinds net s id rq) (entered net kinds s id (grant_at (id_number s.ids id) rq logged.place) (granted_text id logged.place.v)) r next log log' e (inl (record { place = logged.place; placed = logged.placed; is_turn = refl })) logged.added
 
+-- a fault that comes neither of the device nor of want of memory says a refusal
+pub grant_said : (fault : GrantFault) → fault ≢ grant_fault.Device → fault ≢ grant_fault.OutOfMemory → (why : GrantRefusal) × (grant_fault_view fault ≡ Some why)
+grant_said grant_fault.IdUsed d m = (grant_refusal.id_used, refl)
+grant_said grant_fault.NoAgent d m = (grant_refusal.no_agent, refl)
+grant_said grant_fault.NoTarget d m = (grant_refusal.no_target, refl)
+grant_said (grant_fault.NotAccepted first) d m = (grant_refusal.not_accepted first, refl)
+grant_said grant_fault.BookFull d m = (grant_refusal.book_full, refl)
+grant_said grant_fault.NoPlacement d m = (grant_refusal.no_placement, refl)
+grant_said grant_fault.Device d m = absurd (d refl)
+grant_said grant_fault.OutOfMemory d m = absurd (m refl)
+
+-- a grant is refused as its fault says
+pub grant_refused_so : (net : List NodeDecl) (book next : List Grant) (n : ℕ) (rq : Request) (fault : GrantFault) (why : GrantRefusal) → grant_fault_view fault ≡ Some why → IsGrantOutcome net book n rq (grant_answer_view (Err fault)) next → IsGrantRefused net book n rq why
+grant_refused_so net book next n rq fault why said outcome =
+    (subst (λ (o : Option GrantRefusal). IsGrantOutcome net book n rq (option_map (λ w. Err w) o) next) said outcome).0
+
 -- a grant that was refused
-pub not_granted_turn : (kinds : List Meaning) (net : List NodeDecl) (s next : State) (id : List ℕ) (rq : Request) (why : GrantFault) (log log' : Option (List TableEvent)) → IsGrantRefused net s.book (id_number s.ids id) rq why → log' ≡ log → named s id ≡ next → IsChanged (IsGrantTurn kinds net s id rq) next (grant_refused_text id why) log log'
+pub not_granted_turn : (kinds : List Meaning) (net : List NodeDecl) (s next : State) (id : List ℕ) (rq : Request) (why : GrantRefusal) (log log' : Option (List TableEvent)) → IsGrantRefused net s.book (id_number s.ids id) rq why → log' ≡ log → named s id ≡ next → IsChanged (IsGrantTurn kinds net s id rq) next (grant_refused_text id why) log log'
 not_granted_turn kinds net s next id rq why log log' refused same left = record {
   turn = answered (grant_refused_text id why) (named s id);
   is_turn = inr (record { why = why; refused = refused; is_turn = refl });
@@ -157,8 +181,23 @@ pub route_stopped : (kinds : List Meaning) (net : List NodeDecl) (s next : State
 route_stopped kinds net s next id agent line node r log log' e logged =
     stopped_inside (IsRouteTurn kinds net s id agent line node) (entered net kinds s id (route_at (id_number s.ids id) agent node logged.vector logged.place) (routed_text id logged.vector)) r next log log' e (inl (record { vector = logged.vector; place = logged.place; placed = logged.placed; is_turn = refl })) logged.added
 
+-- a fault that comes neither of the device nor of want of memory says a refusal
+pub route_said : (fault : RouteFault) → fault ≢ route_fault.Device → fault ≢ route_fault.OutOfMemory → (why : RouteRefusal) × (route_fault_view fault ≡ Some why)
+route_said route_fault.IdUsed d m = (route_refusal.id_used, refl)
+route_said route_fault.NoAgent d m = (route_refusal.no_agent, refl)
+route_said route_fault.NoTarget d m = (route_refusal.no_target, refl)
+route_said route_fault.BookFull d m = (route_refusal.book_full, refl)
+route_said route_fault.NoPlacement d m = (route_refusal.no_placement, refl)
+route_said route_fault.Device d m = absurd (d refl)
+route_said route_fault.OutOfMemory d m = absurd (m refl)
+
+-- a route is refused as its fault says
+pub route_refused_so : (net : List NodeDecl) (book next : List Grant) (n agent line node : ℕ) (fault : RouteFault) (why : RouteRefusal) → route_fault_view fault ≡ Some why → IsRouteOutcome net book n agent line node (route_answer_view (Err fault)) next → IsRouteRefused net book n agent line node why
+route_refused_so net book next n agent line node fault why said outcome =
+    (subst (λ (o : Option RouteRefusal). IsRouteOutcome net book n agent line node (option_map (λ w. Err w) o) next) said outcome).0
+
 -- a route that was refused
-pub not_routed_turn : (kinds : List Meaning) (net : List NodeDecl) (s next : State) (id : List ℕ) (agent line node : ℕ) (why : RouteFault) (log log' : Option (List TableEvent)) → IsRouteRefused net s.book (id_number s.ids id) agent line node why → log' ≡ log → named s id ≡ next → IsChanged (IsRouteTurn kinds net s id agent line node) next (route_refused_text id why) log log'
+pub not_routed_turn : (kinds : List Meaning) (net : List NodeDecl) (s next : State) (id : List ℕ) (agent line node : ℕ) (why : RouteRefusal) (log log' : Option (List TableEvent)) → IsRouteRefused net s.book (id_number s.ids id) agent line node why → log' ≡ log → named s id ≡ next → IsChanged (IsRouteTurn kinds net s id agent line node) next (route_refused_text id why) log log'
 not_routed_turn kinds net s next id agent line node why log log' refused same left = record {
   turn = answered (route_refused_text id why) (named s id);
   is_turn = inr (record { why = why; refused = refused; is_turn = refl });

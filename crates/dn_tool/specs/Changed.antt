@@ -1,47 +1,46 @@
 -- The replies to the commands that change the book.
-use Rattle.std.specs.Prelude.{ℕ, List, [], ◌++◌, codes}
-use Rattle.dn_grant.specs.declared.fault.GrantFault.{GrantFault}
-use Rattle.dn_grant.specs.declared.fault.GrantFault.TheVariants.{IdUsed, NoAgent, NoTarget, NotAccepted, BookFull, NoPlacement, Device, OutOfMemory}
-use Rattle.dn_vector.specs.declared.fault.RouteFault.{RouteFault}
-use Rattle.dn_vector.specs.declared.fault.RouteFault.TheVariants.{IdUsed as id_used, NoAgent as no_agent, NoTarget as no_target, BookFull as book_full, NoPlacement as no_placement, Device as device_fault, OutOfMemory as no_memory}
+use Rattle.std.specs.Prelude.{ℕ, List, ◌++◌, codes}
+use Rattle.dn_grant.specs.Refusal.{GrantRefusal, id_used, no_agent, no_target, not_accepted, book_full, no_placement}
+use Rattle.dn_vector.specs.Refusal.{RouteRefusal}
+use Rattle.dn_vector.specs.Refusal as route
 use Rattle.dn_print.specs.Names.{address_text}
 
--- the reply that names an id and a fault
+-- the reply that names an id and a refusal
 abbrev pub refused_text : List ℕ → List ℕ → List ℕ
-refused_text id fault = id ++ (codes " refused: " ++ (fault ++ codes "\n"))
+refused_text id refusal = id ++ (codes " refused: " ++ (refusal ++ codes "\n"))
 
--- a fault of a grant as it is printed; a fault of the device and want of memory are not printed
-abbrev pub grant_fault_text : GrantFault → List ℕ
-grant_fault_text IdUsed = codes "IdUsed"
-grant_fault_text NoAgent = codes "NoAgent"
-grant_fault_text NoTarget = codes "NoTarget"
-grant_fault_text (NotAccepted first) = codes "NotAccepted " ++ address_text first
-grant_fault_text BookFull = codes "BookFull"
-grant_fault_text NoPlacement = codes "NoPlacement"
-grant_fault_text Device = []
-grant_fault_text OutOfMemory = []
+-- the refusal of a grant as it is printed
+abbrev pub grant_refusal_text : GrantRefusal → List ℕ
+grant_refusal_text id_used = codes "IdUsed"
+grant_refusal_text no_agent = codes "NoAgent"
+grant_refusal_text no_target = codes "NoTarget"
+grant_refusal_text (not_accepted first) = codes "NotAccepted " ++ address_text first
+grant_refusal_text book_full = codes "BookFull"
+grant_refusal_text no_placement = codes "NoPlacement"
 
 -- the reply to a grant, which has the first address of the buffer in its agent
 abbrev pub granted_text : List ℕ → ℕ → List ℕ
 granted_text id v = id ++ (codes " at " ++ (address_text v ++ codes "\n"))
 
 -- the reply to a grant that is refused
-abbrev pub grant_refused_text : List ℕ → GrantFault → List ℕ
-grant_refused_text id why = refused_text id (grant_fault_text why)
+abbrev pub grant_refused_text : List ℕ → GrantRefusal → List ℕ
+grant_refused_text id why = refused_text id (grant_refusal_text why)
 
 -- the reply to a route, which has the vector
 abbrev pub routed_text : List ℕ → ℕ → List ℕ
 routed_text id vector = id ++ (codes " vector " ++ (address_text vector ++ codes "\n"))
 
--- the reply to a route that is refused; a fault of the device and want of memory are not printed
-abbrev pub route_refused_text : List ℕ → RouteFault → List ℕ
-route_refused_text id id_used = refused_text id (codes "IdUsed")
-route_refused_text id no_agent = refused_text id (codes "NoAgent")
-route_refused_text id no_target = refused_text id (codes "NoTarget")
-route_refused_text id book_full = refused_text id (codes "BookFull")
-route_refused_text id no_placement = refused_text id (codes "NoPlacement")
-route_refused_text id device_fault = refused_text id []
-route_refused_text id no_memory = refused_text id []
+-- the refusal of a route as it is printed
+abbrev pub route_refusal_text : RouteRefusal → List ℕ
+route_refusal_text route.id_used = codes "IdUsed"
+route_refusal_text route.no_agent = codes "NoAgent"
+route_refusal_text route.no_target = codes "NoTarget"
+route_refusal_text route.book_full = codes "BookFull"
+route_refusal_text route.no_placement = codes "NoPlacement"
+
+-- the reply to a route that is refused
+abbrev pub route_refused_text : List ℕ → RouteRefusal → List ℕ
+route_refused_text id why = refused_text id (route_refusal_text why)
 
 -- the reply to a revoke
 abbrev pub revoked_text : List ℕ → List ℕ

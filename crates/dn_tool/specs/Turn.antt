@@ -20,9 +20,9 @@ use Rattle.dn_book.specs.declared.grant.Grant.{Grant as GrantPart}
 use Rattle.dn_book.specs.Book.{has_id, without}
 use Rattle.dn_book.specs.Tables.{tables_of}
 use Rattle.dn_book.specs.Writes.{grant_events, revoke_events}
-use Rattle.dn_grant.specs.declared.fault.GrantFault.{GrantFault}
 use Rattle.dn_grant.specs.Grant.{IsGrantRefused, IsPlaced, grant_at}
-use Rattle.dn_vector.specs.declared.fault.RouteFault.{RouteFault}
+use Rattle.dn_grant.specs.Refusal.{GrantRefusal}
+use Rattle.dn_vector.specs.Refusal.{RouteRefusal}
 use Rattle.dn_vector.specs.Route.{IsPlacedRoute, IsRouteRefused, route_at}
 use Rattle.dn_print.specs.Dump.{dump_text}
 use Rattle.dn_tool.specs.Changed.{grant_refused_text, granted_text, revoke_refused_text, revoked_text, route_refused_text, routed_text}
@@ -96,7 +96,7 @@ pub record IsGranted (kinds : List Meaning) (net : List NodeDecl) (s : State) (i
 -- a request is refused, by the first refusal that holds
 pub record IsNotGranted (net : List NodeDecl) (s : State) (id : List ℕ) (rq : Request) (t : Turn)
     : Type 0 where
-  pub why : GrantFault
+  pub why : GrantRefusal
   pub refused : IsGrantRefused net s.book (id_number s.ids id) rq why
   pub is_turn : t ≡ answered (grant_refused_text id why) (named s id)
 
@@ -112,7 +112,7 @@ pub record IsRouted (kinds : List Meaning) (net : List NodeDecl) (s : State) (id
 -- a route is refused, by the first refusal that holds
 pub record IsNotRouted (net : List NodeDecl) (s : State) (id : List ℕ) (agent line node : ℕ)
     (t : Turn) : Type 0 where
-  pub why : RouteFault
+  pub why : RouteRefusal
   pub refused : IsRouteRefused net s.book (id_number s.ids id) agent line node why
   pub is_turn : t ≡ answered (route_refused_text id why) (named s id)
 

@@ -1,10 +1,10 @@
 //! The commands that change the book: grants, routes and revokes.
 
-ghost use Rattle.std.specs.Prelude.{◌≡◌, ◌≢◌, true, IfOk, IsTrue, OnOk};
+ghost use Rattle.std.specs.Prelude.{◌≡◌, true, IfOk, IfSome, IsSome, IsTrue, OnOk};
 ghost use Rattle.dn_kind.specs.Terms.{are_rights};
+ghost use Rattle.dn_grant.specs.Terms.{grant_fault_view, not_accepted};
+ghost use Rattle.dn_vector.specs.Terms.{route_fault_view};
 ghost use Rattle.dn_tool.specs.Terms.{CameThroughChange, HaltsByDevice, IsGrantTurn, IsReadyOn, IsRevokeTurn, IsRouteTurn, IsTurn, grant_refused_text, granted_text, is_change, kinds_of, number_or_none, refused_text, request_of, revoked_text, rights_of, route_refused_text, routed_text, state_view};
-ghost use Rattle.dn_grant.specs.declared.fault.GrantFault.TheVariants.{Device as grant_device, OutOfMemory as grant_memory};
-ghost use Rattle.dn_vector.specs.declared.fault.RouteFault.TheVariants.{Device as route_device, OutOfMemory as route_memory};
 
 use crate::halt::Halt;
 use crate::machine::Machine;
@@ -229,19 +229,19 @@ fn revoked(alloc: Global, id: &str) -> Result<Items<u8>, AllocError>
     Ok(Items::from_vec(text.into_bytes()))
 }
 
-/// The reply that names an id and a fault.
-fn refused(alloc: Global, id: &str, fault: &str) -> Result<Items<u8>, AllocError>
-    ensures { IfOk result (λ text. text ≡ refused_text id.now fault.now) }
+/// The reply that names an id and a refusal.
+fn refused(alloc: Global, id: &str, refusal: &str) -> Result<Items<u8>, AllocError>
+    ensures { IfOk result (λ text. text ≡ refused_text id.now refusal.now) }
 {
-    let text = format!(in alloc; "{id} refused: {fault}\n")?;
+    let text = format!(in alloc; "{id} refused: {refusal}\n")?;
     Ok(Items::from_vec(text.into_bytes()))
 }
 
 /// The reply to a grant that is refused.
 fn grant_refused(alloc: Global, id: &str, why: GrantFault) -> Result<Items<u8>, AllocError>
-    requires device { why ≢ grant_device }
-    requires memory { why ≢ grant_memory }
-    ensures { IfOk result (λ text. text ≡ grant_refused_text id.now why) }
+    requires { IsSome (grant_fault_view why) }
+    ensures { IfOk result (λ text. IfSome (grant_fault_view why)
+        (λ refusal. text ≡ grant_refused_text id.now refusal)) }
 {
     match why {
         GrantFault::IdUsed => refused(alloc, id, "IdUsed"),
@@ -258,17 +258,17 @@ fn grant_refused(alloc: Global, id: &str, why: GrantFault) -> Result<Items<u8>, 
 /// The reply to a grant of a buffer of which an address is not accepted.
 fn not_accepted(alloc: Global, id: &str, first: u64) -> Result<Items<u8>, AllocError>
     ensures { IfOk result (λ text. text
-        ≡ grant_refused_text id.now (GrantFault.NotAccepted first)) }
+        ≡ grant_refused_text id.now (not_accepted first)) }
 {
-    let fault = format!(in alloc; "NotAccepted 0x{first:x}")?;
-    refused(alloc, id, fault.as_str())
+    let refusal = format!(in alloc; "NotAccepted 0x{first:x}")?;
+    refused(alloc, id, refusal.as_str())
 }
 
 /// The reply to a route that is refused.
 fn route_refused(alloc: Global, id: &str, why: RouteFault) -> Result<Items<u8>, AllocError>
-    requires device { why ≢ route_device }
-    requires memory { why ≢ route_memory }
-    ensures { IfOk result (λ text. text ≡ route_refused_text id.now why) }
+    requires { IsSome (route_fault_view why) }
+    ensures { IfOk result (λ text. IfSome (route_fault_view why)
+        (λ refusal. text ≡ route_refused_text id.now refusal)) }
 {
     match why {
         RouteFault::IdUsed => refused(alloc, id, "IdUsed"),

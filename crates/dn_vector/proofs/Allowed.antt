@@ -14,15 +14,12 @@ use Rattle.dn_place.proofs.Proper.{proper_slots}
 use Rattle.dn_net.specs.Decode.{is_agent_at}
 use Rattle.dn_kind.specs.Kind.{IsLawful, Meaning}
 use Rattle.dn_tables.specs.Placement.{Place}
-use Rattle.dn_placement.specs.declared.request.Request.{Request}
-use Rattle.dn_placement.specs.Exposure.{IsAdmissible}
 use Rattle.dn_placement.specs.Roles.{is_vectors_at}
 use Rattle.dn_book.specs.declared.grant.Grant.{Grant}
-use Rattle.dn_book.specs.Book.{IsFaithful, IsSound, has_id, records_of, slots_of}
+use Rattle.dn_book.specs.Book.{IsFaithful, IsSound, has_id, slots_of}
 use Rattle.dn_book.specs.Laws.{IsGrantFor}
 use Rattle.dn_book.specs.Writes.{AreAdded, grant_events}
-use Rattle.dn_vector.specs.declared.fault.RouteFault.TheVariants.{IdUsed, NoAgent, NoTarget, BookFull}
-use Rattle.dn_vector.specs.Refusal.{route_refusal}
+use Rattle.dn_vector.specs.Refusal.{id_used, no_agent, no_target, book_full, route_refusal}
 use Rattle.dn_vector.specs.Route.{IsLeastVector, IsPlacedRoute, IsRouteLogged, IsRouteMade, NoAddition, NoVector, route_at}
 use Rattle.dn_vector.specs.Vectors.{vector_request}
 
@@ -39,7 +36,7 @@ allowed_is net book id agent node none = by_id (has_id id book) refl none
   where
     by_room : has_id id book ≡ false → IsTrue (is_agent_at (slice_get net agent)) →
         IsTrue (is_vectors_at (slice_get net node)) →
-        (f : Bool) → nat_le 4096 (length book) ≡ f → (if f then Some BookFull else None) ≡ None →
+        (f : Bool) → nat_le 4096 (length book) ≡ f → (if f then Some book_full else None) ≡ None →
         IsAllowed net book id agent node
     by_room i a t true e none = cc
     by_room i a t false e none =
@@ -47,25 +44,25 @@ allowed_is net book id agent node none = by_id (has_id id book) refl none
 
     by_target : has_id id book ≡ false → IsTrue (is_agent_at (slice_get net agent)) →
         (t : Bool) → is_vectors_at (slice_get net node) ≡ t →
-        (if not t then Some NoTarget
-        else (if nat_le 4096 (length book) then Some BookFull else None)) ≡ None →
+        (if not t then Some no_target
+        else (if nat_le 4096 (length book) then Some book_full else None)) ≡ None →
         IsAllowed net book id agent node
     by_target i a false e none = cc
     by_target i a true e none = by_room i a e (nat_le 4096 (length book)) refl none
 
     by_agent : has_id id book ≡ false → (a : Bool) → is_agent_at (slice_get net agent) ≡ a →
-        (if not a then Some NoAgent
-        else (if not (is_vectors_at (slice_get net node)) then Some NoTarget
-        else (if nat_le 4096 (length book) then Some BookFull else None))) ≡ None →
+        (if not a then Some no_agent
+        else (if not (is_vectors_at (slice_get net node)) then Some no_target
+        else (if nat_le 4096 (length book) then Some book_full else None))) ≡ None →
         IsAllowed net book id agent node
     by_agent i false e none = cc
     by_agent i true e none = by_target i e (is_vectors_at (slice_get net node)) refl none
 
     by_id : (h : Bool) → has_id id book ≡ h →
-        (if h then Some IdUsed
-        else (if not (is_agent_at (slice_get net agent)) then Some NoAgent
-        else (if not (is_vectors_at (slice_get net node)) then Some NoTarget
-        else (if nat_le 4096 (length book) then Some BookFull else None)))) ≡ None →
+        (if h then Some id_used
+        else (if not (is_agent_at (slice_get net agent)) then Some no_agent
+        else (if not (is_vectors_at (slice_get net node)) then Some no_target
+        else (if nat_le 4096 (length book) then Some book_full else None)))) ≡ None →
         IsAllowed net book id agent node
     by_id true e none = cc
     by_id false e none = by_agent e (is_agent_at (slice_get net agent)) refl none
@@ -87,51 +84,47 @@ allowed_route net book id agent line node v p none least =
     let is = allowed_is net book id agent node none in
     record { few = is.few; new = is.new; agent = is.agent_is; rights = refl; placed = least.first.suited.is_placement }
 
--- a grant of its parts
-abbrev pub grant_of : ℕ → Request → Place → Grant
-grant_of id rq p = record { id = id; request = rq; placement = p }
-
--- the grant of a route that is placed may come into the book, however its request was made
+-- the grant of a route that is placed may come into the book
 pub placed_grant : (net : List NodeDecl) (book : List Grant) (id agent line node v : ℕ) (p : Place)
-    (rq : Request) → rq ≡ vector_request agent node v →
-    IsPlacedRoute net book id agent line node v p → IsGrantFor net book (grant_of id rq p)
-placed_grant net book id agent line node v p rq e is =
-    subst (λ r. IsGrantFor net book (grant_of id r p)) (sym e)
+    (g : Grant) → g ≡ route_at id agent node v p → IsPlacedRoute net book id agent line node v p →
+    IsGrantFor net book g
+placed_grant net book id agent line node v p g e is =
+    subst (λ (x : Grant). IsGrantFor net book x) (sym e)
     (allowed_route net book id agent line node v p is.allowed is.placed)
 
 -- with that grant a faithful book stays so
 pub still_faithful : (net : List NodeDecl) (book next : List Grant) (id agent line node v : ℕ) (p : Place)
-    (rq : Request) → rq ≡ vector_request agent node v → IsLegalNet net → IsSound net book →
-    IsPlacedRoute net book id agent line node v p → next ≡ book ++ grant_of id rq p ∷ [] →
+    (g : Grant) → g ≡ route_at id agent node v p → IsLegalNet net → IsSound net book →
+    IsPlacedRoute net book id agent line node v p → next ≡ book ++ g ∷ [] →
     IsFaithful net book → IsFaithful net next
-still_faithful net book next id agent line node v p rq e legal sound is appended faithful =
-    let keeps = grant_keeps_book net book (grant_of id rq p) legal sound (placed_grant net book id agent line node v p rq e is) in
-    let admissible = subst (λ r. IsAdmissible net (records_of net book) r p) (sym e) is.placed.first.suited.admissible in
-    subst (λ (b : List Grant). IsFaithful net b) (sym appended) (keeps.1 faithful admissible)
+still_faithful net book next id agent line node v p g e legal sound is appended faithful =
+    let made = route_at id agent node v p in
+    let keeps = grant_keeps_book net book made legal sound (allowed_route net book id agent line node v p is.allowed is.placed) in
+    let whole : next ≡ book ++ made ∷ [] = appended ∙ ap (λ (x : Grant). book ++ x ∷ []) e in
+    subst (λ (b : List Grant). IsFaithful net b) (sym whole) (keeps.1 faithful is.placed.first.suited.admissible)
 
 -- a route that is placed and appended is made
 pub placed_made : (net : List NodeDecl) (book next : List Grant) (id agent line node v : ℕ) (p : Place)
-    (rq : Request) → rq ≡ vector_request agent node v →
-    IsPlacedRoute net book id agent line node v p → next ≡ book ++ grant_of id rq p ∷ [] →
-    IsRouteMade net book id agent line node v next
-placed_made net book next id agent line node v p rq e is appended = record {
+    (g : Grant) → g ≡ route_at id agent node v p → IsPlacedRoute net book id agent line node v p →
+    next ≡ book ++ g ∷ [] → IsRouteMade net book id agent line node v next
+placed_made net book next id agent line node v p g e is appended = record {
   place = p;
   placed = is;
-  appended = appended ∙ ap (λ r. book ++ grant_of id r p ∷ []) e;
+  appended = appended ∙ ap (λ (x : Grant). book ++ x ∷ []) e;
 }
 
 -- the events of a route that is placed
 pub placed_logged : (net : List NodeDecl) (kinds : List Meaning) (book : List Grant) (cleared : Bool)
-    (id agent line node v : ℕ) (p : Place) (rq : Request) (failed : Bool)
-    (log log' : Option (List TableEvent)) → rq ≡ vector_request agent node v →
+    (id agent line node v : ℕ) (p : Place) (g : Grant) (failed : Bool)
+    (log log' : Option (List TableEvent)) → g ≡ route_at id agent node v p →
     IsPlacedRoute net book id agent line node v p →
-    AreAdded (grant_events net kinds book cleared (grant_of id rq p)) failed log log' →
+    AreAdded (grant_events net kinds book cleared g) failed log log' →
     IsRouteLogged net kinds book cleared id agent line node failed log log'
-placed_logged net kinds book cleared id agent line node v p rq failed log log' e is added = record {
+placed_logged net kinds book cleared id agent line node v p g failed log log' e is added = record {
   vector = v;
   place = p;
   placed = is;
-  added = subst (λ r. AreAdded (grant_events net kinds book cleared (grant_of id r p)) failed log log') e added;
+  added = subst (λ (x : Grant). AreAdded (grant_events net kinds book cleared x) failed log log') e added;
 }
 
 -- where no vector has an admissible placement, no addition gives one

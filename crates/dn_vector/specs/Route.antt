@@ -1,21 +1,38 @@
 -- What a route comes to: a refusal, or a grant of the least free vector that has an admissible placement
 -- at the line.
-use Rattle.std.specs.Prelude.{◌≡◌, ℕ, ◌<◌, Bool, List, [], ◌∷◌, ◌++◌, Option, Some, None, Result, Ok, Err, IsTrue}
+use Rattle.std.specs.Prelude.{◌≡◌, ℕ, ◌<◌, Bool, true, List, [], ◌∷◌, ◌++◌, map, Option, Some, None, Result, Ok, Err, IsTrue}
+use Rattle.std.specs.declared.alloc.Global.{Global}
+use Rattle.std.specs.declared.dyn_box.DynBox.{DynBox}
 use Rattle.dn_base.specs.declared.device.TableEvent.{TableEvent}
+use Rattle.dn_base.specs.declared.device.UnitWords.{UnitWords}
+use Rattle.dn_base.specs.Device.{UnitSize}
 use Rattle.dn_net.specs.declared.node.NodeDecl.{NodeDecl}
 use Rattle.dn_kind.specs.Kind.{Meaning}
 use Rattle.dn_kind.specs.Rights.{both_rights}
 use Rattle.dn_kind.specs.Tables.{Held}
 use Rattle.dn_tables.specs.Placement.{Place}
+use Rattle.dn_tables.specs.Set.{IsOnDevice}
 use Rattle.dn_placement.specs.Order.{IsFirst, NoneSuited}
+use Rattle.dn_view.specs.declared.system.System.{System}
 use Rattle.dn_view.specs.Addition.{GivesExactly, IsAddition}
+use Rattle.dn_view.specs.Systems.{IsSystem}
 use Rattle.dn_book.specs.declared.grant.Grant.{Grant}
 use Rattle.dn_book.specs.Book.{slots_of}
+use Rattle.dn_book.specs.State.{BookState}
+use Rattle.dn_book.specs.Tables.{IsKept}
 use Rattle.dn_book.specs.Writes.{AreAdded, grant_events}
-use Rattle.dn_vector.specs.declared.fault.RouteFault.{RouteFault}
-use Rattle.dn_vector.specs.declared.fault.RouteFault.TheVariants.{NoPlacement, Device, OutOfMemory}
-use Rattle.dn_vector.specs.Refusal.{route_refusal}
+use Rattle.dn_vector.specs.Refusal.{RouteRefusal, no_placement, route_refusal}
 use Rattle.dn_vector.specs.Vectors.{is_free_vector, vector_request}
+
+-- the system is one, no call of the device failed so far, and the tables, which the device has, keep
+-- the grants of the book
+pub record MayRoute {K : Type 0} {V : K → Type 0} (means : DynBox K Global V → Meaning)
+    (system : System K V) (book : BookState) (units : List UnitSize) (words : Option (List UnitWords))
+    : Type 0 where
+  pub is_system : IsSystem means system
+  pub sound : book.sound ≡ true
+  pub kept : IsKept system.net.now (map means system.kinds.now.list.items) book.grants book.set
+  pub on_device : IsOnDevice book.set units words
 
 -- the grant of a vector to an agent at a placement
 abbrev pub route_at : ℕ → ℕ → ℕ → ℕ → Place → Grant
@@ -67,22 +84,29 @@ pub record IsRouteMade (net : List NodeDecl) (book : List Grant) (id agent line 
   pub placed : IsPlacedRoute net book id agent line node vector place
   pub appended : next ≡ book ++ route_at id agent node vector place ∷ []
 
--- the route is refused so; by a fault of the device and for want of memory it is not refused
-abbrev pub IsRouteRefused : List NodeDecl → List Grant → ℕ → ℕ → ℕ → ℕ → RouteFault → Type 0
-IsRouteRefused net book id agent line node NoPlacement =
+-- the refusal is the first of the route that holds; that no vector has a placement is the last
+abbrev pub IsRouteRefused : List NodeDecl → List Grant → ℕ → ℕ → ℕ → ℕ → RouteRefusal → Type 0
+IsRouteRefused net book id agent line node no_placement =
     IsUnplacedRoute net book id agent line node
-IsRouteRefused net book id agent line node Device = ⊥
-IsRouteRefused net book id agent line node OutOfMemory = ⊥
 IsRouteRefused net book id agent line node why = route_refusal net book id agent node ≡ Some why
 
 -- A turn of `route`: the first refusal that holds, and the book stays; or the vector, and the grant is
 -- appended.
-abbrev pub IsRouteTurn : List NodeDecl → List Grant → ℕ → ℕ → ℕ → ℕ → Result ℕ RouteFault →
+abbrev pub IsRouteTurn : List NodeDecl → List Grant → ℕ → ℕ → ℕ → ℕ → Result ℕ RouteRefusal →
     List Grant → Type 0
 IsRouteTurn net book id agent line node (Ok vector) next =
     IsRouteMade net book id agent line node vector next
 IsRouteTurn net book id agent line node (Err why) next =
     IsRouteRefused net book id agent line node why × (next ≡ book)
+
+-- What a call of `route` comes to: a turn; or it fails, where no refusal holds that needs no search,
+-- and the book stays.
+abbrev pub IsRouteOutcome : List NodeDecl → List Grant → ℕ → ℕ → ℕ → ℕ →
+    Option (Result ℕ RouteRefusal) → List Grant → Type 0
+IsRouteOutcome net book id agent line node (Some made) next =
+    IsRouteTurn net book id agent line node made next
+IsRouteOutcome net book id agent line node None next =
+    (route_refusal net book id agent node ≡ None) × (next ≡ book)
 
 -- the events of a route were added to a log: all of them, or those before the one that failed
 pub record IsRouteLogged (net : List NodeDecl) (kinds : List Meaning) (book : List Grant)

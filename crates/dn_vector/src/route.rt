@@ -1,18 +1,16 @@
 //! Routing a line of an agent to an interrupt vector.
 
-ghost use Rattle.std.specs.Prelude.{◌≡◌, ◌≢◌, map, not, true, false, is_err, IfSome, OnOk, OnErr};
+ghost use Rattle.std.specs.Prelude.{◌≡◌, ◌≢◌, map, not, true, false, is_err, OnOk};
 ghost use Rattle.dn_base.specs.Terms.{IsCounted};
 ghost use Rattle.dn_tables.specs.Terms.{FitsNet, IsOnDevice};
 ghost use Rattle.dn_book.specs.Terms.{IsFaithful, IsKept};
-ghost use Rattle.dn_view.specs.Terms.{IsSystem};
-ghost use Rattle.dn_vector.specs.Terms.{IsRouteLogged, IsRouteTurn, NoAddition, is_route_fault, route_refusal};
+ghost use Rattle.dn_vector.specs.Terms.{IsRouteLogged, IsRouteOutcome, MayRoute, NoAddition, is_route_fault, route_answer_view};
 
 use crate::fault::RouteFault;
 use crate::refusal::refusal;
-use crate::search::{Asked, Found, least_vector, vector_request};
+use crate::search::{Asked, least_vector};
 use dn_base::device::Tables;
 use dn_book::book::{Book, CommitFault};
-use dn_book::grant::Grant;
 use dn_view::system::System;
 use std::alloc::Global;
 
@@ -38,19 +36,12 @@ pub fn route<D: Tables>(
     node: u16,
     device: &mut D,
 ) -> Result<u64, RouteFault>
-    requires system { IsSystem (λ k. meaning (k.vtable, k.value)) system }
-    requires sound { book.old.sound ≡ true }
-    requires kept { IsKept system.net.now
-        (map (λ k. meaning (k.vtable, k.value)) system.kinds.now.list.items)
-        book.old.grants book.old.set }
-    requires on_device { IsOnDevice book.old.set (D.units device.old) (D.words device.old) }
-    ensures turn { result ≢ Err RouteFault.Device → result ≢ Err RouteFault.OutOfMemory →
-        IsRouteTurn system.entry.net.now book.old.grants id agent line node result book.new.grants }
-    ensures refused { IfSome (route_refusal system.entry.net.now book.old.grants id agent node)
-        (λ why. result ≡ Err why) }
+    requires ready { MayRoute (λ k. meaning (k.vtable, k.value)) system book.old
+        (D.units device.old) (D.words device.old) }
+    ensures turn { IsRouteOutcome system.entry.net.now book.old.grants id agent line node
+        (route_answer_view result) book.new.grants }
     ensures complete { result ≡ Err RouteFault.NoPlacement →
         NoAddition system.entry.net.now book.old.grants agent line node }
-    ensures stays { OnErr result (book.new.grants ≡ book.old.grants) }
     ensures unchanged { is_err result ≡ true → result ≢ Err RouteFault.Device →
         (book.new ≡ book.old) × (device.new ≡ device.old) }
     ensures kept { OnOk result (IsKept system.entry.net.now
@@ -82,16 +73,13 @@ pub fn route<D: Tables>(
         line,
         node,
     };
-    let Found { vector, placement } = match least_vector(alloc, asked) {
+    let found = match least_vector(alloc, asked) {
         Ok(Some(found)) => found,
         Ok(None) => return Err(RouteFault::NoPlacement),
         Err(_) => return Err(RouteFault::OutOfMemory),
     };
-    let grant = Grant {
-        id,
-        request: vector_request(agent, node, vector),
-        placement,
-    };
+    let vector = found.vector;
+    let grant = found.grant(id, agent, node);
     match book.commit(alloc, system.net, system.kinds, grant, device) {
         Ok(()) => Ok(vector),
         Err(CommitFault::Device) => Err(RouteFault::Device),

@@ -1,11 +1,12 @@
 //! The least vector that has an admissible placement at a line.
 
 ghost use Rattle.std.specs.Prelude.{◌≡◌, ◌≤◌, ℕ, None, IfOk, IfSome};
-ghost use Rattle.dn_vector.specs.Terms.{HasNoPlace, IsAsked, IsLeastOf, IsLeastVector, NoVector, vector_request};
+ghost use Rattle.dn_vector.specs.Terms.{HasNoPlace, IsAsked, IsLeastOf, IsLeastVector, NoVector, route_at, vector_request};
 
 use crate::vectors::free_vectors;
 use dn_base::OutOfMemory;
 use dn_book::book::Book;
+use dn_book::grant::Grant;
 use dn_interval::Span;
 use dn_kind::rights::Rights;
 use dn_place::booked::first_in_book;
@@ -31,6 +32,20 @@ pub struct Found {
     pub vector: u64,
     /// The first admissible placement at the line.
     pub placement: Placement,
+}
+
+impl Found {
+    /// The grant of the vector to an agent, under an id.
+    pub fn grant(self, id: u32, agent: u16, node: u16) -> Grant
+        ensures { result ≡ route_at id agent node self.vector self.placement }
+    {
+        let Found { vector, placement } = self;
+        Grant {
+            id,
+            request: vector_request(agent, node, vector),
+            placement,
+        }
+    }
 }
 
 /// The least vector that no live grant has and that has an admissible placement at the line, with the

@@ -1,4 +1,4 @@
-use Rattle.std.proofs.Common.{rules, ◌≡◌, ◌≢◌, ◌∙◌, ap, sym, subst, refl, List, ℕ, map, Result, Err, true, false}
+use Rattle.std.proofs.Common.{rules, ◌≡◌, ◌≢◌, ◌∙◌, ap, sym, subst, refl, List, ℕ, map, Option, IfSome, IsSome, Result, Err, true, false}
 use Rattle.dn_base.specs.Outside.{IsCounted}
 use Rattle.dn_base.proofs.Counts.{counted_none}
 use Rattle.dn_net.specs.declared.node.NodeDecl.{NodeDecl}
@@ -6,13 +6,14 @@ use Rattle.dn_kind.specs.Kind.{Meaning}
 use Rattle.dn_grant.specs.declared.fault.GrantFault.{GrantFault}
 use Rattle.dn_grant.specs.declared.fault.GrantFault.TheVariants.{Device, OutOfMemory}
 use Rattle.dn_grant.specs.Grant.{IsGrantLogged, IsGrantRefused}
+use Rattle.dn_grant.specs.Refusal.{GrantRefusal}
 use Rattle.dn_tool.specs.declared.halt.Halt.TheVariants.{DeviceFault, NoMemory}
-use Rattle.dn_tool.specs.Changed.{granted_text}
+use Rattle.dn_tool.specs.Changed.{grant_refused_text, granted_text}
 use Rattle.dn_tool.specs.Ids.{id_number}
 use Rattle.dn_tool.specs.State.{IsChanged, state_view}
 use Rattle.dn_tool.specs.declared.state.State.{State as Kept}
 use Rattle.dn_tool.specs.Turn.{IsGrantTurn, State, named}
-use Rattle.dn_tool.proofs.Changes.{grant_stopped, halted_after, not_granted_turn, state_granted, state_named, state_same}
+use Rattle.dn_tool.proofs.Changes.{grant_refused_so, grant_said, grant_stopped, halted_after, not_granted_turn, state_granted, state_named, state_same}
 use Rattle.dn_tool.proofs.change.grant_change.Goals as goal
 
 pub renew-requires-clause-faithful : goal.renew-requires-clause-faithful
@@ -24,14 +25,14 @@ returns-in_err-granted-in-Ok-clause-changed g c =
     let state = c.args.state.now in
     let ended : c.from_residual-in_err-granted-in-Ok.result ≡ Err NoMemory = search rules in
     halted_after (IsGrantTurn kinds c.args.machine.net.now (state_view state) c.args.id.now c.args.request.now) c.from_residual-in_err-granted-in-Ok.result (state_view c.renew.new.state) (state_view c.renew.new.state) (granted_text c.args.id.now c.in-Ok.v) _ _ ended
-    (state_granted kinds c.args.machine.net.now state c.renew.new.state c.args.id.now c.args.request.now c.in_ok-number.number c.in-Ok.v c.grant.new.book _ _ c.in_ok-number.ensures.number (c.in-Ok.ensures.turn (λ e. cc) (λ e. cc)) c.in-Ok.ensures.granted c.renew.ensures.still.book (c.renew.ensures.still.ids ∙ c.in_ok-number.ensures.ids) c.in-Ok.ensures.fenced)
+    (state_granted kinds c.args.machine.net.now state c.renew.new.state c.args.id.now c.args.request.now c.in_ok-number.number c.in-Ok.v c.grant.new.book _ _ c.in_ok-number.ensures.number c.in-Ok.ensures.turn c.in-Ok.ensures.granted c.renew.ensures.still.book (c.renew.ensures.still.ids ∙ c.in_ok-number.ensures.ids) c.in-Ok.ensures.fenced)
 
 pub returns-in_ok-granted-in-Ok-clause-changed : goal.returns-in_ok-granted-in-Ok-clause-changed
 returns-in_ok-granted-in-Ok-clause-changed g c =
     let kinds : List Meaning = map (λ k. (goal.UnitKind-dyn g (k.vtable, k.value)).meaning k.value) c.args.machine.kinds.now.list.items in
     let state = c.args.state.now in
     subst (λ (t : List ℕ). IsChanged (IsGrantTurn kinds c.args.machine.net.now (state_view state) c.args.id.now c.args.request.now) (state_view c.renew.new.state) t (g.D.Tables.log c.args.device.now) (g.D.Tables.log c.grant.new.device)) (sym c.in_ok-granted-in-Ok.ensures)
-    (state_granted kinds c.args.machine.net.now state c.renew.new.state c.args.id.now c.args.request.now c.in_ok-number.number c.in-Ok.v c.grant.new.book _ _ c.in_ok-number.ensures.number (c.in-Ok.ensures.turn (λ e. cc) (λ e. cc)) c.in-Ok.ensures.granted c.renew.ensures.still.book (c.renew.ensures.still.ids ∙ c.in_ok-number.ensures.ids) c.in-Ok.ensures.fenced)
+    (state_granted kinds c.args.machine.net.now state c.renew.new.state c.args.id.now c.args.request.now c.in_ok-number.number c.in-Ok.v c.grant.new.book _ _ c.in_ok-number.ensures.number c.in-Ok.ensures.turn c.in-Ok.ensures.granted c.renew.ensures.still.book (c.renew.ensures.still.ids ∙ c.in_ok-number.ensures.ids) c.in-Ok.ensures.fenced)
 
 pub returns-in-Err-Device-clause-changed : goal.returns-in-Err-Device-clause-changed
 returns-in-Err-Device-clause-changed g c =
@@ -39,6 +40,13 @@ returns-in-Err-Device-clause-changed g c =
     let state = c.args.state.now in
     let logged = subst (λ n. IsGrantLogged c.args.machine.net.now kinds state.book.grants state.book.cleared n c.args.request.now true (g.D.Tables.log c.args.device.now) (g.D.Tables.log c.grant.new.device)) c.in_ok-number.ensures.number (c.grant.ensures.stopped (c.in-Err-Device.is ∙ ap Err c.in-Err-Device.field-0-is)) in
     grant_stopped kinds c.args.machine.net.now (state_view state) (state_view state) c.args.id.now c.args.request.now (Err DeviceFault) _ _ refl logged
+
+pub grant_refused-requires : goal.grant_refused-requires
+grant_refused-requires g c =
+    let no_device : c.in-Err.why ≢ Device = search rules in
+    let no_memory : c.in-Err.why ≢ OutOfMemory = search rules in
+    let said = grant_said c.in-Err.why no_device no_memory in
+    subst (λ (o : Option GrantRefusal). IsSome o) (sym said.1) refl
 
 pub returns-in_ok-grant_refused-in-Err : goal.returns-in_ok-grant_refused-in-Err
 returns-in_ok-grant_refused-in-Err g c =
@@ -53,12 +61,14 @@ returns-in_ok-grant_refused-in-Err g c =
     let other : ◌≢◌ {A = Result ℕ GrantFault} (Err c.in-Err.why) (Err Device) = λ e. no_device (cc) in
     let same = c.in-Err.ensures.unchanged refl other in
     let number : c.in_ok-number.number ≡ id_number state.ids id = c.in_ok-number.ensures.number in
-    let refused : IsGrantRefused net state.book.grants (id_number state.ids id) rq c.in-Err.why = subst (λ n. IsGrantRefused net state.book.grants n rq c.in-Err.why) number (c.in-Err.ensures.turn other (λ e. no_memory (cc))).0 in
+    let said = grant_said c.in-Err.why no_device no_memory in
+    let refused : IsGrantRefused net state.book.grants (id_number state.ids id) rq said.0 = subst (λ n. IsGrantRefused net state.book.grants n rq said.0) number (grant_refused_so net state.book.grants c.grant.new.book.grants c.in_ok-number.number rq c.in-Err.why said.0 said.1 c.in-Err.ensures.turn) in
+    let text : c.in_ok-grant_refused-in-Err.field-0 ≡ grant_refused_text id said.0 = subst (λ (o : Option GrantRefusal). IfSome o (λ r. c.in_ok-grant_refused-in-Err.field-0 ≡ grant_refused_text id r)) said.1 c.in_ok-grant_refused-in-Err.ensures in
     let after : Kept = record { book = c.grant.new.book; ids = c.number.new.self; image = state.image; first = state.first; flats = c.keep_flats.new.flats } in
     let left : named s id ≡ state_view after = state_named after s id state.book same.0 refl refl c.in_ok-number.ensures.ids in
-    let turned = not_granted_turn kinds net s (state_view after) id rq c.in-Err.why (g.D.Tables.log c.args.device.now) (g.D.Tables.log c.grant.new.device) refused (ap g.D.Tables.log same.1) left in
+    let turned = not_granted_turn kinds net s (state_view after) id rq said.0 (g.D.Tables.log c.args.device.now) (g.D.Tables.log c.grant.new.device) refused (ap g.D.Tables.log same.1) left in
     record {
-      changed = subst (λ (t : List ℕ). IsChanged (IsGrantTurn kinds net s id rq) (state_view after) t (g.D.Tables.log c.args.device.now) (g.D.Tables.log c.grant.new.device)) (sym c.in_ok-grant_refused-in-Err.ensures) turned;
+      changed = subst (λ (t : List ℕ). IsChanged (IsGrantTurn kinds net s id rq) (state_view after) t (g.D.Tables.log c.args.device.now) (g.D.Tables.log c.grant.new.device)) (sym text) turned;
       ready = record { machine = c.requires.ready.machine; state = state_same kinds net state after c.requires.ready.state same.0 refl c.requires.ready.state.first c.in_ok-keep_flats.ensures.flat; on_device = c.in-Err.ensures.on_device };
       halted = record { no_write = refl; counted = subst (λ d. IsCounted (g.D.Tables.faults c.args.device.now) (g.D.Tables.faults d) false) (sym same.1) (counted_none (g.D.Tables.faults c.args.device.now)) };
     }

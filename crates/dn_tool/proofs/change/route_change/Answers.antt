@@ -1,18 +1,19 @@
-use Rattle.std.proofs.Common.{rules, ◌≡◌, ◌≢◌, ◌∙◌, ap, sym, subst, refl, List, ℕ, map, Result, Err, true, false}
+use Rattle.std.proofs.Common.{rules, ◌≡◌, ◌≢◌, ◌∙◌, ap, sym, subst, refl, List, ℕ, map, Option, IfSome, IsSome, Result, Err, true, false}
 use Rattle.dn_base.specs.Outside.{IsCounted}
 use Rattle.dn_base.proofs.Counts.{counted_none}
 use Rattle.dn_net.specs.declared.node.NodeDecl.{NodeDecl}
 use Rattle.dn_kind.specs.Kind.{Meaning}
 use Rattle.dn_vector.specs.declared.fault.RouteFault.{RouteFault}
 use Rattle.dn_vector.specs.declared.fault.RouteFault.TheVariants.{Device, OutOfMemory}
+use Rattle.dn_vector.specs.Refusal.{RouteRefusal}
 use Rattle.dn_vector.specs.Route.{IsRouteLogged, IsRouteRefused}
 use Rattle.dn_tool.specs.declared.halt.Halt.TheVariants.{DeviceFault, NoMemory}
-use Rattle.dn_tool.specs.Changed.{routed_text}
+use Rattle.dn_tool.specs.Changed.{route_refused_text, routed_text}
 use Rattle.dn_tool.specs.Ids.{id_number}
 use Rattle.dn_tool.specs.State.{IsChanged, state_view}
 use Rattle.dn_tool.specs.declared.state.State.{State as Kept}
 use Rattle.dn_tool.specs.Turn.{IsRouteTurn, State, named}
-use Rattle.dn_tool.proofs.Changes.{halted_after, not_routed_turn, route_stopped, state_named, state_routed, state_same}
+use Rattle.dn_tool.proofs.Changes.{halted_after, not_routed_turn, route_refused_so, route_said, route_stopped, state_named, state_routed, state_same}
 use Rattle.dn_tool.proofs.change.route_change.Goals as goal
 
 pub renew-requires-clause-faithful : goal.renew-requires-clause-faithful
@@ -24,14 +25,14 @@ returns-in_err-routed-in-Ok-clause-changed g c =
     let state = c.args.state.now in
     let ended : c.from_residual-in_err-routed-in-Ok.result ≡ Err NoMemory = search rules in
     halted_after (IsRouteTurn kinds c.args.machine.net.now (state_view state) c.args.id.now c.args.agent c.args.line c.args.node) c.from_residual-in_err-routed-in-Ok.result (state_view c.renew.new.state) (state_view c.renew.new.state) (routed_text c.args.id.now c.in-Ok.vector) _ _ ended
-    (state_routed kinds c.args.machine.net.now state c.renew.new.state c.args.id.now c.args.agent c.args.line c.args.node c.in_ok-number.number c.in-Ok.vector c.route.new.book _ _ c.in_ok-number.ensures.number (c.in-Ok.ensures.turn (λ e. cc) (λ e. cc)) c.in-Ok.ensures.routed c.renew.ensures.still.book (c.renew.ensures.still.ids ∙ c.in_ok-number.ensures.ids) c.in-Ok.ensures.fenced)
+    (state_routed kinds c.args.machine.net.now state c.renew.new.state c.args.id.now c.args.agent c.args.line c.args.node c.in_ok-number.number c.in-Ok.vector c.route.new.book _ _ c.in_ok-number.ensures.number c.in-Ok.ensures.turn c.in-Ok.ensures.routed c.renew.ensures.still.book (c.renew.ensures.still.ids ∙ c.in_ok-number.ensures.ids) c.in-Ok.ensures.fenced)
 
 pub returns-in_ok-routed-in-Ok-clause-changed : goal.returns-in_ok-routed-in-Ok-clause-changed
 returns-in_ok-routed-in-Ok-clause-changed g c =
     let kinds : List Meaning = map (λ k. (goal.UnitKind-dyn g (k.vtable, k.value)).meaning k.value) c.args.machine.kinds.now.list.items in
     let state = c.args.state.now in
     subst (λ (t : List ℕ). IsChanged (IsRouteTurn kinds c.args.machine.net.now (state_view state) c.args.id.now c.args.agent c.args.line c.args.node) (state_view c.renew.new.state) t (g.D.Tables.log c.args.device.now) (g.D.Tables.log c.route.new.device)) (sym c.in_ok-routed-in-Ok.ensures)
-    (state_routed kinds c.args.machine.net.now state c.renew.new.state c.args.id.now c.args.agent c.args.line c.args.node c.in_ok-number.number c.in-Ok.vector c.route.new.book _ _ c.in_ok-number.ensures.number (c.in-Ok.ensures.turn (λ e. cc) (λ e. cc)) c.in-Ok.ensures.routed c.renew.ensures.still.book (c.renew.ensures.still.ids ∙ c.in_ok-number.ensures.ids) c.in-Ok.ensures.fenced)
+    (state_routed kinds c.args.machine.net.now state c.renew.new.state c.args.id.now c.args.agent c.args.line c.args.node c.in_ok-number.number c.in-Ok.vector c.route.new.book _ _ c.in_ok-number.ensures.number c.in-Ok.ensures.turn c.in-Ok.ensures.routed c.renew.ensures.still.book (c.renew.ensures.still.ids ∙ c.in_ok-number.ensures.ids) c.in-Ok.ensures.fenced)
 
 pub returns-in-Err-Device-clause-changed : goal.returns-in-Err-Device-clause-changed
 returns-in-Err-Device-clause-changed g c =
@@ -39,6 +40,13 @@ returns-in-Err-Device-clause-changed g c =
     let state = c.args.state.now in
     let logged = subst (λ n. IsRouteLogged c.args.machine.net.now kinds state.book.grants state.book.cleared n c.args.agent c.args.line c.args.node true (g.D.Tables.log c.args.device.now) (g.D.Tables.log c.route.new.device)) c.in_ok-number.ensures.number (c.route.ensures.stopped (c.in-Err-Device.is ∙ ap Err c.in-Err-Device.field-0-is)) in
     route_stopped kinds c.args.machine.net.now (state_view state) (state_view state) c.args.id.now c.args.agent c.args.line c.args.node (Err DeviceFault) _ _ refl logged
+
+pub route_refused-requires : goal.route_refused-requires
+route_refused-requires g c =
+    let no_device : c.in-Err.why ≢ Device = search rules in
+    let no_memory : c.in-Err.why ≢ OutOfMemory = search rules in
+    let said = route_said c.in-Err.why no_device no_memory in
+    subst (λ (o : Option RouteRefusal). IsSome o) (sym said.1) refl
 
 pub returns-in_ok-route_refused-in-Err : goal.returns-in_ok-route_refused-in-Err
 returns-in_ok-route_refused-in-Err g c =
@@ -55,12 +63,14 @@ returns-in_ok-route_refused-in-Err g c =
     let no_memory : c.in-Err.why ≢ OutOfMemory = search rules in
     let other : ◌≢◌ {A = Result ℕ RouteFault} (Err c.in-Err.why) (Err Device) = λ e. no_device (cc) in
     let same = c.in-Err.ensures.unchanged refl other in
-    let refused : IsRouteRefused net state.book.grants (id_number state.ids id) agent line node c.in-Err.why = subst (λ n. IsRouteRefused net state.book.grants n agent line node c.in-Err.why) number (c.in-Err.ensures.turn other (λ e. no_memory (cc))).0 in
+    let said = route_said c.in-Err.why no_device no_memory in
+    let refused : IsRouteRefused net state.book.grants (id_number state.ids id) agent line node said.0 = subst (λ n. IsRouteRefused net state.book.grants n agent line node said.0) number (route_refused_so net state.book.grants c.route.new.book.grants c.in_ok-number.number agent line node c.in-Err.why said.0 said.1 c.in-Err.ensures.turn) in
+    let text : c.in_ok-route_refused-in-Err.field-0 ≡ route_refused_text id said.0 = subst (λ (o : Option RouteRefusal). IfSome o (λ r. c.in_ok-route_refused-in-Err.field-0 ≡ route_refused_text id r)) said.1 c.in_ok-route_refused-in-Err.ensures in
     let after : Kept = record { book = c.route.new.book; ids = c.number.new.self; image = state.image; first = state.first; flats = c.keep_flats.new.flats } in
     let left : named s id ≡ state_view after = state_named after s id state.book same.0 refl refl c.in_ok-number.ensures.ids in
-    let turned = not_routed_turn kinds net s (state_view after) id agent line node c.in-Err.why (g.D.Tables.log c.args.device.now) (g.D.Tables.log c.route.new.device) refused (ap g.D.Tables.log same.1) left in
+    let turned = not_routed_turn kinds net s (state_view after) id agent line node said.0 (g.D.Tables.log c.args.device.now) (g.D.Tables.log c.route.new.device) refused (ap g.D.Tables.log same.1) left in
     record {
-      changed = subst (λ (t : List ℕ). IsChanged (IsRouteTurn kinds net s id agent line node) (state_view after) t (g.D.Tables.log c.args.device.now) (g.D.Tables.log c.route.new.device)) (sym c.in_ok-route_refused-in-Err.ensures) turned;
+      changed = subst (λ (t : List ℕ). IsChanged (IsRouteTurn kinds net s id agent line node) (state_view after) t (g.D.Tables.log c.args.device.now) (g.D.Tables.log c.route.new.device)) (sym text) turned;
       ready = record { machine = c.requires.ready.machine; state = state_same kinds net state after c.requires.ready.state same.0 refl c.requires.ready.state.first c.in_ok-keep_flats.ensures.flat; on_device = c.in-Err.ensures.on_device };
       halted = record { no_write = refl; counted = subst (λ d. IsCounted (g.D.Tables.faults c.args.device.now) (g.D.Tables.faults d) false) (sym same.1) (counted_none (g.D.Tables.faults c.args.device.now)) };
     }
