@@ -56,11 +56,6 @@ pub record IsFlat (net : List NodeDecl) (node : ℕ) (flat : Flat) : Type 0 wher
   pub within : IsTrue (ends_within (length net) flat.accepts)
   pub stops_within : IsTrue (ends_within (length net) flat.stops)
 
--- there is one for each node below this one
-pub record AreFlatsBelow (net : List NodeDecl) (node : ℕ) (flats : List Flat) : Type 0 where
-  pub every : length flats ≡ node
-  pub each : (m : ℕ) (flat : Flat) → slice_get flats m ≡ Some flat → IsFlat net m flat
-
 -- each address of a node goes on to that address of another, and is neither accepted nor a stop
 pub record IsLedTo (other : ℕ) (reach : Reach) : Type 0 where
   pub accepts : reach.done.accepts ≡ []
@@ -70,8 +65,3 @@ pub record IsLedTo (other : ℕ) (reach : Reach) : Type 0 where
   pub lo : row.span.lo ≡ 0
   pub hi : row.span.hi ≡ TOP
   pub ends : row.ends ≡ record { node = other; base = 0 } ∷ []
-
--- there is one for each node
-pub record AreFlats (net : List NodeDecl) (flats : List Flat) : Type 0 where
-  pub every : length flats ≡ length net
-  pub each : (node : ℕ) (flat : Flat) → slice_get flats node ≡ Some flat → IsFlat net node flat
