@@ -78,7 +78,7 @@ pub(crate) fn push_levels(
     levels: &[Rows],
 ) -> Result<(), OutOfMemory>
     ensures { OnOk result ((a : ℕ) (z : End) → segs_give segs.new.items a z
-        ≡ (segs_give segs.old.items a z || levels_lead (leads_by part nodes.now) levels.now a z)) }
+        ≡ (segs_give segs.old.items a z || levels_lead (leads_by part.entry nodes.now) levels.now a z)) }
 {
     for level in levels {
         push_rows(segs, nodes, part, level)?;
@@ -94,7 +94,7 @@ pub(crate) fn push_rows(
     rows: &Rows,
 ) -> Result<(), OutOfMemory>
     ensures adds { OnOk result ((a : ℕ) (z : End) → segs_give segs.new.items a z
-        ≡ (segs_give segs.old.items a z || rows_go (leads_by part nodes.now) rows.now a z)) }
+        ≡ (segs_give segs.old.items a z || rows_go (leads_by part.entry nodes.now) rows.now a z)) }
     // Each name that the rows give is at or below the last address.
     ensures fit { OnOk result (All EndsFit rows.now) }
 {
@@ -114,7 +114,7 @@ fn push_row(
 ) -> Result<(), OutOfMemory>
     requires fit { EndsFit row.now }
     ensures { OnOk result ((a : ℕ) (z : End) → segs_give segs.new.items a z
-        ≡ (segs_give segs.old.items a z || row_goes (leads_by part nodes.now) row.now a z)) }
+        ≡ (segs_give segs.old.items a z || row_goes (leads_by part.entry nodes.now) row.now a z)) }
 {
     let span = row.span();
     let ends = row.ends();
@@ -137,7 +137,7 @@ pub(crate) fn push_segs(
     given: &[Seg],
 ) -> Result<(), OutOfMemory>
     ensures { OnOk result ((a : ℕ) (z : End) → segs_give segs.new.items a z
-        ≡ (segs_give segs.old.items a z || segs_lead (leads_by part nodes.now) given.now a z)) }
+        ≡ (segs_give segs.old.items a z || segs_lead (leads_by part.entry nodes.now) given.now a z)) }
 {
     for seg in given {
         push(segs, nodes, part, *seg)?;
@@ -154,7 +154,7 @@ pub(crate) fn push(
     seg: Seg,
 ) -> Result<(), OutOfMemory>
     ensures { OnOk result ((a : ℕ) (z : End) → segs_give segs.new.items a z
-        ≡ (segs_give segs.old.items a z || seg_leads (leads_by part nodes.now) seg a z)) }
+        ≡ (segs_give segs.old.items a z || seg_leads (leads_by part.entry nodes.now) seg a z)) }
 {
     match nodes.get(usize::from(seg.node)) {
         Some(reach) => push_by(segs, reach, part, seg),
@@ -170,7 +170,7 @@ fn push_by(
     seg: Seg,
 ) -> Result<(), OutOfMemory>
     ensures { OnOk result ((a : ℕ) (z : End) → segs_give segs.new.items a z
-        ≡ (segs_give segs.old.items a z || seg_leads (reach_leads part reach.now) seg a z)) }
+        ≡ (segs_give segs.old.items a z || seg_leads (reach_leads part.entry reach.now) seg a z)) }
 {
     match part {
         Part::Accepts => follow(segs, seg, &reach.done.accepts),
