@@ -1,11 +1,12 @@
 -- Which addresses of a node come to one of so many names, as the segments that are found tell, and what they show.
-use Rattle.std.proofs.Common.{◌≡◌, ℕ, ◌+◌, ◌-◌, ◌<◌, ◌≤◌, ◌↔◌, inl, inr, Bool, true, ◌&&◌, ◌||◌, nat_eq, List, [], ◌∷◌, length, slice_get, Option, Some, None, refl, sym, ap, ◌∙◌, subst, arith, eqb-true, eq-eqb}
+use Rattle.std.proofs.Common.{◌≡◌, ℕ, ◌+◌, ◌-◌, ◌<◌, ◌≤◌, ◌↔◌, inl, inr, Bool, true, false, ◌&&◌, ◌||◌, nat_eq, List, [], ◌∷◌, length, slice_get, Option, Some, None, refl, sym, ap, ◌∙◌, subst, arith, eqb-true, eq-eqb}
 use Rattle.std.specs.List.{list_any}
 use Rattle.std.proofs.lemmas.Bool.{or_cases, and_parts, and_from, false≢true}
 use Rattle.std.proofs.lemmas.Option.{slice_get-get_or}
 use Rattle.dn_interval.specs.declared.row.End.{End}
 use Rattle.dn_interval.specs.declared.row.Row.{Row}
 use Rattle.dn_interval.specs.declared.row.Seg.{Seg}
+use Rattle.dn_interval.specs.declared.span.Span.{Span}
 use Rattle.dn_interval.specs.declared.span.TheConstants.{TOP}
 use Rattle.dn_interval.specs.Rows.{AreNormal, GivenBy, SegmentsGive}
 use Rattle.dn_interval.specs.Spans.{in_span}
@@ -121,22 +122,33 @@ module _ (net : List NodeDecl) (nodes : List Reach) (are : AreReaches net 1 node
 
     -- so the segments that levels come to by them lie at the addresses that meet the buffer
     pub met : (segs : List Seg) (a : ℕ) → a ≤ TOP → ((y : End) → segs_give segs a y ≡ levels_lead toward levels a y) → (has_one segs a ≡ true) ↔ MeetsFrom net node first size a
-    met segs a low same = (to, from)
+    met segs a low same = (into, back)
       where
-        to : has_one segs a ≡ true → MeetsFrom net node first size a
-        to e =
+        into : has_one segs a ≡ true → MeetsFrom net node first size a
+        into e =
             let s = one_named segs a e in
             let r = levels_to toward a s.0 levels (sym (same s.0) ∙ s.1) in
             let t = toward_to r.0.node r.0.base s.0 r.2 in
             let by : ReachesFrom net node a r.0 = is.reached a r.0 low r.1 in
             (t.0, t.1, (t.2, (by.0, by.1, subst (IsChain (Step net) by.0 (record { node = node; addr = a })) t.3 by.2)))
 
-        from : MeetsFrom net node first size a → has_one segs a ≡ true
-        from h =
+        back : MeetsFrom net node first size a → has_one segs a ≡ true
+        back h =
             let z : End = record { node = first.node; base = first.base + h.0 } in
             named_one segs a z (same z ∙ levels_from toward a z levels z (is.accepted a z low h.2) (toward_from h.0 h.1 h.2.0))
 
 -- what addresses show, as themselves, that lie in segments
+
+pub still_shows : (nodes : List Reach) (levels : List (List Row)) (s : Seg) (span : Span) (a : ℕ) (z : End) → s.span ≡ span → s.base ≡ span.lo → (in_span s.span a && levels_show nodes levels (s.base + (a - s.span.lo)) z) ≡ (in_span span a && levels_show nodes levels a z)
+still_shows nodes levels s span a z same base = ap (λ (t : Span). in_span t a && levels_show nodes levels (s.base + (a - t.lo)) z) same ∙ by (in_span span a) refl
+  where
+    by : (b : Bool) → in_span span a ≡ b → (b && levels_show nodes levels (s.base + (a - span.lo)) z) ≡ (b && levels_show nodes levels a z)
+    by false e = refl
+    by true e =
+        let l : span.lo ≤ a = lo_of span a e in
+        let f : s.base ≡ span.lo = base in
+        let n : s.base + (a - span.lo) ≡ a = omega arith in
+        ap (λ m. levels_show nodes levels m z) n
 
 spans_parts : (nodes : List Reach) (levels : List (List Row)) (segs : List Seg) (a : ℕ) (z : End) → spans_show nodes levels segs a z ≡ true → (has_one segs a ≡ true) × (levels_show nodes levels a z ≡ true)
 spans_parts nodes levels [] a z e = absurd (false≢true e)

@@ -1,14 +1,17 @@
 -- What a node reaches, level by level: the names of a level are those that are reached in so many steps.
-use Rattle.std.proofs.Common.{◌≡◌, ℕ, zero, suc, ◌+◌, ◌-◌, ◌<◌, ◌≤◌, ◌⊎◌, ◌↔◌, inl, inr, Bool, true, ◌&&◌, ◌||◌, nat_lt, List, [], ◌∷◌, length, slice_get, refl, sym, ap, ◌∙◌, subst, arith, lt-ltb}
+use Rattle.std.proofs.Common.{◌≡◌, ℕ, zero, suc, ◌+◌, ◌-◌, ◌<◌, ◌≤◌, ◌⊎◌, ◌↔◌, inl, inr, Bool, true, false, ◌&&◌, ◌||◌, nat_eq, nat_lt, List, [], ◌∷◌, ◌++◌, length, slice_get, refl, sym, ap, ◌∙◌, subst, arith, lt-ltb}
 use Rattle.std.proofs.lemmas.Bool.{or_cases, and_parts, and_from, false≢true}
+use Rattle.std.proofs.lemmas.List.Folds.{list_any-append}
 use Rattle.dn_interval.specs.declared.row.End.{End}
 use Rattle.dn_interval.specs.declared.row.Row.{Row}
+use Rattle.dn_interval.specs.declared.row.Seg.{Seg}
 use Rattle.dn_interval.specs.declared.span.TheConstants.{TOP}
-use Rattle.dn_interval.specs.Rows.{AreNormal}
-use Rattle.dn_interval.specs.Strands.{rows_give}
+use Rattle.dn_interval.specs.Rows.{AreNormal, SegmentsGive}
+use Rattle.dn_interval.specs.Strands.{rows_give, seg_gives, segs_give}
 use Rattle.dn_interval.specs.Onward.{rows_go, rows_of}
 use Rattle.dn_interval.proofs.Goes.{rows_go_on}
-use Rattle.dn_interval.proofs.Membership.{or_left, or_right}
+use Rattle.dn_interval.proofs.Membership.{in_from, or_left, or_right, same_bool}
+use Rattle.dn_interval.proofs.Names.{rows_from, rows_to, segs_from, segs_to}
 use Rattle.dn_net.specs.declared.node.Name.{Name}
 use Rattle.dn_net.specs.declared.node.NodeDecl.{NodeDecl}
 use Rattle.dn_net.specs.Chain.{Ends, IsChain}
@@ -23,7 +26,9 @@ use Rattle.dn_flat.specs.Stages.{AreReaches, EndsBefore, GoesIn, ReachesBefore}
 use Rattle.dn_flat.specs.Views.{name_of_end, ResolvesFrom, StopsFrom}
 use Rattle.dn_flat.proofs.Bounds.{limit_is}
 use Rattle.dn_flat.proofs.Firsts.{same_from, same_means}
+use Rattle.dn_flat.proofs.Lists.{or_false}
 use Rattle.dn_flat.proofs.Shown.{accepting_from}
+use Rattle.dn_flat.proofs.Sums.{normal_of}
 use Rattle.dn_flat.proofs.There.{names_are_there, stop_is_there}
 
 some_rows : (rows : List Row) (b : ℕ) (z : End) → rows_give rows b z ≡ true → has_rows rows ≡ true
@@ -43,6 +48,27 @@ none_reached net node = record {
   reached = λ a y low e. absurd (false≢true e);
   accepted = λ a y low h. let l : h.1.0 < 0 = h.1.1 in absurd (omega arith);
 }
+
+-- by no step an address of the node reaches itself alone
+
+whole_gives : (node : ℕ) (s : Seg) (a : ℕ) (y : End) → s.node ≡ node → s.base ≡ 0 → s.span.lo ≡ 0 → s.span.hi ≡ TOP → a ≤ TOP → segs_give (s ∷ []) a y ≡ is_same node a y
+whole_gives node s a y at base lo hi low =
+    let there : s.base + (a - s.span.lo) ≡ a = omega arith in
+    or_false (seg_gives s a y)
+    ∙ (ap (λ t. t && (nat_eq s.node y.node && nat_eq (s.base + (a - s.span.lo)) y.base)) (in_from s.span a (omega arith) (omega arith))
+    ∙ (ap (λ n. nat_eq n y.node && nat_eq (s.base + (a - s.span.lo)) y.base) at
+    ∙ ap (λ n. nat_eq node y.node && nat_eq n y.base) there))
+
+pub begun : (net : List NodeDecl) (node : ℕ) (s : Seg) (rows : List Row) → s.node ≡ node → s.base ≡ 0 → s.span.lo ≡ 0 → s.span.hi ≡ TOP → AreNormal (SegmentsGive (s ∷ [])) rows → AreNormal (GoesIn net 0 node) rows
+begun net node s rows at base lo hi n = normal_of (GoesIn net 0 node) (s ∷ []) rows (λ a y low.
+    let same = whole_gives node s a y at base lo hi low in
+    ((λ e. same_means node a y (sym same ∙ e)), (λ c. same ∙ same_from node a y c))) n
+
+pub none_before : (net : List NodeDecl) (passes : Name → Bool) (node : ℕ) (segs : List Seg) (a : ℕ) (y : End) → segs ≡ [] → (segs_give segs a y ≡ true) ↔ EndsBefore net passes 0 node a y
+none_before net passes node segs a y none = (
+  (λ e. absurd (false≢true (sym (ap (λ s. segs_give s a y) none) ∙ e))),
+  (λ h. let l : h.1.0 < 0 = h.1.1 in absurd (omega arith)),
+)
 
 -- one level more
 module _ (net : List NodeDecl) (nodes : List Reach) (are : AreReaches net 1 nodes) (j node : ℕ) (rows : List Row) (normal : AreNormal (GoesIn net j node) rows) (a : ℕ) (y : End) (low : a ≤ TOP) (old new : Bool) (is : new ≡ (old || rows_go (leads_by Stays nodes) rows a y)) where
@@ -73,11 +99,29 @@ module _ (net : List NodeDecl) (nodes : List Reach) (are : AreReaches net 1 node
       by (inl l) = or_left old (rows_go (leads_by Stays nodes) rows a y) (was (h.0, (h.1.0, l, h.1.2)))
       by (inr l) = let m : h.1.0 < j + 1 = h.1.1 in or_right old (rows_go (leads_by Stays nodes) rows a y) (last (omega arith))
 
-pub more_reached : (net : List NodeDecl) (nodes : List Reach) → AreReaches net 1 nodes → (j node : ℕ) (rows : List Row) → AreNormal (GoesIn net j node) rows → (old new : List (List Row)) → ((a : ℕ) (y : End) → levels_give new a y ≡ (levels_give old a y || rows_go (leads_by Stays nodes) rows a y)) → AreReached net j node old → AreReached net (j + 1) node new
+pub more_reached : (net : List NodeDecl) (nodes : List Reach) → AreReaches net 1 nodes → (j node : ℕ) (rows : List Row) → AreNormal (GoesIn net j node) rows → (old new : List (List Row)) → ((a : ℕ) (y : End) → a ≤ TOP → levels_give new a y ≡ (levels_give old a y || rows_go (leads_by Stays nodes) rows a y)) → AreReached net j node old → AreReached net (j + 1) node new
 more_reached net nodes are j node rows normal old new is was = record {
-  reached = λ a y low. level_to net nodes are j node rows normal a y low (levels_give old a y) (levels_give new a y) (is a y) (was.reached a y low);
-  accepted = λ a y low. level_from net nodes are j node rows normal a y low (levels_give old a y) (levels_give new a y) (is a y) (was.accepted a y low);
+  reached = λ a y low. level_to net nodes are j node rows normal a y low (levels_give old a y) (levels_give new a y) (is a y low) (was.reached a y low);
+  accepted = λ a y low. level_from net nodes are j node rows normal a y low (levels_give old a y) (levels_give new a y) (is a y low) (was.accepted a y low);
 }
+
+-- one more level in the list, or none where no segment was found
+
+same_given : (segs : List Seg) (rows : List Row) → AreNormal (SegmentsGive segs) rows → (a : ℕ) (z : End) → a ≤ TOP → rows_give rows a z ≡ segs_give segs a z
+same_given segs rows n a z low = same_bool (rows_give rows a z) (segs_give segs a z)
+    (λ e. segs_from segs a z ((n.exact a z low).1 (rows_to rows a z e)))
+    (λ e. rows_from rows a z ((n.exact a z low).0 (segs_to segs a z e)))
+
+pub one_more : (old new : List (List Row)) (level : List Row) (segs : List Seg) (goes : Bool) (a : ℕ) (z : End) → a ≤ TOP → new ≡ old ++ level ∷ [] → AreNormal (SegmentsGive segs) level → segs_give segs a z ≡ goes → levels_give new a z ≡ (levels_give old a z || goes)
+one_more old new level segs goes a z low e n g =
+    ap (λ ls. levels_give ls a z) e
+    ∙ list_any-append (λ rows. rows_give rows a z) old (level ∷ [])
+    ∙ ap (λ t. levels_give old a z || t) (or_false (rows_give level a z) ∙ (same_given segs level n a z low ∙ g))
+
+pub no_more : (levels : List (List Row)) (segs : List Seg) (goes : Bool) (a : ℕ) (z : End) → segs ≡ [] → segs_give segs a z ≡ goes → levels_give levels a z ≡ (levels_give levels a z || goes)
+no_more levels segs goes a z e g =
+    let none : goes ≡ false = sym g ∙ ap (λ s. segs_give s a z) e in
+    sym (ap (λ t. levels_give levels a z || t) none ∙ or_false (levels_give levels a z))
 
 -- where fewer than so many steps are all, the levels so far are the levels of the node
 pub all_levels : (net : List NodeDecl) (k node : ℕ) (levels : Levels) → k ≤ 66 → ((passes : Name → Bool) (a : ℕ) (y : End) → a ≤ TOP → EndsBefore net passes k node a y ↔ Ends (steps net) passes step_limit (record { node = node; addr = a }) (name_of_end y)) → AreReached net k node levels.reached → AreNormal (StopsFrom net node) levels.stops → IsLevels net node levels

@@ -177,20 +177,32 @@ fn meeting_segs(
         → IsTrue (list_any (λ (s : Seg). in_span s.span a) segs.items) ↔ MeetsFrom net node first size a) }
 {
     let mut segs = Vec::new(alloc);
-    let span = Span {
-        lo: first.base,
-        hi: first.base + (size - 1),
-    };
-    let buffer = Seg {
-        span,
-        node: first.node,
-        base: first.base,
-    };
+    let buffer = from_on(first, size);
     push(&mut segs, nodes, Part::Accepts, buffer)?;
     let rows = Rows::normal(alloc, &segs)?;
     segs.clear();
     push_levels(&mut segs, nodes, Part::Toward(first.node, &rows), levels)?;
     Ok(segs)
+}
+
+/// So many names from one on, each as itself.
+fn from_on(first: End, size: u64) -> Seg
+    requires some { 1 ≤ size }
+    requires within { first.base + size ≤ TOP + 1 }
+    ensures node { result.node ≡ first.node }
+    ensures base { result.base ≡ first.base }
+    ensures lo { result.span.lo ≡ first.base }
+    ensures hi { result.span.hi + 1 ≡ first.base + size }
+{
+    let span = Span {
+        lo: first.base,
+        hi: first.base + (size - 1),
+    };
+    Seg {
+        span,
+        node: first.node,
+        base: first.base,
+    }
 }
 
 /// The accepted names to which the addresses of segments come, each as itself in a node, by the levels of the node.

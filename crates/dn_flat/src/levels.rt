@@ -1,7 +1,8 @@
 //! What a node reaches, level by level.
 
-ghost use Rattle.std.specs.Prelude.{◌≡◌, ℕ, ◌+◌, ◌-◌, ◌<◌, ◌&&◌, ◌||◌, length, IfOk, OnOk, IsTrue};
+ghost use Rattle.std.specs.Prelude.{◌≡◌, ℕ, ◌+◌, ◌-◌, ◌<◌, ◌≤◌, ◌&&◌, ◌||◌, length, IfOk, OnOk, IsTrue};
 ghost use Rattle.dn_interval.specs.declared.row.End.{End};
+ghost use Rattle.dn_interval.specs.declared.span.TheConstants.{TOP};
 ghost use Rattle.dn_interval.specs.Terms.{AreNormal, in_span, rows_go, segs_give};
 ghost use Rattle.dn_net.specs.Terms.{KeepsNodeRules};
 ghost use Rattle.dn_flat.specs.Terms.{AreReaches, IsLevels, leads_by, levels_give, levels_show};
@@ -67,7 +68,7 @@ fn push_level(
     nodes: &[Reach],
     rows: &Rows,
 ) -> Result<(), OutOfMemory>
-    ensures { OnOk result ((a : ℕ) (z : End) → levels_give levels.new a z
+    ensures { OnOk result ((a : ℕ) (z : End) → a ≤ TOP → levels_give levels.new a z
         ≡ (levels_give levels.old a z || rows_go (leads_by Stays nodes.now) rows.now a z)) }
 {
     segs.clear();

@@ -104,8 +104,13 @@ fn pass_slot(
     match record_for(course, seg.node, slot as u32) {
         None => Ok(()),
         Some(record) => {
-            let sent = sent_part(unit, record, seg, slot);
-            push_sent(out, mid, course.system.flats, part, sent)
+            push_sent(
+                out,
+                mid,
+                course.system.flats,
+                part,
+                sent_part(unit, record, seg, slot),
+            )
         }
     }
 }
