@@ -3,8 +3,7 @@ use Rattle.std.proofs.Common.{◌≡◌, ◌∙◌, List, false, Result, Ok, Err
 use Rattle.dn_net.specs.declared.node.NodeDecl.{NodeDecl}
 use Rattle.dn_kind.specs.Kind.{Meaning}
 use Rattle.dn_tables.specs.declared.table.NodeTable.{NodeTable}
-use Rattle.dn_tables.specs.Set.{FitsNet}
-use Rattle.dn_book.specs.Sets.{KeepsFit}
+use Rattle.dn_tables.specs.Set.{FitsNet, KeepsFit}
 
 -- what holds where a call succeeded, by the test
 pub ok_by_err : {A E : Type 0} (r : Result A E) (P : Type 0) → OnOk r P → is_err r ≡ false → P

@@ -9,10 +9,10 @@ use Rattle.dn_kind.specs.Kind.{Meaning}
 use Rattle.dn_kind.specs.Tables.{slot_words}
 use Rattle.dn_tables.specs.declared.table.NodeTable.{NodeTable}
 use Rattle.dn_tables.specs.declared.table.SlotUse.{SlotUse}
-use Rattle.dn_tables.specs.Set.{IsEmpty, fits_by, packed_for, packed_in, put_over, unit_in, unit_of_table, unused, use_in, uses_of_table, width_in, width_of_table, with_slot, with_table, with_words, words_in, words_of_table}
+use Rattle.dn_tables.specs.Set.{IsEmpty, KeepsFit, fits_by, packed_for, packed_in, put_over, unit_in, unit_of_table, unused, use_in, uses_of_table, width_in, width_of_table, with_slot, with_table, with_words, words_in, words_of_table}
 use Rattle.dn_tables.specs.Writes.{clear_writes, clears_from, events_of, put_writes, writes_from}
 use Rattle.dn_tables.proofs.Kept.{all_changed, map_changed}
-use Rattle.dn_book.specs.Sets.{KeepsFit, after_clears, after_puts, clear_log, is_used_by, put_log}
+use Rattle.dn_book.specs.Sets.{after_clears, after_puts, clear_log, is_used_by, put_log}
 use Rattle.dn_book.specs.Writes.{Put}
 use Rattle.dn_book.proofs.Facts.{fit_none, fit_then}
 

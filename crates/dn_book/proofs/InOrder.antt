@@ -1,9 +1,11 @@
 -- The hops of a grant in either order, and what is known as the records of one after the other are put.
-use Rattle.std.proofs.Common.{◌≡◌, ◌≢◌, ℕ, zero, suc, ◌+◌, ◌-◌, ◌<◌, ◌≤◌, ◌⊎◌, inl, inr, false, List, [], ◌∷◌, ◌++◌, length, take, drop, reverse, slice_get, get_or, Option, Some, None, IsTrue, refl, sym, ap, ◌∙◌, subst, arith, append_assoc, append-nil}
+use Rattle.std.proofs.Common.{◌≡◌, ◌≢◌, ℕ, zero, suc, ◌+◌, ◌-◌, ◌<◌, ◌≤◌, ◌⊎◌, inl, inr, false, List, [], ◌∷◌, ◌++◌, length, map, take, drop, reverse, slice_get, get_or, Option, Some, None, IsTrue, refl, sym, ap, ◌∙◌, subst, arith, append_assoc, append-nil}
 use Rattle.std.specs.List.{All, AllPairs}
 use Rattle.std.proofs.lemmas.List.{length-reverse, take_more, take_all, take-append-drop, get_or-reverse}
 use Rattle.std.proofs.lemmas.Option.{same_Some, get_or_from_slice_get, slice_get-get_or, slice_get_within}
+use Rattle.dn_base.specs.Device.{UnitSize}
 use Rattle.dn_base.specs.declared.device.TableEvent.{TableEvent}
+use Rattle.dn_base.specs.declared.device.UnitWords.{UnitWords}
 use Rattle.dn_net.specs.declared.node.NodeDecl.{NodeDecl}
 use Rattle.dn_net.specs.declared.node.Unit.{Unit as UnitPart}
 use Rattle.dn_net.specs.Chain.{Member}
@@ -15,8 +17,10 @@ use Rattle.dn_kind.specs.Units.{KeepsUnitShape}
 use Rattle.dn_tables.specs.declared.placement.Hop.{Hop}
 use Rattle.dn_tables.specs.declared.table.NodeTable.{NodeTable}
 use Rattle.dn_tables.specs.Set.{FitsNet, IsSet}
+use Rattle.dn_tables.proofs.Slots.{all_of_map}
 use Rattle.dn_placement.specs.Records.{hop_rights, first_slot}
 use Rattle.dn_book.specs.declared.grant.Grant.{Grant}
+use Rattle.dn_book.specs.Puts.{MayPutGrant}
 use Rattle.dn_book.specs.Sets.{AreFit, AreOpen, ArePut}
 use Rattle.dn_book.specs.Writes.{Put, grant_slots, hop_slots, hop_slots_by, hops_slots, joined_slots}
 use Rattle.dn_book.proofs.Ranges.{FitsPut, HopPuts, of_hop, hop_fits_put, open_after, slot_count}
@@ -161,6 +165,18 @@ pub record GrantPuts (kinds : List Meaning) (net : List NodeDecl) (set : List No
   pub hops : AreFit net g.request.size g.placement.hops
   pub rights : IsTrue (are_rights g.request.rights)
   pub opened : AreOpen set (joined_slots (grant_slots net g))
+
+-- so it is where they may be put
+pub grant_puts : {K : Type 0} (means : K → Meaning) (items : List K) (net : List NodeDecl) (set : List NodeTable) (g : Grant) (sizes : List UnitSize) (told : Option (List UnitWords)) → IsSet set → MayPutGrant means items net g set sizes told → GrantPuts (map means items) net set g
+grant_puts means items net set g sizes told is_set p = record {
+  lawful = all_of_map means items p.lawful;
+  is_set = is_set;
+  fits = p.fits;
+  shaped = p.shaped;
+  hops = p.hops;
+  rights = p.rights;
+  opened = p.opened;
+}
 
 -- and so of each of its hops
 pub hop_of_grant : (kinds : List Meaning) (net : List NodeDecl) (set : List NodeTable) (g : Grant) → GrantPuts kinds net set g → (j : ℕ) (hop : Hop) → slice_get g.placement.hops j ≡ Some hop → (u : UnitPart) × (unit_at net hop.unit ≡ Some u) × HopPuts kinds set u g.request.size (hop_rights g.request.rights g.placement.own j) hop

@@ -6,9 +6,9 @@ use Rattle.dn_base.specs.declared.device.TableEvent.{TableEvent}
 use Rattle.dn_base.specs.declared.device.UnitWords.{UnitWords}
 use Rattle.dn_kind.specs.Kind.{Meaning}
 use Rattle.dn_tables.specs.declared.table.NodeTable.{NodeTable}
-use Rattle.dn_tables.specs.Set.{packed_in, with_slot, width_in}
+use Rattle.dn_tables.specs.Set.{KeepsFit, packed_in, with_slot, width_in}
 use Rattle.dn_tables.specs.Writes.{AreMade, clear_writes, events_of, put_writes}
-use Rattle.dn_book.specs.Sets.{AreCleared, ArePut, KeepsFit, after_clears, after_puts, clear_log, is_used_by, put_log}
+use Rattle.dn_book.specs.Sets.{AreCleared, ArePut, after_clears, after_puts, clear_log, is_used_by, put_log}
 use Rattle.dn_book.specs.Writes.{AreAdded, Put}
 use Rattle.dn_book.proofs.Added.{added_made, added_none, added_one, added_passed, added_stop, added_then}
 use Rattle.dn_book.proofs.Facts.{fit_none, fit_then}

@@ -2,6 +2,7 @@ pub mod Book
 pub mod Faults
 pub mod Kept
 pub mod Laws
+pub mod Puts
 pub mod Serials
 pub mod Sets
 pub mod State

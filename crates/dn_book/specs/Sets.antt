@@ -13,7 +13,7 @@ use Rattle.dn_kind.specs.Rights.{both_rights}
 use Rattle.dn_tables.specs.declared.placement.Hop.{Hop}
 use Rattle.dn_tables.specs.declared.table.NodeTable.{NodeTable}
 use Rattle.dn_tables.specs.declared.table.SlotUse.{SlotUse}
-use Rattle.dn_tables.specs.Set.{IsEmpty, fits_kinds, has_slot, packed_in, units_of, use_in, width_in, with_slot, words_of, tables_of_set}
+use Rattle.dn_tables.specs.Set.{IsEmpty, KeepsFit, has_slot, packed_in, use_in, width_in, with_slot, words_of, tables_of_set}
 use Rattle.dn_tables.specs.Writes.{clear_writes, events_of, put_writes}
 use Rattle.dn_book.specs.declared.grant.Grant.{Grant}
 use Rattle.dn_book.specs.Book.{is_taken}
@@ -47,11 +47,6 @@ is_used_by uses set s = (use_in set s.unit s.slot).uses == uses
 -- a record that is put into a slot of a unit
 abbrev pub put_at : ℕ → ℕ → Record → Put
 put_at unit slot r = record { unit = unit; slot = slot; holds = r }
-
--- the second set has the units of the first, and fits the kinds that the first fits
-pub record KeepsFit (set set' : List NodeTable) : Type 0 where
-  pub units : units_of set' ≡ units_of set
-  pub wide : (kinds : List Meaning) → IsTrue (fits_kinds kinds set) → IsTrue (fits_kinds kinds set')
 
 -- the set after records were put, one after the other
 abbrev pub after_puts : List Meaning → List NodeTable → List Put → List NodeTable

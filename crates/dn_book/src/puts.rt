@@ -1,14 +1,11 @@
 //! Putting the records of a grant: from memory's end to the agent's, and in each hop by ascending slot.
 
-ghost use Rattle.std.specs.Prelude.{◌≡◌, ◌<◌, ◌++◌, [], ◌∷◌, filter, map, reverse, Some, IsTrue, OnOk, is_err};
-ghost use Rattle.std.specs.List.{All};
+ghost use Rattle.std.specs.Prelude.{◌≡◌, ◌<◌, ◌++◌, [], ◌∷◌, filter, map, reverse, Some, OnOk, is_err};
 ghost use Rattle.dn_base.specs.Terms.{IsCounted};
-ghost use Rattle.dn_net.specs.declared.node.Unit.{Unit as UnitPart};
 ghost use Rattle.dn_net.specs.Terms.{unit_at};
-ghost use Rattle.dn_kind.specs.Terms.{IsLawful, KeepsUnitShape, are_rights, is_shaped};
 ghost use Rattle.dn_placement.specs.Terms.{hop_rights};
-ghost use Rattle.dn_tables.specs.Terms.{FitsNet, IsOnDevice, IsPackableIn, fits_kinds, has_slot, unit_in};
-ghost use Rattle.dn_book.specs.Terms.{AreAdded, AreFit, AreOpen, ArePut, FitsUnit, KeepsFit, after_puts, fence_events, grant_slots, hop_slots, hop_slots_by, is_used_by, joined_slots, put_at, put_log};
+ghost use Rattle.dn_tables.specs.Terms.{IsOnDevice, KeepsFit};
+ghost use Rattle.dn_book.specs.Terms.{AreAdded, ArePut, MayPut, MayPutGrant, MayPutHop, after_puts, fence_events, grant_slots, hop_slots, hop_slots_by, is_used_by, joined_slots, put_at, put_log};
 
 use crate::grant::Grant;
 use crate::slots::{end_slot, first_slot, slot_record};
@@ -43,15 +40,8 @@ pub(crate) fn write_grant<D: Tables>(
     is_due: bool,
     device: &mut D,
 ) -> Result<(), DeviceFault>
-    requires lawful { All (λ k. IsLawful (meaning (k.vtable, k.value))) kinds.now.list.items }
-    requires shaped { KeepsUnitShape
-        (map (λ k. meaning (k.vtable, k.value)) kinds.now.list.items) net.now }
-    requires fits { FitsNet net.now
-        (map (λ k. meaning (k.vtable, k.value)) kinds.now.list.items) tables.old }
-    requires on_device { IsOnDevice tables.old (D.units device.old) (D.words device.old) }
-    requires hops { AreFit net.now grant.now.request.size grant.now.placement.hops }
-    requires rights { IsTrue (are_rights grant.now.request.rights) }
-    requires open { AreOpen tables.old (joined_slots (grant_slots net.now grant.now)) }
+    requires { MayPutGrant (λ k. meaning (k.vtable, k.value)) kinds.now.list.items net.now
+        grant.now tables.old (D.units device.old) (D.words device.old) }
     ensures done { OnOk result (tables.new ≡ after_puts
         (map (λ k. meaning (k.vtable, k.value)) kinds.now.list.items)
         tables.old (filter (is_used_by 0 tables.old) (joined_slots (reverse (grant_slots net.now grant.now))))) }
@@ -97,15 +87,8 @@ fn put_grant<D: Tables>(
     grant: &Grant,
     device: &mut D,
 ) -> Result<(), DeviceFault>
-    requires lawful { All (λ k. IsLawful (meaning (k.vtable, k.value))) kinds.now.list.items }
-    requires shaped { KeepsUnitShape
-        (map (λ k. meaning (k.vtable, k.value)) kinds.now.list.items) net.now }
-    requires fits { FitsNet net.now
-        (map (λ k. meaning (k.vtable, k.value)) kinds.now.list.items) tables.old }
-    requires on_device { IsOnDevice tables.old (D.units device.old) (D.words device.old) }
-    requires hops { AreFit net.now grant.now.request.size grant.now.placement.hops }
-    requires rights { IsTrue (are_rights grant.now.request.rights) }
-    requires open { AreOpen tables.old (joined_slots (grant_slots net.now grant.now)) }
+    requires { MayPutGrant (λ k. meaning (k.vtable, k.value)) kinds.now.list.items net.now
+        grant.now tables.old (D.units device.old) (D.words device.old) }
     ensures put { ArePut (map (λ k. meaning (k.vtable, k.value)) kinds.now.list.items)
         (joined_slots (reverse (grant_slots net.now grant.now))) (is_err result)
         (D.log device.old) (D.log device.new) tables.old tables.new }
@@ -141,16 +124,9 @@ fn put_hop<D: Tables>(
     hop: &Hop,
     device: &mut D,
 ) -> Result<(), DeviceFault>
-    requires lawful { All (λ k. IsLawful (meaning (k.vtable, k.value))) kinds.now.list.items }
-    requires shaped { KeepsUnitShape
-        (map (λ k. meaning (k.vtable, k.value)) kinds.now.list.items) net.now }
-    requires fits { FitsNet net.now
-        (map (λ k. meaning (k.vtable, k.value)) kinds.now.list.items) tables.old }
-    requires on_device { IsOnDevice tables.old (D.units device.old) (D.words device.old) }
-    requires there { (u : UnitPart) × (unit_at net.now hop.now.unit ≡ Some u) ×
-        FitsUnit u size hop.now }
-    requires rights { IsTrue (are_rights rights) }
-    requires open { AreOpen tables.old (hop_slots net.now size rights hop.now) }
+    requires { MayPutHop (unit_at net.now hop.now.unit) size rights hop.now
+        (λ k. meaning (k.vtable, k.value)) kinds.now.list.items
+        tables.old (D.units device.old) (D.words device.old) }
     ensures put { ArePut (map (λ k. meaning (k.vtable, k.value)) kinds.now.list.items)
         (hop_slots net.now size rights hop.now) (is_err result)
         (D.log device.old) (D.log device.new) tables.old tables.new }
@@ -173,16 +149,9 @@ fn put_slots<D: Tables>(
     hop: &Hop,
     device: &mut D,
 ) -> Result<(), DeviceFault>
-    requires lawful { All (λ k. IsLawful (meaning (k.vtable, k.value))) kinds.now.list.items }
-    requires fits { IsTrue (fits_kinds
-        (map (λ k. meaning (k.vtable, k.value)) kinds.now.list.items) tables.old) }
-    requires on_device { IsOnDevice tables.old (D.units device.old) (D.words device.old) }
-    requires shaped { IsTrue (is_shaped
-        (map (λ k. meaning (k.vtable, k.value)) kinds.now.list.items) unit.now) }
-    requires is_unit { unit_in tables.old hop.now.unit ≡ Some unit.now }
-    requires there { FitsUnit unit.now size hop.now }
-    requires rights { IsTrue (are_rights rights) }
-    requires open { AreOpen tables.old (hop_slots_by (Some unit.now) size rights hop.now) }
+    requires { MayPutHop (Some unit.now) size rights hop.now
+        (λ k. meaning (k.vtable, k.value)) kinds.now.list.items
+        tables.old (D.units device.old) (D.words device.old) }
     ensures put { ArePut (map (λ k. meaning (k.vtable, k.value)) kinds.now.list.items)
         (hop_slots_by (Some unit.now) size rights hop.now) (is_err result)
         (D.log device.old) (D.log device.new) tables.old tables.new }
@@ -206,14 +175,9 @@ fn put_slot<D: Tables>(
     holds: Record,
     device: &mut D,
 ) -> Result<(), DeviceFault>
-    requires lawful { All (λ k. IsLawful (meaning (k.vtable, k.value))) kinds.now.list.items }
-    requires fits { IsTrue (fits_kinds
-        (map (λ k. meaning (k.vtable, k.value)) kinds.now.list.items) tables.old) }
-    requires on_device { IsOnDevice tables.old (D.units device.old) (D.words device.old) }
-    requires there { IsTrue (has_slot tables.old unit slot) }
-    requires open { AreOpen tables.old (put_at unit slot holds ∷ []) }
-    requires packable { IsPackableIn (map (λ k. meaning (k.vtable, k.value)) kinds.now.list.items)
-        tables.old unit holds }
+    requires { MayPut (put_at unit slot holds)
+        (λ k. meaning (k.vtable, k.value)) kinds.now.list.items
+        tables.old (D.units device.old) (D.words device.old) }
     ensures put { ArePut (map (λ k. meaning (k.vtable, k.value)) kinds.now.list.items)
         (put_at unit slot holds ∷ []) (is_err result)
         (D.log device.old) (D.log device.new) tables.old tables.new }

@@ -17,7 +17,7 @@ use Rattle.dn_flat.specs.declared.levels.Levels.{Levels}
 use Rattle.dn_flat.specs.declared.reach.Reach.{Reach}
 use Rattle.dn_flat.specs.Levels.{AreLevelsBelow, IsLevels}
 use Rattle.dn_flat.specs.Shared.{no_levels}
-use Rattle.dn_flat.specs.Stages.{EndsBefore, GoesIn, IsReach, AreReaches, IsLedTo}
+use Rattle.dn_flat.specs.Stages.{EndsBefore, GoesIn, IsReach, AreReaches, IsLedBy, IsLedTo}
 use Rattle.dn_flat.specs.Views.{name_of_end, end_of, ResolvesFrom, StopsFrom}
 use Rattle.dn_flat.proofs.Bounds.{limit_is}
 use Rattle.dn_flat.proofs.Lists.{each_pushed, length_pushed}
@@ -27,18 +27,10 @@ one_item [] x l m is = absurd (omega arith)
 one_item (y ∷ []) x l m is = ap (λ r. r ∷ []) (sym is)
 one_item (y ∷ z ∷ xs) x l m is = absurd (omega arith)
 
--- where a row leads each address of a node to that address of another
-pub led_is : (o : Option ℕ) (reach : Reach) (row : Row) → reach.done.accepts ≡ [] → reach.done.stops ≡ [] → reach.go ≡ row ∷ [] → IfSome o (λ x. row.span.lo ≡ 0) → IfSome o (λ x. row.span.hi ≡ TOP) → IfSome o (λ x. row.ends ≡ record { node = x; base = 0 } ∷ []) → IfSome o (λ x. IsLedTo x reach)
-led_is None reach row accepts stops go lo hi ends = lo
-led_is (Some x) reach row accepts stops go lo hi ends = record {
-  accepts = accepts;
-  stops = stops;
-  row = row;
-  go = go;
-  lo = lo;
-  hi = hi;
-  ends = ends;
-}
+-- where the one row of a node leads each address to that address of another
+pub led_is : (o : Option ℕ) (reach : Reach) (row : Row) → reach.done.accepts ≡ [] → reach.done.stops ≡ [] → reach.go ≡ row ∷ [] → IfSome o (λ x. IsLedBy x row) → IfSome o (λ x. IsLedTo x reach)
+led_is None reach row accepts stops go led = led
+led_is (Some x) reach row accepts stops go led = record { accepts = accepts; stops = stops; row = row; go = go; led = led }
 
 -- rows that are none give nothing
 none_given : (f : ℕ → End → Type 0) (rows : List Row) → rows ≡ [] → AreNormal f rows → (a : ℕ) (y : End) → a ≤ TOP → f a y → ⊥

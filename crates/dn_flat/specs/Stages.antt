@@ -56,12 +56,17 @@ pub record IsFlat (net : List NodeDecl) (node : ℕ) (flat : Flat) : Type 0 wher
   pub within : IsTrue (ends_within (length net) flat.accepts)
   pub stops_within : IsTrue (ends_within (length net) flat.stops)
 
+-- a row leads each address to that address of another node
+pub record IsLedBy (other : ℕ) (row : Row) : Type 0 where
+  pub lo : row.span.lo ≡ 0
+  pub hi : row.span.hi ≡ TOP
+  pub ends : row.ends ≡ record { node = other; base = 0 } ∷ []
+
 -- each address of a node goes on to that address of another, and is neither accepted nor a stop
 pub record IsLedTo (other : ℕ) (reach : Reach) : Type 0 where
   pub accepts : reach.done.accepts ≡ []
   pub stops : reach.done.stops ≡ []
   pub row : Row
   pub go : reach.go ≡ row ∷ []
-  pub lo : row.span.lo ≡ 0
-  pub hi : row.span.hi ≡ TOP
-  pub ends : row.ends ≡ record { node = other; base = 0 } ∷ []
+  pub led : IsLedBy other row
+  pub open led use *

@@ -9,7 +9,7 @@ ghost use Rattle.dn_net.specs.declared.node.NodeDecl.{NodeDecl};
 ghost use Rattle.dn_net.specs.Terms.{KeepsNodeRules, is_accepted, is_stop};
 ghost use Rattle.dn_walk.specs.declared.leg.Leg.{Leg};
 ghost use Rattle.dn_walk.specs.Terms.{told_legs};
-ghost use Rattle.dn_flat.specs.Terms.{AreReaches, IsLedTo, IsReach, is_same, leg_gives, legs_give, stays};
+ghost use Rattle.dn_flat.specs.Terms.{AreReaches, IsLedBy, IsLedTo, IsReach, is_same, leg_gives, legs_give, stays};
 
 use crate::flat::Flat;
 use crate::found::{Found, Part, flat_of, push_rows, whole};
@@ -46,9 +46,7 @@ impl Reach {
 
 /// Where a row leads each address to that address of a node: the node.
 fn led_by(row: &Row) -> Option<u16>
-    ensures lo { IfSome result (λ other. row.now.span.lo ≡ 0) }
-    ensures hi { IfSome result (λ other. row.now.span.hi ≡ TOP) }
-    ensures ends { IfSome result (λ other. row.now.ends ≡ record { node = other; base = 0 } ∷ []) }
+    ensures { IfSome result (λ other. IsLedBy other row.now) }
 {
     let [end] = row.ends() else {
         return None;

@@ -1,5 +1,5 @@
 -- What is known of a request for which no refusal holds.
-use Rattle.std.proofs.Common.{◌≡◌, sym, refl, subst, ℕ, ◌+◌, ◌<◌, ◌≤◌, Bool, true, false, if◌then◌else◌, not, nat_le, List, [], ◌∷◌, ◌++◌, length, slice_get, Option, Some, None, Result, Err, IsTrue}
+use Rattle.std.proofs.Common.{◌≡◌, sym, refl, subst, ℕ, ◌+◌, ◌<◌, ◌≤◌, Bool, true, false, if◌then◌else◌, not, nat_le, List, [], ◌∷◌, ◌++◌, length, slice_get, Option, Some, None, IsTrue}
 use Rattle.std.proofs.lemmas.Bool.{leb-false}
 use Rattle.std.specs.List.{All}
 use Rattle.dn_net.specs.declared.node.NodeDecl.{NodeDecl}
@@ -16,13 +16,9 @@ use Rattle.dn_tables.specs.Placement.{Place}
 use Rattle.dn_placement.specs.Order.{IsFirst, NoneSuited}
 use Rattle.dn_placement.specs.declared.request.Request.{Request}
 use Rattle.dn_book.specs.declared.grant.Grant.{Grant}
-use Rattle.dn_book.specs.declared.book.CommitFault.{CommitFault}
-use Rattle.dn_book.specs.declared.book.CommitFault.TheVariants.{Device as commit_device, OutOfMemory as commit_memory}
 use Rattle.dn_book.specs.Book.{IsFaithful, IsSound, has_id, slots_of}
 use Rattle.dn_book.specs.Laws.{IsGrantFor}
-use Rattle.dn_grant.specs.declared.fault.GrantFault.{GrantFault}
-use Rattle.dn_grant.specs.declared.fault.GrantFault.TheVariants.{IdUsed, NoAgent, NoTarget, BookFull, Device}
-use Rattle.dn_grant.specs.Faults.{fault_of_commit}
+use Rattle.dn_grant.specs.declared.fault.GrantFault.TheVariants.{IdUsed, NoAgent, NoTarget, BookFull}
 use Rattle.dn_grant.specs.Grant.{NoAddition, grant_at}
 use Rattle.dn_grant.specs.Refusal.{grant_refusal, is_target_at, refusal_by, refused_address}
 use Rattle.dn_grant.proofs.Nearest.{accepted_within}
@@ -98,13 +94,6 @@ pub still_faithful : (net : List NodeDecl) (book next : List Grant) (id : ℕ) (
 still_faithful net book next id rq p legal sound none rights first appended faithful =
     let keeps = grant_keeps_book net book (grant_at id rq p) legal sound (allowed_grant net book id rq p none rights first) in
     subst (λ (b : List Grant). IsFaithful net b) (sym appended) (keeps.1 faithful first.suited.admissible)
-
--- a fault of the device that a commit hands on was no want of memory
-pub not_memory : (f : CommitFault) (w : GrantFault) →
-    ◌≡◌ {A = Result ℕ GrantFault} (Err w) (Err Device) → w ≡ fault_of_commit f →
-    ◌≡◌ {A = Result (Unit {0}) CommitFault} (Err f) (Err commit_memory) → ⊥
-not_memory commit_device w e h m = cc
-not_memory commit_memory w e h m = cc
 
 -- where no placement is admissible, no addition gives one address
 pub no_addition : (net : List NodeDecl) (kinds : List Meaning) (book : List Grant) (set : List NodeTable)

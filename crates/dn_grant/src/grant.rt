@@ -11,7 +11,7 @@ ghost use Rattle.dn_grant.specs.Terms.{IsGrantLogged, IsGrantTurn, NoAddition, g
 use crate::fault::GrantFault;
 use crate::refusal::refusal;
 use dn_base::device::Tables;
-use dn_book::book::Book;
+use dn_book::book::{Book, CommitFault};
 use dn_book::grant::Grant;
 use dn_place::booked::first_in_book;
 use dn_placement::request::Request;
@@ -76,8 +76,10 @@ pub fn grant<D: Tables>(
     if let Some(why) = refusal(book, system.net, id, request) {
         return Err(why);
     }
-    let Some(placement) = first_in_book(alloc, book, system, request, None)? else {
-        return Err(GrantFault::NoPlacement);
+    let placement = match first_in_book(alloc, book, system, request, None) {
+        Ok(Some(placement)) => placement,
+        Ok(None) => return Err(GrantFault::NoPlacement),
+        Err(_) => return Err(GrantFault::OutOfMemory),
     };
     let v = placement.v();
     let grant = Grant {
@@ -85,6 +87,9 @@ pub fn grant<D: Tables>(
         request: *request,
         placement,
     };
-    book.commit(alloc, system.net, system.kinds, grant, device)?;
-    Ok(v)
+    match book.commit(alloc, system.net, system.kinds, grant, device) {
+        Ok(()) => Ok(v),
+        Err(CommitFault::Device) => Err(GrantFault::Device),
+        Err(CommitFault::OutOfMemory) => Err(GrantFault::OutOfMemory),
+    }
 }

@@ -4,7 +4,7 @@ ghost use Rattle.std.specs.Prelude.{◌≡◌, ◌≢◌, ◌↔◌, Err, ◌++�
 ghost use Rattle.std.specs.List.{All};
 ghost use Rattle.std.specs.Option.{option_copied};
 ghost use Rattle.dn_base.specs.Terms.{Answers};
-ghost use Rattle.dn_kind.specs.Terms.{IsLawful, KeepsUnitShape, has_shape, is_shaped};
+ghost use Rattle.dn_kind.specs.Terms.{IsLawful, KeepsUnitShape, has_shape};
 ghost use Rattle.dn_image.specs.Terms.{Passes, broken_image, count_unit, header_fields, image_fault_view, reading_by, unit_fields, units_fields, version_of};
 
 use crate::fault::ImageFault;
@@ -122,32 +122,9 @@ fn check_node(
     ensures whole { IfOk result (λ size. size ≤ length rest.now) }
     ensures memory { result ≢ Err ImageFault.OutOfMemory }
 {
-    match unit {
-        Some(unit) => check_unit(node, place, unit, kinds, rest, total),
-        None => Ok(0),
-    }
-}
-
-/// How many bytes a unit has, where its head is that of the net and no word is cut. The bytes are
-/// the last of so many.
-fn check_unit(
-    node: u16,
-    place: u16,
-    unit: &Unit,
-    kinds: &Kinds,
-    rest: &[u8],
-    total: u64,
-) -> Result<usize, ImageFault>
-    requires lawful { All (λ k. IsLawful (meaning (k.vtable, k.value))) kinds.now.list.items }
-    requires shaped { IsTrue (is_shaped
-        (map (λ k. meaning (k.vtable, k.value)) kinds.now.list.items)
-        unit.now) }
-    ensures passes { Passes total rest.now
-        (unit_fields (map (λ k. meaning (k.vtable, k.value)) kinds.now.list.items)
-        place node (Some unit.now)) (λ size. size) result }
-    ensures whole { IfOk result (λ size. size ≤ length rest.now) }
-    ensures memory { result ≢ Err ImageFault.OutOfMemory }
-{
+    let Some(unit) = unit else {
+        return Ok(0);
+    };
     if rest.len() < HEAD {
         return Err(ImageFault::Short { at: total });
     }

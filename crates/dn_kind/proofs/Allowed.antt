@@ -46,7 +46,7 @@ slot_kept kept w first (suc count) (suc q) ws e l =
     ∙ ap (λ k. if kept k then slot_words w ws (suc q) else replicate w 0) here
 
 -- the words of a node, where some slots are cleared
-tables_kept : (net : List NodeDecl) (kinds : List Meaning) (kept : ℕ → ℕ → Bool) (first node : ℕ) (words : List (List ℕ)) → slice_get (kept_tables net kinds kept first words) node ≡ option_map (λ ws. kept_words kinds (kept (first + node)) (unit_at net (first + node)) ws) (slice_get words node)
+pub tables_kept : (net : List NodeDecl) (kinds : List Meaning) (kept : ℕ → ℕ → Bool) (first node : ℕ) (words : List (List ℕ)) → slice_get (kept_tables net kinds kept first words) node ≡ option_map (λ ws. kept_words kinds (kept (first + node)) (unit_at net (first + node)) ws) (slice_get words node)
 tables_kept net kinds kept first node [] = refl
 tables_kept net kinds kept first zero (ws ∷ rest) =
     let here : first ≡ first + 0 = omega arith in

@@ -8,7 +8,7 @@ use Rattle.dn_net.specs.Chain.{Member, IsChain}
 use Rattle.dn_net.specs.Decode.{top, is_stop, is_stop_at, unit_at, step_limit, Step}
 use Rattle.dn_net.specs.Legal.{IsLegalNet}
 use Rattle.dn_net.specs.Units.{has_plain_shape}
-use Rattle.dn_net.specs.UnitRules.{LeadsOn, IsUnitRow}
+use Rattle.dn_net.specs.UnitRules.{LeadsOn, LeadsTo, IsUnitRow}
 use Rattle.dn_net.proofs.Chains.{chain_front}
 use Rattle.dn_net.proofs.Plain.{plain_at}
 use Rattle.dn_kind.specs.declared.unit_kind.Record.{Record}
@@ -21,7 +21,7 @@ unfolding step_limit
 steps_are = refl
 
 -- an output is below the reach
-low_output : (p a page reach : ℕ) → p < 2 ^ (reach - page) → page ≤ reach → p * 2 ^ page + a % 2 ^ page < 2 ^ reach
+pub low_output : (p a page reach : ℕ) → p < 2 ^ (reach - page) → page ≤ reach → p * 2 ^ page + a % 2 ^ page < 2 ^ reach
 low_output p a page reach l le =
     let m : a % 2 ^ page < 2 ^ page = mod-lt a (pow_pos page) in
     let b : suc p * 2 ^ page ≤ 2 ^ (reach - page) * 2 ^ page = mul-le-mul_right (2 ^ page) l in
@@ -39,7 +39,7 @@ page_below true true false d e f g h = cc
 page_below true true true false e f g h = cc
 page_below true true true true e f g h = refl
 
-low_page : (u : UnitPart) → IsTrue (has_plain_shape u) → u.page ≤ u.reach
+pub low_page : (u : UnitPart) → IsTrue (has_plain_shape u) → u.page ≤ u.reach
 low_page u h = leb-true u.page u.reach (page_below (nat_le u.page 40) (nat_le 1 u.slots) (nat_le u.slots 262144) (nat_le u.page u.reach) (nat_le u.reach 56) (nat_le 1 (length u.ports)) (nat_le (length u.ports) 8) h)
 
 -- a step in a unit: to a port of it, below its reach
@@ -51,10 +51,25 @@ pub record Led (net : List NodeDecl) (x z : Name) (u : UnitPart) : Type 0 where
   pub to : ◌≡◌ {A = Name} (record { node = port; addr = addr }) z
   pub stop : IsTrue (is_stop net x)
 
-member_get : (xs : List ℕ) (i x : ℕ) → slice_get xs i ≡ Some x → Member x xs
+pub member_get : {X : Type 0} (xs : List X) (i : ℕ) (x : X) → slice_get xs i ≡ Some x → Member x xs
 member_get [] i x at = cc
 member_get (y ∷ ys) zero x at = let e : y ≡ x = cc in inl e
 member_get (y ∷ ys) (suc i) x at = inr (member_get ys i x at)
+
+-- the unit leads on to another where the net leads the name behind the step into it
+pub leads_by : (net : List NodeDecl) (x z t : Name) (u : UnitPart) (n : ℕ) → unit_at net x.node ≡ Some u → Led net x z u → IsChain (Step net) n z t → IsTrue (is_stop net t) → LeadsTo net x.node t.node
+leads_by net x z t u n at l chain stop = record {
+  part = u;
+  port = l.port;
+  addr = l.addr;
+  stop = t;
+  is_part = at;
+  has_port = l.has_port;
+  below = l.below;
+  reaches = (n, subst (λ y. IsChain (Step net) n y t) (sym l.to) chain);
+  is_stop = stop;
+  is_end = refl;
+}
 
 module _ (net : List NodeDecl) (legal : IsLegalNet net) (h : Held) (held : AreHeld net h) where
   -- of a record that the unit can hold
@@ -119,18 +134,7 @@ module _ (net : List NodeDecl) (legal : IsLegalNet net) (h : Held) (held : AreHe
 
   leads_on : (x z : Name) (u : UnitPart) (us : List ℕ) (n : ℕ) → unit_at net x.node ≡ Some u → Led net x z u → Begins z us n → LeadsOn net x.node us
   leads_on x z u [] n at l b = tt
-  leads_on x z u (w ∷ ws) n at l b = record {
-    part = u;
-    port = l.port;
-    addr = l.addr;
-    stop = b.0;
-    is_part = at;
-    has_port = l.has_port;
-    below = l.below;
-    reaches = (n, subst (λ y. IsChain (Step net) n y b.0) (sym l.to) b.1);
-    is_stop = b.2;
-    is_end = b.3;
-  }
+  leads_on x z u (w ∷ ws) n at l b = subst (λ (v : ℕ). LeadsTo net x.node v) b.3 (leads_by net x z b.0 u n at l b.1 b.2)
 
   passed : (k : ℕ) (x y : Name) → IsChain (StepUnder net h) k x y → Passed k x
   passed zero x y c = record { units = []; row = tt; first = 0; begins = (x, refl); long = (omega arith) }

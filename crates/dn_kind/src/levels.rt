@@ -1,6 +1,6 @@
 //! Parts of a pass that follows names level by level: the names one step on, and sets of names.
 
-ghost use Rattle.std.specs.Prelude.{◌≡◌, ◌++◌, ◌+◌, ◌<◌, ◌^◌, map, nat_le, IfOk, OnOk, IsTrue};
+ghost use Rattle.std.specs.Prelude.{◌≡◌, ◌++◌, [], ◌∷◌, ◌+◌, ◌<◌, ◌^◌, map, nat_le, IfOk, OnOk, IsTrue};
 ghost use Rattle.std.specs.List.{list_all};
 ghost use Rattle.dn_net.specs.Terms.{moved, sorted_names, top};
 ghost use Rattle.dn_kind.specs.Terms.{name_list};
@@ -8,6 +8,18 @@ ghost use Rattle.dn_kind.specs.Terms.{name_list};
 use dn_net::names::Names;
 use dn_net::node::{Dest, Name};
 use std::alloc::{AllocError, Global};
+
+/// How many levels of names there are: the name itself, and those after each of 1 to 259 steps.
+pub const LEVELS: u16 = 260;
+
+/// The first level: the name alone.
+pub fn first_level(alloc: Global, name: Name) -> Result<Names, AllocError>
+    ensures { IfOk result (λ level. level ≡ name ∷ []) }
+{
+    let mut level = Names::new(alloc);
+    level.insert(name)?;
+    Ok(level)
+}
 
 /// Appends the name, where there is one.
 pub fn push_sent(next: &mut Vec<Name>, sent: Option<Name>) -> Result<(), AllocError>

@@ -15,7 +15,7 @@ use Rattle.dn_kind.specs.Rights.{allows}
 use Rattle.dn_kind.specs.Kind.{Meaning, IsLawful}
 use Rattle.dn_kind.specs.Tables.{Held, record_held, AreTables, record_allowing, resolved_names_under}
 use Rattle.dn_kind.specs.Cleared.{kept_slots, kept_of_kind, kept_words, kept_tables, is_open_in, words_allowing}
-use Rattle.dn_kind.proofs.Allowed.{records_allowing}
+use Rattle.dn_kind.proofs.Allowed.{records_allowing, tables_kept}
 use Rattle.dn_image.specs.Image.{ImageWords, width_by, word_count}
 use Rattle.dn_image.specs.Reading.{BrokenImage, broken_image, node_words, nodes_size, image_words, version_of, reading_by, image_reading}
 use Rattle.dn_image.proofs.Numbers.{length_spelled}
@@ -39,16 +39,6 @@ slots_sized kept w first (suc count) ws e =
     let one : length start ≡ w = front_sized w ws (kept first) enough in
     let others : length rest ≡ count * w = slots_sized kept w (suc first) count (drop w ws) left in
     both ∙ ap (λ n. n + length rest) one ∙ ap (λ n. w + n) others ∙ omega arith
-
-tables_kept : (net : List NodeDecl) (kinds : List Meaning) (kept : ℕ → ℕ → Bool) (first node : ℕ) (words : List (List ℕ)) → slice_get (kept_tables net kinds kept first words) node ≡ option_map (λ ws. kept_words kinds (kept (first + node)) (unit_at net (first + node)) ws) (slice_get words node)
-tables_kept net kinds kept first node [] = refl
-tables_kept net kinds kept first zero (ws ∷ rest) =
-    let here : first ≡ first + 0 = omega arith in
-    ap (λ n. Some (kept_words kinds (kept n) (unit_at net n) ws)) here
-tables_kept net kinds kept first (suc node) (ws ∷ rest) =
-    let here : suc first + node ≡ first + suc node = omega arith in
-    tables_kept net kinds kept (suc first) node rest
-    ∙ ap (λ n. option_map (λ ws. kept_words kinds (kept n) (unit_at net n) ws) (slice_get rest node)) here
 
 words_sized : (net : List NodeDecl) (kinds : List Meaning) (kept : ℕ → Bool) (node m : ℕ) (u : UnitPart) (kind : Meaning) (v : List ℕ) → m ≡ node → unit_at net node ≡ Some u → slice_get kinds u.kind ≡ Some kind → length v ≡ u.slots * kind.words → length (kept_words kinds kept (unit_at net m) v) ≡ u.slots * kind.words
 words_sized net kinds kept node m u kind v em eu ek size =

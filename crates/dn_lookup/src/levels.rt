@@ -7,15 +7,12 @@ ghost use Rattle.dn_lookup.specs.Terms.{IsImage, records_in};
 
 use crate::image::Image;
 use crate::output::output;
-use dn_kind::levels::{push_moved, push_sent, set_of};
+use dn_kind::levels::{LEVELS, first_level, push_moved, push_sent, set_of};
 use dn_kind::rights::Access;
 use dn_net::names::Names;
 use dn_net::node::Name;
 use dn_net::step::Step;
 use std::alloc::{AllocError, Global};
-
-/// How many levels of names there are: the name itself, and those after each of 1 to 259 steps.
-const LEVELS: u16 = 260;
 
 /// The accepted names that a name reaches in at most 259 steps under the records of an image. `Err`
 /// is want of memory.
@@ -32,8 +29,7 @@ pub(crate) fn resolve(
     ensures there { IfOk result (λ names. IsTrue (are_there (length image.entry.net.now) names)) }
 {
     let mut accepted = Vec::new(alloc);
-    let mut level = Names::new(alloc);
-    level.insert(name)?;
+    let mut level = first_level(alloc, name)?;
     for _ in 0..LEVELS {
         if level.list().is_empty() {
             break;

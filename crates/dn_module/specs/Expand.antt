@@ -105,12 +105,8 @@ pub data Given : Type 0 where
 
 -- what an argument gives
 abbrev pub given_by : Arg → Result Given Flaw
-given_by (number_arg e) = do
-  n ← value e
-  Ok (number n)
-given_by (node_arg ps) = do
-  text ← full_name ps
-  Ok (named text)
+given_by (number_arg e) = value e >>= λ n. Ok (number n)
+given_by (node_arg ps) = full_name ps >>= λ text. Ok (named text)
 
 -- the numbers that stand for parameters, and the full names that do
 abbrev pub number_pair : List ℕ → Given → List (List ℕ × ℕ)

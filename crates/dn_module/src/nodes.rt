@@ -1,8 +1,7 @@
 //! The nodes that declarations make.
 
-ghost use Rattle.std.specs.Prelude.{◌≡◌, ◌≤◌, ℕ, Some, length, map, option_map};
+ghost use Rattle.std.specs.Prelude.{◌≡◌, ◌≤◌, length, map, option_map};
 ghost use Rattle.dn_parse.specs.Terms.{block_view, declaration_view, dest_view, entry_view, maybe_name_view, name_view, role_view, spec_view, unit_view};
-ghost use Rattle.dn_net.specs.declared.node.Role.TheVariants.{Unit as unit_role};
 ghost use Rattle.dn_kind.specs.Terms.{kind_place};
 ghost use Rattle.dn_module.specs.Terms.{bare_draft, block_of, dest_of, draft_of, each, entry_of, full_name, full_name_or_none, in_block, in_declaration, in_declared, in_dest, in_entry, in_reference, in_spec, known_kind, name_fault_view, node_draft, role_of, some_flaw};
 ghost use Rattle.dn_base.specs.Terms.{Answers};
@@ -35,24 +34,21 @@ pub fn draft_of(
         Decl::Node { role, name, spec } => node_draft(
             alloc, interner, scope, line, *role, name, spec,
         ),
-        Decl::Unit(unit) => {
-            let (name, unit) = unit_of(alloc, kinds, interner, scope, unit)?;
-            Ok(bare_draft(alloc, line, Role::Unit, name, Some(unit)))
-        }
+        Decl::Unit(unit) => unit_of(alloc, kinds, interner, scope, line, unit),
     }
 }
 
-/// The full name and the parts of the unit that a declaration makes, whatever its line.
+/// The unit that a declaration makes.
 fn unit_of(
     alloc: Global,
     kinds: &Kinds,
     interner: &mut Interner,
     scope: &Scope,
+    line: u32,
     unit: &UnitExpr,
-) -> Result<(SharedName, DraftUnit), NameFault>
+) -> Result<Draft, NameFault>
     requires few_kinds { length kinds.now.list.items ≤ 255 }
-    ensures { (line : ℕ) →
-        Answers (λ u. bare_draft line unit_role u.0 (Some u.1)) name_fault_view result
+    ensures { Answers (λ x. x) name_fault_view result
         (draft_of (map (λ k. meaning (k.vtable, k.value)) kinds.now.list.items) line
         (in_declaration scope.now (unit_view unit.now))) }
 {
@@ -69,7 +65,7 @@ fn unit_of(
         reach,
         ports,
     };
-    Ok((name, unit))
+    Ok(bare_draft(alloc, line, Role::Unit, name, Some(unit)))
 }
 
 /// The number of the kind with this name.

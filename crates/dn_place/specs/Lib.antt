@@ -5,4 +5,5 @@ pub mod Platforms
 pub mod Rows
 pub mod Slots
 pub mod Sought
+pub mod Stages
 pub mod Terms

@@ -5,3 +5,4 @@ pub use Rattle.dn_place.specs.Marks.{AreMarked, AreUnitsFrom, IsEntry, Keeps, Ma
 pub use Rattle.dn_place.specs.Rows.{InRow, is_clear, is_past, rows_toward, wanted}
 pub use Rattle.dn_place.specs.Slots.{AreBarred, AreFree, AreShut, AreUsable, IsWithin, is_free_slot, is_usable_slot, shared_by, slot_of}
 pub use Rattle.dn_place.specs.Sought.{IsFormed, IsReady, slot_count}
+pub use Rattle.dn_place.specs.Stages.{IsStage}

@@ -3,7 +3,7 @@
 ghost use Rattle.std.specs.Prelude.{◌≡◌, ◌∷◌, ◌%◌, ◌*◌, ◌/◌, ◌^◌, ◌+◌, ◌-◌, ◌<◌, ◌≤◌, ℕ, Some, IfOk, length, slice_get};
 ghost use Rattle.dn_net.specs.Terms.{unit_at};
 ghost use Rattle.dn_placement.specs.Terms.{Meets};
-ghost use Rattle.dn_place.specs.Terms.{Answers, AreMarked, AreUnitsFrom, AreUsable, IsChosen, IsEntry, IsReady, ending, hops_of, to_output, to_port, to_unit};
+ghost use Rattle.dn_place.specs.Terms.{Answers, AreUsable, IsStage, ending, hops_of, to_output, to_port, to_unit};
 
 use crate::hops::Hops;
 use crate::marks::{Reach, can_stand, is_allowed};
@@ -15,34 +15,37 @@ use dn_net::node::Unit;
 use dn_tables::placement::Hop;
 use std::alloc::Global;
 
+/// How far the search has come.
+#[derive(Clone, Copy)]
+pub(crate) struct Stage<'a> {
+    /// Where memory is taken.
+    pub(crate) alloc: Global,
+    /// Where hops can stand.
+    pub(crate) reach: &'a Reach,
+    /// How many hops there are to be.
+    pub(crate) count: u8,
+    /// Those that are chosen.
+    pub(crate) chosen: Hops,
+}
+
 /// The first placement of so many hops that ends with the chosen ones.
 #[cycle(hops)]
-pub(crate) fn by_hops<Q: Quest>(
-    alloc: Global,
-    quest: &Q,
-    reach: &Reach,
-    count: u8,
-    chosen: Hops,
-) -> Found
+pub(crate) fn by_hops<Q: Quest>(quest: &Q, stage: Stage) -> Found
     requires sound { Q.is_sound quest.now }
-    requires ready { IsReady (Q.sought quest.now) }
-    requires marked { AreMarked (Q.sought quest.now) reach.now.first.items
-        reach.now.second.items reach.now.third.items }
-    requires entry { IsEntry (Q.sought quest.now) reach.now.entry }
-    requires units { AreUnitsFrom (Q.sought quest.now).net 0 reach.now.units.items }
-    requires chosen { IsChosen (Q.sought quest.now) count (hops_of chosen) }
-    requires some { 1 ≤ count }
+    requires stage { IsStage (Q.sought quest.now) stage }
+    requires some { 1 ≤ stage.count }
     ensures { IfOk result (λ found. Answers (Q.sought quest.now)
-        (ending count (hops_of chosen)) found) }
+        (ending stage.entry.count (hops_of stage.entry.chosen)) found) }
 {
-    if chosen.count() == count {
-        return by_agent(alloc, quest, chosen);
+    if stage.chosen.count() == stage.count {
+        return by_agent(stage.alloc, quest, stage.chosen);
     }
-    let place = count - chosen.count();
+    let place = stage.count - stage.chosen.count();
+    let reach = stage.reach;
     let units = reach.units.as_slice();
     for unit in units {
         if can_stand(reach, place, *unit) {
-            if let Some(placement) = by_unit(alloc, quest, reach, count, chosen, *unit)? {
+            if let Some(placement) = by_unit(quest, stage, *unit)? {
                 return Ok(Some(placement));
             }
         }
@@ -52,32 +55,18 @@ pub(crate) fn by_hops<Q: Quest>(
 
 /// The same with the next hop in a unit.
 #[cycle(hops)]
-fn by_unit<Q: Quest>(
-    alloc: Global,
-    quest: &Q,
-    reach: &Reach,
-    count: u8,
-    chosen: Hops,
-    unit: u16,
-) -> Found
+fn by_unit<Q: Quest>(quest: &Q, stage: Stage, unit: u16) -> Found
     requires sound { Q.is_sound quest.now }
-    requires ready { IsReady (Q.sought quest.now) }
-    requires marked { AreMarked (Q.sought quest.now) reach.now.first.items
-        reach.now.second.items reach.now.third.items }
-    requires entry { IsEntry (Q.sought quest.now) reach.now.entry }
-    requires units { AreUnitsFrom (Q.sought quest.now).net 0 reach.now.units.items }
-    requires chosen { IsChosen (Q.sought quest.now) count (hops_of chosen) }
-    requires more { length (hops_of chosen) < count }
+    requires stage { IsStage (Q.sought quest.now) stage }
+    requires more { length (hops_of stage.chosen) < stage.count }
     ensures { IfOk result (λ found. Answers (Q.sought quest.now)
-        (to_unit count (hops_of chosen) unit) found) }
+        (to_unit stage.entry.count (hops_of stage.entry.chosen) unit) found) }
 {
     let Some(translator) = unit_of(quest, unit) else {
         return Ok(None);
     };
     for port in 0..translator.ports.as_slice().len() as u8 {
-        if let Some(placement) = by_port(
-            alloc, quest, reach, count, chosen, translator, unit, port,
-        )? {
+        if let Some(placement) = by_port(quest, stage, translator, unit, port)? {
             return Ok(Some(placement));
         }
     }
@@ -86,39 +75,23 @@ fn by_unit<Q: Quest>(
 
 /// The same through a port: each row of its node that gives what the hops want fixes one output.
 #[cycle(hops)]
-fn by_port<Q: Quest>(
-    alloc: Global,
-    quest: &Q,
-    reach: &Reach,
-    count: u8,
-    chosen: Hops,
-    translator: &Unit,
-    unit: u16,
-    port: u8,
-) -> Found
+fn by_port<Q: Quest>(quest: &Q, stage: Stage, translator: &Unit, unit: u16, port: u8) -> Found
     requires sound { Q.is_sound quest.now }
-    requires ready { IsReady (Q.sought quest.now) }
-    requires marked { AreMarked (Q.sought quest.now) reach.now.first.items
-        reach.now.second.items reach.now.third.items }
-    requires entry { IsEntry (Q.sought quest.now) reach.now.entry }
-    requires units { AreUnitsFrom (Q.sought quest.now).net 0 reach.now.units.items }
-    requires chosen { IsChosen (Q.sought quest.now) count (hops_of chosen) }
-    requires more { length (hops_of chosen) < count }
+    requires stage { IsStage (Q.sought quest.now) stage }
+    requires more { length (hops_of stage.chosen) < stage.count }
     requires unit { unit_at (Q.sought quest.now).net unit ≡ Some translator.now }
     requires port { port < length translator.now.ports }
     ensures { IfOk result (λ found. Answers (Q.sought quest.now)
-        (to_port count (hops_of chosen) unit port) found) }
+        (to_port stage.entry.count (hops_of stage.entry.chosen) unit port) found) }
 {
     let flat = quest.flat(translator.ports.as_slice()[usize::from(port)]);
     let size = quest.request().size;
-    let target = wanted(quest.request(), chosen);
+    let target = wanted(quest.request(), stage.chosen);
     let end = power(translator.reach);
-    'rows: for row in rows_toward(flat, chosen) {
+    'rows: for row in rows_toward(flat, stage.chosen) {
         if let Some(y) = output(row, target, size) {
-            if y + size <= end && is_clear(flat, chosen, y, size) {
-                if let Some(placement) = by_output(
-                    alloc, quest, reach, count, chosen, translator, unit, port, y,
-                )? {
+            if y + size <= end && is_clear(flat, stage.chosen, y, size) {
+                if let Some(placement) = by_output(quest, stage, translator, unit, port, y)? {
                     return Ok(Some(placement));
                 }
             }
@@ -130,31 +103,23 @@ fn by_port<Q: Quest>(
 /// The same with an output: inputs agree with it modulo the page.
 #[cycle(hops)]
 fn by_output<Q: Quest>(
-    alloc: Global,
     quest: &Q,
-    reach: &Reach,
-    count: u8,
-    chosen: Hops,
+    stage: Stage,
     translator: &Unit,
     unit: u16,
     port: u8,
     y: u64,
 ) -> Found
     requires sound { Q.is_sound quest.now }
-    requires ready { IsReady (Q.sought quest.now) }
-    requires marked { AreMarked (Q.sought quest.now) reach.now.first.items
-        reach.now.second.items reach.now.third.items }
-    requires entry { IsEntry (Q.sought quest.now) reach.now.entry }
-    requires units { AreUnitsFrom (Q.sought quest.now).net 0 reach.now.units.items }
-    requires chosen { IsChosen (Q.sought quest.now) count (hops_of chosen) }
-    requires more { length (hops_of chosen) < count }
+    requires stage { IsStage (Q.sought quest.now) stage }
+    requires more { length (hops_of stage.chosen) < stage.count }
     requires unit { unit_at (Q.sought quest.now).net unit ≡ Some translator.now }
     requires port { port < length translator.now.ports }
     requires reached { y + (Q.sought quest.now).request.size ≤ 2 ^ translator.now.reach }
     requires meets { (n : ℕ) → slice_get translator.now.ports port ≡ Some n →
-        Meets (Q.sought quest.now).net (Q.sought quest.now).request n y (hops_of chosen) }
+        Meets (Q.sought quest.now).net (Q.sought quest.now).request n y (hops_of stage.chosen) }
     ensures { IfOk result (λ found. Answers (Q.sought quest.now)
-        (to_output count (hops_of chosen) unit port y) found) }
+        (to_output stage.entry.count (hops_of stage.entry.chosen) unit port y) found) }
 {
     let page = power(translator.page);
     let size = quest.request().size;
@@ -164,9 +129,7 @@ fn by_output<Q: Quest>(
         let hop = Hop { unit, port, x, y };
         let next = next_input(quest, translator, hop);
         if next == x {
-            if let Some(placement) = by_input(
-                alloc, quest, reach, count, chosen, translator, hop,
-            )? {
+            if let Some(placement) = by_input(quest, stage, translator, hop)? {
                 return Ok(Some(placement));
             }
             x += page;
@@ -179,23 +142,10 @@ fn by_output<Q: Quest>(
 
 /// The same with an input, so with a whole hop.
 #[cycle(hops)]
-fn by_input<Q: Quest>(
-    alloc: Global,
-    quest: &Q,
-    reach: &Reach,
-    count: u8,
-    chosen: Hops,
-    translator: &Unit,
-    hop: Hop,
-) -> Found
+fn by_input<Q: Quest>(quest: &Q, stage: Stage, translator: &Unit, hop: Hop) -> Found
     requires sound { Q.is_sound quest.now }
-    requires ready { IsReady (Q.sought quest.now) }
-    requires marked { AreMarked (Q.sought quest.now) reach.now.first.items
-        reach.now.second.items reach.now.third.items }
-    requires entry { IsEntry (Q.sought quest.now) reach.now.entry }
-    requires units { AreUnitsFrom (Q.sought quest.now).net 0 reach.now.units.items }
-    requires chosen { IsChosen (Q.sought quest.now) count (hops_of chosen) }
-    requires more { length (hops_of chosen) < count }
+    requires stage { IsStage (Q.sought quest.now) stage }
+    requires more { length (hops_of stage.chosen) < stage.count }
     requires unit { unit_at (Q.sought quest.now).net hop.unit ≡ Some translator.now }
     requires port { hop.port < length translator.now.ports }
     requires agree { hop.x % 2 ^ translator.now.page ≡ hop.y % 2 ^ translator.now.page }
@@ -207,12 +157,19 @@ fn by_input<Q: Quest>(
         ((hop.x + (Q.sought quest.now).request.size - 1) / 2 ^ translator.now.page)
         hop.port (hop.y / 2 ^ translator.now.page) }
     requires meets { (n : ℕ) → slice_get translator.now.ports hop.port ≡ Some n →
-        Meets (Q.sought quest.now).net (Q.sought quest.now).request n hop.y (hops_of chosen) }
+        Meets (Q.sought quest.now).net (Q.sought quest.now).request n hop.y
+        (hops_of stage.chosen) }
     ensures { IfOk result (λ found. Answers (Q.sought quest.now)
-        (ending count (hop ∷ hops_of chosen)) found) }
+        (ending stage.entry.count (hop ∷ hops_of stage.entry.chosen)) found) }
 {
-    if !is_allowed(reach, count - chosen.count(), hop, quest.at()) {
+    if !is_allowed(
+        stage.reach,
+        stage.count - stage.chosen.count(),
+        hop,
+        quest.at(),
+    ) {
         return Ok(None);
     }
-    by_hops(alloc, quest, reach, count, chosen.behind(hop))
+    let chosen = stage.chosen.behind(hop);
+    by_hops(quest, Stage { chosen, ..stage })
 }

@@ -9,7 +9,7 @@ ghost use Rattle.dn_placement.specs.Terms.{IsAdmissible, IsFirst, IsPlacement, N
 ghost use Rattle.dn_view.specs.Terms.{IsSystem};
 ghost use Rattle.dn_place.specs.Terms.{Answers, IsReady, hops_of, slot_of};
 
-use crate::chain::by_hops;
+use crate::chain::{Stage, by_hops};
 use crate::hops::Hops;
 use crate::marks::reach_of;
 use crate::platform::{Aim, Platform};
@@ -121,7 +121,13 @@ fn first_of<Q: Quest>(alloc: Global, quest: &Q) -> Found
 {
     let reach = reach_of(alloc, quest)?;
     for count in 1..4 {
-        if let Some(placement) = by_hops(alloc, quest, &reach, count, Hops::Zero)? {
+        let stage = Stage {
+            alloc,
+            reach: &reach,
+            count,
+            chosen: Hops::Zero,
+        };
+        if let Some(placement) = by_hops(quest, stage)? {
             return Ok(Some(placement));
         }
     }

@@ -20,7 +20,7 @@ use Rattle.dn_module.specs.declared.draft.DraftDest.{DraftDest}
 use Rattle.dn_module.specs.declared.draft.DraftEntry.{DraftEntry}
 use Rattle.dn_module.specs.declared.draft.DraftUnit.{DraftUnit}
 use Rattle.dn_module.specs.Values.{each}
-use Rattle.dn_module.specs.Drafts.{names, is_known, parts_of, number_of, dests_known, over_known, ports_known, refers_to_known, dest_in, entry_in, unit_in, node_in, node_of, role_of}
+use Rattle.dn_module.specs.Drafts.{draft_with, names, is_known, parts_of, number_of, dests_known, over_known, ports_known, refers_to_known, dest_in, entry_in, unit_in, node_in, node_of, role_of}
 use Rattle.dn_print.specs.Names.{node_text}
 use Rattle.dn_print.specs.Spelled.{IsFull}
 use Rattle.dn_print.specs.Statement.{node_name}
@@ -30,7 +30,6 @@ use Rattle.dn_print.proofs.Counted.{one_agent, one_unit, grown_by}
 use Rattle.dn_print.proofs.Formed.{Each, Maybe, GoodBlock, GoodDest, GoodEntry, GoodParts, GoodDraft}
 use Rattle.dn_print.proofs.Made.{From}
 use Rattle.dn_print.proofs.Places.{each_of_all, Distinct, distinct_map, unlike, total, total_map}
-use Rattle.dn_print.proofs.Words.{any_word}
 
 -- the full names of nodes
 abbrev texts : List NodeDecl → List (List ℕ)
@@ -47,15 +46,7 @@ abbrev unit_named : List NodeDecl → UnitPart → DraftUnit
 unit_named net u = record { kind = u.kind; page = u.page; slots = u.slots; reach = u.reach; ports = map (node_name net) u.ports }
 
 abbrev node_named : List NodeDecl → NodeDecl → Draft
-node_named net n = record {
-  line = 0;
-  role = n.role;
-  name = n.text;
-  accepts = n.accepts;
-  entries = map (entry_named net) n.entries;
-  over = option_map (node_name net) n.over;
-  unit = option_map (unit_named net) n.unit;
-}
+node_named net n = draft_with 0 n.role n.text n.accepts (map (entry_named net) n.entries) (option_map (node_name net) n.over) (option_map (unit_named net) n.unit)
 
 -- the names are those of the nodes
 names_named : (net ns : List NodeDecl) → names (map (node_named net) ns) ≡ texts ns
@@ -227,7 +218,10 @@ module _ (kinds : List Meaning) (net : List NodeDecl) (full : (i : ℕ) → i < 
       let n = length-map u.ports (node_name net) in
       let some = h.some in
       let few = h.few in
-      record { word = any_word _ h.word; place = h.first; page = h.page; slots = h.slots; reach = h.reach; ports = ports_good u.ports k; some = omega (arith, n, some); few = omega (arith, n, few) }
+      record {
+        printable = λ known. let m = length-map (map (node_name net) u.ports) (number_of known) in record { word = h.word; first = h.first; page = h.page; slots = h.slots; reach = h.reach; some = omega (arith, n, m, some); few = omega (arith, n, m, few) };
+        ports = ports_good u.ports k;
+      }
 
   node_good : (n : NodeDecl) → IsPrintableNode kinds n → IsTrue (is_formed n) → IsTrue (refers_within (length net) n) → GoodDraft kinds (node_named net n)
   node_good n h f r = by n.unit refl h.unit f q.1

@@ -1,17 +1,17 @@
 -- Nodes whose names are full names and whose numbers fit in 64 bits: those that a text makes.
-use Rattle.std.proofs.Common.{◌≡◌, ◌⊎◌, ℕ, ◌<◌, ◌≤◌, ◌^◌, List, [], ◌∷◌, ◌++◌, length, Option, Some, None}
+use Rattle.std.proofs.Common.{◌≡◌, ◌⊎◌, ℕ, ◌<◌, ◌≤◌, ◌^◌, List, [], ◌∷◌, ◌++◌, length, Option, Some, None, arith}
+use Rattle.std.proofs.lemmas.List.{length-map}
 use Rattle.dn_parse.specs.Tree.{Role as RoleOf}
 use Rattle.dn_net.specs.declared.node.Block.{Block}
 use Rattle.dn_net.specs.declared.node.Role.TheVariants.{Unit as UnitRole}
-use Rattle.dn_kind.specs.Kind.{Meaning, kind_place}
+use Rattle.dn_kind.specs.Kind.{Meaning}
 use Rattle.dn_module.specs.declared.draft.Draft.{Draft}
 use Rattle.dn_module.specs.declared.draft.DraftEntry.{DraftEntry}
 use Rattle.dn_module.specs.declared.draft.DraftDest.{DraftDest}
 use Rattle.dn_module.specs.declared.draft.DraftUnit.{DraftUnit}
-use Rattle.dn_module.specs.Drafts.{role_of}
-use Rattle.dn_print.specs.Statement.{kind_text}
+use Rattle.dn_module.specs.Drafts.{bare_draft, number_of, role_of, unit_in}
+use Rattle.dn_print.specs.Printable.{IsPrintableUnit}
 use Rattle.dn_print.proofs.Titles.{IsFull}
-use Rattle.dn_print.proofs.Words.{IsWord}
 
 -- each item of a list is so
 abbrev pub Each : {X : Type 0} → (X → Type 0) → List X → Type 0
@@ -46,20 +46,21 @@ pub record GoodNode (d : Draft) : Type 0 where
   pub over : Maybe IsFull d.over
   pub no_unit : d.unit ≡ None
 
--- the parts of a unit: its kind is the first that is called by its word
+-- the parts of a unit: a text can say them, whatever the numbers of its ports
 pub record GoodParts (kinds : List Meaning) (u : DraftUnit) : Type 0 where
-  pub word : IsWord (kind_text kinds u.kind)
-  pub place : kind_place kinds (kind_text kinds u.kind) ≡ Some u.kind
-  pub page : u.page ≤ 255
-  pub slots : u.slots ≤ 4294967295
-  pub reach : u.reach ≤ 255
+  pub printable : (known : List (List ℕ)) → IsPrintableUnit kinds (unit_in known u)
   pub ports : Each IsFull u.ports
-  pub some : 1 ≤ length u.ports
-  pub few : length u.ports ≤ 8
+
+-- it has 1 to 8 ports
+pub some_ports : (kinds : List Meaning) (u : DraftUnit) → GoodParts kinds u → 1 ≤ length u.ports
+some_ports kinds u h = let said = h.printable [] in let n = length-map u.ports (number_of []) in let s = said.some in omega (arith, n, s)
+
+pub few_ports : (kinds : List Meaning) (u : DraftUnit) → GoodParts kinds u → length u.ports ≤ 8
+few_ports kinds u h = let said = h.printable [] in let n = length-map u.ports (number_of []) in let f = said.few in omega (arith, n, f)
 
 -- a unit of these parts
 abbrev pub unit_with : ℕ → List ℕ → DraftUnit → Draft
-unit_with line name u = record { line = line; role = UnitRole; name = name; accepts = []; entries = []; over = None; unit = Some u }
+unit_with line name u = bare_draft line UnitRole name (Some u)
 
 pub record GoodUnit (kinds : List Meaning) (d : Draft) : Type 0 where
   pub line : ℕ

@@ -1,5 +1,6 @@
 -- The nodes that a well-formed tree makes have full names, numbers that fit in 64 bits, and were added one after another.
 use Rattle.std.proofs.Common.{◌≡◌, ◌∙◌, inl, inr, ap, sym, refl, subst, ℕ, zero, suc, ◌+◌, ◌-◌, ◌<◌, ◌≤◌, ◌^◌, Bool, true, false, cond, ◌||◌, nat_le, nat_lt, List, [], ◌∷◌, ◌++◌, map, take, get_or, length, Option, Some, None, Result, Ok, Err, arith, append-nil, ltb-true, leb-true, bytes_eq}
+use Rattle.std.proofs.lemmas.List.{length-map}
 use Rattle.std.proofs.lemmas.List.Quantifiers.{position-Some}
 use Rattle.std.proofs.lemmas.Option.{slice_get-get_or}
 use Rattle.std.proofs.lemmas.Slice.Eq.{bytes_eq-Decides}
@@ -9,40 +10,19 @@ use Rattle.dn_kind.specs.Kind.{Meaning, kind_place}
 use Rattle.dn_module.specs.declared.draft.Draft.{Draft}
 use Rattle.dn_module.specs.declared.command.Command.{Command}
 use Rattle.dn_module.specs.Values.{Flaw, unknown_word, out_of_range, ◌>>=◌, each, fitting, difference, value, values, value_or, value_within, sum_of, product_of, part_by, part_text, after_dots, dotted, full_name, full_name_or_none}
-use Rattle.dn_module.specs.Drafts.{at_line, block_of, dest_of, entry_of, node_draft, known_kind, unit_draft, draft_of, declared_by, names, with_draft, node_of}
+use Rattle.dn_module.specs.Drafts.{at_line, block_of, dest_of, entry_of, node_draft, known_kind, unit_draft, draft_of, declared_by, names, with_draft, node_of, number_of}
 use Rattle.dn_module.specs.Commands.{commands_of}
 use Rattle.dn_module.specs.Replace.{under, one_number, in_items}
 use Rattle.dn_module.specs.Expand.{Module, State, nothing_yet, Visibility, outside, within_module, Work, statement, turns, statements, word_of_param, has_twice, is_module, with_module, usable, module_from, fit, Given, number, named, given_by, number_pair, node_pair, numbers_of, nodes_of, used_body, use_of, loop_of, turn_of, item_rewriting, rewriting, all_rewritings, most_steps, Outcome, expansion_of}
+use Rattle.dn_module.proofs.Yields.{Yields, any, bind, given, at_yields}
 use Rattle.dn_print.specs.Statement.{kind_name, kind_text}
 use Rattle.dn_print.proofs.Titles.{Title, IsFull, full_one, full_both}
-use Rattle.dn_print.proofs.Words.{IsWord}
+use Rattle.dn_print.proofs.Words.{IsWord, word_any}
 use Rattle.dn_print.proofs.Formed.{Each, Maybe, GoodBlock, GoodDest, GoodEntry, GoodNode, GoodUnit, GoodDraft, each_both}
 use Rattle.dn_print.proofs.Trees.{Small, GoodPart, Some1, GoodName, SmallBlock, NamedDest, NamedEntry, GoodSpec, GoodDeclaration, GoodArg, GoodItem, GoodItems}
 use Rattle.dn_print.proofs.Grown.{Grown, grown_more, added_fits}
 use Rattle.dn_print.proofs.Kept.{Standing, IsSmallNumber, items_kept}
 use Rattle.dn_module.specs.Faults.{ExpansionFault, is_duplicate, has_other_arguments, passes_limit}
-
--- what is given, where there is no fault
-abbrev YieldsBy : {A E : Type 0} → (A → Type 0) → Result A E → Type 0
-YieldsBy P (Ok a) = P a
-YieldsBy P (Err e) = Unit {0}
-
-pub record Yields {A E : Type 0} (P : A → Type 0) (r : Result A E) : Type 0 where
-  pub it : YieldsBy P r
-
-abbrev Any : {A : Type 0} → A → Type 0
-Any a = Unit {0}
-
-any : {A E : Type 0} (r : Result A E) → Yields Any r
-any (Ok a) = record { it = tt }
-any (Err e) = record { it = tt }
-
-bind : {A B E : Type 0} {P : A → Type 0} {Q : B → Type 0} (r : Result A E) (f : A → Result B E) → Yields P r → ((a : A) → P a → Yields Q (f a)) → Yields Q (r >>= f)
-bind (Ok a) f h more = more a h.it
-bind (Err e) f h more = record { it = tt }
-
-given : {A E : Type 0} {P : A → Type 0} {a : A} → P a → Yields {E = E} P (Ok a)
-given h = record { it = h }
 
 -- each item gives one
 each_yields : {A B E : Type 0} (P : A → Type 0) (Q : B → Type 0) (f : A → Result B E) → ((a : A) → P a → Yields Q (f a)) → (xs : List A) → Each P xs → Yields (λ ys. Each Q ys × (length ys ≡ length xs)) (each f xs)
@@ -155,14 +135,16 @@ unit_yields kinds line name kind page slots reach ports h = bind (full_name name
   is = refl;
   full = p;
   parts = record {
-    word = subst IsWord (sym q.0) h.1;
-    place = subst (λ (w : List ℕ). kind_place kinds w ≡ Some k) (sym q.0) q.1;
-    page = pa;
-    slots = pb;
-    reach = pc;
+    printable = λ known. let n = u.1 in let m = length-map ts (number_of known) in let some = h.3 in let few = h.4 in record {
+      word = word_any _ (subst IsWord (sym q.0) h.1);
+      first = subst (λ (w : List ℕ). kind_place kinds w ≡ Some k) (sym q.0) q.1;
+      page = pa;
+      slots = pb;
+      reach = pc;
+      some = omega (arith, n, m, some);
+      few = omega (arith, n, m, few);
+    };
     ports = u.0;
-    some = let n = u.1 in let s = h.3 in omega (arith, n, s);
-    few = let n = u.1 in let f = h.4 in omega (arith, n, f);
   };
 })))))))
 
@@ -173,11 +155,6 @@ only_yields (Err e) f h = record { it = tt }
 draft_yields : (kinds : List Meaning) (line : ℕ) (d : Declaration) → GoodDeclaration d → Yields (GoodDraft kinds) (draft_of kinds line d)
 draft_yields kinds line (node role name spec) h = only_yields _ (λ d g. inl g) (node_yields line role name spec h.0 h.1)
 draft_yields kinds line (unit name kind page slots reach ports) h = only_yields _ (λ d g. inr g) (unit_yields kinds line name kind page slots reach ports h)
-
-at_yields : {A : Type 0} (P : A → Type 0) (line : ℕ) (r : Result A Flaw) → Yields P r → Yields P (at_line line r)
-at_yields P line (Ok a) h = record { it = h.it }
-at_yields P line (Err unknown_word) h = record { it = tt }
-at_yields P line (Err out_of_range) h = record { it = tt }
 
 declared_yields : (kinds : List Meaning) (line : ℕ) (d : Declaration) → GoodDeclaration d → Yields (GoodDraft kinds) (declared_by kinds line d)
 declared_yields kinds line d h = at_yields (GoodDraft kinds) line (draft_of kinds line d) (draft_yields kinds line d h)

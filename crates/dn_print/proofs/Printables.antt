@@ -14,14 +14,13 @@ use Rattle.dn_module.specs.declared.draft.DraftUnit.{DraftUnit}
 use Rattle.dn_module.specs.Drafts.{names, parts_of, refers_to_known, number_of, dest_in, entry_in, unit_in, node_in, role_of}
 use Rattle.dn_module.proofs.Closed.{closed}
 use Rattle.dn_parse.specs.Tree.{Role as RoleOf, plain_role, agent_role, vectors_role}
-use Rattle.dn_print.specs.Printable.{IsPrintableBlock, IsPrintableEntry, IsPrintableUnit, HasPrintableUnit, IsPrintableNode, parts_of_node, IsPrintable}
+use Rattle.dn_print.specs.Printable.{IsPrintableBlock, IsPrintableEntry, HasPrintableUnit, IsPrintableNode, parts_of_node, IsPrintable}
 use Rattle.dn_print.proofs.Again.{Refers, nodes_all}
 use Rattle.dn_print.proofs.Counted.{one_agent, one_unit, Counts, counted}
-use Rattle.dn_print.proofs.Formed.{Each, GoodBlock, GoodDest, GoodEntry, GoodParts, GoodDraft}
+use Rattle.dn_print.proofs.Formed.{Each, GoodBlock, GoodDest, GoodEntry, GoodDraft}
 use Rattle.dn_print.proofs.Grown.{grown_few}
 use Rattle.dn_print.proofs.Made.{From}
 use Rattle.dn_print.proofs.Places.{all_of_each, each_map, Distinct, pairs_of_map, total_map}
-use Rattle.dn_print.proofs.Words.{word_any}
 
 -- what a node says with numbers in place of full names
 entry_printable : (known : List (List ℕ)) (e : DraftEntry) → GoodEntry e → IsPrintableEntry (entry_in known e)
@@ -35,13 +34,6 @@ entry_printable known e h =
       some = omega (arith, n, some);
       few = omega (arith, n, few);
     }
-
-unit_printable : (kinds : List Meaning) (known : List (List ℕ)) (u : DraftUnit) → GoodParts kinds u → IsPrintableUnit kinds (unit_in known u)
-unit_printable kinds known u h =
-    let n = length-map u.ports (number_of known) in
-    let some = h.some in
-    let few = h.few in
-    record { word = word_any _ h.word; first = h.place; page = h.page; slots = h.slots; reach = h.reach; some = omega (arith, n, some); few = omega (arith, n, few) }
 
 none_all : {X : Type 0} (P : X → Type 0) → All P []
 none_all P = λ k d l. absurd (omega arith)
@@ -57,7 +49,7 @@ node_printable kinds known d (inr h) = subst (λ (e : Draft). IsPrintableNode ki
   name = h.full;
   accepts = none_all IsPrintableBlock;
   entries = none_all IsPrintableEntry;
-  unit = unit_printable kinds known h.unit h.parts;
+  unit = h.parts.printable known;
 })
 
 -- a node is formed

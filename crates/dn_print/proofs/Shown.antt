@@ -4,6 +4,7 @@ use Rattle.dn_token.specs.Token.{Token}
 use Rattle.dn_parse.specs.Descent.{and_then, Next, Reader, with_front, row, row_from, row_at, one_more, first_and, first_and_most}
 use Rattle.dn_parse.proofs.Series.{first_read, most_read}
 use Rattle.dn_module.specs.Values.{Flaw, each}
+use Rattle.dn_module.proofs.Yields.{Yields, any, bind, given, yielded}
 use Rattle.dn_print.proofs.Formed.{Each}
 use Rattle.dn_print.proofs.Lexes.{Closed, Open, Quiet, closed_then, open_then, closed_none, quiet_none}
 
@@ -24,11 +25,15 @@ pub record Row {X Y : Type 0} (line : ℕ) (text : List ℕ) (next : List Token 
   pub read : (n : ℕ) → length trees ≤ n → (rest : List Token) → End rest → row next n (tokens ++ rest) ≡ Ok (trees, rest)
   pub heads : (rest : List Token) → End rest → Fit (tokens ++ rest)
   pub valued : each value trees ≡ Ok ys
-  pub counted : length trees ≡ length ys
   pub enough : length trees ≤ length tokens
 
 pub each_cons : {X Y : Type 0} (f : X → Result Y Flaw) (x : X) (xs : List X) (y : Y) (ys : List Y) → f x ≡ Ok y → each f xs ≡ Ok ys → each f (x ∷ xs) ≡ Ok (y ∷ ys)
 each_cons f x xs y ys e g = rw (e, g) refl
+
+-- as many values as items
+each_counts : {X Y : Type 0} (f : X → Result Y Flaw) (xs : List X) → Yields (λ ys. length xs ≡ length ys) (each f xs)
+each_counts f [] = record { it = refl }
+each_counts f (x ∷ xs) = bind (f x) _ (any (f x)) (λ y p. bind (each f xs) _ (each_counts f xs) (λ ys n. given (ap (λ (k : ℕ). suc k) n)))
 
 pub row_none : {X Y : Type 0} (line : ℕ) (next : List Token → Next X) (Fit End : List Token → Type 0) (value : X → Result Y Flaw) → ((rest : List Token) → End rest → next rest ≡ Ok None) → ((rest : List Token) → End rest → Fit rest) → Row line [] next Fit End value []
 row_none line next Fit End value none heads = record {
@@ -39,7 +44,6 @@ row_none line next Fit End value none heads = record {
   read = reads;
   heads = heads;
   valued = refl;
-  counted = refl;
   enough = omega arith;
 } where
   reads : (n : ℕ) → 0 ≤ n → (rest : List Token) → End rest → row next n rest ≡ Ok ([], rest)
@@ -61,7 +65,6 @@ row_cons {X} {Y} {line} {text} {tail_text} {reader} {next} {Fit} {End} {value} {
   read = reads;
   heads = λ rest h. fit ((item.tokens ++ tail.tokens) ++ rest);
   valued = each_cons value item.tree tail.trees y ys item.valued tail.valued;
-  counted = ap (λ (n : ℕ). suc n) tail.counted;
   enough = let l = length-append item.tokens tail.tokens in let e = tail.enough in omega arith;
 } where
   reads : (n : ℕ) → length (item.tree ∷ tail.trees) ≤ n → (rest : List Token) → End rest → row next n (t ∷ ((item.tokens ++ tail.tokens) ++ rest)) ≡ Ok (item.tree ∷ tail.trees, rest)
@@ -110,6 +113,6 @@ first_shown {X} {Y} {line} {text} {tail_text} {reader} {next} item tail = both_s
 -- the same of at most so many behind it
 pub most_shown : {X Y : Type 0} {line : ℕ} {text tail_text : List ℕ} {reader : Reader X} {next : List Token → Next X} {Fit End : List Token → Type 0} {value : X → Result Y Flaw} {y : Y} {ys : List Y} (n : ℕ) → length ys ≤ n → Shown line text reader Fit value y → Row line tail_text next Fit End value ys → Shown line (text ++ tail_text) (first_and_most n reader next) End (each value) (y ∷ ys)
 most_shown {X} {Y} {line} {text} {tail_text} {reader} {next} {Fit} {End} {value} {y} {ys} n few item tail = both_shown (first_and_most n reader next) item tail (λ rest h one.
-    let c = tail.counted in
+    let c : length tail.trees ≡ length ys = yielded _ (each value tail.trees) ys (each_counts value tail.trees) tail.valued in
     most_read n reader next (item.tokens ++ (tail.tokens ++ rest)) item.tree (tail.tokens ++ rest) one
     ∙ ap (with_front (item.tree ∷ [])) (tail.read n (omega (arith, c, few)) rest h))

@@ -18,8 +18,8 @@ use Rattle.dn_module.specs.Drafts.{is_known, declared_by, refers_to_known, numbe
 use Rattle.dn_print.specs.Statement.{marked, node_name, kind_text, ports_text, unit_text, statement_text}
 use Rattle.dn_base.proofs.Booleans.{and_parts}
 use Rattle.dn_print.proofs.Titles.{IsFull}
-use Rattle.dn_print.proofs.Words.{IsWord}
-use Rattle.dn_print.proofs.Formed.{Each, GoodParts, GoodDraft, unit_with}
+use Rattle.dn_print.proofs.Words.{IsWord, any_word}
+use Rattle.dn_print.proofs.Formed.{Each, GoodParts, GoodDraft, few_ports, some_ports, unit_with}
 use Rattle.dn_print.proofs.Lexes.{number_token, sign_token, keyword_token, Closed, Quiet, closed_then, open_then, word_closed, decimal_closed, keyword_open, keyword_between}
 use Rattle.dn_print.proofs.Shown.{Shown, row_shown, most_shown}
 use Rattle.dn_print.proofs.Labels.{NameEnd, number_read, name_shown}
@@ -131,17 +131,22 @@ unit_declared kinds line name text w u ports n k a b c p =
 abbrev line_tokens : ℕ → List ℕ → DraftUnit → List Token → List Token → List Token
 line_tokens line w u name ports = name ++ parts_tokens line w u ports
 
+-- the ports of a unit of good parts
+abbrev ports_said : (kinds : List Meaning) (net : List NodeDecl) (known : List (List ℕ)) → Named net known → (line : ℕ) (u : DraftUnit) → GoodParts kinds u → IsTrue (list_all (is_known known) u.ports) → Shown line (ports_text net (map (number_of known) u.ports)) ports_at PortsEnd (each full_name) u.ports
+ports_said kinds net known named line u h k = ports_shown net known named line u.ports h.ports (some_ports kinds u h) (few_ports kinds u h) k
+
 unit_said : (kinds : List Meaning) (net : List NodeDecl) (known : List (List ℕ)) → Named net known → (line before : ℕ) (text : List ℕ) (u : DraftUnit) → IsFull text → GoodParts kinds u → IsTrue (list_all (is_known known) u.ports) → Said kinds line (codes "unit " ++ (text ++ (unit_text (kind_text kinds u.kind) net (unit_in known u) ++ codes ";\n"))) UnitRole (Some u) (unit_with before text u)
 unfolding spelling
 unit_said kinds net known named line before text u full h k =
     let w : List ℕ = kind_text kinds u.kind in
     let name = name_shown line text full in
-    let ports = ports_shown net known named line u.ports h.ports h.some h.few k in
+    let ports = ports_said kinds net known named line u h k in
     let tokens : List Token = line_tokens line w u name.tokens ports.tokens in
-    let a = h.page in
-    let b = h.slots in
-    let c = h.reach in
-    let closed = closed_then name.lexed (kind_quiet (w ++ (codes " page " ++ (decimal u.page ++ (codes " slots " ++ (decimal u.slots ++ (codes " reach " ++ (decimal u.reach ++ (codes " to " ++ ports_text net (map (number_of known) u.ports)))))))))) (parts_closed line w u (ports_text net (map (number_of known) u.ports)) ports.tokens h.word (omega (arith, a)) (omega (arith, b)) (omega (arith, c)) ports.lexed) in
+    let said = h.printable known in
+    let a = said.page in
+    let b = said.slots in
+    let c = said.reach in
+    let closed = closed_then name.lexed (kind_quiet (w ++ (codes " page " ++ (decimal u.page ++ (codes " slots " ++ (decimal u.slots ++ (codes " reach " ++ (decimal u.reach ++ (codes " to " ++ ports_text net (map (number_of known) u.ports)))))))))) (parts_closed line w u (ports_text net (map (number_of known) u.ports)) ports.tokens (any_word w said.word) (omega (arith, a)) (omega (arith, b)) (omega (arith, c)) ports.lexed) in
     record {
       first = keyword_token line UnitWord;
       more = tokens ++ (sign_token line Semicolon ∷ []);
@@ -149,16 +154,17 @@ unit_said kinds net known named line before text u full h k =
       declaration = unit name.tree w (constant u.page) (constant u.slots) (constant u.reach) ports.tree;
       lexed = λ rest. marked_lexed line (codes "unit ") (text ++ (unit_text w net (unit_in known u) ++ codes ";\n")) (keyword_token line UnitWord) (tokens ++ (sign_token line Semicolon ∷ [])) (keyword_open line UnitWord) rest (end_lexed line text (unit_text w net (unit_in known u)) tokens closed rest);
       read = λ rest. statement_read line ((tokens ++ (sign_token line Semicolon ∷ [])) ++ rest) rest (unit name.tree w (constant u.page) (constant u.slots) (constant u.reach) ports.tree) (reads rest);
-      declared = unit_declared kinds line name.tree text w u ports.tree name.valued h.place a b c ports.valued;
+      declared = unit_declared kinds line name.tree text w u ports.tree name.valued said.first a b c ports.valued;
     }
   where
-    reads : (rest : List Token) → unit_at ((line_tokens line (kind_text kinds u.kind) u (name_shown line text full).tokens (ports_shown net known named line u.ports h.ports h.some h.few k).tokens ++ (sign_token line Semicolon ∷ [])) ++ rest) ≡ Ok (unit (name_shown line text full).tree (kind_text kinds u.kind) (constant u.page) (constant u.slots) (constant u.reach) (ports_shown net known named line u.ports h.ports h.some h.few k).tree, sign_token line Semicolon ∷ rest)
+    reads : (rest : List Token) → unit_at ((line_tokens line (kind_text kinds u.kind) u (name_shown line text full).tokens (ports_said kinds net known named line u h k).tokens ++ (sign_token line Semicolon ∷ [])) ++ rest) ≡ Ok (unit (name_shown line text full).tree (kind_text kinds u.kind) (constant u.page) (constant u.slots) (constant u.reach) (ports_said kinds net known named line u h k).tree, sign_token line Semicolon ∷ rest)
     reads rest =
         let w : List ℕ = kind_text kinds u.kind in
+        let said = h.printable known in
         let name = name_shown line text full in
-        let ports = ports_shown net known named line u.ports h.ports h.some h.few k in
+        let ports = ports_said kinds net known named line u h k in
         ap unit_at (append_assoc (line_tokens line w u name.tokens ports.tokens) (sign_token line Semicolon ∷ []) rest)
-        ∙ unit_read line name.tree w u ports.tree name.tokens ports.tokens (sign_token line Semicolon ∷ rest) (kind_any w h.word) (name.read (parts_tokens line w u (ports.tokens ++ (sign_token line Semicolon ∷ rest))) (kind_ends_name line _)) (ports.read (sign_token line Semicolon ∷ rest) (semicolon_ends_ports line rest))
+        ∙ unit_read line name.tree w u ports.tree name.tokens ports.tokens (sign_token line Semicolon ∷ rest) (kind_any w (any_word w said.word)) (name.read (parts_tokens line w u (ports.tokens ++ (sign_token line Semicolon ∷ rest))) (kind_ends_name line _)) (ports.read (sign_token line Semicolon ∷ rest) (semicolon_ends_ports line rest))
 
 -- the line of any node
 pub statement_said : (kinds : List Meaning) (net : List NodeDecl) (known : List (List ℕ)) → Named net known → (line : ℕ) (d : Draft) → GoodDraft kinds d → IsTrue (refers_to_known known d) → Said kinds line (statement_text kinds net (node_in known d)) d.role d.unit d

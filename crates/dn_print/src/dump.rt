@@ -1,8 +1,8 @@
 //! The text of an image.
 
-ghost use Rattle.std.specs.Prelude.{◌≡◌, ◌≤◌, ◌++◌, length, IfOk, OnOk};
+ghost use Rattle.std.specs.Prelude.{◌≡◌, ◌≤◌, ◌++◌, length, take, IfOk, OnOk, is_ok};
 ghost use Rattle.std.specs.String.{string_bytes};
-ghost use Rattle.dn_print.specs.Terms.{dump_text, heading_text, line_text, lines_text};
+ghost use Rattle.dn_print.specs.Terms.{Appended, dump_text, heading_text, line_text, lines_text};
 
 use crate::OutOfMemory;
 use std::alloc::Global;
@@ -16,7 +16,7 @@ pub fn dump_text(alloc: Global, image: &[u8]) -> Result<Vec<u8>, OutOfMemory>
     ensures { IfOk result (λ v. v.items ≡ dump_text image.now) }
 {
     let mut out = heading_text(alloc, image.len())?.into_bytes();
-    push_lines(&mut out, image)?;
+    write_lines(&mut out, image)?;
     Ok(out)
 }
 
@@ -28,21 +28,35 @@ pub fn heading_text(alloc: Global, count: usize) -> Result<String, OutOfMemory>
 }
 
 /// Appends the lines of bytes, 32 in a line. Bytes that are handed in one after the other, each time
-/// a multiple of 32 but the last, have the lines of all of them. For want of memory a part of the
-/// lines may have been appended.
+/// a multiple of 32 but the last, have the lines of all of them. For want of memory nothing is
+/// appended.
 pub fn push_lines(out: &mut Vec<u8>, bytes: &[u8]) -> Result<(), OutOfMemory>
-    ensures { OnOk result (out.new.items ≡ out.old.items ++ lines_text bytes.now) }
+    ensures { Appended out.old.items out.new.items (is_ok result) (lines_text bytes.now) }
+{
+    let len = out.len();
+    let made = write_lines(out, bytes);
+    if made.is_err() {
+        out.truncate(len);
+    }
+    made
+}
+
+/// Appends the lines of bytes. What was there stays in front.
+fn write_lines(out: &mut Vec<u8>, bytes: &[u8]) -> Result<(), OutOfMemory>
+    ensures lines { OnOk result (out.new.items ≡ out.old.items ++ lines_text bytes.now) }
+    ensures kept { take (length out.old.items) out.new.items ≡ out.old.items }
 {
     for line in bytes.chunks(LINE) {
-        push_line(out, line)?;
+        write_line(out, line)?;
     }
     Ok(())
 }
 
-/// Appends a line of at most 32 bytes, two digits each, and its end.
-fn push_line(out: &mut Vec<u8>, line: &[u8]) -> Result<(), OutOfMemory>
+/// Appends a line of at most 32 bytes, two digits each, and its end. What was there stays in front.
+fn write_line(out: &mut Vec<u8>, line: &[u8]) -> Result<(), OutOfMemory>
     requires { length line.now ≤ 32 }
-    ensures { OnOk result (out.new.items ≡ out.old.items ++ line_text line.now) }
+    ensures line { OnOk result (out.new.items ≡ out.old.items ++ line_text line.now) }
+    ensures kept { take (length out.old.items) out.new.items ≡ out.old.items }
 {
     let mut digits = [0u8; 2 * LINE];
     let size = 2 * line.len();

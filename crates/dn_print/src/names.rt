@@ -8,17 +8,18 @@ ghost use Rattle.dn_print.specs.Terms.{Appended, name_text, names_text};
 use crate::OutOfMemory;
 use crate::address::write_address;
 use crate::joined::Item;
+use dn_net::names::Names;
 use dn_net::net::Net;
 use dn_net::node::Name;
 use std::alloc::Global;
 
 /// The names joined by `, `, or `nothing` where there are none, without a line end. `Err` is want
 /// of memory.
-pub fn names_text(alloc: Global, net: &Net, names: &[Name]) -> Result<Vec<u8>, OutOfMemory>
+pub fn names_text(alloc: Global, net: &Net, names: &Names) -> Result<Vec<u8>, OutOfMemory>
     requires { IsTrue (are_there (length net.now) names.now) }
     ensures { IfOk result (λ v. v.items ≡ names_text net.now names.now) }
 {
-    let text = names_string(alloc, net, names)?;
+    let text = names_string(alloc, net, names.list())?;
     Ok(text.into_bytes())
 }
 

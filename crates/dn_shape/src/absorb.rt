@@ -5,7 +5,7 @@ ghost use Rattle.std.specs.List.{list_any};
 ghost use Rattle.std.specs.Option.{option_copied};
 ghost use Rattle.dn_base.specs.Terms.{Answers};
 ghost use Rattle.dn_net.specs.Terms.{IsLegalNet, KeepsNodeRules, is_agent, is_vectors};
-ghost use Rattle.dn_shape.specs.Terms.{HaveEqualViews, IsRuledNet, LeadOn, absorb_fault_view, absorb_outcome, has_port, is_port, leads_to, maps_to, net_past, node_led_past, node_past, why_not_at};
+ghost use Rattle.dn_shape.specs.Terms.{HaveEqualViews, IsRuledNet, LeadOn, absorb_fault_view, absorb_outcome, has_port, is_port, leads_to, maps_to, net_past, node_past, why_not_at};
 ghost use Rattle.dn_walk.specs.Terms.{told_legs};
 
 use crate::copy::{node_copy, unit_copy};
@@ -172,7 +172,8 @@ fn nodes_past(alloc: Global, net: &Net, past: u16, onward: &[Leg]) -> Result<Net
     Ok(made)
 }
 
-/// A node, led past the absorbed one where it leads to it.
+/// A node, which has the rows past the absorbed one in place of its map and its `over` where it leads to
+/// it.
 fn node_past(
     alloc: Global,
     net: &Net,
@@ -190,24 +191,6 @@ fn node_past(
     if node == past || !leads_to(net, node, past) {
         return node_copy(alloc, net, node);
     }
-    node_led_past(alloc, net, past, onward, node)
-}
-
-/// A node with the rows past the absorbed one in place of its map and its `over`.
-fn node_led_past(
-    alloc: Global,
-    net: &Net,
-    past: u16,
-    onward: &[Leg],
-    node: u16,
-) -> Result<NodeDecl, OutOfMemory>
-    requires rules { KeepsNodeRules net.now }
-    requires onward { option_map told_legs (slice_get net.now past) ≡ Some onward.now }
-    requires lead { LeadOn onward.now }
-    requires there { node < length net.now }
-    ensures { IfOk result (λ n. option_map (node_led_past net.now past node)
-        (slice_get net.now node) ≡ Some n) }
-{
     Ok(NodeDecl {
         text: Text::of(alloc, net.text(node))?,
         role: net.role(node),

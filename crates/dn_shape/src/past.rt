@@ -1,18 +1,19 @@
 //! The map entries that lead a node past another.
 
 ghost use Rattle.std.specs.Prelude.{◌≡◌, ◌<◌, ◌≤◌, ◌+◌, ◌-◌, ◌++◌, ℕ, length, map, slice_get, option_map, Some, IfOk, OnOk};
-ghost use Rattle.std.specs.List.{All};
+ghost use Rattle.std.specs.List.{All, flat_map};
 ghost use Rattle.dn_interval.specs.declared.row.End.{End};
 ghost use Rattle.dn_interval.specs.Terms.{seen_by, segs_give};
 ghost use Rattle.dn_net.specs.Terms.{KeepsNodeRules, extended, still};
-ghost use Rattle.dn_shape.specs.Terms.{LeadOn, dest_of_end, entry_of_row, rows_past, told_give, told_onward, walks_past};
+ghost use Rattle.dn_shape.specs.Terms.{LeadOn, dest_of_end, entry_of_row, rows_past, told_give, told_onward};
 ghost use Rattle.dn_walk.specs.Terms.{row_view, told_by_walk, told_legs, told_on};
 
+use crate::spans::block_of;
 use dn_base::OutOfMemory;
 use dn_base::items::Items;
 use dn_interval::{End, Row, Rows, Seg, Span, TOP};
 use dn_net::net::Net;
-use dn_net::node::{Block, Dest, Entry};
+use dn_net::node::{Dest, Entry};
 use dn_walk::leg::{Leg, node_legs};
 use dn_walk::level::{extend_row, met_by};
 use dn_walk::walks::WalkRow;
@@ -33,33 +34,29 @@ pub(crate) fn entries_past(
     requires there { node < length net.now }
     ensures { IfOk result (λ es. es ≡ map entry_of_row (rows_past net.now past node)) }
 {
-    let walks = walks_past(alloc, net, past, onward, node)?;
+    let first = first_walks(alloc, net, node)?;
+    let walks = walks_onward(alloc, &first, past, onward)?;
     let segs = segs_of(alloc, &walks)?;
     let rows = Rows::normal(alloc, &segs)?;
     entries_of(alloc, rows.rows())
 }
 
-/// The walks of one choice from a node, each of which into the other node goes on by one more.
-fn walks_past(
+/// The walks, and in place of each that leads into the node, those by which it goes on.
+fn walks_onward(
     alloc: Global,
-    net: &Net,
+    first: &[WalkRow],
     past: u16,
-    onward: &[Leg],
-    node: u16,
+    legs: &[Leg],
 ) -> Result<Vec<WalkRow>, OutOfMemory>
-    requires rules { KeepsNodeRules net.now }
-    requires onward { option_map told_legs (slice_get net.now past) ≡ Some onward.now }
-    requires lead { LeadOn onward.now }
-    requires there { node < length net.now }
-    ensures walks { IfOk result (λ v. map row_view v.items
-        ≡ map told_by_walk (walks_past net.now past node)) }
-    ensures far { IfOk result (λ v. All (λ r. r.base + (r.span.hi - r.span.lo) ≤ TOP) v.items) }
+    requires legs { LeadOn legs.now }
+    requires far { All (λ r. r.base + (r.span.hi - r.span.lo) ≤ TOP) first.now }
+    requires short { All (λ r. r.len ≤ 64) first.now }
+    ensures { IfOk result (λ v. map row_view v.items
+        ≡ flat_map (told_onward legs.now past) (map row_view first.now)) }
 {
-    let first = first_walks(alloc, net, node)?;
-    let rows = first.as_slice();
     let mut walks = Vec::new(alloc);
-    for row in rows {
-        push_onward(row, past, onward, &mut walks)?;
+    for row in first {
+        push_onward(row, past, legs, &mut walks)?;
     }
     Ok(walks)
 }
@@ -151,12 +148,8 @@ fn entries_of(alloc: Global, rows: &[Row]) -> Result<Items<Entry>, OutOfMemory>
 {
     let mut entries = Vec::with_capacity(alloc, rows.len())?;
     for row in rows {
-        let span = row.span();
         entries.push(Entry {
-            block: Block {
-                lo: span.lo,
-                hi: span.hi,
-            },
+            block: block_of(row.span()),
             dests: dests_of(alloc, row.ends())?,
         })?;
     }

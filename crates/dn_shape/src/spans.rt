@@ -33,10 +33,17 @@ fn blocks_of(alloc: Global, spans: &[Span]) -> Result<Vec<Block>, OutOfMemory>
 {
     let mut blocks = Vec::with_capacity(alloc, spans.len())?;
     for span in spans {
-        blocks.push(Block {
-            lo: span.lo,
-            hi: span.hi,
-        })?;
+        blocks.push(block_of(*span))?;
     }
     Ok(blocks)
+}
+
+/// A span, as a block.
+pub(crate) fn block_of(span: Span) -> Block
+    ensures { result ≡ span_view span }
+{
+    Block {
+        lo: span.lo,
+        hi: span.hi,
+    }
 }

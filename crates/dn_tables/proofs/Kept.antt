@@ -10,7 +10,7 @@ use Rattle.dn_net.specs.declared.node.Unit.{Unit as UnitPart}
 use Rattle.dn_kind.specs.Kind.{is_plain}
 use Rattle.dn_kind.specs.Units.{unit_shape}
 use Rattle.dn_tables.specs.declared.table.NodeTable.{NodeTable}
-use Rattle.dn_tables.specs.Set.{is_sized, is_sized_by, with_table, unit_of_table, unit_in, has_slot_by, has_slot, IsSet}
+use Rattle.dn_tables.specs.Set.{HasSlot, is_sized, is_sized_by, with_table, unit_of_table, unit_in, has_slot_by, has_slot, IsSet}
 
 -- a changed table stands where the table stood
 pub with_table_is : (set : List NodeTable) (node : ℕ) (t : NodeTable) (f : NodeTable → NodeTable) → slice_get set node ≡ Some t → slice_set set node (f t) ≡ with_table set node f
@@ -123,8 +123,7 @@ pub record IsSlot (set : List NodeTable) (node slot : ℕ) (t : NodeTable) : Typ
   pub within : slot < part.slots
   pub sized : IsSizedUnit t part
   pub room : slot * t.width + t.width ≤ length t.words
-  pub there : IsTrue (has_slot_by t.unit slot)
-  pub is_sized : IsTrue (is_sized t)
+  pub has : HasSlot t slot
 
 slot_at : (set : List NodeTable) (node slot : ℕ) (t : NodeTable) → IsTrue (list_all is_sized set) → IsTrue (has_slot set node slot) → t ≡ get_or set node t → IsSlot set node slot t
 slot_at set node slot t all there at =
@@ -142,8 +141,7 @@ slot_at set node slot t all there at =
       within = u.2;
       sized = sized;
       room = slot_room slot u.0.slots t.width (length t.words) u.2 sized.words;
-      there = subst (λ (o : Option NodeTable). IsTrue (has_slot_by (unit_of_table o) slot)) found there;
-      is_sized = test;
+      has = record { sized = test; there = subst (λ (o : Option NodeTable). IsTrue (has_slot_by (unit_of_table o) slot)) found there };
     }
 
 -- the same as a function sees it: by the items inside of a set, and a place that is the node's number

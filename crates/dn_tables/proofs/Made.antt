@@ -192,7 +192,7 @@ words_on_device items set index node slot t sizes told call d word l =
 -- the set is one after it
 pub call_keeps : (items set : List NodeTable) (index node slot : ℕ) (t t' : NodeTable) (writes : List WordWrite) (failed : Bool) (log log' : Option (List TableEvent)) (told told' : Option (List UnitWords)) → IsCallIn items set index node slot t → t' ≡ with_words t t'.words → AreWritten node writes failed log log' told told' t.words t'.words → IsSet (slice_set items index t')
 call_keeps items set index node slot t t' writes failed log log' told told' call same w =
-    set_kept items index t t' call.is_set call.here.is_sized (ap (λ (u : NodeTable). u.unit) same) (ap (λ (u : NodeTable). u.width) same) (ap length w.kept ∙ length_after (take w.made writes) t.words) (ap (λ (u : NodeTable). length u.uses) same)
+    set_kept items index t t' call.is_set call.here.has.sized (ap (λ (u : NodeTable). u.unit) same) (ap (λ (u : NodeTable). u.width) same) (ap length w.kept ∙ length_after (take w.made writes) t.words) (ap (λ (u : NodeTable). length u.uses) same)
 
 -- its writes are made in the set
 pub call_made : (items set : List NodeTable) (index node slot : ℕ) (t t' : NodeTable) (writes seen : List WordWrite) (failed : Bool) (log log' : Option (List TableEvent)) (told told' : Option (List UnitWords)) → IsCallIn items set index node slot t → t' ≡ with_words t t'.words → seen ≡ writes → AreWritten node writes failed log log' told told' t.words t'.words → AreMade node seen failed log log' told told' set (slice_set items index t')

@@ -14,7 +14,7 @@ use Rattle.dn_kind.specs.Tables.{slot_words, record_within, record_spelled, reco
 use Rattle.dn_kind.specs.Units.{unit_shape}
 use Rattle.dn_kind.proofs.Held.{kind_lawful}
 use Rattle.dn_tables.specs.declared.table.NodeTable.{NodeTable}
-use Rattle.dn_tables.specs.Set.{with_words, put_over, with_slot, width_in, unit_of_table, width_of_table, words_of_table, words_of, units_of, fits_by, fits_kinds, is_wide, packed_by, packed_for, packed_in, IsPackableIn, IsEmpty, record_kept}
+use Rattle.dn_tables.specs.Set.{KeepsFit, with_words, put_over, with_slot, width_in, unit_of_table, width_of_table, words_of_table, words_of, units_of, fits_by, fits_kinds, is_wide, packed_by, packed_for, packed_in, IsPackableIn, IsEmpty, record_kept}
 use Rattle.dn_tables.specs.Writes.{WordWrite, writes_from, put_writes, clear_writes, clears_from, words_after, set_after, AreMade}
 use Rattle.dn_tables.proofs.Gates.{gate_while_put, gate_while_cleared, none_by_gate}
 use Rattle.dn_tables.proofs.Kept.{IsSlot, same_change, get_changed, no_change, map_changed, all_changed}
@@ -121,11 +121,11 @@ clear_stopped set set' node slot (suc made) t s e = inr (λ kinds lawful fits.
     (gate_clear t.width slot made t.words s.sized.least s.room))
 
 -- writes keep the units and that the set fits kinds
-pub units_stay : (writes : List WordWrite) (set set' : List NodeTable) (node : ℕ) → set' ≡ set_after node writes set → units_of set' ≡ units_of set
-units_stay writes set set' node e = ap units_of e ∙ map_changed (λ t. t.unit) set node (λ t. with_words t (words_after writes t.words)) (λ t. refl)
-
-pub fits_stay : (writes : List WordWrite) (set set' : List NodeTable) (node : ℕ) → set' ≡ set_after node writes set → (kinds : List Meaning) → IsTrue (fits_kinds kinds set) → IsTrue (fits_kinds kinds set')
-fits_stay writes set set' node e kinds fits = ap (fits_kinds kinds) e ∙ all_changed (λ t. fits_by kinds t.width t.unit) set node (λ t. with_words t (words_after writes t.words)) (λ t. refl) ∙ fits
+pub fit_stays : (writes : List WordWrite) (set set' : List NodeTable) (node : ℕ) → set' ≡ set_after node writes set → KeepsFit set set'
+fit_stays writes set set' node e = record {
+  units = ap units_of e ∙ map_changed (λ t. t.unit) set node (λ t. with_words t (words_after writes t.words)) (λ t. refl);
+  wide = λ kinds fits. ap (fits_kinds kinds) e ∙ all_changed (λ t. fits_by kinds t.width t.unit) set node (λ t. with_words t (words_after writes t.words)) (λ t. refl) ∙ fits;
+}
 
 module _ (kinds : List Meaning) (lawful : All IsLawful kinds) (set : List NodeTable) (node slot : ℕ) (t : NodeTable) (s : IsSlot set node slot t) (fits : IsTrue (fits_kinds kinds set)) (r : Record) (packable : IsPackableIn kinds set node r) where
   k : IsKindOf kinds t s.part

@@ -76,6 +76,11 @@ abbrev pub has_slot_by : Option UnitPart → ℕ → Bool
 has_slot_by None slot = false
 has_slot_by (Some u) slot = nat_lt slot u.slots
 
+-- the table is sized, and its unit has the slot
+pub record HasSlot (t : NodeTable) (slot : ℕ) : Type 0 where
+  pub sized : IsTrue (is_sized t)
+  pub there : IsTrue (has_slot_by t.unit slot)
+
 -- the node is a unit and has the slot
 abbrev pub has_slot : List NodeTable → ℕ → ℕ → Bool
 has_slot set node slot = has_slot_by (unit_in set node) slot
@@ -106,6 +111,11 @@ fits_by kinds width (Some u) = is_wide (slice_get kinds u.kind) width
 -- the set fits the kinds: it has the words of so many records by these kinds
 abbrev pub fits_kinds : List Meaning → List NodeTable → Bool
 fits_kinds kinds set = list_all (λ t. fits_by kinds t.width t.unit) set
+
+-- the second set has the units of the first, and fits the kinds that the first fits
+pub record KeepsFit (set set' : List NodeTable) : Type 0 where
+  pub units : units_of set' ≡ units_of set
+  pub wide : (kinds : List Meaning) → IsTrue (fits_kinds kinds set) → IsTrue (fits_kinds kinds set')
 
 -- the set fits a net and kinds: it keeps exactly the units of this net, and has words for each slot by these kinds
 pub record FitsNet (net : List NodeDecl) (kinds : List Meaning) (set : List NodeTable) : Type 0 where

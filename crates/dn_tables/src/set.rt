@@ -5,7 +5,7 @@ ghost use Rattle.std.specs.List.{All, list_all};
 ghost use Rattle.std.specs.Option.{option_map};
 ghost use Rattle.dn_base.specs.Terms.{IsCounted, Logged, has_unit, is_make_fault, sizes_of};
 ghost use Rattle.dn_kind.specs.Terms.{IsLawful, KeepsUnitShape, Meaning, slot_words};
-ghost use Rattle.dn_tables.specs.Terms.{AreMade, AreUnitsMade, FitsNet, IsEmpty, IsOnDevice, IsPackableIn, IsSet, clear_writes, fits_kinds, fresh_set, has_slot, is_sized, is_zero, make_event, packed_in, put_writes, record_kept, table_on_device, tables_of_set, unit_in, units_of, use_in, width_in, with_slot, with_use, words_in};
+ghost use Rattle.dn_tables.specs.Terms.{AreMade, AreUnitsMade, FitsNet, IsEmpty, IsOnDevice, IsPackableIn, IsSet, KeepsFit, clear_writes, fits_kinds, fresh_set, has_slot, is_sized, is_zero, make_event, packed_in, put_writes, record_kept, table_on_device, tables_of_set, unit_in, use_in, width_in, with_slot, with_use, words_in};
 
 use crate::table::{NodeTable, SlotUse};
 use crate::words::SlotWords;
@@ -119,9 +119,7 @@ impl TableSet {
         ensures stopped { OnErr result (record_kept
             (map (λ k. meaning (k.vtable, k.value)) kinds.now.list.items)
             self.new unit slot ≡ None) }
-        ensures units { units_of self.new ≡ units_of self.old }
-        ensures fits { (others : List Meaning) → IsTrue (fits_kinds others self.old) →
-            IsTrue (fits_kinds others self.new) }
+        ensures fits { KeepsFit self.old self.new }
         ensures on_device { IsOnDevice self.new (D.units device.new) (D.words device.new) }
         ensures counted { IsCounted (D.faults device.old) (D.faults device.new) (is_err result) }
     {
@@ -152,9 +150,7 @@ impl TableSet {
             (D.words device.old) (D.words device.new) self.old self.new }
         ensures stopped { (self.new ≡ self.old) ⊎ ((kinds : List Meaning) → All IsLawful kinds →
             IsTrue (fits_kinds kinds self.old) → record_kept kinds self.new unit slot ≡ None) }
-        ensures units { units_of self.new ≡ units_of self.old }
-        ensures fits { (kinds : List Meaning) → IsTrue (fits_kinds kinds self.old) →
-            IsTrue (fits_kinds kinds self.new) }
+        ensures fits { KeepsFit self.old self.new }
         ensures on_device { IsOnDevice self.new (D.units device.new) (D.words device.new) }
         ensures counted { IsCounted (D.faults device.old) (D.faults device.new) (is_err result) }
     {

@@ -6,7 +6,7 @@ ghost use Rattle.std.specs.Option.{option_copied};
 ghost use Rattle.dn_base.specs.Terms.{IsCounted, has_word};
 ghost use Rattle.dn_net.specs.declared.node.Unit.{Unit as UnitPart};
 ghost use Rattle.dn_kind.specs.Terms.{IsLawful, IsPackable, Meaning, gate_word, has_shape, is_shaped, record_of_unit, slot_words, unit_shape};
-ghost use Rattle.dn_tables.specs.Terms.{AreWritten, clears_from, fits_by, fresh_by, has_slot_by, is_sized, packed_for, width_by, with_words, writes_from};
+ghost use Rattle.dn_tables.specs.Terms.{AreWritten, HasSlot, clears_from, fits_by, fresh_by, packed_for, width_by, with_words, writes_from};
 
 use crate::words::SlotWords;
 use crate::writes::{clear_all, write_all};
@@ -69,8 +69,7 @@ impl NodeTable {
 
     /// The words of a slot.
     pub(crate) fn slot_words(&self, slot: u32) -> SlotWords
-        requires sized { IsTrue (is_sized self.now) }
-        requires there { IsTrue (has_slot_by self.now.unit slot) }
+        requires { HasSlot self.now slot }
         ensures words { result ≡ slot_words self.now.width self.now.words slot }
         ensures count { length result ≡ self.now.width }
     {
@@ -80,8 +79,7 @@ impl NodeTable {
 
     /// The gate word of a slot: the last of its words, without bit 0 of which it holds no record.
     fn gate(&self, slot: u32) -> u64
-        requires sized { IsTrue (is_sized self.now) }
-        requires there { IsTrue (has_slot_by self.now.unit slot) }
+        requires { HasSlot self.now slot }
         ensures { result ≡ gate_word (slot_words self.now.width self.now.words slot) }
     {
         let first = slot as usize * usize::from(self.width);
@@ -95,8 +93,7 @@ impl NodeTable {
         requires fits { IsTrue (fits_by
             (map (λ k. meaning (k.vtable, k.value)) kinds.now.list.items)
             self.now.width self.now.unit) }
-        requires sized { IsTrue (is_sized self.now) }
-        requires there { IsTrue (has_slot_by self.now.unit slot) }
+        requires slot { HasSlot self.now slot }
         ensures { result ≡ record_of_unit
             (map (λ k. meaning (k.vtable, k.value)) kinds.now.list.items)
             self.now.unit (Some self.now.words) slot }
@@ -105,21 +102,6 @@ impl NodeTable {
         if self.gate(slot) == 0 {
             return None;
         }
-        self.spelled_record(kinds, slot)
-    }
-
-    /// The record that the words of a slot spell, where the unit can hold it.
-    fn spelled_record(&self, kinds: &Kinds, slot: u32) -> Option<Record>
-        requires lawful { All (λ k. IsLawful (meaning (k.vtable, k.value))) kinds.now.list.items }
-        requires fits { IsTrue (fits_by
-            (map (λ k. meaning (k.vtable, k.value)) kinds.now.list.items)
-            self.now.width self.now.unit) }
-        requires sized { IsTrue (is_sized self.now) }
-        requires there { IsTrue (has_slot_by self.now.unit slot) }
-        ensures { result ≡ record_of_unit
-            (map (λ k. meaning (k.vtable, k.value)) kinds.now.list.items)
-            self.now.unit (Some self.now.words) slot }
-    {
         match &self.unit {
             Some(unit) => {
                 let kind = kinds.kind(usize::from(unit.kind));
@@ -147,8 +129,7 @@ impl NodeTable {
         requires fits { IsTrue (fits_by
             (map (λ k. meaning (k.vtable, k.value)) kinds.now.list.items)
             self.old.width self.old.unit) }
-        requires sized { IsTrue (is_sized self.old) }
-        requires there { IsTrue (has_slot_by self.old.unit slot) }
+        requires slot { HasSlot self.old slot }
         requires packable { (u : UnitPart) (kind : Meaning) → self.old.unit ≡ Some u →
             slice_get (map (λ k. meaning (k.vtable, k.value)) kinds.now.list.items) u.kind ≡ Some kind →
             IsPackable kind (unit_shape u) «record» }
@@ -184,8 +165,7 @@ impl NodeTable {
         unit: u16,
         slot: u32,
     ) -> Result<(), DeviceFault>
-        requires sized { IsTrue (is_sized self.old) }
-        requires there { IsTrue (has_slot_by self.old.unit slot) }
+        requires slot { HasSlot self.old slot }
         requires on_device { (word : ℕ) → word < length self.old.words →
             has_word (D.units device.old) unit word ≡ true }
         ensures written { AreWritten unit (clears_from (slot * self.old.width) self.old.width)

@@ -43,6 +43,10 @@ use Rattle.dn_tool.specs.Turn.{IsGrantTurn, IsRevokeTurn, IsRouteTurn, IsTurn, S
 added_all : (events : List TableEvent) (log log' : Option (List TableEvent)) → AreAdded events false log log' → Logged log log' events
 added_all events log log' a = subst (λ es. Logged log log' es) (ap (λ n. take n events) (a.all refl) ∙ take-length events) a.logged
 
+-- results that failed in two ways differ
+pub fails_otherwise : {A E : Type 0} (e f : E) → e ≢ f → ◌≢◌ {A = Result A E} (Err e) (Err f)
+fails_otherwise e f differ same = differ (cc)
+
 -- halts
 
 -- there was no memory before the turn
@@ -214,6 +218,10 @@ changed_as {A} P a b r next log log' e c = subst (λ (x : A). CameThroughChange 
 
 -- replies
 
+-- a text that is the reply
+pub replied_as : {P : Turn → Type 0} {next : State} {log log' : Option (List TableEvent)} (reply text : List ℕ) → text ≡ reply → IsChanged P next reply log log' → IsChanged P next text log log'
+replied_as reply text e c = record { turn = c.turn; is_turn = c.is_turn; logged = c.logged; replied = c.replied ∙ sym e; left = c.left }
+
 -- the reply was written, or a part of it
 pub replied : (P : Turn → Type 0) (r : Result (Unit {0}) Halt) (next : State) (reply : List ℕ) (a b : Option (List ℕ)) (log log' : Option (List TableEvent)) → IsChanged P next reply log log' → IsWritten a b (is_ok r) (is_write_halt r) reply → is_device_halt r ≡ false → CameThrough P r next a b log log'
 replied P (Ok u) next reply a b log log' c w none = record {
@@ -341,3 +349,17 @@ state_revoked kinds net k after id n book log log' number known added taken b i 
     (λ g m e. added g m (e ∙ sym number))
     (taken ∙ ap (λ m. without m k.book.grants) number)
     (state_left after book (with_id k.ids id) true b i cleared)
+
+-- a change that was refused, and left the book as it was
+
+pub state_not_granted : (kinds : List Meaning) (net : List NodeDecl) (k after : Kept) (id : List ℕ) (rq : Request) (n : ℕ) (why : GrantFault) (log log' : Option (List TableEvent)) → n ≡ id_number k.ids id → IsGrantRefused net k.book.grants n rq why → log' ≡ log → after.book ≡ k.book → after.ids ≡ with_id k.ids id → IsChanged (IsGrantTurn kinds net (state_view k) id rq) (state_view after) (grant_refused_text id why) log log'
+state_not_granted kinds net k after id rq n why log log' number refused same b i =
+    not_granted_turn kinds net (state_view k) (state_view after) id rq why log log' (subst (λ m. IsGrantRefused net k.book.grants m rq why) number refused) same (state_named after (state_view k) id k.book b refl refl i)
+
+pub state_not_routed : (kinds : List Meaning) (net : List NodeDecl) (k after : Kept) (id : List ℕ) (agent line node n : ℕ) (why : RouteFault) (log log' : Option (List TableEvent)) → n ≡ id_number k.ids id → IsRouteRefused net k.book.grants n agent line node why → log' ≡ log → after.book ≡ k.book → after.ids ≡ with_id k.ids id → IsChanged (IsRouteTurn kinds net (state_view k) id agent line node) (state_view after) (route_refused_text id why) log log'
+state_not_routed kinds net k after id agent line node n why log log' number refused same b i =
+    not_routed_turn kinds net (state_view k) (state_view after) id agent line node why log log' (subst (λ m. IsRouteRefused net k.book.grants m agent line node why) number refused) same (state_named after (state_view k) id k.book b refl refl i)
+
+pub state_not_revoked : (kinds : List Meaning) (net : List NodeDecl) (k after : Kept) (id : List ℕ) (n : ℕ) (log log' : Option (List TableEvent)) → n ≡ id_number k.ids id → has_id n k.book.grants ≡ false → log' ≡ log → after.book ≡ k.book → after.ids ≡ with_id k.ids id → IsChanged (IsRevokeTurn kinds net (state_view k) id) (state_view after) (revoke_refused_text id) log log'
+state_not_revoked kinds net k after id n log log' number none same b i =
+    not_revoked_turn kinds net (state_view k) (state_view after) id log log' (subst (λ m. has_id m k.book.grants ≡ false) number none) same (state_named after (state_view k) id k.book b refl refl i)

@@ -1,5 +1,5 @@
 -- What a demonstration counts, number by number, and commands of which no reply is told.
-use Rattle.std.proofs.Common.{◌≡◌, ◌∙◌, ap, sym, refl, subst, arith, ℕ, suc, ◌+◌, ◌<◌, ◌≤◌, ◌==◌, Bool, true, false, if◌then◌else◌, List, [], ◌∷◌, ◌++◌, take, length, get_or, Option, None, Result, Ok, Err, is_ok, ◌⊎◌, inl, inr, add_assoc}
+use Rattle.std.proofs.Common.{◌≡◌, ◌∙◌, ap, sym, refl, subst, arith, ℕ, suc, ◌+◌, ◌<◌, ◌≤◌, ◌==◌, Bool, true, false, if◌then◌else◌, List, [], ◌∷◌, ◌++◌, take, length, get_or, Option, None, Result, Ok, Err, is_ok, ◌⊎◌, inl, inr, add_assoc, IfOk}
 use Rattle.std.specs.Option.{IfSome}
 use Rattle.std.proofs.lemmas.List.{take_more}
 use Rattle.std.proofs.Math.Seq.{take-length}
@@ -10,17 +10,14 @@ use Rattle.dn_base.specs.declared.device.MakeFault.TheVariants.{Device, OutOfMem
 use Rattle.dn_base.specs.Device.{UnitSize, is_make_fault}
 use Rattle.dn_base.specs.Outside.{IsWritten}
 use Rattle.dn_base.proofs.Logs.{Logged-none}
-use Rattle.dn_base.proofs.Told.{if_some_then}
 use Rattle.dn_net.specs.declared.node.NodeDecl.{NodeDecl}
 use Rattle.dn_net.specs.Rules.{count_below}
 use Rattle.dn_net.proofs.Tally.{count_below-suc}
 use Rattle.dn_kind.specs.Kind.{Meaning}
 use Rattle.dn_module.specs.declared.command.Command.{Command}
-use Rattle.dn_module.specs.declared.command.Command.TheVariants.{Resolve, Lookup, View, Grant, Route, Revoke, Dump, Split, Absorb}
 use Rattle.dn_tables.specs.declared.table.NodeTable.{NodeTable}
 use Rattle.dn_tables.specs.Set.{IsOnDevice, fresh_set, tables_of_set}
 use Rattle.dn_tables.specs.Writes.{AreUnitsMade}
-use Rattle.dn_book.specs.declared.grant.Grant.{Grant as GrantPart}
 use Rattle.dn_book.specs.Tables.{IsKept, tables_of}
 use Rattle.dn_demo.specs.declared.summary.Summary.{Summary}
 use Rattle.dn_demo.specs.Summary.{summary_text}
@@ -32,7 +29,9 @@ use Rattle.dn_tool.specs.Halt.{ending_status, is_device_halt, is_write_halt, mak
 use Rattle.dn_tool.specs.Played.{IsPlayed, device_tables}
 use Rattle.dn_tool.specs.State.{CameThrough, IsChanged, IsTurned}
 use Rattle.dn_tool.specs.Turn.{IsTurn, State, Turn, answered, is_change, reply, start, state_after}
-use Rattle.dn_tool.proofs.Played.{IsGone, device_told, gone_more, gone_start, halted_by, halted_unmade, more_turns, played_whole, turns_count, unmade_by, whole_turns}
+use Rattle.dn_tool.proofs.Changes.{still_turn}
+use Rattle.dn_tool.proofs.Places.{IsNext, begun_at, place}
+use Rattle.dn_tool.proofs.Played.{IsGone, gone_more, gone_start, halted_by, halted_unmade, more_turns, played_whole, turns_count, unmade_by, whole_turns, words_told}
 
 -- a test that passes counts one at most
 pub one_at_most : (b : Bool) → (if b then 1 else 0) ≤ 1
@@ -55,19 +54,7 @@ pub sum_more : (f : ℕ → ℕ) (k : ℕ) → sum_below f (k + 1) ≡ sum_below
 unfolding sum_below
 sum_more f k = let next : k + 1 ≡ suc k = omega arith in ap (sum_below f) next
 
--- the turn of a command that changes nothing
-still_turn : (kinds : List Meaning) (net : List NodeDecl) (s : State) (c : Command) → is_change c ≡ false → IsTurn kinds net s c (answered (reply kinds net s.book c) s)
-still_turn kinds net s (Resolve target a m) e = refl
-still_turn kinds net s (Lookup target a m) e = refl
-still_turn kinds net s (View target m) e = refl
-still_turn kinds net s (Grant id from target base size m) e = cc
-still_turn kinds net s (Route id from line target) e = cc
-still_turn kinds net s (Revoke id) e = cc
-still_turn kinds net s Dump e = refl
-still_turn kinds net s Split e = refl
-still_turn kinds net s (Absorb target) e = refl
-
--- it was gone through, where its reply is told to no one
+-- the turn of a command that changes nothing was gone through, where its reply is told to no one
 pub quiet_still : (kinds : List Meaning) (net : List NodeDecl) (s : State) (c : Command) (log : Option (List TableEvent)) → is_change c ≡ false → IsTurned (IsTurn kinds net s c) s None None log log
 quiet_still kinds net s c log e = record {
   turn = answered (reply kinds net s.book c) s;
@@ -147,10 +134,18 @@ tallied_more kinds net commands i s c log log' log'' granted revoked granted' re
         ∙ ap (λ (cs : List Command). passing_turns p start cs (f.gone.turns ++ turned.turn ∷ [])) (sym first)
         ∙ ap (passing_turns p start (take (i + 1) commands)) (sym turns)
 
--- the words that a device tells are the tables of the book
-words_told : (kinds : List Meaning) (net : List NodeDecl) (book : List GrantPart) (set : List NodeTable) (sizes : List UnitSize) (told : Option (List UnitWords)) → IsKept net kinds book set → IsOnDevice set sizes told → IfSome told (λ tables. tables ≡ device_tables 0 net (tables_of net kinds book))
-words_told kinds net book set sizes told kept on =
-    if_some_then told (λ tables. tables ≡ tables_of_set set) (λ tables. tables ≡ device_tables 0 net (tables_of net kinds book)) (λ tables e. e ∙ device_told set net (tables_of net kinds book) kept.fits.units kept.words) on.words
+-- the units were made, and all commands are still to come
+pub tallied_begun : (kinds : List Meaning) (net : List NodeDecl) (commands rest : List Command) (s : State) (log log' : Option (List TableEvent)) (sizes : List UnitSize) (told told' : Option (List UnitWords)) → rest ≡ commands → s ≡ start → GivesOwed kinds net s.book → AreUnitsMade (tables_of_set (fresh_set kinds net)) true false log log' sizes told told' → IsTallied kinds net commands (place commands rest) s log log' 0 0
+tallied_begun kinds net commands rest s log log' sizes told told' all first owed made =
+    begun_at (λ i z. IsTallied kinds net commands i z log log' 0 0) commands rest s start all first (tallied_start kinds net commands log log' sizes told told' (subst (λ (z : State). GivesOwed kinds net z.book) first owed) made)
+
+-- the next command was gone through, and those behind it are still to come
+pub tallied_next : (kinds : List Meaning) (net : List NodeDecl) (commands rest after : List Command) (c : Command) (s next : State) (log log' log'' : Option (List TableEvent)) (granted revoked granted' revoked' : ℕ) → IsTallied kinds net commands (place commands rest) s log log' granted revoked → IsNext commands rest after c → IsTurned (IsTurn kinds net s c) next None None log' log'' → GivesOwed kinds net next.book
+    → granted' ≡ granted + (if has_granted c (length s.book) (length next.book) then 1 else 0)
+    → revoked' ≡ revoked + (if has_revoked c (length s.book) (length next.book) then 1 else 0)
+    → IsTallied kinds net commands (place commands after) next log log'' granted' revoked'
+tallied_next kinds net commands rest after c s next log log' log'' granted revoked granted' revoked' f at turned owed one other =
+    subst (λ (i : ℕ). IsTallied kinds net commands i next log log'' granted' revoked') (sym at.next) (tallied_more kinds net commands (place commands rest) s c log log' log'' granted revoked granted' revoked' next f at.within at.at turned owed one other)
 
 -- a demonstration that was gone through, and whose line was written as far as the status tells
 pub summed_up : (kinds : List Meaning) (net : List NodeDecl) (agents : ℕ) (commands : List Command) (i status : ℕ) (s : State) (before after : Option (List ℕ)) (log log' : Option (List TableEvent)) (told' : Option (List UnitWords)) (granted revoked : ℕ) (done failed : Bool) → i ≡ length commands → IfSome told' (λ tables. tables ≡ device_tables 0 net (tables_of net kinds s.book)) → IsTallied kinds net commands i s log log' granted revoked → (status == 0) ≡ done → (status == 3) ≡ failed → (status ≡ 0) ⊎ ((status ≡ 3) ⊎ (status ≡ 7))
@@ -218,32 +213,27 @@ shown_unread kinds net agents commands i s ended before log log' told' granted r
   unwritten = refl;
 })
 
--- how a run ends that wrote its line
-abbrev pub line_status : Result (Unit {0}) Halt → ℕ
-line_status (Ok a) = 0
-line_status (Err h) = ending_status (Err h)
-
 -- all commands were gone through, and the line was written as far as it was
-pub shown_written : (kinds : List Meaning) (net : List NodeDecl) (agents : ℕ) (commands : List Command) (i status : ℕ) (s : State) (r : Result (Unit {0}) Halt) (before after : Option (List ℕ)) (log log' : Option (List TableEvent)) (told' : Option (List UnitWords)) (granted revoked : ℕ) (set : List NodeTable) (sizes : List UnitSize) → length commands ≤ i → i ≤ length commands → IsKept net kinds s.book set → IsOnDevice set sizes told' → IsTallied kinds net commands i s log log' granted revoked → status ≡ line_status r → is_device_halt r ≡ false
+pub shown_written : (kinds : List Meaning) (net : List NodeDecl) (agents : ℕ) (commands : List Command) (i : ℕ) (s : State) (r : Result ℕ Halt) (before after : Option (List ℕ)) (log log' : Option (List TableEvent)) (told' : Option (List UnitWords)) (granted revoked : ℕ) (set : List NodeTable) (sizes : List UnitSize) → i ≡ length commands → IsKept net kinds s.book set → IsOnDevice set sizes told' → IsTallied kinds net commands i s log log' granted revoked → IfOk r (λ status. status ≡ 0) → is_device_halt r ≡ false
     → IsWritten before after (is_ok r) (is_write_halt r) (summary_text (summary_with kinds net agents granted revoked s.book))
-    → IsShown kinds net agents commands status before after log log' told'
-shown_written kinds net agents commands i status s r before after log log' told' granted revoked set sizes over few kept on f is no_device w =
-    inl (summed_up kinds net agents commands i status s before after log log' told' granted revoked (is_ok r) (is_write_halt r) (omega (arith, over, few)) (words_told kinds net s.book set sizes told' kept on) f (zero_by r no_device is) (three_by r no_device is) (ended_by r no_device is) w)
+    → IsShown kinds net agents commands (ending_status r) before after log log' told'
+shown_written kinds net agents commands i s r before after log log' told' granted revoked set sizes over kept on f is no_device w =
+    inl (summed_up kinds net agents commands i (ending_status r) s before after log log' told' granted revoked (is_ok r) (is_write_halt r) over (words_told kinds net s.book set sizes told' kept on) f (zero_by r no_device is) (three_by r no_device is) (ended_by r no_device is) w)
   where
-    zero_by : (q : Result (Unit {0}) Halt) → is_device_halt q ≡ false → status ≡ line_status q → (status == 0) ≡ is_ok q
+    zero_by : (q : Result ℕ Halt) → is_device_halt q ≡ false → IfOk q (λ status. status ≡ 0) → (ending_status q == 0) ≡ is_ok q
     zero_by (Ok a) d e = ap (λ n. n == 0) e
-    zero_by (Err WriteFault) d e = ap (λ n. n == 0) e
-    zero_by (Err DeviceFault) d e = ap (λ n. n == 0) e
-    zero_by (Err NoMemory) d e = ap (λ n. n == 0) e
+    zero_by (Err WriteFault) d e = refl
+    zero_by (Err DeviceFault) d e = refl
+    zero_by (Err NoMemory) d e = refl
 
-    three_by : (q : Result (Unit {0}) Halt) → is_device_halt q ≡ false → status ≡ line_status q → (status == 3) ≡ is_write_halt q
+    three_by : (q : Result ℕ Halt) → is_device_halt q ≡ false → IfOk q (λ status. status ≡ 0) → (ending_status q == 3) ≡ is_write_halt q
     three_by (Ok a) d e = ap (λ n. n == 3) e
-    three_by (Err WriteFault) d e = ap (λ n. n == 3) e
-    three_by (Err DeviceFault) d e = ap (λ n. n == 3) e
-    three_by (Err NoMemory) d e = ap (λ n. n == 3) e
+    three_by (Err WriteFault) d e = refl
+    three_by (Err DeviceFault) d e = refl
+    three_by (Err NoMemory) d e = refl
 
-    ended_by : (q : Result (Unit {0}) Halt) → is_device_halt q ≡ false → status ≡ line_status q → (status ≡ 0) ⊎ ((status ≡ 3) ⊎ (status ≡ 7))
+    ended_by : (q : Result ℕ Halt) → is_device_halt q ≡ false → IfOk q (λ status. status ≡ 0) → (ending_status q ≡ 0) ⊎ ((ending_status q ≡ 3) ⊎ (ending_status q ≡ 7))
     ended_by (Ok a) d e = inl e
-    ended_by (Err WriteFault) d e = inr (inl e)
+    ended_by (Err WriteFault) d e = inr (inl refl)
     ended_by (Err DeviceFault) d e = absurd (cc)
-    ended_by (Err NoMemory) d e = inr (inr e)
+    ended_by (Err NoMemory) d e = inr (inr refl)

@@ -49,6 +49,11 @@ first_place commands rest is = let size : length rest ≡ length commands = ap l
 pub first_rest : {X : Type 0} (commands rest : List X) → rest ≡ commands → rest ≡ drop (place commands rest) commands
 first_rest commands rest is = is ∙ ap (λ n. drop n commands) (sym (first_place commands rest is))
 
+-- what holds at the start, where no command is behind, holds where all are still to come
+pub begun_at : {X S : Type 0} (P : ℕ → S → Type 0) (commands rest : List X) (s first : S) → rest ≡ commands → s ≡ first → P 0 first → P (place commands rest) s
+begun_at {X} {S} P commands rest s first all same holds =
+    subst (λ (z : S). P (place commands rest) z) (sym same) (subst (λ (i : ℕ). P i first) (sym (first_place commands rest all)) holds)
+
 -- all are behind, where none is still to come
 last_place : {X : Type 0} (commands rest : List X) → rest ≡ [] → place commands rest ≡ length commands
 last_place commands rest is = let none : length rest ≡ 0 = ap length is in omega (arith, none)

@@ -13,24 +13,26 @@ use Rattle.dn_base.specs.Outside.{Added}
 use Rattle.dn_base.proofs.Lists.{take_past}
 use Rattle.dn_base.proofs.Logs.{Logged-then}
 use Rattle.dn_base.proofs.Orders.{cases_lt}
-use Rattle.dn_base.proofs.Told.{Added-none, Added-then}
+use Rattle.dn_base.proofs.Told.{Added-none, Added-then, if_some_then}
 use Rattle.dn_net.specs.declared.node.NodeDecl.{NodeDecl}
 use Rattle.dn_net.specs.declared.node.Unit.{Unit as UnitPart}
 use Rattle.dn_kind.specs.Kind.{Meaning}
 use Rattle.dn_tables.specs.declared.table.NodeTable.{NodeTable}
-use Rattle.dn_tables.specs.Set.{fresh_set, table_on_device, tables_from, tables_of_set, units_of, words_of}
+use Rattle.dn_tables.specs.Set.{IsOnDevice, fresh_set, table_on_device, tables_from, tables_of_set, units_of, words_of}
 use Rattle.dn_tables.specs.Writes.{AreUnitsMade, make_event}
 use Rattle.dn_tables.proofs.Fresh.{fresh_units}
-use Rattle.dn_book.specs.Tables.{tables_of}
+use Rattle.dn_book.specs.declared.grant.Grant.{Grant}
+use Rattle.dn_book.specs.Tables.{IsKept, tables_of}
 use Rattle.dn_module.specs.declared.command.Command.{Command}
 use Rattle.dn_tool.specs.declared.halt.Halt.{Halt}
 use Rattle.dn_tool.specs.declared.halt.Halt.TheVariants.{WriteFault, DeviceFault, NoMemory}
 use Rattle.dn_tool.specs.Books.{GivesOwed}
 use Rattle.dn_tool.specs.Halt.{ending_status, is_free, make_halt}
 use Rattle.dn_tool.specs.Played.{CameIn, CameTo, IsPlayed, device_tables, making, turn_at}
-use Rattle.dn_tool.specs.State.{CameThrough, IsHalted}
+use Rattle.dn_tool.specs.State.{CameThrough, IsHalted, IsTurned}
 use Rattle.dn_tool.specs.Turn.{AreTurns, IsTurn, State, Turn, answered, events_of, replies_of, start, state_after}
 use Rattle.dn_tool.proofs.Empty.{fresh_tables}
+use Rattle.dn_tool.proofs.Places.{IsNext, begun_at, place}
 
 -- the tables of a set, as a device tells them
 device_from : (node : ℕ) (set : List NodeTable) (net : List NodeDecl) (words : List (List ℕ)) → units_of set ≡ map (λ n. n.unit) net → words_of set ≡ words → tables_from node set ≡ device_tables node net words
@@ -129,6 +131,18 @@ gone_more kinds net commands i s c t a b d log log' log'' g within at is owed w 
       written = subst (λ r. Added a d r) (sym (replies_more (making kinds net ∷ g.turns) t)) (Added-then a b d _ _ g.written w);
       logged = subst (λ es. Logged log log'' es) (sym (events_more (making kinds net ∷ g.turns) t)) (Logged-then log log' log'' _ _ g.logged l);
     }
+
+-- the units were made, and all commands are still to come
+pub gone_begun : (kinds : List Meaning) (net : List NodeDecl) (commands rest : List Command) (s : State) (a : Option (List ℕ)) (log log' : Option (List TableEvent)) (sizes : List UnitSize) (told told' : Option (List UnitWords)) → rest ≡ commands → s ≡ start → GivesOwed kinds net s.book → AreUnitsMade (tables_of_set (fresh_set kinds net)) true false log log' sizes told told' → IsGone kinds net commands (place commands rest) s a a log log'
+gone_begun kinds net commands rest s a log log' sizes told told' all first owed made =
+    begun_at (λ i z. IsGone kinds net commands i z a a log log') commands rest s start all first (gone_start kinds net commands a a log log' sizes told told' (subst (λ (z : State). GivesOwed kinds net z.book) first owed) refl made)
+
+-- the next command was answered, and those behind it are still to come
+pub gone_next : (kinds : List Meaning) (net : List NodeDecl) (commands rest after : List Command) (c : Command) (s next : State) (a b d : Option (List ℕ)) (log log' log'' : Option (List TableEvent)) → IsGone kinds net commands (place commands rest) s a b log log' → IsNext commands rest after c → IsTurned (IsTurn kinds net s c) next b d log' log'' → GivesOwed kinds net next.book → IsGone kinds net commands (place commands after) next a d log log''
+gone_next kinds net commands rest after c s next a b d log log' log'' g at t owed =
+    let there : GivesOwed kinds net t.turn.next.book = subst (λ (z : State). GivesOwed kinds net z.book) (sym t.left) owed in
+    let gone = gone_more kinds net commands (place commands rest) s c t.turn a b d log log' log'' g at.within at.at t.is_turn there t.written t.logged in
+    subst (λ (i : ℕ). IsGone kinds net commands i next a d log log'') (sym at.next) (subst (λ (z : State). IsGone kinds net commands (place commands rest + 1) z a d log log'') t.left gone)
 
 -- places of turns
 
@@ -234,6 +248,11 @@ happened_first : (kinds : List Meaning) (net : List NodeDecl) (commands : List C
 happened_first kinds net commands i ts l h =
     let size : length ts ≡ i = turns_count kinds net start (take i commands) ts h ∙ length-take-le i commands l in
     (size, subst (λ n. AreTurns kinds net start (take n commands) ts) (sym size) h)
+
+-- the words that a device tells are the tables of the book
+pub words_told : (kinds : List Meaning) (net : List NodeDecl) (book : List Grant) (set : List NodeTable) (sizes : List UnitSize) (told : Option (List UnitWords)) → IsKept net kinds book set → IsOnDevice set sizes told → IfSome told (λ tables. tables ≡ device_tables 0 net (tables_of net kinds book))
+words_told kinds net book set sizes told kept on =
+    if_some_then told (λ tables. tables ≡ tables_of_set set) (λ tables. tables ≡ device_tables 0 net (tables_of net kinds book)) (λ tables e. e ∙ device_told set net (tables_of net kinds book) kept.fits.units kept.words) on.words
 
 -- all commands were answered
 pub played_whole : (kinds : List Meaning) (net : List NodeDecl) (commands : List Command) (i status : ℕ) (s : State) (a b : Option (List ℕ)) (log log' : Option (List TableEvent)) (told' : Option (List UnitWords)) → i ≡ length commands → status ≡ 0 → IfSome told' (λ tables. tables ≡ device_tables 0 net (tables_of net kinds s.book)) → IsGone kinds net commands i s a b log log' → IsPlayed kinds net commands status a b log log' told'

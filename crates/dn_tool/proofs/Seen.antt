@@ -19,7 +19,7 @@ use Rattle.dn_view.specs.Views.{AreViewed, ResolvesFromUnder}
 use Rattle.dn_book.specs.declared.grant.Grant.{Grant}
 use Rattle.dn_book.specs.Book.{IsFaithful, owed_names, records_of}
 use Rattle.dn_book.proofs.Owed.{owed_names_are_resolved}
-use Rattle.dn_shape.proofs.Passing.{ends_in, ends_ascend}
+use Rattle.dn_walk.proofs.Ends.{end_in, ends_ascend}
 use Rattle.dn_tool.specs.declared.state.State.{State as Kept}
 use Rattle.dn_tool.specs.State.{IsState}
 use Rattle.dn_tool.specs.Viewed.{owed_rows}
@@ -31,7 +31,7 @@ ends_at net h n a = map end_of (resolved_names_under net h (record { node = n; a
 resolves_end : (net : List NodeDecl) (h : Held) (n a : ℕ) (y : End) → EndIn y (ends_at net h n a) ↔ ResolvesFromUnder net h n a y
 resolves_end net h n a y =
     let x : Name = record { node = n; addr = a } in
-    let in_list = ends_in (resolved_names_under net h x) (name_of_end y) in
+    let in_list = end_in (resolved_names_under net h x) (name_of_end y) in
     let law = end_names_are_ends (steps_under net h) (is_accepted net) step_limit_under x (name_of_end y) in
     ((λ m. law.0 (in_list.0 m)), (λ r. in_list.1 (law.1 r)))
 

@@ -33,15 +33,19 @@ grant_refused_text id why = refused_text id (grant_fault_text why)
 abbrev pub routed_text : List ℕ → ℕ → List ℕ
 routed_text id vector = id ++ (codes " vector " ++ (address_text vector ++ codes "\n"))
 
--- the reply to a route that is refused; a fault of the device and want of memory are not printed
+-- the fault of a grant that is printed as this fault of a route
+abbrev pub grant_fault_of : RouteFault → GrantFault
+grant_fault_of id_used = IdUsed
+grant_fault_of no_agent = NoAgent
+grant_fault_of no_target = NoTarget
+grant_fault_of book_full = BookFull
+grant_fault_of no_placement = NoPlacement
+grant_fault_of device_fault = Device
+grant_fault_of no_memory = OutOfMemory
+
+-- the reply to a route that is refused
 abbrev pub route_refused_text : List ℕ → RouteFault → List ℕ
-route_refused_text id id_used = refused_text id (codes "IdUsed")
-route_refused_text id no_agent = refused_text id (codes "NoAgent")
-route_refused_text id no_target = refused_text id (codes "NoTarget")
-route_refused_text id book_full = refused_text id (codes "BookFull")
-route_refused_text id no_placement = refused_text id (codes "NoPlacement")
-route_refused_text id device_fault = refused_text id []
-route_refused_text id no_memory = refused_text id []
+route_refused_text id why = grant_refused_text id (grant_fault_of why)
 
 -- the reply to a revoke
 abbrev pub revoked_text : List ℕ → List ℕ

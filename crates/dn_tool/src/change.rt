@@ -264,18 +264,18 @@ fn not_accepted(alloc: Global, id: &str, first: u64) -> Result<Items<u8>, AllocE
     refused(alloc, id, fault.as_str())
 }
 
-/// The reply to a route that is refused.
+/// The reply to a route that is refused: that to a grant that is refused so.
 fn route_refused(alloc: Global, id: &str, why: RouteFault) -> Result<Items<u8>, AllocError>
     requires device { why ≢ route_device }
     requires memory { why ≢ route_memory }
     ensures { IfOk result (λ text. text ≡ route_refused_text id.now why) }
 {
     match why {
-        RouteFault::IdUsed => refused(alloc, id, "IdUsed"),
-        RouteFault::NoAgent => refused(alloc, id, "NoAgent"),
-        RouteFault::NoTarget => refused(alloc, id, "NoTarget"),
-        RouteFault::BookFull => refused(alloc, id, "BookFull"),
-        RouteFault::NoPlacement => refused(alloc, id, "NoPlacement"),
+        RouteFault::IdUsed => grant_refused(alloc, id, GrantFault::IdUsed),
+        RouteFault::NoAgent => grant_refused(alloc, id, GrantFault::NoAgent),
+        RouteFault::NoTarget => grant_refused(alloc, id, GrantFault::NoTarget),
+        RouteFault::BookFull => grant_refused(alloc, id, GrantFault::BookFull),
+        RouteFault::NoPlacement => grant_refused(alloc, id, GrantFault::NoPlacement),
         RouteFault::Device => unreachable!(),
         RouteFault::OutOfMemory => unreachable!(),
     }

@@ -73,8 +73,7 @@ pub(crate) fn run_demo<K: Sink, D: Tables>(
         revoked = counted(revoked, revokes);
     }
     let tally = Tally { granted, revoked };
-    write_summary(alloc, machine, agents, tally, &mut state, sink)?;
-    Ok(DONE)
+    write_summary(alloc, machine, agents, tally, &mut state, sink)
 }
 
 /// Does a command, without its reply.
@@ -133,7 +132,7 @@ fn counted(count: u64, passed: bool) -> u64
     if passed { count + 1 } else { count }
 }
 
-/// Writes the line that sums up a demonstration of which this was counted.
+/// Writes the line that sums up a demonstration of which this was counted. The status is `DONE`.
 fn write_summary<K: Sink>(
     alloc: Global,
     machine: Machine,
@@ -141,16 +140,18 @@ fn write_summary<K: Sink>(
     tally: Tally,
     state: &mut State,
     sink: &mut K,
-) -> Result<(), Halt>
+) -> Result<u8, Halt>
     requires ready { IsReady meaning machine state.old }
     ensures written { Writes result (K.written sink.old) (K.written sink.new)
         (summary_text (summary_with
         (kinds_of meaning machine.entry) machine.entry.net.now agents
         tally.granted tally.revoked state.old.book.grants)) }
+    ensures done { IfOk result (λ status. status ≡ 0) }
     ensures halted { HaltsBySink result (K.faults sink.old) (K.faults sink.new) }
 {
     let line = summary_line(alloc, machine, agents, tally, state)?;
-    write_output(sink, line.as_slice())
+    write_output(sink, line.as_slice())?;
+    Ok(DONE)
 }
 
 /// The line that sums up a demonstration of which this was counted.

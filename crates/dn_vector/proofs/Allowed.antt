@@ -1,6 +1,7 @@
 -- What is known of a route for which no refusal holds.
-use Rattle.std.proofs.Common.{◌≡◌, ◌∙◌, sym, ap, refl, subst, ℕ, ◌<◌, Bool, true, false, if◌then◌else◌, not, nat_le, List, [], ◌∷◌, ◌++◌, length, slice_get, Option, Some, None, Result, Err, IsTrue}
+use Rattle.std.proofs.Common.{◌≡◌, ◌∙◌, sym, ap, refl, subst, ℕ, ◌<◌, Bool, true, false, if◌then◌else◌, not, nat_le, List, [], ◌∷◌, ◌++◌, length, slice_get, Option, Some, None, IsTrue}
 use Rattle.std.proofs.lemmas.Bool.{leb-false}
+use Rattle.std.proofs.lemmas.Option.{slice_get_within}
 use Rattle.dn_base.specs.declared.device.TableEvent.{TableEvent}
 use Rattle.std.specs.List.{All}
 use Rattle.dn_net.specs.declared.node.NodeDecl.{NodeDecl}
@@ -17,14 +18,10 @@ use Rattle.dn_placement.specs.declared.request.Request.{Request}
 use Rattle.dn_placement.specs.Exposure.{IsAdmissible}
 use Rattle.dn_placement.specs.Roles.{is_vectors_at}
 use Rattle.dn_book.specs.declared.grant.Grant.{Grant}
-use Rattle.dn_book.specs.declared.book.CommitFault.{CommitFault}
-use Rattle.dn_book.specs.declared.book.CommitFault.TheVariants.{Device as commit_device, OutOfMemory as commit_memory}
 use Rattle.dn_book.specs.Book.{IsFaithful, IsSound, has_id, records_of, slots_of}
 use Rattle.dn_book.specs.Laws.{IsGrantFor}
 use Rattle.dn_book.specs.Writes.{AreAdded, grant_events}
-use Rattle.dn_vector.specs.declared.fault.RouteFault.{RouteFault}
-use Rattle.dn_vector.specs.declared.fault.RouteFault.TheVariants.{IdUsed, NoAgent, NoTarget, BookFull, Device}
-use Rattle.dn_vector.specs.Faults.{fault_of_commit}
+use Rattle.dn_vector.specs.declared.fault.RouteFault.TheVariants.{IdUsed, NoAgent, NoTarget, BookFull}
 use Rattle.dn_vector.specs.Refusal.{route_refusal}
 use Rattle.dn_vector.specs.Route.{IsLeastVector, IsPlacedRoute, IsRouteLogged, IsRouteMade, NoAddition, NoVector, route_at}
 use Rattle.dn_vector.specs.Vectors.{vector_request}
@@ -73,6 +70,15 @@ allowed_is net book id agent node none = by_id (has_id id book) refl none
     by_id true e none = cc
     by_id false e none = by_agent e (is_agent_at (slice_get net agent)) refl none
 
+-- a node that has vectors is there
+pub vectors_there : (net : List NodeDecl) (node : ℕ) → IsTrue (is_vectors_at (slice_get net node)) →
+    node < length net
+vectors_there net node target = by (slice_get net node) refl target
+  where
+    by : (n : Option NodeDecl) → slice_get net node ≡ n → IsTrue (is_vectors_at n) → node < length net
+    by None e t = cc
+    by (Some n) e t = slice_get_within net node n e
+
 -- its grant at the least vector may come into the book
 pub allowed_route : (net : List NodeDecl) (book : List Grant) (id agent line node v : ℕ) (p : Place) →
     route_refusal net book id agent node ≡ None → IsLeastVector net book agent line node v p →
@@ -80,13 +86,6 @@ pub allowed_route : (net : List NodeDecl) (book : List Grant) (id agent line nod
 allowed_route net book id agent line node v p none least =
     let is = allowed_is net book id agent node none in
     record { few = is.few; new = is.new; agent = is.agent_is; rights = refl; placed = least.first.suited.is_placement }
-
--- a fault of the device that a commit hands on was no want of memory
-pub not_memory : (f : CommitFault) (w : RouteFault) →
-    ◌≡◌ {A = Result ℕ RouteFault} (Err w) (Err Device) → w ≡ fault_of_commit f →
-    ◌≡◌ {A = Result (Unit {0}) CommitFault} (Err f) (Err commit_memory) → ⊥
-not_memory commit_device w e h m = cc
-not_memory commit_memory w e h m = cc
 
 -- a grant of its parts
 abbrev pub grant_of : ℕ → Request → Place → Grant

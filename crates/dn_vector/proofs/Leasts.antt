@@ -11,7 +11,7 @@ use Rattle.dn_net.specs.declared.node.NodeDecl.{NodeDecl}
 use Rattle.dn_tables.specs.Placement.{Place}
 use Rattle.dn_book.specs.declared.grant.Grant.{Grant}
 use Rattle.dn_vector.specs.Route.{HasNoPlace, IsLeastVector, NoVector}
-use Rattle.dn_vector.specs.Search.{IsLeastAmong, IsLeastOf}
+use Rattle.dn_vector.specs.Search.{IsLeastOf}
 use Rattle.dn_vector.specs.Vectors.{is_free_vector}
 
 -- the ends of a span that has an address
@@ -68,15 +68,15 @@ module _ (net : List NodeDecl) (book : List Grant) (agent line node : ℕ) where
         | inr h ↦ (let ends = span_ends s a (ap (λ t. in_span t a) at ∙ h) in here a ends.0 ends.1)
       ]
 
-  -- the least of a span is the least of all, where no vector up to the span has a placement
+  -- the least of a span is the least free vector, where none up to the span has a placement
   pub least_here : (xs : List Span) (i : ℕ) (s : Span) (v : ℕ) (p : Place) → i < length xs →
-      s ≡ get_or xs i s → AreMaximal xs →
+      s ≡ get_or xs i s → AreMaximal xs → ((a : ℕ) → has xs a ≡ is_free_vector net book node a) →
       ((a : ℕ) → has (take i xs) a ≡ true → HasNoPlace net book agent line node a) →
-      IsLeastOf net book agent line node s v p → IsLeastAmong net book agent line node xs v p
-  least_here xs i s v p l at max before is = record {
-    among = has_at xs i s v l at (and_from (nat_le s.lo v) (nat_le v s.hi) (le-leb s.lo v is.from) (le-leb v s.hi is.to));
+      IsLeastOf net book agent line node s v p → IsLeastVector net book agent line node v p
+  least_here xs i s v p l at max same before is = record {
+    free = sym (same v) ∙ has_at xs i s v l at (and_from (nat_le s.lo v) (nat_le v s.hi) (le-leb s.lo v is.from) (le-leb v s.hi is.to));
     first = is.first;
-    least = λ a m e. elim (has_cases xs i s a l at e) [
+    least = λ a m e. elim (has_cases xs i s a l at (same a ∙ e)) [
       | inl h ↦ before a h
       | inr h ↦ (elim h [
         | inl k ↦ is.least a (span_ends s a k).0 m
@@ -88,17 +88,7 @@ module _ (net : List NodeDecl) (book : List Grant) (agent line node : ℕ) where
       past : (a : ℕ) → a < v → s.hi < a → ⊥
       past a m k = let t = is.to in omega arith
 
-  -- the least of the free vectors
-  pub least_free : (free : List Span) (v : ℕ) (p : Place) →
-      ((a : ℕ) → has free a ≡ is_free_vector net book node a) →
-      IsLeastAmong net book agent line node free v p → IsLeastVector net book agent line node v p
-  least_free free v p same is = record {
-    free = sym (same v) ∙ is.among;
-    first = is.first;
-    least = λ a m e. is.least a m (same a ∙ e);
-  }
-
-  -- and where none has a placement, no vector is there
+  -- where none of the spans has a placement, no vector is there
   pub none_free : (free : List Span) → ((a : ℕ) → has free a ≡ is_free_vector net book node a) →
       ((a : ℕ) → has free a ≡ true → HasNoPlace net book agent line node a) →
       NoVector net book agent line node

@@ -1,14 +1,29 @@
--- The least of some vectors that has an admissible placement at a line.
-use Rattle.std.specs.Prelude.{◌≡◌, ℕ, ◌<◌, ◌≤◌, true, List, Some}
+-- What a search for a vector goes by, and the least of a span that has an admissible placement at a line.
+use Rattle.std.specs.Prelude.{ℕ, ◌<◌, ◌≤◌, List, Some, map, slice_get, IsTrue}
+use Rattle.std.specs.declared.alloc.Global.{Global}
+use Rattle.std.specs.declared.dyn_box.DynBox.{DynBox}
 use Rattle.dn_interval.specs.declared.span.Span.{Span}
-use Rattle.dn_interval.specs.Spans.{has}
 use Rattle.dn_net.specs.declared.node.NodeDecl.{NodeDecl}
+use Rattle.dn_net.specs.Decode.{is_agent_at}
+use Rattle.dn_kind.specs.Kind.{Meaning}
 use Rattle.dn_tables.specs.Placement.{Place}
 use Rattle.dn_placement.specs.Order.{IsFirst}
+use Rattle.dn_placement.specs.Roles.{is_vectors_at}
 use Rattle.dn_book.specs.declared.grant.Grant.{Grant}
 use Rattle.dn_book.specs.Book.{slots_of}
+use Rattle.dn_book.specs.Tables.{IsKept}
+use Rattle.dn_view.specs.Systems.{IsSystem}
+use Rattle.dn_vector.specs.declared.search.Asked.{Asked}
 use Rattle.dn_vector.specs.Route.{HasNoPlace}
 use Rattle.dn_vector.specs.Vectors.{vector_request}
+
+-- the system is one, the book is kept, the agent is one, and the node has vectors
+pub record IsAsked {K : Type 0} {V : K → Type 0} (means : DynBox K Global V → Meaning) (asked : Asked K V) : Type 0 where
+  pub system : IsSystem means asked.system
+  pub kept : IsKept asked.system.net.now (map means asked.system.kinds.now.list.items)
+      asked.book.now.grants asked.book.now.set
+  pub agent : IsTrue (is_agent_at (slice_get asked.system.net.now asked.agent))
+  pub target : IsTrue (is_vectors_at (slice_get asked.system.net.now asked.node))
 
 -- the vector is the least of a span that has an admissible placement at the line, and this is the first
 pub record IsLeastOf (net : List NodeDecl) (book : List Grant) (agent line node : ℕ) (span : Span)
@@ -17,12 +32,4 @@ pub record IsLeastOf (net : List NodeDecl) (book : List Grant) (agent line node 
   pub to : vector ≤ span.hi
   pub first : IsFirst net (slots_of net book) (vector_request agent node vector) (Some line) p
   pub least : (lesser : ℕ) → span.lo ≤ lesser → lesser < vector →
-      HasNoPlace net book agent line node lesser
-
--- the vector is the least of some that has an admissible placement at the line, and this is the first
-pub record IsLeastAmong (net : List NodeDecl) (book : List Grant) (agent line node : ℕ)
-    (vectors : List Span) (vector : ℕ) (p : Place) : Type 0 where
-  pub among : has vectors vector ≡ true
-  pub first : IsFirst net (slots_of net book) (vector_request agent node vector) (Some line) p
-  pub least : (lesser : ℕ) → lesser < vector → has vectors lesser ≡ true →
       HasNoPlace net book agent line node lesser

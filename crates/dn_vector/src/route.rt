@@ -9,10 +9,9 @@ ghost use Rattle.dn_vector.specs.Terms.{IsRouteLogged, IsRouteTurn, NoAddition, 
 
 use crate::fault::RouteFault;
 use crate::refusal::refusal;
-use crate::search::{Found, least_vector, vector_request};
-use crate::vectors::free_vectors;
+use crate::search::{Asked, Found, least_vector, vector_request};
 use dn_base::device::Tables;
-use dn_book::book::Book;
+use dn_book::book::{Book, CommitFault};
 use dn_book::grant::Grant;
 use dn_view::system::System;
 use std::alloc::Global;
@@ -76,16 +75,26 @@ pub fn route<D: Tables>(
     if let Some(why) = refusal(book, system.net, id, agent, node) {
         return Err(why);
     }
-    let free = free_vectors(alloc, system.net, book.grants(), node)?;
-    let found = least_vector(alloc, book, system, agent, line, node, &free)?;
-    let Some(Found { vector, placement }) = found else {
-        return Err(RouteFault::NoPlacement);
+    let asked = Asked {
+        book,
+        system,
+        agent,
+        line,
+        node,
+    };
+    let Found { vector, placement } = match least_vector(alloc, asked) {
+        Ok(Some(found)) => found,
+        Ok(None) => return Err(RouteFault::NoPlacement),
+        Err(_) => return Err(RouteFault::OutOfMemory),
     };
     let grant = Grant {
         id,
         request: vector_request(agent, node, vector),
         placement,
     };
-    book.commit(alloc, system.net, system.kinds, grant, device)?;
-    Ok(vector)
+    match book.commit(alloc, system.net, system.kinds, grant, device) {
+        Ok(()) => Ok(vector),
+        Err(CommitFault::Device) => Err(RouteFault::Device),
+        Err(CommitFault::OutOfMemory) => Err(RouteFault::OutOfMemory),
+    }
 }

@@ -13,6 +13,7 @@ use Rattle.dn_kind.specs.declared.rights.Rights.{Rights}
 use Rattle.dn_kind.specs.declared.unit_kind.Record.{Record}
 use Rattle.dn_kind.specs.Rights.{allows, are_rights, both_rights}
 use Rattle.dn_kind.specs.Tables.{AreHeld, Extends, Held, ResolvesUnder, StepUnder, allowing}
+use Rattle.dn_kind.proofs.Bounds.{member_get}
 use Rattle.dn_kind.proofs.Ways.{more_records_keep_names}
 use Rattle.dn_tables.specs.declared.placement.Hop.{Hop}
 use Rattle.dn_tables.specs.Placement.{Place}
@@ -34,11 +35,6 @@ same_or a b = elim (cases_lt a b) [
   | inl l ↦ inr (λ e. absurd (omega arith))
   | inr l ↦ (elim (cases_lt b a) [ inl m ↦ inr (λ e. absurd (omega arith)) | inr m ↦ inl (omega arith) ])
 ]
-
-get_member : {X : Type 0} (xs : List X) (i : ℕ) (x : X) → slice_get xs i ≡ Some x → Member x xs
-get_member [] i x at = cc
-get_member (y ∷ ys) zero x at = let e : y ≡ x = cc in inl e
-get_member (y ∷ ys) (suc i) x at = inr (get_member ys i x at)
 
 -- the record of a hop, by its rights
 rec_is : (net : List NodeDecl) (h : Held) (x : Name) (hop : Hop) (j : ℕ) (z : Name)
@@ -339,7 +335,7 @@ module _ (net : List NodeDecl) (slots : Slots) (agent node base : ℕ) (rights :
             within = omega (arith, inside);
             reached = omega (arith, below);
             usable = usable x r.2 hop r.0 w (among hop (inl refl));
-            meets = subst (λ (s : Name). Meets net rq s.node s.addr ks) w.to_is rest.0;
+            meets = subst (λ (s : Name). Meets net rq s.node s.addr ks) (sym w.to_is) rest.0;
           } in
           (meets_hop x r.2 hop r.0 ks w, (joins, rest.1))
 
@@ -604,7 +600,7 @@ module _ (net : List NodeDecl) (slots : Slots) (agent node base : ℕ) (rights :
       -- where the rights are both, any new hop may be the own one
       own_of_both : rights ≡ both_rights → (own : ℕ) × IsOwnHop own
       own_of_both both = elim (new_or start hops k row) [
-        | inl f ↦ (f.0, record { hop = f.1.hop; at = f.1.at; free = (λ u e. new_free f.1.hop (get_member hops f.0 f.1.hop f.1.at) u e (f.1.new u e)); right = right f.0 })
+        | inl f ↦ (f.0, record { hop = f.1.hop; at = f.1.at; free = (λ u e. new_free f.1.hop (member_get hops f.0 f.1.hop f.1.at) u e (f.1.new u e)); right = right f.0 })
         | inr old ↦ absurd (not_all_old old)
       ]
         where
@@ -615,7 +611,7 @@ module _ (net : List NodeDecl) (slots : Slots) (agent node base : ℕ) (rights :
           right : (own i : ℕ) (a : Hop) → slice_get hops i ≡ Some a → (u : UnitPart) → unit_at net a.unit ≡ Some u →
               (t : Record) → all a.unit (a.x / 2 ^ u.page) ≡ Some t → t.rights ≡ hop_rights rights own i
           right own i a at u e t f =
-              elim (found a (get_member hops i a at) u e t f) [
+              elim (found a (member_get hops i a at) u e t f) [
                 | inl s ↦ s.1 ∙ sym (which (nat_eq i own))
                 | inr s ↦ (elim (kind_of a.unit (a.x / 2 ^ u.page) t s) [
                   | inl c ↦ c.2 ∙ both ∙ sym (which (nat_eq i own))
@@ -691,7 +687,7 @@ module _ (net : List NodeDecl) (slots : Slots) (agent node base : ℕ) (rights :
                   beyond l = elim (cases_lt own i) [ inl m ↦ m | inr m ↦ absurd (other (omega arith)) ]
 
               there : (i ≡ own → ⊥) → t.rights ≡ both_rights
-              there other = elim (found a (get_member hops i a at) u e t f) [
+              there other = elim (found a (member_get hops i a at) u e t f) [
                 | inl old ↦ old.1
                 | inr new ↦ (elim (kind_of a.unit (a.x / 2 ^ u.page) t new) [
                   | inl c ↦ absurd (apart other (c.0 ∙ sym s.node_is))

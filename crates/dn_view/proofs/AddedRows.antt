@@ -185,20 +185,26 @@ one_to_stop net h nf u is x y z k c a b = go (unit_at net x.node) refl a b
 
 -- ROWS
 
--- from a name by so many steps of the net to the hop's unit, and through its record to another name
-pub record HopStep (net : List NodeDecl) (h : Held) (x : Name) (hop : Hop) (j : ℕ) (to : Name)
-    : Type 0 where
+-- what a hop is whatever is held: its unit, and the record that sends its name to another
+pub record HopOut (net : List NodeDecl) (hop : Hop) (to : Name) : Type 0 where
   pub unit : UnitPart
   pub is_unit : unit_at net hop.unit ≡ Some unit
   pub low : nat_le hop.x top ≡ true
-  pub before : IsChain (Step net) j x (record { node = hop.unit; addr = hop.x })
   pub rec : Record
-  pub holds : h hop.unit (hop.x / 2 ^ unit.page) ≡ Some rec
   pub is_rec : rec.port ≡ hop.port
   pub node : ℕ
   pub is_port : slice_get unit.ports hop.port ≡ Some node
   pub out : hop.y ≡ rec.page * 2 ^ unit.page + hop.x % 2 ^ unit.page
-  pub to_is : to ≡ record { node = node; addr = hop.y }
+  pub to_is : ◌≡◌ {A = Name} (record { node = node; addr = hop.y }) to
+
+-- from a name by so many steps of the net to the hop's unit, and through the record that is held there
+-- to another name
+pub record HopStep (net : List NodeDecl) (h : Held) (x : Name) (hop : Hop) (j : ℕ) (to : Name)
+    : Type 0 where
+  pub through : HopOut net hop to
+  pub open through use *
+  pub before : IsChain (Step net) j x (record { node = hop.unit; addr = hop.x })
+  pub holds : h hop.unit (hop.x / 2 ^ unit.page) ≡ Some rec
 
 abbrev pub Row : List NodeDecl → Held → Name → List Hop → Name → ℕ → Type 0
 Row net h x [] y k = IsChain (Step net) k x y
@@ -207,19 +213,7 @@ Row net h x (hop ∷ hops) y k =
 
 longer : (net : List NodeDecl) (h : Held) (x z : Name) (hop : Hop) (j : ℕ) (to : Name) → Step net x z →
     HopStep net h z hop j to → HopStep net h x hop (suc j) to
-longer net h x z hop j to m w = record {
-  unit = w.unit;
-  is_unit = w.is_unit;
-  low = w.low;
-  before = (z, m, w.before);
-  rec = w.rec;
-  holds = w.holds;
-  is_rec = w.is_rec;
-  node = w.node;
-  is_port = w.is_port;
-  out = w.out;
-  to_is = w.to_is;
-}
+longer net h x z hop j to m w = record { through = w.through; before = (z, m, w.before); holds = w.holds }
 
 -- a chain is a row
 pub row_of : (net : List NodeDecl) (h : Held) (k : ℕ) (x y : Name) → IsChain (StepUnder net h) k x y →
@@ -251,17 +245,19 @@ row_of net h (suc k) x y c = go (unit_at net x.node) refl c.1 (row_of net h k c.
                 k,
                 c.0,
                 record {
-                  unit = u;
-                  is_unit = e;
-                  low = eb;
+                  through = record {
+                    unit = u;
+                    is_unit = e;
+                    low = eb;
+                    rec = t;
+                    is_rec = refl;
+                    node = p;
+                    is_port = ep;
+                    out = refl;
+                    to_is = is;
+                  };
                   before = refl;
-                  rec = t;
                   holds = et;
-                  is_rec = refl;
-                  node = p;
-                  is_port = ep;
-                  out = refl;
-                  to_is = sym is;
                 },
                 r.1,
                 (omega arith),
@@ -284,7 +280,7 @@ through_record net h x hop j z w =
     let N : Option ℕ → Type 0 = λ p. Member z (to_port p (w.rec.page * 2 ^ w.unit.page + hop.x % 2 ^ w.unit.page)) in
     let B : Bool → Type 0 = λ b. Member z (if b then output w.unit (h hop.unit (hop.x / 2 ^ w.unit.page)) hop.x else []) in
     let Z : ℕ → Type 0 = λ a. ◌≡◌ {A = Name} (record { node = w.node; addr = a }) z in
-    let at : Z (w.rec.page * 2 ^ w.unit.page + hop.x % 2 ^ w.unit.page) = subst Z w.out (sym w.to_is) in
+    let at : Z (w.rec.page * 2 ^ w.unit.page + hop.x % 2 ^ w.unit.page) = subst Z w.out w.to_is in
     let n : N (Some w.node) = inl at in
     let port : slice_get w.unit.ports w.rec.port ≡ Some w.node = ap (slice_get w.unit.ports) w.is_rec ∙ w.is_port in
     let r : R (Some w.rec) = subst N (sym port) n in

@@ -1,6 +1,6 @@
 -- Rows of a legal net under records that its units can hold: they have at most three hops, in different
 -- units, and the name behind the last leads to the row's end alone.
-use Rattle.std.proofs.Common.{◌≡◌, ◌∙◌, sym, ap, refl, subst, ℕ, zero, suc, ◌+◌, ◌-◌, ◌*◌, ◌/◌, ◌%◌, ◌^◌, ◌<◌, ◌≤◌, ◌⊎◌, inl, inr, Bool, true, false, ◌&&◌, nat_lt, nat_le, List, [], ◌∷◌, ◌++◌, map, length, Some, IsSome, slice_get, IsTrue, arith, leb-true, ltb-true, pow_pos, pow-add, mod-lt, mul-le-mul_right, suc-mul, append_assoc}
+use Rattle.std.proofs.Common.{◌≡◌, ◌∙◌, sym, ap, refl, subst, ℕ, zero, suc, ◌+◌, ◌-◌, ◌/◌, ◌%◌, ◌^◌, ◌<◌, ◌≤◌, ◌⊎◌, inl, inr, nat_lt, List, [], ◌∷◌, ◌++◌, map, length, Some, IsSome, slice_get, IsTrue, arith, ltb-true, pow_pos, mod-lt, append_assoc}
 use Rattle.std.proofs.lemmas.List.{length-map}
 use Rattle.std.proofs.lemmas.Option.{slice_get_within}
 use Rattle.std.proofs.lemmas.Bool.{and_parts}
@@ -12,7 +12,6 @@ use Rattle.dn_net.specs.declared.node.Unit.{Unit as UnitPart}
 use Rattle.dn_net.specs.Chain.{IsChain, Member, Reaches}
 use Rattle.dn_net.specs.Decode.{Resolves, Step, StopsAt, is_accepted, is_stop, steps, unit_at}
 use Rattle.dn_net.specs.Legal.{IsLegalNet}
-use Rattle.dn_net.specs.Units.{has_plain_shape}
 use Rattle.dn_net.specs.UnitRules.{IsUnitRow, LeadsTo}
 use Rattle.dn_net.proofs.Plain.{plain_at}
 use Rattle.dn_net.proofs.Stops.{shallow_reach}
@@ -21,39 +20,10 @@ use Rattle.dn_kind.specs.Kind.{is_within}
 use Rattle.dn_kind.specs.Tables.{AreHeld, Held, IsHeld, ResolvesUnder, StepUnder}
 use Rattle.dn_kind.specs.Units.{unit_shape}
 use Rattle.dn_kind.specs.Ways.{Passes, PassesIn, Slot, slot_in}
-use Rattle.dn_kind.proofs.Bounds.{reach_under_is_within}
+use Rattle.dn_kind.proofs.Bounds.{low_output, low_page, member_get, reach_under_is_within}
 use Rattle.dn_kind.proofs.Ways.{chain_passes_slots}
 use Rattle.dn_tables.specs.declared.placement.Hop.{Hop}
 use Rattle.dn_view.proofs.AddedRows.{HopStep, Row, accepted_still, chain_append, chain_more, chain_of_row, fixed_under, one_value, one_way_within, stop_of_hop, stop_part, through_record, unit_still, unit_unaccepted}
-
--- an output is below the reach
-low_output : (p a page reach : ℕ) → p < 2 ^ (reach - page) → page ≤ reach →
-    p * 2 ^ page + a % 2 ^ page < 2 ^ reach
-low_output p a page reach l le =
-    let m : a % 2 ^ page < 2 ^ page = mod-lt a (pow_pos page) in
-    let b : suc p * 2 ^ page ≤ 2 ^ (reach - page) * 2 ^ page = mul-le-mul_right (2 ^ page) l in
-    let c : 2 ^ (reach - page) * 2 ^ page ≡ 2 ^ (reach - page + page) = sym (pow-add 2 (reach - page) page) in
-    let e : reach - page + page ≡ reach = omega arith in
-    let f : 2 ^ (reach - page + page) ≡ 2 ^ reach = ap (λ n. 2 ^ n) e in
-    let g : suc p * 2 ^ page ≡ p * 2 ^ page + 2 ^ page = suc-mul p (2 ^ page) in
-    omega arith
-
--- a plain shape has a page of at most its reach
-page_below : (a b c d e f g : Bool) → (a && b && c && d && e && f && g) ≡ true → d ≡ true
-page_below false b c d e f g h = cc
-page_below true false c d e f g h = cc
-page_below true true false d e f g h = cc
-page_below true true true false e f g h = cc
-page_below true true true true e f g h = refl
-
-low_page : (u : UnitPart) → IsTrue (has_plain_shape u) → u.page ≤ u.reach
-low_page u h =
-    leb-true u.page u.reach (page_below (nat_le u.page 40) (nat_le 1 u.slots) (nat_le u.slots 262144) (nat_le u.page u.reach) (nat_le u.reach 56) (nat_le 1 (length u.ports)) (nat_le (length u.ports) 8) h)
-
-get_member : {X : Type 0} (xs : List X) (i : ℕ) (x : X) → slice_get xs i ≡ Some x → Member x xs
-get_member [] i x at = cc
-get_member (y ∷ ys) zero x at = let e : y ≡ x = cc in inl e
-get_member (y ∷ ys) (suc i) x at = inr (get_member ys i x at)
 
 -- what the record of a hop says of it
 pub record HopFits (unit : UnitPart) (hop : Hop) : Type 0 where
@@ -77,17 +47,9 @@ row_at net h g [] x y k r f = r
 row_at net h g (hop ∷ hops) x y k r f =
     let w : HopStep net h x hop r.0 r.2 = r.3 in
     let w' : HopStep net g x hop r.0 r.2 = record {
-      unit = w.unit;
-      is_unit = w.is_unit;
-      low = w.low;
+      through = w.through;
       before = w.before;
-      rec = w.rec;
       holds = f hop (inl refl) w.unit w.is_unit w.rec w.holds;
-      is_rec = w.is_rec;
-      node = w.node;
-      is_port = w.is_port;
-      out = w.out;
-      to_is = w.to_is;
     } in
     (r.0, r.1, r.2, w', row_at net h g hops r.2 y r.1 r.4 (λ k m. f k (inr m)), r.5)
 
@@ -195,9 +157,9 @@ module _ (net : List NodeDecl) (legal : IsLegalNet net) where
     addr = hop.y;
     stop = record { node = hop'.unit; addr = hop'.x };
     is_part = w.is_unit;
-    has_port = get_member w.unit.ports hop.port w.node w.is_port;
+    has_port = member_get w.unit.ports hop.port w.node w.is_port;
     below = (hop_fits h held x hop j z w).below;
-    reaches = (j', subst (λ s. IsChain (Step net) j' s (record { node = hop'.unit; addr = hop'.x })) w.to_is w'.before);
+    reaches = (j', subst (λ s. IsChain (Step net) j' s (record { node = hop'.unit; addr = hop'.x })) (sym w.to_is) w'.before);
     is_stop = stop_of_hop net h z t hop' j' w';
     is_end = refl;
   }

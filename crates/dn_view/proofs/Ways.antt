@@ -6,11 +6,11 @@ use Rattle.dn_net.specs.declared.node.Unit.{Unit as UnitPart}
 use Rattle.dn_net.specs.Chain.{Member, IsChain, Reaches, ReachesWithin}
 use Rattle.dn_net.specs.Decode.{is_formed, is_accepted, is_stop, is_stop_at, unit_of, unit_at, sent_names, steps, step_limit, Step, Resolves, StopsAt}
 use Rattle.dn_net.specs.Legal.{IsLegalNet}
-use Rattle.dn_net.specs.UnitRules.{LeadsOn, IsUnitRow}
+use Rattle.dn_net.specs.UnitRules.{LeadsOn, LeadsTo, IsUnitRow}
 use Rattle.dn_net.proofs.Steps.{unit_is_bare, node_at}
 use Rattle.dn_net.proofs.Stops.{shallow_reach}
 use Rattle.dn_kind.specs.Tables.{Held, output, steps_by_unit, step_limit_under, StepUnder, ResolvesUnder, AreHeld}
-use Rattle.dn_kind.proofs.Bounds.{Led, led, reach_under_is_within}
+use Rattle.dn_kind.proofs.Bounds.{Led, leads_by, led, reach_under_is_within}
 use Rattle.dn_kind.proofs.Ways.{chain_more, stop_from_step}
 use Rattle.dn_flat.proofs.Chains.{joined}
 use Rattle.dn_view.specs.Passes.{outputs, outputs_by}
@@ -105,18 +105,7 @@ module _ (net : List NodeDecl) (legal : IsLegalNet net) (h : Held) where
 
     leads : (s w : Name) (u : UnitPart) → unit_at net s.node ≡ Some u → Led net s w u → (us : List ℕ) → First w us → LeadsOn net s.node us
     leads s w u e l [] f = tt
-    leads s w u e l (v ∷ vs) f = record {
-      part = u;
-      port = l.port;
-      addr = l.addr;
-      stop = f.0;
-      is_part = e;
-      has_port = l.has_port;
-      below = l.below;
-      reaches = (f.1.1.0, subst (λ y. IsChain (Step net) f.1.1.0 y f.0) (sym l.to) f.1.1.2);
-      is_stop = f.1.0;
-      is_end = f.2;
-    }
+    leads s w u e l (v ∷ vs) f = subst (λ (m : ℕ). LeadsTo net s.node m) f.2 (leads_by net s w f.0 u f.1.1.0 e l f.1.1.2 f.1.0)
 
     more : (n : ℕ) (t w : Name) → IsTrue (is_stop net t) → Member w (outputs net h t) → ((us : List ℕ) × IsUnitRow net us × (length us ≡ n) × First w us) → (us : List ℕ) × IsUnitRow net (t.node ∷ us) × (length us ≡ n)
     more n t w stop m rest = by (unit_at net t.node) refl stop

@@ -11,7 +11,7 @@ ghost use Rattle.dn_view.specs.Terms.{AreTables};
 use crate::output::output;
 use dn_base::OutOfMemory;
 use dn_kind::kinds::Kinds;
-use dn_kind::levels::{push_moved, push_sent, set_of};
+use dn_kind::levels::{LEVELS, first_level, push_moved, push_sent, set_of};
 use dn_kind::rights::Access;
 use dn_net::names::Names;
 use dn_net::net::Net;
@@ -19,9 +19,6 @@ use dn_net::node::Name;
 use dn_net::step::Step;
 use dn_tables::set::TableSet;
 use std::alloc::Global;
-
-/// How many levels of names there are: the name itself, and those after each of 1 to 259 steps.
-const LEVELS: u16 = 260;
 
 /// What a name resolves to for an access under the tables. `Err` is want of memory.
 pub fn resolve(
@@ -42,8 +39,7 @@ pub fn resolve(
         (record_kept (map (λ k. meaning (k.vtable, k.value)) kinds.now.list.items) tables.now)) name) }
 {
     let mut accepted = Vec::new(alloc);
-    let mut level = Names::new(alloc);
-    level.insert(name)?;
+    let mut level = first_level(alloc, name)?;
     for _ in 0..LEVELS {
         if level.list().is_empty() {
             break;

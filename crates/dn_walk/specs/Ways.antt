@@ -3,7 +3,7 @@ use Rattle.std.specs.Prelude.{ℕ, ◌+◌, ◌-◌, Bool, true, false, if◌the
 use Rattle.std.specs.List.{list_any}
 use Rattle.dn_net.specs.declared.node.Name.{Name}
 use Rattle.dn_net.specs.Names.{name_lt, sorted_names}
-use Rattle.dn_net.specs.WalkRules.{first_of, way_by}
+use Rattle.dn_net.specs.WalkRules.{Broken, first_of, has_loop, is_deep, way_by}
 use Rattle.dn_net.specs.declared.node.NodeDecl.{NodeDecl}
 use Rattle.dn_net.specs.Decode.{steps}
 use Rattle.dn_walk.specs.declared.way.Goal.{Goal}
@@ -59,3 +59,8 @@ told_cycle net sorted newest = option_map (λ x. x ∷ way_by (steps net) (level
 -- the names of the path that these levels show
 abbrev pub told_path : List NodeDecl → List (List Told) → List Told → Option (List Name)
 told_path net sorted newest = option_map (λ x. x ∷ way_by (steps net) (levels_lead Anywhere sorted) (length sorted) x) (least_of (start_names false newest))
+
+-- the rule that these levels break: on cycles where `back` is set, and else on how deep a walk goes
+abbrev pub told_fault : Bool → List NodeDecl → List (List Told) → List Told → Option Broken
+told_fault true net sorted newest = option_map has_loop (told_cycle net sorted newest)
+told_fault false net sorted newest = option_map is_deep (told_path net sorted newest)

@@ -1,13 +1,13 @@
 //! The table of the live walks of a net.
 
-ghost use Rattle.std.specs.Prelude.{◌≡◌, ◌<◌, ◌≤◌, ◌++◌, drop, map, length, IfOk, IsTrue, option_map};
+ghost use Rattle.std.specs.Prelude.{◌≡◌, ◌<◌, ◌≤◌, ◌++◌, drop, map, length, IfOk, IsTrue};
 ghost use Rattle.std.specs.List.{All, flat_map};
 ghost use Rattle.std.specs.List.Sorted.{IsNonDecreasingBy};
 ghost use Rattle.dn_base.specs.Terms.{Checks};
-ghost use Rattle.dn_net.specs.Terms.{IsNet, IsShallow, KeepsNodeRules, has_loop, has_plain_units, is_deep, live_walks, step_limit, unit_fault, unit_numbers, walk_fault};
+ghost use Rattle.dn_net.specs.Terms.{IsNet, IsShallow, KeepsNodeRules, has_plain_units, live_walks, step_limit, unit_fault, unit_numbers, walk_fault};
 ghost use Rattle.dn_walk.specs.declared.level.TheConstants.{WALK_LIMIT};
 ghost use Rattle.dn_walk.specs.declared.walks.WalkRow.{WalkRow};
-ghost use Rattle.dn_walk.specs.Terms.{AreWalksOf, row_view, told_by_walk, told_cycle, told_path, walk_fault_view};
+ghost use Rattle.dn_walk.specs.Terms.{AreWalksOf, row_view, told_by_walk, told_fault, walk_fault_view};
 
 use crate::accepted::accepted_sets;
 use crate::chain::first_chain;
@@ -88,10 +88,10 @@ pub fn walks(alloc: Global, net: &Net) -> Result<WalkTable, WalkFault>
     let mut levels = Levels::new(alloc, net.nodes())?;
     'levels: while levels.sorted.len() < LONGEST && !levels.newest.is_empty() {
         levels = levels.grown(alloc, &legs)?;
-        check_cycles(alloc, net, &levels)?;
+        check_newest(alloc, net, &levels, true)?;
     }
     levels = levels.grown(alloc, &legs)?;
-    check_depth(alloc, net, &levels)?;
+    check_newest(alloc, net, &levels, false)?;
     let pieces = checked_rows(alloc, net, levels)?;
     Ok(WalkTable {
         pieces,
@@ -99,34 +99,23 @@ pub fn walks(alloc: Global, net: &Net) -> Result<WalkTable, WalkFault>
     })
 }
 
-/// Refuses the newest level where a walk of it comes back to where it began.
-fn check_cycles(alloc: Global, net: &Net, levels: &Levels) -> Result<(), WalkFault>
+/// Refuses the newest level where it has a walk; where `back` is set, one that comes back to where it
+/// began.
+fn check_newest(alloc: Global, net: &Net, levels: &Levels, back: bool) -> Result<(), WalkFault>
     requires rules { KeepsNodeRules net.now }
     requires there { All (λ (r : WalkRow). r.start < length net.now) levels.now.newest.items }
     requires sorted { All (λ level. IsNonDecreasingBy
         (λ (r : WalkRow). r.start) level) levels.now.sorted.items }
-    ensures { Checks walk_fault_view result (option_map has_loop
-        (told_cycle net.now (map (map row_view) levels.now.sorted.items) (map row_view levels.now.newest.items))) }
+    ensures { Checks walk_fault_view result (told_fault back net.now
+        (map (map row_view) levels.now.sorted.items) (map row_view levels.now.newest.items)) }
 {
-    let Some(first) = least_start(&levels.newest, true) else {
+    let Some(first) = least_start(&levels.newest, back) else {
         return Ok(());
     };
-    let cycle = way(alloc, net, &levels.sorted, first, Goal::To(first))?;
-    Err(WalkFault::Loop { cycle })
-}
-
-/// Refuses the newest level where it has a walk.
-fn check_depth(alloc: Global, net: &Net, levels: &Levels) -> Result<(), WalkFault>
-    requires rules { KeepsNodeRules net.now }
-    requires there { All (λ (r : WalkRow). r.start < length net.now) levels.now.newest.items }
-    requires sorted { All (λ level. IsNonDecreasingBy
-        (λ (r : WalkRow). r.start) level) levels.now.sorted.items }
-    ensures { Checks walk_fault_view result (option_map is_deep
-        (told_path net.now (map (map row_view) levels.now.sorted.items) (map row_view levels.now.newest.items))) }
-{
-    let Some(first) = least_start(&levels.newest, false) else {
-        return Ok(());
-    };
+    if back {
+        let cycle = way(alloc, net, &levels.sorted, first, Goal::To(first))?;
+        return Err(WalkFault::Loop { cycle });
+    }
     let path = way(alloc, net, &levels.sorted, first, Goal::Anywhere)?;
     Err(WalkFault::Deep { path })
 }

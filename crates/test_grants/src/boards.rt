@@ -13,9 +13,9 @@ pub fn port_plan(alloc: Global) -> Result<Plan, Unmade> {
     plan.accepting("ram", Role::Plain, 0, 7)?;
     plan.accepting("rom", Role::Plain, 0, 3)?;
     plan.unit("u", REMAP, 1, 4, 3, &[0, 1])?;
-    plan.mapping("a", Role::Agent, 0, 7, to(2, 0))?;
+    plan.agent("a", 7, to(2, 0))?;
     plan.maps(8, 9, &[to(0, 2)])?;
-    plan.mapping("b", Role::Agent, 0, 1, to(2, 6))?;
+    plan.agent("b", 1, to(2, 6))?;
     plan.maps(2, 2, &[to(0, 0), to(1, 0)])?;
     Ok(plan)
 }
@@ -30,8 +30,8 @@ pub fn row_plan(alloc: Global) -> Result<Plan, Unmade> {
     plan.mapping("between", Role::Plain, 0, 3, to(3, 0))?;
     plan.maps(4, 5, &[to(0, 4)])?;
     plan.unit("inner", PAGES, 0, 4, 2, &[0])?;
-    plan.mapping("a", Role::Agent, 0, 5, to(1, 0))?;
-    plan.mapping("b", Role::Agent, 0, 0, to(3, 3))?;
+    plan.agent("a", 5, to(1, 0))?;
+    plan.agent("b", 0, to(3, 3))?;
     Ok(plan)
 }
 
@@ -44,9 +44,9 @@ pub fn chain_plan(alloc: Global) -> Result<Plan, Unmade> {
     plan.unit("first", PAGES, 1, 2, 2, &[7])?;
     plan.unit("second", PAGES, 0, 3, 2, &[8])?;
     plan.unit("third", PAGES, 0, 3, 2, &[0])?;
-    plan.mapping("a", Role::Agent, 0, 3, to(1, 0))?;
-    plan.mapping("b", Role::Agent, 0, 0, to(2, 2))?;
-    plan.mapping("c", Role::Agent, 0, 0, to(3, 2))?;
+    plan.agent("a", 3, to(1, 0))?;
+    plan.agent("b", 0, to(2, 2))?;
+    plan.agent("c", 0, to(3, 2))?;
     plan.mapping("before_second", Role::Plain, 0, 2, to(2, 0))?;
     plan.mapping("before_third", Role::Plain, 0, 2, to(3, 0))?;
     Ok(plan)
@@ -62,7 +62,7 @@ pub fn vector_plan(alloc: Global) -> Result<Plan, Unmade> {
     plan.unit("near", VECTORS, 0, 3, 2, &[0])?;
     plan.mapping("before_near", Role::Plain, 0, 1, to(2, 1))?;
     plan.unit("far", VECTORS, 0, 3, 2, &[3, 1])?;
-    plan.mapping("nic", Role::Agent, 0, 2, to(4, 0))?;
-    plan.mapping("disk", Role::Agent, 0, 1, to(2, 0))?;
+    plan.agent("nic", 2, to(4, 0))?;
+    plan.agent("disk", 1, to(2, 0))?;
     Ok(plan)
 }

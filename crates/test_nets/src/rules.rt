@@ -68,7 +68,19 @@ fn names_no_port_twice(rt: HostRuntime) -> Result<(), Fail> {
         let net = net_of(alloc, text.as_str())?;
         assert_eq!(rt; fault_of(alloc, &net), wanted, "{last}");
     }
-    let text = format!(in alloc; "{fault}")?;
-    assert_eq!(rt; text.as_str(), "Repeat");
+    Ok(())
+}
+
+#[test]
+fn names_each_rule(rt: HostRuntime) -> Result<(), Fail> {
+    use NodeFault::{OutOfMemory, Overlap, Range, Repeat, VectorSpace};
+    let node = 3;
+    let (range, overlap) = (Range { node }, Overlap { node, addr: 1 });
+    let (repeat, space) = (Repeat { node }, VectorSpace { node });
+    let text = format!(in rt.alloc(); "{range} {overlap} {repeat} {space} {OutOfMemory}")?;
+    assert_eq!(rt;
+        text.as_str(),
+        "Range Overlap Repeat VectorSpace OutOfMemory"
+    );
     Ok(())
 }

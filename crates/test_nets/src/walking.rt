@@ -24,16 +24,21 @@ fn told(alloc: Global, text: &str) -> Result<String, Fail> {
 fn answer(alloc: Global, walks: Result<WalkTable, WalkFault>) -> Result<String, AllocError> {
     match walks {
         Ok(table) => rows(alloc, table.rows()),
-        Err(WalkFault::Wide) => String::from_str(alloc, "Wide"),
-        Err(WalkFault::OutOfMemory) => String::from_str(alloc, "no memory"),
-        Err(WalkFault::Loop { cycle }) => names(alloc, "Loop", cycle.as_slice()),
-        Err(WalkFault::Deep { path }) => names(alloc, "Deep", path.as_slice()),
-        Err(WalkFault::Fork { name, unit }) => {
-            let (node, addr) = (name.node, name.addr);
-            format!(in alloc; "Fork {node}@{addr:x} {unit}")
-        }
-        Err(WalkFault::Chain { units }) => numbers(alloc, units.as_slice()),
+        Err(fault) => broken(alloc, &fault),
     }
+}
+
+/// The words of the rule that is broken, and the names and units that it shows.
+fn broken(alloc: Global, fault: &WalkFault) -> Result<String, AllocError> {
+    let mut text = format!(in alloc; "{fault}")?;
+    match fault {
+        WalkFault::Wide | WalkFault::OutOfMemory => {}
+        WalkFault::Loop { cycle } => push_names(&mut text, cycle.as_slice())?,
+        WalkFault::Deep { path } => push_names(&mut text, path.as_slice())?,
+        WalkFault::Fork { name, unit } => write!(text, " {}@{:x} {unit}", name.node, name.addr)?,
+        WalkFault::Chain { units } => push_numbers(&mut text, units.as_slice())?,
+    }
+    Ok(text)
 }
 
 fn rows(alloc: Global, pieces: &[Items<WalkRow>]) -> Result<String, AllocError> {
@@ -48,20 +53,18 @@ fn rows(alloc: Global, pieces: &[Items<WalkRow>]) -> Result<String, AllocError> 
     Ok(text)
 }
 
-fn names(alloc: Global, word: &str, names: &[Name]) -> Result<String, AllocError> {
-    let mut text = String::from_str(alloc, word)?;
+fn push_names(text: &mut String, names: &[Name]) -> Result<(), AllocError> {
     for name in names {
         write!(text, " {}@{:x}", name.node, name.addr)?;
     }
-    Ok(text)
+    Ok(())
 }
 
-fn numbers(alloc: Global, units: &[u16]) -> Result<String, AllocError> {
-    let mut text = String::from_str(alloc, "Chain")?;
+fn push_numbers(text: &mut String, units: &[u16]) -> Result<(), AllocError> {
     for unit in units {
         write!(text, " {unit}")?;
     }
-    Ok(text)
+    Ok(())
 }
 
 /// Compares what is told of each text with what is wanted.
@@ -86,7 +89,7 @@ bus is accept [20-29, 0xfffffffffffff6-0xfffffffffffffe] map [10-19 to memory at
 ";
 
 #[test]
-fn lists_the_walks_or_names_the_broken_rule(rt: HostRuntime) -> Result<(), Fail> {
+fn lists_the_walks_or_names_the_loop(rt: HostRuntime) -> Result<(), Fail> {
     compare_each(
         &rt,
         &[
@@ -107,7 +110,16 @@ fn lists_the_walks_or_names_the_broken_rule(rt: HostRuntime) -> Result<(), Fail>
                 "a is map [0-9 to b at 100]; b is map [105-110 to a at 50];",
                 "0 0-9 1@64 1;1 69-6e 0@32 1;0 5-9 0@32 2;",
             ),
-            // The least fork: two names fork and reach the unit, and the one in the node of the lesser number is named.
+        ],
+    )
+}
+
+#[test]
+fn names_the_least_fork_before_a_unit(rt: HostRuntime) -> Result<(), Fail> {
+    compare_each(
+        &rt,
+        &[
+            // Two names fork and reach the unit, and the one in the node of the lesser number is named.
             (
                 "m is accept [0-15]; unit u kind pages page 0 slots 16 reach 8 to m; b is map [4-7 to u at 0 and m at 0]; a is map [0-3 to m at 0 and u at 0];",
                 "Fork 2@4 1",
@@ -127,7 +139,16 @@ fn lists_the_walks_or_names_the_broken_rule(rt: HostRuntime) -> Result<(), Fail>
                 "a is map [0-3 to u at 0]; m is accept [0-15]; unit u kind pages page 0 slots 16 reach 8 to n; n is map [0-3 to m at 0 and m at 8];",
                 "0 0-3 2@0 1;3 0-3 1@0 1;3 0-3 1@8 1;",
             ),
-            // The first row of units: a unit behind itself, and a port that is the unit.
+        ],
+    )
+}
+
+#[test]
+fn names_the_first_row_of_units(rt: HostRuntime) -> Result<(), Fail> {
+    compare_each(
+        &rt,
+        &[
+            // A unit behind itself, and a port that is the unit.
             (
                 "n is over u; unit u kind remap page 12 slots 4 reach 16 to n;",
                 "Chain 1 1 1 1",
@@ -192,5 +213,14 @@ fn ends_chains_at_sixty_four_steps(rt: HostRuntime) -> Result<(), Fail> {
         assert!(rt; told.as_str().starts_with(front), "{text}");
         assert!(rt; told.as_str().ends_with(end), "{text}");
     }
+    Ok(())
+}
+
+#[test]
+fn names_the_rules_that_no_text_here_breaks(rt: HostRuntime) -> Result<(), Fail> {
+    let wide = broken(rt.alloc(), &WalkFault::Wide)?;
+    assert_eq!(rt; wide.as_str(), "Wide");
+    let none = broken(rt.alloc(), &WalkFault::OutOfMemory)?;
+    assert_eq!(rt; none.as_str(), "OutOfMemory");
     Ok(())
 }

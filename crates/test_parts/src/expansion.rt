@@ -6,6 +6,7 @@ use dn_module::fault::ExpandFault;
 use dn_net::net::Net;
 use dn_parse::reader::read;
 use std::alloc::{AllocError, Global};
+use std::process::Abort;
 use std::test::Fail;
 
 /// The names of the nodes to which a text expands, each behind a space, or the first fault.
@@ -26,78 +27,92 @@ fn names_of(alloc: Global, net: &Net) -> Result<String, AllocError> {
     Ok(names)
 }
 
-#[test]
-fn expands_or_names_the_first_fault(rt: HostRuntime) -> Result<(), Fail> {
-    let alloc = rt.alloc();
-    let rows = [
-        // Bodies are taken in their order.
-        ("for i in 2..4; a[i] is; end; begin;", " a[2] a[3] a[4]"),
-        ("for i in 3..2; a[i] is; end; b is; begin;", " b"),
-        (
-            "for i in 0..1; for j in i..1; a[i].c[j] is; end; b[i] is; end; begin;",
-            " a[0].c[0] a[0].c[1] b[0] a[1].c[1] b[1]",
-        ),
-        (
-            "for i in 0..1; for i in 5..6; a[i] is; end; b[i] is; end; begin;",
-            "Duplicate { line: 1 }",
-        ),
-        (
-            "module m(num k); x[k] is; end; use m(2) as p; use m(3) as q[1]; begin;",
-            " p.x[2] q[1].x[3]",
-        ),
-        (
-            "module m(); x is; end; module n(); use m() as y; end; for i in 0..1; use n() as c[i]; end; begin;",
-            " c[0].y.x c[1].y.x",
-        ),
-        (
-            "for i in 0..1;\nfor j in 2..1; a[j] is; end; end; b[i] is; begin;",
-            "Unknown { line: 2 }",
-        ),
-        (
-            "module m();\nuse n() as y; end; module n(); end; use m() as z; begin;",
-            "Unknown { line: 2 }",
-        ),
-        (
-            "module m();\nx[i] is; end; for i in 0..1; use m() as z[i]; end; begin;",
-            "Unknown { line: 2 }",
-        ),
-        (
-            "module m(num k);\nend; use m(node k) as z; begin;",
-            "Arguments { line: 2 }",
-        ),
-        (
-            "module m(num k);\nend; use m(i) as z[(0-1)]; begin;",
-            "Unknown { line: 2 }",
-        ),
-        (
-            "module m(num k);\nend; use m(1) as z[(0-1)]; begin;",
-            "Value { line: 2 }",
-        ),
-        (
-            "module m(num k, node k); end; begin;",
-            "Duplicate { line: 1 }",
-        ),
-        // Each statement and each turn counts.
-        ("for i in 0..65534;\nend; begin;", ""),
-        ("for i in 0..65533;\nend; a is; begin;", " a"),
-        (
-            "for i in 0..65534;\nend;\na is; begin;",
-            "TooMany { line: 3, limit: 65536 }",
-        ),
-        (
-            "\nfor i in 0..65535;\nend; begin;",
-            "TooMany { line: 2, limit: 65536 }",
-        ),
-        (
-            "for i in 0xffffffffffffffff..0xffffffffffffffff; a is; end; begin;",
-            " a",
-        ),
-    ];
+/// Compares what each text expands to with what is wanted.
+fn compare_each<R: Abort + AllocGlobal>(rt: &R, rows: &[(&str, &str)]) -> Result<(), Fail> {
     for (text, wanted) in rows {
-        let names = names(alloc, text)?;
-        assert_eq!(rt; names.as_str(), wanted);
+        let names = names(rt.alloc(), text)?;
+        assert_eq!(rt; names.as_str(), *wanted, "{text}");
     }
     Ok(())
+}
+
+#[test]
+fn expands_or_names_the_first_fault(rt: HostRuntime) -> Result<(), Fail> {
+    compare_each(
+        &rt,
+        &[
+            // Bodies are taken in their order.
+            ("for i in 2..4; a[i] is; end; begin;", " a[2] a[3] a[4]"),
+            ("for i in 3..2; a[i] is; end; b is; begin;", " b"),
+            (
+                "for i in 0..1; for j in i..1; a[i].c[j] is; end; b[i] is; end; begin;",
+                " a[0].c[0] a[0].c[1] b[0] a[1].c[1] b[1]",
+            ),
+            (
+                "for i in 0..1; for i in 5..6; a[i] is; end; b[i] is; end; begin;",
+                "Duplicate { line: 1 }",
+            ),
+            (
+                "module m(num k); x[k] is; end; use m(2) as p; use m(3) as q[1]; begin;",
+                " p.x[2] q[1].x[3]",
+            ),
+            (
+                "module m(); x is; end; module n(); use m() as y; end; for i in 0..1; use n() as c[i]; end; begin;",
+                " c[0].y.x c[1].y.x",
+            ),
+            (
+                "for i in 0..1;\nfor j in 2..1; a[j] is; end; end; b[i] is; begin;",
+                "Unknown { line: 2 }",
+            ),
+            (
+                "module m();\nuse n() as y; end; module n(); end; use m() as z; begin;",
+                "Unknown { line: 2 }",
+            ),
+            (
+                "module m();\nx[i] is; end; for i in 0..1; use m() as z[i]; end; begin;",
+                "Unknown { line: 2 }",
+            ),
+            (
+                "module m(num k);\nend; use m(node k) as z; begin;",
+                "Arguments { line: 2 }",
+            ),
+            (
+                "module m(num k);\nend; use m(i) as z[(0-1)]; begin;",
+                "Unknown { line: 2 }",
+            ),
+            (
+                "module m(num k);\nend; use m(1) as z[(0-1)]; begin;",
+                "Value { line: 2 }",
+            ),
+            (
+                "module m(num k, node k); end; begin;",
+                "Duplicate { line: 1 }",
+            ),
+        ],
+    )
+}
+
+#[test]
+fn counts_each_statement_and_each_turn(rt: HostRuntime) -> Result<(), Fail> {
+    compare_each(
+        &rt,
+        &[
+            ("for i in 0..65534;\nend; begin;", ""),
+            ("for i in 0..65533;\nend; a is; begin;", " a"),
+            (
+                "for i in 0..65534;\nend;\na is; begin;",
+                "TooMany { line: 3, limit: 65536 }",
+            ),
+            (
+                "\nfor i in 0..65535;\nend; begin;",
+                "TooMany { line: 2, limit: 65536 }",
+            ),
+            (
+                "for i in 0xffffffffffffffff..0xffffffffffffffff; a is; end; begin;",
+                " a",
+            ),
+        ],
+    )
 }
 
 /// A module of a processor, and two uses of it.
@@ -151,5 +166,20 @@ fn takes_commands_before_references(rt: HostRuntime) -> Result<(), Fail> {
         let fault = expand(alloc, &tree, &Kinds::none(alloc)).err();
         assert_eq!(rt; fault, Some(wanted));
     }
+    Ok(())
+}
+
+#[test]
+fn names_each_fault(rt: HostRuntime) -> Result<(), Fail> {
+    use ExpandFault::{Arguments, Duplicate, OutOfMemory, TooMany, Unknown, Value};
+    let alloc = rt.alloc();
+    let line = 1;
+    let (twice, unknown, other) = (Duplicate { line }, Unknown { line }, Arguments { line });
+    let (value, many) = (Value { line }, TooMany { line, limit: 256 });
+    let words = format!(in alloc; "{twice} {unknown} {other} {value} {many} {OutOfMemory}")?;
+    assert_eq!(rt;
+        words.as_str(),
+        "Duplicate Unknown Arguments Value TooMany OutOfMemory"
+    );
     Ok(())
 }

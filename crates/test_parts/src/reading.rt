@@ -59,3 +59,19 @@ fn faults_have_their_lines(rt: HostRuntime) -> Result<(), Fail> {
     }
     Ok(())
 }
+
+#[test]
+fn names_each_fault(rt: HostRuntime) -> Result<(), Fail> {
+    use ParseFault::{Block, Length, Nesting, OutOfMemory, Statement, Token};
+    let line = 1;
+    let (token, statement) = (Token { line }, Statement { line });
+    let (block, nesting) = (Block { line }, Nesting { line });
+    let words = format!(in rt.alloc();
+        "{Length} {token} {statement} {block} {nesting} {OutOfMemory}"
+    )?;
+    assert_eq!(rt;
+        words.as_str(),
+        "Length Token Statement Block Nesting OutOfMemory"
+    );
+    Ok(())
+}

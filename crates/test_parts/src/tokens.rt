@@ -69,3 +69,11 @@ fn tokens_have_their_lines(rt: HostRuntime) -> Result<(), Fail> {
     }
     Ok(())
 }
+
+#[test]
+fn names_each_fault(rt: HostRuntime) -> Result<(), Fail> {
+    let (bad, memory) = (TokenFault::Bad { line: 1 }, TokenFault::OutOfMemory);
+    let words = format!(in rt.alloc(); "{bad} {memory}")?;
+    assert_eq!(rt; words.as_str(), "Bad OutOfMemory");
+    Ok(())
+}

@@ -48,7 +48,7 @@ impl Plan {
     /// pages, node 5.
     pub fn pages(alloc: Global) -> Result<Plan, Unmade> {
         let mut plan = Plan::bus(alloc)?;
-        plan.mapping("dma", Role::Agent, 0, 0xffff, to(5, 0))?;
+        plan.agent("dma", 0xffff, to(5, 0))?;
         plan.unit("smmu", PAGES, 12, 16, 32, &[2])?;
         Ok(plan)
     }
@@ -76,6 +76,11 @@ impl Plan {
     ) -> Result<(), Unmade> {
         self.node(title, role)?;
         self.maps(lo, hi, &[dest])
+    }
+
+    /// Begins an agent that sends the addresses up to `hi` to a destination.
+    pub fn agent(&mut self, title: &str, hi: u64, dest: Dest) -> Result<(), Unmade> {
+        self.mapping(title, Role::Agent, 0, hi, dest)
     }
 
     /// Begins a node that is a unit: its kind by its number, the exponent of its page, its slots, the

@@ -3,7 +3,7 @@
 use crate::legal;
 use dn_net::node::{Dest, Role};
 use dn_shape::absorb::absorb;
-use dn_shape::fault::{AbsorbFault, SplitFault};
+use dn_shape::fault::{AbsorbFault, SplitFault, Why};
 use dn_shape::split::split;
 use std::alloc::Global;
 use std::process::Abort;
@@ -107,5 +107,22 @@ fn keeps_each_limit(rt: HostRuntime) -> Result<(), Fail> {
     assert_eq!(rt; absorbed(&rt, alloc, kept)?, None);
     let passed = names_plan(alloc, 5, 4)?;
     assert_eq!(rt; absorbed(&rt, alloc, passed)?, names);
+    Ok(())
+}
+
+#[test]
+fn names_each_fault(rt: HostRuntime) -> Result<(), Fail> {
+    let alloc = rt.alloc();
+    let limit = 8;
+    let split = format!(in alloc;
+        "{} {}",
+        SplitFault::TooMany { limit },
+        SplitFault::OutOfMemory
+    )?;
+    assert_eq!(rt; split.as_str(), "TooMany OutOfMemory");
+    let agent = AbsorbFault::NotAbsorbable { why: Why::Agent };
+    let (limit, none) = (AbsorbFault::TooMany { limit }, AbsorbFault::OutOfMemory);
+    let absorbed = format!(in alloc; "{agent} {limit} {none}")?;
+    assert_eq!(rt; absorbed.as_str(), "NotAbsorbable TooMany OutOfMemory");
     Ok(())
 }

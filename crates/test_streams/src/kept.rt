@@ -1,5 +1,7 @@
 //! The words of each fault, and the lists and texts that structs keep.
 
+use dn_base::device::DeviceFault;
+use dn_base::device::MakeFault::{Device, OutOfMemory};
 use dn_base::items::Items;
 use dn_base::sink::WriteFault;
 use dn_base::source::ReadFault;
@@ -22,6 +24,13 @@ fn names_each_fault(rt: HostRuntime) -> Result<(), Fail> {
         printed.as_str(),
         "Failed Failed OutOfMemory Failed OutOfMemory"
     );
+    Ok(())
+}
+
+#[test]
+fn names_each_fault_of_a_device(rt: HostRuntime) -> Result<(), Fail> {
+    let printed = format!(in rt.alloc(); "{Device} {OutOfMemory} {DeviceFault}")?;
+    assert_eq!(rt; printed.as_str(), "Device OutOfMemory DeviceFault");
     Ok(())
 }
 

@@ -8,7 +8,7 @@ use test_plans::{PAGES, Plan, REMAP, Unmade, VECTORS, to};
 /// pages of a mebibyte, node 5, and behind the node `hostin`, node 6, `iommu` of 256 pages, node 7.
 pub fn row_plan(alloc: Global) -> Result<Plan, Unmade> {
     let mut plan = Plan::bus(alloc)?;
-    plan.mapping("phi", Role::Agent, 0, 0x3f_ffff, to(5, 0))?;
+    plan.agent("phi", 0x3f_ffff, to(5, 0))?;
     plan.unit("smpt", REMAP, 20, 4, 24, &[6])?;
     plan.mapping("hostin", Role::Plain, 0, 0xf_ffff, to(7, 0))?;
     plan.unit("iommu", PAGES, 12, 256, 32, &[2])?;
@@ -20,7 +20,7 @@ pub fn row_plan(alloc: Global) -> Result<Plan, Unmade> {
 pub fn vector_plan(alloc: Global) -> Result<Plan, Unmade> {
     let mut plan = Plan::new(alloc);
     plan.accepting("cpu0", Role::Vectors, 0x20, 0x2f)?;
-    plan.mapping("nic", Role::Agent, 0, 3, to(2, 0))?;
+    plan.agent("nic", 3, to(2, 0))?;
     plan.unit("irt", VECTORS, 0, 4, 8, &[0])?;
     Ok(plan)
 }
@@ -31,7 +31,7 @@ pub fn port_plan(alloc: Global) -> Result<Plan, Unmade> {
     let mut plan = Plan::new(alloc);
     plan.accepting("ram", Role::Plain, 0, 0xffff)?;
     plan.accepting("rom", Role::Plain, 0, 0xffff)?;
-    plan.mapping("a", Role::Agent, 0, 0x3fff, to(3, 0))?;
+    plan.agent("a", 0x3fff, to(3, 0))?;
     plan.unit("u", REMAP, 12, 4, 14, &[0, 1])?;
     Ok(plan)
 }
@@ -44,6 +44,6 @@ pub fn two_units(alloc: Global) -> Result<Plan, Unmade> {
     plan.node("ram", Role::Plain)?;
     plan.unit("first", REMAP, 12, 2, 32, &[0])?;
     plan.unit("second", VECTORS, 0, 1, 32, &[0])?;
-    plan.mapping("a", Role::Agent, 0, 0x1fff, to(1, 0))?;
+    plan.agent("a", 0x1fff, to(1, 0))?;
     Ok(plan)
 }

@@ -104,3 +104,22 @@ fn name_fields(rt: &impl Abort, alloc: Global, kinds: &Kinds) -> Result<(), Fail
 fn takes_exactly_the_images_of_a_net(rt: HostRuntime) -> Result<(), Fail> {
     run_with_kinds!(rt; take_versions, refuse_lengths, name_fields)
 }
+
+#[test]
+fn names_each_fault_of_an_image(rt: HostRuntime) -> Result<(), Fail> {
+    let alloc = rt.alloc();
+    for (fault, words) in [
+        (ImageFault::Short { at: 143 }, "Short"),
+        (ImageFault::Header { at: 4 }, "Header"),
+        (ImageFault::Shape { unit: 0 }, "Shape"),
+        (ImageFault::Trailing { at: 144 }, "Trailing"),
+        (ImageFault::OutOfMemory, "OutOfMemory"),
+    ] {
+        let printed = format!(in alloc; "{fault} {}", LookupFault::Image(fault))?;
+        assert_eq!(rt; printed.as_str().strip_suffix(" Image"), Some(words));
+    }
+    let (agent, memory) = (LookupFault::NoAgent, LookupFault::OutOfMemory);
+    let printed = format!(in alloc; "{agent} {memory}")?;
+    assert_eq!(rt; printed.as_str(), "NoAgent OutOfMemory");
+    Ok(())
+}

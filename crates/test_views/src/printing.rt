@@ -1,8 +1,8 @@
 //! The printed texts of nets, of names and of rows.
 
+use crate::seen_texts;
 use dn_net::node::Name;
 use dn_print::names::names_text;
-use dn_print::rows::rows_text;
 use std::test::Fail;
 use test_kit::Machine;
 use test_kit::texts::printed;
@@ -47,7 +47,7 @@ fn prints_names_or_nothing(rt: HostRuntime) -> Result<(), Fail> {
     ];
     for (addr, text) in rows {
         let names = machine.resolved(alloc, Name { node: 2, addr })?;
-        let printed = names_text(alloc, machine.net(), names.list())?;
+        let printed = names_text(alloc, machine.net(), &names)?;
         assert_eq!(rt; printed.as_slice(), text.as_bytes(), "{text}");
     }
     Ok(())
@@ -70,8 +70,7 @@ fn prints_a_line_for_each_row(rt: HostRuntime) -> Result<(), Fail> {
     ];
     for (text, wanted) in rows {
         let machine = Machine::of_text(alloc, text)?;
-        let flat = machine.flat(alloc, 2)?;
-        let printed = rows_text(alloc, machine.net(), &flat.accepts)?;
+        let (printed, _) = seen_texts(alloc, &machine, 2)?;
         assert_eq!(rt; printed.as_slice(), wanted.as_bytes(), "{text}");
     }
     Ok(())

@@ -1,9 +1,9 @@
 //! What is seen past very many walks, by stages too, and what all nodes see at once.
 
+use crate::seen_texts;
 use crate::views::SMALL;
 use dn_flat::stage::Stage;
 use dn_interval::{End, Rows, Span};
-use dn_print::rows::rows_text;
 use std::test::Fail;
 use test_kit::Machine;
 
@@ -22,8 +22,7 @@ b[17] is accept [0x0-0xff];
 fn sees_past_many_walks(rt: HostRuntime) -> Result<(), Fail> {
     let alloc = rt.alloc();
     let machine = Machine::of_text(alloc, CROWD)?;
-    let flat = machine.flat(alloc, 0)?;
-    let text = rows_text(alloc, machine.net(), &flat.accepts)?;
+    let (text, _) = seen_texts(alloc, &machine, 0)?;
     assert_eq!(rt;
         text.as_slice(),
         b"0x0-0xff a[17]@0x0, b[17]@0x0\n".as_slice()

@@ -1,7 +1,7 @@
 //! What each node of a net sees, printed as rows, and compared with what its names resolve to.
 
+use crate::seen_texts;
 use dn_net::node::Name;
-use dn_print::rows::rows_text;
 use std::alloc::Global;
 use std::process::Abort;
 use std::test::Fail;
@@ -34,11 +34,9 @@ fn compare_seen(
 ) -> Result<(), Fail> {
     let machine = Machine::of_text(alloc, text)?;
     for (node, accepts, stops) in rows {
-        let flat = machine.flat(alloc, *node)?;
-        let given = rows_text(alloc, machine.net(), &flat.accepts)?;
-        assert_eq!(rt; given.as_slice(), accepts.as_bytes(), "node {node}");
-        let given = rows_text(alloc, machine.net(), &flat.stops)?;
-        assert_eq!(rt; given.as_slice(), stops.as_bytes(), "node {node}");
+        let seen = seen_texts(alloc, &machine, *node)?;
+        assert_eq!(rt; seen.0.as_slice(), accepts.as_bytes(), "node {node}");
+        assert_eq!(rt; seen.1.as_slice(), stops.as_bytes(), "node {node}");
     }
     Ok(())
 }

@@ -122,22 +122,6 @@ pub fn port_of(unit: &Unit, port: u8) -> Option<u16> {
     unit.ports.as_slice().get(usize::from(port)).copied()
 }
 
-/// To what each of these names resolves under records.
-pub fn views_of(
-    alloc: Global,
-    net: &Net,
-    held: &[Held],
-    asked: &[Asked],
-) -> Result<Vec<Names>, Fail>
-    requires { IsLegalNet net.now }
-{
-    let mut views = Vec::new(alloc);
-    for each in asked {
-        views.push(ends_of(alloc, net, held, each.access, each.name)?.accepted)?;
-    }
-    Ok(views)
-}
-
 /// A name of an agent that is asked for an access.
 #[derive(Clone, Copy)]
 pub struct Asked {

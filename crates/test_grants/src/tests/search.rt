@@ -2,7 +2,7 @@
 
 ghost use Rattle.dn_net.specs.Terms.{IsLegalNet};
 
-use crate::tests::records::{Asked, Ends, Held, asked_of, ends_of, port_of, power, views_of};
+use crate::tests::records::{Asked, Ends, Held, asked_of, ends_of, port_of, power};
 use dn_book::book::Book;
 use dn_kind::rights::{Access, Rights};
 use dn_kind::unit_kind::Record;
@@ -299,7 +299,10 @@ pub fn site_of(alloc: Global, net: &Net, book: &Book, most: u64) -> Result<Site,
     let asked = asked_of(alloc, net, most)?;
     let taken = taken_of(alloc, net, book)?;
     let held = held_of(alloc, taken.as_slice())?;
-    let before = views_of(alloc, net, held.as_slice(), asked.as_slice())?;
+    let mut before = Vec::new(alloc);
+    for each in asked.as_slice() {
+        before.push(ends_of(alloc, net, held.as_slice(), each.access, each.name)?.accepted)?;
+    }
     Ok(Site {
         taken,
         asked,

@@ -1,42 +1,48 @@
-use Rattle.std.proofs.Common.{◌≡◌, ◌∙◌, ◌-◌, ◌<◌, refl, sym, ap, subst, rules, arith, get_or, length, map, reverse, slice_get, List, Some, true, false, is_err}
+use Rattle.std.proofs.Common.{◌≡◌, ◌∙◌, ℕ, ◌-◌, ◌<◌, refl, sym, ap, subst, rules, arith, get_or, length, map, reverse, slice_get, List, Option, Some, IsSome, IfSome, IsTrue, true, false, is_err}
 use Rattle.dn_base.specs.Outside.{IsCounted}
 use Rattle.dn_base.proofs.Counts.{counted_then}
+use Rattle.dn_net.specs.declared.node.Unit.{Unit as UnitPart}
+use Rattle.dn_kind.specs.declared.rights.Rights.{Rights}
 use Rattle.dn_kind.specs.Kind.{Meaning}
+use Rattle.dn_kind.specs.Rights.{are_rights}
+use Rattle.dn_kind.specs.Units.{has_shape}
 use Rattle.dn_tables.specs.declared.placement.Hop.{Hop}
-use Rattle.dn_tables.proofs.Slots.{all_of_map}
+use Rattle.dn_tables.specs.Set.{FitsNet}
 use Rattle.dn_placement.specs.Records.{hop_rights}
-use Rattle.dn_book.specs.Sets.{AreOpen}
+use Rattle.dn_book.specs.Sets.{AreOpen, FitsUnit}
 use Rattle.dn_book.specs.Writes.{grant_slots, hop_slots}
-use Rattle.dn_book.proofs.InOrder.{GrantPuts, behind_all, hop_member, hop_opened, joined_more, rest_of_lists, turn_behind, turn_hop}
+use Rattle.dn_book.proofs.Facts.{fits_net_kept}
+use Rattle.dn_book.proofs.InOrder.{GrantPuts, behind_all, grant_puts, hop_of_grant, hop_opened, joined_more, rest_of_lists, turn_behind, turn_hop}
 use Rattle.dn_book.proofs.Parts.{put_end, put_next, put_stopped}
+use Rattle.dn_book.proofs.Units.{unit_fits}
 use Rattle.dn_book.proofs.puts.put_grant.Goals as goal
 
-pub put_hop-requires-clause-there : goal.put_hop-requires-clause-there
-put_hop-requires-clause-there g c =
-    let d : Hop = record { unit = 0; port = 0; x = 0; y = 0 } in
-    let at : slice_get c.args.grant.now.placement.hops (length c.args.grant.now.placement.hops - 1 - c.loop-behind.behind) ≡ Some (get_or c.hops-hops.result.now (length c.hops-hops.result.now - 1 - c.loop-behind.behind) d) = turn_hop c.args.grant.now.placement.hops c.hops-hops.result.now c.loop-behind.behind d c.hops-hops.ensures.value c.loop-behind-test.true in
-    c.requires.hops.units (get_or c.hops-hops.result.now (length c.hops-hops.result.now - 1 - c.loop-behind.behind) d) (hop_member c.args.grant.now.placement.hops (length c.args.grant.now.placement.hops - 1 - c.loop-behind.behind) _ at)
-
-pub put_hop-requires-clause-open : goal.put_hop-requires-clause-open
-put_hop-requires-clause-open g c =
+pub put_hop-requires : goal.put_hop-requires
+put_hop-requires g c =
     let kinds : List Meaning = map (λ k. (goal.UnitKind-dyn g (k.vtable, k.value)).meaning k.value) c.args.kinds.now.list.items in
     let d : Hop = record { unit = 0; port = 0; x = 0; y = 0 } in
-    let at : slice_get c.args.grant.now.placement.hops (length c.args.grant.now.placement.hops - 1 - c.loop-behind.behind) ≡ Some (get_or c.hops-hops.result.now (length c.hops-hops.result.now - 1 - c.loop-behind.behind) d) = turn_hop c.args.grant.now.placement.hops c.hops-hops.result.now c.loop-behind.behind d c.hops-hops.ensures.value c.loop-behind-test.true in
-    let grant : GrantPuts kinds c.args.net.now c.args.tables.now c.args.grant.now = record {
-      lawful = all_of_map (λ k. (goal.UnitKind-dyn g (k.vtable, k.value)).meaning k.value) c.args.kinds.now.list.items c.requires.lawful;
-      is_set = c.facts.ensures;
-      fits = c.requires.fits;
-      shaped = c.requires.shaped;
-      hops = c.requires.hops;
-      rights = c.requires.rights;
-      opened = c.requires.open;
-    } in
+    let place : ℕ = length c.args.grant.now.placement.hops - 1 - c.loop-behind.behind in
+    let hop : Hop = get_or c.hops-hops.result.now (length c.hops-hops.result.now - 1 - c.loop-behind.behind) d in
+    let at : slice_get c.args.grant.now.placement.hops place ≡ Some hop = turn_hop c.args.grant.now.placement.hops c.hops-hops.result.now c.loop-behind.behind d c.hops-hops.ensures.value c.loop-behind-test.true in
+    let grant : GrantPuts kinds c.args.net.now c.args.tables.now c.args.grant.now = grant_puts (λ k. (goal.UnitKind-dyn g (k.vtable, k.value)).meaning k.value) c.args.kinds.now.list.items c.args.net.now c.args.tables.now c.args.grant.now _ _ c.facts.ensures c.requires in
+    let here = hop_of_grant kinds c.args.net.now c.args.tables.now c.args.grant.now grant place hop at in
+    let fits : FitsNet c.args.net.now kinds c.loop-behind.tables = fits_net_kept c.args.net.now kinds c.args.tables.now c.loop-behind.tables c.loop-behind.invariant.put.fits c.requires.fits in
     let own : c.from-own.result ≡ c.args.grant.now.placement.own = c.from-own.ensures ∙ c.own.ensures.value in
     let n : length c.hops-hops.result.now ≡ length c.args.grant.now.placement.hops = ap length c.hops-hops.ensures.value in
-    let rights : c.hop_rights-rights.result ≡ hop_rights c.args.grant.now.request.rights c.args.grant.now.placement.own (length c.args.grant.now.placement.hops - 1 - c.loop-behind.behind) = c.hop_rights-rights.ensures ∙ ap (λ w. hop_rights c.args.grant.now.request.rights w (length c.hops-hops.result.now - 1 - c.loop-behind.behind)) own ∙ ap (λ m. hop_rights c.args.grant.now.request.rights c.args.grant.now.placement.own (m - 1 - c.loop-behind.behind)) n in
+    let rights : c.hop_rights-rights.result ≡ hop_rights c.args.grant.now.request.rights c.args.grant.now.placement.own place = c.hop_rights-rights.ensures ∙ ap (λ w. hop_rights c.args.grant.now.request.rights w (length c.hops-hops.result.now - 1 - c.loop-behind.behind)) own ∙ ap (λ m. hop_rights c.args.grant.now.request.rights c.args.grant.now.placement.own (m - 1 - c.loop-behind.behind)) n in
     let low : c.loop-behind.behind < length c.args.grant.now.placement.hops = let l = c.loop-behind-test.true in omega arith in
-    subst (λ r. AreOpen c.loop-behind.tables (hop_slots c.args.net.now c.args.grant.now.request.size r (get_or c.hops-hops.result.now (length c.hops-hops.result.now - 1 - c.loop-behind.behind) d))) (sym rights)
-    (hop_opened kinds c.args.net.now c.args.tables.now c.loop-behind.tables c.args.grant.now c.loop-behind.behind (length c.args.grant.now.placement.hops - 1 - c.loop-behind.behind) _ _ _ grant low refl at c.loop-behind.invariant.put)
+    record {
+      lawful = c.requires.lawful;
+      fits = fits.wide;
+      on_device = c.loop-behind.invariant.on_device;
+      is_unit = unit_fits c.args.net.now kinds c.loop-behind.tables fits hop.unit;
+      some = subst (λ (o : Option UnitPart). IsSome o) (sym here.1) refl;
+      there = subst (λ (o : Option UnitPart). IfSome o (λ u. FitsUnit u c.args.grant.now.request.size hop)) (sym here.1) here.2.fit;
+      shaped = subst (λ (o : Option UnitPart). IsTrue (has_shape kinds o)) (sym here.1) here.2.shaped;
+      rights = subst (λ (r : Rights). IsTrue (are_rights r)) (sym rights) here.2.rights;
+      opened = subst (λ (r : Rights). AreOpen c.loop-behind.tables (hop_slots c.args.net.now c.args.grant.now.request.size r hop)) (sym rights)
+          (hop_opened kinds c.args.net.now c.args.tables.now c.loop-behind.tables c.args.grant.now c.loop-behind.behind place hop _ _ grant low refl at c.loop-behind.invariant.put);
+    }
 
 pub returns-in_err-put_hop-clause-put : goal.returns-in_err-put_hop-clause-put
 returns-in_err-put_hop-clause-put g c =

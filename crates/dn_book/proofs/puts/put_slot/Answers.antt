@@ -7,19 +7,19 @@ use Rattle.dn_book.proofs.puts.put_slot.Goals as goal
 
 pub put-requires-clause-empty : goal.put-requires-clause-empty
 put-requires-clause-empty g c =
-    c.requires.open (put_at c.args.unit c.args.slot c.args.holds) (inl refl) (sym c.is_unused.ensures ∙ c.if-is_unused.true)
+    c.requires.opened (put_at c.args.unit c.args.slot c.args.holds) (inl refl) (sym c.is_unused.ensures ∙ c.if-is_unused.true)
 
 pub returns-in_err-put-clause-put : goal.returns-in_err-put-clause-put
 returns-in_err-put-clause-put g c =
     let kinds : List Meaning = map (λ k. (goal.UnitKind-dyn g (k.vtable, k.value)).meaning k.value) c.args.kinds.now.list.items in
     let same : is_err c.from_residual.result ≡ is_err c.put.result = search rules in
-    put_one kinds (put_at c.args.unit c.args.slot c.args.holds) (is_err c.put.result) (is_err c.from_residual.result) _ _ _ _ c.args.tables.now c.put.new.self (sym c.is_unused.ensures ∙ c.if-is_unused.true) same (ok_by_err c.put.result _ c.put.ensures.ok) (record { units = c.put.ensures.units; wide = c.put.ensures.fits }) c.put.ensures.made
+    put_one kinds (put_at c.args.unit c.args.slot c.args.holds) (is_err c.put.result) (is_err c.from_residual.result) _ _ _ _ c.args.tables.now c.put.new.self (sym c.is_unused.ensures ∙ c.if-is_unused.true) same (ok_by_err c.put.result _ c.put.ensures.ok) c.put.ensures.fits c.put.ensures.made
 
 pub returns-in_ok-put-clause-put : goal.returns-in_ok-put-clause-put
 returns-in_ok-put-clause-put g c =
     let kinds : List Meaning = map (λ k. (goal.UnitKind-dyn g (k.vtable, k.value)).meaning k.value) c.args.kinds.now.list.items in
     let same : false ≡ is_err c.put.result = search rules in
-    put_one kinds (put_at c.args.unit c.args.slot c.args.holds) (is_err c.put.result) false _ _ _ _ c.args.tables.now c.put.new.self (sym c.is_unused.ensures ∙ c.if-is_unused.true) same (ok_by_err c.put.result _ c.put.ensures.ok) (record { units = c.put.ensures.units; wide = c.put.ensures.fits }) c.put.ensures.made
+    put_one kinds (put_at c.args.unit c.args.slot c.args.holds) (is_err c.put.result) false _ _ _ _ c.args.tables.now c.put.new.self (sym c.is_unused.ensures ∙ c.if-is_unused.true) same (ok_by_err c.put.result _ c.put.ensures.ok) c.put.ensures.fits c.put.ensures.made
 
 pub returns-else-is_unused-clause-put : goal.returns-else-is_unused-clause-put
 returns-else-is_unused-clause-put g c =

@@ -22,7 +22,7 @@ put_slot-requires g c =
       shaped = c.requires.shaped;
       fit = c.requires.there;
       rights = c.requires.rights;
-      opened = c.requires.open;
+      opened = c.requires.opened;
     } in
     let low : first_slot c.args.unit.now c.args.hop.now ≤ c.loop-slot.slot = let a = c.loop-slot.auto.slot in let v = c.first_slot-slot.ensures.value in omega arith in
     let high : c.loop-slot.slot < suc (last_slot c.args.unit.now c.args.size c.args.hop.now) = let a = c.loop-slot-test.true in let v = c.end_slot-slot-end.ensures.value in omega arith in
@@ -32,7 +32,7 @@ put_slot-requires g c =
       fits = turn.fits;
       on_device = c.loop-slot.invariant.on_device;
       there = turn.there;
-      «open» = subst (λ r. AreOpen c.loop-slot.tables (put_at c.args.hop.now.unit c.loop-slot.slot r ∷ [])) (sym c.slot_record-holds.ensures) turn.opened;
+      opened = subst (λ r. AreOpen c.loop-slot.tables (put_at c.args.hop.now.unit c.loop-slot.slot r ∷ [])) (sym c.slot_record-holds.ensures) turn.opened;
       packable = subst (IsPackableIn kinds c.loop-slot.tables c.args.hop.now.unit) (sym c.slot_record-holds.ensures) turn.packable;
     }
 

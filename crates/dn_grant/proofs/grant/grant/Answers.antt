@@ -1,7 +1,6 @@
 use Rattle.std.proofs.Common.{◌∙◌, sym, refl, map}
-use Rattle.std.proofs.lemmas.Result.{err_from_is_err_and}
 use Rattle.dn_tables.proofs.Slots.{all_of_map}
-use Rattle.dn_grant.proofs.Allowed.{allowed_is, allowed_within, allowed_grant, no_addition, not_memory, still_faithful}
+use Rattle.dn_grant.proofs.Allowed.{allowed_is, allowed_within, allowed_grant, no_addition, still_faithful}
 use Rattle.dn_grant.proofs.grant.grant.Goals as goal
 
 pub first_in_book-requires-clause-agent : goal.first_in_book-requires-clause-agent
@@ -18,49 +17,47 @@ first_in_book-requires-clause-buffer g c =
     (allowed_within c.args.system.net.now c.args.book.now.grants c.args.id c.args.request.now
     (allowed_is c.args.system.net.now c.args.book.now.grants c.args.id c.args.request.now (sym c.refusal.ensures ∙ c.in_default.is))).1
 
-pub returns-in_default-2-clause-turn : goal.returns-in_default-2-clause-turn
-returns-in_default-2-clause-turn g c =
-    λ device memory. (record { allowed = sym c.refusal.ensures ∙ c.in_default.is; none = c.in_ok-placement.ensures.none c.in_default-2.is }, refl)
+pub returns-in-Ok-None-clause-turn : goal.returns-in-Ok-None-clause-turn
+returns-in-Ok-None-clause-turn g c =
+    λ device memory. (record { allowed = sym c.refusal.ensures ∙ c.in_default.is; none = c.in-Ok-None.ensures.none c.in-Ok-None.field-0-is }, refl)
 
 pub commit-requires-clause-placed : goal.commit-requires-clause-placed
 commit-requires-clause-placed g c =
-    allowed_grant c.args.system.net.now c.args.book.now.grants c.args.id c.args.request.now c.in-Some-2.placement
-    (sym c.refusal.ensures ∙ c.in_default.is) c.requires.rights (rw c.in-Some-2.is at c.in_ok-placement.ensures.first)
+    allowed_grant c.args.system.net.now c.args.book.now.grants c.args.id c.args.request.now c.in-Ok-Some.placement
+    (sym c.refusal.ensures ∙ c.in_default.is) c.requires.rights (rw c.in-Ok-Some.field-0-is at c.in-Ok-Some.ensures.first)
 
-pub returns-in_err-commit-clause-stopped : goal.returns-in_err-commit-clause-stopped
-returns-in_err-commit-clause-stopped g c =
+pub returns-in-Err-Device-clause-stopped : goal.returns-in-Err-Device-clause-stopped
+returns-in-Err-Device-clause-stopped g c =
     λ e. record {
-      place = c.in-Some-2.placement;
-      placed = record { allowed = sym c.refusal.ensures ∙ c.in_default.is; first = (rw c.in-Some-2.is at c.in_ok-placement.ensures.first) };
-      added =
-          let q = err_from_is_err_and c.from_residual-in_err-commit.result c.from_residual-in_err-commit.ensures.1 in
-          c.in_err-commit.ensures.added (not_memory c.in_err-commit.field-0.0 q.0 (sym q.1 ∙ e) q.2);
+      place = c.in-Ok-Some.placement;
+      placed = record { allowed = sym c.refusal.ensures ∙ c.in_default.is; first = (rw c.in-Ok-Some.field-0-is at c.in-Ok-Some.ensures.first) };
+      added = c.in-Err-Device.ensures.added (λ m. let device = c.in-Err-Device.field-0-is in cc);
     }
 
-pub returns-clause-turn : goal.returns-clause-turn
-returns-clause-turn g c =
+pub returns-in-Ok-clause-turn : goal.returns-in-Ok-clause-turn
+returns-in-Ok-clause-turn g c =
     λ device memory. record {
-      place = c.in-Some-2.placement;
-      placed = record { allowed = sym c.refusal.ensures ∙ c.in_default.is; first = (rw c.in-Some-2.is at c.in_ok-placement.ensures.first) };
+      place = c.in-Ok-Some.placement;
+      placed = record { allowed = sym c.refusal.ensures ∙ c.in_default.is; first = (rw c.in-Ok-Some.field-0-is at c.in-Ok-Some.ensures.first) };
       address = c.v-v.ensures;
-      appended = c.in_ok-commit.ensures.granted;
+      appended = c.in-Ok.ensures.granted;
     }
 
-pub returns-clause-faithful : goal.returns-clause-faithful
-returns-clause-faithful g c =
-    still_faithful c.args.system.net.now c.args.book.now.grants _ c.args.id c.args.request.now c.in-Some-2.placement c.requires.system.legal.legal c.requires.kept.sound
-    (sym c.refusal.ensures ∙ c.in_default.is) c.requires.rights (rw c.in-Some-2.is at c.in_ok-placement.ensures.first) c.in_ok-commit.ensures.granted
+pub returns-in-Ok-clause-faithful : goal.returns-in-Ok-clause-faithful
+returns-in-Ok-clause-faithful g c =
+    still_faithful c.args.system.net.now c.args.book.now.grants _ c.args.id c.args.request.now c.in-Ok-Some.placement c.requires.system.legal.legal c.requires.kept.sound
+    (sym c.refusal.ensures ∙ c.in_default.is) c.requires.rights (rw c.in-Ok-Some.field-0-is at c.in-Ok-Some.ensures.first) c.in-Ok.ensures.granted
 
-pub returns-clause-granted : goal.returns-clause-granted
-returns-clause-granted g c = record {
-  place = c.in-Some-2.placement;
-  placed = record { allowed = sym c.refusal.ensures ∙ c.in_default.is; first = (rw c.in-Some-2.is at c.in_ok-placement.ensures.first) };
-  added = c.in_ok-commit.ensures.added (λ e. cc);
+pub returns-in-Ok-clause-granted : goal.returns-in-Ok-clause-granted
+returns-in-Ok-clause-granted g c = record {
+  place = c.in-Ok-Some.placement;
+  placed = record { allowed = sym c.refusal.ensures ∙ c.in_default.is; first = (rw c.in-Ok-Some.field-0-is at c.in-Ok-Some.ensures.first) };
+  added = c.in-Ok.ensures.added (λ e. cc);
 }
 
-pub returns-in_default-2-clause-complete : goal.returns-in_default-2-clause-complete
-returns-in_default-2-clause-complete g c =
+pub returns-in-Ok-None-clause-complete : goal.returns-in-Ok-None-clause-complete
+returns-in-Ok-None-clause-complete g c =
     let ks = map (λ k. (goal.UnitKind-dyn g (k.vtable, k.value)).meaning k.value) c.args.system.kinds.now.list.items in
     λ e one. no_addition c.args.system.net.now ks c.args.book.now.grants c.args.book.now.set c.args.id c.args.request.now c.requires.system.legal.legal
     (all_of_map _ c.args.system.kinds.now.list.items c.requires.system.lawful) c.requires.kept (sym c.refusal.ensures ∙ c.in_default.is) c.requires.rights one
-    (c.in_ok-placement.ensures.none c.in_default-2.is)
+    (c.in-Ok-None.ensures.none c.in-Ok-None.field-0-is)

@@ -1,49 +1,30 @@
-use Rattle.std.proofs.Common.{rules, ◌≡◌, ◌∙◌, ap, sym, subst, refl, List, ℕ, map, Err, true, false}
-use Rattle.dn_net.specs.declared.node.NodeDecl.{NodeDecl}
+use Rattle.std.proofs.Common.{rules, ◌≡◌, ◌∙◌, ap, sym, subst, refl, List, map, Err, true}
 use Rattle.dn_kind.specs.Kind.{Meaning}
 use Rattle.dn_book.specs.declared.book.RevokeFault.TheVariants.{Device, NoGrant}
 use Rattle.dn_book.specs.Book.{has_id}
 use Rattle.dn_tool.specs.declared.halt.Halt.TheVariants.{DeviceFault}
-use Rattle.dn_tool.specs.Changed.{revoked_text}
-use Rattle.dn_tool.specs.Ids.{id_number}
-use Rattle.dn_tool.specs.State.{IsChanged, state_view}
+use Rattle.dn_tool.specs.State.{state_view}
 use Rattle.dn_tool.specs.declared.state.State.{State as Kept}
-use Rattle.dn_tool.specs.Turn.{IsRevokeTurn, State, named}
-use Rattle.dn_tool.proofs.Changes.{halted_after, lives_by, not_revoked_turn, revoke_stopped, state_named, state_revoked, state_same}
-use Rattle.dn_tool.proofs.change.revoke_change.Given.{Over}
-use Rattle.dn_tool.proofs.change.revoke_change.Goals.{After-renew}
+use Rattle.dn_tool.proofs.Changes.{halted_after, lives_by, replied_as, revoke_stopped, state_not_revoked, state_revoked, state_same}
 use Rattle.dn_tool.proofs.change.revoke_change.Goals as goal
 
 pub renew-requires-clause-faithful : goal.renew-requires-clause-faithful
 renew-requires-clause-faithful g c = c.in-Ok.ensures.faithful c.requires.ready.state.faithful
 
--- the turn that was gone through
-made : (g : Over) (c : After-renew g) → IsChanged (IsRevokeTurn (map (λ k. (goal.UnitKind-dyn g (k.vtable, k.value)).meaning k.value) c.args.machine.kinds.now.list.items) c.args.machine.net.now (state_view c.args.state.now) c.args.id.now) (state_view c.renew.new.state) (revoked_text c.args.id.now) (g.D.Tables.log c.args.device.now) (g.D.Tables.log c.revoke.new.device)
-made g c =
-    state_revoked _ c.args.machine.net.now c.args.state.now c.renew.new.state c.args.id.now c.in_ok-number.number c.revoke.new.self _ _ c.in_ok-number.ensures.number (λ e. let x = c.in-Ok.ensures.unknown.1 e in cc) c.in-Ok.ensures.added c.in-Ok.ensures.revoked c.renew.ensures.still.book (c.renew.ensures.still.ids ∙ c.in_ok-number.ensures.ids) c.in-Ok.ensures.cleared
-
 pub returns-in_err-revoked-in-Ok-clause-changed : goal.returns-in_err-revoked-in-Ok-clause-changed
 returns-in_err-revoked-in-Ok-clause-changed g c =
-    halted_after _ c.from_residual-in_err-revoked-in-Ok.result _ _ _ _ _ (search rules) (made g (goal.at.returns-in_err-revoked-in-Ok-clause-changed g c).After-renew)
+    halted_after _ c.from_residual-in_err-revoked-in-Ok.result _ _ _ _ _ (search rules) (state_revoked _ c.args.machine.net.now c.args.state.now c.renew.new.state c.args.id.now c.in_ok-number.number c.revoke.new.self _ _ c.in_ok-number.ensures.number (λ e. let x = c.in-Ok.ensures.unknown.1 e in cc) c.in-Ok.ensures.added c.in-Ok.ensures.revoked c.renew.ensures.still.book (c.renew.ensures.still.ids ∙ c.in_ok-number.ensures.ids) c.in-Ok.ensures.cleared)
 
 pub returns-in_ok-revoked-in-Ok-clause-changed : goal.returns-in_ok-revoked-in-Ok-clause-changed
 returns-in_ok-revoked-in-Ok-clause-changed g c =
-    subst (λ (t : List ℕ). IsChanged (IsRevokeTurn _ c.args.machine.net.now (state_view c.args.state.now) c.args.id.now) _ t _ _) (sym c.in_ok-revoked-in-Ok.ensures) (made g (goal.at.returns-in_ok-revoked-in-Ok-clause-changed g c).After-renew)
+    replied_as _ _ c.in_ok-revoked-in-Ok.ensures (state_revoked _ c.args.machine.net.now c.args.state.now c.renew.new.state c.args.id.now c.in_ok-number.number c.revoke.new.self _ _ c.in_ok-number.ensures.number (λ e. let x = c.in-Ok.ensures.unknown.1 e in cc) c.in-Ok.ensures.added c.in-Ok.ensures.revoked c.renew.ensures.still.book (c.renew.ensures.still.ids ∙ c.in_ok-number.ensures.ids) c.in-Ok.ensures.cleared)
 
 pub returns-in_ok-refused-in-Err-NoGrant-clause-changed : goal.returns-in_ok-refused-in-Err-NoGrant-clause-changed
 returns-in_ok-refused-in-Err-NoGrant-clause-changed g c =
-    let kinds : List Meaning = map (λ k. (goal.UnitKind-dyn g (k.vtable, k.value)).meaning k.value) c.args.machine.kinds.now.list.items in
-    let net : List NodeDecl = c.args.machine.net.now in
-    let state = c.args.state.now in
-    let s : State = state_view state in
-    let id : List ℕ = c.args.id.now in
-    let number : c.in_ok-number.number ≡ id_number state.ids id = c.in_ok-number.ensures.number in
     let failed : c.revoke.result ≡ Err NoGrant = c.in-Err-NoGrant.is ∙ ap Err c.in-Err-NoGrant.field-0-is in
     let same = c.revoke.ensures.unchanged failed in
-    let none : has_id (id_number state.ids id) state.book.grants ≡ false = subst (λ n. has_id n state.book.grants ≡ false) number (c.revoke.ensures.unknown.0 failed) in
-    let after : Kept = record { book = c.revoke.new.self; ids = c.number.new.self; image = state.image; first = state.first; flats = state.flats } in
-    let left : named s id ≡ state_view after = state_named after s id state.book same.0 refl refl c.in_ok-number.ensures.ids in
-    subst (λ (t : List ℕ). IsChanged (IsRevokeTurn kinds net s id) (state_view after) t (g.D.Tables.log c.args.device.now) (g.D.Tables.log c.revoke.new.device)) (sym c.in_ok-refused-in-Err-NoGrant.ensures) (not_revoked_turn kinds net s (state_view after) id (g.D.Tables.log c.args.device.now) (g.D.Tables.log c.revoke.new.device) none (ap g.D.Tables.log same.1) left)
+    let after : Kept = record { book = c.revoke.new.self; ids = c.number.new.self; image = c.args.state.now.image; first = c.args.state.now.first; flats = c.args.state.now.flats } in
+    replied_as _ _ c.in_ok-refused-in-Err-NoGrant.ensures (state_not_revoked (map (λ k. (goal.UnitKind-dyn g (k.vtable, k.value)).meaning k.value) c.args.machine.kinds.now.list.items) c.args.machine.net.now c.args.state.now after c.args.id.now c.in_ok-number.number _ _ c.in_ok-number.ensures.number (c.revoke.ensures.unknown.0 failed) (ap g.D.Tables.log same.1) same.0 c.in_ok-number.ensures.ids)
 
 pub returns-in_ok-refused-in-Err-NoGrant-clause-ready : goal.returns-in_ok-refused-in-Err-NoGrant-clause-ready
 returns-in_ok-refused-in-Err-NoGrant-clause-ready g c =

@@ -1,37 +1,25 @@
-use Rattle.std.proofs.Common.{rules, ◌≡◌, ◌≢◌, ◌∙◌, ap, sym, subst, refl, List, ℕ, map, Result, Err, true, false}
+use Rattle.std.proofs.Common.{rules, ◌∙◌, ap, sym, subst, refl, List, map, Err, true, false}
 use Rattle.dn_base.specs.Outside.{IsCounted}
 use Rattle.dn_base.proofs.Counts.{counted_none}
-use Rattle.dn_net.specs.declared.node.NodeDecl.{NodeDecl}
 use Rattle.dn_kind.specs.Kind.{Meaning}
-use Rattle.dn_vector.specs.declared.fault.RouteFault.{RouteFault}
 use Rattle.dn_vector.specs.declared.fault.RouteFault.TheVariants.{Device, OutOfMemory}
-use Rattle.dn_vector.specs.Route.{IsRouteLogged, IsRouteRefused}
+use Rattle.dn_vector.specs.Route.{IsRouteLogged}
 use Rattle.dn_tool.specs.declared.halt.Halt.TheVariants.{DeviceFault}
-use Rattle.dn_tool.specs.Changed.{routed_text}
-use Rattle.dn_tool.specs.Ids.{id_number}
-use Rattle.dn_tool.specs.State.{IsChanged, state_view}
+use Rattle.dn_tool.specs.State.{state_view}
 use Rattle.dn_tool.specs.declared.state.State.{State as Kept}
-use Rattle.dn_tool.specs.Turn.{IsRouteTurn, State, named}
-use Rattle.dn_tool.proofs.Changes.{halted_after, not_routed_turn, route_stopped, state_named, state_routed, state_same}
-use Rattle.dn_tool.proofs.change.route_change.Given.{Over}
-use Rattle.dn_tool.proofs.change.route_change.Goals.{After-renew}
+use Rattle.dn_tool.proofs.Changes.{fails_otherwise, halted_after, replied_as, route_stopped, state_not_routed, state_routed, state_same}
 use Rattle.dn_tool.proofs.change.route_change.Goals as goal
 
 pub renew-requires-clause-faithful : goal.renew-requires-clause-faithful
 renew-requires-clause-faithful g c = c.in-Ok.ensures.faithful c.requires.ready.state.faithful
 
--- the turn that was gone through
-made : (g : Over) (c : After-renew g) → IsChanged (IsRouteTurn (map (λ k. (goal.UnitKind-dyn g (k.vtable, k.value)).meaning k.value) c.args.machine.kinds.now.list.items) c.args.machine.net.now (state_view c.args.state.now) c.args.id.now c.args.agent c.args.line c.args.node) (state_view c.renew.new.state) (routed_text c.args.id.now c.in-Ok.vector) (g.D.Tables.log c.args.device.now) (g.D.Tables.log c.route.new.device)
-made g c =
-    state_routed _ c.args.machine.net.now c.args.state.now c.renew.new.state c.args.id.now c.args.agent c.args.line c.args.node c.in_ok-number.number c.in-Ok.vector c.route.new.book _ _ c.in_ok-number.ensures.number (c.in-Ok.ensures.turn (λ e. cc) (λ e. cc)) c.in-Ok.ensures.routed c.renew.ensures.still.book (c.renew.ensures.still.ids ∙ c.in_ok-number.ensures.ids) c.in-Ok.ensures.fenced
-
 pub returns-in_err-routed-in-Ok-clause-changed : goal.returns-in_err-routed-in-Ok-clause-changed
 returns-in_err-routed-in-Ok-clause-changed g c =
-    halted_after _ c.from_residual-in_err-routed-in-Ok.result _ _ _ _ _ (search rules) (made g (goal.at.returns-in_err-routed-in-Ok-clause-changed g c).After-renew)
+    halted_after _ c.from_residual-in_err-routed-in-Ok.result _ _ _ _ _ (search rules) (state_routed _ c.args.machine.net.now c.args.state.now c.renew.new.state c.args.id.now c.args.agent c.args.line c.args.node c.in_ok-number.number c.in-Ok.vector c.route.new.book _ _ c.in_ok-number.ensures.number (c.in-Ok.ensures.turn (λ e. cc) (λ e. cc)) c.in-Ok.ensures.routed c.renew.ensures.still.book (c.renew.ensures.still.ids ∙ c.in_ok-number.ensures.ids) c.in-Ok.ensures.fenced)
 
 pub returns-in_ok-routed-in-Ok-clause-changed : goal.returns-in_ok-routed-in-Ok-clause-changed
 returns-in_ok-routed-in-Ok-clause-changed g c =
-    subst (λ (t : List ℕ). IsChanged (IsRouteTurn _ c.args.machine.net.now (state_view c.args.state.now) c.args.id.now c.args.agent c.args.line c.args.node) _ t _ _) (sym c.in_ok-routed-in-Ok.ensures) (made g (goal.at.returns-in_ok-routed-in-Ok-clause-changed g c).After-renew)
+    replied_as _ _ c.in_ok-routed-in-Ok.ensures (state_routed _ c.args.machine.net.now c.args.state.now c.renew.new.state c.args.id.now c.args.agent c.args.line c.args.node c.in_ok-number.number c.in-Ok.vector c.route.new.book _ _ c.in_ok-number.ensures.number (c.in-Ok.ensures.turn (λ e. cc) (λ e. cc)) c.in-Ok.ensures.routed c.renew.ensures.still.book (c.renew.ensures.still.ids ∙ c.in_ok-number.ensures.ids) c.in-Ok.ensures.fenced)
 
 pub returns-in-Err-Device-clause-changed : goal.returns-in-Err-Device-clause-changed
 returns-in-Err-Device-clause-changed g c =
@@ -42,25 +30,10 @@ returns-in-Err-Device-clause-changed g c =
 
 pub returns-in_ok-route_refused-in-Err : goal.returns-in_ok-route_refused-in-Err
 returns-in_ok-route_refused-in-Err g c =
-    let kinds : List Meaning = map (λ k. (goal.UnitKind-dyn g (k.vtable, k.value)).meaning k.value) c.args.machine.kinds.now.list.items in
-    let net : List NodeDecl = c.args.machine.net.now in
-    let state = c.args.state.now in
-    let s : State = state_view state in
-    let id : List ℕ = c.args.id.now in
-    let agent : ℕ = c.args.agent in
-    let line : ℕ = c.args.line in
-    let node : ℕ = c.args.node in
-    let number : c.in_ok-number.number ≡ id_number state.ids id = c.in_ok-number.ensures.number in
-    let no_device : c.in-Err.why ≢ Device = search rules in
-    let no_memory : c.in-Err.why ≢ OutOfMemory = search rules in
-    let other : ◌≢◌ {A = Result ℕ RouteFault} (Err c.in-Err.why) (Err Device) = λ e. no_device (cc) in
-    let same = c.in-Err.ensures.unchanged refl other in
-    let refused : IsRouteRefused net state.book.grants (id_number state.ids id) agent line node c.in-Err.why = subst (λ n. IsRouteRefused net state.book.grants n agent line node c.in-Err.why) number (c.in-Err.ensures.turn other (λ e. no_memory (cc))).0 in
-    let after : Kept = record { book = c.route.new.book; ids = c.number.new.self; image = state.image; first = state.first; flats = c.keep_flats.new.flats } in
-    let left : named s id ≡ state_view after = state_named after s id state.book same.0 refl refl c.in_ok-number.ensures.ids in
-    let turned = not_routed_turn kinds net s (state_view after) id agent line node c.in-Err.why (g.D.Tables.log c.args.device.now) (g.D.Tables.log c.route.new.device) refused (ap g.D.Tables.log same.1) left in
+    let after : Kept = record { book = c.route.new.book; ids = c.number.new.self; image = c.args.state.now.image; first = c.args.state.now.first; flats = c.keep_flats.new.flats } in
+    let same = c.in-Err.ensures.unchanged refl (fails_otherwise c.in-Err.why Device (search rules)) in
     record {
-      changed = subst (λ (t : List ℕ). IsChanged (IsRouteTurn kinds net s id agent line node) (state_view after) t (g.D.Tables.log c.args.device.now) (g.D.Tables.log c.route.new.device)) (sym c.in_ok-route_refused-in-Err.ensures) turned;
-      ready = record { machine = c.requires.ready.machine; state = state_same kinds net state after c.requires.ready.state same.0 refl c.requires.ready.state.first c.in_ok-keep_flats.ensures.flat; on_device = c.in-Err.ensures.on_device };
-      halted = record { no_write = refl; counted = subst (λ d. IsCounted (g.D.Tables.faults c.args.device.now) (g.D.Tables.faults d) false) (sym same.1) (counted_none (g.D.Tables.faults c.args.device.now)) };
+      changed = replied_as _ _ c.in_ok-route_refused-in-Err.ensures (state_not_routed (map (λ k. (goal.UnitKind-dyn g (k.vtable, k.value)).meaning k.value) c.args.machine.kinds.now.list.items) c.args.machine.net.now c.args.state.now after c.args.id.now c.args.agent c.args.line c.args.node c.in_ok-number.number c.in-Err.why _ _ c.in_ok-number.ensures.number (c.in-Err.ensures.turn (fails_otherwise c.in-Err.why Device (search rules)) (fails_otherwise c.in-Err.why OutOfMemory (search rules))).0 (ap g.D.Tables.log same.1) same.0 c.in_ok-number.ensures.ids);
+      ready = record { machine = c.requires.ready.machine; state = state_same _ c.args.machine.net.now c.args.state.now after c.requires.ready.state same.0 refl c.requires.ready.state.first c.in_ok-keep_flats.ensures.flat; on_device = c.in-Err.ensures.on_device };
+      halted = record { no_write = refl; counted = subst (λ d. IsCounted (g.D.Tables.faults c.args.device.now) (g.D.Tables.faults d) false) (sym same.1) (counted_none _) };
     }

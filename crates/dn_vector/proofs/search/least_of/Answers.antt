@@ -7,24 +7,24 @@ use Rattle.dn_vector.proofs.search.least_of.Goals as goal
 
 pub loop-vector-preserved : goal.loop-vector-preserved
 loop-vector-preserved g c =
-    let net = c.args.system.net.now in
-    let book = c.args.book.now.grants in
-    let here : HasNoPlace net book c.args.agent c.args.line c.args.node c.loop-vector.vector =
-    subst (λ rq. NoneSuited net (slots_of net book) rq (Some c.args.line)) c.vector_request-request.ensures
+    let net = c.args.asked.system.net.now in
+    let book = c.args.asked.book.now.grants in
+    let here : HasNoPlace net book c.args.asked.agent c.args.asked.line c.args.asked.node c.loop-vector.vector =
+    subst (λ rq. NoneSuited net (slots_of net book) rq (Some c.args.asked.line)) c.vector_request-request.ensures
     (c.in_ok-placement.ensures.none c.in_default.is) in
     λ a from to. elim (cases_lt a c.loop-vector.vector) [
       | inl before ↦ c.loop-vector.invariant a from before
-      | inr last ↦ subst (λ v. HasNoPlace net book c.args.agent c.args.line c.args.node v) (omega arith) here
+      | inr last ↦ subst (λ v. HasNoPlace net book c.args.asked.agent c.args.asked.line c.args.asked.node v) (omega arith) here
     ]
 
 pub returns-in-Some-clause-found : goal.returns-in-Some-clause-found
 returns-in-Some-clause-found g c =
-    let net = c.args.system.net.now in
-    let book = c.args.book.now.grants in
+    let net = c.args.asked.system.net.now in
+    let book = c.args.asked.book.now.grants in
     record {
       from = c.loop-vector.auto.vector;
       to = omega arith;
-      first = subst (λ rq. IsFirst net (slots_of net book) rq (Some c.args.line) c.in-Some.placement) c.vector_request-request.ensures
+      first = subst (λ rq. IsFirst net (slots_of net book) rq (Some c.args.asked.line) c.in-Some.placement) c.vector_request-request.ensures
           (rw c.in-Some.is at c.in_ok-placement.ensures.first);
       least = c.loop-vector.invariant;
     }

@@ -16,10 +16,10 @@ loop-init g c =
     let h : Held = allowing c.args.access (record_kept (map (λ k. (goal.UnitKind-dyn g (k.vtable, k.value)).meaning k.value) c.args.kinds.now.list.items) c.args.tables.now) in
     let f : Name → List Name = steps_under c.args.net.now h in
     let p : Name → Bool = is_accepted c.args.net.now in
-    let level : c.insert.new.self ≡ c.args.name ∷ [] = search rules in
+    let level : c.in_ok-level.level ≡ c.args.name ∷ [] = c.in_ok-level.ensures in
     let none : c.new-accepted.result.items ≡ [] = c.new-accepted.ensures.items in
     record {
-      so_far = ap (λ (l : List Name). ends_by f p (suc step_limit_under - 0) l c.insert.new.self) none ∙ ap (λ (l : List Name). ends_by f p (suc step_limit_under - 0) [] l) level ∙ ends_at_start f p c.args.name;
+      so_far = ap (λ (l : List Name). ends_by f p (suc step_limit_under - 0) l c.in_ok-level.level) none ∙ ap (λ (l : List Name). ends_by f p (suc step_limit_under - 0) [] l) level ∙ ends_at_start f p c.args.name;
       there = subst (λ (l : List Name). IsTrue (are_there (length c.args.net.now) l)) (sym level) (search rules);
     }
 
@@ -30,11 +30,11 @@ loop-preserved g c =
     let f : Name → List Name = steps_under c.args.net.now h in
     let p : Name → Bool = is_accepted c.args.net.now in
     let same : c.list-in-loop.result.now ≡ c.loop.level = search rules in
-    let more : c.next_level.new.accepted.items ≡ c.loop.accepted.items ++ passing_names p c.loop.level = c.in_ok-level.ensures.accepted ∙ ap (λ (l : List Name). c.loop.accepted.items ++ passing_names p l) same in
-    let next : c.in_ok-level.level ≡ sorted_names (each_step f c.loop.level) = c.in_ok-level.ensures.next ∙ ap (λ (l : List Name). sorted_names (each_step f l)) same in
+    let more : c.next_level.new.accepted.items ≡ c.loop.accepted.items ++ passing_names p c.loop.level = c.in_ok-level-2.ensures.accepted ∙ ap (λ (l : List Name). c.loop.accepted.items ++ passing_names p l) same in
+    let next : c.in_ok-level-2.level ≡ sorted_names (each_step f c.loop.level) = c.in_ok-level-2.ensures.next ∙ ap (λ (l : List Name). sorted_names (each_step f l)) same in
     record {
-      so_far = ends_next f p c.loop.counter c.loop.accepted.items c.next_level.new.accepted.items c.loop.level c.in_ok-level.level (resolved_names_under c.args.net.now h c.args.name) c.loop-test.true c.loop.invariant.so_far more next;
-      there = c.in_ok-level.ensures.there;
+      so_far = ends_next f p c.loop.counter c.loop.accepted.items c.next_level.new.accepted.items c.loop.level c.in_ok-level-2.level (resolved_names_under c.args.net.now h c.args.name) c.loop-test.true c.loop.invariant.so_far more next;
+      there = c.in_ok-level-2.ensures.there;
     }
 
 pub returns : goal.returns

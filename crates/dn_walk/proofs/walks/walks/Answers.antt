@@ -25,7 +25,7 @@ use Rattle.dn_walk.proofs.Nodes.{all_legs_of}
 use Rattle.dn_walk.proofs.Told.{rows_are, table_is}
 use Rattle.dn_walk.proofs.Verdict.{Acyclic, Legal, steps_are, limit_is, wide_is, loop_is, deep_is, legal_is, cycle_told, path_told, sorted_by_start, empty_on}
 use Rattle.dn_walk.proofs.walks.walks.Goals as goal
-use Rattle.dn_walk.proofs.walks.walks.Goals.{In_ok-levels-2, In_ok-levels-3, In_ok-check_depth, then-levels-test+else-not-is_empty, else-levels-test}
+use Rattle.dn_walk.proofs.walks.walks.Goals.{In_ok-levels-2, In_ok-levels-3, In_ok-check_newest-2, then-levels-test+else-not-is_empty, else-levels-test}
 
 -- levels made from the legs of the net
 same_levels : (net : List NodeDecl) (legs now : List (List Leg)) (l : Levels) → now ≡ legs → legs ≡ map told_legs net → AreLevels now l → AreLevels (map told_legs net) l
@@ -117,12 +117,12 @@ ended : (c : In_ok-levels-3) → AreLevels (map told_legs c.args.net.now) c.in_o
 ended c = same_levels c.args.net.now c.in_ok-legs.legs.items c.deref-2.result.now c.in_ok-levels-3.levels c.deref-2.ensures.value c.in_ok-legs.ensures.legs c.in_ok-levels-3.ensures.levels
 
 -- where the last one has no walk, no rule on cycles and depth is broken
-sound : (c : In_ok-check_depth) → AreLevels (map told_legs c.args.net.now) c.in_ok-levels-3.levels → Legal c.args.net.now (length c.levels.levels.sorted.items)
+sound : (c : In_ok-check_newest-2) → AreLevels (map told_legs c.args.net.now) c.in_ok-levels-3.levels → Legal c.args.net.now (length c.levels.levels.sorted.items)
 sound c h =
     let net = c.args.net.now in
     let l = c.in_ok-levels-3.levels in
     let one = c.in_ok-levels-3.ensures.one_more in
-    let none = path_told net (map (map row_view) l.sorted.items) (map row_view l.newest.items) (no_names is_deep _ c.in_ok-check_depth.ensures) in
+    let none = path_told net (map (map row_view) l.sorted.items) (map row_view l.newest.items) (no_names is_deep _ c.in_ok-check_newest-2.ensures) in
     legal_is net c.requires.rules (length c.levels.levels.sorted.items) (length l.sorted.items) (omega arith) c.levels.invariant.acyclic c.levels.invariant.shallow (few net l h) (ap (λ rows. least_of (start_names false rows)) (sym h.newest) ∙ none)
 
 -- and the rows of all levels but the first are the live walks
@@ -149,7 +149,7 @@ levels-preserved c =
     let h = turned place in
     let k = turned_few place in
     let one = c.in_ok-levels-2.ensures.one_more in
-    let none = cycle_told net (map (map row_view) l.sorted.items) (map row_view l.newest.items) (no_names has_loop _ c.in_ok-check_cycles.ensures) in
+    let none = cycle_told net (map (map row_view) l.sorted.items) (map row_view l.newest.items) (no_names has_loop _ c.in_ok-check_newest.ensures) in
     record {
       levels = h;
       shallow = omega arith;
@@ -170,54 +170,54 @@ returns-in_err-levels-3-clause-checks c =
     let p = err_from_is_err_and c.from_residual-in_err-levels-3.result c.from_residual-in_err-levels-3.ensures.1 in
     rw (p.1, p.2) (wide_broken _ _ _ wide c.in_err-levels-3.ensures.wide)
 
-pub check_cycles-requires-clause-there : goal.check_cycles-requires-clause-there
-check_cycles-requires-clause-there c =
-    let place = (goal.at.check_cycles-requires-clause-there c).In_ok-levels-2 in
+pub check_newest-requires-clause-there : goal.check_newest-requires-clause-there
+check_newest-requires-clause-there c =
+    let place = (goal.at.check_newest-requires-clause-there c).In_ok-levels-2 in
     let one = c.in_ok-levels-2.ensures.one_more in
     let k = turned_few place in
     starts_there c.args.net.now c.requires.rules c.in_ok-levels-2.levels (turned place) (omega arith)
 
-pub check_cycles-requires-clause-sorted : goal.check_cycles-requires-clause-sorted
-check_cycles-requires-clause-sorted c =
-    sorted_starts c.args.net.now c.in_ok-levels-2.levels (turned (goal.at.check_cycles-requires-clause-sorted c).In_ok-levels-2)
+pub check_newest-requires-clause-sorted : goal.check_newest-requires-clause-sorted
+check_newest-requires-clause-sorted c =
+    sorted_starts c.args.net.now c.in_ok-levels-2.levels (turned (goal.at.check_newest-requires-clause-sorted c).In_ok-levels-2)
 
-pub check_depth-requires-clause-there : goal.check_depth-requires-clause-there
-check_depth-requires-clause-there c =
+pub check_newest-requires-2-clause-there : goal.check_newest-requires-2-clause-there
+check_newest-requires-2-clause-there c =
     let one = c.in_ok-levels-3.ensures.one_more in
     let k = c.levels.invariant.shallow in
-    starts_there c.args.net.now c.requires.rules c.in_ok-levels-3.levels (ended (goal.at.check_depth-requires-clause-there c).In_ok-levels-3) (omega arith)
+    starts_there c.args.net.now c.requires.rules c.in_ok-levels-3.levels (ended (goal.at.check_newest-requires-2-clause-there c).In_ok-levels-3) (omega arith)
 
-pub check_depth-requires-clause-sorted : goal.check_depth-requires-clause-sorted
-check_depth-requires-clause-sorted c =
-    sorted_starts c.args.net.now c.in_ok-levels-3.levels (ended (goal.at.check_depth-requires-clause-sorted c).In_ok-levels-3)
+pub check_newest-requires-2-clause-sorted : goal.check_newest-requires-2-clause-sorted
+check_newest-requires-2-clause-sorted c =
+    sorted_starts c.args.net.now c.in_ok-levels-3.levels (ended (goal.at.check_newest-requires-2-clause-sorted c).In_ok-levels-3)
 
-pub returns-in_err-check_cycles-clause-checks : goal.returns-in_err-check_cycles-clause-checks
-returns-in_err-check_cycles-clause-checks c =
+pub returns-in_err-check_newest-clause-checks : goal.returns-in_err-check_newest-clause-checks
+returns-in_err-check_newest-clause-checks c =
     let net = c.args.net.now in
     let l = c.in_ok-levels-2.levels in
-    let place = (goal.at.returns-in_err-check_cycles-clause-checks c).In_ok-levels-2 in
+    let place = (goal.at.returns-in_err-check_newest-clause-checks c).In_ok-levels-2 in
     let h = turned place in
     let k = turned_few place in
     let suc_is : length l.sorted.items ≡ suc (length c.levels.levels.sorted.items) = c.in_ok-levels-2.ensures.one_more ∙ omega arith in
     let loop : (names : List Name) → told_cycle net (told_levels (map told_legs net) (length l.sorted.items)) (told_level (map told_legs net) (length l.sorted.items)) ≡ Some names → walk_fault net ≡ Some (has_loop names) = λ names told. first_part net (has_loop names) (loop_is net c.requires.rules (length c.levels.levels.sorted.items) (length l.sorted.items) names suc_is c.levels.invariant.acyclic (omega arith) (few net l h) told) in
-    let p = err_from_is_err_and c.from_residual-in_err-check_cycles.result c.from_residual-in_err-check_cycles.ensures.1 in
-    rw (p.1, p.2) (names_broken has_loop _ _ _ _ (cycle_same net l h) loop c.in_err-check_cycles.ensures)
+    let p = err_from_is_err_and c.from_residual-in_err-check_newest.result c.from_residual-in_err-check_newest.ensures.1 in
+    rw (p.1, p.2) (names_broken has_loop _ _ _ _ (cycle_same net l h) loop c.in_err-check_newest.ensures)
 
-pub returns-in_err-check_depth-clause-checks : goal.returns-in_err-check_depth-clause-checks
-returns-in_err-check_depth-clause-checks c =
+pub returns-in_err-check_newest-2-clause-checks : goal.returns-in_err-check_newest-2-clause-checks
+returns-in_err-check_newest-2-clause-checks c =
     let net = c.args.net.now in
     let old = c.levels.levels in
     let inv = c.levels.invariant in
     let l = c.in_ok-levels-3.levels in
-    let h = ended (goal.at.returns-in_err-check_depth-clause-checks c).In_ok-levels-3 in
+    let h = ended (goal.at.returns-in_err-check_newest-2-clause-checks c).In_ok-levels-3 in
     let size : vec_len old.sorted ≡ length old.sorted.items = search rules in
     let ended : Ended net (length old.sorted.items) = elim c.levels-test.branch [
       | then-levels-test+else-not-is_empty w ↦ (let none : length old.newest.items ≡ 0 = grind (arith, nat_tests, w.is_empty.ensures, w.if-not-is_empty.false) in inr (sym inv.levels.newest ∙ ap (map row_view) (nothing old.newest.items none)))
       | else-levels-test w ↦ inl (omega (arith, c.len.ensures, w.levels-test.false))
     ] in
     let deep : (names : List Name) → told_path net (told_levels (map told_legs net) (length l.sorted.items)) (told_level (map told_legs net) (length l.sorted.items)) ≡ Some names → walk_fault net ≡ Some (is_deep names) = λ names told. first_part net (is_deep names) (deep_at net c.requires.rules (length old.sorted.items) (length l.sorted.items) names c.in_ok-levels-3.ensures.one_more inv.shallow ended inv.acyclic (few net l h) told) in
-    let p = err_from_is_err_and c.from_residual-in_err-check_depth.result c.from_residual-in_err-check_depth.ensures.1 in
-    rw (p.1, p.2) (names_broken is_deep _ _ _ _ (path_same net l h) deep c.in_err-check_depth.ensures)
+    let p = err_from_is_err_and c.from_residual-in_err-check_newest-2.result c.from_residual-in_err-check_newest-2.ensures.1 in
+    rw (p.1, p.2) (names_broken is_deep _ _ _ _ (path_same net l h) deep c.in_err-check_newest-2.ensures)
 
 pub checked_rows-requires-clause-room : goal.checked_rows-requires-clause-room
 checked_rows-requires-clause-room c =
@@ -227,31 +227,31 @@ checked_rows-requires-clause-room c =
 pub checked_rows-requires-clause-shallow : goal.checked_rows-requires-clause-shallow
 checked_rows-requires-clause-shallow c =
     let at = goal.at.checked_rows-requires-clause-shallow c in
-    no_fault_is_shallow c.args.net.now c.requires.rules (sound at.In_ok-check_depth (ended at.In_ok-levels-3)).none
+    no_fault_is_shallow c.args.net.now c.requires.rules (sound at.In_ok-check_newest-2 (ended at.In_ok-levels-3)).none
 
 pub checked_rows-requires-clause-walks : goal.checked_rows-requires-clause-walks
 checked_rows-requires-clause-walks c =
     let at = goal.at.checked_rows-requires-clause-walks c in
     let h = ended at.In_ok-levels-3 in
-    tabled c.args.net.now c.in_ok-levels-3.levels (length c.levels.levels.sorted.items) c.in_ok-levels-3.ensures.one_more h (sound at.In_ok-check_depth h)
+    tabled c.args.net.now c.in_ok-levels-3.levels (length c.levels.levels.sorted.items) c.in_ok-levels-3.ensures.one_more h (sound at.In_ok-check_newest-2 h)
 
 pub returns-in_err-pieces-clause-checks : goal.returns-in_err-pieces-clause-checks
 returns-in_err-pieces-clause-checks c =
     let at = goal.at.returns-in_err-pieces-clause-checks c in
     let p = err_from_is_err_and c.from_residual-in_err-pieces.result c.from_residual-in_err-pieces.ensures.1 in
-    rw (p.1, p.2) (unit_broken c.args.net.now _ (sound at.In_ok-check_depth (ended at.In_ok-levels-3)).none c.in_err-pieces.ensures.checks)
+    rw (p.1, p.2) (unit_broken c.args.net.now _ (sound at.In_ok-check_newest-2 (ended at.In_ok-levels-3)).none c.in_err-pieces.ensures.checks)
 
 pub returns-clause-checks : goal.returns-clause-checks
 returns-clause-checks c =
     let at = goal.at.returns-clause-checks c in
-    second_part c.args.net.now (sound at.In_ok-check_depth (ended at.In_ok-levels-3)).none ∙ c.in_ok-pieces.ensures.checks
+    second_part c.args.net.now (sound at.In_ok-check_newest-2 (ended at.In_ok-levels-3)).none ∙ c.in_ok-pieces.ensures.checks
 
 pub returns-clause-walks : goal.returns-clause-walks
 returns-clause-walks c =
     let net = c.args.net.now in
     let at = goal.at.returns-clause-walks c in
     let h = ended at.In_ok-levels-3 in
-    let legal = sound at.In_ok-check_depth h in
+    let legal = sound at.In_ok-check_newest-2 h in
     record {
       legal = (legal_breaks_no_rule net c.facts.ensures c.requires.rules.closed).0 (none_broken net c.requires.rules.each, c.requires.shapes, second_part net legal.none ∙ c.in_ok-pieces.ensures.checks);
       same = ap (map row_view) c.in_ok-pieces.ensures.rows ∙ tabled net c.in_ok-levels-3.levels (length c.levels.levels.sorted.items) c.in_ok-levels-3.ensures.one_more h legal;

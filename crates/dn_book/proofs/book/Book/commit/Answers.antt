@@ -2,6 +2,7 @@ use Rattle.std.proofs.Common.{◌≡◌, ◌∙◌, ◌++◌, ◌∷◌, [], sym
 use Rattle.std.specs.List.{flat_map}
 use Rattle.dn_kind.specs.Kind.{Meaning}
 use Rattle.dn_kind.specs.Rights.{are_rights}
+use Rattle.dn_tables.specs.Set.{IsOnDevice}
 use Rattle.dn_tables.proofs.Slots.{all_of_map}
 use Rattle.dn_book.specs.declared.grant.Grant.{Grant}
 use Rattle.dn_book.specs.Book.{IsSound, has_id}
@@ -45,11 +46,18 @@ told g c failed same comes was =
     subst (λ es. AreAdded (fence_events c.self.inside.cleared ++ es) failed (g.D.Tables.log c.args.device.now) (g.D.Tables.log c.write_grant.new.device)) (coming_log c.args.net.now kinds c.self.inside.grants c.in-Some.live.now c.self.inside.tables comes) (subst (λ f. AreAdded (fence_events c.self.inside.cleared ++ put_log kinds c.self.inside.tables (filter (is_used_by 0 c.self.inside.tables) (joined_slots (reverse (grant_slots c.args.net.now c.in-Some.live.now))))) f (g.D.Tables.log c.args.device.now) (g.D.Tables.log c.write_grant.new.device)) was c.write_grant.ensures.added) in
     subst (λ (b : BookState). AreAdded (grant_events c.args.net.now kinds b.grants b.cleared c.args.grant) failed (g.D.Tables.log c.args.device.now) (g.D.Tables.log c.write_grant.new.device)) c.self.view_is (subst (λ (w : Grant). AreAdded (grant_events c.args.net.now kinds c.self.inside.grants c.self.inside.cleared w) failed (g.D.Tables.log c.args.device.now) (g.D.Tables.log c.write_grant.new.device)) same log)
 
-pub write_grant-requires-clause-hops : goal.write_grant-requires-clause-hops
-write_grant-requires-clause-hops g c = coming_fit _ _ _ _ _ (coming g (goal.at.write_grant-requires-clause-hops g c).In-Some)
-
-pub write_grant-requires-clause-open : goal.write_grant-requires-clause-open
-write_grant-requires-clause-open g c = coming_open _ _ _ _ _ (coming g (goal.at.write_grant-requires-clause-open g c).In-Some)
+pub write_grant-requires : goal.write_grant-requires
+write_grant-requires g c =
+    let comes = coming g (goal.at.write_grant-requires g c).In-Some in
+    record {
+      lawful = c.requires.lawful;
+      shaped = c.requires.legal.shaped;
+      fits = comes.kept.fits;
+      on_device = subst (λ (b : BookState). IsOnDevice b.set (g.D.Tables.units c.args.device.now) (g.D.Tables.words c.args.device.now)) (sym c.self.view_is) c.requires.on_device;
+      hops = coming_fit _ _ _ _ _ comes;
+      rights = subst (λ (w : Grant). IsTrue (are_rights w.request.rights)) (sym (same_grant g (goal.at.write_grant-requires g c).In-Some)) c.requires.placed.rights;
+      opened = coming_open _ _ _ _ _ comes;
+    }
 
 pub returns-then-is_err-clause-added : goal.returns-then-is_err-clause-added
 returns-then-is_err-clause-added g c other =
@@ -95,6 +103,3 @@ unreachable-requires g c =
     let new : has_id c.args.grant.id c.self.inside.grants ≡ false = ap (λ (b : BookState). has_id c.args.grant.id b.grants) c.self.view_is ∙ c.requires.placed.new in
     let pushed : c.push.new.self ≡ c.self.inside.grants ++ c.args.grant ∷ [] = c.in-Ok.ensures.pushed in
     some_behind c.self.inside.grants c.push.new.self c.args.grant new pushed (sym (ap option_copied none) ∙ c.get.ensures)
-
-pub write_grant-requires-clause-rights : goal.write_grant-requires-clause-rights
-write_grant-requires-clause-rights g c = subst (λ (w : Grant). IsTrue (are_rights w.request.rights)) (sym (same_grant g (goal.at.write_grant-requires-clause-rights g c).In-Some)) c.requires.placed.rights

@@ -11,4 +11,4 @@ returns c =
     let accepts = sym c.rows-2.ensures.value ∙ none_of c.rows-2.result.now (sym c.is_empty.ensures ∙ c.if-not-is_empty.false) in
     let stops = sym c.rows-else-not-is_empty.ensures.value ∙ none_of c.rows-else-not-is_empty.result.now (sym c.is_empty-else-not-is_empty.ensures ∙ c.if-not-is_empty-2.false) in
     let go = sym c.rows.ensures.value ∙ one_item c.rows.result.now row (omega (arith, c.in-len1.len_at_least)) (omega (arith, c.in-len1.len_below)) c.row-item.is in
-    led_is c.led_by.result reach row accepts stops go c.led_by.ensures.lo c.led_by.ensures.hi c.led_by.ensures.ends
+    led_is c.led_by.result reach row accepts stops go c.led_by.ensures

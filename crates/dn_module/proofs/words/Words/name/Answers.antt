@@ -5,7 +5,7 @@ use Rattle.dn_module.proofs.Places.{no_name, name_there}
 use Rattle.dn_module.proofs.words.Words.name.Goals as goal
 
 pub returns-in_default : goal.returns-in_default
-returns-in_default c = sym (no_name _ _ _ (sym c.in_default.ensures)) ∙ ap (λ v. looked_up c.args.word.now v.1) c.self.view_is
+returns-in_default c = sym (no_name c.args.word.now c.self.inside.titles (map given_view c.self.inside.values) (sym c.in_default.ensures)) ∙ ap (λ v. looked_up c.args.word.now v.1) c.self.view_is
 
 pub returns : goal.returns
 returns c =

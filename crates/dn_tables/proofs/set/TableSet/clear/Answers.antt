@@ -2,7 +2,7 @@ use Rattle.std.proofs.Common.{is_err, slice_set, take, List}
 use Rattle.dn_tables.specs.declared.table.NodeTable.{NodeTable}
 use Rattle.dn_tables.specs.Writes.{WordWrite, AreMade, clear_writes}
 use Rattle.dn_tables.proofs.Made.{IsCallIn, call_in, words_on_device, call_keeps, call_made, call_on_device}
-use Rattle.dn_tables.proofs.Slots.{all_made, on_ok, clears_of_table, clear_stands, clear_stopped, units_stay, fits_stay}
+use Rattle.dn_tables.proofs.Slots.{all_made, on_ok, clears_of_table, clear_stands, clear_stopped, fit_stays}
 use Rattle.dn_tables.proofs.set.TableSet.clear.Given.{Over}
 use Rattle.dn_tables.proofs.set.TableSet.clear.Goals.{After-index_mut-table}
 use Rattle.dn_tables.proofs.set.TableSet.clear.Goals as goal
@@ -15,8 +15,7 @@ pub clear-requires : goal.clear-requires
 clear-requires g c =
     let call = called g (goal.at.clear-requires g c).After-index_mut-table in
     record {
-      sized = call.here.is_sized;
-      there = call.here.there;
+      slot = call.here.has;
       on_device = words_on_device c.self.inside.nodes.items c.args.self.now c.from.result c.args.unit c.args.slot c.index_mut-table.result.now _ _ call c.requires.on_device;
     }
 
@@ -33,8 +32,7 @@ returns g c =
       ok = on_ok c.clear.result _ (λ e. clear_stands c.args.self.now after c.args.unit c.args.slot c.index_mut-table.result.now call.here (all_made c.args.unit writes _ _ _ _ c.args.self.now after (is_err c.clear.result) e made));
       made = made;
       stopped = clear_stopped c.args.self.now after c.args.unit c.args.slot made.made c.index_mut-table.result.now call.here made.kept;
-      fits = fits_stay (take made.made writes) c.args.self.now after c.args.unit made.kept;
-      units = units_stay (take made.made writes) c.args.self.now after c.args.unit made.kept;
+      fits = fit_stays (take made.made writes) c.args.self.now after c.args.unit made.kept;
       counted = c.clear.ensures.counted;
       on_device = call_on_device c.self.inside.nodes.items c.args.self.now c.from.result c.args.unit c.args.slot c.index_mut-table.result.now after writes _ _ _ _ _ _ _ call c.requires.on_device c.clear.ensures.units made;
     }

@@ -6,7 +6,7 @@ use Rattle.dn_tables.specs.declared.table.NodeTable.{NodeTable}
 use Rattle.dn_tables.specs.Set.{fits_by, unit_of_table, with_slot, packed_in}
 use Rattle.dn_tables.specs.Writes.{WordWrite, AreMade, put_writes}
 use Rattle.dn_tables.proofs.Made.{IsCallIn, call_in, words_on_device, call_keeps, call_made, call_on_device}
-use Rattle.dn_tables.proofs.Slots.{all_of_map, all_made, on_ok, on_err, puts_of_table, put_stands, put_recorded, put_stopped, units_stay, fits_stay}
+use Rattle.dn_tables.proofs.Slots.{all_of_map, all_made, on_ok, on_err, puts_of_table, put_stands, put_recorded, put_stopped, fit_stays}
 use Rattle.dn_tables.proofs.set.TableSet.put.Given.{Over}
 use Rattle.dn_tables.proofs.set.TableSet.put.Goals.{After-index_mut-table}
 use Rattle.dn_tables.proofs.set.TableSet.put.Goals as goal
@@ -22,8 +22,7 @@ put-requires g c =
     record {
       lawful = c.requires.lawful;
       fits = list_all-at (λ t. fits_by kinds t.width t.unit) c.args.self.now c.args.unit c.index_mut-table.result.now c.requires.fits call.here.at;
-      sized = call.here.is_sized;
-      there = call.here.there;
+      slot = call.here.has;
       packable = λ u kind e at. c.requires.packable u kind (ap unit_of_table call.here.at ∙ e) at;
       on_device = words_on_device c.self.inside.nodes.items c.args.self.now c.from.result c.args.unit c.args.slot c.index_mut-table.result.now _ _ call c.requires.on_device;
     }
@@ -42,8 +41,7 @@ returns g c =
       recorded = on_ok c.put.result _ (λ e. put_recorded kinds lawful c.args.self.now c.args.unit c.args.slot c.index_mut-table.result.now call.here c.requires.fits c.args.record c.requires.packable after (stands e));
       made = made;
       stopped = on_err c.put.result _ (λ e. put_stopped kinds lawful c.args.self.now c.args.unit c.args.slot c.index_mut-table.result.now call.here c.requires.fits c.args.record c.requires.packable after made.made c.requires.empty (made.less e) made.kept);
-      units = units_stay (take made.made writes) c.args.self.now after c.args.unit made.kept;
-      fits = fits_stay (take made.made writes) c.args.self.now after c.args.unit made.kept;
+      fits = fit_stays (take made.made writes) c.args.self.now after c.args.unit made.kept;
       on_device = call_on_device c.self.inside.nodes.items c.args.self.now c.from.result c.args.unit c.args.slot c.index_mut-table.result.now after writes _ _ _ _ _ _ _ call c.requires.on_device c.put.ensures.units made;
       counted = c.put.ensures.counted;
     }

@@ -12,15 +12,10 @@ record_at-requires-clause-fits g c =
     let kinds : List Meaning = map (λ k. (goal.UnitKind-dyn g (k.vtable, k.value)).meaning k.value) c.args.kinds.now.list.items in
     list_all-at (λ t. fits_by kinds t.width t.unit) c.args.self.now c.args.unit c.index-table.result.now c.requires.fits s.at
 
-pub record_at-requires-clause-sized : goal.record_at-requires-clause-sized
-record_at-requires-clause-sized g c =
+pub record_at-requires-clause-slot : goal.record_at-requires-clause-slot
+record_at-requires-clause-slot g c =
     let s : IsSlot c.args.self.now c.args.unit c.args.slot c.index-table.result.now = slot_in_set c.self.inside.nodes.items c.args.self.now c.from.result c.args.unit c.args.slot c.index-table.result.now c.self.view_is c.from.ensures c.self.invariant c.requires.there c.index-table.ensures in
-    s.is_sized
-
-pub record_at-requires-clause-there : goal.record_at-requires-clause-there
-record_at-requires-clause-there g c =
-    let s : IsSlot c.args.self.now c.args.unit c.args.slot c.index-table.result.now = slot_in_set c.self.inside.nodes.items c.args.self.now c.from.result c.args.unit c.args.slot c.index-table.result.now c.self.view_is c.from.ensures c.self.invariant c.requires.there c.index-table.ensures in
-    s.there
+    s.has
 
 pub returns : goal.returns
 returns g c =

@@ -19,7 +19,7 @@ set-requires c =
 pub invariant_of-self : goal.invariant_of-self
 invariant_of-self c =
     let s = slot_of (goal.at.invariant_of-self c).After-index_mut-table in
-    set_kept c.self.inside.nodes.items c.from.result c.index_mut-table.result.now (with_uses c.index_mut-table.result.now c.set.new.self) c.self.invariant s.is_sized refl refl refl (ap length c.set.ensures ∙ length-set c.index_mut-table.result.now.uses c.args.slot _)
+    set_kept c.self.inside.nodes.items c.from.result c.index_mut-table.result.now (with_uses c.index_mut-table.result.now c.set.new.self) c.self.invariant s.has.sized refl refl refl (ap length c.set.ensures ∙ length-set c.index_mut-table.result.now.uses c.args.slot _)
 
 pub returns : goal.returns
 returns c =

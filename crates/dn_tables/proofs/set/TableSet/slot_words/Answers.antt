@@ -4,15 +4,10 @@ use Rattle.dn_tables.specs.Set.{width_of_table, words_of_table}
 use Rattle.dn_tables.proofs.Kept.{IsSlot, slot_in_set}
 use Rattle.dn_tables.proofs.set.TableSet.slot_words.Goals as goal
 
-pub slot_words-requires-clause-sized : goal.slot_words-requires-clause-sized
-slot_words-requires-clause-sized c =
+pub slot_words-requires : goal.slot_words-requires
+slot_words-requires c =
     let s : IsSlot c.args.self.now c.args.unit c.args.slot c.index-table.result.now = slot_in_set c.self.inside.nodes.items c.args.self.now c.from.result c.args.unit c.args.slot c.index-table.result.now c.self.view_is c.from.ensures c.self.invariant c.requires c.index-table.ensures in
-    s.is_sized
-
-pub slot_words-requires-clause-there : goal.slot_words-requires-clause-there
-slot_words-requires-clause-there c =
-    let s : IsSlot c.args.self.now c.args.unit c.args.slot c.index-table.result.now = slot_in_set c.self.inside.nodes.items c.args.self.now c.from.result c.args.unit c.args.slot c.index-table.result.now c.self.view_is c.from.ensures c.self.invariant c.requires c.index-table.ensures in
-    s.there
+    s.has
 
 pub returns : goal.returns
 returns c =
