@@ -70,9 +70,9 @@ module _ (next : ℕ → ℕ → End → Bool) (a : ℕ) (z : End) where
   segs_to [] e = absurd (false≢true e)
   segs_to (s ∷ rest) e = elim (or_cases (seg_leads next s a z) (segs_lead next rest a z) e) [
     | inl g ↦ (
-      let p = and_parts (in_span s.span a) (next s.node (s.base + (a - s.span.lo)) z) g in
-      (record { node = s.node; base = s.base + (a - s.span.lo) }, or_left (seg_gives s a (record { node = s.node; base = s.base + (a - s.span.lo) })) (segs_give rest a (record { node = s.node; base = s.base + (a - s.span.lo) })) (itself s p.0), p.1)
-    )
+        let p = and_parts (in_span s.span a) (next s.node (s.base + (a - s.span.lo)) z) g in
+        (record { node = s.node; base = s.base + (a - s.span.lo) }, or_left (seg_gives s a (record { node = s.node; base = s.base + (a - s.span.lo) })) (segs_give rest a (record { node = s.node; base = s.base + (a - s.span.lo) })) (itself s p.0), p.1)
+        )
     | inr g ↦ (let r = segs_to rest g in (r.0, or_right (seg_gives s a r.0) (segs_give rest a r.0) r.1, r.2))
   ]
 
@@ -87,13 +87,13 @@ module _ (next : ℕ → ℕ → End → Bool) (a : ℕ) (z : End) where
   pub onward_same : (segs : List Seg) (rows : List Row) (q : Bool) (b : ℕ) → ((y : End) → segs_give segs a y ≡ (q && rows_give rows b y)) → segs_lead next segs a z ≡ (q && rows_go next rows b z)
   onward_same segs rows q b same = same_bool (segs_lead next segs a z) (q && rows_go next rows b z)
       (λ e.
-          let r = segs_to segs e in
-          let p = and_parts q (rows_give rows b r.0) (sym (same r.0) ∙ r.1) in
-          and_from q (rows_go next rows b z) p.0 ((rows_go_on next rows b z).1 (r.0, rows_to rows b r.0 p.1, r.2)))
+      let r = segs_to segs e in
+      let p = and_parts q (rows_give rows b r.0) (sym (same r.0) ∙ r.1) in
+      and_from q (rows_go next rows b z) p.0 ((rows_go_on next rows b z).1 (r.0, rows_to rows b r.0 p.1, r.2)))
       (λ e.
-          let p = and_parts q (rows_go next rows b z) e in
-          let r = (rows_go_on next rows b z).0 p.1 in
-          segs_from segs r.0 (same r.0 ∙ and_from q (rows_give rows b r.0) p.0 (rows_from rows b r.0 r.1)) r.2)
+      let p = and_parts q (rows_go next rows b z) e in
+      let r = (rows_go_on next rows b z).0 p.1 in
+      segs_from segs r.0 (same r.0 ∙ and_from q (rows_give rows b r.0) p.0 (rows_from rows b r.0 r.1)) r.2)
 
   -- levels
 

@@ -79,11 +79,11 @@ module _ (net : List NodeDecl) (nodes : List Reach) (are : AreReaches net 1 node
   level_to was e = elim (or_cases old (rows_go (leads_by Stays nodes) rows a y) (sym is ∙ e)) [
     | inl o ↦ (let h = was o in let l : h.0 < j = h.1 in (h.0, omega arith, h.2))
     | inr g ↦ (
-      let r = (rows_go_on (leads_by Stays nodes) rows a y).0 g in
-      let p = and_parts (has_rows (rows_of (λ (x : Reach). x.done.accepts) (slice_get nodes r.0.node))) (is_same r.0.node r.0.base y) r.2 in
-      let c : IsChain (Step net) j here (name_of_end r.0) = (normal.exact a r.0 low).1 r.1 in
-      (j, omega arith, subst (IsChain (Step net) j here) (same_means r.0.node r.0.base y p.1) c)
-    )
+        let r = (rows_go_on (leads_by Stays nodes) rows a y).0 g in
+        let p = and_parts (has_rows (rows_of (λ (x : Reach). x.done.accepts) (slice_get nodes r.0.node))) (is_same r.0.node r.0.base y) r.2 in
+        let c : IsChain (Step net) j here (name_of_end r.0) = (normal.exact a r.0 low).1 r.1 in
+        (j, omega arith, subst (IsChain (Step net) j here) (same_means r.0.node r.0.base y p.1) c)
+        )
   ]
 
   level_from : (EndsBefore net (is_accepted net) j node a y → old ≡ true) → EndsBefore net (is_accepted net) (j + 1) node a y → new ≡ true

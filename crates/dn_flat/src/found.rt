@@ -106,12 +106,7 @@ pub(crate) fn push_rows(
 }
 
 /// Adds what the names of a row come to.
-fn push_row(
-    segs: &mut Vec<Seg>,
-    nodes: &[Reach],
-    part: Part,
-    row: &Row,
-) -> Result<(), OutOfMemory>
+fn push_row(segs: &mut Vec<Seg>, nodes: &[Reach], part: Part, row: &Row) -> Result<(), OutOfMemory>
     requires fit { EndsFit row.now }
     ensures { OnOk result ((a : ℕ) (z : End) → segs_give segs.new.items a z
         ≡ (segs_give segs.old.items a z || row_goes (leads_by part.entry nodes.now) row.now a z)) }
@@ -163,12 +158,7 @@ pub(crate) fn push(
 }
 
 /// Adds what the names of a segment come to, by what their node comes to.
-fn push_by(
-    segs: &mut Vec<Seg>,
-    reach: &Reach,
-    part: Part,
-    seg: Seg,
-) -> Result<(), OutOfMemory>
+fn push_by(segs: &mut Vec<Seg>, reach: &Reach, part: Part, seg: Seg) -> Result<(), OutOfMemory>
     ensures { OnOk result ((a : ℕ) (z : End) → segs_give segs.new.items a z
         ≡ (segs_give segs.old.items a z || seg_leads (reach_leads part.entry reach.now) seg a z)) }
 {

@@ -28,7 +28,7 @@ use Rattle.dn_placement.specs.declared.request.Request.{Request}
 use Rattle.dn_placement.specs.Records.{hop_record_by, hop_rights, hops_records, is_taken_by, joined_records, or_record, placed_records, slot_record}
 use Rattle.dn_view.specs.declared.pass.Part.TheVariants.{Stops}
 use Rattle.dn_view.specs.Exact.{IsAdded, IsExactAt}
-use Rattle.dn_view.specs.Passes.{has_rows, outputs_by, part_leads, stops_of}
+use Rattle.dn_view.specs.Passes.{has_rows, outputs_by, stops_of}
 use Rattle.dn_view.specs.Records.{fresh_record, fresh_records}
 use Rattle.dn_view.specs.Through.{ComesNewly, Newly}
 use Rattle.dn_view.specs.Untouched.{can_meet, has_hop, leads_to_units, rows_meet}

@@ -64,11 +64,7 @@ pub(crate) fn passed_stops(
 }
 
 /// The names in units to which the addresses of a node come, as segments.
-pub(crate) fn node_stops(
-    alloc: Global,
-    flats: &Flats,
-    node: u16,
-) -> Result<Vec<Seg>, OutOfMemory>
+pub(crate) fn node_stops(alloc: Global, flats: &Flats, node: u16) -> Result<Vec<Seg>, OutOfMemory>
     requires there { node < length flats.now.nodes }
     ensures { IfOk result (λ segs. (a : ℕ) (z : End) → a ≤ TOP → segs_give segs.items a z
         ≡ rows_give (stops_of flats.now node) a z) }

@@ -1,5 +1,5 @@
 -- One level more, where names were found.
-use Rattle.std.proofs.Common.{rules, ◌≡◌, ◌∙◌, ◌≤◌, ◌||◌, ◌++◌, [], ◌∷◌, ℕ, Bool, true, ap, subst}
+use Rattle.std.proofs.Common.{rules, ◌≡◌, ◌∙◌, ◌≤◌, ◌||◌, ◌++◌, [], ◌∷◌, ℕ, Bool, true, ◌==◌, length, ap, sym, subst}
 use Rattle.dn_interval.specs.declared.row.End.{End}
 use Rattle.dn_interval.specs.declared.span.TheConstants.{TOP}
 use Rattle.dn_interval.specs.Rows.{AreNormal, SegmentsGive}
@@ -17,7 +17,8 @@ returns-then-is_empty c =
     let goes : ℕ → End → Bool = λ a z. rows_go (leads_by Stays c.args.nodes.now) c.args.rows.now a z in
     let segs = c.push_rows.new.segs.items in
     let found : (a : ℕ) (z : End) → segs_give segs a z ≡ goes a z = λ a z. c.in_ok-push_rows.ensures.adds a z ∙ ap (λ s. segs_give s a z || goes a z) c.clear.ensures.items in
-    λ a z low. no_more c.args.levels.now segs (goes a z) a z (none_of segs (search rules)) (found a z)
+    let same : c.is_empty.result ≡ (length segs == 0) = search rules in
+    λ a z low. no_more c.args.levels.now segs (goes a z) a z (none_of segs (sym same ∙ c.if-is_empty.true)) (found a z)
 
 pub returns : goal.returns
 returns c =

@@ -28,9 +28,9 @@ returns c =
     let steps : nodes ≡ flats.stage.nodes = c.reaches-nodes.ensures ∙ ap (λ (v : FlatsView). v.stage.nodes) c.self.view_is in
     IfOk-weaker c.normal.result (λ rows. AreNormal (SegmentsGive c.deref-2.result.now) rows) (λ rows. (net : List NodeDecl) → AreFlats net flats → AreNormal (ResolvesMeeting net node first size) rows)
     (λ rows n net are.
-        let all : AreReaches net 1 nodes = subst (AreReaches net 1) (sym steps) are.steps in
-        let is : AreLevels net node levels = subst (AreLevels net node) (sym c.as_slice-levels.ensures) (are.each node c.of.result.now c.of.ensures).reached in
-        normal_of (ResolvesMeeting net node first size) segs rows
-        (λ a z low. means_along (segs_give segs a z) (spans_show nodes levels met a z) (c.in_ok-segs.ensures a z ∙ ap (λ m. spans_show nodes levels m a z) c.deref.ensures.value) (meeting_is net nodes all node levels is first size met a z low (c.in_ok-met.ensures net node all is a low)))
-        (subst (λ s. AreNormal (SegmentsGive s) rows) c.deref-2.ensures.value n))
+    let all : AreReaches net 1 nodes = subst (AreReaches net 1) (sym steps) are.steps in
+    let is : AreLevels net node levels = subst (AreLevels net node) (sym c.as_slice-levels.ensures) (are.each node c.of.result.now c.of.ensures).reached in
+    normal_of (ResolvesMeeting net node first size) segs rows
+    (λ a z low. means_along (segs_give segs a z) (spans_show nodes levels met a z) (c.in_ok-segs.ensures a z ∙ ap (λ m. spans_show nodes levels m a z) c.deref.ensures.value) (meeting_is net nodes all node levels is first size met a z low (c.in_ok-met.ensures net node all is a low)))
+    (subst (λ s. AreNormal (SegmentsGive s) rows) c.deref-2.ensures.value n))
     c.normal.ensures.normal
