@@ -174,7 +174,8 @@ fn meeting_segs(
     requires within { first.base + size ≤ TOP + 1 }
     ensures { IfOk result (λ segs. (net : List NodeDecl) (node : ℕ) → AreReaches net 1 nodes.now
         → AreLevels net node levels.now → (a : ℕ) → a ≤ TOP
-        → IsTrue (list_any (λ (s : Seg). in_span s.span a) segs.items) ↔ MeetsFrom net node first size a) }
+        → IsTrue (list_any (λ (s : Seg). in_span s.span a) segs.items)
+        ↔ MeetsFrom net node first size a) }
 {
     let mut segs = Vec::new(alloc);
     let buffer = from_on(first, size);

@@ -78,7 +78,8 @@ pub(crate) fn push_levels(
     levels: &[Rows],
 ) -> Result<(), OutOfMemory>
     ensures { OnOk result ((a : ℕ) (z : End) → segs_give segs.new.items a z
-        ≡ (segs_give segs.old.items a z || levels_lead (leads_by part.entry nodes.now) levels.now a z)) }
+        ≡ (segs_give segs.old.items a z
+        || levels_lead (leads_by part.entry nodes.now) levels.now a z)) }
 {
     for level in levels {
         push_rows(segs, nodes, part, level)?;
@@ -132,7 +133,8 @@ pub(crate) fn push_segs(
     given: &[Seg],
 ) -> Result<(), OutOfMemory>
     ensures { OnOk result ((a : ℕ) (z : End) → segs_give segs.new.items a z
-        ≡ (segs_give segs.old.items a z || segs_lead (leads_by part.entry nodes.now) given.now a z)) }
+        ≡ (segs_give segs.old.items a z
+        || segs_lead (leads_by part.entry nodes.now) given.now a z)) }
 {
     for seg in given {
         push(segs, nodes, part, *seg)?;

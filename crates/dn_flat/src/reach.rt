@@ -1,6 +1,6 @@
 //! What a node comes to by a number of steps: by one, and by twice as many.
 
-ghost use Rattle.std.specs.Prelude.{◌≡◌, ℕ, ◌+◌, ◌-◌, ◌<◌, ◌≤◌, ◌&&◌, [], ◌∷◌, length, slice_get, option_map, Some, IfOk, IfSome, IsTrue, List};
+ghost use Rattle.std.specs.Prelude.{◌≡◌, ℕ, ◌+◌, ◌-◌, ◌<◌, ◌≤◌, ◌&&◌, length, slice_get, option_map, Some, IfOk, IfSome, IsTrue, List};
 ghost use Rattle.std.specs.List.{All};
 ghost use Rattle.dn_interval.specs.declared.row.End.{End};
 ghost use Rattle.dn_interval.specs.declared.span.TheConstants.{TOP};
@@ -100,7 +100,8 @@ pub(crate) fn still(node: u16, span: Span) -> Seg
     ensures span { result.span ≡ span }
     ensures node { result.node ≡ node }
     ensures base { result.base ≡ span.lo }
-    ensures gives { (a : ℕ) (y : End) → seg_gives result a y ≡ (in_span span a && is_same node a y) }
+    ensures gives { (a : ℕ) (y : End) → seg_gives result a y
+        ≡ (in_span span a && is_same node a y) }
 {
     Seg {
         span,

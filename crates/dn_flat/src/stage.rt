@@ -1,6 +1,6 @@
 //! Stages: what each node of a net comes to by a number of steps.
 
-ghost use Rattle.std.specs.Prelude.{◌≡◌, ℕ, ◌+◌, ◌*◌, ◌<◌, ◌≤◌, Some, option_map, slice_get, length, IfOk, IfSome, List};
+ghost use Rattle.std.specs.Prelude.{◌≡◌, ◌*◌, ◌<◌, ◌≤◌, Some, option_map, slice_get, length, IfOk, IfSome, List};
 ghost use Rattle.dn_interval.specs.Terms.{AreNormal};
 ghost use Rattle.dn_net.specs.declared.node.NodeDecl.{NodeDecl};
 ghost use Rattle.dn_net.specs.Terms.{IsLegalNet, KeepsNodeRules};
