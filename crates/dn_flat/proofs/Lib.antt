@@ -1,10 +1,14 @@
 pub mod Bounds
 pub mod Chains
 pub mod Firsts
+pub mod Going
 pub mod Led
 pub mod Lists
+pub mod Meeting
 pub mod Nodes
+pub mod Reached
 pub mod Rows
-pub mod Shared
+pub mod Sharing
+pub mod Shown
 pub mod Sums
 pub mod There

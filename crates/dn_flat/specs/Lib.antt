@@ -1,5 +1,6 @@
-pub mod Added
 pub mod Firsts
+pub mod Levels
+pub mod Onward
 pub mod Shared
 pub mod Stages
 pub mod Terms

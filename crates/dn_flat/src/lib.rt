@@ -9,7 +9,9 @@ pub mod flat;
 pub mod flats;
 mod found;
 pub mod laws;
+pub mod levels;
 mod reach;
+mod shared;
 pub mod stage;
 
 pub use dn_base::OutOfMemory;

@@ -2,7 +2,7 @@
 pub use Rattle.dn_view.specs.Addition.{RefusalIsComplete}
 pub use Rattle.dn_view.specs.Courses.{IsCourse, course_records}
 pub use Rattle.dn_view.specs.Exact.{IsExactAt, are_buffer, is_buffer_end, is_buffer_row}
-pub use Rattle.dn_view.specs.Passes.{has_rows, in_slot, names_go, outputs, rows_part, seg_name, seg_passes, segs_pass}
+pub use Rattle.dn_view.specs.Passes.{has_rows, in_slot, names_go, outputs, part_gives, part_leads, seg_name, seg_passes, segs_pass, stops_of}
 pub use Rattle.dn_view.specs.Records.{AreFitted, IsFitted, IsFitting, fresh_record, records_taken}
 pub use Rattle.dn_view.specs.Systems.{AreTables, IsSystem}
 pub use Rattle.dn_view.specs.Through.{ComesThrough}

@@ -13,7 +13,7 @@ ghost use Rattle.dn_view.specs.Terms.{AreExactIn, ComesIn, IsExactIn, IsPassedIn
 use crate::course::Course;
 use crate::pass::{Part, pass};
 use crate::records::Records;
-use crate::shown::{UNITS, node_segs, passed_stops, push_through};
+use crate::shown::{UNITS, node_stops, passed_stops, push_through};
 use crate::system::System;
 use crate::trial::Trial;
 use crate::untouched::is_untouched;
@@ -101,7 +101,7 @@ fn exact_at(alloc: Global, trial: Trial, node: u16) -> Result<bool, OutOfMemory>
     if is_untouched(trial, node) {
         return Ok(true);
     }
-    let stops = node_segs(alloc, trial.system.flats, node, Part::Stops)?;
+    let stops = node_stops(alloc, trial.system.flats, node)?;
     let shown = newly_shown(alloc, trial, stops)?;
     if is_asked(trial.request, node, trial.access) {
         let rows = Rows::normal(alloc, shown.as_slice())?;
@@ -165,7 +165,7 @@ fn push_newly(
     };
     let records = Records::Joined(trial.request, trial.placement);
     let all = Course { records, ..fresh };
-    pass(shown, fresh, Part::Accepts, segs)?;
+    pass(alloc, shown, fresh, Part::Accepts, segs)?;
     let stops = passed_stops(alloc, fresh, segs)?;
     push_through(alloc, shown, all, stops)
 }

@@ -8,7 +8,7 @@ ghost use Rattle.dn_view.specs.declared.pass.Part.TheVariants.{Stops};
 ghost use Rattle.std.specs.List.{list_any};
 
 use crate::exact::is_asked;
-use crate::pass::{Part, leads_on, part_rows, unit_of};
+use crate::pass::{Part, leads_on, stop_rows, unit_of};
 use crate::system::System;
 use crate::trial::Trial;
 use dn_interval::{End, Row};
@@ -18,14 +18,14 @@ use dn_tables::placement::Placement;
 /// placement: then it shows nothing newly, whatever the tables hold. It takes no memory.
 pub(crate) fn is_untouched(trial: Trial, node: u16) -> bool
     requires trial { IsTrial (λ k. meaning (k.vtable, k.value)) trial }
-    requires there { node < length trial.system.flats.now }
+    requires there { node < length trial.system.flats.now.nodes }
     ensures { IsTrue result → (h : Held) → IsExactAt trial.entry.system.net.now h
         trial.entry.request.now trial.entry.placement.now trial.entry.access node }
 {
     if is_asked(trial.request, node, trial.access) {
         return false;
     }
-    let rows = part_rows(trial.system.flats, node, Part::Stops);
+    let rows = stop_rows(trial.system.flats, node);
     !rows_meet(trial, rows.rows())
 }
 

@@ -4,13 +4,14 @@ use Rattle.dn_interval.specs.declared.row.End.{End}
 use Rattle.dn_interval.specs.declared.span.TheConstants.{TOP}
 use Rattle.dn_interval.specs.Rows.{AreNormal}
 use Rattle.dn_interval.specs.Strands.{segs_give}
-use Rattle.dn_net.specs.Decode.{is_accepted, is_stop}
+use Rattle.dn_net.specs.Decode.{is_stop}
 use Rattle.dn_flat.specs.Stages.{EndsBefore, GoesIn}
-use Rattle.dn_flat.proofs.stage.levels.Given as goal
+use Rattle.dn_flat.proofs.Reached.{AreReached}
+use Rattle.dn_flat.proofs.levels.node_levels.Given as goal
 
 abbrev pub invariant-loop-steps : goal.invariant-loop-steps
 invariant-loop-steps l = record {
-  accepts : (a : ℕ) (y : End) → a ≤ TOP → (segs_give l.found.accepts.items a y ≡ true) ↔ EndsBefore l.net (is_accepted l.net) l.steps l.node a y;
-  stops : (a : ℕ) (y : End) → a ≤ TOP → (segs_give l.found.stops.items a y ≡ true) ↔ EndsBefore l.net (is_stop l.net) l.steps l.node a y;
+  levels : AreReached l.net l.steps l.node l.levels;
+  stops : (a : ℕ) (y : End) → a ≤ TOP → (segs_give l.stops.items a y ≡ true) ↔ EndsBefore l.net (is_stop l.net) l.steps l.node a y;
   reached : AreNormal (GoesIn l.net l.steps l.node) l.reached;
 }

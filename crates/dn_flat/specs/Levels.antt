@@ -1,0 +1,80 @@
+-- What nodes reach, level by level, and the accepted names to which they come by it.
+use Rattle.std.specs.Prelude.{◌≡◌, ℕ, ◌+◌, ◌<◌, ◌≤◌, Bool, ◌&&◌, List, [], length, slice_get, Option, Some, None, IsTrue}
+use Rattle.std.specs.List.{list_any}
+use Rattle.dn_interval.specs.declared.row.End.{End}
+use Rattle.dn_interval.specs.declared.row.Row.{Row}
+use Rattle.dn_interval.specs.declared.row.Seg.{Seg}
+use Rattle.dn_interval.specs.declared.span.TheConstants.{TOP}
+use Rattle.dn_interval.specs.Rows.{AreNormal, ends_within}
+use Rattle.dn_interval.specs.Spans.{in_span}
+use Rattle.dn_interval.specs.Strands.{rows_give}
+use Rattle.dn_interval.specs.Onward.{gives_by}
+use Rattle.dn_net.specs.declared.node.NodeDecl.{NodeDecl}
+use Rattle.dn_net.specs.Chain.{ReachesWithin}
+use Rattle.dn_net.specs.Decode.{Step, step_limit}
+use Rattle.dn_flat.specs.declared.levels.Levels.{Levels}
+use Rattle.dn_flat.specs.declared.reach.Reach.{Reach}
+use Rattle.dn_flat.specs.Onward.{levels_lead}
+use Rattle.dn_flat.specs.Stages.{AreReaches, StageRows}
+use Rattle.dn_flat.specs.Views.{name_of_end, ResolvesFrom, StopsFrom}
+
+-- one of the levels gives the name to the address
+abbrev pub levels_give : List (List Row) → ℕ → End → Bool
+levels_give levels a y = list_any (λ rows. rows_give rows a y) levels
+
+-- the address of the node reaches the name
+abbrev pub ReachesFrom : List NodeDecl → ℕ → ℕ → End → Type 0
+ReachesFrom net node a y = ReachesWithin (Step net) step_limit (record { node = node; addr = a }) (name_of_end y)
+
+-- the levels give to each address of the node names that it reaches, and among them each accepted one
+pub record AreLevels (net : List NodeDecl) (node : ℕ) (levels : List (List Row)) : Type 0 where
+  pub reached : (a : ℕ) (y : End) → a ≤ TOP → IsTrue (levels_give levels a y) → ReachesFrom net node a y
+  pub accepted : (a : ℕ) (y : End) → a ≤ TOP → ResolvesFrom net node a y → IsTrue (levels_give levels a y)
+
+-- they do, and the rows give to each address of the node its stops
+pub record IsLevels (net : List NodeDecl) (node : ℕ) (levels : Levels) : Type 0 where
+  pub reached : AreLevels net node levels.reached
+  pub stops : AreNormal (StopsFrom net node) levels.stops
+  -- each name of a row is in a node that is there
+  pub stops_within : IsTrue (ends_within (length net) levels.stops)
+
+-- there are such levels for each node below this one
+pub record AreLevelsBelow (net : List NodeDecl) (node : ℕ) (nodes : List Levels) : Type 0 where
+  pub every : length nodes ≡ node
+  pub each : (m : ℕ) (levels : Levels) → slice_get nodes m ≡ Some levels → IsLevels net m levels
+
+-- what nodes reach, and what they come to in one step
+pub record FlatsView : Type 0 where
+  pub nodes : List Levels
+  pub stage : StageRows
+
+-- it is what the nodes of the net reach, and what they come to
+pub record AreFlats (net : List NodeDecl) (flats : FlatsView) : Type 0 where
+  pub every : length flats.nodes ≡ length net
+  pub each : (node : ℕ) (levels : Levels) → slice_get flats.nodes node ≡ Some levels → IsLevels net node levels
+  pub steps : AreReaches net 1 flats.stage.nodes
+
+-- the levels of what a node reaches; of one that is not there they are none
+abbrev pub reached_of : Option Levels → List (List Row)
+reached_of None = []
+reached_of (Some levels) = levels.reached
+
+-- a name that one of the levels gives to the address goes on to the accepted name, by what its node accepts
+abbrev pub levels_show : List Reach → List (List Row) → ℕ → End → Bool
+levels_show nodes levels a z = levels_lead (gives_by (λ (r : Reach). r.done.accepts) nodes) levels a z
+
+-- the address of the node comes to the accepted name; no search unfolds it
+unfoldable pub shows : FlatsView → ℕ → ℕ → End → Bool
+shows flats node a z = levels_show flats.stage.nodes (reached_of (slice_get flats.nodes node)) a z
+
+-- an address of one of the segments comes, as itself, to the accepted name
+abbrev pub spans_show : List Reach → List (List Row) → List Seg → ℕ → End → Bool
+spans_show nodes levels segs a z = list_any (λ s. in_span s.span a && levels_show nodes levels a z) segs
+
+-- one of so many names from this one on is one to which the address of the node resolves
+abbrev pub MeetsFrom : List NodeDecl → ℕ → End → ℕ → ℕ → Type 0
+MeetsFrom net node first size a = (i : ℕ) × (i < size) × ResolvesFrom net node a (record { node = first.node; base = first.base + i })
+
+-- the address of the node resolves to the name, and to one of so many from another on
+abbrev pub ResolvesMeeting : List NodeDecl → ℕ → End → ℕ → ℕ → End → Type 0
+ResolvesMeeting net node first size a z = ResolvesFrom net node a z × MeetsFrom net node first size a
