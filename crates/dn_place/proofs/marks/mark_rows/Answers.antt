@@ -1,5 +1,5 @@
 use Rattle.dn_place.proofs.Marked.{rows_begun, rows_on, rows_done}
-use Rattle.dn_place.proofs.marks.mark_stops.Goals as goal
+use Rattle.dn_place.proofs.marks.mark_rows.Goals as goal
 
 pub loop-row-init : goal.loop-row-init
 loop-row-init c = record { keeps = λ n m. m; left = rows_begun c.args.rows.now c.args.marks.now }
