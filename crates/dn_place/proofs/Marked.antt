@@ -11,7 +11,7 @@ use Rattle.dn_interval.specs.declared.row.Row.{Row}
 use Rattle.dn_interval.specs.Rows.{Member, moved, Apart, HasEnds, GivenBy}
 use Rattle.dn_interval.specs.Spans.{in_span}
 use Rattle.dn_interval.specs.Strands.{rows_give}
-use Rattle.dn_interval.proofs.Names.{rows_from, rows_to}
+use Rattle.dn_interval.proofs.Names.{rows_to}
 use Rattle.dn_net.specs.declared.node.Name.{Name}
 use Rattle.dn_net.specs.declared.node.NodeDecl.{NodeDecl}
 use Rattle.dn_net.specs.Decode.{top, unit_at, StopsAt}
@@ -83,12 +83,16 @@ rows_done rows i marks l left = λ a z g k. go a z (left a z g k)
 
 -- so do the rows of levels, one after another
 
-pub levels_marked : (rows : List Row) (rest : List (List Row)) (old new : List Bool) → Keeps old new → length new ≡ length old → MarksRows rows new → (a : ℕ) (z : End) → z.node < length new → (is_marked old z.node ≡ true) ⊎ (levels_give (rows ∷ rest) a z ≡ true) → (is_marked new z.node ≡ true) ⊎ (levels_give rest a z ≡ true)
-levels_marked rows rest old new keeps same here a z l (inl m) = inl (keeps z.node m)
-levels_marked rows rest old new keeps same here a z l (inr m) = elim (or_cases (rows_give rows a z) (levels_give rest a z) m) [
+pub levels_marked : (rows : List Row) (rest : List (List Row)) (old new : List Bool) → Keeps old new → MarksRows rows new → (a : ℕ) (z : End) → z.node < length new → (is_marked old z.node ≡ true) ⊎ (levels_give (rows ∷ rest) a z ≡ true) → (is_marked new z.node ≡ true) ⊎ (levels_give rest a z ≡ true)
+levels_marked rows rest old new keeps here a z l (inl m) = inl (keeps z.node m)
+levels_marked rows rest old new keeps here a z l (inr m) = elim (or_cases (rows_give rows a z) (levels_give rest a z) m) [
   | inl g ↦ inl (here a z (rows_to rows a z g) l)
   | inr g ↦ inr g
 ]
+
+pub no_more : (marks : List Bool) (a : ℕ) (z : End) → (is_marked marks z.node ≡ true) ⊎ (levels_give [] a z ≡ true) → is_marked marks z.node ≡ true
+no_more marks a z (inl m) = m
+no_more marks a z (inr m) = absurd (false≢true m)
 
 -- the rows of a node's stops mark what the node leads to
 pub stops_mark : (net : List NodeDecl) (n : ℕ) (levels : Levels) (marks : List Bool) → IsLevels net n levels → MarksGiven (levels_give levels.stops) marks → Marks net n marks

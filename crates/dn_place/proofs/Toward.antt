@@ -1,16 +1,18 @@
 -- The rows of a node that give what hops want: those made for a buffer, those of the levels of its stops, and those of a lone level.
-use Rattle.std.proofs.Common.{◌≡◌, ℕ, suc, ◌+◌, ◌-◌, ◌<◌, ◌≤◌, ◌⊎◌, inl, inr, Bool, true, false, ◌&&◌, ◌||◌, nat_eq, nat_lt, nat_le, if◌then◌else◌, List, [], ◌∷◌, map, refl, sym, ap, ◌∙◌, subst, arith, IsTrue, eqb-true, eq-eqb, lt-ltb, ltb-true, leb-true}
+use Rattle.std.proofs.Common.{◌≡◌, ℕ, suc, ◌+◌, ◌-◌, ◌<◌, ◌≤◌, ◌⊎◌, inl, inr, Bool, true, false, ◌&&◌, ◌||◌, nat_eq, nat_lt, nat_le, if◌then◌else◌, List, [], ◌∷◌, length, map, get_or, refl, sym, ap, ◌∙◌, subst, arith, IsTrue, eqb-true, eq-eqb, lt-ltb, ltb-true, leb-true}
 use Rattle.std.specs.List.{list_all, list_any}
 use Rattle.std.proofs.lemmas.Bool.{false≢true, cases_lt, and_parts, and_from, or_cases, or_left, or_right, le-leb, le-ltb}
 use Rattle.dn_interval.specs.declared.row.End.{End}
 use Rattle.dn_interval.specs.declared.row.Row.{Row}
+use Rattle.dn_interval.specs.declared.row.Seg.{Seg}
 use Rattle.dn_interval.specs.declared.span.Span.{Span}
 use Rattle.dn_interval.specs.declared.span.TheConstants.{TOP}
-use Rattle.dn_interval.specs.Rows.{Member, moved, Apart, AreNormal, GivenBy, HasEnds}
+use Rattle.dn_interval.specs.Rows.{Member, moved, Apart, AreNormal, GivenBy, HasEnds, SegmentsGive}
 use Rattle.dn_interval.specs.Spans.{in_span}
-use Rattle.dn_interval.specs.Strands.{ends_give, row_gives, rows_give}
+use Rattle.dn_interval.specs.Strands.{ends_give, row_gives, rows_give, segs_give}
 use Rattle.dn_interval.proofs.Membership.{in_from, lo_of, hi_of}
-use Rattle.dn_interval.proofs.Names.{rows_from, rows_to}
+use Rattle.dn_interval.proofs.Names.{rows_from, rows_to, segs_from, segs_to}
+use Rattle.dn_interval.proofs.Normal.{normal_like}
 use Rattle.dn_net.specs.declared.node.NodeDecl.{NodeDecl}
 use Rattle.dn_flat.specs.declared.levels.Levels.{Levels}
 use Rattle.dn_flat.specs.Levels.{IsLevels, ResolvesMeeting, levels_give}
@@ -22,22 +24,32 @@ use Rattle.dn_place.specs.Sought.{ReachOneStop}
 
 -- where no hop follows
 
-pub buffer_toward : (net : List NodeDecl) (rq : Request) (node : ℕ) (rows : List Row) → AreNormal (ResolvesMeeting net node (wanted rq []) rq.size) rows → AreToward net rq [] node rows
-buffer_toward net rq node rows n = record {
+buffer_is : (net : List NodeDecl) (rq : Request) (hops : List Hop) (node : ℕ) (rows : List Row) → length hops ≡ 0 → AreNormal (ResolvesMeeting net node (wanted rq hops) rq.size) rows → AreToward net rq hops node rows
+buffer_is net rq (hop ∷ hops) node rows none n = absurd (omega arith)
+buffer_is net rq [] node rows none n = record {
   apart = n.apart;
   given = λ a z l g. ((n.exact a z l).1 g).0;
   all = λ a i z l m g r. (n.exact a z l).0 (r, ((n.exact a (moved i (wanted rq [])) l).1 g).1);
   alone = λ a i l m r only. (n.exact a (moved i (wanted rq [])) l).0 (r, (i, m, r));
 }
 
+pub buffer_toward : (net : List NodeDecl) (rq : Request) (hops : List Hop) (node : ℕ) (rows : List Row) (t : End) (size : ℕ) → length hops ≡ 0 → t ≡ wanted rq hops → size ≡ rq.size → AreNormal (ResolvesMeeting net node t size) rows → AreToward net rq hops node rows
+buffer_toward net rq hops node rows t size none e f n = buffer_is net rq hops node rows none (subst (λ m. AreNormal (ResolvesMeeting net node (wanted rq hops) m) rows) f (subst (λ (w : End). AreNormal (ResolvesMeeting net node w size) rows) e n))
+
+-- the buffer itself is wanted there, and ends by the last address
+pub wanted_fits : (rq : Request) (hops : List Hop) (t : End) (size : ℕ) → length hops ≡ 0 → t ≡ wanted rq hops → size ≡ rq.size → rq.base + rq.size ≤ TOP + 1 → t.base + size ≤ TOP + 1
+wanted_fits rq (hop ∷ hops) t size none e f fits = absurd (omega arith)
+wanted_fits rq [] t size none e f fits = let base : t.base ≡ rq.base = ap (λ (w : End). w.base) e in omega arith
+
 -- where one does: no address has two stops
 
-one_stop : (net : List NodeDecl) → ReachOneStop net → (node a : ℕ) (y z : End) → StopsFrom net node a y → StopsFrom net node a z → y ≡ z
-one_stop net one node a y z f g = ap end_of (one (record { node = node; addr = a }) (name_of_end y) (name_of_end z) f g)
+same_stop : (net : List NodeDecl) → ReachOneStop net → (node a : ℕ) (y z : End) → StopsFrom net node a y → StopsFrom net node a z → y ≡ z
+same_stop net one node a y z f g = ap end_of (one (record { node = node; addr = a }) (name_of_end y) (name_of_end z) f g)
 
 -- a lone level has all stops
-pub lone_toward : (net : List NodeDecl) (rq : Request) (hop : Hop) (hops : List Hop) (node : ℕ) (levels : Levels) (rows : List Row) → IsLevels net node levels → levels.stops ≡ rows ∷ [] → Apart 0 rows → AreToward net rq (hop ∷ hops) node rows
-lone_toward net rq hop hops node levels rows is lone apart = record {
+pub lone_toward : (net : List NodeDecl) (rq : Request) (hops : List Hop) (node : ℕ) (levels : Levels) (rows : List Row) → 1 ≤ length hops → IsLevels net node levels → levels.stops ≡ rows ∷ [] → Apart 0 rows → AreToward net rq hops node rows
+lone_toward net rq [] node levels rows some is lone apart = absurd (omega arith)
+lone_toward net rq (hop ∷ hops) node levels rows some is lone apart = record {
   apart = apart;
   given = λ a z l g. (exact a z l).1 g;
   all = λ a i z l m g r. (exact a z l).0 r;
@@ -129,11 +141,12 @@ levels_from t size (rows ∷ levels) a i few p = elim (or_cases (rows_give rows 
   | inr g ↦ or_right (rows_near t size rows a (moved i t)) (levels_near t size levels a (moved i t)) (levels_from t size levels a i few g)
 ]
 
-pub near_toward : (net : List NodeDecl) (rq : Request) (hop : Hop) (hops : List Hop) (node : ℕ) (levels : Levels) (rows : List Row) → ReachOneStop net → IsLevels net node levels → AreNormal (λ a z. IsTrue (levels_near (wanted rq (hop ∷ hops)) rq.size levels.stops a z)) rows → AreToward net rq (hop ∷ hops) node rows
-near_toward net rq hop hops node levels rows one is n = record {
+near_is : (net : List NodeDecl) (rq : Request) (hops : List Hop) (node : ℕ) (levels : Levels) (rows : List Row) → 1 ≤ length hops → ReachOneStop net → IsLevels net node levels → AreNormal (λ a z. IsTrue (levels_near (wanted rq hops) rq.size levels.stops a z)) rows → AreToward net rq hops node rows
+near_is net rq [] node levels rows some one is n = absurd (omega arith)
+near_is net rq (hop ∷ hops) node levels rows some one is n = record {
   apart = n.apart;
   given = given;
-  all = λ a i z l m g r. subst (λ (w : End). GivenBy rows a w) (one_stop net one node a (moved i t) z (given a (moved i t) l g) r) g;
+  all = λ a i z l m g r. subst (λ (w : End). GivenBy rows a w) (same_stop net one node a (moved i t) z (given a (moved i t) l g) r) g;
   alone = λ a i l m r only. (n.exact a (moved i t) l).0 (levels_from t rq.size levels.stops a i m ((is.stops a (moved i t) l).1 r));
 }
   where
@@ -142,6 +155,25 @@ near_toward net rq hop hops node levels rows one is n = record {
 
     given : (a : ℕ) (z : End) → a ≤ TOP → GivenBy rows a z → StopsFrom net node a z
     given a z l g = (is.stops a z l).0 (levels_to t rq.size levels.stops a z ((n.exact a z l).1 g))
+
+pub near_toward : (net : List NodeDecl) (rq : Request) (hops : List Hop) (node : ℕ) (levels : Levels) (rows : List Row) (t : End) (size : ℕ) (layers : List (List Row)) → 1 ≤ length hops → ReachOneStop net → IsLevels net node levels → t ≡ wanted rq hops → size ≡ rq.size → layers ≡ levels.stops → AreNormal (λ a z. IsTrue (levels_near t size layers a z)) rows → AreToward net rq hops node rows
+near_toward net rq hops node levels rows t size layers some one is e f g n =
+    near_is net rq hops node levels rows some one is
+    (subst (λ (ls : List (List Row)). AreNormal (λ a z. IsTrue (levels_near (wanted rq hops) rq.size ls a z)) rows) g
+    (subst (λ m. AreNormal (λ a z. IsTrue (levels_near (wanted rq hops) m layers a z)) rows) f
+    (subst (λ (w : End). AreNormal (λ a z. IsTrue (levels_near w size layers a z)) rows) e n)))
+
+-- the segments that were found are the near rows, where no level is left
+pub near_found : (t : End) (size : ℕ) (levels rest : List (List Row)) (segs : List Seg) (rows : List Row) → rest ≡ [] → ((a : ℕ) (z : End) → (segs_give segs a z || levels_near t size rest a z) ≡ levels_near t size levels a z) → AreNormal (SegmentsGive segs) rows → AreNormal (λ a z. IsTrue (levels_near t size levels a z)) rows
+near_found t size levels rest segs rows none found n =
+    normal_like (SegmentsGive segs) (λ a z. IsTrue (levels_near t size levels a z)) rows (λ a z l. ((λ m. sym (same a z) ∙ segs_from segs a z m), (λ e. segs_to segs a z (same a z ∙ e)))) n
+  where
+    or_none : (b : Bool) → (b || false) ≡ b
+    or_none true = refl
+    or_none false = refl
+
+    same : (a : ℕ) (z : End) → segs_give segs a z ≡ levels_near t size levels a z
+    same a z = sym (or_none (segs_give segs a z)) ∙ (ap (λ (ls : List (List Row)). segs_give segs a z || levels_near t size ls a z) (sym none) ∙ found a z)
 
 -- rows that have no address of a stretch give it nothing
 
@@ -183,6 +215,24 @@ pub past_some : (rows : List Row) (a size : ℕ) → Apart 0 rows → 1 ≤ size
 past_some rows a size apart some e none = false≢true (sym e ∙ past_all 0 rows a size apart some (λ i l z g. none i l z (rows_from rows (a + i) z g)))
 
 -- levels, one after another
+
+pub lone_level : (levels : List (List Row)) (rows : List Row) → 1 ≤ length levels → length levels < 2 → rows ≡ get_or levels 0 rows → levels ≡ rows ∷ []
+lone_level [] rows l h e = absurd (omega arith)
+lone_level (r ∷ []) rows l h e = ap (λ (rs : List Row). rs ∷ []) (sym e)
+lone_level (r ∷ s ∷ more) rows l h e = absurd (omega arith)
+
+pub level_gives : (rows : List Row) (rest : List (List Row)) (a : ℕ) (z : End) → GivenBy rows a z → levels_give (rows ∷ rest) a z ≡ true
+level_gives rows rest a z g = or_left (rows_give rows a z) (levels_give rest a z) (rows_from rows a z g)
+
+pub level_passed : (rows : List Row) (rest : List (List Row)) (a : ℕ) (z : End) → (GivenBy rows a z → ⊥) → levels_give (rows ∷ rest) a z ≡ levels_give rest a z
+level_passed rows rest a z none = go (rows_give rows a z) refl
+  where
+    go : (b : Bool) → rows_give rows a z ≡ b → (b || levels_give rest a z) ≡ levels_give rest a z
+    go true e = absurd (none (rows_to rows a z e))
+    go false e = refl
+
+pub none_left : (a size : ℕ) → GivesNone (levels_give []) a size
+none_left a size = λ i l z e. false≢true e
 
 pub none_more : (rows : List Row) (levels : List (List Row)) (a size : ℕ) → GivesNone (rows_give rows) a size → GivesNone (levels_give levels) a size → GivesNone (levels_give (rows ∷ levels)) a size
 none_more rows levels a size f g = λ i l z e. elim (or_cases (rows_give rows (a + i) z) (levels_give levels (a + i) z) e) [

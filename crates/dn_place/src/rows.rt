@@ -60,10 +60,10 @@ pub(crate) fn lent_rows(levels: &Levels, hops: Hops) -> Option<&[Row]>
     let [level] = levels.stops.as_slice() else {
         return None;
     };
-    match hops {
-        Hops::Zero => None,
-        Hops::One(_) | Hops::Two(_, _) | Hops::Three(_, _, _) => Some(level.rows()),
+    if hops.count() == 0 {
+        return None;
     }
+    Some(level.rows())
 }
 
 /// The rows of a node that give it, made of all levels.
@@ -81,12 +81,10 @@ pub(crate) fn made_rows<Q: Quest>(
 {
     let size = quest.request().size;
     let target = wanted(quest.request(), hops);
-    match hops {
-        Hops::Zero => quest.toward(alloc, node, target, size),
-        Hops::One(_) | Hops::Two(_, _) | Hops::Three(_, _, _) => {
-            near_rows(alloc, quest.levels(node).stops.as_slice(), target, size)
-        }
+    if hops.count() == 0 {
+        return quest.toward(alloc, node, target, size);
     }
+    near_rows(alloc, quest.levels(node).stops.as_slice(), target, size)
 }
 
 /// Where levels give names of so many from one on, as normal rows of these names. A row counts whole, also where it
