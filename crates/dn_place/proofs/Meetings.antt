@@ -8,21 +8,21 @@ use Rattle.dn_net.specs.Decode.{top}
 use Rattle.dn_flat.specs.Views.{end_of, name_of_end, ResolvesFrom, StopsFrom}
 use Rattle.dn_tables.specs.declared.placement.Hop.{Hop}
 use Rattle.dn_placement.specs.Placement.{Meets, name_on}
-use Rattle.dn_place.specs.Rows.{AreToward, InRow, IsClear, GivesOnly, wanted}
+use Rattle.dn_place.specs.Rows.{AreToward, ComesOnly, InRow, IsClear, GivesOnly, wanted}
 use Rattle.dn_place.specs.Sought.{ReachOneStop, Sought}
 use Rattle.dn_place.proofs.Stretches.{head_gives}
 use Rattle.dn_place.proofs.Walks.{Walked}
 
--- what is met is what the rows of the node give
+-- what is met is what the addresses come to
+meets_only : (s : Sought) (n a : ℕ) (hops : List Hop) → ReachOneStop s.net → Meets s.net s.request n a hops → ComesOnly s.net s.request hops n a
+meets_only s n a [] one m = λ i z l. ((λ r. sym (ap end_of (((m i l).0 (name_of_end z)).0 r))), (λ e. subst (λ (w : End). ResolvesFrom s.net n (a + i) w) e (((m i l).0 (name_on s.request.node s.request.base i)).1 refl)))
+meets_only s n a (hop ∷ hops) one m = λ i z l. ((λ r. ap end_of (one (name_on n a i) (name_on hop.unit hop.x i) (name_of_end z) (m i l) r)), (λ e. subst (λ (w : End). StopsFrom s.net n (a + i) w) e (m i l)))
+
+-- so it is what the rows of the node give
 pub meets_gives : (s : Sought) (n a : ℕ) (hops : List Hop) (rows : List Row) → AreToward s.net s.request hops n rows → ReachOneStop s.net → a + s.request.size ≤ top + 1 → Meets s.net s.request n a hops → GivesOnly rows (wanted s.request hops) s.request.size a
-meets_gives s n a [] rows f one fits m = λ i l z.
-    let back : (y : End) → ResolvesFrom s.net n (a + i) y → y ≡ moved i (wanted s.request []) = λ y r. ap end_of (((m i l).0 (name_of_end y)).0 r) in
-    let here = f.alone (a + i) i (omega arith) l (((m i l).0 (name_on s.request.node s.request.base i)).1 refl) back in
-    ((λ g. sym (back z (f.given (a + i) z (omega arith) g))), (λ e. subst (λ (w : End). GivenBy rows (a + i) w) e here))
-meets_gives s n a (hop ∷ hops) rows f one fits m = λ i l z.
-    let back : (y : End) → StopsFrom s.net n (a + i) y → y ≡ moved i (wanted s.request (hop ∷ hops)) = λ y r. sym (ap end_of (one (name_on n a i) (name_on hop.unit hop.x i) (name_of_end y) (m i l) r)) in
-    let here = f.alone (a + i) i (omega arith) l (m i l) back in
-    ((λ g. sym (back z (f.given (a + i) z (omega arith) g))), (λ e. subst (λ (w : End). GivenBy rows (a + i) w) e here))
+meets_gives s n a hops rows f one fits m = λ i l z.
+    let only = meets_only s n a hops one m in
+    ((λ g. (only i z l).0 (f.given (a + i) z (omega arith) g)), (λ e. subst (λ (w : End). GivenBy rows (a + i) w) e (f.whole a fits only i l)))
 
 pub row_gives : (bound : ℕ) (r : Row) (rest : List Row) (t : End) (size a : ℕ) → Apart bound (r ∷ rest) → InRow r t size a → GivesOnly (r ∷ rest) t size a
 row_gives bound r rest t size a p w i l z = ((λ g. there (head_gives bound r rest (a + i) z p (omega (arith, w.to)) g)), back)

@@ -30,7 +30,7 @@ buffer_is net rq [] node rows none n = record {
   apart = n.apart;
   given = λ a z l g. ((n.exact a z l).1 g).0;
   all = λ a i z l m g r. (n.exact a z l).0 (r, ((n.exact a (moved i (wanted rq [])) l).1 g).1);
-  alone = λ a i l m r only. (n.exact a (moved i (wanted rq [])) l).0 (r, (i, m, r));
+  whole = λ a fits only i m. let r = (only i (moved i (wanted rq [])) m).1 refl in (n.exact (a + i) (moved i (wanted rq [])) (omega arith)).0 (r, (i, m, r));
 }
 
 pub buffer_toward : (net : List NodeDecl) (rq : Request) (hops : List Hop) (node : ℕ) (rows : List Row) (t : End) (size : ℕ) → length hops ≡ 0 → t ≡ wanted rq hops → size ≡ rq.size → AreNormal (ResolvesMeeting net node t size) rows → AreToward net rq hops node rows
@@ -53,7 +53,7 @@ lone_toward net rq (hop ∷ hops) node levels rows some is lone apart = record {
   apart = apart;
   given = λ a z l g. (exact a z l).1 g;
   all = λ a i z l m g r. (exact a z l).0 r;
-  alone = λ a i l m r only. (exact a (moved i (wanted rq (hop ∷ hops))) l).0 r;
+  whole = λ a fits only i m. (exact (a + i) (moved i (wanted rq (hop ∷ hops))) (omega arith)).0 ((only i (moved i (wanted rq (hop ∷ hops))) m).1 refl);
 }
   where
     or_false : (b : Bool) → (b || false) ≡ true → b ≡ true
@@ -147,7 +147,7 @@ near_is net rq (hop ∷ hops) node levels rows some one is n = record {
   apart = n.apart;
   given = given;
   all = λ a i z l m g r. subst (λ (w : End). GivenBy rows a w) (same_stop net one node a (moved i t) z (given a (moved i t) l g) r) g;
-  alone = λ a i l m r only. (n.exact a (moved i t) l).0 (levels_from t rq.size levels.stops a i m ((is.stops a (moved i t) l).1 r));
+  whole = λ a fits only i m. let low : a + i ≤ TOP = omega arith in (n.exact (a + i) (moved i t) low).0 (levels_from t rq.size levels.stops (a + i) i m ((is.stops (a + i) (moved i t) low).1 ((only i (moved i t) m).1 refl)));
 }
   where
     t : End

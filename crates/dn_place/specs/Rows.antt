@@ -34,17 +34,21 @@ abbrev pub ComesTo : List NodeDecl → List Hop → ℕ → ℕ → End → Type
 ComesTo net [] node a z = ResolvesFrom net node a z
 ComesTo net (hop ∷ hops) node a z = StopsFrom net node a z
 
--- The rows of a node that give what hops want. They give to each address names to which it comes alone; where one of them
--- is wanted all to which it comes; and each that is wanted, where the address comes to no other.
+-- the addresses of a stretch come to just the names that hops want, one after another
+abbrev pub ComesOnly : List NodeDecl → Request → List Hop → ℕ → ℕ → Type 0
+ComesOnly net rq hops node a = (i : ℕ) (z : End) → i < rq.size →
+    ComesTo net hops node (a + i) z ↔ (moved i (wanted rq hops) ≡ z)
+
+-- The rows of a node that give what hops want: to each address names to which it comes alone; where one of them is wanted,
+-- all to which it comes; and all of a stretch that comes to just what is wanted.
 pub record AreToward (net : List NodeDecl) (rq : Request) (hops : List Hop) (node : ℕ) (rows : List Row)
     : Type 0 where
   pub apart : Apart 0 rows
   pub given : (a : ℕ) (z : End) → a ≤ TOP → GivenBy rows a z → ComesTo net hops node a z
   pub all : (a i : ℕ) (z : End) → a ≤ TOP → i < rq.size → GivenBy rows a (moved i (wanted rq hops)) →
       ComesTo net hops node a z → GivenBy rows a z
-  pub alone : (a i : ℕ) → a ≤ TOP → i < rq.size → ComesTo net hops node a (moved i (wanted rq hops)) →
-      ((z : End) → ComesTo net hops node a z → z ≡ moved i (wanted rq hops)) →
-      GivenBy rows a (moved i (wanted rq hops))
+  pub whole : (a : ℕ) → a + rq.size ≤ TOP + 1 → ComesOnly net rq hops node a → (i : ℕ) → i < rq.size →
+      GivenBy rows (a + i) (moved i (wanted rq hops))
 
 -- a span whose first address has this name gives one of so many names from one on
 abbrev pub is_near : End → ℕ → Span → End → Bool
