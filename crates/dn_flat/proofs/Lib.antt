@@ -1,7 +1,9 @@
 pub mod Bounds
 pub mod Chains
 pub mod Firsts
+pub mod Frontier
 pub mod Going
+pub mod Layered
 pub mod Led
 pub mod Lists
 pub mod Meeting

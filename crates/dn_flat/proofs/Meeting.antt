@@ -12,23 +12,23 @@ use Rattle.dn_interval.specs.Rows.{AreNormal, GivenBy, SegmentsGive}
 use Rattle.dn_interval.specs.Spans.{in_span}
 use Rattle.dn_interval.specs.Strands.{seg_gives, segs_give, rows_give}
 use Rattle.dn_interval.specs.Onward.{gives_by, rows_of}
-use Rattle.dn_interval.proofs.Membership.{hi_of, in_from, lo_of, or_left, or_right}
+use Rattle.dn_interval.proofs.Membership.{hi_of, in_from, lo_of, or_left, or_right, same_bool}
 use Rattle.dn_interval.proofs.Names.{rows_from, rows_to, segs_from, segs_to}
-use Rattle.dn_interval.proofs.Normal.{normal_like}
 use Rattle.dn_net.specs.declared.node.Name.{Name}
 use Rattle.dn_net.specs.declared.node.NodeDecl.{NodeDecl}
 use Rattle.dn_net.specs.Chain.{IsChain}
 use Rattle.dn_net.specs.Decode.{Step, is_accepted}
-use Rattle.dn_flat.specs.declared.found.Part.{Part}
-use Rattle.dn_flat.specs.declared.found.Part.TheVariants.{Accepts, Toward}
+use Rattle.dn_flat.specs.declared.found.Part.TheVariants.{Accepts}
 use Rattle.dn_flat.specs.declared.reach.Reach.{Reach}
-use Rattle.dn_flat.specs.Levels.{AreLevels, MeetsFrom, ReachesFrom, ResolvesMeeting, levels_give, levels_show, spans_show}
-use Rattle.dn_flat.specs.Onward.{leads_by, levels_lead, seg_leads}
+use Rattle.dn_flat.specs.Firsts.{is_same}
+use Rattle.dn_flat.specs.Levels.{AreLevels, AreStops, MeetsFrom, MeetsStops, ReachesFrom, spans_give}
+use Rattle.dn_flat.specs.Onward.{leads_by, levels_lead, seg_leads, toward_by}
 use Rattle.dn_flat.specs.Stages.{AreReaches}
-use Rattle.dn_flat.specs.Views.{name_of_end, ResolvesFrom}
+use Rattle.dn_flat.specs.Views.{name_of_end, StopsFrom}
 use Rattle.dn_flat.proofs.Going.{levels_from, levels_to}
-use Rattle.dn_flat.proofs.Shown.{accepted_low, accepting_from, accepting_to, given_low, no_reach, shown_is}
-use Rattle.dn_flat.proofs.There.{accepted_is_there}
+use Rattle.dn_flat.proofs.Lists.{or_false}
+use Rattle.dn_flat.proofs.Shown.{accepted_low, accepting_from, accepting_to, given_low, no_reach}
+use Rattle.dn_flat.proofs.There.{accepted_is_there, stop_is_there}
 
 -- an address lies in one of the segments exactly where one gives it a name
 
@@ -67,7 +67,7 @@ module _ (net : List NodeDecl) (nodes : List Reach) (are : AreReaches net 1 node
   -- the rows give to each address of the buffer itself, where it is accepted
   module _ (near : List Seg) (rows : List Row) (given : (b : ℕ) (y : End) → segs_give near b y ≡ seg_leads (leads_by Accepts nodes) buffer b y) (normal : AreNormal (SegmentsGive near) rows) where
     abbrev toward : ℕ → ℕ → End → Bool
-    toward n b y = nat_eq n first.node && gives_by (λ (r : Reach). rows) nodes n b y
+    toward = toward_by first.node rows nodes
 
     same_base : (b : ℕ) → buffer.span.lo ≤ b → buffer.base + (b - buffer.span.lo) ≡ b
     same_base b l = let f : buffer.base ≡ first.base = from in let g : buffer.span.lo ≡ first.base = lo in omega arith
@@ -120,53 +120,122 @@ module _ (net : List NodeDecl) (nodes : List Reach) (are : AreReaches net 1 node
         let there = slice_get-get_or nodes first.node no_reach (omega arith) in
         and_from (nat_eq first.node first.node) (gives_by (λ (r : Reach). rows) nodes first.node b z) (eq-eqb first.node first.node refl) (ap (λ o. rows_give (rows_of (λ (r : Reach). rows) o) b z) there ∙ g)
 
-    -- so the segments that levels come to by them lie at the addresses that meet the buffer
-    pub met : (segs : List Seg) (a : ℕ) → a ≤ TOP → ((y : End) → segs_give segs a y ≡ levels_lead toward levels a y) → (has_one segs a ≡ true) ↔ MeetsFrom net node first size a
-    met segs a low same = (into, back)
+    -- so an address comes by levels to a name by them where it meets the buffer
+    pub met : (a : ℕ) → a ≤ TOP → ((z : End) × (levels_lead toward levels a z ≡ true)) ↔ MeetsFrom net node first size a
+    met a low = (into, back)
       where
-        into : has_one segs a ≡ true → MeetsFrom net node first size a
+        into : ((z : End) × (levels_lead toward levels a z ≡ true)) → MeetsFrom net node first size a
         into e =
-            let s = one_named segs a e in
-            let r = levels_to toward a s.0 levels (sym (same s.0) ∙ s.1) in
-            let t = toward_to r.0.node r.0.base s.0 r.2 in
+            let r = levels_to toward a e.0 levels e.1 in
+            let t = toward_to r.0.node r.0.base e.0 r.2 in
             let by : ReachesFrom net node a r.0 = is.reached a r.0 low r.1 in
             (t.0, t.1, (t.2, (by.0, by.1, subst (IsChain (Step net) by.0 (record { node = node; addr = a })) t.3 by.2)))
 
-        back : MeetsFrom net node first size a → has_one segs a ≡ true
+        back : MeetsFrom net node first size a → (z : End) × (levels_lead toward levels a z ≡ true)
         back h =
             let z : End = record { node = first.node; base = first.base + h.0 } in
-            named_one segs a z (same z ∙ levels_from toward a z levels z (is.accepted a z low h.2) (toward_from h.0 h.1 h.2.0))
+            (z, levels_from toward a z levels z (is.accepted a z low h.2) (toward_from h.0 h.1 h.2.0))
 
--- what addresses show, as themselves, that lie in segments
+-- the same of stops, by rows that give to each address of the buffer itself
 
-pub still_shows : (nodes : List Reach) (levels : List (List Row)) (s : Seg) (span : Span) (a : ℕ) (z : End) → s.span ≡ span → s.base ≡ span.lo → (in_span s.span a && levels_show nodes levels (s.base + (a - s.span.lo)) z) ≡ (in_span span a && levels_show nodes levels a z)
-still_shows nodes levels s span a z same base = ap (λ (t : Span). in_span t a && levels_show nodes levels (s.base + (a - t.lo)) z) same ∙ by (in_span span a) refl
+module _ (net : List NodeDecl) (nodes : List Reach) (are : AreReaches net 1 nodes) (node : ℕ) (layers : List (List Row)) (is : AreStops net node layers) (first : End) (size : ℕ) (buffer : Seg) (at : buffer.node ≡ first.node) (from : buffer.base ≡ first.base) (lo : buffer.span.lo ≡ first.base) (hi : buffer.span.hi + 1 ≡ first.base + size) (rows : List Row) (normal : AreNormal (SegmentsGive (buffer ∷ [])) rows) where
+  abbrev through : ℕ → ℕ → End → Bool
+  through = toward_by first.node rows nodes
+
+  through_to : (n b : ℕ) (y : End) → through n b y ≡ true → (i : ℕ) × (i < size) × ◌≡◌ {A = End} (record { node = n; base = b }) (record { node = first.node; base = first.base + i })
+  through_to n b y e =
+      let p = and_parts (nat_eq n first.node) (gives_by (λ (r : Reach). rows) nodes n b y) e in
+      let g : GivenBy rows b y = rows_to rows b y (by (slice_get nodes n) p.1) in
+      let s : segs_give (buffer ∷ []) b y ≡ true = segs_from (buffer ∷ []) b y ((normal.exact b y (given_low rows b y g)).1 g) in
+      let m : in_span buffer.span b ≡ true = (and_parts (in_span buffer.span b) (nat_eq buffer.node y.node && nat_eq (buffer.base + (b - buffer.span.lo)) y.base) (sym (or_false (seg_gives buffer b y)) ∙ s)).0 in
+      let l : buffer.span.lo ≤ b = lo_of buffer.span b m in
+      let h : b ≤ buffer.span.hi = hi_of buffer.span b m in
+      let low : buffer.span.lo ≡ first.base = lo in
+      let high : buffer.span.hi + 1 ≡ first.base + size = hi in
+      let same : b ≡ first.base + (b - first.base) = omega arith in
+      (b - first.base, omega arith, λ i. record { node = eqb-true n first.node p.0 i; base = same i })
+    where
+      by : (o : Option Reach) → rows_give (rows_of (λ (r : Reach). rows) o) b y ≡ true → rows_give rows b y ≡ true
+      by None f = absurd (false≢true f)
+      by (Some r) f = f
+
+  through_from : (i : ℕ) → i < size → first.node < length net → through first.node (first.base + i) (record { node = first.node; base = first.base + i }) ≡ true
+  through_from i l m =
+      let b : ℕ = first.base + i in
+      let z : End = record { node = first.node; base = b } in
+      let low : buffer.span.lo ≡ first.base = lo in
+      let high : buffer.span.hi + 1 ≡ first.base + size = hi in
+      let base : buffer.base ≡ first.base = from in
+      let top : buffer.span.hi ≤ TOP = buffer.span.within in
+      let inside : in_span buffer.span b ≡ true = in_from buffer.span b (omega arith) (omega arith) in
+      let there : buffer.base + (b - buffer.span.lo) ≡ b = omega arith in
+      let one : seg_gives buffer b z ≡ true = and_from (in_span buffer.span b) (nat_eq buffer.node first.node && nat_eq (buffer.base + (b - buffer.span.lo)) b) inside (and_from (nat_eq buffer.node first.node) (nat_eq (buffer.base + (b - buffer.span.lo)) b) (eq-eqb buffer.node first.node at) (eq-eqb (buffer.base + (b - buffer.span.lo)) b there)) in
+      let g : rows_give rows b z ≡ true = rows_from rows b z ((normal.exact b z (omega arith)).0 (segs_to (buffer ∷ []) b z (or_false (seg_gives buffer b z) ∙ one))) in
+      let every : length nodes ≡ length net = are.every in
+      let found = slice_get-get_or nodes first.node no_reach (omega arith) in
+      and_from (nat_eq first.node first.node) (gives_by (λ (r : Reach). rows) nodes first.node b z) (eq-eqb first.node first.node refl) (ap (λ o. rows_give (rows_of (λ (r : Reach). rows) o) b z) found ∙ g)
+
+  pub met_stops : (a : ℕ) → a ≤ TOP → ((z : End) × (levels_lead through layers a z ≡ true)) ↔ MeetsStops net node first size a
+  met_stops a low = (into, back)
+    where
+      into : ((z : End) × (levels_lead through layers a z ≡ true)) → MeetsStops net node first size a
+      into e =
+          let r = levels_to through a e.0 layers e.1 in
+          let t = through_to r.0.node r.0.base e.0 r.2 in
+          (t.0, t.1, subst (StopsFrom net node a) t.2 ((is a r.0 low).0 r.1))
+
+      back : MeetsStops net node first size a → (z : End) × (levels_lead through layers a z ≡ true)
+      back h =
+          let z : End = record { node = first.node; base = first.base + h.0 } in
+          let m : first.node < length net = stop_is_there net (name_of_end z) h.2.0 in
+          (z, levels_from through a z layers z ((is a z low).1 h.2) (through_from h.0 h.1 m))
+
+-- segments have an address exactly where they give it a name
+
+pub has_given : (segs : List Seg) (a : ℕ) (gives : End → Bool) → ((z : End) → segs_give segs a z ≡ gives z) → (has_one segs a ≡ true) ↔ ((z : End) × (gives z ≡ true))
+has_given segs a gives same = (
+  (λ e. let r = one_named segs a e in (r.0, sym (same r.0) ∙ r.1)),
+  (λ h. named_one segs a h.0 (same h.0 ∙ h.1)),
+)
+
+-- where others give the same as segments whose addresses are themselves in one node, they have the same addresses
+pub same_places : (segs all out : List Seg) (a : ℕ) → ((z : End) → segs_give out a z ≡ segs_give all a z) → ((z : End) → segs_give all a z ≡ (has_one segs a && is_same 0 a z)) → has_one out a ≡ has_one segs a
+same_places segs all out a same is = same_bool (has_one out a) (has_one segs a)
+    (λ e. let r = one_named out a e in (and_parts (has_one segs a) (is_same 0 a r.0) (sym (is r.0) ∙ (sym (same r.0) ∙ r.1))).0)
+    (λ e.
+    let z : End = record { node = 0; base = a } in
+    named_one out a z (same z ∙ (is z ∙ and_from (has_one segs a) (is_same 0 a z) e (and_from (nat_eq 0 0) (nat_eq a a) refl (eq-eqb a a refl)))))
+
+-- what is given to addresses, as themselves, that lie in segments
+
+pub still_gives : (gives : ℕ → End → Bool) (s : Seg) (span : Span) (a : ℕ) (z : End) → s.span ≡ span → s.base ≡ span.lo → (in_span s.span a && gives (s.base + (a - s.span.lo)) z) ≡ (in_span span a && gives a z)
+still_gives gives s span a z same base = ap (λ (t : Span). in_span t a && gives (s.base + (a - t.lo)) z) same ∙ by (in_span span a) refl
   where
-    by : (b : Bool) → in_span span a ≡ b → (b && levels_show nodes levels (s.base + (a - span.lo)) z) ≡ (b && levels_show nodes levels a z)
+    by : (b : Bool) → in_span span a ≡ b → (b && gives (s.base + (a - span.lo)) z) ≡ (b && gives a z)
     by false e = refl
     by true e =
         let l : span.lo ≤ a = lo_of span a e in
         let f : s.base ≡ span.lo = base in
         let n : s.base + (a - span.lo) ≡ a = omega arith in
-        ap (λ m. levels_show nodes levels m z) n
+        ap (λ m. gives m z) n
 
-spans_parts : (nodes : List Reach) (levels : List (List Row)) (segs : List Seg) (a : ℕ) (z : End) → spans_show nodes levels segs a z ≡ true → (has_one segs a ≡ true) × (levels_show nodes levels a z ≡ true)
-spans_parts nodes levels [] a z e = absurd (false≢true e)
-spans_parts nodes levels (s ∷ rest) a z e = elim (or_cases (in_span s.span a && levels_show nodes levels a z) (spans_show nodes levels rest a z) e) [
-  | inl g ↦ (let p = and_parts (in_span s.span a) (levels_show nodes levels a z) g in (or_left (in_span s.span a) (has_one rest a) p.0, p.1))
-  | inr g ↦ (let p = spans_parts nodes levels rest a z g in (or_right (in_span s.span a) (has_one rest a) p.0, p.1))
+spans_parts : (gives : ℕ → End → Bool) (segs : List Seg) (a : ℕ) (z : End) → spans_give gives segs a z ≡ true → (has_one segs a ≡ true) × (gives a z ≡ true)
+spans_parts gives [] a z e = absurd (false≢true e)
+spans_parts gives (s ∷ rest) a z e = elim (or_cases (in_span s.span a && gives a z) (spans_give gives rest a z) e) [
+  | inl g ↦ (let p = and_parts (in_span s.span a) (gives a z) g in (or_left (in_span s.span a) (has_one rest a) p.0, p.1))
+  | inr g ↦ (let p = spans_parts gives rest a z g in (or_right (in_span s.span a) (has_one rest a) p.0, p.1))
 ]
 
-spans_from : (nodes : List Reach) (levels : List (List Row)) (segs : List Seg) (a : ℕ) (z : End) → has_one segs a ≡ true → levels_show nodes levels a z ≡ true → spans_show nodes levels segs a z ≡ true
-spans_from nodes levels [] a z e f = absurd (false≢true e)
-spans_from nodes levels (s ∷ rest) a z e f = elim (or_cases (in_span s.span a) (has_one rest a) e) [
-  | inl g ↦ or_left (in_span s.span a && levels_show nodes levels a z) (spans_show nodes levels rest a z) (and_from (in_span s.span a) (levels_show nodes levels a z) g f)
-  | inr g ↦ or_right (in_span s.span a && levels_show nodes levels a z) (spans_show nodes levels rest a z) (spans_from nodes levels rest a z g f)
+spans_from : (gives : ℕ → End → Bool) (segs : List Seg) (a : ℕ) (z : End) → has_one segs a ≡ true → gives a z ≡ true → spans_give gives segs a z ≡ true
+spans_from gives [] a z e f = absurd (false≢true e)
+spans_from gives (s ∷ rest) a z e f = elim (or_cases (in_span s.span a) (has_one rest a) e) [
+  | inl g ↦ or_left (in_span s.span a && gives a z) (spans_give gives rest a z) (and_from (in_span s.span a) (gives a z) g f)
+  | inr g ↦ or_right (in_span s.span a && gives a z) (spans_give gives rest a z) (spans_from gives rest a z g f)
 ]
 
-pub meeting_is : (net : List NodeDecl) (nodes : List Reach) → AreReaches net 1 nodes → (node : ℕ) (levels : List (List Row)) → AreLevels net node levels → (first : End) (size : ℕ) (segs : List Seg) (a : ℕ) (z : End) → a ≤ TOP → ((has_one segs a ≡ true) ↔ MeetsFrom net node first size a) → (spans_show nodes levels segs a z ≡ true) ↔ ResolvesMeeting net node first size a z
-meeting_is net nodes are node levels is first size segs a z low met =
-    let shown = shown_is net nodes are node levels is a z low in (
-      (λ e. let p = spans_parts nodes levels segs a z e in (shown.0 p.1, met.0 p.0)),
-      (λ h. spans_from nodes levels segs a z (met.1 h.1) (shown.1 h.0)),
-    )
+-- so it is what is given to an address, and that the address lies there
+pub spans_mean : {P Q : Type 0} (gives : ℕ → End → Bool) (segs : List Seg) (a : ℕ) (z : End) → (gives a z ≡ true) ↔ P → (has_one segs a ≡ true) ↔ Q → (spans_give gives segs a z ≡ true) ↔ (P × Q)
+spans_mean gives segs a z shown met = (
+  (λ e. let p = spans_parts gives segs a z e in (shown.0 p.1, met.0 p.0)),
+  (λ h. spans_from gives segs a z (met.1 h.1) (shown.1 h.0)),
+)

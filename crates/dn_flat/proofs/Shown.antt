@@ -125,9 +125,9 @@ same_seen net flats are node other l m same flat f =
     let q = shown_is net flats.stage.nodes are.steps other t.0.reached t.2.reached a y low in
     ((λ h. q.0 (p.1 h)), (λ h. p.0 (q.1 h)))) f.accepts)
     (normal_like (StopsFrom net node) (StopsFrom net other) flat.stops (λ a y low.
-    let p = is.stops.exact a y low in
-    let q = t.2.stops.exact a y low in
-    ((λ h. q.1 (p.0 h)), (λ h. p.1 (q.0 h)))) f.stops)
+    let p = is.stops a y low in
+    let q = t.2.stops a y low in
+    ((λ h. q.0 (p.1 h)), (λ h. p.0 (q.1 h)))) f.stops)
 
 -- a node with no level shows nothing
 pub shows_none : (flats : FlatsView) (node a : ℕ) (z : End) → reached_of (slice_get flats.nodes node) ≡ [] → shows flats node a z ≡ false

@@ -1,11 +1,11 @@
 -- What nodes reach, level by level, and the accepted names to which they come by it.
-use Rattle.std.specs.Prelude.{◌≡◌, ℕ, ◌+◌, ◌<◌, ◌≤◌, Bool, ◌&&◌, List, [], length, slice_get, Option, Some, None, IsTrue}
-use Rattle.std.specs.List.{list_any}
+use Rattle.std.specs.Prelude.{◌≡◌, ℕ, ◌+◌, ◌<◌, ◌≤◌, ◌↔◌, Bool, ◌&&◌, List, [], length, slice_get, Option, Some, None, IsTrue}
+use Rattle.std.specs.List.{list_all, list_any}
 use Rattle.dn_interval.specs.declared.row.End.{End}
 use Rattle.dn_interval.specs.declared.row.Row.{Row}
 use Rattle.dn_interval.specs.declared.row.Seg.{Seg}
 use Rattle.dn_interval.specs.declared.span.TheConstants.{TOP}
-use Rattle.dn_interval.specs.Rows.{AreNormal, ends_within}
+use Rattle.dn_interval.specs.Rows.{ends_within}
 use Rattle.dn_interval.specs.Spans.{in_span}
 use Rattle.dn_interval.specs.Strands.{rows_give}
 use Rattle.dn_interval.specs.Onward.{gives_by}
@@ -31,12 +31,16 @@ pub record AreLevels (net : List NodeDecl) (node : ℕ) (levels : List (List Row
   pub reached : (a : ℕ) (y : End) → a ≤ TOP → IsTrue (levels_give levels a y) → ReachesFrom net node a y
   pub accepted : (a : ℕ) (y : End) → a ≤ TOP → ResolvesFrom net node a y → IsTrue (levels_give levels a y)
 
--- they do, and the rows give to each address of the node its stops
+-- the layers give to each address of the node exactly its stops
+abbrev pub AreStops : List NodeDecl → ℕ → List (List Row) → Type 0
+AreStops net node layers = (a : ℕ) (y : End) → a ≤ TOP → IsTrue (levels_give layers a y) ↔ StopsFrom net node a y
+
+-- they do, and the layers of stops give to each address of the node its stops
 pub record IsLevels (net : List NodeDecl) (node : ℕ) (levels : Levels) : Type 0 where
   pub reached : AreLevels net node levels.reached
-  pub stops : AreNormal (StopsFrom net node) levels.stops
+  pub stops : AreStops net node levels.stops
   -- each name of a row is in a node that is there
-  pub stops_within : IsTrue (ends_within (length net) levels.stops)
+  pub stops_within : IsTrue (list_all (λ rows. ends_within (length net) rows) levels.stops)
 
 -- there are such levels for each node below this one
 pub record AreLevelsBelow (net : List NodeDecl) (node : ℕ) (nodes : List Levels) : Type 0 where
@@ -59,6 +63,11 @@ abbrev pub reached_of : Option Levels → List (List Row)
 reached_of None = []
 reached_of (Some levels) = levels.reached
 
+-- the layers of the stops of a node; of one that is not there they are none
+abbrev pub stops_in : Option Levels → List (List Row)
+stops_in None = []
+stops_in (Some levels) = levels.stops
+
 -- a name that one of the levels gives to the address goes on to the accepted name, by what its node accepts
 abbrev pub levels_show : List Reach → List (List Row) → ℕ → End → Bool
 levels_show nodes levels a z = levels_lead (gives_by (λ (r : Reach). r.done.accepts) nodes) levels a z
@@ -67,9 +76,9 @@ levels_show nodes levels a z = levels_lead (gives_by (λ (r : Reach). r.done.acc
 unfoldable pub shows : FlatsView → ℕ → ℕ → End → Bool
 shows flats node a z = levels_show flats.stage.nodes (reached_of (slice_get flats.nodes node)) a z
 
--- an address of one of the segments comes, as itself, to the accepted name
-abbrev pub spans_show : List Reach → List (List Row) → List Seg → ℕ → End → Bool
-spans_show nodes levels segs a z = list_any (λ s. in_span s.span a && levels_show nodes levels a z) segs
+-- the name is given to an address that lies in one of the segments
+abbrev pub spans_give : (ℕ → End → Bool) → List Seg → ℕ → End → Bool
+spans_give gives segs a z = list_any (λ s. in_span s.span a && gives a z) segs
 
 -- one of so many names from this one on is one to which the address of the node resolves
 abbrev pub MeetsFrom : List NodeDecl → ℕ → End → ℕ → ℕ → Type 0
@@ -78,3 +87,11 @@ MeetsFrom net node first size a = (i : ℕ) × (i < size) × ResolvesFrom net no
 -- the address of the node resolves to the name, and to one of so many from another on
 abbrev pub ResolvesMeeting : List NodeDecl → ℕ → End → ℕ → ℕ → End → Type 0
 ResolvesMeeting net node first size a z = ResolvesFrom net node a z × MeetsFrom net node first size a
+
+-- one of so many names from this one on is a stop of the address of the node
+abbrev pub MeetsStops : List NodeDecl → ℕ → End → ℕ → ℕ → Type 0
+MeetsStops net node first size a = (i : ℕ) × (i < size) × StopsFrom net node a (record { node = first.node; base = first.base + i })
+
+-- the name is a stop of the address of the node, and so is one of so many from another on
+abbrev pub StopsMeeting : List NodeDecl → ℕ → End → ℕ → ℕ → End → Type 0
+StopsMeeting net node first size a z = StopsFrom net node a z × MeetsStops net node first size a

@@ -11,10 +11,11 @@ ghost use Rattle.dn_net.specs.Terms.{IsLegalNet};
 ghost use Rattle.dn_walk.specs.Terms.{AreWalksOf};
 ghost use Rattle.dn_flat.specs.declared.flat.Flat.{Flat};
 ghost use Rattle.dn_flat.specs.declared.reach.Reach.{Reach};
-ghost use Rattle.dn_flat.specs.Terms.{AreFlats, AreLevels, AreLevelsBelow, AreReaches, IsFlat, IsStage, MeetsFrom, ResolvesFrom, ResolvesMeeting, shows, spans_show};
+ghost use Rattle.dn_flat.specs.Terms.{AreFlats, AreLevels, AreLevelsBelow, AreReaches, AreStops, IsFlat, IsStage, MeetsFrom, MeetsStops, ResolvesFrom, ResolvesMeeting, StopsMeeting, levels_give, levels_lead, levels_show, shows, spans_give, stops_in, toward_by};
 
 use crate::found::{Part, push, push_levels};
-use crate::levels::{Levels, push_shown, shown_segs};
+use crate::layers::joined;
+use crate::levels::{Levels, push_given, push_shown, shown_segs};
 use crate::reach::{Reach, still};
 use crate::shared::Shared;
 use crate::stage::{Stage, first_stage};
@@ -78,6 +79,18 @@ impl Flats {
         push_shown(segs, mid, self.stage.reaches(), levels, seg)
     }
 
+    /// Adds the names in units to which the names of a segment come. Time of the layers of the node's stops, and of
+    /// what is added.
+    pub fn push_stops(&self, segs: &mut Vec<Seg>, seg: Seg) -> Result<(), OutOfMemory>
+        requires { seg.node < length self.now.nodes }
+        ensures { OnOk result ((a : ℕ) (z : End) → segs_give segs.new.items a z
+            ≡ (segs_give segs.old.items a z || (in_span seg.span a && levels_give
+            (stops_in (slice_get self.now.nodes seg.node)) (seg.base + (a - seg.span.lo)) z))) }
+    {
+        let layers = self.of(seg.node).stops.as_slice();
+        push_given(segs, layers, seg)
+    }
+
     /// The accepted names to which the addresses of a node come, as segments.
     pub fn accepted(&self, alloc: Global, node: u16) -> Result<Vec<Seg>, OutOfMemory>
         requires { node < length self.now.nodes }
@@ -118,6 +131,28 @@ impl Flats {
         let levels = self.of(node).reached.as_slice();
         let met = meeting_segs(alloc, nodes, levels, first, size)?;
         let segs = shown_from(alloc, nodes, levels, node, &met)?;
+        Rows::normal(alloc, &segs)
+    }
+
+    /// The names in units to which those addresses of a node come that come to one of so many names from one on, as
+    /// normal rows: all such names of the address, also those that are none of these. Time of the layers of the node's
+    /// stops, and of what is given.
+    pub fn stops_toward(
+        &self,
+        alloc: Global,
+        node: u16,
+        first: End,
+        size: u64,
+    ) -> Result<Rows, OutOfMemory>
+        requires there { node < length self.now.nodes }
+        requires some { 1 ≤ size }
+        requires within { first.base + size ≤ TOP + 1 }
+        ensures { IfOk result (λ rows. (net : List NodeDecl) → AreFlats net self.now
+            → AreNormal (StopsMeeting net node first size) rows) }
+    {
+        let layers = self.of(node).stops.as_slice();
+        let met = meeting_stops(alloc, self.stage.reaches(), layers, first, size)?;
+        let segs = given_from(alloc, layers, node, &met)?;
         Rows::normal(alloc, &segs)
     }
 }
@@ -161,8 +196,8 @@ fn add(
     }
 }
 
-/// Which addresses come by the levels of their node to accepted names of so many from one on, as segments of these
-/// names.
+/// Which addresses come by the levels of their node to accepted names of so many from one on, as segments that stand
+/// apart.
 fn meeting_segs(
     alloc: Global,
     nodes: &[Reach],
@@ -181,9 +216,58 @@ fn meeting_segs(
     let buffer = from_on(first, size);
     push(&mut segs, nodes, Part::Accepts, buffer)?;
     let rows = Rows::normal(alloc, &segs)?;
-    segs.clear();
-    push_levels(&mut segs, nodes, Part::Toward(first.node, &rows), levels)?;
-    Ok(segs)
+    met_segs(alloc, nodes, levels, first.node, &rows)
+}
+
+/// Which addresses come by layers of stops to names of so many from one on, as segments that stand apart.
+fn meeting_stops(
+    alloc: Global,
+    nodes: &[Reach],
+    layers: &[Rows],
+    first: End,
+    size: u64,
+) -> Result<Vec<Seg>, OutOfMemory>
+    requires some { 1 ≤ size }
+    requires within { first.base + size ≤ TOP + 1 }
+    ensures { IfOk result (λ segs. (net : List NodeDecl) (node : ℕ) → AreReaches net 1 nodes.now
+        → AreStops net node layers.now → (a : ℕ) → a ≤ TOP
+        → IsTrue (list_any (λ (s : Seg). in_span s.span a) segs.items)
+        ↔ MeetsStops net node first size a) }
+{
+    let buffer = from_on(first, size);
+    let rows = Rows::normal(alloc, &[buffer])?;
+    met_segs(alloc, nodes, layers, first.node, &rows)
+}
+
+/// Which addresses come by levels to names in a node that go on by these rows, as segments that stand apart.
+fn met_segs(
+    alloc: Global,
+    nodes: &[Reach],
+    levels: &[Rows],
+    node: u16,
+    rows: &Rows,
+) -> Result<Vec<Seg>, OutOfMemory>
+    ensures { IfOk result (λ segs. (a : ℕ) → a ≤ TOP
+        → IsTrue (list_any (λ (s : Seg). in_span s.span a) segs.items)
+        ↔ ((z : End) × IsTrue
+        (levels_lead (toward_by node rows.now nodes.now) levels.now a z))) }
+{
+    let mut segs = Vec::new(alloc);
+    push_levels(&mut segs, nodes, Part::Toward(node, rows), levels)?;
+    apart(alloc, &segs)
+}
+
+/// Segments that stand apart and have the same addresses as others: those of one node, each as itself.
+fn apart(alloc: Global, segs: &[Seg]) -> Result<Vec<Seg>, OutOfMemory>
+    ensures { IfOk result (λ out. (a : ℕ) → a ≤ TOP
+        → list_any (λ (s : Seg). in_span s.span a) out.items
+        ≡ list_any (λ (s : Seg). in_span s.span a) segs.now) }
+{
+    let mut all = Vec::with_capacity(alloc, segs.len())?;
+    for seg in segs {
+        all.push(still(0, seg.span))?;
+    }
+    joined(alloc, &all)
 }
 
 /// So many names from one on, each as itself.
@@ -215,12 +299,29 @@ fn shown_from(
     from: &[Seg],
 ) -> Result<Vec<Seg>, OutOfMemory>
     ensures { IfOk result (λ segs. (a : ℕ) (z : End) → segs_give segs.items a z
-        ≡ spans_show nodes.now levels.now from.now a z) }
+        ≡ spans_give (levels_show nodes.now levels.now) from.now a z) }
 {
     let mut mid = Vec::new(alloc);
     let mut segs = Vec::new(alloc);
     for one in from {
         push_shown(&mut segs, &mut mid, nodes, levels, still(node, one.span))?;
+    }
+    Ok(segs)
+}
+
+/// The names that layers give to the addresses of segments, each as itself in a node.
+fn given_from(
+    alloc: Global,
+    layers: &[Rows],
+    node: u16,
+    from: &[Seg],
+) -> Result<Vec<Seg>, OutOfMemory>
+    ensures { IfOk result (λ segs. (a : ℕ) (z : End) → segs_give segs.items a z
+        ≡ spans_give (levels_give layers.now) from.now a z) }
+{
+    let mut segs = Vec::new(alloc);
+    for one in from {
+        push_given(&mut segs, layers, still(node, one.span))?;
     }
     Ok(segs)
 }

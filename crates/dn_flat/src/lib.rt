@@ -9,6 +9,7 @@ pub mod flat;
 pub mod flats;
 mod found;
 pub mod laws;
+mod layers;
 pub mod levels;
 mod reach;
 mod shared;

@@ -6,11 +6,12 @@ use Rattle.std.proofs.Math.Seq.{drop-cons}
 use Rattle.std.proofs.lemmas.Bool.{and_parts, or_parts, false≢true}
 use Rattle.std.specs.List.{list_any}
 use Rattle.dn_interval.specs.Strands.{rows_give}
-use Rattle.dn_flat.specs.Levels.{FlatsView, reached_of}
+use Rattle.dn_flat.specs.Levels.{FlatsView, levels_give, reached_of}
 use Rattle.dn_flat.proofs.Shown.{shows_none}
 use Rattle.dn_view.specs.declared.pass.Part.{Part}
 use Rattle.dn_view.specs.declared.pass.Part.TheVariants.{Accepts, Stops}
 use Rattle.dn_interval.specs.declared.row.End.{End}
+use Rattle.dn_interval.specs.declared.row.Row.{Row}
 use Rattle.dn_interval.specs.declared.row.Seg.{Seg}
 use Rattle.dn_interval.specs.declared.span.TheConstants.{TOP}
 use Rattle.dn_interval.specs.Spans.{in_span}
@@ -23,7 +24,7 @@ use Rattle.dn_kind.specs.Kind.{is_plain, is_within}
 use Rattle.dn_kind.specs.Tables.{Held, to_port, output}
 use Rattle.dn_kind.specs.Units.{unit_shape}
 use Rattle.dn_kind.proofs.Outputs.{output_small}
-use Rattle.dn_view.specs.Passes.{part_gives, part_leads, stops_of, in_slot, names_go, outputs, outputs_by, seg_name}
+use Rattle.dn_view.specs.Passes.{has_rows, part_gives, part_leads, stops_of, in_slot, names_go, outputs, outputs_by, seg_name}
 use Rattle.dn_view.proofs.Pages.{pages_ascend, IsPartIn, part_in, in_part, of_part, part_names, same_test, true_all, all_true}
 
 pub sent_name : (o : Option ℕ) (a : ℕ) (x : Name) → ◌≡◌ {A = List Name} (x ∷ []) (to_port o a) → (o ≡ Some x.node) × (x.addr ≡ a)
@@ -190,9 +191,15 @@ none_leads net h flats part s u a z eu none =
     empty [] e = refl
     empty (x ∷ xs) e = let f : 0 < length (x ∷ xs) = omega arith in let t : nat_lt 0 (length (x ∷ xs)) ≡ true = lt-ltb 0 (length (x ∷ xs)) f in absurd (false≢true (sym e ∙ t))
 
+    no_layer : (layers : List (List Row)) (n : ℕ) → list_any has_rows layers ≡ false → levels_give layers n z ≡ false
+    no_layer [] n e = refl
+    no_layer (rows ∷ rest) n e =
+        let o = or_parts (has_rows rows) (list_any has_rows rest) e in
+        ap (λ t. t || levels_give rest n z) (ap (λ rs. rows_give rs n z) (empty rows o.0)) ∙ no_layer rest n o.1
+
     leads : (q : Part) (p n : ℕ) → part_leads q flats p ≡ false → part_gives q flats p n z ≡ false
     leads Accepts p n e = shows_none flats p n z (empty (reached_of (slice_get flats.nodes p)) e)
-    leads Stops p n e = ap (λ rows. rows_give rows n z) (empty (stops_of flats p) e)
+    leads Stops p n e = no_layer (stops_of flats p) n e
 
     to : (o : Option ℕ) (i n : ℕ) → slice_get u.ports i ≡ o → names_go (part_gives part flats) (to_port o n) z ≡ false
     to None i n e = refl

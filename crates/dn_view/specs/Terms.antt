@@ -7,5 +7,5 @@ pub use Rattle.dn_view.specs.Records.{AreFitted, IsFitted, IsFitting, fresh_reco
 pub use Rattle.dn_view.specs.Systems.{AreTables, IsSystem}
 pub use Rattle.dn_view.specs.Through.{ComesThrough}
 pub use Rattle.dn_view.specs.Trials.{AreExactIn, ComesIn, IsExactIn, IsPassedIn, IsTrial}
-pub use Rattle.dn_view.specs.Untouched.{can_meet, has_hop, leads_to_units, rows_meet}
+pub use Rattle.dn_view.specs.Untouched.{can_meet, has_hop, layers_meet, leads_to_units, rows_meet}
 pub use Rattle.dn_view.specs.Views.{AreViewed, ReachesUnit}

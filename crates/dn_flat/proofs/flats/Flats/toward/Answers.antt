@@ -8,10 +8,11 @@ use Rattle.dn_interval.specs.Strands.{segs_give}
 use Rattle.dn_net.specs.declared.node.NodeDecl.{NodeDecl}
 use Rattle.dn_flat.specs.declared.levels.Levels.{Levels}
 use Rattle.dn_flat.specs.declared.reach.Reach.{Reach}
-use Rattle.dn_flat.specs.Levels.{AreFlats, AreLevels, FlatsView, ResolvesMeeting, spans_show}
+use Rattle.dn_flat.specs.Levels.{AreFlats, AreLevels, FlatsView, ResolvesMeeting, levels_show, spans_give}
 use Rattle.dn_flat.specs.Stages.{AreReaches}
 use Rattle.dn_flat.proofs.Lists.{means_along}
-use Rattle.dn_flat.proofs.Meeting.{meeting_is}
+use Rattle.dn_flat.proofs.Meeting.{spans_mean}
+use Rattle.dn_flat.proofs.Shown.{shown_is}
 use Rattle.dn_flat.proofs.Sums.{normal_of}
 use Rattle.dn_flat.proofs.flats.Flats.toward.Goals as goal
 
@@ -31,6 +32,6 @@ returns c =
     let all : AreReaches net 1 nodes = subst (AreReaches net 1) (sym steps) are.steps in
     let is : AreLevels net node levels = subst (AreLevels net node) (sym c.as_slice-levels.ensures) (are.each node c.of.result.now c.of.ensures).reached in
     normal_of (ResolvesMeeting net node first size) segs rows
-    (λ a z low. means_along (segs_give segs a z) (spans_show nodes levels met a z) (c.in_ok-segs.ensures a z ∙ ap (λ m. spans_show nodes levels m a z) c.deref.ensures.value) (meeting_is net nodes all node levels is first size met a z low (c.in_ok-met.ensures net node all is a low)))
+    (λ a z low. means_along (segs_give segs a z) (spans_give (levels_show nodes levels) met a z) (c.in_ok-segs.ensures a z ∙ ap (λ m. spans_give (levels_show nodes levels) m a z) c.deref.ensures.value) (spans_mean (levels_show nodes levels) met a z (shown_is net nodes all node levels is a z low) (c.in_ok-met.ensures net node all is a low)))
     (subst (λ s. AreNormal (SegmentsGive s) rows) c.deref-2.ensures.value n))
     c.normal.ensures.normal
