@@ -181,6 +181,18 @@ none_at p [] i x e f = cc
 none_at p (y ∷ ys) zero x e f = let g : y ≡ x = cc in let o = or_parts (p y) (list_any p ys) e in ap p (sym g) ∙ o.0
 none_at p (y ∷ ys) (suc i) x e f = none_at p ys i x (or_parts (p y) (list_any p ys) e).1 f
 
+-- layers with no row give nothing
+
+no_rows : (rows : List Row) (n : ℕ) (z : End) → has_rows rows ≡ false → rows_give rows n z ≡ false
+no_rows [] n z e = refl
+no_rows (r ∷ rs) n z e = let f : 0 < length (r ∷ rs) = omega arith in absurd (false≢true (sym e ∙ lt-ltb 0 (length (r ∷ rs)) f))
+
+no_layer : (layers : List (List Row)) (n : ℕ) (z : End) → list_any has_rows layers ≡ false → levels_give layers n z ≡ false
+no_layer [] n z e = refl
+no_layer (rows ∷ rest) n z e =
+    let o = or_parts (has_rows rows) (list_any has_rows rest) e in
+    ap (λ t. t || levels_give rest n z) (no_rows rows n z o.0) ∙ no_layer rest n z o.1
+
 -- where no port's node leads to anything, nothing goes on
 pub none_leads : (net : List NodeDecl) (h : Held) (flats : FlatsView) (part : Part) (s : Seg) (u : UnitPart) (a : ℕ) (z : End) → unit_at net s.node ≡ Some u → list_any (λ p. part_leads part flats p) u.ports ≡ false → names_go (part_gives part flats) (outputs net h (seg_name s a)) z ≡ false
 none_leads net h flats part s u a z eu none =
@@ -191,15 +203,9 @@ none_leads net h flats part s u a z eu none =
     empty [] e = refl
     empty (x ∷ xs) e = let f : 0 < length (x ∷ xs) = omega arith in let t : nat_lt 0 (length (x ∷ xs)) ≡ true = lt-ltb 0 (length (x ∷ xs)) f in absurd (false≢true (sym e ∙ t))
 
-    no_layer : (layers : List (List Row)) (n : ℕ) → list_any has_rows layers ≡ false → levels_give layers n z ≡ false
-    no_layer [] n e = refl
-    no_layer (rows ∷ rest) n e =
-        let o = or_parts (has_rows rows) (list_any has_rows rest) e in
-        ap (λ t. t || levels_give rest n z) (ap (λ rs. rows_give rs n z) (empty rows o.0)) ∙ no_layer rest n o.1
-
     leads : (q : Part) (p n : ℕ) → part_leads q flats p ≡ false → part_gives q flats p n z ≡ false
     leads Accepts p n e = shows_none flats p n z (empty (reached_of (slice_get flats.nodes p)) e)
-    leads Stops p n e = no_layer (stops_of flats p) n e
+    leads Stops p n e = no_layer (stops_of flats p) n z e
 
     to : (o : Option ℕ) (i n : ℕ) → slice_get u.ports i ≡ o → names_go (part_gives part flats) (to_port o n) z ≡ false
     to None i n e = refl
