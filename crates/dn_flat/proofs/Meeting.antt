@@ -1,5 +1,5 @@
 -- Which addresses of a node come to one of so many names, as the segments that are found tell, and what they show.
-use Rattle.std.proofs.Common.{◌≡◌, ℕ, ◌+◌, ◌-◌, ◌<◌, ◌≤◌, ◌↔◌, inl, inr, Bool, true, false, ◌&&◌, ◌||◌, nat_eq, List, [], ◌∷◌, length, slice_get, Option, Some, None, refl, sym, ap, ◌∙◌, subst, arith, eqb-true, eq-eqb}
+use Rattle.std.proofs.Common.{◌≡◌, ℕ, ◌+◌, ◌-◌, ◌<◌, ◌≤◌, ◌↔◌, inl, inr, Bool, true, false, ◌&&◌, nat_eq, List, [], ◌∷◌, length, slice_get, Option, Some, None, refl, sym, ap, ◌∙◌, subst, arith, eqb-true, eq-eqb}
 use Rattle.std.specs.List.{list_any}
 use Rattle.std.proofs.lemmas.Bool.{or_cases, and_parts, and_from, false≢true}
 use Rattle.std.proofs.lemmas.Option.{slice_get-get_or}
@@ -21,14 +21,13 @@ use Rattle.dn_net.specs.Decode.{Step, is_accepted}
 use Rattle.dn_flat.specs.declared.found.Part.TheVariants.{Accepts}
 use Rattle.dn_flat.specs.declared.reach.Reach.{Reach}
 use Rattle.dn_flat.specs.Firsts.{is_same}
-use Rattle.dn_flat.specs.Levels.{AreLevels, AreStops, MeetsFrom, MeetsStops, ReachesFrom, spans_give}
+use Rattle.dn_flat.specs.Levels.{AreLevels, MeetsFrom, ReachesFrom, spans_give}
 use Rattle.dn_flat.specs.Onward.{leads_by, levels_lead, seg_leads, toward_by}
 use Rattle.dn_flat.specs.Stages.{AreReaches}
-use Rattle.dn_flat.specs.Views.{name_of_end, StopsFrom}
+use Rattle.dn_flat.specs.Views.{name_of_end}
 use Rattle.dn_flat.proofs.Going.{levels_from, levels_to}
-use Rattle.dn_flat.proofs.Lists.{or_false}
 use Rattle.dn_flat.proofs.Shown.{accepted_low, accepting_from, accepting_to, given_low, no_reach}
-use Rattle.dn_flat.proofs.There.{accepted_is_there, stop_is_there}
+use Rattle.dn_flat.proofs.There.{accepted_is_there}
 
 -- an address lies in one of the segments exactly where one gives it a name
 
@@ -135,60 +134,6 @@ module _ (net : List NodeDecl) (nodes : List Reach) (are : AreReaches net 1 node
         back h =
             let z : End = record { node = first.node; base = first.base + h.0 } in
             (z, levels_from toward a z levels z (is.accepted a z low h.2) (toward_from h.0 h.1 h.2.0))
-
--- the same of stops, by rows that give to each address of the buffer itself
-
-module _ (net : List NodeDecl) (nodes : List Reach) (are : AreReaches net 1 nodes) (node : ℕ) (layers : List (List Row)) (is : AreStops net node layers) (first : End) (size : ℕ) (buffer : Seg) (at : buffer.node ≡ first.node) (from : buffer.base ≡ first.base) (lo : buffer.span.lo ≡ first.base) (hi : buffer.span.hi + 1 ≡ first.base + size) (rows : List Row) (normal : AreNormal (SegmentsGive (buffer ∷ [])) rows) where
-  abbrev through : ℕ → ℕ → End → Bool
-  through = toward_by first.node rows nodes
-
-  through_to : (n b : ℕ) (y : End) → through n b y ≡ true → (i : ℕ) × (i < size) × ◌≡◌ {A = End} (record { node = n; base = b }) (record { node = first.node; base = first.base + i })
-  through_to n b y e =
-      let p = and_parts (nat_eq n first.node) (gives_by (λ (r : Reach). rows) nodes n b y) e in
-      let g : GivenBy rows b y = rows_to rows b y (by (slice_get nodes n) p.1) in
-      let s : segs_give (buffer ∷ []) b y ≡ true = segs_from (buffer ∷ []) b y ((normal.exact b y (given_low rows b y g)).1 g) in
-      let m : in_span buffer.span b ≡ true = (and_parts (in_span buffer.span b) (nat_eq buffer.node y.node && nat_eq (buffer.base + (b - buffer.span.lo)) y.base) (sym (or_false (seg_gives buffer b y)) ∙ s)).0 in
-      let l : buffer.span.lo ≤ b = lo_of buffer.span b m in
-      let h : b ≤ buffer.span.hi = hi_of buffer.span b m in
-      let low : buffer.span.lo ≡ first.base = lo in
-      let high : buffer.span.hi + 1 ≡ first.base + size = hi in
-      let same : b ≡ first.base + (b - first.base) = omega arith in
-      (b - first.base, omega arith, λ i. record { node = eqb-true n first.node p.0 i; base = same i })
-    where
-      by : (o : Option Reach) → rows_give (rows_of (λ (r : Reach). rows) o) b y ≡ true → rows_give rows b y ≡ true
-      by None f = absurd (false≢true f)
-      by (Some r) f = f
-
-  through_from : (i : ℕ) → i < size → first.node < length net → through first.node (first.base + i) (record { node = first.node; base = first.base + i }) ≡ true
-  through_from i l m =
-      let b : ℕ = first.base + i in
-      let z : End = record { node = first.node; base = b } in
-      let low : buffer.span.lo ≡ first.base = lo in
-      let high : buffer.span.hi + 1 ≡ first.base + size = hi in
-      let base : buffer.base ≡ first.base = from in
-      let top : buffer.span.hi ≤ TOP = buffer.span.within in
-      let inside : in_span buffer.span b ≡ true = in_from buffer.span b (omega arith) (omega arith) in
-      let there : buffer.base + (b - buffer.span.lo) ≡ b = omega arith in
-      let one : seg_gives buffer b z ≡ true = and_from (in_span buffer.span b) (nat_eq buffer.node first.node && nat_eq (buffer.base + (b - buffer.span.lo)) b) inside (and_from (nat_eq buffer.node first.node) (nat_eq (buffer.base + (b - buffer.span.lo)) b) (eq-eqb buffer.node first.node at) (eq-eqb (buffer.base + (b - buffer.span.lo)) b there)) in
-      let g : rows_give rows b z ≡ true = rows_from rows b z ((normal.exact b z (omega arith)).0 (segs_to (buffer ∷ []) b z (or_false (seg_gives buffer b z) ∙ one))) in
-      let every : length nodes ≡ length net = are.every in
-      let found = slice_get-get_or nodes first.node no_reach (omega arith) in
-      and_from (nat_eq first.node first.node) (gives_by (λ (r : Reach). rows) nodes first.node b z) (eq-eqb first.node first.node refl) (ap (λ o. rows_give (rows_of (λ (r : Reach). rows) o) b z) found ∙ g)
-
-  pub met_stops : (a : ℕ) → a ≤ TOP → ((z : End) × (levels_lead through layers a z ≡ true)) ↔ MeetsStops net node first size a
-  met_stops a low = (into, back)
-    where
-      into : ((z : End) × (levels_lead through layers a z ≡ true)) → MeetsStops net node first size a
-      into e =
-          let r = levels_to through a e.0 layers e.1 in
-          let t = through_to r.0.node r.0.base e.0 r.2 in
-          (t.0, t.1, subst (StopsFrom net node a) t.2 ((is a r.0 low).0 r.1))
-
-      back : MeetsStops net node first size a → (z : End) × (levels_lead through layers a z ≡ true)
-      back h =
-          let z : End = record { node = first.node; base = first.base + h.0 } in
-          let m : first.node < length net = stop_is_there net (name_of_end z) h.2.0 in
-          (z, levels_from through a z layers z ((is a z low).1 h.2) (through_from h.0 h.1 m))
 
 -- segments have an address exactly where they give it a name
 

@@ -1,5 +1,5 @@
 -- What a node reaches, level by level: the names of a level are those that are reached in so many steps.
-use Rattle.std.proofs.Common.{◌≡◌, ℕ, zero, suc, ◌+◌, ◌-◌, ◌<◌, ◌≤◌, ◌⊎◌, ◌↔◌, inl, inr, Bool, true, false, ◌&&◌, ◌||◌, nat_eq, nat_lt, List, [], ◌∷◌, length, slice_get, refl, sym, ap, ◌∙◌, subst, arith, lt-ltb}
+use Rattle.std.proofs.Common.{◌≡◌, ℕ, ◌+◌, ◌-◌, ◌<◌, ◌≤◌, ◌⊎◌, ◌↔◌, inl, inr, Bool, true, false, ◌&&◌, ◌||◌, nat_eq, List, [], ◌∷◌, length, slice_get, refl, sym, ap, ◌∙◌, subst, arith, lt-ltb}
 use Rattle.std.proofs.lemmas.Bool.{or_cases, and_parts, and_from, false≢true}
 use Rattle.dn_interval.specs.declared.row.End.{End}
 use Rattle.dn_interval.specs.declared.row.Row.{Row}
@@ -11,7 +11,7 @@ use Rattle.dn_interval.proofs.Membership.{in_from, or_left, or_right}
 use Rattle.dn_net.specs.declared.node.Name.{Name}
 use Rattle.dn_net.specs.declared.node.NodeDecl.{NodeDecl}
 use Rattle.dn_net.specs.Chain.{Ends, IsChain}
-use Rattle.dn_net.specs.Decode.{Step, is_accepted, is_stop, steps, step_limit}
+use Rattle.dn_net.specs.Decode.{Step, is_accepted, steps, step_limit}
 use Rattle.dn_flat.specs.declared.found.Part.TheVariants.{Stays}
 use Rattle.dn_flat.specs.declared.levels.Levels.{Levels}
 use Rattle.dn_flat.specs.declared.reach.Reach.{Reach}
@@ -19,7 +19,7 @@ use Rattle.dn_flat.specs.Firsts.{is_same}
 use Rattle.dn_flat.specs.Levels.{AreLevels, AreStops, IsLevels, levels_give}
 use Rattle.dn_flat.specs.Onward.{has_rows, leads_by, segs_lead}
 use Rattle.dn_flat.specs.Stages.{AreReaches, EndsBefore, GoesIn, ReachesBefore}
-use Rattle.dn_flat.specs.Views.{name_of_end, ResolvesFrom}
+use Rattle.dn_flat.specs.Views.{name_of_end}
 use Rattle.dn_flat.proofs.Bounds.{limit_is}
 use Rattle.dn_flat.proofs.Firsts.{same_from, same_means}
 use Rattle.dn_flat.proofs.Going.{segs_from, segs_to}

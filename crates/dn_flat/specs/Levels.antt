@@ -87,11 +87,3 @@ MeetsFrom net node first size a = (i : ℕ) × (i < size) × ResolvesFrom net no
 -- the address of the node resolves to the name, and to one of so many from another on
 abbrev pub ResolvesMeeting : List NodeDecl → ℕ → End → ℕ → ℕ → End → Type 0
 ResolvesMeeting net node first size a z = ResolvesFrom net node a z × MeetsFrom net node first size a
-
--- one of so many names from this one on is a stop of the address of the node
-abbrev pub MeetsStops : List NodeDecl → ℕ → End → ℕ → ℕ → Type 0
-MeetsStops net node first size a = (i : ℕ) × (i < size) × StopsFrom net node a (record { node = first.node; base = first.base + i })
-
--- the name is a stop of the address of the node, and so is one of so many from another on
-abbrev pub StopsMeeting : List NodeDecl → ℕ → End → ℕ → ℕ → End → Type 0
-StopsMeeting net node first size a z = StopsFrom net node a z × MeetsStops net node first size a

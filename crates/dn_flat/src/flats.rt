@@ -11,7 +11,7 @@ ghost use Rattle.dn_net.specs.Terms.{IsLegalNet};
 ghost use Rattle.dn_walk.specs.Terms.{AreWalksOf};
 ghost use Rattle.dn_flat.specs.declared.flat.Flat.{Flat};
 ghost use Rattle.dn_flat.specs.declared.reach.Reach.{Reach};
-ghost use Rattle.dn_flat.specs.Terms.{AreFlats, AreLevels, AreLevelsBelow, AreReaches, AreStops, IsFlat, IsStage, MeetsFrom, MeetsStops, ResolvesFrom, ResolvesMeeting, StopsMeeting, levels_give, levels_lead, levels_show, shows, spans_give, stops_in, toward_by};
+ghost use Rattle.dn_flat.specs.Terms.{AreFlats, AreLevels, AreLevelsBelow, AreReaches, IsFlat, IsStage, MeetsFrom, ResolvesFrom, ResolvesMeeting, levels_give, levels_lead, levels_show, shows, spans_give, stops_in, toward_by};
 
 use crate::found::{Part, push, push_levels};
 use crate::layers::joined;
@@ -133,28 +133,6 @@ impl Flats {
         let segs = shown_from(alloc, nodes, levels, node, &met)?;
         Rows::normal(alloc, &segs)
     }
-
-    /// The names in units to which those addresses of a node come that come to one of so many names from one on, as
-    /// normal rows: all such names of the address, also those that are none of these. Time of the layers of the node's
-    /// stops, and of what is given.
-    pub fn stops_toward(
-        &self,
-        alloc: Global,
-        node: u16,
-        first: End,
-        size: u64,
-    ) -> Result<Rows, OutOfMemory>
-        requires there { node < length self.now.nodes }
-        requires some { 1 ≤ size }
-        requires within { first.base + size ≤ TOP + 1 }
-        ensures { IfOk result (λ rows. (net : List NodeDecl) → AreFlats net self.now
-            → AreNormal (StopsMeeting net node first size) rows) }
-    {
-        let layers = self.of(node).stops.as_slice();
-        let met = meeting_stops(alloc, self.stage.reaches(), layers, first, size)?;
-        let segs = given_from(alloc, layers, node, &met)?;
-        Rows::normal(alloc, &segs)
-    }
 }
 
 /// What all nodes of a net reach that has this table of live walks, of which only what the nodes accept is read: level
@@ -217,26 +195,6 @@ fn meeting_segs(
     push(&mut segs, nodes, Part::Accepts, buffer)?;
     let rows = Rows::normal(alloc, &segs)?;
     met_segs(alloc, nodes, levels, first.node, &rows)
-}
-
-/// Which addresses come by layers of stops to names of so many from one on, as segments that stand apart.
-fn meeting_stops(
-    alloc: Global,
-    nodes: &[Reach],
-    layers: &[Rows],
-    first: End,
-    size: u64,
-) -> Result<Vec<Seg>, OutOfMemory>
-    requires some { 1 ≤ size }
-    requires within { first.base + size ≤ TOP + 1 }
-    ensures { IfOk result (λ segs. (net : List NodeDecl) (node : ℕ) → AreReaches net 1 nodes.now
-        → AreStops net node layers.now → (a : ℕ) → a ≤ TOP
-        → IsTrue (list_any (λ (s : Seg). in_span s.span a) segs.items)
-        ↔ MeetsStops net node first size a) }
-{
-    let buffer = from_on(first, size);
-    let rows = Rows::normal(alloc, &[buffer])?;
-    met_segs(alloc, nodes, layers, first.node, &rows)
 }
 
 /// Which addresses come by levels to names in a node that go on by these rows, as segments that stand apart.
@@ -305,23 +263,6 @@ fn shown_from(
     let mut segs = Vec::new(alloc);
     for one in from {
         push_shown(&mut segs, &mut mid, nodes, levels, still(node, one.span))?;
-    }
-    Ok(segs)
-}
-
-/// The names that layers give to the addresses of segments, each as itself in a node.
-fn given_from(
-    alloc: Global,
-    layers: &[Rows],
-    node: u16,
-    from: &[Seg],
-) -> Result<Vec<Seg>, OutOfMemory>
-    ensures { IfOk result (λ segs. (a : ℕ) (z : End) → segs_give segs.items a z
-        ≡ spans_give (levels_give layers.now) from.now a z) }
-{
-    let mut segs = Vec::new(alloc);
-    for one in from {
-        push_given(&mut segs, layers, still(node, one.span))?;
     }
     Ok(segs)
 }

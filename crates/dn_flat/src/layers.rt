@@ -154,7 +154,7 @@ fn next_layer(
 fn free_layer(ended: &mut BinaryHeap<(u64, usize)>, lo: u64) -> usize {
     if let Some(first) = ended.peek() {
         let (left, layer) = *first;
-        if u64::MAX - left < lo {
+        if u64::MAX - lo < left {
             ended.pop();
             return layer;
         }

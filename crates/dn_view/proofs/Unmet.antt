@@ -26,7 +26,6 @@ use Rattle.dn_tables.specs.declared.placement.Hop.{Hop}
 use Rattle.dn_tables.specs.Placement.{Place}
 use Rattle.dn_placement.specs.declared.request.Request.{Request}
 use Rattle.dn_placement.specs.Records.{hop_record_by, hop_rights, hops_records, is_taken_by, joined_records, or_record, placed_records, slot_record}
-use Rattle.dn_view.specs.declared.pass.Part.TheVariants.{Stops}
 use Rattle.dn_view.specs.Exact.{IsAdded, IsExactAt}
 use Rattle.dn_view.specs.Passes.{has_rows, outputs_by, stops_of}
 use Rattle.dn_view.specs.Records.{fresh_record, fresh_records}

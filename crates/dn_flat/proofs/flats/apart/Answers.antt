@@ -1,9 +1,8 @@
 -- One segment more; and what is joined has the same addresses.
-use Rattle.std.proofs.Common.{◌+◌, ◌∙◌, ap, ◌∷◌, [], take, ℕ, ◌&&◌}
+use Rattle.std.proofs.Common.{◌+◌, ◌∙◌, ap, ◌∷◌, [], take, ◌&&◌}
 use Rattle.std.proofs.lemmas.List.Folds.{list_any-append}
 use Rattle.std.proofs.lemmas.Result.{IfOk-weaker}
 use Rattle.dn_base.proofs.Lists.{take_past}
-use Rattle.dn_interval.specs.declared.row.End.{End}
 use Rattle.dn_interval.specs.declared.row.Seg.{Seg}
 use Rattle.dn_interval.specs.Spans.{in_span}
 use Rattle.dn_interval.specs.Strands.{seg_gives, segs_give}

@@ -1,8 +1,5 @@
 -- The addresses of the segments are those that come to a name.
-use Rattle.std.proofs.Common.{◌≡◌, ◌∙◌, ◌||◌, ℕ, List, true, ap, sym}
-use Rattle.std.specs.List.{list_any}
-use Rattle.dn_interval.specs.declared.row.Seg.{Seg}
-use Rattle.dn_interval.specs.Spans.{in_span}
+use Rattle.std.proofs.Common.{◌∙◌, ◌||◌, ap}
 use Rattle.dn_interval.specs.Strands.{segs_give}
 use Rattle.std.proofs.lemmas.Result.{IfOk-weaker}
 use Rattle.dn_flat.specs.Onward.{levels_lead, toward_by}

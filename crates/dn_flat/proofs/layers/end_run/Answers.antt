@@ -5,8 +5,8 @@ use Rattle.dn_flat.specs.Levels.{levels_give}
 use Rattle.dn_flat.proofs.Layered.{run_ended}
 use Rattle.dn_flat.proofs.layers.end_run.Goals as goal
 
-pub returns-then-ends : goal.returns-then-ends
-returns-then-ends c = λ a z low.
+pub returns-in_ok-push_layer : goal.returns-in_ok-push_layer
+returns-in_ok-push_layer c = λ a z low.
     let old = c.args.layers.now in
     let run = c.args.run.now.items in
     run_ended old c.push_layer.new.layers run c.clear.new.self.items a z

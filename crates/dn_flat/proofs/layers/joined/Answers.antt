@@ -2,7 +2,7 @@
 use Rattle.std.proofs.Common.{◌∙◌, ap, sym}
 use Rattle.std.proofs.lemmas.List.Sorted.{list_any-IsPermutation}
 use Rattle.dn_interval.specs.declared.strand.Strand.{Strand}
-use Rattle.dn_interval.specs.Strands.{segs_give, strand_gives, strands_give}
+use Rattle.dn_interval.specs.Strands.{strand_gives, strands_give}
 use Rattle.std.proofs.lemmas.Result.{IfOk-weaker}
 use Rattle.dn_flat.proofs.layers.joined.Goals as goal
 

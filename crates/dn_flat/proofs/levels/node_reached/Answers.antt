@@ -1,5 +1,5 @@
 -- One level more; and what is reached in fewer than 66 steps, or where nothing goes on, is all.
-use Rattle.std.proofs.Common.{rules, ◌≡◌, ◌≤◌, sym, subst, arith, ℕ, List, ◌↔◌}
+use Rattle.std.proofs.Common.{rules, ◌≤◌, sym, subst, arith, ℕ, Bool, List, ◌↔◌}
 use Rattle.dn_interval.specs.declared.row.End.{End}
 use Rattle.dn_interval.specs.declared.row.Row.{Row}
 use Rattle.dn_interval.specs.declared.row.Seg.{Seg}
@@ -25,7 +25,7 @@ loop-steps-init c =
     record {
       levels = subst (AreReached net 0 node) (sym c.new-levels.ensures) (none_reached net node);
       stops = λ a y t. none_before net (is_stop net) node c.new-stops.result.items a y c.new-stops.ensures.items;
-      reached = begun net node c.whole.result c.push.new.reached.items c.whole.ensures.node c.whole.ensures.base c.whole.ensures.lo c.whole.ensures.hi (search rules);
+      reached = begun net node c.whole.result c.push.new.self.items c.whole.ensures.node c.whole.ensures.base c.whole.ensures.lo c.whole.ensures.hi (search rules);
     }
 
 pub loop-steps-preserved : goal.loop-steps-preserved

@@ -1,4 +1,4 @@
-use Rattle.std.proofs.Common.{◌≡◌, ◌∙◌, ◌≤◌, ◌<◌, ◌↔◌, ℕ, true, nat_eq, ◌==◌, ap, subst, sym, refl, length, List, eqb-true, rules, slice_get, IsTrue}
+use Rattle.std.proofs.Common.{◌≡◌, ◌≤◌, ◌<◌, ◌↔◌, ℕ, true, nat_eq, ◌==◌, subst, sym, refl, length, List, eqb-true, rules, slice_get, IsTrue}
 use Rattle.dn_interval.specs.declared.row.End.{End}
 use Rattle.dn_interval.specs.declared.row.Seg.{Seg}
 use Rattle.dn_interval.specs.declared.span.TheConstants.{TOP}

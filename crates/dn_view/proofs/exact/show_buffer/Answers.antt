@@ -4,7 +4,7 @@ use Rattle.dn_interval.specs.declared.row.End.{End}
 use Rattle.dn_interval.specs.declared.row.Row.{Row}
 use Rattle.dn_interval.specs.declared.span.TheConstants.{TOP}
 use Rattle.dn_interval.specs.Strands.{segs_give}
-use Rattle.dn_view.specs.Exact.{IsAskedAt, are_buffer}
+use Rattle.dn_view.specs.Exact.{IsAskedAt}
 use Rattle.dn_view.proofs.Buffers.{not_parts, rows_buffer}
 use Rattle.dn_view.proofs.exact.show_buffer.Goals as goal
 

@@ -1,6 +1,5 @@
 -- All addresses of the node by the layers of its stops.
-use Rattle.std.proofs.Common.{◌≡◌, ◌∙◌, ◌+◌, ◌-◌, ◌≤◌, ◌&&◌, ◌||◌, Bool, ap, arith, slice_get}
-use Rattle.dn_interval.specs.declared.span.TheConstants.{TOP}
+use Rattle.std.proofs.Common.{◌≡◌, ◌∙◌, ◌+◌, ◌-◌, ◌&&◌, ◌||◌, ap, arith}
 use Rattle.dn_interval.specs.Spans.{in_span}
 use Rattle.dn_interval.specs.Strands.{segs_give}
 use Rattle.dn_interval.proofs.Membership.{in_from}
