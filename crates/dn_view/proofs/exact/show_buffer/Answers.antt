@@ -1,5 +1,5 @@
 -- Segments that are no parts of the buffer do not show it; else their rows tell.
-use Rattle.std.proofs.Common.{◌≡◌, ◌∙◌, ◌↔◌, ◌≤◌, ℕ, List, true, sym, subst}
+use Rattle.std.proofs.Common.{◌≡◌, ◌↔◌, ◌≤◌, ℕ, List, true, sym, subst}
 use Rattle.dn_interval.specs.declared.row.End.{End}
 use Rattle.dn_interval.specs.declared.row.Row.{Row}
 use Rattle.dn_interval.specs.declared.span.TheConstants.{TOP}
@@ -9,7 +9,7 @@ use Rattle.dn_view.proofs.Buffers.{not_parts, rows_buffer}
 use Rattle.dn_view.proofs.exact.show_buffer.Goals as goal
 
 pub returns-then-not-are_parts : goal.returns-then-not-are_parts
-returns-then-not-are_parts c = not_parts c.args.request.now c.args.v c.args.shown.now c.requires.some (sym c.are_parts.ensures ∙ c.if-not-are_parts.false)
+returns-then-not-are_parts c = not_parts c.args.request.now c.args.v c.args.shown.now c.requires.some (sym c.if-not-are_parts.ensures)
 
 pub returns : goal.returns
 returns c =
