@@ -1,14 +1,12 @@
 -- One level more; and what is reached in fewer than 66 steps, or where nothing goes on, is all.
 use Rattle.std.proofs.Common.{rules, ◌≤◌, sym, subst, arith, ℕ, Bool, List, ◌↔◌}
 use Rattle.dn_interval.specs.declared.row.End.{End}
-use Rattle.dn_interval.specs.declared.row.Row.{Row}
 use Rattle.dn_interval.specs.declared.row.Seg.{Seg}
 use Rattle.dn_interval.specs.declared.span.TheConstants.{TOP}
 use Rattle.dn_interval.specs.Strands.{segs_give}
 use Rattle.dn_net.specs.declared.node.Name.{Name}
 use Rattle.dn_net.specs.Chain.{Ends}
 use Rattle.dn_net.specs.Decode.{is_stop, steps, step_limit}
-use Rattle.dn_flat.specs.Levels.{AreLevels}
 use Rattle.dn_flat.specs.Stages.{EndsBefore}
 use Rattle.dn_flat.specs.Views.{name_of_end}
 use Rattle.dn_flat.proofs.Bounds.{last_level, ended_level, none_goes}
@@ -58,8 +56,7 @@ returns-clause-levels c =
       | else-loop-steps-test w ↦ λ passes a y t. last_level net passes k node a y (let b = w.loop-steps-test.false in omega arith)
       | then-loop-steps-test+then-is_empty w ↦ λ passes a y t. ended_level net passes k node a y few (none_goes net k node c.loop-steps.reached.items (none_of c.loop-steps.reached.items (search rules)) inv.reached a t)
     ] in
-    subst (λ (ls : List (List Row)). AreLevels net node ls) (sym c.levels-2.view_is)
-    (all_levels net k node c.loop-steps.levels few all inv.levels)
+    all_levels net k node c.loop-steps.levels few all inv.levels
 
 pub returns-clause-stops : goal.returns-clause-stops
 returns-clause-stops c =
