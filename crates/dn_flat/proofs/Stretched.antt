@@ -1,5 +1,5 @@
 -- Stretches of addresses that come to a row of names, and that come to no others.
-use Rattle.std.proofs.Common.{◌≡◌, ℕ, zero, suc, ◌+◌, ◌-◌, ◌<◌, ◌≤◌, ◌⊎◌, ◌↔◌, inl, inr, Bool, true, false, ◌&&◌, ◌||◌, nat_eq, nat_le, List, [], ◌∷◌, ◌++◌, take, drop, length, get_or, refl, sym, ap, ◌∙◌, subst, arith, eqb-true, eq-eqb, leb-true, le-leb, IsTrue}
+use Rattle.std.proofs.Common.{◌≡◌, ℕ, zero, suc, ◌+◌, ◌-◌, ◌<◌, ◌≤◌, ◌⊎◌, ◌↔◌, inl, inr, Bool, true, false, ◌&&◌, ◌||◌, nat_eq, nat_le, List, [], ◌∷◌, ◌++◌, take, drop, length, get_or, refl, sym, ap, ◌∙◌, subst, arith, eqb-true, eq-eqb, leb-true, le-leb}
 use Rattle.std.specs.List.{All, list_all, list_any}
 use Rattle.std.proofs.lemmas.Bool.{or_cases, and_parts, and_from, false≢true}
 use Rattle.std.proofs.lemmas.List.{take-append-drop, take_more}
@@ -209,7 +209,7 @@ module _ (first : End) (size : ℕ) where
   -- one that leads to none, and one more that does
 
   pub off_node : (s : Strand) (v : ℕ) → (s.node ≡ first.node → ⊥) → is_led first size s v ≡ false
-  off_node s v no = never_true (is_led first size s v) (λ e. no (led_is s v e).node)
+  off_node s v other = never_true (is_led first size s v) (λ e. other (led_is s v e).node)
 
   pub off_low : (s : Strand) (v : ℕ) → first.base + TOP < s.slide + s.span.lo → is_led first size s v ≡ false
   off_low s v low = never_true (is_led first size s v) (λ e. let f = led_is s v e in let at : s.slide + v ≡ first.base + TOP = f.slide in let lo : s.span.lo ≤ v = f.lo in absurd (omega arith))

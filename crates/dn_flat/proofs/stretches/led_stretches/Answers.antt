@@ -12,5 +12,5 @@ loop-strand-preserved c =
     let inv = c.loop-strand.invariant in
     record {
       each = c.in_ok-push_led.ensures.each inv.each;
-      led = λ v. c.in_ok-push_led.ensures.led v ∙ ap (λ t. t || is_led first size _ v) (inv.led v) ∙ sym (any_more (λ (s : Strand). is_led first size s v) c.args.strands.now _ _ c.loop-strand-test.true c.strand-item.is);
+      led = λ v. c.in_ok-push_led.ensures.led v ∙ ap (λ t. t || is_led first size c.strand-item.result v) (inv.led v) ∙ sym (any_more (λ (s : Strand). is_led first size s v) c.args.strands.now c.loop-strand.strand-index c.strand-item.result c.loop-strand-test.true c.strand-item.is);
     }
