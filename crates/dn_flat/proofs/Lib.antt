@@ -6,11 +6,12 @@ pub mod Going
 pub mod Layered
 pub mod Led
 pub mod Lists
-pub mod Meeting
+pub mod Near
 pub mod Nodes
 pub mod Reached
 pub mod Rows
 pub mod Sharing
 pub mod Shown
+pub mod Stretched
 pub mod Sums
 pub mod There

@@ -1,12 +1,10 @@
 -- What nodes reach, level by level, and the accepted names to which they come by it.
-use Rattle.std.specs.Prelude.{◌≡◌, ℕ, ◌+◌, ◌<◌, ◌≤◌, ◌↔◌, Bool, ◌&&◌, List, [], length, slice_get, Option, Some, None, IsTrue}
+use Rattle.std.specs.Prelude.{◌≡◌, ℕ, ◌+◌, ◌<◌, ◌≤◌, ◌↔◌, Bool, List, [], length, slice_get, Option, Some, None, IsTrue}
 use Rattle.std.specs.List.{list_all, list_any}
 use Rattle.dn_interval.specs.declared.row.End.{End}
 use Rattle.dn_interval.specs.declared.row.Row.{Row}
-use Rattle.dn_interval.specs.declared.row.Seg.{Seg}
 use Rattle.dn_interval.specs.declared.span.TheConstants.{TOP}
-use Rattle.dn_interval.specs.Rows.{ends_within}
-use Rattle.dn_interval.specs.Spans.{in_span}
+use Rattle.dn_interval.specs.Rows.{ends_within, moved}
 use Rattle.dn_interval.specs.Strands.{rows_give}
 use Rattle.dn_interval.specs.Onward.{gives_by}
 use Rattle.dn_net.specs.declared.node.NodeDecl.{NodeDecl}
@@ -76,14 +74,22 @@ levels_show nodes levels a z = levels_lead (gives_by (λ (r : Reach). r.done.acc
 unfoldable pub shows : FlatsView → ℕ → ℕ → End → Bool
 shows flats node a z = levels_show flats.stage.nodes (reached_of (slice_get flats.nodes node)) a z
 
--- the name is given to an address that lies in one of the segments
-abbrev pub spans_give : (ℕ → End → Bool) → List Seg → ℕ → End → Bool
-spans_give gives segs a z = list_any (λ s. in_span s.span a && gives a z) segs
+-- the name is one of so many from one on
+abbrev pub IsNear : End → ℕ → End → Type 0
+IsNear first size z = (i : ℕ) × (i < size) × (z ≡ moved i first)
 
--- one of so many names from this one on is one to which the address of the node resolves
-abbrev pub MeetsFrom : List NodeDecl → ℕ → End → ℕ → ℕ → Type 0
-MeetsFrom net node first size a = (i : ℕ) × (i < size) × ResolvesFrom net node a (record { node = first.node; base = first.base + i })
+-- the address of the node resolves to the name, which is one of them
+abbrev pub NearFrom : List NodeDecl → ℕ → End → ℕ → ℕ → End → Type 0
+NearFrom net node first size a z = ResolvesFrom net node a z × IsNear first size z
 
--- the address of the node resolves to the name, and to one of so many from another on
-abbrev pub ResolvesMeeting : List NodeDecl → ℕ → End → ℕ → ℕ → End → Type 0
-ResolvesMeeting net node first size a z = ResolvesFrom net node a z × MeetsFrom net node first size a
+-- the address lies in a stretch of so many addresses of the node, and has the name of its place in as many names from one
+-- on: each address of the stretch resolves to the name of its place, and to no other
+pub record ResolvesWhole (net : List NodeDecl) (node : ℕ) (first : End) (size a : ℕ) (z : End) : Type 0 where
+  -- the first address of the stretch, and the place in it
+  pub v : ℕ
+  pub i : ℕ
+  pub below : i < size
+  pub within : v + size ≤ TOP + 1
+  pub from : a ≡ v + i
+  pub to : z ≡ moved i first
+  pub each : (j : ℕ) (w : End) → j < size → ResolvesFrom net node (v + j) w ↔ (moved j first ≡ w)

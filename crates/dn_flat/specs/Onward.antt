@@ -25,17 +25,13 @@ reach_leads Goes reach node a z = rows_give reach.go a z
 reach_leads Stays reach node a z = has_rows reach.done.accepts && is_same node a z
 reach_leads (Toward other rows) reach node a z = nat_eq node other && rows_give rows.now a z
 
--- the address of one node alone goes on to the name by these rows, where the node is in a list
-abbrev pub toward_by : ℕ → List Row → List Reach → ℕ → ℕ → End → Bool
-toward_by other rows nodes node a z = nat_eq node other && gives_by (λ (r : Reach). rows) nodes node a z
-
 -- so does the address of a node in a list with an item for each node; where none is there, it goes on to nothing
 abbrev pub leads_by : Part → List Reach → ℕ → ℕ → End → Bool
 leads_by Accepts nodes node a z = gives_by (λ (r : Reach). r.done.accepts) nodes node a z
 leads_by Stops nodes node a z = gives_by (λ (r : Reach). r.done.stops) nodes node a z
 leads_by Goes nodes node a z = gives_by (λ (r : Reach). r.go) nodes node a z
 leads_by Stays nodes node a z = has_rows (rows_of (λ (r : Reach). r.done.accepts) (slice_get nodes node)) && is_same node a z
-leads_by (Toward other rows) nodes node a z = toward_by other rows.now nodes node a z
+leads_by (Toward other rows) nodes node a z = nat_eq node other && gives_by (λ (r : Reach). rows.now) nodes node a z
 
 -- a name that the segment gives to the address goes on to the name
 abbrev pub seg_leads : (ℕ → ℕ → End → Bool) → Seg → ℕ → End → Bool

@@ -14,5 +14,6 @@ pub mod levels;
 mod reach;
 mod shared;
 pub mod stage;
+mod stretches;
 
 pub use dn_base::OutOfMemory;
