@@ -109,7 +109,7 @@ impl Flats {
 
     /// The stretches of so many addresses of a node that resolve to so many names from one on, each address to its own
     /// name and to no other, as normal rows: one for each stretch, so no more than there are walks. Time of the levels
-    /// of the node, and for each stretch that a walk leads there, of the levels up to the first that shows another name.
+    /// of the node, and for each stretch that a walk leads there, of those up to the first that shows another name.
     pub fn toward(
         &self,
         alloc: Global,
