@@ -6,7 +6,6 @@ use Rattle.dn_interval.specs.declared.row.Row.{Row}
 use Rattle.dn_interval.specs.declared.span.TheConstants.{TOP}
 use Rattle.dn_interval.specs.Rows.{AreNormal, GivenBy, Member, moved}
 use Rattle.dn_interval.proofs.Membership.{in_from}
-use Rattle.dn_interval.proofs.Normal.{normal_like}
 use Rattle.dn_net.specs.declared.node.Name.{Name}
 use Rattle.dn_net.specs.declared.node.NodeDecl.{NodeDecl}
 use Rattle.dn_net.specs.Chain.{IsChain, Ends, ReachesWithin}
@@ -18,9 +17,9 @@ use Rattle.dn_flat.specs.declared.reach.Reach.{Reach}
 use Rattle.dn_flat.specs.Levels.{AreLevelsBelow, IsLevels}
 use Rattle.dn_flat.specs.Shared.{no_levels}
 use Rattle.dn_flat.specs.Stages.{EndsBefore, GoesIn, IsReach, AreReaches, IsLedBy, IsLedTo}
-use Rattle.dn_flat.specs.Views.{name_of_end, end_of, ResolvesFrom, StopsFrom}
+use Rattle.dn_flat.specs.Views.{name_of_end, end_of}
 use Rattle.dn_flat.proofs.Bounds.{limit_is}
-use Rattle.dn_flat.proofs.Lists.{each_pushed, length_pushed}
+use Rattle.dn_flat.proofs.Lists.{each_pushed, length_pushed, means_then}
 
 pub one_item : (xs : List Row) (x : Row) → 1 ≤ length xs → length xs < 2 → x ≡ get_or xs 0 x → xs ≡ x ∷ []
 one_item [] x l m is = absurd (omega arith)
@@ -103,7 +102,7 @@ module _ (net : List NodeDecl) (legal : IsLegalNet net) (node other : ℕ) (reac
       reached = λ a y low e. on a (name_of_end y) low (f.reached.reached a y low e);
       accepted = λ a y low h. f.reached.accepted a y low ((led_ends (is_accepted net) a y low (none_given (EndsBefore net (is_accepted net) 1 node) reach.done.accepts led.accepts is.done.accepts a y low)).1 h);
     };
-    stops = normal_like (StopsFrom net other) (StopsFrom net node) levels.stops (λ a y t. led_ends (is_stop net) a y t (none_given (EndsBefore net (is_stop net) 1 node) reach.done.stops led.stops is.done.stops a y t)) f.stops;
+    stops = λ a y t. means_then (f.stops a y t) (led_ends (is_stop net) a y t (none_given (EndsBefore net (is_stop net) 1 node) reach.done.stops led.stops is.done.stops a y t));
     stops_within = f.stops_within;
   }
 

@@ -1,11 +1,11 @@
 -- The accepted names to which an address comes by the levels of its node are those to which it resolves.
-use Rattle.std.proofs.Common.{◌≡◌, ℕ, zero, suc, ◌+◌, ◌-◌, ◌<◌, ◌≤◌, ◌↔◌, inl, inr, Bool, true, false, ◌&&◌, nat_le, List, [], ◌∷◌, length, slice_get, Option, Some, None, refl, sym, ap, ◌∙◌, subst, arith, leb-true}
-use Rattle.std.proofs.lemmas.Bool.{and_parts, and_from, false≢true}
-use Rattle.std.proofs.lemmas.Option.{slice_get-get_or, slice_get_within}
+use Rattle.std.proofs.Common.{◌≡◌, ℕ, zero, suc, ◌<◌, ◌≤◌, ◌↔◌, inl, inr, Bool, true, false, nat_le, List, [], ◌∷◌, length, slice_get, Option, Some, None, refl, sym, ap, ◌∙◌, subst, arith, leb-true}
+use Rattle.std.proofs.lemmas.Bool.{and_parts, false≢true}
+use Rattle.std.proofs.lemmas.Option.{slice_get-get_or}
 use Rattle.dn_interval.specs.declared.row.End.{End}
 use Rattle.dn_interval.specs.declared.row.Row.{Row}
 use Rattle.dn_interval.specs.declared.span.TheConstants.{TOP}
-use Rattle.dn_interval.specs.Rows.{AreNormal, GivenBy}
+use Rattle.dn_interval.specs.Rows.{GivenBy}
 use Rattle.dn_interval.specs.Strands.{rows_give}
 use Rattle.dn_interval.specs.Onward.{gives_by, rows_of}
 use Rattle.dn_interval.proofs.Membership.{hi_of}
@@ -14,11 +14,11 @@ use Rattle.dn_interval.proofs.Normal.{normal_like}
 use Rattle.dn_net.specs.declared.node.Name.{Name}
 use Rattle.dn_net.specs.declared.node.NodeDecl.{NodeDecl}
 use Rattle.dn_net.specs.Chain.{IsChain}
-use Rattle.dn_net.specs.Decode.{Step, is_accepted, is_accepted_at, in_some_block, step_limit, top}
+use Rattle.dn_net.specs.Decode.{Step, is_accepted, is_accepted_at, in_some_block, top}
 use Rattle.dn_flat.specs.declared.flat.Flat.{Flat}
 use Rattle.dn_flat.specs.declared.levels.Levels.{Levels}
 use Rattle.dn_flat.specs.declared.reach.Reach.{Reach}
-use Rattle.dn_flat.specs.Levels.{AreFlats, AreLevels, FlatsView, IsLevels, ReachesFrom, levels_give, levels_show, reached_of, shows}
+use Rattle.dn_flat.specs.Levels.{AreFlats, AreLevels, FlatsView, IsLevels, ReachesFrom, levels_show, reached_of, shows}
 use Rattle.dn_flat.specs.Shared.{no_levels}
 use Rattle.dn_flat.specs.Stages.{AreReaches, EndsBefore, IsFlat}
 use Rattle.dn_flat.specs.Views.{name_of_end, ResolvesFrom, StopsFrom}
@@ -125,9 +125,9 @@ same_seen net flats are node other l m same flat f =
     let q = shown_is net flats.stage.nodes are.steps other t.0.reached t.2.reached a y low in
     ((λ h. q.0 (p.1 h)), (λ h. p.0 (q.1 h)))) f.accepts)
     (normal_like (StopsFrom net node) (StopsFrom net other) flat.stops (λ a y low.
-    let p = is.stops.exact a y low in
-    let q = t.2.stops.exact a y low in
-    ((λ h. q.1 (p.0 h)), (λ h. p.1 (q.0 h)))) f.stops)
+    let p = is.stops a y low in
+    let q = t.2.stops a y low in
+    ((λ h. q.0 (p.1 h)), (λ h. p.0 (q.1 h)))) f.stops)
 
 -- a node with no level shows nothing
 pub shows_none : (flats : FlatsView) (node a : ℕ) (z : End) → reached_of (slice_get flats.nodes node) ≡ [] → shows flats node a z ≡ false

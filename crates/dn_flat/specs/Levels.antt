@@ -1,12 +1,10 @@
 -- What nodes reach, level by level, and the accepted names to which they come by it.
-use Rattle.std.specs.Prelude.{◌≡◌, ℕ, ◌+◌, ◌<◌, ◌≤◌, Bool, ◌&&◌, List, [], length, slice_get, Option, Some, None, IsTrue}
-use Rattle.std.specs.List.{list_any}
+use Rattle.std.specs.Prelude.{◌≡◌, ℕ, ◌+◌, ◌<◌, ◌≤◌, ◌↔◌, Bool, List, [], length, slice_get, Option, Some, None, IsTrue}
+use Rattle.std.specs.List.{list_all, list_any}
 use Rattle.dn_interval.specs.declared.row.End.{End}
 use Rattle.dn_interval.specs.declared.row.Row.{Row}
-use Rattle.dn_interval.specs.declared.row.Seg.{Seg}
 use Rattle.dn_interval.specs.declared.span.TheConstants.{TOP}
-use Rattle.dn_interval.specs.Rows.{AreNormal, ends_within}
-use Rattle.dn_interval.specs.Spans.{in_span}
+use Rattle.dn_interval.specs.Rows.{ends_within, moved}
 use Rattle.dn_interval.specs.Strands.{rows_give}
 use Rattle.dn_interval.specs.Onward.{gives_by}
 use Rattle.dn_net.specs.declared.node.NodeDecl.{NodeDecl}
@@ -31,12 +29,16 @@ pub record AreLevels (net : List NodeDecl) (node : ℕ) (levels : List (List Row
   pub reached : (a : ℕ) (y : End) → a ≤ TOP → IsTrue (levels_give levels a y) → ReachesFrom net node a y
   pub accepted : (a : ℕ) (y : End) → a ≤ TOP → ResolvesFrom net node a y → IsTrue (levels_give levels a y)
 
--- they do, and the rows give to each address of the node its stops
+-- the layers give to each address of the node exactly its stops
+abbrev pub AreStops : List NodeDecl → ℕ → List (List Row) → Type 0
+AreStops net node layers = (a : ℕ) (y : End) → a ≤ TOP → IsTrue (levels_give layers a y) ↔ StopsFrom net node a y
+
+-- they do, and the layers of stops give to each address of the node its stops
 pub record IsLevels (net : List NodeDecl) (node : ℕ) (levels : Levels) : Type 0 where
   pub reached : AreLevels net node levels.reached
-  pub stops : AreNormal (StopsFrom net node) levels.stops
+  pub stops : AreStops net node levels.stops
   -- each name of a row is in a node that is there
-  pub stops_within : IsTrue (ends_within (length net) levels.stops)
+  pub stops_within : IsTrue (list_all (λ rows. ends_within (length net) rows) levels.stops)
 
 -- there are such levels for each node below this one
 pub record AreLevelsBelow (net : List NodeDecl) (node : ℕ) (nodes : List Levels) : Type 0 where
@@ -59,6 +61,11 @@ abbrev pub reached_of : Option Levels → List (List Row)
 reached_of None = []
 reached_of (Some levels) = levels.reached
 
+-- the layers of the stops of a node; of one that is not there they are none
+abbrev pub stops_in : Option Levels → List (List Row)
+stops_in None = []
+stops_in (Some levels) = levels.stops
+
 -- a name that one of the levels gives to the address goes on to the accepted name, by what its node accepts
 abbrev pub levels_show : List Reach → List (List Row) → ℕ → End → Bool
 levels_show nodes levels a z = levels_lead (gives_by (λ (r : Reach). r.done.accepts) nodes) levels a z
@@ -67,14 +74,22 @@ levels_show nodes levels a z = levels_lead (gives_by (λ (r : Reach). r.done.acc
 unfoldable pub shows : FlatsView → ℕ → ℕ → End → Bool
 shows flats node a z = levels_show flats.stage.nodes (reached_of (slice_get flats.nodes node)) a z
 
--- an address of one of the segments comes, as itself, to the accepted name
-abbrev pub spans_show : List Reach → List (List Row) → List Seg → ℕ → End → Bool
-spans_show nodes levels segs a z = list_any (λ s. in_span s.span a && levels_show nodes levels a z) segs
+-- the name is one of so many from one on
+abbrev pub IsNear : End → ℕ → End → Type 0
+IsNear first size z = (i : ℕ) × (i < size) × (z ≡ moved i first)
 
--- one of so many names from this one on is one to which the address of the node resolves
-abbrev pub MeetsFrom : List NodeDecl → ℕ → End → ℕ → ℕ → Type 0
-MeetsFrom net node first size a = (i : ℕ) × (i < size) × ResolvesFrom net node a (record { node = first.node; base = first.base + i })
+-- the address of the node resolves to the name, which is one of them
+abbrev pub NearFrom : List NodeDecl → ℕ → End → ℕ → ℕ → End → Type 0
+NearFrom net node first size a z = ResolvesFrom net node a z × IsNear first size z
 
--- the address of the node resolves to the name, and to one of so many from another on
-abbrev pub ResolvesMeeting : List NodeDecl → ℕ → End → ℕ → ℕ → End → Type 0
-ResolvesMeeting net node first size a z = ResolvesFrom net node a z × MeetsFrom net node first size a
+-- the address lies in a stretch of so many addresses of the node, and has the name of its place in as many names from one
+-- on: each address of the stretch resolves to the name of its place, and to no other
+pub record ResolvesWhole (net : List NodeDecl) (node : ℕ) (first : End) (size a : ℕ) (z : End) : Type 0 where
+  -- the first address of the stretch, and the place in it
+  pub v : ℕ
+  pub i : ℕ
+  pub below : i < size
+  pub within : v + size ≤ TOP + 1
+  pub from : a ≡ v + i
+  pub to : z ≡ moved i first
+  pub each : (j : ℕ) (w : End) → j < size → ResolvesFrom net node (v + j) w ↔ (moved j first ≡ w)

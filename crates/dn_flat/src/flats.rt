@@ -1,7 +1,6 @@
 //! What all nodes of a net reach, and the accepted names to which they come by it.
 
-ghost use Rattle.std.specs.Prelude.{◌≡◌, ℕ, ◌+◌, ◌-◌, ◌<◌, ◌≤◌, ◌&&◌, ◌||◌, ◌↔◌, List, IfOk, OnOk, IsTrue, Some, length, slice_get};
-ghost use Rattle.std.specs.List.{list_any};
+ghost use Rattle.std.specs.Prelude.{◌≡◌, ℕ, ◌+◌, ◌-◌, ◌<◌, ◌≤◌, ◌&&◌, ◌||◌, List, IfOk, OnOk, IsTrue, Some, length, slice_get};
 ghost use Rattle.dn_interval.specs.declared.row.End.{End};
 ghost use Rattle.dn_interval.specs.declared.row.Seg.{Seg};
 ghost use Rattle.dn_interval.specs.declared.span.TheConstants.{TOP};
@@ -10,16 +9,14 @@ ghost use Rattle.dn_net.specs.declared.node.NodeDecl.{NodeDecl};
 ghost use Rattle.dn_net.specs.Terms.{IsLegalNet};
 ghost use Rattle.dn_walk.specs.Terms.{AreWalksOf};
 ghost use Rattle.dn_flat.specs.declared.flat.Flat.{Flat};
-ghost use Rattle.dn_flat.specs.declared.reach.Reach.{Reach};
-ghost use Rattle.dn_flat.specs.Terms.{AreFlats, AreLevels, AreLevelsBelow, AreReaches, IsFlat, IsStage, MeetsFrom, ResolvesFrom, ResolvesMeeting, shows, spans_show};
+ghost use Rattle.dn_flat.specs.Terms.{AreFlats, AreLevelsBelow, IsFlat, IsStage, ResolvesFrom, ResolvesWhole, levels_give, shows, stops_in};
 
-use crate::found::{Part, push, push_levels};
-use crate::levels::{Levels, push_shown, shown_segs};
-use crate::reach::{Reach, still};
+use crate::levels::{Levels, push_given, push_shown, shown_segs};
 use crate::shared::Shared;
 use crate::stage::{Stage, first_stage};
+use crate::stretches::{alone_segs, led_stretches, near_segs};
 use dn_base::OutOfMemory;
-use dn_interval::{End, Rows, Seg, Span};
+use dn_interval::{End, Rows, Seg, strands_of};
 use dn_net::net::Net;
 use dn_walk::walks::WalkTable;
 use std::alloc::Global;
@@ -78,6 +75,18 @@ impl Flats {
         push_shown(segs, mid, self.stage.reaches(), levels, seg)
     }
 
+    /// Adds the names in units to which the names of a segment come. Time of the layers of the node's stops, and of
+    /// what is added.
+    pub fn push_stops(&self, segs: &mut Vec<Seg>, seg: Seg) -> Result<(), OutOfMemory>
+        requires { seg.node < length self.now.nodes }
+        ensures { OnOk result ((a : ℕ) (z : End) → segs_give segs.new.items a z
+            ≡ (segs_give segs.old.items a z || (in_span seg.span a && levels_give
+            (stops_in (slice_get self.now.nodes seg.node)) (seg.base + (a - seg.span.lo)) z))) }
+    {
+        let layers = self.of(seg.node).stops.as_slice();
+        push_given(segs, layers, seg)
+    }
+
     /// The accepted names to which the addresses of a node come, as segments.
     pub fn accepted(&self, alloc: Global, node: u16) -> Result<Vec<Seg>, OutOfMemory>
         requires { node < length self.now.nodes }
@@ -98,9 +107,9 @@ impl Flats {
         Rows::normal(alloc, &segs)
     }
 
-    /// The accepted names to which those addresses of a node resolve that resolve to one of so many names from one on,
-    /// as normal rows: all names of such an address, also those that are none of these. Time of the levels of the node,
-    /// and of what is given.
+    /// The stretches of so many addresses of a node that resolve to so many names from one on, each address to its own
+    /// name and to no other, as normal rows: one for each stretch, so no more than there are walks. Time of the levels
+    /// of the node, and for each stretch that a walk leads there, of those up to the first that shows another name.
     pub fn toward(
         &self,
         alloc: Global,
@@ -112,13 +121,17 @@ impl Flats {
         requires some { 1 ≤ size }
         requires within { first.base + size ≤ TOP + 1 }
         ensures { IfOk result (λ rows. (net : List NodeDecl) → AreFlats net self.now
-            → AreNormal (ResolvesMeeting net node first size) rows) }
+            → AreNormal (ResolvesWhole net node first size) rows) }
     {
         let nodes = self.stage.reaches();
         let levels = self.of(node).reached.as_slice();
-        let met = meeting_segs(alloc, nodes, levels, first, size)?;
-        let segs = shown_from(alloc, nodes, levels, node, &met)?;
-        Rows::normal(alloc, &segs)
+        let near = near_segs(alloc, nodes, levels, first, size)?;
+        let strands = strands_of(alloc, &near)?;
+        drop(near);
+        let led = led_stretches(alloc, &strands, first, size)?;
+        drop(strands);
+        let alone = alone_segs(alloc, nodes, levels, &led)?;
+        Rows::normal(alloc, &alone)
     }
 }
 
@@ -159,68 +172,4 @@ fn add(
             shared.push(levels)
         }
     }
-}
-
-/// Which addresses come by the levels of their node to accepted names of so many from one on, as segments of these
-/// names.
-fn meeting_segs(
-    alloc: Global,
-    nodes: &[Reach],
-    levels: &[Rows],
-    first: End,
-    size: u64,
-) -> Result<Vec<Seg>, OutOfMemory>
-    requires some { 1 ≤ size }
-    requires within { first.base + size ≤ TOP + 1 }
-    ensures { IfOk result (λ segs. (net : List NodeDecl) (node : ℕ) → AreReaches net 1 nodes.now
-        → AreLevels net node levels.now → (a : ℕ) → a ≤ TOP
-        → IsTrue (list_any (λ (s : Seg). in_span s.span a) segs.items)
-        ↔ MeetsFrom net node first size a) }
-{
-    let mut segs = Vec::new(alloc);
-    let buffer = from_on(first, size);
-    push(&mut segs, nodes, Part::Accepts, buffer)?;
-    let rows = Rows::normal(alloc, &segs)?;
-    segs.clear();
-    push_levels(&mut segs, nodes, Part::Toward(first.node, &rows), levels)?;
-    Ok(segs)
-}
-
-/// So many names from one on, each as itself.
-fn from_on(first: End, size: u64) -> Seg
-    requires some { 1 ≤ size }
-    requires within { first.base + size ≤ TOP + 1 }
-    ensures node { result.node ≡ first.node }
-    ensures base { result.base ≡ first.base }
-    ensures lo { result.span.lo ≡ first.base }
-    ensures hi { result.span.hi + 1 ≡ first.base + size }
-{
-    let span = Span {
-        lo: first.base,
-        hi: first.base + (size - 1),
-    };
-    Seg {
-        span,
-        node: first.node,
-        base: first.base,
-    }
-}
-
-/// The accepted names to which the addresses of segments come, each as itself in a node, by the levels of the node.
-fn shown_from(
-    alloc: Global,
-    nodes: &[Reach],
-    levels: &[Rows],
-    node: u16,
-    from: &[Seg],
-) -> Result<Vec<Seg>, OutOfMemory>
-    ensures { IfOk result (λ segs. (a : ℕ) (z : End) → segs_give segs.items a z
-        ≡ spans_show nodes.now levels.now from.now a z) }
-{
-    let mut mid = Vec::new(alloc);
-    let mut segs = Vec::new(alloc);
-    for one in from {
-        push_shown(&mut segs, &mut mid, nodes, levels, still(node, one.span))?;
-    }
-    Ok(segs)
 }

@@ -9,7 +9,7 @@ ghost use Rattle.dn_flat.specs.declared.reach.Reach.{Reach};
 ghost use Rattle.dn_flat.specs.Terms.{GoesIn, IsDone, IsFlat, IsLedTo, IsLevels, IsStage};
 
 use crate::flat::Flat;
-use crate::levels::{Levels, node_levels, shown_segs};
+use crate::levels::{Levels, Reached, node_levels, node_reached, shown_segs};
 use crate::reach::{Reach, first_reach, twice};
 use dn_base::OutOfMemory;
 use dn_interval::{Rows, SpanSet};
@@ -138,9 +138,11 @@ impl Stage {
         requires there { node < length net.now }
         ensures { IfOk result (λ flat. IsFlat net.now node flat) }
     {
-        let Levels { reached, stops } = self.levels(alloc, net, node)?;
-        let segs = shown_segs(alloc, self.nodes.as_slice(), reached.as_slice())?;
-        drop(reached);
+        let nodes = self.nodes.as_slice();
+        let Reached { levels, stops } = node_reached(alloc, net, nodes, node)?;
+        let stops = Rows::normal(alloc, &stops)?;
+        let segs = shown_segs(alloc, nodes, levels.as_slice())?;
+        drop(levels);
         let accepts = Rows::normal(alloc, &segs)?;
         Ok(Flat { accepts, stops })
     }

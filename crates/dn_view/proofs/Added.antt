@@ -4,13 +4,13 @@ use Rattle.std.proofs.lemmas.Bool.{false≢true}
 use Rattle.dn_interval.specs.declared.row.End.{End}
 use Rattle.dn_interval.specs.declared.row.Seg.{Seg}
 use Rattle.dn_interval.specs.declared.span.TheConstants.{TOP}
-use Rattle.dn_interval.specs.Strands.{segs_give, rows_give}
+use Rattle.dn_interval.specs.Strands.{segs_give}
 use Rattle.dn_net.specs.declared.node.NodeDecl.{NodeDecl}
 use Rattle.dn_net.specs.Decode.{StopsAt}
 use Rattle.dn_kind.specs.declared.rights.Access.{Access}
 use Rattle.dn_kind.specs.Rights.{allows}
 use Rattle.dn_kind.specs.Tables.{Held, allowing}
-use Rattle.dn_flat.specs.Levels.{AreFlats, FlatsView}
+use Rattle.dn_flat.specs.Levels.{AreFlats, FlatsView, levels_give}
 use Rattle.dn_flat.specs.Views.{name_of_end, end_of}
 use Rattle.dn_tables.specs.Placement.{Place}
 use Rattle.dn_placement.specs.declared.request.Request.{Request}
@@ -27,7 +27,7 @@ module _ (net : List NodeDecl) (h : Held) (rq : Request) (p : Place) (access : A
 
   -- what is shown newly of the node's stops is what is added at its addresses
   pub added_is : (flats : FlatsView) → AreFlats net flats → node < length flats.nodes → (stops shown : List Seg)
-      → ((a : ℕ) (z : End) → a ≤ TOP → segs_give stops a z ≡ rows_give (stops_of flats node) a z)
+      → ((a : ℕ) (z : End) → a ≤ TOP → segs_give stops a z ≡ levels_give (stops_of flats node) a z)
       → ((a : ℕ) (z : End) → a ≤ TOP → IsTrue (segs_give shown a z) ↔ ((s : End) × IsTrue (segs_give stops a s) × ComesNewly net (allowing access h) (allowing access (fresh_records h (placed_records net rq p))) (allowing access (joined_records h (placed_records net rq p))) (name_of_end s) (name_of_end z)))
       → (a : ℕ) (z : End) → a ≤ TOP → (segs_give shown a z ≡ true) ↔ IsAdded net h rq p access (record { node = node; addr = a }) (name_of_end z)
   added_is flats are l stops shown es is a z low = (into, back)

@@ -5,12 +5,9 @@ use Rattle.std.proofs.lemmas.Bool.{and_parts, or_cases, false≢true}
 use Rattle.dn_interval.specs.declared.row.End.{End}
 use Rattle.dn_interval.specs.declared.row.Seg.{Seg}
 use Rattle.dn_interval.specs.declared.span.TheConstants.{TOP}
-use Rattle.dn_interval.specs.declared.row.Row.{Row}
-use Rattle.dn_interval.specs.Onward.{rows_of}
 use Rattle.dn_interval.specs.Spans.{in_span}
-use Rattle.dn_interval.specs.Strands.{seg_gives, segs_give, rows_give}
+use Rattle.dn_interval.specs.Strands.{seg_gives, segs_give}
 use Rattle.dn_interval.proofs.Membership.{or_left, or_right}
-use Rattle.dn_interval.proofs.Names.{rows_from, rows_to}
 use Rattle.dn_net.specs.declared.node.Name.{Name}
 use Rattle.dn_net.specs.declared.node.NodeDecl.{NodeDecl}
 use Rattle.dn_net.specs.declared.node.Unit.{Unit as UnitPart}
@@ -20,8 +17,7 @@ use Rattle.dn_net.specs.Legal.{IsLegalNet}
 use Rattle.dn_kind.specs.Tables.{Held, AreHeld, ResolvesUnder, steps_by_unit, steps_under}
 use Rattle.dn_kind.proofs.Bounds.{Led, led}
 use Rattle.dn_kind.proofs.Nodes.{steps_under_there}
-use Rattle.dn_flat.specs.declared.levels.Levels.{Levels}
-use Rattle.dn_flat.specs.Levels.{AreFlats, FlatsView}
+use Rattle.dn_flat.specs.Levels.{AreFlats, FlatsView, levels_give, stops_in}
 use Rattle.dn_flat.specs.Views.{name_of_end, end_of, ResolvesFrom, StopsFrom}
 use Rattle.dn_flat.proofs.Shown.{levels_there, shows_is}
 use Rattle.dn_view.specs.declared.pass.Part.{Part}
@@ -69,13 +65,13 @@ there [] i l = absurd (omega arith)
 there (x ∷ xs) zero l = (x, refl)
 there (x ∷ xs) (suc i) l = there xs i (omega arith)
 
--- the rows of the stops of a node give its stops
-pub stops_given : (net : List NodeDecl) (flats : FlatsView) → AreFlats net flats → (node : ℕ) → node < length net → (a : ℕ) (z : End) → a ≤ TOP → (rows_give (stops_of flats node) a z ≡ true) ↔ StopsFrom net node a z
+-- the layers of the stops of a node give its stops
+pub stops_given : (net : List NodeDecl) (flats : FlatsView) → AreFlats net flats → (node : ℕ) → node < length net → (a : ℕ) (z : End) → a ≤ TOP → (levels_give (stops_of flats node) a z ≡ true) ↔ StopsFrom net node a z
 stops_given net flats are node l a z low =
     let t = levels_there net flats are node l in
-    let rows : List Row = t.0.stops in
-    let same : rows_give (stops_of flats node) a z ≡ rows_give rows a z = ap (λ o. rows_give (rows_of (λ (x : Levels). x.stops) o) a z) t.1 in
-    ((λ e. (t.2.stops.exact a z low).1 (rows_to rows a z (sym same ∙ e))), (λ h. same ∙ rows_from rows a z ((t.2.stops.exact a z low).0 h)))
+    let same : levels_give (stops_of flats node) a z ≡ levels_give t.0.stops a z = ap (λ o. levels_give (stops_in o) a z) t.1 in
+    let is = t.2.stops a z low in
+    ((λ e. is.0 (sym same ∙ e)), (λ h. same ∙ is.1 h))
 
 module _ (net : List NodeDecl) (legal : IsLegalNet net) (h : Held) (held : AreHeld net h) (flats : FlatsView) (are : AreFlats net flats) where
   -- an output is in a node that is there, at an address

@@ -1,11 +1,11 @@
 -- What the segments of a node show.
-use Rattle.std.proofs.Common.{◌≡◌, ℕ, ◌-◌, ◌<◌, ◌≤◌, ◌==◌, ◌⊎◌, ◌↔◌, inl, inr, Bool, true, false, List, [], ◌∷◌, map, slice_get, Some, IsTrue, refl, sym, ap, subst, arith, ◌∙◌, length}
+use Rattle.std.proofs.Common.{◌≡◌, ℕ, ◌-◌, ◌<◌, ◌≤◌, ◌==◌, ◌⊎◌, ◌↔◌, inl, inr, Bool, true, false, List, [], ◌∷◌, map, IsTrue, refl, sym, subst, arith, ◌∙◌, length}
 use Rattle.dn_interval.specs.declared.row.End.{End}
 use Rattle.dn_interval.specs.declared.row.Row.{Row}
 use Rattle.dn_interval.specs.declared.row.Seg.{Seg}
 use Rattle.dn_interval.specs.declared.span.TheConstants.{TOP}
 use Rattle.dn_interval.specs.Rows.{Member, moved, AreNormal, GivenBy, HasEnds, SegmentsGive, ends_within}
-use Rattle.dn_interval.specs.Strands.{segs_give, rows_give}
+use Rattle.dn_interval.specs.Strands.{segs_give}
 use Rattle.dn_interval.proofs.Membership.{in_from}
 use Rattle.dn_net.specs.declared.node.Name.{Name}
 use Rattle.dn_net.specs.declared.node.NodeDecl.{NodeDecl}
@@ -13,9 +13,9 @@ use Rattle.dn_net.specs.Decode.{Resolves, StopsAt}
 use Rattle.dn_net.specs.Legal.{IsLegalNet}
 use Rattle.dn_kind.specs.Tables.{Held, AreHeld}
 use Rattle.dn_flat.specs.declared.flat.Flat.{Flat}
-use Rattle.dn_flat.specs.Levels.{AreFlats, FlatsView, shows}
+use Rattle.dn_flat.specs.Levels.{AreFlats, FlatsView, levels_give, shows}
 use Rattle.dn_flat.specs.Stages.{IsFlat}
-use Rattle.dn_flat.specs.Views.{name_of_end, end_of, ResolvesFrom, StopsFrom}
+use Rattle.dn_flat.specs.Views.{name_of_end, end_of, StopsFrom}
 use Rattle.dn_flat.proofs.Shown.{shows_is}
 use Rattle.dn_flat.proofs.Sums.{normal_of}
 use Rattle.dn_flat.proofs.There.{accepted_is_there, names_are_there}
@@ -31,7 +31,7 @@ node_accepts net flats are node l gives a z low e =
     let is = shows_is net flats are node a z (subst (λ n. node < n) are.every l) low in
     ((λ g. is.0 (sym e ∙ g)), (λ h. e ∙ is.1 h))
 
-pub node_stops : (net : List NodeDecl) (flats : FlatsView) → AreFlats net flats → (node : ℕ) → node < length flats.nodes → (gives : Bool) (a : ℕ) (z : End) → a ≤ TOP → gives ≡ rows_give (stops_of flats node) a z → (gives ≡ true) ↔ StopsAt net (record { node = node; addr = a }) (name_of_end z)
+pub node_stops : (net : List NodeDecl) (flats : FlatsView) → AreFlats net flats → (node : ℕ) → node < length flats.nodes → (gives : Bool) (a : ℕ) (z : End) → a ≤ TOP → gives ≡ levels_give (stops_of flats node) a z → (gives ≡ true) ↔ StopsAt net (record { node = node; addr = a }) (name_of_end z)
 node_stops net flats are node l gives a z low e =
     let is = stops_given net flats are node (subst (λ n. node < n) are.every l) a z low in
     ((λ g. is.0 (sym e ∙ g)), (λ h. e ∙ is.1 h))
@@ -39,7 +39,7 @@ node_stops net flats are node l gives a z low e =
 -- what is shown of a node under records is what its addresses resolve to
 pub viewed : (net : List NodeDecl) → IsLegalNet net → (h : Held) → AreHeld net h → (flats : FlatsView) → AreFlats net flats → (node : ℕ) → node < length flats.nodes → (accepts stops shown : List Seg)
     → ((a : ℕ) (z : End) → segs_give accepts a z ≡ shows flats node a z)
-    → ((a : ℕ) (z : End) → a ≤ TOP → segs_give stops a z ≡ rows_give (stops_of flats node) a z)
+    → ((a : ℕ) (z : End) → a ≤ TOP → segs_give stops a z ≡ levels_give (stops_of flats node) a z)
     → ((a : ℕ) (z : End) → a ≤ TOP → IsTrue (segs_give shown a z) ↔ (IsTrue (segs_give accepts a z) ⊎ ((s : End) × IsTrue (segs_give stops a s) × ComesThrough net h (name_of_end s) (name_of_end z))))
     → (a : ℕ) (z : End) → a ≤ TOP → (segs_give shown a z ≡ true) ↔ ResolvesFromUnder net h node a z
 viewed net legal h held flats are node l accepts stops shown ea es is a z low = (into, back)

@@ -4,16 +4,13 @@ use Rattle.std.specs.List.{list_any}
 use Rattle.dn_interval.specs.declared.row.End.{End}
 use Rattle.dn_interval.specs.declared.row.Row.{Row}
 use Rattle.dn_interval.specs.declared.row.Seg.{Seg}
-use Rattle.dn_interval.specs.Onward.{rows_of}
 use Rattle.dn_interval.specs.Spans.{in_span}
-use Rattle.dn_interval.specs.Strands.{rows_give}
 use Rattle.dn_net.specs.declared.node.Name.{Name}
 use Rattle.dn_net.specs.declared.node.NodeDecl.{NodeDecl}
 use Rattle.dn_net.specs.declared.node.Unit.{Unit as UnitPart}
 use Rattle.dn_net.specs.Decode.{unit_at}
 use Rattle.dn_kind.specs.Tables.{Held, output}
-use Rattle.dn_flat.specs.declared.levels.Levels.{Levels}
-use Rattle.dn_flat.specs.Levels.{FlatsView, reached_of, shows}
+use Rattle.dn_flat.specs.Levels.{FlatsView, levels_give, reached_of, shows, stops_in}
 use Rattle.dn_view.specs.declared.pass.Part.{Part}
 use Rattle.dn_view.specs.declared.pass.Part.TheVariants.{Accepts, Stops}
 
@@ -21,19 +18,19 @@ use Rattle.dn_view.specs.declared.pass.Part.TheVariants.{Accepts, Stops}
 abbrev pub has_rows : List Row → Bool
 has_rows rows = nat_lt 0 (length rows)
 
--- the rows of the stops of a node
-abbrev pub stops_of : FlatsView → ℕ → List Row
-stops_of flats node = rows_of (λ (l : Levels). l.stops) (slice_get flats.nodes node)
+-- the layers of the stops of a node
+abbrev pub stops_of : FlatsView → ℕ → List (List Row)
+stops_of flats node = stops_in (slice_get flats.nodes node)
 
 -- the address of the node comes to the name: to an accepted one, or to a stop
 abbrev pub part_gives : Part → FlatsView → ℕ → ℕ → End → Bool
 part_gives Accepts flats node a z = shows flats node a z
-part_gives Stops flats node a z = rows_give (stops_of flats node) a z
+part_gives Stops flats node a z = levels_give (stops_of flats node) a z
 
 -- there is something to which the node leads: a level, or a stop
 abbrev pub part_leads : Part → FlatsView → ℕ → Bool
 part_leads Accepts flats node = nat_lt 0 (length (reached_of (slice_get flats.nodes node)))
-part_leads Stops flats node = has_rows (stops_of flats node)
+part_leads Stops flats node = list_any has_rows (stops_of flats node)
 
 -- the output of a name in this unit, or in none
 abbrev pub outputs_by : Held → Name → Option UnitPart → List Name

@@ -28,3 +28,7 @@ can_meet net flats hops node = has_hop hops node || leads_to_units flats (unit_a
 abbrev pub rows_meet : List NodeDecl → FlatsView → List Hop → List Row → Bool
 rows_meet net flats hops rows =
     list_any (λ r. list_any (λ e. can_meet net flats hops e.node) r.ends) rows
+
+-- some name of the layers can
+abbrev pub layers_meet : List NodeDecl → FlatsView → List Hop → List (List Row) → Bool
+layers_meet net flats hops layers = list_any (λ rows. rows_meet net flats hops rows) layers

@@ -14,7 +14,6 @@ use crate::range::slot_range;
 use crate::records::record_for;
 use dn_base::OutOfMemory;
 use dn_flat::flats::Flats;
-use dn_interval::onward::follow;
 use dn_interval::{Rows, Seg, Span};
 use dn_kind::output::sent;
 use dn_kind::unit_kind::Record;
@@ -130,7 +129,7 @@ fn push_sent(
 {
     match part {
         Part::Accepts => flats.push_accepted(out, mid, seg),
-        Part::Stops => follow(out, seg, stop_rows(flats, seg.node)),
+        Part::Stops => flats.push_stops(out, seg),
     }
 }
 
@@ -171,13 +170,12 @@ pub(crate) fn unit_of(net: &Net, node: u16) -> Option<&Unit>
     }
 }
 
-/// The rows of the stops of a node.
-pub(crate) fn stop_rows(flats: &Flats, node: u16) -> &Rows
+/// The layers of the stops of a node.
+pub(crate) fn stop_layers(flats: &Flats, node: u16) -> &[Rows]
     requires { node < length flats.now.nodes }
     ensures { result.now ≡ stops_of flats.now node }
 {
-    let levels = flats.of(node);
-    &levels.stops
+    flats.of(node).stops.as_slice()
 }
 
 /// Whether the node of one of a unit's ports leads to something.
@@ -201,8 +199,20 @@ fn node_leads(flats: &Flats, node: u16, part: Part) -> bool
 {
     match part {
         Part::Accepts => !flats.of(node).reached.as_slice().is_empty(),
-        Part::Stops => has_rows(stop_rows(flats, node)),
+        Part::Stops => has_layer(stop_layers(flats, node)),
     }
+}
+
+/// Whether a layer has a row.
+fn has_layer(layers: &[Rows]) -> bool
+    ensures { result ≡ list_any has_rows layers.now }
+{
+    for rows in layers {
+        if has_rows(rows) {
+            return true;
+        }
+    }
+    false
 }
 
 /// Whether there is a row.

@@ -3,16 +3,15 @@
 ghost use Rattle.std.specs.Prelude.{◌≡◌, ℕ, ◌≤◌, ◌⊎◌, ◌↔◌, ◌<◌, length, OnOk, IfOk, IsTrue};
 ghost use Rattle.dn_interval.specs.declared.row.End.{End};
 ghost use Rattle.dn_interval.specs.declared.span.TheConstants.{TOP};
-ghost use Rattle.dn_interval.specs.Terms.{rows_give, segs_give};
-ghost use Rattle.dn_flat.specs.Terms.{name_of_end};
+ghost use Rattle.dn_interval.specs.Terms.{segs_give};
+ghost use Rattle.dn_flat.specs.Terms.{levels_give, name_of_end};
 ghost use Rattle.dn_view.specs.Terms.{ComesThrough, IsCourse, course_records, part_gives, segs_pass, stops_of};
 ghost use Rattle.dn_view.specs.declared.pass.Part.TheVariants.{Stops};
 
 use crate::course::Course;
-use crate::pass::{Part, pass, stop_rows};
+use crate::pass::{Part, pass};
 use dn_base::OutOfMemory;
 use dn_flat::flats::Flats;
-use dn_interval::onward::follow;
 use dn_interval::{Seg, Span, TOP};
 use std::alloc::Global;
 
@@ -67,7 +66,7 @@ pub(crate) fn passed_stops(
 pub(crate) fn node_stops(alloc: Global, flats: &Flats, node: u16) -> Result<Vec<Seg>, OutOfMemory>
     requires there { node < length flats.now.nodes }
     ensures { IfOk result (λ segs. (a : ℕ) (z : End) → a ≤ TOP → segs_give segs.items a z
-        ≡ rows_give (stops_of flats.now node) a z) }
+        ≡ levels_give (stops_of flats.now node) a z) }
 {
     let mut segs = Vec::new(alloc);
     let span = Span { lo: 0, hi: TOP };
@@ -76,6 +75,6 @@ pub(crate) fn node_stops(alloc: Global, flats: &Flats, node: u16) -> Result<Vec<
         node,
         base: 0,
     };
-    follow(&mut segs, whole, stop_rows(flats, node))?;
+    flats.push_stops(&mut segs, whole)?;
     Ok(segs)
 }

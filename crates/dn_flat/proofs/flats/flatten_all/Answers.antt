@@ -1,6 +1,6 @@
 -- One node more.
 use Rattle.std.proofs.Common.{◌≡◌, ◌∙◌, sym, subst, arith, length}
-use Rattle.dn_flat.specs.Levels.{AreFlats, AreLevelsBelow}
+use Rattle.dn_flat.specs.Levels.{AreLevelsBelow}
 use Rattle.dn_flat.specs.Stages.{AreReaches}
 use Rattle.dn_flat.proofs.Led.{none_below}
 use Rattle.dn_flat.proofs.flats.flatten_all.Goals as goal

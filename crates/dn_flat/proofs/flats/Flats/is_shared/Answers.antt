@@ -1,5 +1,5 @@
 -- Nodes that reach the same see the same.
-use Rattle.std.proofs.Common.{◌≡◌, ◌∙◌, ◌<◌, ap, sym, subst, length, slice_get}
+use Rattle.std.proofs.Common.{◌≡◌, ◌<◌, subst, slice_get}
 use Rattle.dn_flat.specs.Levels.{FlatsView}
 use Rattle.dn_flat.proofs.Shown.{same_seen}
 use Rattle.dn_flat.proofs.flats.Flats.is_shared.Goals as goal
