@@ -63,5 +63,5 @@ walk_meets s front n hops rows r rest y f fits w i c = gives_meets s n y hops ro
 
 -- where a stop is reached from the stretch, it meets no buffer
 pub unclear : (s : Sought) (n y : ℕ) (hops : List Hop) → (IsClear s.net n hops y s.request.size → ⊥) → Meets s.net s.request n y hops → ⊥
-unclear s n y [] no m = no (λ i l z x. (m i l).1 (name_of_end z) x)
-unclear s n y (hop ∷ hops) no m = no tt
+unclear s n y [] shut m = shut (λ i l z x. (m i l).1 (name_of_end z) x)
+unclear s n y (hop ∷ hops) shut m = shut tt

@@ -15,7 +15,7 @@ use Rattle.dn_interval.proofs.Names.{rows_from, rows_to, segs_from, segs_to}
 use Rattle.dn_interval.proofs.Normal.{normal_like}
 use Rattle.dn_net.specs.declared.node.NodeDecl.{NodeDecl}
 use Rattle.dn_flat.specs.declared.levels.Levels.{Levels}
-use Rattle.dn_flat.specs.Levels.{IsLevels, ResolvesMeeting, levels_give}
+use Rattle.dn_flat.specs.Levels.{IsLevels, ResolvesWhole, levels_give}
 use Rattle.dn_flat.specs.Views.{end_of, name_of_end, ResolvesFrom, StopsFrom}
 use Rattle.dn_tables.specs.declared.placement.Hop.{Hop}
 use Rattle.dn_placement.specs.declared.request.Request.{Request}
@@ -24,17 +24,22 @@ use Rattle.dn_place.specs.Sought.{ReachOneStop}
 
 -- where no hop follows
 
-buffer_is : (net : List NodeDecl) (rq : Request) (hops : List Hop) (node : ℕ) (rows : List Row) → length hops ≡ 0 → AreNormal (ResolvesMeeting net node (wanted rq hops) rq.size) rows → AreToward net rq hops node rows
+buffer_is : (net : List NodeDecl) (rq : Request) (hops : List Hop) (node : ℕ) (rows : List Row) → length hops ≡ 0 → AreNormal (ResolvesWhole net node (wanted rq hops) rq.size) rows → AreToward net rq hops node rows
 buffer_is net rq (hop ∷ hops) node rows none n = absurd (omega arith)
 buffer_is net rq [] node rows none n = record {
   apart = n.apart;
-  given = λ a z l g. ((n.exact a z l).1 g).0;
-  all = λ a i z l m g r. (n.exact a z l).0 (r, ((n.exact a (moved i (wanted rq [])) l).1 g).1);
-  whole = λ a fits only i m. let r = (only i (moved i (wanted rq [])) m).1 refl in (n.exact (a + i) (moved i (wanted rq [])) (omega arith)).0 (r, (i, m, r));
+  given = λ a z l g. let w = (n.exact a z l).1 g in subst (λ b. ResolvesFrom net node b z) (sym w.from) ((w.each w.i z w.below).1 (sym w.to));
+  all = λ a i z l m g r.
+      let w = (n.exact a (moved i t) l).1 g in
+      subst (λ (y : End). GivenBy rows a y) (w.to ∙ (w.each w.i z w.below).0 (subst (λ b. ResolvesFrom net node b z) w.from r)) g;
+  whole = λ a fits only i m. (n.exact (a + i) (moved i t) (omega arith)).0 (record { v = a; i = i; below = m; within = fits; from = refl; to = refl; each = only });
 }
+  where
+    t : End
+    t = wanted rq []
 
-pub buffer_toward : (net : List NodeDecl) (rq : Request) (hops : List Hop) (node : ℕ) (rows : List Row) (t : End) (size : ℕ) → length hops ≡ 0 → t ≡ wanted rq hops → size ≡ rq.size → AreNormal (ResolvesMeeting net node t size) rows → AreToward net rq hops node rows
-buffer_toward net rq hops node rows t size none e f n = buffer_is net rq hops node rows none (subst (λ m. AreNormal (ResolvesMeeting net node (wanted rq hops) m) rows) f (subst (λ (w : End). AreNormal (ResolvesMeeting net node w size) rows) e n))
+pub buffer_toward : (net : List NodeDecl) (rq : Request) (hops : List Hop) (node : ℕ) (rows : List Row) (t : End) (size : ℕ) → length hops ≡ 0 → t ≡ wanted rq hops → size ≡ rq.size → AreNormal (ResolvesWhole net node t size) rows → AreToward net rq hops node rows
+buffer_toward net rq hops node rows t size none e f n = buffer_is net rq hops node rows none (subst (λ m. AreNormal (ResolvesWhole net node (wanted rq hops) m) rows) f (subst (λ (w : End). AreNormal (ResolvesWhole net node w size) rows) e n))
 
 -- the buffer itself is wanted there, and ends by the last address
 pub wanted_fits : (rq : Request) (hops : List Hop) (t : End) (size : ℕ) → length hops ≡ 0 → t ≡ wanted rq hops → size ≡ rq.size → rq.base + rq.size ≤ TOP + 1 → t.base + size ≤ TOP + 1

@@ -22,7 +22,7 @@ pub(crate) trait Quest {
     ghost use Rattle.std.specs.Prelude.{◌≡◌, ◌+◌, ◌<◌, ◌≤◌, ◌↔◌, length, IfOk, IsTrue};
     ghost use Rattle.std.specs.Option.{option_copied};
     ghost use Rattle.dn_net.specs.Decode.{unit_at};
-    ghost use Rattle.dn_flat.specs.Levels.{IsLevels, ResolvesMeeting};
+    ghost use Rattle.dn_flat.specs.Levels.{IsLevels, ResolvesWhole};
     ghost use Rattle.dn_interval.specs.declared.span.TheConstants.{TOP};
     ghost use Rattle.dn_interval.specs.Rows.{AreNormal};
     ghost use Rattle.dn_placement.specs.Exposure.{IsAdmissible};
@@ -64,7 +64,7 @@ pub(crate) trait Quest {
         requires there { node < length (sought self.now).net }
         ensures { IsLevels (sought self.now).net node result.now };
 
-    /// The accepted names of those addresses of a node that resolve to one of so many names from one on.
+    /// Where the addresses of a node resolve to so many names from one on, one after another, and to no other.
     fn toward(
         &self,
         alloc: Global,
@@ -77,7 +77,7 @@ pub(crate) trait Quest {
         requires some { 1 ≤ size }
         requires within { first.base + size ≤ TOP + 1 }
         ensures { IfOk result (λ rows. AreNormal
-            (ResolvesMeeting (sought self.now).net node first size) rows) };
+            (ResolvesWhole (sought self.now).net node first size) rows) };
 
     /// What a hop meets in a slot.
     fn slot(&self, unit: u16, slot: u32) -> Slot

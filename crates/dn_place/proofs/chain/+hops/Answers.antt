@@ -1,6 +1,7 @@
 use Rattle.std.proofs.Common.{◌≡◌, ℕ, suc, true, false, List, Some, ◌+◌, ◌-◌, ◌*◌, ◌^◌, ◌<◌, ◌≤◌, arith, length, refl, subst, sym, ap, ◌∙◌, rules, get_or, slice_get}
 use Rattle.std.proofs.lemmas.Nat.{pow_pos}
 use Rattle.std.proofs.Math.Nat.{mod-mod, mod-le}
+use Rattle.dn_interval.specs.declared.row.Row.{Row}
 use Rattle.dn_tables.specs.declared.placement.Hop.{Hop}
 use Rattle.dn_placement.specs.declared.request.Request.{Request}
 use Rattle.dn_placement.specs.Placement.{Meets}
@@ -51,11 +52,19 @@ by_port-levels-requires-clause-there g t c = rw (c.as_slice.ensures, c.from.ensu
 pub by_port-made_rows-requires-clause-there : goal.by_port-made_rows-requires-clause-there
 by_port-made_rows-requires-clause-there g t c = rw (c.as_slice.ensures, c.from.ensures) (node_there (g.Q.Quest.sought c.args.quest.now).net c.args.port c.args.translator.now (c.requires.stage.ready.formed c.args.unit c.args.translator.now c.requires.unit) c.requires.port)
 
-pub by_port-by_rows-requires-clause-toward : goal.by_port-by_rows-requires-clause-toward
-by_port-by_rows-requires-clause-toward g t c = λ node read. ?
+pub by_port-by_rows-requires : goal.by_port-by_rows-requires
+by_port-by_rows-requires g t c =
+    let hops = (hops_of c.args.stage.chosen) in
+    let given = c.in-Some.ensures (g.Q.Quest.sought c.args.quest.now).net (g.Q.Quest.sought c.args.quest.now).request (get_or c.as_slice.result.now c.from.result 0) c.levels.ensures in
+    let toward : (n : ℕ) → slice_get c.args.translator.now.ports c.args.port ≡ Some n → AreToward (g.Q.Quest.sought c.args.quest.now).net (g.Q.Quest.sought c.args.quest.now).request hops n c.in-Some.rows.now = λ n e. subst (λ (m : ℕ). AreToward (g.Q.Quest.sought c.args.quest.now).net (g.Q.Quest.sought c.args.quest.now).request hops m c.in-Some.rows.now) (port_node c.as_slice.result.now c.args.translator.now.ports c.from.result c.args.port n c.as_slice.ensures c.from.ensures e) given in
+    search rules
 
-pub by_port-by_rows-2-requires-clause-toward : goal.by_port-by_rows-2-requires-clause-toward
-by_port-by_rows-2-requires-clause-toward g t c = λ node read. ?
+pub by_port-by_rows-2-requires : goal.by_port-by_rows-2-requires
+by_port-by_rows-2-requires g t c =
+    let hops = (hops_of c.args.stage.chosen) in
+    let given : AreToward (g.Q.Quest.sought c.args.quest.now).net (g.Q.Quest.sought c.args.quest.now).request hops (get_or c.as_slice.result.now c.from.result 0) c.rows.result.now = subst (λ (l : List Row). AreToward (g.Q.Quest.sought c.args.quest.now).net (g.Q.Quest.sought c.args.quest.now).request hops (get_or c.as_slice.result.now c.from.result 0) l) (sym c.rows.ensures.value) c.in_ok-rows.ensures in
+    let toward : (n : ℕ) → slice_get c.args.translator.now.ports c.args.port ≡ Some n → AreToward (g.Q.Quest.sought c.args.quest.now).net (g.Q.Quest.sought c.args.quest.now).request hops n c.rows.result.now = λ n e. subst (λ (m : ℕ). AreToward (g.Q.Quest.sought c.args.quest.now).net (g.Q.Quest.sought c.args.quest.now).request hops m c.rows.result.now) (port_node c.as_slice.result.now c.args.translator.now.ports c.from.result c.args.port n c.as_slice.ensures c.from.ensures e) given in
+    search rules
 
 pub by_rows-power-end-requires : goal.by_rows-power-end-requires
 by_rows-power-end-requires g t c = (c.requires.stage.ready.formed c.args.unit c.args.translator.now c.requires.unit).reach

@@ -1,7 +1,7 @@
 use Rattle.std.proofs.Common.{◌≡◌, ◌∙◌, ◌≤◌, List, ap, length, arith, subst, sym, IsTrue}
 use Rattle.std.proofs.lemmas.Result.{IfOk-weaker}
 use Rattle.dn_interval.specs.Rows.{AreNormal}
-use Rattle.dn_flat.specs.Levels.{ResolvesMeeting}
+use Rattle.dn_flat.specs.Levels.{ResolvesWhole}
 use Rattle.dn_placement.specs.declared.request.Request.{Request}
 use Rattle.dn_place.specs.Hops.{hops_of}
 use Rattle.dn_place.specs.Rows.{AreToward, levels_near, wanted}
@@ -25,7 +25,7 @@ returns-then-count-eq0 g c =
     let rq : Request = (g.Q.Quest.sought c.args.quest.now).request in
     let hops = hops_of c.args.hops in
     let none : length hops ≡ 0 = omega (arith, c.count.ensures, c.if-count-eq0.true) in
-    IfOk-weaker c.toward.result (λ rows. AreNormal (ResolvesMeeting net c.args.node c.wanted-target.result c.request-size.result.size) rows) (λ rows. AreToward net rq hops c.args.node rows)
+    IfOk-weaker c.toward.result (λ rows. AreNormal (ResolvesWhole net c.args.node c.wanted-target.result c.request-size.result.size) rows) (λ rows. AreToward net rq hops c.args.node rows)
     (λ rows n. buffer_toward net rq hops c.args.node rows c.wanted-target.result c.request-size.result.size none
     (c.wanted-target.ensures ∙ ap (λ (r : Request). wanted r hops) c.request.ensures) (ap (λ (r : Request). r.size) c.request-size.ensures) n)
     c.toward.ensures
