@@ -74,13 +74,7 @@ impl<
         self.flats.of(node)
     }
 
-    fn toward(
-        &self,
-        alloc: Global,
-        node: u16,
-        first: End,
-        size: u64,
-    ) -> Result<Rows, OutOfMemory> {
+    fn toward(&self, alloc: Global, node: u16, first: End, size: u64) -> Result<Rows, OutOfMemory> {
         self.flats.toward(alloc, node, first, size)
     }
 

@@ -65,13 +65,7 @@ pub(crate) trait Quest {
         ensures { IsLevels (sought self.now).net node result.now };
 
     /// Where the addresses of a node resolve to so many names from one on, one after another, and to no other.
-    fn toward(
-        &self,
-        alloc: Global,
-        node: u16,
-        first: End,
-        size: u64,
-    ) -> Result<Rows, OutOfMemory>
+    fn toward(&self, alloc: Global, node: u16, first: End, size: u64) -> Result<Rows, OutOfMemory>
         requires sound { is_sound self.now }
         requires there { node < length (sought self.now).net }
         requires some { 1 ≤ size }

@@ -89,12 +89,7 @@ pub(crate) fn made_rows<Q: Quest>(
 
 /// Where levels give names of so many from one on, as normal rows of these names. A row counts whole, also where it
 /// gives others beside them.
-fn near_rows(
-    alloc: Global,
-    levels: &[Rows],
-    target: End,
-    size: u64,
-) -> Result<Rows, OutOfMemory>
+fn near_rows(alloc: Global, levels: &[Rows], target: End, size: u64) -> Result<Rows, OutOfMemory>
     ensures { IfOk result (λ rows. AreNormal (λ a z. IsTrue
         (levels_near target size levels.now a z)) rows) }
 {
@@ -106,12 +101,7 @@ fn near_rows(
 }
 
 /// Adds where rows give such names.
-fn push_near(
-    segs: &mut Vec<Seg>,
-    rows: &Rows,
-    target: End,
-    size: u64,
-) -> Result<(), OutOfMemory>
+fn push_near(segs: &mut Vec<Seg>, rows: &Rows, target: End, size: u64) -> Result<(), OutOfMemory>
     ensures { OnOk result ((a : ℕ) (z : End) → segs_give segs.new.items a z
         ≡ (segs_give segs.old.items a z || rows_near target size rows.now a z)) }
 {

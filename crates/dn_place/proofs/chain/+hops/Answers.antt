@@ -59,11 +59,11 @@ by_port-by_rows-requires g t c =
     let toward : (n : ℕ) → slice_get c.args.translator.now.ports c.args.port ≡ Some n → AreToward (g.Q.Quest.sought c.args.quest.now).net (g.Q.Quest.sought c.args.quest.now).request hops n c.in-Some.rows.now = λ n e. subst (λ (m : ℕ). AreToward (g.Q.Quest.sought c.args.quest.now).net (g.Q.Quest.sought c.args.quest.now).request hops m c.in-Some.rows.now) (port_node c.as_slice.result.now c.args.translator.now.ports c.from.result c.args.port n c.as_slice.ensures c.from.ensures e) given in
     search rules
 
-pub by_port-by_rows-2-requires : goal.by_port-by_rows-2-requires
-by_port-by_rows-2-requires g t c =
+pub by_port-by_rows-requires-in-None : goal.by_port-by_rows-requires-in-None
+by_port-by_rows-requires-in-None g t c =
     let hops = (hops_of c.args.stage.chosen) in
-    let given : AreToward (g.Q.Quest.sought c.args.quest.now).net (g.Q.Quest.sought c.args.quest.now).request hops (get_or c.as_slice.result.now c.from.result 0) c.rows.result.now = subst (λ (l : List Row). AreToward (g.Q.Quest.sought c.args.quest.now).net (g.Q.Quest.sought c.args.quest.now).request hops (get_or c.as_slice.result.now c.from.result 0) l) (sym c.rows.ensures.value) c.in_ok-rows.ensures in
-    let toward : (n : ℕ) → slice_get c.args.translator.now.ports c.args.port ≡ Some n → AreToward (g.Q.Quest.sought c.args.quest.now).net (g.Q.Quest.sought c.args.quest.now).request hops n c.rows.result.now = λ n e. subst (λ (m : ℕ). AreToward (g.Q.Quest.sought c.args.quest.now).net (g.Q.Quest.sought c.args.quest.now).request hops m c.rows.result.now) (port_node c.as_slice.result.now c.args.translator.now.ports c.from.result c.args.port n c.as_slice.ensures c.from.ensures e) given in
+    let given : AreToward (g.Q.Quest.sought c.args.quest.now).net (g.Q.Quest.sought c.args.quest.now).request hops (get_or c.as_slice.result.now c.from.result 0) c.rows-in-None.result.now = subst (λ (l : List Row). AreToward (g.Q.Quest.sought c.args.quest.now).net (g.Q.Quest.sought c.args.quest.now).request hops (get_or c.as_slice.result.now c.from.result 0) l) (sym c.rows-in-None.ensures.value) c.in_ok-rows-in-None.ensures in
+    let toward : (n : ℕ) → slice_get c.args.translator.now.ports c.args.port ≡ Some n → AreToward (g.Q.Quest.sought c.args.quest.now).net (g.Q.Quest.sought c.args.quest.now).request hops n c.rows-in-None.result.now = λ n e. subst (λ (m : ℕ). AreToward (g.Q.Quest.sought c.args.quest.now).net (g.Q.Quest.sought c.args.quest.now).request hops m c.rows-in-None.result.now) (port_node c.as_slice.result.now c.args.translator.now.ports c.from.result c.args.port n c.as_slice.ensures c.from.ensures e) given in
     search rules
 
 pub by_rows-power-end-requires : goal.by_rows-power-end-requires
@@ -72,7 +72,7 @@ by_rows-power-end-requires g t c = (c.requires.stage.ready.formed c.args.unit c.
 pub by_rows-rows-init : goal.by_rows-rows-init
 by_rows-rows-init g t c =
     let read = port_read c.as_slice.result.now c.args.translator.now.ports c.from.result c.args.port c.as_slice.ensures c.from.ensures c.requires.port in
-    set_out _ _ _ (c.requires.toward (get_or c.as_slice.result.now c.from.result 0) read).apart
+    set_out (g.Q.Quest.sought c.args.quest.now) (to_port c.args.stage.count (hops_of c.args.stage.chosen) c.args.unit c.args.port) c.args.rows.now (c.requires.toward (get_or c.as_slice.result.now c.from.result 0) read).apart
 
 pub by_rows-is_clear-requires-clause-there : goal.by_rows-is_clear-requires-clause-there
 by_rows-is_clear-requires-clause-there g t c = rw (c.as_slice.ensures, c.from.ensures) (node_there (g.Q.Quest.sought c.args.quest.now).net c.args.port c.args.translator.now (c.requires.stage.ready.formed c.args.unit c.args.translator.now c.requires.unit) c.requires.port)

@@ -6,5 +6,5 @@ use Rattle.dn_place.proofs.whole.by_agent.Goals as goal
 
 pub by_rows-requires-clause-toward : goal.by_rows-requires-clause-toward
 by_rows-requires-clause-toward g c =
-    subst (λ (r : Request). AreToward (g.Q.Quest.sought c.args.quest.now).net (g.Q.Quest.sought c.args.quest.now).request (hops_of c.args.hops) r.agent c.in-Some.rows.now) c.request.ensures
-    (c.in-Some.ensures (g.Q.Quest.sought c.args.quest.now).net (g.Q.Quest.sought c.args.quest.now).request c.request.result.agent c.levels.ensures)
+    subst (λ (r : Request). AreToward (g.Q.Quest.sought c.args.quest.now).net (g.Q.Quest.sought c.args.quest.now).request (hops_of c.args.hops) r.agent c.in-Some.rows.now) c.request-agent.ensures
+    (c.in-Some.ensures (g.Q.Quest.sought c.args.quest.now).net (g.Q.Quest.sought c.args.quest.now).request c.request-agent.result.agent c.levels.ensures)
