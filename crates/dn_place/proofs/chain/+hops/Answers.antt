@@ -1,4 +1,4 @@
-use Rattle.std.proofs.Common.{◌≡◌, ℕ, suc, true, false, List, Some, ◌+◌, ◌-◌, ◌*◌, ◌^◌, ◌<◌, ◌≤◌, arith, length, refl, subst, sym, ap, ◌∙◌, rules, get_or, slice_get}
+use Rattle.std.proofs.Common.{◌≡◌, ℕ, suc, List, Some, ◌+◌, ◌-◌, ◌*◌, ◌^◌, ◌<◌, ◌≤◌, arith, length, refl, subst, sym, ap, ◌∙◌, rules, get_or, slice_get}
 use Rattle.std.proofs.lemmas.Nat.{pow_pos}
 use Rattle.std.proofs.Math.Nat.{mod-mod, mod-le}
 use Rattle.dn_interval.specs.declared.row.Row.{Row}

@@ -1,4 +1,4 @@
-use Rattle.std.proofs.Common.{◌≡◌, ap, ◌∙◌, sym, true, List, Some, rules, subst}
+use Rattle.std.proofs.Common.{◌≡◌, ap, ◌∙◌, sym, List, Some, rules, subst}
 use Rattle.dn_interval.specs.declared.row.Row.{Row}
 use Rattle.dn_placement.specs.declared.request.Request.{Request}
 use Rattle.dn_flat.specs.Levels.{IsLevels, levels_give}

@@ -1,4 +1,4 @@
-use Rattle.std.proofs.Common.{◌≡◌, ◌∙◌, ◌+◌, List, ap, drop}
+use Rattle.std.proofs.Common.{◌∙◌, ◌+◌, List, ap, drop}
 use Rattle.dn_base.proofs.Lists.{drop_at}
 use Rattle.dn_interval.specs.declared.row.Row.{Row}
 use Rattle.dn_flat.specs.Levels.{levels_give}

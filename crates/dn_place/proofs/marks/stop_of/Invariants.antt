@@ -1,5 +1,5 @@
 -- The levels so far give nothing.
-use Rattle.std.proofs.Common.{◌≡◌, ℕ, drop}
+use Rattle.std.proofs.Common.{◌≡◌, drop}
 use Rattle.dn_interval.specs.declared.row.End.{End}
 use Rattle.dn_flat.specs.Levels.{levels_give}
 use Rattle.dn_place.proofs.marks.stop_of.Given as goal

@@ -1,4 +1,4 @@
-use Rattle.std.proofs.Common.{◌≡◌, List, subst, sym}
+use Rattle.std.proofs.Common.{List, subst, sym}
 use Rattle.dn_interval.specs.declared.row.Row.{Row}
 use Rattle.dn_flat.specs.Levels.{levels_give}
 use Rattle.dn_place.specs.declared.hops.Hops.{Hops}

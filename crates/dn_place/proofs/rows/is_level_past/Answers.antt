@@ -1,4 +1,4 @@
-use Rattle.std.proofs.Common.{◌≡◌, ◌∙◌, true, List, ap, sym, subst}
+use Rattle.std.proofs.Common.{◌∙◌, List, ap, sym}
 use Rattle.std.specs.List.{list_all}
 use Rattle.dn_interval.specs.declared.row.Row.{Row}
 use Rattle.dn_place.specs.Rows.{is_past}

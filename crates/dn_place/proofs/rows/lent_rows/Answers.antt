@@ -1,4 +1,4 @@
-use Rattle.std.proofs.Common.{◌≡◌, ◌∙◌, ◌≤◌, List, length, arith, subst, sym}
+use Rattle.std.proofs.Common.{◌∙◌, ◌≤◌, List, length, arith, subst, sym}
 use Rattle.dn_interval.specs.declared.row.Row.{Row}
 use Rattle.dn_place.specs.Hops.{hops_of}
 use Rattle.dn_place.specs.Rows.{AreToward}
