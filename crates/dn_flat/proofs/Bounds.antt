@@ -1,9 +1,11 @@
 -- Chains of fewer than so many steps, where none is longer: resolution, and the stops.
-use Rattle.std.proofs.Common.{◌≡◌, ℕ, ◌<◌, ◌≤◌, ◌⊎◌, ◌↔◌, inl, inr, Bool, List, [], ◌∷◌, length, refl, arith}
+use Rattle.std.proofs.Common.{◌≡◌, ℕ, ◌<◌, ◌≤◌, ◌⊎◌, ◌↔◌, inl, inr, Bool, true, List, [], refl, sym, ap, ◌∙◌, length, arith}
+use Rattle.std.proofs.lemmas.Bool.{false≢true}
 use Rattle.dn_interval.specs.declared.row.End.{End}
-use Rattle.dn_interval.specs.declared.row.Row.{Row}
+use Rattle.dn_interval.specs.declared.row.Seg.{Seg}
 use Rattle.dn_interval.specs.declared.span.TheConstants.{TOP}
 use Rattle.dn_interval.specs.Rows.{AreNormal}
+use Rattle.dn_interval.specs.Strands.{segs_give}
 use Rattle.dn_net.specs.declared.node.Name.{Name}
 use Rattle.dn_net.specs.declared.node.NodeDecl.{NodeDecl}
 use Rattle.dn_net.specs.Chain.{IsChain, Ends}
@@ -43,10 +45,9 @@ module _ (net : List NodeDecl) (passes : Name → Bool) (k node a : ℕ) (y : En
   pub ended_level : k ≤ 66 → ((z : Name) → IsChain (Step net) k here z → ⊥) → EndsBefore net passes k node a y ↔ Ends (steps net) passes step_limit here (name_of_end y)
   ended_level m none = ends_are (λ j l c. omega arith) (long_ends none)
 
--- rows that are none say that nothing goes on
-pub none_goes : (net : List NodeDecl) (k node : ℕ) (rows : List Row) → rows ≡ [] → AreNormal (GoesIn net k node) rows → (a : ℕ) → a ≤ TOP → (z : Name) → IsChain (Step net) k (record { node = node; addr = a }) z → ⊥
-none_goes net k node [] e n a low z c = (n.exact a (end_of z) low).0 c
-none_goes net k node (r ∷ rows) e n a low z c = cc
+-- segments that are none say that nothing goes on
+pub none_goes : (net : List NodeDecl) (k node : ℕ) (segs : List Seg) → segs ≡ [] → ((a : ℕ) (y : End) → a ≤ TOP → (segs_give segs a y ≡ true) ↔ GoesIn net k node a y) → (a : ℕ) → a ≤ TOP → (z : Name) → IsChain (Step net) k (record { node = node; addr = a }) z → ⊥
+none_goes net k node segs e go a low z c = false≢true (sym (ap (λ s. segs_give s a (end_of z)) e) ∙ (go a (end_of z) low).1 c)
 
 -- rows of what a node resolves to, and of its stops, are its flattened view
 pub flat_is : (net : List NodeDecl) (node : ℕ) (flat : Flat) → AreNormal (ResolvesFrom net node) flat.accepts → AreNormal (StopsFrom net node) flat.stops → IsFlat net node flat

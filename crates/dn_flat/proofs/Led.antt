@@ -1,4 +1,4 @@
--- A node whose addresses all go on to those of another sees what that one sees.
+-- A node whose addresses all go on to those of another reaches what that one reaches.
 use Rattle.std.proofs.Common.{◌≡◌, ◌∙◌, ℕ, zero, suc, ◌+◌, ◌-◌, ◌<◌, ◌≤◌, ◌⊎◌, ◌↔◌, inl, inr, Bool, List, [], ◌∷◌, ◌++◌, map, length, get_or, slice_get, Option, Some, None, IfSome, refl, sym, ap, subst, arith, IsTrue}
 use Rattle.std.proofs.lemmas.Option.{slice_get-get_or}
 use Rattle.dn_interval.specs.declared.row.End.{End}
@@ -6,20 +6,20 @@ use Rattle.dn_interval.specs.declared.row.Row.{Row}
 use Rattle.dn_interval.specs.declared.span.TheConstants.{TOP}
 use Rattle.dn_interval.specs.Rows.{AreNormal, GivenBy, Member, moved}
 use Rattle.dn_interval.proofs.Membership.{in_from}
-use Rattle.dn_interval.proofs.Normal.{normal_like}
 use Rattle.dn_net.specs.declared.node.Name.{Name}
 use Rattle.dn_net.specs.declared.node.NodeDecl.{NodeDecl}
-use Rattle.dn_net.specs.Chain.{IsChain, Ends}
+use Rattle.dn_net.specs.Chain.{IsChain, Ends, ReachesWithin}
 use Rattle.dn_net.specs.Decode.{Step, steps, step_limit, is_accepted, is_stop}
 use Rattle.dn_net.specs.Legal.{IsLegalNet}
 use Rattle.dn_net.proofs.Chains.{chain_front}
-use Rattle.dn_flat.specs.declared.flat.Flat.{Flat}
+use Rattle.dn_flat.specs.declared.levels.Levels.{Levels}
 use Rattle.dn_flat.specs.declared.reach.Reach.{Reach}
-use Rattle.dn_flat.specs.Shared.{no_flat}
-use Rattle.dn_flat.specs.Stages.{EndsBefore, GoesIn, IsReach, AreReaches, IsFlat, IsLedBy, IsLedTo, AreFlatsBelow}
-use Rattle.dn_flat.specs.Views.{name_of_end, end_of, ResolvesFrom, StopsFrom}
-use Rattle.dn_flat.proofs.Bounds.{limit_is, flat_is}
-use Rattle.dn_flat.proofs.Lists.{each_pushed, length_pushed}
+use Rattle.dn_flat.specs.Levels.{AreLevelsBelow, IsLevels}
+use Rattle.dn_flat.specs.Shared.{no_levels}
+use Rattle.dn_flat.specs.Stages.{EndsBefore, GoesIn, IsReach, AreReaches, IsLedBy, IsLedTo}
+use Rattle.dn_flat.specs.Views.{name_of_end, end_of}
+use Rattle.dn_flat.proofs.Bounds.{limit_is}
+use Rattle.dn_flat.proofs.Lists.{each_pushed, length_pushed, means_then}
 
 pub one_item : (xs : List Row) (x : Row) → 1 ≤ length xs → length xs < 2 → x ≡ get_or xs 0 x → xs ≡ x ∷ []
 one_item [] x l m is = absurd (omega arith)
@@ -78,49 +78,53 @@ module _ (net : List NodeDecl) (legal : IsLegalNet net) (node other : ℕ) (reac
       let c : GoesIn net 1 node a (end_in other a) = (is.go.exact a (end_in other a) low).1 (one_from reach.go led.row other a led.go led.lo led.hi led.ends low) in
       subst (λ w. Step net (here a) w) c.2 c.1
 
-  module _ (passes : Name → Bool) (a : ℕ) (y : End) (low : a ≤ TOP) (nothing : EndsBefore net passes 1 node a y → ⊥) where
-    on : Ends (steps net) passes step_limit (there a) (name_of_end y) → Ends (steps net) passes step_limit (here a) (name_of_end y)
-    on h = by (cases_le h.1.0 65)
-      where
-        by : (h.1.0 < 65) ⊎ (65 ≤ h.1.0) → Ends (steps net) passes step_limit (here a) (name_of_end y)
-        by (inl l) = let e : step_limit ≡ 65 = limit_is in (h.0, (suc h.1.0, omega arith, (there a, step_from a low, h.1.2)))
-        by (inr l) =
-            let e : step_limit ≡ 65 = limit_is in
-            let f = chain_front (Step net) step_limit h.1.0 (there a) (name_of_end y) (omega arith) h.1.2 in
-            absurd (legal.walks.shallow (there a) f.0 f.1)
+  on : (a : ℕ) (y : Name) → a ≤ TOP → ReachesWithin (Step net) step_limit (there a) y → ReachesWithin (Step net) step_limit (here a) y
+  on a y low h = by (cases_le h.0 65)
+    where
+      by : (h.0 < 65) ⊎ (65 ≤ h.0) → ReachesWithin (Step net) step_limit (here a) y
+      by (inl l) = let e : step_limit ≡ 65 = limit_is in (suc h.0, omega arith, (there a, step_from a low, h.2))
+      by (inr l) =
+          let e : step_limit ≡ 65 = limit_is in
+          let f = chain_front (Step net) step_limit h.0 (there a) y (omega arith) h.2 in
+          absurd (legal.walks.shallow (there a) f.0 f.1)
 
+  module _ (passes : Name → Bool) (a : ℕ) (y : End) (low : a ≤ TOP) (nothing : EndsBefore net passes 1 node a y → ⊥) where
     back : (k : ℕ) → k ≤ step_limit → IsTrue (passes (name_of_end y)) → IsChain (Step net) k (here a) (name_of_end y) → Ends (steps net) passes step_limit (there a) (name_of_end y)
     back zero l p c = absurd (nothing (p, (0, omega arith, c)))
     back (suc k) l p c = (p, (k, omega arith, subst (λ w. IsChain (Step net) k w (name_of_end y)) (sym (step_to a c.0 low c.1)) c.2))
 
     led_ends : Ends (steps net) passes step_limit (there a) (name_of_end y) ↔ Ends (steps net) passes step_limit (here a) (name_of_end y)
-    led_ends = (on, (λ h. back h.1.0 h.1.1 h.0 h.1.2))
+    led_ends = ((λ h. (h.0, on a (name_of_end y) low h.1)), (λ h. back h.1.0 h.1.1 h.0 h.1.2))
 
-  pub same_flat : (flat : Flat) → IsFlat net other flat → IsFlat net node flat
-  same_flat flat f =
-      let accepts = normal_like (ResolvesFrom net other) (ResolvesFrom net node) flat.accepts (λ a y t. led_ends (is_accepted net) a y t (none_given (EndsBefore net (is_accepted net) 1 node) reach.done.accepts led.accepts is.done.accepts a y t)) f.accepts in
-      let stops = normal_like (StopsFrom net other) (StopsFrom net node) flat.stops (λ a y t. led_ends (is_stop net) a y t (none_given (EndsBefore net (is_stop net) 1 node) reach.done.stops led.stops is.done.stops a y t)) f.stops in
-      flat_is net node flat accepts stops
+  pub same_levels : (levels : Levels) → IsLevels net other levels → IsLevels net node levels
+  same_levels levels f = record {
+    reached = record {
+      reached = λ a y low e. on a (name_of_end y) low (f.reached.reached a y low e);
+      accepted = λ a y low h. f.reached.accepted a y low ((led_ends (is_accepted net) a y low (none_given (EndsBefore net (is_accepted net) 1 node) reach.done.accepts led.accepts is.done.accepts a y low)).1 h);
+    };
+    stops = λ a y t. means_then (f.stops a y t) (led_ends (is_stop net) a y t (none_given (EndsBefore net (is_stop net) 1 node) reach.done.stops led.stops is.done.stops a y t));
+    stops_within = f.stops_within;
+  }
 
 -- one node more
 
-none_at : (net : List NodeDecl) (m : ℕ) (flat : Flat) → ◌≡◌ {A = Option Flat} (slice_get [] m) (Some flat) → IsFlat net m flat
-none_at net zero flat e = cc
-none_at net (suc m) flat e = cc
+none_at : (net : List NodeDecl) (m : ℕ) (levels : Levels) → ◌≡◌ {A = Option Levels} (slice_get [] m) (Some levels) → IsLevels net m levels
+none_at net zero levels e = cc
+none_at net (suc m) levels e = cc
 
-pub none_below : (net : List NodeDecl) → AreFlatsBelow net 0 []
+pub none_below : (net : List NodeDecl) → AreLevelsBelow net 0 []
 none_below net = record { every = refl; each = none_at net }
 
-pub one_below : (net : List NodeDecl) (node : ℕ) (flats : List Flat) (flat : Flat) → AreFlatsBelow net node flats → IsFlat net node flat → AreFlatsBelow net (node + 1) (flats ++ flat ∷ [])
-one_below net node flats flat below is = record {
-  every = length_pushed flats flat node below.every;
-  each = each_pushed (IsFlat net) flats flat below.each (subst (λ n. IsFlat net n flat) (sym below.every) is);
+pub one_below : (net : List NodeDecl) (node : ℕ) (all : List Levels) (levels : Levels) → AreLevelsBelow net node all → IsLevels net node levels → AreLevelsBelow net (node + 1) (all ++ levels ∷ [])
+one_below net node all levels below is = record {
+  every = length_pushed all levels node below.every;
+  each = each_pushed (IsLevels net) all levels below.each (subst (λ n. IsLevels net n levels) (sym below.every) is);
 }
 
-pub shared_below : (net : List NodeDecl) → IsLegalNet net → (nodes : List Reach) → AreReaches net 1 nodes → (node other : ℕ) → node < length net → other < node → ((reach : Reach) → slice_get nodes node ≡ Some reach → IsLedTo other reach) → (flats new : List Flat) → AreFlatsBelow net node flats → ((flat : Flat) → slice_get flats other ≡ Some flat → new ≡ flats ++ flat ∷ []) → AreFlatsBelow net (node + 1) new
-shared_below net legal nodes are node other l m led flats new below is =
-    let every : length flats ≡ node = below.every in
-    let all : length nodes ≡ length net = are.every in
-    let at = slice_get-get_or flats other no_flat (omega arith) in
-    let from = slice_get-get_or nodes node (record { done = no_flat; go = [] }) (omega arith) in
-    subst (AreFlatsBelow net (node + 1)) (sym (is _ at)) (one_below net node flats _ below (same_flat net legal node other _ (are.each node _ from) (led _ from) _ (below.each other _ at)))
+pub shared_below : (net : List NodeDecl) → IsLegalNet net → (nodes : List Reach) → AreReaches net 1 nodes → (node other : ℕ) → node < length net → other < node → ((reach : Reach) → slice_get nodes node ≡ Some reach → IsLedTo other reach) → (all new : List Levels) → AreLevelsBelow net node all → ((levels : Levels) → slice_get all other ≡ Some levels → new ≡ all ++ levels ∷ []) → AreLevelsBelow net (node + 1) new
+shared_below net legal nodes are node other l m led all new below is =
+    let every : length all ≡ node = below.every in
+    let there : length nodes ≡ length net = are.every in
+    let at = slice_get-get_or all other no_levels (omega arith) in
+    let from = slice_get-get_or nodes node (record { done = record { accepts = []; stops = [] }; go = [] }) (omega arith) in
+    subst (AreLevelsBelow net (node + 1)) (sym (is _ at)) (one_below net node all _ below (same_levels net legal node other _ (are.each node _ from) (led _ from) _ (below.each other _ at)))

@@ -37,6 +37,24 @@ module _ (net : List NodeDecl) (j k node a : ℕ) (z : End) where
         (λ h. elim (s.1 h.1) [ inl b ↦ inl (h.0, b) | inr b ↦ inr (end_of b.0, b.1, (h.0, b.2)) ]),
       )
 
+  -- what is reached in fewer than j steps, and what names that are reached in j come to in fewer than k
+  pub ends_by : (passes : Name → Bool) (old new more : Bool) → ((more ≡ true) ↔ ((y : End) × GoesIn net j node a y × EndsBefore net passes k y.node y.base z)) → ((old ≡ true) ↔ EndsBefore net passes j node a z) → new ≡ (old || more) → (new ≡ true) ↔ EndsBefore net passes (j + k) node a z
+  ends_by passes old new more on was is = (to, from)
+    where
+      to : new ≡ true → EndsBefore net passes (j + k) node a z
+      to e = by (or_cases old more (sym is ∙ e))
+        where
+          by : (old ≡ true) ⊎ (more ≡ true) → EndsBefore net passes (j + k) node a z
+          by (inl o) = (ends_sum passes).0 (inl (was.0 o))
+          by (inr o) = (ends_sum passes).0 (inr (on.0 o))
+
+      from : EndsBefore net passes (j + k) node a z → new ≡ true
+      from h = is ∙ by ((ends_sum passes).1 h)
+        where
+          by : EndsBefore net passes j node a z ⊎ ((y : End) × GoesIn net j node a y × EndsBefore net passes k y.node y.base z) → (old || more) ≡ true
+          by (inl b) = or_left old more (was.1 b)
+          by (inr b) = or_right old more (on.1 b)
+
 module _ (net : List NodeDecl) (k : ℕ) (nodes : List Reach) (are : AreReaches net k nodes) (j node : ℕ) (rows : List Row) (normal : AreNormal (GoesIn net j node) rows) (fit : All EndsFit rows) (there : ends_within (length nodes) rows ≡ true) where
   -- where the rows go on by the rows for k steps
   pub goes_on : (old new : Bool) (a : ℕ) (z : End) → a ≤ TOP → old ≡ false → new ≡ (old || rows_go (gives_by (λ (r : Reach). r.go) nodes) rows a z) → (new ≡ true) ↔ GoesIn net (j + k) node a z
@@ -48,27 +66,7 @@ module _ (net : List NodeDecl) (k : ℕ) (nodes : List Reach) (are : AreReaches 
 
   -- what they come to by the rows for fewer than k steps, beside what is reached in fewer than j
   ends_on : (passes : Name → Bool) (f : Reach → List Row) → ((m : ℕ) (r : Reach) → slice_get nodes m ≡ Some r → AreNormal (EndsBefore net passes k m) (f r)) → (old new : Bool) (a : ℕ) (z : End) → a ≤ TOP → ((old ≡ true) ↔ EndsBefore net passes j node a z) → new ≡ (old || rows_go (gives_by f nodes) rows a z) → (new ≡ true) ↔ EndsBefore net passes (j + k) node a z
-  ends_on passes f each old new a z low was is = (to, from)
-    where
-      more : Bool
-      more = rows_go (gives_by f nodes) rows a z
-
-      on : (rows_go (gives_by f nodes) rows a z ≡ true) ↔ ((y : End) × GoesIn net j node a y × EndsBefore net passes k y.node y.base z)
-      on = composed f nodes (EndsBefore net passes k) each (GoesIn net j node) rows normal fit there a z low
-
-      to : new ≡ true → EndsBefore net passes (j + k) node a z
-      to e = by (or_cases old (rows_go (gives_by f nodes) rows a z) (sym is ∙ e))
-        where
-          by : (old ≡ true) ⊎ (rows_go (gives_by f nodes) rows a z ≡ true) → EndsBefore net passes (j + k) node a z
-          by (inl o) = (ends_sum net j k node a z passes).0 (inl (was.0 o))
-          by (inr o) = (ends_sum net j k node a z passes).0 (inr (on.0 o))
-
-      from : EndsBefore net passes (j + k) node a z → new ≡ true
-      from h = is ∙ by ((ends_sum net j k node a z passes).1 h)
-        where
-          by : EndsBefore net passes j node a z ⊎ ((y : End) × GoesIn net j node a y × EndsBefore net passes k y.node y.base z) → (old || rows_go (gives_by f nodes) rows a z) ≡ true
-          by (inl b) = or_left old (rows_go (gives_by f nodes) rows a z) (was.1 b)
-          by (inr b) = or_right old (rows_go (gives_by f nodes) rows a z) (on.1 b)
+  ends_on passes f each old new a z low was is = ends_by net j k node a z passes old new (rows_go (gives_by f nodes) rows a z) (composed f nodes (EndsBefore net passes k) each (GoesIn net j node) rows normal fit there a z low) was is
 
   pub accepts_on : (old new : Bool) (a : ℕ) (z : End) → a ≤ TOP → ((old ≡ true) ↔ EndsBefore net (is_accepted net) j node a z) → new ≡ (old || rows_go (gives_by (λ (r : Reach). r.done.accepts) nodes) rows a z) → (new ≡ true) ↔ EndsBefore net (is_accepted net) (j + k) node a z
   accepts_on = ends_on (is_accepted net) (λ (r : Reach). r.done.accepts) (λ m r e. (are.each m r e).done.accepts)
@@ -81,7 +79,7 @@ pub normal_of : (f : ℕ → End → Type 0) (segs : List Seg) (rows : List Row)
 normal_of f segs rows same n = normal_like (SegmentsGive segs) f rows (λ a y t. ((λ m. (same a y t).0 (segs_from segs a y m)), (λ h. segs_to segs a y ((same a y t).1 h)))) n
 
 -- all addresses of a node, by its rows: what these give
-whole_goes : (s : Seg) (rows : List Row) (a : ℕ) (z : End) → s.base ≡ 0 → s.span.lo ≡ 0 → s.span.hi ≡ TOP → a ≤ TOP → seg_goes rows s a z ≡ rows_give rows a z
+pub whole_goes : (s : Seg) (rows : List Row) (a : ℕ) (z : End) → s.base ≡ 0 → s.span.lo ≡ 0 → s.span.hi ≡ TOP → a ≤ TOP → seg_goes rows s a z ≡ rows_give rows a z
 whole_goes s rows a z base lo hi low =
     let at : s.base + (a - s.span.lo) ≡ a = omega arith in
     ap (λ t. t && rows_give rows (s.base + (a - s.span.lo)) z) (in_from s.span a (omega arith) (omega arith)) ∙ ap (λ n. rows_give rows n z) at

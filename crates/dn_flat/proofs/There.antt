@@ -7,7 +7,9 @@ use Rattle.dn_interval.specs.declared.row.End.{End}
 use Rattle.dn_interval.specs.declared.row.Row.{Row}
 use Rattle.dn_interval.specs.declared.span.TheConstants.{TOP}
 use Rattle.dn_interval.specs.Rows.{Member as Named, GivenBy, AreNormal, ends_within}
-use Rattle.dn_interval.proofs.Membership.{in_from}
+use Rattle.dn_interval.specs.Strands.{rows_give}
+use Rattle.dn_interval.proofs.Membership.{in_from, or_left, or_right}
+use Rattle.dn_interval.proofs.Names.{rows_from}
 use Rattle.dn_interval.proofs.Normal.{member_moved}
 use Rattle.dn_net.specs.declared.node.Name.{Name}
 use Rattle.dn_net.specs.declared.node.NodeDecl.{NodeDecl}
@@ -18,6 +20,7 @@ use Rattle.dn_net.specs.Walks.{Choice, Follows, moved_name}
 use Rattle.dn_net.proofs.Choices.{chain_is_walk}
 use Rattle.dn_net.proofs.Legs.{leads_within}
 use Rattle.dn_net.proofs.Steps.{node_at}
+use Rattle.dn_flat.specs.Levels.{levels_give}
 use Rattle.dn_flat.specs.Stages.{GoesIn}
 use Rattle.dn_flat.specs.Views.{name_of_end}
 
@@ -37,6 +40,11 @@ rows_there count (r ∷ rs) f = rw (ends_there count r.ends here, rows_there cou
 
 pub names_are_there : (count : ℕ) (f : ℕ → End → Type 0) (rows : List Row) → AreNormal f rows → ((a : ℕ) (y : End) → f a y → y.node < count) → ends_within count rows ≡ true
 names_are_there count f rows n g = rows_there count rows (λ a y t h. g a y ((n.exact a y t).1 h))
+
+-- so it is of layers
+pub layers_there : (count : ℕ) (layers : List (List Row)) → ((a : ℕ) (y : End) → a ≤ TOP → levels_give layers a y ≡ true → y.node < count) → list_all (λ rows. ends_within count rows) layers ≡ true
+layers_there count [] f = refl
+layers_there count (rows ∷ rest) f = rw (rows_there count rows (λ a y t g. f a y t (or_left (rows_give rows a y) (levels_give rest a y) (rows_from rows a y g))), layers_there count rest (λ a y t g. f a y t (or_right (rows_give rows a y) (levels_give rest a y) g))) refl
 
 -- a name that is accepted, or a stop, is in a node that is there
 

@@ -1,6 +1,8 @@
-pub mod Added
 pub mod Firsts
+pub mod Levels
+pub mod Onward
 pub mod Shared
 pub mod Stages
+pub mod Stretches
 pub mod Terms
 pub mod Views

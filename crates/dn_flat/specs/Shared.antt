@@ -1,11 +1,11 @@
--- What nodes see where some share it.
+-- What nodes reach where some share it.
 use Rattle.std.specs.Prelude.{ℕ, List, [], slice_get, unwrap_or}
-use Rattle.dn_flat.specs.declared.flat.Flat.{Flat}
+use Rattle.dn_flat.specs.declared.levels.Levels.{Levels}
 
 -- nothing
-abbrev pub no_flat : Flat
-no_flat = record { accepts = []; stops = [] }
+abbrev pub no_levels : Levels
+no_levels = record { reached = []; stops = [] }
 
 -- what stands at a place
-abbrev pub flat_at : List Flat → ℕ → Flat
-flat_at made p = unwrap_or (slice_get made p) no_flat
+abbrev pub levels_at : List Levels → ℕ → Levels
+levels_at made p = unwrap_or (slice_get made p) no_levels

@@ -56,11 +56,6 @@ pub record IsFlat (net : List NodeDecl) (node : ℕ) (flat : Flat) : Type 0 wher
   pub within : IsTrue (ends_within (length net) flat.accepts)
   pub stops_within : IsTrue (ends_within (length net) flat.stops)
 
--- there is one for each node below this one
-pub record AreFlatsBelow (net : List NodeDecl) (node : ℕ) (flats : List Flat) : Type 0 where
-  pub every : length flats ≡ node
-  pub each : (m : ℕ) (flat : Flat) → slice_get flats m ≡ Some flat → IsFlat net m flat
-
 -- a row leads each address to that address of another node
 pub record IsLedBy (other : ℕ) (row : Row) : Type 0 where
   pub lo : row.span.lo ≡ 0
@@ -75,8 +70,3 @@ pub record IsLedTo (other : ℕ) (reach : Reach) : Type 0 where
   pub go : reach.go ≡ row ∷ []
   pub led : IsLedBy other row
   pub open led use *
-
--- there is one for each node
-pub record AreFlats (net : List NodeDecl) (flats : List Flat) : Type 0 where
-  pub every : length flats ≡ length net
-  pub each : (node : ℕ) (flat : Flat) → slice_get flats node ≡ Some flat → IsFlat net node flat

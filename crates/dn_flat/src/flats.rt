@@ -1,121 +1,175 @@
-//! The flattened views of all nodes of a net.
+//! What all nodes of a net reach, and the accepted names to which they come by it.
 
-ghost use Rattle.std.specs.Prelude.{◌≡◌, ◌+◌, ◌<◌, ◌++◌, [], ◌∷◌, List, IfOk, OnOk, IsTrue, Some, length, slice_get};
+ghost use Rattle.std.specs.Prelude.{◌≡◌, ℕ, ◌+◌, ◌-◌, ◌<◌, ◌≤◌, ◌&&◌, ◌||◌, List, IfOk, OnOk, IsTrue, Some, length, slice_get};
+ghost use Rattle.dn_interval.specs.declared.row.End.{End};
+ghost use Rattle.dn_interval.specs.declared.row.Seg.{Seg};
+ghost use Rattle.dn_interval.specs.declared.span.TheConstants.{TOP};
+ghost use Rattle.dn_interval.specs.Terms.{AreNormal, in_span, segs_give};
+ghost use Rattle.dn_net.specs.declared.node.NodeDecl.{NodeDecl};
 ghost use Rattle.dn_net.specs.Terms.{IsLegalNet};
 ghost use Rattle.dn_walk.specs.Terms.{AreWalksOf};
 ghost use Rattle.dn_flat.specs.declared.flat.Flat.{Flat};
-ghost use Rattle.dn_flat.specs.Terms.{AreFlats, AreFlatsBelow, IsStage};
+ghost use Rattle.dn_flat.specs.Terms.{AreFlats, AreLevelsBelow, IsFlat, IsStage, ResolvesFrom, ResolvesWhole, levels_give, shows, stops_in};
 
-use crate::flat::Flat;
+use crate::levels::{Levels, push_given, push_shown, shown_segs};
+use crate::shared::Shared;
 use crate::stage::{Stage, first_stage};
+use crate::stretches::{alone_segs, led_stretches, near_segs};
 use dn_base::OutOfMemory;
+use dn_interval::{End, Rows, Seg, strands_of};
 use dn_net::net::Net;
 use dn_walk::walks::WalkTable;
 use std::alloc::Global;
 use std::marker::Model;
 
-/// What each node of a net sees. Contracts see the list of these, in the order of the nodes. Nodes that are known to
-/// see the same share it.
+/// What each node of a net reaches, and what it comes to in one step. No row stands for each accept block that is
+/// reached, since there are as many as walks times blocks: they are made for the addresses that are asked for.
 #[derive(Drop)]
 pub struct Flats {
-    /// What was made.
-    made: Vec<Flat>,
-    /// For each node the place of what it sees.
-    places: Vec<usize>,
+    nodes: Shared,
+    stage: Stage,
 }
 
 impl Model for Flats {
-    ghost use Rattle.std.specs.Prelude.{List, length, map, nat_lt, IsTrue};
-    ghost use Rattle.std.specs.List.{list_all};
-    ghost use Rattle.dn_flat.specs.declared.flat.Flat.{Flat};
-    ghost use Rattle.dn_flat.specs.Shared.{flat_at};
+    ghost use Rattle.dn_flat.specs.Levels.{FlatsView};
 
-    ghost Value = { List Flat };
+    ghost Value = { FlatsView };
 
-    ghost view = { λ s. map (flat_at s.made.items) s.places.items };
-
-    ghost invariant = { λ s. IsTrue (list_all (λ p. nat_lt p (length s.made.items)) s.places.items) };
+    ghost view = { λ s. record { nodes = s.nodes; stage = s.stage } };
 }
 
 impl Flats {
-    /// What no node sees, since there is none.
-    fn new(alloc: Global) -> Flats
-        ensures { result ≡ [] }
+    /// What a node reaches.
+    pub fn of(&self, node: u16) -> &Levels
+        requires { node < length self.now.nodes }
+        ensures { slice_get self.now.nodes node ≡ Some result.now }
     {
-        Flats {
-            made: Vec::new(alloc),
-            places: Vec::new(alloc),
-        }
+        self.nodes.of(node)
     }
 
-    /// What a node sees.
-    pub fn of(&self, node: u16) -> &Flat
-        requires { node < length self.now }
-        ensures { slice_get self.now node ≡ Some result.now }
+    /// Whether two nodes are known to see the same: what the one sees is then what the other sees. `false` says
+    /// nothing.
+    pub fn is_shared(&self, node: u16, other: u16) -> bool
+        requires node { node < length self.now.nodes }
+        requires other { other < length self.now.nodes }
+        ensures { IsTrue result → (net : List NodeDecl) (flat : Flat) → AreFlats net self.now
+            → IsFlat net node flat → IsFlat net other flat }
     {
-        let place = self.places[usize::from(node)];
-        match self.made.get(place) {
-            Some(flat) => flat,
-            None => unreachable!(),
-        }
+        self.nodes.is_shared(node, other)
     }
 
-    /// Adds what the next node sees.
-    fn push(&mut self, flat: Flat) -> Result<(), OutOfMemory>
-        ensures { OnOk result (self.new ≡ self.old ++ flat ∷ []) }
+    /// Adds the accepted names to which the names of a segment come. `mid` is room for names on the way: one that is
+    /// kept from call to call spares its memory. Time of the levels of the node, and of what is added.
+    pub fn push_accepted(
+        &self,
+        segs: &mut Vec<Seg>,
+        mid: &mut Vec<Seg>,
+        seg: Seg,
+    ) -> Result<(), OutOfMemory>
+        requires { seg.node < length self.now.nodes }
+        ensures { OnOk result ((a : ℕ) (z : End) → segs_give segs.new.items a z
+            ≡ (segs_give segs.old.items a z || (in_span seg.span a
+            && shows self.now seg.node (seg.base + (a - seg.span.lo)) z))) }
     {
-        let place = self.made.len();
-        self.made.push(flat)?;
-        self.places.push(place)?;
-        Ok(())
+        let levels = self.of(seg.node).reached.as_slice();
+        push_shown(segs, mid, self.stage.reaches(), levels, seg)
     }
 
-    /// Adds a next node that sees what one before it sees.
-    fn share(&mut self, other: u16) -> Result<(), OutOfMemory>
-        requires { other < length self.old }
-        ensures { OnOk result ((flat : Flat) → slice_get self.old other ≡ Some flat
-            → self.new ≡ self.old ++ flat ∷ []) }
+    /// Adds the names in units to which the names of a segment come. Time of the layers of the node's stops, and of
+    /// what is added.
+    pub fn push_stops(&self, segs: &mut Vec<Seg>, seg: Seg) -> Result<(), OutOfMemory>
+        requires { seg.node < length self.now.nodes }
+        ensures { OnOk result ((a : ℕ) (z : End) → segs_give segs.new.items a z
+            ≡ (segs_give segs.old.items a z || (in_span seg.span a && levels_give
+            (stops_in (slice_get self.now.nodes seg.node)) (seg.base + (a - seg.span.lo)) z))) }
     {
-        let place = self.places[usize::from(other)];
-        self.places.push(place)?;
-        Ok(())
+        let layers = self.of(seg.node).stops.as_slice();
+        push_given(segs, layers, seg)
+    }
+
+    /// The accepted names to which the addresses of a node come, as segments.
+    pub fn accepted(&self, alloc: Global, node: u16) -> Result<Vec<Seg>, OutOfMemory>
+        requires { node < length self.now.nodes }
+        ensures { IfOk result (λ segs. (a : ℕ) (z : End) → segs_give segs.items a z
+            ≡ shows self.now node a z) }
+    {
+        let levels = self.of(node).reached.as_slice();
+        shown_segs(alloc, self.stage.reaches(), levels)
+    }
+
+    /// The accepted names to which the addresses of a node resolve, as normal rows.
+    pub fn accepted_rows(&self, alloc: Global, node: u16) -> Result<Rows, OutOfMemory>
+        requires { node < length self.now.nodes }
+        ensures { IfOk result (λ rows. (net : List NodeDecl) → AreFlats net self.now
+            → AreNormal (ResolvesFrom net node) rows) }
+    {
+        let segs = self.accepted(alloc, node)?;
+        Rows::normal(alloc, &segs)
+    }
+
+    /// The stretches of so many addresses of a node that resolve to so many names from one on, each address to its own
+    /// name and to no other, as normal rows: one for each stretch, so no more than there are walks. Time of the levels
+    /// of the node, and for each stretch that a walk leads there, of those up to the first that shows another name.
+    pub fn toward(
+        &self,
+        alloc: Global,
+        node: u16,
+        first: End,
+        size: u64,
+    ) -> Result<Rows, OutOfMemory>
+        requires there { node < length self.now.nodes }
+        requires some { 1 ≤ size }
+        requires within { first.base + size ≤ TOP + 1 }
+        ensures { IfOk result (λ rows. (net : List NodeDecl) → AreFlats net self.now
+            → AreNormal (ResolvesWhole net node first size) rows) }
+    {
+        let nodes = self.stage.reaches();
+        let levels = self.of(node).reached.as_slice();
+        let near = near_segs(alloc, nodes, levels, first, size)?;
+        let strands = strands_of(alloc, &near)?;
+        drop(near);
+        let led = led_stretches(alloc, &strands, first, size)?;
+        drop(strands);
+        let alone = alone_segs(alloc, nodes, levels, &led)?;
+        Rows::normal(alloc, &alone)
     }
 }
 
-/// Flattens all nodes of a net that has this table of live walks, of which only what the nodes accept is read: level by
-/// level from each node, but for those whose addresses all go on, as they are, to a node before them.
+/// What all nodes of a net reach that has this table of live walks, of which only what the nodes accept is read: level
+/// by level from each node, but for those whose addresses all go on, as they are, to a node before them. Time and
+/// memory of the live walks.
 pub fn flatten_all(alloc: Global, net: &Net, walks: &WalkTable) -> Result<Flats, OutOfMemory>
     requires { AreWalksOf net.now walks.now }
     ensures { IfOk result (λ flats. AreFlats net.now flats) }
 {
     let stage = first_stage(alloc, net, walks.accepted())?;
-    let mut flats = Flats::new(alloc);
+    let mut nodes = Shared::new(alloc);
     for node in 0..net.nodes() {
-        add(alloc, net, &stage, &mut flats, node)?;
+        add(alloc, net, &stage, &mut nodes, node)?;
     }
-    Ok(flats)
+    Ok(Flats { nodes, stage })
 }
 
-/// Adds what a node sees, by the net's stage for one step, to what those before it see.
+/// Adds what a node reaches, by the net's stage for one step, to what those before it reach.
 fn add(
     alloc: Global,
     net: &Net,
     stage: &Stage,
-    flats: &mut Flats,
+    shared: &mut Shared,
     node: u16,
 ) -> Result<(), OutOfMemory>
     requires legal { IsLegalNet net.now }
     requires stage { IsStage net.now stage.now }
     requires first { stage.now.steps ≡ 1 }
     requires there { node < length net.now }
-    requires below { AreFlatsBelow net.now node flats.old }
-    ensures { OnOk result (AreFlatsBelow net.now (node + 1) flats.new) }
+    requires below { AreLevelsBelow net.now node shared.old }
+    ensures { OnOk result (AreLevelsBelow net.now (node + 1) shared.new) }
 {
     match stage.led_to(node) {
-        Some(other) if other < node => flats.share(other),
+        Some(other) if other < node => shared.share(other),
         _ => {
-            let flat = stage.flat(alloc, net, node)?;
-            flats.push(flat)
+            let levels = stage.levels(alloc, net, node)?;
+            shared.push(levels)
         }
     }
 }

@@ -1,10 +1,11 @@
 //! Segments of what rows come to, by what their nodes come to.
 
-ghost use Rattle.std.specs.Prelude.{◌≡◌, ◌<◌, [], nat_lt, length, OnOk, IfOk, IsTrue};
-ghost use Rattle.std.specs.List.{All, list_all};
+ghost use Rattle.std.specs.Prelude.{◌≡◌, ℕ, ◌||◌, [], OnOk, IfOk};
+ghost use Rattle.std.specs.List.{All};
+ghost use Rattle.dn_interval.specs.declared.row.End.{End};
 ghost use Rattle.dn_interval.specs.declared.span.TheConstants.{TOP};
-ghost use Rattle.dn_interval.specs.Terms.{AreNormal, EndsFit, SegmentsGive, ends_within, gives_by, row_goes, rows_go, seg_goes};
-ghost use Rattle.dn_flat.specs.Terms.{FindsMore};
+ghost use Rattle.dn_interval.specs.Terms.{AreNormal, EndsFit, SegmentsGive, row_goes, rows_go, segs_give};
+ghost use Rattle.dn_flat.specs.Terms.{leads_by, levels_lead, reach_leads, seg_leads, segs_lead};
 
 use crate::flat::Flat;
 use crate::reach::Reach;
@@ -12,6 +13,21 @@ use dn_base::OutOfMemory;
 use dn_interval::onward::follow;
 use dn_interval::{Row, Rows, Seg, Span, TOP};
 use std::alloc::Global;
+
+/// By what names go on.
+#[derive(Clone, Copy)]
+pub(crate) enum Part<'a> {
+    /// By the accepted names to which their nodes come.
+    Accepts,
+    /// By the names in units to which their nodes come.
+    Stops,
+    /// By where their nodes go on.
+    Goes,
+    /// They stay, where their nodes accept something.
+    Stays,
+    /// Those in one node, by rows.
+    Toward(u16, &'a Rows),
+}
 
 /// What was found so far.
 #[derive(Drop)]
@@ -54,27 +70,47 @@ pub(crate) fn whole(node: u16) -> Seg
     }
 }
 
+/// Adds what the names of levels come to, by what their nodes come to.
+pub(crate) fn push_levels(
+    segs: &mut Vec<Seg>,
+    nodes: &[Reach],
+    part: Part,
+    levels: &[Rows],
+) -> Result<(), OutOfMemory>
+    ensures { OnOk result ((a : ℕ) (z : End) → segs_give segs.new.items a z
+        ≡ (segs_give segs.old.items a z
+        || levels_lead (leads_by part.entry nodes.now) levels.now a z)) }
+{
+    for level in levels {
+        push_rows(segs, nodes, part, level)?;
+    }
+    Ok(())
+}
+
 /// Adds what the names of rows come to, by what their nodes come to.
-pub(crate) fn push_rows(found: &mut Found, nodes: &[Reach], rows: &Rows) -> Result<(), OutOfMemory>
-    requires there { IsTrue (ends_within (length nodes.now) rows.now) }
-    ensures adds { OnOk result
-        (FindsMore found.old found.new (λ by. rows_go (gives_by by nodes.now) rows.now)) }
+pub(crate) fn push_rows(
+    segs: &mut Vec<Seg>,
+    nodes: &[Reach],
+    part: Part,
+    rows: &Rows,
+) -> Result<(), OutOfMemory>
+    ensures adds { OnOk result ((a : ℕ) (z : End) → segs_give segs.new.items a z
+        ≡ (segs_give segs.old.items a z || rows_go (leads_by part.entry nodes.now) rows.now a z)) }
     // Each name that the rows give is at or below the last address.
     ensures fit { OnOk result (All EndsFit rows.now) }
 {
     let all = rows.rows();
     for row in all {
-        push_row(found, nodes, row)?;
+        push_row(segs, nodes, part, row)?;
     }
     Ok(())
 }
 
 /// Adds what the names of a row come to.
-fn push_row(found: &mut Found, nodes: &[Reach], row: &Row) -> Result<(), OutOfMemory>
-    requires there { IsTrue (list_all (λ e. nat_lt e.node (length nodes.now)) row.now.ends) }
+fn push_row(segs: &mut Vec<Seg>, nodes: &[Reach], part: Part, row: &Row) -> Result<(), OutOfMemory>
     requires fit { EndsFit row.now }
-    ensures { OnOk result
-        (FindsMore found.old found.new (λ by. row_goes (gives_by by nodes.now) row.now)) }
+    ensures { OnOk result ((a : ℕ) (z : End) → segs_give segs.new.items a z
+        ≡ (segs_give segs.old.items a z || row_goes (leads_by part.entry nodes.now) row.now a z)) }
 {
     let span = row.span();
     let ends = row.ends();
@@ -84,18 +120,59 @@ fn push_row(found: &mut Found, nodes: &[Reach], row: &Row) -> Result<(), OutOfMe
             node: end.node,
             base: end.base,
         };
-        push(found, &nodes[usize::from(end.node)], seg)?;
+        push(segs, nodes, part, seg)?;
     }
     Ok(())
 }
 
-/// Adds what the addresses of a segment come to, by what its node comes to.
-fn push(found: &mut Found, reach: &Reach, seg: Seg) -> Result<(), OutOfMemory>
-    ensures { OnOk result (FindsMore found.old found.new (λ by. seg_goes (by reach.now) seg)) }
+/// Adds what the names of segments come to, by what their nodes come to.
+pub(crate) fn push_segs(
+    segs: &mut Vec<Seg>,
+    nodes: &[Reach],
+    part: Part,
+    given: &[Seg],
+) -> Result<(), OutOfMemory>
+    ensures { OnOk result ((a : ℕ) (z : End) → segs_give segs.new.items a z
+        ≡ (segs_give segs.old.items a z
+        || segs_lead (leads_by part.entry nodes.now) given.now a z)) }
 {
-    follow(&mut found.accepts, seg, &reach.done.accepts)?;
-    follow(&mut found.stops, seg, &reach.done.stops)?;
-    follow(&mut found.go, seg, &reach.go)
+    for seg in given {
+        push(segs, nodes, part, *seg)?;
+    }
+    Ok(())
+}
+
+/// Adds what the names of a segment come to, by what their node comes to. In a node that is not there they come to
+/// nothing.
+pub(crate) fn push(
+    segs: &mut Vec<Seg>,
+    nodes: &[Reach],
+    part: Part,
+    seg: Seg,
+) -> Result<(), OutOfMemory>
+    ensures { OnOk result ((a : ℕ) (z : End) → segs_give segs.new.items a z
+        ≡ (segs_give segs.old.items a z || seg_leads (leads_by part.entry nodes.now) seg a z)) }
+{
+    match nodes.get(usize::from(seg.node)) {
+        Some(reach) => push_by(segs, reach, part, seg),
+        None => Ok(()),
+    }
+}
+
+/// Adds what the names of a segment come to, by what their node comes to.
+fn push_by(segs: &mut Vec<Seg>, reach: &Reach, part: Part, seg: Seg) -> Result<(), OutOfMemory>
+    ensures { OnOk result ((a : ℕ) (z : End) → segs_give segs.new.items a z
+        ≡ (segs_give segs.old.items a z || seg_leads (reach_leads part.entry reach.now) seg a z)) }
+{
+    match part {
+        Part::Accepts => follow(segs, seg, &reach.done.accepts),
+        Part::Stops => follow(segs, seg, &reach.done.stops),
+        Part::Goes => follow(segs, seg, &reach.go),
+        Part::Stays if reach.done.accepts.rows().is_empty() => Ok(()),
+        Part::Stays => Ok(segs.push(seg)?),
+        Part::Toward(node, _) if seg.node != node => Ok(()),
+        Part::Toward(_, rows) => follow(segs, seg, rows),
+    }
 }
 
 /// The accepted names and the stops that were found, as normal rows.

@@ -9,7 +9,11 @@ pub mod flat;
 pub mod flats;
 mod found;
 pub mod laws;
+mod layers;
+pub mod levels;
 mod reach;
+mod shared;
 pub mod stage;
+mod stretches;
 
 pub use dn_base::OutOfMemory;

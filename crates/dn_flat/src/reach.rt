@@ -1,6 +1,6 @@
 //! What a node comes to by a number of steps: by one, and by twice as many.
 
-ghost use Rattle.std.specs.Prelude.{◌≡◌, ℕ, ◌+◌, ◌-◌, ◌<◌, ◌≤◌, ◌&&◌, [], ◌∷◌, length, slice_get, option_map, Some, IfOk, IfSome, IsTrue, List};
+ghost use Rattle.std.specs.Prelude.{◌≡◌, ℕ, ◌+◌, ◌-◌, ◌<◌, ◌≤◌, ◌&&◌, length, slice_get, option_map, Some, IfOk, IfSome, IsTrue, List};
 ghost use Rattle.std.specs.List.{All};
 ghost use Rattle.dn_interval.specs.declared.row.End.{End};
 ghost use Rattle.dn_interval.specs.declared.span.TheConstants.{TOP};
@@ -12,7 +12,7 @@ ghost use Rattle.dn_walk.specs.Terms.{told_legs};
 ghost use Rattle.dn_flat.specs.Terms.{AreReaches, IsLedBy, IsLedTo, IsReach, is_same, leg_gives, legs_give, stays};
 
 use crate::flat::Flat;
-use crate::found::{Found, flat_of, push_rows, whole};
+use crate::found::{Found, Part, flat_of, push_rows, whole};
 use dn_base::OutOfMemory;
 use dn_interval::onward::follow;
 use dn_interval::{Row, Rows, Seg, Span, SpanSet, TOP};
@@ -96,8 +96,12 @@ fn still_segs(alloc: Global, node: u16, spans: &[Span]) -> Result<Vec<Seg>, OutO
 }
 
 /// Each address of a span of a node, as itself.
-fn still(node: u16, span: Span) -> Seg
-    ensures { (a : ℕ) (y : End) → seg_gives result a y ≡ (in_span span a && is_same node a y) }
+pub(crate) fn still(node: u16, span: Span) -> Seg
+    ensures span { result.span ≡ span }
+    ensures node { result.node ≡ node }
+    ensures base { result.base ≡ span.lo }
+    ensures gives { (a : ℕ) (y : End) → seg_gives result a y
+        ≡ (in_span span a && is_same node a y) }
 {
     Seg {
         span,
@@ -162,7 +166,9 @@ pub(crate) fn twice(alloc: Global, nodes: &[Reach], reach: &Reach) -> Result<Rea
     let mut found = Found::new(alloc);
     follow(&mut found.accepts, whole(0), &reach.done.accepts)?;
     follow(&mut found.stops, whole(0), &reach.done.stops)?;
-    push_rows(&mut found, nodes, &reach.go)?;
+    push_rows(&mut found.accepts, nodes, Part::Accepts, &reach.go)?;
+    push_rows(&mut found.stops, nodes, Part::Stops, &reach.go)?;
+    push_rows(&mut found.go, nodes, Part::Goes, &reach.go)?;
     let done = flat_of(alloc, &found)?;
     let go = Rows::normal(alloc, &found.go)?;
     Ok(Reach { done, go })

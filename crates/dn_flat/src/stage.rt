@@ -1,17 +1,15 @@
 //! Stages: what each node of a net comes to by a number of steps.
 
-ghost use Rattle.std.specs.Prelude.{◌≡◌, ℕ, ◌+◌, ◌*◌, ◌<◌, ◌≤◌, ◌↔◌, ◌||◌, Some, option_map, slice_get, length, IfOk, IfSome, OnOk, IsTrue, List};
-ghost use Rattle.dn_interval.specs.declared.row.End.{End};
-ghost use Rattle.dn_interval.specs.declared.span.TheConstants.{TOP};
-ghost use Rattle.dn_interval.specs.Terms.{AreNormal, ends_within, gives_by, rows_go, segs_give};
+ghost use Rattle.std.specs.Prelude.{◌≡◌, ◌*◌, ◌<◌, ◌≤◌, Some, option_map, slice_get, length, IfOk, IfSome, List};
+ghost use Rattle.dn_interval.specs.Terms.{AreNormal};
 ghost use Rattle.dn_net.specs.declared.node.NodeDecl.{NodeDecl};
 ghost use Rattle.dn_net.specs.Terms.{IsLegalNet, KeepsNodeRules};
 ghost use Rattle.dn_walk.specs.Terms.{AreAccepted};
 ghost use Rattle.dn_flat.specs.declared.reach.Reach.{Reach};
-ghost use Rattle.dn_flat.specs.Terms.{AreReaches, GoesIn, IsDone, IsFlat, IsLedTo, IsStage, ResolvesFrom, StopsFrom};
+ghost use Rattle.dn_flat.specs.Terms.{GoesIn, IsDone, IsFlat, IsLedTo, IsLevels, IsStage};
 
 use crate::flat::Flat;
-use crate::found::{Found, flat_of, push_rows, whole};
+use crate::levels::{Levels, Reached, node_levels, node_reached, shown_segs};
 use crate::reach::{Reach, first_reach, twice};
 use dn_base::OutOfMemory;
 use dn_interval::{Rows, SpanSet};
@@ -113,6 +111,24 @@ impl Stage {
         self.reach(node).led_to()
     }
 
+    /// What each node comes to.
+    pub(crate) fn reaches(&self) -> &[Reach]
+        ensures { result.now ≡ self.now.nodes }
+    {
+        self.nodes.as_slice()
+    }
+
+    /// What a node of the net reaches, by the net's stage for one step.
+    pub(crate) fn levels(&self, alloc: Global, net: &Net, node: u16) -> Result<Levels, OutOfMemory>
+        requires rules { KeepsNodeRules net.now }
+        requires stage { IsStage net.now self.now }
+        requires first { self.now.steps ≡ 1 }
+        requires there { node < length net.now }
+        ensures { IfOk result (λ levels. IsLevels net.now node levels) }
+    {
+        node_levels(alloc, net, self.nodes.as_slice(), node)
+    }
+
     /// What a node of the net sees, by the net's stage for one step: level by level from the node itself, so of the
     /// net only what the node reaches is looked at.
     pub fn flat(&self, alloc: Global, net: &Net, node: u16) -> Result<Flat, OutOfMemory>
@@ -122,8 +138,13 @@ impl Stage {
         requires there { node < length net.now }
         ensures { IfOk result (λ flat. IsFlat net.now node flat) }
     {
-        let found = levels(alloc, net, self.nodes.as_slice(), node)?;
-        flat_of(alloc, &found)
+        let nodes = self.nodes.as_slice();
+        let Reached { levels, stops } = node_reached(alloc, net, nodes, node)?;
+        let stops = Rows::normal(alloc, &stops)?;
+        let segs = shown_segs(alloc, nodes, levels.as_slice())?;
+        drop(levels);
+        let accepts = Rows::normal(alloc, &segs)?;
+        Ok(Flat { accepts, stops })
     }
 }
 
@@ -147,49 +168,4 @@ pub(crate) fn first_stage(
         nodes.push(reach)?;
     }
     Ok(Stage { nodes, steps: 1 })
-}
-
-/// What is reached from a node, level by level: the names that are reached in so many steps are rows, and each level
-/// is made of the one before and of the steps of the nodes in which its names are.
-fn levels(alloc: Global, net: &Net, nodes: &[Reach], node: u16) -> Result<Found, OutOfMemory>
-    requires rules { KeepsNodeRules net.now }
-    requires nodes { AreReaches net.now 1 nodes.now }
-    requires there { node < length net.now }
-    ensures accepts { IfOk result (λ found. (a : ℕ) (y : End) → a ≤ TOP
-        → IsTrue (segs_give found.accepts.items a y) ↔ ResolvesFrom net.now node a y) }
-    ensures stops { IfOk result (λ found. (a : ℕ) (y : End) → a ≤ TOP
-        → IsTrue (segs_give found.stops.items a y) ↔ StopsFrom net.now node a y) }
-{
-    net.facts();
-    let mut found = Found::new(alloc);
-    let mut reached = Rows::normal(alloc, &[whole(node)])?;
-    for steps in 0..66u32 {
-        if reached.rows().is_empty() {
-            return Ok(found);
-        }
-        reached = further(alloc, &mut found, nodes, &reached)?;
-    }
-    Ok(found)
-}
-
-/// Adds what the names of rows come to, and answers where they go on.
-fn further(
-    alloc: Global,
-    found: &mut Found,
-    nodes: &[Reach],
-    rows: &Rows,
-) -> Result<Rows, OutOfMemory>
-    requires there { IsTrue (ends_within (length nodes.now) rows.now) }
-    ensures accepts { OnOk result ((a : ℕ) (z : End) → segs_give found.new.accepts.items a z
-        ≡ (segs_give found.old.accepts.items a z
-        || rows_go (gives_by (λ r. r.done.accepts) nodes.now) rows.now a z)) }
-    ensures stops { OnOk result ((a : ℕ) (z : End) → segs_give found.new.stops.items a z
-        ≡ (segs_give found.old.stops.items a z
-        || rows_go (gives_by (λ r. r.done.stops) nodes.now) rows.now a z)) }
-    ensures go { IfOk result (λ next. AreNormal (λ a z. IsTrue
-        (rows_go (gives_by (λ r. r.go) nodes.now) rows.now a z)) next) }
-{
-    found.go.clear();
-    push_rows(found, nodes, rows)?;
-    Rows::normal(alloc, &found.go)
 }

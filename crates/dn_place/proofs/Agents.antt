@@ -1,12 +1,10 @@
 -- The walk over the agent's rows.
-use Rattle.std.proofs.Common.{◌≡◌, ℕ, suc, ◌+◌, ◌-◌, ◌<◌, ◌≤◌, ◌↔◌, true, List, [], ◌∷◌, ◌++◌, length, drop, get_or, slice_get, refl, sym, ap, ◌∙◌, subst, arith, add-one}
+use Rattle.std.proofs.Common.{◌≡◌, ℕ, suc, ◌+◌, ◌-◌, ◌<◌, ◌≤◌, ◌↔◌, List, [], ◌∷◌, ◌++◌, length, drop, get_or, slice_get, sym, ap, ◌∙◌, subst, arith, add-one}
 use Rattle.std.proofs.Math.Seq.{drop-cons}
 use Rattle.std.proofs.Math.ListN.{drop_of_length-le}
 use Rattle.dn_interval.specs.declared.row.End.{End}
 use Rattle.dn_interval.specs.declared.row.Row.{Row}
 use Rattle.dn_net.specs.Decode.{top}
-use Rattle.dn_flat.specs.declared.flat.Flat.{Flat}
-use Rattle.dn_flat.specs.Stages.{IsFlat}
 use Rattle.dn_tables.specs.declared.placement.Hop.{Hop}
 use Rattle.dn_tables.specs.Placement.{Place}
 use Rattle.dn_place.specs.Sought.{IsReady, Sought}
@@ -15,7 +13,7 @@ use Rattle.dn_placement.specs.Order.{IsAt, hop_page, key_of}
 use Rattle.dn_placement.specs.Placement.{Meets}
 use Rattle.dn_placement.proofs.Keys.{append_none, one_more}
 use Rattle.dn_placement.specs.declared.request.Request.{Request}
-use Rattle.dn_place.specs.Rows.{InRow, wanted, rows_toward, is_clear}
+use Rattle.dn_place.specs.Rows.{AreToward, InRow, IsClear, wanted}
 use Rattle.dn_place.specs.Candidates.{IsUnder, NoneUnder, IsFirstUnder, ending, to_address}
 use Rattle.dn_place.proofs.Walks.{Walked, Stretches, walked_on, walk_found, walk_done, one_in_row}
 use Rattle.dn_place.proofs.Meetings.{meets_gives, walk_meets}
@@ -38,11 +36,11 @@ v_of s hops q j u = (heads q.v j (hop_page s.net (slice_get hops q.own) ∷ (len
     heads a d m r p = cc
 
 -- a placement goes on with an address from which the agent meets the hops
-pub agent_stretches : (s : Sought) (hops : List Hop) (flat : Flat) → IsReady s → IsFlat s.net s.request.agent flat → Stretches s (ending (length hops) hops) (rows_toward flat hops) (wanted s.request hops)
-agent_stretches s hops flat ready f = λ q j u.
+pub agent_stretches : (s : Sought) (hops : List Hop) (rows : List Row) → IsReady s → AreToward s.net s.request hops s.request.agent rows → Stretches s (ending (length hops) hops) rows (wanted s.request hops)
+agent_stretches s hops rows ready f = λ q j u.
     let w = v_of s hops q j u in
     let p = u.is.is_placement in
-    meets_gives s s.request.agent j hops flat f ready.one_stop (subst (λ (n : ℕ). n + s.request.size ≤ top + 1) w.0 p.fits) (subst (λ (n : ℕ). Meets s.net s.request s.request.agent n hops) w.0 (subst (λ (l : List Hop). Meets s.net s.request s.request.agent q.v l) w.1 p.meets))
+    meets_gives s s.request.agent j hops rows f ready.one_stop (subst (λ (n : ℕ). n + s.request.size ≤ top + 1) w.0 p.fits) (subst (λ (n : ℕ). Meets s.net s.request s.request.agent n hops) w.0 (subst (λ (l : List Hop). Meets s.net s.request s.request.agent q.v l) w.1 p.meets))
 
 pub agent_goes : (s : Sought) (hops : List Hop) (q : Place) → IsUnder s (ending (length hops) hops) q → (j : ℕ) × Begins (ending (length hops) hops ++ j ∷ []) (key_of s.net q)
 agent_goes s hops q u = (q.v, (hop_page s.net (slice_get hops q.own) ∷ (length hops - q.own) ∷ [], w.key ∙ sym (one_more (ending (length hops) hops) q.v (hop_page s.net (slice_get hops q.own) ∷ (length hops - q.own) ∷ []))))
@@ -54,24 +52,24 @@ agent_goes s hops q u = (q.v, (hop_page s.net (slice_get hops q.own) ∷ (length
 pub not_asked : (s : Sought) (hops : List Hop) (v : ℕ) → (IsAt s.at v → ⊥) → NoneUnder s (to_address (length hops) hops v)
 not_asked s hops v other = record { none = λ q u. absurd (other (subst (IsAt s.at) (v_of s hops q v u).0 u.is.is_at)) }
 
--- a step of a walk over items that are the rows
+-- a step of a walk over the rows
 
-pub step : (s : Sought) (front : List ℕ) (items rows : List Row) (i : ℕ) (r : Row) (t : End) → items ≡ rows → i < length items → r ≡ get_or items i r → 1 ≤ s.request.size → Stretches s front rows t → Walked s front items (drop i items) → ((j : ℕ) → InRow r t s.request.size j → NoneUnder s (front ++ j ∷ [])) → Walked s front items (drop (i + 1) items)
-step s front items rows i r t e l g some st w n = walked_on s front items r (drop (i + 1) items) t some (subst (λ m. Stretches s front m t) (sym e) st) (subst (Walked s front items) (taken_off items i r l g) w) n
+pub step : (s : Sought) (front : List ℕ) (rows : List Row) (i : ℕ) (r : Row) (t : End) → i < length rows → r ≡ get_or rows i r → 1 ≤ s.request.size → Stretches s front rows t → Walked s front rows (drop i rows) → ((j : ℕ) → InRow r t s.request.size j → NoneUnder s (front ++ j ∷ [])) → Walked s front rows (drop (i + 1) rows)
+step s front rows i r t l g some st w n = walked_on s front rows r (drop (i + 1) rows) t some st (subst (Walked s front rows) (taken_off rows i r l g) w) n
 
-pub step_found : (s : Sought) (front : List ℕ) (items rows : List Row) (i : ℕ) (r : Row) (t : End) (y : ℕ) (p : Place) → items ≡ rows → i < length items → r ≡ get_or items i r → 1 ≤ s.request.size → Stretches s front rows t → Walked s front items (drop i items) → InRow r t s.request.size y → IsFirstUnder s (front ++ y ∷ []) p → IsFirstUnder s front p
-step_found s front items rows i r t y p e l g some st w here f = walk_found s front items r (drop (i + 1) items) t y p some (subst (λ m. Stretches s front m t) (sym e) st) (subst (Walked s front items) (taken_off items i r l g) w) here f
+pub step_found : (s : Sought) (front : List ℕ) (rows : List Row) (i : ℕ) (r : Row) (t : End) (y : ℕ) (p : Place) → i < length rows → r ≡ get_or rows i r → 1 ≤ s.request.size → Stretches s front rows t → Walked s front rows (drop i rows) → InRow r t s.request.size y → IsFirstUnder s (front ++ y ∷ []) p → IsFirstUnder s front p
+step_found s front rows i r t y p l g some st w here f = walk_found s front rows r (drop (i + 1) rows) t y p some st (subst (Walked s front rows) (taken_off rows i r l g) w) here f
 
-pub step_done : (s : Sought) (front : List ℕ) (items rows : List Row) (i : ℕ) (t : End) → items ≡ rows → length items ≤ i → 1 ≤ s.request.size → Stretches s front rows t → ((q : Place) → IsUnder s front q → (j : ℕ) × Begins (front ++ j ∷ []) (key_of s.net q)) → Walked s front items (drop i items) → NoneUnder s front
-step_done s front items rows i t e l some st goes w = walk_done s front items t some (subst (λ m. Stretches s front m t) (sym e) st) goes (subst (Walked s front items) (drop_of_length-le items l) w)
+pub step_done : (s : Sought) (front : List ℕ) (rows : List Row) (i : ℕ) (t : End) → length rows ≤ i → 1 ≤ s.request.size → Stretches s front rows t → ((q : Place) → IsUnder s front q → (j : ℕ) × Begins (front ++ j ∷ []) (key_of s.net q)) → Walked s front rows (drop i rows) → NoneUnder s front
+step_done s front rows i t l some st goes w = walk_done s front rows t some st goes (subst (Walked s front rows) (drop_of_length-le rows l) w)
 
 -- the row's one address
 pub only_there : (s : Sought) (front : List ℕ) (r : Row) (t : End) (y : ℕ) → InRow r t s.request.size y → NoneUnder s (front ++ y ∷ []) → (j : ℕ) → InRow r t s.request.size j → NoneUnder s (front ++ j ∷ [])
 only_there s front r t y w n j v = subst (λ k. NoneUnder s (front ++ k ∷ [])) (one_in_row r t s.request.size y j w v) n
 
 -- a stretch in the row to which the walk has come meets what is wanted
-pub step_meets : (s : Sought) (front : List ℕ) (items : List Row) (n : ℕ) (hops : List Hop) (flat : Flat) (i : ℕ) (r : Row) (y : ℕ) → IsFlat s.net n flat → y + s.request.size ≤ top + 1 → items ≡ rows_toward flat hops → i < length items → r ≡ get_or items i r → Walked s front items (drop i items) → InRow r (wanted s.request hops) s.request.size y → is_clear flat hops y s.request.size ≡ true → Meets s.net s.request n y hops
-step_meets s front items n hops flat i r y f fits e l g w here c = walk_meets s front n hops flat r (drop (i + 1) items) y f fits (subst (λ m. Walked s front m (r ∷ drop (i + 1) items)) e (subst (Walked s front items) (taken_off items i r l g) w)) here c
+pub step_meets : (s : Sought) (front : List ℕ) (n : ℕ) (hops : List Hop) (rows : List Row) (i : ℕ) (r : Row) (y : ℕ) → AreToward s.net s.request hops n rows → y + s.request.size ≤ top + 1 → i < length rows → r ≡ get_or rows i r → Walked s front rows (drop i rows) → InRow r (wanted s.request hops) s.request.size y → IsClear s.net n hops y s.request.size → Meets s.net s.request n y hops
+step_meets s front n hops rows i r y f fits l g w here c = walk_meets s front n hops rows r (drop (i + 1) rows) y f fits (subst (Walked s front rows) (taken_off rows i r l g) w) here c
 
 -- what a row gives, asked by a copy of the request
 pub row_asked : (s : Sought) (hops : List Hop) (r : Row) (t : End) (rq other : Request) (a : ℕ) → t ≡ wanted rq hops → rq ≡ s.request → other ≡ s.request → InRow r t other.size a ↔ InRow r (wanted s.request hops) s.request.size a
@@ -82,9 +80,9 @@ row_asked s hops r t rq other a e f h =
     )
 
 -- where a hop follows, nothing is asked of stops beside it
-pub clear_of : (flat : Flat) (hops : List Hop) (a size : ℕ) → 1 ≤ length hops → is_clear flat hops a size ≡ true
-clear_of flat [] a size l = absurd (omega arith)
-clear_of flat (hop ∷ hops) a size l = refl
+pub clear_of : (s : Sought) (node : ℕ) (hops : List Hop) (a size : ℕ) → 1 ≤ length hops → IsClear s.net node hops a size
+clear_of s node [] a size l = absurd (omega arith)
+clear_of s node (hop ∷ hops) a size l = tt
 
 -- a stretch in a row ends at the last address or before
 pub row_fits : (r : Row) (t : End) (size a : ℕ) → InRow r t size a → a + size ≤ top + 1

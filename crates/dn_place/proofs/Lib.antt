@@ -9,6 +9,7 @@ pub mod Proper
 pub mod Readies
 pub mod Stretches
 pub mod Tops
+pub mod Toward
 pub mod Units
 pub mod Usable
 pub mod Walks

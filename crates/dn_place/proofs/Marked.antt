@@ -1,7 +1,7 @@
 -- Marks as they are made.
 use Rattle.std.proofs.Common.{◌≡◌, ℕ, zero, suc, ◌+◌, ◌-◌, ◌<◌, ◌≤◌, ◌⊎◌, inl, inr, Bool, true, false, ◌||◌, List, [], ◌∷◌, ◌++◌, length, map, take, drop, get_or, slice_get, Option, Some, None, refl, sym, ap, ◌∙◌, subst, arith, IsTrue, add-one}
 use Rattle.std.specs.List.{Contains, list_any}
-use Rattle.std.proofs.lemmas.Bool.{cases_lt, false≢true, or_left}
+use Rattle.std.proofs.lemmas.Bool.{cases_lt, false≢true, or_cases, or_left}
 use Rattle.std.proofs.lemmas.Option.{slice_get_within, slice_get-get_or, get_or_from_slice_get}
 use Rattle.std.proofs.Math.Seq.{drop-cons}
 use Rattle.std.proofs.Math.ListN.{drop_of_length-le}
@@ -10,17 +10,19 @@ use Rattle.dn_interval.specs.declared.row.End.{End}
 use Rattle.dn_interval.specs.declared.row.Row.{Row}
 use Rattle.dn_interval.specs.Rows.{Member, moved, Apart, HasEnds, GivenBy}
 use Rattle.dn_interval.specs.Spans.{in_span}
+use Rattle.dn_interval.specs.Strands.{rows_give}
+use Rattle.dn_interval.proofs.Names.{rows_to}
 use Rattle.dn_net.specs.declared.node.Name.{Name}
 use Rattle.dn_net.specs.declared.node.NodeDecl.{NodeDecl}
 use Rattle.dn_net.specs.Decode.{top, unit_at, StopsAt}
-use Rattle.dn_flat.specs.declared.flat.Flat.{Flat}
-use Rattle.dn_flat.specs.Stages.{IsFlat}
+use Rattle.dn_flat.specs.declared.levels.Levels.{Levels}
+use Rattle.dn_flat.specs.Levels.{IsLevels, levels_give}
 use Rattle.dn_flat.specs.Views.{end_of, name_of_end}
 use Rattle.dn_tables.specs.declared.placement.Hop.{Hop}
 use Rattle.dn_place.specs.Sought.{IsFormed, IsReady, Sought}
 use Rattle.dn_net.specs.declared.node.Unit.{Unit as UnitPart}
 use Rattle.dn_placement.specs.Placement.{Leads, Meets}
-use Rattle.dn_place.specs.Marks.{is_marked, mark_at, AreMarked, IsEntry, Keeps, MarkedBelow, Marks, MarksAfter, MarksAll, MarksEnds, MarksRows}
+use Rattle.dn_place.specs.Marks.{is_marked, mark_at, AreMarked, IsEntry, Keeps, MarkedBelow, Marks, MarksAfter, MarksAll, MarksEnds, MarksGiven, MarksRows}
 use Rattle.dn_place.proofs.Pages.{output_bound, unit_there}
 
 -- each node of the names is marked, or is one of the rest
@@ -79,9 +81,22 @@ rows_done rows i marks l left = λ a z g k. go a z (left a z g k)
     go a z (inl m) = m
     go a z (inr m) = absurd (subst (λ (rs : List Row). GivenBy rs a z) (drop_of_length-le rows l) m)
 
+-- so do the rows of levels, one after another
+
+pub levels_marked : (rows : List Row) (rest : List (List Row)) (old new : List Bool) → Keeps old new → MarksRows rows new → (a : ℕ) (z : End) → z.node < length new → (is_marked old z.node ≡ true) ⊎ (levels_give (rows ∷ rest) a z ≡ true) → (is_marked new z.node ≡ true) ⊎ (levels_give rest a z ≡ true)
+levels_marked rows rest old new keeps here a z l (inl m) = inl (keeps z.node m)
+levels_marked rows rest old new keeps here a z l (inr m) = elim (or_cases (rows_give rows a z) (levels_give rest a z) m) [
+  | inl g ↦ inl (here a z (rows_to rows a z g) l)
+  | inr g ↦ inr g
+]
+
+pub no_more : (marks : List Bool) (a : ℕ) (z : End) → (is_marked marks z.node ≡ true) ⊎ (levels_give [] a z ≡ true) → is_marked marks z.node ≡ true
+no_more marks a z (inl m) = m
+no_more marks a z (inr m) = absurd (false≢true m)
+
 -- the rows of a node's stops mark what the node leads to
-pub rows_mark : (net : List NodeDecl) (n : ℕ) (flat : Flat) (marks : List Bool) → IsFlat net n flat → MarksRows flat.stops marks → Marks net n marks
-rows_mark net n flat marks f m = λ a z l s k. m a (end_of z) ((f.stops.exact a (end_of z) l).0 s) k
+pub stops_mark : (net : List NodeDecl) (n : ℕ) (levels : Levels) (marks : List Bool) → IsLevels net n levels → MarksGiven (levels_give levels.stops) marks → Marks net n marks
+stops_mark net n levels marks f m = λ a z l s k. m a (end_of z) ((f.stops a (end_of z) l).1 s) k
 
 pub marks_kept : (net : List NodeDecl) (n : ℕ) (old new : List Bool) → length old ≡ length new → Keeps old new → Marks net n old → Marks net n new
 marks_kept net n old new same keeps m = λ a z l s k. keeps z.node (m a z l s (omega arith))
@@ -171,8 +186,8 @@ none_given (r ∷ rows) a z e (inr g) = none_given rows a z (rest (in_span r.spa
     rest false y p = p
 
 -- the entry is the one stop of the address
-pub entry_is : (s : Sought) (flat : Flat) (entry : Option End) (at : ℕ) → IsReady s → IsFlat s.net s.request.agent flat → s.at ≡ Some at → ((z : End) → entry ≡ Some z → GivenBy flat.stops at z) → (entry ≡ None → (z : End) → GivenBy flat.stops at z → ⊥) → IsEntry s entry
-entry_is s flat entry at ready f asked given none v z e l stops = go entry refl
+pub entry_is : (s : Sought) (levels : Levels) (entry : Option End) (at : ℕ) → IsReady s → IsLevels s.net s.request.agent levels → s.at ≡ Some at → ((z : End) → entry ≡ Some z → levels_give levels.stops at z ≡ true) → (entry ≡ None → (z : End) → levels_give levels.stops at z ≡ true → ⊥) → IsEntry s entry
+entry_is s levels entry at ready f asked given none v z e l stops = go entry refl
   where
     some : (a b : ℕ) → Some a ≡ Some b → a ≡ b
     some a b p = cc
@@ -187,5 +202,5 @@ entry_is s flat entry at ready f asked given none v z e l stops = go entry refl
     low = let e : v ≡ at = same in omega (arith, l)
 
     go : (o : Option End) → entry ≡ o → o ≡ Some (end_of z)
-    go None p = absurd (none p (end_of z) ((f.stops.exact at (end_of z) low).0 stop))
-    go (Some y) p = ap (λ (x : Name). Some (end_of x)) (ready.one_stop (record { node = s.request.agent; addr = at }) (name_of_end y) z ((f.stops.exact at y low).1 (given y p)) stop)
+    go None p = absurd (none p (end_of z) ((f.stops at (end_of z) low).1 stop))
+    go (Some y) p = ap (λ (x : Name). Some (end_of x)) (ready.one_stop (record { node = s.request.agent; addr = at }) (name_of_end y) z ((f.stops at y low).0 (given y p)) stop)

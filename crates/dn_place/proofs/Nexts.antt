@@ -15,7 +15,7 @@ use Rattle.dn_placement.specs.Placement.{Joins, Leads, Meets, name_on}
 use Rattle.dn_placement.proofs.Hops.{numbers}
 use Rattle.dn_placement.proofs.Keys.{append_none, cancel, one_more}
 use Rattle.dn_place.specs.Slots.{AreBarred, AreShut, AreUsable, slot_of}
-use Rattle.dn_place.specs.Rows.{GivesOnly, wanted, rows_toward}
+use Rattle.dn_place.specs.Rows.{AreToward, GivesOnly, wanted}
 use Rattle.dn_place.specs.Candidates.{IsUnder, NoneUnder, NoneBelow, Answers, IsChosen, ending, to_unit, to_port, to_output}
 use Rattle.dn_place.proofs.Levels.{begun, leapt, next_one, none_left}
 use Rattle.dn_place.proofs.Openings.{Opened, opened}
@@ -28,8 +28,7 @@ use Rattle.dn_place.specs.Marks.{mark_at, AreMarked, IsEntry}
 use Rattle.dn_interval.specs.declared.row.End.{End}
 use Rattle.dn_net.specs.declared.node.NodeDecl.{NodeDecl}
 use Rattle.dn_net.specs.Decode.{top, unit_at, StopsAt}
-use Rattle.dn_flat.specs.declared.flat.Flat.{Flat}
-use Rattle.dn_flat.specs.Stages.{IsFlat}
+use Rattle.dn_interval.specs.declared.row.Row.{Row}
 use Rattle.dn_place.proofs.Marked.{marked_hop}
 
 -- a placement's next hop, whose numbers begin so
@@ -169,17 +168,17 @@ through_output s count hops q unit port y u l e v = record {
     same : (w.y ≡ y) × (w.x ∷ w.rest ≡ v.begins.0)
     same = goes_by (to_port count hops unit port) w.y y (w.x ∷ w.rest) v.begins.0 (key_of s.net q) w.key v.begins.1
 
-pub port_stretches : (s : Sought) (count : ℕ) (hops : List Hop) (unit port node : ℕ) (u : UnitPart) (flat : Flat) → IsReady s → IsFlat s.net node flat → length hops < count → unit_at s.net unit ≡ Some u → slice_get u.ports port ≡ Some node → Stretches s (to_port count hops unit port) (rows_toward flat hops) (wanted s.request hops)
-port_stretches s count hops unit port node u flat ready f l e p = λ q j v. go q j (through_output s count hops q unit port j u l e v)
+pub port_stretches : (s : Sought) (count : ℕ) (hops : List Hop) (unit port node : ℕ) (u : UnitPart) (rows : List Row) → IsReady s → AreToward s.net s.request hops node rows → length hops < count → unit_at s.net unit ≡ Some u → slice_get u.ports port ≡ Some node → Stretches s (to_port count hops unit port) rows (wanted s.request hops)
+port_stretches s count hops unit port node u rows ready f l e p = λ q j v. go q j (through_output s count hops q unit port j u l e v)
   where
     some : (a b : ℕ) → Some a ≡ Some b → a ≡ b
     some a b p = cc
 
-    go : (q : Place) (j : ℕ) → Output s u hops q unit port j (to_output count hops unit port j) → GivesOnly (rows_toward flat hops) (wanted s.request hops) s.request.size j
+    go : (q : Place) (j : ℕ) → Output s u hops q unit port j (to_output count hops unit port j) → GivesOnly rows (wanted s.request hops) s.request.size j
     go q j w =
         let k = w.through.joins in
         let low : j + s.request.size ≤ top + 1 = omega (arith, k.reached, output_bound u.reach (ready.formed unit u e).reach) in
-        meets_gives s node j hops flat f ready.one_stop low (subst (λ (n : ℕ). Meets s.net s.request n j hops) (some k.node node (sym k.is_port ∙ p)) k.meets)
+        meets_gives s node j hops rows f ready.one_stop low (subst (λ (n : ℕ). Meets s.net s.request n j hops) (some k.node node (sym k.is_port ∙ p)) k.meets)
 
 pub port_goes : (s : Sought) (count : ℕ) (hops : List Hop) (unit port : ℕ) (u : UnitPart) → length hops < count → unit_at s.net unit ≡ Some u → (q : Place) → IsUnder s (to_port count hops unit port) q → (j : ℕ) × Begins (to_port count hops unit port ++ j ∷ []) (key_of s.net q)
 port_goes s count hops unit port u l e q v = let w = through_port s count hops q unit port u l e v in (w.y, (w.x ∷ w.rest, w.key ∙ sym (one_more (to_port count hops unit port) w.y (w.x ∷ w.rest))))

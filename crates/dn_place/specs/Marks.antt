@@ -33,6 +33,11 @@ abbrev pub MarksRows : List Row → List Bool → Type 0
 MarksRows rows marks = (a : ℕ) (z : End) → GivenBy rows a z → z.node < length marks →
     is_marked marks z.node ≡ true
 
+-- each node in which an address is given a name has a mark
+abbrev pub MarksGiven : (ℕ → End → Bool) → List Bool → Type 0
+MarksGiven gives marks = (a : ℕ) (z : End) → gives a z ≡ true → z.node < length marks →
+    is_marked marks z.node ≡ true
+
 -- each node in which an address of a node has a stop has a mark
 abbrev pub Marks : List NodeDecl → ℕ → List Bool → Type 0
 Marks net node marks = (a : ℕ) (z : Name) → a ≤ top →

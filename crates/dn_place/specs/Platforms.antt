@@ -2,8 +2,7 @@
 use Rattle.std.specs.Prelude.{◌≡◌, ℕ, ◌<◌, ◌↔◌, Bool, List, Option, Result, IfOk, IsTrue}
 use Rattle.dn_net.specs.declared.node.NodeDecl.{NodeDecl}
 use Rattle.dn_net.specs.Decode.{unit_at}
-use Rattle.dn_flat.specs.declared.flat.Flat.{Flat}
-use Rattle.dn_flat.specs.Stages.{AreFlats}
+use Rattle.dn_flat.specs.Levels.{AreFlats, FlatsView}
 use Rattle.dn_placement.specs.declared.request.Request.{Request}
 use Rattle.dn_placement.specs.Exposure.{IsAdmissible}
 use Rattle.dn_placement.specs.Placement.{IsPlacement}
@@ -13,10 +12,10 @@ use Rattle.dn_place.specs.Hops.{hops_of}
 use Rattle.dn_place.specs.Slots.{slot_of}
 use Rattle.dn_place.specs.Sought.{Sought, slot_count}
 
--- the net, its flats, the request and the address are those of what is looked for; a slot that is
+-- the net, what its nodes reach, the request and the address are those of what is looked for; a slot that is
 -- there may be asked for, and the answer is what a hop meets in it; a placement may be tested, and the
 -- answer is whether it is admissible
-pub record IsPlatform {Fault : Type 0} (net : List NodeDecl) (flats : List Flat) (rq : Request) (at : Option ℕ)
+pub record IsPlatform {Fault : Type 0} (net : List NodeDecl) (flats : FlatsView) (rq : Request) (at : Option ℕ)
     (may_ask : ℕ → ℕ → Type 0) (asked : ℕ → ℕ → Slot → Type 0)
     (may_test : ℕ → Hops → ℕ → Type 0) (tested : ℕ → Hops → ℕ → Result Bool Fault → Type 0)
     (s : Sought) : Type 0 where

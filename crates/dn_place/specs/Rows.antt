@@ -1,12 +1,16 @@
--- Rows that give one name to each address of a stretch.
-use Rattle.std.specs.Prelude.{◌≡◌, ℕ, suc, ◌+◌, ◌-◌, ◌<◌, ◌≤◌, ◌↔◌, Bool, true, ◌||◌, nat_lt, nat_le, List, [], ◌∷◌}
-use Rattle.std.specs.List.{list_all}
+-- Rows that give one name to each address of a stretch, and rows of a node that give what hops want.
+use Rattle.std.specs.Prelude.{◌≡◌, ℕ, suc, ◌+◌, ◌-◌, ◌<◌, ◌≤◌, ◌↔◌, Bool, true, ◌&&◌, ◌||◌, if◌then◌else◌, nat_eq, nat_lt, nat_le, List, [], ◌∷◌}
+use Rattle.std.specs.List.{list_any}
 use Rattle.dn_interval.specs.declared.row.End.{End}
 use Rattle.dn_interval.specs.declared.row.Row.{Row}
-use Rattle.dn_interval.specs.Rows.{moved, GivenBy}
+use Rattle.dn_interval.specs.declared.span.Span.{Span}
+use Rattle.dn_interval.specs.declared.span.TheConstants.{TOP}
+use Rattle.dn_interval.specs.Rows.{moved, Apart, GivenBy}
+use Rattle.dn_interval.specs.Spans.{in_span}
+use Rattle.dn_net.specs.declared.node.NodeDecl.{NodeDecl}
+use Rattle.dn_flat.specs.Views.{ResolvesFrom, StopsFrom}
 use Rattle.dn_tables.specs.declared.placement.Hop.{Hop}
 use Rattle.dn_placement.specs.declared.request.Request.{Request}
-use Rattle.dn_flat.specs.declared.flat.Flat.{Flat}
 
 -- the row gives the name to the address, moved on to those after it, so many in all, and no other name
 pub record InRow (r : Row) (t : End) (size a : ℕ) : Type 0 where
@@ -25,16 +29,59 @@ abbrev pub wanted : Request → List Hop → End
 wanted rq [] = record { node = rq.node; base = rq.base }
 wanted rq (hop ∷ hops) = record { node = hop.unit; base = hop.x }
 
--- the rows of a node that give it
-abbrev pub rows_toward : Flat → List Hop → List Row
-rows_toward flat [] = flat.accepts
-rows_toward flat (hop ∷ hops) = flat.stops
+-- the address of a node comes to the name: it resolves to it, or, where a hop follows, it is its stop
+abbrev pub ComesTo : List NodeDecl → List Hop → ℕ → ℕ → End → Type 0
+ComesTo net [] node a z = ResolvesFrom net node a z
+ComesTo net (hop ∷ hops) node a z = StopsFrom net node a z
+
+-- the addresses of a stretch come to just the names that hops want, one after another
+abbrev pub ComesOnly : List NodeDecl → Request → List Hop → ℕ → ℕ → Type 0
+ComesOnly net rq hops node a = (i : ℕ) (z : End) → i < rq.size →
+    ComesTo net hops node (a + i) z ↔ (moved i (wanted rq hops) ≡ z)
+
+-- The rows of a node that give what hops want: to each address names to which it comes alone; where one of them is wanted,
+-- all to which it comes; and all of a stretch that comes to just what is wanted.
+pub record AreToward (net : List NodeDecl) (rq : Request) (hops : List Hop) (node : ℕ) (rows : List Row)
+    : Type 0 where
+  pub apart : Apart 0 rows
+  pub given : (a : ℕ) (z : End) → a ≤ TOP → GivenBy rows a z → ComesTo net hops node a z
+  pub all : (a i : ℕ) (z : End) → a ≤ TOP → i < rq.size → GivenBy rows a (moved i (wanted rq hops)) →
+      ComesTo net hops node a z → GivenBy rows a z
+  pub whole : (a : ℕ) → a + rq.size ≤ TOP + 1 → ComesOnly net rq hops node a → (i : ℕ) → i < rq.size →
+      GivenBy rows (a + i) (moved i (wanted rq hops))
+
+-- a span whose first address has this name gives one of so many names from one on
+abbrev pub is_near : End → ℕ → Span → End → Bool
+is_near t size span e = nat_eq e.node t.node
+    && (if nat_lt t.base e.base then nat_lt (e.base - t.base) size
+    else nat_le (t.base - e.base) (span.hi - span.lo))
+
+-- it does, and gives the name to the address
+abbrev pub end_near : End → ℕ → Span → ℕ → End → End → Bool
+end_near t size span a z e = is_near t size span e
+    && (nat_eq e.node z.node && nat_eq (e.base + (a - span.lo)) z.base)
+
+-- so does one of the names of the row
+abbrev pub row_near : End → ℕ → Row → ℕ → End → Bool
+row_near t size r a z = in_span r.span a && list_any (λ e. end_near t size r.span a z e) r.ends
+
+-- so does one of the rows
+abbrev pub rows_near : End → ℕ → List Row → ℕ → End → Bool
+rows_near t size rows a z = list_any (λ r. row_near t size r a z) rows
+
+-- so does one of the levels
+abbrev pub levels_near : End → ℕ → List (List Row) → ℕ → End → Bool
+levels_near t size levels a z = list_any (λ rows. rows_near t size rows a z) levels
 
 -- the row has no address of the stretch
 abbrev pub is_past : ℕ → ℕ → Row → Bool
 is_past a size r = nat_lt r.span.hi a || nat_le (a + size) r.span.lo
 
--- where no hop follows, no row of stops has an address of the stretch
-abbrev pub is_clear : Flat → List Hop → ℕ → ℕ → Bool
-is_clear flat [] a size = list_all (is_past a size) flat.stops
-is_clear flat (hop ∷ hops) a size = true
+-- no address of the stretch is given a name
+abbrev pub GivesNone : (ℕ → End → Bool) → ℕ → ℕ → Type 0
+GivesNone gives a size = (i : ℕ) → i < size → (z : End) → gives (a + i) z ≡ true → ⊥
+
+-- where no hop follows, no address of the stretch of the node reaches a stop
+abbrev pub IsClear : List NodeDecl → ℕ → List Hop → ℕ → ℕ → Type 0
+IsClear net node [] a size = (i : ℕ) → i < size → (z : End) → StopsFrom net node (a + i) z → ⊥
+IsClear net node (hop ∷ hops) a size = Unit {0}

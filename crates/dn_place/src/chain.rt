@@ -3,14 +3,15 @@
 ghost use Rattle.std.specs.Prelude.{◌≡◌, ◌∷◌, ◌%◌, ◌*◌, ◌/◌, ◌^◌, ◌+◌, ◌-◌, ◌<◌, ◌≤◌, ℕ, Some, IfOk, length, slice_get};
 ghost use Rattle.dn_net.specs.Terms.{unit_at};
 ghost use Rattle.dn_placement.specs.Terms.{Meets};
-ghost use Rattle.dn_place.specs.Terms.{Answers, AreUsable, IsStage, ending, hops_of, to_output, to_port, to_unit};
+ghost use Rattle.dn_place.specs.Terms.{Answers, AreToward, AreUsable, IsStage, ending, hops_of, to_output, to_port, to_unit};
 
 use crate::hops::Hops;
 use crate::marks::{Reach, can_stand, is_allowed};
 use crate::quest::{Found, Quest, unit_of};
-use crate::rows::{is_clear, output, rows_toward, wanted};
+use crate::rows::{is_clear, lent_rows, made_rows, output, wanted};
 use crate::slots::{next_input, power};
 use crate::whole::by_agent;
+use dn_interval::Row;
 use dn_net::node::Unit;
 use dn_tables::placement::Hop;
 use std::alloc::Global;
@@ -73,7 +74,7 @@ fn by_unit<Q: Quest>(quest: &Q, stage: Stage, unit: u16) -> Found
     Ok(None)
 }
 
-/// The same through a port: each row of its node that gives what the hops want fixes one output.
+/// The same through a port, by the rows of its node that give what the hops want.
 #[cycle(hops)]
 fn by_port<Q: Quest>(quest: &Q, stage: Stage, translator: &Unit, unit: u16, port: u8) -> Found
     requires sound { Q.is_sound quest.now }
@@ -84,13 +85,44 @@ fn by_port<Q: Quest>(quest: &Q, stage: Stage, translator: &Unit, unit: u16, port
     ensures { IfOk result (λ found. Answers (Q.sought quest.now)
         (to_port stage.entry.count (hops_of stage.entry.chosen) unit port) found) }
 {
-    let flat = quest.flat(translator.ports.as_slice()[usize::from(port)]);
+    let node = translator.ports.as_slice()[usize::from(port)];
+    match lent_rows(quest.levels(node), stage.chosen) {
+        Some(rows) => by_rows(quest, stage, translator, unit, port, rows),
+        None => {
+            let rows = made_rows(stage.alloc, quest, node, stage.chosen)?;
+            by_rows(quest, stage, translator, unit, port, rows.rows())
+        }
+    }
+}
+
+/// The same by these rows: each that gives what the hops want fixes one output.
+#[cycle(hops)]
+fn by_rows<Q: Quest>(
+    quest: &Q,
+    stage: Stage,
+    translator: &Unit,
+    unit: u16,
+    port: u8,
+    rows: &[Row],
+) -> Found
+    requires sound { Q.is_sound quest.now }
+    requires stage { IsStage (Q.sought quest.now) stage }
+    requires more { length (hops_of stage.chosen) < stage.count }
+    requires unit { unit_at (Q.sought quest.now).net unit ≡ Some translator.now }
+    requires port { port < length translator.now.ports }
+    requires toward { (node : ℕ) → slice_get translator.now.ports port ≡ Some node
+        → AreToward (Q.sought quest.now).net (Q.sought quest.now).request
+        (hops_of stage.chosen) node rows.now }
+    ensures { IfOk result (λ found. Answers (Q.sought quest.now)
+        (to_port stage.entry.count (hops_of stage.entry.chosen) unit port) found) }
+{
+    let node = translator.ports.as_slice()[usize::from(port)];
     let size = quest.request().size;
     let target = wanted(quest.request(), stage.chosen);
     let end = power(translator.reach);
-    'rows: for row in rows_toward(flat, stage.chosen) {
+    'rows: for row in rows {
         if let Some(y) = output(row, target, size) {
-            if y + size <= end && is_clear(flat, stage.chosen, y, size) {
+            if y + size <= end && is_clear(quest, node, stage.chosen, y, size) {
                 if let Some(placement) = by_output(quest, stage, translator, unit, port, y)? {
                     return Ok(Some(placement));
                 }

@@ -6,7 +6,8 @@ ghost use Rattle.dn_interval.specs.declared.row.End.{End};
 ghost use Rattle.dn_interval.specs.Terms.{EndsFit, GivenBy, HasEnds, Member, in_span, moved};
 ghost use Rattle.dn_net.specs.declared.node.Unit.{Unit as UnitPart};
 ghost use Rattle.dn_net.specs.Terms.{unit_at};
-ghost use Rattle.dn_place.specs.Terms.{AreMarked, AreUnitsFrom, IsEntry, IsReady, Keeps, MarkedBelow, Marks, MarksAfter, MarksAll, MarksEnds, MarksRows, is_marked, mark_at};
+ghost use Rattle.dn_flat.specs.Terms.{levels_give};
+ghost use Rattle.dn_place.specs.Terms.{AreMarked, AreUnitsFrom, IsEntry, IsReady, Keeps, MarkedBelow, Marks, MarksAfter, MarksAll, MarksEnds, MarksGiven, MarksRows, is_marked, mark_at};
 
 use crate::quest::{Quest, unit_of};
 use dn_base::OutOfMemory;
@@ -99,13 +100,26 @@ fn entry_of<Q: Quest>(quest: &Q) -> Option<End>
     ensures { IsEntry (Q.sought quest.now) result }
 {
     match quest.at() {
-        Some(at) => stop_of(&quest.flat(quest.request().agent).stops, at),
+        Some(at) => stop_of(quest.levels(quest.request().agent).stops.as_slice(), at),
         None => None,
     }
 }
 
+/// The first of the names that levels give to an address, if they give one.
+fn stop_of(levels: &[Rows], a: u64) -> Option<End>
+    ensures given { IfSome result (λ z. levels_give levels.now a z ≡ true) }
+    ensures none { IfNone result ((z : End) → levels_give levels.now a z ≡ true → ⊥) }
+{
+    for level in levels {
+        if let Some(end) = stop_in(level, a) {
+            return Some(end);
+        }
+    }
+    None
+}
+
 /// The first of the names that rows give to an address, if they give one.
-fn stop_of(rows: &Rows, a: u64) -> Option<End>
+fn stop_in(rows: &Rows, a: u64) -> Option<End>
     ensures given { IfSome result (λ z. GivenBy rows.now a z) }
     ensures none { IfNone result ((z : End) → GivenBy rows.now a z → ⊥) }
 {
@@ -230,12 +244,22 @@ fn mark_node<Q: Quest>(quest: &Q, node: u16, marks: &mut [bool])
         Marks (Q.sought quest.now).net node marks.new }
 {
     if node < quest.nodes() {
-        mark_stops(quest.flat(node).stops.rows(), marks);
+        mark_levels(quest.levels(node).stops.as_slice(), marks);
+    }
+}
+
+/// Marks the nodes of the names of levels.
+fn mark_levels(levels: &[Rows], marks: &mut [bool])
+    ensures keeps { Keeps marks.old marks.new }
+    ensures marks { MarksGiven (levels_give levels.now) marks.new }
+{
+    for level in levels {
+        mark_rows(level.rows(), marks);
     }
 }
 
 /// Marks the nodes of the names of rows.
-fn mark_stops(rows: &[Row], marks: &mut [bool])
+fn mark_rows(rows: &[Row], marks: &mut [bool])
     ensures keeps { Keeps marks.old marks.new }
     ensures marks { MarksRows rows.now marks.new }
 {

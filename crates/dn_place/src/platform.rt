@@ -4,11 +4,13 @@ use crate::hops::Hops;
 use crate::quest::Quest;
 use crate::slot::Slot;
 use dn_base::OutOfMemory;
-use dn_flat::flat::Flat;
 use dn_flat::flats::Flats;
+use dn_flat::levels::Levels;
+use dn_interval::{End, Rows};
 use dn_net::net::Net;
 use dn_net::node::Unit;
 use dn_placement::request::Request;
+use std::alloc::Global;
 use std::marker::{Brand, PhantomData};
 
 /// What is looked for, and where, as contracts see it: no code holds it.
@@ -68,8 +70,12 @@ impl<
         self.net.unit(node)
     }
 
-    fn flat(&self, node: u16) -> &Flat {
+    fn levels(&self, node: u16) -> &Levels {
         self.flats.of(node)
+    }
+
+    fn toward(&self, alloc: Global, node: u16, first: End, size: u64) -> Result<Rows, OutOfMemory> {
+        self.flats.toward(alloc, node, first, size)
     }
 
     fn slot(&self, unit: u16, slot: u32) -> Slot {

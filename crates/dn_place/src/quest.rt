@@ -7,20 +7,24 @@ ghost use Rattle.dn_place.specs.Terms.{IsFormed, IsReady};
 use crate::hops::Hops;
 use crate::slot::Slot;
 use dn_base::OutOfMemory;
-use dn_flat::flat::Flat;
+use dn_flat::levels::Levels;
+use dn_interval::{End, Rows};
 use dn_net::node::Unit;
 use dn_placement::request::Request;
 use dn_tables::placement::Placement;
+use std::alloc::Global;
 
 /// The placement that is found, if one is. `Err` is want of memory.
 pub(crate) type Found = Result<Option<Placement>, OutOfMemory>;
 
 /// A request, and the platform on which a placement of it is looked for.
 pub(crate) trait Quest {
-    ghost use Rattle.std.specs.Prelude.{◌≡◌, ◌<◌, ◌↔◌, length, IfOk, IsTrue};
+    ghost use Rattle.std.specs.Prelude.{◌≡◌, ◌+◌, ◌<◌, ◌≤◌, ◌↔◌, length, IfOk, IsTrue};
     ghost use Rattle.std.specs.Option.{option_copied};
     ghost use Rattle.dn_net.specs.Decode.{unit_at};
-    ghost use Rattle.dn_flat.specs.Stages.{IsFlat};
+    ghost use Rattle.dn_flat.specs.Levels.{IsLevels, ResolvesWhole};
+    ghost use Rattle.dn_interval.specs.declared.span.TheConstants.{TOP};
+    ghost use Rattle.dn_interval.specs.Rows.{AreNormal};
     ghost use Rattle.dn_placement.specs.Exposure.{IsAdmissible};
     ghost use Rattle.dn_placement.specs.Placement.{IsPlacement};
     ghost use Rattle.dn_place.specs.Hops.{hops_of};
@@ -54,11 +58,20 @@ pub(crate) trait Quest {
         requires there { node < length (sought self.now).net }
         ensures { option_copied result ≡ unit_at (sought self.now).net node };
 
-    /// What the addresses of a node come to.
-    fn flat(&self, node: u16) -> &Flat
+    /// What a node reaches.
+    fn levels(&self, node: u16) -> &Levels
         requires sound { is_sound self.now }
         requires there { node < length (sought self.now).net }
-        ensures { IsFlat (sought self.now).net node result.now };
+        ensures { IsLevels (sought self.now).net node result.now };
+
+    /// Where the addresses of a node resolve to so many names from one on, one after another, and to no other.
+    fn toward(&self, alloc: Global, node: u16, first: End, size: u64) -> Result<Rows, OutOfMemory>
+        requires sound { is_sound self.now }
+        requires there { node < length (sought self.now).net }
+        requires some { 1 ≤ size }
+        requires within { first.base + size ≤ TOP + 1 }
+        ensures { IfOk result (λ rows. AreNormal
+            (ResolvesWhole (sought self.now).net node first size) rows) };
 
     /// What a hop meets in a slot.
     fn slot(&self, unit: u16, slot: u32) -> Slot

@@ -1,14 +1,22 @@
-//! What rows give to a stretch of addresses.
+//! What rows give to a stretch of addresses, and which rows of a node give what is wanted.
 
-ghost use Rattle.std.specs.Prelude.{◌≡◌, ◌<◌, ◌≤◌, ◌+◌, ℕ, IfSome, IfNone};
+ghost use Rattle.std.specs.Prelude.{◌≡◌, ◌<◌, ◌≤◌, ◌+◌, ◌-◌, ◌||◌, ◌&&◌, ℕ, false, length, IfOk, IfSome, IfNone, IsTrue, OnOk, List};
 ghost use Rattle.std.specs.List.{list_all};
-ghost use Rattle.dn_interval.specs.Terms.{Apart};
-ghost use Rattle.dn_place.specs.Terms.{InRow, hops_of, is_clear, is_past, rows_toward, wanted};
+ghost use Rattle.dn_interval.specs.declared.row.End.{End};
+ghost use Rattle.dn_interval.specs.declared.span.TheConstants.{TOP};
+ghost use Rattle.dn_interval.specs.Terms.{AreNormal, EndsFit, in_span, rows_give, segs_give};
+ghost use Rattle.dn_net.specs.declared.node.NodeDecl.{NodeDecl};
+ghost use Rattle.dn_flat.specs.Terms.{IsLevels, levels_give};
+ghost use Rattle.dn_placement.specs.declared.request.Request.{Request};
+ghost use Rattle.dn_place.specs.Terms.{AreToward, GivesNone, InRow, IsClear, IsReady, end_near, hops_of, is_near, is_past, levels_near, row_near, rows_near, wanted};
 
 use crate::hops::Hops;
-use dn_flat::flat::Flat;
-use dn_interval::{End, Row};
+use crate::quest::Quest;
+use dn_base::OutOfMemory;
+use dn_flat::levels::Levels;
+use dn_interval::{End, Row, Rows, Seg, Span};
 use dn_placement::request::Request;
+use std::alloc::Global;
 
 /// The first address of a stretch of so many to which the row gives the name and no other.
 pub(crate) fn output(row: &Row, target: End, size: u64) -> Option<u64>
@@ -44,14 +52,115 @@ pub(crate) fn wanted(request: Request, hops: Hops) -> End
     }
 }
 
-/// The rows of a node that give it.
-pub(crate) fn rows_toward(flat: &Flat, hops: Hops) -> &[Row]
-    ensures rows { result.now ≡ rows_toward flat.now (hops_of hops) }
-    ensures apart { Apart 0 result.now }
+/// The rows of a node that give it, where one level has all of its stops and a hop follows: they are lent.
+pub(crate) fn lent_rows(levels: &Levels, hops: Hops) -> Option<&[Row]>
+    ensures { IfSome result (λ rows. (net : List NodeDecl) (rq : Request) (node : ℕ)
+        → IsLevels net node levels.now → AreToward net rq (hops_of hops) node rows.now) }
 {
-    match hops {
-        Hops::Zero => flat.accepts.rows(),
-        Hops::One(_) | Hops::Two(_, _) | Hops::Three(_, _, _) => flat.stops.rows(),
+    let [level] = levels.stops.as_slice() else {
+        return None;
+    };
+    if hops.count() == 0 {
+        return None;
+    }
+    Some(level.rows())
+}
+
+/// The rows of a node that give it, made of all levels.
+pub(crate) fn made_rows<Q: Quest>(
+    alloc: Global,
+    quest: &Q,
+    node: u16,
+    hops: Hops,
+) -> Result<Rows, OutOfMemory>
+    requires sound { Q.is_sound quest.now }
+    requires ready { IsReady (Q.sought quest.now) }
+    requires there { node < length (Q.sought quest.now).net }
+    ensures { IfOk result (λ rows. AreToward (Q.sought quest.now).net
+        (Q.sought quest.now).request (hops_of hops) node rows) }
+{
+    let size = quest.request().size;
+    let target = wanted(quest.request(), hops);
+    if hops.count() == 0 {
+        return quest.toward(alloc, node, target, size);
+    }
+    near_rows(alloc, quest.levels(node).stops.as_slice(), target, size)
+}
+
+/// Where levels give names of so many from one on, as normal rows of these names. A row counts whole, also where it
+/// gives others beside them.
+fn near_rows(alloc: Global, levels: &[Rows], target: End, size: u64) -> Result<Rows, OutOfMemory>
+    ensures { IfOk result (λ rows. AreNormal (λ a z. IsTrue
+        (levels_near target size levels.now a z)) rows) }
+{
+    let mut segs = Vec::new(alloc);
+    for level in levels {
+        push_near(&mut segs, level, target, size)?;
+    }
+    Rows::normal(alloc, &segs)
+}
+
+/// Adds where rows give such names.
+fn push_near(segs: &mut Vec<Seg>, rows: &Rows, target: End, size: u64) -> Result<(), OutOfMemory>
+    ensures { OnOk result ((a : ℕ) (z : End) → segs_give segs.new.items a z
+        ≡ (segs_give segs.old.items a z || rows_near target size rows.now a z)) }
+{
+    let all = rows.rows();
+    for row in all {
+        push_row(segs, row, target, size)?;
+    }
+    Ok(())
+}
+
+/// Adds where a row gives such names.
+fn push_row(segs: &mut Vec<Seg>, row: &Row, target: End, size: u64) -> Result<(), OutOfMemory>
+    requires fit { EndsFit row.now }
+    ensures { OnOk result ((a : ℕ) (z : End) → segs_give segs.new.items a z
+        ≡ (segs_give segs.old.items a z || row_near target size row.now a z)) }
+{
+    let span = row.span();
+    let ends = row.ends();
+    for end in ends {
+        push_end(segs, span, *end, target, size)?;
+    }
+    Ok(())
+}
+
+/// Adds where a span gives a name, moved on from its first address, if some of it is such a name.
+fn push_end(
+    segs: &mut Vec<Seg>,
+    span: Span,
+    end: End,
+    target: End,
+    size: u64,
+) -> Result<(), OutOfMemory>
+    requires fits { end.base + (span.hi - span.lo) ≤ TOP }
+    ensures { OnOk result ((a : ℕ) (z : End) → segs_give segs.new.items a z
+        ≡ (segs_give segs.old.items a z || (in_span span a
+        && end_near target size span a z end))) }
+{
+    if !is_near(span, end, target, size) {
+        return Ok(());
+    }
+    let seg = Seg {
+        span,
+        node: end.node,
+        base: end.base,
+    };
+    Ok(segs.push(seg)?)
+}
+
+/// Whether a span gives one of so many names from one on, where its first address has this name.
+fn is_near(span: Span, end: End, target: End, size: u64) -> bool
+    ensures { result ≡ is_near target size span end }
+{
+    if end.node != target.node {
+        return false;
+    }
+    if target.base < end.base {
+        end.base - target.base < size
+    } else {
+        target.base - end.base <= span.hi - span.lo
     }
 }
 
@@ -64,14 +173,43 @@ fn are_past(rows: &[Row], a: u64, size: u64) -> bool
         .all(|row| row.span.hi < a || a + size <= row.span.lo)
 }
 
-/// Whether no stop is reached from the stretch, where it is to reach none.
-pub(crate) fn is_clear(flat: &Flat, hops: Hops, a: u64, size: u64) -> bool
+/// Whether rows give nothing to the stretch.
+fn is_level_past(rows: &Rows, a: u64, size: u64) -> bool
     requires some { 1 ≤ size }
     requires fits { a + size < 18446744073709551616 }
-    ensures { result ≡ is_clear flat.now (hops_of hops) a size }
+    ensures yes { IsTrue result → GivesNone (rows_give rows.now) a size }
+    ensures no { result ≡ false → GivesNone (rows_give rows.now) a size → ⊥ }
+{
+    are_past(rows.rows(), a, size)
+}
+
+/// Whether levels give nothing to the stretch.
+fn are_levels_past(levels: &[Rows], a: u64, size: u64) -> bool
+    requires some { 1 ≤ size }
+    requires fits { a + size < 18446744073709551616 }
+    ensures yes { IsTrue result → GivesNone (levels_give levels.now) a size }
+    ensures no { result ≡ false → GivesNone (levels_give levels.now) a size → ⊥ }
+{
+    for level in levels {
+        if !is_level_past(level, a, size) {
+            return false;
+        }
+    }
+    true
+}
+
+/// Whether no stop is reached from the stretch of a node, where it is to reach none.
+pub(crate) fn is_clear<Q: Quest>(quest: &Q, node: u16, hops: Hops, a: u64, size: u64) -> bool
+    requires sound { Q.is_sound quest.now }
+    requires there { node < length (Q.sought quest.now).net }
+    requires some { 1 ≤ size }
+    requires fits { a + size ≤ TOP + 1 }
+    ensures yes { IsTrue result → IsClear (Q.sought quest.now).net node (hops_of hops) a size }
+    ensures no { result ≡ false
+        → IsClear (Q.sought quest.now).net node (hops_of hops) a size → ⊥ }
 {
     match hops {
-        Hops::Zero => are_past(flat.stops.rows(), a, size),
+        Hops::Zero => are_levels_past(quest.levels(node).stops.as_slice(), a, size),
         Hops::One(_) | Hops::Two(_, _) | Hops::Three(_, _, _) => true,
     }
 }

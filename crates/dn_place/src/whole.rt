@@ -3,18 +3,18 @@
 ghost use Rattle.std.specs.Prelude.{◌≡◌, ◌≤◌, ◌↔◌, false, Some, IfOk, IfSome, IfNone, IsTrue, length};
 ghost use Rattle.dn_kind.specs.Terms.{both_rights};
 ghost use Rattle.dn_placement.specs.Terms.{IsAt, Leads, hop_page};
-ghost use Rattle.dn_place.specs.Terms.{Answers, CanOwn, IsAddressed, IsChosen, IsReady, PagesBelow, PagesFrom, ending, hops_of, to_address, to_page};
+ghost use Rattle.dn_place.specs.Terms.{Answers, AreToward, CanOwn, IsAddressed, IsChosen, IsReady, PagesBelow, PagesFrom, ending, hops_of, to_address, to_page};
 
 use crate::hops::Hops;
 use crate::quest::{Found, Quest, unit_of};
-use crate::rows::{output, rows_toward, wanted};
+use crate::rows::{lent_rows, made_rows, output, wanted};
 use crate::slots::is_hop_free;
+use dn_interval::Row;
 use dn_kind::rights::Rights;
 use dn_tables::placement::Hop;
 use std::alloc::Global;
 
-/// The first placement of just these hops: each row of the agent that gives the input of the first
-/// hop fixes one address.
+/// The first placement of just these hops, by the rows of the agent that give the input of the first.
 pub(crate) fn by_agent<Q: Quest>(alloc: Global, quest: &Q, hops: Hops) -> Found
     requires sound { Q.is_sound quest.now }
     requires ready { IsReady (Q.sought quest.now) }
@@ -23,10 +23,30 @@ pub(crate) fn by_agent<Q: Quest>(alloc: Global, quest: &Q, hops: Hops) -> Found
     ensures { IfOk result (λ found. Answers (Q.sought quest.now)
         (ending (length (hops_of hops)) (hops_of hops)) found) }
 {
-    let flat = quest.flat(quest.request().agent);
+    let agent = quest.request().agent;
+    match lent_rows(quest.levels(agent), hops) {
+        Some(rows) => by_rows(alloc, quest, hops, rows),
+        None => {
+            let rows = made_rows(alloc, quest, agent, hops)?;
+            by_rows(alloc, quest, hops, rows.rows())
+        }
+    }
+}
+
+/// The same by these rows: each that gives the input of the first hop fixes one address.
+fn by_rows<Q: Quest>(alloc: Global, quest: &Q, hops: Hops, rows: &[Row]) -> Found
+    requires sound { Q.is_sound quest.now }
+    requires ready { IsReady (Q.sought quest.now) }
+    requires chosen { IsChosen (Q.sought quest.now) (length (hops_of hops)) (hops_of hops) }
+    requires some { 1 ≤ length (hops_of hops) }
+    requires toward { AreToward (Q.sought quest.now).net (Q.sought quest.now).request
+        (hops_of hops) (Q.sought quest.now).request.agent rows.now }
+    ensures { IfOk result (λ found. Answers (Q.sought quest.now)
+        (ending (length (hops_of hops)) (hops_of hops)) found) }
+{
     let size = quest.request().size;
     let target = wanted(quest.request(), hops);
-    'rows: for row in rows_toward(flat, hops) {
+    'rows: for row in rows {
         if let Some(v) = output(row, target, size) {
             if is_at(quest.at(), v) {
                 if let Some(placement) = by_address(alloc, quest, hops, v)? {

@@ -32,7 +32,7 @@ use Rattle.dn_vector.specs.Vectors.{vector_request}
 use Rattle.dn_book.specs.Book.{IsFaithful}
 use Rattle.dn_book.specs.State.{BookState}
 use Rattle.dn_book.specs.Tables.{IsKept}
-use Rattle.dn_flat.specs.Stages.{AreFlats}
+use Rattle.dn_flat.specs.Levels.{AreFlats}
 use Rattle.dn_image.specs.Image.{are_filled, image}
 use Rattle.dn_tables.specs.Set.{words_of}
 use Rattle.dn_module.specs.declared.command.Command.{Command}

@@ -1,5 +1,5 @@
 -- What the code keeps of a script: the book with its tables, the ids, and what is made of them once.
-use Rattle.std.specs.Prelude.{◌≡◌, ◌⊎◌, ℕ, true, List, Option, Result, Ok, Err, IsTrue}
+use Rattle.std.specs.Prelude.{◌≡◌, ◌<◌, ◌⊎◌, ℕ, true, List, length, Option, Result, Ok, Err, IsTrue}
 use Rattle.std.specs.Option.{IfSome}
 use Rattle.dn_base.specs.declared.device.TableEvent.{TableEvent}
 use Rattle.dn_base.specs.declared.device.UnitWords.{UnitWords}
@@ -7,7 +7,8 @@ use Rattle.dn_base.specs.Device.{Logged, UnitSize}
 use Rattle.dn_base.specs.Outside.{Added}
 use Rattle.dn_net.specs.declared.node.NodeDecl.{NodeDecl}
 use Rattle.dn_kind.specs.Kind.{Meaning}
-use Rattle.dn_flat.specs.Stages.{AreFlats, IsFlat}
+use Rattle.dn_flat.specs.Levels.{AreFlats}
+use Rattle.dn_flat.specs.Stages.{IsFlat}
 use Rattle.dn_tables.specs.Set.{IsOnDevice, words_of}
 use Rattle.dn_image.specs.Image.{are_filled, image}
 use Rattle.dn_book.specs.Book.{IsFaithful}
@@ -26,9 +27,10 @@ use Rattle.dn_tool.specs.Turn.{State, Turn}
 abbrev pub state_view : Kept → State
 state_view k = record { book = k.book.grants; cleared = k.book.cleared; ids = k.ids }
 
--- what is kept of the first agent is what it sees
-abbrev pub IsFirst : List NodeDecl → FirstView → Type 0
-IsFirst net first = IsFlat net first.agent first.flat
+-- the first agent is there, and what is kept of it is what it sees
+pub record IsFirst (net : List NodeDecl) (first : FirstView) : Type 0 where
+  pub there : first.agent < length net
+  pub flat : IsFlat net first.agent first.flat
 
 -- no call of the device failed, the book is faithful and the tables keep it in words of 64 bits, the
 -- bytes are the image of the tables, and the views are those of the net, where they were made

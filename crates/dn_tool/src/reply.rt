@@ -5,6 +5,7 @@ ghost use Rattle.std.specs.String.{string_bytes};
 ghost use Rattle.dn_net.specs.declared.node.Name.{Name as NamePart};
 ghost use Rattle.dn_net.specs.Terms.{IsLegalNet, is_agent_at, over_within};
 ghost use Rattle.dn_kind.specs.Terms.{Held, are_there};
+ghost use Rattle.dn_flat.specs.Terms.{AreFlats};
 ghost use Rattle.dn_view.specs.Terms.{AreViewed};
 ghost use Rattle.dn_module.specs.Terms.{names_within};
 ghost use Rattle.dn_interval.specs.Terms.{ends_within, seen_by};
@@ -17,6 +18,7 @@ ghost use Rattle.dn_tool.specs.Terms.{IsFirst, IsMachine, IsReady, IsStill, acce
 use crate::machine::Machine;
 use crate::reshape;
 use crate::state::{FirstView, State, keep_first, keep_flats, keep_image};
+use dn_flat::flats::Flats;
 use dn_image::write::VERSION;
 use dn_interval::Rows;
 use dn_kind::rights::Access;
@@ -285,8 +287,8 @@ fn no_agent(alloc: Global, text: &str) -> Result<String, AllocError>
 }
 
 /// What an agent sees under the tables, below a heading with this text, the access and the number of
-/// rows. What all nodes see is made once, and only where the agent reaches a unit, or is not the first
-/// one whose view is asked for.
+/// rows. What all nodes reach is made once, and only where the agent reaches a unit, or is not the first
+/// one whose view is asked for. One that is known to see what the first sees is lent its rows.
 fn agent_view(
     alloc: Global,
     machine: Machine,
@@ -311,7 +313,7 @@ fn agent_view(
     let Some(flats) = &state.flats else {
         unreachable!()
     };
-    if let Some(rows) = fixed_view(net, flats.of(node), node) {
+    if let Some(rows) = shared_rows(net, flats, &state.first, node) {
         return rows_text(alloc, net, text, mode, rows);
     }
     let system = System { net, flats, kinds };
@@ -330,6 +332,27 @@ fn first_rows<'a>(net: &Net, first: &'a Option<FirstView>, node: u16) -> Option<
 {
     match first {
         Some(first) if first.agent == node => fixed_view(net, &first.flat, node),
+        _ => None,
+    }
+}
+
+/// To what the addresses of a node resolve under any tables, where it is known to see what is kept as that of the
+/// first agent, and they reach no unit.
+fn shared_rows<'a>(
+    net: &Net,
+    flats: &Flats,
+    first: &'a Option<FirstView>,
+    node: u16,
+) -> Option<&'a Rows>
+    requires legal { IsLegalNet net.now }
+    requires flats { AreFlats net.now flats.now }
+    requires first { IfSome first.now (IsFirst net.now) }
+    requires there { node < length net.now }
+    ensures rows { IfSome result (λ rows. (h : Held) → AreViewed net.now h node rows.now) }
+    ensures within { IfSome result (λ rows. IsTrue (ends_within (length net.now) rows.now)) }
+{
+    match first {
+        Some(first) if flats.is_shared(first.agent, node) => fixed_view(net, &first.flat, node),
         _ => None,
     }
 }

@@ -31,7 +31,7 @@ pub struct FirstView {
 }
 
 /// The book with its tables, the ids that came so far, and what is made once and kept: the image of
-/// the present tables, and the views of the net.
+/// the present tables, a view of the net, and what its nodes reach.
 #[derive(Drop)]
 pub struct State {
     /// The live grants, and the tables that hold their records.
@@ -42,7 +42,7 @@ pub struct State {
     pub image: Option<Items<u8>>,
     /// What the agent sees in the net whose view was asked for first.
     pub first: Option<FirstView>,
-    /// What each node sees in the net, where a command asked for all.
+    /// What each node reaches in the net, where a command asked for all.
     pub flats: Option<Flats>,
 }
 
@@ -127,7 +127,7 @@ pub fn keep_first(
     Ok(())
 }
 
-/// Flattens the nodes of a net, where their views are not kept. `Err` is want of memory.
+/// Makes what the nodes of a net reach, where that is not kept. `Err` is want of memory.
 pub fn keep_flats(
     alloc: Global,
     machine: Machine,

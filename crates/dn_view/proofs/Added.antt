@@ -1,25 +1,22 @@
 -- What an agent's addresses show newly, from the segments of its stops.
-use Rattle.std.proofs.Common.{◌≡◌, ℕ, ◌<◌, ◌≤◌, ◌↔◌, true, false, ◌&&◌, nat_eq, List, length, slice_get, IsTrue, sym, ap, ◌∙◌, eq-eqb}
+use Rattle.std.proofs.Common.{◌≡◌, ℕ, ◌<◌, ◌≤◌, ◌↔◌, true, false, ◌&&◌, nat_eq, List, length, IsTrue, sym, ap, ◌∙◌, eq-eqb}
 use Rattle.std.proofs.lemmas.Bool.{false≢true}
 use Rattle.dn_interval.specs.declared.row.End.{End}
 use Rattle.dn_interval.specs.declared.row.Seg.{Seg}
 use Rattle.dn_interval.specs.declared.span.TheConstants.{TOP}
-use Rattle.dn_interval.specs.Onward.{rows_of}
-use Rattle.dn_interval.specs.Strands.{segs_give, rows_give}
+use Rattle.dn_interval.specs.Strands.{segs_give}
 use Rattle.dn_net.specs.declared.node.NodeDecl.{NodeDecl}
 use Rattle.dn_net.specs.Decode.{StopsAt}
 use Rattle.dn_kind.specs.declared.rights.Access.{Access}
 use Rattle.dn_kind.specs.Rights.{allows}
 use Rattle.dn_kind.specs.Tables.{Held, allowing}
-use Rattle.dn_flat.specs.declared.flat.Flat.{Flat}
-use Rattle.dn_flat.specs.Stages.{AreFlats}
+use Rattle.dn_flat.specs.Levels.{AreFlats, FlatsView, levels_give}
 use Rattle.dn_flat.specs.Views.{name_of_end, end_of}
 use Rattle.dn_tables.specs.Placement.{Place}
 use Rattle.dn_placement.specs.declared.request.Request.{Request}
 use Rattle.dn_placement.specs.Records.{joined_records, placed_records}
-use Rattle.dn_view.specs.declared.pass.Part.TheVariants.{Stops}
 use Rattle.dn_view.specs.Exact.{IsAdded}
-use Rattle.dn_view.specs.Passes.{rows_part}
+use Rattle.dn_view.specs.Passes.{stops_of}
 use Rattle.dn_view.specs.Records.{fresh_records}
 use Rattle.dn_view.specs.Through.{ComesNewly}
 use Rattle.dn_view.proofs.Viewed.{node_stops}
@@ -29,8 +26,8 @@ module _ (net : List NodeDecl) (h : Held) (rq : Request) (p : Place) (access : A
   not_asked e own allowed = absurd (false≢true (sym e ∙ ap (λ b. b && allows rq.rights access) (eq-eqb node rq.agent own) ∙ allowed))
 
   -- what is shown newly of the node's stops is what is added at its addresses
-  pub added_is : (flats : List Flat) → AreFlats net flats → node < length flats → (stops shown : List Seg)
-      → ((a : ℕ) (z : End) → a ≤ TOP → segs_give stops a z ≡ rows_give (rows_of (rows_part Stops) (slice_get flats node)) a z)
+  pub added_is : (flats : FlatsView) → AreFlats net flats → node < length flats.nodes → (stops shown : List Seg)
+      → ((a : ℕ) (z : End) → a ≤ TOP → segs_give stops a z ≡ levels_give (stops_of flats node) a z)
       → ((a : ℕ) (z : End) → a ≤ TOP → IsTrue (segs_give shown a z) ↔ ((s : End) × IsTrue (segs_give stops a s) × ComesNewly net (allowing access h) (allowing access (fresh_records h (placed_records net rq p))) (allowing access (joined_records h (placed_records net rq p))) (name_of_end s) (name_of_end z)))
       → (a : ℕ) (z : End) → a ≤ TOP → (segs_give shown a z ≡ true) ↔ IsAdded net h rq p access (record { node = node; addr = a }) (name_of_end z)
   added_is flats are l stops shown es is a z low = (into, back)

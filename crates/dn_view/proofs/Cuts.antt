@@ -5,12 +5,13 @@ use Rattle.std.proofs.Math.ListN.{drop_of_length-le}
 use Rattle.std.proofs.Math.Seq.{drop-cons}
 use Rattle.std.proofs.lemmas.Bool.{and_parts, or_parts, false≢true}
 use Rattle.std.specs.List.{list_any}
-use Rattle.dn_interval.specs.declared.row.Row.{Row}
-use Rattle.dn_interval.specs.Onward.{gives_by, rows_of}
 use Rattle.dn_interval.specs.Strands.{rows_give}
-use Rattle.dn_flat.specs.declared.flat.Flat.{Flat}
+use Rattle.dn_flat.specs.Levels.{FlatsView, levels_give, reached_of}
+use Rattle.dn_flat.proofs.Shown.{shows_none}
 use Rattle.dn_view.specs.declared.pass.Part.{Part}
+use Rattle.dn_view.specs.declared.pass.Part.TheVariants.{Accepts, Stops}
 use Rattle.dn_interval.specs.declared.row.End.{End}
+use Rattle.dn_interval.specs.declared.row.Row.{Row}
 use Rattle.dn_interval.specs.declared.row.Seg.{Seg}
 use Rattle.dn_interval.specs.declared.span.TheConstants.{TOP}
 use Rattle.dn_interval.specs.Spans.{in_span}
@@ -23,7 +24,7 @@ use Rattle.dn_kind.specs.Kind.{is_plain, is_within}
 use Rattle.dn_kind.specs.Tables.{Held, to_port, output}
 use Rattle.dn_kind.specs.Units.{unit_shape}
 use Rattle.dn_kind.proofs.Outputs.{output_small}
-use Rattle.dn_view.specs.Passes.{has_rows, rows_part, in_slot, names_go, outputs, outputs_by, seg_name}
+use Rattle.dn_view.specs.Passes.{has_rows, part_gives, part_leads, stops_of, in_slot, names_go, outputs, outputs_by, seg_name}
 use Rattle.dn_view.proofs.Pages.{pages_ascend, IsPartIn, part_in, in_part, of_part, part_names, same_test, true_all, all_true}
 
 pub sent_name : (o : Option ℕ) (a : ℕ) (x : Name) → ◌≡◌ {A = List Name} (x ∷ []) (to_port o a) → (o ≡ Some x.node) × (x.addr ≡ a)
@@ -180,21 +181,37 @@ none_at p [] i x e f = cc
 none_at p (y ∷ ys) zero x e f = let g : y ≡ x = cc in let o = or_parts (p y) (list_any p ys) e in ap p (sym g) ∙ o.0
 none_at p (y ∷ ys) (suc i) x e f = none_at p ys i x (or_parts (p y) (list_any p ys) e).1 f
 
--- where no port's node has rows, nothing goes on
-pub none_leads : (net : List NodeDecl) (h : Held) (flats : List Flat) (part : Part) (s : Seg) (u : UnitPart) (a : ℕ) (z : End) → unit_at net s.node ≡ Some u → list_any (λ p. has_rows (rows_of (rows_part part) (slice_get flats p))) u.ports ≡ false → names_go (gives_by (rows_part part) flats) (outputs net h (seg_name s a)) z ≡ false
+-- layers with no row give nothing
+
+no_rows : (rows : List Row) (n : ℕ) (z : End) → has_rows rows ≡ false → rows_give rows n z ≡ false
+no_rows [] n z e = refl
+no_rows (r ∷ rs) n z e = let f : 0 < length (r ∷ rs) = omega arith in absurd (false≢true (sym e ∙ lt-ltb 0 (length (r ∷ rs)) f))
+
+no_layer : (layers : List (List Row)) (n : ℕ) (z : End) → list_any has_rows layers ≡ false → levels_give layers n z ≡ false
+no_layer [] n z e = refl
+no_layer (rows ∷ rest) n z e =
+    let o = or_parts (has_rows rows) (list_any has_rows rest) e in
+    ap (λ t. t || levels_give rest n z) (no_rows rows n z o.0) ∙ no_layer rest n z o.1
+
+-- where no port's node leads to anything, nothing goes on
+pub none_leads : (net : List NodeDecl) (h : Held) (flats : FlatsView) (part : Part) (s : Seg) (u : UnitPart) (a : ℕ) (z : End) → unit_at net s.node ≡ Some u → list_any (λ p. part_leads part flats p) u.ports ≡ false → names_go (part_gives part flats) (outputs net h (seg_name s a)) z ≡ false
 none_leads net h flats part s u a z eu none =
-    ap (λ o. names_go (gives_by (rows_part part) flats) (outputs_by h (seg_name s a) o) z) eu
+    ap (λ o. names_go (part_gives part flats) (outputs_by h (seg_name s a) o) z) eu
     ∙ by (h s.node ((s.base + (a - s.span.lo)) / 2 ^ u.page))
   where
-    empty : (rows : List Row) (n : ℕ) → has_rows rows ≡ false → rows_give rows n z ≡ false
-    empty [] n e = refl
-    empty (r ∷ rs) n e = let f : 0 < length (r ∷ rs) = omega arith in let t : has_rows (r ∷ rs) ≡ true = lt-ltb 0 (length (r ∷ rs)) f in absurd (false≢true (sym e ∙ t))
+    empty : {X : Type 0} (xs : List X) → nat_lt 0 (length xs) ≡ false → xs ≡ []
+    empty [] e = refl
+    empty (x ∷ xs) e = let f : 0 < length (x ∷ xs) = omega arith in let t : nat_lt 0 (length (x ∷ xs)) ≡ true = lt-ltb 0 (length (x ∷ xs)) f in absurd (false≢true (sym e ∙ t))
 
-    to : (o : Option ℕ) (i n : ℕ) → slice_get u.ports i ≡ o → names_go (gives_by (rows_part part) flats) (to_port o n) z ≡ false
+    leads : (q : Part) (p n : ℕ) → part_leads q flats p ≡ false → part_gives q flats p n z ≡ false
+    leads Accepts p n e = shows_none flats p n z (empty (reached_of (slice_get flats.nodes p)) e)
+    leads Stops p n e = no_layer (stops_of flats p) n z e
+
+    to : (o : Option ℕ) (i n : ℕ) → slice_get u.ports i ≡ o → names_go (part_gives part flats) (to_port o n) z ≡ false
     to None i n e = refl
-    to (Some p) i n e = or-false (gives_by (rows_part part) flats p n z) ∙ empty (rows_of (rows_part part) (slice_get flats p)) n (none_at (λ p. has_rows (rows_of (rows_part part) (slice_get flats p))) u.ports i p none e)
+    to (Some p) i n e = or-false (part_gives part flats p n z) ∙ leads part p n (none_at (λ p. part_leads part flats p) u.ports i p none e)
 
-    by : (o : Option Record) → names_go (gives_by (rows_part part) flats) (output u o (s.base + (a - s.span.lo))) z ≡ false
+    by : (o : Option Record) → names_go (part_gives part flats) (output u o (s.base + (a - s.span.lo))) z ≡ false
     by None = refl
     by (Some r) = to (slice_get u.ports r.port) r.port (r.page * 2 ^ u.page + (s.base + (a - s.span.lo)) % 2 ^ u.page) refl
 

@@ -6,7 +6,6 @@ use Rattle.dn_base.proofs.Lists.{list_all-at}
 use Rattle.dn_interval.specs.declared.row.End.{End}
 use Rattle.dn_interval.specs.declared.row.Row.{Row}
 use Rattle.dn_interval.specs.declared.span.TheConstants.{TOP}
-use Rattle.dn_interval.specs.Onward.{rows_of}
 use Rattle.dn_interval.specs.Spans.{in_span}
 use Rattle.dn_interval.specs.Strands.{ends_give, row_gives, rows_give}
 use Rattle.dn_net.specs.declared.node.Name.{Name}
@@ -21,19 +20,17 @@ use Rattle.dn_kind.specs.declared.unit_kind.Record.{Record}
 use Rattle.dn_kind.specs.Rights.{allows}
 use Rattle.dn_kind.specs.Tables.{Held, allowing, output, record_allowing, to_port}
 use Rattle.dn_kind.proofs.Nodes.{ports_there}
-use Rattle.dn_flat.specs.declared.flat.Flat.{Flat}
-use Rattle.dn_flat.specs.Stages.{AreFlats}
+use Rattle.dn_flat.specs.Levels.{AreFlats, FlatsView, levels_give}
 use Rattle.dn_flat.specs.Views.{name_of_end, end_of}
 use Rattle.dn_tables.specs.declared.placement.Hop.{Hop}
 use Rattle.dn_tables.specs.Placement.{Place}
 use Rattle.dn_placement.specs.declared.request.Request.{Request}
 use Rattle.dn_placement.specs.Records.{hop_record_by, hop_rights, hops_records, is_taken_by, joined_records, or_record, placed_records, slot_record}
-use Rattle.dn_view.specs.declared.pass.Part.TheVariants.{Stops}
 use Rattle.dn_view.specs.Exact.{IsAdded, IsExactAt}
-use Rattle.dn_view.specs.Passes.{has_rows, outputs_by, rows_part}
+use Rattle.dn_view.specs.Passes.{has_rows, outputs_by, stops_of}
 use Rattle.dn_view.specs.Records.{fresh_record, fresh_records}
 use Rattle.dn_view.specs.Through.{ComesNewly, Newly}
-use Rattle.dn_view.specs.Untouched.{can_meet, has_hop, leads_to_units, rows_meet}
+use Rattle.dn_view.specs.Untouched.{can_meet, has_hop, layers_meet, leads_to_units}
 use Rattle.dn_view.proofs.Added.{not_asked}
 use Rattle.dn_view.proofs.Buffers.{exact_none}
 use Rattle.dn_view.proofs.Cuts.{none_at}
@@ -71,6 +68,9 @@ given_rows : (rows : List Row) (a : ℕ) (z : End) → rows_give rows a z ≡ tr
 given_rows [] a z e = cc
 given_rows (r ∷ rs) a z e = lt-ltb 0 (length (r ∷ rs)) (let f : 0 < length (r ∷ rs) = omega arith in f)
 
+layer_given : (layers : List (List Row)) (a : ℕ) (z : End) → levels_give layers a z ≡ true → list_any has_rows layers ≡ true
+layer_given layers a z e = let r = any_to (λ (rows : List Row). rows_give rows a z) layers e in any_from has_rows layers r.0 r.1 (given_rows r.0 a z r.2)
+
 -- the node of a name that rows give is that of one of their names
 row_met : (p : ℕ → Bool) (rows : List Row) (a : ℕ) (z : End) → list_any (λ (r : Row). list_any (λ (e : End). p e.node) r.ends) rows ≡ false → rows_give rows a z ≡ true → p z.node ≡ false
 row_met p rows a z none g =
@@ -83,7 +83,13 @@ row_met p rows a z none g =
     subst (λ n. p n ≡ false) (eqb-true end.node z.node same.0)
     (none_is (λ (e : End). p e.node) row.ends end (none_is (λ (r : Row). list_any (λ (e : End). p e.node) r.ends) rows row none r.1) e.1)
 
-module _ (net : List NodeDecl) (legal : IsLegalNet net) (flats : List Flat) (are : AreFlats net flats) (rq : Request) (p : Place) (access : Access) (h : Held) where
+-- and so it is of layers
+layer_met : (p : ℕ → Bool) (layers : List (List Row)) (a : ℕ) (z : End) → list_any (λ (rows : List Row). list_any (λ (r : Row). list_any (λ (e : End). p e.node) r.ends) rows) layers ≡ false → levels_give layers a z ≡ true → p z.node ≡ false
+layer_met p layers a z none g =
+    let r = any_to (λ (rows : List Row). rows_give rows a z) layers g in
+    row_met p r.0 a z (none_is (λ (rows : List Row). list_any (λ (s : Row). list_any (λ (e : End). p e.node) s.ends) rows) layers r.0 none r.1) r.2
+
+module _ (net : List NodeDecl) (legal : IsLegalNet net) (flats : FlatsView) (are : AreFlats net flats) (rq : Request) (p : Place) (access : Access) (h : Held) where
   abbrev added : Held
   added = placed_records net rq p
 
@@ -113,24 +119,24 @@ module _ (net : List NodeDecl) (legal : IsLegalNet net) (flats : List Flat) (are
       not_on w v (Some u) e f m st = on (allowing access h t.node (t.addr / 2 ^ u.page)) m
         where
           leads : ℕ → Bool
-          leads port = has_rows (rows_of (rows_part Stops) (slice_get flats port))
+          leads port = list_any has_rows (stops_of flats port)
 
           at : (o : Option ℕ) (i n : ℕ) → slice_get u.ports i ≡ o → Member w (to_port o n) → ⊥
           at None i n g k = absurd k
           at (Some port) i n g (inr k) = absurd k
-          at (Some port) i n g (inl k) = absurd (false≢true (sym (none_at leads u.ports i port f g) ∙ given_rows (rows_of (rows_part Stops) (slice_get flats port)) w.addr (end_of v) gives))
+          at (Some port) i n g (inl k) = absurd (false≢true (sym (none_at leads u.ports i port f g) ∙ layer_given (stops_of flats port) w.addr (end_of v) gives))
             where
               same : w.node ≡ port
               same = sym (ap (λ (x : Name). x.node) k)
 
-              within : port < length flats
+              within : port < length flats.nodes
               within = subst (λ n. port < n) (sym are.every) (there u.ports i (ports_there net t.node u legal.nodes.closed e) g)
                 where
                   there : (ports : List ℕ) (j : ℕ) → IsTrue (list_all (λ q. nat_lt q (length net)) ports) → slice_get ports j ≡ Some port → port < length net
                   there ports j all_there at_j = ltb-true port (length net) (list_all-at (λ q. nat_lt q (length net)) ports j port all_there at_j)
 
-              gives : rows_give (rows_of (rows_part Stops) (slice_get flats port)) w.addr (end_of v) ≡ true
-              gives = (node_stops net flats are port within (rows_give (rows_of (rows_part Stops) (slice_get flats port)) w.addr (end_of v)) w.addr (end_of v) (stop_low net w v st) refl).1 (subst (λ (n : ℕ). StopsAt net (record { node = n; addr = w.addr }) v) same st)
+              gives : levels_give (stops_of flats port) w.addr (end_of v) ≡ true
+              gives = (node_stops net flats are port within (levels_give (stops_of flats port) w.addr (end_of v)) w.addr (end_of v) (stop_low net w v st) refl).1 (subst (λ (n : ℕ). StopsAt net (record { node = n; addr = w.addr }) v) same st)
 
           on : (o : Option Record) → Member w (output u o t.addr) → ⊥
           on None k = absurd k
@@ -141,12 +147,12 @@ module _ (net : List NodeDecl) (legal : IsLegalNet net) (flats : List Flat) (are
       by (inr n) = not_on n.0 n.2.0 (unit_at net t.node) refl parts.1 n.1 n.2.1
 
   -- a node at which nothing is asked for, and from which no hop can be met, is exact
-  pub untouched : (node : ℕ) → node < length flats → (nat_eq node rq.agent && allows rq.rights access) ≡ false → rows_meet net flats p.hops (rows_of (rows_part Stops) (slice_get flats node)) ≡ false → IsExactAt net h rq p access node
+  pub untouched : (node : ℕ) → node < length flats.nodes → (nat_eq node rq.agent && allows rq.rights access) ≡ false → layers_meet net flats p.hops (stops_of flats node) ≡ false → IsExactAt net h rq p access node
   unfolding ComesNewly
   untouched node l asked none = (exact_none net h rq p access node [] (not_asked net h rq p access node asked) (λ a z low. ((λ e. absurd (false≢true e)), (λ k. absurd (never a z low k))))).0 refl
     where
       never : (a : ℕ) (z : End) → a ≤ TOP → IsAdded net h rq p access (record { node = node; addr = a }) (name_of_end z) → ⊥
       never a z low k =
-          let rows : List Row = rows_of (rows_part Stops) (slice_get flats node) in
-          let given : rows_give rows a (end_of k.0) ≡ true = (node_stops net flats are node l (rows_give rows a (end_of k.0)) a (end_of k.0) low refl).1 k.1 in
-          not_newly k.0 (name_of_end z) (row_met (can_meet net flats p.hops) rows a (end_of k.0) none given) k.2
+          let layers : List (List Row) = stops_of flats node in
+          let given : levels_give layers a (end_of k.0) ≡ true = (node_stops net flats are node l (levels_give layers a (end_of k.0)) a (end_of k.0) low refl).1 k.1 in
+          not_newly k.0 (name_of_end z) (layer_met (can_meet net flats p.hops) layers a (end_of k.0) none given) k.2

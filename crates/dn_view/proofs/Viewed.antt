@@ -1,50 +1,45 @@
 -- What the segments of a node show.
-use Rattle.std.proofs.Common.{◌≡◌, ℕ, ◌-◌, ◌<◌, ◌≤◌, ◌==◌, ◌⊎◌, ◌↔◌, inl, inr, Bool, true, false, List, [], ◌∷◌, map, slice_get, Some, IsTrue, refl, sym, ap, subst, arith, ◌∙◌, length}
+use Rattle.std.proofs.Common.{◌≡◌, ℕ, ◌-◌, ◌<◌, ◌≤◌, ◌==◌, ◌⊎◌, ◌↔◌, inl, inr, Bool, true, false, List, [], ◌∷◌, map, IsTrue, refl, sym, subst, arith, ◌∙◌, length}
 use Rattle.dn_interval.specs.declared.row.End.{End}
 use Rattle.dn_interval.specs.declared.row.Row.{Row}
 use Rattle.dn_interval.specs.declared.row.Seg.{Seg}
 use Rattle.dn_interval.specs.declared.span.TheConstants.{TOP}
-use Rattle.dn_interval.specs.Onward.{rows_of}
 use Rattle.dn_interval.specs.Rows.{Member, moved, AreNormal, GivenBy, HasEnds, SegmentsGive, ends_within}
-use Rattle.dn_interval.specs.Strands.{segs_give, rows_give}
+use Rattle.dn_interval.specs.Strands.{segs_give}
 use Rattle.dn_interval.proofs.Membership.{in_from}
-use Rattle.dn_interval.proofs.Names.{rows_from, rows_to}
 use Rattle.dn_net.specs.declared.node.Name.{Name}
 use Rattle.dn_net.specs.declared.node.NodeDecl.{NodeDecl}
 use Rattle.dn_net.specs.Decode.{Resolves, StopsAt}
 use Rattle.dn_net.specs.Legal.{IsLegalNet}
 use Rattle.dn_kind.specs.Tables.{Held, AreHeld}
 use Rattle.dn_flat.specs.declared.flat.Flat.{Flat}
-use Rattle.dn_flat.specs.Stages.{AreFlats, IsFlat}
-use Rattle.dn_flat.specs.Views.{name_of_end, end_of, ResolvesFrom, StopsFrom}
+use Rattle.dn_flat.specs.Levels.{AreFlats, FlatsView, levels_give, shows}
+use Rattle.dn_flat.specs.Stages.{IsFlat}
+use Rattle.dn_flat.specs.Views.{name_of_end, end_of, StopsFrom}
+use Rattle.dn_flat.proofs.Shown.{shows_is}
 use Rattle.dn_flat.proofs.Sums.{normal_of}
 use Rattle.dn_flat.proofs.There.{accepted_is_there, names_are_there}
-use Rattle.dn_view.specs.declared.pass.Part.{Part}
-use Rattle.dn_view.specs.declared.pass.Part.TheVariants.{Accepts, Stops}
-use Rattle.dn_view.specs.Passes.{rows_part}
+use Rattle.dn_view.specs.Passes.{stops_of}
 use Rattle.dn_view.specs.Through.{ComesThrough}
 use Rattle.dn_view.specs.Views.{AreViewed, ReachesUnit, ResolvesFromUnder}
-use Rattle.dn_view.proofs.Passed.{there}
+use Rattle.dn_view.proofs.Passed.{stops_given}
 use Rattle.dn_view.proofs.Ways.{resolves_fixed, resolves_through}
 
--- the segments of a node give what its rows give
-pub node_gives : (flats : List Flat) (part : Part) (T : ℕ → ℕ → End → Type 0) → ((m : ℕ) (f : Flat) → slice_get flats m ≡ Some f → AreNormal (T m) (rows_part part f)) → (node : ℕ) → node < length flats → (gives : Bool) (a : ℕ) (z : End) → a ≤ TOP → gives ≡ rows_give (rows_of (rows_part part) (slice_get flats node)) a z → (gives ≡ true) ↔ T node a z
-node_gives flats part T normal node l gives a z low e =
-    let f = there flats node l in
-    let n : AreNormal (T node) (rows_part part f.0) = normal node f.0 f.1 in
-    let same : gives ≡ rows_give (rows_part part f.0) a z = e ∙ ap (λ o. rows_give (rows_of (rows_part part) o) a z) f.1 in
-    ((λ g. (n.exact a z low).1 (rows_to (rows_part part f.0) a z (sym same ∙ g))), (λ t. same ∙ rows_from (rows_part part f.0) a z ((n.exact a z low).0 t)))
+-- what a node shows, and its stops, as tests of segments
+pub node_accepts : (net : List NodeDecl) (flats : FlatsView) → AreFlats net flats → (node : ℕ) → node < length flats.nodes → (gives : Bool) (a : ℕ) (z : End) → a ≤ TOP → gives ≡ shows flats node a z → (gives ≡ true) ↔ Resolves net (record { node = node; addr = a }) (name_of_end z)
+node_accepts net flats are node l gives a z low e =
+    let is = shows_is net flats are node a z (subst (λ n. node < n) are.every l) low in
+    ((λ g. is.0 (sym e ∙ g)), (λ h. e ∙ is.1 h))
 
-pub node_accepts : (net : List NodeDecl) (flats : List Flat) → AreFlats net flats → (node : ℕ) → node < length flats → (gives : Bool) (a : ℕ) (z : End) → a ≤ TOP → gives ≡ rows_give (rows_of (rows_part Accepts) (slice_get flats node)) a z → (gives ≡ true) ↔ Resolves net (record { node = node; addr = a }) (name_of_end z)
-node_accepts net flats are = node_gives flats Accepts (ResolvesFrom net) (λ m f e. (are.each m f e).accepts)
-
-pub node_stops : (net : List NodeDecl) (flats : List Flat) → AreFlats net flats → (node : ℕ) → node < length flats → (gives : Bool) (a : ℕ) (z : End) → a ≤ TOP → gives ≡ rows_give (rows_of (rows_part Stops) (slice_get flats node)) a z → (gives ≡ true) ↔ StopsAt net (record { node = node; addr = a }) (name_of_end z)
-node_stops net flats are = node_gives flats Stops (StopsFrom net) (λ m f e. (are.each m f e).stops)
+pub node_stops : (net : List NodeDecl) (flats : FlatsView) → AreFlats net flats → (node : ℕ) → node < length flats.nodes → (gives : Bool) (a : ℕ) (z : End) → a ≤ TOP → gives ≡ levels_give (stops_of flats node) a z → (gives ≡ true) ↔ StopsAt net (record { node = node; addr = a }) (name_of_end z)
+node_stops net flats are node l gives a z low e =
+    let is = stops_given net flats are node (subst (λ n. node < n) are.every l) a z low in
+    ((λ g. is.0 (sym e ∙ g)), (λ h. e ∙ is.1 h))
 
 -- what is shown of a node under records is what its addresses resolve to
-pub viewed : (net : List NodeDecl) → IsLegalNet net → (h : Held) → AreHeld net h → (flats : List Flat) → AreFlats net flats → (node : ℕ) → node < length flats → (accepts stops shown : List Seg)
-    → ((a : ℕ) (z : End) → a ≤ TOP → segs_give accepts a z ≡ rows_give (rows_of (rows_part Accepts) (slice_get flats node)) a z)
-    → ((a : ℕ) (z : End) → a ≤ TOP → segs_give stops a z ≡ rows_give (rows_of (rows_part Stops) (slice_get flats node)) a z)
+pub viewed : (net : List NodeDecl) → IsLegalNet net → (h : Held) → AreHeld net h → (flats : FlatsView) → AreFlats net flats → (node : ℕ) → node < length flats.nodes → (accepts stops shown : List Seg)
+    → ((a : ℕ) (z : End) → segs_give accepts a z ≡ shows flats node a z)
+    → ((a : ℕ) (z : End) → a ≤ TOP → segs_give stops a z ≡ levels_give (stops_of flats node) a z)
     → ((a : ℕ) (z : End) → a ≤ TOP → IsTrue (segs_give shown a z) ↔ (IsTrue (segs_give accepts a z) ⊎ ((s : End) × IsTrue (segs_give stops a s) × ComesThrough net h (name_of_end s) (name_of_end z))))
     → (a : ℕ) (z : End) → a ≤ TOP → (segs_give shown a z ≡ true) ↔ ResolvesFromUnder net h node a z
 viewed net legal h held flats are node l accepts stops shown ea es is a z low = (into, back)
@@ -53,7 +48,7 @@ viewed net legal h held flats are node l accepts stops shown ea es is a z low = 
     x = record { node = node; addr = a }
 
     by_accepts : (segs_give accepts a z ≡ true) ↔ Resolves net x (name_of_end z)
-    by_accepts = node_accepts net flats are node l (segs_give accepts a z) a z low (ea a z low)
+    by_accepts = node_accepts net flats are node l (segs_give accepts a z) a z low (ea a z)
 
     by_stops : (s : End) → (segs_give stops a s ≡ true) ↔ StopsAt net x (name_of_end s)
     by_stops s = node_stops net flats are node l (segs_give stops a s) a s low (es a s low)

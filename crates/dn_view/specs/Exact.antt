@@ -1,7 +1,8 @@
 -- What a placement must show newly to be admissible.
-use Rattle.std.specs.Prelude.{ℕ, ◌+◌, ◌-◌, ◌≤◌, ◌↔◌, Bool, false, ◌&&◌, nat_eq, List, [], ◌∷◌, slice_get, IsTrue}
+use Rattle.std.specs.Prelude.{ℕ, ◌+◌, ◌-◌, ◌≤◌, ◌↔◌, Bool, false, ◌&&◌, nat_eq, nat_le, List, [], ◌∷◌, slice_get, IsTrue}
 use Rattle.dn_interval.specs.declared.row.End.{End}
 use Rattle.dn_interval.specs.declared.row.Row.{Row}
+use Rattle.dn_interval.specs.declared.row.Seg.{Seg}
 use Rattle.dn_interval.specs.declared.span.TheConstants.{TOP}
 use Rattle.dn_net.specs.declared.node.Name.{Name}
 use Rattle.dn_net.specs.declared.node.NodeDecl.{NodeDecl}
@@ -38,6 +39,16 @@ IsExactAt net h rq p access node = (a : ℕ) (z : End) → a ≤ TOP →
 abbrev pub AreExact : List NodeDecl → Held → Request → Place → Access → Type 0
 AreExact net h rq p access = (node : ℕ) → IsTrue (is_agent_at (slice_get net node)) →
     IsExactAt net h rq p access node
+
+-- the address of the request's agent has the name of the buffer
+abbrev pub IsAskedAt : Request → ℕ → ℕ → End → Type 0
+IsAskedAt rq v a z = Adds rq v (record { node = rq.agent; addr = a }) (name_of_end z)
+
+-- the segment gives addresses of the buffer alone, where the agent is to have them
+abbrev pub is_part : Seg → Request → ℕ → Bool
+is_part s rq v =
+    nat_le v s.span.lo && (nat_le s.span.hi (v + (rq.size - 1)) && (nat_eq s.node rq.node
+    && (nat_le rq.base s.base && nat_eq (s.base - rq.base) (s.span.lo - v))))
 
 -- the one name is the first of the buffer
 abbrev pub is_buffer_end : List End → Request → Bool

@@ -1,5 +1,5 @@
 -- What segments of names in units come to through one slot each.
-use Rattle.std.specs.Prelude.{ℕ, ◌+◌, ◌-◌, ◌/◌, ◌^◌, Bool, ◌&&◌, nat_eq, nat_lt, List, [], length, Option, Some, None}
+use Rattle.std.specs.Prelude.{ℕ, ◌+◌, ◌-◌, ◌/◌, ◌^◌, Bool, ◌&&◌, nat_eq, nat_lt, List, [], length, slice_get, Option, Some, None}
 use Rattle.std.specs.List.{list_any}
 use Rattle.dn_interval.specs.declared.row.End.{End}
 use Rattle.dn_interval.specs.declared.row.Row.{Row}
@@ -10,14 +10,27 @@ use Rattle.dn_net.specs.declared.node.NodeDecl.{NodeDecl}
 use Rattle.dn_net.specs.declared.node.Unit.{Unit as UnitPart}
 use Rattle.dn_net.specs.Decode.{unit_at}
 use Rattle.dn_kind.specs.Tables.{Held, output}
-use Rattle.dn_flat.specs.declared.flat.Flat.{Flat}
+use Rattle.dn_flat.specs.Levels.{FlatsView, levels_give, reached_of, shows, stops_in}
 use Rattle.dn_view.specs.declared.pass.Part.{Part}
 use Rattle.dn_view.specs.declared.pass.Part.TheVariants.{Accepts, Stops}
 
--- the rows of a flattened view: of accepted names, or of stops
-abbrev pub rows_part : Part → Flat → List Row
-rows_part Accepts flat = flat.accepts
-rows_part Stops flat = flat.stops
+-- there is a row
+abbrev pub has_rows : List Row → Bool
+has_rows rows = nat_lt 0 (length rows)
+
+-- the layers of the stops of a node
+abbrev pub stops_of : FlatsView → ℕ → List (List Row)
+stops_of flats node = stops_in (slice_get flats.nodes node)
+
+-- the address of the node comes to the name: to an accepted one, or to a stop
+abbrev pub part_gives : Part → FlatsView → ℕ → ℕ → End → Bool
+part_gives Accepts flats node a z = shows flats node a z
+part_gives Stops flats node a z = levels_give (stops_of flats node) a z
+
+-- there is something to which the node leads: a level, or a stop
+abbrev pub part_leads : Part → FlatsView → ℕ → Bool
+part_leads Accepts flats node = nat_lt 0 (length (reached_of (slice_get flats.nodes node)))
+part_leads Stops flats node = list_any has_rows (stops_of flats node)
 
 -- the output of a name in this unit, or in none
 abbrev pub outputs_by : Held → Name → Option UnitPart → List Name
@@ -47,7 +60,3 @@ segs_pass net h next segs a z = list_any (λ s. seg_passes net h next s a z) seg
 -- the name of an address of the segment stands in the slot
 abbrev pub in_slot : ℕ → ℕ → Seg → ℕ → Bool
 in_slot page slot s a = in_span s.span a && nat_eq ((s.base + (a - s.span.lo)) / 2 ^ page) slot
-
--- there is a row
-abbrev pub has_rows : List Row → Bool
-has_rows rows = nat_lt 0 (length rows)

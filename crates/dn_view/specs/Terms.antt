@@ -1,11 +1,11 @@
 -- The words of the crate that clauses cite, from one place.
 pub use Rattle.dn_view.specs.Addition.{RefusalIsComplete}
 pub use Rattle.dn_view.specs.Courses.{IsCourse, course_records}
-pub use Rattle.dn_view.specs.Exact.{IsExactAt, are_buffer, is_buffer_end, is_buffer_row}
-pub use Rattle.dn_view.specs.Passes.{has_rows, in_slot, names_go, outputs, rows_part, seg_name, seg_passes, segs_pass}
+pub use Rattle.dn_view.specs.Exact.{IsAskedAt, IsExactAt, are_buffer, is_buffer_end, is_buffer_row, is_part}
+pub use Rattle.dn_view.specs.Passes.{has_rows, in_slot, names_go, outputs, part_gives, part_leads, seg_name, seg_passes, segs_pass, stops_of}
 pub use Rattle.dn_view.specs.Records.{AreFitted, IsFitted, IsFitting, fresh_record, records_taken}
 pub use Rattle.dn_view.specs.Systems.{AreTables, IsSystem}
 pub use Rattle.dn_view.specs.Through.{ComesThrough}
 pub use Rattle.dn_view.specs.Trials.{AreExactIn, ComesIn, IsExactIn, IsPassedIn, IsTrial}
-pub use Rattle.dn_view.specs.Untouched.{can_meet, has_hop, leads_to_units, rows_meet}
+pub use Rattle.dn_view.specs.Untouched.{can_meet, has_hop, layers_meet, leads_to_units, rows_meet}
 pub use Rattle.dn_view.specs.Views.{AreViewed, ReachesUnit}

@@ -1,31 +1,34 @@
 -- From which nodes a placement can be met.
-use Rattle.std.specs.Prelude.{ℕ, Bool, false, ◌||◌, nat_eq, List, slice_get, Option, Some, None}
+use Rattle.std.specs.Prelude.{ℕ, Bool, false, ◌||◌, nat_eq, List, Option, Some, None}
 use Rattle.std.specs.List.{list_any}
 use Rattle.dn_interval.specs.declared.row.Row.{Row}
-use Rattle.dn_interval.specs.Onward.{rows_of}
 use Rattle.dn_net.specs.declared.node.NodeDecl.{NodeDecl}
 use Rattle.dn_net.specs.declared.node.Unit.{Unit as UnitPart}
 use Rattle.dn_net.specs.Decode.{unit_at}
-use Rattle.dn_flat.specs.declared.flat.Flat.{Flat}
+use Rattle.dn_flat.specs.Levels.{FlatsView}
 use Rattle.dn_tables.specs.declared.placement.Hop.{Hop}
 use Rattle.dn_view.specs.declared.pass.Part.TheVariants.{Stops}
-use Rattle.dn_view.specs.Passes.{has_rows, rows_part}
+use Rattle.dn_view.specs.Passes.{part_leads}
 
 -- one of the hops stands in the node
 abbrev pub has_hop : List Hop → ℕ → Bool
 has_hop hops node = list_any (λ h. nat_eq node h.unit) hops
 
 -- the unit, if it is one, has a port whose node leads to units
-abbrev pub leads_to_units : List Flat → Option UnitPart → Bool
+abbrev pub leads_to_units : FlatsView → Option UnitPart → Bool
 leads_to_units flats None = false
 leads_to_units flats (Some u) =
-    list_any (λ p. has_rows (rows_of (rows_part Stops) (slice_get flats p))) u.ports
+    list_any (λ p. part_leads Stops flats p) u.ports
 
 -- what stands in the node can come to a hop: to one in the node itself, or through it to others
-abbrev pub can_meet : List NodeDecl → List Flat → List Hop → ℕ → Bool
+abbrev pub can_meet : List NodeDecl → FlatsView → List Hop → ℕ → Bool
 can_meet net flats hops node = has_hop hops node || leads_to_units flats (unit_at net node)
 
 -- some name of the rows can
-abbrev pub rows_meet : List NodeDecl → List Flat → List Hop → List Row → Bool
+abbrev pub rows_meet : List NodeDecl → FlatsView → List Hop → List Row → Bool
 rows_meet net flats hops rows =
     list_any (λ r. list_any (λ e. can_meet net flats hops e.node) r.ends) rows
+
+-- some name of the layers can
+abbrev pub layers_meet : List NodeDecl → FlatsView → List Hop → List (List Row) → Bool
+layers_meet net flats hops layers = list_any (λ rows. rows_meet net flats hops rows) layers

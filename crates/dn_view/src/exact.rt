@@ -1,6 +1,8 @@
 //! Whether a placement shows exactly its buffer.
 
 ghost use Rattle.std.specs.Prelude.{◌≡◌, ℕ, ◌+◌, ◌≤◌, ◌⊎◌, ◌↔◌, ◌&&◌, nat_eq, map, slice_get, IfOk, OnOk, IsTrue};
+ghost use Rattle.std.specs.List.{list_all};
+ghost use Rattle.dn_interval.specs.declared.row.End.{End};
 ghost use Rattle.dn_interval.specs.declared.span.TheConstants.{TOP};
 ghost use Rattle.dn_interval.specs.Terms.{segs_give};
 ghost use Rattle.dn_net.specs.Terms.{is_agent_at};
@@ -8,12 +10,12 @@ ghost use Rattle.dn_kind.specs.Terms.{allows, are_rights};
 ghost use Rattle.dn_flat.specs.Terms.{name_of_end};
 ghost use Rattle.dn_tables.specs.Terms.{FitsNet, record_kept};
 ghost use Rattle.dn_placement.specs.Terms.{IsAdmissible, IsPlacement, slots_of_set};
-ghost use Rattle.dn_view.specs.Terms.{AreExactIn, ComesIn, IsExactIn, IsPassedIn, IsSystem, IsTrial, are_buffer, is_buffer_end, is_buffer_row};
+ghost use Rattle.dn_view.specs.Terms.{AreExactIn, ComesIn, IsAskedAt, IsExactIn, IsPassedIn, IsSystem, IsTrial, are_buffer, is_buffer_end, is_buffer_row, is_part};
 
 use crate::course::Course;
 use crate::pass::{Part, pass};
 use crate::records::Records;
-use crate::shown::{UNITS, node_segs, passed_stops, push_through};
+use crate::shown::{UNITS, node_stops, passed_stops, push_through};
 use crate::system::System;
 use crate::trial::Trial;
 use crate::untouched::is_untouched;
@@ -101,11 +103,11 @@ fn exact_at(alloc: Global, trial: Trial, node: u16) -> Result<bool, OutOfMemory>
     if is_untouched(trial, node) {
         return Ok(true);
     }
-    let stops = node_segs(alloc, trial.system.flats, node, Part::Stops)?;
+    let stops = node_stops(alloc, trial.system.flats, node)?;
     let shown = newly_shown(alloc, trial, stops)?;
     if is_asked(trial.request, node, trial.access) {
-        let rows = Rows::normal(alloc, shown.as_slice())?;
-        return Ok(is_buffer(&rows, trial.request, trial.placement.v()));
+        let segs = shown.as_slice();
+        return show_buffer(alloc, segs, trial.request, trial.placement.v());
     }
     Ok(shown.is_empty())
 }
@@ -165,9 +167,51 @@ fn push_newly(
     };
     let records = Records::Joined(trial.request, trial.placement);
     let all = Course { records, ..fresh };
-    pass(shown, fresh, Part::Accepts, segs)?;
+    pass(alloc, shown, fresh, Part::Accepts, segs)?;
     let stops = passed_stops(alloc, fresh, segs)?;
     push_through(alloc, shown, all, stops)
+}
+
+/// Whether segments show exactly the buffer, at an address of the agent. Rows are made where they show nothing else, so
+/// it takes no more memory than they do.
+fn show_buffer(alloc: Global, shown: &[Seg], request: &Request, v: u64) -> Result<bool, OutOfMemory>
+    requires some { 1 ≤ request.now.size }
+    requires within { v + request.now.size ≤ TOP + 1 }
+    ensures { IfOk result (λ show. IsTrue show ↔ ((a : ℕ) (z : End) → a ≤ TOP
+        → IsTrue (segs_give shown.now a z) ↔ IsAskedAt request.now v a z)) }
+{
+    if !are_parts(shown, request, v) {
+        return Ok(false);
+    }
+    let rows = Rows::normal(alloc, shown)?;
+    Ok(is_buffer(&rows, request, v))
+}
+
+/// Whether each segment shows addresses of the buffer alone, where the agent is to have them.
+fn are_parts(shown: &[Seg], request: &Request, v: u64) -> bool
+    requires some { 1 ≤ request.now.size }
+    requires within { v + request.now.size ≤ TOP + 1 }
+    ensures { result ≡ list_all (λ s. is_part s request.now v) shown.now }
+{
+    for seg in shown {
+        if !is_part(seg, request, v) {
+            return false;
+        }
+    }
+    true
+}
+
+/// Whether a segment shows addresses of the buffer alone, where the agent is to have them.
+fn is_part(seg: &Seg, request: &Request, v: u64) -> bool
+    requires some { 1 ≤ request.now.size }
+    requires within { v + request.now.size ≤ TOP + 1 }
+    ensures { result ≡ is_part seg.now request.now v }
+{
+    v <= seg.span.lo
+        && seg.span.hi <= v + (request.size - 1)
+        && seg.node == request.node
+        && request.base <= seg.base
+        && seg.base - request.base == seg.span.lo - v
 }
 
 /// Whether rows show exactly the buffer, at an address of the agent.

@@ -4,24 +4,24 @@ ghost use Rattle.std.specs.Prelude.{◌≡◌, ℕ, ◌+◌, ◌-◌, ◌*◌, �
 ghost use Rattle.std.specs.List.{list_all, list_any};
 ghost use Rattle.std.specs.Option.{option_copied};
 ghost use Rattle.dn_interval.specs.declared.row.End.{End};
-ghost use Rattle.dn_interval.specs.Terms.{gives_by, in_span, rows_of, segs_give};
+ghost use Rattle.dn_interval.specs.Terms.{in_span, segs_give};
 ghost use Rattle.dn_net.specs.Terms.{unit_at};
 ghost use Rattle.dn_kind.specs.Terms.{is_plain, is_within, unit_shape};
-ghost use Rattle.dn_view.specs.Terms.{IsCourse, course_records, has_rows, in_slot, names_go, outputs, rows_part, seg_name, seg_passes, segs_pass};
+ghost use Rattle.dn_view.specs.Terms.{IsCourse, course_records, has_rows, in_slot, names_go, outputs, part_gives, part_leads, seg_name, seg_passes, segs_pass, stops_of};
 
 use crate::course::Course;
 use crate::range::slot_range;
 use crate::records::record_for;
 use dn_base::OutOfMemory;
 use dn_flat::flats::Flats;
-use dn_interval::onward::follow;
 use dn_interval::{Rows, Seg, Span};
 use dn_kind::output::sent;
 use dn_kind::unit_kind::Record;
 use dn_net::net::Net;
 use dn_net::node::Unit;
+use std::alloc::Global;
 
-/// Which rows of a flattened view.
+/// To what names come.
 #[derive(Clone, Copy)]
 pub(crate) enum Part {
     /// The accepted names.
@@ -30,9 +30,10 @@ pub(crate) enum Part {
     Stops,
 }
 
-/// Adds what the names of segments come to through the records of their slots, by the rows of the
-/// nodes to which these send. A name that is in no unit comes to nothing.
+/// Adds what the names of segments come to through the records of their slots, by what the nodes come to
+/// to which these send. A name that is in no unit comes to nothing.
 pub(crate) fn pass(
+    alloc: Global,
     out: &mut Vec<Seg>,
     course: Course,
     part: Part,
@@ -42,21 +43,28 @@ pub(crate) fn pass(
     ensures { OnOk result ((a : ℕ) (z : End) → segs_give out.new.items a z
         ≡ (segs_give out.old.items a z || segs_pass course.entry.system.net.now
         (course_records (λ k. meaning (k.vtable, k.value)) course.entry)
-        (gives_by (rows_part part) course.entry.system.flats.now) segs.now a z)) }
+        (part_gives part course.entry.system.flats.now) segs.now a z)) }
 {
+    let mut mid = Vec::new(alloc);
     for seg in segs {
-        pass_seg(out, course, part, *seg)?;
+        pass_seg(out, &mut mid, course, part, *seg)?;
     }
     Ok(())
 }
 
-/// Adds what the names of a segment come to.
-fn pass_seg(out: &mut Vec<Seg>, course: Course, part: Part, seg: Seg) -> Result<(), OutOfMemory>
+/// Adds what the names of a segment come to. `mid` is room for names on the way.
+fn pass_seg(
+    out: &mut Vec<Seg>,
+    mid: &mut Vec<Seg>,
+    course: Course,
+    part: Part,
+    seg: Seg,
+) -> Result<(), OutOfMemory>
     requires { IsCourse (λ k. meaning (k.vtable, k.value)) course }
     ensures { OnOk result ((a : ℕ) (z : End) → segs_give out.new.items a z
         ≡ (segs_give out.old.items a z || seg_passes course.entry.system.net.now
         (course_records (λ k. meaning (k.vtable, k.value)) course.entry)
-        (gives_by (rows_part part) course.entry.system.flats.now) seg a z)) }
+        (part_gives part course.entry.system.flats.now) seg a z)) }
 {
     let Some(unit) = unit_of(course.system.net, seg.node) else {
         return Ok(());
@@ -66,7 +74,7 @@ fn pass_seg(out: &mut Vec<Seg>, course: Course, part: Part, seg: Seg) -> Result<
     }
     let range = slot_range(course.system.net, course.records, unit, seg);
     for slot in range.0..range.1 {
-        pass_slot(out, course, part, unit, seg, slot)?;
+        pass_slot(out, mid, course, part, unit, seg, slot)?;
     }
     Ok(())
 }
@@ -74,6 +82,7 @@ fn pass_seg(out: &mut Vec<Seg>, course: Course, part: Part, seg: Seg) -> Result<
 /// Adds what the names of a segment come to through one slot.
 fn pass_slot(
     out: &mut Vec<Seg>,
+    mid: &mut Vec<Seg>,
     course: Course,
     part: Part,
     unit: &Unit,
@@ -87,7 +96,7 @@ fn pass_slot(
     requires ends { slot ≤ (seg.base + (seg.span.hi - seg.span.lo)) / 2 ^ unit.now.page }
     ensures { OnOk result ((a : ℕ) (z : End) → segs_give out.new.items a z
         ≡ (segs_give out.old.items a z || (in_slot unit.now.page slot seg a
-        && names_go (gives_by (rows_part part) course.entry.system.flats.now)
+        && names_go (part_gives part course.entry.system.flats.now)
         (outputs course.entry.system.net.now
         (course_records (λ k. meaning (k.vtable, k.value)) course.entry) (seg_name seg a)) z))) }
 {
@@ -96,6 +105,7 @@ fn pass_slot(
         Some(record) => {
             push_sent(
                 out,
+                mid,
                 course.system.flats,
                 part,
                 sent_part(unit, record, seg, slot),
@@ -104,14 +114,23 @@ fn pass_slot(
     }
 }
 
-/// Adds what the names of a segment come to by the rows of their node.
-fn push_sent(out: &mut Vec<Seg>, flats: &Flats, part: Part, seg: Seg) -> Result<(), OutOfMemory>
-    requires { seg.node < length flats.now }
+/// Adds what the names of a segment come to by what their node comes to.
+fn push_sent(
+    out: &mut Vec<Seg>,
+    mid: &mut Vec<Seg>,
+    flats: &Flats,
+    part: Part,
+    seg: Seg,
+) -> Result<(), OutOfMemory>
+    requires { seg.node < length flats.now.nodes }
     ensures { OnOk result ((a : ℕ) (z : End) → segs_give out.new.items a z
         ≡ (segs_give out.old.items a z || (in_span seg.span a
-        && gives_by (rows_part part) flats.now seg.node (seg.base + (a - seg.span.lo)) z))) }
+        && part_gives part flats.now seg.node (seg.base + (a - seg.span.lo)) z))) }
 {
-    follow(out, seg, part_rows(flats, seg.node, part))
+    match part {
+        Part::Accepts => flats.push_accepted(out, mid, seg),
+        Part::Stops => flats.push_stops(out, seg),
+    }
 }
 
 /// The part of a segment whose names stand in a slot, with the names to which its record sends them.
@@ -151,27 +170,45 @@ pub(crate) fn unit_of(net: &Net, node: u16) -> Option<&Unit>
     }
 }
 
-/// The rows of a node.
-pub(crate) fn part_rows(flats: &Flats, node: u16, part: Part) -> &Rows
-    requires { node < length flats.now }
-    ensures { result.now ≡ rows_of (rows_part part) (slice_get flats.now node) }
+/// The layers of the stops of a node.
+pub(crate) fn stop_layers(flats: &Flats, node: u16) -> &[Rows]
+    requires { node < length flats.now.nodes }
+    ensures { result.now ≡ stops_of flats.now node }
 {
-    let flat = flats.of(node);
-    match part {
-        Part::Accepts => &flat.accepts,
-        Part::Stops => &flat.stops,
-    }
+    flats.of(node).stops.as_slice()
 }
 
-/// Whether the node of one of a unit's ports has such rows.
+/// Whether the node of one of a unit's ports leads to something.
 pub(crate) fn leads_on(flats: &Flats, unit: &Unit, part: Part) -> bool
-    requires { IsTrue (list_all (λ p. nat_lt p (length flats.now)) unit.now.ports) }
-    ensures { result ≡ list_any (λ p. has_rows (rows_of (rows_part part) (slice_get flats.now p)))
-        unit.now.ports }
+    requires { IsTrue (list_all (λ p. nat_lt p (length flats.now.nodes)) unit.now.ports) }
+    ensures { result ≡ list_any (λ p. part_leads part flats.now p) unit.now.ports }
 {
     let ports = unit.ports.as_slice();
     for port in ports {
-        if has_rows(part_rows(flats, *port, part)) {
+        if node_leads(flats, *port, part) {
+            return true;
+        }
+    }
+    false
+}
+
+/// Whether a node leads to something.
+fn node_leads(flats: &Flats, node: u16, part: Part) -> bool
+    requires { node < length flats.now.nodes }
+    ensures { result ≡ part_leads part flats.now node }
+{
+    match part {
+        Part::Accepts => !flats.of(node).reached.as_slice().is_empty(),
+        Part::Stops => has_layer(stop_layers(flats, node)),
+    }
+}
+
+/// Whether a layer has a row.
+fn has_layer(layers: &[Rows]) -> bool
+    ensures { result ≡ list_any has_rows layers.now }
+{
+    for rows in layers {
+        if has_rows(rows) {
             return true;
         }
     }

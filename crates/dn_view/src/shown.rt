@@ -1,18 +1,17 @@
 //! What names in units come to, unit by unit.
 
-ghost use Rattle.std.specs.Prelude.{◌≡◌, ℕ, ◌≤◌, ◌⊎◌, ◌↔◌, ◌<◌, length, slice_get, OnOk, IfOk, IsTrue};
+ghost use Rattle.std.specs.Prelude.{◌≡◌, ℕ, ◌≤◌, ◌⊎◌, ◌↔◌, ◌<◌, length, OnOk, IfOk, IsTrue};
 ghost use Rattle.dn_interval.specs.declared.row.End.{End};
 ghost use Rattle.dn_interval.specs.declared.span.TheConstants.{TOP};
-ghost use Rattle.dn_interval.specs.Terms.{gives_by, rows_give, rows_of, segs_give};
-ghost use Rattle.dn_flat.specs.Terms.{name_of_end};
-ghost use Rattle.dn_view.specs.Terms.{ComesThrough, IsCourse, course_records, rows_part, segs_pass};
+ghost use Rattle.dn_interval.specs.Terms.{segs_give};
+ghost use Rattle.dn_flat.specs.Terms.{levels_give, name_of_end};
+ghost use Rattle.dn_view.specs.Terms.{ComesThrough, IsCourse, course_records, part_gives, segs_pass, stops_of};
 ghost use Rattle.dn_view.specs.declared.pass.Part.TheVariants.{Stops};
 
 use crate::course::Course;
-use crate::pass::{Part, part_rows, pass};
+use crate::pass::{Part, pass};
 use dn_base::OutOfMemory;
 use dn_flat::flats::Flats;
-use dn_interval::onward::follow;
 use dn_interval::{Seg, Span, TOP};
 use std::alloc::Global;
 
@@ -40,7 +39,7 @@ pub(crate) fn push_through(
     let mut level = stops;
     for _ in 0..UNITS {
         let segs = level.as_slice();
-        pass(shown, course, Part::Accepts, segs)?;
+        pass(alloc, shown, course, Part::Accepts, segs)?;
         level = passed_stops(alloc, course, segs)?;
     }
     Ok(())
@@ -56,23 +55,18 @@ pub(crate) fn passed_stops(
     ensures { IfOk result (λ stops. (a : ℕ) (z : End) → segs_give stops.items a z
         ≡ segs_pass course.entry.system.net.now
         (course_records (λ k. meaning (k.vtable, k.value)) course.entry)
-        (gives_by (rows_part Stops) course.entry.system.flats.now) segs.now a z) }
+        (part_gives Stops course.entry.system.flats.now) segs.now a z) }
 {
     let mut stops = Vec::new(alloc);
-    pass(&mut stops, course, Part::Stops, segs)?;
+    pass(alloc, &mut stops, course, Part::Stops, segs)?;
     Ok(stops)
 }
 
-/// What the addresses of a node come to by its rows, as segments.
-pub(crate) fn node_segs(
-    alloc: Global,
-    flats: &Flats,
-    node: u16,
-    part: Part,
-) -> Result<Vec<Seg>, OutOfMemory>
-    requires there { node < length flats.now }
+/// The names in units to which the addresses of a node come, as segments.
+pub(crate) fn node_stops(alloc: Global, flats: &Flats, node: u16) -> Result<Vec<Seg>, OutOfMemory>
+    requires there { node < length flats.now.nodes }
     ensures { IfOk result (λ segs. (a : ℕ) (z : End) → a ≤ TOP → segs_give segs.items a z
-        ≡ rows_give (rows_of (rows_part part) (slice_get flats.now node)) a z) }
+        ≡ levels_give (stops_of flats.now node) a z) }
 {
     let mut segs = Vec::new(alloc);
     let span = Span { lo: 0, hi: TOP };
@@ -81,6 +75,6 @@ pub(crate) fn node_segs(
         node,
         base: 0,
     };
-    follow(&mut segs, whole, part_rows(flats, node, part))?;
+    flats.push_stops(&mut segs, whole)?;
     Ok(segs)
 }

@@ -3,30 +3,44 @@
 ghost use Rattle.std.specs.Prelude.{◌≡◌, ◌<◌, length, IsTrue};
 ghost use Rattle.dn_net.specs.Terms.{unit_at};
 ghost use Rattle.dn_kind.specs.Terms.{Held};
-ghost use Rattle.dn_view.specs.Terms.{IsExactAt, IsSystem, IsTrial, can_meet, has_hop, leads_to_units, rows_meet};
+ghost use Rattle.dn_view.specs.Terms.{IsExactAt, IsSystem, IsTrial, can_meet, has_hop, layers_meet, leads_to_units, rows_meet};
 ghost use Rattle.dn_view.specs.declared.pass.Part.TheVariants.{Stops};
 ghost use Rattle.std.specs.List.{list_any};
 
 use crate::exact::is_asked;
-use crate::pass::{Part, leads_on, part_rows, unit_of};
+use crate::pass::{Part, leads_on, stop_layers, unit_of};
 use crate::system::System;
 use crate::trial::Trial;
-use dn_interval::{End, Row};
+use dn_interval::{End, Row, Rows};
 use dn_tables::placement::Placement;
 
 /// Whether nothing is asked for at a node, and no name to which the node leads can come to a hop of the
 /// placement: then it shows nothing newly, whatever the tables hold. It takes no memory.
 pub(crate) fn is_untouched(trial: Trial, node: u16) -> bool
     requires trial { IsTrial (λ k. meaning (k.vtable, k.value)) trial }
-    requires there { node < length trial.system.flats.now }
+    requires there { node < length trial.system.flats.now.nodes }
     ensures { IsTrue result → (h : Held) → IsExactAt trial.entry.system.net.now h
         trial.entry.request.now trial.entry.placement.now trial.entry.access node }
 {
     if is_asked(trial.request, node, trial.access) {
         return false;
     }
-    let rows = part_rows(trial.system.flats, node, Part::Stops);
-    !rows_meet(trial, rows.rows())
+    !layers_meet(trial, stop_layers(trial.system.flats, node))
+}
+
+/// Whether some name of the layers can come to a hop.
+fn layers_meet(trial: Trial, layers: &[Rows]) -> bool
+    requires { IsTrial (λ k. meaning (k.vtable, k.value)) trial }
+    ensures { result ≡ layers_meet trial.entry.system.net.now trial.entry.system.flats.now
+        trial.entry.placement.now.hops layers.now }
+{
+    for layer in layers {
+        let rows = layer.rows();
+        if rows_meet(trial, rows) {
+            return true;
+        }
+    }
+    false
 }
 
 /// Whether some name of the rows can come to a hop.

@@ -9,9 +9,8 @@ ghost use Rattle.dn_tables.specs.Terms.{FitsNet, record_kept};
 ghost use Rattle.dn_view.specs.Terms.{AreViewed, IsSystem, ReachesUnit};
 
 use crate::course::Course;
-use crate::pass::Part;
 use crate::records::Records;
-use crate::shown::{node_segs, push_through};
+use crate::shown::{node_stops, push_through};
 use crate::system::System;
 use dn_base::OutOfMemory;
 use dn_flat::flat::Flat;
@@ -58,8 +57,8 @@ pub fn view<'a>(
     // Each name of a row is in a node that is there.
     ensures within { IfOk result (λ rows. IsTrue (ends_within (length system.entry.net.now) rows)) }
 {
-    let mut shown = node_segs(alloc, system.flats, node, Part::Accepts)?;
-    let stops = node_segs(alloc, system.flats, node, Part::Stops)?;
+    let mut shown = system.flats.accepted(alloc, node)?;
+    let stops = node_stops(alloc, system.flats, node)?;
     let course = Course {
         system,
         tables,

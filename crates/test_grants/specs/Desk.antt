@@ -7,7 +7,7 @@ use Rattle.dn_net.specs.Decode.{top}
 use Rattle.dn_kind.specs.declared.rights.Rights.{Rights}
 use Rattle.dn_kind.specs.Kind.{Meaning}
 use Rattle.dn_kind.specs.Units.{IsLegalWith}
-use Rattle.dn_flat.specs.Stages.{AreFlats}
+use Rattle.dn_flat.specs.Levels.{AreFlats}
 use Rattle.dn_tables.specs.Placement.{Place}
 use Rattle.dn_tables.specs.Set.{FitsNet, IsOnDevice}
 use Rattle.dn_placement.specs.declared.request.Request.{Request}

@@ -86,7 +86,7 @@ impl Machine {
 
     /// What each node sees.
     pub fn flats(&self, alloc: Global) -> Result<Flats, Unmade>
-        ensures every { IfOk result (λ flats. length flats ≡ length self.now) }
+        ensures every { IfOk result (λ flats. length flats.nodes ≡ length self.now) }
     {
         Ok(flatten_all(alloc, &self.net, &self.walks)?)
     }

@@ -3,7 +3,9 @@
 use crate::seen_texts;
 use crate::views::SMALL;
 use dn_flat::stage::Stage;
-use dn_interval::{End, Rows, Span};
+use dn_interval::onward::follow;
+use dn_interval::{End, Rows, Seg, Span, TOP};
+use std::alloc::{AllocError, Global};
 use std::test::Fail;
 use test_kit::Machine;
 
@@ -64,6 +66,21 @@ fn are_same(rows: &Rows, others: &Rows) -> bool {
     true
 }
 
+/// What levels give, as normal rows.
+fn joined(alloc: Global, levels: &[Rows]) -> Result<Rows, AllocError> {
+    let mut segs = Vec::new(alloc);
+    for level in levels {
+        let span = Span { lo: 0, hi: TOP };
+        let whole = Seg {
+            span,
+            node: 0,
+            base: 0,
+        };
+        follow(&mut segs, whole, level)?;
+    }
+    Rows::normal(alloc, &segs)
+}
+
 #[test]
 fn sees_from_all_nodes_what_each_sees(rt: HostRuntime) -> Result<(), Fail> {
     let alloc = rt.alloc();
@@ -72,9 +89,10 @@ fn sees_from_all_nodes_what_each_sees(rt: HostRuntime) -> Result<(), Fail> {
         let flats = machine.flats(alloc)?;
         for node in 0..machine.net().nodes() {
             let flat = machine.flat(alloc, node)?;
-            let same = are_same(&flats.of(node).accepts, &flat.accepts);
+            let same = are_same(&flats.accepted_rows(alloc, node)?, &flat.accepts);
             assert!(rt; same, "accepts of {node}");
-            let same = are_same(&flats.of(node).stops, &flat.stops);
+            let stops = joined(alloc, flats.of(node).stops.as_slice())?;
+            let same = are_same(&stops, &flat.stops);
             assert!(rt; same, "stops of {node}");
         }
     }

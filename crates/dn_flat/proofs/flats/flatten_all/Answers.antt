@@ -1,11 +1,12 @@
 -- One node more.
 use Rattle.std.proofs.Common.{◌≡◌, ◌∙◌, sym, subst, arith, length}
-use Rattle.dn_flat.specs.Stages.{AreFlatsBelow}
+use Rattle.dn_flat.specs.Levels.{AreLevelsBelow}
+use Rattle.dn_flat.specs.Stages.{AreReaches}
 use Rattle.dn_flat.proofs.Led.{none_below}
 use Rattle.dn_flat.proofs.flats.flatten_all.Goals as goal
 
 pub loop-node-init : goal.loop-node-init
-loop-node-init c = record { below = subst (AreFlatsBelow c.args.net.now 0) (sym c.new-flats.ensures) (none_below c.args.net.now) }
+loop-node-init c = record { below = subst (AreLevelsBelow c.args.net.now 0) (sym c.new-nodes.ensures) (none_below c.args.net.now) }
 
 pub add-requires-clause-below : goal.add-requires-clause-below
 add-requires-clause-below c = c.loop-node.invariant.below
@@ -17,7 +18,9 @@ pub returns : goal.returns
 returns c =
     let below = c.loop-node.invariant.below in
     let all : c.loop-node.node ≡ length c.args.net.now = omega (arith, c.loop-node-test.false, c.loop-node.auto.node-end, c.nodes-node-end.ensures) in
+    let stage = c.in_ok-stage.stage in
     record {
       every = below.every ∙ all;
       each = below.each;
+      steps = subst (λ k. AreReaches c.args.net.now k stage.nodes) c.in_ok-stage.ensures.steps c.in_ok-stage.ensures.stage;
     }

@@ -16,4 +16,4 @@ loop-span-preserved c = λ a y.
     let s = c.span-item.result in
     ap (λ t. segs_give t a y) c.in_ok-push.ensures.items
     ∙ list_any-append (λ (x : Seg). seg_gives x a y) c.loop-span.segs.items (c.still.result ∷ [])
-    ∙ stay_more (segs_give c.loop-span.segs.items a y) (seg_gives c.still.result a y) (has (take i spans) a) (in_span s a) (has (take (i + 1) spans) a) (is_same c.args.node a y) (c.loop-span.invariant a y) (c.still.ensures a y) (any_more (λ (x : Span). in_span x a) spans i s c.loop-span-test.true c.span-item.is)
+    ∙ stay_more (segs_give c.loop-span.segs.items a y) (seg_gives c.still.result a y) (has (take i spans) a) (in_span s a) (has (take (i + 1) spans) a) (is_same c.args.node a y) (c.loop-span.invariant a y) (c.still.ensures.gives a y) (any_more (λ (x : Span). in_span x a) spans i s c.loop-span-test.true c.span-item.is)

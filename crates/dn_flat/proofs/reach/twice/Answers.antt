@@ -12,22 +12,24 @@ returns c = λ net k node are is.
     let nodes = c.args.nodes.now in
     let reach = c.args.reach.now in
     let none = c.new-found.result in
-    let found = c.push_rows.new.found in
-    let more = c.in_ok-push_rows.ensures in
+    let accepts = c.push_rows.new.segs.items in
+    let stops = c.push_rows-2.new.segs.items in
+    let go = c.push_rows-3.new.segs.items in
+    let fit = c.in_ok-push_rows.ensures.fit in
     let first = c.follow.new.segs.items in
     let second = c.follow-2.new.segs.items in
     record {
       done = record {
-        accepts = normal_of (EndsBefore net (is_accepted net) (k + k) node) found.accepts.items c.in_ok-done.done.accepts (λ a y t.
-            accepts_on net k nodes are k node reach.go is.go more.fit c.requires.there (segs_give first a y) (segs_give found.accepts.items a y) a y t
+        accepts = normal_of (EndsBefore net (is_accepted net) (k + k) node) accepts c.in_ok-done.done.accepts (λ a y t.
+            accepts_on net k nodes are k node reach.go is.go fit c.requires.there (segs_give first a y) (segs_give accepts a y) a y t
             (begun_by (EndsBefore net (is_accepted net) k node) c.whole.result reach.done.accepts (segs_give none.accepts.items a y) (segs_give first a y) a y is.done.accepts c.whole.ensures.base c.whole.ensures.lo c.whole.ensures.hi t (ap (λ s. segs_give s a y) c.new-found.ensures.accepts) (c.in_ok-follow.ensures.ok a y))
-            (more.adds.accepts a y)) c.in_ok-done.ensures.accepts;
-        stops = normal_of (EndsBefore net (is_stop net) (k + k) node) found.stops.items c.in_ok-done.done.stops (λ a y t.
-            stops_on net k nodes are k node reach.go is.go more.fit c.requires.there (segs_give second a y) (segs_give found.stops.items a y) a y t
+            (c.in_ok-push_rows.ensures.adds a y)) c.in_ok-done.ensures.accepts;
+        stops = normal_of (EndsBefore net (is_stop net) (k + k) node) stops c.in_ok-done.done.stops (λ a y t.
+            stops_on net k nodes are k node reach.go is.go fit c.requires.there (segs_give second a y) (segs_give stops a y) a y t
             (begun_by (EndsBefore net (is_stop net) k node) c.whole-2.result reach.done.stops (segs_give none.stops.items a y) (segs_give second a y) a y is.done.stops c.whole-2.ensures.base c.whole-2.ensures.lo c.whole-2.ensures.hi t (ap (λ s. segs_give s a y) c.new-found.ensures.stops) (c.in_ok-follow-2.ensures.ok a y))
-            (more.adds.stops a y)) c.in_ok-done.ensures.stops;
+            (c.in_ok-push_rows-2.ensures.adds a y)) c.in_ok-done.ensures.stops;
       };
-      go = normal_of (GoesIn net (k + k) node) found.go.items c.in_ok-go.go (λ a y t.
-          goes_on net k nodes are k node reach.go is.go more.fit c.requires.there (segs_give none.go.items a y) (segs_give found.go.items a y) a y t (ap (λ s. segs_give s a y) c.new-found.ensures.go) (more.adds.go a y))
+      go = normal_of (GoesIn net (k + k) node) go c.in_ok-go.go (λ a y t.
+          goes_on net k nodes are k node reach.go is.go fit c.requires.there (segs_give none.go.items a y) (segs_give go a y) a y t (ap (λ s. segs_give s a y) c.new-found.ensures.go) (c.in_ok-push_rows-3.ensures.adds a y))
           (subst (λ s. AreNormal (SegmentsGive s) c.in_ok-go.go) c.deref.ensures.value c.in_ok-go.ensures.normal);
     }

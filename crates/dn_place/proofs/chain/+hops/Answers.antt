@@ -1,11 +1,12 @@
-use Rattle.std.proofs.Common.{◌≡◌, ℕ, suc, true, false, List, Some, ◌+◌, ◌-◌, ◌*◌, ◌^◌, ◌<◌, ◌≤◌, arith, length, refl, subst, sym, ap, ◌∙◌, rules, get_or, slice_get}
+use Rattle.std.proofs.Common.{◌≡◌, ℕ, suc, List, Some, ◌+◌, ◌-◌, ◌*◌, ◌^◌, ◌<◌, ◌≤◌, arith, length, refl, subst, sym, ap, ◌∙◌, rules, get_or, slice_get}
 use Rattle.std.proofs.lemmas.Nat.{pow_pos}
 use Rattle.std.proofs.Math.Nat.{mod-mod, mod-le}
+use Rattle.dn_interval.specs.declared.row.Row.{Row}
 use Rattle.dn_tables.specs.declared.placement.Hop.{Hop}
 use Rattle.dn_placement.specs.declared.request.Request.{Request}
 use Rattle.dn_placement.specs.Placement.{Meets}
 use Rattle.dn_place.specs.Hops.{hops_of}
-use Rattle.dn_place.specs.Rows.{is_clear, rows_toward, wanted}
+use Rattle.dn_place.specs.Rows.{AreToward, IsClear, wanted}
 use Rattle.dn_place.specs.Marks.{AreUnitsFrom}
 use Rattle.dn_place.specs.Candidates.{to_unit, to_port, to_output, IsChosen}
 use Rattle.dn_place.proofs.Agents.{row_asked, row_fits, step, step_found, step_done, step_meets, only_there}
@@ -17,7 +18,7 @@ use Rattle.dn_place.proofs.Units.{sifted_begun, sifted_done, sifted_found, sifte
 use Rattle.dn_place.proofs.Walks.{set_out}
 use Rattle.dn_place.proofs.chain.+hops.Goals as goal
 use Rattle.dn_place.proofs.chain.+hops.Goals.{by_hops-then-can_stand+in_ok-placement+in_default, by_hops-else-can_stand}
-use Rattle.dn_place.proofs.chain.+hops.Goals.{by_port-in-Some+then-y-size+then-is_clear+in_ok-placement+in_default-2, by_port-in-Some+else-y-size, by_port-else-y-size-via-then-y-size+else-is_clear, by_port-else-y-size-via-else-y-size, by_port-in_default}
+use Rattle.dn_place.proofs.chain.+hops.Goals.{by_rows-in-Some+then-y-size+then-is_clear+in_ok-placement+in_default-2, by_rows-in-Some+else-y-size, by_rows-else-y-size-via-then-y-size+else-is_clear, by_rows-else-y-size-via-else-y-size, by_rows-in_default}
 
 pub by_hops-loop-unit-init : goal.by_hops-loop-unit-init
 by_hops-loop-unit-init g t c = sifted_begun (g.Q.Quest.sought c.args.quest.now) c.args.stage.count (hops_of c.args.stage.chosen) c.as_slice-units.result.now (subst (λ (l : List ℕ). AreUnitsFrom (g.Q.Quest.sought c.args.quest.now).net 0 l) (sym c.as_slice-units.ensures.value) c.requires.stage.units)
@@ -45,66 +46,95 @@ by_unit-loop-port-preserved g t c = next_one (g.Q.Quest.sought c.args.quest.now)
 pub by_unit-returns : goal.by_unit-returns
 by_unit-returns g t c = ports_done (g.Q.Quest.sought c.args.quest.now) c.args.stage.count (hops_of c.args.stage.chosen) c.args.unit c.in-Some.translator.now c.loop-port.port c.requires.more c.in-Some.ensures.some (omega (arith, ap length c.as_slice.ensures)) c.loop-port.invariant
 
-pub by_port-flat-flat-requires-clause-there : goal.by_port-flat-flat-requires-clause-there
-by_port-flat-flat-requires-clause-there g t c = rw (c.as_slice.ensures, c.from.ensures) (node_there (g.Q.Quest.sought c.args.quest.now).net c.args.port c.args.translator.now (c.requires.stage.ready.formed c.args.unit c.args.translator.now c.requires.unit) c.requires.port)
+pub by_port-levels-requires-clause-there : goal.by_port-levels-requires-clause-there
+by_port-levels-requires-clause-there g t c = rw (c.as_slice.ensures, c.from.ensures) (node_there (g.Q.Quest.sought c.args.quest.now).net c.args.port c.args.translator.now (c.requires.stage.ready.formed c.args.unit c.args.translator.now c.requires.unit) c.requires.port)
 
-pub by_port-power-end-requires : goal.by_port-power-end-requires
-by_port-power-end-requires g t c = (c.requires.stage.ready.formed c.args.unit c.args.translator.now c.requires.unit).reach
+pub by_port-made_rows-requires-clause-there : goal.by_port-made_rows-requires-clause-there
+by_port-made_rows-requires-clause-there g t c = rw (c.as_slice.ensures, c.from.ensures) (node_there (g.Q.Quest.sought c.args.quest.now).net c.args.port c.args.translator.now (c.requires.stage.ready.formed c.args.unit c.args.translator.now c.requires.unit) c.requires.port)
 
-pub by_port-rows-init : goal.by_port-rows-init
-by_port-rows-init g t c = set_out _ _ _ c.rows_toward-row-items.ensures.apart
+pub by_port-by_rows-requires : goal.by_port-by_rows-requires
+by_port-by_rows-requires g t c =
+    let hops = (hops_of c.args.stage.chosen) in
+    let given = c.in-Some.ensures (g.Q.Quest.sought c.args.quest.now).net (g.Q.Quest.sought c.args.quest.now).request (get_or c.as_slice.result.now c.from.result 0) c.levels.ensures in
+    let toward : (n : ℕ) → slice_get c.args.translator.now.ports c.args.port ≡ Some n → AreToward (g.Q.Quest.sought c.args.quest.now).net (g.Q.Quest.sought c.args.quest.now).request hops n c.in-Some.rows.now = λ n e. subst (λ (m : ℕ). AreToward (g.Q.Quest.sought c.args.quest.now).net (g.Q.Quest.sought c.args.quest.now).request hops m c.in-Some.rows.now) (port_node c.as_slice.result.now c.args.translator.now.ports c.from.result c.args.port n c.as_slice.ensures c.from.ensures e) given in
+    search rules
 
-pub by_port-by_output-requires : goal.by_port-by_output-requires
-by_port-by_output-requires g t c =
+pub by_port-by_rows-requires-in-None : goal.by_port-by_rows-requires-in-None
+by_port-by_rows-requires-in-None g t c =
+    let hops = (hops_of c.args.stage.chosen) in
+    let given : AreToward (g.Q.Quest.sought c.args.quest.now).net (g.Q.Quest.sought c.args.quest.now).request hops (get_or c.as_slice.result.now c.from.result 0) c.rows-in-None.result.now = subst (λ (l : List Row). AreToward (g.Q.Quest.sought c.args.quest.now).net (g.Q.Quest.sought c.args.quest.now).request hops (get_or c.as_slice.result.now c.from.result 0) l) (sym c.rows-in-None.ensures.value) c.in_ok-rows-in-None.ensures in
+    let toward : (n : ℕ) → slice_get c.args.translator.now.ports c.args.port ≡ Some n → AreToward (g.Q.Quest.sought c.args.quest.now).net (g.Q.Quest.sought c.args.quest.now).request hops n c.rows-in-None.result.now = λ n e. subst (λ (m : ℕ). AreToward (g.Q.Quest.sought c.args.quest.now).net (g.Q.Quest.sought c.args.quest.now).request hops m c.rows-in-None.result.now) (port_node c.as_slice.result.now c.args.translator.now.ports c.from.result c.args.port n c.as_slice.ensures c.from.ensures e) given in
+    search rules
+
+pub by_rows-power-end-requires : goal.by_rows-power-end-requires
+by_rows-power-end-requires g t c = (c.requires.stage.ready.formed c.args.unit c.args.translator.now c.requires.unit).reach
+
+pub by_rows-rows-init : goal.by_rows-rows-init
+by_rows-rows-init g t c =
+    let read = port_read c.as_slice.result.now c.args.translator.now.ports c.from.result c.args.port c.as_slice.ensures c.from.ensures c.requires.port in
+    set_out (g.Q.Quest.sought c.args.quest.now) (to_port c.args.stage.count (hops_of c.args.stage.chosen) c.args.unit c.args.port) c.args.rows.now (c.requires.toward (get_or c.as_slice.result.now c.from.result 0) read).apart
+
+pub by_rows-is_clear-requires-clause-there : goal.by_rows-is_clear-requires-clause-there
+by_rows-is_clear-requires-clause-there g t c = rw (c.as_slice.ensures, c.from.ensures) (node_there (g.Q.Quest.sought c.args.quest.now).net c.args.port c.args.translator.now (c.requires.stage.ready.formed c.args.unit c.args.translator.now c.requires.unit) c.requires.port)
+
+pub by_rows-is_clear-requires-clause-some : goal.by_rows-is_clear-requires-clause-some
+by_rows-is_clear-requires-clause-some g t c = let some = c.requires.stage.ready.some in rw c.request-size.ensures some
+
+pub by_rows-is_clear-requires-clause-fits : goal.by_rows-is_clear-requires-clause-fits
+by_rows-is_clear-requires-clause-fits g t c = omega (arith, c.power-end.ensures, c.if-y-size.true, output_bound c.args.translator.now.reach (c.requires.stage.ready.formed c.args.unit c.args.translator.now c.requires.unit).reach)
+
+pub by_rows-by_output-requires : goal.by_rows-by_output-requires
+by_rows-by_output-requires g t c =
     let hops = (hops_of c.args.stage.chosen) in
     let front = to_port c.args.stage.count hops c.args.unit c.args.port in
     let node = get_or c.as_slice.result.now c.from.result 0 in
+    let read = port_read c.as_slice.result.now c.args.translator.now.ports c.from.result c.args.port c.as_slice.ensures c.from.ensures c.requires.port in
     let here = (row_asked (g.Q.Quest.sought c.args.quest.now) hops c.row-item.result c.wanted-target.result c.request.result c.request-size.result c.in-Some.y c.wanted-target.ensures c.request.ensures c.request-size.ensures).0 c.in-Some.ensures.some in
     let same : c.request-size.result.size ≡ (g.Q.Quest.sought c.args.quest.now).request.size = ap (λ (r : Request). r.size) c.request-size.ensures in
     let reached : c.in-Some.y + (g.Q.Quest.sought c.args.quest.now).request.size ≤ 2 ^ c.args.translator.now.reach = omega (arith, c.power-end.ensures, c.if-y-size.true, same) in
-    let clear = subst (λ (n : ℕ). is_clear c.flat-flat.result.now hops c.in-Some.y n ≡ true) same (sym c.is_clear.ensures ∙ c.if-is_clear.true) in
-    let met = step_meets (g.Q.Quest.sought c.args.quest.now) front c.rows_toward-row-items.result.now node hops c.flat-flat.result.now c.rows.row-index c.row-item.result c.in-Some.y c.flat-flat.ensures (row_fits _ _ _ _ here) c.rows_toward-row-items.ensures.rows c.rows-test.true c.row-item.is c.rows.invariant here clear in
+    let clear = subst (λ (n : ℕ). IsClear (g.Q.Quest.sought c.args.quest.now).net node hops c.in-Some.y n) same (c.is_clear.ensures.yes c.if-is_clear.true) in
+    let met = step_meets (g.Q.Quest.sought c.args.quest.now) front node hops c.args.rows.now c.rows.row-index c.row-item.result c.in-Some.y (c.requires.toward node read) (row_fits _ _ _ _ here) c.rows-test.true c.row-item.is c.rows.invariant here clear in
     let meets : (n : ℕ) → slice_get c.args.translator.now.ports c.args.port ≡ Some n → Meets (g.Q.Quest.sought c.args.quest.now).net (g.Q.Quest.sought c.args.quest.now).request n c.in-Some.y hops = λ n e. subst (λ (m : ℕ). Meets (g.Q.Quest.sought c.args.quest.now).net (g.Q.Quest.sought c.args.quest.now).request m c.in-Some.y hops) (port_node c.as_slice.result.now c.args.translator.now.ports c.from.result c.args.port n c.as_slice.ensures c.from.ensures e) met in
     search rules
 
-pub by_port-returns-in-Some-2 : goal.by_port-returns-in-Some-2
-by_port-returns-in-Some-2 g t c =
+pub by_rows-returns-in-Some-2 : goal.by_rows-returns-in-Some-2
+by_rows-returns-in-Some-2 g t c =
     let hops = (hops_of c.args.stage.chosen) in
     let front = to_port c.args.stage.count hops c.args.unit c.args.port in
     let node = get_or c.as_slice.result.now c.from.result 0 in
     let read = port_read c.as_slice.result.now c.args.translator.now.ports c.from.result c.args.port c.as_slice.ensures c.from.ensures c.requires.port in
-    step_found (g.Q.Quest.sought c.args.quest.now) front c.rows_toward-row-items.result.now (rows_toward c.flat-flat.result.now hops) c.rows.row-index c.row-item.result (wanted (g.Q.Quest.sought c.args.quest.now).request hops) c.in-Some.y c.in-Some-2.placement
-    c.rows_toward-row-items.ensures.rows c.rows-test.true c.row-item.is c.requires.stage.ready.some (port_stretches (g.Q.Quest.sought c.args.quest.now) c.args.stage.count hops c.args.unit c.args.port node c.args.translator.now c.flat-flat.result.now c.requires.stage.ready c.flat-flat.ensures c.requires.more c.requires.unit read)
+    step_found (g.Q.Quest.sought c.args.quest.now) front c.args.rows.now c.rows.row-index c.row-item.result (wanted (g.Q.Quest.sought c.args.quest.now).request hops) c.in-Some.y c.in-Some-2.placement
+    c.rows-test.true c.row-item.is c.requires.stage.ready.some (port_stretches (g.Q.Quest.sought c.args.quest.now) c.args.stage.count hops c.args.unit c.args.port node c.args.translator.now c.args.rows.now c.requires.stage.ready (c.requires.toward node read) c.requires.more c.requires.unit read)
     c.rows.invariant ((row_asked (g.Q.Quest.sought c.args.quest.now) hops c.row-item.result c.wanted-target.result c.request.result c.request-size.result c.in-Some.y c.wanted-target.ensures c.request.ensures c.request-size.ensures).0 c.in-Some.ensures.some) (rw c.in-Some-2.is at c.in_ok-placement.ensures)
 
-pub by_port-rows-preserved : goal.by_port-rows-preserved
-by_port-rows-preserved g t c =
+pub by_rows-rows-preserved : goal.by_rows-rows-preserved
+by_rows-rows-preserved g t c =
     let hops = (hops_of c.args.stage.chosen) in
     let front = to_port c.args.stage.count hops c.args.unit c.args.port in
     let node = get_or c.as_slice.result.now c.from.result 0 in
     let read = port_read c.as_slice.result.now c.args.translator.now.ports c.from.result c.args.port c.as_slice.ensures c.from.ensures c.requires.port in
     let same : c.request-size.result.size ≡ (g.Q.Quest.sought c.args.quest.now).request.size = ap (λ (r : Request). r.size) c.request-size.ensures in
-    step (g.Q.Quest.sought c.args.quest.now) front c.rows_toward-row-items.result.now (rows_toward c.flat-flat.result.now hops) c.rows.row-index c.row-item.result (wanted (g.Q.Quest.sought c.args.quest.now).request hops)
-    c.rows_toward-row-items.ensures.rows c.rows-test.true c.row-item.is c.requires.stage.ready.some (port_stretches (g.Q.Quest.sought c.args.quest.now) c.args.stage.count hops c.args.unit c.args.port node c.args.translator.now c.flat-flat.result.now c.requires.stage.ready c.flat-flat.ensures c.requires.more c.requires.unit read)
+    step (g.Q.Quest.sought c.args.quest.now) front c.args.rows.now c.rows.row-index c.row-item.result (wanted (g.Q.Quest.sought c.args.quest.now).request hops)
+    c.rows-test.true c.row-item.is c.requires.stage.ready.some (port_stretches (g.Q.Quest.sought c.args.quest.now) c.args.stage.count hops c.args.unit c.args.port node c.args.translator.now c.args.rows.now c.requires.stage.ready (c.requires.toward node read) c.requires.more c.requires.unit read)
     c.rows.invariant
     (elim c.match-output.branch [
-      | by_port-in-Some+then-y-size+then-is_clear+in_ok-placement+in_default-2 w ↦ only_there (g.Q.Quest.sought c.args.quest.now) front c.row-item.result (wanted (g.Q.Quest.sought c.args.quest.now).request hops) w.in-Some.y ((row_asked (g.Q.Quest.sought c.args.quest.now) hops c.row-item.result c.wanted-target.result c.request.result c.request-size.result w.in-Some.y c.wanted-target.ensures c.request.ensures c.request-size.ensures).0 w.in-Some.ensures.some) (rw w.in_default-2.is at w.in_ok-placement.ensures)
-      | by_port-in-Some+else-y-size w ↦ only_there (g.Q.Quest.sought c.args.quest.now) front c.row-item.result (wanted (g.Q.Quest.sought c.args.quest.now).request hops) w.in-Some.y ((row_asked (g.Q.Quest.sought c.args.quest.now) hops c.row-item.result c.wanted-target.result c.request.result c.request-size.result w.in-Some.y c.wanted-target.ensures c.request.ensures c.request-size.ensures).0 w.in-Some.ensures.some)
+      | by_rows-in-Some+then-y-size+then-is_clear+in_ok-placement+in_default-2 w ↦ only_there (g.Q.Quest.sought c.args.quest.now) front c.row-item.result (wanted (g.Q.Quest.sought c.args.quest.now).request hops) w.in-Some.y ((row_asked (g.Q.Quest.sought c.args.quest.now) hops c.row-item.result c.wanted-target.result c.request.result c.request-size.result w.in-Some.y c.wanted-target.ensures c.request.ensures c.request-size.ensures).0 w.in-Some.ensures.some) (rw w.in_default-2.is at w.in_ok-placement.ensures)
+      | by_rows-in-Some+else-y-size w ↦ only_there (g.Q.Quest.sought c.args.quest.now) front c.row-item.result (wanted (g.Q.Quest.sought c.args.quest.now).request hops) w.in-Some.y ((row_asked (g.Q.Quest.sought c.args.quest.now) hops c.row-item.result c.wanted-target.result c.request.result c.request-size.result w.in-Some.y c.wanted-target.ensures c.request.ensures c.request-size.ensures).0 w.in-Some.ensures.some)
           (elim w.else-y-size.branch [
-            | by_port-else-y-size-via-then-y-size+else-is_clear v ↦ not_met (g.Q.Quest.sought c.args.quest.now) c.args.stage.count hops c.args.unit c.args.port node w.in-Some.y c.args.translator.now c.requires.more c.requires.unit read (unclear (g.Q.Quest.sought c.args.quest.now) node w.in-Some.y hops c.flat-flat.result.now c.flat-flat.ensures c.requires.stage.ready.some (row_fits _ _ _ _ ((row_asked (g.Q.Quest.sought c.args.quest.now) hops c.row-item.result c.wanted-target.result c.request.result c.request-size.result w.in-Some.y c.wanted-target.ensures c.request.ensures c.request-size.ensures).0 w.in-Some.ensures.some)) (subst (λ (n : ℕ). is_clear c.flat-flat.result.now hops w.in-Some.y n ≡ false) same (sym v.is_clear.ensures ∙ v.if-is_clear.false)))
-            | by_port-else-y-size-via-else-y-size v ↦ out_of_reach (g.Q.Quest.sought c.args.quest.now) c.args.stage.count hops c.args.unit c.args.port w.in-Some.y c.args.translator.now c.requires.more c.requires.unit (λ reached. omega (arith, reached, c.power-end.ensures, v.if-y-size.false, same))
+            | by_rows-else-y-size-via-then-y-size+else-is_clear v ↦ not_met (g.Q.Quest.sought c.args.quest.now) c.args.stage.count hops c.args.unit c.args.port node w.in-Some.y c.args.translator.now c.requires.more c.requires.unit read (unclear (g.Q.Quest.sought c.args.quest.now) node w.in-Some.y hops (subst (λ (n : ℕ). IsClear (g.Q.Quest.sought c.args.quest.now).net node hops w.in-Some.y n → ⊥) same (v.is_clear.ensures.no v.if-is_clear.false)))
+            | by_rows-else-y-size-via-else-y-size v ↦ out_of_reach (g.Q.Quest.sought c.args.quest.now) c.args.stage.count hops c.args.unit c.args.port w.in-Some.y c.args.translator.now c.requires.more c.requires.unit (λ reached. omega (arith, reached, c.power-end.ensures, v.if-y-size.false, same))
           ])
-      | by_port-in_default w ↦ λ j i. absurd (w.in_default.ensures.none j ((row_asked (g.Q.Quest.sought c.args.quest.now) hops c.row-item.result c.wanted-target.result c.request.result c.request-size.result j c.wanted-target.ensures c.request.ensures c.request-size.ensures).1 i))
+      | by_rows-in_default w ↦ λ j i. absurd (w.in_default.ensures.none j ((row_asked (g.Q.Quest.sought c.args.quest.now) hops c.row-item.result c.wanted-target.result c.request.result c.request-size.result j c.wanted-target.ensures c.request.ensures c.request-size.ensures).1 i))
     ])
 
-pub by_port-returns : goal.by_port-returns
-by_port-returns g t c =
+pub by_rows-returns : goal.by_rows-returns
+by_rows-returns g t c =
     let hops = (hops_of c.args.stage.chosen) in
     let front = to_port c.args.stage.count hops c.args.unit c.args.port in
     let node = get_or c.as_slice.result.now c.from.result 0 in
     let read = port_read c.as_slice.result.now c.args.translator.now.ports c.from.result c.args.port c.as_slice.ensures c.from.ensures c.requires.port in
-    step_done (g.Q.Quest.sought c.args.quest.now) front c.rows_toward-row-items.result.now (rows_toward c.flat-flat.result.now hops) c.rows.row-index (wanted (g.Q.Quest.sought c.args.quest.now).request hops)
-    c.rows_toward-row-items.ensures.rows c.rows-test.false c.requires.stage.ready.some (port_stretches (g.Q.Quest.sought c.args.quest.now) c.args.stage.count hops c.args.unit c.args.port node c.args.translator.now c.flat-flat.result.now c.requires.stage.ready c.flat-flat.ensures c.requires.more c.requires.unit read)
+    step_done (g.Q.Quest.sought c.args.quest.now) front c.args.rows.now c.rows.row-index (wanted (g.Q.Quest.sought c.args.quest.now).request hops)
+    c.rows-test.false c.requires.stage.ready.some (port_stretches (g.Q.Quest.sought c.args.quest.now) c.args.stage.count hops c.args.unit c.args.port node c.args.translator.now c.args.rows.now c.requires.stage.ready (c.requires.toward node read) c.requires.more c.requires.unit read)
     (port_goes (g.Q.Quest.sought c.args.quest.now) c.args.stage.count hops c.args.unit c.args.port c.args.translator.now c.requires.more c.requires.unit) c.rows.invariant
 
 pub by_output-power-page-requires : goal.by_output-power-page-requires

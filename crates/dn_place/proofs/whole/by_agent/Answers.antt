@@ -1,64 +1,10 @@
-use Rattle.std.proofs.Common.{sym, ◌∙◌, length, subst}
-use Rattle.std.proofs.lemmas.Bool.{false≢true}
-use Rattle.dn_flat.specs.Stages.{IsFlat}
-use Rattle.dn_placement.specs.Order.{IsAt}
+use Rattle.std.proofs.Common.{subst}
 use Rattle.dn_placement.specs.declared.request.Request.{Request}
 use Rattle.dn_place.specs.Hops.{hops_of}
-use Rattle.dn_place.specs.Rows.{rows_toward, wanted}
-use Rattle.dn_place.specs.Candidates.{ending}
-use Rattle.dn_place.proofs.Walks.{set_out}
-use Rattle.dn_place.proofs.Agents.{agent_stretches, agent_goes, clear_of, not_asked, row_asked, step, step_found, step_done, step_meets, only_there, row_fits}
+use Rattle.dn_place.specs.Rows.{AreToward}
 use Rattle.dn_place.proofs.whole.by_agent.Goals as goal
-use Rattle.dn_place.proofs.whole.by_agent.Goals.{in-Some+then-is_at+in_ok-placement+in_default-2, in-Some+else-is_at, in_default}
 
-pub rows-init : goal.rows-init
-rows-init g c = set_out _ _ _ c.rows_toward-row-items.ensures.apart
-
-pub by_address-requires-clause-addressed : goal.by_address-requires-clause-addressed
-by_address-requires-clause-addressed g c =
-    let hops = hops_of c.args.hops in
-    let front = ending (length hops) hops in
-    let flat : IsFlat (g.Q.Quest.sought c.args.quest.now).net (g.Q.Quest.sought c.args.quest.now).request.agent c.flat-flat.result.now = subst (λ (r : Request). IsFlat (g.Q.Quest.sought c.args.quest.now).net r.agent c.flat-flat.result.now) c.request.ensures c.flat-flat.ensures in
-    let here = (row_asked (g.Q.Quest.sought c.args.quest.now) hops c.row-item.result c.wanted-target.result c.request-2.result c.request-size.result c.in-Some.v c.wanted-target.ensures c.request-2.ensures c.request-size.ensures).0 c.in-Some.ensures.some in
-    record {
-      chosen = c.requires.chosen;
-      some = c.requires.some;
-      fits = row_fits _ _ _ _ here;
-      at = subst (λ o. IsAt o c.in-Some.v) c.at.ensures (c.is_at.ensures.0 c.if-is_at.true);
-      meets = step_meets (g.Q.Quest.sought c.args.quest.now) front c.rows_toward-row-items.result.now (g.Q.Quest.sought c.args.quest.now).request.agent hops c.flat-flat.result.now c.rows.row-index c.row-item.result c.in-Some.v flat (row_fits _ _ _ _ here) c.rows_toward-row-items.ensures.rows c.rows-test.true c.row-item.is c.rows.invariant here (clear_of c.flat-flat.result.now hops c.in-Some.v (g.Q.Quest.sought c.args.quest.now).request.size c.requires.some);
-    }
-
-pub returns-in-Some-2 : goal.returns-in-Some-2
-returns-in-Some-2 g c =
-    let hops = hops_of c.args.hops in
-    let front = ending (length hops) hops in
-    let flat : IsFlat (g.Q.Quest.sought c.args.quest.now).net (g.Q.Quest.sought c.args.quest.now).request.agent c.flat-flat.result.now = subst (λ (r : Request). IsFlat (g.Q.Quest.sought c.args.quest.now).net r.agent c.flat-flat.result.now) c.request.ensures c.flat-flat.ensures in
-    step_found (g.Q.Quest.sought c.args.quest.now) front c.rows_toward-row-items.result.now (rows_toward c.flat-flat.result.now hops) c.rows.row-index c.row-item.result (wanted (g.Q.Quest.sought c.args.quest.now).request hops) c.in-Some.v c.in-Some-2.placement
-    c.rows_toward-row-items.ensures.rows c.rows-test.true c.row-item.is c.requires.ready.some
-    (agent_stretches (g.Q.Quest.sought c.args.quest.now) hops c.flat-flat.result.now c.requires.ready flat) c.rows.invariant
-    ((row_asked (g.Q.Quest.sought c.args.quest.now) hops c.row-item.result c.wanted-target.result c.request-2.result c.request-size.result c.in-Some.v c.wanted-target.ensures c.request-2.ensures c.request-size.ensures).0 c.in-Some.ensures.some)
-    (rw c.in-Some-2.is at c.in_ok-placement.ensures)
-
-pub rows-preserved : goal.rows-preserved
-rows-preserved g c =
-    let hops = hops_of c.args.hops in
-    let front = ending (length hops) hops in
-    let flat : IsFlat (g.Q.Quest.sought c.args.quest.now).net (g.Q.Quest.sought c.args.quest.now).request.agent c.flat-flat.result.now = subst (λ (r : Request). IsFlat (g.Q.Quest.sought c.args.quest.now).net r.agent c.flat-flat.result.now) c.request.ensures c.flat-flat.ensures in
-    step (g.Q.Quest.sought c.args.quest.now) front c.rows_toward-row-items.result.now (rows_toward c.flat-flat.result.now hops) c.rows.row-index c.row-item.result (wanted (g.Q.Quest.sought c.args.quest.now).request hops)
-    c.rows_toward-row-items.ensures.rows c.rows-test.true c.row-item.is c.requires.ready.some
-    (agent_stretches (g.Q.Quest.sought c.args.quest.now) hops c.flat-flat.result.now c.requires.ready flat) c.rows.invariant
-    (elim c.match-output.branch [
-      | in-Some+then-is_at+in_ok-placement+in_default-2 w ↦ only_there (g.Q.Quest.sought c.args.quest.now) front c.row-item.result (wanted (g.Q.Quest.sought c.args.quest.now).request hops) w.in-Some.v ((row_asked (g.Q.Quest.sought c.args.quest.now) hops c.row-item.result c.wanted-target.result c.request-2.result c.request-size.result w.in-Some.v c.wanted-target.ensures c.request-2.ensures c.request-size.ensures).0 w.in-Some.ensures.some) (rw w.in_default-2.is at w.in_ok-placement.ensures)
-      | in-Some+else-is_at w ↦ only_there (g.Q.Quest.sought c.args.quest.now) front c.row-item.result (wanted (g.Q.Quest.sought c.args.quest.now).request hops) w.in-Some.v ((row_asked (g.Q.Quest.sought c.args.quest.now) hops c.row-item.result c.wanted-target.result c.request-2.result c.request-size.result w.in-Some.v c.wanted-target.ensures c.request-2.ensures c.request-size.ensures).0 w.in-Some.ensures.some) (not_asked (g.Q.Quest.sought c.args.quest.now) hops w.in-Some.v (λ at. false≢true (sym w.if-is_at.false ∙ w.is_at.ensures.1 (subst (λ o. IsAt o w.in-Some.v) (sym w.at.ensures) at))))
-      | in_default w ↦ λ j i. absurd (w.in_default.ensures.none j ((row_asked (g.Q.Quest.sought c.args.quest.now) hops c.row-item.result c.wanted-target.result c.request-2.result c.request-size.result j c.wanted-target.ensures c.request-2.ensures c.request-size.ensures).1 i))
-    ])
-
-pub returns : goal.returns
-returns g c =
-    let hops = hops_of c.args.hops in
-    let front = ending (length hops) hops in
-    let flat : IsFlat (g.Q.Quest.sought c.args.quest.now).net (g.Q.Quest.sought c.args.quest.now).request.agent c.flat-flat.result.now = subst (λ (r : Request). IsFlat (g.Q.Quest.sought c.args.quest.now).net r.agent c.flat-flat.result.now) c.request.ensures c.flat-flat.ensures in
-    step_done (g.Q.Quest.sought c.args.quest.now) front c.rows_toward-row-items.result.now (rows_toward c.flat-flat.result.now hops) c.rows.row-index (wanted (g.Q.Quest.sought c.args.quest.now).request hops)
-    c.rows_toward-row-items.ensures.rows c.rows-test.false c.requires.ready.some
-    (agent_stretches (g.Q.Quest.sought c.args.quest.now) hops c.flat-flat.result.now c.requires.ready flat)
-    (agent_goes (g.Q.Quest.sought c.args.quest.now) hops) c.rows.invariant
+pub by_rows-requires-clause-toward : goal.by_rows-requires-clause-toward
+by_rows-requires-clause-toward g c =
+    subst (λ (r : Request). AreToward (g.Q.Quest.sought c.args.quest.now).net (g.Q.Quest.sought c.args.quest.now).request (hops_of c.args.hops) r.agent c.in-Some.rows.now) c.request-agent.ensures
+    (c.in-Some.ensures (g.Q.Quest.sought c.args.quest.now).net (g.Q.Quest.sought c.args.quest.now).request c.request-agent.result.agent c.levels.ensures)

@@ -1,9 +1,7 @@
-use Rattle.std.proofs.Common.{◌≡◌, subst, map, List, Option, IfOk, IfSome}
+use Rattle.std.proofs.Common.{◌≡◌, subst, map, List, IfOk}
 use Rattle.std.specs.String.{string_bytes}
 use Rattle.dn_interval.specs.declared.row.Row.{Row}
 use Rattle.dn_net.specs.declared.node.NodeDecl.{NodeDecl}
-use Rattle.dn_flat.specs.declared.flat.Flat.{Flat}
-use Rattle.dn_flat.specs.Stages.{AreFlats}
 use Rattle.dn_kind.specs.declared.rights.Access.{Access}
 use Rattle.dn_kind.specs.Kind.{Meaning}
 use Rattle.dn_kind.specs.Tables.{allowing}
@@ -25,17 +23,14 @@ returns-in-Some-clause-reply g c =
     (λ r. IfOk c.rows_text.result (λ s. string_bytes s ≡ viewed_text c.args.machine.net.now c.args.text.now c.args.mode r))
     c.requires.ready.state c.requires.agent c.in-Some.ensures.rows c.rows_text.ensures
 
-pub fixed_view-requires-clause-flat : goal.fixed_view-requires-clause-flat
-fixed_view-requires-clause-flat g c =
-    let net : List NodeDecl = c.args.machine.net.now in
-    let are : AreFlats net c.in-Some-flats.flats = subst (λ (o : Option (List Flat)). IfSome o (AreFlats net)) c.in-Some-flats.is c.in_ok-keep_flats.ensures.flat in
-    are.each c.args.node c.of.result.now c.of.ensures
+pub shared_rows-requires-clause-there : goal.shared_rows-requires-clause-there
+shared_rows-requires-clause-there g c = agent_there c.args.machine.net.now c.args.node c.requires.agent
 
-pub returns-in-Some-fixed_view-clause-reply : goal.returns-in-Some-fixed_view-clause-reply
-returns-in-Some-fixed_view-clause-reply g c =
-    fixed_is_owed c.args.machine.net.now _ c.args.state.now (access_of c.args.mode) c.args.node c.in-Some-fixed_view.rows.now
-    (λ r. IfOk c.rows_text-in-Some-fixed_view.result (λ s. string_bytes s ≡ viewed_text c.args.machine.net.now c.args.text.now c.args.mode r))
-    c.requires.ready.state c.requires.agent c.in-Some-fixed_view.ensures.rows c.rows_text-in-Some-fixed_view.ensures
+pub returns-in-Some-shared_rows-clause-reply : goal.returns-in-Some-shared_rows-clause-reply
+returns-in-Some-shared_rows-clause-reply g c =
+    fixed_is_owed c.args.machine.net.now _ c.args.state.now (access_of c.args.mode) c.args.node c.in-Some-shared_rows.rows.now
+    (λ r. IfOk c.rows_text-in-Some-shared_rows.result (λ s. string_bytes s ≡ viewed_text c.args.machine.net.now c.args.text.now c.args.mode r))
+    c.requires.ready.state c.requires.agent c.in-Some-shared_rows.ensures.rows c.rows_text-in-Some-shared_rows.ensures
 
 pub view-requires-clause-there : goal.view-requires-clause-there
 view-requires-clause-there g c = agent_there c.args.machine.net.now c.args.node c.requires.agent

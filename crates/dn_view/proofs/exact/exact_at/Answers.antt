@@ -1,16 +1,17 @@
-use Rattle.std.proofs.Common.{◌≡◌, ◌∙◌, ◌≤◌, ◌<◌, ◌↔◌, ℕ, true, nat_eq, ◌==◌, ap, subst, sym, refl, length, List, eqb-true, rules}
+use Rattle.std.proofs.Common.{◌≡◌, ◌≤◌, ◌<◌, ◌↔◌, ℕ, true, nat_eq, ◌==◌, subst, sym, refl, length, List, eqb-true, rules, slice_get, IsTrue}
 use Rattle.dn_interval.specs.declared.row.End.{End}
-use Rattle.dn_interval.specs.declared.row.Row.{Row}
 use Rattle.dn_interval.specs.declared.row.Seg.{Seg}
 use Rattle.dn_interval.specs.declared.span.TheConstants.{TOP}
-use Rattle.dn_interval.specs.Rows.{AreNormal, SegmentsGive}
 use Rattle.dn_interval.specs.Strands.{segs_give}
 use Rattle.dn_kind.specs.Rights.{allows}
 use Rattle.dn_flat.specs.Views.{name_of_end}
-use Rattle.dn_view.specs.Exact.{IsAdded, IsExactAt, are_buffer}
+use Rattle.dn_view.specs.Exact.{IsAdded, IsAskedAt, IsExactAt}
 use Rattle.dn_view.specs.Trials.{IsExactIn, trial_records}
 use Rattle.dn_view.proofs.Agents.{agent_there, an_agent, no_agent}
 use Rattle.std.proofs.lemmas.Bool.{and_parts}
+use Rattle.std.proofs.lemmas.Result.{IfOk-weaker}
+use Rattle.dn_net.specs.Decode.{is_agent_at}
+use Rattle.dn_flat.proofs.Lists.{means_then}
 use Rattle.dn_view.proofs.Added.{added_is, not_asked}
 use Rattle.dn_view.proofs.Buffers.{exact_buffer, exact_none}
 use Rattle.dn_view.proofs.exact.exact_at.Given.{Over}
@@ -20,7 +21,7 @@ use Rattle.dn_view.proofs.exact.exact_at.Goals as goal
 -- what is shown newly is what is added
 added : (g : Over) (c : In_ok-shown g) (a : ℕ) (z : End) → a ≤ TOP → (segs_give c.in_ok-shown.shown.items a z ≡ true) ↔ IsAdded c.args.trial.system.net.now (trial_records (λ k. (goal.UnitKind-dyn g (k.vtable, k.value)).meaning k.value) c.args.trial) c.args.trial.request.now c.args.trial.placement.now c.args.trial.access (record { node = c.args.node; addr = a }) (name_of_end z)
 added g c =
-    let there : c.args.node < length c.args.trial.system.flats.now = subst (λ n. c.args.node < n) (sym c.requires.system.flat.every) (agent_there c.args.trial.system.net.now c.args.node (sym c.if-not-is_agent.ensures)) in
+    let there : c.args.node < length c.args.trial.system.flats.now.nodes = subst (λ n. c.args.node < n) (sym c.requires.system.flat.every) (agent_there c.args.trial.system.net.now c.args.node (sym c.if-not-is_agent.ensures)) in
     added_is c.args.trial.system.net.now (trial_records (λ k. (goal.UnitKind-dyn g (k.vtable, k.value)).meaning k.value) c.args.trial) c.args.trial.request.now c.args.trial.placement.now c.args.trial.access c.args.node c.args.trial.system.flats.now c.requires.system.flat there c.in_ok-stops.stops.items c.in_ok-shown.shown.items c.in_ok-stops.ensures c.in_ok-shown.ensures
 
 pub returns-then-not-is_agent : goal.returns-then-not-is_agent
@@ -36,13 +37,13 @@ returns-then-is_asked g c =
     let h = trial_records (λ k. (goal.UnitKind-dyn g (k.vtable, k.value)).meaning k.value) c.args.trial in
     let rq = c.args.trial.request.now in
     let p = c.args.trial.placement.now in
-    let rows : List Row = c.in_ok-rows.rows in
+    let shown = c.in_ok-shown.shown.items in
     let asked = and_parts (nat_eq c.args.node rq.agent) (allows rq.rights c.args.trial.access) (sym c.if-is_asked.ensures) in
-    let same : c.is_buffer.result ≡ are_buffer rows rq p.v = c.is_buffer.ensures ∙ ap (λ v. are_buffer rows rq v) c.v.ensures in
-    let normal : AreNormal (SegmentsGive c.in_ok-shown.shown.items) rows = subst (λ (s : List Seg). AreNormal (SegmentsGive s) rows) c.as_slice.ensures.value c.in_ok-rows.ensures.normal in
-    an_agent c.args.trial.system.net.now (IsExactIn (λ k. (goal.UnitKind-dyn g (k.vtable, k.value)).meaning k.value) c.args.trial) c.args.node (sym c.if-not-is_agent.ensures)
-    (subst (λ b. (b ≡ true) ↔ IsExactAt c.args.trial.system.net.now h rq p c.args.trial.access c.args.node) (sym same)
-    (exact_buffer c.args.trial.system.net.now h rq p c.args.trial.access c.args.node c.in_ok-shown.shown.items rows c.requires.fitted.some c.requires.within (eqb-true c.args.node rq.agent asked.0) asked.1 (added g (goal.at.returns-then-is_asked g c).In_ok-shown) normal))
+    let exact = exact_buffer c.args.trial.system.net.now h rq p c.args.trial.access c.args.node shown (eqb-true c.args.node rq.agent asked.0) asked.1 (added g (goal.at.returns-then-is_asked g c).In_ok-shown) in
+    IfOk-weaker c.show_buffer.result (λ show. (show ≡ true) ↔ ((a : ℕ) (z : End) → a ≤ TOP → (segs_give c.as_slice-segs.result.now a z ≡ true) ↔ IsAskedAt rq c.v.result a z)) (λ show. (show ≡ true) ↔ (IsTrue (is_agent_at (slice_get c.args.trial.system.net.now c.args.node)) → IsExactIn (λ k. (goal.UnitKind-dyn g (k.vtable, k.value)).meaning k.value) c.args.trial c.args.node))
+    (λ show f. an_agent c.args.trial.system.net.now (IsExactIn (λ k. (goal.UnitKind-dyn g (k.vtable, k.value)).meaning k.value) c.args.trial) c.args.node (sym c.if-not-is_agent.ensures)
+    (means_then (subst (λ (s : List Seg). (show ≡ true) ↔ ((a : ℕ) (z : End) → a ≤ TOP → (segs_give s a z ≡ true) ↔ IsAskedAt rq p.v a z)) c.as_slice-segs.ensures.value (subst (λ v. (show ≡ true) ↔ ((a : ℕ) (z : End) → a ≤ TOP → (segs_give c.as_slice-segs.result.now a z ≡ true) ↔ IsAskedAt rq v a z)) c.v.ensures f)) exact))
+    c.show_buffer.ensures
 
 pub returns : goal.returns
 returns g c =

@@ -4,14 +4,13 @@ use Rattle.std.specs.Option.{option_copied}
 use Rattle.dn_interval.specs.declared.row.End.{End}
 use Rattle.dn_interval.specs.Strands.{segs_give}
 use Rattle.dn_interval.specs.Spans.{in_span}
-use Rattle.dn_interval.specs.Onward.{gives_by}
 use Rattle.dn_net.specs.declared.node.Unit.{Unit as UnitPart}
 use Rattle.dn_net.specs.Decode.{unit_at}
 use Rattle.dn_kind.specs.Tables.{Held, AreHeld, record_allowing}
 use Rattle.dn_kind.proofs.Nodes.{ports_there}
 use Rattle.dn_tables.specs.Set.{record_kept}
 use Rattle.dn_view.specs.Courses.{course_records}
-use Rattle.dn_view.specs.Passes.{rows_part, names_go, outputs, seg_name}
+use Rattle.dn_view.specs.Passes.{part_gives, names_go, outputs, seg_name}
 use Rattle.dn_view.proofs.Cuts.{slots_more, slots_none, slots_all, none_leads, none_pushed}
 use Rattle.dn_view.proofs.Courses.{system_held}
 use Rattle.dn_view.proofs.pass.pass_seg.Goals as goal
@@ -25,7 +24,7 @@ pub returns-then-not-leads_on : goal.returns-then-not-leads_on
 returns-then-not-leads_on g c a z =
     let net = c.args.course.system.net.now in
     let h : Held = course_records (λ k. (goal.UnitKind-dyn g (k.vtable, k.value)).meaning k.value) c.args.course in
-    let next : ℕ → ℕ → End → Bool = gives_by (rows_part c.args.part) c.args.course.system.flats.now in
+    let next : ℕ → ℕ → End → Bool = part_gives c.args.part c.args.course.system.flats.now in
     let s = c.args.seg in
     let at : unit_at net s.node ≡ Some c.in-Some.unit.now = sym c.unit_of.ensures ∙ ap option_copied c.in-Some.is in
     none_pushed (segs_give c.args.out.now.items a z) (in_span s.span a) (names_go next (outputs net h (seg_name s a)) z) (none_leads net h c.args.course.system.flats.now c.args.part s c.in-Some.unit.now a z at (sym c.if-not-leads_on.ensures))
@@ -48,7 +47,7 @@ pub returns : goal.returns
 returns g c a z =
     let net = c.args.course.system.net.now in
     let h : Held = course_records (λ k. (goal.UnitKind-dyn g (k.vtable, k.value)).meaning k.value) c.args.course in
-    let next : ℕ → ℕ → End → Bool = gives_by (rows_part c.args.part) c.args.course.system.flats.now in
+    let next : ℕ → ℕ → End → Bool = part_gives c.args.part c.args.course.system.flats.now in
     let s = c.args.seg in
     let at : unit_at net s.node ≡ Some c.in-Some.unit.now = sym c.unit_of.ensures ∙ ap option_copied c.in-Some.is in
     let u : UnitPart = c.in-Some.unit.now in

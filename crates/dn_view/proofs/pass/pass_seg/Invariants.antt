@@ -1,9 +1,8 @@
 use Rattle.std.proofs.Common.{◌≡◌, ℕ, ◌≤◌, ◌&&◌, ◌||◌}
 use Rattle.dn_interval.specs.declared.row.End.{End}
-use Rattle.dn_interval.specs.Onward.{gives_by}
 use Rattle.dn_interval.specs.Strands.{segs_give}
 use Rattle.dn_view.specs.Courses.{course_records}
-use Rattle.dn_view.specs.Passes.{names_go, outputs, rows_part, seg_name}
+use Rattle.dn_view.specs.Passes.{names_go, outputs, part_gives, seg_name}
 use Rattle.dn_view.proofs.Cuts.{in_slots}
 use Rattle.dn_view.proofs.pass.pass_seg.Given as goal
 
@@ -11,7 +10,7 @@ abbrev pub invariant-loop-slot : goal.invariant-loop-slot
 invariant-loop-slot g l =
     let net = l.course.system.net.now in
     let h = course_records (λ k. (goal.UnitKind-dyn g (k.vtable, k.value)).meaning k.value) l.course in
-    let next = gives_by (rows_part l.part) l.course.system.flats.now in
+    let next = part_gives l.part l.course.system.flats.now in
     record {
       from : l.initial.slot ≤ l.slot;
       so_far : (a : ℕ) (z : End) → segs_give l.out.items a z ≡ (segs_give l.initial.out.items a z || (in_slots l.unit.page l.initial.slot l.slot l.seg a && names_go next (outputs net h (seg_name l.seg a)) z));

@@ -1,0 +1,11 @@
+use Rattle.std.proofs.Common.{◌∙◌, ap, sym}
+use Rattle.std.specs.List.{list_all}
+use Rattle.std.proofs.Math.ListN.{drop_of_length-le}
+use Rattle.dn_interval.specs.declared.row.Seg.{Seg}
+use Rattle.dn_flat.specs.Stretches.{is_part}
+use Rattle.dn_flat.proofs.stretches.are_parts.Goals as goal
+
+pub returns : goal.returns
+returns c =
+    let p = λ (s : Seg). is_part s c.args.whole in
+    sym (c.loop-seg.invariant ∙ ap (list_all p) (drop_of_length-le c.args.segs.now c.loop-seg-test.false))

@@ -1,0 +1,95 @@
+-- What nodes reach, level by level, and the accepted names to which they come by it.
+use Rattle.std.specs.Prelude.{◌≡◌, ℕ, ◌+◌, ◌<◌, ◌≤◌, ◌↔◌, Bool, List, [], length, slice_get, Option, Some, None, IsTrue}
+use Rattle.std.specs.List.{list_all, list_any}
+use Rattle.dn_interval.specs.declared.row.End.{End}
+use Rattle.dn_interval.specs.declared.row.Row.{Row}
+use Rattle.dn_interval.specs.declared.span.TheConstants.{TOP}
+use Rattle.dn_interval.specs.Rows.{ends_within, moved}
+use Rattle.dn_interval.specs.Strands.{rows_give}
+use Rattle.dn_interval.specs.Onward.{gives_by}
+use Rattle.dn_net.specs.declared.node.NodeDecl.{NodeDecl}
+use Rattle.dn_net.specs.Chain.{ReachesWithin}
+use Rattle.dn_net.specs.Decode.{Step, step_limit}
+use Rattle.dn_flat.specs.declared.levels.Levels.{Levels}
+use Rattle.dn_flat.specs.declared.reach.Reach.{Reach}
+use Rattle.dn_flat.specs.Onward.{levels_lead}
+use Rattle.dn_flat.specs.Stages.{AreReaches, StageRows}
+use Rattle.dn_flat.specs.Views.{name_of_end, ResolvesFrom, StopsFrom}
+
+-- one of the levels gives the name to the address
+abbrev pub levels_give : List (List Row) → ℕ → End → Bool
+levels_give levels a y = list_any (λ rows. rows_give rows a y) levels
+
+-- the address of the node reaches the name
+abbrev pub ReachesFrom : List NodeDecl → ℕ → ℕ → End → Type 0
+ReachesFrom net node a y = ReachesWithin (Step net) step_limit (record { node = node; addr = a }) (name_of_end y)
+
+-- the levels give to each address of the node names that it reaches, and among them each accepted one
+pub record AreLevels (net : List NodeDecl) (node : ℕ) (levels : List (List Row)) : Type 0 where
+  pub reached : (a : ℕ) (y : End) → a ≤ TOP → IsTrue (levels_give levels a y) → ReachesFrom net node a y
+  pub accepted : (a : ℕ) (y : End) → a ≤ TOP → ResolvesFrom net node a y → IsTrue (levels_give levels a y)
+
+-- the layers give to each address of the node exactly its stops
+abbrev pub AreStops : List NodeDecl → ℕ → List (List Row) → Type 0
+AreStops net node layers = (a : ℕ) (y : End) → a ≤ TOP → IsTrue (levels_give layers a y) ↔ StopsFrom net node a y
+
+-- they do, and the layers of stops give to each address of the node its stops
+pub record IsLevels (net : List NodeDecl) (node : ℕ) (levels : Levels) : Type 0 where
+  pub reached : AreLevels net node levels.reached
+  pub stops : AreStops net node levels.stops
+  -- each name of a row is in a node that is there
+  pub stops_within : IsTrue (list_all (λ rows. ends_within (length net) rows) levels.stops)
+
+-- there are such levels for each node below this one
+pub record AreLevelsBelow (net : List NodeDecl) (node : ℕ) (nodes : List Levels) : Type 0 where
+  pub every : length nodes ≡ node
+  pub each : (m : ℕ) (levels : Levels) → slice_get nodes m ≡ Some levels → IsLevels net m levels
+
+-- what nodes reach, and what they come to in one step
+pub record FlatsView : Type 0 where
+  pub nodes : List Levels
+  pub stage : StageRows
+
+-- it is what the nodes of the net reach, and what they come to
+pub record AreFlats (net : List NodeDecl) (flats : FlatsView) : Type 0 where
+  pub every : length flats.nodes ≡ length net
+  pub each : (node : ℕ) (levels : Levels) → slice_get flats.nodes node ≡ Some levels → IsLevels net node levels
+  pub steps : AreReaches net 1 flats.stage.nodes
+
+-- the levels of what a node reaches; of one that is not there they are none
+abbrev pub reached_of : Option Levels → List (List Row)
+reached_of None = []
+reached_of (Some levels) = levels.reached
+
+-- the layers of the stops of a node; of one that is not there they are none
+abbrev pub stops_in : Option Levels → List (List Row)
+stops_in None = []
+stops_in (Some levels) = levels.stops
+
+-- a name that one of the levels gives to the address goes on to the accepted name, by what its node accepts
+abbrev pub levels_show : List Reach → List (List Row) → ℕ → End → Bool
+levels_show nodes levels a z = levels_lead (gives_by (λ (r : Reach). r.done.accepts) nodes) levels a z
+
+-- the address of the node comes to the accepted name; no search unfolds it
+unfoldable pub shows : FlatsView → ℕ → ℕ → End → Bool
+shows flats node a z = levels_show flats.stage.nodes (reached_of (slice_get flats.nodes node)) a z
+
+-- the name is one of so many from one on
+abbrev pub IsNear : End → ℕ → End → Type 0
+IsNear first size z = (i : ℕ) × (i < size) × (z ≡ moved i first)
+
+-- the address of the node resolves to the name, which is one of them
+abbrev pub NearFrom : List NodeDecl → ℕ → End → ℕ → ℕ → End → Type 0
+NearFrom net node first size a z = ResolvesFrom net node a z × IsNear first size z
+
+-- the address lies in a stretch of so many addresses of the node, and has the name of its place in as many names from one
+-- on: each address of the stretch resolves to the name of its place, and to no other
+pub record ResolvesWhole (net : List NodeDecl) (node : ℕ) (first : End) (size a : ℕ) (z : End) : Type 0 where
+  -- the first address of the stretch, and the place in it
+  pub v : ℕ
+  pub i : ℕ
+  pub below : i < size
+  pub within : v + size ≤ TOP + 1
+  pub from : a ≡ v + i
+  pub to : z ≡ moved i first
+  pub each : (j : ℕ) (w : End) → j < size → ResolvesFrom net node (v + j) w ↔ (moved j first ≡ w)

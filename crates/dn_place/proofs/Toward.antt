@@ -1,0 +1,260 @@
+-- The rows of a node that give what hops want: those made for a buffer, those of the levels of its stops, and those of a lone level.
+use Rattle.std.proofs.Common.{◌≡◌, ℕ, suc, ◌+◌, ◌-◌, ◌<◌, ◌≤◌, ◌⊎◌, inl, inr, Bool, true, false, ◌&&◌, ◌||◌, nat_eq, nat_lt, nat_le, if◌then◌else◌, List, [], ◌∷◌, length, map, get_or, refl, sym, ap, ◌∙◌, subst, arith, IsTrue, eqb-true, eq-eqb, lt-ltb, ltb-true, leb-true}
+use Rattle.std.specs.List.{list_all, list_any}
+use Rattle.std.proofs.lemmas.Bool.{false≢true, cases_lt, and_parts, and_from, or_cases, or_left, or_right, le-leb, le-ltb}
+use Rattle.dn_interval.specs.declared.row.End.{End}
+use Rattle.dn_interval.specs.declared.row.Row.{Row}
+use Rattle.dn_interval.specs.declared.row.Seg.{Seg}
+use Rattle.dn_interval.specs.declared.span.Span.{Span}
+use Rattle.dn_interval.specs.declared.span.TheConstants.{TOP}
+use Rattle.dn_interval.specs.Rows.{Member, moved, Apart, AreNormal, GivenBy, HasEnds, SegmentsGive}
+use Rattle.dn_interval.specs.Spans.{in_span}
+use Rattle.dn_interval.specs.Strands.{ends_give, row_gives, rows_give, segs_give}
+use Rattle.dn_interval.proofs.Membership.{in_from, lo_of, hi_of}
+use Rattle.dn_interval.proofs.Names.{rows_from, rows_to, segs_from, segs_to}
+use Rattle.dn_interval.proofs.Normal.{normal_like}
+use Rattle.dn_net.specs.declared.node.NodeDecl.{NodeDecl}
+use Rattle.dn_flat.specs.declared.levels.Levels.{Levels}
+use Rattle.dn_flat.specs.Levels.{IsLevels, ResolvesWhole, levels_give}
+use Rattle.dn_flat.specs.Views.{end_of, name_of_end, ResolvesFrom, StopsFrom}
+use Rattle.dn_tables.specs.declared.placement.Hop.{Hop}
+use Rattle.dn_placement.specs.declared.request.Request.{Request}
+use Rattle.dn_place.specs.Rows.{AreToward, GivesNone, IsClear, end_near, is_near, is_past, levels_near, row_near, rows_near, wanted}
+use Rattle.dn_place.specs.Sought.{ReachOneStop}
+
+-- where no hop follows
+
+buffer_is : (net : List NodeDecl) (rq : Request) (hops : List Hop) (node : ℕ) (rows : List Row) → length hops ≡ 0 → AreNormal (ResolvesWhole net node (wanted rq hops) rq.size) rows → AreToward net rq hops node rows
+buffer_is net rq (hop ∷ hops) node rows none n = absurd (omega arith)
+buffer_is net rq [] node rows none n = record {
+  apart = n.apart;
+  given = λ a z l g. let w = (n.exact a z l).1 g in subst (λ b. ResolvesFrom net node b z) (sym w.from) ((w.each w.i z w.below).1 (sym w.to));
+  all = λ a i z l m g r.
+      let w = (n.exact a (moved i t) l).1 g in
+      subst (λ (y : End). GivenBy rows a y) (w.to ∙ (w.each w.i z w.below).0 (subst (λ b. ResolvesFrom net node b z) w.from r)) g;
+  whole = λ a fits only i m. (n.exact (a + i) (moved i t) (omega arith)).0 (record { v = a; i = i; below = m; within = fits; from = refl; to = refl; each = only });
+}
+  where
+    t : End
+    t = wanted rq []
+
+pub buffer_toward : (net : List NodeDecl) (rq : Request) (hops : List Hop) (node : ℕ) (rows : List Row) (t : End) (size : ℕ) → length hops ≡ 0 → t ≡ wanted rq hops → size ≡ rq.size → AreNormal (ResolvesWhole net node t size) rows → AreToward net rq hops node rows
+buffer_toward net rq hops node rows t size none e f n = buffer_is net rq hops node rows none (subst (λ m. AreNormal (ResolvesWhole net node (wanted rq hops) m) rows) f (subst (λ (w : End). AreNormal (ResolvesWhole net node w size) rows) e n))
+
+-- the buffer itself is wanted there, and ends by the last address
+pub wanted_fits : (rq : Request) (hops : List Hop) (t : End) (size : ℕ) → length hops ≡ 0 → t ≡ wanted rq hops → size ≡ rq.size → rq.base + rq.size ≤ TOP + 1 → t.base + size ≤ TOP + 1
+wanted_fits rq (hop ∷ hops) t size none e f fits = absurd (omega arith)
+wanted_fits rq [] t size none e f fits = let base : t.base ≡ rq.base = ap (λ (w : End). w.base) e in omega arith
+
+-- where one does: no address has two stops
+
+same_stop : (net : List NodeDecl) → ReachOneStop net → (node a : ℕ) (y z : End) → StopsFrom net node a y → StopsFrom net node a z → y ≡ z
+same_stop net one node a y z f g = ap end_of (one (record { node = node; addr = a }) (name_of_end y) (name_of_end z) f g)
+
+-- a lone level has all stops
+pub lone_toward : (net : List NodeDecl) (rq : Request) (hops : List Hop) (node : ℕ) (levels : Levels) (rows : List Row) → 1 ≤ length hops → IsLevels net node levels → levels.stops ≡ rows ∷ [] → Apart 0 rows → AreToward net rq hops node rows
+lone_toward net rq [] node levels rows some is lone apart = absurd (omega arith)
+lone_toward net rq (hop ∷ hops) node levels rows some is lone apart = record {
+  apart = apart;
+  given = λ a z l g. (exact a z l).1 g;
+  all = λ a i z l m g r. (exact a z l).0 r;
+  whole = λ a fits only i m. (exact (a + i) (moved i (wanted rq (hop ∷ hops))) (omega arith)).0 ((only i (moved i (wanted rq (hop ∷ hops))) m).1 refl);
+}
+  where
+    or_false : (b : Bool) → (b || false) ≡ true → b ≡ true
+    or_false true e = refl
+    or_false false e = e
+
+    exact : (a : ℕ) (z : End) → a ≤ TOP → (StopsFrom net node a z → GivenBy rows a z) × (GivenBy rows a z → StopsFrom net node a z)
+    exact a z l =
+        let all = is.stops a z l in (
+          (λ r. rows_to rows a z (or_false (rows_give rows a z) (subst (λ (ls : List (List Row)). levels_give ls a z ≡ true) lone (all.1 r)))),
+          (λ g. all.0 (subst (λ (ls : List (List Row)). levels_give ls a z ≡ true) (sym lone) (or_left (rows_give rows a z) false (rows_from rows a z g)))),
+        )
+
+-- the near rows of the levels give stops, and each that is wanted
+
+near_end : (t : End) (size : ℕ) (span : Span) (a i : ℕ) (e : End) → in_span span a ≡ true → i < size → e.node ≡ t.node → e.base + (a - span.lo) ≡ t.base + i → is_near t size span e ≡ true
+near_end t size span a i e inside few node base = and_from (nat_eq e.node t.node) (if nat_lt t.base e.base then nat_lt (e.base - t.base) size else nat_le (t.base - e.base) (span.hi - span.lo)) (eq-eqb e.node t.node node) (go (cases_lt t.base e.base))
+  where
+    lo : span.lo ≤ a
+    lo = lo_of span a inside
+
+    hi : a ≤ span.hi
+    hi = hi_of span a inside
+
+    go : (t.base < e.base) ⊎ (e.base ≤ t.base) → (if nat_lt t.base e.base then nat_lt (e.base - t.base) size else nat_le (t.base - e.base) (span.hi - span.lo)) ≡ true
+    go (inl m) = ap (λ (b : Bool). if b then nat_lt (e.base - t.base) size else nat_le (t.base - e.base) (span.hi - span.lo)) (lt-ltb t.base e.base m) ∙ lt-ltb (e.base - t.base) size (omega arith)
+    go (inr m) =
+        let l : span.lo ≤ a = lo in
+        let h : a ≤ span.hi = hi in
+        ap (λ (b : Bool). if b then nat_lt (e.base - t.base) size else nat_le (t.base - e.base) (span.hi - span.lo)) (le-ltb t.base e.base m) ∙ le-leb (t.base - e.base) (span.hi - span.lo) (omega arith)
+
+abbrev is_end : Span → ℕ → End → End → Bool
+is_end span a z e = nat_eq e.node z.node && nat_eq (e.base + (a - span.lo)) z.base
+
+ends_to : (t : End) (size : ℕ) (span : Span) (es : List End) (a : ℕ) (z : End) → list_any (λ e. end_near t size span a z e) es ≡ true → ends_give es span.lo a z ≡ true
+ends_to t size span [] a z p = p
+ends_to t size span (e ∷ es) a z p = elim (or_cases (end_near t size span a z e) (list_any (λ e. end_near t size span a z e) es) p) [
+  | inl g ↦ or_left (is_end span a z e) (ends_give es span.lo a z) (and_parts (is_near t size span e) (is_end span a z e) g).1
+  | inr g ↦ or_right (is_end span a z e) (ends_give es span.lo a z) (ends_to t size span es a z g)
+]
+
+ends_from : (t : End) (size : ℕ) (span : Span) (es : List End) (a i : ℕ) → in_span span a ≡ true → i < size → ends_give es span.lo a (moved i t) ≡ true → list_any (λ e. end_near t size span a (moved i t) e) es ≡ true
+ends_from t size span [] a i inside few p = p
+ends_from t size span (e ∷ es) a i inside few p = elim (or_cases (is_end span a (moved i t) e) (ends_give es span.lo a (moved i t)) p) [
+  | inl g ↦ (
+      let q = and_parts (nat_eq e.node t.node) (nat_eq (e.base + (a - span.lo)) (t.base + i)) g in
+      or_left (end_near t size span a (moved i t) e) (list_any (λ e. end_near t size span a (moved i t) e) es)
+      (and_from (is_near t size span e) (is_end span a (moved i t) e) (near_end t size span a i e inside few (eqb-true e.node t.node q.0) (eqb-true (e.base + (a - span.lo)) (t.base + i) q.1)) g)
+      )
+  | inr g ↦ or_right (end_near t size span a (moved i t) e) (list_any (λ e. end_near t size span a (moved i t) e) es) (ends_from t size span es a i inside few g)
+]
+
+near_to : (t : End) (size : ℕ) (rows : List Row) (a : ℕ) (z : End) → rows_near t size rows a z ≡ true → rows_give rows a z ≡ true
+near_to t size [] a z p = p
+near_to t size (r ∷ rows) a z p = elim (or_cases (row_near t size r a z) (rows_near t size rows a z) p) [
+  | inl g ↦ (
+      let q = and_parts (in_span r.span a) (list_any (λ e. end_near t size r.span a z e) r.ends) g in
+      or_left (row_gives r a z) (rows_give rows a z) (and_from (in_span r.span a) (ends_give r.ends r.span.lo a z) q.0 (ends_to t size r.span r.ends a z q.1))
+      )
+  | inr g ↦ or_right (row_gives r a z) (rows_give rows a z) (near_to t size rows a z g)
+]
+
+near_from : (t : End) (size : ℕ) (rows : List Row) (a i : ℕ) → i < size → rows_give rows a (moved i t) ≡ true → rows_near t size rows a (moved i t) ≡ true
+near_from t size [] a i few p = p
+near_from t size (r ∷ rows) a i few p = elim (or_cases (row_gives r a (moved i t)) (rows_give rows a (moved i t)) p) [
+  | inl g ↦ (
+      let q = and_parts (in_span r.span a) (ends_give r.ends r.span.lo a (moved i t)) g in
+      or_left (row_near t size r a (moved i t)) (rows_near t size rows a (moved i t))
+      (and_from (in_span r.span a) (list_any (λ e. end_near t size r.span a (moved i t) e) r.ends) q.0 (ends_from t size r.span r.ends a i q.0 few q.1))
+      )
+  | inr g ↦ or_right (row_near t size r a (moved i t)) (rows_near t size rows a (moved i t)) (near_from t size rows a i few g)
+]
+
+levels_to : (t : End) (size : ℕ) (levels : List (List Row)) (a : ℕ) (z : End) → levels_near t size levels a z ≡ true → levels_give levels a z ≡ true
+levels_to t size [] a z p = p
+levels_to t size (rows ∷ levels) a z p = elim (or_cases (rows_near t size rows a z) (levels_near t size levels a z) p) [
+  | inl g ↦ or_left (rows_give rows a z) (levels_give levels a z) (near_to t size rows a z g)
+  | inr g ↦ or_right (rows_give rows a z) (levels_give levels a z) (levels_to t size levels a z g)
+]
+
+levels_from : (t : End) (size : ℕ) (levels : List (List Row)) (a i : ℕ) → i < size → levels_give levels a (moved i t) ≡ true → levels_near t size levels a (moved i t) ≡ true
+levels_from t size [] a i few p = p
+levels_from t size (rows ∷ levels) a i few p = elim (or_cases (rows_give rows a (moved i t)) (levels_give levels a (moved i t)) p) [
+  | inl g ↦ or_left (rows_near t size rows a (moved i t)) (levels_near t size levels a (moved i t)) (near_from t size rows a i few g)
+  | inr g ↦ or_right (rows_near t size rows a (moved i t)) (levels_near t size levels a (moved i t)) (levels_from t size levels a i few g)
+]
+
+near_is : (net : List NodeDecl) (rq : Request) (hops : List Hop) (node : ℕ) (levels : Levels) (rows : List Row) → 1 ≤ length hops → ReachOneStop net → IsLevels net node levels → AreNormal (λ a z. IsTrue (levels_near (wanted rq hops) rq.size levels.stops a z)) rows → AreToward net rq hops node rows
+near_is net rq [] node levels rows some one is n = absurd (omega arith)
+near_is net rq (hop ∷ hops) node levels rows some one is n = record {
+  apart = n.apart;
+  given = given;
+  all = λ a i z l m g r. subst (λ (w : End). GivenBy rows a w) (same_stop net one node a (moved i t) z (given a (moved i t) l g) r) g;
+  whole = λ a fits only i m. let low : a + i ≤ TOP = omega arith in (n.exact (a + i) (moved i t) low).0 (levels_from t rq.size levels.stops (a + i) i m ((is.stops (a + i) (moved i t) low).1 ((only i (moved i t) m).1 refl)));
+}
+  where
+    t : End
+    t = wanted rq (hop ∷ hops)
+
+    given : (a : ℕ) (z : End) → a ≤ TOP → GivenBy rows a z → StopsFrom net node a z
+    given a z l g = (is.stops a z l).0 (levels_to t rq.size levels.stops a z ((n.exact a z l).1 g))
+
+pub near_toward : (net : List NodeDecl) (rq : Request) (hops : List Hop) (node : ℕ) (levels : Levels) (rows : List Row) (t : End) (size : ℕ) (layers : List (List Row)) → 1 ≤ length hops → ReachOneStop net → IsLevels net node levels → t ≡ wanted rq hops → size ≡ rq.size → layers ≡ levels.stops → AreNormal (λ a z. IsTrue (levels_near t size layers a z)) rows → AreToward net rq hops node rows
+near_toward net rq hops node levels rows t size layers some one is e f g n =
+    near_is net rq hops node levels rows some one is
+    (subst (λ (ls : List (List Row)). AreNormal (λ a z. IsTrue (levels_near (wanted rq hops) rq.size ls a z)) rows) g
+    (subst (λ m. AreNormal (λ a z. IsTrue (levels_near (wanted rq hops) m layers a z)) rows) f
+    (subst (λ (w : End). AreNormal (λ a z. IsTrue (levels_near w size layers a z)) rows) e n)))
+
+-- the segments that were found are the near rows, where no level is left
+pub near_found : (t : End) (size : ℕ) (levels rest : List (List Row)) (segs : List Seg) (rows : List Row) → rest ≡ [] → ((a : ℕ) (z : End) → (segs_give segs a z || levels_near t size rest a z) ≡ levels_near t size levels a z) → AreNormal (SegmentsGive segs) rows → AreNormal (λ a z. IsTrue (levels_near t size levels a z)) rows
+near_found t size levels rest segs rows none found n =
+    normal_like (SegmentsGive segs) (λ a z. IsTrue (levels_near t size levels a z)) rows (λ a z l. ((λ m. sym (same a z) ∙ segs_from segs a z m), (λ e. segs_to segs a z (same a z ∙ e)))) n
+  where
+    or_none : (b : Bool) → (b || false) ≡ b
+    or_none true = refl
+    or_none false = refl
+
+    same : (a : ℕ) (z : End) → segs_give segs a z ≡ levels_near t size levels a z
+    same a z = sym (or_none (segs_give segs a z)) ∙ (ap (λ (ls : List (List Row)). segs_give segs a z || levels_near t size ls a z) (sym none) ∙ found a z)
+
+-- rows that have no address of a stretch give it nothing
+
+pub past_none : (rows : List Row) (a size : ℕ) → list_all (is_past a size) rows ≡ true → GivesNone (rows_give rows) a size
+past_none rows a size p = λ i l z e. go rows i z p l (rows_to rows (a + i) z e)
+  where
+    go : (rows : List Row) (i : ℕ) (z : End) → list_all (is_past a size) rows ≡ true → i < size → GivenBy rows (a + i) z → ⊥
+    go [] i z p l g = g
+    go (r ∷ rows) i z p l (inl g) = by (or_cases (nat_lt r.span.hi a) (nat_le (a + size) r.span.lo) (and_parts (is_past a size r) (list_all (is_past a size) rows) p).0)
+      where
+        by : (nat_lt r.span.hi a ≡ true) ⊎ (nat_le (a + size) r.span.lo ≡ true) → ⊥
+        by (inl e) = omega (arith, ltb-true r.span.hi a e, hi_of r.span (a + i) g.0)
+        by (inr e) = omega (arith, leb-true (a + size) r.span.lo e, lo_of r.span (a + i) g.0)
+    go (r ∷ rows) i z p l (inr g) = go rows i z (and_parts (is_past a size r) (list_all (is_past a size) rows) p).1 l g
+
+-- and those that give it nothing have no address of it
+
+past_all : (from : ℕ) (rows : List Row) (a size : ℕ) → Apart from rows → 1 ≤ size → ((i : ℕ) → i < size → (z : End) → GivenBy rows (a + i) z → ⊥) → list_all (is_past a size) rows ≡ true
+past_all from [] a size p some f = refl
+past_all from (r ∷ rest) a size p some f = and_from (is_past a size r) (list_all (is_past a size) rest) (here (cases_lt r.span.hi a) (cases_lt r.span.lo (a + size))) (past_all (suc r.span.hi) rest a size p.4 some (λ i l z g. f i l z (inr g)))
+  where
+    given : (es : List End) → HasEnds es → (d : ℕ) → (z : End) × Member z (map (moved d) es)
+    given [] h d = absurd h
+    given (e ∷ es) h d = (moved d e, inl refl)
+
+    meets : (i : ℕ) → i < size → r.span.lo ≤ a + i → a + i ≤ r.span.hi → ⊥
+    meets i l b h = let w = given r.ends p.1 (a + i - r.span.lo) in f i l w.0 (inl (in_from r.span (a + i) b h, w.1))
+
+    start : (r.span.lo < a) ⊎ (a ≤ r.span.lo) → a ≤ r.span.hi → r.span.lo < a + size → ⊥
+    start (inl b) h k = meets 0 some (omega arith) (omega arith)
+    start (inr b) h k = let o : r.span.lo ≤ r.span.hi = r.span.ordered in meets (r.span.lo - a) (omega arith) (omega arith) (omega arith)
+
+    here : (r.span.hi < a) ⊎ (a ≤ r.span.hi) → (r.span.lo < a + size) ⊎ (a + size ≤ r.span.lo) → is_past a size r ≡ true
+    here (inl h) k = or_left (nat_lt r.span.hi a) (nat_le (a + size) r.span.lo) (lt-ltb r.span.hi a h)
+    here (inr h) (inr k) = or_right (nat_lt r.span.hi a) (nat_le (a + size) r.span.lo) (le-leb (a + size) r.span.lo k)
+    here (inr h) (inl k) = absurd (start (cases_lt r.span.lo a) h k)
+
+pub past_some : (rows : List Row) (a size : ℕ) → Apart 0 rows → 1 ≤ size → list_all (is_past a size) rows ≡ false → GivesNone (rows_give rows) a size → ⊥
+past_some rows a size apart some e none = false≢true (sym e ∙ past_all 0 rows a size apart some (λ i l z g. none i l z (rows_from rows (a + i) z g)))
+
+-- levels, one after another
+
+pub lone_level : (levels : List (List Row)) (rows : List Row) → 1 ≤ length levels → length levels < 2 → rows ≡ get_or levels 0 rows → levels ≡ rows ∷ []
+lone_level [] rows l h e = absurd (omega arith)
+lone_level (r ∷ []) rows l h e = ap (λ (rs : List Row). rs ∷ []) (sym e)
+lone_level (r ∷ s ∷ more) rows l h e = absurd (omega arith)
+
+pub level_gives : (rows : List Row) (rest : List (List Row)) (a : ℕ) (z : End) → GivenBy rows a z → levels_give (rows ∷ rest) a z ≡ true
+level_gives rows rest a z g = or_left (rows_give rows a z) (levels_give rest a z) (rows_from rows a z g)
+
+pub level_passed : (rows : List Row) (rest : List (List Row)) (a : ℕ) (z : End) → (GivenBy rows a z → ⊥) → levels_give (rows ∷ rest) a z ≡ levels_give rest a z
+level_passed rows rest a z none = go (rows_give rows a z) refl
+  where
+    go : (b : Bool) → rows_give rows a z ≡ b → (b || levels_give rest a z) ≡ levels_give rest a z
+    go true e = absurd (none (rows_to rows a z e))
+    go false e = refl
+
+pub none_left : (a size : ℕ) → GivesNone (levels_give []) a size
+none_left a size = λ i l z e. false≢true e
+
+pub none_more : (rows : List Row) (levels : List (List Row)) (a size : ℕ) → GivesNone (rows_give rows) a size → GivesNone (levels_give levels) a size → GivesNone (levels_give (rows ∷ levels)) a size
+none_more rows levels a size f g = λ i l z e. elim (or_cases (rows_give rows (a + i) z) (levels_give levels (a + i) z) e) [
+  | inl h ↦ f i l z h
+  | inr h ↦ g i l z h
+]
+
+pub none_one : (rows : List Row) (levels : List (List Row)) (a size : ℕ) → GivesNone (levels_give (rows ∷ levels)) a size → GivesNone (rows_give rows) a size
+none_one rows levels a size f = λ i l z e. f i l z (or_left (rows_give rows (a + i) z) (levels_give levels (a + i) z) e)
+
+pub none_rest : (rows : List Row) (levels : List (List Row)) (a size : ℕ) → GivesNone (levels_give (rows ∷ levels)) a size → GivesNone (levels_give levels) a size
+none_rest rows levels a size f = λ i l z e. f i l z (or_right (rows_give rows (a + i) z) (levels_give levels (a + i) z) e)
+
+-- so a stretch of a node is clear exactly where the levels of its stops give it nothing
+
+pub clear_from : (net : List NodeDecl) (node a size : ℕ) (levels : Levels) → IsLevels net node levels → a + size ≤ TOP + 1 → GivesNone (levels_give levels.stops) a size → IsClear net node [] a size
+clear_from net node a size levels is fits none = λ i l z x. none i l z ((is.stops (a + i) z (omega arith)).1 x)
+
+pub clear_to : (net : List NodeDecl) (node a size : ℕ) (levels : Levels) → IsLevels net node levels → a + size ≤ TOP + 1 → IsClear net node [] a size → GivesNone (levels_give levels.stops) a size
+clear_to net node a size levels is fits clear = λ i l z e. clear i l z ((is.stops (a + i) z (omega arith)).0 e)
