@@ -3,6 +3,7 @@ use Rattle.std.proofs.Common.{◌≡◌, ℕ, ◌+◌, ◌-◌, ◌<◌, ◌≤�
 use Rattle.std.specs.List.{list_any}
 use Rattle.std.proofs.lemmas.Bool.{or_cases, and_parts, and_from, false≢true}
 use Rattle.std.proofs.lemmas.Option.{slice_get-get_or}
+use Rattle.dn_base.proofs.Booleans.{or_left, or_right}
 use Rattle.dn_interval.specs.declared.row.End.{End}
 use Rattle.dn_interval.specs.declared.row.Row.{Row}
 use Rattle.dn_interval.specs.declared.row.Seg.{Seg}
@@ -12,7 +13,7 @@ use Rattle.dn_interval.specs.Rows.{AreNormal, GivenBy, SegmentsGive}
 use Rattle.dn_interval.specs.Spans.{in_span}
 use Rattle.dn_interval.specs.Strands.{seg_gives, segs_give, rows_give}
 use Rattle.dn_interval.specs.Onward.{gives_by, rows_of}
-use Rattle.dn_interval.proofs.Membership.{hi_of, in_from, lo_of, or_left, or_right}
+use Rattle.dn_interval.proofs.Membership.{hi_of, in_from, lo_of}
 use Rattle.dn_interval.proofs.Names.{rows_from, rows_to, segs_from, segs_to}
 use Rattle.dn_interval.proofs.Normal.{normal_like}
 use Rattle.dn_net.specs.declared.node.Name.{Name}

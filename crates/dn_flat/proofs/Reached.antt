@@ -2,6 +2,8 @@
 use Rattle.std.proofs.Common.{◌≡◌, ℕ, zero, suc, ◌+◌, ◌-◌, ◌<◌, ◌≤◌, ◌⊎◌, ◌↔◌, inl, inr, Bool, true, false, ◌&&◌, ◌||◌, nat_eq, nat_lt, List, [], ◌∷◌, ◌++◌, length, slice_get, refl, sym, ap, ◌∙◌, subst, arith, lt-ltb}
 use Rattle.std.proofs.lemmas.Bool.{or_cases, and_parts, and_from, false≢true}
 use Rattle.std.proofs.lemmas.List.Folds.{list_any-append}
+use Rattle.dn_base.proofs.Booleans.{same_tests, or_left, or_right, or-false}
+use Rattle.dn_base.proofs.Orders.{cases_lt}
 use Rattle.dn_interval.specs.declared.row.End.{End}
 use Rattle.dn_interval.specs.declared.row.Row.{Row}
 use Rattle.dn_interval.specs.declared.row.Seg.{Seg}
@@ -10,12 +12,13 @@ use Rattle.dn_interval.specs.Rows.{AreNormal, SegmentsGive}
 use Rattle.dn_interval.specs.Strands.{rows_give, seg_gives, segs_give}
 use Rattle.dn_interval.specs.Onward.{rows_go, rows_of}
 use Rattle.dn_interval.proofs.Goes.{rows_go_on}
-use Rattle.dn_interval.proofs.Membership.{in_from, or_left, or_right, same_bool}
+use Rattle.dn_interval.proofs.Membership.{in_from}
 use Rattle.dn_interval.proofs.Names.{rows_from, rows_to, segs_from, segs_to}
 use Rattle.dn_net.specs.declared.node.Name.{Name}
 use Rattle.dn_net.specs.declared.node.NodeDecl.{NodeDecl}
 use Rattle.dn_net.specs.Chain.{Ends, IsChain}
 use Rattle.dn_net.specs.Decode.{Step, is_accepted, is_stop, steps, step_limit}
+use Rattle.dn_net.proofs.Stops.{stop_there}
 use Rattle.dn_flat.specs.declared.found.Part.TheVariants.{Stays}
 use Rattle.dn_flat.specs.declared.levels.Levels.{Levels}
 use Rattle.dn_flat.specs.declared.reach.Reach.{Reach}
@@ -26,17 +29,13 @@ use Rattle.dn_flat.specs.Stages.{AreReaches, EndsBefore, GoesIn, ReachesBefore}
 use Rattle.dn_flat.specs.Views.{name_of_end, ResolvesFrom, StopsFrom}
 use Rattle.dn_flat.proofs.Bounds.{limit_is}
 use Rattle.dn_flat.proofs.Firsts.{same_from, same_means}
-use Rattle.dn_flat.proofs.Lists.{or_false}
 use Rattle.dn_flat.proofs.Shown.{accepting_from}
 use Rattle.dn_flat.proofs.Sums.{normal_of}
-use Rattle.dn_flat.proofs.There.{names_are_there, stop_is_there}
+use Rattle.dn_flat.proofs.There.{names_are_there}
 
-some_rows : (rows : List Row) (b : ℕ) (z : End) → rows_give rows b z ≡ true → has_rows rows ≡ true
+pub some_rows : (rows : List Row) (b : ℕ) (z : End) → rows_give rows b z ≡ true → has_rows rows ≡ true
 some_rows [] b z e = absurd (false≢true e)
 some_rows (r ∷ rs) b z e = lt-ltb 0 (length (r ∷ rs)) (omega arith)
-
-cases_le : (m n : ℕ) → (m < n) ⊎ (n ≤ m)
-cases_le m n = grind arith
 
 -- so far: levels for fewer than so many steps
 pub record AreReached (net : List NodeDecl) (k node : ℕ) (levels : List (List Row)) : Type 0 where
@@ -54,7 +53,7 @@ none_reached net node = record {
 whole_gives : (node : ℕ) (s : Seg) (a : ℕ) (y : End) → s.node ≡ node → s.base ≡ 0 → s.span.lo ≡ 0 → s.span.hi ≡ TOP → a ≤ TOP → segs_give (s ∷ []) a y ≡ is_same node a y
 whole_gives node s a y at base lo hi low =
     let there : s.base + (a - s.span.lo) ≡ a = omega arith in
-    or_false (seg_gives s a y)
+    or-false (seg_gives s a y)
     ∙ (ap (λ t. t && (nat_eq s.node y.node && nat_eq (s.base + (a - s.span.lo)) y.base)) (in_from s.span a (omega arith) (omega arith))
     ∙ (ap (λ n. nat_eq n y.node && nat_eq (s.base + (a - s.span.lo)) y.base) at
     ∙ ap (λ n. nat_eq node y.node && nat_eq n y.base) there))
@@ -87,7 +86,7 @@ module _ (net : List NodeDecl) (nodes : List Reach) (are : AreReaches net 1 node
   ]
 
   level_from : (EndsBefore net (is_accepted net) j node a y → old ≡ true) → EndsBefore net (is_accepted net) (j + 1) node a y → new ≡ true
-  level_from was h = is ∙ by (cases_le h.1.0 j)
+  level_from was h = is ∙ by (cases_lt h.1.0 j)
     where
       last : h.1.0 ≡ j → rows_go (leads_by Stays nodes) rows a y ≡ true
       last e =
@@ -108,7 +107,7 @@ more_reached net nodes are j node rows normal old new is was = record {
 -- one more level in the list, or none where no segment was found
 
 same_given : (segs : List Seg) (rows : List Row) → AreNormal (SegmentsGive segs) rows → (a : ℕ) (z : End) → a ≤ TOP → rows_give rows a z ≡ segs_give segs a z
-same_given segs rows n a z low = same_bool (rows_give rows a z) (segs_give segs a z)
+same_given segs rows n a z low = same_tests (rows_give rows a z) (segs_give segs a z)
     (λ e. segs_from segs a z ((n.exact a z low).1 (rows_to rows a z e)))
     (λ e. rows_from rows a z ((n.exact a z low).0 (segs_to segs a z e)))
 
@@ -116,12 +115,12 @@ pub one_more : (old new : List (List Row)) (level : List Row) (segs : List Seg) 
 one_more old new level segs goes a z low e n g =
     ap (λ ls. levels_give ls a z) e
     ∙ list_any-append (λ rows. rows_give rows a z) old (level ∷ [])
-    ∙ ap (λ t. levels_give old a z || t) (or_false (rows_give level a z) ∙ (same_given segs level n a z low ∙ g))
+    ∙ ap (λ t. levels_give old a z || t) (or-false (rows_give level a z) ∙ (same_given segs level n a z low ∙ g))
 
 pub no_more : (levels : List (List Row)) (segs : List Seg) (goes : Bool) (a : ℕ) (z : End) → segs ≡ [] → segs_give segs a z ≡ goes → levels_give levels a z ≡ (levels_give levels a z || goes)
 no_more levels segs goes a z e g =
     let none : goes ≡ false = sym g ∙ ap (λ s. segs_give s a z) e in
-    sym (ap (λ t. levels_give levels a z || t) none ∙ or_false (levels_give levels a z))
+    sym (ap (λ t. levels_give levels a z || t) none ∙ or-false (levels_give levels a z))
 
 -- where fewer than so many steps are all, the levels so far are the levels of the node
 pub all_levels : (net : List NodeDecl) (k node : ℕ) (levels : Levels) → k ≤ 66 → ((passes : Name → Bool) (a : ℕ) (y : End) → a ≤ TOP → EndsBefore net passes k node a y ↔ Ends (steps net) passes step_limit (record { node = node; addr = a }) (name_of_end y)) → AreReached net k node levels.reached → AreNormal (StopsFrom net node) levels.stops → IsLevels net node levels
@@ -131,5 +130,5 @@ all_levels net k node levels few all are stops = record {
     accepted = λ a y low h. are.accepted a y low ((all (is_accepted net) a y low).1 h);
   };
   stops = stops;
-  stops_within = names_are_there (length net) (StopsFrom net node) levels.stops stops (λ a y f. stop_is_there net (name_of_end y) f.0);
+  stops_within = names_are_there (length net) (StopsFrom net node) levels.stops stops (λ a y f. stop_there net (name_of_end y) f.0);
 }

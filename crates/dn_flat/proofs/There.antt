@@ -12,7 +12,7 @@ use Rattle.dn_interval.proofs.Normal.{member_moved}
 use Rattle.dn_net.specs.declared.node.Name.{Name}
 use Rattle.dn_net.specs.declared.node.NodeDecl.{NodeDecl}
 use Rattle.dn_net.specs.Chain.{IsChain}
-use Rattle.dn_net.specs.Decode.{Step, is_accepted, is_accepted_at, is_stop, is_stop_at, unit_of, refers_within}
+use Rattle.dn_net.specs.Decode.{Step, is_accepted, is_accepted_at, refers_within}
 use Rattle.dn_net.specs.Rules.{KeepsNodeRules}
 use Rattle.dn_net.specs.Walks.{Choice, Follows, moved_name}
 use Rattle.dn_net.proofs.Choices.{chain_is_walk}
@@ -44,13 +44,6 @@ pub accepted_is_there : (net : List NodeDecl) (x : Name) → IsTrue (is_accepted
 accepted_is_there net x e = go (slice_get net x.node) refl e
   where
     go : (o : Option NodeDecl) → slice_get net x.node ≡ o → is_accepted_at x.addr o ≡ true → x.node < length net
-    go None f g = absurd (false≢true g)
-    go (Some d) f g = slice_get_within net x.node d f
-
-pub stop_is_there : (net : List NodeDecl) (x : Name) → IsTrue (is_stop net x) → x.node < length net
-stop_is_there net x e = go (slice_get net x.node) refl e
-  where
-    go : (o : Option NodeDecl) → slice_get net x.node ≡ o → is_stop_at x.addr (unit_of o) ≡ true → x.node < length net
     go None f g = absurd (false≢true g)
     go (Some d) f g = slice_get_within net x.node d f
 

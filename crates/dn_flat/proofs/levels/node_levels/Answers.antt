@@ -1,5 +1,6 @@
 -- One level more; and what is reached in fewer than 66 steps, or where nothing goes on, is all.
 use Rattle.std.proofs.Common.{rules, ◌≡◌, ◌∙◌, ◌≤◌, ◌+◌, sym, subst, refl, arith, Bool, false, true, ℕ, IsTrue, List, [], length, ◌↔◌}
+use Rattle.dn_base.proofs.Booleans.{means_then}
 use Rattle.dn_interval.specs.declared.row.End.{End}
 use Rattle.dn_interval.specs.declared.row.Row.{Row}
 use Rattle.dn_interval.specs.declared.span.TheConstants.{TOP}
@@ -16,7 +17,7 @@ use Rattle.dn_flat.specs.Onward.{leads_by}
 use Rattle.dn_flat.specs.Stages.{EndsBefore, GoesIn}
 use Rattle.dn_flat.specs.Views.{name_of_end, StopsFrom}
 use Rattle.dn_flat.proofs.Bounds.{last_level, ended_level, none_goes}
-use Rattle.dn_flat.proofs.Lists.{means_then, none_of}
+use Rattle.dn_flat.proofs.Lists.{none_of}
 use Rattle.dn_flat.proofs.Reached.{AreReached, all_levels, begun, more_reached, none_before, none_reached}
 use Rattle.dn_flat.proofs.Sums.{normal_of, stops_on, goes_on}
 use Rattle.dn_flat.proofs.There.{goes_are_there}

@@ -1,5 +1,6 @@
 -- One level more, where names were found.
 use Rattle.std.proofs.Common.{rules, ◌≡◌, ◌∙◌, ◌≤◌, ◌||◌, ◌++◌, [], ◌∷◌, ℕ, Bool, true, ◌==◌, length, ap, sym, subst}
+use Rattle.dn_base.proofs.Told.{on_ok_then}
 use Rattle.dn_interval.specs.declared.row.End.{End}
 use Rattle.dn_interval.specs.declared.span.TheConstants.{TOP}
 use Rattle.dn_interval.specs.Rows.{AreNormal, SegmentsGive}
@@ -8,7 +9,7 @@ use Rattle.dn_interval.specs.Onward.{rows_go}
 use Rattle.dn_flat.specs.declared.found.Part.TheVariants.{Stays}
 use Rattle.dn_flat.specs.Levels.{levels_give}
 use Rattle.dn_flat.specs.Onward.{leads_by}
-use Rattle.dn_flat.proofs.Lists.{none_of, on_ok}
+use Rattle.dn_flat.proofs.Lists.{none_of}
 use Rattle.dn_flat.proofs.Reached.{no_more, one_more}
 use Rattle.dn_flat.proofs.levels.push_level.Goals as goal
 
@@ -28,6 +29,6 @@ returns c =
     let level = c.in_ok-level.level in
     let old = c.args.levels.now in
     let new = c.push.new.self in
-    on_ok c.push.result (new ≡ old ++ level ∷ []) ((a : ℕ) (z : End) → a ≤ TOP → levels_give new a z ≡ (levels_give old a z || goes a z))
+    on_ok_then c.push.result (new ≡ old ++ level ∷ []) ((a : ℕ) (z : End) → a ≤ TOP → levels_give new a z ≡ (levels_give old a z || goes a z))
     (λ e a z low. one_more old new level segs (goes a z) a z low e (subst (λ s. AreNormal (SegmentsGive s) level) c.deref.ensures.value c.in_ok-level.ensures.normal) (found a z))
     c.push.ensures.ok
