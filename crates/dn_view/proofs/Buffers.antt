@@ -1,6 +1,7 @@
 -- Rows and segments that show exactly a buffer, or nothing.
 use Rattle.std.proofs.Common.{◌≡◌, ℕ, ◌+◌, ◌-◌, ◌<◌, ◌≤◌, ◌↔◌, inl, inr, true, false, ◌&&◌, ◌==◌, nat_le, nat_eq, List, [], ◌∷◌, map, length, IsTrue, refl, sym, ap, ◌∙◌, subst, arith, leb-true, eqb-true, eq-eqb}
 use Rattle.std.proofs.lemmas.Bool.{and_parts, false≢true}
+use Rattle.dn_base.proofs.Booleans.{or_left}
 use Rattle.dn_interval.specs.declared.row.End.{End}
 use Rattle.dn_interval.specs.declared.row.Row.{Row}
 use Rattle.dn_interval.specs.declared.row.Seg.{Seg}
@@ -8,7 +9,7 @@ use Rattle.dn_interval.specs.declared.span.Span.{Span}
 use Rattle.dn_interval.specs.declared.span.TheConstants.{TOP}
 use Rattle.dn_interval.specs.Rows.{Member as Named, AreNormal, SegmentsGive, GivenBy, moved}
 use Rattle.dn_interval.specs.Strands.{segs_give}
-use Rattle.dn_interval.proofs.Membership.{in_from, or_left}
+use Rattle.dn_interval.proofs.Membership.{in_from}
 use Rattle.dn_interval.proofs.Normal.{one_normal}
 use Rattle.dn_flat.proofs.Sums.{normal_of}
 use Rattle.dn_flat.specs.Views.{name_of_end, end_of}
