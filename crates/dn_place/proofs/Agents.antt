@@ -1,7 +1,7 @@
 -- The walk over the agent's rows.
-use Rattle.std.proofs.Common.{◌≡◌, ℕ, suc, ◌+◌, ◌-◌, ◌<◌, ◌≤◌, ◌↔◌, true, List, [], ◌∷◌, ◌++◌, length, drop, get_or, slice_get, refl, sym, ap, ◌∙◌, subst, arith, add-one}
-use Rattle.std.proofs.Math.Seq.{drop-cons}
+use Rattle.std.proofs.Common.{◌≡◌, ℕ, ◌+◌, ◌-◌, ◌<◌, ◌≤◌, ◌↔◌, true, List, [], ◌∷◌, ◌++◌, length, drop, get_or, slice_get, refl, sym, ap, ◌∙◌, subst, arith}
 use Rattle.std.proofs.Math.ListN.{drop_of_length-le}
+use Rattle.dn_base.proofs.Lists.{drop_at}
 use Rattle.dn_interval.specs.declared.row.End.{End}
 use Rattle.dn_interval.specs.declared.row.Row.{Row}
 use Rattle.dn_net.specs.Decode.{top}
@@ -20,13 +20,6 @@ use Rattle.dn_place.specs.Candidates.{IsUnder, NoneUnder, IsFirstUnder, ending, 
 use Rattle.dn_place.proofs.Walks.{Walked, Stretches, walked_on, walk_found, walk_done, one_in_row}
 use Rattle.dn_place.proofs.Meetings.{meets_gives, walk_meets}
 use Rattle.dn_place.proofs.Wholes.{Whole, whole}
-
--- the first of the rest of a list
-pub taken_off : (items : List Row) (i : ℕ) (r : Row) → i < length items → r ≡ get_or items i r → drop i items ≡ r ∷ drop (i + 1) items
-taken_off items i r l e = drop-cons items i r l ∙ go (get_or items i r) (sym e) ∙ ap (λ n. r ∷ drop n items) (sym (add-one i))
-  where
-    go : (s : Row) → s ≡ r → s ∷ drop (suc i) items ≡ r ∷ drop (suc i) items
-    go s p = ap (λ (x : Row). x ∷ drop (suc i) items) p
 
 v_of : (s : Sought) (hops : List Hop) (q : Place) (j : ℕ) → IsUnder s (ending (length hops) hops ++ j ∷ []) q → (q.v ≡ j) × (q.hops ≡ hops)
 v_of s hops q j u = (heads q.v j (hop_page s.net (slice_get hops q.own) ∷ (length hops - q.own) ∷ []) w.rest w.tail, w.same)
@@ -57,10 +50,10 @@ not_asked s hops v other = record { none = λ q u. absurd (other (subst (IsAt s.
 -- a step of a walk over items that are the rows
 
 pub step : (s : Sought) (front : List ℕ) (items rows : List Row) (i : ℕ) (r : Row) (t : End) → items ≡ rows → i < length items → r ≡ get_or items i r → 1 ≤ s.request.size → Stretches s front rows t → Walked s front items (drop i items) → ((j : ℕ) → InRow r t s.request.size j → NoneUnder s (front ++ j ∷ [])) → Walked s front items (drop (i + 1) items)
-step s front items rows i r t e l g some st w n = walked_on s front items r (drop (i + 1) items) t some (subst (λ m. Stretches s front m t) (sym e) st) (subst (Walked s front items) (taken_off items i r l g) w) n
+step s front items rows i r t e l g some st w n = walked_on s front items r (drop (i + 1) items) t some (subst (λ m. Stretches s front m t) (sym e) st) (subst (Walked s front items) (drop_at items i r l g) w) n
 
 pub step_found : (s : Sought) (front : List ℕ) (items rows : List Row) (i : ℕ) (r : Row) (t : End) (y : ℕ) (p : Place) → items ≡ rows → i < length items → r ≡ get_or items i r → 1 ≤ s.request.size → Stretches s front rows t → Walked s front items (drop i items) → InRow r t s.request.size y → IsFirstUnder s (front ++ y ∷ []) p → IsFirstUnder s front p
-step_found s front items rows i r t y p e l g some st w here f = walk_found s front items r (drop (i + 1) items) t y p some (subst (λ m. Stretches s front m t) (sym e) st) (subst (Walked s front items) (taken_off items i r l g) w) here f
+step_found s front items rows i r t y p e l g some st w here f = walk_found s front items r (drop (i + 1) items) t y p some (subst (λ m. Stretches s front m t) (sym e) st) (subst (Walked s front items) (drop_at items i r l g) w) here f
 
 pub step_done : (s : Sought) (front : List ℕ) (items rows : List Row) (i : ℕ) (t : End) → items ≡ rows → length items ≤ i → 1 ≤ s.request.size → Stretches s front rows t → ((q : Place) → IsUnder s front q → (j : ℕ) × Begins (front ++ j ∷ []) (key_of s.net q)) → Walked s front items (drop i items) → NoneUnder s front
 step_done s front items rows i t e l some st goes w = walk_done s front items t some (subst (λ m. Stretches s front m t) (sym e) st) goes (subst (Walked s front items) (drop_of_length-le items l) w)
@@ -71,7 +64,7 @@ only_there s front r t y w n j v = subst (λ k. NoneUnder s (front ++ k ∷ []))
 
 -- a stretch in the row to which the walk has come meets what is wanted
 pub step_meets : (s : Sought) (front : List ℕ) (items : List Row) (n : ℕ) (hops : List Hop) (flat : Flat) (i : ℕ) (r : Row) (y : ℕ) → IsFlat s.net n flat → y + s.request.size ≤ top + 1 → items ≡ rows_toward flat hops → i < length items → r ≡ get_or items i r → Walked s front items (drop i items) → InRow r (wanted s.request hops) s.request.size y → is_clear flat hops y s.request.size ≡ true → Meets s.net s.request n y hops
-step_meets s front items n hops flat i r y f fits e l g w here c = walk_meets s front n hops flat r (drop (i + 1) items) y f fits (subst (λ m. Walked s front m (r ∷ drop (i + 1) items)) e (subst (Walked s front items) (taken_off items i r l g) w)) here c
+step_meets s front items n hops flat i r y f fits e l g w here c = walk_meets s front n hops flat r (drop (i + 1) items) y f fits (subst (λ m. Walked s front m (r ∷ drop (i + 1) items)) e (subst (Walked s front items) (drop_at items i r l g) w)) here c
 
 -- what a row gives, asked by a copy of the request
 pub row_asked : (s : Sought) (hops : List Hop) (r : Row) (t : End) (rq other : Request) (a : ℕ) → t ≡ wanted rq hops → rq ≡ s.request → other ≡ s.request → InRow r t other.size a ↔ InRow r (wanted s.request hops) s.request.size a
