@@ -1,8 +1,8 @@
 -- Laws of lists: an item that is put last, the rest from a place on, what passes a test and where.
-use Rattle.std.proofs.Common.{◌≡◌, ◌∙◌, ap, sym, refl, ℕ, zero, suc, ◌+◌, ◌<◌, ◌≤◌, nat_lt, Bool, false, not, List, [], ◌∷◌, ◌++◌, map, take, drop, get_or, length, position, Option, Some, None, is_some, IsTrue, slice_get, add-one, arith}
+use Rattle.std.proofs.Common.{◌≡◌, ◌∙◌, ap, sym, refl, ℕ, zero, suc, ◌+◌, ◌<◌, ◌≤◌, nat_le, nat_lt, ◌==◌, if◌then◌else◌, Bool, true, false, ◌||◌, not, List, [], ◌∷◌, ◌++◌, map, filter, take, drop, get_or, length, position, Option, Some, None, is_some, IsTrue, slice_get, add-one, arith}
 use Rattle.std.specs.List.{list_any, list_all, prefix_len}
 use Rattle.std.proofs.Math.Seq.{drop-cons}
-use Rattle.std.proofs.lemmas.Bool.{and_parts}
+use Rattle.std.proofs.lemmas.Bool.{and_parts, leb-true, ne_eqb}
 use Rattle.std.proofs.lemmas.Grind.{common_steps}
 pub use Rattle.std.proofs.lemmas.List.{length-map, drop_all, nil_from_length}
 pub use Rattle.std.proofs.lemmas.Option.{slice_get_past, slice_get_within}
@@ -48,7 +48,27 @@ slice_get-at [] i x l e = absurd (omega arith)
 slice_get-at (y ∷ ys) zero x l e = ap Some e
 slice_get-at (y ∷ ys) (suc i) x l e = slice_get-at ys i x (omega arith) e
 
+-- at a place before the end there is an item
+pub item_there : {X : Type 0} (xs : List X) (i : ℕ) → i < length xs → (x : X) × (slice_get xs i ≡ Some x)
+item_there [] i l = absurd (omega arith)
+item_there (x ∷ xs) zero l = (x, refl)
+item_there (x ∷ xs) (suc i) l = item_there xs i (omega arith)
+
+-- a list of no more than no item has none
+pub nil_from_leb : {X : Type 0} (xs : List X) → IsTrue (nat_le (length xs) 0) → xs ≡ []
+nil_from_leb [] h = refl
+nil_from_leb (x ∷ xs) h = let l = leb-true (length (x ∷ xs)) 0 h in absurd (omega arith)
+
 -- what passes a test
+
+-- no item is left of a list exactly where no item passes
+pub filter-none : {X : Type 0} (p : X → Bool) (xs : List X) → (length (filter p xs) == 0) ≡ not (list_any p xs)
+filter-none p [] = refl
+filter-none {X} p (x ∷ xs) = by (p x) (filter-none p xs)
+  where
+    by : (b : Bool) → (length (filter p xs) == 0) ≡ not (list_any p xs) → (length (if b then x ∷ filter p xs else filter p xs) == 0) ≡ not (b || list_any p xs)
+    by true e = ne_eqb (suc (length (filter p xs))) 0 (λ f. absurd (omega (arith, f)))
+    by false e = e
 
 -- what is true of each item is true of the one at a place
 pub list_all-at : {X : Type 0} (p : X → Bool) (xs : List X) (i : ℕ) (x : X) → IsTrue (list_all p xs) → slice_get xs i ≡ Some x → IsTrue (p x)
@@ -67,6 +87,18 @@ list_all-implied p q implies (x ∷ xs) all =
 pub list_any-map : {X Y : Type 0} (f : X → Y) (p : Y → Bool) (xs : List X) → list_any p (map f xs) ≡ list_any (λ x. p (f x)) xs
 list_any-map f p [] = refl
 list_any-map f p (x ∷ xs) = simp (list_any-map f p xs)
+
+-- what holds of each item
+
+-- it holds of the first, and of each behind it
+abbrev pub Each : {X : Type 0} → (X → Type 0) → List X → Type 0
+Each P [] = Unit {0}
+Each P (x ∷ xs) = P x × Each P xs
+
+-- what follows from it of any item holds of each
+pub each_implied : {X : Type 0} (P Q : X → Type 0) → ((x : X) → P x → Q x) → (xs : List X) → Each P xs → Each Q xs
+each_implied P Q f [] h = tt
+each_implied P Q f (x ∷ xs) h = (f x h.0, each_implied P Q f xs h.1)
 
 -- places
 

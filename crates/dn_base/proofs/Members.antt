@@ -1,7 +1,8 @@
 -- Laws of what stands in a list: in a list put behind another, in what is made item by item, and by tests.
-use Rattle.std.proofs.Common.{◌≡◌, ◌∙◌, ap, refl, ◌⊎◌, inl, inr, Bool, true, List, [], ◌∷◌, ◌++◌, map}
-use Rattle.std.specs.List.{list_any}
-use Rattle.std.proofs.lemmas.Bool.{or_cases, or_left, or_right, false≢true}
+use Rattle.std.proofs.Common.{◌≡◌, ◌∙◌, ap, sym, subst, refl, ℕ, zero, suc, ◌<◌, ◌≤◌, ◌⊎◌, inl, inr, Bool, true, false, List, [], ◌∷◌, ◌++◌, map, length, get_or, slice_get, Some, arith}
+use Rattle.std.specs.List.{All, list_all, list_any}
+use Rattle.std.proofs.lemmas.Bool.{and_parts, or_cases, or_left, or_right, false≢true, false_from_ne_true}
+use Rattle.std.proofs.lemmas.Option.{same_Some}
 use Rattle.dn_base.specs.Members.{Member}
 
 -- what stands in the first list stands in both
@@ -46,3 +47,39 @@ pub member_any : {X : Type 0} (p : X → Bool) (xs : List X) (x : X) → Member 
 member_any p [] x m e = absurd m
 member_any p (z ∷ xs) x (inl s) e = or_left (p z) (list_any p xs) (ap p s ∙ e)
 member_any p (z ∷ xs) x (inr m) e = or_right (p z) (list_any p xs) (member_any p xs x m e)
+
+-- a test that passes nowhere fails at each item
+pub member_none : {X : Type 0} (p : X → Bool) (xs : List X) (x : X) → list_any p xs ≡ false → Member x xs → p x ≡ false
+member_none p xs x e m = false_from_ne_true (p x) (λ t. false≢true (sym e ∙ member_any p xs x m t))
+
+-- a test that passes at all items passes at each
+pub member_all : {X : Type 0} (p : X → Bool) (xs : List X) (x : X) → list_all p xs ≡ true → Member x xs → p x ≡ true
+member_all p [] x all m = absurd m
+member_all p (y ∷ ys) x all (inl e) = ap p (sym e) ∙ (and_parts (p y) (list_all p ys) all).0
+member_all p (y ∷ ys) x all (inr m) = member_all p ys x (and_parts (p y) (list_all p ys) all).1 m
+
+-- what holds of all items holds of each
+pub member_of_all : {X : Type 0} (P : X → Type 0) (xs : List X) (x : X) → All P xs → Member x xs → P x
+member_of_all P [] x all m = absurd m
+member_of_all P (y ∷ xs) x all (inl e) = subst P e (all 0 y (omega arith))
+member_of_all P (y ∷ xs) x all (inr m) = member_of_all P xs x (λ k d l. all (suc k) d (omega arith)) m
+
+-- the item at a place
+pub member_at : {X : Type 0} (xs : List X) (i : ℕ) (x : X) → slice_get xs i ≡ Some x → Member x xs
+member_at [] i x at = cc
+member_at (y ∷ xs) zero x at = inl (same_Some y x at)
+member_at (y ∷ xs) (suc i) x at = inr (member_at xs i x at)
+
+-- the same, of the item whatever stands past the end
+pub member_get_or : {X : Type 0} (xs : List X) (k : ℕ) (d : X) → k < length xs → Member (get_or xs k d) xs
+member_get_or [] k d l = absurd (omega arith)
+member_get_or (x ∷ xs) zero d l = inl refl
+member_get_or (x ∷ xs) (suc k) d l = inr (member_get_or xs k d (omega arith))
+
+-- a list of one item at most has one item
+pub one_member : {X : Type 0} (xs : List X) (y z : X) → length xs ≤ 1 → Member y xs → Member z xs → y ≡ z
+one_member [] y z l m n = absurd m
+one_member (x ∷ []) y z l (inl m) (inl n) = sym m ∙ n
+one_member (x ∷ []) y z l (inr m) n = absurd m
+one_member (x ∷ []) y z l (inl m) (inr n) = absurd n
+one_member (x ∷ (w ∷ xs)) y z l m n = absurd (omega arith)

@@ -1,6 +1,6 @@
 -- What follows from what sources and sinks tell: laws of what was taken, added and written, for this crate and those
 -- above it. In each, `a` is what was told first, and `b` and `c` what was told later.
-use Rattle.std.proofs.Common.{◌≡◌, ◌≤◌, ◌<◌, ◌∙◌, ap, sym, subst, ℕ, ◌+◌, ◌-◌, Bool, true, false, List, [], ◌∷◌, ◌++◌, length, take, drop, get_or, Option, None, Some, IfSome, is_some, append_assoc, append-nil, length-append, refl, arith}
+use Rattle.std.proofs.Common.{◌≡◌, ◌≤◌, ◌<◌, ◌∙◌, ap, sym, subst, ℕ, ◌+◌, ◌-◌, Bool, true, false, List, [], ◌∷◌, ◌++◌, length, take, drop, get_or, Option, None, Some, IfSome, is_some, Result, Ok, Err, OnOk, append_assoc, append-nil, length-append, refl, arith}
 use Rattle.std.specs.List.{concat}
 use Rattle.std.specs.Option.{option_map}
 use Rattle.std.proofs.lemmas.Grind.{common_steps}
@@ -9,7 +9,7 @@ use Rattle.std.proofs.lemmas.List.Folds.{concat-append}
 use Rattle.std.proofs.Math.Seq.{take-add, take-length}
 use Rattle.dn_base.specs.Outside.{Taken, TakenAtMost, Added, AddedPrefix, AddedLess, AddedPieces, AtEnd, IsWritten, AreWritten}
 
--- options
+-- options and results
 
 -- what holds of every value holds of the one that is there
 pub if_some : {A : Type 0} (o : Option A) (P : A → Type 0) → ((x : A) → P x) → IfSome o P
@@ -20,6 +20,11 @@ if_some (Some x) P h = h x
 pub if_some_then : {A : Type 0} (o : Option A) (P Q : A → Type 0) → ((x : A) → P x → Q x) → IfSome o P → IfSome o Q
 if_some_then None P Q h p = tt
 if_some_then (Some x) P Q h p = h x p
+
+-- what follows from a fact follows from it where a call succeeded
+pub on_ok_then : {A E : Type 0} (r : Result A E) (P Q : Type 0) → (P → Q) → OnOk r P → OnOk r Q
+on_ok_then (Ok x) P Q h p = h p
+on_ok_then (Err e) P Q h p = tt
 
 -- what was taken
 

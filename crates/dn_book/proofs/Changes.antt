@@ -23,7 +23,7 @@ use Rattle.dn_book.specs.Writes.{Put, hop_slots, hop_slots_by, slots_from}
 use Rattle.dn_book.proofs.Facts.{fit_none, fit_then}
 use Rattle.dn_book.proofs.Hops.{first_before}
 use Rattle.dn_book.proofs.InOrder.{units_apart}
-use Rattle.dn_book.proofs.Units.{unit_by_units}
+use Rattle.dn_tables.proofs.Units.{unit_by_units}
 use Rattle.dn_book.proofs.Ranges.{in_hop, of_hop, slot_count, slot_there, so_far, so_far_all, so_far_more}
 
 -- ONE SLOT

@@ -37,7 +37,7 @@ use Rattle.dn_book.proofs.Given.{GrantGives, by_owns, by_uses, gives_taken, unus
 use Rattle.dn_book.proofs.Live.{book_held, by_place, few_uses, gives_held, no_owner_of, picked_empty, put_gives, put_gives_behind, puts_held, records_granted, used_zero, uses_granted, hop_put_gives}
 use Rattle.dn_book.proofs.Packed.{AreKinds, Holds, empty_there, held_after, kind_of, puts_hold, set_holds, width_is}
 use Rattle.dn_book.proofs.Sound.{comes, granted_sound, placed_fit}
-use Rattle.dn_book.proofs.Units.{unit_fits}
+use Rattle.dn_tables.proofs.Units.{unit_fits}
 
 -- WRITES BY A SET ARE THOSE BY THE NET
 

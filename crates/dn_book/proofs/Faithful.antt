@@ -1,6 +1,7 @@
 -- A faithful book stays so as an admissible grant comes, and as grants go.
 use Rattle.std.proofs.Common.{◌≡◌, ℕ, zero, suc, ◌+◌, ◌-◌, ◌/◌, ◌^◌, ◌<◌, ◌≤◌, ◌⊎◌, inl, inr, Bool, true, false, if◌then◌else◌, nat_eq, nat_le, List, [], ◌∷◌, ◌++◌, slice_get, Option, Some, None, IsTrue, refl, sym, ap, ◌∙◌, subst, arith, pow_pos}
 use Rattle.dn_base.proofs.Members.{member_left, member_right}
+use Rattle.dn_base.proofs.Orders.{cases_eq}
 use Rattle.dn_net.specs.declared.node.Name.{Name}
 use Rattle.dn_net.specs.declared.node.NodeDecl.{NodeDecl}
 use Rattle.dn_net.specs.declared.node.Unit.{Unit as UnitPart}
@@ -9,13 +10,13 @@ use Rattle.dn_net.specs.Decode.{Resolves, Step, top, unit_at}
 use Rattle.dn_net.specs.Legal.{IsLegalNet}
 use Rattle.dn_net.proofs.Stops.{shallow_reach}
 use Rattle.dn_kind.specs.declared.rights.Access.{Access}
-use Rattle.dn_kind.specs.declared.rights.Access.TheVariants.{Read, Write}
 use Rattle.dn_kind.specs.declared.rights.Rights.{Rights}
 use Rattle.dn_kind.specs.declared.unit_kind.Record.{Record}
 use Rattle.dn_kind.specs.Rights.{allows, both_rights}
 use Rattle.dn_kind.specs.Tables.{AreHeld, Extends, Held, ResolvesUnder, StepUnder, allowing, output, record_allowing, steps_by_unit}
 use Rattle.dn_kind.specs.Ways.{PassesIn, Slot, slot_in}
-use Rattle.dn_kind.proofs.Ways.{chain_passes_slots, legal_one_row_of_slots, more_records_keep_names}
+use Rattle.dn_kind.proofs.Ways.{chain_passes_slots, legal_one_row_of_slots, more_records_keep_names, allowing_held, allowing_more}
+use Rattle.dn_kind.proofs.Allowed.{both_allow}
 use Rattle.dn_tables.specs.declared.placement.Hop.{Hop}
 use Rattle.dn_placement.specs.Exposure.{Adds, IsAdmissible}
 use Rattle.dn_placement.specs.Placement.{IsPlacement, name_on}
@@ -23,12 +24,11 @@ use Rattle.dn_placement.specs.Records.{first_slot, hop_rights, joined_records, l
 use Rattle.dn_book.specs.declared.grant.Grant.{Grant}
 use Rattle.dn_book.specs.Book.{IsFaithful, IsGranted, IsSound, Owes, grant_records, open_slots, owns_slot, records_of, uses_slot, without}
 use Rattle.dn_book.specs.Laws.{EmptyBookIsFaithful, GrantKeepsBook, RevokeKeepsBook}
-use Rattle.dn_book.proofs.Frames.{same_or}
 use Rattle.dn_book.proofs.Given.{between_gives, by_owns, gives_taken, given_by, held_in, in_held, uses_given}
 use Rattle.dn_book.proofs.Hops.{div_mono}
 use Rattle.dn_book.proofs.Live.{book_held}
 use Rattle.dn_book.proofs.Sound.{granted_sound, given_gives, in_without, last_cases, placed_hop, revoked_sound, without_in}
-use Rattle.dn_book.proofs.Through.{AllHold, WayOver, allowed_there, allowing_held, allowing_more, chain_under, leads_accepted, leads_on, passed_held, passes_append, passes_more, resolves, way_over}
+use Rattle.dn_book.proofs.Through.{AllHold, WayOver, allowed_there, chain_under, leads_accepted, leads_on, passed_held, passes_append, passes_more, resolves, way_over}
 
 -- THE EMPTY BOOK
 
@@ -115,10 +115,6 @@ pub grant_keeps_book : GrantKeepsBook
 grant_keeps_book net book g legal sound f = (granted_sound net legal book g sound f, λ faithful admissible. granted_faithful net book g faithful admissible)
 
 -- GRANTS THAT GO
-
-both_allow : (access : Access) → allows both_rights access ≡ true
-both_allow Read = refl
-both_allow Write = refl
 
 -- the rights of each hop of a grant allow what those of the grant do
 hop_allows : (r : Rights) (own place : ℕ) (access : Access) → allows r access ≡ true → allows (hop_rights r own place) access ≡ true
@@ -253,7 +249,7 @@ revoked_faithful net legal id book sound f access x y agent = (down, owed_given 
     down : ResolvesUnder net (allowing access (records_of net (without id book))) x y → Owes net (without id book) access x y
     down r = elim ((f access x y agent).0 (more_records_keep_names net (allowing access (records_of net (without id book))) (allowing access (records_of net book)) more x y r)) [
       | inl a ↦ inl a
-      | inr b ↦ elim (same_or b.grant.id id) [
+      | inr b ↦ elim (cases_eq b.grant.id id) [
         | inl e ↦ absurd (ends_with net legal id book sound access x y b e r)
         | inr ne ↦ inr (record { grant = b.grant; is_grant = in_without id book b.grant b.is_grant ne; allowed = b.allowed; adds = b.adds })
       ]

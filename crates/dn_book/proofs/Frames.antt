@@ -1,9 +1,10 @@
 -- What putting and clearing slots leaves of a set: units, widths, uses, and the words of other slots.
-use Rattle.std.proofs.Common.{◌≡◌, ℕ, zero, suc, ◌+◌, ◌-◌, ◌*◌, ◌<◌, ◌≤◌, ◌⊎◌, inl, inr, Bool, true, false, if◌then◌else◌, ◌==◌, List, [], ◌∷◌, ◌++◌, filter, length, take, drop, replicate, slice_get, slice_index_or, Option, Some, refl, sym, ap, ◌∙◌, subst, arith, append_assoc, length-append, length-drop, nat_eq, eqb-true, eq-eqb}
+use Rattle.std.proofs.Common.{◌≡◌, ℕ, zero, suc, ◌+◌, ◌-◌, ◌*◌, ◌<◌, ◌≤◌, ◌⊎◌, inl, inr, Bool, if◌then◌else◌, ◌==◌, List, [], ◌∷◌, ◌++◌, filter, length, take, drop, replicate, slice_get, slice_index_or, Option, Some, refl, sym, ap, ◌∙◌, subst, arith, append_assoc, length-append, length-drop}
 use Rattle.std.specs.List.{flat_map}
 use Rattle.std.proofs.lemmas.List.{take-append-drop, take-append-le, drop-append-le, length-take-le}
 use Rattle.std.proofs.Math.Seq.{drop-append-add}
 use Rattle.std.proofs.Math.Nat.{mul-le-mul_right, suc-mul}
+use Rattle.dn_base.proofs.Orders.{cases_eq}
 use Rattle.dn_net.specs.Chain.{Member}
 use Rattle.dn_kind.specs.Kind.{Meaning}
 use Rattle.dn_kind.specs.Tables.{slot_words}
@@ -31,14 +32,6 @@ other_of (t ∷ set) zero zero f ne = absurd (ne refl)
 other_of (t ∷ set) zero (suc m) f ne = refl
 other_of (t ∷ set) (suc node) zero f ne = refl
 other_of (t ∷ set) (suc node) (suc m) f ne = other_of set node m f (λ e. ne (ap suc e))
-
--- equal or not
-pub same_or : (a b : ℕ) → (a ≡ b) ⊎ (a ≡ b → ⊥)
-same_or a b = go (nat_eq a b) refl
-  where
-    go : (t : Bool) → nat_eq a b ≡ t → (a ≡ b) ⊎ (a ≡ b → ⊥)
-    go true e = inl (eqb-true a b e)
-    go false e = inr (λ f. let g : nat_eq a b ≡ true = eq-eqb a b f in let c : true ≡ false = sym g ∙ e in cc)
 
 -- one slot
 pub unit_with_slot : (set : List NodeTable) (u q m : ℕ) (vs : List ℕ) → unit_in (with_slot set u q vs) m ≡ unit_in set m
@@ -211,7 +204,7 @@ pub record CanStand (set : List NodeTable) (u q : ℕ) (vs : List ℕ) : Type 0 
   pub room : q * width_in set u + width_in set u ≤ length (words_in set u)
 
 pub length_stays : (set : List NodeTable) (u q m : ℕ) (vs : List ℕ) → CanStand set u q vs → length (words_in (with_slot set u q vs) m) ≡ length (words_in set m)
-length_stays set u q m vs c = go (same_or m u)
+length_stays set u q m vs c = go (cases_eq m u)
   where
     go : (m ≡ u) ⊎ (m ≡ u → ⊥) → length (words_in (with_slot set u q vs) m) ≡ length (words_in set m)
     go (inl e) =
@@ -225,7 +218,7 @@ length_stays set u q m vs c = go (same_or m u)
 
 -- other slots keep their words
 pub words_stay : (set : List NodeTable) (u q m p : ℕ) (vs : List ℕ) → CanStand set u q vs → (m ≡ u → p ≡ q → ⊥) → words_at (with_slot set u q vs) m p ≡ words_at set m p
-words_stay set u q m p vs c ne = go (same_or m u)
+words_stay set u q m p vs c ne = go (cases_eq m u)
   where
     go : (m ≡ u) ⊎ (m ≡ u → ⊥) → words_at (with_slot set u q vs) m p ≡ words_at set m p
     go (inl e) =

@@ -2,7 +2,7 @@
 use Rattle.std.proofs.Common.{◌≡◌, ℕ, zero, suc, ◌+◌, ◌≤◌, ◌⊎◌, inl, inr, Bool, true, false, if◌then◌else◌, ◌&&◌, nat_eq, nat_le, List, [], ◌∷◌, slice_get, is_some, Option, Some, None, refl, sym, ap, ◌∙◌, subst, arith, eqb-true, eq-eqb, leb-true, le-leb}
 use Rattle.std.specs.List.{list_any}
 use Rattle.std.proofs.lemmas.Option.{same_Some}
-use Rattle.dn_base.proofs.Members.{any_member, member_any}
+use Rattle.dn_base.proofs.Members.{any_member, member_any, member_at}
 use Rattle.dn_net.specs.declared.node.NodeDecl.{NodeDecl}
 use Rattle.dn_net.specs.declared.node.Unit.{Unit as UnitPart}
 use Rattle.dn_net.specs.Chain.{Member}
@@ -83,11 +83,6 @@ pub place_of : {X : Type 0} (xs : List X) (x : X) → Member x xs → (j : ℕ) 
 place_of [] x m = absurd m
 place_of (y ∷ xs) x (inl e) = (0, ap Some e)
 place_of (y ∷ xs) x (inr m) = let r = place_of xs x m in (suc r.0, r.1)
-
-pub member_of : {X : Type 0} (xs : List X) (j : ℕ) (x : X) → slice_get xs j ≡ Some x → Member x xs
-member_of [] j x e = cc
-member_of (y ∷ xs) zero x e = inl (same_Some y x e)
-member_of (y ∷ xs) (suc j) x e = inr (member_of xs j x e)
 
 -- THE RECORDS OF A BOOK ARE THOSE OF ITS HOPS
 
@@ -179,7 +174,7 @@ in_held net book agree n q t h = go (records_of net book n q) refl
 
 pub uses_given : (net : List NodeDecl) (book : List Grant) (n q : ℕ) (t : Record) (h : IsGiven net book n q t) → uses_slot net n q h.grant ≡ true
 uses_given net book n q t h =
-    member_any (is_taken net h.grant.request.size n q) h.grant.placement.hops h.hop (member_of h.grant.placement.hops h.place h.hop h.is_hop) (gives_taken net h.grant.request.size (hop_rights h.grant.request.rights h.grant.placement.own h.place) h.hop n q t h.gives)
+    member_any (is_taken net h.grant.request.size n q) h.grant.placement.hops h.hop (member_at h.grant.placement.hops h.place h.hop h.is_hop) (gives_taken net h.grant.request.size (hop_rights h.grant.request.rights h.grant.placement.own h.place) h.hop n q t h.gives)
 
 -- a slot that is used, with the hop that takes it
 pub record Uses (net : List NodeDecl) (g : Grant) (n q : ℕ) : Type 0 where
@@ -195,7 +190,7 @@ uses_by net g n q e =
     record { place = p.0; hop = a.0; is_hop = p.1; taken = a.2 }
 
 pub by_uses : (net : List NodeDecl) (g : Grant) (n q place : ℕ) (hop : Hop) → slice_get g.placement.hops place ≡ Some hop → is_taken net g.request.size n q hop ≡ true → uses_slot net n q g ≡ true
-by_uses net g n q place hop at e = member_any (is_taken net g.request.size n q) g.placement.hops hop (member_of g.placement.hops place hop at) e
+by_uses net g n q place hop at e = member_any (is_taken net g.request.size n q) g.placement.hops hop (member_at g.placement.hops place hop at) e
 
 -- what it gives
 pub uses_gives : (net : List NodeDecl) (g : Grant) (n q : ℕ) (h : Uses net g n q) → (t : Record) × GrantGives net g n q t

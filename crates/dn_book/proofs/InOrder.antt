@@ -19,12 +19,13 @@ use Rattle.dn_tables.specs.declared.table.NodeTable.{NodeTable}
 use Rattle.dn_tables.specs.Set.{FitsNet, IsSet}
 use Rattle.dn_tables.proofs.Slots.{all_of_map}
 use Rattle.dn_placement.specs.Records.{hop_rights, first_slot}
+use Rattle.dn_placement.proofs.Hops.{rights_of}
 use Rattle.dn_book.specs.declared.grant.Grant.{Grant}
 use Rattle.dn_book.specs.Puts.{MayPutGrant}
 use Rattle.dn_book.specs.Sets.{AreFit, AreOpen, ArePut}
 use Rattle.dn_book.specs.Writes.{Put, grant_slots, hop_slots, hop_slots_by, hops_slots, joined_slots}
 use Rattle.dn_book.proofs.Ranges.{FitsPut, HopPuts, of_hop, hop_fits_put, open_after, slot_count}
-use Rattle.dn_book.proofs.Units.{unit_fits}
+use Rattle.dn_tables.proofs.Units.{unit_fits}
 
 -- LISTS OF LISTS
 
@@ -134,10 +135,6 @@ hop_unit net size r hop s m = go (unit_at net hop.unit) m
     go : (o : Option UnitPart) → Member s (hop_slots_by o size r hop) → s.unit ≡ hop.unit
     go None m = absurd m
     go (Some u) m = ap (λ (t : Put). t.unit) (of_hop u r hop (first_slot u hop) (slot_count u size hop) s m).is
-
--- the rights of each hop are rights
-pub rights_of : (r : Rights) (own place : ℕ) → IsTrue (are_rights r) → IsTrue (are_rights (hop_rights r own place))
-rights_of r own place h = grind arith
 
 -- hops at two places have two units
 pub units_apart : (hops : List Hop) (i j : ℕ) (a b : Hop) → AllPairs (λ (a b : Hop). a.unit ≢ b.unit) hops → slice_get hops i ≡ Some a → slice_get hops j ≡ Some b → (i ≡ j → ⊥) → a.unit ≡ b.unit → ⊥

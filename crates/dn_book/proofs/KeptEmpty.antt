@@ -16,11 +16,13 @@ use Rattle.dn_kind.proofs.Held.{held_records_fit, kind_lawful}
 use Rattle.dn_tables.specs.declared.table.NodeTable.{NodeTable}
 use Rattle.dn_tables.specs.Set.{fits_by, fits_kinds, is_wide, unit_in, width_in, width_of_table, words_in, words_of}
 use Rattle.dn_tables.proofs.Kept.{table_of_unit, unit_of_slot}
+use Rattle.dn_tables.proofs.Units.{unit_by_units}
 use Rattle.dn_book.specs.declared.grant.Grant.{Grant}
 use Rattle.dn_book.specs.Book.{owns_slot, records_of, uses_slot}
 use Rattle.dn_book.specs.Tables.{IsKept, packed_node, packed_nodes, packed_slot, packed_slots, packed_unit}
 use Rattle.dn_book.specs.Kept.{KeptRecordsAreProper, KeptSlotsAreTheBooks}
-use Rattle.dn_book.proofs.KeptSlots.{AreEmptyZero, kept_slots, unit_of_fit, unowned_has_both, unused_holds_none}
+use Rattle.dn_book.proofs.KeptSlots.{AreEmptyZero, kept_slots, unowned_has_both}
+use Rattle.dn_book.proofs.Given.{unused_none}
 
 -- the words of a slot among those of all slots from a number on
 slot_of : (kind : Meaning) (u : UnitPart) (records : ℕ → Option Record) →
@@ -101,7 +103,7 @@ module _ (net : List NodeDecl) (kinds : List Meaning) (book : List Grant) (set :
     held node slot r e =
         held_records_fit net kinds (words_of set) lawful node slot r
         (ap (λ o. record_of_unit kinds o (slice_get (words_of set) node) slot)
-        (sym (unit_of_fit set net node kept.fits.units))
+        (sym (unit_by_units net set kept.fits.units node))
         ∙ kept.held node slot ∙ e)
 
     -- the words of a slot are as many as its kind says
@@ -129,7 +131,7 @@ module _ (net : List NodeDecl) (kinds : List Meaning) (book : List Grant) (set :
     pub empty_zero : AreEmptyZero net book set
     empty_zero node slot there none =
         let u = unit_of_slot (unit_in set node) slot there in
-        let at : unit_at net node ≡ Some u.0 = sym (unit_of_fit set net node kept.fits.units) ∙ u.1 in
+        let at : unit_at net node ≡ Some u.0 = sym (unit_by_units net set kept.fits.units node) ∙ u.1 in
         let k = kind_in kinds set node u.0 kept.fits.wide u.1 in
         let words : words_in set node ≡ packed_slots k.kind u.0 (records_of net book node) 0 u.0.slots =
         words_in_at set node ∙ ap (λ ws. words_at (slice_get ws node)) kept.words
@@ -155,8 +157,8 @@ kept_slots_are_the_books net kinds book set lawful shaped is kept =
 pub kept_records_are_proper : KeptRecordsAreProper
 kept_records_are_proper net kinds book set lawful kept = (
   (λ node slot r e. held_records_fit net kinds (words_of set) lawful node slot r
-      (ap (λ o. record_of_unit kinds o (slice_get (words_of set) node) slot) (sym (unit_of_fit set net node kept.fits.units))
+      (ap (λ o. record_of_unit kinds o (slice_get (words_of set) node) slot) (sym (unit_by_units net set kept.fits.units node))
       ∙ kept.held node slot ∙ e)),
-  (λ node slot free. unused_holds_none net book node slot (not-true (list_any (uses_slot net node slot) book) free)),
+  (λ node slot free. unused_none net book node slot (not-true (list_any (uses_slot net node slot) book) free)),
   (λ node slot r e free. unowned_has_both net book node slot r e (not-true (list_any (owns_slot net node slot) book) free)),
 )

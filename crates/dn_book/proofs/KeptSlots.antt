@@ -1,15 +1,14 @@
 -- A set of tables that keeps a book has the slots as the book leaves them: free where no grant uses
 -- them, and owned where a grant owns them.
-use Rattle.std.proofs.Common.{◌≡◌, ◌∙◌, sym, ap, refl, subst, ℕ, zero, suc, ◌+◌, ◌-◌, ◌*◌, ◌^◌, ◌<◌, ◌≤◌, inl, inr, Bool, true, false, if◌then◌else◌, ◌&&◌, ◌==◌, not, nat_eq, nat_le, is_some, List, [], ◌∷◌, map, length, filter, take, drop, get_or, replicate, slice_get, Option, Some, None, IsTrue, true≢false, arith, leb-true, eqb-true}
+use Rattle.std.proofs.Common.{◌≡◌, ◌∙◌, sym, ap, refl, subst, ℕ, zero, suc, ◌+◌, ◌-◌, ◌*◌, ◌^◌, ◌<◌, ◌≤◌, inl, inr, Bool, true, false, if◌then◌else◌, ◌&&◌, ◌==◌, not, nat_eq, nat_le, is_some, List, [], ◌∷◌, length, take, drop, get_or, slice_get, Option, Some, None, IsTrue, true≢false, arith, leb-true, eqb-true}
 use Rattle.std.specs.List.{list_all, list_any}
-use Rattle.std.proofs.lemmas.Bool.{and_parts, or_parts, lt-ltb, ltb-false, ne_eqb}
+use Rattle.std.proofs.lemmas.Bool.{and_parts, or_parts, lt-ltb, ltb-false}
 use Rattle.std.proofs.lemmas.List.{drop_all, get_or_past}
-use Rattle.std.proofs.lemmas.Map.Keys.{any_passes_from_place}
 use Rattle.std.proofs.lemmas.Nat.{pow_pos}
 use Rattle.std.proofs.Math.Nat.{div-lt_iff_lt-mul, mul-le-mul_right}
 use Rattle.dn_base.specs.Members.{Member}
 use Rattle.dn_base.proofs.Members.{any_member}
-use Rattle.dn_base.proofs.Lists.{list_all-at}
+use Rattle.dn_base.proofs.Lists.{list_all-at, filter-none}
 use Rattle.dn_net.specs.declared.node.NodeDecl.{NodeDecl}
 use Rattle.dn_net.specs.declared.node.Unit.{Unit as UnitPart}
 use Rattle.dn_net.specs.Decode.{unit_at}
@@ -21,8 +20,10 @@ use Rattle.dn_kind.specs.Tables.{slot_words}
 use Rattle.dn_tables.specs.declared.placement.Hop.{Hop}
 use Rattle.dn_tables.specs.declared.table.NodeTable.{NodeTable}
 use Rattle.dn_tables.specs.declared.table.SlotUse.{SlotUse}
-use Rattle.dn_tables.specs.Set.{IsEmpty, IsSet, has_slot, has_slot_by, is_sized, is_sized_by, unit_in, unit_of_table, units_of, unused, use_in, uses_of_table, width_in, width_of_table, words_of_table}
+use Rattle.dn_tables.specs.Set.{IsEmpty, IsSet, has_slot, has_slot_by, is_sized, is_sized_by, unit_of_table, unused, use_in, uses_of_table, width_in, width_of_table, words_of_table}
 use Rattle.dn_tables.proofs.Kept.{sized_unit}
+use Rattle.dn_tables.proofs.Units.{unit_by_units}
+use Rattle.dn_tables.proofs.Fresh.{zeros_zero}
 use Rattle.dn_placement.specs.declared.request.Request.{Request}
 use Rattle.dn_placement.specs.Placement.{Joins, Leads}
 use Rattle.dn_placement.specs.Records.{first_slot, hop_record, hop_record_by, hop_rights, hops_records, is_taken_by, last_slot, or_record, slot_record}
@@ -30,16 +31,7 @@ use Rattle.dn_placement.specs.Slots.{Slots, has_owner_in, is_free_in, is_zero_sl
 use Rattle.dn_book.specs.declared.grant.Grant.{Grant}
 use Rattle.dn_book.specs.Book.{IsGrant, grant_records, is_taken, is_taken_by_own, owner_of, owns_slot, records_of, slots_of, uses_slot}
 use Rattle.dn_book.specs.Tables.{IsKept, use_of}
-
--- the unit of a node, of a set that keeps the units of the net
-pub unit_of_fit : (set : List NodeTable) (net : List NodeDecl) (node : ℕ) →
-    units_of set ≡ map (λ n. n.unit) net → unit_in set node ≡ unit_at net node
-unit_of_fit [] [] node e = refl
-unit_of_fit [] (n ∷ net) node e = cc
-unit_of_fit (t ∷ set) [] node e = cc
-unit_of_fit (t ∷ set) (n ∷ net) zero e = cc
-unit_of_fit (t ∷ set) (n ∷ net) (suc node) e =
-    let rest : units_of set ≡ map (λ n. n.unit) net = cc in unit_of_fit set net node rest
+use Rattle.dn_book.proofs.Given.{owned_used, unused_none}
 
 -- a hop takes slots of its unit alone
 module _ (net : List NodeDecl) (size node slot : ℕ) where
@@ -83,17 +75,6 @@ uses_there net node slot g is t =
     let here : unit_at net node ≡ Some joins.unit = ap (unit_at net) there.0 ∙ joins.is_unit in
     ap (λ o. has_slot_by o slot) here ∙ lt-ltb _ _ there.1
 
--- a grant uses the slots that it owns
-owns_uses : (net : List NodeDecl) (node slot : ℕ) (g : Grant) →
-    owns_slot net node slot g ≡ true → uses_slot net node slot g ≡ true
-owns_uses net node slot g t = go (slice_get g.placement.hops g.placement.own) refl t
-  where
-    go : (o : Option Hop) → slice_get g.placement.hops g.placement.own ≡ o →
-        is_taken_by_own net g.request.size node slot o ≡ true → uses_slot net node slot g ≡ true
-    go None e t = cc
-    go (Some hop) e t =
-        any_passes_from_place (is_taken net g.request.size node slot) g.placement.hops g.placement.own hop e t
-
 -- no grant passes a test that only those that use a slot pass, where the slot is not there
 none_passes : (net : List NodeDecl) (book : List Grant) (node slot : ℕ) (test : Grant → Bool) →
     ((g : Grant) → test g ≡ true → uses_slot net node slot g ≡ true) →
@@ -118,17 +99,6 @@ owner_there net (g ∷ gs) node slot = go (owns_slot net node slot g) refl (owne
         is_some (owner_of net gs node slot) ≡ list_any (owns_slot net node slot) gs →
         is_some (owner_of net (g ∷ gs) node slot) ≡ list_any (owns_slot net node slot) (g ∷ gs)
     go true e h = rw e refl
-    go false e h = rw e h
-
--- no grant is counted exactly where none uses the slot
-count_none : {X : Type 0} (p : X → Bool) (xs : List X) →
-    (length (filter p xs) == 0) ≡ not (list_any p xs)
-count_none p [] = refl
-count_none p (x ∷ xs) = go (p x) refl (count_none p xs)
-  where
-    go : (b : Bool) → p x ≡ b → (length (filter p xs) == 0) ≡ not (list_any p xs) →
-        (length (filter p (x ∷ xs)) == 0) ≡ not (list_any p (x ∷ xs))
-    go true e h = rw e (ne_eqb _ _ (λ z. omega arith))
     go false e h = rw e h
 
 -- a slot that is not there: nobody uses it, and it has no words
@@ -177,11 +147,6 @@ past_slot set node slot is past = go (slice_get set node) refl past
       zero = ap (λ o. list_all (λ v. v == 0) (slot_words (width_of_table o) (words_of_table o) slot)) at;
     }
     go (Some t) at p = by t t.unit refl (list_all-at is_sized set node t is.sized at) p at
-
--- words 0 are 0
-zero_words : (n : ℕ) → list_all (λ v. v == 0) (replicate n 0) ≡ true
-zero_words zero = refl
-zero_words (suc n) = zero_words n
 
 -- a hop that does not take a slot puts no record there
 hop_none : (net : List NodeDecl) (size node slot : ℕ) (rights : Rights) (hop : Hop) →
@@ -265,25 +230,6 @@ unowned_has_both net (g ∷ gs) node slot r e none =
         let same : t ≡ r = cc in
         hops_both net g.request.size node slot g.request.rights g.placement.own 0 g.placement.hops own r (is ∙ ap Some same)
 
--- no grant uses the slot: it holds no record
-pub unused_holds_none : (net : List NodeDecl) (book : List Grant) (node slot : ℕ) →
-    list_any (uses_slot net node slot) book ≡ false → records_of net book node slot ≡ None
-unused_holds_none net [] node slot none = refl
-unused_holds_none net (g ∷ gs) node slot none =
-    let parts = or_parts (uses_slot net node slot g) (list_any (uses_slot net node slot) gs) none in
-    ap (λ r. or_record r (records_of net gs node slot)) (hops_none 0 g.placement.hops parts.0)
-    ∙ unused_holds_none net gs node slot parts.1
-  where
-    hops_none : (place : ℕ) (hops : List Hop) →
-        list_any (is_taken net g.request.size node slot) hops ≡ false →
-        hops_records net g.request.size g.request.rights g.placement.own place hops node slot ≡ None
-    hops_none place [] t = refl
-    hops_none place (hop ∷ hops) t =
-        let parts = or_parts (is_taken net g.request.size node slot hop) (list_any (is_taken net g.request.size node slot) hops) t in
-        ap (λ r. or_record r (hops_records net g.request.size g.request.rights g.placement.own (suc place) hops node slot))
-        (hop_none net g.request.size node slot (hop_rights g.request.rights g.placement.own place) hop parts.0)
-        ∙ hops_none (suc place) hops parts.1
-
 -- what a set of tables that keeps a book says of its empty slots
 abbrev pub AreEmptyZero : List NodeDecl → List Grant → List NodeTable → Type 0
 AreEmptyZero net book set = (node slot : ℕ) → IsTrue (has_slot set node slot) →
@@ -293,7 +239,7 @@ module _ (net : List NodeDecl) (kinds : List Meaning) (book : List Grant) (set :
     (is : IsSet set) (kept : IsKept net kinds book set) (empty : AreEmptyZero net book set) where
   absent : (node slot : ℕ) → has_slot set node slot ≡ false →
       has_slot_by (unit_at net node) slot ≡ false
-  absent node slot e = sym (ap (λ o. has_slot_by o slot) (unit_of_fit set net node kept.fits.units)) ∙ e
+  absent node slot e = sym (ap (λ o. has_slot_by o slot) (unit_by_units net set kept.fits.units node)) ∙ e
 
   same_free : (node slot : ℕ) →
       is_free_in set node slot ≡ not (list_any (uses_slot net node slot) book)
@@ -315,12 +261,12 @@ module _ (net : List NodeDecl) (kinds : List Meaning) (book : List Grant) (set :
               is_free_in set node slot ≡ not b
           by true any =
               ap (λ (u : SlotUse). (u.uses == 0) && is_zero_slot set node slot) counted
-              ∙ ap (λ c. c && is_zero_slot set node slot) (count_none (uses_slot net node slot) book ∙ ap not any)
+              ∙ ap (λ c. c && is_zero_slot set node slot) (filter-none (uses_slot net node slot) book ∙ ap not any)
           by false any =
-              let zeros = empty node slot e (unused_holds_none net book node slot any) in
+              let zeros = empty node slot e (unused_none net book node slot any) in
               ap (λ (u : SlotUse). (u.uses == 0) && is_zero_slot set node slot) counted
-              ∙ ap (λ c. c && is_zero_slot set node slot) (count_none (uses_slot net node slot) book ∙ ap not any)
-              ∙ ap (list_all (λ v. v == 0)) zeros ∙ zero_words (width_in set node)
+              ∙ ap (λ c. c && is_zero_slot set node slot) (filter-none (uses_slot net node slot) book ∙ ap not any)
+              ∙ ap (list_all (λ v. v == 0)) zeros ∙ zeros_zero (width_in set node)
 
   same_owned : (node slot : ℕ) →
       has_owner_in set node slot ≡ list_any (owns_slot net node slot) book
@@ -330,7 +276,7 @@ module _ (net : List NodeDecl) (kinds : List Meaning) (book : List Grant) (set :
           has_owner_in set node slot ≡ list_any (owns_slot net node slot) book
       go false e =
           ap (λ u. is_some u.owner) (past_slot set node slot is e).lone
-          ∙ sym (none_passes net book node slot (owns_slot net node slot) (owns_uses net node slot) kept.sound.grants (absent node slot e))
+          ∙ sym (none_passes net book node slot (owns_slot net node slot) (λ g t. owned_used net g node slot t) kept.sound.grants (absent node slot e))
       go true e =
           ap (λ (u : SlotUse). is_some u.owner) (kept.uses node slot e) ∙ owner_there net book node slot
 

@@ -19,4 +19,3 @@ pub mod Revoke
 pub mod Serials
 pub mod Sound
 pub mod Through
-pub mod Units

@@ -4,8 +4,9 @@ use Rattle.std.specs.List.{AllPairs, list_any}
 use Rattle.std.proofs.lemmas.List.Elements.{filter-append}
 use Rattle.std.proofs.lemmas.List.{reverse-append}
 use Rattle.std.proofs.lemmas.Option.{get_or_from_slice_get, same_Some, slice_get_within}
-use Rattle.dn_base.proofs.Orders.{ne_eqb}
-use Rattle.dn_base.proofs.Members.{any_member, member_any, member_left, member_right}
+use Rattle.dn_base.proofs.Orders.{ne_eqb, cases_eq}
+use Rattle.dn_base.proofs.Members.{any_member, member_any, member_left, member_right, member_at}
+use Rattle.dn_base.proofs.Lists.{filter-none}
 use Rattle.dn_net.specs.declared.node.NodeDecl.{NodeDecl}
 use Rattle.dn_net.specs.declared.node.Unit.{Unit as UnitPart}
 use Rattle.dn_net.specs.Chain.{Member}
@@ -16,6 +17,7 @@ use Rattle.dn_kind.specs.Rights.{are_rights, both_rights}
 use Rattle.dn_kind.specs.Tables.{AreHeld, Held, IsHeld}
 use Rattle.dn_tables.specs.declared.placement.Hop.{Hop}
 use Rattle.dn_placement.specs.Records.{first_slot, hop_record, hop_rights, last_slot, slot_record}
+use Rattle.dn_placement.proofs.Hops.{rights_of}
 use Rattle.dn_book.specs.declared.grant.Grant.{Grant}
 use Rattle.dn_book.specs.Book.{IsGiven, IsSound, is_taken, owner_of, owns_slot, records_of, slots_of, uses_of, uses_slot, without}
 use Rattle.dn_book.specs.Laws.{IsGrantFor}
@@ -23,10 +25,9 @@ use Rattle.dn_book.specs.Sets.{AreFit, changed_by, is_at, hop_owner, one_less, o
 use Rattle.dn_book.specs.Tables.{use_of}
 use Rattle.dn_book.specs.Writes.{Put, clears_of, empty_slots, grant_slots, hop_slots, hop_slots_by, is_empty, joined_slots, puts_of}
 use Rattle.dn_book.proofs.Changes.{is_at_parts, is_at_self}
-use Rattle.dn_book.proofs.Frames.{same_or}
-use Rattle.dn_book.proofs.Given.{GrantGives, between_gives, by_owns, by_uses, given_by, held_in, held_none, hop_gives, in_held, member_of, none_unused, owned_used, owns_by, place_of, taken_gives, unused_none}
+use Rattle.dn_book.proofs.Given.{GrantGives, between_gives, by_owns, by_uses, given_by, held_in, held_none, hop_gives, in_held, none_unused, owned_used, owns_by, place_of, taken_gives, unused_none}
 use Rattle.dn_book.proofs.Hops.{first_before, last_there}
-use Rattle.dn_book.proofs.InOrder.{hop_at, hop_member, in_all, joined_member, rights_of, turn_front, units_apart, from_behind}
+use Rattle.dn_book.proofs.InOrder.{hop_at, hop_member, in_all, joined_member, turn_front, units_apart, from_behind}
 use Rattle.dn_book.proofs.Packed.{after_other, after_there, cleared_other, cleared_there, held_after, held_cleared}
 use Rattle.dn_book.proofs.Ranges.{in_hop, of_hop, record_within, slot_count}
 use Rattle.dn_book.proofs.Sound.{comes, given_gives, granted_sound, in_without, last_cases, placed_fit, revoked_sound, without_in}
@@ -135,7 +136,7 @@ member_behind {X} (y ∷ xs) x m = subst (Member x) (sym (reverse-append (y ∷ 
 pub gives_put_behind : (net : List NodeDecl) (g : Grant) (n q : ℕ) (t : Record) → GrantGives net g n q t → Member (record { unit = n; slot = q; holds = t }) (joined_slots (reverse (grant_slots net g)))
 gives_put_behind net g n q t h =
     let at = turn_front net g h.place h.hop h.is_hop in
-    let m = member_behind (grant_slots net g) _ (member_of (grant_slots net g) h.place _ at) in
+    let m = member_behind (grant_slots net g) _ (member_at (grant_slots net g) h.place _ at) in
     let p = place_of (reverse (grant_slots net g)) _ m in
     joined_member (reverse (grant_slots net g)) p.0 _ (put_at n q t) p.1 (gives_put_at net g n q t h)
 
@@ -170,14 +171,6 @@ none_owned net n q (k ∷ ks) e = by (owns_slot net n q k) (none_owned net n q k
     by true later e = cc
     by false later e = later e
 
-filter_none : {X : Type 0} (p : X → Bool) (xs : List X) → (length (filter p xs) == 0) ≡ not (list_any p xs)
-filter_none p [] = refl
-filter_none {X} p (x ∷ xs) = by (p x) (filter_none p xs)
-  where
-    by : (b : Bool) → (length (filter p xs) == 0) ≡ not (list_any p xs) → (length (if b then x ∷ filter p xs else filter p xs) == 0) ≡ not (b || list_any p xs)
-    by true e = ne_eqb (suc (length (filter p xs))) 0 (λ f. absurd (omega (arith, f)))
-    by false e = e
-
 filter_fewer : {X : Type 0} (p : X → Bool) (xs : List X) → length (filter p xs) ≤ length xs
 filter_fewer p [] = omega arith
 filter_fewer {X} p (x ∷ xs) = by (p x) (filter_fewer p xs)
@@ -191,7 +184,7 @@ one_less_zero k = grind arith
 
 -- a slot that no grant uses is one that holds no record
 pub used_zero : (net : List NodeDecl) (book : List Grant) (n q : ℕ) → (uses_of net book n q == 0) ≡ is_empty (records_of net book n q)
-used_zero net book n q = filter_none (uses_slot net n q) book ∙ by (records_of net book n q) refl (list_any (uses_slot net n q) book) refl
+used_zero net book n q = filter-none (uses_slot net n q) book ∙ by (records_of net book n q) refl (list_any (uses_slot net n q) book) refl
   where
     by : (o : Option Record) → records_of net book n q ≡ o → (b : Bool) → list_any (uses_slot net n q) book ≡ b → not b ≡ is_empty o
     by None e true f = let c : true ≡ false = sym f ∙ none_unused net book n q e in cc
@@ -408,7 +401,7 @@ module _ (net : List NodeDecl) (legal : IsLegalNet net) (book : List Grant) (g :
           order (inr (inr s)) = ne s
 
       by : (i : ℕ) × (slice_get book i ≡ Some k) → (j : ℕ) × (slice_get book j ≡ Some g) → k ≡ g
-      by p r = pairs p.0 r.0 p.1 r.1 (same_or p.0 r.0)
+      by p r = pairs p.0 r.0 p.1 r.1 (cases_eq p.0 r.0)
 
   more : (n q : ℕ) (r : Record) → records_of net (without g.id book) n q ≡ Some r → records_of net book n q ≡ Some r
   more n q r e =
@@ -439,7 +432,7 @@ module _ (net : List NodeDecl) (legal : IsLegalNet net) (book : List Grant) (g :
       same None None eo ep none = refl
       same (Some r) None eo ep none =
           let h = held_in net book n q r eo in
-          elim (same_or h.grant.id g.id) [
+          elim (cases_eq h.grant.id g.id) [
             | inl e ↦ (let k : GrantGives net g n q r = subst (λ w. GrantGives net w n q r) (one_grant h.grant h.is_grant e) (given_gives net book n q r h) in absurd (none (put_at n q r) (in_empty (records_of net (without g.id book)) (joined_slots (grant_slots net g)) (put_at n q r) (gives_put net g n q r k) ep) refl refl))
             | inr ne ↦ absurd (held_none net (without g.id book) n q r ep (given_by net (without g.id book) h.grant n q r (in_without g.id book h.grant h.is_grant ne) (given_gives net book n q r h)))
           ]

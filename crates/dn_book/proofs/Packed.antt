@@ -12,10 +12,11 @@ use Rattle.dn_net.specs.declared.node.Unit.{Unit as UnitPart}
 use Rattle.dn_net.specs.Chain.{Member}
 use Rattle.dn_net.specs.Decode.{unit_at}
 use Rattle.dn_kind.specs.declared.unit_kind.Record.{Record}
-use Rattle.dn_kind.specs.Kind.{Meaning, IsLawful, IsPackable, gate_word, is_plain, is_within}
+use Rattle.dn_kind.specs.Kind.{Meaning, IsLawful, IsPackable, is_plain, is_within}
 use Rattle.dn_kind.specs.Tables.{AreHeld, Held, IsHeld, record_held, record_of_unit, record_spelled, record_within, slot_words}
 use Rattle.dn_kind.specs.Units.{KeepsUnitShape, fits_shape, unit_shape}
 use Rattle.dn_kind.proofs.Held.{kind_lawful, held_past}
+use Rattle.dn_kind.proofs.Allowed.{gate_of_zeros}
 use Rattle.dn_tables.specs.declared.table.NodeTable.{NodeTable}
 use Rattle.dn_tables.specs.Set.{FitsNet, IsEmpty, fits_by, is_wide, packed_by, packed_for, packed_in, put_over, record_kept, width_in, width_of_table, with_slot, with_table, with_words, words_of, words_of_table}
 use Rattle.dn_tables.proofs.Kept.{table_of_unit}
@@ -26,7 +27,7 @@ use Rattle.dn_book.specs.Writes.{Put}
 use Rattle.dn_book.proofs.Changes.{is_at_parts, is_at_self}
 use Rattle.dn_book.proofs.Facts.{fits_net_kept}
 use Rattle.dn_book.proofs.Frames.{fit_with_slot}
-use Rattle.dn_book.proofs.Units.{unit_fits}
+use Rattle.dn_tables.proofs.Units.{unit_fits}
 
 -- THE SLOTS OF ONE UNIT
 
@@ -210,15 +211,9 @@ all_packable net kinds h held node u k e q r at = packable_held net kinds node q
 unit_words : (net : List NodeDecl) (kinds : List Meaning) (h : Held) (u : UnitPart) (k : IsKind net kinds u) (records : ℕ → Option Record) → packed_node kinds (Some u) records ≡ packed_slots k.kind u records 0 u.slots
 unit_words net kinds h u k records = ap (λ o. packed_unit o u records) k.at
 
--- the last of words that are 0 is 0
-gate_zeros : (n : ℕ) → gate_word (replicate n 0) ≡ 0
-gate_zeros zero = refl
-gate_zeros (suc zero) = refl
-gate_zeros (suc (suc n)) = gate_zeros (suc n)
-
 -- the record of the words of a slot
 spelled_slot : (kind : Meaning) → IsLawful kind → (u : UnitPart) (o : Option Record) → ((r : Record) → o ≡ Some r → IsPackable kind (unit_shape u) r) → record_within u (kind.unpack (packed_slot kind u o)) ≡ o
-spelled_slot kind law u None p = ap (record_within u) (law.shut (replicate kind.words 0) (length-replicate kind.words 0) (ap (λ n. n % 2) (gate_zeros kind.words)))
+spelled_slot kind law u None p = ap (record_within u) (law.shut (replicate kind.words 0) (length-replicate kind.words 0) (ap (λ n. n % 2) (gate_of_zeros kind.words)))
 spelled_slot kind law u (Some r) p =
     let may : IsPackable kind (unit_shape u) r = p r refl in
     ap (record_within u) (law.reads_back (unit_shape u) r may) ∙ ap (λ b. if b then Some r else None) may.within

@@ -29,7 +29,7 @@ use Rattle.dn_book.proofs.Given.{GrantGives, by_uses, gives_taken}
 use Rattle.dn_book.proofs.Live.{book_held, by_place, clears_there, gives_held, hop_put_gives, picked_empty, put_gives, records_revoked, some_use, used_once, uses_revoked}
 use Rattle.dn_book.proofs.Packed.{AreKinds, Holds, IsKind, clears_hold, held_cleared, kind_of, set_holds}
 use Rattle.dn_book.proofs.Sound.{placed_fit, revoked_sound}
-use Rattle.dn_book.proofs.Units.{unit_fits}
+use Rattle.dn_tables.proofs.Units.{unit_fits}
 
 -- what is made alike of each item of a list
 same_flat_in : {X Y : Type 0} (f g : X → List Y) (xs : List X) → ((x : X) → Member x xs → f x ≡ g x) → flat_map f xs ≡ flat_map g xs

@@ -5,7 +5,9 @@ use Rattle.std.proofs.lemmas.List.Kept.{AllPairs-filter}
 use Rattle.std.proofs.lemmas.List.Quantifiers.{all_pairs_push}
 use Rattle.std.proofs.lemmas.Option.{same_Some, slice_get_within, slice_get-get_or}
 use Rattle.dn_base.proofs.Lists.{length-last}
-use Rattle.dn_base.proofs.Members.{member_any, member_cases}
+use Rattle.dn_base.proofs.Members.{member_cases, member_at, member_none}
+use Rattle.dn_base.proofs.Booleans.{cases_Bool, not-true}
+use Rattle.dn_base.proofs.Orders.{cases_eq}
 use Rattle.dn_net.specs.declared.node.NodeDecl.{NodeDecl}
 use Rattle.dn_net.specs.declared.node.Unit.{Unit as UnitPart}
 use Rattle.dn_net.specs.Chain.{Member}
@@ -27,8 +29,7 @@ use Rattle.dn_book.specs.declared.grant.Grant.{Grant}
 use Rattle.dn_book.specs.Book.{AreOwnAlone, IsGiven, IsGrant, IsSound, has_id, open_slots, owns_slot, records_of, slots_of, uses_slot, without}
 use Rattle.dn_book.specs.Laws.{IsGrantFor}
 use Rattle.dn_book.specs.Sets.{AreFit, FitsUnit}
-use Rattle.dn_book.proofs.Given.{GrantGives, HopGives, Uses, by_owns, given_by, gives_taken, hop_gives, in_held, member_of, owned_used, owns_by, place_of, taken_gives, uses_by, uses_given}
-use Rattle.dn_book.proofs.Frames.{same_or}
+use Rattle.dn_book.proofs.Given.{GrantGives, HopGives, Uses, by_owns, given_by, gives_taken, hop_gives, in_held, owned_used, owns_by, place_of, taken_gives, uses_by, uses_given}
 use Rattle.dn_book.proofs.InOrder.{units_apart}
 
 -- WHAT A PLACEMENT SAYS OF ITS HOPS
@@ -73,7 +74,7 @@ next_leads net slots rq a b hops some l =
       addr = a.y + 0;
       stop = record { node = b.unit; addr = b.x + 0 };
       is_part = l.is_unit;
-      has_port = member_of l.unit.ports a.port l.node l.is_port;
+      has_port = member_at l.unit.ports a.port l.node l.is_port;
       below = below;
       reaches = (m.1.0, m.1.2);
       is_stop = m.0;
@@ -192,20 +193,6 @@ pub record Comes (net : List NodeDecl) (book : List Grant) (g : Grant) : Type 0 
   pub free : (n q : ℕ) (k : Grant) → Member k book → owns_slot net n q g ≡ true → uses_slot net n q k ≡ false
   pub unowned : (n q : ℕ) (k : Grant) → Member k book → owns_slot net n q k ≡ true → uses_slot net n q g ≡ false
 
-bool_cases : (b : Bool) → (b ≡ true) ⊎ (b ≡ false)
-bool_cases true = inl refl
-bool_cases false = inr refl
-
-not_true : (b : Bool) → IsTrue (not b) → b ≡ false
-not_true false e = refl
-not_true true e = cc
-
-pub none_of : {X : Type 0} (p : X → Bool) (xs : List X) (x : X) → list_any p xs ≡ false → Member x xs → p x ≡ false
-none_of p xs x e m = elim (bool_cases (p x)) [
-  | inl h ↦ (let c : true ≡ false = sym (member_any p xs x m h) ∙ e in cc)
-  | inr h ↦ h
-]
-
 module _ (net : List NodeDecl) (legal : IsLegalNet net) (book : List Grant) (sound : IsSound net book) (g : Grant) (placed : IsPlacement net (slots_of net book) g.request g.placement) where
   -- the own hop's slots are used by none
   own_free : (n q : ℕ) (k : Grant) → Member k book → owns_slot net n q g ≡ true → uses_slot net n q k ≡ false
@@ -215,7 +202,7 @@ module _ (net : List NodeDecl) (legal : IsLegalNet net) (book : List Grant) (sou
       let h = taken_gives net g.request.size both_rights o.hop n q o.taken in
       let f : IsFreeHop net (slots_of net book) g.request o.hop = subst (IsFreeHop net (slots_of net book) g.request) same placed.free in
       let t : IsTrue (not (list_any (uses_slot net o.hop.unit q) book)) = f h.unit h.is_unit q h.low h.high in
-      none_of (uses_slot net n q) book k (subst (λ m. list_any (uses_slot net m q) book ≡ false) (sym h.node) (not_true (list_any (uses_slot net o.hop.unit q) book) t)) m
+      member_none (uses_slot net n q) book k (subst (λ m. list_any (uses_slot net m q) book ≡ false) (sym h.node) (not-true (list_any (uses_slot net o.hop.unit q) book) t)) m
 
   -- each slot of a hop is free, or holds the record that it gets with both rights and is owned by none
   usable_at : (n q : ℕ) (h : Uses net g n q) → (u : UnitPart) × (unit_at net h.hop.unit ≡ Some u) × (n ≡ h.hop.unit) × IsUsable (slots_of net book) u h.hop q
@@ -226,19 +213,19 @@ module _ (net : List NodeDecl) (legal : IsLegalNet net) (book : List Grant) (sou
       (k.unit, k.is_unit, t.node, k.usable q (subst (λ (w : UnitPart). first_slot w h.hop ≤ q) same t.low) (subst (λ (w : UnitPart). q ≤ last_slot w g.request.size h.hop) same t.high))
 
   no_owner : (n q : ℕ) (k : Grant) → Member k book → owns_slot net n q k ≡ true → uses_slot net n q g ≡ false
-  no_owner n q k m e = elim (bool_cases (uses_slot net n q g)) [ inr h ↦ h | inl h ↦ absurd (go (uses_by net g n q h) (usable_at n q (uses_by net g n q h))) ]
+  no_owner n q k m e = elim (cases_Bool (uses_slot net n q g)) [ inr h ↦ h | inl h ↦ absurd (go (uses_by net g n q h) (usable_at n q (uses_by net g n q h))) ]
     where
       go : (h : Uses net g n q) → (u : UnitPart) × (unit_at net h.hop.unit ≡ Some u) × (n ≡ h.hop.unit) × IsUsable (slots_of net book) u h.hop q → ⊥
       go h w = by w.3
         where
           by : IsUsable (slots_of net book) w.0 h.hop q → ⊥
           by (is_free f) =
-              let none : list_any (uses_slot net n q) book ≡ false = subst (λ m. list_any (uses_slot net m q) book ≡ false) (sym w.2) (not_true (list_any (uses_slot net h.hop.unit q) book) f) in
-              let c : true ≡ false = sym (owned_used net k n q e) ∙ none_of (uses_slot net n q) book k none m in
+              let none : list_any (uses_slot net n q) book ≡ false = subst (λ m. list_any (uses_slot net m q) book ≡ false) (sym w.2) (not-true (list_any (uses_slot net h.hop.unit q) book) f) in
+              let c : true ≡ false = sym (owned_used net k n q e) ∙ member_none (uses_slot net n q) book k none m in
               cc
           by (is_shared s f) =
-              let none : list_any (owns_slot net n q) book ≡ false = subst (λ m. list_any (owns_slot net m q) book ≡ false) (sym w.2) (not_true (list_any (owns_slot net h.hop.unit q) book) f) in
-              let c : true ≡ false = sym e ∙ none_of (owns_slot net n q) book k none m in
+              let none : list_any (owns_slot net n q) book ≡ false = subst (λ m. list_any (owns_slot net m q) book ≡ false) (sym w.2) (not-true (list_any (owns_slot net h.hop.unit q) book) f) in
+              let c : true ≡ false = sym e ∙ member_none (owns_slot net n q) book k none m in
               cc
 
   shared : (n q : ℕ) (r s : Record) → GrantGives net g n q r → IsGiven net book n q s → r ≡ s
@@ -272,8 +259,8 @@ module _ (net : List NodeDecl) (legal : IsLegalNet net) (book : List Grant) (sou
 
       by : IsUsable (slots_of net book) unit a.hop q → r ≡ s
       by (is_free f) =
-          let none : list_any (uses_slot net n q) book ≡ false = subst (λ m. list_any (uses_slot net m q) book ≡ false) (sym node) (not_true (list_any (uses_slot net a.hop.unit q) book) f) in
-          let c : true ≡ false = sym used ∙ none_of (uses_slot net n q) book b.grant none b.is_grant in
+          let none : list_any (uses_slot net n q) book ≡ false = subst (λ m. list_any (uses_slot net m q) book ≡ false) (sym node) (not-true (list_any (uses_slot net a.hop.unit q) book) f) in
+          let c : true ≡ false = sym used ∙ member_none (uses_slot net n q) book b.grant none b.is_grant in
           cc
       by (is_shared h f) =
           let k = hop_gives net g.request.size (hop_rights g.request.rights g.placement.own a.place) a.hop n q r a.gives in
@@ -293,7 +280,7 @@ gives_one net g apart n q r s a b = elim (same a.place b.place) [
 ]
   where
     same : (i j : ℕ) → (i ≡ j) ⊎ (i ≡ j → ⊥)
-    same = same_or
+    same = cases_eq
 
     u : HopGives net g.request.size (hop_rights g.request.rights g.placement.own a.place) a.hop n q
     u = hop_gives net g.request.size (hop_rights g.request.rights g.placement.own a.place) a.hop n q r a.gives
@@ -318,7 +305,7 @@ last_cases book g k m = elim (member_cases book (g ∷ []) k m) [
 -- a new id differs from the others
 new_id : (id : ℕ) (book : List Grant) (k : Grant) → has_id id book ≡ false → Member k book → k.id ≢ id
 new_id id book k e m f =
-    let c : true ≡ false = sym (eq-eqb k.id id f) ∙ none_of (λ (h : Grant). h.id == id) book k e m in
+    let c : true ≡ false = sym (eq-eqb k.id id f) ∙ member_none (λ (h : Grant). h.id == id) book k e m in
     cc
 
 -- a sound book with one more grant is sound
@@ -332,7 +319,7 @@ granted_sound net legal book g sound f = record { few = few; ids = ids; grants =
     few = let n = length-last book g in let l = f.few in omega arith
 
     ids : AllPairs (λ (g k : Grant). g.id ≢ k.id) (book ++ g ∷ [])
-    ids = all_pairs_push (λ (a b : Grant). a.id ≢ b.id) book g sound.ids (λ i d l. new_id g.id book (get_or book i d) f.new (member_of book i (get_or book i d) (slice_get-get_or book i d l)))
+    ids = all_pairs_push (λ (a b : Grant). a.id ≢ b.id) book g sound.ids (λ i d l. new_id g.id book (get_or book i d) f.new (member_at book i (get_or book i d) (slice_get-get_or book i d l)))
 
     grants : (k : Grant) → Member k (book ++ g ∷ []) → IsGrant net k
     grants k m = elim (last_cases book g k m) [

@@ -1,21 +1,21 @@
 -- Chains under records, and where the records of a grant's hops lead.
-use Rattle.std.proofs.Common.{◌≡◌, ℕ, zero, suc, ◌+◌, ◌-◌, ◌*◌, ◌/◌, ◌%◌, ◌^◌, ◌<◌, ◌≤◌, inl, inr, Bool, true, false, if◌then◌else◌, nat_le, List, [], ◌∷◌, ◌++◌, slice_get, is_some, Option, Some, None, IsTrue, refl, sym, ap, ◌∙◌, subst, arith, append_assoc, zero-add, suc-add, pow_pos, add-mul, div-add-mod'}
-use Rattle.std.specs.List.{list_all}
+use Rattle.std.proofs.Common.{◌≡◌, ℕ, zero, suc, ◌+◌, ◌-◌, ◌*◌, ◌/◌, ◌%◌, ◌^◌, ◌<◌, ◌≤◌, inl, inr, Bool, true, false, if◌then◌else◌, nat_le, List, [], ◌∷◌, ◌++◌, slice_get, Option, Some, None, IsTrue, refl, sym, ap, ◌∙◌, subst, arith, append_assoc, zero-add, suc-add, pow_pos, add-mul, div-add-mod'}
 use Rattle.std.proofs.Math.Nat.{le-div_iff_mul-le}
 use Rattle.std.proofs.lemmas.Option.{same_Some}
 use Rattle.dn_net.specs.declared.node.Name.{Name}
 use Rattle.dn_net.specs.declared.node.NodeDecl.{NodeDecl}
 use Rattle.dn_net.specs.declared.node.Unit.{Unit as UnitPart}
 use Rattle.dn_net.specs.Chain.{IsChain, Member, Reaches}
-use Rattle.dn_net.specs.Decode.{Step, is_accepted, is_formed, is_stop, is_stop_at, sent_names, top, unit_at}
+use Rattle.dn_net.specs.Decode.{Step, is_accepted, is_stop, is_stop_at, top, unit_at}
 use Rattle.dn_net.specs.Legal.{IsLegalNet}
-use Rattle.dn_net.proofs.Steps.{node_at, unit_is_bare}
+use Rattle.dn_net.proofs.Chains.{chain_join, chain_more}
 use Rattle.dn_kind.specs.declared.rights.Access.{Access}
 use Rattle.dn_kind.specs.declared.unit_kind.Record.{Record}
 use Rattle.dn_kind.specs.Rights.{allows}
-use Rattle.dn_kind.specs.Tables.{AreHeld, Extends, Held, IsHeld, ResolvesUnder, StepUnder, allowing, output, record_allowing, steps_by_unit, to_port}
+use Rattle.dn_kind.specs.Tables.{AreHeld, Extends, Held, ResolvesUnder, StepUnder, allowing, output, record_allowing, steps_by_unit, to_port}
 use Rattle.dn_kind.specs.Ways.{PassesIn, Slot, slot_in}
 use Rattle.dn_kind.proofs.Bounds.{reach_under_is_within}
+use Rattle.dn_kind.proofs.Ways.{step_under, step_more}
 use Rattle.dn_tables.specs.declared.placement.Hop.{Hop}
 use Rattle.dn_placement.specs.declared.request.Request.{Request}
 use Rattle.dn_placement.specs.Placement.{Leads, Meets, name_on}
@@ -23,50 +23,12 @@ use Rattle.dn_placement.specs.Slots.{Slots}
 
 -- CHAINS
 
-pub chain_append : {X : Type 0} (S : X → X → Type 0) (j k : ℕ) (x y z : X) → IsChain S j x y → IsChain S k y z → IsChain S (j + k) x z
-chain_append S zero k x y z c d = rw zero-add (subst (λ w. IsChain S k w z) (sym c) d)
-chain_append S (suc j) k x y z c d = rw suc-add (c.0, c.1, chain_append S j k c.0 y z c.2 d)
-
-chain_more : {X : Type 0} (S Q : X → X → Type 0) → ((x y : X) → S x y → Q x y) → (k : ℕ) (x y : X) → IsChain S k x y → IsChain Q k x y
-chain_more S Q f zero x y c = c
-chain_more S Q f (suc k) x y c = (c.0, f x c.0 c.1, chain_more S Q f k c.0 y c.2)
-
--- a step of the net is one under records too: a unit has no step in the net
-step_under : (net : List NodeDecl) → IsTrue (list_all is_formed net) → (h : Held) (x y : Name) → Step net x y → StepUnder net h x y
-step_under net formed h x y s = by (unit_at net x.node) refl
-  where
-    by : (o : Option UnitPart) → unit_at net x.node ≡ o → Member y (steps_by_unit net h x o)
-    by None e = s
-    by (Some u) e =
-        let bare = unit_is_bare (slice_get net x.node) x.addr (λ n at. node_at is_formed net x.node formed n at) (ap is_some e) in
-        absurd (subst (λ o. Member y (sent_names o)) bare.1 s)
-
 pub chain_under : (net : List NodeDecl) → IsLegalNet net → (h : Held) (k : ℕ) (x y : Name) → IsChain (Step net) k x y → IsChain (StepUnder net h) k x y
 chain_under net legal h k x y c = chain_more (Step net) (StepUnder net h) (step_under net legal.is_net.formed h) k x y c
 
 -- what is reached and accepted is resolved
 pub resolves : (net : List NodeDecl) → IsLegalNet net → (h : Held) → AreHeld net h → (x y : Name) → IsTrue (is_accepted net y) → Reaches (StepUnder net h) x y → ResolvesUnder net h x y
 resolves net legal h held x y is r = (is, reach_under_is_within net h legal held x y r)
-
--- records that allow an access are records
-pub allowing_held : (net : List NodeDecl) (h : Held) (access : Access) → AreHeld net h → AreHeld net (allowing access h)
-allowing_held net h access held n q r e = by (h n q) refl e
-  where
-    by : (o : Option Record) → h n q ≡ o → record_allowing access o ≡ Some r → IsHeld net n q r
-    by None at e = cc
-    by (Some t) at e = by_rights (allows t.rights access) e
-      where
-        by_rights : (b : Bool) → (if b then Some t else None) ≡ Some r → IsHeld net n q r
-        by_rights true e = held n q r (at ∙ e)
-        by_rights false e = cc
-
--- more records, more that allow
-pub allowing_more : (h h' : Held) (access : Access) → Extends h h' → Extends (allowing access h) (allowing access h')
-allowing_more h h' access ex n q r e = by (h n q) refl e
-  where
-    by : (o : Option Record) → h n q ≡ o → record_allowing access o ≡ Some r → record_allowing access (h' n q) ≡ Some r
-    by None at e = cc
-    by (Some t) at e = ap (record_allowing access) (ex n q t at) ∙ e
 
 -- what is allowed stands there
 pub allowed_there : (h : Held) (access : Access) (n q : ℕ) (t : Record) → allowing access h n q ≡ Some t → h n q ≡ Some t
@@ -81,18 +43,6 @@ allowed_there h access n q t e = by (h n q) refl e
         by_rights false e = cc
 
 -- SLOTS THAT CHAINS PASS
-
-step_more : (net : List NodeDecl) (h h' : Held) → Extends h h' → (x y : Name) → StepUnder net h x y → StepUnder net h' x y
-step_more net h h' ex x y = by (unit_at net x.node)
-  where
-    by : (o : Option UnitPart) → Member y (steps_by_unit net h x o) → Member y (steps_by_unit net h' x o)
-    by None m = m
-    by (Some u) m = go (nat_le x.addr top) (h x.node (x.addr / 2 ^ u.page)) refl m
-      where
-        go : (b : Bool) (r : Option Record) → h x.node (x.addr / 2 ^ u.page) ≡ r → Member y (if b then output u r x.addr else []) → Member y (if b then output u (h' x.node (x.addr / 2 ^ u.page)) x.addr else [])
-        go false r is n = n
-        go true None is n = absurd n
-        go true (Some r) is n = subst (λ s. Member y (output u s x.addr)) (sym (ex x.node (x.addr / 2 ^ u.page) r is)) n
 
 pub passes_more : (net : List NodeDecl) (h h' : Held) → Extends h h' → (k : ℕ) (x y : Name) (row : List Slot) → PassesIn net h k x y row → PassesIn net h' k x y row
 passes_more net h h' ex zero x y row p = p
@@ -171,7 +121,7 @@ leads_on net legal h slots rq (hop ∷ hops) node addr i l m leads held =
     let before = chain_under net legal h s.1.0 (name_on node addr i) (name_on hop.unit hop.x i) s.1.2 in
     let step = hop_step net h hop j.unit j.node i j.is_unit j.is_port j.agree (held 0 hop j.unit refl j.is_unit) s.0 in
     let rest = leads_on net legal h slots rq hops j.node hop.y i l j.meets leads.1 (λ k g u e f. held (suc k) g u e f) in
-    (s.1.0 + suc rest.0, chain_append (StepUnder net h) s.1.0 (suc rest.0) (name_on node addr i) (name_on hop.unit hop.x i) (name_on rq.node rq.base i) before (name_on j.node hop.y i, step, rest.1))
+    (s.1.0 + suc rest.0, chain_join (StepUnder net h) s.1.0 (suc rest.0) (name_on node addr i) (name_on hop.unit hop.x i) (name_on rq.node rq.base i) before (name_on j.node hop.y i, step, rest.1))
 
 -- the end of a placement is accepted
 pub leads_accepted : (net : List NodeDecl) (slots : Slots) (rq : Request) (hops : List Hop) (node addr i : ℕ) → i < rq.size → Meets net rq node addr hops → Leads net slots rq hops → IsTrue (is_accepted net (name_on rq.node rq.base i))
@@ -203,7 +153,7 @@ way_over net legal h slots rq (hop ∷ hops) node addr i l m leads held (suc j) 
     let step = hop_step net h hop t.unit t.node i t.is_unit t.is_port t.agree (held 0 hop t.unit refl t.is_unit) s.0 in
     let r = way_over net legal h slots rq hops t.node hop.y i l t.meets leads.1 (λ k g u e f. held (suc k) g u e f) j own e in
     record {
-      before = (s.1.0 + suc r.before.0, chain_append (StepUnder net h) s.1.0 (suc r.before.0) (name_on node addr i) (name_on hop.unit hop.x i) (name_on own.unit own.x i) first (name_on t.node hop.y i, step, r.before.1));
+      before = (s.1.0 + suc r.before.0, chain_join (StepUnder net h) s.1.0 (suc r.before.0) (name_on node addr i) (name_on hop.unit hop.x i) (name_on own.unit own.x i) first (name_on t.node hop.y i, step, r.before.1));
       after = r.after;
       chain = r.chain;
     }

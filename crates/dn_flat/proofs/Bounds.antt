@@ -1,6 +1,7 @@
 -- Chains of fewer than so many steps, where none is longer: resolution, and the stops.
-use Rattle.std.proofs.Common.{◌≡◌, ℕ, ◌<◌, ◌≤◌, ◌⊎◌, ◌↔◌, inl, inr, Bool, true, List, [], refl, sym, ap, ◌∙◌, length, arith}
+use Rattle.std.proofs.Common.{◌≡◌, ℕ, ◌<◌, ◌≤◌, ◌↔◌, inl, inr, Bool, true, List, [], refl, sym, ap, ◌∙◌, length, arith}
 use Rattle.std.proofs.lemmas.Bool.{false≢true}
+use Rattle.dn_base.proofs.Orders.{cases_lt}
 use Rattle.dn_interval.specs.declared.row.End.{End}
 use Rattle.dn_interval.specs.declared.row.Seg.{Seg}
 use Rattle.dn_interval.specs.declared.span.TheConstants.{TOP}
@@ -11,17 +12,15 @@ use Rattle.dn_net.specs.declared.node.NodeDecl.{NodeDecl}
 use Rattle.dn_net.specs.Chain.{IsChain, Ends}
 use Rattle.dn_net.specs.Decode.{Step, steps, step_limit}
 use Rattle.dn_net.proofs.Chains.{chain_front}
+use Rattle.dn_net.proofs.Stops.{stop_there}
 use Rattle.dn_flat.specs.declared.flat.Flat.{Flat}
 use Rattle.dn_flat.specs.Stages.{EndsBefore, GoesIn, IsFlat}
 use Rattle.dn_flat.specs.Views.{name_of_end, end_of, ResolvesFrom, StopsFrom}
-use Rattle.dn_flat.proofs.There.{names_are_there, accepted_is_there, stop_is_there}
+use Rattle.dn_flat.proofs.There.{names_are_there, accepted_is_there}
 
 pub limit_is : step_limit ≡ 65
 unfolding step_limit
 limit_is = refl
-
-cases_le : (m n : ℕ) → (m < n) ⊎ (n ≤ m)
-cases_le m n = grind arith
 
 module _ (net : List NodeDecl) (passes : Name → Bool) (k node a : ℕ) (y : End) where
   abbrev here : Name
@@ -40,7 +39,7 @@ module _ (net : List NodeDecl) (passes : Name → Bool) (k node a : ℕ) (y : En
 
   -- where nothing goes on for so many steps
   long_ends : ((z : Name) → IsChain (Step net) k here z → ⊥) → (j : ℕ) → j ≤ 65 → IsChain (Step net) j here (name_of_end y) → j < k
-  long_ends none j l c = elim (cases_le j k) [ inl m ↦ m | inr m ↦ (let f = chain_front (Step net) k j here (name_of_end y) m c in absurd (none f.0 f.1)) ]
+  long_ends none j l c = elim (cases_lt j k) [ inl m ↦ m | inr m ↦ (let f = chain_front (Step net) k j here (name_of_end y) m c in absurd (none f.0 f.1)) ]
 
   pub ended_level : k ≤ 66 → ((z : Name) → IsChain (Step net) k here z → ⊥) → EndsBefore net passes k node a y ↔ Ends (steps net) passes step_limit here (name_of_end y)
   ended_level m none = ends_are (λ j l c. omega arith) (long_ends none)
@@ -55,5 +54,5 @@ flat_is net node flat accepts stops = record {
   accepts = accepts;
   stops = stops;
   within = names_are_there (length net) (ResolvesFrom net node) flat.accepts accepts (λ a y f. accepted_is_there net (name_of_end y) f.0);
-  stops_within = names_are_there (length net) (StopsFrom net node) flat.stops stops (λ a y f. stop_is_there net (name_of_end y) f.0);
+  stops_within = names_are_there (length net) (StopsFrom net node) flat.stops stops (λ a y f. stop_there net (name_of_end y) f.0);
 }

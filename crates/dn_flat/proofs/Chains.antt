@@ -1,11 +1,8 @@
--- Chains one behind the other.
+-- Chains cut after so many steps, and names that are reached in fewer steps than a sum.
 use Rattle.std.proofs.Common.{◌≡◌, ℕ, zero, suc, ◌+◌, ◌-◌, ◌<◌, ◌≤◌, ◌⊎◌, ◌↔◌, inl, inr, refl, subst, arith}
 use Rattle.dn_net.specs.Chain.{IsChain}
 use Rattle.dn_net.proofs.Chains.{chain_join}
 use Rattle.dn_flat.specs.Stages.{ReachesBefore}
-
-pub joined : {X : Type 0} (S : X → X → Type 0) (j k : ℕ) (x y z : X) → IsChain S j x y → IsChain S k y z → IsChain S (j + k) x z
-joined S j k x y z c d = chain_join S j k x y z c d
 
 pub parted : {X : Type 0} (S : X → X → Type 0) (j k : ℕ) (x z : X) → IsChain S (j + k) x z → (y : X) × IsChain S j x y × IsChain S k y z
 parted S zero k x z c =
@@ -24,7 +21,7 @@ before_sum {X} S j k x z = (join, split)
   where
     join : ReachesBefore S j x z ⊎ ((y : X) × IsChain S j x y × ReachesBefore S k y z) → ReachesBefore S (j + k) x z
     join (inl b) = let l : b.0 < j = b.1 in (b.0, omega arith, b.2)
-    join (inr b) = let l : b.2.0 < k = b.2.1 in (j + b.2.0, omega arith, joined S j b.2.0 x b.0 z b.1 b.2.2)
+    join (inr b) = let l : b.2.0 < k = b.2.1 in (j + b.2.0, omega arith, chain_join S j b.2.0 x b.0 z b.1 b.2.2)
 
     split : ReachesBefore S (j + k) x z → ReachesBefore S j x z ⊎ ((y : X) × IsChain S j x y × ReachesBefore S k y z)
     split b = go (cases b.0)

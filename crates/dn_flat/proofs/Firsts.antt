@@ -1,7 +1,7 @@
 -- What a node comes to by no step and by one, from what it accepts and from its legs.
 use Rattle.std.proofs.Common.{◌≡◌, ℕ, zero, suc, ◌+◌, ◌-◌, ◌<◌, ◌↔◌, Bool, true, ◌&&◌, nat_le, nat_eq, List, [], ◌∷◌, length, slice_get, Option, Some, None, option_map, refl, sym, ap, ◌∙◌, subst, arith, eqb-true, eq-eqb}
 use Rattle.std.proofs.lemmas.Bool.{and_parts, and_from}
-use Rattle.dn_base.proofs.Members.{any_member, member_any}
+use Rattle.dn_base.proofs.Members.{any_member, member_any, map_member, member_map}
 use Rattle.dn_interval.specs.declared.row.End.{End}
 use Rattle.dn_net.specs.declared.node.Name.{Name}
 use Rattle.dn_net.specs.declared.node.NodeDecl.{NodeDecl}
@@ -12,7 +12,7 @@ use Rattle.dn_net.specs.Walks.{Choice, Follows, legs, legs_of, Leg as NetLeg}
 use Rattle.dn_net.proofs.Apart.{node_apart}
 use Rattle.dn_net.proofs.Choices.{chain_is_walk}
 use Rattle.dn_net.proofs.Legs.{leads_of_leg, leg_of_leads}
-use Rattle.dn_net.proofs.Members.{member_map, map_member}
+use Rattle.dn_net.proofs.Resolution.{name_is}
 use Rattle.dn_walk.specs.declared.leg.Leg.{Leg}
 use Rattle.dn_walk.specs.Legs.{told_leg, told_legs, AreLegs}
 use Rattle.dn_walk.proofs.Nodes.{legs_of_node}
@@ -20,13 +20,10 @@ use Rattle.dn_flat.specs.Firsts.{is_same, leg_gives, legs_give}
 use Rattle.dn_flat.specs.Stages.{EndsBefore, GoesIn}
 use Rattle.dn_flat.specs.Views.{name_of_end}
 
-pub name_same : (m n b c : ℕ) → m ≡ n → b ≡ c → ◌≡◌ {A = Name} (record { node = m; addr = b }) (record { node = n; addr = c })
-name_same m n b c e f = λ i. record { node = e i; addr = f i }
-
 pub same_means : (node a : ℕ) (y : End) → is_same node a y ≡ true → ◌≡◌ {A = Name} (record { node = node; addr = a }) (name_of_end y)
 same_means node a y e =
     let p = and_parts (nat_eq node y.node) (nat_eq a y.base) e in
-    name_same node y.node a y.base (eqb-true node y.node p.0) (eqb-true a y.base p.1)
+    name_is node y.node a y.base (eqb-true node y.node p.0) (eqb-true a y.base p.1)
 
 pub same_from : (node a : ℕ) (y : End) → ◌≡◌ {A = Name} (record { node = node; addr = a }) (name_of_end y) → is_same node a y ≡ true
 same_from node a y e = and_from (nat_eq node y.node) (nat_eq a y.base) (eq-eqb node y.node (ap (λ n. n.node) e)) (eq-eqb a y.base (ap (λ n. n.addr) e))
@@ -54,7 +51,7 @@ module _ (net : List NodeDecl) (rules : KeepsNodeRules net) (node : ℕ) (n : No
       let p = and_parts (nat_le l.block.lo a && nat_le a l.block.hi) (nat_eq l.to.node y.node && nat_eq (l.to.addr + (a - l.block.lo)) y.base) g in
       let q = and_parts (nat_eq l.to.node y.node) (nat_eq (l.to.addr + (a - l.block.lo)) y.base) p.1 in
       let f = leads_of_leg (slice_get net node) (λ k e. node_apart net rules.each node k e) l (subst (λ o. Member l (legs_of o)) (sym at) m) in
-      let s = name_same l.to.node y.node (l.to.addr + (a - l.block.lo)) y.base (eqb-true l.to.node y.node q.0) (eqb-true (l.to.addr + (a - l.block.lo)) y.base q.1) in
+      let s = name_is l.to.node y.node (l.to.addr + (a - l.block.lo)) y.base (eqb-true l.to.node y.node q.0) (eqb-true (l.to.addr + (a - l.block.lo)) y.base q.1) in
       (chain_is_walk net rules 1 here (name_of_end y)).1 (l.choice ∷ [], refl, (l.block, l.to, f, p.0, s))
 
   by_choice : (cs : List Choice) → length cs ≡ 1 → Follows net here cs (name_of_end y) → legs_give (told_legs n) a y ≡ true
@@ -62,7 +59,7 @@ module _ (net : List NodeDecl) (rules : KeepsNodeRules net) (node : ℕ) (n : No
   by_choice (c ∷ []) e f =
       let l : NetLeg = record { choice = c; block = f.0; to = f.1 } in
       let m = leg_of_leads (slice_get net node) (λ k e. node_apart net rules.each node k e) c f.0 f.1 f.2 in
-      let k = map_member told_leg (legs n) l (subst (λ o. Member l (legs_of o)) at m) in
+      let k = member_map told_leg (legs n) l (subst (λ o. Member l (legs_of o)) at m) in
       let g = and_from (nat_eq f.1.node y.node) (nat_eq (f.1.addr + (a - f.0.lo)) y.base) (eq-eqb f.1.node y.node (ap (λ t. t.node) f.4)) (eq-eqb (f.1.addr + (a - f.0.lo)) y.base (ap (λ t. t.addr) f.4)) in
       member_any (λ x. leg_gives x a y) (told_legs n) (told_leg l) k (and_from (nat_le f.0.lo a && nat_le a f.0.hi) (nat_eq f.1.node y.node && nat_eq (f.1.addr + (a - f.0.lo)) y.base) f.3 g)
   by_choice (c ∷ (d ∷ cs)) e f = absurd (omega arith)
@@ -70,7 +67,7 @@ module _ (net : List NodeDecl) (rules : KeepsNodeRules net) (node : ℕ) (n : No
   -- the legs of the node lead the address where one step does
   one_step : (legs_give (told_legs n) a y ≡ true) ↔ GoesIn net 1 node a y
   one_step = (
-    (λ e. let r = any_member (λ l. leg_gives l a y) (told_legs n) e in let m = member_map told_leg (legs n) r.0 r.1 in led m.0 m.1 (subst (λ l. leg_gives l a y ≡ true) (sym m.2) r.2)),
+    (λ e. let r = any_member (λ l. leg_gives l a y) (told_legs n) e in let m = map_member told_leg (legs n) r.0 r.1 in led m.0 m.1 (subst (λ l. leg_gives l a y ≡ true) (sym m.2) r.2)),
     (λ c. let w = (chain_is_walk net rules 1 here (name_of_end y)).0 c in by_choice w.0 w.1 w.2),
   )
 

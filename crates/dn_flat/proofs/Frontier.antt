@@ -1,17 +1,15 @@
 -- Segments that give what is reached in so many steps, and what their names come to in one step more.
-use Rattle.std.proofs.Common.{◌≡◌, ℕ, ◌+◌, ◌-◌, ◌<◌, ◌≤◌, ◌↔◌, inl, inr, Bool, true, ◌&&◌, ◌||◌, nat_eq, List, [], ◌∷◌, length, slice_get, Option, Some, None, refl, sym, ap, ◌∙◌, arith, eqb-true}
-use Rattle.std.proofs.lemmas.Bool.{or_cases, and_parts, false≢true}
+use Rattle.std.proofs.Common.{◌≡◌, ℕ, ◌+◌, ◌-◌, ◌<◌, ◌≤◌, ◌↔◌, Bool, true, ◌||◌, List, length, slice_get, Option, Some, None, refl, sym, ap, ◌∙◌, arith}
+use Rattle.std.proofs.lemmas.Bool.{false≢true}
 use Rattle.std.proofs.lemmas.Option.{slice_get-get_or}
 use Rattle.dn_interval.specs.declared.row.End.{End}
 use Rattle.dn_interval.specs.declared.row.Row.{Row}
 use Rattle.dn_interval.specs.declared.row.Seg.{Seg}
 use Rattle.dn_interval.specs.declared.span.TheConstants.{TOP}
 use Rattle.dn_interval.specs.Rows.{AreNormal, GivenBy}
-use Rattle.dn_interval.specs.Spans.{in_span}
-use Rattle.dn_interval.specs.Strands.{rows_give, seg_gives, segs_give}
+use Rattle.dn_interval.specs.Strands.{rows_give, segs_give}
 use Rattle.dn_interval.specs.Onward.{gives_by, rows_of}
-use Rattle.dn_interval.proofs.Membership.{hi_of, lo_of}
-use Rattle.dn_interval.proofs.Names.{rows_from, rows_to}
+use Rattle.dn_interval.proofs.Names.{rows_from, rows_to, segs_fit}
 use Rattle.dn_net.specs.declared.node.NodeDecl.{NodeDecl}
 use Rattle.dn_net.specs.Decode.{is_stop}
 use Rattle.dn_net.specs.Rules.{KeepsNodeRules}
@@ -25,25 +23,6 @@ use Rattle.dn_flat.proofs.Reached.{Goes}
 use Rattle.dn_flat.proofs.Shown.{given_low, no_reach}
 use Rattle.dn_flat.proofs.Sums.{ends_by, go_sum}
 use Rattle.dn_flat.proofs.There.{chain_is_there}
-
--- each name that segments give is at or below the last address
-
-fits_one : (s : Seg) (a : ℕ) (y : End) → seg_gives s a y ≡ true → y.base ≤ TOP
-fits_one s a y e =
-    let p = and_parts (in_span s.span a) (nat_eq s.node y.node && nat_eq (s.base + (a - s.span.lo)) y.base) e in
-    let q = and_parts (nat_eq s.node y.node) (nat_eq (s.base + (a - s.span.lo)) y.base) p.1 in
-    let same : s.base + (a - s.span.lo) ≡ y.base = eqb-true (s.base + (a - s.span.lo)) y.base q.1 in
-    let lo : s.span.lo ≤ a = lo_of s.span a p.0 in
-    let hi : a ≤ s.span.hi = hi_of s.span a p.0 in
-    let fits : s.base + (s.span.hi - s.span.lo) ≤ TOP = s.fits in
-    omega arith
-
-given_fits : (segs : List Seg) (a : ℕ) (y : End) → segs_give segs a y ≡ true → y.base ≤ TOP
-given_fits [] a y e = absurd (false≢true e)
-given_fits (s ∷ rest) a y e = elim (or_cases (seg_gives s a y) (segs_give rest a y) e) [
-  | inl g ↦ fits_one s a y g
-  | inr g ↦ given_fits rest a y g
-]
 
 module _ (net : List NodeDecl) (rules : KeepsNodeRules net) (nodes : List Reach) (are : AreReaches net 1 nodes) (j node : ℕ) (there : node < length net) (segs : List Seg) (go : Goes net j node segs) where
   -- names go on by rows of their nodes
@@ -70,7 +49,7 @@ module _ (net : List NodeDecl) (rules : KeepsNodeRules net) (nodes : List Reach)
       (λ h.
           let g : segs_give segs a h.0 ≡ true = (go a h.0 low).1 h.1 in
           let l = chain_is_there net rules j (record { node = node; addr = a }) (name_of_end h.0) there h.1 in
-          segs_from (gives_by f nodes) a z segs h.0 g (next_from h.0.node h.0.base z l (given_fits segs a h.0 g) h.2)),
+          segs_from (gives_by f nodes) a z segs h.0 g (next_from h.0.node h.0.base z l (segs_fit segs a h.0 g) h.2)),
     )
 
   -- what is reached in one step more

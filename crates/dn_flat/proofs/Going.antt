@@ -1,6 +1,7 @@
 -- Segments and levels whose names go on: the names that they give, each followed by what its node gives.
 use Rattle.std.proofs.Common.{◌≡◌, ℕ, ◌+◌, ◌-◌, inl, inr, Bool, true, false, ◌&&◌, ◌||◌, nat_eq, List, [], ◌∷◌, slice_get, Some, None, sym, ap, ◌∙◌, eqb-true, eq-eqb, refl}
 use Rattle.std.proofs.lemmas.Bool.{or_cases, and_parts, and_from, false≢true}
+use Rattle.dn_base.proofs.Booleans.{same_tests, or_left, or_right, and-false}
 use Rattle.dn_interval.specs.declared.row.End.{End}
 use Rattle.dn_interval.specs.declared.row.Row.{Row}
 use Rattle.dn_interval.specs.declared.row.Seg.{Seg}
@@ -8,7 +9,6 @@ use Rattle.dn_interval.specs.Spans.{in_span}
 use Rattle.dn_interval.specs.Strands.{seg_gives, segs_give, rows_give}
 use Rattle.dn_interval.specs.Onward.{rows_go, rows_of}
 use Rattle.dn_interval.proofs.Goes.{rows_go_on}
-use Rattle.dn_interval.proofs.Membership.{or_left, or_right, same_bool}
 use Rattle.dn_interval.proofs.Names.{rows_from, rows_to}
 use Rattle.dn_flat.specs.declared.found.Part.{Part}
 use Rattle.dn_flat.specs.declared.found.Part.TheVariants.{Accepts, Stops, Goes, Stays, Toward}
@@ -26,16 +26,12 @@ leads_there Goes nodes node reach at a z = ap (λ o. rows_give (rows_of (λ (r :
 leads_there Stays nodes node reach at a z = ap (λ o. has_rows (rows_of (λ (r : Reach). r.done.accepts) o) && is_same node a z) at
 leads_there (Toward other rows) nodes node reach at a z = ap (λ o. nat_eq node other && rows_give (rows_of (λ (r : Reach). rows.now) o) a z) at
 
-and_false : (p : Bool) → (p && false) ≡ false
-and_false true = refl
-and_false false = refl
-
 pub leads_none : (part : Part) (nodes : List Reach) (node : ℕ) → slice_get nodes node ≡ None → (a : ℕ) (z : End) → leads_by part nodes node a z ≡ false
 leads_none Accepts nodes node at a z = ap (λ o. rows_give (rows_of (λ (r : Reach). r.done.accepts) o) a z) at
 leads_none Stops nodes node at a z = ap (λ o. rows_give (rows_of (λ (r : Reach). r.done.stops) o) a z) at
 leads_none Goes nodes node at a z = ap (λ o. rows_give (rows_of (λ (r : Reach). r.go) o) a z) at
 leads_none Stays nodes node at a z = ap (λ o. has_rows (rows_of (λ (r : Reach). r.done.accepts) o) && is_same node a z) at
-leads_none (Toward other rows) nodes node at a z = ap (λ o. nat_eq node other && rows_give (rows_of (λ (r : Reach). rows.now) o) a z) at ∙ and_false (nat_eq node other)
+leads_none (Toward other rows) nodes node at a z = ap (λ o. nat_eq node other && rows_give (rows_of (λ (r : Reach). rows.now) o) a z) at ∙ and-false (nat_eq node other)
 
 -- what was found, and what the names of a segment come to
 
@@ -44,7 +40,7 @@ push_there part nodes s reach old new a z at e = e ∙ ap (λ t. old || (in_span
 
 or_and_false : (p q : Bool) → p ≡ (p || (q && false))
 or_and_false true q = refl
-or_and_false false q = sym (and_false q)
+or_and_false false q = sym (and-false q)
 
 pub push_none : (part : Part) (nodes : List Reach) (s : Seg) (old : Bool) (a : ℕ) (z : End) → slice_get nodes s.node ≡ None → old ≡ (old || seg_leads (leads_by part nodes) s a z)
 push_none part nodes s old a z at = or_and_false old (in_span s.span a) ∙ ap (λ t. old || (in_span s.span a && t)) (sym (leads_none part nodes s.node at (s.base + (a - s.span.lo)) z))
@@ -85,7 +81,7 @@ module _ (next : ℕ → ℕ → End → Bool) (a : ℕ) (z : End) where
 
   -- segments of what rows give to an address go on to what the rows go on to
   pub onward_same : (segs : List Seg) (rows : List Row) (q : Bool) (b : ℕ) → ((y : End) → segs_give segs a y ≡ (q && rows_give rows b y)) → segs_lead next segs a z ≡ (q && rows_go next rows b z)
-  onward_same segs rows q b same = same_bool (segs_lead next segs a z) (q && rows_go next rows b z)
+  onward_same segs rows q b same = same_tests (segs_lead next segs a z) (q && rows_go next rows b z)
       (λ e.
       let r = segs_to segs e in
       let p = and_parts q (rows_give rows b r.0) (sym (same r.0) ∙ r.1) in

@@ -1,6 +1,8 @@
 -- A node whose addresses all go on to those of another reaches what that one reaches.
 use Rattle.std.proofs.Common.{◌≡◌, ◌∙◌, ℕ, zero, suc, ◌+◌, ◌-◌, ◌<◌, ◌≤◌, ◌⊎◌, ◌↔◌, inl, inr, Bool, List, [], ◌∷◌, ◌++◌, map, length, get_or, slice_get, Option, Some, None, IfSome, refl, sym, ap, subst, arith, IsTrue}
 use Rattle.std.proofs.lemmas.Option.{slice_get-get_or}
+use Rattle.dn_base.proofs.Orders.{cases_lt}
+use Rattle.dn_base.proofs.Booleans.{means_then}
 use Rattle.dn_interval.specs.declared.row.End.{End}
 use Rattle.dn_interval.specs.declared.row.Row.{Row}
 use Rattle.dn_interval.specs.declared.span.TheConstants.{TOP}
@@ -19,7 +21,7 @@ use Rattle.dn_flat.specs.Shared.{no_levels}
 use Rattle.dn_flat.specs.Stages.{EndsBefore, GoesIn, IsReach, AreReaches, IsLedBy, IsLedTo}
 use Rattle.dn_flat.specs.Views.{name_of_end, end_of}
 use Rattle.dn_flat.proofs.Bounds.{limit_is}
-use Rattle.dn_flat.proofs.Lists.{each_pushed, length_pushed, means_then}
+use Rattle.dn_flat.proofs.Lists.{each_pushed, length_pushed}
 
 pub one_item : (xs : List Row) (x : Row) → 1 ≤ length xs → length xs < 2 → x ≡ get_or xs 0 x → xs ≡ x ∷ []
 one_item [] x l m is = absurd (omega arith)
@@ -60,9 +62,6 @@ one_from rows r other a go lo hi ends low =
     let named : Member (end_in other a) (map (moved (a - r.span.lo)) r.ends) = subst (λ es. Member (end_in other a) (map (moved (a - r.span.lo)) es)) (sym ends) (inl (at_end other a r.span.lo lo)) in
     subst (λ rs. GivenBy rs a (end_in other a)) (sym go) (inl (in_from r.span a (omega arith) (omega arith), named))
 
-cases_le : (m n : ℕ) → (m < n) ⊎ (n ≤ m)
-cases_le m n = grind arith
-
 module _ (net : List NodeDecl) (legal : IsLegalNet net) (node other : ℕ) (reach : Reach) (is : IsReach net 1 node reach) (led : IsLedTo other reach) where
   abbrev here : ℕ → Name
   here a = record { node = node; addr = a }
@@ -79,7 +78,7 @@ module _ (net : List NodeDecl) (legal : IsLegalNet net) (node other : ℕ) (reac
       subst (λ w. Step net (here a) w) c.2 c.1
 
   on : (a : ℕ) (y : Name) → a ≤ TOP → ReachesWithin (Step net) step_limit (there a) y → ReachesWithin (Step net) step_limit (here a) y
-  on a y low h = by (cases_le h.0 65)
+  on a y low h = by (cases_lt h.0 65)
     where
       by : (h.0 < 65) ⊎ (65 ≤ h.0) → ReachesWithin (Step net) step_limit (here a) y
       by (inl l) = let e : step_limit ≡ 65 = limit_is in (suc h.0, omega arith, (there a, step_from a low, h.2))

@@ -1,20 +1,17 @@
 -- Lists item by item, as loops go over them.
-use Rattle.std.proofs.Common.{◌≡◌, ℕ, zero, suc, ◌+◌, ◌<◌, ◌↔◌, Bool, true, false, ◌&&◌, ◌||◌, List, [], ◌∷◌, ◌++◌, take, drop, length, get_or, slice_get, Option, Some, Result, Ok, Err, IfOk, OnOk, refl, sym, ap, ◌∙◌, subst, arith, ◌==◌, eqb-true}
+use Rattle.std.proofs.Common.{◌≡◌, ℕ, zero, suc, ◌+◌, ◌<◌, ◌↔◌, Bool, true, false, ◌&&◌, ◌||◌, List, [], ◌∷◌, ◌++◌, take, drop, length, get_or, slice_get, Option, Some, Result, Ok, Err, IfOk, refl, sym, ap, ◌∙◌, subst, arith, ◌==◌, eqb-true}
 use Rattle.std.specs.List.{list_any}
 use Rattle.std.proofs.lemmas.List.{take_more}
 use Rattle.std.proofs.lemmas.List.Folds.{list_any-append}
-use Rattle.dn_interval.proofs.Pieces.{drop_at}
-
-pub or_false : (p : Bool) → (p || false) ≡ p
-or_false true = refl
-or_false false = refl
+use Rattle.dn_base.proofs.Booleans.{or-false}
+use Rattle.dn_base.proofs.Lists.{drop_at}
 
 -- a test of the items so far, and of one more
 pub any_more : {X : Type 0} (p : X → Bool) (xs : List X) (i : ℕ) (x : X) → i < length xs → x ≡ get_or xs i x → list_any p (take (i + 1) xs) ≡ (list_any p (take i xs) || p x)
 any_more p xs i x l is =
     ap (list_any p) (take_more xs i x l ∙ ap (λ y. take i xs ++ y ∷ []) (sym is))
     ∙ list_any-append p (take i xs) (x ∷ [])
-    ∙ ap (λ t. list_any p (take i xs) || t) (or_false (p x))
+    ∙ ap (λ t. list_any p (take i xs) || t) (or-false (p x))
 
 -- what was found, and the items that are still to come
 pub pushed : {X : Type 0} (p : X → Bool) (q : Bool) (xs : List X) (i : ℕ) (x : X) (now new whole : Bool) → i < length xs → x ≡ get_or xs i x → (now || (q && list_any p (drop i xs))) ≡ whole → new ≡ (now || (q && p x)) → (new || (q && list_any p (drop (i + 1) xs))) ≡ whole
@@ -55,19 +52,10 @@ stay_more old g h p more q e f m = ap (λ t. t || (g || false)) e ∙ ap (λ t. 
 pub means_along : {P : Type 0} (new old : Bool) → new ≡ old → (old ≡ true) ↔ P → (new ≡ true) ↔ P
 means_along new old e f = ((λ g. f.0 (sym e ∙ g)), (λ p. e ∙ f.1 p))
 
--- one meaning after another
-pub means_then : {P Q R : Type 0} → P ↔ Q → Q ↔ R → P ↔ R
-means_then f g = ((λ p. g.0 (f.0 p)), (λ r. f.1 (g.1 r)))
-
 -- two facts of what a call answers make a third
 pub both_ok : {A E : Type 0} (r : Result A E) (P Q R : A → Type 0) → ((x : A) → P x → Q x → R x) → IfOk r P → IfOk r Q → IfOk r R
 both_ok (Ok x) P Q R f p q = f x p q
 both_ok (Err e) P Q R f p q = p
-
--- what a call answers, where one fact makes another
-pub on_ok : {A E : Type 0} (r : Result A E) (P Q : Type 0) → (P → Q) → OnOk r P → OnOk r Q
-on_ok (Ok x) P Q f h = f h
-on_ok (Err e) P Q f h = h
 
 pub none_of : {X : Type 0} (xs : List X) → (length xs == 0) ≡ true → xs ≡ []
 none_of [] e = refl

@@ -3,15 +3,14 @@ use Rattle.std.proofs.Common.{◌≡◌, ℕ, ◌+◌, ◌-◌, ◌*◌, ◌<◌
 use Rattle.std.specs.List.{list_all}
 use Rattle.std.proofs.lemmas.List.{get_or_default}
 use Rattle.std.proofs.lemmas.Option.{slice_get-get_or}
+use Rattle.dn_base.proofs.Lists.{slice_get-at, list_all-at}
 use Rattle.dn_interval.specs.declared.row.End.{End}
 use Rattle.dn_interval.specs.declared.row.Row.{Row}
 use Rattle.dn_interval.specs.declared.span.Span.{Span}
 use Rattle.dn_interval.specs.Spans.{in_span}
 use Rattle.dn_interval.specs.Strands.{rows_give}
 use Rattle.dn_interval.specs.Onward.{ends_go, gives_by, rows_of}
-use Rattle.dn_interval.proofs.Pieces.{there}
 use Rattle.dn_net.specs.declared.node.NodeDecl.{NodeDecl}
-use Rattle.dn_net.proofs.Places.{list_all-at}
 use Rattle.dn_flat.specs.declared.reach.Reach.{Reach}
 use Rattle.dn_flat.specs.Stages.{IsReach, AreReaches}
 use Rattle.dn_flat.proofs.Lists.{pushed}
@@ -25,7 +24,7 @@ pub node_there : (count : ℕ) (ends : List End) (i : ℕ) → i < length ends �
 node_there count ends i l all = ltb-true (end_at ends i).node count (list_all-at (λ (e : End). nat_lt e.node count) ends i (end_at ends i) all (slice_get-get_or ends i (record { node = 0; base = 0 }) l))
 
 pub reach_there : (nodes : List Reach) (n m : ℕ) (reach : Reach) → n ≡ m → m < length nodes → reach ≡ get_or nodes n reach → slice_get nodes m ≡ Some reach
-reach_there nodes n m reach e l is = sym (there nodes m reach l (subst (λ k. reach ≡ get_or nodes k reach) e is))
+reach_there nodes n m reach e l is = sym (slice_get-at nodes m reach l (subst (λ k. reach ≡ get_or nodes k reach) e is))
 
 -- one name of a row more
 pub end_pushed : (f : Reach → List Row) (nodes : List Reach) (span : Span) (ends : List End) (i : ℕ) (reach : Reach) (a : ℕ) (z : End) (now new whole : Bool) → i < length ends → slice_get nodes (end_at ends i).node ≡ Some reach → (now || (in_span span a && ends_go (gives_by f nodes) (drop i ends) span.lo a z)) ≡ whole → new ≡ (now || (in_span span a && rows_give (f reach) ((end_at ends i).base + (a - span.lo)) z)) → (new || (in_span span a && ends_go (gives_by f nodes) (drop (i + 1) ends) span.lo a z)) ≡ whole

@@ -1,17 +1,20 @@
 -- What a node reaches, level by level: the names of a level are those that are reached in so many steps.
 use Rattle.std.proofs.Common.{◌≡◌, ℕ, ◌+◌, ◌-◌, ◌<◌, ◌≤◌, ◌⊎◌, ◌↔◌, inl, inr, Bool, true, ◌&&◌, ◌||◌, nat_eq, List, [], ◌∷◌, length, slice_get, refl, sym, ap, ◌∙◌, subst, arith, lt-ltb}
 use Rattle.std.proofs.lemmas.Bool.{or_cases, and_parts, and_from, false≢true}
+use Rattle.dn_base.proofs.Orders.{cases_lt}
+use Rattle.dn_base.proofs.Booleans.{or_left, or_right, or-false}
 use Rattle.dn_interval.specs.declared.row.End.{End}
 use Rattle.dn_interval.specs.declared.row.Row.{Row}
 use Rattle.dn_interval.specs.declared.row.Seg.{Seg}
 use Rattle.dn_interval.specs.declared.span.TheConstants.{TOP}
 use Rattle.dn_interval.specs.Strands.{rows_give, seg_gives, segs_give}
 use Rattle.dn_interval.specs.Onward.{rows_of}
-use Rattle.dn_interval.proofs.Membership.{in_from, or_left, or_right}
+use Rattle.dn_interval.proofs.Membership.{in_from}
 use Rattle.dn_net.specs.declared.node.Name.{Name}
 use Rattle.dn_net.specs.declared.node.NodeDecl.{NodeDecl}
 use Rattle.dn_net.specs.Chain.{Ends, IsChain}
 use Rattle.dn_net.specs.Decode.{Step, is_accepted, steps, step_limit}
+use Rattle.dn_net.proofs.Stops.{stop_there}
 use Rattle.dn_flat.specs.declared.found.Part.TheVariants.{Stays}
 use Rattle.dn_flat.specs.declared.levels.Levels.{Levels}
 use Rattle.dn_flat.specs.declared.reach.Reach.{Reach}
@@ -23,16 +26,12 @@ use Rattle.dn_flat.specs.Views.{name_of_end}
 use Rattle.dn_flat.proofs.Bounds.{limit_is}
 use Rattle.dn_flat.proofs.Firsts.{same_from, same_means}
 use Rattle.dn_flat.proofs.Going.{segs_from, segs_to}
-use Rattle.dn_flat.proofs.Lists.{or_false}
 use Rattle.dn_flat.proofs.Shown.{accepting_from}
-use Rattle.dn_flat.proofs.There.{layers_there, stop_is_there}
+use Rattle.dn_flat.proofs.There.{layers_there}
 
-some_rows : (rows : List Row) (b : ℕ) (z : End) → rows_give rows b z ≡ true → has_rows rows ≡ true
+pub some_rows : (rows : List Row) (b : ℕ) (z : End) → rows_give rows b z ≡ true → has_rows rows ≡ true
 some_rows [] b z e = absurd (false≢true e)
 some_rows (r ∷ rs) b z e = lt-ltb 0 (length (r ∷ rs)) (omega arith)
-
-cases_le : (m n : ℕ) → (m < n) ⊎ (n ≤ m)
-cases_le m n = grind arith
 
 -- the segments give to each address the names that it reaches in exactly so many steps
 abbrev pub Goes : List NodeDecl → ℕ → ℕ → List Seg → Type 0
@@ -54,7 +53,7 @@ none_reached net node = record {
 whole_gives : (node : ℕ) (s : Seg) (a : ℕ) (y : End) → s.node ≡ node → s.base ≡ 0 → s.span.lo ≡ 0 → s.span.hi ≡ TOP → a ≤ TOP → segs_give (s ∷ []) a y ≡ is_same node a y
 whole_gives node s a y at base lo hi low =
     let there : s.base + (a - s.span.lo) ≡ a = omega arith in
-    or_false (seg_gives s a y)
+    or-false (seg_gives s a y)
     ∙ (ap (λ t. t && (nat_eq s.node y.node && nat_eq (s.base + (a - s.span.lo)) y.base)) (in_from s.span a (omega arith) (omega arith))
     ∙ (ap (λ n. nat_eq n y.node && nat_eq (s.base + (a - s.span.lo)) y.base) at
     ∙ ap (λ n. nat_eq node y.node && nat_eq n y.base) there))
@@ -87,7 +86,7 @@ module _ (net : List NodeDecl) (nodes : List Reach) (are : AreReaches net 1 node
   ]
 
   level_from : (EndsBefore net (is_accepted net) j node a y → old ≡ true) → EndsBefore net (is_accepted net) (j + 1) node a y → new ≡ true
-  level_from was h = is ∙ by (cases_le h.1.0 j)
+  level_from was h = is ∙ by (cases_lt h.1.0 j)
     where
       last : h.1.0 ≡ j → segs_lead (leads_by Stays nodes) segs a y ≡ true
       last e =
@@ -117,5 +116,5 @@ pub levels_are : (net : List NodeDecl) (node : ℕ) (levels : Levels) → AreLev
 levels_are net node levels reached stops = record {
   reached = reached;
   stops = stops;
-  stops_within = layers_there (length net) levels.stops (λ a y low g. stop_is_there net (name_of_end y) ((stops a y low).0 g).0);
+  stops_within = layers_there (length net) levels.stops (λ a y low g. stop_there net (name_of_end y) ((stops a y low).0 g).0);
 }

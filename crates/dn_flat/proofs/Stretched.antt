@@ -3,10 +3,10 @@ use Rattle.std.proofs.Common.{◌≡◌, ℕ, zero, suc, ◌+◌, ◌-◌, ◌<�
 use Rattle.std.specs.List.{All, list_all, list_any}
 use Rattle.std.proofs.lemmas.Bool.{or_cases, and_parts, and_from, false≢true}
 use Rattle.std.proofs.lemmas.List.{take-append-drop, take_more}
-use Rattle.std.proofs.lemmas.List.Elements.{All-head, All-tail}
 use Rattle.std.proofs.lemmas.List.Folds.{list_any-append}
 use Rattle.dn_base.proofs.Lists.{take_past}
-use Rattle.dn_base.proofs.Members.{any_member, member_any, member_cases, member_left, member_right}
+use Rattle.dn_base.proofs.Members.{any_member, member_any, member_cases, member_left, member_right, member_of_all}
+use Rattle.dn_base.proofs.Booleans.{false_from_ne_true, or_left, or_right, same_tests, or-false}
 use Rattle.dn_interval.specs.declared.row.End.{End}
 use Rattle.dn_interval.specs.declared.row.Row.{Row}
 use Rattle.dn_interval.specs.declared.row.Seg.{Seg}
@@ -16,13 +16,13 @@ use Rattle.dn_interval.specs.declared.strand.Strand.{Strand}
 use Rattle.dn_interval.specs.Rows.{Member, moved}
 use Rattle.dn_interval.specs.Spans.{in_span}
 use Rattle.dn_interval.specs.Strands.{IsMaximal, seg_gives, segs_give, slid, strand_gives, strands_give}
-use Rattle.dn_interval.proofs.Membership.{hi_of, in_from, lo_of, never_true, or_left, or_right, same_bool}
+use Rattle.dn_interval.proofs.Membership.{hi_of, in_from, lo_of}
 use Rattle.dn_net.specs.declared.node.NodeDecl.{NodeDecl}
 use Rattle.dn_flat.specs.declared.reach.Reach.{Reach}
 use Rattle.dn_flat.specs.Levels.{NearFrom, ResolvesWhole, levels_show}
 use Rattle.dn_flat.specs.Stretches.{GivesAll, IsAlone, IsStretch, are_led, begins, is_led, is_part}
 use Rattle.dn_flat.specs.Views.{ResolvesFrom}
-use Rattle.dn_flat.proofs.Lists.{any_more, or_false}
+use Rattle.dn_flat.proofs.Lists.{any_more}
 
 -- what a segment gives, as facts on numbers
 
@@ -176,11 +176,6 @@ more_kept P segs i x l is old new t means was now s =
 
 -- strands that lead to a row of names
 
-all_member : {X : Type 0} (P : X → Type 0) (xs : List X) (x : X) → All P xs → Member x xs → P x
-all_member P [] x all m = absurd m
-all_member P (y ∷ ys) x all (inl e) = subst P e (All-head P y ys all)
-all_member P (y ∷ ys) x all (inr m) = all_member P ys x (All-tail P y ys all) m
-
 record Leads (first : End) (size v : ℕ) (s : Strand) : Type 0 where
   pub node : s.node ≡ first.node
   pub slide : s.slide + v ≡ first.base + TOP
@@ -209,21 +204,21 @@ module _ (first : End) (size : ℕ) where
   -- one that leads to none, and one more that does
 
   pub off_node : (s : Strand) (v : ℕ) → (s.node ≡ first.node → ⊥) → is_led first size s v ≡ false
-  off_node s v other = never_true (is_led first size s v) (λ e. other (led_is s v e).node)
+  off_node s v other = false_from_ne_true (is_led first size s v) (λ e. other (led_is s v e).node)
 
   pub off_low : (s : Strand) (v : ℕ) → first.base + TOP < s.slide + s.span.lo → is_led first size s v ≡ false
-  off_low s v low = never_true (is_led first size s v) (λ e. let f = led_is s v e in let at : s.slide + v ≡ first.base + TOP = f.slide in let lo : s.span.lo ≤ v = f.lo in absurd (omega arith))
+  off_low s v low = false_from_ne_true (is_led first size s v) (λ e. let f = led_is s v e in let at : s.slide + v ≡ first.base + TOP = f.slide in let lo : s.span.lo ≤ v = f.lo in absurd (omega arith))
 
   pub off_high : (s : Strand) (v lo : ℕ) → 1 ≤ size → s.slide + lo ≡ first.base + TOP → s.span.hi < lo + (size - 1) → is_led first size s v ≡ false
-  off_high s v lo some at high = never_true (is_led first size s v) (λ e. let f = led_is s v e in let slide : s.slide + v ≡ first.base + TOP = f.slide in let hi : v + size ≤ s.span.hi + 1 = f.hi in absurd (omega arith))
+  off_high s v lo some at high = false_from_ne_true (is_led first size s v) (λ e. let f = led_is s v e in let slide : s.slide + v ≡ first.base + TOP = f.slide in let hi : v + size ≤ s.span.hi + 1 = f.hi in absurd (omega arith))
 
   pub not_more : (old led : Bool) → led ≡ false → old ≡ (old || led)
-  not_more old led e = sym (ap (λ t. old || t) e ∙ or_false old)
+  not_more old led e = sym (ap (λ t. old || t) e ∙ or-false old)
 
   pub one_led : (s : Strand) (lo : ℕ) → s.node ≡ first.node → s.slide + lo ≡ first.base + TOP → s.span.lo ≤ lo → lo + size ≤ s.span.hi + 1 → (old : List Seg) (c : Seg) → c.span.lo ≡ lo → (v : ℕ) → begins (old ++ c ∷ []) v ≡ (begins old v || is_led first size s v)
   one_led s lo node slide from to old c at v =
       list_any-append (λ t. nat_eq t.span.lo v) old (c ∷ [])
-      ∙ ap (λ t. begins old v || t) (or_false (nat_eq c.span.lo v) ∙ same_bool (nat_eq c.span.lo v) (is_led first size s v)
+      ∙ ap (λ t. begins old v || t) (or-false (nat_eq c.span.lo v) ∙ same_tests (nat_eq c.span.lo v) (is_led first size s v)
       (λ e. subst (λ n. is_led first size s n ≡ true) (sym at ∙ eqb-true c.span.lo v e) (is_led_by s lo node slide from to))
       (λ e.
       let f = led_is s v e in
@@ -261,7 +256,7 @@ module _ (first : End) (size : ℕ) where
             | inl k ↦ omega arith
             | inr k ↦ (
                 let at : v + suc j ≡ s.span.hi + 1 = omega arith in
-                let none : strands_give strands (v + suc j) (moved (suc j) first) ≡ false = all_member (IsMaximal (λ a y. strands_give strands a y)) strands s maximal m (v + suc j) (moved (suc j) first) (slid_at s v (suc j) node slide) (inl at) in
+                let none : strands_give strands (v + suc j) (moved (suc j) first) ≡ false = member_of_all (IsMaximal (λ a y. strands_give strands a y)) strands s maximal m (v + suc j) (moved (suc j) first) (slid_at s v (suc j) node slide) (inl at) in
                 absurd (false≢true (sym none ∙ all (suc j) l))
                 )
           ]
@@ -284,7 +279,7 @@ module _ (first : End) (size : ℕ) where
 module _ (net : List NodeDecl) (nodes : List Reach) (node : ℕ) (levels : List (List Row)) (first : End) (size : ℕ) (some : 1 ≤ size) (shown : (a : ℕ) (z : End) → a ≤ TOP → (levels_show nodes levels a z ≡ true) ↔ ResolvesFrom net node a z) (near : List Seg) (near_is : (a : ℕ) (z : End) → a ≤ TOP → (segs_give near a z ≡ true) ↔ NearFrom net node first size a z) (strands : List Strand) (same : (a : ℕ) (z : End) → strands_give strands a z ≡ segs_give near a z) (maximal : All (IsMaximal (λ a y. strands_give strands a y)) strands) (led : List Seg) (each : All (IsStretch first size) led) (begun : (v : ℕ) → begins led v ≡ are_led first size strands v) (alone : List Seg) (are_alone : (s : Seg) → Member s alone ↔ (Member s led × IsAlone nodes levels s)) (a : ℕ) (z : End) where
   module _ (s : Seg) (m : Member s alone) where
     whole : IsStretch first size s
-    whole = all_member (IsStretch first size) led s each ((are_alone s).0 m).0
+    whole = member_of_all (IsStretch first size) led s each ((are_alone s).0 m).0
 
     at_lo : are_led first size strands s.span.lo ≡ true
     at_lo = sym (begun s.span.lo) ∙ member_any (λ t. nat_eq t.span.lo s.span.lo) led s ((are_alone s).0 m).0 (eq-eqb s.span.lo s.span.lo refl)
@@ -351,7 +346,7 @@ module _ (net : List NodeDecl) (nodes : List Reach) (node : ℕ) (levels : List 
         let found = any_member (λ t. nat_eq t.span.lo r.v) led (begun r.v ∙ led_here) in
         let s : Seg = found.0 in
         let lo : s.span.lo ≡ r.v = eqb-true s.span.lo r.v found.2 in
-        let st : IsStretch first size s = all_member (IsStretch first size) led s each found.1 in
+        let st : IsStretch first size s = member_of_all (IsStretch first size) led s each found.1 in
         let long : s.span.hi + 1 ≡ s.span.lo + size = st.long in
         let below : r.i < size = r.below in
         let at : a ≡ r.v + r.i = r.from in

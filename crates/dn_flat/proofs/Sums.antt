@@ -1,6 +1,7 @@
 -- Rows of what is reached in j steps, whose names go on by the rows for k steps, are what is reached in j + k.
 use Rattle.std.proofs.Common.{◌≡◌, ℕ, ◌+◌, ◌-◌, ◌≤◌, ◌⊎◌, ◌↔◌, inl, inr, Bool, true, false, ◌&&◌, ◌||◌, List, length, slice_get, Some, sym, ap, ◌∙◌, arith, All}
 use Rattle.std.proofs.lemmas.Bool.{or_cases}
+use Rattle.dn_base.proofs.Booleans.{or_left, or_right}
 use Rattle.dn_interval.specs.declared.row.End.{End}
 use Rattle.dn_interval.specs.declared.row.Row.{Row}
 use Rattle.dn_interval.specs.declared.row.Seg.{Seg}
@@ -9,16 +10,17 @@ use Rattle.dn_interval.specs.Rows.{AreNormal, SegmentsGive, EndsFit, ends_within
 use Rattle.dn_interval.specs.Strands.{segs_give, rows_give}
 use Rattle.dn_interval.specs.Onward.{seg_goes, rows_go, gives_by}
 use Rattle.dn_interval.proofs.Goes.{composed}
-use Rattle.dn_interval.proofs.Membership.{or_left, or_right, in_from}
+use Rattle.dn_interval.proofs.Membership.{in_from}
 use Rattle.dn_interval.proofs.Names.{segs_from, segs_to, rows_from, rows_to}
 use Rattle.dn_interval.proofs.Normal.{normal_like}
 use Rattle.dn_net.specs.declared.node.Name.{Name}
 use Rattle.dn_net.specs.declared.node.NodeDecl.{NodeDecl}
 use Rattle.dn_net.specs.Decode.{Step, is_accepted, is_stop}
+use Rattle.dn_net.proofs.Chains.{chain_join}
 use Rattle.dn_flat.specs.declared.reach.Reach.{Reach}
 use Rattle.dn_flat.specs.Stages.{EndsBefore, GoesIn, AreReaches}
 use Rattle.dn_flat.specs.Views.{name_of_end, end_of}
-use Rattle.dn_flat.proofs.Chains.{joined, parted, before_sum}
+use Rattle.dn_flat.proofs.Chains.{parted, before_sum}
 
 module _ (net : List NodeDecl) (j k node a : ℕ) (z : End) where
   abbrev here : Name
@@ -26,7 +28,7 @@ module _ (net : List NodeDecl) (j k node a : ℕ) (z : End) where
 
   pub go_sum : ((y : End) × GoesIn net j node a y × GoesIn net k y.node y.base z) ↔ GoesIn net (j + k) node a z
   go_sum = (
-    (λ h. joined (Step net) j k here (name_of_end h.0) (name_of_end z) h.1 h.2),
+    (λ h. chain_join (Step net) j k here (name_of_end h.0) (name_of_end z) h.1 h.2),
     (λ c. let p = parted (Step net) j k here (name_of_end z) c in (end_of p.0, p.1, p.2)),
   )
 

@@ -3,18 +3,19 @@ use Rattle.std.proofs.Common.{◌≡◌, ℕ, ◌+◌, ◌-◌, ◌<◌, ◌≤�
 use Rattle.std.specs.List.{list_all}
 use Rattle.std.proofs.lemmas.Bool.{false≢true}
 use Rattle.std.proofs.lemmas.Option.{slice_get_within}
+use Rattle.dn_base.proofs.Booleans.{or_left, or_right}
 use Rattle.dn_interval.specs.declared.row.End.{End}
 use Rattle.dn_interval.specs.declared.row.Row.{Row}
 use Rattle.dn_interval.specs.declared.span.TheConstants.{TOP}
 use Rattle.dn_interval.specs.Rows.{Member as Named, GivenBy, AreNormal, ends_within}
 use Rattle.dn_interval.specs.Strands.{rows_give}
-use Rattle.dn_interval.proofs.Membership.{in_from, or_left, or_right}
+use Rattle.dn_interval.proofs.Membership.{in_from}
 use Rattle.dn_interval.proofs.Names.{rows_from}
 use Rattle.dn_interval.proofs.Normal.{member_moved}
 use Rattle.dn_net.specs.declared.node.Name.{Name}
 use Rattle.dn_net.specs.declared.node.NodeDecl.{NodeDecl}
 use Rattle.dn_net.specs.Chain.{IsChain}
-use Rattle.dn_net.specs.Decode.{Step, is_accepted, is_accepted_at, is_stop, is_stop_at, unit_of, refers_within}
+use Rattle.dn_net.specs.Decode.{Step, is_accepted, is_accepted_at, refers_within}
 use Rattle.dn_net.specs.Rules.{KeepsNodeRules}
 use Rattle.dn_net.specs.Walks.{Choice, Follows, moved_name}
 use Rattle.dn_net.proofs.Choices.{chain_is_walk}
@@ -52,13 +53,6 @@ pub accepted_is_there : (net : List NodeDecl) (x : Name) → IsTrue (is_accepted
 accepted_is_there net x e = go (slice_get net x.node) refl e
   where
     go : (o : Option NodeDecl) → slice_get net x.node ≡ o → is_accepted_at x.addr o ≡ true → x.node < length net
-    go None f g = absurd (false≢true g)
-    go (Some d) f g = slice_get_within net x.node d f
-
-pub stop_is_there : (net : List NodeDecl) (x : Name) → IsTrue (is_stop net x) → x.node < length net
-stop_is_there net x e = go (slice_get net x.node) refl e
-  where
-    go : (o : Option NodeDecl) → slice_get net x.node ≡ o → is_stop_at x.addr (unit_of o) ≡ true → x.node < length net
     go None f g = absurd (false≢true g)
     go (Some d) f g = slice_get_within net x.node d f
 

@@ -2,6 +2,8 @@
 use Rattle.std.proofs.Common.{◌≡◌, ℕ, zero, suc, ◌+◌, ◌-◌, ◌<◌, ◌≤◌, Bool, true, false, ◌&&◌, ◌||◌, List, [], ◌∷◌, take, drop, length, get_or, refl, sym, ap, ◌∙◌, subst, arith}
 use Rattle.std.specs.List.{AllWithin}
 use Rattle.std.proofs.lemmas.List.{get_or_default, take_rest}
+use Rattle.dn_base.proofs.Booleans.{or-false}
+use Rattle.dn_base.proofs.Lists.{drop_all}
 use Rattle.dn_interval.specs.declared.row.End.{End}
 use Rattle.dn_interval.specs.declared.row.Row.{Row}
 use Rattle.dn_interval.specs.declared.row.Seg.{Seg}
@@ -10,16 +12,11 @@ use Rattle.dn_interval.specs.Rows.{Apart}
 use Rattle.dn_interval.specs.Strands.{segs_give, ends_give, rows_give}
 use Rattle.dn_interval.specs.Onward.{seg_goes}
 use Rattle.dn_interval.proofs.Membership.{in_above, in_below, lo_of, hi_of}
-use Rattle.dn_interval.proofs.Pieces.{drop_past}
 use Rattle.dn_interval.proofs.RowPlaces.{begins_ascend, rest_apart}
 
 pub and_none : (p q : Bool) → (p ≡ true → q ≡ false) → (p && q) ≡ false
 and_none true q f = f refl
 and_none false q f = refl
-
-pub or_false : (p : Bool) → (p || false) ≡ p
-or_false true = refl
-or_false false = refl
 
 -- rows that end before an address give it nothing, and so do those that begin behind it
 
@@ -48,7 +45,7 @@ module _ (all rows : List Row) (seg : Seg) (first i : ℕ) (old now : List Seg) 
 
   finished : ((a : ℕ) (z : End) → in_span seg.span a ≡ true → rows_give (drop i (rest_of all first)) (seg.base + (a - seg.span.lo)) z ≡ false) → (a : ℕ) (z : End) → segs_give now a z ≡ (segs_give old a z || seg_goes rows seg a z)
   finished past a z =
-      sym (or_false (segs_give now a z))
+      sym (or-false (segs_give now a z))
       ∙ ap (λ t. segs_give now a z || t) (sym (and_none (in_span seg.span a) (rows_give (drop i (rest_of all first)) (seg.base + (a - seg.span.lo)) z) (past a z)))
       ∙ so_far a z
       ∙ ap (λ t. segs_give old a z || (in_span seg.span a && t)) (whole (seg.base + (a - seg.span.lo)) z (omega arith) ∙ ap (λ t. rows_give t (seg.base + (a - seg.span.lo)) z) is)
@@ -60,7 +57,7 @@ module _ (all rows : List Row) (seg : Seg) (first i : ℕ) (old now : List Seg) 
 
   -- no row is left
   pub all_cut : length (rest_of all first) ≤ i → (a : ℕ) (z : End) → segs_give now a z ≡ (segs_give old a z || seg_goes rows seg a z)
-  all_cut l = finished (λ a z e. ap (λ t. rows_give t (seg.base + (a - seg.span.lo)) z) (drop_past (rest_of all first) i l))
+  all_cut l = finished (λ a z e. ap (λ t. rows_give t (seg.base + (a - seg.span.lo)) z) (drop_all i (rest_of all first) l))
 
   -- the rows that are left begin behind the segment
   pub rest_behind : (r : Row) → i < length (rest_of all first) → r ≡ get_or (rest_of all first) i r → seg.base + (seg.span.hi - seg.span.lo) < r.span.lo → (a : ℕ) (z : End) → segs_give now a z ≡ (segs_give old a z || seg_goes rows seg a z)

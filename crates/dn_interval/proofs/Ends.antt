@@ -5,10 +5,10 @@ use Rattle.std.specs.List.Sorted.{IsSorted}
 use Rattle.std.specs.Ordering.{ordering_then, nat_cmp, is_lt}
 use Rattle.std.specs.declared.cmp.Ordering.{Ordering}
 use Rattle.std.proofs.lemmas.Bool.{and_parts, and_from, false≢true, cases_lt, cases_order}
+use Rattle.dn_base.proofs.Booleans.{or_left}
 use Rattle.dn_interval.specs.declared.row.End.{End}
 use Rattle.dn_interval.specs.Rows.{end_lt, AllAbove, Ascending, HasEnds}
 use Rattle.dn_interval.specs.Strands.{ends_give}
-use Rattle.dn_interval.proofs.Membership.{or_left}
 use Rattle.dn_interval.proofs.Order.{less, equal, rest_sorted}
 
 abbrev pub end_eq : End → End → Bool

@@ -6,13 +6,14 @@ use Rattle.std.proofs.lemmas.List.{get_or_default, get_or-drop}
 use Rattle.std.specs.Ordering.{ordering_then, nat_cmp, is_lt}
 use Rattle.std.proofs.lemmas.Bool.{or_cases, and_parts, and_from, eqb-true, eq-eqb, le-leb, false≢true, cases_lt, cases_order}
 use Rattle.std.proofs.lemmas.List.Folds.{list_any-append}
+use Rattle.dn_base.proofs.Booleans.{false_from_ne_true}
 use Rattle.dn_interval.specs.declared.row.End.{End}
 use Rattle.dn_interval.specs.declared.strand.Strand.{Strand}
 use Rattle.dn_interval.specs.declared.span.Span.{Span}
 use Rattle.dn_interval.specs.declared.span.TheConstants.{TOP}
 use Rattle.dn_interval.specs.Spans.{in_span}
 use Rattle.dn_interval.specs.Strands.{slid, strand_gives, strands_give, strand_cmp, IsMaximal}
-use Rattle.dn_interval.proofs.Membership.{never_true, lo_of, hi_of}
+use Rattle.dn_interval.proofs.Membership.{lo_of, hi_of}
 use Rattle.dn_interval.proofs.Order.{less, equal, rest_sorted}
 
 -- by node, by slide, and where these are the same by a relation of spans
@@ -151,7 +152,7 @@ apart_from s t (inl l) e f = absurd (omega arith)
 apart_from s t (inr (d, inl l)) e f = absurd (omega arith)
 apart_from s t (inr (d, inr k)) e f = k.1
 
-gives_in : (s : Strand) (a : ℕ) (y : End) → strand_gives s a y ≡ true → in_span s.span a ≡ true
+pub gives_in : (s : Strand) (a : ℕ) (y : End) → strand_gives s a y ≡ true → in_span s.span a ≡ true
 gives_in s a y e = (and_parts (in_span s.span a) (slid s.node s.slide a y) e).0
 
 gives_slid : (s : Strand) (a : ℕ) (y : End) → strand_gives s a y ≡ true → slid s.node s.slide a y ≡ true
@@ -205,7 +206,7 @@ pub strands_give-append : (ss ts : List Strand) (a : ℕ) (y : End) → strands_
 strands_give-append ss ts a y = list_any-append (λ s. strand_gives s a y) ss ts
 
 maximal_at : (f : List Strand) (s : Strand) (g : List Strand) → Ordered (f ++ s ∷ g) → IsMaximal (strands_give (f ++ s ∷ g)) s
-maximal_at f s g p a y e b = never_true (strands_give (f ++ s ∷ g) a y) (λ h. elim (or_cases (strands_give f a y) (strands_give (s ∷ g) a y) (sym (strands_give-append f (s ∷ g) a y) ∙ h)) [
+maximal_at f s g p a y e b = false_from_ne_true (strands_give (f ++ s ∷ g) a y) (λ h. elim (or_cases (strands_give f a y) (strands_give (s ∷ g) a y) (sym (strands_give-append f (s ∷ g) a y) ∙ h)) [
   | inl i ↦ front_none f s a y (precede_at f s g p) e b i
   | inr i ↦ elim (or_cases (strand_gives s a y) (strands_give g a y) i) [
     | inl j ↦ own_none s a y b j

@@ -14,7 +14,7 @@ record Made (names : ℕ → List End) (from : ℕ) (rows : List Seen) : Type 0 
   exact : (a : ℕ) (y : End) → from ≤ a → a ≤ TOP → Member y (names a) ↔ SeenGive rows a y
 
 -- below the rows nothing is given
-none_below : (from : ℕ) (rows : List Seen) → SeenApart from rows → (a : ℕ) (y : End) → a < from → SeenGive rows a y → ⊥
+pub none_below : (from : ℕ) (rows : List Seen) → SeenApart from rows → (a : ℕ) (y : End) → a < from → SeenGive rows a y → ⊥
 none_below from [] p a y l g = g
 none_below from (r ∷ rs) p a y l (inl g) = omega (arith, p.0, g.0)
 none_below from (r ∷ rs) p a y l (inr g) = none_below (suc r.hi) rs p.6 a y (omega (arith, p.0, p.1)) g

@@ -1,8 +1,10 @@
 -- Rows whose names go on: the names that they give, each followed by what its node gives.
-use Rattle.std.proofs.Common.{◌≡◌, ℕ, zero, suc, ◌+◌, ◌-◌, ◌<◌, ◌≤◌, ◌↔◌, inl, inr, Bool, true, nat_lt, List, [], ◌∷◌, map, length, slice_get, Option, Some, None, refl, sym, ap, subst, arith, ltb-true, All}
+use Rattle.std.proofs.Common.{◌≡◌, ℕ, ◌+◌, ◌-◌, ◌<◌, ◌≤◌, ◌↔◌, inl, inr, Bool, true, nat_lt, List, [], ◌∷◌, map, length, slice_get, Option, Some, None, refl, sym, ap, subst, arith, ltb-true, All}
 use Rattle.std.specs.List.{list_all, list_any}
 use Rattle.std.proofs.lemmas.Bool.{or_cases, and_parts, and_from, false≢true}
 use Rattle.std.proofs.lemmas.List.Elements.{All-tail}
+use Rattle.dn_base.proofs.Booleans.{or_left, or_right}
+use Rattle.dn_base.proofs.Lists.{item_there}
 use Rattle.dn_interval.specs.declared.row.End.{End}
 use Rattle.dn_interval.specs.declared.row.Row.{Row}
 use Rattle.dn_interval.specs.declared.span.TheConstants.{TOP}
@@ -10,7 +12,7 @@ use Rattle.dn_interval.specs.Spans.{in_span}
 use Rattle.dn_interval.specs.Rows.{Member, moved, GivenBy, EndsFit, AreNormal, ends_within}
 use Rattle.dn_interval.specs.Strands.{rows_give}
 use Rattle.dn_interval.specs.Onward.{ends_go, row_goes, rows_go, rows_of, gives_by, RowsGoOn}
-use Rattle.dn_interval.proofs.Membership.{or_left, or_right, lo_of, hi_of}
+use Rattle.dn_interval.proofs.Membership.{lo_of, hi_of}
 use Rattle.dn_interval.proofs.Names.{rows_from, rows_to}
 
 module _ (next : ℕ → ℕ → End → Bool) (z : End) where
@@ -74,11 +76,6 @@ given_within count (r ∷ rs) e a y (inr g) = given_within count rs (and_parts (
 
 -- rows of one relation, followed by the rows of each node for another: both relations, one after the other
 
-some_there : {X : Type 0} (xs : List X) (i : ℕ) → i < length xs → (x : X) × (slice_get xs i ≡ Some x)
-some_there [] i l = absurd (omega arith)
-some_there (x ∷ xs) zero l = (x, refl)
-some_there (x ∷ xs) (suc i) l = some_there xs i (omega arith)
-
 pub composed : {X : Type 0} (f : X → List Row) (nodes : List X) (T : ℕ → ℕ → End → Type 0) → ((m : ℕ) (x : X) → slice_get nodes m ≡ Some x → AreNormal (T m) (f x)) → (F : ℕ → End → Type 0) (rows : List Row) → AreNormal F rows → All EndsFit rows → ends_within (length nodes) rows ≡ true → (a : ℕ) (z : End) → a ≤ TOP → (rows_go (gives_by f nodes) rows a z ≡ true) ↔ ((y : End) × F a y × T y.node y.base z)
 composed {X} f nodes T normal F rows n fit there a z low = (to, from)
   where
@@ -95,6 +92,6 @@ composed {X} f nodes T normal F rows n fit there a z low = (to, from)
     from h =
         let g : GivenBy rows a h.0 = (n.exact a h.0 low).0 h.1 in
         let l : h.0.base ≤ TOP = given_fits rows fit a h.0 g in
-        let s = some_there nodes h.0.node (given_within (length nodes) rows there a h.0 g) in
+        let s = item_there nodes h.0.node (given_within (length nodes) rows there a h.0 g) in
         let t : rows_give (f s.0) h.0.base z ≡ true = rows_from (f s.0) h.0.base z (((normal h.0.node s.0 s.1).exact h.0.base z l).0 h.2) in
         (rows_go_on (gives_by f nodes) rows a z).1 (h.0, g, subst (λ o. rows_give (rows_of f o) h.0.base z ≡ true) (sym s.1) t)

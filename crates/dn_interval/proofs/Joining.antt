@@ -4,9 +4,10 @@ use Rattle.std.specs.List.{All, AllWithin}
 use Rattle.std.proofs.lemmas.Bool.{or_cases, and_parts, and_from, leb-true, le-leb, false≢true, cases_lt}
 use Rattle.std.proofs.lemmas.List.Edits.{split_between}
 use Rattle.std.proofs.lemmas.List.Folds.{list_any_at}
+use Rattle.dn_base.proofs.Booleans.{same_tests, or_left, or_right}
 use Rattle.dn_interval.specs.declared.span.Span.{Span}
 use Rattle.dn_interval.specs.Spans.{in_span, has, StandFrom}
-use Rattle.dn_interval.proofs.Membership.{same_bool, or_left, or_right, in_from, lo_of, hi_of, has-append}
+use Rattle.dn_interval.proofs.Membership.{in_from, lo_of, hi_of, has-append}
 use Rattle.dn_interval.proofs.Standing.{EndBefore, stand_lower, end_later, stands_above, front_stands, rest_stands, end_before, stand_past, stand_joined}
 use Rattle.dn_interval.proofs.Places.{ends_ascend, end_within, stand_within, first_by_last}
 
@@ -25,7 +26,7 @@ ends_by from x (y ∷ ys) d a p e = elim (or_cases (in_span x a) (has (y ∷ ys)
 
 pub hull : (s f l : Span) (lo hi : ℕ) (xs : List Span) → StandFrom 0 xs → All (λ (t : Span). (t.lo ≤ s.hi + 1) × (s.lo ≤ t.hi + 1)) xs → 0 < length xs → f ≡ get_or xs 0 f → l ≡ get_or xs (length xs - 1) l → lo ≡ min s.lo f.lo → hi ≡ max s.hi l.hi → (a : ℕ) → (leb lo a && leb a hi) ≡ (in_span s a || has xs a)
 hull s f l lo hi [] p t n ef el lo_is hi_is a = absurd (omega arith)
-hull s f l lo hi (x ∷ xs) p t n ef el lo_is hi_is a = same_bool (leb lo a && leb a hi) (in_span s a || has (x ∷ xs) a) down up
+hull s f l lo hi (x ∷ xs) p t n ef el lo_is hi_is a = same_tests (leb lo a && leb a hi) (in_span s a || has (x ∷ xs) a) down up
   where
     last_at : l ≡ get_or (x ∷ xs) (length xs) l
     last_at = let e : length (x ∷ xs) - 1 ≡ length xs = omega arith in el ∙ ap (λ k. get_or (x ∷ xs) k l) e

@@ -4,10 +4,10 @@ use Rattle.std.specs.List.{list_any}
 use Rattle.std.proofs.lemmas.Bool.{eq-eqb, cases_lt}
 use Rattle.std.proofs.lemmas.List.{get_or_default}
 use Rattle.std.proofs.lemmas.List.Folds.{list_any_more, list_any_kept}
+use Rattle.dn_base.proofs.Booleans.{or_left, or_right}
+use Rattle.dn_base.proofs.Lists.{take_past}
 use Rattle.dn_interval.specs.declared.strand.Strand.{Strand}
 use Rattle.dn_interval.specs.declared.span.TheConstants.{TOP}
-use Rattle.dn_interval.proofs.Membership.{or_left, or_right}
-use Rattle.dn_interval.proofs.Pieces.{take_past}
 
 abbrev pub ends_at : ℕ → List Strand → Bool
 ends_at hi xs = list_any (λ (s : Strand). nat_eq s.span.hi hi) xs

@@ -1,12 +1,13 @@
 -- Rows that are normal are made address by address, from the last address to the first.
 use Rattle.std.proofs.Common.{◌≡◌, ℕ, zero, suc, ◌+◌, ◌-◌, ◌<◌, ◌≤◌, ◌↔◌, inl, inr, Bool, true, false, ◌&&◌, cond, nat_eq, List, [], ◌∷◌, map, refl, sym, ap, ◌∙◌, subst, arith, eqb-true, eq-eqb}
 use Rattle.std.proofs.lemmas.Bool.{and_parts, and_from, cases_lt, false≢true}
+use Rattle.dn_base.proofs.Booleans.{false_from_ne_true}
 use Rattle.dn_interval.specs.declared.row.End.{End}
 use Rattle.dn_interval.specs.declared.row.Row.{Row}
 use Rattle.dn_interval.specs.declared.span.TheConstants.{TOP}
 use Rattle.dn_interval.specs.Rows.{Member, moved, Ascending, HasEnds, Parted, Apart, GivenBy}
 use Rattle.dn_interval.specs.Listed.{Seen, seen_by, same_end, same_ends, in_front, rows_from, listed_rows, NormalRowsAreListed}
-use Rattle.dn_interval.proofs.Membership.{never_true, in_from, hi_of}
+use Rattle.dn_interval.proofs.Membership.{in_from, hi_of}
 use Rattle.dn_interval.proofs.Ends.{one_end}
 use Rattle.dn_interval.proofs.Normal.{same_names, moved_ascending, moved_none, nothing_before, within_first, behind_first}
 
@@ -129,7 +130,7 @@ front_alone a (e ∷ es) h = refl
 
 front_apart : (a : ℕ) (es : List End) (s : Seen) (rows : List Seen) → HasEnds es → (s.lo ≡ suc a → s.ends ≡ map (moved 1) es → ⊥) → in_front a es (s ∷ rows) ≡ record { lo = a; hi = a; ends = es } ∷ (s ∷ rows)
 front_apart a [] s rows h f = absurd h
-front_apart a (e ∷ es) s rows h f = ap (λ b. cond b (record { lo = a; hi = s.hi; ends = e ∷ es } ∷ rows) (record { lo = a; hi = a; ends = e ∷ es } ∷ (s ∷ rows))) (never_true (nat_eq s.lo (suc a) && same_ends s.ends (map (moved 1) (e ∷ es))) (λ t. let p = and_parts (nat_eq s.lo (suc a)) (same_ends s.ends (map (moved 1) (e ∷ es))) t in f (eqb-true s.lo (suc a) p.0) (one_list_of_ends s.ends (map (moved 1) (e ∷ es)) p.1)))
+front_apart a (e ∷ es) s rows h f = ap (λ b. cond b (record { lo = a; hi = s.hi; ends = e ∷ es } ∷ rows) (record { lo = a; hi = a; ends = e ∷ es } ∷ (s ∷ rows))) (false_from_ne_true (nat_eq s.lo (suc a) && same_ends s.ends (map (moved 1) (e ∷ es))) (λ t. let p = and_parts (nat_eq s.lo (suc a)) (same_ends s.ends (map (moved 1) (e ∷ es))) t in f (eqb-true s.lo (suc a) p.0) (one_list_of_ends s.ends (map (moved 1) (e ∷ es)) p.1)))
 
 front_ended : (a : ℕ) (r : Row) (rs : List Row) → HasEnds r.ends → Parted r rs → r.span.lo ≡ a → r.span.hi ≡ a → in_front a r.ends (map seen_by rs) ≡ record { lo = a; hi = a; ends = r.ends } ∷ map seen_by rs
 front_ended a r [] h p e f = front_alone a r.ends h

@@ -2,6 +2,7 @@
 use Rattle.std.proofs.Common.{◌≡◌, ℕ, zero, suc, ◌+◌, ◌-◌, ◌≤◌, ◌⊎◌, inl, inr, Bool, true, false, ◌&&◌, ◌||◌, cond, nat_eq, List, [], ◌∷◌, ◌++◌, map, refl, sym, ap, ◌∙◌, arith, eqb-true}
 use Rattle.std.specs.List.{All, list_any}
 use Rattle.std.proofs.lemmas.Bool.{or_cases, and_parts, and_from, eq-eqb, false≢true}
+use Rattle.dn_base.proofs.Booleans.{same_tests, or_left, or_right}
 use Rattle.dn_interval.specs.declared.row.Seg.{Seg}
 use Rattle.dn_interval.specs.declared.row.End.{End}
 use Rattle.dn_interval.specs.declared.row.Row.{Row}
@@ -9,7 +10,7 @@ use Rattle.dn_interval.specs.declared.span.TheConstants.{TOP}
 use Rattle.dn_interval.specs.Spans.{in_span}
 use Rattle.dn_interval.specs.Rows.{Member, name_at, names_at, SegmentsGive, moved, HasEnds, Apart, EndsFit, GivenBy, AreNormal}
 use Rattle.dn_interval.specs.Strands.{seg_gives, segs_give, ends_give, row_gives, rows_give}
-use Rattle.dn_interval.proofs.Membership.{same_bool, or_left, or_right, in_from, lo_of, hi_of}
+use Rattle.dn_interval.proofs.Membership.{in_from, lo_of, hi_of}
 use Rattle.dn_interval.proofs.Ends.{end_eq, one_end}
 use Rattle.dn_interval.proofs.RowPlaces.{covered}
 
@@ -17,20 +18,6 @@ end_same : (x y : End) → x ≡ y → end_eq x y ≡ true
 end_same x y e = and_from (nat_eq x.node y.node) (nat_eq x.base y.base) (eq-eqb x.node y.node (ap (λ t. t.node) e)) (eq-eqb x.base y.base (ap (λ t. t.base) e))
 
 -- what one segment after others gives
-
-pub member_left : {X : Type 0} (y : X) (xs ys : List X) → Member y xs → Member y (xs ++ ys)
-member_left y [] ys m = absurd m
-member_left y (x ∷ xs) ys (inl e) = inl e
-member_left y (x ∷ xs) ys (inr m) = inr (member_left y xs ys m)
-
-pub member_right : {X : Type 0} (y : X) (xs ys : List X) → Member y ys → Member y (xs ++ ys)
-member_right y [] ys m = m
-member_right y (x ∷ xs) ys m = inr (member_right y xs ys m)
-
-pub member_cases : {X : Type 0} (y : X) (xs ys : List X) → Member y (xs ++ ys) → Member y xs ⊎ Member y ys
-member_cases y [] ys m = inr m
-member_cases y (x ∷ xs) ys (inl e) = inl (inl e)
-member_cases y (x ∷ xs) ys (inr m) = elim (member_cases y xs ys m) [ inl n ↦ inl (inr n) | inr n ↦ inr n ]
 
 pub names_at-append : (segs more : List Seg) (a : ℕ) → names_at (segs ++ more) a ≡ names_at segs a ++ names_at more a
 names_at-append [] more a = refl
@@ -131,13 +118,13 @@ seg_named (s ∷ rest) a e = elim (or_cases (in_span s.span a) (covered_by rest 
 ]
 
 pub covers_same : (segs : List Seg) (rows : List Row) → Apart 0 rows → ((a : ℕ) (y : End) → rows_give rows a y ≡ segs_give segs a y) → (a : ℕ) → covered rows a ≡ covered_by segs a
-covers_same segs rows p same a = same_bool (covered rows a) (covered_by segs a)
+covers_same segs rows p same a = same_tests (covered rows a) (covered_by segs a)
     (λ e. let w = row_named 0 rows a p e in segs_covered segs a w.0 (sym (same a w.0) ∙ w.1))
     (λ e. let w = seg_named segs a e in rows_covered rows a w.0 (same a w.0 ∙ w.1))
 
 -- the names of rows keep at or below the last address, since those of segments do
 
-seg_fits : (s : Seg) (a : ℕ) (y : End) → seg_gives s a y ≡ true → y.base ≤ TOP
+pub seg_fits : (s : Seg) (a : ℕ) (y : End) → seg_gives s a y ≡ true → y.base ≤ TOP
 seg_fits s a y e =
     let p = and_parts (in_span s.span a) (nat_eq s.node y.node && nat_eq (s.base + (a - s.span.lo)) y.base) e in
     let q = and_parts (nat_eq s.node y.node) (nat_eq (s.base + (a - s.span.lo)) y.base) p.1 in
@@ -147,7 +134,7 @@ seg_fits s a y e =
     let fits : s.base + (s.span.hi - s.span.lo) ≤ TOP = s.fits in
     omega arith
 
-segs_fit : (segs : List Seg) (a : ℕ) (y : End) → segs_give segs a y ≡ true → y.base ≤ TOP
+pub segs_fit : (segs : List Seg) (a : ℕ) (y : End) → segs_give segs a y ≡ true → y.base ≤ TOP
 segs_fit [] a y e = absurd (false≢true e)
 segs_fit (s ∷ rest) a y e = elim (or_cases (seg_gives s a y) (segs_give rest a y) e) [
   | inl g ↦ seg_fits s a y g

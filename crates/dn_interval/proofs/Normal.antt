@@ -96,7 +96,7 @@ moved_none (x ∷ xs) =
     cons_same p q = cc
 
 -- below the first row nothing is given
-nothing_below : (from : ℕ) (rs : List Row) → Apart from rs → (a : ℕ) (y : End) → a < from → GivenBy rs a y → ⊥
+pub nothing_below : (from : ℕ) (rs : List Row) → Apart from rs → (a : ℕ) (y : End) → a < from → GivenBy rs a y → ⊥
 nothing_below from [] ap' a y l g = g
 nothing_below from (r ∷ rs) ap' a y l (inl g) = let p : from ≤ r.span.lo = ap'.0 in let q : r.span.lo ≤ a = lo_of r.span a g.0 in omega arith
 nothing_below from (r ∷ rs) ap' a y l (inr g) = nothing_below (suc r.span.hi) rs ap'.4 a y (let p : from ≤ r.span.lo = ap'.0 in let q : r.span.lo ≤ r.span.hi = r.span.ordered in omega arith) g

@@ -2,11 +2,12 @@
 -- whole; and the steps of the passes that make a meeting and a complement.
 use Rattle.std.proofs.Common.{◌≡◌, ℕ, ◌+◌, ◌-◌, ◌<◌, ◌≤◌, ◌⊎◌, inl, inr, Bool, true, false, ◌&&◌, ◌||◌, not, leb, min, max, List, [], ◌∷◌, ◌++◌, drop, length, get_or, refl, sym, ap, ◌∙◌, subst, arith}
 use Rattle.std.proofs.lemmas.Bool.{and_parts, and_from, le-leb, lt-leb, leb-true, false≢true, cases_lt}
+use Rattle.dn_base.proofs.Booleans.{same_tests, false_from_ne_true, or_left, or_right, and-false}
+use Rattle.dn_base.proofs.Lists.{drop_at, drop_all}
 use Rattle.dn_interval.specs.declared.span.Span.{Span}
 use Rattle.dn_interval.specs.declared.span.TheConstants.{TOP}
 use Rattle.dn_interval.specs.Spans.{in_span, has, StandFrom}
-use Rattle.dn_interval.proofs.Pieces.{drop_at, drop_past}
-use Rattle.dn_interval.proofs.Membership.{same_bool, never_true, or_left, or_right, in_from, lo_of, hi_of, in_below, in_above, has-append}
+use Rattle.dn_interval.proofs.Membership.{in_from, lo_of, hi_of, in_below, in_above, has-append}
 use Rattle.dn_interval.proofs.Standing.{EndBefore, end_joined, stands_above, none_below, stand_joined, stand_lower}
 
 pub record Pass (made : List Span) (left whole : ℕ → Bool) : Type 0 where
@@ -46,12 +47,12 @@ ended made left whole s e x = sym (or_none (has made x) (left x) (e x)) ∙ s.sa
 -- the meeting of two lists, from their first spans on
 
 pub both : (s t p : Span) (x : ℕ) → p.lo ≡ max s.lo t.lo → p.hi ≡ min s.hi t.hi → in_span p x ≡ (in_span s x && in_span t x)
-both s t p x lo hi = same_bool (in_span p x) (in_span s x && in_span t x)
+both s t p x lo hi = same_tests (in_span p x) (in_span s x && in_span t x)
     (λ e. and_from (in_span s x) (in_span t x) (in_from s x (omega (arith, lo_of p x e, lo)) (omega (arith, hi_of p x e, hi))) (in_from t x (omega (arith, lo_of p x e, lo)) (omega (arith, hi_of p x e, hi))))
     (λ e. let u = and_parts (in_span s x) (in_span t x) e in in_from p x (omega (arith, lo_of s x u.0, lo_of t x u.1, lo)) (omega (arith, hi_of s x u.0, hi_of t x u.1, hi)))
 
 pub neither : (s t : Span) (x : ℕ) → min s.hi t.hi < max s.lo t.lo → (in_span s x && in_span t x) ≡ false
-neither s t x l = never_true (in_span s x && in_span t x) (λ e. let u = and_parts (in_span s x) (in_span t x) e in absurd (omega (arith, lo_of s x u.0, lo_of t x u.1, hi_of s x u.0, hi_of t x u.1)))
+neither s t x l = false_from_ne_true (in_span s x && in_span t x) (λ e. let u = and_parts (in_span s x) (in_span t x) e in absurd (omega (arith, lo_of s x u.0, lo_of t x u.1, hi_of s x u.0, hi_of t x u.1)))
 
 first_done : (i h j g : Bool) → (i ≡ true → g ≡ false) → ((i || h) && (j || g)) ≡ ((i && j) || (h && (j || g)))
 first_done true h true g f = refl
@@ -209,12 +210,8 @@ pub meeting_ended : (xs ys : List Span) (i j : ℕ) (made : List Span) (whole : 
 meeting_ended xs ys i j made whole pass e = ended made (λ x. has (drop i xs) x && has (drop j ys) x) whole pass (λ x. none x e)
   where
     none : (x : ℕ) → (length xs ≤ i) ⊎ (length ys ≤ j) → (has (drop i xs) x && has (drop j ys) x) ≡ false
-    none x (inl l) = ap (λ t. has t x && has (drop j ys) x) (drop_past xs i l)
-    none x (inr l) = ap (λ t. has (drop i xs) x && has t x) (drop_past ys j l) ∙ and_false (has (drop i xs) x)
-      where
-        and_false : (b : Bool) → (b && false) ≡ false
-        and_false true = refl
-        and_false false = refl
+    none x (inl l) = ap (λ t. has t x && has (drop j ys) x) (drop_all i xs l)
+    none x (inr l) = ap (λ t. has (drop i xs) x && has t x) (drop_all j ys l) ∙ and-false (has (drop i xs) x)
 
 module _ (from : ℕ) (xs : List Span) (i : ℕ) (s : Span) (made : List Span) (whole : ℕ → Bool) (il : i < length xs) (se : s ≡ get_or xs i s) (sp : StandFrom from (drop i xs)) (pass : Pass made (left_out from (drop i xs)) whole) where
   here : StandFrom from (s ∷ drop (i + 1) xs)
@@ -235,13 +232,13 @@ module _ (from : ℕ) (xs : List Span) (i : ℕ) (made : List Span) (whole : ℕ
   pub last_made : (p : Span) → p.lo ≡ from → p.hi ≡ TOP → Pass (made ++ p ∷ []) (λ x. false) whole
   last_made p lo hi =
       pushed made p (left_out from (drop i xs)) (λ x. false) whole pass
-      (λ x. ap (λ t. left_out from t x) (drop_past xs i il) ∙ last_hole from p lo hi x)
+      (λ x. ap (λ t. left_out from t x) (drop_all i xs il) ∙ last_hole from p lo hi x)
       (λ x e. absurd (false≢true e))
 
   pub last_missing : TOP < from → Pass made (λ x. false) whole
   last_missing l =
       passed made (left_out from (drop i xs)) (λ x. false) whole pass
-      (λ x. ap (λ t. left_out from t x) (drop_past xs i il) ∙ no_last_hole from l x)
+      (λ x. ap (λ t. left_out from t x) (drop_all i xs il) ∙ no_last_hole from l x)
 
 pub holes_same : (xs made : List Span) → Pass made (λ x. false) (left_out 0 xs) → (x : ℕ) → x ≤ TOP → has made x ≡ not (has xs x)
 holes_same xs made pass x l = ended made (λ x. false) (left_out 0 xs) pass (λ x. refl) x ∙ go (leb 0 x) (leb x TOP) (le-leb 0 x (omega arith)) (le-leb x TOP l)

@@ -1,20 +1,11 @@
 -- The rest of a list from a place on, and a list as its first item and the others.
-use Rattle.std.proofs.Common.{◌≡◌, ℕ, zero, suc, ◌+◌, ◌-◌, ◌<◌, ◌≤◌, Some, None, List, [], ◌∷◌, take, drop, length, get_or, refl, sym, ap, ◌∙◌, arith}
+use Rattle.std.proofs.Common.{◌≡◌, ℕ, zero, suc, ◌-◌, ◌<◌, ◌≤◌, None, List, [], ◌∷◌, take, drop, length, get_or, refl, sym, ap, ◌∙◌, arith}
 use Rattle.std.specs.List.{slice_get}
-
-pub drop_past : {X : Type 0} (xs : List X) (i : ℕ) → length xs ≤ i → drop i xs ≡ []
-drop_past [] zero l = refl
-drop_past [] (suc i) l = refl
-drop_past (x ∷ xs) zero l = absurd (omega arith)
-drop_past (x ∷ xs) (suc i) l = drop_past xs i (omega arith)
 
 drop_suc : {X : Type 0} (xs : List X) (i : ℕ) (s : X) → i < length xs → s ≡ get_or xs i s → drop i xs ≡ s ∷ drop (suc i) xs
 drop_suc [] i s l e = absurd (omega arith)
 drop_suc (x ∷ xs) zero s l e = ap (λ t. t ∷ xs) (sym e)
 drop_suc (x ∷ xs) (suc i) s l e = drop_suc xs i s (omega arith) e
-
-pub drop_at : {X : Type 0} (xs : List X) (i : ℕ) (s : X) → i < length xs → s ≡ get_or xs i s → drop i xs ≡ s ∷ drop (i + 1) xs
-drop_at xs i s l e = let n : suc i ≡ i + 1 = omega arith in drop_suc xs i s l e ∙ ap (λ k. s ∷ drop k xs) n
 
 take_whole : {X : Type 0} (xs : List X) (n : ℕ) → n ≡ length xs → take n xs ≡ xs
 take_whole [] zero e = refl
@@ -27,18 +18,7 @@ pub first_and_rest : {X : Type 0} (xs : List X) (s : X) → 0 < length xs → s 
 first_and_rest [] s l e = absurd (omega arith)
 first_and_rest (x ∷ xs) s l e = let n : length (x ∷ xs) - 1 ≡ length xs = omega arith in ap (λ t. t ∷ xs) (sym e) ∙ ap (λ t. s ∷ t) (sym (take_whole xs (length (x ∷ xs) - 1) n))
 
-pub take_past : {X : Type 0} (xs : List X) (n : ℕ) → length xs ≤ n → take n xs ≡ xs
-take_past [] zero l = refl
-take_past [] (suc n) l = refl
-take_past (x ∷ xs) zero l = absurd (omega arith)
-take_past (x ∷ xs) (suc n) l = ap (λ t. x ∷ t) (take_past xs n (omega arith))
-
 -- what `get` finds
-
-pub there : {X : Type 0} (xs : List X) (i : ℕ) (s : X) → i < length xs → s ≡ get_or xs i s → Some s ≡ slice_get xs i
-there [] i s l e = absurd (omega arith)
-there (x ∷ xs) zero s l e = ap Some e
-there (x ∷ xs) (suc i) s l e = there xs i s (omega arith) e
 
 pub gone : {X : Type 0} (xs : List X) (i : ℕ) → length xs ≤ i → None ≡ slice_get xs i
 gone [] i l = refl

@@ -2,10 +2,11 @@
 use Rattle.std.proofs.Common.{◌≡◌, ℕ, zero, suc, ◌<◌, ◌≤◌, inl, inr, Bool, true, false, ◌||◌, leb, ltb, Option, Some, None, List, [], ◌∷◌, drop, length, get_or, refl, sym, ap, ◌∙◌, arith}
 use Rattle.std.specs.List.{AllWithin, slice_get, list_any}
 use Rattle.std.proofs.lemmas.Bool.{le-leb, lt-ltb, ltb-true, or_cases, false≢true}
+use Rattle.dn_base.proofs.Booleans.{false_from_ne_true}
 use Rattle.dn_interval.specs.declared.row.Row.{Row}
 use Rattle.dn_interval.specs.Spans.{in_span}
 use Rattle.dn_interval.specs.Rows.{Apart}
-use Rattle.dn_interval.proofs.Membership.{never_true, in_above, lo_of, only_first}
+use Rattle.dn_interval.proofs.Membership.{in_above, lo_of, only_first}
 
 -- some row has the address
 abbrev pub covered : List Row → ℕ → Bool
@@ -55,6 +56,6 @@ begins_by a (Some r) = leb r.span.lo a
 pub found : (from : ℕ) (rs : List Row) (i a : ℕ) → Apart from rs → i ≤ length rs → AllWithin (λ (r : Row). r.span.hi < a) rs 0 i → AllWithin (λ (r : Row). a ≤ r.span.hi) rs i (length rs) → begins_by a (slice_get rs i) ≡ covered rs a
 found from [] zero a p l f b = refl
 found from [] (suc i) a p l f b = absurd (omega arith)
-found from (r ∷ rs) zero a p l f b = only_first (leb r.span.lo a) (leb a r.span.hi) (covered rs a) (le-leb a r.span.hi (b 0 r (omega arith) (omega arith))) (never_true (covered rs a) (λ e. let q : suc r.span.hi ≤ a = covered_above (suc r.span.hi) rs a p.4 e in absurd (omega (arith, b 0 r (omega arith) (omega arith)))))
+found from (r ∷ rs) zero a p l f b = only_first (leb r.span.lo a) (leb a r.span.hi) (covered rs a) (le-leb a r.span.hi (b 0 r (omega arith) (omega arith))) (false_from_ne_true (covered rs a) (λ e. let q : suc r.span.hi ≤ a = covered_above (suc r.span.hi) rs a p.4 e in absurd (omega (arith, b 0 r (omega arith) (omega arith)))))
 found from (r ∷ rs) (suc i) a p l f b =
     found (suc r.span.hi) rs i a p.4 (omega arith) (λ k d u v. f (suc k) d (omega arith) (omega arith)) (λ k d u v. b (suc k) d (omega arith) (omega arith)) ∙ ap (λ t. t || covered rs a) (sym (in_above r.span a (f 0 r (omega arith) (omega arith))))

@@ -2,10 +2,11 @@
 -- addresses has one of them.
 use Rattle.std.proofs.Common.{◌≡◌, ℕ, ◌+◌, ◌<◌, ◌≤◌, ◌⊎◌, inl, inr, true, false, List, [], ◌∷◌, ◌++◌, refl, sym, ◌∙◌, subst, arith}
 use Rattle.std.proofs.lemmas.Bool.{or_cases, false≢true, cases_order}
+use Rattle.dn_base.proofs.Booleans.{same_tests, false_from_ne_true, or_left, or_right}
 use Rattle.dn_interval.specs.declared.span.Span.{Span}
 use Rattle.dn_interval.specs.declared.span.TheConstants.{TOP}
 use Rattle.dn_interval.specs.Spans.{in_span, has, StandFrom, OneListOfSpans}
-use Rattle.dn_interval.proofs.Membership.{same_bool, never_true, or_left, or_right, in_from, lo_of, hi_of, has-append, same_span}
+use Rattle.dn_interval.proofs.Membership.{in_from, lo_of, hi_of, has-append, same_span}
 
 -- each span ends at least two addresses before an address
 abbrev pub EndBefore : ℕ → List Span → Type 0
@@ -29,7 +30,7 @@ stands_above from (s ∷ xs) a p e = elim (or_cases (in_span s a) (has xs a) e) 
 ]
 
 pub none_below : (from : ℕ) (xs : List Span) (a : ℕ) → StandFrom from xs → a < from → has xs a ≡ false
-none_below from xs a p l = never_true (has xs a) (λ e. let q : from ≤ a = stands_above from xs a p e in absurd (omega arith))
+none_below from xs a p l = false_from_ne_true (has xs a) (λ e. let q : from ≤ a = stands_above from xs a p e in absurd (omega arith))
 
 pub front_stands : (from : ℕ) (f r : List Span) → StandFrom from (f ++ r) → StandFrom from f
 front_stands from [] r p = tt
@@ -111,7 +112,7 @@ same_spans from (x ∷ xs) (y ∷ ys) p q same = cons_same (same_span x y lo hi)
         go (inr r) = r
 
     tails : (a : ℕ) → a ≤ TOP → has xs a ≡ has ys a
-    tails a t = same_bool (has xs a) (has ys a) (over from x y xs ys a p.1 hi (λ e. sym (same a t) ∙ e)) (over from y x ys xs a q.1 (sym hi) (λ e. same a t ∙ e))
+    tails a t = same_tests (has xs a) (has ys a) (over from x y xs ys a p.1 hi (λ e. sym (same a t) ∙ e)) (over from y x ys xs a q.1 (sym hi) (λ e. same a t ∙ e))
 
 pub one_list : OneListOfSpans
 one_list xs ys p q same = same_spans 0 xs ys p q same

@@ -7,6 +7,7 @@ use Rattle.std.proofs.lemmas.List.{take-append-drop}
 use Rattle.std.proofs.lemmas.List.Elements.{All-nil, All-cons, All-head, All-tail, All-append, All-take, All-drop, All-filter}
 use Rattle.std.proofs.lemmas.List.Sorted.{IsNonDecreasingBy-drop}
 use Rattle.std.proofs.lemmas.List.Folds.{list_any-append}
+use Rattle.dn_base.proofs.Booleans.{false_from_ne_true, or_left, or_right}
 use Rattle.dn_interval.specs.declared.row.End.{End}
 use Rattle.dn_interval.specs.declared.row.Row.{Row}
 use Rattle.dn_interval.specs.declared.strand.Strand.{Strand}
@@ -14,8 +15,8 @@ use Rattle.dn_interval.specs.declared.span.TheConstants.{TOP}
 use Rattle.dn_interval.specs.Spans.{in_span}
 use Rattle.dn_interval.specs.Rows.{moved, Ascending, HasEnds, Parted, Apart}
 use Rattle.dn_interval.specs.Strands.{slid, strand_gives, strands_give, slides_give, ends_give, row_gives, rows_give, IsMaximal}
-use Rattle.dn_interval.proofs.Membership.{never_true, or_left, or_right, in_from, lo_of, hi_of, in_below, in_above}
-use Rattle.dn_interval.proofs.Following.{strands_give-append, slid_node, slid_base, slid_from}
+use Rattle.dn_interval.proofs.Membership.{in_from, lo_of, hi_of, in_below, in_above}
+use Rattle.dn_interval.proofs.Following.{strands_give-append, slid_node, slid_base, slid_from, gives_in}
 use Rattle.dn_interval.proofs.Least.{ends_at}
 
 -- what is still given from an address on
@@ -71,9 +72,6 @@ all_later whole (r ∷ rs) from to l p = elim (cases_lt from to) [
   | inl k ↦ closed_later whole r rs from to k p
   | inr k ↦ let e : from ≡ to = omega arith in subst (ClosedBy whole r rs) e p
 ]
-
-gives_in : (s : Strand) (a : ℕ) (y : End) → strand_gives s a y ≡ true → in_span s.span a ≡ true
-gives_in s a y e = (and_parts (in_span s.span a) (slid s.node s.slide a y) e).0
 
 rest_from : (xs : List Strand) (from a : ℕ) (y : End) → All (λ (s : Strand). from ≤ s.span.lo) xs → strands_give xs a y ≡ true → from ≤ a
 rest_from [] from a y p e = absurd (false≢true e)
@@ -275,7 +273,7 @@ module _ (whole : ℕ → End → Bool) (made : List Row) (from hi : ℕ) (runni
       ∙ ap (λ b. strand_gives x a y || b) (running_gives xs a y (All-tail (λ (s : Strand). (s.span.lo ≤ from) × (hi ≤ s.span.hi)) x xs p) l m)
 
   rest_none : (a : ℕ) (y : End) → a ≤ hi → strands_give rest a y ≡ false
-  rest_none a y l = never_true (strands_give rest a y) (λ e. let k : hi + 1 ≤ a = rest_from rest (hi + 1) a y (λ k d m. let b : hi < (get_or rest k d).span.lo = behind k d m in omega arith) e in omega arith)
+  rest_none a y l = false_from_ne_true (strands_give rest a y) (λ e. let k : hi + 1 ≤ a = rest_from rest (hi + 1) a y (λ k d m. let b : hi < (get_or rest k d).span.lo = behind k d m in omega arith) e in omega arith)
 
   whole_from : (a : ℕ) (y : End) → from ≤ a → left from running rest a y ≡ true → whole a y ≡ true
   whole_from a y l e = sym (v.same a y) ∙ or_right (rows_give made a y) (left from running rest a y) e
@@ -290,7 +288,7 @@ module _ (whole : ℕ → End → Bool) (made : List Row) (from hi : ℕ) (runni
   given_first : (y : End) → whole from y ≡ slides_give running from y
   given_first y =
       sym (v.same from y)
-      ∙ ap (λ b. b || left from running rest from y) (never_true (rows_give made from y) (λ e. let k : from < from = rows_below whole 0 made from from y v.apart v.closed e in omega arith))
+      ∙ ap (λ b. b || left from running rest from y) (false_from_ne_true (rows_give made from y) (λ e. let k : from < from = rows_below whole 0 made from from y v.apart v.closed e in omega arith))
       ∙ ap (λ b. b && (strands_give running from y || strands_give rest from y)) (le-leb from from (omega arith))
       ∙ ap (λ b. strands_give running from y || b) (rest_none from y hi_from)
       ∙ or_false (strands_give running from y)

@@ -1,20 +1,23 @@
 -- The law of access: tables in which the slots that do not allow an access have words 0 hold the records that allow it.
-use Rattle.std.proofs.Common.{◌≡◌, ℕ, zero, suc, ◌+◌, ◌*◌, ◌%◌, ◌<◌, ◌≤◌, Bool, true, false, if◌then◌else◌, nat_lt, List, [], ◌∷◌, ◌++◌, length, take, drop, replicate, slice_get, Option, Some, None, option_map, refl, sym, ap, ◌∙◌, subst, arith, length-drop, suc-mul, ltb-true}
+use Rattle.std.proofs.Common.{◌≡◌, ℕ, zero, suc, ◌+◌, ◌*◌, ◌%◌, ◌<◌, ◌≤◌, Bool, true, false, if◌then◌else◌, nat_lt, List, [], ◌∷◌, ◌++◌, length, take, drop, replicate, slice_get, Option, Some, None, option_map, IsTrue, refl, sym, ap, ◌∙◌, subst, arith, length-drop, suc-mul, ltb-true}
 use Rattle.std.specs.List.{All}
 use Rattle.std.proofs.lemmas.List.{take_at, drop_at, drop-drop, length-replicate, length-take-le}
 use Rattle.dn_net.specs.declared.node.NodeDecl.{NodeDecl}
 use Rattle.dn_net.specs.declared.node.Unit.{Unit as UnitPart}
 use Rattle.dn_net.specs.Decode.{unit_at}
 use Rattle.dn_kind.specs.declared.rights.Access.{Access}
+use Rattle.dn_kind.specs.declared.rights.Access.TheVariants.{Read, Write}
 use Rattle.dn_kind.specs.declared.unit_kind.Record.{Record}
 use Rattle.dn_kind.specs.Kind.{Meaning, IsLawful, gate_word}
+use Rattle.dn_kind.specs.Rights.{allows, both_rights}
 use Rattle.dn_kind.specs.Tables.{Held, slot_words, record_within, record_spelled, record_of_unit, record_held, AreTables, record_allowing, allowing, ResolvesUnder}
 use Rattle.dn_kind.specs.Cleared.{kept_slots, kept_of_kind, kept_words, kept_tables, is_open, is_open_in, words_allowing, ClearedTablesAllow, LawOfAccess}
 use Rattle.dn_kind.proofs.Held.{kind_lawful}
 
-front : (w : ℕ) (ws : List ℕ) (b : Bool) → w ≤ length ws → length (if b then take w ws else replicate w 0) ≡ w
-front w ws true l = length-take-le w ws l
-front w ws false l = length-replicate w 0
+-- the words of a slot, or as many that are 0
+pub front_sized : (w : ℕ) (ws : List ℕ) (b : Bool) → w ≤ length ws → length (if b then take w ws else replicate w 0) ≡ w
+front_sized w ws true l = length-take-le w ws l
+front_sized w ws false l = length-replicate w 0
 
 -- the words of a slot, where some slots are cleared
 slot_kept : (kept : ℕ → Bool) (w first count q : ℕ) (ws : List ℕ) → length ws ≡ count * w → q < count → slot_words w (kept_slots kept w first count ws) q ≡ (if kept (first + q) then slot_words w ws q else replicate w 0)
@@ -26,7 +29,7 @@ slot_kept kept w first (suc count) zero ws e l =
     let here : first + 0 ≡ first = omega arith in
     let start : List ℕ = if kept first then take w ws else replicate w 0 in
     ap (λ n. take w (drop n (start ++ kept_slots kept w (suc first) count (drop w ws)))) none
-    ∙ take_at start (kept_slots kept w (suc first) count (drop w ws)) w (front w ws (kept first) enough)
+    ∙ take_at start (kept_slots kept w (suc first) count (drop w ws)) w (front_sized w ws (kept first) enough)
     ∙ ap (λ n. if kept first then take w (drop n ws) else replicate w 0) (sym none)
     ∙ ap (λ n. if kept n then take w (drop (0 * w) ws) else replicate w 0) (sym here)
 slot_kept kept w first (suc count) (suc q) ws e l =
@@ -40,7 +43,7 @@ slot_kept kept w first (suc count) (suc q) ws e l =
     let rest : List ℕ = kept_slots kept w (suc first) count (drop w ws) in
     ap (λ k. take w (drop k (start ++ rest))) both
     ∙ ap (take w) (sym (drop-drop (q * w) w (start ++ rest)))
-    ∙ ap (λ z. take w (drop (q * w) z)) (drop_at start rest w (front w ws (kept first) enough))
+    ∙ ap (λ z. take w (drop (q * w) z)) (drop_at start rest w (front_sized w ws (kept first) enough))
     ∙ slot_kept kept w (suc first) count q (drop w ws) left (omega arith)
     ∙ ap (λ z. if kept (suc first + q) then take w z else replicate w 0) (drop-drop (q * w) w ws ∙ ap (λ k. drop k ws) (sym both))
     ∙ ap (λ k. if kept k then slot_words w ws (suc q) else replicate w 0) here
@@ -57,7 +60,7 @@ tables_kept net kinds kept first (suc node) (ws ∷ rest) =
     ∙ ap (λ n. option_map (λ ws. kept_words kinds (kept n) (unit_at net n) ws) (slice_get rest node)) here
 
 -- the last of words that are 0 is 0
-gate_of_zeros : (n : ℕ) → gate_word (replicate n 0) ≡ 0
+pub gate_of_zeros : (n : ℕ) → gate_word (replicate n 0) ≡ 0
 gate_of_zeros zero = refl
 gate_of_zeros (suc zero) = refl
 gate_of_zeros (suc (suc n)) = gate_of_zeros (suc n)
@@ -115,3 +118,8 @@ pub law_of_access : LawOfAccess
 law_of_access net kinds words access lawful sized x y =
     let e : ◌≡◌ {A = Held} (record_held net kinds (words_allowing net kinds access words)) (allowing access (record_held net kinds words)) = (λ i node slot. records_allowing net kinds words access lawful sized node slot i) in
     ((λ r. subst (λ h. ResolvesUnder net h x y) (sym e) r), (λ r. subst (λ h. ResolvesUnder net h x y) e r))
+
+-- both rights allow each access
+pub both_allow : (access : Access) → IsTrue (allows both_rights access)
+both_allow Read = refl
+both_allow Write = refl

@@ -1,6 +1,8 @@
 -- Under records that its units can hold, a legal net has no chain of more than 259 steps.
 use Rattle.std.proofs.Common.{◌≡◌, ℕ, zero, suc, ◌+◌, ◌-◌, ◌*◌, ◌/◌, ◌%◌, ◌^◌, ◌<◌, ◌≤◌, ◌⊎◌, inl, inr, Bool, true, false, if◌then◌else◌, ◌&&◌, nat_le, nat_lt, List, [], ◌∷◌, length, slice_get, Option, Some, None, IsSome, IsTrue, refl, sym, ap, ◌∙◌, subst, arith, leb-true, ltb-true, pow_pos, pow-add, mod-lt, mul-le-mul_right, suc-mul}
 use Rattle.std.proofs.lemmas.Bool.{and_parts}
+use Rattle.dn_base.proofs.Members.{member_at}
+use Rattle.dn_base.proofs.Orders.{cases_lt}
 use Rattle.dn_net.specs.declared.node.Name.{Name}
 use Rattle.dn_net.specs.declared.node.NodeDecl.{NodeDecl}
 use Rattle.dn_net.specs.declared.node.Unit.{Unit as UnitPart}
@@ -51,11 +53,6 @@ pub record Led (net : List NodeDecl) (x z : Name) (u : UnitPart) : Type 0 where
   pub to : ◌≡◌ {A = Name} (record { node = port; addr = addr }) z
   pub stop : IsTrue (is_stop net x)
 
-pub member_get : {X : Type 0} (xs : List X) (i : ℕ) (x : X) → slice_get xs i ≡ Some x → Member x xs
-member_get [] i x at = cc
-member_get (y ∷ ys) zero x at = let e : y ≡ x = cc in inl e
-member_get (y ∷ ys) (suc i) x at = inr (member_get ys i x at)
-
 -- the unit leads on to another where the net leads the name behind the step into it
 pub leads_by : (net : List NodeDecl) (x z t : Name) (u : UnitPart) (n : ℕ) → unit_at net x.node ≡ Some u → Led net x z u → IsChain (Step net) n z t → IsTrue (is_stop net t) → LeadsTo net x.node t.node
 leads_by net x z t u n at l chain stop = record {
@@ -88,7 +85,7 @@ module _ (net : List NodeDecl) (legal : IsLegalNet net) (h : Held) (held : AreHe
       out r e t (Some p) f (inr n) = absurd n
       out r e t (Some p) f (inl s) = record {
         port = p;
-        has_port = member_get u.ports r.port p f;
+        has_port = member_at u.ports r.port p f;
         addr = r.page * 2 ^ u.page + x.addr % 2 ^ u.page;
         below = low_output r.page x.addr u.page u.reach (low_record x u r at e) (low_page u (plain_at net x.node u legal.shapes at));
         to = s;
@@ -115,11 +112,8 @@ module _ (net : List NodeDecl) (legal : IsLegalNet net) (h : Held) (held : AreHe
 
   -- fewer steps of the net than 65
   short : (n : ℕ) (x y : Name) → IsChain (Step net) n x y → n ≤ 64
-  short n x y c = by (order n step_limit)
+  short n x y c = by (cases_lt n step_limit)
     where
-      order : (a b : ℕ) → (a < b) ⊎ (b ≤ a)
-      order a b = grind arith
-
       by : (n < step_limit) ⊎ (step_limit ≤ n) → n ≤ 64
       by (inl l) = let e = steps_are in omega arith
       by (inr l) = let f = chain_front (Step net) step_limit n x y l c in absurd (legal.walks.shallow x f.0 f.1)

@@ -1,15 +1,15 @@
 -- Lists of names as sets: two ascending lists with the same names are one list.
-use Rattle.std.proofs.Common.{◌≡◌, ◌∙◌, ap, sym, subst, refl, ℕ, ◌+◌, ◌<◌, ◌⊎◌, ◌↔◌, inl, inr, Bool, true, false, ◌||◌, List, [], ◌∷◌, ◌++◌, take, get_or, length}
+use Rattle.std.proofs.Common.{◌≡◌, ◌∙◌, ap, sym, refl, ℕ, ◌+◌, ◌<◌, ◌⊎◌, ◌↔◌, inl, inr, true, false, List, [], ◌∷◌, ◌++◌, take, get_or, length}
 use Rattle.std.proofs.lemmas.List.{take_more}
 use Rattle.std.proofs.lemmas.List.Sorted.{list_any-IsPermutation}
-use Rattle.std.specs.List.{list_any}
 use Rattle.std.specs.List.Sorted.{IsPermutation}
+use Rattle.dn_base.proofs.Booleans.{and_parts}
+use Rattle.dn_base.proofs.Members.{member_left, member_right, member_cases}
 use Rattle.dn_net.specs.declared.node.Name.{Name}
 use Rattle.dn_net.specs.Chain.{Member}
 use Rattle.dn_net.specs.Names.{name_lt, name_eq, with_name, is_before_first, is_ascending, sorted_names}
-use Rattle.dn_net.proofs.Ascending.{before_members, turned, itself, equal, sorted_ascending, with_ascending}
-use Rattle.dn_net.proofs.Least.{both_true}
-use Rattle.dn_net.proofs.Resolution.{member_left, member_right, member_cases, name_same, with_in, with_has, names_in}
+use Rattle.dn_net.proofs.Ascending.{before_members, turned, sorted_ascending, with_ascending, not_itself}
+use Rattle.dn_net.proofs.Resolution.{with_in, with_has, names_in, test_finds, found_by_test}
 
 -- the lists have the same names
 abbrev pub Same : List Name → List Name → Type 0
@@ -20,9 +20,6 @@ same_refl xs z = ((λ m. m), (λ m. m))
 
 pub same_sym : (xs ys : List Name) → Same xs ys → Same ys xs
 same_sym xs ys s z = ((s z).1, (s z).0)
-
-not_itself : (x z : Name) → x ≡ z → name_lt x z ≡ true → ⊥
-not_itself x z e l = let f : name_lt x x ≡ true = subst (λ w. name_lt x w ≡ true) (sym e) l in let g : false ≡ true = sym (itself x) ∙ f in cc
 
 not_turned : (x y : Name) → name_lt x y ≡ true → name_lt y x ≡ true → ⊥
 not_turned x y l m = let g : false ≡ true = sym (turned x y l) ∙ m in cc
@@ -44,7 +41,7 @@ ascending_same [] (y ∷ ys) up down s = absurd ((s y).1 (inl refl))
 ascending_same (x ∷ xs) [] up down s = absurd ((s x).0 (inl refl))
 ascending_same (x ∷ xs) (y ∷ ys) up down s =
     let e : x ≡ y = same_first x y xs ys up down ((s x).0 (inl refl)) ((s y).1 (inl refl)) in
-    let rest : xs ≡ ys = ascending_same xs ys (both_true (is_before_first x xs) (is_ascending xs) up).1 (both_true (is_before_first y ys) (is_ascending ys) down).1 (λ z. ((λ m. rest_in x y z xs ys e up m ((s z).0 (inr m))), (λ m. rest_in y x z ys xs (sym e) down m ((s z).1 (inr m))))) in
+    let rest : xs ≡ ys = ascending_same xs ys (and_parts (is_before_first x xs) (is_ascending xs) up).1 (and_parts (is_before_first y ys) (is_ascending ys) down).1 (λ z. ((λ m. rest_in x y z xs ys e up m ((s z).0 (inr m))), (λ m. rest_in y x z ys xs (sym e) down m ((s z).1 (inr m))))) in
     ap (λ w. w ∷ xs) e ∙ ap (λ l. y ∷ l) rest
 
 pub sorted_same : (xs ys : List Name) → Same xs ys → sorted_names xs ≡ sorted_names ys
@@ -61,24 +58,6 @@ sorted_push xs x =
 
 pub sorted_more : (xs : List Name) (i : ℕ) (d : Name) → i < length xs → sorted_names (take (i + 1) xs) ≡ with_name (get_or xs i d) (sorted_names (take i xs))
 sorted_more xs i d h = ap sorted_names (take_more xs i d h) ∙ sorted_push (take i xs) (get_or xs i d)
-
--- a list has a name where a test finds it
-test_finds : (z : Name) (xs : List Name) → Member z xs → list_any (name_eq z) xs ≡ true
-test_finds z [] m = absurd m
-test_finds z (x ∷ xs) (inl e) = ap (λ b. b || list_any (name_eq z) xs) (subst (λ w. name_eq z w ≡ true) (sym e) (equal z))
-test_finds z (x ∷ xs) (inr m) = either (name_eq z x) (list_any (name_eq z) xs) (test_finds z xs m)
-  where
-    either : (a b : Bool) → b ≡ true → (a || b) ≡ true
-    either true b e = refl
-    either false b e = e
-
-found_by_test : (z : Name) (xs : List Name) → list_any (name_eq z) xs ≡ true → Member z xs
-found_by_test z [] e = cc
-found_by_test z (x ∷ xs) e = go (found_by_test z xs) (name_eq z x) refl e
-  where
-    go : (list_any (name_eq z) xs ≡ true → Member z xs) → (b : Bool) → name_eq z x ≡ b → (b || list_any (name_eq z) xs) ≡ true → Member z (x ∷ xs)
-    go later true f g = inl (sym (name_same z x f))
-    go later false f g = inr (later g)
 
 -- a sort changes no set
 pub sorted_permuted : (xs ys : List Name) → IsPermutation xs ys → sorted_names ys ≡ sorted_names xs

@@ -1,8 +1,9 @@
 -- Names level by level: each level has the names one step on from those of the level before it.
 use Rattle.std.proofs.Common.{◌≡◌, ◌∙◌, ap, sym, subst, refl, arith, ℕ, zero, suc, ◌+◌, ◌-◌, ◌<◌, ◌≤◌, ◌==◌, eqb-true, inl, inr, Bool, true, false, if◌then◌else◌, List, [], ◌∷◌, ◌++◌, length, append_assoc, append-nil, IsTrue, Result, Ok, Err, IfOk}
+use Rattle.dn_base.proofs.Members.{member_left, member_right, member_cases}
 use Rattle.dn_net.specs.declared.node.Name.{Name}
 use Rattle.dn_net.specs.Names.{sorted_names, passing_names, each_step, reached_names, end_names}
-use Rattle.dn_net.proofs.Resolution.{member_left, member_right, member_cases, names_in, passing_in, each_in}
+use Rattle.dn_net.proofs.Resolution.{names_in, passing_in, each_in}
 use Rattle.dn_kind.specs.Tables.{step_limit_under}
 use Rattle.dn_kind.specs.Levels.{are_there}
 use Rattle.dn_kind.proofs.Nodes.{sorted_there}
@@ -18,7 +19,7 @@ levels_none f zero = refl
 levels_none f (suc n) = levels_none f n
 
 -- what is reached in so many steps is one level more
-reached_levels : (f : Name → List Name) (n : ℕ) (xs : List Name) → reached_names f n xs ≡ levels f (suc n) xs
+pub reached_levels : (f : Name → List Name) (n : ℕ) (xs : List Name) → reached_names f n xs ≡ levels f (suc n) xs
 reached_levels f zero xs = sym (append-nil xs)
 reached_levels f (suc n) xs = ap (λ (l : List Name). xs ++ l) (reached_levels f n (each_step f xs))
 

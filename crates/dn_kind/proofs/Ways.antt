@@ -2,33 +2,34 @@
 use Rattle.std.proofs.Common.{◌≡◌, ℕ, zero, suc, ◌+◌, ◌/◌, ◌^◌, ◌≤◌, ◌⊎◌, inl, inr, Bool, true, false, if◌then◌else◌, List, [], ◌∷◌, ◌++◌, length, Option, Some, None, is_some, refl, sym, ap, ◌∙◌, subst, arith, zero-add, nat_le, slice_get, IsTrue}
 use Rattle.std.specs.List.{list_all}
 use Rattle.std.proofs.lemmas.Bool.{and_parts}
+use Rattle.dn_base.proofs.Members.{one_member}
 use Rattle.dn_net.specs.declared.node.Name.{Name}
 use Rattle.dn_net.specs.declared.node.NodeDecl.{NodeDecl}
 use Rattle.dn_net.specs.declared.node.Unit.{Unit as UnitPart}
 use Rattle.dn_net.specs.Chain.{Member, IsChain, Reaches}
-use Rattle.dn_net.specs.Decode.{top, in_some_block, is_formed, is_accepted, is_accepted_at, is_stop, is_stop_at, unit_of, unit_at, steps, Step}
+use Rattle.dn_net.specs.Decode.{top, in_some_block, is_formed, is_accepted, is_accepted_at, is_stop, is_stop_at, sent_names, unit_of, unit_at, steps, Step}
 use Rattle.dn_net.proofs.Steps.{unit_is_bare, node_at}
-use Rattle.dn_kind.specs.Tables.{Held, to_port, output, steps_by_unit, steps_under, StepUnder, Extends, MoreRecordsKeepNames}
+use Rattle.dn_net.proofs.Chains.{chain_more}
+use Rattle.dn_kind.specs.declared.rights.Access.{Access}
+use Rattle.dn_kind.specs.declared.unit_kind.Record.{Record}
+use Rattle.dn_kind.specs.Rights.{allows}
+use Rattle.dn_kind.specs.Tables.{AreHeld, Held, IsHeld, allowing, record_allowing, to_port, output, steps_by_unit, steps_under, StepUnder, Extends, MoreRecordsKeepNames}
 use Rattle.dn_kind.specs.Ways.{NoFork, Slot, slot_in, PassesIn, OneWayToUnit, ChainPassesSlots, OneRowOfSlots, LegalOneWayToUnit, LegalOneRowOfSlots}
-
--- chains of a relation are chains of a wider one
-pub chain_more : {X : Type 0} (S Q : X → X → Type 0) → ((x y : X) → S x y → Q x y) → (k : ℕ) (x y : X) → IsChain S k x y → IsChain Q k x y
-chain_more S Q f zero x y c = c
-chain_more S Q f (suc k) x y c = (c.0, f x c.0 c.1, chain_more S Q f k c.0 y c.2)
 
 -- of two chains from one name, where a name that reaches the end of the first has one step at most, one goes on with the other
 one_way : {X : Type 0} (S : X → X → Type 0) (u : X) → ((x y z : X) (k : ℕ) → IsChain S k x u → S x y → S x z → y ≡ z) → (j k : ℕ) (x y : X) → IsChain S j x u → IsChain S k x y → ((d : ℕ) × (j ≡ k + d) × IsChain S d y u) ⊎ ((d : ℕ) × (k ≡ j + d) × IsChain S d u y)
-one_way S u single zero k x y c d = inr (k, sym (zero-add k), subst (λ w. IsChain S k w y) c d)
-one_way S u single (suc j) zero x y c d = inl (suc j, sym (zero-add (suc j)), subst (λ w. IsChain S (suc j) w u) d c)
-one_way {X} S u single (suc j) (suc k) x y c d =
-    let e : c.0 ≡ d.0 = single x c.0 d.0 (suc j) c c.1 d.1 in
+one_way S u alone zero k x y c d = inr (k, sym (zero-add k), subst (λ w. IsChain S k w y) c d)
+one_way S u alone (suc j) zero x y c d = inl (suc j, sym (zero-add (suc j)), subst (λ w. IsChain S (suc j) w u) d c)
+one_way {X} S u alone (suc j) (suc k) x y c d =
+    let e : c.0 ≡ d.0 = alone x c.0 d.0 (suc j) c c.1 d.1 in
     let c' : IsChain S j d.0 u = subst (λ w. IsChain S j w u) e c.2 in
-    let r = one_way S u single j k d.0 y c' d.2 in
+    let r = one_way S u alone j k d.0 y c' d.2 in
     elim r [
       | inl a ↦ inl (a.0, (omega arith), a.2)
       | inr a ↦ inr (a.0, (omega arith), a.2)
     ]
 
+-- a step under records is one under more
 member_more : (net : List NodeDecl) (h h' : Held) → Extends h h' → (x y : Name) (u : Option UnitPart) → Member y (steps_by_unit net h x u) → Member y (steps_by_unit net h' x u)
 member_more net h h' e x y None m = m
 member_more net h h' e x y (Some u) m = go (nat_le x.addr top) (h x.node (x.addr / 2 ^ u.page)) refl m
@@ -38,17 +39,42 @@ member_more net h h' e x y (Some u) m = go (nat_le x.addr top) (h x.node (x.addr
     go true None is n = absurd n
     go true (Some r) is n = subst (λ s. Member y (output u s x.addr)) (sym (e x.node (x.addr / 2 ^ u.page) r is)) n
 
+pub step_more : (net : List NodeDecl) (h h' : Held) → Extends h h' → (x y : Name) → StepUnder net h x y → StepUnder net h' x y
+step_more net h h' ex x y m = member_more net h h' ex x y (unit_at net x.node) m
+
+-- a step of the net is one under records too: a unit has no step in the net
+pub step_under : (net : List NodeDecl) → IsTrue (list_all is_formed net) → (h : Held) (x y : Name) → Step net x y → StepUnder net h x y
+step_under net formed h x y s = by (unit_at net x.node) refl
+  where
+    by : (o : Option UnitPart) → unit_at net x.node ≡ o → Member y (steps_by_unit net h x o)
+    by None e = s
+    by (Some u) e =
+        let bare = unit_is_bare (slice_get net x.node) x.addr (λ n at. node_at is_formed net x.node formed n at) (ap is_some e) in
+        absurd (subst (λ o. Member y (sent_names o)) bare.1 s)
+
+-- records that allow an access can be held where all can
+pub allowing_held : (net : List NodeDecl) (h : Held) (access : Access) → AreHeld net h → AreHeld net (allowing access h)
+allowing_held net h access held n q r e = by (h n q) refl e
+  where
+    by : (o : Option Record) → h n q ≡ o → record_allowing access o ≡ Some r → IsHeld net n q r
+    by None at e = cc
+    by (Some t) at e = by_rights (allows t.rights access) e
+      where
+        by_rights : (b : Bool) → (if b then Some t else None) ≡ Some r → IsHeld net n q r
+        by_rights true e = held n q r (at ∙ e)
+        by_rights false e = cc
+
+-- more records, more that allow an access
+pub allowing_more : (h h' : Held) (access : Access) → Extends h h' → Extends (allowing access h) (allowing access h')
+allowing_more h h' access ex n q r e = by (h n q) refl e
+  where
+    by : (o : Option Record) → h n q ≡ o → record_allowing access o ≡ Some r → record_allowing access (h' n q) ≡ Some r
+    by None at e = cc
+    by (Some t) at e = ap (record_allowing access) (ex n q t at) ∙ e
+
 pub more_records_keep_names : MoreRecordsKeepNames
 more_records_keep_names net h h' e x y r =
     (r.0, (r.1.0, r.1.1, chain_more (StepUnder net h) (StepUnder net h') (λ a b. member_more net h h' e a b (unit_at net a.node)) r.1.0 x y r.1.2))
-
--- at most one value
-single : {X : Type 0} (xs : List X) (y z : X) → length xs ≤ 1 → Member y xs → Member z xs → y ≡ z
-single [] y z l m n = absurd m
-single (x ∷ []) y z l (inl m) (inl n) = sym m ∙ n
-single (x ∷ []) y z l (inr m) n = absurd m
-single (x ∷ []) y z l (inl m) (inr n) = absurd n
-single (x ∷ (w ∷ xs)) y z l m n = absurd (omega arith)
 
 few_to_port : (p : Option ℕ) (a : ℕ) → length (to_port p a) ≤ 1
 few_to_port None a = omega arith
@@ -58,7 +84,8 @@ few_output : (u : UnitPart) (r : Option _) (a : ℕ) → length (output u r a) �
 few_output u None a = omega arith
 few_output u (Some r) a = few_to_port (slice_get u.ports r.port) _
 
-few_in_unit : (net : List NodeDecl) (h : Held) (x : Name) (u : UnitPart) → length (steps_by_unit net h x (Some u)) ≤ 1
+-- a name of a unit has one step at most under records
+pub few_in_unit : (net : List NodeDecl) (h : Held) (x : Name) (u : UnitPart) → length (steps_by_unit net h x (Some u)) ≤ 1
 few_in_unit net h x u = go (nat_le x.addr top)
   where
     go : (b : Bool) → length (if b then output u (h x.node (x.addr / 2 ^ u.page)) x.addr else []) ≤ 1
@@ -74,7 +101,7 @@ stop_from_step net h x y u m = go (nat_le x.addr top) m
     go false n = absurd n
 
 -- a chain under records to a unit has a first unit, which the net itself reaches
-first_stop : (net : List NodeDecl) (h : Held) (k : ℕ) (x u : Name) → IsTrue (is_stop net u) → IsChain (StepUnder net h) k x u → (s : Name) × IsTrue (is_stop net s) × Reaches (Step net) x s
+pub first_stop : (net : List NodeDecl) (h : Held) (k : ℕ) (x u : Name) → IsTrue (is_stop net u) → IsChain (StepUnder net h) k x u → (s : Name) × IsTrue (is_stop net s) × Reaches (Step net) x s
 first_stop net h zero x u is c = (u, is, (zero, c))
 first_stop net h (suc k) x u is c = go (unit_at net x.node) refl c.1 (first_stop net h k c.0 u is c.2)
   where
@@ -95,7 +122,7 @@ one_step net h nf x u k is c = go (unit_at net x.node)
 
 pub one_way_to_unit : OneWayToUnit
 one_way_to_unit net h nf x u y j k is c d =
-    one_way (StepUnder net h) u (λ w a b i t p q. single (steps_under net h w) a b (one_step net h nf w u i is t) p q) j k x y c d
+    one_way (StepUnder net h) u (λ w a b i t p q. one_member (steps_under net h w) a b (one_step net h nf w u i is t) p q) j k x y c d
 
 -- a chain passes a row of slots
 slots_of : (net : List NodeDecl) (h : Held) (k : ℕ) (x y : Name) → IsChain (StepUnder net h) k x y → (slots : List Slot) × PassesIn net h k x y slots
@@ -155,7 +182,7 @@ one_row net h formed nf y z a b (suc j) (suc k) x row other p q =
     p.3 ∙ ap (λ r. slot_in x (unit_at net x.node) ++ r) (go p.1 q.1 p.4 q.4 (λ s t. one_row net h formed nf y z a b j k p.0 p.1 q.1 s t)) ∙ sym q.3
   where
     meet : (u : Name) (i : ℕ) → IsTrue (is_stop net u) → IsChain (StepUnder net h) i x u → p.0 ≡ q.0
-    meet u i is c = single (steps_under net h x) p.0 q.0 (one_step net h nf x u i is c) p.2 q.2
+    meet u i is c = one_member (steps_under net h x) p.0 q.0 (one_step net h nf x u i is c) p.2 q.2
 
     go : (r s : List Slot) → PassesIn net h j p.0 y r → PassesIn net h k q.0 z s → (PassesIn net h j p.0 y r → PassesIn net h k p.0 z s → r ≡ s) → r ≡ s
     go [] [] c d ih = refl

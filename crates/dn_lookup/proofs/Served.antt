@@ -1,8 +1,7 @@
 -- The records of an image that let an access through are those of its tables that allow it.
-use Rattle.std.proofs.Common.{◌≡◌, ℕ, zero, suc, ◌+◌, ◌*◌, ◌<◌, ◌≤◌, ◌==◌, ◌&&◌, Bool, true, false, if◌then◌else◌, List, [], ◌∷◌, ◌++◌, length, take, drop, replicate, slice_get, Option, Some, None, Result, Ok, Err, IfOk, refl, sym, ap, ◌∙◌, arith, length-drop, length-append, suc-mul}
+use Rattle.std.proofs.Common.{◌≡◌, ℕ, zero, suc, ◌+◌, ◌*◌, ◌≤◌, ◌==◌, ◌&&◌, Bool, true, false, if◌then◌else◌, List, ◌++◌, length, take, drop, replicate, slice_get, Option, Some, None, Result, Ok, Err, IfOk, refl, sym, ap, ◌∙◌, arith, length-drop, length-append, suc-mul}
 use Rattle.std.specs.Option.{option_map}
 use Rattle.std.specs.List.{All}
-use Rattle.std.proofs.lemmas.List.{length-replicate, length-take-le}
 use Rattle.std.proofs.lemmas.Option.{same_Some}
 use Rattle.dn_net.specs.declared.node.Name.{Name}
 use Rattle.dn_net.specs.declared.node.NodeDecl.{NodeDecl}
@@ -15,17 +14,12 @@ use Rattle.dn_kind.specs.Rights.{allows}
 use Rattle.dn_kind.specs.Kind.{Meaning, IsLawful}
 use Rattle.dn_kind.specs.Tables.{Held, record_held, AreTables, record_allowing, resolved_names_under}
 use Rattle.dn_kind.specs.Cleared.{kept_slots, kept_of_kind, kept_words, kept_tables, is_open_in, words_allowing}
-use Rattle.dn_kind.proofs.Allowed.{records_allowing, tables_kept}
+use Rattle.dn_kind.proofs.Allowed.{records_allowing, tables_kept, front_sized}
 use Rattle.dn_image.specs.Image.{ImageWords, width_by, word_count}
 use Rattle.dn_image.specs.Reading.{BrokenImage, broken_image, node_words, nodes_size, image_words, version_of, reading_by, image_reading}
 use Rattle.dn_image.proofs.Numbers.{length_spelled}
 use Rattle.dn_image.proofs.Places.{words_at_node}
 use Rattle.dn_lookup.specs.Lookup.{no_agent, no_image, image_records, looked_up_in, lookup_of, record_through, bytes_records}
-
--- words of which some slots are cleared are as many
-front_sized : (w : ℕ) (ws : List ℕ) (b : Bool) → w ≤ length ws → length (if b then take w ws else replicate w 0) ≡ w
-front_sized w ws true l = length-take-le w ws l
-front_sized w ws false l = length-replicate w 0
 
 slots_sized : (kept : ℕ → Bool) (w first count : ℕ) (ws : List ℕ) → length ws ≡ count * w → length (kept_slots kept w first count ws) ≡ count * w
 slots_sized kept w first zero ws e = e
@@ -156,9 +150,3 @@ is_whole (Some b) n version e = cc
 pub is_of_version : (o : Option BrokenImage) (n version : ℕ) → reading_by o n ≡ Ok version → version ≡ n
 is_of_version None n version e = cc
 is_of_version (Some b) n version e = cc
-
--- an agent that is there has its number
-pub agent_there : (net : List NodeDecl) (i : ℕ) → is_agent_at (slice_get net i) ≡ true → i < length net
-agent_there [] i e = cc
-agent_there (n ∷ ns) zero e = omega arith
-agent_there (n ∷ ns) (suc i) e = let l = agent_there ns i e in omega arith

@@ -1,6 +1,7 @@
 -- The use of a module, from its arguments.
 use Rattle.std.proofs.Common.{◌≡◌, ◌∙◌, ap, refl, ℕ, suc, ◌+◌, ◌<◌, Bool, true, false, cond, List, [], ◌∷◌, length, map, drop, get_or, sym, Option, Some, IfSome, Result, Ok, Err}
 use Rattle.std.specs.Option.{option_map}
+use Rattle.dn_base.proofs.Lists.{drop_at}
 use Rattle.dn_parse.specs.declared.syntax.Param.{Param as CodeParam}
 use Rattle.dn_parse.specs.declared.syntax.Arg.{Arg as CodeArg}
 use Rattle.dn_parse.specs.Tree.{Param, number_param, node_param, Arg, number_arg, node_arg, Part}
@@ -12,7 +13,6 @@ use Rattle.dn_module.specs.Drafts.{at_line}
 use Rattle.dn_module.specs.Expand.{Module, Work, statements, within_module, fit, fits_param, word_of_param, Given, given_by, numbers_of, nodes_of, used_body, use_of}
 use Rattle.dn_module.specs.Machine.{replaced_by}
 use Rattle.dn_module.specs.Replace.{Replacement, under, in_items, in_arg}
-use Rattle.dn_module.proofs.Each.{drop_next}
 use Rattle.dn_module.specs.Faults.{ExpansionFault, has_other_arguments, flaw_fault, name_fault_view}
 
 -- arguments that fit are as many as the parameters
@@ -47,7 +47,7 @@ fit_in r (p ∷ ps) (x ∷ xs) = λ i. cond (fits_in r p x i) (fit_in r ps xs i)
 -- one parameter and its argument
 pub fit_next : (ps : List CodeParam) (xs : List CodeArg) (i : ℕ) (p : CodeParam) (x : CodeArg) → i < length ps → i < length xs → p ≡ get_or ps i p → x ≡ get_or xs i x
     → fit (map param_view (drop i ps)) (map arg_view (drop i xs)) ≡ cond (fits_param (param_view p) (arg_view x)) (fit (map param_view (drop (i + 1) ps)) (map arg_view (drop (i + 1) xs))) false
-fit_next ps xs i p x hp hx ep ex = λ j. fit (map param_view (drop_next ps i p hp ep j)) (map arg_view (drop_next xs i x hx ex j))
+fit_next ps xs i p x hp hx ep ex = λ j. fit (map param_view (drop_at ps i p hp ep j)) (map arg_view (drop_at xs i x hx ex j))
 
 abbrev Pairs : Type 0
 Pairs = List (List ℕ × ℕ) × List (List ℕ × List ℕ)

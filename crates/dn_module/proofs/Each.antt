@@ -1,19 +1,12 @@
 -- What each item of a list gives, item by item.
-use Rattle.std.proofs.Common.{◌≡◌, ◌∙◌, ap, sym, refl, ℕ, ◌+◌, ◌<◌, List, [], ◌∷◌, ◌++◌, drop, get_or, length, Result, Ok, Err, add-one, suc}
-use Rattle.std.proofs.Math.Seq.{drop-cons}
+use Rattle.std.proofs.Common.{◌≡◌, ◌∙◌, ap, sym, refl, ℕ, ◌+◌, ◌<◌, List, [], ◌∷◌, ◌++◌, drop, get_or, length, Result, Ok, Err}
 use Rattle.std.proofs.lemmas.List.{append_assoc}
+use Rattle.dn_base.proofs.Lists.{drop_at}
 use Rattle.dn_module.specs.Values.{◌>>=◌, each}
 
 -- what was made, and then the rest
 abbrev pub followed : {Y E : Type 0} → List Y → Result (List Y) E → Result (List Y) E
 followed made rest = rest >>= (λ ys. Ok (made ++ ys))
-
--- an item and what follows it
-pub drop_next : {X : Type 0} (xs : List X) (i : ℕ) (x : X) → i < length xs → x ≡ get_or xs i x → drop i xs ≡ x ∷ drop (i + 1) xs
-drop_next xs i x h at =
-    drop-cons xs i x h
-    ∙ ap (λ z. z ∷ drop (suc i) xs) (sym at)
-    ∙ ap (λ n. x ∷ drop n xs) (sym (add-one i))
 
 -- one that is made, and then those behind it
 pub after_one : {Y E : Type 0} (made : List Y) (y : Y) (o : Result (List Y) E) → followed made (o >>= (λ ys. Ok (y ∷ ys))) ≡ followed (made ++ y ∷ []) o
@@ -24,6 +17,6 @@ after_one made y (Ok ys) = ap (λ l. Ok l) (sym (append_assoc made (y ∷ []) ys
 pub made_next : {X Y E : Type 0} (f : X → Result Y E) (xs : List X) (i : ℕ) (x : X) (y : Y) (made : List Y) → i < length xs → x ≡ get_or xs i x → f x ≡ Ok y → each f xs ≡ followed made (each f (drop i xs)) → each f xs ≡ followed (made ++ y ∷ []) (each f (drop (i + 1) xs))
 made_next f xs i x y made h at is so_far =
     so_far
-    ∙ ap (λ l. followed made (each f l)) (drop_next xs i x h at)
+    ∙ ap (λ l. followed made (each f l)) (drop_at xs i x h at)
     ∙ ap (λ o. followed made (o >>= (λ y. each f (drop (i + 1) xs) >>= (λ ys. Ok (y ∷ ys))))) is
     ∙ after_one made y (each f (drop (i + 1) xs))

@@ -15,14 +15,12 @@ use Rattle.dn_module.proofs.Known.{twice-push, twice-append}
 use Rattle.dn_module.proofs.Limits.{found_is}
 use Rattle.dn_module.proofs.Scopes.{at_any}
 use Rattle.dn_base.proofs.Lists.{list_any-map}
+use Rattle.dn_base.proofs.Orders.{one-add}
 use Rattle.dn_module.specs.Faults.{is_duplicate}
 
 -- the place of the first module with a name, or past them all
 place : List ℕ → List Module → ℕ
 place title ms = prefix_len (λ w. not (bytes_eq title w)) (map (λ m. m.title) ms)
-
-more_one : (n : ℕ) → 1 + n ≡ suc n
-more_one n = omega arith
 
 module _ (title : List ℕ) where
   at_place : (ms : List Module) (k : ℕ) (m : Module) → slice_get ms (place title ms) ≡ Some m → module_from k title ms ≡ Some (k + place title ms, m)
@@ -34,7 +32,7 @@ module _ (title : List ℕ) where
 
     go : (b : Bool) → (slice_get xs (place title xs) ≡ Some m → module_from (suc k) title xs ≡ Some (suc k + place title xs, m)) → slice_get (x ∷ xs) (cond (not b) (1 + place title xs) 0) ≡ Some m → cond b (Some (k, x)) (module_from (suc k) title xs) ≡ Some (k + cond (not b) (1 + place title xs) 0, m)
     go true ih h = let e : x ≡ m = cc in ap (λ y. Some (k, y)) e ∙ ap (λ (j : ℕ). Some (j, m)) (omega arith)
-    go false ih h = ih (ap (slice_get (x ∷ xs)) (sym (more_one (place title xs))) ∙ h) ∙ ap (λ (j : ℕ). Some (j, m)) (omega arith)
+    go false ih h = ih (ap (slice_get (x ∷ xs)) (sym (one-add (place title xs))) ∙ h) ∙ ap (λ (j : ℕ). Some (j, m)) (omega arith)
 
   -- among the first ones
   taken : (ms : List Module) (k n : ℕ) → place title ms < n → module_from k title (take n ms) ≡ module_from k title ms
@@ -201,10 +199,6 @@ module_twice ms line m n h = rw (n, h) refl
 
 pub module_added : (ms : List Module) (line : ℕ) (m : Module) → nat_lt 256 (length ms + 1) ≡ false → (is_module ms m.title || has_twice (map word_of_param m.params)) ≡ false → with_module ms line m ≡ Ok (ms ++ m ∷ [])
 module_added ms line m n h = rw (n, h) refl
-
-pub either : (a b : Bool) → b ≡ true → (a || b) ≡ true
-either true b e = refl
-either false b e = e
 
 -- by what a call answered
 pub by_answer : {T E G A A' B B' : Type 0} (r : Result T E) → OnOk r A → OnOk r A' → OnErr r B → OnErr r B' → (A → A' → G) → (B → B' → G) → G

@@ -16,11 +16,11 @@ mutual
   expressions_stay no_expressions = refl
   expressions_stay (and_expression e es) = ap (λ x. and_expression x (in_expressions [] es)) (expression_stays e) ∙ ap (λ y. and_expression e y) (expressions_stay es)
 
-index_stays : (o : Option Expression) → in_option [] o ≡ o
+pub index_stays : (o : Option Expression) → in_option [] o ≡ o
 index_stays None = refl
 index_stays (Some e) = ap (λ x. Some x) (expression_stays e)
 
-parts_stay : (ps : List Part) → map (in_part []) ps ≡ ps
+pub parts_stay : (ps : List Part) → map (in_part []) ps ≡ ps
 parts_stay [] = refl
 parts_stay (p ∷ ps) = ap (λ (o : Option Expression). record { title = p.title; index = o } ∷ map (in_part []) ps) (index_stays p.index) ∙ ap (λ l. p ∷ l) (parts_stay ps)
 

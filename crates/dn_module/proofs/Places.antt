@@ -1,5 +1,5 @@
 -- What stands for the words of parameters, at their places.
-use Rattle.std.proofs.Common.{◌≡◌, ◌∙◌, ap, sym, subst, refl, arith, ℕ, zero, suc, ◌+◌, ◌<◌, ◌≤◌, nat_lt, Bool, true, false, not, ◌||◌, cond, List, [], ◌∷◌, ◌++◌, length, drop, map, get_or, slice_get, position, Option, None, Some, add-one}
+use Rattle.std.proofs.Common.{◌≡◌, ◌∙◌, ap, sym, subst, refl, arith, ℕ, zero, suc, ◌+◌, ◌<◌, ◌≤◌, nat_lt, Bool, true, false, not, cond, List, [], ◌∷◌, ◌++◌, length, drop, map, get_or, slice_get, position, Option, None, Some, add-one}
 use Rattle.std.proofs.lemmas.Bool.Decides.{nat_tests}
 use Rattle.std.proofs.lemmas.Bool.{ltb-true, lt-ltb}
 use Rattle.std.proofs.lemmas.List.{length-map}
@@ -13,13 +13,8 @@ use Rattle.dn_module.specs.Replace.{looked_up}
 use Rattle.dn_module.specs.declared.words.Given.{Given as CodeGiven}
 use Rattle.dn_module.specs.Words.{given_view, number_part, name_part, part_in, numbers_from}
 use Rattle.dn_base.proofs.Lists.{position-none, slice_get-at}
-
-neither : (a b : Bool) → (a || b) ≡ false → (a ≡ false) × (b ≡ false)
-neither true b e = cc
-neither false b e = (refl, e)
-
-more_one : (n : ℕ) → 1 + n ≡ suc n
-more_one n = omega arith
+use Rattle.dn_base.proofs.Booleans.{or_parts}
+use Rattle.dn_base.proofs.Orders.{one-add, le-ltb}
 
 no_less : (n : ℕ) → nat_lt n 0 ≡ false
 no_less n = grind (arith, nat_tests)
@@ -34,9 +29,6 @@ next_less n k = go (nat_lt n k) (nat_lt (1 + n) (suc k)) refl refl where
   go true false e f = absurd (grind (arith, nat_tests))
   go false true e f = absurd (grind (arith, nat_tests))
   go false false e f = refl
-
-not_less : (n k : ℕ) → k ≤ n → nat_lt n k ≡ false
-not_less n k h = grind (arith, nat_tests)
 
 -- a word with what stands for it, where something does
 abbrev pair_by : {A : Type 0} → List ℕ → Option A → List (List ℕ × A)
@@ -79,13 +71,13 @@ module _ {A : Type 0} (part : Given → Option A) (w : List ℕ) where
   unmet [] gs h = refl
   unmet (v ∷ vs) [] h = refl
   unmet (v ∷ vs) (g ∷ gs) h =
-      let n = neither (bytes_eq w v) (list_any (bytes_eq w) vs) h in
+      let n = or_parts (bytes_eq w v) (list_any (bytes_eq w) vs) h in
       past_one v (part g) (pairs_of part vs gs) n.0 ∙ unmet vs gs n.1
 
   unmet_behind : (k : ℕ) (vs : List (List ℕ)) → list_any (bytes_eq w) vs ≡ false → list_any (bytes_eq w) (drop k vs) ≡ false
   unmet_behind zero vs h = h
   unmet_behind (suc k) [] h = refl
-  unmet_behind (suc k) (v ∷ vs) h = unmet_behind k vs (neither (bytes_eq w v) (list_any (bytes_eq w) vs) h).1
+  unmet_behind (suc k) (v ∷ vs) h = unmet_behind k vs (or_parts (bytes_eq w v) (list_any (bytes_eq w) vs) h).1
 
   -- among different words the others are not the one that was met
   only_one : (v : List ℕ) (vs : List (List ℕ)) → bytes_eq w v ≡ true → list_any (bytes_eq v) vs ≡ false → list_any (bytes_eq w) vs ≡ false
@@ -98,14 +90,14 @@ module _ {A : Type 0} (part : Given → Option A) (w : List ℕ) where
   at_place (v ∷ vs) [] once h = refl
   at_place (v ∷ vs) (g ∷ gs) once h = go (bytes_eq w v) refl (at_place vs gs n.1) h where
     n : (list_any (bytes_eq v) vs ≡ false) × (has_twice vs ≡ false)
-    n = neither (list_any (bytes_eq v) vs) (has_twice vs) once
+    n = or_parts (list_any (bytes_eq v) vs) (has_twice vs) once
 
     go : (b : Bool) → bytes_eq w v ≡ b → (place w vs < length vs → looked_up w (pairs_of part vs gs) ≡ part_in part (slice_get gs (place w vs))) → cond (not b) (1 + place w vs) 0 < suc (length vs) → looked_up w (pair_by v (part g) ++ pairs_of part vs gs) ≡ part_in part (slice_get (g ∷ gs) (cond (not b) (1 + place w vs) 0))
     go true e ih h = at_one v (part g) (pairs_of part vs gs) e (unmet vs gs (only_one v vs e n.0))
     go false e ih h =
         past_one v (part g) (pairs_of part vs gs) e
         ∙ ih (omega arith)
-        ∙ ap (λ i. part_in part (slice_get (g ∷ gs) i)) (sym (more_one (place w vs)))
+        ∙ ap (λ i. part_in part (slice_get (g ∷ gs) i)) (sym (one-add (place w vs)))
 
   no_values : (ws : List (List ℕ)) → pairs_of part ws [] ≡ []
   no_values [] = refl
@@ -123,7 +115,7 @@ module _ {A : Type 0} (part : Given → Option A) (w : List ℕ) where
   behind (suc k) (v ∷ vs) [] once h = ap (looked_up w) (no_values (drop k vs)) ∙ none_anyway (nat_lt (place w (v ∷ vs)) (suc k))
   behind (suc k) (v ∷ vs) (g ∷ gs) once h = go (bytes_eq w v) refl (behind k vs gs n.1) h where
     n : (list_any (bytes_eq v) vs ≡ false) × (has_twice vs ≡ false)
-    n = neither (list_any (bytes_eq v) vs) (has_twice vs) once
+    n = or_parts (list_any (bytes_eq v) vs) (has_twice vs) once
 
     go : (b : Bool) → bytes_eq w v ≡ b → (place w vs < length vs → looked_up w (pairs_of part (drop k vs) (drop k gs)) ≡ cond (nat_lt (place w vs) k) None (part_in part (slice_get gs (place w vs)))) → cond (not b) (1 + place w vs) 0 < suc (length vs) → looked_up w (pairs_of part (drop k vs) (drop k gs)) ≡ cond (nat_lt (cond (not b) (1 + place w vs) 0) (suc k)) None (part_in part (slice_get (g ∷ gs) (cond (not b) (1 + place w vs) 0)))
     go true e ih h =
@@ -132,7 +124,7 @@ module _ {A : Type 0} (part : Given → Option A) (w : List ℕ) where
     go false e ih h =
         ih (omega arith)
         ∙ ap (λ b. cond b None (part_in part (slice_get gs (place w vs)))) (next_less (place w vs) k)
-        ∙ ap (λ i. cond (nat_lt (1 + place w vs) (suc k)) None (part_in part (slice_get (g ∷ gs) i))) (sym (more_one (place w vs)))
+        ∙ ap (λ i. cond (nat_lt (1 + place w vs) (suc k)) None (part_in part (slice_get (g ∷ gs) i))) (sym (one-add (place w vs)))
 
   is_place : (ws : List (List ℕ)) (i : ℕ) → position (bytes_eq w) ws ≡ Some i → (place w ws ≡ i) × (place w ws < length ws)
   unfolding place
@@ -158,7 +150,7 @@ module _ (w : List ℕ) (ws : List (List ℕ)) (gs : List Given) where
   number_hidden k i once e h = number_there k i once e ∙ ap (λ b. cond b None (part_in number_part (slice_get gs i))) (lt-ltb i k h)
 
   pub number_shown : (k i : ℕ) → has_twice ws ≡ false → position (bytes_eq w) ws ≡ Some i → k ≤ i → looked_up w (numbers_from k ws gs) ≡ part_in number_part (slice_get gs i)
-  number_shown k i once e h = number_there k i once e ∙ ap (λ b. cond b None (part_in number_part (slice_get gs i))) (not_less i k h)
+  number_shown k i once e h = number_there k i once e ∙ ap (λ b. cond b None (part_in number_part (slice_get gs i))) (le-ltb i k h)
 
   pub no_name : position (bytes_eq w) ws ≡ None → looked_up w (nodes_of ws gs) ≡ None
   no_name e = ap (looked_up w) (names_are ws gs) ∙ unmet name_part w ws gs (position-none (bytes_eq w) ws e)

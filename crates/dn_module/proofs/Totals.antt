@@ -2,10 +2,10 @@
 use Rattle.std.proofs.Common.{rules, arith, ◌≡◌, ◌∙◌, ap, sym, subst, refl, ℕ, zero, suc, ◌+◌, ◌*◌, ◌^◌, ◌<◌, ◌≤◌, ◌⊎◌, inl, inr, if◌then◌else◌, nat_lt, true, false, List, ◌∷◌, map, drop, get_or, length, Result, Ok, Err}
 use Rattle.std.proofs.Math.ListN.{drop_of_length-le}
 use Rattle.std.proofs.Math.Nat.{mul_assoc, mul-zero, mul-suc, mul-one}
+use Rattle.dn_base.proofs.Lists.{drop_at}
 use Rattle.dn_parse.specs.Tree.{Expression, expressions}
 use Rattle.dn_module.specs.Values.{Flaw, out_of_range, ◌>>=◌, value, values, fitting, sum_of, product_of}
 use Rattle.dn_module.specs.Replace.{in_expression, in_expressions}
-use Rattle.dn_module.proofs.Each.{drop_next}
 
 -- a value, limited to one past the largest
 abbrev pub limit_of : ℕ → ℕ
@@ -72,13 +72,13 @@ multiplied_twice a n (Ok ms) = ap (λ m. fitting m) (sym (mul_assoc a n (product
 -- the members from one on, whose value is there
 members_next : {X : Type 0} (g : X → Expression) (ns : List (List ℕ × ℕ)) (xs : List X) (i : ℕ) (x : X) (n : ℕ) → i < length xs → x ≡ get_or xs i x → value (in_expression ns (g x)) ≡ Ok n → members_of g ns (drop i xs) ≡ (members_of g ns (drop (i + 1) xs) >>= (λ ms. Ok (n ∷ ms)))
 members_next g ns xs i x n h at e =
-    ap (λ l. members_of g ns l) (drop_next xs i x h at)
+    ap (λ l. members_of g ns l) (drop_at xs i x h at)
     ∙ ap (λ (o : Result ℕ Flaw). o >>= (λ n. members_of g ns (drop (i + 1) xs) >>= (λ ms. Ok (n ∷ ms)))) e
 
 -- the members from one on, whose value is not there
 pub members_flawed : {X : Type 0} (g : X → Expression) (ns : List (List ℕ × ℕ)) (xs : List X) (i : ℕ) (x : X) (f : Flaw) → i < length xs → x ≡ get_or xs i x → value (in_expression ns (g x)) ≡ Err f → members_of g ns (drop i xs) ≡ Err f
 members_flawed g ns xs i x f h at e =
-    ap (λ l. members_of g ns l) (drop_next xs i x h at)
+    ap (λ l. members_of g ns l) (drop_at xs i x h at)
     ∙ ap (λ (o : Result ℕ Flaw). o >>= (λ n. members_of g ns (drop (i + 1) xs) >>= (λ ms. Ok (n ∷ ms)))) e
 
 pub sum_step : {X : Type 0} (g : X → Expression) (ns : List (List ℕ × ℕ)) (xs : List X) (i : ℕ) (x : X) (n total : ℕ) (whole : Result ℕ Flaw) → i < length xs → x ≡ get_or xs i x → value (in_expression ns (g x)) ≡ Ok n → whole ≡ summed total (members_of g ns (drop i xs)) → whole ≡ summed (limit_of (total + n)) (members_of g ns (drop (i + 1) xs))

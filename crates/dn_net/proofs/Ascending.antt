@@ -3,20 +3,20 @@ use Rattle.std.proofs.Common.{◌≡◌, ℕ, zero, suc, ◌<◌, ◌≤◌, ◌
 use Rattle.std.proofs.lemmas.Bool.{cases_order, lt-ltb, eq-eqb}
 use Rattle.std.specs.List.{insert}
 use Rattle.std.specs.List.Sorted.{IsPartitionedBy}
+use Rattle.dn_base.proofs.Booleans.{or_cases, and_parts, or_left, or_right, and_from}
 use Rattle.dn_net.specs.declared.node.Name.{Name}
 use Rattle.dn_net.specs.Chain.{Member}
 use Rattle.dn_net.specs.Names.{name_lt, name_eq, with_name, is_before_first, is_ascending, sorted_names, passing_names, reached_names, end_names}
-use Rattle.dn_net.proofs.Least.{either_true, both_true, true_left, true_right, true_both}
 
 pub lower_is : (x y : Name) → name_lt x y ≡ true → (x.node < y.node) ⊎ ((x.node ≡ y.node) × (x.addr < y.addr))
-lower_is x y h = elim (either_true (nat_lt x.node y.node) ((x.node == y.node) && nat_lt x.addr y.addr) h) [
+lower_is x y h = elim (or_cases (nat_lt x.node y.node) ((x.node == y.node) && nat_lt x.addr y.addr) h) [
   | inl e ↦ inl (ltb-true _ _ e)
-  | inr e ↦ (let b = both_true (x.node == y.node) (nat_lt x.addr y.addr) e in inr (eqb-true _ _ b.0, ltb-true _ _ b.1))
+  | inr e ↦ (let b = and_parts (x.node == y.node) (nat_lt x.addr y.addr) e in inr (eqb-true _ _ b.0, ltb-true _ _ b.1))
 ]
 
 before : (x y : Name) → (x.node < y.node) ⊎ ((x.node ≡ y.node) × (x.addr < y.addr)) → name_lt x y ≡ true
-before x y (inl l) = true_left _ _ (lt-ltb _ _ l)
-before x y (inr e) = true_right _ _ (true_both _ _ (eq-eqb _ _ e.0) (lt-ltb _ _ e.1))
+before x y (inl l) = or_left _ _ (lt-ltb _ _ l)
+before x y (inr e) = or_right _ _ (and_from _ _ (eq-eqb _ _ e.0) (lt-ltb _ _ e.1))
 
 not_before : (x y : Name) → ((x.node < y.node) ⊎ ((x.node ≡ y.node) × (x.addr < y.addr)) → ⊥) → name_lt x y ≡ false
 not_before x y never = by (name_lt x y) refl
@@ -51,7 +51,7 @@ unequal y x p = by (name_eq x y) refl
     go (inr a) e f = let g = a.1 in omega arith
 
     by : (b : Bool) → name_eq x y ≡ b → b ≡ false
-    by true e = let h = both_true (x.node == y.node) (x.addr == y.addr) e in absurd (go (lower_is y x p) (eqb-true _ _ h.0) (eqb-true _ _ h.1))
+    by true e = let h = and_parts (x.node == y.node) (x.addr == y.addr) e in absurd (go (lower_is y x p) (eqb-true _ _ h.0) (eqb-true _ _ h.1))
     by false e = refl
 
 pub itself : (x : Name) → name_lt x x ≡ false
@@ -61,8 +61,12 @@ itself x = not_before x x by
     by (inl a) = omega arith
     by (inr a) = let g = a.1 in omega arith
 
+-- and a name that is one with another is not below it
+pub not_itself : (x z : Name) → x ≡ z → name_lt x z ≡ true → ⊥
+not_itself x z e l = let f : name_lt x x ≡ true = subst (λ w. name_lt x w ≡ true) (sym e) l in let g : false ≡ true = sym (itself x) ∙ f in cc
+
 pub equal : (x : Name) → name_eq x x ≡ true
-equal x = true_both _ _ (eq-eqb x.node x.node refl) (eq-eqb x.addr x.addr refl)
+equal x = and_from _ _ (eq-eqb x.node x.node refl) (eq-eqb x.addr x.addr refl)
 
 -- of two names that differ, one comes before the other
 total : (x y : Name) → name_lt y x ≡ false → (y ≡ x → ⊥) → name_lt x y ≡ true
@@ -81,9 +85,9 @@ total x y p ne = by (cases_order x.node y.node) (cases_order x.addr y.addr)
 -- the first name of an ascending list comes before each other
 first_before : (y : Name) (ys : List Name) (k : ℕ) (d : Name) → is_ascending (y ∷ ys) ≡ true → k < length ys → name_lt y (get_or ys k d) ≡ true
 first_before y [] k d up h = absurd (omega arith)
-first_before y (z ∷ ys) zero d up h = (both_true (name_lt y z) (is_ascending (z ∷ ys)) up).0
+first_before y (z ∷ ys) zero d up h = (and_parts (name_lt y z) (is_ascending (z ∷ ys)) up).0
 first_before y (z ∷ ys) (suc k) d up h =
-    let b = both_true (name_lt y z) (is_ascending (z ∷ ys)) up in
+    let b = and_parts (name_lt y z) (is_ascending (z ∷ ys)) up in
     transitive y z (get_or ys k d) b.0 (first_before z ys k d b.1 (omega arith))
 
 -- in an ascending list the names before another come first
@@ -92,7 +96,7 @@ partitioned x [] up i j d l h e = absurd (omega arith)
 partitioned x (y ∷ ys) up zero zero d l h e = e
 partitioned x (y ∷ ys) up zero (suc j) d l h e = transitive y (get_or ys j d) x (first_before y ys j d up (omega arith)) e
 partitioned x (y ∷ ys) up (suc i) zero d l h e = absurd (omega arith)
-partitioned x (y ∷ ys) up (suc i) (suc j) d l h e = partitioned x ys (both_true (is_before_first y ys) (is_ascending ys) up).1 i j d (omega arith) (omega arith) e
+partitioned x (y ∷ ys) up (suc i) (suc j) d l h e = partitioned x ys (and_parts (is_before_first y ys) (is_ascending ys) up).1 i j d (omega arith) (omega arith) e
 
 -- a name that is there changes nothing
 pub with_there : (x : Name) (ys : List Name) (i : ℕ) → ((k : ℕ) (d : Name) → k < i → name_lt (get_or ys k d) x ≡ true) → slice_get ys i ≡ Some x → with_name x ys ≡ ys
@@ -133,12 +137,12 @@ with_ascending x [] up = refl
 with_ascending x (y ∷ ys) up = by (name_lt x y) (name_eq x y) refl refl (with_ascending x ys parts.1)
   where
     parts : (is_before_first y ys ≡ true) × (is_ascending ys ≡ true)
-    parts = both_true (is_before_first y ys) (is_ascending ys) up
+    parts = and_parts (is_before_first y ys) (is_ascending ys) up
 
     by : (a b : Bool) → name_lt x y ≡ a → name_eq x y ≡ b → is_ascending (with_name x ys) ≡ true → is_ascending (if a then x ∷ (y ∷ ys) else (if b then y ∷ ys else y ∷ with_name x ys)) ≡ true
-    by true b e f ih = true_both _ _ e up
+    by true b e f ih = and_from _ _ e up
     by false true e f ih = up
-    by false false e f ih = true_both _ _ (before_with y x ys (total y x e (λ s. let g : true ≡ false = sym (equal y) ∙ subst (λ z. name_eq z y ≡ false) s f in cc)) parts.0) ih
+    by false false e f ih = and_from _ _ (before_with y x ys (total y x e (λ s. let g : true ≡ false = sym (equal y) ∙ subst (λ z. name_eq z y ≡ false) s f in cc)) parts.0) ih
 
 pub sorted_ascending : (xs : List Name) → is_ascending (sorted_names xs) ≡ true
 sorted_ascending [] = refl
@@ -150,7 +154,7 @@ before_members x z [] up m = absurd m
 before_members x z (y ∷ ys) up m = go (before_members y z ys parts.1) m
   where
     parts : (name_lt x y ≡ true) × (is_ascending (y ∷ ys) ≡ true)
-    parts = both_true (name_lt x y) (is_ascending (y ∷ ys)) up
+    parts = and_parts (name_lt x y) (is_ascending (y ∷ ys)) up
 
     go : (Member z ys → name_lt y z ≡ true) → Member z (y ∷ ys) → name_lt x z ≡ true
     go later (inl e) = subst (λ w. name_lt x w ≡ true) e parts.0

@@ -5,6 +5,7 @@ use Rattle.std.proofs.lemmas.List.Elements.{All-nil, All-cons}
 use Rattle.std.proofs.lemmas.List.Sorted.{All-permutation, sum_by-IsPermutation}
 use Rattle.std.specs.List.{list_all}
 use Rattle.std.specs.List.Sorted.{IsPermutation}
+use Rattle.dn_base.proofs.Booleans.{and_parts}
 use Rattle.dn_net.specs.declared.node.Block.{Block}
 use Rattle.dn_net.specs.declared.node.Entry.{Entry}
 use Rattle.dn_net.specs.declared.node.NodeDecl.{NodeDecl}
@@ -15,7 +16,6 @@ use Rattle.dn_net.specs.Spans.{node_spans, maps_in, accepts_in, overlaps_in, is_
 use Rattle.dn_net.proofs.Least.{maps_at, maps_at-cons}
 use Rattle.dn_net.proofs.Sweep.{one_if, maps_in-cons, accepts_in-cons}
 use Rattle.dn_net.proofs.Tally.{count_below-same}
-use Rattle.dn_net.proofs.Places.{both}
 
 no_maps : (bs : List Block) (a : ℕ) → maps_in (node_spans [] bs) a ≡ 0
 no_maps [] a = refl
@@ -65,15 +65,15 @@ module _ (d : NodeDecl) (spans : List Span) (same : IsPermutation (node_spans d.
 node_in_range : (es : List Entry) (bs : List Block) → IsTrue (list_all block_in_range bs) → IsTrue (list_all entry_in_range es) → All (λ s. IsTrue (block_in_range s.block)) (node_spans es bs)
 node_in_range [] [] p q = All-nil (λ s. IsTrue (block_in_range s.block))
 node_in_range [] (b ∷ bs) p q =
-    let h = both (block_in_range b) (list_all block_in_range bs) p in
+    let h = and_parts (block_in_range b) (list_all block_in_range bs) p in
     All-cons (λ s. IsTrue (block_in_range s.block)) record { block = b; mapped = false } (node_spans [] bs) h.0 (node_in_range [] bs h.1 q)
 node_in_range (e ∷ es) bs p q =
-    let h = both (entry_in_range e) (list_all entry_in_range es) q in
-    let b = both (block_in_range e.block) (list_all (dest_in_range e.block) e.dests) h.0 in
+    let h = and_parts (entry_in_range e) (list_all entry_in_range es) q in
+    let b = and_parts (block_in_range e.block) (list_all (dest_in_range e.block) e.dests) h.0 in
     All-cons (λ s. IsTrue (block_in_range s.block)) record { block = e.block; mapped = true } (node_spans es bs) b.0 (node_in_range es bs p h.1)
 
 -- the blocks of a node in range, in any order, are in range
 pub spans_in_range : (es : List Entry) (bs : List Block) (spans : List Span) → IsPermutation (node_spans es bs) spans → IsTrue (list_all block_in_range bs && list_all entry_in_range es) → All (λ s. IsTrue (block_in_range s.block)) spans
 spans_in_range es bs spans same range =
-    let h = both (list_all block_in_range bs) (list_all entry_in_range es) range in
+    let h = and_parts (list_all block_in_range bs) (list_all entry_in_range es) range in
     All-permutation (λ s. IsTrue (block_in_range s.block)) (node_spans es bs) spans same (node_in_range es bs h.0 h.1)

@@ -22,6 +22,11 @@ chain_join S (suc j) k x y z c d =
     let e : suc (j + k) ≡ suc j + k = omega arith in
     subst (λ n. IsChain S n x z) e (c.0, c.1, chain_join S j k c.0 y z c.2 d)
 
+-- chains of a relation are chains of a wider one
+pub chain_more : {X : Type 0} (S Q : X → X → Type 0) → ((x y : X) → S x y → Q x y) → (k : ℕ) (x y : X) → IsChain S k x y → IsChain Q k x y
+chain_more S Q f zero x y c = c
+chain_more S Q f (suc k) x y c = (c.0, f x c.0 c.1, chain_more S Q f k c.0 y c.2)
+
 -- a cycle goes round as often as is asked for
 pub chain_round : {X : Type 0} (S : X → X → Type 0) (c : ℕ) (x : X) → 1 ≤ c → IsChain S c x x → (n : ℕ) → (m : ℕ) × (n ≤ m) × IsChain S m x x
 chain_round S c x l r zero = (0, (omega arith), refl)

@@ -1,19 +1,17 @@
 -- Chains and cycles of steps as walks of a level, and the tests of them.
-use Rattle.std.proofs.Common.{◌≡◌, ℕ, ◌+◌, ◌-◌, ◌<◌, ◌≤◌, ◌↔◌, inl, inr, true, false, ◌==◌, List, [], ◌∷◌, length, slice_get, Option, Some, None, refl, sym, ap, ◌∙◌, subst, arith, IsTrue, eqb-true}
-use Rattle.std.proofs.lemmas.Bool.{eq-eqb}
+use Rattle.std.proofs.Common.{◌≡◌, ℕ, ◌+◌, ◌-◌, ◌<◌, ◌≤◌, ◌↔◌, inl, true, false, List, [], ◌∷◌, length, slice_get, Option, Some, None, refl, sym, ap, ◌∙◌, subst, arith, IsTrue}
 use Rattle.std.proofs.lemmas.Option.{slice_get_within}
-use Rattle.std.specs.List.{list_any}
 use Rattle.dn_net.specs.declared.node.Block.{Block}
 use Rattle.dn_net.specs.declared.node.Name.{Name}
 use Rattle.dn_net.specs.declared.node.NodeDecl.{NodeDecl}
 use Rattle.dn_net.specs.Chain.{Member, IsChain}
 use Rattle.dn_net.specs.Decode.{top, within, steps, Step}
-use Rattle.dn_net.specs.Names.{name_eq, after_steps}
+use Rattle.dn_net.specs.Names.{after_steps}
 use Rattle.dn_net.specs.Walks.{Choice, Leads, Follows, moved_name, Walk, level}
 use Rattle.dn_net.specs.WalkRules.{CycleIsRow, comes_to, goes_on}
 use Rattle.dn_net.specs.Rules.{KeepsNodeRules}
-use Rattle.dn_net.proofs.Least.{within_to, true_both, both_true, true_left, true_right, either_true}
-use Rattle.dn_net.proofs.Resolution.{after_steps_is_chain}
+use Rattle.dn_net.proofs.Least.{within_to}
+use Rattle.dn_net.proofs.Resolution.{after_steps_is_chain, found_by_test, test_finds}
 use Rattle.dn_net.proofs.Apart.{node_apart}
 use Rattle.dn_net.proofs.Choices.{choices_of_chain, chain_of_choices}
 use Rattle.dn_net.proofs.Legs.{leads_in_range}
@@ -92,32 +90,11 @@ cycle_is_row net checked k x l = (there, back)
     back : ((w : Walk) × Member w (level net k) × (w.start ≡ x.node) × IsTrue (within x.addr w.span) × (w.to ≡ record { node = w.start; addr = w.span.lo })) → IsChain (Step net) k x x
     back h = (chain_of_row net checked k x x h.0 (record { row = h.1; start = h.2; inside = h.3; to = base_back h.0 x h.2 h.3 h.4 })).2
 
--- the test of names
-pub name_same : (x y : Name) → name_eq x y ≡ true → x ≡ y
-name_same x y e =
-    let b = both_true (x.node == y.node) (x.addr == y.addr) e in
-    λ i. record { node = eqb-true x.node y.node b.0 i; addr = eqb-true x.addr y.addr b.1 i }
-
-pub same_name : (x y : Name) → x ≡ y → name_eq x y ≡ true
-same_name x y e = true_both _ _ (eq-eqb x.node y.node (ap (λ n. n.node) e)) (eq-eqb x.addr y.addr (ap (λ n. n.addr) e))
-
-any_member : (y : Name) (xs : List Name) → list_any (name_eq y) xs ≡ true → Member y xs
-any_member y [] h = cc
-any_member y (x ∷ xs) h = elim (either_true (name_eq y x) (list_any (name_eq y) xs) h) [
-  | inl e ↦ inl (sym (name_same y x e))
-  | inr e ↦ inr (any_member y xs e)
-]
-
-member_any : (y : Name) (xs : List Name) → Member y xs → list_any (name_eq y) xs ≡ true
-member_any y [] m = absurd m
-member_any y (x ∷ xs) (inl e) = true_left (name_eq y x) (list_any (name_eq y) xs) (same_name y x (sym e))
-member_any y (x ∷ xs) (inr m) = true_right (name_eq y x) (list_any (name_eq y) xs) (member_any y xs m)
-
 -- `comes_to` is true exactly where there is a chain
 pub comes_to_is_chain : (net : List NodeDecl) (k : ℕ) (x y : Name) → (comes_to net y k x ≡ true) ↔ IsChain (Step net) k x y
 comes_to_is_chain net k x y =
     let a = after_steps_is_chain (steps net) k x y in
-    ((λ h. a.0 (any_member y (after_steps (steps net) k (x ∷ [])) h)), (λ c. member_any y (after_steps (steps net) k (x ∷ [])) (a.1 c)))
+    ((λ h. a.0 (found_by_test y (after_steps (steps net) k (x ∷ [])) h)), (λ c. test_finds y (after_steps (steps net) k (x ∷ [])) (a.1 c)))
 
 -- `goes_on` is true exactly where there is a chain to some name
 goes_nowhere : (net : List NodeDecl) (k : ℕ) (x : Name) → after_steps (steps net) k (x ∷ []) ≡ [] → goes_on net k x ≡ false

@@ -2,6 +2,8 @@
 use Rattle.std.proofs.Common.{◌≡◌, ℕ, zero, suc, ◌+◌, ◌<◌, ◌≤◌, Bool, true, false, ◌&&◌, ◌||◌, not, nat_le, List, [], ◌∷◌, Option, Some, None, option_map, is_some, IsSome, IfSome, refl, sym, ap, ◌∙◌, subst, arith, IsTrue, length, slice_get, drop}
 use Rattle.std.specs.List.{list_all, list_any}
 use Rattle.std.specs.List.Sorted.{IsPermutation}
+use Rattle.dn_base.proofs.Orders.{le_antisymm}
+use Rattle.dn_base.proofs.Lists.{item_there}
 use Rattle.dn_net.specs.declared.node.Block.{Block}
 use Rattle.dn_net.specs.declared.node.Entry.{Entry}
 use Rattle.dn_net.specs.declared.node.Role.{Role}
@@ -15,12 +17,9 @@ use Rattle.dn_net.proofs.Least.{least_overlap_is_least}
 use Rattle.dn_net.proofs.Blocks.{spans_overlap, spans_count}
 
 -- a part of a node that is there
-part_is : {Y : Type 0} (f : NodeDecl → Y) (o : Option NodeDecl) (d : NodeDecl) (y : Y) → o ≡ Some d → option_map f o ≡ Some y → f d ≡ y
+pub part_is : {Y : Type 0} (f : NodeDecl → Y) (o : Option NodeDecl) (d : NodeDecl) (y : Y) → o ≡ Some d → option_map f o ≡ Some y → f d ≡ y
 part_is f None d y e g = cc
 part_is f (Some n) d y e g = let s : n ≡ d = cc in let t : f n ≡ y = cc in ap f (sym s) ∙ t
-
-same_least : (a b : ℕ) → a ≤ b → b ≤ a → a ≡ b
-same_least a b l m = omega arith
 
 -- the least address that overlaps is the only one
 pub least_is : (d : NodeDecl) (x : ℕ) → overlaps d x ≡ true → ((b : ℕ) → overlaps d b ≡ true → x ≤ b) → least_overlap d ≡ Some x
@@ -28,7 +27,7 @@ least_is d x h least = by (least_overlap d) refl ((least_overlap_is_least d).1 x
   where
     by : (o : Option ℕ) → least_overlap d ≡ o → IsSome (least_overlap d) → o ≡ Some x
     by None e some = cc
-    by (Some y) e some = let r = (least_overlap_is_least d).0 y e in ap (λ n. Some n) (same_least y x (r.none_less x h) (least y r.overlap))
+    by (Some y) e some = let r = (least_overlap_is_least d).0 y e in ap (λ n. Some n) (le_antisymm (r.none_less x h) (least y r.overlap))
 
 pub least_is_none : (d : NodeDecl) → ((b : ℕ) → overlaps d b ≡ false) → least_overlap d ≡ None
 least_is_none d none = by (least_overlap d) refl
@@ -82,12 +81,6 @@ fault_space number d range least again space = rw (range, least, again, space) r
 pub no_fault : (number : ℕ) (d : NodeDecl) → is_in_range d ≡ true → least_overlap d ≡ None → repeats d ≡ false → passes_vector_space d ≡ true → fault_of_node number d ≡ None
 no_fault number d range least again space = rw (range, least, again, space) refl
 
--- a node that is there
-pub node_there : (net : List NodeDecl) (i : ℕ) → i < length net → (d : NodeDecl) × (slice_get net i ≡ Some d)
-node_there [] i h = absurd (omega arith)
-node_there (d ∷ net) zero h = (d, refl)
-node_there (d ∷ net) (suc i) h = node_there net i (omega arith)
-
 drop_there : (net : List NodeDecl) (i : ℕ) (d : NodeDecl) → slice_get net i ≡ Some d → drop i net ≡ d ∷ drop (suc i) net
 drop_there [] i d at = cc
 drop_there (x ∷ net) zero d at = let s : x ≡ d = cc in ap (λ y. y ∷ net) s
@@ -103,10 +96,10 @@ fault_from number net d at =
 pub fault_here : (number : ℕ) (net : List NodeDecl) (whole : Option BrokenNode) (o : Option BrokenNode) → whole ≡ node_fault_from number (drop number net) → number < length net → ((d : NodeDecl) → slice_get net number ≡ Some d → IfSome o (λ f. fault_of_node number d ≡ Some f)) → IfSome o (λ f. whole ≡ Some f)
 fault_here number net whole None same h broken = tt
 fault_here number net whole (Some e) same h broken =
-    let d = node_there net number h in
+    let d = item_there net number h in
     same ∙ fault_from number net d.0 d.1 ∙ ap (λ f. first_fault f (node_fault_from (number + 1) (drop (number + 1) net))) (broken d.0 d.1)
 
 pub fault_later : (number : ℕ) (net : List NodeDecl) → number < length net → ((d : NodeDecl) → slice_get net number ≡ Some d → fault_of_node number d ≡ None) → node_fault_from number (drop number net) ≡ node_fault_from (number + 1) (drop (number + 1) net)
 fault_later number net h kept =
-    let d = node_there net number h in
+    let d = item_there net number h in
     fault_from number net d.0 d.1 ∙ ap (λ f. first_fault f (node_fault_from (number + 1) (drop (number + 1) net))) (kept d.0 d.1)

@@ -1,6 +1,7 @@
 -- The first number and the least name that pass a test, and the shortest cycle.
 use Rattle.std.proofs.Common.{◌≡◌, ℕ, zero, suc, ◌+◌, ◌-◌, ◌<◌, ◌≤◌, ◌⊎◌, inl, inr, Bool, true, false, if◌then◌else◌, nat_lt, List, length, Option, Some, None, option_map, is_some, refl, sym, ap, ◌∙◌, subst, arith, IsTrue}
 use Rattle.std.proofs.lemmas.Bool.{lt-ltb, eq-eqb}
+use Rattle.dn_base.proofs.Booleans.{or_left, or_right, and_from}
 use Rattle.dn_net.specs.declared.node.Name.{Name}
 use Rattle.dn_net.specs.declared.node.NodeDecl.{NodeDecl}
 use Rattle.dn_net.specs.Chain.{IsChain}
@@ -9,7 +10,6 @@ use Rattle.dn_net.specs.Names.{name_lt}
 use Rattle.dn_net.specs.Firsts.{or_else, first_below, least_in, least_below, least_name}
 use Rattle.dn_net.specs.WalkRules.{comes_back, has_cycle, shortest_within, shortest_cycle, IsShortestCycle, ShortestCycleIsShortest}
 use Rattle.dn_net.specs.Rules.{KeepsNodeRules}
-use Rattle.dn_net.proofs.Least.{true_left, true_right, true_both}
 use Rattle.dn_net.proofs.Cycles.{comes_to_is_chain, stepping_in_range}
 
 first_below-zero : (p : ℕ → Bool) → first_below p 0 ≡ None
@@ -45,10 +45,10 @@ first_is p (suc n) = subst (λ o. IsFirstOr p (suc n) o) (sym (first_below-suc p
 
 -- the order of names
 pub lower_node : (x y : Name) → x.node < y.node → IsTrue (name_lt x y)
-lower_node x y l = true_left _ _ (lt-ltb x.node y.node l)
+lower_node x y l = or_left _ _ (lt-ltb x.node y.node l)
 
 pub lower_addr : (x y : Name) → x.node ≡ y.node → x.addr < y.addr → IsTrue (name_lt x y)
-lower_addr x y e l = true_right (nat_lt x.node y.node) _ (true_both _ _ (eq-eqb x.node y.node e) (lt-ltb x.addr y.addr l))
+lower_addr x y e l = or_right (nat_lt x.node y.node) _ (and_from _ _ (eq-eqb x.node y.node e) (lt-ltb x.addr y.addr l))
 
 -- the name comes before the other, or is it
 abbrev pub NoLater : Name → Name → Type 0
@@ -158,7 +158,7 @@ shortest_within_is net checked (suc n) = by (shortest_within net n) (shortest_wi
       | inr j ↦ f k x l j c
     ]
 
-shortest_is : (net : List NodeDecl) → shortest_cycle net ≡ shortest_within net (step_limit - 1)
+pub shortest_is : (net : List NodeDecl) → shortest_cycle net ≡ shortest_within net (step_limit - 1)
 unfolding shortest_cycle
 shortest_is net = refl
 

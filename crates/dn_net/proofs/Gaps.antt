@@ -2,6 +2,8 @@
 use Rattle.std.proofs.Common.{◌≡◌, ℕ, zero, suc, ◌+◌, ◌-◌, ◌<◌, ◌≤◌, ◌⊎◌, inl, inr, Bool, true, false, if◌then◌else◌, not, ◌&&◌, ◌||◌, nat_le, nat_lt, List, [], ◌∷◌, ◌++◌, map, slice_get, Some, refl, sym, ap, ◌∙◌, subst, arith, IsTrue, leb-true, le-leb, ltb-true}
 use Rattle.std.proofs.lemmas.Bool.{lt-ltb, ltb-false, leb-false}
 use Rattle.std.specs.List.{list_all}
+use Rattle.dn_base.proofs.Booleans.{or_cases, and_parts, or_left, and_from, same_tests}
+use Rattle.dn_base.proofs.Orders.{le_antisymm}
 use Rattle.dn_net.specs.declared.node.Block.{Block}
 use Rattle.dn_net.specs.declared.node.Entry.{Entry}
 use Rattle.dn_net.specs.declared.node.NodeDecl.{NodeDecl}
@@ -9,8 +11,7 @@ use Rattle.dn_net.specs.Chain.{Member}
 use Rattle.dn_net.specs.Decode.{top, within, in_some_block}
 use Rattle.dn_net.specs.Rules.{block_in_range}
 use Rattle.dn_net.specs.Walks.{in_some_entry, is_free, IsGap, below, above, cut_out, cut_each, whole, gaps}
-use Rattle.dn_net.proofs.Least.{within_from, within_to, true_both, both_true, true_left, either_true}
-use Rattle.dn_net.proofs.Places.{both}
+use Rattle.dn_net.proofs.Least.{within_from, within_to}
 use Rattle.dn_net.specs.WalkRules.{GapsAreAll}
 use Rattle.dn_net.proofs.Apart.{IsApart, node_apart}
 
@@ -63,8 +64,8 @@ cut_each_stands (b ∷ bs) from ss u h = cut_stands b from (cut_each bs ss) u.0 
 pub accepts_upward : (bs : List Block) → IsTrue (list_all block_in_range bs) → Upward bs
 accepts_upward [] all = tt
 accepts_upward (b ∷ bs) all =
-    let r = both (block_in_range b) (list_all block_in_range bs) all in
-    (leb-true b.lo b.hi (both (nat_le b.lo b.hi) (nat_le b.hi top) r.0).0, accepts_upward bs r.1)
+    let r = and_parts (block_in_range b) (list_all block_in_range bs) all in
+    (leb-true b.lo b.hi (and_parts (nat_le b.lo b.hi) (nat_le b.hi top) r.0).0, accepts_upward bs r.1)
 
 blocks_upward : (es : List Entry) (bs : List Block) → ((i : ℕ) (e : Entry) → slice_get es i ≡ Some e → (e.block.lo ≤ e.block.hi) × (e.block.hi ≤ top)) → Upward bs → Upward (map (λ e. e.block) es ++ bs)
 blocks_upward [] bs each u = u
@@ -73,12 +74,6 @@ blocks_upward (e ∷ es) bs each u = ((each 0 e refl).0, blocks_upward es bs (λ
 -- the gaps of a node ascend, with an address between two
 pub gaps_stand : (n : NodeDecl) → IsApart n → Stand 0 (gaps n)
 gaps_stand n apart = cut_each_stands (map (λ e. e.block) n.entries ++ n.accepts) 0 (whole ∷ []) (blocks_upward n.entries n.accepts apart.block (accepts_upward n.accepts apart.accepts)) ((omega arith), (omega arith), (omega arith), tt)
-
--- two tests that hold together are one
-pub same_test : (p q : Bool) → (p ≡ true → q ≡ true) → (q ≡ true → p ≡ true) → p ≡ q
-same_test true q f g = sym (f refl)
-same_test false true f g = g refl
-same_test false false f g = refl
 
 pub in_append : (a : ℕ) (xs ys : List Block) → in_some_block a (xs ++ ys) ≡ (in_some_block a xs || in_some_block a ys)
 in_append a [] ys = refl
@@ -89,20 +84,20 @@ in_append a (x ∷ xs) ys = by (within a x) (in_append a xs ys)
     by false e = e
 
 one_in : (a : ℕ) (b : Block) → in_some_block a (b ∷ []) ≡ true → (b.lo ≤ a) × (a ≤ b.hi)
-one_in a b h = elim (either_true (within a b) false h) [ inl e ↦ within_to a b e | inr e ↦ cc ]
+one_in a b h = elim (or_cases (within a b) false h) [ inl e ↦ within_to a b e | inr e ↦ cc ]
 
 below_has : (a : ℕ) (b s : Block) → in_some_block a (below b s) ≡ (within a s && nat_lt a b.lo)
 below_has a b s = by (nat_lt s.lo b.lo) refl (nat_lt s.hi b.lo) refl
   where
     by : (u : Bool) → nat_lt s.lo b.lo ≡ u → (v : Bool) → nat_lt s.hi b.lo ≡ v → in_some_block a (if u then record { lo = s.lo; hi = if v then s.hi else b.lo - 1 } ∷ [] else []) ≡ (within a s && nat_lt a b.lo)
-    by true e true f = same_test _ _ there back
+    by true e true f = same_tests _ _ there back
       where
         there : in_some_block a (record { lo = s.lo; hi = s.hi } ∷ []) ≡ true → (within a s && nat_lt a b.lo) ≡ true
-        there h = let r = one_in a (record { lo = s.lo; hi = s.hi }) h in let p : s.lo ≤ a = r.0 in let q : a ≤ s.hi = r.1 in let l = ltb-true s.hi b.lo f in let m : a < b.lo = omega arith in true_both (within a s) (nat_lt a b.lo) (within_from a s p q) (lt-ltb a b.lo m)
+        there h = let r = one_in a (record { lo = s.lo; hi = s.hi }) h in let p : s.lo ≤ a = r.0 in let q : a ≤ s.hi = r.1 in let l = ltb-true s.hi b.lo f in let m : a < b.lo = omega arith in and_from (within a s) (nat_lt a b.lo) (within_from a s p q) (lt-ltb a b.lo m)
 
         back : (within a s && nat_lt a b.lo) ≡ true → in_some_block a (record { lo = s.lo; hi = s.hi } ∷ []) ≡ true
-        back h = let r = both_true (within a s) (nat_lt a b.lo) h in true_left (within a s) false r.0
-    by true e false f = same_test _ _ there back
+        back h = let r = and_parts (within a s) (nat_lt a b.lo) h in or_left (within a s) false r.0
+    by true e false f = same_tests _ _ there back
       where
         there : in_some_block a (record { lo = s.lo; hi = b.lo - 1 } ∷ []) ≡ true → (within a s && nat_lt a b.lo) ≡ true
         there h =
@@ -113,21 +108,21 @@ below_has a b s = by (nat_lt s.lo b.lo) refl (nat_lt s.hi b.lo) refl
             let l' = ltb-false s.hi b.lo f in
             let m : a < b.lo = omega arith in
             let k : a ≤ s.hi = omega arith in
-            true_both (within a s) (nat_lt a b.lo) (within_from a s p k) (lt-ltb a b.lo m)
+            and_from (within a s) (nat_lt a b.lo) (within_from a s p k) (lt-ltb a b.lo m)
 
         back : (within a s && nat_lt a b.lo) ≡ true → in_some_block a (record { lo = s.lo; hi = b.lo - 1 } ∷ []) ≡ true
         back h =
-            let r = both_true (within a s) (nat_lt a b.lo) h in
+            let r = and_parts (within a s) (nat_lt a b.lo) h in
             let w = within_to a s r.0 in
             let p : s.lo ≤ a = w.0 in
             let m = ltb-true a b.lo r.1 in
             let q : a ≤ b.lo - 1 = omega arith in
-            true_left (within a (record { lo = s.lo; hi = b.lo - 1 })) false (within_from a (record { lo = s.lo; hi = b.lo - 1 }) p q)
-    by false e v f = same_test _ _ (λ h. cc) back
+            or_left (within a (record { lo = s.lo; hi = b.lo - 1 })) false (within_from a (record { lo = s.lo; hi = b.lo - 1 }) p q)
+    by false e v f = same_tests _ _ (λ h. cc) back
       where
         back : (within a s && nat_lt a b.lo) ≡ true → false ≡ true
         back h =
-            let r = both_true (within a s) (nat_lt a b.lo) h in
+            let r = and_parts (within a s) (nat_lt a b.lo) h in
             let w = within_to a s r.0 in
             let p : s.lo ≤ a = w.0 in
             let m = ltb-true a b.lo r.1 in
@@ -138,14 +133,14 @@ above_has : (a : ℕ) (b s : Block) → in_some_block a (above b s) ≡ (within 
 above_has a b s = by (nat_lt b.hi s.hi) refl (nat_lt b.hi s.lo) refl
   where
     by : (u : Bool) → nat_lt b.hi s.hi ≡ u → (v : Bool) → nat_lt b.hi s.lo ≡ v → in_some_block a (if u then record { lo = if v then s.lo else b.hi + 1; hi = s.hi } ∷ [] else []) ≡ (within a s && nat_lt b.hi a)
-    by true e true f = same_test _ _ there back
+    by true e true f = same_tests _ _ there back
       where
         there : in_some_block a (record { lo = s.lo; hi = s.hi } ∷ []) ≡ true → (within a s && nat_lt b.hi a) ≡ true
-        there h = let r = one_in a (record { lo = s.lo; hi = s.hi }) h in let p : s.lo ≤ a = r.0 in let q : a ≤ s.hi = r.1 in let l = ltb-true b.hi s.lo f in let m : b.hi < a = omega arith in true_both (within a s) (nat_lt b.hi a) (within_from a s p q) (lt-ltb b.hi a m)
+        there h = let r = one_in a (record { lo = s.lo; hi = s.hi }) h in let p : s.lo ≤ a = r.0 in let q : a ≤ s.hi = r.1 in let l = ltb-true b.hi s.lo f in let m : b.hi < a = omega arith in and_from (within a s) (nat_lt b.hi a) (within_from a s p q) (lt-ltb b.hi a m)
 
         back : (within a s && nat_lt b.hi a) ≡ true → in_some_block a (record { lo = s.lo; hi = s.hi } ∷ []) ≡ true
-        back h = let r = both_true (within a s) (nat_lt b.hi a) h in true_left (within a s) false r.0
-    by true e false f = same_test _ _ there back
+        back h = let r = and_parts (within a s) (nat_lt b.hi a) h in or_left (within a s) false r.0
+    by true e false f = same_tests _ _ there back
       where
         there : in_some_block a (record { lo = b.hi + 1; hi = s.hi } ∷ []) ≡ true → (within a s && nat_lt b.hi a) ≡ true
         there h =
@@ -155,21 +150,21 @@ above_has a b s = by (nat_lt b.hi s.hi) refl (nat_lt b.hi s.lo) refl
             let l = ltb-false b.hi s.lo f in
             let m : b.hi < a = omega arith in
             let k : s.lo ≤ a = omega arith in
-            true_both (within a s) (nat_lt b.hi a) (within_from a s k q) (lt-ltb b.hi a m)
+            and_from (within a s) (nat_lt b.hi a) (within_from a s k q) (lt-ltb b.hi a m)
 
         back : (within a s && nat_lt b.hi a) ≡ true → in_some_block a (record { lo = b.hi + 1; hi = s.hi } ∷ []) ≡ true
         back h =
-            let r = both_true (within a s) (nat_lt b.hi a) h in
+            let r = and_parts (within a s) (nat_lt b.hi a) h in
             let w = within_to a s r.0 in
             let q : a ≤ s.hi = w.1 in
             let m = ltb-true b.hi a r.1 in
             let p : b.hi + 1 ≤ a = omega arith in
-            true_left (within a (record { lo = b.hi + 1; hi = s.hi })) false (within_from a (record { lo = b.hi + 1; hi = s.hi }) p q)
-    by false e v f = same_test _ _ (λ h. cc) back
+            or_left (within a (record { lo = b.hi + 1; hi = s.hi })) false (within_from a (record { lo = b.hi + 1; hi = s.hi }) p q)
+    by false e v f = same_tests _ _ (λ h. cc) back
       where
         back : (within a s && nat_lt b.hi a) ≡ true → false ≡ true
         back h =
-            let r = both_true (within a s) (nat_lt b.hi a) h in
+            let r = and_parts (within a s) (nat_lt b.hi a) h in
             let w = within_to a s r.0 in
             let q : a ≤ s.hi = w.1 in
             let m = ltb-true b.hi a r.1 in
@@ -238,7 +233,7 @@ free_is false true = refl
 free_is false false = refl
 
 pub whole_has : (a : ℕ) → in_some_block a (whole ∷ []) ≡ nat_le a top
-whole_has a = same_test _ _ (λ h. let r = one_in a whole h in le-leb a top r.1) (λ h. let l : a ≤ top = leb-true a top h in let z : 0 ≤ a = omega arith in true_left (within a whole) false (within_from a whole z l))
+whole_has a = same_tests _ _ (λ h. let r = one_in a whole h in le-leb a top r.1) (λ h. let l : a ≤ top = leb-true a top h in let z : 0 ≤ a = omega arith in or_left (within a whole) false (within_from a whole z l))
 
 -- the gaps have exactly the addresses that are free
 pub gaps_have : (n : NodeDecl) (a : ℕ) → in_some_block a (gaps n) ≡ (nat_le a top && is_free n a)
@@ -246,14 +241,14 @@ gaps_have n a = cut_each_has a (map (λ e. e.block) n.entries ++ n.accepts) (who
 
 pub has_member : (a : ℕ) (ss : List Block) → in_some_block a ss ≡ true → (s : Block) × Member s ss × (s.lo ≤ a) × (a ≤ s.hi)
 has_member a [] h = cc
-has_member a (s ∷ ss) h = elim (either_true (within a s) (in_some_block a ss) h) [
+has_member a (s ∷ ss) h = elim (or_cases (within a s) (in_some_block a ss) h) [
   | inl e ↦ (let w = within_to a s e in (s, inl refl, w.0, w.1))
   | inr e ↦ (let r = has_member a ss e in (r.0, inr r.1, r.2, r.3))
 ]
 
 pub member_has : (a : ℕ) (ss : List Block) (s : Block) → Member s ss → s.lo ≤ a → a ≤ s.hi → in_some_block a ss ≡ true
 member_has a [] s m l h = absurd m
-member_has a (t ∷ ss) s (inl e) l h = true_left (within a t) (in_some_block a ss) (subst (λ r. within a r ≡ true) (sym e) (within_from a s l h))
+member_has a (t ∷ ss) s (inl e) l h = or_left (within a t) (in_some_block a ss) (subst (λ r. within a r ≡ true) (sym e) (within_from a s l h))
 member_has a (t ∷ ss) s (inr m) l h = by (within a t) (member_has a ss s m l h)
   where
     by : (p : Bool) → in_some_block a ss ≡ true → (p || in_some_block a ss) ≡ true
@@ -296,7 +291,7 @@ beside ss s a h m next = by (in_some_block a ss) refl
     by true e = let r = has_member a ss e in absurd (never r.0 r.2 r.3 (stand_member 0 ss s h m).1 (stand_two 0 ss s r.0 h m r.1) next)
 
 free_here : (n : NodeDecl) (a : ℕ) → in_some_block a (gaps n) ≡ true → (a ≤ top) × (is_free n a ≡ true)
-free_here n a h = let r = both_true (nat_le a top) (is_free n a) (sym (gaps_have n a) ∙ h) in (leb-true a top r.0, r.1)
+free_here n a h = let r = and_parts (nat_le a top) (is_free n a) (sym (gaps_have n a) ∙ h) in (leb-true a top r.0, r.1)
 
 taken_here : (n : NodeDecl) (a : ℕ) → a ≤ top → in_some_block a (gaps n) ≡ false → is_free n a ≡ false
 taken_here n a l h = by (nat_le a top) (le-leb a top l) (sym (gaps_have n a) ∙ h)
@@ -349,11 +344,8 @@ highs_same n lo hi lo' hi' a g g' p q p' q' = by (order hi' hi)
     by (inl l) = l
     by (inr l) = let t : hi' ≤ top = g'.low in let f = g'.free (suc hi) (omega arith) (omega arith) in let e = g.above (omega arith) in let c : true ≡ false = sym f ∙ e in cc
 
-equal_numbers : (a b : ℕ) → a ≤ b → b ≤ a → a ≡ b
-equal_numbers a b l m = omega arith
-
 pub gap_once : (n : NodeDecl) (lo hi lo' hi' a : ℕ) → IsGap n lo hi → IsGap n lo' hi' → lo ≤ a → a ≤ hi → lo' ≤ a → a ≤ hi' → (lo ≡ lo') × (hi ≡ hi')
-gap_once n lo hi lo' hi' a g g' p q p' q' = (equal_numbers lo lo' (lows_same n lo' hi' lo hi a g' g p' q' p q) (lows_same n lo hi lo' hi' a g g' p q p' q'), equal_numbers hi hi' (highs_same n lo' hi' lo hi a g' g p' q' p q) (highs_same n lo hi lo' hi' a g g' p q p' q'))
+gap_once n lo hi lo' hi' a g g' p q p' q' = (le_antisymm (lows_same n lo' hi' lo hi a g' g p' q' p q) (lows_same n lo hi lo' hi' a g g' p q p' q'), le_antisymm (highs_same n lo' hi' lo hi a g' g p' q' p q) (highs_same n lo hi lo' hi' a g g' p q p' q'))
 
 -- each gap is in the list
 pub member_of_gap : (n : NodeDecl) → IsApart n → (lo hi : ℕ) → IsGap n lo hi → Member (record { lo = lo; hi = hi }) (gaps n)
@@ -362,7 +354,7 @@ member_of_gap n apart lo hi g =
     let t : hi ≤ top = g.low in
     let l : lo ≤ top = omega arith in
     let k : lo ≤ lo = omega arith in
-    let h : in_some_block lo (gaps n) ≡ true = gaps_have n lo ∙ true_both (nat_le lo top) (is_free n lo) (le-leb lo top l) (g.free lo k o) in
+    let h : in_some_block lo (gaps n) ≡ true = gaps_have n lo ∙ and_from (nat_le lo top) (is_free n lo) (le-leb lo top l) (g.free lo k o) in
     let r = has_member lo (gaps n) h in
     let s = gap_once n r.0.lo r.0.hi lo hi lo (gap_of_member n apart r.0 r.1) g r.2 r.3 k o in
     subst (λ b. Member b (gaps n)) (λ i. record { lo = s.0 i; hi = s.1 i }) r.1

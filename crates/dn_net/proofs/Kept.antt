@@ -2,11 +2,12 @@
 use Rattle.std.proofs.Common.{◌≡◌, ℕ, zero, suc, ◌+◌, ◌<◌, ◌≤◌, ◌⊎◌, inl, inr, Bool, true, false, if◌then◌else◌, List, [], ◌∷◌, Option, Some, None, option_map, IsSome, refl, sym, ◌∙◌, subst, slice_get, true≢false, All}
 use Rattle.std.proofs.lemmas.Bool.{cases_lt, lt-ltb}
 use Rattle.std.proofs.lemmas.Option.{get_or_from_slice_get, slice_get_within, slice_get-get_or}
+use Rattle.dn_base.proofs.Booleans.{or_left}
 use Rattle.dn_net.specs.declared.node.Entry.{Entry}
 use Rattle.dn_net.specs.declared.node.NodeDecl.{NodeDecl}
 use Rattle.dn_net.specs.Rules.{BrokenNode, out_of_range, repeating, past_space, is_in_range, overlaps, map_blocks_at, least_overlap, repeats, passes_vector_space, later_fault, fault_of_node, first_fault, node_fault_from, node_fault, KeepsRules}
 use Rattle.dn_net.proofs.Faults.{least_is_none, no_fault}
-use Rattle.dn_net.proofs.Least.{least_overlap_is_least, maps_at, true_left}
+use Rattle.dn_net.proofs.Least.{least_overlap_is_least, maps_at}
 
 -- each node of a net that keeps the rules
 pub kept_at : (net : List NodeDecl) (i : ℕ) → All KeepsRules net → (d : NodeDecl) → slice_get net i ≡ Some d → KeepsRules d
@@ -18,7 +19,7 @@ few_maps d kept a = by (cases_lt 1 (map_blocks_at d a))
   where
     by : (1 < map_blocks_at d a) ⊎ (map_blocks_at d a ≤ 1) → map_blocks_at d a ≤ 1
     by (inr l) = l
-    by (inl l) = absurd (true≢false (sym (true_left _ _ (lt-ltb _ _ l)) ∙ kept.apart a))
+    by (inl l) = absurd (true≢false (sym (or_left _ _ (lt-ltb _ _ l)) ∙ kept.apart a))
 
 pub entries_apart : (o : Option NodeDecl) (es : List Entry) → ((d : NodeDecl) → o ≡ Some d → KeepsRules d) → option_map (λ d. d.entries) o ≡ Some es → (a : ℕ) → maps_at es a ≤ 1
 entries_apart None es kept at a = cc

@@ -5,13 +5,14 @@ use Rattle.std.proofs.lemmas.List.Elements.{All-contains}
 use Rattle.std.proofs.lemmas.List.Sorted.{Contains-permutation, IsPermutation-sym}
 use Rattle.std.specs.List.{list_all}
 use Rattle.std.specs.List.Sorted.{IsPermutation}
+use Rattle.dn_base.proofs.Booleans.{and_parts, and_from}
+use Rattle.dn_base.proofs.Lists.{list_all-at}
 use Rattle.dn_net.specs.declared.node.Entry.{Entry}
 use Rattle.dn_net.specs.declared.entries.Place.{Place}
 use Rattle.dn_net.specs.Decode.{top, within, Sent, by_over, by_entries}
 use Rattle.dn_net.specs.Rules.{block_in_range, entry_in_range, dest_in_range}
 use Rattle.dn_net.specs.Order.{places_from}
-use Rattle.dn_net.proofs.Least.{maps_at, maps_at-cons, both_true, true_both}
-use Rattle.dn_net.proofs.Places.{both, list_all-at}
+use Rattle.dn_net.proofs.Least.{maps_at, maps_at-cons}
 use Rattle.dn_net.proofs.Sweep.{within_early}
 
 place_of : (n : ℕ) (es : List Entry) (k : ℕ) (e : Entry) → slice_get es k ≡ Some e → Contains (places_from n es) record { first = e.block.lo; entry = n + k }
@@ -53,7 +54,7 @@ present a (x ∷ es) (suc i) e at w =
     omega (arith, c, d)
 
 -- an address of two entries is that of one
-only_one : (a : ℕ) (es : List Entry) (i j : ℕ) (e f : Entry) → maps_at es a ≤ 1 → slice_get es i ≡ Some e → slice_get es j ≡ Some f → within a e.block ≡ true → within a f.block ≡ true → i ≡ j
+pub only_one : (a : ℕ) (es : List Entry) (i j : ℕ) (e f : Entry) → maps_at es a ≤ 1 → slice_get es i ≡ Some e → slice_get es j ≡ Some f → within a e.block ≡ true → within a f.block ≡ true → i ≡ j
 only_one a [] i j e f one at there v w = cc
 only_one a (x ∷ es) zero zero e f one at there v w = refl
 only_one a (x ∷ es) zero (suc j) e f one at there v w =
@@ -116,19 +117,19 @@ module _ (es : List Entry) (order : List Place) (every : IsPermutation (places_f
       first = let r = stands p c in let s : r.entry ≡ e = (let q : Some r.entry ≡ Some e = sym r.at ∙ at in cc) in r.first ∙ ap (λ (y : Entry). y.block.lo) s
 
       ordered : e.block.lo ≤ e.block.hi
-      ordered = leb-true _ _ (both (nat_le e.block.lo e.block.hi) (nat_le e.block.hi top) (both (block_in_range e.block) (list_all (dest_in_range e.block) e.dests) (list_all-at entry_in_range es p.entry e range at)).0).0
+      ordered = leb-true _ _ (and_parts (nat_le e.block.lo e.block.hi) (nat_le e.block.hi top) (and_parts (block_in_range e.block) (list_all (dest_in_range e.block) e.dests) (list_all-at entry_in_range es p.entry e range at)).0).0
 
       by : (b : Bool) → within a f.block ≡ b → b ≡ false
       by false v = refl
       by true v =
-          let w = both_true (nat_le f.block.lo a) (nat_le a f.block.hi) v in
+          let w = and_parts (nat_le f.block.lo a) (nat_le a f.block.hi) v in
           let l : f.block.lo ≤ a = leb-true _ _ w.0 in
           let h : a ≤ f.block.hi = leb-true _ _ w.1 in
           let g : f.block.lo ≤ p.first = kept (λ q. q.first ≤ a → q.first ≤ p.first) last i f there l in
           let n = first in
           let o = ordered in
-          let m : within e.block.lo f.block ≡ true = true_both _ _ (le-leb f.block.lo e.block.lo (omega (arith, g, n))) (le-leb e.block.lo f.block.hi (omega (arith, n, begun, h))) in
-          let t : within e.block.lo e.block ≡ true = true_both _ _ (le-leb e.block.lo e.block.lo (omega arith)) (le-leb e.block.lo e.block.hi o) in
+          let m : within e.block.lo f.block ≡ true = and_from _ _ (le-leb f.block.lo e.block.lo (omega (arith, g, n))) (le-leb e.block.lo f.block.hi (omega (arith, n, begun, h))) in
+          let t : within e.block.lo e.block ≡ true = and_from _ _ (le-leb e.block.lo e.block.lo (omega arith)) (le-leb e.block.lo e.block.hi o) in
           let z : i ≡ p.entry = only_one e.block.lo es i p.entry f e (apart e.block.lo) there at m t in
           let s : f ≡ e = (let q : Some f ≡ Some e = sym there ∙ ap (λ k. slice_get es k) z ∙ at in cc) in
           sym v ∙ ap (λ (y : Entry). within a y.block) s ∙ lacks

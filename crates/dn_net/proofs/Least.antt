@@ -1,5 +1,5 @@
 -- The least overlap: an address that overlaps has the first address of a block at or below it that overlaps too.
-use Rattle.std.proofs.Common.{◌≡◌, ℕ, ◌+◌, ◌<◌, ◌≤◌, ◌⊎◌, inl, inr, Bool, true, false, cond, if◌then◌else◌, ◌&&◌, ◌||◌, nat_le, nat_lt, List, [], ◌∷◌, map, filter, count_by, Option, Some, None, IsSome, refl, sym, ap, ◌∙◌, subst, arith, rules, leb-true, ltb-true}
+use Rattle.std.proofs.Common.{◌≡◌, ℕ, ◌+◌, ◌<◌, ◌≤◌, inl, inr, Bool, true, false, cond, if◌then◌else◌, ◌&&◌, nat_le, nat_lt, List, [], ◌∷◌, map, filter, count_by, Option, Some, None, IsSome, refl, sym, ap, ◌∙◌, subst, arith, rules, leb-true, ltb-true}
 use Rattle.std.proofs.lemmas.Bool.{le-leb, lt-ltb, leb-false}
 use Rattle.std.proofs.lemmas.List.Sums.{sum_by-cons}
 use Rattle.dn_net.specs.declared.node.Block.{Block}
@@ -9,26 +9,7 @@ use Rattle.dn_net.specs.Chain.{Member}
 use Rattle.dn_net.specs.Decode.{within, in_some_block}
 use Rattle.dn_net.specs.Rules.{map_blocks_at, overlaps, firsts, lesser, least, LeastOverlapIsLeast}
 use Rattle.dn_base.proofs.Members.{member_left, member_right}
-
-pub either_true : (p q : Bool) → (p || q) ≡ true → (p ≡ true) ⊎ (q ≡ true)
-either_true true q e = inl refl
-either_true false q e = inr e
-
-pub both_true : (p q : Bool) → (p && q) ≡ true → (p ≡ true) × (q ≡ true)
-both_true true q e = (refl, e)
-both_true false q e = cc
-
-pub true_left : (p q : Bool) → p ≡ true → (p || q) ≡ true
-true_left true q e = refl
-true_left false q e = cc
-
-pub true_right : (p q : Bool) → q ≡ true → (p || q) ≡ true
-true_right true q e = refl
-true_right false q e = e
-
-pub true_both : (p q : Bool) → p ≡ true → q ≡ true → (p && q) ≡ true
-true_both true q e f = f
-true_both false q e f = cc
+use Rattle.dn_base.proofs.Booleans.{or_cases, and_parts, or_left, or_right, and_from}
 
 -- how many of the entries' blocks have the address
 abbrev pub maps_at : List Entry → ℕ → ℕ
@@ -131,7 +112,7 @@ some_accept (x ∷ bs) b h = by (within b x) refl (some_accept bs b)
         record { lo = x.lo; hi = x.hi; first = inl refl; below = w.0; above = w.1; all = λ a l m. rw (within_from a x l m) refl }
     by false at ih =
         let r = ih (rw at at h) in
-        record { lo = r.lo; hi = r.hi; first = inr r.first; below = r.below; above = r.above; all = λ a l m. true_right (within a x) (in_some_block a bs) (r.all a l m) }
+        record { lo = r.lo; hi = r.hi; first = inr r.first; below = r.below; above = r.above; all = λ a l m. or_right (within a x) (in_some_block a bs) (r.all a l m) }
 
 map_and_accept : (n : NodeDecl) (b : ℕ) → Mapped n.entries b → Accepted n.accepts b → FirstBelow (firsts n) (λ a. overlaps n a ≡ true) b
 map_and_accept n b m r = by (nat_le m.lo r.lo) refl
@@ -141,18 +122,18 @@ map_and_accept n b m r = by (nat_le m.lo r.lo) refl
         let le = leb-true _ _ c in
         let k : 0 < map_blocks_at n r.lo = m.all r.lo le (let p = r.below in let q = m.above in omega arith) in
         let s : in_some_block r.lo n.accepts ≡ true = r.all r.lo (omega arith) (let p = r.below in let q = r.above in omega arith) in
-        record { at = r.lo; first = member_right (map (λ e. e.block.lo) n.entries) (map (λ b. b.lo) n.accepts) r.lo r.first; below = r.below; holds = true_right _ _ (true_both _ _ (lt-ltb _ _ k) s) }
+        record { at = r.lo; first = member_right (map (λ e. e.block.lo) n.entries) (map (λ b. b.lo) n.accepts) r.lo r.first; below = r.below; holds = or_right _ _ (and_from _ _ (lt-ltb _ _ k) s) }
     by false c =
         let lt = leb-false _ _ c in
         let k : 0 < map_blocks_at n m.lo = m.all m.lo (omega arith) (let p = m.below in let q = m.above in omega arith) in
         let s : in_some_block m.lo n.accepts ≡ true = r.all m.lo (omega arith) (let p = m.below in let q = r.above in omega arith) in
-        record { at = m.lo; first = member_left (map (λ e. e.block.lo) n.entries) (map (λ b. b.lo) n.accepts) m.lo m.first; below = m.below; holds = true_right _ _ (true_both _ _ (lt-ltb _ _ k) s) }
+        record { at = m.lo; first = member_left (map (λ e. e.block.lo) n.entries) (map (λ b. b.lo) n.accepts) m.lo m.first; below = m.below; holds = or_right _ _ (and_from _ _ (lt-ltb _ _ k) s) }
 
 -- an address that overlaps has a first address of a block at or below it that overlaps
 pub first_overlap : (n : NodeDecl) (b : ℕ) → overlaps n b ≡ true → FirstBelow (firsts n) (λ a. overlaps n a ≡ true) b
-first_overlap n b h = elim (either_true (nat_lt 1 (map_blocks_at n b)) (nat_lt 0 (map_blocks_at n b) && in_some_block b n.accepts) h) [
-  | inl e ↦ (let r = two_maps n.entries b (ltb-true _ _ e) in record { at = r.at; first = member_left (map (λ e. e.block.lo) n.entries) (map (λ b. b.lo) n.accepts) r.at r.first; below = r.below; holds = true_left _ _ (lt-ltb _ _ r.holds) })
-  | inr e ↦ (let p = both_true (nat_lt 0 (map_blocks_at n b)) (in_some_block b n.accepts) e in map_and_accept n b (some_map n.entries b (ltb-true _ _ p.0)) (some_accept n.accepts b p.1))
+first_overlap n b h = elim (or_cases (nat_lt 1 (map_blocks_at n b)) (nat_lt 0 (map_blocks_at n b) && in_some_block b n.accepts) h) [
+  | inl e ↦ (let r = two_maps n.entries b (ltb-true _ _ e) in record { at = r.at; first = member_left (map (λ e. e.block.lo) n.entries) (map (λ b. b.lo) n.accepts) r.at r.first; below = r.below; holds = or_left _ _ (lt-ltb _ _ r.holds) })
+  | inr e ↦ (let p = and_parts (nat_lt 0 (map_blocks_at n b)) (in_some_block b n.accepts) e in map_and_accept n b (some_map n.entries b (ltb-true _ _ p.0)) (some_accept n.accepts b p.1))
 ]
 
 filter_to : (p : ℕ → Bool) (xs : List ℕ) (a : ℕ) → Member a (filter p xs) → (p a ≡ true) × Member a xs

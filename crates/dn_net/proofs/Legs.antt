@@ -9,8 +9,9 @@ use Rattle.dn_net.specs.declared.node.NodeDecl.{NodeDecl}
 use Rattle.dn_net.specs.Chain.{Member}
 use Rattle.dn_net.specs.Decode.{top, refers_within, over_within, ports_within}
 use Rattle.dn_net.specs.Walks.{Choice, mapped_by, over_gap, IsGap, Leads, gaps, Leg, dest_legs, entry_legs, gap_legs, legs_of}
-use Rattle.dn_net.proofs.Places.{both, list_all-at}
 use Rattle.dn_base.proofs.Members.{member_left, member_right, member_cases, map_member, member_map}
+use Rattle.dn_base.proofs.Booleans.{and_parts}
+use Rattle.dn_base.proofs.Lists.{list_all-at}
 use Rattle.dn_net.proofs.Apart.{IsApart}
 use Rattle.dn_net.proofs.Gaps.{gap_of_member, member_of_gap}
 use Rattle.dn_net.proofs.Members.{member_order, some_same}
@@ -144,13 +145,13 @@ pub leads_within : (count : ℕ) (o : Option NodeDecl) → ((n : NodeDecl) → o
 leads_within count None closed c b d f = absurd f
 leads_within count (Some n) closed (mapped_by i j) b d f =
     let P : Entry → Bool = λ e. list_all (λ d. nat_lt d.node count) e.dests in
-    let all = both (list_all P n.entries) (over_within count n.over && ports_within count n.unit) (closed n refl) in
+    let all = and_parts (list_all P n.entries) (over_within count n.over && ports_within count n.unit) (closed n refl) in
     let one : IsTrue (P f.0) = list_all-at P n.entries i f.0 all.0 f.2 in
     let q : f.1.node < count = ltb-true f.1.node count (list_all-at (λ d. nat_lt d.node count) f.0.dests j f.1 one f.3) in
     subst (λ x. x.node < count) (sym f.5) q
 leads_within count (Some n) closed (over_gap lo hi) b d f =
     let P : Entry → Bool = λ e. list_all (λ d. nat_lt d.node count) e.dests in
-    let all = both (list_all P n.entries) (over_within count n.over && ports_within count n.unit) (closed n refl) in
-    let rest = both (over_within count n.over) (ports_within count n.unit) all.1 in
+    let all = and_parts (list_all P n.entries) (over_within count n.over && ports_within count n.unit) (closed n refl) in
+    let rest = and_parts (over_within count n.over) (ports_within count n.unit) all.1 in
     let q : f.0 < count = over_one count n.over f.0 rest.0 f.1 in
     subst (λ x. x.node < count) (sym f.4) q

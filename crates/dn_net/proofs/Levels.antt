@@ -9,12 +9,14 @@ use Rattle.dn_net.specs.Chain.{Member}
 use Rattle.dn_net.specs.Decode.{top, within, refers_within}
 use Rattle.dn_net.specs.Walks.{Choice, Leads, Follows, IsLive, moved_name, whole, Leg, legs_of, Walk, last_out, meets, greater, lesser_of, onto, extended, still, stills, level}
 use Rattle.dn_net.specs.Rules.{KeepsNodeRules}
-use Rattle.dn_net.proofs.Least.{within_from, within_to, true_both, both_true}
-use Rattle.dn_net.proofs.Places.{list_all-at}
+use Rattle.dn_net.proofs.Least.{within_from, within_to}
 use Rattle.dn_net.proofs.Apart.{IsApart, node_apart}
 use Rattle.dn_net.proofs.Legs.{leads_of_leg, leg_of_leads, leads_once, leads_in_range, leads_within}
 use Rattle.dn_base.proofs.Members.{map_member, member_map}
+use Rattle.dn_base.proofs.Booleans.{and_parts, and_from}
+use Rattle.dn_base.proofs.Lists.{list_all-at}
 use Rattle.dn_net.proofs.Members.{member_filter, filter_member, member_flat_map, flat_map_member}
+use Rattle.dn_net.proofs.Resolution.{name_is}
 
 -- what each walk of a level keeps
 pub record IsRow (net : List NodeDecl) (k : ℕ) (w : Walk) : Type 0 where
@@ -36,9 +38,6 @@ follows_split net (c ∷ cs) ds x y f =
 follows_join : (net : List NodeDecl) (cs ds : List Choice) (x y z : Name) → Follows net x cs z → Follows net z ds y → Follows net x (cs ++ ds) y
 follows_join net [] ds x y z f g = subst (λ w. Follows net w ds y) (sym f) g
 follows_join net (c ∷ cs) ds x y z f g = (f.0, f.1, f.2, f.3, follows_join net cs ds (moved_name (x.addr - f.0.lo) f.1) y z f.4 g)
-
-same_name : (m n a b : ℕ) → m ≡ n → a ≡ b → ◌≡◌ {A = Name} (record { node = m; addr = a }) (record { node = n; addr = b })
-same_name m n a b e f = λ i. record { node = e i; addr = f i }
 
 -- the greater and the lesser of two
 greater_is : (a b : ℕ) → (a ≤ greater a b) × (b ≤ greater a b) × ((greater a b ≡ a) ⊎ (greater a b ≡ b))
@@ -93,7 +92,7 @@ module _ (net : List NodeDecl) (checked : KeepsNodeRules net) where
       let g = greater_is w.to.addr l.block.lo in
       let h = lesser_is (last_out w) l.block.hi in
       let c = within_to a (onto w l).span inside in
-      let m = both_true (nat_le w.to.addr l.block.hi) (nat_le l.block.lo (last_out w)) met in
+      let m = and_parts (nat_le w.to.addr l.block.hi) (nat_le l.block.lo (last_out w)) met in
       let range = leads_in_range (slice_get net w.to.node) (λ n e. apart_at w.to.node n e) l.choice l.block l.to leads in
       let o = cut_order w.span.lo w.span.hi w.to.addr l.block.lo l.block.hi (greater w.to.addr l.block.lo) (lesser_of (last_out w) l.block.hi) g.2 h.2 r.order range.0 (leb-true _ _ m.0) (leb-true _ _ m.1) in
       let b = cut_back w.span.lo w.span.hi w.to.addr l.block.lo l.block.hi (greater w.to.addr l.block.lo) (lesser_of (last_out w) l.block.hi) a g.0 g.1 h.0 h.1 o.1 r.order c.0 c.1 in
@@ -137,7 +136,7 @@ module _ (net : List NodeDecl) (checked : KeepsNodeRules net) where
   onto_is_row k w r l leads met =
       let g = greater_is w.to.addr l.block.lo in
       let h = lesser_is (last_out w) l.block.hi in
-      let m = both_true (nat_le w.to.addr l.block.hi) (nat_le l.block.lo (last_out w)) met in
+      let m = and_parts (nat_le w.to.addr l.block.hi) (nat_le l.block.lo (last_out w)) met in
       let range = leads_in_range (slice_get net w.to.node) (λ n e. apart_at w.to.node n e) l.choice l.block l.to leads in
       let o = cut_order w.span.lo w.span.hi w.to.addr l.block.lo l.block.hi (greater w.to.addr l.block.lo) (lesser_of (last_out w) l.block.hi) g.2 h.2 r.order range.0 (leb-true _ _ m.0) (leb-true _ _ m.1) in
       let q = cut_range w.span.lo w.span.hi w.to.addr l.block.lo l.block.hi (greater w.to.addr l.block.lo) (lesser_of (last_out w) l.block.hi) l.to.addr top r.low range.2 r.order g.0 g.1 o.0 h.1 h.0 in
@@ -169,7 +168,7 @@ module _ (net : List NodeDecl) (checked : KeepsNodeRules net) where
       follows a y below =
           let s : 0 + (a - 0) ≡ a = omega arith in
           let z : 0 ≤ a = omega arith in
-          ((λ e. (within_from a whole z below, same_name n n (0 + (a - 0)) a refl s ∙ e)), (λ f. sym (same_name n n (0 + (a - 0)) a refl s) ∙ f.1))
+          ((λ e. (within_from a whole z below, name_is n n (0 + (a - 0)) a refl s ∙ e)), (λ f. sym (name_is n n (0 + (a - 0)) a refl s) ∙ f.1))
 
   -- each walk of a level is a live walk, with its addresses
   pub level_is_row : (k : ℕ) (w : Walk) → Member w (level net k) → IsRow net k w
@@ -208,7 +207,7 @@ module _ (net : List NodeDecl) (checked : KeepsNodeRules net) where
       let v1 : w.to.addr + (a - w.span.lo) ≤ f.0.hi = v.1 in
       let m0 : w.to.addr ≤ f.0.hi = omega arith in
       let m1 : f.0.lo ≤ w.to.addr + (w.span.hi - w.span.lo) = omega arith in
-      let met : IsTrue (meets w l) = true_both (nat_le w.to.addr f.0.hi) (nat_le f.0.lo (last_out w)) (le-leb w.to.addr f.0.hi m0) (le-leb f.0.lo (last_out w) m1) in
+      let met : IsTrue (meets w l) = and_from (nat_le w.to.addr f.0.hi) (nat_le f.0.lo (last_out w)) (le-leb w.to.addr f.0.hi m0) (le-leb f.0.lo (last_out w) m1) in
       let leg : Member l (legs_of (slice_get net w.to.node)) = leg_of_leads (slice_get net w.to.node) (λ n e. apart_at w.to.node n e) c f.0 f.1 f.2 in
       let next : Member (onto w l) (level net (suc j)) = flat_map_member (extended net) (level net j) w (onto w l) m (member_map (onto w) (filter (meets w) (legs_of (slice_get net w.to.node))) l (filter_member (meets w) (legs_of (slice_get net w.to.node)) l leg met)) in
       let low : w.span.hi ≤ top = r.low in
@@ -235,7 +234,7 @@ module _ (net : List NodeDecl) (checked : KeepsNodeRules net) where
       let m : Member (still x.node) (level net 0) = subst (λ n. Member (still n) (stills 0 net)) e (stills_member 0 x.node net l) in
       let z : 0 ≤ x.addr = omega arith in
       let s : x.addr ≡ 0 + (x.addr - 0) = omega arith in
-      let g : Follows net (moved_name (x.addr - 0) (record { node = x.node; addr = 0 })) cs y = subst (λ u. Follows net u cs y) (same_name x.node x.node x.addr (0 + (x.addr - 0)) refl s) f in
+      let g : Follows net (moved_name (x.addr - 0) (record { node = x.node; addr = 0 })) cs y = subst (λ u. Follows net u cs y) (name_is x.node x.node x.addr (0 + (x.addr - 0)) refl s) f in
       let r = row_onward 0 (still x.node) m cs x.addr y (within_from x.addr whole z t) g in
       let k : 0 + length cs ≡ length cs = omega arith in
       let n : Member r.0 (level net (length cs)) = subst (λ n. Member r.0 (level net n)) k r.1 in

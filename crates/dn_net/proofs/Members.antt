@@ -1,20 +1,13 @@
 -- Members of lists that are made of others.
-use Rattle.std.proofs.Common.{◌≡◌, ◌⊎◌, ◌↔◌, inl, inr, Bool, true, false, if◌then◌else◌, List, [], ◌∷◌, map, filter, Option, Some, refl, sym, ap, ◌∙◌, subst}
+use Rattle.std.proofs.Common.{◌≡◌, ◌⊎◌, ◌↔◌, inl, inr, Bool, true, false, if◌then◌else◌, List, [], ◌∷◌, filter, Option, Some, refl, sym, ap, ◌∙◌, subst}
 use Rattle.std.specs.List.{flat_map}
 use Rattle.dn_net.specs.Chain.{Member}
 use Rattle.dn_net.specs.Walks.{put_in, in_order}
-use Rattle.dn_base.proofs.Members.{member_left, member_right, member_cases, map_member as made_of, member_map as is_made}
+use Rattle.dn_base.proofs.Members.{member_left, member_right, member_cases}
 
 -- what two options have is one
 pub some_same : {X : Type 0} (x y : X) → ◌≡◌ {A = Option X} (Some x) (Some y) → x ≡ y
 some_same x y e = cc
-
--- what is made of a list is made of its items: the two laws of dn_base under the names that crates above use
-pub member_map : {X Y : Type 0} (f : X → Y) (xs : List X) (y : Y) → Member y (map f xs) → (x : X) × Member x xs × (f x ≡ y)
-member_map f xs y m = made_of f xs y m
-
-pub map_member : {X Y : Type 0} (f : X → Y) (xs : List X) (x : X) → Member x xs → Member (f x) (map f xs)
-map_member f xs x m = is_made f xs x m
 
 pub member_filter : {X : Type 0} (p : X → Bool) (xs : List X) (x : X) → Member x (filter p xs) → Member x xs × (p x ≡ true)
 member_filter p [] x m = absurd m

@@ -10,7 +10,7 @@ use Rattle.dn_net.specs.Decode.{within}
 use Rattle.dn_net.specs.Walks.{Choice, in_some_entry, gaps, Leg, dest_legs, entry_legs, gap_legs, legs, legs_of, in_order, Walk, meets, onto, extended, still, stills, level, starts_before, live_walks, EarlierDest, ChooseBefore, SameSpan, Precedes}
 use Rattle.dn_net.specs.WalkRules.{LiveWalksAreInOrder}
 use Rattle.dn_net.specs.Rules.{KeepsNodeRules}
-use Rattle.dn_net.proofs.Least.{within_from, within_to, either_true, both_true, true_left, true_right, true_both}
+use Rattle.dn_net.proofs.Least.{within_from, within_to}
 use Rattle.dn_net.proofs.Apart.{IsApart, node_apart}
 use Rattle.dn_net.proofs.Choices.{free_parts}
 use Rattle.dn_net.proofs.Gaps.{Stand, gaps_stand, stand_member, gap_of_member}
@@ -18,6 +18,8 @@ use Rattle.dn_net.proofs.Legs.{dest_leg, gap_leg, member_dest_legs, member_entry
 use Rattle.dn_net.proofs.Levels.{IsRow, level_is_row, onto_within}
 use Rattle.dn_net.proofs.Listed.{level_of_listed}
 use Rattle.dn_base.proofs.Members.{map_member}
+use Rattle.dn_base.proofs.Booleans.{or_cases, and_parts, or_left, or_right, and_from}
+use Rattle.dn_base.proofs.Orders.{cases_lt}
 use Rattle.dn_net.proofs.Members.{member_filter, member_order, some_same}
 use Rattle.dn_net.proofs.Pairs.{Pairwise, NotBefore, pair_at, pairs_more, pairs_append, pairs_map, pairs_filter, pairs_flat_map, pairs_order, order_sorted, pairs_both}
 
@@ -64,8 +66,8 @@ gap_legs_ordered (Some m) bs h = pairs_map LegBefore (gap_leg m) bs (pairs_more 
 
 in_an_entry : (es : List Entry) (i a : ℕ) (e : Entry) → slice_get es i ≡ Some e → IsTrue (within a e.block) → in_some_entry a es ≡ true
 in_an_entry [] i a e at w = cc
-in_an_entry (f ∷ es) zero a e at w = let s : f ≡ e = some_same f e at in true_left (within a f.block) (in_some_entry a es) (ap (λ x. within a x.block) s ∙ w)
-in_an_entry (f ∷ es) (suc i) a e at w = true_right (within a f.block) (in_some_entry a es) (in_an_entry es i a e at w)
+in_an_entry (f ∷ es) zero a e at w = let s : f ≡ e = some_same f e at in or_left (within a f.block) (in_some_entry a es) (ap (λ x. within a x.block) s ∙ w)
+in_an_entry (f ∷ es) (suc i) a e at w = or_right (within a f.block) (in_some_entry a es) (in_an_entry es i a e at w)
 
 -- the legs of a node are in order
 pub legs_ordered : (n : NodeDecl) → IsApart n → Pairwise LegBefore (legs n)
@@ -114,11 +116,8 @@ legs_rise n apart = pairs_more (λ l m. NotBefore leg_before l m × LegBefore l 
     sorted : Pairwise (NotBefore leg_before) (legs n)
     sorted = order_sorted leg_before turned still (entry_legs 0 n.entries ++ gap_legs n.over (gaps n))
 
-    order : (a b : ℕ) → (a < b) ⊎ (b ≤ a)
-    order a b = grind arith
-
     each : (l m : Leg) → Member l (legs n) → Member m (legs n) → NotBefore leg_before l m × LegBefore l m → Rises l m
-    each l m x y p = rise_by l m (leads_in_range (Some n) (λ k e. subst (λ j. IsApart j) (some_same n k e) apart) m.choice m.block m.to (leads_of_leg (Some n) (λ k e. subst (λ j. IsApart j) (some_same n k e) apart) m y)).0 (ltb-false m.block.lo l.block.lo p.0) p.1 (order l.block.hi m.block.lo)
+    each l m x y p = rise_by l m (leads_in_range (Some n) (λ k e. subst (λ j. IsApart j) (some_same n k e) apart) m.choice m.block m.to (leads_of_leg (Some n) (λ k e. subst (λ j. IsApart j) (some_same n k e) apart) m y)).0 (ltb-false m.block.lo l.block.lo p.0) p.1 (cases_lt l.block.hi m.block.lo)
 
 legs_of_ordered : (o : Option NodeDecl) → ((n : NodeDecl) → o ≡ Some n → IsApart n) → Pairwise LegBefore (legs_of o)
 legs_of_ordered None apart = tt
@@ -204,24 +203,24 @@ abbrev StartLater : Walk → Walk → Type 0
 StartLater w v = (w.start < v.start) ⊎ (((w.start ≡ v.start) × (w.span.lo < v.span.lo)) ⊎ ((w.start ≡ v.start) × (w.span.lo ≡ v.span.lo) × (w.span.hi ≤ v.span.hi)))
 
 before_lower : (w v : Walk) → w.start < v.start → starts_before w v ≡ true
-before_lower w v l = true_left _ _ (lt-ltb w.start v.start l)
+before_lower w v l = or_left _ _ (lt-ltb w.start v.start l)
 
 before_left : (w v : Walk) → w.start ≡ v.start → w.span.lo < v.span.lo → starts_before w v ≡ true
-before_left w v e l = true_right (nat_lt w.start v.start) _ (true_both _ _ (eq-eqb w.start v.start e) (true_left _ _ (lt-ltb w.span.lo v.span.lo l)))
+before_left w v e l = or_right (nat_lt w.start v.start) _ (and_from _ _ (eq-eqb w.start v.start e) (or_left _ _ (lt-ltb w.span.lo v.span.lo l)))
 
 before_shorter : (w v : Walk) → w.start ≡ v.start → w.span.lo ≡ v.span.lo → w.span.hi < v.span.hi → starts_before w v ≡ true
-before_shorter w v e f l = true_right (nat_lt w.start v.start) _ (true_both _ _ (eq-eqb w.start v.start e) (true_right (nat_lt w.span.lo v.span.lo) _ (true_both _ _ (eq-eqb w.span.lo v.span.lo f) (lt-ltb w.span.hi v.span.hi l))))
+before_shorter w v e f l = or_right (nat_lt w.start v.start) _ (and_from _ _ (eq-eqb w.start v.start e) (or_right (nat_lt w.span.lo v.span.lo) _ (and_from _ _ (eq-eqb w.span.lo v.span.lo f) (lt-ltb w.span.hi v.span.hi l))))
 
 before_is : (w v : Walk) → starts_before w v ≡ true → (w.start < v.start) ⊎ (((w.start ≡ v.start) × (w.span.lo < v.span.lo)) ⊎ ((w.start ≡ v.start) × (w.span.lo ≡ v.span.lo) × (w.span.hi < v.span.hi)))
-before_is w v h = elim (either_true (nat_lt w.start v.start) _ h) [
+before_is w v h = elim (or_cases (nat_lt w.start v.start) _ h) [
   | inl e ↦ inl (ltb-true w.start v.start e)
-  | inr e ↦ inr (same (both_true (w.start == v.start) _ e))
+  | inr e ↦ inr (same (and_parts (w.start == v.start) _ e))
 ]
   where
     same : ((w.start == v.start) ≡ true) × ((nat_lt w.span.lo v.span.lo || ((w.span.lo == v.span.lo) && nat_lt w.span.hi v.span.hi)) ≡ true) → ((w.start ≡ v.start) × (w.span.lo < v.span.lo)) ⊎ ((w.start ≡ v.start) × (w.span.lo ≡ v.span.lo) × (w.span.hi < v.span.hi))
-    same b = elim (either_true (nat_lt w.span.lo v.span.lo) _ b.1) [
+    same b = elim (or_cases (nat_lt w.span.lo v.span.lo) _ b.1) [
       | inl e ↦ inl (eqb-true w.start v.start b.0, ltb-true w.span.lo v.span.lo e)
-      | inr e ↦ (let c = both_true (w.span.lo == v.span.lo) (nat_lt w.span.hi v.span.hi) e in inr (eqb-true w.start v.start b.0, eqb-true w.span.lo v.span.lo c.0, ltb-true w.span.hi v.span.hi c.1))
+      | inr e ↦ (let c = and_parts (w.span.lo == v.span.lo) (nat_lt w.span.hi v.span.hi) e in inr (eqb-true w.start v.start b.0, eqb-true w.span.lo v.span.lo c.0, ltb-true w.span.hi v.span.hi c.1))
     ]
 
 three : (a b : ℕ) → (a < b) ⊎ ((a ≡ b) ⊎ (b < a))

@@ -5,17 +5,12 @@ use Rattle.std.specs.List.{flat_map}
 use Rattle.std.specs.List.Sorted.{IsNonDecreasingBy}
 use Rattle.dn_net.specs.Chain.{Member}
 use Rattle.dn_net.specs.Walks.{put_in, in_order}
-use Rattle.dn_base.proofs.Members.{member_cases, map_member}
+use Rattle.dn_base.proofs.Members.{member_cases, map_member, member_at}
 use Rattle.dn_net.proofs.Members.{member_filter, member_flat_map, member_put, member_order, some_same}
 
 abbrev pub Pairwise : {X : Type 0} → (X → X → Type 0) → List X → Type 0
 Pairwise R [] = Unit {0}
 Pairwise {X} R (x ∷ xs) = ((y : X) → Member y xs → R x y) × Pairwise R xs
-
-pub member_at : {X : Type 0} (xs : List X) (i : ℕ) (x : X) → slice_get xs i ≡ Some x → Member x xs
-member_at [] i x at = cc
-member_at (y ∷ xs) zero x at = inl (some_same y x at)
-member_at (y ∷ xs) (suc i) x at = inr (member_at xs i x at)
 
 pub pair_at : {X : Type 0} (R : X → X → Type 0) (xs : List X) (i j : ℕ) (x y : X) → Pairwise R xs → slice_get xs i ≡ Some x → slice_get xs j ≡ Some y → i < j → R x y
 pair_at R [] i j x y p at bt l = cc

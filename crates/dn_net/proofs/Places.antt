@@ -1,13 +1,11 @@
 -- Where a full name stands in the entries that a net keeps, and what is true of each item of a list.
-use Rattle.std.proofs.Common.{◌≡◌, ◌≢◌, get_or, true≢false, ◌∙◌, ap, sym, refl, ℕ, zero, suc, ◌<◌, is_some, List, [], ◌∷◌, ◌++◌, map, true, false, Bool, not, ◌&&◌, length, arith, position, IsTrue, option_map}
-use Rattle.std.proofs.lemmas.Bool.{and_parts, or_parts}
+use Rattle.std.proofs.Common.{◌≡◌, ◌≢◌, get_or, true≢false, ◌∙◌, ap, sym, refl, ℕ, zero, suc, ◌<◌, List, [], ◌∷◌, ◌++◌, map, true, false, Bool, not, length, arith, position, option_map}
+use Rattle.std.proofs.lemmas.Bool.{or_parts}
 use Rattle.std.proofs.lemmas.List.Quantifiers.{all_pairs_push}
 use Rattle.std.proofs.lemmas.Slice.Eq.{bytes_eq-Decides}
 use Rattle.std.specs.List.{AllPairs, list_any, prefix_len}
 use Rattle.std.specs.Str.{bytes_eq}
 use Rattle.std.specs.Map.{keys_of}
-use Rattle.dn_base.proofs.Lists.{position-nowhere}
-pub use Rattle.dn_base.proofs.Lists.{length-last, map-last, list_all-at, list_all-implied, list_all-last}
 use Rattle.indexmap.specs.IndexMap.{insert_entry}
 use Rattle.dn_net.specs.declared.node.Dest.{Dest}
 use Rattle.dn_net.specs.declared.node.NodeDecl.{NodeDecl}
@@ -37,16 +35,9 @@ insert_entry-new f p eq k v same (e ∷ es) h =
     let parts = or_parts (p (f e)) (list_any p (map f es)) h in
     simp (same e, parts.0, insert_entry-new f p eq k v same es parts.1)
 
-pub both : (a b : Bool) → IsTrue (a && b) → IsTrue a × IsTrue b
-both a b h = and_parts a b h
-
 -- the declaration of an added node is shown as it was given
 pub declared_new : {S : Type 0} (text : S → List ℕ) (k : S) (decl : NodeDecl) (parts : Parts) → text k ≡ decl.text → parts.role ≡ decl.role → parts.accepts ≡ decl.accepts → parts.entries ≡ decl.entries → option_map (λ (d : Dest). d.node) parts.over ≡ decl.over → parts.unit ≡ decl.unit → declared_by text (k, parts) ≡ decl
 declared_new text k decl parts t r a e o u = λ i. record { text = t i; role = r i; accepts = a i; entries = e i; over = o i; unit = u i }
-
--- what has no place in a list is not there
-pub not_there : {X : Type 0} (p : X → Bool) (xs : List X) → is_some (position p xs) ≡ false → list_any p xs ≡ false
-not_there p xs none = position-nowhere p xs none
 
 any_false-at : {X : Type 0} (p : X → Bool) (xs : List X) (k : ℕ) (d : X) → list_any p xs ≡ false → k < length xs → p (get_or xs k d) ≡ false
 any_false-at p [] k d h l = absurd (omega arith)

@@ -1,17 +1,38 @@
 -- The lists of names have the names that the relations have.
-use Rattle.std.proofs.Common.{◌≡◌, ℕ, zero, suc, ◌≤◌, ◌⊎◌, ◌↔◌, inl, inr, Bool, true, false, if◌then◌else◌, ◌&&◌, ◌==◌, List, [], ◌∷◌, ◌++◌, refl, sym, ap, ◌∙◌, subst, arith, IsTrue, eqb-true}
-pub use Rattle.dn_base.proofs.Members.{member_left, member_right, member_cases}
+use Rattle.std.proofs.Common.{◌≡◌, ℕ, zero, suc, ◌≤◌, ◌⊎◌, ◌↔◌, inl, inr, Bool, true, false, if◌then◌else◌, ◌==◌, List, [], ◌∷◌, ◌++◌, refl, sym, ap, ◌∙◌, subst, arith, IsTrue, eqb-true}
+use Rattle.std.specs.List.{list_any}
+use Rattle.dn_base.proofs.Booleans.{and_parts, and_from, or_cases, or_left, or_right}
+use Rattle.dn_base.proofs.Members.{member_left, member_right, member_cases}
+use Rattle.dn_base.proofs.Orders.{eq-eqb}
 use Rattle.dn_net.specs.declared.node.Name.{Name}
 use Rattle.dn_net.specs.Chain.{Member, IsChain, ReachesWithin, Ends}
 use Rattle.dn_net.specs.Names.{name_lt, name_eq, with_name, sorted_names, passing_names, each_step, after_steps, reached_names, end_names}
 
+-- names of one node and one address are one name
+pub name_is : (m n a b : ℕ) → m ≡ n → a ≡ b → ◌≡◌ {A = Name} (record { node = m; addr = a }) (record { node = n; addr = b })
+name_is m n a b e f = λ i. record { node = e i; addr = f i }
+
+-- the test of names
 pub name_same : (x y : Name) → name_eq x y ≡ true → x ≡ y
-name_same x y e = go ((x.node == y.node)) ((x.addr == y.addr)) refl refl e
-  where
-    go : (a b : Bool) → (x.node == y.node) ≡ a → (x.addr == y.addr) ≡ b → (a && b) ≡ true → x ≡ y
-    go true true p q f = ap (λ n. record { node = n; addr = x.addr }) (eqb-true x.node y.node p) ∙ ap (λ n. record { node = y.node; addr = n }) (eqb-true x.addr y.addr q)
-    go true false p q f = cc
-    go false b p q f = cc
+name_same x y e =
+    let b = and_parts (x.node == y.node) (x.addr == y.addr) e in
+    λ i. record { node = eqb-true x.node y.node b.0 i; addr = eqb-true x.addr y.addr b.1 i }
+
+pub same_name : (x y : Name) → x ≡ y → name_eq x y ≡ true
+same_name x y e = and_from _ _ (eq-eqb x.node y.node (ap (λ n. n.node) e)) (eq-eqb x.addr y.addr (ap (λ n. n.addr) e))
+
+-- a list has a name where a test finds it
+pub found_by_test : (y : Name) (xs : List Name) → list_any (name_eq y) xs ≡ true → Member y xs
+found_by_test y [] h = cc
+found_by_test y (x ∷ xs) h = elim (or_cases (name_eq y x) (list_any (name_eq y) xs) h) [
+  | inl e ↦ inl (sym (name_same y x e))
+  | inr e ↦ inr (found_by_test y xs e)
+]
+
+pub test_finds : (y : Name) (xs : List Name) → Member y xs → list_any (name_eq y) xs ≡ true
+test_finds y [] m = absurd m
+test_finds y (x ∷ xs) (inl e) = or_left (name_eq y x) (list_any (name_eq y) xs) (same_name y x (sym e))
+test_finds y (x ∷ xs) (inr m) = or_right (name_eq y x) (list_any (name_eq y) xs) (test_finds y xs m)
 
 pub with_in : (x : Name) (ys : List Name) (z : Name) → Member z (with_name x ys) → (x ≡ z) ⊎ Member z ys
 with_in x [] z (inl e) = inl e

@@ -7,7 +7,7 @@ use Rattle.dn_net.specs.declared.node.NodeDecl.{NodeDecl}
 use Rattle.dn_net.specs.Chain.{Member, IsChain, Reaches, ReachesWithin}
 use Rattle.dn_net.specs.declared.node.Unit.{Unit as UnitPart}
 use Rattle.std.specs.List.{list_all}
-use Rattle.dn_net.specs.Decode.{top, is_formed, is_stop, is_stop_at, sent_names, unit_of, unit_at, steps, step_limit, Step}
+use Rattle.dn_net.specs.Decode.{top, is_agent_at, is_formed, is_stop, is_stop_at, sent_names, unit_of, unit_at, steps, step_limit, Step}
 use Rattle.dn_net.specs.Names.{sorted_names, passing_names, reached_names, stop_names}
 use Rattle.dn_net.specs.Firsts.{first_of}
 use Rattle.dn_net.specs.UnitRules.{IsShallow}
@@ -57,13 +57,21 @@ first_stop_is net x = by (first_of (sorted_names reached)) (first_sorted reached
     by None f = λ z m. f z ((names_in reached z).0 m)
     by (Some s) f = record { listed = (names_in reached s).1 f.member; first = (λ z m. f.least z ((names_in reached z).0 m)) }
 
--- a stop stands in a node that is there, which is a unit
+-- a stop stands in a node that is there
 pub stop_there : (net : List NodeDecl) (s : Name) → IsTrue (is_stop net s) → s.node < length net
 stop_there net s is = by (slice_get net s.node) refl is
   where
     by : (o : Option NodeDecl) → slice_get net s.node ≡ o → IsTrue (is_stop_at s.addr (unit_of o)) → s.node < length net
     by None e h = cc
     by (Some n) e h = slice_get_within net s.node n e
+
+-- an agent is a node that is there
+pub agent_there : (net : List NodeDecl) (node : ℕ) → IsTrue (is_agent_at (slice_get net node)) → node < length net
+agent_there net node is = by (slice_get net node) refl is
+  where
+    by : (o : Option NodeDecl) → slice_get net node ≡ o → IsTrue (is_agent_at o) → node < length net
+    by None e a = cc
+    by (Some n) e a = slice_get_within net node n e
 
 pub stop_unit : (net : List NodeDecl) (s : Name) → IsTrue (is_stop net s) → (is_some (unit_at net s.node) ≡ true) × (s.addr ≤ top)
 stop_unit net s is = by (unit_at net s.node) is

@@ -1,14 +1,15 @@
 -- Blocks in the order of their first addresses, each stretched to the greatest last address so far.
-use Rattle.std.proofs.Common.{◌≡◌, ℕ, zero, suc, ◌<◌, ◌≤◌, ◌⊎◌, inl, inr, Bool, true, false, if◌then◌else◌, ◌&&◌, ◌||◌, nat_le, nat_lt, List, [], ◌∷◌, Some, None, refl, sym, ap, ◌∙◌, arith, leb-true, ltb-true, length, get_or, slice_get}
+use Rattle.std.proofs.Common.{◌≡◌, ℕ, zero, suc, ◌<◌, ◌≤◌, ◌⊎◌, inl, inr, Bool, true, false, if◌then◌else◌, ◌&&◌, ◌||◌, nat_le, nat_lt, List, [], ◌∷◌, Some, None, refl, sym, ap, ◌∙◌, arith, ltb-true, length, get_or, slice_get}
 use Rattle.std.proofs.lemmas.Bool.{cases_lt, le-leb, leb-false, ltb-false}
 use Rattle.std.proofs.lemmas.Option.{get_or_from_slice_get, slice_get_within, slice_get-get_or}
 use Rattle.std.proofs.lemmas.List.Sorted.{list_any-IsPermutation}
 use Rattle.std.specs.List.{list_any}
 use Rattle.std.specs.List.Sorted.{IsNonDecreasingBy, IsPermutation}
+use Rattle.dn_base.proofs.Booleans.{or_cases, or_left, or_right, and_from}
 use Rattle.dn_net.specs.declared.node.Block.{Block}
 use Rattle.dn_net.specs.Decode.{within, in_some_block}
-use Rattle.dn_net.proofs.Least.{both_true, true_both, either_true, true_left, true_right}
 use Rattle.dn_net.proofs.Sweep.{within_early, within_late}
+use Rattle.dn_net.proofs.Least.{within_to, within_from}
 
 abbrev pub higher : ℕ → ℕ → ℕ
 higher m h = if nat_lt m h then h else m
@@ -67,26 +68,20 @@ raised_lasts m (b ∷ bs) zero (suc j) d l h = raised_above (higher m b.hi) bs j
 raised_lasts m (b ∷ bs) (suc i) zero d l h = absurd (omega arith)
 raised_lasts m (b ∷ bs) (suc i) (suc j) d l h = raised_lasts (higher m b.hi) bs i j d (omega arith) (omega arith)
 
-within_both : (a : ℕ) (b : Block) → within a b ≡ true → (b.lo ≤ a) × (a ≤ b.hi)
-within_both a b w = let p = both_true (nat_le b.lo a) (nat_le a b.hi) w in (leb-true _ _ p.0, leb-true _ _ p.1)
-
-both_within : (a : ℕ) (b : Block) → b.lo ≤ a → a ≤ b.hi → within a b ≡ true
-both_within a b l h = true_both _ _ (le-leb _ _ l) (le-leb _ _ h)
-
 grown : (a m : ℕ) (b : Block) → within a b ≡ true → (nat_le b.lo a && nat_le a (higher m b.hi)) ≡ true
 grown a m b w =
-    let p = within_both a b w in
+    let p = within_to a b w in
     let q = (higher_above m b.hi).1 in
     let r = p.1 in
-    true_both _ _ (le-leb _ _ p.0) (le-leb _ _ (omega (arith, q, r)))
+    and_from _ _ (le-leb _ _ p.0) (le-leb _ _ (omega (arith, q, r)))
 
 grows : (a m : ℕ) (bs : List Block) → in_some_block a bs ≡ true → in_some_block a (raised m bs) ≡ true
 grows a m [] h = h
-grows a m (b ∷ bs) h = by (either_true (within a b) (in_some_block a bs) h) (grows a (higher m b.hi) bs)
+grows a m (b ∷ bs) h = by (or_cases (within a b) (in_some_block a bs) h) (grows a (higher m b.hi) bs)
   where
     by : (within a b ≡ true) ⊎ (in_some_block a bs ≡ true) → (in_some_block a bs ≡ true → in_some_block a (raised (higher m b.hi) bs) ≡ true) → in_some_block a (raised m (b ∷ bs)) ≡ true
-    by (inl w) more = true_left _ _ (grown a m b w)
-    by (inr w) more = true_right _ _ (more w)
+    by (inl w) more = or_left _ _ (grown a m b w)
+    by (inr w) more = or_right _ _ (more w)
 
 -- the address lies past the first addresses, and no further than the blocks before these reach
 abbrev Carried : ℕ → ℕ → List Block → Type 0
@@ -96,20 +91,20 @@ shrinks_here : (a m : ℕ) (b : Block) (bs : List Block) → b.lo ≤ a → a �
 shrinks_here a m b bs l h = by (cases_lt b.hi a) (higher_cases m b.hi)
   where
     by : (b.hi < a) ⊎ (a ≤ b.hi) → ((m < b.hi) × (higher m b.hi ≡ b.hi)) ⊎ ((b.hi ≤ m) × (higher m b.hi ≡ m)) → (in_some_block a (b ∷ bs) ≡ true) ⊎ Carried a m (b ∷ bs)
-    by (inr w) e = inl (true_left _ _ (both_within a b l w))
+    by (inr w) e = inl (or_left _ _ (within_from a b l w))
     by (inl w) (inl e) = let f = e.1 in absurd (omega (arith, w, f, h))
     by (inl w) (inr e) = let f = e.1 in inr (omega (arith, f, h), omega (arith, w), λ n below. (let g : n ≤ b.lo = below 0 b (omega arith) in omega (arith, g, l)))
 
 shrinks : (a m : ℕ) (bs : List Block) → IsNonDecreasingBy (λ b. b.lo) bs → in_some_block a (raised m bs) ≡ true → (in_some_block a bs ≡ true) ⊎ Carried a m bs
 shrinks a m [] up h = inl h
-shrinks a m (b ∷ bs) up h = by (either_true (within a record { lo = b.lo; hi = higher m b.hi }) (in_some_block a (raised (higher m b.hi) bs)) h) (shrinks a (higher m b.hi) bs (λ i j d l k. up (suc i) (suc j) d (omega arith) (omega arith)))
+shrinks a m (b ∷ bs) up h = by (or_cases (within a record { lo = b.lo; hi = higher m b.hi }) (in_some_block a (raised (higher m b.hi) bs)) h) (shrinks a (higher m b.hi) bs (λ i j d l k. up (suc i) (suc j) d (omega arith) (omega arith)))
   where
     later : (in_some_block a bs ≡ true) ⊎ Carried a (higher m b.hi) bs → (in_some_block a (b ∷ bs) ≡ true) ⊎ Carried a m (b ∷ bs)
-    later (inl w) = inl (true_right _ _ w)
+    later (inl w) = inl (or_right _ _ w)
     later (inr c) = shrinks_here a m b bs (c.2 b.lo (λ k d q. up 0 (suc k) d (omega arith) (omega arith))) c.0
 
     by : (within a record { lo = b.lo; hi = higher m b.hi } ≡ true) ⊎ (in_some_block a (raised (higher m b.hi) bs) ≡ true) → (in_some_block a (raised (higher m b.hi) bs) ≡ true → (in_some_block a bs ≡ true) ⊎ Carried a (higher m b.hi) bs) → (in_some_block a (b ∷ bs) ≡ true) ⊎ Carried a m (b ∷ bs)
-    by (inl w) more = let p = within_both a record { lo = b.lo; hi = higher m b.hi } w in shrinks_here a m b bs p.0 p.1
+    by (inl w) more = let p = within_to a record { lo = b.lo; hi = higher m b.hi } w in shrinks_here a m b bs p.0 p.1
     by (inr w) more = later (more w)
 
 -- the same addresses lie in the blocks
@@ -140,8 +135,8 @@ none_has a (r ∷ rows) none = rw (none 0 r (omega arith), none_has a rows (λ k
 
 one_has : (a : ℕ) (rows : List Block) (k : ℕ) (r : Block) → slice_get rows k ≡ Some r → within a r ≡ true → in_some_block a rows ≡ true
 one_has a [] k r at w = cc
-one_has a (x ∷ rows) zero r at w = let s : x ≡ r = cc in true_left _ _ (ap (λ y. within a y) s ∙ w)
-one_has a (x ∷ rows) (suc k) r at w = true_right _ _ (one_has a rows k r at w)
+one_has a (x ∷ rows) zero r at w = let s : x ≡ r = cc in or_left _ _ (ap (λ y. within a y) s ∙ w)
+one_has a (x ∷ rows) (suc k) r at w = or_right _ _ (one_has a rows k r at w)
 
 -- rows whose first and last addresses ascend, of which so many end before the address
 module _ (rows : List Block) (a k : ℕ) (before : (j : ℕ) (d : Block) → j < k → j < length rows → nat_lt (get_or rows j d).hi a ≡ true) where
@@ -169,5 +164,5 @@ module _ (rows : List Block) (a k : ℕ) (before : (j : ℕ) (d : Block) → j <
       misses l j d h (inr q) = within_early _ a (let e : (get_or rows k d).lo ≡ r.lo = ap (λ b. b.lo) (here d) in let u = up k j d q h in omega (arith, e, u, l))
 
       by : (b : Bool) → nat_le r.lo a ≡ b → b ≡ in_some_block a rows
-      by true e = sym (one_has a rows k r at (true_both _ _ e (le-leb _ _ reached)))
+      by true e = sym (one_has a rows k r at (and_from _ _ e (le-leb _ _ reached)))
       by false e = sym (none_has a rows (λ j d h. misses (leb-false _ _ e) j d h (cases_lt j k)))

@@ -5,10 +5,11 @@ use Rattle.std.proofs.lemmas.List.Sums.{sum_by-cons}
 use Rattle.dn_net.specs.declared.node.Block.{Block}
 use Rattle.dn_net.specs.declared.spans.Span.{Span}
 use Rattle.std.specs.List.Sorted.{IsNonDecreasingBy}
+use Rattle.dn_base.proofs.Booleans.{or_cases, and_parts, or_left, or_right, and_from, and-false, or_parts}
 use Rattle.dn_net.specs.Decode.{within, top}
 use Rattle.dn_net.specs.Rules.{block_in_range}
 use Rattle.dn_net.specs.Spans.{maps_in, accepts_in, overlaps_in}
-use Rattle.dn_net.proofs.Least.{within_from, both_true, either_true, true_left, true_right, true_both}
+use Rattle.dn_net.proofs.Least.{within_from}
 
 -- the first span that meets what lies before it, where the map blocks and the accept blocks so far end before these addresses
 abbrev pub meets : ℕ → ℕ → Span → Bool
@@ -39,15 +40,11 @@ maps_in-cons s ss c = sum_by-cons (λ s. cond (s.mapped && within c s.block) 1 0
 pub accepts_in-cons : (s : Span) (ss : List Span) (c : ℕ) → accepts_in (s ∷ ss) c ≡ one_if (not s.mapped && within c s.block) + accepts_in ss c
 accepts_in-cons s ss c = sum_by-cons (λ s. cond (not s.mapped && within c s.block) 1 0) s ss
 
-pub and_false : (p : Bool) → (p && false) ≡ false
-and_false true = refl
-and_false false = refl
-
 pub within_early : (b : Block) (c : ℕ) → c < b.lo → within c b ≡ false
 within_early b c h = rw (lt-leb b.lo c h) refl
 
 pub within_late : (b : Block) (c : ℕ) → b.hi < c → within c b ≡ false
-within_late b c h = rw (lt-leb c b.hi h) (and_false (nat_le b.lo c))
+within_late b c h = rw (lt-leb c b.hi h) (and-false (nat_le b.lo c))
 
 -- nothing lies before the first address of rising spans
 pub early : (l : ℕ) (ss : List Span) (c : ℕ) → Rising l ss → c < l → (maps_in ss c ≡ 0) × (accepts_in ss c ≡ 0)
@@ -56,8 +53,8 @@ early l (s ∷ ss) c r h =
     let first : l ≤ s.block.lo = r.0 in
     let out : within c s.block ≡ false = within_early s.block c (omega arith) in
     let rest = early s.block.lo ss c r.2 (omega arith) in
-    let p : one_if (s.mapped && within c s.block) ≡ 0 = rw (out, and_false s.mapped) refl in
-    let q : one_if (not s.mapped && within c s.block) ≡ 0 = rw (out, and_false (not s.mapped)) refl in
+    let p : one_if (s.mapped && within c s.block) ≡ 0 = rw (out, and-false s.mapped) refl in
+    let q : one_if (not s.mapped && within c s.block) ≡ 0 = rw (out, and-false (not s.mapped)) refl in
     (maps_in-cons s ss c ∙ omega (arith, p, rest.0), accepts_in-cons s ss c ∙ omega (arith, q, rest.1))
 
 -- what has the address, of the spans so far and of those that come
@@ -106,13 +103,9 @@ record IsApart (m a : ℕ) (s : Span) : Type 0 where
   pub maps : m ≤ s.block.lo
   pub accepts : s.mapped ≡ true → a ≤ s.block.lo
 
-either_false : (p q : Bool) → (p || q) ≡ false → (p ≡ false) × (q ≡ false)
-either_false true q e = cc
-either_false false q e = (refl, e)
-
 apart : (m a : ℕ) (s : Span) → meets m a s ≡ false → IsApart m a s
 apart m a s e =
-    let f = either_false (nat_lt s.block.lo m) (s.mapped && nat_lt s.block.lo a) e in
+    let f = or_parts (nat_lt s.block.lo m) (s.mapped && nat_lt s.block.lo a) e in
     record { maps = ltb-false _ _ f.0; accepts = λ is. let g : nat_lt s.block.lo a ≡ false = rw is at f.1 in ltb-false _ _ g }
 
 ended_after : (m a : ℕ) (s : Span) (k : Bool) → s.mapped ≡ k → IsApart m a s → (past_maps m s ≤ s.block.lo) ⊎ (past_accepts a s ≤ s.block.lo)
@@ -185,7 +178,7 @@ shared_before m a s ss c h from sh =
 met : (m a : ℕ) (s : Span) (ss : List Span) (k : Bool) → s.mapped ≡ k → s.block.lo ≤ s.block.hi → meets m a s ≡ true → IsShared m a (s ∷ ss) s.block.lo
 met m a s ss k is valid e =
     let here : within s.block.lo s.block ≡ true = within_from s.block.lo s.block (omega arith) valid in
-    by k is here (either_true (nat_lt s.block.lo m) (s.mapped && nat_lt s.block.lo a) e)
+    by k is here (or_cases (nat_lt s.block.lo m) (s.mapped && nat_lt s.block.lo a) e)
   where
     by : (k : Bool) → s.mapped ≡ k → within s.block.lo s.block ≡ true → (nat_lt s.block.lo m ≡ true) ⊎ ((s.mapped && nat_lt s.block.lo a) ≡ true) → IsShared m a (s ∷ ss) s.block.lo
     by true is here (inl f) =
@@ -196,14 +189,14 @@ met m a s ss k is valid e =
     by true is here (inr f) =
         let p = maps_in-cons s ss s.block.lo in
         let one : one_if (s.mapped && within s.block.lo s.block) ≡ 1 = rw (is, here) refl in
-        let lt : one_if (nat_lt s.block.lo a) ≡ 1 = ap one_if (both_true s.mapped (nat_lt s.block.lo a) f).1 in
+        let lt : one_if (nat_lt s.block.lo a) ≡ 1 = ap one_if (and_parts s.mapped (nat_lt s.block.lo a) f).1 in
         record { mapped = omega (arith, p, one); more = omega (arith, p, one, lt) }
     by false is here (inl f) =
         let p = accepts_in-cons s ss s.block.lo in
         let one : one_if (not s.mapped && within s.block.lo s.block) ≡ 1 = rw (is, here) refl in
         let lt : one_if (nat_lt s.block.lo m) ≡ 1 = ap one_if f in
         record { mapped = omega (arith, lt); more = omega (arith, p, one, lt) }
-    by false is here (inr f) = let g = (both_true s.mapped (nat_lt s.block.lo a) f).0 in let h : false ≡ true = sym is ∙ g in cc
+    by false is here (inr f) = let g = (and_parts s.mapped (nat_lt s.block.lo a) f).0 in let h : false ≡ true = sym is ∙ g in cc
 
 -- the sweep finds the least shared address from an address on
 pub swept : (m a l : ℕ) (ss : List Span) → Rising l ss → (m ≤ l) ⊎ (a ≤ l) → IsSweep m a l ss (sweep m a ss)
@@ -233,12 +226,12 @@ swept m a l (s ∷ ss) r ended = by (meets m a s) refl (swept (past_maps m s) (p
     by false e ih = let h = apart m a s e in on h (sweep (past_maps m s) (past_accepts a s) ss) (ih (ended_after m a s s.mapped refl h))
 
 overlap_shared : (ss : List Span) (c : ℕ) → overlaps_in ss c ≡ true → IsShared 0 0 ss c
-overlap_shared ss c h = by (either_true (nat_lt 1 (maps_in ss c)) (nat_lt 0 (maps_in ss c) && nat_lt 0 (accepts_in ss c)) h)
+overlap_shared ss c h = by (or_cases (nat_lt 1 (maps_in ss c)) (nat_lt 0 (maps_in ss c) && nat_lt 0 (accepts_in ss c)) h)
   where
     by : (nat_lt 1 (maps_in ss c) ≡ true) ⊎ ((nat_lt 0 (maps_in ss c) && nat_lt 0 (accepts_in ss c)) ≡ true) → IsShared 0 0 ss c
     by (inl e) = let p = ltb-true _ _ e in record { mapped = omega arith; more = omega arith }
     by (inr e) =
-        let b = both_true (nat_lt 0 (maps_in ss c)) (nat_lt 0 (accepts_in ss c)) e in
+        let b = and_parts (nat_lt 0 (maps_in ss c)) (nat_lt 0 (accepts_in ss c)) e in
         let p = ltb-true _ _ b.0 in
         let q = ltb-true _ _ b.1 in
         record { mapped = omega arith; more = omega arith }
@@ -248,19 +241,19 @@ overlap_shown ss c sh = by (one_if_lt c 0) (cases_lt 1 (maps_in ss c))
   where
     by : ((c < 0) × (one_if (nat_lt c 0) ≡ 1)) ⊎ ((0 ≤ c) × (one_if (nat_lt c 0) ≡ 0)) → (1 < maps_in ss c) ⊎ (maps_in ss c ≤ 1) → overlaps_in ss c ≡ true
     by (inl u) v = let f = u.0 in absurd (omega arith)
-    by (inr u) (inl v) = true_left _ _ (lt-ltb _ _ v)
+    by (inr u) (inl v) = or_left _ _ (lt-ltb _ _ v)
     by (inr u) (inr v) =
         let p = sh.mapped in
         let q = sh.more in
         let k : 0 < maps_in ss c = omega (arith, u.1, p) in
         let j : 0 < accepts_in ss c = omega (arith, u.1, q, v) in
-        true_right _ _ (true_both _ _ (lt-ltb _ _ k) (lt-ltb _ _ j))
+        or_right _ _ (and_from _ _ (lt-ltb _ _ k) (lt-ltb _ _ j))
 
 -- spans that are in range and in the order of their first addresses
 pub rising : (l : ℕ) (ss : List Span) → All (λ s. IsTrue (block_in_range s.block)) ss → IsNonDecreasingBy (λ s. s.block.lo) ss → ((s : Span) → 0 < length ss → l ≤ (get_or ss 0 s).block.lo) → Rising l ss
 rising l [] valid up first = tt
 rising l (s ∷ ss) valid up first =
-    let here = both_true (nat_le s.block.lo s.block.hi) (nat_le s.block.hi top) (valid 0 s (omega arith)) in
+    let here = and_parts (nat_le s.block.lo s.block.hi) (nat_le s.block.hi top) (valid 0 s (omega arith)) in
     (first s (omega arith), leb-true _ _ here.0, rising s.block.lo ss (λ k d h. valid (suc k) d (omega arith)) (λ i j d h k. up (suc i) (suc j) d (omega arith) (omega arith)) (λ d h. up 0 1 d (omega arith) (omega arith)))
 
 pub found_overlap : (ss : List Span) (x : ℕ) → All (λ s. IsTrue (block_in_range s.block)) ss → IsNonDecreasingBy (λ s. s.block.lo) ss → sweep 0 0 ss ≡ Some x → IsTrue (overlaps_in ss x) × ((b : ℕ) → IsTrue (overlaps_in ss b) → x ≤ b)

@@ -2,12 +2,13 @@
 use Rattle.std.proofs.Common.{◌≡◌, ℕ, zero, suc, ◌+◌, ◌-◌, ◌<◌, ◌≤◌, ◌⊎◌, inl, inr, Bool, true, false, if◌then◌else◌, ◌&&◌, not, nat_le, nat_lt, List, [], ◌∷◌, refl, sym, ap, ◌∙◌, arith, leb-true, ltb-true, IsTrue, All}
 use Rattle.std.proofs.lemmas.Bool.{cases_lt, le-leb, leb-false, ltb-false}
 use Rattle.std.specs.List.Sorted.{IsNonDecreasingBy}
+use Rattle.dn_base.proofs.Booleans.{and_parts, and-false}
 use Rattle.dn_net.specs.declared.spans.Span.{Span}
 use Rattle.dn_net.specs.Decode.{within, top}
 use Rattle.dn_net.specs.Rules.{count_below, block_in_range}
 use Rattle.dn_net.specs.Spans.{accepts_in, is_accepted_in}
-use Rattle.dn_net.proofs.Least.{within_from, both_true}
-use Rattle.dn_net.proofs.Sweep.{Rising, rising, early, one_if, accepts_in-cons, within_early, within_late, and_false}
+use Rattle.dn_net.proofs.Least.{within_from}
+use Rattle.dn_net.proofs.Sweep.{Rising, rising, early, one_if, accepts_in-cons, within_early, within_late}
 
 -- how many accepted addresses there are from an address on
 abbrev pub tally : ℕ → List Span → ℕ
@@ -81,7 +82,7 @@ count_below-none p e zero = count_below-zero p
 count_below-none p e (suc n) = let k = ap one_if (e n) in omega (arith, count_below-suc p n, count_below-none p e n, k)
 
 none_accepted : (past : ℕ) (c : ℕ) → accepted_from past [] c ≡ false
-none_accepted past c = and_false (nat_le past c)
+none_accepted past c = and-false (nat_le past c)
 
 -- where a span is the first of rising ones, the accepted addresses are those of the span and those past it
 module _ (past : ℕ) (s : Span) (ss : List Span) (r : Rising s.block.lo ss) (valid : s.block.lo ≤ s.block.hi) where
@@ -156,7 +157,7 @@ tallied past l (s ∷ ss) r valid =
         let first : ℕ = if nat_lt past s.block.lo then s.block.lo else past in
         let f = later_of past s.block.lo (nat_lt past s.block.lo) refl in
         let sum = count_below-parts (accepted_from past (s ∷ ss)) (in_block first s.block.hi) (accepted_from (s.block.hi + 1) ss) (λ c. parts past s ss r.2 r.1 first c is (leb-true _ _ e) f.0 f.1 f.2) (top + 1) in
-        let hi : s.block.hi ≤ top = leb-true _ _ (both_true (nat_le s.block.lo s.block.hi) (nat_le s.block.hi top) (valid 0 s (omega arith))).1 in
+        let hi : s.block.hi ≤ top = leb-true _ _ (and_parts (nat_le s.block.lo s.block.hi) (nat_le s.block.hi top) (valid 0 s (omega arith))).1 in
         let block = (count_block first s.block.hi (top + 1)).1 (omega arith) in
         omega (arith, sum, block, next)
 

@@ -1,5 +1,6 @@
 -- The least list of names along a chain, found name by name, and what `Loop` and `Deep` carry.
 use Rattle.std.proofs.Common.{◌≡◌, ℕ, zero, suc, ◌-◌, ◌<◌, ◌≤◌, ◌⊎◌, ◌↔◌, inl, inr, Bool, true, false, if◌then◌else◌, List, [], ◌∷◌, filter, length, Option, Some, None, refl, sym, ◌∙◌, subst, arith, IsTrue}
+use Rattle.dn_base.proofs.Orders.{cases_lt}
 use Rattle.dn_net.specs.declared.node.Name.{Name}
 use Rattle.dn_net.specs.declared.node.NodeDecl.{NodeDecl}
 use Rattle.dn_net.specs.Chain.{Member, IsChain}
@@ -8,9 +9,10 @@ use Rattle.dn_net.specs.Names.{name_lt, name_eq, with_name, sorted_names}
 use Rattle.dn_net.specs.WalkRules.{first_of, behind, way_by, least_name, comes_to, comes_back, goes_on, cycle_from, path_from, path_names, NotAfter, Along, IsLeastCycle, CycleIsLeast, IsLeastPath, PathIsLeast}
 use Rattle.dn_net.specs.Rules.{KeepsNodeRules}
 use Rattle.dn_net.proofs.Ascending.{transitive}
-use Rattle.dn_net.proofs.Cycles.{name_same, comes_to_is_chain, goes_on_is_chain, stepping_in_range}
+use Rattle.dn_net.proofs.Cycles.{comes_to_is_chain, goes_on_is_chain, stepping_in_range}
 use Rattle.dn_net.proofs.Firsts.{NoLater, lower_node, lower_addr, IsLeastName, least_name_is, IsShortest, shortest_cycle_is}
 use Rattle.dn_net.proofs.Members.{member_filter, filter_member, some_same}
+use Rattle.dn_net.proofs.Resolution.{name_same}
 
 pub no_later_still : (x y z : Name) → NoLater x y → NoLater y z → NoLater x z
 no_later_still x y z (inl p) (inl q) = inl (transitive x y z p q)
@@ -150,11 +152,8 @@ front n z e = by z.addr refl
     by (suc a) f = inl (lower_addr (record { node = n; addr = 0 }) z (sym e) (omega arith))
 
 least_of_all : (net : List NodeDecl) → KeepsNodeRules net → (k : ℕ) (x z y : Name) → IsLeastName (goes_on net k) (length net) x → IsChain (Step net) k z y → NoLater x z
-least_of_all net checked zero x z y name c = by (order z.node (length net))
+least_of_all net checked zero x z y name c = by (cases_lt z.node (length net))
   where
-    order : (a b : ℕ) → (a < b) ⊎ (b ≤ a)
-    order a b = grind arith
-
     by : (z.node < length net) ⊎ (length net ≤ z.node) → NoLater x z
     by (inl l) =
         let u : Name = record { node = z.node; addr = 0 } in

@@ -1,5 +1,6 @@
 -- How a spelling begins, and what the machine does at that token, and at one with which a form does not begin.
 use Rattle.std.proofs.Common.{◌≡◌, ◌∙◌, inl, inr, ap, sym, refl, subst, zero, suc, Bool, true, false, not, ◌&&◌, ◌||◌, List, [], ◌∷◌, ◌++◌}
+use Rattle.dn_base.proofs.Booleans.{not-true, cases_Bool, false_and_true, and_from}
 use Rattle.dn_token.specs.declared.token.Sign.TheVariants.{OpenParenthesis}
 use Rattle.dn_token.specs.Token.{Lexeme, Token}
 use Rattle.dn_parse.specs.Actions.{Value}
@@ -7,11 +8,7 @@ use Rattle.dn_parse.specs.Forms.{Form, takes, does, and_then, either, many, pare
 use Rattle.dn_parse.specs.Syntax.{after_open}
 use Rattle.dn_parse.specs.Machine.{to, skips, refuses, taken, followed, or_else, repeated, move}
 use Rattle.dn_parse.proofs.Taken.{Inner}
-use Rattle.dn_parse.proofs.Sets.{may_skip, given, starts, fits, among, both_left, both_right, not_true, neither_left, neither_right, one_left, one_right, one_of_two, true_or_false, among_append, among_left, among_right, among_first, among_second, skipped, IsOpened}
-
-clash : (b : Bool) → b ≡ true → b ≡ false → ⊥
-clash true e f = cc
-clash false e f = cc
+use Rattle.dn_parse.proofs.Sets.{may_skip, given, starts, fits, among, both_left, both_right, neither_left, neither_right, one_left, one_right, one_of_two, among_append, among_left, among_right, among_first, among_second, skipped, IsOpened}
 
 -- a list that is made of two is empty where both are
 nil_left : (xs ys : List Token) → [] ≡ xs ++ ys → xs ≡ []
@@ -29,11 +26,7 @@ spells_nil N f xs vs us e s = subst (λ l. Spells N f l vs us) e s
 pub left_out : (N : Inner) → IsOpened N → (f : Form) (vs us : List Value) → Spells N f [] vs us → may_skip f ≡ true
 left_out N o (takes s) vs us (t, i, e, k) = cc
 left_out N o (does a) vs us s = refl
-left_out N o (and_then f g) vs us (xs, ys, ws, e, a, b) = both (may_skip f) (may_skip g) (left_out N o f vs ws (spells_nil N f xs vs ws (nil_left xs ys e) a)) (left_out N o g ws us (spells_nil N g ys ws us (nil_right xs ys e) b))
-  where
-    both : (a b : Bool) → a ≡ true → b ≡ true → a && b ≡ true
-    both true b e f = f
-    both false b e f = cc
+left_out N o (and_then f g) vs us (xs, ys, ws, e, a, b) = and_from (may_skip f) (may_skip g) (left_out N o f vs ws (spells_nil N f xs vs ws (nil_left xs ys e) a)) (left_out N o g ws us (spells_nil N g ys ws us (nil_right xs ys e) b))
 left_out N o (either f g) vs us (inl a) = one_left (may_skip f) (may_skip g) (left_out N o f vs us a)
 left_out N o (either f g) vs us (inr b) = one_right (may_skip f) (may_skip g) (left_out N o g vs us b)
 left_out N o (many f) vs us s = refl
@@ -50,11 +43,11 @@ nothing_made N o (and_then f g) h vs us (xs, ys, ws, e, a, b) =
     let q = nothing_made N o g (both_left (fits g) _ (both_right (fits f) _ h)) ws us (spells_nil N g ys ws us (nil_right xs ys e) b) in
     q ∙ ap (skipped g) p
 nothing_made N o (either f g) h vs us (inl a) =
-    absurd (clash (may_skip f) (left_out N o f vs us a) (not_true (may_skip f) (both_left (not (may_skip f)) _ (both_right (fits g) _ (both_right (fits f) _ h)))))
+    absurd (false_and_true (may_skip f) (not-true (may_skip f) (both_left (not (may_skip f)) _ (both_right (fits g) _ (both_right (fits f) _ h)))) (left_out N o f vs us a))
 nothing_made N o (either f g) h vs us (inr b) = nothing_made N o g (both_left (fits g) _ (both_right (fits f) _ h)) vs us b
 nothing_made N o (many f) h vs us (zero, s) = s.1
 nothing_made N o (many f) h vs us (suc n, (xs, ys, ws, e, a, b)) =
-    absurd (clash (may_skip f) (left_out N o f vs ws (spells_nil N f xs vs ws (nil_left xs ys e) a)) (not_true (may_skip f) (both_left (not (may_skip f)) _ (both_right (fits f) _ h))))
+    absurd (false_and_true (may_skip f) (not-true (may_skip f) (both_left (not (may_skip f)) _ (both_right (fits f) _ h))) (left_out N o f vs ws (spells_nil N f xs vs ws (nil_left xs ys e) a)))
 nothing_made N o parenthesised h vs us s = let r = o [] vs us s in absurd (no_token r.0 r.1 r.2)
   where
     no_token : (t : Token) (xs : List Token) → [] ≡ t ∷ xs → ⊥
@@ -71,17 +64,13 @@ either_way true ys l e f = e
 either_way false ys l e f = cc
 
 and_refused_any : (f g : Form) (vs : List Value) (l : Lexeme) → may_skip f && may_skip g ≡ false → AtOther f vs l → (may_skip f ≡ true → AtOther g (skipped f vs) l) → followed (move f vs l) g (λ ws. move g ws l) ≡ refuses
-and_refused_any f g vs l e p q = elim (true_or_false (may_skip f)) [
-  | inl a ↦ elim (true_or_false (may_skip g)) [
-    | inl b ↦ absurd (clash (may_skip f && may_skip g) (together (may_skip f) (may_skip g) a b) e)
+and_refused_any f g vs l e p q = elim (cases_Bool (may_skip f)) [
+  | inl a ↦ elim (cases_Bool (may_skip g)) [
+    | inl b ↦ absurd (false_and_true (may_skip f && may_skip g) e (and_from (may_skip f) (may_skip g) a b))
     | inr b ↦ ap (λ m. followed m g (λ ws. move g ws l)) (p.skipping a) ∙ (q a).refused b
   ]
   | inr a ↦ ap (λ m. followed m g (λ ws. move g ws l)) (p.refused a)
 ]
-  where
-    together : (a b : Bool) → a ≡ true → b ≡ true → a && b ≡ true
-    together true b e f = f
-    together false b e f = cc
 
 pub at_other : (f : Form) → fits f ≡ true → (vs : List Value) (l : Lexeme) → among (starts f) l ≡ false → AtOther f vs l
 at_other (takes s) h vs l e = record { refused = λ z. ap (λ b. taken b [] (kept s l vs)) (neither_left (is s l) false e); skipping = λ z. cc }
@@ -96,7 +85,7 @@ at_other (and_then f g) h vs l e =
 at_other (either f g) h vs l e =
     let p = at_other f (both_left (fits f) _ h) vs l (among_left (starts f) (starts g) l e) in
     let q = at_other g (both_left (fits g) _ (both_right (fits f) _ h)) vs l (among_right (starts f) (starts g) l e) in
-    let n : may_skip f ≡ false = not_true (may_skip f) (both_left (not (may_skip f)) _ (both_right (fits g) _ (both_right (fits f) _ h))) in
+    let n : may_skip f ≡ false = not-true (may_skip f) (both_left (not (may_skip f)) _ (both_right (fits g) _ (both_right (fits f) _ h))) in
     record {
       refused = λ z. ap (λ m. or_else m (move g vs l)) (p.refused n) ∙ q.refused (neither_right (may_skip f) (may_skip g) z);
       skipping = λ z. ap (λ m. or_else m (move g vs l)) (p.refused n) ∙ q.skipping (second (may_skip f) (may_skip g) n z);
@@ -107,7 +96,7 @@ at_other (either f g) h vs l e =
     second false b x y = y
 at_other (many f) h vs l e =
     let p = at_other f (both_left (fits f) _ h) vs l e in
-    let n : may_skip f ≡ false = not_true (may_skip f) (both_left (not (may_skip f)) _ (both_right (fits f) _ h)) in
+    let n : may_skip f ≡ false = not-true (may_skip f) (both_left (not (may_skip f)) _ (both_right (fits f) _ h)) in
     record { refused = λ z. cc; skipping = λ z. ap (λ m. repeated m (many f) vs) (p.refused n) }
 at_other parenthesised h vs l e = record { refused = λ z. ap (λ b. taken b (after_open ∷ []) vs) (neither_left (is_sign OpenParenthesis l) false e); skipping = λ z. cc }
 
@@ -121,12 +110,12 @@ first_or_second : (a : Bool) (xs ys : List Sort) (l : Lexeme) → among (xs ++ g
 first_or_second true xs ys l e f = (
   refl,
   (elim (one_of_two (among xs l) (among ys l) (sym (among_append xs ys l) ∙ e)) [
-    | inl a ↦ absurd (clash (among xs l) a f)
+    | inl a ↦ absurd (false_and_true (among xs l) f a)
     | inr b ↦ b
   ]),
 )
 first_or_second false xs ys l e f = elim (one_of_two (among xs l) (among [] l) (sym (among_append xs [] l) ∙ e)) [
-  | inl a ↦ absurd (clash (among xs l) a f)
+  | inl a ↦ absurd (false_and_true (among xs l) f a)
   | inr b ↦ cc
 ]
 
@@ -136,7 +125,7 @@ at_start (takes s) h vs l e = elim (one_of_two (is s l) false e) [
   | inr b ↦ cc
 ]
 at_start (does a) h vs l e = cc
-at_start (and_then f g) h vs l e = elim (true_or_false (among (starts f) l)) [
+at_start (and_then f g) h vs l e = elim (cases_Bool (among (starts f) l)) [
   | inl a ↦ let p = at_start f (both_left (fits f) _ h) vs l a in record { next = p.next ++ g ∷ []; values = p.values; taking = ap (λ m. followed m g (λ ws. move g ws l)) p.taking }
   | inr a ↦
       let s = first_or_second (may_skip f) (starts f) (starts g) l e a in
@@ -144,10 +133,10 @@ at_start (and_then f g) h vs l e = elim (true_or_false (among (starts f) l)) [
       let q = at_start g (both_left (fits g) _ (both_right (fits f) _ h)) (skipped f vs) l s.1 in
       record { next = q.next; values = q.values; taking = ap (λ m. followed m g (λ ws. move g ws l)) (p.skipping s.0) ∙ q.taking }
 ]
-at_start (either f g) h vs l e = elim (true_or_false (among (starts f) l)) [
+at_start (either f g) h vs l e = elim (cases_Bool (among (starts f) l)) [
   | inl a ↦ let p = at_start f (both_left (fits f) _ h) vs l a in record { next = p.next; values = p.values; taking = ap (λ m. or_else m (move g vs l)) p.taking }
   | inr a ↦
-      let n : may_skip f ≡ false = not_true (may_skip f) (both_left (not (may_skip f)) _ (both_right (fits g) _ (both_right (fits f) _ h))) in
+      let n : may_skip f ≡ false = not-true (may_skip f) (both_left (not (may_skip f)) _ (both_right (fits g) _ (both_right (fits f) _ h))) in
       let s = first_or_second true (starts f) (starts g) l e a in
       let p = at_other f (both_left (fits f) _ h) vs l a in
       let q = at_start g (both_left (fits g) _ (both_right (fits f) _ h)) vs l s.1 in
@@ -160,7 +149,7 @@ at_start parenthesised h vs l e = elim (one_of_two (is_sign OpenParenthesis l) f
 ]
 
 -- a spelling begins with a token with which its form begins
-same_head : (t u : Token) (xs ys : List Token) → t ∷ xs ≡ u ∷ ys → t ≡ u
+pub same_head : (t u : Token) (xs ys : List Token) → t ∷ xs ≡ u ∷ ys → t ≡ u
 same_head t u xs ys e = cc
 
 given_true : (a : Bool) (ys : List Sort) (l : Lexeme) → a ≡ true → among ys l ≡ true → among (given a ys) l ≡ true
@@ -178,6 +167,6 @@ begins N o (either f g) h t ts vs us (inl a) = among_first (starts f) (starts g)
 begins N o (either f g) h t ts vs us (inr b) = among_second (starts f) (starts g) t.lexeme (begins N o g (both_left (fits g) _ (both_right (fits f) _ h)) t ts vs us b)
 begins N o (many f) h t ts vs us (zero, s) = let e = s.0 in cc
 begins N o (many f) h t ts vs us (suc n, ([], ys, ws, e, a, b)) =
-    absurd (clash (may_skip f) (left_out N o f vs ws a) (not_true (may_skip f) (both_left (not (may_skip f)) _ (both_right (fits f) _ h))))
+    absurd (false_and_true (may_skip f) (not-true (may_skip f) (both_left (not (may_skip f)) _ (both_right (fits f) _ h))) (left_out N o f vs ws a))
 begins N o (many f) h t ts vs us (suc n, (x ∷ xs, ys, ws, e, a, b)) = subst (λ v. among (starts f) v.lexeme ≡ true) (sym (same_head t x ts (xs ++ ys) e)) (begins N o f (both_left (fits f) _ h) x xs vs ws a)
 begins N o parenthesised h t ts vs us s = let r = o (t ∷ ts) vs us s in one_left (is_sign OpenParenthesis t.lexeme) false (subst (λ v. is_sign OpenParenthesis v.lexeme ≡ true) (sym (same_head t r.0 ts r.1 r.2)) r.3)

@@ -1,6 +1,7 @@
 -- The parentheses that are open behind the front of a spelling: the machine counts as many as the laws do.
 use Rattle.std.proofs.Common.{◌≡◌, ◌∙◌, inl, inr, ap, sym, refl, subst, ℕ, zero, suc, ◌+◌, ◌-◌, ◌==◌, eqb-true, Bool, true, false, cond, not, ◌&&◌, if◌then◌else◌, List, [], ◌∷◌, ◌++◌, append_assoc, arith}
 use Rattle.std.proofs.lemmas.List.Sums.{sum_by-cons}
+use Rattle.dn_base.proofs.Booleans.{not-true}
 use Rattle.dn_token.specs.declared.token.Sign.{Sign}
 use Rattle.dn_token.specs.declared.token.Sign.TheVariants.{Semicolon, OpenParenthesis, CloseParenthesis}
 use Rattle.dn_token.specs.Token.{Lexeme, Token, word, keyword, number, sign}
@@ -12,7 +13,7 @@ use Rattle.dn_parse.specs.Syntax.{in_parentheses, Parenthesised, SpellsText, Via
 use Rattle.dn_parse.specs.Machine.{parentheses}
 use Rattle.dn_parse.specs.Laws.{opening, closing, open_parentheses}
 use Rattle.dn_parse.proofs.Taken.{Inner}
-use Rattle.dn_parse.proofs.Sets.{both_left, both_right, not_true, sign_told}
+use Rattle.dn_parse.proofs.Sets.{both_left, both_right, sign_told}
 
 -- the parentheses that the machine has open behind a list, with so many before it
 abbrev pub opened : ℕ → List Token → ℕ
@@ -81,10 +82,10 @@ sound_step false true q (suc k) n h = omega arith
 sound_step false false q k n h = refl
 
 sound_ends : (o c q : Bool) (k : ℕ) → is_sound o c q k ≡ true → q ≡ false
-sound_ends true c q k h = not_true q h
+sound_ends true c q k h = not-true q h
 sound_ends false true q zero h = cc
-sound_ends false true q (suc k) h = not_true q h
-sound_ends false false q k h = not_true q h
+sound_ends false true q (suc k) h = not-true q h
+sound_ends false false q k h = not-true q h
 
 takes_step : (k n : ℕ) (s : Sort) (l : Lexeme) → is s l ≡ true → is_sound (sort_is OpenParenthesis s) (sort_is CloseParenthesis s) (sort_is Semicolon s) k ≡ true → Step (k + n) l (after (sort_is OpenParenthesis s) (sort_is CloseParenthesis s) k + n)
 takes_step k n s l e h =

@@ -1,5 +1,5 @@
 -- What is still to be said of a text, one statement after the other.
-use Rattle.std.proofs.Common.{◌≡◌, ◌∙◌, ap, sym, refl, subst, ℕ, suc, ◌-◌, ◌<◌, ◌≤◌, Bool, true, false, cond, List, [], ◌∷◌, ◌++◌, length, Some, None, IfSome, Result, Ok, Err, arith, map, reverse, drop, nat_le, le-leb, leb-true}
+use Rattle.std.proofs.Common.{◌≡◌, ◌∙◌, ap, sym, refl, subst, ℕ, suc, ◌-◌, ◌<◌, ◌≤◌, Bool, true, false, cond, List, [], ◌∷◌, ◌++◌, length, Some, None, IfSome, Result, Ok, Err, arith, map, reverse, drop, le-leb}
 use Rattle.std.proofs.lemmas.List.{length-map, length-reverse, map-append, reverse-append}
 use Rattle.dn_token.specs.declared.token.Sign.TheVariants.{Semicolon}
 use Rattle.dn_token.specs.Token.{Token, tokens}
@@ -19,6 +19,7 @@ use Rattle.dn_parse.specs.declared.blocks.Frame.{Frame as CodeFrame}
 use Rattle.dn_parse.specs.declared.syntax.Tree.{Tree as CodeTree}
 use Rattle.dn_parse.specs.declared.reader.ParseFault.{ParseFault}
 use Rattle.dn_base.specs.Answers.{Answers}
+use Rattle.dn_base.proofs.Orders.{lt-leb}
 use Rattle.dn_parse.specs.Views.{frame_view, blocks_view, item_view, tree_view}
 use Rattle.dn_parse.specs.Commands.{with_commands}
 use Rattle.dn_parse.specs.Faults.{halt_view, misplaced_view, parse_fault_view, halt_fault, misplaced_fault}
@@ -159,16 +160,9 @@ short_enough : (text : List ℕ) → length text ≤ 4194304 → text_reading te
 unfolding text_reading
 short_enough text h = ap (λ b. cond b (of_token_list (last_line text) (tokens text)) (Err too_long)) (le-leb (length text) 4194304 h)
 
-leb_no : (n m : ℕ) → m < n → nat_le n m ≡ false
-leb_no n m h = go (nat_le n m) refl
-  where
-    go : (b : Bool) → nat_le n m ≡ b → b ≡ false
-    go true e = let same = leb-true n m e in absurd (omega arith)
-    go false e = refl
-
 pub text_too_long : (text : List ℕ) → 4194304 < length text → text_reading text ≡ Err too_long
 unfolding text_reading
-text_too_long text h = ap (λ b. cond b (of_token_list (last_line text) (tokens text)) (Err too_long)) (leb_no (length text) 4194304 h)
+text_too_long text h = ap (λ b. cond b (of_token_list (last_line text) (tokens text)) (Err too_long)) (lt-leb (length text) 4194304 h)
 
 reading_judged : (last : ℕ) (ts : List Token) → reading last ts ≡ judge last ts no_blocks_yet ts
 unfolding reading judge

@@ -1,6 +1,7 @@
 -- Commands one behind the other: as they are counted, as they are read again, and what they add to the blocks.
 use Rattle.std.proofs.Common.{◌≡◌, ◌∙◌, ap, sym, refl, subst, ℕ, zero, suc, ◌+◌, ◌-◌, ◌<◌, Bool, true, cond, List, [], ◌∷◌, length, Option, Some, None, option_map, IfSome, Result, Ok, Err, arith}
 use Rattle.std.proofs.lemmas.List.{append-nil, append_assoc}
+use Rattle.dn_base.proofs.Told.{if_some_then}
 use Rattle.dn_token.specs.Token.{Token}
 use Rattle.dn_parse.specs.Tree.{Statement, declares, heads_module, uses, heads_loop, ends, begins, orders, Order, Command, Tree}
 use Rattle.dn_parse.specs.Machine.{Stop, whole, refused, deep}
@@ -170,13 +171,9 @@ whole_stops : (line : ℕ) (ts : List Token) (z : Stop) → command_at line ts �
 unfolding command_at
 whole_stops line ts z e = stops_by line (whole_statement_at ts) z e
 
-each_some : {A : Type 0} (P Q : A → Type 0) (o : Option A) → ((a : A) → P a → Q a) → IfSome o P → IfSome o Q
-each_some P Q None f h = tt
-each_some P Q (Some a) f h = f a h
-
 pub command_halts : (last : ℕ) (all : List Token) (b : Blocks) (ts : List Token) (line : ℕ) (h : Halt) → first_line ts ≡ Some line → IfSome (halt_view h) (λ z. command_at line ts ≡ Err z) → IfSome (halt_fault h last all) (λ f. judge last all b ts ≡ Err f)
 command_halts last all b ts line h s e =
-    fault_halted last all b ts line h s (each_some (λ (z : Stop). command_at line ts ≡ Err z) (λ (z : Stop). whole_statement_at ts ≡ Err z) (halt_view h) (λ z. whole_stops line ts z) e)
+    fault_halted last all b ts line h s (if_some_then (halt_view h) (λ (z : Stop). command_at line ts ≡ Err z) (λ (z : Stop). whole_statement_at ts ≡ Err z) (λ z. whole_stops line ts z) e)
 
 barred_by : (last : ℕ) (all : List Token) (b : Blocks) (ts : List Token) (line : ℕ) (s : Statement) (after : List Token) → b.begun ≡ true → first_line ts ≡ Some line → whole_statement_at ts ≡ Ok (s, after) → after_begin b line s ≡ Err forbidden → judge last all b ts ≡ Err (block_fault line)
 barred_by last all b ts line s after g h e q =

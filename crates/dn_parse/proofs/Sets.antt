@@ -2,6 +2,7 @@
 use Rattle.std.proofs.Common.{◌≡◌, ◌∙◌, ◌⊎◌, inl, inr, ap, sym, refl, subst, ℕ, Bool, true, false, not, ◌&&◌, ◌||◌, List, [], ◌∷◌, ◌++◌}
 use denote.Enum.Bare.{same_true}
 use Rattle.std.proofs.lemmas.Slice.Eq.{bytes_eq-Decides}
+use Rattle.dn_base.proofs.Booleans.{not-true, cases_Bool, false_and_true}
 use Rattle.dn_token.specs.contracts.token.Sign.{the_type as the_signs}
 use Rattle.dn_token.specs.contracts.token.Keyword.{the_type as the_keywords}
 use Rattle.dn_token.specs.declared.token.Keyword.{Keyword}
@@ -95,10 +96,6 @@ pub both_right : (a b : Bool) → a && b ≡ true → b ≡ true
 both_right true b e = e
 both_right false b e = cc
 
-pub not_true : (a : Bool) → not a ≡ true → a ≡ false
-not_true true e = cc
-not_true false e = refl
-
 pub neither_left : (a b : Bool) → a || b ≡ false → a ≡ false
 neither_left true b e = cc
 neither_left false b e = refl
@@ -122,10 +119,6 @@ one_right false b e = e
 pub one_of_two : (a b : Bool) → a || b ≡ true → (a ≡ true) ⊎ (b ≡ true)
 one_of_two true b e = inl refl
 one_of_two false b e = inr e
-
-pub true_or_false : (a : Bool) → (a ≡ true) ⊎ (a ≡ false)
-true_or_false true = inl refl
-true_or_false false = inr refl
 
 -- lists of sorts
 pub among_append : (xs ys : List Sort) (l : Lexeme) → among (xs ++ ys) l ≡ among xs l || among ys l
@@ -212,11 +205,6 @@ common (the_word v) u l e f = subst (λ (x : Lexeme). is u x ≡ true) (word_tol
 common (the_keyword k) u l e f = subst (λ (x : Lexeme). is u x ≡ true) (keyword_told k l e) f
 common (the_sign s) u l e f = subst (λ (x : Lexeme). is u x ≡ true) (sign_told s l e) f
 
--- a token of sorts that meet none of others is of none of the others
-absurd_bool : (b : Bool) → b ≡ true → b ≡ false → ⊥
-absurd_bool true e f = cc
-absurd_bool false e f = cc
-
 pub meets_among : (s : Sort) (us : List Sort) (l : Lexeme) → is s l ≡ true → among us l ≡ true → meets_one s us ≡ true
 meets_among s [] l e f = cc
 meets_among s (u ∷ us) l e f = elim (one_of_two (is u l) (among us l) f) [
@@ -227,8 +215,8 @@ meets_among s (u ∷ us) l e f = elim (one_of_two (is u l) (among us l) f) [
 pub apart_among : (ss us : List Sort) (l : Lexeme) → apart ss us ≡ true → among ss l ≡ true → among us l ≡ false
 apart_among [] us l a e = cc
 apart_among (s ∷ ss) us l a e = elim (one_of_two (is s l) (among ss l) e) [
-  | inl f ↦ elim (true_or_false (among us l)) [
-    | inl g ↦ absurd (absurd_bool (meets_one s us) (meets_among s us l f g) (not_true (meets_one s us) (both_left (not (meets_one s us)) (apart ss us) a)))
+  | inl f ↦ elim (cases_Bool (among us l)) [
+    | inl g ↦ absurd (false_and_true (meets_one s us) (not-true (meets_one s us) (both_left (not (meets_one s us)) (apart ss us) a)) (meets_among s us l f g))
     | inr g ↦ g
   ]
   | inr f ↦ apart_among ss us l (both_right (not (meets_one s us)) (apart ss us) a) f

@@ -1,7 +1,7 @@
 -- The walk over the agent's rows.
-use Rattle.std.proofs.Common.{◌≡◌, ℕ, suc, ◌+◌, ◌-◌, ◌<◌, ◌≤◌, ◌↔◌, List, [], ◌∷◌, ◌++◌, length, drop, get_or, slice_get, sym, ap, ◌∙◌, subst, arith, add-one}
-use Rattle.std.proofs.Math.Seq.{drop-cons}
+use Rattle.std.proofs.Common.{◌≡◌, ℕ, ◌+◌, ◌-◌, ◌<◌, ◌≤◌, ◌↔◌, List, [], ◌∷◌, ◌++◌, length, drop, get_or, slice_get, sym, ap, ◌∙◌, subst, arith}
 use Rattle.std.proofs.Math.ListN.{drop_of_length-le}
+use Rattle.dn_base.proofs.Lists.{drop_at}
 use Rattle.dn_interval.specs.declared.row.End.{End}
 use Rattle.dn_interval.specs.declared.row.Row.{Row}
 use Rattle.dn_net.specs.Decode.{top}
@@ -18,13 +18,6 @@ use Rattle.dn_place.specs.Candidates.{IsUnder, NoneUnder, IsFirstUnder, ending, 
 use Rattle.dn_place.proofs.Walks.{Walked, Stretches, walked_on, walk_found, walk_done, one_in_row}
 use Rattle.dn_place.proofs.Meetings.{meets_gives, walk_meets}
 use Rattle.dn_place.proofs.Wholes.{Whole, whole}
-
--- the first of the rest of a list
-pub taken_off : (items : List Row) (i : ℕ) (r : Row) → i < length items → r ≡ get_or items i r → drop i items ≡ r ∷ drop (i + 1) items
-taken_off items i r l e = drop-cons items i r l ∙ go (get_or items i r) (sym e) ∙ ap (λ n. r ∷ drop n items) (sym (add-one i))
-  where
-    go : (s : Row) → s ≡ r → s ∷ drop (suc i) items ≡ r ∷ drop (suc i) items
-    go s p = ap (λ (x : Row). x ∷ drop (suc i) items) p
 
 v_of : (s : Sought) (hops : List Hop) (q : Place) (j : ℕ) → IsUnder s (ending (length hops) hops ++ j ∷ []) q → (q.v ≡ j) × (q.hops ≡ hops)
 v_of s hops q j u = (heads q.v j (hop_page s.net (slice_get hops q.own) ∷ (length hops - q.own) ∷ []) w.rest w.tail, w.same)
@@ -55,10 +48,10 @@ not_asked s hops v other = record { none = λ q u. absurd (other (subst (IsAt s.
 -- a step of a walk over the rows
 
 pub step : (s : Sought) (front : List ℕ) (rows : List Row) (i : ℕ) (r : Row) (t : End) → i < length rows → r ≡ get_or rows i r → 1 ≤ s.request.size → Stretches s front rows t → Walked s front rows (drop i rows) → ((j : ℕ) → InRow r t s.request.size j → NoneUnder s (front ++ j ∷ [])) → Walked s front rows (drop (i + 1) rows)
-step s front rows i r t l g some st w n = walked_on s front rows r (drop (i + 1) rows) t some st (subst (Walked s front rows) (taken_off rows i r l g) w) n
+step s front rows i r t l g some st w n = walked_on s front rows r (drop (i + 1) rows) t some st (subst (Walked s front rows) (drop_at rows i r l g) w) n
 
 pub step_found : (s : Sought) (front : List ℕ) (rows : List Row) (i : ℕ) (r : Row) (t : End) (y : ℕ) (p : Place) → i < length rows → r ≡ get_or rows i r → 1 ≤ s.request.size → Stretches s front rows t → Walked s front rows (drop i rows) → InRow r t s.request.size y → IsFirstUnder s (front ++ y ∷ []) p → IsFirstUnder s front p
-step_found s front rows i r t y p l g some st w here f = walk_found s front rows r (drop (i + 1) rows) t y p some st (subst (Walked s front rows) (taken_off rows i r l g) w) here f
+step_found s front rows i r t y p l g some st w here f = walk_found s front rows r (drop (i + 1) rows) t y p some st (subst (Walked s front rows) (drop_at rows i r l g) w) here f
 
 pub step_done : (s : Sought) (front : List ℕ) (rows : List Row) (i : ℕ) (t : End) → length rows ≤ i → 1 ≤ s.request.size → Stretches s front rows t → ((q : Place) → IsUnder s front q → (j : ℕ) × Begins (front ++ j ∷ []) (key_of s.net q)) → Walked s front rows (drop i rows) → NoneUnder s front
 step_done s front rows i t l some st goes w = walk_done s front rows t some st goes (subst (Walked s front rows) (drop_of_length-le rows l) w)
@@ -69,7 +62,7 @@ only_there s front r t y w n j v = subst (λ k. NoneUnder s (front ++ k ∷ []))
 
 -- a stretch in the row to which the walk has come meets what is wanted
 pub step_meets : (s : Sought) (front : List ℕ) (n : ℕ) (hops : List Hop) (rows : List Row) (i : ℕ) (r : Row) (y : ℕ) → AreToward s.net s.request hops n rows → y + s.request.size ≤ top + 1 → i < length rows → r ≡ get_or rows i r → Walked s front rows (drop i rows) → InRow r (wanted s.request hops) s.request.size y → IsClear s.net n hops y s.request.size → Meets s.net s.request n y hops
-step_meets s front n hops rows i r y f fits l g w here c = walk_meets s front n hops rows r (drop (i + 1) rows) y f fits (subst (Walked s front rows) (taken_off rows i r l g) w) here c
+step_meets s front n hops rows i r y f fits l g w here c = walk_meets s front n hops rows r (drop (i + 1) rows) y f fits (subst (Walked s front rows) (drop_at rows i r l g) w) here c
 
 -- what a row gives, asked by a copy of the request
 pub row_asked : (s : Sought) (hops : List Hop) (r : Row) (t : End) (rq other : Request) (a : ℕ) → t ≡ wanted rq hops → rq ≡ s.request → other ≡ s.request → InRow r t other.size a ↔ InRow r (wanted s.request hops) s.request.size a

@@ -6,6 +6,8 @@ use Rattle.std.proofs.lemmas.Option.{slice_get_within, slice_get-get_or, get_or_
 use Rattle.std.proofs.Math.Seq.{drop-cons}
 use Rattle.std.proofs.Math.ListN.{drop_of_length-le}
 use Rattle.std.proofs.lemmas.List.{take_all}
+use Rattle.dn_view.proofs.Pages.{power_below}
+use Rattle.dn_base.proofs.Lists.{drop_at}
 use Rattle.dn_interval.specs.declared.row.End.{End}
 use Rattle.dn_interval.specs.declared.row.Row.{Row}
 use Rattle.dn_interval.specs.Rows.{Member, moved, Apart, HasEnds, GivenBy}
@@ -23,7 +25,7 @@ use Rattle.dn_place.specs.Sought.{IsFormed, IsReady, Sought}
 use Rattle.dn_net.specs.declared.node.Unit.{Unit as UnitPart}
 use Rattle.dn_placement.specs.Placement.{Leads, Meets}
 use Rattle.dn_place.specs.Marks.{is_marked, mark_at, AreMarked, IsEntry, Keeps, MarkedBelow, Marks, MarksAfter, MarksAll, MarksEnds, MarksGiven, MarksRows}
-use Rattle.dn_place.proofs.Pages.{output_bound, unit_there}
+use Rattle.dn_place.proofs.Pages.{unit_there}
 
 -- each node of the names is marked, or is one of the rest
 abbrev pub EndsLeft : List End → List End → List Bool → Type 0
@@ -40,9 +42,6 @@ rows_begun rows marks = λ a z g l. inr g
 
 pub taken_end : (items : List End) (i : ℕ) (d : End) → i < length items → drop i items ≡ get_or items i d ∷ drop (i + 1) items
 taken_end items i d l = drop-cons items i d l ∙ ap (λ n. get_or items i d ∷ drop n items) (sym (add-one i))
-
-taken_row : (items : List Row) (i : ℕ) (r : Row) → i < length items → r ≡ get_or items i r → drop i items ≡ r ∷ drop (i + 1) items
-taken_row items i r l e = drop-cons items i r l ∙ ap (λ (x : Row). x ∷ drop (suc i) items) (sym e) ∙ ap (λ n. r ∷ drop n items) (sym (add-one i))
 
 -- one more name whose node is marked, or is no node
 pub ends_on : (ends : List End) (i : ℕ) (e : End) (old new : List Bool) → drop i ends ≡ e ∷ drop (i + 1) ends → length new ≡ length old → Keeps old new → (e.node < length new → is_marked new e.node ≡ true) → EndsLeft ends (drop i ends) old → EndsLeft ends (drop (i + 1) ends) new
@@ -68,7 +67,7 @@ rows_on rows i r old new l g same keeps here left = λ a z m k. go a z k (left a
   where
     go : (a : ℕ) (z : End) → z.node < length new → (is_marked old z.node ≡ true) ⊎ GivenBy (drop i rows) a z → (is_marked new z.node ≡ true) ⊎ GivenBy (drop (i + 1) rows) a z
     go a z k (inl m) = inl (keeps z.node m)
-    go a z k (inr m) = by (subst (λ (rs : List Row). GivenBy rs a z) (taken_row rows i r l g) m)
+    go a z k (inr m) = by (subst (λ (rs : List Row). GivenBy rs a z) (drop_at rows i r l g) m)
       where
         by : GivenBy (r ∷ drop (i + 1) rows) a z → (is_marked new z.node ≡ true) ⊎ GivenBy (drop (i + 1) rows) a z
         by (inl q) = inl (here (a - r.span.lo) z q.1 k)
@@ -107,17 +106,17 @@ marks_all net n marks long m = λ a z l s k. m a z l s (omega arith)
 -- the next hop of a placement stands in a marked unit
 pub marked_hop : (s : Sought) (first second third : List Bool) (v : ℕ) (before : List Hop) (hop : Hop) (chosen : List Hop) → IsReady s → v + s.request.size ≤ top + 1 → AreMarked s first second third → Meets s.net s.request s.request.agent v (before ++ (hop ∷ chosen)) → Leads s.net s.slots s.request (before ++ (hop ∷ chosen)) → length before ≤ 2 → mark_at first second third (suc (length before)) hop.unit ≡ true
 marked_hop s first second third v [] hop chosen ready fits m meets leads l = let some = ready.some in m.firsts (v + 0) (record { node = hop.unit; addr = hop.x + 0 }) (omega arith) (meets 0 some) (unit_there s.net hop.unit leads.0.unit leads.0.is_unit)
-marked_hop s first second third v (a ∷ []) hop chosen ready fits m meets leads l = let some = ready.some in m.seconds a.unit a.port leads.0.node leads.0.unit one leads.0.is_unit leads.0.is_port (a.y + 0) (record { node = hop.unit; addr = hop.x + 0 }) (omega (arith, leads.0.reached, output_bound leads.0.unit.reach (ready.formed a.unit leads.0.unit leads.0.is_unit).reach)) (leads.0.meets 0 some) (unit_there s.net hop.unit leads.1.0.unit leads.1.0.is_unit)
+marked_hop s first second third v (a ∷ []) hop chosen ready fits m meets leads l = let some = ready.some in m.seconds a.unit a.port leads.0.node leads.0.unit one leads.0.is_unit leads.0.is_port (a.y + 0) (record { node = hop.unit; addr = hop.x + 0 }) (omega (arith, leads.0.reached, power_below leads.0.unit.reach (ready.formed a.unit leads.0.unit leads.0.is_unit).reach)) (leads.0.meets 0 some) (unit_there s.net hop.unit leads.1.0.unit leads.1.0.is_unit)
   where
     one : is_marked first a.unit ≡ true
     one = let some = ready.some in m.firsts (v + 0) (record { node = a.unit; addr = a.x + 0 }) (omega arith) (meets 0 some) (unit_there s.net a.unit leads.0.unit leads.0.is_unit)
-marked_hop s first second third v (a ∷ b ∷ []) hop chosen ready fits m meets leads l = let some = ready.some in m.thirds b.unit b.port leads.1.0.node leads.1.0.unit two leads.1.0.is_unit leads.1.0.is_port (b.y + 0) (record { node = hop.unit; addr = hop.x + 0 }) (omega (arith, leads.1.0.reached, output_bound leads.1.0.unit.reach (ready.formed b.unit leads.1.0.unit leads.1.0.is_unit).reach)) (leads.1.0.meets 0 some) (unit_there s.net hop.unit leads.1.1.0.unit leads.1.1.0.is_unit)
+marked_hop s first second third v (a ∷ b ∷ []) hop chosen ready fits m meets leads l = let some = ready.some in m.thirds b.unit b.port leads.1.0.node leads.1.0.unit two leads.1.0.is_unit leads.1.0.is_port (b.y + 0) (record { node = hop.unit; addr = hop.x + 0 }) (omega (arith, leads.1.0.reached, power_below leads.1.0.unit.reach (ready.formed b.unit leads.1.0.unit leads.1.0.is_unit).reach)) (leads.1.0.meets 0 some) (unit_there s.net hop.unit leads.1.1.0.unit leads.1.1.0.is_unit)
   where
     one : is_marked first a.unit ≡ true
     one = let some = ready.some in m.firsts (v + 0) (record { node = a.unit; addr = a.x + 0 }) (omega arith) (meets 0 some) (unit_there s.net a.unit leads.0.unit leads.0.is_unit)
 
     two : is_marked second b.unit ≡ true
-    two = let some = ready.some in m.seconds a.unit a.port leads.0.node leads.0.unit one leads.0.is_unit leads.0.is_port (a.y + 0) (record { node = b.unit; addr = b.x + 0 }) (omega (arith, leads.0.reached, output_bound leads.0.unit.reach (ready.formed a.unit leads.0.unit leads.0.is_unit).reach)) (leads.0.meets 0 some) (unit_there s.net b.unit leads.1.0.unit leads.1.0.is_unit)
+    two = let some = ready.some in m.seconds a.unit a.port leads.0.node leads.0.unit one leads.0.is_unit leads.0.is_port (a.y + 0) (record { node = b.unit; addr = b.x + 0 }) (omega (arith, leads.0.reached, power_below leads.0.unit.reach (ready.formed a.unit leads.0.unit leads.0.is_unit).reach)) (leads.0.meets 0 some) (unit_there s.net b.unit leads.1.0.unit leads.1.0.is_unit)
 marked_hop s first second third v (a ∷ b ∷ c ∷ d) hop chosen ready fits m meets leads l = absurd (omega arith)
 
 -- all ports of the unit are marked

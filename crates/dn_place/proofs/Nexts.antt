@@ -5,6 +5,7 @@ use Rattle.std.proofs.lemmas.Option.{slice_get_within, slice_get-get_or, get_or_
 use Rattle.std.proofs.lemmas.Nat.{pow_pos}
 use Rattle.std.proofs.Math.Nat.{mul-le-mul_left, mul-le-mul_right, add-mod_right, mod-add-div', div-mul-le_self}
 use Rattle.std.proofs.lemmas.Nat.{le-div}
+use Rattle.dn_view.proofs.Pages.{power_below}
 use Rattle.dn_tables.specs.declared.placement.Hop.{Hop}
 use Rattle.dn_tables.specs.Placement.{Place}
 use Rattle.dn_place.specs.Sought.{IsFormed, IsReady, Sought}
@@ -23,7 +24,6 @@ use Rattle.dn_place.proofs.Wholes.{whole}
 use Rattle.dn_place.proofs.Meetings.{meets_gives}
 use Rattle.dn_place.proofs.Usable.{is_usable, usable_is}
 use Rattle.dn_place.proofs.Walks.{Stretches}
-use Rattle.dn_place.proofs.Pages.{output_bound}
 use Rattle.dn_place.specs.Marks.{mark_at, AreMarked, IsEntry}
 use Rattle.dn_interval.specs.declared.row.End.{End}
 use Rattle.dn_net.specs.declared.node.NodeDecl.{NodeDecl}
@@ -177,7 +177,7 @@ port_stretches s count hops unit port node u rows ready f l e p = λ q j v. go q
     go : (q : Place) (j : ℕ) → Output s u hops q unit port j (to_output count hops unit port j) → GivesOnly rows (wanted s.request hops) s.request.size j
     go q j w =
         let k = w.through.joins in
-        let low : j + s.request.size ≤ top + 1 = omega (arith, k.reached, output_bound u.reach (ready.formed unit u e).reach) in
+        let low : j + s.request.size ≤ top + 1 = omega (arith, k.reached, power_below u.reach (ready.formed unit u e).reach) in
         meets_gives s node j hops rows f ready.one_stop low (subst (λ (n : ℕ). Meets s.net s.request n j hops) (some k.node node (sym k.is_port ∙ p)) k.meets)
 
 pub port_goes : (s : Sought) (count : ℕ) (hops : List Hop) (unit port : ℕ) (u : UnitPart) → length hops < count → unit_at s.net unit ≡ Some u → (q : Place) → IsUnder s (to_port count hops unit port) q → (j : ℕ) × Begins (to_port count hops unit port ++ j ∷ []) (key_of s.net q)

@@ -26,10 +26,6 @@ slot_there net n slot u e l = rw e l
 pub input_bound : (slots page : ℕ) → page ≤ 40 → slots ≤ 262144 → slots * 2 ^ page ≤ 288230376151711744
 input_bound slots page p s = mul-le-mul s (pow-le-pow_right {n = 2} (omega arith) p)
 
--- so are those of its output
-pub output_bound : (reach : ℕ) → reach ≤ 56 → 2 ^ reach ≤ 72057594037927936
-output_bound reach r = pow-le-pow_right {n = 2} (omega arith) r
-
 pub last_within : (x size slots page : ℕ) → x + size ≤ slots * 2 ^ page → 1 ≤ size → (x + size - 1) / 2 ^ page < slots
 last_within x size slots page f s = (div-lt_iff_lt-mul {k = 2 ^ page} {x = x + size - 1} {y = slots} (pow_pos page)).1 (omega arith)
 

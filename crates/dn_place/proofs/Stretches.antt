@@ -4,24 +4,15 @@ use Rattle.std.proofs.lemmas.Bool.{cases_lt, false≢true, le-ltb}
 use Rattle.dn_interval.specs.declared.row.End.{End}
 use Rattle.dn_interval.specs.declared.row.Row.{Row}
 use Rattle.dn_interval.specs.Rows.{Member, moved, end_lt, Ascending, HasEnds, Parted, Apart, GivenBy}
-use Rattle.dn_interval.proofs.Membership.{in_from, lo_of, hi_of}
+use Rattle.dn_interval.proofs.Membership.{in_from, lo_of}
+use Rattle.dn_interval.proofs.Normal.{nothing_below, behind_first}
 use Rattle.dn_place.specs.Rows.{InRow, GivesOnly}
-
--- rows that stand at an address or above it give nothing before it
-pub none_before : (from : ℕ) (rows : List Row) (a : ℕ) (z : End) → Apart from rows → a < from → GivenBy rows a z → ⊥
-none_before from [] a z p l g = g
-none_before from (r ∷ rest) a z p l (inl g) = let k : r.span.lo ≤ a = lo_of r.span a g.0 in omega (arith, p.0)
-none_before from (r ∷ rest) a z p l (inr g) = none_before (suc r.span.hi) rest a z p.4 (let o : r.span.lo ≤ r.span.hi = r.span.ordered in let f : from ≤ r.span.lo = p.0 in omega arith) g
 
 -- what is given at an address of the first row, or past it
 
 pub head_gives : (from : ℕ) (r : Row) (rest : List Row) (a : ℕ) (z : End) → Apart from (r ∷ rest) → a ≤ r.span.hi → GivenBy (r ∷ rest) a z → (r.span.lo ≤ a) × Member z (map (moved (a - r.span.lo)) r.ends)
 head_gives from r rest a z p h (inl g) = (lo_of r.span a g.0, g.1)
-head_gives from r rest a z p h (inr g) = absurd (none_before (suc r.span.hi) rest a z p.4 (omega arith) g)
-
-pub rest_gives : (r : Row) (rest : List Row) (a : ℕ) (z : End) → r.span.hi < a → GivenBy (r ∷ rest) a z → GivenBy rest a z
-rest_gives r rest a z h (inl g) = let k : a ≤ r.span.hi = hi_of r.span a g.0 in absurd (omega arith)
-rest_gives r rest a z h (inr g) = g
+head_gives from r rest a z p h (inr g) = absurd (nothing_below (suc r.span.hi) rest p.4 a z (omega arith) g)
 
 -- one name alone
 
@@ -49,7 +40,7 @@ one_end d (e ∷ e' ∷ es) t h a f = let same : e ≡ e' = same_end d e e' (sym
 -- a name that is given past the first row is given by the row that touches it, where it is given just there
 next_row : (from : ℕ) (s : Row) (ss : List Row) (z : End) → Apart from (s ∷ ss) → GivenBy (s ∷ ss) from z → s.span.lo ≡ from
 next_row from s ss z p (inl g) = let k : s.span.lo ≤ from = lo_of s.span from g.0 in let f : from ≤ s.span.lo = p.0 in omega arith
-next_row from s ss z p (inr g) = absurd (none_before (suc s.span.hi) ss from z p.4 (let o : s.span.lo ≤ s.span.hi = s.span.ordered in let f : from ≤ s.span.lo = p.0 in omega arith) g)
+next_row from s ss z p (inr g) = absurd (nothing_below (suc s.span.hi) ss p.4 from z (let o : s.span.lo ≤ s.span.hi = s.span.ordered in let f : from ≤ s.span.lo = p.0 in omega arith) g)
 
 -- a stretch that begins at the first row or past the rows before it, and at an address of the first row, lies in it
 pub in_head : (from : ℕ) (r : Row) (rest : List Row) (t : End) (size a : ℕ) → Apart from (r ∷ rest) → 1 ≤ size → a ≤ r.span.hi → GivesOnly (r ∷ rest) t size a → InRow r t size a
@@ -91,4 +82,4 @@ in_head from r rest t size a p some h g = record {
     go (inl m) =
         let e : a + (suc r.span.hi - a) ≡ suc r.span.hi = omega arith in
         let l : suc r.span.hi - a < size = omega arith in
-        absurd (past rest p.3 p.4 (suc r.span.hi - a) l e (λ z. ((λ x. (at (suc r.span.hi - a) l (suc r.span.hi) e z).0 (inr x)), (λ x. rest_gives r rest (suc r.span.hi) z (omega arith) ((at (suc r.span.hi - a) l (suc r.span.hi) e z).1 x)))))
+        absurd (past rest p.3 p.4 (suc r.span.hi - a) l e (λ z. ((λ x. (at (suc r.span.hi - a) l (suc r.span.hi) e z).0 (inr x)), (λ x. behind_first r rest (suc r.span.hi) z (omega arith) ((at (suc r.span.hi - a) l (suc r.span.hi) e z).1 x)))))

@@ -4,6 +4,7 @@ use Rattle.std.proofs.lemmas.Bool.{cases_lt}
 use Rattle.dn_interval.specs.declared.row.End.{End}
 use Rattle.dn_interval.specs.declared.row.Row.{Row}
 use Rattle.dn_interval.specs.Rows.{moved, Apart, GivenBy}
+use Rattle.dn_interval.proofs.Normal.{behind_first}
 use Rattle.dn_tables.specs.Placement.{Place}
 use Rattle.dn_place.specs.Sought.{Sought}
 use Rattle.dn_placement.specs.Keys.{Begins}
@@ -11,7 +12,7 @@ use Rattle.dn_placement.specs.Order.{key_of}
 use Rattle.dn_place.specs.Rows.{InRow, GivesOnly}
 use Rattle.dn_place.specs.Candidates.{IsUnder, NoneUnder, NoneBelow, IsFirstUnder}
 use Rattle.dn_place.proofs.Levels.{begun, leapt, found_first, none_left}
-use Rattle.dn_place.proofs.Stretches.{in_head, rest_gives}
+use Rattle.dn_place.proofs.Stretches.{in_head}
 
 -- how far the walk has come: no placement goes on with a number before the rest of the rows
 pub record Walked (s : Sought) (front : List ℕ) (rows rest : List Row) : Type 0 where
@@ -39,7 +40,7 @@ walked_on s front rows r rest t some st w n = record {
   bound = suc r.span.hi;
   below = leapt s front w.bound (suc r.span.hi) w.below (λ q j a b u. (n j (in_first s front rows r rest t some st w q j a b u)).none q u);
   apart = w.apart.4;
-  holds = λ a z l. ((λ g. rest_gives r rest a z (omega arith) ((w.holds a z (past a l)).0 g)), (λ g. (w.holds a z (past a l)).1 (inr g)));
+  holds = λ a z l. ((λ g. behind_first r rest a z (omega arith) ((w.holds a z (past a l)).0 g)), (λ g. (w.holds a z (past a l)).1 (inr g)));
 }
   where
     past : (a : ℕ) → suc r.span.hi ≤ a → w.bound ≤ a

@@ -1,6 +1,9 @@
 -- The numbers of hops.
-use Rattle.std.proofs.Common.{◌≡◌, ℕ, ◌*◌, List, [], ◌∷◌, ◌++◌, length, refl, sym, ap, ◌∙◌, arith, append_assoc, length-append}
+use Rattle.std.proofs.Common.{◌≡◌, ℕ, ◌*◌, List, [], ◌∷◌, ◌++◌, length, IsTrue, refl, sym, ap, ◌∙◌, arith, append_assoc, length-append}
+use Rattle.dn_kind.specs.declared.rights.Rights.{Rights}
+use Rattle.dn_kind.specs.Rights.{are_rights}
 use Rattle.dn_tables.specs.declared.placement.Hop.{Hop}
+use Rattle.dn_placement.specs.Records.{hop_rights}
 use Rattle.dn_placement.specs.Order.{hops_key}
 use Rattle.dn_placement.proofs.Keys.{append_none}
 
@@ -38,3 +41,7 @@ hops_key-append (h ∷ a) b = ap (λ l. l ++ numbers h []) (hops_key-append a b)
 pub length_key : (hops : List Hop) → length (hops_key hops) ≡ 4 * length hops
 length_key [] = refl
 length_key (h ∷ hops) = length-append (hops_key hops) (numbers h []) ∙ omega (arith, length_key hops)
+
+-- the rights of each hop are rights
+pub rights_of : (r : Rights) (own place : ℕ) → IsTrue (are_rights r) → IsTrue (are_rights (hop_rights r own place))
+rights_of r own place h = grind arith

@@ -1,7 +1,8 @@
 -- The order of placements is strict, and of two different placements of one request one comes first.
-use Rattle.std.proofs.Common.{◌≡◌, ℕ, ◌+◌, ◌-◌, ◌*◌, ◌<◌, ◌⊎◌, inl, inr, Bool, true, false, not, List, [], ◌∷◌, ◌++◌, length, slice_get, IsTrue, refl, sym, ◌∙◌, arith, length-append}
+use Rattle.std.proofs.Common.{◌≡◌, ℕ, ◌+◌, ◌-◌, ◌*◌, ◌<◌, ◌⊎◌, inl, inr, false, List, [], ◌∷◌, ◌++◌, length, slice_get, sym, ◌∙◌, arith, length-append}
 use Rattle.std.proofs.lemmas.Bool.{cases_order, false≢true}
 use Rattle.std.proofs.lemmas.Option.{slice_get_within}
+use Rattle.dn_base.proofs.Booleans.{not-true}
 use Rattle.dn_net.specs.declared.node.NodeDecl.{NodeDecl}
 use Rattle.dn_tables.specs.declared.placement.Hop.{Hop}
 use Rattle.dn_tables.specs.Placement.{Place}
@@ -58,11 +59,6 @@ placements_are_ordered = record {
   total = one_of_two;
 }
 
--- a test that is not passed
-pub refused : (b : Bool) → IsTrue (not b) → b ≡ false
-refused true h = absurd (false≢true h)
-refused false h = refl
-
 pub first_is_one : FirstIsOne
 first_is_one net slots rq at p q f g =
-    one_of_two net slots rq p q f.suited.is_placement g.suited.is_placement (refused (precedes net p q) (g.least p f.suited)) (refused (precedes net q p) (f.least q g.suited))
+    one_of_two net slots rq p q f.suited.is_placement g.suited.is_placement (not-true (precedes net p q) (g.least p f.suited)) (not-true (precedes net q p) (f.least q g.suited))

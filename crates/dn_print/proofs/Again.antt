@@ -2,6 +2,7 @@
 use Rattle.std.proofs.Common.{◌≡◌, ◌∙◌, ap, sym, refl, subst, ℕ, zero, suc, ◌+◌, ◌≤◌, Bool, true, false, cond, not, ◌||◌, List, [], ◌∷◌, ◌++◌, map, flat_map, length, slice_get, Result, Ok, Err, IsTrue, arith, append_assoc, append-nil, bytes_eq, le-leb}
 use Rattle.std.specs.List.{list_any, prefix_len}
 use Rattle.std.proofs.lemmas.Slice.Eq.{bytes_eq-Decides}
+use Rattle.dn_base.proofs.Lists.{Each}
 use Rattle.dn_token.specs.Token.{Token, tokens}
 use Rattle.dn_parse.specs.Tree.{declares, Declaration, Item, declared, Items, items, Tree}
 use Rattle.dn_parse.specs.Whole.{Blocks, judge, reading, no_blocks_yet, last_line, too_long, of_token_list, text_reading}
@@ -18,7 +19,7 @@ use Rattle.dn_module.specs.Drafts.{names, refers_to_known, node_in, node_of, wit
 use Rattle.dn_module.specs.Expand.{outside, statements, all_rewritings, expansion_of, most_steps, nothing_yet}
 use Rattle.dn_print.specs.Names.{node_text}
 use Rattle.dn_print.specs.Statement.{statement_text, net_text}
-use Rattle.dn_print.proofs.Formed.{Each, GoodDraft}
+use Rattle.dn_print.proofs.Formed.{GoodDraft}
 use Rattle.dn_print.proofs.Grown.{bare, reline, relined, names_relined, Grown, grown_few, fits_alike, fits_added, map_bare_more}
 use Rattle.dn_print.proofs.Nodes.{Said}
 use Rattle.dn_print.proofs.Units.{statement_said}

@@ -4,6 +4,7 @@ use Rattle.std.proofs.lemmas.List.{map-append}
 use Rattle.dn_net.specs.Decode.{is_agent, is_unit}
 use Rattle.dn_module.specs.declared.draft.Draft.{Draft}
 use Rattle.dn_module.specs.Drafts.{names, agents_of, units_of, parts_of, all_parts, limit_passed}
+use Rattle.dn_module.proofs.Limits.{parts_more}
 use Rattle.dn_print.proofs.Grown.{Fits, Grown}
 use Rattle.dn_print.proofs.Places.{Distinct, not_before, distinct_more, total, total_least, total_more, total_map}
 
@@ -16,9 +17,6 @@ one_unit d = cond (is_unit d.role) 1 0
 
 parts_are : (ds : List Draft) → all_parts ds ≡ total parts_of 0 ds
 parts_are ds = total_map (λ n. n) parts_of parts_of (λ d. refl) 0 ds
-
-parts_more : (acc : List Draft) (d : Draft) → all_parts (acc ++ d ∷ []) ≡ all_parts acc + parts_of d
-parts_more acc d = parts_are (acc ++ d ∷ []) ∙ total_more parts_of 0 acc d ∙ ap (λ (n : ℕ). n + parts_of d) (sym (parts_are acc))
 
 names_more : (acc : List Draft) (d : Draft) → names (acc ++ d ∷ []) ≡ names acc ++ d.name ∷ []
 names_more acc d = map-append (λ (d : Draft). d.name) acc (d ∷ [])

@@ -9,7 +9,7 @@ use Rattle.std.proofs.lemmas.List.Sums.{AllPass-from_list_all}
 use Rattle.std.proofs.lemmas.Str.Ascii.{IsAscii-from_all}
 use Rattle.dn_token.specs.Token.{hex_value, decimal_value, spelled_from, digits_number, fitting, is_hexadecimal, number_of, is_word_byte, is_digit}
 use Rattle.dn_token.proofs.Numbers.{some_digits}
-use Rattle.dn_base.proofs.Booleans.{and_parts}
+use Rattle.dn_base.proofs.Booleans.{and_parts, and-false}
 
 hex_glyph : (d : ℕ) → d < 16 → hex_value (digit_glyph false d) ≡ Some d
 hex_glyph d h = grind (arith, tests)
@@ -85,17 +85,13 @@ below_decimal n h = omega arith
 second_digit : (b : ℕ) → is_digit b ≡ true → eqb b 120 ≡ false
 second_digit b h = grind (arith, tests)
 
-and_false : (b : Bool) → (b && false) ≡ false
-and_false true = refl
-and_false false = refl
-
 no_prefix : (s : List ℕ) → IsTrue (list_all is_digit s) → is_hexadecimal s ≡ false
 no_prefix [] h = refl
-no_prefix (a ∷ []) h = and_false (eqb a 48)
+no_prefix (a ∷ []) h = and-false (eqb a 48)
 no_prefix (a ∷ b ∷ s) h =
     let second = and_parts (is_digit b) (list_all is_digit s) (and_parts (is_digit a) (is_digit b && list_all is_digit s) h).1 in
     let other = second_digit b second.0 in
-    rw other (and_false (eqb a 48))
+    rw other (and-false (eqb a 48))
 
 pub decimal_number : (n : ℕ) → n < 2 ^ 64 → number_of (decimal n) ≡ Some n
 unfolding number_of digits

@@ -1,11 +1,11 @@
 -- The nodes of a printable net as a text declares them, with full names in place of numbers: they make the net, so its text is read back.
-use Rattle.std.proofs.Common.{◌≡◌, ◌≢◌, ◌∙◌, inl, inr, ap, ap₂, sym, refl, subst, ℕ, zero, suc, ◌+◌, ◌<◌, ◌≤◌, ◌^◌, Bool, true, false, cond, not, ◌&&◌, nat_le, nat_lt, List, [], ◌∷◌, map, length, slice_get, get_or, is_some, Option, Some, None, option_map, Ok, IsTrue, arith, leb-true, ltb-true, bytes_eq}
+use Rattle.std.proofs.Common.{◌≡◌, ◌≢◌, ◌∙◌, inl, inr, ap, ap₂, sym, refl, subst, ℕ, zero, suc, ◌+◌, ◌<◌, ◌≤◌, ◌^◌, Bool, true, false, cond, not, ◌&&◌, nat_le, nat_lt, List, [], ◌∷◌, map, length, slice_get, get_or, is_some, Option, Some, None, option_map, Ok, IsTrue, arith, ltb-true, bytes_eq}
 use Rattle.std.specs.List.{AllPairs, list_all}
 use Rattle.std.proofs.lemmas.Bool.{false≢true, lt-ltb}
 use Rattle.std.proofs.lemmas.List.{length-map}
 use Rattle.std.proofs.lemmas.Slice.Eq.{bytes_eq-Decides}
 use Rattle.dn_base.proofs.Booleans.{and_parts}
-use Rattle.dn_base.proofs.Lists.{prefix_len-any}
+use Rattle.dn_base.proofs.Lists.{prefix_len-any, nil_from_leb, Each}
 use Rattle.dn_parse.specs.Tree.{Role as RoleOf, plain_role, agent_role, vectors_role}
 use Rattle.dn_net.specs.declared.node.Dest.{Dest}
 use Rattle.dn_net.specs.declared.node.Entry.{Entry}
@@ -27,7 +27,7 @@ use Rattle.dn_print.specs.Statement.{node_name}
 use Rattle.dn_print.specs.Printable.{IsPrintableEntry, IsPrintableUnit, HasPrintableUnit, IsPrintableNode, parts_of_node, IsPrintable, PrintableIsReadBack}
 use Rattle.dn_print.proofs.Again.{given_back}
 use Rattle.dn_print.proofs.Counted.{one_agent, one_unit, grown_by}
-use Rattle.dn_print.proofs.Formed.{Each, Maybe, GoodBlock, GoodDest, GoodEntry, GoodParts, GoodDraft}
+use Rattle.dn_print.proofs.Formed.{Maybe, GoodBlock, GoodDest, GoodEntry, GoodParts, GoodDraft}
 use Rattle.dn_print.proofs.Made.{From}
 use Rattle.dn_print.proofs.Places.{each_of_all, Distinct, distinct_map, unlike, total, total_map}
 
@@ -178,10 +178,6 @@ unit_role Agent h = absurd (false≢true h)
 unit_role Vectors h = absurd (false≢true h)
 unit_role UnitRole h = refl
 
-none_of : {X : Type 0} (xs : List X) → IsTrue (nat_le (length xs) 0) → xs ≡ []
-none_of [] h = refl
-none_of (x ∷ xs) h = let l = leb-true (length (x ∷ xs)) 0 h in absurd (omega arith)
-
 nowhere : (o : Option ℕ) → IsTrue (not (is_some o)) → o ≡ None
 nowhere None h = refl
 nowhere (Some m) h = absurd (false≢true h)
@@ -249,8 +245,8 @@ module _ (kinds : List Meaning) (net : List NodeDecl) (full : (i : ℕ) → i < 
           let b = and_parts (nat_le (length n.accepts) 0) (nat_le (length n.entries) 0 && not (is_some n.over)) a.1 in
           let c = and_parts (nat_le (length n.entries) 0) (not (is_some n.over)) b.1 in
           let role = unit_role n.role a.0 in
-          let accepts = none_of n.accepts b.0 in
-          let entries = none_of n.entries c.0 in
+          let accepts = nil_from_leb n.accepts b.0 in
+          let entries = nil_from_leb n.entries c.0 in
           let over = nowhere n.over c.1 in
           inr (record {
             line = 0;

@@ -1,14 +1,10 @@
 -- The lines of bytes, piece by piece.
-use Rattle.std.proofs.Common.{◌≡◌, ◌∙◌, ap, sym, refl, arith, ℕ, zero, suc, ◌+◌, ◌*◌, ◌/◌, ◌<◌, ◌≤◌, ◌⊎◌, inl, inr, min, List, [], ◌∷◌, ◌++◌, take, drop, length, append_assoc, append-nil, length-append}
+use Rattle.std.proofs.Common.{◌≡◌, ◌∙◌, ap, sym, arith, ℕ, zero, suc, ◌+◌, ◌*◌, ◌/◌, ◌<◌, ◌≤◌, ◌⊎◌, inl, inr, min, List, [], ◌++◌, take, drop, length, append_assoc, append-nil, length-append}
 use Rattle.std.proofs.Math.Nat.{min-eq_left, min-eq_right}
 use Rattle.std.proofs.Math.Seq.{take-append_seam, drop-append_seam}
 use Rattle.std.proofs.lemmas.List.{take-append-drop, length-take-le, length-drop}
-use Rattle.dn_base.proofs.Lists.{take_past}
+use Rattle.dn_base.proofs.Lists.{take_past, nil_from_length}
 use Rattle.dn_print.specs.Dump.{line_text, lines_of, lines_text}
-
-pub no_items : {X : Type 0} (xs : List X) → length xs ≡ 0 → xs ≡ []
-no_items [] e = refl
-no_items (x ∷ xs) e = cc
 
 -- a line of 32 bytes, and then the lines of the rest
 full_line : (rest line later : List ℕ) → rest ≡ line ++ later → length line ≡ 32 → lines_text rest ≡ line_text line ++ lines_text later
@@ -41,7 +37,7 @@ one_line rest line later e size some = go (grind arith)
     go (inr l) =
         let n : length line ≡ length rest = size ∙ min-eq_right (omega arith) in
         let a = all in
-        let none : later ≡ [] = no_items later (omega (arith, a, n)) in
+        let none : later ≡ [] = nil_from_length later (omega (arith, a, n)) in
         let same : rest ≡ line = e ∙ ap (λ t. line ++ t) none ∙ append-nil line in
         last_line rest some l
         ∙ ap line_text same
@@ -51,7 +47,7 @@ one_line rest line later e size some = go (grind arith)
 -- bytes of full lines, and then others
 pub lines_split : (k : ℕ) (xs ys : List ℕ) → length xs ≡ 32 * k → lines_text (xs ++ ys) ≡ lines_text xs ++ lines_text ys
 lines_split zero xs ys e =
-    let none : xs ≡ [] = no_items xs e in
+    let none : xs ≡ [] = nil_from_length xs e in
     ap (λ l. lines_text (l ++ ys)) none ∙ ap (λ l. lines_text l ++ lines_text ys) (sym none)
 lines_split (suc k) xs ys e =
     let line : List ℕ = take 32 xs in
@@ -76,7 +72,7 @@ one_piece rest piece later e size = go (grind arith)
     go (inr l) =
         let n : length piece ≡ length rest = size ∙ min-eq_right (omega arith) in
         let a = all in
-        let none : later ≡ [] = no_items later (omega (arith, a, n)) in
+        let none : later ≡ [] = nil_from_length later (omega (arith, a, n)) in
         ap lines_text (e ∙ ap (λ t. piece ++ t) none ∙ append-nil piece)
         ∙ sym (append-nil (lines_text piece))
         ∙ ap (λ t. lines_text piece ++ lines_text t) (sym none)

@@ -1,6 +1,7 @@
 -- Nodes whose names are full names and whose numbers fit in 64 bits: those that a text makes.
 use Rattle.std.proofs.Common.{◌≡◌, ◌⊎◌, ℕ, ◌<◌, ◌≤◌, ◌^◌, List, [], ◌∷◌, ◌++◌, length, Option, Some, None, arith}
 use Rattle.std.proofs.lemmas.List.{length-map}
+use Rattle.dn_base.proofs.Lists.{Each}
 use Rattle.dn_parse.specs.Tree.{Role as RoleOf}
 use Rattle.dn_net.specs.declared.node.Block.{Block}
 use Rattle.dn_net.specs.declared.node.Role.TheVariants.{Unit as UnitRole}
@@ -12,11 +13,6 @@ use Rattle.dn_module.specs.declared.draft.DraftUnit.{DraftUnit}
 use Rattle.dn_module.specs.Drafts.{bare_draft, number_of, role_of, unit_in}
 use Rattle.dn_print.specs.Printable.{IsPrintableUnit}
 use Rattle.dn_print.proofs.Titles.{IsFull}
-
--- each item of a list is so
-abbrev pub Each : {X : Type 0} → (X → Type 0) → List X → Type 0
-Each P [] = Unit {0}
-Each P (x ∷ xs) = P x × Each P xs
 
 pub each_both : {X : Type 0} (P : X → Type 0) (xs ys : List X) → Each P xs → Each P ys → Each P (xs ++ ys)
 each_both P [] ys h g = g

@@ -1,12 +1,13 @@
 -- The tree of a text is well formed.
 use Rattle.std.proofs.Common.{◌≡◌, ◌∙◌, sym, refl, subst, ℕ, zero, suc, ◌<◌, Bool, true, false, cond, nat_le, nat_lt, List, [], ◌∷◌, length, Result, Ok, Err, arith}
+use Rattle.dn_base.proofs.Lists.{Each}
 use Rattle.dn_token.specs.Token.{Token, tokens}
 use Rattle.dn_parse.specs.Tree.{Statement, declares, heads_module, uses, heads_loop, ends, begins, orders, Placed, Item, items, Command, Tree}
 use Rattle.dn_parse.specs.Machine.{Stop, whole, refused, deep}
 use Rattle.dn_parse.specs.Descent.{Read, whole_statement_at}
 use Rattle.dn_parse.specs.Whole.{Opener, opens_module, opens_loop, Frame, Blocks, no_blocks_yet, closed_block, Step, crowded, with_item, with_frame, without_frame, outside_blocks, before_begin, after_begin, step, TextFault, at_stop, by_step, judge, reading, too_long, of_token_list, last_line, text_reading}
 use Rattle.dn_parse.proofs.Judge.{judge_step, judge_stop, judge_end, statement_shorter}
-use Rattle.dn_print.proofs.Formed.{Each, each_both}
+use Rattle.dn_print.proofs.Formed.{each_both}
 use Rattle.dn_print.proofs.Proper.{Proper, tokens_proper}
 use Rattle.dn_print.proofs.Trees.{Small, GoodStatement, GoodItem, GoodItems}
 use Rattle.dn_print.proofs.Read.{Reads, whole_statement_reads}

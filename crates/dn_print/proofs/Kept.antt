@@ -1,11 +1,13 @@
 -- Replacing numbers for variables and full names for names keeps a tree well formed.
 use Rattle.std.proofs.Common.{inl, inr, ap, refl, ℕ, ◌<◌, ◌^◌, Bool, true, false, cond, not, List, [], ◌∷◌, map, Option, Some, None, option_map, bytes_eq, arith}
 use Rattle.std.proofs.lemmas.List.{length-map}
+use Rattle.dn_base.proofs.Lists.{Each}
 use Rattle.dn_parse.specs.Tree.{Expression, constant, variable, sum, product, minus, Expressions, no_expressions, and_expression, Part, Block, Dest, Entry, Spec, Arg, number_arg, node_arg, Declaration, node, unit, Item, declared, module_of, instance, loop, Items, no_items, and_item}
 use Rattle.dn_module.specs.Replace.{looked_up, without, Naming, as_they_stand, under, Replacement, hiding, number_or, in_expression, in_expressions, in_option, in_part, prefixed, in_declared, word_of, node_by, named_or, in_reference, in_block, in_dest, in_entry, in_spec, in_arg, in_declaration, in_item, in_items}
 use Rattle.dn_print.proofs.Titles.{IsFull}
-use Rattle.dn_print.proofs.Formed.{Each, Maybe}
+use Rattle.dn_print.proofs.Formed.{Maybe}
 use Rattle.dn_print.proofs.Trees.{Small, AllSmall, GoodPart, Some1, GoodName, SmallBlock, NamedDest, NamedEntry, GoodSpec, GoodDeclaration, GoodArg, GoodItem, GoodItems, some_each}
+use Rattle.dn_print.proofs.Places.{each_map}
 
 -- what is put in for variables and for names
 abbrev pub Standing : {A : Type 0} → (A → Type 0) → List (List ℕ × A) → Type 0
@@ -40,13 +42,9 @@ without_good {A} P w (b ∷ bs) h = go (not (bytes_eq w b.0)) (without_good P w 
 hiding_good : (w : List ℕ) (r : Replacement) → GoodReplacement r → GoodReplacement (hiding w r)
 hiding_good w r h = (without_good IsSmallNumber w r.numbers h.0, h.1)
 
-each_map : {X Y : Type 0} (P : X → Type 0) (Q : Y → Type 0) (f : X → Y) (xs : List X) → ((x : X) → P x → Q (f x)) → Each P xs → Each Q (map f xs)
-each_map P Q f [] k h = tt
-each_map P Q f (x ∷ xs) k h = (k x h.0, each_map P Q f xs k h.1)
-
 some_map : {X Y : Type 0} (P : X → Type 0) (Q : Y → Type 0) (f : X → Y) (xs : List X) → ((x : X) → P x → Q (f x)) → Some1 P xs → Some1 Q (map f xs)
 some_map P Q f [] k h = absurd h
-some_map P Q f (x ∷ xs) k h = (k x h.0, each_map P Q f xs k h.1)
+some_map P Q f (x ∷ xs) k h = (k x h.0, each_map P Q f k xs h.1)
 
 maybe_map : {X Y : Type 0} (P : X → Type 0) (Q : Y → Type 0) (f : X → Y) (o : Option X) → ((x : X) → P x → Q (f x)) → Maybe P o → Maybe Q (option_map f o)
 maybe_map P Q f None k h = tt
@@ -109,12 +107,12 @@ entry_kept r g e h =
     let same = length-map e.dests (in_dest r) in
     let some = h.2 in
     let few = h.3 in
-    (block_kept r.numbers g.0 e.block h.0, each_map NamedDest NamedDest (in_dest r) e.dests (dest_kept r g) h.1, omega (arith, same, some), omega (arith, same, few))
+    (block_kept r.numbers g.0 e.block h.0, each_map NamedDest NamedDest (in_dest r) (dest_kept r g) e.dests h.1, omega (arith, same, some), omega (arith, same, few))
 
 spec_kept : (r : Replacement) → GoodReplacement r → (s : Spec) → GoodSpec s → GoodSpec (in_spec r s)
 spec_kept r g s h = (
-  each_map SmallBlock SmallBlock (in_block r.numbers) s.accepts (block_kept r.numbers g.0) h.0,
-  each_map NamedEntry NamedEntry (in_entry r) s.entries (entry_kept r g) h.1,
+  each_map SmallBlock SmallBlock (in_block r.numbers) (block_kept r.numbers g.0) s.accepts h.0,
+  each_map NamedEntry NamedEntry (in_entry r) (entry_kept r g) s.entries h.1,
   maybe_map GoodName GoodName (in_reference r) s.over (reference_kept r g) h.2,
 )
 
@@ -128,14 +126,14 @@ declaration_kept r g (unit name kind page slots reach ports) h =
     let same = length-map ports (in_reference r) in
     let some = h.3 in
     let few = h.4 in
-    (declared_kept r g name h.0, h.1, each_map GoodName GoodName (in_reference r) ports (reference_kept r g) h.2, omega (arith, same, some), omega (arith, same, few))
+    (declared_kept r g name h.0, h.1, each_map GoodName GoodName (in_reference r) (reference_kept r g) ports h.2, omega (arith, same, some), omega (arith, same, few))
 
 -- statements
 mutual
   item_kept : (i : Item) (r : Replacement) → GoodReplacement r → GoodItem i → GoodItem (in_item r i)
   item_kept (declared line d) r g h = declaration_kept r g d h
   item_kept (module_of line title params body) r g h = h
-  item_kept (instance line title args prefix) r g h = (each_map GoodArg GoodArg (in_arg r) args (arg_kept r g) h.0, declared_kept r g prefix h.1)
+  item_kept (instance line title args prefix) r g h = (each_map GoodArg GoodArg (in_arg r) (arg_kept r g) args h.0, declared_kept r g prefix h.1)
   item_kept (loop line w from upto body) r g h = (expression_kept r.numbers g.0 from h.0, expression_kept r.numbers g.0 upto h.1, items_kept body (hiding w r) (hiding_good w r g) h.2)
 
   pub items_kept : (is : Items) (r : Replacement) → GoodReplacement r → GoodItems is → GoodItems (in_items r is)

@@ -1,5 +1,5 @@
 -- Pieces of a printed text and the tokens that they are, whatever follows.
-use Rattle.std.proofs.Common.{◌≡◌, ◌∙◌, ap, ap₂, sym, refl, subst, ℕ, suc, ◌+◌, ◌<◌, ◌^◌, Bool, true, false, cond, ◌==◌, List, [], ◌∷◌, ◌++◌, length, take_at, drop_at, codes, Some, Result, Ok, Err, IsTrue, arith, tests, append_assoc}
+use Rattle.std.proofs.Common.{◌≡◌, ◌∙◌, ap, ap₂, sym, refl, subst, ℕ, ◌+◌, ◌<◌, ◌^◌, Bool, true, false, ◌==◌, List, [], ◌∷◌, ◌++◌, length, take_at, drop_at, codes, Some, Result, Ok, Err, IsTrue, arith, tests, append_assoc}
 use Rattle.std.specs.Fmt.{digits, decimal}
 use Rattle.std.specs.List.{list_all, prefix_len}
 use Rattle.dn_token.specs.declared.token.Keyword.{Keyword}
@@ -13,7 +13,7 @@ use Rattle.dn_token.proofs.Lexed.{with_tokens}
 use Rattle.dn_print.specs.Names.{address_text}
 use Rattle.dn_print.proofs.Digits.{decimal_number, hexadecimal_number, decimal_digits, decimal_word, hexadecimal_word, decimal_some}
 use Rattle.dn_print.proofs.Words.{IsReserved, keyword_reserved}
-use Rattle.dn_base.proofs.Booleans.{and_parts}
+use Rattle.dn_base.proofs.Booleans.{and_parts, cond-true, cond-false}
 
 -- a token of a line
 abbrev pub word_token : ℕ → List ℕ → Token
@@ -126,24 +126,18 @@ after_is w rest all h = drop_at w rest (prefix_len is_word_byte (w ++ rest)) (sy
 with_first : (b : ℕ) (w : List ℕ) → is_word_byte b ≡ true → IsTrue (list_all is_word_byte w) → IsTrue (list_all is_word_byte (b ∷ w))
 with_first b w h all = rw h all
 
-cond_true : {X : Type 0} (p : Bool) (x y : X) → p ≡ true → cond p x y ≡ x
-cond_true p x y e = ap (λ q. cond q x y) e
-
-cond_false : {X : Type 0} (p : Bool) (x y : X) → p ≡ false → cond p x y ≡ y
-cond_false p x y e = ap (λ q. cond q x y) e
-
 word_front : (b : ℕ) (w : List ℕ) (l : Lexeme) (rest : List ℕ) → is_letter b ≡ true → IsTrue (list_all is_word_byte (b ∷ w)) → word_lexeme (b ∷ w) ≡ l → Stops rest → front b (w ++ rest) ≡ taken l rest
 word_front b w l rest letter whole e h =
     let r = run_is (b ∷ w) rest whole h in
     let a = after_is (b ∷ w) rest whole h in
-    cond_true (is_letter b) _ _ letter ∙ ap₂ (λ m t. taken (word_lexeme m) t) r a ∙ ap (λ m. taken m rest) e
+    cond-true (is_letter b) _ _ letter ∙ ap₂ (λ m t. taken (word_lexeme m) t) r a ∙ ap (λ m. taken m rest) e
 
 number_at : (b : ℕ) (w : List ℕ) (n : ℕ) (rest : List ℕ) → is_digit b ≡ true → IsTrue (list_all is_word_byte (b ∷ w)) → number_of (b ∷ w) ≡ Some n → Stops rest → front b (w ++ rest) ≡ taken (number n) rest
 number_at b w n rest digit whole e h =
     let letter = digit_letter b digit in
     let r = run_is (b ∷ w) rest whole h in
     let a = after_is (b ∷ w) rest whole h in
-    cond_false (is_letter b) _ _ letter ∙ cond_true (is_digit b) _ _ digit ∙ ap₂ (λ m t. number_front (number_of m) t) r a ∙ ap (λ m. number_front m rest) e
+    cond-false (is_letter b) _ _ letter ∙ cond-true (is_digit b) _ _ digit ∙ ap₂ (λ m t. number_front (number_of m) t) r a ∙ ap (λ m. number_front m rest) e
 
 -- a word, reserved or not
 pub word_closed : (line b : ℕ) (w : List ℕ) (l : Lexeme) → is_letter b ≡ true → IsTrue (list_all is_word_byte w) → word_lexeme (b ∷ w) ≡ l → Closed line (b ∷ w) (record { lexeme = l; line = line } ∷ [])

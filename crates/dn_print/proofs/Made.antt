@@ -4,12 +4,13 @@ use Rattle.std.proofs.lemmas.List.{length-map}
 use Rattle.std.proofs.lemmas.List.Quantifiers.{position-Some}
 use Rattle.std.proofs.lemmas.Option.{slice_get-get_or}
 use Rattle.std.proofs.lemmas.Slice.Eq.{bytes_eq-Decides}
+use Rattle.dn_base.proofs.Lists.{Each}
 use Rattle.dn_parse.specs.Tree.{Expression, constant, variable, sum, product, minus, Part, Block as BlockOf, Dest as DestOf, Entry as EntryOf, Spec, Role as RoleOf, Arg, number_arg, node_arg, Declaration, node, unit, Item, declared, module_of, instance, loop, Items, no_items, and_item, Tree}
 use Rattle.dn_net.specs.declared.node.NodeDecl.{NodeDecl}
 use Rattle.dn_kind.specs.Kind.{Meaning, kind_place}
 use Rattle.dn_module.specs.declared.draft.Draft.{Draft}
 use Rattle.dn_module.specs.declared.command.Command.{Command}
-use Rattle.dn_module.specs.Values.{Flaw, unknown_word, out_of_range, ◌>>=◌, each, fitting, difference, value, values, value_or, value_within, sum_of, product_of, part_by, part_text, after_dots, dotted, full_name, full_name_or_none}
+use Rattle.dn_module.specs.Values.{out_of_range, ◌>>=◌, each, fitting, difference, value, values, value_or, value_within, sum_of, product_of, part_by, part_text, after_dots, dotted, full_name, full_name_or_none}
 use Rattle.dn_module.specs.Drafts.{at_line, block_of, dest_of, entry_of, node_draft, known_kind, unit_draft, draft_of, declared_by, names, with_draft, node_of, number_of}
 use Rattle.dn_module.specs.Commands.{commands_of}
 use Rattle.dn_module.specs.Replace.{under, one_number, in_items}
@@ -18,7 +19,7 @@ use Rattle.dn_module.proofs.Yields.{Yields, any, bind, given, at_yields}
 use Rattle.dn_print.specs.Statement.{kind_name, kind_text}
 use Rattle.dn_print.proofs.Titles.{Title, IsFull, full_one, full_both}
 use Rattle.dn_print.proofs.Words.{IsWord, word_any}
-use Rattle.dn_print.proofs.Formed.{Each, Maybe, GoodBlock, GoodDest, GoodEntry, GoodNode, GoodUnit, GoodDraft, each_both}
+use Rattle.dn_print.proofs.Formed.{Maybe, GoodBlock, GoodDest, GoodEntry, GoodNode, GoodUnit, GoodDraft, each_both}
 use Rattle.dn_print.proofs.Trees.{Small, GoodPart, Some1, GoodName, SmallBlock, NamedDest, NamedEntry, GoodSpec, GoodDeclaration, GoodArg, GoodItem, GoodItems}
 use Rattle.dn_print.proofs.Grown.{Grown, grown_more, added_fits}
 use Rattle.dn_print.proofs.Kept.{Standing, IsSmallNumber, items_kept}

@@ -20,8 +20,9 @@ use Rattle.dn_module.specs.Values.{each, full_name, full_name_or_none}
 use Rattle.dn_module.specs.Drafts.{block_of, entry_of, role_of, declared_by, over_known, ports_known, refers_to_known, number_of, entry_in, unit_in, node_in}
 use Rattle.dn_print.specs.Statement.{accept_text, map_text, over_text, role_text, body_text, statement_text}
 use Rattle.dn_base.proofs.Booleans.{and_parts}
+use Rattle.dn_base.proofs.Lists.{Each}
 use Rattle.dn_print.proofs.Titles.{IsFull}
-use Rattle.dn_print.proofs.Formed.{Each, Maybe, GoodBlock, GoodEntry, GoodNode}
+use Rattle.dn_print.proofs.Formed.{Maybe, GoodBlock, GoodEntry, GoodNode}
 use Rattle.dn_print.proofs.Lexes.{word_token, sign_token, keyword_token, Closed, Open, Quiet, closed_then, open_then, quiet_then, quiet_none, closed_none, keyword_closed, keyword_open, keyword_between, bracket_open, behind_blank, end_open, with_both}
 use Rattle.dn_print.proofs.Shown.{Shown}
 use Rattle.dn_print.proofs.Labels.{NameEnd, name_shown, name_first, close_closed, close_quiet}

@@ -16,7 +16,8 @@ use Rattle.dn_module.specs.Drafts.{block_of, dest_of, entry_of, is_known, dests_
 use Rattle.dn_print.specs.Names.{address_text}
 use Rattle.dn_print.specs.Statement.{marked, block_text, blocks_text, node_name, dest_text, dests_text, entry_text, entries_text}
 use Rattle.dn_base.proofs.Booleans.{and_parts}
-use Rattle.dn_print.proofs.Formed.{Each, GoodBlock, GoodDest, GoodEntry}
+use Rattle.dn_base.proofs.Lists.{Each}
+use Rattle.dn_print.proofs.Formed.{GoodBlock, GoodDest, GoodEntry}
 use Rattle.dn_print.proofs.Lexes.{number_token, sign_token, keyword_token, Closed, Quiet, closed_then, open_then, address_closed, keyword_between, comma_open, minus_open}
 use Rattle.dn_print.proofs.Labels.{NumberEnd, NameEnd, number_read, name_shown}
 use Rattle.dn_print.proofs.Shown.{Shown, Mark, row_shown, first_shown, most_shown}
@@ -144,7 +145,7 @@ dests_shown net known named line lo (d ∷ ds) h some few k =
     most_shown 7 (omega (arith, few)) (one d all.0) (row_shown (and_mark line) (λ (e : DraftDest). GoodDest e × IsTrue (is_known known e.to)) (λ (e : DraftDest). dest_text net (dest_in known e)) (λ (es : List DraftDest). marked (codes " and ") (dest_text net) (map (dest_in known) es)) refl (λ e es. refl) one ds all.1)
 
 -- an entry
-to_quiet : (t : List ℕ) → Quiet (codes " to " ++ t)
+pub to_quiet : (t : List ℕ) → Quiet (codes " to " ++ t)
 to_quiet t = record { it = λ rest h. refl }
 
 to_ends_number : (line : ℕ) (ts : List Token) → NumberEnd (keyword_token line To ∷ ts)

@@ -6,7 +6,7 @@ use Rattle.std.proofs.lemmas.List.Quantifiers.{all_pairs_push}
 use Rattle.std.proofs.lemmas.List.Sums.{fold-append}
 use Rattle.std.proofs.lemmas.Slice.Eq.{bytes_eq-Decides}
 use Rattle.std.proofs.Math.Seq.{get_or-append_seam}
-use Rattle.dn_print.proofs.Formed.{Each}
+use Rattle.dn_base.proofs.Lists.{Each}
 
 -- a test that each item passes is passed by all
 pub all_true : {X : Type 0} (xs : List X) → IsTrue (list_all (λ x. true) xs)

@@ -2,6 +2,7 @@
 use Rattle.std.proofs.Common.{◌≡◌, ◌∙◌, inl, inr, ap, ap₂, sym, refl, subst, ℕ, ◌+◌, ◌<◌, ◌≤◌, ◌^◌, Bool, true, cond, List, [], ◌∷◌, map, length, is_some, Option, Some, None, option_map, IsTrue, arith, All}
 use Rattle.std.specs.List.{list_all}
 use Rattle.std.proofs.lemmas.List.{length-map}
+use Rattle.dn_base.proofs.Lists.{Each}
 use Rattle.dn_net.specs.declared.node.Dest.{Dest}
 use Rattle.dn_net.specs.declared.node.NodeDecl.{NodeDecl}
 use Rattle.dn_net.specs.declared.node.Role.{Role}
@@ -17,7 +18,7 @@ use Rattle.dn_parse.specs.Tree.{Role as RoleOf, plain_role, agent_role, vectors_
 use Rattle.dn_print.specs.Printable.{IsPrintableBlock, IsPrintableEntry, HasPrintableUnit, IsPrintableNode, parts_of_node, IsPrintable}
 use Rattle.dn_print.proofs.Again.{Refers, nodes_all}
 use Rattle.dn_print.proofs.Counted.{one_agent, one_unit, Counts, counted}
-use Rattle.dn_print.proofs.Formed.{Each, GoodBlock, GoodDest, GoodEntry, GoodDraft}
+use Rattle.dn_print.proofs.Formed.{GoodBlock, GoodDest, GoodEntry, GoodDraft}
 use Rattle.dn_print.proofs.Grown.{grown_few}
 use Rattle.dn_print.proofs.Made.{From}
 use Rattle.dn_print.proofs.Places.{all_of_each, each_map, Distinct, pairs_of_map, total_map}

@@ -1,12 +1,12 @@
 -- The tokens of a text: a word that is not reserved begins with a letter, and a number fits in 64 bits.
 use Rattle.std.proofs.Common.{◌≡◌, ◌∙◌, ◌⊎◌, inl, inr, ap, sym, refl, subst, ℕ, zero, suc, ◌+◌, ◌<◌, ◌^◌, Bool, true, false, cond, ◌&&◌, ◌==◌, List, [], ◌∷◌, take, drop, Option, Some, None, Result, Ok, Err, IsTrue, arith, ltb-true, nat_lt, bytes_eq}
 use Rattle.std.specs.List.{list_all, prefix_len}
+use Rattle.dn_base.proofs.Lists.{Each}
 use Rattle.dn_token.specs.declared.token.Keyword.{Keyword}
 use Rattle.dn_token.specs.declared.token.Sign.{Sign}
 use Rattle.dn_token.specs.declared.token.Sign.TheVariants.{Dots}
 use Rattle.dn_token.specs.Token.{Lexeme, Token, word, keyword, number, sign, Front, taken, bad, tokens, tokens_from, with_token, then_tokens, front, run, after_run, number_of, number_front, sign_front, sign_of, dots_or_sign, word_among, word_lexeme, reserved, fitting, is_hexadecimal, digits_number, hex_value, decimal_value, is_word_byte, is_letter, is_digit, is_line_feed, is_blank, is_slash, begins_with, after_comment}
 use Rattle.dn_print.proofs.Titles.{Title}
-use Rattle.dn_print.proofs.Formed.{Each}
 use Rattle.dn_print.proofs.Lexes.{letter_word}
 
 abbrev pub ProperLexeme : Lexeme → Type 0

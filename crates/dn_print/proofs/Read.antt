@@ -1,5 +1,6 @@
 -- What is read from proper tokens is well formed.
 use Rattle.std.proofs.Common.{inl, ℕ, zero, suc, ◌≤◌, Bool, true, false, cond, List, [], ◌∷◌, length, codes, Option, Some, None, Result, Ok, Err, arith}
+use Rattle.dn_base.proofs.Lists.{Each}
 use Rattle.dn_token.specs.declared.token.Keyword.{Keyword}
 use Rattle.dn_token.specs.declared.token.Keyword.TheVariants.{Agent, Vectors, Unit as UnitWord, Module, Use, For, In, End, Begin, Is, Accept, Map, To, And, At, Over, Kind, Page, Slots, Reach, As, Num, Node, Resolve, Lookup, View, Grant, Route, Revoke, Dump, Split, Absorb}
 use Rattle.dn_token.specs.declared.token.Sign.{Sign}
@@ -12,7 +13,7 @@ use Rattle.dn_parse.specs.Machine.{Stop}
 use Rattle.dn_parse.specs.Descent.{and_then, word_of, any_of, Read, Next, Reader, optional, after, after_sign, after_keyword, after_word, or_refused, sign_at, keyword_at, the_word_at, word_at, any_word_at, value_or, value_at, with_front, row, row_from, row_at, one_more, after_comma, first_and, next_by, term_with, expr_with, after_open_with, at_sign, factor_of, factor_with, nested_at, factor_at, next_factor_at, factors_at, term_at, next_term_at, terms_at, expr_at, first_and_most, expr_after, in_brackets, index_at, part_at, next_part_at, name_at, upper_at, block_at, next_block_at, blocks_at, addr_at, dest_at, next_dest_at, dests_at, entry_at, next_entry_at, entries_at, accept_at, map_at, over_at, spec_at, param_at, next_param_at, params_at, closed_params_at, arg_at, next_arg_at, args_at, closed_args_at, next_port_at, ports_at, node_at, measure_at, unit_at, module_at, use_at, loop_at, mode_at, access_at, resolve_at, lookup_at, view_at, grant_at, route_at, order_at, as_declared, keyword_statement_at, statement_by, statement_at, whole_statement_at}
 use Rattle.dn_print.proofs.Titles.{Title}
 use Rattle.dn_print.proofs.Words.{IsWord, title_word, keyword_word}
-use Rattle.dn_print.proofs.Formed.{Each, Maybe}
+use Rattle.dn_print.proofs.Formed.{Maybe}
 use Rattle.dn_print.proofs.Proper.{ProperLexeme, Proper}
 use Rattle.dn_print.proofs.Trees.{Small, AllSmall, GoodPart, Some1, GoodName, SmallBlock, NamedDest, NamedEntry, GoodSpec, GoodDeclaration, GoodArg, GoodStatement, some_each}
 

@@ -1,11 +1,11 @@
 -- A piece of a printed text: its tokens, what is read from them, and the value of that. Rows of such pieces.
 use Rattle.std.proofs.Common.{◌≡◌, ◌∙◌, ap, sym, refl, subst, ℕ, zero, suc, ◌≤◌, List, [], ◌∷◌, ◌++◌, length, length-append, None, Result, Ok, arith, append_assoc}
+use Rattle.dn_base.proofs.Lists.{Each}
 use Rattle.dn_token.specs.Token.{Token}
 use Rattle.dn_parse.specs.Descent.{and_then, Next, Reader, with_front, row, row_from, row_at, one_more, first_and, first_and_most}
 use Rattle.dn_parse.proofs.Series.{first_read, most_read}
 use Rattle.dn_module.specs.Values.{Flaw, each}
 use Rattle.dn_module.proofs.Yields.{Yields, any, bind, given, yielded}
-use Rattle.dn_print.proofs.Formed.{Each}
 use Rattle.dn_print.proofs.Lexes.{Closed, Open, Quiet, closed_then, open_then, closed_none, quiet_none}
 
 -- The text is these tokens in this line; before what fits they are read as this tree; and its value is y.

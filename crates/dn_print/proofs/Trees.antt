@@ -1,9 +1,10 @@
 -- Trees whose numbers fit in 64 bits and whose names are of words that are not reserved, or of full names.
 use Rattle.std.proofs.Common.{◌≡◌, ◌⊎◌, ◌<◌, ◌≤◌, ◌^◌, List, [], ◌∷◌, length, None}
+use Rattle.dn_base.proofs.Lists.{Each}
 use Rattle.dn_parse.specs.Tree.{Expression, constant, variable, sum, product, minus, Expressions, no_expressions, and_expression, Part, Block, Dest, Entry, Spec, Arg, number_arg, node_arg, Declaration, node, unit, Statement, declares, heads_module, uses, heads_loop, ends, begins, orders, Item, declared, module_of, instance, loop, Items, no_items, and_item}
 use Rattle.dn_print.proofs.Titles.{Title, IsFull}
 use Rattle.dn_print.proofs.Words.{IsWord}
-use Rattle.dn_print.proofs.Formed.{Each, Maybe}
+use Rattle.dn_print.proofs.Formed.{Maybe}
 
 abbrev mutual
   pub Small : Expression → Type 0

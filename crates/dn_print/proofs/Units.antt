@@ -1,5 +1,5 @@
 -- The statement of a unit as it is printed: its tokens, what is read from them, and the unit that this declares.
-use Rattle.std.proofs.Common.{◌≡◌, ◌∙◌, inl, inr, ap, sym, refl, subst, ℕ, ◌+◌, ◌<◌, ◌≤◌, ◌^◌, nat_le, true, List, [], ◌∷◌, ◌++◌, map, length, codes, Some, None, Ok, IsTrue, arith, append_assoc, le-leb}
+use Rattle.std.proofs.Common.{◌≡◌, ◌∙◌, inl, inr, ap, sym, refl, subst, ℕ, ◌+◌, ◌<◌, ◌≤◌, ◌^◌, nat_le, true, List, [], ◌∷◌, ◌++◌, map, length, codes, Some, Ok, IsTrue, arith, append_assoc, le-leb}
 use Rattle.std.specs.Fmt.{decimal}
 use Rattle.std.specs.List.{list_all}
 use Rattle.dn_token.specs.declared.token.Keyword.TheVariants.{Unit as UnitWord, Kind, Page, Slots, Reach, To}
@@ -16,14 +16,14 @@ use Rattle.dn_module.specs.declared.draft.DraftUnit.{DraftUnit}
 use Rattle.dn_module.specs.Values.{each, full_name}
 use Rattle.dn_module.specs.Drafts.{is_known, declared_by, refers_to_known, number_of, unit_in, node_in}
 use Rattle.dn_print.specs.Statement.{marked, node_name, kind_text, ports_text, unit_text, statement_text}
-use Rattle.dn_base.proofs.Booleans.{and_parts}
+use Rattle.dn_base.proofs.Lists.{Each}
 use Rattle.dn_print.proofs.Titles.{IsFull}
 use Rattle.dn_print.proofs.Words.{IsWord, any_word}
-use Rattle.dn_print.proofs.Formed.{Each, GoodParts, GoodDraft, few_ports, some_ports, unit_with}
+use Rattle.dn_print.proofs.Formed.{GoodParts, GoodDraft, few_ports, some_ports, unit_with}
 use Rattle.dn_print.proofs.Lexes.{number_token, sign_token, keyword_token, Closed, Quiet, closed_then, open_then, word_closed, decimal_closed, keyword_open, keyword_between}
 use Rattle.dn_print.proofs.Shown.{Shown, row_shown, most_shown}
 use Rattle.dn_print.proofs.Labels.{NameEnd, number_read, name_shown}
-use Rattle.dn_print.proofs.Pieces.{Named, CommasEnd, comma_mark, each_passes}
+use Rattle.dn_print.proofs.Pieces.{Named, CommasEnd, comma_mark, each_passes, to_quiet}
 use Rattle.dn_print.proofs.Nodes.{Said, node_said, end_lexed, marked_lexed}
 
 -- the ports of a unit
@@ -85,9 +85,6 @@ slots_quiet t = record { it = λ rest h. refl }
 
 reach_quiet : (t : List ℕ) → Quiet (codes " reach " ++ t)
 reach_quiet t = record { it = λ rest h. refl }
-
-to_quiet : (t : List ℕ) → Quiet (codes " to " ++ t)
-to_quiet t = record { it = λ rest h. refl }
 
 parts_closed : (line : ℕ) (w : List ℕ) (u : DraftUnit) (p : List ℕ) (ts : List Token) → IsWord w → u.page < 2 ^ 64 → u.slots < 2 ^ 64 → u.reach < 2 ^ 64 → Closed line p ts → Closed line (codes " kind " ++ (w ++ (codes " page " ++ (decimal u.page ++ (codes " slots " ++ (decimal u.slots ++ (codes " reach " ++ (decimal u.reach ++ (codes " to " ++ p))))))))) (parts_tokens line w u ts)
 unfolding spelling

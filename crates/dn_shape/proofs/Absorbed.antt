@@ -3,6 +3,7 @@ use Rattle.std.proofs.Common.{◌≡◌, ℕ, zero, suc, ◌+◌, ◌≤◌, ◌
 use Rattle.std.specs.List.{list_any}
 use Rattle.std.proofs.lemmas.Bool.{false≢true}
 use Rattle.dn_base.specs.Members.{Member}
+use Rattle.dn_base.proofs.Booleans.{or_parts}
 use Rattle.dn_net.specs.declared.node.Block.{Block}
 use Rattle.dn_net.specs.declared.node.Dest.{Dest}
 use Rattle.dn_net.specs.declared.node.Name.{Name}
@@ -76,15 +77,11 @@ stop_kept net m x = ap (λ o. is_stop_at x.addr (unit_of o)) (net_past_at net m 
     go None = refl
     go (Some n) = one n (is_rewritten m x.node n)
 
-either_false : (p q : Bool) → (p || q) ≡ false → (p ≡ false) × (q ≡ false)
-either_false true q e = cc
-either_false false q e = (refl, e)
-
 -- where no item passes, the one at a place does not
 none_at : {X : Type 0} (p : X → Bool) (xs : List X) (i : ℕ) (x : X) → list_any p xs ≡ false → slice_get xs i ≡ Some x → p x ≡ false
 none_at p [] i x h at = cc
-none_at p (y ∷ ys) zero x h at = ap p (sym (some_same y x at)) ∙ (either_false (p y) (list_any p ys) h).0
-none_at p (y ∷ ys) (suc i) x h at = none_at p ys i x (either_false (p y) (list_any p ys) h).1 at
+none_at p (y ∷ ys) zero x h at = ap p (sym (some_same y x at)) ∙ (or_parts (p y) (list_any p ys) h).0
+none_at p (y ∷ ys) (suc i) x h at = none_at p ys i x (or_parts (p y) (list_any p ys) h).1 at
 
 -- a node that does not lead to another has no step to it
 pub never_leads : (m a : ℕ) (n : NodeDecl) (y : Name) → leads_to m n ≡ false → Member y (sent_names (decode a (Some n))) → (y.node == m) ≡ false
@@ -93,7 +90,7 @@ never_leads m a n y h s =
     ap (λ (z : Name). z.node == m) (sym c.to) ∙ by c.choice c.block c.name c.leads
   where
     parts : (list_any (maps_to m) n.entries ≡ false) × (is_over_to m n.over ≡ false)
-    parts = either_false (list_any (maps_to m) n.entries) (is_over_to m n.over) h
+    parts = or_parts (list_any (maps_to m) n.entries) (is_over_to m n.over) h
 
     by : (c : Choice) (b : Block) (d : Name) → Leads (Some n) c b d → (d.node == m) ≡ false
     by (mapped_by i j) b d l = ap (λ (z : Name). z.node == m) l.5 ∙ none_at (λ (t : Dest). t.node == m) l.0.dests j l.1 (none_at (maps_to m) n.entries i l.0 parts.0 l.2) l.3

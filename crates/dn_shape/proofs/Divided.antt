@@ -1,7 +1,7 @@
 -- The nodes of a split net, by their numbers.
 use Rattle.std.proofs.Common.{◌≡◌, ℕ, zero, suc, ◌+◌, Bool, true, false, if◌then◌else◌, List, [], ◌∷◌, ◌++◌, length, take, slice_get, Some, refl, sym, ap, ◌∙◌, subst, arith}
+use Rattle.dn_base.proofs.Lists.{length-last}
 use Rattle.dn_net.specs.declared.node.NodeDecl.{NodeDecl}
-use Rattle.dn_net.proofs.Places.{length-last}
 use Rattle.dn_shape.specs.Split.{is_divided, new_nodes, divided_count, sending_node, sending_nodes, accepter, with_accepter, with_accepters, split_net}
 
 -- an old node stands where it stood

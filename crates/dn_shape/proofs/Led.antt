@@ -3,6 +3,7 @@ use Rattle.std.proofs.Common.{◌≡◌, ℕ, suc, ◌+◌, ◌-◌, ◌<◌, �
 use Rattle.std.specs.List.{list_all, list_any}
 use Rattle.std.proofs.lemmas.Bool.{false≢true, true≢false, lt-ltb}
 use Rattle.dn_base.specs.Members.{Member}
+use Rattle.dn_base.proofs.Booleans.{and_parts, and_from}
 use Rattle.dn_interval.specs.declared.row.End.{End}
 use Rattle.dn_interval.specs.declared.span.TheConstants.{TOP}
 use Rattle.dn_interval.specs.Rows.{moved as end_moved, AllAbove, Ascending, HasEnds}
@@ -20,15 +21,13 @@ use Rattle.dn_net.specs.Rules.{block_in_range, dest_in_range, entry_in_range, sa
 use Rattle.dn_net.proofs.Apart.{node_apart}
 use Rattle.dn_net.proofs.Choices.{choice_of_step}
 use Rattle.dn_net.proofs.Kept.{kept_at}
-use Rattle.dn_net.proofs.Least.{maps_at, maps_at-cons, within_to, both_true}
+use Rattle.dn_net.proofs.Least.{maps_at, maps_at-cons, within_to}
 use Rattle.dn_net.proofs.Legs.{leads_in_range}
-use Rattle.dn_net.proofs.Places.{both}
 use Rattle.dn_net.proofs.Steps.{node_at}
 use Rattle.dn_walk.proofs.Ends.{end_in}
 use Rattle.dn_shape.specs.Absorb.{is_over_to, maps_to, leads_to, steps_past, rows_past, dest_of_end, entry_of_row, is_rewritten, node_led_past, node_past, nodes_past, net_past}
 use Rattle.dn_shape.specs.Views.{AbsorbKeepsRules}
 use Rattle.dn_shape.proofs.Absorbed.{Fit, fit_of, net_past_at, own_never}
-use Rattle.dn_shape.proofs.Closed.{true_and}
 use Rattle.dn_shape.proofs.Named.{NamesDiffer, texts, differ_as}
 use Rattle.dn_shape.proofs.Passing.{end_name, ends_past, ends_past_ascend, past_in}
 use Rattle.dn_shape.proofs.Ruled.{sends_no_vectors}
@@ -134,7 +133,7 @@ apart_dests x (y ∷ ys) up = by (apart_dests x ys up.1) (same_dest (dest_of_end
     by : list_any (same_dest (dest_of_end x)) (map dest_of_end ys) ≡ false → (b : Bool) → same_dest (dest_of_end x) (dest_of_end y) ≡ b → (b || list_any (same_dest (dest_of_end x)) (map dest_of_end ys)) ≡ false
     by ih false e = ih
     by ih true e =
-        let s = both_true (x.node == y.node) (x.base == y.base) e in
+        let s = and_parts (x.node == y.node) (x.base == y.base) e in
         absurd (elim (or (nat_lt x.node y.node) (x.node == y.node) (nat_lt x.base y.base) up.0) [
           | inl h ↦ never h (eqb-true x.node y.node s.0)
           | inr h ↦ never' h (eqb-true x.base y.base s.1)
@@ -156,10 +155,6 @@ no_dests : (p : Dest → Bool) (xs : List End) → ((x : End) → Member x xs �
 no_dests p [] each = refl
 no_dests p (x ∷ xs) each = rw (each x (inl refl), no_dests p xs (λ y m. each y (inr m))) refl
 
-no_and : (p : Bool) → (p && false) ≡ false
-no_and true = refl
-no_and false = refl
-
 -- at most one map block has an address, and none that is accepted
 not_overlapping : (x : ℕ) (b : Bool) → (x ≡ 0) ⊎ ((x ≡ 1) × (b ≡ false)) → (nat_lt 1 x || (nat_lt 0 x && b)) ≡ false
 not_overlapping x b (inl e) = subst (λ y. (nat_lt 1 y || (nat_lt 0 y && b)) ≡ false) (sym e) refl
@@ -177,9 +172,9 @@ led_formed net m i d formed leads = by d.unit refl formed
     by : (u : Option UnitPart) → d.unit ≡ u → IsTrue (formed_by d u) → IsTrue (formed_by (node_led_past net m i d) u)
     by None e f = f
     by (Some u) e f =
-        let bare = (both (is_unit d.role) (is_bare d) f).1 in
-        let p = (both (nat_le (length d.accepts) 0) (nat_le (length d.entries) 0 && not (is_some d.over)) bare).1 in
-        let q = both (nat_le (length d.entries) 0) (not (is_some d.over)) p in
+        let bare = (and_parts (is_unit d.role) (is_bare d) f).1 in
+        let p = (and_parts (nat_le (length d.accepts) 0) (nat_le (length d.entries) 0 && not (is_some d.over)) bare).1 in
+        let q = and_parts (nat_le (length d.entries) 0) (not (is_some d.over)) p in
         absurd (true≢false (sym leads ∙ nowhere d.entries d.over q.0 q.1))
 
 pub past_formed : (net : List NodeDecl) (m i : ℕ) (d : NodeDecl) → IsTrue (is_formed d) → IsTrue (is_formed (node_past net m i d))
@@ -220,7 +215,7 @@ module _ (net : List NodeDecl) (legal : IsLegalNet net) (m : ℕ) (n : NodeDecl)
         let o : r.lo ≤ r.hi = q.1 in
         let t : r.hi ≤ TOP = q.2 in
         let last : (e : End) → Member e r.ends → IsTrue (nat_le (e.base + (r.hi - r.lo)) top) = λ e g. le-leb (e.base + (r.hi - r.lo)) top (past_facts (record { node = i; addr = r.hi }) (end_name (end_moved (r.hi - r.lo) e)) (row_name r h r.hi o (omega arith) e g)).1 in
-        true_and (nat_le r.lo r.hi && nat_le r.hi top) (list_all (dest_in_range (record { lo = r.lo; hi = r.hi })) (map dest_of_end r.ends)) (true_and (nat_le r.lo r.hi) (nat_le r.hi top) (le-leb r.lo r.hi o) (le-leb r.hi top t)) (all_dests (dest_in_range (record { lo = r.lo; hi = r.hi })) r.ends last)
+        and_from (nat_le r.lo r.hi && nat_le r.hi top) (list_all (dest_in_range (record { lo = r.lo; hi = r.hi })) (map dest_of_end r.ends)) (and_from (nat_le r.lo r.hi) (nat_le r.hi top) (le-leb r.lo r.hi o) (le-leb r.hi top t)) (all_dests (dest_in_range (record { lo = r.lo; hi = r.hi })) r.ends last)
 
     -- the node and the address of each destination at the first address of its row
     row_first : (r : Seen) → Member r (rows_past net m i) → (e : End) → Member e r.ends → (e.node < length net) × ((e.node == m) ≡ false)
@@ -251,7 +246,7 @@ module _ (net : List NodeDecl) (legal : IsLegalNet net) (m : ℕ) (n : NodeDecl)
 
     led_keeps : (d : NodeDecl) → slice_get net i ≡ Some d → leads_to m d ≡ true → KeepsRules (node_led_past net m i d)
     led_keeps d here leads = record {
-      in_range = true_and (list_all block_in_range d.accepts) (list_all entry_in_range (map entry_of_row (rows_past net m i))) (both (list_all block_in_range d.accepts) (list_all entry_in_range d.entries) kept.in_range).0 (all_of_each entry_in_range (map entry_of_row (rows_past net m i)) (λ e h. let r = row_of_entry (rows_past net m i) e h in subst (λ f. IsTrue (entry_in_range f)) r.2 (row_in_range r.0 r.1)));
+      in_range = and_from (list_all block_in_range d.accepts) (list_all entry_in_range (map entry_of_row (rows_past net m i))) (and_parts (list_all block_in_range d.accepts) (list_all entry_in_range d.entries) kept.in_range).0 (all_of_each entry_in_range (map entry_of_row (rows_past net m i)) (λ e h. let r = row_of_entry (rows_past net m i) e h in subst (λ f. IsTrue (entry_in_range f)) r.2 (row_in_range r.0 r.1)));
       apart = λ a. not_overlapping (maps_at (map entry_of_row (rows_past net m i)) a) (in_some_block a d.accepts) (elim (maps_once 0 (rows_past net m i) a apart) [ inl e ↦ inl e | inr h ↦ inr (h.0, row_not_accepted d here a h.1) ]);
       once = ap (λ p. p || unit_repeats d.unit) (once_rows 0 (rows_past net m i) apart) ∙ unit_once;
       space = ap (λ b. not b || ((nat_le (length (map entry_of_row (rows_past net m i))) 0 && not (is_some (node_led_past net m i d).over)) && nat_le (accepted_count (node_led_past net m i d)) 4096)) no_vectors;
@@ -277,9 +272,9 @@ module _ (net : List NodeDecl) (legal : IsLegalNet net) (m : ℕ) (n : NodeDecl)
 
     led_refers : (d : NodeDecl) → IsTrue (refers_within (length net) d) → IsTrue (refers_within (length net) (node_led_past net m i d))
     led_refers d h =
-        let r = both (list_all (λ (e : Entry). list_all (λ (t : Dest). nat_lt t.node (length net)) e.dests) d.entries) (over_within (length net) d.over && ports_within (length net) d.unit) h in
-        let ports = (both (over_within (length net) d.over) (ports_within (length net) d.unit) r.1).1 in
-        true_and (list_all (λ (e : Entry). list_all (λ (t : Dest). nat_lt t.node (length net)) e.dests) (map entry_of_row (rows_past net m i))) (ports_within (length net) d.unit) (all_of_each (λ (e : Entry). list_all (λ (t : Dest). nat_lt t.node (length net)) e.dests) (map entry_of_row (rows_past net m i)) (λ e g. let q = row_of_entry (rows_past net m i) e g in subst (λ f. IsTrue (list_all (λ (t : Dest). nat_lt t.node (length net)) f.dests)) q.2 (all_dests (λ t. nat_lt t.node (length net)) q.0.ends (λ x k. lt-ltb x.node (length net) (row_first q.0 q.1 x k).0)))) ports
+        let r = and_parts (list_all (λ (e : Entry). list_all (λ (t : Dest). nat_lt t.node (length net)) e.dests) d.entries) (over_within (length net) d.over && ports_within (length net) d.unit) h in
+        let ports = (and_parts (over_within (length net) d.over) (ports_within (length net) d.unit) r.1).1 in
+        and_from (list_all (λ (e : Entry). list_all (λ (t : Dest). nat_lt t.node (length net)) e.dests) (map entry_of_row (rows_past net m i))) (ports_within (length net) d.unit) (all_of_each (λ (e : Entry). list_all (λ (t : Dest). nat_lt t.node (length net)) e.dests) (map entry_of_row (rows_past net m i)) (λ e g. let q = row_of_entry (rows_past net m i) e g in subst (λ f. IsTrue (list_all (λ (t : Dest). nat_lt t.node (length net)) f.dests)) q.2 (all_dests (λ t. nat_lt t.node (length net)) q.0.ends (λ x k. lt-ltb x.node (length net) (row_first q.0 q.1 x k).0)))) ports
 
     led_away : (d : NodeDecl) → leads_to m (node_led_past net m i d) ≡ false
     led_away d = ap (λ p. p || false) (none_of_each (maps_to m) (map entry_of_row (rows_past net m i)) (λ e g. let q = row_of_entry (rows_past net m i) e g in subst (λ f. maps_to m f ≡ false) q.2 (no_dests (λ t. t.node == m) q.0.ends (λ x k. (row_first q.0 q.1 x k).1))))

@@ -2,6 +2,7 @@
 use Rattle.std.proofs.Common.{◌≡◌, ℕ, zero, suc, ◌+◌, ◌<◌, ◌≤◌, Bool, true, false, not, ◌&&◌, ◌||◌, nat_le, List, [], ◌∷◌, map, length, Option, Some, None, option_map, slice_get, refl, sym, ap, ◌∙◌, arith, IsTrue, leb-true, le-leb}
 use Rattle.std.specs.List.{list_all}
 use Rattle.std.proofs.lemmas.Bool.{leb-false}
+use Rattle.dn_base.proofs.Booleans.{and_parts, not-not}
 use Rattle.dn_interval.specs.declared.span.Span.{Span}
 use Rattle.dn_interval.specs.Spans.{has, AreMaximal}
 use Rattle.dn_net.specs.declared.node.Block.{Block}
@@ -12,7 +13,6 @@ use Rattle.dn_net.proofs.Apart.{node_apart}
 use Rattle.dn_net.specs.Walks.{cut_each, whole}
 use Rattle.dn_net.proofs.Gaps.{Stand, cut_each_stands, accepts_upward, cut_each_has, whole_has}
 use Rattle.dn_net.proofs.Least.{within_to}
-use Rattle.dn_net.proofs.Places.{both}
 use Rattle.dn_walk.specs.Legs.{span_view}
 use Rattle.dn_walk.proofs.Holes.{spans_are_left}
 use Rattle.dn_shape.specs.Split.{maximal_spans, StandApart, SpansAreMaximal}
@@ -55,8 +55,8 @@ spans_have a bs =
 in_range_low : (a : ℕ) (bs : List Block) → IsTrue (list_all block_in_range bs) → nat_le a top ≡ false → in_some_block a bs ≡ false
 in_range_low a [] all past = refl
 in_range_low a (b ∷ bs) all past =
-    let r = both (block_in_range b) (list_all block_in_range bs) all in
-    let t : b.hi ≤ top = leb-true b.hi top (both (nat_le b.lo b.hi) (nat_le b.hi top) r.0).1 in
+    let r = and_parts (block_in_range b) (list_all block_in_range bs) all in
+    let t : b.hi ≤ top = leb-true b.hi top (and_parts (nat_le b.lo b.hi) (nat_le b.hi top) r.0).1 in
     let l = leb-false a top past in
     ap (λ p. p || in_some_block a bs) (none (within a b) refl t l) ∙ in_range_low a bs r.1 past
   where
@@ -80,13 +80,9 @@ maximal_in_range bs all = left_in_range (cut_each bs (whole ∷ [])) (left_in_ra
 pub spans_are_maximal : SpansAreMaximal
 spans_are_maximal bs all = (stand_apart 0 (maximal_spans bs) (maximal_stand bs all), λ a. spans_have a bs ∙ low a bs all)
 
-double : (p : Bool) → not (not p) ≡ p
-double true = refl
-double false = refl
-
 -- maximal spans that have what the blocks have
 pub spans_are : (bs : List Block) → IsTrue (list_all block_in_range bs) → (xs : List Span) → AreMaximal xs → ((a : ℕ) → a ≤ top → has xs a ≡ in_some_block a bs) → map span_view xs ≡ maximal_spans bs
-spans_are bs all xs maximal same = spans_are_left (cut_each bs (whole ∷ [])) (left_in_range bs all) xs maximal (λ a l. same a l ∙ sym (ap not (left_has a bs ∙ ap (λ p. p && not (in_some_block a bs)) (le-leb a top l)) ∙ double (in_some_block a bs)))
+spans_are bs all xs maximal same = spans_are_left (cut_each bs (whole ∷ [])) (left_in_range bs all) xs maximal (λ a l. same a l ∙ sym (ap not (left_has a bs ∙ ap (λ p. p && not (in_some_block a bs)) (le-leb a top l)) ∙ not-not (in_some_block a bs)))
 
 there_is : (ns : List NodeDecl) (k : ℕ) → k < length ns → slice_get ns k ≡ None → ⊥
 there_is [] k l g = absurd (omega arith)

@@ -1,12 +1,12 @@
 -- The steps of a node that is led past another: by its rows it decodes to the names past that node.
-use Rattle.std.proofs.Common.{◌≡◌, ℕ, suc, ◌-◌, ◌<◌, ◌≤◌, ◌↔◌, inl, inr, Bool, true, false, if◌then◌else◌, nat_le, List, [], ◌∷◌, map, slice_get, Some, None, refl, sym, ap, ◌∙◌, subst, arith, leb-true}
+use Rattle.std.proofs.Common.{◌≡◌, ℕ, suc, ◌-◌, ◌≤◌, ◌↔◌, inl, inr, Bool, true, false, if◌then◌else◌, nat_le, List, [], ◌∷◌, map, slice_get, Some, None, refl, sym, ap, ◌∙◌, subst, arith, leb-true}
 use Rattle.std.proofs.lemmas.Bool.{false≢true}
 use Rattle.dn_base.specs.Members.{Member}
 use Rattle.dn_interval.specs.declared.row.End.{End}
 use Rattle.dn_interval.specs.declared.span.TheConstants.{TOP}
 use Rattle.dn_interval.specs.Rows.{Ascending, moved as end_moved}
 use Rattle.dn_interval.specs.Listed.{Seen, SeenApart, SeenGive}
-use Rattle.dn_interval.proofs.Fronts.{listed_are_normal}
+use Rattle.dn_interval.proofs.Fronts.{listed_are_normal, none_below}
 use Rattle.dn_net.specs.declared.node.Name.{Name}
 use Rattle.dn_net.specs.declared.node.NodeDecl.{NodeDecl}
 use Rattle.dn_net.specs.Decode.{top, within, in_some_block, moved, by_entries, decode, sent_names, steps, Step}
@@ -37,18 +37,6 @@ sent_of_row k (e ∷ es) y =
       (λ m. elim m [ inl s ↦ inl (ap end_name s) | inr n ↦ inr (later.1 n) ]),
     )
 
--- rows from an address on give nothing below it
-nothing_below : (from : ℕ) (rows : List Seen) → SeenApart from rows → (a : ℕ) (y : End) → a < from → SeenGive rows a y → ⊥
-nothing_below from [] apart a y l g = g
-nothing_below from (r ∷ rows) apart a y l (inl g) =
-    let p : from ≤ r.lo = apart.0 in
-    let q : r.lo ≤ a = g.0 in
-    omega arith
-nothing_below from (r ∷ rows) apart a y l (inr g) =
-    let p : from ≤ r.lo = apart.0 in
-    let q : r.lo ≤ r.hi = apart.1 in
-    nothing_below (suc r.hi) rows apart.6 a y (omega arith) g
-
 -- an address goes by the row that has it to the names which the rows give
 by_rows : (from : ℕ) (rows : List Seen) → SeenApart from rows → (a : ℕ) (y : Name) → Member y (sent_names (by_entries a None (map entry_of_row rows))) ↔ SeenGive rows a (row_end y)
 by_rows from [] apart a y = ((λ m. m), (λ m. m))
@@ -60,7 +48,7 @@ by_rows from (r ∷ rows) apart a y = by (within a (record { lo = r.lo; hi = r.h
         let sent = sent_of_row (a - r.lo) r.ends y in
         let high : a ≤ r.hi = here.1 in (
           (λ m. inl (here.0, here.1, sent.0 m)),
-          (λ g. elim g [ inl h ↦ sent.1 h.2 | inr h ↦ absurd (nothing_below (suc r.hi) rows apart.6 a (row_end y) (omega arith) h) ]),
+          (λ g. elim g [ inl h ↦ sent.1 h.2 | inr h ↦ absurd (none_below (suc r.hi) rows apart.6 a (row_end y) (omega arith) h) ]),
         )
     by false w ih = ((λ m. inr (ih.0 m)), (λ g. elim g [ inl h ↦ absurd (false≢true (sym w ∙ within_from a (record { lo = r.lo; hi = r.hi }) h.0 h.1)) | inr h ↦ ih.1 h ]))
 

@@ -1,14 +1,14 @@
 -- A node from its parts, as they are read one by one.
-use Rattle.std.proofs.Common.{◌≡◌, ℕ, ◌+◌, ◌-◌, ◌<◌, ◌≤◌, Bool, true, false, nat_lt, List, ◌∷◌, length, slice_get, drop, get_or, Option, Some, None, option_map, refl, sym, ap, ◌∙◌, arith}
-use Rattle.dn_base.proofs.Lists.{drop_at}
+use Rattle.std.proofs.Common.{◌≡◌, ℕ, ◌+◌, ◌-◌, ◌<◌, ◌≤◌, Bool, true, false, nat_lt, List, ◌∷◌, length, slice_get, drop, get_or, Option, Some, option_map, refl, sym, ap, ◌∙◌, arith}
+use Rattle.dn_base.proofs.Lists.{drop_at, item_there}
 use Rattle.std.proofs.lemmas.Bool.{lt-ltb, ltb-true, ltb-false}
 use Rattle.std.proofs.lemmas.Option.{slice_get-get_or}
 use Rattle.dn_net.specs.declared.node.Entry.{Entry}
 use Rattle.dn_net.specs.declared.node.Unit.{Unit as UnitPart}
 use Rattle.dn_net.specs.declared.node.NodeDecl.{NodeDecl}
+use Rattle.dn_net.proofs.Faults.{part_is}
 use Rattle.dn_shape.specs.Absorb.{has_port}
 use Rattle.dn_shape.specs.Limits.{dest_limit, has_long_entry}
-use Rattle.dn_shape.proofs.Renamed.{node_there}
 use Rattle.std.specs.List.{list_any}
 
 -- the rest of the nodes from one on
@@ -19,18 +19,10 @@ pub record Rest (net : List NodeDecl) (i : ℕ) : Type 0 where
 
 pub rest_at : (net : List NodeDecl) (i : ℕ) → i < length net → Rest net i
 rest_at net i l =
-    let r = node_there net i l in
+    let r = item_there net i l in
     let s : ◌≡◌ {A = Option NodeDecl} (Some (get_or net i r.0)) (Some r.0) = sym (slice_get-get_or net i r.0 l) ∙ r.1 in
     let g : r.0 ≡ get_or net i r.0 = cc in
     record { node = r.0; at = r.1; rest = drop_at net i r.0 l g }
-
--- what is said of the node that is there
-pub said : {X : Type 0} (f : NodeDecl → X) (o : Option NodeDecl) (n : NodeDecl) (x : X) → o ≡ Some n → option_map f o ≡ Some x → f n ≡ x
-said f None n x e h = cc
-said f (Some d) n x e h =
-    let s : d ≡ n = cc in
-    let t : f d ≡ x = cc in
-    ap f (sym s) ∙ t
 
 -- two nodes of one place
 pub one_node : (o : Option NodeDecl) (n m : NodeDecl) → o ≡ Some n → o ≡ Some m → n ≡ m
@@ -38,7 +30,7 @@ one_node o n m e f = let s : ◌≡◌ {A = Option NodeDecl} (Some n) (Some m) =
 
 -- an entry of the node is too long where one of those that were read is
 pub long_by : (n : NodeDecl) (o : Option NodeDecl) (es : List Entry) → o ≡ Some n → option_map (λ d. d.entries) o ≡ Some es → has_long_entry n ≡ list_any (λ e. nat_lt dest_limit (length e.dests)) es
-long_by n o es e h = ap (λ l. list_any (λ (e : Entry). nat_lt dest_limit (length e.dests)) l) (said (λ d. d.entries) o n es e h)
+long_by n o es e h = ap (λ l. list_any (λ (e : Entry). nat_lt dest_limit (length e.dests)) l) (part_is (λ d. d.entries) o n es e h)
 
 -- the limit is passed by one node, or by the rest of them
 pub passed_now : (room x y : ℕ) → room < x → nat_lt room (x + y) ≡ true
@@ -61,4 +53,4 @@ passed_later room x k y e l = same (nat_lt room (x + y)) refl (nat_lt (room - k)
 
 -- whether the unit that a node is has the port
 pub port_by : (m : ℕ) (n : NodeDecl) (o : Option NodeDecl) (u : Option UnitPart) → o ≡ Some n → option_map (λ d. d.unit) o ≡ Some u → has_port m n.unit ≡ has_port m u
-port_by m n o u e h = ap (has_port m) (said (λ d. d.unit) o n u e h)
+port_by m n o u e h = ap (has_port m) (part_is (λ d. d.unit) o n u e h)

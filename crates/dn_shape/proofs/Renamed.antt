@@ -1,6 +1,8 @@
 -- The steps of a split net are those of the net, but that an address which a divided node accepted goes to its new node.
 use Rattle.std.proofs.Common.{◌≡◌, ℕ, zero, suc, ◌+◌, ◌-◌, ◌<◌, ◌≤◌, ◌⊎◌, inl, inr, Bool, true, false, if◌then◌else◌, ◌&&◌, ◌||◌, nat_le, List, [], ◌∷◌, ◌++◌, map, length, take, slice_get, Option, Some, None, refl, sym, ap, ◌∙◌, subst, arith, IsTrue}
 use Rattle.std.proofs.lemmas.Bool.{false≢true}
+use Rattle.dn_base.proofs.Booleans.{or_cases}
+use Rattle.dn_base.proofs.Lists.{item_there}
 use Rattle.dn_net.specs.declared.node.Block.{Block}
 use Rattle.dn_net.specs.declared.node.Entry.{Entry}
 use Rattle.dn_net.specs.declared.node.Name.{Name}
@@ -12,7 +14,7 @@ use Rattle.dn_net.specs.Rules.{KeepsNodeRules}
 use Rattle.dn_net.specs.Walks.{in_some_entry}
 use Rattle.dn_net.proofs.Apart.{IsApart, node_apart}
 use Rattle.dn_net.proofs.Choices.{choice_of_step}
-use Rattle.dn_net.proofs.Least.{either_true, within_to}
+use Rattle.dn_net.proofs.Least.{within_to}
 use Rattle.dn_net.proofs.Legs.{leads_within}
 use Rattle.dn_net.proofs.Steps.{node_at}
 use Rattle.dn_shape.specs.Split.{maximal_spans, is_divided, divided_count, entry_onto, sender_to, split_net, renamed_at, split_name}
@@ -23,7 +25,7 @@ use Rattle.dn_shape.proofs.Maximal.{spans_have}
 -- an entry that has an address
 entry_has : (a : ℕ) (es : List Entry) → in_some_entry a es ≡ true → (i : ℕ) × (e : Entry) × (slice_get es i ≡ Some e) × IsTrue (within a e.block)
 entry_has a [] h = cc
-entry_has a (e ∷ es) h = elim (either_true (within a e.block) (in_some_entry a es) h) [
+entry_has a (e ∷ es) h = elim (or_cases (within a e.block) (in_some_entry a es) h) [
   | inl w ↦ (0, e, refl, w)
   | inr m ↦ (let r = entry_has a es m in (suc r.0, r.1, r.2, r.3))
 ]
@@ -94,15 +96,6 @@ accepted_stays a n h = by (nat_le a top) (in_some_block a n.accepts) h
 pub chain_last : {X : Type 0} (S : X → X → Type 0) (k : ℕ) (x y z : X) → IsChain S k x y → S y z → IsChain S (suc k) x z
 chain_last S zero x y z c s = (z, subst (λ w. S w z) (sym c) s, refl)
 chain_last S (suc k) x y z c s = (c.0, c.1, chain_last S k c.0 y z c.2 s)
-
--- a node of a number that is there
-pub node_there : (net : List NodeDecl) (i : ℕ) → i < length net → (n : NodeDecl) × (slice_get net i ≡ Some n)
-node_there [] i l = absurd (omega arith)
-node_there (n ∷ net) zero l = (n, refl)
-node_there (n ∷ net) (suc i) l = node_there net i (omega arith)
-
-pub name_is : (m n a b : ℕ) → m ≡ n → a ≡ b → ◌≡◌ {A = Name} (record { node = m; addr = a }) (record { node = n; addr = b })
-name_is m n a b e f = λ i. record { node = e i; addr = f i }
 
 -- a step leads to a node that is there
 pub step_there : (net : List NodeDecl) → KeepsNodeRules net → (x y : Name) → Step net x y → y.node < length net
@@ -189,7 +182,7 @@ module _ (net : List NodeDecl) (legal : IsLegalNet net) where
   -- a chain of the split net is one of the net, or ends so
   chain_back : (k : ℕ) (x y : Name) → x.node < length net → IsChain (Step (split_net net)) k x y → (IsChain (Step net) k x y × (y.node < length net)) ⊎ Renamed k x y
   chain_back zero x y l c = inl (c, subst (λ (z : Name). z.node < length net) c l)
-  chain_back (suc k) x y l c = by (λ v there d. chain_back k v y there d) (node_there net x.node l)
+  chain_back (suc k) x y l c = by (λ v there d. chain_back k v y there d) (item_there net x.node l)
     where
       later : Step net x c.0 → (IsChain (Step net) k c.0 y × (y.node < length net)) ⊎ Renamed k c.0 y → (IsChain (Step net) (suc k) x y × (y.node < length net)) ⊎ Renamed (suc k) x y
       later s (inl r) = inl ((c.0, s, r.0), r.1)
@@ -271,7 +264,7 @@ module _ (net : List NodeDecl) (legal : IsLegalNet net) where
       dividing r n at false d = (y, (ap (is_accepted_at y.addr) (at ∙ sym (plain_at y.node n at d)) ∙ h, (k, l, r)), named_same y n at d)
 
       by : (IsChain (Step net) k x y × (y.node < length net)) ⊎ Renamed k x y → (z : Name) × Resolves net x z × (split_name net z ≡ y)
-      by (inl (r, m)) = let t = node_there net y.node m in dividing r t.0 t.1 (is_divided t.0) refl
+      by (inl (r, m)) = let t = item_there net y.node m in dividing r t.0 t.1 (is_divided t.0) refl
       by (inr r) =
           let m : r.count ≤ k = r.most in
           (r.end, (ap (is_accepted_at r.end.addr) r.at ∙ r.accepted, (r.count, omega arith, r.chain)), named_new r.end r.node r.at r.divided ∙ r.is)
@@ -296,7 +289,7 @@ module _ (net : List NodeDecl) (legal : IsLegalNet net) where
     where
       by : (IsChain (Step net) k x y × (y.node < length net)) ⊎ Renamed k x y → StopsAt net x y
       by (inl (r, m)) =
-          let t = node_there net y.node m in
+          let t = item_there net y.node m in
           (ap (is_stop_at y.addr) (sym (unit_kept y.node t.0 t.1)) ∙ h, (k, l, r))
       by (inr r) =
           let q = split_new_at net r.end.node r.node r.at r.divided in

@@ -3,6 +3,8 @@ use Rattle.std.proofs.Common.{◌≡◌, ℕ, suc, ◌+◌, ◌-◌, ◌<◌, �
 use Rattle.std.specs.List.{list_all, list_any}
 use Rattle.std.proofs.lemmas.Bool.{false≢true}
 use Rattle.dn_base.specs.Members.{Member}
+use Rattle.dn_base.proofs.Booleans.{and_parts, and-false, and_from}
+use Rattle.dn_base.proofs.Members.{member_all, member_of_all}
 use Rattle.dn_net.specs.declared.node.Block.{Block}
 use Rattle.dn_net.specs.declared.node.Entry.{Entry}
 use Rattle.dn_net.specs.declared.node.NodeDecl.{NodeDecl}
@@ -14,16 +16,16 @@ use Rattle.dn_net.proofs.Apart.{IsApart, node_apart}
 use Rattle.dn_net.proofs.Gaps.{Stand}
 use Rattle.dn_net.proofs.Kept.{few_maps}
 use Rattle.dn_net.proofs.Least.{maps_at, maps_at-cons, within_to}
-use Rattle.dn_net.proofs.Places.{both, names_still_differ}
+use Rattle.dn_net.proofs.Places.{names_still_differ}
 use Rattle.dn_shape.specs.Split.{maximal_spans, is_divided, divided_count, entry_onto, sender_to, sending_node, sending_nodes, accepter, with_accepter, with_accepters, split_net}
 use Rattle.dn_shape.specs.Views.{SplitKeepsRules}
-use Rattle.dn_shape.proofs.Closed.{true_and, split_closed}
+use Rattle.dn_shape.proofs.Closed.{split_closed}
 use Rattle.dn_shape.proofs.Divided.{sending_length, one_more, split_length}
 use Rattle.dn_shape.proofs.Free.{free_number_is_first}
 use Rattle.dn_shape.proofs.Maximal.{maximal_stand, maximal_in_range, spans_have}
 use Rattle.dn_shape.proofs.Named.{NamesDiffer, differ_as}
 use Rattle.dn_shape.proofs.Renamed.{none_maps}
-use Rattle.dn_shape.proofs.Sending.{sending_texts, sending_formed, accepter_formed, each_new, sent_from, all_of_each, none_of_each, each_of_all, all_each, each_all}
+use Rattle.dn_shape.proofs.Sending.{sending_texts, sending_formed, accepter_formed, each_new, sent_from, all_of_each, none_of_each, all_each}
 
 -- where a member of a list stands
 place : (net : List NodeDecl) (n : NodeDecl) → Member n net → (i : ℕ) × (slice_get net i ≡ Some n)
@@ -98,24 +100,20 @@ few_spans m from (b ∷ bs) a h = by (few_spans m (b.hi + 2) bs a h.3) (within a
 spans_in_range : (m : ℕ) (es : List Entry) (bs : List Block) → IsTrue (list_all entry_in_range es) → IsTrue (list_all block_in_range bs) → IsTrue (list_all entry_in_range (es ++ map (entry_onto m) bs))
 spans_in_range m [] [] all range = refl
 spans_in_range m [] (b ∷ bs) all range =
-    let r = both (block_in_range b) (list_all block_in_range bs) range in
-    let q = both (nat_le b.lo b.hi) (nat_le b.hi top) r.0 in
+    let r = and_parts (block_in_range b) (list_all block_in_range bs) range in
+    let q = and_parts (nat_le b.lo b.hi) (nat_le b.hi top) r.0 in
     let lo = leb-true b.lo b.hi q.0 in
     let hi = leb-true b.hi top q.1 in
     let reach : IsTrue (nat_le (b.lo + (b.hi - b.lo)) top) = le-leb (b.lo + (b.hi - b.lo)) top (omega arith) in
-    true_and (block_in_range b && (nat_le (b.lo + (b.hi - b.lo)) top && true)) (list_all entry_in_range (map (entry_onto m) bs)) (true_and (block_in_range b) (nat_le (b.lo + (b.hi - b.lo)) top && true) r.0 (true_and (nat_le (b.lo + (b.hi - b.lo)) top) true reach refl)) (spans_in_range m [] bs refl r.1)
+    and_from (block_in_range b && (nat_le (b.lo + (b.hi - b.lo)) top && true)) (list_all entry_in_range (map (entry_onto m) bs)) (and_from (block_in_range b) (nat_le (b.lo + (b.hi - b.lo)) top && true) r.0 (and_from (nat_le (b.lo + (b.hi - b.lo)) top) true reach refl)) (spans_in_range m [] bs refl r.1)
 spans_in_range m (e ∷ es) bs all range =
-    let r = both (entry_in_range e) (list_all entry_in_range es) all in
-    true_and (entry_in_range e) (list_all entry_in_range (es ++ map (entry_onto m) bs)) r.0 (spans_in_range m es bs r.1 range)
+    let r = and_parts (entry_in_range e) (list_all entry_in_range es) all in
+    and_from (entry_in_range e) (list_all entry_in_range (es ++ map (entry_onto m) bs)) r.0 (spans_in_range m es bs r.1 range)
 
 once_more : (m : ℕ) (es : List Entry) (bs : List Block) → list_any (λ (e : Entry). dests_repeat e.dests) (es ++ map (entry_onto m) bs) ≡ list_any (λ (e : Entry). dests_repeat e.dests) es
 once_more m [] [] = refl
 once_more m [] (b ∷ bs) = once_more m [] bs
 once_more m (e ∷ es) bs = ap (λ p. dests_repeat e.dests || p) (once_more m es bs)
-
-no_and : (p : Bool) → (p && false) ≡ false
-no_and true = refl
-no_and false = refl
 
 -- at most one map block has an address, and nothing is accepted
 not_overlapping : (x : ℕ) → x ≤ 1 → (nat_lt 1 x || (nat_lt 0 x && false)) ≡ false
@@ -123,7 +121,7 @@ not_overlapping x l = by (nat_lt 1 x) refl
   where
     by : (b : Bool) → nat_lt 1 x ≡ b → (b || (nat_lt 0 x && false)) ≡ false
     by true e = let k = ltb-true 1 x e in absurd (omega arith)
-    by false e = no_and (nat_lt 0 x)
+    by false e = and-false (nat_lt 0 x)
 
 -- a node that has a map or an `over` is no vectors node
 pub sends_no_vectors : (n : NodeDecl) → KeepsRules n → (nat_le (length n.entries) 0 ≡ true → not (is_some n.over) ≡ true → ⊥) → is_vectors n.role ≡ false
@@ -133,13 +131,13 @@ sends_no_vectors n kept sends = by (is_vectors n.role) refl
     by false e = refl
     by true e =
         let s : IsTrue ((nat_le (length n.entries) 0 && not (is_some n.over)) && nat_le (accepted_count n) 4096) = ap (λ b. not b || ((nat_le (length n.entries) 0 && not (is_some n.over)) && nat_le (accepted_count n) 4096)) (sym e) ∙ kept.space in
-        let p = both (nat_le (length n.entries) 0) (not (is_some n.over)) (both (nat_le (length n.entries) 0 && not (is_some n.over)) (nat_le (accepted_count n) 4096) s).0 in
+        let p = and_parts (nat_le (length n.entries) 0) (not (is_some n.over)) (and_parts (nat_le (length n.entries) 0 && not (is_some n.over)) (nat_le (accepted_count n) 4096) s).0 in
         absurd (sends p.0 p.1)
 
 -- a vectors node is not divided
 divided_no_vectors : (n : NodeDecl) → KeepsRules n → is_divided n ≡ true → is_vectors n.role ≡ false
 divided_no_vectors n kept d =
-    let q = (both (nat_lt 0 (length n.accepts)) (nat_lt 0 (length n.entries) || is_some n.over) d).1 in
+    let q = (and_parts (nat_lt 0 (length n.accepts)) (nat_lt 0 (length n.entries) || is_some n.over) d).1 in
     sends_no_vectors n kept (λ l m. none (nat_lt 0 (length n.entries)) refl (is_some n.over) (leb-true (length n.entries) 0 l) m q)
   where
     none : (u : Bool) → nat_lt 0 (length n.entries) ≡ u → (v : Bool) → length n.entries ≤ 0 → not v ≡ true → (u || v) ≡ true → ⊥
@@ -151,7 +149,7 @@ pub sent_keeps : (m : ℕ) (n : NodeDecl) → IsApart n → KeepsRules n → Kee
 sent_keeps m n apart kept = by (is_divided n) refl
   where
     parts : IsTrue (list_all block_in_range n.accepts) × IsTrue (list_all entry_in_range n.entries)
-    parts = both (list_all block_in_range n.accepts) (list_all entry_in_range n.entries) kept.in_range
+    parts = and_parts (list_all block_in_range n.accepts) (list_all entry_in_range n.entries) kept.in_range
 
     few : (a : ℕ) (b : Bool) → in_some_block a n.accepts ≡ b → maps_at (n.entries ++ map (entry_onto m) (maximal_spans n.accepts)) a ≤ 1
     few a true e =
@@ -161,7 +159,7 @@ sent_keeps m n apart kept = by (is_divided n) refl
         omega (arith, s, x, y)
     few a false e =
         let s = maps_append n.entries (map (entry_onto m) (maximal_spans n.accepts)) a in
-        let x : in_some_block a (maximal_spans n.accepts) ≡ false = spans_have a n.accepts ∙ ap (λ p. nat_le a top && p) e ∙ no_and (nat_le a top) in
+        let x : in_some_block a (maximal_spans n.accepts) ≡ false = spans_have a n.accepts ∙ ap (λ p. nat_le a top && p) e ∙ and-false (nat_le a top) in
         let y = no_spans m (maximal_spans n.accepts) a x in
         let z : maps_at n.entries a ≤ 1 = few_maps n kept a in
         omega (arith, s, y, z)
@@ -177,9 +175,9 @@ sent_keeps m n apart kept = by (is_divided n) refl
 
 pub accepter_keeps : (before : List NodeDecl) (n : NodeDecl) → KeepsRules n → KeepsRules (accepter before n)
 accepter_keeps before n kept =
-    let parts = both (list_all block_in_range n.accepts) (list_all entry_in_range n.entries) kept.in_range in
+    let parts = and_parts (list_all block_in_range n.accepts) (list_all entry_in_range n.entries) kept.in_range in
     record {
-      in_range = true_and (list_all block_in_range (maximal_spans n.accepts)) true (maximal_in_range n.accepts parts.0) refl;
+      in_range = and_from (list_all block_in_range (maximal_spans n.accepts)) true (maximal_in_range n.accepts parts.0) refl;
       apart = λ a. refl;
       once = refl;
       space = refl;
@@ -194,7 +192,7 @@ sent_whole m n = by (is_divided n) refl
     by false d = d
 
 accepter_whole : (before : List NodeDecl) (n : NodeDecl) → is_divided (accepter before n) ≡ false
-accepter_whole before n = no_and (nat_lt 0 (length (maximal_spans n.accepts)))
+accepter_whole before n = and-false (nat_lt 0 (length (maximal_spans n.accepts)))
 
 -- the names of the nodes differ as new ones are put behind them
 pub names_differ : (base ns : List NodeDecl) → NamesDiffer base → length base + divided_count ns ≤ node_limit → NamesDiffer (with_accepters base ns)
@@ -214,12 +212,12 @@ split_keeps_rules net legal few = (record { is_net = is_net; nodes = nodes }, no
     old_formed : (d : NodeDecl) → Member d (sending_nodes (length net) net) → IsTrue (is_formed d)
     old_formed d m =
         let r = sent_from (length net) net d m in
-        subst (λ e. IsTrue (is_formed e)) r.is (sending_formed r.number r.node (each_of_all is_formed net legal.is_net.formed r.node r.member))
+        subst (λ e. IsTrue (is_formed e)) r.is (sending_formed r.number r.node (member_all is_formed net r.node legal.is_net.formed r.member))
 
     old_kept : (d : NodeDecl) → Member d (sending_nodes (length net) net) → KeepsRules d
     old_kept d m =
         let r = sent_from (length net) net d m in
-        subst KeepsRules r.is (sent_keeps r.number r.node (apart_of r.node r.member) (each_all KeepsRules net legal.nodes.each r.node r.member))
+        subst KeepsRules r.is (sent_keeps r.number r.node (apart_of r.node r.member) (member_of_all KeepsRules net r.node legal.nodes.each r.member))
 
     room : length (sending_nodes (length net) net) + divided_count net ≤ node_limit
     room =
@@ -237,5 +235,5 @@ split_keeps_rules net legal few = (record { is_net = is_net; nodes = nodes }, no
     nodes : KeepsNodeRules (split_net net)
     nodes = record {
       closed = split_closed net legal.nodes.closed;
-      each = all_each KeepsRules (split_net net) (each_new KeepsRules (sending_nodes (length net) net) net old_kept (λ before n m. accepter_keeps before n (each_all KeepsRules net legal.nodes.each n m)));
+      each = all_each KeepsRules (split_net net) (each_new KeepsRules (sending_nodes (length net) net) net old_kept (λ before n m. accepter_keeps before n (member_of_all KeepsRules net n legal.nodes.each m)));
     }

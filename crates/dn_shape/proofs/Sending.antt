@@ -3,14 +3,13 @@ use Rattle.std.proofs.Common.{◌≡◌, ℕ, ◌+◌, ◌<◌, ◌≤◌, inl, 
 use mir.Val.{bool_byte}
 use Rattle.std.specs.List.{list_all, list_any}
 use Rattle.dn_base.specs.Members.{Member}
-use Rattle.dn_base.proofs.Members.{member_cases}
+use Rattle.dn_base.proofs.Members.{member_cases, member_get_or}
+use Rattle.dn_base.proofs.Booleans.{and_parts}
 use Rattle.dn_net.specs.declared.node.NodeDecl.{NodeDecl}
 use Rattle.dn_net.specs.declared.node.Unit.{Unit as UnitPart}
 use Rattle.std.specs.Str.{bytes_eq}
 use Rattle.dn_net.specs.Legal.{node_limit}
 use Rattle.dn_net.specs.Decode.{is_bare, is_formed, formed_by, is_unit}
-use Rattle.dn_net.proofs.Places.{both}
-use Rattle.dn_walk.proofs.Told.{at_member, member_of_all}
 use Rattle.dn_shape.specs.Split.{is_divided, new_nodes, divided_count, sender_to, sending_node, sending_nodes, accepter, with_accepter, with_accepters}
 use Rattle.dn_shape.proofs.Free.{free_number_is_first}
 use Rattle.dn_shape.proofs.Named.{NamesDiffer, texts, differ_as}
@@ -39,9 +38,9 @@ sending_texts next (n ∷ net) = ap (λ t. t ∷ texts (sending_nodes (next + ne
 -- a divided node is no unit
 divided_no_unit : (n : NodeDecl) (u : UnitPart) → is_divided n ≡ true → IsTrue (formed_by n (Some u)) → ⊥
 divided_no_unit n u d f =
-    let bare = (both (is_unit n.role) (is_bare n) f).1 in
-    let a = (both (nat_le (length n.accepts) 0) (nat_le (length n.entries) 0 && not (is_some n.over)) bare).0 in
-    let b = (both (nat_lt 0 (length n.accepts)) (nat_lt 0 (length n.entries) || is_some n.over) d).0 in
+    let bare = (and_parts (is_unit n.role) (is_bare n) f).1 in
+    let a = (and_parts (nat_le (length n.accepts) 0) (nat_le (length n.entries) 0 && not (is_some n.over)) bare).0 in
+    let b = (and_parts (nat_lt 0 (length n.accepts)) (nat_lt 0 (length n.entries) || is_some n.over) d).0 in
     let l = leb-true (length n.accepts) 0 a in
     let m = ltb-true 0 (length n.accepts) b in
     omega arith
@@ -60,7 +59,7 @@ sending_formed m n f = by (is_divided n) refl
 pub each_formed : (next : ℕ) (net : List NodeDecl) → IsTrue (list_all is_formed net) → IsTrue (list_all is_formed (sending_nodes next net))
 each_formed next [] all = refl
 each_formed next (n ∷ net) all =
-    let r = both (is_formed n) (list_all is_formed net) all in
+    let r = and_parts (is_formed n) (list_all is_formed net) all in
     rw (sending_formed next n r.0, each_formed (next + new_nodes n) net r.1) refl
 
 pub accepter_formed : (before : List NodeDecl) (n : NodeDecl) → IsTrue (is_formed (accepter before n))
@@ -105,16 +104,8 @@ pub none_of_each : {X : Type 0} (p : X → Bool) (xs : List X) → ((x : X) → 
 none_of_each p [] each = refl
 none_of_each p (x ∷ xs) each = rw (each x (inl refl), none_of_each p xs (λ y m. each y (inr m))) refl
 
-pub each_of_all : {X : Type 0} (p : X → Bool) (xs : List X) → IsTrue (list_all p xs) → (x : X) → Member x xs → IsTrue (p x)
-each_of_all p [] all x m = absurd m
-each_of_all p (y ∷ xs) all x (inl e) = subst (λ z. IsTrue (p z)) e (both (p y) (list_all p xs) all).0
-each_of_all p (y ∷ xs) all x (inr m) = each_of_all p xs (both (p y) (list_all p xs) all).1 x m
-
 pub all_each : {X : Type 0} (P : X → Type 0) (xs : List X) → ((x : X) → Member x xs → P x) → All P xs
-all_each P xs each = λ k d l. each _ (at_member xs k d l)
-
-pub each_all : {X : Type 0} (P : X → Type 0) (xs : List X) → All P xs → (x : X) → Member x xs → P x
-each_all P xs all x m = member_of_all P xs x all m
+all_each P xs each = λ k d l. each _ (member_get_or xs k d l)
 
 -- a node has one new node at most
 pub few_new : (n : NodeDecl) → new_nodes n ≤ 1

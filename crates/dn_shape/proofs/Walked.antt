@@ -4,7 +4,8 @@ use Rattle.std.specs.List.{flat_map}
 use Rattle.std.proofs.lemmas.Bool.{and_parts, and_from}
 use Rattle.std.proofs.lemmas.List.{map-append, append-nil, take_more}
 use Rattle.dn_base.specs.Members.{Member}
-use Rattle.dn_base.proofs.Members.{any_member, member_any}
+use Rattle.dn_base.proofs.Members.{any_member, member_any, map_member, member_map, member_get_or}
+use Rattle.dn_base.proofs.Lists.{item_there}
 use Rattle.dn_interval.specs.declared.row.End.{End}
 use Rattle.dn_interval.specs.declared.row.Row.{Row}
 use Rattle.dn_interval.specs.declared.row.Seg.{Seg}
@@ -24,10 +25,11 @@ use Rattle.dn_net.specs.Rules.{KeepsNodeRules}
 use Rattle.dn_net.specs.Walks.{Leads, Follows, Leg as NetLeg, legs, legs_of, Walk, last_out, meets, onto, extended, still, stills, level, moved_name}
 use Rattle.dn_net.proofs.Apart.{IsApart, node_apart}
 use Rattle.dn_net.proofs.Choices.{chain_is_walk, choice_of_step}
-use Rattle.dn_net.proofs.Least.{within_to, true_both}
+use Rattle.dn_net.proofs.Least.{within_to}
 use Rattle.dn_net.proofs.Legs.{leads_of_leg, leg_of_leads, leads_once, leads_in_range}
 use Rattle.dn_net.proofs.Levels.{IsRow, level_is_row}
-use Rattle.dn_net.proofs.Members.{member_map, map_member, member_filter, filter_member, member_flat_map, flat_map_member}
+use Rattle.dn_net.proofs.Members.{member_filter, filter_member, member_flat_map, flat_map_member}
+use Rattle.dn_net.proofs.Resolution.{name_is}
 use Rattle.dn_walk.specs.declared.leg.Leg.{Leg}
 use Rattle.dn_walk.specs.declared.walks.WalkRow.{WalkRow}
 use Rattle.dn_walk.specs.Legs.{told_leg, told_legs, legs_by, AreLegs}
@@ -35,12 +37,10 @@ use Rattle.dn_walk.specs.Levels.{told_onto, told_on}
 use Rattle.dn_walk.specs.Rows.{Told, row_view, told_by_walk}
 use Rattle.dn_walk.proofs.Bridge.{met_told, each_onto}
 use Rattle.dn_walk.proofs.Nodes.{legs_are, legs_of_node}
-use Rattle.dn_walk.proofs.Told.{at_member}
 use Rattle.dn_walk.proofs.Ends.{end_in}
 use Rattle.dn_shape.specs.Absorb.{steps_past, rows_past}
 use Rattle.dn_shape.specs.Past.{LeadOn, onward, walks_past, told_onward, told_gives, told_give}
 use Rattle.dn_shape.proofs.Passing.{end_name, ends_past, ends_past_ascend, past_in}
-use Rattle.dn_shape.proofs.Renamed.{name_is, node_there}
 
 -- what is told of the walks that go on by the legs of a node
 pub told_on_is : (w : Walk) (ls : List NetLeg) → told_on (map told_leg ls) (told_by_walk w) ≡ map told_by_walk (map (onto w) (filter (meets w) ls))
@@ -86,7 +86,7 @@ legs_read (Some d) a e v ls p q r s =
 
 -- by which walks go on
 pub legs_lead : (net : List NodeDecl) → KeepsNodeRules net → (i : ℕ) (ls : List Leg) → i < length net → option_map told_legs (slice_get net i) ≡ Some ls → LeadOn ls
-legs_lead net rules i ls l e = by (node_there net i l)
+legs_lead net rules i ls l e = by (item_there net i l)
   where
     lead : AreLegs (length net) ls → LeadOn ls
     lead h = record { firsts = h.firsts; lasts = h.lasts; order = λ k d b. (h.each k d b).order; low = λ k d b. (h.each k d b).low; far = λ k d b. (h.each k d b).reach }
@@ -99,7 +99,7 @@ legs_lead net rules i ls l e = by (node_there net i l)
 
 -- rows that tell of walks
 row_walk : (ws : List Walk) (rows : List WalkRow) → map row_view rows ≡ map told_by_walk ws → (k : ℕ) (d : WalkRow) → k < length rows → (w : Walk) × Member w ws × (told_by_walk w ≡ row_view (get_or rows k d))
-row_walk ws rows e k d l = member_map told_by_walk ws (row_view (get_or rows k d)) (subst (λ x. Member (row_view (get_or rows k d)) x) e (map_member row_view rows (get_or rows k d) (at_member rows k d l)))
+row_walk ws rows e k d l = map_member told_by_walk ws (row_view (get_or rows k d)) (subst (λ x. Member (row_view (get_or rows k d)) x) e (member_map row_view rows (get_or rows k d) (member_get_or rows k d l)))
 
 pub rows_far : (net : List NodeDecl) (ws : List Walk) (rows : List WalkRow) → ((w : Walk) → Member w ws → (k : ℕ) × IsRow net k w) → map row_view rows ≡ map told_by_walk ws → All (λ (r : WalkRow). r.base + (r.span.hi - r.span.lo) ≤ TOP) rows
 rows_far net ws rows each e = λ k d l. far (get_or rows k d) (row_walk ws rows e k d l)
@@ -171,7 +171,7 @@ module _ (net : List NodeDecl) (rules : KeepsNodeRules net) (m i : ℕ) (there :
   -- a leg of which a walk is made
   leg_of : (v w : Walk) → Member w (extended net v) → (l : NetLeg) × Leads (slice_get net v.to.node) l.choice l.block l.to × (onto v l ≡ w)
   leg_of v w h =
-      let p = member_map (onto v) (filter (meets v) (legs_of (slice_get net v.to.node))) w h in
+      let p = map_member (onto v) (filter (meets v) (legs_of (slice_get net v.to.node))) w h in
       let q = member_filter (meets v) (legs_of (slice_get net v.to.node)) p.0 p.1 in
       (p.0, leads_of_leg (slice_get net v.to.node) (λ n e. apart_at v.to.node n e) p.0 q.0, p.2)
 
@@ -232,11 +232,11 @@ module _ (net : List NodeDecl) (rules : KeepsNodeRules net) (m i : ℕ) (there :
         let b1 : c.block.hi ≤ top = range.1 in
         let lo : 0 ≤ c.block.hi = omega arith in
         let hi : c.block.lo ≤ 0 + (top - 0) = omega arith in
-        let met : IsTrue (meets (still i) l) = true_both (nat_le 0 c.block.hi) (nat_le c.block.lo (0 + (top - 0))) (le-leb 0 c.block.hi lo) (le-leb c.block.lo (0 + (top - 0)) hi) in
+        let met : IsTrue (meets (still i) l) = and_from (nat_le 0 c.block.hi) (nat_le c.block.lo (0 + (top - 0))) (le-leb 0 c.block.hi lo) (le-leb c.block.lo (0 + (top - 0)) hi) in
         record {
           leg = l;
           leads = c.leads;
-          member = map_member (onto (still i)) (filter (meets (still i)) (legs_of (slice_get net i))) l (filter_member (meets (still i)) (legs_of (slice_get net i)) l leg met);
+          member = member_map (onto (still i)) (filter (meets (still i)) (legs_of (slice_get net i))) l (filter_member (meets (still i)) (legs_of (slice_get net i)) l leg met);
           inside = c.inside;
           to = c.to;
         }
@@ -284,8 +284,8 @@ module _ (net : List NodeDecl) (rules : KeepsNodeRules net) (m i : ℕ) (there :
             let j1 : z.addr ≤ c.block.hi = j.1 in
             let m0 : v.to.addr ≤ c.block.hi = omega arith in
             let m1 : c.block.lo ≤ v.to.addr + (v.span.hi - v.span.lo) = omega arith in
-            let met : IsTrue (meets v k) = true_both (nat_le v.to.addr c.block.hi) (nat_le c.block.lo (last_out v)) (le-leb v.to.addr c.block.hi m0) (le-leb c.block.lo (last_out v) m1) in
-            let on : Member (onto v k) (extended net v) = map_member (onto v) (filter (meets v) (legs_of (slice_get net v.to.node))) k (filter_member (meets v) (legs_of (slice_get net v.to.node)) k leg met) in
+            let met : IsTrue (meets v k) = and_from (nat_le v.to.addr c.block.hi) (nat_le c.block.lo (last_out v)) (le-leb v.to.addr c.block.hi m0) (le-leb c.block.lo (last_out v) m1) in
+            let on : Member (onto v k) (extended net v) = member_map (onto v) (filter (meets v) (legs_of (slice_get net v.to.node))) k (filter_member (meets v) (legs_of (slice_get net v.to.node)) k leg met) in
             let s = level_is_row net rules 2 (onto v k) (second_level v (onto v k) w.member on) in
             let next : Follows net z (k.choice ∷ []) y = (c.block, c.name, c.leads, c.inside, c.to) in
             let both : Follows net here (w.leg.choice ∷ (k.choice ∷ [])) y = (w.leg.block, w.leg.to, w.leads, w.inside, subst (λ x. Follows net x (k.choice ∷ []) y) (sym w.to) next) in
@@ -305,7 +305,7 @@ module _ (net : List NodeDecl) (rules : KeepsNodeRules net) (m i : ℕ) (there :
         there' : told_give (map told_by_walk (walks_past net m i)) a y ≡ true → Member y (ends_past net m i a)
         there' h =
             let r = any_member (λ t. told_gives t a y) (map told_by_walk (walks_past net m i)) h in
-            let w = member_map told_by_walk (walks_past net m i) r.0 r.1 in
+            let w = map_member told_by_walk (walks_past net m i) r.0 r.1 in
             let g = gives_to w.0 a y (ap (λ t. told_gives t a y) w.2 ∙ r.2) in
             let f = member_flat_map (onward net m) (extended net (still i)) w.0 w.1 in
             (end_in (steps_past net m here) (end_name y)).1 (given_past (end_name y) f.0 f.1 w.0 (f.0.to.node == m) refl f.2 g.0 g.1)
@@ -313,7 +313,7 @@ module _ (net : List NodeDecl) (rules : KeepsNodeRules net) (m i : ℕ) (there :
         back : Member y (ends_past net m i a) → told_give (map told_by_walk (walks_past net m i)) a y ≡ true
         back h =
             let g = past_given (end_name y) ((end_in (steps_past net m here) (end_name y)).0 h) in
-            member_any (λ t. told_gives t a y) (map told_by_walk (walks_past net m i)) (told_by_walk g.walk) (map_member told_by_walk (walks_past net m i) g.walk g.member) (gives_from g.walk a y g.inside g.to)
+            member_any (λ t. told_gives t a y) (map told_by_walk (walks_past net m i)) (told_by_walk g.walk) (member_map told_by_walk (walks_past net m i) g.walk g.member) (gives_from g.walk a y g.inside g.to)
 
 pub first_row : (net : List NodeDecl) → KeepsNodeRules net → (i : ℕ) → i < length net → (w : Walk) → Member w (extended net (still i)) → IsRow net 1 w
 first_row net rules i there w h = level_is_row net rules 1 w (first_level net rules i i there w h)

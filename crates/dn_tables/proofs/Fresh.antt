@@ -183,7 +183,7 @@ zero_words (w ∷ ws) all =
     let b = and_parts (w == 0) (list_all (λ v. v == 0) ws) all in
     ap (λ v. v ∷ ws) (eqb-true w 0 b.0) ∙ ap (λ (l : List ℕ). 0 ∷ l) (zero_words ws b.1)
 
-zeros_zero : (n : ℕ) → IsTrue (list_all (λ w. w == 0) (replicate n 0))
+pub zeros_zero : (n : ℕ) → IsTrue (list_all (λ w. w == 0) (replicate n 0))
 zeros_zero zero = refl
 zeros_zero (suc n) = zeros_zero n
 

@@ -4,4 +4,5 @@ pub mod Gates
 pub mod Kept
 pub mod Made
 pub mod Slots
+pub mod Units
 pub mod Values

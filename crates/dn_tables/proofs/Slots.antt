@@ -25,10 +25,6 @@ pub on_ok : {A E : Type 0} (r : Result A E) (P : Type 0) → (is_err r ≡ false
 on_ok (Ok x) P h = h refl
 on_ok (Err e) P h = tt
 
-pub on_ok_then : {A E : Type 0} (r : Result A E) (P Q : Type 0) → (P → Q) → OnOk r P → OnOk r Q
-on_ok_then (Ok x) P Q h p = h p
-on_ok_then (Err e) P Q h p = tt
-
 pub on_err : {A E : Type 0} (r : Result A E) (P : Type 0) → (is_err r ≡ true → P) → OnErr r P
 on_err (Ok x) P h = tt
 on_err (Err e) P h = h refl

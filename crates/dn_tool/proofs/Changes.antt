@@ -7,6 +7,7 @@ use Rattle.dn_base.specs.Device.{Logged}
 use Rattle.dn_base.specs.Outside.{Added, IsWritten}
 use Rattle.dn_base.proofs.Logs.{Logged-none}
 use Rattle.dn_base.proofs.Told.{Added-none}
+use Rattle.dn_base.proofs.Booleans.{true_from_ne_false}
 use Rattle.dn_net.specs.declared.node.NodeDecl.{NodeDecl}
 use Rattle.dn_net.specs.Chain.{Member}
 use Rattle.dn_kind.specs.Kind.{Meaning}
@@ -341,11 +342,6 @@ change_halted P r h r' next told log log' e f c =
     let halted : (told : Option (List ℕ)) → IsHalted P h told told log log' = subst (λ (q : Result (List ℕ) Halt). CameThroughChange P q next log log') e c in
     subst (λ (q : Result (Unit {0}) Halt). CameThrough P q next told told log log') (sym f) (halted told)
 
--- an id of which it is not said that no grant has it
-pub lives_by : (b : Bool) → (b ≡ false → ⊥) → b ≡ true
-lives_by true f = refl
-lives_by false f = absurd (f refl)
-
 -- a state of which the book and the ids are as they were
 pub state_kept : (k k' : Kept) → k'.book ≡ k.book → k'.ids ≡ k.ids → state_view k ≡ state_view k'
 state_kept k k' b i =
@@ -376,7 +372,7 @@ state_routed kinds net k after id agent line node n v book log log' number made 
 pub state_revoked : (kinds : List Meaning) (net : List NodeDecl) (k after : Kept) (id : List ℕ) (n : ℕ) (book : BookState) (log log' : Option (List TableEvent)) → n ≡ id_number k.ids id → (has_id n k.book.grants ≡ false → ⊥) → ((g : Grant) → Member g k.book.grants → g.id ≡ n → AreAdded (revoke_events net kinds k.book.grants g) false log log') → book.grants ≡ without n k.book.grants → after.book ≡ book → after.ids ≡ with_id k.ids id → book.cleared ≡ true → IsChanged (IsRevokeTurn kinds net (state_view k) id) (state_view after) (revoked_text id) log log'
 state_revoked kinds net k after id n book log log' number known added taken b i cleared =
     revoked_turn kinds net (state_view k) (state_view after) id book.grants log log'
-    (subst (λ m. has_id m k.book.grants ≡ true) number (lives_by (has_id n k.book.grants) known))
+    (subst (λ m. has_id m k.book.grants ≡ true) number (true_from_ne_false (has_id n k.book.grants) known))
     (λ g m e. added g m (e ∙ sym number))
     (taken ∙ ap (λ m. without m k.book.grants) number)
     (state_left after book (with_id k.ids id) true b i cleared)

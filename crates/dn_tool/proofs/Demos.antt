@@ -16,7 +16,6 @@ use Rattle.dn_net.specs.Rules.{count_below}
 use Rattle.dn_net.proofs.Tally.{count_below-suc}
 use Rattle.dn_kind.specs.Kind.{Meaning}
 use Rattle.dn_module.specs.declared.command.Command.{Command}
-use Rattle.dn_module.specs.declared.command.Command.TheVariants.{Resolve, Lookup, View, Grant, Route, Revoke, Dump, Split, Absorb}
 use Rattle.dn_tables.specs.declared.table.NodeTable.{NodeTable}
 use Rattle.dn_tables.specs.Set.{IsOnDevice, fresh_set, tables_of_set}
 use Rattle.dn_tables.specs.Writes.{AreUnitsMade}
@@ -33,16 +32,12 @@ use Rattle.dn_tool.specs.Played.{IsPlayed, device_tables}
 use Rattle.dn_tool.specs.State.{CameThrough, IsChanged, IsTurned}
 use Rattle.dn_tool.specs.Turn.{IsTurn, State, Turn, answered, is_change, reply, start, state_after}
 use Rattle.dn_tool.proofs.Played.{IsGone, device_told, gone_more, gone_start, halted_by, halted_unmade, more_turns, played_whole, turns_count, unmade_by, whole_turns}
+use Rattle.dn_tool.proofs.Changes.{still_turn}
 
 -- a test that passes counts one at most
 pub one_at_most : (b : Bool) → (if b then 1 else 0) ≤ 1
 one_at_most true = omega arith
 one_at_most false = omega arith
-
--- no number, and one number more
-pub count_none : (p : ℕ → Bool) → count_below p 0 ≡ 0
-unfolding count_below
-count_none p = refl
 
 pub count_more : (p : ℕ → Bool) (k : ℕ) → count_below p (k + 1) ≡ count_below p k + (if p k then 1 else 0)
 count_more p k = let next : k + 1 ≡ suc k = omega arith in ap (count_below p) next ∙ count_below-suc p k
@@ -54,18 +49,6 @@ sum_none f = refl
 pub sum_more : (f : ℕ → ℕ) (k : ℕ) → sum_below f (k + 1) ≡ sum_below f k + f k
 unfolding sum_below
 sum_more f k = let next : k + 1 ≡ suc k = omega arith in ap (sum_below f) next
-
--- the turn of a command that changes nothing
-still_turn : (kinds : List Meaning) (net : List NodeDecl) (s : State) (c : Command) → is_change c ≡ false → IsTurn kinds net s c (answered (reply kinds net s.book c) s)
-still_turn kinds net s (Resolve target a m) e = refl
-still_turn kinds net s (Lookup target a m) e = refl
-still_turn kinds net s (View target m) e = refl
-still_turn kinds net s (Grant id from target base size m) e = cc
-still_turn kinds net s (Route id from line target) e = cc
-still_turn kinds net s (Revoke id) e = cc
-still_turn kinds net s Dump e = refl
-still_turn kinds net s Split e = refl
-still_turn kinds net s (Absorb target) e = refl
 
 -- it was gone through, where its reply is told to no one
 pub quiet_still : (kinds : List Meaning) (net : List NodeDecl) (s : State) (c : Command) (log : Option (List TableEvent)) → is_change c ≡ false → IsTurned (IsTurn kinds net s c) s None None log log

@@ -3,14 +3,15 @@ use Rattle.std.proofs.Common.{◌≡◌, ◌∙◌, ap, sym, subst, refl, arith,
 use Rattle.std.specs.List.{list_all}
 use Rattle.std.proofs.lemmas.Bool.{and_parts, cases_lt}
 use Rattle.std.proofs.lemmas.Option.{slice_get_past}
+use Rattle.dn_base.proofs.Booleans.{and_from}
 use Rattle.dn_net.specs.declared.node.NodeDecl.{NodeDecl}
 use Rattle.dn_net.specs.declared.node.Unit.{Unit as UnitPart}
 use Rattle.dn_net.specs.Decode.{unit_at, unit_of}
-use Rattle.dn_net.proofs.Least.{true_both}
 use Rattle.dn_kind.specs.Kind.{Meaning}
 use Rattle.dn_tables.specs.declared.table.NodeTable.{NodeTable}
 use Rattle.dn_tables.specs.Set.{FitsNet, IsSet, fits_by, fits_kinds, is_sized, is_sized_by, is_wide, unit_in, units_of, words_in, words_of}
 use Rattle.dn_tables.proofs.Kept.{sized_unit}
+use Rattle.dn_tables.proofs.Units.{unit_by_units}
 use Rattle.dn_image.specs.Image.{are_filled, is_filled, width_by, word_count}
 
 -- words of 64 bits
@@ -20,16 +21,16 @@ are_small ws = list_all (λ w. nat_lt w (2 ^ 64)) ws
 -- the words of a slice are so
 pub all_small : (ws : List ℕ) → ((i : ℕ) → get_or ws i 0 < 2 ^ 64) → IsTrue (are_small ws)
 all_small [] each = refl
-all_small (w ∷ ws) each = true_both (nat_lt w (2 ^ 64)) (are_small ws) (lt-ltb w (2 ^ 64) (each 0)) (all_small ws (λ i. each (suc i)))
+all_small (w ∷ ws) each = and_from (nat_lt w (2 ^ 64)) (are_small ws) (lt-ltb w (2 ^ 64) (each 0)) (all_small ws (λ i. each (suc i)))
 
 -- and words of which those behind the last of a slice are all one value
 pub all_small_and : (ws : List ℕ) (n w : ℕ) → IsTrue (are_small ws) → IsTrue (are_small (w ∷ [])) → IsTrue (are_small (ws ++ replicate n w))
 all_small_and [] zero w each rest = refl
 all_small_and [] (suc n) w each rest =
-    true_both (nat_lt w (2 ^ 64)) (are_small (replicate n w)) (and_parts (nat_lt w (2 ^ 64)) true rest).0 (all_small_and [] n w each rest)
+    and_from (nat_lt w (2 ^ 64)) (are_small (replicate n w)) (and_parts (nat_lt w (2 ^ 64)) true rest).0 (all_small_and [] n w each rest)
 all_small_and (v ∷ ws) n w each rest =
     let b = and_parts (nat_lt v (2 ^ 64)) (are_small ws) each in
-    true_both (nat_lt v (2 ^ 64)) (are_small (ws ++ replicate n w)) b.0 (all_small_and ws n w b.1 rest)
+    and_from (nat_lt v (2 ^ 64)) (are_small (ws ++ replicate n w)) b.0 (all_small_and ws n w b.1 rest)
 
 -- a table has as many words as its kind and its slots ask for
 width_is : (k : Option Meaning) (width : ℕ) → IsTrue (is_wide k width) → width ≡ width_by k
@@ -46,7 +47,7 @@ count_is kinds t (Some u) sized fits =
     sized_words t u s = (sized_unit t u s).words
 
 filled_table : (kinds : List Meaning) (t : NodeTable) → IsTrue (is_sized t) → IsTrue (fits_by kinds t.width t.unit) → IsTrue (are_small t.words) → IsTrue (is_filled kinds t.unit t.words)
-filled_table kinds t sized fits small = true_both _ _ (eq-eqb (length t.words) (word_count kinds t.unit) (count_is kinds t t.unit sized fits)) small
+filled_table kinds t sized fits small = and_from _ _ (eq-eqb (length t.words) (word_count kinds t.unit) (count_is kinds t t.unit sized fits)) small
 
 filled_from : (kinds : List Meaning) (set : List NodeTable) (net : List NodeDecl) → units_of set ≡ map (λ n. n.unit) net → IsTrue (fits_kinds kinds set) → IsTrue (list_all is_sized set) → ((j : ℕ) → IsTrue (are_small (words_in set j))) → IsTrue (are_filled kinds net (words_of set))
 filled_from kinds [] [] e fits sized small = refl
@@ -58,19 +59,11 @@ filled_from kinds (t ∷ ts) (n ∷ ns) e fits sized small =
     let f = and_parts (fits_by kinds t.width t.unit) (fits_kinds kinds ts) fits in
     let s = and_parts (is_sized t) (list_all is_sized ts) sized in
     let first : IsTrue (is_filled kinds n.unit t.words) = subst (λ o. IsTrue (is_filled kinds o t.words)) unit (filled_table kinds t s.0 f.0 (small 0)) in
-    true_both _ _ first (filled_from kinds ts ns rest f.1 s.1 (λ j. small (suc j)))
+    and_from _ _ first (filled_from kinds ts ns rest f.1 s.1 (λ j. small (suc j)))
 
 -- the tables have the words of each node
 pub filled_by : (kinds : List Meaning) (net : List NodeDecl) (set : List NodeTable) → IsSet set → FitsNet net kinds set → ((j : ℕ) → IsTrue (are_small (words_in set j))) → IsTrue (are_filled kinds net (words_of set))
 filled_by kinds net set is fits small = filled_from kinds set net fits.units fits.wide is.sized small
-
--- the unit of a node
-pub unit_same : (set : List NodeTable) (net : List NodeDecl) (node : ℕ) → units_of set ≡ map (λ n. n.unit) net → unit_in set node ≡ unit_at net node
-unit_same [] [] node e = refl
-unit_same [] (n ∷ ns) node e = cc
-unit_same (t ∷ ts) [] node e = cc
-unit_same (t ∷ ts) (n ∷ ns) zero e = cc
-unit_same (t ∷ ts) (n ∷ ns) (suc node) e = let rest : units_of ts ≡ map (λ n. n.unit) ns = cc in unit_same ts ns node rest
 
 -- a node that is no unit has no words
 pub bare_small : (set : List NodeTable) (node : ℕ) → IsTrue (list_all is_sized set) → unit_in set node ≡ None → IsTrue (are_small (words_in set node))
@@ -86,7 +79,7 @@ bare_small (t ∷ ts) (suc node) sized none = bare_small ts node (and_parts (is_
 
 -- beyond the last node there is no unit
 past_small : (set : List NodeTable) (net : List NodeDecl) (node : ℕ) → IsTrue (list_all is_sized set) → units_of set ≡ map (λ n. n.unit) net → length net ≤ node → IsTrue (are_small (words_in set node))
-past_small set net node sized units past = bare_small set node sized (unit_same set net node units ∙ ap unit_of (slice_get_past net node past))
+past_small set net node sized units past = bare_small set node sized (unit_by_units net set units node ∙ ap unit_of (slice_get_past net node past))
 
 -- the words of all nodes are of 64 bits where those of the first are, as many as the net has
 pub each_small : (set : List NodeTable) (net : List NodeDecl) → IsSet set → units_of set ≡ map (λ n. n.unit) net → ((j : ℕ) → j < length net → IsTrue (are_small (words_in set j))) → (j : ℕ) → IsTrue (are_small (words_in set j))
@@ -98,7 +91,7 @@ each_small set net is units first j = by (cases_lt j (length net))
 
 -- a node that is a unit in the net is one in the set
 pub unit_there : (set : List NodeTable) (net : List NodeDecl) (node : ℕ) → units_of set ≡ map (λ n. n.unit) net → is_some (unit_at net node) ≡ true → IsSome (unit_in set node)
-unit_there set net node units e = by (unit_in set node) (ap is_some (unit_same set net node units) ∙ e)
+unit_there set net node units e = by (unit_in set node) (ap is_some (unit_by_units net set units node) ∙ e)
   where
     by : (o : Option UnitPart) → is_some o ≡ true → IsSome o
     by None f = cc
@@ -106,7 +99,7 @@ unit_there set net node units e = by (unit_in set node) (ap is_some (unit_same s
 
 -- and one that is none has no words
 pub none_there : (set : List NodeTable) (net : List NodeDecl) (node : ℕ) → IsSet set → units_of set ≡ map (λ n. n.unit) net → is_some (unit_at net node) ≡ false → IsTrue (are_small (words_in set node))
-none_there set net node is units e = by (unit_in set node) refl (ap is_some (unit_same set net node units) ∙ e)
+none_there set net node is units e = by (unit_in set node) refl (ap is_some (unit_by_units net set units node) ∙ e)
   where
     by : (o : Option UnitPart) → unit_in set node ≡ o → is_some o ≡ false → IsTrue (are_small (words_in set node))
     by None at f = bare_small set node is.sized at

@@ -1,9 +1,10 @@
 -- The nets that splitting and absorbing make of a printable legal net are printable: what no rule and no limit says of a
 -- node, each node of them keeps.
-use Rattle.std.proofs.Common.{◌≡◌, ◌∙◌, ap, sym, refl, subst, ℕ, zero, suc, ◌+◌, ◌-◌, ◌<◌, ◌≤◌, ◌^◌, Bool, true, false, cond, if◌then◌else◌, nat_le, nat_lt, List, [], ◌∷◌, ◌++◌, map, length, codes, slice_get, sum, Option, Some, None, Result, Ok, Err, IsTrue, arith, leb-true, ltb-false}
+use Rattle.std.proofs.Common.{◌≡◌, ◌∙◌, ap, sym, refl, subst, ℕ, suc, ◌+◌, ◌-◌, ◌<◌, ◌≤◌, ◌^◌, Bool, true, false, cond, if◌then◌else◌, nat_le, nat_lt, List, [], ◌∷◌, ◌++◌, map, length, codes, slice_get, sum, Option, Some, None, Result, Ok, Err, IsTrue, arith, leb-true, ltb-false}
 use Rattle.std.specs.Fmt.{decimal}
 use Rattle.std.specs.List.{list_all, list_any}
 use Rattle.std.proofs.lemmas.Bool.{and_parts, or_parts}
+use Rattle.dn_base.proofs.Lists.{item_there, Each, each_implied}
 use Rattle.dn_interval.specs.declared.row.End.{End}
 use Rattle.dn_interval.specs.Rows.{HasEnds}
 use Rattle.dn_interval.specs.Listed.{Seen, SeenApart}
@@ -30,7 +31,7 @@ use Rattle.dn_module.specs.Expand.{Outcome, expansion_of}
 use Rattle.dn_print.specs.Spelled.{IsFull}
 use Rattle.dn_print.specs.Printable.{IsPrintableBlock, IsPrintableEntry, HasPrintableUnit, IsPrintableNode, parts_of_node, IsPrintable}
 use Rattle.dn_print.proofs.Drafted.{printable_back}
-use Rattle.dn_print.proofs.Formed.{Each, each_both}
+use Rattle.dn_print.proofs.Formed.{each_both}
 use Rattle.dn_print.proofs.Judged.{tree_good}
 use Rattle.dn_print.proofs.Made.{made_from}
 use Rattle.dn_print.proofs.Places.{each_of_all, all_of_each, total, total_more, total_map}
@@ -64,10 +65,6 @@ within net e = by (nat_lt node_limit (length net)) refl (nat_lt part_limit (part
     by false p false q true r g = cc
     by false p false q false r g = record { few = ltb-false node_limit (length net) p; parts = ltb-false part_limit (parts_of_net net) q; short = r }
 
-each_weaker : {X : Type 0} (P Q : X → Type 0) → ((x : X) → P x → Q x) → (xs : List X) → Each P xs → Each Q xs
-each_weaker P Q gives [] h = tt
-each_weaker P Q gives (x ∷ xs) h = (gives x h.0, each_weaker P Q gives xs h.1)
-
 -- what a node says that no rule and no limit says: its name, that its entries have destinations, and its unit
 abbrev HasDests : Entry → Type 0
 HasDests e = 1 ≤ length e.dests
@@ -78,7 +75,7 @@ record Says (kinds : List Meaning) (n : NodeDecl) : Type 0 where
   unit : HasPrintableUnit kinds n.unit
 
 printable_says : (kinds : List Meaning) (n : NodeDecl) → IsPrintableNode kinds n → Says kinds n
-printable_says kinds n h = record { name = h.name; some = each_weaker IsPrintableEntry HasDests (λ e g. g.some) n.entries (each_of_all IsPrintableEntry n.entries h.entries); unit = h.unit }
+printable_says kinds n h = record { name = h.name; some = each_implied IsPrintableEntry HasDests (λ e g. g.some) n.entries (each_of_all IsPrintableEntry n.entries h.entries); unit = h.unit }
 
 -- and what the rules and the limits say
 low : (a : ℕ) → a ≤ top → a < 2 ^ 64
@@ -162,7 +159,7 @@ read_back : (kinds : List Meaning) (net : List NodeDecl) → IsPrintable kinds n
 read_back kinds net h = record { printable = h; back = λ short. printable_back kinds net h short }
 
 net_says : (kinds : List Meaning) (net : List NodeDecl) → IsPrintable kinds net → Each (Says kinds) net
-net_says kinds net h = each_weaker (IsPrintableNode kinds) (Says kinds) (printable_says kinds) net (each_of_all (IsPrintableNode kinds) net h.nodes)
+net_says kinds net h = each_implied (IsPrintableNode kinds) (Says kinds) (printable_says kinds) net (each_of_all (IsPrintableNode kinds) net h.nodes)
 
 -- SPLITTING
 -- the name of a new node: that of the divided one, a dot, and `accK`
@@ -262,11 +259,6 @@ past_counted f k net m i (n ∷ ns) =
     ap (λ (r : Role). counted f (k + f r) (nodes_past net m (suc i) ns)) (past_role net m i n)
     ∙ past_counted f (k + f n.role) net m (suc i) ns
 
-there : (net : List NodeDecl) (m : ℕ) → m < length net → (n : NodeDecl) × (slice_get net m ≡ Some n)
-there [] m l = absurd (omega arith)
-there (n ∷ net) zero l = (n, refl)
-there (n ∷ net) (suc m) l = there net m (omega arith)
-
 absorb_printable : (kinds : List Meaning) (net : List NodeDecl) (m : ℕ) (n : NodeDecl) → slice_get net m ≡ Some n → IsLegalNet net → IsPrintable kinds net → why_not net m n ≡ None → passed_limit (net_past net m) ≡ None → IsPrintable kinds (net_past net m)
 absorb_printable kinds net m n at legal h fit none =
     net_printable kinds (net_past net m)
@@ -289,7 +281,7 @@ absorbed kinds net m made n at legal h e = by (why_not net m n) refl e
 
 pub absorb_is_read_back : AbsorbIsReadBack
 absorb_is_read_back kinds net m made legal l h e =
-    let n = there net m l in
+    let n = item_there net m l in
     absorbed kinds net m made n.0 n.1 legal h (subst (λ (o : Option NodeDecl). net_unless (net_past net m) (why_not_at net m o) ≡ Ok made) n.1 e)
 
 -- COMPILED NETS

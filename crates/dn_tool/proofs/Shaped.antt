@@ -3,12 +3,12 @@ use Rattle.std.proofs.Common.{◌≡◌, refl, arith, ℕ, zero, suc, ◌+◌, �
 use Rattle.std.proofs.lemmas.Bool.{and_parts}
 use Rattle.std.proofs.lemmas.Option.{none-some, same_Some}
 use Rattle.std.specs.List.{list_all}
+use Rattle.dn_base.proofs.Booleans.{and_from}
 use Rattle.dn_net.specs.declared.node.NodeDecl.{NodeDecl}
 use Rattle.dn_net.specs.declared.node.Unit.{Unit as UnitPart}
 use Rattle.dn_kind.specs.Kind.{Meaning, is_plain}
 use Rattle.dn_kind.specs.Units.{KeepsUnitShape, fits_shape, has_kind, has_shape, shape_fault, shape_fault_from, unit_shape}
 use Rattle.dn_kind.proofs.Shapes.{shape_fault_is_first}
-use Rattle.dn_net.proofs.Least.{true_both}
 
 -- a fault names one of the nodes
 fault_from : (kinds : List Meaning) (number : ℕ) (net : List NodeDecl) (n : ℕ) → shape_fault_from kinds number net ≡ Some n → n < number + length net
@@ -41,7 +41,7 @@ kinds_from kinds number [] e = refl
 kinds_from kinds number (d ∷ ds) e = go (kinds_from kinds (number + 1) ds) (has_shape kinds d.unit) refl e
   where
     go : (shape_fault_from kinds (number + 1) ds ≡ None → IsTrue (list_all (λ n. has_kind (length kinds) n.unit) ds)) → (b : Bool) → has_shape kinds d.unit ≡ b → (if b then shape_fault_from kinds (number + 1) ds else Some number) ≡ None → IsTrue (list_all (λ n. has_kind (length kinds) n.unit) (d ∷ ds))
-    go later true is f = true_both _ _ (kind_there kinds d.unit is) (later f)
+    go later true is f = and_from _ _ (kind_there kinds d.unit is) (later f)
     go later false is f = cc
 
 -- the kind of each unit is there where each unit keeps the rule

@@ -3,6 +3,7 @@ use Rattle.std.proofs.Common.{◌≡◌, ◌∙◌, ap, sym, subst, refl, arith,
 use Rattle.std.proofs.lemmas.Option.{none-some, same_Some}
 use Rattle.std.specs.List.{list_all}
 use Rattle.std.specs.Option.{is_some}
+use Rattle.dn_base.proofs.Booleans.{and_from, and_parts}
 use Rattle.dn_net.specs.declared.node.Name.{Name}
 use Rattle.dn_net.specs.declared.node.NodeDecl.{NodeDecl}
 use Rattle.dn_net.specs.Decode.{top, steps, step_limit, is_closed}
@@ -10,8 +11,6 @@ use Rattle.dn_net.specs.Names.{sorted_names, stop_names}
 use Rattle.dn_net.specs.WalkRules.{Broken, is_wide, has_loop, is_deep, has_chain, or_else, first_below, least_below, least_name, goes_on, comes_to, comes_back, shortest_cycle, first_of, behind, way_by, cycle_from, cycle_names, path_from, path_names, cycle_or_path, fork_broken, endless_fault, unit_fault, walk_fault}
 use Rattle.dn_net.specs.UnitRules.{Fork, is_fork, fork_at, least_fork, unit_leads, units_from, unit_numbers, next_units, rows_from, unit_rows, is_large, first_row, large_row, first_chain}
 use Rattle.dn_net.proofs.Endless.{is_wide_net, endless_fault_is}
-use Rattle.dn_net.proofs.Least.{true_both}
-use Rattle.dn_net.proofs.Places.{both}
 use Rattle.dn_net.proofs.Stops.{IsFirstStopOr, first_stop_is, listed_stop, stop_there}
 use Rattle.dn_kind.specs.Levels.{are_there}
 use Rattle.dn_kind.proofs.Nodes.{steps_there, sorted_there}
@@ -23,16 +22,16 @@ filter_there p q [] h = refl
 filter_there {X} p q (x ∷ xs) h = go (filter_there p q xs b.1) (p x) refl
   where
     b : IsTrue (q x) × IsTrue (list_all q xs)
-    b = both (q x) (list_all q xs) h
+    b = and_parts (q x) (list_all q xs) h
 
     go : IsTrue (list_all q (filter p xs)) → (c : Bool) → p x ≡ c → IsTrue (list_all q (filter p (x ∷ xs)))
-    go later true e = rw e (true_both _ _ b.0 later)
+    go later true e = rw e (and_from _ _ b.0 later)
     go later false e = rw e later
 
 -- the names of a way
 behind_exist : (count : ℕ) (xs : List Name) (rest : Name → List Name) → IsTrue (are_there count xs) → ((z : Name) → IsTrue (are_there count (rest z))) → IsTrue (are_there count (behind (first_of xs) rest))
 behind_exist count [] rest h later = refl
-behind_exist count (x ∷ xs) rest h later = true_both _ _ (both (nat_lt x.node count) (are_there count xs) h).0 (later x)
+behind_exist count (x ∷ xs) rest h later = and_from _ _ (and_parts (nat_lt x.node count) (are_there count xs) h).0 (later x)
 
 way_exist : (net : List NodeDecl) → IsTrue (is_closed net) → (leads : ℕ → Name → Bool) (k : ℕ) (x : Name) → IsTrue (are_there (length net) (way_by (steps net) leads k x))
 way_exist net closed leads zero x = refl
@@ -62,7 +61,7 @@ cycle_exist net closed c = go (least_name net (comes_back net c)) refl
   where
     go : (o : Option Name) → least_name net (comes_back net c) ≡ o → IsTrue (are_there (length net) (cycle_from net c o))
     go None at = refl
-    go (Some x) at = true_both _ _ (least_name_there net (comes_back net c) x at) (way_exist net closed (comes_to net x) c x)
+    go (Some x) at = and_from _ _ (least_name_there net (comes_back net c) x at) (way_exist net closed (comes_to net x) c x)
 
 path_exist : (net : List NodeDecl) → IsTrue (is_closed net) → (k : ℕ) (b : Broken) → option_map is_deep (path_names net k) ≡ Some b → AreNodesWithin (length net) b
 path_exist net closed k b e = go (least_name net (goes_on net k)) refl e
@@ -71,7 +70,7 @@ path_exist net closed k b e = go (least_name net (goes_on net k)) refl e
     go None at f = absurd (none-some b f)
     go (Some x) at f =
         let xs : List Name = x ∷ way_by (steps net) (goes_on net) k x in
-        subst (AreNodesWithin (length net)) (same_Some (is_deep xs) b f) (true_both _ _ (least_name_there net (goes_on net k) x at) (way_exist net closed (goes_on net) k x))
+        subst (AreNodesWithin (length net)) (same_Some (is_deep xs) b f) (and_from _ _ (least_name_there net (goes_on net k) x at) (way_exist net closed (goes_on net) k x))
 
 endless_exist : (net : List NodeDecl) → IsTrue (is_closed net) → (o : Option ℕ) (b : Broken) → cycle_or_path net o ≡ Some b → AreNodesWithin (length net) b
 endless_exist net closed (Some c) b e = subst (AreNodesWithin (length net)) (same_Some (has_loop (cycle_names net c)) b e) (cycle_exist net closed c)
@@ -108,19 +107,19 @@ rows_there count rows = list_all (are_units_there count) rows
 both_there : (count : ℕ) (xs ys : List (List ℕ)) → IsTrue (rows_there count xs) → IsTrue (rows_there count ys) → IsTrue (rows_there count (xs ++ ys))
 both_there count [] ys h k = k
 both_there count (x ∷ xs) ys h k =
-    let b = both (are_units_there count x) (rows_there count xs) h in
-    true_both _ _ b.0 (both_there count xs ys b.1 k)
+    let b = and_parts (are_units_there count x) (rows_there count xs) h in
+    and_from _ _ b.0 (both_there count xs ys b.1 k)
 
 front_there : (count u : ℕ) (rows : List (List ℕ)) → IsTrue (nat_lt u count) → IsTrue (rows_there count rows) → IsTrue (rows_there count (map (λ us. u ∷ us) rows))
 front_there count u [] h k = refl
 front_there count u (us ∷ rows) h k =
-    let b = both (are_units_there count us) (rows_there count rows) k in
-    true_both _ _ (true_both _ _ h b.0) (front_there count u rows h b.1)
+    let b = and_parts (are_units_there count us) (rows_there count rows) k in
+    and_from _ _ (and_from _ _ h b.0) (front_there count u rows h b.1)
 
 each_there : (count : ℕ) (rows : ℕ → List (List ℕ)) → ((u : ℕ) → IsTrue (rows_there count (rows u))) → (first : List ℕ) → IsTrue (are_units_there count first) → IsTrue (rows_there count (flat_map (λ u. map (λ us. u ∷ us) (rows u)) first))
 each_there count rows good [] h = refl
 each_there count rows good (u ∷ us) h =
-    let b = both (nat_lt u count) (are_units_there count us) h in
+    let b = and_parts (nat_lt u count) (are_units_there count us) h in
     both_there count (map (λ vs. u ∷ vs) (rows u)) (flat_map (λ v. map (λ vs. v ∷ vs) (rows v)) us) (front_there count u (rows u) b.0 (good u)) (each_there count rows good us b.1)
 
 rows_from_there : (count : ℕ) (next : ℕ → List ℕ) → ((u : ℕ) → IsTrue (are_units_there count (next u))) → (k : ℕ) (first : List ℕ) → IsTrue (are_units_there count first) → IsTrue (rows_there count (rows_from next k first))
@@ -133,7 +132,7 @@ numbers_there number [] = refl
 numbers_there number (n ∷ ns) = go (let e : suc number + length ns ≡ number + length (n ∷ ns) = omega arith in subst (λ (c : ℕ). IsTrue (are_units_there c (units_from (suc number) ns))) e (numbers_there (suc number) ns)) (is_some n.unit)
   where
     go : IsTrue (are_units_there (number + length (n ∷ ns)) (units_from (suc number) ns)) → (b : Bool) → IsTrue (are_units_there (number + length (n ∷ ns)) (if b then number ∷ units_from (suc number) ns else units_from (suc number) ns))
-    go later true = true_both _ _ (lt-ltb number (number + length (n ∷ ns)) (omega arith)) later
+    go later true = and_from _ _ (lt-ltb number (number + length (n ∷ ns)) (omega arith)) later
     go later false = later
 
 units_there : (net : List NodeDecl) → IsTrue (are_units_there (length net) (unit_numbers net))
@@ -147,7 +146,7 @@ unit_rows_there net k = rows_from_there (length net) (next_units net) (next_ther
 
 first_row_there : (count : ℕ) (rows : List (List ℕ)) (us : List ℕ) → IsTrue (rows_there count rows) → first_row rows ≡ Some us → IsTrue (are_units_there count us)
 first_row_there count [] us h e = absurd (none-some us e)
-first_row_there count (vs ∷ rows) us h e = subst (λ (ws : List ℕ). IsTrue (are_units_there count ws)) (same_Some vs us e) (both (are_units_there count vs) (rows_there count rows) h).0
+first_row_there count (vs ∷ rows) us h e = subst (λ (ws : List ℕ). IsTrue (are_units_there count ws)) (same_Some vs us e) (and_parts (are_units_there count vs) (rows_there count rows) h).0
 
 large_there : (net : List NodeDecl) (k : ℕ) (us : List ℕ) → large_row net k ≡ Some us → IsTrue (are_units_there (length net) us)
 large_there net k us e = first_row_there (length net) (filter (is_large net) (unit_rows net k)) us (filter_there (is_large net) (are_units_there (length net)) (unit_rows net k) (unit_rows_there net k)) e

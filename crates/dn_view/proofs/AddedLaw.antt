@@ -2,19 +2,22 @@
 -- an admissible placement.
 use Rattle.std.proofs.Common.{◌≡◌, ◌∙◌, sym, ap, refl, subst, ℕ, zero, suc, ◌+◌, ◌*◌, ◌/◌, ◌^◌, ◌<◌, ◌≤◌, ◌⊎◌, ◌↔◌, inl, inr, Bool, true, false, if◌then◌else◌, not, nat_eq, List, [], ◌∷◌, Option, Some, None, slice_get, IsTrue, arith, pow_pos, div-lt_iff_lt-mul}
 use Rattle.std.proofs.lemmas.Bool.{cases_lt, eq-eqb, ne_eqb}
+use Rattle.dn_base.proofs.Orders.{cases_eq}
+use Rattle.dn_base.proofs.Members.{member_at}
 use Rattle.dn_net.specs.declared.node.Name.{Name}
 use Rattle.dn_net.specs.declared.node.NodeDecl.{NodeDecl}
 use Rattle.dn_net.specs.declared.node.Unit.{Unit as UnitPart}
 use Rattle.dn_net.specs.Chain.{IsChain, Member}
 use Rattle.dn_net.specs.Decode.{Resolves, Step, StopsAt, is_accepted, is_agent_at, is_stop, top, unit_at}
 use Rattle.dn_net.specs.Legal.{IsLegalNet}
+use Rattle.dn_net.proofs.Chains.{chain_more, chain_join}
 use Rattle.dn_kind.specs.declared.rights.Access.{Access}
 use Rattle.dn_kind.specs.declared.rights.Rights.{Rights}
 use Rattle.dn_kind.specs.declared.unit_kind.Record.{Record}
 use Rattle.dn_kind.specs.Rights.{allows, are_rights, both_rights}
 use Rattle.dn_kind.specs.Tables.{AreHeld, Extends, Held, ResolvesUnder, StepUnder, allowing}
-use Rattle.dn_kind.proofs.Bounds.{member_get}
-use Rattle.dn_kind.proofs.Ways.{more_records_keep_names}
+use Rattle.dn_kind.proofs.Ways.{more_records_keep_names, step_under, step_more, allowing_more, allowing_held}
+use Rattle.dn_kind.proofs.Allowed.{both_allow}
 use Rattle.dn_tables.specs.declared.placement.Hop.{Hop}
 use Rattle.dn_tables.specs.Placement.{Place}
 use Rattle.dn_placement.specs.declared.request.Request.{Request}
@@ -25,16 +28,9 @@ use Rattle.dn_placement.specs.Records.{first_slot, hop_rights, hops_records, joi
 use Rattle.dn_placement.specs.Slots.{Slots}
 use Rattle.dn_view.specs.Addition.{AreProper, GivesExactly, IsAddition, RefusalIsComplete, name_at}
 use Rattle.dn_view.proofs.AddedHops.{HoldAll, hops_hold, hops_sub, record_is, record_of, slot_is}
-use Rattle.dn_view.proofs.AddedRights.{allowed_here, both_allow, both_or_not, joined_below, joined_cases, joined_left, joined_right, mask_held, mask_less, mask_more, some_allowed}
-use Rattle.dn_view.proofs.AddedRows.{HopStep, Row, accepted_ends, chain_append, chain_more, chain_of_row, fixed_under, one_from_stop, one_to_stop, one_way_within, row_of, step_more, stop_of_hop, stop_part, through_record, unit_unaccepted}
+use Rattle.dn_view.proofs.AddedRights.{allowed_here, both_or_not, joined_below, joined_cases, joined_left, joined_right, mask_less, some_allowed}
+use Rattle.dn_view.proofs.AddedRows.{HopStep, Row, accepted_ends, chain_of_row, one_from_stop, one_to_stop, one_way_within, row_of, stop_of_hop, stop_part, through_record, unit_unaccepted}
 use Rattle.dn_view.proofs.AddedWays.{few_hops, hop_fits, hops_differ, last_chain, last_length, last_of, no_stops, on_row, other_end, page_of, passes_slot, resolves, resolves_fixed, row_at, stops_fixed}
-
--- equal or not
-same_or : (a b : ℕ) → (a ≡ b) ⊎ (a ≡ b → ⊥)
-same_or a b = elim (cases_lt a b) [
-  | inl l ↦ inr (λ e. absurd (omega arith))
-  | inr l ↦ (elim (cases_lt b a) [ inl m ↦ inr (λ e. absurd (omega arith)) | inr m ↦ inl (omega arith) ])
-]
 
 -- the record of a hop, by its rights
 rec_is : (net : List NodeDecl) (h : Held) (x : Name) (hop : Hop) (j : ℕ) (z : Name)
@@ -65,19 +61,19 @@ last_unit net legal h x hop [] y k r =
       unit = record { node = hop.unit; addr = hop.x };
       is_stop = stop_of_hop net h x r.2 hop r.0 w;
       length = r.0;
-      chain = chain_more (Step net) (StepUnder net h) (fixed_under net legal.is_net.formed h) r.0 x (record { node = hop.unit; addr = hop.x }) w.before;
+      chain = chain_more (Step net) (StepUnder net h) (step_under net legal.is_net.formed h) r.0 x (record { node = hop.unit; addr = hop.x }) w.before;
       step = through_record net h x hop r.0 r.2 w;
     }
 last_unit net legal h x hop (hop' ∷ hops) y k r =
     let w : HopStep net h x hop r.0 r.2 = r.3 in
     let l : LastUnit net h r.2 (last_of net legal h r.2 (hop' ∷ hops) y r.1 r.4) = last_unit net legal h r.2 hop' hops y r.1 r.4 in
-    let before = chain_more (Step net) (StepUnder net h) (fixed_under net legal.is_net.formed h) r.0 x (record { node = hop.unit; addr = hop.x }) w.before in
+    let before = chain_more (Step net) (StepUnder net h) (step_under net legal.is_net.formed h) r.0 x (record { node = hop.unit; addr = hop.x }) w.before in
     let c : IsChain (StepUnder net h) (suc l.length) (record { node = hop.unit; addr = hop.x }) l.unit = (r.2, through_record net h x hop r.0 r.2 w, l.chain) in
     record {
       unit = l.unit;
       is_stop = l.is_stop;
       length = r.0 + suc l.length;
-      chain = chain_append (StepUnder net h) r.0 (suc l.length) x (record { node = hop.unit; addr = hop.x }) l.unit before c;
+      chain = chain_join (StepUnder net h) r.0 (suc l.length) x (record { node = hop.unit; addr = hop.x }) l.unit before c;
       step = l.step;
     }
 
@@ -117,9 +113,9 @@ module _ (net : List NodeDecl) (slots : Slots) (agent node base : ℕ) (rights :
     -- an added record is the one with the rights, or has both
     kind_of : (n q : ℕ) (r : Record) → added n q ≡ Some r →
         ((n ≡ ad.node) × (q ≡ ad.slot) × (r.rights ≡ rights)) ⊎ (r.rights ≡ both_rights)
-    kind_of n q r e = elim (same_or n ad.node) [
+    kind_of n q r e = elim (cases_eq n ad.node) [
       | inr ne ↦ inr (ad.others n q r e (λ a b. ne a))
-      | inl en ↦ (elim (same_or q ad.slot) [
+      | inl en ↦ (elim (cases_eq q ad.slot) [
         | inr ne ↦ inr (ad.others n q r e (λ a b. ne b))
         | inl eq ↦ inl (en, eq, special_is n q r en eq e)
       ])
@@ -178,7 +174,7 @@ module _ (net : List NodeDecl) (slots : Slots) (agent node base : ℕ) (rights :
         let r = row_of net (allowing access slots.held) k start end c in
         let r' = row_at net (allowing access slots.held) (allowing access0 slots.held) r.0 start end k r.1 (λ hop m u e t f. both r.0 r.1 hop m u e t (mask_less access slots.held hop.unit (hop.x / 2 ^ u.page) t f)) in
         ex.new access0 allowed0
-        (resolves net legal (allowing access0 slots.held) (mask_held net access0 slots.held proper.held) start end k acc
+        (resolves net legal (allowing access0 slots.held) (allowing_held net slots.held access0 proper.held) start end k acc
         (chain_of_row net legal.is_net.formed (allowing access0 slots.held) r.0 start end k r'))
       where
         both : (hops : List Hop) → Row net (allowing access slots.held) start hops end k → (hop : Hop) →
@@ -196,7 +192,7 @@ module _ (net : List NodeDecl) (slots : Slots) (agent node base : ℕ) (rights :
       hops = hop0 ∷ hops0
 
       mask_is_held : AreHeld net (allowing access0 all)
-      mask_is_held = mask_held net access0 all all_held
+      mask_is_held = allowing_held net all access0 all_held
 
       free_of_owner : (hop : Hop) → Member hop hops → (u : UnitPart) → unit_at net hop.unit ≡ Some u →
           IsTrue (not (slots.has_owner hop.unit (hop.x / 2 ^ u.page)))
@@ -252,9 +248,9 @@ module _ (net : List NodeDecl) (slots : Slots) (agent node base : ℕ) (rights :
               (step_more net (allowing access0 all) all sub0 before_last.unit last before_last.step) in
               let s : StepUnder net (allowing access slots.held) before_last.unit last = subst (λ w. StepUnder net (allowing access slots.held) before_last.unit w) same e.1 in
               let q : IsChain (StepUnder net (allowing access slots.held)) (suc to_end.0) before_last.unit end =
-              (last, s, chain_more (Step net) (StepUnder net (allowing access slots.held)) (fixed_under net legal.is_net.formed (allowing access slots.held)) to_end.0 last end to_end.1) in
+              (last, s, chain_more (Step net) (StepUnder net (allowing access slots.held)) (step_under net legal.is_net.formed (allowing access slots.held)) to_end.0 last end to_end.1) in
               no_old access (before_last.length + suc to_end.0) acc
-              (chain_append (StepUnder net (allowing access slots.held)) before_last.length (suc to_end.0) start before_last.unit end p q)
+              (chain_join (StepUnder net (allowing access slots.held)) before_last.length (suc to_end.0) start before_last.unit end p q)
 
       -- the last name leads to the end alone
       only : (z : Name) → Resolves net last z → z ≡ end
@@ -416,9 +412,9 @@ module _ (net : List NodeDecl) (slots : Slots) (agent node base : ℕ) (rights :
 
           gives : Gives net slots.held (joined_records slots.held (hops_records net 1 rights own 0 hops)) rq v
           gives access x y ag = (
-            (λ s. (ex.gives access x y ag).0 (more_records_keep_names net (allowing access with) (allowing access all) (mask_more access with all below) x y s)),
+            (λ s. (ex.gives access x y ag).0 (more_records_keep_names net (allowing access with) (allowing access all) (allowing_more with all access below) x y s)),
             (λ s. elim s [
-              | inl a ↦ more_records_keep_names net (allowing access slots.held) (allowing access with) (mask_more access slots.held with (joined_left slots.held (hops_records net 1 rights own 0 hops))) x y a
+              | inl a ↦ more_records_keep_names net (allowing access slots.held) (allowing access with) (allowing_more slots.held with access (joined_left slots.held (hops_records net 1 rights own 0 hops))) x y a
               | inr a ↦ shown a.0 a.1
             ]),
           )
@@ -447,7 +443,7 @@ module _ (net : List NodeDecl) (slots : Slots) (agent node base : ℕ) (rights :
 
               seen : IsTrue (allows rights access) → ResolvesUnder net (allowing access with) start end
               seen al =
-                  resolves net legal (allowing access with) (mask_held net access with (λ n q r e. all_held n q r (below n q r e))) start end k acc
+                  resolves net legal (allowing access with) (allowing_held net with access (λ n q r e. all_held n q r (below n q r e))) start end k acc
                   (chain_of_row net legal.is_net.formed (allowing access with) hops start end k
                   (row_at net (allowing access0 all) (allowing access with) hops start end k row (λ hop m u e t f. here hop m u e t f al)))
 
@@ -476,7 +472,7 @@ module _ (net : List NodeDecl) (slots : Slots) (agent node base : ℕ) (rights :
           ((i : ℕ) × IsSpecial ks i) ⊎ NoneSpecial ks
       special_or x [] n r = inr (λ hop m. absurd m)
       special_or x (hop ∷ ks) n r =
-          go (same_or hop.unit ad.node) (same_or (hop.x / 2 ^ w.unit.page) ad.slot) (special_or r.2 ks r.1 r.4)
+          go (cases_eq hop.unit ad.node) (cases_eq (hop.x / 2 ^ w.unit.page) ad.slot) (special_or r.2 ks r.1 r.4)
         where
           w : HopStep net (allowing access0 all) x hop r.0 r.2
           w = r.3
@@ -600,7 +596,7 @@ module _ (net : List NodeDecl) (slots : Slots) (agent node base : ℕ) (rights :
       -- where the rights are both, any new hop may be the own one
       own_of_both : rights ≡ both_rights → (own : ℕ) × IsOwnHop own
       own_of_both both = elim (new_or start hops k row) [
-        | inl f ↦ (f.0, record { hop = f.1.hop; at = f.1.at; free = (λ u e. new_free f.1.hop (member_get hops f.0 f.1.hop f.1.at) u e (f.1.new u e)); right = right f.0 })
+        | inl f ↦ (f.0, record { hop = f.1.hop; at = f.1.at; free = (λ u e. new_free f.1.hop (member_at hops f.0 f.1.hop f.1.at) u e (f.1.new u e)); right = right f.0 })
         | inr old ↦ absurd (not_all_old old)
       ]
         where
@@ -611,7 +607,7 @@ module _ (net : List NodeDecl) (slots : Slots) (agent node base : ℕ) (rights :
           right : (own i : ℕ) (a : Hop) → slice_get hops i ≡ Some a → (u : UnitPart) → unit_at net a.unit ≡ Some u →
               (t : Record) → all a.unit (a.x / 2 ^ u.page) ≡ Some t → t.rights ≡ hop_rights rights own i
           right own i a at u e t f =
-              elim (found a (member_get hops i a at) u e t f) [
+              elim (found a (member_at hops i a at) u e t f) [
                 | inl s ↦ s.1 ∙ sym (which (nat_eq i own))
                 | inr s ↦ (elim (kind_of a.unit (a.x / 2 ^ u.page) t s) [
                   | inl c ↦ c.2 ∙ both ∙ sym (which (nat_eq i own))
@@ -629,7 +625,7 @@ module _ (net : List NodeDecl) (slots : Slots) (agent node base : ℕ) (rights :
           elsewhere : NoneSpecial hops → ⊥
           elsewhere none =
               let r' = row_at net (allowing access0 all) (allowing access all) hops start end k row kept in
-              let s = resolves net legal (allowing access all) (mask_held net access all all_held) start end k acc (chain_of_row net legal.is_net.formed (allowing access all) hops start end k r') in
+              let s = resolves net legal (allowing access all) (allowing_held net all access all_held) start end k acc (chain_of_row net legal.is_net.formed (allowing access all) hops start end k r') in
               elim ((ex.gives access start end is_agent).0 s) [
                 | inl f ↦ no_old access f.1.0 acc f.1.2
                 | inr f ↦ (let c : true ≡ false = sym f.0 ∙ not_allowed in cc)
@@ -661,7 +657,7 @@ module _ (net : List NodeDecl) (slots : Slots) (agent node base : ℕ) (rights :
           right : (own : ℕ) (s : IsSpecial hops own) (i : ℕ) (a : Hop) → slice_get hops i ≡ Some a →
               (u : UnitPart) → unit_at net a.unit ≡ Some u → (t : Record) →
               all a.unit (a.x / 2 ^ u.page) ≡ Some t → t.rights ≡ hop_rights rights own i
-          right own s i a at u e t f = elim (same_or i own) [
+          right own s i a at u e t f = elim (cases_eq i own) [
             | inl same ↦ here same ∙ ap (λ b. if b then rights else both_rights) (sym (eq-eqb i own same))
             | inr other ↦ there other ∙ ap (λ b. if b then rights else both_rights) (sym (ne_eqb i own other))
           ]
@@ -687,7 +683,7 @@ module _ (net : List NodeDecl) (slots : Slots) (agent node base : ℕ) (rights :
                   beyond l = elim (cases_lt own i) [ inl m ↦ m | inr m ↦ absurd (other (omega arith)) ]
 
               there : (i ≡ own → ⊥) → t.rights ≡ both_rights
-              there other = elim (found a (member_get hops i a at) u e t f) [
+              there other = elim (found a (member_at hops i a at) u e t f) [
                 | inl old ↦ old.1
                 | inr new ↦ (elim (kind_of a.unit (a.x / 2 ^ u.page) t new) [
                   | inl c ↦ absurd (apart other (c.0 ∙ sym s.node_is))
@@ -709,7 +705,7 @@ module _ (net : List NodeDecl) (slots : Slots) (agent node base : ℕ) (rights :
             (p : Place) × IsSuited net slots rq (Some v) p
         go [] r =
             absurd (no_old access0 res.1.0 res.0
-            (chain_more (Step net) (StepUnder net (allowing access0 slots.held)) (fixed_under net legal.is_net.formed (allowing access0 slots.held)) res.1.0 start end r))
+            (chain_more (Step net) (StepUnder net (allowing access0 slots.held)) (step_under net legal.is_net.formed (allowing access0 slots.held)) res.1.0 start end r))
         go (hop ∷ hops) r = of_row hop hops res.1.0 res.0 r
 
 pub refusal_is_complete : RefusalIsComplete

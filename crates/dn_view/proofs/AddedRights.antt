@@ -6,15 +6,8 @@ use Rattle.dn_kind.specs.declared.rights.Access.TheVariants.{Read, Write}
 use Rattle.dn_kind.specs.declared.rights.Rights.{Rights}
 use Rattle.dn_kind.specs.declared.unit_kind.Record.{Record}
 use Rattle.dn_kind.specs.Rights.{allows, are_rights, both_rights}
-use Rattle.dn_kind.specs.Tables.{AreHeld, Extends, Held, allowing, record_allowing}
-use Rattle.dn_net.specs.declared.node.NodeDecl.{NodeDecl}
-use Rattle.std.specs.Prelude.{List}
+use Rattle.dn_kind.specs.Tables.{Extends, Held, allowing, record_allowing}
 use Rattle.dn_placement.specs.Records.{joined_records, or_record}
-
--- both rights allow each access
-pub both_allow : (access : Access) → IsTrue (allows both_rights access)
-both_allow Read = refl
-both_allow Write = refl
 
 -- one, two or three
 few_cases : (n : ℕ) → 1 ≤ n → n ≤ 3 → (n ≡ 1) ⊎ ((n ≡ 2) ⊎ (n ≡ 3))
@@ -72,14 +65,6 @@ allowed_here access h n q r e a = ap (record_allowing access) e ∙ left (allows
 
 pub mask_less : (access : Access) (h : Held) → Extends (allowing access h) h
 mask_less access h n q r e = (allowed_there access h n q r e).0
-
-pub mask_more : (access : Access) (h g : Held) → Extends h g → Extends (allowing access h) (allowing access g)
-mask_more access h g ex n q r e =
-    let t = allowed_there access h n q r e in allowed_here access g n q r (ex n q r t.0) t.1
-
-pub mask_held : (net : List NodeDecl) (access : Access) (h : Held) → AreHeld net h →
-    AreHeld net (allowing access h)
-mask_held net access h held n q r e = held n q r (mask_less access h n q r e)
 
 -- joined records
 pub joined_left : (h g : Held) → Extends h (joined_records h g)

@@ -1,30 +1,23 @@
 -- A chain under records is a row of hops: steps of the net to a unit, and one through the record of a
 -- slot, again and again.
-use Rattle.std.proofs.Common.{◌≡◌, ◌∙◌, sym, ap, refl, subst, ℕ, zero, suc, ◌+◌, ◌*◌, ◌/◌, ◌%◌, ◌^◌, ◌≤◌, ◌⊎◌, inl, inr, Bool, true, false, if◌then◌else◌, nat_le, List, [], ◌∷◌, length, Option, Some, None, is_some, slice_get, IsTrue, arith, zero-add, suc-add}
+use Rattle.std.proofs.Common.{◌≡◌, ◌∙◌, sym, ap, refl, subst, ℕ, zero, suc, ◌+◌, ◌*◌, ◌/◌, ◌%◌, ◌^◌, ◌⊎◌, inl, inr, Bool, true, false, if◌then◌else◌, nat_le, List, [], ◌∷◌, Option, Some, None, is_some, slice_get, IsTrue, arith}
 use Rattle.std.specs.List.{list_all}
 use Rattle.std.proofs.lemmas.Bool.{and_parts}
+use Rattle.dn_base.proofs.Members.{one_member}
 use Rattle.dn_net.specs.declared.node.Name.{Name}
 use Rattle.dn_net.specs.declared.node.NodeDecl.{NodeDecl}
 use Rattle.dn_net.specs.declared.node.Unit.{Unit as UnitPart}
-use Rattle.dn_net.specs.Chain.{IsChain, Member, Reaches}
+use Rattle.dn_net.specs.Chain.{IsChain, Member}
 use Rattle.dn_net.specs.Decode.{Step, in_some_block, is_accepted, is_accepted_at, is_formed, is_stop, is_stop_at, sent_names, steps, top, unit_at}
 use Rattle.dn_net.specs.UnitRules.{NoFork}
 use Rattle.dn_net.proofs.Steps.{node_at, unit_is_bare}
+use Rattle.dn_net.proofs.Chains.{chain_more, chain_join}
 use Rattle.dn_kind.specs.declared.unit_kind.Record.{Record}
-use Rattle.dn_kind.specs.Tables.{Extends, Held, StepUnder, output, steps_by_unit, to_port}
+use Rattle.dn_kind.specs.Tables.{Held, StepUnder, output, steps_by_unit, to_port}
+use Rattle.dn_kind.proofs.Ways.{step_under, few_in_unit, first_stop}
 use Rattle.dn_tables.specs.declared.placement.Hop.{Hop}
 
 -- CHAINS
-
-pub chain_more : {X : Type 0} (S Q : X → X → Type 0) → ((x y : X) → S x y → Q x y) → (k : ℕ) (x y : X) →
-    IsChain S k x y → IsChain Q k x y
-chain_more S Q f zero x y c = c
-chain_more S Q f (suc k) x y c = (c.0, f x c.0 c.1, chain_more S Q f k c.0 y c.2)
-
-pub chain_append : {X : Type 0} (S : X → X → Type 0) (j k : ℕ) (x y z : X) → IsChain S j x y →
-    IsChain S k y z → IsChain S (j + k) x z
-chain_append S zero k x y z c d = rw zero-add (subst (λ w. IsChain S k w z) (sym c) d)
-chain_append S (suc j) k x y z c d = rw suc-add (c.0, c.1, chain_append S j k c.0 y z c.2 d)
 
 -- of two chains from one name, the first to a name that all that reach it reach by one step each, one
 -- goes on with the other; where the second is of a narrower relation, what it passes is its own
@@ -93,56 +86,6 @@ stop_part net x s = go (unit_at net x.node) refl s
     go None e s = cc
     go (Some u) e s = (u, e)
 
--- a step of the net is a step under any records
-pub fixed_under : (net : List NodeDecl) → IsTrue (list_all is_formed net) → (h : Held) (x y : Name) →
-    Step net x y → StepUnder net h x y
-fixed_under net formed h x y s = go (unit_at net x.node) refl
-  where
-    go : (v : Option UnitPart) → unit_at net x.node ≡ v → Member y (steps_by_unit net h x v)
-    go None e = s
-    go (Some u) e = absurd (no_member (steps net x) y (unit_still net formed x u e) s)
-
--- more records, more steps
-pub step_more : (net : List NodeDecl) (h h' : Held) → Extends h h' → (x y : Name) →
-    StepUnder net h x y → StepUnder net h' x y
-step_more net h h' e x y m = by (unit_at net x.node) m
-  where
-    in_unit : (u : UnitPart) (b : Bool) (r : Option Record) → h x.node (x.addr / 2 ^ u.page) ≡ r →
-        Member y (if b then output u r x.addr else []) →
-        Member y (if b then output u (h' x.node (x.addr / 2 ^ u.page)) x.addr else [])
-    in_unit u false r is n = n
-    in_unit u true None is n = absurd n
-    in_unit u true (Some r) is n =
-        subst (λ s. Member y (output u s x.addr)) (sym (e x.node (x.addr / 2 ^ u.page) r is)) n
-
-    by : (v : Option UnitPart) → Member y (steps_by_unit net h x v) → Member y (steps_by_unit net h' x v)
-    by None m = m
-    by (Some u) m = in_unit u (nat_le x.addr top) (h x.node (x.addr / 2 ^ u.page)) refl m
-
--- at most one value
-pub one_value : {X : Type 0} (xs : List X) (y z : X) → length xs ≤ 1 → Member y xs → Member z xs → y ≡ z
-one_value [] y z l m n = absurd m
-one_value (x ∷ []) y z l (inl m) (inl n) = sym m ∙ n
-one_value (x ∷ []) y z l (inr m) n = absurd m
-one_value (x ∷ []) y z l (inl m) (inr n) = absurd n
-one_value (x ∷ (w ∷ xs)) y z l m n = absurd (omega arith)
-
-few_in_unit : (net : List NodeDecl) (h : Held) (x : Name) (u : UnitPart) →
-    length (steps_by_unit net h x (Some u)) ≤ 1
-few_in_unit net h x u = go (nat_le x.addr top)
-  where
-    few_to_port : (p : Option ℕ) (a : ℕ) → length (to_port p a) ≤ 1
-    few_to_port None a = omega arith
-    few_to_port (Some p) a = omega arith
-
-    few_output : (r : Option Record) → length (output u r x.addr) ≤ 1
-    few_output None = omega arith
-    few_output (Some r) = few_to_port (slice_get u.ports r.port) _
-
-    go : (b : Bool) → length (if b then output u (h x.node (x.addr / 2 ^ u.page)) x.addr else []) ≤ 1
-    go true = few_output (h x.node (x.addr / 2 ^ u.page))
-    go false = omega arith
-
 -- two steps from a stop are one
 pub one_from_stop : (net : List NodeDecl) (h : Held) (s y z : Name) → IsTrue (is_stop net s) →
     StepUnder net h s y → StepUnder net h s z → y ≡ z
@@ -151,24 +94,7 @@ one_from_stop net h s y z is a b = go (unit_at net s.node) refl a b
     go : (v : Option UnitPart) → unit_at net s.node ≡ v → Member y (steps_by_unit net h s v) →
         Member z (steps_by_unit net h s v) → y ≡ z
     go None e a b = let u = stop_part net s is in let f : None ≡ Some u.0 = sym e ∙ u.1 in cc
-    go (Some w) e a b = one_value (steps_by_unit net h s (Some w)) y z (few_in_unit net h s w) a b
-
--- a chain under records to a stop has a first stop, which the net itself reaches
-first_stop : (net : List NodeDecl) (h : Held) (k : ℕ) (x u : Name) → IsTrue (is_stop net u) →
-    IsChain (StepUnder net h) k x u → (s : Name) × IsTrue (is_stop net s) × Reaches (Step net) x s
-first_stop net h zero x u is c = (u, is, (zero, c))
-first_stop net h (suc k) x u is c = go (unit_at net x.node) refl c.1 (first_stop net h k c.0 u is c.2)
-  where
-    low : (w : UnitPart) (b : Bool) → Member c.0 (if b then output w (h x.node (x.addr / 2 ^ w.page)) x.addr else []) → IsTrue b
-    low w true n = refl
-    low w false n = absurd n
-
-    go : (v : Option UnitPart) → unit_at net x.node ≡ v → Member c.0 (steps_by_unit net h x v) →
-        ((s : Name) × IsTrue (is_stop net s) × Reaches (Step net) c.0 s) →
-        (s : Name) × IsTrue (is_stop net s) × Reaches (Step net) x s
-    go None e m r = (r.0, r.1, (suc r.2.0, (c.0, m, r.2.1)))
-    go (Some w) e m r =
-        (x, subst (λ v. IsTrue (is_stop_at x.addr v)) (sym e) (low w (nat_le x.addr top) m), (zero, refl))
+    go (Some w) e a b = one_member (steps_by_unit net h s (Some w)) y z (few_in_unit net h s w) a b
 
 -- where no name forks, a name that reaches a stop under records has one step at most
 pub one_to_stop : (net : List NodeDecl) (h : Held) → NoFork net → (u : Name) → IsTrue (is_stop net u) →
@@ -180,8 +106,8 @@ one_to_stop net h nf u is x y z k c a b = go (unit_at net x.node) refl a b
         Member z (steps_by_unit net h x v) → y ≡ z
     go None e a b =
         let r = first_stop net h k x u is c in
-        one_value (steps net x) y z (nf x r.0 r.1 r.2) a b
-    go (Some w) e a b = one_value (steps_by_unit net h x (Some w)) y z (few_in_unit net h x w) a b
+        one_member (steps net x) y z (nf x r.0 r.1 r.2) a b
+    go (Some w) e a b = one_member (steps_by_unit net h x (Some w)) y z (few_in_unit net h x w) a b
 
 -- ROWS
 
@@ -297,11 +223,11 @@ stop_of_hop net h x z hop j w =
 pub chain_of_row : (net : List NodeDecl) → IsTrue (list_all is_formed net) → (h : Held) (hops : List Hop)
     (x y : Name) (k : ℕ) → Row net h x hops y k → IsChain (StepUnder net h) k x y
 chain_of_row net formed h [] x y k r =
-    chain_more (Step net) (StepUnder net h) (fixed_under net formed h) k x y r
+    chain_more (Step net) (StepUnder net h) (step_under net formed h) k x y r
 chain_of_row net formed h (hop ∷ hops) x y k r =
     let w : HopStep net h x hop r.0 r.2 = r.3 in
-    let before = chain_more (Step net) (StepUnder net h) (fixed_under net formed h) r.0 x (record { node = hop.unit; addr = hop.x }) w.before in
+    let before = chain_more (Step net) (StepUnder net h) (step_under net formed h) r.0 x (record { node = hop.unit; addr = hop.x }) w.before in
     let rest : IsChain (StepUnder net h) (suc r.1) (record { node = hop.unit; addr = hop.x }) y =
     (r.2, through_record net h x hop r.0 r.2 w, chain_of_row net formed h hops r.2 y r.1 r.4) in
     subst (λ n. IsChain (StepUnder net h) n x y) (sym r.5)
-    (chain_append (StepUnder net h) r.0 (suc r.1) x (record { node = hop.unit; addr = hop.x }) y before rest)
+    (chain_join (StepUnder net h) r.0 (suc r.1) x (record { node = hop.unit; addr = hop.x }) y before rest)

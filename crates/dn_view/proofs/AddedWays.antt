@@ -5,7 +5,7 @@ use Rattle.std.proofs.lemmas.List.{length-map}
 use Rattle.std.proofs.lemmas.Option.{slice_get_within}
 use Rattle.std.proofs.lemmas.Bool.{and_parts}
 use Rattle.std.proofs.lemmas.Nat.{div-mul-add, mod-mul-add}
-use Rattle.dn_base.proofs.Members.{member_right}
+use Rattle.dn_base.proofs.Members.{member_right, member_at, one_member}
 use Rattle.dn_net.specs.declared.node.Name.{Name}
 use Rattle.dn_net.specs.declared.node.NodeDecl.{NodeDecl}
 use Rattle.dn_net.specs.declared.node.Unit.{Unit as UnitPart}
@@ -15,15 +15,16 @@ use Rattle.dn_net.specs.Legal.{IsLegalNet}
 use Rattle.dn_net.specs.UnitRules.{IsUnitRow, LeadsTo}
 use Rattle.dn_net.proofs.Plain.{plain_at}
 use Rattle.dn_net.proofs.Stops.{shallow_reach}
+use Rattle.dn_net.proofs.Chains.{chain_more, chain_join}
 use Rattle.dn_kind.specs.declared.unit_kind.Record.{Record}
 use Rattle.dn_kind.specs.Kind.{is_within}
 use Rattle.dn_kind.specs.Tables.{AreHeld, Held, IsHeld, ResolvesUnder, StepUnder}
 use Rattle.dn_kind.specs.Units.{unit_shape}
 use Rattle.dn_kind.specs.Ways.{Passes, PassesIn, Slot, slot_in}
-use Rattle.dn_kind.proofs.Bounds.{low_output, low_page, member_get, reach_under_is_within}
-use Rattle.dn_kind.proofs.Ways.{chain_passes_slots}
+use Rattle.dn_kind.proofs.Bounds.{low_output, low_page, reach_under_is_within}
+use Rattle.dn_kind.proofs.Ways.{chain_passes_slots, step_under}
 use Rattle.dn_tables.specs.declared.placement.Hop.{Hop}
-use Rattle.dn_view.proofs.AddedRows.{HopStep, Row, accepted_still, chain_append, chain_more, chain_of_row, fixed_under, one_value, one_way_within, stop_of_hop, stop_part, through_record, unit_still, unit_unaccepted}
+use Rattle.dn_view.proofs.AddedRows.{HopStep, Row, accepted_still, chain_of_row, one_way_within, stop_of_hop, stop_part, through_record, unit_still, unit_unaccepted}
 
 -- what the record of a hop says of it
 pub record HopFits (unit : UnitPart) (hop : Hop) : Type 0 where
@@ -78,7 +79,7 @@ module _ (net : List NodeDecl) (legal : IsLegalNet net) where
       s = record { node = g.unit; addr = g.x }
 
       before : IsChain (StepUnder net h) r.0 x s
-      before = chain_more (Step net) (StepUnder net h) (fixed_under net legal.is_net.formed h) r.0 x s w.before
+      before = chain_more (Step net) (StepUnder net h) (step_under net legal.is_net.formed h) r.0 x s w.before
 
       step : StepUnder net h s r.2
       step = through_record net h x g r.0 r.2 w
@@ -105,7 +106,7 @@ module _ (net : List NodeDecl) (legal : IsLegalNet net) where
             to = o.to;
             length = o.length;
             step = o.step;
-            comes = (r.0 + suc o.comes.0, chain_append (StepUnder net h) r.0 (suc o.comes.0) x s (record { node = hop.unit; addr = hop.x }) before (r.2, step, o.comes.1));
+            comes = (r.0 + suc o.comes.0, chain_join (StepUnder net h) r.0 (suc o.comes.0) x s (record { node = hop.unit; addr = hop.x }) before (r.2, step, o.comes.1));
             goes = o.goes;
             next = o.next;
             first = o.first;
@@ -157,7 +158,7 @@ module _ (net : List NodeDecl) (legal : IsLegalNet net) where
     addr = hop.y;
     stop = record { node = hop'.unit; addr = hop'.x };
     is_part = w.is_unit;
-    has_port = member_get w.unit.ports hop.port w.node w.is_port;
+    has_port = member_at w.unit.ports hop.port w.node w.is_port;
     below = (hop_fits h held x hop j z w).below;
     reaches = (j', subst (λ s. IsChain (Step net) j' s (record { node = hop'.unit; addr = hop'.x })) (sym w.to_is) w'.before);
     is_stop = stop_of_hop net h z t hop' j' w';
@@ -244,7 +245,7 @@ module _ (net : List NodeDecl) (legal : IsLegalNet net) where
   pub no_stops : (x y s : Name) (k j : ℕ) → IsTrue (is_accepted net y) → IsChain (Step net) k x y →
       IsTrue (is_stop net s) → IsChain (Step net) j x s → ⊥
   no_stops x y s k j a c is d =
-      elim (one_way_within (Step net) (Step net) s (λ p q t. t) (λ p q t i u m n. one_value (steps net p) q t (legal.units.no_fork p s is (i, u)) m n) j k x y d c) [
+      elim (one_way_within (Step net) (Step net) s (λ p q t. t) (λ p q t i u m n. one_member (steps net p) q t (legal.units.no_fork p s is (i, u)) m n) j k x y d c) [
         | inl l ↦ after l.0 l.1
         | inr l ↦ before l.0 l.2
       ]

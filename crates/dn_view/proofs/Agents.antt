@@ -1,16 +1,9 @@
 -- What holds of every agent, node by node.
-use Rattle.std.proofs.Common.{◌≡◌, ℕ, ◌+◌, ◌<◌, ◌≤◌, ◌⊎◌, ◌↔◌, inl, inr, Bool, true, false, List, length, slice_get, Option, Some, None, IsTrue, refl, sym, ◌∙◌, subst, arith}
+use Rattle.std.proofs.Common.{◌≡◌, ℕ, ◌+◌, ◌<◌, ◌≤◌, ◌⊎◌, ◌↔◌, inl, inr, Bool, true, false, List, length, slice_get, IsTrue, refl, sym, ◌∙◌, subst, arith}
 use Rattle.std.proofs.lemmas.Bool.{false≢true}
-use Rattle.std.proofs.lemmas.Option.{slice_get_within}
 use Rattle.dn_net.specs.declared.node.NodeDecl.{NodeDecl}
 use Rattle.dn_net.specs.Decode.{is_agent_at}
-
-pub agent_there : (net : List NodeDecl) (node : ℕ) → IsTrue (is_agent_at (slice_get net node)) → node < length net
-agent_there net node is = by (slice_get net node) refl is
-  where
-    by : (o : Option NodeDecl) → slice_get net node ≡ o → IsTrue (is_agent_at o) → node < length net
-    by None e a = cc
-    by (Some n) e a = slice_get_within net node n e
+use Rattle.dn_net.proofs.Stops.{agent_there}
 
 module _ (net : List NodeDecl) (P : ℕ → Type 0) where
   -- the node is no agent, or it holds of it

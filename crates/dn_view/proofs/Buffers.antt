@@ -2,6 +2,7 @@
 use Rattle.std.proofs.Common.{◌≡◌, ℕ, ◌+◌, ◌-◌, ◌<◌, ◌≤◌, ◌↔◌, inl, inr, true, false, ◌&&◌, ◌==◌, nat_le, nat_eq, List, [], ◌∷◌, map, length, IsTrue, refl, sym, ap, ◌∙◌, subst, arith, leb-true, le-leb, eqb-true, eq-eqb}
 use Rattle.std.specs.List.{list_all}
 use Rattle.std.proofs.lemmas.Bool.{and_from, and_parts, false≢true}
+use Rattle.dn_base.proofs.Booleans.{or_left, or_right}
 use Rattle.dn_interval.specs.declared.row.End.{End}
 use Rattle.dn_interval.specs.declared.row.Row.{Row}
 use Rattle.dn_interval.specs.declared.row.Seg.{Seg}
@@ -9,7 +10,7 @@ use Rattle.dn_interval.specs.declared.span.Span.{Span}
 use Rattle.dn_interval.specs.declared.span.TheConstants.{TOP}
 use Rattle.dn_interval.specs.Rows.{Member as Named, AreNormal, SegmentsGive, GivenBy, moved}
 use Rattle.dn_interval.specs.Strands.{seg_gives, segs_give}
-use Rattle.dn_interval.proofs.Membership.{in_from, or_left, or_right}
+use Rattle.dn_interval.proofs.Membership.{in_from}
 use Rattle.dn_interval.proofs.Names.{segs_from, segs_to}
 use Rattle.dn_interval.proofs.Normal.{one_normal}
 use Rattle.dn_flat.proofs.Sums.{normal_of}

@@ -11,11 +11,13 @@ use Rattle.dn_net.specs.declared.node.Unit.{Unit as UnitPart}
 use Rattle.dn_net.specs.Chain.{Member, IsChain}
 use Rattle.dn_net.specs.Decode.{top, is_agent_at, is_stop, is_stop_at, unit_at, decode, sent_names, Step, StopsAt}
 use Rattle.dn_net.specs.Legal.{IsLegalNet}
+use Rattle.dn_net.proofs.Chains.{chain_join}
 use Rattle.dn_kind.specs.declared.rights.Access.{Access}
 use Rattle.dn_kind.specs.declared.rights.Access.TheVariants.{Read, Write}
 use Rattle.dn_kind.specs.Rights.{allows, both_rights, are_rights}
 use Rattle.dn_kind.specs.Tables.{Held, output, to_port, StepUnder, ResolvesUnder, AreHeld, allowing, record_allowing}
-use Rattle.dn_flat.proofs.Chains.{joined}
+use Rattle.dn_kind.proofs.Allowed.{both_allow}
+use Rattle.dn_kind.proofs.Ways.{allowing_held}
 use Rattle.dn_flat.specs.Views.{name_of_end, end_of}
 use Rattle.dn_tables.specs.declared.placement.Hop.{Hop}
 use Rattle.dn_tables.specs.Placement.{Place}
@@ -27,7 +29,6 @@ use Rattle.dn_placement.specs.Slots.{Slots}
 use Rattle.dn_view.specs.Exact.{IsAdded, IsAsked, IsExactAt, AreExact}
 use Rattle.dn_view.specs.Passes.{outputs, outputs_by}
 use Rattle.dn_view.specs.Records.{IsFitted, AreFitted}
-use Rattle.dn_view.proofs.Held.{allowed_are_held}
 use Rattle.dn_view.proofs.Newly.{blocked, resolves_all, newly_is_new}
 use Rattle.dn_view.proofs.Pages.{pages_ascend, output_of_hop}
 use Rattle.dn_view.proofs.Taken.{or_is, placed_are_held}
@@ -42,10 +43,6 @@ hops_fit net slots rq (hop ∷ hops) l =
 
 pub placement_fits : (net : List NodeDecl) (slots : Slots) (rq : Request) (p : Place) → IsTrue (are_rights rq.rights) → IsPlacement net slots rq p → AreFitted net rq p
 placement_fits net slots rq p are is = record { some = is.some; rights = are; hops = hops_fit net slots rq p.hops is.leads }
-
-both_allow : (access : Access) → allows both_rights access ≡ true
-both_allow Read = refl
-both_allow Write = refl
 
 -- where a hop's slot holds its record, the names of the hop are passed on to those of its port
 module _ (net : List NodeDecl) (slots : Slots) (rq : Request) (access : Access) where
@@ -112,7 +109,7 @@ module _ (net : List NodeDecl) (slots : Slots) (rq : Request) (access : Access) 
               end = later.end;
               stop = later.stop;
               steps = st.1.0 + suc later.steps;
-              chain = joined (StepUnder net old) st.1.0 (suc later.steps) (name_on node addr i) (name_on g.unit g.x i) later.end first (name_on j.node g.y i, step, later.chain);
+              chain = chain_join (StepUnder net old) st.1.0 (suc later.steps) (name_on node addr i) (name_on g.unit g.x i) later.end first (name_on j.node g.y i, step, later.chain);
               none = later.none;
             }
 
@@ -157,10 +154,10 @@ admissible_is_exact net slots rq p legal held are empty is = (into, back)
     added = placed_records net rq p
 
     all_held : (access : Access) → AreHeld net (allowing access (joined_records slots.held (placed_records net rq p)))
-    all_held access = allowed_are_held net (joined_records slots.held (placed_records net rq p)) access (λ node slot r e. or_is (slots.held node slot) (placed_records net rq p node slot) (λ t f. held node slot t f) (λ t f. placed_are_held net rq p legal.shapes (placement_fits net slots rq p are is) node slot t f) r e)
+    all_held access = allowing_held net (joined_records slots.held (placed_records net rq p)) access (λ node slot r e. or_is (slots.held node slot) (placed_records net rq p node slot) (λ t f. held node slot t f) (λ t f. placed_are_held net rq p legal.shapes (placement_fits net slots rq p are is) node slot t f) r e)
 
     old_held : (access : Access) → AreHeld net (allowing access slots.held)
-    old_held access = allowed_are_held net slots.held access held
+    old_held access = allowing_held net slots.held access held
 
     parted : (access : Access) (x z : Name) → ResolvesUnder net (allowing access (joined_records slots.held (placed_records net rq p))) x z ↔ (ResolvesUnder net (allowing access slots.held) x z ⊎ IsAdded net slots.held rq p access x z)
     parted access x z = resolves_all slots.held (placed_records net rq p) access net legal (all_held access) (old_held access) x z

@@ -4,9 +4,9 @@ use Rattle.std.specs.List.{All, list_all}
 use Rattle.std.specs.Option.{option_map}
 use Rattle.std.proofs.lemmas.Bool.{and_parts}
 use Rattle.std.proofs.lemmas.Option.{slice_get-map}
+use Rattle.dn_base.proofs.Lists.{list_all-at}
 use Rattle.dn_net.specs.declared.node.NodeDecl.{NodeDecl}
 use Rattle.dn_net.specs.declared.node.Unit.{Unit as UnitPart}
-use Rattle.dn_net.proofs.Places.{list_all-at}
 use Rattle.dn_kind.specs.Kind.{Meaning, IsLawful, gate_word}
 use Rattle.dn_kind.specs.Tables.{record_spelled, record_of_unit, slot_words}
 use Rattle.dn_tables.specs.declared.table.NodeTable.{NodeTable}

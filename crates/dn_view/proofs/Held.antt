@@ -2,38 +2,30 @@
 use Rattle.std.proofs.Common.{◌≡◌, ℕ, ◌<◌, ◌≤◌, Bool, true, false, if◌then◌else◌, nat_lt, List, slice_get, Option, Some, None, IsTrue, refl, sym, ap, ◌∙◌, subst, arith}
 use Rattle.std.specs.Option.{option_map}
 use Rattle.std.specs.List.{All}
-use Rattle.std.proofs.lemmas.Bool.{lt-ltb, ltb-true}
-use Rattle.std.proofs.lemmas.Option.{same_Some, slice_get-map}
+use Rattle.std.proofs.lemmas.Bool.{lt-ltb}
+use Rattle.std.proofs.lemmas.Option.{same_Some}
 use Rattle.dn_net.specs.declared.node.NodeDecl.{NodeDecl}
 use Rattle.dn_net.specs.declared.node.Unit.{Unit as UnitPart}
-use Rattle.dn_net.specs.Decode.{unit_at, unit_of}
+use Rattle.dn_net.specs.Decode.{unit_at}
 use Rattle.dn_net.specs.Units.{has_plain_units}
 use Rattle.dn_net.proofs.Plain.{plain_at}
+use Rattle.dn_net.proofs.Steps.{unit_is}
 use Rattle.dn_kind.specs.declared.shape.Shape.{Shape}
 use Rattle.dn_kind.specs.declared.rights.Access.{Access}
 use Rattle.dn_kind.specs.declared.unit_kind.Record.{Record}
 use Rattle.dn_kind.specs.Rights.{allows}
 use Rattle.dn_kind.specs.Kind.{Meaning, IsLawful, is_plain, is_within}
-use Rattle.dn_kind.specs.Tables.{Held, record_spelled, record_of_unit, record_held, record_allowing, allowing, AreHeld}
+use Rattle.dn_kind.specs.Tables.{Held, record_spelled, record_of_unit, record_held, record_allowing, AreHeld}
 use Rattle.dn_kind.specs.Units.{IsLegalWith, unit_shape}
 use Rattle.dn_kind.proofs.Held.{held_records_fit}
 use Rattle.dn_kind.proofs.Outputs.{has_pages}
 use Rattle.dn_tables.specs.declared.table.NodeTable.{NodeTable}
-use Rattle.dn_tables.specs.Set.{FitsNet, has_slot, has_slot_by, unit_in, unit_of_table, words_of, record_kept}
+use Rattle.dn_tables.specs.Set.{FitsNet, has_slot, has_slot_by, words_of, record_kept}
 use Rattle.dn_tables.proofs.Fresh.{shape_there, plain_there}
-
--- a set that fits a net keeps its units
-pub unit_kept : (net : List NodeDecl) (kinds : List Meaning) (set : List NodeTable) → FitsNet net kinds set → (node : ℕ) → unit_in set node ≡ unit_at net node
-unit_kept net kinds set fits node = by (slice_get set node) (slice_get net node) (sym (slice_get-map (λ (t : NodeTable). t.unit) set node) ∙ ap (λ us. slice_get us node) fits.units ∙ slice_get-map (λ (n : NodeDecl). n.unit) net node)
-  where
-    by : (t : Option NodeTable) (n : Option NodeDecl) → option_map (λ (t : NodeTable). t.unit) t ≡ option_map (λ (n : NodeDecl). n.unit) n → unit_of_table t ≡ unit_of n
-    by None None e = refl
-    by None (Some n) e = cc
-    by (Some t) None e = cc
-    by (Some t) (Some n) e = same_Some t.unit n.unit e
+use Rattle.dn_tables.proofs.Units.{unit_fits}
 
 pub kept_is_held : (net : List NodeDecl) (kinds : List Meaning) (set : List NodeTable) → FitsNet net kinds set → (node slot : ℕ) → record_kept kinds set node slot ≡ record_held net kinds (words_of set) node slot
-kept_is_held net kinds set fits node slot = ap (λ o. record_of_unit kinds o (slice_get (words_of set) node) slot) (unit_kept net kinds set fits node)
+kept_is_held net kinds set fits node slot = ap (λ o. record_of_unit kinds o (slice_get (words_of set) node) slot) (unit_fits net kinds set fits node)
 
 -- what a set keeps its units can hold
 pub kept_are_held : (net : List NodeDecl) (kinds : List Meaning) (set : List NodeTable) → All IsLawful kinds → FitsNet net kinds set → AreHeld net (record_kept kinds set)
@@ -60,10 +52,6 @@ allowed_was access (Some s) r e = by (allows s.rights access) e
     by true e = e
     by false e = cc
 
--- records that allow an access can be held where all can
-pub allowed_are_held : (net : List NodeDecl) (h : Held) (access : Access) → AreHeld net h → AreHeld net (allowing access h)
-allowed_are_held net h access held node slot r e = held node slot r (allowed_was access (h node slot) r e)
-
 -- a unit of a legal net, as it is found
 pub record IsFoundUnit (net : List NodeDecl) (node : ℕ) (u : UnitPart) : Type 0 where
   pub at : unit_at net node ≡ Some u
@@ -74,17 +62,10 @@ pub record IsFoundUnit (net : List NodeDecl) (node : ℕ) (u : UnitPart) : Type 
 few_slots : (s : Shape) → IsTrue (is_plain s) → s.slots ≤ 262144
 few_slots s p = grind arith
 
-pub at_is : (net : List NodeDecl) (i : ℕ) (o : Option UnitPart) → option_map (λ d. d.unit) (slice_get net i) ≡ Some o → unit_at net i ≡ o
-at_is net i o e = go (slice_get net i) e
-  where
-    go : (p : Option NodeDecl) → option_map (λ d. d.unit) p ≡ Some o → unit_of p ≡ o
-    go None f = cc
-    go (Some d) f = same_Some d.unit o f
-
 pub found_unit : (net : List NodeDecl) (kinds : List Meaning) → IsLegalWith kinds net → (node : ℕ) (u : UnitPart) → option_map (λ d. d.unit) (slice_get net node) ≡ Some (Some u) → IsFoundUnit net node u
 found_unit net kinds legal node u e =
     let plain : IsTrue (is_plain (unit_shape u)) = plain_there kinds u (shape_there kinds net node (Some u) legal.shaped e) in
-    record { at = at_is net node (Some u) e; plain = plain; page = (has_pages (unit_shape u) plain).page; slots = few_slots (unit_shape u) plain }
+    record { at = unit_is net node (Some u) e; plain = plain; page = (has_pages (unit_shape u) plain).page; slots = few_slots (unit_shape u) plain }
 
 -- a record that is held is within its unit
 pub held_within : (net : List NodeDecl) (h : Held) → AreHeld net h → (node slot : ℕ) (u : UnitPart) (r : Record) → unit_at net node ≡ Some u → h node slot ≡ Some r → IsTrue (is_within (unit_shape u) r)
@@ -94,15 +75,7 @@ held_within net h held node slot u r at e =
 
 -- a slot of a unit is there in the set
 pub slot_there : (net : List NodeDecl) (kinds : List Meaning) (set : List NodeTable) → FitsNet net kinds set → (node slot : ℕ) (u : UnitPart) → unit_at net node ≡ Some u → slot < u.slots → IsTrue (has_slot set node slot)
-slot_there net kinds set fits node slot u at l = subst (λ o. IsTrue (has_slot_by o slot)) (sym (unit_kept net kinds set fits node ∙ at)) (lt-ltb slot u.slots l)
-
--- a slot past the unit's last is none of it
-pub slot_past : (slot slots : ℕ) → slots ≤ slot → nat_lt slot slots ≡ false
-slot_past slot slots l = by (nat_lt slot slots) refl
-  where
-    by : (b : Bool) → nat_lt slot slots ≡ b → b ≡ false
-    by false e = refl
-    by true e = let t : slot < slots = ltb-true slot slots e in absurd (omega arith)
+slot_there net kinds set fits node slot u at l = subst (λ o. IsTrue (has_slot_by o slot)) (sym (unit_fits net kinds set fits node ∙ at)) (lt-ltb slot u.slots l)
 
 -- a unit of a legal net has a plain shape
 pub legal_plain : (net : List NodeDecl) (node : ℕ) (u : UnitPart) → IsTrue (has_plain_units net) → unit_at net node ≡ Some u → IsTrue (is_plain (unit_shape u))

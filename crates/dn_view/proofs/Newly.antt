@@ -6,12 +6,12 @@ use Rattle.dn_net.specs.declared.node.Unit.{Unit as UnitPart}
 use Rattle.dn_net.specs.Chain.{Member, IsChain, Reaches}
 use Rattle.dn_net.specs.Decode.{is_accepted, is_stop, is_stop_at, unit_at, Resolves, StopsAt}
 use Rattle.dn_net.specs.Legal.{IsLegalNet}
+use Rattle.dn_net.proofs.Chains.{chain_join}
 use Rattle.dn_kind.specs.declared.rights.Access.{Access}
 use Rattle.dn_kind.specs.declared.unit_kind.Record.{Record}
 use Rattle.dn_kind.specs.Tables.{Held, output, steps_under, StepUnder, ResolvesUnder, AreHeld, Extends, allowing, record_allowing}
 use Rattle.dn_kind.proofs.Bounds.{reach_under_is_within}
 use Rattle.dn_kind.proofs.Ways.{more_records_keep_names, legal_one_way_to_unit, ends_here}
-use Rattle.dn_flat.proofs.Chains.{joined}
 use Rattle.dn_placement.specs.Records.{or_record, joined_records}
 use Rattle.dn_view.specs.Passes.{outputs, outputs_by}
 use Rattle.dn_view.specs.Records.{fresh_record, fresh_records}
@@ -102,7 +102,7 @@ module _ (h added : Held) (access : Access) where
       joins : (x t w z : Name) → StopsAt net x t → Member w (outputs net all t) → ResolvesUnder net all w z → ResolvesUnder net all x z
       joins x t w z st m r =
           let rest : IsChain (StepUnder net all) (suc r.1.0) t z = (w, stop_step net legal all t w st.0 m, r.1.2) in
-          let whole = joined (StepUnder net all) st.1.0 (suc r.1.0) x t z (net_chain net legal all st.1.0 x t st.1.2) rest in
+          let whole = chain_join (StepUnder net all) st.1.0 (suc r.1.0) x t z (net_chain net legal all st.1.0 x t st.1.2) rest in
           (r.0, reach_under_is_within net all legal held x z (st.1.0 + suc r.1.0, whole))
 
       newly_passes : (n : ℕ) (s z : Name) → Newly net old fresh all n s z → (w : Name) × Member w (outputs net all s) × ResolvesUnder net all w z
@@ -140,7 +140,7 @@ module _ (h added : Held) (access : Access) where
       newly_blocked (suc n) s z stop (inr k) =
           let b = newly_blocked n k.2.0 z k.2.1.0 k.2.2 in
           let first : IsChain (StepUnder net old) k.2.1.1.0 k.0 k.2.0 = net_chain net legal old k.2.1.1.0 k.0 k.2.0 k.2.1.1.2 in
-          let on = joined (StepUnder net old) k.2.1.1.0 b.reaches.0 k.0 k.2.0 b.end first b.reaches.1 in
+          let on = chain_join (StepUnder net old) k.2.1.1.0 b.reaches.0 k.0 k.2.0 b.end first b.reaches.1 in
           record { end = b.end; stop = b.stop; reaches = (suc (k.2.1.1.0 + b.reaches.0), (k.0, stop_step net legal old s k.0 stop k.1, on)); none = b.none }
 
       -- a name that reaches an empty slot resolves to nothing
@@ -181,4 +181,4 @@ module _ (h added : Held) (access : Access) where
       newly_is_new x y z k res =
           let b = newly_blocked 3 k.0 z k.1.0 k.2 in
           let first : IsChain (StepUnder net old) k.1.1.0 x k.0 = net_chain net legal old k.1.1.0 x k.0 k.1.1.2 in
-          blocked x b.end y b.stop (k.1.1.0 + b.reaches.0, joined (StepUnder net old) k.1.1.0 b.reaches.0 x k.0 b.end first b.reaches.1) b.none res
+          blocked x b.end y b.stop (k.1.1.0 + b.reaches.0, chain_join (StepUnder net old) k.1.1.0 b.reaches.0 x k.0 b.end first b.reaches.1) b.none res

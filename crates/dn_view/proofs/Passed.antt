@@ -1,13 +1,13 @@
 -- What segments come to through a slot, as a relation; and level by level.
-use Rattle.std.proofs.Common.{◌≡◌, ℕ, zero, suc, ◌+◌, ◌-◌, ◌^◌, ◌<◌, ◌≤◌, ◌⊎◌, ◌↔◌, inl, inr, Bool, true, ◌&&◌, ◌||◌, nat_le, nat_lt, nat_eq, List, [], ◌∷◌, length, slice_get, Option, Some, None, IsTrue, refl, sym, ap, ◌∙◌, subst, arith, le-leb, leb-true, eqb-true, eq-eqb, ltb-true}
-use Rattle.std.specs.List.{list_any, list_all}
+use Rattle.std.proofs.Common.{◌≡◌, ℕ, suc, ◌+◌, ◌-◌, ◌^◌, ◌<◌, ◌≤◌, ◌⊎◌, ◌↔◌, inl, inr, Bool, true, ◌&&◌, ◌||◌, nat_le, nat_lt, nat_eq, List, [], length, Option, Some, None, IsTrue, refl, sym, ap, ◌∙◌, subst, arith, le-leb, leb-true, eqb-true, eq-eqb, ltb-true}
 use Rattle.std.proofs.lemmas.Bool.{and_parts, or_cases, false≢true}
+use Rattle.dn_base.proofs.Members.{any_member, member_any, member_all}
+use Rattle.dn_base.proofs.Booleans.{or_left, or_right}
 use Rattle.dn_interval.specs.declared.row.End.{End}
 use Rattle.dn_interval.specs.declared.row.Seg.{Seg}
 use Rattle.dn_interval.specs.declared.span.TheConstants.{TOP}
 use Rattle.dn_interval.specs.Spans.{in_span}
 use Rattle.dn_interval.specs.Strands.{seg_gives, segs_give}
-use Rattle.dn_interval.proofs.Membership.{or_left, or_right}
 use Rattle.dn_net.specs.declared.node.Name.{Name}
 use Rattle.dn_net.specs.declared.node.NodeDecl.{NodeDecl}
 use Rattle.dn_net.specs.declared.node.Unit.{Unit as UnitPart}
@@ -28,25 +28,6 @@ use Rattle.dn_view.proofs.Fitted.{IsSmall, small_unit}
 use Rattle.dn_view.proofs.Pages.{power_below}
 use Rattle.dn_view.proofs.Ways.{stop_step, resolves_through}
 
--- a test passes some item of a list
-pub any_to : {X : Type 0} (p : X → Bool) (xs : List X) → list_any p xs ≡ true → (x : X) × Member x xs × (p x ≡ true)
-any_to p [] e = cc
-any_to p (x ∷ xs) e = by (or_cases (p x) (list_any p xs) e) (any_to p xs)
-  where
-    by : (p x ≡ true) ⊎ (list_any p xs ≡ true) → (list_any p xs ≡ true → (y : _) × Member y xs × (p y ≡ true)) → (y : _) × Member y (x ∷ xs) × (p y ≡ true)
-    by (inl f) later = (x, inl refl, f)
-    by (inr f) later = let r = later f in (r.0, inr r.1, r.2)
-
-pub any_from : {X : Type 0} (p : X → Bool) (xs : List X) (x : X) → Member x xs → p x ≡ true → list_any p xs ≡ true
-any_from p [] x m e = absurd m
-any_from p (y ∷ ys) x (inl s) e = or_left (p y) (list_any p ys) (subst (λ v. p v ≡ true) (sym s) e)
-any_from p (y ∷ ys) x (inr m) e = or_right (p y) (list_any p ys) (any_from p ys x m e)
-
-all_at : {X : Type 0} (p : X → Bool) (xs : List X) (x : X) → list_all p xs ≡ true → Member x xs → p x ≡ true
-all_at p [] x e m = absurd m
-all_at p (y ∷ ys) x e (inl s) = subst (λ v. p v ≡ true) s (and_parts (p y) (list_all p ys) e).0
-all_at p (y ∷ ys) x e (inr m) = all_at p ys x (and_parts (p y) (list_all p ys) e).1 m
-
 -- the name that a segment gives
 pub seg_given : (s : Seg) (a : ℕ) (e : End) → seg_gives s a e ≡ true → (in_span s.span a ≡ true) × (◌≡◌ {A = Name} (name_of_end e) (seg_name s a))
 seg_given s a e g =
@@ -59,11 +40,6 @@ seg_gives_it s a t =
     ap (λ b. b && (nat_eq s.node s.node && nat_eq (s.base + (a - s.span.lo)) (s.base + (a - s.span.lo)))) t
     ∙ ap (λ b. b && nat_eq (s.base + (a - s.span.lo)) (s.base + (a - s.span.lo))) (eq-eqb s.node s.node refl)
     ∙ eq-eqb (s.base + (a - s.span.lo)) (s.base + (a - s.span.lo)) refl
-
-pub there : {X : Type 0} (xs : List X) (i : ℕ) → i < length xs → (x : X) × (slice_get xs i ≡ Some x)
-there [] i l = absurd (omega arith)
-there (x ∷ xs) zero l = (x, refl)
-there (x ∷ xs) (suc i) l = there xs i (omega arith)
 
 -- the layers of the stops of a node give its stops
 pub stops_given : (net : List NodeDecl) (flats : FlatsView) → AreFlats net flats → (node : ℕ) → node < length net → (a : ℕ) (z : End) → a ≤ TOP → (levels_give (stops_of flats node) a z ≡ true) ↔ StopsFrom net node a z
@@ -89,7 +65,7 @@ module _ (net : List NodeDecl) (legal : IsLegalNet net) (h : Held) (held : AreHe
           let b : l.addr < 2 ^ u.reach = l.below in
           let p : 2 ^ u.reach ≤ 72057594037927936 = power_below u.reach small.reach in
           let a : l.addr ≡ w.addr = ap (λ (x : Name). x.addr) l.to in
-          (ltb-true w.node (length net) (all_at (λ (x : Name). nat_lt x.node (length net)) (steps_under net h s) w (steps_under_there net h s legal.nodes.closed) step), omega arith)
+          (ltb-true w.node (length net) (member_all (λ (x : Name). nat_lt x.node (length net)) (steps_under net h s) w (steps_under_there net h s legal.nodes.closed) step), omega arith)
 
   module _ (part : Part) (T : ℕ → ℕ → End → Type 0) (next_is : (w : Name) (z : End) → w.node < length net → w.addr ≤ TOP → (part_gives part flats w.node w.addr z ≡ true) ↔ T w.node w.addr z) where
     abbrev next : ℕ → ℕ → End → Bool
@@ -109,23 +85,23 @@ module _ (net : List NodeDecl) (legal : IsLegalNet net) (h : Held) (held : AreHe
       where
         into : segs_pass net h (part_gives part flats) segs a z ≡ true → (s : End) × (segs_give segs a s ≡ true) × ((w : Name) × Member w (outputs net h (name_of_end s)) × T w.node w.addr z)
         into e =
-            let r = any_to (λ (s : Seg). seg_passes net h (part_gives part flats) s a z) segs e in
+            let r = any_member (λ (s : Seg). seg_passes net h (part_gives part flats) s a z) segs e in
             let s : Seg = r.0 in
             let b = and_parts (in_span s.span a) (names_go (part_gives part flats) (outputs net h (seg_name s a)) z) r.2 in
-            let v = any_to (λ (w : Name). next w.node w.addr z) (outputs net h (seg_name s a)) b.1 in
+            let v = any_member (λ (w : Name). next w.node w.addr z) (outputs net h (seg_name s a)) b.1 in
             let o = output_there (seg_name s a) v.0 (low_name s a b.0) v.1 in
-            (end_of (seg_name s a), any_from (λ (t : Seg). seg_gives t a (end_of (seg_name s a))) segs s r.1 (seg_gives_it s a b.0), (v.0, v.1, (next_is v.0 z o.0 o.1).0 v.2))
+            (end_of (seg_name s a), member_any (λ (t : Seg). seg_gives t a (end_of (seg_name s a))) segs s r.1 (seg_gives_it s a b.0), (v.0, v.1, (next_is v.0 z o.0 o.1).0 v.2))
 
         back : ((s : End) × (segs_give segs a s ≡ true) × ((w : Name) × Member w (outputs net h (name_of_end s)) × T w.node w.addr z)) → segs_pass net h (part_gives part flats) segs a z ≡ true
         back r =
-            let v = any_to (λ (t : Seg). seg_gives t a r.0) segs r.1 in
+            let v = any_member (λ (t : Seg). seg_gives t a r.0) segs r.1 in
             let s : Seg = v.0 in
             let g = seg_given s a r.0 v.2 in
             let w : Name = r.2.0 in
             let m : Member w (outputs net h (seg_name s a)) = subst (λ (x : Name). Member w (outputs net h x)) g.1 r.2.1 in
             let o = output_there (seg_name s a) w (low_name s a g.0) m in
-            let n : names_go (part_gives part flats) (outputs net h (seg_name s a)) z ≡ true = any_from (λ (w : Name). next w.node w.addr z) (outputs net h (seg_name s a)) w m ((next_is w z o.0 o.1).1 r.2.2) in
-            any_from (λ (s : Seg). seg_passes net h (part_gives part flats) s a z) segs s v.1 (ap (λ b. b && names_go (part_gives part flats) (outputs net h (seg_name s a)) z) g.0 ∙ n)
+            let n : names_go (part_gives part flats) (outputs net h (seg_name s a)) z ≡ true = member_any (λ (w : Name). next w.node w.addr z) (outputs net h (seg_name s a)) w m ((next_is w z o.0 o.1).1 r.2.2) in
+            member_any (λ (s : Seg). seg_passes net h (part_gives part flats) s a z) segs s v.1 (ap (λ b. b && names_go (part_gives part flats) (outputs net h (seg_name s a)) z) g.0 ∙ n)
 
   accepts_next : (w : Name) (z : End) → w.node < length net → w.addr ≤ TOP → (part_gives Accepts flats w.node w.addr z ≡ true) ↔ ResolvesFrom net w.node w.addr z
   accepts_next w z l low = shows_is net flats are w.node w.addr z l low
@@ -182,9 +158,6 @@ comes_end net h shown level a z = (into, (λ e. inl e))
 -- of three levels one fewer is left
 pub one_less : (i : ℕ) → i < 3 → 3 - i ≡ suc (3 - (i + 1))
 one_less i l = omega arith
-
-pub then_both : {A B C : Type 0} → A ↔ B → B ↔ C → A ↔ C
-then_both f g = ((λ a. g.0 (f.0 a)), (λ c. f.1 (g.1 c)))
 
 pub both_turned : {A B : Type 0} → A ↔ B → B ↔ A
 both_turned f = (f.1, f.0)

@@ -1,8 +1,10 @@
 -- A node from which no hop can be met shows nothing newly.
-use Rattle.std.proofs.Common.{◌≡◌, ℕ, suc, ◌+◌, ◌*◌, ◌-◌, ◌/◌, ◌%◌, ◌^◌, ◌<◌, ◌≤◌, inl, inr, Bool, true, false, if◌then◌else◌, ◌&&◌, ◌||◌, nat_eq, nat_lt, List, [], ◌∷◌, length, slice_get, Option, Some, None, IsTrue, refl, sym, ap, ◌∙◌, subst, arith, eqb-true, lt-ltb, ltb-true}
+use Rattle.std.proofs.Common.{◌≡◌, ℕ, suc, ◌+◌, ◌*◌, ◌-◌, ◌/◌, ◌%◌, ◌^◌, ◌<◌, ◌≤◌, inl, inr, Bool, true, false, if◌then◌else◌, ◌&&◌, nat_eq, nat_lt, List, [], ◌∷◌, length, slice_get, Option, Some, None, IsTrue, refl, sym, ap, ◌∙◌, subst, eqb-true, ltb-true}
 use Rattle.std.specs.List.{list_any, list_all}
 use Rattle.std.proofs.lemmas.Bool.{and_parts, false≢true}
 use Rattle.dn_base.proofs.Lists.{list_all-at}
+use Rattle.dn_base.proofs.Booleans.{or_parts}
+use Rattle.dn_base.proofs.Members.{any_member, member_any, member_none}
 use Rattle.dn_interval.specs.declared.row.End.{End}
 use Rattle.dn_interval.specs.declared.row.Row.{Row}
 use Rattle.dn_interval.specs.declared.span.TheConstants.{TOP}
@@ -14,14 +16,15 @@ use Rattle.dn_net.specs.declared.node.Unit.{Unit as UnitPart}
 use Rattle.dn_net.specs.Chain.{Member}
 use Rattle.dn_net.specs.Decode.{unit_at, StopsAt}
 use Rattle.dn_net.specs.Legal.{IsLegalNet}
+use Rattle.dn_net.proofs.Steps.{ports_at}
 use Rattle.dn_kind.specs.declared.rights.Access.{Access}
 use Rattle.dn_kind.specs.declared.rights.Rights.{Rights}
 use Rattle.dn_kind.specs.declared.unit_kind.Record.{Record}
 use Rattle.dn_kind.specs.Rights.{allows}
 use Rattle.dn_kind.specs.Tables.{Held, allowing, output, record_allowing, to_port}
-use Rattle.dn_kind.proofs.Nodes.{ports_there}
 use Rattle.dn_flat.specs.Levels.{AreFlats, FlatsView, levels_give}
 use Rattle.dn_flat.specs.Views.{name_of_end, end_of}
+use Rattle.dn_flat.proofs.Reached.{some_rows}
 use Rattle.dn_tables.specs.declared.placement.Hop.{Hop}
 use Rattle.dn_tables.specs.Placement.{Place}
 use Rattle.dn_placement.specs.declared.request.Request.{Request}
@@ -35,27 +38,13 @@ use Rattle.dn_view.proofs.Added.{not_asked}
 use Rattle.dn_view.proofs.Buffers.{exact_none}
 use Rattle.dn_view.proofs.Cuts.{none_at}
 use Rattle.dn_view.proofs.Exposed.{stop_low}
-use Rattle.dn_view.proofs.Passed.{any_from, any_to}
 use Rattle.dn_view.proofs.Viewed.{node_stops}
-
--- neither of two
-neither : (p q : Bool) → (p || q) ≡ false → (p ≡ false) × (q ≡ false)
-neither true q e = cc
-neither false q e = (refl, e)
-
--- no item of the list passes
-none_is : {X : Type 0} (p : X → Bool) (xs : List X) (x : X) → list_any p xs ≡ false → Member x xs → p x ≡ false
-none_is p xs x e m = by (p x) refl
-  where
-    by : (b : Bool) → p x ≡ b → b ≡ false
-    by true f = absurd (false≢true (sym e ∙ any_from p xs x m f))
-    by false f = refl
 
 -- in a node in which no hop stands the hops have no record
 unplaced : (net : List NodeDecl) (size : ℕ) (rights : Rights) (own place : ℕ) (hops : List Hop) (node slot : ℕ) → has_hop hops node ≡ false → hops_records net size rights own place hops node slot ≡ None
 unplaced net size rights own place [] node slot e = refl
 unplaced net size rights own place (hop ∷ hops) node slot e =
-    let n = neither (nat_eq node hop.unit) (has_hop hops node) e in
+    let n = or_parts (nat_eq node hop.unit) (has_hop hops node) e in
     ap (λ o. or_record o (hops_records net size rights own (suc place) hops node slot)) (here (unit_at net hop.unit) n.0)
     ∙ unplaced net size rights own (suc place) hops node slot n.1
   where
@@ -63,31 +52,26 @@ unplaced net size rights own place (hop ∷ hops) node slot e =
     here None f = refl
     here (Some u) f = ap (λ b. if b && is_taken_by u size hop slot then Some (slot_record u (hop_rights rights own place) hop slot) else None) f
 
--- rows that give a name are there
-given_rows : (rows : List Row) (a : ℕ) (z : End) → rows_give rows a z ≡ true → has_rows rows ≡ true
-given_rows [] a z e = cc
-given_rows (r ∷ rs) a z e = lt-ltb 0 (length (r ∷ rs)) (let f : 0 < length (r ∷ rs) = omega arith in f)
-
 layer_given : (layers : List (List Row)) (a : ℕ) (z : End) → levels_give layers a z ≡ true → list_any has_rows layers ≡ true
-layer_given layers a z e = let r = any_to (λ (rows : List Row). rows_give rows a z) layers e in any_from has_rows layers r.0 r.1 (given_rows r.0 a z r.2)
+layer_given layers a z e = let r = any_member (λ (rows : List Row). rows_give rows a z) layers e in member_any has_rows layers r.0 r.1 (some_rows r.0 a z r.2)
 
 -- the node of a name that rows give is that of one of their names
 row_met : (p : ℕ → Bool) (rows : List Row) (a : ℕ) (z : End) → list_any (λ (r : Row). list_any (λ (e : End). p e.node) r.ends) rows ≡ false → rows_give rows a z ≡ true → p z.node ≡ false
 row_met p rows a z none g =
-    let r = any_to (λ (r : Row). row_gives r a z) rows g in
+    let r = any_member (λ (r : Row). row_gives r a z) rows g in
     let row : Row = r.0 in
     let given = and_parts (in_span row.span a) (ends_give row.ends row.span.lo a z) r.2 in
-    let e = any_to (λ (e : End). nat_eq e.node z.node && nat_eq (e.base + (a - row.span.lo)) z.base) row.ends given.1 in
+    let e = any_member (λ (e : End). nat_eq e.node z.node && nat_eq (e.base + (a - row.span.lo)) z.base) row.ends given.1 in
     let end : End = e.0 in
     let same = and_parts (nat_eq end.node z.node) (nat_eq (end.base + (a - row.span.lo)) z.base) e.2 in
     subst (λ n. p n ≡ false) (eqb-true end.node z.node same.0)
-    (none_is (λ (e : End). p e.node) row.ends end (none_is (λ (r : Row). list_any (λ (e : End). p e.node) r.ends) rows row none r.1) e.1)
+    (member_none (λ (e : End). p e.node) row.ends end (member_none (λ (r : Row). list_any (λ (e : End). p e.node) r.ends) rows row none r.1) e.1)
 
 -- and so it is of layers
 layer_met : (p : ℕ → Bool) (layers : List (List Row)) (a : ℕ) (z : End) → list_any (λ (rows : List Row). list_any (λ (r : Row). list_any (λ (e : End). p e.node) r.ends) rows) layers ≡ false → levels_give layers a z ≡ true → p z.node ≡ false
 layer_met p layers a z none g =
-    let r = any_to (λ (rows : List Row). rows_give rows a z) layers g in
-    row_met p r.0 a z (none_is (λ (rows : List Row). list_any (λ (s : Row). list_any (λ (e : End). p e.node) s.ends) rows) layers r.0 none r.1) r.2
+    let r = any_member (λ (rows : List Row). rows_give rows a z) layers g in
+    row_met p r.0 a z (member_none (λ (rows : List Row). list_any (λ (s : Row). list_any (λ (e : End). p e.node) s.ends) rows) layers r.0 none r.1) r.2
 
 module _ (net : List NodeDecl) (legal : IsLegalNet net) (flats : FlatsView) (are : AreFlats net flats) (rq : Request) (p : Place) (access : Access) (h : Held) where
   abbrev added : Held
@@ -101,7 +85,7 @@ module _ (net : List NodeDecl) (legal : IsLegalNet net) (flats : FlatsView) (are
   not_newly t z none k = by k
     where
       parts : (has_hop p.hops t.node ≡ false) × (leads_to_units flats (unit_at net t.node) ≡ false)
-      parts = neither (has_hop p.hops t.node) (leads_to_units flats (unit_at net t.node)) none
+      parts = or_parts (has_hop p.hops t.node) (leads_to_units flats (unit_at net t.node)) none
 
       empty : (slot : ℕ) → fresh t.node slot ≡ None
       empty slot = ap (λ o. record_allowing access (fresh_record (h t.node slot) o)) (unplaced net rq.size rq.rights p.own 0 p.hops t.node slot parts.0) ∙ no_record (h t.node slot)
@@ -130,7 +114,7 @@ module _ (net : List NodeDecl) (legal : IsLegalNet net) (flats : FlatsView) (are
               same = sym (ap (λ (x : Name). x.node) k)
 
               within : port < length flats.nodes
-              within = subst (λ n. port < n) (sym are.every) (there u.ports i (ports_there net t.node u legal.nodes.closed e) g)
+              within = subst (λ n. port < n) (sym are.every) (there u.ports i (ports_at net t.node u legal.nodes.closed e) g)
                 where
                   there : (ports : List ℕ) (j : ℕ) → IsTrue (list_all (λ q. nat_lt q (length net)) ports) → slice_get ports j ≡ Some port → port < length net
                   there ports j all_there at_j = ltb-true port (length net) (list_all-at (λ q. nat_lt q (length net)) ports j port all_there at_j)

@@ -9,10 +9,10 @@ use Rattle.dn_net.specs.Legal.{IsLegalNet}
 use Rattle.dn_net.specs.UnitRules.{LeadsOn, LeadsTo, IsUnitRow}
 use Rattle.dn_net.proofs.Steps.{unit_is_bare, node_at}
 use Rattle.dn_net.proofs.Stops.{shallow_reach}
+use Rattle.dn_net.proofs.Chains.{chain_more, chain_join}
 use Rattle.dn_kind.specs.Tables.{Held, output, steps_by_unit, step_limit_under, StepUnder, ResolvesUnder, AreHeld}
 use Rattle.dn_kind.proofs.Bounds.{Led, leads_by, led, reach_under_is_within}
-use Rattle.dn_kind.proofs.Ways.{chain_more, stop_from_step}
-use Rattle.dn_flat.proofs.Chains.{joined}
+use Rattle.dn_kind.proofs.Ways.{stop_from_step}
 use Rattle.dn_view.specs.Passes.{outputs, outputs_by}
 use Rattle.dn_view.specs.Through.{UpTo, ComesThrough}
 
@@ -138,7 +138,7 @@ module _ (net : List NodeDecl) (legal : IsLegalNet net) (h : Held) where
         let t : Name = r.0 in
         let later = back m r.2.0 z r.2.2 in
         let step : IsChain (StepUnder net h) (suc later.1.0) t z = (r.2.0, stop_step t r.2.0 r.1.0 r.2.1, later.1.1) in
-        (later.0, (r.1.1.0 + suc later.1.0, joined (StepUnder net h) r.1.1.0 (suc later.1.0) x t z (net_chain r.1.1.0 x t r.1.1.2) step))
+        (later.0, (r.1.1.0 + suc later.1.0, chain_join (StepUnder net h) r.1.1.0 (suc later.1.0) x t z (net_chain r.1.1.0 x t r.1.1.2) step))
 
     -- what a name resolves to under records it comes to through at most three units
     pub up_to_three : (x z : Name) → ResolvesUnder net h x z ↔ UpTo net h 3 x z

@@ -3,6 +3,7 @@ use Rattle.std.proofs.Common.{◌≡◌, ℕ, zero, suc, ◌<◌, ◌≤◌, inl
 use Rattle.std.specs.List.{list_all}
 use Rattle.std.proofs.lemmas.Bool.{or_cases, and_parts, false≢true, cases_lt}
 use Rattle.std.proofs.lemmas.List.{get_or_past}
+use Rattle.dn_base.proofs.Booleans.{and-false}
 use Rattle.dn_interval.specs.declared.span.Span.{Span}
 use Rattle.dn_interval.specs.Spans.{has}
 use Rattle.dn_net.specs.declared.node.Block.{Block}
@@ -30,11 +31,7 @@ accepted_by (Some d) bs set range at same a =
   where
     go : (b : Bool) → in_some_block a bs ≡ b → (nat_le a top && in_some_block a bs) ≡ in_some_block a bs
     go true f = ap (λ t. t && in_some_block a bs) (le-leb a top (below_top bs a range f))
-    go false f = rw f (none (nat_le a top))
-      where
-        none : (t : Bool) → (t && false) ≡ false
-        none true = refl
-        none false = refl
+    go false f = rw f (and-false (nat_le a top))
 
 none_past : (net : List NodeDecl) (n a : ℕ) → length net ≤ n → is_accepted_at a (slice_get net n) ≡ false
 none_past [] n a l = refl

@@ -1,6 +1,6 @@
 -- The levels that the code makes are those of the net, and the tests over rows are the tests over names.
 use Rattle.std.proofs.Common.{◌≡◌, ℕ, zero, suc, ◌+◌, ◌-◌, ◌<◌, ◌≤◌, ◌⊎◌, inl, inr, Bool, true, false, cond, not, ◌&&◌, ◌||◌, ◌==◌, List, [], ◌∷◌, ◌++◌, map, length, get_or, slice_get, Option, Some, None, refl, sym, ap, ◌∙◌, subst, arith, eqb-true}
-use Rattle.std.specs.List.{filter, flat_map, list_any}
+use Rattle.std.specs.List.{filter, flat_map}
 use Rattle.std.proofs.lemmas.Bool.{eq-eqb}
 use Rattle.std.proofs.lemmas.List.{map-append, length_push}
 use Rattle.dn_net.specs.declared.node.Name.{Name}
@@ -10,7 +10,7 @@ use Rattle.dn_net.specs.Decode.{top}
 use Rattle.dn_net.specs.Walks.{Leg as NetLeg, legs_of, in_order, Walk, meets, onto, extended, stills, level, starts_before, live_walks}
 use Rattle.dn_net.specs.WalkRules.{least_name, comes_to, comes_back, goes_on}
 use Rattle.dn_net.specs.Rules.{KeepsNodeRules}
-use Rattle.dn_net.proofs.Least.{within_to, within_from, true_both, both_true, either_true, true_left, true_right}
+use Rattle.dn_net.proofs.Least.{within_to, within_from}
 use Rattle.dn_walk.specs.declared.leg.Leg.{Leg}
 use Rattle.dn_walk.specs.declared.way.Goal.TheVariants.{Anywhere, To}
 use Rattle.dn_walk.specs.Rows.{Told, told_by_walk}
@@ -19,10 +19,10 @@ use Rattle.dn_walk.specs.Levels.{told_meets, told_onto, told_on, told_extended, 
 use Rattle.dn_walk.specs.Ways.{least_of, start_name, start_names, is_cyclic, told_leads, level_leads, has_addr, meets_goal}
 use Rattle.dn_net.proofs.Cycles.{IsLed, HasName, comes_to_is_row, goes_on_is_row}
 use Rattle.dn_net.proofs.Firsts.{NoLater, lower_addr, IsLeastNameOr, least_name_is}
-use Rattle.dn_net.proofs.Gaps.{same_test}
 use Rattle.dn_walk.proofs.Least.{same_place, least_is, least_none}
 use Rattle.dn_net.proofs.Levels.{level_is_row}
-use Rattle.dn_base.proofs.Members.{map_member, member_map}
+use Rattle.dn_base.proofs.Members.{map_member, member_map, any_member, member_any}
+use Rattle.dn_base.proofs.Booleans.{and_parts, and_from, same_tests}
 use Rattle.dn_net.proofs.Members.{member_filter, filter_member, member_order}
 use Rattle.dn_walk.proofs.Sorting.{map_in_order}
 use Rattle.dn_walk.proofs.Told.{level-zero, level-suc, walks-zero, walks-suc}
@@ -123,10 +123,10 @@ no_later x lo l = by (cases lo x.addr l)
     by (inr e) = inr (λ i. record { node = x.node; addr = e i })
 
 cyclic_parts : (t : Told) → is_cyclic t ≡ true → (t.start ≡ t.end) × (t.base ≡ t.lo)
-cyclic_parts t h = let b = both_true (t.start == t.end) (t.base == t.lo) h in (eqb-true _ _ b.0, eqb-true _ _ b.1)
+cyclic_parts t h = let b = and_parts (t.start == t.end) (t.base == t.lo) h in (eqb-true _ _ b.0, eqb-true _ _ b.1)
 
 cyclic_from : (t : Told) → t.start ≡ t.end → t.base ≡ t.lo → is_cyclic t ≡ true
-cyclic_from t e f = true_both _ _ (eq-eqb t.start t.end e) (eq-eqb t.base t.lo f)
+cyclic_from t e f = and_from _ _ (eq-eqb t.start t.end e) (eq-eqb t.base t.lo f)
 
 start_from : (b : Bool) (rows : List Told) (x : Name) → Member x (start_names b rows) → (t : Told) × Member t rows × (start_name t ≡ x) × ((not b || is_cyclic t) ≡ true)
 start_from b rows x m =
@@ -206,19 +206,6 @@ least_onward net checked k = least_name_of net (goes_on net k) (start_names fals
         let y : Name = record { node = w.start; addr = w.span.lo } in
         (y, start_to false (told_level (map told_legs net) k) (told_by_walk w) (row_of net k w r.1.row) refl, subst (λ m. NoLater (record { node = m; addr = w.span.lo }) x) (sym s) (no_later x w.span.lo lo))
 
--- a row of a level leads to a goal exactly where the test of names says so
-any_member : {X : Type 0} (p : X → Bool) (xs : List X) → list_any p xs ≡ true → (x : X) × Member x xs × (p x ≡ true)
-any_member p [] h = cc
-any_member p (x ∷ xs) h = elim (either_true (p x) (list_any p xs) h) [
-  | inl e ↦ (x, inl refl, e)
-  | inr e ↦ (let r = any_member p xs e in (r.0, inr r.1, r.2))
-]
-
-member_any : {X : Type 0} (p : X → Bool) (xs : List X) (x : X) → Member x xs → p x ≡ true → list_any p xs ≡ true
-member_any p [] x m h = absurd m
-member_any p (y ∷ xs) x (inl e) h = true_left (p y) (list_any p xs) (ap p e ∙ h)
-member_any p (y ∷ xs) x (inr m) h = true_right (p y) (list_any p xs) (member_any p xs x m h)
-
 row_among : (net : List NodeDecl) (k : ℕ) (t : Told) → Member t (in_order told_before (told_level (map told_legs net) k)) → (w : Walk) × Member w (level net k) × (told_by_walk w ≡ t)
 row_among net k t m = walk_of net k t ((member_order told_before (told_level (map told_legs net) k) t).0 m)
 
@@ -226,16 +213,16 @@ among_row : (net : List NodeDecl) (k : ℕ) (w : Walk) → Member w (level net k
 among_row net k w m = (member_order told_before (told_level (map told_legs net) k) (told_by_walk w)).1 (row_of net k w m)
 
 pub leads_to_name : (net : List NodeDecl) → KeepsNodeRules net → (k : ℕ) (x y : Name) → x.node < length net → x.addr ≤ top → level_leads (To y) (in_order told_before (told_level (map told_legs net) k)) x ≡ comes_to net y k x
-leads_to_name net checked k x y l t = same_test (level_leads (To y) rows x) (comes_to net y k x) there back
+leads_to_name net checked k x y l t = same_tests (level_leads (To y) rows x) (comes_to net y k x) there back
   where
     rows : List Told
     rows = in_order told_before (told_level (map told_legs net) k)
 
     led : (w : Walk) → Member w (level net k) → told_leads (To y) x (told_by_walk w) ≡ true → IsLed net k x y w
     led w m h =
-        let a = both_true (w.start == x.node) (has_addr (told_by_walk w) x.addr && meets_goal (To y) x.addr (told_by_walk w)) h in
-        let b = both_true (has_addr (told_by_walk w) x.addr) (meets_goal (To y) x.addr (told_by_walk w)) a.1 in
-        let c = both_true (w.to.node == y.node) ((w.to.addr + (x.addr - w.span.lo)) == y.addr) b.1 in
+        let a = and_parts (w.start == x.node) (has_addr (told_by_walk w) x.addr && meets_goal (To y) x.addr (told_by_walk w)) h in
+        let b = and_parts (has_addr (told_by_walk w) x.addr) (meets_goal (To y) x.addr (told_by_walk w)) a.1 in
+        let c = and_parts (w.to.node == y.node) ((w.to.addr + (x.addr - w.span.lo)) == y.addr) b.1 in
         record { row = m; start = eqb-true _ _ a.0; inside = b.0; to = (λ i. record { node = eqb-true _ _ c.0 i; addr = eqb-true _ _ c.1 i }) }
 
     there : level_leads (To y) rows x ≡ true → comes_to net y k x ≡ true
@@ -248,19 +235,19 @@ leads_to_name net checked k x y l t = same_test (level_leads (To y) rows x) (com
     back h =
         let r = (comes_to_is_row net checked k x y l t).0 h in
         let w = r.0 in
-        let goal = true_both (w.to.node == y.node) ((w.to.addr + (x.addr - w.span.lo)) == y.addr) (eq-eqb _ _ (ap (λ n. n.node) r.1.to)) (eq-eqb _ _ (ap (λ n. n.addr) r.1.to)) in
-        member_any (told_leads (To y) x) rows (told_by_walk w) (among_row net k w r.1.row) (true_both (w.start == x.node) (has_addr (told_by_walk w) x.addr && meets_goal (To y) x.addr (told_by_walk w)) (eq-eqb _ _ r.1.start) (true_both (has_addr (told_by_walk w) x.addr) (meets_goal (To y) x.addr (told_by_walk w)) r.1.inside goal))
+        let goal = and_from (w.to.node == y.node) ((w.to.addr + (x.addr - w.span.lo)) == y.addr) (eq-eqb _ _ (ap (λ n. n.node) r.1.to)) (eq-eqb _ _ (ap (λ n. n.addr) r.1.to)) in
+        member_any (told_leads (To y) x) rows (told_by_walk w) (among_row net k w r.1.row) (and_from (w.start == x.node) (has_addr (told_by_walk w) x.addr && meets_goal (To y) x.addr (told_by_walk w)) (eq-eqb _ _ r.1.start) (and_from (has_addr (told_by_walk w) x.addr) (meets_goal (To y) x.addr (told_by_walk w)) r.1.inside goal))
 
 pub leads_anywhere : (net : List NodeDecl) → KeepsNodeRules net → (k : ℕ) (x : Name) → x.node < length net → x.addr ≤ top → level_leads Anywhere (in_order told_before (told_level (map told_legs net) k)) x ≡ goes_on net k x
-leads_anywhere net checked k x l t = same_test (level_leads Anywhere rows x) (goes_on net k x) there back
+leads_anywhere net checked k x l t = same_tests (level_leads Anywhere rows x) (goes_on net k x) there back
   where
     rows : List Told
     rows = in_order told_before (told_level (map told_legs net) k)
 
     has : (w : Walk) → Member w (level net k) → told_leads Anywhere x (told_by_walk w) ≡ true → HasName net k x w
     has w m h =
-        let a = both_true (w.start == x.node) (has_addr (told_by_walk w) x.addr && true) h in
-        let b = both_true (has_addr (told_by_walk w) x.addr) true a.1 in
+        let a = and_parts (w.start == x.node) (has_addr (told_by_walk w) x.addr && true) h in
+        let b = and_parts (has_addr (told_by_walk w) x.addr) true a.1 in
         record { row = m; start = eqb-true _ _ a.0; inside = b.0 }
 
     there : level_leads Anywhere rows x ≡ true → goes_on net k x ≡ true
@@ -273,4 +260,4 @@ leads_anywhere net checked k x l t = same_test (level_leads Anywhere rows x) (go
     back h =
         let r = (goes_on_is_row net checked k x l t).0 h in
         let w = r.0 in
-        member_any (told_leads Anywhere x) rows (told_by_walk w) (among_row net k w r.1.row) (true_both (w.start == x.node) (has_addr (told_by_walk w) x.addr && true) (eq-eqb _ _ r.1.start) (true_both (has_addr (told_by_walk w) x.addr) true r.1.inside refl))
+        member_any (told_leads Anywhere x) rows (told_by_walk w) (among_row net k w r.1.row) (and_from (w.start == x.node) (has_addr (told_by_walk w) x.addr && true) (eq-eqb _ _ r.1.start) (and_from (has_addr (told_by_walk w) x.addr) true r.1.inside refl))

@@ -1,12 +1,12 @@
 -- The names of a net as the ends of rows: where one stands, and that names which ascend do so as rows have them.
 use Rattle.std.proofs.Common.{◌≡◌, ◌↔◌, inl, inr, List, [], ◌∷◌, map, refl, ap, true}
+use Rattle.dn_base.proofs.Booleans.{and_parts}
 use Rattle.dn_interval.specs.declared.row.End.{End}
 use Rattle.dn_interval.specs.Rows.{AllAbove, Ascending}
 use Rattle.dn_net.specs.declared.node.Name.{Name}
 use Rattle.dn_net.specs.Chain.{Member}
 use Rattle.dn_net.specs.Names.{name_lt, is_before_first, is_ascending}
 use Rattle.dn_net.proofs.Ascending.{before_members}
-use Rattle.dn_net.proofs.Least.{both_true}
 
 abbrev pub end_of : Name → End
 end_of x = record { node = x.node; base = x.addr }
@@ -30,4 +30,4 @@ all_above x (y ∷ ys) before = (before y (inl refl), all_above x ys (λ z m. be
 
 pub ends_ascend : (xs : List Name) → is_ascending xs ≡ true → Ascending (map end_of xs)
 ends_ascend [] up = tt
-ends_ascend (x ∷ xs) up = (all_above x xs (λ z m. before_members x z xs up m), ends_ascend xs (both_true (is_before_first x xs) (is_ascending xs) up).1)
+ends_ascend (x ∷ xs) up = (all_above x xs (λ z m. before_members x z xs up m), ends_ascend xs (and_parts (is_before_first x xs) (is_ascending xs) up).1)

@@ -7,6 +7,7 @@ use Rattle.std.specs.declared.cmp.Ordering.TheVariants.{Less, Equal, Greater}
 use Rattle.std.specs.Ordering.{nat_cmp, ordering_then, is_lt}
 use Rattle.std.specs.List.Sorted.{IsSortedBy, IsStableBy}
 use Rattle.std.proofs.lemmas.List.Sorted.{IsStrictWeakOrder-by_number}
+use Rattle.dn_base.proofs.Booleans.{and-false}
 use Rattle.dn_net.specs.Walks.{in_order}
 use Rattle.dn_walk.specs.declared.leg.Leg.{Leg}
 use Rattle.dn_walk.specs.declared.walks.WalkRow.{WalkRow}
@@ -46,14 +47,10 @@ lex_to f r x y (inl l) = rw (below (f x) (f y) l, differs (f x) (f y) l) refl
 
     differs : (a b : ℕ) → b < a → (a == b) ≡ false
     differs a b l = never a b (a == b) refl l
-lex_to f r x y (inr h) = rw (not_below (f x) (f y) h.0, h.1) (both_false (f x == f y))
+lex_to f r x y (inr h) = rw (not_below (f x) (f y) h.0, h.1) (and-false (f x == f y))
   where
     not_below : (a b : ℕ) → a ≡ b → nat_lt a b ≡ false
     not_below a b s = le-ltb a b (omega arith)
-
-    both_false : (b : Bool) → (b && false) ≡ false
-    both_false true = refl
-    both_false false = refl
 
 lex_weak : {X : Type 0} (f : X → ℕ) (r : X → X → Bool) → IsStrictWeakOrder r → IsStrictWeakOrder (lex f r)
 lex_weak {X} f r o = record { one_way = one_way; chain = chain }

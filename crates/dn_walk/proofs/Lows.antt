@@ -1,11 +1,12 @@
 -- The lowest addresses from which rows lead, row by row.
-use Rattle.std.proofs.Common.{◌≡◌, ℕ, ◌+◌, ◌*◌, ◌^◌, ◌<◌, ◌≤◌, ◌⊎◌, inl, inr, min, Bool, true, false, ◌&&◌, ◌||◌, nat_lt, ◌==◌, List, [], ◌∷◌, ◌++◌, map, take, length, get_or, set, replicate, refl, sym, ap, ◌∙◌, subst, arith}
+use Rattle.std.proofs.Common.{◌≡◌, ℕ, ◌+◌, ◌*◌, ◌^◌, ◌<◌, ◌≤◌, ◌⊎◌, inl, inr, min, Bool, false, ◌&&◌, ◌||◌, nat_lt, ◌==◌, List, [], ◌∷◌, ◌++◌, map, take, length, get_or, set, replicate, refl, sym, ap, ◌∙◌, subst, arith}
 use Rattle.std.specs.List.{All, list_any}
 use Rattle.std.proofs.lemmas.Bool.{lt-ltb, le-ltb, eq-eqb, ne_eqb, cases_lt, cases_eq}
 use Rattle.std.proofs.lemmas.List.{get_or-replicate, length-replicate, get_or-set_same, get_or-set_other, length-set, take_more}
 use Rattle.std.proofs.lemmas.List.Folds.{list_any-append}
 use Rattle.std.proofs.lemmas.Nat.{mul-add-lt, same_from_place}
 use Rattle.dn_base.proofs.Lists.{map-last}
+use Rattle.dn_base.proofs.Booleans.{or-false}
 use Rattle.dn_walk.specs.declared.walks.WalkRow.{WalkRow}
 use Rattle.dn_walk.specs.Rows.{Told, row_view}
 use Rattle.dn_walk.specs.Units.{row_leads, AreLows}
@@ -29,10 +30,6 @@ min_low x y limit = by (cases_lt x y) (cases_lt x limit) (cases_lt y limit)
     by o (inr a) (inl b) = lt-ltb (min x y) limit (omega arith) ∙ sym (ap (λ c. c || nat_lt y limit) (le-ltb x limit a) ∙ lt-ltb y limit b)
     by o (inr a) (inr b) = le-ltb (min x y) limit (omega arith) ∙ sym (ap (λ c. c || nat_lt y limit) (le-ltb x limit a) ∙ le-ltb y limit b)
 
-or_false : (b : Bool) → (b || false) ≡ b
-or_false true = refl
-or_false false = refl
-
 -- one row more
 pub lows_more : (count : ℕ) (rows : List Told) (lows : List ℕ) (t : Told) → AreLows count rows lows → t.start < count → t.end < count → AreLows count (rows ++ t ∷ []) (set lows (t.start * count + t.end) (min (get_or lows (t.start * count + t.end) 0) t.lo))
 lows_more count rows lows t h s e = record { size = length-set lows place low ∙ h.size; lower = lower }
@@ -44,7 +41,7 @@ lows_more count rows lows t h s e = record { size = length-set lows place low �
     low = min (get_or lows place 0) t.lo
 
     joined : (port w limit : ℕ) (b : Bool) → row_leads port w limit t ≡ b → list_any (row_leads port w limit) (rows ++ t ∷ []) ≡ (list_any (row_leads port w limit) rows || b)
-    joined port w limit b r = list_any-append (row_leads port w limit) rows (t ∷ []) ∙ ap (λ c. list_any (row_leads port w limit) rows || c) (or_false (row_leads port w limit t) ∙ r)
+    joined port w limit b r = list_any-append (row_leads port w limit) rows (t ∷ []) ∙ ap (λ c. list_any (row_leads port w limit) rows || c) (or-false (row_leads port w limit t) ∙ r)
 
     here : (limit : ℕ) → row_leads t.start t.end limit t ≡ nat_lt t.lo limit
     here limit =
@@ -70,7 +67,7 @@ lows_more count rows lows t h s e = record { size = length-set lows place low �
     other port w limit p q l d =
         ap (λ x. nat_lt x limit) (get_or-set_other lows place (port * count + w) low 0 d)
         ∙ h.lower port w limit p q l
-        ∙ sym (joined port w limit false (apart port w limit (λ f g. d (ap (λ n. n * count + w) f ∙ ap (λ n. t.start * count + n) g))) ∙ or_false (list_any (row_leads port w limit) rows))
+        ∙ sym (joined port w limit false (apart port w limit (λ f g. d (ap (λ n. n * count + w) f ∙ ap (λ n. t.start * count + n) g))) ∙ or-false (list_any (row_leads port w limit) rows))
 
     lower : (port w limit : ℕ) → port < count → w < count → limit ≤ 2 ^ 56 → nat_lt (get_or (set lows place low) (port * count + w) 0) limit ≡ list_any (row_leads port w limit) (rows ++ t ∷ [])
     lower port w limit p q l = by (cases_eq (port * count + w) place)

@@ -1,8 +1,9 @@
 -- The legs that a walk meets stand together, and what it makes of one of them.
-use Rattle.std.proofs.Common.{◌≡◌, ℕ, ◌-◌, ◌<◌, ◌≤◌, ◌⊎◌, inl, inr, Bool, true, false, ◌&&◌, if◌then◌else◌, nat_le, nat_lt, ltb, leb, min, max, List, length, get_or, take, drop, refl, arith, IsTrue, ltb-true, leb-true, le-leb}
-use Rattle.std.proofs.lemmas.Bool.{ltb-false, lt-leb, leb-false, cases_lt}
+use Rattle.std.proofs.Common.{◌≡◌, ℕ, ◌-◌, ◌<◌, ◌≤◌, ◌⊎◌, inl, inr, Bool, true, false, ◌&&◌, if◌then◌else◌, nat_le, nat_lt, ltb, leb, min, max, List, length, get_or, take, drop, refl, arith, IsTrue, ltb-true, leb-true}
+use Rattle.std.proofs.lemmas.Bool.{ltb-false, leb-false, cases_lt}
 use Rattle.std.specs.List.{All, filter}
 use Rattle.std.specs.List.Sorted.{IsPartitionPoint}
+use Rattle.dn_base.proofs.Orders.{not_lt-le, lt-not_le}
 use Rattle.dn_net.specs.Walks.{greater, lesser_of}
 use Rattle.dn_walk.specs.declared.leg.Leg.{Leg}
 use Rattle.dn_walk.specs.Rows.{Told}
@@ -28,18 +29,12 @@ in_turn base last legs i j o order w e b = by (cases_lt j i)
         let r : g.lo ≤ g.hi = order j d (omega arith) in
         absurd (omega arith)
 
-not_ended : (a b : ℕ) → ltb a b ≡ false → nat_le b a ≡ true
-not_ended a b e = le-leb b a (ltb-false a b e)
-
-ended : (a b : ℕ) → ltb a b ≡ true → nat_le b a ≡ false
-ended a b e = lt-leb b a (ltb-true a b e)
-
 pub met_is : (t : Told) (legs : List Leg) (i j : ℕ) → All (λ l. l.lo ≤ l.hi) legs → i ≤ length legs → j ≤ length legs → Ends t.base legs i → Begins (told_last t) legs j → take (j - i) (drop i legs) ≡ filter (told_meets t) legs
 met_is t legs i j order w v e b =
     between_is (λ (l : Leg). nat_le t.base l.hi) (λ (l : Leg). nat_le l.lo (told_last t)) legs i j (in_turn t.base (told_last t) legs i j (omega arith) order w e b) v
     record {
-      low = λ k d l. ended _ _ (e.0 k d (omega arith) l);
-      high = λ k d l m. not_ended _ _ (e.1 k d l m);
+      low = λ k d l. lt-not_le _ _ (e.0 k d (omega arith) l);
+      high = λ k d l m. not_lt-le _ _ (e.1 k d l m);
       begun = λ k d l. b.0 k d (omega arith) l;
       over = λ k d l m. b.1 k d l m;
     }

@@ -1,9 +1,9 @@
 -- The units to which units lead, as rows tell them, are those of the net.
-use Rattle.std.proofs.Common.{◌≡◌, ℕ, zero, suc, ◌+◌, ◌*◌, ◌-◌, ◌^◌, ◌<◌, ◌≤◌, ◌⊎◌, inl, inr, Bool, true, false, if◌then◌else◌, ◌&&◌, ◌||◌, nat_le, nat_lt, ◌==◌, List, [], ◌∷◌, map, filter, length, get_or, Option, Some, None, is_some, IsTrue, refl, sym, ap, ◌∙◌, subst, arith, eqb-true, ltb-true, leb-true}
+use Rattle.std.proofs.Common.{◌≡◌, ℕ, zero, ◌+◌, ◌*◌, ◌-◌, ◌^◌, ◌<◌, ◌≤◌, ◌⊎◌, inl, inr, Bool, true, false, if◌then◌else◌, ◌&&◌, ◌||◌, nat_le, nat_lt, ◌==◌, List, [], ◌∷◌, map, filter, length, get_or, Option, Some, None, is_some, IsTrue, refl, sym, ap, ◌∙◌, subst, arith, eqb-true, ltb-true, leb-true}
 use Rattle.std.specs.List.{list_any, list_all}
 use Rattle.std.proofs.lemmas.Bool.{eq-eqb, lt-ltb, or_cases, or_left, or_right, and_parts, and_from}
 use Rattle.std.proofs.lemmas.Nat.{pow_below, pow_pos}
-use Rattle.dn_base.proofs.Members.{any_member, member_any, map_member, member_map}
+use Rattle.dn_base.proofs.Members.{any_member, member_any, map_member, member_map, member_get_or}
 use Rattle.dn_net.specs.declared.node.Name.{Name}
 use Rattle.dn_net.specs.declared.node.NodeDecl.{NodeDecl}
 use Rattle.dn_net.specs.declared.node.Unit.{Unit as UnitPart}
@@ -18,8 +18,8 @@ use Rattle.dn_net.proofs.Least.{within_from, within_to}
 use Rattle.dn_net.proofs.Stops.{unit_stop}
 use Rattle.dn_net.proofs.Plain.{plain_at}
 use Rattle.dn_net.proofs.UnitRows.{leads_sound, leads_found, unit_of_number, unit_there}
+use Rattle.dn_net.proofs.Steps.{ports_at}
 use Rattle.dn_walk.specs.Rows.{Told, told_by_walk}
-use Rattle.dn_walk.proofs.Parts.{ports_at}
 use Rattle.dn_walk.specs.Units.{row_leads, AreLows, leads_by_lows, leads_by_rows, next_by, next_told}
 
 -- BY THE LOWEST ADDRESSES
@@ -72,14 +72,8 @@ filter_none : (p : ℕ → Bool) (xs : List ℕ) → ((x : ℕ) → Member x xs 
 filter_none p [] f = refl
 filter_none p (x ∷ xs) f = ap (λ b. if b then x ∷ filter p xs else filter p xs) (f x (inl refl)) ∙ filter_none p xs (λ z m. f z (inr m))
 
--- an item at a place is one of the list
-pub item_at : {X : Type 0} (xs : List X) (k : ℕ) (d : X) → k < length xs → Member (get_or xs k d) xs
-item_at [] k d l = absurd (omega arith)
-item_at (x ∷ xs) zero d l = inl refl
-item_at (x ∷ xs) (suc k) d l = inr (item_at xs k d (omega arith))
-
 pub member_at : (xs : List ℕ) (k d : ℕ) → k < length xs → Member (get_or xs k d) xs
-member_at xs k d l = item_at xs k d l
+member_at xs k d l = member_get_or xs k d l
 
 -- the units are nodes of the net
 pub units_below : (net : List NodeDecl) (units : List ℕ) (count : ℕ) → units ≡ unit_numbers net → count ≡ length net → (k d : ℕ) → k < length units → get_or units k d < count

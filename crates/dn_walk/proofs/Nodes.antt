@@ -12,7 +12,7 @@ use Rattle.dn_net.specs.Decode.{top, in_some_block, within, refers_within}
 use Rattle.dn_net.specs.Rules.{block_in_range, entry_in_range, KeepsRules, KeepsNodeRules}
 use Rattle.dn_net.specs.Walks.{Leg as NetLeg, in_order, dest_legs, entry_legs, gap_legs, gaps, legs}
 use Rattle.dn_net.proofs.Kept.{kept_at}
-use Rattle.dn_net.proofs.Places.{both, length-map}
+use Rattle.dn_net.proofs.Places.{length-map}
 use Rattle.dn_net.proofs.Steps.{node_at}
 use Rattle.dn_interval.specs.declared.span.Span.{Span}
 use Rattle.dn_interval.specs.Spans.{has, in_span, AreMaximal}
@@ -21,11 +21,11 @@ use Rattle.dn_walk.specs.Legs.{told_leg, told_legs, dest_leg, plain_entry_legs, 
 use Rattle.dn_net.proofs.Apart.{node_apart}
 use Rattle.dn_walk.proofs.Holes.{spans_are_left}
 use Rattle.dn_net.proofs.Legs.{leads_of_leg, leads_in_range, leads_within}
-use Rattle.dn_base.proofs.Members.{map_member}
+use Rattle.dn_base.proofs.Members.{map_member, member_get_or}
+use Rattle.dn_base.proofs.Booleans.{and_parts}
 use Rattle.dn_net.proofs.Order.{legs_rise}
 use Rattle.dn_net.proofs.Pairs.{pairs_map, pairs_more, pairs_rise}
 use Rattle.dn_walk.proofs.Sorting.{map_in_order}
-use Rattle.dn_walk.proofs.Told.{at_member}
 
 told_dests : (i j : ℕ) (b : Block) (ds : List Dest) → map told_leg (dest_legs i j b ds) ≡ map (dest_leg b) ds
 told_dests i j b [] = refl
@@ -73,10 +73,10 @@ part_keeps P part holds net i y h a = by (slice_get net i) refl a
     by (Some n) u a = let same : part n ≡ y = cc in subst P same (holds n (kept_at net i h n u))
 
 pub accepts_in_range : (net : List NodeDecl) (i : ℕ) (accepts : List Block) → All KeepsRules net → option_map (λ d. d.accepts) (slice_get net i) ≡ Some accepts → IsTrue (list_all block_in_range accepts)
-accepts_in_range = part_keeps (λ l. IsTrue (list_all block_in_range l)) (λ d. d.accepts) (λ n k. (both (list_all block_in_range n.accepts) (list_all entry_in_range n.entries) k.in_range).0)
+accepts_in_range = part_keeps (λ l. IsTrue (list_all block_in_range l)) (λ d. d.accepts) (λ n k. (and_parts (list_all block_in_range n.accepts) (list_all entry_in_range n.entries) k.in_range).0)
 
 pub entries_in_range : (net : List NodeDecl) (i : ℕ) (entries : List Entry) → All KeepsRules net → option_map (λ d. d.entries) (slice_get net i) ≡ Some entries → IsTrue (list_all entry_in_range entries)
-entries_in_range = part_keeps (λ l. IsTrue (list_all entry_in_range l)) (λ d. d.entries) (λ n k. (both (list_all block_in_range n.accepts) (list_all entry_in_range n.entries) k.in_range).1)
+entries_in_range = part_keeps (λ l. IsTrue (list_all entry_in_range l)) (λ d. d.entries) (λ n k. (and_parts (list_all block_in_range n.accepts) (list_all entry_in_range n.entries) k.in_range).1)
 
 -- they lead on in range, and neither their first nor their last addresses descend
 pub legs_of_node : (net : List NodeDecl) → KeepsNodeRules net → (i : ℕ) (n : NodeDecl) → slice_get net i ≡ Some n → AreLegs (length net) (told_legs n)
@@ -86,7 +86,7 @@ legs_of_node net rules i n at =
     record {
       firsts = pairs_rise (λ (l : Leg). l.lo) (told_legs n) (pairs_map (λ (l m : Leg). l.lo ≤ m.lo) told_leg (legs n) (pairs_more (λ (l m : NetLeg). (l.block.lo ≤ m.block.lo) × (l.block.hi ≤ m.block.hi)) (λ (l m : NetLeg). l.block.lo ≤ m.block.lo) (legs n) (λ l m a b r. r.0) rise));
       lasts = pairs_rise (λ (l : Leg). l.hi) (told_legs n) (pairs_map (λ (l m : Leg). l.hi ≤ m.hi) told_leg (legs n) (pairs_more (λ (l m : NetLeg). (l.block.lo ≤ m.block.lo) × (l.block.hi ≤ m.block.hi)) (λ (l m : NetLeg). l.block.hi ≤ m.block.hi) (legs n) (λ l m a b r. r.1) rise));
-      each = λ k d l. member_is (get_or (told_legs n) k d) (at_member (told_legs n) k d l);
+      each = λ k d l. member_is (get_or (told_legs n) k d) (member_get_or (told_legs n) k d l);
     }
   where
     one : (l : NetLeg) → Member l (legs n) → IsLegOf (length net) (told_leg l)
@@ -149,8 +149,8 @@ swapped a xs ys = split xs ys ∙ turned (in_some_block a xs) (in_some_block a y
 blocks_in_range : (entries : List Entry) (accepts : List Block) → IsTrue (list_all entry_in_range entries) → IsTrue (list_all block_in_range accepts) → IsTrue (list_all block_in_range (map (λ e. e.block) entries ++ accepts))
 blocks_in_range [] accepts e a = a
 blocks_in_range (x ∷ xs) accepts e a =
-    let r = both (entry_in_range x) (list_all entry_in_range xs) e in
-    let b = (both (block_in_range x.block) (list_all (λ d. nat_le (d.addr + (x.block.hi - x.block.lo)) top) x.dests) r.0).0 in
+    let r = and_parts (entry_in_range x) (list_all entry_in_range xs) e in
+    let b = (and_parts (block_in_range x.block) (list_all (λ d. nat_le (d.addr + (x.block.hi - x.block.lo)) top) x.dests) r.0).0 in
     rw b (blocks_in_range xs accepts r.1 a)
 
 pub gaps_are : (accepts : List Block) (entries : List Entry) (blocks covered rest : List Span) → IsTrue (list_all block_in_range accepts) → IsTrue (list_all entry_in_range entries) → map span_view blocks ≡ accepts ++ map (λ e. e.block) entries → ((a : ℕ) → has covered a ≡ has blocks a) → AreMaximal rest → ((a : ℕ) → a ≤ top → has rest a ≡ not (has covered a)) → map span_view rest ≡ gaps_by accepts entries

@@ -15,9 +15,8 @@ use Rattle.dn_walk.specs.Ways.{least_of, level_leads, levels_lead, start_names, 
 use Rattle.dn_net.proofs.Cycles.{row_of_chain, stepping_in_range}
 use Rattle.dn_net.proofs.Levels.{level_is_row}
 use Rattle.dn_walk.proofs.Least.{least_first}
-use Rattle.dn_walk.proofs.Told.{member_of_all}
 use Rattle.dn_net.proofs.Least.{within_to}
-use Rattle.dn_base.proofs.Members.{map_member}
+use Rattle.dn_base.proofs.Members.{map_member, member_of_all}
 use Rattle.dn_net.proofs.Members.{member_filter}
 
 pub way_ends : (f : Name → List Name) (leads : ℕ → Name → Bool) (left k : ℕ) (x : Name) → left ≡ suc k → least_of (filter (leads k) (f x)) ≡ None → way_by f leads left x ≡ []

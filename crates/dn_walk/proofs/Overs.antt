@@ -19,13 +19,13 @@ use Rattle.dn_net.specs.Units.{has_plain_units}
 use Rattle.dn_net.specs.UnitRules.{IsShallow, unit_leads, rows_from, slots_of, slots_product, slots_limit, first_row, large_row, unit_rows, unit_numbers, next_units, first_chain}
 use Rattle.dn_net.proofs.Plain.{plain_at}
 use Rattle.dn_net.proofs.Arrivals.{nodes_there}
-use Rattle.dn_base.proofs.Members.{map_member, member_map}
+use Rattle.dn_base.proofs.Members.{map_member, member_map, member_get_or}
 use Rattle.dn_net.proofs.Members.{member_filter}
 use Rattle.dn_net.proofs.UnitRows.{rows-zero, rows-suc, first_chain_is, unit_of_number, unit_there}
 use Rattle.dn_walk.specs.declared.walks.WalkRow.{WalkRow}
 use Rattle.dn_walk.specs.Rows.{Told, row_view, told_by_walk}
 use Rattle.dn_walk.specs.Units.{first_over, chain_by, leads_by_rows, next_by, next_told}
-use Rattle.dn_walk.proofs.Nexts.{plain_facts, member_at, item_at, next_is}
+use Rattle.dn_walk.proofs.Nexts.{plain_facts, member_at, next_is}
 
 -- the first of two lists of rows, one behind the other
 first_row-append : (rows others : List (List ℕ)) → first_row (rows ++ others) ≡ or_else (first_row rows) (first_row others)
@@ -208,7 +208,7 @@ next_below net next same k d l i e m =
 -- the nodes of the rows are there
 pub rows_there : (net : List NodeDecl) → KeepsNodeRules net → (rows : List WalkRow) → map row_view rows ≡ map told_by_walk (live_walks net step_limit) → All (λ (r : WalkRow). (r.start < length net) × (r.end < length net)) rows
 rows_there net checked rows e k d l =
-    let m : Member (row_view (get_or rows k d)) (map told_by_walk (live_walks net step_limit)) = subst (λ ts. Member (row_view (get_or rows k d)) ts) e (member_map row_view rows (get_or rows k d) (item_at rows k d l)) in
+    let m : Member (row_view (get_or rows k d)) (map told_by_walk (live_walks net step_limit)) = subst (λ ts. Member (row_view (get_or rows k d)) ts) e (member_map row_view rows (get_or rows k d) (member_get_or rows k d l)) in
     let w = map_member told_by_walk (live_walks net step_limit) (row_view (get_or rows k d)) m in
     let n = nodes_there net checked w.0 w.1 in
     (subst (λ (t : Told). t.start < length net) w.2 n.0, subst (λ (t : Told). t.end < length net) w.2 n.1)

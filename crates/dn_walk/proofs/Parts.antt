@@ -1,11 +1,11 @@
 -- The unit of a node, as a net shows it.
-use Rattle.std.proofs.Common.{◌≡◌, ℕ, zero, suc, ◌+◌, ◌<◌, Bool, true, false, if◌then◌else◌, ◌&&◌, nat_lt, List, [], ◌∷◌, ◌++◌, drop, length, slice_get, Option, Some, None, option_map, is_some, IsTrue, sym, ap, ◌∙◌, subst, arith}
+use Rattle.std.proofs.Common.{◌≡◌, ℕ, zero, suc, ◌+◌, ◌<◌, Bool, true, false, if◌then◌else◌, ◌&&◌, nat_lt, List, [], ◌∷◌, ◌++◌, drop, length, slice_get, Option, Some, option_map, is_some, IsTrue, sym, ap, ◌∙◌, subst, arith}
 use Rattle.std.specs.List.{list_all}
 use Rattle.std.proofs.lemmas.Bool.{and_parts}
 use Rattle.std.proofs.lemmas.List.{append_assoc}
 use Rattle.dn_net.specs.declared.node.NodeDecl.{NodeDecl}
 use Rattle.dn_net.specs.declared.node.Unit.{Unit as UnitPart}
-use Rattle.dn_net.specs.Decode.{unit_of, unit_at, over_within, ports_within, refers_within, is_closed}
+use Rattle.dn_net.specs.Decode.{unit_at, over_within, ports_within, refers_within, is_closed}
 use Rattle.dn_net.specs.UnitRules.{units_from, unit_numbers}
 
 -- its ports are of the net
@@ -23,14 +23,6 @@ ports_there net i u closed at = within net i closed at
         let q = and_parts (list_all (λ e. list_all (λ d. nat_lt d.node count) e.dests) n.entries) (over_within count n.over && ports_within count n.unit) p.0 in
         subst (λ o. IsTrue (ports_within count o)) e (and_parts (over_within count n.over) (ports_within count n.unit) q.1).1
     within (n ∷ ns) (suc i) h at = within ns i (and_parts (refers_within count n) (list_all (refers_within count) ns) h).1 at
-
--- the same, of the unit of a number
-pub ports_at : (net : List NodeDecl) (i : ℕ) (u : UnitPart) → IsTrue (is_closed net) → unit_at net i ≡ Some u → IsTrue (list_all (λ p. nat_lt p (length net)) u.ports)
-ports_at net i u closed at = ports_there net i (Some u) closed (by (slice_get net i) at)
-  where
-    by : (o : Option NodeDecl) → unit_of o ≡ Some u → option_map (λ d. d.unit) o ≡ Some (Some u)
-    by None e = cc
-    by (Some n) e = ap Some e
 
 -- the numbers of the units from a node on
 pub units_at : (net : List NodeDecl) (number i : ℕ) (b : Bool) → i < length net → b ≡ is_some (unit_at net i) → units_from number (drop i net) ≡ (if b then number ∷ units_from (suc number) (drop (i + 1) net) else units_from (suc number) (drop (i + 1) net))

@@ -1,9 +1,11 @@
 -- The rows of one start stand together.
 use Rattle.std.proofs.Common.{◌≡◌, ℕ, zero, suc, ◌+◌, ◌-◌, ◌<◌, ◌≤◌, ◌⊎◌, inl, inr, Bool, true, false, ◌&&◌, ◌||◌, ◌==◌, ◌++◌, nat_le, ltb, leb, List, [], ◌∷◌, map, length, get_or, take, drop, refl, sym, ap, ◌∙◌, arith, ltb-true, le-leb, eqb-true}
-use Rattle.std.proofs.lemmas.Bool.{ltb-false, lt-leb, leb-false, cases_lt}
+use Rattle.std.proofs.lemmas.Bool.{leb-false, cases_lt}
 use Rattle.std.proofs.lemmas.List.{take_more, map-append}
 use Rattle.std.specs.List.{filter, list_any}
 use Rattle.std.specs.List.Sorted.{IsPartitionPoint}
+use Rattle.dn_base.proofs.Orders.{not_lt-le, lt-not_le}
+use Rattle.dn_base.proofs.Lists.{list_any-map}
 use Rattle.dn_net.specs.declared.node.Name.{Name}
 use Rattle.dn_walk.specs.declared.walks.WalkRow.{WalkRow}
 use Rattle.dn_walk.specs.declared.way.Goal.{Goal}
@@ -32,18 +34,12 @@ starts_in_turn node (r ∷ rows) i j w e b = by (cases_lt j i)
 abbrev is_of : ℕ → WalkRow → Bool
 is_of node r = nat_le node r.start && nat_le r.start node
 
-not_below : (a b : ℕ) → ltb a b ≡ false → nat_le b a ≡ true
-not_below a b e = le-leb b a (ltb-false a b e)
-
-below : (a b : ℕ) → ltb a b ≡ true → nat_le b a ≡ false
-below a b e = lt-leb b a (ltb-true a b e)
-
 between : (node : ℕ) (rows : List WalkRow) (i j : ℕ) → i ≤ length rows → j ≤ length rows → Starts node rows i → Started node rows j → take (j - i) (drop i rows) ≡ filter (is_of node) rows
 between node rows i j w v e b =
     between_is (λ (r : WalkRow). nat_le node r.start) (λ (r : WalkRow). nat_le r.start node) rows i j (starts_in_turn node rows i j w e b) v
     record {
-      low = λ k d l. below _ _ (e.0 k d (omega arith) l);
-      high = λ k d l m. not_below _ _ (e.1 k d l m);
+      low = λ k d l. lt-not_le _ _ (e.0 k d (omega arith) l);
+      high = λ k d l m. not_lt-le _ _ (e.1 k d l m);
       begun = λ k d l. b.0 k d (omega arith) l;
       over = λ k d l m. b.1 k d l m;
     }
@@ -58,17 +54,13 @@ leads_of goal x r h = by (r.start == x.node) refl h
     by true e k = both r.start x.node (eqb-true r.start x.node e)
     by false e k = cc
 
-any_map : {X Y : Type 0} (p : Y → Bool) (f : X → Y) (xs : List X) → list_any p (map f xs) ≡ list_any (λ x. p (f x)) xs
-any_map p f [] = refl
-any_map p f (x ∷ xs) = ap (λ b. p (f x) || b) (any_map p f xs)
-
 -- only they can lead on from a name of the start
 pub leads_between : (goal : Goal) (x : Name) (rows : List WalkRow) (i j : ℕ) → i ≤ length rows → j ≤ length rows → Starts x.node rows i → Started x.node rows j → level_leads goal (map row_view (take (j - i) (drop i rows))) x ≡ level_leads goal (map row_view rows) x
 leads_between goal x rows i j w v e b =
     ap (λ l. level_leads goal (map row_view l) x) (between x.node rows i j w v e b)
-    ∙ any_map (told_leads goal x) row_view (filter (is_of x.node) rows)
+    ∙ list_any-map row_view (told_leads goal x) (filter (is_of x.node) rows)
     ∙ any_picked (λ r. told_leads goal x (row_view r)) (is_of x.node) (leads_of goal x) rows
-    ∙ sym (any_map (told_leads goal x) row_view rows)
+    ∙ sym (list_any-map row_view (told_leads goal x) rows)
 
 -- one more row
 any_append : {X : Type 0} (p : X → Bool) (xs : List X) (x : X) → list_any p (xs ++ x ∷ []) ≡ (list_any p xs || p x)

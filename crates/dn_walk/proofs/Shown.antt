@@ -14,13 +14,12 @@ use Rattle.dn_net.specs.Rules.{KeepsNodeRules}
 use Rattle.dn_net.specs.UnitRules.{Fork as NetFork, least_fork, IsShallow, IsFork, IsLeastFork}
 use Rattle.dn_net.specs.Walks.{Walk, moved_name, live_walks}
 use Rattle.dn_net.proofs.Arrivals.{Arrives, arrival, departure, first_inside, as_many}
-use Rattle.dn_net.proofs.Cycles.{same_name}
 use Rattle.dn_net.proofs.Firsts.{NoLater}
 use Rattle.dn_net.proofs.Forks.{fork_is_least}
 use Rattle.dn_net.proofs.Least.{within_from, within_to}
-use Rattle.dn_net.proofs.Resolution.{name_same}
+use Rattle.dn_net.proofs.Resolution.{name_same, same_name}
 use Rattle.dn_net.proofs.Stops.{stop_unit, unit_stop, stop_still}
-use Rattle.dn_net.proofs.Ascending.{lower_is, transitive}
+use Rattle.dn_net.proofs.Ascending.{lower_is, transitive, not_itself}
 use Rattle.dn_net.proofs.Ways.{either_way}
 use Rattle.dn_walk.specs.declared.fork.Fork.{Fork}
 use Rattle.dn_walk.specs.declared.walks.WalkRow.{WalkRow}
@@ -58,16 +57,10 @@ no_later_fork f g h (inl p) (inr e) = inl (subst (λ w. IsTrue (name_lt f.name w
 no_later_fork f g h (inr e) (inl q) = inl (subst (λ w. IsTrue (name_lt w h.name)) (sym e.0) q)
 no_later_fork f g h (inr e) (inr k) = let p = e.1 in let q = k.1 in inr (e.0 ∙ k.0, omega arith)
 
-not_below_itself : (x y : Name) → x ≡ y → IsTrue (name_lt x y) → ⊥
-not_below_itself x y e l =
-    let n : x.node ≡ y.node = ap (λ (z : Name). z.node) e in
-    let a : x.addr ≡ y.addr = ap (λ (z : Name). z.addr) e in
-    elim (lower_is x y l) [ inl k ↦ absurd (omega arith) | inr k ↦ (let m = k.1 in absurd (omega arith)) ]
-
 one_fork : (f g : Fork) → NoLaterFork f g → NoLaterFork g f → (f.name ≡ g.name) × (f.unit ≡ g.unit)
-one_fork f g (inl p) (inl q) = absurd (not_below_itself f.name f.name refl (transitive f.name g.name f.name p q))
-one_fork f g (inl p) (inr e) = absurd (not_below_itself f.name g.name (sym e.0) p)
-one_fork f g (inr e) (inl q) = absurd (not_below_itself g.name f.name (sym e.0) q)
+one_fork f g (inl p) (inl q) = absurd (not_itself f.name f.name refl (transitive f.name g.name f.name p q))
+one_fork f g (inl p) (inr e) = absurd (not_itself f.name g.name (sym e.0) p)
+one_fork f g (inr e) (inl q) = absurd (not_itself g.name f.name (sym e.0) q)
 one_fork f g (inr e) (inr k) = let p = e.1 in let q = k.1 in (e.0, omega arith)
 
 -- ROW BY ROW

@@ -3,18 +3,10 @@ use Rattle.std.proofs.Common.{◌≡◌, suc, ◌+◌, inl, inr, Bool, true, fal
 use Rattle.std.specs.Cmp.{IsStrictWeakOrder}
 use Rattle.std.specs.List.{filter}
 use Rattle.std.specs.List.Sorted.{IsSortedBy, IsStableBy, ties}
+use Rattle.dn_base.proofs.Lists.{Each, each_implied}
 use Rattle.dn_net.specs.Chain.{Member}
 use Rattle.dn_net.specs.Walks.{put_in, in_order}
 use Rattle.dn_net.proofs.Pairs.{Pairwise}
-
--- a fact on each item, by recursion
-abbrev Each : {X : Type 0} → (X → Type 0) → List X → Type 0
-Each P [] = Unit {0}
-Each P (x ∷ xs) = P x × Each P xs
-
-each_implied : {X : Type 0} (P Q : X → Type 0) → ((x : X) → P x → Q x) → (xs : List X) → Each P xs → Each Q xs
-each_implied P Q f [] h = tt
-each_implied P Q f (x ∷ xs) h = (f x h.0, each_implied P Q f xs h.1)
 
 -- no item comes before one that stands in front of it
 abbrev Rises : {X : Type 0} → (X → X → Bool) → List X → Type 0

@@ -13,7 +13,7 @@ use Rattle.dn_walk.specs.declared.walks.WalkRow.{WalkRow}
 use Rattle.dn_walk.specs.Rows.{Told, row_view}
 use Rattle.dn_walk.specs.Legs.{AreLegs, IsLegOf}
 use Rattle.dn_walk.specs.Levels.{told_last, told_meets, told_onto, told_extended, told_still, told_stills, told_level, told_walks, told_levels, told_before, IsRowOf}
-use Rattle.dn_base.proofs.Members.{map_member, member_map}
+use Rattle.dn_base.proofs.Members.{map_member, member_map, member_get_or, member_of_all}
 use Rattle.dn_net.proofs.Members.{member_filter, member_flat_map}
 use Rattle.dn_walk.proofs.Meets.{meets_parts, max_is, min_is}
 use Rattle.dn_walk.proofs.Sorting.{length_in_order}
@@ -52,17 +52,6 @@ length_levels legs (suc k) =
 -- how many walks there are
 pub length_walks : (legs : List (List Leg)) (k : ℕ) → length (told_walks legs (suc k)) ≡ length (told_walks legs k) + length (told_level legs (suc k))
 length_walks legs k = ap length (walks-suc legs k) ∙ length-append (told_walks legs k) (in_order told_before (told_level legs (suc k))) ∙ ap (λ n. length (told_walks legs k) + n) (length_in_order told_before (told_level legs (suc k)))
-
--- items of lists
-pub at_member : {X : Type 0} (xs : List X) (k : ℕ) (d : X) → k < length xs → Member (get_or xs k d) xs
-at_member [] k d l = absurd (omega arith)
-at_member (x ∷ xs) zero d l = inl refl
-at_member (x ∷ xs) (suc k) d l = inr (at_member xs k d (omega arith))
-
-pub member_of_all : {X : Type 0} (P : X → Type 0) (xs : List X) (x : X) → All P xs → Member x xs → P x
-member_of_all P [] x all m = absurd m
-member_of_all P (y ∷ xs) x all (inl e) = subst P e (all 0 y (omega arith))
-member_of_all P (y ∷ xs) x all (inr m) = member_of_all P xs x (λ k d l. all (suc k) d (omega arith)) m
 
 -- stills
 pub stills_more : (n k : ℕ) → told_stills n (suc k) ≡ told_stills n k ++ told_still (n + k) ∷ []
@@ -115,7 +104,7 @@ row_of_more count k n t l r = let m = r.len in record { order = r.order; low = r
 -- the rows of a level
 pub rows_are : (legs : List (List Leg)) → All (AreLegs (length legs)) legs → (k n : ℕ) → k ≤ n → (rows : List WalkRow) → map row_view rows ≡ told_level legs k → All (λ r. IsRowOf (length legs) n (row_view r)) rows
 rows_are legs all k n l rows e = λ j d b.
-    row_of_more (length legs) k n (row_view (get_or rows j d)) l (level_is legs all k (row_view (get_or rows j d)) (subst (λ x. Member (row_view (get_or rows j d)) x) e (member_map row_view rows (get_or rows j d) (at_member rows j d b))))
+    row_of_more (length legs) k n (row_view (get_or rows j d)) l (level_is legs all k (row_view (get_or rows j d)) (subst (λ x. Member (row_view (get_or rows j d)) x) e (member_map row_view rows (get_or rows j d) (member_get_or rows j d b))))
 
 -- one more row goes on
 pub extended_more : (legs : List (List Leg)) (rows : List WalkRow) (i : ℕ) (r : WalkRow) → i < length rows → r ≡ get_or rows i r → flat_map (told_extended legs) (map row_view (take (i + 1) rows)) ≡ flat_map (told_extended legs) (map row_view (take i rows)) ++ told_extended legs (row_view r)

@@ -26,6 +26,7 @@ use Rattle.dn_walk.proofs.Keys.{told_weak}
 use Rattle.dn_walk.proofs.Least.{none_least}
 use Rattle.dn_walk.proofs.Onward.{step_in_range}
 use Rattle.dn_net.proofs.Pairs.{pairs_more, pairs_rise}
+use Rattle.dn_net.proofs.Firsts.{shortest_is}
 use Rattle.dn_walk.proofs.Sorting.{in_order_pairs}
 use Rattle.dn_walk.proofs.Told.{level-suc, walks-suc, levels-suc, length_levels}
 
@@ -36,10 +37,6 @@ steps_are = refl
 pub limit_is : walk_limit ≡ 1048576
 unfolding walk_limit
 limit_is = refl
-
-shortest_is : (net : List NodeDecl) → shortest_cycle net ≡ shortest_within net (step_limit - 1)
-unfolding shortest_cycle
-shortest_is net = refl
 
 -- no walk of up to so many choices comes back
 abbrev pub Acyclic : List NodeDecl → ℕ → Type 0

@@ -9,7 +9,7 @@ use Rattle.dn_tables.specs.declared.placement.Hop.{Hop}
 use Rattle.dn_tables.specs.declared.table.NodeTable.{NodeTable}
 use Rattle.dn_tables.specs.Placement.{Place}
 use Rattle.dn_tables.specs.Set.{has_slot, has_slot_by, unit_in, units_of}
-use Rattle.dn_book.proofs.Units.{unit_by_units}
+use Rattle.dn_tables.proofs.Units.{unit_by_units}
 use Rattle.dn_placement.specs.declared.request.Request.{Request}
 use Rattle.dn_placement.specs.Placement.{IsFreeHop, IsPlacement}
 use Rattle.dn_placement.specs.Records.{first_slot, last_slot}

@@ -1,20 +1,15 @@
 -- Names level by level, as under records, but over the steps of a net alone: its levels are the last of those.
-use Rattle.std.proofs.Common.{◌≡◌, ◌∙◌, ap, sym, arith, ℕ, zero, suc, ◌+◌, ◌-◌, ◌<◌, ◌≤◌, nat_lt, List, [], ◌∷◌, ◌++◌, length, append-nil, IsTrue, lt-ltb}
+use Rattle.std.proofs.Common.{◌≡◌, ◌∙◌, ap, sym, arith, ℕ, suc, ◌+◌, ◌-◌, ◌<◌, ◌≤◌, nat_lt, List, [], ◌∷◌, ◌++◌, length, IsTrue, lt-ltb}
 use Rattle.dn_net.specs.declared.node.Name.{Name}
 use Rattle.dn_net.specs.declared.node.NodeDecl.{NodeDecl}
 use Rattle.dn_net.specs.Decode.{is_accepted, steps, step_limit}
-use Rattle.dn_net.specs.Names.{sorted_names, passing_names, each_step, reached_names, resolved_names}
+use Rattle.dn_net.specs.Names.{sorted_names, passing_names, each_step, resolved_names}
 use Rattle.dn_net.proofs.Resolution.{end_names_are_ends}
 use Rattle.dn_kind.specs.Levels.{are_there}
 use Rattle.dn_kind.specs.Tables.{step_limit_under}
-use Rattle.dn_kind.proofs.Stages.{levels, ends_by, ends_next, ends_at_last}
+use Rattle.dn_kind.proofs.Stages.{ends_by, ends_next, ends_at_last, reached_levels}
 use Rattle.dn_flat.proofs.There.{accepted_is_there}
 use Rattle.dn_shape.proofs.Sending.{all_of_each}
-
--- what is reached in so many steps is one level more
-reached_levels : (f : Name → List Name) (n : ℕ) (xs : List Name) → reached_names f n xs ≡ levels f (suc n) xs
-reached_levels f zero xs = sym (append-nil xs)
-reached_levels f (suc n) xs = ap (λ (l : List Name). xs ++ l) (reached_levels f n (each_step f xs))
 
 -- what a name resolves to, where some accepted names are known and the rest are those of so many levels more
 abbrev pub resolved_by : List NodeDecl → ℕ → List Name → List Name → List Name

@@ -14,7 +14,7 @@ use Rattle.dn_book.specs.Writes.{grant_slots, hop_slots}
 use Rattle.dn_book.proofs.Facts.{fits_net_kept}
 use Rattle.dn_book.proofs.InOrder.{GrantPuts, behind_all, grant_puts, hop_of_grant, hop_opened, joined_more, rest_of_lists, turn_behind, turn_hop}
 use Rattle.dn_book.proofs.Parts.{put_end, put_next, put_stopped}
-use Rattle.dn_book.proofs.Units.{unit_fits}
+use Rattle.dn_tables.proofs.Units.{unit_fits}
 use Rattle.dn_book.proofs.puts.put_grant.Goals as goal
 
 pub put_hop-requires : goal.put_hop-requires

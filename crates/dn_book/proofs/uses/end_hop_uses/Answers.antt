@@ -1,9 +1,10 @@
 use Rattle.std.proofs.Common.{◌∙◌, ap, Some}
 use Rattle.std.specs.Option.{option_copied}
-use Rattle.dn_book.proofs.Units.{unit_by_units, unit_told}
+use Rattle.dn_net.proofs.Steps.{unit_is}
+use Rattle.dn_tables.proofs.Units.{unit_by_units}
 use Rattle.dn_book.proofs.uses.end_hop_uses.Goals as goal
 
 pub end_slot_uses-requires-clause-is_unit : goal.end_slot_uses-requires-clause-is_unit
 end_slot_uses-requires-clause-is_unit c =
     unit_by_units c.args.net.now c.args.tables.now c.requires.units c.args.hop.now.unit
-    ∙ unit_told c.args.net.now c.args.hop.now.unit (Some c.in-Some.unit.now) (c.unit.ensures ∙ ap (λ o. Some (option_copied o)) c.in-Some.is)
+    ∙ unit_is c.args.net.now c.args.hop.now.unit (Some c.in-Some.unit.now) (c.unit.ensures ∙ ap (λ o. Some (option_copied o)) c.in-Some.is)

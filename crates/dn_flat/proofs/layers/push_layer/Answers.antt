@@ -1,11 +1,12 @@
 -- One layer more, where there are segments.
 use Rattle.std.proofs.Common.{rules, ◌≡◌, ◌∙◌, ◌≤◌, ◌||◌, ◌++◌, [], ◌∷◌, ◌==◌, ℕ, length, sym}
+use Rattle.dn_base.proofs.Told.{on_ok_then}
 use Rattle.dn_interval.specs.declared.row.End.{End}
 use Rattle.dn_interval.specs.declared.span.TheConstants.{TOP}
 use Rattle.dn_interval.specs.Strands.{segs_give}
 use Rattle.dn_flat.specs.Levels.{levels_give}
 use Rattle.dn_flat.proofs.Layered.{no_more, one_more}
-use Rattle.dn_flat.proofs.Lists.{none_of, on_ok}
+use Rattle.dn_flat.proofs.Lists.{none_of}
 use Rattle.dn_flat.proofs.layers.push_layer.Goals as goal
 
 pub returns-then-is_empty : goal.returns-then-is_empty
@@ -20,6 +21,6 @@ returns c =
     let layer = c.in_ok-layer.layer in
     let old = c.args.layers.now in
     let new = c.push.new.self in
-    on_ok c.push.result (new ≡ old ++ layer ∷ []) ((a : ℕ) (z : End) → a ≤ TOP → levels_give new a z ≡ (levels_give old a z || segs_give segs a z))
+    on_ok_then c.push.result (new ≡ old ++ layer ∷ []) ((a : ℕ) (z : End) → a ≤ TOP → levels_give new a z ≡ (levels_give old a z || segs_give segs a z))
     (λ e a z low. one_more old new layer segs a z low e c.in_ok-layer.ensures.normal)
     c.push.ensures.ok

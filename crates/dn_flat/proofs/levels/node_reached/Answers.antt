@@ -1,5 +1,6 @@
 -- One level more; and what is reached in fewer than 66 steps, or where nothing goes on, is all.
 use Rattle.std.proofs.Common.{rules, ◌≤◌, sym, subst, arith, ℕ, Bool, List, ◌↔◌}
+use Rattle.dn_base.proofs.Booleans.{means_then}
 use Rattle.dn_interval.specs.declared.row.End.{End}
 use Rattle.dn_interval.specs.declared.row.Seg.{Seg}
 use Rattle.dn_interval.specs.declared.span.TheConstants.{TOP}
@@ -11,7 +12,7 @@ use Rattle.dn_flat.specs.Stages.{EndsBefore}
 use Rattle.dn_flat.specs.Views.{name_of_end}
 use Rattle.dn_flat.proofs.Bounds.{last_level, ended_level, none_goes}
 use Rattle.dn_flat.proofs.Frontier.{goes_further, stops_further}
-use Rattle.dn_flat.proofs.Lists.{means_then, none_of}
+use Rattle.dn_flat.proofs.Lists.{none_of}
 use Rattle.dn_flat.proofs.Reached.{AreReached, Goes, all_levels, begun, more_reached, none_before, none_reached}
 use Rattle.dn_flat.proofs.levels.node_reached.Goals as goal
 use Rattle.dn_flat.proofs.levels.node_reached.Goals.{else-loop-steps-test, then-loop-steps-test+then-is_empty}

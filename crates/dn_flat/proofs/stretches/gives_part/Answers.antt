@@ -1,12 +1,13 @@
 -- The accepted names to which the segment comes are segments, of which each is a part of the other or not.
 use Rattle.std.proofs.Common.{◌∙◌, ◌||◌, ap}
 use Rattle.std.specs.List.{list_all}
+use Rattle.dn_base.proofs.Booleans.{means_then}
 use Rattle.dn_interval.specs.declared.row.Seg.{Seg}
 use Rattle.dn_interval.specs.Strands.{segs_give}
 use Rattle.dn_flat.specs.declared.found.Part.TheVariants.{Accepts}
 use Rattle.dn_flat.specs.Onward.{leads_by, seg_leads}
 use Rattle.dn_flat.specs.Stretches.{is_part}
-use Rattle.dn_flat.proofs.Lists.{means_along, means_then}
+use Rattle.dn_flat.proofs.Lists.{means_along}
 use Rattle.dn_flat.proofs.Stretched.{gives_same, parts_mean}
 use Rattle.dn_flat.proofs.stretches.gives_part.Goals as goal
 

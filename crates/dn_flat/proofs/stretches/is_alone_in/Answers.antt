@@ -1,6 +1,7 @@
 -- The names of the level at the addresses of the segment, each followed by what its node accepts.
 use Rattle.std.proofs.Common.{◌≡◌, ◌∙◌, ◌+◌, ◌-◌, ◌&&◌, ◌||◌, ◌↔◌, ℕ, Bool, true, ap}
 use Rattle.std.proofs.lemmas.Result.{IfOk-weaker}
+use Rattle.dn_base.proofs.Booleans.{means_then}
 use Rattle.dn_interval.specs.declared.row.End.{End}
 use Rattle.dn_interval.specs.Spans.{in_span}
 use Rattle.dn_interval.specs.Strands.{segs_give, rows_give}
@@ -9,7 +10,6 @@ use Rattle.dn_flat.specs.declared.found.Part.TheVariants.{Accepts}
 use Rattle.dn_flat.specs.Onward.{leads_by, segs_lead}
 use Rattle.dn_flat.specs.Stretches.{GivesAll}
 use Rattle.dn_flat.proofs.Going.{onward_same}
-use Rattle.dn_flat.proofs.Lists.{means_then}
 use Rattle.dn_flat.proofs.Stretched.{gives_same, still_gives}
 use Rattle.dn_flat.proofs.stretches.is_alone_in.Goals as goal
 

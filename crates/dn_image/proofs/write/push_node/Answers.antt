@@ -1,8 +1,8 @@
 use Rattle.std.proofs.Common.{◌∙◌, ◌++◌, ap, sym, map, List, ℕ}
 use Rattle.std.specs.Option.{option_copied}
+use Rattle.dn_base.proofs.Told.{on_ok_then}
 use Rattle.dn_kind.specs.Kind.{Meaning}
 use Rattle.dn_tables.specs.Set.{words_in}
-use Rattle.dn_tables.proofs.Slots.{on_ok_then}
 use Rattle.dn_image.specs.Bytes.{word_bytes}
 use Rattle.dn_image.specs.Image.{head_of, unit_bytes}
 use Rattle.dn_image.proofs.Places.{kind_within}

@@ -1,8 +1,9 @@
 -- Each turn makes one row, of what runs where the last one ended.
-use Rattle.std.proofs.Common.{◌≡◌, ◌∙◌, ℕ, ◌+◌, ◌≤◌, ◌<◌, leb, length, List, [], ◌∷◌, ◌++◌, refl, sym, ap, subst, arith, rules}
+use Rattle.std.proofs.Common.{◌≡◌, ◌∙◌, ℕ, ◌+◌, ◌≤◌, ◌<◌, leb, length, [], ◌∷◌, ◌++◌, sym, ap, subst, arith, rules}
 use Rattle.std.specs.List.{filter}
 use Rattle.std.proofs.lemmas.Bool.Decides.{nat_tests}
 use Rattle.std.proofs.lemmas.Fn.{filter_same}
+use Rattle.dn_base.proofs.Lists.{nil_from_length}
 use Rattle.dn_interval.specs.declared.strand.Strand.{Strand}
 use Rattle.dn_interval.specs.declared.row.End.{End}
 use Rattle.dn_interval.specs.Strands.{strands_give, slides_give}
@@ -58,10 +59,6 @@ rows-preserved c =
     subst (λ t. Sweeping whole t (hi + 1) c.retain.new.self.items later) (sym c.in_ok-push.ensures.items)
     (subst (λ t. Sweeping whole (made ++ r ∷ []) (hi + 1) t later) (sym keeps) pushed)
 
-none : {X : Type 0} (xs : List X) → length xs ≡ 0 → xs ≡ []
-none [] e = refl
-none (x ∷ xs) e = absurd (omega arith)
-
 pub returns-clause-same : goal.returns-clause-same
 returns-clause-same c =
     let whole = strands_give c.args.strands.now in
@@ -69,5 +66,5 @@ returns-clause-same c =
     let run : length c.rows.running.items ≡ 0 = grind (arith, nat_tests) in
     let rest : length c.rows.rest.now ≡ 0 = grind (arith, nat_tests) in
     sweep_ended whole made c.rows.from
-    (subst (λ t. Sweeping whole made c.rows.from t []) (none c.rows.running.items run)
-    (subst (λ t. Sweeping whole made c.rows.from c.rows.running.items t) (none c.rows.rest.now rest) c.rows.invariant))
+    (subst (λ t. Sweeping whole made c.rows.from t []) (nil_from_length c.rows.running.items run)
+    (subst (λ t. Sweeping whole made c.rows.from c.rows.running.items t) (nil_from_length c.rows.rest.now rest) c.rows.invariant))

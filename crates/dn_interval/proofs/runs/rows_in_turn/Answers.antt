@@ -1,9 +1,10 @@
 -- The next segment goes on with the current one, or takes its place.
 use Rattle.std.proofs.Common.{◌≡◌, ◌∙◌, ◌<◌, ◌+◌, ◌-◌, true, ◌∷◌, [], ◌++◌, take, drop, length, is_ok, sym, ap, subst, arith, rules}
 use Rattle.std.proofs.lemmas.Bool.Decides.{nat_tests}
+use Rattle.dn_base.proofs.Lists.{drop_at, drop_all}
 use Rattle.dn_interval.specs.Rows.{Apart}
 use Rattle.dn_interval.specs.Strands.{rows_give}
-use Rattle.dn_interval.proofs.Pieces.{drop_at, drop_past, first_and_rest}
+use Rattle.dn_interval.proofs.Pieces.{first_and_rest}
 use Rattle.dn_interval.proofs.Turns.{Turning, turn_begun, turn_longer, turn_apart, turn_ended}
 use Rattle.dn_interval.proofs.runs.rows_in_turn.Goals.{then-goes_on, else-goes_on+in_ok-push}
 use Rattle.dn_interval.proofs.runs.rows_in_turn.Goals as goal
@@ -51,7 +52,7 @@ returns-clause-same c =
     let rest = take (length xs - 1) (drop 1 xs) in
     let rows = c.loop-seg.rows.items in
     let s = c.loop-seg.current in
-    let state = subst (λ l. Turning rows s l xs) (drop_past rest c.loop-seg.seg-index c.loop-seg-test.false) c.loop-seg.invariant in
+    let state = subst (λ l. Turning rows s l xs) (drop_all c.loop-seg.seg-index rest c.loop-seg-test.false) c.loop-seg.invariant in
     λ a y. ap (λ l. rows_give l a y) (c.in_ok-push-2.ensures.items ∙ ap (λ r. rows ++ r ∷ []) c.single-2.ensures) ∙ turn_ended rows s xs state a y
 
 pub returns-clause-apart : goal.returns-clause-apart

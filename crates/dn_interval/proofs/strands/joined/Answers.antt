@@ -3,8 +3,9 @@ use Rattle.std.proofs.Common.{◌≡◌, ◌∙◌, ◌<◌, ◌+◌, ◌-◌, t
 use Rattle.std.specs.List.{All}
 use Rattle.std.specs.List.Sorted.{IsSorted}
 use Rattle.std.proofs.lemmas.Bool.Decides.{nat_tests}
+use Rattle.dn_base.proofs.Lists.{drop_at, drop_all}
 use Rattle.dn_interval.specs.Strands.{strands_give, strand_cmp, IsMaximal}
-use Rattle.dn_interval.proofs.Pieces.{drop_at, drop_past, first_and_rest}
+use Rattle.dn_interval.proofs.Pieces.{first_and_rest}
 use Rattle.dn_interval.proofs.Following.{Joining, in_order, goes_with, goes_apart, joined_maximal, is_on, not_on, starts_first}
 use Rattle.dn_interval.proofs.strands.joined.Goals.{then-goes_on, else-goes_on+in_ok-push}
 use Rattle.dn_interval.proofs.strands.joined.Goals as goal
@@ -56,5 +57,5 @@ returns-clause-maximal c =
     let rest = take (length xs - 1) (drop 1 xs) in
     let out = c.loop-strand.out.items in
     let s = c.loop-strand.current in
-    let state = subst (λ l. Joining out s l (strands_give xs)) (drop_past rest c.loop-strand.strand-index c.loop-strand-test.false) c.loop-strand.invariant in
+    let state = subst (λ l. Joining out s l (strands_give xs)) (drop_all c.loop-strand.strand-index rest c.loop-strand-test.false) c.loop-strand.invariant in
     subst (λ l. All (IsMaximal (strands_give l)) l) (sym c.in_ok-push-2.ensures.items) (joined_maximal out s (strands_give xs) state)

@@ -1,6 +1,7 @@
 use Rattle.std.proofs.Common.{◌≡◌, ℕ, suc, List, Some, ◌+◌, ◌-◌, ◌*◌, ◌^◌, ◌<◌, ◌≤◌, arith, length, refl, subst, sym, ap, ◌∙◌, rules, get_or, slice_get}
 use Rattle.std.proofs.lemmas.Nat.{pow_pos}
 use Rattle.std.proofs.Math.Nat.{mod-mod, mod-le}
+use Rattle.dn_view.proofs.Pages.{power_below}
 use Rattle.dn_interval.specs.declared.row.Row.{Row}
 use Rattle.dn_tables.specs.declared.placement.Hop.{Hop}
 use Rattle.dn_placement.specs.declared.request.Request.{Request}
@@ -13,7 +14,7 @@ use Rattle.dn_place.proofs.Agents.{row_asked, row_fits, step, step_found, step_d
 use Rattle.dn_place.proofs.Levels.{next_one, found_first}
 use Rattle.dn_place.proofs.Meetings.{unclear}
 use Rattle.dn_place.proofs.Nexts.{answered_input, chosen_on, inputs_barred, inputs_begun, inputs_done, inputs_leapt, next_agrees, node_there, none_ending, not_allowed, not_met, out_of_reach, port_goes, port_node, port_read, port_stretches, ports_done, unmarked}
-use Rattle.dn_place.proofs.Pages.{input_bound, output_bound, page_few}
+use Rattle.dn_place.proofs.Pages.{input_bound, page_few}
 use Rattle.dn_place.proofs.Units.{sifted_begun, sifted_done, sifted_found, sifted_on}
 use Rattle.dn_place.proofs.Walks.{set_out}
 use Rattle.dn_place.proofs.chain.+hops.Goals as goal
@@ -81,7 +82,7 @@ pub by_rows-is_clear-requires-clause-some : goal.by_rows-is_clear-requires-claus
 by_rows-is_clear-requires-clause-some g t c = let some = c.requires.stage.ready.some in rw c.request-size.ensures some
 
 pub by_rows-is_clear-requires-clause-fits : goal.by_rows-is_clear-requires-clause-fits
-by_rows-is_clear-requires-clause-fits g t c = omega (arith, c.power-end.ensures, c.if-y-size.true, output_bound c.args.translator.now.reach (c.requires.stage.ready.formed c.args.unit c.args.translator.now c.requires.unit).reach)
+by_rows-is_clear-requires-clause-fits g t c = omega (arith, c.power-end.ensures, c.if-y-size.true, power_below c.args.translator.now.reach (c.requires.stage.ready.formed c.args.unit c.args.translator.now c.requires.unit).reach)
 
 pub by_rows-by_output-requires : goal.by_rows-by_output-requires
 by_rows-by_output-requires g t c =
@@ -148,7 +149,7 @@ by_output-overflow_mul-end g t c =
 pub by_output-inputs-init : goal.by_output-inputs-init
 by_output-inputs-init g t c = rw c.power-page.ensures (record {
   agree = mod-mod c.args.y (2 ^ c.args.translator.now.page);
-  few = omega (arith, mod-le c.args.y (2 ^ c.args.translator.now.page), output_bound c.args.translator.now.reach (c.requires.stage.ready.formed c.args.unit c.args.translator.now c.requires.unit).reach, c.requires.reached);
+  few = omega (arith, mod-le c.args.y (2 ^ c.args.translator.now.page), power_below c.args.translator.now.reach (c.requires.stage.ready.formed c.args.unit c.args.translator.now c.requires.unit).reach, c.requires.reached);
   below = inputs_begun (g.Q.Quest.sought c.args.quest.now) c.args.stage.count (hops_of c.args.stage.chosen) c.args.unit c.args.port c.args.y c.args.translator.now c.requires.more c.requires.unit;
 })
 

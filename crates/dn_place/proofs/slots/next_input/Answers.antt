@@ -1,8 +1,9 @@
 use Rattle.std.proofs.Common.{◌+◌, ◌*◌, ◌/◌, ◌%◌, ◌^◌, ◌≤◌, arith, subst}
+use Rattle.dn_view.proofs.Pages.{power_below}
 use Rattle.dn_place.specs.declared.slot.Slot.{Slot}
 use Rattle.dn_place.specs.Slots.{AreShut, slot_of}
 use Rattle.dn_place.proofs.Nexts.{shut_bars}
-use Rattle.dn_place.proofs.Pages.{input_bound, output_bound, past_bound, quotient_within}
+use Rattle.dn_place.proofs.Pages.{input_bound, past_bound, quotient_within}
 use Rattle.dn_place.proofs.slots.next_input.Given.{Over}
 use Rattle.dn_place.proofs.slots.next_input.Goals.{After-past_slot-next}
 use Rattle.dn_place.proofs.slots.next_input.Goals as goal
@@ -16,7 +17,7 @@ low g c =
 pub last_unusable-requires-clause-page : goal.last_unusable-requires-clause-page
 last_unusable-requires-clause-page g c =
     let f = c.requires.ready.formed _ _ c.requires.within.unit in
-    omega (arith, quotient_within c.args.hop.y c.slots_of_hop-slots.result.page, output_bound c.args.translator.now.reach f.reach, c.requires.reached)
+    omega (arith, quotient_within c.args.hop.y c.slots_of_hop-slots.result.page, power_below c.args.translator.now.reach f.reach, c.requires.reached)
 
 pub past_slot-next-requires-clause-few : goal.past_slot-next-requires-clause-few
 past_slot-next-requires-clause-few g c = omega (arith, c.slots_of_hop-slots.ensures.few, c.in-Some.ensures.up_to)

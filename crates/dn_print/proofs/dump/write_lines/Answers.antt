@@ -1,8 +1,9 @@
 use Rattle.std.proofs.Common.{arith, ◌≡◌, ◌∙◌, ◌++◌, [], ap, sym, min, take, length, List, ℕ, append_assoc, append-nil}
 use Rattle.std.proofs.lemmas.Grind.{common_steps}
 use Rattle.std.proofs.Math.Seq.{take-length}
+use Rattle.dn_base.proofs.Lists.{nil_from_length}
 use Rattle.dn_print.specs.Dump.{line_text, lines_text}
-use Rattle.dn_print.proofs.Dumped.{one_line, no_items}
+use Rattle.dn_print.proofs.Dumped.{one_line}
 use Rattle.dn_print.proofs.dump.write_lines.Goals as goal
 
 pub loop-line-init : goal.loop-line-init
@@ -32,5 +33,5 @@ loop-line-preserved c =
 
 pub returns-clause-lines : goal.returns-clause-lines
 returns-clause-lines c =
-    let none : c.loop-line.line-iterator.rest.now ≡ [] = no_items c.loop-line.line-iterator.rest.now c.in-None.ensures.steps.1.0 in
+    let none : c.loop-line.line-iterator.rest.now ≡ [] = nil_from_length c.loop-line.line-iterator.rest.now c.in-None.ensures.steps.1.0 in
     sym (append-nil c.loop-line.out.items) ∙ ap (λ (l : List ℕ). c.loop-line.out.items ++ lines_text l) (sym none) ∙ c.loop-line.invariant.so_far

@@ -1,9 +1,9 @@
 use Rattle.std.proofs.Common.{◌≡◌, ◌∙◌, ◌++◌, ◌∷◌, [], ap, sym, replicate, List, ℕ}
 use Rattle.std.specs.Option.{option_map}
 use Rattle.dn_base.specs.declared.device.UnitWords.{UnitWords}
+use Rattle.dn_base.proofs.Told.{on_ok_then}
 use Rattle.dn_tables.specs.Set.{table_on_device}
 use Rattle.dn_tables.proofs.Fresh.{zero_words}
-use Rattle.dn_tables.proofs.Slots.{on_ok_then}
 use Rattle.dn_tables.proofs.set.make_unit.Goals as goal
 
 pub returns-in-Some-clause-words : goal.returns-in-Some-clause-words

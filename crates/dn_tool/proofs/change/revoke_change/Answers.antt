@@ -1,4 +1,5 @@
 use Rattle.std.proofs.Common.{rules, ◌≡◌, ◌∙◌, ap, sym, subst, refl, List, ℕ, map, Err, true, false}
+use Rattle.dn_base.proofs.Booleans.{true_from_ne_false}
 use Rattle.dn_net.specs.declared.node.NodeDecl.{NodeDecl}
 use Rattle.dn_kind.specs.Kind.{Meaning}
 use Rattle.dn_book.specs.declared.book.RevokeFault.TheVariants.{Device, NoGrant}
@@ -9,7 +10,7 @@ use Rattle.dn_tool.specs.Ids.{id_number}
 use Rattle.dn_tool.specs.State.{IsChanged, state_view}
 use Rattle.dn_tool.specs.declared.state.State.{State as Kept}
 use Rattle.dn_tool.specs.Turn.{IsRevokeTurn, State, named}
-use Rattle.dn_tool.proofs.Changes.{halted_after, lives_by, not_revoked_turn, revoke_stopped, state_named, state_revoked, state_same}
+use Rattle.dn_tool.proofs.Changes.{halted_after, not_revoked_turn, revoke_stopped, state_named, state_revoked, state_same}
 use Rattle.dn_tool.proofs.change.revoke_change.Goals as goal
 
 pub renew-requires-clause-faithful : goal.renew-requires-clause-faithful
@@ -63,5 +64,5 @@ returns-in-Err-Device-clause-changed g c =
     let book = c.args.state.now.book.grants in
     let number = c.in_ok-number.ensures.number in
     let failed : c.revoke.result ≡ Err Device = c.in-Err-Device.is ∙ ap Err c.in-Err-Device.field-0-is in
-    let has = subst (λ n. has_id n book ≡ true) number (lives_by (has_id c.in_ok-number.number book) (λ e. let x = c.revoke.ensures.unknown.1 e in let y = failed in cc)) in
+    let has = subst (λ n. has_id n book ≡ true) number (true_from_ne_false (has_id c.in_ok-number.number book) (λ e. let x = c.revoke.ensures.unknown.1 e in let y = failed in cc)) in
     revoke_stopped kinds c.args.machine.net.now (state_view c.args.state.now) (state_view c.args.state.now) c.args.id.now (Err DeviceFault) (g.D.Tables.log c.args.device.now) (g.D.Tables.log c.revoke.new.device) refl has (λ k m e. c.in-Err-Device.ensures.added k m (e ∙ sym number))

@@ -8,12 +8,13 @@ use Rattle.dn_kind.specs.Tables.{Held, record_held}
 use Rattle.dn_tables.specs.Set.{words_of}
 use Rattle.dn_view.proofs.Held.{kept_is_held, slot_there}
 use Rattle.dn_net.proofs.Steps.{unit_is}
+use Rattle.dn_net.proofs.Tally.{count_below-zero}
 use Rattle.dn_tool.specs.Demo.{held_slots}
-use Rattle.dn_tool.proofs.Demos.{count_more, count_none, one_at_most}
+use Rattle.dn_tool.proofs.Demos.{count_more, one_at_most}
 use Rattle.dn_tool.proofs.demo.node_records.Goals as goal
 
 pub loop-slot-init : goal.loop-slot-init
-loop-slot-init g c = record { few = omega arith; count = sym (count_none _) }
+loop-slot-init g c = record { few = omega arith; count = sym (count_below-zero _) }
 
 pub record_at-requires-clause-there : goal.record_at-requires-clause-there
 record_at-requires-clause-there g c =

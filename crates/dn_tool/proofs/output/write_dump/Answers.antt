@@ -1,7 +1,8 @@
 use Rattle.std.proofs.Common.{rules, ◌≡◌, ◌∙◌, ◌++◌, [], ap, sym, false, is_ok, min, length, List, ℕ, refl}
 use Rattle.dn_base.proofs.Counts.{counted_then}
+use Rattle.dn_base.proofs.Lists.{nil_from_length}
 use Rattle.dn_print.specs.Dump.{dump_text, heading_text, lines_text}
-use Rattle.dn_print.proofs.Dumped.{one_piece, no_items}
+use Rattle.dn_print.proofs.Dumped.{one_piece}
 use Rattle.dn_tool.specs.Halt.{is_device_halt, is_write_halt}
 use Rattle.dn_tool.proofs.Written.{begun, ended, gone_on, stopped_before, stopped_in}
 use Rattle.dn_tool.proofs.output.write_dump.Goals as goal
@@ -71,7 +72,7 @@ returns-in_err-write_output-2-clause-halted g c =
 
 pub returns-clause-written : goal.returns-clause-written
 returns-clause-written g c =
-    let none : c.loop-piece.piece-iterator.rest.now ≡ [] = no_items c.loop-piece.piece-iterator.rest.now c.in-None.ensures.steps.1.0 in
+    let none : c.loop-piece.piece-iterator.rest.now ≡ [] = nil_from_length c.loop-piece.piece-iterator.rest.now c.in-None.ensures.steps.1.0 in
     ended _ _ _ _ c.loop-piece.invariant.so_far (ap lines_text none)
 
 pub returns-clause-halted : goal.returns-clause-halted

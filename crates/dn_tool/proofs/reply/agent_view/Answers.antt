@@ -2,13 +2,13 @@ use Rattle.std.proofs.Common.{◌≡◌, subst, map, List, IfOk}
 use Rattle.std.specs.String.{string_bytes}
 use Rattle.dn_interval.specs.declared.row.Row.{Row}
 use Rattle.dn_net.specs.declared.node.NodeDecl.{NodeDecl}
+use Rattle.dn_net.proofs.Stops.{agent_there}
 use Rattle.dn_kind.specs.declared.rights.Access.{Access}
 use Rattle.dn_kind.specs.Kind.{Meaning}
 use Rattle.dn_kind.specs.Tables.{allowing}
 use Rattle.dn_tables.specs.declared.table.NodeTable.{NodeTable}
 use Rattle.dn_tables.specs.Set.{record_kept}
 use Rattle.dn_view.specs.Views.{AreViewed}
-use Rattle.dn_view.proofs.Agents.{agent_there}
 use Rattle.dn_tool.specs.Found.{access_of}
 use Rattle.dn_tool.specs.Viewed.{viewed_text}
 use Rattle.dn_tool.proofs.Seen.{fixed_is_owed, seen_is_owed}

@@ -1,4 +1,4 @@
-use Rattle.std.proofs.Common.{◌≡◌, ◌<◌, length, arith, subst, Option, IfSome}
+use Rattle.std.proofs.Common.{arith, subst, Option, IfSome}
 use Rattle.dn_tool.specs.declared.state.FirstView.{FirstView}
 use Rattle.dn_tool.specs.State.{IsFirst}
 use Rattle.dn_tool.proofs.reply.shared_rows.Goals as goal

@@ -7,11 +7,12 @@ use Rattle.dn_kind.specs.Rights.{allows}
 use Rattle.dn_flat.specs.Views.{name_of_end}
 use Rattle.dn_view.specs.Exact.{IsAdded, IsAskedAt, IsExactAt}
 use Rattle.dn_view.specs.Trials.{IsExactIn, trial_records}
-use Rattle.dn_view.proofs.Agents.{agent_there, an_agent, no_agent}
+use Rattle.dn_view.proofs.Agents.{an_agent, no_agent}
 use Rattle.std.proofs.lemmas.Bool.{and_parts}
 use Rattle.std.proofs.lemmas.Result.{IfOk-weaker}
+use Rattle.dn_base.proofs.Booleans.{means_then}
 use Rattle.dn_net.specs.Decode.{is_agent_at}
-use Rattle.dn_flat.proofs.Lists.{means_then}
+use Rattle.dn_net.proofs.Stops.{agent_there}
 use Rattle.dn_view.proofs.Added.{added_is, not_asked}
 use Rattle.dn_view.proofs.Buffers.{exact_buffer, exact_none}
 use Rattle.dn_view.proofs.exact.exact_at.Given.{Over}

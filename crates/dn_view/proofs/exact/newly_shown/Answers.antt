@@ -1,11 +1,12 @@
 use Rattle.std.proofs.Common.{◌≡◌, ◌-◌, ◌+◌, ◌↔◌, true, subst, sym, List, arith}
+use Rattle.dn_base.proofs.Booleans.{means_then}
 use Rattle.dn_interval.specs.declared.row.Seg.{Seg}
 use Rattle.dn_interval.specs.Strands.{segs_give}
 use Rattle.dn_kind.specs.Tables.{Held, AreHeld}
 use Rattle.dn_view.specs.declared.records.Records.TheVariants.{Kept}
 use Rattle.dn_view.specs.Trials.{course_by, fresh_in, joined_in, kept_in}
 use Rattle.dn_view.proofs.Courses.{course_held}
-use Rattle.dn_view.proofs.Passed.{NewlyComes, newly_next, newly_end, newly_whole, one_less, then_both, both_turned}
+use Rattle.dn_view.proofs.Passed.{NewlyComes, newly_next, newly_end, newly_whole, one_less, both_turned}
 use Rattle.dn_view.proofs.exact.newly_shown.Goals as goal
 
 pub loop-init : goal.loop-init
@@ -20,7 +21,7 @@ loop-preserved g c a z low =
     let held : AreHeld net old = course_held (λ k. (goal.UnitKind-dyn g (k.vtable, k.value)).meaning k.value) (course_by c.args.trial Kept) (record { system = c.requires.system; fits = c.requires.fits; fitting = tt }) in
     let shown' : List Seg = c.push_newly.new.shown.items in
     let level' : List Seg = c.in_ok-level.level.items in
-    then_both (c.loop.invariant a z low)
+    means_then (c.loop.invariant a z low)
     (subst (λ n. NewlyComes net old fresh all c.loop.shown.items c.loop.level.items n a z ↔ NewlyComes net old fresh all shown' level' (3 - (c.loop.counter + 1)) a z) (sym (one_less c.loop.counter c.loop-test.true))
     (newly_next net c.requires.system.legal.legal old fresh all held c.args.trial.system.flats.now c.requires.system.flat c.loop.shown.items shown' c.loop.level.items level' (3 - (c.loop.counter + 1)) a z
     (rw c.as_slice-segs.ensures.value at (c.in_ok-push_newly.ensures a z low))
@@ -33,4 +34,4 @@ returns g c a z low =
     let fresh : Held = fresh_in (λ k. (goal.UnitKind-dyn g (k.vtable, k.value)).meaning k.value) c.args.trial in
     let all : Held = joined_in (λ k. (goal.UnitKind-dyn g (k.vtable, k.value)).meaning k.value) c.args.trial in
     let none : 3 - c.loop.counter ≡ 0 = (let t = c.loop-test.false in omega arith) in
-    both_turned (then_both (both_turned (newly_whole net old fresh all c.new-shown.result.items c.args.stops.items a z c.new-shown.ensures.items)) (then_both (c.loop.invariant a z low) (subst (λ n. NewlyComes net old fresh all c.loop.shown.items c.loop.level.items n a z ↔ (segs_give c.loop.shown.items a z ≡ true)) (sym none) (newly_end net old fresh all c.loop.shown.items c.loop.level.items a z))))
+    both_turned (means_then (both_turned (newly_whole net old fresh all c.new-shown.result.items c.args.stops.items a z c.new-shown.ensures.items)) (means_then (c.loop.invariant a z low) (subst (λ n. NewlyComes net old fresh all c.loop.shown.items c.loop.level.items n a z ↔ (segs_give c.loop.shown.items a z ≡ true)) (sym none) (newly_end net old fresh all c.loop.shown.items c.loop.level.items a z))))

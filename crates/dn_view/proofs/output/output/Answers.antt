@@ -1,13 +1,14 @@
 use Rattle.std.proofs.Common.{◌≡◌, ◌∙◌, ◌≤◌, ◌<◌, ◌/◌, ◌^◌, ap, sym, map, List, slice_get, Some, None, arith}
 use Rattle.std.specs.Option.{option_map, option_copied}
 use Rattle.std.specs.List.{All}
+use Rattle.dn_base.proofs.Orders.{le-ltb}
 use Rattle.dn_net.specs.declared.node.Unit.{Unit as UnitPart}
 use Rattle.dn_kind.specs.Kind.{Meaning, IsLawful}
 use Rattle.dn_kind.specs.Tables.{record_allowing, allowing}
 use Rattle.dn_kind.proofs.Outputs.{IsStopIn, stop_in, step_in}
 use Rattle.dn_tables.specs.Set.{record_kept}
 use Rattle.dn_tables.proofs.Slots.{all_of_map}
-use Rattle.dn_view.proofs.Held.{none_past, kept_are_held, IsFoundUnit, found_unit, held_within, slot_there, slot_past}
+use Rattle.dn_view.proofs.Held.{none_past, kept_are_held, IsFoundUnit, found_unit, held_within, slot_there}
 use Rattle.dn_view.proofs.output.output.Given.{Over}
 use Rattle.dn_view.proofs.output.output.Goals.{In_ok-unit}
 use Rattle.dn_view.proofs.output.output.Goals as goal
@@ -53,5 +54,5 @@ returns-then-slot-from g c =
     let u : UnitPart = c.in_ok-unit.unit.now in
     let at = (goal.at.returns-then-slot-from g c).In_ok-unit in
     let stop : IsStopIn c.args.net.now c.args.name u = stop_in c.args.net.now c.args.name u c.requires.stop (there g at) in
-    let none : record_kept kinds c.args.tables.now c.args.name.node (c.args.name.addr / 2 ^ u.page) ≡ None = none_past c.args.net.now kinds c.args.tables.now c.requires.tables.fits c.args.name.node (c.args.name.addr / 2 ^ u.page) u (found g at).at (slot_past (c.args.name.addr / 2 ^ u.page) u.slots (omega (arith, c.if-slot-from.true, c.from.ensures))) in
+    let none : record_kept kinds c.args.tables.now c.args.name.node (c.args.name.addr / 2 ^ u.page) ≡ None = none_past c.args.net.now kinds c.args.tables.now c.requires.tables.fits c.args.name.node (c.args.name.addr / 2 ^ u.page) u (found g at).at (le-ltb (c.args.name.addr / 2 ^ u.page) u.slots (omega (arith, c.if-slot-from.true, c.from.ensures))) in
     sym (step_in c.args.net.now (allowing c.args.access (record_kept kinds c.args.tables.now)) c.args.name u None stop (ap (record_allowing c.args.access) none))

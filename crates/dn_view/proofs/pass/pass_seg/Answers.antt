@@ -6,8 +6,8 @@ use Rattle.dn_interval.specs.Strands.{segs_give}
 use Rattle.dn_interval.specs.Spans.{in_span}
 use Rattle.dn_net.specs.declared.node.Unit.{Unit as UnitPart}
 use Rattle.dn_net.specs.Decode.{unit_at}
+use Rattle.dn_net.proofs.Steps.{ports_at}
 use Rattle.dn_kind.specs.Tables.{Held, AreHeld, record_allowing}
-use Rattle.dn_kind.proofs.Nodes.{ports_there}
 use Rattle.dn_tables.specs.Set.{record_kept}
 use Rattle.dn_view.specs.Courses.{course_records}
 use Rattle.dn_view.specs.Passes.{part_gives, names_go, outputs, seg_name}
@@ -18,7 +18,7 @@ use Rattle.dn_view.proofs.pass.pass_seg.Goals as goal
 pub leads_on-requires : goal.leads_on-requires
 leads_on-requires g c =
     let at : unit_at c.args.course.system.net.now c.args.seg.node ≡ Some c.in-Some.unit.now = sym c.unit_of.ensures ∙ ap option_copied c.in-Some.is in
-    subst (λ n. IsTrue (list_all (λ p. nat_lt p n) c.in-Some.unit.now.ports)) (sym c.requires.system.flat.every) (ports_there c.args.course.system.net.now c.args.seg.node c.in-Some.unit.now c.requires.system.legal.legal.nodes.closed at)
+    subst (λ n. IsTrue (list_all (λ p. nat_lt p n) c.in-Some.unit.now.ports)) (sym c.requires.system.flat.every) (ports_at c.args.course.system.net.now c.args.seg.node c.in-Some.unit.now c.requires.system.legal.legal.nodes.closed at)
 
 pub returns-then-not-leads_on : goal.returns-then-not-leads_on
 returns-then-not-leads_on g c a z =

@@ -1,6 +1,6 @@
 use Rattle.std.proofs.Common.{◌∙◌, ◌<◌, sym, subst, map, length, arith, nat_lt, ltb-true}
-use Rattle.dn_kind.proofs.Nodes.{ports_there}
-use Rattle.dn_net.proofs.Places.{list_all-at}
+use Rattle.dn_base.proofs.Lists.{list_all-at}
+use Rattle.dn_net.proofs.Steps.{ports_at}
 use Rattle.dn_view.specs.Courses.{course_records}
 use Rattle.dn_view.proofs.Courses.{course_held}
 use Rattle.dn_view.proofs.Fitted.{IsSmall, small_unit}
@@ -29,6 +29,6 @@ sent_part-requires-clause-within g c =
 pub push_sent-requires : goal.push_sent-requires
 push_sent-requires g c =
     let net = c.args.course.system.net.now in
-    let all = ports_there net c.args.seg.node c.args.unit.now c.requires.course.system.legal.legal.nodes.closed c.requires.unit in
+    let all = ports_at net c.args.seg.node c.args.unit.now c.requires.course.system.legal.legal.nodes.closed c.requires.unit in
     let l = list_all-at (λ p. nat_lt p (length net)) c.args.unit.now.ports c.in-Some.record.port c.sent_part.result.node all c.sent_part.ensures.node in
     subst (λ n. c.sent_part.result.node < n) (sym c.requires.course.system.flat.every) (ltb-true c.sent_part.result.node (length net) l)

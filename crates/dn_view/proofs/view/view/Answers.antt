@@ -7,10 +7,10 @@ use Rattle.dn_interval.specs.Rows.{AreNormal, SegmentsGive, ends_within}
 use Rattle.dn_interval.specs.Strands.{segs_give}
 use Rattle.dn_kind.specs.Kind.{Meaning}
 use Rattle.dn_kind.specs.Tables.{Held, AreHeld, allowing}
+use Rattle.dn_kind.proofs.Ways.{allowing_held}
 use Rattle.dn_tables.specs.Set.{record_kept}
 use Rattle.dn_view.specs.Views.{ResolvesFromUnder}
 use Rattle.dn_view.proofs.Courses.{system_held}
-use Rattle.dn_view.proofs.Held.{allowed_are_held}
 use Rattle.dn_view.proofs.Viewed.{viewed, view_rows, view_within}
 use Rattle.dn_view.proofs.view.view.Goals as goal
 
@@ -19,7 +19,7 @@ returns-clause-rows g c =
     let kinds : List Meaning = map (λ k. (goal.UnitKind-dyn g (k.vtable, k.value)).meaning k.value) c.args.system.kinds.now.list.items in
     let net = c.args.system.net.now in
     let h : Held = allowing c.args.access (record_kept kinds c.args.tables.now) in
-    let held : AreHeld net h = allowed_are_held net (record_kept kinds c.args.tables.now) c.args.access (system_held (λ k. (goal.UnitKind-dyn g (k.vtable, k.value)).meaning k.value) c.args.system c.args.tables.now c.requires.system c.requires.fits) in
+    let held : AreHeld net h = allowing_held net (record_kept kinds c.args.tables.now) c.args.access (system_held (λ k. (goal.UnitKind-dyn g (k.vtable, k.value)).meaning k.value) c.args.system c.args.tables.now c.requires.system c.requires.fits) in
     let there : c.args.node < length c.args.system.flats.now.nodes = subst (λ n. c.args.node < n) (sym c.requires.system.flat.every) c.requires.there in
     let shown : List Seg = c.push_through.new.shown.items in
     let same : (a : ℕ) (z : End) → a ≤ TOP → (segs_give shown a z ≡ true) ↔ ResolvesFromUnder net h c.args.node a z = viewed net c.requires.system.legal.legal h held c.args.system.flats.now c.requires.system.flat c.args.node there c.in_ok-shown.shown.items c.in_ok-stops.stops.items shown c.in_ok-shown.ensures c.in_ok-stops.ensures c.in_ok-push_through.ensures in

@@ -1,9 +1,10 @@
 -- The levels of the code are those of the net, so what they show is the rule that the net breaks.
-use Rattle.std.proofs.Common.{◌≡◌, ◌∙◌, ℕ, Option, option_map, IfSome, get_or, refl, suc, ◌+◌, ◌-◌, ◌<◌, ◌≤◌, ◌⊎◌, inl, inr, List, [], ◌∷◌, map, drop, length, vec_len, true, false, None, Some, sym, ap, subst, arith, rules}
+use Rattle.std.proofs.Common.{◌≡◌, ◌∙◌, ℕ, Option, option_map, IfSome, get_or, refl, suc, ◌+◌, ◌-◌, ◌<◌, ◌≤◌, ◌⊎◌, inl, inr, List, [], map, drop, length, vec_len, true, false, None, Some, sym, ap, subst, arith, rules}
 use Rattle.std.specs.List.{All, flat_map}
 use Rattle.std.specs.List.Sorted.{IsNonDecreasingBy}
 use Rattle.std.proofs.lemmas.Bool.Decides.{nat_tests}
 use Rattle.std.proofs.lemmas.Result.{err_from_is_err_and}
+use Rattle.dn_base.proofs.Lists.{nil_from_length}
 use Rattle.dn_net.specs.Decode.{step_limit}
 use Rattle.dn_net.specs.Rules.{KeepsNodeRules}
 use Rattle.dn_net.specs.WalkRules.{Broken, walk_limit, endless_fault, unit_fault, walk_fault, is_wide, has_loop, is_deep}
@@ -78,10 +79,6 @@ acyclic_more net k c s a e = λ j l m. by j l (last j m)
     by : (j : ℕ) → 1 ≤ j → (j ≡ c) ⊎ (j ≤ k) → least_of (start_names true (told_level (map told_legs net) j)) ≡ None
     by j l (inl t) = ap (λ n. least_of (start_names true (told_level (map told_legs net) n))) t ∙ e
     by j l (inr m) = a j l m
-
-nothing : {X : Type 0} (xs : List X) → length xs ≡ 0 → xs ≡ []
-nothing [] e = refl
-nothing (x ∷ xs) e = absurd (omega arith)
 
 -- the loop ends at level 64, or at an empty level
 abbrev Ended : List NodeDecl → ℕ → Type 0
@@ -212,7 +209,7 @@ returns-in_err-check_newest-2-clause-checks c =
     let h = ended (goal.at.returns-in_err-check_newest-2-clause-checks c).In_ok-levels-3 in
     let size : vec_len old.sorted ≡ length old.sorted.items = search rules in
     let ended : Ended net (length old.sorted.items) = elim c.levels-test.branch [
-      | then-levels-test+else-not-is_empty w ↦ (let none : length old.newest.items ≡ 0 = grind (arith, nat_tests, w.is_empty.ensures, w.if-not-is_empty.false) in inr (sym inv.levels.newest ∙ ap (map row_view) (nothing old.newest.items none)))
+      | then-levels-test+else-not-is_empty w ↦ (let none : length old.newest.items ≡ 0 = grind (arith, nat_tests, w.is_empty.ensures, w.if-not-is_empty.false) in inr (sym inv.levels.newest ∙ ap (map row_view) (nil_from_length old.newest.items none)))
       | else-levels-test w ↦ inl (omega (arith, c.len.ensures, w.levels-test.false))
     ] in
     let deep : (names : List Name) → told_path net (told_levels (map told_legs net) (length l.sorted.items)) (told_level (map told_legs net) (length l.sorted.items)) ≡ Some names → walk_fault net ≡ Some (is_deep names) = λ names told. first_part net (is_deep names) (deep_at net c.requires.rules (length old.sorted.items) (length l.sorted.items) names c.in_ok-levels-3.ensures.one_more inv.shallow ended inv.acyclic (few net l h) told) in

@@ -2,7 +2,8 @@
 use Rattle.std.proofs.Common.{◌≡◌, ◌∙◌, sym, ap, subst}
 use Rattle.std.specs.List.{slice_get}
 use Rattle.std.proofs.lemmas.Bool.{lt-leb}
-use Rattle.dn_interval.proofs.Pieces.{there, gone}
+use Rattle.dn_base.proofs.Lists.{slice_get-at}
+use Rattle.dn_interval.proofs.Pieces.{gone}
 use Rattle.dn_interval.proofs.RowPlaces.{found, begins_by, covered}
 use Rattle.dn_interval.specs.Rows.{Apart}
 use Rattle.dn_interval.proofs.rows.Rows.at.Goals.{After-ended_before}
@@ -22,4 +23,4 @@ pub returns-else-row-a-clause-none : goal.returns-else-row-a-clause-none
 returns-else-row-a-clause-none c =
     let r = c.in_ok-row.row.now in
     let h = c.in_ok-row.ensures.lookup in
-    sym (lt-leb r.span.lo c.args.a c.if-row-a.false) ∙ ap (begins_by c.args.a) (there c.rows-rows.result.now c.ended_before.result r h.3.0 h.1) ∙ covers_it (goal.at.returns-else-row-a-clause-none c).After-ended_before
+    sym (lt-leb r.span.lo c.args.a c.if-row-a.false) ∙ ap (begins_by c.args.a) (slice_get-at c.rows-rows.result.now c.ended_before.result r h.3.0 h.1) ∙ covers_it (goal.at.returns-else-row-a-clause-none c).After-ended_before

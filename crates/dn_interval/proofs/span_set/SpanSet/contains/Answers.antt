@@ -1,7 +1,8 @@
 -- The address is in the first span that does not end before it, or in none.
 use Rattle.std.proofs.Common.{◌≡◌, ◌∙◌, sym, ap, subst}
 use Rattle.std.specs.List.{slice_get}
-use Rattle.dn_interval.proofs.Pieces.{there, gone}
+use Rattle.dn_base.proofs.Lists.{slice_get-at}
+use Rattle.dn_interval.proofs.Pieces.{gone}
 use Rattle.dn_interval.proofs.Places.{found, begins_by}
 use Rattle.dn_interval.specs.Spans.{has, StandFrom}
 use Rattle.dn_interval.proofs.span_set.SpanSet.contains.Goals.{After-ended_before}
@@ -16,7 +17,7 @@ has_it c =
 pub returns-in-Some : goal.returns-in-Some
 returns-in-Some c =
     let h = c.in-Some.ensures.lookup in
-    ap (begins_by c.args.a) (there c.spans-spans.result.now c.ended_before.result c.in-Some.span.now h.3.0 h.1) ∙ has_it (goal.at.returns-in-Some c).After-ended_before
+    ap (begins_by c.args.a) (slice_get-at c.spans-spans.result.now c.ended_before.result c.in-Some.span.now h.3.0 h.1) ∙ has_it (goal.at.returns-in-Some c).After-ended_before
 
 pub returns-in-None : goal.returns-in-None
 returns-in-None c =

@@ -1,10 +1,11 @@
 use Rattle.std.proofs.Common.{◌∙◌, ap, map, length, refl, arith, ◌<◌}
 use Rattle.std.specs.String.{string_bytes, string_eq}
 use Rattle.std.specs.Str.{bytes_eq}
+use Rattle.dn_base.proofs.Lists.{length-last, map-last, list_all-last}
 use Rattle.dn_net.specs.Parts.{declared_by, over_is_based}
 use Rattle.dn_net.specs.Decode.{is_formed}
 use Rattle.dn_net.specs.Legal.{node_limit}
-use Rattle.dn_net.proofs.Places.{insert_entry-new, declared_new, list_all-last, length-last, map-last, length-map, names_still_differ}
+use Rattle.dn_net.proofs.Places.{insert_entry-new, declared_new, length-map, names_still_differ}
 use Rattle.dn_net.proofs.net.Net.add.Goals as goal
 
 pub invariant_of-self : goal.invariant_of-self

@@ -1,6 +1,6 @@
 use Rattle.std.proofs.Common.{sym}
+use Rattle.dn_base.proofs.Lists.{list_all-at}
 use Rattle.dn_net.specs.Parts.{over_is_based}
-use Rattle.dn_net.proofs.Places.{list_all-at}
 use Rattle.dn_net.proofs.net.Net.parts.Goals as goal
 
 pub returns-clause-based : goal.returns-clause-based

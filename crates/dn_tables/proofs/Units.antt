@@ -1,10 +1,8 @@
 -- The units of a set are those of the net that it fits.
 use Rattle.std.proofs.Common.{◌≡◌, ◌∙◌, ℕ, zero, suc, List, [], ◌∷◌, map, slice_get, Option, Some, None, refl, sym, ap}
-use Rattle.std.specs.Option.{option_map}
-use Rattle.std.proofs.lemmas.Option.{same_Some}
 use Rattle.dn_net.specs.declared.node.NodeDecl.{NodeDecl}
 use Rattle.dn_net.specs.declared.node.Unit.{Unit as UnitPart}
-use Rattle.dn_net.specs.Decode.{unit_at, unit_of}
+use Rattle.dn_net.specs.Decode.{unit_at}
 use Rattle.dn_kind.specs.Kind.{Meaning}
 use Rattle.dn_tables.specs.declared.table.NodeTable.{NodeTable}
 use Rattle.dn_tables.specs.Set.{FitsNet, units_of, unit_in}
@@ -30,11 +28,3 @@ unit_by_units net set e n = unit_of_set set n ∙ ap (λ l. joined (slice_get l 
 
 pub unit_fits : (net : List NodeDecl) (kinds : List Meaning) (set : List NodeTable) → FitsNet net kinds set → (n : ℕ) → unit_in set n ≡ unit_at net n
 unit_fits net kinds set f n = unit_by_units net set f.units n
-
--- the unit that a net tells of a node
-pub unit_told : (net : List NodeDecl) (n : ℕ) (o : Option UnitPart) → option_map (λ d. d.unit) (slice_get net n) ≡ Some o → unit_at net n ≡ o
-unit_told net n o e = go (slice_get net n) refl e
-  where
-    go : (d : Option NodeDecl) → slice_get net n ≡ d → option_map (λ d. d.unit) d ≡ Some o → unit_of (slice_get net n) ≡ o
-    go None at e = cc
-    go (Some d) at e = ap unit_of at ∙ same_Some d.unit o e
