@@ -9,15 +9,15 @@ use Rattle.dn_base.specs.declared.device.TableEvent.TheVariants.{Write}
 use Rattle.dn_base.specs.declared.device.UnitWords.{UnitWords}
 use Rattle.dn_base.proofs.Logs.{Logged-none, Logged-then}
 use Rattle.dn_tables.specs.declared.table.NodeTable.{NodeTable}
-use Rattle.dn_tables.specs.Writes.{WordWrite, AreMade, events_of}
+use Rattle.dn_tables.specs.Writes.{WordWrite, AreMade, write_events}
 use Rattle.dn_book.specs.Writes.{AreAdded}
 
-take_events : (unit k : ℕ) (ws : List WordWrite) → events_of unit (take k ws) ≡ take k (events_of unit ws)
+take_events : (unit k : ℕ) (ws : List WordWrite) → write_events unit (take k ws) ≡ take k (write_events unit ws)
 take_events unit zero ws = refl
 take_events unit (suc k) [] = refl
 take_events unit (suc k) (w ∷ ws) = ap (λ (l : List TableEvent). Write unit w.word w.value ∷ l) (take_events unit k ws)
 
-length_events : (unit : ℕ) (ws : List WordWrite) → length (events_of unit ws) ≡ length ws
+length_events : (unit : ℕ) (ws : List WordWrite) → length (write_events unit ws) ≡ length ws
 length_events unit [] = refl
 length_events unit (w ∷ ws) = ap suc (length_events unit ws)
 
@@ -26,9 +26,9 @@ pub added_none : (log log' : Option (List TableEvent)) → log' ≡ log → AreA
 added_none log log' e = record { made = 0; all = λ f. refl; less = λ f. cc; logged = Logged-none log log' e }
 
 -- the events of writes
-pub added_made : (unit : ℕ) (writes : List WordWrite) (failed failed' : Bool) (log log' : Option (List TableEvent)) (told told' : Option (List UnitWords)) (set set' : List NodeTable) → failed' ≡ failed → AreMade unit writes failed log log' told told' set set' → AreAdded (events_of unit writes) failed' log log'
+pub added_made : (unit : ℕ) (writes : List WordWrite) (failed failed' : Bool) (log log' : Option (List TableEvent)) (told told' : Option (List UnitWords)) (set set' : List NodeTable) → failed' ≡ failed → AreMade unit writes failed log log' told told' set set' → AreAdded (write_events unit writes) failed' log log'
 added_made unit writes failed failed' log log' told told' set set' e m =
-    let n : length (events_of unit writes) ≡ length writes = length_events unit writes in
+    let n : length (write_events unit writes) ≡ length writes = length_events unit writes in
     record {
       made = m.made;
       all = λ f. m.all (sym e ∙ f) ∙ sym n;

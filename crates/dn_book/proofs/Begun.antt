@@ -9,7 +9,7 @@ use Rattle.dn_kind.specs.declared.unit_kind.Record.{Record}
 use Rattle.dn_kind.specs.Kind.{Meaning}
 use Rattle.dn_kind.specs.Tables.{Held}
 use Rattle.dn_tables.specs.declared.table.NodeTable.{NodeTable}
-use Rattle.dn_tables.specs.Set.{FitsNet, fresh_by, fresh_set, unused, use_in, width_by, words_of}
+use Rattle.dn_tables.specs.Set.{FitsNet, fresh_by, fresh_set, no_use, use_in, width_by, words_of}
 use Rattle.dn_book.specs.Book.{records_of}
 use Rattle.dn_book.specs.Laws.{TablesHoldRecords}
 use Rattle.dn_book.specs.Tables.{IsKept, packed_node, packed_nodes, packed_slot, packed_slots, packed_unit}
@@ -43,16 +43,16 @@ zero_nodes kinds h none first (n ∷ net) =
     ∙ ap (λ (l : List (List ℕ)). packed_node kinds n.unit (h first) ∷ l) (zero_nodes kinds h none (suc first) net)
 
 -- no slot is used
-unused_in : (kinds : List Meaning) (net : List NodeDecl) (n q : ℕ) → use_in (fresh_set kinds net) n q ≡ unused
+unused_in : (kinds : List Meaning) (net : List NodeDecl) (n q : ℕ) → use_in (fresh_set kinds net) n q ≡ no_use
 unused_in kinds [] n q = refl
 unused_in kinds (d ∷ net) zero q = by d.unit
   where
-    all : (count q : ℕ) → slice_index_or (replicate count unused) q unused ≡ unused
+    all : (count q : ℕ) → slice_index_or (replicate count no_use) q no_use ≡ no_use
     all zero q = refl
     all (suc count) zero = refl
     all (suc count) (suc q) = all count q
 
-    by : (o : Option UnitPart) → slice_index_or (fresh_by kinds o).uses q unused ≡ unused
+    by : (o : Option UnitPart) → slice_index_or (fresh_by kinds o).uses q no_use ≡ no_use
     by None = refl
     by (Some u) = all u.slots q
 unused_in kinds (d ∷ net) (suc n) q = unused_in kinds net n q

@@ -14,7 +14,7 @@ use Rattle.dn_kind.specs.Rights.{both_rights}
 use Rattle.dn_tables.specs.declared.placement.Hop.{Hop}
 use Rattle.dn_tables.specs.declared.table.NodeTable.{NodeTable}
 use Rattle.dn_tables.specs.declared.table.SlotUse.{SlotUse}
-use Rattle.dn_tables.specs.Set.{IsSet, fits_by, fits_kinds, has_slot, table_on_device, has_slot_by, tables_from, tables_of_set, unit_in, units_of, unused, use_in, with_use, with_uses, words_of}
+use Rattle.dn_tables.specs.Set.{IsSet, fits_by, fits_kinds, has_slot, table_on_device, has_slot_by, tables_from, tables_of_set, unit_in, units_of, no_use, use_in, with_use, with_uses, words_of}
 use Rattle.dn_tables.proofs.Kept.{IsSlot, all_changed, map_changed, slot_in_set, table_of_unit}
 use Rattle.dn_placement.specs.Records.{first_slot, last_slot, hop_record_by, is_taken_by, slot_record}
 use Rattle.dn_book.specs.Book.{is_taken}
@@ -33,7 +33,7 @@ use_changed : (set : List NodeTable) (u q : ℕ) (t : NodeTable) (x : SlotUse) �
 use_changed [] u q t x e l = cc
 use_changed (s ∷ set) zero q t x e l = at s.uses q (subst (λ (w : NodeTable). q < length w.uses) (sym (same_Some s t e)) l)
   where
-    at : (us : List SlotUse) (q : ℕ) → q < length us → slice_index_or (slice_set us q x) q unused ≡ x
+    at : (us : List SlotUse) (q : ℕ) → q < length us → slice_index_or (slice_set us q x) q no_use ≡ x
     at [] q l = absurd (omega arith)
     at (v ∷ us) zero l = refl
     at (v ∷ us) (suc q) l = at us q (omega arith)
@@ -44,7 +44,7 @@ use_kept : (set : List NodeTable) (u q m p : ℕ) (x : SlotUse) → (m ≡ u →
 use_kept [] u q m p x ne = refl
 use_kept (s ∷ set) zero q zero p x ne = at s.uses q p (λ e. ne refl e)
   where
-    at : (us : List SlotUse) (q p : ℕ) → (p ≡ q → ⊥) → slice_index_or (slice_set us q x) p unused ≡ slice_index_or us p unused
+    at : (us : List SlotUse) (q p : ℕ) → (p ≡ q → ⊥) → slice_index_or (slice_set us q x) p no_use ≡ slice_index_or us p no_use
     at [] q p ne = refl
     at (v ∷ us) zero zero ne = absurd (ne refl)
     at (v ∷ us) zero (suc p) ne = refl

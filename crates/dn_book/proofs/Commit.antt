@@ -21,13 +21,13 @@ use Rattle.dn_tables.specs.declared.placement.Hop.{Hop}
 use Rattle.dn_tables.specs.declared.table.NodeTable.{NodeTable}
 use Rattle.dn_tables.specs.declared.table.SlotUse.{SlotUse}
 use Rattle.dn_tables.specs.Set.{FitsNet, IsOnDevice, has_slot, has_slot_by, packed_for, packed_by, tables_of_set, use_in, width_in, width_of_table, words_of}
-use Rattle.dn_tables.specs.Writes.{events_of, put_writes, writes_from}
+use Rattle.dn_tables.specs.Writes.{put_writes, write_events, writes_from}
 use Rattle.dn_tables.proofs.Kept.{table_of_unit}
 use Rattle.dn_placement.specs.Records.{hop_rights}
 use Rattle.dn_book.specs.declared.grant.Grant.{Grant}
 use Rattle.dn_book.specs.Book.{IsSound, is_taken, owns_slot, records_of, slots_of, uses_of, uses_slot}
 use Rattle.dn_book.specs.Laws.{IsGrantFor}
-use Rattle.dn_book.specs.Sets.{AreFit, AreHopsChanged, AreOpen, MayUse, after_puts, changed_by, hop_owner, is_used_by, one_more, put_log}
+use Rattle.dn_book.specs.Sets.{AreFit, AreHopsChanged, AreOpen, MayUse, after_puts, changed_by, hop_owner, is_used_by, one_use_more, put_log}
 use Rattle.dn_book.specs.Tables.{IsKept, packed_tables, use_of}
 use Rattle.dn_book.specs.Writes.{Put, grant_slots, hop_slots, is_empty, joined_slots, kind_by, put_events, put_events_by, puts_of}
 use Rattle.dn_book.proofs.Changes.{has_slot_kept}
@@ -51,18 +51,18 @@ width_at net kinds k set f node u e kind at =
 
 pub put_log_is : (net : List NodeDecl) (kinds : List Meaning) → AreKinds net kinds → (set : List NodeTable) → FitsNet net kinds set → (ss : List Put) → put_log kinds set ss ≡ flat_map (put_events net kinds) ss
 put_log_is net kinds k set f ss =
-    same_flat (λ (s : Put). events_of s.unit (put_writes kinds set s.unit s.slot s.holds)) (put_events net kinds) one ss
+    same_flat (λ (s : Put). write_events s.unit (put_writes kinds set s.unit s.slot s.holds)) (put_events net kinds) one ss
   where
-    one : (s : Put) → events_of s.unit (put_writes kinds set s.unit s.slot s.holds) ≡ put_events net kinds s
-    one s = ap (λ o. events_of s.unit (writes_from (s.slot * width_in set s.unit) (packed_for kinds o s.holds))) (unit_fits net kinds set f s.unit) ∙ by (unit_at net s.unit) refl
+    one : (s : Put) → write_events s.unit (put_writes kinds set s.unit s.slot s.holds) ≡ put_events net kinds s
+    one s = ap (λ o. write_events s.unit (writes_from (s.slot * width_in set s.unit) (packed_for kinds o s.holds))) (unit_fits net kinds set f s.unit) ∙ by (unit_at net s.unit) refl
       where
-        by : (o : Option UnitPart) → unit_at net s.unit ≡ o → events_of s.unit (writes_from (s.slot * width_in set s.unit) (packed_for kinds o s.holds)) ≡ put_events_by o (kind_by kinds o) s
+        by : (o : Option UnitPart) → unit_at net s.unit ≡ o → write_events s.unit (writes_from (s.slot * width_in set s.unit) (packed_for kinds o s.holds)) ≡ put_events_by o (kind_by kinds o) s
         by None e = refl
         by (Some u) e = kinds_of (slice_get kinds u.kind) refl
           where
-            kinds_of : (c : Option Meaning) → slice_get kinds u.kind ≡ c → events_of s.unit (writes_from (s.slot * width_in set s.unit) (packed_by c u s.holds)) ≡ put_events_by (Some u) c s
+            kinds_of : (c : Option Meaning) → slice_get kinds u.kind ≡ c → write_events s.unit (writes_from (s.slot * width_in set s.unit) (packed_by c u s.holds)) ≡ put_events_by (Some u) c s
             kinds_of None g = refl
-            kinds_of (Some kind) g = ap (λ w. events_of s.unit (writes_from (s.slot * w) (kind.pack (unit_shape u) s.holds))) (width_at net kinds k set f s.unit u e kind g)
+            kinds_of (Some kind) g = ap (λ w. write_events s.unit (writes_from (s.slot * w) (kind.pack (unit_shape u) s.holds))) (width_at net kinds k set f s.unit u e kind g)
 
 -- A GRANT THAT COMES TO A BOOK THAT IS KEPT
 
@@ -159,7 +159,7 @@ module _ (net : List NodeDecl) (kinds : List Meaning) (book : List Grant) (g : G
   after : IsSound net (book ++ g ∷ [])
   after = granted_sound net legal book g sound c.placed
 
-  pub committed : (set' set'' : List NodeTable) → set' ≡ after_puts kinds set (filter (is_used_by 0 set) (joined_slots (reverse (grant_slots net g)))) → AreHopsChanged net g.request.size (λ place. one_more (hop_owner g.id g.placement.own place)) g.placement.hops set' set'' → IsKept net kinds (book ++ g ∷ []) set''
+  pub committed : (set' set'' : List NodeTable) → set' ≡ after_puts kinds set (filter (is_used_by 0 set) (joined_slots (reverse (grant_slots net g)))) → AreHopsChanged net g.request.size (λ place. one_use_more (hop_owner g.id g.placement.own place)) g.placement.hops set' set'' → IsKept net kinds (book ++ g ∷ []) set''
   committed set' set'' made changed = record {
     sound = after;
     fits = new.fits;
@@ -192,7 +192,7 @@ module _ (net : List NodeDecl) (kinds : List Meaning) (book : List Grant) (g : G
           let before : IsTrue (has_slot set' n q) = sym (has_slot_kept set' set'' n q changed.fits.units) ∙ there in
           let first : IsTrue (has_slot set n q) = sym (has_slot_kept set set' n q frame.fits.units) ∙ before in
           changed.uses n q before
-          ∙ ap (changed_by net g.request.size (λ place. one_more (hop_owner g.id g.placement.own place)) 0 g.placement.hops n q) (frame.use_of n q ∙ c.kept.uses n q first)
+          ∙ ap (changed_by net g.request.size (λ place. one_use_more (hop_owner g.id g.placement.own place)) 0 g.placement.hops n q) (frame.use_of n q ∙ c.kept.uses n q first)
           ∙ uses_granted net legal book g sound c.placed n q
 
 -- the device is that of a set whose uses were changed

@@ -22,7 +22,7 @@ use Rattle.dn_placement.specs.Exposure.{Adds, IsAdmissible}
 use Rattle.dn_placement.specs.Placement.{IsPlacement, name_on}
 use Rattle.dn_placement.specs.Records.{first_slot, hop_rights, joined_records, last_slot, or_record, slot_record}
 use Rattle.dn_book.specs.declared.grant.Grant.{Grant}
-use Rattle.dn_book.specs.Book.{IsFaithful, IsGranted, IsSound, Owes, grant_records, open_slots, owns_slot, records_of, uses_slot, without}
+use Rattle.dn_book.specs.Book.{IsFaithful, IsGrantedName, IsSound, Owes, grant_records, open_slots, owns_slot, records_of, uses_slot, without_id}
 use Rattle.dn_book.specs.Laws.{EmptyBookIsFaithful, GrantKeepsBook, RevokeKeepsBook}
 use Rattle.dn_book.proofs.Given.{between_gives, by_owns, gives_taken, given_by, held_in, in_held, uses_given}
 use Rattle.dn_book.proofs.Hops.{div_mono}
@@ -172,13 +172,13 @@ owed_given net legal book sound access x y (inr b) =
     subst (λ w. ResolvesUnder net (allowing access (records_of net book)) w y) (sym b.adds.from) (subst (λ w. ResolvesUnder net (allowing access (records_of net book)) (name_on b.grant.request.agent b.grant.placement.v b.adds.i) w) (sym b.adds.to) r)
 
 -- the records without a grant are records of the book
-less_held : (net : List NodeDecl) (id : ℕ) (book : List Grant) → IsSound net book → Extends (records_of net (without id book)) (records_of net book)
+less_held : (net : List NodeDecl) (id : ℕ) (book : List Grant) → IsSound net book → Extends (records_of net (without_id id book)) (records_of net book)
 less_held net id book sound n q r e =
-    let h = held_in net (without id book) n q r e in
-    in_held net book sound.agree n q r (given_by net book h.grant n q r (without_in id book h.grant h.is_grant).0 (given_gives net (without id book) n q r h))
+    let h = held_in net (without_id id book) n q r e in
+    in_held net book sound.agree n q r (given_by net book h.grant n q r (without_in id book h.grant h.is_grant).0 (given_gives net (without_id id book) n q r h))
 
 -- what a grant gives is not given without it
-ends_with : (net : List NodeDecl) → IsLegalNet net → (id : ℕ) (book : List Grant) → IsSound net book → (access : Access) (x y : Name) (b : IsGranted book access x y) → b.grant.id ≡ id → ResolvesUnder net (allowing access (records_of net (without id book))) x y → ⊥
+ends_with : (net : List NodeDecl) → IsLegalNet net → (id : ℕ) (book : List Grant) → IsSound net book → (access : Access) (x y : Name) (b : IsGrantedName book access x y) → b.grant.id ≡ id → ResolvesUnder net (allowing access (records_of net (without_id id book))) x y → ⊥
 ends_with net legal id book sound access x y b same r = nothing
   where
     g : Grant
@@ -188,10 +188,10 @@ ends_with net legal id book sound access x y b same r = nothing
     hi = allowing access (records_of net book)
 
     lo : Held
-    lo = allowing access (records_of net (without id book))
+    lo = allowing access (records_of net (without_id id book))
 
     more : Extends lo hi
-    more = allowing_more (records_of net (without id book)) (records_of net book) access (less_held net id book sound)
+    more = allowing_more (records_of net (without_id id book)) (records_of net book) access (less_held net id book sound)
 
     p : IsPlacement net open_slots g.request g.placement
     p = (sound.grants g b.is_grant).placed
@@ -233,21 +233,21 @@ ends_with net legal id book sound access x y b same r = nothing
 
     nothing : ⊥
     nothing =
-        let there : records_of net (without id book) p.own.unit q ≡ Some held.0 = allowed_there (records_of net (without id book)) access p.own.unit q held.0 held.1 in
-        let h = held_in net (without id book) p.own.unit q held.0 there in
+        let there : records_of net (without_id id book) p.own.unit q ≡ Some held.0 = allowed_there (records_of net (without_id id book)) access p.own.unit q held.0 held.1 in
+        let h = held_in net (without_id id book) p.own.unit q held.0 there in
         let k = without_in id book h.grant h.is_grant in
-        let used : uses_slot net p.own.unit q h.grant ≡ true = uses_given net (without id book) p.own.unit q held.0 h in
+        let used : uses_slot net p.own.unit q h.grant ≡ true = uses_given net (without_id id book) p.own.unit q held.0 h in
         let c : true ≡ false = sym used ∙ sound.alone g h.grant b.is_grant k.0 (λ e. k.1 (sym e ∙ same)) p.own.unit q o.2 in
         cc
 
-revoked_faithful : (net : List NodeDecl) → IsLegalNet net → (id : ℕ) (book : List Grant) → IsSound net book → IsFaithful net book → IsFaithful net (without id book)
-revoked_faithful net legal id book sound f access x y agent = (down, owed_given net legal (without id book) (revoked_sound net id book sound) access x y)
+revoked_faithful : (net : List NodeDecl) → IsLegalNet net → (id : ℕ) (book : List Grant) → IsSound net book → IsFaithful net book → IsFaithful net (without_id id book)
+revoked_faithful net legal id book sound f access x y agent = (down, owed_given net legal (without_id id book) (revoked_sound net id book sound) access x y)
   where
-    more : Extends (allowing access (records_of net (without id book))) (allowing access (records_of net book))
-    more = allowing_more (records_of net (without id book)) (records_of net book) access (less_held net id book sound)
+    more : Extends (allowing access (records_of net (without_id id book))) (allowing access (records_of net book))
+    more = allowing_more (records_of net (without_id id book)) (records_of net book) access (less_held net id book sound)
 
-    down : ResolvesUnder net (allowing access (records_of net (without id book))) x y → Owes net (without id book) access x y
-    down r = elim ((f access x y agent).0 (more_records_keep_names net (allowing access (records_of net (without id book))) (allowing access (records_of net book)) more x y r)) [
+    down : ResolvesUnder net (allowing access (records_of net (without_id id book))) x y → Owes net (without_id id book) access x y
+    down r = elim ((f access x y agent).0 (more_records_keep_names net (allowing access (records_of net (without_id id book))) (allowing access (records_of net book)) more x y r)) [
       | inl a ↦ inl a
       | inr b ↦ elim (cases_eq b.grant.id id) [
         | inl e ↦ absurd (ends_with net legal id book sound access x y b e r)

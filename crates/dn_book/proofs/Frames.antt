@@ -10,8 +10,8 @@ use Rattle.dn_kind.specs.Kind.{Meaning}
 use Rattle.dn_kind.specs.Tables.{slot_words}
 use Rattle.dn_tables.specs.declared.table.NodeTable.{NodeTable}
 use Rattle.dn_tables.specs.declared.table.SlotUse.{SlotUse}
-use Rattle.dn_tables.specs.Set.{IsEmpty, KeepsFit, fits_by, packed_for, packed_in, put_over, unit_in, unit_of_table, unused, use_in, uses_of_table, width_in, width_of_table, with_slot, with_table, with_words, words_in, words_of_table}
-use Rattle.dn_tables.specs.Writes.{clear_writes, clears_from, events_of, put_writes, writes_from}
+use Rattle.dn_tables.specs.Set.{IsEmpty, KeepsFit, fits_by, no_use, packed_for, packed_in, put_over, unit_in, unit_of_table, use_in, uses_of_table, width_in, width_of_table, with_slot, with_table, with_words, words_in, words_of_table}
+use Rattle.dn_tables.specs.Writes.{clear_writes, clears_from, put_writes, write_events, writes_from}
 use Rattle.dn_tables.proofs.Kept.{all_changed, map_changed}
 use Rattle.dn_book.specs.Sets.{after_clears, after_puts, clear_log, is_used_by, put_log}
 use Rattle.dn_book.specs.Writes.{Put}
@@ -41,7 +41,7 @@ pub width_with_slot : (set : List NodeTable) (u q m : ℕ) (vs : List ℕ) → w
 width_with_slot set u q m vs = kept_of width_of_table set u m (λ t. with_words t (put_over t.words (q * t.width) vs)) (λ t. refl)
 
 pub use_with_slot : (set : List NodeTable) (u q m p : ℕ) (vs : List ℕ) → use_in (with_slot set u q vs) m p ≡ use_in set m p
-use_with_slot set u q m p vs = kept_of (λ o. slice_index_or (uses_of_table o) p unused) set u m (λ t. with_words t (put_over t.words (q * t.width) vs)) (λ t. refl)
+use_with_slot set u q m p vs = kept_of (λ o. slice_index_or (uses_of_table o) p no_use) set u m (λ t. with_words t (put_over t.words (q * t.width) vs)) (λ t. refl)
 
 pub fit_with_slot : (set : List NodeTable) (u q : ℕ) (vs : List ℕ) → KeepsFit set (with_slot set u q vs)
 fit_with_slot set u q vs = record {
@@ -102,13 +102,13 @@ same_flat {X} {Y} f g e (x ∷ xs) = ap (λ (l : List Y). l ++ flat_map f xs) (e
 
 pub put_log_in_frame : (kinds : List Meaning) (set set' : List NodeTable) → SameFrame set set' → (ss : List Put) → put_log kinds set' ss ≡ put_log kinds set ss
 put_log_in_frame kinds set set' f ss =
-    same_flat (λ (s : Put). events_of s.unit (put_writes kinds set' s.unit s.slot s.holds)) (λ (s : Put). events_of s.unit (put_writes kinds set s.unit s.slot s.holds))
-    (λ s. ap (λ w. events_of s.unit (writes_from (s.slot * w) (packed_in kinds set' s.unit s.holds))) (f.width s.unit) ∙ ap (λ o. events_of s.unit (writes_from (s.slot * width_in set s.unit) (packed_for kinds o s.holds))) (f.unit s.unit)) ss
+    same_flat (λ (s : Put). write_events s.unit (put_writes kinds set' s.unit s.slot s.holds)) (λ (s : Put). write_events s.unit (put_writes kinds set s.unit s.slot s.holds))
+    (λ s. ap (λ w. write_events s.unit (writes_from (s.slot * w) (packed_in kinds set' s.unit s.holds))) (f.width s.unit) ∙ ap (λ o. write_events s.unit (writes_from (s.slot * width_in set s.unit) (packed_for kinds o s.holds))) (f.unit s.unit)) ss
 
 pub clear_log_in_frame : (set set' : List NodeTable) → SameFrame set set' → (ss : List Put) → clear_log set' ss ≡ clear_log set ss
 clear_log_in_frame set set' f ss =
-    same_flat (λ (s : Put). events_of s.unit (clear_writes set' s.unit s.slot)) (λ (s : Put). events_of s.unit (clear_writes set s.unit s.slot))
-    (λ s. ap (λ w. events_of s.unit (clears_from (s.slot * w) w)) (f.width s.unit)) ss
+    same_flat (λ (s : Put). write_events s.unit (clear_writes set' s.unit s.slot)) (λ (s : Put). write_events s.unit (clear_writes set s.unit s.slot))
+    (λ s. ap (λ w. write_events s.unit (clears_from (s.slot * w) w)) (f.width s.unit)) ss
 
 -- rows of puts
 pub puts_append : (kinds : List Meaning) (set : List NodeTable) (xs ys : List Put) → after_puts kinds set (xs ++ ys) ≡ after_puts kinds (after_puts kinds set xs) ys

@@ -9,7 +9,7 @@ use Rattle.dn_net.specs.declared.node.NodeDecl.{NodeDecl}
 use Rattle.dn_net.specs.declared.node.Unit.{Unit as UnitPart}
 use Rattle.dn_net.specs.Decode.{unit_at}
 use Rattle.dn_kind.specs.declared.unit_kind.Record.{Record}
-use Rattle.dn_kind.specs.Kind.{IsLawful, IsPackable, Meaning, is_plain, is_within}
+use Rattle.dn_kind.specs.Kind.{IsLawful, IsPackable, Meaning, is_plain_unit_shape, is_within}
 use Rattle.dn_kind.specs.Tables.{Held, IsHeld, record_of_unit, slot_words}
 use Rattle.dn_kind.specs.Units.{KeepsUnitShape, fits_shape, unit_shape}
 use Rattle.dn_kind.proofs.Held.{held_records_fit, kind_lawful}
@@ -119,7 +119,7 @@ module _ (net : List NodeDecl) (kinds : List Meaning) (book : List Grant) (set :
             let h = held node q r e in
             let same : h.unit.0 ≡ u = (let a = h.unit.1 in cc) in
             let shape = shaped.shaped node u eu in
-            let parts = and_parts (is_plain (unit_shape u)) (fits_shape (slice_get kinds u.kind) (unit_shape u)) shape in
+            let parts = and_parts (is_plain_unit_shape (unit_shape u)) (fits_shape (slice_get kinds u.kind) (unit_shape u)) shape in
             let packable : IsPackable kind (unit_shape u) r = record {
               plain = parts.0;
               fits = subst (λ k. IsTrue (fits_shape k (unit_shape u))) ek parts.1;

@@ -20,7 +20,7 @@ use Rattle.dn_kind.specs.Tables.{slot_words}
 use Rattle.dn_tables.specs.declared.placement.Hop.{Hop}
 use Rattle.dn_tables.specs.declared.table.NodeTable.{NodeTable}
 use Rattle.dn_tables.specs.declared.table.SlotUse.{SlotUse}
-use Rattle.dn_tables.specs.Set.{IsEmpty, IsSet, has_slot, has_slot_by, is_sized, is_sized_by, unit_of_table, unused, use_in, uses_of_table, width_in, width_of_table, words_of_table}
+use Rattle.dn_tables.specs.Set.{IsEmpty, IsSet, has_slot, has_slot_by, is_sized, is_sized_by, no_use, unit_of_table, use_in, uses_of_table, width_in, width_of_table, words_of_table}
 use Rattle.dn_tables.proofs.Kept.{sized_unit}
 use Rattle.dn_tables.proofs.Units.{unit_by_units}
 use Rattle.dn_tables.proofs.Fresh.{zeros_zero}
@@ -103,7 +103,7 @@ owner_there net (g ∷ gs) node slot = go (owns_slot net node slot g) refl (owne
 
 -- a slot that is not there: nobody uses it, and it has no words
 pub record IsPast (set : List NodeTable) (node slot : ℕ) : Type 0 where
-  pub lone : use_in set node slot ≡ unused
+  pub lone : use_in set node slot ≡ no_use
   pub zero : is_zero_slot set node slot ≡ true
 
 past_slot : (set : List NodeTable) (node slot : ℕ) → IsSet set → has_slot set node slot ≡ false →
@@ -113,10 +113,10 @@ past_slot set node slot is past = go (slice_get set node) refl past
     none : (t : NodeTable) → slice_get set node ≡ Some t → length t.uses ≤ slot →
         length t.words ≤ slot * t.width → IsPast set node slot
     none t at u w =
-        let lone : get_or t.uses slot unused ≡ unused = get_or_past t.uses slot unused u in
+        let lone : get_or t.uses slot no_use ≡ no_use = get_or_past t.uses slot no_use u in
         let words : drop (slot * t.width) t.words ≡ [] = drop_all (slot * t.width) t.words w in
         record {
-          lone = ap (λ o. get_or (uses_of_table o) slot unused) at ∙ lone;
+          lone = ap (λ o. get_or (uses_of_table o) slot no_use) at ∙ lone;
           zero = ap (λ o. list_all (λ v. v == 0) (slot_words (width_of_table o) (words_of_table o) slot)) at
               ∙ ap (λ l. list_all (λ v. v == 0) (take t.width l)) words
               ∙ nothing t.width;
@@ -143,7 +143,7 @@ past_slot set node slot is past = go (slice_get set node) refl past
 
     go : (o : Option NodeTable) → slice_get set node ≡ o → has_slot_by (unit_of_table o) slot ≡ false → IsPast set node slot
     go None at p = record {
-      lone = ap (λ o. get_or (uses_of_table o) slot unused) at;
+      lone = ap (λ o. get_or (uses_of_table o) slot no_use) at;
       zero = ap (λ o. list_all (λ v. v == 0) (slot_words (width_of_table o) (words_of_table o) slot)) at;
     }
     go (Some t) at p = by t t.unit refl (list_all-at is_sized set node t is.sized at) p at

@@ -19,9 +19,9 @@ use Rattle.dn_tables.specs.declared.placement.Hop.{Hop}
 use Rattle.dn_placement.specs.Records.{first_slot, hop_record, hop_rights, last_slot, slot_record}
 use Rattle.dn_placement.proofs.Hops.{rights_of}
 use Rattle.dn_book.specs.declared.grant.Grant.{Grant}
-use Rattle.dn_book.specs.Book.{IsGiven, IsSound, is_taken, owner_of, owns_slot, records_of, slots_of, uses_of, uses_slot, without}
+use Rattle.dn_book.specs.Book.{IsGiven, IsSound, is_taken, owner_of, owns_slot, records_of, slots_of, uses_of, uses_slot, without_id}
 use Rattle.dn_book.specs.Laws.{IsGrantFor}
-use Rattle.dn_book.specs.Sets.{AreFit, changed_by, is_at, hop_owner, one_less, one_more, put_at}
+use Rattle.dn_book.specs.Sets.{AreFit, changed_by, is_at, hop_owner, one_use_less, one_use_more, put_at}
 use Rattle.dn_book.specs.Tables.{use_of}
 use Rattle.dn_book.specs.Writes.{Put, clears_of, empty_slots, grant_slots, hop_slots, hop_slots_by, is_empty, joined_slots, puts_of}
 use Rattle.dn_book.proofs.Changes.{is_at_parts, is_at_self}
@@ -197,7 +197,7 @@ pub few_uses : (net : List NodeDecl) (book : List Grant) (n q : ℕ) → uses_of
 few_uses net book n q = filter_fewer (uses_slot net n q) book
 
 -- where a grant passes a test, one fewer passes it without the grant
-count_without : (p : Grant → Bool) (g : Grant) (ks : List Grant) → AllPairs (λ (a b : Grant). a.id ≢ b.id) ks → Member g ks → length (filter p ks) ≡ length (filter p (without g.id ks)) + (if p g then 1 else 0)
+count_without : (p : Grant → Bool) (g : Grant) (ks : List Grant) → AllPairs (λ (a b : Grant). a.id ≢ b.id) ks → Member g ks → length (filter p ks) ≡ length (filter p (without_id g.id ks)) + (if p g then 1 else 0)
 count_without p g [] ids m = absurd m
 count_without p g (k ∷ ks) ids m = go m (λ n. count_without p g ks (λ i j d l o. ids (suc i) (suc j) d (omega arith) (omega arith)) n)
   where
@@ -207,11 +207,11 @@ count_without p g (k ∷ ks) ids m = go m (λ n. count_without p g ks (λ i j d 
         let l = slice_get_within ks at.0 j at.1 in
         ids 0 (suc at.0) k (omega arith) (omega arith) (f ∙ ap (λ (w : Grant). w.id) (sym (get_or_from_slice_get ks at.0 j k at.1)))
 
-    all_stay : (js : List Grant) → ((j : Grant) → Member j js → j.id ≢ g.id) → without g.id js ≡ js
+    all_stay : (js : List Grant) → ((j : Grant) → Member j js → j.id ≢ g.id) → without_id g.id js ≡ js
     all_stay [] ne = refl
     all_stay (j ∷ js) ne = by (j.id == g.id) refl (all_stay js (λ w i. ne w (inr i)))
       where
-        by : (b : Bool) → (j.id == g.id) ≡ b → without g.id js ≡ js → (if not b then j ∷ without g.id js else without g.id js) ≡ j ∷ js
+        by : (b : Bool) → (j.id == g.id) ≡ b → without_id g.id js ≡ js → (if not b then j ∷ without_id g.id js else without_id g.id js) ≡ j ∷ js
         by true e later = absurd (ne j (inl refl) (eqb-true j.id g.id e))
         by false e later = ap (λ (l : List Grant). j ∷ l) later
 
@@ -219,17 +219,17 @@ count_without p g (k ∷ ks) ids m = go m (λ n. count_without p g ks (λ i j d 
     head true xs = omega arith
     head false xs = omega arith
 
-    go : (k ≡ g) ⊎ Member g ks → (Member g ks → length (filter p ks) ≡ length (filter p (without g.id ks)) + (if p g then 1 else 0)) → length (filter p (k ∷ ks)) ≡ length (filter p (without g.id (k ∷ ks))) + (if p g then 1 else 0)
+    go : (k ≡ g) ⊎ Member g ks → (Member g ks → length (filter p ks) ≡ length (filter p (without_id g.id ks)) + (if p g then 1 else 0)) → length (filter p (k ∷ ks)) ≡ length (filter p (without_id g.id (k ∷ ks))) + (if p g then 1 else 0)
     go (inl e) later =
-        let stay : without g.id ks ≡ ks = all_stay ks (λ j i f. apart j i (ap (λ (w : Grant). w.id) e ∙ sym f)) in
-        let gone : without g.id (k ∷ ks) ≡ ks = ap (λ b. if not b then k ∷ without g.id ks else without g.id ks) (eq-eqb k.id g.id (ap (λ (w : Grant). w.id) e)) ∙ stay in
+        let stay : without_id g.id ks ≡ ks = all_stay ks (λ j i f. apart j i (ap (λ (w : Grant). w.id) e ∙ sym f)) in
+        let gone : without_id g.id (k ∷ ks) ≡ ks = ap (λ b. if not b then k ∷ without_id g.id ks else without_id g.id ks) (eq-eqb k.id g.id (ap (λ (w : Grant). w.id) e)) ∙ stay in
         head (p k) (filter p ks) ∙ ap (λ (j : Grant). length (filter p ks) + (if p j then 1 else 0)) e ∙ ap (λ l. length (filter p l) + (if p g then 1 else 0)) (sym gone)
     go (inr n) later =
-        let kept : without g.id (k ∷ ks) ≡ k ∷ without g.id ks = ap (λ b. if not b then k ∷ without g.id ks else without g.id ks) (ne_eqb k.id g.id (apart g n)) in
+        let kept : without_id g.id (k ∷ ks) ≡ k ∷ without_id g.id ks = ap (λ b. if not b then k ∷ without_id g.id ks else without_id g.id ks) (ne_eqb k.id g.id (apart g n)) in
         let a = head (p k) (filter p ks) in
-        let b = head (p k) (filter p (without g.id ks)) in
+        let b = head (p k) (filter p (without_id g.id ks)) in
         let c = later n in
-        let d : length (filter p (without g.id (k ∷ ks))) ≡ length (if p k then k ∷ filter p (without g.id ks) else filter p (without g.id ks)) = ap (λ l. length (filter p l)) kept in
+        let d : length (filter p (without_id g.id (k ∷ ks))) ≡ length (if p k then k ∷ filter p (without_id g.id ks) else filter p (without_id g.id ks)) = ap (λ l. length (filter p l)) kept in
         omega arith
 
 -- a test that says which slots hold no record picks them
@@ -324,7 +324,7 @@ module _ (net : List NodeDecl) (legal : IsLegalNet net) (book : List Grant) (g :
   no_owner_of n q u = none_owned net n q book (not_owned n q u)
 
   -- the use of a slot that the new grant takes by the hop at a place
-  taken_use : (n q place : ℕ) (hop : Hop) → slice_get g.placement.hops place ≡ Some hop → is_taken net g.request.size n q hop ≡ true → one_more (hop_owner g.id g.placement.own place) (use_of net book n q) ≡ use_of net (book ++ g ∷ []) n q
+  taken_use : (n q place : ℕ) (hop : Hop) → slice_get g.placement.hops place ≡ Some hop → is_taken net g.request.size n q hop ≡ true → one_use_more (hop_owner g.id g.placement.own place) (use_of net book n q) ≡ use_of net (book ++ g ∷ []) n q
   taken_use n q place hop at t =
       let u : uses_slot net n q g ≡ true = by_uses net g n q place hop at t in
       let uses : uses_of net (book ++ g ∷ []) n q ≡ uses_of net book n q + 1 = more_uses n q ∙ ap (λ b. uses_of net book n q + (if b then 1 else 0)) u in
@@ -364,21 +364,21 @@ module _ (net : List NodeDecl) (legal : IsLegalNet net) (book : List Grant) (g :
       by false e = sym (none_owned net n q book e)
 
   -- the uses of all slots
-  pub uses_granted : (n q : ℕ) → changed_by net g.request.size (λ place. one_more (hop_owner g.id g.placement.own place)) 0 g.placement.hops n q (use_of net book n q) ≡ use_of net (book ++ g ∷ []) n q
+  pub uses_granted : (n q : ℕ) → changed_by net g.request.size (λ place. one_use_more (hop_owner g.id g.placement.own place)) 0 g.placement.hops n q (use_of net book n q) ≡ use_of net (book ++ g ∷ []) n q
   uses_granted n q = walk 0 g.placement.hops (λ j hop e. (let z : 0 + j ≡ j = omega arith in ap (slice_get g.placement.hops) z ∙ e)) refl
     where
-      walk : (first : ℕ) (hops : List Hop) → ((j : ℕ) (hop : Hop) → slice_get hops j ≡ Some hop → slice_get g.placement.hops (first + j) ≡ Some hop) → list_any (is_taken net g.request.size n q) hops ≡ uses_slot net n q g → changed_by net g.request.size (λ place. one_more (hop_owner g.id g.placement.own place)) first hops n q (use_of net book n q) ≡ use_of net (book ++ g ∷ []) n q
+      walk : (first : ℕ) (hops : List Hop) → ((j : ℕ) (hop : Hop) → slice_get hops j ≡ Some hop → slice_get g.placement.hops (first + j) ≡ Some hop) → list_any (is_taken net g.request.size n q) hops ≡ uses_slot net n q g → changed_by net g.request.size (λ place. one_use_more (hop_owner g.id g.placement.own place)) first hops n q (use_of net book n q) ≡ use_of net (book ++ g ∷ []) n q
       walk first [] at e = free_use n q (sym e)
       walk first (hop ∷ hops) at e = go (is_taken net g.request.size n q hop) refl (walk (suc first) hops (λ j k f. (let z : suc first + j ≡ first + suc j = omega arith in ap (slice_get g.placement.hops) z ∙ at (suc j) k f)))
         where
-          go : (b : Bool) → is_taken net g.request.size n q hop ≡ b → (list_any (is_taken net g.request.size n q) hops ≡ uses_slot net n q g → changed_by net g.request.size (λ place. one_more (hop_owner g.id g.placement.own place)) (suc first) hops n q (use_of net book n q) ≡ use_of net (book ++ g ∷ []) n q) → (if b then one_more (hop_owner g.id g.placement.own first) (use_of net book n q) else changed_by net g.request.size (λ place. one_more (hop_owner g.id g.placement.own place)) (suc first) hops n q (use_of net book n q)) ≡ use_of net (book ++ g ∷ []) n q
+          go : (b : Bool) → is_taken net g.request.size n q hop ≡ b → (list_any (is_taken net g.request.size n q) hops ≡ uses_slot net n q g → changed_by net g.request.size (λ place. one_use_more (hop_owner g.id g.placement.own place)) (suc first) hops n q (use_of net book n q) ≡ use_of net (book ++ g ∷ []) n q) → (if b then one_use_more (hop_owner g.id g.placement.own first) (use_of net book n q) else changed_by net g.request.size (λ place. one_use_more (hop_owner g.id g.placement.own place)) (suc first) hops n q (use_of net book n q)) ≡ use_of net (book ++ g ∷ []) n q
           go true t later = let z : first + 0 ≡ first = omega arith in taken_use n q first hop (ap (slice_get g.placement.hops) (sym z) ∙ at 0 hop refl) t
           go false t later = later (ap (λ b. b || list_any (is_taken net g.request.size n q) hops) (sym t) ∙ e)
 
 -- THE RECORDS AS A GRANT GOES
 
 module _ (net : List NodeDecl) (legal : IsLegalNet net) (book : List Grant) (g : Grant) (sound : IsSound net book) (live : Member g book) where
-  left : IsSound net (without g.id book)
+  left : IsSound net (without_id g.id book)
   left = revoked_sound net g.id book sound
 
   goes : AreFit net g.request.size g.placement.hops
@@ -403,79 +403,79 @@ module _ (net : List NodeDecl) (legal : IsLegalNet net) (book : List Grant) (g :
       by : (i : ℕ) × (slice_get book i ≡ Some k) → (j : ℕ) × (slice_get book j ≡ Some g) → k ≡ g
       by p r = pairs p.0 r.0 p.1 r.1 (cases_eq p.0 r.0)
 
-  more : (n q : ℕ) (r : Record) → records_of net (without g.id book) n q ≡ Some r → records_of net book n q ≡ Some r
+  more : (n q : ℕ) (r : Record) → records_of net (without_id g.id book) n q ≡ Some r → records_of net book n q ≡ Some r
   more n q r e =
-      let h = held_in net (without g.id book) n q r e in
-      in_held net book sound.agree n q r (given_by net book h.grant n q r (without_in g.id book h.grant h.is_grant).0 (given_gives net (without g.id book) n q r h))
+      let h = held_in net (without_id g.id book) n q r e in
+      in_held net book sound.agree n q r (given_by net book h.grant n q r (without_in g.id book h.grant h.is_grant).0 (given_gives net (without_id g.id book) n q r h))
 
   -- what is cleared is a slot that is there
   pub clears_there : (s : Put) → Member s (clears_of net book g) → (u : UnitPart) × (unit_at net s.unit ≡ Some u) × (s.slot < u.slots)
   clears_there s m =
-      let e = empty_in (records_of net (without g.id book)) (joined_slots (grant_slots net g)) s m in
+      let e = empty_in (records_of net (without_id g.id book)) (joined_slots (grant_slots net g)) s m in
       let h = (gives_held net g goes (sound.grants g live).rights s.unit s.slot s.holds (put_gives net g goes s e.0).gives).unit in
       (h.0, h.1, h.2)
 
   -- and so the records of the others are left
-  pub records_revoked : (n q : ℕ) → held_cleared (records_of net book) (clears_of net book g) n q ≡ records_of net (without g.id book) n q
+  pub records_revoked : (n q : ℕ) → held_cleared (records_of net book) (clears_of net book g) n q ≡ records_of net (without_id g.id book) n q
   records_revoked n q = elim (some_put (clears_of net book g) n q) [
     | inl s ↦ cleared_there (records_of net book) (clears_of net book g) n q s.0 s.1 s.2 s.3 ∙ sym (none_there s.0 s.1 s.2 s.3)
-    | inr none ↦ cleared_other (records_of net book) (clears_of net book g) n q none ∙ same (records_of net book n q) (records_of net (without g.id book) n q) refl refl none
+    | inr none ↦ cleared_other (records_of net book) (clears_of net book g) n q none ∙ same (records_of net book n q) (records_of net (without_id g.id book) n q) refl refl none
   ]
     where
-      none_there : (s : Put) → Member s (clears_of net book g) → n ≡ s.unit → q ≡ s.slot → records_of net (without g.id book) n q ≡ None
+      none_there : (s : Put) → Member s (clears_of net book g) → n ≡ s.unit → q ≡ s.slot → records_of net (without_id g.id book) n q ≡ None
       none_there s m a b =
-          let e = empty_in (records_of net (without g.id book)) (joined_slots (grant_slots net g)) s m in
-          ap (λ k. records_of net (without g.id book) k q) a ∙ ap (records_of net (without g.id book) s.unit) b ∙ e.1
+          let e = empty_in (records_of net (without_id g.id book)) (joined_slots (grant_slots net g)) s m in
+          ap (λ k. records_of net (without_id g.id book) k q) a ∙ ap (records_of net (without_id g.id book) s.unit) b ∙ e.1
 
-      same : (o p : Option Record) → records_of net book n q ≡ o → records_of net (without g.id book) n q ≡ p → ((s : Put) → Member s (clears_of net book g) → n ≡ s.unit → q ≡ s.slot → ⊥) → o ≡ p
+      same : (o p : Option Record) → records_of net book n q ≡ o → records_of net (without_id g.id book) n q ≡ p → ((s : Put) → Member s (clears_of net book g) → n ≡ s.unit → q ≡ s.slot → ⊥) → o ≡ p
       same o (Some r) eo ep none = sym eo ∙ more n q r ep
       same None None eo ep none = refl
       same (Some r) None eo ep none =
           let h = held_in net book n q r eo in
           elim (cases_eq h.grant.id g.id) [
-            | inl e ↦ (let k : GrantGives net g n q r = subst (λ w. GrantGives net w n q r) (one_grant h.grant h.is_grant e) (given_gives net book n q r h) in absurd (none (put_at n q r) (in_empty (records_of net (without g.id book)) (joined_slots (grant_slots net g)) (put_at n q r) (gives_put net g n q r k) ep) refl refl))
-            | inr ne ↦ absurd (held_none net (without g.id book) n q r ep (given_by net (without g.id book) h.grant n q r (in_without g.id book h.grant h.is_grant ne) (given_gives net book n q r h)))
+            | inl e ↦ (let k : GrantGives net g n q r = subst (λ w. GrantGives net w n q r) (one_grant h.grant h.is_grant e) (given_gives net book n q r h) in absurd (none (put_at n q r) (in_empty (records_of net (without_id g.id book)) (joined_slots (grant_slots net g)) (put_at n q r) (gives_put net g n q r k) ep) refl refl))
+            | inr ne ↦ absurd (held_none net (without_id g.id book) n q r ep (given_by net (without_id g.id book) h.grant n q r (in_without g.id book h.grant h.is_grant ne) (given_gives net book n q r h)))
           ]
 
   -- USES AS A GRANT GOES
 
-  fewer_uses : (n q : ℕ) → uses_of net book n q ≡ uses_of net (without g.id book) n q + (if uses_slot net n q g then 1 else 0)
+  fewer_uses : (n q : ℕ) → uses_of net book n q ≡ uses_of net (without_id g.id book) n q + (if uses_slot net n q g then 1 else 0)
   fewer_uses n q = count_without (uses_slot net n q) g book sound.ids live
 
   -- a slot that the grant uses has one use less, and no owner
-  less_use : (n q : ℕ) → uses_slot net n q g ≡ true → one_less (use_of net book n q) ≡ use_of net (without g.id book) n q
+  less_use : (n q : ℕ) → uses_slot net n q g ≡ true → one_use_less (use_of net book n q) ≡ use_of net (without_id g.id book) n q
   less_use n q u =
-      let e : uses_of net book n q ≡ uses_of net (without g.id book) n q + 1 = fewer_uses n q ∙ ap (λ b. uses_of net (without g.id book) n q + (if b then 1 else 0)) u in
-      let uses : uses_of net book n q - 1 ≡ uses_of net (without g.id book) n q = omega arith in
-      ap (λ k. record { uses = k; owner = None }) uses ∙ ap (λ o. record { uses = uses_of net (without g.id book) n q; owner = o }) (sym (none_owned net n q (without g.id book) none))
+      let e : uses_of net book n q ≡ uses_of net (without_id g.id book) n q + 1 = fewer_uses n q ∙ ap (λ b. uses_of net (without_id g.id book) n q + (if b then 1 else 0)) u in
+      let uses : uses_of net book n q - 1 ≡ uses_of net (without_id g.id book) n q = omega arith in
+      ap (λ k. record { uses = k; owner = None }) uses ∙ ap (λ o. record { uses = uses_of net (without_id g.id book) n q; owner = o }) (sym (none_owned net n q (without_id g.id book) none))
     where
-      none : list_any (owns_slot net n q) (without g.id book) ≡ false
-      none = by (list_any (owns_slot net n q) (without g.id book)) refl
+      none : list_any (owns_slot net n q) (without_id g.id book) ≡ false
+      none = by (list_any (owns_slot net n q) (without_id g.id book)) refl
         where
-          by : (b : Bool) → list_any (owns_slot net n q) (without g.id book) ≡ b → b ≡ false
+          by : (b : Bool) → list_any (owns_slot net n q) (without_id g.id book) ≡ b → b ≡ false
           by false e = refl
           by true e =
-              let a = any_member (owns_slot net n q) (without g.id book) e in
+              let a = any_member (owns_slot net n q) (without_id g.id book) e in
               let k = without_in g.id book a.0 a.1 in
               let c : true ≡ false = sym u ∙ sound.alone a.0 g k.0 live k.1 n q a.2 in
               cc
 
   -- and another one is used as before
-  same_use : (n q : ℕ) → uses_slot net n q g ≡ false → use_of net book n q ≡ use_of net (without g.id book) n q
+  same_use : (n q : ℕ) → uses_slot net n q g ≡ false → use_of net book n q ≡ use_of net (without_id g.id book) n q
   same_use n q u =
-      let z : uses_of net (without g.id book) n q + 0 ≡ uses_of net (without g.id book) n q = omega arith in
-      let uses : uses_of net book n q ≡ uses_of net (without g.id book) n q = fewer_uses n q ∙ ap (λ b. uses_of net (without g.id book) n q + (if b then 1 else 0)) u ∙ z in
-      ap (λ k. record { uses = k; owner = owner_of net book n q }) uses ∙ ap (λ o. record { uses = uses_of net (without g.id book) n q; owner = o }) (sym (kept book (λ k i. i)))
+      let z : uses_of net (without_id g.id book) n q + 0 ≡ uses_of net (without_id g.id book) n q = omega arith in
+      let uses : uses_of net book n q ≡ uses_of net (without_id g.id book) n q = fewer_uses n q ∙ ap (λ b. uses_of net (without_id g.id book) n q + (if b then 1 else 0)) u ∙ z in
+      ap (λ k. record { uses = k; owner = owner_of net book n q }) uses ∙ ap (λ o. record { uses = uses_of net (without_id g.id book) n q; owner = o }) (sym (kept book (λ k i. i)))
     where
       not_own : (c : Bool) → owns_slot net n q g ≡ c → c ≡ false
       not_own false h = refl
       not_own true h = let x : true ≡ false = sym (owned_used net g n q h) ∙ u in cc
 
-      kept : (ks : List Grant) → ((k : Grant) → Member k ks → Member k book) → owner_of net (without g.id ks) n q ≡ owner_of net ks n q
+      kept : (ks : List Grant) → ((k : Grant) → Member k ks → Member k book) → owner_of net (without_id g.id ks) n q ≡ owner_of net ks n q
       kept [] sub = refl
       kept (k ∷ ks) sub = by (k.id == g.id) refl (kept ks (λ j i. sub j (inr i)))
         where
-          by : (b : Bool) → (k.id == g.id) ≡ b → owner_of net (without g.id ks) n q ≡ owner_of net ks n q → owner_of net (if not b then k ∷ without g.id ks else without g.id ks) n q ≡ (if owns_slot net n q k then Some k.id else owner_of net ks n q)
+          by : (b : Bool) → (k.id == g.id) ≡ b → owner_of net (without_id g.id ks) n q ≡ owner_of net ks n q → owner_of net (if not b then k ∷ without_id g.id ks else without_id g.id ks) n q ≡ (if owns_slot net n q k then Some k.id else owner_of net ks n q)
           by true e later =
               let same : k ≡ g = one_grant k (sub k (inl refl)) (eqb-true k.id g.id e) in
               let own : owns_slot net n q k ≡ false = ap (owns_slot net n q) same ∙ not_own (owns_slot net n q g) refl in
@@ -483,25 +483,25 @@ module _ (net : List NodeDecl) (legal : IsLegalNet net) (book : List Grant) (g :
           by false e later = ap (λ o. if owns_slot net n q k then Some k.id else o) later
 
   -- the uses of all slots
-  pub uses_revoked : (n q : ℕ) → changed_by net g.request.size (λ place. one_less) 0 g.placement.hops n q (use_of net book n q) ≡ use_of net (without g.id book) n q
+  pub uses_revoked : (n q : ℕ) → changed_by net g.request.size (λ place. one_use_less) 0 g.placement.hops n q (use_of net book n q) ≡ use_of net (without_id g.id book) n q
   uses_revoked n q = walk 0 g.placement.hops refl (λ hop m t. (let at = place_of g.placement.hops hop m in by_uses net g n q at.0 hop at.1 t))
     where
-      walk : (first : ℕ) (hops : List Hop) → list_any (is_taken net g.request.size n q) hops ≡ uses_slot net n q g → ((hop : Hop) → Member hop hops → is_taken net g.request.size n q hop ≡ true → uses_slot net n q g ≡ true) → changed_by net g.request.size (λ place. one_less) first hops n q (use_of net book n q) ≡ use_of net (without g.id book) n q
+      walk : (first : ℕ) (hops : List Hop) → list_any (is_taken net g.request.size n q) hops ≡ uses_slot net n q g → ((hop : Hop) → Member hop hops → is_taken net g.request.size n q hop ≡ true → uses_slot net n q g ≡ true) → changed_by net g.request.size (λ place. one_use_less) first hops n q (use_of net book n q) ≡ use_of net (without_id g.id book) n q
       walk first [] e u = same_use n q (sym e)
       walk first (hop ∷ hops) e u = go (is_taken net g.request.size n q hop) refl (λ f. walk (suc first) hops f (λ k i t. u k (inr i) t))
         where
-          go : (b : Bool) → is_taken net g.request.size n q hop ≡ b → (list_any (is_taken net g.request.size n q) hops ≡ uses_slot net n q g → changed_by net g.request.size (λ place. one_less) (suc first) hops n q (use_of net book n q) ≡ use_of net (without g.id book) n q) → (if b then one_less (use_of net book n q) else changed_by net g.request.size (λ place. one_less) (suc first) hops n q (use_of net book n q)) ≡ use_of net (without g.id book) n q
+          go : (b : Bool) → is_taken net g.request.size n q hop ≡ b → (list_any (is_taken net g.request.size n q) hops ≡ uses_slot net n q g → changed_by net g.request.size (λ place. one_use_less) (suc first) hops n q (use_of net book n q) ≡ use_of net (without_id g.id book) n q) → (if b then one_use_less (use_of net book n q) else changed_by net g.request.size (λ place. one_use_less) (suc first) hops n q (use_of net book n q)) ≡ use_of net (without_id g.id book) n q
           go true t later = less_use n q (u hop (inl refl) t)
           go false t later = later (ap (λ b. b || list_any (is_taken net g.request.size n q) hops) (sym t) ∙ e)
 
   -- a slot of the grant that it alone uses holds no record without it
-  pub used_once : (n q : ℕ) → uses_slot net n q g ≡ true → (uses_of net book n q == 1) ≡ is_empty (records_of net (without g.id book) n q)
+  pub used_once : (n q : ℕ) → uses_slot net n q g ≡ true → (uses_of net book n q == 1) ≡ is_empty (records_of net (without_id g.id book) n q)
   used_once n q u =
-      let e : uses_of net book n q ≡ uses_of net (without g.id book) n q + 1 = fewer_uses n q ∙ ap (λ b. uses_of net (without g.id book) n q + (if b then 1 else 0)) u in
-      ap (λ k. k == 1) e ∙ one_less_zero (uses_of net (without g.id book) n q) ∙ used_zero net (without g.id book) n q
+      let e : uses_of net book n q ≡ uses_of net (without_id g.id book) n q + 1 = fewer_uses n q ∙ ap (λ b. uses_of net (without_id g.id book) n q + (if b then 1 else 0)) u in
+      ap (λ k. k == 1) e ∙ one_less_zero (uses_of net (without_id g.id book) n q) ∙ used_zero net (without_id g.id book) n q
 
   -- and it is used
   pub some_use : (n q : ℕ) → uses_slot net n q g ≡ true → 0 < uses_of net book n q
   some_use n q u =
-      let e : uses_of net book n q ≡ uses_of net (without g.id book) n q + 1 = fewer_uses n q ∙ ap (λ b. uses_of net (without g.id book) n q + (if b then 1 else 0)) u in
+      let e : uses_of net book n q ≡ uses_of net (without_id g.id book) n q + 1 = fewer_uses n q ∙ ap (λ b. uses_of net (without_id g.id book) n q + (if b then 1 else 0)) u in
       omega arith

@@ -16,7 +16,7 @@ use Rattle.dn_kind.specs.Tables.{allowing, resolved_names_under, step_limit_unde
 use Rattle.dn_placement.specs.Exposure.{Adds}
 use Rattle.dn_placement.specs.Placement.{name_on}
 use Rattle.dn_book.specs.declared.grant.Grant.{Grant}
-use Rattle.dn_book.specs.Book.{IsGranted, granted_by, granted_names, owed_names, records_of}
+use Rattle.dn_book.specs.Book.{IsGrantedName, granted_by, granted_names, owed_names, records_of}
 use Rattle.dn_book.specs.Laws.{OwedNamesAreOwed, OwedNamesAreResolved}
 
 -- the test of a name at which a grant gives one
@@ -60,17 +60,17 @@ by_grant access x y g = (down (gives_at access x g) refl, up)
         subst (λ b. Member y (if b then name_on g.request.node g.request.base (x.addr - g.placement.v) ∷ [] else [])) (sym test) here
 
 -- what all grants give at it
-by_grants : (book : List Grant) (access : Access) (x y : Name) → Member y (granted_names book access x) ↔ IsGranted book access x y
+by_grants : (book : List Grant) (access : Access) (x y : Name) → Member y (granted_names book access x) ↔ IsGrantedName book access x y
 by_grants [] access x y = ((λ m. absurd m), (λ b. absurd b.is_grant))
 by_grants (g ∷ gs) access x y = (down (by_grants gs access x y).0, up (λ h. (by_grants gs access x y).1 h))
   where
-    down : (Member y (granted_names gs access x) → IsGranted gs access x y) → Member y (granted_names (g ∷ gs) access x) → IsGranted (g ∷ gs) access x y
+    down : (Member y (granted_names gs access x) → IsGrantedName gs access x y) → Member y (granted_names (g ∷ gs) access x) → IsGrantedName (g ∷ gs) access x y
     down later m = elim (member_cases (granted_by access x g) (granted_names gs access x) y m) [
       | inl n ↦ (let h = (by_grant access x y g).0 n in record { grant = g; is_grant = inl refl; allowed = h.0; adds = h.1 })
       | inr n ↦ (let h = later n in record { grant = h.grant; is_grant = inr h.is_grant; allowed = h.allowed; adds = h.adds })
     ]
 
-    up : (IsGranted gs access x y → Member y (granted_names gs access x)) → IsGranted (g ∷ gs) access x y → Member y (granted_names (g ∷ gs) access x)
+    up : (IsGrantedName gs access x y → Member y (granted_names gs access x)) → IsGrantedName (g ∷ gs) access x y → Member y (granted_names (g ∷ gs) access x)
     up later b = elim b.is_grant [
       | inl e ↦ member_left (granted_by access x g) (granted_names gs access x) y ((by_grant access x y g).1 (subst (λ (k : Grant). IsTrue (allows k.request.rights access) × Adds k.request k.placement.v x y) (sym e) (b.allowed, b.adds)))
       | inr m ↦ member_right (granted_by access x g) (granted_names gs access x) y (later (record { grant = b.grant; is_grant = m; allowed = b.allowed; adds = b.adds }))

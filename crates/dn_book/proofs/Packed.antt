@@ -12,7 +12,7 @@ use Rattle.dn_net.specs.declared.node.Unit.{Unit as UnitPart}
 use Rattle.dn_net.specs.Chain.{Member}
 use Rattle.dn_net.specs.Decode.{unit_at}
 use Rattle.dn_kind.specs.declared.unit_kind.Record.{Record}
-use Rattle.dn_kind.specs.Kind.{Meaning, IsLawful, IsPackable, is_plain, is_within}
+use Rattle.dn_kind.specs.Kind.{Meaning, IsLawful, IsPackable, is_plain_unit_shape, is_within}
 use Rattle.dn_kind.specs.Tables.{AreHeld, Held, IsHeld, record_held, record_of_unit, record_spelled, record_within, slot_words}
 use Rattle.dn_kind.specs.Units.{KeepsUnitShape, fits_shape, unit_shape}
 use Rattle.dn_kind.proofs.Held.{kind_lawful, held_past}
@@ -179,13 +179,13 @@ pub record IsKind (net : List NodeDecl) (kinds : List Meaning) (u : UnitPart) : 
   pub kind : Meaning
   pub at : slice_get kinds u.kind ≡ Some kind
   pub law : IsLawful kind
-  pub plain : IsTrue (is_plain (unit_shape u))
+  pub plain : IsTrue (is_plain_unit_shape (unit_shape u))
   pub fit : IsTrue (kind.fits (unit_shape u))
 
 pub kind_of : (net : List NodeDecl) (kinds : List Meaning) → AreKinds net kinds → (node : ℕ) (u : UnitPart) → unit_at net node ≡ Some u → IsKind net kinds u
 kind_of net kinds k node u e =
     let s = k.shaped.shaped node u e in
-    let parts = and_parts (is_plain (unit_shape u)) (fits_shape (slice_get kinds u.kind) (unit_shape u)) s in
+    let parts = and_parts (is_plain_unit_shape (unit_shape u)) (fits_shape (slice_get kinds u.kind) (unit_shape u)) s in
     let there = kind_there kinds u s in
     record {
       kind = there.0;

@@ -7,7 +7,7 @@ use Rattle.dn_base.specs.declared.device.UnitWords.{UnitWords}
 use Rattle.dn_kind.specs.Kind.{Meaning}
 use Rattle.dn_tables.specs.declared.table.NodeTable.{NodeTable}
 use Rattle.dn_tables.specs.Set.{KeepsFit, packed_in, with_slot, width_in}
-use Rattle.dn_tables.specs.Writes.{AreMade, clear_writes, events_of, put_writes}
+use Rattle.dn_tables.specs.Writes.{AreMade, clear_writes, put_writes, write_events}
 use Rattle.dn_book.specs.Sets.{AreCleared, ArePut, after_clears, after_puts, clear_log, is_used_by, put_log}
 use Rattle.dn_book.specs.Writes.{AreAdded, Put}
 use Rattle.dn_book.proofs.Added.{added_made, added_none, added_one, added_passed, added_stop, added_then}
@@ -15,10 +15,10 @@ use Rattle.dn_book.proofs.Facts.{fit_none, fit_then}
 use Rattle.dn_book.proofs.Frames.{SameFrame, clear_log_in_frame, clears_append, frame_clears, frame_puts, put_log_in_frame, puts_append, used_in_frame}
 
 abbrev put_events_in : List Meaning → List NodeTable → Put → List TableEvent
-put_events_in kinds set s = events_of s.unit (put_writes kinds set s.unit s.slot s.holds)
+put_events_in kinds set s = write_events s.unit (put_writes kinds set s.unit s.slot s.holds)
 
 abbrev clear_events_in : List NodeTable → Put → List TableEvent
-clear_events_in set s = events_of s.unit (clear_writes set s.unit s.slot)
+clear_events_in set s = write_events s.unit (clear_writes set s.unit s.slot)
 
 -- PUTS
 

@@ -10,7 +10,7 @@ use Rattle.dn_net.specs.Chain.{Member}
 use Rattle.dn_net.proofs.Members.{member_filter}
 use Rattle.dn_kind.specs.declared.rights.Rights.{Rights}
 use Rattle.dn_kind.specs.declared.unit_kind.Record.{Record}
-use Rattle.dn_kind.specs.Kind.{Meaning, IsLawful, IsPackable, is_plain, is_within}
+use Rattle.dn_kind.specs.Kind.{Meaning, IsLawful, IsPackable, is_plain_unit_shape, is_within}
 use Rattle.dn_kind.specs.Rights.{are_rights}
 use Rattle.dn_kind.specs.Units.{fits_shape, is_shaped, unit_shape}
 use Rattle.dn_kind.proofs.Held.{kind_lawful}
@@ -149,7 +149,7 @@ fits_put kinds set u r hop size q lawful is_set fits e shaped f rights low high 
         let same : u ≡ v = same_Some u v (sym e ∙ ev) in
         subst (λ w. slice_get kinds w.kind ≡ Some kind → IsPackable kind (unit_shape w) (slot_record u r hop q)) same
         (λ at.
-        let parts = and_parts (is_plain (unit_shape u)) (fits_shape (slice_get kinds u.kind) (unit_shape u)) shaped in
+        let parts = and_parts (is_plain_unit_shape (unit_shape u)) (fits_shape (slice_get kinds u.kind) (unit_shape u)) shaped in
         record {
           plain = parts.0;
           fits = subst (λ o. IsTrue (fits_shape o (unit_shape u))) at parts.1;

@@ -14,11 +14,11 @@ use Rattle.dn_tables.specs.declared.placement.Hop.{Hop}
 use Rattle.dn_tables.specs.declared.table.NodeTable.{NodeTable}
 use Rattle.dn_tables.specs.declared.table.SlotUse.{SlotUse}
 use Rattle.dn_tables.specs.Set.{FitsNet, has_slot, has_slot_by, use_in, width_in, words_of}
-use Rattle.dn_tables.specs.Writes.{clear_writes, clears_from, events_of}
+use Rattle.dn_tables.specs.Writes.{clear_writes, clears_from, write_events}
 use Rattle.dn_placement.specs.Records.{hop_rights}
 use Rattle.dn_book.specs.declared.grant.Grant.{Grant}
-use Rattle.dn_book.specs.Book.{IsSound, records_of, uses_slot, without}
-use Rattle.dn_book.specs.Sets.{AreFit, AreHopsChanged, after_clears, changed_by, clear_log, is_used_by, one_less}
+use Rattle.dn_book.specs.Book.{IsSound, records_of, uses_slot, without_id}
+use Rattle.dn_book.specs.Sets.{AreFit, AreHopsChanged, after_clears, changed_by, clear_log, is_used_by, one_use_less}
 use Rattle.dn_book.specs.Tables.{IsKept, packed_tables, use_of}
 use Rattle.dn_book.specs.Writes.{Put, clear_events, clear_events_by, clears_of, grant_slots, hop_slots, is_empty, joined_slots, kind_by}
 use Rattle.dn_book.proofs.Changes.{has_slot_kept}
@@ -39,14 +39,14 @@ same_flat_in {X} {Y} f g (x ∷ xs) e = ap (λ (l : List Y). l ++ flat_map f xs)
 -- the clears by a set are those by the net, where the units are there
 clear_log_is : (net : List NodeDecl) (kinds : List Meaning) → AreKinds net kinds → (set : List NodeTable) → FitsNet net kinds set → (ss : List Put) → ((s : Put) → Member s ss → (u : UnitPart) × (unit_at net s.unit ≡ Some u) × (s.slot < u.slots)) → clear_log set ss ≡ flat_map (clear_events net kinds) ss
 clear_log_is net kinds k set f ss there =
-    same_flat_in (λ (s : Put). events_of s.unit (clear_writes set s.unit s.slot)) (clear_events net kinds) ss one
+    same_flat_in (λ (s : Put). write_events s.unit (clear_writes set s.unit s.slot)) (clear_events net kinds) ss one
   where
-    one : (s : Put) → Member s ss → events_of s.unit (clear_writes set s.unit s.slot) ≡ clear_events net kinds s
+    one : (s : Put) → Member s ss → write_events s.unit (clear_writes set s.unit s.slot) ≡ clear_events net kinds s
     one s m =
         let u = there s m in
         let d : IsKind net kinds u.0 = kind_of net kinds k s.unit u.0 u.1 in
         let w : width_in set s.unit ≡ d.kind.words = width_at net kinds k set f s.unit u.0 u.1 d.kind d.at in
-        ap (λ n. events_of s.unit (clears_from (s.slot * n) n)) w
+        ap (λ n. write_events s.unit (clears_from (s.slot * n) n)) w
         ∙ sym (ap (λ o. clear_events_by (kind_by kinds o) s) u.1 ∙ ap (λ c. clear_events_by c s) d.at)
 
 -- A GRANT THAT GOES FROM A BOOK THAT IS KEPT
@@ -78,9 +78,9 @@ module _ (net : List NodeDecl) (kinds : List Meaning) (book : List Grant) (g : G
 
   -- the slots that are cleared are those of the definition
   pub going_clears : filter (is_used_by 1 set) (joined_slots (grant_slots net g)) ≡ clears_of net book g
-  going_clears = picked_empty (records_of net (without g.id book)) (is_used_by 1 set) (joined_slots (grant_slots net g)) once
+  going_clears = picked_empty (records_of net (without_id g.id book)) (is_used_by 1 set) (joined_slots (grant_slots net g)) once
     where
-      once : (s : Put) → Member s (joined_slots (grant_slots net g)) → is_used_by 1 set s ≡ is_empty (records_of net (without g.id book) s.unit s.slot)
+      once : (s : Put) → Member s (joined_slots (grant_slots net g)) → is_used_by 1 set s ≡ is_empty (records_of net (without_id g.id book) s.unit s.slot)
       once s m =
           let h = (put_gives net g going_fit s m).gives in
           ap (λ (u : SlotUse). u.uses == 1) (use_there s.unit s.slot s.holds h) ∙ used_once net c.legal.legal book g c.kept.sound c.live s.unit s.slot (used s.unit s.slot s.holds h)
@@ -100,15 +100,15 @@ module _ (net : List NodeDecl) (kinds : List Meaning) (book : List Grant) (g : G
 
   -- THE BOOK AFTERWARDS
 
-  after : IsSound net (without g.id book)
+  after : IsSound net (without_id g.id book)
   after = revoked_sound net g.id book c.kept.sound
 
-  pub revoked : (set' set'' : List NodeTable) → set' ≡ after_clears set (filter (is_used_by 1 set) (joined_slots (grant_slots net g))) → AreHopsChanged net g.request.size (λ place. one_less) g.placement.hops set' set'' → IsKept net kinds (without g.id book) set''
+  pub revoked : (set' set'' : List NodeTable) → set' ≡ after_clears set (filter (is_used_by 1 set) (joined_slots (grant_slots net g))) → AreHopsChanged net g.request.size (λ place. one_use_less) g.placement.hops set' set'' → IsKept net kinds (without_id g.id book) set''
   revoked set' set'' made changed = record {
     sound = after;
     fits = new.fits;
     words = new.words;
-    held = set_holds net kinds k (records_of net (without g.id book)) set'' new;
+    held = set_holds net kinds k (records_of net (without_id g.id book)) set'' new;
     uses = uses;
   }
     where
@@ -121,20 +121,20 @@ module _ (net : List NodeDecl) (kinds : List Meaning) (book : List Grant) (g : G
       frame : SameFrame set set'
       frame = subst (SameFrame set) (sym is) (frame_clears set (clears_of net book g))
 
-      same : ◌≡◌ {A = Held} (held_cleared (records_of net book) (clears_of net book g)) (records_of net (without g.id book))
+      same : ◌≡◌ {A = Held} (held_cleared (records_of net book) (clears_of net book g)) (records_of net (without_id g.id book))
       same = λ i n q. records_revoked net c.legal.legal book g c.kept.sound c.live n q i
 
-      new : Holds net kinds (records_of net (without g.id book)) set''
+      new : Holds net kinds (records_of net (without_id g.id book)) set''
       new = record {
         fits = fits_net_kept net kinds set set'' (fit_then set set' set'' frame.fits changed.fits) c.kept.fits;
         words = changed.same_words ∙ ap words_of is ∙ then'.words ∙ ap (packed_tables net kinds) same;
-        held = book_held net c.legal.legal (without g.id book) after;
+        held = book_held net c.legal.legal (without_id g.id book) after;
       }
 
-      uses : (n q : ℕ) → IsTrue (has_slot set'' n q) → use_in set'' n q ≡ use_of net (without g.id book) n q
+      uses : (n q : ℕ) → IsTrue (has_slot set'' n q) → use_in set'' n q ≡ use_of net (without_id g.id book) n q
       uses n q there =
           let before : IsTrue (has_slot set' n q) = sym (has_slot_kept set' set'' n q changed.fits.units) ∙ there in
           let first : IsTrue (has_slot set n q) = sym (has_slot_kept set set' n q frame.fits.units) ∙ before in
           changed.uses n q before
-          ∙ ap (changed_by net g.request.size (λ place. one_less) 0 g.placement.hops n q) (frame.use_of n q ∙ c.kept.uses n q first)
+          ∙ ap (changed_by net g.request.size (λ place. one_use_less) 0 g.placement.hops n q) (frame.use_of n q ∙ c.kept.uses n q first)
           ∙ uses_revoked net c.legal.legal book g c.kept.sound c.live n q

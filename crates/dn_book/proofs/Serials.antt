@@ -14,7 +14,7 @@ use Rattle.dn_base.proofs.Members.{member_any}
 use Rattle.dn_base.proofs.Orders.{ne_eqb}
 use Rattle.dn_net.specs.Chain.{Member}
 use Rattle.dn_book.specs.declared.grant.Grant.{Grant}
-use Rattle.dn_book.specs.Book.{has_id, without}
+use Rattle.dn_book.specs.Book.{has_id, without_id}
 use Rattle.dn_book.specs.Serials.{AreFound, serial_of}
 
 -- KEYS
@@ -176,14 +176,14 @@ none_has n (g ∷ gs) h =
     ap (λ b. b || has_id n gs) (ne_eqb g.id n (h zero g (omega arith)))
     ∙ none_has n gs (λ i d l. h (suc i) d (omega arith))
 
-without_none : (n : ℕ) (gs : List Grant) → has_id n gs ≡ false → without n gs ≡ gs
+without_none : (n : ℕ) (gs : List Grant) → has_id n gs ≡ false → without_id n gs ≡ gs
 without_none n [] h = refl
 without_none n (g ∷ gs) h = go (λ f. without_none n gs f) (g.id == n) refl
   where
-    go : (has_id n gs ≡ false → without n gs ≡ gs) → (b : Bool) → (g.id == n) ≡ b → without n (g ∷ gs) ≡ g ∷ gs
+    go : (has_id n gs ≡ false → without_id n gs ≡ gs) → (b : Bool) → (g.id == n) ≡ b → without_id n (g ∷ gs) ≡ g ∷ gs
     go rest true f = let no : true ≡ false = sym (ap (λ b. b || has_id n gs) f) ∙ h in cc
     go rest false f =
-        ap (λ b. if not b then g ∷ without n gs else without n gs) f
+        ap (λ b. if not b then g ∷ without_id n gs else without_id n gs) f
         ∙ ap (λ (l : List Grant). g ∷ l) (rest (sym (ap (λ b. b || has_id n gs) f) ∙ h))
 
 -- no two grants have the same id
@@ -197,27 +197,27 @@ rest_apart : (g : Grant) (gs : List Grant) → AreApart (g ∷ gs) → AreApart 
 rest_apart g gs h i j d a b = h (suc i) (suc j) d (omega arith) (omega arith)
 
 -- where no grant has the id, none goes
-pub none_goes : (id : ℕ) (es : List (ℕ × Grant)) → serial_of id es ≡ None → values_of es ≡ without id (values_of es)
+pub none_goes : (id : ℕ) (es : List (ℕ × Grant)) → serial_of id es ≡ None → values_of es ≡ without_id id (values_of es)
 none_goes id es e = sym (without_none id (values_of es) (sym (has_serial id es) ∙ ap (λ (o : Option ℕ). is_some o) e))
 
 -- the grant of a number goes, and it is the one of the id
-pub one_goes : (id s : ℕ) (es : List (ℕ × Grant)) → IsStrictlySortedBy nat_cmp (keys_of es) → AreApart (values_of es) → serial_of id es ≡ Some s → values_of (remove_entry (is_at (nat_cmp s)) es) ≡ without id (values_of es)
+pub one_goes : (id s : ℕ) (es : List (ℕ × Grant)) → IsStrictlySortedBy nat_cmp (keys_of es) → AreApart (values_of es) → serial_of id es ≡ Some s → values_of (remove_entry (is_at (nat_cmp s)) es) ≡ without_id id (values_of es)
 one_goes id s [] rising apart e = refl
 one_goes id s (x ∷ es) rising apart e = go (λ f. one_goes id s es (sorted_tail nat_cmp x.0 (keys_of es) rising) (rest_apart x.1 (values_of es) apart) f) (x.1.id == id) refl
   where
-    go : (serial_of id es ≡ Some s → values_of (remove_entry (is_at (nat_cmp s)) es) ≡ without id (values_of es)) → (b : Bool) → (x.1.id == id) ≡ b → values_of (remove_entry (is_at (nat_cmp s)) (x ∷ es)) ≡ without id (values_of (x ∷ es))
+    go : (serial_of id es ≡ Some s → values_of (remove_entry (is_at (nat_cmp s)) es) ≡ without_id id (values_of es)) → (b : Bool) → (x.1.id == id) ≡ b → values_of (remove_entry (is_at (nat_cmp s)) (x ∷ es)) ≡ without_id id (values_of (x ∷ es))
     go rest true f =
         let is : x.0 ≡ s = same_Some x.0 s (sym (ap (λ b. if b then Some x.0 else serial_of id es) f) ∙ e) in
         let alone : has_id id (values_of es) ≡ false = ap (λ n. has_id n (values_of es)) (sym (eqb-true x.1.id id f)) ∙ first_alone x.1 (values_of es) apart in
         ap (λ b. values_of (cond b es (x ∷ remove_entry (is_at (nat_cmp s)) es))) (ap (λ n. is_at (nat_cmp s) n) is ∙ own_key s)
         ∙ sym (without_none id (values_of es) alone)
-        ∙ sym (ap (λ b. if not b then x.1 ∷ without id (values_of es) else without id (values_of es)) f)
+        ∙ sym (ap (λ b. if not b then x.1 ∷ without_id id (values_of es) else without_id id (values_of es)) f)
     go rest false f =
         let deeper : serial_of id es ≡ Some s = sym (ap (λ b. if b then Some x.0 else serial_of id es) f) ∙ e in
         let l : x.0 < s = later x.0 es id s (sorted_head nat_cmp x.0 (keys_of es) rising) deeper in
         ap (λ b. values_of (cond b es (x ∷ remove_entry (is_at (nat_cmp s)) es))) (other_key s x.0 (λ n. omega (arith, n, l)))
         ∙ ap (λ (k : List Grant). x.1 ∷ k) (rest deeper)
-        ∙ sym (ap (λ b. if not b then x.1 ∷ without id (values_of es) else without id (values_of es)) f)
+        ∙ sym (ap (λ b. if not b then x.1 ∷ without_id id (values_of es) else without_id id (values_of es)) f)
 
 below_less : (es : List (ℕ × Grant)) (s next : ℕ) → AllByRecursion (λ e. e.0 < next) es → AllByRecursion (λ e. e.0 < next) (remove_entry (is_at (nat_cmp s)) es)
 below_less [] s next h = tt
@@ -290,17 +290,17 @@ pub some_behind : (gs all : List Grant) (g : Grant) → has_id g.id gs ≡ false
 some_behind gs all g h e f = let no : None ≡ Some g = f ∙ ap (λ (x : List Grant). find (λ (h : Grant). h.id == g.id) x) e ∙ found_behind gs g h in cc
 
 -- without it the others are as they were
-pub taken_back : (gs all : List Grant) (g : Grant) → has_id g.id gs ≡ false → all ≡ gs ++ g ∷ [] → without g.id all ≡ gs
-taken_back gs all g h e = ap (λ (x : List Grant). without g.id x) e ∙ back gs h
+pub taken_back : (gs all : List Grant) (g : Grant) → has_id g.id gs ≡ false → all ≡ gs ++ g ∷ [] → without_id g.id all ≡ gs
+taken_back gs all g h e = ap (λ (x : List Grant). without_id g.id x) e ∙ back gs h
   where
-    back : (gs : List Grant) → has_id g.id gs ≡ false → without g.id (gs ++ g ∷ []) ≡ gs
+    back : (gs : List Grant) → has_id g.id gs ≡ false → without_id g.id (gs ++ g ∷ []) ≡ gs
     back [] h = ap (λ b. if not b then g ∷ [] else []) (eq-eqb g.id g.id refl)
     back (k ∷ gs) h = go (k.id == g.id) refl (λ f. back gs f)
       where
-        go : (b : Bool) → (k.id == g.id) ≡ b → (has_id g.id gs ≡ false → without g.id (gs ++ g ∷ []) ≡ gs) → without g.id ((k ∷ gs) ++ g ∷ []) ≡ k ∷ gs
+        go : (b : Bool) → (k.id == g.id) ≡ b → (has_id g.id gs ≡ false → without_id g.id (gs ++ g ∷ []) ≡ gs) → without_id g.id ((k ∷ gs) ++ g ∷ []) ≡ k ∷ gs
         go true f rest = let no : true ≡ false = sym (ap (λ b. b || has_id g.id gs) f) ∙ h in cc
         go false f rest =
-            ap (λ b. if not b then k ∷ without g.id (gs ++ g ∷ []) else without g.id (gs ++ g ∷ [])) f
+            ap (λ b. if not b then k ∷ without_id g.id (gs ++ g ∷ []) else without_id g.id (gs ++ g ∷ [])) f
             ∙ ap (λ (x : List Grant). k ∷ x) (rest (sym (ap (λ b. b || has_id g.id gs) f) ∙ h))
 
 -- the grant that an id finds is live, and has it

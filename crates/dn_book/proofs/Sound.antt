@@ -26,7 +26,7 @@ use Rattle.dn_placement.specs.Placement.IsUsable.{is_free, is_shared}
 use Rattle.dn_placement.specs.Records.{first_slot, hop_record, hop_rights, last_slot, slot_record}
 use Rattle.dn_placement.specs.Slots.{Slots}
 use Rattle.dn_book.specs.declared.grant.Grant.{Grant}
-use Rattle.dn_book.specs.Book.{AreOwnAlone, IsGiven, IsGrant, IsSound, has_id, open_slots, owns_slot, records_of, slots_of, uses_slot, without}
+use Rattle.dn_book.specs.Book.{AreOwnAlone, IsGiven, IsGrant, IsSound, has_id, open_slots, owns_slot, records_of, slots_of, uses_slot, without_id}
 use Rattle.dn_book.specs.Laws.{IsGrantFor}
 use Rattle.dn_book.specs.Sets.{AreFit, FitsUnit}
 use Rattle.dn_book.proofs.Given.{GrantGives, HopGives, Uses, by_owns, given_by, gives_taken, hop_gives, in_held, owned_used, owns_by, place_of, taken_gives, uses_by, uses_given}
@@ -360,35 +360,35 @@ granted_sound net legal book g sound f = record { few = few; ids = ids; grants =
 -- GRANTS THAT GO
 
 -- who stays without an id
-pub without_in : (id : ℕ) (book : List Grant) (k : Grant) → Member k (without id book) → Member k book × (k.id ≢ id)
+pub without_in : (id : ℕ) (book : List Grant) (k : Grant) → Member k (without_id id book) → Member k book × (k.id ≢ id)
 without_in id book k m =
     let f = member_filter (λ (g : Grant). not (g.id == id)) book k m in
     (f.0, λ e. (let t : not (k.id == id) ≡ false = ap not (eq-eqb k.id id e) in let c : true ≡ false = sym f.1 ∙ t in cc))
 
 -- and who goes
-pub in_without : (id : ℕ) (book : List Grant) (k : Grant) → Member k book → k.id ≢ id → Member k (without id book)
+pub in_without : (id : ℕ) (book : List Grant) (k : Grant) → Member k book → k.id ≢ id → Member k (without_id id book)
 in_without id [] k m ne = absurd m
 in_without id (g ∷ gs) k m ne = go (in_without id gs k) m (g.id == id) refl
   where
-    go : (Member k gs → k.id ≢ id → Member k (without id gs)) → (g ≡ k) ⊎ Member k gs → (b : Bool) → (g.id == id) ≡ b → Member k (if not b then g ∷ without id gs else without id gs)
+    go : (Member k gs → k.id ≢ id → Member k (without_id id gs)) → (g ≡ k) ⊎ Member k gs → (b : Bool) → (g.id == id) ≡ b → Member k (if not b then g ∷ without_id id gs else without_id id gs)
     go later (inl e) true f = absurd (ne (ap (λ (w : Grant). w.id) (sym e) ∙ eqb-true g.id id f))
     go later (inl e) false f = inl e
     go later (inr m) true f = later m ne
     go later (inr m) false f = inr (later m ne)
 
-given_more : (net : List NodeDecl) (id : ℕ) (book : List Grant) (n q : ℕ) (r : Record) → IsGiven net (without id book) n q r → IsGiven net book n q r
-given_more net id book n q r h = given_by net book h.grant n q r (without_in id book h.grant h.is_grant).0 (given_gives net (without id book) n q r h)
+given_more : (net : List NodeDecl) (id : ℕ) (book : List Grant) (n q : ℕ) (r : Record) → IsGiven net (without_id id book) n q r → IsGiven net book n q r
+given_more net id book n q r h = given_by net book h.grant n q r (without_in id book h.grant h.is_grant).0 (given_gives net (without_id id book) n q r h)
 
-fewer : (id : ℕ) (book : List Grant) → length (without id book) ≤ length book
+fewer : (id : ℕ) (book : List Grant) → length (without_id id book) ≤ length book
 fewer id [] = omega arith
 fewer id (g ∷ gs) = by (g.id == id) (fewer id gs)
   where
-    by : (b : Bool) → length (without id gs) ≤ length gs → length (if not b then g ∷ without id gs else without id gs) ≤ suc (length gs)
+    by : (b : Bool) → length (without_id id gs) ≤ length gs → length (if not b then g ∷ without_id id gs else without_id id gs) ≤ suc (length gs)
     by true l = omega arith
     by false l = omega arith
 
 -- a sound book is sound without the grants of an id
-pub revoked_sound : (net : List NodeDecl) (id : ℕ) (book : List Grant) → IsSound net book → IsSound net (without id book)
+pub revoked_sound : (net : List NodeDecl) (id : ℕ) (book : List Grant) → IsSound net book → IsSound net (without_id id book)
 revoked_sound net id book sound = record {
   few = (let l = fewer id book in let m = sound.few in omega arith);
   ids = AllPairs-filter (λ (a b : Grant). a.id ≢ b.id) (λ g. not (g.id == id)) book sound.ids;

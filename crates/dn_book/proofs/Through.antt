@@ -12,7 +12,7 @@ use Rattle.dn_net.proofs.Chains.{chain_join, chain_more}
 use Rattle.dn_kind.specs.declared.rights.Access.{Access}
 use Rattle.dn_kind.specs.declared.unit_kind.Record.{Record}
 use Rattle.dn_kind.specs.Rights.{allows}
-use Rattle.dn_kind.specs.Tables.{AreHeld, Extends, Held, ResolvesUnder, StepUnder, allowing, output, record_allowing, steps_by_unit, to_port}
+use Rattle.dn_kind.specs.Tables.{AreHeld, Extends, Held, ResolvesUnder, StepUnder, allowing, name_at_port, output, record_allowing, steps_by_unit}
 use Rattle.dn_kind.specs.Ways.{PassesIn, Slot, slot_in}
 use Rattle.dn_kind.proofs.Bounds.{reach_under_is_within}
 use Rattle.dn_kind.proofs.Ways.{step_under, step_more}
@@ -100,8 +100,8 @@ hop_step net h hop u p i eu ep em held is =
     let low : nat_le (hop.x + i) top ≡ true = subst (λ v. IsTrue (is_stop_at (hop.x + i) v)) eu is in
     let addr : held.0.page * 2 ^ u.page + (hop.x + i) % 2 ^ u.page ≡ hop.y + i = ap (λ n. n * 2 ^ u.page + (hop.x + i) % 2 ^ u.page) held.3 ∙ out_at (2 ^ u.page) hop.x hop.y i (pow_pos u.page) em in
     let port : slice_get u.ports held.0.port ≡ Some p = ap (slice_get u.ports) held.2 ∙ ep in
-    let at : Member z (to_port (Some p) (held.0.page * 2 ^ u.page + (hop.x + i) % 2 ^ u.page)) = inl (ap (λ a. record { node = p; addr = a }) addr) in
-    let out : Member z (output u (Some held.0) (hop.x + i)) = subst (λ o. Member z (to_port o (held.0.page * 2 ^ u.page + (hop.x + i) % 2 ^ u.page))) (sym port) at in
+    let at : Member z (name_at_port (Some p) (held.0.page * 2 ^ u.page + (hop.x + i) % 2 ^ u.page)) = inl (ap (λ a. record { node = p; addr = a }) addr) in
+    let out : Member z (output u (Some held.0) (hop.x + i)) = subst (λ o. Member z (name_at_port o (held.0.page * 2 ^ u.page + (hop.x + i) % 2 ^ u.page))) (sym port) at in
     let by_record : Member z (output u (h hop.unit q) (hop.x + i)) = subst (λ r. Member z (output u r (hop.x + i))) (sym held.1) out in
     let by_test : Member z (if nat_le (hop.x + i) top then output u (h hop.unit q) (hop.x + i) else []) = subst (λ b. Member z (if b then output u (h hop.unit q) (hop.x + i) else [])) (sym low) by_record in
     subst (λ o. Member z (steps_by_unit net h s o)) (sym eu) by_test

@@ -103,7 +103,7 @@ pub record IsSound (net : List NodeDecl) (book : List Grant) : Type 0 where
   pub alone : AreOwnAlone net book
 
 -- a live grant gives the one name at the other for an access
-pub record IsGranted (book : List Grant) (access : Access) (x y : Name) : Type 0 where
+pub record IsGrantedName (book : List Grant) (access : Access) (x y : Name) : Type 0 where
   pub grant : Grant
   pub is_grant : Member grant book
   pub allowed : IsTrue (allows grant.request.rights access)
@@ -112,7 +112,7 @@ pub record IsGranted (book : List Grant) (access : Access) (x y : Name) : Type 0
 -- A book owes to a name for an access what it resolves to in the net, and what live grants whose
 -- rights allow the access give there.
 abbrev pub Owes : List NodeDecl → List Grant → Access → Name → Name → Type 0
-Owes net book access x y = Resolves net x y ⊎ IsGranted book access x y
+Owes net book access x y = Resolves net x y ⊎ IsGrantedName book access x y
 
 -- the name that a grant gives at a name for an access
 abbrev pub granted_by : Access → Name → Grant → List Name
@@ -143,5 +143,5 @@ abbrev pub has_id : ℕ → List Grant → Bool
 has_id id book = list_any (λ g. g.id == id) book
 
 -- the book without the grants of an id
-abbrev pub without : ℕ → List Grant → List Grant
-without id book = filter (λ g. not (g.id == id)) book
+abbrev pub without_id : ℕ → List Grant → List Grant
+without_id id book = filter (λ g. not (g.id == id)) book

@@ -15,7 +15,7 @@ use Rattle.dn_kind.specs.Units.{KeepsUnitShape}
 use Rattle.dn_placement.specs.Exposure.{IsAdmissible}
 use Rattle.dn_placement.specs.Placement.{IsPlacement}
 use Rattle.dn_book.specs.declared.grant.Grant.{Grant}
-use Rattle.dn_book.specs.Book.{IsFaithful, IsSound, Owes, has_id, owed_names, records_of, slots_of, without}
+use Rattle.dn_book.specs.Book.{IsFaithful, IsSound, Owes, has_id, owed_names, records_of, slots_of, without_id}
 use Rattle.dn_book.specs.Tables.{tables_of}
 
 -- what a grant must be to come into a book: its id is new, there is room, and it is a placement in
@@ -43,8 +43,8 @@ GrantKeepsBook = (net : List NodeDecl) (book : List Grant) (g : Grant) → IsLeg
 -- A sound book is sound without the grants of an id, and faithful where it was so.
 abbrev pub RevokeKeepsBook : Type 0
 RevokeKeepsBook = (net : List NodeDecl) (book : List Grant) (id : ℕ) → IsLegalNet net →
-    IsSound net book → IsSound net (without id book)
-    × (IsFaithful net book → IsFaithful net (without id book))
+    IsSound net book → IsSound net (without_id id book)
+    × (IsFaithful net book → IsFaithful net (without_id id book))
 
 -- The tables of a sound book hold exactly the records of the book.
 abbrev pub TablesHoldRecords : Type 0

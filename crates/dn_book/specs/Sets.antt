@@ -14,7 +14,7 @@ use Rattle.dn_tables.specs.declared.placement.Hop.{Hop}
 use Rattle.dn_tables.specs.declared.table.NodeTable.{NodeTable}
 use Rattle.dn_tables.specs.declared.table.SlotUse.{SlotUse}
 use Rattle.dn_tables.specs.Set.{IsEmpty, KeepsFit, has_slot, packed_in, use_in, width_in, with_slot, words_of, tables_of_set}
-use Rattle.dn_tables.specs.Writes.{clear_writes, events_of, put_writes}
+use Rattle.dn_tables.specs.Writes.{clear_writes, put_writes, write_events}
 use Rattle.dn_book.specs.declared.grant.Grant.{Grant}
 use Rattle.dn_book.specs.Book.{is_taken}
 use Rattle.dn_book.specs.Writes.{AreAdded, Put, hop_slots}
@@ -63,11 +63,11 @@ after_clears set (s ∷ ss) =
 -- the writes of records by a set
 abbrev pub put_log : List Meaning → List NodeTable → List Put → List TableEvent
 put_log kinds set ss =
-    flat_map (λ s. events_of s.unit (put_writes kinds set s.unit s.slot s.holds)) ss
+    flat_map (λ s. write_events s.unit (put_writes kinds set s.unit s.slot s.holds)) ss
 
 -- the writes that clear slots by a set
 abbrev pub clear_log : List NodeTable → List Put → List TableEvent
-clear_log set ss = flat_map (λ s. events_of s.unit (clear_writes set s.unit s.slot)) ss
+clear_log set ss = flat_map (λ s. write_events s.unit (clear_writes set s.unit s.slot)) ss
 
 -- The records were put in order into those of the slots that no live grant used: all of them, or
 -- those before the write that failed.
@@ -96,12 +96,12 @@ pub record MayUse (owner : Option ℕ) (set : List NodeTable) (s : Put) : Type 0
   pub alone : IsSome owner → (use_in set s.unit s.slot).uses ≡ 0
 
 -- the use of a slot by one grant more, which owns it where there is an owner
-abbrev pub one_more : Option ℕ → SlotUse → SlotUse
-one_more owner use' = record { uses = use'.uses + 1; owner = owner }
+abbrev pub one_use_more : Option ℕ → SlotUse → SlotUse
+one_use_more owner use' = record { uses = use'.uses + 1; owner = owner }
 
 -- the use of a slot by one grant less, and by no owner
-abbrev pub one_less : SlotUse → SlotUse
-one_less use' = record { uses = use'.uses - 1; owner = None }
+abbrev pub one_use_less : SlotUse → SlotUse
+one_use_less use' = record { uses = use'.uses - 1; owner = None }
 
 -- the record is put into this slot
 abbrev pub is_at : ℕ → ℕ → Put → Bool

@@ -13,10 +13,10 @@ use Rattle.dn_kind.specs.Kind.{Meaning}
 use Rattle.dn_kind.specs.Tables.{Held}
 use Rattle.dn_kind.specs.Units.{unit_shape}
 use Rattle.dn_tables.specs.declared.placement.Hop.{Hop}
-use Rattle.dn_tables.specs.Writes.{clears_from, events_of, writes_from}
+use Rattle.dn_tables.specs.Writes.{clears_from, write_events, writes_from}
 use Rattle.dn_placement.specs.Records.{first_slot, hop_rights, last_slot, slot_record}
 use Rattle.dn_book.specs.declared.grant.Grant.{Grant}
-use Rattle.dn_book.specs.Book.{records_of, without}
+use Rattle.dn_book.specs.Book.{records_of, without_id}
 
 -- a record in a slot of a unit
 pub record Put : Type 0 where
@@ -78,7 +78,7 @@ puts_of net book g =
 -- hop by ascending slot, the slots that no other grant uses
 abbrev pub clears_of : List NodeDecl → List Grant → Grant → List Put
 clears_of net book g =
-    empty_slots (records_of net (without g.id book)) (joined_slots (grant_slots net g))
+    empty_slots (records_of net (without_id g.id book)) (joined_slots (grant_slots net g))
 
 -- the kind of a unit, where there is one and its kind is known
 abbrev pub kind_by : List Meaning → Option UnitPart → Option Meaning
@@ -90,7 +90,7 @@ abbrev pub put_events_by : Option UnitPart → Option Meaning → Put → List T
 put_events_by None kind s = []
 put_events_by (Some u) None s = []
 put_events_by (Some u) (Some kind) s =
-    events_of s.unit (writes_from (s.slot * kind.words) (kind.pack (unit_shape u) s.holds))
+    write_events s.unit (writes_from (s.slot * kind.words) (kind.pack (unit_shape u) s.holds))
 
 -- the writes of a record
 abbrev pub put_events : List NodeDecl → List Meaning → Put → List TableEvent
@@ -101,7 +101,7 @@ put_events net kinds s =
 abbrev pub clear_events_by : Option Meaning → Put → List TableEvent
 clear_events_by None s = []
 clear_events_by (Some kind) s =
-    events_of s.unit (clears_from (s.slot * kind.words) kind.words)
+    write_events s.unit (clears_from (s.slot * kind.words) kind.words)
 
 -- the writes that clear a slot
 abbrev pub clear_events : List NodeDecl → List Meaning → Put → List TableEvent

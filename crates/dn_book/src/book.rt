@@ -6,7 +6,7 @@ ghost use Rattle.std.specs.List.{All};
 ghost use Rattle.dn_base.specs.Terms.{IsCounted, is_make_fault};
 ghost use Rattle.dn_kind.specs.Terms.{IsLawful, IsLegalWith};
 ghost use Rattle.dn_tables.specs.Terms.{AreUnitsMade, FitsNet, IsOnDevice, fresh_set, tables_of_set};
-ghost use Rattle.dn_book.specs.Terms.{AreAdded, IsFaithful, IsGrantFor, IsKept, grant_events, has_id, is_commit_fault, is_revoke_fault, revoke_events, without};
+ghost use Rattle.dn_book.specs.Terms.{AreAdded, IsFaithful, IsGrantFor, IsKept, grant_events, has_id, is_commit_fault, is_revoke_fault, revoke_events, without_id};
 ghost use Rattle.dn_book.specs.declared.book.CommitFault.TheVariants.{OutOfMemory as no_memory};
 ghost use Rattle.dn_book.specs.declared.book.RevokeFault.TheVariants.{NoGrant as no_grant};
 ghost use Rattle.dn_book.specs.declared.grant.Grant.{Grant as GrantPart};
@@ -223,7 +223,7 @@ impl Book {
         requires kept { IsKept net.now
             (map (λ k. meaning (k.vtable, k.value)) kinds.now.list.items) self.old.grants self.old.set }
         requires on_device { IsOnDevice self.old.set (D.units device.old) (D.words device.old) }
-        ensures revoked { OnOk result (self.new.grants ≡ without id self.old.grants) }
+        ensures revoked { OnOk result (self.new.grants ≡ without_id id self.old.grants) }
         ensures kept { OnOk result (IsKept net.now
             (map (λ k. meaning (k.vtable, k.value)) kinds.now.list.items) self.new.grants self.new.set) }
         ensures faithful { OnOk result (IsFaithful net.now self.old.grants →

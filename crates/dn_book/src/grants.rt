@@ -2,7 +2,7 @@
 
 ghost use Rattle.std.specs.Prelude.{◌≡◌, ◌≢◌, ◌==◌, [], ◌∷◌, ◌++◌, false, find, length, option_copied, AllPairs, OnOk, OnErr};
 ghost use Rattle.std.specs.Map.Iter.{ShowsInOrder, deref};
-ghost use Rattle.dn_book.specs.Terms.{has_id, without};
+ghost use Rattle.dn_book.specs.Terms.{has_id, without_id};
 ghost use Rattle.dn_book.specs.declared.grant.Grant.{Grant as GrantPart};
 
 use crate::grant::Grant;
@@ -108,7 +108,7 @@ impl Grants {
     /// Takes the grant of an id out, where one has it. It takes no memory.
     pub(crate) fn remove(&mut self, id: u32)
         requires { AllPairs (λ (g k : GrantPart). g.id ≢ k.id) self.old }
-        ensures { self.new ≡ without id self.old }
+        ensures { self.new ≡ without_id id self.old }
     {
         if let Some(serial) = self.serials.remove(&id) {
             drop(self.granted.remove(&serial));

@@ -5,7 +5,7 @@ ghost use Rattle.dn_net.specs.declared.node.Unit.{Unit as UnitPart};
 ghost use Rattle.dn_net.specs.Terms.{Member, unit_at};
 ghost use Rattle.dn_kind.specs.Terms.{both_rights};
 ghost use Rattle.dn_tables.specs.Terms.{has_slot, unit_in, units_of, use_in};
-ghost use Rattle.dn_book.specs.Terms.{AreChanged, AreFit, AreHopsChanged, EachSlot, FitsUnit, MayUse, Put, hop_owner, hop_slots, hop_slots_by, one_less, one_more};
+ghost use Rattle.dn_book.specs.Terms.{AreChanged, AreFit, AreHopsChanged, EachSlot, FitsUnit, MayUse, Put, hop_owner, hop_slots, hop_slots_by, one_use_less, one_use_more};
 
 use crate::grant::Grant;
 use crate::slots::{end_slot, first_slot};
@@ -44,7 +44,7 @@ pub(crate) fn add_uses(tables: &mut TableSet, net: &Net, grant: &Grant)
     requires may { EachSlot net.now grant.now (λ place. MayUse
         (hop_owner grant.now.id grant.now.placement.own place) tables.old) }
     ensures { AreHopsChanged net.now grant.now.request.size
-        (λ place. one_more (hop_owner grant.now.id grant.now.placement.own place))
+        (λ place. one_use_more (hop_owner grant.now.id grant.now.placement.own place))
         grant.now.placement.hops tables.old tables.new }
 {
     let own = usize::from(grant.placement.own());
@@ -61,7 +61,7 @@ fn add_hop_uses(tables: &mut TableSet, net: &Net, size: u64, hop: &Hop, owner: O
         FitsUnit u size hop.now }
     requires may { (s : Put) → Member s (hop_slots net.now size both_rights hop.now) →
         MayUse owner tables.old s }
-    ensures { AreChanged (one_more owner) (hop_slots net.now size both_rights hop.now)
+    ensures { AreChanged (one_use_more owner) (hop_slots net.now size both_rights hop.now)
         tables.old tables.new }
 {
     match net.unit(hop.unit) {
@@ -76,7 +76,8 @@ fn add_slot_uses(tables: &mut TableSet, unit: &Unit, size: u64, hop: &Hop, owner
     requires there { FitsUnit unit.now size hop.now }
     requires may { (s : Put) → Member s (hop_slots_by (Some unit.now) size both_rights hop.now) →
         MayUse owner tables.old s }
-    ensures { AreChanged (one_more owner) (hop_slots_by (Some unit.now) size both_rights hop.now)
+    ensures { AreChanged (one_use_more owner)
+        (hop_slots_by (Some unit.now) size both_rights hop.now)
         tables.old tables.new }
 {
     for slot in first_slot(unit, size, hop)..end_slot(unit, size, hop) {
@@ -91,7 +92,7 @@ pub(crate) fn end_uses(tables: &mut TableSet, net: &Net, grant: &Grant)
     requires hops { AreFit net.now grant.now.request.size grant.now.placement.hops }
     requires used { EachSlot net.now grant.now (λ place s.
         0 < (use_in tables.old s.unit s.slot).uses) }
-    ensures { AreHopsChanged net.now grant.now.request.size (λ place. one_less)
+    ensures { AreHopsChanged net.now grant.now.request.size (λ place. one_use_less)
         grant.now.placement.hops tables.old tables.new }
 {
     for hop in grant.placement.hops() {
@@ -106,7 +107,7 @@ fn end_hop_uses(tables: &mut TableSet, net: &Net, size: u64, hop: &Hop)
         FitsUnit u size hop.now }
     requires used { (s : Put) → Member s (hop_slots net.now size both_rights hop.now) →
         0 < (use_in tables.old s.unit s.slot).uses }
-    ensures { AreChanged one_less (hop_slots net.now size both_rights hop.now)
+    ensures { AreChanged one_use_less (hop_slots net.now size both_rights hop.now)
         tables.old tables.new }
 {
     match net.unit(hop.unit) {
@@ -121,7 +122,7 @@ fn end_slot_uses(tables: &mut TableSet, unit: &Unit, size: u64, hop: &Hop)
     requires there { FitsUnit unit.now size hop.now }
     requires used { (s : Put) → Member s (hop_slots_by (Some unit.now) size both_rights hop.now) →
         0 < (use_in tables.old s.unit s.slot).uses }
-    ensures { AreChanged one_less (hop_slots_by (Some unit.now) size both_rights hop.now)
+    ensures { AreChanged one_use_less (hop_slots_by (Some unit.now) size both_rights hop.now)
         tables.old tables.new }
 {
     for slot in first_slot(unit, size, hop)..end_slot(unit, size, hop) {

@@ -4,8 +4,8 @@ use Rattle.std.specs.Fmt.{decimal}
 use Rattle.dn_demo.specs.declared.summary.Summary.{Summary}
 
 -- what was made: the nodes, the grants and the revokes, below the number that was asked for
-abbrev pub made_text : Summary → List ℕ
-made_text s =
+abbrev pub made_counts_text : Summary → List ℕ
+made_counts_text s =
     codes "demo " ++ (decimal s.agents ++ (codes ": nodes " ++ (decimal s.nodes ++ (
     codes " grants " ++ (decimal s.grants ++ (codes " revoked " ++ decimal s.revoked))))))
 
@@ -17,4 +17,4 @@ left_text s =
 
 -- the summary, a line
 abbrev pub summary_text : Summary → List ℕ
-summary_text s = made_text s ++ left_text s
+summary_text s = made_counts_text s ++ left_text s

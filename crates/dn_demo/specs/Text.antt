@@ -52,9 +52,9 @@ unfoldable pub revokes_of : ℕ → List ℕ
 revokes_of agent = texts_below (λ pair. revoke_text agent (2 * pair + 1)) 8
 
 -- the commands of a sort of an agent
-abbrev pub commands_of : Commands → ℕ → List ℕ
-commands_of Grants = grants_of
-commands_of Revokes = revokes_of
+abbrev pub agent_commands : Commands → ℕ → List ℕ
+agent_commands Grants = grants_of
+agent_commands Revokes = revokes_of
 
 -- the text of the demonstration with so many agents
 abbrev pub demo_text : ℕ → List ℕ

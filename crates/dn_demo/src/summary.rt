@@ -2,7 +2,7 @@
 
 ghost use Rattle.std.specs.Prelude.{◌≡◌, ◌++◌, IfOk, OnOk};
 ghost use Rattle.std.specs.String.{string_bytes};
-ghost use Rattle.dn_demo.specs.Terms.{left_text, made_text, summary_text};
+ghost use Rattle.dn_demo.specs.Terms.{left_text, made_counts_text, summary_text};
 
 use crate::OutOfMemory;
 use std::alloc::Global;
@@ -38,7 +38,8 @@ pub fn summary_text(alloc: Global, summary: Summary) -> Result<Vec<u8>, OutOfMem
 
 /// Appends what was made: the nodes, the grants and the revokes.
 fn write_made(out: &mut String, summary: Summary) -> Result<(), OutOfMemory>
-    ensures { OnOk result (string_bytes out.new ≡ string_bytes out.old ++ made_text summary) }
+    ensures { OnOk result (string_bytes out.new
+        ≡ string_bytes out.old ++ made_counts_text summary) }
 {
     write!(
         out,

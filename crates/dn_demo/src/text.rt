@@ -2,7 +2,7 @@
 
 ghost use Rattle.std.specs.Prelude.{◌≡◌, ◌<◌, ◌++◌, IfOk, OnOk};
 ghost use Rattle.std.specs.String.{string_bytes};
-ghost use Rattle.dn_demo.specs.Terms.{commands_of, demo_text, grant_text, grants_of, loop_text, platform_text, revoke_text, revokes_of, texts_below};
+ghost use Rattle.dn_demo.specs.Terms.{agent_commands, demo_text, grant_text, grants_of, loop_text, platform_text, revoke_text, revokes_of, texts_below};
 
 use crate::OutOfMemory;
 use std::alloc::Global;
@@ -58,7 +58,7 @@ fn write_loop(out: &mut String, last: u8) -> Result<(), OutOfMemory>
 /// Appends the commands of this sort of all agents, agent by agent.
 fn write_commands(out: &mut String, agents: u8, commands: Commands) -> Result<(), OutOfMemory>
     ensures { OnOk result (string_bytes out.new
-        ≡ string_bytes out.old ++ texts_below (commands_of commands) agents) }
+        ≡ string_bytes out.old ++ texts_below (agent_commands commands) agents) }
 {
     for agent in 0..agents {
         write_commands_of(out, agent, commands)?;
@@ -69,7 +69,7 @@ fn write_commands(out: &mut String, agents: u8, commands: Commands) -> Result<()
 /// Appends the commands of this sort of an agent.
 fn write_commands_of(out: &mut String, agent: u8, commands: Commands) -> Result<(), OutOfMemory>
     ensures { OnOk result (string_bytes out.new
-        ≡ string_bytes out.old ++ commands_of commands agent) }
+        ≡ string_bytes out.old ++ agent_commands commands agent) }
 {
     match commands {
         Commands::Grants => write_grants_of(out, agent),

@@ -13,9 +13,10 @@ use Rattle.dn_net.specs.Chain.{IsChain, Ends}
 use Rattle.dn_net.specs.Decode.{Step, steps, step_limit}
 use Rattle.dn_net.proofs.Chains.{chain_front}
 use Rattle.dn_net.proofs.Stops.{stop_there}
+use Rattle.dn_walk.specs.Ends.{end_of, name_of_end}
 use Rattle.dn_flat.specs.declared.flat.Flat.{Flat}
 use Rattle.dn_flat.specs.Stages.{EndsBefore, GoesIn, IsFlat}
-use Rattle.dn_flat.specs.Views.{name_of_end, end_of, ResolvesFrom, StopsFrom}
+use Rattle.dn_flat.specs.Views.{ResolvesFrom, StopsFrom}
 use Rattle.dn_flat.proofs.There.{names_are_there, accepted_is_there}
 
 pub limit_is : step_limit ≡ 65

@@ -14,11 +14,11 @@ use Rattle.dn_net.proofs.Choices.{chain_is_walk}
 use Rattle.dn_net.proofs.Legs.{leads_of_leg, leg_of_leads}
 use Rattle.dn_net.proofs.Resolution.{name_is}
 use Rattle.dn_walk.specs.declared.leg.Leg.{Leg}
-use Rattle.dn_walk.specs.Legs.{told_leg, told_legs, AreLegs}
+use Rattle.dn_walk.specs.Legs.{bare_leg, bare_legs, AreLegs}
 use Rattle.dn_walk.proofs.Nodes.{legs_of_node}
+use Rattle.dn_walk.specs.Ends.{name_of_end}
 use Rattle.dn_flat.specs.Firsts.{is_same, leg_gives, legs_give}
 use Rattle.dn_flat.specs.Stages.{EndsBefore, GoesIn}
-use Rattle.dn_flat.specs.Views.{name_of_end}
 
 pub same_means : (node a : ℕ) (y : End) → is_same node a y ≡ true → ◌≡◌ {A = Name} (record { node = node; addr = a }) (name_of_end y)
 same_means node a y e =
@@ -46,7 +46,7 @@ module _ (net : List NodeDecl) (rules : KeepsNodeRules net) (node : ℕ) (n : No
   abbrev here : Name
   here = record { node = node; addr = a }
 
-  led : (l : NetLeg) → Member l (legs n) → leg_gives (told_leg l) a y ≡ true → GoesIn net 1 node a y
+  led : (l : NetLeg) → Member l (legs n) → leg_gives (bare_leg l) a y ≡ true → GoesIn net 1 node a y
   led l m g =
       let p = and_parts (nat_le l.block.lo a && nat_le a l.block.hi) (nat_eq l.to.node y.node && nat_eq (l.to.addr + (a - l.block.lo)) y.base) g in
       let q = and_parts (nat_eq l.to.node y.node) (nat_eq (l.to.addr + (a - l.block.lo)) y.base) p.1 in
@@ -54,33 +54,33 @@ module _ (net : List NodeDecl) (rules : KeepsNodeRules net) (node : ℕ) (n : No
       let s = name_is l.to.node y.node (l.to.addr + (a - l.block.lo)) y.base (eqb-true l.to.node y.node q.0) (eqb-true (l.to.addr + (a - l.block.lo)) y.base q.1) in
       (chain_is_walk net rules 1 here (name_of_end y)).1 (l.choice ∷ [], refl, (l.block, l.to, f, p.0, s))
 
-  by_choice : (cs : List Choice) → length cs ≡ 1 → Follows net here cs (name_of_end y) → legs_give (told_legs n) a y ≡ true
+  by_choice : (cs : List Choice) → length cs ≡ 1 → Follows net here cs (name_of_end y) → legs_give (bare_legs n) a y ≡ true
   by_choice [] e f = absurd (omega arith)
   by_choice (c ∷ []) e f =
       let l : NetLeg = record { choice = c; block = f.0; to = f.1 } in
       let m = leg_of_leads (slice_get net node) (λ k e. node_apart net rules.each node k e) c f.0 f.1 f.2 in
-      let k = member_map told_leg (legs n) l (subst (λ o. Member l (legs_of o)) at m) in
+      let k = member_map bare_leg (legs n) l (subst (λ o. Member l (legs_of o)) at m) in
       let g = and_from (nat_eq f.1.node y.node) (nat_eq (f.1.addr + (a - f.0.lo)) y.base) (eq-eqb f.1.node y.node (ap (λ t. t.node) f.4)) (eq-eqb (f.1.addr + (a - f.0.lo)) y.base (ap (λ t. t.addr) f.4)) in
-      member_any (λ x. leg_gives x a y) (told_legs n) (told_leg l) k (and_from (nat_le f.0.lo a && nat_le a f.0.hi) (nat_eq f.1.node y.node && nat_eq (f.1.addr + (a - f.0.lo)) y.base) f.3 g)
+      member_any (λ x. leg_gives x a y) (bare_legs n) (bare_leg l) k (and_from (nat_le f.0.lo a && nat_le a f.0.hi) (nat_eq f.1.node y.node && nat_eq (f.1.addr + (a - f.0.lo)) y.base) f.3 g)
   by_choice (c ∷ (d ∷ cs)) e f = absurd (omega arith)
 
   -- the legs of the node lead the address where one step does
-  one_step : (legs_give (told_legs n) a y ≡ true) ↔ GoesIn net 1 node a y
+  one_step : (legs_give (bare_legs n) a y ≡ true) ↔ GoesIn net 1 node a y
   one_step = (
-    (λ e. let r = any_member (λ l. leg_gives l a y) (told_legs n) e in let m = map_member told_leg (legs n) r.0 r.1 in led m.0 m.1 (subst (λ l. leg_gives l a y ≡ true) (sym m.2) r.2)),
+    (λ e. let r = any_member (λ l. leg_gives l a y) (bare_legs n) e in let m = map_member bare_leg (legs n) r.0 r.1 in led m.0 m.1 (subst (λ l. leg_gives l a y ≡ true) (sym m.2) r.2)),
     (λ c. let w = (chain_is_walk net rules 1 here (name_of_end y)).0 c in by_choice w.0 w.1 w.2),
   )
 
-some_told : (net : List NodeDecl) (node : ℕ) (ls : List Leg) (o : Option NodeDecl) → slice_get net node ≡ o → option_map told_legs o ≡ Some ls → (n : NodeDecl) × (slice_get net node ≡ Some n) × (told_legs n ≡ ls)
-some_told net node ls None e f = cc
-some_told net node ls (Some n) e f = let s : told_legs n ≡ ls = cc in (n, e, s)
+some_bare : (net : List NodeDecl) (node : ℕ) (ls : List Leg) (o : Option NodeDecl) → slice_get net node ≡ o → option_map bare_legs o ≡ Some ls → (n : NodeDecl) × (slice_get net node ≡ Some n) × (bare_legs n ≡ ls)
+some_bare net node ls None e f = cc
+some_bare net node ls (Some n) e f = let s : bare_legs n ≡ ls = cc in (n, e, s)
 
-pub legs_step : (net : List NodeDecl) → KeepsNodeRules net → (node : ℕ) (ls : List Leg) → option_map told_legs (slice_get net node) ≡ Some ls → (a : ℕ) (y : End) → (legs_give ls a y ≡ true) ↔ GoesIn net 1 node a y
+pub legs_step : (net : List NodeDecl) → KeepsNodeRules net → (node : ℕ) (ls : List Leg) → option_map bare_legs (slice_get net node) ≡ Some ls → (a : ℕ) (y : End) → (legs_give ls a y ≡ true) ↔ GoesIn net 1 node a y
 legs_step net rules node ls e a y =
-    let s = some_told net node ls (slice_get net node) refl e in
+    let s = some_bare net node ls (slice_get net node) refl e in
     subst (λ l. (legs_give l a y ≡ true) ↔ GoesIn net 1 node a y) s.2 (one_step net rules node s.0 s.1 a y)
 
-pub legs_are : (net : List NodeDecl) → KeepsNodeRules net → (node : ℕ) (ls : List Leg) → option_map told_legs (slice_get net node) ≡ Some ls → AreLegs (length net) ls
+pub legs_are : (net : List NodeDecl) → KeepsNodeRules net → (node : ℕ) (ls : List Leg) → option_map bare_legs (slice_get net node) ≡ Some ls → AreLegs (length net) ls
 legs_are net rules node ls e =
-    let s = some_told net node ls (slice_get net node) refl e in
+    let s = some_bare net node ls (slice_get net node) refl e in
     subst (AreLegs (length net)) s.2 (legs_of_node net rules node s.0 s.1)

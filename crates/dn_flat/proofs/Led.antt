@@ -6,7 +6,7 @@ use Rattle.dn_base.proofs.Booleans.{means_then}
 use Rattle.dn_interval.specs.declared.row.End.{End}
 use Rattle.dn_interval.specs.declared.row.Row.{Row}
 use Rattle.dn_interval.specs.declared.span.TheConstants.{TOP}
-use Rattle.dn_interval.specs.Rows.{AreNormal, GivenBy, Member, moved}
+use Rattle.dn_interval.specs.Rows.{AreNormal, GivenBy, Member, further_end}
 use Rattle.dn_interval.proofs.Membership.{in_from}
 use Rattle.dn_net.specs.declared.node.Name.{Name}
 use Rattle.dn_net.specs.declared.node.NodeDecl.{NodeDecl}
@@ -14,12 +14,12 @@ use Rattle.dn_net.specs.Chain.{IsChain, Ends, ReachesWithin}
 use Rattle.dn_net.specs.Decode.{Step, steps, step_limit, is_accepted, is_stop}
 use Rattle.dn_net.specs.Legal.{IsLegalNet}
 use Rattle.dn_net.proofs.Chains.{chain_front}
+use Rattle.dn_walk.specs.Ends.{end_of, name_of_end}
 use Rattle.dn_flat.specs.declared.levels.Levels.{Levels}
 use Rattle.dn_flat.specs.declared.reach.Reach.{Reach}
 use Rattle.dn_flat.specs.Levels.{AreLevelsBelow, IsLevels}
 use Rattle.dn_flat.specs.Shared.{no_levels}
 use Rattle.dn_flat.specs.Stages.{EndsBefore, GoesIn, IsReach, AreReaches, IsLedBy, IsLedTo}
-use Rattle.dn_flat.specs.Views.{name_of_end, end_of}
 use Rattle.dn_flat.proofs.Bounds.{limit_is}
 use Rattle.dn_flat.proofs.Lists.{each_pushed, length_pushed}
 
@@ -43,23 +43,23 @@ none_given f (r ∷ rows) e n a y low h = cc
 abbrev end_in : ℕ → ℕ → End
 end_in node a = record { node = node; base = a }
 
-at_end : (other a lo : ℕ) → lo ≡ 0 → moved (a - lo) (end_in other 0) ≡ end_in other a
+at_end : (other a lo : ℕ) → lo ≡ 0 → further_end (a - lo) (end_in other 0) ≡ end_in other a
 at_end other a lo e = let d : 0 + (a - lo) ≡ a = omega arith in ap (end_in other) d
 
 one_to : (rows : List Row) (r : Row) (other a : ℕ) (y : End) → rows ≡ r ∷ [] → r.span.lo ≡ 0 → r.ends ≡ end_in other 0 ∷ [] → GivenBy rows a y → end_in other a ≡ y
 one_to rows r other a y go lo ends g = by (subst (λ rs. GivenBy rs a y) go g)
   where
-    named : Member y (moved (a - r.span.lo) (end_in other 0) ∷ []) → end_in other a ≡ y
+    named : Member y (further_end (a - r.span.lo) (end_in other 0) ∷ []) → end_in other a ≡ y
     named (inl e) = sym (at_end other a r.span.lo lo) ∙ e
     named (inr h) = absurd h
 
     by : GivenBy (r ∷ []) a y → end_in other a ≡ y
-    by (inl h) = named (subst (λ es. Member y (map (moved (a - r.span.lo)) es)) ends h.1)
+    by (inl h) = named (subst (λ es. Member y (map (further_end (a - r.span.lo)) es)) ends h.1)
     by (inr h) = absurd h
 
 one_from : (rows : List Row) (r : Row) (other a : ℕ) → rows ≡ r ∷ [] → r.span.lo ≡ 0 → r.span.hi ≡ TOP → r.ends ≡ end_in other 0 ∷ [] → a ≤ TOP → GivenBy rows a (end_in other a)
 one_from rows r other a go lo hi ends low =
-    let named : Member (end_in other a) (map (moved (a - r.span.lo)) r.ends) = subst (λ es. Member (end_in other a) (map (moved (a - r.span.lo)) es)) (sym ends) (inl (at_end other a r.span.lo lo)) in
+    let named : Member (end_in other a) (map (further_end (a - r.span.lo)) r.ends) = subst (λ es. Member (end_in other a) (map (further_end (a - r.span.lo)) es)) (sym ends) (inl (at_end other a r.span.lo lo)) in
     subst (λ rs. GivenBy rs a (end_in other a)) (sym go) (inl (in_from r.span a (omega arith) (omega arith), named))
 
 module _ (net : List NodeDecl) (legal : IsLegalNet net) (node other : ℕ) (reach : Reach) (is : IsReach net 1 node reach) (led : IsLedTo other reach) where

@@ -6,7 +6,7 @@ use Rattle.dn_interval.specs.declared.row.End.{End}
 use Rattle.dn_interval.specs.declared.row.Row.{Row}
 use Rattle.dn_interval.specs.declared.row.Seg.{Seg}
 use Rattle.dn_interval.specs.declared.span.TheConstants.{TOP}
-use Rattle.dn_interval.specs.Rows.{AreNormal, GivenBy, SegmentsGive, moved}
+use Rattle.dn_interval.specs.Rows.{AreNormal, GivenBy, SegmentsGive, further_end}
 use Rattle.dn_interval.specs.Spans.{in_span}
 use Rattle.dn_interval.specs.Strands.{segs_give, rows_give}
 use Rattle.dn_interval.specs.Onward.{gives_by, rows_of}
@@ -16,12 +16,12 @@ use Rattle.dn_net.specs.declared.node.Name.{Name}
 use Rattle.dn_net.specs.declared.node.NodeDecl.{NodeDecl}
 use Rattle.dn_net.specs.Chain.{IsChain}
 use Rattle.dn_net.specs.Decode.{Step, is_accepted}
+use Rattle.dn_walk.specs.Ends.{name_of_end}
 use Rattle.dn_flat.specs.declared.found.Part.TheVariants.{Accepts}
 use Rattle.dn_flat.specs.declared.reach.Reach.{Reach}
 use Rattle.dn_flat.specs.Levels.{AreLevels, NearFrom, ReachesFrom}
 use Rattle.dn_flat.specs.Onward.{leads_by, levels_lead, seg_leads}
 use Rattle.dn_flat.specs.Stages.{AreReaches}
-use Rattle.dn_flat.specs.Views.{name_of_end}
 use Rattle.dn_flat.proofs.Going.{levels_from, levels_to}
 use Rattle.dn_flat.proofs.Shown.{accepted_low, accepting_from, accepting_to, given_low, no_reach}
 use Rattle.dn_flat.proofs.There.{accepted_is_there}
@@ -99,10 +99,10 @@ module _ (net : List NodeDecl) (nodes : List Reach) (are : AreReaches net 1 node
             let t = toward_to r.0.node r.0.base z r.2 in
             let by : ReachesFrom net node a r.0 = is.reached a r.0 low r.1 in
             let same : ◌≡◌ {A = Name} (record { node = first.node; addr = first.base + t.0 }) (name_of_end z) = sym t.3 ∙ t.4 in
-            ((subst (λ n. is_accepted net n ≡ true) same t.2, (by.0, by.1, subst (IsChain (Step net) by.0 (record { node = node; addr = a })) t.4 by.2)), (t.0, t.1, end_same z (moved t.0 first) (sym same)))
+            ((subst (λ n. is_accepted net n ≡ true) same t.2, (by.0, by.1, subst (IsChain (Step net) by.0 (record { node = node; addr = a })) t.4 by.2)), (t.0, t.1, end_same z (further_end t.0 first) (sym same)))
 
         back : NearFrom net node first size a z → levels_lead toward levels a z ≡ true
         back h =
-            let at : z ≡ moved h.1.0 first = h.1.2 in
+            let at : z ≡ further_end h.1.0 first = h.1.2 in
             let acc : is_accepted net (record { node = first.node; addr = first.base + h.1.0 }) ≡ true = subst (λ (y : End). is_accepted net (name_of_end y) ≡ true) at h.0.0 in
             levels_from toward a z levels z (is.accepted a z low h.0) (subst (λ (y : End). toward y.node y.base y ≡ true) (sym at) (toward_from h.1.0 h.1.1 acc))

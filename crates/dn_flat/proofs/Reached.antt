@@ -15,6 +15,7 @@ use Rattle.dn_net.specs.declared.node.NodeDecl.{NodeDecl}
 use Rattle.dn_net.specs.Chain.{Ends, IsChain}
 use Rattle.dn_net.specs.Decode.{Step, is_accepted, steps, step_limit}
 use Rattle.dn_net.proofs.Stops.{stop_there}
+use Rattle.dn_walk.specs.Ends.{name_of_end}
 use Rattle.dn_flat.specs.declared.found.Part.TheVariants.{Stays}
 use Rattle.dn_flat.specs.declared.levels.Levels.{Levels}
 use Rattle.dn_flat.specs.declared.reach.Reach.{Reach}
@@ -22,7 +23,6 @@ use Rattle.dn_flat.specs.Firsts.{is_same}
 use Rattle.dn_flat.specs.Levels.{AreLevels, AreStops, IsLevels, levels_give}
 use Rattle.dn_flat.specs.Onward.{has_rows, leads_by, segs_lead}
 use Rattle.dn_flat.specs.Stages.{AreReaches, EndsBefore, GoesIn, ReachesBefore}
-use Rattle.dn_flat.specs.Views.{name_of_end}
 use Rattle.dn_flat.proofs.Bounds.{limit_is}
 use Rattle.dn_flat.proofs.Firsts.{same_from, same_means}
 use Rattle.dn_flat.proofs.Going.{segs_from, segs_to}

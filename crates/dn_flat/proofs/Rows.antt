@@ -4,7 +4,7 @@ use Rattle.std.proofs.lemmas.List.{length-map}
 use Rattle.dn_interval.specs.declared.row.End.{End}
 use Rattle.dn_interval.specs.declared.row.Row.{Row}
 use Rattle.dn_interval.specs.Rows.{Member as EndIn, AreNormal}
-use Rattle.dn_interval.specs.Listed.{seen_by}
+use Rattle.dn_interval.specs.Listed.{seen_view}
 use Rattle.dn_interval.proofs.Fronts.{listed_are_normal}
 use Rattle.dn_interval.proofs.Listing.{normal_are_listed}
 use Rattle.dn_net.specs.declared.node.Name.{Name}
@@ -14,7 +14,8 @@ use Rattle.dn_net.specs.Names.{resolved_names}
 use Rattle.dn_net.proofs.Ascending.{end_names_ascend}
 use Rattle.dn_net.proofs.Resolution.{end_names_are_ends}
 use Rattle.dn_walk.proofs.Ends.{end_in, ends_ascend}
-use Rattle.dn_flat.specs.Views.{name_of_end, end_of, ResolvesFrom, view_rows, ViewRowsAreNormal}
+use Rattle.dn_walk.specs.Ends.{end_of, name_of_end}
+use Rattle.dn_flat.specs.Views.{ResolvesFrom, view_rows, ViewRowsAreNormal}
 
 -- the ends that an address of a node resolves to
 abbrev pub ends_at : List NodeDecl → ℕ → ℕ → List End
@@ -28,7 +29,7 @@ resolves_end net n a y =
     ((λ m. law.0 (in_list.0 m)), (λ r. in_list.1 (law.1 r)))
 
 -- rows that are normal for the resolution are the rows of the view
-pub rows_are_view : (net : List NodeDecl) (n : ℕ) (rows : List Row) → AreNormal (ResolvesFrom net n) rows → map seen_by rows ≡ view_rows net n
+pub rows_are_view : (net : List NodeDecl) (n : ℕ) (rows : List Row) → AreNormal (ResolvesFrom net n) rows → map seen_view rows ≡ view_rows net n
 rows_are_view net n rows normal =
     normal_are_listed (ends_at net n) (λ a. ends_ascend (resolved_names net (record { node = n; addr = a })) (end_names_ascend (steps net) (is_accepted net) step_limit (record { node = n; addr = a }))) rows (record {
       apart = normal.apart;
@@ -36,8 +37,8 @@ rows_are_view net n rows normal =
     })
 
 -- and there are as many
-pub rows_count : (net : List NodeDecl) (n : ℕ) (rows : List Row) → map seen_by rows ≡ view_rows net n → length rows ≡ length (view_rows net n)
-rows_count net n rows e = sym (length-map rows seen_by) ∙ ap length e
+pub rows_count : (net : List NodeDecl) (n : ℕ) (rows : List Row) → map seen_view rows ≡ view_rows net n → length rows ≡ length (view_rows net n)
+rows_count net n rows e = sym (length-map rows seen_view) ∙ ap length e
 
 -- the rows of the view are normal for the resolution
 pub view_rows_are_normal : ViewRowsAreNormal

@@ -15,13 +15,14 @@ use Rattle.dn_net.specs.declared.node.Name.{Name}
 use Rattle.dn_net.specs.declared.node.NodeDecl.{NodeDecl}
 use Rattle.dn_net.specs.Chain.{IsChain}
 use Rattle.dn_net.specs.Decode.{Step, is_accepted, is_accepted_at, in_some_block, top}
+use Rattle.dn_walk.specs.Ends.{name_of_end}
 use Rattle.dn_flat.specs.declared.flat.Flat.{Flat}
 use Rattle.dn_flat.specs.declared.levels.Levels.{Levels}
 use Rattle.dn_flat.specs.declared.reach.Reach.{Reach}
 use Rattle.dn_flat.specs.Levels.{AreFlats, AreLevels, FlatsView, IsLevels, ReachesFrom, levels_show, reached_of, shows}
 use Rattle.dn_flat.specs.Shared.{no_levels}
 use Rattle.dn_flat.specs.Stages.{AreReaches, EndsBefore, IsFlat}
-use Rattle.dn_flat.specs.Views.{name_of_end, ResolvesFrom, StopsFrom}
+use Rattle.dn_flat.specs.Views.{ResolvesFrom, StopsFrom}
 use Rattle.dn_flat.proofs.Bounds.{flat_is}
 use Rattle.dn_flat.proofs.Going.{levels_from, levels_to}
 use Rattle.dn_flat.proofs.There.{accepted_is_there}

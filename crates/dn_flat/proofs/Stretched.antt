@@ -13,9 +13,9 @@ use Rattle.dn_interval.specs.declared.row.Seg.{Seg}
 use Rattle.dn_interval.specs.declared.span.Span.{Span}
 use Rattle.dn_interval.specs.declared.span.TheConstants.{TOP}
 use Rattle.dn_interval.specs.declared.strand.Strand.{Strand}
-use Rattle.dn_interval.specs.Rows.{Member, moved}
+use Rattle.dn_interval.specs.Rows.{Member, further_end}
 use Rattle.dn_interval.specs.Spans.{in_span}
-use Rattle.dn_interval.specs.Strands.{IsMaximal, seg_gives, segs_give, slid, strand_gives, strands_give}
+use Rattle.dn_interval.specs.Strands.{IsMaximal, is_slid, seg_gives, segs_give, strand_gives, strands_give}
 use Rattle.dn_interval.proofs.Membership.{hi_of, in_from, lo_of}
 use Rattle.dn_net.specs.declared.node.NodeDecl.{NodeDecl}
 use Rattle.dn_flat.specs.declared.reach.Reach.{Reach}
@@ -196,7 +196,7 @@ module _ (first : End) (size : ℕ) where
       (and_from (nat_eq (s.slide + v) (first.base + TOP)) (nat_le s.span.lo v && nat_le (v + size) (s.span.hi + 1)) (eq-eqb (s.slide + v) (first.base + TOP) slide)
       (and_from (nat_le s.span.lo v) (nat_le (v + size) (s.span.hi + 1)) (le-leb s.span.lo v lo) (le-leb (v + size) (s.span.hi + 1) hi)))
 
-  slid_at : (s : Strand) (v j : ℕ) → s.node ≡ first.node → s.slide + v ≡ first.base + TOP → slid s.node s.slide (v + j) (moved j first) ≡ true
+  slid_at : (s : Strand) (v j : ℕ) → s.node ≡ first.node → s.slide + v ≡ first.base + TOP → is_slid s.node s.slide (v + j) (further_end j first) ≡ true
   slid_at s v j node slide =
       let same : s.slide + (v + j) ≡ (first.base + j) + TOP = omega arith in
       and_from (nat_eq s.node first.node) (nat_eq (s.slide + (v + j)) ((first.base + j) + TOP)) (eq-eqb s.node first.node node) (eq-eqb (s.slide + (v + j)) ((first.base + j) + TOP) same)
@@ -237,14 +237,14 @@ module _ (first : End) (size : ℕ) where
         let top : r.0.span.hi ≤ TOP = r.0.span.within in
         omega arith
 
-    led_gives : are_led first size strands v ≡ true → (j : ℕ) → j < size → strands_give strands (v + j) (moved j first) ≡ true
+    led_gives : are_led first size strands v ≡ true → (j : ℕ) → j < size → strands_give strands (v + j) (further_end j first) ≡ true
     led_gives e j l =
         let r = led_by e in
         let lo : r.0.span.lo ≤ v = r.2.lo in
         let hi : v + size ≤ r.0.span.hi + 1 = r.2.hi in
-        member_any (λ s. strand_gives s (v + j) (moved j first)) strands r.0 r.1 (and_from (in_span r.0.span (v + j)) (slid r.0.node r.0.slide (v + j) (moved j first)) (in_from r.0.span (v + j) (omega arith) (omega arith)) (slid_at r.0 v j r.2.node r.2.slide))
+        member_any (λ s. strand_gives s (v + j) (further_end j first)) strands r.0 r.1 (and_from (in_span r.0.span (v + j)) (is_slid r.0.node r.0.slide (v + j) (further_end j first)) (in_from r.0.span (v + j) (omega arith) (omega arith)) (slid_at r.0 v j r.2.node r.2.slide))
 
-    module _ (maximal : All (IsMaximal (λ a y. strands_give strands a y)) strands) (all : (j : ℕ) → j < size → strands_give strands (v + j) (moved j first) ≡ true) where
+    module _ (maximal : All (IsMaximal (λ a y. strands_give strands a y)) strands) (all : (j : ℕ) → j < size → strands_give strands (v + j) (further_end j first) ≡ true) where
       cases_lt : (m n : ℕ) → m ≤ n → (m < n) ⊎ (m ≡ n)
       cases_lt m n l = grind arith
 
@@ -256,16 +256,16 @@ module _ (first : End) (size : ℕ) where
             | inl k ↦ omega arith
             | inr k ↦ (
                 let at : v + suc j ≡ s.span.hi + 1 = omega arith in
-                let none : strands_give strands (v + suc j) (moved (suc j) first) ≡ false = member_of_all (IsMaximal (λ a y. strands_give strands a y)) strands s maximal m (v + suc j) (moved (suc j) first) (slid_at s v (suc j) node slide) (inl at) in
+                let none : strands_give strands (v + suc j) (further_end (suc j) first) ≡ false = member_of_all (IsMaximal (λ a y. strands_give strands a y)) strands s maximal m (v + suc j) (further_end (suc j) first) (slid_at s v (suc j) node slide) (inl at) in
                 absurd (false≢true (sym none ∙ all (suc j) l))
                 )
           ]
 
       led_found : 1 ≤ size → are_led first size strands v ≡ true
       led_found some =
-          let r = any_member (λ s. strand_gives s (v + 0) (moved 0 first)) strands (all 0 (omega arith)) in
+          let r = any_member (λ s. strand_gives s (v + 0) (further_end 0 first)) strands (all 0 (omega arith)) in
           let s : Strand = r.0 in
-          let p = and_parts (in_span s.span (v + 0)) (slid s.node s.slide (v + 0) (moved 0 first)) r.2 in
+          let p = and_parts (in_span s.span (v + 0)) (is_slid s.node s.slide (v + 0) (further_end 0 first)) r.2 in
           let q = and_parts (nat_eq s.node first.node) (nat_eq (s.slide + (v + 0)) ((first.base + 0) + TOP)) p.1 in
           let node : s.node ≡ first.node = eqb-true s.node first.node q.0 in
           let at : s.slide + (v + 0) ≡ (first.base + 0) + TOP = eqb-true (s.slide + (v + 0)) ((first.base + 0) + TOP) q.1 in
@@ -284,7 +284,7 @@ module _ (net : List NodeDecl) (nodes : List Reach) (node : ℕ) (levels : List 
     at_lo : are_led first size strands s.span.lo ≡ true
     at_lo = sym (begun s.span.lo) ∙ member_any (λ t. nat_eq t.span.lo s.span.lo) led s ((are_alone s).0 m).0 (eq-eqb s.span.lo s.span.lo refl)
 
-    place_to : (j : ℕ) (w : End) → j < size → ResolvesFrom net node (s.span.lo + j) w → moved j first ≡ w
+    place_to : (j : ℕ) (w : End) → j < size → ResolvesFrom net node (s.span.lo + j) w → further_end j first ≡ w
     place_to j w l r =
         let in_all : s.span.lo + size ≤ TOP + 1 = led_within first size strands s.span.lo at_lo in
         let long : s.span.hi + 1 ≡ s.span.lo + size = whole.long in
@@ -295,11 +295,11 @@ module _ (net : List NodeDecl) (nodes : List Reach) (node : ℕ) (levels : List 
         let to : first.base + j ≡ w.base = omega arith in
         λ i. record { node = (sym whole.node ∙ g.node) i; base = to i }
 
-    place_from : (j : ℕ) (w : End) → j < size → moved j first ≡ w → ResolvesFrom net node (s.span.lo + j) w
+    place_from : (j : ℕ) (w : End) → j < size → further_end j first ≡ w → ResolvesFrom net node (s.span.lo + j) w
     place_from j w l e =
         let in_all : s.span.lo + size ≤ TOP + 1 = led_within first size strands s.span.lo at_lo in
-        let given_near : segs_give near (s.span.lo + j) (moved j first) ≡ true = sym (same (s.span.lo + j) (moved j first)) ∙ led_gives first size strands s.span.lo at_lo j l in
-        subst (λ (y : End). ResolvesFrom net node (s.span.lo + j) y) e ((near_is (s.span.lo + j) (moved j first) (omega arith)).0 given_near).0
+        let given_near : segs_give near (s.span.lo + j) (further_end j first) ≡ true = sym (same (s.span.lo + j) (further_end j first)) ∙ led_gives first size strands s.span.lo at_lo j l in
+        subst (λ (y : End). ResolvesFrom net node (s.span.lo + j) y) e ((near_is (s.span.lo + j) (further_end j first) (omega arith)).0 given_near).0
 
     whole_of : seg_gives s a z ≡ true → ResolvesWhole net node first size a z
     whole_of e =
@@ -321,10 +321,10 @@ module _ (net : List NodeDecl) (nodes : List Reach) (node : ℕ) (levels : List 
         }
 
   module _ (r : ResolvesWhole net node first size a z) where
-    given_each : (j : ℕ) → j < size → strands_give strands (r.v + j) (moved j first) ≡ true
+    given_each : (j : ℕ) → j < size → strands_give strands (r.v + j) (further_end j first) ≡ true
     given_each j l =
         let in_all : r.v + size ≤ TOP + 1 = r.within in
-        same (r.v + j) (moved j first) ∙ (near_is (r.v + j) (moved j first) (omega arith)).1 ((r.each j (moved j first) l).1 refl, (j, l, refl))
+        same (r.v + j) (further_end j first) ∙ (near_is (r.v + j) (further_end j first) (omega arith)).1 ((r.each j (further_end j first) l).1 refl, (j, l, refl))
 
     alone_at : (s : Seg) → IsStretch first size s → s.span.lo ≡ r.v → IsAlone nodes levels s
     alone_at s st lo b w e =
@@ -335,7 +335,7 @@ module _ (net : List NodeDecl) (nodes : List Reach) (node : ℕ) (levels : List 
         let long : s.span.hi + 1 ≡ s.span.lo + size = st.long in
         let at : s.span.lo ≡ r.v = lo in
         let place : b ≡ r.v + (b - r.v) = omega arith in
-        let named : moved (b - r.v) first ≡ w = (r.each (b - r.v) w (omega arith)).0 (subst (λ n. ResolvesFrom net node n w) place ((shown b w (omega arith)).0 p.1)) in
+        let named : further_end (b - r.v) first ≡ w = (r.each (b - r.v) w (omega arith)).0 (subst (λ n. ResolvesFrom net node n w) place ((shown b w (omega arith)).0 p.1)) in
         let base : s.base ≡ first.base = st.base in
         let same_base : first.base + (b - r.v) ≡ w.base = ap (λ (y : End). y.base) named in
         gives s b w (record { lo = from; hi = to; node = st.node ∙ ap (λ (y : End). y.node) named; base = omega arith })

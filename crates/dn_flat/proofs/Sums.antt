@@ -17,9 +17,9 @@ use Rattle.dn_net.specs.declared.node.Name.{Name}
 use Rattle.dn_net.specs.declared.node.NodeDecl.{NodeDecl}
 use Rattle.dn_net.specs.Decode.{Step, is_accepted, is_stop}
 use Rattle.dn_net.proofs.Chains.{chain_join}
+use Rattle.dn_walk.specs.Ends.{end_of, name_of_end}
 use Rattle.dn_flat.specs.declared.reach.Reach.{Reach}
 use Rattle.dn_flat.specs.Stages.{EndsBefore, GoesIn, AreReaches}
-use Rattle.dn_flat.specs.Views.{name_of_end, end_of}
 use Rattle.dn_flat.proofs.Chains.{parted, before_sum}
 
 module _ (net : List NodeDecl) (j k node a : ℕ) (z : End) where

@@ -21,9 +21,9 @@ use Rattle.dn_net.specs.Walks.{Choice, Follows, moved_name}
 use Rattle.dn_net.proofs.Choices.{chain_is_walk}
 use Rattle.dn_net.proofs.Legs.{leads_within}
 use Rattle.dn_net.proofs.Steps.{node_at}
+use Rattle.dn_walk.specs.Ends.{name_of_end}
 use Rattle.dn_flat.specs.Levels.{levels_give}
 use Rattle.dn_flat.specs.Stages.{GoesIn}
-use Rattle.dn_flat.specs.Views.{name_of_end}
 
 ends_there : (count : ℕ) (es : List End) → ((e : End) → Named e es → e.node < count) → list_all (λ e. nat_lt e.node count) es ≡ true
 ends_there count [] f = refl

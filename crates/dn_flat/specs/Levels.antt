@@ -4,17 +4,18 @@ use Rattle.std.specs.List.{list_all, list_any}
 use Rattle.dn_interval.specs.declared.row.End.{End}
 use Rattle.dn_interval.specs.declared.row.Row.{Row}
 use Rattle.dn_interval.specs.declared.span.TheConstants.{TOP}
-use Rattle.dn_interval.specs.Rows.{ends_within, moved}
+use Rattle.dn_interval.specs.Rows.{ends_within, further_end}
 use Rattle.dn_interval.specs.Strands.{rows_give}
 use Rattle.dn_interval.specs.Onward.{gives_by}
 use Rattle.dn_net.specs.declared.node.NodeDecl.{NodeDecl}
 use Rattle.dn_net.specs.Chain.{ReachesWithin}
 use Rattle.dn_net.specs.Decode.{Step, step_limit}
+use Rattle.dn_walk.specs.Ends.{name_of_end}
 use Rattle.dn_flat.specs.declared.levels.Levels.{Levels}
 use Rattle.dn_flat.specs.declared.reach.Reach.{Reach}
 use Rattle.dn_flat.specs.Onward.{levels_lead}
 use Rattle.dn_flat.specs.Stages.{AreReaches, StageRows}
-use Rattle.dn_flat.specs.Views.{name_of_end, ResolvesFrom, StopsFrom}
+use Rattle.dn_flat.specs.Views.{ResolvesFrom, StopsFrom}
 
 -- one of the levels gives the name to the address
 abbrev pub levels_give : List (List Row) → ℕ → End → Bool
@@ -76,7 +77,7 @@ shows flats node a z = levels_show flats.stage.nodes (reached_of (slice_get flat
 
 -- the name is one of so many from one on
 abbrev pub IsNear : End → ℕ → End → Type 0
-IsNear first size z = (i : ℕ) × (i < size) × (z ≡ moved i first)
+IsNear first size z = (i : ℕ) × (i < size) × (z ≡ further_end i first)
 
 -- the address of the node resolves to the name, which is one of them
 abbrev pub NearFrom : List NodeDecl → ℕ → End → ℕ → ℕ → End → Type 0
@@ -91,5 +92,5 @@ pub record ResolvesWhole (net : List NodeDecl) (node : ℕ) (first : End) (size 
   pub below : i < size
   pub within : v + size ≤ TOP + 1
   pub from : a ≡ v + i
-  pub to : z ≡ moved i first
-  pub each : (j : ℕ) (w : End) → j < size → ResolvesFrom net node (v + j) w ↔ (moved j first ≡ w)
+  pub to : z ≡ further_end i first
+  pub each : (j : ℕ) (w : End) → j < size → ResolvesFrom net node (v + j) w ↔ (further_end j first ≡ w)

@@ -8,9 +8,10 @@ use Rattle.dn_net.specs.declared.node.Name.{Name}
 use Rattle.dn_net.specs.declared.node.NodeDecl.{NodeDecl}
 use Rattle.dn_net.specs.Chain.{IsChain}
 use Rattle.dn_net.specs.Decode.{Step, is_accepted, is_stop}
+use Rattle.dn_walk.specs.Ends.{name_of_end}
 use Rattle.dn_flat.specs.declared.flat.Flat.{Flat}
 use Rattle.dn_flat.specs.declared.reach.Reach.{Reach}
-use Rattle.dn_flat.specs.Views.{name_of_end, ResolvesFrom, StopsFrom}
+use Rattle.dn_flat.specs.Views.{ResolvesFrom, StopsFrom}
 
 -- reached in fewer than so many steps
 abbrev pub ReachesBefore : {X : Type 0} → (X → X → Type 0) → ℕ → X → X → Type 0

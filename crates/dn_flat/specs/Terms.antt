@@ -4,4 +4,4 @@ pub use Rattle.dn_flat.specs.Levels.{AreFlats, AreLevels, AreLevelsBelow, AreSto
 pub use Rattle.dn_flat.specs.Onward.{has_rows, leads_by, levels_lead, reach_leads, seg_leads, segs_lead}
 pub use Rattle.dn_flat.specs.Stages.{AreReaches, GoesIn, IsDone, IsFlat, IsLedBy, IsLedTo, IsReach, IsStage}
 pub use Rattle.dn_flat.specs.Stretches.{GivesAll, IsAlone, IsStretch, are_led, begins, is_led, is_part}
-pub use Rattle.dn_flat.specs.Views.{ResolvesFrom, StopsFrom, ViewRowsAreNormal, name_of_end}
+pub use Rattle.dn_flat.specs.Views.{ResolvesFrom, StopsFrom, ViewRowsAreNormal}

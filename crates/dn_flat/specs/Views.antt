@@ -3,18 +3,10 @@ use Rattle.std.specs.Prelude.{ℕ, ◌≤◌, ◌↔◌, List, map}
 use Rattle.dn_interval.specs.declared.row.End.{End}
 use Rattle.dn_interval.specs.declared.span.TheConstants.{TOP}
 use Rattle.dn_interval.specs.Listed.{Seen, listed_rows, SeenApart, SeenGive}
-use Rattle.dn_net.specs.declared.node.Name.{Name}
 use Rattle.dn_net.specs.declared.node.NodeDecl.{NodeDecl}
 use Rattle.dn_net.specs.Decode.{Resolves, StopsAt}
 use Rattle.dn_net.specs.Names.{resolved_names}
-
--- the name that an end of a row is
-abbrev pub name_of_end : End → Name
-name_of_end e = record { node = e.node; addr = e.base }
-
--- a name, as rows have it
-abbrev pub end_of : Name → End
-end_of x = record { node = x.node; base = x.addr }
+use Rattle.dn_walk.specs.Ends.{end_of, name_of_end}
 
 -- the address of the node resolves to the name
 abbrev pub ResolvesFrom : List NodeDecl → ℕ → ℕ → End → Type 0

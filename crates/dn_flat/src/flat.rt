@@ -33,6 +33,6 @@ pub fn flatten(alloc: Global, net: &Net, walks: &WalkTable, node: u16) -> Result
     ensures within { IfOk result (λ flat. IsTrue (ends_within (length net.now) flat.accepts)) }
     ensures stops_within { IfOk result (λ flat. IsTrue (ends_within (length net.now) flat.stops)) }
 {
-    let stage = first_stage(alloc, net, walks.accepted())?;
+    let stage = first_stage(alloc, net, walks.accepted_by_node())?;
     stage.flat(alloc, net, node)
 }

@@ -88,7 +88,7 @@ impl Flats {
     }
 
     /// The accepted names to which the addresses of a node come, as segments.
-    pub fn accepted(&self, alloc: Global, node: u16) -> Result<Vec<Seg>, OutOfMemory>
+    pub fn accepted_segs(&self, alloc: Global, node: u16) -> Result<Vec<Seg>, OutOfMemory>
         requires { node < length self.now.nodes }
         ensures { IfOk result (λ segs. (a : ℕ) (z : End) → segs_give segs.items a z
             ≡ shows self.now node a z) }
@@ -103,7 +103,7 @@ impl Flats {
         ensures { IfOk result (λ rows. (net : List NodeDecl) → AreFlats net self.now
             → AreNormal (ResolvesFrom net node) rows) }
     {
-        let segs = self.accepted(alloc, node)?;
+        let segs = self.accepted_segs(alloc, node)?;
         Rows::normal(alloc, &segs)
     }
 
@@ -142,7 +142,7 @@ pub fn flatten_all(alloc: Global, net: &Net, walks: &WalkTable) -> Result<Flats,
     requires { AreWalksOf net.now walks.now }
     ensures { IfOk result (λ flats. AreFlats net.now flats) }
 {
-    let stage = first_stage(alloc, net, walks.accepted())?;
+    let stage = first_stage(alloc, net, walks.accepted_by_node())?;
     let mut nodes = Shared::new(alloc);
     for node in 0..net.nodes() {
         add(alloc, net, &stage, &mut nodes, node)?;

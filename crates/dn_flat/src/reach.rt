@@ -8,7 +8,7 @@ ghost use Rattle.dn_interval.specs.Terms.{ends_within, has, in_span, seg_gives, 
 ghost use Rattle.dn_net.specs.declared.node.NodeDecl.{NodeDecl};
 ghost use Rattle.dn_net.specs.Terms.{KeepsNodeRules, is_accepted, is_stop};
 ghost use Rattle.dn_walk.specs.declared.leg.Leg.{Leg};
-ghost use Rattle.dn_walk.specs.Terms.{told_legs};
+ghost use Rattle.dn_walk.specs.Terms.{bare_legs};
 ghost use Rattle.dn_flat.specs.Terms.{AreReaches, IsLedBy, IsLedTo, IsReach, is_same, leg_gives, legs_give, stays};
 
 use crate::flat::Flat;
@@ -70,7 +70,7 @@ pub(crate) fn first_reach(
     requires there { node < length net.now }
     requires accepted { (a : ℕ) → has accepted.now a
         ≡ is_accepted net.now (record { node = node; addr = a }) }
-    requires legs { option_map told_legs (slice_get net.now node) ≡ Some legs.now }
+    requires legs { option_map bare_legs (slice_get net.now node) ≡ Some legs.now }
     ensures { IfOk result (λ reach. IsReach net.now 1 node reach) }
 {
     let found = Found {

@@ -18,7 +18,7 @@ use Rattle.dn_placement.specs.declared.request.Request.{Request}
 use Rattle.dn_book.specs.declared.grant.Grant.{Grant}
 use Rattle.dn_book.specs.Book.{IsFaithful, IsSound, has_id, slots_of}
 use Rattle.dn_book.specs.Laws.{IsGrantFor}
-use Rattle.dn_grant.specs.Grant.{NoAddition, grant_at}
+use Rattle.dn_grant.specs.Grant.{NoAddition, grant_of_request}
 use Rattle.dn_grant.specs.Refusal.{id_used, no_agent, no_target, book_full, grant_refusal, is_target_at, refusal_by, refused_address}
 use Rattle.dn_grant.proofs.Nearest.{accepted_within}
 
@@ -80,7 +80,7 @@ allowed_within net book id rq is = accepted_within (slice_get net rq.node) rq.ba
 -- its grant at the first admissible placement may come into the book
 pub allowed_grant : (net : List NodeDecl) (book : List Grant) (id : ℕ) (rq : Request) (p : Place) →
     grant_refusal net book id rq ≡ None → IsTrue (are_rights rq.rights) →
-    IsFirst net (slots_of net book) rq None p → IsGrantFor net book (grant_at id rq p)
+    IsFirst net (slots_of net book) rq None p → IsGrantFor net book (grant_of_request id rq p)
 allowed_grant net book id rq p none rights first =
     let is = allowed_is net book id rq none in
     record { few = is.few; new = is.new; agent = is.agent; rights = rights; placed = first.suited.is_placement }
@@ -88,10 +88,10 @@ allowed_grant net book id rq p none rights first =
 -- with that grant a faithful book stays so
 pub still_faithful : (net : List NodeDecl) (book next : List Grant) (id : ℕ) (rq : Request) (p : Place) →
     IsLegalNet net → IsSound net book → grant_refusal net book id rq ≡ None → IsTrue (are_rights rq.rights) →
-    IsFirst net (slots_of net book) rq None p → next ≡ book ++ grant_at id rq p ∷ [] →
+    IsFirst net (slots_of net book) rq None p → next ≡ book ++ grant_of_request id rq p ∷ [] →
     IsFaithful net book → IsFaithful net next
 still_faithful net book next id rq p legal sound none rights first appended faithful =
-    let keeps = grant_keeps_book net book (grant_at id rq p) legal sound (allowed_grant net book id rq p none rights first) in
+    let keeps = grant_keeps_book net book (grant_of_request id rq p) legal sound (allowed_grant net book id rq p none rights first) in
     subst (λ (b : List Grant). IsFaithful net b) (sym appended) (keeps.1 faithful first.suited.admissible)
 
 -- where no placement is admissible, no addition gives one address

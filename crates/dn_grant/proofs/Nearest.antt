@@ -7,7 +7,7 @@ use Rattle.dn_net.specs.declared.node.Block.{Block}
 use Rattle.dn_net.specs.declared.node.NodeDecl.{NodeDecl}
 use Rattle.dn_net.specs.Decode.{top, in_some_block, is_accepted_at}
 use Rattle.dn_net.proofs.Gaps.{has_member, member_has}
-use Rattle.dn_grant.specs.Accepted.{behind, nearer, nearest}
+use Rattle.dn_grant.specs.Accepted.{address_behind, nearer_address, nearest_address}
 use Rattle.dn_grant.specs.Refusal.{refused_address, unaccepted_from}
 
 -- an address past the base that is not accepted, at most one past the last
@@ -18,36 +18,36 @@ pub record IsNear (n : Option NodeDecl) (base first : ℕ) : Type 0 where
 
 -- the address behind the block is not past the base, or not before the other address, or accepted
 abbrev pub Passed : Option NodeDecl → ℕ → ℕ → Block → Type 0
-Passed n base first b = base < behind b → behind b < first → is_accepted_at (behind b) n ≡ true
+Passed n base first b = base < address_behind b → address_behind b < first → is_accepted_at (address_behind b) n ≡ true
 
 -- what one block makes of an address
 pub record IsNearer (n : Option NodeDecl) (base first : ℕ) (b : Block) : Type 0 where
-  pub near : IsNear n base (nearer n base first b)
-  pub less : nearer n base first b ≤ first
-  pub passed : Passed n base (nearer n base first b) b
+  pub near : IsNear n base (nearer_address n base first b)
+  pub less : nearer_address n base first b ≤ first
+  pub passed : Passed n base (nearer_address n base first b) b
 
 pub nearer_is : (n : Option NodeDecl) (base first : ℕ) (b : Block) → IsNear n base first →
     IsNearer n base first b
 nearer_is n base first b near =
-    go (nat_lt base (behind b)) refl (nat_lt (behind b) first) refl (is_accepted_at (behind b) n) refl
+    go (nat_lt base (address_behind b)) refl (nat_lt (address_behind b) first) refl (is_accepted_at (address_behind b) n) refl
   where
-    kept : nearer n base first b ≡ first → Passed n base first b → IsNearer n base first b
+    kept : nearer_address n base first b ≡ first → Passed n base first b → IsNearer n base first b
     kept e p = record {
       near = subst (λ f. IsNear n base f) (sym e) near;
       less = subst (λ f. f ≤ first) (sym e) (omega arith);
       passed = subst (λ f. Passed n base f b) (sym e) p;
     }
 
-    taken : nearer n base first b ≡ behind b → base < behind b → behind b < first →
-        is_accepted_at (behind b) n ≡ false → IsNearer n base first b
+    taken : nearer_address n base first b ≡ address_behind b → base < address_behind b → address_behind b < first →
+        is_accepted_at (address_behind b) n ≡ false → IsNearer n base first b
     taken e l m u = record {
       near = subst (λ f. IsNear n base f) (sym e) (record { past = l; within = (let w = near.within in omega arith); unaccepted = u });
       less = subst (λ f. f ≤ first) (sym e) (omega arith);
       passed = subst (λ f. Passed n base f b) (sym e) (λ p q. absurd (omega arith));
     }
 
-    go : (s : Bool) → nat_lt base (behind b) ≡ s → (t : Bool) → nat_lt (behind b) first ≡ t →
-        (u : Bool) → is_accepted_at (behind b) n ≡ u → IsNearer n base first b
+    go : (s : Bool) → nat_lt base (address_behind b) ≡ s → (t : Bool) → nat_lt (address_behind b) first ≡ t →
+        (u : Bool) → is_accepted_at (address_behind b) n ≡ u → IsNearer n base first b
     go false es t et u eu = kept (rw es refl) (λ p q. absurd (true≢false (sym (lt-ltb _ _ p) ∙ es)))
     go true es false et u eu = kept (rw (es, et) refl) (λ p q. absurd (true≢false (sym (lt-ltb _ _ q) ∙ et)))
     go true es true et true eu = kept (rw (es, et, eu) refl) (λ p q. eu)
@@ -60,22 +60,22 @@ passed_less n base first less b l p q r = p q (omega arith)
 
 -- what all blocks make of an address
 pub record IsNearest (n : Option NodeDecl) (base first : ℕ) (bs : List Block) : Type 0 where
-  pub near : IsNear n base (nearest n base first bs)
-  pub less : nearest n base first bs ≤ first
-  pub passed : (b : Block) → Member b bs → Passed n base (nearest n base first bs) b
+  pub near : IsNear n base (nearest_address n base first bs)
+  pub less : nearest_address n base first bs ≤ first
+  pub passed : (b : Block) → Member b bs → Passed n base (nearest_address n base first bs) b
 
 pub nearest_is : (n : Option NodeDecl) (base first : ℕ) (bs : List Block) → IsNear n base first →
     IsNearest n base first bs
 nearest_is n base first [] near = record { near = near; less = omega arith; passed = λ b m. absurd m }
 nearest_is n base first (b ∷ bs) near =
     let one = nearer_is n base first b near in
-    let rest = nearest_is n base (nearer n base first b) bs one.near in
-    let last = nearest n base (nearer n base first b) bs in
+    let rest = nearest_is n base (nearer_address n base first b) bs one.near in
+    let last = nearest_address n base (nearer_address n base first b) bs in
     record {
       near = rest.near;
       less = (let l = rest.less in let m = one.less in omega arith);
       passed = λ c m. elim m [
-        | inl e ↦ subst (λ d. Passed n base last d) e (passed_less n base (nearer n base first b) last b rest.less one.passed)
+        | inl e ↦ subst (λ d. Passed n base last d) e (passed_less n base (nearer_address n base first b) last b rest.less one.passed)
         | inr m' ↦ rest.passed c m'
       ];
     }
@@ -101,7 +101,7 @@ all_before bs n base first same here low within passed (suc k) l =
       | inl more ↦ sym (same (a + 1) (omega arith)) ∙ member_has (a + 1) bs b m (omega arith) (omega arith)
       | inr last ↦ (
           let whole : min b.hi top ≡ b.hi = min-eq_left (omega arith) in
-          let e : behind b ≡ a + 1 = ap (λ h. h + 1) whole ∙ omega arith in
+          let e : address_behind b ≡ a + 1 = ap (λ h. h + 1) whole ∙ omega arith in
           subst (λ x. is_accepted_at x n ≡ true) e (passed b m (subst (λ x. base < x) (sym e) (omega arith)) (subst (λ x. x < first) (sym e) l)))
     ]
 
@@ -133,13 +133,13 @@ pub record IsFirstUnaccepted (n : Option NodeDecl) (base first : ℕ) : Type 0 w
 -- the nearest of those behind the blocks of a node that accepts the base
 pub nearest_is_first : (n : Option NodeDecl) (bs : List Block) (base : ℕ) →
     option_map (λ d. d.accepts) n ≡ Some bs → is_accepted_at base n ≡ true →
-    IsFirstUnaccepted n base (nearest n base (top + 1) bs)
+    IsFirstUnaccepted n base (nearest_address n base (top + 1) bs)
 nearest_is_first n bs base e here =
     let low = accepted_low n base here in
     let start : IsNear n base (top + 1) =
     record { past = omega arith; within = omega arith; unaccepted = past_top n } in
     let last = nearest_is n base (top + 1) bs start in
-    let first = nearest n base (top + 1) bs in
+    let first = nearest_address n base (top + 1) bs in
     record {
       from = (let p = last.near.past in omega arith);
       accepted = λ a l m.

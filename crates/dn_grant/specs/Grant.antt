@@ -14,8 +14,8 @@ use Rattle.dn_book.specs.Writes.{AreAdded, grant_events}
 use Rattle.dn_grant.specs.Refusal.{GrantRefusal, no_placement, grant_refusal}
 
 -- the grant of a request at a placement
-abbrev pub grant_at : ℕ → Request → Place → Grant
-grant_at id rq p = record { id = id; request = rq; placement = p }
+abbrev pub grant_of_request : ℕ → Request → Place → Grant
+grant_of_request id rq p = record { id = id; request = rq; placement = p }
 
 -- no refusal holds, and the placement is the first that is admissible
 pub record IsPlaced (net : List NodeDecl) (book : List Grant) (id : ℕ) (rq : Request) (p : Place)
@@ -40,7 +40,7 @@ pub record IsGrantMade (net : List NodeDecl) (book : List Grant) (id : ℕ) (rq 
   pub place : Place
   pub placed : IsPlaced net book id rq place
   pub address : v ≡ place.v
-  pub appended : next ≡ book ++ grant_at id rq place ∷ []
+  pub appended : next ≡ book ++ grant_of_request id rq place ∷ []
 
 -- the refusal is the first of the request that holds; that no placement is admissible is the last
 abbrev pub IsGrantRefused : List NodeDecl → List Grant → ℕ → Request → GrantRefusal → Type 0
@@ -49,16 +49,16 @@ IsGrantRefused net book id rq why = grant_refusal net book id rq ≡ Some why
 
 -- A turn of `grant`: the first refusal that holds, and the book stays; or the agent's address of the
 -- first admissible placement, and the grant is appended.
-abbrev pub IsGrantTurn : List NodeDecl → List Grant → ℕ → Request → Result ℕ GrantRefusal →
+abbrev pub IsGrantAnswer : List NodeDecl → List Grant → ℕ → Request → Result ℕ GrantRefusal →
     List Grant → Type 0
-IsGrantTurn net book id rq (Ok v) next = IsGrantMade net book id rq v next
-IsGrantTurn net book id rq (Err why) next = IsGrantRefused net book id rq why × (next ≡ book)
+IsGrantAnswer net book id rq (Ok v) next = IsGrantMade net book id rq v next
+IsGrantAnswer net book id rq (Err why) next = IsGrantRefused net book id rq why × (next ≡ book)
 
 -- What a call of `grant` comes to: a turn; or it fails, where no refusal holds that needs no search,
 -- and the book stays.
 abbrev pub IsGrantOutcome : List NodeDecl → List Grant → ℕ → Request → Option (Result ℕ GrantRefusal) →
     List Grant → Type 0
-IsGrantOutcome net book id rq (Some made) next = IsGrantTurn net book id rq made next
+IsGrantOutcome net book id rq (Some made) next = IsGrantAnswer net book id rq made next
 IsGrantOutcome net book id rq None next = (grant_refusal net book id rq ≡ None) × (next ≡ book)
 
 -- the events of a grant at the first admissible placement were added to a log: all of them, or those
@@ -68,4 +68,4 @@ pub record IsGrantLogged (net : List NodeDecl) (kinds : List Meaning) (book : Li
     : Type 0 where
   pub place : Place
   pub placed : IsPlaced net book id rq place
-  pub added : AreAdded (grant_events net kinds book cleared (grant_at id rq place)) failed log log'
+  pub added : AreAdded (grant_events net kinds book cleared (grant_of_request id rq place)) failed log log'

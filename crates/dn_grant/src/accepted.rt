@@ -3,7 +3,7 @@
 ghost use Rattle.std.specs.Prelude.{◌≡◌, ℕ, ◌≤◌, ◌<◌, true, false, length, slice_get};
 ghost use Rattle.std.specs.List.{All};
 ghost use Rattle.dn_net.specs.Terms.{KeepsRules, is_accepted_at};
-ghost use Rattle.dn_grant.specs.Terms.{nearer, refused_address};
+ghost use Rattle.dn_grant.specs.Terms.{nearer_address, refused_address};
 
 use dn_net::net::Net;
 use dn_net::node::{Block, Name, TOP};
@@ -42,17 +42,17 @@ fn first_unaccepted(net: &Net, node: u16, base: u64) -> u64
     }
     let mut first = TOP + 1;
     for block in net.accepts(node) {
-        first = nearer(net, node, base, *block, first);
+        first = nearer_address(net, node, base, *block, first);
     }
     first
 }
 
 /// The address behind a block, where it is past the base and before the other address and the node
 /// does not accept it; else the other address.
-fn nearer(net: &Net, node: u16, base: u64, block: Block, first: u64) -> u64
+fn nearer_address(net: &Net, node: u16, base: u64, block: Block, first: u64) -> u64
     requires rules { All KeepsRules net.now }
     requires there { node < length net.now }
-    ensures { result ≡ nearer (slice_get net.now node) base first block }
+    ensures { result ≡ nearer_address (slice_get net.now node) base first block }
 {
     let behind = block.hi.min(TOP) + 1;
     if base < behind && behind < first && !is_accepted(net, node, behind) {

@@ -8,16 +8,16 @@ use Rattle.dn_base.proofs.Orders.{ltb-false, le-ltb}
 use Rattle.dn_net.specs.declared.node.NodeDecl.{NodeDecl}
 use Rattle.dn_net.specs.declared.node.Unit.{Unit as UnitPart}
 use Rattle.dn_net.proofs.Steps.{unit_is}
-use Rattle.dn_kind.specs.Kind.{Meaning, is_plain}
+use Rattle.dn_kind.specs.Kind.{Meaning, is_plain_unit_shape}
 use Rattle.dn_kind.specs.Tables.{slot_words, record_within, record_spelled, record_of_unit, record_held}
 use Rattle.dn_kind.specs.declared.shape.Shape.{Shape}
 use Rattle.dn_kind.specs.Units.{is_shaped, unit_shape}
 use Rattle.dn_tables.proofs.Fresh.{kind_there as shaped_kind, plain_there}
 use Rattle.dn_tables.specs.declared.table.NodeTable.{NodeTable}
-use Rattle.dn_tables.specs.Set.{unit_in, units_of, words_in, words_of, fits_by, fits_kinds, is_wide}
+use Rattle.dn_tables.specs.Set.{unit_in, units_of, words_in, words_of, fits_by, fits_kinds, is_wide, width_by}
 use Rattle.dn_tables.proofs.Kept.{table_of_unit, slot_room}
 use Rattle.dn_base.proofs.Lists.{list_all-at, length-map, slice_get_within}
-use Rattle.dn_image.specs.Image.{count_unit, unit_count, width_by, width_of, word_count, head_bytes, first_words, unit_bytes, units_bytes}
+use Rattle.dn_image.specs.Image.{count_unit, unit_count, width_of, word_count, head_bytes, first_words, unit_bytes, units_bytes}
 use Rattle.dn_image.specs.Reading.{Field, exactly, word_field, header_fields, unit_fields, units_fields, image_fields, broken_in, broken_image, node_size, nodes_size, node_words, words_from, record_by}
 use Rattle.dn_image.specs.Bytes.{word_bytes, words_spelled}
 use Rattle.dn_image.proofs.Numbers.{length_words, slot_spelled}
@@ -307,7 +307,7 @@ first_small slot width n l e most =
 pub few_slots : (kinds : List Meaning) (u : UnitPart) → IsTrue (is_shaped kinds u) → u.slots ≤ 262144
 few_slots kinds u s = by (unit_shape u) (plain_there kinds u s)
   where
-    by : (s : Shape) → IsTrue (is_plain s) → s.slots ≤ 262144
+    by : (s : Shape) → IsTrue (is_plain_unit_shape s) → s.slots ≤ 262144
     by s p = grind arith
 
 -- the size of an image

@@ -10,7 +10,7 @@ use Rattle.dn_net.specs.declared.node.NodeDecl.{NodeDecl}
 use Rattle.dn_net.specs.declared.node.Unit.{Unit as UnitPart}
 use Rattle.dn_kind.specs.Kind.{Meaning}
 use Rattle.dn_image.specs.Bytes.{AreBytes, word_bytes, words_spelled}
-use Rattle.dn_image.specs.Image.{mark, count_unit, unit_count, word_count, head_bytes, unit_bytes, units_bytes, image_head, image_of, is_version, is_filled, are_filled, ImageWords, IsImageOf}
+use Rattle.dn_image.specs.Image.{image_mark, count_unit, unit_count, word_count, head_bytes, unit_bytes, units_bytes, image_head, image_of, is_version, is_filled, are_filled, ImageWords, IsImageOf}
 use Rattle.dn_image.specs.Reading.{BrokenImage, Field, exactly, word_field, version_field, header_fields, unit_fields, units_fields, broken_in, broken_image, node_size, node_words, words_from, image_words, version_of, reading_by, image_reading}
 use Rattle.dn_image.specs.Reading.BrokenImage.{header, shape}
 use Rattle.dn_image.specs.Laws.{ImageIsRead, ReadIsImage}
@@ -99,7 +99,7 @@ head_right total v net fs rest e =
     let count : List ℕ = little_bytes 2 (unit_count net) in
     let tail : List ℕ = little_bytes 2 v ++ (count ++ rest) in
     let last : Field = exactly count (header 6) in
-    right_field total (exactly mark (header 0)) (version_field ∷ last ∷ fs) (mark ++ tail) (omega arith) (exactly_right mark mark (header 0) refl)
+    right_field total (exactly image_mark (header 0)) (version_field ∷ last ∷ fs) (image_mark ++ tail) (omega arith) (exactly_right image_mark image_mark (header 0) refl)
     ∙ right_field total version_field (last ∷ fs) tail (omega arith) (version_right v (take 2 tail) e (little_number-reads_back 2 v [] (version_small v e)))
     ∙ right_field total last fs (count ++ rest) (omega arith) (exactly_right count count (header 6) refl)
 
@@ -171,10 +171,10 @@ head_back : (total : ℕ) (net : List NodeDecl) (fs : List Field) (bytes : List 
 head_back total net fs bytes all e =
     let count : List ℕ = little_bytes 2 (unit_count net) in
     let last : Field = exactly count (header 6) in
-    let r : IsRight total (exactly mark (header 0)) (version_field ∷ last ∷ fs) bytes = right_first total (exactly mark (header 0)) (version_field ∷ last ∷ fs) bytes e in
+    let r : IsRight total (exactly image_mark (header 0)) (version_field ∷ last ∷ fs) bytes = right_first total (exactly image_mark (header 0)) (version_field ∷ last ∷ fs) bytes e in
     let s : IsRight total version_field (last ∷ fs) (drop 4 bytes) = right_first total version_field (last ∷ fs) (drop 4 bytes) r.later in
     let t : IsRight total last fs (drop 2 (drop 4 bytes)) = right_first total last fs (drop 2 (drop 4 bytes)) s.later in
-    let mark_is : mark ≡ take 4 bytes = exactly_given mark (take 4 bytes) (header 0) r.right in
+    let mark_is : image_mark ≡ take 4 bytes = exactly_given image_mark (take 4 bytes) (header 0) r.right in
     let count_is : count ≡ take 2 (drop 2 (drop 4 bytes)) = exactly_given count (take 2 (drop 2 (drop 4 bytes))) (header 6) t.right in
     let room : 2 ≤ length (drop 4 bytes) = s.there in
     let number : little_number 2 (take 2 (drop 4 bytes)) ≡ version_of bytes = number_of_front 2 (drop 4 bytes) room in
@@ -188,9 +188,9 @@ head_back total net fs bytes all e =
           sym (take-append-drop 4 bytes)
           ∙ ap (λ (l : List ℕ). take 4 bytes ++ l) (sym (take-append-drop 2 (drop 4 bytes)) ∙ ap (λ (l : List ℕ). take 2 (drop 4 bytes) ++ l) (sym (take-append-drop 2 (drop 2 (drop 4 bytes)))))
           ∙ ap (λ (l : List ℕ). l ++ (take 2 (drop 4 bytes) ++ (take 2 (drop 2 (drop 4 bytes)) ++ drop 2 (drop 2 (drop 4 bytes))))) (sym mark_is)
-          ∙ ap (λ (l : List ℕ). mark ++ (l ++ (take 2 (drop 2 (drop 4 bytes)) ++ drop 2 (drop 2 (drop 4 bytes))))) (sym version_is)
-          ∙ ap (λ (l : List ℕ). mark ++ (little_bytes 2 (version_of bytes) ++ (l ++ drop 2 (drop 2 (drop 4 bytes))))) (sym count_is)
-          ∙ ap (λ (l : List ℕ). mark ++ (little_bytes 2 (version_of bytes) ++ (count ++ l))) eight;
+          ∙ ap (λ (l : List ℕ). image_mark ++ (l ++ (take 2 (drop 2 (drop 4 bytes)) ++ drop 2 (drop 2 (drop 4 bytes))))) (sym version_is)
+          ∙ ap (λ (l : List ℕ). image_mark ++ (little_bytes 2 (version_of bytes) ++ (l ++ drop 2 (drop 2 (drop 4 bytes))))) (sym count_is)
+          ∙ ap (λ (l : List ℕ). image_mark ++ (little_bytes 2 (version_of bytes) ++ (count ++ l))) eight;
       later = ap (broken_in total fs) (sym eight) ∙ t.later;
     }
 

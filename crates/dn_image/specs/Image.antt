@@ -7,6 +7,7 @@ use Rattle.dn_net.specs.declared.node.Unit.{Unit as UnitPart}
 use Rattle.dn_kind.specs.declared.rights.Access.TheVariants.{Read, Write}
 use Rattle.dn_kind.specs.Kind.{Meaning}
 use Rattle.dn_kind.specs.Cleared.{words_allowing}
+use Rattle.dn_tables.specs.Set.{width_by}
 use Rattle.dn_image.specs.Bytes.{word_bytes}
 
 -- tables are a list of words for each node, by the node's number; that of a node that is no unit is empty
@@ -26,11 +27,6 @@ abbrev pub unit_count : List NodeDecl → ℕ
 unit_count [] = 0
 unit_count (n ∷ ns) = count_unit n.unit (unit_count ns)
 
--- how many words a record of this kind has
-abbrev pub width_by : Option Meaning → ℕ
-width_by None = 0
-width_by (Some kind) = kind.words
-
 -- how many words a record of the unit has
 abbrev pub width_of : List Meaning → UnitPart → ℕ
 width_of kinds u = width_by (slice_get kinds u.kind)
@@ -41,8 +37,8 @@ word_count kinds None = 0
 word_count kinds (Some u) = u.slots * width_of kinds u
 
 -- the mark of an image, "DNIM"
-abbrev pub mark : List ℕ
-mark = codes "DNIM"
+abbrev pub image_mark : List ℕ
+image_mark = codes "DNIM"
 
 -- the head of a unit: its node in two bytes, the words of a record in one, a byte 0, and its slots in four
 abbrev pub head_of : ℕ → ℕ → ℕ → List ℕ
@@ -65,7 +61,7 @@ units_bytes kinds node (n ∷ ns) words =
 
 -- the head of an image: the mark, the version and the number of units in two bytes each
 abbrev pub image_head : ℕ → List NodeDecl → List ℕ
-image_head version net = mark ++ (little_bytes 2 version ++ little_bytes 2 (unit_count net))
+image_head version net = image_mark ++ (little_bytes 2 version ++ little_bytes 2 (unit_count net))
 
 -- the image of tables in a version; all numbers are little-endian
 abbrev pub image_of : ℕ → List NodeDecl → List Meaning → List (List ℕ) → List ℕ
@@ -107,8 +103,8 @@ pub record IsImageOf (net : List NodeDecl) (kinds : List Meaning) (given : List 
 
 -- the tables of an image: in version 2 its words; in version 1 they have 0 in each slot whose record does not allow both
 -- reading and writing
-abbrev pub tables_of : List NodeDecl → List Meaning → ImageWords → List (List ℕ)
-tables_of net kinds i =
+abbrev pub image_tables : List NodeDecl → List Meaning → ImageWords → List (List ℕ)
+image_tables net kinds i =
     if i.version == 1
     then words_allowing net kinds Write (words_allowing net kinds Read i.words)
     else i.words

@@ -10,7 +10,7 @@ use Rattle.dn_kind.specs.Tables.{record_within}
 use Rattle.dn_image.specs.declared.fault.ImageFault.{ImageFault}
 use Rattle.dn_image.specs.declared.fault.ImageFault.TheVariants.{Short, Header, Shape, Trailing, OutOfMemory}
 use Rattle.dn_image.specs.Bytes.{words_spelled}
-use Rattle.dn_image.specs.Image.{mark, count_unit, unit_count, word_count, head_bytes, is_version, ImageWords}
+use Rattle.dn_image.specs.Image.{image_mark, count_unit, unit_count, word_count, head_bytes, is_version, ImageWords}
 
 -- why bytes are no image of a net: they end at this place, inside a field; the mark (0), the version (4) or the number of
 -- units (6) is another; the head of this number, counted from 0, is not the net's; or bytes follow from this place on
@@ -46,7 +46,7 @@ version_field = record {
 -- the fields before the units: the mark, the version and the number of units
 abbrev pub header_fields : List NodeDecl → List Field
 header_fields net =
-    exactly mark (header 0) ∷ version_field ∷ exactly (little_bytes 2 (unit_count net)) (header 6) ∷ []
+    exactly image_mark (header 0) ∷ version_field ∷ exactly (little_bytes 2 (unit_count net)) (header 6) ∷ []
 
 -- the fields of a unit, whose head has this place among the heads: the head and each word
 abbrev pub unit_fields : List Meaning → ℕ → ℕ → Option UnitPart → List Field
@@ -131,10 +131,10 @@ nodes_size kinds (n ∷ ns) = node_size kinds n.unit + nodes_size kinds ns
 
 -- what is told of fields at the front of the last bytes of so many: nothing is wrong with them and they have this size,
 -- or else the first thing that is wrong, whatever fields follow
-abbrev pub Passes : {X : Type 0} → ℕ → List ℕ → List Field → (X → ℕ) → Result X ImageFault → Type 0
-Passes total rest fields size (Ok x) = (more : List Field) →
+abbrev pub PassesFields : {X : Type 0} → ℕ → List ℕ → List Field → (X → ℕ) → Result X ImageFault → Type 0
+PassesFields total rest fields size (Ok x) = (more : List Field) →
     broken_in total (fields ++ more) rest ≡ broken_in total more (drop (size x) rest)
-Passes total rest fields size (Err e) = (more : List Field) →
+PassesFields total rest fields size (Err e) = (more : List Field) →
     broken_in total (fields ++ more) rest ≡ image_fault_view e
 
 -- the record that the words of a slot spell in a unit of this kind, where the unit can hold it

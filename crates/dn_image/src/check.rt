@@ -5,7 +5,7 @@ ghost use Rattle.std.specs.List.{All};
 ghost use Rattle.std.specs.Option.{option_copied};
 ghost use Rattle.dn_base.specs.Terms.{Answers};
 ghost use Rattle.dn_kind.specs.Terms.{IsLawful, KeepsUnitShape, has_shape};
-ghost use Rattle.dn_image.specs.Terms.{Passes, broken_image, count_unit, header_fields, image_fault_view, reading_by, unit_fields, units_fields, version_of};
+ghost use Rattle.dn_image.specs.Terms.{PassesFields, broken_image, count_unit, header_fields, image_fault_view, reading_by, unit_fields, units_fields, version_of};
 
 use crate::fault::ImageFault;
 use crate::slots::{count_words, record_width};
@@ -48,7 +48,8 @@ fn has_front(bytes: &[u8], front: &[u8]) -> bool
 
 /// The version, where the mark, the version and the number of units are those of an image.
 fn check_header(net: &Net, bytes: &[u8]) -> Result<u16, ImageFault>
-    ensures passes { Passes (length bytes.now) bytes.now (header_fields net.now) (λ _. 8) result }
+    ensures passes { PassesFields (length bytes.now) bytes.now (header_fields net.now) (λ _. 8)
+        result }
     ensures version { IfOk result (λ version. version ≡ version_of bytes.now) }
     ensures whole { IfOk result (λ _. 8 ≤ length bytes.now) }
     ensures memory { result ≢ Err ImageFault.OutOfMemory }
@@ -86,7 +87,7 @@ fn check_heads(net: &Net, kinds: &Kinds, rest: &[u8], total: u64) -> Result<usiz
     requires lawful { All (λ k. IsLawful (meaning (k.vtable, k.value))) kinds.now.list.items }
     requires shaped { KeepsUnitShape (map (λ k. meaning (k.vtable, k.value)) kinds.now.list.items)
         net.now }
-    ensures passes { Passes total rest.now
+    ensures passes { PassesFields total rest.now
         (units_fields (map (λ k. meaning (k.vtable, k.value)) kinds.now.list.items) 0 0 net.now)
         (λ size. size) result }
     ensures whole { IfOk result (λ size. size ≤ length rest.now) }
@@ -116,7 +117,7 @@ fn check_node(
     requires shaped { IsTrue (has_shape
         (map (λ k. meaning (k.vtable, k.value)) kinds.now.list.items)
         (option_copied unit)) }
-    ensures passes { Passes total rest.now
+    ensures passes { PassesFields total rest.now
         (unit_fields (map (λ k. meaning (k.vtable, k.value)) kinds.now.list.items)
         place node (option_copied unit.entry)) (λ size. size) result }
     ensures whole { IfOk result (λ size. size ≤ length rest.now) }

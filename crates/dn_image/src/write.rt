@@ -6,7 +6,7 @@ ghost use Rattle.std.specs.Option.{option_copied};
 ghost use Rattle.byteorder.specs.Endian.{little_bytes};
 ghost use Rattle.dn_kind.specs.Terms.{IsLawful, Meaning};
 ghost use Rattle.dn_tables.specs.Terms.{FitsNet, fits_kinds, unit_in, units_of, words_in, words_of};
-ghost use Rattle.dn_image.specs.Terms.{count_unit, head_of, image, mark, unit_bytes, unit_count, word_bytes, written_version};
+ghost use Rattle.dn_image.specs.Terms.{count_unit, head_of, image, image_mark, unit_bytes, unit_count, word_bytes, written_version};
 
 use crate::slots::record_width;
 use byteorder::{ByteOrder, LittleEndian};
@@ -91,7 +91,7 @@ fn image_size(net: &Net, tables: &TableSet) -> usize
 /// Appends the mark, the version and the number of units.
 fn push_header(out: &mut Vec<u8>, units: u16) -> Result<(), AllocError>
     ensures { OnOk result (out.new.items ≡ out.old.items
-        ++ (mark ++ (little_bytes 2 written_version ++ little_bytes 2 units))) }
+        ++ (image_mark ++ (little_bytes 2 written_version ++ little_bytes 2 units))) }
 {
     let mut header = [0u8; 8];
     header[..4].copy_from_slice(&MARK);

@@ -12,7 +12,7 @@ use Rattle.dn_interval.specs.declared.strand.Strand.{Strand}
 use Rattle.dn_interval.specs.declared.span.Span.{Span}
 use Rattle.dn_interval.specs.declared.span.TheConstants.{TOP}
 use Rattle.dn_interval.specs.Spans.{in_span}
-use Rattle.dn_interval.specs.Strands.{slid, strand_gives, strands_give, strand_cmp, IsMaximal}
+use Rattle.dn_interval.specs.Strands.{is_slid, strand_gives, strands_give, strand_cmp, IsMaximal}
 use Rattle.dn_interval.proofs.Membership.{lo_of, hi_of}
 use Rattle.dn_interval.proofs.Order.{less, equal, rest_sorted}
 
@@ -134,13 +134,13 @@ in_order_from s t (u ∷ us) f p = (comes_on s t u f p.0, p.1)
 
 -- each strand of an ordered list is maximal
 
-pub slid_node : (n d a : ℕ) (y : End) → slid n d a y ≡ true → n ≡ y.node
+pub slid_node : (n d a : ℕ) (y : End) → is_slid n d a y ≡ true → n ≡ y.node
 slid_node n d a y e = eqb-true n y.node (and_parts (nat_eq n y.node) (nat_eq (d + a) (y.base + TOP)) e).0
 
-pub slid_base : (n d a : ℕ) (y : End) → slid n d a y ≡ true → d + a ≡ y.base + TOP
+pub slid_base : (n d a : ℕ) (y : End) → is_slid n d a y ≡ true → d + a ≡ y.base + TOP
 slid_base n d a y e = eqb-true (d + a) (y.base + TOP) (and_parts (nat_eq n y.node) (nat_eq (d + a) (y.base + TOP)) e).1
 
-pub slid_from : (n d a : ℕ) (y : End) → n ≡ y.node → d + a ≡ y.base + TOP → slid n d a y ≡ true
+pub slid_from : (n d a : ℕ) (y : End) → n ≡ y.node → d + a ≡ y.base + TOP → is_slid n d a y ≡ true
 slid_from n d a y e f = and_from (nat_eq n y.node) (nat_eq (d + a) (y.base + TOP)) (eq-eqb n y.node e) (eq-eqb (d + a) (y.base + TOP) f)
 
 -- just before or just behind the strand
@@ -153,22 +153,22 @@ apart_from s t (inr (d, inl l)) e f = absurd (omega arith)
 apart_from s t (inr (d, inr k)) e f = k.1
 
 pub gives_in : (s : Strand) (a : ℕ) (y : End) → strand_gives s a y ≡ true → in_span s.span a ≡ true
-gives_in s a y e = (and_parts (in_span s.span a) (slid s.node s.slide a y) e).0
+gives_in s a y e = (and_parts (in_span s.span a) (is_slid s.node s.slide a y) e).0
 
-gives_slid : (s : Strand) (a : ℕ) (y : End) → strand_gives s a y ≡ true → slid s.node s.slide a y ≡ true
-gives_slid s a y e = (and_parts (in_span s.span a) (slid s.node s.slide a y) e).1
+gives_slid : (s : Strand) (a : ℕ) (y : End) → strand_gives s a y ≡ true → is_slid s.node s.slide a y ≡ true
+gives_slid s a y e = (and_parts (in_span s.span a) (is_slid s.node s.slide a y) e).1
 
-same_slide : (s t : Strand) (a : ℕ) (y : End) → slid s.node s.slide a y ≡ true → slid t.node t.slide a y ≡ true → s.slide ≡ t.slide
+same_slide : (s t : Strand) (a : ℕ) (y : End) → is_slid s.node s.slide a y ≡ true → is_slid t.node t.slide a y ≡ true → s.slide ≡ t.slide
 same_slide s t a y e f = omega (arith, slid_base s.node s.slide a y e, slid_base t.node t.slide a y f)
 
-same_node : (s t : Strand) (a : ℕ) (y : End) → slid s.node s.slide a y ≡ true → slid t.node t.slide a y ≡ true → s.node ≡ t.node
+same_node : (s t : Strand) (a : ℕ) (y : End) → is_slid s.node s.slide a y ≡ true → is_slid t.node t.slide a y ≡ true → s.node ≡ t.node
 same_node s t a y e f = slid_node s.node s.slide a y e ∙ sym (slid_node t.node t.slide a y f)
 
-earlier_none : (s t : Strand) (a : ℕ) (y : End) → Follows s t → slid t.node t.slide a y ≡ true → Beside a t → strand_gives s a y ≡ true → ⊥
+earlier_none : (s t : Strand) (a : ℕ) (y : End) → Follows s t → is_slid t.node t.slide a y ≡ true → Beside a t → strand_gives s a y ≡ true → ⊥
 earlier_none s t a y f e (inl b) g = let h = apart_from s t f (same_node s t a y (gives_slid s a y g) e) (same_slide s t a y (gives_slid s a y g) e) in omega (arith, hi_of s.span a (gives_in s a y g), t.span.ordered)
 earlier_none s t a y f e (inr b) g = let h = apart_from s t f (same_node s t a y (gives_slid s a y g) e) (same_slide s t a y (gives_slid s a y g) e) in omega (arith, hi_of s.span a (gives_in s a y g))
 
-later_none : (s t : Strand) (a : ℕ) (y : End) → Follows s t → slid s.node s.slide a y ≡ true → Beside a s → strand_gives t a y ≡ true → ⊥
+later_none : (s t : Strand) (a : ℕ) (y : End) → Follows s t → is_slid s.node s.slide a y ≡ true → Beside a s → strand_gives t a y ≡ true → ⊥
 later_none s t a y f e (inl b) g = let h = apart_from s t f (same_node s t a y e (gives_slid t a y g)) (same_slide s t a y e (gives_slid t a y g)) in omega (arith, lo_of t.span a (gives_in t a y g))
 later_none s t a y f e (inr b) g = let h = apart_from s t f (same_node s t a y e (gives_slid t a y g)) (same_slide s t a y e (gives_slid t a y g)) in omega (arith, lo_of t.span a (gives_in t a y g), s.span.ordered)
 
@@ -176,14 +176,14 @@ own_none : (s : Strand) (a : ℕ) (y : End) → Beside a s → strand_gives s a 
 own_none s a y (inl b) g = omega (arith, hi_of s.span a (gives_in s a y g))
 own_none s a y (inr b) g = omega (arith, lo_of s.span a (gives_in s a y g))
 
-front_none : (ss : List Strand) (t : Strand) (a : ℕ) (y : End) → AllPrecede ss t → slid t.node t.slide a y ≡ true → Beside a t → strands_give ss a y ≡ true → ⊥
+front_none : (ss : List Strand) (t : Strand) (a : ℕ) (y : End) → AllPrecede ss t → is_slid t.node t.slide a y ≡ true → Beside a t → strands_give ss a y ≡ true → ⊥
 front_none [] t a y p e b g = false≢true g
 front_none (s ∷ ss) t a y p e b g = elim (or_cases (strand_gives s a y) (strands_give ss a y) g) [
   | inl h ↦ earlier_none s t a y p.0 e b h
   | inr h ↦ front_none ss t a y p.1 e b h
 ]
 
-back_none : (s : Strand) (ts : List Strand) (a : ℕ) (y : End) → AllFollow s ts → slid s.node s.slide a y ≡ true → Beside a s → strands_give ts a y ≡ true → ⊥
+back_none : (s : Strand) (ts : List Strand) (a : ℕ) (y : End) → AllFollow s ts → is_slid s.node s.slide a y ≡ true → Beside a s → strands_give ts a y ≡ true → ⊥
 back_none s [] a y p e b g = false≢true g
 back_none s (t ∷ ts) a y p e b g = elim (or_cases (strand_gives t a y) (strands_give ts a y) g) [
   | inl h ↦ later_none s t a y p.0 e b h

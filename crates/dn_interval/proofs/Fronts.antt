@@ -3,8 +3,8 @@ use Rattle.std.proofs.Common.{◌≡◌, ℕ, zero, suc, ◌+◌, ◌-◌, ◌<�
 use Rattle.std.proofs.lemmas.Bool.{and_parts, and_from, cases_lt, false≢true}
 use Rattle.dn_interval.specs.declared.row.End.{End}
 use Rattle.dn_interval.specs.declared.span.TheConstants.{TOP}
-use Rattle.dn_interval.specs.Rows.{Member, moved, Ascending, HasEnds}
-use Rattle.dn_interval.specs.Listed.{Seen, same_ends, in_front, rows_from, listed_rows, SeenParted, SeenApart, SeenGive, ListedRowsAreNormal}
+use Rattle.dn_interval.specs.Rows.{Member, further_end, Ascending, HasEnds}
+use Rattle.dn_interval.specs.Listed.{Seen, same_ends, row_in_front, rows_from, listed_rows, SeenParted, SeenApart, SeenGive, ListedRowsAreNormal}
 use Rattle.dn_interval.proofs.Normal.{moved_none}
 use Rattle.dn_interval.proofs.Listing.{is_same, moved_more, one_list_of_ends}
 
@@ -45,8 +45,8 @@ no_front names a rows n v = record {
 }
 
 -- names that are not moved
-unmoved : (a : ℕ) (es : List End) → map (moved (a - a)) es ≡ es
-unmoved a es = let z : a - a ≡ 0 = omega arith in ap (λ k. map (moved k) es) z ∙ moved_none es
+unmoved : (a : ℕ) (es : List End) → map (further_end (a - a)) es ≡ es
+unmoved a es = let z : a - a ≡ 0 = omega arith in ap (λ k. map (further_end k) es) z ∙ moved_none es
 
 -- the address has a row of its own
 module _ (names : ℕ → List End) (a : ℕ) (es : List End) (rows : List Seen) where
@@ -75,18 +75,18 @@ module _ (names : ℕ → List End) (a : ℕ) (es : List End) (r : Seen) (rows :
   abbrev longer : Seen
   longer = record { lo = a; hi = r.hi; ends = es }
 
-  longer_parted : (rs : List Seen) → r.lo ≡ suc a → r.lo ≤ r.hi → r.ends ≡ map (moved 1) es → SeenParted r rs → SeenParted longer rs
+  longer_parted : (rs : List Seen) → r.lo ≡ suc a → r.lo ≤ r.hi → r.ends ≡ map (further_end 1) es → SeenParted r rs → SeenParted longer rs
   longer_parted [] e o f p = tt
   longer_parted (s ∷ ss) e o f p = λ l n.
       let k : suc (suc r.hi - r.lo) ≡ suc r.hi - a = omega (arith, e, o) in
-      p l (n ∙ ap (λ t. map (moved t) es) (sym k) ∙ sym (moved_more (suc r.hi - r.lo) es) ∙ ap (map (moved (suc r.hi - r.lo))) (sym f))
+      p l (n ∙ ap (λ t. map (further_end t) es) (sym k) ∙ sym (moved_more (suc r.hi - r.lo) es) ∙ ap (map (further_end (suc r.hi - r.lo))) (sym f))
 
-  on : (b : ℕ) → r.lo ≡ suc a → r.ends ≡ map (moved 1) es → suc a ≤ b → map (moved (b - r.lo)) r.ends ≡ map (moved (b - a)) es
+  on : (b : ℕ) → r.lo ≡ suc a → r.ends ≡ map (further_end 1) es → suc a ≤ b → map (further_end (b - r.lo)) r.ends ≡ map (further_end (b - a)) es
   on b e f l =
       let k : suc (b - r.lo) ≡ b - a = omega (arith, e) in
-      ap (map (moved (b - r.lo))) f ∙ moved_more (b - r.lo) es ∙ ap (λ t. map (moved t) es) k
+      ap (map (further_end (b - r.lo))) f ∙ moved_more (b - r.lo) es ∙ ap (λ t. map (further_end t) es) k
 
-  longer_front : names a ≡ es → HasEnds es → Ascending es → r.lo ≡ suc a → r.ends ≡ map (moved 1) es → Made names (suc a) (r ∷ rows) → Made names a (longer ∷ rows)
+  longer_front : names a ≡ es → HasEnds es → Ascending es → r.lo ≡ suc a → r.ends ≡ map (further_end 1) es → Made names (suc a) (r ∷ rows) → Made names a (longer ∷ rows)
   longer_front n h up e f v = record {
     apart = (omega arith, omega (arith, e, v.apart.1), v.apart.2, h, up, longer_parted rows e v.apart.1 f v.apart.5, v.apart.6);
     exact = onward names a es (r ∷ rows) (longer ∷ rows) n v (λ y. ((λ m. here y m), (λ g. back y g))) (λ b y l. ((λ g. there b y l g), (λ g. above b y l g)));
@@ -108,22 +108,22 @@ module _ (names : ℕ → List End) (a : ℕ) (es : List End) (r : Seen) (rows :
       above b y l (inr g) = inr g
 
 -- the rows from an address on, where those from the next one on are made
-front : (names : ℕ → List End) (a : ℕ) (es : List End) (rows : List Seen) → names a ≡ es → Ascending es → a ≤ TOP → Made names (suc a) rows → Made names a (in_front a es rows)
+front : (names : ℕ → List End) (a : ℕ) (es : List End) (rows : List Seen) → names a ≡ es → Ascending es → a ≤ TOP → Made names (suc a) rows → Made names a (row_in_front a es rows)
 front names a [] rows n up top v = no_front names a rows n v
 front names a (e ∷ es) [] n up top v = own_front names a (e ∷ es) [] n tt up top tt v
-front names a (e ∷ es) (r ∷ rows) n up top v = go (nat_eq r.lo (suc a) && same_ends r.ends (map (moved 1) (e ∷ es))) refl
+front names a (e ∷ es) (r ∷ rows) n up top v = go (nat_eq r.lo (suc a) && same_ends r.ends (map (further_end 1) (e ∷ es))) refl
   where
-    parted : (nat_eq r.lo (suc a) && same_ends r.ends (map (moved 1) (e ∷ es))) ≡ false → r.lo ≡ suc a → r.ends ≡ map (moved (suc a - a)) (e ∷ es) → ⊥
+    parted : (nat_eq r.lo (suc a) && same_ends r.ends (map (further_end 1) (e ∷ es))) ≡ false → r.lo ≡ suc a → r.ends ≡ map (further_end (suc a - a)) (e ∷ es) → ⊥
     parted f l m =
         let k : suc a - a ≡ 1 = omega arith in
-        let m1 : r.ends ≡ map (moved 1) (e ∷ es) = m ∙ ap (λ t. map (moved t) (e ∷ es)) k in
-        let same : same_ends r.ends (map (moved 1) (e ∷ es)) ≡ true = ap (λ t. same_ends t (map (moved 1) (e ∷ es))) m1 ∙ is_same (map (moved 1) (e ∷ es)) in
-        false≢true (sym f ∙ and_from (nat_eq r.lo (suc a)) (same_ends r.ends (map (moved 1) (e ∷ es))) (eq-eqb r.lo (suc a) l) same)
+        let m1 : r.ends ≡ map (further_end 1) (e ∷ es) = m ∙ ap (λ t. map (further_end t) (e ∷ es)) k in
+        let same : same_ends r.ends (map (further_end 1) (e ∷ es)) ≡ true = ap (λ t. same_ends t (map (further_end 1) (e ∷ es))) m1 ∙ is_same (map (further_end 1) (e ∷ es)) in
+        false≢true (sym f ∙ and_from (nat_eq r.lo (suc a)) (same_ends r.ends (map (further_end 1) (e ∷ es))) (eq-eqb r.lo (suc a) l) same)
 
-    go : (b : Bool) → (nat_eq r.lo (suc a) && same_ends r.ends (map (moved 1) (e ∷ es))) ≡ b → Made names a (cond b (record { lo = a; hi = r.hi; ends = e ∷ es } ∷ rows) (record { lo = a; hi = a; ends = e ∷ es } ∷ (r ∷ rows)))
+    go : (b : Bool) → (nat_eq r.lo (suc a) && same_ends r.ends (map (further_end 1) (e ∷ es))) ≡ b → Made names a (cond b (record { lo = a; hi = r.hi; ends = e ∷ es } ∷ rows) (record { lo = a; hi = a; ends = e ∷ es } ∷ (r ∷ rows)))
     go true f =
-        let p = and_parts (nat_eq r.lo (suc a)) (same_ends r.ends (map (moved 1) (e ∷ es))) f in
-        longer_front names a (e ∷ es) r rows n tt up (eqb-true r.lo (suc a) p.0) (one_list_of_ends r.ends (map (moved 1) (e ∷ es)) p.1) v
+        let p = and_parts (nat_eq r.lo (suc a)) (same_ends r.ends (map (further_end 1) (e ∷ es))) f in
+        longer_front names a (e ∷ es) r rows n tt up (eqb-true r.lo (suc a) p.0) (one_list_of_ends r.ends (map (further_end 1) (e ∷ es)) p.1) v
     go false f = own_front names a (e ∷ es) (r ∷ rows) n tt up top (parted f) v
 
 made_from : (names : ℕ → List End) → ((a : ℕ) → Ascending (names a)) → (k a : ℕ) → k + a ≡ TOP + 1 → Made names a (rows_from names k a)

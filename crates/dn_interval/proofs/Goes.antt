@@ -9,7 +9,7 @@ use Rattle.dn_interval.specs.declared.row.End.{End}
 use Rattle.dn_interval.specs.declared.row.Row.{Row}
 use Rattle.dn_interval.specs.declared.span.TheConstants.{TOP}
 use Rattle.dn_interval.specs.Spans.{in_span}
-use Rattle.dn_interval.specs.Rows.{Member, moved, GivenBy, EndsFit, AreNormal, ends_within}
+use Rattle.dn_interval.specs.Rows.{Member, further_end, GivenBy, EndsFit, AreNormal, ends_within}
 use Rattle.dn_interval.specs.Strands.{rows_give}
 use Rattle.dn_interval.specs.Onward.{ends_go, row_goes, rows_go, rows_of, gives_by, RowsGoOn}
 use Rattle.dn_interval.proofs.Membership.{lo_of, hi_of}
@@ -19,14 +19,14 @@ module _ (next : ℕ → ℕ → End → Bool) (z : End) where
   abbrev any_goes : ℕ → List End → Bool
   any_goes d es = list_any (λ e. next e.node (e.base + d) z) es
 
-  end_of_any : (d : ℕ) (es : List End) → any_goes d es ≡ true → (y : End) × Member y (map (moved d) es) × (next y.node y.base z ≡ true)
+  end_of_any : (d : ℕ) (es : List End) → any_goes d es ≡ true → (y : End) × Member y (map (further_end d) es) × (next y.node y.base z ≡ true)
   end_of_any d [] e = absurd (false≢true e)
   end_of_any d (x ∷ es) e = elim (or_cases (next x.node (x.base + d) z) (any_goes d es) e) [
-    | inl g ↦ (moved d x, inl refl, g)
+    | inl g ↦ (further_end d x, inl refl, g)
     | inr g ↦ (let r = end_of_any d es g in (r.0, inr r.1, r.2))
   ]
 
-  any_of_end : (d : ℕ) (es : List End) (y : End) → Member y (map (moved d) es) → next y.node y.base z ≡ true → any_goes d es ≡ true
+  any_of_end : (d : ℕ) (es : List End) (y : End) → Member y (map (further_end d) es) → next y.node y.base z ≡ true → any_goes d es ≡ true
   any_of_end d [] y m g = absurd m
   any_of_end d (x ∷ es) y (inl e) g = or_left (next x.node (x.base + d) z) (any_goes d es) (subst (λ (w : End). next w.node w.base z ≡ true) (sym e) g)
   any_of_end d (x ∷ es) y (inr m) g = or_right (next x.node (x.base + d) z) (any_goes d es) (any_of_end d es y m g)
@@ -48,7 +48,7 @@ rows_go_on next rows a z = (onward next z rows a, (λ h. back next z rows a h.0 
 
 -- the names that rows give have addresses, and are in nodes that are there
 
-ends_fit : (d w : ℕ) (es : List End) (y : End) → All (λ (e : End). e.base + w ≤ TOP) es → d ≤ w → Member y (map (moved d) es) → y.base ≤ TOP
+ends_fit : (d w : ℕ) (es : List End) (y : End) → All (λ (e : End). e.base + w ≤ TOP) es → d ≤ w → Member y (map (further_end d) es) → y.base ≤ TOP
 ends_fit d w [] y all l m = absurd m
 ends_fit d w (e ∷ es) y all l (inl s) =
     let p : e.base + w ≤ TOP = all 0 e (omega arith) in
@@ -64,7 +64,7 @@ given_fits (r ∷ rs) fit a y (inl g) =
     ends_fit (a - r.span.lo) (r.span.hi - r.span.lo) r.ends y (fit 0 r (omega arith)) (omega arith) g.1
 given_fits (r ∷ rs) fit a y (inr g) = given_fits rs (All-tail EndsFit r rs fit) a y g
 
-node_in : (count d : ℕ) (es : List End) (y : End) → list_all (λ e. nat_lt e.node count) es ≡ true → Member y (map (moved d) es) → y.node < count
+node_in : (count d : ℕ) (es : List End) (y : End) → list_all (λ e. nat_lt e.node count) es ≡ true → Member y (map (further_end d) es) → y.node < count
 node_in count d [] y e m = absurd m
 node_in count d (x ∷ es) y e (inl s) = subst (λ n. n < count) (ap (λ t. t.node) s) (ltb-true x.node count (and_parts (nat_lt x.node count) (list_all (λ e. nat_lt e.node count) es) e).0)
 node_in count d (x ∷ es) y e (inr m) = node_in count d es y (and_parts (nat_lt x.node count) (list_all (λ e. nat_lt e.node count) es) e).1 m

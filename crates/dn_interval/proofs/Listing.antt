@@ -5,8 +5,8 @@ use Rattle.dn_base.proofs.Booleans.{false_from_ne_true}
 use Rattle.dn_interval.specs.declared.row.End.{End}
 use Rattle.dn_interval.specs.declared.row.Row.{Row}
 use Rattle.dn_interval.specs.declared.span.TheConstants.{TOP}
-use Rattle.dn_interval.specs.Rows.{Member, moved, Ascending, HasEnds, Parted, Apart, GivenBy}
-use Rattle.dn_interval.specs.Listed.{Seen, seen_by, same_end, same_ends, in_front, rows_from, listed_rows, NormalRowsAreListed}
+use Rattle.dn_interval.specs.Rows.{Member, further_end, Ascending, HasEnds, Parted, Apart, GivenBy}
+use Rattle.dn_interval.specs.Listed.{Seen, seen_view, same_end, same_ends, row_in_front, rows_from, listed_rows, NormalRowsAreListed}
 use Rattle.dn_interval.proofs.Membership.{in_from, hi_of}
 use Rattle.dn_interval.proofs.Ends.{one_end}
 use Rattle.dn_interval.proofs.Normal.{same_names, moved_ascending, moved_none, nothing_before, within_first, behind_first}
@@ -29,17 +29,17 @@ one_list_of_ends (x ∷ xs) (y ∷ ys) e = go (same_end x y) refl e (one_list_of
 
 -- names moved on by one and then by more
 
-pub moved_more : (k : ℕ) (xs : List End) → map (moved k) (map (moved 1) xs) ≡ map (moved (suc k)) xs
+pub moved_more : (k : ℕ) (xs : List End) → map (further_end k) (map (further_end 1) xs) ≡ map (further_end (suc k)) xs
 moved_more k [] = refl
 moved_more k (x ∷ xs) =
     let e : (x.base + 1) + k ≡ x.base + suc k = omega arith in
-    ap (λ t. record { node = x.node; base = t } ∷ map (moved k) (map (moved 1) xs)) e ∙ ap (λ t. moved (suc k) x ∷ t) (moved_more k xs)
+    ap (λ t. record { node = x.node; base = t } ∷ map (further_end k) (map (further_end 1) xs)) e ∙ ap (λ t. further_end (suc k) x ∷ t) (moved_more k xs)
 
 no_names : (xs : List End) → ((y : End) → Member y xs → ⊥) → xs ≡ []
 no_names [] f = refl
 no_names (x ∷ xs) f = absurd (f x (inl refl))
 
-has_moved : (k : ℕ) (xs : List End) → HasEnds xs → HasEnds (map (moved k) xs)
+has_moved : (k : ℕ) (xs : List End) → HasEnds xs → HasEnds (map (further_end k) xs)
 has_moved k [] h = h
 has_moved k (x ∷ xs) h = tt
 
@@ -64,12 +64,12 @@ first_names names a r rs up v e =
     let top : a ≤ TOP = omega (arith, r.span.ordered, r.span.within) in
     let hi : a ≤ r.span.hi = omega (arith, r.span.ordered) in
     let z : a - r.span.lo ≡ 0 = omega arith in
-    same_names (names a) (map (moved (a - r.span.lo)) r.ends) up (moved_ascending (a - r.span.lo) r.ends v.apart.2)
+    same_names (names a) (map (further_end (a - r.span.lo)) r.ends) up (moved_ascending (a - r.span.lo) r.ends v.apart.2)
     (λ y. (
       (λ m. (within_first a r rs v.apart a y (omega arith) hi).0 ((v.exact a y (omega arith) top).0 m)),
       (λ m. (v.exact a y (omega arith) top).1 ((within_first a r rs v.apart a y (omega arith) hi).1 m)),
     ))
-    ∙ ap (λ n. map (moved n) r.ends) z
+    ∙ ap (λ n. map (further_end n) r.ends) z
     ∙ moved_none r.ends
 
 -- the row ends at the address
@@ -82,13 +82,13 @@ rest_ended names a r rs v e = record {
 -- the row without its first address
 module _ (r : Row) (more : r.span.lo < r.span.hi) where
   abbrev shorter : Row
-  shorter = record { span = record { lo = suc r.span.lo; hi = r.span.hi; ordered = more; within = r.span.within }; ends = map (moved 1) r.ends }
+  shorter = record { span = record { lo = suc r.span.lo; hi = r.span.hi; ordered = more; within = r.span.within }; ends = map (further_end 1) r.ends }
 
 shorter_apart : (r : Row) (more : r.span.lo < r.span.hi) (rs : List Row) → Parted r rs → Parted (shorter r more) rs
 shorter_apart r more [] p = tt
 shorter_apart r more (s ∷ ss) p = λ e n.
     let k : suc (suc r.span.hi - suc r.span.lo) ≡ suc r.span.hi - r.span.lo = omega (arith, more) in
-    p e (n ∙ moved_more (suc r.span.hi - suc r.span.lo) r.ends ∙ ap (λ t. map (moved t) r.ends) k)
+    p e (n ∙ moved_more (suc r.span.hi - suc r.span.lo) r.ends ∙ ap (λ t. map (further_end t) r.ends) k)
 
 rest_shorter : (names : ℕ → List End) (a : ℕ) (r : Row) (rs : List Row) → Rest names a (r ∷ rs) → r.span.lo ≡ a → (more : r.span.lo < r.span.hi) → Rest names (suc a) (shorter r more ∷ rs)
 rest_shorter names a r rs v e more = record {
@@ -96,10 +96,10 @@ rest_shorter names a r rs v e more = record {
   exact = λ b y l t. ((λ m. there b y l ((v.exact b y (omega arith) t).0 m)), (λ g. (v.exact b y (omega arith) t).1 (back b y l g)));
 }
   where
-    on : (b : ℕ) → suc a ≤ b → map (moved (b - suc r.span.lo)) (map (moved 1) r.ends) ≡ map (moved (b - r.span.lo)) r.ends
+    on : (b : ℕ) → suc a ≤ b → map (further_end (b - suc r.span.lo)) (map (further_end 1) r.ends) ≡ map (further_end (b - r.span.lo)) r.ends
     on b l =
         let k : suc (b - suc r.span.lo) ≡ b - r.span.lo = omega arith in
-        moved_more (b - suc r.span.lo) r.ends ∙ ap (λ t. map (moved t) r.ends) k
+        moved_more (b - suc r.span.lo) r.ends ∙ ap (λ t. map (further_end t) r.ends) k
 
     there : (b : ℕ) (y : End) → suc a ≤ b → GivenBy (r ∷ rs) b y → GivenBy (shorter r more ∷ rs) b y
     there b y l (inl g) = inl (in_from (shorter r more).span b (omega arith) (hi_of r.span b g.0), subst (Member y) (sym (on b l)) g.1)
@@ -111,59 +111,59 @@ rest_shorter names a r rs v e more = record {
 
 -- what stands in front of the rows above an address
 
-front_none : (a : ℕ) (es : List End) (rows : List Seen) → es ≡ [] → in_front a es rows ≡ rows
+front_none : (a : ℕ) (es : List End) (rows : List Seen) → es ≡ [] → row_in_front a es rows ≡ rows
 front_none a [] rows e = refl
 front_none a (x ∷ es) rows e = cc
 
-seen_same : (r : Row) (a : ℕ) → r.span.lo ≡ a → ◌≡◌ {A = Seen} (record { lo = a; hi = r.span.hi; ends = r.ends }) (seen_by r)
+seen_same : (r : Row) (a : ℕ) → r.span.lo ≡ a → ◌≡◌ {A = Seen} (record { lo = a; hi = r.span.hi; ends = r.ends }) (seen_view r)
 seen_same r a e = ap (λ n. record { lo = n; hi = r.span.hi; ends = r.ends }) (sym e)
 
 -- the row goes on
-front_goes_on : (a hi : ℕ) (es : List End) (rows : List Seen) → HasEnds es → in_front a es (record { lo = suc a; hi = hi; ends = map (moved 1) es } ∷ rows) ≡ record { lo = a; hi = hi; ends = es } ∷ rows
+front_goes_on : (a hi : ℕ) (es : List End) (rows : List Seen) → HasEnds es → row_in_front a es (record { lo = suc a; hi = hi; ends = map (further_end 1) es } ∷ rows) ≡ record { lo = a; hi = hi; ends = es } ∷ rows
 front_goes_on a hi [] rows h = absurd h
-front_goes_on a hi (e ∷ es) rows h = ap (λ b. cond b (record { lo = a; hi = hi; ends = e ∷ es } ∷ rows) (record { lo = a; hi = a; ends = e ∷ es } ∷ (record { lo = suc a; hi = hi; ends = map (moved 1) (e ∷ es) } ∷ rows))) (and_from (nat_eq (suc a) (suc a)) (same_ends (map (moved 1) (e ∷ es)) (map (moved 1) (e ∷ es))) (eq-eqb (suc a) (suc a) refl) (is_same (map (moved 1) (e ∷ es))))
+front_goes_on a hi (e ∷ es) rows h = ap (λ b. cond b (record { lo = a; hi = hi; ends = e ∷ es } ∷ rows) (record { lo = a; hi = a; ends = e ∷ es } ∷ (record { lo = suc a; hi = hi; ends = map (further_end 1) (e ∷ es) } ∷ rows))) (and_from (nat_eq (suc a) (suc a)) (same_ends (map (further_end 1) (e ∷ es)) (map (further_end 1) (e ∷ es))) (eq-eqb (suc a) (suc a) refl) (is_same (map (further_end 1) (e ∷ es))))
 
 -- no row goes on
-front_alone : (a : ℕ) (es : List End) → HasEnds es → in_front a es [] ≡ record { lo = a; hi = a; ends = es } ∷ []
+front_alone : (a : ℕ) (es : List End) → HasEnds es → row_in_front a es [] ≡ record { lo = a; hi = a; ends = es } ∷ []
 front_alone a [] h = absurd h
 front_alone a (e ∷ es) h = refl
 
-front_apart : (a : ℕ) (es : List End) (s : Seen) (rows : List Seen) → HasEnds es → (s.lo ≡ suc a → s.ends ≡ map (moved 1) es → ⊥) → in_front a es (s ∷ rows) ≡ record { lo = a; hi = a; ends = es } ∷ (s ∷ rows)
+front_apart : (a : ℕ) (es : List End) (s : Seen) (rows : List Seen) → HasEnds es → (s.lo ≡ suc a → s.ends ≡ map (further_end 1) es → ⊥) → row_in_front a es (s ∷ rows) ≡ record { lo = a; hi = a; ends = es } ∷ (s ∷ rows)
 front_apart a [] s rows h f = absurd h
-front_apart a (e ∷ es) s rows h f = ap (λ b. cond b (record { lo = a; hi = s.hi; ends = e ∷ es } ∷ rows) (record { lo = a; hi = a; ends = e ∷ es } ∷ (s ∷ rows))) (false_from_ne_true (nat_eq s.lo (suc a) && same_ends s.ends (map (moved 1) (e ∷ es))) (λ t. let p = and_parts (nat_eq s.lo (suc a)) (same_ends s.ends (map (moved 1) (e ∷ es))) t in f (eqb-true s.lo (suc a) p.0) (one_list_of_ends s.ends (map (moved 1) (e ∷ es)) p.1)))
+front_apart a (e ∷ es) s rows h f = ap (λ b. cond b (record { lo = a; hi = s.hi; ends = e ∷ es } ∷ rows) (record { lo = a; hi = a; ends = e ∷ es } ∷ (s ∷ rows))) (false_from_ne_true (nat_eq s.lo (suc a) && same_ends s.ends (map (further_end 1) (e ∷ es))) (λ t. let p = and_parts (nat_eq s.lo (suc a)) (same_ends s.ends (map (further_end 1) (e ∷ es))) t in f (eqb-true s.lo (suc a) p.0) (one_list_of_ends s.ends (map (further_end 1) (e ∷ es)) p.1)))
 
-front_ended : (a : ℕ) (r : Row) (rs : List Row) → HasEnds r.ends → Parted r rs → r.span.lo ≡ a → r.span.hi ≡ a → in_front a r.ends (map seen_by rs) ≡ record { lo = a; hi = a; ends = r.ends } ∷ map seen_by rs
+front_ended : (a : ℕ) (r : Row) (rs : List Row) → HasEnds r.ends → Parted r rs → r.span.lo ≡ a → r.span.hi ≡ a → row_in_front a r.ends (map seen_view rs) ≡ record { lo = a; hi = a; ends = r.ends } ∷ map seen_view rs
 front_ended a r [] h p e f = front_alone a r.ends h
 front_ended a r (s ∷ ss) h p e f =
     let k : 1 ≡ suc r.span.hi - r.span.lo = omega arith in
-    front_apart a r.ends (seen_by s) (map seen_by ss) h (λ l n. p (l ∙ ap suc (sym f)) (n ∙ ap (λ t. map (moved t) r.ends) k))
+    front_apart a r.ends (seen_view s) (map seen_view ss) h (λ l n. p (l ∙ ap suc (sym f)) (n ∙ ap (λ t. map (further_end t) r.ends) k))
 
 -- the rows from an address on, where those from the next one on are made
-step : (names : ℕ → List End) (a : ℕ) (rows : List Row) (more : ℕ → List Seen) → Ascending (names a) → a ≤ TOP → Rest names a rows → ((others : List Row) → Rest names (suc a) others → map seen_by others ≡ more (suc a)) → map seen_by rows ≡ in_front a (names a) (more (suc a))
+step : (names : ℕ → List End) (a : ℕ) (rows : List Row) (more : ℕ → List Seen) → Ascending (names a) → a ≤ TOP → Rest names a rows → ((others : List Row) → Rest names (suc a) others → map seen_view others ≡ more (suc a)) → map seen_view rows ≡ row_in_front a (names a) (more (suc a))
 step names a [] more up top v made = made [] (rest_none names a v) ∙ sym (front_none a (names a) (more (suc a)) (no_names (names a) (λ y m. (v.exact a y (omega arith) top).0 m)))
 step names a (r ∷ rs) more up top v made = elim (cases_lt a r.span.lo) [
   | inl l ↦ made (r ∷ rs) (rest_later names a r rs v l) ∙ sym (front_none a (names a) (more (suc a)) (no_names (names a) (λ y m. nothing_before a r rs v.apart a y l ((v.exact a y (omega arith) top).0 m))))
   | inr l ↦ here (omega (arith, v.apart.0, l))
 ]
   where
-    here : r.span.lo ≡ a → map seen_by (r ∷ rs) ≡ in_front a (names a) (more (suc a))
+    here : r.span.lo ≡ a → map seen_view (r ∷ rs) ≡ row_in_front a (names a) (more (suc a))
     here e = elim (cases_lt r.span.lo r.span.hi) [
       | inl m ↦
-          ap (λ t. t ∷ map seen_by rs) (sym (seen_same r a e))
-          ∙ sym (front_goes_on a r.span.hi r.ends (map seen_by rs) v.apart.1)
-          ∙ ap (λ n. in_front a r.ends (record { lo = suc n; hi = r.span.hi; ends = map (moved 1) r.ends } ∷ map seen_by rs)) (sym e)
-          ∙ ap (in_front a r.ends) (made (shorter r m ∷ rs) (rest_shorter names a r rs v e m))
-          ∙ ap (λ t. in_front a t (more (suc a))) (sym (first_names names a r rs up v e))
+          ap (λ t. t ∷ map seen_view rs) (sym (seen_same r a e))
+          ∙ sym (front_goes_on a r.span.hi r.ends (map seen_view rs) v.apart.1)
+          ∙ ap (λ n. row_in_front a r.ends (record { lo = suc n; hi = r.span.hi; ends = map (further_end 1) r.ends } ∷ map seen_view rs)) (sym e)
+          ∙ ap (row_in_front a r.ends) (made (shorter r m ∷ rs) (rest_shorter names a r rs v e m))
+          ∙ ap (λ t. row_in_front a t (more (suc a))) (sym (first_names names a r rs up v e))
       | inr m ↦
           let f : r.span.hi ≡ a = omega (arith, r.span.ordered) in
-          ap (λ t. t ∷ map seen_by rs) (sym (seen_same r a e))
-          ∙ ap (λ n. record { lo = a; hi = n; ends = r.ends } ∷ map seen_by rs) f
+          ap (λ t. t ∷ map seen_view rs) (sym (seen_same r a e))
+          ∙ ap (λ n. record { lo = a; hi = n; ends = r.ends } ∷ map seen_view rs) f
           ∙ sym (front_ended a r rs v.apart.1 v.apart.3 e f)
-          ∙ ap (in_front a r.ends) (made rs (rest_ended names a r rs v f))
-          ∙ ap (λ t. in_front a t (more (suc a))) (sym (first_names names a r rs up v e))
+          ∙ ap (row_in_front a r.ends) (made rs (rest_ended names a r rs v f))
+          ∙ ap (λ t. row_in_front a t (more (suc a))) (sym (first_names names a r rs up v e))
     ]
 
-from_here : (names : ℕ → List End) → ((a : ℕ) → Ascending (names a)) → (k a : ℕ) (rows : List Row) → k + a ≡ TOP + 1 → Rest names a rows → map seen_by rows ≡ rows_from names k a
+from_here : (names : ℕ → List End) → ((a : ℕ) → Ascending (names a)) → (k a : ℕ) (rows : List Row) → k + a ≡ TOP + 1 → Rest names a rows → map seen_view rows ≡ rows_from names k a
 unfolding rows_from
 from_here names up zero a [] e v = refl
 from_here names up zero a (r ∷ rs) e v = absurd (omega (arith, v.apart.0, r.span.ordered, r.span.within))

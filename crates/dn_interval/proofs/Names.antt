@@ -8,7 +8,7 @@ use Rattle.dn_interval.specs.declared.row.End.{End}
 use Rattle.dn_interval.specs.declared.row.Row.{Row}
 use Rattle.dn_interval.specs.declared.span.TheConstants.{TOP}
 use Rattle.dn_interval.specs.Spans.{in_span}
-use Rattle.dn_interval.specs.Rows.{Member, name_at, names_at, SegmentsGive, moved, HasEnds, Apart, EndsFit, GivenBy, AreNormal}
+use Rattle.dn_interval.specs.Rows.{Member, seg_name_at, names_at, SegmentsGive, further_end, HasEnds, Apart, EndsFit, GivenBy, AreNormal}
 use Rattle.dn_interval.specs.Strands.{seg_gives, segs_give, ends_give, row_gives, rows_give}
 use Rattle.dn_interval.proofs.Membership.{in_from, lo_of, hi_of}
 use Rattle.dn_interval.proofs.Ends.{end_eq, one_end}
@@ -23,8 +23,8 @@ pub names_at-append : (segs more : List Seg) (a : ℕ) → names_at (segs ++ mor
 names_at-append [] more a = refl
 names_at-append (s ∷ rest) more a = go (in_span s.span a) (names_at-append rest more a)
   where
-    go : (b : Bool) → names_at (rest ++ more) a ≡ names_at rest a ++ names_at more a → cond b (name_at s a ∷ names_at (rest ++ more) a) (names_at (rest ++ more) a) ≡ cond b (name_at s a ∷ names_at rest a) (names_at rest a) ++ names_at more a
-    go true e = ap (λ t. name_at s a ∷ t) e
+    go : (b : Bool) → names_at (rest ++ more) a ≡ names_at rest a ++ names_at more a → cond b (seg_name_at s a ∷ names_at (rest ++ more) a) (names_at (rest ++ more) a) ≡ cond b (seg_name_at s a ∷ names_at rest a) (names_at rest a) ++ names_at more a
+    go true e = ap (λ t. seg_name_at s a ∷ t) e
     go false e = e
 
 -- segments
@@ -33,8 +33,8 @@ pub segs_from : (segs : List Seg) (a : ℕ) (y : End) → Member y (names_at seg
 segs_from [] a y m = absurd m
 segs_from (s ∷ rest) a y m = go (in_span s.span a) refl m (segs_from rest a y)
   where
-    go : (b : Bool) → in_span s.span a ≡ b → Member y (cond b (name_at s a ∷ names_at rest a) (names_at rest a)) → (Member y (names_at rest a) → segs_give rest a y ≡ true) → (seg_gives s a y || segs_give rest a y) ≡ true
-    go true e (inl f) g = or_left (seg_gives s a y) (segs_give rest a y) (and_from (in_span s.span a) (end_eq (name_at s a) y) e (end_same (name_at s a) y f))
+    go : (b : Bool) → in_span s.span a ≡ b → Member y (cond b (seg_name_at s a ∷ names_at rest a) (names_at rest a)) → (Member y (names_at rest a) → segs_give rest a y ≡ true) → (seg_gives s a y || segs_give rest a y) ≡ true
+    go true e (inl f) g = or_left (seg_gives s a y) (segs_give rest a y) (and_from (in_span s.span a) (end_eq (seg_name_at s a) y) e (end_same (seg_name_at s a) y f))
     go true e (inr n) g = or_right (seg_gives s a y) (segs_give rest a y) (g n)
     go false e n g = or_right (seg_gives s a y) (segs_give rest a y) (g n)
 
@@ -42,23 +42,23 @@ pub segs_to : (segs : List Seg) (a : ℕ) (y : End) → segs_give segs a y ≡ t
 segs_to [] a y e = absurd (false≢true e)
 segs_to (s ∷ rest) a y e = go (in_span s.span a) refl (or_cases (seg_gives s a y) (segs_give rest a y) e) (segs_to rest a y)
   where
-    go : (b : Bool) → in_span s.span a ≡ b → (seg_gives s a y ≡ true) ⊎ (segs_give rest a y ≡ true) → (segs_give rest a y ≡ true → Member y (names_at rest a)) → Member y (cond b (name_at s a ∷ names_at rest a) (names_at rest a))
-    go true f (inl g) r = inl (one_end (name_at s a) y (and_parts (in_span s.span a) (end_eq (name_at s a) y) g).1)
+    go : (b : Bool) → in_span s.span a ≡ b → (seg_gives s a y ≡ true) ⊎ (segs_give rest a y ≡ true) → (segs_give rest a y ≡ true → Member y (names_at rest a)) → Member y (cond b (seg_name_at s a ∷ names_at rest a) (names_at rest a))
+    go true f (inl g) r = inl (one_end (seg_name_at s a) y (and_parts (in_span s.span a) (end_eq (seg_name_at s a) y) g).1)
     go true f (inr g) r = inr (r g)
-    go false f (inl g) r = absurd (false≢true (sym f ∙ (and_parts (in_span s.span a) (end_eq (name_at s a) y) g).0))
+    go false f (inl g) r = absurd (false≢true (sym f ∙ (and_parts (in_span s.span a) (end_eq (seg_name_at s a) y) g).0))
     go false f (inr g) r = r g
 
 -- rows
 
-ends_from : (es : List End) (lo a : ℕ) (y : End) → Member y (map (moved (a - lo)) es) → ends_give es lo a y ≡ true
+ends_from : (es : List End) (lo a : ℕ) (y : End) → Member y (map (further_end (a - lo)) es) → ends_give es lo a y ≡ true
 ends_from [] lo a y m = absurd m
-ends_from (e ∷ es) lo a y (inl f) = or_left (end_eq (moved (a - lo) e) y) (ends_give es lo a y) (end_same (moved (a - lo) e) y f)
-ends_from (e ∷ es) lo a y (inr m) = or_right (end_eq (moved (a - lo) e) y) (ends_give es lo a y) (ends_from es lo a y m)
+ends_from (e ∷ es) lo a y (inl f) = or_left (end_eq (further_end (a - lo) e) y) (ends_give es lo a y) (end_same (further_end (a - lo) e) y f)
+ends_from (e ∷ es) lo a y (inr m) = or_right (end_eq (further_end (a - lo) e) y) (ends_give es lo a y) (ends_from es lo a y m)
 
-ends_to : (es : List End) (lo a : ℕ) (y : End) → ends_give es lo a y ≡ true → Member y (map (moved (a - lo)) es)
+ends_to : (es : List End) (lo a : ℕ) (y : End) → ends_give es lo a y ≡ true → Member y (map (further_end (a - lo)) es)
 ends_to [] lo a y e = absurd (false≢true e)
-ends_to (e ∷ es) lo a y f = elim (or_cases (end_eq (moved (a - lo) e) y) (ends_give es lo a y) f) [
-  | inl g ↦ inl (one_end (moved (a - lo) e) y g)
+ends_to (e ∷ es) lo a y f = elim (or_cases (end_eq (further_end (a - lo) e) y) (ends_give es lo a y) f) [
+  | inl g ↦ inl (one_end (further_end (a - lo) e) y g)
   | inr g ↦ inr (ends_to es lo a y g)
 ]
 
@@ -95,13 +95,13 @@ rows_covered (r ∷ rs) a y e = elim (or_cases (row_gives r a y) (rows_give rs a
 segs_covered : (segs : List Seg) (a : ℕ) (y : End) → segs_give segs a y ≡ true → covered_by segs a ≡ true
 segs_covered [] a y e = e
 segs_covered (s ∷ rest) a y e = elim (or_cases (seg_gives s a y) (segs_give rest a y) e) [
-  | inl g ↦ or_left (in_span s.span a) (covered_by rest a) (and_parts (in_span s.span a) (end_eq (name_at s a) y) g).0
+  | inl g ↦ or_left (in_span s.span a) (covered_by rest a) (and_parts (in_span s.span a) (end_eq (seg_name_at s a) y) g).0
   | inr g ↦ or_right (in_span s.span a) (covered_by rest a) (segs_covered rest a y g)
 ]
 
 some_end : (es : List End) (lo a : ℕ) → HasEnds es → (y : End) × (ends_give es lo a y ≡ true)
 some_end [] lo a h = absurd h
-some_end (e ∷ es) lo a h = (moved (a - lo) e, or_left (end_eq (moved (a - lo) e) (moved (a - lo) e)) (ends_give es lo a (moved (a - lo) e)) (end_same (moved (a - lo) e) (moved (a - lo) e) refl))
+some_end (e ∷ es) lo a h = (further_end (a - lo) e, or_left (end_eq (further_end (a - lo) e) (further_end (a - lo) e)) (ends_give es lo a (further_end (a - lo) e)) (end_same (further_end (a - lo) e) (further_end (a - lo) e) refl))
 
 row_named : (from : ℕ) (rows : List Row) (a : ℕ) → Apart from rows → covered rows a ≡ true → (y : End) × (rows_give rows a y ≡ true)
 row_named from [] a p e = absurd (false≢true e)
@@ -113,7 +113,7 @@ row_named from (r ∷ rs) a p e = elim (or_cases (in_span r.span a) (covered rs 
 seg_named : (segs : List Seg) (a : ℕ) → covered_by segs a ≡ true → (y : End) × (segs_give segs a y ≡ true)
 seg_named [] a e = absurd (false≢true e)
 seg_named (s ∷ rest) a e = elim (or_cases (in_span s.span a) (covered_by rest a) e) [
-  | inl i ↦ (name_at s a, or_left (seg_gives s a (name_at s a)) (segs_give rest a (name_at s a)) (and_from (in_span s.span a) (end_eq (name_at s a) (name_at s a)) i (end_same (name_at s a) (name_at s a) refl)))
+  | inl i ↦ (seg_name_at s a, or_left (seg_gives s a (seg_name_at s a)) (segs_give rest a (seg_name_at s a)) (and_from (in_span s.span a) (end_eq (seg_name_at s a) (seg_name_at s a)) i (end_same (seg_name_at s a) (seg_name_at s a) refl)))
   | inr c ↦ let w = seg_named rest a c in (w.0, or_right (seg_gives s a w.0) (segs_give rest a w.0) w.1)
 ]
 
@@ -141,9 +141,9 @@ segs_fit (s ∷ rest) a y e = elim (or_cases (seg_gives s a y) (segs_give rest a
   | inr g ↦ segs_fit rest a y g
 ]
 
-each_fits : (w : ℕ) (es : List End) → ((y : End) → Member y (map (moved w) es) → y.base ≤ TOP) → All (λ (e : End). e.base + w ≤ TOP) es
+each_fits : (w : ℕ) (es : List End) → ((y : End) → Member y (map (further_end w) es) → y.base ≤ TOP) → All (λ (e : End). e.base + w ≤ TOP) es
 each_fits w [] f k d l = absurd (omega arith)
-each_fits w (e ∷ es) f zero d l = f (moved w e) (inl refl)
+each_fits w (e ∷ es) f zero d l = f (further_end w e) (inl refl)
 each_fits w (e ∷ es) f (suc k) d l = each_fits w es (λ y m. f y (inr m)) k d (omega arith)
 
 all_fit : (rows : List Row) → ((a : ℕ) (y : End) → rows_give rows a y ≡ true → y.base ≤ TOP) → All EndsFit rows

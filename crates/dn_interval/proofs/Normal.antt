@@ -4,7 +4,7 @@ use Rattle.std.proofs.lemmas.Bool.{cases_lt}
 use Rattle.dn_interval.specs.declared.row.End.{End}
 use Rattle.dn_interval.specs.declared.row.Row.{Row}
 use Rattle.dn_interval.specs.declared.span.TheConstants.{TOP}
-use Rattle.dn_interval.specs.Rows.{Member, moved, end_lt, AllAbove, Ascending, HasEnds, Apart, GivenBy, AreNormal, OneListOfRows}
+use Rattle.dn_interval.specs.Rows.{Member, further_end, end_lt, AllAbove, Ascending, HasEnds, Apart, GivenBy, AreNormal, OneListOfRows}
 use Rattle.dn_interval.proofs.Membership.{in_from, lo_of, hi_of, same_span}
 
 lt_means : (x y : End) → IsTrue (end_lt x y) → (x.node < y.node) ⊎ ((x.node ≡ y.node) × (x.base < y.base))
@@ -63,10 +63,10 @@ same_names (x ∷ xs) (y ∷ ys) a b s = cons_same head (same_names xs ys a.1 b.
         go (inl e) = let l : IsTrue (end_lt y y) = subst (λ w. IsTrue (end_lt y w)) (sym (sym head ∙ e)) (above_member y ys z b.0 m) in absurd (asym y y l l)
 
 -- moved names keep their order
-moved_lt : (k : ℕ) (x y : End) → IsTrue (end_lt x y) → IsTrue (end_lt (moved k x) (moved k y))
+moved_lt : (k : ℕ) (x y : End) → IsTrue (end_lt x y) → IsTrue (end_lt (further_end k x) (further_end k y))
 moved_lt k x y e = go (lt_means x y e)
   where
-    go : (x.node < y.node) ⊎ ((x.node ≡ y.node) × (x.base < y.base)) → IsTrue (end_lt (moved k x) (moved k y))
+    go : (x.node < y.node) ⊎ ((x.node ≡ y.node) × (x.base < y.base)) → IsTrue (end_lt (further_end k x) (further_end k y))
     go (inl a) = ap (λ t. t || (nat_eq x.node y.node && nat_lt (x.base + k) (y.base + k))) (lt-ltb x.node y.node a)
     go (inr a) = let l : x.base < y.base = a.1 in let m : x.base + k < y.base + k = omega arith in last (nat_lt x.node y.node) (nat_eq x.node y.node) (nat_lt (x.base + k) (y.base + k)) (eq-eqb x.node y.node a.0) (lt-ltb (x.base + k) (y.base + k) m)
       where
@@ -76,20 +76,20 @@ moved_lt k x y e = go (lt_means x y e)
         last false true false e f = cc
         last false false r e f = cc
 
-moved_above : (k : ℕ) (x : End) (ys : List End) → AllAbove x ys → AllAbove (moved k x) (map (moved k) ys)
+moved_above : (k : ℕ) (x : End) (ys : List End) → AllAbove x ys → AllAbove (further_end k x) (map (further_end k) ys)
 moved_above k x [] a = tt
 moved_above k x (y ∷ ys) a = (moved_lt k x y a.0, moved_above k x ys a.1)
 
-pub moved_ascending : (k : ℕ) (xs : List End) → Ascending xs → Ascending (map (moved k) xs)
+pub moved_ascending : (k : ℕ) (xs : List End) → Ascending xs → Ascending (map (further_end k) xs)
 moved_ascending k [] a = tt
 moved_ascending k (x ∷ xs) a = (moved_above k x xs a.0, moved_ascending k xs a.1)
 
-pub moved_none : (xs : List End) → map (moved 0) xs ≡ xs
+pub moved_none : (xs : List End) → map (further_end 0) xs ≡ xs
 moved_none [] = refl
 moved_none (x ∷ xs) =
     let e : x.base + 0 ≡ x.base = omega arith in
-    let h : moved 0 x ≡ x = ap (λ t. record { node = x.node; base = t }) e in
-    let t : map (moved 0) xs ≡ xs = moved_none xs in
+    let h : further_end 0 x ≡ x = ap (λ t. record { node = x.node; base = t }) e in
+    let t : map (further_end 0) xs ≡ xs = moved_none xs in
     cons_same h t
   where
     cons_same : {u v : End} {us vs : List End} → u ≡ v → us ≡ vs → u ∷ us ≡ v ∷ vs
@@ -109,9 +109,9 @@ row_end r h = go r.ends h
     go [] h = absurd h
     go (e ∷ es) h = (e, inl refl)
 
-pub member_moved : (k : ℕ) (es : List End) (e : End) → Member e es → Member (moved k e) (map (moved k) es)
+pub member_moved : (k : ℕ) (es : List End) (e : End) → Member e es → Member (further_end k e) (map (further_end k) es)
 member_moved k [] e m = absurd m
-member_moved k (d ∷ es) e (inl s) = inl (ap (moved k) s)
+member_moved k (d ∷ es) e (inl s) = inl (ap (further_end k) s)
 member_moved k (d ∷ es) e (inr m) = inr (member_moved k es e m)
 
 -- before the first row nothing is given
@@ -120,10 +120,10 @@ nothing_before from r rs p a y l (inl g) = let q : r.span.lo ≤ a = lo_of r.spa
 nothing_before from r rs p a y l (inr g) = nothing_below (suc r.span.hi) rs p.4 a y (let q : r.span.lo ≤ r.span.hi = r.span.ordered in omega arith) g
 
 -- within the first row, its moved ends and no more
-pub within_first : (from : ℕ) (r : Row) (rs : List Row) → Apart from (r ∷ rs) → (a : ℕ) (y : End) → r.span.lo ≤ a → a ≤ r.span.hi → GivenBy (r ∷ rs) a y ↔ Member y (map (moved (a - r.span.lo)) r.ends)
+pub within_first : (from : ℕ) (r : Row) (rs : List Row) → Apart from (r ∷ rs) → (a : ℕ) (y : End) → r.span.lo ≤ a → a ≤ r.span.hi → GivenBy (r ∷ rs) a y ↔ Member y (map (further_end (a - r.span.lo)) r.ends)
 within_first from r rs p a y lo hi = (down, (λ m. inl (in_from r.span a lo hi, m)))
   where
-    down : GivenBy (r ∷ rs) a y → Member y (map (moved (a - r.span.lo)) r.ends)
+    down : GivenBy (r ∷ rs) a y → Member y (map (further_end (a - r.span.lo)) r.ends)
     down (inl g) = g.1
     down (inr g) = absurd (nothing_below (suc r.span.hi) rs p.4 a y (omega arith) g)
 
@@ -145,8 +145,8 @@ no_earlier from r s rs ss p q same l =
     let e = row_end r p.1 in
     let lo : r.span.lo ≤ r.span.hi = r.span.ordered in
     let hi : r.span.hi ≤ TOP = r.span.within in
-    let here : GivenBy (r ∷ rs) r.span.lo (moved (r.span.lo - r.span.lo) e.0) = inl (in_from r.span r.span.lo (omega arith) lo, member_moved (r.span.lo - r.span.lo) r.ends e.0 e.1) in
-    nothing_before from s ss q r.span.lo (moved (r.span.lo - r.span.lo) e.0) l (same r.span.lo (moved (r.span.lo - r.span.lo) e.0) (omega arith) here)
+    let here : GivenBy (r ∷ rs) r.span.lo (further_end (r.span.lo - r.span.lo) e.0) = inl (in_from r.span r.span.lo (omega arith) lo, member_moved (r.span.lo - r.span.lo) r.ends e.0 e.1) in
+    nothing_before from s ss q r.span.lo (further_end (r.span.lo - r.span.lo) e.0) l (same r.span.lo (further_end (r.span.lo - r.span.lo) e.0) (omega arith) here)
 
 -- nor does it end earlier, where both begin alike
 no_shorter : (from : ℕ) (r s : Row) (rs ss : List Row) → Apart from (r ∷ rs) → Apart from (s ∷ ss) → ((a : ℕ) (y : End) → a ≤ TOP → GivenBy (r ∷ rs) a y ↔ GivenBy (s ∷ ss) a y) → r.span.lo ≡ s.span.lo → r.ends ≡ s.ends → r.span.hi < s.span.hi → ⊥
@@ -155,8 +155,8 @@ no_shorter from r s [] ss p q same el ee l =
     let a : ℕ = suc r.span.hi in
     let below : s.span.hi ≤ TOP = s.span.within in
     let lo : r.span.lo ≤ r.span.hi = r.span.ordered in
-    let here : GivenBy (s ∷ ss) (suc r.span.hi) (moved (suc r.span.hi - s.span.lo) e.0) = inl (in_from s.span (suc r.span.hi) (omega arith) (omega arith), member_moved (suc r.span.hi - s.span.lo) s.ends e.0 e.1) in
-    behind_first r [] (suc r.span.hi) (moved (suc r.span.hi - s.span.lo) e.0) (omega arith) ((same (suc r.span.hi) (moved (suc r.span.hi - s.span.lo) e.0) (omega arith)).1 here)
+    let here : GivenBy (s ∷ ss) (suc r.span.hi) (further_end (suc r.span.hi - s.span.lo) e.0) = inl (in_from s.span (suc r.span.hi) (omega arith) (omega arith), member_moved (suc r.span.hi - s.span.lo) s.ends e.0 e.1) in
+    behind_first r [] (suc r.span.hi) (further_end (suc r.span.hi - s.span.lo) e.0) (omega arith) ((same (suc r.span.hi) (further_end (suc r.span.hi - s.span.lo) e.0) (omega arith)).1 here)
 no_shorter from r s (t ∷ ts) ss p q same el ee l = touches (cases t.span.lo (suc r.span.hi))
   where
     below : s.span.hi ≤ TOP
@@ -178,7 +178,7 @@ no_shorter from r s (t ∷ ts) ss p q same el ee l = touches (cases t.span.lo (s
     s_lo = omega (arith, lo, el)
 
     -- what is given just behind r
-    given : (y : End) → GivenBy (t ∷ ts) (suc r.span.hi) y ↔ Member y (map (moved (suc r.span.hi - s.span.lo)) s.ends)
+    given : (y : End) → GivenBy (t ∷ ts) (suc r.span.hi) y ↔ Member y (map (further_end (suc r.span.hi - s.span.lo)) s.ends)
     given y = ((λ g. (within_first from s ss q (suc r.span.hi) y s_lo l).0 ((same (suc r.span.hi) y at).0 (inr g))), (λ m. behind_first r (t ∷ ts) (suc r.span.hi) y (omega arith) ((same (suc r.span.hi) y at).1 ((within_first from s ss q (suc r.span.hi) y s_lo l).1 m))))
 
     cases : (m n : ℕ) → (n < m) ⊎ (m ≤ n)
@@ -187,14 +187,14 @@ no_shorter from r s (t ∷ ts) ss p q same el ee l = touches (cases t.span.lo (s
     touches : (suc r.span.hi < t.span.lo) ⊎ (t.span.lo ≤ suc r.span.hi) → ⊥
     touches (inl f) =
         let e = row_end s q.1 in
-        nothing_before (suc r.span.hi) t ts p.4 (suc r.span.hi) (moved (suc r.span.hi - s.span.lo) e.0) f ((given (moved (suc r.span.hi - s.span.lo) e.0)).1 (member_moved (suc r.span.hi - s.span.lo) s.ends e.0 e.1))
+        nothing_before (suc r.span.hi) t ts p.4 (suc r.span.hi) (further_end (suc r.span.hi - s.span.lo) e.0) f ((given (further_end (suc r.span.hi - s.span.lo) e.0)).1 (member_moved (suc r.span.hi - s.span.lo) s.ends e.0 e.1))
     touches (inr f) =
         let tl : t.span.lo ≡ suc r.span.hi = omega (arith, next) in
         let z : suc r.span.hi - t.span.lo ≡ 0 = omega arith in
         let k : suc r.span.hi - s.span.lo ≡ suc r.span.hi - r.span.lo = ap (λ n. suc r.span.hi - n) (sym el) in
         let in_t : suc r.span.hi ≤ t.span.hi = omega (arith, t_in) in
-        let names : map (moved (suc r.span.hi - t.span.lo)) t.ends ≡ map (moved (suc r.span.hi - s.span.lo)) s.ends = same_names (map (moved (suc r.span.hi - t.span.lo)) t.ends) (map (moved (suc r.span.hi - s.span.lo)) s.ends) (moved_ascending (suc r.span.hi - t.span.lo) t.ends p.4.2) (moved_ascending (suc r.span.hi - s.span.lo) s.ends q.2) (λ y. ((λ m. (given y).0 ((within_first (suc r.span.hi) t ts p.4 (suc r.span.hi) y f in_t).1 m)), (λ m. (within_first (suc r.span.hi) t ts p.4 (suc r.span.hi) y f in_t).0 ((given y).1 m)))) in
-        let ends : t.ends ≡ map (moved (suc r.span.hi - r.span.lo)) r.ends = sym (moved_none t.ends) ∙ (ap (λ n. map (moved n) t.ends) (sym z) ∙ (names ∙ (ap (λ n. map (moved n) s.ends) k ∙ ap (map (moved (suc r.span.hi - r.span.lo))) (sym ee)))) in
+        let names : map (further_end (suc r.span.hi - t.span.lo)) t.ends ≡ map (further_end (suc r.span.hi - s.span.lo)) s.ends = same_names (map (further_end (suc r.span.hi - t.span.lo)) t.ends) (map (further_end (suc r.span.hi - s.span.lo)) s.ends) (moved_ascending (suc r.span.hi - t.span.lo) t.ends p.4.2) (moved_ascending (suc r.span.hi - s.span.lo) s.ends q.2) (λ y. ((λ m. (given y).0 ((within_first (suc r.span.hi) t ts p.4 (suc r.span.hi) y f in_t).1 m)), (λ m. (within_first (suc r.span.hi) t ts p.4 (suc r.span.hi) y f in_t).0 ((given y).1 m)))) in
+        let ends : t.ends ≡ map (further_end (suc r.span.hi - r.span.lo)) r.ends = sym (moved_none t.ends) ∙ (ap (λ n. map (further_end n) t.ends) (sym z) ∙ (names ∙ (ap (λ n. map (further_end n) s.ends) k ∙ ap (map (further_end (suc r.span.hi - r.span.lo))) (sym ee)))) in
         p.3 tl ends
 
 same_row : (r s : Row) → r.span ≡ s.span → r.ends ≡ s.ends → r ≡ s
@@ -203,8 +203,8 @@ same_row r s e f = ap (λ t. record { span = t; ends = r.ends }) e ∙ ap (λ t.
 -- two lists of normal rows that give the same are one
 pub same_rows : (rs ss : List Row) (from : ℕ) → Apart from rs → Apart from ss → ((a : ℕ) (y : End) → a ≤ TOP → GivenBy rs a y ↔ GivenBy ss a y) → rs ≡ ss
 same_rows [] [] from p q same = refl
-same_rows [] (s ∷ ss) from p q same = absurd (let e = row_end s q.1 in let lo : s.span.lo ≤ s.span.hi = s.span.ordered in let hi : s.span.hi ≤ TOP = s.span.within in (same s.span.lo (moved (s.span.lo - s.span.lo) e.0) (omega arith)).1 (inl (in_from s.span s.span.lo (omega arith) lo, member_moved (s.span.lo - s.span.lo) s.ends e.0 e.1)))
-same_rows (r ∷ rs) [] from p q same = absurd (let e = row_end r p.1 in let lo : r.span.lo ≤ r.span.hi = r.span.ordered in let hi : r.span.hi ≤ TOP = r.span.within in (same r.span.lo (moved (r.span.lo - r.span.lo) e.0) (omega arith)).0 (inl (in_from r.span r.span.lo (omega arith) lo, member_moved (r.span.lo - r.span.lo) r.ends e.0 e.1)))
+same_rows [] (s ∷ ss) from p q same = absurd (let e = row_end s q.1 in let lo : s.span.lo ≤ s.span.hi = s.span.ordered in let hi : s.span.hi ≤ TOP = s.span.within in (same s.span.lo (further_end (s.span.lo - s.span.lo) e.0) (omega arith)).1 (inl (in_from s.span s.span.lo (omega arith) lo, member_moved (s.span.lo - s.span.lo) s.ends e.0 e.1)))
+same_rows (r ∷ rs) [] from p q same = absurd (let e = row_end r p.1 in let lo : r.span.lo ≤ r.span.hi = r.span.ordered in let hi : r.span.hi ≤ TOP = r.span.within in (same r.span.lo (further_end (r.span.lo - r.span.lo) e.0) (omega arith)).0 (inl (in_from r.span r.span.lo (omega arith) lo, member_moved (r.span.lo - r.span.lo) r.ends e.0 e.1)))
 same_rows (r ∷ rs) (s ∷ ss) from p q same = cons_same row (same_rows rs ss (suc r.span.hi) p.4 (subst (λ n. Apart (suc n) ss) (sym hi) q.4) tails)
   where
     cons_same : {u v : Row} {us vs : List Row} → u ≡ v → us ≡ vs → u ∷ us ≡ v ∷ vs
@@ -227,8 +227,8 @@ same_rows (r ∷ rs) (s ∷ ss) from p q same = cons_same row (same_rows rs ss (
         let e : r.span.lo ≡ s.span.lo = lo in
         let z : r.span.lo - r.span.lo ≡ 0 = omega arith in
         let w : r.span.lo - s.span.lo ≡ 0 = omega arith in
-        let names : map (moved (r.span.lo - r.span.lo)) r.ends ≡ map (moved (r.span.lo - s.span.lo)) s.ends = same_names (map (moved (r.span.lo - r.span.lo)) r.ends) (map (moved (r.span.lo - s.span.lo)) s.ends) (moved_ascending (r.span.lo - r.span.lo) r.ends p.2) (moved_ascending (r.span.lo - s.span.lo) s.ends q.2) (λ y. ((λ m. (within_first from s ss q r.span.lo y (omega arith) (omega arith)).0 ((same r.span.lo y (omega arith)).0 ((within_first from r rs p r.span.lo y (omega arith) (omega arith)).1 m))), (λ m. (within_first from r rs p r.span.lo y (omega arith) (omega arith)).0 ((same r.span.lo y (omega arith)).1 ((within_first from s ss q r.span.lo y (omega arith) (omega arith)).1 m))))) in
-        sym (moved_none r.ends) ∙ (ap (λ n. map (moved n) r.ends) (sym z) ∙ (names ∙ (ap (λ n. map (moved n) s.ends) w ∙ moved_none s.ends)))
+        let names : map (further_end (r.span.lo - r.span.lo)) r.ends ≡ map (further_end (r.span.lo - s.span.lo)) s.ends = same_names (map (further_end (r.span.lo - r.span.lo)) r.ends) (map (further_end (r.span.lo - s.span.lo)) s.ends) (moved_ascending (r.span.lo - r.span.lo) r.ends p.2) (moved_ascending (r.span.lo - s.span.lo) s.ends q.2) (λ y. ((λ m. (within_first from s ss q r.span.lo y (omega arith) (omega arith)).0 ((same r.span.lo y (omega arith)).0 ((within_first from r rs p r.span.lo y (omega arith) (omega arith)).1 m))), (λ m. (within_first from r rs p r.span.lo y (omega arith) (omega arith)).0 ((same r.span.lo y (omega arith)).1 ((within_first from s ss q r.span.lo y (omega arith) (omega arith)).1 m))))) in
+        sym (moved_none r.ends) ∙ (ap (λ n. map (further_end n) r.ends) (sym z) ∙ (names ∙ (ap (λ n. map (further_end n) s.ends) w ∙ moved_none s.ends)))
 
     hi : r.span.hi ≡ s.span.hi
     hi = elim (cases r.span.hi s.span.hi) [

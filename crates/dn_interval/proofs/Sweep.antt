@@ -13,8 +13,8 @@ use Rattle.dn_interval.specs.declared.row.Row.{Row}
 use Rattle.dn_interval.specs.declared.strand.Strand.{Strand}
 use Rattle.dn_interval.specs.declared.span.TheConstants.{TOP}
 use Rattle.dn_interval.specs.Spans.{in_span}
-use Rattle.dn_interval.specs.Rows.{moved, Ascending, HasEnds, Parted, Apart}
-use Rattle.dn_interval.specs.Strands.{slid, strand_gives, strands_give, slides_give, ends_give, row_gives, rows_give, IsMaximal}
+use Rattle.dn_interval.specs.Rows.{further_end, Ascending, HasEnds, Parted, Apart}
+use Rattle.dn_interval.specs.Strands.{is_slid, strand_gives, strands_give, slides_give, ends_give, row_gives, rows_give, IsMaximal}
 use Rattle.dn_interval.proofs.Membership.{in_from, lo_of, hi_of, in_below, in_above}
 use Rattle.dn_interval.proofs.Following.{strands_give-append, slid_node, slid_base, slid_from, gives_in}
 use Rattle.dn_interval.proofs.Least.{ends_at}
@@ -153,7 +153,7 @@ rows_below whole from (r ∷ s ∷ ss) to a y p c e = elim (or_cases (row_gives 
 
 -- a row that gives what is given where it begins stands apart from those that break there
 
-moved_gives : (es : List End) (lo at : ℕ) (y : End) → ends_give es lo at y ≡ ends_give (map (moved (at - lo)) es) at at y
+moved_gives : (es : List End) (lo at : ℕ) (y : End) → ends_give es lo at y ≡ ends_give (map (further_end (at - lo)) es) at at y
 moved_gives [] lo at y = refl
 moved_gives (e ∷ es) lo at y =
     let n : e.base + (at - lo) ≡ (e.base + (at - lo)) + (at - at) = omega arith in
@@ -163,7 +163,7 @@ moved_gives (e ∷ es) lo at y =
 parted : (whole : ℕ → End → Bool) (q r : Row) → (suc q.span.hi ≡ r.span.lo → Breaks whole q r.span.lo) → ((y : End) → ends_give r.ends r.span.lo r.span.lo y ≡ whole r.span.lo y) → Parted q (r ∷ [])
 parted whole q r b g e f = b (sym e) (λ y.
     moved_gives q.ends q.span.lo r.span.lo y
-    ∙ ap (λ n. ends_give (map (moved (n - q.span.lo)) q.ends) r.span.lo r.span.lo y) e
+    ∙ ap (λ n. ends_give (map (further_end (n - q.span.lo)) q.ends) r.span.lo r.span.lo y) e
     ∙ ap (λ l. ends_give l r.span.lo r.span.lo y) (sym f)
     ∙ g y)
 
@@ -183,13 +183,13 @@ closed_push whole (q ∷ qs) r to l b = go q qs
 
 -- a strand that ends at an address, and one that begins at it
 
-last_one : (gives : ℕ → End → Bool) (hi : ℕ) (xs : List Strand) → All (IsMaximal gives) xs → ends_at hi xs ≡ true → (s : Strand) × (IsMaximal gives s × ((s.span.hi ≡ hi) × ((a : ℕ) (y : End) → slid s.node s.slide a y ≡ true → slides_give xs a y ≡ true)))
+last_one : (gives : ℕ → End → Bool) (hi : ℕ) (xs : List Strand) → All (IsMaximal gives) xs → ends_at hi xs ≡ true → (s : Strand) × (IsMaximal gives s × ((s.span.hi ≡ hi) × ((a : ℕ) (y : End) → is_slid s.node s.slide a y ≡ true → slides_give xs a y ≡ true)))
 last_one gives hi [] m e = absurd (false≢true e)
 last_one gives hi (x ∷ xs) m e = elim (or_cases (nat_eq x.span.hi hi) (ends_at hi xs) e) [
-  | inl f ↦ (x, (All-head (IsMaximal gives) x xs m, (eqb-true x.span.hi hi f, λ a y g. or_left (slid x.node x.slide a y) (slides_give xs a y) g)))
+  | inl f ↦ (x, (All-head (IsMaximal gives) x xs m, (eqb-true x.span.hi hi f, λ a y g. or_left (is_slid x.node x.slide a y) (slides_give xs a y) g)))
   | inr f ↦
       let w = last_one gives hi xs (All-tail (IsMaximal gives) x xs m) f in
-      (w.0, (w.1.0, (w.1.1.0, λ a y g. or_right (slid x.node x.slide a y) (slides_give xs a y) (w.1.1.1 a y g))))
+      (w.0, (w.1.0, (w.1.1.0, λ a y g. or_right (is_slid x.node x.slide a y) (slides_give xs a y) (w.1.1.1 a y g))))
 ]
 
 first_one : (gives : ℕ → End → Bool) (lo : ℕ) (xs : List Strand) → All (IsMaximal gives) xs → list_any (λ (s : Strand). nat_eq s.span.lo lo) xs ≡ true → (s : Strand) × (IsMaximal gives s × ((s.span.lo ≡ lo) × ((a : ℕ) (y : End) → strand_gives s a y ≡ true → strands_give xs a y ≡ true)))
@@ -205,13 +205,13 @@ first_one gives lo (x ∷ xs) m e = elim (or_cases (nat_eq x.span.lo lo) (list_a
 abbrev pub name_of : Strand → ℕ → End
 name_of s a = record { node = s.node; base = s.slide + a - TOP }
 
-name_slid : (s : Strand) (a : ℕ) → s.span.lo ≤ a → slid s.node s.slide a (name_of s a) ≡ true
+name_slid : (s : Strand) (a : ℕ) → s.span.lo ≤ a → is_slid s.node s.slide a (name_of s a) ≡ true
 name_slid s a l = slid_from s.node s.slide a (name_of s a) refl (omega (arith, s.low))
 
 -- strands that run at an address and give a name to the next give the name before it there
 slid_back : (xs : List Strand) (hi : ℕ) (y : End) → All (λ (s : Strand). (s.span.lo ≤ hi) × (hi ≤ s.span.hi)) xs → slides_give xs (hi + 1) y ≡ true → (z : End) × ((strands_give xs hi z ≡ true) × ((z.node ≡ y.node) × (z.base + 1 ≡ y.base)))
 slid_back [] hi y p e = absurd (false≢true e)
-slid_back (x ∷ xs) hi y p e = elim (or_cases (slid x.node x.slide (hi + 1) y) (slides_give xs (hi + 1) y) e) [
+slid_back (x ∷ xs) hi y p e = elim (or_cases (is_slid x.node x.slide (hi + 1) y) (slides_give xs (hi + 1) y) e) [
   | inl f ↦ here f
   | inr f ↦
       let w = slid_back xs hi y (All-tail (λ (s : Strand). (s.span.lo ≤ hi) × (hi ≤ s.span.hi)) x xs p) f in
@@ -221,11 +221,11 @@ slid_back (x ∷ xs) hi y p e = elim (or_cases (slid x.node x.slide (hi + 1) y) 
     within : (x.span.lo ≤ hi) × (hi ≤ x.span.hi)
     within = p 0 x (omega arith)
 
-    here : slid x.node x.slide (hi + 1) y ≡ true → (z : End) × ((strands_give (x ∷ xs) hi z ≡ true) × ((z.node ≡ y.node) × (z.base + 1 ≡ y.base)))
+    here : is_slid x.node x.slide (hi + 1) y ≡ true → (z : End) × ((strands_give (x ∷ xs) hi z ≡ true) × ((z.node ≡ y.node) × (z.base + 1 ≡ y.base)))
     here f =
         let low : TOP ≤ x.slide + hi = omega (arith, x.low, within.0) in
         let sum : x.slide + (hi + 1) ≡ y.base + TOP = slid_base x.node x.slide (hi + 1) y f in
-        let gives : strand_gives x hi (name_of x hi) ≡ true = and_from (in_span x.span hi) (slid x.node x.slide hi (name_of x hi)) (in_from x.span hi within.0 within.1) (name_slid x hi within.0) in
+        let gives : strand_gives x hi (name_of x hi) ≡ true = and_from (in_span x.span hi) (is_slid x.node x.slide hi (name_of x hi)) (in_from x.span hi within.0 within.1) (name_slid x hi within.0) in
         (name_of x hi, (or_left (strand_gives x hi (name_of x hi)) (strands_give xs hi (name_of x hi)) gives, (slid_node x.node x.slide (hi + 1) y f, omega arith)))
 
 -- the next row
@@ -269,7 +269,7 @@ module _ (whole : ℕ → End → Bool) (made : List Row) (from hi : ℕ) (runni
   running_gives [] a y p l m = refl
   running_gives (x ∷ xs) a y p l m =
       let within = p 0 x (omega arith) in
-      ap (λ b. (b && slid x.node x.slide a y) || slides_give xs a y) (sym (in_from x.span a (omega (arith, within.0)) (omega (arith, within.1))))
+      ap (λ b. (b && is_slid x.node x.slide a y) || slides_give xs a y) (sym (in_from x.span a (omega (arith, within.0)) (omega (arith, within.1))))
       ∙ ap (λ b. strand_gives x a y || b) (running_gives xs a y (All-tail (λ (s : Strand). (s.span.lo ≤ from) × (hi ≤ s.span.hi)) x xs p) l m)
 
   rest_none : (a : ℕ) (y : End) → a ≤ hi → strands_give rest a y ≡ false
@@ -305,12 +305,12 @@ module _ (whole : ℕ → End → Bool) (made : List Row) (from hi : ℕ) (runni
     | inr e ↦ begun (first_one whole (hi + 1) rest v.rest_maximal e)
   ]
     where
-      ended : (s : Strand) × (IsMaximal whole s × ((s.span.hi ≡ hi) × ((a : ℕ) (y : End) → slid s.node s.slide a y ≡ true → slides_give running a y ≡ true))) → ⊥
+      ended : (s : Strand) × (IsMaximal whole s × ((s.span.hi ≡ hi) × ((a : ℕ) (y : End) → is_slid s.node s.slide a y ≡ true → slides_give running a y ≡ true))) → ⊥
       ended w =
           let s = w.0 in
           let at : s.span.hi ≡ hi = w.1.1.0 in
           let y = name_of s (hi + 1) in
-          let is : slid s.node s.slide (hi + 1) y ≡ true = name_slid s (hi + 1) (omega (arith, s.span.ordered)) in
+          let is : is_slid s.node s.slide (hi + 1) y ≡ true = name_slid s (hi + 1) (omega (arith, s.span.ordered)) in
           let none : whole (hi + 1) y ≡ false = w.1.0 (hi + 1) y is (inl (omega arith)) in
           let given : whole (hi + 1) y ≡ true = sym (h y) ∙ w.1.1.1 (hi + 1) y is in
           false≢true (sym none ∙ given)
@@ -320,15 +320,15 @@ module _ (whole : ℕ → End → Bool) (made : List Row) (from hi : ℕ) (runni
           let t = w.0 in
           let at : t.span.lo ≡ hi + 1 = w.1.1.0 in
           let y = name_of t (hi + 1) in
-          let is : slid t.node t.slide (hi + 1) y ≡ true = name_slid t (hi + 1) (omega arith) in
-          let gives : strand_gives t (hi + 1) y ≡ true = and_from (in_span t.span (hi + 1)) (slid t.node t.slide (hi + 1) y) (in_from t.span (hi + 1) (omega arith) (omega (arith, t.span.ordered))) is in
+          let is : is_slid t.node t.slide (hi + 1) y ≡ true = name_slid t (hi + 1) (omega arith) in
+          let gives : strand_gives t (hi + 1) y ≡ true = and_from (in_span t.span (hi + 1)) (is_slid t.node t.slide (hi + 1) y) (in_from t.span (hi + 1) (omega arith) (omega (arith, t.span.ordered))) is in
           let given : whole (hi + 1) y ≡ true = left_rest (hi + 1) y (omega (arith, hi_from)) (w.1.1.1 (hi + 1) y gives) in
           let back = slid_back running hi y holds (h y ∙ given) in
           let z = back.0 in
           let node : t.node ≡ z.node = slid_node t.node t.slide (hi + 1) y is ∙ sym back.1.1.0 in
           let base : z.base + 1 ≡ y.base = back.1.1.1 in
           let sum : t.slide + (hi + 1) ≡ y.base + TOP = slid_base t.node t.slide (hi + 1) y is in
-          let before : slid t.node t.slide hi z ≡ true = slid_from t.node t.slide hi z node (omega arith) in
+          let before : is_slid t.node t.slide hi z ≡ true = slid_from t.node t.slide hi z node (omega arith) in
           let none : whole hi z ≡ false = w.1.0 hi z before (inr (omega arith)) in
           false≢true (sym none ∙ left_running hi z hi_from back.1.0)
 
@@ -346,7 +346,7 @@ module _ (whole : ℕ → End → Bool) (made : List Row) (from hi : ℕ) (runni
     | inl k ↦
         ap (λ b. strands_give (cond b (x ∷ filter (λ (s : Strand). leb (hi + 1) s.span.hi) xs) (filter (λ (s : Strand). leb (hi + 1) s.span.hi) xs)) a y) (lt-leb (hi + 1) x.span.hi k)
         ∙ kept_gives xs a y l
-        ∙ ap (λ b. (b && slid x.node x.slide a y) || strands_give xs a y) (sym (in_above x.span a (omega arith)))
+        ∙ ap (λ b. (b && is_slid x.node x.slide a y) || strands_give xs a y) (sym (in_above x.span a (omega arith)))
     | inr k ↦
         ap (λ b. strands_give (cond b (x ∷ filter (λ (s : Strand). leb (hi + 1) s.span.hi) xs) (filter (λ (s : Strand). leb (hi + 1) s.span.hi) xs)) a y) (le-leb (hi + 1) x.span.hi k)
         ∙ ap (λ b. strand_gives x a y || b) (kept_gives xs a y l)

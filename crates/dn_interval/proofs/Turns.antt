@@ -5,7 +5,7 @@ use Rattle.std.proofs.lemmas.List.Folds.{list_any-append}
 use Rattle.dn_interval.specs.declared.row.End.{End}
 use Rattle.dn_interval.specs.declared.row.Row.{Row}
 use Rattle.dn_interval.specs.declared.row.Seg.{Seg}
-use Rattle.dn_interval.specs.Rows.{moved, Ascending, HasEnds, Parted, Apart}
+use Rattle.dn_interval.specs.Rows.{further_end, Ascending, HasEnds, Parted, Apart}
 use Rattle.dn_interval.specs.Runs.{is_in_turn, does_go_on, row_of}
 use Rattle.dn_interval.specs.Strands.{seg_gives, segs_give, row_gives, rows_give}
 
@@ -103,7 +103,7 @@ module _ (rows : List Row) (s t : Seg) (rest segs : List Seg) (state : Turning r
 
       parted : Parted (row_of s) (row_of t ∷ [])
       parted lo ends =
-          let e : ◌≡◌ {A = End} (record { node = t.node; base = t.base }) (moved (suc s.span.hi - s.span.lo) (record { node = s.node; base = s.base })) = head ends in
+          let e : ◌≡◌ {A = End} (record { node = t.node; base = t.base }) (further_end (suc s.span.hi - s.span.lo) (record { node = s.node; base = s.base })) = head ends in
           let n : suc s.span.hi ≡ s.span.hi + 1 = omega arith in
           let l : t.span.lo ≡ s.span.hi + 1 = lo ∙ n in
           let b : t.base ≡ s.base + ((s.span.hi + 1) - s.span.lo) = ap (λ x. x.base) e ∙ ap (λ k. s.base + (k - s.span.lo)) n in

@@ -9,21 +9,21 @@ use Rattle.dn_interval.specs.declared.span.TheConstants.{TOP}
 use Rattle.dn_interval.specs.Spans.{in_span}
 
 -- the name that a segment gives to an address of its span
-abbrev pub name_at : Seg → ℕ → End
-name_at s a = record { node = s.node; base = s.base + (a - s.span.lo) }
+abbrev pub seg_name_at : Seg → ℕ → End
+seg_name_at s a = record { node = s.node; base = s.base + (a - s.span.lo) }
 
 -- the names that segments give to an address
 abbrev pub names_at : List Seg → ℕ → List End
 names_at [] a = []
-names_at (s ∷ rest) a = cond (in_span s.span a) (name_at s a ∷ names_at rest a) (names_at rest a)
+names_at (s ∷ rest) a = cond (in_span s.span a) (seg_name_at s a ∷ names_at rest a) (names_at rest a)
 
 -- the segments give the name to the address
 abbrev pub SegmentsGive : List Seg → ℕ → End → Type 0
 SegmentsGive segs a y = Member y (names_at segs a)
 
 -- the name so many addresses further
-abbrev pub moved : ℕ → End → End
-moved d e = record { node = e.node; base = e.base + d }
+abbrev pub further_end : ℕ → End → End
+further_end d e = record { node = e.node; base = e.base + d }
 
 -- the order of names: by node, and then by address
 abbrev pub end_lt : End → End → Bool
@@ -47,7 +47,7 @@ HasEnds (x ∷ xs) = Unit {0}
 -- the next row, where it touches, does not go on with the names of this one
 abbrev pub Parted : Row → List Row → Type 0
 Parted r [] = Unit {0}
-Parted r (s ∷ rest) = s.span.lo ≡ suc r.span.hi → s.ends ≡ map (moved (suc r.span.hi - r.span.lo)) r.ends → ⊥
+Parted r (s ∷ rest) = s.span.lo ≡ suc r.span.hi → s.ends ≡ map (further_end (suc r.span.hi - r.span.lo)) r.ends → ⊥
 
 -- the rows stand at an address or above it, one above the other, each with names that ascend, and two
 -- that touch do not go on with one another
@@ -62,7 +62,7 @@ EndsFit r = All (λ (e : End). e.base + (r.span.hi - r.span.lo) ≤ TOP) r.ends
 -- the rows give the name to the address
 abbrev pub GivenBy : List Row → ℕ → End → Type 0
 GivenBy [] a y = ⊥
-GivenBy (r ∷ rest) a y = (IsTrue (in_span r.span a) × Member y (map (moved (a - r.span.lo)) r.ends)) ⊎ GivenBy rest a y
+GivenBy (r ∷ rest) a y = (IsTrue (in_span r.span a) × Member y (map (further_end (a - r.span.lo)) r.ends)) ⊎ GivenBy rest a y
 
 -- the rows give to every address the names that a function gives, and are the fewest that do
 pub record AreNormal (f : ℕ → End → Type 0) (rows : List Row) : Type 0 where

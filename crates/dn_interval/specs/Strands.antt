@@ -12,12 +12,12 @@ use Rattle.dn_interval.specs.declared.span.TheConstants.{TOP}
 use Rattle.dn_interval.specs.Spans.{in_span}
 
 -- the name is the one that a slide gives to an address in a node
-abbrev pub slid : ℕ → ℕ → ℕ → End → Bool
-slid node slide a y = nat_eq node y.node && nat_eq (slide + a) (y.base + TOP)
+abbrev pub is_slid : ℕ → ℕ → ℕ → End → Bool
+is_slid node slide a y = nat_eq node y.node && nat_eq (slide + a) (y.base + TOP)
 
 -- the strand gives the name to the address
 abbrev pub strand_gives : Strand → ℕ → End → Bool
-strand_gives s a y = in_span s.span a && slid s.node s.slide a y
+strand_gives s a y = in_span s.span a && is_slid s.node s.slide a y
 
 -- one of the strands gives the name to the address
 abbrev pub strands_give : List Strand → ℕ → End → Bool
@@ -25,7 +25,7 @@ strands_give strands a y = list_any (λ s. strand_gives s a y) strands
 
 -- the strands give the name to the address, if they have it
 abbrev pub slides_give : List Strand → ℕ → End → Bool
-slides_give strands a y = list_any (λ s. slid s.node s.slide a y) strands
+slides_give strands a y = list_any (λ s. is_slid s.node s.slide a y) strands
 
 -- the segment gives the name to the address
 abbrev pub seg_gives : Seg → ℕ → End → Bool
@@ -53,4 +53,4 @@ strand_cmp s t = ordering_then (ordering_then (nat_cmp s.node t.node) (nat_cmp s
 
 -- the strand's names, moved back before its first address or on past its last, are not given there
 abbrev pub IsMaximal : (ℕ → End → Bool) → Strand → Type 0
-IsMaximal gives s = (a : ℕ) (y : End) → slid s.node s.slide a y ≡ true → (a ≡ s.span.hi + 1) ⊎ (a + 1 ≡ s.span.lo) → gives a y ≡ false
+IsMaximal gives s = (a : ℕ) (y : End) → is_slid s.node s.slide a y ≡ true → (a ≡ s.span.hi + 1) ⊎ (a + 1 ≡ s.span.lo) → gives a y ≡ false

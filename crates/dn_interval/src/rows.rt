@@ -7,7 +7,7 @@ ghost use Rattle.dn_interval.specs.declared.row.Seg.{Seg};
 ghost use Rattle.dn_interval.specs.declared.row.End.{End};
 ghost use Rattle.dn_interval.specs.declared.row.Row.{Row};
 ghost use Rattle.dn_interval.specs.declared.strand.Strand.{Strand};
-ghost use Rattle.dn_interval.specs.Terms.{Apart, AreNormal, Ascending, EndsFit, HasEnds, IsMaximal, SegmentsGive, ends_give, in_span, rows_give, segs_give, slid, slides_give, strands_give};
+ghost use Rattle.dn_interval.specs.Terms.{Apart, AreNormal, Ascending, EndsFit, HasEnds, IsMaximal, SegmentsGive, ends_give, in_span, is_slid, rows_give, segs_give, slides_give, strands_give};
 
 use crate::row::{End, Ends, Row, Seg};
 use crate::span::{Span, TOP};
@@ -109,7 +109,7 @@ fn sweep(alloc: Global, strands: &[Strand]) -> Result<Vec<Row>, OutOfMemory>
     let mut from = 0;
     'rows: while !running.is_empty() || !rest.is_empty() {
         from = first_address(running.as_slice(), rest, from);
-        let (begun, later) = rest.split_at(begun_at(rest, from));
+        let (begun, later) = rest.split_at(begin_count(rest, from));
         running.extend_from_slice(begun)?;
         rest = later;
         let hi = last_address(running.as_slice(), rest);
@@ -139,7 +139,7 @@ fn first_address(running: &[Strand], rest: &[Strand], from: u64) -> u64
 }
 
 /// How many of the first strands begin at an address.
-fn begun_at(rest: &[Strand], from: u64) -> usize
+fn begin_count(rest: &[Strand], from: u64) -> usize
     requires later { All (λ (s : Strand). from ≤ s.span.lo) rest.now }
     requires sorted { IsNonDecreasingBy (λ (s : Strand). s.span.lo) rest.now }
     ensures within { result ≤ length rest.now }
@@ -229,7 +229,7 @@ fn end_at(from: u64, strand: &Strand) -> End
     requires { (strand.now.span.lo ≤ from) × (from ≤ strand.now.span.hi) }
     ensures { (a : ℕ) (y : End) → from ≤ a
         → (nat_eq result.node y.node && nat_eq (result.base + (a - from)) y.base)
-        ≡ slid strand.now.node strand.now.slide a y }
+        ≡ is_slid strand.now.node strand.now.slide a y }
 {
     End {
         node: strand.node,

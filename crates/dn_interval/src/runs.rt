@@ -39,13 +39,13 @@ pub fn rows_in_turn(alloc: Global, segs: &[Seg]) -> Result<Vec<Row>, OutOfMemory
     let rest = &segs[1..];
     for seg in rest {
         if goes_on(&current, seg) {
-            current = extended(&current, seg);
+            current = longer_seg(&current, seg);
         } else {
-            rows.push(single(alloc, &current))?;
+            rows.push(row_of_seg(alloc, &current))?;
             current = *seg;
         }
     }
-    rows.push(single(alloc, &current))?;
+    rows.push(row_of_seg(alloc, &current))?;
     Ok(rows)
 }
 
@@ -60,7 +60,7 @@ fn goes_on(current: &Seg, next: &Seg) -> bool
 }
 
 /// One segment for a segment and one that goes on with its names.
-fn extended(current: &Seg, next: &Seg) -> Seg
+fn longer_seg(current: &Seg, next: &Seg) -> Seg
     requires { does_go_on current.now next.now ≡ true }
     ensures lo { result.span.lo ≡ current.now.span.lo }
     ensures hi { result.span.hi ≡ next.now.span.hi }
@@ -81,7 +81,7 @@ fn extended(current: &Seg, next: &Seg) -> Seg
 }
 
 /// The row of a segment.
-fn single(alloc: Global, seg: &Seg) -> Row
+fn row_of_seg(alloc: Global, seg: &Seg) -> Row
     ensures { result ≡ row_of seg.now }
 {
     let end = End {

@@ -78,7 +78,7 @@ impl SpanSet {
             && has other.now a)) }
         ensures maximal { IfOk result (λ met. AreMaximal met) }
     {
-        let spans = common(alloc, self.spans(), other.spans())?;
+        let spans = common_spans(alloc, self.spans(), other.spans())?;
         Ok(SpanSet { spans })
     }
 
@@ -147,7 +147,7 @@ fn put(spans: &mut Vec<Span>, first: usize, last: usize, span: Span) -> Result<(
 }
 
 /// The maximal spans of the addresses that both lists have.
-fn common(alloc: Global, ours: &[Span], theirs: &[Span]) -> Result<Vec<Span>, OutOfMemory>
+fn common_spans(alloc: Global, ours: &[Span], theirs: &[Span]) -> Result<Vec<Span>, OutOfMemory>
     requires ours { AreMaximal ours.now }
     requires theirs { AreMaximal theirs.now }
     ensures same { IfOk result (λ met. (a : ℕ) → has met.items a ≡ (has ours.now a

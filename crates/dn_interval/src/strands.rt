@@ -26,7 +26,7 @@ pub fn strands_of(alloc: Global, segs: &[Seg]) -> Result<Vec<Strand>, OutOfMemor
 {
     let mut single = each_alone(alloc, segs)?;
     single.sort_by_key(|strand| (strand.node, strand.slide, strand.span.lo))?;
-    let mut strands = joined(alloc, single.as_slice())?;
+    let mut strands = joined_strands(alloc, single.as_slice())?;
     strands.sort_by_key(|strand| strand.span.lo)?;
     Ok(strands)
 }
@@ -56,7 +56,7 @@ fn strand_of(seg: &Seg) -> Strand
 
 /// Joins each strand with those behind it that go on with its names. The strands come by node, by
 /// slide and by first address.
-fn joined(alloc: Global, strands: &[Strand]) -> Result<Vec<Strand>, OutOfMemory>
+fn joined_strands(alloc: Global, strands: &[Strand]) -> Result<Vec<Strand>, OutOfMemory>
     requires { IsSorted strand_cmp strands.now }
     ensures same { IfOk result (λ out. (a : ℕ) (y : End) → strands_give out.items a y
         ≡ strands_give strands.now a y) }

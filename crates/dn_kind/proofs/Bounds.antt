@@ -15,7 +15,7 @@ use Rattle.dn_net.proofs.Chains.{chain_front}
 use Rattle.dn_net.proofs.Plain.{plain_at}
 use Rattle.dn_kind.specs.declared.unit_kind.Record.{Record}
 use Rattle.dn_kind.specs.Kind.{is_within}
-use Rattle.dn_kind.specs.Tables.{Held, to_port, output, steps_by_unit, StepUnder, step_limit_under, IsHeld, AreHeld, ReachUnderIsWithin}
+use Rattle.dn_kind.specs.Tables.{Held, name_at_port, output, steps_by_unit, StepUnder, step_limit_under, IsHeld, AreHeld, ReachUnderIsWithin}
 use Rattle.dn_kind.specs.Units.{unit_shape}
 
 steps_are : step_limit ≡ 65
@@ -80,7 +80,7 @@ module _ (net : List NodeDecl) (legal : IsLegalNet net) (h : Held) (held : AreHe
   pub led : (x z : Name) (u : UnitPart) → unit_at net x.node ≡ Some u → Member z (steps_by_unit net h x (Some u)) → Led net x z u
   led x z u at m = by (nat_le x.addr top) refl (h x.node (x.addr / 2 ^ u.page)) refl m
     where
-      out : (r : Record) → h x.node (x.addr / 2 ^ u.page) ≡ Some r → IsTrue (nat_le x.addr top) → (p : Option ℕ) → slice_get u.ports r.port ≡ p → Member z (to_port p (r.page * 2 ^ u.page + x.addr % 2 ^ u.page)) → Led net x z u
+      out : (r : Record) → h x.node (x.addr / 2 ^ u.page) ≡ Some r → IsTrue (nat_le x.addr top) → (p : Option ℕ) → slice_get u.ports r.port ≡ p → Member z (name_at_port p (r.page * 2 ^ u.page + x.addr % 2 ^ u.page)) → Led net x z u
       out r e t None f n = absurd n
       out r e t (Some p) f (inr n) = absurd n
       out r e t (Some p) f (inl s) = record {

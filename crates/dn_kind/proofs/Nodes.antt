@@ -7,13 +7,13 @@ use Rattle.dn_net.specs.declared.node.Name.{Name}
 use Rattle.dn_net.specs.declared.node.Dest.{Dest}
 use Rattle.dn_net.specs.declared.node.Entry.{Entry}
 use Rattle.dn_net.specs.declared.node.NodeDecl.{NodeDecl}
-use Rattle.dn_net.specs.Decode.{within, moved, by_over, by_entries, decode, sent_names, in_some_block, steps, is_accepted, is_accepted_at, refers_within, over_within, ports_within, is_closed, top, unit_at}
+use Rattle.dn_net.specs.Decode.{within, dest_name, by_over, by_entries, decode, sent_names, in_some_block, steps, is_accepted, is_accepted_at, refers_within, over_within, ports_within, is_closed, top, unit_at}
 use Rattle.dn_net.specs.Names.{name_lt, name_eq, with_name, sorted_names, each_step, passing_names, reached_names}
 use Rattle.dn_net.proofs.Latest.{sent_by}
 use Rattle.dn_net.specs.declared.node.Unit.{Unit as UnitPart}
 use Rattle.dn_net.proofs.Steps.{ports_at}
 use Rattle.dn_kind.specs.declared.unit_kind.Record.{Record}
-use Rattle.dn_kind.specs.Tables.{Held, to_port, output, steps_by_unit, steps_under, step_limit_under, resolved_names_under}
+use Rattle.dn_kind.specs.Tables.{Held, name_at_port, output, steps_by_unit, steps_under, step_limit_under, resolved_names_under}
 use Rattle.dn_kind.specs.Levels.{are_there}
 
 there_append : (count : ℕ) (xs ys : List Name) → IsTrue (are_there count xs) → IsTrue (are_there count ys) → IsTrue (are_there count (xs ++ ys))
@@ -22,7 +22,7 @@ there_append count (x ∷ xs) ys h k =
     let b = and_parts (nat_lt x.node count) (are_there count xs) h in
     and_from _ _ b.0 (there_append count xs ys b.1 k)
 
-moved_there : (count offset : ℕ) (ds : List Dest) → IsTrue (list_all (λ d. nat_lt d.node count) ds) → IsTrue (are_there count (map (moved offset) ds))
+moved_there : (count offset : ℕ) (ds : List Dest) → IsTrue (list_all (λ d. nat_lt d.node count) ds) → IsTrue (are_there count (map (dest_name offset) ds))
 moved_there count offset [] h = refl
 moved_there count offset (d ∷ ds) h =
     let b = and_parts (nat_lt d.node count) (list_all (λ (d : Dest). nat_lt d.node count) ds) h in
@@ -104,10 +104,10 @@ passing_there net (x ∷ xs) = go (passing_there net xs) (is_accepted net x) ref
 
 -- steps under records
 
-port_there : (count : ℕ) (ports : List ℕ) (i a : ℕ) → IsTrue (list_all (λ p. nat_lt p count) ports) → IsTrue (are_there count (to_port (slice_get ports i) a))
+port_there : (count : ℕ) (ports : List ℕ) (i a : ℕ) → IsTrue (list_all (λ p. nat_lt p count) ports) → IsTrue (are_there count (name_at_port (slice_get ports i) a))
 port_there count ports i a all = go (slice_get ports i) refl
   where
-    go : (o : Option ℕ) → slice_get ports i ≡ o → IsTrue (are_there count (to_port o a))
+    go : (o : Option ℕ) → slice_get ports i ≡ o → IsTrue (are_there count (name_at_port o a))
     go None e = refl
     go (Some p) e = and_from _ _ (list_all-at (λ p. nat_lt p count) ports i p all e) refl
 

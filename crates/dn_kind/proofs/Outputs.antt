@@ -11,8 +11,8 @@ use Rattle.dn_net.specs.declared.node.Unit.{Unit as UnitPart}
 use Rattle.dn_net.specs.Decode.{top, unit_at, is_stop, is_stop_at}
 use Rattle.dn_kind.specs.declared.shape.Shape.{Shape}
 use Rattle.dn_kind.specs.declared.unit_kind.Record.{Record}
-use Rattle.dn_kind.specs.Kind.{Meaning, IsLawful, is_plain, is_within}
-use Rattle.dn_kind.specs.Tables.{Held, IsHeld, record_held, to_port, output, steps_by_unit, steps_under}
+use Rattle.dn_kind.specs.Kind.{Meaning, IsLawful, is_plain_unit_shape, is_within}
+use Rattle.dn_kind.specs.Tables.{Held, IsHeld, record_held, name_at_port, output, steps_by_unit, steps_under}
 use Rattle.dn_kind.specs.Units.{unit_shape}
 use Rattle.dn_net.proofs.Steps.{unit_is}
 use Rattle.dn_kind.proofs.Held.{held_records_fit}
@@ -23,7 +23,7 @@ pub record HasPages (s : Shape) : Type 0 where
   pub order : s.page ≤ s.reach
   pub reach : s.reach ≤ 56
 
-pub has_pages : (s : Shape) → IsTrue (is_plain s) → HasPages s
+pub has_pages : (s : Shape) → IsTrue (is_plain_unit_shape s) → HasPages s
 has_pages s p = record { page = grind arith; order = grind arith; reach = grind arith }
 
 -- the size of a page, as it is shifted
@@ -36,7 +36,7 @@ pub page_some : (p : ℕ) → p ≤ 40 → 0 < 1 * 2 ^ p % 18446744073709551616
 page_some p l = let e = page_is p l in let o : 1 ≤ 2 ^ p = one-le-pow p 2 (omega arith) in omega arith
 
 -- the output is below 2^56
-pub output_small : (s : Shape) (r : Record) (a : ℕ) → IsTrue (is_plain s) → IsTrue (is_within s r) → r.page * 2 ^ s.page + a % 2 ^ s.page < 72057594037927936
+pub output_small : (s : Shape) (r : Record) (a : ℕ) → IsTrue (is_plain_unit_shape s) → IsTrue (is_within s r) → r.page * 2 ^ s.page + a % 2 ^ s.page < 72057594037927936
 output_small s r a plain within =
     let h : HasPages s = has_pages s plain in
     let w = and_parts (nat_lt r.port s.ports) (nat_lt r.page (2 ^ (s.reach - s.page))) within in
@@ -55,18 +55,18 @@ pub port_there : (s : Shape) (r : Record) → IsTrue (is_within s r) → r.port 
 port_there s r within = ltb-true r.port s.ports (and_parts (nat_lt r.port s.ports) (nat_lt r.page (2 ^ (s.reach - s.page))) within).0
 
 -- so it fits, with the size of a page as it is shifted
-pub output_fits : (s : Shape) (r : Record) (a : ℕ) → IsTrue (is_plain s) → IsTrue (is_within s r) → r.page * (1 * 2 ^ s.page % 18446744073709551616) + a % (1 * 2 ^ s.page % 18446744073709551616) < 72057594037927936
+pub output_fits : (s : Shape) (r : Record) (a : ℕ) → IsTrue (is_plain_unit_shape s) → IsTrue (is_within s r) → r.page * (1 * 2 ^ s.page % 18446744073709551616) + a % (1 * 2 ^ s.page % 18446744073709551616) < 72057594037927936
 output_fits s r a plain within = subst (λ n. r.page * n + a % n < 72057594037927936) (sym (page_is s.page (has_pages s plain).page)) (output_small s r a plain within)
 
 -- the name that is sent
-pub sent_is : (u : UnitPart) (r : Record) (a port p : ℕ) (d : ℕ) → IsTrue (is_plain (unit_shape u)) → r.port < length u.ports → port ≡ get_or u.ports r.port d → ◌≡◌ {A = List Name} (record { node = port; addr = r.page * (1 * 2 ^ u.page % 18446744073709551616) + a % (1 * 2 ^ u.page % 18446744073709551616) } ∷ []) (output u (Some r) a)
+pub sent_is : (u : UnitPart) (r : Record) (a port p : ℕ) (d : ℕ) → IsTrue (is_plain_unit_shape (unit_shape u)) → r.port < length u.ports → port ≡ get_or u.ports r.port d → ◌≡◌ {A = List Name} (record { node = port; addr = r.page * (1 * 2 ^ u.page % 18446744073709551616) + a % (1 * 2 ^ u.page % 18446744073709551616) } ∷ []) (output u (Some r) a)
 sent_is u r a port p d plain l at =
     let h : HasPages (unit_shape u) = has_pages (unit_shape u) plain in
     let e : 1 * 2 ^ u.page % 18446744073709551616 ≡ 2 ^ u.page = page_is u.page h.page in
     let there : Some (get_or u.ports r.port d) ≡ slice_get u.ports r.port = slice_get-at' u.ports r.port d l in
     ap (λ n. record { node = port; addr = r.page * n + a % n } ∷ []) e
     ∙ ap (λ n. record { node = n; addr = r.page * 2 ^ u.page + a % 2 ^ u.page } ∷ []) at
-    ∙ ap (λ o. to_port o (r.page * 2 ^ u.page + a % 2 ^ u.page)) there
+    ∙ ap (λ o. name_at_port o (r.page * 2 ^ u.page + a % 2 ^ u.page)) there
   where
     slice_get-at' : (xs : List ℕ) (i d : ℕ) → i < length xs → Some (get_or xs i d) ≡ slice_get xs i
     slice_get-at' [] i d l = absurd (omega arith)

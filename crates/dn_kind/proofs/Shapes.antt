@@ -9,7 +9,7 @@ use Rattle.dn_net.specs.Decode.{unit_at}
 use Rattle.dn_net.specs.Units.{has_plain_units}
 use Rattle.dn_net.proofs.Members.{some_same}
 use Rattle.dn_net.proofs.Plain.{plain_each}
-use Rattle.dn_kind.specs.Kind.{Meaning, is_plain}
+use Rattle.dn_kind.specs.Kind.{Meaning, is_plain_unit_shape}
 use Rattle.dn_kind.specs.Units.{unit_shape, fits_shape, is_shaped, has_shape, has_kind, shape_fault, shape_fault_from, IsFirstMisshapen, ShapeFaultIsFirst}
 
 -- the unit of a node has one of the kinds where that of each node has
@@ -104,4 +104,4 @@ shape_fault_is_first kinds net = (
 
 -- where no unit breaks the rule, each has a plain shape
 pub shaped_plain : (kinds : List Meaning) (net : List NodeDecl) → shape_fault kinds net ≡ None → IsTrue (has_plain_units net)
-shaped_plain kinds net h = plain_each net (λ n u at. (and_parts (is_plain (unit_shape u)) (fits_shape (slice_get kinds u.kind) (unit_shape u)) (((shape_fault_is_first kinds net).0.0 h).shaped n u at)).0)
+shaped_plain kinds net h = plain_each net (λ n u at. (and_parts (is_plain_unit_shape (unit_shape u)) (fits_shape (slice_get kinds u.kind) (unit_shape u)) (((shape_fault_is_first kinds net).0.0 h).shaped n u at)).0)

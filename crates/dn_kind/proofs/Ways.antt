@@ -13,7 +13,7 @@ use Rattle.dn_net.proofs.Chains.{chain_more}
 use Rattle.dn_kind.specs.declared.rights.Access.{Access}
 use Rattle.dn_kind.specs.declared.unit_kind.Record.{Record}
 use Rattle.dn_kind.specs.Rights.{allows}
-use Rattle.dn_kind.specs.Tables.{AreHeld, Held, IsHeld, allowing, record_allowing, to_port, output, steps_by_unit, steps_under, StepUnder, Extends, MoreRecordsKeepNames}
+use Rattle.dn_kind.specs.Tables.{AreHeld, Held, IsHeld, allowing, record_allowing, name_at_port, output, steps_by_unit, steps_under, StepUnder, Extends, MoreRecordsKeepNames}
 use Rattle.dn_kind.specs.Ways.{NoFork, Slot, slot_in, PassesIn, OneWayToUnit, ChainPassesSlots, OneRowOfSlots, LegalOneWayToUnit, LegalOneRowOfSlots}
 
 -- of two chains from one name, where a name that reaches the end of the first has one step at most, one goes on with the other
@@ -76,7 +76,7 @@ pub more_records_keep_names : MoreRecordsKeepNames
 more_records_keep_names net h h' e x y r =
     (r.0, (r.1.0, r.1.1, chain_more (StepUnder net h) (StepUnder net h') (λ a b. member_more net h h' e a b (unit_at net a.node)) r.1.0 x y r.1.2))
 
-few_to_port : (p : Option ℕ) (a : ℕ) → length (to_port p a) ≤ 1
+few_to_port : (p : Option ℕ) (a : ℕ) → length (name_at_port p a) ≤ 1
 few_to_port None a = omega arith
 few_to_port (Some p) a = omega arith
 

@@ -7,8 +7,8 @@ use Rattle.dn_kind.specs.declared.unit_kind.Record.{Record}
 use Rattle.dn_kind.specs.Rights.{are_rights}
 
 -- a unit may have this shape, whatever its kind
-abbrev pub is_plain : Shape → Bool
-is_plain shape = is_plain_shape shape.page shape.slots shape.reach shape.ports
+abbrev pub is_plain_unit_shape : Shape → Bool
+is_plain_unit_shape shape = is_plain_shape shape.page shape.slots shape.reach shape.ports
 
 -- a unit of this shape can hold the record: it has the port, and the output is below its reach
 abbrev pub is_within : Shape → Record → Bool
@@ -29,7 +29,7 @@ kind_place kinds name = position (λ k. bytes_eq name k.name) kinds
 
 -- a kind may be asked for the words of the record in the shape
 pub record IsPackable (kind : Meaning) (shape : Shape) (r : Record) : Type 0 where
-  pub plain : IsTrue (is_plain shape)
+  pub plain : IsTrue (is_plain_unit_shape shape)
   pub fits : IsTrue (kind.fits shape)
   pub within : IsTrue (is_within shape r)
   pub rights : IsTrue (are_rights r.rights)

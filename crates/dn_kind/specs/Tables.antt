@@ -63,14 +63,14 @@ abbrev pub allowing : Access → Held → Held
 allowing access h node slot = record_allowing access (h node slot)
 
 -- the port's node at an address, where there is the port
-abbrev pub to_port : Option ℕ → ℕ → List Name
-to_port None a = []
-to_port (Some node) a = record { node = node; addr = a } ∷ []
+abbrev pub name_at_port : Option ℕ → ℕ → List Name
+name_at_port None a = []
+name_at_port (Some node) a = record { node = node; addr = a } ∷ []
 
 -- the output of a slot for an address: on the output page, at the address's offset in its slot
 abbrev pub output : UnitPart → Option Record → ℕ → List Name
 output u None a = []
-output u (Some r) a = to_port (slice_get u.ports r.port) (r.page * 2 ^ u.page + a % 2 ^ u.page)
+output u (Some r) a = name_at_port (slice_get u.ports r.port) (r.page * 2 ^ u.page + a % 2 ^ u.page)
 
 -- the names to which a name decodes in one step, where its node is this unit, or none
 abbrev pub steps_by_unit : List NodeDecl → Held → Name → Option UnitPart → List Name

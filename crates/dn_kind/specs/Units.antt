@@ -7,7 +7,7 @@ use Rattle.dn_net.specs.Legal.{IsLegalNet}
 use Rattle.dn_kind.specs.declared.shape.Shape.{Shape}
 use Rattle.dn_kind.specs.declared.units.UnitFault.{UnitFault}
 use Rattle.dn_kind.specs.declared.units.UnitFault.TheVariants.{UnitShape}
-use Rattle.dn_kind.specs.Kind.{Meaning, is_plain}
+use Rattle.dn_kind.specs.Kind.{Meaning, is_plain_unit_shape}
 
 -- the shape of a unit
 abbrev pub unit_shape : UnitPart → Shape
@@ -20,7 +20,7 @@ fits_shape (Some kind) shape = kind.fits shape
 
 -- the unit has a shape that a unit may have, and that its kind fits
 abbrev pub is_shaped : List Meaning → UnitPart → Bool
-is_shaped kinds u = is_plain (unit_shape u) && fits_shape (slice_get kinds u.kind) (unit_shape u)
+is_shaped kinds u = is_plain_unit_shape (unit_shape u) && fits_shape (slice_get kinds u.kind) (unit_shape u)
 
 -- a node that is no unit, or a unit that is shaped so
 abbrev pub has_shape : List Meaning → Option UnitPart → Bool

@@ -2,7 +2,7 @@
 
 ghost use Rattle.std.specs.Prelude.{◌≡◌, ◌++◌, [], ◌∷◌, ◌+◌, ◌<◌, ◌^◌, map, nat_le, IfOk, OnOk, IsTrue};
 ghost use Rattle.std.specs.List.{list_all};
-ghost use Rattle.dn_net.specs.Terms.{moved, sorted_names, top};
+ghost use Rattle.dn_net.specs.Terms.{dest_name, sorted_names, top};
 ghost use Rattle.dn_kind.specs.Terms.{name_list};
 
 use dn_net::names::Names;
@@ -34,18 +34,18 @@ pub fn push_sent(next: &mut Vec<Name>, sent: Option<Name>) -> Result<(), AllocEr
 /// Appends the destinations, the address of each raised by the offset.
 pub fn push_moved(next: &mut Vec<Name>, dests: &[Dest], offset: u64) -> Result<(), AllocError>
     requires { IsTrue (list_all (λ d. nat_le (d.addr + offset) top) dests.now) }
-    ensures { OnOk result (next.new.items ≡ next.old.items ++ map (moved offset) dests.now) }
+    ensures { OnOk result (next.new.items ≡ next.old.items ++ map (dest_name offset) dests.now) }
 {
     for dest in dests {
-        next.push(moved(*dest, offset))?;
+        next.push(dest_name(*dest, offset))?;
     }
     Ok(())
 }
 
 /// The destination, its address raised by the offset.
-fn moved(dest: Dest, offset: u64) -> Name
+fn dest_name(dest: Dest, offset: u64) -> Name
     requires { dest.addr + offset < 2 ^ 64 }
-    ensures { result ≡ moved offset dest }
+    ensures { result ≡ dest_name offset dest }
 {
     Name {
         node: dest.node,

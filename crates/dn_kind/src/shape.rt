@@ -1,7 +1,7 @@
 //! The shape of a unit.
 
 ghost use Rattle.std.specs.Prelude.{◌≡◌, ◌≤◌, length};
-ghost use Rattle.dn_kind.specs.Terms.{is_plain, unit_shape};
+ghost use Rattle.dn_kind.specs.Terms.{is_plain_unit_shape, unit_shape};
 
 use dn_net::node::{Unit, is_plain_shape};
 pub use dn_net::node::{MAX_PAGE, MAX_PORTS, MAX_REACH, MAX_SLOTS};
@@ -23,7 +23,7 @@ impl Shape {
     /// Whether a unit may have this shape, whatever its kind: a page of at most [`MAX_PAGE`], 1 to
     /// [`MAX_SLOTS`] slots, a reach from the page to [`MAX_REACH`], and 1 to [`MAX_PORTS`] ports.
     pub fn is_plain(self) -> bool
-        ensures { result ≡ is_plain self }
+        ensures { result ≡ is_plain_unit_shape self }
     {
         is_plain_shape(self.page, self.slots, self.reach, usize::from(self.ports))
     }

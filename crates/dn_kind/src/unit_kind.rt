@@ -1,7 +1,7 @@
 //! Records, and the kinds of units as trait objects.
 
 ghost use Rattle.std.specs.Prelude.{◌≡◌, ◌-◌, ◌++◌, length, replicate, IsTrue};
-ghost use Rattle.dn_kind.specs.Terms.{IsPackable, Meaning, is_plain, is_within};
+ghost use Rattle.dn_kind.specs.Terms.{IsPackable, Meaning, is_plain_unit_shape, is_within};
 
 use crate::rights::Rights;
 use crate::shape::Shape;
@@ -22,7 +22,7 @@ impl Record {
     /// Whether a unit of this shape can hold the record: the port is one of its, and the output
     /// page is below `2^(reach - page)`.
     pub fn is_within(self, shape: Shape) -> bool
-        requires { IsTrue (is_plain shape) }
+        requires { IsTrue (is_plain_unit_shape shape) }
         ensures { result ≡ is_within shape self }
     {
         self.port < shape.ports && self.page < 1 << (shape.reach - shape.page)

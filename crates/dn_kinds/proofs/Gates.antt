@@ -8,14 +8,14 @@ use Rattle.dn_kind.specs.declared.rights.Rights.{Rights}
 use Rattle.dn_kind.specs.declared.shape.Shape.{Shape}
 use Rattle.dn_kind.specs.declared.unit_kind.Record.{Record}
 use Rattle.dn_kind.specs.Rights.{allows, are_rights, both_rights}
-use Rattle.dn_kind.specs.Kind.{Meaning, IsPackable, is_plain}
-use Rattle.dn_kinds.specs.Layouts.{bits, denied, reading, writing, rights_left, record_with}
+use Rattle.dn_kind.specs.Kind.{Meaning, IsPackable, is_plain_unit_shape}
+use Rattle.dn_kinds.specs.Layouts.{bits, denial, read_right, write_right, rights_left, record_with}
 
 -- a shape that a unit may have has at most 8 ports, and outputs below 2^56
-pub few_ports : (shape : Shape) → IsTrue (is_plain shape) → shape.ports ≤ 8
+pub few_ports : (shape : Shape) → IsTrue (is_plain_unit_shape shape) → shape.ports ≤ 8
 few_ports shape plain = leb-true _ _ (and_parts _ _ plain).1
 
-pub low_reach : (shape : Shape) → IsTrue (is_plain shape) → shape.reach ≤ 56
+pub low_reach : (shape : Shape) → IsTrue (is_plain_unit_shape shape) → shape.reach ≤ 56
 low_reach shape plain = leb-true _ _ (and_parts _ _ (and_parts _ _ (and_parts _ _ plain).0).0).1
 
 -- a record that may be packed has a port below 8, and an output page below 2^56
@@ -34,7 +34,7 @@ page_small kind shape r p =
     omega arith
 
 -- a denial is one bit
-pub denied_small : (access : Access) (rights : Rights) → denied access rights ≤ 1
+pub denied_small : (access : Access) (rights : Rights) → denial access rights ≤ 1
 denied_small access rights = by (allows rights access)
   where
     by : (b : Bool) → (if b then 0 else 1) ≤ 1
@@ -42,10 +42,10 @@ denied_small access rights = by (allows rights access)
     by false = omega arith
 
 -- rights that are reading, writing or both are what their denials leave
-pub rights_back : (rights : Rights) (word : ℕ) → IsTrue (are_rights rights) → bits word 4 1 ≡ denied Read rights → bits word 5 1 ≡ denied Write rights → rights_left word ≡ Some rights
+pub rights_back : (rights : Rights) (word : ℕ) → IsTrue (are_rights rights) → bits word 4 1 ≡ denial Read rights → bits word 5 1 ≡ denial Write rights → rights_left word ≡ Some rights
 rights_back rights word are e f = by rights.0 are e f
   where
-    by : (n : ℕ) → IsTrue (are_rights (record { 0 = n })) → bits word 4 1 ≡ denied Read (record { 0 = n }) → bits word 5 1 ≡ denied Write (record { 0 = n }) → rights_left word ≡ Some (record { 0 = n })
+    by : (n : ℕ) → IsTrue (are_rights (record { 0 = n })) → bits word 4 1 ≡ denial Read (record { 0 = n }) → bits word 5 1 ≡ denial Write (record { 0 = n }) → rights_left word ≡ Some (record { 0 = n })
     by zero are e f = cc
     by (suc zero) are e f = rw (e, f) refl
     by (suc (suc zero)) are e f = rw (e, f) refl
@@ -61,10 +61,10 @@ left_are_rights word rights e = by (bits word 4 1 == 0) (bits word 5 1 == 0) e
     same : (x y : Rights) → IsTrue (are_rights x) → ◌≡◌ {A = Option Rights} (Some x) (Some y) → IsTrue (are_rights y)
     same x y h e = let f : x ≡ y = cc in subst (λ z. IsTrue (are_rights z)) f h
 
-    by : (b c : Bool) → (if b then (if c then Some both_rights else Some reading) else (if c then Some writing else None)) ≡ Some rights → IsTrue (are_rights rights)
+    by : (b c : Bool) → (if b then (if c then Some both_rights else Some read_right) else (if c then Some write_right else None)) ≡ Some rights → IsTrue (are_rights rights)
     by true true e = same both_rights rights refl e
-    by true false e = same reading rights refl e
-    by false true e = same writing rights refl e
+    by true false e = same read_right rights refl e
+    by false true e = same write_right rights refl e
     by false false e = cc
 
 -- and so are the rights of a record that is read

@@ -6,7 +6,7 @@ use Rattle.dn_kind.specs.declared.shape.Shape.{Shape}
 use Rattle.dn_kind.specs.declared.unit_kind.Record.{Record}
 use Rattle.dn_kind.specs.Rights.{are_rights}
 use Rattle.dn_kind.specs.Kind.{Meaning, IsPackable, IsLawful, gate_word}
-use Rattle.dn_kinds.specs.Layouts.{bits, denied, denials, rights_left, record_with, unpack_word, pack_pages, spelled_pages, pages, pack_remap, spelled_remap, remap, pack_vectors, unpack_vectors, vectors}
+use Rattle.dn_kinds.specs.Layouts.{bits, denial, denials, rights_left, record_with, unpack_word, pack_pages, spelled_pages, pages, pack_remap, spelled_remap, remap, pack_vectors, unpack_vectors, vectors}
 use Rattle.dn_kinds.proofs.Gates.{port_small, page_small, denied_small, rights_back, read_are_rights, gate_clear, PagesBits, pages_bits, RemapBits, remap_bits, VectorsBits, vectors_bits}
 
 -- the port of a kind with one port is 0
@@ -40,7 +40,7 @@ module _ (name : List ℕ) (fits : Shape → Bool) (word : Shape → Record → 
 pages_back : (shape : Shape) (r : Record) → IsPackable pages shape r → unpack_word spelled_pages (pack_pages shape r) ≡ Some r
 pages_back shape r p =
     let w : ℕ = 1 + denials r.rights + 256 * r.page in
-    let b : PagesBits (denied Read r.rights) (denied Write r.rights) r.page w = pages_bits _ _ _ (denied_small Read r.rights) (denied_small Write r.rights) (page_small pages shape r p) in
+    let b : PagesBits (denial Read r.rights) (denial Write r.rights) r.page w = pages_bits _ _ _ (denied_small Read r.rights) (denied_small Write r.rights) (page_small pages shape r p) in
     let left : rights_left w ≡ Some r.rights = rights_back r.rights w p.rights b.read b.write in
     let one : shape.ports ≡ 1 = eqb-true shape.ports 1 p.fits in
     let port : r.port ≡ 0 = lone_port pages shape r p one in
@@ -57,7 +57,7 @@ pages_are_lawful = word_is_lawful pages.name pages.fits (λ shape r. 1 + denials
 remap_back : (shape : Shape) (r : Record) → IsPackable remap shape r → unpack_word spelled_remap (pack_remap shape r) ≡ Some r
 remap_back shape r p =
     let w : ℕ = 1 + 2 * r.port + denials r.rights + 256 * r.page in
-    let b : RemapBits r.port (denied Read r.rights) (denied Write r.rights) r.page w = remap_bits _ _ _ _ (port_small remap shape r p) (denied_small Read r.rights) (denied_small Write r.rights) (page_small remap shape r p) in
+    let b : RemapBits r.port (denial Read r.rights) (denial Write r.rights) r.page w = remap_bits _ _ _ _ (port_small remap shape r p) (denied_small Read r.rights) (denied_small Write r.rights) (page_small remap shape r p) in
     let left : rights_left w ≡ Some r.rights = rights_back r.rights w p.rights b.read b.write in
     ap (λ n. if (n == 1) && (bits w 6 2 == 0) then record_with (bits w 1 3) (bits w 8 56) (rights_left w) else None) b.gate
     ∙ ap (λ n. if n == 0 then record_with (bits w 1 3) (bits w 8 56) (rights_left w) else None) b.high
@@ -71,7 +71,7 @@ remap_is_lawful = word_is_lawful remap.name remap.fits (λ shape r. 1 + 2 * r.po
 vectors_back : (shape : Shape) (r : Record) → IsPackable vectors shape r → unpack_vectors (pack_vectors shape r) ≡ Some r
 vectors_back shape r p =
     let w : ℕ = 1 + 2 * r.port + denials r.rights in
-    let b : VectorsBits r.port (denied Read r.rights) (denied Write r.rights) w = vectors_bits _ _ _ (port_small vectors shape r p) (denied_small Read r.rights) (denied_small Write r.rights) in
+    let b : VectorsBits r.port (denial Read r.rights) (denial Write r.rights) w = vectors_bits _ _ _ (port_small vectors shape r p) (denied_small Read r.rights) (denied_small Write r.rights) in
     let left : rights_left w ≡ Some r.rights = rights_back r.rights w p.rights b.read b.write in
     ap (λ n. if (n == 1) && (bits w 6 58 == 0) then record_with (bits w 1 3) r.page (rights_left w) else None) b.gate
     ∙ ap (λ n. if n == 0 then record_with (bits w 1 3) r.page (rights_left w) else None) b.high

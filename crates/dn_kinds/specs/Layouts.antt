@@ -13,27 +13,27 @@ abbrev pub bits : ℕ → ℕ → ℕ → ℕ
 bits word first count = word / 2 ^ first % 2 ^ count
 
 -- 1 where an access is not one of the rights, and 0 where it is
-abbrev pub denied : Access → Rights → ℕ
-denied access rights = if allows rights access then 0 else 1
+abbrev pub denial : Access → Rights → ℕ
+denial access rights = if allows rights access then 0 else 1
 
 -- what denies an access in a gate word: bit 4 reading, and bit 5 writing
 abbrev pub denials : Rights → ℕ
-denials rights = 2 ^ 4 * denied Read rights + 2 ^ 5 * denied Write rights
+denials rights = 2 ^ 4 * denial Read rights + 2 ^ 5 * denial Write rights
 
 -- reading alone
-abbrev pub reading : Rights
-reading = record { 0 = 1 }
+abbrev pub read_right : Rights
+read_right = record { 0 = 1 }
 
 -- writing alone
-abbrev pub writing : Rights
-writing = record { 0 = 2 }
+abbrev pub write_right : Rights
+write_right = record { 0 = 2 }
 
 -- the rights that a gate word leaves, if it leaves any
 abbrev pub rights_left : ℕ → Option Rights
 rights_left word =
     if bits word 4 1 == 0
-    then (if bits word 5 1 == 0 then Some both_rights else Some reading)
-    else (if bits word 5 1 == 0 then Some writing else None)
+    then (if bits word 5 1 == 0 then Some both_rights else Some read_right)
+    else (if bits word 5 1 == 0 then Some write_right else None)
 
 -- the record of a port, a page and rights, if there are any
 abbrev pub record_with : ℕ → ℕ → Option Rights → Option Record

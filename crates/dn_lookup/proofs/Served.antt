@@ -15,11 +15,12 @@ use Rattle.dn_kind.specs.Kind.{Meaning, IsLawful}
 use Rattle.dn_kind.specs.Tables.{Held, record_held, AreTables, record_allowing, resolved_names_under}
 use Rattle.dn_kind.specs.Cleared.{kept_slots, kept_of_kind, kept_words, kept_tables, is_open_in, words_allowing}
 use Rattle.dn_kind.proofs.Allowed.{records_allowing, tables_kept, front_sized}
-use Rattle.dn_image.specs.Image.{ImageWords, width_by, word_count}
+use Rattle.dn_tables.specs.Set.{width_by}
+use Rattle.dn_image.specs.Image.{ImageWords, word_count}
 use Rattle.dn_image.specs.Reading.{BrokenImage, broken_image, node_words, nodes_size, image_words, version_of, reading_by, image_reading}
 use Rattle.dn_image.proofs.Numbers.{length_spelled}
 use Rattle.dn_image.proofs.Places.{words_at_node}
-use Rattle.dn_lookup.specs.Lookup.{no_agent, no_image, image_records, looked_up_in, lookup_of, record_through, bytes_records}
+use Rattle.dn_lookup.specs.Lookup.{no_agent, no_image, image_records, lookup_in, lookup_of, record_through, bytes_records}
 
 slots_sized : (kept : ℕ → Bool) (w first count : ℕ) (ws : List ℕ) → length ws ≡ count * w → length (kept_slots kept w first count ws) ≡ count * w
 slots_sized kept w first zero ws e = e
@@ -121,8 +122,8 @@ records_served net kinds bytes access version lawful = (λ i node slot. slot_ser
 -- a lookup in bytes that are an image of the net
 pub looked_up : (net : List NodeDecl) (kinds : List Meaning) (bytes : List ℕ) (access : Access) (x : Name) (version : ℕ) (names : List Name) → All IsLawful kinds → is_agent_at (slice_get net x.node) ≡ true → broken_image net kinds bytes ≡ None → version ≡ version_of bytes → names ≡ resolved_names_under net (bytes_records net kinds bytes version access) x → lookup_of net kinds bytes access x ≡ Ok names
 looked_up net kinds bytes access x version names lawful agent whole same found =
-    ap (λ c. if c then looked_up_in net kinds access x (image_reading net kinds bytes) else Err no_agent) agent
-    ∙ ap (λ o. looked_up_in net kinds access x (reading_by o (record { version = version_of bytes; words = image_words net kinds bytes }))) whole
+    ap (λ c. if c then lookup_in net kinds access x (image_reading net kinds bytes) else Err no_agent) agent
+    ∙ ap (λ o. lookup_in net kinds access x (reading_by o (record { version = version_of bytes; words = image_words net kinds bytes }))) whole
     ∙ ap (λ n. Ok (resolved_names_under net (image_records net kinds (record { version = n; words = image_words net kinds bytes }) access) x)) (sym same)
     ∙ ap (λ h. Ok (resolved_names_under net h x)) (records_served net kinds bytes access version lawful)
     ∙ sym (ap Ok found)
@@ -135,8 +136,8 @@ answer_looked_up net kinds bytes access x version (Err e) lawful agent whole sam
 pub no_image_there : (net : List NodeDecl) (kinds : List Meaning) (bytes : List ℕ) (access : Access) (x : Name) (b : BrokenImage) (o : Option BrokenImage) → is_agent_at (slice_get net x.node) ≡ true → broken_image net kinds bytes ≡ o → reading_by o (version_of bytes) ≡ Err b → lookup_of net kinds bytes access x ≡ Err (no_image b)
 no_image_there net kinds bytes access x b None agent eo e = cc
 no_image_there net kinds bytes access x b (Some d) agent eo e =
-    ap (λ c. if c then looked_up_in net kinds access x (image_reading net kinds bytes) else Err no_agent) agent
-    ∙ ap (λ o. looked_up_in net kinds access x (reading_by o (record { version = version_of bytes; words = image_words net kinds bytes }))) eo
+    ap (λ c. if c then lookup_in net kinds access x (image_reading net kinds bytes) else Err no_agent) agent
+    ∙ ap (λ o. lookup_in net kinds access x (reading_by o (record { version = version_of bytes; words = image_words net kinds bytes }))) eo
     ∙ ap (λ c. Err (no_image c)) (same_err d b e)
   where
     same_err : (c d : BrokenImage) → ◌≡◌ {A = Result ℕ BrokenImage} (Err c) (Err d) → c ≡ d

@@ -11,7 +11,7 @@ use Rattle.dn_kind.specs.Rights.{allows}
 use Rattle.dn_kind.specs.Kind.{Meaning}
 use Rattle.dn_kind.specs.Tables.{Held, record_held, allowing, resolved_names_under}
 use Rattle.dn_kind.specs.Units.{KeepsUnitShape}
-use Rattle.dn_image.specs.Image.{ImageWords, tables_of}
+use Rattle.dn_image.specs.Image.{ImageWords, image_tables}
 use Rattle.dn_image.specs.Reading.{BrokenImage, broken_image, image_reading, image_fault_view, image_words}
 use Rattle.dn_lookup.specs.declared.lookup.LookupFault.{LookupFault}
 use Rattle.dn_lookup.specs.declared.lookup.LookupFault.TheVariants.{NoAgent, Image, OutOfMemory}
@@ -28,18 +28,18 @@ pub record IsImageFor (net : List NodeDecl) (kinds : List Meaning) (bytes : List
 
 -- the records of an image that allow an access
 abbrev pub image_records : List NodeDecl → List Meaning → ImageWords → Access → Held
-image_records net kinds i access = allowing access (record_held net kinds (tables_of net kinds i))
+image_records net kinds i access = allowing access (record_held net kinds (image_tables net kinds i))
 
 -- what a name resolves to for an access under the tables of an image, or what is wrong with the bytes
-abbrev pub looked_up_in : List NodeDecl → List Meaning → Access → Name → Result ImageWords BrokenImage →
+abbrev pub lookup_in : List NodeDecl → List Meaning → Access → Name → Result ImageWords BrokenImage →
     Result (List Name) NoLookup
-looked_up_in net kinds access x (Ok i) = Ok (resolved_names_under net (image_records net kinds i access) x)
-looked_up_in net kinds access x (Err b) = Err (no_image b)
+lookup_in net kinds access x (Ok i) = Ok (resolved_names_under net (image_records net kinds i access) x)
+lookup_in net kinds access x (Err b) = Err (no_image b)
 
 -- the lookup of an agent's address for an access in bytes
 abbrev pub lookup_of : List NodeDecl → List Meaning → List ℕ → Access → Name → Result (List Name) NoLookup
 lookup_of net kinds bytes access x =
-    if is_agent_at (slice_get net x.node) then looked_up_in net kinds access x (image_reading net kinds bytes)
+    if is_agent_at (slice_get net x.node) then lookup_in net kinds access x (image_reading net kinds bytes)
     else Err no_agent
 
 -- what a fault of an image says; want of memory says nothing

@@ -7,7 +7,7 @@ ghost use Rattle.dn_lookup.specs.Terms.{IsImage, lets_through, records_in};
 
 use crate::image::Image;
 use dn_image::slots::record_in;
-use dn_kind::output::sent;
+use dn_kind::output::output_name;
 use dn_kind::rights::{Access, Rights};
 use dn_net::node::Name;
 
@@ -38,5 +38,5 @@ pub(crate) fn output(image: Image, access: Access, name: Name) -> Option<Name>
     if !lets_through(image.version, access, record.rights) {
         return None;
     }
-    Some(sent(unit, record, name.addr))
+    Some(output_name(unit, record, name.addr))
 }

@@ -9,12 +9,12 @@ use Rattle.dn_module.specs.declared.draft.Draft.{Draft}
 use Rattle.dn_module.specs.declared.draft.DraftEntry.{DraftEntry}
 use Rattle.dn_module.specs.declared.draft.DraftDest.{DraftDest}
 use Rattle.dn_module.specs.declared.draft.DraftUnit.{DraftUnit}
-use Rattle.dn_module.specs.Drafts.{is_known, number_of, dest_in, entry_in, unit_in, node_in, dests_known, over_known, ports_known, refers_to_known}
+use Rattle.dn_module.specs.Drafts.{is_known, node_number_of, dest_in, entry_in, unit_by_numbers, node_in, dests_known, over_known, ports_known, refers_to_known}
 use Rattle.dn_module.specs.Commands.{names_within}
 use Rattle.dn_module.specs.declared.command.Command.{Command}
 use Rattle.dn_base.proofs.Lists.{prefix_len-any}
 
-known_below : (known : List (List ℕ)) (text : List ℕ) → nat_lt (number_of known text) (length known) ≡ is_known known text
+known_below : (known : List (List ℕ)) (text : List ℕ) → nat_lt (node_number_of known text) (length known) ≡ is_known known text
 known_below known text = prefix_len-any (bytes_eq text) known
 
 dests_within : (known : List (List ℕ)) (ds : List DraftDest) → list_all (λ d. nat_lt d.node (length known)) (map (dest_in known) ds) ≡ dests_known known ds
@@ -29,17 +29,17 @@ entries_within known (e ∷ es) =
     ap (λ b. b && list_all (λ e. list_all (λ d. nat_lt d.node (length known)) e.dests) (map (entry_in known) es)) (dests_within known e.dests)
     ∙ ap (λ b. dests_known known e.dests && b) (entries_within known es)
 
-over_is_within : (known : List (List ℕ)) (over : Option (List ℕ)) → over_within (length known) (option_map (number_of known) over) ≡ over_known known over
+over_is_within : (known : List (List ℕ)) (over : Option (List ℕ)) → over_within (length known) (option_map (node_number_of known) over) ≡ over_known known over
 over_is_within known None = refl
 over_is_within known (Some text) = known_below known text
 
-numbers_within : (known ts : List (List ℕ)) → list_all (λ p. nat_lt p (length known)) (map (number_of known) ts) ≡ list_all (is_known known) ts
+numbers_within : (known ts : List (List ℕ)) → list_all (λ p. nat_lt p (length known)) (map (node_number_of known) ts) ≡ list_all (is_known known) ts
 numbers_within known [] = refl
 numbers_within known (t ∷ ts) =
-    ap (λ b. b && list_all (λ p. nat_lt p (length known)) (map (number_of known) ts)) (known_below known t)
+    ap (λ b. b && list_all (λ p. nat_lt p (length known)) (map (node_number_of known) ts)) (known_below known t)
     ∙ ap (λ b. is_known known t && b) (numbers_within known ts)
 
-ports_are_within : (known : List (List ℕ)) (unit : Option DraftUnit) → ports_within (length known) (option_map (unit_in known) unit) ≡ ports_known known unit
+ports_are_within : (known : List (List ℕ)) (unit : Option DraftUnit) → ports_within (length known) (option_map (unit_by_numbers known) unit) ≡ ports_known known unit
 ports_are_within known None = refl
 ports_are_within known (Some u) = numbers_within known u.ports
 

@@ -8,7 +8,7 @@ use Rattle.std.specs.Str.{bytes_eq}
 use mir.Val.{bool_byte}
 use Rattle.dn_net.specs.Decode.{is_agent, is_unit}
 use Rattle.dn_module.specs.declared.draft.Draft.{Draft}
-use Rattle.dn_module.specs.Drafts.{agents_of, units_of, parts_of, all_parts, limit_passed, with_draft, is_known, names}
+use Rattle.dn_module.specs.Drafts.{agents_among, units_among, parts_of_draft, all_parts, limit_passed, with_draft, is_known, names}
 use Rattle.dn_module.specs.Machine.{limit_by}
 use Rattle.dn_module.proofs.Known.{is_known-Some, is_known-None}
 use Rattle.dn_module.specs.Faults.{is_duplicate, passes_limit}
@@ -29,21 +29,21 @@ pub as_number : (b : Bool) → bool_byte b ≡ one_if b
 as_number true = refl
 as_number false = refl
 
-pub agents_more : (ds : List Draft) (d : Draft) → agents_of (ds ++ d ∷ []) ≡ agents_of ds + one_if (is_agent d.role)
+pub agents_more : (ds : List Draft) (d : Draft) → agents_among (ds ++ d ∷ []) ≡ agents_among ds + one_if (is_agent d.role)
 agents_more ds d =
     sum_by-append (λ (e : Draft). cond (is_agent e.role) 1 0) ds (d ∷ [])
-    ∙ ap (λ n. agents_of ds + n) (from_zero (cond (is_agent d.role) 1 0) ∙ counted (is_agent d.role))
+    ∙ ap (λ n. agents_among ds + n) (from_zero (cond (is_agent d.role) 1 0) ∙ counted (is_agent d.role))
 
-pub units_more : (ds : List Draft) (d : Draft) → units_of (ds ++ d ∷ []) ≡ units_of ds + one_if (is_unit d.role)
+pub units_more : (ds : List Draft) (d : Draft) → units_among (ds ++ d ∷ []) ≡ units_among ds + one_if (is_unit d.role)
 units_more ds d =
     sum_by-append (λ (e : Draft). cond (is_unit e.role) 1 0) ds (d ∷ [])
-    ∙ ap (λ n. units_of ds + n) (from_zero (cond (is_unit d.role) 1 0) ∙ counted (is_unit d.role))
+    ∙ ap (λ n. units_among ds + n) (from_zero (cond (is_unit d.role) 1 0) ∙ counted (is_unit d.role))
 
-pub parts_more : (ds : List Draft) (d : Draft) → all_parts (ds ++ d ∷ []) ≡ all_parts ds + parts_of d
+pub parts_more : (ds : List Draft) (d : Draft) → all_parts (ds ++ d ∷ []) ≡ all_parts ds + parts_of_draft d
 parts_more ds d =
-    ap sum (map-append parts_of ds (d ∷ []))
-    ∙ sum_by-append (λ n. n) (map parts_of ds) (parts_of d ∷ [])
-    ∙ ap (λ n. all_parts ds + n) (from_zero (parts_of d))
+    ap sum (map-append parts_of_draft ds (d ∷ []))
+    ∙ sum_by-append (λ n. n) (map parts_of_draft ds) (parts_of_draft d ∷ [])
+    ∙ ap (λ n. all_parts ds + n) (from_zero (parts_of_draft d))
 
 -- a limit on the nodes of a role counts in a node of that role alone
 role_test : (b : Bool) (count all : ℕ) → all ≤ 64 → count ≡ all + one_if b → nat_lt 64 count ≡ (b && nat_lt 64 (all + 1))
@@ -51,11 +51,11 @@ role_test true count all few is = ap (nat_lt 64) is
 role_test false count all few is = grind (arith, nat_tests)
 
 pub limit_is : (ds : List Draft) (d : Draft) (nodes agents units parts : ℕ) → nodes ≡ length ds
-    → agents_of ds ≤ 64 → agents ≡ agents_of ds + one_if (is_agent d.role)
-    → units_of ds ≤ 64 → units ≡ units_of ds + one_if (is_unit d.role)
-    → parts ≡ all_parts ds → limit_by nodes agents units parts (parts_of d) ≡ limit_passed ds d
+    → agents_among ds ≤ 64 → agents ≡ agents_among ds + one_if (is_agent d.role)
+    → units_among ds ≤ 64 → units ≡ units_among ds + one_if (is_unit d.role)
+    → parts ≡ all_parts ds → limit_by nodes agents units parts (parts_of_draft d) ≡ limit_passed ds d
 limit_is ds d nodes agents units parts n few a few_units u p =
-    rw (n, p, role_test (is_agent d.role) agents (agents_of ds) few a, role_test (is_unit d.role) units (units_of ds) few_units u) refl
+    rw (n, p, role_test (is_agent d.role) agents (agents_among ds) few a, role_test (is_unit d.role) units (units_among ds) few_units u) refl
 
 pub known_fault : (ds : List Draft) (d : Draft) → is_known (names ds) d.name ≡ true → with_draft ds d ≡ Err (is_duplicate d.line)
 known_fault ds d e = rw e refl
@@ -98,9 +98,9 @@ within_step nodes agents units parts more a u few_agents few_units e =
       parts_fit = ltb-false 16384 (parts + more) last.0;
     }
 
-pub within_limits : (ds : List Draft) (d : Draft) → agents_of ds ≤ 64 → units_of ds ≤ 64 → limit_passed ds d ≡ None
-    → AreWithin (length ds + 1) (agents_of ds + one_if (is_agent d.role)) (units_of ds + one_if (is_unit d.role)) (all_parts ds + parts_of d)
-within_limits ds d few few_units none = within_step (length ds) (agents_of ds) (units_of ds) (all_parts ds) (parts_of d) (is_agent d.role) (is_unit d.role) few few_units none
+pub within_limits : (ds : List Draft) (d : Draft) → agents_among ds ≤ 64 → units_among ds ≤ 64 → limit_passed ds d ≡ None
+    → AreWithin (length ds + 1) (agents_among ds + one_if (is_agent d.role)) (units_among ds + one_if (is_unit d.role)) (all_parts ds + parts_of_draft d)
+within_limits ds d few few_units none = within_step (length ds) (agents_among ds) (units_among ds) (all_parts ds) (parts_of_draft d) (is_agent d.role) (is_unit d.role) few few_units none
 
 pub found_is : (known : List (List ℕ)) (text : List ℕ) (r : Option ℕ) → r ≡ position (bytes_eq text) known → is_known known text ≡ is_some r
 found_is known text None e = is_known-None known text (sym e)

@@ -8,7 +8,7 @@ use Rattle.std.specs.Str.{bytes_eq}
 use Rattle.dn_parse.specs.declared.syntax.Param.{Param as CodeParam}
 use Rattle.dn_parse.specs.Views.{param_view}
 use Rattle.dn_module.specs.declared.modules.Known.{Known}
-use Rattle.dn_module.specs.Expand.{Module, Visibility, outside, within_module, module_from, usable, has_twice, is_module, word_of_param, with_module}
+use Rattle.dn_module.specs.Expand.{Module, Visibility, outside, within_module, module_from, usable_modules, has_twice, is_module, word_of_param, with_module}
 use Rattle.dn_module.specs.Drafts.{is_known}
 use Rattle.dn_module.specs.Stack.{sees, known_view}
 use Rattle.dn_module.proofs.Known.{twice-push, twice-append}
@@ -79,7 +79,7 @@ module _ (title : List ℕ) where
     placed number e = some_at _ _ number e
 
     -- a module that may be used
-    pub found_module : (s : Visibility) (number : ℕ) (m : Module) → position (bytes_eq title) titles ≡ Some number → slice_get ms number ≡ Some m → sees s number ≡ true → module_from 0 title (usable s ms) ≡ Some (number, m)
+    pub found_module : (s : Visibility) (number : ℕ) (m : Module) → position (bytes_eq title) titles ≡ Some number → slice_get ms number ≡ Some m → sees s number ≡ true → module_from 0 title (usable_modules s ms) ≡ Some (number, m)
     found_module outside number m e at see = at_place ms 0 m (ap (slice_get ms) (placed number e) ∙ at) ∙ ap (λ (j : ℕ). Some (j, m)) (let f = placed number e in omega arith)
     found_module (within_module before) number m e at see =
         let f = placed number e in
@@ -87,7 +87,7 @@ module _ (title : List ℕ) where
         taken ms 0 before (omega arith) ∙ at_place ms 0 m (ap (slice_get ms) f ∙ at) ∙ ap (λ (j : ℕ). Some (j, m)) (omega arith)
 
     -- one that may not
-    pub hidden_module : (s : Visibility) (number : ℕ) → position (bytes_eq title) titles ≡ Some number → sees s number ≡ false → module_from 0 title (usable s ms) ≡ None
+    pub hidden_module : (s : Visibility) (number : ℕ) → position (bytes_eq title) titles ≡ Some number → sees s number ≡ false → module_from 0 title (usable_modules s ms) ≡ None
     hidden_module outside number e see = cc
     hidden_module (within_module before) number e see =
         let f = placed number e in
@@ -102,7 +102,7 @@ module _ (title : List ℕ) where
         let same = length-map ms (λ (m : Module). m.title) in
         omega arith
 
-    pub no_module : (s : Visibility) → position (bytes_eq title) titles ≡ None → module_from 0 title (usable s ms) ≡ None
+    pub no_module : (s : Visibility) → position (bytes_eq title) titles ≡ None → module_from 0 title (usable_modules s ms) ≡ None
     no_module outside e = past ms 0 (past_all e)
     no_module (within_module before) e = go (nat_lt (place title ms) before) refl where
       go : (b : Bool) → nat_lt (place title ms) before ≡ b → module_from 0 title (take before ms) ≡ None

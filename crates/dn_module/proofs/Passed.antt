@@ -16,9 +16,9 @@ use Rattle.dn_module.specs.declared.draft.DraftUnit.{DraftUnit}
 use Rattle.dn_module.specs.declared.expansion.Expanded.{Expanded}
 use Rattle.dn_module.specs.declared.fault.ExpandFault.{ExpandFault}
 use Rattle.dn_module.specs.Values.{◌>>=◌, each, value_within, full_name, full_name_or_none}
-use Rattle.dn_module.specs.Drafts.{block_of, entry_of, role_of, known_kind, bare_draft, node_draft, unit_draft, declared_by, names, is_known, limit_passed, by_limit, with_draft, refers_to_known, node_in, node_of}
+use Rattle.dn_module.specs.Drafts.{block_of, entry_of, role_of, known_kind, bare_draft, node_draft, unit_draft, draft_of_declaration, names, is_known, limit_passed, draft_by_limit, with_draft, refers_to_known, node_in, node_of}
 use Rattle.dn_module.specs.Commands.{commands_of}
-use Rattle.dn_module.specs.Expand.{State, nothing_yet, Visibility, outside, Work, statement, turns, statements, with_module, usable, module_from, use_of, loop_of, item_rewriting, rewriting, all_rewritings, most_steps, expansion_of}
+use Rattle.dn_module.specs.Expand.{ExpansionState, nothing_yet, Visibility, outside, Work, statement, turns, statements, with_module, usable_modules, module_from, use_rewriting, loop_of, item_rewriting, rewriting, all_rewritings, most_steps, expansion_of}
 use Rattle.dn_module.specs.Finish.{outcome_of, outcome_view}
 use Rattle.dn_module.specs.Faults.{ExpansionFault, is_duplicate, is_unknown, expand_fault_view}
 use Rattle.dn_base.proofs.Booleans.{and_parts}
@@ -31,30 +31,30 @@ abbrev pub AllPass : (Draft → Bool) → List Draft → Type 0
 AllPass P ds = IsTrue (list_all P ds)
 
 -- the drafts behind a step pass
-abbrev pub Next : (Draft → Bool) → List Work × State → Type 0
+abbrev pub Next : (Draft → Bool) → List Work × ExpansionState → Type 0
 Next P n = AllPass P n.1.drafts
 
 -- all drafts that are made pass
-module _ (kinds : List Meaning) (P : Draft → Bool) (each_passes : (line : ℕ) (d : Declaration) → Yields (λ x. IsTrue (P x)) (declared_by kinds line d)) where
+module _ (kinds : List Meaning) (P : Draft → Bool) (each_passes : (line : ℕ) (d : Declaration) → Yields (λ x. IsTrue (P x)) (draft_of_declaration kinds line d)) where
   added : (ds : List Draft) (d : Draft) → AllPass P ds → IsTrue (P d) → Yields (AllPass P) (with_draft ds d)
   added ds d all h = go (is_known (names ds) d.name) (limit_passed ds d)
     where
-      go : (b : Bool) (o : Option ℕ) → Yields (AllPass P) (cond {A = Result (List Draft) ExpansionFault} b (Err (is_duplicate d.line)) (by_limit o ds d))
+      go : (b : Bool) (o : Option ℕ) → Yields (AllPass P) (cond {A = Result (List Draft) ExpansionFault} b (Err (is_duplicate d.line)) (draft_by_limit o ds d))
       go true o = record { it = tt }
       go false None = record { it = list_all-last P ds d all h }
       go false (Some limit) = record { it = tt }
 
-  item_passes : (s : Visibility) (state : State) (i : Item) → AllPass P state.drafts → Yields (Next P) (item_rewriting kinds s state i)
-  item_passes s state (declared line d) all = bind (declared_by kinds line d) _ (each_passes line d) (λ draft h. bind (with_draft state.drafts draft) _ (added state.drafts draft all h) (λ ds g. given g))
+  item_passes : (s : Visibility) (state : ExpansionState) (i : Item) → AllPass P state.drafts → Yields (Next P) (item_rewriting kinds s state i)
+  item_passes s state (declared line d) all = bind (draft_of_declaration kinds line d) _ (each_passes line d) (λ draft h. bind (with_draft state.drafts draft) _ (added state.drafts draft all h) (λ ds g. given g))
   item_passes s state (module_of line title params body) all = bind (with_module state.modules line (record { title = title; params = params; body = body })) _ (any _) (λ modules h. given all)
-  item_passes s state (instance line title args prefix) all = bind (use_of line args prefix (module_from 0 title (usable s state.modules))) _ (any _) (λ works h. given all)
+  item_passes s state (instance line title args prefix) all = bind (use_rewriting line args prefix (module_from 0 title (usable_modules s state.modules))) _ (any _) (λ works h. given all)
   item_passes s state (loop line w from upto body) all = bind (loop_of s line w from upto body) _ (any _) (λ works h. given all)
 
-  work_passes : (state : State) (w : Work) → AllPass P state.drafts → Yields (Next P) (rewriting kinds state w)
+  work_passes : (state : ExpansionState) (w : Work) → AllPass P state.drafts → Yields (Next P) (rewriting kinds state w)
   work_passes state (statement s i) all = item_passes s state i all
   work_passes state (turns s line w a b body) all = record { it = all }
 
-  pub all_pass : (left : ℕ) (ws : List Work) (state : State) → AllPass P state.drafts → Yields (λ made. AllPass P made.drafts) (all_rewritings kinds left ws state)
+  pub all_pass : (left : ℕ) (ws : List Work) (state : ExpansionState) → AllPass P state.drafts → Yields (λ made. AllPass P made.drafts) (all_rewritings kinds left ws state)
   all_pass zero [] state all = record { it = all }
   all_pass (suc left) [] state all = record { it = all }
   all_pass zero (w ∷ ws) state all = record { it = tt }
@@ -84,7 +84,7 @@ module _ (kinds : List Meaning) (P : Draft → Type 0) (of_node : (line : ℕ) (
   unit_yields line name kind page slots reach ports =
       bind (full_name name) _ (any _) (λ text h. bind (known_kind (kind_place kinds kind)) _ (kind_below kinds kind) (λ number below. bind (value_within 255 page) _ (any _) (λ p h. bind (value_within 4294967295 slots) _ (any _) (λ s h. bind (value_within 255 reach) _ (any _) (λ r h. bind (each full_name ports) _ (any _) (λ texts h. given (of_unit line text _ below)))))))
 
-  declared_yields : (line : ℕ) (d : Declaration) → Yields P (declared_by kinds line d)
+  declared_yields : (line : ℕ) (d : Declaration) → Yields P (draft_of_declaration kinds line d)
   declared_yields line (node role name spec) = at_yields P line (node_draft line role name spec) (node_yields line role name spec)
   declared_yields line (unit name kind page slots reach ports) = at_yields P line (unit_draft kinds line name kind page slots reach ports) (unit_yields line name kind page slots reach ports)
 
@@ -94,10 +94,10 @@ role_is_none agent_role = refl
 role_is_none vectors_role = refl
 
 -- the node of each declaration is formed, and the kind of each is there
-declared_formed : (kinds : List Meaning) (known : List (List ℕ)) (line : ℕ) (d : Declaration) → Yields (λ x. IsTrue (is_formed (node_in known x))) (declared_by kinds line d)
+declared_formed : (kinds : List Meaning) (known : List (List ℕ)) (line : ℕ) (d : Declaration) → Yields (λ x. IsTrue (is_formed (node_in known x))) (draft_of_declaration kinds line d)
 declared_formed kinds known = declared_yields kinds (λ x. IsTrue (is_formed (node_in known x))) (λ line role name accepts entries over. role_is_none role) (λ line name u below. refl)
 
-declared_kinded : (kinds : List Meaning) (known : List (List ℕ)) (line : ℕ) (d : Declaration) → Yields (λ x. IsTrue (has_kind (length kinds) (node_in known x).unit)) (declared_by kinds line d)
+declared_kinded : (kinds : List Meaning) (known : List (List ℕ)) (line : ℕ) (d : Declaration) → Yields (λ x. IsTrue (has_kind (length kinds) (node_in known x).unit)) (draft_of_declaration kinds line d)
 declared_kinded kinds known = declared_yields kinds (λ x. IsTrue (has_kind (length kinds) (node_in known x).unit)) (λ line role name accepts entries over. refl) (λ line name u below. below)
 
 -- the nodes of drafts pass, where their drafts do
@@ -116,13 +116,13 @@ module _ (Q : NodeDecl → Bool) (known : List (List ℕ)) where
       bind (node_of known d) _ (node_passes d parts.0) (λ n h. bind (each (node_of known) ds) _ (nodes_pass ds parts.1) (λ ns g. given (rw h g)))
 
 -- all nodes of a text pass, where those of its declarations do
-pub text_passes : (kinds : List Meaning) (Q : NodeDecl → Bool) (tree : Tree) → ((known : List (List ℕ)) (line : ℕ) (d : Declaration) → Yields (λ x. IsTrue (Q (node_in known x))) (declared_by kinds line d)) → Yields (λ o. IsTrue (list_all Q o.net)) (expansion_of kinds tree)
+pub text_passes : (kinds : List Meaning) (Q : NodeDecl → Bool) (tree : Tree) → ((known : List (List ℕ)) (line : ℕ) (d : Declaration) → Yields (λ x. IsTrue (Q (node_in known x))) (draft_of_declaration kinds line d)) → Yields (λ o. IsTrue (list_all Q o.net)) (expansion_of kinds tree)
 text_passes kinds Q tree each_passes = rw (whole kinds tree) (go (body_state kinds tree) refl)
   where
     passes : (known : List (List ℕ)) → Yields (λ made. AllPass (λ d. Q (node_in known d)) made.drafts) (body_state kinds tree)
     passes known = body_passes kinds (λ d. Q (node_in known d)) (each_passes known) tree
 
-    go : (r : Result State ExpansionFault) → body_state kinds tree ≡ r → Yields (λ o. IsTrue (list_all Q o.net)) (r >>= λ state. outcome_of state.drafts tree.commands)
+    go : (r : Result ExpansionState ExpansionFault) → body_state kinds tree ≡ r → Yields (λ o. IsTrue (list_all Q o.net)) (r >>= λ state. outcome_of state.drafts tree.commands)
     go (Err e) is = record { it = tt }
     go (Ok state) is =
         let known = names state.drafts in
@@ -137,5 +137,5 @@ kinds_of_answer kinds count tree (Err e) same is = tt
 kinds_of_answer kinds count tree (Ok e) same is = subst (λ n. IsTrue (list_all (λ m. has_kind n m.unit) e.net)) same (yielded _ _ (outcome_view e) (kinds_are kinds tree) is)
 
 -- what the statements made is formed
-pub drafts_formed : (kinds : List Meaning) (tree : Tree) (state : State) → body_state kinds tree ≡ Ok state → (list_all (λ d. is_formed (node_in (names state.drafts) d)) state.drafts) ≡ true
+pub drafts_formed : (kinds : List Meaning) (tree : Tree) (state : ExpansionState) → body_state kinds tree ≡ Ok state → (list_all (λ d. is_formed (node_in (names state.drafts) d)) state.drafts) ≡ true
 drafts_formed kinds tree state is = yielded _ _ state (body_passes kinds (λ d. is_formed (node_in (names state.drafts) d)) (declared_formed kinds (names state.drafts)) tree) is

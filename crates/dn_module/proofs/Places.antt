@@ -9,7 +9,7 @@ use Rattle.std.specs.Cmp.Lexicographic.{bytes_decides}
 use Rattle.std.specs.List.{list_any, prefix_len}
 use Rattle.std.specs.Str.{bytes_eq}
 use Rattle.dn_module.specs.Expand.{Given, number, named, numbers_of, nodes_of, has_twice}
-use Rattle.dn_module.specs.Replace.{looked_up}
+use Rattle.dn_module.specs.Replace.{value_for_word}
 use Rattle.dn_module.specs.declared.words.Given.{Given as CodeGiven}
 use Rattle.dn_module.specs.Words.{given_view, number_part, name_part, part_in, numbers_from}
 use Rattle.dn_base.proofs.Lists.{position-none, slice_get-at}
@@ -58,16 +58,16 @@ place : List ℕ → List (List ℕ) → ℕ
 place w ws = prefix_len (λ v. not (bytes_eq w v)) ws
 
 module _ {A : Type 0} (part : Given → Option A) (w : List ℕ) where
-  past_one : (v : List ℕ) (o : Option A) (rest : List (List ℕ × A)) → bytes_eq w v ≡ false → looked_up w (pair_by v o ++ rest) ≡ looked_up w rest
+  past_one : (v : List ℕ) (o : Option A) (rest : List (List ℕ × A)) → bytes_eq w v ≡ false → value_for_word w (pair_by v o ++ rest) ≡ value_for_word w rest
   past_one v None rest h = refl
-  past_one v (Some a) rest h = ap (λ b. cond b (Some a) (looked_up w rest)) h
+  past_one v (Some a) rest h = ap (λ b. cond b (Some a) (value_for_word w rest)) h
 
-  at_one : (v : List ℕ) (o : Option A) (rest : List (List ℕ × A)) → bytes_eq w v ≡ true → looked_up w rest ≡ None → looked_up w (pair_by v o ++ rest) ≡ o
+  at_one : (v : List ℕ) (o : Option A) (rest : List (List ℕ × A)) → bytes_eq w v ≡ true → value_for_word w rest ≡ None → value_for_word w (pair_by v o ++ rest) ≡ o
   at_one v None rest h none = none
-  at_one v (Some a) rest h none = ap (λ b. cond b (Some a) (looked_up w rest)) h
+  at_one v (Some a) rest h none = ap (λ b. cond b (Some a) (value_for_word w rest)) h
 
   -- a word that is not there
-  unmet : (ws : List (List ℕ)) (gs : List Given) → list_any (bytes_eq w) ws ≡ false → looked_up w (pairs_of part ws gs) ≡ None
+  unmet : (ws : List (List ℕ)) (gs : List Given) → list_any (bytes_eq w) ws ≡ false → value_for_word w (pairs_of part ws gs) ≡ None
   unmet [] gs h = refl
   unmet (v ∷ vs) [] h = refl
   unmet (v ∷ vs) (g ∷ gs) h =
@@ -84,7 +84,7 @@ module _ {A : Type 0} (part : Given → Option A) (w : List ℕ) where
   only_one v vs e h = subst (λ u. list_any (bytes_eq u) vs ≡ false) (sym ((bytes_decides w v).0 e)) h
 
   -- a word that is there
-  at_place : (ws : List (List ℕ)) (gs : List Given) → has_twice ws ≡ false → place w ws < length ws → looked_up w (pairs_of part ws gs) ≡ part_in part (slice_get gs (place w ws))
+  at_place : (ws : List (List ℕ)) (gs : List Given) → has_twice ws ≡ false → place w ws < length ws → value_for_word w (pairs_of part ws gs) ≡ part_in part (slice_get gs (place w ws))
   unfolding place
   at_place [] gs once h = absurd (omega arith)
   at_place (v ∷ vs) [] once h = refl
@@ -92,7 +92,7 @@ module _ {A : Type 0} (part : Given → Option A) (w : List ℕ) where
     n : (list_any (bytes_eq v) vs ≡ false) × (has_twice vs ≡ false)
     n = or_parts (list_any (bytes_eq v) vs) (has_twice vs) once
 
-    go : (b : Bool) → bytes_eq w v ≡ b → (place w vs < length vs → looked_up w (pairs_of part vs gs) ≡ part_in part (slice_get gs (place w vs))) → cond (not b) (1 + place w vs) 0 < suc (length vs) → looked_up w (pair_by v (part g) ++ pairs_of part vs gs) ≡ part_in part (slice_get (g ∷ gs) (cond (not b) (1 + place w vs) 0))
+    go : (b : Bool) → bytes_eq w v ≡ b → (place w vs < length vs → value_for_word w (pairs_of part vs gs) ≡ part_in part (slice_get gs (place w vs))) → cond (not b) (1 + place w vs) 0 < suc (length vs) → value_for_word w (pair_by v (part g) ++ pairs_of part vs gs) ≡ part_in part (slice_get (g ∷ gs) (cond (not b) (1 + place w vs) 0))
     go true e ih h = at_one v (part g) (pairs_of part vs gs) e (unmet vs gs (only_one v vs e n.0))
     go false e ih h =
         past_one v (part g) (pairs_of part vs gs) e
@@ -108,16 +108,16 @@ module _ {A : Type 0} (part : Given → Option A) (w : List ℕ) where
   none_anyway false = refl
 
   -- the same where what stands before a place is left out
-  behind : (k : ℕ) (ws : List (List ℕ)) (gs : List Given) → has_twice ws ≡ false → place w ws < length ws → looked_up w (pairs_of part (drop k ws) (drop k gs)) ≡ cond (nat_lt (place w ws) k) None (part_in part (slice_get gs (place w ws)))
+  behind : (k : ℕ) (ws : List (List ℕ)) (gs : List Given) → has_twice ws ≡ false → place w ws < length ws → value_for_word w (pairs_of part (drop k ws) (drop k gs)) ≡ cond (nat_lt (place w ws) k) None (part_in part (slice_get gs (place w ws)))
   unfolding place
   behind zero ws gs once h = at_place ws gs once h ∙ ap (λ b. cond b None (part_in part (slice_get gs (place w ws)))) (sym (no_less (place w ws)))
   behind (suc k) [] gs once h = absurd (omega arith)
-  behind (suc k) (v ∷ vs) [] once h = ap (looked_up w) (no_values (drop k vs)) ∙ none_anyway (nat_lt (place w (v ∷ vs)) (suc k))
+  behind (suc k) (v ∷ vs) [] once h = ap (value_for_word w) (no_values (drop k vs)) ∙ none_anyway (nat_lt (place w (v ∷ vs)) (suc k))
   behind (suc k) (v ∷ vs) (g ∷ gs) once h = go (bytes_eq w v) refl (behind k vs gs n.1) h where
     n : (list_any (bytes_eq v) vs ≡ false) × (has_twice vs ≡ false)
     n = or_parts (list_any (bytes_eq v) vs) (has_twice vs) once
 
-    go : (b : Bool) → bytes_eq w v ≡ b → (place w vs < length vs → looked_up w (pairs_of part (drop k vs) (drop k gs)) ≡ cond (nat_lt (place w vs) k) None (part_in part (slice_get gs (place w vs)))) → cond (not b) (1 + place w vs) 0 < suc (length vs) → looked_up w (pairs_of part (drop k vs) (drop k gs)) ≡ cond (nat_lt (cond (not b) (1 + place w vs) 0) (suc k)) None (part_in part (slice_get (g ∷ gs) (cond (not b) (1 + place w vs) 0)))
+    go : (b : Bool) → bytes_eq w v ≡ b → (place w vs < length vs → value_for_word w (pairs_of part (drop k vs) (drop k gs)) ≡ cond (nat_lt (place w vs) k) None (part_in part (slice_get gs (place w vs)))) → cond (not b) (1 + place w vs) 0 < suc (length vs) → value_for_word w (pairs_of part (drop k vs) (drop k gs)) ≡ cond (nat_lt (cond (not b) (1 + place w vs) 0) (suc k)) None (part_in part (slice_get (g ∷ gs) (cond (not b) (1 + place w vs) 0)))
     go true e ih h =
         unmet (drop k vs) (drop k gs) (unmet_behind k vs (only_one v vs e n.0))
         ∙ ap (λ b. cond b None (part_in part (slice_get (g ∷ gs) 0))) (sym (first_less k))
@@ -134,31 +134,31 @@ module _ {A : Type 0} (part : Given → Option A) (w : List ℕ) where
     go false t e = cc
 
 module _ (w : List ℕ) (ws : List (List ℕ)) (gs : List Given) where
-  pub no_number : (k : ℕ) → position (bytes_eq w) ws ≡ None → looked_up w (numbers_from k ws gs) ≡ None
+  pub no_number : (k : ℕ) → position (bytes_eq w) ws ≡ None → value_for_word w (numbers_from k ws gs) ≡ None
   no_number k e =
-      ap (looked_up w) (numbers_are (drop k ws) (drop k gs))
+      ap (value_for_word w) (numbers_are (drop k ws) (drop k gs))
       ∙ unmet number_part w (drop k ws) (drop k gs) (unmet_behind number_part w k ws (position-none (bytes_eq w) ws e))
 
-  number_there : (k i : ℕ) → has_twice ws ≡ false → position (bytes_eq w) ws ≡ Some i → looked_up w (numbers_from k ws gs) ≡ cond (nat_lt i k) None (part_in number_part (slice_get gs i))
+  number_there : (k i : ℕ) → has_twice ws ≡ false → position (bytes_eq w) ws ≡ Some i → value_for_word w (numbers_from k ws gs) ≡ cond (nat_lt i k) None (part_in number_part (slice_get gs i))
   number_there k i once e =
       let p = is_place number_part w ws i e in
-      ap (looked_up w) (numbers_are (drop k ws) (drop k gs))
+      ap (value_for_word w) (numbers_are (drop k ws) (drop k gs))
       ∙ behind number_part w k ws gs once p.1
       ∙ ap (λ i. cond (nat_lt i k) None (part_in number_part (slice_get gs i))) p.0
 
-  pub number_hidden : (k i : ℕ) → has_twice ws ≡ false → position (bytes_eq w) ws ≡ Some i → i < k → looked_up w (numbers_from k ws gs) ≡ None
+  pub number_hidden : (k i : ℕ) → has_twice ws ≡ false → position (bytes_eq w) ws ≡ Some i → i < k → value_for_word w (numbers_from k ws gs) ≡ None
   number_hidden k i once e h = number_there k i once e ∙ ap (λ b. cond b None (part_in number_part (slice_get gs i))) (lt-ltb i k h)
 
-  pub number_shown : (k i : ℕ) → has_twice ws ≡ false → position (bytes_eq w) ws ≡ Some i → k ≤ i → looked_up w (numbers_from k ws gs) ≡ part_in number_part (slice_get gs i)
+  pub number_shown : (k i : ℕ) → has_twice ws ≡ false → position (bytes_eq w) ws ≡ Some i → k ≤ i → value_for_word w (numbers_from k ws gs) ≡ part_in number_part (slice_get gs i)
   number_shown k i once e h = number_there k i once e ∙ ap (λ b. cond b None (part_in number_part (slice_get gs i))) (le-ltb i k h)
 
-  pub no_name : position (bytes_eq w) ws ≡ None → looked_up w (nodes_of ws gs) ≡ None
-  no_name e = ap (looked_up w) (names_are ws gs) ∙ unmet name_part w ws gs (position-none (bytes_eq w) ws e)
+  pub no_name : position (bytes_eq w) ws ≡ None → value_for_word w (nodes_of ws gs) ≡ None
+  no_name e = ap (value_for_word w) (names_are ws gs) ∙ unmet name_part w ws gs (position-none (bytes_eq w) ws e)
 
-  pub name_there : (i : ℕ) → has_twice ws ≡ false → position (bytes_eq w) ws ≡ Some i → looked_up w (nodes_of ws gs) ≡ part_in name_part (slice_get gs i)
+  pub name_there : (i : ℕ) → has_twice ws ≡ false → position (bytes_eq w) ws ≡ Some i → value_for_word w (nodes_of ws gs) ≡ part_in name_part (slice_get gs i)
   name_there i once e =
       let p = is_place name_part w ws i e in
-      ap (looked_up w) (names_are ws gs)
+      ap (value_for_word w) (names_are ws gs)
       ∙ at_place name_part w ws gs once p.1
       ∙ ap (λ i. part_in name_part (slice_get gs i)) p.0
 

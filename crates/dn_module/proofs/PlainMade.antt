@@ -3,10 +3,10 @@ use Rattle.std.proofs.Common.{rules, ◌≡◌, refl, true, ℕ, List, [], ◌�
 use Rattle.std.proofs.lemmas.Bool.{and_parts, false≢true}
 use Rattle.std.specs.List.{list_all}
 use Rattle.dn_parse.specs.Tree.{Expression, constant, variable, sum, product, minus, Part, Order, resolve, lookup, view, grant, route, revoke, dump, split, absorb, Command as CommandOf}
-use Rattle.dn_parse.specs.Plain.{is_constant, is_constant_index, is_constant_name, is_plain, are_plain}
+use Rattle.dn_parse.specs.Plain.{is_constant, is_constant_index, is_constant_name, is_plain_order, are_plain}
 use Rattle.dn_module.specs.declared.command.Command.{Command}
 use Rattle.dn_module.specs.declared.command.Target.{Target}
-use Rattle.dn_module.specs.Values.{◌>>=◌, Flaw, each, value, part_text, part_by, dotted}
+use Rattle.dn_module.specs.Values.{◌>>=◌, Flaw, each, value, part_text, part_by, dotted_text}
 use Rattle.dn_module.specs.Drafts.{at_line, number_in}
 use Rattle.dn_module.specs.Faults.{ExpansionFault}
 use Rattle.dn_module.specs.Commands.{target_of, command_of, commands_of, commands_or_none, node_within, names_within, makes_within}
@@ -54,12 +54,12 @@ module _ (known : List (List ℕ)) (line : ℕ) where
   targeted : (name : List Part) (f : Target → Result Command Flaw) → IsTrue (is_constant_name name) → ((t : Target) → IsTrue (node_within (length known) t.node) → Within (f t)) → Within (target_of known name >>= f)
   targeted name f h k = go (each part_text name) (constant_texts name h)
     where
-      go : (r : Result (List (List ℕ)) Flaw) → is_ok r ≡ true → Within (((r >>= (λ ts. Ok (dotted ts))) >>= (λ text. Ok (record { text = text; node = number_in known text }))) >>= f)
-      go (Ok ts) e = k (record { text = dotted ts; node = number_in known (dotted ts) }) (there (dotted ts))
+      go : (r : Result (List (List ℕ)) Flaw) → is_ok r ≡ true → Within (((r >>= (λ ts. Ok (dotted_text ts))) >>= (λ text. Ok (record { text = text; node = number_in known text }))) >>= f)
+      go (Ok ts) e = k (record { text = dotted_text ts; node = number_in known (dotted_text ts) }) (there (dotted_text ts))
       go (Err e) q = absurd (false≢true q)
 
   -- a plain command is made, and its nodes are there
-  pub plain_made : (o : Order) → IsTrue (is_plain o) → Within (command_of known o)
+  pub plain_made : (o : Order) → IsTrue (is_plain_order o) → Within (command_of known o)
   plain_made (resolve name e m) h = let p = and_parts (is_constant_name name) (is_constant e) h in targeted name _ p.0 (λ t w. valued e _ p.1 (λ n. w))
   plain_made (lookup name e m) h = let p = and_parts (is_constant_name name) (is_constant e) h in targeted name _ p.0 (λ t w. valued e _ p.1 (λ n. w))
   plain_made (view name m) h = targeted name _ h (λ t w. w)
@@ -80,7 +80,7 @@ module _ (known : List (List ℕ)) (line : ℕ) where
 -- commands that are all plain are all made, and their nodes are there
 pub plain_list : (known : List (List ℕ)) (cs : List CommandOf) → IsTrue (are_plain cs) → (is_ok (commands_of known cs) ≡ true) × IsTrue (list_all (names_within (length known)) (commands_or_none (commands_of known cs)))
 plain_list known [] h = (refl, refl)
-plain_list known (c ∷ cs) h = let p = and_parts (is_plain c.order) _ h in by (at_line c.line (command_of known c.order)) (commands_of known cs) (plain_made known c.line c.order p.0) (plain_list known cs p.1)
+plain_list known (c ∷ cs) h = let p = and_parts (is_plain_order c.order) _ h in by (at_line c.line (command_of known c.order)) (commands_of known cs) (plain_made known c.line c.order p.0) (plain_list known cs p.1)
   where
     by : (r : Result Command ExpansionFault) (s : Result (List Command) ExpansionFault) → IsTrue (makes_within (length known) r) → (is_ok s ≡ true) × IsTrue (list_all (names_within (length known)) (commands_or_none s)) → (is_ok (r >>= (λ y. s >>= (λ ys. Ok (y ∷ ys)))) ≡ true) × IsTrue (list_all (names_within (length known)) (commands_or_none (r >>= (λ y. s >>= (λ ys. Ok (y ∷ ys))))))
     by (Ok y) (Ok ys) w q = (refl, rw w q.1)

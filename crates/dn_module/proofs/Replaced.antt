@@ -4,7 +4,7 @@ use Rattle.std.proofs.lemmas.List.Elements.{filter-append}
 use Rattle.std.proofs.lemmas.Cmp.{nat_list_eq_equiv}
 use Rattle.std.specs.Str.{bytes_eq}
 use Rattle.dn_parse.specs.Tree.{Expression, constant, variable, sum, product, minus, Expressions, no_expressions, and_expression, Part, Block, Dest, Entry, Spec, Arg, number_arg, node_arg, Declaration, node, unit, Item, declared, module_of, instance, loop, Items, no_items, and_item}
-use Rattle.dn_module.specs.Replace.{looked_up, without, Naming, as_they_stand, under, Replacement, one_number, hiding, number_or, in_expression, in_expressions, in_option, in_part, prefixed, in_declared, word_of, node_by, named_or, in_reference, in_block, in_dest, in_entry, in_spec, in_arg, in_declaration, in_item, in_items}
+use Rattle.dn_module.specs.Replace.{value_for_word, without_word, Naming, as_they_stand, under, Replacement, one_number, replacement_hiding, number_or, in_expression, in_expressions, in_option, in_part, prefixed_name, in_declared, word_of_name, node_by, named_or, in_reference, in_block, in_dest, in_entry, in_spec, in_arg, in_declaration, in_item, in_items}
 
 abbrev Numbers : Type 0
 Numbers = List (List ℕ × ℕ)
@@ -16,14 +16,14 @@ or_else (Some a) o = Some a
 
 -- what stands for each word by ks stands for it by ns or, where none does, by ms
 pub record AreBoth (ns ms ks : Numbers) : Type 0 where
-  pub each : (w : List ℕ) → looked_up w ks ≡ looked_up w (ns ++ ms)
+  pub each : (w : List ℕ) → value_for_word w ks ≡ value_for_word w (ns ++ ms)
 
 -- a variable, by what stands for it in the first list
 module _ (ms : Numbers) (w : List ℕ) where
-  variable_again : (ns : Numbers) → in_expression ms (number_or w (looked_up w ns)) ≡ number_or w (looked_up w (ns ++ ms))
+  variable_again : (ns : Numbers) → in_expression ms (number_or w (value_for_word w ns)) ≡ number_or w (value_for_word w (ns ++ ms))
   variable_again [] = refl
   variable_again (b ∷ bs) = go (bytes_eq w b.0) (variable_again bs) where
-    go : (t : Bool) → in_expression ms (number_or w (looked_up w bs)) ≡ number_or w (looked_up w (bs ++ ms)) → in_expression ms (number_or w (cond t (Some b.1) (looked_up w bs))) ≡ number_or w (cond t (Some b.1) (looked_up w (bs ++ ms)))
+    go : (t : Bool) → in_expression ms (number_or w (value_for_word w bs)) ≡ number_or w (value_for_word w (bs ++ ms)) → in_expression ms (number_or w (cond t (Some b.1) (value_for_word w bs))) ≡ number_or w (cond t (Some b.1) (value_for_word w (bs ++ ms)))
     go true e = refl
     go false e = e
 
@@ -64,7 +64,7 @@ module _ (ns ms ks : Numbers) (both : AreBoth ns ms ks) where
   in_block-again : (b : Block) → in_block ms (in_block ns b) ≡ in_block ks b
   in_block-again b = λ i. record { lo = in_expression-again ns ms ks both b.lo i; hi = in_option-again b.hi i }
 
-  prefixed-again : (nm : Naming) (ps : List Part) → map (in_part ms) (prefixed nm (map (in_part ns) ps)) ≡ prefixed nm (map (in_part ks) ps)
+  prefixed-again : (nm : Naming) (ps : List Part) → map (in_part ms) (prefixed_name nm (map (in_part ns) ps)) ≡ prefixed_name nm (map (in_part ks) ps)
   prefixed-again as_they_stand ps = in_parts-again ps
   prefixed-again (under text nodes) ps = ap (λ qs. record { title = text; index = None } ∷ qs) (in_parts-again ps)
 
@@ -87,7 +87,7 @@ module _ (ns ms ks : Numbers) (both : AreBoth ns ms ks) where
     in_declared-again ps = prefixed-again nm ps
 
     in_reference-again : (ps : List Part) → in_reference then (in_reference first ps) ≡ in_reference whole ps
-    in_reference-again ps = named_or-again (node_by nm (word_of ps)) (in_declared first ps) (in_declared whole ps) (in_declared-again ps)
+    in_reference-again ps = named_or-again (node_by nm (word_of_name ps)) (in_declared first ps) (in_declared whole ps) (in_declared-again ps)
 
     in_dest-again : (d : Dest) → in_dest then (in_dest first d) ≡ in_dest whole d
     in_dest-again d = λ i. record { name = in_reference-again d.name i; addr = in_option-again d.addr i }
@@ -113,35 +113,35 @@ module _ (ns ms ks : Numbers) (both : AreBoth ns ms ks) where
         (map_again (in_reference then) (in_reference first) (in_reference whole) in_reference-again ports i)
 
 -- a word is not among those that it hides
-looked_up-without : {A : Type 0} (w v : List ℕ) (xs : List (List ℕ × A)) → looked_up v (without w xs) ≡ cond (bytes_eq w v) None (looked_up v xs)
-looked_up-without {A = A} w v [] = none_left (bytes_eq w v) where
+value_for_word-without : {A : Type 0} (w v : List ℕ) (xs : List (List ℕ × A)) → value_for_word v (without_word w xs) ≡ cond (bytes_eq w v) None (value_for_word v xs)
+value_for_word-without {A = A} w v [] = none_left (bytes_eq w v) where
   none_left : (t : Bool) → ◌≡◌ {A = Option A} None (cond t None None)
   none_left true = refl
   none_left false = refl
-looked_up-without w v (b ∷ bs) = go (bytes_eq w b.0) refl (looked_up-without w v bs) where
-  kept : (s t : Bool) → looked_up v (without w bs) ≡ cond t None (looked_up v bs) → (s ≡ true → t ≡ false) → cond s (Some b.1) (looked_up v (without w bs)) ≡ cond t None (cond s (Some b.1) (looked_up v bs))
+value_for_word-without w v (b ∷ bs) = go (bytes_eq w b.0) refl (value_for_word-without w v bs) where
+  kept : (s t : Bool) → value_for_word v (without_word w bs) ≡ cond t None (value_for_word v bs) → (s ≡ true → t ≡ false) → cond s (Some b.1) (value_for_word v (without_word w bs)) ≡ cond t None (cond s (Some b.1) (value_for_word v bs))
   kept true true e h = let f : true ≡ false = h refl in cc
   kept true false e h = refl
   kept false t e h = e
 
-  gone : (s t : Bool) → looked_up v (without w bs) ≡ cond t None (looked_up v bs) → t ≡ s → looked_up v (without w bs) ≡ cond t None (cond s (Some b.1) (looked_up v bs))
+  gone : (s t : Bool) → value_for_word v (without_word w bs) ≡ cond t None (value_for_word v bs) → t ≡ s → value_for_word v (without_word w bs) ≡ cond t None (cond s (Some b.1) (value_for_word v bs))
   gone true true e h = e
   gone false false e h = e
   gone true false e h = cc
   gone false true e h = cc
 
-  go : (t : Bool) → bytes_eq w b.0 ≡ t → looked_up v (without w bs) ≡ cond (bytes_eq w v) None (looked_up v bs) → looked_up v (cond (not t) (b ∷ without w bs) (without w bs)) ≡ cond (bytes_eq w v) None (looked_up v (b ∷ bs))
+  go : (t : Bool) → bytes_eq w b.0 ≡ t → value_for_word v (without_word w bs) ≡ cond (bytes_eq w v) None (value_for_word v bs) → value_for_word v (cond (not t) (b ∷ without_word w bs) (without_word w bs)) ≡ cond (bytes_eq w v) None (value_for_word v (b ∷ bs))
   go true is e = gone (bytes_eq v b.0) (bytes_eq w v) e (nat_list_eq_equiv.congr w b.0 v is ∙ nat_list_eq_equiv.symm b.0 v)
   go false is e = kept (bytes_eq v b.0) (bytes_eq w v) e (λ s. nat_list_eq_equiv.symm w v ∙ nat_list_eq_equiv.congr v b.0 w s ∙ nat_list_eq_equiv.symm b.0 w ∙ is)
 
 -- hiding a word in both
-both_without : (w : List ℕ) (ns ms ks : Numbers) → AreBoth ns ms ks → AreBoth (without w ns) (without w ms) (without w ks)
+both_without : (w : List ℕ) (ns ms ks : Numbers) → AreBoth ns ms ks → AreBoth (without_word w ns) (without_word w ms) (without_word w ks)
 both_without w ns ms ks both = record {
   each = λ v.
-      looked_up-without w v ks
+      value_for_word-without w v ks
       ∙ ap (λ o. cond (bytes_eq w v) None o) (both.each v)
-      ∙ sym (looked_up-without w v (ns ++ ms))
-      ∙ ap (looked_up v) (filter-append (λ b. not (bytes_eq w b.0)) ns ms);
+      ∙ sym (value_for_word-without w v (ns ++ ms))
+      ∙ ap (value_for_word v) (filter-append (λ b. not (bytes_eq w b.0)) ns ms);
 }
 
 mutual
@@ -151,16 +151,16 @@ mutual
   in_item-again ns ms ks both nm (instance line title args text) = λ i.
       instance line title (map_again (in_arg (then ns ms ks both nm)) (in_arg (first ns ms ks both nm)) (in_arg (whole ns ms ks both nm)) (in_arg-again ns ms ks both nm) args i) (in_declared-again ns ms ks both nm text i)
   in_item-again ns ms ks both nm (loop line w from upto body) = λ i.
-      loop line w (in_expression-again ns ms ks both from i) (in_expression-again ns ms ks both upto i) (in_items-again (without w ns) (without w ms) (without w ks) (both_without w ns ms ks both) nm body i)
+      loop line w (in_expression-again ns ms ks both from i) (in_expression-again ns ms ks both upto i) (in_items-again (without_word w ns) (without_word w ms) (without_word w ks) (both_without w ns ms ks both) nm body i)
 
   pub in_items-again : (ns ms ks : Numbers) → AreBoth ns ms ks → (nm : Naming) (is : Items) → in_items (record { numbers = ms; naming = as_they_stand }) (in_items (record { numbers = ns; naming = nm }) is) ≡ in_items (record { numbers = ks; naming = nm }) is
   in_items-again ns ms ks both nm no_items = refl
   in_items-again ns ms ks both nm (and_item i is) = λ j. and_item (in_item-again ns ms ks both nm i j) (in_items-again ns ms ks both nm is j)
 
-pub looked_up-append : {A : Type 0} (v : List ℕ) (xs ys : List (List ℕ × A)) → looked_up v (xs ++ ys) ≡ or_else (looked_up v xs) (looked_up v ys)
-looked_up-append v [] ys = refl
-looked_up-append v (b ∷ bs) ys = go (bytes_eq v b.0) (looked_up-append v bs ys) where
-  go : (t : Bool) → looked_up v (bs ++ ys) ≡ or_else (looked_up v bs) (looked_up v ys) → cond t (Some b.1) (looked_up v (bs ++ ys)) ≡ or_else (cond t (Some b.1) (looked_up v bs)) (looked_up v ys)
+pub value_for_word-append : {A : Type 0} (v : List ℕ) (xs ys : List (List ℕ × A)) → value_for_word v (xs ++ ys) ≡ or_else (value_for_word v xs) (value_for_word v ys)
+value_for_word-append v [] ys = refl
+value_for_word-append v (b ∷ bs) ys = go (bytes_eq v b.0) (value_for_word-append v bs ys) where
+  go : (t : Bool) → value_for_word v (bs ++ ys) ≡ or_else (value_for_word v bs) (value_for_word v ys) → cond t (Some b.1) (value_for_word v (bs ++ ys)) ≡ or_else (cond t (Some b.1) (value_for_word v bs)) (value_for_word v ys)
   go true e = refl
   go false e = e
 
@@ -175,12 +175,12 @@ innermost a o true false e = cc
 innermost a o false true e = cc
 
 -- the innermost variable, and the rest without it
-entered : (w : List ℕ) (a : ℕ) (ns : Numbers) (v : List ℕ) → looked_up v ((w, a) ∷ ns) ≡ looked_up v (without w ns ++ (w, a) ∷ [])
+entered : (w : List ℕ) (a : ℕ) (ns : Numbers) (v : List ℕ) → value_for_word v ((w, a) ∷ ns) ≡ value_for_word v (without_word w ns ++ (w, a) ∷ [])
 entered w a ns v =
-    innermost a (looked_up v ns) (bytes_eq v w) (bytes_eq w v) (nat_list_eq_equiv.symm w v)
-    ∙ ap (λ o. or_else o (cond (bytes_eq v w) (Some a) None)) (sym (looked_up-without w v ns))
-    ∙ sym (looked_up-append v (without w ns) ((w, a) ∷ []))
+    innermost a (value_for_word v ns) (bytes_eq v w) (bytes_eq w v) (nat_list_eq_equiv.symm w v)
+    ∙ ap (λ o. or_else o (cond (bytes_eq v w) (Some a) None)) (sym (value_for_word-without w v ns))
+    ∙ sym (value_for_word-append v (without_word w ns) ((w, a) ∷ []))
 
 -- one variable replaced in what was replaced without it
-pub one_more : (w : List ℕ) (a : ℕ) (r : Replacement) (is : Items) → in_items (one_number w a) (in_items (hiding w r) is) ≡ in_items (record { numbers = (w, a) ∷ r.numbers; naming = r.naming }) is
-one_more w a r is = in_items-again (without w r.numbers) ((w, a) ∷ []) ((w, a) ∷ r.numbers) (record { each = entered w a r.numbers }) r.naming is
+pub one_more : (w : List ℕ) (a : ℕ) (r : Replacement) (is : Items) → in_items (one_number w a) (in_items (replacement_hiding w r) is) ≡ in_items (record { numbers = (w, a) ∷ r.numbers; naming = r.naming }) is
+one_more w a r is = in_items-again (without_word w r.numbers) ((w, a) ∷ []) ((w, a) ∷ r.numbers) (record { each = entered w a r.numbers }) r.naming is

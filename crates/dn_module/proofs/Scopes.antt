@@ -4,16 +4,16 @@ use Rattle.std.proofs.lemmas.List.{map_more, reverse-append}
 use Rattle.std.proofs.lemmas.Cmp.{nat_list_eq_equiv}
 use Rattle.std.specs.Str.{bytes_eq}
 use Rattle.dn_module.specs.declared.scope.Number.{Number}
-use Rattle.dn_module.specs.Replace.{looked_up}
-use Rattle.dn_module.proofs.Replaced.{looked_up-append, or_else}
+use Rattle.dn_module.specs.Replace.{value_for_word}
+use Rattle.dn_module.proofs.Replaced.{or_else, value_for_word-append}
 
 -- what an inner list has
-pub found_within : {A : Type 0} (w : List ℕ) (xs ys : List (List ℕ × A)) (a : A) → Some a ≡ looked_up w xs → Some a ≡ looked_up w (xs ++ ys)
-found_within w xs ys a e = ap (λ o. or_else o (looked_up w ys)) e ∙ sym (looked_up-append w xs ys)
+pub found_within : {A : Type 0} (w : List ℕ) (xs ys : List (List ℕ × A)) (a : A) → Some a ≡ value_for_word w xs → Some a ≡ value_for_word w (xs ++ ys)
+found_within w xs ys a e = ap (λ o. or_else o (value_for_word w ys)) e ∙ sym (value_for_word-append w xs ys)
 
 -- what an inner list does not have
-pub found_outside : {A : Type 0} (w : List ℕ) (xs ys : List (List ℕ × A)) → None ≡ looked_up w xs → looked_up w (xs ++ ys) ≡ looked_up w ys
-found_outside w xs ys e = looked_up-append w xs ys ∙ ap (λ o. or_else o (looked_up w ys)) (sym e)
+pub found_outside : {A : Type 0} (w : List ℕ) (xs ys : List (List ℕ × A)) → None ≡ value_for_word w xs → value_for_word w (xs ++ ys) ≡ value_for_word w ys
+found_outside w xs ys e = value_for_word-append w xs ys ∙ ap (λ o. or_else o (value_for_word w ys)) (sym e)
 
 abbrev pub numbered : Number → List ℕ × ℕ
 numbered n = (n.word.now, n.number)
@@ -35,21 +35,21 @@ module _ (w : List ℕ) (ns : List Number) (left : ℕ) (d : Number) where
   abbrev innermost : Number
   innermost = get_or ns (left - 1) d
 
-  innermost_first : 0 < left → left ≤ length ns → looked_up w (reverse (map numbered (take left ns))) ≡ cond (bytes_eq w innermost.word.now) (Some innermost.number) (looked_up w (reverse (map numbered (take (left - 1) ns))))
+  innermost_first : 0 < left → left ≤ length ns → value_for_word w (reverse (map numbered (take left ns))) ≡ cond (bytes_eq w innermost.word.now) (Some innermost.number) (value_for_word w (reverse (map numbered (take (left - 1) ns))))
   innermost_first more within =
       let one : left ≡ (left - 1) + 1 = omega arith in
       let before = map numbered (take (left - 1) ns) in
-      ap (λ k. looked_up w (reverse (map numbered (take k ns)))) one
-      ∙ ap (λ l. looked_up w (reverse l)) (map_more numbered ns (left - 1) innermost (omega arith))
-      ∙ ap (λ (m : Number). looked_up w (reverse (before ++ numbered m ∷ []))) (sym (at_any ns (left - 1) d (omega arith)))
-      ∙ ap (looked_up w) (reverse-append before (numbered innermost ∷ []))
+      ap (λ k. value_for_word w (reverse (map numbered (take k ns)))) one
+      ∙ ap (λ l. value_for_word w (reverse l)) (map_more numbered ns (left - 1) innermost (omega arith))
+      ∙ ap (λ (m : Number). value_for_word w (reverse (before ++ numbered m ∷ []))) (sym (at_any ns (left - 1) d (omega arith)))
+      ∙ ap (value_for_word w) (reverse-append before (numbered innermost ∷ []))
 
-  pub innermost_met : 0 < left → left ≤ length ns → bytes_eq innermost.word.now w ≡ true → looked_up w (reverse (map numbered (take left ns))) ≡ Some innermost.number
+  pub innermost_met : 0 < left → left ≤ length ns → bytes_eq innermost.word.now w ≡ true → value_for_word w (reverse (map numbered (take left ns))) ≡ Some innermost.number
   innermost_met more within is =
       innermost_first more within
-      ∙ ap (λ (b : Bool). cond b (Some innermost.number) (looked_up w (reverse (map numbered (take (left - 1) ns))))) (nat_list_eq_equiv.symm w innermost.word.now ∙ is)
+      ∙ ap (λ (b : Bool). cond b (Some innermost.number) (value_for_word w (reverse (map numbered (take (left - 1) ns))))) (nat_list_eq_equiv.symm w innermost.word.now ∙ is)
 
-  pub innermost_other : 0 < left → left ≤ length ns → bytes_eq innermost.word.now w ≡ false → looked_up w (reverse (map numbered (take left ns))) ≡ looked_up w (reverse (map numbered (take (left - 1) ns)))
+  pub innermost_other : 0 < left → left ≤ length ns → bytes_eq innermost.word.now w ≡ false → value_for_word w (reverse (map numbered (take left ns))) ≡ value_for_word w (reverse (map numbered (take (left - 1) ns)))
   innermost_other more within is =
       innermost_first more within
-      ∙ ap (λ (b : Bool). cond b (Some innermost.number) (looked_up w (reverse (map numbered (take (left - 1) ns))))) (nat_list_eq_equiv.symm w innermost.word.now ∙ is)
+      ∙ ap (λ (b : Bool). cond b (Some innermost.number) (value_for_word w (reverse (map numbered (take (left - 1) ns))))) (nat_list_eq_equiv.symm w innermost.word.now ∙ is)

@@ -4,7 +4,7 @@ use Rattle.std.proofs.Math.ListN.{drop_of_length-le}
 use Rattle.std.proofs.Math.Nat.{mul_assoc, mul-zero, mul-suc, mul-one}
 use Rattle.dn_base.proofs.Lists.{drop_at}
 use Rattle.dn_parse.specs.Tree.{Expression, expressions}
-use Rattle.dn_module.specs.Values.{Flaw, out_of_range, ◌>>=◌, value, values, fitting, sum_of, product_of}
+use Rattle.dn_module.specs.Values.{Flaw, out_of_range, ◌>>=◌, value, values, number_or_flaw, sum_of, product_of}
 use Rattle.dn_module.specs.Replace.{in_expression, in_expressions}
 
 -- a value, limited to one past the largest
@@ -17,10 +17,10 @@ members_of g ns xs = values (in_expressions ns (expressions (map g xs)))
 
 -- the total so far and the rest, judged whole
 abbrev pub summed : ℕ → Result (List ℕ) Flaw → Result ℕ Flaw
-summed total rest = rest >>= (λ ms. fitting (total + sum_of ms))
+summed total rest = rest >>= (λ ms. number_or_flaw (total + sum_of ms))
 
 abbrev pub multiplied : ℕ → Result (List ℕ) Flaw → Result ℕ Flaw
-multiplied total rest = rest >>= (λ ms. fitting (total * product_of ms))
+multiplied total rest = rest >>= (λ ms. number_or_flaw (total * product_of ms))
 
 is_less : (n : ℕ) → n < 2 ^ 64 → nat_lt n (2 ^ 64) ≡ true
 is_less n l = search (rules, arith)
@@ -31,7 +31,7 @@ not_less n l = search (rules, arith)
 less_or_not : (a : ℕ) → (a < 2 ^ 64) ⊎ (2 ^ 64 ≤ a)
 less_or_not a = grind arith
 
-exceeds : (n : ℕ) → 2 ^ 64 ≤ n → fitting n ≡ Err out_of_range
+exceeds : (n : ℕ) → 2 ^ 64 ≤ n → number_or_flaw n ≡ Err out_of_range
 exceeds n l = ap (λ b. if b then Ok n else Err out_of_range) (not_less n l)
 
 pub limit_small : (n : ℕ) → limit_of n ≤ 2 ^ 64
@@ -42,16 +42,16 @@ limit_small n = go (less_or_not n)
     go (inr h) = subst (λ b. (if b then n else 2 ^ 64) ≤ 2 ^ 64) (sym (not_less n h)) (omega arith)
 
 -- a part of a sum may be limited before the sum is judged
-limited_part : (a r : ℕ) → (a < 2 ^ 64) ⊎ (2 ^ 64 ≤ a) → fitting (limit_of a + r) ≡ fitting (a + r)
-limited_part a r (inl l) = ap (λ b. fitting ((if b then a else 2 ^ 64) + r)) (is_less a l)
+limited_part : (a r : ℕ) → (a < 2 ^ 64) ⊎ (2 ^ 64 ≤ a) → number_or_flaw (limit_of a + r) ≡ number_or_flaw (a + r)
+limited_part a r (inl l) = ap (λ b. number_or_flaw ((if b then a else 2 ^ 64) + r)) (is_less a l)
 limited_part a r (inr h) =
     let whole : limit_of a ≡ 2 ^ 64 = ap (λ b. if b then a else 2 ^ 64) (not_less a h) in
     exceeds (limit_of a + r) (omega (arith, whole)) ∙ sym (exceeds (a + r) (omega (arith, h)))
 
 -- and so may a factor
-limited_factor : (a r : ℕ) → (a < 2 ^ 64) ⊎ (2 ^ 64 ≤ a) → fitting (limit_of a * r) ≡ fitting (a * r)
-limited_factor a r (inl l) = ap (λ b. fitting ((if b then a else 2 ^ 64) * r)) (is_less a l)
-limited_factor a zero (inr h) = ap (λ n. fitting n) (mul-zero (limit_of a) ∙ sym (mul-zero a))
+limited_factor : (a r : ℕ) → (a < 2 ^ 64) ⊎ (2 ^ 64 ≤ a) → number_or_flaw (limit_of a * r) ≡ number_or_flaw (a * r)
+limited_factor a r (inl l) = ap (λ b. number_or_flaw ((if b then a else 2 ^ 64) * r)) (is_less a l)
+limited_factor a zero (inr h) = ap (λ n. number_or_flaw n) (mul-zero (limit_of a) ∙ sym (mul-zero a))
 limited_factor a (suc r) (inr h) =
     let whole : limit_of a ≡ 2 ^ 64 = ap (λ b. if b then a else 2 ^ 64) (not_less a h) in
     let s : limit_of a * suc r ≡ limit_of a * r + limit_of a = mul-suc (limit_of a) r in
@@ -63,11 +63,11 @@ add_both a b c = omega arith
 
 summed_twice : (a n : ℕ) (o : Result (List ℕ) Flaw) → summed a (o >>= (λ ms. Ok (n ∷ ms))) ≡ summed (limit_of (a + n)) o
 summed_twice a n (Err f) = refl
-summed_twice a n (Ok ms) = ap (λ m. fitting m) (add_both a n (sum_of ms)) ∙ sym (limited_part (a + n) (sum_of ms) (less_or_not (a + n)))
+summed_twice a n (Ok ms) = ap (λ m. number_or_flaw m) (add_both a n (sum_of ms)) ∙ sym (limited_part (a + n) (sum_of ms) (less_or_not (a + n)))
 
 multiplied_twice : (a n : ℕ) (o : Result (List ℕ) Flaw) → multiplied a (o >>= (λ ms. Ok (n ∷ ms))) ≡ multiplied (limit_of (a * n)) o
 multiplied_twice a n (Err f) = refl
-multiplied_twice a n (Ok ms) = ap (λ m. fitting m) (sym (mul_assoc a n (product_of ms))) ∙ sym (limited_factor (a * n) (product_of ms) (less_or_not (a * n)))
+multiplied_twice a n (Ok ms) = ap (λ m. number_or_flaw m) (sym (mul_assoc a n (product_of ms))) ∙ sym (limited_factor (a * n) (product_of ms) (less_or_not (a * n)))
 
 -- the members from one on, whose value is there
 members_next : {X : Type 0} (g : X → Expression) (ns : List (List ℕ × ℕ)) (xs : List X) (i : ℕ) (x : X) (n : ℕ) → i < length xs → x ≡ get_or xs i x → value (in_expression ns (g x)) ≡ Ok n → members_of g ns (drop i xs) ≡ (members_of g ns (drop (i + 1) xs) >>= (λ ms. Ok (n ∷ ms)))
@@ -92,8 +92,8 @@ product_step g ns xs i x n total whole h at e so_far =
 add_none : (n : ℕ) → n + 0 ≡ n
 add_none n = omega arith
 
-pub sum_end : {X : Type 0} (g : X → Expression) (ns : List (List ℕ × ℕ)) (xs : List X) (i total : ℕ) → length xs ≤ i → summed total (members_of g ns (drop i xs)) ≡ fitting total
-sum_end g ns xs i total h = ap (λ l. summed total (members_of g ns l)) (drop_of_length-le xs h) ∙ ap (λ n. fitting n) (add_none total)
+pub sum_end : {X : Type 0} (g : X → Expression) (ns : List (List ℕ × ℕ)) (xs : List X) (i total : ℕ) → length xs ≤ i → summed total (members_of g ns (drop i xs)) ≡ number_or_flaw total
+sum_end g ns xs i total h = ap (λ l. summed total (members_of g ns l)) (drop_of_length-le xs h) ∙ ap (λ n. number_or_flaw n) (add_none total)
 
-pub product_end : {X : Type 0} (g : X → Expression) (ns : List (List ℕ × ℕ)) (xs : List X) (i total : ℕ) → length xs ≤ i → multiplied total (members_of g ns (drop i xs)) ≡ fitting total
-product_end g ns xs i total h = ap (λ l. multiplied total (members_of g ns l)) (drop_of_length-le xs h) ∙ ap (λ n. fitting n) (mul-one total)
+pub product_end : {X : Type 0} (g : X → Expression) (ns : List (List ℕ × ℕ)) (xs : List X) (i total : ℕ) → length xs ≤ i → multiplied total (members_of g ns (drop i xs)) ≡ number_or_flaw total
+product_end g ns xs i total h = ap (λ l. multiplied total (members_of g ns l)) (drop_of_length-le xs h) ∙ ap (λ n. number_or_flaw n) (mul-one total)

@@ -4,15 +4,15 @@ use Rattle.std.proofs.lemmas.List.{append_assoc, reverse-append}
 use Rattle.dn_module.specs.declared.stack.Turns.{Turns}
 use Rattle.dn_module.specs.declared.stack.Rest.{Rest}
 use Rattle.dn_module.specs.declared.stack.Use.{Use}
-use Rattle.dn_module.specs.Expand.{Visibility, State, Work, line_of, statements, with_drafts, item_rewriting, rewriting, all_rewritings, most_steps}
-use Rattle.dn_module.specs.Machine.{in_front, with_declaration}
+use Rattle.dn_module.specs.Expand.{Visibility, ExpansionState, Work, line_of_work, statements, with_drafts, item_rewriting, rewriting, all_rewritings, most_steps}
+use Rattle.dn_module.specs.Machine.{with_declaration, works_in_front}
 use Rattle.dn_kind.specs.Kind.{Meaning}
 use Rattle.dn_module.specs.Values.{◌>>=◌}
 use Rattle.dn_module.specs.Replace.{Replacement, one_number, in_declaration, in_item, in_items}
-use Rattle.dn_module.specs.Stack.{body_view, loop_body, turns_works, after_works, turn_works, rest_works, outside_of, bodies_works, use_works, uses_works}
+use Rattle.dn_module.specs.Stack.{body_view, loop_body, turns_works, after_works, turn_works, rest_works, outside_of, bodies_works, use_view, uses_view}
 use Rattle.dn_module.proofs.Replaced.{one_more}
 use Rattle.dn_module.specs.Faults.{ExpansionFault, passes_limit, expand_fault_view}
-use Rattle.dn_module.specs.Drafts.{declared_by, with_draft}
+use Rattle.dn_module.specs.Drafts.{draft_of_declaration, with_draft}
 use Rattle.dn_module.specs.declared.draft.Draft.{Draft}
 use Rattle.dn_module.specs.declared.fault.ExpandFault.{ExpandFault}
 use Rattle.dn_base.specs.Answers.{Answers}
@@ -30,14 +30,14 @@ bodies_left s r b x bs none =
     ∙ ap (bodies_works s (outside_of r)) (reverse-append bs (x ∷ []))
 
 -- a use that is at its end goes
-pub uses_left : (u x : Use) (us : List Use) → use_works u ≡ [] → uses_works (u ∷ reverse (us ++ x ∷ [])) ≡ uses_works (x ∷ reverse us)
+pub uses_left : (u x : Use) (us : List Use) → use_view u ≡ [] → uses_view (u ∷ reverse (us ++ x ∷ [])) ≡ uses_view (x ∷ reverse us)
 uses_left u x us none =
-    ap (λ ws. ws ++ uses_works (reverse (us ++ x ∷ []))) none
-    ∙ ap uses_works (reverse-append us (x ∷ []))
+    ap (λ ws. ws ++ uses_view (reverse (us ++ x ∷ []))) none
+    ∙ ap uses_view (reverse-append us (x ∷ []))
 
 -- one use more
-pub uses_more : (u x : Use) (us : List Use) → uses_works (x ∷ reverse (us ++ u ∷ [])) ≡ use_works x ++ uses_works (u ∷ reverse us)
-uses_more u x us = ap (λ l. use_works x ++ uses_works l) (reverse-append us (u ∷ []))
+pub uses_more : (u x : Use) (us : List Use) → uses_view (x ∷ reverse (us ++ u ∷ [])) ≡ use_view x ++ uses_view (u ∷ reverse us)
+uses_more u x us = ap (λ l. use_view x ++ uses_view l) (reverse-append us (u ∷ []))
 
 -- a turn is gone into: its body, the turns after it, and what was there before
 pub turn_entered : (s : Visibility) (r : Replacement) (t : Turns) (inner pushed now : Rest) (bs : List Rest) → rest_works s r inner ≡ statements s (in_items r (body_view inner.statements.now))
@@ -61,10 +61,10 @@ pub free_rest : (s : Visibility) (r : Replacement) (b : Rest) → b.turns ≡ No
 free_rest s r b none = ap (λ t. turns_works s r t ++ statements s (in_items r (body_view b.statements.now))) none
 
 -- a step, by what comes in the place of the first work
-module _ (kinds : List Meaning) (left : ℕ) (w : Work) (ws : List Work) (st : State) where
-  pub step_on : (next : List Work × State) → 0 < left → in_front ws (rewriting kinds st w) ≡ Ok next → all_rewritings kinds left (w ∷ ws) st ≡ all_rewritings kinds (left - 1) next.0 next.1
+module _ (kinds : List Meaning) (left : ℕ) (w : Work) (ws : List Work) (st : ExpansionState) where
+  pub step_on : (next : List Work × ExpansionState) → 0 < left → works_in_front ws (rewriting kinds st w) ≡ Ok next → all_rewritings kinds left (w ∷ ws) st ≡ all_rewritings kinds (left - 1) next.0 next.1
   step_on next more h = go left more where
-    by : (k : ℕ) (r : Result (List Work × State) ExpansionFault) → in_front ws r ≡ Ok next → (r >>= (λ n. all_rewritings kinds k (n.0 ++ ws) n.1)) ≡ all_rewritings kinds k next.0 next.1
+    by : (k : ℕ) (r : Result (List Work × ExpansionState) ExpansionFault) → works_in_front ws r ≡ Ok next → (r >>= (λ n. all_rewritings kinds k (n.0 ++ ws) n.1)) ≡ all_rewritings kinds k next.0 next.1
     by k (Err e) h = cc
     by k (Ok n) h = let same : (n.0 ++ ws, n.1) ≡ next = cc in ap (λ m. all_rewritings kinds k m.0 m.1) same
 
@@ -72,9 +72,9 @@ module _ (kinds : List Meaning) (left : ℕ) (w : Work) (ws : List Work) (st : S
     go zero more = absurd (omega arith)
     go (suc k) more = by k (rewriting kinds st w) h ∙ ap (λ j. all_rewritings kinds j next.0 next.1) (omega arith)
 
-  pub step_err : (e : ExpansionFault) → 0 < left → in_front ws (rewriting kinds st w) ≡ Err e → all_rewritings kinds left (w ∷ ws) st ≡ Err e
+  pub step_err : (e : ExpansionFault) → 0 < left → works_in_front ws (rewriting kinds st w) ≡ Err e → all_rewritings kinds left (w ∷ ws) st ≡ Err e
   step_err e more h = go left more where
-    by : (k : ℕ) (r : Result (List Work × State) ExpansionFault) → in_front ws r ≡ Err e → (r >>= (λ n. all_rewritings kinds k (n.0 ++ ws) n.1)) ≡ Err e
+    by : (k : ℕ) (r : Result (List Work × ExpansionState) ExpansionFault) → works_in_front ws r ≡ Err e → (r >>= (λ n. all_rewritings kinds k (n.0 ++ ws) n.1)) ≡ Err e
     by k (Err f) h = let same : f ≡ e = cc in ap (λ e. Err e) same
     by k (Ok n) h = cc
 
@@ -83,12 +83,12 @@ module _ (kinds : List Meaning) (left : ℕ) (w : Work) (ws : List Work) (st : S
     go (suc k) more = by k (rewriting kinds st w) h
 
   -- a fault of a step is one of the whole
-  pub fault_on : (fault : Option ExpansionFault) (whole : Result State ExpansionFault) → 0 < left → whole ≡ all_rewritings kinds left (w ∷ ws) st → IfSome fault (λ g. in_front ws (rewriting kinds st w) ≡ Err g) → IfSome fault (λ g. whole ≡ Err g)
+  pub fault_on : (fault : Option ExpansionFault) (whole : Result ExpansionState ExpansionFault) → 0 < left → whole ≡ all_rewritings kinds left (w ∷ ws) st → IfSome fault (λ g. works_in_front ws (rewriting kinds st w) ≡ Err g) → IfSome fault (λ g. whole ≡ Err g)
   fault_on None whole more same is = tt
   fault_on (Some g) whole more same is = same ∙ step_err g more is
 
 -- no step is left
-pub steps_out : (kinds : List Meaning) (left : ℕ) (w : Work) (ws : List Work) (st : State) → left ≡ 0 → all_rewritings kinds left (w ∷ ws) st ≡ Err (passes_limit (line_of w) 65536)
+pub steps_out : (kinds : List Meaning) (left : ℕ) (w : Work) (ws : List Work) (st : ExpansionState) → left ≡ 0 → all_rewritings kinds left (w ∷ ws) st ≡ Err (passes_limit (line_of_work w) 65536)
 steps_out kinds left w ws st none = rw none refl
 
 pub most_steps_are : most_steps ≡ 65536
@@ -100,23 +100,23 @@ pub declaration_item : (r : Replacement) (line : ℕ) (d : Decl) → in_item r (
 declaration_item r line d = ap (in_item r) (ap item_view (sym (rolls-Decl line d)) ∙ fold-roll-Stmt Item stmt_step (StmtDecl line d))
 
 -- a declaration is recorded, and the work that is left stays
-module _ (kinds : List Meaning) (s : Visibility) (works : List Work) (state : State) (line : ℕ) (d : Declaration) where
-  abbrev declaration_step : Result (List Work × State) ExpansionFault
-  declaration_step = in_front works (item_rewriting kinds s state (declared line d))
+module _ (kinds : List Meaning) (s : Visibility) (works : List Work) (state : ExpansionState) (line : ℕ) (d : Declaration) where
+  abbrev declaration_step : Result (List Work × ExpansionState) ExpansionFault
+  declaration_step = works_in_front works (item_rewriting kinds s state (declared line d))
 
   recorded : (drafts : List Draft) → with_declaration kinds state.drafts line d ≡ Ok drafts → declaration_step ≡ Ok (works, with_drafts state drafts)
-  recorded drafts h = go (declared_by kinds line d) h
+  recorded drafts h = go (draft_of_declaration kinds line d) h
     where
-      go : (r : Result Draft ExpansionFault) → (r >>= λ draft. with_draft state.drafts draft) ≡ Ok drafts → in_front works (r >>= λ draft. with_draft state.drafts draft >>= λ ds. Ok ([], with_drafts state ds)) ≡ Ok (works, with_drafts state drafts)
+      go : (r : Result Draft ExpansionFault) → (r >>= λ draft. with_draft state.drafts draft) ≡ Ok drafts → works_in_front works (r >>= λ draft. with_draft state.drafts draft >>= λ ds. Ok ([], with_drafts state ds)) ≡ Ok (works, with_drafts state drafts)
       go (Err e) h = cc
-      go (Ok draft) h = ap (λ q. in_front works (q >>= λ ds. Ok ([], with_drafts state ds))) h
+      go (Ok draft) h = ap (λ q. works_in_front works (q >>= λ ds. Ok ([], with_drafts state ds))) h
 
   not_recorded : (f : ExpansionFault) → with_declaration kinds state.drafts line d ≡ Err f → declaration_step ≡ Err f
-  not_recorded f h = go (declared_by kinds line d) h
+  not_recorded f h = go (draft_of_declaration kinds line d) h
     where
-      go : (r : Result Draft ExpansionFault) → (r >>= λ draft. with_draft state.drafts draft) ≡ Err f → in_front works (r >>= λ draft. with_draft state.drafts draft >>= λ ds. Ok ([], with_drafts state ds)) ≡ Err f
+      go : (r : Result Draft ExpansionFault) → (r >>= λ draft. with_draft state.drafts draft) ≡ Err f → works_in_front works (r >>= λ draft. with_draft state.drafts draft >>= λ ds. Ok ([], with_drafts state ds)) ≡ Err f
       go (Err e) h = let same : e ≡ f = cc in ap (λ q. Err q) same
-      go (Ok draft) h = ap (λ q. in_front works (q >>= λ ds. Ok ([], with_drafts state ds))) h
+      go (Ok draft) h = ap (λ q. works_in_front works (q >>= λ ds. Ok ([], with_drafts state ds))) h
 
   declaration_answer : {X : Type 0} (r : Result X ExpandFault) (drafts : List Draft) → Answers (λ _. drafts) expand_fault_view r (with_declaration kinds state.drafts line d) → Answers (λ _. (works, with_drafts state drafts)) expand_fault_view r declaration_step
   declaration_answer (Ok x) drafts h = recorded drafts h
@@ -126,16 +126,16 @@ module _ (kinds : List Meaning) (s : Visibility) (works : List Work) (state : St
       go None h = tt
       go (Some f) h = not_recorded f h
 
-  pub declaration_taken : {X : Type 0} (r : Result X ExpandFault) (drafts : List Draft) (item : Item) (left : List Work) (now : State) → item ≡ declared line d → left ≡ works → now ≡ with_drafts state drafts → Answers (λ _. drafts) expand_fault_view r (with_declaration kinds state.drafts line d) → Answers (λ _. (left, now)) expand_fault_view r (in_front works (item_rewriting kinds s state item))
+  pub declaration_taken : {X : Type 0} (r : Result X ExpandFault) (drafts : List Draft) (item : Item) (left : List Work) (now : ExpansionState) → item ≡ declared line d → left ≡ works → now ≡ with_drafts state drafts → Answers (λ _. drafts) expand_fault_view r (with_declaration kinds state.drafts line d) → Answers (λ _. (left, now)) expand_fault_view r (works_in_front works (item_rewriting kinds s state item))
   declaration_taken r drafts item left now is same new h =
-      subst (λ i. Answers (λ _. (left, now)) expand_fault_view r (in_front works (item_rewriting kinds s state i))) (sym is)
+      subst (λ i. Answers (λ _. (left, now)) expand_fault_view r (works_in_front works (item_rewriting kinds s state i))) (sym is)
       (subst (λ n. Answers (λ _. (left, n)) expand_fault_view r declaration_step) (sym new)
       (subst (λ l. Answers (λ _. (l, with_drafts state drafts)) expand_fault_view r declaration_step) (sym same) (declaration_answer r drafts h)))
 
 -- the same work in another form
-pub work_first : (kinds : List Meaning) (left : ℕ) (ws vs : List Work) (st : State) → ws ≡ vs → all_rewritings kinds left ws st ≡ all_rewritings kinds left vs st
+pub work_first : (kinds : List Meaning) (left : ℕ) (ws vs : List Work) (st : ExpansionState) → ws ≡ vs → all_rewritings kinds left ws st ≡ all_rewritings kinds left vs st
 work_first kinds left ws vs st e = ap (λ w. all_rewritings kinds left w st) e
 
 -- the beginning
-pub begun : (kinds : List Meaning) (n m : ℕ) (ws vs : List Work) (st tt' : State) → n ≡ m → ws ≡ vs → st ≡ tt' → all_rewritings kinds n ws st ≡ all_rewritings kinds m vs tt'
+pub begun : (kinds : List Meaning) (n m : ℕ) (ws vs : List Work) (st tt' : ExpansionState) → n ≡ m → ws ≡ vs → st ≡ tt' → all_rewritings kinds n ws st ≡ all_rewritings kinds m vs tt'
 begun kinds n m ws vs st tt' e f g = λ i. all_rewritings kinds (e i) (f i) (g i)

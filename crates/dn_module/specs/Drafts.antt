@@ -18,7 +18,7 @@ use Rattle.dn_module.specs.declared.draft.Draft.{Draft}
 use Rattle.dn_module.specs.declared.draft.DraftEntry.{DraftEntry}
 use Rattle.dn_module.specs.declared.draft.DraftDest.{DraftDest}
 use Rattle.dn_module.specs.declared.draft.DraftUnit.{DraftUnit}
-use Rattle.dn_module.specs.Values.{◌>>=◌, Flaw, unknown_word, each, value, value_or, value_within, full_name, full_name_or_none}
+use Rattle.dn_module.specs.Values.{◌>>=◌, Flaw, unknown_word, each, value, value_or_default, value_within, full_name, full_name_or_none}
 use Rattle.dn_module.specs.Faults.{flaw_fault, ExpansionFault, is_duplicate, is_unknown, passes_limit}
 
 -- a flaw is a fault of its statement
@@ -30,14 +30,14 @@ at_line line (Err f) = Err (flaw_fault line f)
 abbrev pub block_of : BlockOf → Result Block Flaw
 block_of b = do
   lo ← value b.lo
-  hi ← value_or lo b.hi
+  hi ← value_or_default lo b.hi
   Ok (record { lo = lo; hi = hi })
 
 -- a destination without `at` has the block's own first address
 abbrev pub dest_of : ℕ → DestOf → Result DraftDest Flaw
 dest_of lo d = do
   to ← full_name d.name
-  addr ← value_or lo d.addr
+  addr ← value_or_default lo d.addr
   Ok (record { to = to; addr = addr })
 
 -- an entry: its block, and then its destinations
@@ -105,8 +105,8 @@ draft_of kinds line (unit name kind page slots reach ports) =
     unit_draft kinds line name kind page slots reach ports
 
 -- the draft of a declaration, or the fault of its statement
-abbrev pub declared_by : List Meaning → ℕ → Declaration → Result Draft ExpansionFault
-declared_by kinds line d = at_line line (draft_of kinds line d)
+abbrev pub draft_of_declaration : List Meaning → ℕ → Declaration → Result Draft ExpansionFault
+draft_of_declaration kinds line d = at_line line (draft_of kinds line d)
 
 -- the names of the nodes, in order
 abbrev pub names : List Draft → List (List ℕ)
@@ -117,37 +117,37 @@ abbrev pub is_known : List (List ℕ) → List ℕ → Bool
 is_known known text = list_any (bytes_eq text) known
 
 -- how many are agents
-abbrev pub agents_of : List Draft → ℕ
-agents_of drafts = count_by (λ d. is_agent d.role) drafts
+abbrev pub agents_among : List Draft → ℕ
+agents_among drafts = count_by (λ d. is_agent d.role) drafts
 
 -- how many are units
-abbrev pub units_of : List Draft → ℕ
-units_of drafts = count_by (λ d. is_unit d.role) drafts
+abbrev pub units_among : List Draft → ℕ
+units_among drafts = count_by (λ d. is_unit d.role) drafts
 
 -- an accept block, a map entry and an `over` are one part each
-abbrev pub parts_of : Draft → ℕ
-parts_of d = length d.accepts + (length d.entries + (if is_some d.over then 1 else 0))
+abbrev pub parts_of_draft : Draft → ℕ
+parts_of_draft d = length d.accepts + (length d.entries + (if is_some d.over then 1 else 0))
 
 -- the parts of all of them
 abbrev pub all_parts : List Draft → ℕ
-all_parts drafts = sum (map parts_of drafts)
+all_parts drafts = sum (map parts_of_draft drafts)
 
 -- the limit that one more node passes: nodes, then agents, then units, then parts
 abbrev pub limit_passed : List Draft → Draft → Option ℕ
 limit_passed drafts d =
     if nat_lt 1024 (length drafts + 1) then Some 1024
-    else (if is_agent d.role && nat_lt 64 (agents_of drafts + 1) then Some 64
-    else (if is_unit d.role && nat_lt 64 (units_of drafts + 1) then Some 64
-    else (if nat_lt 16384 (all_parts drafts + parts_of d) then Some 16384 else None)))
+    else (if is_agent d.role && nat_lt 64 (agents_among drafts + 1) then Some 64
+    else (if is_unit d.role && nat_lt 64 (units_among drafts + 1) then Some 64
+    else (if nat_lt 16384 (all_parts drafts + parts_of_draft d) then Some 16384 else None)))
 
 -- one draft more, or the limit that it passes
-abbrev pub by_limit : Option ℕ → List Draft → Draft → Result (List Draft) ExpansionFault
-by_limit (Some limit) drafts d = Err (passes_limit d.line limit)
-by_limit None drafts d = Ok (drafts ++ d ∷ [])
+abbrev pub draft_by_limit : Option ℕ → List Draft → Draft → Result (List Draft) ExpansionFault
+draft_by_limit (Some limit) drafts d = Err (passes_limit d.line limit)
+draft_by_limit None drafts d = Ok (drafts ++ d ∷ [])
 
 -- the nodes with one more: its name was not there before, and no limit is passed
 abbrev pub with_draft : List Draft → Draft → Result (List Draft) ExpansionFault
-with_draft drafts d = if is_known (names drafts) d.name then Err (is_duplicate d.line) else by_limit (limit_passed drafts d) drafts d
+with_draft drafts d = if is_known (names drafts) d.name then Err (is_duplicate d.line) else draft_by_limit (limit_passed drafts d) drafts d
 
 -- the node with a name, where it is there
 abbrev pub number_in : List (List ℕ) → List ℕ → Option ℕ
@@ -174,25 +174,25 @@ refers_to_known known d =
     && (over_known known d.over && ports_known known d.unit)
 
 -- the number of the node with a full name
-abbrev pub number_of : List (List ℕ) → List ℕ → ℕ
-number_of known text = position_or_len (bytes_eq text) known
+abbrev pub node_number_of : List (List ℕ) → List ℕ → ℕ
+node_number_of known text = position_or_len (bytes_eq text) known
 
 -- a destination, by the number of its node
 abbrev pub dest_in : List (List ℕ) → DraftDest → Dest
-dest_in known d = record { node = number_of known d.to; addr = d.addr }
+dest_in known d = record { node = node_number_of known d.to; addr = d.addr }
 
 -- an entry, by the numbers of its destinations
 abbrev pub entry_in : List (List ℕ) → DraftEntry → Entry
 entry_in known e = record { block = e.block; dests = map (dest_in known) e.dests }
 
 -- a unit, by the numbers of its ports
-abbrev pub unit_in : List (List ℕ) → DraftUnit → UnitPart
-unit_in known u = record {
+abbrev pub unit_by_numbers : List (List ℕ) → DraftUnit → UnitPart
+unit_by_numbers known u = record {
   kind = u.kind;
   page = u.page;
   slots = u.slots;
   reach = u.reach;
-  ports = map (number_of known) u.ports;
+  ports = map (node_number_of known) u.ports;
 }
 
 -- a node, by the numbers of the nodes to which it refers
@@ -202,8 +202,8 @@ node_in known d = record {
   role = d.role;
   accepts = d.accepts;
   entries = map (entry_in known) d.entries;
-  over = option_map (number_of known) d.over;
-  unit = option_map (unit_in known) d.unit;
+  over = option_map (node_number_of known) d.over;
+  unit = option_map (unit_by_numbers known) d.unit;
 }
 
 -- Unknown: a node to which another refers does not exist

@@ -9,7 +9,7 @@ use Rattle.dn_module.specs.declared.draft.Draft.{Draft}
 use Rattle.dn_module.specs.declared.command.Command.{Command}
 use Rattle.dn_module.specs.Values.{◌>>=◌, Flaw, each, value, full_name}
 use Rattle.dn_module.specs.Replace.{under, one_number, in_items}
-use Rattle.dn_module.specs.Drafts.{at_line, declared_by, with_draft, names, node_of}
+use Rattle.dn_module.specs.Drafts.{at_line, draft_of_declaration, with_draft, names, node_of}
 use Rattle.dn_module.specs.Commands.{commands_of}
 use Rattle.dn_module.specs.Faults.{ExpansionFault, is_duplicate, is_unknown, has_other_arguments, passes_limit}
 
@@ -20,12 +20,12 @@ pub record Module : Type 0 where
   pub body : Items
 
 -- the modules known and the nodes made, in order
-pub record State : Type 0 where
+pub record ExpansionState : Type 0 where
   pub modules : List Module
   pub drafts : List Draft
 
 -- no module and no node
-abbrev pub nothing_yet : State
+abbrev pub nothing_yet : ExpansionState
 nothing_yet = record { modules = []; drafts = [] }
 
 -- which modules a statement may use: all that are known, or those declared before the module in whose body it stands
@@ -51,9 +51,9 @@ line_of_item (instance line title args prefix) = line
 line_of_item (loop line w from upto body) = line
 
 -- the line of a work; a turn has the line of its loop
-abbrev pub line_of : Work → ℕ
-line_of (statement s i) = line_of_item i
-line_of (turns s line w from upto body) = line
+abbrev pub line_of_work : Work → ℕ
+line_of_work (statement s i) = line_of_item i
+line_of_work (turns s line w from upto body) = line
 
 -- a module: its name and its parameters were not there before
 abbrev pub word_of_param : Param → List ℕ
@@ -77,9 +77,9 @@ with_module modules line m =
     else Ok (modules ++ m ∷ []))
 
 -- the modules that a statement may use
-abbrev pub usable : Visibility → List Module → List Module
-usable outside modules = modules
-usable (within_module before) modules = take before modules
+abbrev pub usable_modules : Visibility → List Module → List Module
+usable_modules outside modules = modules
+usable_modules (within_module before) modules = take before modules
 
 -- the module of a name, with its number
 abbrev pub module_from : ℕ → List ℕ → List Module → Option (ℕ × Module)
@@ -93,10 +93,10 @@ fits_param (node_param w) (node_arg ps) = true
 fits_param _ _ = false
 
 -- the arguments are as many as the parameters, and of their sorts
-abbrev pub fit : List Param → List Arg → Bool
-fit [] [] = true
-fit (p ∷ ps) (a ∷ as') = if fits_param p a then fit ps as' else false
-fit _ _ = false
+abbrev pub arguments_fit : List Param → List Arg → Bool
+arguments_fit [] [] = true
+arguments_fit (p ∷ ps) (a ∷ as') = if fits_param p a then arguments_fit ps as' else false
+arguments_fit _ _ = false
 
 -- the value of an argument: a number or a full name
 pub data Given : Type 0 where
@@ -135,10 +135,10 @@ abbrev pub used_body : Module → List Given → List ℕ → Items
 used_body m givens prefix = in_items (record { numbers = numbers_of (map word_of_param m.params) givens; naming = under prefix (nodes_of (map word_of_param m.params) givens) }) m.body
 
 -- a use becomes the body of its module
-abbrev pub use_of : ℕ → List Arg → List Part → Option (ℕ × Module) → Result (List Work) ExpansionFault
-use_of line args prefix None = Err (is_unknown line)
-use_of line args prefix (Some (place, m)) =
-    if fit m.params args then (do
+abbrev pub use_rewriting : ℕ → List Arg → List Part → Option (ℕ × Module) → Result (List Work) ExpansionFault
+use_rewriting line args prefix None = Err (is_unknown line)
+use_rewriting line args prefix (Some (place, m)) =
+    if arguments_fit m.params args then (do
       givens ← at_line line (each given_by args)
       text ← at_line line (full_name prefix)
       Ok (statements (within_module place) (used_body m givens text)))
@@ -156,38 +156,38 @@ abbrev pub turn_of : Visibility → ℕ → List ℕ → ℕ → ℕ → Items �
 turn_of s line w a b body = statements s (in_items (one_number w a) body) ++ (if nat_lt a b then turns s line w (suc a) b body ∷ [] else [])
 
 -- a state with other nodes
-abbrev pub with_drafts : State → List Draft → State
+abbrev pub with_drafts : ExpansionState → List Draft → ExpansionState
 with_drafts state drafts = record { modules = state.modules; drafts = drafts }
 
 -- a state with other modules
-abbrev pub with_modules : State → List Module → State
+abbrev pub with_modules : ExpansionState → List Module → ExpansionState
 with_modules state modules = record { modules = modules; drafts = state.drafts }
 
 -- one rewriting: what takes the place of the first statement, and the state behind it
-abbrev pub item_rewriting : List Meaning → Visibility → State → Item → Result (List Work × State) ExpansionFault
+abbrev pub item_rewriting : List Meaning → Visibility → ExpansionState → Item → Result (List Work × ExpansionState) ExpansionFault
 item_rewriting kinds s state (declared line d) = do
-  draft ← declared_by kinds line d
+  draft ← draft_of_declaration kinds line d
   drafts ← with_draft state.drafts draft
   Ok ([], with_drafts state drafts)
 item_rewriting kinds s state (module_of line title params body) = do
   modules ← with_module state.modules line (record { title = title; params = params; body = body })
   Ok ([], with_modules state modules)
 item_rewriting kinds s state (instance line title args prefix) = do
-  works ← use_of line args prefix (module_from 0 title (usable s state.modules))
+  works ← use_rewriting line args prefix (module_from 0 title (usable_modules s state.modules))
   Ok (works, state)
 item_rewriting kinds s state (loop line w from upto body) = do
   works ← loop_of s line w from upto body
   Ok (works, state)
 
 -- one rewriting of a statement or of a turn
-abbrev pub rewriting : List Meaning → State → Work → Result (List Work × State) ExpansionFault
+abbrev pub rewriting : List Meaning → ExpansionState → Work → Result (List Work × ExpansionState) ExpansionFault
 rewriting kinds state (statement s i) = item_rewriting kinds s state i
 rewriting kinds state (turns s line w a b body) = Ok (turn_of s line w a b body, state)
 
 -- All rewritings. Each is a step, and no more than so many are left: each statement taken, and each turn.
-abbrev pub all_rewritings : List Meaning → ℕ → List Work → State → Result State ExpansionFault
+abbrev pub all_rewritings : List Meaning → ℕ → List Work → ExpansionState → Result ExpansionState ExpansionFault
 all_rewritings kinds left [] state = Ok state
-all_rewritings kinds zero (w ∷ ws) state = Err (passes_limit (line_of w) 65536)
+all_rewritings kinds zero (w ∷ ws) state = Err (passes_limit (line_of_work w) 65536)
 all_rewritings kinds (suc left) (w ∷ ws) state = do
   next ← rewriting kinds state w
   all_rewritings kinds left (next.0 ++ ws) next.1
@@ -197,13 +197,13 @@ unfoldable pub most_steps : ℕ
 most_steps = 65536
 
 -- the net and the commands of a tree
-pub record Outcome : Type 0 where
+pub record Expansion : Type 0 where
   pub net : List NodeDecl
   pub commands : List Command
 
 -- What a tree expands to with these kinds of units, or its first fault: those of the declarations, of the
 -- commands' expressions, and of the nodes' references.
-unfoldable pub expansion_of : List Meaning → Tree → Result Outcome ExpansionFault
+unfoldable pub expansion_of : List Meaning → Tree → Result Expansion ExpansionFault
 expansion_of kinds tree = do
   state ← all_rewritings kinds most_steps (statements outside tree.body) nothing_yet
   commands ← commands_of (names state.drafts) tree.commands

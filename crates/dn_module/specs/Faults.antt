@@ -37,8 +37,8 @@ flaw_view UnknownFlaw = unknown_word
 flaw_view Range = out_of_range
 
 -- the same, as a fault that is no want of memory
-abbrev pub some_flaw : CodeFlaw → Option Flaw
-some_flaw f = Some (flaw_view f)
+abbrev pub flaw_fault_view : CodeFlaw → Option Flaw
+flaw_fault_view f = Some (flaw_view f)
 
 -- why a part of one statement is not made
 abbrev pub name_fault_view : NameFault → Option Flaw

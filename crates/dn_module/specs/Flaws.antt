@@ -12,14 +12,14 @@ Links (Ok x) known = known ≡ true
 Links (Err e) known = IfSome (name_fault_view e) (λ f. (f ≡ unknown_word) × (known ≡ false))
 
 -- a text with what is made behind it
-abbrev pub behind : List ℕ → Result (List ℕ) Flaw → Result (List ℕ) Flaw
-behind text made = do
+abbrev pub text_before : List ℕ → Result (List ℕ) Flaw → Result (List ℕ) Flaw
+text_before text made = do
   more ← made
   Ok (text ++ more)
 
 -- the text became itself with what is made behind it
 abbrev pub Appends : {X : Type 0} → Result X NameFault → List ℕ → List ℕ → Result (List ℕ) Flaw → Type 0
-Appends (Ok x) before after made = behind before made ≡ Ok after
+Appends (Ok x) before after made = text_before before made ≡ Ok after
 Appends (Err e) before after made = IfSome (name_fault_view e) (λ f. made ≡ Err f)
 
 -- the texts of parts, each with a dot before it

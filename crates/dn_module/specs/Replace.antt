@@ -4,13 +4,13 @@ use Rattle.std.specs.Str.{bytes_eq}
 use Rattle.dn_parse.specs.Tree.{Expression, constant, variable, sum, product, minus, Expressions, no_expressions, and_expression, Part, Block, Dest, Entry, Spec, Arg, number_arg, node_arg, Declaration, node, unit, Item, declared, module_of, instance, loop, Items, no_items, and_item}
 
 -- what stands for a word, in a list of words with what stands for each
-abbrev pub looked_up : {A : Type 0} → List ℕ → List (List ℕ × A) → Option A
-looked_up w [] = None
-looked_up w (b ∷ bs) = if bytes_eq w b.0 then Some b.1 else looked_up w bs
+abbrev pub value_for_word : {A : Type 0} → List ℕ → List (List ℕ × A) → Option A
+value_for_word w [] = None
+value_for_word w (b ∷ bs) = if bytes_eq w b.0 then Some b.1 else value_for_word w bs
 
 -- the pairs without those of a word
-abbrev pub without : {A : Type 0} → List ℕ → List (List ℕ × A) → List (List ℕ × A)
-without w bs = filter (λ b. not (bytes_eq w b.0)) bs
+abbrev pub without_word : {A : Type 0} → List ℕ → List (List ℕ × A) → List (List ℕ × A)
+without_word w bs = filter (λ b. not (bytes_eq w b.0)) bs
 
 -- how names are replaced: not at all, or as the names of a module used under a full name, with the full names that stand for its node parameters
 pub data Naming : Type 0 where
@@ -42,8 +42,8 @@ abbrev pub one_number : List ℕ → ℕ → Replacement
 one_number w n = record { numbers = (w, n) ∷ []; naming = as_they_stand }
 
 -- an inner variable hides an outer one of the same name
-abbrev pub hiding : List ℕ → Replacement → Replacement
-hiding w r = record { numbers = without w r.numbers; naming = r.naming }
+abbrev pub replacement_hiding : List ℕ → Replacement → Replacement
+replacement_hiding w r = record { numbers = without_word w r.numbers; naming = r.naming }
 
 -- the number that stands for a variable, or the variable
 abbrev pub number_or : List ℕ → Option ℕ → Expression
@@ -54,7 +54,7 @@ number_or w (Some n) = constant n
 abbrev mutual
   pub in_expression : List (List ℕ × ℕ) → Expression → Expression
   in_expression ns (constant n) = constant n
-  in_expression ns (variable w) = number_or w (looked_up w ns)
+  in_expression ns (variable w) = number_or w (value_for_word w ns)
   in_expression ns (sum es) = sum (in_expressions ns es)
   in_expression ns (product es) = product (in_expressions ns es)
   in_expression ns (minus e f) = minus (in_expression ns e) (in_expression ns f)
@@ -76,13 +76,13 @@ abbrev pub whole_name : List ℕ → List Part
 whole_name text = record { title = text; index = None } ∷ []
 
 -- the full name of the use before a name
-abbrev pub prefixed : Naming → List Part → List Part
-prefixed as_they_stand ps = ps
-prefixed (under prefix nodes) ps = record { title = prefix; index = None } ∷ ps
+abbrev pub prefixed_name : Naming → List Part → List Part
+prefixed_name as_they_stand ps = ps
+prefixed_name (under prefix nodes) ps = record { title = prefix; index = None } ∷ ps
 
 -- a declared name: the full name of the use is put before it
 abbrev pub in_declared : Replacement → List Part → List Part
-in_declared r ps = prefixed r.naming (map (in_part r.numbers) ps)
+in_declared r ps = prefixed_name r.naming (map (in_part r.numbers) ps)
 
 -- the word of a name of one part without an index
 abbrev pub word_by : List ℕ → Option Expression → Option (List ℕ)
@@ -90,13 +90,13 @@ word_by w None = Some w
 word_by w (Some e) = None
 
 -- the word of a name of one part without an index
-abbrev pub word_of : List Part → Option (List ℕ)
-word_of (p ∷ []) = word_by p.title p.index
-word_of _ = None
+abbrev pub word_of_name : List Part → Option (List ℕ)
+word_of_name (p ∷ []) = word_by p.title p.index
+word_of_name _ = None
 
 -- the full name that stands for a node parameter, where the word is one
 abbrev pub node_by : Naming → Option (List ℕ) → Option (List ℕ)
-node_by (under prefix nodes) (Some w) = looked_up w nodes
+node_by (under prefix nodes) (Some w) = value_for_word w nodes
 node_by (under prefix nodes) None = None
 node_by as_they_stand w = None
 
@@ -107,7 +107,7 @@ named_or (Some text) ps = whole_name text
 
 -- a reference: one part without an index that spells a node parameter is the argument's full name, and any other is as a declared name
 abbrev pub in_reference : Replacement → List Part → List Part
-in_reference r ps = named_or (node_by r.naming (word_of ps)) (in_declared r ps)
+in_reference r ps = named_or (node_by r.naming (word_of_name ps)) (in_declared r ps)
 
 -- in a block
 abbrev pub in_block : List (List ℕ × ℕ) → Block → Block
@@ -141,7 +141,7 @@ abbrev mutual
   in_item r (declared line d) = declared line (in_declaration r d)
   in_item r (module_of line title params body) = module_of line title params body
   in_item r (instance line title args prefix) = instance line title (map (in_arg r) args) (in_declared r prefix)
-  in_item r (loop line w from upto body) = loop line w (in_expression r.numbers from) (in_expression r.numbers upto) (in_items (hiding w r) body)
+  in_item r (loop line w from upto body) = loop line w (in_expression r.numbers from) (in_expression r.numbers upto) (in_items (replacement_hiding w r) body)
 
   pub in_items : Replacement → Items → Items
   in_items r no_items = no_items

@@ -15,7 +15,7 @@ use Rattle.dn_module.specs.declared.stack.Work.TheVariants.{Statement, Turn}
 use Rattle.dn_module.specs.declared.stack.Use.{Use}
 use Rattle.dn_module.specs.declared.stack.Stack.{Stack}
 use Rattle.dn_module.specs.Expand.{Module, Visibility, outside, within_module, Work, statement, turns, statements, turn_of}
-use Rattle.dn_module.specs.Replace.{Replacement, hiding, in_item, in_items}
+use Rattle.dn_module.specs.Replace.{Replacement, in_item, in_items, replacement_hiding}
 
 -- which modules a statement may use
 abbrev pub visibility_view : Visible → Visibility
@@ -40,12 +40,12 @@ abbrev pub known_view : Known → Module
 known_view k = module_view k.module
 
 -- the modules, in order
-abbrev pub module_views : Modules → List Module
-module_views ms = map known_view ms.modules.items
+abbrev pub modules_view : Modules → List Module
+modules_view ms = map known_view ms.modules.items
 
 -- the body of a loop with what is replaced round it
 abbrev pub loop_body : Replacement → Turns → Items
-loop_body r t = in_items (hiding t.variable.now r) (body_view t.body.now)
+loop_body r t = in_items (replacement_hiding t.variable.now r) (body_view t.body.now)
 
 -- the turns of a loop
 abbrev pub turns_view : Visibility → Replacement → Turns → Work
@@ -88,14 +88,14 @@ bodies_works s r [] = []
 bodies_works s r (b ∷ bs) = rest_works s r b ++ bodies_works s (outside_of r) bs
 
 -- what is left of a use
-abbrev pub use_works : Use → List Work
-use_works u = bodies_works (visibility_view u.visible) u.scope (u.inner ∷ reverse u.outer.items)
+abbrev pub use_view : Use → List Work
+use_view u = bodies_works (visibility_view u.visible) u.scope (u.inner ∷ reverse u.outer.items)
 
 -- uses in one another, the innermost first
-abbrev pub uses_works : List Use → List Work
-uses_works [] = []
-uses_works (u ∷ us) = use_works u ++ uses_works us
+abbrev pub uses_view : List Use → List Work
+uses_view [] = []
+uses_view (u ∷ us) = use_view u ++ uses_view us
 
 -- all that is left
-abbrev pub stack_works : Stack → List Work
-stack_works st = uses_works (st.inner ∷ reverse st.outer.items)
+abbrev pub stack_view : Stack → List Work
+stack_view st = uses_view (st.inner ∷ reverse st.outer.items)

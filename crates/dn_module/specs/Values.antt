@@ -25,8 +25,8 @@ each f (x ∷ xs) = do
   Ok (y ∷ ys)
 
 -- a number that is at most 2^64 - 1
-abbrev pub fitting : ℕ → Result ℕ Flaw
-fitting n = if nat_lt n (2 ^ 64) then Ok n else Err out_of_range
+abbrev pub number_or_flaw : ℕ → Result ℕ Flaw
+number_or_flaw n = if nat_lt n (2 ^ 64) then Ok n else Err out_of_range
 
 -- a number less another, where it is not below 0
 abbrev pub difference : ℕ → ℕ → Result ℕ Flaw
@@ -49,10 +49,10 @@ abbrev mutual
   value (variable w) = Err unknown_word
   value (sum es) = do
     ns ← values es
-    fitting (sum_of ns)
+    number_or_flaw (sum_of ns)
   value (product es) = do
     ns ← values es
-    fitting (product_of ns)
+    number_or_flaw (product_of ns)
   value (minus e f) = do
     a ← value e
     b ← value f
@@ -66,9 +66,9 @@ abbrev mutual
     Ok (n ∷ ns)
 
 -- the value of an expression that may be left out, for which this value stands then
-abbrev pub value_or : ℕ → Option Expression → Result ℕ Flaw
-value_or n None = Ok n
-value_or n (Some e) = value e
+abbrev pub value_or_default : ℕ → Option Expression → Result ℕ Flaw
+value_or_default n None = Ok n
+value_or_default n (Some e) = value e
 
 -- the value of an expression, where it is no more than a limit
 abbrev pub value_within : ℕ → Expression → Result ℕ Flaw
@@ -93,15 +93,15 @@ after_dots [] = []
 after_dots (t ∷ ts) = codes "." ++ (t ++ after_dots ts)
 
 -- texts with a `.` between each two
-abbrev pub dotted : List (List ℕ) → List ℕ
-dotted [] = []
-dotted (t ∷ ts) = t ++ after_dots ts
+abbrev pub dotted_text : List (List ℕ) → List ℕ
+dotted_text [] = []
+dotted_text (t ∷ ts) = t ++ after_dots ts
 
 -- the full name that a name spells
 abbrev pub full_name : List Part → Result (List ℕ) Flaw
 full_name ps = do
   ts ← each part_text ps
-  Ok (dotted ts)
+  Ok (dotted_text ts)
 
 -- the full name that a name spells, where there is one
 abbrev pub full_name_or_none : Option (List Part) → Result (Option (List ℕ)) Flaw

@@ -2,7 +2,7 @@
 
 ghost use Rattle.std.specs.Prelude.{◌≡◌, [], ◌∷◌, ◌++◌, ◌+◌, ◌<◌, ◌≤◌, length, false, OnOk, OnErr, IfSome, IfNone, None, Some, Err, option_map};
 ghost use Rattle.dn_net.specs.Terms.{is_agent, is_unit};
-ghost use Rattle.dn_module.specs.Terms.{expand_fault_view, has_twice, is_known, limit_by, limit_passed, names, parts_of, with_draft};
+ghost use Rattle.dn_module.specs.Terms.{expand_fault_view, has_twice, is_known, limit_by, limit_passed, names, parts_of_draft, with_draft};
 ghost use Rattle.dn_base.specs.Terms.{Answers};
 
 use crate::draft::Draft;
@@ -39,7 +39,7 @@ pub struct Drafts {
 impl Model for Drafts {
     ghost use Rattle.std.specs.Prelude.{List, ◌≡◌, ◌≤◌, length, false};
     ghost use Rattle.dn_module.specs.declared.draft.Draft.{Draft};
-    ghost use Rattle.dn_module.specs.Drafts.{names, agents_of, units_of, all_parts};
+    ghost use Rattle.dn_module.specs.Drafts.{names, agents_among, units_among, all_parts};
     ghost use Rattle.dn_module.specs.Expand.{has_twice};
 
     ghost Value = { List Draft };
@@ -48,8 +48,8 @@ impl Model for Drafts {
 
     ghost invariant = { λ s. record {
       names_are : s.known ≡ names s.drafts.items;
-      agents_are : s.agents ≡ agents_of s.drafts.items;
-      units_are : s.units ≡ units_of s.drafts.items;
+      agents_are : s.agents ≡ agents_among s.drafts.items;
+      units_are : s.units ≡ units_among s.drafts.items;
       parts_are : s.parts ≡ all_parts s.drafts.items;
       few : length s.drafts.items ≤ 1024;
       few_agents : s.agents ≤ 64;
@@ -193,7 +193,7 @@ fn is_unit(role: Role) -> bool
 
 /// How many parts a node has.
 fn parts_of(draft: &Draft) -> usize
-    ensures { result ≡ parts_of draft.now }
+    ensures { result ≡ parts_of_draft draft.now }
 {
     let over = usize::from(draft.over.is_some());
     draft.accepts.as_slice().len() + (draft.entries.as_slice().len() + over)

@@ -4,7 +4,7 @@ ghost use Rattle.std.specs.Prelude.{◌≡◌, ◌≤◌, true, false, map, leng
 ghost use Rattle.std.specs.List.{list_all};
 ghost use Rattle.dn_net.specs.Terms.{is_closed, is_formed};
 ghost use Rattle.dn_module.specs.Terms.{Links, each, expand_fault_view, has_twice};
-ghost use Rattle.dn_module.specs.Drafts.{names as names_in, number_of, is_known, dests_known, refers_to_known, dest_in, entry_in, unit_in, node_in, node_of};
+ghost use Rattle.dn_module.specs.Drafts.{names as names_in, node_number_of, is_known, dests_known, refers_to_known, dest_in, entry_in, unit_by_numbers, node_in, node_of};
 ghost use Rattle.dn_base.specs.Terms.{Answers};
 
 use crate::draft::{Draft, DraftDest, DraftEntry, DraftUnit};
@@ -66,7 +66,7 @@ fn node_in(alloc: Global, names: &NameTable, draft: &Draft) -> Result<NodeDecl, 
     Ok(NodeDecl {
         text: Text::of(alloc, draft.name.as_str())?,
         role: draft.role,
-        accepts: copied(alloc, draft.accepts.as_slice())?,
+        accepts: copy_blocks(alloc, draft.accepts.as_slice())?,
         entries: all_linked(alloc, names, draft.entries.as_slice())?,
         over,
         unit,
@@ -75,7 +75,7 @@ fn node_in(alloc: Global, names: &NameTable, draft: &Draft) -> Result<NodeDecl, 
 
 /// The number of the node with this full name.
 fn number_of(names: &NameTable, text: &str) -> Result<u16, NameFault>
-    ensures number { IfOk result (λ n. n ≡ number_of names.now text.now) }
+    ensures number { IfOk result (λ n. n ≡ node_number_of names.now text.now) }
     ensures links { Links result (is_known names.now text.now) }
 {
     match names.find(text) {
@@ -98,7 +98,7 @@ trait Named {
     ghost known_by: { List (List ℕ) → Self → Bool };
 
     /// It with numbers.
-    fn linked(&self, alloc: Global, names: &NameTable) -> Result<Self::Linked, NameFault>
+    fn with_numbers(&self, alloc: Global, names: &NameTable) -> Result<Self::Linked, NameFault>
         ensures linked { IfOk result (λ l. l ≡ linked_by names.now self.now) }
         ensures links { Links result (known_by names.now self.now) };
 }
@@ -114,7 +114,7 @@ fn all_linked<P: Named>(
 {
     let mut made = Items::from_vec(Vec::with_capacity(alloc, parts.len())?);
     for part in parts {
-        made.push(part.linked(alloc, names)?)?;
+        made.push(part.with_numbers(alloc, names)?)?;
     }
     Ok(made)
 }
@@ -126,7 +126,7 @@ impl Named for DraftDest {
 
     ghost known_by = { λ known d. is_known known d.to };
 
-    fn linked(&self, _alloc: Global, names: &NameTable) -> Result<Dest, NameFault> {
+    fn with_numbers(&self, _alloc: Global, names: &NameTable) -> Result<Dest, NameFault> {
         let node = number_of(names, self.to.as_str())?;
         Ok(Dest {
             node,
@@ -142,7 +142,7 @@ impl Named for DraftEntry {
 
     ghost known_by = { λ known e. dests_known known e.dests };
 
-    fn linked(&self, alloc: Global, names: &NameTable) -> Result<Entry, NameFault> {
+    fn with_numbers(&self, alloc: Global, names: &NameTable) -> Result<Entry, NameFault> {
         Ok(Entry {
             block: self.block,
             dests: all_linked(alloc, names, self.dests.as_slice())?,
@@ -153,18 +153,18 @@ impl Named for DraftEntry {
 impl Named for SharedName {
     type Linked = u16;
 
-    ghost linked_by = { λ known text. number_of known text };
+    ghost linked_by = { λ known text. node_number_of known text };
 
     ghost known_by = { λ known text. is_known known text };
 
-    fn linked(&self, _alloc: Global, names: &NameTable) -> Result<u16, NameFault> {
+    fn with_numbers(&self, _alloc: Global, names: &NameTable) -> Result<u16, NameFault> {
         number_of(names, self.as_str())
     }
 }
 
 /// The unit, with its ports by their numbers.
 fn unit_in(alloc: Global, names: &NameTable, unit: &DraftUnit) -> Result<Unit, NameFault>
-    ensures unit { IfOk result (λ u. u ≡ unit_in names.now unit.now) }
+    ensures unit { IfOk result (λ u. u ≡ unit_by_numbers names.now unit.now) }
     ensures links { Links result (list_all (is_known names.now) unit.now.ports) }
 {
     Ok(Unit {
@@ -177,7 +177,7 @@ fn unit_in(alloc: Global, names: &NameTable, unit: &DraftUnit) -> Result<Unit, N
 }
 
 /// A copy of the blocks.
-fn copied(alloc: Global, blocks: &[Block]) -> Result<Items<Block>, AllocError>
+fn copy_blocks(alloc: Global, blocks: &[Block]) -> Result<Items<Block>, AllocError>
     ensures { IfOk result (λ made. made ≡ blocks.now) }
 {
     Ok(Items::from_vec(blocks.to_vec(alloc)?))

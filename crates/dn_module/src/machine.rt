@@ -2,7 +2,7 @@
 
 ghost use Rattle.std.specs.Prelude.{◌≡◌, ◌≤◌, None, length, map};
 ghost use Rattle.dn_parse.specs.Terms.{declaration_view, expr_view, item_view};
-ghost use Rattle.dn_module.specs.Terms.{Replacement, Visibility, all_rewritings, at_line, body_view, expand_fault_view, hiding, in_declaration, in_expression, in_front, in_item, in_items, item_rewriting, line_of, line_of_item, loop_of, most_steps, nothing_yet, outside, rewriting, stack_works, state_view, statements, turns_works, value, visibility_view, with_declaration, work_view};
+ghost use Rattle.dn_module.specs.Terms.{Replacement, Visibility, all_rewritings, at_line, body_view, expand_fault_view, expansion_state_view, in_declaration, in_expression, in_item, in_items, item_rewriting, line_of_item, line_of_work, loop_of, most_steps, nothing_yet, outside, replacement_hiding, rewriting, stack_view, statements, turns_works, value, visibility_view, with_declaration, work_view, works_in_front};
 ghost use Rattle.dn_base.specs.Terms.{Answers};
 
 use crate::drafts::Drafts;
@@ -12,7 +12,7 @@ use crate::nodes::draft_of;
 use crate::scope::Scope;
 use crate::shared::Interner;
 use crate::stack::{Stack, Turns, Work};
-use crate::uses::used;
+use crate::uses::new_use;
 use crate::values::{NameFault, value};
 use dn_kind::kinds::Kinds;
 use dn_parse::syntax::{Decl, Expr, Stmt};
@@ -37,7 +37,7 @@ pub fn expand_body<'a, 't>(
     body: &'a [Stmt<'t>],
 ) -> Result<Made<'a, 't>, ExpandFault>
     requires few_kinds { length kinds.now.list.items ≤ 255 }
-    ensures { Answers state_view expand_fault_view result
+    ensures { Answers expansion_state_view expand_fault_view result
         (all_rewritings (map (λ k. meaning (k.vtable, k.value)) kinds.now.list.items) most_steps
         (statements outside (body_view body.now)) nothing_yet) }
 {
@@ -63,7 +63,8 @@ pub fn expand_body<'a, 't>(
 
 /// The line of the statement, or of the loop.
 fn line_of(work: Work) -> u32
-    ensures { (s : Visibility) (r : Replacement) → result ≡ line_of (work_view s r work.entry) }
+    ensures { (s : Visibility) (r : Replacement) → result
+        ≡ line_of_work (work_view s r work.entry) }
 {
     match work {
         Work::Statement(statement) => line_of_statement(statement),
@@ -92,9 +93,11 @@ fn step<'a, 't>(
 ) -> Result<(), ExpandFault>
     requires few_kinds { length kinds.now.list.items ≤ 255 }
     requires free { stack.old.inner.inner.turns ≡ None }
-    ensures { Answers (λ _. (stack_works stack.new, state_view made.new)) expand_fault_view result
-        (in_front (stack_works stack.old) (rewriting
-        (map (λ k. meaning (k.vtable, k.value)) kinds.now.list.items) (state_view made.old)
+    ensures { Answers (λ _. (stack_view stack.new, expansion_state_view made.new)) expand_fault_view
+        result
+        (works_in_front (stack_view stack.old) (rewriting
+        (map (λ k. meaning (k.vtable, k.value)) kinds.now.list.items)
+        (expansion_state_view made.old)
         (work_view (visibility_view stack.old.inner.visible) stack.old.inner.scope work.entry))) }
 {
     match work {
@@ -116,11 +119,13 @@ fn take<'a, 't>(
 ) -> Result<(), ExpandFault>
     requires few_kinds { length kinds.now.list.items ≤ 255 }
     requires free { stack.old.inner.inner.turns ≡ None }
-    ensures { Answers (λ _. (stack_works stack.new, state_view made.new)) expand_fault_view result
-        (in_front (stack_works stack.old) (item_rewriting
+    ensures { Answers (λ _. (stack_view stack.new, expansion_state_view made.new)) expand_fault_view
+        result
+        (works_in_front (stack_view stack.old) (item_rewriting
         (map (λ k. meaning (k.vtable, k.value)) kinds.now.list.items)
         (visibility_view stack.old.inner.visible)
-        (state_view made.old) (in_item stack.old.inner.scope (item_view statement.now)))) }
+        (expansion_state_view made.old)
+        (in_item stack.old.inner.scope (item_view statement.now)))) }
 {
     match statement {
         Stmt::Decl { line, decl } => {
@@ -145,7 +150,7 @@ fn take<'a, 't>(
             let found = made.modules.find(stack.inner.visible, title);
             let scope = &stack.inner.scope;
             let (args, prefix) = (args.as_slice(), prefix.as_slice());
-            let inner = used(alloc, &mut made.interner, scope, *line, found, args, prefix)?;
+            let inner = new_use(alloc, &mut made.interner, scope, *line, found, args, prefix)?;
             Ok(stack.enter(inner)?)
         }
         Stmt::Loop {
@@ -196,7 +201,7 @@ fn turns<'a, 't>(
     ensures { (s : Visibility) → Answers (turns_works s scope.now) expand_fault_view result
         (loop_of s line variable.now (in_expression scope.now.numbers (expr_view from.now))
         (in_expression scope.now.numbers (expr_view upto.now))
-        (in_items (hiding variable.now scope.now) (body_view body.now))) }
+        (in_items (replacement_hiding variable.now scope.now) (body_view body.now))) }
 {
     let next = value_at(scope, line, from)?;
     let last = value_at(scope, line, upto)?;

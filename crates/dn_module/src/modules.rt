@@ -4,7 +4,7 @@ ghost use Rattle.std.specs.Prelude.{◌≡◌, [], ◌∷◌, ◌++◌, ◌<◌,
 ghost use Rattle.std.specs.List.{list_any};
 ghost use Rattle.std.specs.Str.{bytes_eq};
 ghost use Rattle.dn_parse.specs.Terms.{param_view};
-ghost use Rattle.dn_module.specs.Expand.{has_twice, module_from, usable, with_module, word_of_param};
+ghost use Rattle.dn_module.specs.Expand.{has_twice, module_from, usable_modules, with_module, word_of_param};
 ghost use Rattle.dn_module.specs.Faults.{expand_fault_view};
 ghost use Rattle.dn_base.specs.Terms.{Answers};
 
@@ -90,11 +90,11 @@ impl Visible {
 }
 
 impl<'a, 't> Modules<'a, 't> {
-    ghost use Rattle.dn_module.specs.Stack.{known_view, module_view, module_views, visibility_view};
+    ghost use Rattle.dn_module.specs.Stack.{known_view, module_view, modules_view, visibility_view};
 
     /// No modules. It takes no memory.
     pub fn new(alloc: Global) -> Modules<'a, 't>
-        ensures { module_views result ≡ [] }
+        ensures { modules_view result ≡ [] }
     {
         Modules {
             names: NameTable::new(alloc),
@@ -109,9 +109,9 @@ impl<'a, 't> Modules<'a, 't> {
         line: u32,
         module: Module<'a, 't>,
     ) -> Result<(), ExpandFault>
-        ensures added { Answers (λ _. module_views self.new) expand_fault_view result
-            (with_module (module_views self.old) line (module_view «module».entry)) }
-        ensures unchanged { OnErr result (module_views self.new ≡ module_views self.old) }
+        ensures added { Answers (λ _. modules_view self.new) expand_fault_view result
+            (with_module (modules_view self.old) line (module_view «module».entry)) }
+        ensures unchanged { OnErr result (modules_view self.new ≡ modules_view self.old) }
     {
         if self.modules.len() >= MAX_MODULES {
             return Err(ExpandFault::TooMany { line, limit: 256 });
@@ -131,7 +131,7 @@ impl<'a, 't> Modules<'a, 't> {
     /// none of them has it.
     pub fn find(&self, visible: Visible, title: &str) -> Option<(u16, &Known<'a, 't>)>
         ensures found { option_map (λ k. (k.0, known_view k.1.now)) result ≡ module_from 0 title.now
-            (usable (visibility_view visible) (module_views self.now)) }
+            (usable_modules (visibility_view visible) (modules_view self.now)) }
     {
         let number = self.names.find(title)?;
         if !visible.includes(number) {

@@ -3,7 +3,7 @@
 ghost use Rattle.std.specs.Prelude.{◌≡◌, ◌≤◌, length, map, option_map};
 ghost use Rattle.dn_parse.specs.Terms.{block_view, declaration_view, dest_view, entry_view, maybe_name_view, name_view, role_view, spec_view, unit_view};
 ghost use Rattle.dn_kind.specs.Terms.{kind_place};
-ghost use Rattle.dn_module.specs.Terms.{bare_draft, block_of, dest_of, draft_of, each, entry_of, full_name, full_name_or_none, in_block, in_declaration, in_declared, in_dest, in_entry, in_reference, in_spec, known_kind, name_fault_view, node_draft, role_of, some_flaw};
+ghost use Rattle.dn_module.specs.Terms.{bare_draft, block_of, dest_of, draft_of, each, entry_of, flaw_fault_view, full_name, full_name_or_none, in_block, in_declaration, in_declared, in_dest, in_entry, in_reference, in_spec, known_kind, name_fault_view, node_draft, role_of};
 ghost use Rattle.dn_base.specs.Terms.{Answers};
 
 use crate::draft::{Draft, DraftDest, DraftEntry, DraftUnit};
@@ -71,7 +71,7 @@ fn unit_of(
 /// The number of the kind with this name.
 fn kind_number(kinds: &Kinds, name: &str) -> Result<u8, Flaw>
     requires few_kinds { length kinds.now.list.items ≤ 255 }
-    ensures { Answers (λ x. x) some_flaw result
+    ensures { Answers (λ x. x) flaw_fault_view result
         (known_kind (kind_place (map (λ k. meaning (k.vtable, k.value)) kinds.now.list.items)
         name.now)) }
 {
@@ -165,7 +165,7 @@ fn over(
 
 /// A block: one expression is its first and its last address.
 fn block(scope: &Scope, range: &BlockExpr) -> Result<Block, Flaw>
-    ensures { Answers (λ x. x) some_flaw result
+    ensures { Answers (λ x. x) flaw_fault_view result
         (block_of (in_block scope.now.numbers (block_view range.now))) }
 {
     let lo = value(scope, &range.lo)?;

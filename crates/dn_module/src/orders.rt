@@ -6,7 +6,7 @@ ghost use Rattle.dn_parse.specs.Tree.{view as asks_view, absorb as asks_absorb};
 ghost use Rattle.dn_parse.specs.Terms.{expr_view, grant_view, name_view, order_view, route_view, script_view};
 ghost use Rattle.dn_module.specs.declared.command.Command.{Command};
 ghost use Rattle.dn_module.specs.declared.command.Target.{Target};
-ghost use Rattle.dn_module.specs.Terms.{asked_of, at_line, command_of, commands_of, commands_or_none, expand_fault_view, full_name, makes_within, name_fault_view, names_within, node_within, some_flaw, target_of, value};
+ghost use Rattle.dn_module.specs.Terms.{asked_of, at_line, command_of, commands_of, commands_or_none, expand_fault_view, flaw_fault_view, full_name, makes_within, name_fault_view, names_within, node_within, target_of, value};
 ghost use Rattle.dn_base.specs.Terms.{Answers};
 
 use crate::command::{Command, Target};
@@ -64,11 +64,11 @@ pub fn command(alloc: Global, names: &NameTable, order: &Order) -> Result<Comman
 {
     match order {
         Order::Resolve(name, expr, mode) => {
-            let (target, addr) = asked(alloc, names, name, expr)?;
+            let (target, addr) = asked_target(alloc, names, name, expr)?;
             Ok(Command::Resolve(target, addr, *mode))
         }
         Order::Lookup(name, expr, mode) => {
-            let (target, addr) = asked(alloc, names, name, expr)?;
+            let (target, addr) = asked_target(alloc, names, name, expr)?;
             Ok(Command::Lookup(target, addr, *mode))
         }
         Order::View(name, mode) => view(alloc, names, name, *mode),
@@ -103,13 +103,13 @@ fn full_name(alloc: Global, name: &NameExpr) -> Result<Text, NameFault>
 /// The value of an expression.
 #[tactic(auto, using(crate::proofs::Outside::expression_stays))]
 fn number(alloc: Global, expr: &Expr) -> Result<u64, Flaw>
-    ensures { Answers (λ x. x) some_flaw result (value (expr_view expr.now)) }
+    ensures { Answers (λ x. x) flaw_fault_view result (value (expr_view expr.now)) }
 {
     value(&Scope::outside(alloc), expr)
 }
 
 /// A node and an address of it, as a command names them, for whatever it asks there.
-fn asked(
+fn asked_target(
     alloc: Global,
     names: &NameTable,
     name: &NameExpr,

@@ -1,7 +1,7 @@
 //! What stands for the words of a body: numbers for variables, and full names for names.
 
 ghost use Rattle.std.specs.Prelude.{◌≡◌, [], ◌∷◌, ◌++◌, ◌<◌, drop, map, reverse, OnOk, OnErr, Option, Some, None, option_map};
-ghost use Rattle.dn_module.specs.Terms.{as_they_stand, looked_up, node_by, numbers_by, prefix_of, under};
+ghost use Rattle.dn_module.specs.Terms.{as_they_stand, node_by, numbers_by, prefix_of, under, value_for_word};
 
 use crate::shared::SharedName;
 use crate::words::Words;
@@ -93,9 +93,9 @@ impl<'a> Scope<'a> {
 
     /// The number that stands for a word. `None` exactly where none does.
     pub fn number(&self, word: &str) -> Option<u64>
-        ensures { result ≡ looked_up word.now self.now.numbers }
+        ensures { result ≡ value_for_word word.now self.now.numbers }
     {
-        match looped(self.loops.as_slice(), word) {
+        match loop_number(self.loops.as_slice(), word) {
             Some(number) => Some(number),
             None => parameter(&self.within, word),
         }
@@ -124,7 +124,8 @@ impl<'a> Scope<'a> {
 
 /// The number that stands for a parameter. `None` exactly where none does.
 fn parameter(within: &Option<Within>, word: &str) -> Option<u64>
-    ensures { result ≡ looked_up word.now (numbers_by (option_map (λ w. w.words.0) within.now)) }
+    ensures { result
+        ≡ value_for_word word.now (numbers_by (option_map (λ w. w.words.0) within.now)) }
 {
     match within {
         Some(within) => within.words.number(word),
@@ -133,8 +134,9 @@ fn parameter(within: &Option<Within>, word: &str) -> Option<u64>
 }
 
 /// The number of a loop variable, of the innermost with this name.
-fn looped(loops: &[Number], word: &str) -> Option<u64>
-    ensures { result ≡ looked_up word.now (reverse (map (λ n. (n.word.now, n.number)) loops.now)) }
+fn loop_number(loops: &[Number], word: &str) -> Option<u64>
+    ensures { result
+        ≡ value_for_word word.now (reverse (map (λ n. (n.word.now, n.number)) loops.now)) }
 {
     let mut left = loops.len();
     while left > 0 {

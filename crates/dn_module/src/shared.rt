@@ -79,7 +79,7 @@ impl Interner {
 
     /// The name with this text: the one that is kept, or a new one, which is kept from now on. `Err` is
     /// want of memory.
-    pub fn shared(&mut self, alloc: Global, text: &str) -> Result<SharedName, AllocError>
+    pub fn name_with_text(&mut self, alloc: Global, text: &str) -> Result<SharedName, AllocError>
         ensures { IfOk result (λ n. n ≡ text.now) }
     {
         if let Some(kept) = self.names.get(text) {

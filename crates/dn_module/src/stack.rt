@@ -1,7 +1,7 @@
 //! What is still to be done while a tree is expanded.
 
 ghost use Rattle.std.specs.Prelude.{◌≡◌, ◌∷◌, [], ◌++◌, IfSome, IfNone, OnOk, OnErr, None};
-ghost use Rattle.dn_module.specs.Terms.{Replacement, Visibility, after_works, body_view, first_works, in_items, outside, rest_works, stack_works, statements, turn_works, turns_works, use_works, visibility_view, work_view};
+ghost use Rattle.dn_module.specs.Terms.{Replacement, Visibility, after_works, body_view, first_works, in_items, outside, rest_works, stack_view, statements, turn_works, turns_works, use_view, visibility_view, work_view};
 
 use crate::modules::Visible;
 use crate::scope::Scope;
@@ -64,7 +64,7 @@ impl<'a, 't> Use<'a, 't> {
         visible: Visible,
         body: &'a [Stmt<'t>],
     ) -> Use<'a, 't>
-        ensures { use_works result ≡ statements (visibility_view visible)
+        ensures { use_view result ≡ statements (visibility_view visible)
             (in_items scope.entry (body_view body.now)) }
     {
         Use {
@@ -80,10 +80,10 @@ impl<'a, 't> Use<'a, 't> {
 
     /// What is next in the use, whose rest stays. `None` exactly where it is at its end.
     fn next(&mut self) -> Option<Work<'a, 't>>
-        ensures some { IfSome result (λ w. use_works self.old ≡ work_view
-            (visibility_view self.new.visible) self.new.scope w ∷ use_works self.new) }
-        ensures none { IfNone result (use_works self.old ≡ []) }
-        ensures done { IfNone result (use_works self.new ≡ []) }
+        ensures some { IfSome result (λ w. use_view self.old ≡ work_view
+            (visibility_view self.new.visible) self.new.scope w ∷ use_view self.new) }
+        ensures none { IfNone result (use_view self.old ≡ []) }
+        ensures done { IfNone result (use_view self.new ≡ []) }
         ensures free { IfSome result (λ _. self.new.inner.turns ≡ None) }
     {
         loop {
@@ -102,9 +102,9 @@ impl<'a, 't> Use<'a, 't> {
     /// Goes into the turn of a loop that is next in the innermost body. For want of memory the use is unchanged.
     pub fn enter_turn(&mut self, turns: Turns<'a, 't>) -> Result<(), AllocError>
         requires free { self.old.inner.turns ≡ None }
-        ensures unchanged { OnErr result (use_works self.new ≡ use_works self.old) }
-        ensures entered { OnOk result (use_works self.new ≡ turn_works
-            (visibility_view self.old.visible) self.old.scope turns.entry ++ use_works self.old) }
+        ensures unchanged { OnErr result (use_view self.new ≡ use_view self.old) }
+        ensures entered { OnOk result (use_view self.new ≡ turn_works
+            (visibility_view self.old.visible) self.old.scope turns.entry ++ use_view self.old) }
     {
         self.outer.reserve(1)?;
         self.scope.enter(turns.variable, turns.next)?;
@@ -123,7 +123,7 @@ impl<'a, 't> Use<'a, 't> {
 impl<'a, 't> Stack<'a, 't> {
     /// The stack of a text at its beginning. It takes no memory.
     pub fn new(alloc: Global, body: &'a [Stmt<'t>]) -> Stack<'a, 't>
-        ensures { stack_works result ≡ statements outside (body_view body.now) }
+        ensures { stack_view result ≡ statements outside (body_view body.now) }
     {
         Stack {
             inner: Use::new(alloc, Scope::outside(alloc), Visible::All, body),
@@ -133,10 +133,10 @@ impl<'a, 't> Stack<'a, 't> {
 
     /// What is next, which then is in the innermost use. `None` exactly where all is done.
     pub fn next(&mut self) -> Option<Work<'a, 't>>
-        ensures some { IfSome result (λ w. stack_works self.old ≡ work_view
-            (visibility_view self.new.inner.visible) self.new.inner.scope w ∷ stack_works self.new) }
-        ensures none { IfNone result (stack_works self.old ≡ []) }
-        ensures done { IfNone result (stack_works self.new ≡ []) }
+        ensures some { IfSome result (λ w. stack_view self.old ≡ work_view
+            (visibility_view self.new.inner.visible) self.new.inner.scope w ∷ stack_view self.new) }
+        ensures none { IfNone result (stack_view self.old ≡ []) }
+        ensures done { IfNone result (stack_view self.new ≡ []) }
         ensures free { IfSome result (λ _. self.new.inner.inner.turns ≡ None) }
     {
         loop {
@@ -152,8 +152,8 @@ impl<'a, 't> Stack<'a, 't> {
 
     /// Goes into a use. For want of memory the stack is unchanged.
     pub fn enter(&mut self, inner: Use<'a, 't>) -> Result<(), AllocError>
-        ensures unchanged { OnErr result (stack_works self.new ≡ stack_works self.old) }
-        ensures entered { OnOk result (stack_works self.new ≡ use_works inner.entry ++ stack_works
+        ensures unchanged { OnErr result (stack_view self.new ≡ stack_view self.old) }
+        ensures entered { OnOk result (stack_view self.new ≡ use_view inner.entry ++ stack_view
             self.old) }
     {
         self.outer.reserve(1)?;

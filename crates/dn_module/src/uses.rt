@@ -2,7 +2,7 @@
 
 ghost use Rattle.std.specs.Prelude.{◌≡◌, map, option_map, false};
 ghost use Rattle.dn_parse.specs.Terms.{arg_view, name_view, param_view};
-ghost use Rattle.dn_module.specs.Terms.{each, expand_fault_view, fit, fits_param, found_view, given_by, given_view, has_twice, in_arg, in_declared, name_fault_view, replaced_by, use_of, use_works};
+ghost use Rattle.dn_module.specs.Terms.{arguments_fit, each, expand_fault_view, fits_param, found_view, given_by, given_view, has_twice, in_arg, in_declared, name_fault_view, replaced_by, use_rewriting, use_view};
 ghost use Rattle.dn_base.specs.Terms.{Answers};
 
 use crate::fault::ExpandFault;
@@ -18,7 +18,7 @@ use dn_parse::syntax::{Arg, Param, PartExpr};
 use std::alloc::Global;
 
 /// The use of a module that was found, with its number, from the statement's arguments and its prefix.
-pub fn used<'a, 't>(
+pub fn new_use<'a, 't>(
     alloc: Global,
     interner: &mut Interner,
     scope: &Scope,
@@ -27,8 +27,8 @@ pub fn used<'a, 't>(
     args: &[Arg],
     prefix: &[PartExpr],
 ) -> Result<Use<'a, 't>, ExpandFault>
-    ensures { Answers use_works expand_fault_view result
-        (use_of line (map (in_arg scope.now) (map arg_view args.now))
+    ensures { Answers use_view expand_fault_view result
+        (use_rewriting line (map (in_arg scope.now) (map arg_view args.now))
         (in_declared scope.now (name_view prefix.now))
         (option_map (λ k. found_view (k.0, k.1.now)) found.entry)) }
 {
@@ -106,7 +106,7 @@ fn value_of(
 
 /// Whether the arguments are as many as the parameters, and of their sorts.
 fn fit(params: &[Param], args: &[Arg]) -> bool
-    ensures { result ≡ fit (map param_view params.now) (map arg_view args.now) }
+    ensures { result ≡ arguments_fit (map param_view params.now) (map arg_view args.now) }
 {
     if params.len() != args.len() {
         return false;

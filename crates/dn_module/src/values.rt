@@ -4,7 +4,7 @@ ghost use Rattle.std.specs.Prelude.{◌≡◌, ◌≤◌, ◌^◌, if◌then◌e
 ghost use Rattle.std.specs.String.{string_bytes};
 ghost use Rattle.dn_parse.specs.Tree.{expressions, variable as variable_of, sum as sum_expression, product as product_expression};
 ghost use Rattle.dn_parse.specs.Terms.{expr_view, maybe_expr_view, name_view, part_view};
-ghost use Rattle.dn_module.specs.Terms.{Appends, difference, dots_before, expand_fault_view, fitting, flaw_fault, full_name, in_declared, in_expression, in_option, in_part, in_reference, name_fault_view, node_by, part_text, some_flaw, value, value_or, value_within, word_of};
+ghost use Rattle.dn_module.specs.Terms.{Appends, difference, dots_before, expand_fault_view, flaw_fault, flaw_fault_view, full_name, in_declared, in_expression, in_option, in_part, in_reference, name_fault_view, node_by, number_or_flaw, part_text, value, value_or_default, value_within, word_of_name};
 ghost use Rattle.dn_module.specs.declared.values.NameFault.TheVariants.{OutOfMemory as no_memory, Flawed as flawed};
 ghost use Rattle.dn_base.specs.Terms.{Answers};
 
@@ -69,7 +69,7 @@ impl From<AllocError> for NameFault {
 /// to right, and then it is judged whole.
 #[cycle(value)]
 pub fn value(scope: &Scope, expr: &Expr) -> Result<u64, Flaw>
-    ensures { Answers (λ x. x) some_flaw result
+    ensures { Answers (λ x. x) flaw_fault_view result
         (value (in_expression scope.now.numbers (expr_view expr.now))) }
 {
     match expr {
@@ -83,7 +83,7 @@ pub fn value(scope: &Scope, expr: &Expr) -> Result<u64, Flaw>
 
 /// The number that stands for a variable.
 fn variable(scope: &Scope, word: &str) -> Result<u64, Flaw>
-    ensures { Answers (λ x. x) some_flaw result
+    ensures { Answers (λ x. x) flaw_fault_view result
         (value (in_expression scope.now.numbers (variable_of word.now))) }
 {
     match scope.number(word) {
@@ -95,43 +95,43 @@ fn variable(scope: &Scope, word: &str) -> Result<u64, Flaw>
 /// The values together. A number past the limit is kept as the limit, since a later member can be unknown.
 #[cycle(value)]
 fn sum(scope: &Scope, members: &[Expr]) -> Result<u64, Flaw>
-    ensures { Answers (λ x. x) some_flaw result
+    ensures { Answers (λ x. x) flaw_fault_view result
         (value (in_expression scope.now.numbers (sum_expression
         (expressions (map expr_view members.now))))) }
 {
     let mut total: u128 = 0;
     for member in members {
         let more = value(scope, member)?;
-        total = limited(total + u128::from(more));
+        total = number_or_limit(total + u128::from(more));
     }
-    fitting(total)
+    number_or_flaw(total)
 }
 
 /// The product of the values. A number past the limit is kept as the limit, since a later value can be 0.
 #[cycle(value)]
 fn product(scope: &Scope, members: &[Expr]) -> Result<u64, Flaw>
-    ensures { Answers (λ x. x) some_flaw result
+    ensures { Answers (λ x. x) flaw_fault_view result
         (value (in_expression scope.now.numbers (product_expression
         (expressions (map expr_view members.now))))) }
 {
     let mut total: u128 = 1;
     for member in members {
         let factor = value(scope, member)?;
-        total = limited(total * u128::from(factor));
+        total = number_or_limit(total * u128::from(factor));
     }
-    fitting(total)
+    number_or_flaw(total)
 }
 
 /// The number, or the limit where it is past it.
-fn limited(number: u128) -> u128
+fn number_or_limit(number: u128) -> u128
     ensures { result ≡ (if nat_lt number (2 ^ 64) then number else 2 ^ 64) }
 {
     if number < LIMIT { number } else { LIMIT }
 }
 
 /// The number as a value, if it is one.
-fn fitting(number: u128) -> Result<u64, Flaw>
-    ensures { Answers (λ x. x) some_flaw result (fitting number) }
+fn number_or_flaw(number: u128) -> Result<u64, Flaw>
+    ensures { Answers (λ x. x) flaw_fault_view result (number_or_flaw number) }
 {
     if number < LIMIT {
         Ok(number as u64)
@@ -142,7 +142,7 @@ fn fitting(number: u128) -> Result<u64, Flaw>
 
 /// The number from which another is taken away, if it is no less than the other.
 fn difference(from: u64, less: u64) -> Result<u64, Flaw>
-    ensures { Answers (λ x. x) some_flaw result (difference from less) }
+    ensures { Answers (λ x. x) flaw_fault_view result (difference from less) }
 {
     if less <= from {
         Ok(from - less)
@@ -153,8 +153,8 @@ fn difference(from: u64, less: u64) -> Result<u64, Flaw>
 
 /// The value of an expression that may be left out, for which another value stands then.
 pub fn value_or(scope: &Scope, other: u64, expr: &Option<Expr>) -> Result<u64, Flaw>
-    ensures { Answers (λ x. x) some_flaw result
-        (value_or other (in_option scope.now.numbers (maybe_expr_view expr.now))) }
+    ensures { Answers (λ x. x) flaw_fault_view result
+        (value_or_default other (in_option scope.now.numbers (maybe_expr_view expr.now))) }
 {
     match expr {
         None => Ok(other),
@@ -164,7 +164,7 @@ pub fn value_or(scope: &Scope, other: u64, expr: &Option<Expr>) -> Result<u64, F
 
 /// The value of an expression, where it is no more than a limit.
 pub fn value_within(scope: &Scope, limit: u64, expr: &Expr) -> Result<u64, Flaw>
-    ensures value { Answers (λ x. x) some_flaw result
+    ensures value { Answers (λ x. x) flaw_fault_view result
         (value_within limit (in_expression scope.now.numbers (expr_view expr.now))) }
     ensures within { IfOk result (λ n. n ≤ limit) }
 {
@@ -203,7 +203,7 @@ pub fn shared_name(
         (full_name (in_declared scope.now (name_view name.now))) }
 {
     let text = declared_name(alloc, scope, name)?;
-    Ok(interner.shared(alloc, text.as_str())?)
+    Ok(interner.name_with_text(alloc, text.as_str())?)
 }
 
 /// The full name to which a name refers: one part without an index that spells a node parameter is the
@@ -227,7 +227,7 @@ pub fn reference(
 /// node parameter.
 fn argument<'a>(scope: &'a Scope, name: &[PartExpr]) -> Option<&'a SharedName>
     ensures { option_map (λ t. t.now) result ≡ node_by scope.now.naming
-        (word_of (name_view name.now)) }
+        (word_of_name (name_view name.now)) }
 {
     match name {
         [part] => match part.index {

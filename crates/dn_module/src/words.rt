@@ -1,7 +1,7 @@
 //! What stands for the words of a module's parameters.
 
 ghost use Rattle.std.specs.Prelude.{◌≡◌, List, ℕ, map, drop, option_map, slice_get, is_some, false};
-ghost use Rattle.dn_module.specs.Terms.{given_view, has_twice, looked_up, name_part, nodes_of, number_part, numbers_from, numbers_of, part_in};
+ghost use Rattle.dn_module.specs.Terms.{given_view, has_twice, name_part, nodes_of, number_part, numbers_from, numbers_of, part_in, value_for_word};
 
 use crate::shared::SharedName;
 use crate::titles::Titles;
@@ -60,7 +60,7 @@ impl Words {
 
     /// The number that stands for a word. `None` exactly where none does.
     pub fn number(&self, word: &str) -> Option<u64>
-        ensures { result ≡ looked_up word.now self.now.0 }
+        ensures { result ≡ value_for_word word.now self.now.0 }
     {
         let Some(place) = self.titles.place(word) else {
             return None;
@@ -73,7 +73,7 @@ impl Words {
 
     /// The full name that stands for a word. `None` exactly where none does.
     pub fn name(&self, word: &str) -> Option<&SharedName>
-        ensures { option_map (λ t. t.now) result ≡ looked_up word.now self.now.1 }
+        ensures { option_map (λ t. t.now) result ≡ value_for_word word.now self.now.1 }
     {
         let Some(place) = self.titles.place(word) else {
             return None;

@@ -7,10 +7,10 @@ use Rattle.dn_net.specs.declared.node.Entry.{Entry}
 use Rattle.dn_net.specs.declared.node.Name.{Name}
 use Rattle.dn_net.specs.declared.node.NodeDecl.{NodeDecl}
 use Rattle.dn_net.specs.Chain.{Member, IsChain, Reaches}
-use Rattle.dn_net.specs.Decode.{top, within, in_some_block, moved, by_over, by_entries, decode, sent_names, steps, step_limit, Step}
+use Rattle.dn_net.specs.Decode.{top, within, in_some_block, dest_name, by_over, by_entries, decode, sent_names, steps, step_limit, Step}
 use Rattle.dn_net.specs.Rules.{KeepsRules, KeepsNodeRules}
 use Rattle.dn_net.specs.UnitRules.{IsShallow}
-use Rattle.dn_net.specs.Walks.{Choice, mapped_by, over_gap, in_some_entry, IsGap, Leads, Follows, moved_name, Walk, level, live_walks}
+use Rattle.dn_net.specs.Walks.{Choice, mapped_by, over_gap, in_some_entry, IsGap, ChoiceLeads, Follows, moved_name, Walk, level, live_walks}
 use Rattle.dn_net.proofs.Apart.{IsApart, node_apart}
 use Rattle.dn_net.proofs.Chains.{chain_front}
 use Rattle.dn_net.proofs.Choices.{free_parts}
@@ -77,7 +77,7 @@ no_entry_has a (f ∷ es) h zero e at =
 no_entry_has a (f ∷ es) h (suc i) e at = no_entry_has a es (or_parts (within a f.block) (in_some_entry a es) h).1 i e at
 
 -- the addresses that a choice leads on have equally many steps
-fan : (n : NodeDecl) → IsApart n → KeepsRules n → (c : Choice) (b : Block) (d : Name) → Leads (Some n) c b d → (count : ℕ) × ((a : ℕ) → IsTrue (within a b) → length (sent_names (decode a (Some n))) ≡ count)
+fan : (n : NodeDecl) → IsApart n → KeepsRules n → (c : Choice) (b : Block) (d : Name) → ChoiceLeads (Some n) c b d → (count : ℕ) × ((a : ℕ) → IsTrue (within a b) → length (sent_names (decode a (Some n))) ≡ count)
 fan n apart kept (mapped_by i j) b d f = (length f.0.dests, each)
   where
     each : (a : ℕ) → IsTrue (within a b) → length (sent_names (decode a (Some n))) ≡ length f.0.dests
@@ -90,7 +90,7 @@ fan n apart kept (mapped_by i j) b d f = (length f.0.dests, each)
         ap (λ v. length (sent_names (if v then (if in_some_block a n.accepts then None else by_entries a n.over n.entries) else None))) (le-leb a top (omega arith))
         ∙ ap (λ v. length (sent_names (if v then None else by_entries a n.over n.entries))) (apart.accept_apart i a f.0 f.2 v)
         ∙ ap (λ o. length (sent_names o)) (found_by a n.entries i f.0 (few_maps n kept a) f.2 v n.over)
-        ∙ length-map f.0.dests (moved (a - f.0.block.lo))
+        ∙ length-map f.0.dests (dest_name (a - f.0.block.lo))
 fan n apart kept (over_gap lo hi) b d f = (1, each)
   where
     each : (a : ℕ) → IsTrue (within a b) → length (sent_names (decode a (Some n))) ≡ 1
@@ -106,10 +106,10 @@ fan n apart kept (over_gap lo hi) b d f = (1, each)
         ∙ ap (λ o. length (sent_names o)) (not_found a n.entries (no_entry_has a n.entries free.1) n.over)
         ∙ ap (λ o. length (sent_names (by_over a o))) f.1
 
-fan_at : (net : List NodeDecl) → KeepsNodeRules net → (i : ℕ) (c : Choice) (b : Block) (d : Name) → Leads (slice_get net i) c b d → (count : ℕ) × ((a : ℕ) → IsTrue (within a b) → length (steps net (record { node = i; addr = a })) ≡ count)
+fan_at : (net : List NodeDecl) → KeepsNodeRules net → (i : ℕ) (c : Choice) (b : Block) (d : Name) → ChoiceLeads (slice_get net i) c b d → (count : ℕ) × ((a : ℕ) → IsTrue (within a b) → length (steps net (record { node = i; addr = a })) ≡ count)
 fan_at net checked i c b d f = by (slice_get net i) refl f
   where
-    by : (o : Option NodeDecl) → slice_get net i ≡ o → Leads o c b d → (count : ℕ) × ((a : ℕ) → IsTrue (within a b) → length (sent_names (decode a o)) ≡ count)
+    by : (o : Option NodeDecl) → slice_get net i ≡ o → ChoiceLeads o c b d → (count : ℕ) × ((a : ℕ) → IsTrue (within a b) → length (sent_names (decode a o)) ≡ count)
     by None e g = absurd g
     by (Some n) e g = fan n (node_apart net checked.each i n e) (kept_at net i checked.each n e) c b d g
 

@@ -6,9 +6,9 @@ use Rattle.dn_net.specs.declared.node.Entry.{Entry}
 use Rattle.dn_net.specs.declared.node.Name.{Name}
 use Rattle.dn_net.specs.declared.node.NodeDecl.{NodeDecl}
 use Rattle.dn_net.specs.Chain.{Member, IsChain}
-use Rattle.dn_net.specs.Decode.{top, within, in_some_block, by_over, by_entries, decode, sent_names, moved, Step}
+use Rattle.dn_net.specs.Decode.{top, within, in_some_block, by_over, by_entries, decode, sent_names, dest_name, Step}
 use Rattle.dn_net.specs.Rules.{KeepsRules}
-use Rattle.dn_net.specs.Walks.{Choice, mapped_by, over_gap, in_some_entry, is_free, IsGap, Leads, Follows, moved_name}
+use Rattle.dn_net.specs.Walks.{Choice, mapped_by, over_gap, in_some_entry, is_in_no_block, IsGap, ChoiceLeads, Follows, moved_name}
 use Rattle.dn_net.specs.WalkRules.{ChainIsWalk}
 use Rattle.dn_net.proofs.Least.{within_from, within_to}
 use Rattle.dn_net.proofs.Apart.{IsApart, node_apart}
@@ -16,50 +16,50 @@ use Rattle.dn_net.proofs.Latest.{sent_by}
 use Rattle.dn_net.proofs.Members.{some_same}
 
 -- a free address lies in a gap: its end below
-gap_below : (n : NodeDecl) (a : ℕ) → is_free n a ≡ true → (lo : ℕ) × (lo ≤ a) × ((b : ℕ) → lo ≤ b → b ≤ a → is_free n b ≡ true) × ((b : ℕ) → lo ≡ suc b → is_free n b ≡ false)
-gap_below n zero f = (0, (omega arith), (λ b l m. let e : 0 ≡ b = omega arith in subst (λ c. is_free n c ≡ true) e f), (λ b e. absurd (omega arith)))
-gap_below n (suc a) f = go (is_free n a) refl (gap_below n a)
+gap_below : (n : NodeDecl) (a : ℕ) → is_in_no_block n a ≡ true → (lo : ℕ) × (lo ≤ a) × ((b : ℕ) → lo ≤ b → b ≤ a → is_in_no_block n b ≡ true) × ((b : ℕ) → lo ≡ suc b → is_in_no_block n b ≡ false)
+gap_below n zero f = (0, (omega arith), (λ b l m. let e : 0 ≡ b = omega arith in subst (λ c. is_in_no_block n c ≡ true) e f), (λ b e. absurd (omega arith)))
+gap_below n (suc a) f = go (is_in_no_block n a) refl (gap_below n a)
   where
-    go : (v : Bool) → is_free n a ≡ v → (is_free n a ≡ true → (lo : ℕ) × (lo ≤ a) × ((b : ℕ) → lo ≤ b → b ≤ a → is_free n b ≡ true) × ((b : ℕ) → lo ≡ suc b → is_free n b ≡ false)) → (lo : ℕ) × (lo ≤ suc a) × ((b : ℕ) → lo ≤ b → b ≤ suc a → is_free n b ≡ true) × ((b : ℕ) → lo ≡ suc b → is_free n b ≡ false)
-    go false e ih = (suc a, (omega arith), (λ b l m. let e' : suc a ≡ b = omega arith in subst (λ c. is_free n c ≡ true) e' f), (λ b e'. let s : a ≡ b = omega arith in subst (λ c. is_free n c ≡ false) s e))
+    go : (v : Bool) → is_in_no_block n a ≡ v → (is_in_no_block n a ≡ true → (lo : ℕ) × (lo ≤ a) × ((b : ℕ) → lo ≤ b → b ≤ a → is_in_no_block n b ≡ true) × ((b : ℕ) → lo ≡ suc b → is_in_no_block n b ≡ false)) → (lo : ℕ) × (lo ≤ suc a) × ((b : ℕ) → lo ≤ b → b ≤ suc a → is_in_no_block n b ≡ true) × ((b : ℕ) → lo ≡ suc b → is_in_no_block n b ≡ false)
+    go false e ih = (suc a, (omega arith), (λ b l m. let e' : suc a ≡ b = omega arith in subst (λ c. is_in_no_block n c ≡ true) e' f), (λ b e'. let s : a ≡ b = omega arith in subst (λ c. is_in_no_block n c ≡ false) s e))
     go true e ih = (r.0, (let l : r.0 ≤ a = r.1 in omega arith), each, r.3)
       where
-        r : (lo : ℕ) × (lo ≤ a) × ((b : ℕ) → lo ≤ b → b ≤ a → is_free n b ≡ true) × ((b : ℕ) → lo ≡ suc b → is_free n b ≡ false)
+        r : (lo : ℕ) × (lo ≤ a) × ((b : ℕ) → lo ≤ b → b ≤ a → is_in_no_block n b ≡ true) × ((b : ℕ) → lo ≡ suc b → is_in_no_block n b ≡ false)
         r = ih e
 
-        each : (b : ℕ) → r.0 ≤ b → b ≤ suc a → is_free n b ≡ true
+        each : (b : ℕ) → r.0 ≤ b → b ≤ suc a → is_in_no_block n b ≡ true
         each b l m = here (cases b m)
           where
             cases : (b : ℕ) → b ≤ suc a → (b ≤ a) ⊎ (suc a ≡ b)
             cases b m = grind arith
 
-            here : (b ≤ a) ⊎ (suc a ≡ b) → is_free n b ≡ true
+            here : (b ≤ a) ⊎ (suc a ≡ b) → is_in_no_block n b ≡ true
             here (inl k) = r.2 b l k
-            here (inr k) = subst (λ c. is_free n c ≡ true) k f
+            here (inr k) = subst (λ c. is_in_no_block n c ≡ true) k f
 
 -- its end above
-gap_above : (n : NodeDecl) (d a : ℕ) → a + d ≡ top → is_free n a ≡ true → (hi : ℕ) × (a ≤ hi) × (hi ≤ top) × ((b : ℕ) → a ≤ b → b ≤ hi → is_free n b ≡ true) × (hi < top → is_free n (suc hi) ≡ false)
-gap_above n zero a e f = (a, (omega arith), (omega arith), (λ b l m. let s : a ≡ b = omega arith in subst (λ c. is_free n c ≡ true) s f), (λ l. absurd (omega arith)))
-gap_above n (suc d) a e f = go (is_free n (suc a)) refl (gap_above n d (suc a) (omega arith))
+gap_above : (n : NodeDecl) (d a : ℕ) → a + d ≡ top → is_in_no_block n a ≡ true → (hi : ℕ) × (a ≤ hi) × (hi ≤ top) × ((b : ℕ) → a ≤ b → b ≤ hi → is_in_no_block n b ≡ true) × (hi < top → is_in_no_block n (suc hi) ≡ false)
+gap_above n zero a e f = (a, (omega arith), (omega arith), (λ b l m. let s : a ≡ b = omega arith in subst (λ c. is_in_no_block n c ≡ true) s f), (λ l. absurd (omega arith)))
+gap_above n (suc d) a e f = go (is_in_no_block n (suc a)) refl (gap_above n d (suc a) (omega arith))
   where
-    go : (v : Bool) → is_free n (suc a) ≡ v → (is_free n (suc a) ≡ true → (hi : ℕ) × (suc a ≤ hi) × (hi ≤ top) × ((b : ℕ) → suc a ≤ b → b ≤ hi → is_free n b ≡ true) × (hi < top → is_free n (suc hi) ≡ false)) → (hi : ℕ) × (a ≤ hi) × (hi ≤ top) × ((b : ℕ) → a ≤ b → b ≤ hi → is_free n b ≡ true) × (hi < top → is_free n (suc hi) ≡ false)
-    go false ev ih = (a, (omega arith), (omega arith), (λ b l m. let s : a ≡ b = omega arith in subst (λ c. is_free n c ≡ true) s f), (λ l. ev))
+    go : (v : Bool) → is_in_no_block n (suc a) ≡ v → (is_in_no_block n (suc a) ≡ true → (hi : ℕ) × (suc a ≤ hi) × (hi ≤ top) × ((b : ℕ) → suc a ≤ b → b ≤ hi → is_in_no_block n b ≡ true) × (hi < top → is_in_no_block n (suc hi) ≡ false)) → (hi : ℕ) × (a ≤ hi) × (hi ≤ top) × ((b : ℕ) → a ≤ b → b ≤ hi → is_in_no_block n b ≡ true) × (hi < top → is_in_no_block n (suc hi) ≡ false)
+    go false ev ih = (a, (omega arith), (omega arith), (λ b l m. let s : a ≡ b = omega arith in subst (λ c. is_in_no_block n c ≡ true) s f), (λ l. ev))
     go true ev ih = (r.0, (let l : suc a ≤ r.0 = r.1 in omega arith), r.2, each, r.4)
       where
-        r : (hi : ℕ) × (suc a ≤ hi) × (hi ≤ top) × ((b : ℕ) → suc a ≤ b → b ≤ hi → is_free n b ≡ true) × (hi < top → is_free n (suc hi) ≡ false)
+        r : (hi : ℕ) × (suc a ≤ hi) × (hi ≤ top) × ((b : ℕ) → suc a ≤ b → b ≤ hi → is_in_no_block n b ≡ true) × (hi < top → is_in_no_block n (suc hi) ≡ false)
         r = ih ev
 
-        each : (b : ℕ) → a ≤ b → b ≤ r.0 → is_free n b ≡ true
+        each : (b : ℕ) → a ≤ b → b ≤ r.0 → is_in_no_block n b ≡ true
         each b l m = here (cases b l)
           where
             cases : (b : ℕ) → a ≤ b → (suc a ≤ b) ⊎ (a ≡ b)
             cases b l = grind arith
 
-            here : (suc a ≤ b) ⊎ (a ≡ b) → is_free n b ≡ true
+            here : (suc a ≤ b) ⊎ (a ≡ b) → is_in_no_block n b ≡ true
             here (inl k) = r.3 b k m
-            here (inr k) = subst (λ c. is_free n c ≡ true) k f
+            here (inr k) = subst (λ c. is_in_no_block n c ≡ true) k f
 
-pub gap_at : (n : NodeDecl) (a : ℕ) → a ≤ top → is_free n a ≡ true → (lo hi : ℕ) × IsGap n lo hi × (lo ≤ a) × (a ≤ hi)
+pub gap_at : (n : NodeDecl) (a : ℕ) → a ≤ top → is_in_no_block n a ≡ true → (lo hi : ℕ) × IsGap n lo hi × (lo ≤ a) × (a ≤ hi)
 gap_at n a l f =
     let b = gap_below n a f in
     let t = gap_above n (top - a) a (omega arith) f in (
@@ -79,12 +79,12 @@ gap_at n a l f =
     cases : (a c : ℕ) → (c ≤ a) ⊎ (a ≤ c)
     cases a c = grind arith
 
-    both : (b : (lo : ℕ) × (lo ≤ a) × ((b : ℕ) → lo ≤ b → b ≤ a → is_free n b ≡ true) × ((b : ℕ) → lo ≡ suc b → is_free n b ≡ false)) (t : (hi : ℕ) × (a ≤ hi) × (hi ≤ top) × ((b : ℕ) → a ≤ b → b ≤ hi → is_free n b ≡ true) × (hi < top → is_free n (suc hi) ≡ false)) (c : ℕ) → b.0 ≤ c → c ≤ t.0 → (c ≤ a) ⊎ (a ≤ c) → is_free n c ≡ true
+    both : (b : (lo : ℕ) × (lo ≤ a) × ((b : ℕ) → lo ≤ b → b ≤ a → is_in_no_block n b ≡ true) × ((b : ℕ) → lo ≡ suc b → is_in_no_block n b ≡ false)) (t : (hi : ℕ) × (a ≤ hi) × (hi ≤ top) × ((b : ℕ) → a ≤ b → b ≤ hi → is_in_no_block n b ≡ true) × (hi < top → is_in_no_block n (suc hi) ≡ false)) (c : ℕ) → b.0 ≤ c → c ≤ t.0 → (c ≤ a) ⊎ (a ≤ c) → is_in_no_block n c ≡ true
     both b t c p q (inl k) = b.2 c p k
     both b t c p q (inr k) = t.3 c k q
 
 -- a member of a list of moved names stands at some place
-member_moved : (y : Name) (k : ℕ) (ds : List Dest) → Member y (map (moved k) ds) → (j : ℕ) × (d : Dest) × (slice_get ds j ≡ Some d) × (moved k d ≡ y)
+member_moved : (y : Name) (k : ℕ) (ds : List Dest) → Member y (map (dest_name k) ds) → (j : ℕ) × (d : Dest) × (slice_get ds j ≡ Some d) × (dest_name k d ≡ y)
 member_moved y k [] m = elim m [ ]
 member_moved y k (d ∷ ds) (inl e) = (0, d, refl, e)
 member_moved y k (d ∷ ds) (inr m) = let r = member_moved y k ds m in (suc r.0, r.1, r.2, r.3)
@@ -98,7 +98,7 @@ record ByEntry (a : ℕ) (es : List Entry) (y : Name) : Type 0 where
   is_entry : slice_get es entry ≡ Some e
   is_dest : slice_get e.dests dest ≡ Some d
   inside : IsTrue (within a e.block)
-  to : moved (a - e.block.lo) d ≡ y
+  to : dest_name (a - e.block.lo) d ≡ y
 
 record ByOver (a : ℕ) (over : Option ℕ) (es : List Entry) (y : Name) : Type 0 where
   node : ℕ
@@ -107,7 +107,7 @@ record ByOver (a : ℕ) (over : Option ℕ) (es : List Entry) (y : Name) : Type 
   to : ◌≡◌ {A = Name} (record { node = node; addr = a }) y
 
 -- by `over` it goes to the same address
-over_moved : (a m : ℕ) → ◌≡◌ {A = Name} (moved a (record { node = m; addr = 0 })) (record { node = m; addr = a })
+over_moved : (a m : ℕ) → ◌≡◌ {A = Name} (dest_name a (record { node = m; addr = 0 })) (record { node = m; addr = a })
 over_moved a m = let e : 0 + a ≡ a = omega arith in λ i. record { node = m; addr = e i }
 
 by_mapped : (a : ℕ) (over : Option ℕ) (es : List Entry) (y : Name) → Member y (sent_names (by_entries a over es)) → ByEntry a es y ⊎ ByOver a over es y
@@ -133,7 +133,7 @@ pub record ChosenBy (o : Option NodeDecl) (a : ℕ) (y : Name) : Type 0 where
   pub choice : Choice
   pub block : Block
   pub name : Name
-  pub leads : Leads o choice block name
+  pub leads : ChoiceLeads o choice block name
   pub inside : IsTrue (within a block)
   pub to : moved_name (a - block.lo) name ≡ y
 
@@ -144,7 +144,7 @@ choice_of_step (Some n) a y m = tests (nat_le a top) (in_some_block a n.accepts)
   where
     over : nat_le a top ≡ true → in_some_block a n.accepts ≡ false → ByOver a n.over n.entries y → ChosenBy (Some n) a y
     over eb ec r =
-        let free : is_free n a ≡ true = ap (λ b. not b && not (in_some_entry a n.entries)) ec ∙ ap not r.none in
+        let free : is_in_no_block n a ≡ true = ap (λ b. not b && not (in_some_entry a n.entries)) ec ∙ ap not r.none in
         let low : a ≤ top = leb-true a top eb in
         let g = gap_at n a low free in
         let p : g.0 ≤ a = g.3 in
@@ -175,25 +175,25 @@ choices_of_chain net (suc k) x y c =
     let r = choices_of_chain net k c.0 y c.2 in
     (s.choice ∷ r.0, ap suc r.1, (s.block, s.name, s.leads, s.inside, subst (λ w. Follows net w r.0 y) (sym s.to) r.2))
 
-moved_member : (k : ℕ) (ds : List Dest) (j : ℕ) (d : Dest) → slice_get ds j ≡ Some d → Member (moved k d) (map (moved k) ds)
+moved_member : (k : ℕ) (ds : List Dest) (j : ℕ) (d : Dest) → slice_get ds j ≡ Some d → Member (dest_name k d) (map (dest_name k) ds)
 moved_member k [] j d e = cc
-moved_member k (x ∷ ds) zero d e = inl (ap (moved k) (some_same x d e))
+moved_member k (x ∷ ds) zero d e = inl (ap (dest_name k) (some_same x d e))
 moved_member k (x ∷ ds) (suc j) d e = inr (moved_member k ds j d e)
 
 -- the entry that has an address is the one that maps it, where no two do
-by_entry : (a : ℕ) (over : Option ℕ) (es : List Entry) (i j : ℕ) (e : Entry) (d : Dest) → ((p q : ℕ) (f g : Entry) → slice_get es p ≡ Some f → slice_get es q ≡ Some g → IsTrue (within a f.block) → IsTrue (within a g.block) → p ≡ q) → slice_get es i ≡ Some e → slice_get e.dests j ≡ Some d → IsTrue (within a e.block) → Member (moved (a - e.block.lo) d) (sent_names (by_entries a over es))
+by_entry : (a : ℕ) (over : Option ℕ) (es : List Entry) (i j : ℕ) (e : Entry) (d : Dest) → ((p q : ℕ) (f g : Entry) → slice_get es p ≡ Some f → slice_get es q ≡ Some g → IsTrue (within a f.block) → IsTrue (within a g.block) → p ≡ q) → slice_get es i ≡ Some e → slice_get e.dests j ≡ Some d → IsTrue (within a e.block) → Member (dest_name (a - e.block.lo) d) (sent_names (by_entries a over es))
 by_entry a over [] i j e d apart ei ed w = cc
 by_entry a over (f ∷ es) zero j e d apart ei ed w =
     let s : f ≡ e = some_same f e ei in
-    let m : Member (moved (a - e.block.lo) d) (map (moved (a - e.block.lo)) e.dests) = moved_member (a - e.block.lo) e.dests j d ed in
+    let m : Member (dest_name (a - e.block.lo) d) (map (dest_name (a - e.block.lo)) e.dests) = moved_member (a - e.block.lo) e.dests j d ed in
     let w' : within a f.block ≡ true = ap (λ t. within a t.block) s ∙ w in
-    subst (λ b. Member (moved (a - e.block.lo) d) (sent_names (if b then sent_by a f else by_entries a over es))) (sym w') (subst (λ t. Member (moved (a - e.block.lo) d) (map (moved (a - t.block.lo)) t.dests)) (sym s) m)
+    subst (λ b. Member (dest_name (a - e.block.lo) d) (sent_names (if b then sent_by a f else by_entries a over es))) (sym w') (subst (λ t. Member (dest_name (a - e.block.lo) d) (map (dest_name (a - t.block.lo)) t.dests)) (sym s) m)
 by_entry a over (f ∷ es) (suc i) j e d apart ei ed w = go (by_entry a over es i j e d (λ p q g k x y u v. suc_same p q (apart (suc p) (suc q) g k x y u v)) ei ed w) (within a f.block) refl
   where
     suc_same : (p q : ℕ) → suc p ≡ suc q → p ≡ q
     suc_same p q e = omega arith
 
-    go : Member (moved (a - e.block.lo) d) (sent_names (by_entries a over es)) → (b : Bool) → within a f.block ≡ b → Member (moved (a - e.block.lo) d) (sent_names (if b then sent_by a f else by_entries a over es))
+    go : Member (dest_name (a - e.block.lo) d) (sent_names (by_entries a over es)) → (b : Bool) → within a f.block ≡ b → Member (dest_name (a - e.block.lo) d) (sent_names (if b then sent_by a f else by_entries a over es))
     go m false eb = m
     go m true eb = (let z : 0 ≡ suc i = apart 0 (suc i) f e refl ei eb w in absurd (omega arith))
 
@@ -206,7 +206,7 @@ no_entry a m (f ∷ es) e = go (no_entry a m es) (within a f.block) e
     go ih false x = ih x
 
 -- what is free is in no block
-pub free_parts : (n : NodeDecl) (a : ℕ) → is_free n a ≡ true → (in_some_block a n.accepts ≡ false) × (in_some_entry a n.entries ≡ false)
+pub free_parts : (n : NodeDecl) (a : ℕ) → is_in_no_block n a ≡ true → (in_some_block a n.accepts ≡ false) × (in_some_entry a n.entries ≡ false)
 free_parts n a f = by (in_some_block a n.accepts) (in_some_entry a n.entries) f
   where
     by : (p q : Bool) → (not p && not q) ≡ true → (p ≡ false) × (q ≡ false)
@@ -215,7 +215,7 @@ free_parts n a f = by (in_some_block a n.accepts) (in_some_entry a n.entries) f
     by true q x = cc
 
 -- a choice that an address follows is a step, in a node whose blocks are apart
-step_of_choice : (o : Option NodeDecl) → ((n : NodeDecl) → o ≡ Some n → IsApart n) → (a : ℕ) (c : Choice) (b : Block) (d : Name) → Leads o c b d → IsTrue (within a b) → Member (moved_name (a - b.lo) d) (sent_names (decode a o))
+step_of_choice : (o : Option NodeDecl) → ((n : NodeDecl) → o ≡ Some n → IsApart n) → (a : ℕ) (c : Choice) (b : Block) (d : Name) → ChoiceLeads o c b d → IsTrue (within a b) → Member (moved_name (a - b.lo) d) (sent_names (decode a o))
 step_of_choice None apart a c b d e w = absurd e
 step_of_choice (Some n) apart a c b d e w = by c e
   where
@@ -228,7 +228,7 @@ step_of_choice (Some n) apart a c b d e w = by c e
     decodes : nat_le a top ≡ true → in_some_block a n.accepts ≡ false → Member y (sent_names (by_entries a n.over n.entries)) → Member y (sent_names (decode a (Some n)))
     decodes low acc m = subst (λ p. Member y (sent_names (if p then (if in_some_block a n.accepts then None else by_entries a n.over n.entries) else None))) (sym low) (subst (λ p. Member y (sent_names (if p then None else by_entries a n.over n.entries))) (sym acc) m)
 
-    by : (c : Choice) → Leads (Some n) c b d → Member y (sent_names (decode a (Some n)))
+    by : (c : Choice) → ChoiceLeads (Some n) c b d → Member y (sent_names (decode a (Some n)))
     by (mapped_by i j) e =
         let r = apart n refl in
         let hi : a ≤ b.hi = parts.1 in

@@ -7,7 +7,7 @@ use Rattle.dn_net.specs.declared.node.NodeDecl.{NodeDecl}
 use Rattle.dn_net.specs.Chain.{Member, IsChain}
 use Rattle.dn_net.specs.Decode.{top, within, steps, Step}
 use Rattle.dn_net.specs.Names.{after_steps}
-use Rattle.dn_net.specs.Walks.{Choice, Leads, Follows, moved_name, Walk, level}
+use Rattle.dn_net.specs.Walks.{Choice, ChoiceLeads, Follows, moved_name, Walk, level}
 use Rattle.dn_net.specs.WalkRules.{CycleIsRow, comes_to, goes_on}
 use Rattle.dn_net.specs.Rules.{KeepsNodeRules}
 use Rattle.dn_net.proofs.Least.{within_to}
@@ -24,7 +24,7 @@ pub record IsLed (net : List NodeDecl) (k : ℕ) (x y : Name) (w : Walk) : Type 
   pub inside : IsTrue (within x.addr w.span)
   pub to : moved_name (x.addr - w.span.lo) w.to ≡ y
 
-there_is : (o : Option NodeDecl) (c : Choice) (b : Block) (d : Name) → Leads o c b d → (n : NodeDecl) × (o ≡ Some n)
+there_is : (o : Option NodeDecl) (c : Choice) (b : Block) (d : Name) → ChoiceLeads o c b d → (n : NodeDecl) × (o ≡ Some n)
 there_is None c b d f = absurd f
 there_is (Some n) c b d f = (n, refl)
 

@@ -10,7 +10,7 @@ use Rattle.dn_net.specs.declared.node.NodeDecl.{NodeDecl}
 use Rattle.dn_net.specs.Chain.{Member}
 use Rattle.dn_net.specs.Decode.{top, within, in_some_block}
 use Rattle.dn_net.specs.Rules.{block_in_range}
-use Rattle.dn_net.specs.Walks.{in_some_entry, is_free, IsGap, below, above, cut_out, cut_each, whole, gaps}
+use Rattle.dn_net.specs.Walks.{in_some_entry, is_in_no_block, IsGap, below, above, cut_out, cut_each, all_addresses, gaps}
 use Rattle.dn_net.proofs.Least.{within_from, within_to}
 use Rattle.dn_net.specs.WalkRules.{GapsAreAll}
 use Rattle.dn_net.proofs.Apart.{IsApart, node_apart}
@@ -73,7 +73,7 @@ blocks_upward (e ∷ es) bs each u = ((each 0 e refl).0, blocks_upward es bs (λ
 
 -- the gaps of a node ascend, with an address between two
 pub gaps_stand : (n : NodeDecl) → IsApart n → Stand 0 (gaps n)
-gaps_stand n apart = cut_each_stands (map (λ e. e.block) n.entries ++ n.accepts) 0 (whole ∷ []) (blocks_upward n.entries n.accepts apart.block (accepts_upward n.accepts apart.accepts)) ((omega arith), (omega arith), (omega arith), tt)
+gaps_stand n apart = cut_each_stands (map (λ e. e.block) n.entries ++ n.accepts) 0 (all_addresses ∷ []) (blocks_upward n.entries n.accepts apart.block (accepts_upward n.accepts apart.accepts)) ((omega arith), (omega arith), (omega arith), tt)
 
 pub in_append : (a : ℕ) (xs ys : List Block) → in_some_block a (xs ++ ys) ≡ (in_some_block a xs || in_some_block a ys)
 in_append a [] ys = refl
@@ -232,12 +232,12 @@ free_is true false = refl
 free_is false true = refl
 free_is false false = refl
 
-pub whole_has : (a : ℕ) → in_some_block a (whole ∷ []) ≡ nat_le a top
-whole_has a = same_tests _ _ (λ h. let r = one_in a whole h in le-leb a top r.1) (λ h. let l : a ≤ top = leb-true a top h in let z : 0 ≤ a = omega arith in or_left (within a whole) false (within_from a whole z l))
+pub whole_has : (a : ℕ) → in_some_block a (all_addresses ∷ []) ≡ nat_le a top
+whole_has a = same_tests _ _ (λ h. let r = one_in a all_addresses h in le-leb a top r.1) (λ h. let l : a ≤ top = leb-true a top h in let z : 0 ≤ a = omega arith in or_left (within a all_addresses) false (within_from a all_addresses z l))
 
 -- the gaps have exactly the addresses that are free
-pub gaps_have : (n : NodeDecl) (a : ℕ) → in_some_block a (gaps n) ≡ (nat_le a top && is_free n a)
-gaps_have n a = cut_each_has a (map (λ e. e.block) n.entries ++ n.accepts) (whole ∷ []) ∙ ((λ i. whole_has a i && not (blocks_have a n.entries n.accepts i)) ∙ ap (λ p. nat_le a top && p) (free_is (in_some_entry a n.entries) (in_some_block a n.accepts)))
+pub gaps_have : (n : NodeDecl) (a : ℕ) → in_some_block a (gaps n) ≡ (nat_le a top && is_in_no_block n a)
+gaps_have n a = cut_each_has a (map (λ e. e.block) n.entries ++ n.accepts) (all_addresses ∷ []) ∙ ((λ i. whole_has a i && not (blocks_have a n.entries n.accepts i)) ∙ ap (λ p. nat_le a top && p) (free_is (in_some_entry a n.entries) (in_some_block a n.accepts)))
 
 pub has_member : (a : ℕ) (ss : List Block) → in_some_block a ss ≡ true → (s : Block) × Member s ss × (s.lo ≤ a) × (a ≤ s.hi)
 has_member a [] h = cc
@@ -290,13 +290,13 @@ beside ss s a h m next = by (in_some_block a ss) refl
     by false e = refl
     by true e = let r = has_member a ss e in absurd (never r.0 r.2 r.3 (stand_member 0 ss s h m).1 (stand_two 0 ss s r.0 h m r.1) next)
 
-free_here : (n : NodeDecl) (a : ℕ) → in_some_block a (gaps n) ≡ true → (a ≤ top) × (is_free n a ≡ true)
-free_here n a h = let r = and_parts (nat_le a top) (is_free n a) (sym (gaps_have n a) ∙ h) in (leb-true a top r.0, r.1)
+free_here : (n : NodeDecl) (a : ℕ) → in_some_block a (gaps n) ≡ true → (a ≤ top) × (is_in_no_block n a ≡ true)
+free_here n a h = let r = and_parts (nat_le a top) (is_in_no_block n a) (sym (gaps_have n a) ∙ h) in (leb-true a top r.0, r.1)
 
-taken_here : (n : NodeDecl) (a : ℕ) → a ≤ top → in_some_block a (gaps n) ≡ false → is_free n a ≡ false
+taken_here : (n : NodeDecl) (a : ℕ) → a ≤ top → in_some_block a (gaps n) ≡ false → is_in_no_block n a ≡ false
 taken_here n a l h = by (nat_le a top) (le-leb a top l) (sym (gaps_have n a) ∙ h)
   where
-    by : (p : Bool) → p ≡ true → (p && is_free n a) ≡ false → is_free n a ≡ false
+    by : (p : Bool) → p ≡ true → (p && is_in_no_block n a) ≡ false → is_in_no_block n a ≡ false
     by true e f = f
     by false e f = cc
 
@@ -310,16 +310,16 @@ gap_of_member n apart b m = record { order = r.1; low = r.2; free = free; below 
     r : (0 ≤ b.lo) × (b.lo ≤ b.hi) × (b.hi ≤ top)
     r = stand_member 0 (gaps n) b stand m
 
-    free : (a : ℕ) → b.lo ≤ a → a ≤ b.hi → is_free n a ≡ true
+    free : (a : ℕ) → b.lo ≤ a → a ≤ b.hi → is_in_no_block n a ≡ true
     free a l h = (free_here n a (member_has a (gaps n) b m l h)).1
 
-    under : (a : ℕ) → b.lo ≡ suc a → is_free n a ≡ false
+    under : (a : ℕ) → b.lo ≡ suc a → is_in_no_block n a ≡ false
     under a e =
         let o : b.lo ≤ b.hi = r.1 in
         let t : b.hi ≤ top = r.2 in
         taken_here n a (omega arith) (beside (gaps n) b a stand m (inl (sym e)))
 
-    over : b.hi < top → is_free n (suc b.hi) ≡ false
+    over : b.hi < top → is_in_no_block n (suc b.hi) ≡ false
     over l = taken_here n (suc b.hi) (omega arith) (beside (gaps n) b (suc b.hi) stand m (inr refl))
 
 -- gaps that share an address are one
@@ -354,7 +354,7 @@ member_of_gap n apart lo hi g =
     let t : hi ≤ top = g.low in
     let l : lo ≤ top = omega arith in
     let k : lo ≤ lo = omega arith in
-    let h : in_some_block lo (gaps n) ≡ true = gaps_have n lo ∙ and_from (nat_le lo top) (is_free n lo) (le-leb lo top l) (g.free lo k o) in
+    let h : in_some_block lo (gaps n) ≡ true = gaps_have n lo ∙ and_from (nat_le lo top) (is_in_no_block n lo) (le-leb lo top l) (g.free lo k o) in
     let r = has_member lo (gaps n) h in
     let s = gap_once n r.0.lo r.0.hi lo hi lo (gap_of_member n apart r.0 r.1) g r.2 r.3 k o in
     subst (λ b. Member b (gaps n)) (λ i. record { lo = s.0 i; hi = s.1 i }) r.1

@@ -7,7 +7,7 @@ use Rattle.dn_net.specs.declared.node.Entry.{Entry}
 use Rattle.dn_net.specs.declared.node.NodeDecl.{NodeDecl}
 use Rattle.dn_net.specs.Chain.{Member}
 use Rattle.dn_net.specs.Decode.{within, in_some_block}
-use Rattle.dn_net.specs.Rules.{map_blocks_at, overlaps, firsts, lesser, least, LeastOverlapIsLeast}
+use Rattle.dn_net.specs.Rules.{map_blocks_at, overlaps, first_addresses, lesser_number, least_number, LeastOverlapIsLeast}
 use Rattle.dn_base.proofs.Members.{member_left, member_right}
 use Rattle.dn_base.proofs.Booleans.{or_cases, and_parts, or_left, or_right, and_from}
 
@@ -114,10 +114,10 @@ some_accept (x ∷ bs) b h = by (within b x) refl (some_accept bs b)
         let r = ih (rw at at h) in
         record { lo = r.lo; hi = r.hi; first = inr r.first; below = r.below; above = r.above; all = λ a l m. or_right (within a x) (in_some_block a bs) (r.all a l m) }
 
-map_and_accept : (n : NodeDecl) (b : ℕ) → Mapped n.entries b → Accepted n.accepts b → FirstBelow (firsts n) (λ a. overlaps n a ≡ true) b
+map_and_accept : (n : NodeDecl) (b : ℕ) → Mapped n.entries b → Accepted n.accepts b → FirstBelow (first_addresses n) (λ a. overlaps n a ≡ true) b
 map_and_accept n b m r = by (nat_le m.lo r.lo) refl
   where
-    by : (c : Bool) → nat_le m.lo r.lo ≡ c → FirstBelow (firsts n) (λ a. overlaps n a ≡ true) b
+    by : (c : Bool) → nat_le m.lo r.lo ≡ c → FirstBelow (first_addresses n) (λ a. overlaps n a ≡ true) b
     by true c =
         let le = leb-true _ _ c in
         let k : 0 < map_blocks_at n r.lo = m.all r.lo le (let p = r.below in let q = m.above in omega arith) in
@@ -130,7 +130,7 @@ map_and_accept n b m r = by (nat_le m.lo r.lo) refl
         record { at = m.lo; first = member_left (map (λ e. e.block.lo) n.entries) (map (λ b. b.lo) n.accepts) m.lo m.first; below = m.below; holds = or_right _ _ (and_from _ _ (lt-ltb _ _ k) s) }
 
 -- an address that overlaps has a first address of a block at or below it that overlaps
-pub first_overlap : (n : NodeDecl) (b : ℕ) → overlaps n b ≡ true → FirstBelow (firsts n) (λ a. overlaps n a ≡ true) b
+pub first_overlap : (n : NodeDecl) (b : ℕ) → overlaps n b ≡ true → FirstBelow (first_addresses n) (λ a. overlaps n a ≡ true) b
 first_overlap n b h = elim (or_cases (nat_lt 1 (map_blocks_at n b)) (nat_lt 0 (map_blocks_at n b) && in_some_block b n.accepts) h) [
   | inl e ↦ (let r = two_maps n.entries b (ltb-true _ _ e) in record { at = r.at; first = member_left (map (λ e. e.block.lo) n.entries) (map (λ b. b.lo) n.accepts) r.at r.first; below = r.below; holds = or_left _ _ (lt-ltb _ _ r.holds) })
   | inr e ↦ (let p = and_parts (nat_lt 0 (map_blocks_at n b)) (in_some_block b n.accepts) e in map_and_accept n b (some_map n.entries b (ltb-true _ _ p.0)) (some_accept n.accepts b p.1))
@@ -155,20 +155,20 @@ filter_from p (x ∷ xs) a h m = by (p x) refl (filter_from p xs a h) m
     by false e ih (inl s) = let f : p x ≡ true = ap p s ∙ h in let g : false ≡ true = sym e ∙ f in cc
     by false e ih (inr m) = ih m
 
-some_lesser : (x : ℕ) (l : Option ℕ) → lesser x l ≡ None → ⊥
+some_lesser : (x : ℕ) (l : Option ℕ) → lesser_number x l ≡ None → ⊥
 some_lesser x None e = cc
 some_lesser x (Some y) e = cc
 
-none_least : (xs : List ℕ) (b : ℕ) → least xs ≡ None → Member b xs → ⊥
+none_least : (xs : List ℕ) (b : ℕ) → least_number xs ≡ None → Member b xs → ⊥
 none_least [] b e m = m
-none_least (x ∷ xs) b e m = some_lesser x (least xs) e
+none_least (x ∷ xs) b e m = some_lesser x (least_number xs) e
 
 -- the least of a list that has something
-least_of : (xs : List ℕ) (a : ℕ) → least xs ≡ Some a → Member a xs × ((b : ℕ) → Member b xs → a ≤ b)
+least_of : (xs : List ℕ) (a : ℕ) → least_number xs ≡ Some a → Member a xs × ((b : ℕ) → Member b xs → a ≤ b)
 least_of [] a e = cc
-least_of (x ∷ xs) a e = by (least xs) refl e (least_of xs)
+least_of (x ∷ xs) a e = by (least_number xs) refl e (least_of xs)
   where
-    pick : (y : ℕ) → least xs ≡ Some y → ((a : ℕ) → least xs ≡ Some a → Member a xs × ((b : ℕ) → Member b xs → a ≤ b)) → (c : Bool) → nat_le x y ≡ c → (if c then x else y) ≡ a → Member a (x ∷ xs) × ((b : ℕ) → Member b (x ∷ xs) → a ≤ b)
+    pick : (y : ℕ) → least_number xs ≡ Some y → ((a : ℕ) → least_number xs ≡ Some a → Member a xs × ((b : ℕ) → Member b xs → a ≤ b)) → (c : Bool) → nat_le x y ≡ c → (if c then x else y) ≡ a → Member a (x ∷ xs) × ((b : ℕ) → Member b (x ∷ xs) → a ≤ b)
     pick y is ih true c e =
         let r = ih y is in
         let le = leb-true x y c in
@@ -178,26 +178,26 @@ least_of (x ∷ xs) a e = by (least xs) refl e (least_of xs)
         let lt = leb-false x y c in
         (inr (subst (λ w. Member w xs) e r.0), λ b m. elim m [ inl s ↦ omega arith | inr n ↦ (let k = r.1 b n in omega arith) ])
 
-    by : (l : Option ℕ) → least xs ≡ l → lesser x l ≡ Some a → ((a : ℕ) → least xs ≡ Some a → Member a xs × ((b : ℕ) → Member b xs → a ≤ b)) → Member a (x ∷ xs) × ((b : ℕ) → Member b (x ∷ xs) → a ≤ b)
+    by : (l : Option ℕ) → least_number xs ≡ l → lesser_number x l ≡ Some a → ((a : ℕ) → least_number xs ≡ Some a → Member a xs × ((b : ℕ) → Member b xs → a ≤ b)) → Member a (x ∷ xs) × ((b : ℕ) → Member b (x ∷ xs) → a ≤ b)
     by None is e ih = let s : x ≡ a = cc in (inl s, λ b m. elim m [ inl t ↦ omega arith | inr n ↦ absurd (none_least xs b is n) ])
     by (Some y) is e ih = let s : (if nat_le x y then x else y) ≡ a = cc in pick y is ih (nat_le x y) refl s
 
-least_some : (xs : List ℕ) (b : ℕ) → Member b xs → IsSome (least xs)
+least_some : (xs : List ℕ) (b : ℕ) → Member b xs → IsSome (least_number xs)
 least_some [] b m = absurd m
-least_some (x ∷ xs) b m = by (least xs)
+least_some (x ∷ xs) b m = by (least_number xs)
   where
-    by : (l : Option ℕ) → IsSome (lesser x l)
+    by : (l : Option ℕ) → IsSome (lesser_number x l)
     by None = search rules
     by (Some y) = search rules
 
 pub least_overlap_is_least : LeastOverlapIsLeast
 least_overlap_is_least n = (
   λ a e.
-      let r = least_of (filter (overlaps n) (firsts n)) a e in
-      let p = filter_to (overlaps n) (firsts n) a r.0 in
+      let r = least_of (filter (overlaps n) (first_addresses n)) a e in
+      let p = filter_to (overlaps n) (first_addresses n) a r.0 in
       record {
         overlap = p.0;
-        none_less = λ b h. (let f = first_overlap n b h in let k = r.1 f.at (filter_from (overlaps n) (firsts n) f.at f.holds f.first) in let l = f.below in omega arith);
+        none_less = λ b h. (let f = first_overlap n b h in let k = r.1 f.at (filter_from (overlaps n) (first_addresses n) f.at f.holds f.first) in let l = f.below in omega arith);
       },
-  λ a h. let f = first_overlap n a h in least_some (filter (overlaps n) (firsts n)) f.at (filter_from (overlaps n) (firsts n) f.at f.holds f.first),
+  λ a h. let f = first_overlap n a h in least_some (filter (overlaps n) (first_addresses n)) f.at (filter_from (overlaps n) (first_addresses n) f.at f.holds f.first),
 )

@@ -8,7 +8,7 @@ use Rattle.dn_net.specs.declared.node.Name.{Name}
 use Rattle.dn_net.specs.declared.node.NodeDecl.{NodeDecl}
 use Rattle.dn_net.specs.Chain.{Member}
 use Rattle.dn_net.specs.Decode.{top, refers_within, over_within, ports_within}
-use Rattle.dn_net.specs.Walks.{Choice, mapped_by, over_gap, IsGap, Leads, gaps, Leg, dest_legs, entry_legs, gap_legs, legs_of}
+use Rattle.dn_net.specs.Walks.{Choice, mapped_by, over_gap, IsGap, ChoiceLeads, gaps, Leg, dest_legs, entry_legs, gap_legs, legs_of}
 use Rattle.dn_base.proofs.Members.{member_left, member_right, member_cases, map_member, member_map}
 use Rattle.dn_base.proofs.Booleans.{and_parts}
 use Rattle.dn_base.proofs.Lists.{list_all-at}
@@ -79,22 +79,22 @@ member_gap_legs None spans l m = absurd m
 member_gap_legs (Some m) spans l n = let r = map_member (gap_leg m) spans l n in record { node = m; is_over = refl; gap = r.0; is_gap = r.1; leg = r.2 }
 
 -- each leg is a choice of the node
-leads_of : (n : NodeDecl) → IsApart n → (l : Leg) → Member l (entry_legs 0 n.entries) ⊎ Member l (gap_legs n.over (gaps n)) → Leads (Some n) l.choice l.block l.to
+leads_of : (n : NodeDecl) → IsApart n → (l : Leg) → Member l (entry_legs 0 n.entries) ⊎ Member l (gap_legs n.over (gaps n)) → ChoiceLeads (Some n) l.choice l.block l.to
 leads_of n apart l (inl m) =
     let r = member_entry_legs 0 n.entries l m in
     let z : r.entry ≡ 0 + r.entry = omega arith in
-    subst (λ k. Leads (Some n) k.choice k.block k.to) (ap (λ x. dest_leg x r.dest r.e.block r.d) z ∙ r.leg) (r.e, r.d, r.is_entry, r.is_dest, refl, refl)
+    subst (λ k. ChoiceLeads (Some n) k.choice k.block k.to) (ap (λ x. dest_leg x r.dest r.e.block r.d) z ∙ r.leg) (r.e, r.d, r.is_entry, r.is_dest, refl, refl)
 leads_of n apart l (inr m) =
     let r = member_gap_legs n.over (gaps n) l m in
-    subst (λ k. Leads (Some n) k.choice k.block k.to) r.leg (r.node, r.is_over, gap_of_member n apart r.gap r.is_gap, refl, refl)
+    subst (λ k. ChoiceLeads (Some n) k.choice k.block k.to) r.leg (r.node, r.is_over, gap_of_member n apart r.gap r.is_gap, refl, refl)
 
-pub leads_of_leg : (o : Option NodeDecl) → ((n : NodeDecl) → o ≡ Some n → IsApart n) → (l : Leg) → Member l (legs_of o) → Leads o l.choice l.block l.to
+pub leads_of_leg : (o : Option NodeDecl) → ((n : NodeDecl) → o ≡ Some n → IsApart n) → (l : Leg) → Member l (legs_of o) → ChoiceLeads o l.choice l.block l.to
 leads_of_leg None apart l m = absurd m
 leads_of_leg (Some n) apart l m =
     leads_of n (apart n refl) l (member_cases (entry_legs 0 n.entries) (gap_legs n.over (gaps n)) l ((member_order (λ l m. nat_lt l.block.lo m.block.lo) (entry_legs 0 n.entries ++ gap_legs n.over (gaps n)) l).0 m))
 
 -- each choice of a node has its leg
-leg_among : (n : NodeDecl) → IsApart n → (c : Choice) (b : Block) (d : Name) → Leads (Some n) c b d → Member (record { choice = c; block = b; to = d }) (entry_legs 0 n.entries ++ gap_legs n.over (gaps n))
+leg_among : (n : NodeDecl) → IsApart n → (c : Choice) (b : Block) (d : Name) → ChoiceLeads (Some n) c b d → Member (record { choice = c; block = b; to = d }) (entry_legs 0 n.entries ++ gap_legs n.over (gaps n))
 leg_among n apart (mapped_by i j) b d f =
     let z : 0 + i ≡ i = omega arith in
     let m : Member (dest_leg i j f.0.block f.1) (entry_legs 0 n.entries) = subst (λ x. Member (dest_leg x j f.0.block f.1) (entry_legs 0 n.entries)) z (entry_legs_member 0 i j n.entries f.0 f.1 f.2 f.3) in
@@ -105,12 +105,12 @@ leg_among n apart (over_gap lo hi) b d f =
     let m1 : Member (gap_leg f.0 g) (gap_legs n.over (gaps n)) = subst (λ o. Member (gap_leg f.0 g) (gap_legs o (gaps n))) (sym f.1) m in
     member_right (entry_legs 0 n.entries) (gap_legs n.over (gaps n)) (record { choice = over_gap lo hi; block = b; to = d }) (subst (λ (k : Leg). Member k (gap_legs n.over (gaps n))) (λ t. record { choice = over_gap lo hi; block = sym f.3 t; to = sym f.4 t }) m1)
 
-pub leg_of_leads : (o : Option NodeDecl) → ((n : NodeDecl) → o ≡ Some n → IsApart n) → (c : Choice) (b : Block) (d : Name) → Leads o c b d → Member (record { choice = c; block = b; to = d }) (legs_of o)
+pub leg_of_leads : (o : Option NodeDecl) → ((n : NodeDecl) → o ≡ Some n → IsApart n) → (c : Choice) (b : Block) (d : Name) → ChoiceLeads o c b d → Member (record { choice = c; block = b; to = d }) (legs_of o)
 leg_of_leads None apart c b d f = absurd f
 leg_of_leads (Some n) apart c b d f = (member_order (λ l m. nat_lt l.block.lo m.block.lo) (entry_legs 0 n.entries ++ gap_legs n.over (gaps n)) (record { choice = c; block = b; to = d })).1 (leg_among n (apart n refl) c b d f)
 
 -- a choice leads on the same addresses to the same name
-pub leads_once : (o : Option NodeDecl) (c : Choice) (b b' : Block) (d d' : Name) → Leads o c b d → Leads o c b' d' → (b ≡ b') × (d ≡ d')
+pub leads_once : (o : Option NodeDecl) (c : Choice) (b b' : Block) (d d' : Name) → ChoiceLeads o c b d → ChoiceLeads o c b' d' → (b ≡ b') × (d ≡ d')
 leads_once None c b b' d d' f g = absurd f
 leads_once (Some n) (mapped_by i j) b b' d d' f g =
     let s : f.0 ≡ g.0 = some_same f.0 g.0 (sym f.2 ∙ g.2) in
@@ -121,7 +121,7 @@ leads_once (Some n) (over_gap lo hi) b b' d d' f g =
     (f.3 ∙ sym g.3, f.4 ∙ (ap (λ m. record { node = m; addr = lo }) s ∙ sym g.4))
 
 -- a choice keeps in range
-pub leads_in_range : (o : Option NodeDecl) → ((n : NodeDecl) → o ≡ Some n → IsApart n) → (c : Choice) (b : Block) (d : Name) → Leads o c b d → (b.lo ≤ b.hi) × (b.hi ≤ top) × (d.addr + (b.hi - b.lo) ≤ top)
+pub leads_in_range : (o : Option NodeDecl) → ((n : NodeDecl) → o ≡ Some n → IsApart n) → (c : Choice) (b : Block) (d : Name) → ChoiceLeads o c b d → (b.lo ≤ b.hi) × (b.hi ≤ top) × (d.addr + (b.hi - b.lo) ≤ top)
 leads_in_range None apart c b d f = absurd f
 leads_in_range (Some n) apart (mapped_by i j) b d f =
     let r = (apart n refl).block i f.0 f.2 in
@@ -141,7 +141,7 @@ over_one : (count : ℕ) (o : Option ℕ) (m : ℕ) → IsTrue (over_within coun
 over_one count None m h e = cc
 over_one count (Some x) m h e = let s : x ≡ m = some_same x m e in subst (λ y. y < count) s (ltb-true x count h)
 
-pub leads_within : (count : ℕ) (o : Option NodeDecl) → ((n : NodeDecl) → o ≡ Some n → IsTrue (refers_within count n)) → (c : Choice) (b : Block) (d : Name) → Leads o c b d → d.node < count
+pub leads_within : (count : ℕ) (o : Option NodeDecl) → ((n : NodeDecl) → o ≡ Some n → IsTrue (refers_within count n)) → (c : Choice) (b : Block) (d : Name) → ChoiceLeads o c b d → d.node < count
 leads_within count None closed c b d f = absurd f
 leads_within count (Some n) closed (mapped_by i j) b d f =
     let P : Entry → Bool = λ e. list_all (λ d. nat_lt d.node count) e.dests in

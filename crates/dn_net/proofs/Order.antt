@@ -7,7 +7,7 @@ use Rattle.dn_net.specs.declared.node.Entry.{Entry}
 use Rattle.dn_net.specs.declared.node.NodeDecl.{NodeDecl}
 use Rattle.dn_net.specs.Chain.{Member}
 use Rattle.dn_net.specs.Decode.{within}
-use Rattle.dn_net.specs.Walks.{Choice, in_some_entry, gaps, Leg, dest_legs, entry_legs, gap_legs, legs, legs_of, in_order, Walk, meets, onto, extended, still, stills, level, starts_before, live_walks, EarlierDest, ChooseBefore, SameSpan, Precedes}
+use Rattle.dn_net.specs.Walks.{Choice, in_some_entry, gaps, Leg, dest_legs, entry_legs, gap_legs, legs, legs_of, in_order, Walk, meets, onto, extensions_of, still_walk, still_walks, level, starts_before, live_walks, EarlierDest, ChooseBefore, SameSpan, Precedes}
 use Rattle.dn_net.specs.WalkRules.{LiveWalksAreInOrder}
 use Rattle.dn_net.specs.Rules.{KeepsNodeRules}
 use Rattle.dn_net.proofs.Least.{within_from, within_to}
@@ -138,22 +138,22 @@ choose_more (c ∷ cs) (d ∷ ds) xs ys (inr h) = inr (h.0, choose_more cs ds xs
 abbrev pub WalkBefore : Walk → Walk → Type 0
 WalkBefore w v = w.start ≡ v.start → (a : ℕ) → IsTrue (within a w.span) → IsTrue (within a v.span) → ChooseBefore w.choices v.choices
 
-stills_ordered : (n : ℕ) (ds : List NodeDecl) → Pairwise WalkBefore (stills n ds)
+stills_ordered : (n : ℕ) (ds : List NodeDecl) → Pairwise WalkBefore (still_walks n ds)
 stills_ordered n [] = tt
 stills_ordered n (d ∷ ds) = (first, stills_ordered (suc n) ds)
   where
     never : (i : ℕ) → n ≡ suc n + i → ⊥
     never i e = omega arith
 
-    place : (from : ℕ) (rest : List NodeDecl) (v : Walk) → Member v (stills from rest) → (i : ℕ) × (still (from + i) ≡ v)
+    place : (from : ℕ) (rest : List NodeDecl) (v : Walk) → Member v (still_walks from rest) → (i : ℕ) × (still_walk (from + i) ≡ v)
     place from [] v m = absurd m
-    place from (x ∷ rest) v (inl e) = let s : from + 0 ≡ from = omega arith in (0, ap still s ∙ e)
-    place from (x ∷ rest) v (inr m) = let r = place (suc from) rest v m in let s : from + suc r.0 ≡ suc from + r.0 = omega arith in (suc r.0, ap still s ∙ r.1)
+    place from (x ∷ rest) v (inl e) = let s : from + 0 ≡ from = omega arith in (0, ap still_walk s ∙ e)
+    place from (x ∷ rest) v (inr m) = let r = place (suc from) rest v m in let s : from + suc r.0 ≡ suc from + r.0 = omega arith in (suc r.0, ap still_walk s ∙ r.1)
 
-    first : (v : Walk) → Member v (stills (suc n) ds) → WalkBefore (still n) v
+    first : (v : Walk) → Member v (still_walks (suc n) ds) → WalkBefore (still_walk n) v
     first v m =
         let r = place (suc n) ds v m in
-        subst (λ x. WalkBefore (still n) x) r.1 (λ e. absurd (never r.0 e))
+        subst (λ x. WalkBefore (still_walk n) x) r.1 (λ e. absurd (never r.0 e))
 
 -- what is kept of a leg by which a walk goes on
 record GoesOn (net : List NodeDecl) (w u : Walk) : Type 0 where
@@ -162,7 +162,7 @@ record GoesOn (net : List NodeDecl) (w u : Walk) : Type 0 where
   met : meets w leg ≡ true
   same : onto w leg ≡ u
 
-goes_on_by : (net : List NodeDecl) (w u : Walk) → Member u (extended net w) → GoesOn net w u
+goes_on_by : (net : List NodeDecl) (w u : Walk) → Member u (extensions_of net w) → GoesOn net w u
 goes_on_by net w u m =
     let q = map_member (onto w) (filter (meets w) (legs_of (slice_get net w.to.node))) u m in
     let f = member_filter (meets w) (legs_of (slice_get net w.to.node)) q.0 q.1 in
@@ -176,7 +176,7 @@ module _ (net : List NodeDecl) (checked : KeepsNodeRules net) where
   inside k w m l n met a h = onto_within net checked k w (level_is_row net checked k w m) l (leads_of_leg (slice_get net w.to.node) (λ n e. apart_at w.to.node n e) l n) met a h
 
   -- the walks that go on from one walk
-  extended_ordered : (k : ℕ) (w : Walk) → Member w (level net k) → Pairwise WalkBefore (extended net w)
+  extended_ordered : (k : ℕ) (w : Walk) → Member w (level net k) → Pairwise WalkBefore (extensions_of net w)
   extended_ordered k w m = pairs_map WalkBefore (onto w) (filter (meets w) (legs_of (slice_get net w.to.node))) (pairs_more LegBefore (λ l n. WalkBefore (onto w l) (onto w n)) (filter (meets w) (legs_of (slice_get net w.to.node))) each (pairs_filter LegBefore (meets w) (legs_of (slice_get net w.to.node)) (legs_of_ordered (slice_get net w.to.node) (λ n e. apart_at w.to.node n e))))
     where
       each : (l n : Leg) → Member l (filter (meets w) (legs_of (slice_get net w.to.node))) → Member n (filter (meets w) (legs_of (slice_get net w.to.node))) → LegBefore l n → WalkBefore (onto w l) (onto w n)
@@ -189,9 +189,9 @@ module _ (net : List NodeDecl) (checked : KeepsNodeRules net) where
 
   pub level_ordered : (k : ℕ) → Pairwise WalkBefore (level net k)
   level_ordered zero = stills_ordered 0 net
-  level_ordered (suc k) = pairs_flat_map WalkBefore WalkBefore (extended net) (level net k) (level_ordered k) (extended_ordered k) across
+  level_ordered (suc k) = pairs_flat_map WalkBefore WalkBefore (extensions_of net) (level net k) (level_ordered k) (extended_ordered k) across
     where
-      across : (w v u x : Walk) → Member w (level net k) → Member v (level net k) → WalkBefore w v → Member u (extended net w) → Member x (extended net v) → WalkBefore u x
+      across : (w v u x : Walk) → Member w (level net k) → Member v (level net k) → WalkBefore w v → Member u (extensions_of net w) → Member x (extensions_of net v) → WalkBefore u x
       across w v u x m n before p q =
           let r = goes_on_by net w u p in
           let s = goes_on_by net v x q in

@@ -10,7 +10,7 @@ use Rattle.indexmap.specs.IndexMap.{insert_entry}
 use Rattle.dn_net.specs.declared.node.Dest.{Dest}
 use Rattle.dn_net.specs.declared.node.NodeDecl.{NodeDecl}
 use Rattle.dn_net.specs.declared.net.Parts.{Parts}
-use Rattle.dn_net.specs.Parts.{declared_by}
+use Rattle.dn_net.specs.Parts.{declaration_by}
 
 pub length-map : {X Y : Type 0} (f : X → Y) (xs : List X) → length (map f xs) ≡ length xs
 length-map f [] = refl
@@ -36,7 +36,7 @@ insert_entry-new f p eq k v same (e ∷ es) h =
     simp (same e, parts.0, insert_entry-new f p eq k v same es parts.1)
 
 -- the declaration of an added node is shown as it was given
-pub declared_new : {S : Type 0} (text : S → List ℕ) (k : S) (decl : NodeDecl) (parts : Parts) → text k ≡ decl.text → parts.role ≡ decl.role → parts.accepts ≡ decl.accepts → parts.entries ≡ decl.entries → option_map (λ (d : Dest). d.node) parts.over ≡ decl.over → parts.unit ≡ decl.unit → declared_by text (k, parts) ≡ decl
+pub declared_new : {S : Type 0} (text : S → List ℕ) (k : S) (decl : NodeDecl) (parts : Parts) → text k ≡ decl.text → parts.role ≡ decl.role → parts.accepts ≡ decl.accepts → parts.entries ≡ decl.entries → option_map (λ (d : Dest). d.node) parts.over ≡ decl.over → parts.unit ≡ decl.unit → declaration_by text (k, parts) ≡ decl
 declared_new text k decl parts t r a e o u = λ i. record { text = t i; role = r i; accepts = a i; entries = e i; over = o i; unit = u i }
 
 any_false-at : {X : Type 0} (p : X → Bool) (xs : List X) (k : ℕ) (d : X) → list_any p xs ≡ false → k < length xs → p (get_or xs k d) ≡ false

@@ -11,7 +11,7 @@ use Rattle.dn_net.specs.Chain.{Member, Reaches}
 use Rattle.dn_net.specs.Decode.{is_stop, unit_of, unit_at, Step}
 use Rattle.dn_net.specs.Names.{stop_names}
 use Rattle.dn_net.specs.Firsts.{or_else, first_below}
-use Rattle.dn_net.specs.UnitRules.{reaches_unit, port_leads, part_leads, unit_leads, units_from, unit_numbers, next_units, rows_from, unit_rows, slots_product, slots_limit, is_large, first_row, large_row, first_chain, IsShallow, LeadsTo, LeadsOn, IsUnitRow, NoLaterRow, IsFirstOfFour, IsLargeRow, IsFirstLarge, HasShortRows, ChainIsFirst}
+use Rattle.dn_net.specs.UnitRules.{reaches_unit, port_leads, unit_part_leads, unit_leads, units_from, unit_numbers, next_units, unit_rows_from, unit_rows, slots_product, slots_limit, is_large, first_row, large_row, first_chain, IsShallow, LeadsTo, LeadsOn, IsUnitRow, NoLaterRow, IsFirstOfFour, IsLargeRow, IsFirstLarge, HasShortRows, ChainIsFirst}
 use Rattle.dn_net.proofs.Firsts.{IsFirstOr, first_is}
 use Rattle.dn_net.proofs.Members.{member_filter, filter_member, member_flat_map, flat_map_member}
 use Rattle.dn_net.proofs.Pairs.{Pairwise, pairs_filter, pairs_flat_map, pairs_map, pairs_more}
@@ -47,7 +47,7 @@ below_some p n a l h = by (first_below p n) (first_is p n)
 pub leads_sound : (net : List NodeDecl) (u w : ℕ) → unit_leads net u w ≡ true → LeadsTo net u w
 leads_sound net u w h = by (unit_at net u) refl h
   where
-    by : (o : Option UnitPart) → unit_at net u ≡ o → part_leads net w o ≡ true → LeadsTo net u w
+    by : (o : Option UnitPart) → unit_at net u ≡ o → unit_part_leads net w o ≡ true → LeadsTo net u w
     by None e k = cc
     by (Some part) e k =
         let m = any_member (port_leads net w part.reach) part.ports k in
@@ -58,7 +58,7 @@ leads_sound net u w h = by (unit_at net u) refl h
 pub leads_found : (net : List NodeDecl) → IsShallow net → (u w : ℕ) → LeadsTo net u w → unit_leads net u w ≡ true
 leads_found net shallow u w l =
     let port = port_of l.part l.port l.addr l.stop l.below l.reaches l.is_stop l.is_end in
-    ap (part_leads net w) l.is_part ∙ member_any (port_leads net w l.part.reach) l.part.ports l.port l.has_port port
+    ap (unit_part_leads net w) l.is_part ∙ member_any (port_leads net w l.part.reach) l.part.ports l.port l.has_port port
   where
     port_of : (part : UnitPart) (port a : ℕ) (s : Name) → a < 2 ^ part.reach → Reaches (Step net) (record { node = port; addr = a }) s → IsTrue (is_stop net s) → s.node ≡ w → port_leads net w part.reach port ≡ true
     port_of part port a s below r is e = below_some (λ a. reaches_unit net w (record { node = port; addr = a })) (2 ^ part.reach) a below (reached net shallow w (record { node = port; addr = a }) s is r e)
@@ -130,30 +130,30 @@ abbrev pub RowIn : (ℕ → List ℕ) → List ℕ → List ℕ → Type 0
 RowIn next first [] = Unit {0}
 RowIn next first (u ∷ us) = Member u first × RowIn next (next u) us
 
-pub rows-zero : (next : ℕ → List ℕ) (first : List ℕ) → rows_from next 0 first ≡ [] ∷ []
-unfolding rows_from
+pub rows-zero : (next : ℕ → List ℕ) (first : List ℕ) → unit_rows_from next 0 first ≡ [] ∷ []
+unfolding unit_rows_from
 rows-zero next first = refl
 
-pub rows-suc : (next : ℕ → List ℕ) (k : ℕ) (first : List ℕ) → rows_from next (suc k) first ≡ flat_map (λ u. map (λ us. u ∷ us) (rows_from next k (next u))) first
-unfolding rows_from
+pub rows-suc : (next : ℕ → List ℕ) (k : ℕ) (first : List ℕ) → unit_rows_from next (suc k) first ≡ flat_map (λ u. map (λ us. u ∷ us) (unit_rows_from next k (next u))) first
+unfolding unit_rows_from
 rows-suc next k first = refl
 
-pub row_listed : (next : ℕ → List ℕ) (k : ℕ) (first us : List ℕ) → length us ≡ k → RowIn next first us → Member us (rows_from next k first)
+pub row_listed : (next : ℕ → List ℕ) (k : ℕ) (first us : List ℕ) → length us ≡ k → RowIn next first us → Member us (unit_rows_from next k first)
 row_listed next zero first [] e r = subst (λ l. Member [] l) (sym (rows-zero next first)) (inl refl)
 row_listed next zero first (u ∷ us) e r = absurd (omega arith)
 row_listed next (suc k) first [] e r = absurd (omega arith)
 row_listed next (suc k) first (u ∷ us) e r = subst (λ l. Member (u ∷ us) l) (sym (rows-suc next k first))
-    (flat_map_member (λ u. map (λ us. u ∷ us) (rows_from next k (next u))) first u (u ∷ us) r.0
-    (member_map (λ us. u ∷ us) (rows_from next k (next u)) us (row_listed next k (next u) us (omega arith) r.1)))
+    (flat_map_member (λ u. map (λ us. u ∷ us) (unit_rows_from next k (next u))) first u (u ∷ us) r.0
+    (member_map (λ us. u ∷ us) (unit_rows_from next k (next u)) us (row_listed next k (next u) us (omega arith) r.1)))
 
-pub listed_row : (next : ℕ → List ℕ) (k : ℕ) (first us : List ℕ) → Member us (rows_from next k first) → (length us ≡ k) × RowIn next first us
+pub listed_row : (next : ℕ → List ℕ) (k : ℕ) (first us : List ℕ) → Member us (unit_rows_from next k first) → (length us ≡ k) × RowIn next first us
 listed_row next zero first us m = elim (subst (λ l. Member us l) (rows-zero next first) m) [
   | inl e ↦ subst (λ vs. (length vs ≡ 0) × RowIn next first vs) e (refl, tt)
   | inr n ↦ absurd n
 ]
 listed_row next (suc k) first us m =
-    let r = member_flat_map (λ u. map (λ us. u ∷ us) (rows_from next k (next u))) first us (subst (λ l. Member us l) (rows-suc next k first) m) in
-    let q = map_member (λ us. r.0 ∷ us) (rows_from next k (next r.0)) us r.2 in
+    let r = member_flat_map (λ u. map (λ us. u ∷ us) (unit_rows_from next k (next u))) first us (subst (λ l. Member us l) (rows-suc next k first) m) in
+    let q = map_member (λ us. r.0 ∷ us) (unit_rows_from next k (next r.0)) us r.2 in
     let h = listed_row next k (next r.0) q.0 q.1 in
     let l : length q.0 ≡ k = h.0 in
     subst (λ vs. (length vs ≡ suc k) × RowIn next first vs) q.2 ((omega arith), (r.1, h.1))
@@ -179,9 +179,9 @@ turn_flat f first a t = pairs_flat_map (λ u v. u < v) NoLaterRow (λ u. map (λ
         subst (λ ws. NoLaterRow us ws) s.2 (subst (λ ws. NoLaterRow ws (v ∷ s.0)) r.2 (inl l))
 
 -- the rows are in order
-pub rows_in_turn : (next : ℕ → List ℕ) → ((u : ℕ) → Ascending (next u)) → (k : ℕ) (first : List ℕ) → Ascending first → InTurn (rows_from next k first)
+pub rows_in_turn : (next : ℕ → List ℕ) → ((u : ℕ) → Ascending (next u)) → (k : ℕ) (first : List ℕ) → Ascending first → InTurn (unit_rows_from next k first)
 rows_in_turn next each zero first a = subst InTurn (sym (rows-zero next first)) ((λ vs m. absurd m), tt)
-rows_in_turn next each (suc k) first a = subst InTurn (sym (rows-suc next k first)) (turn_flat (λ u. rows_from next k (next u)) first a (λ u. rows_in_turn next each k (next u) (each u)))
+rows_in_turn next each (suc k) first a = subst InTurn (sym (rows-suc next k first)) (turn_flat (λ u. unit_rows_from next k (next u)) first a (λ u. rows_in_turn next each k (next u) (each u)))
 
 -- the first of rows in order, or that there is none
 pub record IsFirstRow (rows : List (List ℕ)) (us : List ℕ) : Type 0 where
@@ -390,7 +390,7 @@ chain_there net us e = either There (first_row (unit_rows net 4)) (or_else (larg
 
 -- a net with no unit has no row of units
 no_row : (net : List NodeDecl) → unit_numbers net ≡ [] → (k : ℕ) → unit_rows net (suc k) ≡ []
-no_row net e k = ap (rows_from (next_units net) (suc k)) e ∙ rows-suc (next_units net) k []
+no_row net e k = ap (unit_rows_from (next_units net) (suc k)) e ∙ rows-suc (next_units net) k []
 
 pub no_chain : (net : List NodeDecl) → unit_numbers net ≡ [] → first_chain net ≡ None
 no_chain net e =

@@ -6,7 +6,7 @@ use Rattle.dn_net.specs.declared.node.NodeDecl.{NodeDecl}
 use Rattle.dn_net.specs.Chain.{Member, IsChain}
 use Rattle.dn_net.specs.Decode.{top, steps, step_limit, Step}
 use Rattle.dn_net.specs.Names.{name_lt, name_eq, with_name, sorted_names}
-use Rattle.dn_net.specs.WalkRules.{first_of, behind, way_by, least_name, comes_to, comes_back, goes_on, cycle_from, path_from, path_names, NotAfter, Along, IsLeastCycle, CycleIsLeast, IsLeastPath, PathIsLeast}
+use Rattle.dn_net.specs.WalkRules.{first_of, names_behind, way_by, least_name, comes_to, comes_back, goes_on, cycle_from, path_from, path_names, NotAfter, Along, IsLeastCycle, CycleIsLeast, IsLeastPath, PathIsLeast}
 use Rattle.dn_net.specs.Rules.{KeepsNodeRules}
 use Rattle.dn_net.proofs.Ascending.{transitive}
 use Rattle.dn_net.proofs.Cycles.{comes_to_is_chain, goes_on_is_chain, stepping_in_range}
@@ -85,7 +85,7 @@ module _ (net : List NodeDecl) (Q : Name → Type 0) (leads : ℕ → Name → B
       among : (z y : Name) → Q y → Step net x z → IsChain (Step net) k z y → Member z (filter (leads k) (steps net x))
       among z y q s c = filter_member (leads k) (steps net x) z s ((sound k z).1 (y, q, c))
 
-      by : (o : Option Name) → IsFirstNameOr (filter (leads k) (steps net x)) o → ((z : Name) → leads k z ≡ true → IsLeastWay net Q k z (way_by (steps net) leads k z)) → IsLeastWay net Q (suc k) x (behind o (λ z. way_by (steps net) leads k z))
+      by : (o : Option Name) → IsFirstNameOr (filter (leads k) (steps net x)) o → ((z : Name) → leads k z ≡ true → IsLeastWay net Q k z (way_by (steps net) leads k z)) → IsLeastWay net Q (suc k) x (names_behind o (λ z. way_by (steps net) leads k z))
       by None f ih = absurd (f r.2.0 (among r.2.0 r.0 r.1 r.2.1 r.2.2))
       by (Some z) f ih = record { end = w.end; is_end = w.is_end; along = (m.0, w.along); least = least }
         where

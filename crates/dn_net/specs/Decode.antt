@@ -56,8 +56,8 @@ abbrev pub is_stop : List NodeDecl → Name → Bool
 is_stop net x = is_stop_at x.addr (unit_at net x.node)
 
 -- a destination, moved on by an offset
-abbrev pub moved : ℕ → Dest → Name
-moved offset d = record { node = d.node; addr = d.addr + offset }
+abbrev pub dest_name : ℕ → Dest → Name
+dest_name offset d = record { node = d.node; addr = d.addr + offset }
 
 -- where an address goes on: destinations, and by how much the address of each is raised
 pub record Sent : Type 0 where
@@ -87,7 +87,7 @@ decode a (Some n) =
 -- the names to which it is sent
 abbrev pub sent_names : Option Sent → List Name
 sent_names None = []
-sent_names (Some s) = map (moved s.offset) s.dests
+sent_names (Some s) = map (dest_name s.offset) s.dests
 
 -- the names to which a name decodes in one step
 abbrev pub steps : List NodeDecl → Name → List Name

@@ -53,22 +53,22 @@ abbrev pub overlaps : NodeDecl → ℕ → Bool
 overlaps n a = nat_lt 1 (map_blocks_at n a) || (nat_lt 0 (map_blocks_at n a) && in_some_block a n.accepts)
 
 -- the first addresses of the blocks
-abbrev pub firsts : NodeDecl → List ℕ
-firsts n = map (λ e. e.block.lo) n.entries ++ map (λ b. b.lo) n.accepts
+abbrev pub first_addresses : NodeDecl → List ℕ
+first_addresses n = map (λ e. e.block.lo) n.entries ++ map (λ b. b.lo) n.accepts
 
 -- the lesser of a number and one that may be there
-abbrev pub lesser : ℕ → Option ℕ → Option ℕ
-lesser a None = Some a
-lesser a (Some b) = Some (if nat_le a b then a else b)
+abbrev pub lesser_number : ℕ → Option ℕ → Option ℕ
+lesser_number a None = Some a
+lesser_number a (Some b) = Some (if nat_le a b then a else b)
 
 -- the least of some numbers
-abbrev pub least : List ℕ → Option ℕ
-least [] = None
-least (a ∷ as') = lesser a (least as')
+abbrev pub least_number : List ℕ → Option ℕ
+least_number [] = None
+least_number (a ∷ as') = lesser_number a (least_number as')
 
 -- the least address that overlaps: it is the first address of a block
 abbrev pub least_overlap : NodeDecl → Option ℕ
-least_overlap n = least (filter (overlaps n) (firsts n))
+least_overlap n = least_number (filter (overlaps n) (first_addresses n))
 
 -- an address overlaps, and none below it does
 pub record IsLeastOverlap (n : NodeDecl) (a : ℕ) : Type 0 where

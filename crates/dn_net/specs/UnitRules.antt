@@ -43,13 +43,13 @@ port_leads net w reach port =
     is_some (first_below (λ a. reaches_unit net w (record { node = port; addr = a })) (2 ^ reach))
 
 -- some port of a unit does, where the node is one
-abbrev pub part_leads : List NodeDecl → ℕ → Option UnitPart → Bool
-part_leads net w None = false
-part_leads net w (Some u) = list_any (port_leads net w u.reach) u.ports
+abbrev pub unit_part_leads : List NodeDecl → ℕ → Option UnitPart → Bool
+unit_part_leads net w None = false
+unit_part_leads net w (Some u) = list_any (port_leads net w u.reach) u.ports
 
 -- the unit of one number leads to that of another
 abbrev pub unit_leads : List NodeDecl → ℕ → ℕ → Bool
-unit_leads net u w = part_leads net w (unit_at net u)
+unit_leads net u w = unit_part_leads net w (unit_at net u)
 
 -- the numbers of the units among nodes of which the first has this number
 abbrev pub units_from : ℕ → List NodeDecl → List ℕ
@@ -67,23 +67,23 @@ next_units net u = filter (unit_leads net u) (unit_numbers net)
 
 -- the rows of so many units of which the first is one of these and each is one of those next to the
 -- one before it, in order of their numbers
-unfoldable pub rows_from : (ℕ → List ℕ) → ℕ → List ℕ → List (List ℕ)
-rows_from next zero first = [] ∷ []
-rows_from next (suc k) first = flat_map (λ u. map (λ us. u ∷ us) (rows_from next k (next u))) first
+unfoldable pub unit_rows_from : (ℕ → List ℕ) → ℕ → List ℕ → List (List ℕ)
+unit_rows_from next zero first = [] ∷ []
+unit_rows_from next (suc k) first = flat_map (λ u. map (λ us. u ∷ us) (unit_rows_from next k (next u))) first
 
 -- the rows of so many units, each of which leads to the next, in order of their numbers
 abbrev pub unit_rows : List NodeDecl → ℕ → List (List ℕ)
-unit_rows net k = rows_from (next_units net) k (unit_numbers net)
+unit_rows net k = unit_rows_from (next_units net) k (unit_numbers net)
 
 -- how many slots the unit has; what is no unit counts as one
-abbrev pub slots_of : Option UnitPart → ℕ
-slots_of None = 1
-slots_of (Some u) = u.slots
+abbrev pub unit_slots : Option UnitPart → ℕ
+unit_slots None = 1
+unit_slots (Some u) = u.slots
 
 -- the slots of the units of a row, multiplied
 abbrev pub slots_product : List NodeDecl → List ℕ → ℕ
 slots_product net [] = 1
-slots_product net (u ∷ us) = slots_of (unit_at net u) * slots_product net us
+slots_product net (u ∷ us) = unit_slots (unit_at net u) * slots_product net us
 
 -- the most that the slots of a row multiply to
 unfoldable pub slots_limit : ℕ

@@ -38,14 +38,14 @@ unfoldable pub shortest_cycle : List NodeDecl → Option ℕ
 shortest_cycle net = shortest_within net (step_limit - 1)
 
 -- the names behind a name, one step after another: at each place the least step from which the rest can be taken
-abbrev pub behind : Option Name → (Name → List Name) → List Name
-behind None rest = []
-behind (Some z) rest = z ∷ rest z
+abbrev pub names_behind : Option Name → (Name → List Name) → List Name
+names_behind None rest = []
+names_behind (Some z) rest = z ∷ rest z
 
 -- the names behind a name, each the least step from which the rest can be taken
 abbrev pub way_by : (Name → List Name) → (ℕ → Name → Bool) → ℕ → Name → List Name
 way_by f leads zero x = []
-way_by f leads (suc k) x = behind (first_of (sorted_names (filter (leads k) (f x)))) (λ z. way_by f leads k z)
+way_by f leads (suc k) x = names_behind (first_of (sorted_names (filter (leads k) (f x)))) (λ z. way_by f leads k z)
 
 -- the names of the cycle of so many steps from the least name that has one
 abbrev pub cycle_from : List NodeDecl → ℕ → Option Name → List Name

@@ -19,22 +19,22 @@ in_some_entry a [] = false
 in_some_entry a (e ∷ es) = within a e.block || in_some_entry a es
 
 -- the node neither accepts nor maps the address
-abbrev pub is_free : NodeDecl → ℕ → Bool
-is_free n a = not (in_some_block a n.accepts) && not (in_some_entry a n.entries)
+abbrev pub is_in_no_block : NodeDecl → ℕ → Bool
+is_in_no_block n a = not (in_some_block a n.accepts) && not (in_some_entry a n.entries)
 
 -- a gap: the addresses from lo to hi are free, and no more beside them are
 pub record IsGap (n : NodeDecl) (lo hi : ℕ) : Type 0 where
   pub order : lo ≤ hi
   pub low : hi ≤ top
-  pub free : (a : ℕ) → lo ≤ a → a ≤ hi → is_free n a ≡ true
-  pub below : (a : ℕ) → lo ≡ suc a → is_free n a ≡ false
-  pub above : hi < top → is_free n (suc hi) ≡ false
+  pub free : (a : ℕ) → lo ≤ a → a ≤ hi → is_in_no_block n a ≡ true
+  pub below : (a : ℕ) → lo ≡ suc a → is_in_no_block n a ≡ false
+  pub above : hi < top → is_in_no_block n (suc hi) ≡ false
 
 -- the addresses that a choice leads on, and the name to which the first of them goes
-abbrev pub Leads : Option NodeDecl → Choice → Block → Name → Type 0
-Leads None c b d = ⊥
-Leads (Some n) (mapped_by i j) b d = (e : Entry) × (to : Dest) × (slice_get n.entries i ≡ Some e) × (slice_get e.dests j ≡ Some to) × (b ≡ e.block) × (d ≡ record { node = to.node; addr = to.addr })
-Leads (Some n) (over_gap lo hi) b d = (m : ℕ) × (n.over ≡ Some m) × IsGap n lo hi × (b ≡ record { lo = lo; hi = hi }) × (d ≡ record { node = m; addr = lo })
+abbrev pub ChoiceLeads : Option NodeDecl → Choice → Block → Name → Type 0
+ChoiceLeads None c b d = ⊥
+ChoiceLeads (Some n) (mapped_by i j) b d = (e : Entry) × (to : Dest) × (slice_get n.entries i ≡ Some e) × (slice_get e.dests j ≡ Some to) × (b ≡ e.block) × (d ≡ record { node = to.node; addr = to.addr })
+ChoiceLeads (Some n) (over_gap lo hi) b d = (m : ℕ) × (n.over ≡ Some m) × IsGap n lo hi × (b ≡ record { lo = lo; hi = hi }) × (d ≡ record { node = m; addr = lo })
 
 -- a name so many addresses further
 abbrev pub moved_name : ℕ → Name → Name
@@ -43,7 +43,7 @@ moved_name offset x = record { node = x.node; addr = x.addr + offset }
 -- the name follows the choices to another name
 abbrev pub Follows : List NodeDecl → Name → List Choice → Name → Type 0
 Follows net x [] y = x ≡ y
-Follows net x (c ∷ cs) y = (b : Block) × (d : Name) × Leads (slice_get net x.node) c b d × IsTrue (within x.addr b) × Follows net (moved_name (x.addr - b.lo) d) cs y
+Follows net x (c ∷ cs) y = (b : Block) × (d : Name) × ChoiceLeads (slice_get net x.node) c b d × IsTrue (within x.addr b) × Follows net (moved_name (x.addr - b.lo) d) cs y
 
 -- the choices are a live walk from the node: some address of it follows all of them
 abbrev pub IsLive : List NodeDecl → ℕ → List Choice → Type 0
@@ -67,12 +67,12 @@ cut_each [] spans = spans
 cut_each (b ∷ bs) spans = cut_out b (cut_each bs spans)
 
 -- every address
-abbrev pub whole : Block
-whole = record { lo = 0; hi = top }
+abbrev pub all_addresses : Block
+all_addresses = record { lo = 0; hi = top }
 
 -- the gaps of a node, ascending: what is left of all addresses when each block is cut out
 abbrev pub gaps : NodeDecl → List Block
-gaps n = cut_each (map (λ e. e.block) n.entries ++ n.accepts) (whole ∷ [])
+gaps n = cut_each (map (λ e. e.block) n.entries ++ n.accepts) (all_addresses ∷ [])
 
 -- a choice with the addresses that it leads on, and the name to which the first of them goes
 pub record Leg : Type 0 where
@@ -130,8 +130,8 @@ abbrev pub meets : Walk → Leg → Bool
 meets w l = nat_le w.to.addr l.block.hi && nat_le l.block.lo (last_out w)
 
 -- the greater of two numbers
-abbrev pub greater : ℕ → ℕ → ℕ
-greater a b = if nat_lt a b then b else a
+abbrev pub greater_of : ℕ → ℕ → ℕ
+greater_of a b = if nat_lt a b then b else a
 
 -- the lesser of two numbers
 abbrev pub lesser_of : ℕ → ℕ → ℕ
@@ -139,7 +139,7 @@ lesser_of a b = if nat_lt b a then b else a
 
 -- the walk with one more leg, for the addresses that go on by it
 abbrev pub onto : Walk → Leg → Walk
-onto w l = cut (greater w.to.addr l.block.lo) (lesser_of (last_out w) l.block.hi)
+onto w l = cut (greater_of w.to.addr l.block.lo) (lesser_of (last_out w) l.block.hi)
   where
     cut : ℕ → ℕ → Walk
     cut lo hi = record {
@@ -150,22 +150,22 @@ onto w l = cut (greater w.to.addr l.block.lo) (lesser_of (last_out w) l.block.hi
     }
 
 -- the walks that go on from a walk by one more choice
-abbrev pub extended : List NodeDecl → Walk → List Walk
-extended net w = map (onto w) (filter (meets w) (legs_of (slice_get net w.to.node)))
+abbrev pub extensions_of : List NodeDecl → Walk → List Walk
+extensions_of net w = map (onto w) (filter (meets w) (legs_of (slice_get net w.to.node)))
 
 -- the walk of no choice from a node: each address comes to itself
-abbrev pub still : ℕ → Walk
-still n = record { start = n; choices = []; span = whole; to = record { node = n; addr = 0 } }
+abbrev pub still_walk : ℕ → Walk
+still_walk n = record { start = n; choices = []; span = all_addresses; to = record { node = n; addr = 0 } }
 
 -- the walks of no choice of nodes, of which the first has this number
-abbrev pub stills : ℕ → List NodeDecl → List Walk
-stills n [] = []
-stills n (d ∷ ds) = still n ∷ stills (suc n) ds
+abbrev pub still_walks : ℕ → List NodeDecl → List Walk
+still_walks n [] = []
+still_walks n (d ∷ ds) = still_walk n ∷ still_walks (suc n) ds
 
 -- the live walks of so many choices: each of one fewer goes on
 abbrev pub level : List NodeDecl → ℕ → List Walk
-level net zero = stills 0 net
-level net (suc k) = flat_map (extended net) (level net k)
+level net zero = still_walks 0 net
+level net (suc k) = flat_map (extensions_of net) (level net k)
 
 -- walks of one length are ordered by their starts, then by the first and the last addresses of their spans
 abbrev pub starts_before : Walk → Walk → Bool

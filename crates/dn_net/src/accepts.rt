@@ -63,11 +63,11 @@ fn rows_of(alloc: Global, blocks: &[Block]) -> Result<Vec<Block>, AllocError>
 {
     let mut sorted = Vec::from_slice(alloc, blocks)?;
     sorted.sort_unstable_by_key(|block| block.lo);
-    stretched(alloc, &sorted)
+    stretched_blocks(alloc, &sorted)
 }
 
 /// Each block from its first address to the greatest last address so far.
-fn stretched(alloc: Global, blocks: &[Block]) -> Result<Vec<Block>, AllocError>
+fn stretched_blocks(alloc: Global, blocks: &[Block]) -> Result<Vec<Block>, AllocError>
     requires sorted { IsNonDecreasingBy (λ b. b.lo) blocks.now }
     ensures firsts { IfOk result (λ v. IsNonDecreasingBy (λ b. b.lo) v.items) }
     ensures lasts { IfOk result (λ v. IsNonDecreasingBy (λ b. b.hi) v.items) }
@@ -77,7 +77,7 @@ fn stretched(alloc: Global, blocks: &[Block]) -> Result<Vec<Block>, AllocError>
     let mut rows = Vec::with_capacity(alloc, blocks.len())?;
     let mut reach = 0;
     for block in blocks {
-        reach = greater(reach, block.hi);
+        reach = greater_of(reach, block.hi);
         rows.push(Block {
             lo: block.lo,
             hi: reach,
@@ -86,7 +86,7 @@ fn stretched(alloc: Global, blocks: &[Block]) -> Result<Vec<Block>, AllocError>
     Ok(rows)
 }
 
-fn greater(one: u64, other: u64) -> u64
+fn greater_of(one: u64, other: u64) -> u64
     ensures { result ≡ (if nat_lt one other then other else one) }
 {
     if one < other { other } else { one }

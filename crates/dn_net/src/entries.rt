@@ -100,7 +100,7 @@ fn entry_at<'a>(entries: &'a [Entry], order: &[Place], addr: u64) -> Option<&'a 
     ensures each { IfSome result (λ e. (P : Entry → Bool) → IsTrue (list_all P entries.now)
         → IsTrue (P e.now)) }
 {
-    let Some(place) = latest(order, addr) else {
+    let Some(place) = last_before(order, addr) else {
         return None;
     };
     let Some(entry) = entries.get(place.entry) else {
@@ -113,7 +113,7 @@ fn entry_at<'a>(entries: &'a [Entry], order: &[Place], addr: u64) -> Option<&'a 
 }
 
 /// The last place whose block begins at or before the address.
-fn latest(order: &[Place], addr: u64) -> Option<&Place>
+fn last_before(order: &[Place], addr: u64) -> Option<&Place>
     requires { IsNonDecreasingBy (λ p. p.first) order.now }
     ensures none { IfNone result (All (λ p. addr < p.first) order.now) }
     ensures there { IfSome result (λ p. Contains order.now p.now) }

@@ -68,13 +68,13 @@ impl Model for Net {
     ghost use Rattle.std.specs.String.{string_bytes};
     ghost use Rattle.dn_net.specs.declared.node.NodeDecl.{NodeDecl};
     ghost use Rattle.dn_net.specs.Legal.{node_limit};
-    ghost use Rattle.dn_net.specs.Parts.{declared_by, over_is_based};
+    ghost use Rattle.dn_net.specs.Parts.{declaration_by, over_is_based};
 
     ghost Value = { List NodeDecl };
 
-    ghost view = { λ n. map (declared_by (λ s. string_bytes s)) n.nodes.entries };
+    ghost view = { λ n. map (declaration_by (λ s. string_bytes s)) n.nodes.entries };
 
-    ghost invariant = { λ n. record { small : length n.nodes.entries ≤ node_limit; formed : IsTrue (list_all is_formed (map (declared_by (λ s. string_bytes s)) n.nodes.entries)); names_differ : AllPairs (λ (d e : NodeDecl). d.text ≢ e.text) (map (declared_by (λ s. string_bytes s)) n.nodes.entries); based : IsTrue (list_all (λ e. over_is_based e.1.over) n.nodes.entries) } };
+    ghost invariant = { λ n. record { small : length n.nodes.entries ≤ node_limit; formed : IsTrue (list_all is_formed (map (declaration_by (λ s. string_bytes s)) n.nodes.entries)); names_differ : AllPairs (λ (d e : NodeDecl). d.text ≢ e.text) (map (declaration_by (λ s. string_bytes s)) n.nodes.entries); based : IsTrue (list_all (λ e. over_is_based e.1.over) n.nodes.entries) } };
 }
 
 impl Net {

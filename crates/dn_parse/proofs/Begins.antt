@@ -4,9 +4,9 @@ use Rattle.dn_base.proofs.Booleans.{not-true, cases_Bool, false_and_true, and_fr
 use Rattle.dn_token.specs.declared.token.Sign.TheVariants.{OpenParenthesis}
 use Rattle.dn_token.specs.Token.{Lexeme, Token}
 use Rattle.dn_parse.specs.Actions.{Value}
-use Rattle.dn_parse.specs.Forms.{Form, takes, does, and_then, either, many, parenthesised, Sort, is, is_sign, kept, Spells}
+use Rattle.dn_parse.specs.Forms.{Form, takes, does, and_then, either, many, parenthesised, Sort, is, is_sign, values_with_token, Spells}
 use Rattle.dn_parse.specs.Syntax.{after_open}
-use Rattle.dn_parse.specs.Machine.{to, skips, refuses, taken, followed, or_else, repeated, move}
+use Rattle.dn_parse.specs.Machine.{to, skips, refuses, move_of_token, move_and_then, move_or_else, move_again, move}
 use Rattle.dn_parse.proofs.Taken.{Inner}
 use Rattle.dn_parse.proofs.Sets.{may_skip, given, starts, fits, among, both_left, both_right, neither_left, neither_right, one_left, one_right, one_of_two, among_append, among_left, among_right, among_first, among_second, skipped, IsOpened}
 
@@ -63,32 +63,32 @@ either_way : (a : Bool) (ys : List Sort) (l : Lexeme) → among (given a ys) l �
 either_way true ys l e f = e
 either_way false ys l e f = cc
 
-and_refused_any : (f g : Form) (vs : List Value) (l : Lexeme) → may_skip f && may_skip g ≡ false → AtOther f vs l → (may_skip f ≡ true → AtOther g (skipped f vs) l) → followed (move f vs l) g (λ ws. move g ws l) ≡ refuses
+and_refused_any : (f g : Form) (vs : List Value) (l : Lexeme) → may_skip f && may_skip g ≡ false → AtOther f vs l → (may_skip f ≡ true → AtOther g (skipped f vs) l) → move_and_then (move f vs l) g (λ ws. move g ws l) ≡ refuses
 and_refused_any f g vs l e p q = elim (cases_Bool (may_skip f)) [
   | inl a ↦ elim (cases_Bool (may_skip g)) [
     | inl b ↦ absurd (false_and_true (may_skip f && may_skip g) e (and_from (may_skip f) (may_skip g) a b))
-    | inr b ↦ ap (λ m. followed m g (λ ws. move g ws l)) (p.skipping a) ∙ (q a).refused b
+    | inr b ↦ ap (λ m. move_and_then m g (λ ws. move g ws l)) (p.skipping a) ∙ (q a).refused b
   ]
-  | inr a ↦ ap (λ m. followed m g (λ ws. move g ws l)) (p.refused a)
+  | inr a ↦ ap (λ m. move_and_then m g (λ ws. move g ws l)) (p.refused a)
 ]
 
 pub at_other : (f : Form) → fits f ≡ true → (vs : List Value) (l : Lexeme) → among (starts f) l ≡ false → AtOther f vs l
-at_other (takes s) h vs l e = record { refused = λ z. ap (λ b. taken b [] (kept s l vs)) (neither_left (is s l) false e); skipping = λ z. cc }
+at_other (takes s) h vs l e = record { refused = λ z. ap (λ b. move_of_token b [] (values_with_token s l vs)) (neither_left (is s l) false e); skipping = λ z. cc }
 at_other (does a) h vs l e = record { refused = λ z. cc; skipping = λ z. refl }
 at_other (and_then f g) h vs l e =
     let p = at_other f (both_left (fits f) _ h) vs l (among_left (starts f) (given (may_skip f) (starts g)) l e) in
     let q : may_skip f ≡ true → AtOther g (skipped f vs) l = λ a. at_other g (both_left (fits g) _ (both_right (fits f) _ h)) (skipped f vs) l (either_way (may_skip f) (starts g) l (among_right (starts f) (given (may_skip f) (starts g)) l e) a) in
     record {
       refused = λ z. and_refused_any f g vs l z p q;
-      skipping = λ z. ap (λ m. followed m g (λ ws. move g ws l)) (p.skipping (both_left (may_skip f) (may_skip g) z)) ∙ (q (both_left (may_skip f) (may_skip g) z)).skipping (both_right (may_skip f) (may_skip g) z);
+      skipping = λ z. ap (λ m. move_and_then m g (λ ws. move g ws l)) (p.skipping (both_left (may_skip f) (may_skip g) z)) ∙ (q (both_left (may_skip f) (may_skip g) z)).skipping (both_right (may_skip f) (may_skip g) z);
     }
 at_other (either f g) h vs l e =
     let p = at_other f (both_left (fits f) _ h) vs l (among_left (starts f) (starts g) l e) in
     let q = at_other g (both_left (fits g) _ (both_right (fits f) _ h)) vs l (among_right (starts f) (starts g) l e) in
     let n : may_skip f ≡ false = not-true (may_skip f) (both_left (not (may_skip f)) _ (both_right (fits g) _ (both_right (fits f) _ h))) in
     record {
-      refused = λ z. ap (λ m. or_else m (move g vs l)) (p.refused n) ∙ q.refused (neither_right (may_skip f) (may_skip g) z);
-      skipping = λ z. ap (λ m. or_else m (move g vs l)) (p.refused n) ∙ q.skipping (second (may_skip f) (may_skip g) n z);
+      refused = λ z. ap (λ m. move_or_else m (move g vs l)) (p.refused n) ∙ q.refused (neither_right (may_skip f) (may_skip g) z);
+      skipping = λ z. ap (λ m. move_or_else m (move g vs l)) (p.refused n) ∙ q.skipping (second (may_skip f) (may_skip g) n z);
     }
   where
     second : (a b : Bool) → a ≡ false → a || b ≡ true → b ≡ true
@@ -97,8 +97,8 @@ at_other (either f g) h vs l e =
 at_other (many f) h vs l e =
     let p = at_other f (both_left (fits f) _ h) vs l e in
     let n : may_skip f ≡ false = not-true (may_skip f) (both_left (not (may_skip f)) _ (both_right (fits f) _ h)) in
-    record { refused = λ z. cc; skipping = λ z. ap (λ m. repeated m (many f) vs) (p.refused n) }
-at_other parenthesised h vs l e = record { refused = λ z. ap (λ b. taken b (after_open ∷ []) vs) (neither_left (is_sign OpenParenthesis l) false e); skipping = λ z. cc }
+    record { refused = λ z. cc; skipping = λ z. ap (λ m. move_again m (many f) vs) (p.refused n) }
+at_other parenthesised h vs l e = record { refused = λ z. ap (λ b. move_of_token b (after_open ∷ []) vs) (neither_left (is_sign OpenParenthesis l) false e); skipping = λ z. cc }
 
 -- at a token with which it begins, a form takes it
 pub record Takes (f : Form) (vs : List Value) (l : Lexeme) : Type 0 where
@@ -121,30 +121,30 @@ first_or_second false xs ys l e f = elim (one_of_two (among xs l) (among [] l) (
 
 pub at_start : (f : Form) → fits f ≡ true → (vs : List Value) (l : Lexeme) → among (starts f) l ≡ true → Takes f vs l
 at_start (takes s) h vs l e = elim (one_of_two (is s l) false e) [
-  | inl a ↦ record { next = []; values = kept s l vs; taking = ap (λ b. taken b [] (kept s l vs)) a }
+  | inl a ↦ record { next = []; values = values_with_token s l vs; taking = ap (λ b. move_of_token b [] (values_with_token s l vs)) a }
   | inr b ↦ cc
 ]
 at_start (does a) h vs l e = cc
 at_start (and_then f g) h vs l e = elim (cases_Bool (among (starts f) l)) [
-  | inl a ↦ let p = at_start f (both_left (fits f) _ h) vs l a in record { next = p.next ++ g ∷ []; values = p.values; taking = ap (λ m. followed m g (λ ws. move g ws l)) p.taking }
+  | inl a ↦ let p = at_start f (both_left (fits f) _ h) vs l a in record { next = p.next ++ g ∷ []; values = p.values; taking = ap (λ m. move_and_then m g (λ ws. move g ws l)) p.taking }
   | inr a ↦
       let s = first_or_second (may_skip f) (starts f) (starts g) l e a in
       let p = at_other f (both_left (fits f) _ h) vs l a in
       let q = at_start g (both_left (fits g) _ (both_right (fits f) _ h)) (skipped f vs) l s.1 in
-      record { next = q.next; values = q.values; taking = ap (λ m. followed m g (λ ws. move g ws l)) (p.skipping s.0) ∙ q.taking }
+      record { next = q.next; values = q.values; taking = ap (λ m. move_and_then m g (λ ws. move g ws l)) (p.skipping s.0) ∙ q.taking }
 ]
 at_start (either f g) h vs l e = elim (cases_Bool (among (starts f) l)) [
-  | inl a ↦ let p = at_start f (both_left (fits f) _ h) vs l a in record { next = p.next; values = p.values; taking = ap (λ m. or_else m (move g vs l)) p.taking }
+  | inl a ↦ let p = at_start f (both_left (fits f) _ h) vs l a in record { next = p.next; values = p.values; taking = ap (λ m. move_or_else m (move g vs l)) p.taking }
   | inr a ↦
       let n : may_skip f ≡ false = not-true (may_skip f) (both_left (not (may_skip f)) _ (both_right (fits g) _ (both_right (fits f) _ h))) in
       let s = first_or_second true (starts f) (starts g) l e a in
       let p = at_other f (both_left (fits f) _ h) vs l a in
       let q = at_start g (both_left (fits g) _ (both_right (fits f) _ h)) vs l s.1 in
-      record { next = q.next; values = q.values; taking = ap (λ m. or_else m (move g vs l)) (p.refused n) ∙ q.taking }
+      record { next = q.next; values = q.values; taking = ap (λ m. move_or_else m (move g vs l)) (p.refused n) ∙ q.taking }
 ]
-at_start (many f) h vs l e = let p = at_start f (both_left (fits f) _ h) vs l e in record { next = p.next ++ many f ∷ []; values = p.values; taking = ap (λ m. repeated m (many f) vs) p.taking }
+at_start (many f) h vs l e = let p = at_start f (both_left (fits f) _ h) vs l e in record { next = p.next ++ many f ∷ []; values = p.values; taking = ap (λ m. move_again m (many f) vs) p.taking }
 at_start parenthesised h vs l e = elim (one_of_two (is_sign OpenParenthesis l) false e) [
-  | inl a ↦ record { next = after_open ∷ []; values = vs; taking = ap (λ b. taken b (after_open ∷ []) vs) a }
+  | inl a ↦ record { next = after_open ∷ []; values = vs; taking = ap (λ b. move_of_token b (after_open ∷ []) vs) a }
   | inr b ↦ cc
 ]
 

@@ -9,11 +9,11 @@ use Rattle.dn_parse.specs.Tree.{Placed}
 use Rattle.dn_parse.specs.Actions.{Value}
 use Rattle.dn_token.specs.Words.{same_sign}
 use Rattle.dn_parse.specs.Forms.{Form, takes, does, and_then, either, many, parenthesised, Sort, a_word, any_word, a_number, the_word, the_keyword, the_sign, is, is_sign, Times, Spells}
-use Rattle.dn_parse.specs.Syntax.{in_parentheses, Parenthesised, SpellsText, Viable, statement_form, after_open, expr, term, factor, less, more_terms, more_factors, index, part_form, more_parts, name_form, upper, block_form, at_addr, dest_form, more_dests, entry_form, more_blocks, accept, more_entries, map_form, over, spec_form, plain_form, agent_form, vectors_form, more_names, unit_form, param_form, more_params, params_form, module_form, arg_form, more_args, args_form, use_form, loop_form, access_form, maybe_access, command_form}
+use Rattle.dn_parse.specs.Syntax.{in_parentheses, Parenthesised, SpellsText, Viable, statement_form, after_open, expr, term, factor, minus_expr, more_terms, more_factors, index, part_form, more_parts, name_form, upper_bound, block_form, at_addr, dest_form, more_dests, entry_form, more_blocks, accept, more_entries, map_form, over, spec_form, plain_form, agent_form, vectors_form, more_names, unit_form, param_form, more_params, params_form, module_form, arg_form, more_args, args_form, use_form, loop_form, access_form, maybe_access, command_form}
 use Rattle.dn_parse.specs.Machine.{parentheses}
-use Rattle.dn_parse.specs.Laws.{opening, closing, open_parentheses}
+use Rattle.dn_parse.specs.Laws.{opening_count, closing_count, open_parentheses}
 use Rattle.dn_parse.proofs.Taken.{Inner}
-use Rattle.dn_parse.proofs.Sets.{both_left, both_right, sign_told}
+use Rattle.dn_parse.proofs.Sets.{both_left, both_right, sign_is}
 
 -- the parentheses that the machine has open behind a list, with so many before it
 abbrev pub opened : ℕ → List Token → ℕ
@@ -54,13 +54,13 @@ no_sign m s (keyword k) never e = refl
 no_sign m s (number n) never e = refl
 no_sign m s (sign u) never e = let f = never u in cc
 
-sort_told : (m : Sign) (s : Sort) (l : Lexeme) → is s l ≡ true → is_sign m l ≡ sort_is m s
-sort_told m a_word l e = no_sign m a_word l (λ u. refl) e
-sort_told m any_word l e = no_sign m any_word l (λ u. refl) e
-sort_told m a_number l e = no_sign m a_number l (λ u. refl) e
-sort_told m (the_word w) l e = no_sign m (the_word w) l (λ u. refl) e
-sort_told m (the_keyword k) l e = no_sign m (the_keyword k) l (λ u. refl) e
-sort_told m (the_sign s) l e = ap (is_sign m) (sign_told s l e)
+sort_has_sign : (m : Sign) (s : Sort) (l : Lexeme) → is s l ≡ true → is_sign m l ≡ sort_is m s
+sort_has_sign m a_word l e = no_sign m a_word l (λ u. refl) e
+sort_has_sign m any_word l e = no_sign m any_word l (λ u. refl) e
+sort_has_sign m a_number l e = no_sign m a_number l (λ u. refl) e
+sort_has_sign m (the_word w) l e = no_sign m (the_word w) l (λ u. refl) e
+sort_has_sign m (the_keyword k) l e = no_sign m (the_keyword k) l (λ u. refl) e
+sort_has_sign m (the_sign s) l e = ap (is_sign m) (sign_is s l e)
 
 -- so many are open behind a token that opens one, or closes one, or does neither
 abbrev after : Bool → Bool → ℕ → ℕ
@@ -92,8 +92,8 @@ takes_step k n s l e h =
     let o = sort_is OpenParenthesis s in
     let c = sort_is CloseParenthesis s in
     let none = sound_ends o c (sort_is Semicolon s) k h in
-    let told = sort_told Semicolon s l e in
-    (subst (λ (b : Bool). step_of b (is_sign CloseParenthesis l) (k + n) (after o c k + n)) (sym (sort_told OpenParenthesis s l e)) (subst (λ (b : Bool). step_of o b (k + n) (after o c k + n)) (sym (sort_told CloseParenthesis s l e)) (sound_step o c (sort_is Semicolon s) k n h)), λ f. cc)
+    let told = sort_has_sign Semicolon s l e in
+    (subst (λ (b : Bool). step_of b (is_sign CloseParenthesis l) (k + n) (after o c k + n)) (sym (sort_has_sign OpenParenthesis s l e)) (subst (λ (b : Bool). step_of o b (k + n) (after o c k + n)) (sym (sort_has_sign CloseParenthesis s l e)) (sound_step o c (sort_is Semicolon s) k n h)), λ f. cc)
 
 -- the parentheses that are open behind a form
 abbrev ends_at : ℕ → Form → ℕ
@@ -137,19 +137,19 @@ form_even N i (many f) k n h ts vs us (j, a) = times_even (Spells N f) (k + n) (
 form_even N i parenthesised k n h ts vs us a = i ts vs us a (k + n)
 
 parentheses_even : is_even 0 in_parentheses ≡ true
-unfolding after_open expr term factor less more_terms more_factors
+unfolding after_open expr term factor minus_expr more_terms more_factors
 parentheses_even = refl
 
 parentheses_closed : ends_at 0 in_parentheses ≡ 0
-unfolding after_open expr term factor less more_terms more_factors
+unfolding after_open expr term factor minus_expr more_terms more_factors
 parentheses_closed = refl
 
 statement_even : is_even 0 statement_form ≡ true
-unfolding expr term factor less more_terms more_factors index part_form more_parts name_form upper block_form at_addr dest_form more_dests entry_form more_blocks accept more_entries map_form over spec_form plain_form agent_form vectors_form more_names unit_form param_form more_params params_form module_form arg_form more_args args_form use_form loop_form access_form maybe_access command_form statement_form
+unfolding expr term factor minus_expr more_terms more_factors index part_form more_parts name_form upper_bound block_form at_addr dest_form more_dests entry_form more_blocks accept more_entries map_form over spec_form plain_form agent_form vectors_form more_names unit_form param_form more_params params_form module_form arg_form more_args args_form use_form loop_form access_form maybe_access command_form statement_form
 statement_even = refl
 
 statement_closed : ends_at 0 statement_form ≡ 0
-unfolding expr term factor less more_terms more_factors index part_form more_parts name_form upper block_form at_addr dest_form more_dests entry_form more_blocks accept more_entries map_form over spec_form plain_form agent_form vectors_form more_names unit_form param_form more_params params_form module_form arg_form more_args args_form use_form loop_form access_form maybe_access command_form statement_form
+unfolding expr term factor minus_expr more_terms more_factors index part_form more_parts name_form upper_bound block_form at_addr dest_form more_dests entry_form more_blocks accept more_entries map_form over spec_form plain_form agent_form vectors_form more_names unit_form param_form more_params params_form module_form arg_form more_args args_form use_form loop_form access_form maybe_access command_form statement_form
 statement_closed = refl
 
 -- a form that is even from none on closes what it opens, however many were open before it
@@ -188,7 +188,7 @@ steps_opened n m (t ∷ ts) (j, s, a) =
 
 -- a token that opens one closes none
 not_both : (l : Lexeme) → is_sign OpenParenthesis l ≡ true → is_sign CloseParenthesis l ≡ false
-not_both l e = ap (is_sign CloseParenthesis) (sign_told OpenParenthesis l e)
+not_both l e = ap (is_sign CloseParenthesis) (sign_is OpenParenthesis l e)
 
 step_counts : (n m : ℕ) (o c : Bool) → step_of o c n m → (o ≡ true → c ≡ false) → n + cond o 1 0 ≡ m + cond c 1 0
 step_counts n m true true s h = let f = h refl in cc
@@ -197,14 +197,14 @@ step_counts n m false true s h = omega (arith, s)
 step_counts n m false false s h = omega (arith, s)
 
 -- and so do the laws
-steps_counts : (n m : ℕ) (ts : List Token) → Steps n ts m → n + opening ts ≡ m + closing ts
+steps_counts : (n m : ℕ) (ts : List Token) → Steps n ts m → n + opening_count ts ≡ m + closing_count ts
 steps_counts n m [] a = omega (arith, a)
 steps_counts n m (t ∷ ts) (j, s, a) =
     let l = t.lexeme in
     let here = step_counts n j (is_sign OpenParenthesis l) (is_sign CloseParenthesis l) s.0 (not_both l) in
     let there = steps_counts j m ts a in
-    let more : opening (t ∷ ts) ≡ cond (is_sign OpenParenthesis l) 1 0 + opening ts = sum_by-cons (λ (u : Token). cond (is_sign OpenParenthesis u.lexeme) 1 0) t ts in
-    let fewer : closing (t ∷ ts) ≡ cond (is_sign CloseParenthesis l) 1 0 + closing ts = sum_by-cons (λ (u : Token). cond (is_sign CloseParenthesis u.lexeme) 1 0) t ts in
+    let more : opening_count (t ∷ ts) ≡ cond (is_sign OpenParenthesis l) 1 0 + opening_count ts = sum_by-cons (λ (u : Token). cond (is_sign OpenParenthesis u.lexeme) 1 0) t ts in
+    let fewer : closing_count (t ∷ ts) ≡ cond (is_sign CloseParenthesis l) 1 0 + closing_count ts = sum_by-cons (λ (u : Token). cond (is_sign CloseParenthesis u.lexeme) 1 0) t ts in
     omega (arith, here, there, more, fewer)
 
 -- behind the front of a spelling both counts are one

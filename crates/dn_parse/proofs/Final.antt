@@ -4,7 +4,7 @@ use Rattle.dn_token.specs.declared.token.Sign.TheVariants.{OpenParenthesis}
 use Rattle.dn_token.specs.Token.{Lexeme, Token, sign}
 use Rattle.dn_parse.specs.Tree.{Placed}
 use Rattle.dn_parse.specs.Syntax.{statement_form, SpellsText, Viable}
-use Rattle.dn_parse.specs.Machine.{Fed, on, over, stuck, feed, Stop, whole, refused, deep, Place, between, inside, run, go, go_in, is_deep, parentheses}
+use Rattle.dn_parse.specs.Machine.{Fed, on, over, stuck, feed, Stop, whole, refused, deep, ReadingPlace, between, inside, run, go, go_in, is_deep, parentheses}
 use Rattle.dn_parse.specs.Laws.{IsDeep, IsEnded, open_parentheses}
 use Rattle.dn_parse.proofs.Counted.{viable_counts}
 use Rattle.dn_parse.proofs.Reach.{ReachedAt, reached}
@@ -21,16 +21,16 @@ within_more whole m h = tt
 within_more (refused n) m h = omega arith
 within_more (deep n) m h = omega arith
 
-within_go_in : (b : Bool) (p : Place) (ts : List Token) → Within (run p ts).stop (length ts) → Within (go_in b p (suc (length ts)) (λ q. run q ts)).stop (suc (length ts))
+within_go_in : (b : Bool) (p : ReadingPlace) (ts : List Token) → Within (run p ts).stop (length ts) → Within (go_in b p (suc (length ts)) (λ q. run q ts)).stop (suc (length ts))
 within_go_in true p ts h = omega arith
 within_go_in false p ts h = within_more (run p ts).stop (length ts) h
 
-within_go : (d : Fed) (line n : ℕ) (l : Lexeme) (ts : List Token) → ((p : Place) → Within (run p ts).stop (length ts)) → Within (go d line n l (suc (length ts)) (λ q. run q ts)).stop (suc (length ts))
+within_go : (d : Fed) (line n : ℕ) (l : Lexeme) (ts : List Token) → ((p : ReadingPlace) → Within (run p ts).stop (length ts)) → Within (go d line n l (suc (length ts)) (λ q. run q ts)).stop (suc (length ts))
 within_go (on k vs) line n l ts h = within_go_in (is_deep n l) (inside line (parentheses n l) k vs) ts (h (inside line (parentheses n l) k vs))
 within_go (over vs) line n l ts h = within_more (run between ts).stop (length ts) (h between)
 within_go stuck line n l ts h = omega arith
 
-pub within : (ts : List Token) (p : Place) → Within (run p ts).stop (length ts)
+pub within : (ts : List Token) (p : ReadingPlace) → Within (run p ts).stop (length ts)
 within [] between = tt
 within [] (inside line n k vs) = omega arith
 within (t ∷ ts) between = within_go (feed (statement_form ∷ []) [] t.lexeme) t.line 0 t.lexeme ts (within ts)
@@ -51,13 +51,13 @@ pub record Final (m m' : ℕ) (s s' : Stop) : Type 0 where
   pub refusal : s ≡ refused (suc m) → s' ≡ refused (suc m')
   pub nesting : s ≡ deep (suc m) → s' ≡ deep (suc m')
 
-final_past : (p q : Place) (r r' : List Token) → Final (length r) (length r') (run p r).stop (run q r').stop
+final_past : (p q : ReadingPlace) (r r' : List Token) → Final (length r) (length r') (run p r).stop (run q r').stop
 final_past p q r r' = record {
   refusal = λ e. let h = refused_within (run p r).stop (suc (length r)) (length r) e (within r p) in absurd (omega arith);
   nesting = λ e. let h = deep_within (run p r).stop (suc (length r)) (length r) e (within r p) in absurd (omega arith);
 }
 
-final_in : (b : Bool) (p : Place) (r r' : List Token) → Final (length r) (length r') (go_in b p (suc (length r)) (λ q. run q r)).stop (go_in b p (suc (length r')) (λ q. run q r')).stop
+final_in : (b : Bool) (p : ReadingPlace) (r r' : List Token) → Final (length r) (length r') (go_in b p (suc (length r)) (λ q. run q r)).stop (go_in b p (suc (length r')) (λ q. run q r')).stop
 final_in true p r r' = record { refusal = λ e. cc; nesting = λ e. refl }
 final_in false p r r' = final_past p p r r'
 
@@ -78,16 +78,16 @@ refused_same i j e = cc
 deep_same : (i j : ℕ) → deep i ≡ deep j → i ≡ j
 deep_same i j e = cc
 
-before_in : (b : Bool) (p : Place) (front : List Token) (t : Token) (r r' : List Token) → Final (length r) (length r') (run p (front ++ t ∷ r)).stop (run p (front ++ t ∷ r')).stop → Final (length r) (length r') (go_in b p (suc (length (front ++ t ∷ r))) (λ q. run q (front ++ t ∷ r))).stop (go_in b p (suc (length (front ++ t ∷ r'))) (λ q. run q (front ++ t ∷ r'))).stop
+before_in : (b : Bool) (p : ReadingPlace) (front : List Token) (t : Token) (r r' : List Token) → Final (length r) (length r') (run p (front ++ t ∷ r)).stop (run p (front ++ t ∷ r')).stop → Final (length r) (length r') (go_in b p (suc (length (front ++ t ∷ r))) (λ q. run q (front ++ t ∷ r))).stop (go_in b p (suc (length (front ++ t ∷ r'))) (λ q. run q (front ++ t ∷ r'))).stop
 before_in true p front t r r' h = record { refusal = λ e. cc; nesting = λ e. absurd (too_early deep deep_same front t r e) }
 before_in false p front t r r' h = h
 
-before : (d : Fed) (line n : ℕ) (l : Lexeme) (front : List Token) (t : Token) (r r' : List Token) → ((p : Place) → Final (length r) (length r') (run p (front ++ t ∷ r)).stop (run p (front ++ t ∷ r')).stop) → Final (length r) (length r') (go d line n l (suc (length (front ++ t ∷ r))) (λ q. run q (front ++ t ∷ r))).stop (go d line n l (suc (length (front ++ t ∷ r'))) (λ q. run q (front ++ t ∷ r'))).stop
+before : (d : Fed) (line n : ℕ) (l : Lexeme) (front : List Token) (t : Token) (r r' : List Token) → ((p : ReadingPlace) → Final (length r) (length r') (run p (front ++ t ∷ r)).stop (run p (front ++ t ∷ r')).stop) → Final (length r) (length r') (go d line n l (suc (length (front ++ t ∷ r))) (λ q. run q (front ++ t ∷ r))).stop (go d line n l (suc (length (front ++ t ∷ r'))) (λ q. run q (front ++ t ∷ r'))).stop
 before (on k vs) line n l front t r r' h = before_in (is_deep n l) (inside line (parentheses n l) k vs) front t r r' (h (inside line (parentheses n l) k vs))
 before (over vs) line n l front t r r' h = h between
 before stuck line n l front t r r' h = record { refusal = λ e. absurd (too_early refused refused_same front t r e); nesting = λ e. cc }
 
-pub final : (front : List Token) (t : Token) (r r' : List Token) (p : Place) → Final (length r) (length r') (run p (front ++ t ∷ r)).stop (run p (front ++ t ∷ r')).stop
+pub final : (front : List Token) (t : Token) (r r' : List Token) (p : ReadingPlace) → Final (length r) (length r') (run p (front ++ t ∷ r)).stop (run p (front ++ t ∷ r')).stop
 final [] t r r' between = final_at (feed (statement_form ∷ []) [] t.lexeme) t.line 0 t.lexeme r r'
 final [] t r r' (inside line n k vs) = final_at (feed k vs t.lexeme) line n t.lexeme r r'
 final (u ∷ front) t r r' between = before (feed (statement_form ∷ []) [] u.lexeme) u.line 0 u.lexeme front t r r' (final front t r r')

@@ -11,11 +11,11 @@ use Rattle.dn_parse.specs.Actions.{Value, Action, perform, text, expression, nam
 use Rattle.dn_parse.specs.Forms.{Form, takes, does, either, a_word, any_word, the_keyword, the_sign, is, is_sign}
 use Rattle.dn_parse.specs.Forms.{and_then as both}
 use Rattle.dn_parse.specs.Syntax.{the, this, mark, factor, term, expr, part_form, name_form, spec_form, more_names, param_form, more_params, params_form, arg_form, more_args, args_form, plain_form, agent_form, vectors_form, unit_form, module_form, use_form, loop_form, access_form, maybe_access, command_form, statement_form}
-use Rattle.dn_parse.specs.Machine.{Move, to, skips, refuses, taken, followed, or_else, move, Fed, on, stuck, fed, inside, run, go, feed, refused}
-use Rattle.dn_parse.specs.Descent.{and_then, optional, Read, Reader, sign_at, keyword_at, word_at, any_word_at, row, with_front, after_sign, after_keyword, the_word_at, name_at, expr_at, spec_at, param_at, next_param_at, params_at, closed_params_at, arg_at, next_arg_at, args_at, closed_args_at, next_port_at, ports_at, node_at, measure_at, unit_at, module_at, use_at, loop_at, mode_at, access_at, resolve_at, lookup_at, view_at, grant_at, route_at, order_at, as_declared, keyword_statement_at, statement_by, statement_at}
+use Rattle.dn_parse.specs.Machine.{Move, to, skips, refuses, move_of_token, move_and_then, move_or_else, move, Fed, on, stuck, fed_by_move, inside, run, go, feed, refused}
+use Rattle.dn_parse.specs.Descent.{and_then, if_there, Read, Reader, sign_at, keyword_at, word_at, any_word_at, row, with_front, after_sign, after_keyword, the_word_at, name_at, expr_at, spec_at, param_at, next_param_at, params_at, closed_params_at, arg_at, next_arg_at, args_at, closed_args_at, next_port_at, ports_at, node_at, measure_at, unit_declaration_at, module_at, use_at, loop_at, mode_at, access_at, resolve_at, lookup_at, view_at, grant_at, route_at, order_at, as_declared, keyword_statement_at, statement_by, statement_at}
 use Rattle.dn_parse.proofs.Does.{Does, Row, does_by, seq, pass, last, act, keyword_after, sign_after, word_does, any_word_does, if_keyword, if_word, the_word_after, seq_on, does_same, assoc, most_row_does}
 use Rattle.dn_parse.proofs.Readers.{bind_same, sign_row, row_read, expr_read, expr_does, name_read, name_does, spec_does}
-use Rattle.dn_parse.proofs.Sets.{keyword_told, sign_told}
+use Rattle.dn_parse.proofs.Sets.{keyword_is, sign_is}
 use Rattle.dn_parse.proofs.Turns.{run_fed}
 
 -- a value made of what was read
@@ -28,7 +28,7 @@ abbrev close_list : {X : Type 0} → List X × List Token → Read (List X)
 close_list l = and_then (sign_at CloseParenthesis l.1) (λ rest. Ok (l.0, rest))
 
 abbrev Listed : {X Y : Type 0} → Form → Action → Form → List Token → List Value → (Y → Value) → Reader (List X) → (List X × List Token → Read Y) → Option (List Token) → Type 0
-Listed P a M ts ws val reader fin o = Does (both (either P (does a)) (both (mark CloseParenthesis) M)) 1 0 ts ws val (and_then (optional o (λ rest. Ok ([], rest)) (and_then (reader ts) close_list)) fin)
+Listed P a M ts ws val reader fin o = Does (both (either P (does a)) (both (mark CloseParenthesis) M)) 1 0 ts ws val (and_then (if_there o (λ rest. Ok ([], rest)) (and_then (reader ts) close_list)) fin)
 
 record ClosedList {X Y : Type 0} (P M : Form) (a : Action) (listV : List X → Value) (ws : List Value) (val : Y → Value) (reader : Reader (List X)) (fin : List X × List Token → Read Y) : Type 0 where
   pub reads : (ts : List Token) → Does P 1 1 ts [] listV (reader ts)
@@ -41,16 +41,16 @@ some_listed P M a listV ws val reader fin c ts =
     let same = bind_same (reader ts) _ _ (λ l. assoc (sign_at CloseParenthesis l.1) (λ rest. Ok (l.0, rest)) fin) ∙ assoc (reader ts) close_list fin in
     does_same _ _ same (seq (reader ts) _ (c.reads ts) (λ xs rest. pass (sign_at CloseParenthesis rest) _ (sign_after CloseParenthesis 1 0 rest refl refl) (λ r. c.ending xs r)))
 
-feeds_alike : (m : Move) (a : Action) (M : Form) (k : List Form) (vs : List Value) (l : Lexeme) → is (the_sign CloseParenthesis) l ≡ false → fed (followed (or_else m (move (does a) vs l)) (both (mark CloseParenthesis) M) (λ us. move (both (mark CloseParenthesis) M) us l)) k (λ us. feed k us l) ≡ fed (followed m (both (mark CloseParenthesis) M) (λ us. move (both (mark CloseParenthesis) M) us l)) k (λ us. feed k us l)
+feeds_alike : (m : Move) (a : Action) (M : Form) (k : List Form) (vs : List Value) (l : Lexeme) → is (the_sign CloseParenthesis) l ≡ false → fed_by_move (move_and_then (move_or_else m (move (does a) vs l)) (both (mark CloseParenthesis) M) (λ us. move (both (mark CloseParenthesis) M) us l)) k (λ us. feed k us l) ≡ fed_by_move (move_and_then m (both (mark CloseParenthesis) M) (λ us. move (both (mark CloseParenthesis) M) us l)) k (λ us. feed k us l)
 feeds_alike (to j us) a M k vs l e = refl
 feeds_alike (skips us) a M k vs l e = refl
-feeds_alike refuses a M k vs l e = ap (λ b. fed (followed (taken b [] (perform a vs)) M (λ us. move M us l)) k (λ us. feed k us l)) e
+feeds_alike refuses a M k vs l e = ap (λ b. fed_by_move (move_and_then (move_of_token b [] (perform a vs)) M (λ us. move M us l)) k (λ us. feed k us l)) e
 
 listed_token : {X Y : Type 0} (P M : Form) (a : Action) (listV : List X → Value) (ws : List Value) (val : Y → Value) (reader : Reader (List X)) (fin : List X × List Token → Read Y) → ClosedList P M a listV ws val reader fin → (t : Token) (ts : List Token) (b : Bool) → is_sign CloseParenthesis t.lexeme ≡ b → Listed P a M (t ∷ ts) ws val reader fin (cond b (Some ts) None)
 listed_token P M a listV ws val reader fin c t ts true e =
-    let l = sign_told CloseParenthesis t.lexeme e in
+    let l = sign_is CloseParenthesis t.lexeme e in
     does_by (both (either P (does a)) (both (mark CloseParenthesis) M)) M 1 0 0 (t ∷ ts) ts ws (listV [] ∷ ws) val (fin ([], ts))
-    (λ line k vs. ap (λ u. go (feed (both (either P (does a)) (both (mark CloseParenthesis) M) ∷ k) (ws ++ vs) u) line 1 u (suc (length ts)) (λ p. run p ts)) l ∙ ap (λ m. go (fed (followed (or_else m (move (does a) (ws ++ vs) (sign CloseParenthesis))) (both (mark CloseParenthesis) M) (λ us. move (both (mark CloseParenthesis) M) us (sign CloseParenthesis))) k (λ us. feed k us (sign CloseParenthesis))) line 1 (sign CloseParenthesis) (suc (length ts)) (λ p. run p ts)) (c.refusing (ws ++ vs)) ∙ ap (λ us. run (inside line 0 (M ∷ k) us) ts) (c.empties (ws ++ vs)))
+    (λ line k vs. ap (λ u. go (feed (both (either P (does a)) (both (mark CloseParenthesis) M) ∷ k) (ws ++ vs) u) line 1 u (suc (length ts)) (λ p. run p ts)) l ∙ ap (λ m. go (fed_by_move (move_and_then (move_or_else m (move (does a) (ws ++ vs) (sign CloseParenthesis))) (both (mark CloseParenthesis) M) (λ us. move (both (mark CloseParenthesis) M) us (sign CloseParenthesis))) k (λ us. feed k us (sign CloseParenthesis))) line 1 (sign CloseParenthesis) (suc (length ts)) (λ p. run p ts)) (c.refusing (ws ++ vs)) ∙ ap (λ us. run (inside line 0 (M ∷ k) us) ts) (c.empties (ws ++ vs)))
     (omega arith)
     (c.ending [] ts)
 listed_token P M a listV ws val reader fin c t ts false e =
@@ -103,7 +103,7 @@ abbrev node_arg_form : Form
 node_arg_form = both name_form (does make_node_arg)
 
 abbrev arg_by : Option (List Token) → List Token → Read Arg
-arg_by o ts = optional o (λ rest. and_then (name_at 31 rest) (λ n. Ok (node_arg n.0, n.1))) (and_then (expr_at 31 ts) (λ e. Ok (number_arg e.0, e.1)))
+arg_by o ts = if_there o (λ rest. and_then (name_at 31 rest) (λ n. Ok (node_arg n.0, n.1))) (and_then (expr_at 31 ts) (λ e. Ok (number_arg e.0, e.1)))
 
 number_arg_does : (ts : List Token) → Does number_arg_form 1 1 ts [] arg (and_then (expr_at 31 ts) (λ e. Ok (number_arg e.0, e.1)))
 number_arg_does ts = seq (expr_at 31 ts) _ (expr_read 31 1 refl ts) (λ e r. last _ make_number_arg (λ vs. refl))
@@ -112,15 +112,15 @@ no_expr_at_node : (vs : List Value) → move number_arg_form vs (keyword Node) �
 unfolding expr term factor
 no_expr_at_node vs = refl
 
-arg_alike : (m : Move) (k : List Form) (vs : List Value) (l : Lexeme) → is (the_keyword Node) l ≡ false → fed (or_else m (move (both (the Node) node_arg_form) vs l)) k (λ us. feed k us l) ≡ fed m k (λ us. feed k us l)
+arg_alike : (m : Move) (k : List Form) (vs : List Value) (l : Lexeme) → is (the_keyword Node) l ≡ false → fed_by_move (move_or_else m (move (both (the Node) node_arg_form) vs l)) k (λ us. feed k us l) ≡ fed_by_move m k (λ us. feed k us l)
 arg_alike (to j us) k vs l e = refl
 arg_alike (skips us) k vs l e = refl
-arg_alike refuses k vs l e = ap (λ b. fed (followed (taken b [] vs) node_arg_form (λ us. move node_arg_form us l)) k (λ us. feed k us l)) e
+arg_alike refuses k vs l e = ap (λ b. fed_by_move (move_and_then (move_of_token b [] vs) node_arg_form (λ us. move node_arg_form us l)) k (λ us. feed k us l)) e
 
 arg_token : (t : Token) (ts : List Token) (b : Bool) → is (the_keyword Node) t.lexeme ≡ b → Does (either number_arg_form (both (the Node) node_arg_form)) 1 1 (t ∷ ts) [] arg (arg_by (cond b (Some ts) None) (t ∷ ts))
 arg_token t ts true e =
     does_by (either number_arg_form (both (the Node) node_arg_form)) node_arg_form 1 1 1 (t ∷ ts) ts [] [] arg (and_then (name_at 31 ts) (λ n. Ok (node_arg n.0, n.1)))
-    (λ line k vs. ap (λ u. go (feed (either number_arg_form (both (the Node) node_arg_form) ∷ k) vs u) line 1 u (suc (length ts)) (λ p. run p ts)) (keyword_told Node t.lexeme e) ∙ ap (λ m. go (fed (or_else m (move (both (the Node) node_arg_form) vs (keyword Node))) k (λ us. feed k us (keyword Node))) line 1 (keyword Node) (suc (length ts)) (λ p. run p ts)) (no_expr_at_node vs))
+    (λ line k vs. ap (λ u. go (feed (either number_arg_form (both (the Node) node_arg_form) ∷ k) vs u) line 1 u (suc (length ts)) (λ p. run p ts)) (keyword_is Node t.lexeme e) ∙ ap (λ m. go (fed_by_move (move_or_else m (move (both (the Node) node_arg_form) vs (keyword Node))) k (λ us. feed k us (keyword Node))) line 1 (keyword Node) (suc (length ts)) (λ p. run p ts)) (no_expr_at_node vs))
     (omega arith)
     (seq (name_at 31 ts) _ (name_read 1 31 refl ts) (λ n r. last _ make_node_arg (λ vs. refl)))
 arg_token t ts false e =
@@ -194,9 +194,9 @@ ports_does n kind page slots reach ts = does_same _ _ (ports_same (unit_with n k
 abbrev after_unit : Form
 after_unit = both name_form (both (the Kind) (both (takes any_word) (both (the Page) (both expr (both (the Slots) (both expr (both (the Reach) (both expr (both (the To) (both name_form (both (does first_item) (both (more_names 7) (does make_unit)))))))))))))
 
-unit_does : (ts : List Token) → Does after_unit 0 0 ts [] statement (as_declared (unit_at ts))
-unfolding unit_at
-unit_does ts = mapped statement declares (unit_at ts) (seq (name_at 32 ts) _ (name_does ts) (λ n r. pass (keyword_at Kind r) _ (keyword_after Kind 0 r) (λ r1. seq (any_word_at r1) _ (any_word_does 0 r1) (λ kind r2. measure_seq Page r2 _ (λ page r3. measure_seq Slots r3 _ (λ slots r4. measure_seq Reach r4 _ (λ reach r5. pass (keyword_at To r5) _ (keyword_after To 0 r5) (λ r6. ports_does n kind page slots reach r6))))))))
+unit_does : (ts : List Token) → Does after_unit 0 0 ts [] statement (as_declared (unit_declaration_at ts))
+unfolding unit_declaration_at
+unit_does ts = mapped statement declares (unit_declaration_at ts) (seq (name_at 32 ts) _ (name_does ts) (λ n r. pass (keyword_at Kind r) _ (keyword_after Kind 0 r) (λ r1. seq (any_word_at r1) _ (any_word_does 0 r1) (λ kind r2. measure_seq Page r2 _ (λ page r3. measure_seq Slots r3 _ (λ slots r4. measure_seq Reach r4 _ (λ reach r5. pass (keyword_at To r5) _ (keyword_after To 0 r5) (λ r6. ports_does n kind page slots reach r6))))))))
 
 -- loops
 abbrev after_for : Form

@@ -7,8 +7,8 @@ use Rattle.dn_parse.specs.Tree.{Statement, Command, Tree, items}
 use Rattle.dn_parse.specs.Actions.{statement}
 use Rattle.dn_parse.specs.Forms.{is_sign}
 use Rattle.dn_parse.specs.Syntax.{statement_form}
-use Rattle.dn_parse.specs.Machine.{Stop, whole, refused, deep, Outcome, stopped, with_statement, between, inside, run, go, closed}
-use Rattle.dn_parse.specs.Whole.{TextFault, block_fault, first_line, Frame, Blocks, Step, by_step, step, before_begin, after_begin, at_stop, judged, judge, without_frame, closed_block, line_of, line_at, reading, no_blocks_yet, last_line, too_long, bad_token, of_token_list, text_reading}
+use Rattle.dn_parse.specs.Machine.{Stop, whole, refused, deep, Outcome, stop_outcome, with_statement, between, inside, run, go, fed_at_end}
+use Rattle.dn_parse.specs.Whole.{TextFault, block_fault, first_line, Frame, Blocks, BlockStep, by_step, step, before_begin, after_begin, at_stop, judgement_of, judge, without_frame, closed_block, line_of, line_at, reading, no_blocks_yet, last_line, too_long, bad_token, of_token_list, text_reading}
 use Rattle.dn_parse.specs.Descent.{and_then, Read, or_refused, after_sign, sign_at, statement_at, whole_statement_at}
 use Rattle.dn_parse.specs.declared.cursor.Halt.{Halt}
 use Rattle.dn_parse.specs.declared.cursor.Halt.TheVariants.{Refused, Deep as DeepHalt, OutOfMemory as HaltMemory}
@@ -29,12 +29,12 @@ use Rattle.dn_parse.proofs.Heads.{statement_does}
 -- what a whole statement is to the machine
 abbrev Whole : Token → List Token → Read Statement → Type 0
 Whole t ts (Ok p) = (run between (t ∷ ts) ≡ with_statement (record { line = t.line; statement = p.0 }) (run between p.1)) × (length p.1 < length (t ∷ ts))
-Whole t ts (Err s) = run between (t ∷ ts) ≡ stopped s
+Whole t ts (Err s) = run between (t ∷ ts) ≡ stop_outcome s
 
 at_semicolon : (line : ℕ) (s : Statement) (u : Token) (us : List Token) (b : Bool) → is_sign Semicolon u.lexeme ≡ b → (t : Token) (ts : List Token) → line ≡ t.line → length (u ∷ us) ≤ length (t ∷ ts) → run between (t ∷ ts) ≡ run (inside line 0 [] (statement s ∷ [])) (u ∷ us) → Whole t ts (and_then (or_refused (cond b (Some us) None) (u ∷ us)) (λ rest. Ok (s, rest)))
 at_semicolon line s u us true e t ts l h g =
-    (g ∙ ap (λ b. go (closed b (statement s ∷ [])) line 0 u.lexeme (suc (length us)) (λ q. run q us)) e ∙ ap (λ (j : ℕ). with_statement (record { line = j; statement = s }) (run between us)) l, (omega arith))
-at_semicolon line s u us false e t ts l h g = g ∙ ap (λ b. go (closed b (statement s ∷ [])) line 0 u.lexeme (suc (length us)) (λ q. run q us)) e
+    (g ∙ ap (λ b. go (fed_at_end b (statement s ∷ [])) line 0 u.lexeme (suc (length us)) (λ q. run q us)) e ∙ ap (λ (j : ℕ). with_statement (record { line = j; statement = s }) (run between us)) l, (omega arith))
+at_semicolon line s u us false e t ts l h g = g ∙ ap (λ b. go (fed_at_end b (statement s ∷ [])) line 0 u.lexeme (suc (length us)) (λ q. run q us)) e
 
 after_statement : (t : Token) (ts : List Token) (r : Read Statement) → DoesBy statement_form 0 0 (t ∷ ts) [] statement r → Whole t ts (and_then r (λ p. and_then (sign_at Semicolon p.1) (λ rest. Ok (p.0, rest))))
 unfolding sign_at after_sign
@@ -52,11 +52,11 @@ whole_by t ts r e = subst (Whole t ts) e (whole_does t ts)
 -- the next statement
 pub judge_step : (last : ℕ) (all : List Token) (b : Blocks) (t : Token) (ts : List Token) (s : Statement) (after : List Token) → whole_statement_at (t ∷ ts) ≡ Ok (s, after) → judge last all b (t ∷ ts) ≡ by_step (step b (record { line = t.line; statement = s })) t.line (λ c. judge last all c after)
 unfolding judge
-judge_step last all b t ts s after e = ap (λ (o : Outcome). judged o.statements (at_stop o.stop last all) b) (whole_by t ts (Ok (s, after)) e).0
+judge_step last all b t ts s after e = ap (λ (o : Outcome). judgement_of o.statements (at_stop o.stop last all) b) (whole_by t ts (Ok (s, after)) e).0
 
 pub judge_stop : (last : ℕ) (all : List Token) (b : Blocks) (t : Token) (ts : List Token) (z : Stop) → whole_statement_at (t ∷ ts) ≡ Err z → judge last all b (t ∷ ts) ≡ at_stop z last all b
 unfolding judge
-judge_stop last all b t ts z e = ap (λ (o : Outcome). judged o.statements (at_stop o.stop last all) b) (whole_by t ts (Err z) e)
+judge_stop last all b t ts z e = ap (λ (o : Outcome). judgement_of o.statements (at_stop o.stop last all) b) (whole_by t ts (Err z) e)
 
 pub judge_end : (last : ℕ) (all : List Token) (b : Blocks) → judge last all b [] ≡ at_stop whole last all b
 unfolding judge
@@ -89,13 +89,13 @@ fault_halted last all b ts line (Refused n) s e = next_stop last all b ts line (
 fault_halted last all b ts line (DeepHalt n) s e = next_stop last all b ts line (deep n) s e
 fault_halted last all b ts line HaltMemory s e = tt
 
-step_going : {X : Type 0} (v : X → Blocks) (r : Result X Misplaced) (x : X) (s : Step) → Answers v misplaced_view r s → r ≡ Ok x → s ≡ Ok (v x)
+step_going : {X : Type 0} (v : X → Blocks) (r : Result X Misplaced) (x : X) (s : BlockStep) → Answers v misplaced_view r s → r ≡ Ok x → s ≡ Ok (v x)
 step_going v (Ok y) x s h e = let same : y ≡ x = cc in h ∙ ap (λ z. Ok (v z)) same
 step_going v (Err m) x s h e = cc
 
-misplaced_by : (m : Misplaced) (s : Step) (line : ℕ) (next : Blocks → Result Tree TextFault) → IfSome (misplaced_view m) (λ r. s ≡ Err r) → IfSome (misplaced_fault m line) (λ f. by_step s line next ≡ Err f)
-misplaced_by Forbidden s line next h = ap (λ (x : Step). by_step x line next) h
-misplaced_by Crowded s line next h = ap (λ (x : Step). by_step x line next) h
+misplaced_by : (m : Misplaced) (s : BlockStep) (line : ℕ) (next : Blocks → Result Tree TextFault) → IfSome (misplaced_view m) (λ r. s ≡ Err r) → IfSome (misplaced_fault m line) (λ f. by_step s line next ≡ Err f)
+misplaced_by Forbidden s line next h = ap (λ (x : BlockStep). by_step x line next) h
+misplaced_by Crowded s line next h = ap (λ (x : BlockStep). by_step x line next) h
 misplaced_by NoRoom s line next h = tt
 
 fault_misplaced : {X : Type 0} (v : X → Blocks) (last : ℕ) (all : List Token) (b : Blocks) (ts : List Token) (line : ℕ) (s : Statement) (after : List Token) (r : Result X Misplaced) (m : Misplaced) → first_line ts ≡ Some line → whole_statement_at ts ≡ Ok (s, after) → Answers v misplaced_view r (step b (record { line = line; statement = s })) → r ≡ Err m → IfSome (misplaced_fault m line) (λ f. judge last all b ts ≡ Err f)
@@ -105,13 +105,13 @@ fault_misplaced {X} v last all b ts line s after r m h e st is =
 
 placed_on : {X : Type 0} (v : X → Blocks) (last : ℕ) (all : List Token) (b : Blocks) (ts : List Token) (line : ℕ) (s : Statement) (after : List Token) (r : Result X Misplaced) (x : X) → first_line ts ≡ Some line → whole_statement_at ts ≡ Ok (s, after) → Answers v misplaced_view r (step b (record { line = line; statement = s })) → r ≡ Ok x → judge last all b ts ≡ judge last all (v x) after
 placed_on v last all b ts line s after r x h e st is =
-    next_step last all b ts line s after h e ∙ ap (λ (q : Step). by_step q line (λ d. judge last all d after)) (step_going v r x (step b (record { line = line; statement = s })) st is)
+    next_step last all b ts line s after h e ∙ ap (λ (q : BlockStep). by_step q line (λ d. judge last all d after)) (step_going v r x (step b (record { line = line; statement = s })) st is)
 
 -- the next statement before the commands
 before_steps : {X : Type 0} (v : X → Blocks) (r : Result X Misplaced) (b : Blocks) (line : ℕ) (s : Statement) → b.begun ≡ false → Answers v misplaced_view r (before_begin b line s) → Answers v misplaced_view r (step b (record { line = line; statement = s }))
 before_steps v r b line s g st =
     let same : step b (record { line = line; statement = s }) ≡ before_begin b line s = ap (λ (t : Bool). cond t (after_begin b line s) (before_begin b line s)) g in
-    subst (λ (q : Step). Answers v misplaced_view r q) (sym same) st
+    subst (λ (q : BlockStep). Answers v misplaced_view r q) (sym same) st
 
 pub misplaced_before : {X : Type 0} (v : X → Blocks) (last : ℕ) (all : List Token) (b : Blocks) (ts : List Token) (line : ℕ) (s : Statement) (after : List Token) (r : Result X Misplaced) (m : Misplaced) → first_line ts ≡ Some line → whole_statement_at ts ≡ Ok (s, after) → b.begun ≡ false → Answers v misplaced_view r (before_begin b line s) → r ≡ Err m → IfSome (misplaced_fault m line) (λ f. judge last all b ts ≡ Err f)
 misplaced_before v last all b ts line s after r m h e g st is = fault_misplaced v last all b ts line s after r m h e (before_steps v r b line s g st) is

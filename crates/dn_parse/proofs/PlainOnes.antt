@@ -5,7 +5,7 @@ use Rattle.dn_base.proofs.Lists.{list_all-last}
 use Rattle.dn_token.specs.Token.{Token}
 use Rattle.dn_parse.specs.Tree.{Command}
 use Rattle.dn_parse.specs.Commands.{next_command, commands_from, behind_commands}
-use Rattle.dn_parse.specs.Plain.{is_plain, are_plain}
+use Rattle.dn_parse.specs.Plain.{is_plain_order, are_plain}
 use Rattle.dn_parse.proofs.Scripts.{AreCommands, more_is, past_is, fewer, none_fewer, behind_zero}
 
 -- the next command stands last
@@ -22,14 +22,14 @@ last_is (suc n) ts c l e = go (next_command ts) refl (last_is n)
         ∙ ap (λ (cs : List Command). cs ++ c.0 ∷ []) (sym (more_is n ts (Some d) q))
 
 -- where all so far are plain, and the next one is, they are with it
-pub plain_more : (n : ℕ) (ts before : List Token) (so_far plain : Bool) → AreCommands n ts before → option_map (λ (c : Command × List Token). is_plain c.0.order) (next_command before) ≡ Some plain → (IsTrue so_far → IsTrue (are_plain (commands_from n ts))) → IsTrue (so_far && plain) → IsTrue (are_plain (commands_from (n + 1) ts))
+pub plain_more : (n : ℕ) (ts before : List Token) (so_far plain : Bool) → AreCommands n ts before → option_map (λ (c : Command × List Token). is_plain_order c.0.order) (next_command before) ≡ Some plain → (IsTrue so_far → IsTrue (are_plain (commands_from n ts))) → IsTrue (so_far && plain) → IsTrue (are_plain (commands_from (n + 1) ts))
 plain_more n ts before so_far plain are e h both = go (next_command before) refl e
   where
-    go : (o : Option (Command × List Token)) → next_command before ≡ o → option_map (λ (c : Command × List Token). is_plain c.0.order) o ≡ Some plain → IsTrue (are_plain (commands_from (n + 1) ts))
+    go : (o : Option (Command × List Token)) → next_command before ≡ o → option_map (λ (c : Command × List Token). is_plain_order c.0.order) o ≡ Some plain → IsTrue (are_plain (commands_from (n + 1) ts))
     go None q p = cc
     go (Some c) q p =
         let two = and_parts so_far plain both in
-        let is : is_plain c.0.order ≡ plain = cc in
+        let is : is_plain_order c.0.order ≡ plain = cc in
         let last = last_is n ts c are.0 (ap next_command are.1 ∙ q) in
         let same : suc n ≡ n + 1 = omega arith in
-        subst (λ (m : ℕ). IsTrue (are_plain (commands_from m ts))) same (rw last (list_all-last (λ (d : Command). is_plain d.order) (commands_from n ts) c.0 (h two.0) (rw is two.1)))
+        subst (λ (m : ℕ). IsTrue (are_plain (commands_from m ts))) same (rw last (list_all-last (λ (d : Command). is_plain_order d.order) (commands_from n ts) c.0 (h two.0) (rw is two.1)))

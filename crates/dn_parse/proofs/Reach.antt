@@ -8,22 +8,22 @@ use Rattle.dn_token.specs.declared.token.Sign.TheVariants.{Semicolon, OpenParent
 use Rattle.dn_token.specs.Token.{Lexeme, Token, word, keyword, number, sign}
 use Rattle.dn_parse.specs.Tree.{Placed, constant}
 use Rattle.dn_parse.specs.Actions.{Value, perform, expression}
-use Rattle.dn_parse.specs.Forms.{Form, takes, does, and_then, either, many, parenthesised, Sort, a_word, any_word, a_number, the_word, the_keyword, the_sign, is, is_sign, kept, Spells}
-use Rattle.dn_parse.specs.Syntax.{SpellsText, statement_form, statement_of, Parenthesised, after_open, expr, term, factor, less, more_terms, more_factors}
-use Rattle.dn_parse.specs.Machine.{Fed, on, over, stuck, feed, Stop, whole, refused, deep, Outcome, Place, between, inside, run, go, go_in, is_deep, parentheses}
+use Rattle.dn_parse.specs.Forms.{Form, takes, does, and_then, either, many, parenthesised, Sort, a_word, any_word, a_number, the_word, the_keyword, the_sign, is, is_sign, values_with_token, Spells}
+use Rattle.dn_parse.specs.Syntax.{SpellsText, statement_form, statement_of, Parenthesised, after_open, expr, term, factor, minus_expr, more_terms, more_factors}
+use Rattle.dn_parse.specs.Machine.{Fed, on, over, stuck, feed, Stop, whole, refused, deep, Outcome, ReadingPlace, between, inside, run, go, go_in, is_deep, parentheses}
 use Rattle.dn_parse.proofs.Counted.{opened}
 use Rattle.dn_parse.proofs.Taken.{SpellsAll, Deep, SaysAll, says_all, bounded, deep_is_closed}
-use Rattle.dn_parse.proofs.Sets.{both_left, both_right, may_skip, sign_told}
+use Rattle.dn_parse.proofs.Sets.{both_left, both_right, may_skip, sign_is}
 use Rattle.dn_parse.proofs.Begins.{left_out}
 use Rattle.dn_parse.proofs.Spelled.{is_opened}
 use Rattle.dn_parse.proofs.Whole.{statement_needed}
 
 -- the statements that tokens spell from a place on: inside a statement the forms that may still come, a `;`, and then a text
-abbrev pub SpellsFrom : Place → List Token → List Placed → Type 0
+abbrev pub SpellsFrom : ReadingPlace → List Token → List Placed → Type 0
 SpellsFrom between ts ss = SpellsText ts ss
 SpellsFrom (inside line n k vs) ts ss = (xs : List Token) × (stop : Token) × (ys : List Token) × (us : List Value) × (more : List Placed) × (ts ≡ xs ++ stop ∷ ys) × SpellsAll Deep k xs vs us × (stop.lexeme ≡ sign Semicolon) × (ss ≡ record { line = line; statement = statement_of us } ∷ more) × SpellsText ys more
 
-abbrev pub ViableFrom : Place → List Token → Type 0
+abbrev pub ViableFrom : ReadingPlace → List Token → Type 0
 ViableFrom p ts = (more : List Token) × (ss : List Placed) × SpellsFrom p (ts ++ more) ss
 
 -- a spelling of each form
@@ -36,7 +36,7 @@ pub record Example (f : Form) (vs : List Value) : Type 0 where
   pub spelled : Spells Deep f tokens vs values
 
 one_token : (s : Sort) (l : Lexeme) (vs : List Value) → is s l ≡ true → Example (takes s) vs
-one_token s l vs e = record { tokens = record { lexeme = l; line = 0 } ∷ []; values = kept s l vs; spelled = (record { lexeme = l; line = 0 }, e, refl, refl) }
+one_token s l vs e = record { tokens = record { lexeme = l; line = 0 } ∷ []; values = values_with_token s l vs; spelled = (record { lexeme = l; line = 0 }, e, refl, refl) }
 
 same_number : (n : ℕ) → (n == n) ≡ true
 same_number n = eq-eqb n n refl
@@ -77,7 +77,7 @@ abbrev in_paren : List Token
 in_paren = record { lexeme = sign OpenParenthesis; line = 0 } ∷ record { lexeme = number 0; line = 0 } ∷ record { lexeme = sign CloseParenthesis; line = 0 } ∷ []
 
 paren_fed : (vs : List Value) → all_fed (parenthesised ∷ []) vs in_paren ≡ on [] (expression (constant 0) ∷ vs)
-unfolding after_open expr term factor less more_terms more_factors
+unfolding after_open expr term factor minus_expr more_terms more_factors
 paren_fed vs = refl
 
 only_form : (f : Form) (ts : List Token) (vs us : List Value) → SpellsAll Deep (f ∷ []) ts vs us → Spells Deep f ts vs us
@@ -102,7 +102,7 @@ all_examples (f ∷ k) vs =
     (p.tokens ++ q.0, q.1, (p.tokens, q.0, p.values, refl, p.spelled, q.2))
 
 -- from each place there is a way on to the end of a text
-viable_from : (p : Place) → ViableFrom p []
+viable_from : (p : ReadingPlace) → ViableFrom p []
 viable_from between = ([], [], refl)
 viable_from (inside line n k vs) =
     let e = all_examples k vs in
@@ -116,14 +116,14 @@ statement_spelled t xs us stop ys more s semi text =
     (t, xs, stop, ys, refl, refl, (b.0, us, b.1, refl), semi, text)
 
 -- one token back
-abbrev pub Back : Place → Place → Token → (List Placed → List Placed) → Type 0
+abbrev pub Back : ReadingPlace → ReadingPlace → Token → (List Placed → List Placed) → Type 0
 Back p q t f = (ts : List Token) (ss : List Placed) → SpellsFrom q ts ss → SpellsFrom p (t ∷ ts) (f ss)
 
 pub back_on : (line n m : ℕ) (k k' : List Form) (vs ws : List Value) (t : Token) → SaysAll Deep k vs t (on k' ws) → Back (inside line n k vs) (inside line m k' ws) t (λ ss. ss)
 back_on line n m k k' vs ws t h ts ss (xs, stop, ys, us, more, e, s, semi, l, text) = (t ∷ xs, stop, ys, us, more, ap (λ (j : List Token). t ∷ j) e, h xs us s, semi, l, text)
 
 pub back_over : (line n : ℕ) (k : List Form) (vs ws : List Value) (t : Token) → SaysAll Deep k vs t (over ws) → Back (inside line n k vs) between t (λ ss. record { line = line; statement = statement_of ws } ∷ ss)
-back_over line n k vs ws t h ts ss text = ([], t, ts, ws, ss, refl, h.0, sign_told Semicolon t.lexeme h.1, refl, text)
+back_over line n k vs ws t h ts ss text = ([], t, ts, ws, ss, refl, h.0, sign_is Semicolon t.lexeme h.1, refl, text)
 
 -- a statement begins as one inside it
 pub back_first : (t : Token) (n : ℕ) (ts : List Token) (ss : List Placed) → SpellsFrom (inside t.line n (statement_form ∷ []) []) (t ∷ ts) ss → SpellsText (t ∷ ts) ss
@@ -145,28 +145,28 @@ back_first t n ts ss (x ∷ xs, stop, ys, us, more, e, s, semi, l, text) =
     subst (λ (j : List Token). SpellsText j ss) (sym e) (subst (λ (j : List Placed). SpellsText (x ∷ xs ++ stop ∷ ys) j) (sym lined) made)
 
 -- what is said of a place, of the tokens from there on, and of where the reading stops
-abbrev pub count : Place → ℕ
+abbrev pub count : ReadingPlace → ℕ
 count between = 0
 count (inside line n k vs) = n
 
-abbrev pub ReachedAt : Place → List Token → List Placed → Stop → Type 0
+abbrev pub ReachedAt : ReadingPlace → List Token → List Placed → Stop → Type 0
 ReachedAt p ts ss whole = SpellsFrom p ts ss
 ReachedAt p ts ss (refused n) = (front : List Token) × (rest : List Token) × (ts ≡ front ++ rest) × (n ≡ length rest) × ViableFrom p front
 ReachedAt p ts ss (deep n) = (front : List Token) × (t : Token) × (rest : List Token) × (ts ≡ front ++ t ∷ rest) × (n ≡ suc (length rest)) × ViableFrom p (front ++ t ∷ []) × (t.lexeme ≡ sign OpenParenthesis) × (opened (count p) front ≡ 32)
 
-abbrev Reached : Place → List Token → Outcome → Type 0
+abbrev Reached : ReadingPlace → List Token → Outcome → Type 0
 Reached p ts o = ReachedAt p ts o.statements o.stop
 
-viable_back : (p q : Place) (t : Token) (f : List Placed → List Placed) → Back p q t f → (ts : List Token) → ViableFrom q ts → ViableFrom p (t ∷ ts)
+viable_back : (p q : ReadingPlace) (t : Token) (f : List Placed → List Placed) → Back p q t f → (ts : List Token) → ViableFrom q ts → ViableFrom p (t ∷ ts)
 viable_back p q t f b ts (more, ss, s) = (more, f ss, b (ts ++ more) ss s)
 
-reached_back : (p q : Place) (t : Token) (f : List Placed → List Placed) → Back p q t f → count q ≡ parentheses (count p) t.lexeme → (ts : List Token) (ss : List Placed) (stop : Stop) → ReachedAt q ts ss stop → ReachedAt p (t ∷ ts) (f ss) stop
+reached_back : (p q : ReadingPlace) (t : Token) (f : List Placed → List Placed) → Back p q t f → count q ≡ parentheses (count p) t.lexeme → (ts : List Token) (ss : List Placed) (stop : Stop) → ReachedAt q ts ss stop → ReachedAt p (t ∷ ts) (f ss) stop
 reached_back p q t f b c ts ss whole h = b ts ss h
 reached_back p q t f b c ts ss (refused n) (front, rest, e, l, v) = (t ∷ front, rest, ap (λ (j : List Token). t ∷ j) e, l, viable_back p q t f b front v)
 reached_back p q t f b c ts ss (deep n) (front, u, rest, e, l, v, o, m) = (t ∷ front, u, rest, ap (λ (j : List Token). t ∷ j) e, l, viable_back p q t f b (front ++ u ∷ []) v, o, ap (λ (j : ℕ). opened j front) (sym c) ∙ m)
 
-deep_here : (p q : Place) (t : Token) (f : List Placed → List Placed) → Back p q t f → (ts : List Token) (ss : List Placed) → is_sign OpenParenthesis t.lexeme ≡ true → (count p == 32) ≡ true → ReachedAt p (t ∷ ts) ss (deep (suc (length ts)))
-deep_here p q t f b ts ss o m = ([], t, ts, refl, refl, viable_back p q t f b [] (viable_from q), sign_told OpenParenthesis t.lexeme o, eqb-true (count p) 32 m)
+deep_here : (p q : ReadingPlace) (t : Token) (f : List Placed → List Placed) → Back p q t f → (ts : List Token) (ss : List Placed) → is_sign OpenParenthesis t.lexeme ≡ true → (count p == 32) ≡ true → ReachedAt p (t ∷ ts) ss (deep (suc (length ts)))
+deep_here p q t f b ts ss o m = ([], t, ts, refl, refl, viable_back p q t f b [] (viable_from q), sign_is OpenParenthesis t.lexeme o, eqb-true (count p) 32 m)
 
 reached_on : (line n : ℕ) (k k' : List Form) (vs ws : List Value) (t : Token) (ts : List Token) → SaysAll Deep k vs t (on k' ws) → (b : Bool) → is_deep n t.lexeme ≡ b → Reached (inside line (parentheses n t.lexeme) k' ws) ts (run (inside line (parentheses n t.lexeme) k' ws) ts) → Reached (inside line n k vs) (t ∷ ts) (go_in b (inside line (parentheses n t.lexeme) k' ws) (suc (length ts)) (λ q. run q ts))
 reached_on line n k k' vs ws t ts h true e r = deep_here (inside line n k vs) (inside line (parentheses n t.lexeme) k' ws) t (λ ss. ss) (back_on line n (parentheses n t.lexeme) k k' vs ws t h) ts [] (both_left (is_sign OpenParenthesis t.lexeme) (n == 32) e) (both_right (is_sign OpenParenthesis t.lexeme) (n == 32) e)
@@ -174,10 +174,10 @@ reached_on line n k k' vs ws t ts h false e r =
     let o = run (inside line (parentheses n t.lexeme) k' ws) ts in
     reached_back (inside line n k vs) (inside line (parentheses n t.lexeme) k' ws) t (λ ss. ss) (back_on line n (parentheses n t.lexeme) k k' vs ws t h) refl ts o.statements o.stop r
 
-reached_go : (line n : ℕ) (k : List Form) (vs : List Value) (t : Token) (ts : List Token) (d : Fed) → SaysAll Deep k vs t d → ((q : Place) → Reached q ts (run q ts)) → Reached (inside line n k vs) (t ∷ ts) (go d line n t.lexeme (suc (length ts)) (λ q. run q ts))
+reached_go : (line n : ℕ) (k : List Form) (vs : List Value) (t : Token) (ts : List Token) (d : Fed) → SaysAll Deep k vs t d → ((q : ReadingPlace) → Reached q ts (run q ts)) → Reached (inside line n k vs) (t ∷ ts) (go d line n t.lexeme (suc (length ts)) (λ q. run q ts))
 reached_go line n k vs t ts (on k' ws) h r = reached_on line n k k' vs ws t ts h (is_deep n t.lexeme) refl (r (inside line (parentheses n t.lexeme) k' ws))
 reached_go line n k vs t ts (over ws) h r =
-    let none : 0 ≡ parentheses n t.lexeme = ap (parentheses n) (sym (sign_told Semicolon t.lexeme h.1)) in
+    let none : 0 ≡ parentheses n t.lexeme = ap (parentheses n) (sym (sign_is Semicolon t.lexeme h.1)) in
     reached_back (inside line n k vs) between t (λ ss. record { line = line; statement = statement_of ws } ∷ ss) (back_over line n k vs ws t h) none ts (run between ts).statements (run between ts).stop (r between)
 reached_go line n k vs t ts stuck h r = ([], t ∷ ts, refl, refl, viable_from (inside line n k vs))
 
@@ -192,10 +192,10 @@ reached_first t ts ss whole h = back_first t 0 ts ss h
 reached_first t ts ss (refused n) (front, rest, e, l, v) = (front, rest, e, l, viable_first t 0 front rest ts e v)
 reached_first t ts ss (deep n) (front, u, rest, e, l, v, o, m) = (front, u, rest, e, l, viable_first t 0 (front ++ u ∷ []) rest ts (e ∙ sym (append_assoc front (u ∷ []) rest)) v, o, m)
 
-reached_inside : (line n : ℕ) (k : List Form) (vs : List Value) (t : Token) (ts : List Token) → ((q : Place) → Reached q ts (run q ts)) → Reached (inside line n k vs) (t ∷ ts) (run (inside line n k vs) (t ∷ ts))
+reached_inside : (line n : ℕ) (k : List Form) (vs : List Value) (t : Token) (ts : List Token) → ((q : ReadingPlace) → Reached q ts (run q ts)) → Reached (inside line n k vs) (t ∷ ts) (run (inside line n k vs) (t ∷ ts))
 reached_inside line n k vs t ts r = reached_go line n k vs t ts (feed k vs t.lexeme) (says_all Deep deep_is_closed k vs t) r
 
-pub reached : (ts : List Token) (p : Place) → Reached p ts (run p ts)
+pub reached : (ts : List Token) (p : ReadingPlace) → Reached p ts (run p ts)
 reached [] between = refl
 reached [] (inside line n k vs) = ([], [], refl, refl, viable_from (inside line n k vs))
 reached (t ∷ ts) between =

@@ -6,12 +6,12 @@ use Rattle.dn_token.specs.declared.token.Keyword.TheVariants.{Accept, Map, To, A
 use Rattle.dn_token.specs.declared.token.Sign.TheVariants.{Semicolon, Comma, OpenBracket, CloseBracket, OpenParenthesis, CloseParenthesis, Minus, Plus, Times, Dot, Dots}
 use Rattle.dn_token.specs.Token.{Lexeme, Token, word, keyword, number, sign}
 use Rattle.dn_parse.specs.Tree.{Expression, minus, Block, Dest, Entry}
-use Rattle.dn_parse.specs.Actions.{summed, multiplied, Value, Action, perform, text, expression, members, perhaps, part, name, perhaps_name, block, blocks, dest, dests, entry, entries, spec, make_variable, first_item, next_item, make_sum, make_product, make_difference, no_expression, some_expression, make_part, no_name, some_name, make_block, no_blocks, make_dest, make_entry, no_entries, make_spec, keep}
+use Rattle.dn_parse.specs.Actions.{sum_of_members, product_of_members, Value, Action, perform, text, expression, members, perhaps, part, name, perhaps_name, block, blocks, dest, dests, entry, entries, spec, make_variable, first_item, next_item, make_sum, make_product, make_difference, no_expression, some_expression, make_part, no_name, some_name, make_block, no_blocks, make_dest, make_entry, no_entries, make_spec, keep}
 use Rattle.dn_parse.specs.Forms.{Form, does, either, many, the_keyword, the_sign, is_sign}
 use Rattle.dn_parse.specs.Forms.{and_then as both}
-use Rattle.dn_parse.specs.Syntax.{mark, factor, more_factors, term, more_terms, expr, less, after_open, index, part_form, more_parts, name_form, upper, block_form, at_addr, dest_form, more_dests, entry_form, more_blocks, accept, more_entries, map_form, over, spec_form}
+use Rattle.dn_parse.specs.Syntax.{mark, factor, more_factors, term, more_terms, expr, minus_expr, after_open, index, part_form, more_parts, name_form, upper_bound, block_form, at_addr, dest_form, more_dests, entry_form, more_blocks, accept, more_entries, map_form, over, spec_form}
 use Rattle.dn_parse.specs.Machine.{Stop, inside, run, go, go_in, feed, is_deep, parentheses}
-use Rattle.dn_parse.specs.Descent.{and_then, optional, after, one_more, first_and, in_brackets, less_with, word_at, keyword_at, Read, Next, Reader, sign_at, row_at, row, with_front, after_sign, after_keyword, factor_of, nested_at, factor_at, next_factor_at, factors_at, term_at, next_term_at, terms_at, expr_at, after_open_at, index_at, part_at, next_part_at, name_at, upper_at, block_at, next_block_at, blocks_at, addr_at, dest_at, next_dest_at, dests_at, entry_at, next_entry_at, entries_at, accept_at, map_at, over_at, spec_at}
+use Rattle.dn_parse.specs.Descent.{and_then, if_there, after, one_more, first_and, in_brackets, less_with, word_at, keyword_at, Read, Next, Reader, sign_at, row_at, row, with_front, after_sign, after_keyword, factor_of, nested_at, factor_at, next_factor_at, factors_at, term_at, next_term_at, terms_at, expr_at, after_open_at, index_at, part_at, next_part_at, name_at, upper_at, block_at, next_block_at, blocks_at, addr_at, dest_at, next_dest_at, dests_at, entry_at, next_entry_at, entries_at, accept_at, map_at, over_at, spec_at}
 use Rattle.dn_parse.proofs.Does.{Does, Row, does_by, seq, pass, last, act, keyword_counts, sign_counts, keyword_after, sign_after, word_does, if_keyword, if_sign, seq_on, pass_last, does_same, assoc, row_does, most_row_does}
 use Rattle.dn_parse.proofs.Nested.{one_less}
 use Rattle.dn_parse.proofs.Turns.{run_does}
@@ -37,7 +37,7 @@ step_does f n valX acc reader h e es rest = does_same _ _ (bind_ok (reader rest)
     bind_ok (Err z) = refl
 
 -- a row of parts, one behind another by a sign
-pub sign_row : {X : Type 0} (s : Sign) (f : Form) (n : ℕ) (valX : X → Value) (acc : List X → Value) (reader : Reader X) (next : List Token → Next X) → parentheses n (sign s) ≡ n → is_deep n (sign s) ≡ false → ((ts : List Token) → next ts ≡ optional (after (is_sign s) ts) (λ rest. one_more (reader rest)) (Ok None)) → ((ts : List Token) → Does f n n ts [] valX (reader ts)) → ((es : List X) (x : X) (vs : List Value) → perform next_item (valX x ∷ acc es ∷ vs) ≡ acc (es ++ x ∷ []) ∷ vs) → Row (the_sign s) (both f (does next_item)) n acc reader next
+pub sign_row : {X : Type 0} (s : Sign) (f : Form) (n : ℕ) (valX : X → Value) (acc : List X → Value) (reader : Reader X) (next : List Token → Next X) → parentheses n (sign s) ≡ n → is_deep n (sign s) ≡ false → ((ts : List Token) → next ts ≡ if_there (after (is_sign s) ts) (λ rest. one_more (reader rest)) (Ok None)) → ((ts : List Token) → Does f n n ts [] valX (reader ts)) → ((es : List X) (x : X) (vs : List Value) → perform next_item (valX x ∷ acc es ∷ vs) ≡ acc (es ++ x ∷ []) ∷ vs) → Row (the_sign s) (both f (does next_item)) n acc reader next
 sign_row s f n valX acc reader next p d nexts h e = record {
   counts = sign_counts s n n p d;
   keeps = λ l vs. refl;
@@ -46,29 +46,29 @@ sign_row s f n valX acc reader next p d nexts h e = record {
 }
 
 -- the first part, and then the row
-pub row_read : {X : Type 0} (s : Sign) (f : Form) (n : ℕ) (valX : X → Value) (acc : List X → Value) (reader : Reader X) (next : List Token → Next X) → parentheses n (sign s) ≡ n → is_deep n (sign s) ≡ false → ((ts : List Token) → next ts ≡ optional (after (is_sign s) ts) (λ rest. one_more (reader rest)) (Ok None)) → ((ts : List Token) → Does f n n ts [] valX (reader ts)) → ((x : X) (vs : List Value) → perform first_item (valX x ∷ vs) ≡ acc (x ∷ []) ∷ vs) → ((es : List X) (x : X) (vs : List Value) → perform next_item (valX x ∷ acc es ∷ vs) ≡ acc (es ++ x ∷ []) ∷ vs) → (ts : List Token) → Does (both f (both (does first_item) (many (both (mark s) (both f (does next_item)))))) n n ts [] acc (first_and reader next ts)
+pub row_read : {X : Type 0} (s : Sign) (f : Form) (n : ℕ) (valX : X → Value) (acc : List X → Value) (reader : Reader X) (next : List Token → Next X) → parentheses n (sign s) ≡ n → is_deep n (sign s) ≡ false → ((ts : List Token) → next ts ≡ if_there (after (is_sign s) ts) (λ rest. one_more (reader rest)) (Ok None)) → ((ts : List Token) → Does f n n ts [] valX (reader ts)) → ((x : X) (vs : List Value) → perform first_item (valX x ∷ vs) ≡ acc (x ∷ []) ∷ vs) → ((es : List X) (x : X) (vs : List Value) → perform next_item (valX x ∷ acc es ∷ vs) ≡ acc (es ++ x ∷ []) ∷ vs) → (ts : List Token) → Does (both f (both (does first_item) (many (both (mark s) (both f (does next_item)))))) n n ts [] acc (first_and reader next ts)
 row_read s f n valX acc reader next p d nexts h begun added ts = seq (reader ts) _ (h ts) (λ x rest. act (acc (x ∷ []) ∷ []) first_item _ (λ vs. begun x vs) (row_does (the_sign s) _ n acc reader next (sign_row s f n valX acc reader next p d nexts h added) rest (x ∷ [])))
 
 -- factors and terms, from what is read of a member
-members_read : (s : Sign) (f : Form) (n : ℕ) (reader : Reader Expression) (next : List Token → Next Expression) (a : Action) (joined : List Expression → Expression) → parentheses n (sign s) ≡ n → is_deep n (sign s) ≡ false → ((ts : List Token) → next ts ≡ optional (after (is_sign s) ts) (λ rest. one_more (reader rest)) (Ok None)) → ((es : List Expression) (vs : List Value) → perform a (members es ∷ vs) ≡ expression (joined es) ∷ vs) → IsRead n f reader → IsRead n (both f (both (does first_item) (both (many (both (mark s) (both f (does next_item)))) (does a)))) (λ ts. and_then (first_and reader next ts) (λ ms. Ok (joined ms.0, ms.1)))
+members_read : (s : Sign) (f : Form) (n : ℕ) (reader : Reader Expression) (next : List Token → Next Expression) (a : Action) (joined : List Expression → Expression) → parentheses n (sign s) ≡ n → is_deep n (sign s) ≡ false → ((ts : List Token) → next ts ≡ if_there (after (is_sign s) ts) (λ rest. one_more (reader rest)) (Ok None)) → ((es : List Expression) (vs : List Value) → perform a (members es ∷ vs) ≡ expression (joined es) ∷ vs) → IsRead n f reader → IsRead n (both f (both (does first_item) (both (many (both (mark s) (both f (does next_item)))) (does a)))) (λ ts. and_then (first_and reader next ts) (λ ms. Ok (joined ms.0, ms.1)))
 members_read s f n reader next a joined p d nexts made h ts = does_same _ _ (assoc (reader ts) _ _) (seq (reader ts) _ (h ts) (λ e rest. act (members (e ∷ []) ∷ []) first_item _ (λ vs. refl) (seq_on (with_front (e ∷ []) (row_at next rest)) _ (row_does (the_sign s) _ n members reader next (sign_row s f n expression members reader next p d nexts h (λ es x vs. refl)) rest (e ∷ [])) (λ es more. last _ a (λ vs. made es vs)))))
 
 term_read : (n d : ℕ) → IsRead n factor (factor_at d) → IsRead n term (term_at d)
 unfolding term term_at factors_at more_factors next_factor_at after_sign
-term_read n d h = members_read Times factor n (factor_at d) (next_factor_at d) make_product multiplied refl refl (λ ts. refl) (λ es vs. refl) h
+term_read n d h = members_read Times factor n (factor_at d) (next_factor_at d) make_product product_of_members refl refl (λ ts. refl) (λ es vs. refl) h
 
 expr_by : (n d : ℕ) → IsRead n term (term_at d) → IsRead n expr (expr_at d)
 unfolding expr expr_at terms_at more_terms next_term_at after_sign
-expr_by n d h = members_read Plus term n (term_at d) (next_term_at d) make_sum summed refl refl (λ ts. refl) (λ es vs. refl) h
+expr_by n d h = members_read Plus term n (term_at d) (next_term_at d) make_sum sum_of_members refl refl (λ ts. refl) (λ es vs. refl) h
 
 -- what follows a parenthesis
 abbrev pub closing : Expression × List Token → Read Expression
 closing p = and_then (sign_at CloseParenthesis p.1) (λ rest. Ok (p.0, rest))
 
 abbrev pub maybe_less : ℕ → Expression → Option (List Token) → List Token → Read Expression
-maybe_less d first o ts = optional o (λ rest. and_then (expr_at d rest) (λ second. Ok (minus first second.0, second.1))) (Ok (first, ts))
+maybe_less d first o ts = if_there o (λ rest. and_then (expr_at d rest) (λ second. Ok (minus first second.0, second.1))) (Ok (first, ts))
 
-closing_same : (d : ℕ) (first : Expression × List Token) (o : Option (List Token)) → and_then (maybe_less d first.0 o first.1) closing ≡ optional o (less_with (expr_at d) first.0) (closing first)
+closing_same : (d : ℕ) (first : Expression × List Token) (o : Option (List Token)) → and_then (maybe_less d first.0 o first.1) closing ≡ if_there o (less_with (expr_at d) first.0) (closing first)
 closing_same d first None = refl
 closing_same d first (Some rest) = sym (assoc (expr_at d rest) (λ second. Ok (minus first.0 second.0, second.1)) closing)
 
@@ -76,8 +76,8 @@ after_open_same : (d : ℕ) (ts : List Token) → and_then (expr_at d ts) (λ fi
 unfolding after_open_at
 after_open_same d ts = bind_same (expr_at d ts) _ _ (λ first. closing_same d first (after_sign Minus first.1))
 
-less_read : (n d : ℕ) → IsRead n expr (expr_at d) → (first : Expression) (ts : List Token) → Does (either less (does keep)) n n ts (expression first ∷ []) expression (maybe_less d first (after_sign Minus ts) ts)
-unfolding less
+less_read : (n d : ℕ) → IsRead n expr (expr_at d) → (first : Expression) (ts : List Token) → Does (either minus_expr (does keep)) n n ts (expression first ∷ []) expression (maybe_less d first (after_sign Minus ts) ts)
+unfolding minus_expr
 less_read n d h first ts = if_sign _ _ Minus ts refl refl (λ rest. seq (expr_at d rest) _ (h rest) (λ second r. last _ make_difference (λ vs. refl))) (last _ keep (λ vs. refl))
 
 after_open_read : (n d : ℕ) → IsRead (n + 1) expr (expr_at d) → (ts : List Token) → Does after_open (n + 1) n ts [] expression (after_open_at d ts)
@@ -163,8 +163,8 @@ pub name_does : (ts : List Token) → Does name_form 0 0 ts [] name (name_at 32 
 name_does ts = name_read 0 32 refl ts
 
 -- blocks
-upper_does : (ts : List Token) → Does upper 0 0 ts [] perhaps (upper_at ts)
-unfolding upper upper_at
+upper_does : (ts : List Token) → Does upper_bound 0 0 ts [] perhaps (upper_at ts)
+unfolding upper_bound upper_at
 upper_does ts = if_sign _ _ Minus ts refl refl (λ r. seq (expr_at 32 r) _ (expr_does r) (λ hi r'. last _ some_expression (λ vs. refl))) (last _ no_expression (λ vs. refl))
 
 block_does : (ts : List Token) → Does block_form 0 0 ts [] block (block_at ts)

@@ -5,9 +5,9 @@ use Rattle.dn_base.proofs.Told.{if_some_then}
 use Rattle.dn_token.specs.Token.{Token}
 use Rattle.dn_parse.specs.Tree.{Statement, declares, heads_module, uses, heads_loop, ends, begins, orders, Order, Command, Tree}
 use Rattle.dn_parse.specs.Machine.{Stop, whole, refused, deep}
-use Rattle.dn_parse.specs.Whole.{TextFault, block_fault, first_line, Blocks, Step, by_step, step, before_begin, after_begin, at_stop, judge, forbidden}
+use Rattle.dn_parse.specs.Whole.{TextFault, block_fault, first_line, Blocks, BlockStep, by_step, step, before_begin, after_begin, at_stop, judge, forbidden}
 use Rattle.dn_parse.specs.Descent.{Read, Next, and_then, whole_statement_at}
-use Rattle.dn_parse.specs.Commands.{ordered, command_at, found, next_in, next_command, with_more, commands_from, past, behind_commands, with_commands}
+use Rattle.dn_parse.specs.Commands.{command_of_statement, command_at, command_read, next_in, next_command, with_more, commands_from, tokens_past, behind_commands, with_commands}
 use Rattle.dn_parse.specs.Views.{command_view}
 use Rattle.dn_parse.specs.declared.syntax.Cmd.{Cmd}
 use Rattle.dn_parse.specs.declared.cursor.Halt.{Halt}
@@ -26,7 +26,7 @@ no_line ts h = ap (λ (l : Option ℕ). next_in l ts) h
 
 pub next_is : (ts : List Token) (line : ℕ) (o : Found) → first_line ts ≡ Some line → command_at line ts ≡ Ok o → next_command ts ≡ o
 unfolding next_command
-next_is ts line o h e = ap (λ (l : Option ℕ). next_in l ts) h ∙ ap found e
+next_is ts line o h e = ap (λ (l : Option ℕ). next_in l ts) h ∙ ap command_read e
 
 -- the same of what a reading answers
 pub answered_is : (ts : List Token) (line : ℕ) (o asked : Option Cmd) (after : List Token) → first_line ts ≡ Some line → command_at line ts ≡ Ok (option_map (λ c. (command_view c, after)) o) → o ≡ asked → next_command ts ≡ option_map (λ c. (command_view c, after)) asked
@@ -34,16 +34,16 @@ answered_is ts line o asked after h e is = next_is ts line _ h e ∙ ap (λ (q :
 
 pub next_stops : (ts : List Token) (line : ℕ) (z : Stop) → first_line ts ≡ Some line → command_at line ts ≡ Err z → next_command ts ≡ None
 unfolding next_command
-next_stops ts line z h e = ap (λ (l : Option ℕ). next_in l ts) h ∙ ap found e
+next_stops ts line z h e = ap (λ (l : Option ℕ). next_in l ts) h ∙ ap command_read e
 
 -- the first of several
 pub more_is : (n : ℕ) (ts : List Token) (o : Found) → next_command ts ≡ o → commands_from (suc n) ts ≡ with_more o (commands_from n)
 unfolding commands_from
 more_is n ts o e = ap (λ (p : Found). with_more p (commands_from n)) e
 
-pub past_is : (n : ℕ) (ts : List Token) (o : Found) → next_command ts ≡ o → behind_commands (suc n) ts ≡ past o (behind_commands n)
+pub past_is : (n : ℕ) (ts : List Token) (o : Found) → next_command ts ≡ o → behind_commands (suc n) ts ≡ tokens_past o (behind_commands n)
 unfolding behind_commands
-past_is n ts o e = ap (λ (p : Found). past p (behind_commands n)) e
+past_is n ts o e = ap (λ (p : Found). tokens_past p (behind_commands n)) e
 
 pub fewer : (n : ℕ) (ts : List Token) (c : Command × List Token) → length (commands_from (suc n) ts) ≡ suc n → next_command ts ≡ Some c → length (commands_from n c.1) ≡ n
 fewer n ts c l e =
@@ -85,7 +85,7 @@ pub none_yet : (ts : List Token) → AreCommands 0 ts ts
 unfolding commands_from behind_commands
 none_yet ts = (refl, refl)
 
-one_alone : (o : Found) (rest : List Token) → option_map (λ (c : Command × List Token). c.1) o ≡ Some rest → (length (with_more o (commands_from zero)) ≡ 1) × (past o (behind_commands zero) ≡ rest)
+one_alone : (o : Found) (rest : List Token) → option_map (λ (c : Command × List Token). c.1) o ≡ Some rest → (length (with_more o (commands_from zero)) ≡ 1) × (tokens_past o (behind_commands zero) ≡ rest)
 unfolding commands_from behind_commands
 one_alone None rest e = cc
 one_alone (Some c) rest e = let same : c.1 ≡ rest = cc in (refl, same)
@@ -122,14 +122,14 @@ step_barred : (b : Blocks) (line : ℕ) (s : Statement) → b.begun ≡ true →
 step_barred b line s h e = ap (λ (t : Bool). cond t (after_begin b line s) (before_begin b line s)) h ∙ e
 
 abbrev Ordered : ℕ → Read Statement → Next Command
-Ordered line r = and_then r (λ s. Ok (ordered line s.1 s.0))
+Ordered line r = and_then r (λ s. Ok (command_of_statement line s.1 s.0))
 
-command_on : (last : ℕ) (all : List Token) (b : Blocks) (ts : List Token) (line : ℕ) (c : Command × List Token) (r : Read Statement) → b.begun ≡ true → first_line ts ≡ Some line → whole_statement_at ts ≡ r → found (Ordered line r) ≡ Some c → judge last all b ts ≡ judge last all (with_commands b (c.0 ∷ [])) c.1
+command_on : (last : ℕ) (all : List Token) (b : Blocks) (ts : List Token) (line : ℕ) (c : Command × List Token) (r : Read Statement) → b.begun ≡ true → first_line ts ≡ Some line → whole_statement_at ts ≡ r → command_read (Ordered line r) ≡ Some c → judge last all b ts ≡ judge last all (with_commands b (c.0 ∷ [])) c.1
 command_on last all b ts line c (Err z) g h e q = cc
 command_on last all b ts line c (Ok (orders o, after)) g h e q =
     let same : (record { line = line; order = o }, after) ≡ c = cc in
     next_step last all b ts line (orders o) after h e
-    ∙ ap (λ (s : Step). by_step s line (λ d. judge last all d after)) (step_begun b line o g)
+    ∙ ap (λ (s : BlockStep). by_step s line (λ d. judge last all d after)) (step_begun b line o g)
     ∙ ap (λ (d : Command × List Token). judge last all (with_commands b (d.0 ∷ [])) d.1) same
 command_on last all b ts line c (Ok (declares d, after)) g h e q = cc
 command_on last all b ts line c (Ok (heads_module w ps, after)) g h e q = cc
@@ -177,7 +177,7 @@ command_halts last all b ts line h s e =
 
 barred_by : (last : ℕ) (all : List Token) (b : Blocks) (ts : List Token) (line : ℕ) (s : Statement) (after : List Token) → b.begun ≡ true → first_line ts ≡ Some line → whole_statement_at ts ≡ Ok (s, after) → after_begin b line s ≡ Err forbidden → judge last all b ts ≡ Err (block_fault line)
 barred_by last all b ts line s after g h e q =
-    next_step last all b ts line s after h e ∙ ap (λ (x : Step). by_step x line (λ d. judge last all d after)) (step_barred b line s g q)
+    next_step last all b ts line s after h e ∙ ap (λ (x : BlockStep). by_step x line (λ d. judge last all d after)) (step_barred b line s g q)
 
 barred_read : (last : ℕ) (all : List Token) (b : Blocks) (ts : List Token) (line : ℕ) (r : Read Statement) → b.begun ≡ true → first_line ts ≡ Some line → whole_statement_at ts ≡ r → Ordered line r ≡ Ok None → judge last all b ts ≡ Err (block_fault line)
 barred_read last all b ts line (Err z) g h e q = cc

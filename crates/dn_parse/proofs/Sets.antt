@@ -142,23 +142,23 @@ pub among_second : (xs ys : List Sort) (l : Lexeme) → among ys l ≡ true → 
 among_second xs ys l e = among_append xs ys l ∙ one_right (among xs l) (among ys l) e
 
 -- the word, the reserved word or the sign that a test asks for
-pub word_told : (v : List ℕ) (l : Lexeme) → is_the_word v l ≡ true → l ≡ word v
-word_told v (word w) e = ap word ((bytes_eq-Decides w v).0 e)
-word_told v (keyword k) e = cc
-word_told v (number n) e = cc
-word_told v (sign s) e = cc
+pub the_word_is : (v : List ℕ) (l : Lexeme) → is_the_word v l ≡ true → l ≡ word v
+the_word_is v (word w) e = ap word ((bytes_eq-Decides w v).0 e)
+the_word_is v (keyword k) e = cc
+the_word_is v (number n) e = cc
+the_word_is v (sign s) e = cc
 
-pub keyword_told : (k : Keyword) (l : Lexeme) → is_keyword k l ≡ true → l ≡ keyword k
-keyword_told k (word w) e = cc
-keyword_told k (keyword j) e = ap keyword (same_true the_keywords tt j k e)
-keyword_told k (number n) e = cc
-keyword_told k (sign s) e = cc
+pub keyword_is : (k : Keyword) (l : Lexeme) → is_keyword k l ≡ true → l ≡ keyword k
+keyword_is k (word w) e = cc
+keyword_is k (keyword j) e = ap keyword (same_true the_keywords tt j k e)
+keyword_is k (number n) e = cc
+keyword_is k (sign s) e = cc
 
-pub sign_told : (s : Sign) (l : Lexeme) → is_sign s l ≡ true → l ≡ sign s
-sign_told s (word w) e = cc
-sign_told s (keyword k) e = cc
-sign_told s (number n) e = cc
-sign_told s (sign u) e = ap sign (same_true the_signs tt u s e)
+pub sign_is : (s : Sign) (l : Lexeme) → is_sign s l ≡ true → l ≡ sign s
+sign_is s (word w) e = cc
+sign_is s (keyword k) e = cc
+sign_is s (number n) e = cc
+sign_is s (sign u) e = ap sign (same_true the_signs tt u s e)
 
 -- two sorts of one token meet
 free_word : (u : Sort) (w : List ℕ) → is u (word w) ≡ true → is_free_word u ≡ true
@@ -201,9 +201,9 @@ common a_number u (word w) e f = cc
 common a_number u (keyword k) e f = cc
 common a_number u (number n) e f = sym (number_alike u n) ∙ f
 common a_number u (sign x) e f = cc
-common (the_word v) u l e f = subst (λ (x : Lexeme). is u x ≡ true) (word_told v l e) f
-common (the_keyword k) u l e f = subst (λ (x : Lexeme). is u x ≡ true) (keyword_told k l e) f
-common (the_sign s) u l e f = subst (λ (x : Lexeme). is u x ≡ true) (sign_told s l e) f
+common (the_word v) u l e f = subst (λ (x : Lexeme). is u x ≡ true) (the_word_is v l e) f
+common (the_keyword k) u l e f = subst (λ (x : Lexeme). is u x ≡ true) (keyword_is k l e) f
+common (the_sign s) u l e f = subst (λ (x : Lexeme). is u x ≡ true) (sign_is s l e) f
 
 pub meets_among : (s : Sort) (us : List Sort) (l : Lexeme) → is s l ≡ true → among us l ≡ true → meets_one s us ≡ true
 meets_among s [] l e f = cc

@@ -6,11 +6,11 @@ use Rattle.dn_parse.specs.Tree.{Placed}
 use Rattle.dn_parse.specs.Actions.{Value}
 use Rattle.dn_parse.specs.Forms.{Form, is_sign}
 use Rattle.dn_parse.specs.Syntax.{statement_form, SpellsText, Viable}
-use Rattle.dn_parse.specs.Machine.{Fed, on, over, stuck, feed, Stop, whole, refused, deep, Place, between, inside, run, go, go_in, is_deep, parentheses}
-use Rattle.dn_parse.specs.Laws.{IsDeep, IsShallow, open_parentheses}
+use Rattle.dn_parse.specs.Machine.{Fed, on, over, stuck, feed, Stop, whole, refused, deep, ReadingPlace, between, inside, run, go, go_in, is_deep, parentheses}
+use Rattle.dn_parse.specs.Laws.{IsDeep, IsShallowText, open_parentheses}
 use Rattle.dn_parse.proofs.Counted.{opened, counts_agree}
 use Rattle.dn_parse.proofs.Taken.{Deep, SaysAll, says_all, deep_is_closed}
-use Rattle.dn_parse.proofs.Sets.{both_left, both_right, sign_told}
+use Rattle.dn_parse.proofs.Sets.{both_left, both_right, sign_is}
 use Rattle.dn_parse.proofs.Reach.{count}
 use Rattle.dn_parse.proofs.Final.{Within, within, final, deep_is_first}
 use Rattle.dn_parse.proofs.Whole.{spelled_is_read}
@@ -23,7 +23,7 @@ IsBefore n (deep m) = n ≤ m
 
 -- after a token the place has the parentheses that the token leaves open
 over_none : (t : Token) (n : ℕ) → is_sign Semicolon t.lexeme ≡ true → 0 ≡ parentheses n t.lexeme
-over_none t n e = ap (parentheses n) (sym (sign_told Semicolon t.lexeme e))
+over_none t n e = ap (parentheses n) (sym (sign_is Semicolon t.lexeme e))
 
 -- a parenthesis ends no statement
 not_both : (l : Lexeme) → l ≡ sign OpenParenthesis → is_sign Semicolon l ≡ true → ⊥
@@ -46,17 +46,17 @@ passed_here line n k vs t rest stuck h o e = omega arith
 front_longer : (front : List Token) (t : Token) (rest : List Token) → suc (length rest) ≤ suc (length (front ++ t ∷ rest))
 front_longer front t rest = omega (arith, length-append front (t ∷ rest))
 
-passed_in : (b : Bool) (p : Place) (front : List Token) (t : Token) (rest : List Token) → IsBefore (suc (length rest)) (run p (front ++ t ∷ rest)).stop → IsBefore (suc (length rest)) (go_in b p (suc (length (front ++ t ∷ rest))) (λ q. run q (front ++ t ∷ rest))).stop
+passed_in : (b : Bool) (p : ReadingPlace) (front : List Token) (t : Token) (rest : List Token) → IsBefore (suc (length rest)) (run p (front ++ t ∷ rest)).stop → IsBefore (suc (length rest)) (go_in b p (suc (length (front ++ t ∷ rest))) (λ q. run q (front ++ t ∷ rest))).stop
 passed_in true p front t rest h = front_longer front t rest
 passed_in false p front t rest h = h
 
-passed_go : (line n : ℕ) (k : List Form) (vs : List Value) (u : Token) (front : List Token) (t : Token) (rest : List Token) (d : Fed) → SaysAll Deep k vs u d → opened (parentheses n u.lexeme) front ≡ 32 → ((q : Place) → opened (count q) front ≡ 32 → IsBefore (suc (length rest)) (run q (front ++ t ∷ rest)).stop) → IsBefore (suc (length rest)) (go d line n u.lexeme (suc (length (front ++ t ∷ rest))) (λ q. run q (front ++ t ∷ rest))).stop
+passed_go : (line n : ℕ) (k : List Form) (vs : List Value) (u : Token) (front : List Token) (t : Token) (rest : List Token) (d : Fed) → SaysAll Deep k vs u d → opened (parentheses n u.lexeme) front ≡ 32 → ((q : ReadingPlace) → opened (count q) front ≡ 32 → IsBefore (suc (length rest)) (run q (front ++ t ∷ rest)).stop) → IsBefore (suc (length rest)) (go d line n u.lexeme (suc (length (front ++ t ∷ rest))) (λ q. run q (front ++ t ∷ rest))).stop
 passed_go line n k vs u front t rest (on k' ws) h c r = passed_in (is_deep n u.lexeme) (inside line (parentheses n u.lexeme) k' ws) front t rest (r (inside line (parentheses n u.lexeme) k' ws) c)
 passed_go line n k vs u front t rest (over ws) h c r = r between (ap (λ (j : ℕ). opened j front) (over_none u n h.1) ∙ c)
 passed_go line n k vs u front t rest stuck h c r = front_longer front t rest
 
 -- the reading goes past no parenthesis before which 32 are open
-passed : (front : List Token) (t : Token) (rest : List Token) → t.lexeme ≡ sign OpenParenthesis → (p : Place) → opened (count p) front ≡ 32 → IsBefore (suc (length rest)) (run p (front ++ t ∷ rest)).stop
+passed : (front : List Token) (t : Token) (rest : List Token) → t.lexeme ≡ sign OpenParenthesis → (p : ReadingPlace) → opened (count p) front ≡ 32 → IsBefore (suc (length rest)) (run p (front ++ t ∷ rest)).stop
 passed [] t rest o between c = absurd (omega arith)
 passed [] t rest o (inside line n k vs) c = passed_here line n k vs t rest (feed k vs t.lexeme) (says_all Deep deep_is_closed k vs t) o c
 passed (u ∷ front) t rest o between c = passed_go u.line 0 (statement_form ∷ []) [] u front t rest (feed (statement_form ∷ []) [] u.lexeme) (says_all Deep deep_is_closed (statement_form ∷ []) [] u) c (passed front t rest o)
@@ -86,24 +86,24 @@ one_more_open n l o = rw o refl
 -- no parenthesis there is nested too deep
 not_deep : (n : ℕ) (l : Lexeme) → is_deep n l ≡ true → parentheses n l ≤ 32 → ⊥
 not_deep n l e h =
-    let o = sign_told OpenParenthesis l (both_left (is_sign OpenParenthesis l) (n == 32) e) in
+    let o = sign_is OpenParenthesis l (both_left (is_sign OpenParenthesis l) (n == 32) e) in
     let full : n ≡ 32 = eqb-true n 32 (both_right (is_sign OpenParenthesis l) (n == 32) e) in
     let more = one_more_open n l o in
     omega arith
 
-late_in : (n : ℕ) (l : Lexeme) (b : Bool) → is_deep n l ≡ b → parentheses n l ≤ 32 → (p : Place) (left m : ℕ) (ts : List Token) → IsLate m (run p ts).stop → IsLate m (go_in b p left (λ q. run q ts)).stop
+late_in : (n : ℕ) (l : Lexeme) (b : Bool) → is_deep n l ≡ b → parentheses n l ≤ 32 → (p : ReadingPlace) (left m : ℕ) (ts : List Token) → IsLate m (run p ts).stop → IsLate m (go_in b p left (λ q. run q ts)).stop
 late_in n l true e h p left m ts r = absurd (not_deep n l e h)
 late_in n l false e h p left m ts r = r
 
-late_go : (line n : ℕ) (k : List Form) (vs : List Value) (t : Token) (front xs : List Token) (d : Fed) → SaysAll Deep k vs t d → IsShallowFrom n (t ∷ front) → ((q : Place) → IsShallowFrom (count q) front → IsLate (length xs) (run q (front ++ xs)).stop) → IsLate (length xs) (go d line n t.lexeme (suc (length (front ++ xs))) (λ q. run q (front ++ xs))).stop
+late_go : (line n : ℕ) (k : List Form) (vs : List Value) (t : Token) (front xs : List Token) (d : Fed) → SaysAll Deep k vs t d → IsShallowFrom n (t ∷ front) → ((q : ReadingPlace) → IsShallowFrom (count q) front → IsLate (length xs) (run q (front ++ xs)).stop) → IsLate (length xs) (go d line n t.lexeme (suc (length (front ++ xs))) (λ q. run q (front ++ xs))).stop
 late_go line n k vs t front xs (on k' ws) h s r =
-    let p : Place = inside line (parentheses n t.lexeme) k' ws in
+    let p : ReadingPlace = inside line (parentheses n t.lexeme) k' ws in
     late_in n t.lexeme (is_deep n t.lexeme) refl (s (t ∷ []) front refl) p (suc (length (front ++ xs))) (length xs) (front ++ xs) (r p (shallow_after n t front s))
 late_go line n k vs t front xs (over ws) h s r = r between (subst (λ (j : ℕ). IsShallowFrom j front) (sym (over_none t n h.1)) (shallow_after n t front s))
 late_go line n k vs t front xs stuck h s r = tt
 
 -- behind a list with at most 32 parentheses open stands the first nesting
-late : (front xs : List Token) (p : Place) → IsShallowFrom (count p) front → IsLate (length xs) (run p (front ++ xs)).stop
+late : (front xs : List Token) (p : ReadingPlace) → IsShallowFrom (count p) front → IsLate (length xs) (run p (front ++ xs)).stop
 late [] xs p s = late_within (run p xs).stop (length xs) (within xs p)
 late (t ∷ front) xs between s = late_go t.line 0 (statement_form ∷ []) [] t front xs (feed (statement_form ∷ []) [] t.lexeme) (says_all Deep deep_is_closed (statement_form ∷ []) [] t) s (late front xs)
 late (t ∷ front) xs (inside line n k vs) s = late_go line n k vs t front xs (feed k vs t.lexeme) (says_all Deep deep_is_closed k vs t) s (late front xs)
@@ -115,12 +115,12 @@ deep_exactly (refused m) n A (inr d) b l = absurd d
 deep_exactly (deep m) n A r b l = let same : m ≡ n = omega arith in ap deep same
 
 -- the front of a spelling that is shallow by the laws' count is so by the machine's
-shallow_from : (xs ys : List Token) (ss : List Placed) → SpellsText (xs ++ ys) ss → IsShallow xs → IsShallowFrom 0 xs
+shallow_from : (xs ys : List Token) (ss : List Placed) → SpellsText (xs ++ ys) ss → IsShallowText xs → IsShallowFrom 0 xs
 shallow_from xs ys ss spelled s = λ front rest e.
     let all : xs ++ ys ≡ front ++ (rest ++ ys) = ap (λ (j : List Token). j ++ ys) e ∙ append_assoc front rest ys in
     subst (λ (m : ℕ). m ≤ 32) (sym (counts_agree front (rest ++ ys) ss (subst (λ (j : List Token). SpellsText j ss) all spelled))) (s front rest e)
 
-pub deep_stops : (front : List Token) (t : Token) (rest : List Token) → IsShallow front → Viable (front ++ t ∷ []) → t.lexeme ≡ sign OpenParenthesis → open_parentheses front ≡ 32 → (run between (front ++ t ∷ rest)).stop ≡ deep (suc (length rest))
+pub deep_stops : (front : List Token) (t : Token) (rest : List Token) → IsShallowText front → Viable (front ++ t ∷ []) → t.lexeme ≡ sign OpenParenthesis → open_parentheses front ≡ 32 → (run between (front ++ t ∷ rest)).stop ≡ deep (suc (length rest))
 deep_stops front t rest s (more, ss, spelled) o c =
     let all : (front ++ t ∷ []) ++ more ≡ front ++ t ∷ more = append_assoc front (t ∷ []) more in
     let whole_list = subst (λ (j : List Token). SpellsText j ss) all spelled in
@@ -135,7 +135,7 @@ no_nesting whole A (inr d) l h = absurd d
 no_nesting (refused n) A (inr d) l h = absurd d
 no_nesting (deep n) A (inr d) l h = let least = h n refl in absurd (omega arith)
 
-pub shallow_is_read : (ts : List Token) (ss : List Placed) → SpellsText ts ss → IsShallow ts → ((run between ts).stop ≡ whole) × ((run between ts).statements ≡ ss)
+pub shallow_is_read : (ts : List Token) (ss : List Placed) → SpellsText ts ss → IsShallowText ts → ((run between ts).stop ≡ whole) × ((run between ts).statements ≡ ss)
 shallow_is_read ts ss spelled s = no_nesting (run between ts).stop _ (spelled_is_read ts ss spelled) (subst (λ (j : List Token). IsLate 0 (run between j).stop) (append-nil ts) (late ts [] between (shallow_from ts [] ss (subst (λ (j : List Token). SpellsText j ss) (sym (append-nil ts)) spelled) s))) some_left
   where
     some_left : (n : ℕ) → (run between ts).stop ≡ deep n → 1 ≤ n

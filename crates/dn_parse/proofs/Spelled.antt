@@ -3,9 +3,9 @@ use Rattle.std.proofs.Common.{◌≡◌, ◌∙◌, ◌⊎◌, inl, inr, ap, sym
 use Rattle.dn_base.proofs.Booleans.{not-true, cases_Bool, false_and_true}
 use Rattle.dn_token.specs.Token.{Token}
 use Rattle.dn_parse.specs.Actions.{Value}
-use Rattle.dn_parse.specs.Forms.{Form, takes, does, and_then, either, many, parenthesised, Sort, kept, Times, Spells}
-use Rattle.dn_parse.specs.Syntax.{after_open, in_parentheses, Parenthesised, expr, term, factor, less, more_terms, more_factors}
-use Rattle.dn_parse.specs.Machine.{taken, fed, feed, inside, run, go, go_in, is_deep, parentheses}
+use Rattle.dn_parse.specs.Forms.{Form, takes, does, and_then, either, many, parenthesised, Sort, values_with_token, Times, Spells}
+use Rattle.dn_parse.specs.Syntax.{after_open, in_parentheses, Parenthesised, expr, term, factor, minus_expr, more_terms, more_factors}
+use Rattle.dn_parse.specs.Machine.{move_of_token, fed_by_move, feed, inside, run, go, go_in, is_deep, parentheses}
 use Rattle.dn_parse.proofs.Taken.{Inner}
 use Rattle.dn_parse.proofs.Counted.{opened}
 use Rattle.dn_parse.proofs.Sets.{may_skip, given, starts, goes_on, apart, fits, among, both_left, both_right, among_left, among_right, apart_among, IsOpened}
@@ -47,8 +47,8 @@ deep_or false s line n k vs t rest = inl refl
 
 takes_read : (N : Inner) (s : Sort) → IsRead N (takes s)
 takes_read N s ts vs us (t, i, e, w) rest c line n k =
-    let first : run (inside line n (takes s ∷ k) vs) (t ∷ rest) ≡ go_in (is_deep n t.lexeme) (inside line (parentheses n t.lexeme) k (kept s t.lexeme vs)) (suc (length rest)) (λ q. run q rest) = ap (λ b. go (fed (taken b [] (kept s t.lexeme vs)) k (λ ws. feed k ws t.lexeme)) line n t.lexeme (suc (length rest)) (λ q. run q rest)) i in
-    subst (λ l. Goal (takes s) line n k vs us rest l) (sym e) (subst (λ u. Goal (takes s) line n k vs u rest (t ∷ [])) (sym w) (equal_then _ _ _ first (deep_or (is_deep n t.lexeme) s line n k (kept s t.lexeme vs) t rest)))
+    let first : run (inside line n (takes s ∷ k) vs) (t ∷ rest) ≡ go_in (is_deep n t.lexeme) (inside line (parentheses n t.lexeme) k (values_with_token s t.lexeme vs)) (suc (length rest)) (λ q. run q rest) = ap (λ b. go (fed_by_move (move_of_token b [] (values_with_token s t.lexeme vs)) k (λ ws. feed k ws t.lexeme)) line n t.lexeme (suc (length rest)) (λ q. run q rest)) i in
+    subst (λ l. Goal (takes s) line n k vs us rest l) (sym e) (subst (λ u. Goal (takes s) line n k vs u rest (t ∷ [])) (sym w) (equal_then _ _ _ first (deep_or (is_deep n t.lexeme) s line n k (values_with_token s t.lexeme vs) t rest)))
 
 -- what follows the first of two forms does not go on with it
 calm_between : (N : Inner) → IsOpened N → (f g : Form) → fits g ≡ true → apart (goes_on f) (starts g) ≡ true → (ys : List Token) (vs us : List Value) → Spells N g ys vs us → (rest : List Token) → Calm (goes_on g ++ given (may_skip g) (goes_on f)) rest → Calm (goes_on f) (ys ++ rest)
@@ -153,11 +153,11 @@ is_opened zero ts vs us s = absurd s
 is_opened (suc d) ts vs us (xs, ys, ws, e, (t, i, f, w), b) = (t, ys, e ∙ ap (λ l. l ++ ys) f, i)
 
 pub parentheses_fit : fits in_parentheses ≡ true
-unfolding after_open expr term factor less more_terms more_factors
+unfolding after_open expr term factor minus_expr more_terms more_factors
 parentheses_fit = refl
 
 pub parentheses_end : goes_on in_parentheses ≡ []
-unfolding after_open expr term factor less more_terms more_factors
+unfolding after_open expr term factor minus_expr more_terms more_factors
 parentheses_end = refl
 
 calm_at_all : (ss : List Sort) (ts : List Token) → ss ≡ [] → Calm ss ts

@@ -3,9 +3,9 @@ use Rattle.std.proofs.Common.{◌≡◌, ◌∙◌, inl, inr, ap, sym, refl, sub
 use Rattle.dn_token.specs.declared.token.Sign.TheVariants.{Semicolon, OpenParenthesis}
 use Rattle.dn_token.specs.Token.{Token}
 use Rattle.dn_parse.specs.Actions.{Value}
-use Rattle.dn_parse.specs.Forms.{Form, takes, does, and_then, either, many, parenthesised, Sort, is, is_sign, kept, Times, Spells}
+use Rattle.dn_parse.specs.Forms.{Form, takes, does, and_then, either, many, parenthesised, Sort, is, is_sign, values_with_token, Times, Spells}
 use Rattle.dn_parse.specs.Syntax.{after_open, in_parentheses, Parenthesised}
-use Rattle.dn_parse.specs.Machine.{Move, to, skips, refuses, taken, followed, or_else, repeated, move, Fed, on, over, stuck, closed, fed, feed}
+use Rattle.dn_parse.specs.Machine.{Move, to, skips, refuses, move_of_token, move_and_then, move_or_else, move_again, move, Fed, on, over, stuck, fed_at_end, fed_by_move, feed}
 
 -- what an expression in parentheses is
 abbrev pub Inner : Type 1
@@ -36,7 +36,7 @@ Says N f vs t (to k ws) = (ts : List Token) (us : List Value) → SpellsAll N k 
 Says N f vs t (skips ws) = Spells N f [] vs ws
 Says N f vs t refuses = Unit {0}
 
-takes_says : (N : Inner) (s : Sort) (vs : List Value) (t : Token) (b : Bool) → is s t.lexeme ≡ b → Says N (takes s) vs t (taken b [] (kept s t.lexeme vs))
+takes_says : (N : Inner) (s : Sort) (vs : List Value) (t : Token) (b : Bool) → is s t.lexeme ≡ b → Says N (takes s) vs t (move_of_token b [] (values_with_token s t.lexeme vs))
 takes_says N s vs t true e = λ ts us h. (t, e, ap (λ l. t ∷ l) h.0, h.1)
 takes_says N s vs t false e = tt
 
@@ -45,7 +45,7 @@ then_says N f g vs ws t (to k xs) s h = λ ts us a. ([], t ∷ ts, ws, refl, s, 
 then_says N f g vs ws t (skips xs) s h = ([], [], ws, refl, s, h)
 then_says N f g vs ws t refuses s h = tt
 
-followed_says : (N : Inner) (f g : Form) (vs : List Value) (t : Token) (m : Move) → Says N f vs t m → ((ws : List Value) → Says N g ws t (move g ws t.lexeme)) → Says N (and_then f g) vs t (followed m g (λ ws. move g ws t.lexeme))
+followed_says : (N : Inner) (f g : Form) (vs : List Value) (t : Token) (m : Move) → Says N f vs t m → ((ws : List Value) → Says N g ws t (move g ws t.lexeme)) → Says N (and_then f g) vs t (move_and_then m g (λ ws. move g ws t.lexeme))
 followed_says N f g vs t (to k ws) h n = λ ts us a. let r = last_spelled N k g ts ws us a in (t ∷ r.0, r.1, r.2, ap (λ l. t ∷ l) r.3, h r.0 r.2 r.4, r.5)
 followed_says N f g vs t (skips ws) h n = then_says N f g vs ws t (move g ws t.lexeme) h (n ws)
 followed_says N f g vs t refuses h n = tt
@@ -55,12 +55,12 @@ second_says N f g vs t (to k ws) h = λ ts us a. inr (h ts us a)
 second_says N f g vs t (skips ws) h = inr h
 second_says N f g vs t refuses h = tt
 
-either_says : (N : Inner) (f g : Form) (vs : List Value) (t : Token) (m : Move) → Says N f vs t m → Says N g vs t (move g vs t.lexeme) → Says N (either f g) vs t (or_else m (move g vs t.lexeme))
+either_says : (N : Inner) (f g : Form) (vs : List Value) (t : Token) (m : Move) → Says N f vs t m → Says N g vs t (move g vs t.lexeme) → Says N (either f g) vs t (move_or_else m (move g vs t.lexeme))
 either_says N f g vs t (to k ws) h n = λ ts us a. inl (h ts us a)
 either_says N f g vs t (skips ws) h n = inl h
 either_says N f g vs t refuses h n = second_says N f g vs t (move g vs t.lexeme) n
 
-many_says : (N : Inner) (f : Form) (vs : List Value) (t : Token) (m : Move) → Says N f vs t m → Says N (many f) vs t (repeated m (many f) vs)
+many_says : (N : Inner) (f : Form) (vs : List Value) (t : Token) (m : Move) → Says N f vs t m → Says N (many f) vs t (move_again m (many f) vs)
 many_says N f vs t (to k ws) h = λ ts us a.
     let r = last_spelled N k (many f) ts ws us a in
     (suc r.5.0, (t ∷ r.0, r.1, r.2, ap (λ l. t ∷ l) r.3, h r.0 r.2 r.4, r.5.1))
@@ -71,7 +71,7 @@ many_says N f vs t refuses h = (zero, (refl, refl))
 abbrev pub IsClosed : Inner → Type 0
 IsClosed N = (ts : List Token) (vs us : List Value) → Spells N in_parentheses ts vs us → N ts vs us
 
-parenthesised_says : (N : Inner) → IsClosed N → (vs : List Value) (t : Token) (b : Bool) → is_sign OpenParenthesis t.lexeme ≡ b → Says N parenthesised vs t (taken b (after_open ∷ []) vs)
+parenthesised_says : (N : Inner) → IsClosed N → (vs : List Value) (t : Token) (b : Bool) → is_sign OpenParenthesis t.lexeme ≡ b → Says N parenthesised vs t (move_of_token b (after_open ∷ []) vs)
 parenthesised_says N c vs t true e = λ ts us (xs, ys, ws, a, s, (n, w)).
     c (t ∷ ts) vs us (t ∷ [], ts, vs, refl, (t, e, refl, refl), subst (λ u. Spells N after_open ts vs u) (sym w) (subst (λ l. Spells N after_open l vs ws) (sym (a ∙ ap (λ l. xs ++ l) n ∙ append-nil xs)) s))
 parenthesised_says N c vs t false e = tt
@@ -90,7 +90,7 @@ SaysAll N k vs t (on k' ws) = (ts : List Token) (us : List Value) → SpellsAll 
 SaysAll N k vs t (over ws) = SpellsAll N k [] vs ws × (is_sign Semicolon t.lexeme ≡ true)
 SaysAll N k vs t stuck = Unit {0}
 
-closed_says : (N : Inner) (vs : List Value) (t : Token) (b : Bool) → is_sign Semicolon t.lexeme ≡ b → SaysAll N [] vs t (closed b vs)
+closed_says : (N : Inner) (vs : List Value) (t : Token) (b : Bool) → is_sign Semicolon t.lexeme ≡ b → SaysAll N [] vs t (fed_at_end b vs)
 closed_says N vs t true e = ((refl, refl), e)
 closed_says N vs t false e = tt
 
@@ -99,7 +99,7 @@ skipped_says N f k vs ws t (on k' xs) s h = λ ts us a. ([], t ∷ ts, ws, refl,
 skipped_says N f k vs ws t (over xs) s h = (([], [], ws, refl, s, h.0), h.1)
 skipped_says N f k vs ws t stuck s h = tt
 
-fed_says : (N : Inner) (f : Form) (k : List Form) (vs : List Value) (t : Token) (m : Move) → Says N f vs t m → ((ws : List Value) → SaysAll N k ws t (feed k ws t.lexeme)) → SaysAll N (f ∷ k) vs t (fed m k (λ ws. feed k ws t.lexeme))
+fed_says : (N : Inner) (f : Form) (k : List Form) (vs : List Value) (t : Token) (m : Move) → Says N f vs t m → ((ws : List Value) → SaysAll N k ws t (feed k ws t.lexeme)) → SaysAll N (f ∷ k) vs t (fed_by_move m k (λ ws. feed k ws t.lexeme))
 fed_says N f k vs t (to k' ws) h n = λ ts us a. let r = front_spelled N k' k ts ws us a in (t ∷ r.0, r.1, r.2, ap (λ l. t ∷ l) r.3, h r.0 r.2 r.4, r.5)
 fed_says N f k vs t (skips ws) h n = skipped_says N f k vs ws t (feed k ws t.lexeme) h (n ws)
 fed_says N f k vs t refuses h n = tt

@@ -4,8 +4,8 @@ use Rattle.dn_token.specs.declared.token.Sign.TheVariants.{Semicolon}
 use Rattle.dn_token.specs.Token.{Token, sign}
 use Rattle.dn_parse.specs.Tree.{Placed, Statement}
 use Rattle.dn_parse.specs.Forms.{is_sign}
-use Rattle.dn_parse.specs.Syntax.{statement_form, statement_of, SpellsStatement, SpellsText, expr, term, factor, less, more_terms, more_factors, index, part_form, more_parts, name_form, upper, block_form, at_addr, dest_form, more_dests, entry_form, more_blocks, accept, more_entries, map_form, over, spec_form, plain_form, agent_form, vectors_form, more_names, unit_form, param_form, more_params, params_form, module_form, arg_form, more_args, args_form, use_form, loop_form, access_form, maybe_access, command_form}
-use Rattle.dn_parse.specs.Machine.{whole, Outcome, with_statement, between, inside, run, go, closed}
+use Rattle.dn_parse.specs.Syntax.{statement_form, statement_of, SpellsStatement, SpellsText, expr, term, factor, minus_expr, more_terms, more_factors, index, part_form, more_parts, name_form, upper_bound, block_form, at_addr, dest_form, more_dests, entry_form, more_blocks, accept, more_entries, map_form, over, spec_form, plain_form, agent_form, vectors_form, more_names, unit_form, param_form, more_params, params_form, module_form, arg_form, more_args, args_form, use_form, loop_form, access_form, maybe_access, command_form}
+use Rattle.dn_parse.specs.Machine.{whole, Outcome, with_statement, between, inside, run, go, fed_at_end}
 use Rattle.dn_parse.specs.Laws.{IsDeep}
 use Rattle.dn_parse.proofs.Sets.{may_skip, goes_on, fits, among}
 use Rattle.dn_parse.proofs.Counted.{opened}
@@ -13,15 +13,15 @@ use Rattle.dn_parse.proofs.Turns.{Upto, upto_then}
 use Rattle.dn_parse.proofs.Spelled.{Calm, form_read}
 
 pub statement_fits : fits statement_form ≡ true
-unfolding expr term factor less more_terms more_factors index part_form more_parts name_form upper block_form at_addr dest_form more_dests entry_form more_blocks accept more_entries map_form over spec_form plain_form agent_form vectors_form more_names unit_form param_form more_params params_form module_form arg_form more_args args_form use_form loop_form access_form maybe_access command_form statement_form
+unfolding expr term factor minus_expr more_terms more_factors index part_form more_parts name_form upper_bound block_form at_addr dest_form more_dests entry_form more_blocks accept more_entries map_form over spec_form plain_form agent_form vectors_form more_names unit_form param_form more_params params_form module_form arg_form more_args args_form use_form loop_form access_form maybe_access command_form statement_form
 statement_fits = refl
 
 pub statement_needed : may_skip statement_form ≡ false
-unfolding expr term factor less more_terms more_factors index part_form more_parts name_form upper block_form at_addr dest_form more_dests entry_form more_blocks accept more_entries map_form over spec_form plain_form agent_form vectors_form more_names unit_form param_form more_params params_form module_form arg_form more_args args_form use_form loop_form access_form maybe_access command_form statement_form
+unfolding expr term factor minus_expr more_terms more_factors index part_form more_parts name_form upper_bound block_form at_addr dest_form more_dests entry_form more_blocks accept more_entries map_form over spec_form plain_form agent_form vectors_form more_names unit_form param_form more_params params_form module_form arg_form more_args args_form use_form loop_form access_form maybe_access command_form statement_form
 statement_needed = refl
 
 pub semicolon_ends : among (goes_on statement_form) (sign Semicolon) ≡ false
-unfolding expr term factor less more_terms more_factors index part_form more_parts name_form upper block_form at_addr dest_form more_dests entry_form more_blocks accept more_entries map_form over spec_form plain_form agent_form vectors_form more_names unit_form param_form more_params params_form module_form arg_form more_args args_form use_form loop_form access_form maybe_access command_form statement_form
+unfolding expr term factor minus_expr more_terms more_factors index part_form more_parts name_form upper_bound block_form at_addr dest_form more_dests entry_form more_blocks accept more_entries map_form over spec_form plain_form agent_form vectors_form more_names unit_form param_form more_params params_form module_form arg_form more_args args_form use_form loop_form access_form maybe_access command_form statement_form
 semicolon_ends = refl
 
 -- one statement, with its `;`
@@ -29,7 +29,7 @@ pub statement_read : (first : Token) (xs : List Token) (s : Statement) (stop : T
 statement_read first xs s stop ys (d, vs, spelled, e) semi =
     let calm : Calm (goes_on statement_form) (stop ∷ ys) = ap (among (goes_on statement_form)) semi ∙ semicolon_ends in
     let read = form_read d statement_form statement_fits (first ∷ xs) [] vs spelled (stop ∷ ys) calm first.line 0 [] in
-    let last : run (inside first.line (opened 0 (first ∷ xs)) [] vs) (stop ∷ ys) ≡ with_statement (record { line = first.line; statement = statement_of vs }) (run between ys) = ap (λ l. go (closed (is_sign Semicolon l) vs) first.line (opened 0 (first ∷ xs)) l (suc (length ys)) (λ q. run q ys)) semi in
+    let last : run (inside first.line (opened 0 (first ∷ xs)) [] vs) (stop ∷ ys) ≡ with_statement (record { line = first.line; statement = statement_of vs }) (run between ys) = ap (λ l. go (fed_at_end (is_sign Semicolon l) vs) first.line (opened 0 (first ∷ xs)) l (suc (length ys)) (λ q. run q ys)) semi in
     let same : with_statement (record { line = first.line; statement = statement_of vs }) (run between ys) ≡ with_statement (record { line = first.line; statement = s }) (run between ys) = ap (λ (r : Statement). with_statement (record { line = first.line; statement = r }) (run between ys)) (sym e) in
     upto_then _ _ _ read (inl (last ∙ same))
 

@@ -29,14 +29,14 @@ pub data Value : Type 0 where
   statement : Statement → Value
 
 -- a sum or a product of one member is that member
-abbrev pub summed : List Expression → Expression
-summed (e ∷ []) = e
-summed es = sum (expressions es)
+abbrev pub sum_of_members : List Expression → Expression
+sum_of_members (e ∷ []) = e
+sum_of_members es = sum (expressions es)
 
 -- a product of one member is that member
-abbrev pub multiplied : List Expression → Expression
-multiplied (e ∷ []) = e
-multiplied es = product (expressions es)
+abbrev pub product_of_members : List Expression → Expression
+product_of_members (e ∷ []) = e
+product_of_members es = product (expressions es)
 
 -- what a form does to the values without taking a token
 pub data Action : Type 0 where
@@ -87,16 +87,16 @@ pub data Action : Type 0 where
   make_absorb : Action
 
 -- the list of this part alone
-abbrev pub alone : Value → Value
-alone (expression e) = members (e ∷ [])
-alone (part p) = name (p ∷ [])
-alone (name n) = names (n ∷ [])
-alone (block b) = blocks (b ∷ [])
-alone (dest d) = dests (d ∷ [])
-alone (entry e) = entries (e ∷ [])
-alone (param p) = params (p ∷ [])
-alone (arg a) = args (a ∷ [])
-alone v = v
+abbrev pub list_of_one : Value → Value
+list_of_one (expression e) = members (e ∷ [])
+list_of_one (part p) = name (p ∷ [])
+list_of_one (name n) = names (n ∷ [])
+list_of_one (block b) = blocks (b ∷ [])
+list_of_one (dest d) = dests (d ∷ [])
+list_of_one (entry e) = entries (e ∷ [])
+list_of_one (param p) = params (p ∷ [])
+list_of_one (arg a) = args (a ∷ [])
+list_of_one v = v
 
 -- a list with this part behind it
 abbrev pub with_last : Value → Value → Value
@@ -113,11 +113,11 @@ with_last list v = list
 -- what an action makes of the values on top, which are as it wants them in every spelling
 abbrev pub perform : Action → List Value → List Value
 perform keep vs = vs
-perform first_item (v ∷ vs) = alone v ∷ vs
+perform first_item (v ∷ vs) = list_of_one v ∷ vs
 perform next_item (v ∷ list ∷ vs) = with_last list v ∷ vs
 perform make_variable (text w ∷ vs) = expression (variable w) ∷ vs
-perform make_sum (members es ∷ vs) = expression (summed es) ∷ vs
-perform make_product (members es ∷ vs) = expression (multiplied es) ∷ vs
+perform make_sum (members es ∷ vs) = expression (sum_of_members es) ∷ vs
+perform make_product (members es ∷ vs) = expression (product_of_members es) ∷ vs
 perform make_difference (expression b ∷ expression a ∷ vs) = expression (minus a b) ∷ vs
 perform no_expression vs = perhaps None ∷ vs
 perform some_expression (expression e ∷ vs) = perhaps (Some e) ∷ vs

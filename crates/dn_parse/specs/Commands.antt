@@ -6,23 +6,23 @@ use Rattle.dn_parse.specs.Whole.{first_line, Blocks}
 use Rattle.dn_parse.specs.Descent.{Next, ◌>>=◌, whole_statement_at}
 
 -- a command that begins in this line and the tokens behind it, where the statement is one
-abbrev pub ordered : ℕ → List Token → Statement → Option (Command × List Token)
-ordered line rest (orders o) = Some (record { line = line; order = o }, rest)
-ordered line rest _ = None
+abbrev pub command_of_statement : ℕ → List Token → Statement → Option (Command × List Token)
+command_of_statement line rest (orders o) = Some (record { line = line; order = o }, rest)
+command_of_statement line rest _ = None
 
 -- the command that begins in this line, with its `;`; or none, where the statement there is no command
 unfoldable pub command_at : ℕ → List Token → Next Command
-command_at line ts = whole_statement_at ts >>= λ s. Ok (ordered line s.1 s.0)
+command_at line ts = whole_statement_at ts >>= λ s. Ok (command_of_statement line s.1 s.0)
 
 -- the command that was read, where one was
-abbrev pub found : Next Command → Option (Command × List Token)
-found (Ok c) = c
-found (Err s) = None
+abbrev pub command_read : Next Command → Option (Command × List Token)
+command_read (Ok c) = c
+command_read (Err s) = None
 
 -- the command at the front of these tokens, of which the first has this line
 abbrev pub next_in : Option ℕ → List Token → Option (Command × List Token)
 next_in None ts = None
-next_in (Some line) ts = found (command_at line ts)
+next_in (Some line) ts = command_read (command_at line ts)
 
 -- the command at the front of these tokens and the tokens behind it, where a command stands there
 unfoldable pub next_command : List Token → Option (Command × List Token)
@@ -39,14 +39,14 @@ commands_from zero ts = []
 commands_from (suc n) ts = with_more (next_command ts) (commands_from n)
 
 -- the tokens behind a command and those after it, of which there is none where no command stands
-abbrev pub past : Option (Command × List Token) → (List Token → List Token) → List Token
-past None more = []
-past (Some c) more = more c.1
+abbrev pub tokens_past : Option (Command × List Token) → (List Token → List Token) → List Token
+tokens_past None more = []
+tokens_past (Some c) more = more c.1
 
 -- the tokens behind the first so many commands
 unfoldable pub behind_commands : ℕ → List Token → List Token
 behind_commands zero ts = ts
-behind_commands (suc n) ts = past (next_command ts) (behind_commands n)
+behind_commands (suc n) ts = tokens_past (next_command ts) (behind_commands n)
 
 -- the blocks with these commands more
 abbrev pub with_commands : Blocks → List Command → Blocks

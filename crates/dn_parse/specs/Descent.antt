@@ -9,7 +9,7 @@ use Rattle.dn_token.specs.declared.token.Sign.TheVariants.{Semicolon, Comma, Ope
 use Rattle.dn_token.specs.Token.{Lexeme, Token, word, keyword, number, sign}
 use Rattle.dn_token.specs.Words.{spelling}
 use Rattle.dn_parse.specs.Tree.{Expression, constant, variable, minus, Part, Block, Dest, Entry, Role, plain_role, agent_role, vectors_role, Spec, Param, number_param, node_param, Arg, number_arg, node_arg, Declaration, node, unit, Order, resolve, lookup, view, grant, route, revoke, dump, split, absorb, Statement, declares, heads_module, uses, heads_loop, ends, begins, orders}
-use Rattle.dn_parse.specs.Actions.{summed, multiplied}
+use Rattle.dn_parse.specs.Actions.{sum_of_members, product_of_members}
 use Rattle.dn_parse.specs.Forms.{is_sign, is_keyword, is_the_word}
 use Rattle.dn_parse.specs.Machine.{Stop, refused, deep}
 
@@ -40,9 +40,9 @@ abbrev pub refuses_at : {A : Type 0} → List Token → Result A Stop
 refuses_at ts = Err (refused (length ts))
 
 -- a part that may be left out: what follows its first token, if that is there
-abbrev pub optional : {A B : Type 0} → Option A → (A → B) → B → B
-optional None present absent = absent
-optional (Some rest) present absent = present rest
+abbrev pub if_there : {A B : Type 0} → Option A → (A → B) → B → B
+if_there None present absent = absent
+if_there (Some rest) present absent = present rest
 
 -- one token
 abbrev pub after : (Lexeme → Bool) → List Token → Option (List Token)
@@ -90,14 +90,14 @@ any_of (keyword k) = Some (spelling k)
 any_of _ = None
 
 -- a value with the tokens after it, or the refusal of the first token
-abbrev pub value_or : {A : Type 0} → Option A → List Token → List Token → Read A
-value_or None rest ts = refuses_at ts
-value_or (Some a) rest ts = Ok (a, rest)
+abbrev pub value_or_refused : {A : Type 0} → Option A → List Token → List Token → Read A
+value_or_refused None rest ts = refuses_at ts
+value_or_refused (Some a) rest ts = Ok (a, rest)
 
 -- the value of the first token, where it has one
 abbrev pub value_at : {A : Type 0} → (Lexeme → Option A) → Reader A
 value_at value [] = refuses_at []
-value_at value (t ∷ ts) = value_or (value t.lexeme) ts (t ∷ ts)
+value_at value (t ∷ ts) = value_or_refused (value t.lexeme) ts (t ∷ ts)
 
 -- a word that is not reserved
 unfoldable pub word_at : Reader (List ℕ)
@@ -132,7 +132,7 @@ one_more r = r >>= λ x. Ok (Some x)
 
 -- a part behind a `,`, or none
 abbrev pub after_comma : {X : Type 0} → Reader X → List Token → Next X
-after_comma reader ts = optional (after_sign Comma ts) (λ rest. one_more (reader rest)) (Ok None)
+after_comma reader ts = if_there (after_sign Comma ts) (λ rest. one_more (reader rest)) (Ok None)
 
 -- one part, and then a row
 abbrev pub first_and : {X : Type 0} → Reader X → (List Token → Next X) → Reader (List X)
@@ -140,15 +140,15 @@ first_and reader next ts = reader ts >>= λ first. with_front (first.0 ∷ []) (
 
 -- this sign and one more part, or none
 abbrev pub next_by : Sign → Reader Expression → List Token → Next Expression
-next_by s reader ts = optional (after_sign s ts) (λ rest. one_more (reader rest)) (Ok None)
+next_by s reader ts = if_there (after_sign s ts) (λ rest. one_more (reader rest)) (Ok None)
 
 -- factor { "*" factor }, where the reading of a factor is given
 abbrev pub term_with : Reader Expression → Reader Expression
-term_with factor ts = first_and factor (next_by Times factor) ts >>= λ members. Ok (multiplied members.0, members.1)
+term_with factor ts = first_and factor (next_by Times factor) ts >>= λ members. Ok (product_of_members members.0, members.1)
 
 -- term { "+" term }, where the reading of a term is given
 abbrev pub expr_with : Reader Expression → Reader Expression
-expr_with term ts = first_and term (next_by Plus term) ts >>= λ members. Ok (summed members.0, members.1)
+expr_with term ts = first_and term (next_by Plus term) ts >>= λ members. Ok (sum_of_members members.0, members.1)
 
 -- expr ")", behind the `-`, where the part before it and the reading of an expression are given
 abbrev pub less_with : Reader Expression → Expression → Reader Expression
@@ -161,7 +161,7 @@ less_with expr first ts = do
 abbrev pub after_open_with : Reader Expression → Reader Expression
 after_open_with expr ts = do
   first ← expr ts
-  optional (after_sign Minus first.1) (less_with expr first.0) (sign_at CloseParenthesis first.1 >>= λ rest. Ok (first.0, rest))
+  if_there (after_sign Minus first.1) (less_with expr first.0) (sign_at CloseParenthesis first.1 >>= λ rest. Ok (first.0, rest))
 
 -- what follows a parenthesis, or the refusal of any other sign
 abbrev pub at_sign : Bool → List Token → Read Expression → Read Expression
@@ -199,7 +199,7 @@ factors_at d ts = first_and (factor_at d) (next_factor_at d) ts
 
 -- factor { "*" factor }, as one expression
 unfoldable pub term_at : ℕ → Reader Expression
-term_at d ts = factors_at d ts >>= λ members. Ok (multiplied members.0, members.1)
+term_at d ts = factors_at d ts >>= λ members. Ok (product_of_members members.0, members.1)
 
 -- [ "+" term ]
 unfoldable pub next_term_at : ℕ → List Token → Next Expression
@@ -211,7 +211,7 @@ terms_at d ts = first_and (term_at d) (next_term_at d) ts
 
 -- term { "+" term }, as one expression
 unfoldable pub expr_at : ℕ → Reader Expression
-expr_at d ts = terms_at d ts >>= λ members. Ok (summed members.0, members.1)
+expr_at d ts = terms_at d ts >>= λ members. Ok (sum_of_members members.0, members.1)
 
 -- expr [ "-" expr ] ")"
 unfoldable pub after_open_at : ℕ → Reader Expression
@@ -223,7 +223,7 @@ first_and_most n reader next ts = reader ts >>= λ first. with_front (first.0 �
 
 -- an expression that may be left out, behind what begins it
 abbrev pub expr_after : Reader Expression → Option (List Token) → List Token → Read (Option Expression)
-expr_after reader found ts = optional found (λ rest. reader rest >>= λ e. Ok (Some e.0, e.1)) (Ok (None, ts))
+expr_after reader found ts = if_there found (λ rest. reader rest >>= λ e. Ok (Some e.0, e.1)) (Ok (None, ts))
 
 -- "[" a part "]"
 abbrev pub in_brackets : {X : Type 0} → Reader X → Reader X
@@ -235,7 +235,7 @@ in_brackets reader ts = do
 
 -- [ "[" expr "]" ]
 unfoldable pub index_at : ℕ → Reader (Option Expression)
-index_at d ts = optional (after_sign OpenBracket ts) (λ inner. expr_at d inner >>= λ e. sign_at CloseBracket e.1 >>= λ rest. Ok (Some e.0, rest)) (Ok (None, ts))
+index_at d ts = if_there (after_sign OpenBracket ts) (λ inner. expr_at d inner >>= λ e. sign_at CloseBracket e.1 >>= λ rest. Ok (Some e.0, rest)) (Ok (None, ts))
 
 -- word [ "[" expr "]" ]
 unfoldable pub part_at : ℕ → Reader Part
@@ -246,7 +246,7 @@ part_at d ts = do
 
 -- [ "." part ]
 unfoldable pub next_part_at : ℕ → List Token → Next Part
-next_part_at d ts = optional (after_sign Dot ts) (λ rest. one_more (part_at d rest)) (Ok None)
+next_part_at d ts = if_there (after_sign Dot ts) (λ rest. one_more (part_at d rest)) (Ok None)
 
 -- part { "." part }
 unfoldable pub name_at : ℕ → Reader (List Part)
@@ -284,7 +284,7 @@ dest_at ts = do
 
 -- [ "and" dest ]
 unfoldable pub next_dest_at : List Token → Next Dest
-next_dest_at ts = optional (after_keyword And ts) (λ rest. one_more (dest_at rest)) (Ok None)
+next_dest_at ts = if_there (after_keyword And ts) (λ rest. one_more (dest_at rest)) (Ok None)
 
 -- dest { "and" dest }, at most eight
 unfoldable pub dests_at : Reader (List Dest)
@@ -308,15 +308,15 @@ entries_at ts = first_and entry_at next_entry_at ts
 
 -- [ "accept" "[" block { "," block } "]" ]
 unfoldable pub accept_at : Reader (List Block)
-accept_at ts = optional (after_keyword Accept ts) (in_brackets blocks_at) (Ok ([], ts))
+accept_at ts = if_there (after_keyword Accept ts) (in_brackets blocks_at) (Ok ([], ts))
 
 -- [ "map" "[" entry { "," entry } "]" ]
 unfoldable pub map_at : Reader (List Entry)
-map_at ts = optional (after_keyword Map ts) (in_brackets entries_at) (Ok ([], ts))
+map_at ts = if_there (after_keyword Map ts) (in_brackets entries_at) (Ok ([], ts))
 
 -- [ "over" name ]
 unfoldable pub over_at : Reader (Option (List Part))
-over_at ts = optional (after_keyword Over ts) (λ rest. name_at 32 rest >>= λ name. Ok (Some name.0, name.1)) (Ok (None, ts))
+over_at ts = if_there (after_keyword Over ts) (λ rest. name_at 32 rest >>= λ name. Ok (Some name.0, name.1)) (Ok (None, ts))
 
 -- the parts of a node, of which each may be left out
 unfoldable pub spec_at : Reader Spec
@@ -328,7 +328,7 @@ spec_at ts = do
 
 -- "num" word, or "node" word
 unfoldable pub param_at : Reader Param
-param_at ts = optional (after_keyword Num ts) (λ rest. word_at rest >>= λ w. Ok (number_param w.0, w.1)) (keyword_at Node ts >>= λ rest. word_at rest >>= λ w. Ok (node_param w.0, w.1))
+param_at ts = if_there (after_keyword Num ts) (λ rest. word_at rest >>= λ w. Ok (number_param w.0, w.1)) (keyword_at Node ts >>= λ rest. word_at rest >>= λ w. Ok (node_param w.0, w.1))
 
 -- [ "," param ]
 unfoldable pub next_param_at : List Token → Next Param
@@ -340,11 +340,11 @@ params_at ts = first_and param_at next_param_at ts
 
 -- [ param { "," param } ] ")"
 unfoldable pub closed_params_at : Reader (List Param)
-closed_params_at ts = optional (after_sign CloseParenthesis ts) (λ rest. Ok ([], rest)) (params_at ts >>= λ ps. sign_at CloseParenthesis ps.1 >>= λ rest. Ok (ps.0, rest))
+closed_params_at ts = if_there (after_sign CloseParenthesis ts) (λ rest. Ok ([], rest)) (params_at ts >>= λ ps. sign_at CloseParenthesis ps.1 >>= λ rest. Ok (ps.0, rest))
 
 -- expr, or "node" name; one parenthesis is open round them
 unfoldable pub arg_at : Reader Arg
-arg_at ts = optional (after_keyword Node ts) (λ rest. name_at 31 rest >>= λ n. Ok (node_arg n.0, n.1)) (expr_at 31 ts >>= λ e. Ok (number_arg e.0, e.1))
+arg_at ts = if_there (after_keyword Node ts) (λ rest. name_at 31 rest >>= λ n. Ok (node_arg n.0, n.1)) (expr_at 31 ts >>= λ e. Ok (number_arg e.0, e.1))
 
 -- [ "," arg ]
 unfoldable pub next_arg_at : List Token → Next Arg
@@ -356,7 +356,7 @@ args_at ts = first_and arg_at next_arg_at ts
 
 -- [ arg { "," arg } ] ")"
 unfoldable pub closed_args_at : Reader (List Arg)
-closed_args_at ts = optional (after_sign CloseParenthesis ts) (λ rest. Ok ([], rest)) (args_at ts >>= λ xs. sign_at CloseParenthesis xs.1 >>= λ rest. Ok (xs.0, rest))
+closed_args_at ts = if_there (after_sign CloseParenthesis ts) (λ rest. Ok ([], rest)) (args_at ts >>= λ xs. sign_at CloseParenthesis xs.1 >>= λ rest. Ok (xs.0, rest))
 
 -- [ "," name ]
 unfoldable pub next_port_at : List Token → Next (List Part)
@@ -379,8 +379,8 @@ unfoldable pub measure_at : Keyword → Reader Expression
 measure_at k ts = keyword_at k ts >>= λ rest. expr_at 32 rest
 
 -- name "kind" any "page" expr "slots" expr "reach" expr "to" name { "," name }
-unfoldable pub unit_at : Reader Declaration
-unit_at ts = do
+unfoldable pub unit_declaration_at : Reader Declaration
+unit_declaration_at ts = do
   name ← name_at 32 ts
   rest ← keyword_at Kind name.1
   kind ← any_word_at rest
@@ -420,11 +420,11 @@ loop_at ts = do
 
 -- "read", or "write"
 unfoldable pub mode_at : Reader Mode
-mode_at ts = optional (after_word (codes "read") ts) (λ rest. Ok (ForRead, rest)) (the_word_at (codes "write") ts >>= λ rest. Ok (ForWrite, rest))
+mode_at ts = if_there (after_word (codes "read") ts) (λ rest. Ok (ForRead, rest)) (the_word_at (codes "write") ts >>= λ rest. Ok (ForWrite, rest))
 
 -- [ "for" ( "read" | "write" ) ]
 unfoldable pub access_at : Reader Mode
-access_at ts = optional (after_keyword For ts) (λ rest. mode_at rest) (Ok (Unsaid, ts))
+access_at ts = if_there (after_keyword For ts) (λ rest. mode_at rest) (Ok (Unsaid, ts))
 
 -- name expr [ access ]
 unfoldable pub resolve_at : Reader Order
@@ -490,7 +490,7 @@ as_declared r = r >>= λ d. Ok (declares d.0, d.1)
 unfoldable pub keyword_statement_at : Keyword → List Token → Reader Statement
 keyword_statement_at Agent ts rest = as_declared (node_at agent_role rest)
 keyword_statement_at Vectors ts rest = as_declared (node_at vectors_role rest)
-keyword_statement_at UnitWord ts rest = as_declared (unit_at rest)
+keyword_statement_at UnitWord ts rest = as_declared (unit_declaration_at rest)
 keyword_statement_at Module ts rest = module_at rest
 keyword_statement_at Use ts rest = use_at rest
 keyword_statement_at For ts rest = loop_at rest

@@ -65,13 +65,13 @@ with_text (number n) vs = expression (constant n) ∷ vs
 with_text (sign s) vs = vs
 
 -- what a token of this sort adds to the values
-abbrev pub kept : Sort → Lexeme → List Value → List Value
-kept a_word l vs = with_text l vs
-kept any_word l vs = with_text l vs
-kept a_number l vs = with_text l vs
-kept (the_word w) l vs = vs
-kept (the_keyword k) l vs = vs
-kept (the_sign s) l vs = vs
+abbrev pub values_with_token : Sort → Lexeme → List Value → List Value
+values_with_token a_word l vs = with_text l vs
+values_with_token any_word l vs = with_text l vs
+values_with_token a_number l vs = with_text l vs
+values_with_token (the_word w) l vs = vs
+values_with_token (the_keyword k) l vs = vs
+values_with_token (the_sign s) l vs = vs
 
 -- a form: one token of a sort; no token but an action on the values; one form and then another; one form or else another; a form zero or more times;
 -- or an expression in parentheses, which is named here because expressions stand in each other
@@ -90,7 +90,7 @@ Times S (suc n) ts vs vs' = (xs : List Token) × (ys : List Token) × (ws : List
 
 -- These tokens spell this form, and make these values of those before them. N says what an expression in parentheses is.
 abbrev pub Spells : (List Token → List Value → List Value → Type 0) → Form → List Token → List Value → List Value → Type 0
-Spells N (takes s) ts vs vs' = (t : Token) × (is s t.lexeme ≡ true) × (ts ≡ t ∷ []) × (vs' ≡ kept s t.lexeme vs)
+Spells N (takes s) ts vs vs' = (t : Token) × (is s t.lexeme ≡ true) × (ts ≡ t ∷ []) × (vs' ≡ values_with_token s t.lexeme vs)
 Spells N (does a) ts vs vs' = (ts ≡ []) × (vs' ≡ perform a vs)
 Spells N (and_then f g) ts vs vs' = (xs : List Token) × (ys : List Token) × (ws : List Value) × (ts ≡ xs ++ ys) × Spells N f xs vs ws × Spells N g ys ws vs'
 Spells N (either f g) ts vs vs' = Spells N f ts vs vs' ⊎ Spells N g ts vs vs'
@@ -98,9 +98,9 @@ Spells N (many f) ts vs vs' = (n : ℕ) × Times (Spells N f) n ts vs vs'
 Spells N parenthesised ts vs vs' = N ts vs vs'
 
 -- forms one after another, and a choice between forms
-abbrev pub in_order : Form → List Form → Form
-in_order f [] = f
-in_order f (g ∷ gs) = and_then f (in_order g gs)
+abbrev pub forms_in_order : Form → List Form → Form
+forms_in_order f [] = f
+forms_in_order f (g ∷ gs) = and_then f (forms_in_order g gs)
 
 -- a choice between forms
 abbrev pub one_of : Form → List Form → Form

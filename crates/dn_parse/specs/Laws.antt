@@ -5,11 +5,11 @@ use Rattle.dn_token.specs.Token.{Token, sign}
 use Rattle.dn_parse.specs.Tree.{Placed}
 use Rattle.dn_parse.specs.Syntax.{SpellsText, Viable}
 use Rattle.dn_parse.specs.Forms.{is_sign}
-use Rattle.dn_parse.specs.Machine.{Stop, whole, refused, deep, Outcome, Place, between, run}
+use Rattle.dn_parse.specs.Machine.{Stop, whole, refused, deep, Outcome, ReadingPlace, between, run}
 
 -- What is refused at a token, or nested too deep there, is so whatever follows it.
 abbrev pub StopIsFinal : Type 0
-StopIsFinal = (p : Place) (front : List Token) (t : Token) (r r' : List Token) → ((run p (front ++ t ∷ r)).stop ≡ refused (suc (length r)) → (run p (front ++ t ∷ r')).stop ≡ refused (suc (length r')))
+StopIsFinal = (p : ReadingPlace) (front : List Token) (t : Token) (r r' : List Token) → ((run p (front ++ t ∷ r)).stop ≡ refused (suc (length r)) → (run p (front ++ t ∷ r')).stop ≡ refused (suc (length r')))
     × ((run p (front ++ t ∷ r)).stop ≡ deep (suc (length r)) → (run p (front ++ t ∷ r')).stop ≡ deep (suc (length r')))
 
 -- What is read to its end is a spelling of the statements that were read.
@@ -36,16 +36,16 @@ abbrev pub RefusedIsFirst : Type 0
 RefusedIsFirst = (ts : List Token) (n : ℕ) → (run between ts).stop ≡ refused n → (front : List Token) × (rest : List Token) × (ts ≡ front ++ rest) × (n ≡ length rest) × Viable front × IsEnded front rest
 
 -- so many of these tokens open a parenthesis
-abbrev pub opening : List Token → ℕ
-opening ts = count_by (λ t. is_sign OpenParenthesis t.lexeme) ts
+abbrev pub opening_count : List Token → ℕ
+opening_count ts = count_by (λ t. is_sign OpenParenthesis t.lexeme) ts
 
 -- so many of these tokens close one
-abbrev pub closing : List Token → ℕ
-closing ts = count_by (λ t. is_sign CloseParenthesis t.lexeme) ts
+abbrev pub closing_count : List Token → ℕ
+closing_count ts = count_by (λ t. is_sign CloseParenthesis t.lexeme) ts
 
 -- the parentheses that are open behind these tokens
 abbrev pub open_parentheses : List Token → ℕ
-open_parentheses ts = opening ts - closing ts
+open_parentheses ts = opening_count ts - closing_count ts
 
 -- The place of a nesting: a parenthesis that a form allows there, before which 32 are open.
 abbrev pub DeepIsFirst : Type 0
@@ -58,30 +58,30 @@ left_at (refused n) = n
 left_at (deep n) = n
 
 -- the token ends no statement
-abbrev pub IsInside : Token → Type 0
-IsInside t = is_sign Semicolon t.lexeme ≡ false
+abbrev pub EndsNoStatement : Token → Type 0
+EndsNoStatement t = is_sign Semicolon t.lexeme ≡ false
 
 -- Before the place where the reading stops stand the tokens of the statements that were read, and then those of a
 -- statement that has begun: no `;` is among these, and so no whole statement.
 abbrev pub IsStoppedIn : List Token → Outcome → Type 0
 IsStoppedIn ts o = (before : List Token) × (inside : List Token) × (rest : List Token)
     × (ts ≡ before ++ inside ++ rest) × (left_at o.stop ≡ length rest)
-    × SpellsText before o.statements × All IsInside inside
+    × SpellsText before o.statements × All EndsNoStatement inside
 
 -- Wherever the reading stops, the statements that were read are kept, and none is passed over.
 abbrev pub StopKeepsStatements : Type 0
 StopKeepsStatements = (ts : List Token) → IsStoppedIn ts (run between ts)
 
 -- at no place in a list are more than 32 parentheses open
-abbrev pub IsShallow : List Token → Type 0
-IsShallow ts = (front rest : List Token) → ts ≡ front ++ rest → open_parentheses front ≤ 32
+abbrev pub IsShallowText : List Token → Type 0
+IsShallowText ts = (front rest : List Token) → ts ≡ front ++ rest → open_parentheses front ≤ 32
 
 -- The first 33rd parenthesis that a form allows stops the reading there.
 abbrev pub DeepStops : Type 0
-DeepStops = (front : List Token) (t : Token) (rest : List Token) → IsShallow front → Viable (front ++ t ∷ []) →
+DeepStops = (front : List Token) (t : Token) (rest : List Token) → IsShallowText front → Viable (front ++ t ∷ []) →
     t.lexeme ≡ sign OpenParenthesis → open_parentheses front ≡ 32 → (run between (front ++ t ∷ rest)).stop ≡ deep (suc (length rest))
 
 -- Each spelling with at most 32 parentheses open at once is read as its statements.
 abbrev pub ShallowIsRead : Type 0
-ShallowIsRead = (ts : List Token) (ss : List Placed) → SpellsText ts ss → IsShallow ts →
+ShallowIsRead = (ts : List Token) (ss : List Placed) → SpellsText ts ss → IsShallowText ts →
     ((run between ts).stop ≡ whole) × ((run between ts).statements ≡ ss)

@@ -21,17 +21,17 @@ abbrev pub is_constant_name : List Part → Bool
 is_constant_name ps = list_all (λ p. is_constant_index p.index) ps
 
 -- a command of which each expression is a number, indices of names among them
-abbrev pub is_plain : Order → Bool
-is_plain (resolve name e m) = is_constant_name name && is_constant e
-is_plain (lookup name e m) = is_constant_name name && is_constant e
-is_plain (view name m) = is_constant_name name
-is_plain (grant id agent name e f m) = is_constant_name agent && (is_constant_name name && (is_constant e && is_constant f))
-is_plain (route id agent e name) = is_constant_name agent && (is_constant e && is_constant_name name)
-is_plain (revoke id) = true
-is_plain dump = true
-is_plain split = true
-is_plain (absorb name) = is_constant_name name
+abbrev pub is_plain_order : Order → Bool
+is_plain_order (resolve name e m) = is_constant_name name && is_constant e
+is_plain_order (lookup name e m) = is_constant_name name && is_constant e
+is_plain_order (view name m) = is_constant_name name
+is_plain_order (grant id agent name e f m) = is_constant_name agent && (is_constant_name name && (is_constant e && is_constant f))
+is_plain_order (route id agent e name) = is_constant_name agent && (is_constant e && is_constant_name name)
+is_plain_order (revoke id) = true
+is_plain_order dump = true
+is_plain_order split = true
+is_plain_order (absorb name) = is_constant_name name
 
 -- commands that are all plain
 abbrev pub are_plain : List Command → Bool
-are_plain commands = list_all (λ c. is_plain c.order) commands
+are_plain commands = list_all (λ c. is_plain_order c.order) commands

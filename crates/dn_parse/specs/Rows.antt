@@ -6,18 +6,18 @@ use Rattle.dn_token.specs.Token.{Token}
 use Rattle.dn_parse.specs.declared.expressions.Row.{Row}
 use Rattle.dn_parse.specs.declared.expressions.Row.TheVariants.{Product, Sum}
 use Rattle.dn_parse.specs.Tree.{Expression}
-use Rattle.dn_parse.specs.Actions.{summed, multiplied}
+use Rattle.dn_parse.specs.Actions.{sum_of_members, product_of_members}
 use Rattle.dn_parse.specs.Descent.{◌>>=◌, Next, Reader, first_and, next_by, factor_at, term_at}
 
 -- the members as one expression
 abbrev pub as_one : Row → List Expression → Expression
-as_one Product = multiplied
-as_one Sum = summed
+as_one Product = product_of_members
+as_one Sum = sum_of_members
 
 -- the sign between two members
-abbrev pub sign_of : Row → Sign
-sign_of Product = Times
-sign_of Sum = Plus
+abbrev pub row_sign : Row → Sign
+row_sign Product = Times
+row_sign Sum = Plus
 
 -- a member: of a product a factor, of a sum a term
 abbrev pub member_at : Row → ℕ → Reader Expression
@@ -26,7 +26,7 @@ member_at Sum = term_at
 
 -- [ "*" factor ], or [ "+" term ]
 unfoldable pub next_member_at : Row → ℕ → List Token → Next Expression
-next_member_at row d ts = next_by (sign_of row) (member_at row d) ts
+next_member_at row d ts = next_by (row_sign row) (member_at row d) ts
 
 -- factor { "*" factor }, or term { "+" term }, member by member
 unfoldable pub members_at : Row → ℕ → Reader (List Expression)

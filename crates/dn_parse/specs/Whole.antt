@@ -40,33 +40,33 @@ pub data Misplacement : Type 0 where
   crowded : Misplacement
 
 -- what a whole statement does to the blocks
-abbrev pub Step : Type 0
-Step = Result Blocks Misplacement
+abbrev pub BlockStep : Type 0
+BlockStep = Result Blocks Misplacement
 
 -- one statement more in the innermost block
-abbrev pub with_item : Blocks → Item → Step
+abbrev pub with_item : Blocks → Item → BlockStep
 with_item b i = Ok (record { frames = b.frames; body = b.body ++ i ∷ []; begun = b.begun; commands = b.commands })
 
 -- one block more is open, of which there may be 16
-abbrev pub with_frame : Blocks → ℕ → Opener → Step
+abbrev pub with_frame : Blocks → ℕ → Opener → BlockStep
 with_frame b line o = if nat_lt (length b.frames) 16 then Ok (record { frames = record { line = line; opener = o; before = b.body } ∷ b.frames; body = []; begun = b.begun; commands = b.commands }) else Err crowded
 
 -- the innermost block is closed
-abbrev pub without_frame : Blocks → List Frame → Step
+abbrev pub without_frame : Blocks → List Frame → BlockStep
 without_frame b [] = Err forbidden
 without_frame b (f ∷ fs) = Ok (record { frames = fs; body = f.before ++ closed_block f b.body ∷ []; begun = b.begun; commands = b.commands })
 
 -- the commands begin
-abbrev pub with_begin : Blocks → Step
+abbrev pub with_begin : Blocks → BlockStep
 with_begin b = Ok (record { frames = b.frames; body = b.body; begun = true; commands = b.commands })
 
 -- a statement that is forbidden in a block
-abbrev pub outside_blocks : List Frame → Step → Step
+abbrev pub outside_blocks : List Frame → BlockStep → BlockStep
 outside_blocks [] s = s
 outside_blocks (f ∷ fs) s = Err forbidden
 
 -- before `begin`: `end` with no open block, `module` or `begin` with an open block, and a command are forbidden
-abbrev pub before_begin : Blocks → ℕ → Statement → Step
+abbrev pub before_begin : Blocks → ℕ → Statement → BlockStep
 before_begin b line (declares d) = with_item b (declared line d)
 before_begin b line (heads_module w ps) = outside_blocks b.frames (with_frame b line (opens_module w ps))
 before_begin b line (uses w xs n) = with_item b (instance line w xs n)
@@ -76,12 +76,12 @@ before_begin b line begins = outside_blocks b.frames (with_begin b)
 before_begin b line (orders o) = Err forbidden
 
 -- after `begin` any statement but a command is forbidden
-abbrev pub after_begin : Blocks → ℕ → Statement → Step
+abbrev pub after_begin : Blocks → ℕ → Statement → BlockStep
 after_begin b line (orders o) = Ok (record { frames = b.frames; body = b.body; begun = b.begun; commands = b.commands ++ record { line = line; order = o } ∷ [] })
 after_begin b line _ = Err forbidden
 
 -- what a whole statement does, before `begin` or after it
-abbrev pub step : Blocks → Placed → Step
+abbrev pub step : Blocks → Placed → BlockStep
 step b p = if b.begun then after_begin b p.line p.statement else before_begin b p.line p.statement
 
 -- why a text is not read: it is too long, it is no list of tokens, or its tokens are no tree; each fault but the first has its line
@@ -128,22 +128,22 @@ misplacement_fault forbidden line = block_fault line
 misplacement_fault crowded line = nesting_fault line
 
 -- the statements one by one: a block fault counts at the `;` of its statement, and so before the place where the reading stopped
-abbrev pub by_step : Step → ℕ → (Blocks → Result Tree TextFault) → Result Tree TextFault
+abbrev pub by_step : BlockStep → ℕ → (Blocks → Result Tree TextFault) → Result Tree TextFault
 by_step (Ok b) line next = next b
 by_step (Err m) line next = Err (misplacement_fault m line)
 
 -- the statements one after another, and then where the reading stopped
-abbrev pub judged : List Placed → (Blocks → Result Tree TextFault) → Blocks → Result Tree TextFault
-judged [] at b = at b
-judged (p ∷ ps) at b = by_step (step b p) p.line (judged ps at)
+abbrev pub judgement_of : List Placed → (Blocks → Result Tree TextFault) → Blocks → Result Tree TextFault
+judgement_of [] at b = at b
+judgement_of (p ∷ ps) at b = by_step (step b p) p.line (judgement_of ps at)
 
 -- the tree of a list of tokens, or its first fault; the last line is that of the end of the text
 unfoldable pub reading : ℕ → List Token → Result Tree TextFault
-reading last ts = judged (run between ts).statements (at_stop (run between ts).stop last ts) no_blocks_yet
+reading last ts = judgement_of (run between ts).statements (at_stop (run between ts).stop last ts) no_blocks_yet
 
 -- what is still to be said, from a place between statements on, with these blocks so far
 unfoldable pub judge : ℕ → List Token → Blocks → List Token → Result Tree TextFault
-judge last ts b rest = judged (run between rest).statements (at_stop (run between rest).stop last ts) b
+judge last ts b rest = judgement_of (run between rest).statements (at_stop (run between rest).stop last ts) b
 
 -- so many line feeds are in a text
 abbrev pub line_feeds : List ℕ → ℕ

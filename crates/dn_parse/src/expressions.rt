@@ -2,7 +2,7 @@
 
 ghost use Rattle.std.specs.Prelude.{◌≡◌, ◌<◌, [], ◌∷◌, map, IfOk, vec_len};
 ghost use Rattle.dn_token.specs.Terms.{cursor_view};
-ghost use Rattle.dn_parse.specs.Terms.{IsShorter, Reads, ReadsNext, Shortens, after_open_at, as_one, expr_at, expr_view, factor_at, joined_at, member_at, next_member_at, sign_of};
+ghost use Rattle.dn_parse.specs.Terms.{IsShorter, Reads, ReadsNext, Shortens, after_open_at, as_one, expr_at, expr_view, factor_at, joined_at, member_at, next_member_at, row_sign};
 
 use crate::cursor::{Halt, after_sign, refusal, sign};
 use crate::syntax::Expr;
@@ -44,7 +44,7 @@ fn as_one<'a>(row: Row, members: Vec<Expr<'a>>) -> Expr<'a>
 
 /// The sign between two members.
 fn sign_of(row: Row) -> Sign
-    ensures { result ≡ sign_of row }
+    ensures { result ≡ row_sign row }
 {
     match row {
         Row::Product => Sign::Times,
@@ -111,7 +111,7 @@ fn member<'a>(alloc: Global, tokens: &mut Cursor<'a>, depth: u8, row: Row) -> Re
 {
     match row {
         Row::Product => factor(alloc, tokens, depth),
-        Row::Sum => joined(alloc, tokens, depth, Row::Product),
+        Row::Sum => row_expr(alloc, tokens, depth, Row::Product),
     }
 }
 
@@ -137,7 +137,12 @@ fn next_member<'a>(
 
 /// `factor { "*" factor }`, or `term { "+" term }`, as one expression
 #[cycle(expressions)]
-fn joined<'a>(alloc: Global, tokens: &mut Cursor<'a>, depth: u8, row: Row) -> Result<Expr<'a>, Halt>
+fn row_expr<'a>(
+    alloc: Global,
+    tokens: &mut Cursor<'a>,
+    depth: u8,
+    row: Row,
+) -> Result<Expr<'a>, Halt>
     ensures gives { Reads expr_view result tokens.new
         (joined_at row depth (cursor_view tokens.old)) }
     ensures shorter { IfOk result (λ _. IsShorter tokens.new tokens.old) }
@@ -161,5 +166,5 @@ pub fn expr<'a>(alloc: Global, tokens: &mut Cursor<'a>, depth: u8) -> Result<Exp
     ensures gives { Reads expr_view result tokens.new (expr_at depth (cursor_view tokens.old)) }
     ensures shorter { IfOk result (λ _. IsShorter tokens.new tokens.old) }
 {
-    joined(alloc, tokens, depth, Row::Sum)
+    row_expr(alloc, tokens, depth, Row::Sum)
 }

@@ -81,7 +81,7 @@ pub fn name<'a>(alloc: Global, tokens: &mut Cursor<'a>, depth: u8) -> Result<Nam
 
 /// `[ "-" expr ]`
 #[tactic(auto, unfolding(crate::specs::Descent::upper_at))]
-fn upper<'a>(alloc: Global, tokens: &mut Cursor<'a>) -> Result<Option<Expr<'a>>, Halt>
+fn upper_bound<'a>(alloc: Global, tokens: &mut Cursor<'a>) -> Result<Option<Expr<'a>>, Halt>
     ensures gives { Reads maybe_expr_view result tokens.new (upper_at (cursor_view tokens.old)) }
     ensures shorter { IfOk result (λ _. IsNoLonger tokens.new tokens.old) }
 {
@@ -99,7 +99,7 @@ fn block<'a>(alloc: Global, tokens: &mut Cursor<'a>) -> Result<BlockExpr<'a>, Ha
     ensures shorter { IfOk result (λ _. IsShorter tokens.new tokens.old) }
 {
     let lo = expr(alloc, tokens, MOST_OPEN)?;
-    let hi = upper(alloc, tokens)?;
+    let hi = upper_bound(alloc, tokens)?;
     Ok(BlockExpr { lo, hi })
 }
 
@@ -275,7 +275,7 @@ fn entries<'a>(alloc: Global, tokens: &mut Cursor<'a>) -> Result<Items<EntryExpr
 
 /// `"[" block { "," block } "]"`
 #[inline(never)]
-fn accepted<'a>(alloc: Global, tokens: &mut Cursor<'a>) -> Result<Items<BlockExpr<'a>>, Halt>
+fn accept_blocks<'a>(alloc: Global, tokens: &mut Cursor<'a>) -> Result<Items<BlockExpr<'a>>, Halt>
     ensures gives { Reads (map block_view) result tokens.new
         (in_brackets blocks_at (cursor_view tokens.old)) }
 {
@@ -293,12 +293,12 @@ fn accept<'a>(alloc: Global, tokens: &mut Cursor<'a>) -> Result<Items<BlockExpr<
     if !after_keyword(tokens, Keyword::Accept) {
         return Ok(Items::new(alloc));
     }
-    accepted(alloc, tokens)
+    accept_blocks(alloc, tokens)
 }
 
 /// `"[" entry { "," entry } "]"`
 #[inline(never)]
-fn mapped<'a>(alloc: Global, tokens: &mut Cursor<'a>) -> Result<Items<EntryExpr<'a>>, Halt>
+fn map_entries<'a>(alloc: Global, tokens: &mut Cursor<'a>) -> Result<Items<EntryExpr<'a>>, Halt>
     ensures gives { Reads (map entry_view) result tokens.new
         (in_brackets entries_at (cursor_view tokens.old)) }
 {
@@ -316,7 +316,7 @@ fn map<'a>(alloc: Global, tokens: &mut Cursor<'a>) -> Result<Items<EntryExpr<'a>
     if !after_keyword(tokens, Keyword::Map) {
         return Ok(Items::new(alloc));
     }
-    mapped(alloc, tokens)
+    map_entries(alloc, tokens)
 }
 
 /// `[ "over" name ]`

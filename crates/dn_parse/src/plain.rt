@@ -1,7 +1,7 @@
 //! Commands whose parts have their values as they stand.
 
 ghost use Rattle.std.specs.Prelude.{◌≡◌};
-ghost use Rattle.dn_parse.specs.Terms.{expr_view, index_view, is_constant, is_constant_index, is_constant_name, is_plain, name_view, order_view};
+ghost use Rattle.dn_parse.specs.Terms.{expr_view, index_view, is_constant, is_constant_index, is_constant_name, is_plain_order, name_view, order_view};
 
 use crate::syntax::{Expr, Order, PartExpr};
 
@@ -39,7 +39,7 @@ fn is_constant_name(name: &[PartExpr]) -> bool
 
 /// Whether each expression of a command is a number, indices of names among them.
 pub fn is_plain(order: &Order) -> bool
-    ensures { result ≡ is_plain (order_view order.now) }
+    ensures { result ≡ is_plain_order (order_view order.now) }
 {
     match order {
         Order::Resolve(name, expr, _) => is_constant_name(name.as_slice()) && is_constant(expr),

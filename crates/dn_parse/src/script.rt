@@ -3,7 +3,7 @@
 ghost use Rattle.std.specs.Prelude.{◌≡◌, [], length, IsTrue};
 ghost use Rattle.dn_token.specs.Terms.{cursor_view};
 ghost use Rattle.dn_parse.specs.Commands.{commands_from};
-ghost use Rattle.dn_parse.specs.Plain.{are_plain, is_plain};
+ghost use Rattle.dn_parse.specs.Plain.{are_plain, is_plain_order};
 
 use crate::blocks::{Misplaced, Trouble};
 use crate::cursor::{Halt, first_line};
@@ -80,7 +80,8 @@ impl<'a> Script<'a> {
             option_map (λ c. c.1) (next_command (cursor_view tokens.old))
             ≡ Some (cursor_view tokens.new)) }
         ensures plain { IfOk result (λ p.
-            option_map (λ c. is_plain c.0.order) (next_command (cursor_view tokens.old)) ≡ Some p) }
+            option_map (λ c. is_plain_order c.0.order) (next_command (cursor_view tokens.old))
+            ≡ Some p) }
         ensures shorter { IfOk result (λ _. IsShorter tokens.new tokens.old) }
         ensures err { IfErr result (λ e. (last : ℕ) (all : List SpecToken) (b : SpecBlocks) →
             b.begun ≡ true → IfSome (trouble_view e last all)

@@ -2,7 +2,7 @@
 
 ghost use Rattle.std.specs.Prelude.{◌≡◌, ◌<◌, length, map, IfOk, IfSome};
 ghost use Rattle.dn_token.specs.Terms.{cursor_view};
-ghost use Rattle.dn_parse.specs.Terms.{IsShorter, Reads, ReadsNext, Shortens, access_at, any_word_at, arg_at, arg_view, args_at, as_declared, closed_args_at, closed_params_at, command_at, command_view, declaration_view, expr_view, grant_at, keyword_statement_at, lookup_at, loop_at, measure_at, mode_at, module_at, name_view, next_arg_at, next_param_at, next_port_at, node_at, order_at, order_view, param_at, param_view, params_at, ports_at, resolve_at, role_view, route_at, statement_at, statement_view, unit_at, use_at, view_at, whole_statement_at};
+ghost use Rattle.dn_parse.specs.Terms.{IsShorter, Reads, ReadsNext, Shortens, access_at, any_word_at, arg_at, arg_view, args_at, as_declared, closed_args_at, closed_params_at, command_at, command_view, declaration_view, expr_view, grant_at, keyword_statement_at, lookup_at, loop_at, measure_at, mode_at, module_at, name_view, next_arg_at, next_param_at, next_port_at, node_at, order_at, order_view, param_at, param_view, params_at, ports_at, resolve_at, role_view, route_at, statement_at, statement_view, unit_declaration_at, use_at, view_at, whole_statement_at};
 ghost use Rattle.dn_parse.specs.declared.cursor.Halt.TheVariants.{Refused};
 
 use crate::cursor::{
@@ -271,7 +271,7 @@ fn node<'a>(alloc: Global, tokens: &mut Cursor<'a>, role: DeclRole) -> Result<De
 
 /// `name "is" spec`, as a statement
 #[inline(never)]
-fn declared<'a>(
+fn node_statement<'a>(
     alloc: Global,
     tokens: &mut Cursor<'a>,
     role: DeclRole,
@@ -293,9 +293,10 @@ fn measure<'a>(alloc: Global, tokens: &mut Cursor<'a>, word: Keyword) -> Result<
 }
 
 /// `name "kind" any "page" expr "slots" expr "reach" expr "to" name { "," name }`
-#[tactic(auto, unfolding(crate::specs::Descent::unit_at))]
+#[tactic(auto, unfolding(crate::specs::Descent::unit_declaration_at))]
 fn unit<'a>(alloc: Global, tokens: &mut Cursor<'a>) -> Result<Decl<'a>, Halt>
-    ensures gives { Reads declaration_view result tokens.new (unit_at (cursor_view tokens.old)) }
+    ensures gives { Reads declaration_view result tokens.new
+        (unit_declaration_at (cursor_view tokens.old)) }
 {
     let name = name(alloc, tokens, MOST_OPEN)?;
     keyword(tokens, Keyword::Kind)?;
@@ -500,8 +501,8 @@ fn keyword_statement<'a>(
         (keyword_statement_at word (cursor_view whole.now) (cursor_view tokens.old)) }
 {
     match word {
-        Keyword::Agent => declared(alloc, tokens, DeclRole::Agent),
-        Keyword::Vectors => declared(alloc, tokens, DeclRole::Vectors),
+        Keyword::Agent => node_statement(alloc, tokens, DeclRole::Agent),
+        Keyword::Vectors => node_statement(alloc, tokens, DeclRole::Vectors),
         Keyword::Unit => {
             let unit = unit(alloc, tokens)?;
             Ok(Statement::Decl(unit))
@@ -527,7 +528,7 @@ fn read_statement<'a>(alloc: Global, tokens: &mut Cursor<'a>) -> Result<Statemen
         return Err(refusal(tokens));
     };
     match token.lexeme {
-        Lexeme::Word(_) => declared(alloc, tokens, DeclRole::Plain),
+        Lexeme::Word(_) => node_statement(alloc, tokens, DeclRole::Plain),
         Lexeme::Keyword(word) => {
             let whole = *tokens;
             tokens.step();
@@ -540,7 +541,7 @@ fn read_statement<'a>(alloc: Global, tokens: &mut Cursor<'a>) -> Result<Statemen
 /// The refusal of what follows a statement where no `;` does.
 #[cold]
 #[inline(never)]
-fn unclosed<'a>(statement: Statement<'a>, tokens: &Cursor<'a>) -> Halt
+fn refuse_unclosed<'a>(statement: Statement<'a>, tokens: &Cursor<'a>) -> Halt
     ensures { result ≡ Refused (length (cursor_view tokens.now)) }
 {
     drop(statement);
@@ -556,7 +557,7 @@ pub fn whole_statement<'a>(alloc: Global, tokens: &mut Cursor<'a>) -> Result<Sta
 {
     let statement = read_statement(alloc, tokens)?;
     if !after_sign(tokens, Sign::Semicolon) {
-        return Err(unclosed(statement, tokens));
+        return Err(refuse_unclosed(statement, tokens));
     }
     Ok(statement)
 }

@@ -10,7 +10,7 @@ use Rattle.dn_view.proofs.Pages.{power_below}
 use Rattle.dn_base.proofs.Lists.{drop_at}
 use Rattle.dn_interval.specs.declared.row.End.{End}
 use Rattle.dn_interval.specs.declared.row.Row.{Row}
-use Rattle.dn_interval.specs.Rows.{Member, moved, Apart, HasEnds, GivenBy}
+use Rattle.dn_interval.specs.Rows.{Member, further_end, Apart, HasEnds, GivenBy}
 use Rattle.dn_interval.specs.Spans.{in_span}
 use Rattle.dn_interval.specs.Strands.{rows_give}
 use Rattle.dn_interval.proofs.Names.{rows_to}
@@ -19,17 +19,17 @@ use Rattle.dn_net.specs.declared.node.NodeDecl.{NodeDecl}
 use Rattle.dn_net.specs.Decode.{top, unit_at, StopsAt}
 use Rattle.dn_flat.specs.declared.levels.Levels.{Levels}
 use Rattle.dn_flat.specs.Levels.{IsLevels, levels_give}
-use Rattle.dn_flat.specs.Views.{end_of, name_of_end}
 use Rattle.dn_tables.specs.declared.placement.Hop.{Hop}
-use Rattle.dn_place.specs.Sought.{IsFormed, IsReady, Sought}
+use Rattle.dn_place.specs.Sought.{IsFormed, IsSearchReady, Sought}
 use Rattle.dn_net.specs.declared.node.Unit.{Unit as UnitPart}
 use Rattle.dn_placement.specs.Placement.{Leads, Meets}
+use Rattle.dn_walk.specs.Ends.{end_of, name_of_end}
 use Rattle.dn_place.specs.Marks.{is_marked, mark_at, AreMarked, IsEntry, Keeps, MarkedBelow, Marks, MarksAfter, MarksAll, MarksEnds, MarksGiven, MarksRows}
 use Rattle.dn_place.proofs.Pages.{unit_there}
 
 -- each node of the names is marked, or is one of the rest
 abbrev pub EndsLeft : List End → List End → List Bool → Type 0
-EndsLeft ends rest marks = (d : ℕ) (z : End) → Member z (map (moved d) ends) → z.node < length marks → (is_marked marks z.node ≡ true) ⊎ Member z (map (moved d) rest)
+EndsLeft ends rest marks = (d : ℕ) (z : End) → Member z (map (further_end d) ends) → z.node < length marks → (is_marked marks z.node ≡ true) ⊎ Member z (map (further_end d) rest)
 
 abbrev pub RowsLeft : List Row → List Row → List Bool → Type 0
 RowsLeft rows rest marks = (a : ℕ) (z : End) → GivenBy rows a z → z.node < length marks → (is_marked marks z.node ≡ true) ⊎ GivenBy rest a z
@@ -47,20 +47,20 @@ taken_end items i d l = drop-cons items i d l ∙ ap (λ n. get_or items i d ∷
 pub ends_on : (ends : List End) (i : ℕ) (e : End) (old new : List Bool) → drop i ends ≡ e ∷ drop (i + 1) ends → length new ≡ length old → Keeps old new → (e.node < length new → is_marked new e.node ≡ true) → EndsLeft ends (drop i ends) old → EndsLeft ends (drop (i + 1) ends) new
 ends_on ends i e old new taken same keeps here left = λ d z m k. go d z k (left d z m (omega arith))
   where
-    go : (d : ℕ) (z : End) → z.node < length new → (is_marked old z.node ≡ true) ⊎ Member z (map (moved d) (drop i ends)) → (is_marked new z.node ≡ true) ⊎ Member z (map (moved d) (drop (i + 1) ends))
+    go : (d : ℕ) (z : End) → z.node < length new → (is_marked old z.node ≡ true) ⊎ Member z (map (further_end d) (drop i ends)) → (is_marked new z.node ≡ true) ⊎ Member z (map (further_end d) (drop (i + 1) ends))
     go d z k (inl m) = inl (keeps z.node m)
-    go d z k (inr m) = by (subst (λ (es : List End). Member z (map (moved d) es)) taken m)
+    go d z k (inr m) = by (subst (λ (es : List End). Member z (map (further_end d) es)) taken m)
       where
-        by : (moved d e ≡ z) ⊎ Member z (map (moved d) (drop (i + 1) ends)) → (is_marked new z.node ≡ true) ⊎ Member z (map (moved d) (drop (i + 1) ends))
+        by : (further_end d e ≡ z) ⊎ Member z (map (further_end d) (drop (i + 1) ends)) → (is_marked new z.node ≡ true) ⊎ Member z (map (further_end d) (drop (i + 1) ends))
         by (inl q) = let n : e.node ≡ z.node = ap (λ (x : End). x.node) q in inl (subst (λ (x : ℕ). is_marked new x ≡ true) n (here (omega arith)))
         by (inr q) = inr q
 
 pub ends_done : (ends : List End) (i : ℕ) (marks : List Bool) → length ends ≤ i → EndsLeft ends (drop i ends) marks → MarksEnds ends marks
 ends_done ends i marks l left = λ d z m k. go d z (left d z m k)
   where
-    go : (d : ℕ) (z : End) → (is_marked marks z.node ≡ true) ⊎ Member z (map (moved d) (drop i ends)) → is_marked marks z.node ≡ true
+    go : (d : ℕ) (z : End) → (is_marked marks z.node ≡ true) ⊎ Member z (map (further_end d) (drop i ends)) → is_marked marks z.node ≡ true
     go d z (inl m) = m
-    go d z (inr m) = absurd (subst (λ (es : List End). Member z (map (moved d) es)) (drop_of_length-le ends l) m)
+    go d z (inr m) = absurd (subst (λ (es : List End). Member z (map (further_end d) es)) (drop_of_length-le ends l) m)
 
 pub rows_on : (rows : List Row) (i : ℕ) (r : Row) (old new : List Bool) → i < length rows → r ≡ get_or rows i r → length new ≡ length old → Keeps old new → MarksEnds r.ends new → RowsLeft rows (drop i rows) old → RowsLeft rows (drop (i + 1) rows) new
 rows_on rows i r old new l g same keeps here left = λ a z m k. go a z k (left a z m (omega arith))
@@ -104,7 +104,7 @@ pub marks_all : (net : List NodeDecl) (n : ℕ) (marks : List Bool) → length m
 marks_all net n marks long m = λ a z l s k. m a z l s (omega arith)
 
 -- the next hop of a placement stands in a marked unit
-pub marked_hop : (s : Sought) (first second third : List Bool) (v : ℕ) (before : List Hop) (hop : Hop) (chosen : List Hop) → IsReady s → v + s.request.size ≤ top + 1 → AreMarked s first second third → Meets s.net s.request s.request.agent v (before ++ (hop ∷ chosen)) → Leads s.net s.slots s.request (before ++ (hop ∷ chosen)) → length before ≤ 2 → mark_at first second third (suc (length before)) hop.unit ≡ true
+pub marked_hop : (s : Sought) (first second third : List Bool) (v : ℕ) (before : List Hop) (hop : Hop) (chosen : List Hop) → IsSearchReady s → v + s.request.size ≤ top + 1 → AreMarked s first second third → Meets s.net s.request s.request.agent v (before ++ (hop ∷ chosen)) → Leads s.net s.slots s.request (before ++ (hop ∷ chosen)) → length before ≤ 2 → mark_at first second third (suc (length before)) hop.unit ≡ true
 marked_hop s first second third v [] hop chosen ready fits m meets leads l = let some = ready.some in m.firsts (v + 0) (record { node = hop.unit; addr = hop.x + 0 }) (omega arith) (meets 0 some) (unit_there s.net hop.unit leads.0.unit leads.0.is_unit)
 marked_hop s first second third v (a ∷ []) hop chosen ready fits m meets leads l = let some = ready.some in m.seconds a.unit a.port leads.0.node leads.0.unit one leads.0.is_unit leads.0.is_port (a.y + 0) (record { node = hop.unit; addr = hop.x + 0 }) (omega (arith, leads.0.reached, power_below leads.0.unit.reach (ready.formed a.unit leads.0.unit leads.0.is_unit).reach)) (leads.0.meets 0 some) (unit_there s.net hop.unit leads.1.0.unit leads.1.0.is_unit)
   where
@@ -157,12 +157,12 @@ written_back new old len e f = ap (λ l. take len (new ++ l)) (drop_of_length-le
     nil (x ∷ xs) = ap (λ l. x ∷ l) (nil xs)
 
 -- a name that a row of the rows gives is given by the rows
-given_at : (rows : List Row) (i : ℕ) (r : Row) (a : ℕ) (z : End) → i < length rows → get_or rows i r ≡ r → IsTrue (in_span r.span a) → Member z (map (moved (a - r.span.lo)) r.ends) → GivenBy rows a z
+given_at : (rows : List Row) (i : ℕ) (r : Row) (a : ℕ) (z : End) → i < length rows → get_or rows i r ≡ r → IsTrue (in_span r.span a) → Member z (map (further_end (a - r.span.lo)) r.ends) → GivenBy rows a z
 given_at [] i r a z l g w m = absurd (omega arith)
-given_at (q ∷ rows) zero r a z l g w m = inl (subst (λ (x : Row). (IsTrue (in_span x.span a)) × Member z (map (moved (a - x.span.lo)) x.ends)) (sym g) (w, m))
+given_at (q ∷ rows) zero r a z l g w m = inl (subst (λ (x : Row). (IsTrue (in_span x.span a)) × Member z (map (further_end (a - x.span.lo)) x.ends)) (sym g) (w, m))
 given_at (q ∷ rows) (suc i) r a z l g w m = inr (given_at rows i r a z (omega arith) g w m)
 
-pub given_there : (rows : List Row) (r : Row) (a : ℕ) (z : End) → Contains rows r → IsTrue (in_span r.span a) → Member z (map (moved (a - r.span.lo)) r.ends) → GivenBy rows a z
+pub given_there : (rows : List Row) (r : Row) (a : ℕ) (z : End) → Contains rows r → IsTrue (in_span r.span a) → Member z (map (further_end (a - r.span.lo)) r.ends) → GivenBy rows a z
 given_there rows r a z c w m = given_at rows c.0 r a z c.1 c.2 w m
 
 -- a row of the rows has a name
@@ -185,7 +185,7 @@ none_given (r ∷ rows) a z e (inr g) = none_given rows a z (rest (in_span r.spa
     rest false y p = p
 
 -- the entry is the one stop of the address
-pub entry_is : (s : Sought) (levels : Levels) (entry : Option End) (at : ℕ) → IsReady s → IsLevels s.net s.request.agent levels → s.at ≡ Some at → ((z : End) → entry ≡ Some z → levels_give levels.stops at z ≡ true) → (entry ≡ None → (z : End) → levels_give levels.stops at z ≡ true → ⊥) → IsEntry s entry
+pub entry_is : (s : Sought) (levels : Levels) (entry : Option End) (at : ℕ) → IsSearchReady s → IsLevels s.net s.request.agent levels → s.at ≡ Some at → ((z : End) → entry ≡ Some z → levels_give levels.stops at z ≡ true) → (entry ≡ None → (z : End) → levels_give levels.stops at z ≡ true → ⊥) → IsEntry s entry
 entry_is s levels entry at ready f asked given none v z e l stops = go entry refl
   where
     some : (a b : ℕ) → Some a ≡ Some b → a ≡ b

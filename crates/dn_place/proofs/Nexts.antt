@@ -8,7 +8,7 @@ use Rattle.std.proofs.lemmas.Nat.{le-div}
 use Rattle.dn_view.proofs.Pages.{power_below}
 use Rattle.dn_tables.specs.declared.placement.Hop.{Hop}
 use Rattle.dn_tables.specs.Placement.{Place}
-use Rattle.dn_place.specs.Sought.{IsFormed, IsReady, Sought}
+use Rattle.dn_place.specs.Sought.{IsFormed, IsSearchReady, Sought}
 use Rattle.dn_net.specs.declared.node.Unit.{Unit as UnitPart}
 use Rattle.dn_placement.specs.Keys.{Begins}
 use Rattle.dn_placement.specs.Order.{IsAt, hop_page, hops_key, key_of}
@@ -16,8 +16,8 @@ use Rattle.dn_placement.specs.Placement.{Joins, Leads, Meets, name_on}
 use Rattle.dn_placement.proofs.Hops.{numbers}
 use Rattle.dn_placement.proofs.Keys.{append_none, cancel, one_more}
 use Rattle.dn_place.specs.Slots.{AreBarred, AreShut, AreUsable, slot_of}
-use Rattle.dn_place.specs.Rows.{AreToward, GivesOnly, wanted}
-use Rattle.dn_place.specs.Candidates.{IsUnder, NoneUnder, NoneBelow, Answers, IsChosen, ending, to_unit, to_port, to_output}
+use Rattle.dn_place.specs.Rows.{AreToward, GivesOnly, wanted_name}
+use Rattle.dn_place.specs.Candidates.{IsUnder, NoneUnder, NoneBelow, IsFirstOrNone, IsChosen, key_of_hops, to_unit, to_port, to_output}
 use Rattle.dn_place.proofs.Levels.{begun, leapt, next_one, none_left}
 use Rattle.dn_place.proofs.Openings.{Opened, opened}
 use Rattle.dn_place.proofs.Wholes.{whole}
@@ -33,21 +33,21 @@ use Rattle.dn_place.proofs.Marked.{marked_hop}
 
 -- a placement's next hop, whose numbers begin so
 pub record Next (s : Sought) (count : ℕ) (hops : List Hop) (q : Place) (given : List ℕ) : Type 0 where
-  pub opens : Opened s hops q (ending count hops)
+  pub opens : Opened s hops q (key_of_hops count hops)
   pub rest : List ℕ
   pub split : numbers opens.hop opens.rest ≡ given ++ rest
 
-pub next_of : (s : Sought) (count : ℕ) (hops : List Hop) (q : Place) (given : List ℕ) → length hops < count → IsUnder s (ending count hops ++ given) q → Next s count hops q given
+pub next_of : (s : Sought) (count : ℕ) (hops : List Hop) (q : Place) (given : List ℕ) → length hops < count → IsUnder s (key_of_hops count hops ++ given) q → Next s count hops q given
 next_of s count hops q given l u = record {
   opens = w;
   rest = u.begins.0;
-  split = cancel (ending count hops) (numbers w.hop w.rest) (given ++ u.begins.0) (sym w.key ∙ key);
+  split = cancel (key_of_hops count hops) (numbers w.hop w.rest) (given ++ u.begins.0) (sym w.key ∙ key);
 }
   where
-    key : key_of s.net q ≡ ending count hops ++ (given ++ u.begins.0)
-    key = u.begins.1 ∙ append_assoc (ending count hops) given u.begins.0
+    key : key_of s.net q ≡ key_of_hops count hops ++ (given ++ u.begins.0)
+    key = u.begins.1 ∙ append_assoc (key_of_hops count hops) given u.begins.0
 
-    w : Opened s hops q (ending count hops)
+    w : Opened s hops q (key_of_hops count hops)
     w = opened s count hops q l (record { is = u.is; begins = (given ++ u.begins.0, key) })
 
 -- what a hop joins, where its unit is known
@@ -78,10 +78,10 @@ unit_of s count hops q unit w = heads w.opens.hop.unit unit (w.opens.hop.port �
     heads a d m r p = cc
 
 -- a placement goes on with a unit
-pub unit_next : (s : Sought) (count : ℕ) (hops : List Hop) (q : Place) → length hops < count → IsUnder s (ending count hops) q → (j : ℕ) × (x : UnitPart) × (unit_at s.net j ≡ Some x) × Begins (ending count hops ++ j ∷ []) (key_of s.net q)
+pub unit_next : (s : Sought) (count : ℕ) (hops : List Hop) (q : Place) → length hops < count → IsUnder s (key_of_hops count hops) q → (j : ℕ) × (x : UnitPart) × (unit_at s.net j ≡ Some x) × Begins (key_of_hops count hops ++ j ∷ []) (key_of s.net q)
 unit_next s count hops q l u =
-    let w = next_of s count hops q [] l (subst (λ f. IsUnder s f q) (sym (append_none (ending count hops))) u) in
-    (w.opens.hop.unit, w.opens.joins.unit, w.opens.joins.is_unit, (w.opens.hop.port ∷ w.opens.hop.y ∷ w.opens.hop.x ∷ w.opens.rest, w.opens.key ∙ sym (one_more (ending count hops) w.opens.hop.unit (w.opens.hop.port ∷ w.opens.hop.y ∷ w.opens.hop.x ∷ w.opens.rest))))
+    let w = next_of s count hops q [] l (subst (λ f. IsUnder s f q) (sym (append_none (key_of_hops count hops))) u) in
+    (w.opens.hop.unit, w.opens.joins.unit, w.opens.joins.is_unit, (w.opens.hop.port ∷ w.opens.hop.y ∷ w.opens.hop.x ∷ w.opens.rest, w.opens.key ∙ sym (one_more (key_of_hops count hops) w.opens.hop.unit (w.opens.hop.port ∷ w.opens.hop.y ∷ w.opens.hop.x ∷ w.opens.rest))))
 
 pub no_unit : (s : Sought) (count : ℕ) (hops : List Hop) (unit : ℕ) → length hops < count → unit_at s.net unit ≡ None → NoneUnder s (to_unit count hops unit)
 no_unit s count hops unit l e = record { none = λ q u. let w = next_of s count hops q (unit ∷ []) l u in absurd (never w.opens.joins.unit (sym w.opens.joins.is_unit ∙ ap (unit_at s.net) (unit_of s count hops q unit w) ∙ e)) }
@@ -99,7 +99,7 @@ ports_done s count hops unit u bound l e m below = none_left s (to_unit count ho
         let w = next_of s count hops q (unit ∷ []) l v in
         let same = unit_of s count hops q unit w in
         let j = joins_in s u w.opens.hop hops (ap (unit_at s.net) same ∙ e) w.opens.joins in
-        (w.opens.hop.port, omega (arith, slice_get_within u.ports w.opens.hop.port j.node j.is_port), (w.opens.hop.y ∷ w.opens.hop.x ∷ w.opens.rest, w.opens.key ∙ ap (λ n. ending count hops ++ (n ∷ w.opens.hop.port ∷ w.opens.hop.y ∷ w.opens.hop.x ∷ w.opens.rest)) same ∙ sym (one_more (to_unit count hops unit) w.opens.hop.port (w.opens.hop.y ∷ w.opens.hop.x ∷ w.opens.rest) ∙ one_more (ending count hops) unit (w.opens.hop.port ∷ w.opens.hop.y ∷ w.opens.hop.x ∷ w.opens.rest))))
+        (w.opens.hop.port, omega (arith, slice_get_within u.ports w.opens.hop.port j.node j.is_port), (w.opens.hop.y ∷ w.opens.hop.x ∷ w.opens.rest, w.opens.key ∙ ap (λ n. key_of_hops count hops ++ (n ∷ w.opens.hop.port ∷ w.opens.hop.y ∷ w.opens.hop.x ∷ w.opens.rest)) same ∙ sym (one_more (to_unit count hops unit) w.opens.hop.port (w.opens.hop.y ∷ w.opens.hop.x ∷ w.opens.rest) ∙ one_more (key_of_hops count hops) unit (w.opens.hop.port ∷ w.opens.hop.y ∷ w.opens.hop.x ∷ w.opens.rest))))
 
 -- by output
 
@@ -129,11 +129,11 @@ through_port s count hops q unit port u l e v = record {
   x = w.opens.hop.x;
   through = renamed s u hops w.opens.hop unit port w.opens.hop.y same.0 same.1 refl (joins_in s u w.opens.hop hops (ap (unit_at s.net) same.0 ∙ e) w.opens.joins);
   rest = w.opens.rest;
-  key = w.opens.key ∙ ap (λ n. ending count hops ++ (n ∷ w.opens.hop.port ∷ w.opens.hop.y ∷ w.opens.hop.x ∷ w.opens.rest)) same.0 ∙ ap (λ n. ending count hops ++ (unit ∷ n ∷ w.opens.hop.y ∷ w.opens.hop.x ∷ w.opens.rest)) same.1 ∙ sym (one_more (to_unit count hops unit) port (w.opens.hop.y ∷ w.opens.hop.x ∷ w.opens.rest) ∙ one_more (ending count hops) unit (port ∷ w.opens.hop.y ∷ w.opens.hop.x ∷ w.opens.rest));
+  key = w.opens.key ∙ ap (λ n. key_of_hops count hops ++ (n ∷ w.opens.hop.port ∷ w.opens.hop.y ∷ w.opens.hop.x ∷ w.opens.rest)) same.0 ∙ ap (λ n. key_of_hops count hops ++ (unit ∷ n ∷ w.opens.hop.y ∷ w.opens.hop.x ∷ w.opens.rest)) same.1 ∙ sym (one_more (to_unit count hops unit) port (w.opens.hop.y ∷ w.opens.hop.x ∷ w.opens.rest) ∙ one_more (key_of_hops count hops) unit (port ∷ w.opens.hop.y ∷ w.opens.hop.x ∷ w.opens.rest));
 }
   where
     w : Next s count hops q (unit ∷ port ∷ [])
-    w = next_of s count hops q (unit ∷ port ∷ []) l (subst (λ f. IsUnder s f q) (one_more (ending count hops) unit (port ∷ [])) v)
+    w = next_of s count hops q (unit ∷ port ∷ []) l (subst (λ f. IsUnder s f q) (one_more (key_of_hops count hops) unit (port ∷ [])) v)
 
     same : (w.opens.hop.unit ≡ unit) × (w.opens.hop.port ≡ port) × (w.opens.hop.y ∷ w.opens.hop.x ∷ w.opens.rest ≡ w.rest)
     same = parts w.opens.hop.unit w.opens.hop.port unit port (w.opens.hop.y ∷ w.opens.hop.x ∷ w.opens.rest) w.rest w.split
@@ -168,13 +168,13 @@ through_output s count hops q unit port y u l e v = record {
     same : (w.y ≡ y) × (w.x ∷ w.rest ≡ v.begins.0)
     same = goes_by (to_port count hops unit port) w.y y (w.x ∷ w.rest) v.begins.0 (key_of s.net q) w.key v.begins.1
 
-pub port_stretches : (s : Sought) (count : ℕ) (hops : List Hop) (unit port node : ℕ) (u : UnitPart) (rows : List Row) → IsReady s → AreToward s.net s.request hops node rows → length hops < count → unit_at s.net unit ≡ Some u → slice_get u.ports port ≡ Some node → Stretches s (to_port count hops unit port) rows (wanted s.request hops)
+pub port_stretches : (s : Sought) (count : ℕ) (hops : List Hop) (unit port node : ℕ) (u : UnitPart) (rows : List Row) → IsSearchReady s → AreToward s.net s.request hops node rows → length hops < count → unit_at s.net unit ≡ Some u → slice_get u.ports port ≡ Some node → Stretches s (to_port count hops unit port) rows (wanted_name s.request hops)
 port_stretches s count hops unit port node u rows ready f l e p = λ q j v. go q j (through_output s count hops q unit port j u l e v)
   where
     some : (a b : ℕ) → Some a ≡ Some b → a ≡ b
     some a b p = cc
 
-    go : (q : Place) (j : ℕ) → Output s u hops q unit port j (to_output count hops unit port j) → GivesOnly rows (wanted s.request hops) s.request.size j
+    go : (q : Place) (j : ℕ) → Output s u hops q unit port j (to_output count hops unit port j) → GivesOnly rows (wanted_name s.request hops) s.request.size j
     go q j w =
         let k = w.through.joins in
         let low : j + s.request.size ≤ top + 1 = omega (arith, k.reached, power_below u.reach (ready.formed unit u e).reach) in
@@ -228,8 +228,8 @@ pub inputs_done : (s : Sought) (count : ℕ) (hops : List Hop) (unit port y x : 
 inputs_done s count hops unit port y x u l e past below = none_left s _ x below (λ q v. let w = through_output s count hops q unit port y u l e v in (w.x, omega (arith, w.through.joins.within), (w.rest, w.key ∙ sym (one_more (to_output count hops unit port y) w.x w.rest))))
 
 -- the hop is chosen
-pub behind : (count : ℕ) (hops : List Hop) (unit port y x : ℕ) → to_output count hops unit port y ++ x ∷ [] ≡ ending count (record { unit = unit; port = port; x = x; y = y } ∷ hops)
-behind count hops unit port y x = one_more (to_port count hops unit port) y (x ∷ []) ∙ one_more (to_unit count hops unit) port (y ∷ x ∷ []) ∙ one_more (ending count hops) unit (port ∷ y ∷ x ∷ [])
+pub behind : (count : ℕ) (hops : List Hop) (unit port y x : ℕ) → to_output count hops unit port y ++ x ∷ [] ≡ key_of_hops count (record { unit = unit; port = port; x = x; y = y } ∷ hops)
+behind count hops unit port y x = one_more (to_port count hops unit port) y (x ∷ []) ∙ one_more (to_unit count hops unit) port (y ∷ x ∷ []) ∙ one_more (key_of_hops count hops) unit (port ∷ y ∷ x ∷ [])
 
 pub chosen_on : (s : Sought) (count : ℕ) (hops : List Hop) (unit port y x : ℕ) (u : UnitPart) → IsChosen s count hops → length hops < count → unit_at s.net unit ≡ Some u → port < length u.ports → x % 2 ^ u.page ≡ y % 2 ^ u.page → x + s.request.size ≤ u.slots * 2 ^ u.page → y + s.request.size ≤ 2 ^ u.reach → AreUsable s.slots unit (x / 2 ^ u.page) ((x + s.request.size - 1) / 2 ^ u.page) port (y / 2 ^ u.page) → ((n : ℕ) → slice_get u.ports port ≡ Some n → Meets s.net s.request n y hops) → IsChosen s count (record { unit = unit; port = port; x = x; y = y } ∷ hops)
 chosen_on s count hops unit port y x u chosen l e p agree within reached usable meets = record {
@@ -245,8 +245,8 @@ pub node_there : (net : List NodeDecl) (port : ℕ) (u : UnitPart) → IsFormed 
 node_there net port u f p = f.there port (get_or u.ports port 0) (slice_get-get_or u.ports port 0 p)
 
 -- the answer for a chosen hop is the answer for its input
-pub answered : (s : Sought) (count : ℕ) (hops now : List Hop) (unit port y x : ℕ) (found : Option Place) → now ≡ record { unit = unit; port = port; x = x; y = y } ∷ hops → Answers s (ending count now) found → Answers s (to_output count hops unit port y ++ x ∷ []) found
-answered s count hops now unit port y x found e a = subst (λ f. Answers s f found) (ap (ending count) e ∙ sym (behind count hops unit port y x)) a
+pub answered : (s : Sought) (count : ℕ) (hops now : List Hop) (unit port y x : ℕ) (found : Option Place) → now ≡ record { unit = unit; port = port; x = x; y = y } ∷ hops → IsFirstOrNone s (key_of_hops count now) found → IsFirstOrNone s (to_output count hops unit port y ++ x ∷ []) found
+answered s count hops now unit port y x found e a = subst (λ f. IsFirstOrNone s f found) (ap (key_of_hops count) e ∙ sym (behind count hops unit port y x)) a
 
 pub next_agrees : (x p : ℕ) → 0 < p → (x + p) % p ≡ x % p
 next_agrees x p z = add-mod_right x p
@@ -259,7 +259,7 @@ pub port_read : (items ports : List ℕ) (i port : ℕ) → items ≡ ports → 
 port_read items ports i port e f l = slice_get-get_or ports port 0 l ∙ ap (λ n. Some n) (sym (ap (λ l. get_or l i 0) e ∙ ap (λ k. get_or ports k 0) f))
 
 -- a unit that has no mark for the next hop's place
-pub unmarked : (s : Sought) (count : ℕ) (hops : List Hop) (unit place : ℕ) (first second third : List Bool) → IsReady s → AreMarked s first second third → length hops < count → count ≤ 3 → place ≡ count - length hops → mark_at first second third place unit ≡ false → NoneUnder s (to_unit count hops unit)
+pub unmarked : (s : Sought) (count : ℕ) (hops : List Hop) (unit place : ℕ) (first second third : List Bool) → IsSearchReady s → AreMarked s first second third → length hops < count → count ≤ 3 → place ≡ count - length hops → mark_at first second third place unit ≡ false → NoneUnder s (to_unit count hops unit)
 unmarked s count hops unit place first second third ready m l most e f = record { none = λ q u. absurd (go q u (next_of s count hops q (unit ∷ []) l u)) }
   where
     key_head : (a d : ℕ) (x y : List ℕ) → (a ∷ x) ≡ (d ∷ y) → a ≡ d
@@ -274,22 +274,22 @@ unmarked s count hops unit place first second third ready m l most e f = record 
         false≢true (sym f ∙ ap (λ n. mark_at first second third n unit) here ∙ ap (mark_at first second third (suc (length w.opens.before))) (sym (unit_of s count hops q unit w)) ∙ marked_hop s first second third q.v w.opens.before w.opens.hop hops ready p.fits m (subst (λ (h : List Hop). Meets s.net s.request s.request.agent q.v h) w.opens.ends p.meets) (subst (λ (h : List Hop). Leads s.net s.slots s.request h) w.opens.ends p.leads) (omega arith))
 
 -- a placement ends with the chosen hops
-pub ends_with : (s : Sought) (count : ℕ) (hops : List Hop) (q : Place) → length hops ≤ count → IsUnder s (ending count hops) q → (before : List Hop) × (q.hops ≡ before ++ hops)
+pub ends_with : (s : Sought) (count : ℕ) (hops : List Hop) (q : Place) → length hops ≤ count → IsUnder s (key_of_hops count hops) q → (before : List Hop) × (q.hops ≡ before ++ hops)
 ends_with s count hops q l u = go (cases_lt (length hops) count)
   where
     all : length hops ≡ count → q.hops ≡ hops
-    all e = (whole s hops q [] (subst (λ f. IsUnder s f q) (ap (λ n. ending n hops) (sym e) ∙ sym (append_none (ending (length hops) hops))) u)).same
+    all e = (whole s hops q [] (subst (λ f. IsUnder s f q) (ap (λ n. key_of_hops n hops) (sym e) ∙ sym (append_none (key_of_hops (length hops) hops))) u)).same
 
     go : (length hops < count) ⊎ (count ≤ length hops) → (before : List Hop) × (q.hops ≡ before ++ hops)
-    go (inl m) = let w = next_of s count hops q [] m (subst (λ f. IsUnder s f q) (sym (append_none (ending count hops))) u) in (w.opens.before ++ w.opens.hop ∷ [], w.opens.ends ∙ sym (append_assoc w.opens.before (w.opens.hop ∷ []) hops))
+    go (inl m) = let w = next_of s count hops q [] m (subst (λ f. IsUnder s f q) (sym (append_none (key_of_hops count hops))) u) in (w.opens.before ++ w.opens.hop ∷ [], w.opens.ends ∙ sym (append_assoc w.opens.before (w.opens.hop ∷ []) hops))
     go (inr m) = ([], all (omega arith))
 
 -- an input that the address asked for does not reach
-pub not_allowed : (s : Sought) (count : ℕ) (hops : List Hop) (unit port y x : ℕ) (u : UnitPart) (entry : Option End) → IsReady s → IsEntry s entry → length hops < count → count ≡ suc (length hops) → unit_at s.net unit ≡ Some u → (s.at ≡ None → ⊥) → (entry ≡ Some (record { node = unit; base = x }) → ⊥) → NoneUnder s (to_output count hops unit port y ++ x ∷ [])
+pub not_allowed : (s : Sought) (count : ℕ) (hops : List Hop) (unit port y x : ℕ) (u : UnitPart) (entry : Option End) → IsSearchReady s → IsEntry s entry → length hops < count → count ≡ suc (length hops) → unit_at s.net unit ≡ Some u → (s.at ≡ None → ⊥) → (entry ≡ Some (record { node = unit; base = x }) → ⊥) → NoneUnder s (to_output count hops unit port y ++ x ∷ [])
 not_allowed s count hops unit port y x u entry ready e l one unit_is asked other = record { none = λ q v. absurd (go q v s.at refl) }
   where
     front : List ℕ
-    front = ending count hops
+    front = key_of_hops count hops
 
     heads : (a b c d a' b' c' d' : ℕ) (m r : List ℕ) → (a ∷ b ∷ c ∷ d ∷ m) ≡ (a' ∷ b' ∷ c' ∷ d' ∷ r) → (a ≡ a') × (d ≡ d')
     heads a b c d a' b' c' d' m r p = (cc, cc)
@@ -326,10 +326,10 @@ pub inputs_barred : (s : Sought) (count : ℕ) (hops : List Hop) (unit port y x 
 inputs_barred s count hops unit port y x to u l e agree barred below = leapt s _ x to below (λ q j a b v. let k = (x_of s count hops unit port y j u l e q v).joins in absurd (barred j a b (k.agree ∙ sym agree) k.usable))
 
 -- the answer for a whole hop is the answer for its input
-pub answered_input : (s : Sought) (count : ℕ) (hops : List Hop) (unit port y x : ℕ) (found : Option Place) → Answers s (ending count (record { unit = unit; port = port; x = x; y = y } ∷ hops)) found → Answers s (to_output count hops unit port y ++ x ∷ []) found
-answered_input s count hops unit port y x found a = subst (λ f. Answers s f found) (sym (behind count hops unit port y x)) a
+pub answered_input : (s : Sought) (count : ℕ) (hops : List Hop) (unit port y x : ℕ) (found : Option Place) → IsFirstOrNone s (key_of_hops count (record { unit = unit; port = port; x = x; y = y } ∷ hops)) found → IsFirstOrNone s (to_output count hops unit port y ++ x ∷ []) found
+answered_input s count hops unit port y x found a = subst (λ f. IsFirstOrNone s f found) (sym (behind count hops unit port y x)) a
 
-pub none_ending : (s : Sought) (count : ℕ) (hops : List Hop) (unit port y x : ℕ) → NoneUnder s (to_output count hops unit port y ++ x ∷ []) → NoneUnder s (ending count (record { unit = unit; port = port; x = x; y = y } ∷ hops))
+pub none_ending : (s : Sought) (count : ℕ) (hops : List Hop) (unit port y x : ℕ) → NoneUnder s (to_output count hops unit port y ++ x ∷ []) → NoneUnder s (key_of_hops count (record { unit = unit; port = port; x = x; y = y } ∷ hops))
 none_ending s count hops unit port y x a = subst (λ f. NoneUnder s f) (behind count hops unit port y x) a
 
 -- where the last slot that is not usable shuts the inputs up to a slot, the hops that begin before it are barred

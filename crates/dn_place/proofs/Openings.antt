@@ -7,7 +7,7 @@ use Rattle.dn_place.specs.Sought.{Sought}
 use Rattle.dn_placement.specs.Order.{hop_page, hops_key, key_of}
 use Rattle.dn_placement.specs.Placement.{Joins, Leads}
 use Rattle.dn_placement.proofs.Hops.{hops_key-append, numbers, same_hops}
-use Rattle.dn_place.specs.Candidates.{IsUnder, ending}
+use Rattle.dn_place.specs.Candidates.{IsUnder, key_of_hops}
 
 -- a placement that ends with these hops has another before them
 pub record Opened (s : Sought) (hops : List Hop) (q : Place) (front : List ℕ) : Type 0 where
@@ -49,7 +49,7 @@ cut xs n l = go (drop d xs) refl
       count = let k : length (drop d xs) ≡ suc (length ys) = ap length e in omega (arith, long);
     }
 
-pub opened : (s : Sought) (count : ℕ) (hops : List Hop) (q : Place) → length hops < count → IsUnder s (ending count hops) q → Opened s hops q (ending count hops)
+pub opened : (s : Sought) (count : ℕ) (hops : List Hop) (q : Place) → length hops < count → IsUnder s (key_of_hops count hops) q → Opened s hops q (key_of_hops count hops)
 opened s count hops q l u = record {
   before = w.before;
   hop = w.at;

@@ -20,7 +20,7 @@ use Rattle.dn_tables.specs.declared.table.NodeTable.{NodeTable}
 use Rattle.dn_tables.specs.Set.{FitsNet, has_slot, has_slot_by, unit_in, units_of}
 use Rattle.dn_placement.specs.declared.request.Request.{Request}
 use Rattle.dn_placement.specs.Slots.{Slots}
-use Rattle.dn_place.specs.Sought.{AreFormed, IsReady, ReachOneStop, slot_count}
+use Rattle.dn_place.specs.Sought.{AreFormed, IsSearchReady, ReachOneStop, slot_count}
 
 -- the bounds of a unit's shape
 pub record Bounds (page slots reach ports : ℕ) : Type 0 where
@@ -105,7 +105,7 @@ one_stop net legal x y z a b = go (legal_one_way_to_unit net empty legal x y z a
     go (inl w) = sym (ends_there net w.0 z y b.0 w.2)
     go (inr w) = ends_there net w.0 y z a.0 w.2
 
-pub ready : (net : List NodeDecl) (slots : Slots) (rq : Request) (at : Option ℕ) → IsLegalNet net → IsTrue (is_agent_at (slice_get net rq.agent)) → 1 ≤ rq.size → rq.base + rq.size ≤ top + 1 → IsReady (record { net = net; slots = slots; request = rq; at = at })
+pub ready : (net : List NodeDecl) (slots : Slots) (rq : Request) (at : Option ℕ) → IsLegalNet net → IsTrue (is_agent_at (slice_get net rq.agent)) → 1 ≤ rq.size → rq.base + rq.size ≤ top + 1 → IsSearchReady (record { net = net; slots = slots; request = rq; at = at })
 ready net slots rq at legal agent some fits = record {
   formed = formed net legal;
   one_stop = one_stop net legal;

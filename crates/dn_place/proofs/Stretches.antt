@@ -3,14 +3,14 @@ use Rattle.std.proofs.Common.{◌≡◌, ℕ, suc, ◌+◌, ◌-◌, ◌<◌, �
 use Rattle.std.proofs.lemmas.Bool.{cases_lt, false≢true, le-ltb}
 use Rattle.dn_interval.specs.declared.row.End.{End}
 use Rattle.dn_interval.specs.declared.row.Row.{Row}
-use Rattle.dn_interval.specs.Rows.{Member, moved, end_lt, Ascending, HasEnds, Parted, Apart, GivenBy}
+use Rattle.dn_interval.specs.Rows.{Member, further_end, end_lt, Ascending, HasEnds, Parted, Apart, GivenBy}
 use Rattle.dn_interval.proofs.Membership.{in_from, lo_of}
 use Rattle.dn_interval.proofs.Normal.{nothing_below, behind_first}
 use Rattle.dn_place.specs.Rows.{InRow, GivesOnly}
 
 -- what is given at an address of the first row, or past it
 
-pub head_gives : (from : ℕ) (r : Row) (rest : List Row) (a : ℕ) (z : End) → Apart from (r ∷ rest) → a ≤ r.span.hi → GivenBy (r ∷ rest) a z → (r.span.lo ≤ a) × Member z (map (moved (a - r.span.lo)) r.ends)
+pub head_gives : (from : ℕ) (r : Row) (rest : List Row) (a : ℕ) (z : End) → Apart from (r ∷ rest) → a ≤ r.span.hi → GivenBy (r ∷ rest) a z → (r.span.lo ≤ a) × Member z (map (further_end (a - r.span.lo)) r.ends)
 head_gives from r rest a z p h (inl g) = (lo_of r.span a g.0, g.1)
 head_gives from r rest a z p h (inr g) = absurd (nothing_below (suc r.span.hi) rest p.4 a z (omega arith) g)
 
@@ -25,17 +25,17 @@ no_order x e = go (nat_lt x.node x.node) (nat_eq x.node x.node) (nat_lt x.base x
     go false false c p q e = false≢true e
 
 -- names that are one, moved on alike, are one
-same_end : (d : ℕ) (x y : End) → moved d x ≡ moved d y → x ≡ y
+same_end : (d : ℕ) (x y : End) → further_end d x ≡ further_end d y → x ≡ y
 same_end d x y e = go x.node x.base y.node y.base (ap (λ (z : End). z.node) e) (ap (λ (z : End). z.base) e)
   where
     go : (n b m c : ℕ) → n ≡ m → b + d ≡ c + d → ◌≡◌ {A = End} (record { node = n; base = b }) (record { node = m; base = c })
     go n b m c p q = let r : b ≡ c = omega arith in cc
 
 -- ascending names that are one name are one
-pub one_end : (d : ℕ) (ends : List End) (t : End) → HasEnds ends → Ascending ends → ((z : End) → Member z (map (moved d) ends) → t ≡ z) → (e : End) × (ends ≡ e ∷ []) × (moved d e ≡ t)
+pub one_end : (d : ℕ) (ends : List End) (t : End) → HasEnds ends → Ascending ends → ((z : End) → Member z (map (further_end d) ends) → t ≡ z) → (e : End) × (ends ≡ e ∷ []) × (further_end d e ≡ t)
 one_end d [] t h a f = absurd h
-one_end d (e ∷ []) t h a f = (e, refl, sym (f (moved d e) (inl refl)))
-one_end d (e ∷ e' ∷ es) t h a f = let same : e ≡ e' = same_end d e e' (sym (f (moved d e) (inl refl)) ∙ f (moved d e') (inr (inl refl))) in absurd (no_order e (subst (λ w. IsTrue (end_lt e w)) (sym same) a.0.0))
+one_end d (e ∷ []) t h a f = (e, refl, sym (f (further_end d e) (inl refl)))
+one_end d (e ∷ e' ∷ es) t h a f = let same : e ≡ e' = same_end d e e' (sym (f (further_end d e) (inl refl)) ∙ f (further_end d e') (inr (inl refl))) in absurd (no_order e (subst (λ w. IsTrue (end_lt e w)) (sym same) a.0.0))
 
 -- a name that is given past the first row is given by the row that touches it, where it is given just there
 next_row : (from : ℕ) (s : Row) (ss : List Row) (z : End) → Apart from (s ∷ ss) → GivenBy (s ∷ ss) from z → s.span.lo ≡ from
@@ -52,27 +52,27 @@ in_head from r rest t size a p some h g = record {
   to = go (cases_lt (suc r.span.hi) (a + size));
 }
   where
-    at : (i : ℕ) → i < size → (b : ℕ) → a + i ≡ b → (z : End) → GivenBy (r ∷ rest) b z ↔ (moved i t ≡ z)
-    at i l b e z = subst (λ k. GivenBy (r ∷ rest) k z ↔ (moved i t ≡ z)) e (g i l z)
+    at : (i : ℕ) → i < size → (b : ℕ) → a + i ≡ b → (z : End) → GivenBy (r ∷ rest) b z ↔ (further_end i t ≡ z)
+    at i l b e z = subst (λ k. GivenBy (r ∷ rest) k z ↔ (further_end i t ≡ z)) e (g i l z)
 
-    unmoved : moved 0 t ≡ t
+    unmoved : further_end 0 t ≡ t
     unmoved = made t.node t.base
       where
         made : (n b : ℕ) → ◌≡◌ {A = End} (record { node = n; base = b + 0 }) (record { node = n; base = b })
         made n b = let e : b + 0 ≡ b = omega arith in cc
 
-    here : (r.span.lo ≤ a) × Member t (map (moved (a - r.span.lo)) r.ends)
+    here : (r.span.lo ≤ a) × Member t (map (further_end (a - r.span.lo)) r.ends)
     here = head_gives from r rest a t p h ((at 0 (omega arith) a (omega arith) t).1 unmoved)
 
-    one : (e : End) × (r.ends ≡ e ∷ []) × (moved (a - r.span.lo) e ≡ t)
+    one : (e : End) × (r.ends ≡ e ∷ []) × (further_end (a - r.span.lo) e ≡ t)
     one = one_end (a - r.span.lo) r.ends t p.1 p.2 (λ z m. sym unmoved ∙ (at 0 (omega arith) a (omega arith) z).0 (inl (in_from r.span a here.0 h, m)))
 
-    past : (rs : List Row) → Parted r rs → Apart (suc r.span.hi) rs → (i : ℕ) → i < size → a + i ≡ suc r.span.hi → ((z : End) → GivenBy rs (suc r.span.hi) z ↔ (moved i t ≡ z)) → ⊥
-    past [] q k i l e f = (f (moved i t)).1 refl
+    past : (rs : List Row) → Parted r rs → Apart (suc r.span.hi) rs → (i : ℕ) → i < size → a + i ≡ suc r.span.hi → ((z : End) → GivenBy rs (suc r.span.hi) z ↔ (further_end i t ≡ z)) → ⊥
+    past [] q k i l e f = (f (further_end i t)).1 refl
     past (s ∷ ss) q k i l e f =
-        let starts : s.span.lo ≡ suc r.span.hi = next_row (suc r.span.hi) s ss (moved i t) k ((f (moved i t)).1 refl) in
-        let two = one_end (suc r.span.hi - s.span.lo) s.ends (moved i t) k.1 k.2 (λ z m. (f z).0 (inl (in_from s.span (suc r.span.hi) (omega arith) (let o : s.span.lo ≤ s.span.hi = s.span.ordered in omega arith), m))) in
-        q starts (two.1 ∙ ap (λ (z : End). z ∷ []) (made two.0.node two.0.base one.0.node one.0.base (ap (λ (z : End). z.node) two.2) (ap (λ (z : End). z.node) one.2) (ap (λ (z : End). z.base) two.2) (ap (λ (z : End). z.base) one.2) starts) ∙ sym (ap (map (moved (suc r.span.hi - r.span.lo))) one.1))
+        let starts : s.span.lo ≡ suc r.span.hi = next_row (suc r.span.hi) s ss (further_end i t) k ((f (further_end i t)).1 refl) in
+        let two = one_end (suc r.span.hi - s.span.lo) s.ends (further_end i t) k.1 k.2 (λ z m. (f z).0 (inl (in_from s.span (suc r.span.hi) (omega arith) (let o : s.span.lo ≤ s.span.hi = s.span.ordered in omega arith), m))) in
+        q starts (two.1 ∙ ap (λ (z : End). z ∷ []) (made two.0.node two.0.base one.0.node one.0.base (ap (λ (z : End). z.node) two.2) (ap (λ (z : End). z.node) one.2) (ap (λ (z : End). z.base) two.2) (ap (λ (z : End). z.base) one.2) starts) ∙ sym (ap (map (further_end (suc r.span.hi - r.span.lo))) one.1))
       where
         made : (n b m c : ℕ) → n ≡ t.node → m ≡ t.node → b + (suc r.span.hi - s.span.lo) ≡ t.base + i → c + (a - r.span.lo) ≡ t.base → s.span.lo ≡ suc r.span.hi → ◌≡◌ {A = End} (record { node = n; base = b }) (record { node = m; base = c + (suc r.span.hi - r.span.lo) })
         made n b m c x y u v w = let from_here : r.span.lo ≤ a = here.0 in let k : b ≡ c + (suc r.span.hi - r.span.lo) = omega arith in let j : n ≡ m = omega arith in cc

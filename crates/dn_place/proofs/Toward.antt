@@ -7,7 +7,7 @@ use Rattle.dn_interval.specs.declared.row.Row.{Row}
 use Rattle.dn_interval.specs.declared.row.Seg.{Seg}
 use Rattle.dn_interval.specs.declared.span.Span.{Span}
 use Rattle.dn_interval.specs.declared.span.TheConstants.{TOP}
-use Rattle.dn_interval.specs.Rows.{Member, moved, Apart, AreNormal, GivenBy, HasEnds, SegmentsGive}
+use Rattle.dn_interval.specs.Rows.{Member, further_end, Apart, AreNormal, GivenBy, HasEnds, SegmentsGive}
 use Rattle.dn_interval.specs.Spans.{in_span}
 use Rattle.dn_interval.specs.Strands.{ends_give, row_gives, rows_give, segs_give}
 use Rattle.dn_interval.proofs.Membership.{in_from, lo_of, hi_of}
@@ -16,33 +16,34 @@ use Rattle.dn_interval.proofs.Normal.{normal_like}
 use Rattle.dn_net.specs.declared.node.NodeDecl.{NodeDecl}
 use Rattle.dn_flat.specs.declared.levels.Levels.{Levels}
 use Rattle.dn_flat.specs.Levels.{IsLevels, ResolvesWhole, levels_give}
-use Rattle.dn_flat.specs.Views.{end_of, name_of_end, ResolvesFrom, StopsFrom}
+use Rattle.dn_flat.specs.Views.{ResolvesFrom, StopsFrom}
 use Rattle.dn_tables.specs.declared.placement.Hop.{Hop}
 use Rattle.dn_placement.specs.declared.request.Request.{Request}
-use Rattle.dn_place.specs.Rows.{AreToward, GivesNone, IsClear, end_near, is_near, is_past, levels_near, row_near, rows_near, wanted}
+use Rattle.dn_walk.specs.Ends.{end_of, name_of_end}
+use Rattle.dn_place.specs.Rows.{AreToward, GivesNone, IsClear, end_near, is_near, is_past, levels_near, row_near, rows_near, wanted_name}
 use Rattle.dn_place.specs.Sought.{ReachOneStop}
 
 -- where no hop follows
 
-buffer_is : (net : List NodeDecl) (rq : Request) (hops : List Hop) (node : ℕ) (rows : List Row) → length hops ≡ 0 → AreNormal (ResolvesWhole net node (wanted rq hops) rq.size) rows → AreToward net rq hops node rows
+buffer_is : (net : List NodeDecl) (rq : Request) (hops : List Hop) (node : ℕ) (rows : List Row) → length hops ≡ 0 → AreNormal (ResolvesWhole net node (wanted_name rq hops) rq.size) rows → AreToward net rq hops node rows
 buffer_is net rq (hop ∷ hops) node rows none n = absurd (omega arith)
 buffer_is net rq [] node rows none n = record {
   apart = n.apart;
   given = λ a z l g. let w = (n.exact a z l).1 g in subst (λ b. ResolvesFrom net node b z) (sym w.from) ((w.each w.i z w.below).1 (sym w.to));
   all = λ a i z l m g r.
-      let w = (n.exact a (moved i t) l).1 g in
+      let w = (n.exact a (further_end i t) l).1 g in
       subst (λ (y : End). GivenBy rows a y) (w.to ∙ (w.each w.i z w.below).0 (subst (λ b. ResolvesFrom net node b z) w.from r)) g;
-  whole = λ a fits only i m. (n.exact (a + i) (moved i t) (omega arith)).0 (record { v = a; i = i; below = m; within = fits; from = refl; to = refl; each = only });
+  whole = λ a fits only i m. (n.exact (a + i) (further_end i t) (omega arith)).0 (record { v = a; i = i; below = m; within = fits; from = refl; to = refl; each = only });
 }
   where
     t : End
-    t = wanted rq []
+    t = wanted_name rq []
 
-pub buffer_toward : (net : List NodeDecl) (rq : Request) (hops : List Hop) (node : ℕ) (rows : List Row) (t : End) (size : ℕ) → length hops ≡ 0 → t ≡ wanted rq hops → size ≡ rq.size → AreNormal (ResolvesWhole net node t size) rows → AreToward net rq hops node rows
-buffer_toward net rq hops node rows t size none e f n = buffer_is net rq hops node rows none (subst (λ m. AreNormal (ResolvesWhole net node (wanted rq hops) m) rows) f (subst (λ (w : End). AreNormal (ResolvesWhole net node w size) rows) e n))
+pub buffer_toward : (net : List NodeDecl) (rq : Request) (hops : List Hop) (node : ℕ) (rows : List Row) (t : End) (size : ℕ) → length hops ≡ 0 → t ≡ wanted_name rq hops → size ≡ rq.size → AreNormal (ResolvesWhole net node t size) rows → AreToward net rq hops node rows
+buffer_toward net rq hops node rows t size none e f n = buffer_is net rq hops node rows none (subst (λ m. AreNormal (ResolvesWhole net node (wanted_name rq hops) m) rows) f (subst (λ (w : End). AreNormal (ResolvesWhole net node w size) rows) e n))
 
 -- the buffer itself is wanted there, and ends by the last address
-pub wanted_fits : (rq : Request) (hops : List Hop) (t : End) (size : ℕ) → length hops ≡ 0 → t ≡ wanted rq hops → size ≡ rq.size → rq.base + rq.size ≤ TOP + 1 → t.base + size ≤ TOP + 1
+pub wanted_fits : (rq : Request) (hops : List Hop) (t : End) (size : ℕ) → length hops ≡ 0 → t ≡ wanted_name rq hops → size ≡ rq.size → rq.base + rq.size ≤ TOP + 1 → t.base + size ≤ TOP + 1
 wanted_fits rq (hop ∷ hops) t size none e f fits = absurd (omega arith)
 wanted_fits rq [] t size none e f fits = let base : t.base ≡ rq.base = ap (λ (w : End). w.base) e in omega arith
 
@@ -58,7 +59,7 @@ lone_toward net rq (hop ∷ hops) node levels rows some is lone apart = record {
   apart = apart;
   given = λ a z l g. (exact a z l).1 g;
   all = λ a i z l m g r. (exact a z l).0 r;
-  whole = λ a fits only i m. (exact (a + i) (moved i (wanted rq (hop ∷ hops))) (omega arith)).0 ((only i (moved i (wanted rq (hop ∷ hops))) m).1 refl);
+  whole = λ a fits only i m. (exact (a + i) (further_end i (wanted_name rq (hop ∷ hops))) (omega arith)).0 ((only i (further_end i (wanted_name rq (hop ∷ hops))) m).1 refl);
 }
   where
     or_false : (b : Bool) → (b || false) ≡ true → b ≡ true
@@ -100,15 +101,15 @@ ends_to t size span (e ∷ es) a z p = elim (or_cases (end_near t size span a z 
   | inr g ↦ or_right (is_end span a z e) (ends_give es span.lo a z) (ends_to t size span es a z g)
 ]
 
-ends_from : (t : End) (size : ℕ) (span : Span) (es : List End) (a i : ℕ) → in_span span a ≡ true → i < size → ends_give es span.lo a (moved i t) ≡ true → list_any (λ e. end_near t size span a (moved i t) e) es ≡ true
+ends_from : (t : End) (size : ℕ) (span : Span) (es : List End) (a i : ℕ) → in_span span a ≡ true → i < size → ends_give es span.lo a (further_end i t) ≡ true → list_any (λ e. end_near t size span a (further_end i t) e) es ≡ true
 ends_from t size span [] a i inside few p = p
-ends_from t size span (e ∷ es) a i inside few p = elim (or_cases (is_end span a (moved i t) e) (ends_give es span.lo a (moved i t)) p) [
+ends_from t size span (e ∷ es) a i inside few p = elim (or_cases (is_end span a (further_end i t) e) (ends_give es span.lo a (further_end i t)) p) [
   | inl g ↦ (
       let q = and_parts (nat_eq e.node t.node) (nat_eq (e.base + (a - span.lo)) (t.base + i)) g in
-      or_left (end_near t size span a (moved i t) e) (list_any (λ e. end_near t size span a (moved i t) e) es)
-      (and_from (is_near t size span e) (is_end span a (moved i t) e) (near_end t size span a i e inside few (eqb-true e.node t.node q.0) (eqb-true (e.base + (a - span.lo)) (t.base + i) q.1)) g)
+      or_left (end_near t size span a (further_end i t) e) (list_any (λ e. end_near t size span a (further_end i t) e) es)
+      (and_from (is_near t size span e) (is_end span a (further_end i t) e) (near_end t size span a i e inside few (eqb-true e.node t.node q.0) (eqb-true (e.base + (a - span.lo)) (t.base + i) q.1)) g)
       )
-  | inr g ↦ or_right (end_near t size span a (moved i t) e) (list_any (λ e. end_near t size span a (moved i t) e) es) (ends_from t size span es a i inside few g)
+  | inr g ↦ or_right (end_near t size span a (further_end i t) e) (list_any (λ e. end_near t size span a (further_end i t) e) es) (ends_from t size span es a i inside few g)
 ]
 
 near_to : (t : End) (size : ℕ) (rows : List Row) (a : ℕ) (z : End) → rows_near t size rows a z ≡ true → rows_give rows a z ≡ true
@@ -121,15 +122,15 @@ near_to t size (r ∷ rows) a z p = elim (or_cases (row_near t size r a z) (rows
   | inr g ↦ or_right (row_gives r a z) (rows_give rows a z) (near_to t size rows a z g)
 ]
 
-near_from : (t : End) (size : ℕ) (rows : List Row) (a i : ℕ) → i < size → rows_give rows a (moved i t) ≡ true → rows_near t size rows a (moved i t) ≡ true
+near_from : (t : End) (size : ℕ) (rows : List Row) (a i : ℕ) → i < size → rows_give rows a (further_end i t) ≡ true → rows_near t size rows a (further_end i t) ≡ true
 near_from t size [] a i few p = p
-near_from t size (r ∷ rows) a i few p = elim (or_cases (row_gives r a (moved i t)) (rows_give rows a (moved i t)) p) [
+near_from t size (r ∷ rows) a i few p = elim (or_cases (row_gives r a (further_end i t)) (rows_give rows a (further_end i t)) p) [
   | inl g ↦ (
-      let q = and_parts (in_span r.span a) (ends_give r.ends r.span.lo a (moved i t)) g in
-      or_left (row_near t size r a (moved i t)) (rows_near t size rows a (moved i t))
-      (and_from (in_span r.span a) (list_any (λ e. end_near t size r.span a (moved i t) e) r.ends) q.0 (ends_from t size r.span r.ends a i q.0 few q.1))
+      let q = and_parts (in_span r.span a) (ends_give r.ends r.span.lo a (further_end i t)) g in
+      or_left (row_near t size r a (further_end i t)) (rows_near t size rows a (further_end i t))
+      (and_from (in_span r.span a) (list_any (λ e. end_near t size r.span a (further_end i t) e) r.ends) q.0 (ends_from t size r.span r.ends a i q.0 few q.1))
       )
-  | inr g ↦ or_right (row_near t size r a (moved i t)) (rows_near t size rows a (moved i t)) (near_from t size rows a i few g)
+  | inr g ↦ or_right (row_near t size r a (further_end i t)) (rows_near t size rows a (further_end i t)) (near_from t size rows a i few g)
 ]
 
 levels_to : (t : End) (size : ℕ) (levels : List (List Row)) (a : ℕ) (z : End) → levels_near t size levels a z ≡ true → levels_give levels a z ≡ true
@@ -139,33 +140,33 @@ levels_to t size (rows ∷ levels) a z p = elim (or_cases (rows_near t size rows
   | inr g ↦ or_right (rows_give rows a z) (levels_give levels a z) (levels_to t size levels a z g)
 ]
 
-levels_from : (t : End) (size : ℕ) (levels : List (List Row)) (a i : ℕ) → i < size → levels_give levels a (moved i t) ≡ true → levels_near t size levels a (moved i t) ≡ true
+levels_from : (t : End) (size : ℕ) (levels : List (List Row)) (a i : ℕ) → i < size → levels_give levels a (further_end i t) ≡ true → levels_near t size levels a (further_end i t) ≡ true
 levels_from t size [] a i few p = p
-levels_from t size (rows ∷ levels) a i few p = elim (or_cases (rows_give rows a (moved i t)) (levels_give levels a (moved i t)) p) [
-  | inl g ↦ or_left (rows_near t size rows a (moved i t)) (levels_near t size levels a (moved i t)) (near_from t size rows a i few g)
-  | inr g ↦ or_right (rows_near t size rows a (moved i t)) (levels_near t size levels a (moved i t)) (levels_from t size levels a i few g)
+levels_from t size (rows ∷ levels) a i few p = elim (or_cases (rows_give rows a (further_end i t)) (levels_give levels a (further_end i t)) p) [
+  | inl g ↦ or_left (rows_near t size rows a (further_end i t)) (levels_near t size levels a (further_end i t)) (near_from t size rows a i few g)
+  | inr g ↦ or_right (rows_near t size rows a (further_end i t)) (levels_near t size levels a (further_end i t)) (levels_from t size levels a i few g)
 ]
 
-near_is : (net : List NodeDecl) (rq : Request) (hops : List Hop) (node : ℕ) (levels : Levels) (rows : List Row) → 1 ≤ length hops → ReachOneStop net → IsLevels net node levels → AreNormal (λ a z. IsTrue (levels_near (wanted rq hops) rq.size levels.stops a z)) rows → AreToward net rq hops node rows
+near_is : (net : List NodeDecl) (rq : Request) (hops : List Hop) (node : ℕ) (levels : Levels) (rows : List Row) → 1 ≤ length hops → ReachOneStop net → IsLevels net node levels → AreNormal (λ a z. IsTrue (levels_near (wanted_name rq hops) rq.size levels.stops a z)) rows → AreToward net rq hops node rows
 near_is net rq [] node levels rows some one is n = absurd (omega arith)
 near_is net rq (hop ∷ hops) node levels rows some one is n = record {
   apart = n.apart;
   given = given;
-  all = λ a i z l m g r. subst (λ (w : End). GivenBy rows a w) (same_stop net one node a (moved i t) z (given a (moved i t) l g) r) g;
-  whole = λ a fits only i m. let low : a + i ≤ TOP = omega arith in (n.exact (a + i) (moved i t) low).0 (levels_from t rq.size levels.stops (a + i) i m ((is.stops (a + i) (moved i t) low).1 ((only i (moved i t) m).1 refl)));
+  all = λ a i z l m g r. subst (λ (w : End). GivenBy rows a w) (same_stop net one node a (further_end i t) z (given a (further_end i t) l g) r) g;
+  whole = λ a fits only i m. let low : a + i ≤ TOP = omega arith in (n.exact (a + i) (further_end i t) low).0 (levels_from t rq.size levels.stops (a + i) i m ((is.stops (a + i) (further_end i t) low).1 ((only i (further_end i t) m).1 refl)));
 }
   where
     t : End
-    t = wanted rq (hop ∷ hops)
+    t = wanted_name rq (hop ∷ hops)
 
     given : (a : ℕ) (z : End) → a ≤ TOP → GivenBy rows a z → StopsFrom net node a z
     given a z l g = (is.stops a z l).0 (levels_to t rq.size levels.stops a z ((n.exact a z l).1 g))
 
-pub near_toward : (net : List NodeDecl) (rq : Request) (hops : List Hop) (node : ℕ) (levels : Levels) (rows : List Row) (t : End) (size : ℕ) (layers : List (List Row)) → 1 ≤ length hops → ReachOneStop net → IsLevels net node levels → t ≡ wanted rq hops → size ≡ rq.size → layers ≡ levels.stops → AreNormal (λ a z. IsTrue (levels_near t size layers a z)) rows → AreToward net rq hops node rows
+pub near_toward : (net : List NodeDecl) (rq : Request) (hops : List Hop) (node : ℕ) (levels : Levels) (rows : List Row) (t : End) (size : ℕ) (layers : List (List Row)) → 1 ≤ length hops → ReachOneStop net → IsLevels net node levels → t ≡ wanted_name rq hops → size ≡ rq.size → layers ≡ levels.stops → AreNormal (λ a z. IsTrue (levels_near t size layers a z)) rows → AreToward net rq hops node rows
 near_toward net rq hops node levels rows t size layers some one is e f g n =
     near_is net rq hops node levels rows some one is
-    (subst (λ (ls : List (List Row)). AreNormal (λ a z. IsTrue (levels_near (wanted rq hops) rq.size ls a z)) rows) g
-    (subst (λ m. AreNormal (λ a z. IsTrue (levels_near (wanted rq hops) m layers a z)) rows) f
+    (subst (λ (ls : List (List Row)). AreNormal (λ a z. IsTrue (levels_near (wanted_name rq hops) rq.size ls a z)) rows) g
+    (subst (λ m. AreNormal (λ a z. IsTrue (levels_near (wanted_name rq hops) m layers a z)) rows) f
     (subst (λ (w : End). AreNormal (λ a z. IsTrue (levels_near w size layers a z)) rows) e n)))
 
 -- the segments that were found are the near rows, where no level is left
@@ -200,9 +201,9 @@ past_all : (from : ℕ) (rows : List Row) (a size : ℕ) → Apart from rows →
 past_all from [] a size p some f = refl
 past_all from (r ∷ rest) a size p some f = and_from (is_past a size r) (list_all (is_past a size) rest) (here (cases_lt r.span.hi a) (cases_lt r.span.lo (a + size))) (past_all (suc r.span.hi) rest a size p.4 some (λ i l z g. f i l z (inr g)))
   where
-    given : (es : List End) → HasEnds es → (d : ℕ) → (z : End) × Member z (map (moved d) es)
+    given : (es : List End) → HasEnds es → (d : ℕ) → (z : End) × Member z (map (further_end d) es)
     given [] h d = absurd h
-    given (e ∷ es) h d = (moved d e, inl refl)
+    given (e ∷ es) h d = (further_end d e, inl refl)
 
     meets : (i : ℕ) → i < size → r.span.lo ≤ a + i → a + i ≤ r.span.hi → ⊥
     meets i l b h = let w = given r.ends p.1 (a + i - r.span.lo) in f i l w.0 (inl (in_from r.span (a + i) b h, w.1))

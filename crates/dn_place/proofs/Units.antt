@@ -9,7 +9,7 @@ use Rattle.dn_net.specs.Decode.{unit_at}
 use Rattle.dn_tables.specs.Placement.{Place}
 use Rattle.dn_tables.specs.declared.placement.Hop.{Hop}
 use Rattle.dn_placement.specs.Keys.{Begins}
-use Rattle.dn_place.specs.Candidates.{IsFirstUnder, IsUnder, NoneBelow, NoneUnder, ending, to_unit}
+use Rattle.dn_place.specs.Candidates.{IsFirstUnder, IsUnder, NoneBelow, NoneUnder, key_of_hops, to_unit}
 use Rattle.dn_place.specs.Marks.{AreUnitsFrom}
 use Rattle.dn_place.specs.Sought.{Sought}
 use Rattle.dn_place.proofs.Levels.{begun, found_first, leapt, next_one, none_left}
@@ -64,15 +64,15 @@ lists_done net node units l done = subst (λ (us : List ℕ). AreUnitsFrom net 0
 -- how far the search over the units has come
 pub record Sifted (s : Sought) (count : ℕ) (hops : List Hop) (rest : List ℕ) : Type 0 where
   pub bound : ℕ
-  pub below : NoneBelow s (ending count hops) bound
+  pub below : NoneBelow s (key_of_hops count hops) bound
   pub left : AreUnitsFrom s.net bound rest
 
 pub sifted_begun : (s : Sought) (count : ℕ) (hops : List Hop) (units : List ℕ) → AreUnitsFrom s.net 0 units → Sifted s count hops units
-sifted_begun s count hops units a = record { bound = 0; below = begun s (ending count hops); left = a }
+sifted_begun s count hops units a = record { bound = 0; below = begun s (key_of_hops count hops); left = a }
 
 -- numbers at which there is no unit are leapt over
-to_next : (s : Sought) (count : ℕ) (hops : List Hop) (m : ℕ) (rest : List ℕ) → length hops < count → (w : Sifted s count hops (m ∷ rest)) → NoneBelow s (ending count hops) m
-to_next s count hops m rest more w = leapt s (ending count hops) w.bound m w.below (λ q j a b u. go j a b q u (unit_at s.net j) refl)
+to_next : (s : Sought) (count : ℕ) (hops : List Hop) (m : ℕ) (rest : List ℕ) → length hops < count → (w : Sifted s count hops (m ∷ rest)) → NoneBelow s (key_of_hops count hops) m
+to_next s count hops m rest more w = leapt s (key_of_hops count hops) w.bound m w.below (λ q j a b u. go j a b q u (unit_at s.net j) refl)
   where
     go : (j : ℕ) → w.bound ≤ j → j < m → (q : Place) → IsUnder s (to_unit count hops j) q → (o : Option UnitPart) → unit_at s.net j ≡ o → ⊥
     go j a b q u None e = (no_unit s count hops j more e).none q u
@@ -85,18 +85,18 @@ pub sifted_on : (s : Sought) (count : ℕ) (hops : List Hop) (units : List ℕ) 
 sifted_on s count hops units i m more l e none w = by (subst (λ (us : List ℕ). Sifted s count hops us) (rest_is units i m l e) w)
   where
     by : Sifted s count hops (m ∷ drop (i + 1) units) → Sifted s count hops (drop (i + 1) units)
-    by v = record { bound = suc m; below = subst (λ (n : ℕ). NoneBelow s (ending count hops) n) (omega arith) (next_one s (ending count hops) m (to_next s count hops m (drop (i + 1) units) more v) none); left = v.left.2 }
+    by v = record { bound = suc m; below = subst (λ (n : ℕ). NoneBelow s (key_of_hops count hops) n) (omega arith) (next_one s (key_of_hops count hops) m (to_next s count hops m (drop (i + 1) units) more v) none); left = v.left.2 }
 
-pub sifted_found : (s : Sought) (count : ℕ) (hops : List Hop) (units : List ℕ) (i m : ℕ) (p : Place) → length hops < count → i < length units → m ≡ get_or units i 0 → IsFirstUnder s (to_unit count hops m) p → Sifted s count hops (drop i units) → IsFirstUnder s (ending count hops) p
-sifted_found s count hops units i m p more l e first w = found_first s (ending count hops) m p (to_next s count hops m (drop (i + 1) units) more (subst (λ (us : List ℕ). Sifted s count hops us) (rest_is units i m l e) w)) first
+pub sifted_found : (s : Sought) (count : ℕ) (hops : List Hop) (units : List ℕ) (i m : ℕ) (p : Place) → length hops < count → i < length units → m ≡ get_or units i 0 → IsFirstUnder s (to_unit count hops m) p → Sifted s count hops (drop i units) → IsFirstUnder s (key_of_hops count hops) p
+sifted_found s count hops units i m p more l e first w = found_first s (key_of_hops count hops) m p (to_next s count hops m (drop (i + 1) units) more (subst (λ (us : List ℕ). Sifted s count hops us) (rest_is units i m l e) w)) first
 
-pub sifted_done : (s : Sought) (count : ℕ) (hops : List Hop) (units : List ℕ) (i : ℕ) → length hops < count → length units ≤ i → Sifted s count hops (drop i units) → NoneUnder s (ending count hops)
+pub sifted_done : (s : Sought) (count : ℕ) (hops : List Hop) (units : List ℕ) (i : ℕ) → length hops < count → length units ≤ i → Sifted s count hops (drop i units) → NoneUnder s (key_of_hops count hops)
 sifted_done s count hops units i more l w = by (subst (λ (us : List ℕ). Sifted s count hops us) (drop_of_length-le units l) w)
   where
-    by : Sifted s count hops [] → NoneUnder s (ending count hops)
-    by v = none_left s (ending count hops) v.bound v.below (λ q u. go (unit_next s count hops q more u))
+    by : Sifted s count hops [] → NoneUnder s (key_of_hops count hops)
+    by v = none_left s (key_of_hops count hops) v.bound v.below (λ q u. go (unit_next s count hops q more u))
       where
-        go : {key : List ℕ} → ((j : ℕ) × (x : UnitPart) × (unit_at s.net j ≡ Some x) × Begins (ending count hops ++ j ∷ []) key) → (j : ℕ) × (j < v.bound) × Begins (ending count hops ++ j ∷ []) key
+        go : {key : List ℕ} → ((j : ℕ) × (x : UnitPart) × (unit_at s.net j ≡ Some x) × Begins (key_of_hops count hops ++ j ∷ []) key) → (j : ℕ) × (j < v.bound) × Begins (key_of_hops count hops ++ j ∷ []) key
         go k = (k.0, low (cases_lt k.0 v.bound), k.3)
           where
             low : (k.0 < v.bound) ⊎ (v.bound ≤ k.0) → k.0 < v.bound

@@ -3,7 +3,7 @@ use Rattle.std.proofs.Common.{◌≡◌, ℕ, suc, ◌+◌, ◌<◌, ◌≤◌, 
 use Rattle.std.proofs.lemmas.Bool.{cases_lt}
 use Rattle.dn_interval.specs.declared.row.End.{End}
 use Rattle.dn_interval.specs.declared.row.Row.{Row}
-use Rattle.dn_interval.specs.Rows.{moved, Apart, GivenBy}
+use Rattle.dn_interval.specs.Rows.{further_end, Apart, GivenBy}
 use Rattle.dn_interval.proofs.Normal.{behind_first}
 use Rattle.dn_tables.specs.Placement.{Place}
 use Rattle.dn_place.specs.Sought.{Sought}
@@ -70,4 +70,4 @@ walk_done s front rows t some st goes w = none_left s front w.bound w.below (λ 
       where
         below : (k.0 < w.bound) ⊎ (w.bound ≤ k.0) → k.0 < w.bound
         below (inl l) = l
-        below (inr l) = absurd ((only_rest rows [] w.bound t s.request.size k.0 w.holds l (st q k.0 (record { is = u.is; begins = k.1 })) 0 some (moved 0 t)).1 refl)
+        below (inr l) = absurd ((only_rest rows [] w.bound t s.request.size k.0 w.holds l (st q k.0 (record { is = u.is; begins = k.1 })) 0 some (further_end 0 t)).1 refl)

@@ -7,7 +7,7 @@ use Rattle.dn_kind.specs.Rights.{both_rights}
 use Rattle.dn_kind.specs.Tables.{Held}
 use Rattle.dn_tables.specs.declared.placement.Hop.{Hop}
 use Rattle.dn_tables.specs.Placement.{Place}
-use Rattle.dn_place.specs.Sought.{IsReady, Sought}
+use Rattle.dn_place.specs.Sought.{IsSearchReady, Sought}
 use Rattle.dn_placement.specs.Exposure.{Gives, IsAdmissible}
 use Rattle.dn_placement.specs.Keys.{Begins}
 use Rattle.dn_placement.specs.Order.{IsSuited, hop_page, hops_key, key_of, precedes}
@@ -16,7 +16,7 @@ use Rattle.dn_placement.specs.Records.{hop_record, hop_rights, hops_records, joi
 use Rattle.dn_placement.proofs.Hops.{same_hops}
 use Rattle.dn_placement.proofs.Keys.{cancel, one_more, not_itself}
 use Rattle.dn_placement.proofs.Order.{same_placement}
-use Rattle.dn_place.specs.Candidates.{CanOwn, IsUnder, NoneUnder, NoneBelow, IsFirstUnder, IsChosen, PagesBelow, PagesFrom, ending, to_address, to_page}
+use Rattle.dn_place.specs.Candidates.{CanOwn, IsUnder, NoneUnder, NoneBelow, IsFirstUnder, IsChosen, PagesBelow, PagesFrom, key_of_hops, to_address, to_page}
 use Rattle.dn_place.proofs.Levels.{begun, leapt, found_first, none_left}
 
 -- a placement of just these hops
@@ -25,9 +25,9 @@ pub record Whole (s : Sought) (hops : List Hop) (q : Place) (given : List ℕ) :
   pub rest : List ℕ
   pub tail : q.v ∷ hop_page s.net (slice_get hops q.own) ∷ (length hops - q.own) ∷ [] ≡ given ++ rest
   pub own : q.own < length hops
-  pub key : key_of s.net q ≡ ending (length hops) hops ++ (q.v ∷ hop_page s.net (slice_get hops q.own) ∷ (length hops - q.own) ∷ [])
+  pub key : key_of s.net q ≡ key_of_hops (length hops) hops ++ (q.v ∷ hop_page s.net (slice_get hops q.own) ∷ (length hops - q.own) ∷ [])
 
-pub whole : (s : Sought) (hops : List Hop) (q : Place) (given : List ℕ) → IsUnder s (ending (length hops) hops ++ given) q → Whole s hops q given
+pub whole : (s : Sought) (hops : List Hop) (q : Place) (given : List ℕ) → IsUnder s (key_of_hops (length hops) hops ++ given) q → Whole s hops q given
 whole s hops q given u = record {
   same = w.0;
   rest = u.begins.0;
@@ -43,14 +43,14 @@ whole s hops q given u = record {
     parts m n xs ys e = (cc, cc)
 
     key : (length q.hops ≡ length hops) × (hops_key q.hops ++ tail ≡ hops_key hops ++ (given ++ u.begins.0))
-    key = parts (length q.hops) (length hops) (hops_key q.hops ++ tail) (hops_key hops ++ (given ++ u.begins.0)) (u.begins.1 ∙ append_assoc (ending (length hops) hops) given u.begins.0)
+    key = parts (length q.hops) (length hops) (hops_key q.hops ++ tail) (hops_key hops ++ (given ++ u.begins.0)) (u.begins.1 ∙ append_assoc (key_of_hops (length hops) hops) given u.begins.0)
 
     w : (q.hops ≡ hops) × (tail ≡ given ++ u.begins.0)
     w = same_hops q.hops hops tail (given ++ u.begins.0) key.0 key.1
 
 -- the last number: how far the own hop is from memory's end
 
-pub placed : (s : Sought) (hops : List Hop) (v own page : ℕ) → IsReady s → IsChosen s (length hops) hops → 1 ≤ length hops → v + s.request.size ≤ top + 1 → Meets s.net s.request s.request.agent v hops → CanOwn s hops own page → IsPlacement s.net s.slots s.request (record { v = v; hops = hops; own = own })
+pub placed : (s : Sought) (hops : List Hop) (v own page : ℕ) → IsSearchReady s → IsChosen s (length hops) hops → 1 ≤ length hops → v + s.request.size ≤ top + 1 → Meets s.net s.request s.request.agent v hops → CanOwn s hops own page → IsPlacement s.net s.slots s.request (record { v = v; hops = hops; own = own })
 placed s hops v own page ready chosen some fits meets can = record {
   some = ready.some;
   fits = fits;
@@ -67,7 +67,7 @@ pub key_there : (s : Sought) (hops : List Hop) (v own page back : ℕ) → CanOw
 key_there s hops v own page back can e = ([], key ∙ sym nested)
   where
     front : List ℕ
-    front = ending (length hops) hops
+    front = key_of_hops (length hops) hops
 
     nested : ((((front ++ v ∷ []) ++ page ∷ []) ++ back ∷ []) ++ []) ≡ front ++ (v ∷ page ∷ back ∷ [])
     nested = one_more ((front ++ v ∷ []) ++ page ∷ []) back [] ∙ one_more (front ++ v ∷ []) page (back ∷ []) ∙ one_more front v (page ∷ back ∷ [])
@@ -101,7 +101,7 @@ last_of s hops v page back q u = record {
 }
   where
     front : List ℕ
-    front = ending (length hops) hops
+    front = key_of_hops (length hops) hops
 
     nested : (((front ++ v ∷ []) ++ page ∷ []) ++ back ∷ []) ≡ front ++ (v ∷ page ∷ back ∷ [])
     nested = one_more (front ++ v ∷ []) page (back ∷ []) ∙ one_more front v (page ∷ back ∷ [])
@@ -157,7 +157,7 @@ pub none_owned : (s : Sought) (hops : List Hop) (v own page : ℕ) → s.request
 none_owned s hops v own page both refused = record { none = λ q u. refused (moved q u) }
   where
     front : List ℕ
-    front = ending (length hops) hops
+    front = key_of_hops (length hops) hops
 
     moved : (q : Place) → IsUnder s (to_page (length hops) hops v page) q → IsAdmissible s.net s.slots.held s.request (record { v = v; hops = hops; own = own })
     moved q u = subst (λ n. Gives s.net s.slots.held (joined_records s.slots.held (placed_records s.net s.request (record { v = v; hops = hops; own = own }))) s.request n) t
@@ -194,7 +194,7 @@ pub back_of : (s : Sought) (hops : List Hop) (v page : ℕ) (q : Place) → IsUn
 back_of s hops v page q u = (near hops q, omega arith, ([], w.key ∙ ap (λ n. front ++ (n ∷ own_page s hops q ∷ near hops q ∷ [])) t.0 ∙ ap (λ n. front ++ (v ∷ n ∷ near hops q ∷ [])) t.1 ∙ sym nested))
   where
     front : List ℕ
-    front = ending (length hops) hops
+    front = key_of_hops (length hops) hops
 
     nested : ((((front ++ v ∷ []) ++ page ∷ []) ++ near hops q ∷ []) ++ []) ≡ front ++ (v ∷ page ∷ near hops q ∷ [])
     nested = one_more ((front ++ v ∷ []) ++ page ∷ []) (near hops q) [] ∙ one_more (front ++ v ∷ []) page (near hops q ∷ []) ∙ one_more front v (page ∷ near hops q ∷ [])
@@ -232,7 +232,7 @@ page_there s hops v q u = record {
 }
   where
     front : List ℕ
-    front = ending (length hops) hops
+    front = key_of_hops (length hops) hops
 
     nested : (((front ++ v ∷ []) ++ own_page s hops q ∷ []) ++ near hops q ∷ []) ≡ front ++ (v ∷ own_page s hops q ∷ near hops q ∷ [])
     nested = one_more (front ++ v ∷ []) (own_page s hops q) (near hops q ∷ []) ∙ one_more front v (own_page s hops q ∷ near hops q ∷ [])

@@ -27,17 +27,17 @@ pub record IsFirstUnder (s : Sought) (front : List ℕ) (p : Place) : Type 0 whe
   pub least : (q : Place) → IsUnder s front q → precedes s.net q p ≡ false
 
 -- the first of them, or none
-abbrev pub Answers : Sought → List ℕ → Option Place → Type 0
-Answers s front None = NoneUnder s front
-Answers s front (Some p) = IsFirstUnder s front p
+abbrev pub IsFirstOrNone : Sought → List ℕ → Option Place → Type 0
+IsFirstOrNone s front None = NoneUnder s front
+IsFirstOrNone s front (Some p) = IsFirstUnder s front p
 
 -- how the keys begin of placements of so many hops that end with these
-abbrev pub ending : ℕ → List Hop → List ℕ
-ending count hops = count ∷ hops_key hops
+abbrev pub key_of_hops : ℕ → List Hop → List ℕ
+key_of_hops count hops = count ∷ hops_key hops
 
 -- and whose next hop is of this unit
 abbrev pub to_unit : ℕ → List Hop → ℕ → List ℕ
-to_unit count hops unit = ending count hops ++ unit ∷ []
+to_unit count hops unit = key_of_hops count hops ++ unit ∷ []
 
 -- and of this port
 abbrev pub to_port : ℕ → List Hop → ℕ → ℕ → List ℕ
@@ -49,7 +49,7 @@ to_output count hops unit port y = to_port count hops unit port ++ y ∷ []
 
 -- of placements of just these hops, those at an address of the agent
 abbrev pub to_address : ℕ → List Hop → ℕ → List ℕ
-to_address count hops v = ending count hops ++ v ∷ []
+to_address count hops v = key_of_hops count hops ++ v ∷ []
 
 -- and with an own hop of this page
 abbrev pub to_page : ℕ → List Hop → ℕ → ℕ → List ℕ

@@ -5,8 +5,8 @@ use Rattle.dn_place.specs.declared.hops.Hops.{Hops}
 use Rattle.dn_place.specs.declared.hops.Hops.TheVariants.{Zero, One, Two, Three}
 
 -- the hops from the agent's end
-abbrev pub hops_of : Hops → List Hop
-hops_of Zero = []
-hops_of (One a) = a ∷ []
-hops_of (Two a b) = a ∷ b ∷ []
-hops_of (Three a b c) = a ∷ b ∷ c ∷ []
+abbrev pub hops_view : Hops → List Hop
+hops_view Zero = []
+hops_view (One a) = a ∷ []
+hops_view (Two a b) = a ∷ b ∷ []
+hops_view (Three a b c) = a ∷ b ∷ c ∷ []

@@ -2,7 +2,7 @@
 use Rattle.std.specs.Prelude.{◌≡◌, ℕ, suc, ◌<◌, ◌≤◌, Bool, true, false, cond, nat_eq, List, [], ◌∷◌, length, map, slice_get, slice_index_or, Option, Some}
 use Rattle.dn_interval.specs.declared.row.End.{End}
 use Rattle.dn_interval.specs.declared.row.Row.{Row}
-use Rattle.dn_interval.specs.Rows.{Member, moved, GivenBy}
+use Rattle.dn_interval.specs.Rows.{Member, further_end, GivenBy}
 use Rattle.dn_net.specs.declared.node.Name.{Name}
 use Rattle.dn_net.specs.declared.node.NodeDecl.{NodeDecl}
 use Rattle.dn_net.specs.declared.node.Unit.{Unit as UnitPart}
@@ -25,7 +25,7 @@ Keeps old new = (n : ℕ) → is_marked old n ≡ true → is_marked new n ≡ t
 
 -- each node of these names, moved on, has a mark
 abbrev pub MarksEnds : List End → List Bool → Type 0
-MarksEnds ends marks = (d : ℕ) (z : End) → Member z (map (moved d) ends) →
+MarksEnds ends marks = (d : ℕ) (z : End) → Member z (map (further_end d) ends) →
     z.node < length marks → is_marked marks z.node ≡ true
 
 -- each node in which the rows give a name has a mark

@@ -8,14 +8,14 @@ use Rattle.dn_placement.specs.Exposure.{IsAdmissible}
 use Rattle.dn_placement.specs.Placement.{IsPlacement}
 use Rattle.dn_place.specs.declared.hops.Hops.{Hops}
 use Rattle.dn_place.specs.declared.slot.Slot.{Slot}
-use Rattle.dn_place.specs.Hops.{hops_of}
+use Rattle.dn_place.specs.Hops.{hops_view}
 use Rattle.dn_place.specs.Slots.{slot_of}
 use Rattle.dn_place.specs.Sought.{Sought, slot_count}
 
 -- the net, what its nodes reach, the request and the address are those of what is looked for; a slot that is
 -- there may be asked for, and the answer is what a hop meets in it; a placement may be tested, and the
 -- answer is whether it is admissible
-pub record IsPlatform {Fault : Type 0} (net : List NodeDecl) (flats : FlatsView) (rq : Request) (at : Option ℕ)
+pub record IsSearchPlatform {Fault : Type 0} (net : List NodeDecl) (flats : FlatsView) (rq : Request) (at : Option ℕ)
     (may_ask : ℕ → ℕ → Type 0) (asked : ℕ → ℕ → Slot → Type 0)
     (may_test : ℕ → Hops → ℕ → Type 0) (tested : ℕ → Hops → ℕ → Result Bool Fault → Type 0)
     (s : Sought) : Type 0 where
@@ -27,9 +27,9 @@ pub record IsPlatform {Fault : Type 0} (net : List NodeDecl) (flats : FlatsView)
   pub is_met : (unit slot : ℕ) (found : Slot) → slot < slot_count (unit_at s.net unit) →
       asked unit slot found → found ≡ slot_of s.slots unit slot
   pub can_test : (v : ℕ) (hops : Hops) (own : ℕ) →
-      IsPlacement s.net s.slots s.request (record { v = v; hops = hops_of hops; own = own }) →
+      IsPlacement s.net s.slots s.request (record { v = v; hops = hops_view hops; own = own }) →
       may_test v hops own
   pub is_tested : (v : ℕ) (hops : Hops) (own : ℕ) (answer : Result Bool Fault) →
-      IsPlacement s.net s.slots s.request (record { v = v; hops = hops_of hops; own = own }) →
+      IsPlacement s.net s.slots s.request (record { v = v; hops = hops_view hops; own = own }) →
       tested v hops own answer → IfOk answer (λ yes. IsTrue yes ↔
-      IsAdmissible s.net s.slots.held s.request (record { v = v; hops = hops_of hops; own = own }))
+      IsAdmissible s.net s.slots.held s.request (record { v = v; hops = hops_view hops; own = own }))

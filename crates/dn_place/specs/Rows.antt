@@ -5,7 +5,7 @@ use Rattle.dn_interval.specs.declared.row.End.{End}
 use Rattle.dn_interval.specs.declared.row.Row.{Row}
 use Rattle.dn_interval.specs.declared.span.Span.{Span}
 use Rattle.dn_interval.specs.declared.span.TheConstants.{TOP}
-use Rattle.dn_interval.specs.Rows.{moved, Apart, GivenBy}
+use Rattle.dn_interval.specs.Rows.{further_end, Apart, GivenBy}
 use Rattle.dn_interval.specs.Spans.{in_span}
 use Rattle.dn_net.specs.declared.node.NodeDecl.{NodeDecl}
 use Rattle.dn_flat.specs.Views.{ResolvesFrom, StopsFrom}
@@ -22,12 +22,12 @@ pub record InRow (r : Row) (t : End) (size a : ℕ) : Type 0 where
 
 -- the rows give exactly the name to the address, moved on to those after it, so many in all
 abbrev pub GivesOnly : List Row → End → ℕ → ℕ → Type 0
-GivesOnly rows t size a = (i : ℕ) → i < size → (z : End) → GivenBy rows (a + i) z ↔ (moved i t ≡ z)
+GivesOnly rows t size a = (i : ℕ) → i < size → (z : End) → GivenBy rows (a + i) z ↔ (further_end i t ≡ z)
 
 -- the name that hops want: the first hop's input, or the buffer
-abbrev pub wanted : Request → List Hop → End
-wanted rq [] = record { node = rq.node; base = rq.base }
-wanted rq (hop ∷ hops) = record { node = hop.unit; base = hop.x }
+abbrev pub wanted_name : Request → List Hop → End
+wanted_name rq [] = record { node = rq.node; base = rq.base }
+wanted_name rq (hop ∷ hops) = record { node = hop.unit; base = hop.x }
 
 -- the address of a node comes to the name: it resolves to it, or, where a hop follows, it is its stop
 abbrev pub ComesTo : List NodeDecl → List Hop → ℕ → ℕ → End → Type 0
@@ -37,7 +37,7 @@ ComesTo net (hop ∷ hops) node a z = StopsFrom net node a z
 -- the addresses of a stretch come to just the names that hops want, one after another
 abbrev pub ComesOnly : List NodeDecl → Request → List Hop → ℕ → ℕ → Type 0
 ComesOnly net rq hops node a = (i : ℕ) (z : End) → i < rq.size →
-    ComesTo net hops node (a + i) z ↔ (moved i (wanted rq hops) ≡ z)
+    ComesTo net hops node (a + i) z ↔ (further_end i (wanted_name rq hops) ≡ z)
 
 -- The rows of a node that give what hops want: to each address names to which it comes alone; where one of them is wanted,
 -- all to which it comes; and all of a stretch that comes to just what is wanted.
@@ -45,10 +45,10 @@ pub record AreToward (net : List NodeDecl) (rq : Request) (hops : List Hop) (nod
     : Type 0 where
   pub apart : Apart 0 rows
   pub given : (a : ℕ) (z : End) → a ≤ TOP → GivenBy rows a z → ComesTo net hops node a z
-  pub all : (a i : ℕ) (z : End) → a ≤ TOP → i < rq.size → GivenBy rows a (moved i (wanted rq hops)) →
+  pub all : (a i : ℕ) (z : End) → a ≤ TOP → i < rq.size → GivenBy rows a (further_end i (wanted_name rq hops)) →
       ComesTo net hops node a z → GivenBy rows a z
   pub whole : (a : ℕ) → a + rq.size ≤ TOP + 1 → ComesOnly net rq hops node a → (i : ℕ) → i < rq.size →
-      GivenBy rows (a + i) (moved i (wanted rq hops))
+      GivenBy rows (a + i) (further_end i (wanted_name rq hops))
 
 -- a span whose first address has this name gives one of so many names from one on
 abbrev pub is_near : End → ℕ → Span → End → Bool

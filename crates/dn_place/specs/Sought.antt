@@ -32,7 +32,7 @@ abbrev pub ReachOneStop : List NodeDecl → Type 0
 ReachOneStop net = (x y z : Name) → StopsAt net x y → StopsAt net x z → y ≡ z
 
 -- what the search asks
-pub record IsReady (s : Sought) : Type 0 where
+pub record IsSearchReady (s : Sought) : Type 0 where
   pub formed : AreFormed s.net
   pub one_stop : ReachOneStop s.net
   pub few : length s.net ≤ 1024
@@ -46,8 +46,8 @@ slot_count None = 0
 slot_count (Some u) = u.slots
 
 -- nothing is looked for
-abbrev pub nothing : Sought
-nothing = record {
+abbrev pub nothing_sought : Sought
+nothing_sought = record {
   net = [];
   slots = record { held = λ unit slot. None; is_free = λ unit slot. false; has_owner = λ unit slot. false };
   request = record { agent = 0; node = 0; base = 0; size = 0; rights = both_rights };

@@ -3,12 +3,12 @@
 ghost use Rattle.std.specs.Prelude.{◌≡◌, ◌∷◌, ◌%◌, ◌*◌, ◌/◌, ◌^◌, ◌+◌, ◌-◌, ◌<◌, ◌≤◌, ℕ, Some, IfOk, length, slice_get};
 ghost use Rattle.dn_net.specs.Terms.{unit_at};
 ghost use Rattle.dn_placement.specs.Terms.{Meets};
-ghost use Rattle.dn_place.specs.Terms.{Answers, AreToward, AreUsable, IsStage, ending, hops_of, to_output, to_port, to_unit};
+ghost use Rattle.dn_place.specs.Terms.{AreToward, AreUsable, IsFirstOrNone, IsSearchStage, hops_view, key_of_hops, to_output, to_port, to_unit};
 
 use crate::hops::Hops;
 use crate::marks::{Reach, can_stand, is_allowed};
 use crate::quest::{Found, Quest, unit_of};
-use crate::rows::{is_clear, lent_rows, made_rows, output, wanted};
+use crate::rows::{is_clear, lent_rows, made_rows, output, wanted_name};
 use crate::slots::{next_input, power};
 use crate::whole::by_agent;
 use dn_interval::Row;
@@ -33,10 +33,10 @@ pub(crate) struct Stage<'a> {
 #[cycle(hops)]
 pub(crate) fn by_hops<Q: Quest>(quest: &Q, stage: Stage) -> Found
     requires sound { Q.is_sound quest.now }
-    requires stage { IsStage (Q.sought quest.now) stage }
+    requires stage { IsSearchStage (Q.sought quest.now) stage }
     requires some { 1 ≤ stage.count }
-    ensures { IfOk result (λ found. Answers (Q.sought quest.now)
-        (ending stage.entry.count (hops_of stage.entry.chosen)) found) }
+    ensures { IfOk result (λ found. IsFirstOrNone (Q.sought quest.now)
+        (key_of_hops stage.entry.count (hops_view stage.entry.chosen)) found) }
 {
     if stage.chosen.count() == stage.count {
         return by_agent(stage.alloc, quest, stage.chosen);
@@ -58,10 +58,10 @@ pub(crate) fn by_hops<Q: Quest>(quest: &Q, stage: Stage) -> Found
 #[cycle(hops)]
 fn by_unit<Q: Quest>(quest: &Q, stage: Stage, unit: u16) -> Found
     requires sound { Q.is_sound quest.now }
-    requires stage { IsStage (Q.sought quest.now) stage }
-    requires more { length (hops_of stage.chosen) < stage.count }
-    ensures { IfOk result (λ found. Answers (Q.sought quest.now)
-        (to_unit stage.entry.count (hops_of stage.entry.chosen) unit) found) }
+    requires stage { IsSearchStage (Q.sought quest.now) stage }
+    requires more { length (hops_view stage.chosen) < stage.count }
+    ensures { IfOk result (λ found. IsFirstOrNone (Q.sought quest.now)
+        (to_unit stage.entry.count (hops_view stage.entry.chosen) unit) found) }
 {
     let Some(translator) = unit_of(quest, unit) else {
         return Ok(None);
@@ -78,12 +78,12 @@ fn by_unit<Q: Quest>(quest: &Q, stage: Stage, unit: u16) -> Found
 #[cycle(hops)]
 fn by_port<Q: Quest>(quest: &Q, stage: Stage, translator: &Unit, unit: u16, port: u8) -> Found
     requires sound { Q.is_sound quest.now }
-    requires stage { IsStage (Q.sought quest.now) stage }
-    requires more { length (hops_of stage.chosen) < stage.count }
+    requires stage { IsSearchStage (Q.sought quest.now) stage }
+    requires more { length (hops_view stage.chosen) < stage.count }
     requires unit { unit_at (Q.sought quest.now).net unit ≡ Some translator.now }
     requires port { port < length translator.now.ports }
-    ensures { IfOk result (λ found. Answers (Q.sought quest.now)
-        (to_port stage.entry.count (hops_of stage.entry.chosen) unit port) found) }
+    ensures { IfOk result (λ found. IsFirstOrNone (Q.sought quest.now)
+        (to_port stage.entry.count (hops_view stage.entry.chosen) unit port) found) }
 {
     let node = translator.ports.as_slice()[usize::from(port)];
     match lent_rows(quest.levels(node), stage.chosen) {
@@ -106,19 +106,19 @@ fn by_rows<Q: Quest>(
     rows: &[Row],
 ) -> Found
     requires sound { Q.is_sound quest.now }
-    requires stage { IsStage (Q.sought quest.now) stage }
-    requires more { length (hops_of stage.chosen) < stage.count }
+    requires stage { IsSearchStage (Q.sought quest.now) stage }
+    requires more { length (hops_view stage.chosen) < stage.count }
     requires unit { unit_at (Q.sought quest.now).net unit ≡ Some translator.now }
     requires port { port < length translator.now.ports }
     requires toward { (node : ℕ) → slice_get translator.now.ports port ≡ Some node
         → AreToward (Q.sought quest.now).net (Q.sought quest.now).request
-        (hops_of stage.chosen) node rows.now }
-    ensures { IfOk result (λ found. Answers (Q.sought quest.now)
-        (to_port stage.entry.count (hops_of stage.entry.chosen) unit port) found) }
+        (hops_view stage.chosen) node rows.now }
+    ensures { IfOk result (λ found. IsFirstOrNone (Q.sought quest.now)
+        (to_port stage.entry.count (hops_view stage.entry.chosen) unit port) found) }
 {
     let node = translator.ports.as_slice()[usize::from(port)];
     let size = quest.request().size;
-    let target = wanted(quest.request(), stage.chosen);
+    let target = wanted_name(quest.request(), stage.chosen);
     let end = power(translator.reach);
     'rows: for row in rows {
         if let Some(y) = output(row, target, size) {
@@ -143,15 +143,15 @@ fn by_output<Q: Quest>(
     y: u64,
 ) -> Found
     requires sound { Q.is_sound quest.now }
-    requires stage { IsStage (Q.sought quest.now) stage }
-    requires more { length (hops_of stage.chosen) < stage.count }
+    requires stage { IsSearchStage (Q.sought quest.now) stage }
+    requires more { length (hops_view stage.chosen) < stage.count }
     requires unit { unit_at (Q.sought quest.now).net unit ≡ Some translator.now }
     requires port { port < length translator.now.ports }
     requires reached { y + (Q.sought quest.now).request.size ≤ 2 ^ translator.now.reach }
     requires meets { (n : ℕ) → slice_get translator.now.ports port ≡ Some n →
-        Meets (Q.sought quest.now).net (Q.sought quest.now).request n y (hops_of stage.chosen) }
-    ensures { IfOk result (λ found. Answers (Q.sought quest.now)
-        (to_output stage.entry.count (hops_of stage.entry.chosen) unit port y) found) }
+        Meets (Q.sought quest.now).net (Q.sought quest.now).request n y (hops_view stage.chosen) }
+    ensures { IfOk result (λ found. IsFirstOrNone (Q.sought quest.now)
+        (to_output stage.entry.count (hops_view stage.entry.chosen) unit port y) found) }
 {
     let page = power(translator.page);
     let size = quest.request().size;
@@ -176,8 +176,8 @@ fn by_output<Q: Quest>(
 #[cycle(hops)]
 fn by_input<Q: Quest>(quest: &Q, stage: Stage, translator: &Unit, hop: Hop) -> Found
     requires sound { Q.is_sound quest.now }
-    requires stage { IsStage (Q.sought quest.now) stage }
-    requires more { length (hops_of stage.chosen) < stage.count }
+    requires stage { IsSearchStage (Q.sought quest.now) stage }
+    requires more { length (hops_view stage.chosen) < stage.count }
     requires unit { unit_at (Q.sought quest.now).net hop.unit ≡ Some translator.now }
     requires port { hop.port < length translator.now.ports }
     requires agree { hop.x % 2 ^ translator.now.page ≡ hop.y % 2 ^ translator.now.page }
@@ -190,9 +190,9 @@ fn by_input<Q: Quest>(quest: &Q, stage: Stage, translator: &Unit, hop: Hop) -> F
         hop.port (hop.y / 2 ^ translator.now.page) }
     requires meets { (n : ℕ) → slice_get translator.now.ports hop.port ≡ Some n →
         Meets (Q.sought quest.now).net (Q.sought quest.now).request n hop.y
-        (hops_of stage.chosen) }
-    ensures { IfOk result (λ found. Answers (Q.sought quest.now)
-        (ending stage.entry.count (hop ∷ hops_of stage.entry.chosen)) found) }
+        (hops_view stage.chosen) }
+    ensures { IfOk result (λ found. IsFirstOrNone (Q.sought quest.now)
+        (key_of_hops stage.entry.count (hop ∷ hops_view stage.entry.chosen)) found) }
 {
     if !is_allowed(
         stage.reach,

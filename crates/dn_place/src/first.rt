@@ -7,7 +7,7 @@ ghost use Rattle.dn_kind.specs.Terms.{IsLawful, are_rights};
 ghost use Rattle.dn_tables.specs.Terms.{FitsNet, fits_kinds, has_slot, record_kept};
 ghost use Rattle.dn_placement.specs.Terms.{IsAdmissible, IsFirst, IsPlacement, NoneSuited, slots_of_set};
 ghost use Rattle.dn_view.specs.Terms.{IsSystem};
-ghost use Rattle.dn_place.specs.Terms.{Answers, IsReady, hops_of, slot_of};
+ghost use Rattle.dn_place.specs.Terms.{IsFirstOrNone, IsSearchReady, hops_view, slot_of};
 
 use crate::chain::{Stage, by_hops};
 use crate::hops::Hops;
@@ -72,8 +72,8 @@ fn by_tables<A: Aim>(
       request = request.now;
       at = at;
     } }
-    requires ready { IsReady A.sought }
-    ensures { IfOk result (λ found. Answers A.sought [] found) }
+    requires ready { IsSearchReady A.sought }
+    ensures { IfOk result (λ found. IsFirstOrNone A.sought [] found) }
 {
     let kinds = system.kinds;
     let met = |unit: u16, slot: u32| -> Slot
@@ -90,15 +90,16 @@ fn by_tables<A: Aim>(
         requires fits { FitsNet system.net.now
             (map (λ k. meaning (k.vtable, k.value)) system.kinds.now.list.items) tables.now }
         requires rights { IsTrue (are_rights request.now.rights) }
-        requires own { own < length (hops_of hops) }
+        requires own { own < length (hops_view hops) }
         requires placed { IsPlacement system.net.now
             (slots_of_set (map (λ k. meaning (k.vtable, k.value)) system.kinds.now.list.items)
-            tables.now) request.now (record { v = v; hops = hops_of hops; own = own }) }
+            tables.now) request.now (record { v = v; hops = hops_view hops; own = own }) }
         ensures { IfOk result (λ yes. IsTrue yes ↔ IsAdmissible system.entry.net.now
             (record_kept (map (λ k. meaning (k.vtable, k.value)) system.entry.kinds.now.list.items)
-            tables.entry.now) request.entry.now (record { v = v; hops = hops_of hops; own = own })) }
+            tables.entry.now) request.entry.now
+            (record { v = v; hops = hops_view hops; own = own })) }
     {
-        let placement = hops.placed(alloc, v, own);
+        let placement = hops.into_placement(alloc, v, own);
         exact(alloc, system, tables, request, &placement)
     };
     let platform = Platform::<'_, A, _, _> {
@@ -116,8 +117,8 @@ fn by_tables<A: Aim>(
 /// The first placement that is looked for. `None` exactly where there is none.
 fn first_of<Q: Quest>(alloc: Global, quest: &Q) -> Found
     requires sound { Q.is_sound quest.now }
-    requires ready { IsReady (Q.sought quest.now) }
-    ensures { IfOk result (λ found. Answers (Q.sought quest.now) [] found) }
+    requires ready { IsSearchReady (Q.sought quest.now) }
+    ensures { IfOk result (λ found. IsFirstOrNone (Q.sought quest.now) [] found) }
 {
     let reach = reach_of(alloc, quest)?;
     for count in 1..4 {

@@ -1,7 +1,7 @@
 //! The hops that are chosen so far.
 
 ghost use Rattle.std.specs.Prelude.{◌≡◌, ◌<◌, ◌∷◌, length, slice_get};
-ghost use Rattle.dn_place.specs.Terms.{hops_of};
+ghost use Rattle.dn_place.specs.Terms.{hops_view};
 
 use dn_tables::placement::{Hop, Placement};
 use std::alloc::Global;
@@ -18,7 +18,7 @@ pub(crate) enum Hops {
 impl Hops {
     /// How many hops there are.
     pub(crate) fn count(self) -> u8
-        ensures { result ≡ length (hops_of self) }
+        ensures { result ≡ length (hops_view self) }
     {
         match self {
             Hops::Zero => 0,
@@ -30,7 +30,7 @@ impl Hops {
 
     /// The hop at a place, counted from the agent's end.
     pub(crate) fn at(self, place: u8) -> Option<Hop>
-        ensures { result ≡ slice_get (hops_of self) place }
+        ensures { result ≡ slice_get (hops_view self) place }
     {
         match self {
             Hops::Zero => None,
@@ -51,8 +51,8 @@ impl Hops {
 
     /// These hops behind one more, nearer to the agent.
     pub(crate) fn behind(self, hop: Hop) -> Hops
-        requires { length (hops_of self) < 3 }
-        ensures { hops_of result ≡ hop ∷ hops_of self }
+        requires { length (hops_view self) < 3 }
+        ensures { hops_view result ≡ hop ∷ hops_view self }
     {
         match self {
             Hops::Zero => Hops::One(hop),
@@ -63,9 +63,9 @@ impl Hops {
     }
 
     /// The placement of these hops. It takes no memory.
-    pub(crate) fn placed(self, alloc: Global, v: u64, own: u8) -> Placement
-        requires { own < length (hops_of self) }
-        ensures { result ≡ record { v = v; hops = hops_of self; own = own } }
+    pub(crate) fn into_placement(self, alloc: Global, v: u64, own: u8) -> Placement
+        requires { own < length (hops_view self) }
+        ensures { result ≡ record { v = v; hops = hops_view self; own = own } }
     {
         match self {
             Hops::Zero => unreachable!(),

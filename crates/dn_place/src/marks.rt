@@ -3,11 +3,11 @@
 
 ghost use Rattle.std.specs.Prelude.{◌≡◌, ◌<◌, ◌-◌, ◌++◌, [], ◌∷◌, ℕ, OnOk, is_some, true, false, Some, None, IfOk, IfSome, IfNone, IsTrue, length, map, slice_get};
 ghost use Rattle.dn_interval.specs.declared.row.End.{End};
-ghost use Rattle.dn_interval.specs.Terms.{EndsFit, GivenBy, HasEnds, Member, in_span, moved};
+ghost use Rattle.dn_interval.specs.Terms.{EndsFit, GivenBy, HasEnds, Member, further_end, in_span};
 ghost use Rattle.dn_net.specs.declared.node.Unit.{Unit as UnitPart};
 ghost use Rattle.dn_net.specs.Terms.{unit_at};
 ghost use Rattle.dn_flat.specs.Terms.{levels_give};
-ghost use Rattle.dn_place.specs.Terms.{AreMarked, AreUnitsFrom, IsEntry, IsReady, Keeps, MarkedBelow, Marks, MarksAfter, MarksAll, MarksEnds, MarksGiven, MarksRows, is_marked, mark_at};
+ghost use Rattle.dn_place.specs.Terms.{AreMarked, AreUnitsFrom, IsEntry, IsSearchReady, Keeps, MarkedBelow, Marks, MarksAfter, MarksAll, MarksEnds, MarksGiven, MarksRows, is_marked, mark_at};
 
 use crate::quest::{Quest, unit_of};
 use dn_base::OutOfMemory;
@@ -31,7 +31,7 @@ pub(crate) struct Reach {
 /// Where the hops of a request can stand.
 pub(crate) fn reach_of<Q: Quest>(alloc: Global, quest: &Q) -> Result<Reach, OutOfMemory>
     requires sound { Q.is_sound quest.now }
-    requires ready { IsReady (Q.sought quest.now) }
+    requires ready { IsSearchReady (Q.sought quest.now) }
     ensures marked { IfOk result (λ r. AreMarked (Q.sought quest.now)
         r.first.items r.second.items r.third.items) }
     ensures entry { IfOk result (λ r. IsEntry (Q.sought quest.now) r.entry) }
@@ -84,7 +84,7 @@ fn push_unit<Q: Quest>(quest: &Q, node: u16, units: &mut Vec<u16>) -> Result<(),
 /// The units in which the first hop can stand: those of the agent's stops.
 fn from_agent<Q: Quest>(alloc: Global, quest: &Q) -> Result<Vec<bool>, OutOfMemory>
     requires sound { Q.is_sound quest.now }
-    requires ready { IsReady (Q.sought quest.now) }
+    requires ready { IsSearchReady (Q.sought quest.now) }
     ensures { IfOk result (λ marks. MarksAll (Q.sought quest.now).net
         (Q.sought quest.now).request.agent marks.items) }
 {
@@ -96,7 +96,7 @@ fn from_agent<Q: Quest>(alloc: Global, quest: &Q) -> Result<Vec<bool>, OutOfMemo
 /// The stop that the address reaches, if one is asked for.
 fn entry_of<Q: Quest>(quest: &Q) -> Option<End>
     requires sound { Q.is_sound quest.now }
-    requires ready { IsReady (Q.sought quest.now) }
+    requires ready { IsSearchReady (Q.sought quest.now) }
     ensures { IsEntry (Q.sought quest.now) result }
 {
     match quest.at() {
@@ -133,7 +133,7 @@ fn first_end(row: &Row, a: u64) -> End
     requires some { HasEnds row.now.ends }
     requires fit { EndsFit row.now }
     requires inside { IsTrue (in_span row.now.span a) }
-    ensures { Member result (map (moved (a - row.now.span.lo)) row.now.ends) }
+    ensures { Member result (map (further_end (a - row.now.span.lo)) row.now.ends) }
 {
     let end = row.ends()[0];
     End {
@@ -186,7 +186,7 @@ fn has_mark(marks: &[bool], node: u16) -> bool
 /// The units that a port of a marked unit leads to.
 fn after<Q: Quest>(alloc: Global, quest: &Q, from: &[bool]) -> Result<Vec<bool>, OutOfMemory>
     requires sound { Q.is_sound quest.now }
-    requires ready { IsReady (Q.sought quest.now) }
+    requires ready { IsSearchReady (Q.sought quest.now) }
     ensures { IfOk result (λ marks. MarksAfter (Q.sought quest.now).net from.now marks.items) }
 {
     let mut marks = vec![in alloc; false; usize::from(quest.nodes())]?;
@@ -197,7 +197,7 @@ fn after<Q: Quest>(alloc: Global, quest: &Q, from: &[bool]) -> Result<Vec<bool>,
 /// Marks what the ports of marked units lead to.
 fn mark_after<Q: Quest>(quest: &Q, from: &[bool], marks: &mut [bool])
     requires sound { Q.is_sound quest.now }
-    requires ready { IsReady (Q.sought quest.now) }
+    requires ready { IsSearchReady (Q.sought quest.now) }
     ensures { MarkedBelow (Q.sought quest.now).net from.now
         (length (Q.sought quest.now).net) marks.new }
 {
@@ -209,7 +209,7 @@ fn mark_after<Q: Quest>(quest: &Q, from: &[bool], marks: &mut [bool])
 /// Marks what the ports of a unit lead to, if it is marked.
 fn mark_after_node<Q: Quest>(quest: &Q, from: &[bool], node: u16, marks: &mut [bool])
     requires sound { Q.is_sound quest.now }
-    requires ready { IsReady (Q.sought quest.now) }
+    requires ready { IsSearchReady (Q.sought quest.now) }
     ensures keeps { Keeps marks.old marks.new }
     ensures marks { is_marked from.now node ≡ true → (k n : ℕ) (u : UnitPart) →
         unit_at (Q.sought quest.now).net node ≡ Some u → slice_get u.ports k ≡ Some n →
@@ -223,7 +223,7 @@ fn mark_after_node<Q: Quest>(quest: &Q, from: &[bool], node: u16, marks: &mut [b
 /// Marks what the ports of a unit lead to.
 fn mark_unit<Q: Quest>(quest: &Q, unit: u16, marks: &mut [bool])
     requires sound { Q.is_sound quest.now }
-    requires ready { IsReady (Q.sought quest.now) }
+    requires ready { IsSearchReady (Q.sought quest.now) }
     ensures keeps { Keeps marks.old marks.new }
     ensures marks { (k n : ℕ) (u : UnitPart) → unit_at (Q.sought quest.now).net unit ≡ Some u →
         slice_get u.ports k ≡ Some n → Marks (Q.sought quest.now).net n marks.new }

@@ -21,9 +21,9 @@ pub(crate) trait Aim {
 }
 
 impl Aim for Brand {
-    ghost use Rattle.dn_place.specs.Sought.{nothing};
+    ghost use Rattle.dn_place.specs.Sought.{nothing_sought};
 
-    ghost sought = { nothing };
+    ghost sought = { nothing_sought };
 }
 
 /// A request, and the platform on which a placement of it is looked for.
@@ -47,11 +47,11 @@ impl<
     F: Fn(u16, u32) -> Slot + Drop,
     E: Fn(u64, Hops, u8) -> Result<bool, OutOfMemory> + Drop,
 > Quest for Platform<'a, A, F, E> {
-    ghost use Rattle.dn_place.specs.Platforms.{IsPlatform};
+    ghost use Rattle.dn_place.specs.Platforms.{IsSearchPlatform};
 
     ghost sought = { λ _. A.sought };
 
-    ghost is_sound = { λ s. IsPlatform s.net.now s.flats.now s.request s.at
+    ghost is_sound = { λ s. IsSearchPlatform s.net.now s.flats.now s.request s.at
         (F.pre s.met) (F.post s.met) (E.pre s.exact) (E.post s.exact) A.sought };
 
     fn request(&self) -> Request {

@@ -2,7 +2,7 @@
 
 ghost use Rattle.std.specs.Prelude.{◌≡◌, IfSome, IfNone, Some, None};
 ghost use Rattle.dn_net.specs.Terms.{unit_at};
-ghost use Rattle.dn_place.specs.Terms.{IsFormed, IsReady};
+ghost use Rattle.dn_place.specs.Terms.{IsFormed, IsSearchReady};
 
 use crate::hops::Hops;
 use crate::slot::Slot;
@@ -27,7 +27,7 @@ pub(crate) trait Quest {
     ghost use Rattle.dn_interval.specs.Rows.{AreNormal};
     ghost use Rattle.dn_placement.specs.Exposure.{IsAdmissible};
     ghost use Rattle.dn_placement.specs.Placement.{IsPlacement};
-    ghost use Rattle.dn_place.specs.Hops.{hops_of};
+    ghost use Rattle.dn_place.specs.Hops.{hops_view};
     ghost use Rattle.dn_place.specs.Slots.{slot_of};
     ghost use Rattle.dn_place.specs.Sought.{Sought, slot_count};
 
@@ -83,16 +83,16 @@ pub(crate) trait Quest {
     fn is_exact(&self, v: u64, hops: Hops, own: u8) -> Result<bool, OutOfMemory>
         requires sound { is_sound self.now }
         requires placed { IsPlacement (sought self.now).net (sought self.now).slots
-            (sought self.now).request (record { v = v; hops = hops_of hops; own = own }) }
+            (sought self.now).request (record { v = v; hops = hops_view hops; own = own }) }
         ensures { IfOk result (λ yes. IsTrue yes ↔ IsAdmissible (sought self.now).net
             (sought self.now).slots.held (sought self.now).request
-            (record { v = v; hops = hops_of hops; own = own })) };
+            (record { v = v; hops = hops_view hops; own = own })) };
 }
 
 /// The unit of a node, if it is one.
 pub(crate) fn unit_of<Q: Quest>(quest: &Q, node: u16) -> Option<&Unit>
     requires sound { Q.is_sound quest.now }
-    requires ready { IsReady (Q.sought quest.now) }
+    requires ready { IsSearchReady (Q.sought quest.now) }
     ensures some { IfSome result (λ u. unit_at (Q.sought quest.now).net node ≡ Some u.now) }
     ensures formed { IfSome result (λ u. IsFormed (Q.sought quest.now).net u.now) }
     ensures none { IfNone result (unit_at (Q.sought quest.now).net node ≡ None) }

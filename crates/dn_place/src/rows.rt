@@ -8,7 +8,7 @@ ghost use Rattle.dn_interval.specs.Terms.{AreNormal, EndsFit, in_span, rows_give
 ghost use Rattle.dn_net.specs.declared.node.NodeDecl.{NodeDecl};
 ghost use Rattle.dn_flat.specs.Terms.{IsLevels, levels_give};
 ghost use Rattle.dn_placement.specs.declared.request.Request.{Request};
-ghost use Rattle.dn_place.specs.Terms.{AreToward, GivesNone, InRow, IsClear, IsReady, end_near, hops_of, is_near, is_past, levels_near, row_near, rows_near, wanted};
+ghost use Rattle.dn_place.specs.Terms.{AreToward, GivesNone, InRow, IsClear, IsSearchReady, end_near, hops_view, is_near, is_past, levels_near, row_near, rows_near, wanted_name};
 
 use crate::hops::Hops;
 use crate::quest::Quest;
@@ -37,8 +37,8 @@ pub(crate) fn output(row: &Row, target: End, size: u64) -> Option<u64>
 }
 
 /// The name that the hops want.
-pub(crate) fn wanted(request: Request, hops: Hops) -> End
-    ensures { result ≡ wanted request (hops_of hops) }
+pub(crate) fn wanted_name(request: Request, hops: Hops) -> End
+    ensures { result ≡ wanted_name request (hops_view hops) }
 {
     match hops {
         Hops::Zero => End {
@@ -55,7 +55,7 @@ pub(crate) fn wanted(request: Request, hops: Hops) -> End
 /// The rows of a node that give it, where one level has all of its stops and a hop follows: they are lent.
 pub(crate) fn lent_rows(levels: &Levels, hops: Hops) -> Option<&[Row]>
     ensures { IfSome result (λ rows. (net : List NodeDecl) (rq : Request) (node : ℕ)
-        → IsLevels net node levels.now → AreToward net rq (hops_of hops) node rows.now) }
+        → IsLevels net node levels.now → AreToward net rq (hops_view hops) node rows.now) }
 {
     let [level] = levels.stops.as_slice() else {
         return None;
@@ -74,13 +74,13 @@ pub(crate) fn made_rows<Q: Quest>(
     hops: Hops,
 ) -> Result<Rows, OutOfMemory>
     requires sound { Q.is_sound quest.now }
-    requires ready { IsReady (Q.sought quest.now) }
+    requires ready { IsSearchReady (Q.sought quest.now) }
     requires there { node < length (Q.sought quest.now).net }
     ensures { IfOk result (λ rows. AreToward (Q.sought quest.now).net
-        (Q.sought quest.now).request (hops_of hops) node rows) }
+        (Q.sought quest.now).request (hops_view hops) node rows) }
 {
     let size = quest.request().size;
-    let target = wanted(quest.request(), hops);
+    let target = wanted_name(quest.request(), hops);
     if hops.count() == 0 {
         return quest.toward(alloc, node, target, size);
     }
@@ -204,9 +204,9 @@ pub(crate) fn is_clear<Q: Quest>(quest: &Q, node: u16, hops: Hops, a: u64, size:
     requires there { node < length (Q.sought quest.now).net }
     requires some { 1 ≤ size }
     requires fits { a + size ≤ TOP + 1 }
-    ensures yes { IsTrue result → IsClear (Q.sought quest.now).net node (hops_of hops) a size }
+    ensures yes { IsTrue result → IsClear (Q.sought quest.now).net node (hops_view hops) a size }
     ensures no { result ≡ false
-        → IsClear (Q.sought quest.now).net node (hops_of hops) a size → ⊥ }
+        → IsClear (Q.sought quest.now).net node (hops_view hops) a size → ⊥ }
 {
     match hops {
         Hops::Zero => are_levels_past(quest.levels(node).stops.as_slice(), a, size),

@@ -2,7 +2,7 @@
 
 ghost use Rattle.std.specs.Prelude.{◌≡◌, ◌<◌, ◌≤◌, ◌+◌, ◌-◌, ◌*◌, ◌/◌, ◌%◌, ◌^◌, IsTrue, ◌↔◌, IfSome, IfNone, false};
 ghost use Rattle.dn_net.specs.Terms.{unit_at};
-ghost use Rattle.dn_place.specs.Terms.{AreBarred, AreFree, AreShut, AreUsable, IsReady, IsWithin, is_free_slot, is_usable_slot, slot_count, slot_of};
+ghost use Rattle.dn_place.specs.Terms.{AreBarred, AreFree, AreShut, AreUsable, IsSearchReady, IsWithin, is_free_slot, is_usable_slot, slot_count, slot_of};
 
 use crate::quest::Quest;
 use crate::slot::Slot;
@@ -125,7 +125,7 @@ struct HopSlots {
 /// The slots that a hop takes.
 fn slots_of_hop<Q: Quest>(quest: &Q, translator: &Unit, hop: Hop) -> HopSlots
     requires sound { Q.is_sound quest.now }
-    requires ready { IsReady (Q.sought quest.now) }
+    requires ready { IsSearchReady (Q.sought quest.now) }
     requires within { IsWithin (Q.sought quest.now) translator.now hop }
     ensures page { result.page ≡ 2 ^ translator.now.page }
     ensures first { result.first ≡ hop.x / 2 ^ translator.now.page }
@@ -146,7 +146,7 @@ fn slots_of_hop<Q: Quest>(quest: &Q, translator: &Unit, hop: Hop) -> HopSlots
 /// Whether the slots of a hop are free.
 pub(crate) fn is_hop_free<Q: Quest>(quest: &Q, translator: &Unit, hop: Hop) -> bool
     requires sound { Q.is_sound quest.now }
-    requires ready { IsReady (Q.sought quest.now) }
+    requires ready { IsSearchReady (Q.sought quest.now) }
     requires within { IsWithin (Q.sought quest.now) translator.now hop }
     ensures { IsTrue result ↔ AreFree (Q.sought quest.now).slots hop.unit
         (hop.x / 2 ^ translator.now.page)
@@ -160,7 +160,7 @@ pub(crate) fn is_hop_free<Q: Quest>(quest: &Q, translator: &Unit, hop: Hop) -> b
 /// usable. Where it is the hop's own, it does.
 pub(crate) fn next_input<Q: Quest>(quest: &Q, translator: &Unit, hop: Hop) -> u64
     requires sound { Q.is_sound quest.now }
-    requires ready { IsReady (Q.sought quest.now) }
+    requires ready { IsSearchReady (Q.sought quest.now) }
     requires within { IsWithin (Q.sought quest.now) translator.now hop }
     requires reached { hop.y + (Q.sought quest.now).request.size ≤ 2 ^ translator.now.reach }
     ensures onward { hop.x ≤ result }

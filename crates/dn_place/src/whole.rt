@@ -3,11 +3,11 @@
 ghost use Rattle.std.specs.Prelude.{◌≡◌, ◌≤◌, ◌↔◌, false, Some, IfOk, IfSome, IfNone, IsTrue, length};
 ghost use Rattle.dn_kind.specs.Terms.{both_rights};
 ghost use Rattle.dn_placement.specs.Terms.{IsAt, Leads, hop_page};
-ghost use Rattle.dn_place.specs.Terms.{Answers, AreToward, CanOwn, IsAddressed, IsChosen, IsReady, PagesBelow, PagesFrom, ending, hops_of, to_address, to_page};
+ghost use Rattle.dn_place.specs.Terms.{AreToward, CanOwn, IsAddressed, IsChosen, IsFirstOrNone, IsSearchReady, PagesBelow, PagesFrom, hops_view, key_of_hops, to_address, to_page};
 
 use crate::hops::Hops;
 use crate::quest::{Found, Quest, unit_of};
-use crate::rows::{lent_rows, made_rows, output, wanted};
+use crate::rows::{lent_rows, made_rows, output, wanted_name};
 use crate::slots::is_hop_free;
 use dn_interval::Row;
 use dn_kind::rights::Rights;
@@ -17,11 +17,11 @@ use std::alloc::Global;
 /// The first placement of just these hops, by the rows of the agent that give the input of the first.
 pub(crate) fn by_agent<Q: Quest>(alloc: Global, quest: &Q, hops: Hops) -> Found
     requires sound { Q.is_sound quest.now }
-    requires ready { IsReady (Q.sought quest.now) }
-    requires chosen { IsChosen (Q.sought quest.now) (length (hops_of hops)) (hops_of hops) }
-    requires some { 1 ≤ length (hops_of hops) }
-    ensures { IfOk result (λ found. Answers (Q.sought quest.now)
-        (ending (length (hops_of hops)) (hops_of hops)) found) }
+    requires ready { IsSearchReady (Q.sought quest.now) }
+    requires chosen { IsChosen (Q.sought quest.now) (length (hops_view hops)) (hops_view hops) }
+    requires some { 1 ≤ length (hops_view hops) }
+    ensures { IfOk result (λ found. IsFirstOrNone (Q.sought quest.now)
+        (key_of_hops (length (hops_view hops)) (hops_view hops)) found) }
 {
     let agent = quest.request().agent;
     match lent_rows(quest.levels(agent), hops) {
@@ -36,16 +36,16 @@ pub(crate) fn by_agent<Q: Quest>(alloc: Global, quest: &Q, hops: Hops) -> Found
 /// The same by these rows: each that gives the input of the first hop fixes one address.
 fn by_rows<Q: Quest>(alloc: Global, quest: &Q, hops: Hops, rows: &[Row]) -> Found
     requires sound { Q.is_sound quest.now }
-    requires ready { IsReady (Q.sought quest.now) }
-    requires chosen { IsChosen (Q.sought quest.now) (length (hops_of hops)) (hops_of hops) }
-    requires some { 1 ≤ length (hops_of hops) }
+    requires ready { IsSearchReady (Q.sought quest.now) }
+    requires chosen { IsChosen (Q.sought quest.now) (length (hops_view hops)) (hops_view hops) }
+    requires some { 1 ≤ length (hops_view hops) }
     requires toward { AreToward (Q.sought quest.now).net (Q.sought quest.now).request
-        (hops_of hops) (Q.sought quest.now).request.agent rows.now }
-    ensures { IfOk result (λ found. Answers (Q.sought quest.now)
-        (ending (length (hops_of hops)) (hops_of hops)) found) }
+        (hops_view hops) (Q.sought quest.now).request.agent rows.now }
+    ensures { IfOk result (λ found. IsFirstOrNone (Q.sought quest.now)
+        (key_of_hops (length (hops_view hops)) (hops_view hops)) found) }
 {
     let size = quest.request().size;
-    let target = wanted(quest.request(), hops);
+    let target = wanted_name(quest.request(), hops);
     'rows: for row in rows {
         if let Some(v) = output(row, target, size) {
             if is_at(quest.at(), v) {
@@ -71,10 +71,10 @@ fn is_at(at: Option<u64>, v: u64) -> bool
 /// The same at an address of the agent: the own hop with the smaller page first.
 fn by_address<Q: Quest>(alloc: Global, quest: &Q, hops: Hops, v: u64) -> Found
     requires sound { Q.is_sound quest.now }
-    requires ready { IsReady (Q.sought quest.now) }
-    requires addressed { IsAddressed (Q.sought quest.now) (hops_of hops) v }
-    ensures { IfOk result (λ found. Answers (Q.sought quest.now)
-        (to_address (length (hops_of hops)) (hops_of hops) v) found) }
+    requires ready { IsSearchReady (Q.sought quest.now) }
+    requires addressed { IsAddressed (Q.sought quest.now) (hops_view hops) v }
+    ensures { IfOk result (λ found. IsFirstOrNone (Q.sought quest.now)
+        (to_address (length (hops_view hops)) (hops_view hops) v) found) }
 {
     let mut from = 0;
     'pages: while let Some(page) = page_from(quest, hops, from) {
@@ -89,17 +89,17 @@ fn by_address<Q: Quest>(alloc: Global, quest: &Q, hops: Hops, v: u64) -> Found
 /// The same with an own hop of this page: the one nearer memory first.
 fn by_page<Q: Quest>(alloc: Global, quest: &Q, hops: Hops, v: u64, page: u8) -> Found
     requires sound { Q.is_sound quest.now }
-    requires ready { IsReady (Q.sought quest.now) }
-    requires addressed { IsAddressed (Q.sought quest.now) (hops_of hops) v }
-    ensures { IfOk result (λ found. Answers (Q.sought quest.now)
-        (to_page (length (hops_of hops)) (hops_of hops) v page) found) }
+    requires ready { IsSearchReady (Q.sought quest.now) }
+    requires addressed { IsAddressed (Q.sought quest.now) (hops_view hops) v }
+    ensures { IfOk result (λ found. IsFirstOrNone (Q.sought quest.now)
+        (to_page (length (hops_view hops)) (hops_view hops) v page) found) }
 {
     let count = hops.count();
     for back in 1..count + 1 {
         let own = count - back;
         if can_own(quest, hops, own, page) {
             if quest.is_exact(v, hops, own)? {
-                return Ok(Some(hops.placed(alloc, v, own)));
+                return Ok(Some(hops.into_placement(alloc, v, own)));
             }
             if has_both(quest.request().rights) {
                 return Ok(None);
@@ -120,11 +120,11 @@ fn has_both(rights: Rights) -> bool
 /// Whether the hop has the page, and its slots are free.
 fn can_own<Q: Quest>(quest: &Q, hops: Hops, own: u8, page: u8) -> bool
     requires sound { Q.is_sound quest.now }
-    requires ready { IsReady (Q.sought quest.now) }
+    requires ready { IsSearchReady (Q.sought quest.now) }
     requires leads { Leads (Q.sought quest.now).net (Q.sought quest.now).slots
-        (Q.sought quest.now).request (hops_of hops) }
-    ensures yes { IsTrue result → CanOwn (Q.sought quest.now) (hops_of hops) own page }
-    ensures no { result ≡ false → CanOwn (Q.sought quest.now) (hops_of hops) own page → ⊥ }
+        (Q.sought quest.now).request (hops_view hops) }
+    ensures yes { IsTrue result → CanOwn (Q.sought quest.now) (hops_view hops) own page }
+    ensures no { result ≡ false → CanOwn (Q.sought quest.now) (hops_view hops) own page → ⊥ }
 {
     let Some(hop) = hops.at(own) else {
         return false;
@@ -138,7 +138,7 @@ fn can_own<Q: Quest>(quest: &Q, hops: Hops, own: u8, page: u8) -> bool
 /// The page of a hop's unit, or 0.
 fn page_of<Q: Quest>(quest: &Q, hop: Hop) -> u8
     requires sound { Q.is_sound quest.now }
-    requires ready { IsReady (Q.sought quest.now) }
+    requires ready { IsSearchReady (Q.sought quest.now) }
     ensures page { result ≡ hop_page (Q.sought quest.now).net (Some hop) }
     ensures most { result ≤ 40 }
 {
@@ -151,13 +151,13 @@ fn page_of<Q: Quest>(quest: &Q, hop: Hop) -> u8
 /// The least page of the hops that is at least this one. None where all are below.
 fn page_from<Q: Quest>(quest: &Q, hops: Hops, from: u8) -> Option<u8>
     requires sound { Q.is_sound quest.now }
-    requires ready { IsReady (Q.sought quest.now) }
+    requires ready { IsSearchReady (Q.sought quest.now) }
     requires few { from ≤ 41 }
     ensures past { IfSome result (λ page. from ≤ page) }
     ensures most { IfSome result (λ page. page ≤ 40) }
     ensures between { IfSome result
-        (λ page. PagesFrom (Q.sought quest.now) (hops_of hops) from page) }
-    ensures none { IfNone result (PagesBelow (Q.sought quest.now) (hops_of hops) from) }
+        (λ page. PagesFrom (Q.sought quest.now) (hops_view hops) from page) }
+    ensures none { IfNone result (PagesBelow (Q.sought quest.now) (hops_view hops) from) }
 {
     let mut best = 41;
     for i in 0..hops.count() {

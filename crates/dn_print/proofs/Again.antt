@@ -15,7 +15,7 @@ use Rattle.dn_net.specs.declared.node.NodeDecl.{NodeDecl}
 use Rattle.dn_kind.specs.Kind.{Meaning}
 use Rattle.dn_module.specs.declared.draft.Draft.{Draft}
 use Rattle.dn_module.specs.Values.{each, ◌>>=◌}
-use Rattle.dn_module.specs.Drafts.{names, refers_to_known, node_in, node_of, with_draft, declared_by}
+use Rattle.dn_module.specs.Drafts.{names, refers_to_known, node_in, node_of, with_draft, draft_of_declaration}
 use Rattle.dn_module.specs.Expand.{outside, statements, all_rewritings, expansion_of, most_steps, nothing_yet}
 use Rattle.dn_print.specs.Names.{node_text}
 use Rattle.dn_print.specs.Statement.{statement_text, net_text}
@@ -95,7 +95,7 @@ read_step first more rest line d trees b e last all body ih =
     ∙ ih
     ∙ ap (λ (l : List Item). Ok (record { body = items l; commands = [] })) (append_assoc body (declared line d ∷ []) trees)
 
-made_step : (kinds : List Meaning) (line : ℕ) (d : Draft) (decl : Declaration) (trees : List Item) (left : ℕ) (acc' : List Draft) (ds' : List Draft) → declared_by kinds line decl ≡ Ok (reline line d) → with_draft acc' (reline line d) ≡ Ok (acc' ++ reline line d ∷ []) → all_rewritings kinds left (statements outside (items trees)) (record { modules = []; drafts = acc' ++ reline line d ∷ [] }) ≡ Ok (record { modules = []; drafts = (acc' ++ reline line d ∷ []) ++ ds' }) → all_rewritings kinds (suc left) (statements outside (items (declared line decl ∷ trees))) (record { modules = []; drafts = acc' }) ≡ Ok (record { modules = []; drafts = acc' ++ reline line d ∷ ds' })
+made_step : (kinds : List Meaning) (line : ℕ) (d : Draft) (decl : Declaration) (trees : List Item) (left : ℕ) (acc' : List Draft) (ds' : List Draft) → draft_of_declaration kinds line decl ≡ Ok (reline line d) → with_draft acc' (reline line d) ≡ Ok (acc' ++ reline line d ∷ []) → all_rewritings kinds left (statements outside (items trees)) (record { modules = []; drafts = acc' ++ reline line d ∷ [] }) ≡ Ok (record { modules = []; drafts = (acc' ++ reline line d ∷ []) ++ ds' }) → all_rewritings kinds (suc left) (statements outside (items (declared line decl ∷ trees))) (record { modules = []; drafts = acc' }) ≡ Ok (record { modules = []; drafts = acc' ++ reline line d ∷ ds' })
 made_step kinds line d decl trees left acc' ds' e w ih = rw (e, w) (ih ∙ ap (λ (l : List Draft). Ok (record { modules = []; drafts = l })) (append_assoc acc' (reline line d ∷ []) ds'))
 
 next_lines : (kinds : List Meaning) (net : List NodeDecl) (known : List (List ℕ)) (line : ℕ) (d : Draft) (ds : List Draft) → Said kinds line (statement_text kinds net (node_in known d)) d.role d.unit d → Lines kinds (line + 1) (flat_map (statement_text kinds net) (map (node_in known) ds)) ds → Lines kinds line (flat_map (statement_text kinds net) (map (node_in known) (d ∷ ds))) (d ∷ ds)

@@ -7,7 +7,7 @@ use Rattle.std.specs.Str.{IsAscii}
 use Rattle.std.proofs.lemmas.List.{drop-set}
 use Rattle.std.proofs.lemmas.List.Sums.{AllPass-from_list_all}
 use Rattle.std.proofs.lemmas.Str.Ascii.{IsAscii-from_all}
-use Rattle.dn_token.specs.Token.{hex_value, decimal_value, spelled_from, digits_number, fitting, is_hexadecimal, number_of, is_word_byte, is_digit}
+use Rattle.dn_token.specs.Token.{hex_value, decimal_value, spelled_from, digits_number, number_within, is_hexadecimal, number_of, is_word_byte, is_digit}
 use Rattle.dn_token.proofs.Numbers.{some_digits}
 use Rattle.dn_base.proofs.Booleans.{and_parts, and-false}
 
@@ -72,7 +72,7 @@ all_pass p base some glyph (suc k) n acc h = go (eqb (n / base) 0) one (all_pass
     go true first more = first
     go false first more = more
 
-fits_is : (n : ℕ) → n < 2 ^ 64 → fitting (Some n) ≡ Some n
+fits_is : (n : ℕ) → n < 2 ^ 64 → number_within (Some n) ≡ Some n
 fits_is n fits = let e = lt-ltb n (2 ^ 64) fits in rw e refl
 
 below_hexadecimal : (n : ℕ) → n < 2 ^ 64 → n < 16 ^ 64
@@ -98,13 +98,13 @@ unfolding number_of digits
 decimal_number n h =
     let plain : is_hexadecimal (digits_onto 64 10 false n []) ≡ false = no_prefix (digits_onto 64 10 false n []) (all_pass is_digit 10 (omega arith) digit_glyph_digit 64 n [] refl) in
     let read : digits_number 10 decimal_value (digits_onto 64 10 false n []) ≡ Some n = some_digits 10 decimal_value (digits_onto 64 10 false n []) (some_digit 10 63 n []) ∙ spelled 10 decimal_value (omega arith) decimal_glyph 64 n (below_decimal n h) [] in
-    rw plain (ap fitting read ∙ fits_is n h)
+    rw plain (ap number_within read ∙ fits_is n h)
 
 pub hexadecimal_number : (n : ℕ) → n < 2 ^ 64 → number_of (codes "0x" ++ digits 16 false n) ≡ Some n
 unfolding number_of digits
 hexadecimal_number n h =
     let read : digits_number 16 hex_value (digits_onto 64 16 false n []) ≡ Some n = some_digits 16 hex_value (digits_onto 64 16 false n []) (some_digit 16 63 n []) ∙ spelled 16 hex_value (omega arith) hex_glyph 64 n (below_hexadecimal n h) [] in
-    ap fitting read ∙ fits_is n h
+    ap number_within read ∙ fits_is n h
 
 pub decimal_word : (n : ℕ) → IsTrue (list_all is_word_byte (decimal n))
 unfolding digits

@@ -14,17 +14,18 @@ use Rattle.dn_net.specs.declared.node.Role.{Role}
 use Rattle.dn_net.specs.declared.node.Role.TheVariants.{Plain, Agent, Vectors, Unit as UnitRole}
 use Rattle.dn_net.specs.declared.node.Unit.{Unit as UnitPart}
 use Rattle.dn_net.specs.Decode.{is_agent, is_bare, is_formed, formed_by, is_unit, over_within, ports_within, refers_within}
+use Rattle.dn_net.specs.Parts.{parts_of_node}
 use Rattle.dn_kind.specs.Kind.{Meaning}
 use Rattle.dn_module.specs.declared.draft.Draft.{Draft}
 use Rattle.dn_module.specs.declared.draft.DraftDest.{DraftDest}
 use Rattle.dn_module.specs.declared.draft.DraftEntry.{DraftEntry}
 use Rattle.dn_module.specs.declared.draft.DraftUnit.{DraftUnit}
 use Rattle.dn_module.specs.Values.{each}
-use Rattle.dn_module.specs.Drafts.{draft_with, names, is_known, parts_of, number_of, dests_known, over_known, ports_known, refers_to_known, dest_in, entry_in, unit_in, node_in, node_of, role_of}
+use Rattle.dn_module.specs.Drafts.{draft_with, names, is_known, parts_of_draft, node_number_of, dests_known, over_known, ports_known, refers_to_known, dest_in, entry_in, unit_by_numbers, node_in, node_of, role_of}
 use Rattle.dn_print.specs.Names.{node_text}
 use Rattle.dn_print.specs.Spelled.{IsFull}
 use Rattle.dn_print.specs.Statement.{node_name}
-use Rattle.dn_print.specs.Printable.{IsPrintableEntry, IsPrintableUnit, HasPrintableUnit, IsPrintableNode, parts_of_node, IsPrintable, PrintableIsReadBack}
+use Rattle.dn_print.specs.Printable.{IsPrintableEntry, IsPrintableUnit, HasPrintableUnit, IsPrintableNode, IsPrintable, PrintableIsReadBack}
 use Rattle.dn_print.proofs.Again.{given_back}
 use Rattle.dn_print.proofs.Counted.{one_agent, one_unit, grown_by}
 use Rattle.dn_print.proofs.Formed.{Maybe, GoodBlock, GoodDest, GoodEntry, GoodParts, GoodDraft}
@@ -62,14 +63,14 @@ text_at (n ∷ net) (suc i) d l = text_at net i d (omega arith)
 abbrev Differ : List NodeDecl → Type 0
 Differ net = AllPairs (λ (n m : NodeDecl). n.text ≢ m.text) net
 
-number_back : (net : List NodeDecl) (i : ℕ) → Differ net → i < length net → number_of (texts net) (node_text (slice_get net i)) ≡ i
+number_back : (net : List NodeDecl) (i : ℕ) → Differ net → i < length net → node_number_of (texts net) (node_text (slice_get net i)) ≡ i
 number_back [] i differ l = absurd (omega arith)
-number_back (n ∷ net) zero differ l = ap (λ (b : Bool). cond (not b) (1 + number_of (texts net) n.text) 0) ((bytes_eq-Decides n.text n.text).1 refl)
+number_back (n ∷ net) zero differ l = ap (λ (b : Bool). cond (not b) (1 + node_number_of (texts net) n.text) 0) ((bytes_eq-Decides n.text n.text).1 refl)
 number_back (n ∷ net) (suc i) differ l =
     let k : i < length net = omega arith in
     let away : bytes_eq (node_text (slice_get net i)) n.text ≡ false = unlike (node_text (slice_get net i)) n.text (λ e. differ 0 (suc i) n (omega arith) l (sym e ∙ text_at net i n k)) in
     let more = number_back net i (λ j m d a b. differ (suc j) (suc m) d (omega arith) (omega arith)) k in
-    ap (λ (b : Bool). cond (not b) (1 + number_of (texts net) (node_text (slice_get net i))) 0) away ∙ omega (arith, more)
+    ap (λ (b : Bool). cond (not b) (1 + node_number_of (texts net) (node_text (slice_get net i))) 0) away ∙ omega (arith, more)
 
 known_back : (net : List NodeDecl) (i : ℕ) → Differ net → i < length net → IsTrue (is_known (texts net) (node_text (slice_get net i)))
 known_back net i differ l =
@@ -124,17 +125,17 @@ module _ (net : List NodeDecl) (differ : Differ net) where
       let more = entries_back es p.1 in
       λ i. record { block = e.block; dests = one i } ∷ more i
 
-  over_back : (o : Option ℕ) → IsTrue (over_within (length net) o) → option_map (number_of (texts net)) (option_map (node_name net) o) ≡ o
+  over_back : (o : Option ℕ) → IsTrue (over_within (length net) o) → option_map (node_number_of (texts net)) (option_map (node_name net) o) ≡ o
   over_back None h = refl
   over_back (Some m) h = ap (λ (k : ℕ). Some k) (number_back net m differ (ltb-true m (length net) h))
 
-  numbers_back : (ps : List ℕ) → IsTrue (list_all (λ p. nat_lt p (length net)) ps) → map (number_of (texts net)) (map (node_name net) ps) ≡ ps
+  numbers_back : (ps : List ℕ) → IsTrue (list_all (λ p. nat_lt p (length net)) ps) → map (node_number_of (texts net)) (map (node_name net) ps) ≡ ps
   numbers_back [] h = refl
   numbers_back (p ∷ ps) h =
       let q = and_parts (nat_lt p (length net)) (list_all (λ p. nat_lt p (length net)) ps) h in
       ap₂ (λ (k : ℕ) (l : List ℕ). k ∷ l) (number_back net p differ (ltb-true p (length net) q.0)) (numbers_back ps q.1)
 
-  unit_back : (o : Option UnitPart) → IsTrue (ports_within (length net) o) → option_map (unit_in (texts net)) (option_map (unit_named net) o) ≡ o
+  unit_back : (o : Option UnitPart) → IsTrue (ports_within (length net) o) → option_map (unit_by_numbers (texts net)) (option_map (unit_named net) o) ≡ o
   unit_back None h = refl
   unit_back (Some u) h =
       let e = numbers_back u.ports h in
@@ -215,7 +216,7 @@ module _ (kinds : List Meaning) (net : List NodeDecl) (full : (i : ℕ) → i < 
       let some = h.some in
       let few = h.few in
       record {
-        printable = λ known. let m = length-map (map (node_name net) u.ports) (number_of known) in record { word = h.word; first = h.first; page = h.page; slots = h.slots; reach = h.reach; some = omega (arith, n, m, some); few = omega (arith, n, m, few) };
+        printable = λ known. let m = length-map (map (node_name net) u.ports) (node_number_of known) in record { word = h.word; first = h.first; page = h.page; slots = h.slots; reach = h.reach; some = omega (arith, n, m, some); few = omega (arith, n, m, few) };
         ports = ports_good u.ports k;
       }
 
@@ -264,7 +265,7 @@ module _ (kinds : List Meaning) (net : List NodeDecl) (full : (i : ℕ) → i < 
       let b = and_parts (refers_within (length net) n) (list_all (refers_within (length net)) ns) r in
       (node_good n h.0 a.0 b.0, nodes_good ns h.1 a.1 b.1)
 
-parts_back : (net : List NodeDecl) (n : NodeDecl) → parts_of (node_named net n) ≡ parts_of_node n
+parts_back : (net : List NodeDecl) (n : NodeDecl) → parts_of_draft (node_named net n) ≡ parts_of_node n
 parts_back net n = ap₂ (λ (e o : ℕ). length n.accepts + (e + o)) (length-map n.entries (entry_named net)) (by n.over)
   where
     by : (o : Option ℕ) → ◌≡◌ {A = ℕ} (cond (is_some (option_map (node_name net) o)) 1 0) (cond (is_some o) 1 0)
@@ -298,8 +299,8 @@ drafted kinds net h = record {
     units : total one_unit 0 (map (node_named net) net) ≤ 64
     units = subst (λ (k : ℕ). k ≤ 64) (sym (total_map one_unit (node_named net) (λ (n : NodeDecl). cond (is_unit n.role) 1 0) (λ n. refl) 0 net)) h.units
 
-    parts : total parts_of 0 (map (node_named net) net) ≤ 16384
-    parts = subst (λ (k : ℕ). k ≤ 16384) (sym (total_map parts_of (node_named net) parts_of_node (parts_back net) 0 net ∙ sym (total_map (λ n. n) parts_of_node parts_of_node (λ n. refl) 0 net))) h.parts
+    parts : total parts_of_draft 0 (map (node_named net) net) ≤ 16384
+    parts = subst (λ (k : ℕ). k ≤ 16384) (sym (total_map parts_of_draft (node_named net) parts_of_node (parts_back net) 0 net ∙ sym (total_map (λ n. n) parts_of_node parts_of_node (λ n. refl) 0 net))) h.parts
 
 -- the text of a printable net is read back
 pub printable_back : PrintableIsReadBack

@@ -10,7 +10,7 @@ use Rattle.dn_module.specs.declared.draft.Draft.{Draft}
 use Rattle.dn_module.specs.declared.draft.DraftEntry.{DraftEntry}
 use Rattle.dn_module.specs.declared.draft.DraftDest.{DraftDest}
 use Rattle.dn_module.specs.declared.draft.DraftUnit.{DraftUnit}
-use Rattle.dn_module.specs.Drafts.{bare_draft, number_of, role_of, unit_in}
+use Rattle.dn_module.specs.Drafts.{bare_draft, node_number_of, role_of, unit_by_numbers}
 use Rattle.dn_print.specs.Printable.{IsPrintableUnit}
 use Rattle.dn_print.proofs.Titles.{IsFull}
 
@@ -44,15 +44,15 @@ pub record GoodNode (d : Draft) : Type 0 where
 
 -- the parts of a unit: a text can say them, whatever the numbers of its ports
 pub record GoodParts (kinds : List Meaning) (u : DraftUnit) : Type 0 where
-  pub printable : (known : List (List ℕ)) → IsPrintableUnit kinds (unit_in known u)
+  pub printable : (known : List (List ℕ)) → IsPrintableUnit kinds (unit_by_numbers known u)
   pub ports : Each IsFull u.ports
 
 -- it has 1 to 8 ports
 pub some_ports : (kinds : List Meaning) (u : DraftUnit) → GoodParts kinds u → 1 ≤ length u.ports
-some_ports kinds u h = let said = h.printable [] in let n = length-map u.ports (number_of []) in let s = said.some in omega (arith, n, s)
+some_ports kinds u h = let said = h.printable [] in let n = length-map u.ports (node_number_of []) in let s = said.some in omega (arith, n, s)
 
 pub few_ports : (kinds : List Meaning) (u : DraftUnit) → GoodParts kinds u → length u.ports ≤ 8
-few_ports kinds u h = let said = h.printable [] in let n = length-map u.ports (number_of []) in let f = said.few in omega (arith, n, f)
+few_ports kinds u h = let said = h.printable [] in let n = length-map u.ports (node_number_of []) in let f = said.few in omega (arith, n, f)
 
 -- a unit of these parts
 abbrev pub unit_with : ℕ → List ℕ → DraftUnit → Draft

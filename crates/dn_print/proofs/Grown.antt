@@ -3,7 +3,7 @@ use Rattle.std.proofs.Common.{◌≡◌, ◌∙◌, ap, ap₂, sym, refl, subst,
 use Rattle.std.proofs.lemmas.List.{length-map, map-append}
 use Rattle.dn_module.specs.declared.draft.Draft.{Draft}
 use Rattle.dn_net.specs.Decode.{is_agent, is_unit}
-use Rattle.dn_module.specs.Drafts.{names, is_known, agents_of, units_of, parts_of, all_parts, limit_passed, by_limit, with_draft}
+use Rattle.dn_module.specs.Drafts.{names, is_known, agents_among, units_among, parts_of_draft, all_parts, limit_passed, draft_by_limit, with_draft}
 use Rattle.dn_module.specs.Faults.{is_duplicate}
 
 -- a node without its line, and with another
@@ -30,19 +30,19 @@ agents_from : (n : ℕ) (ds : List Draft) → fold (λ (a : ℕ) (d : Draft). a 
 agents_from n [] = refl
 agents_from n (d ∷ ds) = agents_from (n + cond (is_agent d.role) 1 0) ds
 
-agents_bare : (ds : List Draft) → agents_of (map bare ds) ≡ agents_of ds
+agents_bare : (ds : List Draft) → agents_among (map bare ds) ≡ agents_among ds
 agents_bare ds = agents_from 0 ds
 
 units_from : (n : ℕ) (ds : List Draft) → fold (λ (a : ℕ) (d : Draft). a + cond (is_unit d.role) 1 0) n (map bare ds) ≡ fold (λ (a : ℕ) (d : Draft). a + cond (is_unit d.role) 1 0) n ds
 units_from n [] = refl
 units_from n (d ∷ ds) = units_from (n + cond (is_unit d.role) 1 0) ds
 
-units_bare : (ds : List Draft) → units_of (map bare ds) ≡ units_of ds
+units_bare : (ds : List Draft) → units_among (map bare ds) ≡ units_among ds
 units_bare ds = units_from 0 ds
 
-parts_from : (n : ℕ) (ds : List Draft) → fold ◌+◌ n (map parts_of (map bare ds)) ≡ fold ◌+◌ n (map parts_of ds)
+parts_from : (n : ℕ) (ds : List Draft) → fold ◌+◌ n (map parts_of_draft (map bare ds)) ≡ fold ◌+◌ n (map parts_of_draft ds)
 parts_from n [] = refl
-parts_from n (d ∷ ds) = parts_from (n + parts_of d) ds
+parts_from n (d ∷ ds) = parts_from (n + parts_of_draft d) ds
 
 parts_bare : (ds : List Draft) → all_parts (map bare ds) ≡ all_parts ds
 parts_bare ds = parts_from 0 ds
@@ -53,18 +53,18 @@ limit_by nodes agents units parts d =
     if nat_lt 1024 (nodes + 1) then Some 1024
     else (if is_agent d.role && nat_lt 64 (agents + 1) then Some 64
     else (if is_unit d.role && nat_lt 64 (units + 1) then Some 64
-    else (if nat_lt 16384 (parts + parts_of d) then Some 16384 else None)))
+    else (if nat_lt 16384 (parts + parts_of_draft d) then Some 16384 else None)))
 
-limit_is : (acc : List Draft) (d : Draft) → limit_passed acc d ≡ limit_by (length acc) (agents_of acc) (units_of acc) (all_parts acc) d
+limit_is : (acc : List Draft) (d : Draft) → limit_passed acc d ≡ limit_by (length acc) (agents_among acc) (units_among acc) (all_parts acc) d
 limit_is acc d = refl
 
 limit_bare : (acc : List Draft) (d : Draft) → limit_passed (map bare acc) (bare d) ≡ limit_passed acc d
 limit_bare acc d =
     limit_is (map bare acc) (bare d)
-    ∙ ap (λ (n : ℕ). limit_by n (agents_of (map bare acc)) (units_of (map bare acc)) (all_parts (map bare acc)) d) (length-map acc bare)
-    ∙ ap (λ (n : ℕ). limit_by (length acc) n (units_of (map bare acc)) (all_parts (map bare acc)) d) (agents_bare acc)
-    ∙ ap (λ (n : ℕ). limit_by (length acc) (agents_of acc) n (all_parts (map bare acc)) d) (units_bare acc)
-    ∙ ap (λ (n : ℕ). limit_by (length acc) (agents_of acc) (units_of acc) n d) (parts_bare acc)
+    ∙ ap (λ (n : ℕ). limit_by n (agents_among (map bare acc)) (units_among (map bare acc)) (all_parts (map bare acc)) d) (length-map acc bare)
+    ∙ ap (λ (n : ℕ). limit_by (length acc) n (units_among (map bare acc)) (all_parts (map bare acc)) d) (agents_bare acc)
+    ∙ ap (λ (n : ℕ). limit_by (length acc) (agents_among acc) n (all_parts (map bare acc)) d) (units_bare acc)
+    ∙ ap (λ (n : ℕ). limit_by (length acc) (agents_among acc) (units_among acc) n d) (parts_bare acc)
     ∙ sym (limit_is acc d)
 
 -- one more node fits
@@ -87,7 +87,7 @@ fits_added acc d h = rw (h.0, h.1) refl
 pub added_fits : (acc ds : List Draft) (d : Draft) → with_draft acc d ≡ Ok ds → Fits acc d × (ds ≡ acc ++ d ∷ [])
 added_fits acc ds d e = go (is_known (names acc) d.name) refl (limit_passed acc d) refl e
   where
-    go : (b : Bool) → is_known (names acc) d.name ≡ b → (o : Option ℕ) → limit_passed acc d ≡ o → cond b (Err (is_duplicate d.line)) (by_limit o acc d) ≡ Ok ds → Fits acc d × (ds ≡ acc ++ d ∷ [])
+    go : (b : Bool) → is_known (names acc) d.name ≡ b → (o : Option ℕ) → limit_passed acc d ≡ o → cond b (Err (is_duplicate d.line)) (draft_by_limit o acc d) ≡ Ok ds → Fits acc d × (ds ≡ acc ++ d ∷ [])
     go true p o q g = cc
     go false p None q g = ((p, q), (let s : acc ++ d ∷ [] ≡ ds = cc in sym s))
     go false p (Some n) q g = cc
@@ -104,7 +104,7 @@ grown_more acc (e ∷ ds) d h f = (h.0, grown_more (acc ++ e ∷ []) ds d h.1 (s
 below : (acc : List Draft) (d : Draft) → limit_passed acc d ≡ None → length acc + 1 ≤ 1024
 below acc d e = go (nat_lt 1024 (length acc + 1)) refl e
   where
-    go : (b : Bool) → nat_lt 1024 (length acc + 1) ≡ b → cond {A = Option ℕ} b (Some 1024) (if is_agent d.role && nat_lt 64 (agents_of acc + 1) then Some 64 else (if is_unit d.role && nat_lt 64 (units_of acc + 1) then Some 64 else (if nat_lt 16384 (all_parts acc + parts_of d) then Some 16384 else None))) ≡ None → length acc + 1 ≤ 1024
+    go : (b : Bool) → nat_lt 1024 (length acc + 1) ≡ b → cond {A = Option ℕ} b (Some 1024) (if is_agent d.role && nat_lt 64 (agents_among acc + 1) then Some 64 else (if is_unit d.role && nat_lt 64 (units_among acc + 1) then Some 64 else (if nat_lt 16384 (all_parts acc + parts_of_draft d) then Some 16384 else None))) ≡ None → length acc + 1 ≤ 1024
     go true p g = cc
     go false p g = let n = ltb-false 1024 (length acc + 1) p in omega (arith, n)
 

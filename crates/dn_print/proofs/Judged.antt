@@ -5,7 +5,7 @@ use Rattle.dn_token.specs.Token.{Token, tokens}
 use Rattle.dn_parse.specs.Tree.{Statement, declares, heads_module, uses, heads_loop, ends, begins, orders, Placed, Item, items, Command, Tree}
 use Rattle.dn_parse.specs.Machine.{Stop, whole, refused, deep}
 use Rattle.dn_parse.specs.Descent.{Read, whole_statement_at}
-use Rattle.dn_parse.specs.Whole.{Opener, opens_module, opens_loop, Frame, Blocks, no_blocks_yet, closed_block, Step, crowded, with_item, with_frame, without_frame, outside_blocks, before_begin, after_begin, step, TextFault, at_stop, by_step, judge, reading, too_long, of_token_list, last_line, text_reading}
+use Rattle.dn_parse.specs.Whole.{Opener, opens_module, opens_loop, Frame, Blocks, no_blocks_yet, closed_block, BlockStep, crowded, with_item, with_frame, without_frame, outside_blocks, before_begin, after_begin, step, TextFault, at_stop, by_step, judge, reading, too_long, of_token_list, last_line, text_reading}
 use Rattle.dn_parse.proofs.Judge.{judge_step, judge_stop, judge_end, statement_shorter}
 use Rattle.dn_print.proofs.Formed.{each_both}
 use Rattle.dn_print.proofs.Proper.{Proper, tokens_proper}
@@ -22,7 +22,7 @@ GoodFrame f = GoodOpener f.opener × Each GoodItem f.before
 abbrev GoodBlocks : Blocks → Type 0
 GoodBlocks b = Each GoodFrame b.frames × Each GoodItem b.body
 
-abbrev GoodStep : Step → Type 0
+abbrev GoodStep : BlockStep → Type 0
 GoodStep (Ok b) = GoodBlocks b
 GoodStep (Err m) = Unit {0}
 
@@ -48,7 +48,7 @@ without_frame_good : (b : Blocks) (fs : List Frame) → Each GoodFrame fs → Ea
 without_frame_good b [] h g = tt
 without_frame_good b (f ∷ fs) h g = (h.1, each_both GoodItem f.before (closed_block f b.body ∷ []) h.0.1 (closed_good f.line f.opener f.before b.body h.0.0 g, tt))
 
-outside_good : (fs : List Frame) (s : Step) → GoodStep s → GoodStep (outside_blocks fs s)
+outside_good : (fs : List Frame) (s : BlockStep) → GoodStep s → GoodStep (outside_blocks fs s)
 outside_good [] s h = h
 outside_good (f ∷ fs) s h = tt
 
@@ -82,7 +82,7 @@ stop_good whole last all b tree h e = whole_good last all b.frames b.body b.begu
 stop_good (refused n) last all b tree h e = cc
 stop_good (deep n) last all b tree h e = cc
 
-by_good : (s : Step) (line : ℕ) (next : Blocks → Result Tree TextFault) (tree : Tree) → GoodStep s → ((b : Blocks) → GoodBlocks b → next b ≡ Ok tree → GoodItems tree.body) → by_step s line next ≡ Ok tree → GoodItems tree.body
+by_good : (s : BlockStep) (line : ℕ) (next : Blocks → Result Tree TextFault) (tree : Tree) → GoodStep s → ((b : Blocks) → GoodBlocks b → next b ≡ Ok tree → GoodItems tree.body) → by_step s line next ≡ Ok tree → GoodItems tree.body
 by_good (Ok b) line next tree h more e = more b h e
 by_good (Err m) line next tree h more e = cc
 

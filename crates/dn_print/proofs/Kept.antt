@@ -3,7 +3,7 @@ use Rattle.std.proofs.Common.{inl, inr, ap, refl, ℕ, ◌<◌, ◌^◌, Bool, t
 use Rattle.std.proofs.lemmas.List.{length-map}
 use Rattle.dn_base.proofs.Lists.{Each}
 use Rattle.dn_parse.specs.Tree.{Expression, constant, variable, sum, product, minus, Expressions, no_expressions, and_expression, Part, Block, Dest, Entry, Spec, Arg, number_arg, node_arg, Declaration, node, unit, Item, declared, module_of, instance, loop, Items, no_items, and_item}
-use Rattle.dn_module.specs.Replace.{looked_up, without, Naming, as_they_stand, under, Replacement, hiding, number_or, in_expression, in_expressions, in_option, in_part, prefixed, in_declared, word_of, node_by, named_or, in_reference, in_block, in_dest, in_entry, in_spec, in_arg, in_declaration, in_item, in_items}
+use Rattle.dn_module.specs.Replace.{value_for_word, without_word, Naming, as_they_stand, under, Replacement, replacement_hiding, number_or, in_expression, in_expressions, in_option, in_part, prefixed_name, in_declared, word_of_name, node_by, named_or, in_reference, in_block, in_dest, in_entry, in_spec, in_arg, in_declaration, in_item, in_items}
 use Rattle.dn_print.proofs.Titles.{IsFull}
 use Rattle.dn_print.proofs.Formed.{Maybe}
 use Rattle.dn_print.proofs.Trees.{Small, AllSmall, GoodPart, Some1, GoodName, SmallBlock, NamedDest, NamedEntry, GoodSpec, GoodDeclaration, GoodArg, GoodItem, GoodItems, some_each}
@@ -23,23 +23,23 @@ GoodNaming (under prefix nodes) = IsFull prefix × Standing IsFull nodes
 abbrev pub GoodReplacement : Replacement → Type 0
 GoodReplacement r = Standing IsSmallNumber r.numbers × GoodNaming r.naming
 
-looked_good : {A : Type 0} (P : A → Type 0) (w : List ℕ) (bs : List (List ℕ × A)) → Standing P bs → Maybe P (looked_up w bs)
+looked_good : {A : Type 0} (P : A → Type 0) (w : List ℕ) (bs : List (List ℕ × A)) → Standing P bs → Maybe P (value_for_word w bs)
 looked_good P w [] h = tt
 looked_good P w (b ∷ bs) h = go (bytes_eq w b.0) (looked_good P w bs h.1)
   where
-    go : (t : Bool) → Maybe P (looked_up w bs) → Maybe P (cond t (Some b.1) (looked_up w bs))
+    go : (t : Bool) → Maybe P (value_for_word w bs) → Maybe P (cond t (Some b.1) (value_for_word w bs))
     go true more = h.0
     go false more = more
 
-without_good : {A : Type 0} (P : A → Type 0) (w : List ℕ) (bs : List (List ℕ × A)) → Standing P bs → Standing P (without w bs)
+without_good : {A : Type 0} (P : A → Type 0) (w : List ℕ) (bs : List (List ℕ × A)) → Standing P bs → Standing P (without_word w bs)
 without_good P w [] h = tt
 without_good {A} P w (b ∷ bs) h = go (not (bytes_eq w b.0)) (without_good P w bs h.1)
   where
-    go : (t : Bool) → Standing P (without w bs) → Standing P (cond t (b ∷ without w bs) (without w bs))
+    go : (t : Bool) → Standing P (without_word w bs) → Standing P (cond t (b ∷ without_word w bs) (without_word w bs))
     go true more = (h.0, more)
     go false more = more
 
-hiding_good : (w : List ℕ) (r : Replacement) → GoodReplacement r → GoodReplacement (hiding w r)
+hiding_good : (w : List ℕ) (r : Replacement) → GoodReplacement r → GoodReplacement (replacement_hiding w r)
 hiding_good w r h = (without_good IsSmallNumber w r.numbers h.0, h.1)
 
 some_map : {X Y : Type 0} (P : X → Type 0) (Q : Y → Type 0) (f : X → Y) (xs : List X) → ((x : X) → P x → Q (f x)) → Some1 P xs → Some1 Q (map f xs)
@@ -58,7 +58,7 @@ number_good w (Some n) h = h
 mutual
   expression_kept : (ns : List (List ℕ × ℕ)) → Standing IsSmallNumber ns → (e : Expression) → Small e → Small (in_expression ns e)
   expression_kept ns g (constant n) h = h
-  expression_kept ns g (variable w) h = number_good w (looked_up w ns) (looked_good IsSmallNumber w ns g)
+  expression_kept ns g (variable w) h = number_good w (value_for_word w ns) (looked_good IsSmallNumber w ns g)
   expression_kept ns g (sum es) h = expressions_kept ns g es h
   expression_kept ns g (product es) h = expressions_kept ns g es h
   expression_kept ns g (minus e f) h = (expression_kept ns g e h.0, expression_kept ns g f h.1)
@@ -75,7 +75,7 @@ part_kept : (ns : List (List ℕ × ℕ)) → Standing IsSmallNumber ns → (p :
 part_kept ns g p (inl h) = inl (h.0, option_kept ns g p.index h.1)
 part_kept ns g p (inr h) = inr (h.0, ap (in_option ns) h.1)
 
-prefixed_good : (naming : Naming) (ps : List Part) → GoodNaming naming → GoodName ps → GoodName (prefixed naming ps)
+prefixed_good : (naming : Naming) (ps : List Part) → GoodNaming naming → GoodName ps → GoodName (prefixed_name naming ps)
 prefixed_good as_they_stand ps g h = h
 prefixed_good (under prefix nodes) ps g h = (inr (g.0, refl), some_each GoodPart ps h)
 
@@ -93,7 +93,7 @@ named_good None ps g h = h
 named_good (Some text) ps g h = (inr (g, refl), tt)
 
 reference_kept : (r : Replacement) → GoodReplacement r → (ps : List Part) → GoodName ps → GoodName (in_reference r ps)
-reference_kept r g ps h = named_good (node_by r.naming (word_of ps)) (in_declared r ps) (node_good r.naming (word_of ps) g.1) (declared_kept r g ps h)
+reference_kept r g ps h = named_good (node_by r.naming (word_of_name ps)) (in_declared r ps) (node_good r.naming (word_of_name ps) g.1) (declared_kept r g ps h)
 
 -- declarations
 block_kept : (ns : List (List ℕ × ℕ)) → Standing IsSmallNumber ns → (b : Block) → SmallBlock b → SmallBlock (in_block ns b)
@@ -134,7 +134,7 @@ mutual
   item_kept (declared line d) r g h = declaration_kept r g d h
   item_kept (module_of line title params body) r g h = h
   item_kept (instance line title args prefix) r g h = (each_map GoodArg GoodArg (in_arg r) (arg_kept r g) args h.0, declared_kept r g prefix h.1)
-  item_kept (loop line w from upto body) r g h = (expression_kept r.numbers g.0 from h.0, expression_kept r.numbers g.0 upto h.1, items_kept body (hiding w r) (hiding_good w r g) h.2)
+  item_kept (loop line w from upto body) r g h = (expression_kept r.numbers g.0 from h.0, expression_kept r.numbers g.0 upto h.1, items_kept body (replacement_hiding w r) (hiding_good w r g) h.2)
 
   pub items_kept : (is : Items) (r : Replacement) → GoodReplacement r → GoodItems is → GoodItems (in_items r is)
   items_kept no_items r g h = tt

@@ -5,7 +5,7 @@ use Rattle.std.specs.List.{list_all, prefix_len}
 use Rattle.dn_token.specs.declared.token.Keyword.{Keyword}
 use Rattle.dn_token.specs.declared.token.Sign.{Sign}
 use Rattle.dn_token.specs.declared.token.Sign.TheVariants.{Semicolon, Comma, OpenBracket, CloseBracket, Minus, Dot}
-use Rattle.dn_token.specs.Token.{Lexeme, Token, word, keyword, number, sign, taken, tokens_from, with_token, then_tokens, front, run, after_run, number_of, number_front, word_lexeme, is_word_byte, is_letter, is_digit, is_line_feed, is_blank, is_slash, begins_with}
+use Rattle.dn_token.specs.Token.{Lexeme, Token, word, keyword, number, sign, taken, tokens_from, with_token, then_tokens, front, word_run, after_run, number_of, number_front, word_lexeme, is_word_byte, is_letter, is_digit, is_line_feed, is_blank, is_slash, begins_with}
 use Rattle.dn_token.specs.Words.{spelling}
 use Rattle.dn_token.specs.Going.{tokens_of}
 use Rattle.dn_token.proofs.Going.{tokens_go_on}
@@ -117,7 +117,7 @@ prefix_all p (b ∷ w) rest all h =
     let more = prefix_all p w rest parts.1 h in
     rw (parts.0, more) (omega arith)
 
-run_is : (w rest : List ℕ) → IsTrue (list_all is_word_byte w) → Stops rest → run (w ++ rest) ≡ w
+run_is : (w rest : List ℕ) → IsTrue (list_all is_word_byte w) → Stops rest → word_run (w ++ rest) ≡ w
 run_is w rest all h = take_at w rest (prefix_len is_word_byte (w ++ rest)) (sym (prefix_all is_word_byte w rest all h))
 
 after_is : (w rest : List ℕ) → IsTrue (list_all is_word_byte w) → Stops rest → after_run (w ++ rest) ≡ rest

@@ -10,11 +10,11 @@ use Rattle.dn_net.specs.declared.node.NodeDecl.{NodeDecl}
 use Rattle.dn_kind.specs.Kind.{Meaning, kind_place}
 use Rattle.dn_module.specs.declared.draft.Draft.{Draft}
 use Rattle.dn_module.specs.declared.command.Command.{Command}
-use Rattle.dn_module.specs.Values.{out_of_range, ◌>>=◌, each, fitting, difference, value, values, value_or, value_within, sum_of, product_of, part_by, part_text, after_dots, dotted, full_name, full_name_or_none}
-use Rattle.dn_module.specs.Drafts.{at_line, block_of, dest_of, entry_of, node_draft, known_kind, unit_draft, draft_of, declared_by, names, with_draft, node_of, number_of}
+use Rattle.dn_module.specs.Values.{out_of_range, ◌>>=◌, each, number_or_flaw, difference, value, values, value_or_default, value_within, sum_of, product_of, part_by, part_text, after_dots, dotted_text, full_name, full_name_or_none}
+use Rattle.dn_module.specs.Drafts.{at_line, block_of, dest_of, entry_of, node_draft, known_kind, unit_draft, draft_of, draft_of_declaration, names, with_draft, node_of, node_number_of}
 use Rattle.dn_module.specs.Commands.{commands_of}
 use Rattle.dn_module.specs.Replace.{under, one_number, in_items}
-use Rattle.dn_module.specs.Expand.{Module, State, nothing_yet, Visibility, outside, within_module, Work, statement, turns, statements, word_of_param, has_twice, is_module, with_module, usable, module_from, fit, Given, number, named, given_by, number_pair, node_pair, numbers_of, nodes_of, used_body, use_of, loop_of, turn_of, item_rewriting, rewriting, all_rewritings, most_steps, Outcome, expansion_of}
+use Rattle.dn_module.specs.Expand.{Module, ExpansionState, nothing_yet, Visibility, outside, within_module, Work, statement, turns, statements, word_of_param, has_twice, is_module, with_module, usable_modules, module_from, arguments_fit, Given, number, named, given_by, number_pair, node_pair, numbers_of, nodes_of, used_body, use_rewriting, loop_of, turn_of, item_rewriting, rewriting, all_rewritings, most_steps, Expansion, expansion_of}
 use Rattle.dn_module.proofs.Yields.{Yields, any, bind, given, at_yields}
 use Rattle.dn_print.specs.Statement.{kind_name, kind_text}
 use Rattle.dn_print.proofs.Titles.{Title, IsFull, full_one, full_both}
@@ -42,7 +42,7 @@ some_yields P Q f good [] h = absurd h
 some_yields P Q f good (x ∷ xs) h = bind (f x) _ (good x h.0) (λ y p. bind (each f xs) _ (only_each P Q f good xs h.1) (λ ys q. given (p, q)))
 
 -- values
-fitting_yields : (n : ℕ) → Yields IsSmallNumber (fitting n)
+fitting_yields : (n : ℕ) → Yields IsSmallNumber (number_or_flaw n)
 fitting_yields n = go (nat_lt n (2 ^ 64)) refl
   where
     go : (b : Bool) → nat_lt n (2 ^ 64) ≡ b → Yields IsSmallNumber (cond b (Ok n) (Err out_of_range))
@@ -63,7 +63,7 @@ value_yields (sum es) h = bind (values es) _ (any (values es)) (λ ns p. fitting
 value_yields (product es) h = bind (values es) _ (any (values es)) (λ ns p. fitting_yields (product_of ns))
 value_yields (minus e f) h = bind (value e) _ (value_yields e h.0) (λ a p. bind (value f) _ (any (value f)) (λ b q. difference_yields a b p))
 
-value_or_yields : (n : ℕ) (o : Option Expression) → n < 2 ^ 64 → Maybe Small o → Yields IsSmallNumber (value_or n o)
+value_or_yields : (n : ℕ) (o : Option Expression) → n < 2 ^ 64 → Maybe Small o → Yields IsSmallNumber (value_or_default n o)
 value_or_yields n None h g = record { it = h }
 value_or_yields n (Some e) h g = value_yields e g
 
@@ -80,7 +80,7 @@ dotted_full : (t : List ℕ) (ts : List (List ℕ)) → IsFull t → Each IsFull
 dotted_full t [] h g = subst IsFull (sym (append-nil t)) h
 dotted_full t (u ∷ us) h g = full_both t (u ++ after_dots us) h (dotted_full u us g.0 g.1)
 
-some_dotted : (ts : List (List ℕ)) → Some1 IsFull ts → IsFull (dotted ts)
+some_dotted : (ts : List (List ℕ)) → Some1 IsFull ts → IsFull (dotted_text ts)
 some_dotted [] h = absurd h
 some_dotted (t ∷ ts) h = dotted_full t ts h.0 h.1
 
@@ -93,10 +93,10 @@ maybe_name_yields (Some ps) h = bind (full_name ps) _ (name_yields ps h) (λ t p
 
 -- the parts of a node
 block_yields : (b : BlockOf) → SmallBlock b → Yields GoodBlock (block_of b)
-block_yields b h = bind (value b.lo) _ (value_yields b.lo h.0) (λ lo p. bind (value_or lo b.hi) _ (value_or_yields lo b.hi p h.1) (λ hi q. given (p, q)))
+block_yields b h = bind (value b.lo) _ (value_yields b.lo h.0) (λ lo p. bind (value_or_default lo b.hi) _ (value_or_yields lo b.hi p h.1) (λ hi q. given (p, q)))
 
 dest_yields : (lo : ℕ) → lo < 2 ^ 64 → (d : DestOf) → NamedDest d → Yields GoodDest (dest_of lo d)
-dest_yields lo l d h = bind (full_name d.name) _ (name_yields d.name h.0) (λ t p. bind (value_or lo d.addr) _ (value_or_yields lo d.addr l h.1) (λ a q. given (p, q)))
+dest_yields lo l d h = bind (full_name d.name) _ (name_yields d.name h.0) (λ t p. bind (value_or_default lo d.addr) _ (value_or_yields lo d.addr l h.1) (λ a q. given (p, q)))
 
 entry_yields : (e : EntryOf) → NamedEntry e → Yields GoodEntry (entry_of e)
 entry_yields e h = bind (block_of e.block) _ (block_yields e.block h.0) (λ b p. bind (each (dest_of b.lo) e.dests) _ (each_yields NamedDest GoodDest (dest_of b.lo) (dest_yields b.lo p.0) e.dests h.1) (λ ds q. given (p, q.0, (let n = q.1 in let s = h.2 in omega (arith, n, s)), (let n = q.1 in let f = h.3 in omega (arith, n, f)))))
@@ -136,7 +136,7 @@ unit_yields kinds line name kind page slots reach ports h = bind (full_name name
   is = refl;
   full = p;
   parts = record {
-    printable = λ known. let n = u.1 in let m = length-map ts (number_of known) in let some = h.3 in let few = h.4 in record {
+    printable = λ known. let n = u.1 in let m = length-map ts (node_number_of known) in let some = h.3 in let few = h.4 in record {
       word = word_any _ (subst IsWord (sym q.0) h.1);
       first = subst (λ (w : List ℕ). kind_place kinds w ≡ Some k) (sym q.0) q.1;
       page = pa;
@@ -157,7 +157,7 @@ draft_yields : (kinds : List Meaning) (line : ℕ) (d : Declaration) → GoodDec
 draft_yields kinds line (node role name spec) h = only_yields _ (λ d g. inl g) (node_yields line role name spec h.0 h.1)
 draft_yields kinds line (unit name kind page slots reach ports) h = only_yields _ (λ d g. inr g) (unit_yields kinds line name kind page slots reach ports h)
 
-declared_yields : (kinds : List Meaning) (line : ℕ) (d : Declaration) → GoodDeclaration d → Yields (GoodDraft kinds) (declared_by kinds line d)
+declared_yields : (kinds : List Meaning) (line : ℕ) (d : Declaration) → GoodDeclaration d → Yields (GoodDraft kinds) (draft_of_declaration kinds line d)
 declared_yields kinds line d h = at_yields (GoodDraft kinds) line (draft_of kinds line d) (draft_yields kinds line d h)
 
 -- the state so far, and what is still to be done
@@ -167,14 +167,14 @@ GoodModule m = GoodItems m.body
 abbrev GoodDrafts : List Meaning → List Draft → Type 0
 GoodDrafts kinds ds = Each (GoodDraft kinds) ds × Grown [] ds
 
-abbrev GoodState : List Meaning → State → Type 0
+abbrev GoodState : List Meaning → ExpansionState → Type 0
 GoodState kinds s = Each GoodModule s.modules × GoodDrafts kinds s.drafts
 
 abbrev GoodWork : Work → Type 0
 GoodWork (statement s i) = GoodItem i
 GoodWork (turns s line w a b body) = (a ≤ b) × (b < 2 ^ 64) × GoodItems body
 
-abbrev GoodNext : List Meaning → List Work × State → Type 0
+abbrev GoodNext : List Meaning → List Work × ExpansionState → Type 0
 GoodNext kinds p = Each GoodWork p.0 × GoodState kinds p.1
 
 added_yields : (kinds : List Meaning) (ds : List Draft) (d : Draft) → GoodDrafts kinds ds → GoodDraft kinds d → Yields (GoodDrafts kinds) (with_draft ds d)
@@ -203,7 +203,7 @@ take_good zero ms h = tt
 take_good (suc n) [] h = tt
 take_good (suc n) (m ∷ ms) h = (h.0, take_good n ms h.1)
 
-usable_good : (s : Visibility) (ms : List Module) → Each GoodModule ms → Each GoodModule (usable s ms)
+usable_good : (s : Visibility) (ms : List Module) → Each GoodModule ms → Each GoodModule (usable_modules s ms)
 usable_good outside ms h = h
 usable_good (within_module before) ms h = take_good before ms h
 
@@ -248,9 +248,9 @@ nodes_good (w ∷ ws) (g ∷ gs) h = each_both (λ (b : List ℕ × List ℕ). I
 used_good : (m : Module) (gs : List Given) (prefix : List ℕ) → GoodModule m → Each GoodGiven gs → IsFull prefix → GoodItems (used_body m gs prefix)
 used_good m gs prefix h g p = items_kept m.body (record { numbers = numbers_of (map word_of_param m.params) gs; naming = under prefix (nodes_of (map word_of_param m.params) gs) }) (numbers_good (map word_of_param m.params) gs g, (p, nodes_good (map word_of_param m.params) gs g)) h
 
-use_yields : (line : ℕ) (args : List Arg) (prefix : List Part) (o : Option (ℕ × Module)) → Each GoodArg args → GoodName prefix → Maybe GoodFound o → Yields (Each GoodWork) (use_of line args prefix o)
+use_yields : (line : ℕ) (args : List Arg) (prefix : List Part) (o : Option (ℕ × Module)) → Each GoodArg args → GoodName prefix → Maybe GoodFound o → Yields (Each GoodWork) (use_rewriting line args prefix o)
 use_yields line args prefix None h g f = record { it = tt }
-use_yields line args prefix (Some p) h g f = go (fit p.1.params args)
+use_yields line args prefix (Some p) h g f = go (arguments_fit p.1.params args)
   where
     works : Yields (Each GoodWork) (at_line line (each given_by args) >>= λ givens. at_line line (full_name prefix) >>= λ text. Ok (statements (within_module p.0) (used_body p.1 givens text)))
     works = bind (at_line line (each given_by args)) _ (at_yields (Each GoodGiven) line (each given_by args) (only_each GoodArg GoodGiven given_by arg_yields args h)) (λ gs u. bind (at_line line (full_name prefix)) _ (at_yields IsFull line (full_name prefix) (name_yields prefix g)) (λ t v. given (statements_good (within_module p.0) (used_body p.1 gs t) (used_good p.1 gs t f u v))))
@@ -273,17 +273,17 @@ turn_good s line w a b body l h g =
     each_both GoodWork (statements s (in_items (one_number w a) body)) _ (statements_good s (in_items (one_number w a) body) (items_kept body (one_number w a) ((small, tt), tt) g)) (turns_good s line w (suc a) b body (nat_lt a b) (λ e. ltb-true a b e) h g)
 
 -- one rewriting, and all
-item_yields : (kinds : List Meaning) (s : Visibility) (state : State) (i : Item) → GoodState kinds state → GoodItem i → Yields (GoodNext kinds) (item_rewriting kinds s state i)
-item_yields kinds s state (declared line d) h g = bind (declared_by kinds line d) _ (declared_yields kinds line d g) (λ draft p. bind (with_draft state.drafts draft) _ (added_yields kinds state.drafts draft h.1 p) (λ ds q. given (tt, (h.0, q))))
+item_yields : (kinds : List Meaning) (s : Visibility) (state : ExpansionState) (i : Item) → GoodState kinds state → GoodItem i → Yields (GoodNext kinds) (item_rewriting kinds s state i)
+item_yields kinds s state (declared line d) h g = bind (draft_of_declaration kinds line d) _ (declared_yields kinds line d g) (λ draft p. bind (with_draft state.drafts draft) _ (added_yields kinds state.drafts draft h.1 p) (λ ds q. given (tt, (h.0, q))))
 item_yields kinds s state (module_of line title params body) h g = bind (with_module state.modules line (record { title = title; params = params; body = body })) _ (module_yields state.modules line (record { title = title; params = params; body = body }) h.0 g) (λ next p. given (tt, (p, h.1)))
-item_yields kinds s state (instance line title args prefix) h g = bind (use_of line args prefix (module_from 0 title (usable s state.modules))) _ (use_yields line args prefix (module_from 0 title (usable s state.modules)) g.0 g.1 (found_good 0 title (usable s state.modules) (usable_good s state.modules h.0))) (λ works p. given (p, h))
+item_yields kinds s state (instance line title args prefix) h g = bind (use_rewriting line args prefix (module_from 0 title (usable_modules s state.modules))) _ (use_yields line args prefix (module_from 0 title (usable_modules s state.modules)) g.0 g.1 (found_good 0 title (usable_modules s state.modules) (usable_good s state.modules h.0))) (λ works p. given (p, h))
 item_yields kinds s state (loop line w from upto body) h g = bind (loop_of s line w from upto body) _ (loop_yields s line w from upto body g.0 g.1 g.2) (λ works p. given (p, h))
 
-work_yields : (kinds : List Meaning) (state : State) (w : Work) → GoodState kinds state → GoodWork w → Yields (GoodNext kinds) (rewriting kinds state w)
+work_yields : (kinds : List Meaning) (state : ExpansionState) (w : Work) → GoodState kinds state → GoodWork w → Yields (GoodNext kinds) (rewriting kinds state w)
 work_yields kinds state (statement s i) h g = item_yields kinds s state i h g
 work_yields kinds state (turns s line w a b body) h g = record { it = (turn_good s line w a b body g.0 g.1 g.2, h) }
 
-all_yields : (kinds : List Meaning) (left : ℕ) (ws : List Work) (state : State) → Each GoodWork ws → GoodState kinds state → Yields (GoodState kinds) (all_rewritings kinds left ws state)
+all_yields : (kinds : List Meaning) (left : ℕ) (ws : List Work) (state : ExpansionState) → Each GoodWork ws → GoodState kinds state → Yields (GoodState kinds) (all_rewritings kinds left ws state)
 all_yields kinds zero [] state h g = record { it = g }
 all_yields kinds (suc left) [] state h g = record { it = g }
 all_yields kinds zero (w ∷ ws) state h g = record { it = tt }
@@ -296,16 +296,16 @@ pub record From (kinds : List Meaning) (net : List NodeDecl) : Type 0 where
   pub grown : Grown [] drafts
   pub nodes_are : each (node_of (names drafts)) drafts ≡ Ok net
 
-net_from : (kinds : List Meaning) (state : State) (commands : Result (List Command) ExpansionFault) (net : Result (List NodeDecl) ExpansionFault) (made : Outcome) → GoodState kinds state → each (node_of (names state.drafts)) state.drafts ≡ net → (commands >>= λ cs. net >>= λ n. Ok (record { net = n; commands = cs })) ≡ Ok made → From kinds made.net
-net_from kinds state (Ok cs) (Ok n) made h is e = let same : record { net = n; commands = cs } ≡ made = cc in subst (λ (o : Outcome). From kinds o.net) same (record { drafts = state.drafts; good = h.1.0; grown = h.1.1; nodes_are = is })
+net_from : (kinds : List Meaning) (state : ExpansionState) (commands : Result (List Command) ExpansionFault) (net : Result (List NodeDecl) ExpansionFault) (made : Expansion) → GoodState kinds state → each (node_of (names state.drafts)) state.drafts ≡ net → (commands >>= λ cs. net >>= λ n. Ok (record { net = n; commands = cs })) ≡ Ok made → From kinds made.net
+net_from kinds state (Ok cs) (Ok n) made h is e = let same : record { net = n; commands = cs } ≡ made = cc in subst (λ (o : Expansion). From kinds o.net) same (record { drafts = state.drafts; good = h.1.0; grown = h.1.1; nodes_are = is })
 net_from kinds state (Ok cs) (Err f) made h is e = cc
 net_from kinds state (Err f) net made h is e = cc
 
-state_from : (kinds : List Meaning) (r : Result State ExpansionFault) (tree : Tree) (made : Outcome) → Yields (GoodState kinds) r → (r >>= λ state. commands_of (names state.drafts) tree.commands >>= λ cs. each (node_of (names state.drafts)) state.drafts >>= λ n. Ok (record { net = n; commands = cs })) ≡ Ok made → From kinds made.net
+state_from : (kinds : List Meaning) (r : Result ExpansionState ExpansionFault) (tree : Tree) (made : Expansion) → Yields (GoodState kinds) r → (r >>= λ state. commands_of (names state.drafts) tree.commands >>= λ cs. each (node_of (names state.drafts)) state.drafts >>= λ n. Ok (record { net = n; commands = cs })) ≡ Ok made → From kinds made.net
 state_from kinds (Ok state) tree made h e = net_from kinds state (commands_of (names state.drafts) tree.commands) (each (node_of (names state.drafts)) state.drafts) made h.it refl e
 state_from kinds (Err f) tree made h e = cc
 
 -- the net of a well-formed tree
-pub made_from : (kinds : List Meaning) (tree : Tree) (made : Outcome) → GoodItems tree.body → expansion_of kinds tree ≡ Ok made → From kinds made.net
+pub made_from : (kinds : List Meaning) (tree : Tree) (made : Expansion) → GoodItems tree.body → expansion_of kinds tree ≡ Ok made → From kinds made.net
 unfolding expansion_of
 made_from kinds tree made h e = state_from kinds (all_rewritings kinds most_steps (statements outside tree.body) nothing_yet) tree made (all_yields kinds most_steps (statements outside tree.body) nothing_yet (statements_good outside tree.body h) (tt, (tt, tt))) e

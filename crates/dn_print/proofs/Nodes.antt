@@ -17,7 +17,7 @@ use Rattle.dn_kind.specs.Kind.{Meaning}
 use Rattle.dn_module.specs.declared.draft.DraftEntry.{DraftEntry}
 use Rattle.dn_module.specs.declared.draft.DraftUnit.{DraftUnit}
 use Rattle.dn_module.specs.Values.{each, full_name, full_name_or_none}
-use Rattle.dn_module.specs.Drafts.{block_of, entry_of, role_of, declared_by, over_known, ports_known, refers_to_known, number_of, entry_in, unit_in, node_in}
+use Rattle.dn_module.specs.Drafts.{block_of, entry_of, role_of, draft_of_declaration, over_known, ports_known, refers_to_known, node_number_of, entry_in, unit_by_numbers, node_in}
 use Rattle.dn_print.specs.Statement.{accept_text, map_text, over_text, role_text, body_text, statement_text}
 use Rattle.dn_base.proofs.Booleans.{and_parts}
 use Rattle.dn_base.proofs.Lists.{Each}
@@ -138,7 +138,7 @@ record OverShown (line : ℕ) (text : List ℕ) (o : Option (List ℕ)) : Type 0
   accepts : (rest : List Token) → SpecEnd rest → AcceptEnd (shown.tokens ++ rest)
   maps : (rest : List Token) → SpecEnd rest → MapEnd (shown.tokens ++ rest)
 
-over_shown : (net : List NodeDecl) (known : List (List ℕ)) → Named net known → (line : ℕ) (o : Option (List ℕ)) → Maybe IsFull o → IsTrue (over_known known o) → OverShown line (over_text net (option_map (number_of known) o)) o
+over_shown : (net : List NodeDecl) (known : List (List ℕ)) → Named net known → (line : ℕ) (o : Option (List ℕ)) → Maybe IsFull o → IsTrue (over_known known o) → OverShown line (over_text net (option_map (node_number_of known) o)) o
 unfolding spelling
 over_shown net known named line None h k = record {
   shown = record { tokens = []; tree = None; lexed = closed_none line; read = λ rest e. no_over rest e.1; valued = refl };
@@ -179,7 +179,7 @@ record SpecShown (line : ℕ) (text : List ℕ) (d : Draft) : Type 0 where
   entries : each entry_of tree.entries ≡ Ok d.entries
   over : full_name_or_none tree.over ≡ Ok d.over
 
-spec_shown : (net : List NodeDecl) (known : List (List ℕ)) → Named net known → (line : ℕ) (d : Draft) → GoodNode d → IsTrue (refers_to_known known d) → SpecShown line (accept_text d.accepts ++ (map_text net (map (entry_in known) d.entries) ++ over_text net (option_map (number_of known) d.over))) d
+spec_shown : (net : List NodeDecl) (known : List (List ℕ)) → Named net known → (line : ℕ) (d : Draft) → GoodNode d → IsTrue (refers_to_known known d) → SpecShown line (accept_text d.accepts ++ (map_text net (map (entry_in known) d.entries) ++ over_text net (option_map (node_number_of known) d.over))) d
 spec_shown net known named line d h k =
     let ks = and_parts (entries_known known d.entries) (over_known known d.over && ports_known known d.unit) k in
     let overs = and_parts (over_known known d.over) (ports_known known d.unit) ks.1 in
@@ -224,7 +224,7 @@ record Body (line : ℕ) (text : List ℕ) (d : Draft) : Type 0 where
   over : full_name_or_none spec.over ≡ Ok d.over
 
 abbrev rest_text : List NodeDecl → List (List ℕ) → Draft → List ℕ
-rest_text net known d = codes " is" ++ (accept_text d.accepts ++ (map_text net (map (entry_in known) d.entries) ++ over_text net (option_map (number_of known) d.over)))
+rest_text net known d = codes " is" ++ (accept_text d.accepts ++ (map_text net (map (entry_in known) d.entries) ++ over_text net (option_map (node_number_of known) d.over)))
 
 body_shown : (net : List NodeDecl) (known : List (List ℕ)) → Named net known → (line : ℕ) (d : Draft) → GoodNode d → IsTrue (refers_to_known known d) → Body line (d.name ++ rest_text net known d) d
 unfolding spelling
@@ -238,7 +238,7 @@ body_shown net known named line d h k =
       more = f.0 ++ (keyword_token line Is ∷ s.tokens);
       name = n.tree;
       spec = s.tree;
-      lexed = subst (λ (l : List Token). Closed line (d.name ++ rest_text net known d) l) same (closed_then n.lexed (is_quiet (accept_text d.accepts ++ (map_text net (map (entry_in known) d.entries) ++ over_text net (option_map (number_of known) d.over)))) (closed_then (behind_blank (keyword_closed line Is)) s.quiet s.lexed));
+      lexed = subst (λ (l : List Token). Closed line (d.name ++ rest_text net known d) l) same (closed_then n.lexed (is_quiet (accept_text d.accepts ++ (map_text net (map (entry_in known) d.entries) ++ over_text net (option_map (node_number_of known) d.over)))) (closed_then (behind_blank (keyword_closed line Is)) s.quiet s.lexed));
       read = λ role rest e. ap (λ (l : List Token). node_at role (l ++ rest)) (sym same) ∙ node_read role line n.tree s.tree n.tokens s.tokens rest (n.read (keyword_token line Is ∷ (s.tokens ++ rest)) (is_ends_name line (s.tokens ++ rest))) (s.read rest e);
       named = n.valued;
       accepts = s.accepts;
@@ -254,7 +254,7 @@ pub record Said (kinds : List Meaning) (line : ℕ) (text : List ℕ) (role : Ro
   pub declaration : Declaration
   pub lexed : (rest : List ℕ) → tokens_of line (text ++ rest) ≡ with_tokens (first ∷ more) (tokens_of (line + 1) rest)
   pub read : (rest : List Token) → whole_statement_at (first ∷ (more ++ rest)) ≡ Ok (declares declaration, rest)
-  pub declared : declared_by kinds line declaration ≡ Ok (record { line = line; role = role; name = d.name; accepts = d.accepts; entries = d.entries; over = d.over; unit = part })
+  pub declared : draft_of_declaration kinds line declaration ≡ Ok (record { line = line; role = role; name = d.name; accepts = d.accepts; entries = d.entries; over = d.over; unit = part })
 
 pub semicolon_ends : (line : ℕ) (rest : List Token) → SpecEnd (sign_token line Semicolon ∷ rest)
 unfolding after_sign after_keyword
@@ -289,7 +289,7 @@ body_read line text d b role rest =
     ap (λ (l : List Token). node_at role (word_token line b.word ∷ l)) (append_assoc b.more (sign_token line Semicolon ∷ []) rest)
     ∙ b.read role (sign_token line Semicolon ∷ rest) (semicolon_ends line rest)
 
-body_declared : (kinds : List Meaning) (line : ℕ) (text : List ℕ) (d : Draft) (b : Body line text d) (role : RoleOf) → declared_by kinds line (node role b.name b.spec) ≡ Ok (record { line = line; role = role_of role; name = d.name; accepts = d.accepts; entries = d.entries; over = d.over; unit = None })
+body_declared : (kinds : List Meaning) (line : ℕ) (text : List ℕ) (d : Draft) (b : Body line text d) (role : RoleOf) → draft_of_declaration kinds line (node role b.name b.spec) ≡ Ok (record { line = line; role = role_of role; name = d.name; accepts = d.accepts; entries = d.entries; over = d.over; unit = None })
 body_declared kinds line text d b role =
     let n = b.named in
     let a = b.accepts in
@@ -326,5 +326,5 @@ said_by kinds net known line d b vectors_role = marked_said kinds net known line
 -- the line of a node that is no unit
 pub node_said : (kinds : List Meaning) (net : List NodeDecl) (known : List (List ℕ)) → Named net known → (line : ℕ) (d : Draft) → GoodNode d → IsTrue (refers_to_known known d) → Said kinds line (statement_text kinds net (node_in known d)) d.role d.unit d
 node_said kinds net known named line d h k =
-    let P : Role → Option DraftUnit → Type 0 = λ r o. Said kinds line (role_text r ++ (d.name ++ (body_text kinds net (node_in known d) (option_map (unit_in known) o) ++ codes ";\n"))) r o d in
+    let P : Role → Option DraftUnit → Type 0 = λ r o. Said kinds line (role_text r ++ (d.name ++ (body_text kinds net (node_in known d) (option_map (unit_by_numbers known) o) ++ codes ";\n"))) r o d in
     subst (λ (r : Role). P r d.unit) (sym h.roles) (subst (λ (o : Option DraftUnit). P (role_of h.role) o) (sym h.no_unit) (said_by kinds net known line d (body_shown net known named line d h k) h.role))

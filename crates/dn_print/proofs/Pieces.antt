@@ -6,15 +6,15 @@ use Rattle.dn_token.specs.declared.token.Sign.TheVariants.{Comma, Minus}
 use Rattle.dn_token.specs.Token.{Token}
 use Rattle.dn_token.specs.Words.{spelling}
 use Rattle.dn_parse.specs.Tree.{constant, Part, Block as BlockOf, Dest as DestOf}
-use Rattle.dn_parse.specs.Descent.{Reader, optional, one_more, after_sign, after_keyword, after_comma, keyword_at, name_at, upper_at, block_at, next_block_at, blocks_at, addr_at, dest_at, next_dest_at, dests_at, entry_at, next_entry_at, entries_at}
+use Rattle.dn_parse.specs.Descent.{Reader, if_there, one_more, after_sign, after_keyword, after_comma, keyword_at, name_at, upper_at, block_at, next_block_at, blocks_at, addr_at, dest_at, next_dest_at, dests_at, entry_at, next_entry_at, entries_at}
 use Rattle.dn_net.specs.declared.node.Block.{Block}
 use Rattle.dn_net.specs.declared.node.NodeDecl.{NodeDecl}
 use Rattle.dn_module.specs.declared.draft.DraftEntry.{DraftEntry}
 use Rattle.dn_module.specs.declared.draft.DraftDest.{DraftDest}
 use Rattle.dn_module.specs.Values.{each}
-use Rattle.dn_module.specs.Drafts.{block_of, dest_of, entry_of, is_known, dests_known, number_of, dest_in, entry_in}
+use Rattle.dn_module.specs.Drafts.{block_of, dest_of, entry_of, is_known, dests_known, node_number_of, dest_in, entry_in}
 use Rattle.dn_print.specs.Names.{address_text}
-use Rattle.dn_print.specs.Statement.{marked, block_text, blocks_text, node_name, dest_text, dests_text, entry_text, entries_text}
+use Rattle.dn_print.specs.Statement.{marked_texts, block_text, blocks_text, node_name, dest_text, dests_text, entry_text, entries_text}
 use Rattle.dn_base.proofs.Booleans.{and_parts}
 use Rattle.dn_base.proofs.Lists.{Each}
 use Rattle.dn_print.proofs.Formed.{GoodBlock, GoodDest, GoodEntry}
@@ -37,7 +37,7 @@ EntriesEnd rest = CommasEnd EntryEnd rest
 
 -- the number that stands for a known name is that of the node with this text
 abbrev pub Named : List NodeDecl → List (List ℕ) → Type 0
-Named net known = (t : List ℕ) → IsTrue (is_known known t) → node_name net (number_of known t) ≡ t
+Named net known = (t : List ℕ) → IsTrue (is_known known t) → node_name net (node_number_of known t) ≡ t
 
 -- a block
 block_read : (line lo hi : ℕ) (rest : List Token) → NumberEnd rest → block_at (number_token line lo ∷ sign_token line Minus ∷ number_token line hi ∷ rest) ≡ Ok (record { lo = constant lo; hi = Some (constant hi) }, rest)
@@ -81,7 +81,7 @@ comma_ends_number line ts = (refl, refl)
 
 pub blocks_shown : (line : ℕ) (b : Block) (bs : List Block) → Each GoodBlock (b ∷ bs) → Shown line (blocks_text (b ∷ bs)) blocks_at BlocksEnd (each block_of) (b ∷ bs)
 unfolding blocks_at next_block_at
-blocks_shown line b bs h = first_shown (block_shown line b h.0) (row_shown (comma_mark line block_at NumberEnd (comma_ends_number line)) GoodBlock block_text (marked (codes ", ") block_text) refl (λ c cs. refl) (block_shown line) bs h.1)
+blocks_shown line b bs h = first_shown (block_shown line b h.0) (row_shown (comma_mark line block_at NumberEnd (comma_ends_number line)) GoodBlock block_text (marked_texts (codes ", ") block_text) refl (λ c cs. refl) (block_shown line) bs h.1)
 
 -- a destination
 addr_read : (line a : ℕ) (rest : List Token) → NumberEnd rest → addr_at (keyword_token line At ∷ number_token line a ∷ rest) ≡ Ok (Some (constant a), rest)
@@ -125,7 +125,7 @@ and_mark line = record {
   quiet = λ t. record { it = λ rest h. refl };
   one = λ ts. refl;
   fit = λ ts. (refl, refl);
-  none = λ rest h. ap (λ found. optional found (λ behind. one_more (dest_at behind)) (Ok None)) h.1;
+  none = λ rest h. ap (λ found. if_there found (λ behind. one_more (dest_at behind)) (Ok None)) h.1;
   ends = λ rest h. h.0;
 }
 
@@ -142,7 +142,7 @@ dests_shown net known named line lo [] h some few k = absurd (omega (arith, some
 dests_shown net known named line lo (d ∷ ds) h some few k =
     let all = each_passes GoodDest (λ (e : DraftDest). is_known known e.to) (d ∷ ds) h k in
     let one = λ (e : DraftDest) (g : GoodDest e × IsTrue (is_known known e.to)). dest_shown net known named line lo e g.0 g.1 in
-    most_shown 7 (omega (arith, few)) (one d all.0) (row_shown (and_mark line) (λ (e : DraftDest). GoodDest e × IsTrue (is_known known e.to)) (λ (e : DraftDest). dest_text net (dest_in known e)) (λ (es : List DraftDest). marked (codes " and ") (dest_text net) (map (dest_in known) es)) refl (λ e es. refl) one ds all.1)
+    most_shown 7 (omega (arith, few)) (one d all.0) (row_shown (and_mark line) (λ (e : DraftDest). GoodDest e × IsTrue (is_known known e.to)) (λ (e : DraftDest). dest_text net (dest_in known e)) (λ (es : List DraftDest). marked_texts (codes " and ") (dest_text net) (map (dest_in known) es)) refl (λ e es. refl) one ds all.1)
 
 -- an entry
 pub to_quiet : (t : List ℕ) → Quiet (codes " to " ++ t)
@@ -185,4 +185,4 @@ unfolding entries_at next_entry_at
 entries_shown net known named line e es h k =
     let all = each_passes GoodEntry (λ (x : DraftEntry). dests_known known x.dests) (e ∷ es) h k in
     let one = λ (x : DraftEntry) (g : GoodEntry x × IsTrue (dests_known known x.dests)). entry_shown net known named line x g.0 g.1 in
-    first_shown (one e all.0) (row_shown (comma_mark line entry_at EntryEnd (comma_ends_entry line)) (λ (x : DraftEntry). GoodEntry x × IsTrue (dests_known known x.dests)) (λ (x : DraftEntry). entry_text net (entry_in known x)) (λ (xs : List DraftEntry). marked (codes ", ") (entry_text net) (map (entry_in known) xs)) refl (λ x xs. refl) one es all.1)
+    first_shown (one e all.0) (row_shown (comma_mark line entry_at EntryEnd (comma_ends_entry line)) (λ (x : DraftEntry). GoodEntry x × IsTrue (dests_known known x.dests)) (λ (x : DraftEntry). entry_text net (entry_in known x)) (λ (xs : List DraftEntry). marked_texts (codes ", ") (entry_text net) (map (entry_in known) xs)) refl (λ x xs. refl) one es all.1)

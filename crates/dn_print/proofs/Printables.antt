@@ -12,10 +12,11 @@ use Rattle.dn_kind.specs.Kind.{Meaning}
 use Rattle.dn_module.specs.declared.draft.Draft.{Draft}
 use Rattle.dn_module.specs.declared.draft.DraftEntry.{DraftEntry}
 use Rattle.dn_module.specs.declared.draft.DraftUnit.{DraftUnit}
-use Rattle.dn_module.specs.Drafts.{names, parts_of, refers_to_known, number_of, dest_in, entry_in, unit_in, node_in, role_of}
+use Rattle.dn_module.specs.Drafts.{names, parts_of_draft, refers_to_known, node_number_of, dest_in, entry_in, unit_by_numbers, node_in, role_of}
 use Rattle.dn_module.proofs.Closed.{closed}
 use Rattle.dn_parse.specs.Tree.{Role as RoleOf, plain_role, agent_role, vectors_role}
-use Rattle.dn_print.specs.Printable.{IsPrintableBlock, IsPrintableEntry, HasPrintableUnit, IsPrintableNode, parts_of_node, IsPrintable}
+use Rattle.dn_net.specs.Parts.{parts_of_node}
+use Rattle.dn_print.specs.Printable.{IsPrintableBlock, IsPrintableEntry, HasPrintableUnit, IsPrintableNode, IsPrintable}
 use Rattle.dn_print.proofs.Again.{Refers, nodes_all}
 use Rattle.dn_print.proofs.Counted.{one_agent, one_unit, Counts, counted}
 use Rattle.dn_print.proofs.Formed.{GoodBlock, GoodDest, GoodEntry, GoodDraft}
@@ -44,7 +45,7 @@ node_printable kinds known d (inl h) = record {
   name = h.name;
   accepts = all_of_each GoodBlock d.accepts h.accepts;
   entries = all_of_each IsPrintableEntry (map (entry_in known) d.entries) (each_map GoodEntry IsPrintableEntry (entry_in known) (entry_printable known) d.entries h.entries);
-  unit = subst (λ (o : Option DraftUnit). HasPrintableUnit kinds (option_map (unit_in known) o)) (sym h.no_unit) tt;
+  unit = subst (λ (o : Option DraftUnit). HasPrintableUnit kinds (option_map (unit_by_numbers known) o)) (sym h.no_unit) tt;
 }
 node_printable kinds known d (inr h) = subst (λ (e : Draft). IsPrintableNode kinds (node_in known e)) (sym h.is) (record {
   name = h.full;
@@ -55,10 +56,10 @@ node_printable kinds known d (inr h) = subst (λ (e : Draft). IsPrintableNode ki
 
 -- a node is formed
 plain_formed : (known : List (List ℕ)) (d : Draft) (role : RoleOf) → d.role ≡ role_of role → d.unit ≡ None → IsTrue (is_formed (node_in known d))
-plain_formed known d role r u = ap₂ (λ (q : Role) (o : Option DraftUnit). formed (option_map (unit_in known) o) q) r u ∙ by role
+plain_formed known d role r u = ap₂ (λ (q : Role) (o : Option DraftUnit). formed (option_map (unit_by_numbers known) o) q) r u ∙ by role
   where
     formed : Option UnitPart → Role → Bool
-    formed o q = formed_by (record { text = d.name; role = q; accepts = d.accepts; entries = map (entry_in known) d.entries; over = option_map (number_of known) d.over; unit = o }) o
+    formed o q = formed_by (record { text = d.name; role = q; accepts = d.accepts; entries = map (entry_in known) d.entries; over = option_map (node_number_of known) d.over; unit = o }) o
 
     by : (role : RoleOf) → formed None (role_of role) ≡ true
     by plain_role = refl
@@ -82,10 +83,10 @@ texts_are : (known : List (List ℕ)) (ds : List Draft) → map (λ (n : NodeDec
 texts_are known [] = refl
 texts_are known (d ∷ ds) = ap (λ (l : List (List ℕ)). d.name ∷ l) (texts_are known ds)
 
-parts_in : (known : List (List ℕ)) (d : Draft) → parts_of_node (node_in known d) ≡ parts_of d
+parts_in : (known : List (List ℕ)) (d : Draft) → parts_of_node (node_in known d) ≡ parts_of_draft d
 parts_in known d = ap₂ (λ (e o : ℕ). length d.accepts + (e + o)) (length-map d.entries (entry_in known)) (by d.over)
   where
-    by : (o : Option (List ℕ)) → ◌≡◌ {A = ℕ} (cond (is_some (option_map (number_of known) o)) 1 0) (cond (is_some o) 1 0)
+    by : (o : Option (List ℕ)) → ◌≡◌ {A = ℕ} (cond (is_some (option_map (node_number_of known) o)) 1 0) (cond (is_some o) 1 0)
     by None = refl
     by (Some t) = refl
 
@@ -100,7 +101,7 @@ nodes_printable kinds known ds k good refers counts few = record {
   nodes = all_of_each (IsPrintableNode kinds) (map (node_in known) ds) (each_map (GoodDraft kinds) (IsPrintableNode kinds) (node_in known) (node_printable kinds known) ds good);
   agents = subst (λ (c : ℕ). c ≤ 64) (sym (total_map (λ (n : NodeDecl). cond (is_agent n.role) 1 0) (node_in known) one_agent (λ d. refl) 0 ds)) counts.agents;
   units = subst (λ (c : ℕ). c ≤ 64) (sym (total_map (λ (n : NodeDecl). cond (is_unit n.role) 1 0) (node_in known) one_unit (λ d. refl) 0 ds)) counts.units;
-  parts = subst (λ (c : ℕ). c ≤ 16384) (sym (total_map (λ n. n) parts_of_node parts_of_node (λ n. refl) 0 (map (node_in known) ds) ∙ total_map parts_of_node (node_in known) parts_of (parts_in known) 0 ds)) counts.parts;
+  parts = subst (λ (c : ℕ). c ≤ 16384) (sym (total_map (λ n. n) parts_of_node parts_of_node (λ n. refl) 0 (map (node_in known) ds) ∙ total_map parts_of_node (node_in known) parts_of_draft (parts_in known) 0 ds)) counts.parts;
 }
 
 -- the net of nodes that a text declares is printable

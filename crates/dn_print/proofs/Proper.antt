@@ -5,7 +5,7 @@ use Rattle.dn_base.proofs.Lists.{Each}
 use Rattle.dn_token.specs.declared.token.Keyword.{Keyword}
 use Rattle.dn_token.specs.declared.token.Sign.{Sign}
 use Rattle.dn_token.specs.declared.token.Sign.TheVariants.{Dots}
-use Rattle.dn_token.specs.Token.{Lexeme, Token, word, keyword, number, sign, Front, taken, bad, tokens, tokens_from, with_token, then_tokens, front, run, after_run, number_of, number_front, sign_front, sign_of, dots_or_sign, word_among, word_lexeme, reserved, fitting, is_hexadecimal, digits_number, hex_value, decimal_value, is_word_byte, is_letter, is_digit, is_line_feed, is_blank, is_slash, begins_with, after_comment}
+use Rattle.dn_token.specs.Token.{Lexeme, Token, word, keyword, number, sign, Front, taken, bad, tokens, tokens_from, with_token, then_tokens, front, word_run, after_run, number_of, number_front, sign_front, sign_of, dots_or_sign, word_among, word_lexeme, reserved_words, number_within, is_hexadecimal, digits_number, hex_value, decimal_value, is_word_byte, is_letter, is_digit, is_line_feed, is_blank, is_slash, begins_with, after_comment}
 use Rattle.dn_print.proofs.Titles.{Title}
 use Rattle.dn_print.proofs.Lexes.{letter_word}
 
@@ -29,7 +29,7 @@ word_or_keyword (r ∷ rs) w = go (bytes_eq w r.0) (word_or_keyword rs w)
 
 lexeme_or : (w : List ℕ) → (word_lexeme w ≡ word w) ⊎ ((k : Keyword) × (word_lexeme w ≡ keyword k))
 unfolding word_lexeme
-lexeme_or w = word_or_keyword reserved w
+lexeme_or w = word_or_keyword reserved_words w
 
 word_proper : (b : ℕ) (w : List ℕ) → is_letter b ≡ true → IsTrue (list_all is_word_byte w) → ProperLexeme (word_lexeme (b ∷ w))
 word_proper b w letter all = go (lexeme_or (b ∷ w))
@@ -48,12 +48,12 @@ front_all p (b ∷ s) = go (p b) refl (front_all p s)
         subst (λ (k : ℕ). IsTrue (list_all p (take k (b ∷ s)))) n (rw e more)
     go false e more = refl
 
-run_first : (b : ℕ) (s : List ℕ) → is_word_byte b ≡ true → run (b ∷ s) ≡ b ∷ run s
+run_first : (b : ℕ) (s : List ℕ) → is_word_byte b ≡ true → word_run (b ∷ s) ≡ b ∷ word_run s
 run_first b s h =
     let n : 1 + prefix_len is_word_byte s ≡ suc (prefix_len is_word_byte s) = omega arith in
     ap (λ (t : Bool). take (cond t (1 + prefix_len is_word_byte s) 0) (b ∷ s)) h ∙ ap (λ (k : ℕ). take k (b ∷ s)) n
 
-fitting_small : (o : Option ℕ) (n : ℕ) → fitting o ≡ Some n → n < 2 ^ 64
+fitting_small : (o : Option ℕ) (n : ℕ) → number_within o ≡ Some n → n < 2 ^ 64
 fitting_small None n e = cc
 fitting_small (Some m) n e = go (nat_lt m (2 ^ 64)) refl e
   where
@@ -84,11 +84,11 @@ dots_proper b s l rest e = go ((b == 46) && begins_with (λ c. c == 46) s) e
 front_proper : (b : ℕ) (s : List ℕ) (l : Lexeme) (rest : List ℕ) → front b s ≡ taken l rest → ProperLexeme l
 front_proper b s l rest e = go (is_letter b) refl (is_digit b) e
   where
-    go : (p : Bool) → is_letter b ≡ p → (q : Bool) → cond p (taken (word_lexeme (run (b ∷ s))) (after_run (b ∷ s))) (cond q (number_front (number_of (run (b ∷ s))) (after_run (b ∷ s))) (dots_or_sign b s)) ≡ taken l rest → ProperLexeme l
+    go : (p : Bool) → is_letter b ≡ p → (q : Bool) → cond p (taken (word_lexeme (word_run (b ∷ s))) (after_run (b ∷ s))) (cond q (number_front (number_of (word_run (b ∷ s))) (after_run (b ∷ s))) (dots_or_sign b s)) ≡ taken l rest → ProperLexeme l
     go true p q e =
-        let same : word_lexeme (run (b ∷ s)) ≡ l = cc in
-        subst ProperLexeme same (subst (λ (w : List ℕ). ProperLexeme (word_lexeme w)) (sym (run_first b s (letter_word b p))) (word_proper b (run s) p (front_all is_word_byte s)))
-    go false p true e = number_proper (number_of (run (b ∷ s))) (after_run (b ∷ s)) l rest (number_small (run (b ∷ s))) e
+        let same : word_lexeme (word_run (b ∷ s)) ≡ l = cc in
+        subst ProperLexeme same (subst (λ (w : List ℕ). ProperLexeme (word_lexeme w)) (sym (run_first b s (letter_word b p))) (word_proper b (word_run s) p (front_all is_word_byte s)))
+    go false p true e = number_proper (number_of (word_run (b ∷ s))) (after_run (b ∷ s)) l rest (number_small (word_run (b ∷ s))) e
     go false p false e = dots_proper b s l rest e
 
 then_proper : (line : ℕ) (fr : Front) (more : List ℕ → Result (List Token) ℕ) (ts : List Token) → ((l : Lexeme) (rest : List ℕ) → fr ≡ taken l rest → ProperLexeme l) → ((rest : List ℕ) (us : List Token) → more rest ≡ Ok us → Proper us) → then_tokens line fr more ≡ Ok ts → Proper ts

@@ -7,10 +7,10 @@ use Rattle.dn_token.specs.declared.token.Sign.{Sign}
 use Rattle.dn_token.specs.declared.token.Sign.TheVariants.{Semicolon, Comma, OpenBracket, CloseBracket, OpenParenthesis, CloseParenthesis, Minus, Plus, Times, Dot, Dots}
 use Rattle.dn_token.specs.Token.{Lexeme, Token, word, keyword, number, sign}
 use Rattle.dn_parse.specs.Tree.{Expression, expressions, Role, plain_role, agent_role, vectors_role, Declaration}
-use Rattle.dn_parse.specs.Actions.{summed, multiplied}
+use Rattle.dn_parse.specs.Actions.{sum_of_members, product_of_members}
 use Rattle.dn_parse.specs.Forms.{is_sign, is_the_word}
 use Rattle.dn_parse.specs.Machine.{Stop}
-use Rattle.dn_parse.specs.Descent.{and_then, word_of, any_of, Read, Next, Reader, optional, after, after_sign, after_keyword, after_word, or_refused, sign_at, keyword_at, the_word_at, word_at, any_word_at, value_or, value_at, with_front, row, row_from, row_at, one_more, after_comma, first_and, next_by, term_with, expr_with, after_open_with, at_sign, factor_of, factor_with, nested_at, factor_at, next_factor_at, factors_at, term_at, next_term_at, terms_at, expr_at, first_and_most, expr_after, in_brackets, index_at, part_at, next_part_at, name_at, upper_at, block_at, next_block_at, blocks_at, addr_at, dest_at, next_dest_at, dests_at, entry_at, next_entry_at, entries_at, accept_at, map_at, over_at, spec_at, param_at, next_param_at, params_at, closed_params_at, arg_at, next_arg_at, args_at, closed_args_at, next_port_at, ports_at, node_at, measure_at, unit_at, module_at, use_at, loop_at, mode_at, access_at, resolve_at, lookup_at, view_at, grant_at, route_at, order_at, as_declared, keyword_statement_at, statement_by, statement_at, whole_statement_at}
+use Rattle.dn_parse.specs.Descent.{and_then, word_of, any_of, Read, Next, Reader, if_there, after, after_sign, after_keyword, after_word, or_refused, sign_at, keyword_at, the_word_at, word_at, any_word_at, value_or_refused, value_at, with_front, row, row_from, row_at, one_more, after_comma, first_and, next_by, term_with, expr_with, after_open_with, at_sign, factor_of, factor_with, nested_at, factor_at, next_factor_at, factors_at, term_at, next_term_at, terms_at, expr_at, first_and_most, expr_after, in_brackets, index_at, part_at, next_part_at, name_at, upper_at, block_at, next_block_at, blocks_at, addr_at, dest_at, next_dest_at, dests_at, entry_at, next_entry_at, entries_at, accept_at, map_at, over_at, spec_at, param_at, next_param_at, params_at, closed_params_at, arg_at, next_arg_at, args_at, closed_args_at, next_port_at, ports_at, node_at, measure_at, unit_declaration_at, module_at, use_at, loop_at, mode_at, access_at, resolve_at, lookup_at, view_at, grant_at, route_at, order_at, as_declared, keyword_statement_at, statement_by, statement_at, whole_statement_at}
 use Rattle.dn_print.proofs.Titles.{Title}
 use Rattle.dn_print.proofs.Words.{IsWord, title_word, keyword_word}
 use Rattle.dn_print.proofs.Formed.{Maybe}
@@ -61,7 +61,7 @@ pass : {B : Type 0} {Q : B → Type 0} (r : Result (List Token) Stop) (f : List 
 pass (Ok ts) f h more = more ts h.it
 pass (Err s) f h more = record { it = tt }
 
-either_way : {B : Type 0} {Q : B → Type 0} (o : Option (List Token)) (f : List Token → Read B) (b : Read B) → Left o → ((rest : List Token) → Proper rest → Reads Q (f rest)) → Reads Q b → Reads Q (optional o f b)
+either_way : {B : Type 0} {Q : B → Type 0} (o : Option (List Token)) (f : List Token → Read B) (b : Read B) → Left o → ((rest : List Token) → Proper rest → Reads Q (f rest)) → Reads Q b → Reads Q (if_there o f b)
 either_way None f b h more other = other
 either_way (Some ts) f b h more other = more ts h.it
 
@@ -102,7 +102,7 @@ the_word_leaves : (w : List ℕ) (ts : List Token) → Proper ts → Leaves (the
 unfolding the_word_at
 the_word_leaves w ts h = or_leaves (after_word w ts) ts (the_word_left w ts h)
 
-or_value : {X : Type 0} {P : X → Type 0} (o : Option X) (ts all : List Token) → Maybe P o → Proper ts → Reads P (value_or o ts all)
+or_value : {X : Type 0} {P : X → Type 0} (o : Option X) (ts all : List Token) → Maybe P o → Proper ts → Reads P (value_or_refused o ts all)
 or_value None ts all h p = record { it = tt }
 or_value (Some x) ts all h p = given h p
 
@@ -135,7 +135,7 @@ more_next : {X : Type 0} {P : X → Type 0} (r : Read X) → Reads P r → Nexts
 more_next (Ok p) h = record { it = h.it }
 more_next (Err s) h = record { it = tt }
 
-optional_next : {X : Type 0} {P : X → Type 0} (o : Option (List Token)) (f : List Token → Next X) → Left o → ((rest : List Token) → Proper rest → Nexts P (f rest)) → Nexts P (optional o f (Ok None))
+optional_next : {X : Type 0} {P : X → Type 0} (o : Option (List Token)) (f : List Token → Next X) → Left o → ((rest : List Token) → Proper rest → Nexts P (f rest)) → Nexts P (if_there o f (Ok None))
 optional_next None f h more = record { it = tt }
 optional_next (Some ts) f h more = more ts h.it
 
@@ -175,12 +175,12 @@ all_small : (es : List Expression) → Each Small es → AllSmall (expressions e
 all_small [] h = tt
 all_small (e ∷ es) h = (h.0, all_small es h.1)
 
-multiplied_small : (es : List Expression) → Some1 Small es → Small (multiplied es)
+multiplied_small : (es : List Expression) → Some1 Small es → Small (product_of_members es)
 multiplied_small [] h = absurd h
 multiplied_small (e ∷ []) h = h.0
 multiplied_small (e ∷ f ∷ es) h = (h.0, (h.1.0, all_small es h.1.1))
 
-summed_small : (es : List Expression) → Some1 Small es → Small (summed es)
+summed_small : (es : List Expression) → Some1 Small es → Small (sum_of_members es)
 summed_small [] h = absurd h
 summed_small (e ∷ []) h = h.0
 summed_small (e ∷ f ∷ es) h = (h.0, (h.1.0, all_small es h.1.1))
@@ -308,8 +308,8 @@ ports_reads : (ts : List Token) → Proper ts → Reads (λ ps. Some1 GoodName p
 unfolding ports_at next_port_at
 ports_reads ts h = most_reads 7 (name_at 32) next_port_at (name_reads 32) (comma_nexts (name_at 32) (name_reads 32)) ts h
 
-unit_reads : (ts : List Token) → Proper ts → Reads GoodDeclaration (unit_at ts)
-unfolding unit_at
+unit_reads : (ts : List Token) → Proper ts → Reads GoodDeclaration (unit_declaration_at ts)
+unfolding unit_declaration_at
 unit_reads ts h = bind (name_at 32 ts) _ (name_reads 32 ts h) (λ n r p q. pass (keyword_at Kind r) _ (keyword_leaves Kind r q) (λ r0 q0. bind (any_word_at r0) _ (any_reads r0 q0) (λ k r1 p1 q1. bind (measure_at Page r1) _ (measure_reads Page r1 q1) (λ e r2 p2 q2. bind (measure_at Slots r2) _ (measure_reads Slots r2 q2) (λ f r3 p3 q3. bind (measure_at Reach r3) _ (measure_reads Reach r3 q3) (λ g r4 p4 q4. pass (keyword_at To r4) _ (keyword_leaves To r4 q4) (λ r5 q5. bind (ports_at r5) _ (ports_reads r5 q5) (λ ps r6 p6 q6. given (p, p1, some_each GoodName ps p6.0, p6.1, p6.2) q6))))))))
 
 param_reads : (ts : List Token) → Proper ts → Reads Any (param_at ts)
@@ -398,7 +398,7 @@ keyword_reads : (k : Keyword) (ts rest : List Token) → Proper rest → Reads G
 unfolding keyword_statement_at
 keyword_reads Agent ts rest h = declared_reads (node_at agent_role rest) (node_reads agent_role rest h)
 keyword_reads Vectors ts rest h = declared_reads (node_at vectors_role rest) (node_reads vectors_role rest h)
-keyword_reads UnitWord ts rest h = declared_reads (unit_at rest) (unit_reads rest h)
+keyword_reads UnitWord ts rest h = declared_reads (unit_declaration_at rest) (unit_reads rest h)
 keyword_reads Module ts rest h = module_reads rest h
 keyword_reads Use ts rest h = use_reads rest h
 keyword_reads For ts rest h = loop_reads rest h

@@ -6,7 +6,7 @@ use Rattle.dn_base.proofs.Booleans.{and_parts}
 use Rattle.dn_token.specs.declared.token.Keyword.{Keyword}
 use Rattle.dn_token.specs.declared.token.Keyword.TheVariants.{Agent, Vectors, Unit as UnitWord, Module, Use, For, In, End, Begin, Is, Accept, Map, To, And, At, Over, Kind, Page, Slots, Reach, As, Num, Node, Resolve, Lookup, View, Grant, Route, Revoke, Dump, Split, Absorb}
 use Rattle.std.proofs.lemmas.Slice.Eq.{bytes_eq-Decides}
-use Rattle.dn_token.specs.Token.{word, keyword, word_among, word_lexeme, reserved, is_digit, is_letter, is_word_byte}
+use Rattle.dn_token.specs.Token.{word, keyword, word_among, word_lexeme, reserved_words, is_digit, is_letter, is_word_byte}
 use Rattle.dn_token.specs.Words.{spelling}
 use Rattle.dn_parse.specs.Descent.{any_of}
 use Rattle.dn_print.specs.Spelled.{IsAnyWord}
@@ -23,7 +23,7 @@ abbrev AreSpelled : List (List ℕ × Keyword) → Type 0
 AreSpelled [] = Unit {0}
 AreSpelled (r ∷ rs) = (any_of (keyword r.1) ≡ Some r.0) × AreSpelled rs
 
-reserved_spelled : AreSpelled reserved
+reserved_spelled : AreSpelled reserved_words
 unfolding spelling
 reserved_spelled = (refl, (refl, (refl, (refl, (refl, (refl, (refl, (refl, (refl, (refl, (refl, (refl, (refl, (refl, (refl, (refl, (refl, (refl, (refl, (refl, (refl, (refl, (refl, (refl, (refl, (refl, (refl, (refl, (refl, (refl, (refl, (refl, tt))))))))))))))))))))))))))))))))
 
@@ -38,7 +38,7 @@ as_it_stands (r ∷ rs) h w = go (bytes_eq w r.0) refl (as_it_stands rs h.1 w)
 pub any_word : (w : List ℕ) → IsAnyWord w → IsWord w
 unfolding word_lexeme
 any_word [] h = absurd h
-any_word (b ∷ w) h = (h.0, h.1, as_it_stands reserved reserved_spelled (b ∷ w))
+any_word (b ∷ w) h = (h.0, h.1, as_it_stands reserved_words reserved_spelled (b ∷ w))
 
 pub word_any : (w : List ℕ) → IsWord w → IsAnyWord w
 word_any [] h = absurd h

@@ -1,7 +1,6 @@
 -- Nets that a text can say, by the net alone.
-use Rattle.std.specs.Prelude.{◌≡◌, ℕ, ◌+◌, ◌<◌, ◌≤◌, ◌^◌, if◌then◌else◌, List, [], map, length, sum, count_by, Option, Some, None, Ok, IsTrue}
+use Rattle.std.specs.Prelude.{◌≡◌, ℕ, ◌<◌, ◌≤◌, ◌^◌, List, [], map, length, sum, count_by, Option, Some, None, Ok, IsTrue}
 use Rattle.std.specs.List.{All}
-use Rattle.std.specs.Option.{is_some}
 use Rattle.dn_parse.specs.Tree.{Tree}
 use Rattle.dn_parse.specs.Whole.{text_reading}
 use Rattle.dn_net.specs.declared.node.Block.{Block}
@@ -11,8 +10,9 @@ use Rattle.dn_net.specs.declared.node.NodeDecl.{NodeDecl}
 use Rattle.dn_net.specs.declared.node.Unit.{Unit as UnitPart}
 use Rattle.dn_net.specs.Decode.{is_agent, is_closed, is_unit}
 use Rattle.dn_net.specs.Legal.{IsNet}
+use Rattle.dn_net.specs.Parts.{parts_of_node}
 use Rattle.dn_kind.specs.Kind.{Meaning, kind_place}
-use Rattle.dn_module.specs.Expand.{Outcome, expansion_of}
+use Rattle.dn_module.specs.Expand.{Expansion, expansion_of}
 use Rattle.dn_print.specs.Spelled.{IsAnyWord, IsFull}
 use Rattle.dn_print.specs.Statement.{kind_text, net_text}
 
@@ -50,10 +50,6 @@ pub record IsPrintableNode (kinds : List Meaning) (n : NodeDecl) : Type 0 where
   pub entries : All IsPrintableEntry n.entries
   pub unit : HasPrintableUnit kinds n.unit
 
--- the parts of a node: an accept block, a map entry and an `over` are one each
-abbrev pub parts_of_node : NodeDecl → ℕ
-parts_of_node n = length n.accepts + (length n.entries + (if is_some n.over then 1 else 0))
-
 -- A net that a text can say, where units are of these kinds: at most 1,024 formed nodes with
 -- different full names, each node to which one refers there, each node printable, and at most 64
 -- agents, 64 units and 16,384 parts.
@@ -74,7 +70,7 @@ GivesBack kinds text net =
 
 -- A net that came of a text is printable.
 abbrev pub TextsArePrintable : Type 0
-TextsArePrintable = (kinds : List Meaning) (text : List ℕ) (tree : Tree) (made : Outcome) →
+TextsArePrintable = (kinds : List Meaning) (text : List ℕ) (tree : Tree) (made : Expansion) →
     text_reading text ≡ Ok tree → expansion_of kinds tree ≡ Ok made → IsPrintable kinds made.net
 
 -- Reading and expanding the text of a printable net gives that net, with the same kinds of units,

@@ -6,7 +6,7 @@ use Rattle.dn_interval.specs.Listed.{Seen}
 pub use Rattle.dn_interval.specs.Rows.{ends_within as ends_exist}
 use Rattle.dn_net.specs.declared.node.NodeDecl.{NodeDecl}
 use Rattle.dn_print.specs.Names.{address_text, name_text}
-use Rattle.dn_print.specs.Statement.{joined}
+use Rattle.dn_print.specs.Statement.{joined_texts}
 
 -- a name of a row's first address
 abbrev pub end_text : List NodeDecl → End → List ℕ
@@ -14,7 +14,7 @@ end_text net e = name_text net (record { node = e.node; addr = e.base })
 
 -- the names of a row's first address, joined by commas
 abbrev pub ends_text : List NodeDecl → List End → List ℕ
-ends_text net es = joined (codes ", ") (end_text net) es
+ends_text net es = joined_texts (codes ", ") (end_text net) es
 
 -- a row: its first and its last address, and the names of the first
 abbrev pub row_text : List NodeDecl → Seen → List ℕ

@@ -13,14 +13,14 @@ use Rattle.dn_kind.specs.Kind.{Meaning}
 use Rattle.dn_print.specs.Names.{address_text, node_text}
 
 -- each item's text after a mark
-abbrev pub marked : {X : Type 0} → List ℕ → (X → List ℕ) → List X → List ℕ
-marked mark text [] = []
-marked mark text (x ∷ xs) = mark ++ (text x ++ marked mark text xs)
+abbrev pub marked_texts : {X : Type 0} → List ℕ → (X → List ℕ) → List X → List ℕ
+marked_texts mark text [] = []
+marked_texts mark text (x ∷ xs) = mark ++ (text x ++ marked_texts mark text xs)
 
 -- the items' texts with a mark between each two
-abbrev pub joined : {X : Type 0} → List ℕ → (X → List ℕ) → List X → List ℕ
-joined mark text [] = []
-joined mark text (x ∷ xs) = text x ++ marked mark text xs
+abbrev pub joined_texts : {X : Type 0} → List ℕ → (X → List ℕ) → List X → List ℕ
+joined_texts mark text [] = []
+joined_texts mark text (x ∷ xs) = text x ++ marked_texts mark text xs
 
 -- a block: its first and its last address, also where they are one
 abbrev pub block_text : Block → List ℕ
@@ -28,7 +28,7 @@ block_text b = address_text b.lo ++ (codes "-" ++ address_text b.hi)
 
 -- blocks, joined by commas
 abbrev pub blocks_text : List Block → List ℕ
-blocks_text bs = joined (codes ", ") block_text bs
+blocks_text bs = joined_texts (codes ", ") block_text bs
 
 -- the full name of the node of this number
 abbrev pub node_name : List NodeDecl → ℕ → List ℕ
@@ -40,7 +40,7 @@ dest_text net d = node_name net d.node ++ (codes " at " ++ address_text d.addr)
 
 -- destinations, joined by `and`
 abbrev pub dests_text : List NodeDecl → List Dest → List ℕ
-dests_text net ds = joined (codes " and ") (dest_text net) ds
+dests_text net ds = joined_texts (codes " and ") (dest_text net) ds
 
 -- an entry: the block and where it is sent
 abbrev pub entry_text : List NodeDecl → Entry → List ℕ
@@ -48,7 +48,7 @@ entry_text net e = block_text e.block ++ (codes " to " ++ dests_text net e.dests
 
 -- entries, joined by commas
 abbrev pub entries_text : List NodeDecl → List Entry → List ℕ
-entries_text net es = joined (codes ", ") (entry_text net) es
+entries_text net es = joined_texts (codes ", ") (entry_text net) es
 
 -- what a node accepts, where it accepts anything
 abbrev pub accept_text : List Block → List ℕ
@@ -81,7 +81,7 @@ kind_text kinds k = kind_name (slice_get kinds k)
 
 -- the full names of ports, joined by commas
 abbrev pub ports_text : List NodeDecl → List ℕ → List ℕ
-ports_text net ps = joined (codes ", ") (node_name net) ps
+ports_text net ps = joined_texts (codes ", ") (node_name net) ps
 
 -- the parts of a unit of a kind of this name
 abbrev pub unit_text : List ℕ → List NodeDecl → UnitPart → List ℕ
@@ -116,9 +116,9 @@ body_at kinds net None = []
 body_at kinds net (Some n) = body_text kinds net n n.unit
 
 -- a node's statement, where there is the node
-abbrev pub statement_at : List Meaning → List NodeDecl → Option NodeDecl → List ℕ
-statement_at kinds net None = []
-statement_at kinds net (Some n) = statement_text kinds net n
+abbrev pub statement_text_at : List Meaning → List NodeDecl → Option NodeDecl → List ℕ
+statement_text_at kinds net None = []
+statement_text_at kinds net (Some n) = statement_text kinds net n
 
 -- the text of a net whose units are of these kinds: each node's statement, in order
 abbrev pub net_text : List Meaning → List NodeDecl → List ℕ

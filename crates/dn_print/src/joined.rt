@@ -3,7 +3,7 @@
 ghost use Rattle.std.specs.Prelude.{◌≡◌, ◌++◌, length, OnOk, IsTrue};
 ghost use Rattle.std.specs.List.{list_all};
 ghost use Rattle.std.specs.String.{string_bytes};
-ghost use Rattle.dn_print.specs.Terms.{joined};
+ghost use Rattle.dn_print.specs.Terms.{joined_texts};
 
 use crate::OutOfMemory;
 use dn_net::net::Net;
@@ -35,7 +35,7 @@ pub fn write_joined<T: Item>(
 ) -> Result<(), OutOfMemory>
     requires { IsTrue (list_all (T.within (length net.now)) items.now) }
     ensures { OnOk result (string_bytes out.new ≡
-        string_bytes out.old ++ joined mark.now (T.text net.now) items.now) }
+        string_bytes out.old ++ joined_texts mark.now (T.text net.now) items.now) }
 {
     let [first, rest @ ..] = items else {
         return Ok(());

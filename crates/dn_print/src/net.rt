@@ -7,7 +7,7 @@ ghost use Rattle.std.specs.List.{All, list_all};
 ghost use Rattle.std.specs.String.{string_bytes};
 ghost use Rattle.dn_net.specs.Terms.{is_closed};
 ghost use Rattle.dn_kind.specs.Terms.{IsLawful, has_kind};
-ghost use Rattle.dn_print.specs.Terms.{body_at, net_text, parts_at, role_text, statement_at};
+ghost use Rattle.dn_print.specs.Terms.{body_at, net_text, parts_at, role_text, statement_text_at};
 
 use crate::{OutOfMemory, parts};
 use dn_kind::kinds::Kinds;
@@ -42,7 +42,7 @@ fn write_statement(out: &mut String, net: &Net, kinds: &Kinds, node: u16) -> Res
     requires lawful { All (λ k. IsLawful (meaning (k.vtable, k.value))) kinds.now.list.items }
     requires known { IsTrue
         (list_all (λ n. has_kind (length kinds.now.list.items) n.unit) net.now) }
-    ensures { OnOk result (string_bytes out.new ≡ string_bytes out.old ++ statement_at
+    ensures { OnOk result (string_bytes out.new ≡ string_bytes out.old ++ statement_text_at
         (map (λ k. meaning (k.vtable, k.value)) kinds.now.list.items) net.now (slice_get net.now node)) }
 {
     out.push_str(role_word(net.role(node)))?;

@@ -3,7 +3,7 @@
 ghost use Rattle.std.specs.Prelude.{◌≡◌, ◌++◌, length, map, nat_lt, IfOk, OnOk, IsTrue, is_ok};
 ghost use Rattle.std.specs.List.{list_all};
 ghost use Rattle.std.specs.String.{string_bytes};
-ghost use Rattle.dn_interval.specs.Terms.{seen_by};
+ghost use Rattle.dn_interval.specs.Terms.{seen_view};
 ghost use Rattle.dn_print.specs.Terms.{Appended, end_text, ends_exist, row_text, rows_text};
 
 use crate::OutOfMemory;
@@ -18,7 +18,7 @@ use std::alloc::Global;
 /// its first address joined by `, `. `Err` is want of memory.
 pub fn rows_text(alloc: Global, net: &Net, rows: &Rows) -> Result<Vec<u8>, OutOfMemory>
     requires { IsTrue (ends_exist (length net.now) rows.now) }
-    ensures { IfOk result (λ v. v.items ≡ rows_text net.now (map seen_by rows.now)) }
+    ensures { IfOk result (λ v. v.items ≡ rows_text net.now (map seen_view rows.now)) }
 {
     let text = rows_string(alloc, net, rows)?;
     Ok(text.into_bytes())
@@ -28,7 +28,7 @@ pub fn rows_text(alloc: Global, net: &Net, rows: &Rows) -> Result<Vec<u8>, OutOf
 pub fn push_rows(out: &mut String, net: &Net, rows: &Rows) -> Result<(), OutOfMemory>
     requires { IsTrue (ends_exist (length net.now) rows.now) }
     ensures { Appended (string_bytes out.old) (string_bytes out.new) (is_ok result)
-        (rows_text net.now (map seen_by rows.now)) }
+        (rows_text net.now (map seen_view rows.now)) }
 {
     let alloc = *out.allocator();
     let text = rows_string(alloc, net, rows)?;
@@ -38,7 +38,7 @@ pub fn push_rows(out: &mut String, net: &Net, rows: &Rows) -> Result<(), OutOfMe
 /// The rows as [`rows_text`] has them.
 fn rows_string(alloc: Global, net: &Net, rows: &Rows) -> Result<String, OutOfMemory>
     requires { IsTrue (ends_exist (length net.now) rows.now) }
-    ensures { IfOk result (λ text. string_bytes text ≡ rows_text net.now (map seen_by rows.now)) }
+    ensures { IfOk result (λ text. string_bytes text ≡ rows_text net.now (map seen_view rows.now)) }
 {
     let mut out = String::new(alloc);
     write_rows(&mut out, net, rows)?;
@@ -49,7 +49,7 @@ fn rows_string(alloc: Global, net: &Net, rows: &Rows) -> Result<String, OutOfMem
 fn write_rows(out: &mut String, net: &Net, rows: &Rows) -> Result<(), OutOfMemory>
     requires { IsTrue (ends_exist (length net.now) rows.now) }
     ensures { OnOk result (string_bytes out.new ≡
-        string_bytes out.old ++ rows_text net.now (map seen_by rows.now)) }
+        string_bytes out.old ++ rows_text net.now (map seen_view rows.now)) }
 {
     for row in rows.rows() {
         write_row(out, net, row)?;
@@ -61,7 +61,7 @@ fn write_rows(out: &mut String, net: &Net, rows: &Rows) -> Result<(), OutOfMemor
 fn write_row(out: &mut String, net: &Net, row: &Row) -> Result<(), OutOfMemory>
     requires { IsTrue (list_all (λ e. nat_lt e.node (length net.now)) row.now.ends) }
     ensures { OnOk result (string_bytes out.new ≡
-        string_bytes out.old ++ row_text net.now (seen_by row.now)) }
+        string_bytes out.old ++ row_text net.now (seen_view row.now)) }
 {
     let Span { lo, hi } = row.span();
     write_address(out, lo)?;

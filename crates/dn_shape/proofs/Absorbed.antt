@@ -13,7 +13,7 @@ use Rattle.dn_net.specs.Chain.{IsChain, ReachesWithin}
 use Rattle.dn_net.specs.Decode.{top, in_some_block, is_accepted, is_accepted_at, is_stop, is_stop_at, unit_of, is_agent, decode, sent_names, steps, Step, step_limit, Resolves, StopsAt}
 use Rattle.dn_net.specs.Legal.{IsLegalNet}
 use Rattle.dn_net.specs.Rules.{is_vectors}
-use Rattle.dn_net.specs.Walks.{Choice, mapped_by, over_gap, Leads}
+use Rattle.dn_net.specs.Walks.{Choice, mapped_by, over_gap, ChoiceLeads}
 use Rattle.dn_net.proofs.Chains.{chain_front}
 use Rattle.dn_net.proofs.Choices.{choice_of_step}
 use Rattle.dn_net.proofs.Members.{some_same}
@@ -92,7 +92,7 @@ never_leads m a n y h s =
     parts : (list_any (maps_to m) n.entries ≡ false) × (is_over_to m n.over ≡ false)
     parts = or_parts (list_any (maps_to m) n.entries) (is_over_to m n.over) h
 
-    by : (c : Choice) (b : Block) (d : Name) → Leads (Some n) c b d → (d.node == m) ≡ false
+    by : (c : Choice) (b : Block) (d : Name) → ChoiceLeads (Some n) c b d → (d.node == m) ≡ false
     by (mapped_by i j) b d l = ap (λ (z : Name). z.node == m) l.5 ∙ none_at (λ (t : Dest). t.node == m) l.0.dests j l.1 (none_at (maps_to m) n.entries i l.0 parts.0 l.2) l.3
     by (over_gap lo hi) b d l = ap (λ (z : Name). z.node == m) l.4 ∙ (ap (is_over_to m) (sym l.1) ∙ parts.1)
 

@@ -6,7 +6,7 @@ use Rattle.dn_base.specs.Members.{Member}
 use Rattle.dn_base.proofs.Booleans.{and_parts, and_from}
 use Rattle.dn_interval.specs.declared.row.End.{End}
 use Rattle.dn_interval.specs.declared.span.TheConstants.{TOP}
-use Rattle.dn_interval.specs.Rows.{moved as end_moved, AllAbove, Ascending, HasEnds}
+use Rattle.dn_interval.specs.Rows.{further_end as end_moved, AllAbove, Ascending, HasEnds}
 use Rattle.dn_interval.specs.Listed.{Seen, SeenApart, SeenGive}
 use Rattle.dn_interval.proofs.Fronts.{listed_are_normal}
 use Rattle.dn_interval.proofs.Normal.{member_moved}

@@ -10,7 +10,7 @@ use Rattle.dn_net.specs.declared.node.NodeDecl.{NodeDecl}
 use Rattle.dn_net.specs.Decode.{top, within, in_some_block, is_accepted_at}
 use Rattle.dn_net.specs.Rules.{block_in_range, KeepsNodeRules}
 use Rattle.dn_net.proofs.Apart.{node_apart}
-use Rattle.dn_net.specs.Walks.{cut_each, whole}
+use Rattle.dn_net.specs.Walks.{all_addresses, cut_each}
 use Rattle.dn_net.proofs.Gaps.{Stand, cut_each_stands, accepts_upward, cut_each_has, whole_has}
 use Rattle.dn_net.proofs.Least.{within_to}
 use Rattle.dn_walk.specs.Legs.{span_view}
@@ -18,7 +18,7 @@ use Rattle.dn_walk.proofs.Holes.{spans_are_left}
 use Rattle.dn_shape.specs.Split.{maximal_spans, StandApart, SpansAreMaximal}
 
 -- every address stands
-whole_stands : Stand 0 (whole ∷ [])
+whole_stands : Stand 0 (all_addresses ∷ [])
 whole_stands = ((omega arith), (omega arith), (omega arith), tt)
 
 stand_in_range : (from : ℕ) (bs : List Block) → Stand from bs → IsTrue (list_all block_in_range bs)
@@ -30,14 +30,14 @@ stand_apart from [] h = tt
 stand_apart from (b ∷ bs) h = (h.0, h.1, h.2, stand_apart (b.hi + 2) bs h.3)
 
 -- what blocks leave stands, and is in range
-left_stands : (bs : List Block) → IsTrue (list_all block_in_range bs) → Stand 0 (cut_each bs (whole ∷ []))
-left_stands bs all = cut_each_stands bs 0 (whole ∷ []) (accepts_upward bs all) whole_stands
+left_stands : (bs : List Block) → IsTrue (list_all block_in_range bs) → Stand 0 (cut_each bs (all_addresses ∷ []))
+left_stands bs all = cut_each_stands bs 0 (all_addresses ∷ []) (accepts_upward bs all) whole_stands
 
-left_in_range : (bs : List Block) → IsTrue (list_all block_in_range bs) → IsTrue (list_all block_in_range (cut_each bs (whole ∷ [])))
-left_in_range bs all = stand_in_range 0 (cut_each bs (whole ∷ [])) (left_stands bs all)
+left_in_range : (bs : List Block) → IsTrue (list_all block_in_range bs) → IsTrue (list_all block_in_range (cut_each bs (all_addresses ∷ [])))
+left_in_range bs all = stand_in_range 0 (cut_each bs (all_addresses ∷ [])) (left_stands bs all)
 
-left_has : (a : ℕ) (bs : List Block) → in_some_block a (cut_each bs (whole ∷ [])) ≡ (nat_le a top && not (in_some_block a bs))
-left_has a bs = cut_each_has a bs (whole ∷ []) ∙ ap (λ p. p && not (in_some_block a bs)) (whole_has a)
+left_has : (a : ℕ) (bs : List Block) → in_some_block a (cut_each bs (all_addresses ∷ [])) ≡ (nat_le a top && not (in_some_block a bs))
+left_has a bs = cut_each_has a bs (all_addresses ∷ []) ∙ ap (λ p. p && not (in_some_block a bs)) (whole_has a)
 
 twice : (p q : Bool) → (p && not (p && not q)) ≡ (p && q)
 twice true true = refl
@@ -47,7 +47,7 @@ twice false q = refl
 -- they have the addresses of the blocks, up to the last address
 pub spans_have : (a : ℕ) (bs : List Block) → in_some_block a (maximal_spans bs) ≡ (nat_le a top && in_some_block a bs)
 spans_have a bs =
-    left_has a (cut_each bs (whole ∷ []))
+    left_has a (cut_each bs (all_addresses ∷ []))
     ∙ ap (λ p. nat_le a top && not p) (left_has a bs)
     ∙ twice (nat_le a top) (in_some_block a bs)
 
@@ -72,17 +72,17 @@ low a bs all = by (nat_le a top) refl
     by false e = sym (in_range_low a bs all e)
 
 pub maximal_stand : (bs : List Block) → IsTrue (list_all block_in_range bs) → Stand 0 (maximal_spans bs)
-maximal_stand bs all = left_stands (cut_each bs (whole ∷ [])) (left_in_range bs all)
+maximal_stand bs all = left_stands (cut_each bs (all_addresses ∷ [])) (left_in_range bs all)
 
 pub maximal_in_range : (bs : List Block) → IsTrue (list_all block_in_range bs) → IsTrue (list_all block_in_range (maximal_spans bs))
-maximal_in_range bs all = left_in_range (cut_each bs (whole ∷ [])) (left_in_range bs all)
+maximal_in_range bs all = left_in_range (cut_each bs (all_addresses ∷ [])) (left_in_range bs all)
 
 pub spans_are_maximal : SpansAreMaximal
 spans_are_maximal bs all = (stand_apart 0 (maximal_spans bs) (maximal_stand bs all), λ a. spans_have a bs ∙ low a bs all)
 
 -- maximal spans that have what the blocks have
 pub spans_are : (bs : List Block) → IsTrue (list_all block_in_range bs) → (xs : List Span) → AreMaximal xs → ((a : ℕ) → a ≤ top → has xs a ≡ in_some_block a bs) → map span_view xs ≡ maximal_spans bs
-spans_are bs all xs maximal same = spans_are_left (cut_each bs (whole ∷ [])) (left_in_range bs all) xs maximal (λ a l. same a l ∙ sym (ap not (left_has a bs ∙ ap (λ p. p && not (in_some_block a bs)) (le-leb a top l)) ∙ not-not (in_some_block a bs)))
+spans_are bs all xs maximal same = spans_are_left (cut_each bs (all_addresses ∷ [])) (left_in_range bs all) xs maximal (λ a l. same a l ∙ sym (ap not (left_has a bs ∙ ap (λ p. p && not (in_some_block a bs)) (le-leb a top l)) ∙ not-not (in_some_block a bs)))
 
 there_is : (ns : List NodeDecl) (k : ℕ) → k < length ns → slice_get ns k ≡ None → ⊥
 there_is [] k l g = absurd (omega arith)

@@ -4,18 +4,19 @@ use Rattle.std.proofs.lemmas.Bool.{false≢true}
 use Rattle.dn_base.specs.Members.{Member}
 use Rattle.dn_interval.specs.declared.row.End.{End}
 use Rattle.dn_interval.specs.declared.span.TheConstants.{TOP}
-use Rattle.dn_interval.specs.Rows.{Ascending, moved as end_moved}
+use Rattle.dn_interval.specs.Rows.{Ascending, further_end as end_moved}
 use Rattle.dn_interval.specs.Listed.{Seen, SeenApart, SeenGive}
 use Rattle.dn_interval.proofs.Fronts.{listed_are_normal, none_below}
 use Rattle.dn_net.specs.declared.node.Name.{Name}
 use Rattle.dn_net.specs.declared.node.NodeDecl.{NodeDecl}
-use Rattle.dn_net.specs.Decode.{top, within, in_some_block, moved, by_entries, decode, sent_names, steps, Step}
+use Rattle.dn_net.specs.Decode.{top, within, in_some_block, dest_name, by_entries, decode, sent_names, steps, Step}
 use Rattle.dn_net.specs.Names.{each_step}
 use Rattle.dn_net.proofs.Ascending.{sorted_ascending}
 use Rattle.dn_net.proofs.Least.{within_from, within_to}
 use Rattle.dn_net.proofs.Resolution.{names_in, each_in}
 use Rattle.dn_walk.proofs.Ends.{end_in, ends_ascend}
-use Rattle.dn_shape.specs.Absorb.{names_past, steps_past, row_end, rows_past, dest_of_end, entry_of_row, node_led_past}
+use Rattle.dn_walk.specs.Ends.{end_of}
+use Rattle.dn_shape.specs.Absorb.{names_past, steps_past, rows_past, dest_of_end, entry_of_row, node_led_past}
 
 -- a name of a row as a name of the net
 abbrev pub end_name : End → Name
@@ -23,32 +24,32 @@ end_name e = record { node = e.node; addr = e.base }
 
 -- the names past a node, as the rows have them
 abbrev pub ends_past : List NodeDecl → ℕ → ℕ → ℕ → List End
-ends_past net m i a = map row_end (steps_past net m (record { node = i; addr = a }))
+ends_past net m i a = map end_of (steps_past net m (record { node = i; addr = a }))
 
 pub ends_past_ascend : (net : List NodeDecl) (m i a : ℕ) → Ascending (ends_past net m i a)
 ends_past_ascend net m i a = ends_ascend (steps_past net m (record { node = i; addr = a })) (sorted_ascending (each_step (names_past net m) (steps net (record { node = i; addr = a }))))
 
 -- the destinations of a row, moved on, are its names
-sent_of_row : (k : ℕ) (es : List End) (y : Name) → Member y (map (moved k) (map dest_of_end es)) ↔ Member (row_end y) (map (end_moved k) es)
+sent_of_row : (k : ℕ) (es : List End) (y : Name) → Member y (map (dest_name k) (map dest_of_end es)) ↔ Member (end_of y) (map (end_moved k) es)
 sent_of_row k [] y = ((λ m. m), (λ m. m))
 sent_of_row k (e ∷ es) y =
     let later = sent_of_row k es y in (
-      (λ m. elim m [ inl s ↦ inl (ap row_end s) | inr n ↦ inr (later.0 n) ]),
+      (λ m. elim m [ inl s ↦ inl (ap end_of s) | inr n ↦ inr (later.0 n) ]),
       (λ m. elim m [ inl s ↦ inl (ap end_name s) | inr n ↦ inr (later.1 n) ]),
     )
 
 -- an address goes by the row that has it to the names which the rows give
-by_rows : (from : ℕ) (rows : List Seen) → SeenApart from rows → (a : ℕ) (y : Name) → Member y (sent_names (by_entries a None (map entry_of_row rows))) ↔ SeenGive rows a (row_end y)
+by_rows : (from : ℕ) (rows : List Seen) → SeenApart from rows → (a : ℕ) (y : Name) → Member y (sent_names (by_entries a None (map entry_of_row rows))) ↔ SeenGive rows a (end_of y)
 by_rows from [] apart a y = ((λ m. m), (λ m. m))
 by_rows from (r ∷ rows) apart a y = by (within a (record { lo = r.lo; hi = r.hi })) refl (by_rows (suc r.hi) rows apart.6 a y)
   where
-    by : (b : Bool) → within a (record { lo = r.lo; hi = r.hi }) ≡ b → Member y (sent_names (by_entries a None (map entry_of_row rows))) ↔ SeenGive rows a (row_end y) → Member y (sent_names (if b then Some (record { dests = map dest_of_end r.ends; offset = a - r.lo }) else by_entries a None (map entry_of_row rows))) ↔ SeenGive (r ∷ rows) a (row_end y)
+    by : (b : Bool) → within a (record { lo = r.lo; hi = r.hi }) ≡ b → Member y (sent_names (by_entries a None (map entry_of_row rows))) ↔ SeenGive rows a (end_of y) → Member y (sent_names (if b then Some (record { dests = map dest_of_end r.ends; offset = a - r.lo }) else by_entries a None (map entry_of_row rows))) ↔ SeenGive (r ∷ rows) a (end_of y)
     by true w ih =
         let here = within_to a (record { lo = r.lo; hi = r.hi }) w in
         let sent = sent_of_row (a - r.lo) r.ends y in
         let high : a ≤ r.hi = here.1 in (
           (λ m. inl (here.0, here.1, sent.0 m)),
-          (λ g. elim g [ inl h ↦ sent.1 h.2 | inr h ↦ absurd (none_below (suc r.hi) rows apart.6 a (row_end y) (omega arith) h) ]),
+          (λ g. elim g [ inl h ↦ sent.1 h.2 | inr h ↦ absurd (none_below (suc r.hi) rows apart.6 a (end_of y) (omega arith) h) ]),
         )
     by false w ih = ((λ m. inr (ih.0 m)), (λ g. elim g [ inl h ↦ absurd (false≢true (sym w ∙ within_from a (record { lo = r.lo; hi = r.hi }) h.0 h.1)) | inr h ↦ ih.1 h ]))
 
@@ -76,6 +77,6 @@ led_steps net m i a n y at = by (nat_le a top) refl (in_some_block a n.accepts) 
         let normal = listed_are_normal (ends_past net m i) (ends_past_ascend net m i) in
         let rows = by_rows 0 (rows_past net m i) normal.0 a y in
         let low : a ≤ TOP = leb-true a top e in
-        let give = normal.1 a (row_end y) low in
+        let give = normal.1 a (end_of y) low in
         let same = end_in (steps_past net m (record { node = i; addr = a })) y in
         ((λ h. same.0 (give.1 (rows.0 h))), (λ h. rows.1 (give.0 (same.1 h))))

@@ -10,7 +10,7 @@ use Rattle.dn_interval.specs.declared.row.End.{End}
 use Rattle.dn_interval.specs.declared.row.Row.{Row}
 use Rattle.dn_interval.specs.declared.row.Seg.{Seg}
 use Rattle.dn_interval.specs.declared.span.TheConstants.{TOP}
-use Rattle.dn_interval.specs.Listed.{seen_by}
+use Rattle.dn_interval.specs.Listed.{seen_view}
 use Rattle.dn_interval.specs.Rows.{AreNormal, SegmentsGive}
 use Rattle.dn_interval.specs.Strands.{segs_give}
 use Rattle.dn_interval.proofs.Listing.{normal_are_listed}
@@ -22,7 +22,7 @@ use Rattle.dn_net.specs.declared.node.Name.{Name}
 use Rattle.dn_net.specs.declared.node.NodeDecl.{NodeDecl}
 use Rattle.dn_net.specs.Decode.{top, within, steps, Step}
 use Rattle.dn_net.specs.Rules.{KeepsNodeRules}
-use Rattle.dn_net.specs.Walks.{Leads, Follows, Leg as NetLeg, legs, legs_of, Walk, last_out, meets, onto, extended, still, stills, level, moved_name}
+use Rattle.dn_net.specs.Walks.{ChoiceLeads, Follows, Leg as NetLeg, legs, legs_of, Walk, last_out, meets, onto, extensions_of, still_walk, still_walks, level, moved_name}
 use Rattle.dn_net.proofs.Apart.{IsApart, node_apart}
 use Rattle.dn_net.proofs.Choices.{chain_is_walk, choice_of_step}
 use Rattle.dn_net.proofs.Least.{within_to}
@@ -32,51 +32,51 @@ use Rattle.dn_net.proofs.Members.{member_filter, filter_member, member_flat_map,
 use Rattle.dn_net.proofs.Resolution.{name_is}
 use Rattle.dn_walk.specs.declared.leg.Leg.{Leg}
 use Rattle.dn_walk.specs.declared.walks.WalkRow.{WalkRow}
-use Rattle.dn_walk.specs.Legs.{told_leg, told_legs, legs_by, AreLegs}
-use Rattle.dn_walk.specs.Levels.{told_onto, told_on}
-use Rattle.dn_walk.specs.Rows.{Told, row_view, told_by_walk}
-use Rattle.dn_walk.proofs.Bridge.{met_told, each_onto}
+use Rattle.dn_walk.specs.Legs.{bare_leg, bare_legs, legs_by, AreLegs}
+use Rattle.dn_walk.specs.Levels.{bare_onto, bare_extensions_by}
+use Rattle.dn_walk.specs.Rows.{BareWalk, bare_walk, row_view}
+use Rattle.dn_walk.proofs.Bridge.{met_bare, each_onto}
 use Rattle.dn_walk.proofs.Nodes.{legs_are, legs_of_node}
 use Rattle.dn_walk.proofs.Ends.{end_in}
 use Rattle.dn_shape.specs.Absorb.{steps_past, rows_past}
-use Rattle.dn_shape.specs.Past.{LeadOn, onward, walks_past, told_onward, told_gives, told_give}
+use Rattle.dn_shape.specs.Past.{LeadOn, onward, walks_past, bare_onward, bare_gives, bare_give}
 use Rattle.dn_shape.proofs.Passing.{end_name, ends_past, ends_past_ascend, past_in}
 
 -- what is told of the walks that go on by the legs of a node
-pub told_on_is : (w : Walk) (ls : List NetLeg) → told_on (map told_leg ls) (told_by_walk w) ≡ map told_by_walk (map (onto w) (filter (meets w) ls))
-told_on_is w ls = ap (map (told_onto (told_by_walk w))) (met_told w ls) ∙ each_onto w (filter (meets w) ls)
+pub bare_extensions_are : (w : Walk) (ls : List NetLeg) → bare_extensions_by (map bare_leg ls) (bare_walk w) ≡ map bare_walk (map (onto w) (filter (meets w) ls))
+bare_extensions_are w ls = ap (map (bare_onto (bare_walk w))) (met_bare w ls) ∙ each_onto w (filter (meets w) ls)
 
 -- what is told of the walks of one choice from a node
-pub first_told : (net : List NodeDecl) (i : ℕ) (ls : List Leg) → option_map told_legs (slice_get net i) ≡ Some ls → told_on ls (told_by_walk (still i)) ≡ map told_by_walk (extended net (still i))
-first_told net i ls e = by (slice_get net i) refl e
+pub first_bare : (net : List NodeDecl) (i : ℕ) (ls : List Leg) → option_map bare_legs (slice_get net i) ≡ Some ls → bare_extensions_by ls (bare_walk (still_walk i)) ≡ map bare_walk (extensions_of net (still_walk i))
+first_bare net i ls e = by (slice_get net i) refl e
   where
-    by : (o : Option NodeDecl) → slice_get net i ≡ o → option_map told_legs o ≡ Some ls → told_on ls (told_by_walk (still i)) ≡ map told_by_walk (extended net (still i))
+    by : (o : Option NodeDecl) → slice_get net i ≡ o → option_map bare_legs o ≡ Some ls → bare_extensions_by ls (bare_walk (still_walk i)) ≡ map bare_walk (extensions_of net (still_walk i))
     by None f e = cc
     by (Some n) f e =
-        let s : told_legs n ≡ ls = cc in
-        ap (λ l. told_on l (told_by_walk (still i))) (sym s) ∙ told_on_is (still i) (legs n) ∙ ap (λ o. map told_by_walk (map (onto (still i)) (filter (meets (still i)) (legs_of o)))) (sym f)
+        let s : bare_legs n ≡ ls = cc in
+        ap (λ l. bare_extensions_by l (bare_walk (still_walk i))) (sym s) ∙ bare_extensions_are (still_walk i) (legs n) ∙ ap (λ o. map bare_walk (map (onto (still_walk i)) (filter (meets (still_walk i)) (legs_of o)))) (sym f)
 
 -- and of a walk that goes on where it leads into the node
-pub onward_told : (net : List NodeDecl) (m : ℕ) (ls : List Leg) → option_map told_legs (slice_get net m) ≡ Some ls → (w : Walk) → told_onward ls m (told_by_walk w) ≡ map told_by_walk (onward net m w)
-onward_told net m ls e w = by (w.to.node == m) refl (slice_get net m) refl e
+pub onward_bare : (net : List NodeDecl) (m : ℕ) (ls : List Leg) → option_map bare_legs (slice_get net m) ≡ Some ls → (w : Walk) → bare_onward ls m (bare_walk w) ≡ map bare_walk (onward net m w)
+onward_bare net m ls e w = by (w.to.node == m) refl (slice_get net m) refl e
   where
-    by : (b : Bool) → (w.to.node == m) ≡ b → (o : Option NodeDecl) → slice_get net m ≡ o → option_map told_legs o ≡ Some ls → (if b then told_on ls (told_by_walk w) else told_by_walk w ∷ []) ≡ map told_by_walk (if b then extended net w else w ∷ [])
+    by : (b : Bool) → (w.to.node == m) ≡ b → (o : Option NodeDecl) → slice_get net m ≡ o → option_map bare_legs o ≡ Some ls → (if b then bare_extensions_by ls (bare_walk w) else bare_walk w ∷ []) ≡ map bare_walk (if b then extensions_of net w else w ∷ [])
     by false h o f e = refl
     by true h None f e = cc
     by true h (Some n) f e =
-        let s : told_legs n ≡ ls = cc in
+        let s : bare_legs n ≡ ls = cc in
         let g : slice_get net w.to.node ≡ Some n = ap (slice_get net) (eqb-true w.to.node m h) ∙ f in
-        ap (λ l. told_on l (told_by_walk w)) (sym s) ∙ told_on_is w (legs n) ∙ ap (λ o. map told_by_walk (map (onto w) (filter (meets w) (legs_of o)))) (sym g)
+        ap (λ l. bare_extensions_by l (bare_walk w)) (sym s) ∙ bare_extensions_are w (legs n) ∙ ap (λ o. map bare_walk (map (onto w) (filter (meets w) (legs_of o)))) (sym g)
 
-pub all_told : (net : List NodeDecl) (m : ℕ) (ls : List Leg) → option_map told_legs (slice_get net m) ≡ Some ls → (ws : List Walk) → flat_map (told_onward ls m) (map told_by_walk ws) ≡ map told_by_walk (flat_map (onward net m) ws)
-all_told net m ls e [] = refl
-all_told net m ls e (w ∷ ws) =
-    ap (λ x. x ++ flat_map (told_onward ls m) (map told_by_walk ws)) (onward_told net m ls e w)
-    ∙ ap (λ x. map told_by_walk (onward net m w) ++ x) (all_told net m ls e ws)
-    ∙ sym (map-append told_by_walk (onward net m w) (flat_map (onward net m) ws))
+pub all_bare : (net : List NodeDecl) (m : ℕ) (ls : List Leg) → option_map bare_legs (slice_get net m) ≡ Some ls → (ws : List Walk) → flat_map (bare_onward ls m) (map bare_walk ws) ≡ map bare_walk (flat_map (onward net m) ws)
+all_bare net m ls e [] = refl
+all_bare net m ls e (w ∷ ws) =
+    ap (λ x. x ++ flat_map (bare_onward ls m) (map bare_walk ws)) (onward_bare net m ls e w)
+    ∙ ap (λ x. map bare_walk (onward net m w) ++ x) (all_bare net m ls e ws)
+    ∙ sym (map-append bare_walk (onward net m w) (flat_map (onward net m) ws))
 
 -- the legs of a node, by its parts
-pub legs_read : (o : Option NodeDecl) (a : List Block) (e : List Entry) (v : Option ℕ) (ls : List Leg) → option_map (λ d. d.accepts) o ≡ Some a → option_map (λ d. d.entries) o ≡ Some e → option_map (λ d. d.over) o ≡ Some v → ls ≡ legs_by a e v → option_map told_legs o ≡ Some ls
+pub legs_read : (o : Option NodeDecl) (a : List Block) (e : List Entry) (v : Option ℕ) (ls : List Leg) → option_map (λ d. d.accepts) o ≡ Some a → option_map (λ d. d.entries) o ≡ Some e → option_map (λ d. d.over) o ≡ Some v → ls ≡ legs_by a e v → option_map bare_legs o ≡ Some ls
 legs_read None a e v ls p q r s = cc
 legs_read (Some d) a e v ls p q r s =
     let p' : d.accepts ≡ a = cc in
@@ -85,7 +85,7 @@ legs_read (Some d) a e v ls p q r s =
     ap Some (legs_are d ∙ ap (λ x. legs_by x d.entries d.over) p' ∙ ap (λ x. legs_by a x d.over) q' ∙ ap (λ x. legs_by a e x) r' ∙ sym s)
 
 -- by which walks go on
-pub legs_lead : (net : List NodeDecl) → KeepsNodeRules net → (i : ℕ) (ls : List Leg) → i < length net → option_map told_legs (slice_get net i) ≡ Some ls → LeadOn ls
+pub legs_lead : (net : List NodeDecl) → KeepsNodeRules net → (i : ℕ) (ls : List Leg) → i < length net → option_map bare_legs (slice_get net i) ≡ Some ls → LeadOn ls
 legs_lead net rules i ls l e = by (item_there net i l)
   where
     lead : AreLegs (length net) ls → LeadOn ls
@@ -93,54 +93,54 @@ legs_lead net rules i ls l e = by (item_there net i l)
 
     by : (n : NodeDecl) × (slice_get net i ≡ Some n) → LeadOn ls
     by (n, at) =
-        let s : ◌≡◌ {A = Option (List Leg)} (Some (told_legs n)) (Some ls) = ap (option_map told_legs) (sym at) ∙ e in
-        let t : told_legs n ≡ ls = cc in
+        let s : ◌≡◌ {A = Option (List Leg)} (Some (bare_legs n)) (Some ls) = ap (option_map bare_legs) (sym at) ∙ e in
+        let t : bare_legs n ≡ ls = cc in
         lead (subst (AreLegs (length net)) t (legs_of_node net rules i n at))
 
 -- rows that tell of walks
-row_walk : (ws : List Walk) (rows : List WalkRow) → map row_view rows ≡ map told_by_walk ws → (k : ℕ) (d : WalkRow) → k < length rows → (w : Walk) × Member w ws × (told_by_walk w ≡ row_view (get_or rows k d))
-row_walk ws rows e k d l = map_member told_by_walk ws (row_view (get_or rows k d)) (subst (λ x. Member (row_view (get_or rows k d)) x) e (member_map row_view rows (get_or rows k d) (member_get_or rows k d l)))
+row_walk : (ws : List Walk) (rows : List WalkRow) → map row_view rows ≡ map bare_walk ws → (k : ℕ) (d : WalkRow) → k < length rows → (w : Walk) × Member w ws × (bare_walk w ≡ row_view (get_or rows k d))
+row_walk ws rows e k d l = map_member bare_walk ws (row_view (get_or rows k d)) (subst (λ x. Member (row_view (get_or rows k d)) x) e (member_map row_view rows (get_or rows k d) (member_get_or rows k d l)))
 
-pub rows_far : (net : List NodeDecl) (ws : List Walk) (rows : List WalkRow) → ((w : Walk) → Member w ws → (k : ℕ) × IsRow net k w) → map row_view rows ≡ map told_by_walk ws → All (λ (r : WalkRow). r.base + (r.span.hi - r.span.lo) ≤ TOP) rows
+pub rows_far : (net : List NodeDecl) (ws : List Walk) (rows : List WalkRow) → ((w : Walk) → Member w ws → (k : ℕ) × IsRow net k w) → map row_view rows ≡ map bare_walk ws → All (λ (r : WalkRow). r.base + (r.span.hi - r.span.lo) ≤ TOP) rows
 rows_far net ws rows each e = λ k d l. far (get_or rows k d) (row_walk ws rows e k d l)
   where
-    far : (r : WalkRow) → (w : Walk) × Member w ws × (told_by_walk w ≡ row_view r) → r.base + (r.span.hi - r.span.lo) ≤ TOP
-    far r (w, m, t) = subst (λ (u : Told). u.base + (u.hi - u.lo) ≤ TOP) t (each w m).1.out
+    far : (r : WalkRow) → (w : Walk) × Member w ws × (bare_walk w ≡ row_view r) → r.base + (r.span.hi - r.span.lo) ≤ TOP
+    far r (w, m, t) = subst (λ (u : BareWalk). u.base + (u.hi - u.lo) ≤ TOP) t (each w m).1.out
 
-pub rows_short : (net : List NodeDecl) (ws : List Walk) (rows : List WalkRow) → ((w : Walk) → Member w ws → IsRow net 1 w) → map row_view rows ≡ map told_by_walk ws → All (λ (r : WalkRow). r.len ≤ 64) rows
+pub rows_short : (net : List NodeDecl) (ws : List Walk) (rows : List WalkRow) → ((w : Walk) → Member w ws → IsRow net 1 w) → map row_view rows ≡ map bare_walk ws → All (λ (r : WalkRow). r.len ≤ 64) rows
 rows_short net ws rows each e = λ k d l. short (get_or rows k d) (row_walk ws rows e k d l)
   where
-    short : (r : WalkRow) → (w : Walk) × Member w ws × (told_by_walk w ≡ row_view r) → r.len ≤ 64
+    short : (r : WalkRow) → (w : Walk) × Member w ws × (bare_walk w ≡ row_view r) → r.len ≤ 64
     short r (w, m, t) =
         let a : length w.choices ≡ 1 = (each w m).long in
-        let b : length w.choices ≡ r.len = ap (λ (u : Told). u.len) t in
+        let b : length w.choices ≡ r.len = ap (λ (u : BareWalk). u.len) t in
         omega arith
 
 -- one row more
-pub onward_more : (f : Told → List Told) (rows : List WalkRow) (i : ℕ) (r : WalkRow) → i < length rows → r ≡ get_or rows i r → flat_map f (map row_view (take (i + 1) rows)) ≡ flat_map f (map row_view (take i rows)) ++ f (row_view r)
+pub onward_more : (f : BareWalk → List BareWalk) (rows : List WalkRow) (i : ℕ) (r : WalkRow) → i < length rows → r ≡ get_or rows i r → flat_map f (map row_view (take (i + 1) rows)) ≡ flat_map f (map row_view (take i rows)) ++ f (row_view r)
 onward_more f rows i r l e =
     ap (λ x. flat_map f (map row_view x)) (take_more rows i r l ∙ ap (λ x. take i rows ++ x ∷ []) (sym e))
     ∙ ap (flat_map f) (map-append row_view (take i rows) (r ∷ []))
     ∙ flat_last f (map row_view (take i rows)) (row_view r)
   where
-    flat_last : (f : Told → List Told) (ts : List Told) (t : Told) → flat_map f (ts ++ t ∷ []) ≡ flat_map f ts ++ f t
+    flat_last : (f : BareWalk → List BareWalk) (ts : List BareWalk) (t : BareWalk) → flat_map f (ts ++ t ∷ []) ≡ flat_map f ts ++ f t
     flat_last f [] t = append-nil (f t)
     flat_last f (u ∷ ts) t = ap (λ x. f u ++ x) (flat_last f ts t) ∙ sym (append_assoc (f u) (flat_map f ts) (f t))
 
 -- the walk of no choice from a node that is there
-still_there : (k i : ℕ) (ds : List NodeDecl) → i < length ds → Member (still (k + i)) (stills k ds)
+still_there : (k i : ℕ) (ds : List NodeDecl) → i < length ds → Member (still_walk (k + i)) (still_walks k ds)
 still_there k i [] l = absurd (omega arith)
-still_there k zero (d ∷ ds) l = let s : k ≡ k + 0 = omega arith in inl (ap still s)
-still_there k (suc i) (d ∷ ds) l = let s : suc k + i ≡ k + suc i = omega arith in inr (subst (λ x. Member (still x) (stills (suc k) ds)) s (still_there (suc k) i ds (omega arith)))
+still_there k zero (d ∷ ds) l = let s : k ≡ k + 0 = omega arith in inl (ap still_walk s)
+still_there k (suc i) (d ∷ ds) l = let s : suc k + i ≡ k + suc i = omega arith in inr (subst (λ x. Member (still_walk x) (still_walks (suc k) ds)) s (still_there (suc k) i ds (omega arith)))
 
 -- the address follows what is told of a walk to a name
-pub gives_to : (w : Walk) (a : ℕ) (y : End) → told_gives (told_by_walk w) a y ≡ true → IsTrue (within a w.span) × (moved_name (a - w.span.lo) w.to ≡ end_name y)
+pub gives_to : (w : Walk) (a : ℕ) (y : End) → bare_gives (bare_walk w) a y ≡ true → IsTrue (within a w.span) × (moved_name (a - w.span.lo) w.to ≡ end_name y)
 gives_to w a y e =
     let p = and_parts (within a w.span) (nat_eq w.to.node y.node && nat_eq (w.to.addr + (a - w.span.lo)) y.base) e in
     let q = and_parts (nat_eq w.to.node y.node) (nat_eq (w.to.addr + (a - w.span.lo)) y.base) p.1 in
     (p.0, name_is w.to.node y.node (w.to.addr + (a - w.span.lo)) y.base (eqb-true w.to.node y.node q.0) (eqb-true (w.to.addr + (a - w.span.lo)) y.base q.1))
 
-pub gives_from : (w : Walk) (a : ℕ) (y : End) → IsTrue (within a w.span) → moved_name (a - w.span.lo) w.to ≡ end_name y → told_gives (told_by_walk w) a y ≡ true
+pub gives_from : (w : Walk) (a : ℕ) (y : End) → IsTrue (within a w.span) → moved_name (a - w.span.lo) w.to ≡ end_name y → bare_gives (bare_walk w) a y ≡ true
 gives_from w a y i e =
     and_from (within a w.span) (nat_eq w.to.node y.node && nat_eq (w.to.addr + (a - w.span.lo)) y.base) i
     (and_from (nat_eq w.to.node y.node) (nat_eq (w.to.addr + (a - w.span.lo)) y.base) (eq-eqb w.to.node y.node (ap (λ n. n.node) e)) (eq-eqb (w.to.addr + (a - w.span.lo)) y.base (ap (λ n. n.addr) e)))
@@ -149,27 +149,27 @@ module _ (net : List NodeDecl) (rules : KeepsNodeRules net) (m i : ℕ) (there :
   apart_at : (k : ℕ) (n : NodeDecl) → slice_get net k ≡ Some n → IsApart n
   apart_at k n at = node_apart net rules.each k n at
 
-  pub first_level : (w : Walk) → Member w (extended net (still i)) → Member w (level net 1)
+  pub first_level : (w : Walk) → Member w (extensions_of net (still_walk i)) → Member w (level net 1)
   first_level w h =
       let e : 0 + i ≡ i = omega arith in
-      flat_map_member (extended net) (level net 0) (still i) w (subst (λ k. Member (still k) (stills 0 net)) e (still_there 0 i net there)) h
+      flat_map_member (extensions_of net) (level net 0) (still_walk i) w (subst (λ k. Member (still_walk k) (still_walks 0 net)) e (still_there 0 i net there)) h
 
-  second_level : (v w : Walk) → Member v (extended net (still i)) → Member w (extended net v) → Member w (level net 2)
-  second_level v w g h = flat_map_member (extended net) (level net 1) v w (first_level v g) h
+  second_level : (v w : Walk) → Member v (extensions_of net (still_walk i)) → Member w (extensions_of net v) → Member w (level net 2)
+  second_level v w g h = flat_map_member (extensions_of net) (level net 1) v w (first_level v g) h
 
   -- each of the walks is a row of a level
   pub row_of_walk : (w : Walk) → Member w (walks_past net m i) → (k : ℕ) × IsRow net k w
   row_of_walk w h =
-      let r = member_flat_map (onward net m) (extended net (still i)) w h in
+      let r = member_flat_map (onward net m) (extensions_of net (still_walk i)) w h in
       by r.0 r.1 (r.0.to.node == m) r.2
     where
-      by : (v : Walk) → Member v (extended net (still i)) → (b : Bool) → Member w (if b then extended net v else v ∷ []) → (k : ℕ) × IsRow net k w
+      by : (v : Walk) → Member v (extensions_of net (still_walk i)) → (b : Bool) → Member w (if b then extensions_of net v else v ∷ []) → (k : ℕ) × IsRow net k w
       by v g true t = (2, level_is_row net rules 2 w (second_level v w g t))
-      by v g false (inl t) = (1, level_is_row net rules 1 w (first_level w (subst (λ u. Member u (extended net (still i))) t g)))
+      by v g false (inl t) = (1, level_is_row net rules 1 w (first_level w (subst (λ u. Member u (extensions_of net (still_walk i))) t g)))
       by v g false (inr t) = absurd t
 
   -- a leg of which a walk is made
-  leg_of : (v w : Walk) → Member w (extended net v) → (l : NetLeg) × Leads (slice_get net v.to.node) l.choice l.block l.to × (onto v l ≡ w)
+  leg_of : (v w : Walk) → Member w (extensions_of net v) → (l : NetLeg) × ChoiceLeads (slice_get net v.to.node) l.choice l.block l.to × (onto v l ≡ w)
   leg_of v w h =
       let p = map_member (onto v) (filter (meets v) (legs_of (slice_get net v.to.node))) w h in
       let q = member_filter (meets v) (legs_of (slice_get net v.to.node)) p.0 p.1 in
@@ -185,10 +185,10 @@ module _ (net : List NodeDecl) (rules : KeepsNodeRules net) (m i : ℕ) (there :
     here = record { node = i; addr = a }
 
     -- a name that one of the walks gives is one past the node
-    given_past : (y : Name) (v : Walk) → Member v (extended net (still i)) → (w : Walk) → (b : Bool) → (v.to.node == m) ≡ b → Member w (if b then extended net v else v ∷ []) → IsTrue (within a w.span) → moved_name (a - w.span.lo) w.to ≡ y → Member y (steps_past net m here)
+    given_past : (y : Name) (v : Walk) → Member v (extensions_of net (still_walk i)) → (w : Walk) → (b : Bool) → (v.to.node == m) ≡ b → Member w (if b then extensions_of net v else v ∷ []) → IsTrue (within a w.span) → moved_name (a - w.span.lo) w.to ≡ y → Member y (steps_past net m here)
     given_past y v g w false h (inr t) n e = absurd t
     given_past y v g w false h (inl t) n e =
-        let l = leg_of (still i) v g in
+        let l = leg_of (still_walk i) v g in
         let r = level_is_row net rules 1 v (first_level v g) in
         let n' : IsTrue (within a v.span) = subst (λ u. IsTrue (within a u.span)) (sym t) n in
         let e' : moved_name (a - v.span.lo) v.to ≡ y = subst (λ u. moved_name (a - u.span.lo) u.to ≡ y) (sym t) e in
@@ -197,13 +197,13 @@ module _ (net : List NodeDecl) (rules : KeepsNodeRules net) (m i : ℕ) (there :
         let away : (y.node == m) ≡ false = ap (λ (z : Name). z.node == m) (sym e') ∙ h in
         (past_in net m here y).1 (y, s, subst (λ c. Member y (if c then steps net y else y ∷ [])) (sym away) (inl refl))
       where
-        start : (v : Walk) (l : NetLeg) → onto (still i) l ≡ v → v.start ≡ i
+        start : (v : Walk) (l : NetLeg) → onto (still_walk i) l ≡ v → v.start ≡ i
         start v l e = ap (λ u. u.start) (sym e)
     given_past y v g w true h t n e =
-        let l = leg_of (still i) v g in
+        let l = leg_of (still_walk i) v g in
         let k = leg_of v w t in
         let r = level_is_row net rules 2 w (second_level v w g t) in
-        let made : onto (onto (still i) l.0) k.0 ≡ w = ap (λ u. onto u k.0) l.2 ∙ k.2 in
+        let made : onto (onto (still_walk i) l.0) k.0 ≡ w = ap (λ u. onto u k.0) l.2 ∙ k.2 in
         let start : w.start ≡ i = ap (λ u. u.start) (sym made) in
         let f : Follows net here w.choices y = subst (λ j. Follows net (record { node = j; addr = a }) w.choices y) start ((r.follows a y low).1 (n, e)) in
         let g' : Follows net here (l.0.choice ∷ (k.0.choice ∷ [])) y = subst (λ u. Follows net here u.choices y) (sym made) f in
@@ -217,8 +217,8 @@ module _ (net : List NodeDecl) (rules : KeepsNodeRules net) (m i : ℕ) (there :
     -- the walk of a step
     record Walks (z : Name) : Type 0 where
       leg : NetLeg
-      leads : Leads (slice_get net i) leg.choice leg.block leg.to
-      member : Member (onto (still i) leg) (extended net (still i))
+      leads : ChoiceLeads (slice_get net i) leg.choice leg.block leg.to
+      member : Member (onto (still_walk i) leg) (extensions_of net (still_walk i))
       inside : IsTrue (within a leg.block)
       to : moved_name (a - leg.block.lo) leg.to ≡ z
 
@@ -232,11 +232,11 @@ module _ (net : List NodeDecl) (rules : KeepsNodeRules net) (m i : ℕ) (there :
         let b1 : c.block.hi ≤ top = range.1 in
         let lo : 0 ≤ c.block.hi = omega arith in
         let hi : c.block.lo ≤ 0 + (top - 0) = omega arith in
-        let met : IsTrue (meets (still i) l) = and_from (nat_le 0 c.block.hi) (nat_le c.block.lo (0 + (top - 0))) (le-leb 0 c.block.hi lo) (le-leb c.block.lo (0 + (top - 0)) hi) in
+        let met : IsTrue (meets (still_walk i) l) = and_from (nat_le 0 c.block.hi) (nat_le c.block.lo (0 + (top - 0))) (le-leb 0 c.block.hi lo) (le-leb c.block.lo (0 + (top - 0)) hi) in
         record {
           leg = l;
           leads = c.leads;
-          member = member_map (onto (still i)) (filter (meets (still i)) (legs_of (slice_get net i))) l (filter_member (meets (still i)) (legs_of (slice_get net i)) l leg met);
+          member = member_map (onto (still_walk i)) (filter (meets (still_walk i)) (legs_of (slice_get net i))) l (filter_member (meets (still_walk i)) (legs_of (slice_get net i)) l leg met);
           inside = c.inside;
           to = c.to;
         }
@@ -256,24 +256,24 @@ module _ (net : List NodeDecl) (rules : KeepsNodeRules net) (m i : ℕ) (there :
         by : (z : Name) → Walks z → (b : Bool) → (z.node == m) ≡ b → Member y (if b then steps net z else z ∷ []) → Given y
         by z w false e (inr t) = absurd t
         by z w false e (inl t) =
-            let v : Walk = onto (still i) w.leg in
+            let v : Walk = onto (still_walk i) w.leg in
             let r = level_is_row net rules 1 v (first_level v w.member) in
             let f = (r.follows a z low).0 (w.leg.block, w.leg.to, w.leads, w.inside, w.to) in
             let away : (v.to.node == m) ≡ false = ap (λ (x : Name). x.node == m) w.to ∙ e in
             record {
               walk = v;
-              member = flat_map_member (onward net m) (extended net (still i)) v v w.member (subst (λ c. Member v (if c then extended net v else v ∷ [])) (sym away) (inl refl));
+              member = flat_map_member (onward net m) (extensions_of net (still_walk i)) v v w.member (subst (λ c. Member v (if c then extensions_of net v else v ∷ [])) (sym away) (inl refl));
               inside = f.0;
               to = f.1 ∙ t;
             }
         by z w true e t =
-            let v : Walk = onto (still i) w.leg in
+            let v : Walk = onto (still_walk i) w.leg in
             let r = level_is_row net rules 1 v (first_level v w.member) in
             let f = (r.follows a z low).0 (w.leg.block, w.leg.to, w.leads, w.inside, w.to) in
             let node : v.to.node ≡ z.node = ap (λ (x : Name). x.node) w.to in
             let c = choice_of_step (slice_get net z.node) z.addr y t in
             let k : NetLeg = record { choice = c.choice; block = c.block; to = c.name } in
-            let leads : Leads (slice_get net v.to.node) c.choice c.block c.name = subst (λ n. Leads (slice_get net n) c.choice c.block c.name) (sym node) c.leads in
+            let leads : ChoiceLeads (slice_get net v.to.node) c.choice c.block c.name = subst (λ n. ChoiceLeads (slice_get net n) c.choice c.block c.name) (sym node) c.leads in
             let leg : Member k (legs_of (slice_get net v.to.node)) = leg_of_leads (slice_get net v.to.node) (λ n e. apart_at v.to.node n e) c.choice c.block c.name leads in
             let i' = within_to a v.span f.0 in
             let lo : v.span.lo ≤ a = i'.0 in
@@ -285,7 +285,7 @@ module _ (net : List NodeDecl) (rules : KeepsNodeRules net) (m i : ℕ) (there :
             let m0 : v.to.addr ≤ c.block.hi = omega arith in
             let m1 : c.block.lo ≤ v.to.addr + (v.span.hi - v.span.lo) = omega arith in
             let met : IsTrue (meets v k) = and_from (nat_le v.to.addr c.block.hi) (nat_le c.block.lo (last_out v)) (le-leb v.to.addr c.block.hi m0) (le-leb c.block.lo (last_out v) m1) in
-            let on : Member (onto v k) (extended net v) = member_map (onto v) (filter (meets v) (legs_of (slice_get net v.to.node))) k (filter_member (meets v) (legs_of (slice_get net v.to.node)) k leg met) in
+            let on : Member (onto v k) (extensions_of net v) = member_map (onto v) (filter (meets v) (legs_of (slice_get net v.to.node))) k (filter_member (meets v) (legs_of (slice_get net v.to.node)) k leg met) in
             let s = level_is_row net rules 2 (onto v k) (second_level v (onto v k) w.member on) in
             let next : Follows net z (k.choice ∷ []) y = (c.block, c.name, c.leads, c.inside, c.to) in
             let both : Follows net here (w.leg.choice ∷ (k.choice ∷ [])) y = (w.leg.block, w.leg.to, w.leads, w.inside, subst (λ x. Follows net x (k.choice ∷ []) y) (sym w.to) next) in
@@ -293,36 +293,36 @@ module _ (net : List NodeDecl) (rules : KeepsNodeRules net) (m i : ℕ) (there :
             let into : (v.to.node == m) ≡ true = ap (λ (x : Name). x.node == m) w.to ∙ e in
             record {
               walk = onto v k;
-              member = flat_map_member (onward net m) (extended net (still i)) v (onto v k) w.member (subst (λ c. Member (onto v k) (if c then extended net v else v ∷ [])) (sym into) on);
+              member = flat_map_member (onward net m) (extensions_of net (still_walk i)) v (onto v k) w.member (subst (λ c. Member (onto v k) (if c then extensions_of net v else v ∷ [])) (sym into) on);
               inside = g.0;
               to = g.1;
             }
 
     -- the walks give exactly the names past the node
-    pub walks_give : (y : End) → (told_give (map told_by_walk (walks_past net m i)) a y ≡ true) ↔ Member y (ends_past net m i a)
+    pub walks_give : (y : End) → (bare_give (map bare_walk (walks_past net m i)) a y ≡ true) ↔ Member y (ends_past net m i a)
     walks_give y = (there', back)
       where
-        there' : told_give (map told_by_walk (walks_past net m i)) a y ≡ true → Member y (ends_past net m i a)
+        there' : bare_give (map bare_walk (walks_past net m i)) a y ≡ true → Member y (ends_past net m i a)
         there' h =
-            let r = any_member (λ t. told_gives t a y) (map told_by_walk (walks_past net m i)) h in
-            let w = map_member told_by_walk (walks_past net m i) r.0 r.1 in
-            let g = gives_to w.0 a y (ap (λ t. told_gives t a y) w.2 ∙ r.2) in
-            let f = member_flat_map (onward net m) (extended net (still i)) w.0 w.1 in
+            let r = any_member (λ t. bare_gives t a y) (map bare_walk (walks_past net m i)) h in
+            let w = map_member bare_walk (walks_past net m i) r.0 r.1 in
+            let g = gives_to w.0 a y (ap (λ t. bare_gives t a y) w.2 ∙ r.2) in
+            let f = member_flat_map (onward net m) (extensions_of net (still_walk i)) w.0 w.1 in
             (end_in (steps_past net m here) (end_name y)).1 (given_past (end_name y) f.0 f.1 w.0 (f.0.to.node == m) refl f.2 g.0 g.1)
 
-        back : Member y (ends_past net m i a) → told_give (map told_by_walk (walks_past net m i)) a y ≡ true
+        back : Member y (ends_past net m i a) → bare_give (map bare_walk (walks_past net m i)) a y ≡ true
         back h =
             let g = past_given (end_name y) ((end_in (steps_past net m here) (end_name y)).0 h) in
-            member_any (λ t. told_gives t a y) (map told_by_walk (walks_past net m i)) (told_by_walk g.walk) (member_map told_by_walk (walks_past net m i) g.walk g.member) (gives_from g.walk a y g.inside g.to)
+            member_any (λ t. bare_gives t a y) (map bare_walk (walks_past net m i)) (bare_walk g.walk) (member_map bare_walk (walks_past net m i) g.walk g.member) (gives_from g.walk a y g.inside g.to)
 
-pub first_row : (net : List NodeDecl) → KeepsNodeRules net → (i : ℕ) → i < length net → (w : Walk) → Member w (extended net (still i)) → IsRow net 1 w
+pub first_row : (net : List NodeDecl) → KeepsNodeRules net → (i : ℕ) → i < length net → (w : Walk) → Member w (extensions_of net (still_walk i)) → IsRow net 1 w
 first_row net rules i there w h = level_is_row net rules 1 w (first_level net rules i i there w h)
 
 -- normal rows of what the walks give are the rows past the node
-pub rows_are_past : (net : List NodeDecl) → KeepsNodeRules net → (m i : ℕ) → i < length net → (walks : List WalkRow) (segs : List Seg) (rows : List Row) → map row_view walks ≡ map told_by_walk (walks_past net m i) → ((a : ℕ) (y : End) → segs_give segs a y ≡ told_give (map row_view walks) a y) → AreNormal (SegmentsGive segs) rows → map seen_by rows ≡ rows_past net m i
+pub rows_are_past : (net : List NodeDecl) → KeepsNodeRules net → (m i : ℕ) → i < length net → (walks : List WalkRow) (segs : List Seg) (rows : List Row) → map row_view walks ≡ map bare_walk (walks_past net m i) → ((a : ℕ) (y : End) → segs_give segs a y ≡ bare_give (map row_view walks) a y) → AreNormal (SegmentsGive segs) rows → map seen_view rows ≡ rows_past net m i
 rows_are_past net rules m i there walks segs rows told give normal =
     normal_are_listed (ends_past net m i) (ends_past_ascend net m i) rows
     (normal_like (SegmentsGive segs) (λ a y. Member y (ends_past net m i a)) rows (λ a y low. (
-      (λ g. (walks_give net rules m i there a low y).0 (sym (ap (λ l. told_give l a y) told) ∙ (sym (give a y) ∙ segs_from segs a y g))),
-      (λ h. segs_to segs a y (give a y ∙ (ap (λ l. told_give l a y) told ∙ (walks_give net rules m i there a low y).1 h))),
+      (λ g. (walks_give net rules m i there a low y).0 (sym (ap (λ l. bare_give l a y) told) ∙ (sym (give a y) ∙ segs_from segs a y g))),
+      (λ h. segs_to segs a y (give a y ∙ (ap (λ l. bare_give l a y) told ∙ (walks_give net rules m i there a low y).1 h))),
     )) normal)

@@ -12,6 +12,7 @@ use Rattle.dn_net.specs.declared.node.NodeDecl.{NodeDecl}
 use Rattle.dn_net.specs.Decode.{steps, is_agent}
 use Rattle.dn_net.specs.Names.{each_step, sorted_names}
 use Rattle.dn_net.specs.Rules.{is_vectors}
+use Rattle.dn_walk.specs.Ends.{end_of}
 use Rattle.dn_shape.specs.declared.fault.Why.{Why}
 use Rattle.dn_shape.specs.declared.fault.Why.TheVariants.{Accepts, Agent, Unit, Port, SelfStep}
 use Rattle.dn_shape.specs.Limits.{passed_limit}
@@ -62,13 +63,9 @@ names_past net m x = if x.node == m then steps net x else x ∷ []
 abbrev pub steps_past : List NodeDecl → ℕ → Name → List Name
 steps_past net m x = sorted_names (each_step (names_past net m) (steps net x))
 
--- a name, as rows have it
-abbrev pub row_end : Name → End
-row_end x = record { node = x.node; base = x.addr }
-
 -- the names to which the addresses of a node decode past the absorbed one, as the fewest rows
 abbrev pub rows_past : List NodeDecl → ℕ → ℕ → List Seen
-rows_past net m i = listed_rows (λ a. map row_end (steps_past net m (record { node = i; addr = a })))
+rows_past net m i = listed_rows (λ a. map end_of (steps_past net m (record { node = i; addr = a })))
 
 -- a name of a row as a destination
 abbrev pub dest_of_end : End → Dest

@@ -1,9 +1,9 @@
 -- The limits that a net can pass when it is made of another.
 use Rattle.std.specs.Prelude.{ℕ, ◌+◌, Bool, if◌then◌else◌, nat_lt, List, [], ◌∷◌, length, Option, Some, None, Result, Ok, Err}
 use Rattle.std.specs.List.{list_any}
-use Rattle.std.specs.Option.{is_some}
 use Rattle.dn_net.specs.declared.node.NodeDecl.{NodeDecl}
 use Rattle.dn_net.specs.Legal.{node_limit}
+use Rattle.dn_net.specs.Parts.{parts_of_node}
 
 -- the most parts of a net
 abbrev pub part_limit : ℕ
@@ -12,10 +12,6 @@ part_limit = 16384
 -- the most destinations of an entry
 abbrev pub dest_limit : ℕ
 dest_limit = 8
-
--- the parts of a node: an accept block, a map entry and an `over` are one each
-abbrev pub parts_of_node : NodeDecl → ℕ
-parts_of_node n = length n.accepts + (length n.entries + (if is_some n.over then 1 else 0))
 
 -- the parts of all nodes
 abbrev pub parts_of_net : List NodeDecl → ℕ
@@ -34,6 +30,6 @@ passed_limit net =
     else (if list_any has_long_entry net then Some dest_limit else None))
 
 -- a value, or the limit that is passed
-abbrev pub by_limit : {X : Type 0} → X → Option ℕ → Result X ℕ
-by_limit x None = Ok x
-by_limit x (Some limit) = Err limit
+abbrev pub value_by_limit : {X : Type 0} → X → Option ℕ → Result X ℕ
+value_by_limit x None = Ok x
+value_by_limit x (Some limit) = Err limit

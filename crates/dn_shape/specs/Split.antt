@@ -11,13 +11,13 @@ use Rattle.dn_net.specs.declared.node.Role.TheVariants.{Plain}
 use Rattle.dn_net.specs.declared.node.NodeDecl.{NodeDecl}
 use Rattle.dn_net.specs.Decode.{top, in_some_block}
 use Rattle.dn_net.specs.Rules.{block_in_range}
-use Rattle.dn_net.specs.Walks.{cut_each, whole}
-use Rattle.dn_shape.specs.Limits.{passed_limit, by_limit}
+use Rattle.dn_net.specs.Walks.{all_addresses, cut_each}
+use Rattle.dn_shape.specs.Limits.{passed_limit, value_by_limit}
 
 -- the maximal spans of blocks, ascending: what is left of all addresses when all that the blocks
 -- leave is cut out
 abbrev pub maximal_spans : List Block → List Block
-maximal_spans blocks = cut_each (cut_each blocks (whole ∷ [])) (whole ∷ [])
+maximal_spans blocks = cut_each (cut_each blocks (all_addresses ∷ [])) (all_addresses ∷ [])
 
 -- the node has accept blocks, and a map or an `over`
 abbrev pub is_divided : NodeDecl → Bool
@@ -100,7 +100,7 @@ split_net net = with_accepters (sending_nodes (length net) net) net
 
 -- the split net, or the first limit that it passes
 abbrev pub split_outcome : List NodeDecl → Result (List NodeDecl) ℕ
-split_outcome net = by_limit (split_net net) (passed_limit (split_net net))
+split_outcome net = value_by_limit (split_net net) (passed_limit (split_net net))
 
 -- the name of a node, renamed to that of the node which accepts for it
 abbrev pub renamed_at : List NodeDecl → Name → Option NodeDecl → Name

@@ -6,7 +6,7 @@ ghost use Rattle.std.specs.Option.{option_copied};
 ghost use Rattle.dn_base.specs.Terms.{Answers};
 ghost use Rattle.dn_net.specs.Terms.{IsLegalNet, KeepsNodeRules, is_agent, is_vectors};
 ghost use Rattle.dn_shape.specs.Terms.{HaveEqualViews, IsRuledNet, LeadOn, absorb_fault_view, absorb_outcome, has_port, is_port, leads_to, maps_to, net_past, node_past, why_not_at};
-ghost use Rattle.dn_walk.specs.Terms.{told_legs};
+ghost use Rattle.dn_walk.specs.Terms.{bare_legs};
 
 use crate::copy::{node_copy, unit_copy};
 use crate::fault::{AbsorbFault, Why};
@@ -161,7 +161,7 @@ fn net_past(alloc: Global, net: &Net, past: u16) -> Result<Net, OutOfMemory>
 /// The net past a node with these legs.
 fn nodes_past(alloc: Global, net: &Net, past: u16, onward: &[Leg]) -> Result<Net, OutOfMemory>
     requires legal { IsLegalNet net.now }
-    requires onward { option_map told_legs (slice_get net.now past) ≡ Some onward.now }
+    requires onward { option_map bare_legs (slice_get net.now past) ≡ Some onward.now }
     requires lead { LeadOn onward.now }
     ensures { IfOk result (λ made. made ≡ net_past net.now past) }
 {
@@ -182,7 +182,7 @@ fn node_past(
     node: u16,
 ) -> Result<NodeDecl, OutOfMemory>
     requires rules { KeepsNodeRules net.now }
-    requires onward { option_map told_legs (slice_get net.now past) ≡ Some onward.now }
+    requires onward { option_map bare_legs (slice_get net.now past) ≡ Some onward.now }
     requires lead { LeadOn onward.now }
     requires there { node < length net.now }
     ensures { IfOk result (λ n. option_map (node_past net.now past node) (slice_get net.now node)

@@ -2,7 +2,8 @@
 
 ghost use Rattle.std.specs.Prelude.{◌≡◌, ◌<◌, length, slice_get, option_map, Some, nat_lt};
 ghost use Rattle.std.specs.List.{list_any};
-ghost use Rattle.dn_shape.specs.Terms.{dest_limit, has_long_entry, part_limit, parts_of_net, parts_of_node, passed_limit};
+ghost use Rattle.dn_net.specs.Terms.{parts_of_node};
+ghost use Rattle.dn_shape.specs.Terms.{dest_limit, has_long_entry, part_limit, parts_of_net, passed_limit};
 
 use dn_net::net::Net;
 use dn_net::node::Entry;

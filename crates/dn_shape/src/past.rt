@@ -3,10 +3,10 @@
 ghost use Rattle.std.specs.Prelude.{◌≡◌, ◌<◌, ◌≤◌, ◌+◌, ◌-◌, ◌++◌, ℕ, length, map, slice_get, option_map, Some, IfOk, OnOk};
 ghost use Rattle.std.specs.List.{All, flat_map};
 ghost use Rattle.dn_interval.specs.declared.row.End.{End};
-ghost use Rattle.dn_interval.specs.Terms.{seen_by, segs_give};
-ghost use Rattle.dn_net.specs.Terms.{KeepsNodeRules, extended, still};
-ghost use Rattle.dn_shape.specs.Terms.{LeadOn, dest_of_end, entry_of_row, rows_past, told_give, told_onward};
-ghost use Rattle.dn_walk.specs.Terms.{row_view, told_by_walk, told_legs, told_on};
+ghost use Rattle.dn_interval.specs.Terms.{seen_view, segs_give};
+ghost use Rattle.dn_net.specs.Terms.{KeepsNodeRules, extensions_of, still_walk};
+ghost use Rattle.dn_shape.specs.Terms.{LeadOn, bare_give, bare_onward, dest_of_end, entry_of_row, rows_past};
+ghost use Rattle.dn_walk.specs.Terms.{bare_extensions_by, bare_legs, bare_walk, row_view};
 
 use crate::spans::block_of;
 use dn_base::OutOfMemory;
@@ -29,7 +29,7 @@ pub(crate) fn entries_past(
     node: u16,
 ) -> Result<Items<Entry>, OutOfMemory>
     requires rules { KeepsNodeRules net.now }
-    requires onward { option_map told_legs (slice_get net.now past) ≡ Some onward.now }
+    requires onward { option_map bare_legs (slice_get net.now past) ≡ Some onward.now }
     requires lead { LeadOn onward.now }
     requires there { node < length net.now }
     ensures { IfOk result (λ es. es ≡ map entry_of_row (rows_past net.now past node)) }
@@ -52,7 +52,7 @@ fn walks_onward(
     requires far { All (λ r. r.base + (r.span.hi - r.span.lo) ≤ TOP) first.now }
     requires short { All (λ r. r.len ≤ 64) first.now }
     ensures { IfOk result (λ v. map row_view v.items
-        ≡ flat_map (told_onward legs.now past) (map row_view first.now)) }
+        ≡ flat_map (bare_onward legs.now past) (map row_view first.now)) }
 {
     let mut walks = Vec::new(alloc);
     for row in first {
@@ -66,7 +66,7 @@ fn first_walks(alloc: Global, net: &Net, node: u16) -> Result<Vec<WalkRow>, OutO
     requires rules { KeepsNodeRules net.now }
     requires there { node < length net.now }
     ensures walks { IfOk result (λ v. map row_view v.items
-        ≡ map told_by_walk (extended net.now (still node))) }
+        ≡ map bare_walk (extensions_of net.now (still_walk node))) }
     ensures far { IfOk result (λ v. All (λ r. r.base + (r.span.hi - r.span.lo) ≤ TOP) v.items) }
     ensures short { IfOk result (λ v. All (λ r. r.len ≤ 64) v.items) }
 {
@@ -87,7 +87,7 @@ fn first_walks(alloc: Global, net: &Net, node: u16) -> Result<Vec<WalkRow>, OutO
 pub(crate) fn legs_of(alloc: Global, net: &Net, node: u16) -> Result<Items<Leg>, OutOfMemory>
     requires rules { KeepsNodeRules net.now }
     requires there { node < length net.now }
-    ensures legs { IfOk result (λ ls. option_map told_legs (slice_get net.now node) ≡ Some ls) }
+    ensures legs { IfOk result (λ ls. option_map bare_legs (slice_get net.now node) ≡ Some ls) }
     ensures lead { IfOk result (λ ls. LeadOn ls) }
 {
     node_legs(alloc, net.accepts(node), net.entries(node), net.over(node))
@@ -105,7 +105,7 @@ fn push_onward(
     requires reach { row.now.base + (row.now.span.hi - row.now.span.lo) ≤ TOP }
     requires short { row.now.len ≤ 64 }
     ensures { OnOk result (map row_view walks.new.items
-        ≡ map row_view walks.old.items ++ told_onward legs.now past (row_view row.now)) }
+        ≡ map row_view walks.old.items ++ bare_onward legs.now past (row_view row.now)) }
 {
     if row.end == past {
         return push_walks(row, legs, walks);
@@ -120,7 +120,7 @@ fn push_walks(row: &WalkRow, legs: &[Leg], walks: &mut Vec<WalkRow>) -> Result<(
     requires reach { row.now.base + (row.now.span.hi - row.now.span.lo) ≤ TOP }
     requires short { row.now.len ≤ 64 }
     ensures { OnOk result (map row_view walks.new.items
-        ≡ map row_view walks.old.items ++ told_on legs.now (row_view row.now)) }
+        ≡ map row_view walks.old.items ++ bare_extensions_by legs.now (row_view row.now)) }
 {
     extend_row(row, met_by(row, legs), walks)
 }
@@ -129,7 +129,7 @@ fn push_walks(row: &WalkRow, legs: &[Leg], walks: &mut Vec<WalkRow>) -> Result<(
 fn segs_of(alloc: Global, walks: &[WalkRow]) -> Result<Vec<Seg>, OutOfMemory>
     requires { All (λ r. r.base + (r.span.hi - r.span.lo) ≤ TOP) walks.now }
     ensures { IfOk result (λ segs. (a : ℕ) (y : End) → segs_give segs.items a y
-        ≡ told_give (map row_view walks.now) a y) }
+        ≡ bare_give (map row_view walks.now) a y) }
 {
     let mut segs = Vec::with_capacity(alloc, walks.len())?;
     for row in walks {
@@ -144,7 +144,7 @@ fn segs_of(alloc: Global, walks: &[WalkRow]) -> Result<Vec<Seg>, OutOfMemory>
 
 /// The rows, as map entries.
 fn entries_of(alloc: Global, rows: &[Row]) -> Result<Items<Entry>, OutOfMemory>
-    ensures { IfOk result (λ es. es ≡ map entry_of_row (map seen_by rows.now)) }
+    ensures { IfOk result (λ es. es ≡ map entry_of_row (map seen_view rows.now)) }
 {
     let mut entries = Vec::with_capacity(alloc, rows.len())?;
     for row in rows {

@@ -13,36 +13,36 @@ use Rattle.dn_base.specs.declared.device.UnitWords.{UnitWords}
 use Rattle.dn_net.specs.declared.node.NodeDecl.{NodeDecl}
 use Rattle.dn_net.specs.declared.node.Unit.{Unit as UnitPart}
 use Rattle.dn_net.specs.Decode.{unit_at, unit_of}
-use Rattle.dn_kind.specs.Kind.{Meaning, IsLawful, is_plain}
+use Rattle.dn_kind.specs.Kind.{Meaning, IsLawful, is_plain_unit_shape}
 use Rattle.dn_kind.specs.Units.{KeepsUnitShape, has_shape, is_shaped, fits_shape, unit_shape}
 use Rattle.dn_kind.proofs.Held.{kind_lawful}
 use Rattle.std.proofs.Math.Nat.{mul-le-mul_right}
 use Rattle.dn_kind.specs.declared.shape.Shape.{Shape}
 use Rattle.dn_tables.proofs.Kept.{IsSizedUnit, sized_unit}
 use Rattle.dn_tables.specs.declared.table.NodeTable.{NodeTable}
-use Rattle.dn_tables.specs.Set.{is_sized, is_sized_by, fits_by, fits_kinds, is_wide, width_by, fresh_by, fresh_set, unused, units_of, IsSet, FitsNet, is_zero, table_on_device, tables_from, tables_of_set, IsOnDevice}
+use Rattle.dn_tables.specs.Set.{is_sized, is_sized_by, fits_by, fits_kinds, is_wide, width_by, fresh_by, fresh_set, no_use, units_of, IsSet, FitsNet, is_zero, table_on_device, tables_from, tables_of_set, IsOnDevice}
 use Rattle.dn_tables.specs.Writes.{make_event, AreUnitsMade}
 
 -- a unit that is shaped has a kind
 pub kind_there : (kinds : List Meaning) (u : UnitPart) → IsTrue (is_shaped kinds u) → (kind : Meaning) × (slice_get kinds u.kind ≡ Some kind)
-kind_there kinds u s = by (slice_get kinds u.kind) refl (and_parts (is_plain (unit_shape u)) (fits_shape (slice_get kinds u.kind) (unit_shape u)) s).1
+kind_there kinds u s = by (slice_get kinds u.kind) refl (and_parts (is_plain_unit_shape (unit_shape u)) (fits_shape (slice_get kinds u.kind) (unit_shape u)) s).1
   where
     by : (k : Option Meaning) → slice_get kinds u.kind ≡ k → IsTrue (fits_shape k (unit_shape u)) → (kind : Meaning) × (slice_get kinds u.kind ≡ Some kind)
     by None e f = cc
     by (Some kind) e f = (kind, e)
 
-pub plain_there : (kinds : List Meaning) (u : UnitPart) → IsTrue (is_shaped kinds u) → IsTrue (is_plain (unit_shape u))
-plain_there kinds u s = (and_parts (is_plain (unit_shape u)) (fits_shape (slice_get kinds u.kind) (unit_shape u)) s).0
+pub plain_there : (kinds : List Meaning) (u : UnitPart) → IsTrue (is_shaped kinds u) → IsTrue (is_plain_unit_shape (unit_shape u))
+plain_there kinds u s = (and_parts (is_plain_unit_shape (unit_shape u)) (fits_shape (slice_get kinds u.kind) (unit_shape u)) s).0
 
-sized_by_width : (u : UnitPart) (w : ℕ) → IsTrue (is_plain (unit_shape u)) → 1 ≤ w → w ≤ 4 → is_sized_by (record { unit = Some u; width = w; words = replicate (u.slots * w) 0; uses = replicate u.slots unused }) (Some u) ≡ true
+sized_by_width : (u : UnitPart) (w : ℕ) → IsTrue (is_plain_unit_shape (unit_shape u)) → 1 ≤ w → w ≤ 4 → is_sized_by (record { unit = Some u; width = w; words = replicate (u.slots * w) 0; uses = replicate u.slots no_use }) (Some u) ≡ true
 sized_by_width u w plain least most =
-    and_from (is_plain (unit_shape u) && nat_le 1 w && nat_le w 4 && (length (replicate (u.slots * w) 0) == u.slots * w)) (length (replicate u.slots unused) == u.slots)
-    (and_from (is_plain (unit_shape u) && nat_le 1 w && nat_le w 4) (length (replicate (u.slots * w) 0) == u.slots * w)
-    (and_from (is_plain (unit_shape u) && nat_le 1 w) (nat_le w 4)
-    (and_from (is_plain (unit_shape u)) (nat_le 1 w) plain (le-leb 1 w least))
+    and_from (is_plain_unit_shape (unit_shape u) && nat_le 1 w && nat_le w 4 && (length (replicate (u.slots * w) 0) == u.slots * w)) (length (replicate u.slots no_use) == u.slots)
+    (and_from (is_plain_unit_shape (unit_shape u) && nat_le 1 w && nat_le w 4) (length (replicate (u.slots * w) 0) == u.slots * w)
+    (and_from (is_plain_unit_shape (unit_shape u) && nat_le 1 w) (nat_le w 4)
+    (and_from (is_plain_unit_shape (unit_shape u)) (nat_le 1 w) plain (le-leb 1 w least))
     (le-leb w 4 most))
     (eq-eqb (length (replicate (u.slots * w) 0)) (u.slots * w) (length-replicate (u.slots * w) 0)))
-    (eq-eqb (length (replicate u.slots unused)) u.slots (length-replicate u.slots unused))
+    (eq-eqb (length (replicate u.slots no_use)) u.slots (length-replicate u.slots no_use))
 
 fresh_sized : (kinds : List Meaning) → All IsLawful kinds → (o : Option UnitPart) → ((u : UnitPart) → o ≡ Some u → IsTrue (is_shaped kinds u)) → is_sized (fresh_by kinds o) ≡ true
 fresh_sized kinds lawful None shaped = refl
@@ -173,7 +173,7 @@ few_words t s = go t.unit s
         let m : u.slots * t.width ≤ 262144 * t.width = mul-le-mul_right t.width slots in
         omega arith
       where
-        plain_slots : (shape : Shape) → IsTrue (is_plain shape) → shape.slots ≤ 262144
+        plain_slots : (shape : Shape) → IsTrue (is_plain_unit_shape shape) → shape.slots ≤ 262144
         plain_slots shape p = grind arith
 
 -- words that are 0

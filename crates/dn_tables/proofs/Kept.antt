@@ -7,7 +7,7 @@ use Rattle.std.proofs.Math.Nat.{mul-le-mul_right, suc-mul}
 use Rattle.dn_base.proofs.Booleans.{and_parts, and_from}
 use Rattle.dn_base.proofs.Lists.{list_all-at}
 use Rattle.dn_net.specs.declared.node.Unit.{Unit as UnitPart}
-use Rattle.dn_kind.specs.Kind.{is_plain}
+use Rattle.dn_kind.specs.Kind.{is_plain_unit_shape}
 use Rattle.dn_kind.specs.Units.{unit_shape}
 use Rattle.dn_tables.specs.declared.table.NodeTable.{NodeTable}
 use Rattle.dn_tables.specs.Set.{HasSlot, is_sized, is_sized_by, with_table, unit_of_table, unit_in, has_slot_by, has_slot, IsSet}
@@ -65,7 +65,7 @@ sized_alike t t' (Some u) w m n = rw (w, m, n) refl
 
 -- the sizes of a unit's table
 pub record IsSizedUnit (t : NodeTable) (u : UnitPart) : Type 0 where
-  pub plain : IsTrue (is_plain (unit_shape u))
+  pub plain : IsTrue (is_plain_unit_shape (unit_shape u))
   pub least : 1 ≤ t.width
   pub most : t.width ≤ 4
   pub words : length t.words ≡ u.slots * t.width
@@ -74,11 +74,11 @@ pub record IsSizedUnit (t : NodeTable) (u : UnitPart) : Type 0 where
 -- what is known of the table of a unit that is sized
 pub sized_unit : (t : NodeTable) (u : UnitPart) → IsTrue (is_sized_by t (Some u)) → IsSizedUnit t u
 sized_unit t u s =
-    let plain : Bool = is_plain (unit_shape u) in
-    let a = and_parts (is_plain (unit_shape u) && nat_le 1 t.width && nat_le t.width 4 && (length t.words == u.slots * t.width)) (length t.uses == u.slots) s in
-    let b = and_parts (is_plain (unit_shape u) && nat_le 1 t.width && nat_le t.width 4) (length t.words == u.slots * t.width) a.0 in
-    let d = and_parts (is_plain (unit_shape u) && nat_le 1 t.width) (nat_le t.width 4) b.0 in
-    let e = and_parts (is_plain (unit_shape u)) (nat_le 1 t.width) d.0 in
+    let plain : Bool = is_plain_unit_shape (unit_shape u) in
+    let a = and_parts (is_plain_unit_shape (unit_shape u) && nat_le 1 t.width && nat_le t.width 4 && (length t.words == u.slots * t.width)) (length t.uses == u.slots) s in
+    let b = and_parts (is_plain_unit_shape (unit_shape u) && nat_le 1 t.width && nat_le t.width 4) (length t.words == u.slots * t.width) a.0 in
+    let d = and_parts (is_plain_unit_shape (unit_shape u) && nat_le 1 t.width) (nat_le t.width 4) b.0 in
+    let e = and_parts (is_plain_unit_shape (unit_shape u)) (nat_le 1 t.width) d.0 in
     record {
       plain = e.0;
       least = leb-true 1 t.width e.1;

@@ -6,7 +6,7 @@ use Rattle.dn_base.specs.declared.device.UnitWords.{UnitWords}
 use Rattle.dn_net.specs.declared.node.NodeDecl.{NodeDecl}
 use Rattle.dn_net.specs.declared.node.Unit.{Unit as UnitPart}
 use Rattle.dn_kind.specs.declared.unit_kind.Record.{Record}
-use Rattle.dn_kind.specs.Kind.{Meaning, IsPackable, is_plain}
+use Rattle.dn_kind.specs.Kind.{Meaning, IsPackable, is_plain_unit_shape}
 use Rattle.dn_kind.specs.Tables.{record_of_unit, slot_words}
 use Rattle.dn_kind.specs.Units.{unit_shape}
 use Rattle.dn_tables.specs.declared.table.SlotUse.{SlotUse}
@@ -19,7 +19,7 @@ use Rattle.dn_tables.specs.declared.table.NodeTable.{NodeTable}
 abbrev pub is_sized_by : NodeTable → Option UnitPart → Bool
 is_sized_by t None = (length t.words == 0) && (length t.uses == 0)
 is_sized_by t (Some u) =
-    is_plain (unit_shape u) && nat_le 1 t.width && nat_le t.width 4
+    is_plain_unit_shape (unit_shape u) && nat_le 1 t.width && nat_le t.width 4
     && (length t.words == u.slots * t.width) && (length t.uses == u.slots)
 
 -- the table of a node has the words and the uses that the node asks for
@@ -59,8 +59,8 @@ abbrev pub width_in : List NodeTable → ℕ → ℕ
 width_in set node = width_of_table (slice_get set node)
 
 -- a slot that no live grant uses
-abbrev pub unused : SlotUse
-unused = record { uses = 0; owner = None }
+abbrev pub no_use : SlotUse
+no_use = record { uses = 0; owner = None }
 
 -- the uses of a table, where there is one
 abbrev pub uses_of_table : Option NodeTable → List SlotUse
@@ -69,7 +69,7 @@ uses_of_table (Some t) = t.uses
 
 -- the use of a slot
 abbrev pub use_in : List NodeTable → ℕ → ℕ → SlotUse
-use_in set node slot = slice_index_or (uses_of_table (slice_get set node)) slot unused
+use_in set node slot = slice_index_or (uses_of_table (slice_get set node)) slot no_use
 
 -- the unit has the slot
 abbrev pub has_slot_by : Option UnitPart → ℕ → Bool
@@ -154,7 +154,7 @@ fresh_by kinds (Some u) = record {
   unit = Some u;
   width = width_by (slice_get kinds u.kind);
   words = replicate (u.slots * width_by (slice_get kinds u.kind)) 0;
-  uses = replicate u.slots unused;
+  uses = replicate u.slots no_use;
 }
 
 -- the set of a net in which all words are 0 and no slot is used

@@ -34,9 +34,9 @@ abbrev pub clear_writes : List NodeTable → ℕ → ℕ → List WordWrite
 clear_writes set node slot = clears_from (slot * width_in set node) (width_in set node)
 
 -- the events of writes to a unit
-abbrev pub events_of : ℕ → List WordWrite → List TableEvent
-events_of unit [] = []
-events_of unit (w ∷ ws) = Write unit w.word w.value ∷ events_of unit ws
+abbrev pub write_events : ℕ → List WordWrite → List TableEvent
+write_events unit [] = []
+write_events unit (w ∷ ws) = Write unit w.word w.value ∷ write_events unit ws
 
 -- words after writes, one after the other
 abbrev pub words_after : List WordWrite → List ℕ → List ℕ
@@ -60,15 +60,15 @@ pub record AreDone {X : Type 0} (after : List WordWrite → X → X) (unit : ℕ
   pub made : ℕ
   pub all : failed ≡ false → made ≡ length writes
   pub less : failed ≡ true → made < length writes
-  pub logged : Logged log log' (events_of unit (take made writes))
+  pub logged : Logged log log' (write_events unit (take made writes))
   pub on_device : told' ≡ option_map (device_after unit (take made writes)) told
   pub kept : new ≡ after (take made writes) old
 
 -- so they were, on a device and on words
-abbrev pub AreWritten : ℕ → List WordWrite → Bool →
+abbrev pub AreWordsWritten : ℕ → List WordWrite → Bool →
     Option (List TableEvent) → Option (List TableEvent) →
     Option (List UnitWords) → Option (List UnitWords) → List ℕ → List ℕ → Type 0
-AreWritten = AreDone words_after
+AreWordsWritten = AreDone words_after
 
 -- so they were, on a device and in a set
 abbrev pub AreMade : ℕ → List WordWrite → Bool →

@@ -69,7 +69,7 @@ impl TableSet {
         ensures counted { IsCounted (D.faults device.old)
             (D.faults device.new) (is_make_fault result) }
     {
-        let set = fresh(alloc, net, kinds).or(Err(MakeFault::OutOfMemory))?;
+        let set = fresh_set(alloc, net, kinds).or(Err(MakeFault::OutOfMemory))?;
         make_units(set.nodes.as_slice(), device)?;
         Ok(set)
     }
@@ -250,7 +250,7 @@ impl TableSet {
 }
 
 /// The set of a net with words 0 and no use.
-fn fresh(alloc: Global, net: &Net, kinds: &Kinds) -> Result<TableSet, AllocError>
+fn fresh_set(alloc: Global, net: &Net, kinds: &Kinds) -> Result<TableSet, AllocError>
     requires lawful { All (λ k. IsLawful (meaning (k.vtable, k.value))) kinds.now.list.items }
     requires shaped { KeepsUnitShape
         (map (λ k. meaning (k.vtable, k.value)) kinds.now.list.items) net.now }
@@ -260,7 +260,7 @@ fn fresh(alloc: Global, net: &Net, kinds: &Kinds) -> Result<TableSet, AllocError
     net.facts();
     let mut nodes = Vec::new(alloc);
     for node in 0..net.nodes() {
-        nodes.push(NodeTable::fresh(alloc, net.unit(node), kinds)?)?;
+        nodes.push(NodeTable::fresh_table(alloc, net.unit(node), kinds)?)?;
     }
     Ok(TableSet { nodes })
 }

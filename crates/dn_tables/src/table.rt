@@ -6,7 +6,7 @@ ghost use Rattle.std.specs.Option.{option_copied};
 ghost use Rattle.dn_base.specs.Terms.{IsCounted, has_word};
 ghost use Rattle.dn_net.specs.declared.node.Unit.{Unit as UnitPart};
 ghost use Rattle.dn_kind.specs.Terms.{IsLawful, IsPackable, Meaning, gate_word, has_shape, is_shaped, record_of_unit, slot_words, unit_shape};
-ghost use Rattle.dn_tables.specs.Terms.{AreWritten, HasSlot, clears_from, fits_by, fresh_by, packed_for, width_by, with_words, writes_from};
+ghost use Rattle.dn_tables.specs.Terms.{AreWordsWritten, HasSlot, clears_from, fits_by, fresh_by, packed_for, width_by, with_words, writes_from};
 
 use crate::words::SlotWords;
 use crate::writes::{clear_all, write_all};
@@ -44,7 +44,7 @@ pub struct NodeTable {
 
 impl NodeTable {
     /// The table of a unit, or of no unit, with words 0 and no use.
-    pub(crate) fn fresh(
+    pub(crate) fn fresh_table(
         alloc: Global,
         unit: Option<&Unit>,
         kinds: &Kinds,
@@ -135,7 +135,7 @@ impl NodeTable {
             IsPackable kind (unit_shape u) «record» }
         requires on_device { (word : ℕ) → word < length self.old.words →
             has_word (D.units device.old) unit word ≡ true }
-        ensures written { AreWritten unit
+        ensures written { AreWordsWritten unit
             (writes_from (slot * self.old.width)
             (packed_for (map (λ k. meaning (k.vtable, k.value)) kinds.now.list.items) self.old.unit «record»))
             (is_err result) (D.log device.old) (D.log device.new)
@@ -168,7 +168,7 @@ impl NodeTable {
         requires slot { HasSlot self.old slot }
         requires on_device { (word : ℕ) → word < length self.old.words →
             has_word (D.units device.old) unit word ≡ true }
-        ensures written { AreWritten unit (clears_from (slot * self.old.width) self.old.width)
+        ensures written { AreWordsWritten unit (clears_from (slot * self.old.width) self.old.width)
             (is_err result) (D.log device.old) (D.log device.new)
             (D.words device.old) (D.words device.new) self.old.words self.new.words }
         ensures same { self.new ≡ with_words self.old self.new.words }

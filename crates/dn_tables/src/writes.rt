@@ -2,7 +2,7 @@
 
 ghost use Rattle.std.specs.Prelude.{◌≡◌, ℕ, ◌+◌, ◌*◌, ◌-◌, ◌<◌, ◌≤◌, ◌^◌, true, length, is_err};
 ghost use Rattle.dn_base.specs.Terms.{IsCounted, has_word};
-ghost use Rattle.dn_tables.specs.Terms.{AreWritten, clears_from, writes_from};
+ghost use Rattle.dn_tables.specs.Terms.{AreWordsWritten, clears_from, writes_from};
 
 use dn_base::device::{DeviceFault, Tables};
 use dn_base::filled::Filled;
@@ -26,7 +26,7 @@ pub(crate) fn write_all<D: Tables>(
     requires small { first + length values.now < 2 ^ 32 }
     requires there { (word : ℕ) → word < length words.old →
         has_word (D.units device.old) unit word ≡ true }
-    ensures written { AreWritten unit (writes_from first values.now) (is_err result)
+    ensures written { AreWordsWritten unit (writes_from first values.now) (is_err result)
         (D.log device.old) (D.log device.new) (D.words device.old) (D.words device.new)
         words.old words.new }
     ensures units { D.units device.new ≡ D.units device.old }
@@ -59,7 +59,7 @@ pub(crate) fn clear_all<D: Tables>(
     requires small { first + width < 2 ^ 32 }
     requires there { (word : ℕ) → word < length words.old →
         has_word (D.units device.old) unit word ≡ true }
-    ensures written { AreWritten unit (clears_from first width) (is_err result)
+    ensures written { AreWordsWritten unit (clears_from first width) (is_err result)
         (D.log device.old) (D.log device.new) (D.words device.old) (D.words device.new)
         words.old words.new }
     ensures units { D.units device.new ≡ D.units device.old }

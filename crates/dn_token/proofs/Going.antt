@@ -2,7 +2,7 @@
 use Rattle.std.proofs.Common.{◌≡◌, ◌≤◌, ◌<◌, ◌∙◌, ap, refl, sym, subst, ℕ, zero, suc, ◌+◌, Bool, true, false, if◌then◌else◌, ◌&&◌, ◌==◌, not, List, [], ◌∷◌, length, length-drop, drop, Option, None, Some, Result, Ok, arith}
 use Rattle.std.specs.List.{prefix_len}
 use Rattle.dn_base.proofs.Booleans.{or_left, or_right}
-use Rattle.dn_token.specs.Token.{Lexeme, sign, Token, Front, taken, bad, tokens, tokens_from, with_token, then_tokens, front, run, after_run, number_of, word_lexeme, number_front, sign_front, sign_of, dots_or_sign, is_letter, is_digit, is_word_byte, is_line_feed, is_blank, is_slash, begins_with, after_comment}
+use Rattle.dn_token.specs.Token.{Lexeme, sign, Token, Front, taken, bad, tokens, tokens_from, with_token, then_tokens, front, word_run, after_run, number_of, word_lexeme, number_front, sign_front, sign_of, dots_or_sign, is_letter, is_digit, is_word_byte, is_line_feed, is_blank, is_slash, begins_with, after_comment}
 use Rattle.dn_token.specs.declared.token.Sign.{Sign}
 use Rattle.dn_token.specs.declared.token.Sign.TheVariants.{Dots}
 use Rattle.dn_token.specs.Going.{tokens_of, TokensGoOn}
@@ -39,9 +39,9 @@ dots_shorter b s l rest e = go ((b == 46) && begins_with (λ c. c == 46) s) e
 front_shorter : (b : ℕ) (s : List ℕ) (l : Lexeme) (rest : List ℕ) → front b s ≡ taken l rest → length rest ≤ length s
 front_shorter b s l rest e = go (is_letter b) refl (is_digit b) refl e
   where
-    go : (p : Bool) → is_letter b ≡ p → (q : Bool) → is_digit b ≡ q → (if p then taken (word_lexeme (run (b ∷ s))) (after_run (b ∷ s)) else (if q then number_front (number_of (run (b ∷ s))) (after_run (b ∷ s)) else dots_or_sign b s)) ≡ taken l rest → length rest ≤ length s
+    go : (p : Bool) → is_letter b ≡ p → (q : Bool) → is_digit b ≡ q → (if p then taken (word_lexeme (word_run (b ∷ s))) (after_run (b ∷ s)) else (if q then number_front (number_of (word_run (b ∷ s))) (after_run (b ∷ s)) else dots_or_sign b s)) ≡ taken l rest → length rest ≤ length s
     go true is q f e = let same : after_run (b ∷ s) ≡ rest = cc in subst (λ r. length r ≤ length s) same (run_shorter b s (or_left (is_letter b) (is_digit b) is))
-    go false is true f e = let same = number_rest (number_of (run (b ∷ s))) (after_run (b ∷ s)) l rest e in subst (λ r. length r ≤ length s) same (run_shorter b s (or_right (is_letter b) (is_digit b) f))
+    go false is true f e = let same = number_rest (number_of (word_run (b ∷ s))) (after_run (b ∷ s)) l rest e in subst (λ r. length r ≤ length s) same (run_shorter b s (or_right (is_letter b) (is_digit b) f))
     go false is false f e = dots_shorter b s l rest e
 
 none_left : (n line : ℕ) → tokens_from n line [] ≡ Ok []

@@ -8,7 +8,7 @@ use Rattle.dn_token.specs.declared.token.Lexeme.TheVariants.{Word as WordCase, K
 use Rattle.dn_token.specs.declared.token.Token.{Token as CodeToken}
 use Rattle.dn_token.specs.declared.number.Radix.{Radix}
 use Rattle.dn_token.specs.declared.number.Radix.TheVariants.{Decimal, Hexadecimal}
-use Rattle.dn_token.specs.Token.{Lexeme, Token, Front, word, keyword, number, sign, bad, front, reserved, decimal_value, hex_value, dots_or_sign, is_slash, begins_with}
+use Rattle.dn_token.specs.Token.{Lexeme, Token, Front, word, keyword, number, sign, bad, front, reserved_words, decimal_value, hex_value, dots_or_sign, is_slash, begins_with}
 
 -- the lexeme of the subject that a lexeme of the code is
 abbrev pub lexeme_view : CodeLexeme → Lexeme
@@ -43,7 +43,7 @@ keyword_among (r ∷ rs) w = if bytes_eq w r.0 then Some r.1 else keyword_among 
 
 -- the reserved word that a word is, where it is one
 unfoldable pub reserved_word : List ℕ → Option Keyword
-reserved_word w = keyword_among reserved w
+reserved_word w = keyword_among reserved_words w
 
 -- the reserved words of one length
 abbrev pub of_length : ℕ → List (List ℕ × Keyword) → List (List ℕ × Keyword)

@@ -48,8 +48,8 @@ abbrev pub is_slash : ℕ → Bool
 is_slash b = b == 47
 
 -- the longest run of letters, digits and `_`, and what follows it
-abbrev pub run : List ℕ → List ℕ
-run s = take (prefix_len is_word_byte s) s
+abbrev pub word_run : List ℕ → List ℕ
+word_run s = take (prefix_len is_word_byte s) s
 
 -- what follows the longest run of letters, digits and `_`
 abbrev pub after_run : List ℕ → List ℕ
@@ -60,8 +60,8 @@ abbrev pub after_comment : List ℕ → List ℕ
 after_comment s = drop (prefix_len (λ b. not (is_line_feed b)) s) s
 
 -- the reserved words, with their spellings
-abbrev pub reserved : List (List ℕ × Keyword)
-reserved =
+abbrev pub reserved_words : List (List ℕ × Keyword)
+reserved_words =
     (codes "agent", Agent) ∷ (codes "vectors", Vectors) ∷ (codes "unit", UnitWord) ∷ (codes "module", Module) ∷ (codes "use", Use) ∷ (codes "for", For) ∷ (codes "in", In) ∷ (codes "end", End) ∷ (codes "begin", Begin) ∷ (codes "is", Is) ∷ (codes "accept", Accept)
     ∷ (codes "map", Map) ∷ (codes "to", To) ∷ (codes "and", And) ∷ (codes "at", At) ∷ (codes "over", Over) ∷ (codes "kind", Kind) ∷ (codes "page", Page) ∷ (codes "slots", Slots) ∷ (codes "reach", Reach) ∷ (codes "as", As) ∷ (codes "num", Num) ∷ (codes "node", Node)
     ∷ (codes "resolve", Resolve) ∷ (codes "lookup", Lookup) ∷ (codes "view", View) ∷ (codes "grant", Grant) ∷ (codes "route", Route) ∷ (codes "revoke", Revoke) ∷ (codes "dump", Dump) ∷ (codes "split", Split) ∷ (codes "absorb", Absorb) ∷ []
@@ -73,7 +73,7 @@ word_among (r ∷ rs) w = if bytes_eq w r.0 then keyword r.1 else word_among rs 
 
 -- the lexeme that a word is
 unfoldable pub word_lexeme : List ℕ → Lexeme
-word_lexeme w = word_among reserved w
+word_lexeme w = word_among reserved_words w
 
 -- digits: the value of a byte as a digit, and the number that digits spell in a base
 abbrev pub hex_value : ℕ → Option ℕ
@@ -104,9 +104,9 @@ digits_number base value [] = None
 digits_number base value (b ∷ bs) = spelled_from base value (Some 0) (b ∷ bs)
 
 -- a number that is at most 2^64 - 1
-abbrev pub fitting : Option ℕ → Option ℕ
-fitting None = None
-fitting (Some n) = if nat_lt n (2 ^ 64) then Some n else None
+abbrev pub number_within : Option ℕ → Option ℕ
+number_within None = None
+number_within (Some n) = if nat_lt n (2 ^ 64) then Some n else None
 
 -- a number in hexadecimal digits begins with `0x`
 abbrev pub is_hexadecimal : List ℕ → Bool
@@ -114,7 +114,7 @@ is_hexadecimal s = bytes_eq (take 2 s) (codes "0x")
 
 -- the number that a run spells: decimal digits, or `0x` and hexadecimal digits of either case, at most 2^64 - 1
 unfoldable pub number_of : List ℕ → Option ℕ
-number_of s = fitting (if is_hexadecimal s then digits_number 16 hex_value (drop 2 s) else digits_number 10 decimal_value s)
+number_of s = number_within (if is_hexadecimal s then digits_number 16 hex_value (drop 2 s) else digits_number 10 decimal_value s)
 
 -- the sign that one byte is
 abbrev pub sign_among : List (ℕ × Sign) → ℕ → Option Sign
@@ -152,8 +152,8 @@ dots_or_sign b s = if (b == 46) && begins_with (λ c. c == 46) s then taken (sig
 -- what stands at the front: a word, a number or a sign
 abbrev pub front : ℕ → List ℕ → Front
 front b s =
-    if is_letter b then taken (word_lexeme (run (b ∷ s))) (after_run (b ∷ s))
-    else (if is_digit b then number_front (number_of (run (b ∷ s))) (after_run (b ∷ s))
+    if is_letter b then taken (word_lexeme (word_run (b ∷ s))) (after_run (b ∷ s))
+    else (if is_digit b then number_front (number_of (word_run (b ∷ s))) (after_run (b ∷ s))
     else dots_or_sign b s)
 
 -- one token before those that follow

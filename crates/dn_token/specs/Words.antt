@@ -5,7 +5,7 @@ use Rattle.dn_token.specs.contracts.token.Sign.{the_type as the_signs}
 use Rattle.dn_token.specs.contracts.token.Keyword.{the_type as the_keywords}
 use Rattle.dn_token.specs.declared.token.Keyword.{Keyword}
 use Rattle.dn_token.specs.declared.token.Sign.{Sign}
-use Rattle.dn_token.specs.Token.{reserved}
+use Rattle.dn_token.specs.Token.{reserved_words}
 
 -- whether the second one is the first
 abbrev pub same_keyword : Keyword → Keyword → Bool
@@ -22,4 +22,4 @@ text_among (r ∷ rs) k = if same_keyword k r.1 then r.0 else text_among rs k
 
 -- the text of a reserved word
 unfoldable pub spelling : Keyword → List ℕ
-spelling k = text_among reserved k
+spelling k = text_among reserved_words k

@@ -1,7 +1,7 @@
 //! The reserved words by their spellings, and their spellings.
 
 ghost use Rattle.std.specs.Prelude.{◌≡◌};
-ghost use Rattle.dn_token.specs.Terms.{keyword_among, of_length, reserved, reserved_word, spelling};
+ghost use Rattle.dn_token.specs.Terms.{keyword_among, of_length, reserved_word, reserved_words, spelling};
 
 use crate::token::Keyword;
 
@@ -62,7 +62,7 @@ pub fn spelling(word: Keyword) -> &'static str
 }
 
 fn of_two(word: &str) -> Option<Keyword>
-    ensures { result ≡ keyword_among (of_length 2 reserved) word.now }
+    ensures { result ≡ keyword_among (of_length 2 reserved_words) word.now }
 {
     match word {
         "in" => Some(Keyword::In),
@@ -75,7 +75,7 @@ fn of_two(word: &str) -> Option<Keyword>
 }
 
 fn of_three(word: &str) -> Option<Keyword>
-    ensures { result ≡ keyword_among (of_length 3 reserved) word.now }
+    ensures { result ≡ keyword_among (of_length 3 reserved_words) word.now }
 {
     match word {
         "use" => Some(Keyword::Use),
@@ -89,7 +89,7 @@ fn of_three(word: &str) -> Option<Keyword>
 }
 
 fn of_four(word: &str) -> Option<Keyword>
-    ensures { result ≡ keyword_among (of_length 4 reserved) word.now }
+    ensures { result ≡ keyword_among (of_length 4 reserved_words) word.now }
 {
     match word {
         "unit" => Some(Keyword::Unit),
@@ -104,7 +104,7 @@ fn of_four(word: &str) -> Option<Keyword>
 }
 
 fn of_five(word: &str) -> Option<Keyword>
-    ensures { result ≡ keyword_among (of_length 5 reserved) word.now }
+    ensures { result ≡ keyword_among (of_length 5 reserved_words) word.now }
 {
     match word {
         "agent" => Some(Keyword::Agent),
@@ -119,7 +119,7 @@ fn of_five(word: &str) -> Option<Keyword>
 }
 
 fn of_six(word: &str) -> Option<Keyword>
-    ensures { result ≡ keyword_among (of_length 6 reserved) word.now }
+    ensures { result ≡ keyword_among (of_length 6 reserved_words) word.now }
 {
     match word {
         "module" => Some(Keyword::Module),
@@ -132,7 +132,7 @@ fn of_six(word: &str) -> Option<Keyword>
 }
 
 fn of_seven(word: &str) -> Option<Keyword>
-    ensures { result ≡ keyword_among (of_length 7 reserved) word.now }
+    ensures { result ≡ keyword_among (of_length 7 reserved_words) word.now }
 {
     match word {
         "vectors" => Some(Keyword::Vectors),

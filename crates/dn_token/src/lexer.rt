@@ -2,7 +2,7 @@
 
 ghost use Rattle.std.specs.Prelude.{◌≡◌, ◌+◌, ◌^◌, ◌<◌, [], ◌∷◌, length, map, IfSome, IfOk, MatchOption};
 ghost use Rattle.std.specs.Str.{IsAscii};
-ghost use Rattle.dn_token.specs.Terms.{after_comment, after_run, bad, begins_comment, first_and_rest, front_of, is_blank, is_digit, is_letter, lexeme_view, run, sign_front_of, sign_of, taken, token_fault_view, token_view, tokens, tokens_of, word_lexeme};
+ghost use Rattle.dn_token.specs.Terms.{after_comment, after_run, bad, begins_comment, first_and_rest, front_of, is_blank, is_digit, is_letter, lexeme_view, sign_front_of, sign_of, taken, token_fault_view, token_view, tokens, tokens_of, word_lexeme, word_run};
 ghost use Rattle.dn_base.specs.Terms.{Answers};
 ghost use Rattle.dn_token.specs.declared.lexer.TokenFault.TheVariants.{OutOfMemory as no_memory};
 
@@ -137,7 +137,7 @@ fn after_comment(text: &[u8]) -> &[u8]
 /// The longest run of letters, digits and `_`, and what follows it.
 #[inline(always)]
 fn split_run(text: &[u8]) -> (&[u8], &[u8])
-    ensures run { result.0.now ≡ run text.now }
+    ensures run { result.0.now ≡ word_run text.now }
     ensures rest { result.1.now ≡ after_run text.now }
 {
     let mut length = 0;
@@ -169,8 +169,8 @@ fn front<'a>(text: &'a [u8]) -> Option<(Lexeme<'a>, &'a [u8])>
 /// What a run is that begins with a letter.
 #[inline(always)]
 fn word_lexeme<'a>(run: &'a [u8]) -> Lexeme<'a>
-    requires { IsAscii run.now }
-    ensures { lexeme_view result ≡ word_lexeme run.now }
+    requires { IsAscii word_run.now }
+    ensures { lexeme_view result ≡ word_lexeme word_run.now }
 {
     // A run is ASCII, as the `requires` says.
     let word = unsafe { str::from_utf8_unchecked(run) };

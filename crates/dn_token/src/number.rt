@@ -1,7 +1,7 @@
 //! Numbers by their spellings.
 
 ghost use Rattle.std.specs.Prelude.{◌≡◌};
-ghost use Rattle.dn_token.specs.Terms.{base_of, decimal_value, digits_number, fitting, hex_value, number_of, value_of};
+ghost use Rattle.dn_token.specs.Terms.{base_of, decimal_value, digits_number, hex_value, number_of, number_within, value_of};
 
 /// The number that a run spells: decimal digits, or `0x` and hexadecimal digits of either case.
 /// None where it spells none, or one past 2^64 - 1.
@@ -11,8 +11,8 @@ pub fn number_of(run: &[u8]) -> Option<u64>
     ensures { result ≡ number_of run.now }
 {
     match run.strip_prefix(b"0x") {
-        Some(digits) => spelled(Radix::Hexadecimal, digits),
-        None => spelled(Radix::Decimal, run),
+        Some(digits) => spelled_number(Radix::Hexadecimal, digits),
+        None => spelled_number(Radix::Decimal, run),
     }
 }
 
@@ -49,8 +49,8 @@ fn value_of(radix: Radix, byte: u8) -> Option<u64>
 
 /// The number that digits spell. None where there is none, one is no digit, or the number is past 2^64 - 1.
 #[inline(always)]
-fn spelled(radix: Radix, digits: &[u8]) -> Option<u64>
-    ensures { result ≡ fitting (digits_number (base_of radix) (value_of radix) digits.now) }
+fn spelled_number(radix: Radix, digits: &[u8]) -> Option<u64>
+    ensures { result ≡ number_within (digits_number (base_of radix) (value_of radix) digits.now) }
 {
     if digits.is_empty() {
         return None;

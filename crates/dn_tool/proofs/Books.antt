@@ -9,11 +9,11 @@ use Rattle.dn_kind.specs.Rights.{are_rights}
 use Rattle.dn_tables.specs.Placement.{Place}
 use Rattle.dn_placement.specs.declared.request.Request.{Request}
 use Rattle.dn_book.specs.declared.grant.Grant.{Grant as GrantPart}
-use Rattle.dn_book.specs.Book.{without}
+use Rattle.dn_book.specs.Book.{without_id}
 use Rattle.dn_book.proofs.Faithful.{empty_book_is_faithful, grant_keeps_book, revoke_keeps_book}
-use Rattle.dn_grant.specs.Grant.{IsPlaced, grant_at}
+use Rattle.dn_grant.specs.Grant.{IsPlaced, grant_of_request}
 use Rattle.dn_grant.proofs.Allowed.{allowed_grant}
-use Rattle.dn_vector.specs.Route.{IsPlacedRoute, route_at}
+use Rattle.dn_vector.specs.Route.{IsPlacedRoute, grant_of_route}
 use Rattle.dn_vector.proofs.Allowed.{allowed_route}
 use Rattle.dn_module.specs.declared.command.Command.{Command}
 use Rattle.dn_module.specs.declared.command.Command.TheVariants.{Resolve, Lookup, View, Grant, Route, Revoke, Dump, Split, Absorb}
@@ -31,19 +31,19 @@ along : (net : List NodeDecl) (t u : Turn) → t ≡ u → IsKeptFaithful net u.
 along net t u e h = subst (λ (v : Turn). IsKeptFaithful net v.next.book) (sym e) h
 
 -- a grant at an admissible placement keeps the book
-pub placed_keeps : (net : List NodeDecl) (book : List GrantPart) (id : ℕ) (rq : Request) (p : Place) → IsLegalNet net → IsTrue (are_rights rq.rights) → IsKeptFaithful net book → IsPlaced net book id rq p → IsKeptFaithful net (book ++ grant_at id rq p ∷ [])
+pub placed_keeps : (net : List NodeDecl) (book : List GrantPart) (id : ℕ) (rq : Request) (p : Place) → IsLegalNet net → IsTrue (are_rights rq.rights) → IsKeptFaithful net book → IsPlaced net book id rq p → IsKeptFaithful net (book ++ grant_of_request id rq p ∷ [])
 placed_keeps net book id rq p legal rights b placed =
-    let keeps = grant_keeps_book net book (grant_at id rq p) legal b.sound (allowed_grant net book id rq p placed.allowed rights placed.first) in
+    let keeps = grant_keeps_book net book (grant_of_request id rq p) legal b.sound (allowed_grant net book id rq p placed.allowed rights placed.first) in
     record { sound = keeps.0; faithful = keeps.1 b.faithful placed.first.suited.admissible }
 
 -- so does a route
-pub placed_route_keeps : (net : List NodeDecl) (book : List GrantPart) (id agent line node v : ℕ) (p : Place) → IsLegalNet net → IsKeptFaithful net book → IsPlacedRoute net book id agent line node v p → IsKeptFaithful net (book ++ route_at id agent node v p ∷ [])
+pub placed_route_keeps : (net : List NodeDecl) (book : List GrantPart) (id agent line node v : ℕ) (p : Place) → IsLegalNet net → IsKeptFaithful net book → IsPlacedRoute net book id agent line node v p → IsKeptFaithful net (book ++ grant_of_route id agent node v p ∷ [])
 placed_route_keeps net book id agent line node v p legal b placed =
-    let keeps = grant_keeps_book net book (route_at id agent node v p) legal b.sound (allowed_route net book id agent line node v p placed.allowed placed.placed) in
+    let keeps = grant_keeps_book net book (grant_of_route id agent node v p) legal b.sound (allowed_route net book id agent line node v p placed.allowed placed.placed) in
     record { sound = keeps.0; faithful = keeps.1 b.faithful placed.placed.first.suited.admissible }
 
 -- and taking a grant out
-pub without_keeps : (net : List NodeDecl) (book : List GrantPart) (id : ℕ) → IsLegalNet net → IsKeptFaithful net book → IsKeptFaithful net (without id book)
+pub without_keeps : (net : List NodeDecl) (book : List GrantPart) (id : ℕ) → IsLegalNet net → IsKeptFaithful net book → IsKeptFaithful net (without_id id book)
 without_keeps net book id legal b =
     let keeps = revoke_keeps_book net book id legal b.sound in
     record { sound = keeps.0; faithful = keeps.1 b.faithful }

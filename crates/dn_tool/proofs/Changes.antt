@@ -15,12 +15,12 @@ use Rattle.dn_tables.specs.Placement.{Place}
 use Rattle.dn_placement.specs.declared.request.Request.{Request}
 use Rattle.dn_placement.proofs.Order.{first_is_one}
 use Rattle.dn_book.specs.declared.grant.Grant.{Grant}
-use Rattle.dn_book.specs.Book.{has_id, slots_of, without}
+use Rattle.dn_book.specs.Book.{has_id, slots_of, without_id}
 use Rattle.dn_book.specs.Writes.{AreAdded, grant_events, revoke_events}
 use Rattle.dn_grant.specs.declared.fault.GrantFault.{GrantFault}
 use Rattle.dn_grant.specs.declared.fault.GrantFault.TheVariants as grant_fault
 use Rattle.dn_grant.specs.Faults.{grant_answer_view, grant_fault_view}
-use Rattle.dn_grant.specs.Grant.{IsGrantLogged, IsGrantMade, IsGrantOutcome, IsGrantRefused, grant_at}
+use Rattle.dn_grant.specs.Grant.{IsGrantLogged, IsGrantMade, IsGrantOutcome, IsGrantRefused, grant_of_request}
 use Rattle.dn_grant.specs.Refusal as grant_refusal
 use Rattle.dn_grant.specs.Refusal.{GrantRefusal}
 use Rattle.dn_vector.specs.declared.fault.RouteFault.{RouteFault}
@@ -28,7 +28,7 @@ use Rattle.dn_vector.specs.declared.fault.RouteFault.TheVariants as route_fault
 use Rattle.dn_vector.specs.Faults.{route_answer_view, route_fault_view}
 use Rattle.dn_vector.specs.Refusal as route_refusal
 use Rattle.dn_vector.specs.Refusal.{RouteRefusal}
-use Rattle.dn_vector.specs.Route.{IsPlacedRoute, IsRouteLogged, IsRouteMade, IsRouteOutcome, IsRouteRefused, route_at}
+use Rattle.dn_vector.specs.Route.{IsPlacedRoute, IsRouteLogged, IsRouteMade, IsRouteOutcome, IsRouteRefused, grant_of_route}
 use Rattle.dn_vector.specs.Vectors.{vector_request}
 use Rattle.dn_book.specs.Book.{IsFaithful}
 use Rattle.dn_book.specs.State.{BookState}
@@ -45,8 +45,8 @@ use Rattle.dn_tool.specs.Changed.{grant_refused_text, granted_text, revoke_refus
 use Rattle.dn_tool.specs.Halt.{ending_status, is_device_halt, is_write_halt}
 use Rattle.dn_tool.specs.Ids.{id_number, with_id}
 use Rattle.dn_tool.specs.Played.{CameIn}
-use Rattle.dn_tool.specs.State.{CameThrough, CameThroughChange, IsChanged, IsFirst, IsHalted, IsState, state_view}
-use Rattle.dn_tool.specs.Turn.{IsGrantTurn, IsRevokeTurn, IsRouteTurn, IsTurn, State, Turn, answered, entered, is_change, named, reply}
+use Rattle.dn_tool.specs.State.{CameThrough, CameThroughChange, IsChanged, IsFirstView, IsHalted, IsState, state_view}
+use Rattle.dn_tool.specs.Turn.{IsGrantTurn, IsRevokeTurn, IsRouteTurn, IsTurn, State, Turn, is_change, reply, reply_turn, state_with_id, turn_with_grant}
 
 -- all events were added
 added_all : (events : List TableEvent) (log log' : Option (List TableEvent)) → AreAdded events false log log' → Logged log log' events
@@ -102,11 +102,11 @@ pub granted_turn : (kinds : List Meaning) (net : List NodeDecl) (s next : State)
 granted_turn kinds net s next id rq v book' log log' made logged left =
     let n : ℕ = id_number s.ids id in
     let same : logged.place ≡ made.place = first_is_one net (slots_of net s.book) rq None logged.place made.place logged.placed.first made.placed.first in
-    let all : Logged log log' (grant_events net kinds s.book s.cleared (grant_at n rq logged.place)) = added_all _ log log' logged.added in
+    let all : Logged log log' (grant_events net kinds s.book s.cleared (grant_of_request n rq logged.place)) = added_all _ log log' logged.added in
     record {
-      turn = entered net kinds s id (grant_at n rq made.place) (granted_text id made.place.v);
+      turn = turn_with_grant net kinds s id (grant_of_request n rq made.place) (granted_text id made.place.v);
       is_turn = inl (record { place = made.place; placed = made.placed; is_turn = refl });
-      logged = subst (λ (p : Place). Logged log log' (grant_events net kinds s.book s.cleared (grant_at n rq p))) same all;
+      logged = subst (λ (p : Place). Logged log log' (grant_events net kinds s.book s.cleared (grant_of_request n rq p))) same all;
       replied = ap (granted_text id) (sym made.address);
       left = ap (λ (b : List Grant). record { book = b; cleared = false; ids = with_id s.ids id }) (sym made.appended) ∙ left;
     }
@@ -114,7 +114,7 @@ granted_turn kinds net s next id rq v book' log log' made logged left =
 -- a grant at which the device failed
 pub grant_stopped : (kinds : List Meaning) (net : List NodeDecl) (s next : State) (id : List ℕ) (rq : Request) (r : Result (List ℕ) Halt) (log log' : Option (List TableEvent)) → r ≡ Err DeviceFault → IsGrantLogged net kinds s.book s.cleared (id_number s.ids id) rq true log log' → CameThroughChange (IsGrantTurn kinds net s id rq) r next log log'
 grant_stopped kinds net s next id rq r log log' e logged =
-    stopped_inside (IsGrantTurn kinds net s id rq) (entered net kinds s id (grant_at (id_number s.ids id) rq logged.place) (granted_text id logged.place.v)) r next log log' e (inl (record { place = logged.place; placed = logged.placed; is_turn = refl })) logged.added
+    stopped_inside (IsGrantTurn kinds net s id rq) (turn_with_grant net kinds s id (grant_of_request (id_number s.ids id) rq logged.place) (granted_text id logged.place.v)) r next log log' e (inl (record { place = logged.place; placed = logged.placed; is_turn = refl })) logged.added
 
 -- a fault that comes neither of the device nor of want of memory says a refusal
 pub grant_said : (fault : GrantFault) → fault ≢ grant_fault.Device → fault ≢ grant_fault.OutOfMemory → (why : GrantRefusal) × (grant_fault_view fault ≡ Some why)
@@ -133,9 +133,9 @@ grant_refused_so net book next n rq fault why said outcome =
     (subst (λ (o : Option GrantRefusal). IsGrantOutcome net book n rq (option_map (λ w. Err w) o) next) said outcome).0
 
 -- a grant that was refused
-pub not_granted_turn : (kinds : List Meaning) (net : List NodeDecl) (s next : State) (id : List ℕ) (rq : Request) (why : GrantRefusal) (log log' : Option (List TableEvent)) → IsGrantRefused net s.book (id_number s.ids id) rq why → log' ≡ log → named s id ≡ next → IsChanged (IsGrantTurn kinds net s id rq) next (grant_refused_text id why) log log'
+pub not_granted_turn : (kinds : List Meaning) (net : List NodeDecl) (s next : State) (id : List ℕ) (rq : Request) (why : GrantRefusal) (log log' : Option (List TableEvent)) → IsGrantRefused net s.book (id_number s.ids id) rq why → log' ≡ log → state_with_id s id ≡ next → IsChanged (IsGrantTurn kinds net s id rq) next (grant_refused_text id why) log log'
 not_granted_turn kinds net s next id rq why log log' refused same left = record {
-  turn = answered (grant_refused_text id why) (named s id);
+  turn = reply_turn (grant_refused_text id why) (state_with_id s id);
   is_turn = inr (record { why = why; refused = refused; is_turn = refl });
   logged = Logged-none log log' same;
   replied = refl;
@@ -167,12 +167,12 @@ routed_turn kinds net s next id agent line node v book' log log' made logged lef
     let n : ℕ = id_number s.ids id in
     let vector : logged.vector ≡ v = same_vector net s.book n agent line node logged.vector v logged.place made.place logged.placed made.placed in
     let place : logged.place ≡ made.place = same_place net s.book n agent line node logged.vector v logged.place made.place logged.placed made.placed vector in
-    let all : Logged log log' (grant_events net kinds s.book s.cleared (route_at n agent node logged.vector logged.place)) = added_all _ log log' logged.added in
-    let one : Logged log log' (grant_events net kinds s.book s.cleared (route_at n agent node v logged.place)) = subst (λ u. Logged log log' (grant_events net kinds s.book s.cleared (route_at n agent node u logged.place))) vector all in
+    let all : Logged log log' (grant_events net kinds s.book s.cleared (grant_of_route n agent node logged.vector logged.place)) = added_all _ log log' logged.added in
+    let one : Logged log log' (grant_events net kinds s.book s.cleared (grant_of_route n agent node v logged.place)) = subst (λ u. Logged log log' (grant_events net kinds s.book s.cleared (grant_of_route n agent node u logged.place))) vector all in
     record {
-      turn = entered net kinds s id (route_at n agent node v made.place) (routed_text id v);
+      turn = turn_with_grant net kinds s id (grant_of_route n agent node v made.place) (routed_text id v);
       is_turn = inl (record { vector = v; place = made.place; placed = made.placed; is_turn = refl });
-      logged = subst (λ (p : Place). Logged log log' (grant_events net kinds s.book s.cleared (route_at n agent node v p))) place one;
+      logged = subst (λ (p : Place). Logged log log' (grant_events net kinds s.book s.cleared (grant_of_route n agent node v p))) place one;
       replied = refl;
       left = ap (λ (b : List Grant). record { book = b; cleared = false; ids = with_id s.ids id }) (sym made.appended) ∙ left;
     }
@@ -180,7 +180,7 @@ routed_turn kinds net s next id agent line node v book' log log' made logged lef
 -- a route at which the device failed
 pub route_stopped : (kinds : List Meaning) (net : List NodeDecl) (s next : State) (id : List ℕ) (agent line node : ℕ) (r : Result (List ℕ) Halt) (log log' : Option (List TableEvent)) → r ≡ Err DeviceFault → IsRouteLogged net kinds s.book s.cleared (id_number s.ids id) agent line node true log log' → CameThroughChange (IsRouteTurn kinds net s id agent line node) r next log log'
 route_stopped kinds net s next id agent line node r log log' e logged =
-    stopped_inside (IsRouteTurn kinds net s id agent line node) (entered net kinds s id (route_at (id_number s.ids id) agent node logged.vector logged.place) (routed_text id logged.vector)) r next log log' e (inl (record { vector = logged.vector; place = logged.place; placed = logged.placed; is_turn = refl })) logged.added
+    stopped_inside (IsRouteTurn kinds net s id agent line node) (turn_with_grant net kinds s id (grant_of_route (id_number s.ids id) agent node logged.vector logged.place) (routed_text id logged.vector)) r next log log' e (inl (record { vector = logged.vector; place = logged.place; placed = logged.placed; is_turn = refl })) logged.added
 
 -- a fault that comes neither of the device nor of want of memory says a refusal
 pub route_said : (fault : RouteFault) → fault ≢ route_fault.Device → fault ≢ route_fault.OutOfMemory → (why : RouteRefusal) × (route_fault_view fault ≡ Some why)
@@ -198,9 +198,9 @@ route_refused_so net book next n agent line node fault why said outcome =
     (subst (λ (o : Option RouteRefusal). IsRouteOutcome net book n agent line node (option_map (λ w. Err w) o) next) said outcome).0
 
 -- a route that was refused
-pub not_routed_turn : (kinds : List Meaning) (net : List NodeDecl) (s next : State) (id : List ℕ) (agent line node : ℕ) (why : RouteRefusal) (log log' : Option (List TableEvent)) → IsRouteRefused net s.book (id_number s.ids id) agent line node why → log' ≡ log → named s id ≡ next → IsChanged (IsRouteTurn kinds net s id agent line node) next (route_refused_text id why) log log'
+pub not_routed_turn : (kinds : List Meaning) (net : List NodeDecl) (s next : State) (id : List ℕ) (agent line node : ℕ) (why : RouteRefusal) (log log' : Option (List TableEvent)) → IsRouteRefused net s.book (id_number s.ids id) agent line node why → log' ≡ log → state_with_id s id ≡ next → IsChanged (IsRouteTurn kinds net s id agent line node) next (route_refused_text id why) log log'
 not_routed_turn kinds net s next id agent line node why log log' refused same left = record {
-  turn = answered (route_refused_text id why) (named s id);
+  turn = reply_turn (route_refused_text id why) (state_with_id s id);
   is_turn = inr (record { why = why; refused = refused; is_turn = refl });
   logged = Logged-none log log' same;
   replied = refl;
@@ -219,11 +219,11 @@ lives id (g ∷ gs) e = by (g.id == id) refl e (lives id gs)
     by false is f later = let h = later f in (h.0, inr h.1, h.2)
 
 -- a grant that was taken out
-pub revoked_turn : (kinds : List Meaning) (net : List NodeDecl) (s next : State) (id : List ℕ) (book' : List Grant) (log log' : Option (List TableEvent)) → has_id (id_number s.ids id) s.book ≡ true → ((g : Grant) → Member g s.book → g.id ≡ id_number s.ids id → AreAdded (revoke_events net kinds s.book g) false log log') → book' ≡ without (id_number s.ids id) s.book → record { book = book'; cleared = true; ids = with_id s.ids id } ≡ next → IsChanged (IsRevokeTurn kinds net s id) next (revoked_text id) log log'
+pub revoked_turn : (kinds : List Meaning) (net : List NodeDecl) (s next : State) (id : List ℕ) (book' : List Grant) (log log' : Option (List TableEvent)) → has_id (id_number s.ids id) s.book ≡ true → ((g : Grant) → Member g s.book → g.id ≡ id_number s.ids id → AreAdded (revoke_events net kinds s.book g) false log log') → book' ≡ without_id (id_number s.ids id) s.book → record { book = book'; cleared = true; ids = with_id s.ids id } ≡ next → IsChanged (IsRevokeTurn kinds net s id) next (revoked_text id) log log'
 revoked_turn kinds net s next id book' log log' has added is left =
     let g = lives (id_number s.ids id) s.book has in
     record {
-      turn = record { events = revoke_events net kinds s.book g.0; reply = revoked_text id; next = record { book = without (id_number s.ids id) s.book; cleared = true; ids = with_id s.ids id } };
+      turn = record { events = revoke_events net kinds s.book g.0; reply = revoked_text id; next = record { book = without_id (id_number s.ids id) s.book; cleared = true; ids = with_id s.ids id } };
       is_turn = inl (record { grant = g.0; lives = g.1; has = g.2; is_turn = refl });
       logged = added_all _ log log' (added g.0 g.1 g.2);
       replied = refl;
@@ -234,12 +234,12 @@ revoked_turn kinds net s next id book' log log' has added is left =
 pub revoke_stopped : (kinds : List Meaning) (net : List NodeDecl) (s next : State) (id : List ℕ) (r : Result (List ℕ) Halt) (log log' : Option (List TableEvent)) → r ≡ Err DeviceFault → has_id (id_number s.ids id) s.book ≡ true → ((g : Grant) → Member g s.book → g.id ≡ id_number s.ids id → AreAdded (revoke_events net kinds s.book g) true log log') → CameThroughChange (IsRevokeTurn kinds net s id) r next log log'
 revoke_stopped kinds net s next id r log log' e has added =
     let g = lives (id_number s.ids id) s.book has in
-    stopped_inside (IsRevokeTurn kinds net s id) (record { events = revoke_events net kinds s.book g.0; reply = revoked_text id; next = record { book = without (id_number s.ids id) s.book; cleared = true; ids = with_id s.ids id } }) r next log log' e (inl (record { grant = g.0; lives = g.1; has = g.2; is_turn = refl })) (added g.0 g.1 g.2)
+    stopped_inside (IsRevokeTurn kinds net s id) (record { events = revoke_events net kinds s.book g.0; reply = revoked_text id; next = record { book = without_id (id_number s.ids id) s.book; cleared = true; ids = with_id s.ids id } }) r next log log' e (inl (record { grant = g.0; lives = g.1; has = g.2; is_turn = refl })) (added g.0 g.1 g.2)
 
 -- a revoke that was refused
-pub not_revoked_turn : (kinds : List Meaning) (net : List NodeDecl) (s next : State) (id : List ℕ) (log log' : Option (List TableEvent)) → has_id (id_number s.ids id) s.book ≡ false → log' ≡ log → named s id ≡ next → IsChanged (IsRevokeTurn kinds net s id) next (revoke_refused_text id) log log'
+pub not_revoked_turn : (kinds : List Meaning) (net : List NodeDecl) (s next : State) (id : List ℕ) (log log' : Option (List TableEvent)) → has_id (id_number s.ids id) s.book ≡ false → log' ≡ log → state_with_id s id ≡ next → IsChanged (IsRevokeTurn kinds net s id) next (revoke_refused_text id) log log'
 not_revoked_turn kinds net s next id log log' none same left = record {
-  turn = answered (revoke_refused_text id) (named s id);
+  turn = reply_turn (revoke_refused_text id) (state_with_id s id);
   is_turn = inr (record { none = none; is_turn = refl });
   logged = Logged-none log log' same;
   replied = refl;
@@ -292,7 +292,7 @@ state_left k book ids cleared b i e =
     ∙ ap (λ (x : BookState). record { book = x.grants; cleared = x.cleared; ids = k.ids }) (sym b)
 
 -- the state that a refusal leaves
-pub state_named : (k : Kept) (s : State) (id : List ℕ) (book : BookState) → k.book ≡ book → s.book ≡ book.grants → s.cleared ≡ book.cleared → k.ids ≡ with_id s.ids id → named s id ≡ state_view k
+pub state_named : (k : Kept) (s : State) (id : List ℕ) (book : BookState) → k.book ≡ book → s.book ≡ book.grants → s.cleared ≡ book.cleared → k.ids ≡ with_id s.ids id → state_with_id s id ≡ state_view k
 state_named k s id book b g e i =
     ap (λ (x : List Grant). record { book = x; cleared = s.cleared; ids = with_id s.ids id }) g
     ∙ ap (λ (x : Bool). record { book = book.grants; cleared = x; ids = with_id s.ids id }) e
@@ -300,7 +300,7 @@ state_named k s id book b g e i =
     ∙ ap (λ (x : BookState). record { book = x.grants; cleared = x.cleared; ids = k.ids }) (sym b)
 
 -- what is kept of a state where the book and the image are as they were
-pub state_same : (kinds : List Meaning) (net : List NodeDecl) (k k' : Kept) → IsState kinds net k → k'.book ≡ k.book → k'.image ≡ k.image → IfSome k'.first (IsFirst net) → IfSome k'.flats (AreFlats net) → IsState kinds net k'
+pub state_same : (kinds : List Meaning) (net : List NodeDecl) (k k' : Kept) → IsState kinds net k → k'.book ≡ k.book → k'.image ≡ k.image → IfSome k'.first (IsFirstView net) → IfSome k'.flats (AreFlats net) → IsState kinds net k'
 state_same kinds net k k' s b i v f = record {
   sound = subst (λ (x : BookState). x.sound ≡ true) (sym b) s.sound;
   faithful = subst (λ (x : BookState). IsFaithful net x.grants) (sym b) s.faithful;
@@ -314,7 +314,7 @@ state_same kinds net k k' s b i v f = record {
 -- the sort of a turn
 
 -- a command that changes nothing has a turn of this sort
-pub still_turn : (kinds : List Meaning) (net : List NodeDecl) (s : State) (c : Command) → is_change c ≡ false → IsTurn kinds net s c (answered (reply kinds net s.book c) s)
+pub still_turn : (kinds : List Meaning) (net : List NodeDecl) (s : State) (c : Command) → is_change c ≡ false → IsTurn kinds net s c (reply_turn (reply kinds net s.book c) s)
 still_turn kinds net s (Resolve target a m) e = refl
 still_turn kinds net s (Lookup target a m) e = refl
 still_turn kinds net s (View target m) e = refl
@@ -329,7 +329,7 @@ still_turn kinds net s (Revoke id) e = cc
 pub still_through : (kinds : List Meaning) (net : List NodeDecl) (s next : State) (c : Command) (r : Result (Unit {0}) Halt) (a b : Option (List ℕ)) (log : Option (List TableEvent)) → is_change c ≡ false → s ≡ next → IsWritten a b (is_ok r) (is_write_halt r) (reply kinds net s.book c) → is_device_halt r ≡ false → CameThrough (IsTurn kinds net s c) r next a b log log
 still_through kinds net s next c r a b log e same w none =
     replied (IsTurn kinds net s c) r next (reply kinds net s.book c) a b log log (record {
-      turn = answered (reply kinds net s.book c) s;
+      turn = reply_turn (reply kinds net s.book c) s;
       is_turn = still_turn kinds net s c e;
       logged = Logged-none log log refl;
       replied = refl;
@@ -369,10 +369,10 @@ state_routed kinds net k after id agent line node n v book log log' number made 
     (subst (λ m. IsRouteLogged net kinds k.book.grants k.book.cleared m agent line node false log log') number logged)
     (state_left after book (with_id k.ids id) false b i fenced)
 
-pub state_revoked : (kinds : List Meaning) (net : List NodeDecl) (k after : Kept) (id : List ℕ) (n : ℕ) (book : BookState) (log log' : Option (List TableEvent)) → n ≡ id_number k.ids id → (has_id n k.book.grants ≡ false → ⊥) → ((g : Grant) → Member g k.book.grants → g.id ≡ n → AreAdded (revoke_events net kinds k.book.grants g) false log log') → book.grants ≡ without n k.book.grants → after.book ≡ book → after.ids ≡ with_id k.ids id → book.cleared ≡ true → IsChanged (IsRevokeTurn kinds net (state_view k) id) (state_view after) (revoked_text id) log log'
+pub state_revoked : (kinds : List Meaning) (net : List NodeDecl) (k after : Kept) (id : List ℕ) (n : ℕ) (book : BookState) (log log' : Option (List TableEvent)) → n ≡ id_number k.ids id → (has_id n k.book.grants ≡ false → ⊥) → ((g : Grant) → Member g k.book.grants → g.id ≡ n → AreAdded (revoke_events net kinds k.book.grants g) false log log') → book.grants ≡ without_id n k.book.grants → after.book ≡ book → after.ids ≡ with_id k.ids id → book.cleared ≡ true → IsChanged (IsRevokeTurn kinds net (state_view k) id) (state_view after) (revoked_text id) log log'
 state_revoked kinds net k after id n book log log' number known added taken b i cleared =
     revoked_turn kinds net (state_view k) (state_view after) id book.grants log log'
     (subst (λ m. has_id m k.book.grants ≡ true) number (true_from_ne_false (has_id n k.book.grants) known))
     (λ g m e. added g m (e ∙ sym number))
-    (taken ∙ ap (λ m. without m k.book.grants) number)
+    (taken ∙ ap (λ m. without_id m k.book.grants) number)
     (state_left after book (with_id k.ids id) true b i cleared)

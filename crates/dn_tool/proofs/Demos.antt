@@ -30,7 +30,7 @@ use Rattle.dn_tool.specs.Demo.{IsShown, IsSummedUp, has_granted, has_revoked, pa
 use Rattle.dn_tool.specs.Halt.{ending_status, is_device_halt, is_write_halt, make_halt}
 use Rattle.dn_tool.specs.Played.{IsPlayed, device_tables}
 use Rattle.dn_tool.specs.State.{CameThrough, IsChanged, IsTurned}
-use Rattle.dn_tool.specs.Turn.{IsTurn, State, Turn, answered, is_change, reply, start, state_after}
+use Rattle.dn_tool.specs.Turn.{IsTurn, State, Turn, is_change, reply, reply_turn, start, state_after}
 use Rattle.dn_tool.proofs.Played.{IsGone, device_told, gone_more, gone_start, halted_by, halted_unmade, more_turns, played_whole, turns_count, unmade_by, whole_turns}
 use Rattle.dn_tool.proofs.Changes.{still_turn}
 
@@ -53,7 +53,7 @@ sum_more f k = let next : k + 1 ≡ suc k = omega arith in ap (sum_below f) next
 -- it was gone through, where its reply is told to no one
 pub quiet_still : (kinds : List Meaning) (net : List NodeDecl) (s : State) (c : Command) (log : Option (List TableEvent)) → is_change c ≡ false → IsTurned (IsTurn kinds net s c) s None None log log
 quiet_still kinds net s c log e = record {
-  turn = answered (reply kinds net s.book c) s;
+  turn = reply_turn (reply kinds net s.book c) s;
   is_turn = still_turn kinds net s c e;
   logged = Logged-none log log refl;
   written = refl;

@@ -3,8 +3,8 @@ use Rattle.std.proofs.Common.{◌≡◌, ◌∙◌, ap, sym, refl, arith, ℕ, z
 use Rattle.dn_net.specs.declared.node.NodeDecl.{NodeDecl}
 use Rattle.dn_net.specs.declared.node.Unit.{Unit as UnitPart}
 use Rattle.dn_kind.specs.Kind.{Meaning}
-use Rattle.dn_tables.specs.Set.{fresh_by, fresh_set, width_by as width_in_set, words_of}
-use Rattle.dn_image.specs.Image.{width_by, word_count}
+use Rattle.dn_tables.specs.Set.{fresh_by, fresh_set, width_by, width_by as width_in_set, words_of}
+use Rattle.dn_image.specs.Image.{word_count}
 use Rattle.dn_book.specs.Book.{records_of}
 use Rattle.dn_book.specs.Tables.{packed_node, packed_nodes, packed_slots, packed_unit, tables_of}
 

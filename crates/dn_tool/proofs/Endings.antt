@@ -4,11 +4,11 @@ use Rattle.dn_base.specs.Outside.{Faults, IsCounted, IsWritten}
 use Rattle.dn_tool.specs.declared.halt.Halt.{Halt}
 use Rattle.dn_tool.specs.declared.halt.Halt.TheVariants.{WriteFault, DeviceFault, NoMemory}
 use Rattle.dn_tool.specs.Answer.{IsSaid}
-use Rattle.dn_tool.specs.Halt.{ending_status, is_device_halt, is_free, is_write_halt}
+use Rattle.dn_tool.specs.Halt.{ending_status, is_device_halt, is_free_status, is_write_halt}
 
 -- an answer that was given whole has a status of its own
 abbrev pub HasStatus : Result ℕ Halt → Type 0
-HasStatus r = IfOk r (λ s. is_free s ≡ false)
+HasStatus r = IfOk r (λ s. is_free_status s ≡ false)
 
 -- what holds of each value holds of that of an answer
 pub if_ok : {A E : Type 0} (r : Result A E) (P : A → Type 0) → ((a : A) → P a) → IfOk r P
@@ -33,11 +33,11 @@ record IsOwn (s : ℕ) : Type 0 where
   device : (s == 6) ≡ false
   memory : (s == 7) ≡ false
 
-own : (s : ℕ) → is_free s ≡ false → IsOwn s
+own : (s : ℕ) → is_free_status s ≡ false → IsOwn s
 own s h = record { read = grind arith; write = grind arith; device = grind arith; memory = grind arith }
 
 -- the status is free exactly where the answer was not given whole
-pub free_is : (r : Result ℕ Halt) → HasStatus r → is_ok r ≡ not (is_free (ending_status r))
+pub free_is : (r : Result ℕ Halt) → HasStatus r → is_ok r ≡ not (is_free_status (ending_status r))
 free_is (Ok s) h = rw h refl
 free_is (Err WriteFault) h = refl
 free_is (Err DeviceFault) h = refl
@@ -65,18 +65,18 @@ read_is (Err DeviceFault) h = refl
 read_is (Err NoMemory) h = refl
 
 -- a status that is not free is the answer's
-answered_is : (r : Result ℕ Halt) (n : ℕ) → IfOk r (λ s. s ≡ n) → is_free (ending_status r) ≡ false → ending_status r ≡ n
+answered_is : (r : Result ℕ Halt) (n : ℕ) → IfOk r (λ s. s ≡ n) → is_free_status (ending_status r) ≡ false → ending_status r ≡ n
 answered_is (Ok s) n h e = h
 answered_is (Err WriteFault) n h e = cc
 answered_is (Err DeviceFault) n h e = cc
 answered_is (Err NoMemory) n h e = cc
 
-own_status : (r : Result ℕ Halt) (n : ℕ) → is_free n ≡ false → IfOk r (λ s. s ≡ n) → HasStatus r
+own_status : (r : Result ℕ Halt) (n : ℕ) → is_free_status n ≡ false → IfOk r (λ s. s ≡ n) → HasStatus r
 own_status (Ok s) n free e = rw e free
 own_status (Err h) n free e = tt
 
 -- an output that was written, and its status, were the answer
-pub said_by : (r : Result ℕ Halt) (n : ℕ) (a b : Option (List ℕ)) (output : List ℕ) → is_free n ≡ false → IfOk r (λ s. s ≡ n) → IsWritten a b (is_ok r) (is_write_halt r) output → IsSaid n output (ending_status r) a b
+pub said_by : (r : Result ℕ Halt) (n : ℕ) (a b : Option (List ℕ)) (output : List ℕ) → is_free_status n ≡ false → IfOk r (λ s. s ≡ n) → IsWritten a b (is_ok r) (is_write_halt r) output → IsSaid n output (ending_status r) a b
 said_by r n a b output free is w =
     let h : HasStatus r = own_status r n free is in
     record {

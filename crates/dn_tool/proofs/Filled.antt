@@ -9,10 +9,10 @@ use Rattle.dn_net.specs.declared.node.Unit.{Unit as UnitPart}
 use Rattle.dn_net.specs.Decode.{unit_at, unit_of}
 use Rattle.dn_kind.specs.Kind.{Meaning}
 use Rattle.dn_tables.specs.declared.table.NodeTable.{NodeTable}
-use Rattle.dn_tables.specs.Set.{FitsNet, IsSet, fits_by, fits_kinds, is_sized, is_sized_by, is_wide, unit_in, units_of, words_in, words_of}
+use Rattle.dn_tables.specs.Set.{FitsNet, IsSet, fits_by, fits_kinds, is_sized, is_sized_by, is_wide, unit_in, units_of, width_by, words_in, words_of}
 use Rattle.dn_tables.proofs.Kept.{sized_unit}
 use Rattle.dn_tables.proofs.Units.{unit_by_units}
-use Rattle.dn_image.specs.Image.{are_filled, is_filled, width_by, word_count}
+use Rattle.dn_image.specs.Image.{are_filled, is_filled, word_count}
 
 -- words of 64 bits
 abbrev pub are_small : List ℕ → Bool

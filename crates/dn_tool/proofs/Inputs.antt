@@ -4,7 +4,7 @@ use Rattle.dn_base.specs.Outside.{Taken, AtEnd, input_limit}
 use Rattle.dn_parse.specs.Whole.{too_long}
 use Rattle.dn_parse.proofs.Judge.{text_too_long}
 use Rattle.dn_kind.specs.Kind.{Meaning}
-use Rattle.dn_module.specs.Expand.{Outcome}
+use Rattle.dn_module.specs.Expand.{Expansion}
 use Rattle.dn_tool.specs.Compiled.{compilation, reading_compilation, with_refusal}
 use Rattle.dn_tool.specs.Refused.{Refused, of_text, refusal_of}
 use Rattle.dn_words.specs.declared.words.Task.{Task}
@@ -82,20 +82,20 @@ read_is_not_shown w kinds text e = by (task_of w) e
     by None f = refl
     by (Some Run) f = run_by (with_refusal (compilation kinds text))
       where
-        run_by : (r : Result Outcome Refused) → is_shown (compiled_answer Run kinds r) ≡ false
+        run_by : (r : Result Expansion Refused) → is_shown (compiled_answer Run kinds r) ≡ false
         run_by (Ok o) = refl
         run_by (Err r) = refl
     by (Some Check) f = check_by (with_refusal (compilation kinds text))
       where
-        check_by : (r : Result Outcome Refused) → is_shown (compiled_answer Check kinds r) ≡ false
+        check_by : (r : Result Expansion Refused) → is_shown (compiled_answer Check kinds r) ≡ false
         check_by (Ok o) = refl
         check_by (Err r) = refl
     by (Some (Demo agents)) f = cc
 
 -- a text with a net is no longer than the limit
-pub legal_short : (kinds : List Meaning) (text : List ℕ) (o : Outcome) → with_refusal (compilation kinds text) ≡ Ok o → length text < input_limit
+pub legal_short : (kinds : List Meaning) (text : List ℕ) (o : Expansion) → with_refusal (compilation kinds text) ≡ Ok o → length text < input_limit
 legal_short kinds text o e = short (grind arith)
   where
     short : (length text < input_limit) ⊎ (4194304 < length text) → length text < input_limit
     short (inl l) = l
-    short (inr l) = let f : ◌≡◌ {A = Result Outcome Refused} (Err (refusal_of (of_text too_long))) (Ok o) = sym (ap with_refusal (long_refused kinds text l)) ∙ e in absurd (cc)
+    short (inr l) = let f : ◌≡◌ {A = Result Expansion Refused} (Err (refusal_of (of_text too_long))) (Ok o) = sym (ap with_refusal (long_refused kinds text l)) ∙ e in absurd (cc)

@@ -7,7 +7,7 @@ use Rattle.dn_kind.specs.Tables.{Held, record_held, resolved_names_under}
 use Rattle.dn_image.specs.Image.{ImageWords, are_filled, image, written_version}
 use Rattle.dn_image.specs.Reading.{BrokenImage, broken_image, image_reading, image_words, reading_by, version_of}
 use Rattle.dn_image.proofs.Told.{image_is_read}
-use Rattle.dn_lookup.specs.Lookup.{NoLookup, looked_up_in, no_agent}
+use Rattle.dn_lookup.specs.Lookup.{NoLookup, lookup_in, no_agent}
 use Rattle.dn_book.specs.Tables.{tables_of}
 use Rattle.dn_book.proofs.Begun.{tables_hold_records}
 use Rattle.dn_book.proofs.Owed.{owed_names_are_resolved}
@@ -21,8 +21,8 @@ faithful_image_gives_owed kinds net book lawful legal kept filled access x agent
     let i : ImageWords = record { version = 2; words = tables_of net kinds book } in
     let read : image_reading net kinds bytes ≡ Ok i = image_is_read net kinds bytes i (record { version = refl; filled = filled; bytes = refl }) in
     let held = tables_hold_records net kinds book legal.legal legal.shaped lawful kept.sound in
-    ap (λ (b : Bool). if b then looked_up_in net kinds access x (image_reading net kinds bytes) else Err no_agent) agent
-    ∙ ap (looked_up_in net kinds access x) read
+    ap (λ (b : Bool). if b then lookup_in net kinds access x (image_reading net kinds bytes) else Err no_agent) agent
+    ∙ ap (lookup_in net kinds access x) read
     ∙ ap (λ (h : Held). Ok (resolved_names_under net h x)) (held_same net book access (record_held net kinds (tables_of net kinds book)) held)
     ∙ ap Ok (sym (owed_names_are_resolved net book kept.faithful access x agent))
 

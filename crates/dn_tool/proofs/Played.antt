@@ -26,10 +26,10 @@ use Rattle.dn_module.specs.declared.command.Command.{Command}
 use Rattle.dn_tool.specs.declared.halt.Halt.{Halt}
 use Rattle.dn_tool.specs.declared.halt.Halt.TheVariants.{WriteFault, DeviceFault, NoMemory}
 use Rattle.dn_tool.specs.Books.{GivesOwed}
-use Rattle.dn_tool.specs.Halt.{ending_status, is_free, make_halt}
-use Rattle.dn_tool.specs.Played.{CameIn, CameTo, IsPlayed, device_tables, making, turn_at}
+use Rattle.dn_tool.specs.Halt.{ending_status, is_free_status, make_halt}
+use Rattle.dn_tool.specs.Played.{CameIn, CameTo, IsPlayed, device_tables, make_turn, turn_at}
 use Rattle.dn_tool.specs.State.{CameThrough, IsHalted}
-use Rattle.dn_tool.specs.Turn.{AreTurns, IsTurn, State, Turn, answered, events_of, replies_of, start, state_after}
+use Rattle.dn_tool.specs.Turn.{AreTurns, IsTurn, State, Turn, events_of, replies_of, reply_turn, start, state_after}
 use Rattle.dn_tool.proofs.Empty.{fresh_tables}
 
 -- the tables of a set, as a device tells them
@@ -48,7 +48,7 @@ pub device_told : (set : List NodeTable) (net : List NodeDecl) (words : List (Li
 device_told set net words e f = device_from 0 set net words e f
 
 -- the events of the making
-making_events : (kinds : List Meaning) (net : List NodeDecl) → map make_event (tables_of_set (fresh_set kinds net)) ≡ (making kinds net).events
+making_events : (kinds : List Meaning) (net : List NodeDecl) → map make_event (tables_of_set (fresh_set kinds net)) ≡ (make_turn kinds net).events
 making_events kinds net = ap (map make_event) (device_told (fresh_set kinds net) net (tables_of net kinds []) (fresh_units kinds net) (fresh_tables kinds net))
 
 -- turns
@@ -99,15 +99,15 @@ pub record IsGone (kinds : List Meaning) (net : List NodeDecl) (commands : List 
   pub happened : AreTurns kinds net start (take count commands) turns
   pub left : state_after start turns ≡ s
   pub books : AreBooks kinds net turns
-  pub written : Added before after (replies_of (making kinds net ∷ turns))
-  pub logged : Logged log log' (events_of (making kinds net ∷ turns))
+  pub written : Added before after (replies_of (make_turn kinds net ∷ turns))
+  pub logged : Logged log log' (events_of (make_turn kinds net ∷ turns))
 
 -- the units were made
 pub gone_start : (kinds : List Meaning) (net : List NodeDecl) (commands : List Command) (a b : Option (List ℕ)) (log log' : Option (List TableEvent)) (sizes : List UnitSize) (told told' : Option (List UnitWords)) → GivesOwed kinds net [] → b ≡ a → AreUnitsMade (tables_of_set (fresh_set kinds net)) true false log log' sizes told told' → IsGone kinds net commands 0 start a b log log'
 gone_start kinds net commands a b log log' sizes told told' empty same made =
     let tables : List UnitWords = tables_of_set (fresh_set kinds net) in
     let whole : take made.made tables ≡ tables = ap (λ n. take n tables) (made.all refl) ∙ take-length tables in
-    let events : map make_event (take made.made tables) ≡ (making kinds net).events ++ [] = ap (map make_event) whole ∙ making_events kinds net ∙ sym (append-nil (making kinds net).events) in
+    let events : map make_event (take made.made tables) ≡ (make_turn kinds net).events ++ [] = ap (map make_event) whole ∙ making_events kinds net ∙ sym (append-nil (make_turn kinds net).events) in
     record {
       turns = [];
       happened = refl;
@@ -126,13 +126,13 @@ gone_more kinds net commands i s c t a b d log log' log'' g within at is owed w 
       turns = g.turns ++ t ∷ [];
       happened = subst (λ cs. AreTurns kinds net start cs (g.turns ++ t ∷ [])) (sym next) (turns_more kinds net start (take i commands) g.turns c t g.happened (subst (λ z. IsTurn kinds net z c t) (sym g.left) is));
       left = state_last start g.turns t;
-      written = subst (λ r. Added a d r) (sym (replies_more (making kinds net ∷ g.turns) t)) (Added-then a b d _ _ g.written w);
-      logged = subst (λ es. Logged log log'' es) (sym (events_more (making kinds net ∷ g.turns) t)) (Logged-then log log' log'' _ _ g.logged l);
+      written = subst (λ r. Added a d r) (sym (replies_more (make_turn kinds net ∷ g.turns) t)) (Added-then a b d _ _ g.written w);
+      logged = subst (λ es. Logged log log'' es) (sym (events_more (make_turn kinds net ∷ g.turns) t)) (Logged-then log log' log'' _ _ g.logged l);
     }
 
 -- places of turns
 
-turn_past : (ts : List Turn) → turn_at ts (length ts) ≡ answered [] start
+turn_past : (ts : List Turn) → turn_at ts (length ts) ≡ reply_turn [] start
 turn_past [] = refl
 turn_past (t ∷ ts) = turn_past ts
 
@@ -192,15 +192,15 @@ came_in ts t status a b d log log' log'' going w l c =
 -- the run over a script
 
 -- a status that is free is not one that is not
-not_exact : (status : ℕ) → is_free status ≡ true → is_free status ≡ false → status ≡ 0
+not_exact : (status : ℕ) → is_free_status status ≡ true → is_free_status status ≡ false → status ≡ 0
 not_exact status free e = let f : true ≡ false = sym free ∙ e in cc
 
 -- not all units were made
-pub played_unmade : (kinds : List Meaning) (net : List NodeDecl) (commands : List Command) (status : ℕ) (failed : Bool) (a b : Option (List ℕ)) (log log' : Option (List TableEvent)) (sizes : List UnitSize) (told told' : Option (List UnitWords)) → is_free status ≡ true → status ≢ 0 → status ≢ 3 → (status ≡ 6 → failed ≡ true) → b ≡ a → AreUnitsMade (tables_of_set (fresh_set kinds net)) false failed log log' sizes told told' → IsPlayed kinds net commands status a b log log' told'
+pub played_unmade : (kinds : List Meaning) (net : List NodeDecl) (commands : List Command) (status : ℕ) (failed : Bool) (a b : Option (List ℕ)) (log log' : Option (List TableEvent)) (sizes : List UnitSize) (told told' : Option (List UnitWords)) → is_free_status status ≡ true → status ≢ 0 → status ≢ 3 → (status ≡ 6 → failed ≡ true) → b ≡ a → AreUnitsMade (tables_of_set (fresh_set kinds net)) false failed log log' sizes told told' → IsPlayed kinds net commands status a b log log' told'
 played_unmade kinds net commands status failed a b log log' sizes told told' free going not_sink device same made =
     let tables : List UnitWords = tables_of_set (fresh_set kinds net) in
-    let events : map make_event (take made.made tables) ≡ take made.made (making kinds net).events = sym (take-map made.made tables) ∙ ap (take made.made) (making_events kinds net) in
-    let count : length (making kinds net).events ≡ length tables = ap length (sym (making_events kinds net)) ∙ length-map tables make_event in
+    let events : map make_event (take made.made tables) ≡ take made.made (make_turn kinds net).events = sym (take-map made.made tables) ∙ ap (take made.made) (making_events kinds net) in
+    let count : length (make_turn kinds net).events ≡ length tables = ap length (sym (making_events kinds net)) ∙ length-map tables make_event in
     record {
       turns = [];
       few = omega arith;
@@ -239,7 +239,7 @@ happened_first kinds net commands i ts l h =
 pub played_whole : (kinds : List Meaning) (net : List NodeDecl) (commands : List Command) (i status : ℕ) (s : State) (a b : Option (List ℕ)) (log log' : Option (List TableEvent)) (told' : Option (List UnitWords)) → i ≡ length commands → status ≡ 0 → IfSome told' (λ tables. tables ≡ device_tables 0 net (tables_of net kinds s.book)) → IsGone kinds net commands i s a b log log' → IsPlayed kinds net commands status a b log log' told'
 played_whole kinds net commands i status s a b log log' told' over none told g =
     let h = happened_first kinds net commands i g.turns (omega (arith, over)) g.happened in
-    let came = came_whole (making kinds net ∷ g.turns) status a b log log' (λ e. let x = none in absurd (omega (arith, e, x))) (λ e. let x = none in absurd (omega (arith, e, x))) g.written g.logged in
+    let came = came_whole (make_turn kinds net ∷ g.turns) status a b log log' (λ e. let x = none in absurd (omega (arith, e, x))) (λ e. let x = none in absurd (omega (arith, e, x))) g.written g.logged in
     record {
       turns = g.turns;
       few = let e = h.0 in omega (arith, e, over);
@@ -255,25 +255,25 @@ played_whole kinds net commands i status s a b log log' told' over none told g =
 pub played_before : (kinds : List Meaning) (net : List NodeDecl) (commands : List Command) (i status : ℕ) (s : State) (a b : Option (List ℕ)) (log log' : Option (List TableEvent)) (told' : Option (List UnitWords)) → i ≤ length commands → status ≡ 7 → IsGone kinds net commands i s a b log log' → IsPlayed kinds net commands status a b log log' told'
 played_before kinds net commands i status s a b log log' told' within is g =
     let h = happened_first kinds net commands i g.turns within g.happened in
-    let came = came_whole (making kinds net ∷ g.turns) status a b log log' (λ e. absurd (omega (arith, e, is))) (λ e. absurd (omega (arith, e, is))) g.written g.logged in
+    let came = came_whole (make_turn kinds net ∷ g.turns) status a b log log' (λ e. absurd (omega (arith, e, is))) (λ e. absurd (omega (arith, e, is))) g.written g.logged in
     record {
       turns = g.turns;
       few = let e = h.0 in omega (arith, e, within);
       happened = h.1;
       came = came.0;
       books = λ count l. (let e = came.1 in g.books count (omega (arith, l, e)));
-      exact = not_exact status (ap is_free is);
+      exact = not_exact status (ap is_free_status is);
       all = λ e. absurd (omega (arith, e, is));
       tables = λ e. absurd (omega (arith, e, is));
     }
 
 -- it stopped in the turn of a command
-pub played_in : (kinds : List Meaning) (net : List NodeDecl) (commands : List Command) (i status : ℕ) (s : State) (c : Command) (t : Turn) (a b d : Option (List ℕ)) (log log' log'' : Option (List TableEvent)) (told' : Option (List UnitWords)) → i < length commands → c ≡ get_or commands i c → is_free status ≡ true → status ≢ 0 → IsGone kinds net commands i s a b log log' → IsTurn kinds net s c t → CameIn t status b d log' log'' → IsPlayed kinds net commands status a d log log'' told'
+pub played_in : (kinds : List Meaning) (net : List NodeDecl) (commands : List Command) (i status : ℕ) (s : State) (c : Command) (t : Turn) (a b d : Option (List ℕ)) (log log' log'' : Option (List TableEvent)) (told' : Option (List UnitWords)) → i < length commands → c ≡ get_or commands i c → is_free_status status ≡ true → status ≢ 0 → IsGone kinds net commands i s a b log log' → IsTurn kinds net s c t → CameIn t status b d log' log'' → IsPlayed kinds net commands status a d log log'' told'
 played_in kinds net commands i status s c t a b d log log' log'' told' within at free going g is came =
     let next : take (i + 1) commands ≡ take i commands ++ c ∷ [] = take_more commands i c within ∙ ap (λ (e : Command). take i commands ++ e ∷ []) (sym at) in
     let turns : AreTurns kinds net start (take (i + 1) commands) (g.turns ++ t ∷ []) = subst (λ cs. AreTurns kinds net start cs (g.turns ++ t ∷ [])) (sym next) (turns_more kinds net start (take i commands) g.turns c t g.happened (subst (λ z. IsTurn kinds net z c t) (sym g.left) is)) in
     let h = happened_first kinds net commands (i + 1) (g.turns ++ t ∷ []) (omega (arith, within)) turns in
-    let stop = came_in (making kinds net ∷ g.turns) t status a b d log log' log'' going g.written g.logged came in
+    let stop = came_in (make_turn kinds net ∷ g.turns) t status a b d log log' log'' going g.written g.logged came in
     record {
       turns = g.turns ++ t ∷ [];
       few = let e = h.0 in omega (arith, e, within);
@@ -310,7 +310,7 @@ halted_by {X} kinds net commands i c s next r halt ended a b d log log' log'' to
     going DeviceFault e = absurd (omega (arith, e))
     going NoMemory e = absurd (omega (arith, e))
 
-    free : (h : Halt) → is_free (ending_status (Err h)) ≡ true
+    free : (h : Halt) → is_free_status (ending_status (Err h)) ≡ true
     free WriteFault = refl
     free DeviceFault = refl
     free NoMemory = refl
@@ -322,8 +322,8 @@ halted_by {X} kinds net commands i c s next r halt ended a b d log log' log'' to
           turns = g.turns;
           happened = g.happened;
           left = g.left;
-          written = subst (λ x. Added a x (replies_of (making kinds net ∷ g.turns))) (sym z.sink_is) g.written;
-          logged = subst (λ x. Logged log x (events_of (making kinds net ∷ g.turns))) (sym z.log_is) g.logged;
+          written = subst (λ x. Added a x (replies_of (make_turn kinds net ∷ g.turns))) (sym z.sink_is) g.written;
+          logged = subst (λ x. Logged log x (events_of (make_turn kinds net ∷ g.turns))) (sym z.log_is) g.logged;
         } in
         played_before kinds net commands i (ending_status (Err halt)) s a d log log'' told' (omega (arith, within)) (ap (λ (h : Halt). ending_status (Err h)) z.memory) here
     go (inr z) = played_in kinds net commands i (ending_status (Err halt)) s c z.turn a b d log log' log'' told' within at (free halt) (going halt) g z.is_turn z.came

@@ -10,7 +10,7 @@ use Rattle.dn_net.specs.WalkRules.{Broken, walk_fault}
 use Rattle.dn_kind.specs.Kind.{Meaning}
 use Rattle.dn_kind.specs.Units.{shape_fault}
 use Rattle.dn_module.specs.declared.fault.ExpandFault.{ExpandFault}
-use Rattle.dn_module.specs.Expand.{Outcome, expansion_of}
+use Rattle.dn_module.specs.Expand.{Expansion, expansion_of}
 use Rattle.dn_module.specs.Faults.{ExpansionFault, expand_fault_view}
 use Rattle.dn_tool.specs.Refused.{Refused, text_refusal, expand_refusal, node_refusal, unit_refusal, walk_refusal}
 use Rattle.dn_tool.specs.Compiled.{by_node_rules, by_unit_rule, by_walk_rules, compilation, expansion_compilation, reading_compilation, with_refusal}
@@ -36,28 +36,28 @@ expansion_refused kinds text tree e (Ok x) read fault is = go (expand_fault_view
 expansion_refused kinds text tree e (Err y) read fault is = tt
 
 -- what its net comes to is what it comes to
-pub outcome_compiled : (kinds : List Meaning) (text : List ℕ) (tree : Tree) (o : Outcome) → text_reading text ≡ Ok tree → expansion_of kinds tree ≡ Ok o → expansion_compilation kinds (Ok o) ≡ compilation kinds text
+pub outcome_compiled : (kinds : List Meaning) (text : List ℕ) (tree : Tree) (o : Expansion) → text_reading text ≡ Ok tree → expansion_of kinds tree ≡ Ok o → expansion_compilation kinds (Ok o) ≡ compilation kinds text
 unfolding compilation
 outcome_compiled kinds text tree o read made = sym (ap (reading_compilation kinds) read ∙ ap (expansion_compilation kinds) made)
 
 -- a node breaks a rule
-pub nodes_refused : {E : Type 0} (kinds : List Meaning) (o : Outcome) (v : Option BrokenNode) (r : Result Refused E) → IfSome v (λ b. node_fault o.net ≡ Some b) → IfOk r (λ x. option_map (node_refusal o.net) v ≡ Some x) → IfOk r (λ x. with_refusal (expansion_compilation kinds (Ok o)) ≡ Err x)
+pub nodes_refused : {E : Type 0} (kinds : List Meaning) (o : Expansion) (v : Option BrokenNode) (r : Result Refused E) → IfSome v (λ b. node_fault o.net ≡ Some b) → IfOk r (λ x. option_map (node_refusal o.net) v ≡ Some x) → IfOk r (λ x. with_refusal (expansion_compilation kinds (Ok o)) ≡ Err x)
 nodes_refused kinds o None (Ok x) fault is = cc
 nodes_refused kinds o (Some b) (Ok x) fault is = ap (λ b. with_refusal (by_node_rules kinds o b)) fault ∙ ap (λ q. Err q) (same_Some (node_refusal o.net b) x is)
 nodes_refused kinds o v (Err y) fault is = tt
 
 -- a unit breaks the rule on shapes
-pub unit_refused : {E : Type 0} (kinds : List Meaning) (o : Outcome) (v : Option ℕ) (r : Result Refused E) → node_fault o.net ≡ None → IfSome v (λ n. shape_fault kinds o.net ≡ Some n) → IfOk r (λ x. option_map (unit_refusal o.net) v ≡ Some x) → IfOk r (λ x. with_refusal (expansion_compilation kinds (Ok o)) ≡ Err x)
+pub unit_refused : {E : Type 0} (kinds : List Meaning) (o : Expansion) (v : Option ℕ) (r : Result Refused E) → node_fault o.net ≡ None → IfSome v (λ n. shape_fault kinds o.net ≡ Some n) → IfOk r (λ x. option_map (unit_refusal o.net) v ≡ Some x) → IfOk r (λ x. with_refusal (expansion_compilation kinds (Ok o)) ≡ Err x)
 unit_refused kinds o None (Ok x) checked fault is = cc
 unit_refused kinds o (Some n) (Ok x) checked fault is = ap (λ b. with_refusal (by_node_rules kinds o b)) checked ∙ ap (λ b. with_refusal (by_unit_rule o b)) fault ∙ ap (λ q. Err q) (same_Some (unit_refusal o.net n) x is)
 unit_refused kinds o v (Err y) checked fault is = tt
 
 -- a walk breaks a rule
-pub walks_refused : {E : Type 0} (kinds : List Meaning) (o : Outcome) (v : Option Broken) (r : Result Refused E) → node_fault o.net ≡ None → shape_fault kinds o.net ≡ None → IfSome v (λ b. walk_fault o.net ≡ Some b) → IfOk r (λ x. option_map (walk_refusal o.net) v ≡ Some x) → IfOk r (λ x. with_refusal (expansion_compilation kinds (Ok o)) ≡ Err x)
+pub walks_refused : {E : Type 0} (kinds : List Meaning) (o : Expansion) (v : Option Broken) (r : Result Refused E) → node_fault o.net ≡ None → shape_fault kinds o.net ≡ None → IfSome v (λ b. walk_fault o.net ≡ Some b) → IfOk r (λ x. option_map (walk_refusal o.net) v ≡ Some x) → IfOk r (λ x. with_refusal (expansion_compilation kinds (Ok o)) ≡ Err x)
 walks_refused kinds o None (Ok x) checked shaped fault is = cc
 walks_refused kinds o (Some b) (Ok x) checked shaped fault is = ap (λ b. with_refusal (by_node_rules kinds o b)) checked ∙ ap (λ b. with_refusal (by_unit_rule o b)) shaped ∙ ap (λ b. with_refusal (by_walk_rules o b)) fault ∙ ap (λ q. Err q) (same_Some (walk_refusal o.net b) x is)
 walks_refused kinds o v (Err y) checked shaped fault is = tt
 
 -- nothing breaks a rule
-pub is_legal : (kinds : List Meaning) (o : Outcome) → node_fault o.net ≡ None → shape_fault kinds o.net ≡ None → walk_fault o.net ≡ None → with_refusal (expansion_compilation kinds (Ok o)) ≡ Ok o
+pub is_legal : (kinds : List Meaning) (o : Expansion) → node_fault o.net ≡ None → shape_fault kinds o.net ≡ None → walk_fault o.net ≡ None → with_refusal (expansion_compilation kinds (Ok o)) ≡ Ok o
 is_legal kinds o checked shaped walkable = ap (λ b. with_refusal (by_node_rules kinds o b)) checked ∙ ap (λ b. with_refusal (by_unit_rule o b)) shaped ∙ ap (λ b. with_refusal (by_walk_rules o b)) walkable

@@ -26,10 +26,11 @@ use Rattle.dn_kind.specs.Units.{shape_fault}
 use Rattle.dn_kind.proofs.Shapes.{shaped_plain}
 use Rattle.dn_parse.specs.Tree.{Tree}
 use Rattle.dn_parse.specs.Whole.{TextFault, text_reading}
+use Rattle.dn_net.specs.Parts.{parts_of_node}
 use Rattle.dn_module.specs.Faults.{ExpansionFault}
-use Rattle.dn_module.specs.Expand.{Outcome, expansion_of}
+use Rattle.dn_module.specs.Expand.{Expansion, expansion_of}
 use Rattle.dn_print.specs.Spelled.{IsFull}
-use Rattle.dn_print.specs.Printable.{IsPrintableBlock, IsPrintableEntry, HasPrintableUnit, IsPrintableNode, parts_of_node, IsPrintable}
+use Rattle.dn_print.specs.Printable.{IsPrintableBlock, IsPrintableEntry, HasPrintableUnit, IsPrintableNode, IsPrintable}
 use Rattle.dn_print.proofs.Drafted.{printable_back}
 use Rattle.dn_print.proofs.Formed.{each_both}
 use Rattle.dn_print.proofs.Judged.{tree_good}
@@ -40,7 +41,7 @@ use Rattle.dn_print.proofs.Titles.{full_one, full_both}
 use Rattle.dn_print.proofs.Words.{acc_title}
 use Rattle.dn_shape.specs.declared.fault.Why.{Why}
 use Rattle.dn_shape.specs.Absorb.{why_not, why_not_at, dest_of_end, entry_of_row, is_rewritten, node_led_past, node_past, nodes_past, net_past, rows_past, net_unless, net_within}
-use Rattle.dn_shape.specs.Limits.{part_limit, dest_limit, parts_of_net, has_long_entry, passed_limit, by_limit}
+use Rattle.dn_shape.specs.Limits.{part_limit, dest_limit, parts_of_net, has_long_entry, passed_limit, value_by_limit}
 use Rattle.dn_shape.specs.Split.{maximal_spans, is_divided, new_nodes, entry_onto, sender_to, sending_node, sending_nodes, accepter_text, accepter, with_accepter, with_accepters, free_number, split_net}
 use Rattle.dn_shape.specs.Views.{IsRuledNet}
 use Rattle.dn_shape.proofs.Led.{absorb_keeps_rules}
@@ -225,7 +226,7 @@ split_printable kinds net legal h none =
 pub split_is_read_back : SplitIsReadBack
 split_is_read_back kinds net made legal h e = by (passed_limit (split_net net)) refl e
   where
-    by : (o : Option ℕ) → passed_limit (split_net net) ≡ o → by_limit (split_net net) o ≡ Ok made → IsReadBack kinds made
+    by : (o : Option ℕ) → passed_limit (split_net net) ≡ o → value_by_limit (split_net net) o ≡ Ok made → IsReadBack kinds made
     by None none g = let same : split_net net ≡ made = cc in subst (IsReadBack kinds) same (read_back kinds (split_net net) (split_printable kinds net legal h none))
     by (Some limit) none g = cc
 
@@ -293,14 +294,14 @@ all_back kinds net legal h = record {
 }
 
 -- a printable net that breaks no rule is legal
-judged : (kinds : List Meaning) (made o : Outcome) → IsPrintable kinds made.net → by_node_rules kinds made (node_fault made.net) ≡ Ok o → AreReadBack kinds o.net
+judged : (kinds : List Meaning) (made o : Expansion) → IsPrintable kinds made.net → by_node_rules kinds made (node_fault made.net) ≡ Ok o → AreReadBack kinds o.net
 judged kinds made o h e = nodes (node_fault made.net) refl e
   where
     walks : node_fault made.net ≡ None → shape_fault kinds made.net ≡ None → (w : Option Broken) → walk_fault made.net ≡ w → by_walk_rules made w ≡ Ok o → AreReadBack kinds o.net
     walks p q None r g =
         let same : made ≡ o = cc in
         let legal = (legal_breaks_no_rule made.net h.is_net h.closed).0 (p, shaped_plain kinds made.net q, r) in
-        subst (λ (x : Outcome). AreReadBack kinds x.net) same (all_back kinds made.net legal h)
+        subst (λ (x : Expansion). AreReadBack kinds x.net) same (all_back kinds made.net legal h)
     walks p q (Some f) r g = cc
 
     units : node_fault made.net ≡ None → (u : Option ℕ) → shape_fault kinds made.net ≡ u → by_unit_rule made u ≡ Ok o → AreReadBack kinds o.net
@@ -315,7 +316,7 @@ pub compiled_is_read_back : CompiledIsReadBack
 unfolding compilation
 compiled_is_read_back kinds text o e = read (text_reading text) refl e
   where
-    expanded : (tree : Tree) → text_reading text ≡ Ok tree → (x : Result Outcome ExpansionFault) → expansion_of kinds tree ≡ x → expansion_compilation kinds x ≡ Ok o → AreReadBack kinds o.net
+    expanded : (tree : Tree) → text_reading text ≡ Ok tree → (x : Result Expansion ExpansionFault) → expansion_of kinds tree ≡ x → expansion_compilation kinds x ≡ Ok o → AreReadBack kinds o.net
     expanded tree p (Ok made) q g = judged kinds made o (from_printable kinds made.net (made_from kinds tree made (tree_good text tree p) q)) g
     expanded tree p (Err f) q g = cc
 

@@ -6,7 +6,7 @@ use Rattle.dn_base.proofs.Members.{member_all}
 use Rattle.dn_net.specs.declared.node.NodeDecl.{NodeDecl}
 use Rattle.dn_kind.specs.Units.{has_kind}
 use Rattle.dn_shape.specs.declared.fault.Why.{Why}
-use Rattle.dn_shape.specs.Limits.{passed_limit, by_limit}
+use Rattle.dn_shape.specs.Limits.{passed_limit, value_by_limit}
 use Rattle.dn_shape.specs.Split.{is_divided, new_nodes, sender_to, sending_nodes, split_net, split_outcome}
 use Rattle.dn_shape.specs.Absorb.{absorb_outcome, is_rewritten, net_past, net_unless, net_within, node_led_past, nodes_past, why_not_at}
 use Rattle.dn_shape.proofs.Sending.{all_of_each, each_new}
@@ -35,7 +35,7 @@ split_net_known count net all =
 pub split_known : (count : ℕ) (net made : List NodeDecl) → IsTrue (known count net) → split_outcome net ≡ Ok made → IsTrue (known count made)
 split_known count net made all e = by (passed_limit (split_net net)) e
   where
-    by : (o : Option ℕ) → by_limit (split_net net) o ≡ Ok made → IsTrue (known count made)
+    by : (o : Option ℕ) → value_by_limit (split_net net) o ≡ Ok made → IsTrue (known count made)
     by None f = let same : split_net net ≡ made = cc in subst (λ l. IsTrue (known count l)) same (split_net_known count net all)
     by (Some limit) f = cc
 

@@ -3,7 +3,7 @@ use Rattle.std.proofs.Common.{◌≡◌, ◌∙◌, ap, sym, subst, ℕ, ◌↔�
 use Rattle.dn_interval.specs.declared.row.End.{End}
 use Rattle.dn_interval.specs.declared.row.Row.{Row}
 use Rattle.dn_interval.specs.Rows.{Member as EndIn, AreNormal, Ascending}
-use Rattle.dn_interval.specs.Listed.{Seen, SeenApart, SeenGive, listed_rows, seen_by}
+use Rattle.dn_interval.specs.Listed.{Seen, SeenApart, SeenGive, listed_rows, seen_view}
 use Rattle.dn_interval.proofs.Fronts.{listed_are_normal}
 use Rattle.dn_interval.proofs.Listing.{normal_are_listed}
 use Rattle.dn_net.specs.declared.node.Name.{Name}
@@ -14,13 +14,13 @@ use Rattle.dn_net.proofs.Resolution.{end_names_are_ends}
 use Rattle.dn_kind.specs.declared.rights.Access.{Access}
 use Rattle.dn_kind.specs.Kind.{Meaning}
 use Rattle.dn_kind.specs.Tables.{Held, allowing, record_allowing, resolved_names_under, step_limit_under, steps_under}
-use Rattle.dn_flat.specs.Views.{name_of_end, end_of}
 use Rattle.dn_tables.specs.Set.{record_kept}
 use Rattle.dn_view.specs.Views.{AreViewed, ResolvesFromUnder}
 use Rattle.dn_book.specs.declared.grant.Grant.{Grant}
 use Rattle.dn_book.specs.Book.{IsFaithful, owed_names, records_of}
 use Rattle.dn_book.proofs.Owed.{owed_names_are_resolved}
 use Rattle.dn_walk.proofs.Ends.{end_in, ends_ascend}
+use Rattle.dn_walk.specs.Ends.{end_of, name_of_end}
 use Rattle.dn_tool.specs.declared.state.State.{State as Kept}
 use Rattle.dn_tool.specs.State.{IsState}
 use Rattle.dn_tool.specs.Viewed.{OwedRowsAreNormal, owed_rows}
@@ -42,7 +42,7 @@ ends_at_ascend net h n a =
     let x : Name = record { node = n; addr = a } in
     ends_ascend (resolved_names_under net h x) (end_names_ascend (steps_under net h) (is_accepted net) step_limit_under x)
 
-rows_listed : (net : List NodeDecl) (h : Held) (n : ℕ) (rows : List Row) → AreNormal (ResolvesFromUnder net h n) rows → map seen_by rows ≡ listed_rows (ends_at net h n)
+rows_listed : (net : List NodeDecl) (h : Held) (n : ℕ) (rows : List Row) → AreNormal (ResolvesFromUnder net h n) rows → map seen_view rows ≡ listed_rows (ends_at net h n)
 rows_listed net h n rows normal =
     normal_are_listed (ends_at net h n) (ends_at_ascend net h n) rows (record {
       apart = normal.apart;
@@ -58,7 +58,7 @@ ends_owed : (net : List NodeDecl) (book : List Grant) (access : Access) (n : ℕ
 ends_owed net book access n faithful agent = λ i a. ap (map end_of) (sym (owed_names_are_resolved net book faithful access (record { node = n; addr = a }) agent)) i
 
 -- rows that are normal under the records of a faithful book are the rows of what it owes to an agent
-pub rows_are_owed : (net : List NodeDecl) (book : List Grant) (access : Access) (n : ℕ) (h : Held) (rows : List Row) → IsFaithful net book → IsTrue (is_agent_at (slice_get net n)) → ((node slot : ℕ) → h node slot ≡ records_of net book node slot) → AreNormal (ResolvesFromUnder net (allowing access h) n) rows → map seen_by rows ≡ owed_rows net book access n
+pub rows_are_owed : (net : List NodeDecl) (book : List Grant) (access : Access) (n : ℕ) (h : Held) (rows : List Row) → IsFaithful net book → IsTrue (is_agent_at (slice_get net n)) → ((node slot : ℕ) → h node slot ≡ records_of net book node slot) → AreNormal (ResolvesFromUnder net (allowing access h) n) rows → map seen_view rows ≡ owed_rows net book access n
 rows_are_owed net book access n h rows faithful agent same normal =
     rows_listed net (allowing access h) n rows normal
     ∙ ap (λ (k : Held). listed_rows (ends_at net k n)) (held_same net book access h same)
@@ -76,11 +76,11 @@ owed_rows_are_normal net book faithful access n agent =
     }
 
 -- so what holds of the rows that a node sees under the tables of a book that is kept holds of those of what it owes
-pub seen_is_owed : (net : List NodeDecl) (kinds : List Meaning) (k : Kept) (access : Access) (n : ℕ) (rows : List Row) (P : List Seen → Type 0) → IsState kinds net k → IsTrue (is_agent_at (slice_get net n)) → AreViewed net (allowing access (record_kept kinds k.book.set)) n rows → P (map seen_by rows) → P (owed_rows net k.book.grants access n)
+pub seen_is_owed : (net : List NodeDecl) (kinds : List Meaning) (k : Kept) (access : Access) (n : ℕ) (rows : List Row) (P : List Seen → Type 0) → IsState kinds net k → IsTrue (is_agent_at (slice_get net n)) → AreViewed net (allowing access (record_kept kinds k.book.set)) n rows → P (map seen_view rows) → P (owed_rows net k.book.grants access n)
 seen_is_owed net kinds k access n rows P state agent normal p =
     subst P (rows_are_owed net k.book.grants access n (record_kept kinds k.book.set) rows state.faithful agent state.kept.held normal) p
 
 -- the same of what it sees under any tables
-pub fixed_is_owed : (net : List NodeDecl) (kinds : List Meaning) (k : Kept) (access : Access) (n : ℕ) (rows : List Row) (P : List Seen → Type 0) → IsState kinds net k → IsTrue (is_agent_at (slice_get net n)) → ((h : Held) → AreViewed net h n rows) → P (map seen_by rows) → P (owed_rows net k.book.grants access n)
+pub fixed_is_owed : (net : List NodeDecl) (kinds : List Meaning) (k : Kept) (access : Access) (n : ℕ) (rows : List Row) (P : List Seen → Type 0) → IsState kinds net k → IsTrue (is_agent_at (slice_get net n)) → ((h : Held) → AreViewed net h n rows) → P (map seen_view rows) → P (owed_rows net k.book.grants access n)
 fixed_is_owed net kinds k access n rows P state agent fixed p =
     seen_is_owed net kinds k access n rows P state agent (fixed (allowing access (record_kept kinds k.book.set))) p

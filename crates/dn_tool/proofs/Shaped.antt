@@ -6,7 +6,7 @@ use Rattle.std.specs.List.{list_all}
 use Rattle.dn_base.proofs.Booleans.{and_from}
 use Rattle.dn_net.specs.declared.node.NodeDecl.{NodeDecl}
 use Rattle.dn_net.specs.declared.node.Unit.{Unit as UnitPart}
-use Rattle.dn_kind.specs.Kind.{Meaning, is_plain}
+use Rattle.dn_kind.specs.Kind.{Meaning, is_plain_unit_shape}
 use Rattle.dn_kind.specs.Units.{KeepsUnitShape, fits_shape, has_kind, has_shape, shape_fault, shape_fault_from, unit_shape}
 use Rattle.dn_kind.proofs.Shapes.{shape_fault_is_first}
 
@@ -34,7 +34,7 @@ there (m ∷ ms) (suc k) u e = let l = there ms k u e in omega arith
 kind_there : (kinds : List Meaning) (o : Option UnitPart) → has_shape kinds o ≡ true → IsTrue (has_kind (length kinds) o)
 kind_there kinds None e = refl
 kind_there kinds (Some u) e =
-    lt-ltb u.kind (length kinds) (there kinds u.kind u (and_parts (is_plain (unit_shape u)) (fits_shape (slice_get kinds u.kind) (unit_shape u)) e).1)
+    lt-ltb u.kind (length kinds) (there kinds u.kind u (and_parts (is_plain_unit_shape (unit_shape u)) (fits_shape (slice_get kinds u.kind) (unit_shape u)) e).1)
 
 kinds_from : (kinds : List Meaning) (number : ℕ) (net : List NodeDecl) → shape_fault_from kinds number net ≡ None → IsTrue (list_all (λ n. has_kind (length kinds) n.unit) net)
 kinds_from kinds number [] e = refl

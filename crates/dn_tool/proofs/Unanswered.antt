@@ -9,12 +9,12 @@ use Rattle.dn_net.specs.declared.node.NodeDecl.{NodeDecl}
 use Rattle.dn_kind.specs.Kind.{Meaning}
 use Rattle.dn_module.specs.declared.command.Command.{Command}
 use Rattle.dn_tool.specs.Answer.{Answer, IsAnswered, played, said, shown}
-use Rattle.dn_tool.specs.Halt.{is_free}
+use Rattle.dn_tool.specs.Halt.{is_free_status}
 use Rattle.dn_tool.specs.Played.{IsPlayed}
 use Rattle.dn_tool.proofs.Inputs.{is_shown}
 
 -- nothing of a script was done
-unplayed : (kinds : List Meaning) (net : List NodeDecl) (commands : List Command) (status : ℕ) (b d : Option (List ℕ)) (log log' : Option (List TableEvent)) (told' : Option (List UnitWords)) → is_free status ≡ true → (status == 3) ≡ false → (status == 6) ≡ false → d ≡ b → log' ≡ log → IsPlayed kinds net commands status b d log log' told'
+unplayed : (kinds : List Meaning) (net : List NodeDecl) (commands : List Command) (status : ℕ) (b d : Option (List ℕ)) (log log' : Option (List TableEvent)) (told' : Option (List UnitWords)) → is_free_status status ≡ true → (status == 3) ≡ false → (status == 6) ≡ false → d ≡ b → log' ≡ log → IsPlayed kinds net commands status b d log log' told'
 unplayed kinds net commands status b d log log' told' free not_sink not_device same unlogged = record {
   turns = [];
   few = omega arith;
@@ -39,7 +39,7 @@ unplayed kinds net commands status b d log log' told' free not_sink not_device s
 }
   where
     going : status ≢ 0
-    going e = let f : is_free 0 ≡ true = subst (λ n. is_free n ≡ true) e free in cc
+    going e = let f : is_free_status 0 ≡ true = subst (λ n. is_free_status n ≡ true) e free in cc
 
     sink : status ≢ 3
     sink e = let f : true ≡ false = subst (λ n. (n == 3) ≡ false) e not_sink in cc
@@ -48,10 +48,10 @@ unplayed kinds net commands status b d log log' told' free not_sink not_device s
     device e = let f : true ≡ false = subst (λ n. (n == 6) ≡ false) e not_device in cc
 
 -- nothing was done and nothing written; a demonstration ends so only for want of memory
-pub unanswered : (kinds : List Meaning) (a : Answer) (status : ℕ) (b d : Option (List ℕ)) (log log' : Option (List TableEvent)) (told' : Option (List UnitWords)) → is_free status ≡ true → (status == 3) ≡ false → (status == 6) ≡ false → (is_shown a ≡ true → status ≡ 7) → d ≡ b → log' ≡ log → IsAnswered kinds a status b d log log' told'
+pub unanswered : (kinds : List Meaning) (a : Answer) (status : ℕ) (b d : Option (List ℕ)) (log log' : Option (List TableEvent)) (told' : Option (List UnitWords)) → is_free_status status ≡ true → (status == 3) ≡ false → (status == 6) ≡ false → (is_shown a ≡ true → status ≡ 7) → d ≡ b → log' ≡ log → IsAnswered kinds a status b d log log' told'
 unanswered kinds (said own output) status b d log log' told' free not_sink not_device only same unlogged = record {
   exact = λ e. cc;
-  written = subst (λ (w : Bool). IsWritten b d (not (is_free status)) w output) (sym not_sink) (subst (λ (f : Bool). IsWritten b d (not f) false output) (sym free) (written_none b d output same));
+  written = subst (λ (w : Bool). IsWritten b d (not (is_free_status status)) w output) (sym not_sink) (subst (λ (f : Bool). IsWritten b d (not f) false output) (sym free) (written_none b d output same));
 }
 unanswered kinds (played net commands) status b d log log' told' free not_sink not_device only same unlogged = unplayed kinds net commands status b d log log' told' free not_sink not_device same unlogged
 unanswered kinds (shown agents net commands) status b d log log' told' free not_sink not_device only same unlogged = inr (record {

@@ -8,8 +8,8 @@ use Rattle.dn_net.specs.declared.node.Name.{Name}
 use Rattle.dn_net.specs.declared.node.NodeDecl.{NodeDecl}
 use Rattle.dn_net.specs.Decode.{top, steps, step_limit, is_closed}
 use Rattle.dn_net.specs.Names.{sorted_names, stop_names}
-use Rattle.dn_net.specs.WalkRules.{Broken, is_wide, has_loop, is_deep, has_chain, or_else, first_below, least_below, least_name, goes_on, comes_to, comes_back, shortest_cycle, first_of, behind, way_by, cycle_from, cycle_names, path_from, path_names, cycle_or_path, fork_broken, endless_fault, unit_fault, walk_fault}
-use Rattle.dn_net.specs.UnitRules.{Fork, is_fork, fork_at, least_fork, unit_leads, units_from, unit_numbers, next_units, rows_from, unit_rows, is_large, first_row, large_row, first_chain}
+use Rattle.dn_net.specs.WalkRules.{Broken, is_wide, has_loop, is_deep, has_chain, or_else, first_below, least_below, least_name, goes_on, comes_to, comes_back, shortest_cycle, first_of, names_behind, way_by, cycle_from, cycle_names, path_from, path_names, cycle_or_path, fork_broken, endless_fault, unit_fault, walk_fault}
+use Rattle.dn_net.specs.UnitRules.{Fork, is_fork, fork_at, least_fork, unit_leads, units_from, unit_numbers, next_units, unit_rows_from, unit_rows, is_large, first_row, large_row, first_chain}
 use Rattle.dn_net.proofs.Endless.{is_wide_net, endless_fault_is}
 use Rattle.dn_net.proofs.Stops.{IsFirstStopOr, first_stop_is, listed_stop, stop_there}
 use Rattle.dn_kind.specs.Levels.{are_there}
@@ -29,7 +29,7 @@ filter_there {X} p q (x ∷ xs) h = go (filter_there p q xs b.1) (p x) refl
     go later false e = rw e later
 
 -- the names of a way
-behind_exist : (count : ℕ) (xs : List Name) (rest : Name → List Name) → IsTrue (are_there count xs) → ((z : Name) → IsTrue (are_there count (rest z))) → IsTrue (are_there count (behind (first_of xs) rest))
+behind_exist : (count : ℕ) (xs : List Name) (rest : Name → List Name) → IsTrue (are_there count xs) → ((z : Name) → IsTrue (are_there count (rest z))) → IsTrue (are_there count (names_behind (first_of xs) rest))
 behind_exist count [] rest h later = refl
 behind_exist count (x ∷ xs) rest h later = and_from _ _ (and_parts (nat_lt x.node count) (are_there count xs) h).0 (later x)
 
@@ -122,10 +122,10 @@ each_there count rows good (u ∷ us) h =
     let b = and_parts (nat_lt u count) (are_units_there count us) h in
     both_there count (map (λ vs. u ∷ vs) (rows u)) (flat_map (λ v. map (λ vs. v ∷ vs) (rows v)) us) (front_there count u (rows u) b.0 (good u)) (each_there count rows good us b.1)
 
-rows_from_there : (count : ℕ) (next : ℕ → List ℕ) → ((u : ℕ) → IsTrue (are_units_there count (next u))) → (k : ℕ) (first : List ℕ) → IsTrue (are_units_there count first) → IsTrue (rows_there count (rows_from next k first))
-unfolding rows_from
+rows_from_there : (count : ℕ) (next : ℕ → List ℕ) → ((u : ℕ) → IsTrue (are_units_there count (next u))) → (k : ℕ) (first : List ℕ) → IsTrue (are_units_there count first) → IsTrue (rows_there count (unit_rows_from next k first))
+unfolding unit_rows_from
 rows_from_there count next good zero first h = refl
-rows_from_there count next good (suc k) first h = each_there count (λ u. rows_from next k (next u)) (λ u. rows_from_there count next good k (next u) (good u)) first h
+rows_from_there count next good (suc k) first h = each_there count (λ u. unit_rows_from next k (next u)) (λ u. rows_from_there count next good k (next u) (good u)) first h
 
 numbers_there : (number : ℕ) (net : List NodeDecl) → IsTrue (are_units_there (number + length net) (units_from number net))
 numbers_there number [] = refl

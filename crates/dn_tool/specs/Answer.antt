@@ -11,10 +11,10 @@ use Rattle.dn_words.specs.declared.words.Task.{Task}
 use Rattle.dn_words.specs.declared.words.Task.TheVariants.{Run, Check, Demo}
 use Rattle.dn_words.specs.Words.{task_of}
 use Rattle.dn_demo.specs.Text.{demo_text}
-use Rattle.dn_module.specs.Expand.{Outcome}
+use Rattle.dn_module.specs.Expand.{Expansion}
 use Rattle.dn_tool.specs.Compiled.{compilation, with_refusal}
 use Rattle.dn_tool.specs.Demo.{IsShown}
-use Rattle.dn_tool.specs.Halt.{is_free}
+use Rattle.dn_tool.specs.Halt.{is_free_status}
 use Rattle.dn_tool.specs.Played.{IsPlayed}
 use Rattle.dn_tool.specs.Refused.{Refused}
 
@@ -67,7 +67,7 @@ task_answer Check kinds net commands = said 0 (net_text kinds net)
 task_answer (Demo agents) kinds net commands = shown agents net commands
 
 -- the answer to what a text comes to: the line of its refusal, or what the task makes of it
-abbrev pub compiled_answer : Task → List Meaning → Result Outcome Refused → Answer
+abbrev pub compiled_answer : Task → List Meaning → Result Expansion Refused → Answer
 compiled_answer task kinds (Err r) = said 4 (r.text ++ codes "\n")
 compiled_answer task kinds (Ok o) = task_answer task kinds o.net o.commands
 
@@ -92,8 +92,8 @@ answer words kinds text = asked_answer (task_of words) kinds text
 -- exactly the output was written then. At any other a prefix of it was, and at status 3 not all of it.
 pub record IsSaid (own : ℕ) (output : List ℕ) (status : ℕ) (before after : Option (List ℕ))
     : Type 0 where
-  pub exact : is_free status ≡ false → status ≡ own
-  pub written : IsWritten before after (not (is_free status)) (status == 3) output
+  pub exact : is_free_status status ≡ false → status ≡ own
+  pub written : IsWritten before after (not (is_free_status status)) (status == 3) output
 
 -- a run with this status gave an answer, as far as it came
 abbrev pub IsAnswered : List Meaning → Answer → ℕ → Option (List ℕ) → Option (List ℕ) →

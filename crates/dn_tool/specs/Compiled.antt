@@ -7,7 +7,7 @@ use Rattle.dn_net.specs.WalkRules.{Broken, walk_fault}
 use Rattle.dn_kind.specs.Kind.{Meaning}
 use Rattle.dn_kind.specs.Units.{shape_fault}
 use Rattle.dn_module.specs.Faults.{ExpansionFault}
-use Rattle.dn_module.specs.Expand.{Outcome, expansion_of}
+use Rattle.dn_module.specs.Expand.{Expansion, expansion_of}
 use Rattle.dn_tool.specs.declared.compile.CompileFault.{CompileFault}
 use Rattle.dn_tool.specs.declared.compile.CompileFault.TheVariants.{Refused as RefusedBy, OutOfMemory}
 use Rattle.dn_tool.specs.Platform.{PlatformState}
@@ -15,25 +15,25 @@ use Rattle.dn_tool.specs.Refused.{BrokenRule, Refused, of_expansion, of_nodes, o
 
 -- a net and commands, or a broken rule
 abbrev pub Compilation : Type 0
-Compilation = Result Outcome BrokenRule
+Compilation = Result Expansion BrokenRule
 
 -- the rules on walks come last
-abbrev pub by_walk_rules : Outcome → Option Broken → Compilation
+abbrev pub by_walk_rules : Expansion → Option Broken → Compilation
 by_walk_rules o (Some fault) = Err (of_walks o.net fault)
 by_walk_rules o None = Ok o
 
 -- the rule on the shape of units comes before them
-abbrev pub by_unit_rule : Outcome → Option ℕ → Compilation
+abbrev pub by_unit_rule : Expansion → Option ℕ → Compilation
 by_unit_rule o (Some node) = Err (of_units o.net node)
 by_unit_rule o None = by_walk_rules o (walk_fault o.net)
 
 -- the node rules come before that
-abbrev pub by_node_rules : List Meaning → Outcome → Option BrokenNode → Compilation
+abbrev pub by_node_rules : List Meaning → Expansion → Option BrokenNode → Compilation
 by_node_rules kinds o (Some fault) = Err (of_nodes o.net fault)
 by_node_rules kinds o None = by_unit_rule o (shape_fault kinds o.net)
 
 -- what an expansion comes to: the node rules, the rule on units, and then the rules on walks
-abbrev pub expansion_compilation : List Meaning → Result Outcome ExpansionFault → Compilation
+abbrev pub expansion_compilation : List Meaning → Result Expansion ExpansionFault → Compilation
 expansion_compilation kinds (Err fault) = Err (of_expansion fault)
 expansion_compilation kinds (Ok o) = by_node_rules kinds o (node_fault o.net)
 
@@ -61,12 +61,12 @@ abbrev pub IsLegal : List Meaning → List ℕ → Type 0
 IsLegal kinds text = fault kinds text ≡ None
 
 -- a broken rule as its refusal: the rule and its line
-abbrev pub with_refusal : Compilation → Result Outcome Refused
+abbrev pub with_refusal : Compilation → Result Expansion Refused
 with_refusal (Err broken) = Err (refusal_of broken)
 with_refusal (Ok o) = Ok o
 
 -- a platform as the net and commands of the definitions; its walks are those of the net
-abbrev pub platform_view : PlatformState → Outcome
+abbrev pub platform_view : PlatformState → Expansion
 platform_view p = record { net = p.net; commands = p.commands }
 
 -- the fault of `compile` as the refusal that it is; want of memory is none

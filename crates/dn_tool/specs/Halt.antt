@@ -45,8 +45,8 @@ ending_status (Err DeviceFault) = 6
 ending_status (Err NoMemory) = 7
 
 -- a status that comes of no answer: a fault of the source, the sink or the device, or want of memory
-abbrev pub is_free : ℕ → Bool
-is_free status = status == 2 || status == 3 || status == 6 || status == 7
+abbrev pub is_free_status : ℕ → Bool
+is_free_status status = status == 2 || status == 3 || status == 6 || status == 7
 
 -- the halt that a unit which was not made is
 abbrev pub make_halt : MakeFault → Halt

@@ -13,8 +13,8 @@ use Rattle.dn_image.specs.Image.{first_words}
 use Rattle.dn_book.specs.Tables.{tables_of}
 use Rattle.dn_module.specs.declared.command.Command.{Command}
 use Rattle.dn_tool.specs.Books.{GivesOwed}
-use Rattle.dn_tool.specs.Halt.{is_free}
-use Rattle.dn_tool.specs.Turn.{AreTurns, Turn, answered, events_of, replies_of, start, state_after}
+use Rattle.dn_tool.specs.Halt.{is_free_status}
+use Rattle.dn_tool.specs.Turn.{AreTurns, Turn, events_of, replies_of, reply_turn, start, state_after}
 
 -- the tables of nodes from a number on, as a device tells them: those of units, ascending
 abbrev pub device_tables : ℕ → List NodeDecl → List (List ℕ) → List UnitWords
@@ -23,8 +23,8 @@ device_tables node (n ∷ ns) words =
     table_on_device node (first_words words) n.unit ++ device_tables (suc node) ns (drop 1 words)
 
 -- before the first command each unit is made, with words 0
-abbrev pub making : List Meaning → List NodeDecl → Turn
-making kinds net = record {
+abbrev pub make_turn : List Meaning → List NodeDecl → Turn
+make_turn kinds net = record {
   events = map make_event (device_tables 0 net (tables_of net kinds []));
   reply = [];
   next = start;
@@ -32,7 +32,7 @@ making kinds net = record {
 
 -- the turn at a place, or one in which nothing is done where there are not so many
 abbrev pub turn_at : List Turn → ℕ → Turn
-turn_at turns place = get_or turns place (answered [] start)
+turn_at turns place = get_or turns place (reply_turn [] start)
 
 -- How far a run with this status came in a turn: so many of its events were added to the device's log,
 -- and so many bytes of its reply were written, once all its events were added
@@ -78,8 +78,8 @@ pub record IsPlayed (kinds : List Meaning) (net : List NodeDecl) (commands : Lis
   pub turns : List Turn
   pub few : length turns ≤ length commands
   pub happened : AreTurns kinds net start (take (length turns) commands) turns
-  pub came : CameTo (making kinds net ∷ turns) status before after log log'
-  pub exact : is_free status ≡ false → status ≡ 0
+  pub came : CameTo (make_turn kinds net ∷ turns) status before after log log'
+  pub exact : is_free_status status ≡ false → status ≡ 0
   pub all : status ≡ 0 → length turns ≡ length commands
   pub tables : status ≡ 0 → IfSome told' (λ tables.
       tables ≡ device_tables 0 net (tables_of net kinds (state_after start turns).book))

@@ -10,7 +10,7 @@ use Rattle.dn_net.specs.WalkRules.{Broken, is_wide, has_loop, is_deep, has_fork,
 use Rattle.dn_kind.specs.Levels.{are_there}
 use Rattle.dn_module.specs.Faults.{ExpansionFault, is_duplicate, is_unknown, has_other_arguments, has_no_value, passes_limit}
 use Rattle.dn_print.specs.Names.{name_text}
-use Rattle.dn_print.specs.Statement.{node_name, joined}
+use Rattle.dn_print.specs.Statement.{node_name, joined_texts}
 use Rattle.dn_tool.specs.declared.refusal.Rule.{Rule}
 use Rattle.dn_tool.specs.declared.refusal.Rule.TheVariants.{Length, Token, Statement, Block, Nesting, Duplicate, Unknown, Arguments, Value, TooMany, Range, Overlap, Repeat, VectorSpace, UnitShape, Wide, Loop, Deep, Fork, Chain}
 
@@ -55,8 +55,8 @@ abbrev pub by_limit : ℕ → ℕ → Refused
 by_limit line limit = record { rule = TooMany; text = codes "refused: line " ++ (decimal line ++ (codes " TooMany " ++ decimal limit)) }
 
 -- a rule that is broken by what is shown after it: nodes, names or a limit
-abbrev pub showing : Rule → List ℕ → Refused
-showing rule text = record { rule = rule; text = codes "refused: " ++ (rule_name rule ++ (codes " " ++ text)) }
+abbrev pub by_shown : Rule → List ℕ → Refused
+by_shown rule text = record { rule = rule; text = codes "refused: " ++ (rule_name rule ++ (codes " " ++ text)) }
 
 -- the refusal of a text that spells no tree
 abbrev pub text_refusal : TextFault → Refused
@@ -76,18 +76,18 @@ expand_refusal (passes_limit line limit) = by_limit line limit
 
 -- the refusal of a net by a node rule, by the names of its nodes
 abbrev pub node_refusal : List NodeDecl → BrokenNode → Refused
-node_refusal net (out_of_range node) = showing Range (node_name net node)
-node_refusal net (overlapping node addr) = showing Overlap (name_text net (record { node = node; addr = addr }))
-node_refusal net (repeating node) = showing Repeat (node_name net node)
-node_refusal net (past_space node) = showing VectorSpace (node_name net node)
+node_refusal net (out_of_range node) = by_shown Range (node_name net node)
+node_refusal net (overlapping node addr) = by_shown Overlap (name_text net (record { node = node; addr = addr }))
+node_refusal net (repeating node) = by_shown Repeat (node_name net node)
+node_refusal net (past_space node) = by_shown VectorSpace (node_name net node)
 
 -- the refusal of a net by the rule on the shape of units, by the name of the unit
 abbrev pub unit_refusal : List NodeDecl → ℕ → Refused
-unit_refusal net node = showing UnitShape (node_name net node)
+unit_refusal net node = by_shown UnitShape (node_name net node)
 
 -- the names of a chain, from its first to its last
 abbrev pub chain_text : List NodeDecl → List Name → List ℕ
-chain_text net xs = joined (codes " -> ") (name_text net) xs
+chain_text net xs = joined_texts (codes " -> ") (name_text net) xs
 
 -- a name that forks, and the unit that it reaches
 abbrev pub fork_text : List NodeDecl → Name → ℕ → List ℕ
@@ -95,15 +95,15 @@ fork_text net name unit = name_text net name ++ (codes " " ++ node_name net unit
 
 -- the full names of units, in their order
 abbrev pub units_text : List NodeDecl → List ℕ → List ℕ
-units_text net units = joined (codes " ") (node_name net) units
+units_text net units = joined_texts (codes " ") (node_name net) units
 
 -- the refusal of a net by a rule on walks
 abbrev pub walk_refusal : List NodeDecl → Broken → Refused
-walk_refusal net is_wide = showing Wide (codes "1048576")
-walk_refusal net (has_loop cycle) = showing Loop (chain_text net cycle)
-walk_refusal net (is_deep path) = showing Deep (chain_text net path)
-walk_refusal net (has_fork name unit) = showing Fork (fork_text net name unit)
-walk_refusal net (has_chain units) = showing Chain (units_text net units)
+walk_refusal net is_wide = by_shown Wide (codes "1048576")
+walk_refusal net (has_loop cycle) = by_shown Loop (chain_text net cycle)
+walk_refusal net (is_deep path) = by_shown Deep (chain_text net path)
+walk_refusal net (has_fork name unit) = by_shown Fork (fork_text net name unit)
+walk_refusal net (has_chain units) = by_shown Chain (units_text net units)
 
 -- the first rule that a text breaks, with all that the rule carries: lines and limits, and nodes and names of a net
 pub data BrokenRule : Type 0 where

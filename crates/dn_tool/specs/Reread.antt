@@ -3,7 +3,7 @@ use Rattle.std.specs.Prelude.{◌≡◌, ℕ, ◌<◌, ◌≤◌, List, length, 
 use Rattle.dn_net.specs.declared.node.NodeDecl.{NodeDecl}
 use Rattle.dn_net.specs.Legal.{IsLegalNet}
 use Rattle.dn_kind.specs.Kind.{Meaning}
-use Rattle.dn_module.specs.Expand.{Outcome}
+use Rattle.dn_module.specs.Expand.{Expansion}
 use Rattle.dn_print.specs.Statement.{net_text}
 use Rattle.dn_print.specs.Printable.{IsPrintable, GivesBack}
 use Rattle.dn_shape.specs.Absorb.{absorb_outcome}
@@ -38,5 +38,5 @@ pub record AreReadBack (kinds : List Meaning) (net : List NodeDecl) : Type 0 whe
 -- The net of a text that breaks no rule is read back, and so is each net that the commands make of
 -- it.
 abbrev pub CompiledIsReadBack : Type 0
-CompiledIsReadBack = (kinds : List Meaning) (text : List ℕ) (o : Outcome) →
+CompiledIsReadBack = (kinds : List Meaning) (text : List ℕ) (o : Expansion) →
     compilation kinds text ≡ Ok o → AreReadBack kinds o.net

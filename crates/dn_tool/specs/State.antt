@@ -28,7 +28,7 @@ abbrev pub state_view : Kept → State
 state_view k = record { book = k.book.grants; cleared = k.book.cleared; ids = k.ids }
 
 -- the first agent is there, and what is kept of it is what it sees
-pub record IsFirst (net : List NodeDecl) (first : FirstView) : Type 0 where
+pub record IsFirstView (net : List NodeDecl) (first : FirstView) : Type 0 where
   pub there : first.agent < length net
   pub flat : IsFlat net first.agent first.flat
 
@@ -40,7 +40,7 @@ pub record IsState (kinds : List Meaning) (net : List NodeDecl) (k : Kept) : Typ
   pub kept : IsKept net kinds k.book.grants k.book.set
   pub filled : IsTrue (are_filled kinds net (words_of k.book.set))
   pub bytes : IfSome k.image (λ bytes. bytes ≡ image net kinds (words_of k.book.set))
-  pub first : IfSome k.first (IsFirst net)
+  pub first : IfSome k.first (IsFirstView net)
   pub flat : IfSome k.flats (AreFlats net)
 
 -- a machine, and the state in which a command meets it

@@ -17,13 +17,13 @@ use Rattle.dn_module.specs.declared.command.Command.TheVariants.{Resolve, Lookup
 use Rattle.dn_module.specs.declared.command.Target.{Target}
 use Rattle.dn_placement.specs.declared.request.Request.{Request}
 use Rattle.dn_book.specs.declared.grant.Grant.{Grant as GrantPart}
-use Rattle.dn_book.specs.Book.{has_id, without}
+use Rattle.dn_book.specs.Book.{has_id, without_id}
 use Rattle.dn_book.specs.Tables.{tables_of}
 use Rattle.dn_book.specs.Writes.{grant_events, revoke_events}
-use Rattle.dn_grant.specs.Grant.{IsGrantRefused, IsPlaced, grant_at}
+use Rattle.dn_grant.specs.Grant.{IsGrantRefused, IsPlaced, grant_of_request}
 use Rattle.dn_grant.specs.Refusal.{GrantRefusal}
 use Rattle.dn_vector.specs.Refusal.{RouteRefusal}
-use Rattle.dn_vector.specs.Route.{IsPlacedRoute, IsRouteRefused, route_at}
+use Rattle.dn_vector.specs.Route.{IsPlacedRoute, IsRouteRefused, grant_of_route}
 use Rattle.dn_print.specs.Dump.{dump_text}
 use Rattle.dn_tool.specs.Changed.{grant_refused_text, granted_text, revoke_refused_text, revoked_text, route_refused_text, routed_text}
 use Rattle.dn_tool.specs.Found.{resolve_text, lookup_text}
@@ -49,12 +49,12 @@ pub record Turn : Type 0 where
   pub next : State
 
 -- a turn that leaves the device and the state as they are
-abbrev pub answered : List ℕ → State → Turn
-answered reply s = record { events = []; reply = reply; next = s }
+abbrev pub reply_turn : List ℕ → State → Turn
+reply_turn reply s = record { events = []; reply = reply; next = s }
 
 -- the state after an id came
-abbrev pub named : State → List ℕ → State
-named s id = record { book = s.book; cleared = s.cleared; ids = with_id s.ids id }
+abbrev pub state_with_id : State → List ℕ → State
+state_with_id s id = record { book = s.book; cleared = s.cleared; ids = with_id s.ids id }
 
 -- the number of a node that a command names, or one that no node has
 abbrev pub number_or_none : Option ℕ → ℕ
@@ -78,8 +78,8 @@ request_of from target base size m = record {
 }
 
 -- the turn in which a grant comes into the book: a fence where one is due, and the writes of its records
-abbrev pub entered : List NodeDecl → List Meaning → State → List ℕ → GrantPart → List ℕ → Turn
-entered net kinds s id g reply = record {
+abbrev pub turn_with_grant : List NodeDecl → List Meaning → State → List ℕ → GrantPart → List ℕ → Turn
+turn_with_grant net kinds s id g reply = record {
   events = grant_events net kinds s.book s.cleared g;
   reply = reply;
   next = record { book = s.book ++ g ∷ []; cleared = false; ids = with_id s.ids id };
@@ -90,7 +90,7 @@ pub record IsGranted (kinds : List Meaning) (net : List NodeDecl) (s : State) (i
     (rq : Request) (t : Turn) : Type 0 where
   pub place : Place
   pub placed : IsPlaced net s.book (id_number s.ids id) rq place
-  pub is_turn : t ≡ entered net kinds s id (grant_at (id_number s.ids id) rq place)
+  pub is_turn : t ≡ turn_with_grant net kinds s id (grant_of_request (id_number s.ids id) rq place)
       (granted_text id place.v)
 
 -- a request is refused, by the first refusal that holds
@@ -98,7 +98,7 @@ pub record IsNotGranted (net : List NodeDecl) (s : State) (id : List ℕ) (rq : 
     : Type 0 where
   pub why : GrantRefusal
   pub refused : IsGrantRefused net s.book (id_number s.ids id) rq why
-  pub is_turn : t ≡ answered (grant_refused_text id why) (named s id)
+  pub is_turn : t ≡ reply_turn (grant_refused_text id why) (state_with_id s id)
 
 -- a line is routed to the least free vector that has an admissible placement there
 pub record IsRouted (kinds : List Meaning) (net : List NodeDecl) (s : State) (id : List ℕ)
@@ -106,7 +106,7 @@ pub record IsRouted (kinds : List Meaning) (net : List NodeDecl) (s : State) (id
   pub vector : ℕ
   pub place : Place
   pub placed : IsPlacedRoute net s.book (id_number s.ids id) agent line node vector place
-  pub is_turn : t ≡ entered net kinds s id (route_at (id_number s.ids id) agent node vector place)
+  pub is_turn : t ≡ turn_with_grant net kinds s id (grant_of_route (id_number s.ids id) agent node vector place)
       (routed_text id vector)
 
 -- a route is refused, by the first refusal that holds
@@ -114,7 +114,7 @@ pub record IsNotRouted (net : List NodeDecl) (s : State) (id : List ℕ) (agent 
     (t : Turn) : Type 0 where
   pub why : RouteRefusal
   pub refused : IsRouteRefused net s.book (id_number s.ids id) agent line node why
-  pub is_turn : t ≡ answered (route_refused_text id why) (named s id)
+  pub is_turn : t ≡ reply_turn (route_refused_text id why) (state_with_id s id)
 
 -- a live grant is taken out of the book: its records that no other grant shares are cleared
 pub record IsRevoked (kinds : List Meaning) (net : List NodeDecl) (s : State) (id : List ℕ) (t : Turn)
@@ -125,13 +125,13 @@ pub record IsRevoked (kinds : List Meaning) (net : List NodeDecl) (s : State) (i
   pub is_turn : t ≡ record {
     events = revoke_events net kinds s.book grant;
     reply = revoked_text id;
-    next = record { book = without (id_number s.ids id) s.book; cleared = true; ids = with_id s.ids id };
+    next = record { book = without_id (id_number s.ids id) s.book; cleared = true; ids = with_id s.ids id };
   }
 
 -- there is no live grant to be revoked
 pub record IsNotRevoked (s : State) (id : List ℕ) (t : Turn) : Type 0 where
   pub none : has_id (id_number s.ids id) s.book ≡ false
-  pub is_turn : t ≡ answered (revoke_refused_text id) (named s id)
+  pub is_turn : t ≡ reply_turn (revoke_refused_text id) (state_with_id s id)
 
 -- the turn of a grant
 abbrev pub IsGrantTurn : List Meaning → List NodeDecl → State → List ℕ → Request → Turn → Type 0
@@ -177,7 +177,7 @@ IsTurn kinds net s (Grant id from target base size m) t =
 IsTurn kinds net s (Route id from line target) t =
     IsRouteTurn kinds net s id (number_or_none from.node) line (number_or_none target.node) t
 IsTurn kinds net s (Revoke id) t = IsRevokeTurn kinds net s id t
-IsTurn kinds net s c t = t ≡ answered (reply kinds net s.book c) s
+IsTurn kinds net s c t = t ≡ reply_turn (reply kinds net s.book c) s
 
 -- the turns of commands in order, each in the state that those before it left
 abbrev pub AreTurns : List Meaning → List NodeDecl → State → List Command → List Turn → Type 0

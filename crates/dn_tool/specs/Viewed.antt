@@ -9,11 +9,11 @@ use Rattle.dn_net.specs.Decode.{is_agent_at}
 use Rattle.dn_kind.specs.declared.rights.Access.{Access}
 use Rattle.dn_kind.specs.Tables.{allowing}
 use Rattle.dn_parse.specs.declared.syntax.Mode.{Mode}
-use Rattle.dn_flat.specs.Views.{end_of}
 use Rattle.dn_view.specs.Views.{ResolvesFromUnder}
 use Rattle.dn_module.specs.declared.command.Target.{Target}
 use Rattle.dn_book.specs.declared.grant.Grant.{Grant}
 use Rattle.dn_book.specs.Book.{IsFaithful, owed_names, records_of}
+use Rattle.dn_walk.specs.Ends.{end_of}
 use Rattle.dn_print.specs.Rows.{rows_text}
 use Rattle.dn_tool.specs.Found.{access_of, access_text}
 

@@ -121,7 +121,7 @@ fn grant_change<D: Tables>(
     match grant(alloc, &mut state.book, system, number, request, device) {
         Ok(v) => {
             renew(machine, state);
-            Ok(granted(alloc, id, v)?)
+            Ok(granted_reply(alloc, id, v)?)
         }
         Err(GrantFault::Device) => Err(Halt::DeviceFault),
         Err(GrantFault::OutOfMemory) => Err(Halt::NoMemory),
@@ -168,7 +168,7 @@ fn route_change<D: Tables>(
     ) {
         Ok(vector) => {
             renew(machine, state);
-            Ok(routed(alloc, id, vector)?)
+            Ok(routed_reply(alloc, id, vector)?)
         }
         Err(RouteFault::Device) => Err(Halt::DeviceFault),
         Err(RouteFault::OutOfMemory) => Err(Halt::NoMemory),
@@ -198,15 +198,15 @@ fn revoke_change<D: Tables>(
     match state.book.revoke(net, kinds, number, device) {
         Ok(()) => {
             renew(machine, state);
-            Ok(revoked(alloc, id)?)
+            Ok(revoked_reply(alloc, id)?)
         }
-        Err(RevokeFault::NoGrant) => Ok(refused(alloc, id, "NoGrant")?),
+        Err(RevokeFault::NoGrant) => Ok(refused_reply(alloc, id, "NoGrant")?),
         Err(RevokeFault::Device) => Err(Halt::DeviceFault),
     }
 }
 
 /// The reply to a grant.
-fn granted(alloc: Global, id: &str, v: u64) -> Result<Items<u8>, AllocError>
+fn granted_reply(alloc: Global, id: &str, v: u64) -> Result<Items<u8>, AllocError>
     ensures { IfOk result (λ text. text ≡ granted_text id.now v) }
 {
     let text = format!(in alloc; "{id} at 0x{v:x}\n")?;
@@ -214,7 +214,7 @@ fn granted(alloc: Global, id: &str, v: u64) -> Result<Items<u8>, AllocError>
 }
 
 /// The reply to a route.
-fn routed(alloc: Global, id: &str, vector: u64) -> Result<Items<u8>, AllocError>
+fn routed_reply(alloc: Global, id: &str, vector: u64) -> Result<Items<u8>, AllocError>
     ensures { IfOk result (λ text. text ≡ routed_text id.now vector) }
 {
     let text = format!(in alloc; "{id} vector 0x{vector:x}\n")?;
@@ -222,7 +222,7 @@ fn routed(alloc: Global, id: &str, vector: u64) -> Result<Items<u8>, AllocError>
 }
 
 /// The reply to a revoke.
-fn revoked(alloc: Global, id: &str) -> Result<Items<u8>, AllocError>
+fn revoked_reply(alloc: Global, id: &str) -> Result<Items<u8>, AllocError>
     ensures { IfOk result (λ text. text ≡ revoked_text id.now) }
 {
     let text = format!(in alloc; "{id} revoked\n")?;
@@ -230,7 +230,7 @@ fn revoked(alloc: Global, id: &str) -> Result<Items<u8>, AllocError>
 }
 
 /// The reply that names an id and a refusal.
-fn refused(alloc: Global, id: &str, refusal: &str) -> Result<Items<u8>, AllocError>
+fn refused_reply(alloc: Global, id: &str, refusal: &str) -> Result<Items<u8>, AllocError>
     ensures { IfOk result (λ text. text ≡ refused_text id.now refusal.now) }
 {
     let text = format!(in alloc; "{id} refused: {refusal}\n")?;
@@ -244,12 +244,12 @@ fn grant_refused(alloc: Global, id: &str, why: GrantFault) -> Result<Items<u8>, 
         (λ refusal. text ≡ grant_refused_text id.now refusal)) }
 {
     match why {
-        GrantFault::IdUsed => refused(alloc, id, "IdUsed"),
-        GrantFault::NoAgent => refused(alloc, id, "NoAgent"),
-        GrantFault::NoTarget => refused(alloc, id, "NoTarget"),
+        GrantFault::IdUsed => refused_reply(alloc, id, "IdUsed"),
+        GrantFault::NoAgent => refused_reply(alloc, id, "NoAgent"),
+        GrantFault::NoTarget => refused_reply(alloc, id, "NoTarget"),
         GrantFault::NotAccepted { first } => not_accepted(alloc, id, first),
-        GrantFault::BookFull => refused(alloc, id, "BookFull"),
-        GrantFault::NoPlacement => refused(alloc, id, "NoPlacement"),
+        GrantFault::BookFull => refused_reply(alloc, id, "BookFull"),
+        GrantFault::NoPlacement => refused_reply(alloc, id, "NoPlacement"),
         GrantFault::Device => unreachable!(),
         GrantFault::OutOfMemory => unreachable!(),
     }
@@ -261,7 +261,7 @@ fn not_accepted(alloc: Global, id: &str, first: u64) -> Result<Items<u8>, AllocE
         ≡ grant_refused_text id.now (not_accepted first)) }
 {
     let refusal = format!(in alloc; "NotAccepted 0x{first:x}")?;
-    refused(alloc, id, refusal.as_str())
+    refused_reply(alloc, id, refusal.as_str())
 }
 
 /// The reply to a route that is refused.
@@ -271,11 +271,11 @@ fn route_refused(alloc: Global, id: &str, why: RouteFault) -> Result<Items<u8>, 
         (λ refusal. text ≡ route_refused_text id.now refusal)) }
 {
     match why {
-        RouteFault::IdUsed => refused(alloc, id, "IdUsed"),
-        RouteFault::NoAgent => refused(alloc, id, "NoAgent"),
-        RouteFault::NoTarget => refused(alloc, id, "NoTarget"),
-        RouteFault::BookFull => refused(alloc, id, "BookFull"),
-        RouteFault::NoPlacement => refused(alloc, id, "NoPlacement"),
+        RouteFault::IdUsed => refused_reply(alloc, id, "IdUsed"),
+        RouteFault::NoAgent => refused_reply(alloc, id, "NoAgent"),
+        RouteFault::NoTarget => refused_reply(alloc, id, "NoTarget"),
+        RouteFault::BookFull => refused_reply(alloc, id, "BookFull"),
+        RouteFault::NoPlacement => refused_reply(alloc, id, "NoPlacement"),
         RouteFault::Device => unreachable!(),
         RouteFault::OutOfMemory => unreachable!(),
     }

@@ -4,7 +4,7 @@ ghost use Rattle.std.specs.Prelude.{◌≡◌, ◌≤◌, IfOk, IfSome, IsTrue, 
 ghost use Rattle.std.specs.List.{All, list_all};
 ghost use Rattle.dn_net.specs.Terms.{is_closed};
 ghost use Rattle.dn_kind.specs.Terms.{IsLawful, has_kind, shape_fault};
-ghost use Rattle.dn_module.specs.Terms.{Outcome, names_within, outcome_view};
+ghost use Rattle.dn_module.specs.Terms.{Expansion, names_within, outcome_view};
 ghost use Rattle.dn_tool.specs.Terms.{IsPlatform, Refused, compilation, compile_fault_view, expansion_compilation, platform_view, with_refusal};
 ghost use Rattle.dn_base.specs.Terms.{Answers};
 
@@ -136,7 +136,7 @@ fn platform_of<'a>(
 
 /// The fault that a refusal is.
 fn fault_of(refusal: Result<Refusal, AllocError>) -> CompileFault
-    ensures { (made : Result Outcome Refused) → IfOk refusal (λ r. made ≡ Err r) →
+    ensures { (made : Result Expansion Refused) → IfOk refusal (λ r. made ≡ Err r) →
         IfSome (compile_fault_view result) (λ r. made ≡ Err r) }
 {
     match refusal {

@@ -69,8 +69,8 @@ pub(crate) fn run_demo<K: Sink, D: Tables>(
         let revokes = has_revoked(&command, before, after);
         drop(command);
         ended?;
-        granted = counted(granted, grants);
-        revoked = counted(revoked, revokes);
+        granted = count_if(granted, grants);
+        revoked = count_if(revoked, revokes);
     }
     let tally = Tally { granted, revoked };
     write_summary(alloc, machine, agents, tally, &mut state, sink)?;
@@ -126,7 +126,7 @@ fn has_revoked(command: &Command, before: usize, after: usize) -> bool
 }
 
 /// A count, and one more where a test passed.
-fn counted(count: u64, passed: bool) -> u64
+fn count_if(count: u64, passed: bool) -> u64
     requires { count < 2 ^ 64 - 1 }
     ensures { result ≡ count + (if passed then 1 else 0) }
 {
@@ -263,7 +263,7 @@ fn node_records(machine: Machine, tables: &TableSet, node: u16) -> u64
     };
     let mut total = 0;
     for slot in 0..unit.slots {
-        total = counted(total, tables.record_at(machine.kinds, node, slot).is_some());
+        total = count_if(total, tables.record_at(machine.kinds, node, slot).is_some());
     }
     total
 }

@@ -8,7 +8,7 @@ ghost use Rattle.dn_net.specs.Terms.{node_fault_view};
 ghost use Rattle.dn_kind.specs.Terms.{are_there, unit_fault_view};
 ghost use Rattle.dn_walk.specs.Terms.{walk_fault_view};
 ghost use Rattle.dn_print.specs.Terms.{name_text};
-ghost use Rattle.dn_tool.specs.Terms.{AreNodesWithin, IsNodeWithin, by_limit, by_line, by_text, chain_text, expand_refusal, fork_text, node_refusal, rule_name, showing, text_refusal, unit_refusal, units_text, walk_refusal};
+ghost use Rattle.dn_tool.specs.Terms.{AreNodesWithin, IsNodeWithin, by_limit, by_line, by_shown, by_text, chain_text, expand_refusal, fork_text, node_refusal, rule_name, text_refusal, unit_refusal, units_text, walk_refusal};
 
 use dn_base::text::Text;
 use dn_kind::units::UnitFault;
@@ -142,8 +142,8 @@ impl Refusal {
     }
 
     /// The refusal whose line shows this behind the rule: nodes, names or a limit.
-    pub fn showing(alloc: Global, rule: Rule, what: &str) -> Result<Refusal, AllocError>
-        ensures { IfOk result (λ r. r ≡ showing rule what.now) }
+    pub fn by_shown(alloc: Global, rule: Rule, what: &str) -> Result<Refusal, AllocError>
+        ensures { IfOk result (λ r. r ≡ by_shown rule what.now) }
     {
         let name = rule.name();
         let text = Text::from_string(format!(in alloc; "refused: {name} {what}")?);
@@ -200,11 +200,11 @@ pub fn node_refusal(alloc: Global, net: &Net, fault: NodeFault) -> Result<Refusa
         option_map (node_refusal net.now) (node_fault_view fault) ≡ Some r) }
 {
     match fault {
-        NodeFault::Range { node } => Refusal::showing(alloc, Rule::Range, net.text(node)),
+        NodeFault::Range { node } => Refusal::by_shown(alloc, Rule::Range, net.text(node)),
         NodeFault::Overlap { node, addr } => overlap_refusal(alloc, net, Name { node, addr }),
-        NodeFault::Repeat { node } => Refusal::showing(alloc, Rule::Repeat, net.text(node)),
+        NodeFault::Repeat { node } => Refusal::by_shown(alloc, Rule::Repeat, net.text(node)),
         NodeFault::VectorSpace { node } => {
-            Refusal::showing(alloc, Rule::VectorSpace, net.text(node))
+            Refusal::by_shown(alloc, Rule::VectorSpace, net.text(node))
         }
         NodeFault::OutOfMemory => Err(AllocError),
     }
@@ -213,11 +213,11 @@ pub fn node_refusal(alloc: Global, net: &Net, fault: NodeFault) -> Result<Refusa
 /// The refusal of an overlap, whose line has the name at which it is.
 fn overlap_refusal(alloc: Global, net: &Net, name: Name) -> Result<Refusal, AllocError>
     requires { name.node < length net.now }
-    ensures { IfOk result (λ r. r ≡ showing Rule.Overlap (name_text net.now name)) }
+    ensures { IfOk result (λ r. r ≡ by_shown Rule.Overlap (name_text net.now name)) }
 {
     let mut text = String::new(alloc);
     names::push_name(&mut text, net, name)?;
-    Refusal::showing(alloc, Rule::Overlap, text.as_str())
+    Refusal::by_shown(alloc, Rule::Overlap, text.as_str())
 }
 
 /// The refusal of a net by the rule on the shape of units. Want of memory is handed on.
@@ -227,7 +227,7 @@ pub fn unit_refusal(alloc: Global, net: &Net, fault: UnitFault) -> Result<Refusa
         option_map (unit_refusal net.now) (unit_fault_view fault) ≡ Some r) }
 {
     match fault {
-        UnitFault::UnitShape { node } => Refusal::showing(alloc, Rule::UnitShape, net.text(node)),
+        UnitFault::UnitShape { node } => Refusal::by_shown(alloc, Rule::UnitShape, net.text(node)),
     }
 }
 
@@ -238,7 +238,7 @@ pub fn walk_refusal(alloc: Global, net: &Net, fault: &WalkFault) -> Result<Refus
         option_map (walk_refusal net.now) (walk_fault_view fault.now) ≡ Some r) }
 {
     match fault {
-        WalkFault::Wide => Refusal::showing(alloc, Rule::Wide, "1048576"),
+        WalkFault::Wide => Refusal::by_shown(alloc, Rule::Wide, "1048576"),
         WalkFault::Loop { cycle } => chain_refusal(alloc, Rule::Loop, net, cycle.as_slice()),
         WalkFault::Deep { path } => chain_refusal(alloc, Rule::Deep, net, path.as_slice()),
         WalkFault::Fork { name, unit } => fork_refusal(alloc, net, *name, *unit),
@@ -255,32 +255,32 @@ fn chain_refusal(
     names: &[Name],
 ) -> Result<Refusal, AllocError>
     requires { IsTrue (are_there (length net.now) names.now) }
-    ensures { IfOk result (λ r. r ≡ showing rule (chain_text net.now names.now)) }
+    ensures { IfOk result (λ r. r ≡ by_shown rule (chain_text net.now names.now)) }
 {
     let mut text = String::new(alloc);
     write_joined(&mut text, net, " -> ", names)?;
-    Refusal::showing(alloc, rule, text.as_str())
+    Refusal::by_shown(alloc, rule, text.as_str())
 }
 
 /// The refusal of a fork, whose line has the name that forks and the unit that it reaches.
 fn fork_refusal(alloc: Global, net: &Net, name: Name, unit: u16) -> Result<Refusal, AllocError>
     requires name { name.node < length net.now }
     requires unit { unit < length net.now }
-    ensures { IfOk result (λ r. r ≡ showing Rule.Fork (fork_text net.now name unit)) }
+    ensures { IfOk result (λ r. r ≡ by_shown Rule.Fork (fork_text net.now name unit)) }
 {
     let mut text = String::new(alloc);
     names::push_name(&mut text, net, name)?;
     text.push_str(" ")?;
     text.push_str(net.text(unit))?;
-    Refusal::showing(alloc, Rule::Fork, text.as_str())
+    Refusal::by_shown(alloc, Rule::Fork, text.as_str())
 }
 
 /// The refusal of a row of units, whose line has their full names.
 fn units_refusal(alloc: Global, net: &Net, units: &[u16]) -> Result<Refusal, AllocError>
     requires { IsTrue (list_all (λ u. nat_lt u (length net.now)) units.now) }
-    ensures { IfOk result (λ r. r ≡ showing Rule.Chain (units_text net.now units.now)) }
+    ensures { IfOk result (λ r. r ≡ by_shown Rule.Chain (units_text net.now units.now)) }
 {
     let mut text = String::new(alloc);
     write_joined(&mut text, net, " ", units)?;
-    Refusal::showing(alloc, Rule::Chain, text.as_str())
+    Refusal::by_shown(alloc, Rule::Chain, text.as_str())
 }

@@ -8,12 +8,12 @@ ghost use Rattle.dn_kind.specs.Terms.{Held, are_there};
 ghost use Rattle.dn_flat.specs.Terms.{AreFlats};
 ghost use Rattle.dn_view.specs.Terms.{AreViewed};
 ghost use Rattle.dn_module.specs.Terms.{names_within};
-ghost use Rattle.dn_interval.specs.Terms.{ends_within, seen_by};
+ghost use Rattle.dn_interval.specs.Terms.{ends_within, seen_view};
 ghost use Rattle.dn_image.specs.Terms.{broken_image, version_of, written_version};
 ghost use Rattle.dn_lookup.specs.Terms.{lookup_of};
 ghost use Rattle.dn_book.specs.Terms.{owed_names};
 ghost use Rattle.dn_print.specs.Terms.{names_text};
-ghost use Rattle.dn_tool.specs.Terms.{IsFirst, IsMachine, IsReady, IsStill, access_of, access_text, asked_text, is_change, is_dump, kinds_of, lookup_text, names_under, no_agent_text, owed_rows, reply, resolve_text, view_text, viewed_text};
+ghost use Rattle.dn_tool.specs.Terms.{IsFirstView, IsMachine, IsReady, IsStill, access_of, access_text, asked_text, is_change, is_dump, kinds_of, lookup_text, names_under, no_agent_text, owed_rows, reply, resolve_text, view_text, viewed_text};
 
 use crate::machine::Machine;
 use crate::reshape;
@@ -107,7 +107,7 @@ fn access_text(mode: Mode) -> &'static str
 }
 
 /// The address and the access as they were asked for, and what is found there.
-fn asked(alloc: Global, question: Question, found: &str) -> Result<String, AllocError>
+fn asked_text(alloc: Global, question: Question, found: &str) -> Result<String, AllocError>
     ensures { IfOk result (λ s. string_bytes s ≡ asked_text
         question.entry.target.now question.entry.addr question.entry.mode found.now) }
 {
@@ -141,12 +141,12 @@ fn resolve_reply(
         question.entry.target.now question.entry.addr question.entry.mode) }
 {
     let Some(node) = question.target.node else {
-        return asked(alloc, question, "no such node");
+        return asked_text(alloc, question, "no such node");
     };
     let addr = question.addr;
     let access = access_of(question.mode);
     let found = node_names(alloc, machine, state, access, Name { node, addr })?;
-    asked(alloc, question, found.as_str())
+    asked_text(alloc, question, found.as_str())
 }
 
 /// The names to which a name resolves under the tables.
@@ -192,9 +192,9 @@ fn lookup_reply(
             let addr = question.addr;
             let access = access_of(question.mode);
             let found = agent_names(alloc, machine, state, access, Name { node, addr })?;
-            asked(alloc, question, found.as_str())
+            asked_text(alloc, question, found.as_str())
         }
-        _ => asked(alloc, question, "no such agent"),
+        _ => asked_text(alloc, question, "no such agent"),
     }
 }
 
@@ -326,7 +326,7 @@ fn agent_view(
 /// first agent, and they reach no unit.
 fn first_rows<'a>(net: &Net, first: &'a Option<FirstView>, node: u16) -> Option<&'a Rows>
     requires legal { IsLegalNet net.now }
-    requires first { IfSome first.now (IsFirst net.now) }
+    requires first { IfSome first.now (IsFirstView net.now) }
     ensures rows { IfSome result (λ rows. (h : Held) → AreViewed net.now h node rows.now) }
     ensures within { IfSome result (λ rows. IsTrue (ends_within (length net.now) rows.now)) }
 {
@@ -346,7 +346,7 @@ fn shared_rows<'a>(
 ) -> Option<&'a Rows>
     requires legal { IsLegalNet net.now }
     requires flats { AreFlats net.now flats.now }
-    requires first { IfSome first.now (IsFirst net.now) }
+    requires first { IfSome first.now (IsFirstView net.now) }
     requires there { node < length net.now }
     ensures rows { IfSome result (λ rows. (h : Held) → AreViewed net.now h node rows.now) }
     ensures within { IfSome result (λ rows. IsTrue (ends_within (length net.now) rows.now)) }
@@ -367,7 +367,7 @@ fn rows_text(
 ) -> Result<String, AllocError>
     requires { IsTrue (ends_within (length net.now) seen.now) }
     ensures { IfOk result (λ s. string_bytes s ≡
-        viewed_text net.now text.now mode (map seen_by seen.now)) }
+        viewed_text net.now text.now mode (map seen_view seen.now)) }
 {
     let count = seen.rows().len();
     let access = access_text(mode);

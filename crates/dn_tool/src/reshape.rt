@@ -52,7 +52,7 @@ fn past_reply(alloc: Global, machine: Machine, name: &str, node: u16) -> Result<
 {
     match absorb::absorb(alloc, machine.net, node) {
         Ok(made) => made_reply(alloc, machine.kinds, "absorb", &made),
-        Err(AbsorbFault::NotAbsorbable { why }) => unfit(alloc, name, why),
+        Err(AbsorbFault::NotAbsorbable { why }) => unfit_reply(alloc, name, why),
         Err(AbsorbFault::TooMany { limit }) => limit_reply(alloc, name, limit),
         Err(AbsorbFault::OutOfMemory) => Err(AllocError),
     }
@@ -82,7 +82,7 @@ fn limit_reply(alloc: Global, name: &str, limit: u32) -> Result<Vec<u8>, AllocEr
 }
 
 /// The reply where a node cannot be absorbed.
-fn unfit(alloc: Global, name: &str, why: Why) -> Result<Vec<u8>, AllocError>
+fn unfit_reply(alloc: Global, name: &str, why: Why) -> Result<Vec<u8>, AllocError>
     ensures { IfOk result (λ v. v.items ≡ unfit_text name.now why) }
 {
     match why {

@@ -6,7 +6,7 @@ ghost use Rattle.std.specs.Option.{IfSome};
 ghost use Rattle.dn_base.specs.Terms.{AtEnd, IsCounted, Taken, TakenAtMost, input_limit};
 ghost use Rattle.dn_kind.specs.Terms.{IsLawful, shape_fault};
 ghost use Rattle.dn_words.specs.Terms.{task_of};
-ghost use Rattle.dn_tool.specs.Terms.{HaltsByEither, HaltsBySink, IsAnswered, IsInput, IsMachine, IsSaid, answer, demo_answer, ending_status, is_free, is_script, kinds_of, reads, task_answer, text_answer, usage};
+ghost use Rattle.dn_tool.specs.Terms.{HaltsByEither, HaltsBySink, IsAnswered, IsInput, IsMachine, IsSaid, answer, demo_answer, ending_status, is_free_status, is_script, kinds_of, reads, task_answer, text_answer, usage};
 ghost use Rattle.dn_print.specs.Terms.{net_text};
 
 use crate::compile;
@@ -241,7 +241,7 @@ fn refuse<K: Sink>(alloc: Global, refusal: &Refusal, sink: &mut K) -> Result<u8,
 
 /// Writes an output, and gives its status.
 fn say<K: Sink>(sink: &mut K, output: &[u8], status: u8) -> Result<u8, Halt>
-    requires { is_free status ≡ false }
+    requires { is_free_status status ≡ false }
     ensures said { IsSaid status output.now
         (ending_status result) (K.written sink.old) (K.written sink.new) }
     ensures status { IfOk result (λ s. s ≡ status) }

@@ -8,7 +8,7 @@ ghost use Rattle.dn_image.specs.Terms.{are_filled, image};
 ghost use Rattle.dn_tables.specs.Terms.{AreUnitsMade, FitsNet, fresh_set, tables_of_set, units_of, words_in, words_of};
 ghost use Rattle.dn_walk.specs.Terms.{AreWalksOf};
 ghost use Rattle.dn_book.specs.Terms.{IsFaithful, IsKept};
-ghost use Rattle.dn_tool.specs.Terms.{IsFirst, IsMachine, IsReadyOn, IsStill, kinds_of, start, state_view};
+ghost use Rattle.dn_tool.specs.Terms.{IsFirstView, IsMachine, IsReadyOn, IsStill, kinds_of, start, state_view};
 
 use crate::ids::Ids;
 use crate::machine::Machine;
@@ -115,9 +115,9 @@ pub fn keep_first(
     agent: u16,
 ) -> Result<(), AllocError>
     requires walked { AreWalksOf machine.net.now machine.walks.now }
-    requires first { IfSome first.old (IsFirst machine.net.now) }
+    requires first { IfSome first.old (IsFirstView machine.net.now) }
     requires there { agent < length machine.net.now }
-    ensures first { IfSome first.new (IsFirst machine.entry.net.now) }
+    ensures first { IfSome first.new (IsFirstView machine.entry.net.now) }
 {
     if first.is_some() {
         return Ok(());
@@ -146,7 +146,7 @@ pub fn keep_flats(
 }
 
 /// Each word is one of 64 bits, for a proof of its caller. It does nothing.
-fn small(words: &[u64])
+fn words_are_small(words: &[u64])
     ensures { IsTrue (list_all (λ w. nat_lt w (2 ^ 64)) words.now) }
 {
     let _words = words;
@@ -157,8 +157,8 @@ fn are_small(words: &Filled<u64>)
     ensures { IsTrue (list_all (λ w. nat_lt w (2 ^ 64)) words.now) }
 {
     let (written, rest) = words.parts();
-    small(written);
-    small(&[rest]);
+    words_are_small(written);
+    words_are_small(&[rest]);
 }
 
 /// The words of a node are of 64 bits, for a proof of its caller. It looks at none of them.
@@ -194,7 +194,7 @@ pub fn renew(machine: Machine, state: &mut State)
     requires faithful { IsFaithful machine.net.now state.old.book.grants }
     requires kept { IsKept machine.net.now (kinds_of meaning machine)
         state.old.book.grants state.old.book.set }
-    requires first { IfSome state.old.first (IsFirst machine.net.now) }
+    requires first { IfSome state.old.first (IsFirstView machine.net.now) }
     requires flat { IfSome state.old.flats (AreFlats machine.net.now) }
     ensures still { IsStill meaning machine.entry state.old state.new }
 {

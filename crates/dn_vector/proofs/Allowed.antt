@@ -20,7 +20,7 @@ use Rattle.dn_book.specs.Book.{IsFaithful, IsSound, has_id, slots_of}
 use Rattle.dn_book.specs.Laws.{IsGrantFor}
 use Rattle.dn_book.specs.Writes.{AreAdded, grant_events}
 use Rattle.dn_vector.specs.Refusal.{id_used, no_agent, no_target, book_full, route_refusal}
-use Rattle.dn_vector.specs.Route.{IsLeastVector, IsPlacedRoute, IsRouteLogged, IsRouteMade, NoAddition, NoVector, route_at}
+use Rattle.dn_vector.specs.Route.{IsLeastVector, IsPlacedRoute, IsRouteLogged, IsRouteMade, NoRouteAddition, NoVector, grant_of_route}
 use Rattle.dn_vector.specs.Vectors.{vector_request}
 
 -- the id is new, the agent is one, the node has vectors, the book has room
@@ -79,14 +79,14 @@ vectors_there net node target = by (slice_get net node) refl target
 -- its grant at the least vector may come into the book
 pub allowed_route : (net : List NodeDecl) (book : List Grant) (id agent line node v : ℕ) (p : Place) →
     route_refusal net book id agent node ≡ None → IsLeastVector net book agent line node v p →
-    IsGrantFor net book (route_at id agent node v p)
+    IsGrantFor net book (grant_of_route id agent node v p)
 allowed_route net book id agent line node v p none least =
     let is = allowed_is net book id agent node none in
     record { few = is.few; new = is.new; agent = is.agent_is; rights = refl; placed = least.first.suited.is_placement }
 
 -- the grant of a route that is placed may come into the book
 pub placed_grant : (net : List NodeDecl) (book : List Grant) (id agent line node v : ℕ) (p : Place)
-    (g : Grant) → g ≡ route_at id agent node v p → IsPlacedRoute net book id agent line node v p →
+    (g : Grant) → g ≡ grant_of_route id agent node v p → IsPlacedRoute net book id agent line node v p →
     IsGrantFor net book g
 placed_grant net book id agent line node v p g e is =
     subst (λ (x : Grant). IsGrantFor net book x) (sym e)
@@ -94,18 +94,18 @@ placed_grant net book id agent line node v p g e is =
 
 -- with that grant a faithful book stays so
 pub still_faithful : (net : List NodeDecl) (book next : List Grant) (id agent line node v : ℕ) (p : Place)
-    (g : Grant) → g ≡ route_at id agent node v p → IsLegalNet net → IsSound net book →
+    (g : Grant) → g ≡ grant_of_route id agent node v p → IsLegalNet net → IsSound net book →
     IsPlacedRoute net book id agent line node v p → next ≡ book ++ g ∷ [] →
     IsFaithful net book → IsFaithful net next
 still_faithful net book next id agent line node v p g e legal sound is appended faithful =
-    let made = route_at id agent node v p in
+    let made = grant_of_route id agent node v p in
     let keeps = grant_keeps_book net book made legal sound (allowed_route net book id agent line node v p is.allowed is.placed) in
     let whole : next ≡ book ++ made ∷ [] = appended ∙ ap (λ (x : Grant). book ++ x ∷ []) e in
     subst (λ (b : List Grant). IsFaithful net b) (sym whole) (keeps.1 faithful is.placed.first.suited.admissible)
 
 -- a route that is placed and appended is made
 pub placed_made : (net : List NodeDecl) (book next : List Grant) (id agent line node v : ℕ) (p : Place)
-    (g : Grant) → g ≡ route_at id agent node v p → IsPlacedRoute net book id agent line node v p →
+    (g : Grant) → g ≡ grant_of_route id agent node v p → IsPlacedRoute net book id agent line node v p →
     next ≡ book ++ g ∷ [] → IsRouteMade net book id agent line node v next
 placed_made net book next id agent line node v p g e is appended = record {
   place = p;
@@ -116,7 +116,7 @@ placed_made net book next id agent line node v p g e is appended = record {
 -- the events of a route that is placed
 pub placed_logged : (net : List NodeDecl) (kinds : List Meaning) (book : List Grant) (cleared : Bool)
     (id agent line node v : ℕ) (p : Place) (g : Grant) (failed : Bool)
-    (log log' : Option (List TableEvent)) → g ≡ route_at id agent node v p →
+    (log log' : Option (List TableEvent)) → g ≡ grant_of_route id agent node v p →
     IsPlacedRoute net book id agent line node v p →
     AreAdded (grant_events net kinds book cleared g) failed log log' →
     IsRouteLogged net kinds book cleared id agent line node failed log log'
@@ -131,7 +131,7 @@ placed_logged net kinds book cleared id agent line node v p g failed log log' e 
 pub no_addition : (net : List NodeDecl) (kinds : List Meaning) (book : List Grant) (set : List NodeTable)
     (id agent line node : ℕ) → IsLegalNet net → All IsLawful kinds → IsKept net kinds book set →
     route_refusal net book id agent node ≡ None → NoVector net book agent line node →
-    NoAddition net book agent line node
+    NoRouteAddition net book agent line node
 no_addition net kinds book set id agent line node legal lawful kept none unplaced vector added free ad ex =
     let is = allowed_is net book id agent node none in
     let proper = proper_slots net kinds book set lawful kept in

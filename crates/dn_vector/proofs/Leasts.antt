@@ -11,7 +11,7 @@ use Rattle.dn_net.specs.declared.node.NodeDecl.{NodeDecl}
 use Rattle.dn_tables.specs.Placement.{Place}
 use Rattle.dn_book.specs.declared.grant.Grant.{Grant}
 use Rattle.dn_vector.specs.Route.{HasNoPlace, IsLeastVector, NoVector}
-use Rattle.dn_vector.specs.Search.{IsLeastOf}
+use Rattle.dn_vector.specs.Search.{IsLeastOfSpan}
 use Rattle.dn_vector.specs.Vectors.{is_free_vector}
 
 -- the ends of a span that has an address
@@ -72,7 +72,7 @@ module _ (net : List NodeDecl) (book : List Grant) (agent line node : ℕ) where
   pub least_here : (xs : List Span) (i : ℕ) (s : Span) (v : ℕ) (p : Place) → i < length xs →
       s ≡ get_or xs i s → AreMaximal xs → ((a : ℕ) → has xs a ≡ is_free_vector net book node a) →
       ((a : ℕ) → has (take i xs) a ≡ true → HasNoPlace net book agent line node a) →
-      IsLeastOf net book agent line node s v p → IsLeastVector net book agent line node v p
+      IsLeastOfSpan net book agent line node s v p → IsLeastVector net book agent line node v p
   least_here xs i s v p l at max same before is = record {
     free = sym (same v) ∙ has_at xs i s v l at (and_from (nat_le s.lo v) (nat_le v s.hi) (le-leb s.lo v is.from) (le-leb v s.hi is.to));
     first = is.first;

@@ -35,8 +35,8 @@ pub record MayRoute {K : Type 0} {V : K → Type 0} (means : DynBox K Global V �
   pub on_device : IsOnDevice book.set units words
 
 -- the grant of a vector to an agent at a placement
-abbrev pub route_at : ℕ → ℕ → ℕ → ℕ → Place → Grant
-route_at id agent node vector p =
+abbrev pub grant_of_route : ℕ → ℕ → ℕ → ℕ → Place → Grant
+grant_of_route id agent node vector p =
     record { id = id; request = vector_request agent node vector; placement = p }
 
 -- a vector has no admissible placement at the line
@@ -59,8 +59,8 @@ NoVector net book agent line node = (vector : ℕ) → IsTrue (is_free_vector ne
     HasNoPlace net book agent line node vector
 
 -- no addition for both rights gives the agent exactly a free vector of the node at the line
-abbrev pub NoAddition : List NodeDecl → List Grant → ℕ → ℕ → ℕ → Type 0
-NoAddition net book agent line node = (vector : ℕ) (added : Held) →
+abbrev pub NoRouteAddition : List NodeDecl → List Grant → ℕ → ℕ → ℕ → Type 0
+NoRouteAddition net book agent line node = (vector : ℕ) (added : Held) →
     IsTrue (is_free_vector net book node vector) →
     IsAddition net (slots_of net book) both_rights added →
     GivesExactly net (slots_of net book) (vector_request agent node vector) line added → ⊥
@@ -82,7 +82,7 @@ pub record IsRouteMade (net : List NodeDecl) (book : List Grant) (id agent line 
     (next : List Grant) : Type 0 where
   pub place : Place
   pub placed : IsPlacedRoute net book id agent line node vector place
-  pub appended : next ≡ book ++ route_at id agent node vector place ∷ []
+  pub appended : next ≡ book ++ grant_of_route id agent node vector place ∷ []
 
 -- the refusal is the first of the route that holds; that no vector has a placement is the last
 abbrev pub IsRouteRefused : List NodeDecl → List Grant → ℕ → ℕ → ℕ → ℕ → RouteRefusal → Type 0
@@ -92,11 +92,11 @@ IsRouteRefused net book id agent line node why = route_refusal net book id agent
 
 -- A turn of `route`: the first refusal that holds, and the book stays; or the vector, and the grant is
 -- appended.
-abbrev pub IsRouteTurn : List NodeDecl → List Grant → ℕ → ℕ → ℕ → ℕ → Result ℕ RouteRefusal →
+abbrev pub IsRouteAnswer : List NodeDecl → List Grant → ℕ → ℕ → ℕ → ℕ → Result ℕ RouteRefusal →
     List Grant → Type 0
-IsRouteTurn net book id agent line node (Ok vector) next =
+IsRouteAnswer net book id agent line node (Ok vector) next =
     IsRouteMade net book id agent line node vector next
-IsRouteTurn net book id agent line node (Err why) next =
+IsRouteAnswer net book id agent line node (Err why) next =
     IsRouteRefused net book id agent line node why × (next ≡ book)
 
 -- What a call of `route` comes to: a turn; or it fails, where no refusal holds that needs no search,
@@ -104,7 +104,7 @@ IsRouteTurn net book id agent line node (Err why) next =
 abbrev pub IsRouteOutcome : List NodeDecl → List Grant → ℕ → ℕ → ℕ → ℕ →
     Option (Result ℕ RouteRefusal) → List Grant → Type 0
 IsRouteOutcome net book id agent line node (Some made) next =
-    IsRouteTurn net book id agent line node made next
+    IsRouteAnswer net book id agent line node made next
 IsRouteOutcome net book id agent line node None next =
     (route_refusal net book id agent node ≡ None) × (next ≡ book)
 
@@ -116,4 +116,4 @@ pub record IsRouteLogged (net : List NodeDecl) (kinds : List Meaning) (book : Li
   pub place : Place
   pub placed : IsPlacedRoute net book id agent line node vector place
   pub added : AreAdded
-      (grant_events net kinds book cleared (route_at id agent node vector place)) failed log log'
+      (grant_events net kinds book cleared (grant_of_route id agent node vector place)) failed log log'

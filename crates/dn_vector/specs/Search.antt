@@ -18,7 +18,7 @@ use Rattle.dn_vector.specs.Route.{HasNoPlace}
 use Rattle.dn_vector.specs.Vectors.{vector_request}
 
 -- the system is one, the book is kept, the agent is one, and the node has vectors
-pub record IsAsked {K : Type 0} {V : K → Type 0} (means : DynBox K Global V → Meaning) (asked : Asked K V) : Type 0 where
+pub record IsRouteAsked {K : Type 0} {V : K → Type 0} (means : DynBox K Global V → Meaning) (asked : Asked K V) : Type 0 where
   pub system : IsSystem means asked.system
   pub kept : IsKept asked.system.net.now (map means asked.system.kinds.now.list.items)
       asked.book.now.grants asked.book.now.set
@@ -26,7 +26,7 @@ pub record IsAsked {K : Type 0} {V : K → Type 0} (means : DynBox K Global V �
   pub target : IsTrue (is_vectors_at (slice_get asked.system.net.now asked.node))
 
 -- the vector is the least of a span that has an admissible placement at the line, and this is the first
-pub record IsLeastOf (net : List NodeDecl) (book : List Grant) (agent line node : ℕ) (span : Span)
+pub record IsLeastOfSpan (net : List NodeDecl) (book : List Grant) (agent line node : ℕ) (span : Span)
     (vector : ℕ) (p : Place) : Type 0 where
   pub from : span.lo ≤ vector
   pub to : vector ≤ span.hi

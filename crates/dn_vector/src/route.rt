@@ -4,7 +4,7 @@ ghost use Rattle.std.specs.Prelude.{◌≡◌, ◌≢◌, map, not, true, false,
 ghost use Rattle.dn_base.specs.Terms.{IsCounted};
 ghost use Rattle.dn_tables.specs.Terms.{FitsNet, IsOnDevice};
 ghost use Rattle.dn_book.specs.Terms.{IsFaithful, IsKept};
-ghost use Rattle.dn_vector.specs.Terms.{IsRouteLogged, IsRouteOutcome, MayRoute, NoAddition, is_route_fault, route_answer_view};
+ghost use Rattle.dn_vector.specs.Terms.{IsRouteLogged, IsRouteOutcome, MayRoute, NoRouteAddition, is_route_fault, route_answer_view};
 
 use crate::fault::RouteFault;
 use crate::refusal::refusal;
@@ -41,7 +41,7 @@ pub fn route<D: Tables>(
     ensures turn { IsRouteOutcome system.entry.net.now book.old.grants id agent line node
         (route_answer_view result) book.new.grants }
     ensures complete { result ≡ Err RouteFault.NoPlacement →
-        NoAddition system.entry.net.now book.old.grants agent line node }
+        NoRouteAddition system.entry.net.now book.old.grants agent line node }
     ensures unchanged { is_err result ≡ true → result ≢ Err RouteFault.Device →
         (book.new ≡ book.old) × (device.new ≡ device.old) }
     ensures kept { OnOk result (IsKept system.entry.net.now

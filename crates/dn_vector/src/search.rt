@@ -1,7 +1,7 @@
 //! The least vector that has an admissible placement at a line.
 
 ghost use Rattle.std.specs.Prelude.{◌≡◌, ◌≤◌, ℕ, None, IfOk, IfSome};
-ghost use Rattle.dn_vector.specs.Terms.{HasNoPlace, IsAsked, IsLeastOf, IsLeastVector, NoVector, route_at, vector_request};
+ghost use Rattle.dn_vector.specs.Terms.{HasNoPlace, IsLeastOfSpan, IsLeastVector, IsRouteAsked, NoVector, grant_of_route, vector_request};
 
 use crate::vectors::free_vectors;
 use dn_base::OutOfMemory;
@@ -37,7 +37,7 @@ pub struct Found {
 impl Found {
     /// The grant of the vector to an agent, under an id.
     pub fn grant(self, id: u32, agent: u16, node: u16) -> Grant
-        ensures { result ≡ route_at id agent node self.vector self.placement }
+        ensures { result ≡ grant_of_route id agent node self.vector self.placement }
     {
         let Found { vector, placement } = self;
         Grant {
@@ -51,7 +51,7 @@ impl Found {
 /// The least vector that no live grant has and that has an admissible placement at the line, with the
 /// first of these. `None` exactly where none has one. `Err` is want of memory.
 pub fn least_vector(alloc: Global, asked: Asked) -> Result<Option<Found>, OutOfMemory>
-    requires asked { IsAsked (λ k. meaning (k.vtable, k.value)) asked }
+    requires asked { IsRouteAsked (λ k. meaning (k.vtable, k.value)) asked }
     ensures found { IfOk result (λ found. IfSome found (λ f.
         IsLeastVector asked.entry.system.net.now asked.entry.book.now.grants asked.entry.agent
         asked.entry.line asked.entry.node f.vector f.placement)) }
@@ -71,9 +71,9 @@ pub fn least_vector(alloc: Global, asked: Asked) -> Result<Option<Found>, OutOfM
 /// The least of the vectors of a span that has an admissible placement at the line, with the first of
 /// these. `None` exactly where none has one. `Err` is want of memory.
 fn least_of(alloc: Global, asked: Asked, span: Span) -> Result<Option<Found>, OutOfMemory>
-    requires asked { IsAsked (λ k. meaning (k.vtable, k.value)) asked }
+    requires asked { IsRouteAsked (λ k. meaning (k.vtable, k.value)) asked }
     ensures found { IfOk result (λ found. IfSome found (λ f.
-        IsLeastOf asked.entry.system.net.now asked.entry.book.now.grants asked.entry.agent
+        IsLeastOfSpan asked.entry.system.net.now asked.entry.book.now.grants asked.entry.agent
         asked.entry.line asked.entry.node span f.vector f.placement)) }
     ensures none { IfOk result (λ found. found ≡ None → (vector : ℕ) →
         span.lo ≤ vector → vector ≤ span.hi →

@@ -11,10 +11,10 @@ use Rattle.dn_kind.specs.declared.rights.Access.{Access}
 use Rattle.dn_kind.specs.Rights.{allows}
 use Rattle.dn_kind.specs.Tables.{Held, allowing}
 use Rattle.dn_flat.specs.Levels.{AreFlats, FlatsView, levels_give}
-use Rattle.dn_flat.specs.Views.{name_of_end, end_of}
 use Rattle.dn_tables.specs.Placement.{Place}
 use Rattle.dn_placement.specs.declared.request.Request.{Request}
 use Rattle.dn_placement.specs.Records.{joined_records, placed_records}
+use Rattle.dn_walk.specs.Ends.{end_of, name_of_end}
 use Rattle.dn_view.specs.Exact.{IsAdded}
 use Rattle.dn_view.specs.Passes.{stops_of}
 use Rattle.dn_view.specs.Records.{fresh_records}

@@ -26,7 +26,7 @@ use Rattle.dn_placement.specs.Order.{IsSuited}
 use Rattle.dn_placement.specs.Placement.{IsUsable, Joins, Leads, Meets, is_free, is_shared}
 use Rattle.dn_placement.specs.Records.{first_slot, hop_rights, hops_records, joined_records, last_slot, slot_record}
 use Rattle.dn_placement.specs.Slots.{Slots}
-use Rattle.dn_view.specs.Addition.{AreProper, GivesExactly, IsAddition, RefusalIsComplete, name_at}
+use Rattle.dn_view.specs.Addition.{AreProper, GivesExactly, IsAddition, RefusalIsComplete, name_of_address}
 use Rattle.dn_view.proofs.AddedHops.{HoldAll, hops_hold, hops_sub, record_is, record_of, slot_is}
 use Rattle.dn_view.proofs.AddedRights.{allowed_here, both_or_not, joined_below, joined_cases, joined_left, joined_right, mask_less, some_allowed}
 use Rattle.dn_view.proofs.AddedRows.{HopStep, Row, accepted_ends, chain_of_row, one_from_stop, one_to_stop, one_way_within, row_of, stop_of_hop, stop_part, through_record, unit_unaccepted}
@@ -87,10 +87,10 @@ module _ (net : List NodeDecl) (slots : Slots) (agent node base : ℕ) (rights :
     rq = record { agent = agent; node = node; base = base; size = 1; rights = rights }
 
     abbrev start : Name
-    start = name_at agent v
+    start = name_of_address agent v
 
     abbrev end : Name
-    end = name_at node base
+    end = name_of_address node base
 
     -- the records that were there and those that are added
     abbrev all : Held

@@ -13,7 +13,7 @@ use Rattle.dn_net.specs.UnitRules.{NoFork}
 use Rattle.dn_net.proofs.Steps.{node_at, unit_is_bare}
 use Rattle.dn_net.proofs.Chains.{chain_more, chain_join}
 use Rattle.dn_kind.specs.declared.unit_kind.Record.{Record}
-use Rattle.dn_kind.specs.Tables.{Held, StepUnder, output, steps_by_unit, to_port}
+use Rattle.dn_kind.specs.Tables.{Held, StepUnder, name_at_port, output, steps_by_unit}
 use Rattle.dn_kind.proofs.Ways.{step_under, few_in_unit, first_stop}
 use Rattle.dn_tables.specs.declared.placement.Hop.{Hop}
 
@@ -159,7 +159,7 @@ row_of net h (suc k) x y c = go (unit_at net x.node) refl c.1 (row_of net h k c.
       where
         out : (t : Record) → nat_le x.addr top ≡ true → h x.node (x.addr / 2 ^ u.page) ≡ Some t →
             (p : Option ℕ) → slice_get u.ports t.port ≡ p →
-            Member c.0 (to_port p (t.page * 2 ^ u.page + x.addr % 2 ^ u.page)) →
+            Member c.0 (name_at_port p (t.page * 2 ^ u.page + x.addr % 2 ^ u.page)) →
             (hops : List Hop) × Row net h x hops y (suc k)
         out t eb et None ep m = absurd m
         out t eb et (Some p) ep (inr m) = absurd m
@@ -203,7 +203,7 @@ pub through_record : (net : List NodeDecl) (h : Held) (x : Name) (hop : Hop) (j 
 through_record net h x hop j z w =
     let P : Option UnitPart → Type 0 = λ v. Member z (steps_by_unit net h (record { node = hop.unit; addr = hop.x }) v) in
     let R : Option Record → Type 0 = λ r. Member z (output w.unit r hop.x) in
-    let N : Option ℕ → Type 0 = λ p. Member z (to_port p (w.rec.page * 2 ^ w.unit.page + hop.x % 2 ^ w.unit.page)) in
+    let N : Option ℕ → Type 0 = λ p. Member z (name_at_port p (w.rec.page * 2 ^ w.unit.page + hop.x % 2 ^ w.unit.page)) in
     let B : Bool → Type 0 = λ b. Member z (if b then output w.unit (h hop.unit (hop.x / 2 ^ w.unit.page)) hop.x else []) in
     let Z : ℕ → Type 0 = λ a. ◌≡◌ {A = Name} (record { node = w.node; addr = a }) z in
     let at : Z (w.rec.page * 2 ^ w.unit.page + hop.x % 2 ^ w.unit.page) = subst Z w.out w.to_is in

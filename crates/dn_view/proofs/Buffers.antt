@@ -8,13 +8,12 @@ use Rattle.dn_interval.specs.declared.row.Row.{Row}
 use Rattle.dn_interval.specs.declared.row.Seg.{Seg}
 use Rattle.dn_interval.specs.declared.span.Span.{Span}
 use Rattle.dn_interval.specs.declared.span.TheConstants.{TOP}
-use Rattle.dn_interval.specs.Rows.{Member as Named, AreNormal, SegmentsGive, GivenBy, moved}
+use Rattle.dn_interval.specs.Rows.{Member as Named, AreNormal, SegmentsGive, GivenBy, further_end}
 use Rattle.dn_interval.specs.Strands.{seg_gives, segs_give}
 use Rattle.dn_interval.proofs.Membership.{in_from}
 use Rattle.dn_interval.proofs.Names.{segs_from, segs_to}
 use Rattle.dn_interval.proofs.Normal.{one_normal}
 use Rattle.dn_flat.proofs.Sums.{normal_of}
-use Rattle.dn_flat.specs.Views.{name_of_end, end_of}
 use Rattle.dn_net.specs.declared.node.Name.{Name}
 use Rattle.dn_net.specs.declared.node.NodeDecl.{NodeDecl}
 use Rattle.dn_kind.specs.declared.rights.Access.{Access}
@@ -23,6 +22,7 @@ use Rattle.dn_kind.specs.Tables.{Held}
 use Rattle.dn_tables.specs.Placement.{Place}
 use Rattle.dn_placement.specs.declared.request.Request.{Request}
 use Rattle.dn_placement.specs.Exposure.{Adds}
+use Rattle.dn_walk.specs.Ends.{end_of, name_of_end}
 use Rattle.dn_view.specs.Exact.{IsAdded, IsAsked, IsAskedAt, IsExactAt, is_buffer_end, is_buffer_row, is_part, are_buffer}
 use Rattle.dn_view.specs.Passes.{seg_name}
 use Rattle.dn_view.proofs.Passed.{seg_gives_it}
@@ -62,7 +62,7 @@ row_asked r rq v some e a z = (into, back)
         let h = hi in
         let i : a - r.span.lo ≡ d.i = omega arith in
         let name : ◌≡◌ {A = End} (record { node = rq.node; base = rq.base + (a - r.span.lo) }) z = ap (λ n. record { node = rq.node; base = rq.base + n }) i ∙ ap end_of (sym d.to) in
-        inl (in_from r.span a (omega arith) (omega arith), subst (λ (es : List End). Named z (map (moved (a - r.span.lo)) es)) (sym ends) (inl name))
+        inl (in_from r.span a (omega arith) (omega arith), subst (λ (es : List End). Named z (map (further_end (a - r.span.lo)) es)) (sym ends) (inl name))
 
     back : GivenBy (r ∷ []) a z → IsAskedAt rq v a z
     back (inr n) = absurd n
@@ -72,9 +72,9 @@ row_asked r rq v some e a z = (into, back)
         let h = hi in
         let x : r.span.lo ≤ a = leb-true r.span.lo a t.0 in
         let y : a ≤ r.span.hi = leb-true a r.span.hi t.1 in
-        named (subst (λ (es : List End). Named z (map (moved (a - r.span.lo)) es)) ends g.1) (omega arith) (omega arith)
+        named (subst (λ (es : List End). Named z (map (further_end (a - r.span.lo)) es)) ends g.1) (omega arith) (omega arith)
       where
-        named : (Named z (map (moved (a - r.span.lo)) (record { node = rq.node; base = rq.base } ∷ []))) → a ≡ v + (a - r.span.lo) → a - r.span.lo < rq.size → IsAskedAt rq v a z
+        named : (Named z (map (further_end (a - r.span.lo)) (record { node = rq.node; base = rq.base } ∷ []))) → a ≡ v + (a - r.span.lo) → a - r.span.lo < rq.size → IsAskedAt rq v a z
         named (inr n) f b = absurd n
         named (inl n) f b = record { i = a - r.span.lo; below = b; from = ap (λ m. record { node = rq.agent; addr = m }) f; to = ap name_of_end (sym n) }
 

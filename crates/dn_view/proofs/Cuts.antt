@@ -20,21 +20,22 @@ use Rattle.dn_net.specs.declared.node.NodeDecl.{NodeDecl}
 use Rattle.dn_net.specs.declared.node.Unit.{Unit as UnitPart}
 use Rattle.dn_net.specs.Decode.{unit_at}
 use Rattle.dn_kind.specs.declared.unit_kind.Record.{Record}
-use Rattle.dn_kind.specs.Kind.{is_plain, is_within}
-use Rattle.dn_kind.specs.Tables.{Held, to_port, output}
+use Rattle.dn_kind.specs.Kind.{is_plain_unit_shape, is_within}
+use Rattle.dn_kind.specs.Tables.{Held, name_at_port, output}
 use Rattle.dn_kind.specs.Units.{unit_shape}
 use Rattle.dn_kind.proofs.Outputs.{output_small}
-use Rattle.dn_view.specs.Passes.{has_rows, part_gives, part_leads, stops_of, in_slot, names_go, outputs, outputs_by, seg_name}
+use Rattle.dn_flat.specs.Onward.{has_rows}
+use Rattle.dn_view.specs.Passes.{part_gives, part_leads, stops_of, in_slot, names_go, outputs, outputs_by, seg_name}
 use Rattle.dn_view.proofs.Pages.{pages_ascend, IsPartIn, part_in, in_part, of_part, part_names, same_test, true_all, all_true}
 
-pub sent_name : (o : Option ℕ) (a : ℕ) (x : Name) → ◌≡◌ {A = List Name} (x ∷ []) (to_port o a) → (o ≡ Some x.node) × (x.addr ≡ a)
+pub sent_name : (o : Option ℕ) (a : ℕ) (x : Name) → ◌≡◌ {A = List Name} (x ∷ []) (name_at_port o a) → (o ≡ Some x.node) × (x.addr ≡ a)
 sent_name None a x e = cc
 sent_name (Some p) a x e = let f : ◌≡◌ {A = Name} x (record { node = p; addr = a }) = cc in (ap (λ (n : Name). Some n.node) (sym f), ap (λ (n : Name). n.addr) f)
 
 -- the part of a segment from one name to another that stands in a slot of a unit, and the name to which the
 -- record of the slot sends the first
 pub record IsCut (u : UnitPart) (r : Record) (s : Seg) (slot from to : ℕ) (x : Name) : Type 0 where
-  pub plain : IsTrue (is_plain (unit_shape u))
+  pub plain : IsTrue (is_plain_unit_shape (unit_shape u))
   pub within : IsTrue (is_within (unit_shape u) r)
   pub begins : s.base / 2 ^ u.page ≤ slot
   pub ends : slot ≤ (s.base + (s.span.hi - s.span.lo)) / 2 ^ u.page
@@ -84,7 +85,7 @@ slot_goes net h next s slot u r port a at z eu eh ep t en =
     ap (λ o. names_go next (outputs_by h (seg_name s a) o) z) eu
     ∙ ap (λ n. names_go next (output u (h s.node n) (s.base + (a - s.span.lo))) z) q
     ∙ ap (λ o. names_go next (output u o (s.base + (a - s.span.lo))) z) eh
-    ∙ ap (λ o. names_go next (to_port o (r.page * 2 ^ u.page + (s.base + (a - s.span.lo)) % 2 ^ u.page)) z) ep
+    ∙ ap (λ o. names_go next (name_at_port o (r.page * 2 ^ u.page + (s.base + (a - s.span.lo)) % 2 ^ u.page)) z) ep
     ∙ ap (λ n. next port n z || false) (sym en)
     ∙ or-false (next port at z)
 
@@ -207,7 +208,7 @@ none_leads net h flats part s u a z eu none =
     leads Accepts p n e = shows_none flats p n z (empty (reached_of (slice_get flats.nodes p)) e)
     leads Stops p n e = no_layer (stops_of flats p) n z e
 
-    to : (o : Option ℕ) (i n : ℕ) → slice_get u.ports i ≡ o → names_go (part_gives part flats) (to_port o n) z ≡ false
+    to : (o : Option ℕ) (i n : ℕ) → slice_get u.ports i ≡ o → names_go (part_gives part flats) (name_at_port o n) z ≡ false
     to None i n e = refl
     to (Some p) i n e = or-false (part_gives part flats p n z) ∙ leads part p n (none_at (λ p. part_leads part flats p) u.ports i p none e)
 

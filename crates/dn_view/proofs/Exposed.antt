@@ -15,10 +15,9 @@ use Rattle.dn_net.proofs.Chains.{chain_join}
 use Rattle.dn_kind.specs.declared.rights.Access.{Access}
 use Rattle.dn_kind.specs.declared.rights.Access.TheVariants.{Read, Write}
 use Rattle.dn_kind.specs.Rights.{allows, both_rights, are_rights}
-use Rattle.dn_kind.specs.Tables.{Held, output, to_port, StepUnder, ResolvesUnder, AreHeld, allowing, record_allowing}
+use Rattle.dn_kind.specs.Tables.{Held, output, name_at_port, StepUnder, ResolvesUnder, AreHeld, allowing, record_allowing}
 use Rattle.dn_kind.proofs.Allowed.{both_allow}
 use Rattle.dn_kind.proofs.Ways.{allowing_held}
-use Rattle.dn_flat.specs.Views.{name_of_end, end_of}
 use Rattle.dn_tables.specs.declared.placement.Hop.{Hop}
 use Rattle.dn_tables.specs.Placement.{Place}
 use Rattle.dn_placement.specs.declared.request.Request.{Request}
@@ -26,6 +25,7 @@ use Rattle.dn_placement.specs.Exposure.{Adds, IsAdmissible}
 use Rattle.dn_placement.specs.Placement.{name_on, Meets, Joins, Leads, IsUsable, IsHolding, IsFreeHop, IsPlacement, is_free, is_shared}
 use Rattle.dn_placement.specs.Records.{first_slot, last_slot, slot_record, placed_records, joined_records}
 use Rattle.dn_placement.specs.Slots.{Slots}
+use Rattle.dn_walk.specs.Ends.{end_of, name_of_end}
 use Rattle.dn_view.specs.Exact.{IsAdded, IsAsked, IsExactAt, AreExact}
 use Rattle.dn_view.specs.Passes.{outputs, outputs_by}
 use Rattle.dn_view.specs.Records.{IsFitted, AreFitted}
@@ -63,8 +63,8 @@ module _ (net : List NodeDecl) (slots : Slots) (rq : Request) (access : Access) 
       let q : ℕ = (hop.x + i) / 2 ^ u.page in
       let held : old hop.unit q ≡ Some (slot_record u both_rights hop q) = ap (record_allowing access) holds ∙ ap (λ b. if b then Some (slot_record u both_rights hop q) else None) (both_allow access) in
       let at : (hop.y / 2 ^ u.page + (q - hop.x / 2 ^ u.page)) * 2 ^ u.page + (hop.x + i) % 2 ^ u.page ≡ hop.y + i = output_of_hop (2 ^ u.page) hop.x hop.y i (pow_pos u.page) agree in
-      let here : Member (name_on node hop.y i) (to_port (Some node) ((hop.y / 2 ^ u.page + (q - hop.x / 2 ^ u.page)) * 2 ^ u.page + (hop.x + i) % 2 ^ u.page)) = inl (ap (λ n. record { node = node; addr = n }) at) in
-      let sent : Member (name_on node hop.y i) (output u (Some (slot_record u both_rights hop q)) (hop.x + i)) = subst (λ o. Member (name_on node hop.y i) (to_port o ((hop.y / 2 ^ u.page + (q - hop.x / 2 ^ u.page)) * 2 ^ u.page + (hop.x + i) % 2 ^ u.page))) (sym port) here in
+      let here : Member (name_on node hop.y i) (name_at_port (Some node) ((hop.y / 2 ^ u.page + (q - hop.x / 2 ^ u.page)) * 2 ^ u.page + (hop.x + i) % 2 ^ u.page)) = inl (ap (λ n. record { node = node; addr = n }) at) in
+      let sent : Member (name_on node hop.y i) (output u (Some (slot_record u both_rights hop q)) (hop.x + i)) = subst (λ o. Member (name_on node hop.y i) (name_at_port o ((hop.y / 2 ^ u.page + (q - hop.x / 2 ^ u.page)) * 2 ^ u.page + (hop.x + i) % 2 ^ u.page))) (sym port) here in
       let by_slot : Member (name_on node hop.y i) (outputs_by old (name_on hop.unit hop.x i) (Some u)) = subst (λ o. Member (name_on node hop.y i) (output u o (hop.x + i))) (sym held) sent in
       subst (λ o. Member (name_on node hop.y i) (outputs_by old (name_on hop.unit hop.x i) o)) (sym e) by_slot
 

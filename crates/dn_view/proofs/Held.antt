@@ -14,7 +14,7 @@ use Rattle.dn_kind.specs.declared.shape.Shape.{Shape}
 use Rattle.dn_kind.specs.declared.rights.Access.{Access}
 use Rattle.dn_kind.specs.declared.unit_kind.Record.{Record}
 use Rattle.dn_kind.specs.Rights.{allows}
-use Rattle.dn_kind.specs.Kind.{Meaning, IsLawful, is_plain, is_within}
+use Rattle.dn_kind.specs.Kind.{Meaning, IsLawful, is_plain_unit_shape, is_within}
 use Rattle.dn_kind.specs.Tables.{Held, record_spelled, record_of_unit, record_held, record_allowing, AreHeld}
 use Rattle.dn_kind.specs.Units.{IsLegalWith, unit_shape}
 use Rattle.dn_kind.proofs.Held.{held_records_fit}
@@ -55,16 +55,16 @@ allowed_was access (Some s) r e = by (allows s.rights access) e
 -- a unit of a legal net, as it is found
 pub record IsFoundUnit (net : List NodeDecl) (node : ℕ) (u : UnitPart) : Type 0 where
   pub at : unit_at net node ≡ Some u
-  pub plain : IsTrue (is_plain (unit_shape u))
+  pub plain : IsTrue (is_plain_unit_shape (unit_shape u))
   pub page : u.page ≤ 40
   pub slots : u.slots ≤ 262144
 
-few_slots : (s : Shape) → IsTrue (is_plain s) → s.slots ≤ 262144
+few_slots : (s : Shape) → IsTrue (is_plain_unit_shape s) → s.slots ≤ 262144
 few_slots s p = grind arith
 
 pub found_unit : (net : List NodeDecl) (kinds : List Meaning) → IsLegalWith kinds net → (node : ℕ) (u : UnitPart) → option_map (λ d. d.unit) (slice_get net node) ≡ Some (Some u) → IsFoundUnit net node u
 found_unit net kinds legal node u e =
-    let plain : IsTrue (is_plain (unit_shape u)) = plain_there kinds u (shape_there kinds net node (Some u) legal.shaped e) in
+    let plain : IsTrue (is_plain_unit_shape (unit_shape u)) = plain_there kinds u (shape_there kinds net node (Some u) legal.shaped e) in
     record { at = unit_is net node (Some u) e; plain = plain; page = (has_pages (unit_shape u) plain).page; slots = few_slots (unit_shape u) plain }
 
 -- a record that is held is within its unit
@@ -78,5 +78,5 @@ pub slot_there : (net : List NodeDecl) (kinds : List Meaning) (set : List NodeTa
 slot_there net kinds set fits node slot u at l = subst (λ o. IsTrue (has_slot_by o slot)) (sym (unit_fits net kinds set fits node ∙ at)) (lt-ltb slot u.slots l)
 
 -- a unit of a legal net has a plain shape
-pub legal_plain : (net : List NodeDecl) (node : ℕ) (u : UnitPart) → IsTrue (has_plain_units net) → unit_at net node ≡ Some u → IsTrue (is_plain (unit_shape u))
+pub legal_plain : (net : List NodeDecl) (node : ℕ) (u : UnitPart) → IsTrue (has_plain_units net) → unit_at net node ≡ Some u → IsTrue (is_plain_unit_shape (unit_shape u))
 legal_plain net node u plain at = plain_at net node u plain at

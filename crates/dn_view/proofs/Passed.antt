@@ -17,8 +17,9 @@ use Rattle.dn_net.specs.Legal.{IsLegalNet}
 use Rattle.dn_kind.specs.Tables.{Held, AreHeld, ResolvesUnder, steps_by_unit, steps_under}
 use Rattle.dn_kind.proofs.Bounds.{Led, led}
 use Rattle.dn_kind.proofs.Nodes.{steps_under_there}
+use Rattle.dn_walk.specs.Ends.{end_of, name_of_end}
 use Rattle.dn_flat.specs.Levels.{AreFlats, FlatsView, levels_give, stops_in}
-use Rattle.dn_flat.specs.Views.{name_of_end, end_of, ResolvesFrom, StopsFrom}
+use Rattle.dn_flat.specs.Views.{ResolvesFrom, StopsFrom}
 use Rattle.dn_flat.proofs.Shown.{levels_there, shows_is}
 use Rattle.dn_view.specs.declared.pass.Part.{Part}
 use Rattle.dn_view.specs.declared.pass.Part.TheVariants.{Accepts, Stops}

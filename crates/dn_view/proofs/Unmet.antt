@@ -21,16 +21,17 @@ use Rattle.dn_kind.specs.declared.rights.Access.{Access}
 use Rattle.dn_kind.specs.declared.rights.Rights.{Rights}
 use Rattle.dn_kind.specs.declared.unit_kind.Record.{Record}
 use Rattle.dn_kind.specs.Rights.{allows}
-use Rattle.dn_kind.specs.Tables.{Held, allowing, output, record_allowing, to_port}
+use Rattle.dn_kind.specs.Tables.{Held, allowing, name_at_port, output, record_allowing}
 use Rattle.dn_flat.specs.Levels.{AreFlats, FlatsView, levels_give}
-use Rattle.dn_flat.specs.Views.{name_of_end, end_of}
 use Rattle.dn_flat.proofs.Reached.{some_rows}
 use Rattle.dn_tables.specs.declared.placement.Hop.{Hop}
 use Rattle.dn_tables.specs.Placement.{Place}
 use Rattle.dn_placement.specs.declared.request.Request.{Request}
 use Rattle.dn_placement.specs.Records.{hop_record_by, hop_rights, hops_records, is_taken_by, joined_records, or_record, placed_records, slot_record}
+use Rattle.dn_walk.specs.Ends.{end_of, name_of_end}
+use Rattle.dn_flat.specs.Onward.{has_rows}
 use Rattle.dn_view.specs.Exact.{IsAdded, IsExactAt}
-use Rattle.dn_view.specs.Passes.{has_rows, outputs_by, stops_of}
+use Rattle.dn_view.specs.Passes.{outputs_by, stops_of}
 use Rattle.dn_view.specs.Records.{fresh_record, fresh_records}
 use Rattle.dn_view.specs.Through.{ComesNewly, Newly}
 use Rattle.dn_view.specs.Untouched.{can_meet, has_hop, layers_meet, leads_to_units}
@@ -105,7 +106,7 @@ module _ (net : List NodeDecl) (legal : IsLegalNet net) (flats : FlatsView) (are
           leads : ℕ → Bool
           leads port = list_any has_rows (stops_of flats port)
 
-          at : (o : Option ℕ) (i n : ℕ) → slice_get u.ports i ≡ o → Member w (to_port o n) → ⊥
+          at : (o : Option ℕ) (i n : ℕ) → slice_get u.ports i ≡ o → Member w (name_at_port o n) → ⊥
           at None i n g k = absurd k
           at (Some port) i n g (inr k) = absurd k
           at (Some port) i n g (inl k) = absurd (false≢true (sym (none_at leads u.ports i port f g) ∙ layer_given (stops_of flats port) w.addr (end_of v) gives))

@@ -4,7 +4,7 @@ use Rattle.dn_interval.specs.declared.row.End.{End}
 use Rattle.dn_interval.specs.declared.row.Row.{Row}
 use Rattle.dn_interval.specs.declared.row.Seg.{Seg}
 use Rattle.dn_interval.specs.declared.span.TheConstants.{TOP}
-use Rattle.dn_interval.specs.Rows.{Member, moved, AreNormal, GivenBy, HasEnds, SegmentsGive, ends_within}
+use Rattle.dn_interval.specs.Rows.{Member, further_end, AreNormal, GivenBy, HasEnds, SegmentsGive, ends_within}
 use Rattle.dn_interval.specs.Strands.{segs_give}
 use Rattle.dn_interval.proofs.Membership.{in_from}
 use Rattle.dn_net.specs.declared.node.Name.{Name}
@@ -12,10 +12,11 @@ use Rattle.dn_net.specs.declared.node.NodeDecl.{NodeDecl}
 use Rattle.dn_net.specs.Decode.{Resolves, StopsAt}
 use Rattle.dn_net.specs.Legal.{IsLegalNet}
 use Rattle.dn_kind.specs.Tables.{Held, AreHeld}
+use Rattle.dn_walk.specs.Ends.{end_of, name_of_end}
 use Rattle.dn_flat.specs.declared.flat.Flat.{Flat}
 use Rattle.dn_flat.specs.Levels.{AreFlats, FlatsView, levels_give, shows}
 use Rattle.dn_flat.specs.Stages.{IsFlat}
-use Rattle.dn_flat.specs.Views.{name_of_end, end_of, StopsFrom}
+use Rattle.dn_flat.specs.Views.{StopsFrom}
 use Rattle.dn_flat.proofs.Shown.{shows_is}
 use Rattle.dn_flat.proofs.Sums.{normal_of}
 use Rattle.dn_flat.proofs.There.{accepted_is_there, names_are_there}
@@ -79,9 +80,9 @@ unit_reached net node (r ∷ rest) normal some = by r.ends refl normal.apart.1
     by [] e has = absurd has
     by (x ∷ xs) e has =
         let lo : ℕ = r.span.lo in
-        let first : End = moved (lo - lo) x in
+        let first : End = further_end (lo - lo) x in
         let low : lo ≤ TOP = omega (arith, r.span.ordered, r.span.within) in
-        let one : Member first (map (moved (lo - lo)) r.ends) = subst (λ es. Member first (map (moved (lo - lo)) es)) (sym e) (inl refl) in
+        let one : Member first (map (further_end (lo - lo)) r.ends) = subst (λ es. Member first (map (further_end (lo - lo)) es)) (sym e) (inl refl) in
         (lo, first, low, (normal.exact lo first low).1 (inl (in_from r.span lo (omega arith) r.span.ordered, one)))
 
 pub view_rows : (net : List NodeDecl) (h : Held) (node : ℕ) (shown : List Seg) (rows : List Row) → ((a : ℕ) (z : End) → a ≤ TOP → (segs_give shown a z ≡ true) ↔ ResolvesFromUnder net h node a z) → AreNormal (SegmentsGive shown) rows → AreNormal (ResolvesFromUnder net h node) rows

@@ -23,8 +23,8 @@ use Rattle.dn_placement.specs.Records.{joined_records}
 use Rattle.dn_placement.specs.Slots.{Slots}
 
 -- the name of an address of a node
-abbrev pub name_at : ℕ → ℕ → Name
-name_at node addr = record { node = node; addr = addr }
+abbrev pub name_of_address : ℕ → ℕ → Name
+name_of_address node addr = record { node = node; addr = addr }
 
 -- a slot is there, and its unit can hold the record
 abbrev pub CanHold : List NodeDecl → ℕ → ℕ → Record → Type 0
@@ -60,10 +60,10 @@ pub record GivesExactly (net : List NodeDecl) (slots : Slots) (rq : Request) (v 
   pub low : v ≤ top
   pub gives : Gives net slots.held (joined_records slots.held added) rq v
   pub new : (access : Access) → IsTrue (allows rq.rights access) →
-      ResolvesUnder net (allowing access slots.held) (name_at rq.agent v) (name_at rq.node rq.base)
+      ResolvesUnder net (allowing access slots.held) (name_of_address rq.agent v) (name_of_address rq.node rq.base)
       → ⊥
   pub unowned : PassesNoOwned net (joined_records slots.held added) slots.has_owner
-      (name_at rq.agent v) (name_at rq.node rq.base)
+      (name_of_address rq.agent v) (name_of_address rq.node rq.base)
 
 -- slots whose records their units can hold; one that is free holds none, and one that has no owner
 -- holds none but with both rights

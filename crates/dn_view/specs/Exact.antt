@@ -10,11 +10,11 @@ use Rattle.dn_net.specs.Decode.{is_agent_at}
 use Rattle.dn_kind.specs.declared.rights.Access.{Access}
 use Rattle.dn_kind.specs.Rights.{allows}
 use Rattle.dn_kind.specs.Tables.{Held, allowing}
-use Rattle.dn_flat.specs.Views.{name_of_end}
 use Rattle.dn_tables.specs.Placement.{Place}
 use Rattle.dn_placement.specs.declared.request.Request.{Request}
 use Rattle.dn_placement.specs.Exposure.{Adds}
 use Rattle.dn_placement.specs.Records.{joined_records, placed_records}
+use Rattle.dn_walk.specs.Ends.{name_of_end}
 use Rattle.dn_view.specs.Records.{fresh_records}
 use Rattle.dn_view.specs.Through.{IsShownNewly}
 

@@ -11,12 +11,9 @@ use Rattle.dn_net.specs.declared.node.Unit.{Unit as UnitPart}
 use Rattle.dn_net.specs.Decode.{unit_at}
 use Rattle.dn_kind.specs.Tables.{Held, output}
 use Rattle.dn_flat.specs.Levels.{FlatsView, levels_give, reached_of, shows, stops_in}
+use Rattle.dn_flat.specs.Onward.{has_rows}
 use Rattle.dn_view.specs.declared.pass.Part.{Part}
 use Rattle.dn_view.specs.declared.pass.Part.TheVariants.{Accepts, Stops}
-
--- there is a row
-abbrev pub has_rows : List Row → Bool
-has_rows rows = nat_lt 0 (length rows)
 
 -- the layers of the stops of a node
 abbrev pub stops_of : FlatsView → ℕ → List (List Row)

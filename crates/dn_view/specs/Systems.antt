@@ -18,7 +18,7 @@ pub record IsSystem {K : Type 0} {V : K → Type 0} (means : DynBox K Global V �
   pub flat : AreFlats system.net.now system.flats.now
 
 -- the kinds are lawful, the net is legal with them, and the tables fit it
-pub record AreTables {K : Type 0} {V : K → Type 0} (means : DynBox K Global V → Meaning) (kinds : List (DynBox K Global V)) (net : List NodeDecl) (set : List NodeTable) : Type 0 where
+pub record AreSystemTables {K : Type 0} {V : K → Type 0} (means : DynBox K Global V → Meaning) (kinds : List (DynBox K Global V)) (net : List NodeDecl) (set : List NodeTable) : Type 0 where
   pub lawful : All (λ k. IsLawful (means k)) kinds
   pub legal : IsLegalWith (map means kinds) net
   pub fits : FitsNet net (map means kinds) set

@@ -6,7 +6,8 @@ use Rattle.dn_interval.specs.declared.span.TheConstants.{TOP}
 use Rattle.dn_interval.specs.Rows.{AreNormal}
 use Rattle.dn_net.specs.declared.node.NodeDecl.{NodeDecl}
 use Rattle.dn_kind.specs.Tables.{Held, ResolvesUnder}
-use Rattle.dn_flat.specs.Views.{StopsFrom, name_of_end}
+use Rattle.dn_walk.specs.Ends.{name_of_end}
+use Rattle.dn_flat.specs.Views.{StopsFrom}
 
 -- the address of the node resolves to the name under records
 abbrev pub ResolvesFromUnder : List NodeDecl → Held → ℕ → ℕ → End → Type 0

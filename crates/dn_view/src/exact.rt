@@ -7,9 +7,9 @@ ghost use Rattle.dn_interval.specs.declared.span.TheConstants.{TOP};
 ghost use Rattle.dn_interval.specs.Terms.{segs_give};
 ghost use Rattle.dn_net.specs.Terms.{is_agent_at};
 ghost use Rattle.dn_kind.specs.Terms.{allows, are_rights};
-ghost use Rattle.dn_flat.specs.Terms.{name_of_end};
 ghost use Rattle.dn_tables.specs.Terms.{FitsNet, record_kept};
 ghost use Rattle.dn_placement.specs.Terms.{IsAdmissible, IsPlacement, slots_of_set};
+ghost use Rattle.dn_walk.specs.Terms.{name_of_end};
 ghost use Rattle.dn_view.specs.Terms.{AreExactIn, ComesIn, IsAskedAt, IsExactIn, IsPassedIn, IsSystem, IsTrial, are_buffer, is_buffer_end, is_buffer_row, is_part};
 
 use crate::course::Course;

@@ -4,10 +4,10 @@ ghost use Rattle.std.specs.Prelude.{◌≡◌, ◌<◌, ◌^◌, [], ◌∷◌, 
 ghost use Rattle.dn_net.specs.Terms.{is_stop};
 ghost use Rattle.dn_kind.specs.Terms.{allowing, name_list, steps_under};
 ghost use Rattle.dn_tables.specs.Terms.{record_kept};
-ghost use Rattle.dn_view.specs.Terms.{AreTables};
+ghost use Rattle.dn_view.specs.Terms.{AreSystemTables};
 
 use dn_kind::kinds::Kinds;
-use dn_kind::output::sent;
+use dn_kind::output::output_name;
 use dn_kind::rights::Access;
 use dn_net::net::Net;
 use dn_net::node::Name;
@@ -22,7 +22,7 @@ pub(crate) fn output(
     access: Access,
     name: Name,
 ) -> Option<Name>
-    requires tables { AreTables (λ k. meaning (k.vtable, k.value))
+    requires tables { AreSystemTables (λ k. meaning (k.vtable, k.value))
         kinds.now.list.items net.now tables.now }
     requires there { name.node < length net.now }
     requires stop { IsTrue (is_stop net.now name) }
@@ -39,5 +39,5 @@ pub(crate) fn output(
     if !record.rights.allows(access) {
         return None;
     }
-    Some(sent(unit, record, name.addr))
+    Some(output_name(unit, record, name.addr))
 }

@@ -6,8 +6,9 @@ ghost use Rattle.std.specs.Option.{option_copied};
 ghost use Rattle.dn_interval.specs.declared.row.End.{End};
 ghost use Rattle.dn_interval.specs.Terms.{in_span, segs_give};
 ghost use Rattle.dn_net.specs.Terms.{unit_at};
-ghost use Rattle.dn_kind.specs.Terms.{is_plain, is_within, unit_shape};
-ghost use Rattle.dn_view.specs.Terms.{IsCourse, course_records, has_rows, in_slot, names_go, outputs, part_gives, part_leads, seg_name, seg_passes, segs_pass, stops_of};
+ghost use Rattle.dn_kind.specs.Terms.{is_plain_unit_shape, is_within, unit_shape};
+ghost use Rattle.dn_flat.specs.Terms.{has_rows};
+ghost use Rattle.dn_view.specs.Terms.{IsCourse, course_records, in_slot, names_go, outputs, part_gives, part_leads, seg_name, seg_passes, segs_pass, stops_of};
 
 use crate::course::Course;
 use crate::range::slot_range;
@@ -15,7 +16,7 @@ use crate::records::record_for;
 use dn_base::OutOfMemory;
 use dn_flat::flats::Flats;
 use dn_interval::{Rows, Seg, Span};
-use dn_kind::output::sent;
+use dn_kind::output::output_name;
 use dn_kind::unit_kind::Record;
 use dn_net::net::Net;
 use dn_net::node::Unit;
@@ -135,7 +136,7 @@ fn push_sent(
 
 /// The part of a segment whose names stand in a slot, with the names to which its record sends them.
 fn sent_part(unit: &Unit, record: Record, seg: Seg, slot: u64) -> Seg
-    requires plain { IsTrue (is_plain (unit_shape unit.now)) }
+    requires plain { IsTrue (is_plain_unit_shape (unit_shape unit.now)) }
     requires within { IsTrue (is_within (unit_shape unit.now) «record») }
     requires there { slot < unit.now.slots }
     requires begins { seg.base / 2 ^ unit.now.page ≤ slot }
@@ -148,7 +149,7 @@ fn sent_part(unit: &Unit, record: Record, seg: Seg, slot: u64) -> Seg
     let size = 1 << unit.page;
     let first = seg.base.max(slot * size);
     let last = (seg.base + (seg.span.hi - seg.span.lo)).min(slot * size + (size - 1));
-    let name = sent(unit, record, first);
+    let name = output_name(unit, record, first);
     Seg {
         span: Span {
             lo: seg.span.lo + (first - seg.base),

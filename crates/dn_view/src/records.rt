@@ -33,7 +33,7 @@ pub(crate) fn record_for(course: Course, node: u16, slot: u32) -> Option<Record>
     ensures { result ≡ course_records (λ k. meaning (k.vtable, k.value)) course.entry node slot }
 {
     let kept = course.tables.record_at(course.system.kinds, node, slot);
-    let record = taken(course.system.net, course.records, kept, node, slot)?;
+    let record = taken_record(course.system.net, course.records, kept, node, slot)?;
     if record.rights.allows(course.access) {
         Some(record)
     } else {
@@ -42,7 +42,13 @@ pub(crate) fn record_for(course: Course, node: u16, slot: u32) -> Option<Record>
 }
 
 /// The record of a slot that is taken, of which this is the one of the tables.
-fn taken(net: &Net, records: Records, kept: Option<Record>, node: u16, slot: u32) -> Option<Record>
+fn taken_record(
+    net: &Net,
+    records: Records,
+    kept: Option<Record>,
+    node: u16,
+    slot: u32,
+) -> Option<Record>
     requires fitting { IsFitting net.now records }
     requires plain { IsTrue (has_plain_units net.now) }
     ensures { (h : Held) → h node slot ≡ kept → result
@@ -51,16 +57,16 @@ fn taken(net: &Net, records: Records, kept: Option<Record>, node: u16, slot: u32
     match records {
         Records::Kept => kept,
         Records::Fresh(request, placement) => {
-            fresh(kept, placed(net, request, placement, node, slot))
+            fresh_record(kept, placed_record(net, request, placement, node, slot))
         }
         Records::Joined(request, placement) => {
-            joined(kept, placed(net, request, placement, node, slot))
+            joined_record(kept, placed_record(net, request, placement, node, slot))
         }
     }
 }
 
 /// The added record, where none is kept.
-fn fresh(kept: Option<Record>, added: Option<Record>) -> Option<Record>
+fn fresh_record(kept: Option<Record>, added: Option<Record>) -> Option<Record>
     ensures { result ≡ fresh_record kept added }
 {
     match kept {
@@ -70,7 +76,7 @@ fn fresh(kept: Option<Record>, added: Option<Record>) -> Option<Record>
 }
 
 /// The record that is kept, or else the added one.
-fn joined(kept: Option<Record>, added: Option<Record>) -> Option<Record>
+fn joined_record(kept: Option<Record>, added: Option<Record>) -> Option<Record>
     ensures { result ≡ or_record kept added }
 {
     match kept {
@@ -80,7 +86,7 @@ fn joined(kept: Option<Record>, added: Option<Record>) -> Option<Record>
 }
 
 /// The record that a placement puts into a slot.
-fn placed(
+fn placed_record(
     net: &Net,
     request: &Request,
     placement: &Placement,

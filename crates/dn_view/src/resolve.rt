@@ -6,7 +6,7 @@ ghost use Rattle.std.specs.List.{All};
 ghost use Rattle.dn_net.specs.Terms.{each_step, is_accepted, passing_names, sorted_names};
 ghost use Rattle.dn_kind.specs.Terms.{IsLawful, IsLegalWith, allowing, are_there, resolved_names_under, steps_under};
 ghost use Rattle.dn_tables.specs.Terms.{FitsNet, record_kept};
-ghost use Rattle.dn_view.specs.Terms.{AreTables};
+ghost use Rattle.dn_view.specs.Terms.{AreSystemTables};
 
 use crate::output::output;
 use dn_base::OutOfMemory;
@@ -67,7 +67,7 @@ fn next_level(
     level: &[Name],
     accepted: &mut Vec<Name>,
 ) -> Result<Names, OutOfMemory>
-    requires tables { AreTables (λ k. meaning (k.vtable, k.value))
+    requires tables { AreSystemTables (λ k. meaning (k.vtable, k.value))
         kinds.now.list.items net.now tables.now }
     requires there { IsTrue (are_there (length net.now) level.now) }
     ensures accepted { OnOk result (accepted.new.items ≡
@@ -94,7 +94,7 @@ fn push_steps(
     accepted: &mut Vec<Name>,
     next: &mut Vec<Name>,
 ) -> Result<(), OutOfMemory>
-    requires tables { AreTables (λ k. meaning (k.vtable, k.value))
+    requires tables { AreSystemTables (λ k. meaning (k.vtable, k.value))
         kinds.now.list.items net.now tables.now }
     requires there { name.node < length net.now }
     ensures accepted { OnOk result (accepted.new.items ≡

@@ -4,7 +4,8 @@ ghost use Rattle.std.specs.Prelude.{◌≡◌, ℕ, ◌≤◌, ◌⊎◌, ◌↔
 ghost use Rattle.dn_interval.specs.declared.row.End.{End};
 ghost use Rattle.dn_interval.specs.declared.span.TheConstants.{TOP};
 ghost use Rattle.dn_interval.specs.Terms.{segs_give};
-ghost use Rattle.dn_flat.specs.Terms.{levels_give, name_of_end};
+ghost use Rattle.dn_walk.specs.Terms.{name_of_end};
+ghost use Rattle.dn_flat.specs.Terms.{levels_give};
 ghost use Rattle.dn_view.specs.Terms.{ComesThrough, IsCourse, course_records, part_gives, segs_pass, stops_of};
 ghost use Rattle.dn_view.specs.declared.pass.Part.TheVariants.{Stops};
 

@@ -57,7 +57,7 @@ pub fn view<'a>(
     // Each name of a row is in a node that is there.
     ensures within { IfOk result (λ rows. IsTrue (ends_within (length system.entry.net.now) rows)) }
 {
-    let mut shown = system.flats.accepted(alloc, node)?;
+    let mut shown = system.flats.accepted_segs(alloc, node)?;
     let stops = node_stops(alloc, system.flats, node)?;
     let course = Course {
         system,

@@ -7,7 +7,7 @@ use Rattle.dn_interval.proofs.Standing.{one_list}
 use Rattle.dn_net.specs.declared.node.Block.{Block}
 use Rattle.dn_net.specs.Decode.{top, within, in_some_block}
 use Rattle.dn_net.specs.Rules.{block_in_range}
-use Rattle.dn_net.specs.Walks.{cut_each, whole}
+use Rattle.dn_net.specs.Walks.{all_addresses, cut_each}
 use Rattle.dn_net.proofs.Gaps.{Stand, cut_each_stands, accepts_upward, cut_each_has, whole_has}
 
 abbrev pub block_of_span : Span → Block
@@ -31,14 +31,14 @@ spans_back from [] h = refl
 spans_back from (b ∷ bs) h = ap (λ l. b ∷ l) (spans_back (b.hi + 2) bs h.3)
 
 -- the blocks may stand in any order, and overlap
-pub spans_are_left : (bs : List Block) → IsTrue (list_all block_in_range bs) → (xs : List Span) → AreMaximal xs → ((a : ℕ) → a ≤ top → has xs a ≡ not (in_some_block a bs)) → map block_of_span xs ≡ cut_each bs (whole ∷ [])
-spans_are_left bs all xs maximal same = ap (λ l. map block_of_span l) one ∙ spans_back 0 (cut_each bs (whole ∷ [])) stand
+pub spans_are_left : (bs : List Block) → IsTrue (list_all block_in_range bs) → (xs : List Span) → AreMaximal xs → ((a : ℕ) → a ≤ top → has xs a ≡ not (in_some_block a bs)) → map block_of_span xs ≡ cut_each bs (all_addresses ∷ [])
+spans_are_left bs all xs maximal same = ap (λ l. map block_of_span l) one ∙ spans_back 0 (cut_each bs (all_addresses ∷ [])) stand
   where
-    stand : Stand 0 (cut_each bs (whole ∷ []))
-    stand = cut_each_stands bs 0 (whole ∷ []) (accepts_upward bs all) ((omega arith), (omega arith), (omega arith), tt)
+    stand : Stand 0 (cut_each bs (all_addresses ∷ []))
+    stand = cut_each_stands bs 0 (all_addresses ∷ []) (accepts_upward bs all) ((omega arith), (omega arith), (omega arith), tt)
 
     low : (a : ℕ) (p : Bool) → a ≤ top → (nat_le a top && p) ≡ p
     low a p l = ap (λ t. t && p) (le-leb a top l)
 
-    one : xs ≡ spans_of 0 (cut_each bs (whole ∷ [])) stand
-    one = one_list xs (spans_of 0 (cut_each bs (whole ∷ [])) stand) maximal (spans_stand 0 (cut_each bs (whole ∷ [])) stand) (λ a l. same a l ∙ sym (spans_have 0 (cut_each bs (whole ∷ [])) stand a ∙ (cut_each_has a bs (whole ∷ []) ∙ (ap (λ p. p && not (in_some_block a bs)) (whole_has a) ∙ low a (not (in_some_block a bs)) l))))
+    one : xs ≡ spans_of 0 (cut_each bs (all_addresses ∷ [])) stand
+    one = one_list xs (spans_of 0 (cut_each bs (all_addresses ∷ [])) stand) maximal (spans_stand 0 (cut_each bs (all_addresses ∷ [])) stand) (λ a l. same a l ∙ sym (spans_have 0 (cut_each bs (all_addresses ∷ [])) stand a ∙ (cut_each_has a bs (all_addresses ∷ []) ∙ (ap (λ p. p && not (in_some_block a bs)) (whole_has a) ∙ low a (not (in_some_block a bs)) l))))

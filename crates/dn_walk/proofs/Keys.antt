@@ -11,9 +11,9 @@ use Rattle.dn_base.proofs.Booleans.{and-false}
 use Rattle.dn_net.specs.Walks.{in_order}
 use Rattle.dn_walk.specs.declared.leg.Leg.{Leg}
 use Rattle.dn_walk.specs.declared.walks.WalkRow.{WalkRow}
-use Rattle.dn_walk.specs.Rows.{Told, row_view}
+use Rattle.dn_walk.specs.Rows.{BareWalk, row_view}
 use Rattle.dn_walk.specs.Legs.{leg_before}
-use Rattle.dn_walk.specs.Levels.{told_before}
+use Rattle.dn_walk.specs.Levels.{bare_before}
 use Rattle.dn_walk.proofs.Sorting.{sorted_is, map_in_order}
 
 -- first by a number, then by another order
@@ -73,8 +73,8 @@ lex_weak {X} f r o = record { one_way = one_way; chain = chain }
         by (inr a) (inl b) = let e = a.0 in inl (omega arith)
         by (inr a) (inr b) = inr (a.0 ∙ b.0, o.chain x y z a.1 b.1)
 
-pub told_weak : {X : Type 0} (g : X → Told) → IsStrictWeakOrder (λ x y. told_before (g x) (g y))
-told_weak g = lex_weak (λ x. (g x).start) (λ x y. nat_lt (g x).lo (g y).lo || (((g x).lo == (g y).lo) && nat_lt (g x).hi (g y).hi)) (lex_weak (λ x. (g x).lo) (λ x y. nat_lt (g x).hi (g y).hi) (IsStrictWeakOrder-by_number (λ x. (g x).hi)))
+pub before_weak : {X : Type 0} (g : X → BareWalk) → IsStrictWeakOrder (λ x y. bare_before (g x) (g y))
+before_weak g = lex_weak (λ x. (g x).start) (λ x y. nat_lt (g x).lo (g y).lo || (((g x).lo == (g y).lo) && nat_lt (g x).hi (g y).hi)) (lex_weak (λ x. (g x).lo) (λ x y. nat_lt (g x).hi (g y).hi) (IsStrictWeakOrder-by_number (λ x. (g x).hi)))
 
 -- the order of the three numbers as one
 abbrev row_cmp : WalkRow → WalkRow → Ordering
@@ -92,15 +92,15 @@ by_numbers a a' b b' c c' = by (nat_lt a a') (a == a') (nat_lt b b') (b == b') (
     by false true false false t u = refl
     by false false r s t u = refl
 
-same_order : ◌≡◌ {A = WalkRow → WalkRow → Bool} (λ r s. is_lt (row_cmp r s)) (λ r s. told_before (row_view r) (row_view s))
+same_order : ◌≡◌ {A = WalkRow → WalkRow → Bool} (λ r s. is_lt (row_cmp r s)) (λ r s. bare_before (row_view r) (row_view s))
 same_order = λ i r s. by_numbers r.start s.start r.span.lo s.span.lo r.span.hi s.span.hi i
 
 -- rows after a stable sort by their three numbers
-pub rows_in_order : (xs ys : List WalkRow) → IsSortedBy (λ r s. is_lt (row_cmp r s)) ys → IsStableBy (λ r s. is_lt (row_cmp r s)) xs ys → map row_view ys ≡ in_order told_before (map row_view xs)
+pub rows_in_order : (xs ys : List WalkRow) → IsSortedBy (λ r s. is_lt (row_cmp r s)) ys → IsStableBy (λ r s. is_lt (row_cmp r s)) xs ys → map row_view ys ≡ in_order bare_before (map row_view xs)
 rows_in_order xs ys sorted stable =
-    let lt : WalkRow → WalkRow → Bool = λ r s. told_before (row_view r) (row_view s) in
-    ap (map row_view) (sorted_is lt (told_weak row_view) xs ys (subst (λ f. IsSortedBy f ys) same_order sorted) (subst (λ f. IsStableBy f xs ys) same_order stable))
-    ∙ map_in_order row_view lt told_before (λ r s. refl) xs
+    let lt : WalkRow → WalkRow → Bool = λ r s. bare_before (row_view r) (row_view s) in
+    ap (map row_view) (sorted_is lt (before_weak row_view) xs ys (subst (λ f. IsSortedBy f ys) same_order sorted) (subst (λ f. IsStableBy f xs ys) same_order stable))
+    ∙ map_in_order row_view lt bare_before (λ r s. refl) xs
 
 by_number : (a b : ℕ) → is_lt (nat_cmp a b) ≡ nat_lt a b
 by_number a b = by (nat_lt a b) (a == b)

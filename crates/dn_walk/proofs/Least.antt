@@ -6,11 +6,11 @@ use Rattle.std.proofs.lemmas.List.Elements.{filter-append}
 use Rattle.dn_net.specs.declared.node.Dest.{Dest}
 use Rattle.dn_net.specs.declared.node.Name.{Name}
 use Rattle.dn_net.specs.Chain.{Member}
-use Rattle.dn_net.specs.Decode.{moved}
+use Rattle.dn_net.specs.Decode.{dest_name}
 use Rattle.dn_net.specs.Names.{name_lt}
 use Rattle.dn_base.proofs.Members.{member_left, member_right, member_cases}
 use Rattle.dn_walk.specs.declared.walks.WalkRow.{WalkRow}
-use Rattle.dn_walk.specs.Rows.{Told, row_view}
+use Rattle.dn_walk.specs.Rows.{BareWalk, row_view}
 use Rattle.dn_walk.specs.Ways.{least_of, lesser_name, start_name, start_names, is_cyclic}
 use Rattle.dn_net.proofs.Firsts.{NoLater}
 use Rattle.dn_net.proofs.Ascending.{lower_is}
@@ -92,16 +92,16 @@ least_more xs x = by (least_of xs) refl
         ]
 
 -- what a loop over rows keeps
-start_names-append : (back : Bool) (xs ys : List Told) → start_names back (xs ++ ys) ≡ start_names back xs ++ start_names back ys
+start_names-append : (back : Bool) (xs ys : List BareWalk) → start_names back (xs ++ ys) ≡ start_names back xs ++ start_names back ys
 start_names-append back xs ys = ap (map start_name) (filter-append (λ t. not back || is_cyclic t) xs ys) ∙ map-append start_name (filter (λ t. not back || is_cyclic t) xs) (filter (λ t. not back || is_cyclic t) ys)
 
 rows_more : (rows : List WalkRow) (i : ℕ) (r : WalkRow) → i < length rows → r ≡ get_or rows i r → map row_view (take (i + 1) rows) ≡ map row_view (take i rows) ++ row_view r ∷ []
 rows_more rows i r l e = ap (map row_view) (take_more rows i r l ∙ ap (λ x. take i rows ++ x ∷ []) (sym e)) ∙ map-append row_view (take i rows) (r ∷ [])
 
-one_start : (b : Bool) (t : Told) → (not b || is_cyclic t) ≡ true → start_names b (t ∷ []) ≡ start_name t ∷ []
+one_start : (b : Bool) (t : BareWalk) → (not b || is_cyclic t) ≡ true → start_names b (t ∷ []) ≡ start_name t ∷ []
 one_start b t e = rw e refl
 
-no_start : (b : Bool) (t : Told) → (not b || is_cyclic t) ≡ false → start_names b (t ∷ []) ≡ []
+no_start : (b : Bool) (t : BareWalk) → (not b || is_cyclic t) ≡ false → start_names b (t ∷ []) ≡ []
 no_start b t e = rw e refl
 
 pub start_taken : (back : Bool) (rows : List WalkRow) (i : ℕ) (r : WalkRow) (least : Option Name) → i < length rows → r ≡ get_or rows i r → (not back || is_cyclic (row_view r)) ≡ true → least ≡ least_of (start_names back (map row_view (take i rows))) → lesser_name least (start_name (row_view r)) ≡ least_of (start_names back (map row_view (take (i + 1) rows)))
@@ -121,11 +121,11 @@ start_left back rows i r least l e h k =
     ∙ ap (λ l. least_of (start_names back l)) (sym (rows_more rows i r l e))
 
 -- and over destinations
-dests_more : (test : Name → Bool) (offset : ℕ) (ds : List Dest) (i : ℕ) (z d : Dest) → i < length ds → d ≡ get_or ds i z → filter test (map (moved offset) (take (i + 1) ds)) ≡ filter test (map (moved offset) (take i ds)) ++ filter test (moved offset d ∷ [])
+dests_more : (test : Name → Bool) (offset : ℕ) (ds : List Dest) (i : ℕ) (z d : Dest) → i < length ds → d ≡ get_or ds i z → filter test (map (dest_name offset) (take (i + 1) ds)) ≡ filter test (map (dest_name offset) (take i ds)) ++ filter test (dest_name offset d ∷ [])
 dests_more test offset ds i z d l e =
-    ap (λ l. filter test (map (moved offset) l)) (take_more ds i z l ∙ ap (λ x. take i ds ++ x ∷ []) (sym e))
-    ∙ ap (filter test) (map-append (moved offset) (take i ds) (d ∷ []))
-    ∙ filter-append test (map (moved offset) (take i ds)) (moved offset d ∷ [])
+    ap (λ l. filter test (map (dest_name offset) l)) (take_more ds i z l ∙ ap (λ x. take i ds ++ x ∷ []) (sym e))
+    ∙ ap (filter test) (map-append (dest_name offset) (take i ds) (d ∷ []))
+    ∙ filter-append test (map (dest_name offset) (take i ds)) (dest_name offset d ∷ [])
 
 one_passed : (test : Name → Bool) (x : Name) → test x ≡ true → filter test (x ∷ []) ≡ x ∷ []
 one_passed test x e = rw e refl
@@ -133,16 +133,16 @@ one_passed test x e = rw e refl
 none_passed : (test : Name → Bool) (x : Name) → test x ≡ false → filter test (x ∷ []) ≡ []
 none_passed test x e = rw e refl
 
-pub dest_taken : (test : Name → Bool) (offset : ℕ) (ds : List Dest) (i : ℕ) (z d : Dest) (least : Option Name) → i < length ds → d ≡ get_or ds i z → test (moved offset d) ≡ true → least ≡ least_of (filter test (map (moved offset) (take i ds))) → lesser_name least (moved offset d) ≡ least_of (filter test (map (moved offset) (take (i + 1) ds)))
+pub dest_taken : (test : Name → Bool) (offset : ℕ) (ds : List Dest) (i : ℕ) (z d : Dest) (least : Option Name) → i < length ds → d ≡ get_or ds i z → test (dest_name offset d) ≡ true → least ≡ least_of (filter test (map (dest_name offset) (take i ds))) → lesser_name least (dest_name offset d) ≡ least_of (filter test (map (dest_name offset) (take (i + 1) ds)))
 dest_taken test offset ds i z d least l e h k =
-    ap (λ o. lesser_name o (moved offset d)) k
-    ∙ sym (least_more (filter test (map (moved offset) (take i ds))) (moved offset d))
-    ∙ ap (λ ys. least_of (filter test (map (moved offset) (take i ds)) ++ ys)) (sym (one_passed test (moved offset d) h))
+    ap (λ o. lesser_name o (dest_name offset d)) k
+    ∙ sym (least_more (filter test (map (dest_name offset) (take i ds))) (dest_name offset d))
+    ∙ ap (λ ys. least_of (filter test (map (dest_name offset) (take i ds)) ++ ys)) (sym (one_passed test (dest_name offset d) h))
     ∙ ap least_of (sym (dests_more test offset ds i z d l e))
 
-pub dest_left : (test : Name → Bool) (offset : ℕ) (ds : List Dest) (i : ℕ) (z d : Dest) (least : Option Name) → i < length ds → d ≡ get_or ds i z → test (moved offset d) ≡ false → least ≡ least_of (filter test (map (moved offset) (take i ds))) → least ≡ least_of (filter test (map (moved offset) (take (i + 1) ds)))
+pub dest_left : (test : Name → Bool) (offset : ℕ) (ds : List Dest) (i : ℕ) (z d : Dest) (least : Option Name) → i < length ds → d ≡ get_or ds i z → test (dest_name offset d) ≡ false → least ≡ least_of (filter test (map (dest_name offset) (take i ds))) → least ≡ least_of (filter test (map (dest_name offset) (take (i + 1) ds)))
 dest_left test offset ds i z d least l e h k =
     k
-    ∙ ap least_of (sym (append-nil (filter test (map (moved offset) (take i ds)))))
-    ∙ ap (λ ys. least_of (filter test (map (moved offset) (take i ds)) ++ ys)) (sym (none_passed test (moved offset d) h))
+    ∙ ap least_of (sym (append-nil (filter test (map (dest_name offset) (take i ds)))))
+    ∙ ap (λ ys. least_of (filter test (map (dest_name offset) (take i ds)) ++ ys)) (sym (none_passed test (dest_name offset d) h))
     ∙ ap least_of (sym (dests_more test offset ds i z d l e))

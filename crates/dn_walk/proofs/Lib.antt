@@ -1,4 +1,5 @@
 pub mod Accepts
+pub mod BareWalks
 pub mod Bridge
 pub mod Ends
 pub mod Holes
@@ -15,5 +16,4 @@ pub mod Picks
 pub mod Runs
 pub mod Shown
 pub mod Sorting
-pub mod Told
 pub mod Verdict

@@ -8,7 +8,7 @@ use Rattle.std.proofs.lemmas.Nat.{mul-add-lt, same_from_place}
 use Rattle.dn_base.proofs.Lists.{map-last}
 use Rattle.dn_base.proofs.Booleans.{or-false}
 use Rattle.dn_walk.specs.declared.walks.WalkRow.{WalkRow}
-use Rattle.dn_walk.specs.Rows.{Told, row_view}
+use Rattle.dn_walk.specs.Rows.{BareWalk, row_view}
 use Rattle.dn_walk.specs.Units.{row_leads, AreLows}
 
 -- where no row was seen, no address is low
@@ -31,7 +31,7 @@ min_low x y limit = by (cases_lt x y) (cases_lt x limit) (cases_lt y limit)
     by o (inr a) (inr b) = le-ltb (min x y) limit (omega arith) ∙ sym (ap (λ c. c || nat_lt y limit) (le-ltb x limit a) ∙ le-ltb y limit b)
 
 -- one row more
-pub lows_more : (count : ℕ) (rows : List Told) (lows : List ℕ) (t : Told) → AreLows count rows lows → t.start < count → t.end < count → AreLows count (rows ++ t ∷ []) (set lows (t.start * count + t.end) (min (get_or lows (t.start * count + t.end) 0) t.lo))
+pub lows_more : (count : ℕ) (rows : List BareWalk) (lows : List ℕ) (t : BareWalk) → AreLows count rows lows → t.start < count → t.end < count → AreLows count (rows ++ t ∷ []) (set lows (t.start * count + t.end) (min (get_or lows (t.start * count + t.end) 0) t.lo))
 lows_more count rows lows t h s e = record { size = length-set lows place low ∙ h.size; lower = lower }
   where
     place : ℕ

@@ -4,10 +4,10 @@ use Rattle.std.proofs.lemmas.Bool.{ltb-false, leb-false, cases_lt}
 use Rattle.std.specs.List.{All, filter}
 use Rattle.std.specs.List.Sorted.{IsPartitionPoint}
 use Rattle.dn_base.proofs.Orders.{not_lt-le, lt-not_le}
-use Rattle.dn_net.specs.Walks.{greater, lesser_of}
+use Rattle.dn_net.specs.Walks.{greater_of, lesser_of}
 use Rattle.dn_walk.specs.declared.leg.Leg.{Leg}
-use Rattle.dn_walk.specs.Rows.{Told}
-use Rattle.dn_walk.specs.Levels.{told_last, told_meets}
+use Rattle.dn_walk.specs.Rows.{BareWalk}
+use Rattle.dn_walk.specs.Levels.{bare_last_out, bare_meets}
 use Rattle.dn_walk.proofs.Picks.{between_is}
 
 abbrev pub Ends : ℕ → List Leg → ℕ → Type 0
@@ -29,9 +29,9 @@ in_turn base last legs i j o order w e b = by (cases_lt j i)
         let r : g.lo ≤ g.hi = order j d (omega arith) in
         absurd (omega arith)
 
-pub met_is : (t : Told) (legs : List Leg) (i j : ℕ) → All (λ l. l.lo ≤ l.hi) legs → i ≤ length legs → j ≤ length legs → Ends t.base legs i → Begins (told_last t) legs j → take (j - i) (drop i legs) ≡ filter (told_meets t) legs
+pub met_is : (t : BareWalk) (legs : List Leg) (i j : ℕ) → All (λ l. l.lo ≤ l.hi) legs → i ≤ length legs → j ≤ length legs → Ends t.base legs i → Begins (bare_last_out t) legs j → take (j - i) (drop i legs) ≡ filter (bare_meets t) legs
 met_is t legs i j order w v e b =
-    between_is (λ (l : Leg). nat_le t.base l.hi) (λ (l : Leg). nat_le l.lo (told_last t)) legs i j (in_turn t.base (told_last t) legs i j (omega arith) order w e b) v
+    between_is (λ (l : Leg). nat_le t.base l.hi) (λ (l : Leg). nat_le l.lo (bare_last_out t)) legs i j (in_turn t.base (bare_last_out t) legs i j (omega arith) order w e b) v
     record {
       low = λ k d l. lt-not_le _ _ (e.0 k d (omega arith) l);
       high = λ k d l m. not_lt-le _ _ (e.1 k d l m);
@@ -39,10 +39,10 @@ met_is t legs i j order w v e b =
       over = λ k d l m. b.1 k d l m;
     }
 
-pub meets_parts : (t : Told) (l : Leg) → IsTrue (told_meets t l) → (t.base ≤ l.hi) × (l.lo ≤ told_last t)
-meets_parts t l h = by (nat_le t.base l.hi) (nat_le l.lo (told_last t)) refl refl h
+pub meets_parts : (t : BareWalk) (l : Leg) → IsTrue (bare_meets t l) → (t.base ≤ l.hi) × (l.lo ≤ bare_last_out t)
+meets_parts t l h = by (nat_le t.base l.hi) (nat_le l.lo (bare_last_out t)) refl refl h
   where
-    by : (a b : Bool) → nat_le t.base l.hi ≡ a → nat_le l.lo (told_last t) ≡ b → IsTrue (a && b) → (t.base ≤ l.hi) × (l.lo ≤ told_last t)
+    by : (a b : Bool) → nat_le t.base l.hi ≡ a → nat_le l.lo (bare_last_out t) ≡ b → IsTrue (a && b) → (t.base ≤ l.hi) × (l.lo ≤ bare_last_out t)
     by true true e f h = (leb-true _ _ e, leb-true _ _ f)
     by true false e f h = cc
     by false b e f h = cc
@@ -55,7 +55,7 @@ chosen a b x y m less more = by (nat_lt a b) refl
     by true e = less (ltb-true a b e)
     by false e = more (ltb-false a b e)
 
-pub max_is : (a b : ℕ) → max a b ≡ greater a b
+pub max_is : (a b : ℕ) → max a b ≡ greater_of a b
 max_is a b = chosen a b b a (max a b) (λ l. omega arith) (λ l. omega arith)
 
 pub min_is : (a b : ℕ) → min a b ≡ lesser_of a b

@@ -11,7 +11,7 @@ use Rattle.dn_net.specs.Chain.{Member, Reaches}
 use Rattle.dn_net.specs.Decode.{is_closed, unit_at, step_limit, Step}
 use Rattle.dn_net.specs.Rules.{KeepsNodeRules}
 use Rattle.dn_net.specs.Units.{has_plain_shape, has_plain_units}
-use Rattle.dn_net.specs.UnitRules.{unit_leads, part_leads, unit_numbers, next_units, IsShallow, LeadsTo}
+use Rattle.dn_net.specs.UnitRules.{unit_leads, unit_part_leads, unit_numbers, next_units, IsShallow, LeadsTo}
 use Rattle.dn_net.specs.Walks.{Walk, moved_name, live_walks}
 use Rattle.dn_net.proofs.Arrivals.{Arrives, arrival, departure, first_inside}
 use Rattle.dn_net.proofs.Least.{within_from, within_to}
@@ -19,8 +19,8 @@ use Rattle.dn_net.proofs.Stops.{unit_stop}
 use Rattle.dn_net.proofs.Plain.{plain_at}
 use Rattle.dn_net.proofs.UnitRows.{leads_sound, leads_found, unit_of_number, unit_there}
 use Rattle.dn_net.proofs.Steps.{ports_at}
-use Rattle.dn_walk.specs.Rows.{Told, told_by_walk}
-use Rattle.dn_walk.specs.Units.{row_leads, AreLows, leads_by_lows, leads_by_rows, next_by, next_told}
+use Rattle.dn_walk.specs.Rows.{BareWalk, bare_walk}
+use Rattle.dn_walk.specs.Units.{row_leads, AreLows, leads_by_lows, leads_by_rows, next_units_by, next_by_rows}
 
 -- BY THE LOWEST ADDRESSES
 -- two powers of 2
@@ -58,7 +58,7 @@ all_member p [] h x m = absurd m
 all_member p (y ∷ xs) h x (inl e) = ap p (sym e) ∙ (and_parts (p y) (list_all p xs) h).0
 all_member p (y ∷ xs) h x (inr m) = all_member p xs (and_parts (p y) (list_all p xs) h).1 x m
 
-pub lows_lead : (count : ℕ) (rows : List Told) (lows : List ℕ) → AreLows count rows lows → (u : UnitPart) → IsTrue (has_plain_shape u) → IsTrue (list_all (λ p. nat_lt p count) u.ports) → (w : ℕ) → w < count → leads_by_lows count lows u w ≡ leads_by_rows rows u w
+pub lows_lead : (count : ℕ) (rows : List BareWalk) (lows : List ℕ) → AreLows count rows lows → (u : UnitPart) → IsTrue (has_plain_shape u) → IsTrue (list_all (λ p. nat_lt p count) u.ports) → (w : ℕ) → w < count → leads_by_lows count lows u w ≡ leads_by_rows rows u w
 lows_lead count rows lows h u plain ports w l = any_same _ _ u.ports each
   where
     each : (p : ℕ) → Member p u.ports → ((p == w) || nat_lt (get_or lows (p * count + w) 0) (2 ^ u.reach)) ≡ ((p == w) || list_any (row_leads p w (2 ^ u.reach)) rows)
@@ -82,10 +82,10 @@ units_below net units count e n k d l =
     subst (λ c. get_or units k d < c) (sym n) (unit_there net (get_or units k d) (unit_of_number net (get_or units k d) m))
 
 -- so the lowest addresses tell the same units as the rows
-pub next_by_lows : (net : List NodeDecl) (rows : List Told) (lows units : List ℕ) (count : ℕ) → count ≡ length net → units ≡ unit_numbers net → IsTrue (has_plain_units net) → IsTrue (is_closed net) → AreLows count rows lows → (u : ℕ) → next_by (leads_by_lows count lows) units (unit_at net u) ≡ next_told net rows u
-next_by_lows net rows lows units count n e plain closed h u = ap (λ us. next_by (leads_by_lows count lows) us (unit_at net u)) e ∙ by (unit_at net u) refl
+pub next_by_lows : (net : List NodeDecl) (rows : List BareWalk) (lows units : List ℕ) (count : ℕ) → count ≡ length net → units ≡ unit_numbers net → IsTrue (has_plain_units net) → IsTrue (is_closed net) → AreLows count rows lows → (u : ℕ) → next_units_by (leads_by_lows count lows) units (unit_at net u) ≡ next_by_rows net rows u
+next_by_lows net rows lows units count n e plain closed h u = ap (λ us. next_units_by (leads_by_lows count lows) us (unit_at net u)) e ∙ by (unit_at net u) refl
   where
-    by : (o : Option UnitPart) → unit_at net u ≡ o → next_by (leads_by_lows count lows) (unit_numbers net) o ≡ next_by (leads_by_rows rows) (unit_numbers net) o
+    by : (o : Option UnitPart) → unit_at net u ≡ o → next_units_by (leads_by_lows count lows) (unit_numbers net) o ≡ next_units_by (leads_by_rows rows) (unit_numbers net) o
     by None at = refl
     by (Some part) at = filter_same (leads_by_lows count lows part) (leads_by_rows rows part) (unit_numbers net) (λ w m.
         lows_lead count rows lows h part (plain_at net u part plain at) (subst (λ c. IsTrue (list_all (λ p. nat_lt p c) part.ports)) (sym n) (ports_at net u part closed at)) w
@@ -93,12 +93,12 @@ next_by_lows net rows lows units count n e plain closed h u = ap (λ us. next_by
 
 -- BY THE ROWS
 module _ (net : List NodeDecl) (checked : KeepsNodeRules net) (shallow : IsShallow net) where
-  live : List Told
-  live = map told_by_walk (live_walks net step_limit)
+  live : List BareWalk
+  live = map bare_walk (live_walks net step_limit)
 
   -- a row that leads from a port below the unit's reach
-  row_led : (u w : ℕ) (part : UnitPart) → unit_at net u ≡ Some part → is_some (unit_at net w) ≡ true → (port : ℕ) → Member port part.ports → (t : Told) → Member t (map told_by_walk (live_walks net step_limit)) → row_leads port w (2 ^ part.reach) t ≡ true → LeadsTo net u w
-  row_led u w part at unit port m t row h = by (map_member told_by_walk (live_walks net step_limit) t row)
+  row_led : (u w : ℕ) (part : UnitPart) → unit_at net u ≡ Some part → is_some (unit_at net w) ≡ true → (port : ℕ) → Member port part.ports → (t : BareWalk) → Member t (map bare_walk (live_walks net step_limit)) → row_leads port w (2 ^ part.reach) t ≡ true → LeadsTo net u w
+  row_led u w part at unit port m t row h = by (map_member bare_walk (live_walks net step_limit) t row)
     where
       p : ((t.start == port) ≡ true) × (((t.end == w) && nat_lt t.lo (2 ^ part.reach)) ≡ true)
       p = and_parts (t.start == port) ((t.end == w) && nat_lt t.lo (2 ^ part.reach)) h
@@ -106,15 +106,15 @@ module _ (net : List NodeDecl) (checked : KeepsNodeRules net) (shallow : IsShall
       q : ((t.end == w) ≡ true) × (nat_lt t.lo (2 ^ part.reach) ≡ true)
       q = and_parts (t.end == w) (nat_lt t.lo (2 ^ part.reach)) p.1
 
-      by : (v : Walk) × Member v (live_walks net step_limit) × (told_by_walk v ≡ t) → LeadsTo net u w
+      by : (v : Walk) × Member v (live_walks net step_limit) × (bare_walk v ≡ t) → LeadsTo net u w
       by r =
           let v : Walk = r.0 in
           let o = first_inside net checked v r.1 in
           let d = departure net checked v r.1 v.span.lo (within_from v.span.lo v.span (omega arith) o) in
           let s : Name = moved_name (v.span.lo - v.span.lo) v.to in
-          let start : v.start ≡ port = ap (λ (x : Told). x.start) r.2 ∙ eqb-true t.start port p.0 in
-          let end : v.to.node ≡ w = ap (λ (x : Told). x.end) r.2 ∙ eqb-true t.end w q.0 in
-          let lo : v.span.lo ≡ t.lo = ap (λ (x : Told). x.lo) r.2 in
+          let start : v.start ≡ port = ap (λ (x : BareWalk). x.start) r.2 ∙ eqb-true t.start port p.0 in
+          let end : v.to.node ≡ w = ap (λ (x : BareWalk). x.end) r.2 ∙ eqb-true t.end w q.0 in
+          let lo : v.span.lo ≡ t.lo = ap (λ (x : BareWalk). x.lo) r.2 in
           let low : t.lo < 2 ^ part.reach = ltb-true t.lo (2 ^ part.reach) q.1 in
           let there : is_some (unit_at net v.to.node) ≡ true = ap (λ n. is_some (unit_at net n)) end ∙ unit in
           let reached : Reaches (Step net) (record { node = port; addr = v.span.lo }) s = subst (λ n. Reaches (Step net) (record { node = n; addr = v.span.lo }) s) start d.0 in
@@ -131,21 +131,21 @@ module _ (net : List NodeDecl) (checked : KeepsNodeRules net) (shallow : IsShall
       zero_below k = pow_pos k
 
   -- what the rows tell is so
-  told_leads_to : (u w : ℕ) (part : UnitPart) → unit_at net u ≡ Some part → is_some (unit_at net w) ≡ true → leads_by_rows (map told_by_walk (live_walks net step_limit)) part w ≡ true → LeadsTo net u w
-  told_leads_to u w part at unit h = by (any_member (λ p. (p == w) || list_any (row_leads p w (2 ^ part.reach)) (map told_by_walk (live_walks net step_limit))) part.ports h)
+  told_leads_to : (u w : ℕ) (part : UnitPart) → unit_at net u ≡ Some part → is_some (unit_at net w) ≡ true → leads_by_rows (map bare_walk (live_walks net step_limit)) part w ≡ true → LeadsTo net u w
+  told_leads_to u w part at unit h = by (any_member (λ p. (p == w) || list_any (row_leads p w (2 ^ part.reach)) (map bare_walk (live_walks net step_limit))) part.ports h)
     where
-      by : (p : ℕ) × Member p part.ports × (((p == w) || list_any (row_leads p w (2 ^ part.reach)) (map told_by_walk (live_walks net step_limit))) ≡ true) → LeadsTo net u w
-      by r = elim (or_cases (r.0 == w) (list_any (row_leads r.0 w (2 ^ part.reach)) (map told_by_walk (live_walks net step_limit))) r.2) [
+      by : (p : ℕ) × Member p part.ports × (((p == w) || list_any (row_leads p w (2 ^ part.reach)) (map bare_walk (live_walks net step_limit))) ≡ true) → LeadsTo net u w
+      by r = elim (or_cases (r.0 == w) (list_any (row_leads r.0 w (2 ^ part.reach)) (map bare_walk (live_walks net step_limit))) r.2) [
         | inl e ↦ port_led u w part at unit r.0 r.1 (eqb-true r.0 w e)
-        | inr e ↦ (let t = any_member (row_leads r.0 w (2 ^ part.reach)) (map told_by_walk (live_walks net step_limit)) e in row_led u w part at unit r.0 r.1 t.0 t.1 t.2)
+        | inr e ↦ (let t = any_member (row_leads r.0 w (2 ^ part.reach)) (map bare_walk (live_walks net step_limit)) e in row_led u w part at unit r.0 r.1 t.0 t.1 t.2)
       ]
 
   -- and what is so is told
-  leads_to_told : (u w : ℕ) (part : UnitPart) → unit_at net u ≡ Some part → LeadsTo net u w → leads_by_rows (map told_by_walk (live_walks net step_limit)) part w ≡ true
+  leads_to_told : (u w : ℕ) (part : UnitPart) → unit_at net u ≡ Some part → LeadsTo net u w → leads_by_rows (map bare_walk (live_walks net step_limit)) part w ≡ true
   leads_to_told u w part at l = member_any (λ p. (p == w) || list_any (row_leads p w (2 ^ part.reach)) rows) part.ports l.port port (by (arrival net checked shallow x l.stop l.reaches))
     where
-      rows : List Told
-      rows = map told_by_walk (live_walks net step_limit)
+      rows : List BareWalk
+      rows = map bare_walk (live_walks net step_limit)
 
       x : Name
       x = record { node = l.port; addr = l.addr }
@@ -168,7 +168,7 @@ module _ (net : List NodeDecl) (checked : KeepsNodeRules net) (shallow : IsShall
           let end : v.to.node ≡ w = ap (λ (n : Name). n.node) a.to ∙ l.is_end in
           let low : v.span.lo < 2 ^ part.reach = omega (arith, below) in
           or_right (l.port == w) (list_any (row_leads l.port w (2 ^ part.reach)) rows)
-          (member_any (row_leads l.port w (2 ^ part.reach)) rows (told_by_walk v) (member_map told_by_walk (live_walks net step_limit) v a.listed)
+          (member_any (row_leads l.port w (2 ^ part.reach)) rows (bare_walk v) (member_map bare_walk (live_walks net step_limit) v a.listed)
           (and_from (v.start == l.port) ((v.to.node == w) && nat_lt v.span.lo (2 ^ part.reach)) (eq-eqb v.start l.port a.start)
           (and_from (v.to.node == w) (nat_lt v.span.lo (2 ^ part.reach)) (eq-eqb v.to.node w end) (lt-ltb v.span.lo (2 ^ part.reach) low))))
 
@@ -177,13 +177,13 @@ module _ (net : List NodeDecl) (checked : KeepsNodeRules net) (shallow : IsShall
   both_tests false true f g = g refl
   both_tests false false f g = refl
 
-  told_leads : (u w : ℕ) (part : UnitPart) → unit_at net u ≡ Some part → is_some (unit_at net w) ≡ true → leads_by_rows (map told_by_walk (live_walks net step_limit)) part w ≡ unit_leads net u w
+  told_leads : (u w : ℕ) (part : UnitPart) → unit_at net u ≡ Some part → is_some (unit_at net w) ≡ true → leads_by_rows (map bare_walk (live_walks net step_limit)) part w ≡ unit_leads net u w
   told_leads u w part at unit = both_tests _ _ (λ h. leads_found net shallow u w (told_leads_to u w part at unit h)) (λ h. leads_to_told u w part at (leads_sound net u w h))
 
   -- so the units that are told are those to which the unit leads
-  pub next_is : (rows : List Told) → rows ≡ map told_by_walk (live_walks net step_limit) → (u : ℕ) → next_told net rows u ≡ next_units net u
-  next_is rows e u = ap (λ rs. next_told net rs u) e ∙ by (unit_at net u) refl
+  pub next_is : (rows : List BareWalk) → rows ≡ map bare_walk (live_walks net step_limit) → (u : ℕ) → next_by_rows net rows u ≡ next_units net u
+  next_is rows e u = ap (λ rs. next_by_rows net rs u) e ∙ by (unit_at net u) refl
     where
-      by : (o : Option UnitPart) → unit_at net u ≡ o → next_by (leads_by_rows (map told_by_walk (live_walks net step_limit))) (unit_numbers net) o ≡ next_units net u
-      by None at = sym (filter_none (unit_leads net u) (unit_numbers net) (λ w m. ap (part_leads net w) at))
-      by (Some part) at = filter_same (leads_by_rows (map told_by_walk (live_walks net step_limit)) part) (unit_leads net u) (unit_numbers net) (λ w m. told_leads u w part at (unit_of_number net w m))
+      by : (o : Option UnitPart) → unit_at net u ≡ o → next_units_by (leads_by_rows (map bare_walk (live_walks net step_limit))) (unit_numbers net) o ≡ next_units net u
+      by None at = sym (filter_none (unit_leads net u) (unit_numbers net) (λ w m. ap (unit_part_leads net w) at))
+      by (Some part) at = filter_same (leads_by_rows (map bare_walk (live_walks net step_limit)) part) (unit_leads net u) (unit_numbers net) (λ w m. told_leads u w part at (unit_of_number net w m))

@@ -17,7 +17,7 @@ use Rattle.dn_net.proofs.Steps.{node_at}
 use Rattle.dn_interval.specs.declared.span.Span.{Span}
 use Rattle.dn_interval.specs.Spans.{has, in_span, AreMaximal}
 use Rattle.dn_walk.specs.declared.leg.Leg.{Leg}
-use Rattle.dn_walk.specs.Legs.{told_leg, told_legs, dest_leg, plain_entry_legs, gap_leg, plain_gap_legs, leg_before, legs_by, gaps_by, span_view, IsLegOf, AreLegs}
+use Rattle.dn_walk.specs.Legs.{bare_leg, bare_legs, dest_leg, bare_entry_legs, gap_leg, bare_gap_legs, leg_before, legs_by, gaps_by, span_view, IsLegOf, AreLegs}
 use Rattle.dn_net.proofs.Apart.{node_apart}
 use Rattle.dn_walk.proofs.Holes.{spans_are_left}
 use Rattle.dn_net.proofs.Legs.{leads_of_leg, leads_in_range, leads_within}
@@ -27,32 +27,32 @@ use Rattle.dn_net.proofs.Order.{legs_rise}
 use Rattle.dn_net.proofs.Pairs.{pairs_map, pairs_more, pairs_rise}
 use Rattle.dn_walk.proofs.Sorting.{map_in_order}
 
-told_dests : (i j : ℕ) (b : Block) (ds : List Dest) → map told_leg (dest_legs i j b ds) ≡ map (dest_leg b) ds
-told_dests i j b [] = refl
-told_dests i j b (d ∷ ds) = ap (λ l. dest_leg b d ∷ l) (told_dests i (suc j) b ds)
+bare_dests : (i j : ℕ) (b : Block) (ds : List Dest) → map bare_leg (dest_legs i j b ds) ≡ map (dest_leg b) ds
+bare_dests i j b [] = refl
+bare_dests i j b (d ∷ ds) = ap (λ l. dest_leg b d ∷ l) (bare_dests i (suc j) b ds)
 
-told_entries : (i : ℕ) (es : List Entry) → map told_leg (entry_legs i es) ≡ plain_entry_legs es
-told_entries i [] = refl
-told_entries i (e ∷ es) = map-append told_leg (dest_legs i 0 e.block e.dests) (entry_legs (suc i) es) ∙ ap (λ l. l ++ map told_leg (entry_legs (suc i) es)) (told_dests i 0 e.block e.dests) ∙ ap (λ l. map (dest_leg e.block) e.dests ++ l) (told_entries (suc i) es)
+bare_entries : (i : ℕ) (es : List Entry) → map bare_leg (entry_legs i es) ≡ bare_entry_legs es
+bare_entries i [] = refl
+bare_entries i (e ∷ es) = map-append bare_leg (dest_legs i 0 e.block e.dests) (entry_legs (suc i) es) ∙ ap (λ l. l ++ map bare_leg (entry_legs (suc i) es)) (bare_dests i 0 e.block e.dests) ∙ ap (λ l. map (dest_leg e.block) e.dests ++ l) (bare_entries (suc i) es)
 
-told_gaps : (o : Option ℕ) (spans : List Block) → map told_leg (gap_legs o spans) ≡ plain_gap_legs o spans
-told_gaps None spans = refl
-told_gaps (Some m) spans = each spans
+bare_gaps : (o : Option ℕ) (spans : List Block) → map bare_leg (gap_legs o spans) ≡ bare_gap_legs o spans
+bare_gaps None spans = refl
+bare_gaps (Some m) spans = each spans
   where
-    each : (spans : List Block) → map told_leg (gap_legs (Some m) spans) ≡ map (gap_leg m) spans
+    each : (spans : List Block) → map bare_leg (gap_legs (Some m) spans) ≡ map (gap_leg m) spans
     each [] = refl
     each (b ∷ spans) = ap (λ l. gap_leg m b ∷ l) (each spans)
 
-pub legs_are : (n : NodeDecl) → told_legs n ≡ legs_by n.accepts n.entries n.over
+pub legs_are : (n : NodeDecl) → bare_legs n ≡ legs_by n.accepts n.entries n.over
 legs_are n =
-    map_in_order told_leg (λ l m. nat_lt l.block.lo m.block.lo) leg_before (λ l m. refl) (entry_legs 0 n.entries ++ gap_legs n.over (gaps n))
-    ∙ ap (in_order leg_before) (map-append told_leg (entry_legs 0 n.entries) (gap_legs n.over (gaps n)) ∙ ap (λ l. l ++ map told_leg (gap_legs n.over (gaps n))) (told_entries 0 n.entries) ∙ ap (λ l. plain_entry_legs n.entries ++ l) (told_gaps n.over (gaps n)))
+    map_in_order bare_leg (λ l m. nat_lt l.block.lo m.block.lo) leg_before (λ l m. refl) (entry_legs 0 n.entries ++ gap_legs n.over (gaps n))
+    ∙ ap (in_order leg_before) (map-append bare_leg (entry_legs 0 n.entries) (gap_legs n.over (gaps n)) ∙ ap (λ l. l ++ map bare_leg (gap_legs n.over (gaps n))) (bare_entries 0 n.entries) ∙ ap (λ l. bare_entry_legs n.entries ++ l) (bare_gaps n.over (gaps n)))
 
 -- the legs of a node, from its parts as they are read
-pub legs_at : (net : List NodeDecl) (i : ℕ) (accepts : List Block) (entries : List Entry) (over : Option ℕ) → i < length net → option_map (λ d. d.accepts) (slice_get net i) ≡ Some accepts → option_map (λ d. d.entries) (slice_get net i) ≡ Some entries → option_map (λ d. d.over) (slice_get net i) ≡ Some over → map told_legs (take (i + 1) net) ≡ map told_legs (take i net) ++ legs_by accepts entries over ∷ []
+pub legs_at : (net : List NodeDecl) (i : ℕ) (accepts : List Block) (entries : List Entry) (over : Option ℕ) → i < length net → option_map (λ d. d.accepts) (slice_get net i) ≡ Some accepts → option_map (λ d. d.entries) (slice_get net i) ≡ Some entries → option_map (λ d. d.over) (slice_get net i) ≡ Some over → map bare_legs (take (i + 1) net) ≡ map bare_legs (take i net) ++ legs_by accepts entries over ∷ []
 legs_at net i accepts entries over l a e o = by (slice_get net i) refl a e o
   where
-    by : (u : Option NodeDecl) → slice_get net i ≡ u → option_map (λ d. d.accepts) u ≡ Some accepts → option_map (λ d. d.entries) u ≡ Some entries → option_map (λ d. d.over) u ≡ Some over → map told_legs (take (i + 1) net) ≡ map told_legs (take i net) ++ legs_by accepts entries over ∷ []
+    by : (u : Option NodeDecl) → slice_get net i ≡ u → option_map (λ d. d.accepts) u ≡ Some accepts → option_map (λ d. d.entries) u ≡ Some entries → option_map (λ d. d.over) u ≡ Some over → map bare_legs (take (i + 1) net) ≡ map bare_legs (take i net) ++ legs_by accepts entries over ∷ []
     by None u a e o = cc
     by (Some n) u a e o =
         let a' : n.accepts ≡ accepts = cc in
@@ -60,9 +60,9 @@ legs_at net i accepts entries over l a e o = by (slice_get net i) refl a e o
         let o' : n.over ≡ over = cc in
         let s : ◌≡◌ {A = Option NodeDecl} (Some (get_or net i n)) (Some n) = sym (slice_get-get_or net i n l) ∙ u in
         let g : get_or net i n ≡ n = cc in
-        ap (map told_legs) (take_more net i n l ∙ ap (λ x. take i net ++ x ∷ []) g)
-        ∙ map-append told_legs (take i net) (n ∷ [])
-        ∙ ap (λ x. map told_legs (take i net) ++ x ∷ []) (legs_are n ∙ ap (λ x. legs_by x n.entries n.over) a' ∙ ap (λ x. legs_by accepts x n.over) e' ∙ ap (λ x. legs_by accepts entries x) o')
+        ap (map bare_legs) (take_more net i n l ∙ ap (λ x. take i net ++ x ∷ []) g)
+        ∙ map-append bare_legs (take i net) (n ∷ [])
+        ∙ ap (λ x. map bare_legs (take i net) ++ x ∷ []) (legs_are n ∙ ap (λ x. legs_by x n.entries n.over) a' ∙ ap (λ x. legs_by accepts x n.over) e' ∙ ap (λ x. legs_by accepts entries x) o')
 
 -- what holds of a part of each node that keeps the rules holds of the part as it is read
 part_keeps : {Y : Type 0} (P : Y → Type 0) (part : NodeDecl → Y) → ((n : NodeDecl) → KeepsRules n → P (part n)) → (net : List NodeDecl) (i : ℕ) (y : Y) → All KeepsRules net → option_map part (slice_get net i) ≡ Some y → P y
@@ -79,37 +79,37 @@ pub entries_in_range : (net : List NodeDecl) (i : ℕ) (entries : List Entry) �
 entries_in_range = part_keeps (λ l. IsTrue (list_all entry_in_range l)) (λ d. d.entries) (λ n k. (and_parts (list_all block_in_range n.accepts) (list_all entry_in_range n.entries) k.in_range).1)
 
 -- they lead on in range, and neither their first nor their last addresses descend
-pub legs_of_node : (net : List NodeDecl) → KeepsNodeRules net → (i : ℕ) (n : NodeDecl) → slice_get net i ≡ Some n → AreLegs (length net) (told_legs n)
+pub legs_of_node : (net : List NodeDecl) → KeepsNodeRules net → (i : ℕ) (n : NodeDecl) → slice_get net i ≡ Some n → AreLegs (length net) (bare_legs n)
 legs_of_node net rules i n at =
     let apart = node_apart net rules.each i n at in
     let rise = legs_rise n apart in
     record {
-      firsts = pairs_rise (λ (l : Leg). l.lo) (told_legs n) (pairs_map (λ (l m : Leg). l.lo ≤ m.lo) told_leg (legs n) (pairs_more (λ (l m : NetLeg). (l.block.lo ≤ m.block.lo) × (l.block.hi ≤ m.block.hi)) (λ (l m : NetLeg). l.block.lo ≤ m.block.lo) (legs n) (λ l m a b r. r.0) rise));
-      lasts = pairs_rise (λ (l : Leg). l.hi) (told_legs n) (pairs_map (λ (l m : Leg). l.hi ≤ m.hi) told_leg (legs n) (pairs_more (λ (l m : NetLeg). (l.block.lo ≤ m.block.lo) × (l.block.hi ≤ m.block.hi)) (λ (l m : NetLeg). l.block.hi ≤ m.block.hi) (legs n) (λ l m a b r. r.1) rise));
-      each = λ k d l. member_is (get_or (told_legs n) k d) (member_get_or (told_legs n) k d l);
+      firsts = pairs_rise (λ (l : Leg). l.lo) (bare_legs n) (pairs_map (λ (l m : Leg). l.lo ≤ m.lo) bare_leg (legs n) (pairs_more (λ (l m : NetLeg). (l.block.lo ≤ m.block.lo) × (l.block.hi ≤ m.block.hi)) (λ (l m : NetLeg). l.block.lo ≤ m.block.lo) (legs n) (λ l m a b r. r.0) rise));
+      lasts = pairs_rise (λ (l : Leg). l.hi) (bare_legs n) (pairs_map (λ (l m : Leg). l.hi ≤ m.hi) bare_leg (legs n) (pairs_more (λ (l m : NetLeg). (l.block.lo ≤ m.block.lo) × (l.block.hi ≤ m.block.hi)) (λ (l m : NetLeg). l.block.hi ≤ m.block.hi) (legs n) (λ l m a b r. r.1) rise));
+      each = λ k d l. member_is (get_or (bare_legs n) k d) (member_get_or (bare_legs n) k d l);
     }
   where
-    one : (l : NetLeg) → Member l (legs n) → IsLegOf (length net) (told_leg l)
+    one : (l : NetLeg) → Member l (legs n) → IsLegOf (length net) (bare_leg l)
     one l m =
         let f = leads_of_leg (Some n) (λ k e. node_apart net rules.each i k (at ∙ e)) l m in
         let r = leads_in_range (Some n) (λ k e. node_apart net rules.each i k (at ∙ e)) l.choice l.block l.to f in
         let w = leads_within (length net) (Some n) (λ k e. node_at (refers_within (length net)) net i rules.closed k (at ∙ e)) l.choice l.block l.to f in
         record { order = r.0; low = r.1; node = w; reach = r.2 }
 
-    member_is : (l : Leg) → Member l (told_legs n) → IsLegOf (length net) l
-    member_is l m = let r = map_member told_leg (legs n) l m in subst (λ k. IsLegOf (length net) k) r.2 (one r.0 r.1)
+    member_is : (l : Leg) → Member l (bare_legs n) → IsLegOf (length net) l
+    member_is l m = let r = map_member bare_leg (legs n) l m in subst (λ k. IsLegOf (length net) k) r.2 (one r.0 r.1)
 
-pub all_legs : (net : List NodeDecl) → KeepsNodeRules net → All (AreLegs (length net)) (map told_legs net)
+pub all_legs : (net : List NodeDecl) → KeepsNodeRules net → All (AreLegs (length net)) (map bare_legs net)
 all_legs net rules = λ k d l.
     let n = map_length net in
     let k' : k < length net = omega arith in
     at k d k' (slice_get net k) refl
   where
-    map_length : (ns : List NodeDecl) → length (map told_legs ns) ≡ length ns
+    map_length : (ns : List NodeDecl) → length (map bare_legs ns) ≡ length ns
     map_length [] = refl
     map_length (n ∷ ns) = ap suc (map_length ns)
 
-    at : (k : ℕ) (d : List Leg) → k < length net → (u : Option NodeDecl) → slice_get net k ≡ u → AreLegs (length net) (get_or (map told_legs net) k d)
+    at : (k : ℕ) (d : List Leg) → k < length net → (u : Option NodeDecl) → slice_get net k ≡ u → AreLegs (length net) (get_or (map bare_legs net) k d)
     at k d l None u = absurd (there net k l u)
       where
         there : (ns : List NodeDecl) (k : ℕ) → k < length ns → slice_get ns k ≡ None → ⊥
@@ -119,10 +119,10 @@ all_legs net rules = λ k d l.
     at k d l (Some n) u =
         let s : ◌≡◌ {A = Option NodeDecl} (Some (get_or net k n)) (Some n) = sym (slice_get-get_or net k n l) ∙ u in
         let g : get_or net k n ≡ n = cc in
-        subst (λ x. AreLegs (length net) x) (sym (get_or-map told_legs net k n d l ∙ ap told_legs g)) (legs_of_node net rules k n u)
+        subst (λ x. AreLegs (length net) x) (sym (get_or-map bare_legs net k n d l ∙ ap bare_legs g)) (legs_of_node net rules k n u)
 
-pub all_legs_of : (net : List NodeDecl) → KeepsNodeRules net → (xs : List (List Leg)) → xs ≡ map told_legs net → All (AreLegs (length xs)) xs
-all_legs_of net rules xs e = subst (λ x. All (AreLegs (length x)) x) (sym e) (subst (λ n. All (AreLegs n) (map told_legs net)) (sym (length-map told_legs net)) (all_legs net rules))
+pub all_legs_of : (net : List NodeDecl) → KeepsNodeRules net → (xs : List (List Leg)) → xs ≡ map bare_legs net → All (AreLegs (length xs)) xs
+all_legs_of net rules xs e = subst (λ x. All (AreLegs (length x)) x) (sym e) (subst (λ n. All (AreLegs n) (map bare_legs net)) (sym (length-map bare_legs net)) (all_legs net rules))
 
 -- the gaps between blocks, from the spans that they leave out
 pub any_blocks : (a : ℕ) (spans : List Span) → has spans a ≡ in_some_block a (map span_view spans)

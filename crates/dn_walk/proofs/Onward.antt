@@ -7,11 +7,11 @@ use Rattle.dn_net.specs.declared.node.NodeDecl.{NodeDecl}
 use Rattle.dn_net.specs.Chain.{Member, IsChain}
 use Rattle.dn_net.specs.Decode.{steps, top, Step}
 use Rattle.dn_net.specs.Rules.{KeepsNodeRules}
-use Rattle.dn_net.specs.WalkRules.{behind, way_by}
+use Rattle.dn_net.specs.WalkRules.{names_behind, way_by}
 use Rattle.dn_walk.specs.declared.walks.WalkRow.{WalkRow}
 use Rattle.dn_walk.specs.declared.way.Goal.{Goal}
-use Rattle.dn_walk.specs.Rows.{Told, row_view}
-use Rattle.dn_walk.specs.Ways.{least_of, level_leads, levels_lead, start_names, start_name, is_cyclic}
+use Rattle.dn_walk.specs.Rows.{BareWalk, row_view}
+use Rattle.dn_walk.specs.Ways.{least_of, level_leads, walk_levels_lead, start_names, start_name, is_cyclic}
 use Rattle.dn_net.proofs.Cycles.{row_of_chain, stepping_in_range}
 use Rattle.dn_net.proofs.Levels.{level_is_row}
 use Rattle.dn_walk.proofs.Least.{least_first}
@@ -20,13 +20,13 @@ use Rattle.dn_base.proofs.Members.{map_member, member_of_all}
 use Rattle.dn_net.proofs.Members.{member_filter}
 
 pub way_ends : (f : Name → List Name) (leads : ℕ → Name → Bool) (left k : ℕ) (x : Name) → left ≡ suc k → least_of (filter (leads k) (f x)) ≡ None → way_by f leads left x ≡ []
-way_ends f leads left k x e h = ap (λ n. way_by f leads n x) e ∙ ap (λ o. behind o (λ z. way_by f leads k z)) h
+way_ends f leads left k x e h = ap (λ n. way_by f leads n x) e ∙ ap (λ o. names_behind o (λ z. way_by f leads k z)) h
 
 pub way_goes : (f : Name → List Name) (leads : ℕ → Name → Bool) (left k : ℕ) (x z : Name) → left ≡ suc k → least_of (filter (leads k) (f x)) ≡ Some z → way_by f leads left x ≡ z ∷ way_by f leads k z
-way_goes f leads left k x z e h = ap (λ n. way_by f leads n x) e ∙ ap (λ o. behind o (λ z. way_by f leads k z)) h
+way_goes f leads left k x z e h = ap (λ n. way_by f leads n x) e ∙ ap (λ o. names_behind o (λ z. way_by f leads k z)) h
 
 -- the level of so many choices among the levels
-pub level_at : (goal : Goal) (levels : List (List WalkRow)) (k : ℕ) (level : List WalkRow) (now : List WalkRow) → k < length levels → level ≡ get_or levels k level → now ≡ level → level_leads goal (map row_view now) ≡ levels_lead goal (map (map row_view) levels) k
+pub level_at : (goal : Goal) (levels : List (List WalkRow)) (k : ℕ) (level : List WalkRow) (now : List WalkRow) → k < length levels → level ≡ get_or levels k level → now ≡ level → level_leads goal (map row_view now) ≡ walk_levels_lead goal (map (map row_view) levels) k
 level_at goal levels k level now l e f = ap (λ x. level_leads goal (map row_view x)) (f ∙ e) ∙ ap (level_leads goal) (sym (get_or-map (map row_view) levels k level [] l))
 
 -- a step leads to an address of a node of the net
@@ -47,7 +47,7 @@ pub step_there : (net : List NodeDecl) → KeepsNodeRules net → (test : Name �
 step_there net rules test x z h = (step_in_range net rules x z (member_filter test (steps net x) z (least_first (filter test (steps net x)) z h).member).0).0
 
 -- the least start is the start of a row
-pub start_row : (back : Bool) (rows : List Told) (x : Name) → least_of (start_names back rows) ≡ Some x → (t : Told) × Member t rows × (start_name t ≡ x)
+pub start_row : (back : Bool) (rows : List BareWalk) (x : Name) → least_of (start_names back rows) ≡ Some x → (t : BareWalk) × Member t rows × (start_name t ≡ x)
 start_row back rows x h =
     let f = least_first (start_names back rows) x h in
     let p = map_member start_name (filter (λ t. not back || is_cyclic t) rows) x f.member in

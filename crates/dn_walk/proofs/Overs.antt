@@ -16,15 +16,15 @@ use Rattle.dn_net.specs.Rules.{KeepsNodeRules}
 use Rattle.dn_net.specs.Walks.{live_walks}
 use Rattle.dn_net.specs.Firsts.{or_else}
 use Rattle.dn_net.specs.Units.{has_plain_units}
-use Rattle.dn_net.specs.UnitRules.{IsShallow, unit_leads, rows_from, slots_of, slots_product, slots_limit, first_row, large_row, unit_rows, unit_numbers, next_units, first_chain}
+use Rattle.dn_net.specs.UnitRules.{IsShallow, unit_leads, unit_rows_from, unit_slots, slots_product, slots_limit, first_row, large_row, unit_rows, unit_numbers, next_units, first_chain}
 use Rattle.dn_net.proofs.Plain.{plain_at}
 use Rattle.dn_net.proofs.Arrivals.{nodes_there}
 use Rattle.dn_base.proofs.Members.{map_member, member_map, member_get_or}
 use Rattle.dn_net.proofs.Members.{member_filter}
 use Rattle.dn_net.proofs.UnitRows.{rows-zero, rows-suc, first_chain_is, unit_of_number, unit_there}
 use Rattle.dn_walk.specs.declared.walks.WalkRow.{WalkRow}
-use Rattle.dn_walk.specs.Rows.{Told, row_view, told_by_walk}
-use Rattle.dn_walk.specs.Units.{first_over, chain_by, leads_by_rows, next_by, next_told}
+use Rattle.dn_walk.specs.Rows.{BareWalk, bare_walk, row_view}
+use Rattle.dn_walk.specs.Units.{first_over, chain_by, leads_by_rows, next_units_by, next_by_rows}
 use Rattle.dn_walk.proofs.Nexts.{plain_facts, member_at, next_is}
 
 -- the first of two lists of rows, one behind the other
@@ -65,13 +65,13 @@ pub over-nil : (net : List NodeDecl) (next : List (List ℕ)) (k most : ℕ) →
 over-nil net next k most = ap (λ rows. first_row (filter (λ us. nat_lt most (slots_product net us)) rows)) (rows-suc (λ u. get_or next u []) k [])
 
 -- a unit to begin with, and others
-pub over-cons : (net : List NodeDecl) (next : List (List ℕ)) (k most u : ℕ) (us : List ℕ) → 1 ≤ slots_of (unit_at net u) → first_over net next (suc k) most (u ∷ us) ≡ or_else (option_map (λ r. u ∷ r) (first_over net next k (most / slots_of (unit_at net u)) (get_or next u []))) (first_over net next (suc k) most us)
+pub over-cons : (net : List NodeDecl) (next : List (List ℕ)) (k most u : ℕ) (us : List ℕ) → 1 ≤ unit_slots (unit_at net u) → first_over net next (suc k) most (u ∷ us) ≡ or_else (option_map (λ r. u ∷ r) (first_over net next k (most / unit_slots (unit_at net u)) (get_or next u []))) (first_over net next (suc k) most us)
 over-cons net next k most u us l =
     ap (λ rows. first_row (filter p rows)) (rows-suc step k (u ∷ us))
-    ∙ ap first_row (filter-append p (map (λ r. u ∷ r) (rows_from step k (step u))) (flat_map behind us))
-    ∙ first_row-append (filter p (map (λ r. u ∷ r) (rows_from step k (step u)))) (filter p (flat_map behind us))
-    ∙ ap (λ o. or_else o (first_row (filter p (flat_map behind us)))) (first_row-front u p (rows_from step k (step u)) ∙ ap (λ rows. option_map (λ r. u ∷ r) (first_row rows)) (filter_tests (λ r. p (u ∷ r)) (λ r. nat_lt (most / slots_of (unit_at net u)) (slots_product net r)) (rows_from step k (step u)) (λ r. more_than most (slots_of (unit_at net u)) (slots_product net r) l)))
-    ∙ ap (λ rows. or_else (option_map (λ r. u ∷ r) (first_over net next k (most / slots_of (unit_at net u)) (get_or next u []))) (first_row (filter p rows))) (sym (rows-suc step k us))
+    ∙ ap first_row (filter-append p (map (λ r. u ∷ r) (unit_rows_from step k (step u))) (flat_map behind us))
+    ∙ first_row-append (filter p (map (λ r. u ∷ r) (unit_rows_from step k (step u)))) (filter p (flat_map behind us))
+    ∙ ap (λ o. or_else o (first_row (filter p (flat_map behind us)))) (first_row-front u p (unit_rows_from step k (step u)) ∙ ap (λ rows. option_map (λ r. u ∷ r) (first_row rows)) (filter_tests (λ r. p (u ∷ r)) (λ r. nat_lt (most / unit_slots (unit_at net u)) (slots_product net r)) (unit_rows_from step k (step u)) (λ r. more_than most (unit_slots (unit_at net u)) (slots_product net r) l)))
+    ∙ ap (λ rows. or_else (option_map (λ r. u ∷ r) (first_over net next k (most / unit_slots (unit_at net u)) (get_or next u []))) (first_row (filter p rows))) (sym (rows-suc step k us))
   where
     step : ℕ → List ℕ
     step u = get_or next u []
@@ -80,7 +80,7 @@ over-cons net next k most u us l =
     p r = nat_lt most (slots_product net r)
 
     behind : ℕ → List (List ℕ)
-    behind u = map (λ r. u ∷ r) (rows_from step k (step u))
+    behind u = map (λ r. u ∷ r) (unit_rows_from step k (step u))
 
 -- UNIT BY UNIT
 -- where no unit is left, only a product of 1 counts
@@ -108,7 +108,7 @@ over_no_more net next left most i units some l = ap (first_over net next left mo
     by (suc n) f = over-nil net next n most
 
 -- the unit at a place begins the row, or the units behind it do
-pub over_at : (net : List NodeDecl) (next : List (List ℕ)) (left most i : ℕ) (units : List ℕ) (n s : ℕ) (b behind : List ℕ) (o : Option (List ℕ)) → (left ≡ 0 → ⊥) → i < length units → n ≡ get_or units i 0 → n < length next → b ≡ get_or next n b → behind ≡ b → s ≡ slots_of (unit_at net (get_or units i 0)) → 1 ≤ s → o ≡ first_over net next (left - 1) (most / s) behind → first_over net next left most (drop i units) ≡ or_else (option_map (λ r. get_or units i 0 ∷ r) o) (first_over net next left most (drop (i + 1) units))
+pub over_at : (net : List NodeDecl) (next : List (List ℕ)) (left most i : ℕ) (units : List ℕ) (n s : ℕ) (b behind : List ℕ) (o : Option (List ℕ)) → (left ≡ 0 → ⊥) → i < length units → n ≡ get_or units i 0 → n < length next → b ≡ get_or next n b → behind ≡ b → s ≡ unit_slots (unit_at net (get_or units i 0)) → 1 ≤ s → o ≡ first_over net next (left - 1) (most / s) behind → first_over net next left most (drop i units) ≡ or_else (option_map (λ r. get_or units i 0 ∷ r) o) (first_over net next left most (drop (i + 1) units))
 over_at net next left most i units n s b behind o some l at there is same slots one found = by left some found
   where
     u : ℕ
@@ -121,8 +121,8 @@ over_at net next left most i units n s b behind o some l at there is same slots 
     by zero f g = absurd (f refl)
     by (suc k) f g =
         let p : suc k - 1 ≡ k = omega arith in
-        let q : o ≡ first_over net next k (most / slots_of (unit_at net u)) (get_or next u []) =
-        g ∙ ap (λ m. first_over net next m (most / s) behind) p ∙ ap (λ m. first_over net next k (most / m) behind) slots ∙ ap (first_over net next k (most / slots_of (unit_at net u))) list in
+        let q : o ≡ first_over net next k (most / unit_slots (unit_at net u)) (get_or next u []) =
+        g ∙ ap (λ m. first_over net next m (most / s) behind) p ∙ ap (λ m. first_over net next k (most / m) behind) slots ∙ ap (first_over net next k (most / unit_slots (unit_at net u))) list in
         ap (first_over net next (suc k) most) (drop_at units i u l (get_or_default units i 0 u l))
         ∙ over-cons net next k most u (drop (i + 1) units) (subst (λ m. 1 ≤ m) slots one)
         ∙ ap (λ x. or_else (option_map (λ r. u ∷ r) x) (first_over net next (suc k) most (drop (i + 1) units))) (sym q)
@@ -140,16 +140,16 @@ none_of None f = refl
 none_of (Some x) f = absurd (f x refl)
 
 -- a unit of a plain shape has a slot, and so has what is no unit
-pub some_slots : (net : List NodeDecl) → IsTrue (has_plain_units net) → (u : ℕ) → 1 ≤ slots_of (unit_at net u)
+pub some_slots : (net : List NodeDecl) → IsTrue (has_plain_units net) → (u : ℕ) → 1 ≤ unit_slots (unit_at net u)
 some_slots net plain u = by (unit_at net u) refl
   where
-    by : (o : Option UnitPart) → unit_at net u ≡ o → 1 ≤ slots_of o
+    by : (o : Option UnitPart) → unit_at net u ≡ o → 1 ≤ unit_slots o
     by None e = omega arith
     by (Some p) e = (plain_facts p (plain_at net u p plain e)).0
 
 some_product : (net : List NodeDecl) → IsTrue (has_plain_units net) → (us : List ℕ) → 1 ≤ slots_product net us
 some_product net plain [] = omega arith
-some_product net plain (u ∷ us) = let l = some_slots net plain u in let m = some_product net plain us in mul-le 1 1 (slots_of (unit_at net u)) (slots_product net us) l m
+some_product net plain (u ∷ us) = let l = some_slots net plain u in let m = some_product net plain us in mul-le 1 1 (unit_slots (unit_at net u)) (slots_product net us) l m
 
 filter_all : (p : List ℕ → Bool) (rows : List (List ℕ)) → ((us : List ℕ) → p us ≡ true) → filter p rows ≡ rows
 filter_all p [] f = refl
@@ -161,8 +161,8 @@ slots_limit_is = refl
 
 -- with the units to which each leads, the rows are those of the net
 module _ (net : List NodeDecl) (next : List (List ℕ)) (same : (u : ℕ) → get_or next u [] ≡ next_units net u) where
-  rows_are : (k : ℕ) → rows_from (λ u. get_or next u []) k (unit_numbers net) ≡ unit_rows net k
-  rows_are k = ap (λ f. rows_from f k (unit_numbers net)) (λ i u. same u i)
+  rows_are : (k : ℕ) → unit_rows_from (λ u. get_or next u []) k (unit_numbers net) ≡ unit_rows net k
+  rows_are k = ap (λ f. unit_rows_from f k (unit_numbers net)) (λ i u. same u i)
 
   -- the first row of so many units
   any_row : IsTrue (has_plain_units net) → (k : ℕ) → first_over net next k 0 (unit_numbers net) ≡ first_row (unit_rows net k)
@@ -184,11 +184,11 @@ module _ (net : List NodeDecl) (next : List (List ℕ)) (same : (u : ℕ) → ge
       over k most = first_over net next k most (unit_numbers net)
 
 -- the lists of units are those of the net, also past its nodes
-pub next_everywhere : (net : List NodeDecl) → KeepsNodeRules net → IsShallow net → (rows : List Told) → rows ≡ map told_by_walk (live_walks net step_limit) → (next : List (List ℕ)) → length next ≡ length net → ((u : ℕ) → u < length net → get_or next u [] ≡ next_told net rows u) → (u : ℕ) → get_or next u [] ≡ next_units net u
+pub next_everywhere : (net : List NodeDecl) → KeepsNodeRules net → IsShallow net → (rows : List BareWalk) → rows ≡ map bare_walk (live_walks net step_limit) → (next : List (List ℕ)) → length next ≡ length net → ((u : ℕ) → u < length net → get_or next u [] ≡ next_by_rows net rows u) → (u : ℕ) → get_or next u [] ≡ next_units net u
 next_everywhere net checked shallow rows e next size each u = by (cases_lt u (length net))
   where
-    past : (o : Option UnitPart) → unit_at net u ≡ o → o ≡ None → [] ≡ next_told net rows u
-    past o at none = ap (λ p. next_by (leads_by_rows rows) (unit_numbers net) p) (sym (at ∙ none))
+    past : (o : Option UnitPart) → unit_at net u ≡ o → o ≡ None → [] ≡ next_by_rows net rows u
+    past o at none = ap (λ p. next_units_by (leads_by_rows rows) (unit_numbers net) p) (sym (at ∙ none))
 
     by : (u < length net) ⊎ (length net ≤ u) → get_or next u [] ≡ next_units net u
     by (inl l) = each u l ∙ next_is net checked shallow rows e u
@@ -206,9 +206,9 @@ next_below net next same k d l i e m =
     unit_there net (get_or (get_or next k d) i e) (unit_of_number net (get_or (get_or next k d) i e) u.0)
 
 -- the nodes of the rows are there
-pub rows_there : (net : List NodeDecl) → KeepsNodeRules net → (rows : List WalkRow) → map row_view rows ≡ map told_by_walk (live_walks net step_limit) → All (λ (r : WalkRow). (r.start < length net) × (r.end < length net)) rows
+pub rows_there : (net : List NodeDecl) → KeepsNodeRules net → (rows : List WalkRow) → map row_view rows ≡ map bare_walk (live_walks net step_limit) → All (λ (r : WalkRow). (r.start < length net) × (r.end < length net)) rows
 rows_there net checked rows e k d l =
-    let m : Member (row_view (get_or rows k d)) (map told_by_walk (live_walks net step_limit)) = subst (λ ts. Member (row_view (get_or rows k d)) ts) e (member_map row_view rows (get_or rows k d) (member_get_or rows k d l)) in
-    let w = map_member told_by_walk (live_walks net step_limit) (row_view (get_or rows k d)) m in
+    let m : Member (row_view (get_or rows k d)) (map bare_walk (live_walks net step_limit)) = subst (λ ts. Member (row_view (get_or rows k d)) ts) e (member_map row_view rows (get_or rows k d) (member_get_or rows k d l)) in
+    let w = map_member bare_walk (live_walks net step_limit) (row_view (get_or rows k d)) m in
     let n = nodes_there net checked w.0 w.1 in
-    (subst (λ (t : Told). t.start < length net) w.2 n.0, subst (λ (t : Told). t.end < length net) w.2 n.1)
+    (subst (λ (t : BareWalk). t.start < length net) w.2 n.0, subst (λ (t : BareWalk). t.end < length net) w.2 n.1)

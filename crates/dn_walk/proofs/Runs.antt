@@ -10,7 +10,7 @@ use Rattle.dn_net.specs.declared.node.Name.{Name}
 use Rattle.dn_walk.specs.declared.walks.WalkRow.{WalkRow}
 use Rattle.dn_walk.specs.declared.way.Goal.{Goal}
 use Rattle.dn_walk.specs.Rows.{row_view}
-use Rattle.dn_walk.specs.Ways.{told_leads, level_leads, has_addr, meets_goal}
+use Rattle.dn_walk.specs.Ways.{bare_leads, level_leads, has_addr, meets_goal}
 use Rattle.dn_walk.proofs.Picks.{between_is, any_picked}
 
 abbrev pub Starts : ℕ → List WalkRow → ℕ → Type 0
@@ -44,7 +44,7 @@ between node rows i j w v e b =
       over = λ k d l m. b.1 k d l m;
     }
 
-leads_of : (goal : Goal) (x : Name) (r : WalkRow) → told_leads goal x (row_view r) ≡ true → is_of x.node r ≡ true
+leads_of : (goal : Goal) (x : Name) (r : WalkRow) → bare_leads goal x (row_view r) ≡ true → is_of x.node r ≡ true
 leads_of goal x r h = by (r.start == x.node) refl h
   where
     both : (a b : ℕ) → a ≡ b → (nat_le b a && nat_le a b) ≡ true
@@ -58,9 +58,9 @@ leads_of goal x r h = by (r.start == x.node) refl h
 pub leads_between : (goal : Goal) (x : Name) (rows : List WalkRow) (i j : ℕ) → i ≤ length rows → j ≤ length rows → Starts x.node rows i → Started x.node rows j → level_leads goal (map row_view (take (j - i) (drop i rows))) x ≡ level_leads goal (map row_view rows) x
 leads_between goal x rows i j w v e b =
     ap (λ l. level_leads goal (map row_view l) x) (between x.node rows i j w v e b)
-    ∙ list_any-map row_view (told_leads goal x) (filter (is_of x.node) rows)
-    ∙ any_picked (λ r. told_leads goal x (row_view r)) (is_of x.node) (leads_of goal x) rows
-    ∙ sym (list_any-map row_view (told_leads goal x) rows)
+    ∙ list_any-map row_view (bare_leads goal x) (filter (is_of x.node) rows)
+    ∙ any_picked (λ r. bare_leads goal x (row_view r)) (is_of x.node) (leads_of goal x) rows
+    ∙ sym (list_any-map row_view (bare_leads goal x) rows)
 
 -- one more row
 any_append : {X : Type 0} (p : X → Bool) (xs : List X) (x : X) → list_any p (xs ++ x ∷ []) ≡ (list_any p xs || p x)
@@ -75,18 +75,18 @@ any_append p (y ∷ xs) x = by (p y) (any_append p xs x)
     by true e = refl
     by false e = e
 
-row_more : (goal : Goal) (x : Name) (rows : List WalkRow) (i : ℕ) (r : WalkRow) → i < length rows → r ≡ get_or rows i r → level_leads goal (map row_view (take (i + 1) rows)) x ≡ (level_leads goal (map row_view (take i rows)) x || told_leads goal x (row_view r))
+row_more : (goal : Goal) (x : Name) (rows : List WalkRow) (i : ℕ) (r : WalkRow) → i < length rows → r ≡ get_or rows i r → level_leads goal (map row_view (take (i + 1) rows)) x ≡ (level_leads goal (map row_view (take i rows)) x || bare_leads goal x (row_view r))
 row_more goal x rows i r l e =
     ap (λ l. level_leads goal l x) (ap (map row_view) (take_more rows i r l ∙ ap (λ y. take i rows ++ y ∷ []) (sym e)) ∙ map-append row_view (take i rows) (r ∷ []))
-    ∙ any_append (told_leads goal x) (map row_view (take i rows)) (row_view r)
+    ∙ any_append (bare_leads goal x) (map row_view (take i rows)) (row_view r)
 
-pub none_more : (goal : Goal) (x : Name) (rows : List WalkRow) (i : ℕ) (r : WalkRow) → i < length rows → r ≡ get_or rows i r → level_leads goal (map row_view (take i rows)) x ≡ false → told_leads goal x (row_view r) ≡ false → level_leads goal (map row_view (take (i + 1) rows)) x ≡ false
-none_more goal x rows i r l e p q = row_more goal x rows i r l e ∙ ap (λ b. b || told_leads goal x (row_view r)) p ∙ q
+pub none_more : (goal : Goal) (x : Name) (rows : List WalkRow) (i : ℕ) (r : WalkRow) → i < length rows → r ≡ get_or rows i r → level_leads goal (map row_view (take i rows)) x ≡ false → bare_leads goal x (row_view r) ≡ false → level_leads goal (map row_view (take (i + 1) rows)) x ≡ false
+none_more goal x rows i r l e p q = row_more goal x rows i r l e ∙ ap (λ b. b || bare_leads goal x (row_view r)) p ∙ q
 
-pub one_leads : (goal : Goal) (x : Name) (rows : List WalkRow) (i : ℕ) (r : WalkRow) → i < length rows → r ≡ get_or rows i r → told_leads goal x (row_view r) ≡ true → level_leads goal (map row_view rows) x ≡ true
+pub one_leads : (goal : Goal) (x : Name) (rows : List WalkRow) (i : ℕ) (r : WalkRow) → i < length rows → r ≡ get_or rows i r → bare_leads goal x (row_view r) ≡ true → level_leads goal (map row_view rows) x ≡ true
 one_leads goal x [] i r l e h = absurd (omega arith)
-one_leads goal x (s ∷ rows) zero r l e h = ap (λ b. b || level_leads goal (map row_view rows) x) (ap (λ y. told_leads goal x (row_view y)) (sym e) ∙ h)
-one_leads goal x (s ∷ rows) (suc i) r l e h = by (told_leads goal x (row_view s)) (one_leads goal x rows i r (omega arith) e h)
+one_leads goal x (s ∷ rows) zero r l e h = ap (λ b. b || level_leads goal (map row_view rows) x) (ap (λ y. bare_leads goal x (row_view y)) (sym e) ∙ h)
+one_leads goal x (s ∷ rows) (suc i) r l e h = by (bare_leads goal x (row_view s)) (one_leads goal x rows i r (omega arith) e h)
   where
     by : (b : Bool) → level_leads goal (map row_view rows) x ≡ true → (b || level_leads goal (map row_view rows) x) ≡ true
     by true k = refl

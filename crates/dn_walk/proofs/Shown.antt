@@ -23,9 +23,9 @@ use Rattle.dn_net.proofs.Ascending.{lower_is, transitive, not_itself}
 use Rattle.dn_net.proofs.Ways.{either_way}
 use Rattle.dn_walk.specs.declared.fork.Fork.{Fork}
 use Rattle.dn_walk.specs.declared.walks.WalkRow.{WalkRow}
-use Rattle.dn_walk.specs.Rows.{Told, row_view, told_by_walk}
+use Rattle.dn_walk.specs.Rows.{BareWalk, bare_walk, row_view}
 use Rattle.dn_walk.specs.Ways.{start_name}
-use Rattle.dn_walk.specs.Units.{shows_fork, fork_shown, fork_before, lesser_fork, with_shown, NoLaterFork, IsLeastOf, IsLeastShown}
+use Rattle.dn_walk.specs.Units.{shows_fork, fork_shown, fork_before, lesser_fork, with_shown, NoLaterFork, IsLeastForkOf, IsLeastShown}
 
 -- THE ORDER OF FORKS
 before_is : (f g : Fork) → fork_before f g ≡ true → NoLaterFork f g
@@ -65,10 +65,10 @@ one_fork f g (inr e) (inr k) = let p = e.1 in let q = k.1 in (e.0, omega arith)
 
 -- ROW BY ROW
 -- the least fork of rows and of one row more
-pub shown_more : (net : List NodeDecl) (rows : List Told) (o : Option Fork) (t : Told) → IsLeastShown net rows o → IsLeastShown net (rows ++ t ∷ []) (with_shown net o t)
+pub shown_more : (net : List NodeDecl) (rows : List BareWalk) (o : Option Fork) (t : BareWalk) → IsLeastShown net rows o → IsLeastShown net (rows ++ t ∷ []) (with_shown net o t)
 shown_more net rows o t = by (shows_fork net t) refl o
   where
-    older : (f : Fork) → IsLeastOf net rows f → ((shows_fork net t ≡ true) → NoLaterFork f (fork_shown t)) → IsLeastOf net (rows ++ t ∷ []) f
+    older : (f : Fork) → IsLeastForkOf net rows f → ((shows_fork net t ≡ true) → NoLaterFork f (fork_shown t)) → IsLeastForkOf net (rows ++ t ∷ []) f
     older f h k = record {
       shown = (h.shown.0, member_left rows (t ∷ []) h.shown.0 h.shown.1, h.shown.2, h.shown.3);
       least = λ u m s. elim (member_cases rows (t ∷ []) u m) [
@@ -78,7 +78,7 @@ shown_more net rows o t = by (shows_fork net t) refl o
       ];
     }
 
-    newer : shows_fork net t ≡ true → ((u : Told) → Member u rows → shows_fork net u ≡ true → NoLaterFork (fork_shown t) (fork_shown u)) → IsLeastOf net (rows ++ t ∷ []) (fork_shown t)
+    newer : shows_fork net t ≡ true → ((u : BareWalk) → Member u rows → shows_fork net u ≡ true → NoLaterFork (fork_shown t) (fork_shown u)) → IsLeastForkOf net (rows ++ t ∷ []) (fork_shown t)
     newer e k = record {
       shown = (t, member_right rows (t ∷ []) t (inl refl), e, refl);
       least = λ u m s. elim (member_cases rows (t ∷ []) u m) [
@@ -88,7 +88,7 @@ shown_more net rows o t = by (shows_fork net t) refl o
       ];
     }
 
-    lesser : (f : Fork) → shows_fork net t ≡ true → IsLeastOf net rows f → (b : Bool) → fork_before (fork_shown t) f ≡ b → IsLeastOf net (rows ++ t ∷ []) (if b then fork_shown t else f)
+    lesser : (f : Fork) → shows_fork net t ≡ true → IsLeastForkOf net rows f → (b : Bool) → fork_before (fork_shown t) f ≡ b → IsLeastForkOf net (rows ++ t ∷ []) (if b then fork_shown t else f)
     lesser f e h true before = newer e (λ u m s. no_later_fork (fork_shown t) f (fork_shown u) (before_is (fork_shown t) f before) (h.least u m s))
     lesser f e h false before = older f h (λ s. not_before (fork_shown t) f before)
 
@@ -109,13 +109,13 @@ fork_view f = record { name = f.name; unit = f.unit }
 
 module _ (net : List NodeDecl) (checked : KeepsNodeRules net) (shallow : IsShallow net) (formed : IsTrue (list_all is_formed net)) where
   -- a row that shows a fork has one at its first name
-  row_fork : (t : Told) → Member t (map told_by_walk (live_walks net step_limit)) → shows_fork net t ≡ true → IsFork net (start_name t) t.end
+  row_fork : (t : BareWalk) → Member t (map bare_walk (live_walks net step_limit)) → shows_fork net t ≡ true → IsFork net (start_name t) t.end
   row_fork t m h = subst (λ u. shows_fork net u ≡ true → IsFork net (start_name u) u.end) w.2 (of_walk w.0 w.1) h
     where
-      w : (w : Walk) × Member w (live_walks net step_limit) × (told_by_walk w ≡ t)
-      w = map_member told_by_walk (live_walks net step_limit) t m
+      w : (w : Walk) × Member w (live_walks net step_limit) × (bare_walk w ≡ t)
+      w = map_member bare_walk (live_walks net step_limit) t m
 
-      of_walk : (w : Walk) → Member w (live_walks net step_limit) → shows_fork net (told_by_walk w) ≡ true → IsFork net (record { node = w.start; addr = w.span.lo }) w.to.node
+      of_walk : (w : Walk) → Member w (live_walks net step_limit) → shows_fork net (bare_walk w) ≡ true → IsFork net (record { node = w.start; addr = w.span.lo }) w.to.node
       of_walk w m h =
           let p = and_parts (is_some (unit_at net w.to.node)) (nat_lt 1 (length (steps net (record { node = w.start; addr = w.span.lo })))) h in
           let o = first_inside net checked w m in
@@ -124,20 +124,20 @@ module _ (net : List NodeDecl) (checked : KeepsNodeRules net) (shallow : IsShall
           record { several = ltb-true 1 (length (steps net (record { node = w.start; addr = w.span.lo }))) p.1; reaches = (s, refl, unit_stop net s p.0 d.1, d.0) }
 
   -- and each fork is shown by a row that begins at its name or before
-  pub record IsShown (f : NetFork) (t : Told) : Type 0 where
-    pub row : Member t (map told_by_walk (live_walks net step_limit))
+  pub record IsShown (f : NetFork) (t : BareWalk) : Type 0 where
+    pub row : Member t (map bare_walk (live_walks net step_limit))
     pub shows : shows_fork net t ≡ true
     pub node : t.start ≡ f.name.node
     pub addr : t.lo ≤ f.name.addr
     pub unit : t.end ≡ f.unit
 
-  fork_row : (f : NetFork) → IsFork net f.name f.unit → (t : Told) × IsShown f t
+  fork_row : (f : NetFork) → IsFork net f.name f.unit → (t : BareWalk) × IsShown f t
   fork_row f k = by (arrival net checked shallow f.name k.reaches.0 k.reaches.3)
     where
       s : Name
       s = k.reaches.0
 
-      by : (f.name ≡ s) ⊎ ((w : Walk) × Arrives net f.name s w) → (t : Told) × IsShown f t
+      by : (f.name ≡ s) ⊎ ((w : Walk) × Arrives net f.name s w) → (t : BareWalk) × IsShown f t
       by (inl e) =
           let still : steps net s ≡ [] = stop_still net formed s k.reaches.2 in
           let none : length (steps net f.name) ≡ 0 = ap (λ n. length (steps net n)) e ∙ ap length still in
@@ -154,9 +154,9 @@ module _ (net : List NodeDecl) (checked : KeepsNodeRules net) (shallow : IsShall
           let more : 1 < length (steps net (record { node = w.start; addr = w.span.lo })) = omega arith in
           let end : w.to.node ≡ f.unit = ap (λ (n : Name). n.node) a.to ∙ k.reaches.1 in
           let unit : is_some (unit_at net w.to.node) ≡ true = ap (λ n. is_some (unit_at net n)) (ap (λ (n : Name). n.node) a.to) ∙ (stop_unit net s k.reaches.2).0 in (
-            told_by_walk w,
+            bare_walk w,
             record {
-              row = member_map told_by_walk (live_walks net step_limit) w a.listed;
+              row = member_map bare_walk (live_walks net step_limit) w a.listed;
               shows = and_from (is_some (unit_at net w.to.node)) (nat_lt 1 (length (steps net (record { node = w.start; addr = w.span.lo })))) unit (lt-ltb 1 (length (steps net (record { node = w.start; addr = w.span.lo }))) more);
               node = a.start;
               addr = (within_to f.name.addr w.span a.inside).0;
@@ -170,10 +170,10 @@ module _ (net : List NodeDecl) (checked : KeepsNodeRules net) (shallow : IsShall
   no_lower x y n a (inl l) = elim (lower_is x y l) [ inl k ↦ absurd (omega arith) | inr k ↦ (let m = k.1 in absurd (omega arith)) ]
 
   -- the least fork that the live walks show is the one that is carried
-  pub shown_is_least : (rows : List Told) → rows ≡ map told_by_walk (live_walks net step_limit) → (o : Option Fork) → IsLeastShown net rows o → least_fork net ≡ option_map fork_view o
+  pub shown_is_least : (rows : List BareWalk) → rows ≡ map bare_walk (live_walks net step_limit) → (o : Option Fork) → IsLeastShown net rows o → least_fork net ≡ option_map fork_view o
   shown_is_least rows e o h = by o (subst (λ l. IsLeastShown net l o) e h) (least_fork net) refl
     where
-      by : (o : Option Fork) → IsLeastShown net (map told_by_walk (live_walks net step_limit)) o → (p : Option NetFork) → least_fork net ≡ p → p ≡ option_map fork_view o
+      by : (o : Option Fork) → IsLeastShown net (map bare_walk (live_walks net step_limit)) o → (p : Option NetFork) → least_fork net ≡ p → p ≡ option_map fork_view o
       by None h None g = refl
       by None h (Some f) g =
           let l : IsLeastFork net f.name f.unit = (fork_is_least net checked shallow).0 f g in
@@ -189,7 +189,7 @@ module _ (net : List NodeDecl) (checked : KeepsNodeRules net) (shallow : IsShall
           let one : Fork = record { name = g.name; unit = g.unit } in
           let below : NoLaterFork one f = l.least f.name f.unit there in
           let r = fork_row g l.fork in
-          let t : Told = r.0 in
+          let t : BareWalk = r.0 in
           let q : IsTrue (name_lt g.name (start_name t)) ⊎ ((g.name ≡ start_name t) × (g.unit ≤ t.end)) = l.least (start_name t) t.end (row_fork t r.1.row r.1.shows) in
           let first : g.name ≡ start_name t = no_lower g.name (start_name t) r.1.node r.1.addr (weaker g.name (start_name t) (g.unit ≤ t.end) q) in
           let above : NoLaterFork f (fork_shown t) = h.least t r.1.row r.1.shows in

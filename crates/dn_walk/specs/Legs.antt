@@ -7,34 +7,34 @@ use Rattle.dn_net.specs.declared.node.Dest.{Dest}
 use Rattle.dn_net.specs.declared.node.Entry.{Entry}
 use Rattle.dn_net.specs.declared.node.NodeDecl.{NodeDecl}
 use Rattle.dn_net.specs.Decode.{top}
-use Rattle.dn_net.specs.Walks.{Leg as NetLeg, in_order, cut_each, whole, legs}
+use Rattle.dn_net.specs.Walks.{Leg as NetLeg, in_order, cut_each, all_addresses, legs}
 use Rattle.dn_interval.specs.declared.span.Span.{Span}
 use Rattle.dn_walk.specs.declared.leg.Leg.{Leg}
 
 -- a leg without its choice
-abbrev pub told_leg : NetLeg → Leg
-told_leg l = record { lo = l.block.lo; hi = l.block.hi; node = l.to.node; addr = l.to.addr }
+abbrev pub bare_leg : NetLeg → Leg
+bare_leg l = record { lo = l.block.lo; hi = l.block.hi; node = l.to.node; addr = l.to.addr }
 
 -- the legs of a node, without the choices
-abbrev pub told_legs : NodeDecl → List Leg
-told_legs n = map told_leg (legs n)
+abbrev pub bare_legs : NodeDecl → List Leg
+bare_legs n = map bare_leg (legs n)
 
 -- the leg of a block to a destination
 abbrev pub dest_leg : Block → Dest → Leg
 dest_leg b d = record { lo = b.lo; hi = b.hi; node = d.node; addr = d.addr }
 
 -- the legs of entries, without their choices
-abbrev pub plain_entry_legs : List Entry → List Leg
-plain_entry_legs entries = flat_map (λ e. map (dest_leg e.block) e.dests) entries
+abbrev pub bare_entry_legs : List Entry → List Leg
+bare_entry_legs entries = flat_map (λ e. map (dest_leg e.block) e.dests) entries
 
 -- the leg of a gap, to the same addresses of a node
 abbrev pub gap_leg : ℕ → Block → Leg
 gap_leg m b = record { lo = b.lo; hi = b.hi; node = m; addr = b.lo }
 
 -- the legs of gaps, without their choices
-abbrev pub plain_gap_legs : Option ℕ → List Block → List Leg
-plain_gap_legs None spans = []
-plain_gap_legs (Some m) spans = map (gap_leg m) spans
+abbrev pub bare_gap_legs : Option ℕ → List Block → List Leg
+bare_gap_legs None spans = []
+bare_gap_legs (Some m) spans = map (gap_leg m) spans
 
 -- legs are ordered by their first addresses
 abbrev pub leg_before : Leg → Leg → Bool
@@ -42,11 +42,11 @@ leg_before l m = nat_lt l.lo m.lo
 
 -- the gaps between blocks
 abbrev pub gaps_by : List Block → List Entry → List Block
-gaps_by accepts entries = cut_each (map (λ e. e.block) entries ++ accepts) (whole ∷ [])
+gaps_by accepts entries = cut_each (map (λ e. e.block) entries ++ accepts) (all_addresses ∷ [])
 
 -- the legs of a node of these parts, made without choices
 abbrev pub legs_by : List Block → List Entry → Option ℕ → List Leg
-legs_by accepts entries over = in_order leg_before (plain_entry_legs entries ++ plain_gap_legs over (gaps_by accepts entries))
+legs_by accepts entries over = in_order leg_before (bare_entry_legs entries ++ bare_gap_legs over (gaps_by accepts entries))
 
 -- a span as a block
 abbrev pub span_view : Span → Block

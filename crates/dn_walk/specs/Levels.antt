@@ -3,76 +3,76 @@ use Rattle.std.specs.Prelude.{◌≡◌, ℕ, zero, suc, ◌+◌, ◌-◌, ◌<�
 use Rattle.std.specs.List.{flat_map}
 use Rattle.std.specs.Option.{IfSome}
 use Rattle.dn_net.specs.Decode.{top}
-use Rattle.dn_net.specs.Walks.{in_order, greater, lesser_of}
+use Rattle.dn_net.specs.Walks.{in_order, greater_of, lesser_of}
 use Rattle.dn_net.specs.WalkRules.{walk_limit, is_wide}
 use Rattle.dn_walk.specs.declared.leg.Leg.{Leg}
 use Rattle.dn_walk.specs.declared.level.Levels.{Levels}
 use Rattle.dn_walk.specs.declared.fault.WalkFault.{WalkFault}
-use Rattle.dn_walk.specs.Rows.{Told, row_view, walk_fault_view}
+use Rattle.dn_walk.specs.Rows.{BareWalk, row_view, walk_fault_view}
 
 -- the last address at which it comes out
-abbrev pub told_last : Told → ℕ
-told_last t = t.base + (t.hi - t.lo)
+abbrev pub bare_last_out : BareWalk → ℕ
+bare_last_out t = t.base + (t.hi - t.lo)
 
 -- some address at which it comes out goes on by the leg
-abbrev pub told_meets : Told → Leg → Bool
-told_meets t l = nat_le t.base l.hi && nat_le l.lo (told_last t)
+abbrev pub bare_meets : BareWalk → Leg → Bool
+bare_meets t l = nat_le t.base l.hi && nat_le l.lo (bare_last_out t)
 
 -- it, with one more leg, for the addresses that go on by it
-abbrev pub told_onto : Told → Leg → Told
-told_onto t l = cut (greater t.base l.lo) (lesser_of (told_last t) l.hi)
+abbrev pub bare_onto : BareWalk → Leg → BareWalk
+bare_onto t l = cut (greater_of t.base l.lo) (lesser_of (bare_last_out t) l.hi)
   where
-    cut : ℕ → ℕ → Told
+    cut : ℕ → ℕ → BareWalk
     cut lo hi = record { start = t.start; lo = t.lo + (lo - t.base); hi = t.lo + (hi - t.base); end = l.node; base = l.addr + (lo - l.lo); len = t.len + 1 }
 
 -- what goes on by one of the legs
-abbrev pub told_on : List Leg → Told → List Told
-told_on ls t = map (told_onto t) (filter (told_meets t) ls)
+abbrev pub bare_extensions_by : List Leg → BareWalk → List BareWalk
+bare_extensions_by ls t = map (bare_onto t) (filter (bare_meets t) ls)
 
 -- what goes on from it by the legs of its end node
-abbrev pub told_extended : List (List Leg) → Told → List Told
-told_extended legs t = told_on (slice_index_or legs t.end []) t
+abbrev pub bare_extensions : List (List Leg) → BareWalk → List BareWalk
+bare_extensions legs t = bare_extensions_by (slice_index_or legs t.end []) t
 
 -- the walk of no choice from a node
-abbrev pub told_still : ℕ → Told
-told_still n = record { start = n; lo = 0; hi = top; end = n; base = 0; len = 0 }
+abbrev pub bare_still_walk : ℕ → BareWalk
+bare_still_walk n = record { start = n; lo = 0; hi = top; end = n; base = 0; len = 0 }
 
 -- the walks of no choice of so many nodes, from a number on
-abbrev pub told_stills : ℕ → ℕ → List Told
-told_stills n zero = []
-told_stills n (suc k) = told_still n ∷ told_stills (suc n) k
+abbrev pub bare_still_walks : ℕ → ℕ → List BareWalk
+bare_still_walks n zero = []
+bare_still_walks n (suc k) = bare_still_walk n ∷ bare_still_walks (suc n) k
 
 -- the walks of so many choices, in the order in which they are made from the legs of the nodes
-unfoldable pub told_level : List (List Leg) → ℕ → List Told
-told_level legs zero = told_stills 0 (length legs)
-told_level legs (suc k) = flat_map (told_extended legs) (told_level legs k)
+unfoldable pub bare_level : List (List Leg) → ℕ → List BareWalk
+bare_level legs zero = bare_still_walks 0 (length legs)
+bare_level legs (suc k) = flat_map (bare_extensions legs) (bare_level legs k)
 
 -- the order by start, and by the first and the last address
-abbrev pub told_before : Told → Told → Bool
-told_before t u = nat_lt t.start u.start || ((t.start == u.start) && (nat_lt t.lo u.lo || ((t.lo == u.lo) && nat_lt t.hi u.hi)))
+abbrev pub bare_before : BareWalk → BareWalk → Bool
+bare_before t u = nat_lt t.start u.start || ((t.start == u.start) && (nat_lt t.lo u.lo || ((t.lo == u.lo) && nat_lt t.hi u.hi)))
 
 -- the walks of 1 to so many choices
-unfoldable pub told_walks : List (List Leg) → ℕ → List Told
-told_walks legs zero = []
-told_walks legs (suc k) = told_walks legs k ++ in_order told_before (told_level legs (suc k))
+unfoldable pub bare_walks : List (List Leg) → ℕ → List BareWalk
+bare_walks legs zero = []
+bare_walks legs (suc k) = bare_walks legs k ++ in_order bare_before (bare_level legs (suc k))
 
 -- the levels from that of no choice on, each in order
-unfoldable pub told_levels : List (List Leg) → ℕ → List (List Told)
-told_levels legs zero = []
-told_levels legs (suc k) = told_levels legs k ++ in_order told_before (told_level legs k) ∷ []
+unfoldable pub bare_levels : List (List Leg) → ℕ → List (List BareWalk)
+bare_levels legs zero = []
+bare_levels legs (suc k) = bare_levels legs k ++ in_order bare_before (bare_level legs k) ∷ []
 
 -- the levels that have been made, from the legs of the nodes
-pub record AreLevels (legs : List (List Leg)) (l : Levels) : Type 0 where
-  pub sorted : map (map row_view) l.sorted.items ≡ told_levels legs (length l.sorted.items)
-  pub newest : map row_view l.newest.items ≡ told_level legs (length l.sorted.items)
-  pub room : l.room + length (told_walks legs (length l.sorted.items)) ≡ walk_limit
+pub record AreWalkLevels (legs : List (List Leg)) (l : Levels) : Type 0 where
+  pub sorted : map (map row_view) l.sorted.items ≡ bare_levels legs (length l.sorted.items)
+  pub newest : map row_view l.newest.items ≡ bare_level legs (length l.sorted.items)
+  pub room : l.room + length (bare_walks legs (length l.sorted.items)) ≡ walk_limit
 
 -- the rule that a fault says is `Wide`, and then the fact holds
 abbrev pub IsWideWhere : Type 0 → WalkFault → Type 0
 IsWideWhere P fault = IfSome (walk_fault_view fault) (λ broken. (broken ≡ is_wide) × P)
 
 -- a row of a net of so many nodes, with at most so many choices
-pub record IsRowOf (count most : ℕ) (t : Told) : Type 0 where
+pub record IsRowOf (count most : ℕ) (t : BareWalk) : Type 0 where
   pub order : t.lo ≤ t.hi
   pub low : t.hi ≤ top
   pub start : t.start < count

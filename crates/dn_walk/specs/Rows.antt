@@ -12,7 +12,7 @@ use Rattle.dn_walk.specs.declared.fault.WalkFault.{WalkFault}
 use Rattle.dn_walk.specs.declared.fault.WalkFault.TheVariants.{Wide, Loop, Deep, Fork, Chain, OutOfMemory}
 
 -- what a row tells of a walk: its start, the addresses that follow it, where the first of them comes, and its length
-pub record Told : Type 0 where
+pub record BareWalk : Type 0 where
   pub start : ℕ
   pub lo : ℕ
   pub hi : ℕ
@@ -21,12 +21,12 @@ pub record Told : Type 0 where
   pub len : ℕ
 
 -- what a row of the code tells
-abbrev pub row_view : WalkRow → Told
+abbrev pub row_view : WalkRow → BareWalk
 row_view r = record { start = r.start; lo = r.span.lo; hi = r.span.hi; end = r.end; base = r.base; len = r.len }
 
 -- what a walk tells, without its choices
-abbrev pub told_by_walk : Walk → Told
-told_by_walk w = record { start = w.start; lo = w.span.lo; hi = w.span.hi; end = w.to.node; base = w.to.addr; len = length w.choices }
+abbrev pub bare_walk : Walk → BareWalk
+bare_walk w = record { start = w.start; lo = w.span.lo; hi = w.span.hi; end = w.to.node; base = w.to.addr; len = length w.choices }
 
 -- a table of walks: its rows, and for each node the spans of the addresses that it accepts
 pub record Table : Type 0 where
@@ -41,7 +41,7 @@ pub record AreAccepted (net : List NodeDecl) (sets : List (List Span)) : Type 0 
 -- the rows are the live walks of a legal net, of 1 to 65 choices, in their order, and the sets are those of its nodes
 pub record AreWalksOf (net : List NodeDecl) (table : Table) : Type 0 where
   pub legal : IsLegalNet net
-  pub same : map row_view table.rows ≡ map told_by_walk (live_walks net step_limit)
+  pub same : map row_view table.rows ≡ map bare_walk (live_walks net step_limit)
   pub accepted : AreAccepted net table.accepted
 
 -- the broken rule that a fault says, with what it carries; allocation failure says none

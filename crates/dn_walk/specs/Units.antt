@@ -8,17 +8,17 @@ use Rattle.dn_net.specs.Chain.{Member}
 use Rattle.dn_net.specs.Decode.{steps, unit_at}
 use Rattle.dn_net.specs.Names.{name_lt, name_eq}
 use Rattle.dn_net.specs.Firsts.{or_else}
-use Rattle.dn_net.specs.UnitRules.{unit_numbers, rows_from, slots_product, first_row}
+use Rattle.dn_net.specs.UnitRules.{unit_numbers, unit_rows_from, slots_product, first_row}
 use Rattle.dn_walk.specs.declared.fork.Fork.{Fork}
-use Rattle.dn_walk.specs.Rows.{Told}
+use Rattle.dn_walk.specs.Rows.{BareWalk}
 use Rattle.dn_walk.specs.Ways.{start_name}
 
 -- the row ends in a unit, and its first name has two or more destinations
-abbrev pub shows_fork : List NodeDecl → Told → Bool
+abbrev pub shows_fork : List NodeDecl → BareWalk → Bool
 shows_fork net t = is_some (unit_at net t.end) && nat_lt 1 (length (steps net (start_name t)))
 
 -- the fork that it shows
-abbrev pub fork_shown : Told → Fork
+abbrev pub fork_shown : BareWalk → Fork
 fork_shown t = record { name = start_name t; unit = t.end }
 
 -- forks are ordered by their names, and then by their units
@@ -31,7 +31,7 @@ lesser_fork None f = Some f
 lesser_fork (Some g) f = Some (if fork_before f g then f else g)
 
 -- the lesser of a fork that may be there and the one that a row shows, if it shows one
-abbrev pub with_shown : List NodeDecl → Option Fork → Told → Option Fork
+abbrev pub with_shown : List NodeDecl → Option Fork → BareWalk → Option Fork
 with_shown net least t = if shows_fork net t then lesser_fork least (fork_shown t) else least
 
 -- one fork does not come after another
@@ -39,22 +39,22 @@ abbrev pub NoLaterFork : Fork → Fork → Type 0
 NoLaterFork f g = IsTrue (name_lt f.name g.name) ⊎ ((f.name ≡ g.name) × (f.unit ≤ g.unit))
 
 -- some row shows the fork, and none shows one that comes before it
-pub record IsLeastOf (net : List NodeDecl) (rows : List Told) (f : Fork) : Type 0 where
-  pub shown : (t : Told) × Member t rows × (shows_fork net t ≡ true) × (fork_shown t ≡ f)
-  pub least : (t : Told) → Member t rows → shows_fork net t ≡ true → NoLaterFork f (fork_shown t)
+pub record IsLeastForkOf (net : List NodeDecl) (rows : List BareWalk) (f : Fork) : Type 0 where
+  pub shown : (t : BareWalk) × Member t rows × (shows_fork net t ≡ true) × (fork_shown t ≡ f)
+  pub least : (t : BareWalk) → Member t rows → shows_fork net t ≡ true → NoLaterFork f (fork_shown t)
 
 -- the least fork that rows show; where there is none, no row shows one
-abbrev pub IsLeastShown : List NodeDecl → List Told → Option Fork → Type 0
-IsLeastShown net rows None = (t : Told) → Member t rows → shows_fork net t ≡ false
-IsLeastShown net rows (Some f) = IsLeastOf net rows f
+abbrev pub IsLeastShown : List NodeDecl → List BareWalk → Option Fork → Type 0
+IsLeastShown net rows None = (t : BareWalk) → Member t rows → shows_fork net t ≡ false
+IsLeastShown net rows (Some f) = IsLeastForkOf net rows f
 
 -- the row leads from a node to another, from an address below the limit on
-abbrev pub row_leads : ℕ → ℕ → ℕ → Told → Bool
+abbrev pub row_leads : ℕ → ℕ → ℕ → BareWalk → Bool
 row_leads port w limit t = (t.start == port) && ((t.end == w) && nat_lt t.lo limit)
 
 -- a number for each two of so many nodes: it is below a limit exactly where a row leads from the one
 -- to the other from an address below the limit
-pub record AreLows (count : ℕ) (rows : List Told) (lows : List ℕ) : Type 0 where
+pub record AreLows (count : ℕ) (rows : List BareWalk) (lows : List ℕ) : Type 0 where
   pub size : length lows ≡ count * count
   pub lower : (port w limit : ℕ) → port < count → w < count → limit ≤ 2 ^ 56 →
       nat_lt (slice_index_or lows (port * count + w) 0) limit
@@ -67,24 +67,24 @@ leads_by_lows count lows u w =
 
 -- a port of the unit is the other, or a row leads from it to the other, from an address below the
 -- unit's reach on
-abbrev pub leads_by_rows : List Told → UnitPart → ℕ → Bool
+abbrev pub leads_by_rows : List BareWalk → UnitPart → ℕ → Bool
 leads_by_rows rows u w =
     list_any (λ p. (p == w) || list_any (row_leads p w (2 ^ u.reach)) rows) u.ports
 
 -- those of some units to which a node leads, where it is a unit
-abbrev pub next_by : (UnitPart → ℕ → Bool) → List ℕ → Option UnitPart → List ℕ
-next_by leads units None = []
-next_by leads units (Some u) = filter (leads u) units
+abbrev pub next_units_by : (UnitPart → ℕ → Bool) → List ℕ → Option UnitPart → List ℕ
+next_units_by leads units None = []
+next_units_by leads units (Some u) = filter (leads u) units
 
 -- the units to which the node of a number leads, as rows tell it
-abbrev pub next_told : List NodeDecl → List Told → ℕ → List ℕ
-next_told net rows u = next_by (leads_by_rows rows) (unit_numbers net) (unit_at net u)
+abbrev pub next_by_rows : List NodeDecl → List BareWalk → ℕ → List ℕ
+next_by_rows net rows u = next_units_by (leads_by_rows rows) (unit_numbers net) (unit_at net u)
 
 -- the first row of so many units whose slots multiply to more than a number: its first unit is one
 -- of these, and each other is one of those listed for the one before it
 abbrev pub first_over : List NodeDecl → List (List ℕ) → ℕ → ℕ → List ℕ → Option (List ℕ)
 first_over net next k most first =
-    first_row (filter (λ us. nat_lt most (slots_product net us)) (rows_from (λ u. slice_index_or next u []) k first))
+    first_row (filter (λ us. nat_lt most (slots_product net us)) (unit_rows_from (λ u. slice_index_or next u []) k first))
 
 -- the first row of four units; or else of one, or of two, or of three whose slots multiply to more
 -- than 1,048,576

@@ -5,7 +5,7 @@ ghost use Rattle.dn_interval.specs.Terms.{has};
 ghost use Rattle.dn_net.specs.Terms.{KeepsNodeRules, is_accepted_at};
 ghost use Rattle.dn_walk.specs.Terms.{AreAccepted};
 
-use crate::spans::{accept_spans, covered};
+use crate::spans::{accept_spans, covered_set};
 use dn_base::OutOfMemory;
 use dn_interval::SpanSet;
 use dn_net::net::Net;
@@ -30,5 +30,5 @@ pub fn accepted_set(alloc: Global, net: &Net, node: u16) -> Result<SpanSet, OutO
     requires there { node < length net.now }
     ensures { IfOk result (λ set. (a : ℕ) → has set a ≡ is_accepted_at a (slice_get net.now node)) }
 {
-    covered(alloc, accept_spans(alloc, net.accepts(node))?)
+    covered_set(alloc, accept_spans(alloc, net.accepts(node))?)
 }

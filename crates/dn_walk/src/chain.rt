@@ -2,8 +2,8 @@
 
 ghost use Rattle.std.specs.Prelude.{◌≡◌, ◌<◌, ◌≤◌, ◌∷◌, length, map, IfOk, IsTrue};
 ghost use Rattle.std.specs.List.{All};
-ghost use Rattle.dn_net.specs.Terms.{IsShallow, KeepsNodeRules, first_chain, has_plain_units, live_walks, slots_of, step_limit, unit_at, unit_numbers};
-ghost use Rattle.dn_walk.specs.Terms.{chain_by, first_over, row_view, told_by_walk};
+ghost use Rattle.dn_net.specs.Terms.{IsShallow, KeepsNodeRules, first_chain, has_plain_units, live_walks, step_limit, unit_at, unit_numbers, unit_slots};
+ghost use Rattle.dn_walk.specs.Terms.{bare_walk, chain_by, first_over, row_view};
 
 use crate::leads::next_units;
 use crate::walks::WalkRow;
@@ -26,7 +26,7 @@ pub(crate) fn first_chain(
     requires shapes { IsTrue (has_plain_units net.now) }
     requires shallow { IsShallow net.now }
     requires few { length net.now ≤ 1024 }
-    requires walks { map row_view rows.now ≡ map told_by_walk (live_walks net.now step_limit) }
+    requires walks { map row_view rows.now ≡ map bare_walk (live_walks net.now step_limit) }
     requires units { units.now ≡ unit_numbers net.now }
     ensures { IfOk result (λ o. o ≡ first_chain net.now) }
 {
@@ -96,7 +96,7 @@ fn first_row(
 fn slots(net: &Net, unit: u16) -> u64
     requires shapes { IsTrue (has_plain_units net.now) }
     requires there { unit < length net.now }
-    ensures value { result ≡ slots_of (unit_at net.now unit) }
+    ensures value { result ≡ unit_slots (unit_at net.now unit) }
     ensures some { 1 ≤ result }
 {
     match net.unit(unit) {

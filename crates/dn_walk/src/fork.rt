@@ -44,7 +44,7 @@ fn lesser_shown(net: &Net, least: Option<Fork>, row: &WalkRow) -> Option<Fork>
     if !is_fork(net, row) {
         return least;
     }
-    lesser(
+    lesser_fork(
         least,
         Fork {
             name: first_name(row),
@@ -85,7 +85,7 @@ fn first_name(row: &WalkRow) -> Name
 }
 
 /// The lesser of two forks.
-fn lesser(least: Option<Fork>, fork: Fork) -> Option<Fork>
+fn lesser_fork(least: Option<Fork>, fork: Fork) -> Option<Fork>
     ensures { result ≡ lesser_fork least fork }
 {
     match least {

@@ -5,7 +5,7 @@ ghost use Rattle.std.specs.List.{All, list_all};
 ghost use Rattle.std.specs.Option.{option_copied};
 ghost use Rattle.dn_net.specs.Terms.{has_plain_shape, has_plain_unit, has_plain_units, is_closed, ports_within, unit_numbers};
 ghost use Rattle.dn_walk.specs.declared.walks.WalkRow.{WalkRow};
-ghost use Rattle.dn_walk.specs.Terms.{AreLows, leads_by_lows, next_by, next_told, row_view};
+ghost use Rattle.dn_walk.specs.Terms.{AreLows, leads_by_lows, next_by_rows, next_units_by, row_view};
 
 use crate::walks::WalkRow;
 use dn_base::items::Items;
@@ -40,7 +40,7 @@ pub(crate) fn next_units(
     requires ends { All (λ (r : WalkRow). r.end < length net.now) rows.now }
     requires units { units.now ≡ unit_numbers net.now }
     ensures next { IfOk result (λ v. (u : ℕ) → u < length net.now → slice_index_or v.items u []
-        ≡ next_told net.now (map row_view rows.now) u) }
+        ≡ next_by_rows net.now (map row_view rows.now) u) }
     ensures size { IfOk result (λ v. length v.items ≡ length net.now) }
 {
     let nodes = usize::from(net.nodes());
@@ -90,7 +90,7 @@ fn next_of(
     requires size { length lows.now ≡ nodes * nodes }
     requires few { nodes ≤ 1024 }
     requires units { All (λ w. w < nodes) units.now }
-    ensures { IfOk result (λ l. l ≡ next_by (leads_by_lows nodes lows.now) units.now
+    ensures { IfOk result (λ l. l ≡ next_units_by (leads_by_lows nodes lows.now) units.now
         (option_copied unit.entry)) }
 {
     match unit {

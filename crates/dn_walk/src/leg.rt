@@ -3,9 +3,9 @@
 ghost use Rattle.std.specs.Prelude.{◌≡◌, ◌++◌, ◌||◌, map, IfOk, OnOk, IsTrue, ◌<◌, length};
 ghost use Rattle.std.specs.List.{All, list_all};
 ghost use Rattle.dn_net.specs.Terms.{KeepsNodeRules, block_in_range, entry_in_range};
-ghost use Rattle.dn_walk.specs.Terms.{AreLegs, dest_leg, gap_leg, gaps_by, legs_by, plain_entry_legs, span_view, told_legs};
+ghost use Rattle.dn_walk.specs.Terms.{AreLegs, bare_entry_legs, bare_legs, dest_leg, gap_leg, gaps_by, legs_by, span_view};
 
-use crate::spans::{block_spans, covered};
+use crate::spans::{block_spans, covered_set};
 use dn_base::OutOfMemory;
 use dn_base::items::Items;
 use dn_interval::{Span, SpanSet};
@@ -25,7 +25,7 @@ pub struct Leg {
 /// The legs of each node of a net.
 pub fn net_legs(alloc: Global, net: &Net) -> Result<Vec<Items<Leg>>, OutOfMemory>
     requires rules { KeepsNodeRules net.now }
-    ensures legs { IfOk result (λ v. v.items ≡ map told_legs net.now) }
+    ensures legs { IfOk result (λ v. v.items ≡ map bare_legs net.now) }
     ensures each { IfOk result (λ v. All (AreLegs (length net.now)) v.items) }
 {
     let mut all = Vec::with_capacity(alloc, usize::from(net.nodes()))?;
@@ -58,7 +58,7 @@ pub fn node_legs(
 
 /// A leg for each destination of each entry.
 fn entry_legs(alloc: Global, entries: &[Entry]) -> Result<Vec<Leg>, OutOfMemory>
-    ensures { IfOk result (λ v. v.items ≡ plain_entry_legs entries.now) }
+    ensures { IfOk result (λ v. v.items ≡ bare_entry_legs entries.now) }
 {
     let mut legs = Vec::new(alloc);
     for entry in entries {
@@ -103,5 +103,5 @@ fn gaps(alloc: Global, accepts: &[Block], entries: &[Entry]) -> Result<SpanSet, 
     requires entries { IsTrue (list_all entry_in_range entries.now) }
     ensures { IfOk result (λ s. map span_view s ≡ gaps_by accepts.now entries.now) }
 {
-    covered(alloc, block_spans(alloc, accepts, entries)?)?.complement(alloc)
+    covered_set(alloc, block_spans(alloc, accepts, entries)?)?.complement(alloc)
 }

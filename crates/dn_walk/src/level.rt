@@ -5,7 +5,7 @@ ghost use Rattle.std.specs.List.{All, flat_map};
 ghost use Rattle.std.specs.List.Sorted.{IsNonDecreasingBy};
 ghost use Rattle.dn_net.specs.Terms.{in_order, walk_limit};
 ghost use Rattle.dn_walk.specs.declared.leg.Leg.{Leg};
-ghost use Rattle.dn_walk.specs.Terms.{AreLegs, AreLevels, IsRowOf, IsWideWhere, row_view, told_before, told_extended, told_last, told_meets, told_onto, told_stills, told_walks};
+ghost use Rattle.dn_walk.specs.Terms.{AreLegs, AreWalkLevels, IsRowOf, IsWideWhere, bare_before, bare_extensions, bare_last_out, bare_meets, bare_onto, bare_still_walks, bare_walks, row_view};
 
 use crate::fault::WalkFault;
 use crate::leg::Leg;
@@ -33,7 +33,7 @@ impl Levels {
     pub(crate) fn new(alloc: Global, nodes: u16) -> Result<Levels, AllocError>
         ensures begun { IfOk result (λ l. length l.sorted.items ≡ 0) }
         ensures levels { IfOk result (λ l. (legs : List (List Leg)) → length legs ≡ nodes
-            → AreLevels legs l) }
+            → AreWalkLevels legs l) }
     {
         Ok(Levels {
             sorted: Vec::new(alloc),
@@ -43,21 +43,21 @@ impl Levels {
     }
 
     /// These levels and the next one. `Wide` exactly where there is no room for it.
-    pub(crate) fn grown(self, alloc: Global, legs: &[Items<Leg>]) -> Result<Levels, WalkFault>
+    pub(crate) fn with_next(self, alloc: Global, legs: &[Items<Leg>]) -> Result<Levels, WalkFault>
         requires legs { All (AreLegs (length legs.now)) legs.now }
-        requires levels { AreLevels legs.now self }
+        requires levels { AreWalkLevels legs.now self }
         requires shallow { length self.sorted.items ≤ 64 }
-        ensures levels { IfOk result (λ l. AreLevels legs.now l) }
+        ensures levels { IfOk result (λ l. AreWalkLevels legs.now l) }
         ensures one_more { IfOk result (λ l. length l.sorted.items ≡ length self.sorted.items + 1) }
         ensures wide { IfErr result (IsWideWhere
-            (walk_limit < length (told_walks legs.now (length self.sorted.items + 1)))) }
+            (walk_limit < length (bare_walks legs.now (length self.sorted.items + 1)))) }
     {
         let Levels {
             mut sorted,
             newest,
             room,
         } = self;
-        let next = extended(alloc, legs, &newest, room)?;
+        let next = extended_rows(alloc, legs, &newest, room)?;
         let level = in_order(newest)?;
         sorted.push(level).or(Err(WalkFault::OutOfMemory))?;
         let room = room - next.len();
@@ -71,7 +71,7 @@ impl Levels {
 
 /// The walk of no choice from each node: each address comes to itself.
 fn still_rows(alloc: Global, nodes: u16) -> Result<Vec<WalkRow>, AllocError>
-    ensures { IfOk result (λ v. map row_view v.items ≡ told_stills 0 nodes) }
+    ensures { IfOk result (λ v. map row_view v.items ≡ bare_still_walks 0 nodes) }
 {
     let mut rows = Vec::with_capacity(alloc, usize::from(nodes))?;
     for node in 0..nodes {
@@ -90,14 +90,14 @@ fn still_rows(alloc: Global, nodes: u16) -> Result<Vec<WalkRow>, AllocError>
 /// in the order in which they come.
 fn in_order(mut rows: Vec<WalkRow>) -> Result<Items<WalkRow>, AllocError>
     ensures { IfOk result (λ l. map row_view l
-        ≡ in_order told_before (map row_view rows.items)) }
+        ≡ in_order bare_before (map row_view rows.items)) }
 {
     rows.sort_by_key(|row| (row.start, row.span.lo, row.span.hi))?;
     Ok(Items::from_vec(rows))
 }
 
 /// Each walk that goes on from a row by one more choice. `Wide` exactly where there are more than `room`.
-fn extended(
+fn extended_rows(
     alloc: Global,
     legs: &[Items<Leg>],
     rows: &[WalkRow],
@@ -106,9 +106,9 @@ fn extended(
     requires legs { All (AreLegs (length legs.now)) legs.now }
     requires rows { All (λ r. IsRowOf (length legs.now) 64 (row_view r)) rows.now }
     ensures made { IfOk result (λ v. map row_view v.items
-        ≡ flat_map (told_extended legs.now) (map row_view rows.now)) }
+        ≡ flat_map (bare_extensions legs.now) (map row_view rows.now)) }
     ensures fits { IfOk result (λ v. vec_len v ≤ room) }
-    ensures wide { IfErr result (IsWideWhere (room < length (flat_map (told_extended legs.now)
+    ensures wide { IfErr result (IsWideWhere (room < length (flat_map (bare_extensions legs.now)
         (map row_view rows.now)))) }
 {
     let mut out = Vec::new(alloc);
@@ -128,7 +128,7 @@ pub fn met_by<'a>(row: &WalkRow, legs: &'a [Leg]) -> &'a [Leg]
     requires firsts { IsNonDecreasingBy (λ (l : Leg). l.lo) legs.now }
     requires lasts { IsNonDecreasingBy (λ (l : Leg). l.hi) legs.now }
     requires order { All (λ (l : Leg). l.lo ≤ l.hi) legs.now }
-    ensures { result.now ≡ filter (told_meets (row_view row.now)) legs.now }
+    ensures { result.now ≡ filter (bare_meets (row_view row.now)) legs.now }
 {
     let base = row.base;
     let last = last_out(row);
@@ -141,12 +141,12 @@ pub fn met_by<'a>(row: &WalkRow, legs: &'a [Leg]) -> &'a [Leg]
 pub fn extend_row(row: &WalkRow, met: &[Leg], out: &mut Vec<WalkRow>) -> Result<(), AllocError>
     requires reach { row.now.base + (row.now.span.hi - row.now.span.lo) ≤ TOP }
     requires short { row.now.len ≤ 64 }
-    requires meet { All (λ l. IsTrue (told_meets (row_view row.now) l)) met.now }
+    requires meet { All (λ l. IsTrue (bare_meets (row_view row.now) l)) met.now }
     requires order { All (λ (l : Leg). l.lo ≤ l.hi) met.now }
     requires low { All (λ (l : Leg). l.hi ≤ TOP) met.now }
     requires far { All (λ (l : Leg). l.addr + (l.hi - l.lo) ≤ TOP) met.now }
     ensures { OnOk result (map row_view out.new.items
-        ≡ map row_view out.old.items ++ map (told_onto (row_view row.now)) met.now) }
+        ≡ map row_view out.old.items ++ map (bare_onto (row_view row.now)) met.now) }
 {
     for leg in met {
         out.push(onto(row, leg))?;
@@ -157,7 +157,7 @@ pub fn extend_row(row: &WalkRow, met: &[Leg], out: &mut Vec<WalkRow>) -> Result<
 /// The last address at which the walk comes out.
 fn last_out(row: &WalkRow) -> u64
     requires { row.now.base + (row.now.span.hi - row.now.span.lo) ≤ TOP }
-    ensures { result ≡ told_last (row_view row.now) }
+    ensures { result ≡ bare_last_out (row_view row.now) }
 {
     row.base + (row.span.hi - row.span.lo)
 }
@@ -166,11 +166,11 @@ fn last_out(row: &WalkRow) -> u64
 fn onto(row: &WalkRow, leg: &Leg) -> WalkRow
     requires reach { row.now.base + (row.now.span.hi - row.now.span.lo) ≤ TOP }
     requires short { row.now.len ≤ 64 }
-    requires meet { IsTrue (told_meets (row_view row.now) leg.now) }
+    requires meet { IsTrue (bare_meets (row_view row.now) leg.now) }
     requires order { leg.now.lo ≤ leg.now.hi }
     requires low { leg.now.hi ≤ TOP }
     requires far { leg.now.addr + (leg.now.hi - leg.now.lo) ≤ TOP }
-    ensures { row_view result ≡ told_onto (row_view row.now) leg.now }
+    ensures { row_view result ≡ bare_onto (row_view row.now) leg.now }
 {
     let lo = row.base.max(leg.lo);
     let hi = last_out(row).min(leg.hi);

@@ -44,15 +44,15 @@ pub(crate) fn accept_spans(alloc: Global, accepts: &[Block]) -> Result<Vec<Span>
 }
 
 /// The addresses of spans. They are sorted first, so that each is added behind the others.
-pub(crate) fn covered(alloc: Global, mut spans: Vec<Span>) -> Result<SpanSet, OutOfMemory>
+pub(crate) fn covered_set(alloc: Global, mut spans: Vec<Span>) -> Result<SpanSet, OutOfMemory>
     ensures { IfOk result (λ s. (a : ℕ) → has s a ≡ has spans.items a) }
 {
     spans.sort_unstable_by_key(|span| span.lo);
-    joined(alloc, &spans)
+    joined_set(alloc, &spans)
 }
 
 /// The addresses of spans, added one after another.
-fn joined(alloc: Global, spans: &[Span]) -> Result<SpanSet, OutOfMemory>
+fn joined_set(alloc: Global, spans: &[Span]) -> Result<SpanSet, OutOfMemory>
     ensures { IfOk result (λ s. (a : ℕ) → has s a ≡ has spans.now a) }
 {
     let mut covered = SpanSet::new(alloc);

@@ -7,7 +7,7 @@ ghost use Rattle.dn_base.specs.Terms.{Checks};
 ghost use Rattle.dn_net.specs.Terms.{IsNet, IsShallow, KeepsNodeRules, has_plain_units, live_walks, step_limit, unit_fault, unit_numbers, walk_fault};
 ghost use Rattle.dn_walk.specs.declared.level.TheConstants.{WALK_LIMIT};
 ghost use Rattle.dn_walk.specs.declared.walks.WalkRow.{WalkRow};
-ghost use Rattle.dn_walk.specs.Terms.{AreWalksOf, row_view, told_by_walk, told_fault, walk_fault_view};
+ghost use Rattle.dn_walk.specs.Terms.{AreWalksOf, bare_walk, row_view, shown_fault, walk_fault_view};
 
 use crate::accepted::accepted_sets;
 use crate::chain::first_chain;
@@ -68,7 +68,7 @@ impl WalkTable {
     }
 
     /// For each node, by its number, the addresses that it accepts.
-    pub fn accepted(&self) -> &[SpanSet]
+    pub fn accepted_by_node(&self) -> &[SpanSet]
         ensures { result.now ≡ self.now.accepted }
     {
         self.accepted.as_slice()
@@ -87,10 +87,10 @@ pub fn walks(alloc: Global, net: &Net) -> Result<WalkTable, WalkFault>
     let legs = net_legs(alloc, net)?;
     let mut levels = Levels::new(alloc, net.nodes())?;
     'levels: while levels.sorted.len() < LONGEST && !levels.newest.is_empty() {
-        levels = levels.grown(alloc, &legs)?;
+        levels = levels.with_next(alloc, &legs)?;
         check_newest(alloc, net, &levels, true)?;
     }
-    levels = levels.grown(alloc, &legs)?;
+    levels = levels.with_next(alloc, &legs)?;
     check_newest(alloc, net, &levels, false)?;
     let pieces = checked_rows(alloc, net, levels)?;
     Ok(WalkTable {
@@ -106,7 +106,7 @@ fn check_newest(alloc: Global, net: &Net, levels: &Levels, back: bool) -> Result
     requires there { All (λ (r : WalkRow). r.start < length net.now) levels.now.newest.items }
     requires sorted { All (λ level. IsNonDecreasingBy
         (λ (r : WalkRow). r.start) level) levels.now.sorted.items }
-    ensures { Checks walk_fault_view result (told_fault back net.now
+    ensures { Checks walk_fault_view result (shown_fault back net.now
         (map (map row_view) levels.now.sorted.items) (map row_view levels.now.newest.items)) }
 {
     let Some(first) = least_start(&levels.newest, back) else {
@@ -130,7 +130,7 @@ fn checked_rows(alloc: Global, net: &Net, levels: Levels) -> Result<Vec<Items<Wa
     requires some { 0 < length levels.sorted.items }
     requires room { levels.room ≤ WALK_LIMIT }
     requires walks { map row_view (flat_map (λ x. x) (drop 1 levels.sorted.items))
-        ≡ map told_by_walk (live_walks net.now step_limit) }
+        ≡ map bare_walk (live_walks net.now step_limit) }
     ensures checks { Checks walk_fault_view result (unit_fault net.now) }
     ensures rows { IfOk result (λ pieces. flat_map (λ x. x) pieces.items
         ≡ flat_map (λ x. x) (drop 1 levels.sorted.items)) }
@@ -157,7 +157,7 @@ fn check_units(alloc: Global, net: &Net, rows: &[WalkRow], units: &[u16]) -> Res
     requires shapes { IsTrue (has_plain_units net.now) }
     requires shallow { IsShallow net.now }
     requires is_net { IsNet net.now }
-    requires walks { map row_view rows.now ≡ map told_by_walk (live_walks net.now step_limit) }
+    requires walks { map row_view rows.now ≡ map bare_walk (live_walks net.now step_limit) }
     requires units { units.now ≡ unit_numbers net.now }
     ensures { Checks walk_fault_view result (unit_fault net.now) }
 {

@@ -3,9 +3,9 @@
 ghost use Rattle.std.specs.Prelude.{◌≡◌, ◌+◌, ◌≤◌, ◌<◌, ◌∷◌, ◌||◌, not, map, filter, length, IfOk, IsTrue, None, nat_le};
 ghost use Rattle.std.specs.List.{All, list_all};
 ghost use Rattle.std.specs.List.Sorted.{IsNonDecreasingBy};
-ghost use Rattle.dn_net.specs.Terms.{KeepsNodeRules, moved, name_lt, steps, top, way_by};
+ghost use Rattle.dn_net.specs.Terms.{KeepsNodeRules, dest_name, name_lt, steps, top, way_by};
 ghost use Rattle.dn_walk.specs.declared.walks.WalkRow.{WalkRow};
-ghost use Rattle.dn_walk.specs.Terms.{is_cyclic, least_of, lesser_name, level_leads, levels_lead, row_view, start_names, told_leads};
+ghost use Rattle.dn_walk.specs.Terms.{bare_leads, is_cyclic, least_of, lesser_name, level_leads, row_view, start_names, walk_levels_lead};
 
 use crate::walks::WalkRow;
 use dn_base::items::Items;
@@ -29,7 +29,7 @@ pub(crate) fn least_start(rows: &[WalkRow], back: bool) -> Option<Name>
     let mut least = None;
     for row in rows {
         if counts(row, back) {
-            least = lesser(
+            least = lesser_name(
                 least,
                 Name {
                     node: row.start,
@@ -56,7 +56,7 @@ fn is_cycle(row: &WalkRow) -> bool
 }
 
 /// The lesser of two names.
-fn lesser(least: Option<Name>, name: Name) -> Option<Name>
+fn lesser_name(least: Option<Name>, name: Name) -> Option<Name>
     ensures { result ≡ lesser_name least name }
 {
     match least {
@@ -85,7 +85,7 @@ pub(crate) fn way(
     requires there { first.node < length net.now }
     requires sorted { All (λ level. IsNonDecreasingBy (λ (r : WalkRow). r.start) level) levels.now }
     ensures { IfOk result (λ names. names
-        ≡ first ∷ way_by (steps net.now) (levels_lead goal
+        ≡ first ∷ way_by (steps net.now) (walk_levels_lead goal
         (map (map row_view) levels.now)) (length levels.now) first) }
 {
     let mut names = Items::new(alloc);
@@ -121,7 +121,7 @@ fn least_leading(dests: &[Dest], offset: u64, level: &[WalkRow], goal: Goal) -> 
     requires reach { IsTrue (list_all (λ d. nat_le (d.addr + offset) top) dests.now) }
     requires sorted { IsNonDecreasingBy (λ (r : WalkRow). r.start) level.now }
     ensures { result ≡ least_of (filter (level_leads goal (map row_view level.now))
-        (map (moved offset) dests.now)) }
+        (map (dest_name offset) dests.now)) }
 {
     let mut least = None;
     for dest in dests {
@@ -130,7 +130,7 @@ fn least_leading(dests: &[Dest], offset: u64, level: &[WalkRow], goal: Goal) -> 
             addr: dest.addr + offset,
         };
         if does_lead(level, name, goal) {
-            least = lesser(least, name);
+            least = lesser_name(least, name);
         }
     }
     least
@@ -153,7 +153,7 @@ fn does_lead(level: &[WalkRow], name: Name, goal: Goal) -> bool
 
 /// Whether the row leads from an address of its start to the goal.
 fn leads(row: &WalkRow, name: Name, goal: Goal) -> bool
-    ensures { result ≡ told_leads goal name (row_view row.now) }
+    ensures { result ≡ bare_leads goal name (row_view row.now) }
 {
     if row.start != name.node || !row.span.contains(name.addr) {
         return false;

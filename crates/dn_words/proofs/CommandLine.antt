@@ -17,7 +17,7 @@ use Rattle.clap.specs.declared.error.kind.ErrorKind.TheVariants.{UnknownArgument
 use Rattle.clap.proofs.WalkLemmas.{first_value-rows}
 use Rattle.dn_base.proofs.Booleans.{and_parts, not-true}
 use Rattle.dn_words.specs.Split.{Split, parts_found, parts_of, program}
-use Rattle.dn_words.specs.Words.{is_plain}
+use Rattle.dn_words.specs.Words.{is_plain_word}
 
 -- the program once it is built
 abbrev top : Shape
@@ -126,7 +126,7 @@ pub matches_two : (w n : Text) → IsWord w → IsWord n → matches_of program 
 matches_two w n p q = ap (λ (k : Walk). finished top.rules k.held) (two_walked w n p q)
 
 -- a word that does not begin with `-` is no flag
-is_word : (w : Text) → is_plain w ≡ true → IsWord w
+is_word : (w : Text) → is_plain_word w ≡ true → IsWord w
 is_word [] e = record { no_dashes = refl; no_long = refl; no_short = refl }
 is_word (x ∷ xs) e =
     let other : (x == 45) ≡ false = not-true (x == 45) e in
@@ -147,33 +147,33 @@ found_in f =
     (first_value-rows f (codes "N")) (first_value-rows f (codes "COMMAND"))
 
 -- words of which none begins with `-`, where they have no fault, are split into what was found in them
-pub found_parts : (ws : List Text) → list_all is_plain ws ≡ true → fault_of program ws ≡ [] → (f : Found) → rows_of f ≡ matches_of program ws → parts_found f ≡ parts_of ws
+pub found_parts : (ws : List Text) → list_all is_plain_word ws ≡ true → fault_of program ws ≡ [] → (f : Found) → rows_of f ≡ matches_of program ws → parts_found f ≡ parts_of ws
 unfolding parts_in
 found_parts [] plain e f r = let bad : MissingRequiredArgument ∷ [] ≡ [] = sym fault_none ∙ e in cc
 found_parts (w ∷ []) plain e f r =
-    let p = is_word w (and_parts (is_plain w) true plain).0 in
+    let p = is_word w (and_parts (is_plain_word w) true plain).0 in
     found_in f ∙ ap parts_in (r ∙ matches_one w p)
 found_parts (w ∷ n ∷ []) plain e f r =
-    let both = and_parts (is_plain w) (is_plain n && true) plain in
+    let both = and_parts (is_plain_word w) (is_plain_word n && true) plain in
     let p = is_word w both.0 in
-    let q = is_word n (and_parts (is_plain n) true both.1).0 in
+    let q = is_word n (and_parts (is_plain_word n) true both.1).0 in
     found_in f ∙ ap parts_in (r ∙ matches_two w n p q)
 found_parts (w ∷ n ∷ x ∷ rest) plain e f r =
-    let one = and_parts (is_plain w) (is_plain n && (is_plain x && list_all is_plain rest)) plain in
-    let two = and_parts (is_plain n) (is_plain x && list_all is_plain rest) one.1 in
-    let three = and_parts (is_plain x) (list_all is_plain rest) two.1 in
+    let one = and_parts (is_plain_word w) (is_plain_word n && (is_plain_word x && list_all is_plain_word rest)) plain in
+    let two = and_parts (is_plain_word n) (is_plain_word x && list_all is_plain_word rest) one.1 in
+    let three = and_parts (is_plain_word x) (list_all is_plain_word rest) two.1 in
     let bad : UnknownArgument ∷ [] ≡ [] = sym (fault_many w n x rest (is_word w one.0) (is_word n two.0) (is_word x three.0)) ∙ e in
     cc
 
 -- and where they have one, they are neither one word nor two
-pub no_parts : (ws : List Text) → list_all is_plain ws ≡ true → (k : ErrorKind) → IsAmong k (fault_of program ws) → None ≡ parts_of ws
+pub no_parts : (ws : List Text) → list_all is_plain_word ws ≡ true → (k : ErrorKind) → IsAmong k (fault_of program ws) → None ≡ parts_of ws
 no_parts [] plain k a = refl
 no_parts (w ∷ []) plain k a =
-    let p = is_word w (and_parts (is_plain w) true plain).0 in
+    let p = is_word w (and_parts (is_plain_word w) true plain).0 in
     absurd (subst (IsAmong k) (fault_one w p) a)
 no_parts (w ∷ n ∷ []) plain k a =
-    let both = and_parts (is_plain w) (is_plain n && true) plain in
+    let both = and_parts (is_plain_word w) (is_plain_word n && true) plain in
     let p = is_word w both.0 in
-    let q = is_word n (and_parts (is_plain n) true both.1).0 in
+    let q = is_word n (and_parts (is_plain_word n) true both.1).0 in
     absurd (subst (IsAmong k) (fault_two w n p q) a)
 no_parts (w ∷ n ∷ x ∷ rest) plain k a = refl

@@ -7,9 +7,9 @@ use Rattle.dn_words.specs.declared.words.Task.{Task}
 use Rattle.dn_words.specs.declared.words.Task.TheVariants.{Run, Check, Demo}
 
 -- a word that does not begin with `-`
-abbrev pub is_plain : List ℕ → Bool
-is_plain [] = true
-is_plain (x ∷ xs) = not (x == 45)
+abbrev pub is_plain_word : List ℕ → Bool
+is_plain_word [] = true
+is_plain_word (x ∷ xs) = not (x == 45)
 
 -- the number from 1 to 64 of which this is the decimal text
 unfoldable pub agents_of : List ℕ → Option ℕ

@@ -4,7 +4,7 @@ ghost use Rattle.std.specs.Prelude.{◌≡◌, map, option_map, IfOk, IsTrue};
 ghost use Rattle.std.specs.List.{list_all};
 ghost use Rattle.std.specs.String.{string_bytes};
 ghost use Rattle.clap.specs.Words.{app_of, found_of};
-ghost use Rattle.dn_words.specs.Terms.{is_plain, parts_found, parts_of, parts_view, program};
+ghost use Rattle.dn_words.specs.Terms.{is_plain_word, parts_found, parts_of, parts_view, program};
 
 use clap::error::ErrorKind;
 use clap::{Arg, ArgMatches, Command};
@@ -22,7 +22,7 @@ pub(crate) struct Parts<'a> {
 /// Splits words of which none begins with `-`. `None` exactly where there is none, or there are more than
 /// two. `Err` is want of memory.
 pub(crate) fn split<'a>(alloc: Global, words: &'a [String]) -> Result<Option<Parts<'a>>, AllocError>
-    requires { IsTrue (list_all (λ s. is_plain (string_bytes s)) words.now) }
+    requires { IsTrue (list_all (λ s. is_plain_word (string_bytes s)) words.now) }
     ensures { IfOk result (λ parts. option_map parts_view parts
         ≡ parts_of (map (λ s. string_bytes s) words.entry.now)) }
 {

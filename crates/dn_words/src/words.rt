@@ -3,7 +3,7 @@
 ghost use Rattle.std.specs.Prelude.{◌≡◌, [], ◌∷◌, ◌++◌, IfOk, OnOk, OnErr, map, option_map};
 ghost use Rattle.std.specs.List.{list_all};
 ghost use Rattle.std.specs.String.{string_bytes};
-ghost use Rattle.dn_words.specs.Terms.{HasAgents, is_plain, task_of, task_of_parts, task_of_word};
+ghost use Rattle.dn_words.specs.Terms.{HasAgents, is_plain_word, task_of, task_of_parts, task_of_word};
 
 use crate::split::Parts;
 use crate::{number, split};
@@ -77,7 +77,7 @@ impl Words {
 
 /// Whether no word begins with `-`.
 fn are_plain(words: &[String]) -> bool
-    ensures { result ≡ list_all (λ s. is_plain (string_bytes s)) words.now }
+    ensures { result ≡ list_all (λ s. is_plain_word (string_bytes s)) words.now }
 {
     words
         .iter()

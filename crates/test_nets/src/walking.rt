@@ -12,7 +12,7 @@ use test_kit::texts::net_of;
 /// What `walks` answers for the net of a text: the rows, each as `start lo-hi end@base len`, with the addresses
 /// in hexadecimal, or the rule that is broken, with the names and units that it shows. A net whose units have
 /// other shapes than units may have is refused.
-fn told(alloc: Global, text: &str) -> Result<String, Fail> {
+fn walking_text(alloc: Global, text: &str) -> Result<String, Fail> {
     let net = net_of(alloc, text)?;
     net.check_nodes(alloc)?;
     if !net.has_plain_units() {
@@ -70,7 +70,7 @@ fn push_numbers(text: &mut String, units: &[u16]) -> Result<(), AllocError> {
 /// Compares what is told of each text with what is wanted.
 fn compare_each<R: Abort + AllocGlobal>(rt: &R, rows: &[(&str, &str)]) -> Result<(), Fail> {
     for (text, wanted) in rows {
-        let told = told(rt.alloc(), text)?;
+        let told = walking_text(rt.alloc(), text)?;
         assert_eq!(rt; told.as_str(), *wanted, "{text}");
     }
     Ok(())
@@ -209,7 +209,7 @@ fn ends_chains_at_sixty_four_steps(rt: HostRuntime) -> Result<(), Fail> {
         ),
     ];
     for (text, front, end) in rows {
-        let told = told(rt.alloc(), text)?;
+        let told = walking_text(rt.alloc(), text)?;
         assert!(rt; told.as_str().starts_with(front), "{text}");
         assert!(rt; told.as_str().ends_with(end), "{text}");
     }

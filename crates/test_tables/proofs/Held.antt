@@ -12,7 +12,7 @@ use Rattle.dn_net.specs.declared.node.NodeDecl.{NodeDecl}
 use Rattle.dn_net.specs.declared.node.Unit.{Unit as UnitPart}
 use Rattle.dn_net.specs.Decode.{unit_at}
 use Rattle.dn_kind.specs.declared.unit_kind.Record.{Record}
-use Rattle.dn_kind.specs.Kind.{Meaning, is_plain}
+use Rattle.dn_kind.specs.Kind.{Meaning, is_plain_unit_shape}
 use Rattle.dn_kind.specs.Tables.{slot_words}
 use Rattle.dn_kind.specs.Units.{KeepsUnitShape, fits_shape, unit_shape}
 use Rattle.dn_tables.specs.declared.table.NodeTable.{NodeTable}
@@ -63,7 +63,7 @@ unit_at_net (t ∷ ts) (n ∷ ns) (suc i) u e is = let f : units_of ts ≡ map (
 pub packable : (kinds : List Meaning) (set : List NodeTable) (net : List NodeDecl) (i : ℕ) (r : Record) → KeepsUnitShape kinds net → units_of set ≡ map (λ n. n.unit) net → ((u : UnitPart) → unit_in set i ≡ Some u → CanHold (unit_shape u) r) → IsPackableIn kinds set i r
 packable kinds set net i r shaped e holds = λ u kind is at.
     let h = holds u is in
-    let s = and_parts (is_plain (unit_shape u)) (fits_shape (slice_get kinds u.kind) (unit_shape u)) (shaped.shaped i u (unit_at_net set net i u e is)) in
+    let s = and_parts (is_plain_unit_shape (unit_shape u)) (fits_shape (slice_get kinds u.kind) (unit_shape u)) (shaped.shaped i u (unit_at_net set net i u e is)) in
     record {
       plain = h.plain;
       fits = subst (λ k. IsTrue (fits_shape k (unit_shape u))) at s.1;

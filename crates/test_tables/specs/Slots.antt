@@ -8,7 +8,7 @@ use Rattle.dn_net.specs.declared.node.NodeDecl.{NodeDecl}
 use Rattle.dn_net.specs.declared.node.Unit.{Unit as UnitPart}
 use Rattle.dn_kind.specs.declared.shape.Shape.{Shape}
 use Rattle.dn_kind.specs.declared.unit_kind.Record.{Record}
-use Rattle.dn_kind.specs.Kind.{IsLawful, Meaning, is_plain, is_within}
+use Rattle.dn_kind.specs.Kind.{IsLawful, Meaning, is_plain_unit_shape, is_within}
 use Rattle.dn_kind.specs.Rights.{are_rights}
 use Rattle.dn_kind.specs.Units.{IsLegalWith, unit_shape}
 use Rattle.dn_tables.specs.declared.table.NodeTable.{NodeTable}
@@ -17,7 +17,7 @@ use Rattle.test_tables.specs.declared.slots.Bench.{Bench}
 
 -- a unit of this shape, whatever its kind, can hold the record
 pub record CanHold (shape : Shape) (r : Record) : Type 0 where
-  pub plain : IsTrue (is_plain shape)
+  pub plain : IsTrue (is_plain_unit_shape shape)
   pub within : IsTrue (is_within shape r)
   pub rights : IsTrue (are_rights r.rights)
 

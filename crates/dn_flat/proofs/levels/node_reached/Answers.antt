@@ -8,8 +8,8 @@ use Rattle.dn_interval.specs.Strands.{segs_give}
 use Rattle.dn_net.specs.declared.node.Name.{Name}
 use Rattle.dn_net.specs.Chain.{Ends}
 use Rattle.dn_net.specs.Decode.{is_stop, steps, step_limit}
+use Rattle.dn_walk.specs.Ends.{name_of_end}
 use Rattle.dn_flat.specs.Stages.{EndsBefore}
-use Rattle.dn_flat.specs.Views.{name_of_end}
 use Rattle.dn_flat.proofs.Bounds.{last_level, ended_level, none_goes}
 use Rattle.dn_flat.proofs.Frontier.{goes_further, stops_further}
 use Rattle.dn_flat.proofs.Lists.{none_of}

@@ -5,7 +5,7 @@ use Rattle.dn_kind.specs.Kind.{Meaning}
 use Rattle.dn_tables.proofs.Fresh.{shape_there}
 use Rattle.dn_image.specs.declared.fault.ImageFault.{ImageFault}
 use Rattle.dn_image.specs.Image.{count_unit}
-use Rattle.dn_image.specs.Reading.{Field, Passes, broken_in, unit_fields, units_fields}
+use Rattle.dn_image.specs.Reading.{Field, PassesFields, broken_in, unit_fields, units_fields}
 use Rattle.dn_image.proofs.Places.{fields_step, count_least}
 use Rattle.dn_image.proofs.check.check_heads.Given.{Over}
 use Rattle.dn_image.proofs.check.check_heads.Goals.{After-unit-unit}
@@ -51,7 +51,7 @@ returns-in_err-at-clause-passes g c =
     let o = option_copied c.unit-unit.result in
     let next : List Field = units_fields kinds (count_unit o c.loop-node.place) (c.loop-node.node + 1) (drop (c.loop-node.node + 1) c.args.net.now) in
     let same : c.from_residual.result ≡ Err c.in_err-at.field-0.0 = search rules in
-    subst (λ (r : Result ℕ ImageFault). Passes c.args.total c.args.rest.now (units_fields kinds 0 0 c.args.net.now) (λ size. size) r) (sym same) (λ more. before g (goal.at.returns-in_err-at-clause-passes g c).After-unit-unit more ∙ c.in_err-at.ensures.passes (next ++ more))
+    subst (λ (r : Result ℕ ImageFault). PassesFields c.args.total c.args.rest.now (units_fields kinds 0 0 c.args.net.now) (λ size. size) r) (sym same) (λ more. before g (goal.at.returns-in_err-at-clause-passes g c).After-unit-unit more ∙ c.in_err-at.ensures.passes (next ++ more))
 
 pub returns-clause-passes : goal.returns-clause-passes
 returns-clause-passes g c =

@@ -4,7 +4,7 @@ use Rattle.std.proofs.lemmas.List.{drop_all}
 use Rattle.dn_kind.specs.Kind.{Meaning}
 use Rattle.dn_tables.specs.Set.{words_of, words_in}
 use Rattle.byteorder.specs.Endian.{little_bytes}
-use Rattle.dn_image.specs.Image.{mark, written_version, unit_bytes, units_bytes}
+use Rattle.dn_image.specs.Image.{image_mark, written_version, unit_bytes, units_bytes}
 use Rattle.dn_image.proofs.Places.{unit_of_net, bytes_step}
 use Rattle.dn_image.proofs.write.write.Goals as goal
 
@@ -16,8 +16,8 @@ loop-node-init g c =
       last = c.nodes-node-end.ensures;
       whole =
           ap (λ (l : List ℕ). l ++ units) c.in_ok-push_header.ensures
-          ∙ ap (λ (l : List ℕ). (l ++ (mark ++ (little_bytes 2 written_version ++ little_bytes 2 c.count_units.result))) ++ units) c.in_ok-out.ensures.items
-          ∙ ap (λ n. (mark ++ (little_bytes 2 written_version ++ little_bytes 2 n)) ++ units) c.count_units.ensures;
+          ∙ ap (λ (l : List ℕ). (l ++ (image_mark ++ (little_bytes 2 written_version ++ little_bytes 2 c.count_units.result))) ++ units) c.in_ok-out.ensures.items
+          ∙ ap (λ n. (image_mark ++ (little_bytes 2 written_version ++ little_bytes 2 n)) ++ units) c.count_units.ensures;
     }
 
 pub push_node-requires-clause-unit : goal.push_node-requires-clause-unit

@@ -15,10 +15,10 @@ use Rattle.dn_interval.proofs.rows.sweep.Goals as goal
 turn : (c : After-as_slice-in-rows) → Turn (strands_give c.args.strands.now) c.rows.rows.items c.first_address-from.result c.as_slice-in-rows.result.now c.split_at.result.1.now
 turn c =
     let first = c.first_address-from.ensures in
-    let begun = c.begun_at.ensures in
+    let begun = c.begin_count.ensures in
     let runs_are = c.as_slice-in-rows.ensures.value ∙ c.in_ok-extend_from_slice.ensures.items ∙ ap (λ l. c.rows.running.items ++ l) c.split_at.ensures.front in
     let some : 0 < length c.as_slice.result.now + length c.rows.rest.now = grind (arith, nat_tests) in
-    turn_is c.first_address-from.result c.begun_at.result c.rows.running.items c.rows.rest.now c.as_slice-in-rows.result.now c.split_at.result.1.now runs_are c.split_at.ensures.back _ _ c.rows.from c.as_slice.result.now c.rows.invariant c.as_slice.ensures.value some first.runs first.begins first.onward first.rest_stays begun.begun begun.later_ones
+    turn_is c.first_address-from.result c.begin_count.result c.rows.running.items c.rows.rest.now c.as_slice-in-rows.result.now c.split_at.result.1.now runs_are c.split_at.ensures.back _ _ c.rows.from c.as_slice.result.now c.rows.invariant c.as_slice.ensures.value some first.runs first.begins first.onward first.rest_stays begun.begun begun.later_ones
 
 pub last_address-hi-requires-clause-some : goal.last_address-hi-requires-clause-some
 last_address-hi-requires-clause-some c = (turn (goal.at.last_address-hi-requires-clause-some c).After-as_slice-in-rows).some

@@ -32,10 +32,10 @@ loop-seg-preserved c =
     elim c.if-goes_on.branch [
       | then-goes_on w ↦
           let on = sym c.goes_on.ensures ∙ w.if-goes_on.true in
-          let u = w.extended-current.ensures in
+          let u = w.longer_seg-current.ensures in
           subst (λ v. Turning c.if-goes_on.rows.items v later xs) (sym w.current-is)
-          (subst (λ o. Turning o.items w.extended-current.result later xs) (sym w.rows-is)
-          (turn_longer rows s t later xs state w.extended-current.result u.lo u.hi u.node u.base u.gives))
+          (subst (λ o. Turning o.items w.longer_seg-current.result later xs) (sym w.rows-is)
+          (turn_longer rows s t later xs state w.longer_seg-current.result u.lo u.hi u.node u.base u.gives))
       | else-goes_on+in_ok-push w ↦
           let off = sym c.goes_on.ensures ∙ w.if-goes_on.false in
           let ok : is_ok w.push.result ≡ true = search rules in
@@ -53,9 +53,9 @@ returns-clause-same c =
     let rows = c.loop-seg.rows.items in
     let s = c.loop-seg.current in
     let state = subst (λ l. Turning rows s l xs) (drop_all c.loop-seg.seg-index rest c.loop-seg-test.false) c.loop-seg.invariant in
-    λ a y. ap (λ l. rows_give l a y) (c.in_ok-push-2.ensures.items ∙ ap (λ r. rows ++ r ∷ []) c.single-2.ensures) ∙ turn_ended rows s xs state a y
+    λ a y. ap (λ l. rows_give l a y) (c.in_ok-push-2.ensures.items ∙ ap (λ r. rows ++ r ∷ []) c.row_of_seg-2.ensures) ∙ turn_ended rows s xs state a y
 
 pub returns-clause-apart : goal.returns-clause-apart
 returns-clause-apart c =
     let rows = c.loop-seg.rows.items in
-    subst (Apart 0) (sym (c.in_ok-push-2.ensures.items ∙ ap (λ r. rows ++ r ∷ []) c.single-2.ensures)) c.loop-seg.invariant.apart
+    subst (Apart 0) (sym (c.in_ok-push-2.ensures.items ∙ ap (λ r. rows ++ r ∷ []) c.row_of_seg-2.ensures)) c.loop-seg.invariant.apart

@@ -14,8 +14,8 @@ permuted xs ys p a y = list_any-IsPermutation (λ s. strand_gives s a y) xs ys p
 maximal_permuted : (xs ys : List Strand) → IsPermutation xs ys → All (IsMaximal (strands_give xs)) xs → All (IsMaximal (strands_give ys)) ys
 maximal_permuted xs ys p m = λ k d l a y e b. sym (permuted xs ys p a y) ∙ (All-permutation (IsMaximal (strands_give xs)) xs ys p m) k d l a y e b
 
-pub joined-requires : goal.joined-requires
-joined-requires c =
+pub joined_strands-requires : goal.joined_strands-requires
+joined_strands-requires c =
     subst (IsSorted strand_cmp) (sym c.as_slice.ensures.value) (c.in_ok-sort_by_key.ensures.sorted (λ (s : Strand). (s.node, s.slide, s.span.lo)) (answers_always _ _ _ (λ f a r g h. search rules)))
 
 pub returns-clause-same : goal.returns-clause-same

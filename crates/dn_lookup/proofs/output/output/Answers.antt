@@ -1,7 +1,7 @@
 use Rattle.std.proofs.Common.{◌≡◌, ◌∙◌, ◌≤◌, ◌/◌, ◌^◌, ap, sym, map, slice_get, Some, None, IsTrue, if◌then◌else◌, rules, arith}
 use Rattle.std.specs.Option.{option_map, option_copied}
 use Rattle.std.specs.List.{All}
-use Rattle.dn_kind.specs.Kind.{IsLawful, is_plain}
+use Rattle.dn_kind.specs.Kind.{IsLawful, is_plain_unit_shape}
 use Rattle.dn_kind.specs.Tables.{record_held}
 use Rattle.dn_kind.specs.Units.{unit_shape}
 use Rattle.dn_tables.proofs.Fresh.{shape_there, plain_there}
@@ -18,7 +18,7 @@ use Rattle.dn_lookup.proofs.output.output.Goals as goal
 there : (g : Over) (c : In_ok-unit g) → option_map (λ d. d.unit) (slice_get c.args.image.net.now c.args.name.node) ≡ Some (Some c.in_ok-unit.unit.now)
 there g c = c.unit.ensures ∙ ap (λ o. Some (option_copied o)) c.in_ok-unit.was
 
-plain : (g : Over) (c : In_ok-unit g) → IsTrue (is_plain (unit_shape c.in_ok-unit.unit.now))
+plain : (g : Over) (c : In_ok-unit g) → IsTrue (is_plain_unit_shape (unit_shape c.in_ok-unit.unit.now))
 plain g c = plain_there (map (λ k. (goal.UnitKind-dyn g (k.vtable, k.value)).meaning k.value) c.args.image.kinds.now.list.items) c.in_ok-unit.unit.now (shape_there (map (λ k. (goal.UnitKind-dyn g (k.vtable, k.value)).meaning k.value) c.args.image.kinds.now.list.items) c.args.image.net.now c.args.name.node (Some c.in_ok-unit.unit.now) c.requires.image.is.shaped (there g c))
 
 stop : (g : Over) (c : In_ok-unit g) → IsStopIn c.args.image.net.now c.args.name c.in_ok-unit.unit.now
@@ -33,18 +33,18 @@ overflow_shr-slot g c =
     let page : c.in_ok-unit.unit.now.page ≤ 40 = (has_pages (unit_shape c.in_ok-unit.unit.now) (plain g (goal.at.overflow_shr-slot g c).In_ok-unit)).page in
     omega arith
 
-pub sent-requires-clause-plain : goal.sent-requires-clause-plain
-sent-requires-clause-plain g c = plain g (goal.at.sent-requires-clause-plain g c).In_ok-unit
+pub output_name-requires-clause-plain : goal.output_name-requires-clause-plain
+output_name-requires-clause-plain g c = plain g (goal.at.output_name-requires-clause-plain g c).In_ok-unit
 
-pub sent-requires-clause-within : goal.sent-requires-clause-within
-sent-requires-clause-within g c =
+pub output_name-requires-clause-within : goal.output_name-requires-clause-within
+output_name-requires-clause-within g c =
     let lawful : All IsLawful (map (λ k. (goal.UnitKind-dyn g (k.vtable, k.value)).meaning k.value) c.args.image.kinds.now.list.items) = all_of_map (λ k. (goal.UnitKind-dyn g (k.vtable, k.value)).meaning k.value) c.args.image.kinds.now.list.items c.requires.image.lawful in
-    within_unit c.args.image.net.now (map (λ k. (goal.UnitKind-dyn g (k.vtable, k.value)).meaning k.value) c.args.image.kinds.now.list.items) (image_words c.args.image.net.now (map (λ k. (goal.UnitKind-dyn g (k.vtable, k.value)).meaning k.value) c.args.image.kinds.now.list.items) c.args.image.bytes.now) c.args.name (c.args.name.addr / 2 ^ c.in_ok-unit.unit.now.page) c.in_ok-unit.unit.now c.in_ok-record.record lawful (stop g (goal.at.sent-requires-clause-within g c).In_ok-unit).unit (held g (goal.at.sent-requires-clause-within g c).In_ok-record)
+    within_unit c.args.image.net.now (map (λ k. (goal.UnitKind-dyn g (k.vtable, k.value)).meaning k.value) c.args.image.kinds.now.list.items) (image_words c.args.image.net.now (map (λ k. (goal.UnitKind-dyn g (k.vtable, k.value)).meaning k.value) c.args.image.kinds.now.list.items) c.args.image.bytes.now) c.args.name (c.args.name.addr / 2 ^ c.in_ok-unit.unit.now.page) c.in_ok-unit.unit.now c.in_ok-record.record lawful (stop g (goal.at.output_name-requires-clause-within g c).In_ok-unit).unit (held g (goal.at.output_name-requires-clause-within g c).In_ok-record)
 
 pub returns : goal.returns
 returns g c =
     let through : (bytes_records c.args.image.net.now (map (λ k. (goal.UnitKind-dyn g (k.vtable, k.value)).meaning k.value) c.args.image.kinds.now.list.items) c.args.image.bytes.now c.args.image.version c.args.access) c.args.name.node (c.args.name.addr / 2 ^ c.in_ok-unit.unit.now.page) ≡ Some c.in_ok-record.record = ap (record_through c.args.image.version c.args.access) (held g (goal.at.returns g c).In_ok-record) ∙ ap (λ b. if b then Some c.in_ok-record.record else None) (sym c.lets_through.ensures ∙ c.if-not-lets_through.false) in
-    c.sent.ensures ∙ sym (step_in c.args.image.net.now (bytes_records c.args.image.net.now (map (λ k. (goal.UnitKind-dyn g (k.vtable, k.value)).meaning k.value) c.args.image.kinds.now.list.items) c.args.image.bytes.now c.args.image.version c.args.access) c.args.name c.in_ok-unit.unit.now (Some c.in_ok-record.record) (stop g (goal.at.returns g c).In_ok-unit) through)
+    c.output_name.ensures ∙ sym (step_in c.args.image.net.now (bytes_records c.args.image.net.now (map (λ k. (goal.UnitKind-dyn g (k.vtable, k.value)).meaning k.value) c.args.image.kinds.now.list.items) c.args.image.bytes.now c.args.image.version c.args.access) c.args.name c.in_ok-unit.unit.now (Some c.in_ok-record.record) (stop g (goal.at.returns g c).In_ok-unit) through)
 
 pub returns-then-not-lets_through : goal.returns-then-not-lets_through
 returns-then-not-lets_through g c =

@@ -5,7 +5,7 @@ use Rattle.dn_base.specs.Answers.{Answers}
 use Rattle.dn_parse.specs.Views.{tree_view}
 use Rattle.dn_module.specs.Expand.{all_rewritings, most_steps, nothing_yet, outside, statements}
 use Rattle.dn_module.specs.Finish.{outcome_view}
-use Rattle.dn_module.specs.Machine.{state_view}
+use Rattle.dn_module.specs.Machine.{expansion_state_view}
 use Rattle.dn_module.specs.Stack.{body_view}
 use Rattle.dn_module.specs.Faults.{expand_fault_view}
 use Rattle.dn_module.proofs.Whole.{body_fault, body_made}
@@ -16,7 +16,7 @@ pub finish-requires : goal.finish-requires
 finish-requires g c =
     let kinds = map (λ k. (goal.UnitKind-dyn g (k.vtable, k.value)).meaning k.value) c.args.kinds.now.list.items in
     let body = ap (λ b. all_rewritings kinds most_steps (statements outside (body_view b)) nothing_yet) c.as_slice.ensures.value in
-    record { formed = drafts_formed kinds (tree_view c.args.tree.now) (state_view c.in_ok-made.made) (sym body ∙ c.in_ok-made.ensures) }
+    record { formed = drafts_formed kinds (tree_view c.args.tree.now) (expansion_state_view c.in_ok-made.made) (sym body ∙ c.in_ok-made.ensures) }
 
 pub returns-in_err-made-clause-expansion : goal.returns-in_err-made-clause-expansion
 returns-in_err-made-clause-expansion g c =
@@ -29,7 +29,7 @@ pub returns-clause-expansion : goal.returns-clause-expansion
 returns-clause-expansion g c =
     let kinds = map (λ k. (goal.UnitKind-dyn g (k.vtable, k.value)).meaning k.value) c.args.kinds.now.list.items in
     let body = ap (λ b. all_rewritings kinds most_steps (statements outside (body_view b)) nothing_yet) c.as_slice.ensures.value in
-    subst (Answers outcome_view expand_fault_view c.finish.result) (body_made kinds (tree_view c.args.tree.now) (state_view c.in_ok-made.made) (sym body ∙ c.in_ok-made.ensures)) c.finish.ensures
+    subst (Answers outcome_view expand_fault_view c.finish.result) (body_made kinds (tree_view c.args.tree.now) (expansion_state_view c.in_ok-made.made) (sym body ∙ c.in_ok-made.ensures)) c.finish.ensures
 
 pub returns-clause-units : goal.returns-clause-units
 returns-clause-units g c =

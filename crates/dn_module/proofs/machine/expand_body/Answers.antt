@@ -1,16 +1,16 @@
 use Rattle.std.proofs.Common.{◌∙◌, sym, arith, map, ◌<◌}
 use Rattle.std.proofs.lemmas.Result.{err_from_is_err_and}
 use Rattle.dn_module.specs.Expand.{most_steps, statements, outside, nothing_yet}
-use Rattle.dn_module.specs.Machine.{state_view}
+use Rattle.dn_module.specs.Machine.{expansion_state_view}
 use Rattle.dn_module.specs.Faults.{expand_fault_view}
-use Rattle.dn_module.specs.Stack.{body_view, stack_works}
+use Rattle.dn_module.specs.Stack.{body_view, stack_view}
 use Rattle.dn_module.proofs.Works.{most_steps_are, begun, work_first, step_on, fault_on}
 use Rattle.dn_module.proofs.machine.expand_body.Goals as goal
 
 pub loop-work-init : goal.loop-work-init
 loop-work-init g c =
     let kinds = map (λ k. (goal.UnitKind-dyn g (k.vtable, k.value)).meaning k.value) c.args.kinds.now.list.items in
-    begun kinds most_steps 65536 (statements outside (body_view c.args.body.now)) (stack_works c.new-stack.result) nothing_yet _
+    begun kinds most_steps 65536 (statements outside (body_view c.args.body.now)) (stack_view c.new-stack.result) nothing_yet _
     most_steps_are (sym c.new-stack.ensures) (λ i. record { modules = sym c.new.ensures i; drafts = sym c.new-2.ensures i })
 
 pub loop-work-preserved : goal.loop-work-preserved
@@ -19,7 +19,7 @@ loop-work-preserved g c =
     let more : 0 < c.loop-work.left = omega arith in
     c.loop-work.invariant
     ∙ work_first kinds c.loop-work.left _ _ _ c.in-Some.ensures.some
-    ∙ step_on kinds c.loop-work.left _ _ _ (stack_works c.step.new.stack, state_view c.step.new.made) more c.in_ok-step.ensures
+    ∙ step_on kinds c.loop-work.left _ _ _ (stack_view c.step.new.stack, expansion_state_view c.step.new.made) more c.in_ok-step.ensures
 
 pub returns-in_err-step : goal.returns-in_err-step
 returns-in_err-step g c =

@@ -1,13 +1,13 @@
 use Rattle.std.proofs.Common.{◌≡◌, map}
 use Rattle.dn_module.specs.Expand.{all_rewritings, most_steps, statements, outside, nothing_yet}
-use Rattle.dn_module.specs.Stack.{body_view, stack_works}
-use Rattle.dn_module.specs.Machine.{state_view}
+use Rattle.dn_module.specs.Stack.{body_view, stack_view}
+use Rattle.dn_module.specs.Machine.{expansion_state_view}
 use Rattle.dn_module.proofs.machine.expand_body.Given as goal
 
 abbrev pub invariant-loop-work : goal.invariant-loop-work
 invariant-loop-work g l =
     let kinds = map (λ k. (goal.UnitKind-dyn g (k.vtable, k.value)).meaning k.value) l.fn.kinds.list.items in
-    all_rewritings kinds most_steps (statements outside (body_view l.fn.body)) nothing_yet ≡ all_rewritings kinds l.left (stack_works l.stack) (state_view l.made)
+    all_rewritings kinds most_steps (statements outside (body_view l.fn.body)) nothing_yet ≡ all_rewritings kinds l.left (stack_view l.stack) (expansion_state_view l.made)
 
 abbrev pub decreases-loop-work : goal.decreases-loop-work
 decreases-loop-work g l = l.left

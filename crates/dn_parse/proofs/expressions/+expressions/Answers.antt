@@ -14,13 +14,13 @@ use Rattle.dn_parse.proofs.Series.{halted}
 use Rattle.dn_parse.proofs.Nested.{factor_nested, members_begun, one_member, row_ends, row_halts, row_stops}
 use Rattle.dn_parse.proofs.expressions.+expressions.Goals as goal
 
-pub joined-returns-in_err-first-clause-gives : goal.joined-returns-in_err-first-clause-gives
-joined-returns-in_err-first-clause-gives t c =
+pub row_expr-returns-in_err-first-clause-gives : goal.row_expr-returns-in_err-first-clause-gives
+row_expr-returns-in_err-first-clause-gives t c =
     let p = err_from_is_err_and c.from_residual.result c.from_residual.ensures.1 in
     rw (p.1, p.2) (halted _ _ _ c.in_err-first.ensures.gives (row_stops c.args.row c.args.depth (cursor_view c.args.tokens.now)))
 
-pub joined-more-init : goal.joined-more-init
-joined-more-init t c =
+pub row_expr-more-init : goal.row_expr-more-init
+row_expr-more-init t c =
     let less = member_shortens _ _ _ _ c.in-Some.is c.in_ok-next.ensures.shorter in
     let several = ap length c.in_ok-members.ensures in
     record {
@@ -29,8 +29,8 @@ joined-more-init t c =
       before = member_found expr_view (_ ∷ []) _ _ _ _ _ (members_begun c.args.row c.args.depth _ _ _ c.in_ok-first.ensures.gives) c.in_ok-next.ensures.gives c.in-Some.is c.in_ok-next.ensures.shorter c.in_ok-members.ensures;
     }
 
-pub joined-more-preserved : goal.joined-more-preserved
-joined-more-preserved t c =
+pub row_expr-more-preserved : goal.row_expr-more-preserved
+row_expr-more-preserved t c =
     let less = member_shortens _ _ _ _ c.in-Some-2.is c.in_ok-member.ensures.shorter in
     let several = ap length c.in_ok-push.ensures.items in
     record {
@@ -39,25 +39,25 @@ joined-more-preserved t c =
       before = member_found expr_view _ _ _ _ _ _ c.more.invariant.before c.in_ok-member.ensures.gives c.in-Some-2.is c.in_ok-member.ensures.shorter c.in_ok-push.ensures.items;
     }
 
-pub joined-returns-in_err-next-clause-gives : goal.joined-returns-in_err-next-clause-gives
-joined-returns-in_err-next-clause-gives t c =
+pub row_expr-returns-in_err-next-clause-gives : goal.row_expr-returns-in_err-next-clause-gives
+row_expr-returns-in_err-next-clause-gives t c =
     let p = err_from_is_err_and c.from_residual-in_err-next.result c.from_residual-in_err-next.ensures.1 in
     rw (p.1, p.2) (halted _ _ _ c.in_err-next.ensures.gives (row_halts c.args.row c.args.depth (cursor_view c.args.tokens.now) _ _ (members_begun c.args.row c.args.depth _ _ _ c.in_ok-first.ensures.gives)))
 
-pub joined-returns-in_err-member-clause-gives : goal.joined-returns-in_err-member-clause-gives
-joined-returns-in_err-member-clause-gives t c =
+pub row_expr-returns-in_err-member-clause-gives : goal.row_expr-returns-in_err-member-clause-gives
+row_expr-returns-in_err-member-clause-gives t c =
     let p = err_from_is_err_and c.from_residual-in_err-member.result c.from_residual-in_err-member.ensures.1 in
     rw (p.1, p.2) (halted _ _ _ c.in_err-member.ensures.gives (row_halts c.args.row c.args.depth (cursor_view c.args.tokens.now) _ _ c.more.invariant.before))
 
-pub joined-returns-in_default-clause-gives : goal.joined-returns-in_default-clause-gives
-joined-returns-in_default-clause-gives t c =
+pub row_expr-returns-in_default-clause-gives : goal.row_expr-returns-in_default-clause-gives
+row_expr-returns-in_default-clause-gives t c =
     let none = none_read expr_view _ _ _ c.in_ok-next.ensures.gives c.in_default.is in
     let stays = none_stays _ _ _ c.in_default.is c.in_ok-next.ensures.shorter in
     one_member c.args.row c.args.depth (cursor_view c.args.tokens.now) _ _ c.in_ok-first.ensures.gives none
     ∙ ap (λ (l : List Token). Ok (expr_view c.in_ok-first.first, l)) (sym stays)
 
-pub joined-returns-clause-gives : goal.joined-returns-clause-gives
-joined-returns-clause-gives t c =
+pub row_expr-returns-clause-gives : goal.row_expr-returns-clause-gives
+row_expr-returns-clause-gives t c =
     let none = none_read expr_view _ _ _ c.in_ok-member.ensures.gives c.in_default-2.is in
     let stays = none_stays _ _ _ c.in_default-2.is c.in_ok-member.ensures.shorter in
     row_ends c.args.row c.args.depth (cursor_view c.args.tokens.now) _ _ c.more.invariant.before none

@@ -21,8 +21,8 @@ decreases-member l = 10 * l.depth + 1 + height l.row
 abbrev pub decreases-next_member : goal.decreases-next_member
 decreases-next_member l = 10 * l.depth + 2 + height l.row
 
-abbrev pub decreases-joined : goal.decreases-joined
-decreases-joined l = 10 * l.depth + 3 + height l.row
+abbrev pub decreases-row_expr : goal.decreases-row_expr
+decreases-row_expr l = 10 * l.depth + 3 + height l.row
 
 abbrev pub decreases-expr : goal.decreases-expr
 decreases-expr l = 10 * l.depth + 8
@@ -30,12 +30,12 @@ decreases-expr l = 10 * l.depth + 8
 abbrev pub decreases-after_open : goal.decreases-after_open
 decreases-after_open l = 10 * l.depth + 9
 
-abbrev pub invariant-joined-more : goal.invariant-joined-more
-invariant-joined-more l = record {
+abbrev pub invariant-row_expr-more : goal.invariant-row_expr-more
+invariant-row_expr-more l = record {
   several : 1 < length l.members.items;
   shorter : length (cursor_view l.tokens) < length (cursor_view l.fn.tokens);
   before : Found (next_member_at l.fn.row l.fn.depth) (members_at l.fn.row l.fn.depth (cursor_view l.fn.tokens)) (map expr_view l.members.items) (cursor_view l.tokens);
 }
 
-abbrev pub decreases-joined-more : goal.decreases-joined-more
-decreases-joined-more l = length (cursor_view l.tokens)
+abbrev pub decreases-row_expr-more : goal.decreases-row_expr-more
+decreases-row_expr-more l = length (cursor_view l.tokens)

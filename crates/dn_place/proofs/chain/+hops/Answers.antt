@@ -6,8 +6,8 @@ use Rattle.dn_interval.specs.declared.row.Row.{Row}
 use Rattle.dn_tables.specs.declared.placement.Hop.{Hop}
 use Rattle.dn_placement.specs.declared.request.Request.{Request}
 use Rattle.dn_placement.specs.Placement.{Meets}
-use Rattle.dn_place.specs.Hops.{hops_of}
-use Rattle.dn_place.specs.Rows.{AreToward, IsClear, wanted}
+use Rattle.dn_place.specs.Hops.{hops_view}
+use Rattle.dn_place.specs.Rows.{AreToward, IsClear, wanted_name}
 use Rattle.dn_place.specs.Marks.{AreUnitsFrom}
 use Rattle.dn_place.specs.Candidates.{to_unit, to_port, to_output, IsChosen}
 use Rattle.dn_place.proofs.Agents.{row_asked, row_fits, step, step_found, step_done, step_meets, only_there}
@@ -22,30 +22,30 @@ use Rattle.dn_place.proofs.chain.+hops.Goals.{by_hops-then-can_stand+in_ok-place
 use Rattle.dn_place.proofs.chain.+hops.Goals.{by_rows-in-Some+then-y-size+then-is_clear+in_ok-placement+in_default-2, by_rows-in-Some+else-y-size, by_rows-else-y-size-via-then-y-size+else-is_clear, by_rows-else-y-size-via-else-y-size, by_rows-in_default}
 
 pub by_hops-loop-unit-init : goal.by_hops-loop-unit-init
-by_hops-loop-unit-init g t c = sifted_begun (g.Q.Quest.sought c.args.quest.now) c.args.stage.count (hops_of c.args.stage.chosen) c.as_slice-units.result.now (subst (λ (l : List ℕ). AreUnitsFrom (g.Q.Quest.sought c.args.quest.now).net 0 l) (sym c.as_slice-units.ensures.value) c.requires.stage.units)
+by_hops-loop-unit-init g t c = sifted_begun (g.Q.Quest.sought c.args.quest.now) c.args.stage.count (hops_view c.args.stage.chosen) c.as_slice-units.result.now (subst (λ (l : List ℕ). AreUnitsFrom (g.Q.Quest.sought c.args.quest.now).net 0 l) (sym c.as_slice-units.ensures.value) c.requires.stage.units)
 
 pub by_hops-returns-in-Some : goal.by_hops-returns-in-Some
-by_hops-returns-in-Some g t c = sifted_found (g.Q.Quest.sought c.args.quest.now) c.args.stage.count (hops_of c.args.stage.chosen) c.as_slice-units.result.now c.loop-unit.unit-index (get_or c.as_slice-units.result.now c.loop-unit.unit-index 0) c.in-Some.placement (omega (arith, c.count.ensures, c.if-count-stage.false)) c.loop-unit-test.true refl (rw c.in-Some.is at c.in_ok-placement.ensures) c.loop-unit.invariant
+by_hops-returns-in-Some g t c = sifted_found (g.Q.Quest.sought c.args.quest.now) c.args.stage.count (hops_view c.args.stage.chosen) c.as_slice-units.result.now c.loop-unit.unit-index (get_or c.as_slice-units.result.now c.loop-unit.unit-index 0) c.in-Some.placement (omega (arith, c.count.ensures, c.if-count-stage.false)) c.loop-unit-test.true refl (rw c.in-Some.is at c.in_ok-placement.ensures) c.loop-unit.invariant
 
 pub by_hops-loop-unit-preserved : goal.by_hops-loop-unit-preserved
-by_hops-loop-unit-preserved g t c = sifted_on (g.Q.Quest.sought c.args.quest.now) c.args.stage.count (hops_of c.args.stage.chosen) c.as_slice-units.result.now c.loop-unit.unit-index (get_or c.as_slice-units.result.now c.loop-unit.unit-index 0) (omega (arith, c.count.ensures, c.if-count-stage.false)) c.loop-unit-test.true refl
+by_hops-loop-unit-preserved g t c = sifted_on (g.Q.Quest.sought c.args.quest.now) c.args.stage.count (hops_view c.args.stage.chosen) c.as_slice-units.result.now c.loop-unit.unit-index (get_or c.as_slice-units.result.now c.loop-unit.unit-index 0) (omega (arith, c.count.ensures, c.if-count-stage.false)) c.loop-unit-test.true refl
     (elim c.if-can_stand.branch [
       | by_hops-then-can_stand+in_ok-placement+in_default w ↦ rw w.in_default.is at w.in_ok-placement.ensures
-      | by_hops-else-can_stand w ↦ unmarked (g.Q.Quest.sought c.args.quest.now) c.args.stage.count (hops_of c.args.stage.chosen) (get_or c.as_slice-units.result.now c.loop-unit.unit-index 0) (c.args.stage.count - c.count-2.result) c.args.stage.reach.now.first.items c.args.stage.reach.now.second.items c.args.stage.reach.now.third.items c.requires.stage.ready c.requires.stage.marked (omega (arith, c.count.ensures, c.if-count-stage.false)) c.requires.stage.chosen.most (omega (arith, c.count-2.ensures)) (sym c.can_stand.ensures ∙ w.if-can_stand.false)
+      | by_hops-else-can_stand w ↦ unmarked (g.Q.Quest.sought c.args.quest.now) c.args.stage.count (hops_view c.args.stage.chosen) (get_or c.as_slice-units.result.now c.loop-unit.unit-index 0) (c.args.stage.count - c.count-2.result) c.args.stage.reach.now.first.items c.args.stage.reach.now.second.items c.args.stage.reach.now.third.items c.requires.stage.ready c.requires.stage.marked (omega (arith, c.count.ensures, c.if-count-stage.false)) c.requires.stage.chosen.most (omega (arith, c.count-2.ensures)) (sym c.can_stand.ensures ∙ w.if-can_stand.false)
     ])
     c.loop-unit.invariant
 
 pub by_hops-returns : goal.by_hops-returns
-by_hops-returns g t c = sifted_done (g.Q.Quest.sought c.args.quest.now) c.args.stage.count (hops_of c.args.stage.chosen) c.as_slice-units.result.now c.loop-unit.unit-index (omega (arith, c.count.ensures, c.if-count-stage.false)) c.loop-unit-test.false c.loop-unit.invariant
+by_hops-returns g t c = sifted_done (g.Q.Quest.sought c.args.quest.now) c.args.stage.count (hops_view c.args.stage.chosen) c.as_slice-units.result.now c.loop-unit.unit-index (omega (arith, c.count.ensures, c.if-count-stage.false)) c.loop-unit-test.false c.loop-unit.invariant
 
 pub by_unit-returns-in-Some-2 : goal.by_unit-returns-in-Some-2
-by_unit-returns-in-Some-2 g t c = found_first (g.Q.Quest.sought c.args.quest.now) (to_unit c.args.stage.count (hops_of c.args.stage.chosen) c.args.unit) c.loop-port.port c.in-Some-2.placement c.loop-port.invariant (rw c.in-Some-2.is at c.in_ok-placement.ensures)
+by_unit-returns-in-Some-2 g t c = found_first (g.Q.Quest.sought c.args.quest.now) (to_unit c.args.stage.count (hops_view c.args.stage.chosen) c.args.unit) c.loop-port.port c.in-Some-2.placement c.loop-port.invariant (rw c.in-Some-2.is at c.in_ok-placement.ensures)
 
 pub by_unit-loop-port-preserved : goal.by_unit-loop-port-preserved
-by_unit-loop-port-preserved g t c = next_one (g.Q.Quest.sought c.args.quest.now) (to_unit c.args.stage.count (hops_of c.args.stage.chosen) c.args.unit) c.loop-port.port c.loop-port.invariant (rw c.in_default-2.is at c.in_ok-placement.ensures)
+by_unit-loop-port-preserved g t c = next_one (g.Q.Quest.sought c.args.quest.now) (to_unit c.args.stage.count (hops_view c.args.stage.chosen) c.args.unit) c.loop-port.port c.loop-port.invariant (rw c.in_default-2.is at c.in_ok-placement.ensures)
 
 pub by_unit-returns : goal.by_unit-returns
-by_unit-returns g t c = ports_done (g.Q.Quest.sought c.args.quest.now) c.args.stage.count (hops_of c.args.stage.chosen) c.args.unit c.in-Some.translator.now c.loop-port.port c.requires.more c.in-Some.ensures.some (omega (arith, ap length c.as_slice.ensures)) c.loop-port.invariant
+by_unit-returns g t c = ports_done (g.Q.Quest.sought c.args.quest.now) c.args.stage.count (hops_view c.args.stage.chosen) c.args.unit c.in-Some.translator.now c.loop-port.port c.requires.more c.in-Some.ensures.some (omega (arith, ap length c.as_slice.ensures)) c.loop-port.invariant
 
 pub by_port-levels-requires-clause-there : goal.by_port-levels-requires-clause-there
 by_port-levels-requires-clause-there g t c = rw (c.as_slice.ensures, c.from.ensures) (node_there (g.Q.Quest.sought c.args.quest.now).net c.args.port c.args.translator.now (c.requires.stage.ready.formed c.args.unit c.args.translator.now c.requires.unit) c.requires.port)
@@ -55,14 +55,14 @@ by_port-made_rows-requires-clause-there g t c = rw (c.as_slice.ensures, c.from.e
 
 pub by_port-by_rows-requires : goal.by_port-by_rows-requires
 by_port-by_rows-requires g t c =
-    let hops = (hops_of c.args.stage.chosen) in
+    let hops = (hops_view c.args.stage.chosen) in
     let given = c.in-Some.ensures (g.Q.Quest.sought c.args.quest.now).net (g.Q.Quest.sought c.args.quest.now).request (get_or c.as_slice.result.now c.from.result 0) c.levels.ensures in
     let toward : (n : ℕ) → slice_get c.args.translator.now.ports c.args.port ≡ Some n → AreToward (g.Q.Quest.sought c.args.quest.now).net (g.Q.Quest.sought c.args.quest.now).request hops n c.in-Some.rows.now = λ n e. subst (λ (m : ℕ). AreToward (g.Q.Quest.sought c.args.quest.now).net (g.Q.Quest.sought c.args.quest.now).request hops m c.in-Some.rows.now) (port_node c.as_slice.result.now c.args.translator.now.ports c.from.result c.args.port n c.as_slice.ensures c.from.ensures e) given in
     search rules
 
 pub by_port-by_rows-requires-in-None : goal.by_port-by_rows-requires-in-None
 by_port-by_rows-requires-in-None g t c =
-    let hops = (hops_of c.args.stage.chosen) in
+    let hops = (hops_view c.args.stage.chosen) in
     let given : AreToward (g.Q.Quest.sought c.args.quest.now).net (g.Q.Quest.sought c.args.quest.now).request hops (get_or c.as_slice.result.now c.from.result 0) c.rows-in-None.result.now = subst (λ (l : List Row). AreToward (g.Q.Quest.sought c.args.quest.now).net (g.Q.Quest.sought c.args.quest.now).request hops (get_or c.as_slice.result.now c.from.result 0) l) (sym c.rows-in-None.ensures.value) c.in_ok-rows-in-None.ensures in
     let toward : (n : ℕ) → slice_get c.args.translator.now.ports c.args.port ≡ Some n → AreToward (g.Q.Quest.sought c.args.quest.now).net (g.Q.Quest.sought c.args.quest.now).request hops n c.rows-in-None.result.now = λ n e. subst (λ (m : ℕ). AreToward (g.Q.Quest.sought c.args.quest.now).net (g.Q.Quest.sought c.args.quest.now).request hops m c.rows-in-None.result.now) (port_node c.as_slice.result.now c.args.translator.now.ports c.from.result c.args.port n c.as_slice.ensures c.from.ensures e) given in
     search rules
@@ -73,7 +73,7 @@ by_rows-power-end-requires g t c = (c.requires.stage.ready.formed c.args.unit c.
 pub by_rows-rows-init : goal.by_rows-rows-init
 by_rows-rows-init g t c =
     let read = port_read c.as_slice.result.now c.args.translator.now.ports c.from.result c.args.port c.as_slice.ensures c.from.ensures c.requires.port in
-    set_out (g.Q.Quest.sought c.args.quest.now) (to_port c.args.stage.count (hops_of c.args.stage.chosen) c.args.unit c.args.port) c.args.rows.now (c.requires.toward (get_or c.as_slice.result.now c.from.result 0) read).apart
+    set_out (g.Q.Quest.sought c.args.quest.now) (to_port c.args.stage.count (hops_view c.args.stage.chosen) c.args.unit c.args.port) c.args.rows.now (c.requires.toward (get_or c.as_slice.result.now c.from.result 0) read).apart
 
 pub by_rows-is_clear-requires-clause-there : goal.by_rows-is_clear-requires-clause-there
 by_rows-is_clear-requires-clause-there g t c = rw (c.as_slice.ensures, c.from.ensures) (node_there (g.Q.Quest.sought c.args.quest.now).net c.args.port c.args.translator.now (c.requires.stage.ready.formed c.args.unit c.args.translator.now c.requires.unit) c.requires.port)
@@ -86,11 +86,11 @@ by_rows-is_clear-requires-clause-fits g t c = omega (arith, c.power-end.ensures,
 
 pub by_rows-by_output-requires : goal.by_rows-by_output-requires
 by_rows-by_output-requires g t c =
-    let hops = (hops_of c.args.stage.chosen) in
+    let hops = (hops_view c.args.stage.chosen) in
     let front = to_port c.args.stage.count hops c.args.unit c.args.port in
     let node = get_or c.as_slice.result.now c.from.result 0 in
     let read = port_read c.as_slice.result.now c.args.translator.now.ports c.from.result c.args.port c.as_slice.ensures c.from.ensures c.requires.port in
-    let here = (row_asked (g.Q.Quest.sought c.args.quest.now) hops c.row-item.result c.wanted-target.result c.request.result c.request-size.result c.in-Some.y c.wanted-target.ensures c.request.ensures c.request-size.ensures).0 c.in-Some.ensures.some in
+    let here = (row_asked (g.Q.Quest.sought c.args.quest.now) hops c.row-item.result c.wanted_name-target.result c.request.result c.request-size.result c.in-Some.y c.wanted_name-target.ensures c.request.ensures c.request-size.ensures).0 c.in-Some.ensures.some in
     let same : c.request-size.result.size ≡ (g.Q.Quest.sought c.args.quest.now).request.size = ap (λ (r : Request). r.size) c.request-size.ensures in
     let reached : c.in-Some.y + (g.Q.Quest.sought c.args.quest.now).request.size ≤ 2 ^ c.args.translator.now.reach = omega (arith, c.power-end.ensures, c.if-y-size.true, same) in
     let clear = subst (λ (n : ℕ). IsClear (g.Q.Quest.sought c.args.quest.now).net node hops c.in-Some.y n) same (c.is_clear.ensures.yes c.if-is_clear.true) in
@@ -100,41 +100,41 @@ by_rows-by_output-requires g t c =
 
 pub by_rows-returns-in-Some-2 : goal.by_rows-returns-in-Some-2
 by_rows-returns-in-Some-2 g t c =
-    let hops = (hops_of c.args.stage.chosen) in
+    let hops = (hops_view c.args.stage.chosen) in
     let front = to_port c.args.stage.count hops c.args.unit c.args.port in
     let node = get_or c.as_slice.result.now c.from.result 0 in
     let read = port_read c.as_slice.result.now c.args.translator.now.ports c.from.result c.args.port c.as_slice.ensures c.from.ensures c.requires.port in
-    step_found (g.Q.Quest.sought c.args.quest.now) front c.args.rows.now c.rows.row-index c.row-item.result (wanted (g.Q.Quest.sought c.args.quest.now).request hops) c.in-Some.y c.in-Some-2.placement
+    step_found (g.Q.Quest.sought c.args.quest.now) front c.args.rows.now c.rows.row-index c.row-item.result (wanted_name (g.Q.Quest.sought c.args.quest.now).request hops) c.in-Some.y c.in-Some-2.placement
     c.rows-test.true c.row-item.is c.requires.stage.ready.some (port_stretches (g.Q.Quest.sought c.args.quest.now) c.args.stage.count hops c.args.unit c.args.port node c.args.translator.now c.args.rows.now c.requires.stage.ready (c.requires.toward node read) c.requires.more c.requires.unit read)
-    c.rows.invariant ((row_asked (g.Q.Quest.sought c.args.quest.now) hops c.row-item.result c.wanted-target.result c.request.result c.request-size.result c.in-Some.y c.wanted-target.ensures c.request.ensures c.request-size.ensures).0 c.in-Some.ensures.some) (rw c.in-Some-2.is at c.in_ok-placement.ensures)
+    c.rows.invariant ((row_asked (g.Q.Quest.sought c.args.quest.now) hops c.row-item.result c.wanted_name-target.result c.request.result c.request-size.result c.in-Some.y c.wanted_name-target.ensures c.request.ensures c.request-size.ensures).0 c.in-Some.ensures.some) (rw c.in-Some-2.is at c.in_ok-placement.ensures)
 
 pub by_rows-rows-preserved : goal.by_rows-rows-preserved
 by_rows-rows-preserved g t c =
-    let hops = (hops_of c.args.stage.chosen) in
+    let hops = (hops_view c.args.stage.chosen) in
     let front = to_port c.args.stage.count hops c.args.unit c.args.port in
     let node = get_or c.as_slice.result.now c.from.result 0 in
     let read = port_read c.as_slice.result.now c.args.translator.now.ports c.from.result c.args.port c.as_slice.ensures c.from.ensures c.requires.port in
     let same : c.request-size.result.size ≡ (g.Q.Quest.sought c.args.quest.now).request.size = ap (λ (r : Request). r.size) c.request-size.ensures in
-    step (g.Q.Quest.sought c.args.quest.now) front c.args.rows.now c.rows.row-index c.row-item.result (wanted (g.Q.Quest.sought c.args.quest.now).request hops)
+    step (g.Q.Quest.sought c.args.quest.now) front c.args.rows.now c.rows.row-index c.row-item.result (wanted_name (g.Q.Quest.sought c.args.quest.now).request hops)
     c.rows-test.true c.row-item.is c.requires.stage.ready.some (port_stretches (g.Q.Quest.sought c.args.quest.now) c.args.stage.count hops c.args.unit c.args.port node c.args.translator.now c.args.rows.now c.requires.stage.ready (c.requires.toward node read) c.requires.more c.requires.unit read)
     c.rows.invariant
     (elim c.match-output.branch [
-      | by_rows-in-Some+then-y-size+then-is_clear+in_ok-placement+in_default-2 w ↦ only_there (g.Q.Quest.sought c.args.quest.now) front c.row-item.result (wanted (g.Q.Quest.sought c.args.quest.now).request hops) w.in-Some.y ((row_asked (g.Q.Quest.sought c.args.quest.now) hops c.row-item.result c.wanted-target.result c.request.result c.request-size.result w.in-Some.y c.wanted-target.ensures c.request.ensures c.request-size.ensures).0 w.in-Some.ensures.some) (rw w.in_default-2.is at w.in_ok-placement.ensures)
-      | by_rows-in-Some+else-y-size w ↦ only_there (g.Q.Quest.sought c.args.quest.now) front c.row-item.result (wanted (g.Q.Quest.sought c.args.quest.now).request hops) w.in-Some.y ((row_asked (g.Q.Quest.sought c.args.quest.now) hops c.row-item.result c.wanted-target.result c.request.result c.request-size.result w.in-Some.y c.wanted-target.ensures c.request.ensures c.request-size.ensures).0 w.in-Some.ensures.some)
+      | by_rows-in-Some+then-y-size+then-is_clear+in_ok-placement+in_default-2 w ↦ only_there (g.Q.Quest.sought c.args.quest.now) front c.row-item.result (wanted_name (g.Q.Quest.sought c.args.quest.now).request hops) w.in-Some.y ((row_asked (g.Q.Quest.sought c.args.quest.now) hops c.row-item.result c.wanted_name-target.result c.request.result c.request-size.result w.in-Some.y c.wanted_name-target.ensures c.request.ensures c.request-size.ensures).0 w.in-Some.ensures.some) (rw w.in_default-2.is at w.in_ok-placement.ensures)
+      | by_rows-in-Some+else-y-size w ↦ only_there (g.Q.Quest.sought c.args.quest.now) front c.row-item.result (wanted_name (g.Q.Quest.sought c.args.quest.now).request hops) w.in-Some.y ((row_asked (g.Q.Quest.sought c.args.quest.now) hops c.row-item.result c.wanted_name-target.result c.request.result c.request-size.result w.in-Some.y c.wanted_name-target.ensures c.request.ensures c.request-size.ensures).0 w.in-Some.ensures.some)
           (elim w.else-y-size.branch [
             | by_rows-else-y-size-via-then-y-size+else-is_clear v ↦ not_met (g.Q.Quest.sought c.args.quest.now) c.args.stage.count hops c.args.unit c.args.port node w.in-Some.y c.args.translator.now c.requires.more c.requires.unit read (unclear (g.Q.Quest.sought c.args.quest.now) node w.in-Some.y hops (subst (λ (n : ℕ). IsClear (g.Q.Quest.sought c.args.quest.now).net node hops w.in-Some.y n → ⊥) same (v.is_clear.ensures.no v.if-is_clear.false)))
             | by_rows-else-y-size-via-else-y-size v ↦ out_of_reach (g.Q.Quest.sought c.args.quest.now) c.args.stage.count hops c.args.unit c.args.port w.in-Some.y c.args.translator.now c.requires.more c.requires.unit (λ reached. omega (arith, reached, c.power-end.ensures, v.if-y-size.false, same))
           ])
-      | by_rows-in_default w ↦ λ j i. absurd (w.in_default.ensures.none j ((row_asked (g.Q.Quest.sought c.args.quest.now) hops c.row-item.result c.wanted-target.result c.request.result c.request-size.result j c.wanted-target.ensures c.request.ensures c.request-size.ensures).1 i))
+      | by_rows-in_default w ↦ λ j i. absurd (w.in_default.ensures.none j ((row_asked (g.Q.Quest.sought c.args.quest.now) hops c.row-item.result c.wanted_name-target.result c.request.result c.request-size.result j c.wanted_name-target.ensures c.request.ensures c.request-size.ensures).1 i))
     ])
 
 pub by_rows-returns : goal.by_rows-returns
 by_rows-returns g t c =
-    let hops = (hops_of c.args.stage.chosen) in
+    let hops = (hops_view c.args.stage.chosen) in
     let front = to_port c.args.stage.count hops c.args.unit c.args.port in
     let node = get_or c.as_slice.result.now c.from.result 0 in
     let read = port_read c.as_slice.result.now c.args.translator.now.ports c.from.result c.args.port c.as_slice.ensures c.from.ensures c.requires.port in
-    step_done (g.Q.Quest.sought c.args.quest.now) front c.args.rows.now c.rows.row-index (wanted (g.Q.Quest.sought c.args.quest.now).request hops)
+    step_done (g.Q.Quest.sought c.args.quest.now) front c.args.rows.now c.rows.row-index (wanted_name (g.Q.Quest.sought c.args.quest.now).request hops)
     c.rows-test.false c.requires.stage.ready.some (port_stretches (g.Q.Quest.sought c.args.quest.now) c.args.stage.count hops c.args.unit c.args.port node c.args.translator.now c.args.rows.now c.requires.stage.ready (c.requires.toward node read) c.requires.more c.requires.unit read)
     (port_goes (g.Q.Quest.sought c.args.quest.now) c.args.stage.count hops c.args.unit c.args.port c.args.translator.now c.requires.more c.requires.unit) c.rows.invariant
 
@@ -150,24 +150,24 @@ pub by_output-inputs-init : goal.by_output-inputs-init
 by_output-inputs-init g t c = rw c.power-page.ensures (record {
   agree = mod-mod c.args.y (2 ^ c.args.translator.now.page);
   few = omega (arith, mod-le c.args.y (2 ^ c.args.translator.now.page), power_below c.args.translator.now.reach (c.requires.stage.ready.formed c.args.unit c.args.translator.now c.requires.unit).reach, c.requires.reached);
-  below = inputs_begun (g.Q.Quest.sought c.args.quest.now) c.args.stage.count (hops_of c.args.stage.chosen) c.args.unit c.args.port c.args.y c.args.translator.now c.requires.more c.requires.unit;
+  below = inputs_begun (g.Q.Quest.sought c.args.quest.now) c.args.stage.count (hops_view c.args.stage.chosen) c.args.unit c.args.port c.args.y c.args.translator.now c.requires.more c.requires.unit;
 })
 
 pub by_output-returns-in-Some : goal.by_output-returns-in-Some
-by_output-returns-in-Some g t c = found_first (g.Q.Quest.sought c.args.quest.now) (to_output c.args.stage.count (hops_of c.args.stage.chosen) c.args.unit c.args.port c.args.y) c.inputs.x c.in-Some.placement c.inputs.invariant.below (rw c.in-Some.is at (answered_input (g.Q.Quest.sought c.args.quest.now) c.args.stage.count (hops_of c.args.stage.chosen) c.args.unit c.args.port c.args.y c.inputs.x c.in_ok-placement.field-0 c.in_ok-placement.ensures))
+by_output-returns-in-Some g t c = found_first (g.Q.Quest.sought c.args.quest.now) (to_output c.args.stage.count (hops_view c.args.stage.chosen) c.args.unit c.args.port c.args.y) c.inputs.x c.in-Some.placement c.inputs.invariant.below (rw c.in-Some.is at (answered_input (g.Q.Quest.sought c.args.quest.now) c.args.stage.count (hops_view c.args.stage.chosen) c.args.unit c.args.port c.args.y c.inputs.x c.in_ok-placement.field-0 c.in_ok-placement.ensures))
 
 pub by_output-inputs-preserved : goal.by_output-inputs-preserved
 by_output-inputs-preserved g t c = record {
   agree = c.next_input-next.ensures.agree ∙ c.inputs.invariant.agree;
   few = omega (arith, c.next_input-next.ensures.few);
-  below = inputs_barred (g.Q.Quest.sought c.args.quest.now) c.args.stage.count (hops_of c.args.stage.chosen) c.args.unit c.args.port c.args.y c.inputs.x c.next_input-next.result c.args.translator.now c.requires.more c.requires.unit c.inputs.invariant.agree c.next_input-next.ensures.barred c.inputs.invariant.below;
+  below = inputs_barred (g.Q.Quest.sought c.args.quest.now) c.args.stage.count (hops_view c.args.stage.chosen) c.args.unit c.args.port c.args.y c.inputs.x c.next_input-next.result c.args.translator.now c.requires.more c.requires.unit c.inputs.invariant.agree c.next_input-next.ensures.barred c.inputs.invariant.below;
 }
 
 pub by_output-returns : goal.by_output-returns
 by_output-returns g t c =
     let same : c.request-size.result.size ≡ (g.Q.Quest.sought c.args.quest.now).request.size = ap (λ (r : Request). r.size) c.request-size.ensures in
     let past : c.args.translator.now.slots * 2 ^ c.args.translator.now.page < c.inputs.x + c.request-size.result.size = subst (λ (n : ℕ). c.args.translator.now.slots * n < c.inputs.x + c.request-size.result.size) c.power-page.ensures (subst (λ (n : ℕ). n * c.power-page.result < c.inputs.x + c.request-size.result.size) c.from.ensures c.inputs-test.false) in
-    inputs_done (g.Q.Quest.sought c.args.quest.now) c.args.stage.count (hops_of c.args.stage.chosen) c.args.unit c.args.port c.args.y c.inputs.x c.args.translator.now c.requires.more c.requires.unit (omega (arith, past, same)) c.inputs.invariant.below
+    inputs_done (g.Q.Quest.sought c.args.quest.now) c.args.stage.count (hops_view c.args.stage.chosen) c.args.unit c.args.port c.args.y c.inputs.x c.args.translator.now c.requires.more c.requires.unit (omega (arith, past, same)) c.inputs.invariant.below
 
 pub by_output-overflow_add-x-then-next-x : goal.by_output-overflow_add-x-then-next-x
 by_output-overflow_add-x-then-next-x g t c =
@@ -181,16 +181,16 @@ by_output-inputs-preserved-then-next-x g t c = rw c.power-page.ensures (record {
       let f = c.requires.stage.ready.formed c.args.unit c.args.translator.now c.requires.unit in
       let within : c.inputs.x + c.request-size.result.size ≤ c.args.translator.now.slots * 2 ^ c.args.translator.now.page = subst (λ (n : ℕ). c.inputs.x + c.request-size.result.size ≤ c.args.translator.now.slots * n) c.power-page.ensures (subst (λ (n : ℕ). c.inputs.x + c.request-size.result.size ≤ n * c.power-page.result) c.from.ensures c.inputs-test.true) in
       omega (arith, page_few c.args.translator.now.page f.page, input_bound c.args.translator.now.slots c.args.translator.now.page f.page f.few, within);
-  below = inputs_leapt (g.Q.Quest.sought c.args.quest.now) c.args.stage.count (hops_of c.args.stage.chosen) c.args.unit c.args.port c.args.y c.inputs.x c.args.translator.now c.requires.more c.requires.unit c.inputs.invariant.agree c.inputs.invariant.below (rw c.in_default.is at (answered_input (g.Q.Quest.sought c.args.quest.now) c.args.stage.count (hops_of c.args.stage.chosen) c.args.unit c.args.port c.args.y c.inputs.x c.in_ok-placement.field-0 c.in_ok-placement.ensures));
+  below = inputs_leapt (g.Q.Quest.sought c.args.quest.now) c.args.stage.count (hops_view c.args.stage.chosen) c.args.unit c.args.port c.args.y c.inputs.x c.args.translator.now c.requires.more c.requires.unit c.inputs.invariant.agree c.inputs.invariant.below (rw c.in_default.is at (answered_input (g.Q.Quest.sought c.args.quest.now) c.args.stage.count (hops_view c.args.stage.chosen) c.args.unit c.args.port c.args.y c.inputs.x c.in_ok-placement.field-0 c.in_ok-placement.ensures));
 })
 
 pub by_input-by_hops-requires : goal.by_input-by_hops-requires
 by_input-by_hops-requires g t c =
-    let next = chosen_on (g.Q.Quest.sought c.args.quest.now) c.args.stage.count (hops_of c.args.stage.chosen) c.args.hop.unit c.args.hop.port c.args.hop.y c.args.hop.x c.args.translator.now c.requires.stage.chosen c.requires.more c.requires.unit c.requires.port c.requires.agree c.requires.within c.requires.reached c.requires.usable c.requires.meets in
-    let chosen : IsChosen (g.Q.Quest.sought c.args.quest.now) c.args.stage.count (hops_of c.behind-chosen.result) = subst (λ (l : List Hop). IsChosen (g.Q.Quest.sought c.args.quest.now) c.args.stage.count l) (sym c.behind-chosen.ensures) next in
-    let longer : length (hops_of c.behind-chosen.result) ≡ suc (length (hops_of c.args.stage.chosen)) = ap length c.behind-chosen.ensures in
+    let next = chosen_on (g.Q.Quest.sought c.args.quest.now) c.args.stage.count (hops_view c.args.stage.chosen) c.args.hop.unit c.args.hop.port c.args.hop.y c.args.hop.x c.args.translator.now c.requires.stage.chosen c.requires.more c.requires.unit c.requires.port c.requires.agree c.requires.within c.requires.reached c.requires.usable c.requires.meets in
+    let chosen : IsChosen (g.Q.Quest.sought c.args.quest.now) c.args.stage.count (hops_view c.behind-chosen.result) = subst (λ (l : List Hop). IsChosen (g.Q.Quest.sought c.args.quest.now) c.args.stage.count l) (sym c.behind-chosen.ensures) next in
+    let longer : length (hops_view c.behind-chosen.result) ≡ suc (length (hops_view c.args.stage.chosen)) = ap length c.behind-chosen.ensures in
     search rules
 
 pub by_input-returns-then-not-is_allowed : goal.by_input-returns-then-not-is_allowed
-by_input-returns-then-not-is_allowed g t c = none_ending (g.Q.Quest.sought c.args.quest.now) c.args.stage.count (hops_of c.args.stage.chosen) c.args.hop.unit c.args.hop.port c.args.hop.y c.args.hop.x
-    (not_allowed (g.Q.Quest.sought c.args.quest.now) c.args.stage.count (hops_of c.args.stage.chosen) c.args.hop.unit c.args.hop.port c.args.hop.y c.args.hop.x c.args.translator.now c.args.stage.reach.now.entry c.requires.stage.ready c.requires.stage.entry c.requires.more (omega (arith, c.is_allowed.ensures.first c.if-not-is_allowed.true, c.count.ensures)) c.requires.unit (λ none. c.is_allowed.ensures.asked c.if-not-is_allowed.true (c.at.ensures ∙ none)) (c.is_allowed.ensures.other c.if-not-is_allowed.true))
+by_input-returns-then-not-is_allowed g t c = none_ending (g.Q.Quest.sought c.args.quest.now) c.args.stage.count (hops_view c.args.stage.chosen) c.args.hop.unit c.args.hop.port c.args.hop.y c.args.hop.x
+    (not_allowed (g.Q.Quest.sought c.args.quest.now) c.args.stage.count (hops_view c.args.stage.chosen) c.args.hop.unit c.args.hop.port c.args.hop.y c.args.hop.x c.args.translator.now c.args.stage.reach.now.entry c.requires.stage.ready c.requires.stage.entry c.requires.more (omega (arith, c.is_allowed.ensures.first c.if-not-is_allowed.true, c.count.ensures)) c.requires.unit (λ none. c.is_allowed.ensures.asked c.if-not-is_allowed.true (c.at.ensures ∙ none)) (c.is_allowed.ensures.other c.if-not-is_allowed.true))

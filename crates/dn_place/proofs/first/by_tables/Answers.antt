@@ -6,7 +6,7 @@ use Rattle.dn_flat.specs.Levels.{AreFlats}
 use Rattle.dn_kind.specs.Kind.{Meaning}
 use Rattle.dn_placement.specs.Exposure.{IsAdmissible}
 use Rattle.dn_placement.specs.Placement.{IsPlacement}
-use Rattle.dn_place.specs.Hops.{hops_of}
+use Rattle.dn_place.specs.Hops.{hops_view}
 use Rattle.dn_place.specs.Slots.{slot_of}
 use Rattle.dn_place.specs.Sought.{Sought, slot_count}
 use Rattle.dn_place.proofs.Readies.{slot_in_set}
@@ -23,6 +23,6 @@ first_of-requires-clause-sound g c =
       flat = subst (λ (n : List NodeDecl). AreFlats n c.args.system.flats.now) net c.requires.system.flat;
       can_ask = λ unit slot l. (c.requires.system.lawful, (c.requires.fits.wide, slot_in_set kinds c.args.system.net.now c.args.tables.now unit slot c.requires.fits (subst (λ (n : List NodeDecl). slot < slot_count (unit_at n unit)) (sym net) l)));
       is_met = λ unit slot found l posted. subst (λ (s : Sought). found ≡ slot_of s.slots unit slot) (sym c.requires.aim) posted;
-      can_test = λ v hops own p. (c.requires.system, (c.requires.fits, (c.requires.rights, (slice_get_within (hops_of hops) own p.own p.is_own, subst (λ (s : Sought). IsPlacement s.net s.slots s.request (record { v = v; hops = hops_of hops; own = own })) c.requires.aim p))));
-      is_tested = λ v hops own answer p posted. subst (λ (s : Sought). IfOk answer (λ yes. IsTrue yes ↔ IsAdmissible s.net s.slots.held s.request (record { v = v; hops = hops_of hops; own = own }))) (sym c.requires.aim) posted.1;
+      can_test = λ v hops own p. (c.requires.system, (c.requires.fits, (c.requires.rights, (slice_get_within (hops_view hops) own p.own p.is_own, subst (λ (s : Sought). IsPlacement s.net s.slots s.request (record { v = v; hops = hops_view hops; own = own })) c.requires.aim p))));
+      is_tested = λ v hops own answer p posted. subst (λ (s : Sought). IfOk answer (λ yes. IsTrue yes ↔ IsAdmissible s.net s.slots.held s.request (record { v = v; hops = hops_view hops; own = own }))) (sym c.requires.aim) posted.1;
     }

@@ -1,5 +1,5 @@
 use Rattle.std.proofs.Common.{arith, length}
-use Rattle.dn_place.specs.Hops.{hops_of}
+use Rattle.dn_place.specs.Hops.{hops_view}
 use Rattle.dn_place.specs.Candidates.{to_address}
 use Rattle.dn_place.proofs.Levels.{begun, next_one, found_first}
 use Rattle.dn_place.proofs.Wholes.{pages_leapt, pages_done}
@@ -9,13 +9,13 @@ pub pages-init : goal.pages-init
 pages-init g c = record { few = omega arith; below = begun _ _ }
 
 pub returns-in-Some-2 : goal.returns-in-Some-2
-returns-in-Some-2 g c = found_first (g.Q.Quest.sought c.args.quest.now) (to_address (length (hops_of c.args.hops)) (hops_of c.args.hops) c.args.v) c.in-Some.page c.in-Some-2.placement (pages_leapt (g.Q.Quest.sought c.args.quest.now) (hops_of c.args.hops) c.args.v c.pages.from c.in-Some.page c.in-Some.ensures.between c.pages.invariant.below) (rw c.in-Some-2.is at c.in_ok-placement.ensures)
+returns-in-Some-2 g c = found_first (g.Q.Quest.sought c.args.quest.now) (to_address (length (hops_view c.args.hops)) (hops_view c.args.hops) c.args.v) c.in-Some.page c.in-Some-2.placement (pages_leapt (g.Q.Quest.sought c.args.quest.now) (hops_view c.args.hops) c.args.v c.pages.from c.in-Some.page c.in-Some.ensures.between c.pages.invariant.below) (rw c.in-Some-2.is at c.in_ok-placement.ensures)
 
 pub pages-preserved : goal.pages-preserved
 pages-preserved g c = record {
   few = omega (arith, c.in-Some.ensures.most);
-  below = next_one _ _ _ (pages_leapt (g.Q.Quest.sought c.args.quest.now) (hops_of c.args.hops) c.args.v c.pages.from c.in-Some.page c.in-Some.ensures.between c.pages.invariant.below) (rw c.in_default-2.is at c.in_ok-placement.ensures);
+  below = next_one _ _ _ (pages_leapt (g.Q.Quest.sought c.args.quest.now) (hops_view c.args.hops) c.args.v c.pages.from c.in-Some.page c.in-Some.ensures.between c.pages.invariant.below) (rw c.in_default-2.is at c.in_ok-placement.ensures);
 }
 
 pub returns : goal.returns
-returns g c = pages_done (g.Q.Quest.sought c.args.quest.now) (hops_of c.args.hops) c.args.v c.pages.from c.in_default.ensures.none c.pages.invariant.below
+returns g c = pages_done (g.Q.Quest.sought c.args.quest.now) (hops_view c.args.hops) c.args.v c.pages.from c.in_default.ensures.none c.pages.invariant.below

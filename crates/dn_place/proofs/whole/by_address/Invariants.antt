@@ -1,12 +1,12 @@
 use Rattle.std.proofs.Common.{length, ◌-◌, ◌≤◌}
-use Rattle.dn_place.specs.Hops.{hops_of}
+use Rattle.dn_place.specs.Hops.{hops_view}
 use Rattle.dn_place.specs.Candidates.{NoneBelow, to_address}
 use Rattle.dn_place.proofs.whole.by_address.Given as goal
 
 abbrev pub invariant-pages : goal.invariant-pages
 invariant-pages g l = record {
   few : l.from ≤ 41;
-  below : NoneBelow (g.Q.Quest.sought l.quest) (to_address (length (hops_of l.hops)) (hops_of l.hops) l.v) l.from;
+  below : NoneBelow (g.Q.Quest.sought l.quest) (to_address (length (hops_view l.hops)) (hops_view l.hops) l.v) l.from;
 }
 
 abbrev pub decreases-pages : goal.decreases-pages

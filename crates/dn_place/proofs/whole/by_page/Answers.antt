@@ -2,7 +2,7 @@ use Rattle.std.proofs.Common.{◌≡◌, ◌-◌, ◌∙◌, arith, sym, subst}
 use Rattle.std.proofs.lemmas.Bool.{false≢true}
 use Rattle.dn_kind.specs.Rights.{both_rights}
 use Rattle.dn_placement.specs.declared.request.Request.{Request}
-use Rattle.dn_place.specs.Hops.{hops_of}
+use Rattle.dn_place.specs.Hops.{hops_view}
 use Rattle.dn_place.proofs.Levels.{next_one}
 use Rattle.dn_place.proofs.Wholes.{backs_begun, backs_found, backs_refused, backs_unsuited, backs_done, none_owned, placed}
 use Rattle.dn_place.proofs.whole.by_page.Goals as goal
@@ -12,27 +12,27 @@ pub loop-back-init : goal.loop-back-init
 loop-back-init g c = backs_begun _ _ _ _
 
 pub is_exact-requires-clause-placed : goal.is_exact-requires-clause-placed
-is_exact-requires-clause-placed g c = placed (g.Q.Quest.sought c.args.quest.now) (hops_of c.args.hops) c.args.v (c.count-count.result - c.loop-back.back) c.args.page c.requires.ready c.requires.addressed.chosen c.requires.addressed.some c.requires.addressed.fits c.requires.addressed.meets (c.can_own.ensures.yes c.if-can_own.true)
+is_exact-requires-clause-placed g c = placed (g.Q.Quest.sought c.args.quest.now) (hops_view c.args.hops) c.args.v (c.count-count.result - c.loop-back.back) c.args.page c.requires.ready c.requires.addressed.chosen c.requires.addressed.some c.requires.addressed.fits c.requires.addressed.meets (c.can_own.ensures.yes c.if-can_own.true)
 
 pub returns-then-branch : goal.returns-then-branch
 returns-then-branch g c =
     let can = c.can_own.ensures.yes c.if-can_own.true in
-    let is = placed (g.Q.Quest.sought c.args.quest.now) (hops_of c.args.hops) c.args.v (c.count-count.result - c.loop-back.back) c.args.page c.requires.ready c.requires.addressed.chosen c.requires.addressed.some c.requires.addressed.fits c.requires.addressed.meets can in
-    rw c.placed.ensures (backs_found (g.Q.Quest.sought c.args.quest.now) (hops_of c.args.hops) c.args.v c.args.page c.loop-back.back (c.count-count.result - c.loop-back.back)
+    let is = placed (g.Q.Quest.sought c.args.quest.now) (hops_view c.args.hops) c.args.v (c.count-count.result - c.loop-back.back) c.args.page c.requires.ready c.requires.addressed.chosen c.requires.addressed.some c.requires.addressed.fits c.requires.addressed.meets can in
+    rw c.into_placement.ensures (backs_found (g.Q.Quest.sought c.args.quest.now) (hops_view c.args.hops) c.args.v c.args.page c.loop-back.back (c.count-count.result - c.loop-back.back)
     (omega (arith, c.count-count.ensures)) can
     (record { is_placement = is; is_at = c.requires.addressed.at; admissible = c.in_ok-is_exact.ensures.0 c.if-branch.true })
     c.loop-back.invariant)
 
 pub returns-then-has_both : goal.returns-then-has_both
-returns-then-has_both g c = none_owned (g.Q.Quest.sought c.args.quest.now) (hops_of c.args.hops) c.args.v (c.count-count.result - c.loop-back.back) c.args.page
+returns-then-has_both g c = none_owned (g.Q.Quest.sought c.args.quest.now) (hops_view c.args.hops) c.args.v (c.count-count.result - c.loop-back.back) c.args.page
     (subst (λ (r : Request). r.rights ≡ both_rights) c.request.ensures (c.has_both.ensures c.if-has_both.true))
     (λ is. false≢true (sym c.if-branch.false ∙ c.in_ok-is_exact.ensures.1 is))
 
 pub loop-back-preserved : goal.loop-back-preserved
 loop-back-preserved g c = elim c.if-can_own.branch [
-  | then-can_own+in_ok-is_exact+else-branch+else-has_both w ↦ next_one _ _ _ c.loop-back.invariant (backs_unsuited (g.Q.Quest.sought c.args.quest.now) (hops_of c.args.hops) c.args.v c.args.page c.loop-back.back (c.count-count.result - c.loop-back.back) (omega (arith, c.count-count.ensures)) (λ is. false≢true (sym w.if-branch.false ∙ w.in_ok-is_exact.ensures.1 is.admissible)))
-  | else-can_own w ↦ next_one _ _ _ c.loop-back.invariant (backs_refused (g.Q.Quest.sought c.args.quest.now) (hops_of c.args.hops) c.args.v c.args.page c.loop-back.back (c.count-count.result - c.loop-back.back) (omega (arith, c.count-count.ensures)) (c.can_own.ensures.no w.if-can_own.false))
+  | then-can_own+in_ok-is_exact+else-branch+else-has_both w ↦ next_one _ _ _ c.loop-back.invariant (backs_unsuited (g.Q.Quest.sought c.args.quest.now) (hops_view c.args.hops) c.args.v c.args.page c.loop-back.back (c.count-count.result - c.loop-back.back) (omega (arith, c.count-count.ensures)) (λ is. false≢true (sym w.if-branch.false ∙ w.in_ok-is_exact.ensures.1 is.admissible)))
+  | else-can_own w ↦ next_one _ _ _ c.loop-back.invariant (backs_refused (g.Q.Quest.sought c.args.quest.now) (hops_view c.args.hops) c.args.v c.args.page c.loop-back.back (c.count-count.result - c.loop-back.back) (omega (arith, c.count-count.ensures)) (c.can_own.ensures.no w.if-can_own.false))
 ]
 
 pub returns : goal.returns
-returns g c = backs_done (g.Q.Quest.sought c.args.quest.now) (hops_of c.args.hops) c.args.v c.args.page c.loop-back.back (omega (arith, c.count-count.ensures)) c.loop-back.invariant
+returns g c = backs_done (g.Q.Quest.sought c.args.quest.now) (hops_view c.args.hops) c.args.v c.args.page c.loop-back.back (omega (arith, c.count-count.ensures)) c.loop-back.invariant

@@ -1,9 +1,9 @@
 use Rattle.std.proofs.Common.{sym, ◌∙◌, length, subst}
 use Rattle.std.proofs.lemmas.Bool.{false≢true}
 use Rattle.dn_placement.specs.Order.{IsAt}
-use Rattle.dn_place.specs.Hops.{hops_of}
-use Rattle.dn_place.specs.Rows.{wanted}
-use Rattle.dn_place.specs.Candidates.{ending}
+use Rattle.dn_place.specs.Hops.{hops_view}
+use Rattle.dn_place.specs.Rows.{wanted_name}
+use Rattle.dn_place.specs.Candidates.{key_of_hops}
 use Rattle.dn_place.proofs.Walks.{set_out}
 use Rattle.dn_place.proofs.Agents.{agent_stretches, agent_goes, clear_of, not_asked, row_asked, step, step_found, step_done, step_meets, only_there, row_fits}
 use Rattle.dn_place.proofs.whole.by_rows.Goals as goal
@@ -14,9 +14,9 @@ rows-init g c = set_out _ _ _ c.requires.toward.apart
 
 pub by_address-requires-clause-addressed : goal.by_address-requires-clause-addressed
 by_address-requires-clause-addressed g c =
-    let hops = hops_of c.args.hops in
-    let front = ending (length hops) hops in
-    let here = (row_asked (g.Q.Quest.sought c.args.quest.now) hops c.row-item.result c.wanted-target.result c.request.result c.request-size.result c.in-Some.v c.wanted-target.ensures c.request.ensures c.request-size.ensures).0 c.in-Some.ensures.some in
+    let hops = hops_view c.args.hops in
+    let front = key_of_hops (length hops) hops in
+    let here = (row_asked (g.Q.Quest.sought c.args.quest.now) hops c.row-item.result c.wanted_name-target.result c.request.result c.request-size.result c.in-Some.v c.wanted_name-target.ensures c.request.ensures c.request-size.ensures).0 c.in-Some.ensures.some in
     record {
       chosen = c.requires.chosen;
       some = c.requires.some;
@@ -27,32 +27,32 @@ by_address-requires-clause-addressed g c =
 
 pub returns-in-Some-2 : goal.returns-in-Some-2
 returns-in-Some-2 g c =
-    let hops = hops_of c.args.hops in
-    let front = ending (length hops) hops in
-    step_found (g.Q.Quest.sought c.args.quest.now) front c.args.rows.now c.rows.row-index c.row-item.result (wanted (g.Q.Quest.sought c.args.quest.now).request hops) c.in-Some.v c.in-Some-2.placement
+    let hops = hops_view c.args.hops in
+    let front = key_of_hops (length hops) hops in
+    step_found (g.Q.Quest.sought c.args.quest.now) front c.args.rows.now c.rows.row-index c.row-item.result (wanted_name (g.Q.Quest.sought c.args.quest.now).request hops) c.in-Some.v c.in-Some-2.placement
     c.rows-test.true c.row-item.is c.requires.ready.some
     (agent_stretches (g.Q.Quest.sought c.args.quest.now) hops c.args.rows.now c.requires.ready c.requires.toward) c.rows.invariant
-    ((row_asked (g.Q.Quest.sought c.args.quest.now) hops c.row-item.result c.wanted-target.result c.request.result c.request-size.result c.in-Some.v c.wanted-target.ensures c.request.ensures c.request-size.ensures).0 c.in-Some.ensures.some)
+    ((row_asked (g.Q.Quest.sought c.args.quest.now) hops c.row-item.result c.wanted_name-target.result c.request.result c.request-size.result c.in-Some.v c.wanted_name-target.ensures c.request.ensures c.request-size.ensures).0 c.in-Some.ensures.some)
     (rw c.in-Some-2.is at c.in_ok-placement.ensures)
 
 pub rows-preserved : goal.rows-preserved
 rows-preserved g c =
-    let hops = hops_of c.args.hops in
-    let front = ending (length hops) hops in
-    step (g.Q.Quest.sought c.args.quest.now) front c.args.rows.now c.rows.row-index c.row-item.result (wanted (g.Q.Quest.sought c.args.quest.now).request hops)
+    let hops = hops_view c.args.hops in
+    let front = key_of_hops (length hops) hops in
+    step (g.Q.Quest.sought c.args.quest.now) front c.args.rows.now c.rows.row-index c.row-item.result (wanted_name (g.Q.Quest.sought c.args.quest.now).request hops)
     c.rows-test.true c.row-item.is c.requires.ready.some
     (agent_stretches (g.Q.Quest.sought c.args.quest.now) hops c.args.rows.now c.requires.ready c.requires.toward) c.rows.invariant
     (elim c.match-output.branch [
-      | in-Some+then-is_at+in_ok-placement+in_default-2 w ↦ only_there (g.Q.Quest.sought c.args.quest.now) front c.row-item.result (wanted (g.Q.Quest.sought c.args.quest.now).request hops) w.in-Some.v ((row_asked (g.Q.Quest.sought c.args.quest.now) hops c.row-item.result c.wanted-target.result c.request.result c.request-size.result w.in-Some.v c.wanted-target.ensures c.request.ensures c.request-size.ensures).0 w.in-Some.ensures.some) (rw w.in_default-2.is at w.in_ok-placement.ensures)
-      | in-Some+else-is_at w ↦ only_there (g.Q.Quest.sought c.args.quest.now) front c.row-item.result (wanted (g.Q.Quest.sought c.args.quest.now).request hops) w.in-Some.v ((row_asked (g.Q.Quest.sought c.args.quest.now) hops c.row-item.result c.wanted-target.result c.request.result c.request-size.result w.in-Some.v c.wanted-target.ensures c.request.ensures c.request-size.ensures).0 w.in-Some.ensures.some) (not_asked (g.Q.Quest.sought c.args.quest.now) hops w.in-Some.v (λ at. false≢true (sym w.if-is_at.false ∙ w.is_at.ensures.1 (subst (λ o. IsAt o w.in-Some.v) (sym w.at.ensures) at))))
-      | in_default w ↦ λ j i. absurd (w.in_default.ensures.none j ((row_asked (g.Q.Quest.sought c.args.quest.now) hops c.row-item.result c.wanted-target.result c.request.result c.request-size.result j c.wanted-target.ensures c.request.ensures c.request-size.ensures).1 i))
+      | in-Some+then-is_at+in_ok-placement+in_default-2 w ↦ only_there (g.Q.Quest.sought c.args.quest.now) front c.row-item.result (wanted_name (g.Q.Quest.sought c.args.quest.now).request hops) w.in-Some.v ((row_asked (g.Q.Quest.sought c.args.quest.now) hops c.row-item.result c.wanted_name-target.result c.request.result c.request-size.result w.in-Some.v c.wanted_name-target.ensures c.request.ensures c.request-size.ensures).0 w.in-Some.ensures.some) (rw w.in_default-2.is at w.in_ok-placement.ensures)
+      | in-Some+else-is_at w ↦ only_there (g.Q.Quest.sought c.args.quest.now) front c.row-item.result (wanted_name (g.Q.Quest.sought c.args.quest.now).request hops) w.in-Some.v ((row_asked (g.Q.Quest.sought c.args.quest.now) hops c.row-item.result c.wanted_name-target.result c.request.result c.request-size.result w.in-Some.v c.wanted_name-target.ensures c.request.ensures c.request-size.ensures).0 w.in-Some.ensures.some) (not_asked (g.Q.Quest.sought c.args.quest.now) hops w.in-Some.v (λ at. false≢true (sym w.if-is_at.false ∙ w.is_at.ensures.1 (subst (λ o. IsAt o w.in-Some.v) (sym w.at.ensures) at))))
+      | in_default w ↦ λ j i. absurd (w.in_default.ensures.none j ((row_asked (g.Q.Quest.sought c.args.quest.now) hops c.row-item.result c.wanted_name-target.result c.request.result c.request-size.result j c.wanted_name-target.ensures c.request.ensures c.request-size.ensures).1 i))
     ])
 
 pub returns : goal.returns
 returns g c =
-    let hops = hops_of c.args.hops in
-    let front = ending (length hops) hops in
-    step_done (g.Q.Quest.sought c.args.quest.now) front c.args.rows.now c.rows.row-index (wanted (g.Q.Quest.sought c.args.quest.now).request hops)
+    let hops = hops_view c.args.hops in
+    let front = key_of_hops (length hops) hops in
+    step_done (g.Q.Quest.sought c.args.quest.now) front c.args.rows.now c.rows.row-index (wanted_name (g.Q.Quest.sought c.args.quest.now).request hops)
     c.rows-test.false c.requires.ready.some
     (agent_stretches (g.Q.Quest.sought c.args.quest.now) hops c.args.rows.now c.requires.ready c.requires.toward)
     (agent_goes (g.Q.Quest.sought c.args.quest.now) hops) c.rows.invariant

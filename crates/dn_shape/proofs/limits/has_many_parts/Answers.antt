@@ -1,7 +1,8 @@
 -- One node more.
 use Rattle.std.proofs.Common.{◌≡◌, ◌∙◌, ◌+◌, nat_lt, drop, ap, sym, arith}
 use Rattle.dn_net.proofs.Faults.{part_is}
-use Rattle.dn_shape.specs.Limits.{parts_of_node, parts_of_net}
+use Rattle.dn_net.specs.Parts.{parts_of_node}
+use Rattle.dn_shape.specs.Limits.{parts_of_net}
 use Rattle.dn_shape.proofs.Read.{rest_at, passed_now, passed_later}
 use Rattle.dn_shape.proofs.limits.has_many_parts.Goals as goal
 

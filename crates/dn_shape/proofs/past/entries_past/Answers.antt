@@ -3,24 +3,24 @@ use Rattle.std.proofs.Common.{◌≡◌, ◌∙◌, ◌+◌, ◌-◌, ◌≤◌,
 use Rattle.std.specs.List.{All, flat_map}
 use Rattle.std.proofs.lemmas.Result.{IfOk-weaker}
 use Rattle.dn_interval.specs.declared.span.TheConstants.{TOP}
-use Rattle.dn_interval.specs.Listed.{seen_by}
+use Rattle.dn_interval.specs.Listed.{seen_view}
 use Rattle.dn_interval.specs.Rows.{AreNormal, SegmentsGive}
-use Rattle.dn_net.specs.Walks.{still, extended}
+use Rattle.dn_net.specs.Walks.{still_walk, extensions_of}
 use Rattle.dn_walk.specs.declared.walks.WalkRow.{WalkRow}
-use Rattle.dn_walk.specs.Rows.{row_view, told_by_walk}
+use Rattle.dn_walk.specs.Rows.{bare_walk, row_view}
 use Rattle.dn_shape.specs.Absorb.{entry_of_row}
-use Rattle.dn_shape.specs.Past.{told_give, told_onward, walks_past}
-use Rattle.dn_shape.proofs.Walked.{all_told, row_of_walk, rows_far, rows_are_past}
+use Rattle.dn_shape.specs.Past.{bare_give, bare_onward, walks_past}
+use Rattle.dn_shape.proofs.Walked.{all_bare, row_of_walk, rows_far, rows_are_past}
 use Rattle.dn_shape.proofs.past.entries_past.Goals as goal
 use Rattle.dn_shape.proofs.past.entries_past.Goals.{In_ok-walks}
 
-told : (c : In_ok-walks) → map row_view c.in_ok-walks.walks.items ≡ map told_by_walk (walks_past c.args.net.now c.args.past c.args.node)
+told : (c : In_ok-walks) → map row_view c.in_ok-walks.walks.items ≡ map bare_walk (walks_past c.args.net.now c.args.past c.args.node)
 told c =
-    let f = told_onward c.args.onward.now c.args.past in
+    let f = bare_onward c.args.onward.now c.args.past in
     c.in_ok-walks.ensures
     ∙ ap (λ l. flat_map f (map row_view l)) c.deref.ensures.value
     ∙ ap (flat_map f) c.in_ok-first.ensures.walks
-    ∙ all_told c.args.net.now c.args.past c.args.onward.now c.requires.onward (extended c.args.net.now (still c.args.node))
+    ∙ all_bare c.args.net.now c.args.past c.args.onward.now c.requires.onward (extensions_of c.args.net.now (still_walk c.args.node))
 
 pub segs_of-requires : goal.segs_of-requires
 segs_of-requires c =
@@ -31,5 +31,5 @@ segs_of-requires c =
 pub returns : goal.returns
 returns c =
     let walks = told (goal.at.returns c).In_ok-walks in
-    let rows = rows_are_past c.args.net.now c.requires.rules c.args.past c.args.node c.requires.there c.in_ok-walks.walks.items c.in_ok-segs.segs.items c.in_ok-rows.rows walks (λ a y. c.in_ok-segs.ensures a y ∙ ap (λ l. told_give (map row_view l) a y) c.deref-2.ensures.value) (subst (λ l. AreNormal (SegmentsGive l) c.in_ok-rows.rows) c.deref-3.ensures.value c.in_ok-rows.ensures.normal) in
-    IfOk-weaker c.entries_of.result _ _ (λ es h. h ∙ ap (λ l. map entry_of_row (map seen_by l)) c.rows-2.ensures.value ∙ ap (map entry_of_row) rows) c.entries_of.ensures
+    let rows = rows_are_past c.args.net.now c.requires.rules c.args.past c.args.node c.requires.there c.in_ok-walks.walks.items c.in_ok-segs.segs.items c.in_ok-rows.rows walks (λ a y. c.in_ok-segs.ensures a y ∙ ap (λ l. bare_give (map row_view l) a y) c.deref-2.ensures.value) (subst (λ l. AreNormal (SegmentsGive l) c.in_ok-rows.rows) c.deref-3.ensures.value c.in_ok-rows.ensures.normal) in
+    IfOk-weaker c.entries_of.result _ _ (λ es h. h ∙ ap (λ l. map entry_of_row (map seen_view l)) c.rows-2.ensures.value ∙ ap (map entry_of_row) rows) c.entries_of.ensures

@@ -3,7 +3,7 @@ use Rattle.std.proofs.Common.{◌+◌, ◌-◌, ◌≤◌}
 use Rattle.dn_interval.specs.declared.span.TheConstants.{TOP}
 use Rattle.dn_walk.specs.declared.leg.Leg.{Leg}
 use Rattle.dn_walk.specs.Rows.{row_view}
-use Rattle.dn_walk.proofs.Told.{met_meet, met_keep}
+use Rattle.dn_walk.proofs.BareWalks.{met_meet, met_keep}
 use Rattle.dn_shape.proofs.past.push_walks.Goals as goal
 
 pub extend_row-requires-clause-meet : goal.extend_row-requires-clause-meet

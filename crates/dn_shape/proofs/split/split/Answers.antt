@@ -1,6 +1,6 @@
 -- How many nodes the split net has, and what it keeps.
 use Rattle.std.proofs.Common.{rules, ◌≡◌, ◌∙◌, ap, sym, subst, length, arith}
-use Rattle.dn_shape.specs.Limits.{by_limit}
+use Rattle.dn_shape.specs.Limits.{value_by_limit}
 use Rattle.dn_shape.specs.Split.{sending_nodes, split_net, split_name, with_accepters}
 use Rattle.dn_shape.specs.Views.{HaveEqualViews, IsRuledNet}
 use Rattle.dn_shape.proofs.Divided.{split_length, sending_length}
@@ -13,7 +13,7 @@ pub returns-then-from-gt-MAX_NODES-clause-made : goal.returns-then-from-gt-MAX_N
 returns-then-from-gt-MAX_NODES-clause-made c =
     let net = c.args.net.now in
     let size = split_length net in
-    ap (by_limit (split_net net)) (many_nodes (split_net net) (omega (arith, size, c.if-from-gt-MAX_NODES.true, c.nodes.ensures, c.from.ensures, c.divided_count.ensures, c.from-2.ensures)))
+    ap (value_by_limit (split_net net)) (many_nodes (split_net net) (omega (arith, size, c.if-from-gt-MAX_NODES.true, c.nodes.ensures, c.from.ensures, c.divided_count.ensures, c.from-2.ensures)))
 
 pub sending_nodes-requires-clause-few : goal.sending_nodes-requires-clause-few
 sending_nodes-requires-clause-few c = omega (arith, c.if-from-gt-MAX_NODES.false, c.nodes.ensures, c.from.ensures, c.divided_count.ensures, c.from-2.ensures)

@@ -12,26 +12,26 @@ use Rattle.dn_tool.specs.Changed.{grant_refused_text, granted_text}
 use Rattle.dn_tool.specs.Ids.{id_number}
 use Rattle.dn_tool.specs.State.{IsChanged, state_view}
 use Rattle.dn_tool.specs.declared.state.State.{State as Kept}
-use Rattle.dn_tool.specs.Turn.{IsGrantTurn, State, named}
+use Rattle.dn_tool.specs.Turn.{IsGrantTurn, State, state_with_id}
 use Rattle.dn_tool.proofs.Changes.{grant_refused_so, grant_said, grant_stopped, halted_after, not_granted_turn, state_granted, state_named, state_same}
 use Rattle.dn_tool.proofs.change.grant_change.Goals as goal
 
 pub renew-requires-clause-faithful : goal.renew-requires-clause-faithful
 renew-requires-clause-faithful g c = c.in-Ok.ensures.faithful c.requires.ready.state.faithful
 
-pub returns-in_err-granted-in-Ok-clause-changed : goal.returns-in_err-granted-in-Ok-clause-changed
-returns-in_err-granted-in-Ok-clause-changed g c =
+pub returns-in_err-granted_reply-in-Ok-clause-changed : goal.returns-in_err-granted_reply-in-Ok-clause-changed
+returns-in_err-granted_reply-in-Ok-clause-changed g c =
     let kinds : List Meaning = map (λ k. (goal.UnitKind-dyn g (k.vtable, k.value)).meaning k.value) c.args.machine.kinds.now.list.items in
     let state = c.args.state.now in
-    let ended : c.from_residual-in_err-granted-in-Ok.result ≡ Err NoMemory = search rules in
-    halted_after (IsGrantTurn kinds c.args.machine.net.now (state_view state) c.args.id.now c.args.request.now) c.from_residual-in_err-granted-in-Ok.result (state_view c.renew.new.state) (state_view c.renew.new.state) (granted_text c.args.id.now c.in-Ok.v) _ _ ended
+    let ended : c.from_residual-in_err-granted_reply-in-Ok.result ≡ Err NoMemory = search rules in
+    halted_after (IsGrantTurn kinds c.args.machine.net.now (state_view state) c.args.id.now c.args.request.now) c.from_residual-in_err-granted_reply-in-Ok.result (state_view c.renew.new.state) (state_view c.renew.new.state) (granted_text c.args.id.now c.in-Ok.v) _ _ ended
     (state_granted kinds c.args.machine.net.now state c.renew.new.state c.args.id.now c.args.request.now c.in_ok-number.number c.in-Ok.v c.grant.new.book _ _ c.in_ok-number.ensures.number c.in-Ok.ensures.turn c.in-Ok.ensures.granted c.renew.ensures.still.book (c.renew.ensures.still.ids ∙ c.in_ok-number.ensures.ids) c.in-Ok.ensures.fenced)
 
-pub returns-in_ok-granted-in-Ok-clause-changed : goal.returns-in_ok-granted-in-Ok-clause-changed
-returns-in_ok-granted-in-Ok-clause-changed g c =
+pub returns-in_ok-granted_reply-in-Ok-clause-changed : goal.returns-in_ok-granted_reply-in-Ok-clause-changed
+returns-in_ok-granted_reply-in-Ok-clause-changed g c =
     let kinds : List Meaning = map (λ k. (goal.UnitKind-dyn g (k.vtable, k.value)).meaning k.value) c.args.machine.kinds.now.list.items in
     let state = c.args.state.now in
-    subst (λ (t : List ℕ). IsChanged (IsGrantTurn kinds c.args.machine.net.now (state_view state) c.args.id.now c.args.request.now) (state_view c.renew.new.state) t (g.D.Tables.log c.args.device.now) (g.D.Tables.log c.grant.new.device)) (sym c.in_ok-granted-in-Ok.ensures)
+    subst (λ (t : List ℕ). IsChanged (IsGrantTurn kinds c.args.machine.net.now (state_view state) c.args.id.now c.args.request.now) (state_view c.renew.new.state) t (g.D.Tables.log c.args.device.now) (g.D.Tables.log c.grant.new.device)) (sym c.in_ok-granted_reply-in-Ok.ensures)
     (state_granted kinds c.args.machine.net.now state c.renew.new.state c.args.id.now c.args.request.now c.in_ok-number.number c.in-Ok.v c.grant.new.book _ _ c.in_ok-number.ensures.number c.in-Ok.ensures.turn c.in-Ok.ensures.granted c.renew.ensures.still.book (c.renew.ensures.still.ids ∙ c.in_ok-number.ensures.ids) c.in-Ok.ensures.fenced)
 
 pub returns-in-Err-Device-clause-changed : goal.returns-in-Err-Device-clause-changed
@@ -65,7 +65,7 @@ returns-in_ok-grant_refused-in-Err g c =
     let refused : IsGrantRefused net state.book.grants (id_number state.ids id) rq said.0 = subst (λ n. IsGrantRefused net state.book.grants n rq said.0) number (grant_refused_so net state.book.grants c.grant.new.book.grants c.in_ok-number.number rq c.in-Err.why said.0 said.1 c.in-Err.ensures.turn) in
     let text : c.in_ok-grant_refused-in-Err.field-0 ≡ grant_refused_text id said.0 = subst (λ (o : Option GrantRefusal). IfSome o (λ r. c.in_ok-grant_refused-in-Err.field-0 ≡ grant_refused_text id r)) said.1 c.in_ok-grant_refused-in-Err.ensures in
     let after : Kept = record { book = c.grant.new.book; ids = c.number.new.self; image = state.image; first = state.first; flats = c.keep_flats.new.flats } in
-    let left : named s id ≡ state_view after = state_named after s id state.book same.0 refl refl c.in_ok-number.ensures.ids in
+    let left : state_with_id s id ≡ state_view after = state_named after s id state.book same.0 refl refl c.in_ok-number.ensures.ids in
     let turned = not_granted_turn kinds net s (state_view after) id rq said.0 (g.D.Tables.log c.args.device.now) (g.D.Tables.log c.grant.new.device) refused (ap g.D.Tables.log same.1) left in
     record {
       changed = subst (λ (t : List ℕ). IsChanged (IsGrantTurn kinds net s id rq) (state_view after) t (g.D.Tables.log c.args.device.now) (g.D.Tables.log c.grant.new.device)) (sym text) turned;

@@ -5,4 +5,4 @@ use Rattle.dn_tool.proofs.change.grant_refused.Goals as goal
 pub returns-in-NoPlacement : goal.returns-in-NoPlacement
 returns-in-NoPlacement c =
     let is : c.args.why ≡ why.NoPlacement = search rules in
-    rw is c.refused-in-NoPlacement.ensures
+    rw is c.refused_reply-in-NoPlacement.ensures

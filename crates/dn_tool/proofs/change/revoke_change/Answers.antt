@@ -9,30 +9,30 @@ use Rattle.dn_tool.specs.Changed.{revoked_text}
 use Rattle.dn_tool.specs.Ids.{id_number}
 use Rattle.dn_tool.specs.State.{IsChanged, state_view}
 use Rattle.dn_tool.specs.declared.state.State.{State as Kept}
-use Rattle.dn_tool.specs.Turn.{IsRevokeTurn, State, named}
+use Rattle.dn_tool.specs.Turn.{IsRevokeTurn, State, state_with_id}
 use Rattle.dn_tool.proofs.Changes.{halted_after, not_revoked_turn, revoke_stopped, state_named, state_revoked, state_same}
 use Rattle.dn_tool.proofs.change.revoke_change.Goals as goal
 
 pub renew-requires-clause-faithful : goal.renew-requires-clause-faithful
 renew-requires-clause-faithful g c = c.in-Ok.ensures.faithful c.requires.ready.state.faithful
 
-pub returns-in_err-revoked-in-Ok-clause-changed : goal.returns-in_err-revoked-in-Ok-clause-changed
-returns-in_err-revoked-in-Ok-clause-changed g c =
+pub returns-in_err-revoked_reply-in-Ok-clause-changed : goal.returns-in_err-revoked_reply-in-Ok-clause-changed
+returns-in_err-revoked_reply-in-Ok-clause-changed g c =
     let kinds : List Meaning = map (λ k. (goal.UnitKind-dyn g (k.vtable, k.value)).meaning k.value) c.args.machine.kinds.now.list.items in
     let state = c.args.state.now in
-    let ended : c.from_residual-in_err-revoked-in-Ok.result ≡ Err NoMemory = search rules in
-    halted_after (IsRevokeTurn kinds c.args.machine.net.now (state_view state) c.args.id.now) c.from_residual-in_err-revoked-in-Ok.result (state_view c.renew.new.state) (state_view c.renew.new.state) (revoked_text c.args.id.now) _ _ ended
+    let ended : c.from_residual-in_err-revoked_reply-in-Ok.result ≡ Err NoMemory = search rules in
+    halted_after (IsRevokeTurn kinds c.args.machine.net.now (state_view state) c.args.id.now) c.from_residual-in_err-revoked_reply-in-Ok.result (state_view c.renew.new.state) (state_view c.renew.new.state) (revoked_text c.args.id.now) _ _ ended
     (state_revoked kinds c.args.machine.net.now state c.renew.new.state c.args.id.now c.in_ok-number.number c.revoke.new.self _ _ c.in_ok-number.ensures.number (λ e. let x = c.in-Ok.ensures.unknown.1 e in cc) c.in-Ok.ensures.added c.in-Ok.ensures.revoked c.renew.ensures.still.book (c.renew.ensures.still.ids ∙ c.in_ok-number.ensures.ids) c.in-Ok.ensures.cleared)
 
-pub returns-in_ok-revoked-in-Ok-clause-changed : goal.returns-in_ok-revoked-in-Ok-clause-changed
-returns-in_ok-revoked-in-Ok-clause-changed g c =
+pub returns-in_ok-revoked_reply-in-Ok-clause-changed : goal.returns-in_ok-revoked_reply-in-Ok-clause-changed
+returns-in_ok-revoked_reply-in-Ok-clause-changed g c =
     let kinds : List Meaning = map (λ k. (goal.UnitKind-dyn g (k.vtable, k.value)).meaning k.value) c.args.machine.kinds.now.list.items in
     let state = c.args.state.now in
-    subst (λ (t : List ℕ). IsChanged (IsRevokeTurn kinds c.args.machine.net.now (state_view state) c.args.id.now) (state_view c.renew.new.state) t (g.D.Tables.log c.args.device.now) (g.D.Tables.log c.revoke.new.device)) (sym c.in_ok-revoked-in-Ok.ensures)
+    subst (λ (t : List ℕ). IsChanged (IsRevokeTurn kinds c.args.machine.net.now (state_view state) c.args.id.now) (state_view c.renew.new.state) t (g.D.Tables.log c.args.device.now) (g.D.Tables.log c.revoke.new.device)) (sym c.in_ok-revoked_reply-in-Ok.ensures)
     (state_revoked kinds c.args.machine.net.now state c.renew.new.state c.args.id.now c.in_ok-number.number c.revoke.new.self _ _ c.in_ok-number.ensures.number (λ e. let x = c.in-Ok.ensures.unknown.1 e in cc) c.in-Ok.ensures.added c.in-Ok.ensures.revoked c.renew.ensures.still.book (c.renew.ensures.still.ids ∙ c.in_ok-number.ensures.ids) c.in-Ok.ensures.cleared)
 
-pub returns-in_ok-refused-in-Err-NoGrant-clause-changed : goal.returns-in_ok-refused-in-Err-NoGrant-clause-changed
-returns-in_ok-refused-in-Err-NoGrant-clause-changed g c =
+pub returns-in_ok-refused_reply-in-Err-NoGrant-clause-changed : goal.returns-in_ok-refused_reply-in-Err-NoGrant-clause-changed
+returns-in_ok-refused_reply-in-Err-NoGrant-clause-changed g c =
     let kinds : List Meaning = map (λ k. (goal.UnitKind-dyn g (k.vtable, k.value)).meaning k.value) c.args.machine.kinds.now.list.items in
     let net : List NodeDecl = c.args.machine.net.now in
     let state = c.args.state.now in
@@ -43,11 +43,11 @@ returns-in_ok-refused-in-Err-NoGrant-clause-changed g c =
     let same = c.revoke.ensures.unchanged failed in
     let none : has_id (id_number state.ids id) state.book.grants ≡ false = subst (λ n. has_id n state.book.grants ≡ false) number (c.revoke.ensures.unknown.0 failed) in
     let after : Kept = record { book = c.revoke.new.self; ids = c.number.new.self; image = state.image; first = state.first; flats = state.flats } in
-    let left : named s id ≡ state_view after = state_named after s id state.book same.0 refl refl c.in_ok-number.ensures.ids in
-    subst (λ (t : List ℕ). IsChanged (IsRevokeTurn kinds net s id) (state_view after) t (g.D.Tables.log c.args.device.now) (g.D.Tables.log c.revoke.new.device)) (sym c.in_ok-refused-in-Err-NoGrant.ensures) (not_revoked_turn kinds net s (state_view after) id (g.D.Tables.log c.args.device.now) (g.D.Tables.log c.revoke.new.device) none (ap g.D.Tables.log same.1) left)
+    let left : state_with_id s id ≡ state_view after = state_named after s id state.book same.0 refl refl c.in_ok-number.ensures.ids in
+    subst (λ (t : List ℕ). IsChanged (IsRevokeTurn kinds net s id) (state_view after) t (g.D.Tables.log c.args.device.now) (g.D.Tables.log c.revoke.new.device)) (sym c.in_ok-refused_reply-in-Err-NoGrant.ensures) (not_revoked_turn kinds net s (state_view after) id (g.D.Tables.log c.args.device.now) (g.D.Tables.log c.revoke.new.device) none (ap g.D.Tables.log same.1) left)
 
-pub returns-in_ok-refused-in-Err-NoGrant-clause-ready : goal.returns-in_ok-refused-in-Err-NoGrant-clause-ready
-returns-in_ok-refused-in-Err-NoGrant-clause-ready g c =
+pub returns-in_ok-refused_reply-in-Err-NoGrant-clause-ready : goal.returns-in_ok-refused_reply-in-Err-NoGrant-clause-ready
+returns-in_ok-refused_reply-in-Err-NoGrant-clause-ready g c =
     let kinds : List Meaning = map (λ k. (goal.UnitKind-dyn g (k.vtable, k.value)).meaning k.value) c.args.machine.kinds.now.list.items in
     let state = c.args.state.now in
     let same = c.revoke.ensures.unchanged (c.in-Err-NoGrant.is ∙ ap Err c.in-Err-NoGrant.field-0-is) in

@@ -12,26 +12,26 @@ use Rattle.dn_tool.specs.Changed.{route_refused_text, routed_text}
 use Rattle.dn_tool.specs.Ids.{id_number}
 use Rattle.dn_tool.specs.State.{IsChanged, state_view}
 use Rattle.dn_tool.specs.declared.state.State.{State as Kept}
-use Rattle.dn_tool.specs.Turn.{IsRouteTurn, State, named}
+use Rattle.dn_tool.specs.Turn.{IsRouteTurn, State, state_with_id}
 use Rattle.dn_tool.proofs.Changes.{halted_after, not_routed_turn, route_refused_so, route_said, route_stopped, state_named, state_routed, state_same}
 use Rattle.dn_tool.proofs.change.route_change.Goals as goal
 
 pub renew-requires-clause-faithful : goal.renew-requires-clause-faithful
 renew-requires-clause-faithful g c = c.in-Ok.ensures.faithful c.requires.ready.state.faithful
 
-pub returns-in_err-routed-in-Ok-clause-changed : goal.returns-in_err-routed-in-Ok-clause-changed
-returns-in_err-routed-in-Ok-clause-changed g c =
+pub returns-in_err-routed_reply-in-Ok-clause-changed : goal.returns-in_err-routed_reply-in-Ok-clause-changed
+returns-in_err-routed_reply-in-Ok-clause-changed g c =
     let kinds : List Meaning = map (λ k. (goal.UnitKind-dyn g (k.vtable, k.value)).meaning k.value) c.args.machine.kinds.now.list.items in
     let state = c.args.state.now in
-    let ended : c.from_residual-in_err-routed-in-Ok.result ≡ Err NoMemory = search rules in
-    halted_after (IsRouteTurn kinds c.args.machine.net.now (state_view state) c.args.id.now c.args.agent c.args.line c.args.node) c.from_residual-in_err-routed-in-Ok.result (state_view c.renew.new.state) (state_view c.renew.new.state) (routed_text c.args.id.now c.in-Ok.vector) _ _ ended
+    let ended : c.from_residual-in_err-routed_reply-in-Ok.result ≡ Err NoMemory = search rules in
+    halted_after (IsRouteTurn kinds c.args.machine.net.now (state_view state) c.args.id.now c.args.agent c.args.line c.args.node) c.from_residual-in_err-routed_reply-in-Ok.result (state_view c.renew.new.state) (state_view c.renew.new.state) (routed_text c.args.id.now c.in-Ok.vector) _ _ ended
     (state_routed kinds c.args.machine.net.now state c.renew.new.state c.args.id.now c.args.agent c.args.line c.args.node c.in_ok-number.number c.in-Ok.vector c.route.new.book _ _ c.in_ok-number.ensures.number c.in-Ok.ensures.turn c.in-Ok.ensures.routed c.renew.ensures.still.book (c.renew.ensures.still.ids ∙ c.in_ok-number.ensures.ids) c.in-Ok.ensures.fenced)
 
-pub returns-in_ok-routed-in-Ok-clause-changed : goal.returns-in_ok-routed-in-Ok-clause-changed
-returns-in_ok-routed-in-Ok-clause-changed g c =
+pub returns-in_ok-routed_reply-in-Ok-clause-changed : goal.returns-in_ok-routed_reply-in-Ok-clause-changed
+returns-in_ok-routed_reply-in-Ok-clause-changed g c =
     let kinds : List Meaning = map (λ k. (goal.UnitKind-dyn g (k.vtable, k.value)).meaning k.value) c.args.machine.kinds.now.list.items in
     let state = c.args.state.now in
-    subst (λ (t : List ℕ). IsChanged (IsRouteTurn kinds c.args.machine.net.now (state_view state) c.args.id.now c.args.agent c.args.line c.args.node) (state_view c.renew.new.state) t (g.D.Tables.log c.args.device.now) (g.D.Tables.log c.route.new.device)) (sym c.in_ok-routed-in-Ok.ensures)
+    subst (λ (t : List ℕ). IsChanged (IsRouteTurn kinds c.args.machine.net.now (state_view state) c.args.id.now c.args.agent c.args.line c.args.node) (state_view c.renew.new.state) t (g.D.Tables.log c.args.device.now) (g.D.Tables.log c.route.new.device)) (sym c.in_ok-routed_reply-in-Ok.ensures)
     (state_routed kinds c.args.machine.net.now state c.renew.new.state c.args.id.now c.args.agent c.args.line c.args.node c.in_ok-number.number c.in-Ok.vector c.route.new.book _ _ c.in_ok-number.ensures.number c.in-Ok.ensures.turn c.in-Ok.ensures.routed c.renew.ensures.still.book (c.renew.ensures.still.ids ∙ c.in_ok-number.ensures.ids) c.in-Ok.ensures.fenced)
 
 pub returns-in-Err-Device-clause-changed : goal.returns-in-Err-Device-clause-changed
@@ -67,7 +67,7 @@ returns-in_ok-route_refused-in-Err g c =
     let refused : IsRouteRefused net state.book.grants (id_number state.ids id) agent line node said.0 = subst (λ n. IsRouteRefused net state.book.grants n agent line node said.0) number (route_refused_so net state.book.grants c.route.new.book.grants c.in_ok-number.number agent line node c.in-Err.why said.0 said.1 c.in-Err.ensures.turn) in
     let text : c.in_ok-route_refused-in-Err.field-0 ≡ route_refused_text id said.0 = subst (λ (o : Option RouteRefusal). IfSome o (λ r. c.in_ok-route_refused-in-Err.field-0 ≡ route_refused_text id r)) said.1 c.in_ok-route_refused-in-Err.ensures in
     let after : Kept = record { book = c.route.new.book; ids = c.number.new.self; image = state.image; first = state.first; flats = c.keep_flats.new.flats } in
-    let left : named s id ≡ state_view after = state_named after s id state.book same.0 refl refl c.in_ok-number.ensures.ids in
+    let left : state_with_id s id ≡ state_view after = state_named after s id state.book same.0 refl refl c.in_ok-number.ensures.ids in
     let turned = not_routed_turn kinds net s (state_view after) id agent line node said.0 (g.D.Tables.log c.args.device.now) (g.D.Tables.log c.route.new.device) refused (ap g.D.Tables.log same.1) left in
     record {
       changed = subst (λ (t : List ℕ). IsChanged (IsRouteTurn kinds net s id agent line node) (state_view after) t (g.D.Tables.log c.args.device.now) (g.D.Tables.log c.route.new.device)) (sym text) turned;

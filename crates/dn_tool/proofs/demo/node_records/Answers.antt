@@ -29,8 +29,8 @@ loop-slot-preserved g c =
     let slot = c.loop-slot.slot in
     let passed : c.is_some.result ≡ is_some (held c.args.node slot) =
     c.is_some.ensures ∙ ap (λ (o : Option Record). is_some o) (c.record_at.ensures ∙ kept_is_held c.args.machine.net.now kinds c.args.tables.now c.requires.fits c.args.node slot) in
-    let more : c.counted-total.result ≡ c.loop-slot.total + (if is_some (held c.args.node slot) then 1 else 0) =
-    c.counted-total.ensures ∙ ap (λ (b : Bool). c.loop-slot.total + (if b then 1 else 0)) passed in
+    let more : c.count_if-total.result ≡ c.loop-slot.total + (if is_some (held c.args.node slot) then 1 else 0) =
+    c.count_if-total.ensures ∙ ap (λ (b : Bool). c.loop-slot.total + (if b then 1 else 0)) passed in
     let one = one_at_most (is_some (held c.args.node slot)) in
     let few = c.loop-slot.invariant.few in
     record {

@@ -80,10 +80,10 @@ commands-preserved g c =
     c.has_granted-grants.ensures ∙ (λ j. has_granted command (lived j) (lives j)) in
     let gone : c.has_revoked-revokes.result ≡ has_revoked command (length before) (length after) =
     c.has_revoked-revokes.ensures ∙ (λ j. has_revoked command (lived j) (lives j)) in
-    let granted : c.counted-granted.result ≡ c.commands.granted + (if has_granted command (length before) (length after) then 1 else 0) =
-    c.counted-granted.ensures ∙ ap (λ (b : Bool). c.commands.granted + (if b then 1 else 0)) made in
-    let revoked : c.counted-revoked.result ≡ c.commands.revoked + (if has_revoked command (length before) (length after) then 1 else 0) =
-    c.counted-revoked.ensures ∙ ap (λ (b : Bool). c.commands.revoked + (if b then 1 else 0)) gone in
+    let granted : c.count_if-granted.result ≡ c.commands.granted + (if has_granted command (length before) (length after) then 1 else 0) =
+    c.count_if-granted.ensures ∙ ap (λ (b : Bool). c.commands.granted + (if b then 1 else 0)) made in
+    let revoked : c.count_if-revoked.result ≡ c.commands.revoked + (if has_revoked command (length before) (length after) then 1 else 0) =
+    c.count_if-revoked.ensures ∙ ap (λ (b : Bool). c.commands.revoked + (if b then 1 else 0)) gone in
     let one = one_at_most (has_granted command (length before) (length after)) in
     let other = one_at_most (has_revoked command (length before) (length after)) in
     let few_granted = c.commands.invariant.few_granted in
@@ -93,7 +93,7 @@ commands-preserved g c =
       few_granted = omega (arith, further, granted, one, few_granted);
       few_revoked = omega (arith, further, revoked, other, few_revoked);
       ready = c.in_ok-ended.ensures.ready;
-      tallied = subst (λ (n : ℕ). IsTallied kinds net cs n (state_view c.play-ended.new.state) (g.D.Tables.log c.args.device.now) (g.D.Tables.log c.play-ended.new.device) c.counted-granted.result c.counted-revoked.result) (sym at.next) (tallied_more kinds net cs i (state_view c.commands.state) command _ _ _ c.commands.granted c.commands.revoked c.counted-granted.result c.counted-revoked.result (state_view c.play-ended.new.state) c.commands.invariant.tallied at.within at.at c.in_ok-ended.ensures.through owed granted revoked);
+      tallied = subst (λ (n : ℕ). IsTallied kinds net cs n (state_view c.play-ended.new.state) (g.D.Tables.log c.args.device.now) (g.D.Tables.log c.play-ended.new.device) c.count_if-granted.result c.count_if-revoked.result) (sym at.next) (tallied_more kinds net cs i (state_view c.commands.state) command _ _ _ c.commands.granted c.commands.revoked c.count_if-granted.result c.count_if-revoked.result (state_view c.play-ended.new.state) c.commands.invariant.tallied at.within at.at c.in_ok-ended.ensures.through owed granted revoked);
       device_counted = counted_then _ _ _ _ c.commands.invariant.device_counted c.in_ok-ended.ensures.halted.counted;
     }
 

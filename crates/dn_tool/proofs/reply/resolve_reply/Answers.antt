@@ -10,7 +10,7 @@ pub returns-in_default : goal.returns-in_default
 returns-in_default g c =
     let q = c.args.question in
     let is : resolved_text c.args.machine.net.now c.args.state.now.book.grants (access_of q.mode) q.target.now.node q.addr ≡ codes "no such node" = search rules in
-    subst (λ (t : List ℕ). IfOk c.asked.result (λ s. string_bytes s ≡ asked_text q.target.now q.addr q.mode t)) (sym is) c.asked.ensures
+    subst (λ (t : List ℕ). IfOk c.asked_text.result (λ s. string_bytes s ≡ asked_text q.target.now q.addr q.mode t)) (sym is) c.asked_text.ensures
 
 pub returns : goal.returns
 returns g c =
@@ -24,4 +24,4 @@ returns g c =
     ∙ ap (λ (a : Access). names_text net (names_under net book a name)) (sym c.access_of-access.ensures)
     ∙ sym c.in_ok-found.ensures
     ∙ sym c.as_str.ensures.value in
-    subst (λ (t : List ℕ). IfOk c.asked-2.result (λ s. string_bytes s ≡ asked_text q.target.now q.addr q.mode t)) (sym is) c.asked-2.ensures
+    subst (λ (t : List ℕ). IfOk c.asked_text-2.result (λ s. string_bytes s ≡ asked_text q.target.now q.addr q.mode t)) (sym is) c.asked_text-2.ensures

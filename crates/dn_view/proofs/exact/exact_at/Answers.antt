@@ -4,7 +4,6 @@ use Rattle.dn_interval.specs.declared.row.Seg.{Seg}
 use Rattle.dn_interval.specs.declared.span.TheConstants.{TOP}
 use Rattle.dn_interval.specs.Strands.{segs_give}
 use Rattle.dn_kind.specs.Rights.{allows}
-use Rattle.dn_flat.specs.Views.{name_of_end}
 use Rattle.dn_view.specs.Exact.{IsAdded, IsAskedAt, IsExactAt}
 use Rattle.dn_view.specs.Trials.{IsExactIn, trial_records}
 use Rattle.dn_view.proofs.Agents.{an_agent, no_agent}
@@ -13,6 +12,7 @@ use Rattle.std.proofs.lemmas.Result.{IfOk-weaker}
 use Rattle.dn_base.proofs.Booleans.{means_then}
 use Rattle.dn_net.specs.Decode.{is_agent_at}
 use Rattle.dn_net.proofs.Stops.{agent_there}
+use Rattle.dn_walk.specs.Ends.{name_of_end}
 use Rattle.dn_view.proofs.Added.{added_is, not_asked}
 use Rattle.dn_view.proofs.Buffers.{exact_buffer, exact_none}
 use Rattle.dn_view.proofs.exact.exact_at.Given.{Over}

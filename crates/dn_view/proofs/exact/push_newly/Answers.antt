@@ -5,7 +5,7 @@ use Rattle.dn_interval.specs.declared.row.Seg.{Seg}
 use Rattle.dn_interval.specs.declared.span.TheConstants.{TOP}
 use Rattle.dn_interval.specs.Strands.{segs_give}
 use Rattle.dn_kind.specs.Tables.{Held, AreHeld}
-use Rattle.dn_flat.specs.Views.{name_of_end}
+use Rattle.dn_walk.specs.Ends.{name_of_end}
 use Rattle.dn_view.specs.Through.{ComesThrough, IsPassedOn}
 use Rattle.dn_view.specs.Trials.{course_by, fresh_in, joined_in}
 use Rattle.dn_view.proofs.Courses.{course_held}

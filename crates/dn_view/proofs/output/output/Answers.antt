@@ -38,15 +38,15 @@ record_at-requires-clause-there g c =
     let u : UnitPart = c.in_ok-unit.unit.now in
     slot_there c.args.net.now kinds c.args.tables.now c.requires.tables.fits c.args.name.node (c.args.name.addr / 2 ^ u.page) u (found g (goal.at.record_at-requires-clause-there g c).In_ok-unit).at (omega (arith, c.if-slot-from.false, c.from.ensures))
 
-pub sent-requires-clause-plain : goal.sent-requires-clause-plain
-sent-requires-clause-plain g c = (found g (goal.at.sent-requires-clause-plain g c).In_ok-unit).plain
+pub output_name-requires-clause-plain : goal.output_name-requires-clause-plain
+output_name-requires-clause-plain g c = (found g (goal.at.output_name-requires-clause-plain g c).In_ok-unit).plain
 
-pub sent-requires-clause-within : goal.sent-requires-clause-within
-sent-requires-clause-within g c =
+pub output_name-requires-clause-within : goal.output_name-requires-clause-within
+output_name-requires-clause-within g c =
     let kinds : List Meaning = map (λ k. (goal.UnitKind-dyn g (k.vtable, k.value)).meaning k.value) c.args.kinds.now.list.items in
     let u : UnitPart = c.in_ok-unit.unit.now in
     let lawful : All IsLawful kinds = all_of_map (λ k. (goal.UnitKind-dyn g (k.vtable, k.value)).meaning k.value) c.args.kinds.now.list.items c.requires.tables.lawful in
-    held_within c.args.net.now (record_kept kinds c.args.tables.now) (kept_are_held c.args.net.now kinds c.args.tables.now lawful c.requires.tables.fits) c.args.name.node (c.args.name.addr / 2 ^ u.page) u c.in_ok-record.record (found g (goal.at.sent-requires-clause-within g c).In_ok-unit).at (sym c.record_at.ensures ∙ c.in_ok-record.was)
+    held_within c.args.net.now (record_kept kinds c.args.tables.now) (kept_are_held c.args.net.now kinds c.args.tables.now lawful c.requires.tables.fits) c.args.name.node (c.args.name.addr / 2 ^ u.page) u c.in_ok-record.record (found g (goal.at.output_name-requires-clause-within g c).In_ok-unit).at (sym c.record_at.ensures ∙ c.in_ok-record.was)
 
 pub returns-then-slot-from : goal.returns-then-slot-from
 returns-then-slot-from g c =

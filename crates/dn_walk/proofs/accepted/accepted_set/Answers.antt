@@ -14,4 +14,4 @@ pub returns : goal.returns
 returns c =
     let range = accepts_in_range c.args.net.now c.args.node c.accepts.result.now c.requires.rules.each c.accepts.ensures in
     let spans = c.in_ok-accept_spans.field-0.items in
-    IfOk-weaker c.covered.result (λ s. (a : ℕ) → has s a ≡ has spans a) (λ s. (a : ℕ) → has s a ≡ is_accepted_at a (slice_get c.args.net.now c.args.node)) (λ s h. accepted_by (slice_get c.args.net.now c.args.node) c.accepts.result.now s range c.accepts.ensures (λ a. h a ∙ any_blocks a spans ∙ ap (in_some_block a) c.in_ok-accept_spans.ensures)) c.covered.ensures
+    IfOk-weaker c.covered_set.result (λ s. (a : ℕ) → has s a ≡ has spans a) (λ s. (a : ℕ) → has s a ≡ is_accepted_at a (slice_get c.args.net.now c.args.node)) (λ s h. accepted_by (slice_get c.args.net.now c.args.node) c.accepts.result.now s range c.accepts.ensures (λ a. h a ∙ any_blocks a spans ∙ ap (in_some_block a) c.in_ok-accept_spans.ensures)) c.covered_set.ensures

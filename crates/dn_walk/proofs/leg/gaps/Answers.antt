@@ -18,4 +18,4 @@ left accepts entries blocks covered ar er is cov (Err e) same maximal = tt
 
 pub returns : goal.returns
 returns c =
-    left c.args.accepts.now c.args.entries.now c.in_ok-block_spans.field-0.items c.in_ok-covered.field-0 c.requires.accepts c.requires.entries c.in_ok-block_spans.ensures c.in_ok-covered.ensures c.complement-2.result c.complement-2.ensures.same c.complement-2.ensures.maximal
+    left c.args.accepts.now c.args.entries.now c.in_ok-block_spans.field-0.items c.in_ok-covered_set.field-0 c.requires.accepts c.requires.entries c.in_ok-block_spans.ensures c.in_ok-covered_set.ensures c.complement-2.result c.complement-2.ensures.same c.complement-2.ensures.maximal

@@ -2,8 +2,8 @@
 use Rattle.std.proofs.Common.{◌≡◌, ◌∙◌, ◌+◌, ◌++◌, ◌∷◌, [], suc, sym, ap, map, arith}
 use Rattle.std.proofs.lemmas.List.{map-append}
 use Rattle.dn_walk.specs.Rows.{row_view}
-use Rattle.dn_walk.specs.Levels.{told_still, told_stills}
-use Rattle.dn_walk.proofs.Told.{stills_more}
+use Rattle.dn_walk.specs.Levels.{bare_still_walk, bare_still_walks}
+use Rattle.dn_walk.proofs.BareWalks.{stills_more}
 use Rattle.dn_walk.proofs.level.still_rows.Goals as goal
 
 pub loop-node-preserved : goal.loop-node-preserved
@@ -13,7 +13,7 @@ loop-node-preserved c =
     let b : n ≡ 0 + n = omega arith in
     ap (map row_view) c.in_ok-push.ensures.items
     ∙ map-append row_view c.loop-node.rows.items _
-    ∙ ap (λ l. l ++ told_still n ∷ []) c.loop-node.invariant
-    ∙ ap (λ m. told_stills 0 n ++ told_still m ∷ []) b
+    ∙ ap (λ l. l ++ bare_still_walk n ∷ []) c.loop-node.invariant
+    ∙ ap (λ m. bare_still_walks 0 n ++ bare_still_walk m ∷ []) b
     ∙ sym (stills_more 0 n)
-    ∙ ap (told_stills 0) a
+    ∙ ap (bare_still_walks 0) a

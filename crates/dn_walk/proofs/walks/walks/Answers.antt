@@ -14,23 +14,23 @@ use Rattle.dn_net.specs.declared.node.Name.{Name}
 use Rattle.dn_walk.specs.declared.leg.Leg.{Leg}
 use Rattle.dn_walk.specs.declared.level.Levels.{Levels}
 use Rattle.dn_walk.specs.declared.walks.WalkRow.{WalkRow}
-use Rattle.dn_walk.specs.Rows.{row_view, told_by_walk}
-use Rattle.dn_walk.specs.Legs.{told_legs}
-use Rattle.dn_walk.specs.Levels.{AreLevels, told_level, told_levels, told_walks}
-use Rattle.dn_walk.specs.Ways.{least_of, start_names, told_cycle, told_path}
+use Rattle.dn_walk.specs.Rows.{bare_walk, row_view}
+use Rattle.dn_walk.specs.Legs.{bare_legs}
+use Rattle.dn_walk.specs.Levels.{AreWalkLevels, bare_level, bare_levels, bare_walks}
+use Rattle.dn_walk.specs.Ways.{least_of, shown_cycle, shown_path, start_names}
 use Rattle.dn_net.proofs.Kept.{none_broken}
 use Rattle.dn_net.proofs.Endless.{no_fault_is_shallow}
 use Rattle.dn_net.proofs.Legal.{first_part, second_part, legal_breaks_no_rule}
 use Rattle.dn_net.proofs.Places.{length-map}
 use Rattle.dn_walk.proofs.Nodes.{all_legs_of}
-use Rattle.dn_walk.proofs.Told.{rows_are, table_is}
-use Rattle.dn_walk.proofs.Verdict.{Acyclic, Legal, steps_are, limit_is, wide_is, loop_is, deep_is, legal_is, cycle_told, path_told, sorted_by_start, empty_on}
+use Rattle.dn_walk.proofs.BareWalks.{rows_are, table_is}
+use Rattle.dn_walk.proofs.Verdict.{Acyclic, Legal, steps_are, limit_is, wide_is, loop_is, deep_is, legal_is, cycle_shown, path_shown, sorted_by_start, empty_on}
 use Rattle.dn_walk.proofs.walks.walks.Goals as goal
 use Rattle.dn_walk.proofs.walks.walks.Goals.{In_ok-levels-2, In_ok-levels-3, In_ok-check_newest-2, then-levels-test+else-not-is_empty, else-levels-test}
 
 -- levels made from the legs of the net
-same_levels : (net : List NodeDecl) (legs now : List (List Leg)) (l : Levels) → now ≡ legs → legs ≡ map told_legs net → AreLevels now l → AreLevels (map told_legs net) l
-same_levels net legs now l e f h = subst (λ x. AreLevels x l) (e ∙ f) h
+same_levels : (net : List NodeDecl) (legs now : List (List Leg)) (l : Levels) → now ≡ legs → legs ≡ map bare_legs net → AreWalkLevels now l → AreWalkLevels (map bare_legs net) l
+same_levels net legs now l e f h = subst (λ x. AreWalkLevels x l) (e ∙ f) h
 
 wide_broken : (P : Type 0) (found o : Option Broken) → (P → found ≡ Some is_wide) → IfSome o (λ b. (b ≡ is_wide) × P) → IfSome o (λ b. found ≡ Some b)
 wide_broken P found None f h = tt
@@ -52,56 +52,56 @@ unit_broken net None e h = tt
 unit_broken net (Some b) e h = second_part net e ∙ h
 
 -- the rows of the newest level begin at nodes of the net
-starts_there : (net : List NodeDecl) → KeepsNodeRules net → (l : Levels) → AreLevels (map told_legs net) l → length l.sorted.items ≤ 65 → All (λ (r : WalkRow). r.start < length net) l.newest.items
+starts_there : (net : List NodeDecl) → KeepsNodeRules net → (l : Levels) → AreWalkLevels (map bare_legs net) l → length l.sorted.items ≤ 65 → All (λ (r : WalkRow). r.start < length net) l.newest.items
 starts_there net rules l h m = λ k d b.
-    let r = rows_are (map told_legs net) (all_legs_of net rules (map told_legs net) refl) (length l.sorted.items) 65 m l.newest.items h.newest k d b in
-    subst (λ n. (get_or l.newest.items k d).start < n) (length-map told_legs net) r.start
+    let r = rows_are (map bare_legs net) (all_legs_of net rules (map bare_legs net) refl) (length l.sorted.items) 65 m l.newest.items h.newest k d b in
+    subst (λ n. (get_or l.newest.items k d).start < n) (length-map bare_legs net) r.start
 
-sorted_starts : (net : List NodeDecl) (l : Levels) → AreLevels (map told_legs net) l → All (λ level. IsNonDecreasingBy (λ (r : WalkRow). r.start) level) l.sorted.items
-sorted_starts net l h = sorted_by_start (map told_legs net) (length l.sorted.items) l.sorted.items refl h.sorted
+sorted_starts : (net : List NodeDecl) (l : Levels) → AreWalkLevels (map bare_legs net) l → All (λ level. IsNonDecreasingBy (λ (r : WalkRow). r.start) level) l.sorted.items
+sorted_starts net l h = sorted_by_start (map bare_legs net) (length l.sorted.items) l.sorted.items refl h.sorted
 
 -- how many walks there are
-few : (net : List NodeDecl) (l : Levels) → AreLevels (map told_legs net) l → length (told_walks (map told_legs net) (length l.sorted.items)) ≤ walk_limit
+few : (net : List NodeDecl) (l : Levels) → AreWalkLevels (map bare_legs net) l → length (bare_walks (map bare_legs net) (length l.sorted.items)) ≤ walk_limit
 few net l h = let r = h.room in omega arith
 
-cycle_same : (net : List NodeDecl) (l : Levels) → AreLevels (map told_legs net) l → told_cycle net (map (map row_view) l.sorted.items) (map row_view l.newest.items) ≡ told_cycle net (told_levels (map told_legs net) (length l.sorted.items)) (told_level (map told_legs net) (length l.sorted.items))
-cycle_same net l h = ap (λ x. told_cycle net x (map row_view l.newest.items)) h.sorted ∙ ap (told_cycle net (told_levels (map told_legs net) (length l.sorted.items))) h.newest
+cycle_same : (net : List NodeDecl) (l : Levels) → AreWalkLevels (map bare_legs net) l → shown_cycle net (map (map row_view) l.sorted.items) (map row_view l.newest.items) ≡ shown_cycle net (bare_levels (map bare_legs net) (length l.sorted.items)) (bare_level (map bare_legs net) (length l.sorted.items))
+cycle_same net l h = ap (λ x. shown_cycle net x (map row_view l.newest.items)) h.sorted ∙ ap (shown_cycle net (bare_levels (map bare_legs net) (length l.sorted.items))) h.newest
 
-path_same : (net : List NodeDecl) (l : Levels) → AreLevels (map told_legs net) l → told_path net (map (map row_view) l.sorted.items) (map row_view l.newest.items) ≡ told_path net (told_levels (map told_legs net) (length l.sorted.items)) (told_level (map told_legs net) (length l.sorted.items))
-path_same net l h = ap (λ x. told_path net x (map row_view l.newest.items)) h.sorted ∙ ap (told_path net (told_levels (map told_legs net) (length l.sorted.items))) h.newest
+path_same : (net : List NodeDecl) (l : Levels) → AreWalkLevels (map bare_legs net) l → shown_path net (map (map row_view) l.sorted.items) (map row_view l.newest.items) ≡ shown_path net (bare_levels (map bare_legs net) (length l.sorted.items)) (bare_level (map bare_legs net) (length l.sorted.items))
+path_same net l h = ap (λ x. shown_path net x (map row_view l.newest.items)) h.sorted ∙ ap (shown_path net (bare_levels (map bare_legs net) (length l.sorted.items))) h.newest
 
-acyclic_more : (net : List NodeDecl) (k c : ℕ) → c ≡ k + 1 → Acyclic net k → least_of (start_names true (told_level (map told_legs net) c)) ≡ None → Acyclic net c
+acyclic_more : (net : List NodeDecl) (k c : ℕ) → c ≡ k + 1 → Acyclic net k → least_of (start_names true (bare_level (map bare_legs net) c)) ≡ None → Acyclic net c
 acyclic_more net k c s a e = λ j l m. by j l (last j m)
   where
     last : (j : ℕ) → j ≤ c → (j ≡ c) ⊎ (j ≤ k)
     last j m = grind arith
 
-    by : (j : ℕ) → 1 ≤ j → (j ≡ c) ⊎ (j ≤ k) → least_of (start_names true (told_level (map told_legs net) j)) ≡ None
-    by j l (inl t) = ap (λ n. least_of (start_names true (told_level (map told_legs net) n))) t ∙ e
+    by : (j : ℕ) → 1 ≤ j → (j ≡ c) ⊎ (j ≤ k) → least_of (start_names true (bare_level (map bare_legs net) j)) ≡ None
+    by j l (inl t) = ap (λ n. least_of (start_names true (bare_level (map bare_legs net) n))) t ∙ e
     by j l (inr m) = a j l m
 
 -- the loop ends at level 64, or at an empty level
 abbrev Ended : List NodeDecl → ℕ → Type 0
-Ended net k = (64 ≤ k) ⊎ (told_level (map told_legs net) k ≡ [])
+Ended net k = (64 ≤ k) ⊎ (bare_level (map bare_legs net) k ≡ [])
 
-deep_at : (net : List NodeDecl) → KeepsNodeRules net → (k c : ℕ) (names : List Name) → c ≡ k + 1 → k ≤ 64 → Ended net k → Acyclic net k → length (told_walks (map told_legs net) c) ≤ walk_limit → told_path net (told_levels (map told_legs net) c) (told_level (map told_legs net) c) ≡ Some names → endless_fault net ≡ Some (is_deep names)
+deep_at : (net : List NodeDecl) → KeepsNodeRules net → (k c : ℕ) (names : List Name) → c ≡ k + 1 → k ≤ 64 → Ended net k → Acyclic net k → length (bare_walks (map bare_legs net) c) ≤ walk_limit → shown_path net (bare_levels (map bare_legs net) c) (bare_level (map bare_legs net) c) ≡ Some names → endless_fault net ≡ Some (is_deep names)
 deep_at net checked k c names s l (inl m) a w told =
     let u = steps_are in
     let t : c ≡ step_limit = omega arith in
     let n : k ≡ step_limit - 1 = omega arith in
     deep_is net checked c names t (subst (Acyclic net) n a) w told
 deep_at net checked k c names s l (inr e) a w told =
-    let f = empty_on (map told_legs net) k c e (omega arith) in
-    let g : told_path net (told_levels (map told_legs net) c) [] ≡ Some names = subst (λ rows. told_path net (told_levels (map told_legs net) c) rows ≡ Some names) f told in
+    let f = empty_on (map bare_legs net) k c e (omega arith) in
+    let g : shown_path net (bare_levels (map bare_legs net) c) [] ≡ Some names = subst (λ rows. shown_path net (bare_levels (map bare_legs net) c) rows ≡ Some names) f told in
     cc
 
 -- a level more that is too wide breaks the rule on how many walks there are
-too_wide : (net : List NodeDecl) (legs now : List (List Leg)) (k : ℕ) → KeepsNodeRules net → now ≡ legs → legs ≡ map told_legs net → Acyclic net k → k ≤ 64 → walk_limit < length (told_walks now (k + 1)) → walk_fault net ≡ Some is_wide
+too_wide : (net : List NodeDecl) (legs now : List (List Leg)) (k : ℕ) → KeepsNodeRules net → now ≡ legs → legs ≡ map bare_legs net → Acyclic net k → k ≤ 64 → walk_limit < length (bare_walks now (k + 1)) → walk_fault net ≡ Some is_wide
 too_wide net legs now k rules e f acyclic shallow w =
-    first_part net is_wide (wide_is net rules k acyclic shallow (subst (λ x. walk_limit < length (told_walks x (k + 1))) (e ∙ f) w))
+    first_part net is_wide (wide_is net rules k acyclic shallow (subst (λ x. walk_limit < length (bare_walks x (k + 1))) (e ∙ f) w))
 
 -- the levels after a turn are those of the net, and there are 64 of them at most
-turned : (c : In_ok-levels-2) → AreLevels (map told_legs c.args.net.now) c.in_ok-levels-2.levels
+turned : (c : In_ok-levels-2) → AreWalkLevels (map bare_legs c.args.net.now) c.in_ok-levels-2.levels
 turned c = same_levels c.args.net.now c.in_ok-legs.legs.items c.deref.result.now c.in_ok-levels-2.levels c.deref.ensures.value c.in_ok-legs.ensures.legs c.in_ok-levels-2.ensures.levels
 
 turned_few : (c : In_ok-levels-2) → length c.levels.levels.sorted.items < 64
@@ -110,31 +110,31 @@ turned_few c =
     omega (arith, c.len.ensures, c.levels-test.true)
 
 -- so are those with the last one
-ended : (c : In_ok-levels-3) → AreLevels (map told_legs c.args.net.now) c.in_ok-levels-3.levels
+ended : (c : In_ok-levels-3) → AreWalkLevels (map bare_legs c.args.net.now) c.in_ok-levels-3.levels
 ended c = same_levels c.args.net.now c.in_ok-legs.legs.items c.deref-2.result.now c.in_ok-levels-3.levels c.deref-2.ensures.value c.in_ok-legs.ensures.legs c.in_ok-levels-3.ensures.levels
 
 -- where the last one has no walk, no rule on cycles and depth is broken
-sound : (c : In_ok-check_newest-2) → AreLevels (map told_legs c.args.net.now) c.in_ok-levels-3.levels → Legal c.args.net.now (length c.levels.levels.sorted.items)
+sound : (c : In_ok-check_newest-2) → AreWalkLevels (map bare_legs c.args.net.now) c.in_ok-levels-3.levels → Legal c.args.net.now (length c.levels.levels.sorted.items)
 sound c h =
     let net = c.args.net.now in
     let l = c.in_ok-levels-3.levels in
     let one = c.in_ok-levels-3.ensures.one_more in
-    let none = path_told net (map (map row_view) l.sorted.items) (map row_view l.newest.items) (no_names is_deep _ c.in_ok-check_newest-2.ensures) in
+    let none = path_shown net (map (map row_view) l.sorted.items) (map row_view l.newest.items) (no_names is_deep _ c.in_ok-check_newest-2.ensures) in
     legal_is net c.requires.rules (length c.levels.levels.sorted.items) (length l.sorted.items) (omega arith) c.levels.invariant.acyclic c.levels.invariant.shallow (few net l h) (ap (λ rows. least_of (start_names false rows)) (sym h.newest) ∙ none)
 
 -- and the rows of all levels but the first are the live walks
-tabled : (net : List NodeDecl) (l : Levels) (k : ℕ) → length l.sorted.items ≡ k + 1 → AreLevels (map told_legs net) l → Legal net k → map row_view (flat_map (λ x. x) (drop 1 l.sorted.items)) ≡ map told_by_walk (live_walks net step_limit)
+tabled : (net : List NodeDecl) (l : Levels) (k : ℕ) → length l.sorted.items ≡ k + 1 → AreWalkLevels (map bare_legs net) l → Legal net k → map row_view (flat_map (λ x. x) (drop 1 l.sorted.items)) ≡ map bare_walk (live_walks net step_limit)
 tabled net l k one h legal =
     let pred : length l.sorted.items - 1 ≡ k = omega arith in
     let some : 0 < length l.sorted.items = omega arith in
-    table_is (map told_legs net) (length l.sorted.items) l.sorted.items some h.sorted ∙ ap (told_walks (map told_legs net)) pred ∙ legal.rows
+    table_is (map bare_legs net) (length l.sorted.items) l.sorted.items some h.sorted ∙ ap (bare_walks (map bare_legs net)) pred ∙ legal.rows
 
-pub grown-requires-clause-legs : goal.grown-requires-clause-legs
-grown-requires-clause-legs c =
+pub with_next-requires-clause-legs : goal.with_next-requires-clause-legs
+with_next-requires-clause-legs c =
     all_legs_of c.args.net.now c.requires.rules c.deref.result.now (c.deref.ensures.value ∙ c.in_ok-legs.ensures.legs)
 
-pub grown-requires-2-clause-legs : goal.grown-requires-2-clause-legs
-grown-requires-2-clause-legs c =
+pub with_next-requires-2-clause-legs : goal.with_next-requires-2-clause-legs
+with_next-requires-2-clause-legs c =
     all_legs_of c.args.net.now c.requires.rules c.deref-2.result.now (c.deref-2.ensures.value ∙ c.in_ok-legs.ensures.legs)
 
 pub levels-preserved : goal.levels-preserved
@@ -146,7 +146,7 @@ levels-preserved c =
     let h = turned place in
     let k = turned_few place in
     let one = c.in_ok-levels-2.ensures.one_more in
-    let none = cycle_told net (map (map row_view) l.sorted.items) (map row_view l.newest.items) (no_names has_loop _ c.in_ok-check_newest.ensures) in
+    let none = cycle_shown net (map (map row_view) l.sorted.items) (map row_view l.newest.items) (no_names has_loop _ c.in_ok-check_newest.ensures) in
     record {
       levels = h;
       shallow = omega arith;
@@ -196,7 +196,7 @@ returns-in_err-check_newest-clause-checks c =
     let h = turned place in
     let k = turned_few place in
     let suc_is : length l.sorted.items ≡ suc (length c.levels.levels.sorted.items) = c.in_ok-levels-2.ensures.one_more ∙ omega arith in
-    let loop : (names : List Name) → told_cycle net (told_levels (map told_legs net) (length l.sorted.items)) (told_level (map told_legs net) (length l.sorted.items)) ≡ Some names → walk_fault net ≡ Some (has_loop names) = λ names told. first_part net (has_loop names) (loop_is net c.requires.rules (length c.levels.levels.sorted.items) (length l.sorted.items) names suc_is c.levels.invariant.acyclic (omega arith) (few net l h) told) in
+    let loop : (names : List Name) → shown_cycle net (bare_levels (map bare_legs net) (length l.sorted.items)) (bare_level (map bare_legs net) (length l.sorted.items)) ≡ Some names → walk_fault net ≡ Some (has_loop names) = λ names told. first_part net (has_loop names) (loop_is net c.requires.rules (length c.levels.levels.sorted.items) (length l.sorted.items) names suc_is c.levels.invariant.acyclic (omega arith) (few net l h) told) in
     let p = err_from_is_err_and c.from_residual-in_err-check_newest.result c.from_residual-in_err-check_newest.ensures.1 in
     rw (p.1, p.2) (names_broken has_loop _ _ _ _ (cycle_same net l h) loop c.in_err-check_newest.ensures)
 
@@ -212,7 +212,7 @@ returns-in_err-check_newest-2-clause-checks c =
       | then-levels-test+else-not-is_empty w ↦ (let none : length old.newest.items ≡ 0 = grind (arith, nat_tests, w.is_empty.ensures, w.if-not-is_empty.false) in inr (sym inv.levels.newest ∙ ap (map row_view) (nil_from_length old.newest.items none)))
       | else-levels-test w ↦ inl (omega (arith, c.len.ensures, w.levels-test.false))
     ] in
-    let deep : (names : List Name) → told_path net (told_levels (map told_legs net) (length l.sorted.items)) (told_level (map told_legs net) (length l.sorted.items)) ≡ Some names → walk_fault net ≡ Some (is_deep names) = λ names told. first_part net (is_deep names) (deep_at net c.requires.rules (length old.sorted.items) (length l.sorted.items) names c.in_ok-levels-3.ensures.one_more inv.shallow ended inv.acyclic (few net l h) told) in
+    let deep : (names : List Name) → shown_path net (bare_levels (map bare_legs net) (length l.sorted.items)) (bare_level (map bare_legs net) (length l.sorted.items)) ≡ Some names → walk_fault net ≡ Some (is_deep names) = λ names told. first_part net (is_deep names) (deep_at net c.requires.rules (length old.sorted.items) (length l.sorted.items) names c.in_ok-levels-3.ensures.one_more inv.shallow ended inv.acyclic (few net l h) told) in
     let p = err_from_is_err_and c.from_residual-in_err-check_newest-2.result c.from_residual-in_err-check_newest-2.ensures.1 in
     rw (p.1, p.2) (names_broken is_deep _ _ _ _ (path_same net l h) deep c.in_err-check_newest-2.ensures)
 

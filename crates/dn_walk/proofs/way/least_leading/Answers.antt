@@ -12,6 +12,6 @@ loop-dest-preserved c =
     let z : Dest = record { node = 0; addr = 0 } in
     let d : Dest = get_or c.args.dests.now c.loop-dest.dest-index z in
     elim c.if-does_lead.branch [
-      | then-does_lead w ↦ w.least-is ∙ w.lesser-least.ensures ∙ dest_taken (level_leads c.args.goal (map row_view c.args.level.now)) c.args.offset c.args.dests.now c.loop-dest.dest-index z d c.loop-dest.least c.loop-dest-test.true refl (sym c.does_lead.ensures ∙ w.if-does_lead.true) c.loop-dest.invariant
+      | then-does_lead w ↦ w.least-is ∙ w.lesser_name-least.ensures ∙ dest_taken (level_leads c.args.goal (map row_view c.args.level.now)) c.args.offset c.args.dests.now c.loop-dest.dest-index z d c.loop-dest.least c.loop-dest-test.true refl (sym c.does_lead.ensures ∙ w.if-does_lead.true) c.loop-dest.invariant
       | else-does_lead w ↦ w.least-is ∙ dest_left (level_leads c.args.goal (map row_view c.args.level.now)) c.args.offset c.args.dests.now c.loop-dest.dest-index z d c.loop-dest.least c.loop-dest-test.true refl (sym c.does_lead.ensures ∙ w.if-does_lead.false) c.loop-dest.invariant
     ]

@@ -7,6 +7,6 @@ use Rattle.dn_walk.proofs.way.least_start.Goals as goal
 pub loop-row-preserved : goal.loop-row-preserved
 loop-row-preserved c =
     elim c.if-counts.branch [
-      | then-counts w ↦ w.least-is ∙ w.lesser-least.ensures ∙ start_taken c.args.back c.args.rows.now c.loop-row.row-index c.row-item.result c.loop-row.least c.loop-row-test.true c.row-item.is (sym c.counts.ensures ∙ w.if-counts.true) c.loop-row.invariant
+      | then-counts w ↦ w.least-is ∙ w.lesser_name-least.ensures ∙ start_taken c.args.back c.args.rows.now c.loop-row.row-index c.row-item.result c.loop-row.least c.loop-row-test.true c.row-item.is (sym c.counts.ensures ∙ w.if-counts.true) c.loop-row.invariant
       | else-counts w ↦ w.least-is ∙ start_left c.args.back c.args.rows.now c.loop-row.row-index c.row-item.result c.loop-row.least c.loop-row-test.true c.row-item.is (sym c.counts.ensures ∙ w.if-counts.false) c.loop-row.invariant
     ]

@@ -5,14 +5,14 @@ use Rattle.std.proofs.lemmas.List.{append_assoc, append-nil}
 use Rattle.dn_net.specs.Decode.{steps}
 use Rattle.dn_net.specs.WalkRules.{way_by}
 use Rattle.dn_walk.specs.Rows.{row_view}
-use Rattle.dn_walk.specs.Ways.{least_of, levels_lead}
+use Rattle.dn_walk.specs.Ways.{least_of, walk_levels_lead}
 use Rattle.dn_walk.proofs.Onward.{level_at, way_ends, way_goes, step_there}
 use Rattle.dn_walk.proofs.way.way.Goals as goal
 
 pub returns-in_default : goal.returns-in_default
 returns-in_default c =
     let k = c.loop-left.left - 1 in
-    let leads = levels_lead c.args.goal (map (map row_view) c.args.levels.now) in
+    let leads = walk_levels_lead c.args.goal (map (map row_view) c.args.levels.now) in
     let left : c.loop-left.left ≡ suc k = omega arith in
     let there : k < length c.args.levels.now = omega (arith, c.loop-left.invariant.within) in
     let at = level_at c.args.goal c.args.levels.now k c.index-levels-left.result c.as_slice.result.now there c.index-levels-left.is c.as_slice.ensures in
@@ -25,7 +25,7 @@ pub loop-left-preserved : goal.loop-left-preserved
 loop-left-preserved c =
     let k = c.loop-left.left - 1 in
     let z = c.in-Some.next in
-    let leads = levels_lead c.args.goal (map (map row_view) c.args.levels.now) in
+    let leads = walk_levels_lead c.args.goal (map (map row_view) c.args.levels.now) in
     let left : c.loop-left.left ≡ suc k = omega arith in
     let there : k < length c.args.levels.now = omega (arith, c.loop-left.invariant.within) in
     let at = level_at c.args.goal c.args.levels.now k c.index-levels-left.result c.as_slice.result.now there c.index-levels-left.is c.as_slice.ensures in

@@ -7,14 +7,14 @@ use Rattle.clap.specs.Faults.{fault_of, is_simple_and_free}
 use Rattle.clap.specs.Kinds.{IsAmong}
 use Rattle.clap.specs.Simple.{is_simple}
 use Rattle.dn_words.specs.Split.{program}
-use Rattle.dn_words.specs.Words.{is_plain}
+use Rattle.dn_words.specs.Words.{is_plain_word}
 use Rattle.dn_words.proofs.CommandLine.{found_parts, no_parts, program_is_simple}
 use Rattle.dn_words.proofs.split.split.Goals as goal
 
 pub returns-in-Ok : goal.returns-in-Ok
 returns-in-Ok c =
     let ws : List (List ℕ) = map (λ s. string_bytes s) c.args.words.now in
-    let plain : list_all is_plain ws ≡ true = list_all-map is_plain (λ s. string_bytes s) c.args.words.now ∙ c.requires in
+    let plain : list_all is_plain_word ws ≡ true = list_all-map is_plain_word (λ s. string_bytes s) c.args.words.now ∙ c.requires in
     let app_is : app_of c.in_ok-program.field-0 ≡ program = c.in_ok-program.ensures in
     let simple : is_simple (app_of c.in_ok-program.field-0) ≡ true = ap is_simple app_is in
     let none : fault_of program ws ≡ [] = sym (ap (λ (a : App). fault_of a ws) app_is) ∙ c.in-Ok.ensures.kinds (ap is_simple_and_free app_is ∙ program_is_simple) in
@@ -24,7 +24,7 @@ returns-in-Ok c =
 pub returns : goal.returns
 returns c =
     let ws : List (List ℕ) = map (λ s. string_bytes s) c.args.words.now in
-    let plain : list_all is_plain ws ≡ true = list_all-map is_plain (λ s. string_bytes s) c.args.words.now ∙ c.requires in
+    let plain : list_all is_plain_word ws ≡ true = list_all-map is_plain_word (λ s. string_bytes s) c.args.words.now ∙ c.requires in
     let app_is : app_of c.in_ok-program.field-0 ≡ program = c.in_ok-program.ensures in
     elim (c.in-Err.ensures.kinds (ap is_simple_and_free app_is ∙ program_is_simple)) [
       | inl memory ↦ absurd (c.in_default.not-OutOfMemory (c.kind.ensures ∙ memory))

@@ -4,8 +4,8 @@ use Rattle.dn_net.specs.Chain.{Member}
 use Rattle.dn_kind.specs.Kind.{Meaning}
 use Rattle.dn_tables.proofs.Slots.{all_of_map}
 use Rattle.dn_book.specs.declared.grant.Grant.{Grant}
-use Rattle.dn_book.specs.Book.{IsFaithful, has_id, without}
-use Rattle.dn_book.specs.Sets.{AreHopsChanged, after_clears, clear_log, is_used_by, one_less}
+use Rattle.dn_book.specs.Book.{IsFaithful, has_id, without_id}
+use Rattle.dn_book.specs.Sets.{AreHopsChanged, after_clears, clear_log, is_used_by, one_use_less}
 use Rattle.dn_book.specs.State.{BookState}
 use Rattle.dn_book.specs.Tables.{IsKept}
 use Rattle.dn_book.specs.Writes.{AreAdded, grant_slots, joined_slots, revoke_events}
@@ -80,11 +80,11 @@ pub remove-requires : goal.remove-requires
 remove-requires g c = subst (λ (b : BookState). AreApart b.grants) (sym c.self.view_is) c.requires.kept.sound.ids
 
 pub returns-clause-revoked : goal.returns-clause-revoked
-returns-clause-revoked g c = c.remove.ensures ∙ ap (λ (b : BookState). without c.args.id b.grants) c.self.view_is
+returns-clause-revoked g c = c.remove.ensures ∙ ap (λ (b : BookState). without_id c.args.id b.grants) c.self.view_is
 
 pub returns-clause-faithful : goal.returns-clause-faithful
 returns-clause-faithful g c f =
-    let left : c.remove.new.self ≡ without c.args.id c.args.self.now.grants = c.remove.ensures ∙ ap (λ (b : BookState). without c.args.id b.grants) c.self.view_is in
+    let left : c.remove.new.self ≡ without_id c.args.id c.args.self.now.grants = c.remove.ensures ∙ ap (λ (b : BookState). without_id c.args.id b.grants) c.self.view_is in
     subst (λ (b : List Grant). IsFaithful c.args.net.now b) (sym left) ((revoke_keeps_book c.args.net.now c.args.self.now.grants c.args.id c.requires.legal.legal c.requires.kept.sound).1 f)
 
 pub returns-clause-kept : goal.returns-clause-kept
@@ -92,8 +92,8 @@ returns-clause-kept g c =
     let kinds : List Meaning = map (λ k. (goal.UnitKind-dyn g (k.vtable, k.value)).meaning k.value) c.args.kinds.now.list.items in
     let was : is_err c.clear_grant.result ≡ false = search rules in
     let made : c.clear_grant.new.tables ≡ after_clears c.self.inside.tables (filter (is_used_by 1 c.self.inside.tables) (joined_slots (grant_slots c.args.net.now c.in-Some.live.now))) = c.clear_grant.ensures.cleared.done was in
-    let all : c.remove.new.self ≡ without c.in-Some.live.now.id c.self.inside.grants = c.remove.ensures ∙ ap (λ n. without n c.self.inside.grants) (sym (found g (goal.at.returns-clause-kept g c).In-Some).same) in
-    let changed : AreHopsChanged c.args.net.now c.in-Some.live.now.request.size (λ place. one_less) c.in-Some.live.now.placement.hops c.clear_grant.new.tables c.end_uses.new.tables = c.end_uses.ensures in
+    let all : c.remove.new.self ≡ without_id c.in-Some.live.now.id c.self.inside.grants = c.remove.ensures ∙ ap (λ n. without_id n c.self.inside.grants) (sym (found g (goal.at.returns-clause-kept g c).In-Some).same) in
+    let changed : AreHopsChanged c.args.net.now c.in-Some.live.now.request.size (λ place. one_use_less) c.in-Some.live.now.placement.hops c.clear_grant.new.tables c.end_uses.new.tables = c.end_uses.ensures in
     subst (λ (b : List Grant). IsKept c.args.net.now kinds b c.end_uses.new.tables) (sym all) (revoked c.args.net.now kinds c.self.inside.grants c.in-Some.live.now c.self.inside.tables (going g (goal.at.returns-clause-kept g c).In-Some) c.clear_grant.new.tables c.end_uses.new.tables made changed)
 
 pub returns-clause-added : goal.returns-clause-added

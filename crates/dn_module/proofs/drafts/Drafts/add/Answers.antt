@@ -2,7 +2,7 @@ use Rattle.std.proofs.Common.{◌≡◌, ◌∙◌, sym, ap, ◌+◌, ◌≤◌,
 use Rattle.std.proofs.lemmas.List.{map-append}
 use Rattle.dn_net.specs.Decode.{is_agent, is_unit}
 use Rattle.dn_module.specs.declared.draft.Draft.{Draft}
-use Rattle.dn_module.specs.Drafts.{is_known, names, limit_passed, parts_of, agents_of, units_of, all_parts}
+use Rattle.dn_module.specs.Drafts.{is_known, names, limit_passed, parts_of_draft, agents_among, units_among, all_parts}
 use Rattle.dn_module.specs.Expand.{has_twice}
 use Rattle.dn_module.proofs.Known.{new_stays}
 use Rattle.dn_module.proofs.Limits.{agents_more, units_more, parts_more, within_limits, one_if, as_number}
@@ -15,12 +15,12 @@ invariant_of-self-2 c =
     let d = c.args.draft in
     let inv = c.self.invariant in
     let one : c.from.result ≡ one_if (is_agent d.role) = c.from.ensures ∙ as_number c.is_agent.result ∙ ap one_if c.is_agent.ensures in
-    let agents : c.self.inside.agents + c.from.result ≡ agents_of ds + one_if (is_agent d.role) = λ i. inv.agents_are i + one i in
+    let agents : c.self.inside.agents + c.from.result ≡ agents_among ds + one_if (is_agent d.role) = λ i. inv.agents_are i + one i in
     let one_unit : c.from-2.result ≡ one_if (is_unit d.role) = c.from-2.ensures ∙ as_number c.is_unit.result ∙ ap one_if c.is_unit.ensures in
-    let units : c.self.inside.units + c.from-2.result ≡ units_of ds + one_if (is_unit d.role) = λ i. inv.units_are i + one_unit i in
-    let parts : c.self.inside.parts + c.parts_of.result ≡ all_parts ds + parts_of d = λ i. inv.parts_are i + c.parts_of.ensures i in
-    let few : agents_of ds ≤ 64 = rw inv.agents_are at inv.few_agents in
-    let few_units : units_of ds ≤ 64 = rw inv.units_are at inv.few_units in
+    let units : c.self.inside.units + c.from-2.result ≡ units_among ds + one_if (is_unit d.role) = λ i. inv.units_are i + one_unit i in
+    let parts : c.self.inside.parts + c.parts_of.result ≡ all_parts ds + parts_of_draft d = λ i. inv.parts_are i + c.parts_of.ensures i in
+    let few : agents_among ds ≤ 64 = rw inv.agents_are at inv.few_agents in
+    let few_units : units_among ds ≤ 64 = rw inv.units_are at inv.few_units in
     let within = within_limits ds d few few_units (ap (λ l. limit_passed l d) c.self.view_is ∙ c.in_default.ensures.within) in
     let named : names (ds ++ d ∷ []) ≡ names ds ++ d.name ∷ [] = map-append (λ (e : Draft). e.name) ds (d ∷ []) in
     let met : is_known (names ds) d.name ≡ false = ap (λ l. is_known (names l) d.name) c.self.view_is ∙ c.in_default.ensures.new_name in

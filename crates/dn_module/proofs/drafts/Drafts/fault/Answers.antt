@@ -1,6 +1,6 @@
 use Rattle.std.proofs.Common.{rules, ◌≡◌, ◌∙◌, sym, ap, length, ◌+◌, ◌≤◌, Some}
 use Rattle.dn_net.specs.Decode.{is_agent, is_unit}
-use Rattle.dn_module.specs.Drafts.{agents_of, units_of, all_parts}
+use Rattle.dn_module.specs.Drafts.{agents_among, units_among, all_parts}
 use Rattle.dn_module.specs.Machine.{limit_by}
 use Rattle.dn_module.proofs.Limits.{limit_is, known_test, known_fault, limit_fault, one_if, as_number}
 use Rattle.dn_module.proofs.drafts.Drafts.fault.Goals as goal
@@ -17,11 +17,11 @@ returns-in-Some-clause-fault c =
     let d = c.args.draft.now in
     let inside = c.self.inside in
     let one : c.from.result ≡ one_if (is_agent d.role) = c.from.ensures ∙ as_number c.is_agent.result ∙ ap one_if c.is_agent.ensures in
-    let agents : inside.agents ≡ agents_of now = c.self.invariant.agents_are ∙ ap agents_of c.self.view_is in
-    let few : agents_of now ≤ 64 = rw agents at c.self.invariant.few_agents in
+    let agents : inside.agents ≡ agents_among now = c.self.invariant.agents_are ∙ ap agents_among c.self.view_is in
+    let few : agents_among now ≤ 64 = rw agents at c.self.invariant.few_agents in
     let one_unit : c.from-2.result ≡ one_if (is_unit d.role) = c.from-2.ensures ∙ as_number c.is_unit.result ∙ ap one_if c.is_unit.ensures in
-    let units : inside.units ≡ units_of now = c.self.invariant.units_are ∙ ap units_of c.self.view_is in
-    let few_units : units_of now ≤ 64 = rw units at c.self.invariant.few_units in
+    let units : inside.units ≡ units_among now = c.self.invariant.units_are ∙ ap units_among c.self.view_is in
+    let few_units : units_among now ≤ 64 = rw units at c.self.invariant.few_units in
     let count : c.len.result ≡ length inside.drafts.items = search rules in
     let nodes : c.len.result ≡ length now = count ∙ ap length c.self.view_is in
     let parts : inside.parts ≡ all_parts now = c.self.invariant.parts_are ∙ ap all_parts c.self.view_is in

@@ -2,7 +2,7 @@ use Rattle.std.proofs.Common.{◌∙◌, sym, ap, arith, map, ◌||◌, is_some,
 use Rattle.std.proofs.lemmas.List.{map-append}
 use Rattle.dn_module.specs.declared.modules.Known.{Known}
 use Rattle.dn_module.specs.Expand.{has_twice, word_of_param}
-use Rattle.dn_module.specs.Stack.{module_view, known_view, module_views}
+use Rattle.dn_module.specs.Stack.{module_view, known_view, modules_view}
 use Rattle.dn_base.proofs.Lists.{length-last}
 use Rattle.dn_module.proofs.Limits.{found_is}
 use Rattle.dn_module.proofs.Naming.{module_room, module_known, module_twice, module_added, by_answer, is_once}
@@ -12,7 +12,7 @@ pub returns-then-is_some-clause-added : goal.returns-then-is_some-clause-added
 returns-then-is_some-clause-added c =
     let self = c.args.self.now in
     let m = module_view c.args.module in
-    module_twice (module_views self) c.args.line m (module_room self.modules.items (omega arith))
+    module_twice (modules_view self) c.args.line m (module_room self.modules.items (omega arith))
     (ap (λ b. b || has_twice (map word_of_param m.params)) (module_known self.names self.modules.items m.title c.find.result self.same c.find.ensures ∙ sym c.is_some.ensures ∙ c.if-is_some.true))
 
 pub put-requires-clause-new_name : goal.put-requires-clause-new_name
@@ -38,6 +38,6 @@ returns-clause-added c =
     let self = c.args.self.now in
     let m = module_view c.args.module in
     let different = is_once (has_twice (map word_of_param m.params)) (ap (λ o. is_some o) (sym c.in-Some.is) ∙ c.in_ok-titles.ensures.different) in
-    module_added (module_views self) c.args.line m (module_room self.modules.items (omega arith))
+    module_added (modules_view self) c.args.line m (module_room self.modules.items (omega arith))
     (ap (λ b. b || has_twice (map word_of_param m.params)) (module_known self.names self.modules.items m.title c.find.result self.same c.find.ensures ∙ sym c.is_some.ensures ∙ c.if-is_some.false) ∙ different)
     ∙ ap (λ l. Ok l) (sym (map-append known_view self.modules.items (_ ∷ [])) ∙ ap (map known_view) (sym c.in_ok-put.ensures.modules))

@@ -2,14 +2,14 @@ use Rattle.std.proofs.Common.{◌∙◌, ap}
 use Rattle.std.proofs.lemmas.List.{append-nil}
 use Rattle.dn_module.specs.Expand.{outside, statements}
 use Rattle.dn_module.specs.Replace.{in_items}
-use Rattle.dn_module.specs.Stack.{body_view, use_works}
+use Rattle.dn_module.specs.Stack.{body_view, use_view}
 use Rattle.dn_module.proofs.Unreplaced.{items_same}
 use Rattle.dn_module.proofs.stack.Stack.new.Goals as goal
 
 pub returns : goal.returns
 returns c =
     rw c.new-2.ensures.items
-    (append-nil (use_works c.new.result)
+    (append-nil (use_view c.new.result)
     ∙ c.new.ensures
     ∙ ap (λ r. statements outside (in_items r (body_view c.args.body.now))) c.outside.ensures
     ∙ ap (statements outside) (items_same (body_view c.args.body.now)))

@@ -6,7 +6,7 @@ use Rattle.dn_parse.specs.Tree.{Command}
 use Rattle.dn_parse.specs.Whole.{first_line}
 use Rattle.dn_parse.specs.Views.{command_view}
 use Rattle.dn_parse.specs.Commands.{commands_from, next_command}
-use Rattle.dn_parse.specs.Plain.{is_plain, are_plain}
+use Rattle.dn_parse.specs.Plain.{is_plain_order, are_plain}
 use Rattle.dn_parse.specs.Script.{script_view}
 use Rattle.dn_parse.proofs.Scripts.{no_line, answered_is, stands, memory_alone, others, front_is}
 use Rattle.dn_parse.proofs.script.Script.next.Goals as goal
@@ -29,7 +29,7 @@ invariant_of-result c =
     let front = front_is c.args.self.count (cursor_view c.args.self.first) p some next in
     record {
       read = others c.args.self.count (cursor_view c.args.self.first) p some c.args.self.read next;
-      known = λ h. (and_parts (is_plain p.0.order) _ (subst (λ (cs : List Command). IsTrue (are_plain cs)) front (c.args.self.known h))).1;
+      known = λ h. (and_parts (is_plain_order p.0.order) _ (subst (λ (cs : List Command). IsTrue (are_plain cs)) front (c.args.self.known h))).1;
     }
 
 pub returns-in-Ok-Some : goal.returns-in-Ok-Some

@@ -3,7 +3,7 @@ use Rattle.dn_token.specs.Token.{Token}
 use Rattle.dn_token.specs.Cursor.{cursor_view}
 use Rattle.dn_parse.specs.declared.syntax.Cmd.{Cmd}
 use Rattle.dn_parse.specs.Tree.{Command}
-use Rattle.dn_parse.specs.Plain.{is_plain}
+use Rattle.dn_parse.specs.Plain.{is_plain_order}
 use Rattle.dn_parse.specs.Views.{command_view}
 use Rattle.dn_parse.proofs.Scripts.{answered_is, no_command, command_halts}
 use Rattle.dn_parse.proofs.script.Script.pass_command.Goals as goal
@@ -16,7 +16,7 @@ returns-in-Ok-Some-clause-ok c =
 pub returns-in-Ok-Some-clause-plain : goal.returns-in-Ok-Some-clause-plain
 returns-in-Ok-Some-clause-plain c =
     let next = answered_is (cursor_view c.args.tokens.now) c.args.line c.in-Ok-Some.field-0 (Some c.in-Ok-Some.found) (cursor_view c.command.new.tokens) c.requires c.in-Ok-Some.ensures.gives (search rules) in
-    ap (λ (o : Option (Command × List Token)). option_map (λ (d : Command × List Token). is_plain d.0.order) o) next ∙ ap Some (sym c.is_plain-plain.ensures)
+    ap (λ (o : Option (Command × List Token)). option_map (λ (d : Command × List Token). is_plain_order d.0.order) o) next ∙ ap Some (sym c.is_plain-plain.ensures)
 
 pub returns-in-Ok-None-clause-err : goal.returns-in-Ok-None-clause-err
 returns-in-Ok-None-clause-err c =

@@ -1,6 +1,6 @@
 use Rattle.std.proofs.Common.{◌∙◌, ◌<◌, ap, sym, get_or, length, arith}
 use Rattle.std.proofs.lemmas.List.{get_or_default}
-use Rattle.dn_tables.specs.Set.{unused, uses_of_table}
+use Rattle.dn_tables.specs.Set.{no_use, uses_of_table}
 use Rattle.dn_tables.proofs.Kept.{slot_in_set, IsSlot}
 use Rattle.dn_tables.proofs.set.TableSet.use_at.Goals as goal
 
@@ -18,5 +18,5 @@ returns c =
     let m = s.sized.uses in
     let within : c.args.slot < length c.index-table.result.now.uses = omega arith in
     c.get.ensures
-    ∙ get_or_default c.index-table.result.now.uses c.args.slot c.get.result unused within
-    ∙ ap (λ o. get_or (uses_of_table o) c.args.slot unused) (sym s.at)
+    ∙ get_or_default c.index-table.result.now.uses c.args.slot c.get.result no_use within
+    ∙ ap (λ o. get_or (uses_of_table o) c.args.slot no_use) (sym s.at)

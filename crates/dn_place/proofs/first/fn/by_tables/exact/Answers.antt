@@ -1,4 +1,4 @@
 use Rattle.dn_place.proofs.first.fn.by_tables.exact.Goals as goal
 
 pub returns : goal.returns
-returns g c = rw c.placed-placement.ensures at c.exact.ensures.exact
+returns g c = rw c.into_placement-placement.ensures at c.exact.ensures.exact
