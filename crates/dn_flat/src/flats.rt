@@ -129,7 +129,7 @@ pub fn flatten_all(alloc: Global, net: &Net, walks: &WalkTable) -> Result<Flats,
     requires { AreWalksOf net.now walks.now }
     ensures { IfOk result (λ flats. AreFlats net.now flats) }
 {
-    let stage = first_stage(alloc, net, walks.accepted())?;
+    let stage = first_stage(alloc, net, walks.accepted(), walks.legs())?;
     let mut nodes = Shared::new(alloc);
     for node in 0..net.nodes() {
         add(alloc, net, &stage, &mut nodes, node)?;

@@ -28,14 +28,13 @@ use Rattle.dn_net.proofs.Least.{within_to, true_both}
 use Rattle.dn_net.proofs.Legs.{leads_of_leg, leg_of_leads, leads_once, leads_in_range}
 use Rattle.dn_net.proofs.Levels.{IsRow, level_is_row}
 use Rattle.dn_net.proofs.Members.{member_map, map_member, member_filter, filter_member, member_flat_map, flat_map_member}
-use Rattle.dn_walk.specs.declared.leg.Leg.{Leg}
 use Rattle.dn_walk.specs.declared.walks.WalkRow.{WalkRow}
-use Rattle.dn_walk.specs.Legs.{told_leg, told_legs, legs_by, AreLegs}
+use Rattle.dn_walk.specs.Legs.{Leg, leg_view, told_leg, told_legs, legs_by, AreLegs}
 use Rattle.dn_walk.specs.Levels.{told_onto, told_on}
 use Rattle.dn_walk.specs.Rows.{Told, row_view, told_by_walk}
 use Rattle.dn_walk.proofs.Bridge.{met_told, each_onto}
 use Rattle.dn_walk.proofs.Nodes.{legs_are, legs_of_node}
-use Rattle.dn_walk.proofs.Told.{at_member}
+use Rattle.dn_walk.proofs.Told.{at_member, rise_back}
 use Rattle.dn_walk.proofs.Ends.{end_in}
 use Rattle.dn_shape.specs.Absorb.{steps_past, rows_past}
 use Rattle.dn_shape.specs.Past.{LeadOn, onward, walks_past, told_onward, told_gives, told_give}
@@ -85,16 +84,16 @@ legs_read (Some d) a e v ls p q r s =
     ap Some (legs_are d ∙ ap (λ x. legs_by x d.entries d.over) p' ∙ ap (λ x. legs_by a x d.over) q' ∙ ap (λ x. legs_by a e x) r' ∙ sym s)
 
 -- by which walks go on
-pub legs_lead : (net : List NodeDecl) → KeepsNodeRules net → (i : ℕ) (ls : List Leg) → i < length net → option_map told_legs (slice_get net i) ≡ Some ls → LeadOn ls
-legs_lead net rules i ls l e = by (node_there net i l)
+pub legs_lead : (net : List NodeDecl) → KeepsNodeRules net → (i : ℕ) (segs : List Seg) → i < length net → option_map told_legs (slice_get net i) ≡ Some (map leg_view segs) → LeadOn segs
+legs_lead net rules i segs l e = by (node_there net i l)
   where
-    lead : AreLegs (length net) ls → LeadOn ls
-    lead h = record { firsts = h.firsts; lasts = h.lasts; order = λ k d b. (h.each k d b).order; low = λ k d b. (h.each k d b).low; far = λ k d b. (h.each k d b).reach }
+    lead : AreLegs (length net) (map leg_view segs) → LeadOn segs
+    lead h = record { firsts = rise_back leg_view (λ (l : Leg). l.lo) segs h.firsts; lasts = rise_back leg_view (λ (l : Leg). l.hi) segs h.lasts }
 
-    by : (n : NodeDecl) × (slice_get net i ≡ Some n) → LeadOn ls
+    by : (n : NodeDecl) × (slice_get net i ≡ Some n) → LeadOn segs
     by (n, at) =
-        let s : ◌≡◌ {A = Option (List Leg)} (Some (told_legs n)) (Some ls) = ap (option_map told_legs) (sym at) ∙ e in
-        let t : told_legs n ≡ ls = cc in
+        let s : ◌≡◌ {A = Option (List Leg)} (Some (told_legs n)) (Some (map leg_view segs)) = ap (option_map told_legs) (sym at) ∙ e in
+        let t : told_legs n ≡ map leg_view segs = cc in
         lead (subst (AreLegs (length net)) t (legs_of_node net rules i n at))
 
 -- rows that tell of walks

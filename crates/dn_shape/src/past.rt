@@ -6,7 +6,7 @@ ghost use Rattle.dn_interval.specs.declared.row.End.{End};
 ghost use Rattle.dn_interval.specs.Terms.{seen_by, segs_give};
 ghost use Rattle.dn_net.specs.Terms.{KeepsNodeRules, extended, still};
 ghost use Rattle.dn_shape.specs.Terms.{LeadOn, dest_of_end, entry_of_row, rows_past, told_give, told_onward};
-ghost use Rattle.dn_walk.specs.Terms.{row_view, told_by_walk, told_legs, told_on};
+ghost use Rattle.dn_walk.specs.Terms.{leg_view, row_view, told_by_walk, told_legs, told_on};
 
 use crate::spans::block_of;
 use dn_base::OutOfMemory;
@@ -14,7 +14,7 @@ use dn_base::items::Items;
 use dn_interval::{End, Row, Rows, Seg, Span, TOP};
 use dn_net::net::Net;
 use dn_net::node::{Dest, Entry};
-use dn_walk::leg::{Leg, node_legs};
+use dn_walk::leg::node_legs;
 use dn_walk::level::{extend_row, met_by};
 use dn_walk::walks::WalkRow;
 use std::alloc::Global;
@@ -25,11 +25,11 @@ pub(crate) fn entries_past(
     alloc: Global,
     net: &Net,
     past: u16,
-    onward: &[Leg],
+    onward: &[Seg],
     node: u16,
 ) -> Result<Items<Entry>, OutOfMemory>
     requires rules { KeepsNodeRules net.now }
-    requires onward { option_map told_legs (slice_get net.now past) ≡ Some onward.now }
+    requires onward { option_map told_legs (slice_get net.now past) ≡ Some (map leg_view onward.now) }
     requires lead { LeadOn onward.now }
     requires there { node < length net.now }
     ensures { IfOk result (λ es. es ≡ map entry_of_row (rows_past net.now past node)) }
@@ -46,13 +46,13 @@ fn walks_onward(
     alloc: Global,
     first: &[WalkRow],
     past: u16,
-    legs: &[Leg],
+    legs: &[Seg],
 ) -> Result<Vec<WalkRow>, OutOfMemory>
     requires legs { LeadOn legs.now }
     requires far { All (λ r. r.base + (r.span.hi - r.span.lo) ≤ TOP) first.now }
     requires short { All (λ r. r.len ≤ 64) first.now }
     ensures { IfOk result (λ v. map row_view v.items
-        ≡ flat_map (told_onward legs.now past) (map row_view first.now)) }
+        ≡ flat_map (told_onward (map leg_view legs.now) past) (map row_view first.now)) }
 {
     let mut walks = Vec::new(alloc);
     for row in first {
@@ -84,10 +84,11 @@ fn first_walks(alloc: Global, net: &Net, node: u16) -> Result<Vec<WalkRow>, OutO
 }
 
 /// The legs of a node.
-pub(crate) fn legs_of(alloc: Global, net: &Net, node: u16) -> Result<Items<Leg>, OutOfMemory>
+pub(crate) fn legs_of(alloc: Global, net: &Net, node: u16) -> Result<Items<Seg>, OutOfMemory>
     requires rules { KeepsNodeRules net.now }
     requires there { node < length net.now }
-    ensures legs { IfOk result (λ ls. option_map told_legs (slice_get net.now node) ≡ Some ls) }
+    ensures legs { IfOk result (λ ls. option_map told_legs (slice_get net.now node)
+        ≡ Some (map leg_view ls)) }
     ensures lead { IfOk result (λ ls. LeadOn ls) }
 {
     node_legs(alloc, net.accepts(node), net.entries(node), net.over(node))
@@ -98,14 +99,14 @@ pub(crate) fn legs_of(alloc: Global, net: &Net, node: u16) -> Result<Items<Leg>,
 fn push_onward(
     row: &WalkRow,
     past: u16,
-    legs: &[Leg],
+    legs: &[Seg],
     walks: &mut Vec<WalkRow>,
 ) -> Result<(), OutOfMemory>
     requires legs { LeadOn legs.now }
     requires reach { row.now.base + (row.now.span.hi - row.now.span.lo) ≤ TOP }
     requires short { row.now.len ≤ 64 }
     ensures { OnOk result (map row_view walks.new.items
-        ≡ map row_view walks.old.items ++ told_onward legs.now past (row_view row.now)) }
+        ≡ map row_view walks.old.items ++ told_onward (map leg_view legs.now) past (row_view row.now)) }
 {
     if row.end == past {
         return push_walks(row, legs, walks);
@@ -115,12 +116,12 @@ fn push_onward(
 }
 
 /// Appends the walk with each leg by which it goes on.
-fn push_walks(row: &WalkRow, legs: &[Leg], walks: &mut Vec<WalkRow>) -> Result<(), OutOfMemory>
+fn push_walks(row: &WalkRow, legs: &[Seg], walks: &mut Vec<WalkRow>) -> Result<(), OutOfMemory>
     requires legs { LeadOn legs.now }
     requires reach { row.now.base + (row.now.span.hi - row.now.span.lo) ≤ TOP }
     requires short { row.now.len ≤ 64 }
     ensures { OnOk result (map row_view walks.new.items
-        ≡ map row_view walks.old.items ++ told_on legs.now (row_view row.now)) }
+        ≡ map row_view walks.old.items ++ told_on (map leg_view legs.now) (row_view row.now)) }
 {
     extend_row(row, met_by(row, legs), walks)
 }
@@ -133,11 +134,7 @@ fn segs_of(alloc: Global, walks: &[WalkRow]) -> Result<Vec<Seg>, OutOfMemory>
 {
     let mut segs = Vec::with_capacity(alloc, walks.len())?;
     for row in walks {
-        segs.push(Seg {
-            span: row.span,
-            node: row.end,
-            base: row.base,
-        })?;
+        segs.push(row.seg())?;
     }
     Ok(segs)
 }

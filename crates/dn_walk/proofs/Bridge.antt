@@ -11,10 +11,9 @@ use Rattle.dn_net.specs.Walks.{Leg as NetLeg, legs_of, in_order, Walk, meets, on
 use Rattle.dn_net.specs.WalkRules.{least_name, comes_to, comes_back, goes_on}
 use Rattle.dn_net.specs.Rules.{KeepsNodeRules}
 use Rattle.dn_net.proofs.Least.{within_to, within_from, true_both, both_true, either_true, true_left, true_right}
-use Rattle.dn_walk.specs.declared.leg.Leg.{Leg}
 use Rattle.dn_walk.specs.declared.way.Goal.TheVariants.{Anywhere, To}
 use Rattle.dn_walk.specs.Rows.{Told, told_by_walk}
-use Rattle.dn_walk.specs.Legs.{told_leg, told_legs}
+use Rattle.dn_walk.specs.Legs.{Leg, told_leg, told_legs}
 use Rattle.dn_walk.specs.Levels.{told_meets, told_onto, told_on, told_extended, told_still, told_stills, told_level, told_before, told_walks}
 use Rattle.dn_walk.specs.Ways.{least_of, start_name, start_names, is_cyclic, told_leads, level_leads, has_addr, meets_goal}
 use Rattle.dn_net.proofs.Cycles.{IsLed, HasName, comes_to_is_row, goes_on_is_row}

@@ -1,18 +1,20 @@
 -- Levels without the choices: what each row of them keeps, and how the next one is made.
-use Rattle.std.proofs.Common.{◌≡◌, ℕ, zero, suc, ◌+◌, ◌-◌, ◌<◌, ◌≤◌, inl, inr, List, [], ◌∷◌, ◌++◌, map, length, get_or, take, drop, Option, Some, None, IfSome, refl, sym, ap, ◌∙◌, subst, arith, IsTrue}
+use Rattle.std.proofs.Common.{◌≡◌, ℕ, zero, suc, ◌+◌, ◌-◌, ◌<◌, ◌≤◌, inl, inr, Bool, true, false, cond, List, [], ◌∷◌, ◌++◌, map, length, get_or, slice_get, take, drop, Option, Some, None, IfSome, refl, sym, ap, ◌∙◌, subst, arith, IsTrue}
 use Rattle.std.specs.List.{All, filter, flat_map}
-use Rattle.std.proofs.lemmas.List.{take_more, map-append, length-append, take-map, length-map, get_or-map, get_or_default, append-nil, drop-append-le}
-use Rattle.std.proofs.lemmas.List.Elements.{All-filter, filter_passes}
+use Rattle.std.specs.List.Sorted.{IsNonDecreasingBy}
+use Rattle.std.proofs.lemmas.List.{take_more, map-append, length-append, take-map, length-map, get_or-map, append-nil, drop-append-le}
+use Rattle.std.proofs.lemmas.List.Elements.{filter_passes}
+use Rattle.std.proofs.lemmas.Option.{slice_get-get_or}
 use Rattle.std.proofs.lemmas.Grind.{flat_map-append}
 use Rattle.std.proofs.lemmas.List.Folds.{length-flat_map-take}
+use Rattle.dn_interval.specs.declared.row.Seg.{Seg}
 use Rattle.dn_net.specs.Chain.{Member}
 use Rattle.dn_net.specs.Walks.{in_order}
 use Rattle.dn_net.specs.WalkRules.{Broken, is_wide, walk_limit}
-use Rattle.dn_walk.specs.declared.leg.Leg.{Leg}
 use Rattle.dn_walk.specs.declared.walks.WalkRow.{WalkRow}
 use Rattle.dn_walk.specs.Rows.{Told, row_view}
-use Rattle.dn_walk.specs.Legs.{AreLegs, IsLegOf}
-use Rattle.dn_walk.specs.Levels.{told_last, told_meets, told_onto, told_extended, told_still, told_stills, told_level, told_walks, told_levels, told_before, IsRowOf}
+use Rattle.dn_walk.specs.Legs.{Leg, AreLegs, IsLegOf, leg_view}
+use Rattle.dn_walk.specs.Levels.{told_last, told_meets, told_onto, told_on, told_extended, told_still, told_stills, told_level, told_walks, told_levels, told_before, IsRowOf}
 use Rattle.dn_base.proofs.Members.{map_member, member_map}
 use Rattle.dn_net.proofs.Members.{member_filter, member_flat_map}
 use Rattle.dn_walk.proofs.Meets.{meets_parts, max_is, min_is}
@@ -63,6 +65,13 @@ pub member_of_all : {X : Type 0} (P : X → Type 0) (xs : List X) (x : X) → Al
 member_of_all P [] x all m = absurd m
 member_of_all P (y ∷ xs) x all (inl e) = subst P e (all 0 y (omega arith))
 member_of_all P (y ∷ xs) x all (inr m) = member_of_all P xs x (λ k d l. all (suc k) d (omega arith)) m
+
+pub rise_back : {X Y : Type 0} (f : X → Y) (n : Y → ℕ) (xs : List X) → IsNonDecreasingBy n (map f xs) → IsNonDecreasingBy (λ x. n (f x)) xs
+rise_back f n xs h i j d l m =
+    let k = length-map xs f in
+    let a = get_or-map f xs i d (f d) (omega arith) in
+    let b = get_or-map f xs j d (f d) m in
+    subst (λ t. n (f (get_or xs i d)) ≤ n t) b (subst (λ t. n t ≤ n (get_or (map f xs) j (f d))) a (h i j (f d) l (omega arith)))
 
 -- stills
 pub stills_more : (n k : ℕ) → told_stills n (suc k) ≡ told_stills n k ++ told_still (n + k) ∷ []
@@ -140,18 +149,29 @@ extended_least legs rows i r l e =
     (subst (λ x. length (flat_map (told_extended legs) (take i (map row_view rows))) + length (told_extended legs x) ≤ length (flat_map (told_extended legs) (map row_view rows))) a h)
 
 -- the legs of a node, by its number
-pub legs_there : (legs : List (List Leg)) → All (AreLegs (length legs)) legs → (end k : ℕ) (ls ls' : List Leg) → end < length legs → k ≡ end → ls ≡ get_or legs k ls → ls' ≡ ls → AreLegs (length legs) ls'
-legs_there legs all end k ls ls' l s e f = subst (AreLegs (length legs)) (sym (f ∙ e ∙ ap (λ i. get_or legs i ls) s)) (all end ls l)
+pub legs_same : (legs : List (List Leg)) (end : ℕ) (ls : List Leg) → end < length legs → slice_get legs end ≡ Some ls → get_or legs end [] ≡ ls
+legs_same legs end ls l e =
+    let s : ◌≡◌ {A = Option (List Leg)} (Some (get_or legs end [])) (Some ls) = sym (slice_get-get_or legs end [] l) ∙ e in
+    let g : get_or legs end [] ≡ ls = cc in
+    g
 
-pub legs_same : (legs : List (List Leg)) (end k : ℕ) (ls ls' : List Leg) → end < length legs → k ≡ end → ls ≡ get_or legs k ls → ls' ≡ ls → ls' ≡ get_or legs end []
-legs_same legs end k ls ls' l s e f = f ∙ e ∙ ap (λ i. get_or legs i ls) s ∙ get_or_default legs end ls [] l
+pub legs_there : (legs : List (List Leg)) → All (AreLegs (length legs)) legs → (end : ℕ) (ls : List Leg) → end < length legs → slice_get legs end ≡ Some ls → AreLegs (length legs) ls
+legs_there legs all end ls l e = subst (AreLegs (length legs)) (legs_same legs end ls l e) (all end [] l)
 
--- what the legs that a walk meets keep
-pub met_meet : (t : Told) (ls met : List Leg) → met ≡ filter (told_meets t) ls → All (λ l. IsTrue (told_meets t l)) met
-met_meet t ls met e = subst (All (λ l. IsTrue (told_meets t l))) (sym e) (filter_passes (told_meets t) ls)
+-- the legs that a walk meets
+pub met_meet : (t : Told) (legs met : List Seg) → met ≡ filter (λ s. told_meets t (leg_view s)) legs → All (λ s. IsTrue (told_meets t (leg_view s))) met
+met_meet t legs met e = subst (All (λ (s : Seg). IsTrue (told_meets t (leg_view s)))) (sym e) (filter_passes (λ s. told_meets t (leg_view s)) legs)
 
-pub met_keep : (P : Leg → Type 0) (t : Told) (ls met : List Leg) → met ≡ filter (told_meets t) ls → All P ls → All P met
-met_keep P t ls met e all = subst (All P) (sym e) (All-filter (told_meets t) P ls all)
+met_view : (t : Told) (legs : List Seg) → map leg_view (filter (λ s. told_meets t (leg_view s)) legs) ≡ filter (told_meets t) (map leg_view legs)
+met_view t [] = refl
+met_view t (s ∷ legs) = by (told_meets t (leg_view s)) (met_view t legs)
+  where
+    by : (b : Bool) → map leg_view (filter (λ x. told_meets t (leg_view x)) legs) ≡ filter (told_meets t) (map leg_view legs) → map leg_view (cond b (s ∷ filter (λ x. told_meets t (leg_view x)) legs) (filter (λ x. told_meets t (leg_view x)) legs)) ≡ cond b (leg_view s ∷ filter (told_meets t) (map leg_view legs)) (filter (told_meets t) (map leg_view legs))
+    by true e = ap (λ x. leg_view s ∷ x) e
+    by false e = e
+
+pub met_on : (t : Told) (legs met : List Seg) → met ≡ filter (λ s. told_meets t (leg_view s)) legs → map (told_onto t) (map leg_view met) ≡ told_on (map leg_view legs) t
+met_on t legs met e = ap (λ x. map (told_onto t) (map leg_view x)) e ∙ ap (map (told_onto t)) (met_view t legs)
 
 -- the next level, and how many walks there are with it
 pub grown_wide : (legs : List (List Leg)) (k room : ℕ) (newest : List Told) → newest ≡ told_level legs k → room + length (told_walks legs k) ≡ walk_limit → room < length (flat_map (told_extended legs) newest) → walk_limit < length (told_walks legs (k + 1))

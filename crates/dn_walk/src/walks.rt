@@ -1,9 +1,10 @@
 //! The table of the live walks of a net.
 
-ghost use Rattle.std.specs.Prelude.{◌≡◌, ◌<◌, ◌≤◌, ◌++◌, drop, map, length, IfOk, IsTrue};
+ghost use Rattle.std.specs.Prelude.{◌≡◌, ◌+◌, ◌-◌, ◌<◌, ◌≤◌, ◌++◌, drop, map, length, IfOk, IsTrue};
 ghost use Rattle.std.specs.List.{All, flat_map};
 ghost use Rattle.std.specs.List.Sorted.{IsNonDecreasingBy};
 ghost use Rattle.dn_base.specs.Terms.{Checks};
+ghost use Rattle.dn_interval.specs.declared.span.TheConstants.{TOP};
 ghost use Rattle.dn_net.specs.Terms.{IsNet, IsShallow, KeepsNodeRules, has_plain_units, live_walks, step_limit, unit_fault, unit_numbers, walk_fault};
 ghost use Rattle.dn_walk.specs.declared.level.TheConstants.{WALK_LIMIT};
 ghost use Rattle.dn_walk.specs.declared.walks.WalkRow.{WalkRow};
@@ -14,11 +15,11 @@ use crate::chain::first_chain;
 use crate::fault::WalkFault;
 use crate::fork::{Fork, least_fork};
 use crate::leads::unit_numbers;
-use crate::leg::net_legs;
+use crate::leg::{Legs, net_legs};
 use crate::level::{Levels, WALK_LIMIT};
 use crate::way::{Goal, least_start, way};
 use dn_base::items::Items;
-use dn_interval::{Span, SpanSet};
+use dn_interval::{Seg, Span, SpanSet};
 use dn_net::net::Net;
 use std::alloc::{AllocError, Global};
 use std::marker::Model;
@@ -40,12 +41,29 @@ pub struct WalkRow {
     pub len: u8,
 }
 
-/// The live walks of a net, by length, start, span and choices, and what its nodes accept. The walks lie in
-/// pieces, one behind the other; contracts see one list.
+impl WalkRow {
+    /// The names to which the addresses of the walk come, as a segment.
+    pub fn seg(&self) -> Seg
+        requires { self.now.base + (self.now.span.hi - self.now.span.lo) ≤ TOP }
+        ensures span { result.span ≡ self.now.span }
+        ensures node { result.node ≡ self.now.end }
+        ensures base { result.base ≡ self.now.base }
+    {
+        Seg {
+            span: self.span,
+            node: self.end,
+            base: self.base,
+        }
+    }
+}
+
+/// The live walks of a net, by length, start, span and choices, and what its nodes accept and by which legs they
+/// lead on. The walks lie in pieces, one behind the other; contracts see one list.
 #[derive(Drop)]
 pub struct WalkTable {
     pieces: Vec<Items<WalkRow>>,
     accepted: Vec<SpanSet>,
+    legs: Legs,
 }
 
 impl Model for WalkTable {
@@ -54,7 +72,7 @@ impl Model for WalkTable {
 
     ghost Value = { Table };
 
-    ghost view = { λ t. record { rows = flat_map (λ x. x) t.pieces.items; accepted = t.accepted.items } };
+    ghost view = { λ t. record { rows = flat_map (λ x. x) t.pieces.items; accepted = t.accepted.items; legs = t.legs } };
 }
 
 impl WalkTable {
@@ -72,6 +90,13 @@ impl WalkTable {
         ensures { result.now ≡ self.now.accepted }
     {
         self.accepted.as_slice()
+    }
+
+    /// The legs of each node.
+    pub fn legs(&self) -> &Legs
+        ensures { result.now ≡ self.now.legs }
+    {
+        &self.legs
     }
 }
 
@@ -96,6 +121,7 @@ pub fn walks(alloc: Global, net: &Net) -> Result<WalkTable, WalkFault>
     Ok(WalkTable {
         pieces,
         accepted: accepted_sets(alloc, net)?,
+        legs,
     })
 }
 

@@ -7,6 +7,7 @@ use Rattle.dn_interval.specs.Listed.{seen_by}
 use Rattle.dn_interval.specs.Rows.{AreNormal, SegmentsGive}
 use Rattle.dn_net.specs.Walks.{still, extended}
 use Rattle.dn_walk.specs.declared.walks.WalkRow.{WalkRow}
+use Rattle.dn_walk.specs.Legs.{leg_view}
 use Rattle.dn_walk.specs.Rows.{row_view, told_by_walk}
 use Rattle.dn_shape.specs.Absorb.{entry_of_row}
 use Rattle.dn_shape.specs.Past.{told_give, told_onward, walks_past}
@@ -16,11 +17,11 @@ use Rattle.dn_shape.proofs.past.entries_past.Goals.{In_ok-walks}
 
 told : (c : In_ok-walks) → map row_view c.in_ok-walks.walks.items ≡ map told_by_walk (walks_past c.args.net.now c.args.past c.args.node)
 told c =
-    let f = told_onward c.args.onward.now c.args.past in
+    let f = told_onward (map leg_view c.args.onward.now) c.args.past in
     c.in_ok-walks.ensures
     ∙ ap (λ l. flat_map f (map row_view l)) c.deref.ensures.value
     ∙ ap (flat_map f) c.in_ok-first.ensures.walks
-    ∙ all_told c.args.net.now c.args.past c.args.onward.now c.requires.onward (extended c.args.net.now (still c.args.node))
+    ∙ all_told c.args.net.now c.args.past (map leg_view c.args.onward.now) c.requires.onward (extended c.args.net.now (still c.args.node))
 
 pub segs_of-requires : goal.segs_of-requires
 segs_of-requires c =

@@ -1,6 +1,7 @@
 -- What is told of the walks of one choice.
 use Rattle.std.proofs.Common.{◌∙◌, ◌++◌, ap, map}
 use Rattle.dn_net.specs.Walks.{still, extended}
+use Rattle.dn_walk.specs.Legs.{leg_view}
 use Rattle.dn_walk.specs.Rows.{row_view, told_by_walk}
 use Rattle.dn_walk.specs.Levels.{told_on}
 use Rattle.dn_shape.proofs.Walked.{first_told, first_row, rows_far, rows_short}
@@ -9,9 +10,9 @@ use Rattle.dn_shape.proofs.past.first_walks.Goals as goal
 first : goal.returns-clause-walks
 first c =
     c.in_ok-push_walks.ensures
-    ∙ ap (λ l. map row_view l ++ told_on c.as_slice.result.now (told_by_walk (still c.args.node))) c.new-walks.ensures.items
-    ∙ ap (λ l. told_on l (told_by_walk (still c.args.node))) c.as_slice.ensures
-    ∙ first_told c.args.net.now c.args.node c.in_ok-legs.legs c.in_ok-legs.ensures.legs
+    ∙ ap (λ l. map row_view l ++ told_on (map leg_view c.as_slice.result.now) (told_by_walk (still c.args.node))) c.new-walks.ensures.items
+    ∙ ap (λ l. told_on (map leg_view l) (told_by_walk (still c.args.node))) c.as_slice.ensures
+    ∙ first_told c.args.net.now c.args.node (map leg_view c.in_ok-legs.legs) c.in_ok-legs.ensures.legs
 
 pub returns-clause-walks : goal.returns-clause-walks
 returns-clause-walks c = first c
