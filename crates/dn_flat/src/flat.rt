@@ -8,6 +8,7 @@ ghost use Rattle.dn_flat.specs.Terms.{ResolvesFrom, StopsFrom};
 use crate::stage::first_stage;
 use dn_base::OutOfMemory;
 use dn_interval::Rows;
+use dn_net::checked::CheckedNet;
 use dn_net::net::Net;
 use dn_walk::walks::WalkTable;
 use std::alloc::Global;
@@ -33,6 +34,6 @@ pub fn flatten(alloc: Global, net: &Net, walks: &WalkTable, node: u16) -> Result
     ensures within { IfOk result (λ flat. IsTrue (ends_within (length net.now) flat.accepts)) }
     ensures stops_within { IfOk result (λ flat. IsTrue (ends_within (length net.now) flat.stops)) }
 {
-    let stage = first_stage(alloc, net, walks.accepted(), walks.legs())?;
+    let stage = first_stage(alloc, CheckedNet { net }, walks.accepted(), walks.legs())?;
     stage.flat(alloc, net, node)
 }

@@ -20,6 +20,7 @@ use crate::shared::Shared;
 use crate::stage::{Stage, first_stage};
 use dn_base::OutOfMemory;
 use dn_interval::{End, Rows, Seg, Span};
+use dn_net::checked::CheckedNet;
 use dn_net::net::Net;
 use dn_walk::walks::WalkTable;
 use std::alloc::Global;
@@ -129,7 +130,7 @@ pub fn flatten_all(alloc: Global, net: &Net, walks: &WalkTable) -> Result<Flats,
     requires { AreWalksOf net.now walks.now }
     ensures { IfOk result (λ flats. AreFlats net.now flats) }
 {
-    let stage = first_stage(alloc, net, walks.accepted(), walks.legs())?;
+    let stage = first_stage(alloc, CheckedNet { net }, walks.accepted(), walks.legs())?;
     let mut nodes = Shared::new(alloc);
     for node in 0..net.nodes() {
         add(alloc, net, &stage, &mut nodes, node)?;

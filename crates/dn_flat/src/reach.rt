@@ -5,7 +5,7 @@ ghost use Rattle.dn_interval.specs.declared.row.End.{End};
 ghost use Rattle.dn_interval.specs.declared.span.TheConstants.{TOP};
 ghost use Rattle.dn_interval.specs.Terms.{ends_within, has, in_span, seg_gives, segs_give};
 ghost use Rattle.dn_net.specs.declared.node.NodeDecl.{NodeDecl};
-ghost use Rattle.dn_net.specs.Terms.{KeepsNodeRules, is_accepted, is_stop};
+ghost use Rattle.dn_net.specs.Terms.{is_accepted, is_stop};
 ghost use Rattle.dn_walk.specs.Terms.{leg_view, told_legs};
 ghost use Rattle.dn_flat.specs.Terms.{AreReaches, IsLedBy, IsLedTo, IsReach, is_same, stays};
 
@@ -14,6 +14,7 @@ use crate::found::{Found, Part, flat_of, push_rows, whole};
 use dn_base::OutOfMemory;
 use dn_interval::onward::follow;
 use dn_interval::{Row, Rows, Seg, Span, SpanSet, TOP};
+use dn_net::checked::CheckedNet;
 use dn_net::net::Net;
 use std::alloc::Global;
 
@@ -58,21 +59,21 @@ fn led_by(row: &Row) -> Option<u16>
 /// What a node comes to by one step, from the addresses that it accepts and from its legs.
 pub(crate) fn first_reach(
     alloc: Global,
-    net: &Net,
+    checked: CheckedNet,
     node: u16,
     accepted: &SpanSet,
     legs: &[Seg],
 ) -> Result<Reach, OutOfMemory>
-    requires rules { KeepsNodeRules net.now }
-    requires there { node < length net.now }
+    requires there { node < length checked.net.now }
     requires accepted { (a : ℕ) → has accepted.now a
-        ≡ is_accepted net.now (record { node = node; addr = a }) }
-    requires legs { option_map told_legs (slice_get net.now node) ≡ Some (map leg_view legs.now) }
-    ensures { IfOk result (λ reach. IsReach net.now 1 node reach) }
+        ≡ is_accepted checked.net.now (record { node = node; addr = a }) }
+    requires legs { option_map told_legs (slice_get checked.net.now node)
+        ≡ Some (map leg_view legs.now) }
+    ensures { IfOk result (λ reach. IsReach checked.entry.net.now 1 node reach) }
 {
     let found = Found {
         accepts: still_segs(alloc, node, accepted.spans())?,
-        stops: stop_segs(alloc, net, node)?,
+        stops: stop_segs(alloc, checked.net, node)?,
         go: Vec::new(alloc),
     };
     let done = flat_of(alloc, &found)?;

@@ -13,6 +13,7 @@ use crate::levels::{Levels, node_levels, shown_segs};
 use crate::reach::{Reach, first_reach, twice};
 use dn_base::OutOfMemory;
 use dn_interval::{Rows, SpanSet};
+use dn_net::checked::CheckedNet;
 use dn_net::net::Net;
 use dn_walk::accepted::accepted_sets;
 use dn_walk::leg::{Legs, net_legs};
@@ -41,9 +42,10 @@ impl Stage {
         ensures stage { IfOk result (λ stage. IsStage net.now stage) }
         ensures steps { IfOk result (λ stage. stage.steps ≡ 1) }
     {
-        let accepted = accepted_sets(alloc, net)?;
-        let legs = net_legs(alloc, net)?;
-        first_stage(alloc, net, &accepted, &legs)
+        let checked = CheckedNet { net };
+        let accepted = accepted_sets(alloc, checked)?;
+        let legs = net_legs(alloc, checked)?;
+        first_stage(alloc, checked, &accepted, &legs)
     }
 
     /// The net's stage for twice as many steps.
@@ -150,20 +152,20 @@ impl Stage {
 /// The stage of a net for one step, from the addresses that its nodes accept and from their legs.
 pub(crate) fn first_stage(
     alloc: Global,
-    net: &Net,
+    checked: CheckedNet,
     accepted: &[SpanSet],
     legs: &Legs,
 ) -> Result<Stage, OutOfMemory>
-    requires rules { KeepsNodeRules net.now }
-    requires accepted { AreAccepted net.now accepted.now }
-    requires legs { legs.now ≡ map told_legs net.now }
-    ensures stage { IfOk result (λ stage. IsStage net.now stage) }
+    requires accepted { AreAccepted checked.net.now accepted.now }
+    requires legs { legs.now ≡ map told_legs checked.net.now }
+    ensures stage { IfOk result (λ stage. IsStage checked.entry.net.now stage) }
     ensures steps { IfOk result (λ stage. stage.steps ≡ 1) }
 {
+    let net = checked.net;
     let mut nodes = Vec::with_capacity(alloc, usize::from(net.nodes()))?;
     for node in 0..net.nodes() {
         let set = &accepted[usize::from(node)];
-        let reach = first_reach(alloc, net, node, set, legs.of(node))?;
+        let reach = first_reach(alloc, checked, node, set, legs.of(node))?;
         nodes.push(reach)?;
     }
     Ok(Stage { nodes, steps: 1 })

@@ -4,7 +4,7 @@ ghost use Rattle.std.specs.Prelude.{◌≡◌, ◌<◌, ◌≤◌, ◌+◌, ◌-
 ghost use Rattle.std.specs.List.{All, flat_map};
 ghost use Rattle.dn_interval.specs.declared.row.End.{End};
 ghost use Rattle.dn_interval.specs.Terms.{seen_by, segs_give};
-ghost use Rattle.dn_net.specs.Terms.{KeepsNodeRules, extended, still};
+ghost use Rattle.dn_net.specs.Terms.{extended, still};
 ghost use Rattle.dn_shape.specs.Terms.{LeadOn, dest_of_end, entry_of_row, rows_past, told_give, told_onward};
 ghost use Rattle.dn_walk.specs.Terms.{leg_view, row_view, told_by_walk, told_legs, told_on};
 
@@ -12,7 +12,7 @@ use crate::spans::block_of;
 use dn_base::OutOfMemory;
 use dn_base::items::Items;
 use dn_interval::{End, Row, Rows, Seg, Span, TOP};
-use dn_net::net::Net;
+use dn_net::checked::CheckedNet;
 use dn_net::node::{Dest, Entry};
 use dn_walk::leg::node_legs;
 use dn_walk::level::{extend_row, met_by};
@@ -23,18 +23,19 @@ use std::alloc::Global;
 /// each name of the other stand those to which it decodes.
 pub(crate) fn entries_past(
     alloc: Global,
-    net: &Net,
+    checked: CheckedNet,
     past: u16,
     onward: &[Seg],
     node: u16,
 ) -> Result<Items<Entry>, OutOfMemory>
-    requires rules { KeepsNodeRules net.now }
-    requires onward { option_map told_legs (slice_get net.now past) ≡ Some (map leg_view onward.now) }
+    requires onward { option_map told_legs (slice_get checked.net.now past)
+        ≡ Some (map leg_view onward.now) }
     requires lead { LeadOn onward.now }
-    requires there { node < length net.now }
-    ensures { IfOk result (λ es. es ≡ map entry_of_row (rows_past net.now past node)) }
+    requires there { node < length checked.net.now }
+    ensures { IfOk result (λ es. es
+        ≡ map entry_of_row (rows_past checked.entry.net.now past node)) }
 {
-    let first = first_walks(alloc, net, node)?;
+    let first = first_walks(alloc, checked, node)?;
     let walks = walks_onward(alloc, &first, past, onward)?;
     let segs = segs_of(alloc, &walks)?;
     let rows = Rows::normal(alloc, &segs)?;
@@ -62,15 +63,14 @@ fn walks_onward(
 }
 
 /// The walks of one choice from a node.
-fn first_walks(alloc: Global, net: &Net, node: u16) -> Result<Vec<WalkRow>, OutOfMemory>
-    requires rules { KeepsNodeRules net.now }
-    requires there { node < length net.now }
+fn first_walks(alloc: Global, checked: CheckedNet, node: u16) -> Result<Vec<WalkRow>, OutOfMemory>
+    requires there { node < length checked.net.now }
     ensures walks { IfOk result (λ v. map row_view v.items
-        ≡ map told_by_walk (extended net.now (still node))) }
+        ≡ map told_by_walk (extended checked.entry.net.now (still node))) }
     ensures far { IfOk result (λ v. All (λ r. r.base + (r.span.hi - r.span.lo) ≤ TOP) v.items) }
     ensures short { IfOk result (λ v. All (λ r. r.len ≤ 64) v.items) }
 {
-    let legs = legs_of(alloc, net, node)?;
+    let legs = legs_of(alloc, checked, node)?;
     let still = WalkRow {
         start: node,
         span: Span { lo: 0, hi: TOP },
@@ -84,13 +84,17 @@ fn first_walks(alloc: Global, net: &Net, node: u16) -> Result<Vec<WalkRow>, OutO
 }
 
 /// The legs of a node.
-pub(crate) fn legs_of(alloc: Global, net: &Net, node: u16) -> Result<Items<Seg>, OutOfMemory>
-    requires rules { KeepsNodeRules net.now }
-    requires there { node < length net.now }
-    ensures legs { IfOk result (λ ls. option_map told_legs (slice_get net.now node)
+pub(crate) fn legs_of(
+    alloc: Global,
+    checked: CheckedNet,
+    node: u16,
+) -> Result<Items<Seg>, OutOfMemory>
+    requires there { node < length checked.net.now }
+    ensures legs { IfOk result (λ ls. option_map told_legs (slice_get checked.entry.net.now node)
         ≡ Some (map leg_view ls)) }
     ensures lead { IfOk result (λ ls. LeadOn ls) }
 {
+    let net = checked.net;
     node_legs(alloc, net.accepts(node), net.entries(node), net.over(node))
 }
 
@@ -106,7 +110,8 @@ fn push_onward(
     requires reach { row.now.base + (row.now.span.hi - row.now.span.lo) ≤ TOP }
     requires short { row.now.len ≤ 64 }
     ensures { OnOk result (map row_view walks.new.items
-        ≡ map row_view walks.old.items ++ told_onward (map leg_view legs.now) past (row_view row.now)) }
+        ≡ map row_view walks.old.items
+        ++ told_onward (map leg_view legs.now) past (row_view row.now)) }
 {
     if row.end == past {
         return push_walks(row, legs, walks);

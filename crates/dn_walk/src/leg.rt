@@ -2,14 +2,14 @@
 
 ghost use Rattle.std.specs.Prelude.{◌≡◌, ◌++◌, map, slice_get, IfOk, OnOk, IsTrue, Some, ◌<◌, length};
 ghost use Rattle.std.specs.List.{list_all};
-ghost use Rattle.dn_net.specs.Terms.{KeepsNodeRules, block_in_range, dest_in_range, entry_in_range};
+ghost use Rattle.dn_net.specs.Terms.{block_in_range, dest_in_range, entry_in_range};
 ghost use Rattle.dn_walk.specs.Terms.{dest_leg, gap_leg, gaps_by, leg_view, legs_by, plain_entry_legs, span_view, told_legs};
 
 use crate::spans::{block_spans, covered};
 use dn_base::OutOfMemory;
 use dn_base::items::Items;
 use dn_interval::{Seg, Span, SpanSet};
-use dn_net::net::Net;
+use dn_net::checked::CheckedNet;
 use dn_net::node::{Block, Dest, Entry};
 use std::alloc::Global;
 use std::marker::Model;
@@ -40,10 +40,10 @@ impl Legs {
 }
 
 /// The legs of each node of a net.
-pub fn net_legs(alloc: Global, net: &Net) -> Result<Legs, OutOfMemory>
-    requires rules { KeepsNodeRules net.now }
-    ensures { IfOk result (λ legs. legs ≡ map told_legs net.now) }
+pub fn net_legs(alloc: Global, checked: CheckedNet) -> Result<Legs, OutOfMemory>
+    ensures { IfOk result (λ legs. legs ≡ map told_legs checked.entry.net.now) }
 {
+    let net = checked.net;
     let mut nodes = Vec::with_capacity(alloc, usize::from(net.nodes()))?;
     for node in 0..net.nodes() {
         let legs = node_legs(alloc, net.accepts(node), net.entries(node), net.over(node))?;

@@ -12,7 +12,7 @@ use Rattle.dn_flat.proofs.reach.first_reach.Goals as goal
 
 pub returns : goal.returns
 returns c =
-    let net = c.args.net.now in
+    let net = c.args.checked.net.now in
     let node = c.args.node in
     let spans = c.spans.result.now in
     let accepts = c.in_ok-still_segs.field-0.items in
@@ -23,5 +23,5 @@ returns c =
         accepts = normal_of (EndsBefore net (is_accepted net) 1 node) accepts c.in_ok-done.done.accepts (λ a y t. means_along (segs_give accepts a y) (has spans a && is_same node a y) (c.in_ok-still_segs.ensures a y) (stay_ends net (is_accepted net) node a y (has spans a) (ap (λ s. has s a) c.spans.ensures.value ∙ c.requires.accepted a))) c.in_ok-done.ensures.accepts;
         stops = normal_of (EndsBefore net (is_stop net) 1 node) stops c.in_ok-done.done.stops (λ a y t. means_along (segs_give stops a y) (is_stop net (record { node = node; addr = a }) && is_same node a y) (c.in_ok-stop_segs.ensures a y t) (stay_ends net (is_stop net) node a y (is_stop net (record { node = node; addr = a })) refl)) c.in_ok-done.ensures.stops;
       };
-      go = normal_of (GoesIn net 1 node) go c.in_ok-go.go (λ a y t. legs_step net c.requires.rules node go c.requires.legs a y) c.in_ok-go.ensures.normal;
+      go = normal_of (GoesIn net 1 node) go c.in_ok-go.go (λ a y t. legs_step net c.args.checked.rules node go c.requires.legs a y) c.in_ok-go.ensures.normal;
     }

@@ -10,16 +10,16 @@ use Rattle.dn_flat.proofs.stage.first_stage.Goals as goal
 
 pub of-requires : goal.of-requires
 of-requires c =
-    let all : length c.args.legs.now ≡ length c.args.net.now = ap length c.requires.legs ∙ length-map told_legs c.args.net.now in
+    let all : length c.args.legs.now ≡ length c.args.checked.net.now = ap length c.requires.legs ∙ length-map told_legs c.args.checked.net.now in
     omega (arith, c.nodes-node-end.ensures, c.loop-node-test.true)
 
 pub first_reach-reach-requires-clause-legs : goal.first_reach-reach-requires-clause-legs
 first_reach-reach-requires-clause-legs c =
-    sym (slice_get-map told_legs c.args.net.now c.loop-node.node) ∙ ap (λ l. slice_get l c.loop-node.node) (sym c.requires.legs) ∙ c.of.ensures
+    sym (slice_get-map told_legs c.args.checked.net.now c.loop-node.node) ∙ ap (λ l. slice_get l c.loop-node.node) (sym c.requires.legs) ∙ c.of.ensures
 
 pub loop-node-preserved : goal.loop-node-preserved
 loop-node-preserved c =
-    let net = c.args.net.now in
+    let net = c.args.checked.net.now in
     let made = c.loop-node.nodes.items in
     let next = c.in_ok-reach.reach in
     let inv = c.loop-node.invariant in

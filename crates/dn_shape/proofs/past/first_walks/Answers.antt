@@ -12,13 +12,13 @@ first c =
     c.in_ok-push_walks.ensures
     ∙ ap (λ l. map row_view l ++ told_on (map leg_view c.as_slice.result.now) (told_by_walk (still c.args.node))) c.new-walks.ensures.items
     ∙ ap (λ l. told_on (map leg_view l) (told_by_walk (still c.args.node))) c.as_slice.ensures
-    ∙ first_told c.args.net.now c.args.node (map leg_view c.in_ok-legs.legs) c.in_ok-legs.ensures.legs
+    ∙ first_told c.args.checked.net.now c.args.node (map leg_view c.in_ok-legs.legs) c.in_ok-legs.ensures.legs
 
 pub returns-clause-walks : goal.returns-clause-walks
 returns-clause-walks c = first c
 
 pub returns-clause-far : goal.returns-clause-far
-returns-clause-far c = rows_far c.args.net.now (extended c.args.net.now (still c.args.node)) c.push_walks.new.walks.items (λ w m. (1, first_row c.args.net.now c.requires.rules c.args.node c.requires.there w m)) (first c)
+returns-clause-far c = rows_far c.args.checked.net.now (extended c.args.checked.net.now (still c.args.node)) c.push_walks.new.walks.items (λ w m. (1, first_row c.args.checked.net.now c.args.checked.rules c.args.node c.requires.there w m)) (first c)
 
 pub returns-clause-short : goal.returns-clause-short
-returns-clause-short c = rows_short c.args.net.now (extended c.args.net.now (still c.args.node)) c.push_walks.new.walks.items (λ w m. first_row c.args.net.now c.requires.rules c.args.node c.requires.there w m) (first c)
+returns-clause-short c = rows_short c.args.checked.net.now (extended c.args.checked.net.now (still c.args.node)) c.push_walks.new.walks.items (λ w m. first_row c.args.checked.net.now c.args.checked.rules c.args.node c.requires.there w m) (first c)

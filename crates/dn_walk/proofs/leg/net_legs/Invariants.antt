@@ -4,4 +4,4 @@ use Rattle.dn_walk.specs.Legs.{leg_view, told_legs}
 use Rattle.dn_walk.proofs.leg.net_legs.Given as goal
 
 abbrev pub invariant-loop-node : goal.invariant-loop-node
-invariant-loop-node l = map (map leg_view) l.nodes.items ≡ map told_legs (take l.node l.net)
+invariant-loop-node l = map (map leg_view) l.nodes.items ≡ map told_legs (take l.node l.checked.net.now)
