@@ -1,5 +1,5 @@
 -- What the part of a segment gives tells which addresses it has, and where the first of them goes.
-use Rattle.std.proofs.Common.{◌≡◌, ℕ, ◌+◌, ◌-◌, ◌≤◌, Bool, true, ◌&&◌, nat_eq, max, min, refl, sym, ap, ◌∙◌, arith, eqb-true, eq-eqb}
+use Rattle.std.proofs.Common.{◌≡◌, ℕ, ◌+◌, ◌-◌, ◌≤◌, Bool, true, ◌&&◌, nat_eq, max, min, refl, sym, ap, ◌∙◌, subst, arith, eqb-true, eq-eqb}
 use Rattle.std.proofs.lemmas.Bool.{and_parts, and_from}
 use Rattle.dn_interval.specs.declared.row.End.{End}
 use Rattle.dn_interval.specs.declared.row.Seg.{Seg}
@@ -28,6 +28,25 @@ pub record IsFrom (t : Seg) (lo hi node base : ℕ) : Type 0 where
   pub node_is : t.node ≡ node
   pub base_is : t.base ≡ base
 
+-- of a run from lo to hi that comes to `base`, cut where a span begins and ends: the first address and the last one
+first_within : (lo hi base from : ℕ) → lo ≤ hi → from ≤ base + (hi - lo) → lo + (max base from - base) ≤ hi
+first_within lo hi base from o l = omega arith
+
+first_comes : (lo base from : ℕ) → base + ((lo + (max base from - base)) - lo) ≡ max base from
+first_comes lo base from = omega arith
+
+last_within : (lo hi base to : ℕ) → lo ≤ hi → lo + (min (base + (hi - lo)) to - base) ≤ hi
+last_within lo hi base to o = omega arith
+
+last_comes : (lo hi base to : ℕ) → base ≤ to → base + ((lo + (min (base + (hi - lo)) to - base)) - lo) ≡ min (base + (hi - lo)) to
+last_comes lo hi base to l = omega arith
+
+no_lower : (lo base from a : ℕ) → lo ≤ a → from ≤ base + (a - lo) → lo + (max base from - base) ≤ a
+no_lower lo base from a l m = omega arith
+
+no_higher : (lo hi base to a : ℕ) → lo ≤ a → a ≤ hi → base + (a - lo) ≤ to → a ≤ lo + (min (base + (hi - lo)) to - base)
+no_higher lo hi base to a l h m = omega arith
+
 module _ (s t : Seg) (p : Span) (e : End) (begins : p.lo ≤ s.base + (s.span.hi - s.span.lo)) (ends : s.base ≤ p.hi) (gives : (a : ℕ) (z : End) → seg_gives t a z ≡ gives_on s p e a z) where
   -- an address that goes on is one of the part
   there : (a : ℕ) → s.span.lo ≤ a → a ≤ s.span.hi → p.lo ≤ comes s a → comes s a ≤ p.hi → (t.span.lo ≤ a) × (a ≤ t.span.hi) × (t.node ≡ e.node) × (t.base + (a - t.span.lo) ≡ e.base + (comes s a - p.lo))
@@ -50,41 +69,67 @@ module _ (s t : Seg) (p : Span) (e : End) (begins : p.lo ≤ s.base + (s.span.hi
       let k = and_parts (in_span p (comes s a)) (nat_eq e.node z.node && nat_eq (e.base + (comes s a - p.lo)) z.base) g.1 in
       (lo_of s.span a g.0, hi_of s.span a g.0, lo_of p (comes s a) k.0, hi_of p (comes s a) k.0)
 
-  abbrev first : ℕ
-  first = s.span.lo + (max s.base p.lo - s.base)
-
-  abbrev last : ℕ
-  last = s.span.lo + (min (s.base + (s.span.hi - s.span.lo)) p.hi - s.base)
-
   pub part_is : IsFrom t (s.span.lo + (max s.base p.lo - s.base)) (s.span.lo + (min (s.base + (s.span.hi - s.span.lo)) p.hi - s.base)) e.node (e.base + (max s.base p.lo - p.lo))
-  part_is =
-      let o : s.span.lo ≤ s.span.hi = s.span.ordered in
-      let q : p.lo ≤ p.hi = p.ordered in
-      let u : t.span.lo ≤ t.span.hi = t.span.ordered in
-      let f = there first (omega arith) (omega arith) (omega arith) (omega arith) in
-      let g = there last (omega arith) (omega arith) (omega arith) (omega arith) in
-      let b = back t.span.lo (omega arith) u in
-      let c = back t.span.hi u (omega arith) in
-      let f0 : t.span.lo ≤ first = f.0 in
-      let f3 : t.base + (first - t.span.lo) ≡ e.base + (comes s first - p.lo) = f.3 in
-      let g1 : last ≤ t.span.hi = g.1 in
-      let b0 : s.span.lo ≤ t.span.lo = b.0 in
-      let b2 : p.lo ≤ comes s t.span.lo = b.2 in
-      let c1 : t.span.hi ≤ s.span.hi = c.1 in
-      let c3 : comes s t.span.hi ≤ p.hi = c.3 in
-      let lo : t.span.lo ≡ first = omega arith in
-      let hi : t.span.hi ≡ last = omega arith in
-      record { lo_is = lo; hi_is = hi; node_is = f.2; base_is = omega arith }
+  part_is = record { lo_is = lo; hi_is = hi; node_is = f.2; base_is = base }
+    where
+      comes_lo : comes s (s.span.lo + (max s.base p.lo - s.base)) ≡ max s.base p.lo
+      comes_lo = first_comes s.span.lo s.base p.lo
+
+      comes_hi : comes s (s.span.lo + (min (s.base + (s.span.hi - s.span.lo)) p.hi - s.base)) ≡ min (s.base + (s.span.hi - s.span.lo)) p.hi
+      comes_hi = last_comes s.span.lo s.span.hi s.base p.hi ends
+
+      behind : (from to base : ℕ) → from ≤ to → base ≤ to → (from ≤ max base from) × (max base from ≤ to)
+      behind from to base l m = (omega arith, omega arith)
+
+      before : (from to last : ℕ) → from ≤ to → from ≤ last → (from ≤ min last to) × (min last to ≤ to)
+      before from to last l m = (omega arith, omega arith)
+
+      f : (t.span.lo ≤ s.span.lo + (max s.base p.lo - s.base)) × (s.span.lo + (max s.base p.lo - s.base) ≤ t.span.hi) × (t.node ≡ e.node) × (t.base + ((s.span.lo + (max s.base p.lo - s.base)) - t.span.lo) ≡ e.base + (comes s (s.span.lo + (max s.base p.lo - s.base)) - p.lo))
+      f =
+          let m = behind p.lo p.hi s.base p.ordered ends in
+          there (s.span.lo + (max s.base p.lo - s.base)) (omega arith) (first_within s.span.lo s.span.hi s.base p.lo s.span.ordered begins) (subst (λ n. p.lo ≤ n) (sym comes_lo) m.0) (subst (λ n. n ≤ p.hi) (sym comes_lo) m.1)
+
+      g : (t.span.lo ≤ s.span.lo + (min (s.base + (s.span.hi - s.span.lo)) p.hi - s.base)) × (s.span.lo + (min (s.base + (s.span.hi - s.span.lo)) p.hi - s.base) ≤ t.span.hi) × (t.node ≡ e.node) × (t.base + ((s.span.lo + (min (s.base + (s.span.hi - s.span.lo)) p.hi - s.base)) - t.span.lo) ≡ e.base + (comes s (s.span.lo + (min (s.base + (s.span.hi - s.span.lo)) p.hi - s.base)) - p.lo))
+      g =
+          let m = before p.lo p.hi (s.base + (s.span.hi - s.span.lo)) p.ordered begins in
+          there (s.span.lo + (min (s.base + (s.span.hi - s.span.lo)) p.hi - s.base)) (omega arith) (last_within s.span.lo s.span.hi s.base p.hi s.span.ordered) (subst (λ n. p.lo ≤ n) (sym comes_hi) m.0) (subst (λ n. n ≤ p.hi) (sym comes_hi) m.1)
+
+      same : (m n : ℕ) → m ≤ n → n ≤ m → m ≡ n
+      same m n l h = omega arith
+
+      no_less : (n : ℕ) → n ≤ n
+      no_less n = omega arith
+
+      lo : t.span.lo ≡ s.span.lo + (max s.base p.lo - s.base)
+      lo =
+          let b = back t.span.lo (no_less t.span.lo) t.span.ordered in
+          same t.span.lo (s.span.lo + (max s.base p.lo - s.base)) f.0 (no_lower s.span.lo s.base p.lo t.span.lo b.0 b.2)
+
+      hi : t.span.hi ≡ s.span.lo + (min (s.base + (s.span.hi - s.span.lo)) p.hi - s.base)
+      hi =
+          let c = back t.span.hi t.span.ordered (no_less t.span.hi) in
+          same t.span.hi (s.span.lo + (min (s.base + (s.span.hi - s.span.lo)) p.hi - s.base)) (no_higher s.span.lo s.span.hi s.base p.hi t.span.hi c.0 c.1 c.3) g.1
+
+      nothing_off : (b n m : ℕ) → n ≡ m → b + (m - n) ≡ b
+      nothing_off b n m e = omega arith
+
+      base : t.base ≡ e.base + (max s.base p.lo - p.lo)
+      base = sym (nothing_off t.base t.span.lo (s.span.lo + (max s.base p.lo - s.base)) lo) ∙ f.3 ∙ ap (λ n. e.base + (n - p.lo)) comes_lo
 
 -- so the part of a walk that goes on by a leg is the walk with one more leg
 pub onto_is : (t : Told) (s part leg : Seg) → s.span.lo ≡ t.lo → s.span.hi ≡ t.hi → s.base ≡ t.base → IsFrom part (s.span.lo + (max s.base leg.span.lo - s.base)) (s.span.lo + (min (s.base + (s.span.hi - s.span.lo)) leg.span.hi - s.base)) leg.node (leg.base + (max s.base leg.span.lo - leg.span.lo)) → ◌≡◌ {A = Told} (record { start = t.start; lo = part.span.lo; hi = part.span.hi; end = part.node; base = part.base; len = t.len + 1 }) (told_onto t (leg_view leg))
-onto_is t s part leg l h b is =
-    let m = max_is t.base leg.span.lo in
-    let n = min_is (t.base + (t.hi - t.lo)) leg.span.hi in
-    let p = is.lo_is in
-    let q = is.hi_is in
-    let r = is.base_is in
-    let lo : part.span.lo ≡ t.lo + (greater t.base leg.span.lo - t.base) = omega (arith, m, n, p, q, r) in
-    let hi : part.span.hi ≡ t.lo + (lesser_of (t.base + (t.hi - t.lo)) leg.span.hi - t.base) = omega (arith, m, n, p, q, r) in
-    let base : part.base ≡ leg.base + (greater t.base leg.span.lo - leg.span.lo) = omega (arith, m, n, p, q, r) in
-    λ i. record { start = t.start; lo = lo i; hi = hi i; end = is.node_is i; base = base i; len = t.len + 1 }
+onto_is t s part leg l h b is = λ i. record { start = t.start; lo = lo i; hi = hi i; end = is.node_is i; base = base i; len = t.len + 1 }
+  where
+    lo : part.span.lo ≡ t.lo + (greater t.base leg.span.lo - t.base)
+    lo = is.lo_is ∙ ap (λ n. n + (max s.base leg.span.lo - s.base)) l ∙ ap (λ n. t.lo + (max n leg.span.lo - n)) b ∙ ap (λ n. t.lo + (n - t.base)) (max_is t.base leg.span.lo)
+
+    hi : part.span.hi ≡ t.lo + (lesser_of (t.base + (t.hi - t.lo)) leg.span.hi - t.base)
+    hi =
+        is.hi_is
+        ∙ ap (λ n. n + (min (s.base + (s.span.hi - n)) leg.span.hi - s.base)) l
+        ∙ ap (λ n. t.lo + (min (s.base + (n - t.lo)) leg.span.hi - s.base)) h
+        ∙ ap (λ n. t.lo + (min (n + (t.hi - t.lo)) leg.span.hi - n)) b
+        ∙ ap (λ n. t.lo + (n - t.base)) (min_is (t.base + (t.hi - t.lo)) leg.span.hi)
+
+    base : part.base ≡ leg.base + (greater t.base leg.span.lo - leg.span.lo)
+    base = is.base_is ∙ ap (λ n. leg.base + (max n leg.span.lo - leg.span.lo)) b ∙ ap (λ n. leg.base + (n - leg.span.lo)) (max_is t.base leg.span.lo)

@@ -9,7 +9,8 @@ use Rattle.std.proofs.lemmas.Grind.{flat_map-append}
 use Rattle.std.proofs.lemmas.List.Folds.{length-flat_map-take}
 use Rattle.dn_interval.specs.declared.row.Seg.{Seg}
 use Rattle.dn_net.specs.Chain.{Member}
-use Rattle.dn_net.specs.Walks.{in_order}
+use Rattle.dn_net.specs.Decode.{top}
+use Rattle.dn_net.specs.Walks.{greater, lesser_of, in_order}
 use Rattle.dn_net.specs.WalkRules.{Broken, is_wide, walk_limit}
 use Rattle.dn_walk.specs.declared.walks.WalkRow.{WalkRow}
 use Rattle.dn_walk.specs.Rows.{Told, row_view}
@@ -87,7 +88,7 @@ onto_is : (count k : ℕ) (t : Told) (l : Leg) → IsRowOf count k t → IsLegOf
 onto_is count k t l r g h =
     let m = meets_parts t l h in
     let m0 : t.base ≤ l.hi = m.0 in
-    let m1 : l.lo ≤ told_last t = m.1 in
+    let m1 : l.lo ≤ t.base + (t.hi - t.lo) = m.1 in
     let o = r.order in
     let p = r.low in
     let q = r.reach in
@@ -96,15 +97,11 @@ onto_is count k t l r g h =
     let w = g.reach in
     let n = r.len in
     let a = max_is t.base l.lo in
-    let b = min_is (told_last t) l.hi in
-    record {
-      order = omega (arith, a, b);
-      low = omega (arith, a, b);
-      start = r.start;
-      end = g.node;
-      reach = omega (arith, a, b);
-      len = omega arith;
-    }
+    let b = min_is (t.base + (t.hi - t.lo)) l.hi in
+    let order : t.lo + (greater t.base l.lo - t.base) ≤ t.lo + (lesser_of (t.base + (t.hi - t.lo)) l.hi - t.base) = omega (arith, a, b) in
+    let low : t.lo + (lesser_of (t.base + (t.hi - t.lo)) l.hi - t.base) ≤ top = omega (arith, a, b) in
+    let reach : (l.addr + (greater t.base l.lo - l.lo)) + ((t.lo + (lesser_of (t.base + (t.hi - t.lo)) l.hi - t.base)) - (t.lo + (greater t.base l.lo - t.base))) ≤ top = omega (arith, a, b) in
+    record { order = order; low = low; start = r.start; end = g.node; reach = reach; len = omega arith }
 
 -- each walk of a level
 pub level_is : (legs : List (List Leg)) → All (AreLegs (length legs)) legs → (k : ℕ) (t : Told) → Member t (told_level legs k) → IsRowOf (length legs) k t
