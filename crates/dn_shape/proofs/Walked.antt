@@ -8,10 +8,12 @@ use Rattle.dn_base.proofs.Members.{any_member, member_any}
 use Rattle.dn_interval.specs.declared.row.End.{End}
 use Rattle.dn_interval.specs.declared.row.Row.{Row}
 use Rattle.dn_interval.specs.declared.row.Seg.{Seg}
+use Rattle.dn_interval.specs.declared.span.Span.{Span}
 use Rattle.dn_interval.specs.declared.span.TheConstants.{TOP}
 use Rattle.dn_interval.specs.Listed.{seen_by}
 use Rattle.dn_interval.specs.Rows.{AreNormal, SegmentsGive}
-use Rattle.dn_interval.specs.Strands.{segs_give}
+use Rattle.dn_interval.specs.Spans.{in_span}
+use Rattle.dn_interval.specs.Strands.{seg_gives, segs_give}
 use Rattle.dn_interval.proofs.Listing.{normal_are_listed}
 use Rattle.dn_interval.proofs.Names.{segs_from, segs_to}
 use Rattle.dn_interval.proofs.Normal.{normal_like}
@@ -114,6 +116,13 @@ rows_short net ws rows each e = λ k d l. short (get_or rows k d) (row_walk ws r
         let a : length w.choices ≡ 1 = (each w m).long in
         let b : length w.choices ≡ r.len = ap (λ (u : Told). u.len) t in
         omega arith
+
+-- the segment of a walk gives what is told of it
+pub seg_told : (s : Seg) (r : WalkRow) (a : ℕ) (y : End) → s.span ≡ r.span → s.node ≡ r.end → s.base ≡ r.base → seg_gives s a y ≡ told_gives (row_view r) a y
+seg_told s r a y p n b =
+    ap (λ (q : Span). in_span q a && (nat_eq s.node y.node && nat_eq (s.base + (a - q.lo)) y.base)) p
+    ∙ ap (λ m. in_span r.span a && (nat_eq m y.node && nat_eq (s.base + (a - r.span.lo)) y.base)) n
+    ∙ ap (λ m. in_span r.span a && (nat_eq r.end y.node && nat_eq (m + (a - r.span.lo)) y.base)) b
 
 -- one row more
 pub onward_more : (f : Told → List Told) (rows : List WalkRow) (i : ℕ) (r : WalkRow) → i < length rows → r ≡ get_or rows i r → flat_map f (map row_view (take (i + 1) rows)) ≡ flat_map f (map row_view (take i rows)) ++ f (row_view r)
