@@ -1,8 +1,11 @@
 -- What a node comes to by no step and by one, from what it accepts and from its legs.
-use Rattle.std.proofs.Common.{◌≡◌, ℕ, zero, suc, ◌+◌, ◌-◌, ◌<◌, ◌↔◌, Bool, true, ◌&&◌, nat_le, nat_eq, List, [], ◌∷◌, length, slice_get, Option, Some, None, option_map, refl, sym, ap, ◌∙◌, subst, arith, eqb-true, eq-eqb}
+use Rattle.std.proofs.Common.{◌≡◌, ℕ, zero, suc, ◌+◌, ◌-◌, ◌<◌, ◌↔◌, Bool, true, ◌&&◌, ◌||◌, nat_le, nat_eq, List, [], ◌∷◌, map, length, slice_get, Option, Some, None, option_map, refl, sym, ap, ◌∙◌, subst, arith, eqb-true, eq-eqb}
+use Rattle.std.specs.List.{list_any}
 use Rattle.std.proofs.lemmas.Bool.{and_parts, and_from}
 use Rattle.dn_base.proofs.Members.{any_member, member_any, map_member, member_map}
 use Rattle.dn_interval.specs.declared.row.End.{End}
+use Rattle.dn_interval.specs.declared.row.Seg.{Seg}
+use Rattle.dn_interval.specs.Strands.{seg_gives, segs_give}
 use Rattle.dn_net.specs.declared.node.Name.{Name}
 use Rattle.dn_net.specs.declared.node.NodeDecl.{NodeDecl}
 use Rattle.dn_net.specs.Chain.{Member, IsChain}
@@ -13,12 +16,19 @@ use Rattle.dn_net.proofs.Apart.{node_apart}
 use Rattle.dn_net.proofs.Choices.{chain_is_walk}
 use Rattle.dn_net.proofs.Legs.{leads_of_leg, leg_of_leads}
 use Rattle.dn_net.proofs.Resolution.{name_is}
-use Rattle.dn_walk.specs.declared.leg.Leg.{Leg}
-use Rattle.dn_walk.specs.Legs.{bare_leg, bare_legs, AreLegs}
-use Rattle.dn_walk.proofs.Nodes.{legs_of_node}
+use Rattle.dn_walk.specs.Legs.{Leg, bare_leg, bare_legs, leg_view}
 use Rattle.dn_walk.specs.Ends.{name_of_end}
-use Rattle.dn_flat.specs.Firsts.{is_same, leg_gives, legs_give}
+use Rattle.dn_flat.specs.Firsts.{is_same}
 use Rattle.dn_flat.specs.Stages.{EndsBefore, GoesIn}
+use Rattle.dn_flat.proofs.Lists.{means_along}
+
+-- the leg leads the address to the name
+abbrev leg_gives : Leg → ℕ → End → Bool
+leg_gives l a y = (nat_le l.lo a && nat_le a l.hi) && (nat_eq l.node y.node && nat_eq (l.addr + (a - l.lo)) y.base)
+
+-- one of the legs leads the address to the name
+abbrev legs_give : List Leg → ℕ → End → Bool
+legs_give legs a y = list_any (λ l. leg_gives l a y) legs
 
 pub same_means : (node a : ℕ) (y : End) → is_same node a y ≡ true → ◌≡◌ {A = Name} (record { node = node; addr = a }) (name_of_end y)
 same_means node a y e =
@@ -75,12 +85,12 @@ some_bare : (net : List NodeDecl) (node : ℕ) (ls : List Leg) (o : Option NodeD
 some_bare net node ls None e f = cc
 some_bare net node ls (Some n) e f = let s : bare_legs n ≡ ls = cc in (n, e, s)
 
-pub legs_step : (net : List NodeDecl) → KeepsNodeRules net → (node : ℕ) (ls : List Leg) → option_map bare_legs (slice_get net node) ≡ Some ls → (a : ℕ) (y : End) → (legs_give ls a y ≡ true) ↔ GoesIn net 1 node a y
-legs_step net rules node ls e a y =
-    let s = some_bare net node ls (slice_get net node) refl e in
-    subst (λ l. (legs_give l a y ≡ true) ↔ GoesIn net 1 node a y) s.2 (one_step net rules node s.0 s.1 a y)
+-- segments give what their legs give
+same_legs : (segs : List Seg) (a : ℕ) (y : End) → segs_give segs a y ≡ legs_give (map leg_view segs) a y
+same_legs [] a y = refl
+same_legs (s ∷ segs) a y = ap (λ b. seg_gives s a y || b) (same_legs segs a y)
 
-pub legs_are : (net : List NodeDecl) → KeepsNodeRules net → (node : ℕ) (ls : List Leg) → option_map bare_legs (slice_get net node) ≡ Some ls → AreLegs (length net) ls
-legs_are net rules node ls e =
-    let s = some_bare net node ls (slice_get net node) refl e in
-    subst (AreLegs (length net)) s.2 (legs_of_node net rules node s.0 s.1)
+pub legs_step : (net : List NodeDecl) → KeepsNodeRules net → (node : ℕ) (segs : List Seg) → option_map bare_legs (slice_get net node) ≡ Some (map leg_view segs) → (a : ℕ) (y : End) → (segs_give segs a y ≡ true) ↔ GoesIn net 1 node a y
+legs_step net rules node segs e a y =
+    let s = some_bare net node (map leg_view segs) (slice_get net node) refl e in
+    means_along (segs_give segs a y) (legs_give (bare_legs s.0) a y) (same_legs segs a y ∙ ap (λ l. legs_give l a y) (sym s.2)) (one_step net rules node s.0 s.1 a y)

@@ -8,6 +8,7 @@ ghost use Rattle.dn_flat.specs.Terms.{ResolvesFrom, StopsFrom};
 use crate::stage::first_stage;
 use dn_base::OutOfMemory;
 use dn_interval::Rows;
+use dn_net::checked::CheckedNet;
 use dn_net::net::Net;
 use dn_walk::walks::WalkTable;
 use std::alloc::Global;
@@ -21,8 +22,8 @@ pub struct Flat {
     pub stops: Rows,
 }
 
-/// Flattens a node of a net that has this table of live walks, of which only what the nodes accept is read. Time of the
-/// steps of the net, and of the names, as rows, that the node reaches in each number of steps. Where several nodes of
+/// Flattens a node of a net that has this table of live walks, of which only what the nodes accept and their legs are
+/// read. Time of the steps of the net, and of the names, as rows, that the node reaches in each number of steps. Where several nodes of
 /// one net are to be flattened, [`crate::stage::Stage::flat`] makes the steps of the net once.
 pub fn flatten(alloc: Global, net: &Net, walks: &WalkTable, node: u16) -> Result<Flat, OutOfMemory>
     requires walks { AreWalksOf net.now walks.now }
@@ -33,6 +34,11 @@ pub fn flatten(alloc: Global, net: &Net, walks: &WalkTable, node: u16) -> Result
     ensures within { IfOk result (λ flat. IsTrue (ends_within (length net.now) flat.accepts)) }
     ensures stops_within { IfOk result (λ flat. IsTrue (ends_within (length net.now) flat.stops)) }
 {
-    let stage = first_stage(alloc, net, walks.accepted_by_node())?;
+    let stage = first_stage(
+        alloc,
+        CheckedNet { net },
+        walks.accepted_by_node(),
+        walks.legs(),
+    )?;
     stage.flat(alloc, net, node)
 }

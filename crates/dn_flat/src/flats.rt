@@ -17,6 +17,7 @@ use crate::stage::{Stage, first_stage};
 use crate::stretches::{alone_segs, led_stretches, near_segs};
 use dn_base::OutOfMemory;
 use dn_interval::{End, Rows, Seg, strands_of};
+use dn_net::checked::CheckedNet;
 use dn_net::net::Net;
 use dn_walk::walks::WalkTable;
 use std::alloc::Global;
@@ -142,7 +143,12 @@ pub fn flatten_all(alloc: Global, net: &Net, walks: &WalkTable) -> Result<Flats,
     requires { AreWalksOf net.now walks.now }
     ensures { IfOk result (λ flats. AreFlats net.now flats) }
 {
-    let stage = first_stage(alloc, net, walks.accepted_by_node())?;
+    let stage = first_stage(
+        alloc,
+        CheckedNet { net },
+        walks.accepted_by_node(),
+        walks.legs(),
+    )?;
     let mut nodes = Shared::new(alloc);
     for node in 0..net.nodes() {
         add(alloc, net, &stage, &mut nodes, node)?;

@@ -1,23 +1,21 @@
 //! What a node comes to by a number of steps: by one, and by twice as many.
 
-ghost use Rattle.std.specs.Prelude.{◌≡◌, ℕ, ◌+◌, ◌-◌, ◌<◌, ◌≤◌, ◌&&◌, length, slice_get, option_map, Some, IfOk, IfSome, IsTrue, List};
-ghost use Rattle.std.specs.List.{All};
+ghost use Rattle.std.specs.Prelude.{◌≡◌, ℕ, ◌+◌, ◌<◌, ◌≤◌, ◌&&◌, length, map, slice_get, option_map, Some, IfOk, IfSome, IsTrue, List};
 ghost use Rattle.dn_interval.specs.declared.row.End.{End};
 ghost use Rattle.dn_interval.specs.declared.span.TheConstants.{TOP};
 ghost use Rattle.dn_interval.specs.Terms.{ends_within, has, in_span, seg_gives, segs_give};
 ghost use Rattle.dn_net.specs.declared.node.NodeDecl.{NodeDecl};
-ghost use Rattle.dn_net.specs.Terms.{KeepsNodeRules, is_accepted, is_stop};
-ghost use Rattle.dn_walk.specs.declared.leg.Leg.{Leg};
-ghost use Rattle.dn_walk.specs.Terms.{bare_legs};
-ghost use Rattle.dn_flat.specs.Terms.{AreReaches, IsLedBy, IsLedTo, IsReach, is_same, leg_gives, legs_give, stays};
+ghost use Rattle.dn_net.specs.Terms.{is_accepted, is_stop};
+ghost use Rattle.dn_walk.specs.Terms.{bare_legs, leg_view};
+ghost use Rattle.dn_flat.specs.Terms.{AreReaches, IsLedBy, IsLedTo, IsReach, is_same, stays};
 
 use crate::flat::Flat;
 use crate::found::{Found, Part, flat_of, push_rows, whole};
 use dn_base::OutOfMemory;
 use dn_interval::onward::follow;
 use dn_interval::{Row, Rows, Seg, Span, SpanSet, TOP};
+use dn_net::checked::CheckedNet;
 use dn_net::net::Net;
-use dn_walk::leg::Leg;
 use std::alloc::Global;
 
 /// What the addresses of a node come to by a number of steps.
@@ -61,25 +59,25 @@ fn led_by(row: &Row) -> Option<u16>
 /// What a node comes to by one step, from the addresses that it accepts and from its legs.
 pub(crate) fn first_reach(
     alloc: Global,
-    net: &Net,
+    checked: CheckedNet,
     node: u16,
     accepted: &SpanSet,
-    legs: &[Leg],
+    legs: &[Seg],
 ) -> Result<Reach, OutOfMemory>
-    requires rules { KeepsNodeRules net.now }
-    requires there { node < length net.now }
+    requires there { node < length checked.net.now }
     requires accepted { (a : ℕ) → has accepted.now a
-        ≡ is_accepted net.now (record { node = node; addr = a }) }
-    requires legs { option_map bare_legs (slice_get net.now node) ≡ Some legs.now }
-    ensures { IfOk result (λ reach. IsReach net.now 1 node reach) }
+        ≡ is_accepted checked.net.now (record { node = node; addr = a }) }
+    requires legs { option_map bare_legs (slice_get checked.net.now node)
+        ≡ Some (map leg_view legs.now) }
+    ensures { IfOk result (λ reach. IsReach checked.entry.net.now 1 node reach) }
 {
     let found = Found {
         accepts: still_segs(alloc, node, accepted.spans())?,
-        stops: stop_segs(alloc, net, node)?,
-        go: leg_segs(alloc, legs)?,
+        stops: stop_segs(alloc, checked.net, node)?,
+        go: Vec::new(alloc),
     };
     let done = flat_of(alloc, &found)?;
-    let go = Rows::normal(alloc, &found.go)?;
+    let go = Rows::normal(alloc, legs)?;
     Ok(Reach { done, go })
 }
 
@@ -121,39 +119,6 @@ fn stop_segs(alloc: Global, net: &Net, node: u16) -> Result<Vec<Seg>, OutOfMemor
         segs.push(whole(node))?;
     }
     Ok(segs)
-}
-
-/// Where legs lead their addresses.
-fn leg_segs(alloc: Global, legs: &[Leg]) -> Result<Vec<Seg>, OutOfMemory>
-    requires order { All (λ (l : Leg). l.lo ≤ l.hi) legs.now }
-    requires low { All (λ (l : Leg). l.hi ≤ TOP) legs.now }
-    requires far { All (λ (l : Leg). l.addr + (l.hi - l.lo) ≤ TOP) legs.now }
-    ensures { IfOk result (λ segs. (a : ℕ) (y : End) → segs_give segs.items a y
-        ≡ legs_give legs.now a y) }
-{
-    let mut segs = Vec::with_capacity(alloc, legs.len())?;
-    for leg in legs {
-        segs.push(leg_seg(leg))?;
-    }
-    Ok(segs)
-}
-
-/// Where a leg leads its addresses.
-fn leg_seg(leg: &Leg) -> Seg
-    requires order { leg.now.lo ≤ leg.now.hi }
-    requires low { leg.now.hi ≤ TOP }
-    requires far { leg.now.addr + (leg.now.hi - leg.now.lo) ≤ TOP }
-    ensures { (a : ℕ) (y : End) → seg_gives result a y ≡ leg_gives leg.now a y }
-{
-    let span = Span {
-        lo: leg.lo,
-        hi: leg.hi,
-    };
-    Seg {
-        span,
-        node: leg.node,
-        base: leg.addr,
-    }
 }
 
 /// What a node comes to by twice as many steps: what it comes to in fewer, and what the names come to that it

@@ -1,10 +1,10 @@
 //! Stages: what each node of a net comes to by a number of steps.
 
-ghost use Rattle.std.specs.Prelude.{◌≡◌, ◌*◌, ◌<◌, ◌≤◌, Some, option_map, slice_get, length, IfOk, IfSome, List};
+ghost use Rattle.std.specs.Prelude.{◌≡◌, ◌*◌, ◌<◌, ◌≤◌, Some, option_map, slice_get, length, map, IfOk, IfSome, List};
 ghost use Rattle.dn_interval.specs.Terms.{AreNormal};
 ghost use Rattle.dn_net.specs.declared.node.NodeDecl.{NodeDecl};
 ghost use Rattle.dn_net.specs.Terms.{IsLegalNet, KeepsNodeRules};
-ghost use Rattle.dn_walk.specs.Terms.{AreAccepted};
+ghost use Rattle.dn_walk.specs.Terms.{AreAccepted, bare_legs};
 ghost use Rattle.dn_flat.specs.declared.reach.Reach.{Reach};
 ghost use Rattle.dn_flat.specs.Terms.{GoesIn, IsDone, IsFlat, IsLedTo, IsLevels, IsStage};
 
@@ -13,9 +13,10 @@ use crate::levels::{Levels, Reached, node_levels, node_reached, shown_segs};
 use crate::reach::{Reach, first_reach, twice};
 use dn_base::OutOfMemory;
 use dn_interval::{Rows, SpanSet};
+use dn_net::checked::CheckedNet;
 use dn_net::net::Net;
 use dn_walk::accepted::accepted_sets;
-use dn_walk::leg::net_legs;
+use dn_walk::leg::{Legs, net_legs};
 use std::alloc::Global;
 use std::marker::Model;
 
@@ -41,8 +42,10 @@ impl Stage {
         ensures stage { IfOk result (λ stage. IsStage net.now stage) }
         ensures steps { IfOk result (λ stage. stage.steps ≡ 1) }
     {
-        let accepted = accepted_sets(alloc, net)?;
-        first_stage(alloc, net, &accepted)
+        let checked = CheckedNet { net };
+        let accepted = accepted_sets(alloc, checked)?;
+        let legs = net_legs(alloc, checked)?;
+        first_stage(alloc, checked, &accepted, &legs)
     }
 
     /// The net's stage for twice as many steps.
@@ -148,23 +151,23 @@ impl Stage {
     }
 }
 
-/// The stage of a net for one step, from the addresses that its nodes accept.
+/// The stage of a net for one step, from the addresses that its nodes accept and from their legs.
 pub(crate) fn first_stage(
     alloc: Global,
-    net: &Net,
+    checked: CheckedNet,
     accepted: &[SpanSet],
+    legs: &Legs,
 ) -> Result<Stage, OutOfMemory>
-    requires rules { KeepsNodeRules net.now }
-    requires accepted { AreAccepted net.now accepted.now }
-    ensures stage { IfOk result (λ stage. IsStage net.now stage) }
+    requires accepted { AreAccepted checked.net.now accepted.now }
+    requires legs { legs.now ≡ map bare_legs checked.net.now }
+    ensures stage { IfOk result (λ stage. IsStage checked.entry.net.now stage) }
     ensures steps { IfOk result (λ stage. stage.steps ≡ 1) }
 {
-    let legs = net_legs(alloc, net)?;
-    let legs = legs.as_slice();
+    let net = checked.net;
     let mut nodes = Vec::with_capacity(alloc, usize::from(net.nodes()))?;
     for node in 0..net.nodes() {
-        let place = usize::from(node);
-        let reach = first_reach(alloc, net, node, &accepted[place], legs[place].as_slice())?;
+        let set = &accepted[usize::from(node)];
+        let reach = first_reach(alloc, checked, node, set, legs.of(node))?;
         nodes.push(reach)?;
     }
     Ok(Stage { nodes, steps: 1 })

@@ -63,7 +63,7 @@ fn push_cuts(segs: &mut Vec<Seg>, seg: Seg, row: &Row) -> Result<(), OutOfMemory
 }
 
 /// The address to which the last one of a segment comes.
-fn last_out(seg: Seg) -> u64
+pub fn last_out(seg: Seg) -> u64
     ensures { result ≡ seg.base + (seg.span.hi - seg.span.lo) }
 {
     seg.base + (seg.span.hi - seg.span.lo)
@@ -71,7 +71,7 @@ fn last_out(seg: Seg) -> u64
 
 /// The part of a segment whose names lie in a span, with the names to which these go on: that of the span's first
 /// address is given. Where the front is cut off, the base moves with it.
-fn cut(seg: Seg, span: Span, end: End) -> Seg
+pub fn cut(seg: Seg, span: Span, end: End) -> Seg
     requires begins { span.lo ≤ seg.base + (seg.span.hi - seg.span.lo) }
     requires ends { seg.base ≤ span.hi }
     requires fits { end.base + (span.hi - span.lo) ≤ TOP }

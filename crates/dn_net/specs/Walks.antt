@@ -121,14 +121,6 @@ pub record Walk : Type 0 where
   pub span : Block
   pub to : Name
 
--- the last address at which a walk comes out
-abbrev pub last_out : Walk → ℕ
-last_out w = w.to.addr + (w.span.hi - w.span.lo)
-
--- some address at which the walk comes out goes on by the leg
-abbrev pub meets : Walk → Leg → Bool
-meets w l = nat_le w.to.addr l.block.hi && nat_le l.block.lo (last_out w)
-
 -- the greater of two numbers
 abbrev pub greater_of : ℕ → ℕ → ℕ
 greater_of a b = if nat_lt a b then b else a
@@ -137,16 +129,48 @@ greater_of a b = if nat_lt a b then b else a
 abbrev pub lesser_of : ℕ → ℕ → ℕ
 lesser_of a b = if nat_lt b a then b else a
 
+-- a run of addresses: those of a span, and the address to which the first of them goes
+pub record Run : Type 0 where
+  pub span : Block
+  pub base : ℕ
+
+-- the address to which the last one of a run goes
+abbrev pub last_of_run : Run → ℕ
+last_of_run r = r.base + (r.span.hi - r.span.lo)
+
+-- some address of the run goes into the block
+abbrev pub goes_into : Run → Block → Bool
+goes_into r b = nat_le r.base b.hi && nat_le b.lo (last_of_run r)
+
+-- the addresses of a run that go into a block, where they go on to: that of the first address of the block is given
+abbrev pub cut_run : Run → Block → ℕ → Run
+cut_run r b addr = cut (greater_of r.base b.lo) (lesser_of (last_of_run r) b.hi)
+  where
+    cut : ℕ → ℕ → Run
+    cut lo hi = record { span = record { lo = r.span.lo + (lo - r.base); hi = r.span.lo + (hi - r.base) }; base = addr + (lo - b.lo) }
+
+-- the addresses that follow a walk, and where the first of them comes out
+abbrev pub run_of : Walk → Run
+run_of w = record { span = w.span; base = w.to.addr }
+
+-- the last address at which a walk comes out
+abbrev pub last_out : Walk → ℕ
+last_out w = last_of_run (run_of w)
+
+-- some address at which the walk comes out goes on by the leg
+abbrev pub meets : Walk → Leg → Bool
+meets w l = goes_into (run_of w) l.block
+
 -- the walk with one more leg, for the addresses that go on by it
 abbrev pub onto : Walk → Leg → Walk
-onto w l = cut (greater_of w.to.addr l.block.lo) (lesser_of (last_out w) l.block.hi)
+onto w l = along (cut_run (run_of w) l.block l.to.addr)
   where
-    cut : ℕ → ℕ → Walk
-    cut lo hi = record {
+    along : Run → Walk
+    along r = record {
       start = w.start;
       choices = w.choices ++ l.choice ∷ [];
-      span = record { lo = w.span.lo + (lo - w.to.addr); hi = w.span.lo + (hi - w.to.addr) };
-      to = record { node = l.to.node; addr = l.to.addr + (lo - l.block.lo) };
+      span = r.span;
+      to = record { node = l.to.node; addr = r.base };
     }
 
 -- the walks that go on from a walk by one more choice

@@ -5,6 +5,7 @@
 #![tactic(auto)]
 
 mod accepts;
+pub mod checked;
 mod entries;
 pub mod laws;
 pub mod names;

@@ -9,10 +9,12 @@ use Rattle.dn_base.proofs.Lists.{item_there}
 use Rattle.dn_interval.specs.declared.row.End.{End}
 use Rattle.dn_interval.specs.declared.row.Row.{Row}
 use Rattle.dn_interval.specs.declared.row.Seg.{Seg}
+use Rattle.dn_interval.specs.declared.span.Span.{Span}
 use Rattle.dn_interval.specs.declared.span.TheConstants.{TOP}
 use Rattle.dn_interval.specs.Listed.{seen_view}
 use Rattle.dn_interval.specs.Rows.{AreNormal, SegmentsGive}
-use Rattle.dn_interval.specs.Strands.{segs_give}
+use Rattle.dn_interval.specs.Spans.{in_span}
+use Rattle.dn_interval.specs.Strands.{seg_gives, segs_give}
 use Rattle.dn_interval.proofs.Listing.{normal_are_listed}
 use Rattle.dn_interval.proofs.Names.{segs_from, segs_to}
 use Rattle.dn_interval.proofs.Normal.{normal_like}
@@ -30,13 +32,13 @@ use Rattle.dn_net.proofs.Legs.{leads_of_leg, leg_of_leads, leads_once, leads_in_
 use Rattle.dn_net.proofs.Levels.{IsRow, level_is_row}
 use Rattle.dn_net.proofs.Members.{member_filter, filter_member, member_flat_map, flat_map_member}
 use Rattle.dn_net.proofs.Resolution.{name_is}
-use Rattle.dn_walk.specs.declared.leg.Leg.{Leg}
 use Rattle.dn_walk.specs.declared.walks.WalkRow.{WalkRow}
-use Rattle.dn_walk.specs.Legs.{bare_leg, bare_legs, legs_by, AreLegs}
+use Rattle.dn_walk.specs.Legs.{Leg, leg_view, bare_leg, bare_legs, legs_by, AreLegs}
 use Rattle.dn_walk.specs.Levels.{bare_onto, bare_extensions_by}
 use Rattle.dn_walk.specs.Rows.{BareWalk, bare_walk, row_view}
 use Rattle.dn_walk.proofs.Bridge.{met_bare, each_onto}
 use Rattle.dn_walk.proofs.Nodes.{legs_are, legs_of_node}
+use Rattle.dn_walk.proofs.BareWalks.{rise_back}
 use Rattle.dn_walk.proofs.Ends.{end_in}
 use Rattle.dn_shape.specs.Absorb.{steps_past, rows_past}
 use Rattle.dn_shape.specs.Past.{LeadOn, onward, walks_past, bare_onward, bare_gives, bare_give}
@@ -85,16 +87,16 @@ legs_read (Some d) a e v ls p q r s =
     ap Some (legs_are d ∙ ap (λ x. legs_by x d.entries d.over) p' ∙ ap (λ x. legs_by a x d.over) q' ∙ ap (λ x. legs_by a e x) r' ∙ sym s)
 
 -- by which walks go on
-pub legs_lead : (net : List NodeDecl) → KeepsNodeRules net → (i : ℕ) (ls : List Leg) → i < length net → option_map bare_legs (slice_get net i) ≡ Some ls → LeadOn ls
-legs_lead net rules i ls l e = by (item_there net i l)
+pub legs_lead : (net : List NodeDecl) → KeepsNodeRules net → (i : ℕ) (segs : List Seg) → i < length net → option_map bare_legs (slice_get net i) ≡ Some (map leg_view segs) → LeadOn segs
+legs_lead net rules i segs l e = by (item_there net i l)
   where
-    lead : AreLegs (length net) ls → LeadOn ls
-    lead h = record { firsts = h.firsts; lasts = h.lasts; order = λ k d b. (h.each k d b).order; low = λ k d b. (h.each k d b).low; far = λ k d b. (h.each k d b).reach }
+    lead : AreLegs (length net) (map leg_view segs) → LeadOn segs
+    lead h = record { firsts = rise_back leg_view (λ (l : Leg). l.lo) segs h.firsts; lasts = rise_back leg_view (λ (l : Leg). l.hi) segs h.lasts }
 
-    by : (n : NodeDecl) × (slice_get net i ≡ Some n) → LeadOn ls
+    by : (n : NodeDecl) × (slice_get net i ≡ Some n) → LeadOn segs
     by (n, at) =
-        let s : ◌≡◌ {A = Option (List Leg)} (Some (bare_legs n)) (Some ls) = ap (option_map bare_legs) (sym at) ∙ e in
-        let t : bare_legs n ≡ ls = cc in
+        let s : ◌≡◌ {A = Option (List Leg)} (Some (bare_legs n)) (Some (map leg_view segs)) = ap (option_map bare_legs) (sym at) ∙ e in
+        let t : bare_legs n ≡ map leg_view segs = cc in
         lead (subst (AreLegs (length net)) t (legs_of_node net rules i n at))
 
 -- rows that tell of walks
@@ -115,6 +117,13 @@ rows_short net ws rows each e = λ k d l. short (get_or rows k d) (row_walk ws r
         let a : length w.choices ≡ 1 = (each w m).long in
         let b : length w.choices ≡ r.len = ap (λ (u : BareWalk). u.len) t in
         omega arith
+
+-- the segment of a walk gives what is told of it
+pub seg_told : (s : Seg) (r : WalkRow) (a : ℕ) (y : End) → s.span ≡ r.span → s.node ≡ r.end → s.base ≡ r.base → seg_gives s a y ≡ bare_gives (row_view r) a y
+seg_told s r a y p n b =
+    ap (λ (q : Span). in_span q a && (nat_eq s.node y.node && nat_eq (s.base + (a - q.lo)) y.base)) p
+    ∙ ap (λ m. in_span r.span a && (nat_eq m y.node && nat_eq (s.base + (a - r.span.lo)) y.base)) n
+    ∙ ap (λ m. in_span r.span a && (nat_eq r.end y.node && nat_eq (m + (a - r.span.lo)) y.base)) b
 
 -- one row more
 pub onward_more : (f : BareWalk → List BareWalk) (rows : List WalkRow) (i : ℕ) (r : WalkRow) → i < length rows → r ≡ get_or rows i r → flat_map f (map row_view (take (i + 1) rows)) ≡ flat_map f (map row_view (take i rows)) ++ f (row_view r)

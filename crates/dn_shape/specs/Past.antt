@@ -1,12 +1,12 @@
 -- The walks that lead from a node past another, of which the rows are made.
-use Rattle.std.specs.Prelude.{ℕ, ◌+◌, ◌-◌, ◌≤◌, Bool, if◌then◌else◌, ◌&&◌, nat_le, nat_eq, ◌==◌, List, [], ◌∷◌}
-use Rattle.std.specs.List.{All, flat_map, list_any}
+use Rattle.std.specs.Prelude.{ℕ, ◌+◌, ◌-◌, Bool, if◌then◌else◌, ◌&&◌, nat_le, nat_eq, ◌==◌, List, [], ◌∷◌}
+use Rattle.std.specs.List.{flat_map, list_any}
 use Rattle.std.specs.List.Sorted.{IsNonDecreasingBy}
 use Rattle.dn_interval.specs.declared.row.End.{End}
-use Rattle.dn_interval.specs.declared.span.TheConstants.{TOP}
+use Rattle.dn_interval.specs.declared.row.Seg.{Seg}
 use Rattle.dn_net.specs.declared.node.NodeDecl.{NodeDecl}
 use Rattle.dn_net.specs.Walks.{Walk, extensions_of, still_walk}
-use Rattle.dn_walk.specs.declared.leg.Leg.{Leg}
+use Rattle.dn_walk.specs.Legs.{Leg}
 use Rattle.dn_walk.specs.Rows.{BareWalk}
 use Rattle.dn_walk.specs.Levels.{bare_extensions_by}
 
@@ -22,14 +22,10 @@ walks_past net m i = flat_map (onward net m) (extensions_of net (still_walk i))
 abbrev pub bare_onward : List Leg → ℕ → BareWalk → List BareWalk
 bare_onward legs m t = if t.end == m then bare_extensions_by legs t else t ∷ []
 
--- legs by which walks go on: neither their first nor their last addresses descend, and each keeps
--- in range
-pub record LeadOn (legs : List Leg) : Type 0 where
-  pub firsts : IsNonDecreasingBy (λ (l : Leg). l.lo) legs
-  pub lasts : IsNonDecreasingBy (λ (l : Leg). l.hi) legs
-  pub order : All (λ (l : Leg). l.lo ≤ l.hi) legs
-  pub low : All (λ (l : Leg). l.hi ≤ TOP) legs
-  pub far : All (λ (l : Leg). l.addr + (l.hi - l.lo) ≤ TOP) legs
+-- legs by which walks go on: neither their first nor their last addresses descend
+pub record LeadOn (legs : List Seg) : Type 0 where
+  pub firsts : IsNonDecreasingBy (λ (s : Seg). s.span.lo) legs
+  pub lasts : IsNonDecreasingBy (λ (s : Seg). s.span.hi) legs
 
 -- the address follows the walk to the name
 abbrev pub bare_gives : BareWalk → ℕ → End → Bool

@@ -1,12 +1,12 @@
 //! Absorbing a node of a net.
 
-ghost use Rattle.std.specs.Prelude.{◌≡◌, ◌<◌, ◌==◌, length, slice_get, option_map, IfOk, Some};
+ghost use Rattle.std.specs.Prelude.{◌≡◌, ◌<◌, ◌==◌, length, map, slice_get, option_map, IfOk, Some};
 ghost use Rattle.std.specs.List.{list_any};
 ghost use Rattle.std.specs.Option.{option_copied};
 ghost use Rattle.dn_base.specs.Terms.{Answers};
-ghost use Rattle.dn_net.specs.Terms.{IsLegalNet, KeepsNodeRules, is_agent, is_vectors};
+ghost use Rattle.dn_net.specs.Terms.{IsLegalNet, is_agent, is_vectors};
 ghost use Rattle.dn_shape.specs.Terms.{HaveEqualViews, IsRuledNet, LeadOn, absorb_fault_view, absorb_outcome, has_port, is_port, leads_to, maps_to, net_past, node_past, why_not_at};
-ghost use Rattle.dn_walk.specs.Terms.{bare_legs};
+ghost use Rattle.dn_walk.specs.Terms.{bare_legs, leg_view};
 
 use crate::copy::{node_copy, unit_copy};
 use crate::fault::{AbsorbFault, Why};
@@ -15,9 +15,10 @@ use crate::past::{entries_past, legs_of};
 use dn_base::OutOfMemory;
 use dn_base::items::Items;
 use dn_base::text::Text;
+use dn_interval::Seg;
+use dn_net::checked::CheckedNet;
 use dn_net::net::Net;
 use dn_net::node::{Dest, Entry, NodeDecl, Role, Unit};
-use dn_walk::leg::Leg;
 use std::alloc::Global;
 
 /// The net in which no node leads to this one. Each other node with a destination in it, or with
@@ -154,20 +155,21 @@ fn net_past(alloc: Global, net: &Net, past: u16) -> Result<Net, OutOfMemory>
     requires there { past < length net.now }
     ensures { IfOk result (λ made. made ≡ net_past net.now past) }
 {
-    let legs = legs_of(alloc, net, past)?;
+    let legs = legs_of(alloc, CheckedNet { net }, past)?;
     nodes_past(alloc, net, past, legs.as_slice())
 }
 
 /// The net past a node with these legs.
-fn nodes_past(alloc: Global, net: &Net, past: u16, onward: &[Leg]) -> Result<Net, OutOfMemory>
+fn nodes_past(alloc: Global, net: &Net, past: u16, onward: &[Seg]) -> Result<Net, OutOfMemory>
     requires legal { IsLegalNet net.now }
-    requires onward { option_map bare_legs (slice_get net.now past) ≡ Some onward.now }
+    requires onward { option_map bare_legs (slice_get net.now past)
+        ≡ Some (map leg_view onward.now) }
     requires lead { LeadOn onward.now }
     ensures { IfOk result (λ made. made ≡ net_past net.now past) }
 {
     let mut made = Net::new(alloc);
     for node in 0..net.nodes() {
-        made.add(node_past(alloc, net, past, onward, node)?)?;
+        made.add(node_past(alloc, CheckedNet { net }, past, onward, node)?)?;
     }
     Ok(made)
 }
@@ -176,18 +178,19 @@ fn nodes_past(alloc: Global, net: &Net, past: u16, onward: &[Leg]) -> Result<Net
 /// it.
 fn node_past(
     alloc: Global,
-    net: &Net,
+    checked: CheckedNet,
     past: u16,
-    onward: &[Leg],
+    onward: &[Seg],
     node: u16,
 ) -> Result<NodeDecl, OutOfMemory>
-    requires rules { KeepsNodeRules net.now }
-    requires onward { option_map bare_legs (slice_get net.now past) ≡ Some onward.now }
+    requires onward { option_map bare_legs (slice_get checked.net.now past)
+        ≡ Some (map leg_view onward.now) }
     requires lead { LeadOn onward.now }
-    requires there { node < length net.now }
-    ensures { IfOk result (λ n. option_map (node_past net.now past node) (slice_get net.now node)
-        ≡ Some n) }
+    requires there { node < length checked.net.now }
+    ensures { IfOk result (λ n. option_map (node_past checked.entry.net.now past node)
+        (slice_get checked.entry.net.now node) ≡ Some n) }
 {
+    let net = checked.net;
     if node == past || !leads_to(net, node, past) {
         return node_copy(alloc, net, node);
     }
@@ -195,7 +198,7 @@ fn node_past(
         text: Text::of(alloc, net.text(node))?,
         role: net.role(node),
         accepts: Items::from_vec(net.accepts(node).to_vec(alloc)?),
-        entries: entries_past(alloc, net, past, onward, node)?,
+        entries: entries_past(alloc, checked, past, onward, node)?,
         over: None,
         unit: unit_copy(alloc, net.unit(node))?,
     })

@@ -4,17 +4,17 @@ ghost use Rattle.std.specs.Prelude.{◌≡◌, ◌<◌, ◌≤◌, ◌+◌, ◌-
 ghost use Rattle.std.specs.List.{All, flat_map};
 ghost use Rattle.dn_interval.specs.declared.row.End.{End};
 ghost use Rattle.dn_interval.specs.Terms.{seen_view, segs_give};
-ghost use Rattle.dn_net.specs.Terms.{KeepsNodeRules, extensions_of, still_walk};
+ghost use Rattle.dn_net.specs.Terms.{extensions_of, still_walk};
 ghost use Rattle.dn_shape.specs.Terms.{LeadOn, bare_give, bare_onward, dest_of_end, entry_of_row, rows_past};
-ghost use Rattle.dn_walk.specs.Terms.{bare_extensions_by, bare_legs, bare_walk, row_view};
+ghost use Rattle.dn_walk.specs.Terms.{bare_extensions_by, bare_legs, bare_walk, leg_view, row_view};
 
 use crate::spans::block_of;
 use dn_base::OutOfMemory;
 use dn_base::items::Items;
 use dn_interval::{End, Row, Rows, Seg, Span, TOP};
-use dn_net::net::Net;
+use dn_net::checked::CheckedNet;
 use dn_net::node::{Dest, Entry};
-use dn_walk::leg::{Leg, node_legs};
+use dn_walk::leg::node_legs;
 use dn_walk::level::{extend_row, met_by};
 use dn_walk::walks::WalkRow;
 use std::alloc::Global;
@@ -23,18 +23,19 @@ use std::alloc::Global;
 /// each name of the other stand those to which it decodes.
 pub(crate) fn entries_past(
     alloc: Global,
-    net: &Net,
+    checked: CheckedNet,
     past: u16,
-    onward: &[Leg],
+    onward: &[Seg],
     node: u16,
 ) -> Result<Items<Entry>, OutOfMemory>
-    requires rules { KeepsNodeRules net.now }
-    requires onward { option_map bare_legs (slice_get net.now past) ≡ Some onward.now }
+    requires onward { option_map bare_legs (slice_get checked.net.now past)
+        ≡ Some (map leg_view onward.now) }
     requires lead { LeadOn onward.now }
-    requires there { node < length net.now }
-    ensures { IfOk result (λ es. es ≡ map entry_of_row (rows_past net.now past node)) }
+    requires there { node < length checked.net.now }
+    ensures { IfOk result (λ es. es
+        ≡ map entry_of_row (rows_past checked.entry.net.now past node)) }
 {
-    let first = first_walks(alloc, net, node)?;
+    let first = first_walks(alloc, checked, node)?;
     let walks = walks_onward(alloc, &first, past, onward)?;
     let segs = segs_of(alloc, &walks)?;
     let rows = Rows::normal(alloc, &segs)?;
@@ -46,13 +47,13 @@ fn walks_onward(
     alloc: Global,
     first: &[WalkRow],
     past: u16,
-    legs: &[Leg],
+    legs: &[Seg],
 ) -> Result<Vec<WalkRow>, OutOfMemory>
     requires legs { LeadOn legs.now }
     requires far { All (λ r. r.base + (r.span.hi - r.span.lo) ≤ TOP) first.now }
     requires short { All (λ r. r.len ≤ 64) first.now }
     ensures { IfOk result (λ v. map row_view v.items
-        ≡ flat_map (bare_onward legs.now past) (map row_view first.now)) }
+        ≡ flat_map (bare_onward (map leg_view legs.now) past) (map row_view first.now)) }
 {
     let mut walks = Vec::new(alloc);
     for row in first {
@@ -62,15 +63,14 @@ fn walks_onward(
 }
 
 /// The walks of one choice from a node.
-fn first_walks(alloc: Global, net: &Net, node: u16) -> Result<Vec<WalkRow>, OutOfMemory>
-    requires rules { KeepsNodeRules net.now }
-    requires there { node < length net.now }
+fn first_walks(alloc: Global, checked: CheckedNet, node: u16) -> Result<Vec<WalkRow>, OutOfMemory>
+    requires there { node < length checked.net.now }
     ensures walks { IfOk result (λ v. map row_view v.items
-        ≡ map bare_walk (extensions_of net.now (still_walk node))) }
+        ≡ map bare_walk (extensions_of checked.entry.net.now (still_walk node))) }
     ensures far { IfOk result (λ v. All (λ r. r.base + (r.span.hi - r.span.lo) ≤ TOP) v.items) }
     ensures short { IfOk result (λ v. All (λ r. r.len ≤ 64) v.items) }
 {
-    let legs = legs_of(alloc, net, node)?;
+    let legs = legs_of(alloc, checked, node)?;
     let still = WalkRow {
         start: node,
         span: Span { lo: 0, hi: TOP },
@@ -84,12 +84,17 @@ fn first_walks(alloc: Global, net: &Net, node: u16) -> Result<Vec<WalkRow>, OutO
 }
 
 /// The legs of a node.
-pub(crate) fn legs_of(alloc: Global, net: &Net, node: u16) -> Result<Items<Leg>, OutOfMemory>
-    requires rules { KeepsNodeRules net.now }
-    requires there { node < length net.now }
-    ensures legs { IfOk result (λ ls. option_map bare_legs (slice_get net.now node) ≡ Some ls) }
+pub(crate) fn legs_of(
+    alloc: Global,
+    checked: CheckedNet,
+    node: u16,
+) -> Result<Items<Seg>, OutOfMemory>
+    requires there { node < length checked.net.now }
+    ensures legs { IfOk result (λ ls. option_map bare_legs (slice_get checked.entry.net.now node)
+        ≡ Some (map leg_view ls)) }
     ensures lead { IfOk result (λ ls. LeadOn ls) }
 {
+    let net = checked.net;
     node_legs(alloc, net.accepts(node), net.entries(node), net.over(node))
 }
 
@@ -98,14 +103,15 @@ pub(crate) fn legs_of(alloc: Global, net: &Net, node: u16) -> Result<Items<Leg>,
 fn push_onward(
     row: &WalkRow,
     past: u16,
-    legs: &[Leg],
+    legs: &[Seg],
     walks: &mut Vec<WalkRow>,
 ) -> Result<(), OutOfMemory>
     requires legs { LeadOn legs.now }
     requires reach { row.now.base + (row.now.span.hi - row.now.span.lo) ≤ TOP }
     requires short { row.now.len ≤ 64 }
     ensures { OnOk result (map row_view walks.new.items
-        ≡ map row_view walks.old.items ++ bare_onward legs.now past (row_view row.now)) }
+        ≡ map row_view walks.old.items
+        ++ bare_onward (map leg_view legs.now) past (row_view row.now)) }
 {
     if row.end == past {
         return push_walks(row, legs, walks);
@@ -115,12 +121,13 @@ fn push_onward(
 }
 
 /// Appends the walk with each leg by which it goes on.
-fn push_walks(row: &WalkRow, legs: &[Leg], walks: &mut Vec<WalkRow>) -> Result<(), OutOfMemory>
+fn push_walks(row: &WalkRow, legs: &[Seg], walks: &mut Vec<WalkRow>) -> Result<(), OutOfMemory>
     requires legs { LeadOn legs.now }
     requires reach { row.now.base + (row.now.span.hi - row.now.span.lo) ≤ TOP }
     requires short { row.now.len ≤ 64 }
     ensures { OnOk result (map row_view walks.new.items
-        ≡ map row_view walks.old.items ++ bare_extensions_by legs.now (row_view row.now)) }
+        ≡ map row_view walks.old.items ++ bare_extensions_by (map leg_view legs.now)
+        (row_view row.now)) }
 {
     extend_row(row, met_by(row, legs), walks)
 }
@@ -133,11 +140,7 @@ fn segs_of(alloc: Global, walks: &[WalkRow]) -> Result<Vec<Seg>, OutOfMemory>
 {
     let mut segs = Vec::with_capacity(alloc, walks.len())?;
     for row in walks {
-        segs.push(Seg {
-            span: row.span,
-            node: row.end,
-            base: row.base,
-        })?;
+        segs.push(row.seg())?;
     }
     Ok(segs)
 }

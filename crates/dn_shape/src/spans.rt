@@ -1,13 +1,12 @@
 //! The maximal spans of what a node accepts.
 
 ghost use Rattle.std.specs.Prelude.{◌≡◌, ◌<◌, length, map, slice_get, option_map, IfOk, Some};
-ghost use Rattle.dn_net.specs.Terms.{KeepsNodeRules};
 ghost use Rattle.dn_shape.specs.Terms.{maximal_spans};
 ghost use Rattle.dn_walk.specs.Terms.{span_view};
 
 use dn_base::OutOfMemory;
 use dn_interval::Span;
-use dn_net::net::Net;
+use dn_net::checked::CheckedNet;
 use dn_net::node::Block;
 use dn_walk::accepted::accepted_set;
 use std::alloc::Global;
@@ -15,15 +14,14 @@ use std::alloc::Global;
 /// The maximal spans of the addresses that a node accepts, ascending.
 pub(crate) fn maximal_accepts(
     alloc: Global,
-    net: &Net,
+    checked: CheckedNet,
     node: u16,
 ) -> Result<Vec<Block>, OutOfMemory>
-    requires rules { KeepsNodeRules net.now }
-    requires there { node < length net.now }
-    ensures { IfOk result (λ v. option_map (λ d. maximal_spans d.accepts) (slice_get net.now node)
-        ≡ Some v.items) }
+    requires there { node < length checked.net.now }
+    ensures { IfOk result (λ v. option_map (λ d. maximal_spans d.accepts)
+        (slice_get checked.entry.net.now node) ≡ Some v.items) }
 {
-    let set = accepted_set(alloc, net, node)?;
+    let set = accepted_set(alloc, checked.net, node)?;
     blocks_of(alloc, set.spans())
 }
 

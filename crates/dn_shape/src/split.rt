@@ -3,7 +3,7 @@
 ghost use Rattle.std.specs.Prelude.{◌≡◌, ◌<◌, ◌≤◌, ◌+◌, ◌++◌, length, map, slice_get, option_map, IfOk, OnOk, Some};
 ghost use Rattle.dn_base.specs.Terms.{Answers};
 ghost use Rattle.dn_net.specs.declared.node.NodeDecl.{NodeDecl};
-ghost use Rattle.dn_net.specs.Terms.{IsLegalNet, KeepsNodeRules, node_limit};
+ghost use Rattle.dn_net.specs.Terms.{IsLegalNet, node_limit};
 ghost use Rattle.dn_shape.specs.Terms.{HaveEqualViews, IsRuledNet, accepter, accepter_text, divided_count, entry_onto, free_number, is_divided, new_nodes, sender_to, sending_node, sending_nodes, split_fault_view, split_name, split_outcome, with_accepter, with_accepters};
 
 use crate::copy::{entries_copy, node_copy, unit_copy};
@@ -13,6 +13,7 @@ use crate::spans::maximal_accepts;
 use dn_base::OutOfMemory;
 use dn_base::items::Items;
 use dn_base::text::Text;
+use dn_net::checked::CheckedNet;
 use dn_net::net::Net;
 use dn_net::node::{Block, Dest, Entry, MAX_NODES, NodeDecl, Role};
 use std::alloc::Global;
@@ -36,7 +37,7 @@ pub fn split(alloc: Global, net: &Net) -> Result<Net, SplitFault>
         });
     }
     let mut made = sending_nodes(alloc, net).or(Err(SplitFault::OutOfMemory))?;
-    add_accepters(alloc, net, &mut made).or(Err(SplitFault::OutOfMemory))?;
+    add_accepters(alloc, CheckedNet { net }, &mut made).or(Err(SplitFault::OutOfMemory))?;
     match passed_limit(&made) {
         Some(limit) => Err(SplitFault::TooMany { limit }),
         None => Ok(made),
@@ -72,32 +73,44 @@ fn sending_nodes(alloc: Global, net: &Net) -> Result<Net, OutOfMemory>
     let mut made = Net::new(alloc);
     let mut next = count;
     for node in 0..count {
-        made.add(sending_node(alloc, net, node, next)?)?;
+        made.add(sending_node(alloc, CheckedNet { net }, node, next)?)?;
         next += u16::from(is_divided(net, node));
     }
     Ok(made)
 }
 
 /// An old node of the split net, which sends to the next new node where it is divided.
-fn sending_node(alloc: Global, net: &Net, node: u16, next: u16) -> Result<NodeDecl, OutOfMemory>
-    requires rules { KeepsNodeRules net.now }
-    requires there { node < length net.now }
-    ensures { IfOk result (λ n. option_map (sending_node next) (slice_get net.now node) ≡ Some n) }
+fn sending_node(
+    alloc: Global,
+    checked: CheckedNet,
+    node: u16,
+    next: u16,
+) -> Result<NodeDecl, OutOfMemory>
+    requires there { node < length checked.net.now }
+    ensures { IfOk result (λ n. option_map (sending_node next)
+        (slice_get checked.entry.net.now node) ≡ Some n) }
 {
+    let net = checked.net;
     if !is_divided(net, node) {
         return node_copy(alloc, net, node);
     }
-    sender_to(alloc, net, node, next)
+    sender_to(alloc, checked, node, next)
 }
 
 /// A node that sends what it accepts to a new node.
-fn sender_to(alloc: Global, net: &Net, node: u16, next: u16) -> Result<NodeDecl, OutOfMemory>
-    requires rules { KeepsNodeRules net.now }
-    requires there { node < length net.now }
-    ensures { IfOk result (λ n. option_map (sender_to next) (slice_get net.now node) ≡ Some n) }
+fn sender_to(
+    alloc: Global,
+    checked: CheckedNet,
+    node: u16,
+    next: u16,
+) -> Result<NodeDecl, OutOfMemory>
+    requires there { node < length checked.net.now }
+    ensures { IfOk result (λ n. option_map (sender_to next)
+        (slice_get checked.entry.net.now node) ≡ Some n) }
 {
+    let net = checked.net;
     let mut entries = entries_copy(alloc, net.entries(node))?;
-    let spans = maximal_accepts(alloc, net, node)?;
+    let spans = maximal_accepts(alloc, checked, node)?;
     push_spans(alloc, &mut entries, &spans, next)?;
     Ok(NodeDecl {
         text: Text::of(alloc, net.text(node))?,
@@ -134,42 +147,50 @@ fn push_spans(
 }
 
 /// Adds the new nodes of the split net.
-fn add_accepters(alloc: Global, net: &Net, made: &mut Net) -> Result<(), OutOfMemory>
-    requires rules { KeepsNodeRules net.now }
-    requires few { length made.old + divided_count net.now ≤ node_limit }
-    ensures { OnOk result (made.new ≡ with_accepters made.old net.now) }
+fn add_accepters(alloc: Global, checked: CheckedNet, made: &mut Net) -> Result<(), OutOfMemory>
+    requires few { length made.old + divided_count checked.net.now ≤ node_limit }
+    ensures { OnOk result (made.new ≡ with_accepters made.old checked.entry.net.now) }
 {
-    for node in 0..net.nodes() {
-        add_accepter(alloc, net, node, made)?;
+    for node in 0..checked.net.nodes() {
+        add_accepter(alloc, checked, node, made)?;
     }
     Ok(())
 }
 
 /// Adds the new node for an old one, where that is divided.
-fn add_accepter(alloc: Global, net: &Net, node: u16, made: &mut Net) -> Result<(), OutOfMemory>
-    requires rules { KeepsNodeRules net.now }
-    requires there { node < length net.now }
-    requires few { (n : NodeDecl) → slice_get net.now node ≡ Some n
+fn add_accepter(
+    alloc: Global,
+    checked: CheckedNet,
+    node: u16,
+    made: &mut Net,
+) -> Result<(), OutOfMemory>
+    requires there { node < length checked.net.now }
+    requires few { (n : NodeDecl) → slice_get checked.net.now node ≡ Some n
         → length made.old + new_nodes n ≤ node_limit }
-    ensures { OnOk result (option_map (with_accepter made.old) (slice_get net.now node)
-        ≡ Some made.new) }
+    ensures { OnOk result (option_map (with_accepter made.old)
+        (slice_get checked.entry.net.now node) ≡ Some made.new) }
 {
-    if is_divided(net, node) {
-        let decl = accepter(alloc, net, node, made)?;
+    if is_divided(checked.net, node) {
+        let decl = accepter(alloc, checked, node, made)?;
         made.add(decl)?;
     }
     Ok(())
 }
 
 /// The new node of a divided one.
-fn accepter(alloc: Global, net: &Net, node: u16, made: &Net) -> Result<NodeDecl, OutOfMemory>
-    requires rules { KeepsNodeRules net.now }
-    requires there { node < length net.now }
-    ensures { IfOk result (λ n. option_map (accepter made.now) (slice_get net.now node) ≡ Some n) }
+fn accepter(
+    alloc: Global,
+    checked: CheckedNet,
+    node: u16,
+    made: &Net,
+) -> Result<NodeDecl, OutOfMemory>
+    requires there { node < length checked.net.now }
+    ensures { IfOk result (λ n. option_map (accepter made.now)
+        (slice_get checked.entry.net.now node) ≡ Some n) }
 {
-    let accepts = maximal_accepts(alloc, net, node)?;
+    let accepts = maximal_accepts(alloc, checked, node)?;
     Ok(NodeDecl {
-        text: free_text(alloc, made, net.text(node))?,
+        text: free_text(alloc, made, checked.net.text(node))?,
         role: Role::Plain,
         accepts: Items::from_vec(accepts),
         entries: Items::new(alloc),

@@ -1,18 +1,21 @@
 -- Levels without the choices: what each row of them keeps, and how the next one is made.
-use Rattle.std.proofs.Common.{◌≡◌, ℕ, zero, suc, ◌+◌, ◌-◌, ◌<◌, ◌≤◌, inl, inr, List, [], ◌∷◌, ◌++◌, map, length, get_or, take, drop, Option, Some, None, IfSome, refl, sym, ap, ◌∙◌, subst, arith, IsTrue}
+use Rattle.std.proofs.Common.{◌≡◌, ℕ, zero, suc, ◌+◌, ◌-◌, ◌<◌, ◌≤◌, inl, inr, Bool, true, false, cond, List, [], ◌∷◌, ◌++◌, map, length, get_or, slice_get, take, drop, Option, Some, None, IfSome, refl, sym, ap, ◌∙◌, subst, arith, IsTrue}
 use Rattle.std.specs.List.{All, filter, flat_map}
-use Rattle.std.proofs.lemmas.List.{take_more, map-append, length-append, take-map, length-map, get_or-map, get_or_default, append-nil, drop-append-le}
-use Rattle.std.proofs.lemmas.List.Elements.{All-filter, filter_passes}
+use Rattle.std.specs.List.Sorted.{IsNonDecreasingBy}
+use Rattle.std.proofs.lemmas.List.{take_more, map-append, length-append, take-map, length-map, get_or-map, append-nil, drop-append-le}
+use Rattle.std.proofs.lemmas.List.Elements.{filter_passes}
+use Rattle.std.proofs.lemmas.Option.{slice_get-get_or}
 use Rattle.std.proofs.lemmas.Grind.{flat_map-append}
 use Rattle.std.proofs.lemmas.List.Folds.{length-flat_map-take}
+use Rattle.dn_interval.specs.declared.row.Seg.{Seg}
 use Rattle.dn_net.specs.Chain.{Member}
-use Rattle.dn_net.specs.Walks.{in_order}
+use Rattle.dn_net.specs.Decode.{top}
+use Rattle.dn_net.specs.Walks.{greater_of, lesser_of, in_order}
 use Rattle.dn_net.specs.WalkRules.{Broken, is_wide, walk_limit}
-use Rattle.dn_walk.specs.declared.leg.Leg.{Leg}
 use Rattle.dn_walk.specs.declared.walks.WalkRow.{WalkRow}
 use Rattle.dn_walk.specs.Rows.{BareWalk, row_view}
-use Rattle.dn_walk.specs.Legs.{AreLegs, IsLegOf}
-use Rattle.dn_walk.specs.Levels.{bare_last_out, bare_meets, bare_onto, bare_extensions, bare_still_walk, bare_still_walks, bare_level, bare_walks, bare_levels, bare_before, IsRowOf}
+use Rattle.dn_walk.specs.Legs.{Leg, AreLegs, IsLegOf, leg_view}
+use Rattle.dn_walk.specs.Levels.{bare_last_out, bare_meets, bare_onto, bare_extensions_by, bare_extensions, bare_still_walk, bare_still_walks, bare_level, bare_walks, bare_levels, bare_before, IsRowOf}
 use Rattle.dn_base.proofs.Members.{map_member, member_map, member_get_or, member_of_all}
 use Rattle.dn_net.proofs.Members.{member_filter, member_flat_map}
 use Rattle.dn_walk.proofs.Meets.{meets_parts, max_is, min_is}
@@ -53,6 +56,13 @@ length_levels legs (suc k) =
 pub length_walks : (legs : List (List Leg)) (k : ℕ) → length (bare_walks legs (suc k)) ≡ length (bare_walks legs k) + length (bare_level legs (suc k))
 length_walks legs k = ap length (walks-suc legs k) ∙ length-append (bare_walks legs k) (in_order bare_before (bare_level legs (suc k))) ∙ ap (λ n. length (bare_walks legs k) + n) (length_in_order bare_before (bare_level legs (suc k)))
 
+pub rise_back : {X Y : Type 0} (f : X → Y) (n : Y → ℕ) (xs : List X) → IsNonDecreasingBy n (map f xs) → IsNonDecreasingBy (λ x. n (f x)) xs
+rise_back f n xs h i j d l m =
+    let k = length-map xs f in
+    let a = get_or-map f xs i d (f d) (omega arith) in
+    let b = get_or-map f xs j d (f d) m in
+    subst (λ t. n (f (get_or xs i d)) ≤ n t) b (subst (λ t. n t ≤ n (get_or (map f xs) j (f d))) a (h i j (f d) l (omega arith)))
+
 -- stills
 pub stills_more : (n k : ℕ) → bare_still_walks n (suc k) ≡ bare_still_walks n k ++ bare_still_walk (n + k) ∷ []
 stills_more n zero = let e : n ≡ n + 0 = omega arith in ap (λ m. bare_still_walk m ∷ []) e
@@ -67,7 +77,7 @@ onto_is : (count k : ℕ) (t : BareWalk) (l : Leg) → IsRowOf count k t → IsL
 onto_is count k t l r g h =
     let m = meets_parts t l h in
     let m0 : t.base ≤ l.hi = m.0 in
-    let m1 : l.lo ≤ bare_last_out t = m.1 in
+    let m1 : l.lo ≤ t.base + (t.hi - t.lo) = m.1 in
     let o = r.order in
     let p = r.low in
     let q = r.reach in
@@ -76,15 +86,11 @@ onto_is count k t l r g h =
     let w = g.reach in
     let n = r.len in
     let a = max_is t.base l.lo in
-    let b = min_is (bare_last_out t) l.hi in
-    record {
-      order = omega (arith, a, b);
-      low = omega (arith, a, b);
-      start = r.start;
-      end = g.node;
-      reach = omega (arith, a, b);
-      len = omega arith;
-    }
+    let b = min_is (t.base + (t.hi - t.lo)) l.hi in
+    let order : t.lo + (greater_of t.base l.lo - t.base) ≤ t.lo + (lesser_of (t.base + (t.hi - t.lo)) l.hi - t.base) = omega (arith, a, b) in
+    let low : t.lo + (lesser_of (t.base + (t.hi - t.lo)) l.hi - t.base) ≤ top = omega (arith, a, b) in
+    let reach : (l.addr + (greater_of t.base l.lo - l.lo)) + ((t.lo + (lesser_of (t.base + (t.hi - t.lo)) l.hi - t.base)) - (t.lo + (greater_of t.base l.lo - t.base))) ≤ top = omega (arith, a, b) in
+    record { order = order; low = low; start = r.start; end = g.node; reach = reach; len = omega arith }
 
 -- each walk of a level
 pub level_is : (legs : List (List Leg)) → All (AreLegs (length legs)) legs → (k : ℕ) (t : BareWalk) → Member t (bare_level legs k) → IsRowOf (length legs) k t
@@ -129,18 +135,29 @@ extended_least legs rows i r l e =
     (subst (λ x. length (flat_map (bare_extensions legs) (take i (map row_view rows))) + length (bare_extensions legs x) ≤ length (flat_map (bare_extensions legs) (map row_view rows))) a h)
 
 -- the legs of a node, by its number
-pub legs_there : (legs : List (List Leg)) → All (AreLegs (length legs)) legs → (end k : ℕ) (ls ls' : List Leg) → end < length legs → k ≡ end → ls ≡ get_or legs k ls → ls' ≡ ls → AreLegs (length legs) ls'
-legs_there legs all end k ls ls' l s e f = subst (AreLegs (length legs)) (sym (f ∙ e ∙ ap (λ i. get_or legs i ls) s)) (all end ls l)
+pub legs_same : (legs : List (List Leg)) (end : ℕ) (ls : List Leg) → end < length legs → slice_get legs end ≡ Some ls → get_or legs end [] ≡ ls
+legs_same legs end ls l e =
+    let s : ◌≡◌ {A = Option (List Leg)} (Some (get_or legs end [])) (Some ls) = sym (slice_get-get_or legs end [] l) ∙ e in
+    let g : get_or legs end [] ≡ ls = cc in
+    g
 
-pub legs_same : (legs : List (List Leg)) (end k : ℕ) (ls ls' : List Leg) → end < length legs → k ≡ end → ls ≡ get_or legs k ls → ls' ≡ ls → ls' ≡ get_or legs end []
-legs_same legs end k ls ls' l s e f = f ∙ e ∙ ap (λ i. get_or legs i ls) s ∙ get_or_default legs end ls [] l
+pub legs_there : (legs : List (List Leg)) → All (AreLegs (length legs)) legs → (end : ℕ) (ls : List Leg) → end < length legs → slice_get legs end ≡ Some ls → AreLegs (length legs) ls
+legs_there legs all end ls l e = subst (AreLegs (length legs)) (legs_same legs end ls l e) (all end [] l)
 
--- what the legs that a walk meets keep
-pub met_meet : (t : BareWalk) (ls met : List Leg) → met ≡ filter (bare_meets t) ls → All (λ l. IsTrue (bare_meets t l)) met
-met_meet t ls met e = subst (All (λ l. IsTrue (bare_meets t l))) (sym e) (filter_passes (bare_meets t) ls)
+-- the legs that a walk meets
+pub met_meet : (t : BareWalk) (legs met : List Seg) → met ≡ filter (λ s. bare_meets t (leg_view s)) legs → All (λ s. IsTrue (bare_meets t (leg_view s))) met
+met_meet t legs met e = subst (All (λ (s : Seg). IsTrue (bare_meets t (leg_view s)))) (sym e) (filter_passes (λ s. bare_meets t (leg_view s)) legs)
 
-pub met_keep : (P : Leg → Type 0) (t : BareWalk) (ls met : List Leg) → met ≡ filter (bare_meets t) ls → All P ls → All P met
-met_keep P t ls met e all = subst (All P) (sym e) (All-filter (bare_meets t) P ls all)
+met_view : (t : BareWalk) (legs : List Seg) → map leg_view (filter (λ s. bare_meets t (leg_view s)) legs) ≡ filter (bare_meets t) (map leg_view legs)
+met_view t [] = refl
+met_view t (s ∷ legs) = by (bare_meets t (leg_view s)) (met_view t legs)
+  where
+    by : (b : Bool) → map leg_view (filter (λ x. bare_meets t (leg_view x)) legs) ≡ filter (bare_meets t) (map leg_view legs) → map leg_view (cond b (s ∷ filter (λ x. bare_meets t (leg_view x)) legs) (filter (λ x. bare_meets t (leg_view x)) legs)) ≡ cond b (leg_view s ∷ filter (bare_meets t) (map leg_view legs)) (filter (bare_meets t) (map leg_view legs))
+    by true e = ap (λ x. leg_view s ∷ x) e
+    by false e = e
+
+pub met_on : (t : BareWalk) (legs met : List Seg) → met ≡ filter (λ s. bare_meets t (leg_view s)) legs → map (bare_onto t) (map leg_view met) ≡ bare_extensions_by (map leg_view legs) t
+met_on t legs met e = ap (λ x. map (bare_onto t) (map leg_view x)) e ∙ ap (map (bare_onto t)) (met_view t legs)
 
 -- the next level, and how many walks there are with it
 pub grown_wide : (legs : List (List Leg)) (k room : ℕ) (newest : List BareWalk) → newest ≡ bare_level legs k → room + length (bare_walks legs k) ≡ walk_limit → room < length (flat_map (bare_extensions legs) newest) → walk_limit < length (bare_walks legs (k + 1))

@@ -11,10 +11,9 @@ use Rattle.dn_net.specs.Walks.{Leg as NetLeg, legs_of, in_order, Walk, meets, on
 use Rattle.dn_net.specs.WalkRules.{least_name, comes_to, comes_back, goes_on}
 use Rattle.dn_net.specs.Rules.{KeepsNodeRules}
 use Rattle.dn_net.proofs.Least.{within_to, within_from}
-use Rattle.dn_walk.specs.declared.leg.Leg.{Leg}
 use Rattle.dn_walk.specs.declared.way.Goal.TheVariants.{Anywhere, To}
 use Rattle.dn_walk.specs.Rows.{BareWalk, bare_walk}
-use Rattle.dn_walk.specs.Legs.{bare_leg, bare_legs}
+use Rattle.dn_walk.specs.Legs.{Leg, bare_leg, bare_legs}
 use Rattle.dn_walk.specs.Levels.{bare_meets, bare_onto, bare_extensions_by, bare_extensions, bare_still_walk, bare_still_walks, bare_level, bare_before, bare_walks}
 use Rattle.dn_walk.specs.Ways.{least_of, start_name, start_names, is_cyclic, bare_leads, level_leads, has_addr, meets_goal}
 use Rattle.dn_net.proofs.Cycles.{IsLed, HasName, comes_to_is_row, goes_on_is_row}

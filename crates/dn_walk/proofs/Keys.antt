@@ -8,11 +8,11 @@ use Rattle.std.specs.Ordering.{nat_cmp, ordering_then, is_lt}
 use Rattle.std.specs.List.Sorted.{IsSortedBy, IsStableBy}
 use Rattle.std.proofs.lemmas.List.Sorted.{IsStrictWeakOrder-by_number}
 use Rattle.dn_base.proofs.Booleans.{and-false}
+use Rattle.dn_interval.specs.declared.row.Seg.{Seg}
 use Rattle.dn_net.specs.Walks.{in_order}
-use Rattle.dn_walk.specs.declared.leg.Leg.{Leg}
 use Rattle.dn_walk.specs.declared.walks.WalkRow.{WalkRow}
 use Rattle.dn_walk.specs.Rows.{BareWalk, row_view}
-use Rattle.dn_walk.specs.Legs.{leg_before}
+use Rattle.dn_walk.specs.Legs.{leg_before, leg_view}
 use Rattle.dn_walk.specs.Levels.{bare_before}
 use Rattle.dn_walk.proofs.Sorting.{sorted_is, map_in_order}
 
@@ -110,9 +110,12 @@ by_number a b = by (nat_lt a b) (a == b)
     by false true = refl
     by false false = refl
 
-same_leg_order : ◌≡◌ {A = Leg → Leg → Bool} (λ l m. is_lt (nat_cmp l.lo m.lo)) leg_before
-same_leg_order = λ i l m. by_number l.lo m.lo i
+same_leg_order : ◌≡◌ {A = Seg → Seg → Bool} (λ s t. is_lt (nat_cmp s.span.lo t.span.lo)) (λ s t. leg_before (leg_view s) (leg_view t))
+same_leg_order = λ i s t. by_number s.span.lo t.span.lo i
 
 -- legs after a stable sort by their first addresses
-pub legs_in_order : (xs ys : List Leg) → IsSortedBy (λ l m. is_lt (nat_cmp l.lo m.lo)) ys → IsStableBy (λ l m. is_lt (nat_cmp l.lo m.lo)) xs ys → ys ≡ in_order leg_before xs
-legs_in_order xs ys sorted stable = sorted_is leg_before (IsStrictWeakOrder-by_number (λ l. l.lo)) xs ys (subst (λ f. IsSortedBy f ys) same_leg_order sorted) (subst (λ f. IsStableBy f xs ys) same_leg_order stable)
+pub legs_in_order : (xs ys : List Seg) → IsSortedBy (λ s t. is_lt (nat_cmp s.span.lo t.span.lo)) ys → IsStableBy (λ s t. is_lt (nat_cmp s.span.lo t.span.lo)) xs ys → map leg_view ys ≡ in_order leg_before (map leg_view xs)
+legs_in_order xs ys sorted stable =
+    let lt : Seg → Seg → Bool = λ s t. leg_before (leg_view s) (leg_view t) in
+    ap (map leg_view) (sorted_is lt (IsStrictWeakOrder-by_number (λ (s : Seg). s.span.lo)) xs ys (subst (λ f. IsSortedBy f ys) same_leg_order sorted) (subst (λ f. IsStableBy f xs ys) same_leg_order stable))
+    ∙ map_in_order leg_view lt leg_before (λ s t. refl) xs

@@ -1,37 +1,39 @@
 -- The legs that a walk meets stand together, and what it makes of one of them.
-use Rattle.std.proofs.Common.{◌≡◌, ℕ, ◌-◌, ◌<◌, ◌≤◌, ◌⊎◌, inl, inr, Bool, true, false, ◌&&◌, if◌then◌else◌, nat_le, nat_lt, ltb, leb, min, max, List, length, get_or, take, drop, refl, arith, IsTrue, ltb-true, leb-true}
+use Rattle.std.proofs.Common.{◌≡◌, ℕ, ◌+◌, ◌-◌, ◌<◌, ◌≤◌, ◌⊎◌, inl, inr, Bool, true, false, ◌&&◌, if◌then◌else◌, nat_le, nat_lt, ltb, leb, min, max, List, length, get_or, take, drop, refl, arith, IsTrue, ltb-true, leb-true}
 use Rattle.std.proofs.lemmas.Bool.{ltb-false, leb-false, cases_lt}
-use Rattle.std.specs.List.{All, filter}
+use Rattle.std.specs.List.{filter}
 use Rattle.std.specs.List.Sorted.{IsPartitionPoint}
 use Rattle.dn_base.proofs.Orders.{not_lt-le, lt-not_le}
 use Rattle.dn_net.specs.Walks.{greater_of, lesser_of}
-use Rattle.dn_walk.specs.declared.leg.Leg.{Leg}
+use Rattle.dn_interval.specs.declared.row.Seg.{Seg}
+use Rattle.dn_walk.specs.Legs.{Leg, leg_view}
 use Rattle.dn_walk.specs.Rows.{BareWalk}
 use Rattle.dn_walk.specs.Levels.{bare_last_out, bare_meets}
 use Rattle.dn_walk.proofs.Picks.{between_is}
 
-abbrev pub Ends : ℕ → List Leg → ℕ → Type 0
-Ends base legs i = IsPartitionPoint (λ l. ltb l.hi base ≡ true) (λ l. ltb l.hi base ≡ false) legs i
+abbrev pub Ends : ℕ → List Seg → ℕ → Type 0
+Ends base legs i = IsPartitionPoint (λ s. ltb s.span.hi base ≡ true) (λ s. ltb s.span.hi base ≡ false) legs i
 
-abbrev pub Begins : ℕ → List Leg → ℕ → Type 0
-Begins last legs j = IsPartitionPoint (λ l. leb l.lo last ≡ true) (λ l. leb l.lo last ≡ false) legs j
+abbrev pub Begins : ℕ → List Seg → ℕ → Type 0
+Begins last legs j = IsPartitionPoint (λ s. leb s.span.lo last ≡ true) (λ s. leb s.span.lo last ≡ false) legs j
 
-pub in_turn : (base last : ℕ) (legs : List Leg) (i j : ℕ) → base ≤ last → All (λ l. l.lo ≤ l.hi) legs → i ≤ length legs → Ends base legs i → Begins last legs j → i ≤ j
-in_turn base last legs i j o order w e b = by (cases_lt j i)
+pub in_turn : (base last : ℕ) (legs : List Seg) (i j : ℕ) → base ≤ last → i ≤ length legs → Ends base legs i → Begins last legs j → i ≤ j
+in_turn base last legs i j o w e b = by (cases_lt j i)
   where
     by : (j < i) ⊎ (i ≤ j) → i ≤ j
     by (inr l) = l
     by (inl l) =
-        let d : Leg = record { lo = 0; hi = 0; node = 0; addr = 0 } in
+        let d : Seg = record { span = record { lo = 0; hi = 0; ordered = omega arith; within = omega arith }; node = 0; base = 0; fits = omega arith } in
         let g = get_or legs j d in
-        let p : g.hi < base = ltb-true _ _ (e.0 j d (omega arith) l) in
-        let q : last < g.lo = leb-false _ _ (b.1 j d (omega arith) (omega arith)) in
-        let r : g.lo ≤ g.hi = order j d (omega arith) in
+        let p : g.span.hi < base = ltb-true _ _ (e.0 j d (omega arith) l) in
+        let q : last < g.span.lo = leb-false _ _ (b.1 j d (omega arith) (omega arith)) in
+        let r : g.span.lo ≤ g.span.hi = g.span.ordered in
         absurd (omega arith)
 
-pub met_is : (t : BareWalk) (legs : List Leg) (i j : ℕ) → All (λ l. l.lo ≤ l.hi) legs → i ≤ length legs → j ≤ length legs → Ends t.base legs i → Begins (bare_last_out t) legs j → take (j - i) (drop i legs) ≡ filter (bare_meets t) legs
-met_is t legs i j order w v e b =
-    between_is (λ (l : Leg). nat_le t.base l.hi) (λ (l : Leg). nat_le l.lo (bare_last_out t)) legs i j (in_turn t.base (bare_last_out t) legs i j (omega arith) order w e b) v
+pub met_is : (t : BareWalk) (legs : List Seg) (i j : ℕ) → i ≤ length legs → j ≤ length legs → Ends t.base legs i → Begins (bare_last_out t) legs j → take (j - i) (drop i legs) ≡ filter (λ s. bare_meets t (leg_view s)) legs
+met_is t legs i j w v e b =
+    let o : t.base ≤ t.base + (t.hi - t.lo) = omega arith in
+    between_is (λ (s : Seg). nat_le t.base s.span.hi) (λ (s : Seg). nat_le s.span.lo (bare_last_out t)) legs i j (in_turn t.base (bare_last_out t) legs i j o w e b) v
     record {
       low = λ k d l. lt-not_le _ _ (e.0 k d (omega arith) l);
       high = λ k d l m. not_lt-le _ _ (e.1 k d l m);

@@ -16,8 +16,7 @@ use Rattle.dn_net.proofs.Places.{length-map}
 use Rattle.dn_net.proofs.Steps.{node_at}
 use Rattle.dn_interval.specs.declared.span.Span.{Span}
 use Rattle.dn_interval.specs.Spans.{has, in_span, AreMaximal}
-use Rattle.dn_walk.specs.declared.leg.Leg.{Leg}
-use Rattle.dn_walk.specs.Legs.{bare_leg, bare_legs, dest_leg, bare_entry_legs, gap_leg, bare_gap_legs, leg_before, legs_by, gaps_by, span_view, IsLegOf, AreLegs}
+use Rattle.dn_walk.specs.Legs.{Leg, bare_leg, bare_legs, dest_leg, bare_entry_legs, gap_leg, bare_gap_legs, leg_before, legs_by, gaps_by, span_view, IsLegOf, AreLegs}
 use Rattle.dn_net.proofs.Apart.{node_apart}
 use Rattle.dn_walk.proofs.Holes.{spans_are_left}
 use Rattle.dn_net.proofs.Legs.{leads_of_leg, leads_in_range, leads_within}

@@ -14,11 +14,10 @@ use Rattle.dn_net.specs.WalkRules.{is_wide, has_loop, is_deep, walk_limit, endle
 use Rattle.dn_net.specs.Rules.{KeepsNodeRules}
 use Rattle.dn_net.proofs.Endless.{endless_fault_is}
 use Rattle.dn_net.proofs.Places.{length-map}
-use Rattle.dn_walk.specs.declared.leg.Leg.{Leg}
 use Rattle.dn_walk.specs.declared.walks.WalkRow.{WalkRow}
 use Rattle.dn_walk.specs.declared.way.Goal.TheVariants.{Anywhere, To}
 use Rattle.dn_walk.specs.Rows.{BareWalk, bare_walk, row_view}
-use Rattle.dn_walk.specs.Legs.{bare_legs}
+use Rattle.dn_walk.specs.Legs.{Leg, bare_legs}
 use Rattle.dn_walk.specs.Levels.{bare_extensions, bare_level, bare_walks, bare_levels, bare_before}
 use Rattle.dn_walk.specs.Ways.{least_of, start_names, start_name, level_leads, walk_levels_lead, shown_cycle, shown_path}
 use Rattle.dn_walk.proofs.Bridge.{walks_bare, least_back, least_onward, leads_to_name, leads_anywhere}
@@ -28,7 +27,7 @@ use Rattle.dn_walk.proofs.Onward.{step_in_range}
 use Rattle.dn_net.proofs.Pairs.{pairs_more, pairs_rise}
 use Rattle.dn_net.proofs.Firsts.{shortest_is}
 use Rattle.dn_walk.proofs.Sorting.{in_order_pairs}
-use Rattle.dn_walk.proofs.BareWalks.{level-suc, walks-suc, levels-suc, length_levels}
+use Rattle.dn_walk.proofs.BareWalks.{rise_back, level-suc, walks-suc, levels-suc, length_levels}
 
 pub steps_are : step_limit ≡ 65
 unfolding step_limit
@@ -301,14 +300,7 @@ starts_rise rows = pairs_rise (λ (t : BareWalk). t.start) (in_order bare_before
     no_less t u (inr l) h = l
     no_less t u (inl l) h = let e : true ≡ false = sym (ap (λ b. b || ((u.start == t.start) && (nat_lt u.lo t.lo || ((u.lo == t.lo) && nat_lt u.hi t.hi)))) (lt-ltb u.start t.start l)) ∙ h in cc
 
-starts_back : (rows : List WalkRow) → IsNonDecreasingBy (λ (t : BareWalk). t.start) (map row_view rows) → IsNonDecreasingBy (λ (r : WalkRow). r.start) rows
-starts_back rows h i j d l m =
-    let n = length-map row_view rows in
-    let a = get_or-map row_view rows i d (row_view d) (omega arith) in
-    let b = get_or-map row_view rows j d (row_view d) m in
-    subst (λ t. (get_or rows i d).start ≤ t.start) b (subst (λ t. t.start ≤ (get_or (map row_view rows) j (row_view d)).start) a (h i j (row_view d) l (omega arith)))
-
 pub sorted_by_start : (legs : List (List Leg)) (n : ℕ) (sorted : List (List WalkRow)) → n ≡ length sorted → map (map row_view) sorted ≡ bare_levels legs n → All (λ level. IsNonDecreasingBy (λ (r : WalkRow). r.start) level) sorted
 sorted_by_start legs n sorted s e k d l =
     let a : map row_view (get_or sorted k d) ≡ in_order bare_before (bare_level legs k) = sym (get_or-map (map row_view) sorted k d [] l) ∙ ap (λ x. get_or x k []) e ∙ level_among legs n k [] (omega arith) in
-    starts_back (get_or sorted k d) (subst (IsNonDecreasingBy (λ (t : BareWalk). t.start)) (sym a) (starts_rise (bare_level legs k)))
+    rise_back row_view (λ (t : BareWalk). t.start) (get_or sorted k d) (subst (IsNonDecreasingBy (λ (t : BareWalk). t.start)) (sym a) (starts_rise (bare_level legs k)))

@@ -9,9 +9,24 @@ use Rattle.dn_net.specs.declared.node.NodeDecl.{NodeDecl}
 use Rattle.dn_net.specs.Decode.{top}
 use Rattle.dn_net.specs.Walks.{Leg as NetLeg, in_order, cut_each, all_addresses, legs}
 use Rattle.dn_interval.specs.declared.span.Span.{Span}
-use Rattle.dn_walk.specs.declared.leg.Leg.{Leg}
+use Rattle.dn_interval.specs.declared.row.Seg.{Seg}
 
--- a leg without its choice
+-- a leg without its choice: the addresses from lo to hi, of which the first goes to addr of node
+pub record Leg : Type 0 where
+  pub lo : ℕ
+  pub hi : ℕ
+  pub node : ℕ
+  pub addr : ℕ
+
+-- the leg that a segment is
+abbrev pub leg_view : Seg → Leg
+leg_view s = record { lo = s.span.lo; hi = s.span.hi; node = s.node; addr = s.base }
+
+-- the addresses that a leg leads on
+abbrev pub leg_block : Leg → Block
+leg_block l = record { lo = l.lo; hi = l.hi }
+
+-- what a leg is without its choice
 abbrev pub bare_leg : NetLeg → Leg
 bare_leg l = record { lo = l.block.lo; hi = l.block.hi; node = l.to.node; addr = l.to.addr }
 

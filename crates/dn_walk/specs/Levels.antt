@@ -3,27 +3,31 @@ use Rattle.std.specs.Prelude.{◌≡◌, ℕ, zero, suc, ◌+◌, ◌-◌, ◌<�
 use Rattle.std.specs.List.{flat_map}
 use Rattle.std.specs.Option.{IfSome}
 use Rattle.dn_net.specs.Decode.{top}
-use Rattle.dn_net.specs.Walks.{in_order, greater_of, lesser_of}
+use Rattle.dn_net.specs.Walks.{Run, last_of_run, goes_into, cut_run, in_order}
 use Rattle.dn_net.specs.WalkRules.{walk_limit, is_wide}
-use Rattle.dn_walk.specs.declared.leg.Leg.{Leg}
 use Rattle.dn_walk.specs.declared.level.Levels.{Levels}
 use Rattle.dn_walk.specs.declared.fault.WalkFault.{WalkFault}
+use Rattle.dn_walk.specs.Legs.{Leg, leg_block}
 use Rattle.dn_walk.specs.Rows.{BareWalk, row_view, walk_fault_view}
+
+-- the addresses that follow it, and where the first of them comes out
+abbrev pub told_run : BareWalk → Run
+told_run t = record { span = record { lo = t.lo; hi = t.hi }; base = t.base }
 
 -- the last address at which it comes out
 abbrev pub bare_last_out : BareWalk → ℕ
-bare_last_out t = t.base + (t.hi - t.lo)
+bare_last_out t = last_of_run (told_run t)
 
 -- some address at which it comes out goes on by the leg
 abbrev pub bare_meets : BareWalk → Leg → Bool
-bare_meets t l = nat_le t.base l.hi && nat_le l.lo (bare_last_out t)
+bare_meets t l = goes_into (told_run t) (leg_block l)
 
 -- it, with one more leg, for the addresses that go on by it
 abbrev pub bare_onto : BareWalk → Leg → BareWalk
-bare_onto t l = cut (greater_of t.base l.lo) (lesser_of (bare_last_out t) l.hi)
+bare_onto t l = along (cut_run (told_run t) (leg_block l) l.addr)
   where
-    cut : ℕ → ℕ → BareWalk
-    cut lo hi = record { start = t.start; lo = t.lo + (lo - t.base); hi = t.lo + (hi - t.base); end = l.node; base = l.addr + (lo - l.lo); len = t.len + 1 }
+    along : Run → BareWalk
+    along r = record { start = t.start; lo = r.span.lo; hi = r.span.hi; end = l.node; base = r.base; len = t.len + 1 }
 
 -- what goes on by one of the legs
 abbrev pub bare_extensions_by : List Leg → BareWalk → List BareWalk

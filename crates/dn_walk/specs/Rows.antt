@@ -7,6 +7,7 @@ use Rattle.dn_net.specs.Decode.{step_limit, is_accepted}
 use Rattle.dn_net.specs.Legal.{IsLegalNet}
 use Rattle.dn_net.specs.Walks.{Walk, live_walks}
 use Rattle.dn_net.specs.WalkRules.{Broken, is_wide, has_loop, is_deep, has_fork, has_chain}
+use Rattle.dn_walk.specs.Legs.{Leg, bare_legs}
 use Rattle.dn_walk.specs.declared.walks.WalkRow.{WalkRow}
 use Rattle.dn_walk.specs.declared.fault.WalkFault.{WalkFault}
 use Rattle.dn_walk.specs.declared.fault.WalkFault.TheVariants.{Wide, Loop, Deep, Fork, Chain, OutOfMemory}
@@ -28,21 +29,24 @@ row_view r = record { start = r.start; lo = r.span.lo; hi = r.span.hi; end = r.e
 abbrev pub bare_walk : Walk → BareWalk
 bare_walk w = record { start = w.start; lo = w.span.lo; hi = w.span.hi; end = w.to.node; base = w.to.addr; len = length w.choices }
 
--- a table of walks: its rows, and for each node the spans of the addresses that it accepts
+-- a table of walks: its rows, and for each node the spans of the addresses that it accepts, and its legs
 pub record Table : Type 0 where
   pub rows : List WalkRow
   pub accepted : List (List Span)
+  pub legs : List (List Leg)
 
 -- each set has what its node accepts
 pub record AreAccepted (net : List NodeDecl) (sets : List (List Span)) : Type 0 where
   pub every : length sets ≡ length net
   pub same : (node a : ℕ) → has (slice_index_or sets node []) a ≡ is_accepted net (record { node = node; addr = a })
 
--- the rows are the live walks of a legal net, of 1 to 65 choices, in their order, and the sets are those of its nodes
+-- the rows are the live walks of a legal net, of 1 to 65 choices, in their order, and the sets and the legs are
+-- those of its nodes
 pub record AreWalksOf (net : List NodeDecl) (table : Table) : Type 0 where
   pub legal : IsLegalNet net
   pub same : map row_view table.rows ≡ map bare_walk (live_walks net step_limit)
   pub accepted : AreAccepted net table.accepted
+  pub legs : table.legs ≡ map bare_legs net
 
 -- the broken rule that a fault says, with what it carries; allocation failure says none
 abbrev pub walk_fault_view : WalkFault → Option Broken

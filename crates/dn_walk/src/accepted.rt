@@ -8,14 +8,15 @@ ghost use Rattle.dn_walk.specs.Terms.{AreAccepted};
 use crate::spans::{accept_spans, covered_set};
 use dn_base::OutOfMemory;
 use dn_interval::SpanSet;
+use dn_net::checked::CheckedNet;
 use dn_net::net::Net;
 use std::alloc::Global;
 
 /// For each node of a net, by its number, the addresses that it accepts.
-pub fn accepted_sets(alloc: Global, net: &Net) -> Result<Vec<SpanSet>, OutOfMemory>
-    requires rules { KeepsNodeRules net.now }
-    ensures { IfOk result (λ sets. AreAccepted net.now sets.items) }
+pub fn accepted_sets(alloc: Global, checked: CheckedNet) -> Result<Vec<SpanSet>, OutOfMemory>
+    ensures { IfOk result (λ sets. AreAccepted checked.entry.net.now sets.items) }
 {
+    let net = checked.net;
     let count = net.nodes();
     let mut sets = Vec::with_capacity(alloc, usize::from(count))?;
     for node in 0..count {

@@ -1,14 +1,14 @@
 //! The first row of units that is too long, or has too many slots.
 
-ghost use Rattle.std.specs.Prelude.{◌≡◌, ◌<◌, ◌≤◌, ◌∷◌, length, map, IfOk, IsTrue};
+ghost use Rattle.std.specs.Prelude.{◌≡◌, ◌<◌, ◌≤◌, ◌∷◌, length, map, IfOk};
 ghost use Rattle.std.specs.List.{All};
-ghost use Rattle.dn_net.specs.Terms.{IsShallow, KeepsNodeRules, first_chain, has_plain_units, live_walks, step_limit, unit_at, unit_numbers, unit_slots};
+ghost use Rattle.dn_net.specs.Terms.{IsShallow, first_chain, live_walks, step_limit, unit_at, unit_numbers, unit_slots};
 ghost use Rattle.dn_walk.specs.Terms.{bare_walk, chain_by, first_over, row_view};
 
 use crate::leads::next_units;
 use crate::walks::WalkRow;
 use dn_base::items::Items;
-use dn_net::net::Net;
+use dn_net::checked::CheckedNet;
 use std::alloc::{AllocError, Global};
 
 /// The most that the slots of a row of units multiply to.
@@ -18,62 +18,60 @@ const SLOTS_LIMIT: u64 = 1_048_576;
 /// more than the limit.
 pub(crate) fn first_chain(
     alloc: Global,
-    net: &Net,
+    checked: CheckedNet,
     rows: &[WalkRow],
     units: &[u16],
 ) -> Result<Option<Items<u16>>, AllocError>
-    requires rules { KeepsNodeRules net.now }
-    requires shapes { IsTrue (has_plain_units net.now) }
-    requires shallow { IsShallow net.now }
-    requires few { length net.now ≤ 1024 }
-    requires walks { map row_view rows.now ≡ map bare_walk (live_walks net.now step_limit) }
-    requires units { units.now ≡ unit_numbers net.now }
-    ensures { IfOk result (λ o. o ≡ first_chain net.now) }
+    requires shallow { IsShallow checked.net.now }
+    requires few { length checked.net.now ≤ 1024 }
+    requires walks { map row_view rows.now
+        ≡ map bare_walk (live_walks checked.net.now step_limit) }
+    requires units { units.now ≡ unit_numbers checked.net.now }
+    ensures { IfOk result (λ o. o ≡ first_chain checked.entry.net.now) }
 {
-    let next = next_units(alloc, net, rows, units)?;
-    chain_by(alloc, net, &next, units)
+    let next = next_units(alloc, checked, rows, units)?;
+    chain_by(alloc, checked, &next, units)
 }
 
 /// The same, by the units to which each node leads.
 fn chain_by(
     alloc: Global,
-    net: &Net,
+    checked: CheckedNet,
     next: &[Items<u16>],
     units: &[u16],
 ) -> Result<Option<Items<u16>>, AllocError>
-    requires shapes { IsTrue (has_plain_units net.now) }
-    requires size { length next.now ≡ length net.now }
-    requires next { All (λ us. All (λ u. u < length net.now) us) next.now }
-    requires units { All (λ u. u < length net.now) units.now }
-    ensures { IfOk result (λ o. o ≡ chain_by net.now next.now units.now) }
+    requires size { length next.now ≡ length checked.net.now }
+    requires next { All (λ us. All (λ u. u < length checked.net.now) us) next.now }
+    requires units { All (λ u. u < length checked.net.now) units.now }
+    ensures { IfOk result (λ o. o ≡ chain_by checked.entry.net.now next.now units.now) }
 {
-    if let Some(row) = first_row(alloc, net, next, units, 4, 0)? {
+    if let Some(row) = first_row(alloc, checked, next, units, 4, 0)? {
         return Ok(Some(row));
     }
-    if let Some(row) = first_row(alloc, net, next, units, 1, SLOTS_LIMIT)? {
+    if let Some(row) = first_row(alloc, checked, next, units, 1, SLOTS_LIMIT)? {
         return Ok(Some(row));
     }
-    if let Some(row) = first_row(alloc, net, next, units, 2, SLOTS_LIMIT)? {
+    if let Some(row) = first_row(alloc, checked, next, units, 2, SLOTS_LIMIT)? {
         return Ok(Some(row));
     }
-    first_row(alloc, net, next, units, 3, SLOTS_LIMIT)
+    first_row(alloc, checked, next, units, 3, SLOTS_LIMIT)
 }
 
 /// The first row of so many units whose slots multiply to more than `most`, where the first unit is
 /// one of these and each other one of those next to the one before it.
 fn first_row(
     alloc: Global,
-    net: &Net,
+    checked: CheckedNet,
     next: &[Items<u16>],
     units: &[u16],
     left: u8,
     most: u64,
 ) -> Result<Option<Items<u16>>, AllocError>
-    requires shapes { IsTrue (has_plain_units net.now) }
-    requires size { length next.now ≡ length net.now }
-    requires next { All (λ us. All (λ u. u < length net.now) us) next.now }
-    requires units { All (λ u. u < length net.now) units.now }
-    ensures { IfOk result (λ o. o ≡ first_over net.now next.now left most units.now) }
+    requires size { length next.now ≡ length checked.net.now }
+    requires next { All (λ us. All (λ u. u < length checked.net.now) us) next.now }
+    requires units { All (λ u. u < length checked.net.now) units.now }
+    ensures { IfOk result (λ o. o ≡ first_over checked.entry.net.now next.now left most
+        units.now) }
 {
     if left == 0 {
         return Ok(if most == 0 {
@@ -84,7 +82,14 @@ fn first_row(
     }
     for unit in units {
         let behind = next[usize::from(*unit)].as_slice();
-        let rest = first_row(alloc, net, next, behind, left - 1, most / slots(net, *unit))?;
+        let rest = first_row(
+            alloc,
+            checked,
+            next,
+            behind,
+            left - 1,
+            most / slots(checked, *unit),
+        )?;
         if let Some(rest) = rest {
             return Ok(Some(with_front(*unit, rest)?));
         }
@@ -93,13 +98,12 @@ fn first_row(
 }
 
 /// How many slots a unit has.
-fn slots(net: &Net, unit: u16) -> u64
-    requires shapes { IsTrue (has_plain_units net.now) }
-    requires there { unit < length net.now }
-    ensures value { result ≡ unit_slots (unit_at net.now unit) }
+fn slots(checked: CheckedNet, unit: u16) -> u64
+    requires there { unit < length checked.net.now }
+    ensures value { result ≡ unit_slots (unit_at checked.entry.net.now unit) }
     ensures some { 1 ≤ result }
 {
-    match net.unit(unit) {
+    match checked.net.unit(unit) {
         Some(unit) => u64::from(unit.slots),
         None => 1,
     }

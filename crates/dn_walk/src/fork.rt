@@ -2,13 +2,13 @@
 
 ghost use Rattle.std.specs.Prelude.{◌≡◌, ◌<◌, nat_lt, length, map};
 ghost use Rattle.std.specs.List.{All};
-ghost use Rattle.dn_net.specs.Terms.{KeepsNodeRules, name_eq, steps};
+ghost use Rattle.dn_net.specs.Terms.{name_eq, steps};
 ghost use Rattle.dn_walk.specs.declared.walks.WalkRow.{WalkRow};
 ghost use Rattle.dn_walk.specs.Terms.{IsLeastShown, fork_before, lesser_fork, row_view, shows_fork, start_name, with_shown};
 
 use crate::walks::WalkRow;
 use crate::way::is_before;
-use dn_net::net::Net;
+use dn_net::checked::CheckedNet;
 use dn_net::node::Name;
 use dn_net::step::Step;
 
@@ -21,27 +21,25 @@ pub(crate) struct Fork {
 
 /// The least fork that the rows show, by its name and then by its unit. The first address of a row
 /// has as many destinations as each other.
-pub(crate) fn least_fork(net: &Net, rows: &[WalkRow]) -> Option<Fork>
-    requires rules { KeepsNodeRules net.now }
-    requires starts { All (λ (r : WalkRow). r.start < length net.now) rows.now }
-    requires ends { All (λ (r : WalkRow). r.end < length net.now) rows.now }
-    ensures { IsLeastShown net.now (map row_view rows.now) result }
+pub(crate) fn least_fork(checked: CheckedNet, rows: &[WalkRow]) -> Option<Fork>
+    requires starts { All (λ (r : WalkRow). r.start < length checked.net.now) rows.now }
+    requires ends { All (λ (r : WalkRow). r.end < length checked.net.now) rows.now }
+    ensures { IsLeastShown checked.entry.net.now (map row_view rows.now) result }
 {
     let mut least = None;
     for row in rows {
-        least = lesser_shown(net, least, row);
+        least = lesser_shown(checked, least, row);
     }
     least
 }
 
 /// The lesser of a fork and the one that the row shows, if it shows one.
-fn lesser_shown(net: &Net, least: Option<Fork>, row: &WalkRow) -> Option<Fork>
-    requires rules { KeepsNodeRules net.now }
-    requires start { row.now.start < length net.now }
-    requires end { row.now.end < length net.now }
-    ensures { result ≡ with_shown net.now least (row_view row.now) }
+fn lesser_shown(checked: CheckedNet, least: Option<Fork>, row: &WalkRow) -> Option<Fork>
+    requires start { row.now.start < length checked.net.now }
+    requires end { row.now.end < length checked.net.now }
+    ensures { result ≡ with_shown checked.entry.net.now least (row_view row.now) }
 {
-    if !is_fork(net, row) {
+    if !is_fork(checked, row) {
         return least;
     }
     lesser_fork(
@@ -54,21 +52,19 @@ fn lesser_shown(net: &Net, least: Option<Fork>, row: &WalkRow) -> Option<Fork>
 }
 
 /// Whether the row ends in a unit, and its first name has two or more destinations.
-fn is_fork(net: &Net, row: &WalkRow) -> bool
-    requires rules { KeepsNodeRules net.now }
-    requires start { row.now.start < length net.now }
-    requires end { row.now.end < length net.now }
-    ensures { result ≡ shows_fork net.now (row_view row.now) }
+fn is_fork(checked: CheckedNet, row: &WalkRow) -> bool
+    requires start { row.now.start < length checked.net.now }
+    requires end { row.now.end < length checked.net.now }
+    ensures { result ≡ shows_fork checked.entry.net.now (row_view row.now) }
 {
-    net.is_unit(row.end) && has_several_steps(net, first_name(row))
+    checked.net.is_unit(row.end) && has_several_steps(checked, first_name(row))
 }
 
-fn has_several_steps(net: &Net, name: Name) -> bool
-    requires rules { KeepsNodeRules net.now }
-    requires there { name.node < length net.now }
-    ensures { result ≡ nat_lt 1 (length (steps net.now name)) }
+fn has_several_steps(checked: CheckedNet, name: Name) -> bool
+    requires there { name.node < length checked.net.now }
+    ensures { result ≡ nat_lt 1 (length (steps checked.entry.net.now name)) }
 {
-    match net.step(name) {
+    match checked.net.step(name) {
         Step::To(dests, _offset) => dests.len() > 1,
         Step::Accepted | Step::Stop | Step::Nothing => false,
     }

@@ -3,12 +3,13 @@
 ghost use Rattle.std.specs.Prelude.{◌≡◌, ◌<◌, ◌≤◌, ◌*◌, ℕ, [], min, nat_lt, filter, length, map, slice_index_or, slice_set, IfOk, IsTrue};
 ghost use Rattle.std.specs.List.{All, list_all};
 ghost use Rattle.std.specs.Option.{option_copied};
-ghost use Rattle.dn_net.specs.Terms.{has_plain_shape, has_plain_unit, has_plain_units, is_closed, ports_within, unit_numbers};
+ghost use Rattle.dn_net.specs.Terms.{has_plain_shape, has_plain_unit, ports_within, unit_numbers};
 ghost use Rattle.dn_walk.specs.declared.walks.WalkRow.{WalkRow};
 ghost use Rattle.dn_walk.specs.Terms.{AreLows, leads_by_lows, next_by_rows, next_units_by, row_view};
 
 use crate::walks::WalkRow;
 use dn_base::items::Items;
+use dn_net::checked::CheckedNet;
 use dn_net::net::Net;
 use dn_net::node::{TOP, Unit};
 use std::alloc::{AllocError, Global};
@@ -29,20 +30,20 @@ pub(crate) fn unit_numbers(alloc: Global, net: &Net) -> Result<Vec<u16>, AllocEr
 /// For each node by its number the units to which it leads, ascending: none where it is no unit.
 pub(crate) fn next_units(
     alloc: Global,
-    net: &Net,
+    checked: CheckedNet,
     rows: &[WalkRow],
     units: &[u16],
 ) -> Result<Vec<Items<u16>>, AllocError>
-    requires shapes { IsTrue (has_plain_units net.now) }
-    requires closed { IsTrue (is_closed net.now) }
-    requires few { length net.now ≤ 1024 }
-    requires starts { All (λ (r : WalkRow). r.start < length net.now) rows.now }
-    requires ends { All (λ (r : WalkRow). r.end < length net.now) rows.now }
-    requires units { units.now ≡ unit_numbers net.now }
-    ensures next { IfOk result (λ v. (u : ℕ) → u < length net.now → slice_index_or v.items u []
-        ≡ next_by_rows net.now (map row_view rows.now) u) }
-    ensures size { IfOk result (λ v. length v.items ≡ length net.now) }
+    requires few { length checked.net.now ≤ 1024 }
+    requires starts { All (λ (r : WalkRow). r.start < length checked.net.now) rows.now }
+    requires ends { All (λ (r : WalkRow). r.end < length checked.net.now) rows.now }
+    requires units { units.now ≡ unit_numbers checked.net.now }
+    ensures next { IfOk result (λ v. (u : ℕ) → u < length checked.entry.net.now
+        → slice_index_or v.items u []
+        ≡ next_by_rows checked.entry.net.now (map row_view rows.now) u) }
+    ensures size { IfOk result (λ v. length v.items ≡ length checked.entry.net.now) }
 {
+    let net = checked.net;
     let nodes = usize::from(net.nodes());
     let lows = lows(alloc, nodes, rows)?;
     let mut next = Vec::with_capacity(alloc, nodes)?;

@@ -3,15 +3,16 @@
 ghost use Rattle.std.specs.Prelude.{◌≡◌, ◌+◌, ◌-◌, ◌≤◌, ◌<◌, ◌++◌, ◌∷◌, [], map, filter, length, vec_len, IfOk, IfErr, OnOk, IsTrue, List};
 ghost use Rattle.std.specs.List.{All, flat_map};
 ghost use Rattle.std.specs.List.Sorted.{IsNonDecreasingBy};
+ghost use Rattle.dn_interval.specs.declared.row.Seg.{Seg};
 ghost use Rattle.dn_net.specs.Terms.{in_order, walk_limit};
-ghost use Rattle.dn_walk.specs.declared.leg.Leg.{Leg};
-ghost use Rattle.dn_walk.specs.Terms.{AreLegs, AreWalkLevels, IsRowOf, IsWideWhere, bare_before, bare_extensions, bare_last_out, bare_meets, bare_onto, bare_still_walks, bare_walks, row_view};
+ghost use Rattle.dn_walk.specs.Terms.{AreLegs, AreWalkLevels, IsRowOf, IsWideWhere, Leg, bare_before, bare_extensions, bare_meets, bare_onto, bare_still_walks, bare_walks, leg_view, row_view};
 
 use crate::fault::WalkFault;
-use crate::leg::Leg;
+use crate::leg::Legs;
 use crate::walks::WalkRow;
 use dn_base::items::Items;
-use dn_interval::{Span, TOP};
+use dn_interval::onward::{cut, last_out};
+use dn_interval::{End, Seg, Span, TOP};
 use std::alloc::{AllocError, Global};
 
 /// The most live walks.
@@ -43,7 +44,7 @@ impl Levels {
     }
 
     /// These levels and the next one. `Wide` exactly where there is no room for it.
-    pub(crate) fn with_next(self, alloc: Global, legs: &[Items<Leg>]) -> Result<Levels, WalkFault>
+    pub(crate) fn with_next(self, alloc: Global, legs: &Legs) -> Result<Levels, WalkFault>
         requires legs { All (AreLegs (length legs.now)) legs.now }
         requires levels { AreWalkLevels legs.now self }
         requires shallow { length self.sorted.items ≤ 64 }
@@ -99,7 +100,7 @@ fn in_order(mut rows: Vec<WalkRow>) -> Result<Items<WalkRow>, AllocError>
 /// Each walk that goes on from a row by one more choice. `Wide` exactly where there are more than `room`.
 fn extended_rows(
     alloc: Global,
-    legs: &[Items<Leg>],
+    legs: &Legs,
     rows: &[WalkRow],
     room: usize,
 ) -> Result<Vec<WalkRow>, WalkFault>
@@ -113,7 +114,7 @@ fn extended_rows(
 {
     let mut out = Vec::new(alloc);
     for row in rows {
-        let met = met_by(row, legs[usize::from(row.end)].as_slice());
+        let met = met_by(row, legs.of(row.end));
         if room - out.len() < met.len() {
             return Err(WalkFault::Wide);
         }
@@ -123,65 +124,50 @@ fn extended_rows(
 }
 
 /// The legs of the end node that have an address at which the walk comes out.
-pub fn met_by<'a>(row: &WalkRow, legs: &'a [Leg]) -> &'a [Leg]
+pub fn met_by<'a>(row: &WalkRow, legs: &'a [Seg]) -> &'a [Seg]
     requires reach { row.now.base + (row.now.span.hi - row.now.span.lo) ≤ TOP }
-    requires firsts { IsNonDecreasingBy (λ (l : Leg). l.lo) legs.now }
-    requires lasts { IsNonDecreasingBy (λ (l : Leg). l.hi) legs.now }
-    requires order { All (λ (l : Leg). l.lo ≤ l.hi) legs.now }
-    ensures { result.now ≡ filter (bare_meets (row_view row.now)) legs.now }
+    requires firsts { IsNonDecreasingBy (λ (s : Seg). s.span.lo) legs.now }
+    requires lasts { IsNonDecreasingBy (λ (s : Seg). s.span.hi) legs.now }
+    ensures { result.now ≡ filter (λ s. bare_meets (row_view row.now) (leg_view s)) legs.now }
 {
     let base = row.base;
-    let last = last_out(row);
-    let first = legs.partition_point(|leg| leg.hi < base);
-    let end = legs.partition_point(|leg| leg.lo <= last);
+    let last = last_out(row.seg());
+    let first = legs.partition_point(|leg| leg.span.hi < base);
+    let end = legs.partition_point(|leg| leg.span.lo <= last);
     &legs[first..end]
 }
 
 /// Appends the walk with each of the legs as one more choice.
-pub fn extend_row(row: &WalkRow, met: &[Leg], out: &mut Vec<WalkRow>) -> Result<(), AllocError>
+pub fn extend_row(row: &WalkRow, met: &[Seg], out: &mut Vec<WalkRow>) -> Result<(), AllocError>
     requires reach { row.now.base + (row.now.span.hi - row.now.span.lo) ≤ TOP }
     requires short { row.now.len ≤ 64 }
-    requires meet { All (λ l. IsTrue (bare_meets (row_view row.now) l)) met.now }
-    requires order { All (λ (l : Leg). l.lo ≤ l.hi) met.now }
-    requires low { All (λ (l : Leg). l.hi ≤ TOP) met.now }
-    requires far { All (λ (l : Leg). l.addr + (l.hi - l.lo) ≤ TOP) met.now }
+    requires meet { All (λ s. IsTrue (bare_meets (row_view row.now) (leg_view s))) met.now }
     ensures { OnOk result (map row_view out.new.items
-        ≡ map row_view out.old.items ++ map (bare_onto (row_view row.now)) met.now) }
+        ≡ map row_view out.old.items ++ map (bare_onto (row_view row.now)) (map leg_view met.now)) }
 {
     for leg in met {
-        out.push(onto(row, leg))?;
+        out.push(onto(row, *leg))?;
     }
     Ok(())
 }
 
-/// The last address at which the walk comes out.
-fn last_out(row: &WalkRow) -> u64
-    requires { row.now.base + (row.now.span.hi - row.now.span.lo) ≤ TOP }
-    ensures { result ≡ bare_last_out (row_view row.now) }
-{
-    row.base + (row.span.hi - row.span.lo)
-}
-
 /// The walk with one more choice, for the addresses that go on by its leg.
-fn onto(row: &WalkRow, leg: &Leg) -> WalkRow
+fn onto(row: &WalkRow, leg: Seg) -> WalkRow
     requires reach { row.now.base + (row.now.span.hi - row.now.span.lo) ≤ TOP }
     requires short { row.now.len ≤ 64 }
-    requires meet { IsTrue (bare_meets (row_view row.now) leg.now) }
-    requires order { leg.now.lo ≤ leg.now.hi }
-    requires low { leg.now.hi ≤ TOP }
-    requires far { leg.now.addr + (leg.now.hi - leg.now.lo) ≤ TOP }
-    ensures { row_view result ≡ bare_onto (row_view row.now) leg.now }
+    requires meet { IsTrue (bare_meets (row_view row.now) (leg_view leg)) }
+    ensures { row_view result ≡ bare_onto (row_view row.now) (leg_view leg) }
 {
-    let lo = row.base.max(leg.lo);
-    let hi = last_out(row).min(leg.hi);
+    let to = End {
+        node: leg.node,
+        base: leg.base,
+    };
+    let part = cut(row.seg(), leg.span, to);
     WalkRow {
         start: row.start,
-        span: Span {
-            lo: row.span.lo + (lo - row.base),
-            hi: row.span.lo + (hi - row.base),
-        },
-        end: leg.node,
-        base: leg.addr + (lo - leg.lo),
+        span: part.span,
+        end: part.node,
+        base: part.base,
         len: row.len + 1,
     }
 }

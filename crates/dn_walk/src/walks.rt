@@ -1,10 +1,11 @@
 //! The table of the live walks of a net.
 
-ghost use Rattle.std.specs.Prelude.{◌≡◌, ◌<◌, ◌≤◌, ◌++◌, drop, map, length, IfOk, IsTrue};
+ghost use Rattle.std.specs.Prelude.{◌≡◌, ◌+◌, ◌-◌, ◌<◌, ◌≤◌, ◌++◌, drop, map, length, IfOk, IsTrue};
 ghost use Rattle.std.specs.List.{All, flat_map};
 ghost use Rattle.std.specs.List.Sorted.{IsNonDecreasingBy};
 ghost use Rattle.dn_base.specs.Terms.{Checks};
-ghost use Rattle.dn_net.specs.Terms.{IsNet, IsShallow, KeepsNodeRules, has_plain_units, live_walks, step_limit, unit_fault, unit_numbers, walk_fault};
+ghost use Rattle.dn_interval.specs.declared.span.TheConstants.{TOP};
+ghost use Rattle.dn_net.specs.Terms.{IsShallow, KeepsNodeRules, has_plain_units, live_walks, step_limit, unit_fault, unit_numbers, walk_fault};
 ghost use Rattle.dn_walk.specs.declared.level.TheConstants.{WALK_LIMIT};
 ghost use Rattle.dn_walk.specs.declared.walks.WalkRow.{WalkRow};
 ghost use Rattle.dn_walk.specs.Terms.{AreWalksOf, bare_walk, row_view, shown_fault, walk_fault_view};
@@ -14,11 +15,12 @@ use crate::chain::first_chain;
 use crate::fault::WalkFault;
 use crate::fork::{Fork, least_fork};
 use crate::leads::unit_numbers;
-use crate::leg::net_legs;
+use crate::leg::{Legs, net_legs};
 use crate::level::{Levels, WALK_LIMIT};
 use crate::way::{Goal, least_start, way};
 use dn_base::items::Items;
-use dn_interval::{Span, SpanSet};
+use dn_interval::{Seg, Span, SpanSet};
+use dn_net::checked::CheckedNet;
 use dn_net::net::Net;
 use std::alloc::{AllocError, Global};
 use std::marker::Model;
@@ -40,12 +42,29 @@ pub struct WalkRow {
     pub len: u8,
 }
 
-/// The live walks of a net, by length, start, span and choices, and what its nodes accept. The walks lie in
-/// pieces, one behind the other; contracts see one list.
+impl WalkRow {
+    /// The names to which the addresses of the walk come, as a segment.
+    pub fn seg(&self) -> Seg
+        requires { self.now.base + (self.now.span.hi - self.now.span.lo) ≤ TOP }
+        ensures span { result.span ≡ self.now.span }
+        ensures node { result.node ≡ self.now.end }
+        ensures base { result.base ≡ self.now.base }
+    {
+        Seg {
+            span: self.span,
+            node: self.end,
+            base: self.base,
+        }
+    }
+}
+
+/// The live walks of a net, by length, start, span and choices, and what its nodes accept and by which legs they
+/// lead on. The walks lie in pieces, one behind the other; contracts see one list.
 #[derive(Drop)]
 pub struct WalkTable {
     pieces: Vec<Items<WalkRow>>,
     accepted: Vec<SpanSet>,
+    legs: Legs,
 }
 
 impl Model for WalkTable {
@@ -54,7 +73,11 @@ impl Model for WalkTable {
 
     ghost Value = { Table };
 
-    ghost view = { λ t. record { rows = flat_map (λ x. x) t.pieces.items; accepted = t.accepted.items } };
+    ghost view = { λ t. record {
+      rows = flat_map (λ x. x) t.pieces.items;
+      accepted = t.accepted.items;
+      legs = t.legs;
+    } };
 }
 
 impl WalkTable {
@@ -73,6 +96,13 @@ impl WalkTable {
     {
         self.accepted.as_slice()
     }
+
+    /// The legs of each node.
+    pub fn legs(&self) -> &Legs
+        ensures { result.now ≡ self.now.legs }
+    {
+        &self.legs
+    }
 }
 
 /// The live walks of a net, or the first rule on walks that it breaks. Each unit is to have a plain
@@ -84,65 +114,73 @@ pub fn walks(alloc: Global, net: &Net) -> Result<WalkTable, WalkFault>
     ensures walks { IfOk result (λ table. AreWalksOf net.now table) }
 {
     net.facts();
-    let legs = net_legs(alloc, net)?;
+    let checked = CheckedNet { net };
+    let legs = net_legs(alloc, checked)?;
     let mut levels = Levels::new(alloc, net.nodes())?;
     'levels: while levels.sorted.len() < LONGEST && !levels.newest.is_empty() {
         levels = levels.with_next(alloc, &legs)?;
-        check_newest(alloc, net, &levels, true)?;
+        check_newest(alloc, checked, &levels, true)?;
     }
     levels = levels.with_next(alloc, &legs)?;
-    check_newest(alloc, net, &levels, false)?;
-    let pieces = checked_rows(alloc, net, levels)?;
+    check_newest(alloc, checked, &levels, false)?;
+    let pieces = checked_rows(alloc, checked, levels)?;
     Ok(WalkTable {
         pieces,
-        accepted: accepted_sets(alloc, net)?,
+        accepted: accepted_sets(alloc, checked)?,
+        legs,
     })
 }
 
 /// Refuses the newest level where it has a walk; where `back` is set, one that comes back to where it
 /// began.
-fn check_newest(alloc: Global, net: &Net, levels: &Levels, back: bool) -> Result<(), WalkFault>
-    requires rules { KeepsNodeRules net.now }
-    requires there { All (λ (r : WalkRow). r.start < length net.now) levels.now.newest.items }
+fn check_newest(
+    alloc: Global,
+    checked: CheckedNet,
+    levels: &Levels,
+    back: bool,
+) -> Result<(), WalkFault>
+    requires there { All (λ (r : WalkRow). r.start < length checked.net.now)
+        levels.now.newest.items }
     requires sorted { All (λ level. IsNonDecreasingBy
         (λ (r : WalkRow). r.start) level) levels.now.sorted.items }
-    ensures { Checks walk_fault_view result (shown_fault back net.now
+    ensures { Checks walk_fault_view result (shown_fault back checked.entry.net.now
         (map (map row_view) levels.now.sorted.items) (map row_view levels.now.newest.items)) }
 {
     let Some(first) = least_start(&levels.newest, back) else {
         return Ok(());
     };
     if back {
-        let cycle = way(alloc, net, &levels.sorted, first, Goal::To(first))?;
+        let cycle = way(alloc, checked, &levels.sorted, first, Goal::To(first))?;
         return Err(WalkFault::Loop { cycle });
     }
-    let path = way(alloc, net, &levels.sorted, first, Goal::Anywhere)?;
+    let path = way(alloc, checked, &levels.sorted, first, Goal::Anywhere)?;
     Err(WalkFault::Deep { path })
 }
 
 /// The rows of the sorted levels but the first, in pieces, where the net breaks no rule on units. They are
 /// put into one piece for a net that has units, since the rules are tested over all of them.
-fn checked_rows(alloc: Global, net: &Net, levels: Levels) -> Result<Vec<Items<WalkRow>>, WalkFault>
-    requires rules { KeepsNodeRules net.now }
-    requires shapes { IsTrue (has_plain_units net.now) }
-    requires shallow { IsShallow net.now }
-    requires is_net { IsNet net.now }
+fn checked_rows(
+    alloc: Global,
+    checked: CheckedNet,
+    levels: Levels,
+) -> Result<Vec<Items<WalkRow>>, WalkFault>
+    requires shallow { IsShallow checked.net.now }
     requires some { 0 < length levels.sorted.items }
     requires room { levels.room ≤ WALK_LIMIT }
     requires walks { map row_view (flat_map (λ x. x) (drop 1 levels.sorted.items))
-        ≡ map bare_walk (live_walks net.now step_limit) }
-    ensures checks { Checks walk_fault_view result (unit_fault net.now) }
+        ≡ map bare_walk (live_walks checked.net.now step_limit) }
+    ensures checks { Checks walk_fault_view result (unit_fault checked.entry.net.now) }
     ensures rows { IfOk result (λ pieces. flat_map (λ x. x) pieces.items
         ≡ flat_map (λ x. x) (drop 1 levels.sorted.items)) }
 {
-    let units = unit_numbers(alloc, net)?;
+    let units = unit_numbers(alloc, checked.net)?;
     if units.is_empty() {
         let Levels { mut sorted, .. } = levels;
         let _still = sorted.remove(0);
         return Ok(sorted);
     }
     let rows = table_rows(alloc, levels)?;
-    check_units(alloc, net, &rows, &units)?;
+    check_units(alloc, checked, &rows, &units)?;
     let mut pieces = Vec::new(alloc);
     pieces
         .push(Items::from_vec(rows))
@@ -152,19 +190,23 @@ fn checked_rows(alloc: Global, net: &Net, levels: Levels) -> Result<Vec<Items<Wa
 
 /// Refuses a net in which a name forks on its way to a unit, or a row of units is too long or has
 /// too many slots. The rows are its live walks.
-fn check_units(alloc: Global, net: &Net, rows: &[WalkRow], units: &[u16]) -> Result<(), WalkFault>
-    requires rules { KeepsNodeRules net.now }
-    requires shapes { IsTrue (has_plain_units net.now) }
-    requires shallow { IsShallow net.now }
-    requires is_net { IsNet net.now }
-    requires walks { map row_view rows.now ≡ map bare_walk (live_walks net.now step_limit) }
-    requires units { units.now ≡ unit_numbers net.now }
-    ensures { Checks walk_fault_view result (unit_fault net.now) }
+fn check_units(
+    alloc: Global,
+    checked: CheckedNet,
+    rows: &[WalkRow],
+    units: &[u16],
+) -> Result<(), WalkFault>
+    requires shallow { IsShallow checked.net.now }
+    requires walks { map row_view rows.now
+        ≡ map bare_walk (live_walks checked.net.now step_limit) }
+    requires units { units.now ≡ unit_numbers checked.net.now }
+    ensures { Checks walk_fault_view result (unit_fault checked.entry.net.now) }
 {
-    if let Some(Fork { name, unit }) = least_fork(net, rows) {
+    checked.net.facts();
+    if let Some(Fork { name, unit }) = least_fork(checked, rows) {
         return Err(WalkFault::Fork { name, unit });
     }
-    if let Some(units) = first_chain(alloc, net, rows, units)? {
+    if let Some(units) = first_chain(alloc, checked, rows, units)? {
         return Err(WalkFault::Chain { units });
     }
     Ok(())

@@ -3,13 +3,13 @@
 ghost use Rattle.std.specs.Prelude.{◌≡◌, ◌+◌, ◌≤◌, ◌<◌, ◌∷◌, ◌||◌, not, map, filter, length, IfOk, IsTrue, None, nat_le};
 ghost use Rattle.std.specs.List.{All, list_all};
 ghost use Rattle.std.specs.List.Sorted.{IsNonDecreasingBy};
-ghost use Rattle.dn_net.specs.Terms.{KeepsNodeRules, dest_name, name_lt, steps, top, way_by};
+ghost use Rattle.dn_net.specs.Terms.{dest_name, name_lt, steps, top, way_by};
 ghost use Rattle.dn_walk.specs.declared.walks.WalkRow.{WalkRow};
 ghost use Rattle.dn_walk.specs.Terms.{bare_leads, is_cyclic, least_of, lesser_name, level_leads, row_view, start_names, walk_levels_lead};
 
 use crate::walks::WalkRow;
 use dn_base::items::Items;
-use dn_net::net::Net;
+use dn_net::checked::CheckedNet;
 use dn_net::node::{Dest, Name};
 use dn_net::step::Step;
 use std::alloc::{AllocError, Global};
@@ -76,16 +76,15 @@ pub(crate) fn is_before(name: Name, other: Name) -> bool
 /// which a row of the level of what is left leads to the goal.
 pub(crate) fn way(
     alloc: Global,
-    net: &Net,
+    checked: CheckedNet,
     levels: &[Items<WalkRow>],
     first: Name,
     goal: Goal,
 ) -> Result<Items<Name>, AllocError>
-    requires rules { KeepsNodeRules net.now }
-    requires there { first.node < length net.now }
+    requires there { first.node < length checked.net.now }
     requires sorted { All (λ level. IsNonDecreasingBy (λ (r : WalkRow). r.start) level) levels.now }
     ensures { IfOk result (λ names. names
-        ≡ first ∷ way_by (steps net.now) (walk_levels_lead goal
+        ≡ first ∷ way_by (steps checked.entry.net.now) (walk_levels_lead goal
         (map (map row_view) levels.now)) (length levels.now) first) }
 {
     let mut names = Items::new(alloc);
@@ -94,7 +93,7 @@ pub(crate) fn way(
     let mut left = levels.len();
     while left > 0 {
         left -= 1;
-        let Some(next) = least_step(net, name, levels[left].as_slice(), goal) else {
+        let Some(next) = least_step(checked, name, levels[left].as_slice(), goal) else {
             return Ok(names);
         };
         names.push(next)?;
@@ -104,14 +103,13 @@ pub(crate) fn way(
 }
 
 /// The least step of a name from which a row of the level leads to the goal.
-fn least_step(net: &Net, name: Name, level: &[WalkRow], goal: Goal) -> Option<Name>
-    requires rules { KeepsNodeRules net.now }
-    requires there { name.node < length net.now }
+fn least_step(checked: CheckedNet, name: Name, level: &[WalkRow], goal: Goal) -> Option<Name>
+    requires there { name.node < length checked.net.now }
     requires sorted { IsNonDecreasingBy (λ (r : WalkRow). r.start) level.now }
     ensures { result ≡ least_of (filter (level_leads goal
-        (map row_view level.now)) (steps net.now name)) }
+        (map row_view level.now)) (steps checked.entry.net.now name)) }
 {
-    match net.step(name) {
+    match checked.net.step(name) {
         Step::To(dests, offset) => least_leading(dests, offset, level, goal),
         Step::Accepted | Step::Stop | Step::Nothing => None,
     }

@@ -1,13 +1,25 @@
 -- One node more.
-use Rattle.std.proofs.Common.{◌≡◌, ◌∙◌, ap, sym, subst, length, ℕ, slice_get, Some}
+use Rattle.std.proofs.Common.{◌≡◌, ◌∙◌, ap, sym, subst, length, ℕ, slice_get, Some, arith}
+use Rattle.std.proofs.lemmas.Option.{slice_get-map}
+use Rattle.dn_net.proofs.Places.{length-map}
+use Rattle.dn_walk.specs.Legs.{bare_legs}
 use Rattle.dn_flat.specs.declared.reach.Reach.{Reach}
 use Rattle.dn_flat.specs.Stages.{IsReach}
 use Rattle.dn_flat.proofs.Lists.{each_pushed, length_pushed}
 use Rattle.dn_flat.proofs.stage.first_stage.Goals as goal
 
+pub of-requires : goal.of-requires
+of-requires c =
+    let all : length c.args.legs.now ≡ length c.args.checked.net.now = ap length c.requires.legs ∙ length-map bare_legs c.args.checked.net.now in
+    omega (arith, c.nodes-node-end.ensures, c.loop-node-test.true)
+
+pub first_reach-reach-requires-clause-legs : goal.first_reach-reach-requires-clause-legs
+first_reach-reach-requires-clause-legs c =
+    sym (slice_get-map bare_legs c.args.checked.net.now c.loop-node.node) ∙ ap (λ l. slice_get l c.loop-node.node) (sym c.requires.legs) ∙ c.of.ensures
+
 pub loop-node-preserved : goal.loop-node-preserved
 loop-node-preserved c =
-    let net = c.args.net.now in
+    let net = c.args.checked.net.now in
     let made = c.loop-node.nodes.items in
     let next = c.in_ok-reach.reach in
     let inv = c.loop-node.invariant in

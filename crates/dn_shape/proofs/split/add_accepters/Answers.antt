@@ -8,14 +8,14 @@ use Rattle.dn_shape.proofs.split.add_accepters.Goals as goal
 
 pub add_accepter-requires-clause-few : goal.add_accepter-requires-clause-few
 add_accepter-requires-clause-few c =
-    let net = c.args.net.now in
+    let net = c.args.checked.net.now in
     let r = rest_at net c.loop-node.node (omega (arith, c.nodes-node-end.ensures, c.loop-node-test.true)) in
     let rest : divided_count (drop c.loop-node.node net) ≡ new_nodes r.node + divided_count (drop (c.loop-node.node + 1) net) = ap divided_count r.rest in
     λ n at. let same : new_nodes r.node ≡ new_nodes n = ap new_nodes (one_node _ r.node n r.at at) in omega (arith, c.loop-node.invariant.few, rest, same)
 
 pub loop-node-preserved : goal.loop-node-preserved
 loop-node-preserved c =
-    let net = c.args.net.now in
+    let net = c.args.checked.net.now in
     let r = rest_at net c.loop-node.node (omega (arith, c.nodes-node-end.ensures, c.loop-node-test.true)) in
     let rest : divided_count (drop c.loop-node.node net) ≡ new_nodes r.node + divided_count (drop (c.loop-node.node + 1) net) = ap divided_count r.rest in
     let made : with_accepter c.loop-node.made r.node ≡ c.add_accepter.new.made = part_is (with_accepter c.loop-node.made) _ r.node c.add_accepter.new.made r.at c.in_ok-add_accepter.ensures in

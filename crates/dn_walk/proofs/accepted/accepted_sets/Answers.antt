@@ -5,5 +5,5 @@ use Rattle.dn_walk.proofs.accepted.accepted_sets.Goals as goal
 
 pub returns : goal.returns
 returns c =
-    let every : length c.loop-node.sets.items ≡ length c.args.net.now = omega arith in
-    record { every = every; same = every_set c.args.net.now c.loop-node.sets.items every (λ n a l. c.loop-node.invariant.same n a (omega arith)) }
+    let every : length c.loop-node.sets.items ≡ length c.args.checked.net.now = omega arith in
+    record { every = every; same = every_set c.args.checked.net.now c.loop-node.sets.items every (λ n a l. c.loop-node.invariant.same n a (omega arith)) }

@@ -7,5 +7,5 @@ use Rattle.dn_walk.proofs.accepted.accepted_sets.Given as goal
 abbrev pub invariant-loop-node : goal.invariant-loop-node
 invariant-loop-node l = record {
   every : length l.sets.items ≡ l.node;
-  same : (n a : ℕ) → n < l.node → has (get_or l.sets.items n []) a ≡ is_accepted_at a (slice_get l.net n);
+  same : (n a : ℕ) → n < l.node → has (get_or l.sets.items n []) a ≡ is_accepted_at a (slice_get l.checked.net.now n);
 }

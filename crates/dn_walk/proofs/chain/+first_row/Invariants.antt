@@ -7,4 +7,4 @@ abbrev pub decreases-first_row : goal.decreases-first_row
 decreases-first_row l = l.left
 
 abbrev pub invariant-loop-unit : goal.invariant-loop-unit
-invariant-loop-unit l = first_over l.net l.next l.left l.most l.units ≡ first_over l.net l.next l.left l.most (drop l.unit-index l.units)
+invariant-loop-unit l = first_over l.checked.net.now l.next l.left l.most l.units ≡ first_over l.checked.net.now l.next l.left l.most (drop l.unit-index l.units)

@@ -7,5 +7,5 @@ use Rattle.dn_walk.proofs.leads.next_units.Given as goal
 abbrev pub invariant-loop-node : goal.invariant-loop-node
 invariant-loop-node l = record {
   size : length l.next.items ≡ l.node;
-  each : (u : ℕ) → u < l.node → get_or l.next.items u [] ≡ next_units_by (leads_by_lows l.nodes l.lows.items) l.units (unit_at l.net u);
+  each : (u : ℕ) → u < l.node → get_or l.next.items u [] ≡ next_units_by (leads_by_lows l.nodes l.lows.items) l.units (unit_at l.checked.net.now u);
 }

@@ -11,11 +11,10 @@ use Rattle.dn_net.specs.WalkRules.{Broken, walk_limit, endless_fault, unit_fault
 use Rattle.dn_net.specs.Walks.{live_walks}
 use Rattle.dn_net.specs.declared.node.NodeDecl.{NodeDecl}
 use Rattle.dn_net.specs.declared.node.Name.{Name}
-use Rattle.dn_walk.specs.declared.leg.Leg.{Leg}
 use Rattle.dn_walk.specs.declared.level.Levels.{Levels}
 use Rattle.dn_walk.specs.declared.walks.WalkRow.{WalkRow}
 use Rattle.dn_walk.specs.Rows.{bare_walk, row_view}
-use Rattle.dn_walk.specs.Legs.{bare_legs}
+use Rattle.dn_walk.specs.Legs.{Leg, bare_legs}
 use Rattle.dn_walk.specs.Levels.{AreWalkLevels, bare_level, bare_levels, bare_walks}
 use Rattle.dn_walk.specs.Ways.{least_of, shown_cycle, shown_path, start_names}
 use Rattle.dn_net.proofs.Kept.{none_broken}
@@ -29,8 +28,8 @@ use Rattle.dn_walk.proofs.walks.walks.Goals as goal
 use Rattle.dn_walk.proofs.walks.walks.Goals.{In_ok-levels-2, In_ok-levels-3, In_ok-check_newest-2, then-levels-test+else-not-is_empty, else-levels-test}
 
 -- levels made from the legs of the net
-same_levels : (net : List NodeDecl) (legs now : List (List Leg)) (l : Levels) → now ≡ legs → legs ≡ map bare_legs net → AreWalkLevels now l → AreWalkLevels (map bare_legs net) l
-same_levels net legs now l e f h = subst (λ x. AreWalkLevels x l) (e ∙ f) h
+same_levels : (net : List NodeDecl) (legs : List (List Leg)) (l : Levels) → legs ≡ map bare_legs net → AreWalkLevels legs l → AreWalkLevels (map bare_legs net) l
+same_levels net legs l e h = subst (λ x. AreWalkLevels x l) e h
 
 wide_broken : (P : Type 0) (found o : Option Broken) → (P → found ≡ Some is_wide) → IfSome o (λ b. (b ≡ is_wide) × P) → IfSome o (λ b. found ≡ Some b)
 wide_broken P found None f h = tt
@@ -96,13 +95,13 @@ deep_at net checked k c names s l (inr e) a w told =
     cc
 
 -- a level more that is too wide breaks the rule on how many walks there are
-too_wide : (net : List NodeDecl) (legs now : List (List Leg)) (k : ℕ) → KeepsNodeRules net → now ≡ legs → legs ≡ map bare_legs net → Acyclic net k → k ≤ 64 → walk_limit < length (bare_walks now (k + 1)) → walk_fault net ≡ Some is_wide
-too_wide net legs now k rules e f acyclic shallow w =
-    first_part net is_wide (wide_is net rules k acyclic shallow (subst (λ x. walk_limit < length (bare_walks x (k + 1))) (e ∙ f) w))
+too_wide : (net : List NodeDecl) (legs : List (List Leg)) (k : ℕ) → KeepsNodeRules net → legs ≡ map bare_legs net → Acyclic net k → k ≤ 64 → walk_limit < length (bare_walks legs (k + 1)) → walk_fault net ≡ Some is_wide
+too_wide net legs k rules e acyclic shallow w =
+    first_part net is_wide (wide_is net rules k acyclic shallow (subst (λ x. walk_limit < length (bare_walks x (k + 1))) e w))
 
 -- the levels after a turn are those of the net, and there are 64 of them at most
 turned : (c : In_ok-levels-2) → AreWalkLevels (map bare_legs c.args.net.now) c.in_ok-levels-2.levels
-turned c = same_levels c.args.net.now c.in_ok-legs.legs.items c.deref.result.now c.in_ok-levels-2.levels c.deref.ensures.value c.in_ok-legs.ensures.legs c.in_ok-levels-2.ensures.levels
+turned c = same_levels c.args.net.now c.in_ok-legs.legs c.in_ok-levels-2.levels c.in_ok-legs.ensures c.in_ok-levels-2.ensures.levels
 
 turned_few : (c : In_ok-levels-2) → length c.levels.levels.sorted.items < 64
 turned_few c =
@@ -111,7 +110,7 @@ turned_few c =
 
 -- so are those with the last one
 ended : (c : In_ok-levels-3) → AreWalkLevels (map bare_legs c.args.net.now) c.in_ok-levels-3.levels
-ended c = same_levels c.args.net.now c.in_ok-legs.legs.items c.deref-2.result.now c.in_ok-levels-3.levels c.deref-2.ensures.value c.in_ok-legs.ensures.legs c.in_ok-levels-3.ensures.levels
+ended c = same_levels c.args.net.now c.in_ok-legs.legs c.in_ok-levels-3.levels c.in_ok-legs.ensures c.in_ok-levels-3.ensures.levels
 
 -- where the last one has no walk, no rule on cycles and depth is broken
 sound : (c : In_ok-check_newest-2) → AreWalkLevels (map bare_legs c.args.net.now) c.in_ok-levels-3.levels → Legal c.args.net.now (length c.levels.levels.sorted.items)
@@ -131,11 +130,11 @@ tabled net l k one h legal =
 
 pub with_next-requires-clause-legs : goal.with_next-requires-clause-legs
 with_next-requires-clause-legs c =
-    all_legs_of c.args.net.now c.requires.rules c.deref.result.now (c.deref.ensures.value ∙ c.in_ok-legs.ensures.legs)
+    all_legs_of c.args.net.now c.requires.rules c.in_ok-legs.legs c.in_ok-legs.ensures
 
 pub with_next-requires-2-clause-legs : goal.with_next-requires-2-clause-legs
 with_next-requires-2-clause-legs c =
-    all_legs_of c.args.net.now c.requires.rules c.deref-2.result.now (c.deref-2.ensures.value ∙ c.in_ok-legs.ensures.legs)
+    all_legs_of c.args.net.now c.requires.rules c.in_ok-legs.legs c.in_ok-legs.ensures
 
 pub levels-preserved : goal.levels-preserved
 levels-preserved c =
@@ -156,14 +155,14 @@ levels-preserved c =
 pub returns-in_err-levels-2-clause-checks : goal.returns-in_err-levels-2-clause-checks
 returns-in_err-levels-2-clause-checks c =
     let inv = c.levels.invariant in
-    let wide = too_wide c.args.net.now c.in_ok-legs.legs.items c.deref.result.now (length c.levels.levels.sorted.items) c.requires.rules c.deref.ensures.value c.in_ok-legs.ensures.legs inv.acyclic inv.shallow in
+    let wide = too_wide c.args.net.now c.in_ok-legs.legs (length c.levels.levels.sorted.items) c.requires.rules c.in_ok-legs.ensures inv.acyclic inv.shallow in
     let p = err_from_is_err_and c.from_residual-in_err-levels-2.result c.from_residual-in_err-levels-2.ensures.1 in
     rw (p.1, p.2) (wide_broken _ _ _ wide c.in_err-levels-2.ensures.wide)
 
 pub returns-in_err-levels-3-clause-checks : goal.returns-in_err-levels-3-clause-checks
 returns-in_err-levels-3-clause-checks c =
     let inv = c.levels.invariant in
-    let wide = too_wide c.args.net.now c.in_ok-legs.legs.items c.deref-2.result.now (length c.levels.levels.sorted.items) c.requires.rules c.deref-2.ensures.value c.in_ok-legs.ensures.legs inv.acyclic inv.shallow in
+    let wide = too_wide c.args.net.now c.in_ok-legs.legs (length c.levels.levels.sorted.items) c.requires.rules c.in_ok-legs.ensures inv.acyclic inv.shallow in
     let p = err_from_is_err_and c.from_residual-in_err-levels-3.result c.from_residual-in_err-levels-3.ensures.1 in
     rw (p.1, p.2) (wide_broken _ _ _ wide c.in_err-levels-3.ensures.wide)
 
@@ -253,4 +252,5 @@ returns-clause-walks c =
       legal = (legal_breaks_no_rule net c.facts.ensures c.requires.rules.closed).0 (none_broken net c.requires.rules.each, c.requires.shapes, second_part net legal.none ∙ c.in_ok-pieces.ensures.checks);
       same = ap (map row_view) c.in_ok-pieces.ensures.rows ∙ tabled net c.in_ok-levels-3.levels (length c.levels.levels.sorted.items) c.in_ok-levels-3.ensures.one_more h legal;
       accepted = c.in_ok-accepted_sets.ensures;
+      legs = c.in_ok-legs.ensures;
     }

@@ -16,9 +16,9 @@ returns-in_default c =
     let left : c.loop-left.left ≡ suc k = omega arith in
     let there : k < length c.args.levels.now = omega (arith, c.loop-left.invariant.within) in
     let at = level_at c.args.goal c.args.levels.now k c.index-levels-left.result c.as_slice.result.now there c.index-levels-left.is c.as_slice.ensures in
-    let none : least_of (filter (leads k) (steps c.args.net.now c.loop-left.name)) ≡ None = ap (λ t. least_of (filter t (steps c.args.net.now c.loop-left.name))) (sym at) ∙ sym c.least_step.ensures ∙ c.in_default.is in
+    let none : least_of (filter (leads k) (steps c.args.checked.net.now c.loop-left.name)) ≡ None = ap (λ t. least_of (filter t (steps c.args.checked.net.now c.loop-left.name))) (sym at) ∙ sym c.least_step.ensures ∙ c.in_default.is in
     sym (append-nil c.loop-left.names)
-    ∙ ap (λ l. c.loop-left.names ++ l) (sym (way_ends (steps c.args.net.now) leads c.loop-left.left k c.loop-left.name left none))
+    ∙ ap (λ l. c.loop-left.names ++ l) (sym (way_ends (steps c.args.checked.net.now) leads c.loop-left.left k c.loop-left.name left none))
     ∙ c.loop-left.invariant.way
 
 pub loop-left-preserved : goal.loop-left-preserved
@@ -29,12 +29,12 @@ loop-left-preserved c =
     let left : c.loop-left.left ≡ suc k = omega arith in
     let there : k < length c.args.levels.now = omega (arith, c.loop-left.invariant.within) in
     let at = level_at c.args.goal c.args.levels.now k c.index-levels-left.result c.as_slice.result.now there c.index-levels-left.is c.as_slice.ensures in
-    let some : least_of (filter (leads k) (steps c.args.net.now c.loop-left.name)) ≡ Some z = ap (λ t. least_of (filter t (steps c.args.net.now c.loop-left.name))) (sym at) ∙ sym c.least_step.ensures ∙ c.in-Some.is in
+    let some : least_of (filter (leads k) (steps c.args.checked.net.now c.loop-left.name)) ≡ Some z = ap (λ t. least_of (filter t (steps c.args.checked.net.now c.loop-left.name))) (sym at) ∙ sym c.least_step.ensures ∙ c.in-Some.is in
     record {
       within = omega (arith, c.loop-left.invariant.within);
-      there = step_there c.args.net.now c.requires.rules (leads k) c.loop-left.name z some;
-      way = ap (λ l. l ++ way_by (steps c.args.net.now) leads k z) c.in_ok-push-2.ensures.ok
-          ∙ append_assoc c.loop-left.names (z ∷ []) (way_by (steps c.args.net.now) leads k z)
-          ∙ ap (λ l. c.loop-left.names ++ l) (sym (way_goes (steps c.args.net.now) leads c.loop-left.left k c.loop-left.name z left some))
+      there = step_there c.args.checked.net.now c.args.checked.rules (leads k) c.loop-left.name z some;
+      way = ap (λ l. l ++ way_by (steps c.args.checked.net.now) leads k z) c.in_ok-push-2.ensures.ok
+          ∙ append_assoc c.loop-left.names (z ∷ []) (way_by (steps c.args.checked.net.now) leads k z)
+          ∙ ap (λ l. c.loop-left.names ++ l) (sym (way_goes (steps c.args.checked.net.now) leads c.loop-left.left k c.loop-left.name z left some))
           ∙ c.loop-left.invariant.way;
     }

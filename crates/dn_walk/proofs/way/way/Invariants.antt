@@ -9,8 +9,8 @@ use Rattle.dn_walk.proofs.way.way.Given as goal
 abbrev pub invariant-loop-left : goal.invariant-loop-left
 invariant-loop-left l = record {
   within : l.left ≤ length l.levels;
-  there : l.name.node < length l.net;
-  way : l.names ++ way_by (steps l.net) (walk_levels_lead l.goal (map (map row_view) l.levels)) l.left l.name ≡ l.fn.first ∷ way_by (steps l.net) (walk_levels_lead l.goal (map (map row_view) l.levels)) (length l.levels) l.fn.first;
+  there : l.name.node < length l.checked.net.now;
+  way : l.names ++ way_by (steps l.checked.net.now) (walk_levels_lead l.goal (map (map row_view) l.levels)) l.left l.name ≡ l.fn.first ∷ way_by (steps l.checked.net.now) (walk_levels_lead l.goal (map (map row_view) l.levels)) (length l.levels) l.fn.first;
 }
 
 abbrev pub decreases-loop-left : goal.decreases-loop-left
