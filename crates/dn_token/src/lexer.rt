@@ -169,8 +169,8 @@ fn front<'a>(text: &'a [u8]) -> Option<(Lexeme<'a>, &'a [u8])>
 /// What a run is that begins with a letter.
 #[inline(always)]
 fn word_lexeme<'a>(run: &'a [u8]) -> Lexeme<'a>
-    requires { IsAscii word_run.now }
-    ensures { lexeme_view result ≡ word_lexeme word_run.now }
+    requires { IsAscii run.now }
+    ensures { lexeme_view result ≡ word_lexeme run.now }
 {
     // A run is ASCII, as the `requires` says.
     let word = unsafe { str::from_utf8_unchecked(run) };
