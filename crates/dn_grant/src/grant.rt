@@ -71,8 +71,7 @@ pub fn grant<D: Tables>(
     ensures counted { IsCounted (D.faults device.old) (D.faults device.new)
         (is_grant_fault result) }
 {
-    let checked = CheckedNet { net: system.net };
-    if let Some(why) = refusal(book, checked, id, request) {
+    if let Some(why) = refusal(book, CheckedNet { net: system.net }, id, request) {
         return Err(why);
     }
     let placement = match first_in_book(alloc, book, system, request, None) {
