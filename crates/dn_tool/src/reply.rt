@@ -22,13 +22,13 @@ use dn_flat::flats::Flats;
 use dn_image::write::VERSION;
 use dn_interval::Rows;
 use dn_kind::rights::Access;
-use dn_lookup::lookup::lookup_whole;
+use dn_lookup::lookup::lookup_by;
 use dn_module::command::{Command, Target};
 use dn_net::net::Net;
 use dn_net::node::{Name, Role};
 use dn_parse::syntax::Mode;
 use dn_print::{names, rows};
-use dn_view::resolve::resolve;
+use dn_view::resolve::resolve_by;
 use dn_view::system::System;
 use dn_view::view::{fixed_view, view};
 use std::alloc::{AllocError, Global};
@@ -79,8 +79,10 @@ pub fn reply(
         Command::View(target, mode) => {
             Ok(view_reply(alloc, machine, state, target, *mode)?.into_bytes())
         }
-        Command::Split => reshape::split_reply(alloc, machine),
-        Command::Absorb(target) => reshape::absorb_reply(alloc, machine, target),
+        Command::Split => reshape::split_reply(alloc, machine, &mut state.unmade.split),
+        Command::Absorb(target) => {
+            reshape::absorb_reply(alloc, machine, &mut state.unmade.unfit, target)
+        }
         _ => unreachable!(),
     }
 }
@@ -131,14 +133,15 @@ fn names_of(alloc: Global, net: &Net, found: &[Name]) -> Result<String, AllocErr
 fn resolve_reply(
     alloc: Global,
     machine: Machine,
-    state: &State,
+    state: &mut State,
     question: Question,
 ) -> Result<String, AllocError>
-    requires ready { IsReady meaning machine state.now }
+    requires ready { IsReady meaning machine state.old }
     requires there { IsTrue (over_within (length machine.net.now) question.target.now.node) }
-    ensures { IfOk result (λ s. string_bytes s ≡
-        resolve_text machine.entry.net.now state.now.book.grants
+    ensures reply { IfOk result (λ s. string_bytes s ≡
+        resolve_text machine.entry.net.now state.old.book.grants
         question.entry.target.now question.entry.addr question.entry.mode) }
+    ensures still { IsStill meaning machine.entry state.old state.new }
 {
     let Some(node) = question.target.node else {
         return asked_text(alloc, question, "no such node");
@@ -149,28 +152,29 @@ fn resolve_reply(
     asked_text(alloc, question, found.as_str())
 }
 
-/// The names to which a name resolves under the tables.
+/// The names to which a name resolves under the tables, by what the nodes of the net reach, which is made
+/// once.
 fn node_names(
     alloc: Global,
     machine: Machine,
-    state: &State,
+    state: &mut State,
     access: Access,
     name: Name,
 ) -> Result<String, AllocError>
-    requires ready { IsReady meaning machine state.now }
+    requires ready { IsReady meaning machine state.old }
     requires there { name.node < length machine.net.now }
-    ensures { IfOk result (λ s. string_bytes s ≡ names_text machine.entry.net.now
-        (names_under machine.entry.net.now state.now.book.grants access name)) }
+    ensures reply { IfOk result (λ s. string_bytes s ≡ names_text machine.entry.net.now
+        (names_under machine.entry.net.now state.old.book.grants access name)) }
+    ensures still { IsStill meaning machine.entry state.old state.new }
 {
-    let found = resolve(
-        alloc,
-        machine.net,
-        machine.kinds,
-        state.book.tables(),
-        name,
-        access,
-    )?;
-    names_of(alloc, machine.net, found.list())
+    keep_flats(alloc, machine, &mut state.flats)?;
+    let Some(flats) = &state.flats else {
+        unreachable!()
+    };
+    let Machine { net, kinds, .. } = machine;
+    let system = System { net, flats, kinds };
+    let found = resolve_by(alloc, system, state.book.tables(), name, access)?;
+    names_of(alloc, net, found.list())
 }
 
 /// The reply to `lookup`, from the bytes of the present image.
@@ -213,21 +217,28 @@ fn agent_names(
     ensures still { IsStill meaning machine.entry state.old state.new }
 {
     keep_image(alloc, machine, state.book.tables(), &mut state.image)?;
+    keep_flats(alloc, machine, &mut state.flats)?;
     let Some(image) = &state.image else {
         unreachable!()
     };
-    image_names(alloc, machine, image.as_slice(), access, name)
+    let Some(flats) = &state.flats else {
+        unreachable!()
+    };
+    image_names(alloc, machine, flats, image.as_slice(), access, name)
 }
 
-/// The names to which an agent's name comes in the bytes of an image that the program wrote.
+/// The names to which an agent's name comes in the bytes of an image that the program wrote, by what the nodes
+/// of the net reach.
 fn image_names(
     alloc: Global,
     machine: Machine,
+    flats: &Flats,
     image: &[u8],
     access: Access,
     name: Name,
 ) -> Result<String, AllocError>
     requires machine { IsMachine meaning machine }
+    requires flats { AreFlats machine.net.now flats.now }
     requires agent { IsTrue (is_agent_at (slice_get machine.net.now name.node)) }
     requires whole { broken_image machine.net.now
         (kinds_of meaning machine) image.now ≡ None }
@@ -236,16 +247,10 @@ fn image_names(
         (kinds_of meaning machine.entry) image.now access name ≡ Ok names →
         IfOk result (λ s. string_bytes s ≡ names_text machine.entry.net.now names) }
 {
-    let found = lookup_whole(
-        alloc,
-        machine.net,
-        machine.kinds,
-        image,
-        VERSION,
-        access,
-        name,
-    )?;
-    names_of(alloc, machine.net, found.list())
+    let Machine { net, kinds, .. } = machine;
+    let system = System { net, flats, kinds };
+    let found = lookup_by(alloc, system, image, VERSION, access, name)?;
+    names_of(alloc, net, found.list())
 }
 
 /// The reply to `view`.

@@ -21,8 +21,8 @@ names_of-requires g c =
     let found : c.list.result.now ≡ resolved_names_under net h c.args.name = c.list.ensures.value ∙ c.in_ok-found.ensures.names in
     subst (λ (l : List Name). IsTrue (are_there (length net) l)) (sym found) (resolved_under_there net h c.args.name)
 
-pub returns : goal.returns
-returns g c =
+pub returns-clause-reply : goal.returns-clause-reply
+returns-clause-reply g c =
     let kinds : List Meaning = map (λ k. (goal.UnitKind-dyn g (k.vtable, k.value)).meaning k.value) c.args.machine.kinds.now.list.items in
     let net : List NodeDecl = c.args.machine.net.now in
     let book = c.args.state.now.book in
