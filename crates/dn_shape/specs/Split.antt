@@ -109,7 +109,7 @@ abbrev pub parts_when_split : NodeDecl → ℕ
 parts_when_split n =
     if is_divided n
     then length (maximal_spans n.accepts)
-        + (length (maximal_spans n.accepts) + (length n.entries + (if is_some n.over then 1 else 0)))
+    + (length (maximal_spans n.accepts) + (length n.entries + (if is_some n.over then 1 else 0)))
     else parts_of_node n
 
 -- those of all nodes

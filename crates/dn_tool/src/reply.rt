@@ -24,11 +24,12 @@ use dn_interval::Rows;
 use dn_kind::rights::Access;
 use dn_lookup::lookup::lookup_by;
 use dn_module::command::{Command, Target};
+use dn_net::names::Names;
 use dn_net::net::Net;
 use dn_net::node::{Name, Role};
 use dn_parse::syntax::Mode;
 use dn_print::{names, rows};
-use dn_view::resolve::resolve_by;
+use dn_view::resolve::{resolve_by, resolve_few};
 use dn_view::system::System;
 use dn_view::view::{fixed_view, view};
 use std::alloc::{AllocError, Global};
@@ -152,8 +153,8 @@ fn resolve_reply(
     asked_text(alloc, question, found.as_str())
 }
 
-/// The names to which a name resolves under the tables, by what the nodes of the net reach, which is made
-/// once.
+/// The names to which a name resolves under the tables. Where it leads to many, or what the nodes of the net reach is
+/// kept, it goes by that, which is made once.
 fn node_names(
     alloc: Global,
     machine: Machine,
@@ -167,6 +168,9 @@ fn node_names(
         (names_under machine.entry.net.now state.old.book.grants access name)) }
     ensures still { IsStill meaning machine.entry state.old state.new }
 {
+    if let Some(found) = few_names(alloc, machine, state, access, name)? {
+        return names_of(alloc, machine.net, found.list());
+    }
     keep_flats(alloc, machine, &mut state.flats)?;
     let Some(flats) = &state.flats else {
         unreachable!()
@@ -175,6 +179,30 @@ fn node_names(
     let system = System { net, flats, kinds };
     let found = resolve_by(alloc, system, state.book.tables(), name, access)?;
     names_of(alloc, net, found.list())
+}
+
+/// The names to which a name resolves under the tables, where it leads to few and what the nodes of the net reach is
+/// not kept.
+fn few_names(
+    alloc: Global,
+    machine: Machine,
+    state: &State,
+    access: Access,
+    name: Name,
+) -> Result<Option<Names>, AllocError>
+    requires ready { IsReady meaning machine state.now }
+    requires there { name.node < length machine.net.now }
+    ensures names { IfOk result (λ found. IfSome found (λ names. names
+        ≡ names_under machine.entry.net.now state.now.book.grants access name)) }
+    // Each name is in a node that is there.
+    ensures there { IfOk result (λ found. IfSome found
+        (λ names. IsTrue (are_there (length machine.entry.net.now) names))) }
+{
+    if state.flats.is_some() {
+        return Ok(None);
+    }
+    let tables = state.book.tables();
+    resolve_few(alloc, machine.net, machine.kinds, tables, name, access)
 }
 
 /// The reply to `lookup`, from the bytes of the present image.

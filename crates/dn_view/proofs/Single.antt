@@ -167,8 +167,8 @@ pub names_are : (net : List NodeDecl) (h : Held) (x : Name) (found : List Name) 
 names_are net h x found is =
     let all = passing_names (is_accepted net) (reached_names (steps_under net h) step_limit_under (x ∷ [])) in
     sorted_same found all (λ z.
-      let e = end_names_are_ends (steps_under net h) (is_accepted net) step_limit_under x z in
-      ((λ m. (names_in all z).0 (e.1 ((is z).0 m))), (λ m. (is z).1 (e.0 ((names_in all z).1 m)))))
+    let e = end_names_are_ends (steps_under net h) (is_accepted net) step_limit_under x z in
+    ((λ m. (names_in all z).0 (e.1 ((is z).0 m))), (λ m. (is z).1 (e.0 ((names_in all z).1 m)))))
 
 -- the names that segments give to the first address of a name's segment
 pub given_names : (net : List NodeDecl) (h : Held) (x : Name) (s : Seg) → IsAlone x s → (shown : List Seg) (old new : List Name) → old ≡ [] → ((z : Name) → has_name new z ≡ (has_name old z || segs_give shown x.addr (end_of z))) → ((z : End) → (segs_give shown s.span.lo z ≡ true) ↔ ResolvesFromUnder net h s.node s.base z) → (z : Name) → Member z new ↔ ResolvesUnder net h x z

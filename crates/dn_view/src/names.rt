@@ -76,11 +76,7 @@ pub(crate) fn seg_of(name: Name) -> Option<Seg>
 }
 
 /// Adds the names that segments give to an address.
-pub(crate) fn push_given(
-    found: &mut Vec<Name>,
-    segs: &[Seg],
-    addr: u64,
-) -> Result<(), OutOfMemory>
+pub(crate) fn push_given(found: &mut Vec<Name>, segs: &[Seg], addr: u64) -> Result<(), OutOfMemory>
     ensures { OnOk result (AddsGiven segs.now addr found.old.items found.new.items) }
 {
     for seg in segs {

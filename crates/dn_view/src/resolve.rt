@@ -1,7 +1,7 @@
 //! What one name resolves to under tables: level by level, where each level has the names one step on
 //! from those of the level before it.
 
-ghost use Rattle.std.specs.Prelude.{◌≡◌, ◌++◌, ◌↔◌, [], ◌∷◌, ◌<◌, length, map, IfOk, OnOk, IsTrue};
+ghost use Rattle.std.specs.Prelude.{◌≡◌, ◌++◌, ◌↔◌, [], ◌∷◌, ◌<◌, length, map, IfOk, IfSome, OnOk, IsTrue};
 ghost use Rattle.std.specs.List.{All};
 ghost use Rattle.dn_interval.specs.declared.row.End.{End};
 ghost use Rattle.dn_interval.specs.Terms.{segs_give};
@@ -28,7 +28,11 @@ use dn_net::step::Step;
 use dn_tables::set::TableSet;
 use std::alloc::Global;
 
-/// What a name resolves to for an access under the tables. `Err` is want of memory.
+/// How many names are few enough to be followed one by one.
+const FEW: usize = 128;
+
+/// What a name resolves to for an access under the tables, which goes over each name on the way. `Err` is want of
+/// memory.
 pub fn resolve(
     alloc: Global,
     net: &Net,
@@ -63,6 +67,43 @@ pub fn resolve(
         )?;
     }
     set_of(alloc, accepted)
+}
+
+/// The same of a name that leads to few, which are followed one by one. None where there are more, and then it says
+/// nothing. `Err` is want of memory.
+pub fn resolve_few(
+    alloc: Global,
+    net: &Net,
+    kinds: &Kinds,
+    tables: &TableSet,
+    name: Name,
+    access: Access,
+) -> Result<Option<Names>, OutOfMemory>
+    requires lawful { All (λ k. IsLawful (meaning (k.vtable, k.value))) kinds.now.list.items }
+    requires legal { IsLegalWith
+        (map (λ k. meaning (k.vtable, k.value)) kinds.now.list.items) net.now }
+    requires fits { FitsNet net.now
+        (map (λ k. meaning (k.vtable, k.value)) kinds.now.list.items) tables.now }
+    requires there { name.node < length net.now }
+    ensures names { IfOk result (λ found. IfSome found (λ names. names
+        ≡ resolved_names_under net.now (allowing access
+        (record_kept (map (λ k. meaning (k.vtable, k.value)) kinds.now.list.items) tables.now)) name)) }
+{
+    let mut accepted = Vec::new(alloc);
+    let mut level = first_level(alloc, name)?;
+    let mut room = FEW;
+    for _ in 0..LEVELS {
+        let names = level.list();
+        if names.is_empty() {
+            break;
+        }
+        if room < names.len() {
+            return Ok(None);
+        }
+        room -= names.len();
+        level = next_level(alloc, net, kinds, tables, access, names, &mut accepted)?;
+    }
+    Ok(Some(set_of(alloc, accepted)?))
 }
 
 /// The same, by what the nodes of the net reach: time of the levels of the nodes on the way, and of the names
