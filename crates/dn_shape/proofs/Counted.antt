@@ -12,15 +12,15 @@ parts_append [] ys = omega arith
 parts_append (n ∷ xs) ys = let e = parts_append xs ys in omega (arith, e)
 
 -- how many spans the new node for a node has
-spans_for : NodeDecl → ℕ
+abbrev spans_for : NodeDecl → ℕ
 spans_for n = if is_divided n then length (maximal_spans n.accepts) else 0
 
 -- the entries of a node, and its `over`
-ways : NodeDecl → ℕ
+abbrev ways : NodeDecl → ℕ
 ways n = length n.entries + (if is_some n.over then 1 else 0)
 
 -- the parts of an old node of the split net
-old_parts : NodeDecl → ℕ
+abbrev old_parts : NodeDecl → ℕ
 old_parts n = if is_divided n then length (maximal_spans n.accepts) + ways n else parts_of_node n
 
 both_parts : (n : NodeDecl) → parts_when_split n ≡ old_parts n + spans_for n

@@ -12,7 +12,7 @@ use Rattle.dn_shape.specs.Absorb.{entry_of_row, is_rewritten, node_led_past, nod
 use Rattle.dn_shape.specs.Limits.{part_limit, dest_limit, parts_of_net, has_long_entry, net_of_few_parts, node_of_few_parts, passed_limit}
 
 -- the limit that is passed, by the tests of the three
-limit_by : Bool → Bool → Bool → Option ℕ
+abbrev limit_by : Bool → Bool → Bool → Option ℕ
 limit_by nodes parts dests = if nodes then Some node_limit else (if parts then Some part_limit else (if dests then Some dest_limit else None))
 
 -- more nodes than there may be
@@ -49,18 +49,12 @@ parts_some net made = by (nat_lt part_limit (parts_of_net net))
 pub long_passed : (net made : List NodeDecl) → length net ≤ node_limit → net_of_few_parts net ≡ Some made → list_any has_long_entry made ≡ true → passed_limit net ≡ Some dest_limit
 long_passed net made l e long =
     let s = parts_some net made e in
-    few_parts net l s.1 ∙ ap (λ n. limit_by false false (list_any has_long_entry n)) (made_back net made s.0) ∙ ap (limit_by false false) long
-  where
-    made_back : (xs ys : List NodeDecl) → ys ≡ xs → xs ≡ ys
-    made_back xs ys refl = refl
+    few_parts net l s.1 ∙ ap (λ n. limit_by false false (list_any has_long_entry n)) (sym s.0) ∙ ap (limit_by false false) long
 
 pub none_passed : (net made : List NodeDecl) → length net ≤ node_limit → net_of_few_parts net ≡ Some made → list_any has_long_entry made ≡ false → passed_limit net ≡ None
 none_passed net made l e short =
     let s = parts_some net made e in
-    few_parts net l s.1 ∙ ap (λ n. limit_by false false (list_any has_long_entry n)) (made_back net made s.0) ∙ ap (limit_by false false) short
-  where
-    made_back : (xs ys : List NodeDecl) → ys ≡ xs → xs ≡ ys
-    made_back xs ys refl = refl
+    few_parts net l s.1 ∙ ap (λ n. limit_by false false (list_any has_long_entry n)) (sym s.0) ∙ ap (limit_by false false) short
 
 -- the same of a node and the room that is left
 pub node_none : (room : ℕ) (n : NodeDecl) → node_of_few_parts room n ≡ None → room < parts_of_node n

@@ -36,7 +36,8 @@ pub fn split(alloc: Global, net: &Net) -> Result<Net, SplitFault>
             limit: MAX_NODES as u32,
         });
     }
-    if has_many_parts(alloc, CheckedNet { net }).or(Err(SplitFault::OutOfMemory))? {
+    let many = has_many_parts(alloc, CheckedNet { net }).or(Err(SplitFault::OutOfMemory))?;
+    if many {
         return Err(SplitFault::TooMany { limit: MAX_PARTS });
     }
     let mut made = sending_nodes(alloc, net).or(Err(SplitFault::OutOfMemory))?;

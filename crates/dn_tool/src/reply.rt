@@ -13,11 +13,14 @@ ghost use Rattle.dn_image.specs.Terms.{broken_image, version_of, written_version
 ghost use Rattle.dn_lookup.specs.Terms.{lookup_of};
 ghost use Rattle.dn_book.specs.Terms.{owed_names};
 ghost use Rattle.dn_print.specs.Terms.{names_text};
-ghost use Rattle.dn_tool.specs.Terms.{IsFirstView, IsMachine, IsReady, IsStill, access_of, access_text, asked_text, is_change, is_dump, kinds_of, lookup_text, names_under, no_agent_text, owed_rows, reply, resolve_text, view_text, viewed_text};
+ghost use Rattle.dn_tool.specs.Terms.{HaltsBySink, IsFirstView, IsMachine, IsReady, IsStill, Writes, access_of, access_text, asked_text, is_change, is_dump, is_view, kinds_of, lookup_text, names_under, no_agent_text, owed_rows, reply, resolve_text, view_heading, view_text, viewed_text};
 
+use crate::halt::Halt;
 use crate::machine::Machine;
+use crate::output::{write_output, write_rows};
 use crate::reshape;
 use crate::state::{FirstView, State, keep_first, keep_flats, keep_image};
+use dn_base::sink::Sink;
 use dn_flat::flats::Flats;
 use dn_image::write::VERSION;
 use dn_interval::Rows;
@@ -28,7 +31,7 @@ use dn_net::names::Names;
 use dn_net::net::Net;
 use dn_net::node::{Name, Role};
 use dn_parse::syntax::Mode;
-use dn_print::{names, rows};
+use dn_print::names;
 use dn_view::resolve::{resolve_by, resolve_few};
 use dn_view::system::System;
 use dn_view::view::{fixed_view, view};
@@ -42,9 +45,8 @@ struct Question<'a> {
     mode: Mode,
 }
 
-/// The reply to a command that changes nothing, other than `dump`: a line, and below that of `view` a
-/// line for each row, and below that of `split` and `absorb` a line for each node of the net that is
-/// made. `Err` is want of memory.
+/// The reply to a command that changes nothing, other than `dump` and `view`: a line, and below that of
+/// `split` and `absorb` a line for each node of the net that is made. `Err` is want of memory.
 pub fn reply(
     alloc: Global,
     machine: Machine,
@@ -54,6 +56,7 @@ pub fn reply(
     requires ready { IsReady meaning machine state.old }
     requires known { IsTrue (names_within (length machine.net.now) command.now) }
     requires no_dump { is_dump command.now ≡ false }
+    requires no_view { is_view command.now ≡ false }
     requires no_change { is_change command.now ≡ false }
     ensures reply { IfOk result (λ v. v.items ≡
         reply (kinds_of meaning machine.entry) machine.entry.net.now
@@ -76,9 +79,6 @@ pub fn reply(
                 mode: *mode,
             };
             Ok(lookup_reply(alloc, machine, state, question)?.into_bytes())
-        }
-        Command::View(target, mode) => {
-            Ok(view_reply(alloc, machine, state, target, *mode)?.into_bytes())
         }
         Command::Split => reshape::split_reply(alloc, machine, &mut state.unmade.split),
         Command::Absorb(target) => {
@@ -281,26 +281,31 @@ fn image_names(
     names_of(alloc, net, found.list())
 }
 
-/// The reply to `view`.
-fn view_reply(
+/// Writes the reply to `view`: a line, and below it a line for each row.
+pub fn view_reply<K: Sink>(
     alloc: Global,
     machine: Machine,
     state: &mut State,
     target: &Target,
     mode: Mode,
-) -> Result<String, AllocError>
+    sink: &mut K,
+) -> Result<(), Halt>
     requires ready { IsReady meaning machine state.old }
     requires there { IsTrue (over_within (length machine.net.now) target.now.node) }
-    ensures reply { IfOk result (λ s. string_bytes s ≡
-        view_text machine.entry.net.now state.old.book.grants target.now mode) }
+    ensures written { Writes result (K.written sink.old) (K.written sink.new)
+        (view_text machine.entry.net.now state.old.book.grants target.now mode) }
     ensures still { IsStill meaning machine.entry state.old state.new }
+    ensures halted { HaltsBySink result (K.faults sink.old) (K.faults sink.new) }
 {
     let text = target.text.as_str();
     match target.node {
         Some(node) if is_agent(machine.net, node) => {
-            agent_view(alloc, machine, state, text, mode, node)
+            agent_view(alloc, machine, state, text, mode, node, sink)
         }
-        _ => no_agent(alloc, text),
+        _ => {
+            let line = no_agent(alloc, text)?;
+            write_output(sink, line.as_bytes())
+        }
     }
 }
 
@@ -319,40 +324,42 @@ fn no_agent(alloc: Global, text: &str) -> Result<String, AllocError>
     format!(in alloc; "view {text} refused: NoAgent\n")
 }
 
-/// What an agent sees under the tables, below a heading with this text, the access and the number of
+/// Writes what an agent sees under the tables, below a heading with this text, the access and the number of
 /// rows. What all nodes reach is made once, and only where the agent reaches a unit, or is not the first
 /// one whose view is asked for. One that is known to see what the first sees is lent its rows.
-fn agent_view(
+fn agent_view<K: Sink>(
     alloc: Global,
     machine: Machine,
     state: &mut State,
     text: &str,
     mode: Mode,
     node: u16,
-) -> Result<String, AllocError>
+    sink: &mut K,
+) -> Result<(), Halt>
     requires ready { IsReady meaning machine state.old }
     requires agent { IsTrue (is_agent_at (slice_get machine.net.now node)) }
-    ensures reply { IfOk result (λ s. string_bytes s ≡
-        viewed_text machine.entry.net.now text.now mode
+    ensures written { Writes result (K.written sink.old) (K.written sink.new)
+        (viewed_text machine.entry.net.now text.now mode
         (owed_rows machine.entry.net.now state.old.book.grants (access_of mode) node)) }
     ensures still { IsStill meaning machine.entry state.old state.new }
+    ensures halted { HaltsBySink result (K.faults sink.old) (K.faults sink.new) }
 {
     let Machine { net, kinds, .. } = machine;
     keep_first(alloc, machine, &mut state.first, node)?;
     if let Some(rows) = first_rows(net, &state.first, node) {
-        return rows_text(alloc, net, text, mode, rows);
+        return write_view(alloc, net, text, mode, rows, sink);
     }
     keep_flats(alloc, machine, &mut state.flats)?;
     let Some(flats) = &state.flats else {
         unreachable!()
     };
     if let Some(rows) = shared_rows(net, flats, &state.first, node) {
-        return rows_text(alloc, net, text, mode, rows);
+        return write_view(alloc, net, text, mode, rows, sink);
     }
     let system = System { net, flats, kinds };
     let access = access_of(mode);
     let rows = view(alloc, system, state.book.tables(), node, access)?;
-    rows_text(alloc, net, text, mode, &rows)
+    write_view(alloc, net, text, mode, &rows, sink)
 }
 
 /// To what the addresses of a node resolve under any tables, where what it sees is kept as that of the
@@ -390,21 +397,30 @@ fn shared_rows<'a>(
     }
 }
 
-/// Rows below a heading with this text, the access and their number.
-fn rows_text(
+/// Writes rows below a heading with this text, the access and their number.
+fn write_view<K: Sink>(
     alloc: Global,
     net: &Net,
     text: &str,
     mode: Mode,
     seen: &Rows,
-) -> Result<String, AllocError>
+    sink: &mut K,
+) -> Result<(), Halt>
     requires { IsTrue (ends_within (length net.now) seen.now) }
-    ensures { IfOk result (λ s. string_bytes s ≡
-        viewed_text net.now text.now mode (map seen_view seen.now)) }
+    ensures written { Writes result (K.written sink.old) (K.written sink.new)
+        (viewed_text net.now text.now mode (map seen_view seen.now)) }
+    ensures halted { HaltsBySink result (K.faults sink.old) (K.faults sink.new) }
 {
-    let count = seen.rows().len();
+    let rows = seen.rows();
+    let heading = heading_text(alloc, text, mode, rows.len())?;
+    write_output(sink, heading.as_bytes())?;
+    write_rows(alloc, net, rows, sink)
+}
+
+/// The heading of a view: this text, the access and the number of rows.
+fn heading_text(alloc: Global, text: &str, mode: Mode, count: usize) -> Result<String, AllocError>
+    ensures { IfOk result (λ s. string_bytes s ≡ view_heading text.now mode count) }
+{
     let access = access_text(mode);
-    let mut out = format!(in alloc; "view {text}{access} rows {count}\n")?;
-    rows::push_rows(&mut out, net, seen)?;
-    Ok(out)
+    format!(in alloc; "view {text}{access} rows {count}\n")
 }

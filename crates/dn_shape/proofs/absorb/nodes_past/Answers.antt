@@ -1,6 +1,7 @@
 -- One node more, or one that has too many parts.
 use Rattle.std.proofs.Common.{rules, ◌≡◌, ◌∙◌, ◌+◌, ◌-◌, ◌≤◌, ◌++◌, ◌∷◌, [], suc, nat_lt, false, true, ap, sym, subst, drop, length, arith, List, None, Some, IsTrue, append_assoc, append-nil}
 use Rattle.std.proofs.Math.ListN.{drop_of_length-le}
+use Rattle.std.proofs.lemmas.Bool.{le-ltb}
 use Rattle.dn_base.proofs.Lists.{length-last}
 use Rattle.dn_net.specs.declared.node.NodeDecl.{NodeDecl}
 use Rattle.dn_net.specs.Decode.{is_formed}
@@ -25,17 +26,6 @@ returns-in_default c =
     let none : c.in_ok-found.found ≡ None = search rules in
     let is : node_of_few_parts room (node_past net m i r.node) ≡ None = part_is (λ n. node_of_few_parts room (node_past net m i n)) _ r.node c.in_ok-found.found r.at c.in_ok-found.ensures ∙ none in
     none_made (net_past net m) (c.loop-node.invariant.parts ∙ ap (λ l. nat_lt room (parts_of_net (nodes_past net m i l))) r.rest ∙ passed_now room (parts_of_node (node_past net m i r.node)) (parts_of_net (nodes_past net m (suc i) (drop (i + 1) net))) (node_none room (node_past net m i r.node) is))
-
-pub room-requires : goal.room-requires
-room-requires c =
-    let net = c.args.net.now in
-    let m = c.args.past in
-    let i = c.loop-node.node in
-    let r = rest_at net i (omega (arith, c.nodes-node-end.ensures, c.loop-node-test.true)) in
-    let some : c.in_ok-found.found ≡ Some c.in-Some.decl = search rules in
-    let d = node_some c.loop-node.room (node_past net m i r.node) c.in-Some.decl (part_is (λ n. node_of_few_parts c.loop-node.room (node_past net m i n)) _ r.node c.in_ok-found.found r.at c.in_ok-found.ensures ∙ some) in
-    let k : parts_of_node (node_past net m i r.node) ≡ c.parts_of.result = ap parts_of_node d.0 ∙ sym c.parts_of.ensures in
-    omega (arith, k, d.1)
 
 pub add-requires-clause-formed : goal.add-requires-clause-formed
 add-requires-clause-formed c =
@@ -66,14 +56,14 @@ loop-node-preserved c =
     let r = rest_at net i (omega (arith, c.nodes-node-end.ensures, c.loop-node-test.true)) in
     let some : c.in_ok-found.found ≡ Some c.in-Some.decl = search rules in
     let d = node_some room (node_past net m i r.node) c.in-Some.decl (part_is (λ n. node_of_few_parts room (node_past net m i n)) _ r.node c.in_ok-found.found r.at c.in_ok-found.ensures ∙ some) in
-    let k : parts_of_node (node_past net m i r.node) ≡ c.parts_of.result = ap parts_of_node d.0 ∙ sym c.parts_of.ensures in
-    let few : c.parts_of.result ≤ room = omega (arith, k, d.1) in
+    let k : parts_of_node (node_past net m i r.node) ≡ c.parts_of-room.result = ap parts_of_node d.0 ∙ sym c.parts_of-room.ensures in
+    let few : c.parts_of-room.result ≤ room = omega (arith, k, d.1) in
     let added = c.in_ok-add.ensures.ok.1 in
     let next : i + 1 ≡ suc i = omega arith in
     record {
       rest = ap (λ l. l ++ nodes_past net m (i + 1) (drop (i + 1) net)) (added ∙ ap (λ n. c.loop-node.made ++ n ∷ []) (sym d.0)) ∙ append_assoc c.loop-node.made (node_past net m i r.node ∷ []) (nodes_past net m (i + 1) (drop (i + 1) net)) ∙ ap (λ j. c.loop-node.made ++ node_past net m i r.node ∷ nodes_past net m j (drop (i + 1) net)) next ∙ ap (λ l. c.loop-node.made ++ nodes_past net m i l) (sym r.rest) ∙ c.loop-node.invariant.rest;
       count = ap length added ∙ length-last c.loop-node.made c.in-Some.decl ∙ ap (λ j. j + 1) c.loop-node.invariant.count;
-      parts = c.loop-node.invariant.parts ∙ ap (λ l. nat_lt room (parts_of_net (nodes_past net m i l))) r.rest ∙ passed_later room (parts_of_node (node_past net m i r.node)) c.parts_of.result (parts_of_net (nodes_past net m (suc i) (drop (i + 1) net))) k few ∙ ap (λ j. nat_lt (room - c.parts_of.result) (parts_of_net (nodes_past net m j (drop (i + 1) net)))) (sym next);
+      parts = c.loop-node.invariant.parts ∙ ap (λ l. nat_lt room (parts_of_net (nodes_past net m i l))) r.rest ∙ passed_later room (parts_of_node (node_past net m i r.node)) c.parts_of-room.result (parts_of_net (nodes_past net m (suc i) (drop (i + 1) net))) k few ∙ ap (λ j. nat_lt (room - c.parts_of-room.result) (parts_of_net (nodes_past net m j (drop (i + 1) net)))) (sym next);
     }
 
 pub returns : goal.returns
@@ -83,4 +73,4 @@ returns c =
     let i = c.loop-node.node in
     let nil : drop i net ≡ [] = drop_of_length-le net (omega (arith, c.nodes-node-end.ensures, c.loop-node-test.false)) in
     let whole : c.loop-node.made ≡ net_past net m = sym (append-nil c.loop-node.made) ∙ ap (λ l. c.loop-node.made ++ nodes_past net m i l) (sym nil) ∙ c.loop-node.invariant.rest in
-    all_made (net_past net m) c.loop-node.made whole (c.loop-node.invariant.parts ∙ ap (λ l. nat_lt c.loop-node.room (parts_of_net (nodes_past net m i l))) nil)
+    all_made (net_past net m) c.loop-node.made whole (c.loop-node.invariant.parts ∙ ap (λ l. nat_lt c.loop-node.room (parts_of_net (nodes_past net m i l))) nil ∙ le-ltb c.loop-node.room 0 (omega arith))
