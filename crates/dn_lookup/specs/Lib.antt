@@ -1,3 +1,4 @@
 pub mod Images
 pub mod Lookup
+pub mod Rounds
 pub mod Terms

@@ -6,10 +6,11 @@ ghost use Rattle.dn_base.specs.Terms.{Answers};
 ghost use Rattle.dn_net.specs.Terms.{IsLegalNet, is_agent_at};
 ghost use Rattle.dn_kind.specs.Terms.{IsLawful, KeepsUnitShape, are_there};
 ghost use Rattle.dn_image.specs.Terms.{broken_image, version_of};
+ghost use Rattle.dn_view.specs.Terms.{IsSystem};
 ghost use Rattle.dn_lookup.specs.Terms.{lookup_fault_view, lookup_of};
 
 use crate::image::Image;
-use crate::levels::resolve;
+use crate::levels::{resolve, resolve_by};
 use dn_image::check::check;
 use dn_image::fault::ImageFault;
 use dn_kind::kinds::Kinds;
@@ -17,6 +18,7 @@ use dn_kind::rights::Access;
 use dn_net::names::Names;
 use dn_net::net::Net;
 use dn_net::node::{Name, Role};
+use dn_view::system::System;
 use std::alloc::{AllocError, Global};
 use thiserror::Error;
 
@@ -108,6 +110,38 @@ pub fn lookup_whole(
         version,
     };
     resolve(alloc, image, access, name)
+}
+
+/// The same, by what the nodes of the net reach: time of the levels of the nodes on the way, and of the names that
+/// these give to the address. `Err` is want of memory.
+pub fn lookup_by(
+    alloc: Global,
+    system: System,
+    image: &[u8],
+    version: u16,
+    access: Access,
+    name: Name,
+) -> Result<Names, AllocError>
+    requires system { IsSystem (λ k. meaning (k.vtable, k.value)) system }
+    requires whole { broken_image system.net.now
+        (map (λ k. meaning (k.vtable, k.value)) system.kinds.now.list.items) image.now
+        ≡ None }
+    requires version { version ≡ version_of image.now }
+    requires agent { IsTrue (is_agent_at (slice_get system.net.now name.node)) }
+    ensures exact { IfOk result (λ names. lookup_of system.entry.net.now
+        (map (λ k. meaning (k.vtable, k.value)) system.entry.kinds.now.list.items)
+        image.now access name ≡ Ok names) }
+    // Each name is in a node that is there.
+    ensures there { IfOk result (λ names. IsTrue (are_there (length system.entry.net.now) names)) }
+{
+    let System { net, flats, kinds } = system;
+    let image = Image {
+        net,
+        kinds,
+        bytes: image,
+        version,
+    };
+    resolve_by(alloc, image, flats, access, name)
 }
 
 /// Whether a node is there, and an agent.

@@ -35,6 +35,26 @@ pub fn net_text(alloc: Global, net: &Net, kinds: &Kinds) -> Result<Vec<u8>, OutO
     Ok(out.into_bytes())
 }
 
+/// The statement of a node and the end of its line, as [`net_text`] has it. `Err` is want of memory.
+pub fn statement_text(
+    alloc: Global,
+    net: &Net,
+    kinds: &Kinds,
+    node: u16,
+) -> Result<String, OutOfMemory>
+    requires there { node < length net.now }
+    requires closed { IsTrue (is_closed net.now) }
+    requires lawful { All (λ k. IsLawful (meaning (k.vtable, k.value))) kinds.now.list.items }
+    requires known { IsTrue
+        (list_all (λ n. has_kind (length kinds.now.list.items) n.unit) net.now) }
+    ensures { IfOk result (λ text. string_bytes text ≡ statement_text_at
+        (map (λ k. meaning (k.vtable, k.value)) kinds.now.list.items) net.now (slice_get net.now node)) }
+{
+    let mut out = String::new(alloc);
+    write_statement(&mut out, net, kinds, node)?;
+    Ok(out)
+}
+
 /// Appends the statement of a node and the end of its line.
 fn write_statement(out: &mut String, net: &Net, kinds: &Kinds, node: u16) -> Result<(), OutOfMemory>
     requires there { node < length net.now }

@@ -40,18 +40,26 @@ fn rows_string(alloc: Global, net: &Net, rows: &Rows) -> Result<String, OutOfMem
     requires { IsTrue (ends_exist (length net.now) rows.now) }
     ensures { IfOk result (λ text. string_bytes text ≡ rows_text net.now (map seen_view rows.now)) }
 {
+    lines_of(alloc, net, rows.rows())
+}
+
+/// The lines of some rows one behind the other, as [`rows_text`] has those of all. `Err` is want of memory.
+pub fn lines_of(alloc: Global, net: &Net, rows: &[Row]) -> Result<String, OutOfMemory>
+    requires { IsTrue (ends_exist (length net.now) rows.now) }
+    ensures { IfOk result (λ text. string_bytes text ≡ rows_text net.now (map seen_view rows.now)) }
+{
     let mut out = String::new(alloc);
     write_rows(&mut out, net, rows)?;
     Ok(out)
 }
 
 /// Appends the rows to a text that is given up for want of memory.
-fn write_rows(out: &mut String, net: &Net, rows: &Rows) -> Result<(), OutOfMemory>
+fn write_rows(out: &mut String, net: &Net, rows: &[Row]) -> Result<(), OutOfMemory>
     requires { IsTrue (ends_exist (length net.now) rows.now) }
     ensures { OnOk result (string_bytes out.new ≡
         string_bytes out.old ++ rows_text net.now (map seen_view rows.now)) }
 {
-    for row in rows.rows() {
+    for row in rows {
         write_row(out, net, row)?;
     }
     Ok(())

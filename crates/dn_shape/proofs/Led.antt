@@ -16,7 +16,7 @@ use Rattle.dn_net.specs.declared.node.Name.{Name}
 use Rattle.dn_net.specs.declared.node.NodeDecl.{NodeDecl}
 use Rattle.dn_net.specs.declared.node.Unit.{Unit as UnitPart}
 use Rattle.dn_net.specs.Decode.{top, within, in_some_block, decode, sent_names, steps, Step, is_formed, formed_by, is_unit, is_bare, refers_within, over_within, ports_within, is_closed}
-use Rattle.dn_net.specs.Legal.{IsLegalNet}
+use Rattle.dn_net.specs.Legal.{IsLegalNet, node_limit}
 use Rattle.dn_net.specs.Rules.{block_in_range, dest_in_range, entry_in_range, same_dest, dests_repeat, unit_repeats, is_vectors, accepted_count, KeepsRules, KeepsNodeRules}
 use Rattle.dn_net.proofs.Apart.{node_apart}
 use Rattle.dn_net.proofs.Choices.{choice_of_step}
@@ -321,6 +321,10 @@ past_texts net m k (d ∷ ns) = ap (λ t. t ∷ texts (nodes_past net m (suc k) 
 pub net_past_length : (net : List NodeDecl) (m : ℕ) → length (net_past net m) ≡ length net
 net_past_length net m = past_length net m 0 net
 
+-- it has no more nodes than a net may have
+pub few_past : (net : List NodeDecl) → IsLegalNet net → (m : ℕ) → length (net_past net m) ≤ node_limit
+few_past net legal m = let l = net_past_length net m in let f = legal.is_net.few in omega (arith, l, f)
+
 pub past_closed : (net : List NodeDecl) → IsLegalNet net → (m : ℕ) (n : NodeDecl) → slice_get net m ≡ Some n → Fit m n → IsTrue (is_closed (net_past net m))
 past_closed net legal m n at fit =
     subst (λ c. IsTrue (list_all (refers_within c) (net_past net m))) (sym (net_past_length net m))
@@ -330,7 +334,7 @@ pub absorb_keeps_rules : AbsorbKeepsRules
 absorb_keeps_rules net legal m n at none = (
   record {
     is_net = record {
-      few = (let l = net_past_length net m in let f = legal.is_net.few in omega (arith, l, f));
+      few = few_past net legal m;
       formed = all_of_each is_formed (net_past net m) (past_each net legal m n at fit (λ d. IsTrue (is_formed d)) (λ i d here h. node_at is_formed net i legal.is_net.formed d here) (λ i d here h. led_formed net m i d (node_at is_formed net i legal.is_net.formed d here) h));
       names_differ = differ_as (net_past net m) net (past_texts net m 0 net) legal.is_net.names_differ;
     };

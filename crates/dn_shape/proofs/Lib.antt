@@ -1,5 +1,6 @@
 pub mod Absorbed
 pub mod Closed
+pub mod Counted
 pub mod Divided
 pub mod Free
 pub mod Led

@@ -328,10 +328,10 @@ pub first_row : (net : List NodeDecl) → KeepsNodeRules net → (i : ℕ) → i
 first_row net rules i there w h = level_is_row net rules 1 w (first_level net rules i i there w h)
 
 -- normal rows of what the walks give are the rows past the node
-pub rows_are_past : (net : List NodeDecl) → KeepsNodeRules net → (m i : ℕ) → i < length net → (walks : List WalkRow) (segs : List Seg) (rows : List Row) → map row_view walks ≡ map bare_walk (walks_past net m i) → ((a : ℕ) (y : End) → segs_give segs a y ≡ bare_give (map row_view walks) a y) → AreNormal (SegmentsGive segs) rows → map seen_view rows ≡ rows_past net m i
-rows_are_past net rules m i there walks segs rows told give normal =
+pub rows_are_past : (net : List NodeDecl) → KeepsNodeRules net → (m i : ℕ) → i < length net → (segs : List Seg) (rows : List Row) → ((a : ℕ) (y : End) → segs_give segs a y ≡ bare_give (map bare_walk (walks_past net m i)) a y) → AreNormal (SegmentsGive segs) rows → map seen_view rows ≡ rows_past net m i
+rows_are_past net rules m i there segs rows give normal =
     normal_are_listed (ends_past net m i) (ends_past_ascend net m i) rows
     (normal_like (SegmentsGive segs) (λ a y. Member y (ends_past net m i a)) rows (λ a y low. (
-      (λ g. (walks_give net rules m i there a low y).0 (sym (ap (λ l. bare_give l a y) told) ∙ (sym (give a y) ∙ segs_from segs a y g))),
-      (λ h. segs_to segs a y (give a y ∙ (ap (λ l. bare_give l a y) told ∙ (walks_give net rules m i there a low y).1 h))),
+      (λ g. (walks_give net rules m i there a low y).0 (sym (give a y) ∙ segs_from segs a y g)),
+      (λ h. segs_to segs a y (give a y ∙ (walks_give net rules m i there a low y).1 h)),
     )) normal)

@@ -75,16 +75,20 @@ dest_of_end e = record { node = e.node; addr = e.base }
 abbrev pub entry_of_row : Seen → Entry
 entry_of_row r = record { block = record { lo = r.lo; hi = r.hi }; dests = map dest_of_end r.ends }
 
--- the node of a number, with the rows past the absorbed node in place of its map and its `over`
-abbrev pub node_led_past : List NodeDecl → ℕ → ℕ → NodeDecl → NodeDecl
-node_led_past net m i n = record {
+-- the node with rows in place of its map and its `over`
+abbrev pub with_rows : List Seen → NodeDecl → NodeDecl
+with_rows rows n = record {
   text = n.text;
   role = n.role;
   accepts = n.accepts;
-  entries = map entry_of_row (rows_past net m i);
+  entries = map entry_of_row rows;
   over = None;
   unit = n.unit;
 }
+
+-- the node of a number, with the rows past the absorbed node
+abbrev pub node_led_past : List NodeDecl → ℕ → ℕ → NodeDecl → NodeDecl
+node_led_past net m i n = with_rows (rows_past net m i) n
 
 -- the node of a number is rewritten: it is another node than the absorbed one, and leads to it
 abbrev pub is_rewritten : ℕ → ℕ → NodeDecl → Bool

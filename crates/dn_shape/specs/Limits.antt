@@ -29,6 +29,14 @@ passed_limit net =
     else (if nat_lt part_limit (parts_of_net net) then Some part_limit
     else (if list_any has_long_entry net then Some dest_limit else None))
 
+-- the net, where it has not too many parts
+abbrev pub net_of_few_parts : List NodeDecl → Option (List NodeDecl)
+net_of_few_parts net = if nat_lt part_limit (parts_of_net net) then None else Some net
+
+-- the node, where it has no more parts than there is room for
+abbrev pub node_of_few_parts : ℕ → NodeDecl → Option NodeDecl
+node_of_few_parts room n = if nat_lt room (parts_of_node n) then None else Some n
+
 -- a value, or the limit that is passed
 abbrev pub value_by_limit : {X : Type 0} → X → Option ℕ → Result X ℕ
 value_by_limit x None = Ok x

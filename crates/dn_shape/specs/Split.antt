@@ -10,6 +10,7 @@ use Rattle.dn_net.specs.declared.node.Entry.{Entry}
 use Rattle.dn_net.specs.declared.node.Role.TheVariants.{Plain}
 use Rattle.dn_net.specs.declared.node.NodeDecl.{NodeDecl}
 use Rattle.dn_net.specs.Decode.{top, in_some_block}
+use Rattle.dn_net.specs.Parts.{parts_of_node}
 use Rattle.dn_net.specs.Rules.{block_in_range}
 use Rattle.dn_net.specs.Walks.{all_addresses, cut_each}
 use Rattle.dn_shape.specs.Limits.{passed_limit, value_by_limit}
@@ -101,6 +102,20 @@ split_net net = with_accepters (sending_nodes (length net) net) net
 -- the split net, or the first limit that it passes
 abbrev pub split_outcome : List NodeDecl → Result (List NodeDecl) ℕ
 split_outcome net = value_by_limit (split_net net) (passed_limit (split_net net))
+
+-- the parts of a node in the split net, with those of the new one for it: each span is an entry of the
+-- one and an accept block of the other
+abbrev pub parts_when_split : NodeDecl → ℕ
+parts_when_split n =
+    if is_divided n
+    then length (maximal_spans n.accepts)
+    + (length (maximal_spans n.accepts) + (length n.entries + (if is_some n.over then 1 else 0)))
+    else parts_of_node n
+
+-- those of all nodes
+abbrev pub parts_of_split : List NodeDecl → ℕ
+parts_of_split [] = 0
+parts_of_split (n ∷ ns) = parts_when_split n + parts_of_split ns
 
 -- the name of a node, renamed to that of the node which accepts for it
 abbrev pub renamed_at : List NodeDecl → Name → Option NodeDecl → Name

@@ -1,21 +1,22 @@
 //! Absorbing a node of a net.
 
-ghost use Rattle.std.specs.Prelude.{◌≡◌, ◌<◌, ◌==◌, length, map, slice_get, option_map, IfOk, Some};
+ghost use Rattle.std.specs.Prelude.{◌≡◌, ◌<◌, ◌+◌, ◌==◌, length, map, slice_get, option_map, IfOk, Some};
 ghost use Rattle.std.specs.List.{list_any};
 ghost use Rattle.std.specs.Option.{option_copied};
 ghost use Rattle.dn_base.specs.Terms.{Answers};
-ghost use Rattle.dn_net.specs.Terms.{IsLegalNet, is_agent, is_vectors};
-ghost use Rattle.dn_shape.specs.Terms.{HaveEqualViews, IsRuledNet, LeadOn, absorb_fault_view, absorb_outcome, has_port, is_port, leads_to, maps_to, net_past, node_past, why_not_at};
+ghost use Rattle.dn_interval.specs.Terms.{seen_view};
+ghost use Rattle.dn_net.specs.Terms.{IsLegalNet, is_agent, is_vectors, parts_of_node};
+ghost use Rattle.dn_shape.specs.Terms.{HaveEqualViews, IsRuledNet, LeadOn, absorb_fault_view, absorb_outcome, has_port, is_port, is_rewritten, leads_to, maps_to, net_of_few_parts, net_past, net_within, node_led_past, node_of_few_parts, node_past, passed_limit, why_not_at, with_rows};
 ghost use Rattle.dn_walk.specs.Terms.{bare_legs, leg_view};
 
 use crate::copy::{node_copy, unit_copy};
 use crate::fault::{AbsorbFault, Why};
-use crate::limits::passed_limit;
-use crate::past::{entries_past, legs_of};
+use crate::limits::{MAX_DESTS, MAX_PARTS, has_long_entry, parts_of_node};
+use crate::past::{entries_of, legs_of, rows_past};
 use dn_base::OutOfMemory;
 use dn_base::items::Items;
 use dn_base::text::Text;
-use dn_interval::Seg;
+use dn_interval::{Rows, Seg};
 use dn_net::checked::CheckedNet;
 use dn_net::net::Net;
 use dn_net::node::{Dest, Entry, NodeDecl, Role, Unit};
@@ -40,11 +41,7 @@ pub fn absorb(alloc: Global, net: &Net, node: u16) -> Result<Net, AbsorbFault>
     if let Some(why) = why_not(net, node) {
         return Err(AbsorbFault::NotAbsorbable { why });
     }
-    let made = net_past(alloc, net, node).or(Err(AbsorbFault::OutOfMemory))?;
-    match passed_limit(&made) {
-        Some(limit) => Err(AbsorbFault::TooMany { limit }),
-        None => Ok(made),
-    }
+    net_past(alloc, net, node)
 }
 
 /// The first reason for which a node cannot be absorbed.
@@ -149,56 +146,163 @@ fn has_dest_in(dests: &[Dest], to: u16) -> bool
     false
 }
 
-/// The net past a node.
-fn net_past(alloc: Global, net: &Net, past: u16) -> Result<Net, OutOfMemory>
+/// The net past a node, or the first limit that it passes.
+fn net_past(alloc: Global, net: &Net, past: u16) -> Result<Net, AbsorbFault>
     requires legal { IsLegalNet net.now }
     requires there { past < length net.now }
-    ensures { IfOk result (λ made. made ≡ net_past net.now past) }
+    ensures made { Answers (λ n. n) absorb_fault_view result
+        (net_within (net_past net.now past) (passed_limit (net_past net.now past))) }
+    ensures is { IfOk result (λ made. made ≡ net_past net.now past) }
+{
+    let found = few_parts_past(alloc, net, past).or(Err(AbsorbFault::OutOfMemory))?;
+    let Some(made) = found else {
+        return Err(AbsorbFault::TooMany { limit: MAX_PARTS });
+    };
+    if has_long_entry(&made) {
+        return Err(AbsorbFault::TooMany { limit: MAX_DESTS });
+    }
+    Ok(made)
+}
+
+/// The net past a node. None where it has too many parts.
+fn few_parts_past(alloc: Global, net: &Net, past: u16) -> Result<Option<Net>, OutOfMemory>
+    requires legal { IsLegalNet net.now }
+    requires there { past < length net.now }
+    ensures { IfOk result (λ found. found ≡ net_of_few_parts (net_past net.now past)) }
 {
     let legs = legs_of(alloc, CheckedNet { net }, past)?;
     nodes_past(alloc, net, past, legs.as_slice())
 }
 
-/// The net past a node with these legs.
-fn nodes_past(alloc: Global, net: &Net, past: u16, onward: &[Seg]) -> Result<Net, OutOfMemory>
+/// The net past a node with these legs. None where it has too many parts: then no more of it was made than a net
+/// may have, and of the node whose parts are too many only the rows.
+fn nodes_past(
+    alloc: Global,
+    net: &Net,
+    past: u16,
+    onward: &[Seg],
+) -> Result<Option<Net>, OutOfMemory>
     requires legal { IsLegalNet net.now }
     requires onward { option_map bare_legs (slice_get net.now past)
         ≡ Some (map leg_view onward.now) }
     requires lead { LeadOn onward.now }
-    ensures { IfOk result (λ made. made ≡ net_past net.now past) }
+    ensures { IfOk result (λ found. found ≡ net_of_few_parts (net_past net.now past)) }
 {
     let mut made = Net::new(alloc);
+    let mut room = MAX_PARTS as usize;
     for node in 0..net.nodes() {
-        made.add(node_past(alloc, CheckedNet { net }, past, onward, node)?)?;
+        let found = node_past(alloc, CheckedNet { net }, past, onward, node, room)?;
+        let Some(decl) = found else {
+            return Ok(None);
+        };
+        room -= parts_of(&decl);
+        made.add(decl)?;
     }
-    Ok(made)
+    Ok(Some(made))
+}
+
+/// The parts of a declaration.
+fn parts_of(decl: &NodeDecl) -> usize
+    ensures { result ≡ parts_of_node decl.now }
+{
+    let kept = decl.accepts.as_slice().len();
+    kept + decl.entries.as_slice().len() + usize::from(decl.over.is_some())
 }
 
 /// A node, which has the rows past the absorbed one in place of its map and its `over` where it leads to
-/// it.
+/// it. None where it has more parts than there is room for.
 fn node_past(
     alloc: Global,
     checked: CheckedNet,
     past: u16,
     onward: &[Seg],
     node: u16,
-) -> Result<NodeDecl, OutOfMemory>
+    room: usize,
+) -> Result<Option<NodeDecl>, OutOfMemory>
     requires onward { option_map bare_legs (slice_get checked.net.now past)
         ≡ Some (map leg_view onward.now) }
     requires lead { LeadOn onward.now }
     requires there { node < length checked.net.now }
-    ensures { IfOk result (λ n. option_map (node_past checked.entry.net.now past node)
-        (slice_get checked.entry.net.now node) ≡ Some n) }
+    ensures { IfOk result (λ found. option_map
+        (λ n. node_of_few_parts room (node_past checked.entry.net.now past node n))
+        (slice_get checked.entry.net.now node) ≡ Some found) }
 {
-    let net = checked.net;
-    if node == past || !leads_to(net, node, past) {
-        return node_copy(alloc, net, node);
+    if !is_rewritten(checked.net, past, node) {
+        return node_kept(alloc, checked.net, node, room);
     }
+    node_led_past(alloc, checked, past, onward, node, room)
+}
+
+/// Whether a node is rewritten where another is absorbed: it is not that one, and leads to it.
+fn is_rewritten(net: &Net, past: u16, node: u16) -> bool
+    requires { node < length net.now }
+    ensures { option_map (is_rewritten past node) (slice_get net.now node) ≡ Some result }
+{
+    node != past && leads_to(net, node, past)
+}
+
+/// A node as it is. None where it has more parts than there is room for.
+fn node_kept(
+    alloc: Global,
+    net: &Net,
+    node: u16,
+    room: usize,
+) -> Result<Option<NodeDecl>, OutOfMemory>
+    requires { node < length net.now }
+    ensures { IfOk result (λ found. option_map (node_of_few_parts room)
+        (slice_get net.now node) ≡ Some found) }
+{
+    if room < parts_of_node(net, node) {
+        return Ok(None);
+    }
+    Ok(Some(node_copy(alloc, net, node)?))
+}
+
+/// A node with the rows past the absorbed one in place of its map and its `over`. None where it has more parts
+/// than there is room for, which is known before its entries are made.
+fn node_led_past(
+    alloc: Global,
+    checked: CheckedNet,
+    past: u16,
+    onward: &[Seg],
+    node: u16,
+    room: usize,
+) -> Result<Option<NodeDecl>, OutOfMemory>
+    requires onward { option_map bare_legs (slice_get checked.net.now past)
+        ≡ Some (map leg_view onward.now) }
+    requires lead { LeadOn onward.now }
+    requires there { node < length checked.net.now }
+    ensures { IfOk result (λ found. option_map
+        (λ n. node_of_few_parts room (node_led_past checked.entry.net.now past node n))
+        (slice_get checked.entry.net.now node) ≡ Some found) }
+{
+    let rows = rows_past(alloc, checked, past, onward, node)?;
+    if room < parts_with_rows(checked.net, node, &rows) {
+        return Ok(None);
+    }
+    Ok(Some(with_rows(alloc, checked.net, node, &rows)?))
+}
+
+/// The parts of a node that has rows in place of its map and its `over`.
+fn parts_with_rows(net: &Net, node: u16, rows: &Rows) -> usize
+    requires { node < length net.now }
+    ensures { option_map (λ n. length n.accepts + length rows.now) (slice_get net.now node)
+        ≡ Some result }
+{
+    net.accepts(node).len() + rows.rows().len()
+}
+
+/// A node with rows in place of its map and its `over`.
+fn with_rows(alloc: Global, net: &Net, node: u16, rows: &Rows) -> Result<NodeDecl, OutOfMemory>
+    requires { node < length net.now }
+    ensures { IfOk result (λ n. option_map (with_rows (map seen_view rows.now))
+        (slice_get net.now node) ≡ Some n) }
+{
     Ok(NodeDecl {
         text: Text::of(alloc, net.text(node))?,
         role: net.role(node),
         accepts: Items::from_vec(net.accepts(node).to_vec(alloc)?),
-        entries: entries_past(alloc, checked, past, onward, node)?,
+        entries: entries_of(alloc, rows.rows())?,
         over: None,
         unit: unit_copy(alloc, net.unit(node))?,
     })

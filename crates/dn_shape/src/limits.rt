@@ -9,10 +9,10 @@ use dn_net::net::Net;
 use dn_net::node::Entry;
 
 /// The most parts of a net: an accept block, a map entry and an `over` are one each.
-const MAX_PARTS: u32 = 16_384;
+pub(crate) const MAX_PARTS: u32 = 16_384;
 
 /// The most destinations of a map entry.
-const MAX_DESTS: u32 = 8;
+pub(crate) const MAX_DESTS: u32 = 8;
 
 /// The first limit that a net passes: 16,384 parts, 8 destinations. It never has more than 1,024
 /// nodes.
@@ -45,7 +45,7 @@ fn has_many_parts(net: &Net) -> bool
 }
 
 /// The parts of a node.
-fn parts_of_node(net: &Net, node: u16) -> usize
+pub(crate) fn parts_of_node(net: &Net, node: u16) -> usize
     requires { node < length net.now }
     ensures { option_map parts_of_node (slice_get net.now node) ≡ Some result }
 {
@@ -53,7 +53,7 @@ fn parts_of_node(net: &Net, node: u16) -> usize
 }
 
 /// Whether some entry has too many destinations.
-fn has_long_entry(net: &Net) -> bool
+pub(crate) fn has_long_entry(net: &Net) -> bool
     ensures { result ≡ list_any has_long_entry net.now }
 {
     for node in 0..net.nodes() {

@@ -5,7 +5,7 @@ ghost use Rattle.std.specs.List.{All, flat_map};
 ghost use Rattle.dn_interval.specs.declared.row.End.{End};
 ghost use Rattle.dn_interval.specs.Terms.{seen_view, segs_give};
 ghost use Rattle.dn_net.specs.Terms.{extensions_of, still_walk};
-ghost use Rattle.dn_shape.specs.Terms.{LeadOn, bare_give, bare_onward, dest_of_end, entry_of_row, rows_past};
+ghost use Rattle.dn_shape.specs.Terms.{LeadOn, bare_give, bare_onward, dest_of_end, entry_of_row, rows_past, walks_past};
 ghost use Rattle.dn_walk.specs.Terms.{bare_extensions_by, bare_legs, bare_walk, leg_view, row_view};
 
 use crate::spans::block_of;
@@ -19,27 +19,62 @@ use dn_walk::level::{extend_row, met_by};
 use dn_walk::walks::WalkRow;
 use std::alloc::Global;
 
-/// The names to which the addresses of a node decode past another, as map entries: in place of
-/// each name of the other stand those to which it decodes.
-pub(crate) fn entries_past(
+/// The names to which the addresses of a node decode past another, as rows: in place of each name of
+/// the other stand those to which it decodes.
+pub(crate) fn rows_past(
     alloc: Global,
     checked: CheckedNet,
     past: u16,
     onward: &[Seg],
     node: u16,
-) -> Result<Items<Entry>, OutOfMemory>
+) -> Result<Rows, OutOfMemory>
     requires onward { option_map bare_legs (slice_get checked.net.now past)
         ≡ Some (map leg_view onward.now) }
     requires lead { LeadOn onward.now }
     requires there { node < length checked.net.now }
-    ensures { IfOk result (λ es. es
-        ≡ map entry_of_row (rows_past checked.entry.net.now past node)) }
+    ensures { IfOk result (λ rows. map seen_view rows
+        ≡ rows_past checked.entry.net.now past node) }
+{
+    let segs = segs_past(alloc, checked, past, onward, node)?;
+    Rows::normal(alloc, &segs)
+}
+
+/// The same as segments, in no order.
+fn segs_past(
+    alloc: Global,
+    checked: CheckedNet,
+    past: u16,
+    onward: &[Seg],
+    node: u16,
+) -> Result<Vec<Seg>, OutOfMemory>
+    requires onward { option_map bare_legs (slice_get checked.net.now past)
+        ≡ Some (map leg_view onward.now) }
+    requires lead { LeadOn onward.now }
+    requires there { node < length checked.net.now }
+    ensures { IfOk result (λ segs. (a : ℕ) (y : End) → segs_give segs.items a y
+        ≡ bare_give (map bare_walk (walks_past checked.entry.net.now past node)) a y) }
+{
+    let walks = walks_past(alloc, checked, past, onward, node)?;
+    segs_of(alloc, &walks)
+}
+
+/// The walks that lead a node past another.
+fn walks_past(
+    alloc: Global,
+    checked: CheckedNet,
+    past: u16,
+    onward: &[Seg],
+    node: u16,
+) -> Result<Vec<WalkRow>, OutOfMemory>
+    requires onward { option_map bare_legs (slice_get checked.net.now past)
+        ≡ Some (map leg_view onward.now) }
+    requires lead { LeadOn onward.now }
+    requires there { node < length checked.net.now }
+    ensures { IfOk result (λ v. map row_view v.items
+        ≡ map bare_walk (walks_past checked.entry.net.now past node)) }
 {
     let first = first_walks(alloc, checked, node)?;
-    let walks = walks_onward(alloc, &first, past, onward)?;
-    let segs = segs_of(alloc, &walks)?;
-    let rows = Rows::normal(alloc, &segs)?;
-    entries_of(alloc, rows.rows())
+    walks_onward(alloc, &first, past, onward)
 }
 
 /// The walks, and in place of each that leads into the node, those by which it goes on.
@@ -146,7 +181,7 @@ fn segs_of(alloc: Global, walks: &[WalkRow]) -> Result<Vec<Seg>, OutOfMemory>
 }
 
 /// The rows, as map entries.
-fn entries_of(alloc: Global, rows: &[Row]) -> Result<Items<Entry>, OutOfMemory>
+pub(crate) fn entries_of(alloc: Global, rows: &[Row]) -> Result<Items<Entry>, OutOfMemory>
     ensures { IfOk result (λ es. es ≡ map entry_of_row (map seen_view rows.now)) }
 {
     let mut entries = Vec::with_capacity(alloc, rows.len())?;

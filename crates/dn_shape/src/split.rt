@@ -1,14 +1,14 @@
 //! Splitting a net.
 
-ghost use Rattle.std.specs.Prelude.{◌≡◌, ◌<◌, ◌≤◌, ◌+◌, ◌++◌, length, map, slice_get, option_map, IfOk, OnOk, Some};
+ghost use Rattle.std.specs.Prelude.{◌≡◌, ◌<◌, ◌≤◌, ◌+◌, ◌++◌, length, map, slice_get, option_map, nat_lt, IfOk, OnOk, Some};
 ghost use Rattle.dn_base.specs.Terms.{Answers};
 ghost use Rattle.dn_net.specs.declared.node.NodeDecl.{NodeDecl};
 ghost use Rattle.dn_net.specs.Terms.{IsLegalNet, node_limit};
-ghost use Rattle.dn_shape.specs.Terms.{HaveEqualViews, IsRuledNet, accepter, accepter_text, divided_count, entry_onto, free_number, is_divided, new_nodes, sender_to, sending_node, sending_nodes, split_fault_view, split_name, split_outcome, with_accepter, with_accepters};
+ghost use Rattle.dn_shape.specs.Terms.{HaveEqualViews, IsRuledNet, accepter, accepter_text, divided_count, entry_onto, free_number, is_divided, new_nodes, part_limit, parts_of_split, parts_when_split, sender_to, sending_node, sending_nodes, split_fault_view, split_name, split_outcome, with_accepter, with_accepters};
 
 use crate::copy::{entries_copy, node_copy, unit_copy};
 use crate::fault::SplitFault;
-use crate::limits::passed_limit;
+use crate::limits::{MAX_PARTS, parts_of_node, passed_limit};
 use crate::spans::maximal_accepts;
 use dn_base::OutOfMemory;
 use dn_base::items::Items;
@@ -36,6 +36,10 @@ pub fn split(alloc: Global, net: &Net) -> Result<Net, SplitFault>
             limit: MAX_NODES as u32,
         });
     }
+    let many = has_many_parts(alloc, CheckedNet { net }).or(Err(SplitFault::OutOfMemory))?;
+    if many {
+        return Err(SplitFault::TooMany { limit: MAX_PARTS });
+    }
     let mut made = sending_nodes(alloc, net).or(Err(SplitFault::OutOfMemory))?;
     add_accepters(alloc, CheckedNet { net }, &mut made).or(Err(SplitFault::OutOfMemory))?;
     match passed_limit(&made) {
@@ -61,6 +65,38 @@ fn is_divided(net: &Net, node: u16) -> bool
     ensures { option_map is_divided (slice_get net.now node) ≡ Some result }
 {
     !net.accepts(node).is_empty() && (!net.entries(node).is_empty() || net.over(node).is_some())
+}
+
+/// Whether the split net has too many parts, which are counted before any of it is made: with the
+/// memory of the spans of one node.
+fn has_many_parts(alloc: Global, checked: CheckedNet) -> Result<bool, OutOfMemory>
+    ensures { IfOk result (λ many. many
+        ≡ nat_lt part_limit (parts_of_split checked.entry.net.now)) }
+{
+    let mut room = MAX_PARTS as usize;
+    for node in 0..checked.net.nodes() {
+        let parts = parts_when_split(alloc, checked, node)?;
+        if room < parts {
+            return Ok(true);
+        }
+        room -= parts;
+    }
+    Ok(false)
+}
+
+/// The parts of a node in the split net, with those of the new node for it.
+fn parts_when_split(alloc: Global, checked: CheckedNet, node: u16) -> Result<usize, OutOfMemory>
+    requires there { node < length checked.net.now }
+    ensures { IfOk result (λ parts. option_map parts_when_split
+        (slice_get checked.entry.net.now node) ≡ Some parts) }
+{
+    let net = checked.net;
+    if !is_divided(net, node) {
+        return Ok(parts_of_node(net, node));
+    }
+    let spans = maximal_accepts(alloc, checked, node)?.len();
+    let kept = net.entries(node).len() + usize::from(net.over(node).is_some());
+    Ok(spans + (spans + kept))
 }
 
 /// The old nodes of the split net.

@@ -47,6 +47,7 @@ use Rattle.dn_tool.specs.Ids.{id_number, with_id}
 use Rattle.dn_tool.specs.Played.{CameIn}
 use Rattle.dn_tool.specs.State.{CameThrough, CameThroughChange, IsChanged, IsFirstView, IsHalted, IsState, state_view}
 use Rattle.dn_tool.specs.Turn.{IsGrantTurn, IsRevokeTurn, IsRouteTurn, IsTurn, State, Turn, is_change, reply, reply_turn, state_with_id, turn_with_grant}
+use Rattle.dn_tool.specs.Unmade.{AreUnmade}
 
 -- all events were added
 added_all : (events : List TableEvent) (log log' : Option (List TableEvent)) → AreAdded events false log log' → Logged log log' events
@@ -300,8 +301,8 @@ state_named k s id book b g e i =
     ∙ ap (λ (x : BookState). record { book = x.grants; cleared = x.cleared; ids = k.ids }) (sym b)
 
 -- what is kept of a state where the book and the image are as they were
-pub state_same : (kinds : List Meaning) (net : List NodeDecl) (k k' : Kept) → IsState kinds net k → k'.book ≡ k.book → k'.image ≡ k.image → IfSome k'.first (IsFirstView net) → IfSome k'.flats (AreFlats net) → IsState kinds net k'
-state_same kinds net k k' s b i v f = record {
+pub state_same : (kinds : List Meaning) (net : List NodeDecl) (k k' : Kept) → IsState kinds net k → k'.book ≡ k.book → k'.image ≡ k.image → IfSome k'.first (IsFirstView net) → IfSome k'.flats (AreFlats net) → AreUnmade net k'.unmade → IsState kinds net k'
+state_same kinds net k k' s b i v f u = record {
   sound = subst (λ (x : BookState). x.sound ≡ true) (sym b) s.sound;
   faithful = subst (λ (x : BookState). IsFaithful net x.grants) (sym b) s.faithful;
   kept = subst (λ (x : BookState). IsKept net kinds x.grants x.set) (sym b) s.kept;
@@ -309,6 +310,7 @@ state_same kinds net k k' s b i v f = record {
   bytes = subst (λ (o : Option (List ℕ)). IfSome o (λ bytes. bytes ≡ image net kinds (words_of k'.book.set))) (sym i) (subst (λ (x : BookState). IfSome k.image (λ bytes. bytes ≡ image net kinds (words_of x.set))) (sym b) s.bytes);
   first = v;
   flat = f;
+  unmade = u;
 }
 
 -- the sort of a turn

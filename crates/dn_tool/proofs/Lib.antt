@@ -14,6 +14,7 @@ pub mod Places
 pub mod Viewed
 pub mod Lookups
 pub mod Unanswered
+pub mod Unmade
 pub mod Books
 pub mod Changes
 pub mod Filled

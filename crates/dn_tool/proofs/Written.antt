@@ -1,5 +1,9 @@
 -- An output that is written piece by piece.
-use Rattle.std.proofs.Common.{◌≡◌, ◌∙◌, ap, sym, subst, refl, ℕ, Bool, true, false, List, [], ◌++◌, Option, append_assoc, append-nil}
+use Rattle.std.proofs.Common.{◌≡◌, ◌∙◌, ap, sym, subst, refl, ℕ, ◌+◌, ◌<◌, ◌≤◌, Bool, true, false, List, [], ◌∷◌, ◌++◌, length, drop, get_or, slice_get, Option, Some, append_assoc, append-nil}
+use Rattle.std.specs.List.{flat_map}
+use Rattle.std.proofs.Math.ListN.{drop_of_length-le}
+use Rattle.std.proofs.lemmas.Option.{slice_get-get_or}
+use Rattle.dn_base.proofs.Lists.{drop_at, item_there}
 use Rattle.dn_base.specs.Outside.{Added, IsWritten}
 use Rattle.dn_base.proofs.Told.{Added-none, Added-then, less_then, prefix_by, prefix_then, written_all}
 
@@ -35,8 +39,34 @@ stopped_in a b c failed x rest later all s e w =
       front = prefix_then a b c s.done x later all s.added w.front joined;
     }
 
+-- all of it, or a part, was written where a part of the rest was
+pub rest_written : (a b c : Option (List ℕ)) (done failed : Bool) (rest all : List ℕ) → IsSoFar a b rest all → IsWritten b c done failed rest → IsWritten a c done failed all
+rest_written a b c done failed rest all s w =
+    let joined : s.done ++ (rest ++ []) ≡ all = ap (λ l. s.done ++ l) (append-nil rest) ∙ s.joined in
+    record {
+      whole = λ t. subst (λ l. Added a c l) s.joined (Added-then a b c s.done rest s.added (w.whole t));
+      less = λ t. less_then a b c s.done rest [] all s.added (w.less t) joined;
+      front = prefix_then a b c s.done rest [] all s.added w.front joined;
+    }
+
 -- all of it was written
 pub ended : (a b : Option (List ℕ)) (rest all : List ℕ) → IsSoFar a b rest all → rest ≡ [] → IsWritten a b true false all
 ended a b rest all s e =
     let P : List ℕ → Type 0 = λ l. Added a b l in
     written_all a b all (subst P (sym (append-nil s.done) ∙ ap (λ l. s.done ++ l) (sym e) ∙ s.joined) s.added)
+
+-- the text of the first of the items that are left, and of those behind it
+pub record NextText {X : Type 0} (f : X → List ℕ) (xs : List X) (i : ℕ) : Type 0 where
+  pub item : X
+  pub at : slice_get xs i ≡ Some item
+  pub text : flat_map f (drop i xs) ≡ f item ++ flat_map f (drop (i + 1) xs)
+
+pub next_text : {X : Type 0} (f : X → List ℕ) (xs : List X) (i : ℕ) → i < length xs → NextText f xs i
+next_text {X} f xs i l =
+    let r = item_there xs i l in
+    let s : ◌≡◌ {A = Option X} (Some (get_or xs i r.0)) (Some r.0) = sym (slice_get-get_or xs i r.0 l) ∙ r.1 in
+    let g : r.0 ≡ get_or xs i r.0 = cc in
+    record { item = r.0; at = r.1; text = ap (flat_map f) (drop_at xs i r.0 l g) }
+
+pub no_text : {X : Type 0} (f : X → List ℕ) (xs : List X) (i : ℕ) → length xs ≤ i → flat_map f (drop i xs) ≡ []
+no_text f xs i l = ap (flat_map f) (drop_of_length-le xs l)

@@ -16,3 +16,4 @@ pub mod Machine
 pub mod Platform
 pub mod Reshape
 pub mod Reread
+pub mod Unmade

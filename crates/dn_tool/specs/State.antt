@@ -22,6 +22,7 @@ use Rattle.dn_tool.specs.Halt.{ending_status}
 use Rattle.dn_tool.specs.Machine.{IsMachine, kinds_of}
 use Rattle.dn_tool.specs.Played.{CameIn}
 use Rattle.dn_tool.specs.Turn.{State, Turn}
+use Rattle.dn_tool.specs.Unmade.{AreUnmade}
 
 -- the state of the script
 abbrev pub state_view : Kept → State
@@ -33,7 +34,8 @@ pub record IsFirstView (net : List NodeDecl) (first : FirstView) : Type 0 where
   pub flat : IsFlat net first.agent first.flat
 
 -- no call of the device failed, the book is faithful and the tables keep it in words of 64 bits, the
--- bytes are the image of the tables, and the views are those of the net, where they were made
+-- bytes are the image of the tables, the views are those of the net, where they were made, and the nets that were not
+-- made are such
 pub record IsState (kinds : List Meaning) (net : List NodeDecl) (k : Kept) : Type 0 where
   pub sound : k.book.sound ≡ true
   pub faithful : IsFaithful net k.book.grants
@@ -42,6 +44,7 @@ pub record IsState (kinds : List Meaning) (net : List NodeDecl) (k : Kept) : Typ
   pub bytes : IfSome k.image (λ bytes. bytes ≡ image net kinds (words_of k.book.set))
   pub first : IfSome k.first (IsFirstView net)
   pub flat : IfSome k.flats (AreFlats net)
+  pub unmade : AreUnmade net k.unmade
 
 -- a machine, and the state in which a command meets it
 pub record IsReady {K : Type 0} {V : K → Type 0} (means : (k : K) × V k → Meaning)

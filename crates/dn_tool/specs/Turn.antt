@@ -151,6 +151,11 @@ abbrev pub is_dump : Command → Bool
 is_dump Dump = true
 is_dump _ = false
 
+-- the command is `view`
+abbrev pub is_view : Command → Bool
+is_view (View target m) = true
+is_view _ = false
+
 -- the command may change the book
 abbrev pub is_change : Command → Bool
 is_change (Grant id from target base size m) = true

@@ -38,7 +38,12 @@ OwedRowsAreNormal = (net : List NodeDecl) (book : List Grant) → IsFaithful net
     (access : Access) (n : ℕ) → IsTrue (is_agent_at (slice_get net n)) →
     AreOwedRows net book access n
 
--- rows below a heading that has the access as it was said, and their number
+-- the heading of rows, with the access as it was said, and their number
+abbrev pub view_heading : List ℕ → Mode → ℕ → List ℕ
+view_heading text m count =
+    codes "view " ++ (text ++ (access_text m ++ (codes " rows " ++ (decimal count ++ codes "\n"))))
+
+-- rows below such a heading
 abbrev pub viewed_text : List NodeDecl → List ℕ → Mode → List Seen → List ℕ
 viewed_text net text m rows =
     codes "view " ++ (text ++ (access_text m

@@ -1,16 +1,29 @@
-//! Writing an output, and the image line by line.
+//! Writing an output, an image line by line, a net statement by statement, and rows some at once.
 
-ghost use Rattle.dn_print.specs.Terms.{dump_text};
+ghost use Rattle.std.specs.Prelude.{length, map, IsTrue};
+ghost use Rattle.std.specs.List.{All, list_all};
+ghost use Rattle.dn_interval.specs.Terms.{seen_view};
+ghost use Rattle.dn_net.specs.Terms.{is_closed};
+ghost use Rattle.dn_kind.specs.Terms.{IsLawful, has_kind};
+ghost use Rattle.dn_print.specs.Terms.{dump_text, ends_exist, net_text, rows_text};
 ghost use Rattle.dn_tool.specs.Terms.{HaltsBySink, Writes};
 
 use crate::halt::Halt;
 use dn_base::sink::{Sink, WriteFault};
 use dn_base::whole;
+use dn_interval::Row;
+use dn_kind::kinds::Kinds;
+use dn_net::net::Net;
 use dn_print::dump;
+use dn_print::net::statement_text;
+use dn_print::rows::lines_of;
 use std::alloc::Global;
 
 /// How many bytes of an image are written at once, in full lines.
 const PIECE: usize = 32_768;
+
+/// How many rows are written at once.
+const ROWS: usize = 512;
 
 /// Writes the output.
 #[tactic(auto, using(dn_base::proofs::Told::written_stopped))]
@@ -38,6 +51,47 @@ pub(crate) fn write_dump<K: Sink>(alloc: Global, image: &[u8], sink: &mut K) -> 
         lines.clear();
         dump::push_lines(&mut lines, piece)?;
         write_output(sink, lines.as_slice())?;
+    }
+    Ok(())
+}
+
+/// Writes the text of a net statement by statement, so that no more than one of them is in memory.
+pub(crate) fn write_net<K: Sink>(
+    alloc: Global,
+    net: &Net,
+    kinds: &Kinds,
+    sink: &mut K,
+) -> Result<(), Halt>
+    requires closed { IsTrue (is_closed net.now) }
+    requires lawful { All (λ k. IsLawful (meaning (k.vtable, k.value))) kinds.now.list.items }
+    requires known { IsTrue
+        (list_all (λ n. has_kind (length kinds.now.list.items) n.unit) net.now) }
+    ensures written { Writes result (K.written sink.old) (K.written sink.new)
+        (net_text (map (λ k. meaning (k.vtable, k.value)) kinds.now.list.items) net.now) }
+    ensures halted { HaltsBySink result (K.faults sink.old) (K.faults sink.new) }
+{
+    for node in 0..net.nodes() {
+        let text = statement_text(alloc, net, kinds, node)?;
+        write_output(sink, text.as_bytes())?;
+    }
+    Ok(())
+}
+
+/// Writes a line for each row, so many rows at once that no more than those are in memory as text.
+pub(crate) fn write_rows<K: Sink>(
+    alloc: Global,
+    net: &Net,
+    rows: &[Row],
+    sink: &mut K,
+) -> Result<(), Halt>
+    requires { IsTrue (ends_exist (length net.now) rows.now) }
+    ensures written { Writes result (K.written sink.old) (K.written sink.new)
+        (rows_text net.now (map seen_view rows.now)) }
+    ensures halted { HaltsBySink result (K.faults sink.old) (K.faults sink.new) }
+{
+    for piece in rows.chunks(ROWS) {
+        let text = lines_of(alloc, net, piece)?;
+        write_output(sink, text.as_bytes())?;
     }
     Ok(())
 }

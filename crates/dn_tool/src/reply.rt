@@ -13,22 +13,26 @@ ghost use Rattle.dn_image.specs.Terms.{broken_image, version_of, written_version
 ghost use Rattle.dn_lookup.specs.Terms.{lookup_of};
 ghost use Rattle.dn_book.specs.Terms.{owed_names};
 ghost use Rattle.dn_print.specs.Terms.{names_text};
-ghost use Rattle.dn_tool.specs.Terms.{IsFirstView, IsMachine, IsReady, IsStill, access_of, access_text, asked_text, is_change, is_dump, kinds_of, lookup_text, names_under, no_agent_text, owed_rows, reply, resolve_text, view_text, viewed_text};
+ghost use Rattle.dn_tool.specs.Terms.{HaltsBySink, IsFirstView, IsMachine, IsReady, IsStill, Writes, access_of, access_text, asked_text, is_change, is_dump, is_view, kinds_of, lookup_text, names_under, no_agent_text, owed_rows, reply, resolve_text, view_heading, view_text, viewed_text};
 
+use crate::halt::Halt;
 use crate::machine::Machine;
+use crate::output::{write_output, write_rows};
 use crate::reshape;
 use crate::state::{FirstView, State, keep_first, keep_flats, keep_image};
+use dn_base::sink::Sink;
 use dn_flat::flats::Flats;
 use dn_image::write::VERSION;
 use dn_interval::Rows;
 use dn_kind::rights::Access;
-use dn_lookup::lookup::lookup_whole;
+use dn_lookup::lookup::lookup_by;
 use dn_module::command::{Command, Target};
+use dn_net::names::Names;
 use dn_net::net::Net;
 use dn_net::node::{Name, Role};
 use dn_parse::syntax::Mode;
-use dn_print::{names, rows};
-use dn_view::resolve::resolve;
+use dn_print::names;
+use dn_view::resolve::{resolve_by, resolve_few};
 use dn_view::system::System;
 use dn_view::view::{fixed_view, view};
 use std::alloc::{AllocError, Global};
@@ -41,9 +45,8 @@ struct Question<'a> {
     mode: Mode,
 }
 
-/// The reply to a command that changes nothing, other than `dump`: a line, and below that of `view` a
-/// line for each row, and below that of `split` and `absorb` a line for each node of the net that is
-/// made. `Err` is want of memory.
+/// The reply to a command that changes nothing, other than `dump` and `view`: a line, and below that of
+/// `split` and `absorb` a line for each node of the net that is made. `Err` is want of memory.
 pub fn reply(
     alloc: Global,
     machine: Machine,
@@ -53,6 +56,7 @@ pub fn reply(
     requires ready { IsReady meaning machine state.old }
     requires known { IsTrue (names_within (length machine.net.now) command.now) }
     requires no_dump { is_dump command.now ≡ false }
+    requires no_view { is_view command.now ≡ false }
     requires no_change { is_change command.now ≡ false }
     ensures reply { IfOk result (λ v. v.items ≡
         reply (kinds_of meaning machine.entry) machine.entry.net.now
@@ -76,11 +80,10 @@ pub fn reply(
             };
             Ok(lookup_reply(alloc, machine, state, question)?.into_bytes())
         }
-        Command::View(target, mode) => {
-            Ok(view_reply(alloc, machine, state, target, *mode)?.into_bytes())
+        Command::Split => reshape::split_reply(alloc, machine, &mut state.unmade.split),
+        Command::Absorb(target) => {
+            reshape::absorb_reply(alloc, machine, &mut state.unmade.unfit, target)
         }
-        Command::Split => reshape::split_reply(alloc, machine),
-        Command::Absorb(target) => reshape::absorb_reply(alloc, machine, target),
         _ => unreachable!(),
     }
 }
@@ -131,14 +134,15 @@ fn names_of(alloc: Global, net: &Net, found: &[Name]) -> Result<String, AllocErr
 fn resolve_reply(
     alloc: Global,
     machine: Machine,
-    state: &State,
+    state: &mut State,
     question: Question,
 ) -> Result<String, AllocError>
-    requires ready { IsReady meaning machine state.now }
+    requires ready { IsReady meaning machine state.old }
     requires there { IsTrue (over_within (length machine.net.now) question.target.now.node) }
-    ensures { IfOk result (λ s. string_bytes s ≡
-        resolve_text machine.entry.net.now state.now.book.grants
+    ensures reply { IfOk result (λ s. string_bytes s ≡
+        resolve_text machine.entry.net.now state.old.book.grants
         question.entry.target.now question.entry.addr question.entry.mode) }
+    ensures still { IsStill meaning machine.entry state.old state.new }
 {
     let Some(node) = question.target.node else {
         return asked_text(alloc, question, "no such node");
@@ -149,28 +153,56 @@ fn resolve_reply(
     asked_text(alloc, question, found.as_str())
 }
 
-/// The names to which a name resolves under the tables.
+/// The names to which a name resolves under the tables. Where it leads to many, or what the nodes of the net reach is
+/// kept, it goes by that, which is made once.
 fn node_names(
+    alloc: Global,
+    machine: Machine,
+    state: &mut State,
+    access: Access,
+    name: Name,
+) -> Result<String, AllocError>
+    requires ready { IsReady meaning machine state.old }
+    requires there { name.node < length machine.net.now }
+    ensures reply { IfOk result (λ s. string_bytes s ≡ names_text machine.entry.net.now
+        (names_under machine.entry.net.now state.old.book.grants access name)) }
+    ensures still { IsStill meaning machine.entry state.old state.new }
+{
+    if let Some(found) = few_names(alloc, machine, state, access, name)? {
+        return names_of(alloc, machine.net, found.list());
+    }
+    keep_flats(alloc, machine, &mut state.flats)?;
+    let Some(flats) = &state.flats else {
+        unreachable!()
+    };
+    let Machine { net, kinds, .. } = machine;
+    let system = System { net, flats, kinds };
+    let found = resolve_by(alloc, system, state.book.tables(), name, access)?;
+    names_of(alloc, net, found.list())
+}
+
+/// The names to which a name resolves under the tables, where it leads to few and what the nodes of the net reach is
+/// not kept.
+fn few_names(
     alloc: Global,
     machine: Machine,
     state: &State,
     access: Access,
     name: Name,
-) -> Result<String, AllocError>
+) -> Result<Option<Names>, AllocError>
     requires ready { IsReady meaning machine state.now }
     requires there { name.node < length machine.net.now }
-    ensures { IfOk result (λ s. string_bytes s ≡ names_text machine.entry.net.now
-        (names_under machine.entry.net.now state.now.book.grants access name)) }
+    ensures names { IfOk result (λ found. IfSome found (λ names. names
+        ≡ names_under machine.entry.net.now state.now.book.grants access name)) }
+    // Each name is in a node that is there.
+    ensures there { IfOk result (λ found. IfSome found
+        (λ names. IsTrue (are_there (length machine.entry.net.now) names))) }
 {
-    let found = resolve(
-        alloc,
-        machine.net,
-        machine.kinds,
-        state.book.tables(),
-        name,
-        access,
-    )?;
-    names_of(alloc, machine.net, found.list())
+    if state.flats.is_some() {
+        return Ok(None);
+    }
+    let tables = state.book.tables();
+    resolve_few(alloc, machine.net, machine.kinds, tables, name, access)
 }
 
 /// The reply to `lookup`, from the bytes of the present image.
@@ -213,21 +245,28 @@ fn agent_names(
     ensures still { IsStill meaning machine.entry state.old state.new }
 {
     keep_image(alloc, machine, state.book.tables(), &mut state.image)?;
+    keep_flats(alloc, machine, &mut state.flats)?;
     let Some(image) = &state.image else {
         unreachable!()
     };
-    image_names(alloc, machine, image.as_slice(), access, name)
+    let Some(flats) = &state.flats else {
+        unreachable!()
+    };
+    image_names(alloc, machine, flats, image.as_slice(), access, name)
 }
 
-/// The names to which an agent's name comes in the bytes of an image that the program wrote.
+/// The names to which an agent's name comes in the bytes of an image that the program wrote, by what the nodes
+/// of the net reach.
 fn image_names(
     alloc: Global,
     machine: Machine,
+    flats: &Flats,
     image: &[u8],
     access: Access,
     name: Name,
 ) -> Result<String, AllocError>
     requires machine { IsMachine meaning machine }
+    requires flats { AreFlats machine.net.now flats.now }
     requires agent { IsTrue (is_agent_at (slice_get machine.net.now name.node)) }
     requires whole { broken_image machine.net.now
         (kinds_of meaning machine) image.now ≡ None }
@@ -236,38 +275,37 @@ fn image_names(
         (kinds_of meaning machine.entry) image.now access name ≡ Ok names →
         IfOk result (λ s. string_bytes s ≡ names_text machine.entry.net.now names) }
 {
-    let found = lookup_whole(
-        alloc,
-        machine.net,
-        machine.kinds,
-        image,
-        VERSION,
-        access,
-        name,
-    )?;
-    names_of(alloc, machine.net, found.list())
+    let Machine { net, kinds, .. } = machine;
+    let system = System { net, flats, kinds };
+    let found = lookup_by(alloc, system, image, VERSION, access, name)?;
+    names_of(alloc, net, found.list())
 }
 
-/// The reply to `view`.
-fn view_reply(
+/// Writes the reply to `view`: a line, and below it a line for each row.
+pub fn view_reply<K: Sink>(
     alloc: Global,
     machine: Machine,
     state: &mut State,
     target: &Target,
     mode: Mode,
-) -> Result<String, AllocError>
+    sink: &mut K,
+) -> Result<(), Halt>
     requires ready { IsReady meaning machine state.old }
     requires there { IsTrue (over_within (length machine.net.now) target.now.node) }
-    ensures reply { IfOk result (λ s. string_bytes s ≡
-        view_text machine.entry.net.now state.old.book.grants target.now mode) }
+    ensures written { Writes result (K.written sink.old) (K.written sink.new)
+        (view_text machine.entry.net.now state.old.book.grants target.now mode) }
     ensures still { IsStill meaning machine.entry state.old state.new }
+    ensures halted { HaltsBySink result (K.faults sink.old) (K.faults sink.new) }
 {
     let text = target.text.as_str();
     match target.node {
         Some(node) if is_agent(machine.net, node) => {
-            agent_view(alloc, machine, state, text, mode, node)
+            agent_view(alloc, machine, state, text, mode, node, sink)
         }
-        _ => no_agent(alloc, text),
+        _ => {
+            let line = no_agent(alloc, text)?;
+            write_output(sink, line.as_bytes())
+        }
     }
 }
 
@@ -286,40 +324,42 @@ fn no_agent(alloc: Global, text: &str) -> Result<String, AllocError>
     format!(in alloc; "view {text} refused: NoAgent\n")
 }
 
-/// What an agent sees under the tables, below a heading with this text, the access and the number of
+/// Writes what an agent sees under the tables, below a heading with this text, the access and the number of
 /// rows. What all nodes reach is made once, and only where the agent reaches a unit, or is not the first
 /// one whose view is asked for. One that is known to see what the first sees is lent its rows.
-fn agent_view(
+fn agent_view<K: Sink>(
     alloc: Global,
     machine: Machine,
     state: &mut State,
     text: &str,
     mode: Mode,
     node: u16,
-) -> Result<String, AllocError>
+    sink: &mut K,
+) -> Result<(), Halt>
     requires ready { IsReady meaning machine state.old }
     requires agent { IsTrue (is_agent_at (slice_get machine.net.now node)) }
-    ensures reply { IfOk result (λ s. string_bytes s ≡
-        viewed_text machine.entry.net.now text.now mode
+    ensures written { Writes result (K.written sink.old) (K.written sink.new)
+        (viewed_text machine.entry.net.now text.now mode
         (owed_rows machine.entry.net.now state.old.book.grants (access_of mode) node)) }
     ensures still { IsStill meaning machine.entry state.old state.new }
+    ensures halted { HaltsBySink result (K.faults sink.old) (K.faults sink.new) }
 {
     let Machine { net, kinds, .. } = machine;
     keep_first(alloc, machine, &mut state.first, node)?;
     if let Some(rows) = first_rows(net, &state.first, node) {
-        return rows_text(alloc, net, text, mode, rows);
+        return write_view(alloc, net, text, mode, rows, sink);
     }
     keep_flats(alloc, machine, &mut state.flats)?;
     let Some(flats) = &state.flats else {
         unreachable!()
     };
     if let Some(rows) = shared_rows(net, flats, &state.first, node) {
-        return rows_text(alloc, net, text, mode, rows);
+        return write_view(alloc, net, text, mode, rows, sink);
     }
     let system = System { net, flats, kinds };
     let access = access_of(mode);
     let rows = view(alloc, system, state.book.tables(), node, access)?;
-    rows_text(alloc, net, text, mode, &rows)
+    write_view(alloc, net, text, mode, &rows, sink)
 }
 
 /// To what the addresses of a node resolve under any tables, where what it sees is kept as that of the
@@ -357,21 +397,30 @@ fn shared_rows<'a>(
     }
 }
 
-/// Rows below a heading with this text, the access and their number.
-fn rows_text(
+/// Writes rows below a heading with this text, the access and their number.
+fn write_view<K: Sink>(
     alloc: Global,
     net: &Net,
     text: &str,
     mode: Mode,
     seen: &Rows,
-) -> Result<String, AllocError>
+    sink: &mut K,
+) -> Result<(), Halt>
     requires { IsTrue (ends_within (length net.now) seen.now) }
-    ensures { IfOk result (λ s. string_bytes s ≡
-        viewed_text net.now text.now mode (map seen_view seen.now)) }
+    ensures written { Writes result (K.written sink.old) (K.written sink.new)
+        (viewed_text net.now text.now mode (map seen_view seen.now)) }
+    ensures halted { HaltsBySink result (K.faults sink.old) (K.faults sink.new) }
 {
-    let count = seen.rows().len();
+    let rows = seen.rows();
+    let heading = heading_text(alloc, text, mode, rows.len())?;
+    write_output(sink, heading.as_bytes())?;
+    write_rows(alloc, net, rows, sink)
+}
+
+/// The heading of a view: this text, the access and the number of rows.
+fn heading_text(alloc: Global, text: &str, mode: Mode, count: usize) -> Result<String, AllocError>
+    ensures { IfOk result (λ s. string_bytes s ≡ view_heading text.now mode count) }
+{
     let access = access_text(mode);
-    let mut out = format!(in alloc; "view {text}{access} rows {count}\n")?;
-    rows::push_rows(&mut out, net, seen)?;
-    Ok(out)
+    format!(in alloc; "view {text}{access} rows {count}\n")
 }

@@ -1,13 +1,15 @@
 //! The replies to the commands that make another net of the net, which stays as it is.
 
-ghost use Rattle.std.specs.Prelude.{◌≡◌, ◌<◌, length, map, IfOk, IsTrue};
+ghost use Rattle.std.specs.Prelude.{◌≡◌, ◌<◌, List, length, map, IfOk, IfSome, IsSome, IsTrue};
 ghost use Rattle.std.specs.List.{All, list_all};
 ghost use Rattle.dn_kind.specs.Terms.{IsLawful, has_kind};
+ghost use Rattle.dn_net.specs.declared.node.NodeDecl.{NodeDecl};
 ghost use Rattle.dn_net.specs.Terms.{is_closed, over_within};
-ghost use Rattle.dn_shape.specs.Terms.{absorb_outcome};
-ghost use Rattle.dn_tool.specs.Terms.{IsMachine, absorb_text, absorbed_text, kinds_of, limit_text, made_text, no_node_text, reason_text, split_text, unfit_text};
+ghost use Rattle.dn_shape.specs.Terms.{absorb_fault_view, absorb_outcome};
+ghost use Rattle.dn_tool.specs.Terms.{AreUnmade, IsMachine, IsPassed, IsUnfit, IsUnfitFor, absorb_text, absorbed_text, kinds_of, limit_text, made_text, no_node_text, reason_text, refusal_text, split_text, unfit_text};
 
 use crate::machine::Machine;
+use dn_base::items::Items;
 use dn_kind::kinds::Kinds;
 use dn_module::command::Target;
 use dn_net::net::Net;
@@ -15,46 +17,147 @@ use dn_shape::fault::{AbsorbFault, SplitFault, Why};
 use dn_shape::{absorb, split};
 use std::alloc::{AllocError, Global};
 
+/// Why a node is not absorbed.
+#[derive(Clone, Copy)]
+pub struct Unfit {
+    pub node: u16,
+    pub why: AbsorbFault,
+}
+
+/// Why nets were not made of the net, which stays as it is: each is found once, and told to each command
+/// that asks for it.
+#[derive(Drop)]
+pub struct Unmade {
+    /// The limit that the split net passes, where a command was refused for it.
+    pub split: Option<u32>,
+    /// Why nodes are not absorbed, each node for which a command was refused.
+    pub unfit: Items<Unfit>,
+}
+
+impl Unmade {
+    /// No command was refused yet. It takes no memory.
+    pub fn new(alloc: Global) -> Unmade
+        ensures { (net : List NodeDecl) → AreUnmade net result }
+    {
+        Unmade {
+            split: None,
+            unfit: Items::new(alloc),
+        }
+    }
+}
+
 /// The reply to `split`: the split net, or the limit that it would pass. `Err` is want of memory.
-pub fn split_reply(alloc: Global, machine: Machine) -> Result<Vec<u8>, AllocError>
+pub fn split_reply(
+    alloc: Global,
+    machine: Machine,
+    passed: &mut Option<u32>,
+) -> Result<Vec<u8>, AllocError>
     requires machine { IsMachine meaning machine }
-    ensures { IfOk result (λ v. v.items ≡
+    requires passed { IfSome passed.old (IsPassed machine.net.now) }
+    ensures reply { IfOk result (λ v. v.items ≡
         split_text (kinds_of meaning machine.entry) machine.entry.net.now) }
+    ensures passed { IfSome passed.new (IsPassed machine.entry.net.now) }
 {
+    if let Some(limit) = *passed {
+        return limit_reply(alloc, "split", limit);
+    }
     match split::split(alloc, machine.net) {
         Ok(made) => made_reply(alloc, machine.kinds, "split", &made),
-        Err(SplitFault::TooMany { limit }) => limit_reply(alloc, "split", limit),
+        Err(SplitFault::TooMany { limit }) => {
+            *passed = Some(limit);
+            limit_reply(alloc, "split", limit)
+        }
         Err(SplitFault::OutOfMemory) => Err(AllocError),
     }
 }
 
 /// The reply to `absorb`: the net past the node, or why there is none. `Err` is want of memory.
-pub fn absorb_reply(alloc: Global, machine: Machine, target: &Target) -> Result<Vec<u8>, AllocError>
+pub fn absorb_reply(
+    alloc: Global,
+    machine: Machine,
+    unfit: &mut Items<Unfit>,
+    target: &Target,
+) -> Result<Vec<u8>, AllocError>
     requires machine { IsMachine meaning machine }
     requires there { IsTrue (over_within (length machine.net.now) target.now.node) }
-    ensures { IfOk result (λ v. v.items ≡
+    requires unfit { All (IsUnfit machine.net.now) unfit.old }
+    ensures reply { IfOk result (λ v. v.items ≡
         absorb_text (kinds_of meaning machine.entry) machine.entry.net.now target.now) }
+    ensures unfit { All (IsUnfit machine.entry.net.now) unfit.new }
 {
     let name = target.text.as_str();
     match target.node {
-        Some(node) => past_reply(alloc, machine, name, node),
+        Some(node) => past_reply(alloc, machine, unfit, name, node),
         None => no_node(alloc, name),
     }
 }
 
 /// The reply to `absorb` of a node that is there.
-fn past_reply(alloc: Global, machine: Machine, name: &str, node: u16) -> Result<Vec<u8>, AllocError>
+fn past_reply(
+    alloc: Global,
+    machine: Machine,
+    unfit: &mut Items<Unfit>,
+    name: &str,
+    node: u16,
+) -> Result<Vec<u8>, AllocError>
     requires machine { IsMachine meaning machine }
     requires there { node < length machine.net.now }
-    ensures { IfOk result (λ v. v.items ≡
+    requires unfit { All (IsUnfit machine.net.now) unfit.old }
+    ensures reply { IfOk result (λ v. v.items ≡
         absorbed_text (kinds_of meaning machine.entry) name.now
         (absorb_outcome machine.entry.net.now node)) }
+    ensures unfit { All (IsUnfit machine.entry.net.now) unfit.new }
 {
+    if let Some(why) = why_unfit(unfit.as_slice(), node) {
+        return refused_reply(alloc, name, why);
+    }
     match absorb::absorb(alloc, machine.net, node) {
         Ok(made) => made_reply(alloc, machine.kinds, "absorb", &made),
-        Err(AbsorbFault::NotAbsorbable { why }) => unfit_reply(alloc, name, why),
-        Err(AbsorbFault::TooMany { limit }) => limit_reply(alloc, name, limit),
         Err(AbsorbFault::OutOfMemory) => Err(AllocError),
+        Err(why) => kept_reply(alloc, unfit, name, Unfit { node, why }),
+    }
+}
+
+/// The reply where a node is not absorbed, which is kept.
+fn kept_reply(
+    alloc: Global,
+    unfit: &mut Items<Unfit>,
+    name: &str,
+    one: Unfit,
+) -> Result<Vec<u8>, AllocError>
+    requires { IsSome (absorb_fault_view one.why) }
+    ensures reply { IfOk result (λ v. IfSome (absorb_fault_view one.why)
+        (λ refusal. v.items ≡ refusal_text name.now refusal)) }
+    ensures unfit { (net : List NodeDecl) → IsUnfit net one
+        → All (IsUnfit net) unfit.old → All (IsUnfit net) unfit.new }
+{
+    unfit.push(one)?;
+    refused_reply(alloc, name, one.why)
+}
+
+/// Why a node is not absorbed, where that is kept.
+fn why_unfit(unfit: &[Unfit], node: u16) -> Option<AbsorbFault>
+    ensures { (net : List NodeDecl) → All (IsUnfit net) unfit.now
+        → IfSome result (IsUnfitFor net node) }
+{
+    for one in unfit {
+        if one.node == node {
+            return Some(one.why);
+        }
+    }
+    None
+}
+
+/// The reply where the node of this name is not absorbed.
+fn refused_reply(alloc: Global, name: &str, why: AbsorbFault) -> Result<Vec<u8>, AllocError>
+    requires { IsSome (absorb_fault_view why) }
+    ensures { IfOk result (λ v. IfSome (absorb_fault_view why)
+        (λ refusal. v.items ≡ refusal_text name.now refusal)) }
+{
+    match why {
+        AbsorbFault::NotAbsorbable { why } => unfit_reply(alloc, name, why),
+        AbsorbFault::TooMany { limit } => limit_reply(alloc, name, limit),
+        AbsorbFault::OutOfMemory => unreachable!(),
     }
 }
 

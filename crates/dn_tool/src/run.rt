@@ -15,7 +15,7 @@ use crate::demo::run_demo;
 use crate::halt::{Halt, status_of};
 pub use crate::halt::{DEVICE_FAULT, NO_MEMORY, WRITE_FAULT};
 use crate::machine::Machine;
-use crate::output::write_output;
+use crate::output::{write_net, write_output};
 use crate::refusal::Refusal;
 pub use crate::script::DONE;
 use crate::script::run_script;
@@ -223,8 +223,8 @@ fn print_net<K: Sink>(alloc: Global, machine: Machine, sink: &mut K) -> Result<u
     ensures done { IfOk result (λ s. s ≡ 0) }
     ensures halted { HaltsBySink result (K.faults sink.old) (K.faults sink.new) }
 {
-    let text = dn_print::net::net_text(alloc, machine.net, machine.kinds)?;
-    say(sink, text.as_slice(), DONE)
+    write_net(alloc, machine.net, machine.kinds, sink)?;
+    Ok(DONE)
 }
 
 /// Writes the line of a refusal. The status is `REFUSED`.

@@ -6,7 +6,7 @@ ghost use Rattle.dn_image.specs.Terms.{image};
 ghost use Rattle.dn_book.specs.Terms.{tables_of};
 ghost use Rattle.dn_print.specs.Terms.{dump_text};
 ghost use Rattle.dn_module.specs.Terms.{names_within};
-ghost use Rattle.dn_tool.specs.Terms.{CameThrough, HaltsByEither, HaltsBySink, IsMachine, IsPlayed, IsReady, IsReadyOn, IsStill, IsTurn, Writes, ending_status, is_change, is_dump, kinds_of, reply, state_view};
+ghost use Rattle.dn_tool.specs.Terms.{CameThrough, HaltsByEither, HaltsBySink, IsMachine, IsPlayed, IsReady, IsReadyOn, IsStill, IsTurn, Writes, ending_status, is_change, is_dump, is_view, kinds_of, reply, state_view};
 
 use crate::change::change;
 use crate::halt::Halt;
@@ -80,6 +80,9 @@ fn answer<K: Sink, D: Tables>(
             write_output(sink, text.as_slice())
         }
         Command::Dump => dump(alloc, machine, state, sink),
+        Command::View(target, mode) => {
+            reply::view_reply(alloc, machine, state, target, *mode, sink)
+        }
         _ => answer_still(alloc, machine, state, command, sink),
     }
 }
@@ -95,6 +98,7 @@ fn answer_still<K: Sink>(
     requires known { IsTrue (names_within (length machine.net.now) command.now) }
     requires ready { IsReady meaning machine state.old }
     requires no_dump { is_dump command.now ≡ false }
+    requires no_view { is_view command.now ≡ false }
     requires no_change { is_change command.now ≡ false }
     ensures written { Writes result (K.written sink.old) (K.written sink.new)
         (reply (kinds_of meaning machine.entry) machine.entry.net.now

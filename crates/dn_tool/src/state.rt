@@ -8,10 +8,11 @@ ghost use Rattle.dn_image.specs.Terms.{are_filled, image};
 ghost use Rattle.dn_tables.specs.Terms.{AreUnitsMade, FitsNet, fresh_set, tables_of_set, units_of, words_in, words_of};
 ghost use Rattle.dn_walk.specs.Terms.{AreWalksOf};
 ghost use Rattle.dn_book.specs.Terms.{IsFaithful, IsKept};
-ghost use Rattle.dn_tool.specs.Terms.{IsFirstView, IsMachine, IsReadyOn, IsStill, kinds_of, start, state_view};
+ghost use Rattle.dn_tool.specs.Terms.{AreUnmade, IsFirstView, IsMachine, IsReadyOn, IsStill, kinds_of, start, state_view};
 
 use crate::ids::Ids;
 use crate::machine::Machine;
+use crate::reshape::Unmade;
 use dn_base::device::{MakeFault, Tables};
 use dn_base::filled::Filled;
 use dn_base::items::Items;
@@ -31,7 +32,7 @@ pub struct FirstView {
 }
 
 /// The book with its tables, the ids that came so far, and what is made once and kept: the image of
-/// the present tables, a view of the net, and what its nodes reach.
+/// the present tables, a view of the net, what its nodes reach, and why nets were not made of it.
 #[derive(Drop)]
 pub struct State {
     /// The live grants, and the tables that hold their records.
@@ -44,6 +45,8 @@ pub struct State {
     pub first: Option<FirstView>,
     /// What each node reaches in the net, where a command asked for all.
     pub flats: Option<Flats>,
+    /// Why nets were not made of the net, where a command asked for one.
+    pub unmade: Unmade,
 }
 
 impl State {
@@ -74,12 +77,14 @@ impl State {
     {
         let book = Book::make(alloc, machine.net, machine.kinds, device)?;
         are_filled(machine, book.tables());
+        let unmade = Unmade::new(alloc);
         Ok(State {
             book,
             ids: Ids::new(alloc),
             image: None,
             first: None,
             flats: None,
+            unmade,
         })
     }
 }
@@ -196,6 +201,7 @@ pub fn renew(machine: Machine, state: &mut State)
         state.old.book.grants state.old.book.set }
     requires first { IfSome state.old.first (IsFirstView machine.net.now) }
     requires flat { IfSome state.old.flats (AreFlats machine.net.now) }
+    requires unmade { AreUnmade machine.net.now state.old.unmade }
     ensures still { IsStill meaning machine.entry state.old state.new }
 {
     state.image = None;

@@ -10,6 +10,8 @@ pub mod Held
 pub mod Newly
 pub mod Pages
 pub mod Passed
+pub mod Rounds
+pub mod Single
 pub mod Taken
 pub mod Unmet
 pub mod Viewed

@@ -37,28 +37,37 @@ node_stops net flats are node l gives a z low e =
     let is = stops_given net flats are node (subst (λ n. node < n) are.every l) a z low in
     ((λ g. is.0 (sym e ∙ g)), (λ h. e ∙ is.1 h))
 
--- what is shown of a node under records is what its addresses resolve to
+-- what is shown of an address of a node under records is what it resolves to
+pub seen_at : (net : List NodeDecl) → IsLegalNet net → (h : Held) → AreHeld net h → (flats : FlatsView) → AreFlats net flats → (node : ℕ) → node < length flats.nodes → (a : ℕ) → a ≤ TOP → (accepts stops shown : End → Bool)
+    → ((z : End) → accepts z ≡ shows flats node a z)
+    → ((z : End) → stops z ≡ levels_give (stops_of flats node) a z)
+    → ((z : End) → IsTrue (shown z) ↔ (IsTrue (accepts z) ⊎ ((s : End) × IsTrue (stops s) × ComesThrough net h (name_of_end s) (name_of_end z))))
+    → (z : End) → (shown z ≡ true) ↔ ResolvesFromUnder net h node a z
+seen_at net legal h held flats are node l a low accepts stops shown ea es is z = (into, back)
+  where
+    x : Name
+    x = record { node = node; addr = a }
+
+    by_accepts : (accepts z ≡ true) ↔ Resolves net x (name_of_end z)
+    by_accepts = node_accepts net flats are node l (accepts z) a z low (ea z)
+
+    by_stops : (s : End) → (stops s ≡ true) ↔ StopsAt net x (name_of_end s)
+    by_stops s = node_stops net flats are node l (stops s) a s low (es s)
+
+    into : shown z ≡ true → ResolvesFromUnder net h node a z
+    into e = (resolves_through net legal h held x (name_of_end z)).1 (elim ((is z).0 e) [ inl r ↦ inl (by_accepts.0 r) | inr r ↦ inr (name_of_end r.0, (by_stops r.0).0 r.1, r.2) ])
+
+    back : ResolvesFromUnder net h node a z → shown z ≡ true
+    back r = (is z).1 (elim ((resolves_through net legal h held x (name_of_end z)).0 r) [ inl v ↦ inl (by_accepts.1 v) | inr v ↦ inr (end_of v.0, (by_stops (end_of v.0)).1 v.1, v.2) ])
+
+-- so it is for each of its addresses
 pub viewed : (net : List NodeDecl) → IsLegalNet net → (h : Held) → AreHeld net h → (flats : FlatsView) → AreFlats net flats → (node : ℕ) → node < length flats.nodes → (accepts stops shown : List Seg)
     → ((a : ℕ) (z : End) → segs_give accepts a z ≡ shows flats node a z)
     → ((a : ℕ) (z : End) → a ≤ TOP → segs_give stops a z ≡ levels_give (stops_of flats node) a z)
     → ((a : ℕ) (z : End) → a ≤ TOP → IsTrue (segs_give shown a z) ↔ (IsTrue (segs_give accepts a z) ⊎ ((s : End) × IsTrue (segs_give stops a s) × ComesThrough net h (name_of_end s) (name_of_end z))))
     → (a : ℕ) (z : End) → a ≤ TOP → (segs_give shown a z ≡ true) ↔ ResolvesFromUnder net h node a z
-viewed net legal h held flats are node l accepts stops shown ea es is a z low = (into, back)
-  where
-    x : Name
-    x = record { node = node; addr = a }
-
-    by_accepts : (segs_give accepts a z ≡ true) ↔ Resolves net x (name_of_end z)
-    by_accepts = node_accepts net flats are node l (segs_give accepts a z) a z low (ea a z)
-
-    by_stops : (s : End) → (segs_give stops a s ≡ true) ↔ StopsAt net x (name_of_end s)
-    by_stops s = node_stops net flats are node l (segs_give stops a s) a s low (es a s low)
-
-    into : segs_give shown a z ≡ true → ResolvesFromUnder net h node a z
-    into e = (resolves_through net legal h held x (name_of_end z)).1 (elim ((is a z low).0 e) [ inl r ↦ inl (by_accepts.0 r) | inr r ↦ inr (name_of_end r.0, (by_stops r.0).0 r.1, r.2) ])
-
-    back : ResolvesFromUnder net h node a z → segs_give shown a z ≡ true
-    back r = (is a z low).1 (elim ((resolves_through net legal h held x (name_of_end z)).0 r) [ inl v ↦ inl (by_accepts.1 v) | inr v ↦ inr (end_of v.0, (by_stops (end_of v.0)).1 v.1, v.2) ])
+viewed net legal h held flats are node l accepts stops shown ea es is a z low =
+    seen_at net legal h held flats are node l a low (segs_give accepts a) (segs_give stops a) (segs_give shown a) (ea a) (λ y. es a y low) (λ y. is a y low) z
 
 -- what a node that reaches no unit accepts is what its addresses resolve to under any records
 pub fixed_rows : (net : List NodeDecl) → IsLegalNet net → (node : ℕ) (flat : Flat) → IsFlat net node flat → flat.stops ≡ [] → (h : Held) → AreViewed net h node flat.accepts

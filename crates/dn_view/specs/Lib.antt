@@ -1,5 +1,6 @@
 pub mod Courses
 pub mod Exact
+pub mod Named
 pub mod Passes
 pub mod Records
 pub mod Systems

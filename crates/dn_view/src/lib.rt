@@ -4,6 +4,7 @@
 mod course;
 pub mod exact;
 pub mod laws;
+pub mod names;
 mod output;
 mod pass;
 mod range;

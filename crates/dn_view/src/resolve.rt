@@ -1,15 +1,23 @@
 //! What one name resolves to under tables: level by level, where each level has the names one step on
 //! from those of the level before it.
 
-ghost use Rattle.std.specs.Prelude.{◌≡◌, ◌++◌, [], ◌∷◌, ◌<◌, length, map, IfOk, OnOk, IsTrue};
+ghost use Rattle.std.specs.Prelude.{◌≡◌, ◌++◌, ◌↔◌, [], ◌∷◌, ◌<◌, length, map, IfOk, IfSome, OnOk, IsTrue};
 ghost use Rattle.std.specs.List.{All};
+ghost use Rattle.dn_interval.specs.declared.row.End.{End};
+ghost use Rattle.dn_interval.specs.Terms.{segs_give};
 ghost use Rattle.dn_net.specs.Terms.{each_step, is_accepted, passing_names, sorted_names};
 ghost use Rattle.dn_kind.specs.Terms.{IsLawful, IsLegalWith, allowing, are_there, resolved_names_under, steps_under};
 ghost use Rattle.dn_tables.specs.Terms.{FitsNet, record_kept};
-ghost use Rattle.dn_view.specs.Terms.{AreSystemTables};
+ghost use Rattle.dn_view.specs.Terms.{AreSystemTables, IsSystem, ResolvesFromUnder};
 
+use crate::course::Course;
+use crate::names::{push_given, seg_of};
 use crate::output::output;
+use crate::records::Records;
+use crate::shown::push_through;
+use crate::system::System;
 use dn_base::OutOfMemory;
+use dn_interval::Seg;
 use dn_kind::kinds::Kinds;
 use dn_kind::levels::{LEVELS, first_level, push_moved, push_sent, set_of};
 use dn_kind::rights::Access;
@@ -20,7 +28,11 @@ use dn_net::step::Step;
 use dn_tables::set::TableSet;
 use std::alloc::Global;
 
-/// What a name resolves to for an access under the tables. `Err` is want of memory.
+/// How many names are few enough to be followed one by one.
+const FEW: usize = 128;
+
+/// What a name resolves to for an access under the tables, which goes over each name on the way. `Err` is want of
+/// memory.
 pub fn resolve(
     alloc: Global,
     net: &Net,
@@ -55,6 +67,102 @@ pub fn resolve(
         )?;
     }
     set_of(alloc, accepted)
+}
+
+/// The same of a name that leads to few, which are followed one by one. None where there are more, and then it says
+/// nothing. `Err` is want of memory.
+pub fn resolve_few(
+    alloc: Global,
+    net: &Net,
+    kinds: &Kinds,
+    tables: &TableSet,
+    name: Name,
+    access: Access,
+) -> Result<Option<Names>, OutOfMemory>
+    requires lawful { All (λ k. IsLawful (meaning (k.vtable, k.value))) kinds.now.list.items }
+    requires legal { IsLegalWith
+        (map (λ k. meaning (k.vtable, k.value)) kinds.now.list.items) net.now }
+    requires fits { FitsNet net.now
+        (map (λ k. meaning (k.vtable, k.value)) kinds.now.list.items) tables.now }
+    requires there { name.node < length net.now }
+    ensures names { IfOk result (λ found. IfSome found (λ names. names
+        ≡ resolved_names_under net.now (allowing access
+        (record_kept (map (λ k. meaning (k.vtable, k.value)) kinds.now.list.items) tables.now)) name)) }
+{
+    let mut accepted = Vec::new(alloc);
+    let mut level = first_level(alloc, name)?;
+    let mut room = FEW;
+    for _ in 0..LEVELS {
+        let names = level.list();
+        if names.is_empty() {
+            break;
+        }
+        if room < names.len() {
+            return Ok(None);
+        }
+        room -= names.len();
+        level = next_level(alloc, net, kinds, tables, access, names, &mut accepted)?;
+    }
+    Ok(Some(set_of(alloc, accepted)?))
+}
+
+/// The same, by what the nodes of the net reach: time of the levels of the nodes on the way, and of the names
+/// that these give to the address. `Err` is want of memory.
+pub fn resolve_by<'a>(
+    alloc: Global,
+    system: System<'a>,
+    tables: &'a TableSet,
+    name: Name,
+    access: Access,
+) -> Result<Names, OutOfMemory>
+    requires system { IsSystem (λ k. meaning (k.vtable, k.value)) system }
+    requires fits { FitsNet system.net.now
+        (map (λ k. meaning (k.vtable, k.value)) system.kinds.now.list.items) tables.now }
+    requires there { name.node < length system.net.now }
+    ensures names { IfOk result (λ names. names ≡ resolved_names_under system.entry.net.now
+        (allowing access (record_kept
+        (map (λ k. meaning (k.vtable, k.value)) system.entry.kinds.now.list.items) tables.now)) name) }
+{
+    let Some(seg) = seg_of(name) else {
+        return Ok(Names::new(alloc));
+    };
+    let shown = shown_at(alloc, system, tables, seg, access)?;
+    let mut found = Vec::new(alloc);
+    push_given(&mut found, shown.as_slice(), name.addr)?;
+    set_of(alloc, found)
+}
+
+/// The accepted names to which the names of a segment come for an access under the tables, as segments:
+/// those at its first address.
+fn shown_at<'a>(
+    alloc: Global,
+    system: System<'a>,
+    tables: &'a TableSet,
+    seg: Seg,
+    access: Access,
+) -> Result<Vec<Seg>, OutOfMemory>
+    requires system { IsSystem (λ k. meaning (k.vtable, k.value)) system }
+    requires fits { FitsNet system.net.now
+        (map (λ k. meaning (k.vtable, k.value)) system.kinds.now.list.items) tables.now }
+    requires there { seg.node < length system.net.now }
+    ensures { IfOk result (λ shown. (z : End) → IsTrue (segs_give shown.items seg.span.lo z)
+        ↔ ResolvesFromUnder system.entry.net.now (allowing access (record_kept
+        (map (λ k. meaning (k.vtable, k.value)) system.entry.kinds.now.list.items) tables.now))
+        seg.node seg.base z) }
+{
+    let mut shown = Vec::new(alloc);
+    let mut mid = Vec::new(alloc);
+    system.flats.push_accepted(&mut shown, &mut mid, seg)?;
+    let mut stops = Vec::new(alloc);
+    system.flats.push_stops(&mut stops, seg)?;
+    let course = Course {
+        system,
+        tables,
+        records: Records::Kept,
+        access,
+    };
+    push_through(alloc, &mut shown, course, stops)?;
+    Ok(shown)
 }
 
 /// The names one step on from those of a level. Those of the level that are accepted are appended.

@@ -1,8 +1,11 @@
 -- What the net past the node keeps.
 use Rattle.std.proofs.Common.{ℕ, List, rules, ◌≡◌, ◌∙◌, ◌<◌, Option, Some, None, length, slice_get, ap, sym, subst}
+use Rattle.std.proofs.lemmas.Result.{IfOk-weaker}
+use Rattle.dn_base.specs.Answers.{Answers}
 use Rattle.dn_net.specs.declared.node.NodeDecl.{NodeDecl}
 use Rattle.dn_shape.specs.declared.fault.Why.{Why}
-use Rattle.dn_shape.specs.Absorb.{net_past, why_not, why_not_at}
+use Rattle.dn_shape.specs.Absorb.{net_past, net_unless, why_not, why_not_at}
+use Rattle.dn_shape.specs.Faults.{absorb_fault_view}
 use Rattle.dn_shape.specs.Views.{HaveEqualViews, IsRuledNet}
 use Rattle.dn_shape.proofs.Absorbed.{absorb_keeps_views}
 use Rattle.dn_shape.proofs.Led.{absorb_keeps_rules}
@@ -15,12 +18,18 @@ made_keeps P net made node why there told none is keeps =
     let r = rest_at net node there in
     subst P (sym is) (keeps r.node r.at (ap (why_not_at net node) (sym r.at) ∙ sym told ∙ none))
 
-pub returns-in-None-clause-rules : goal.returns-in-None-clause-rules
-returns-in-None-clause-rules c =
+pub returns-clause-made : goal.returns-clause-made
+returns-clause-made c =
     let net = c.args.net.now in
-    made_keeps IsRuledNet net c.in_ok-made.made c.args.node _ c.requires.there c.why_not.ensures c.in_default.is (search rules) (λ n at fit. (absorb_keeps_rules net c.requires.legal c.args.node n at fit).0)
+    let none : why_not_at net c.args.node (slice_get net c.args.node) ≡ None = sym c.why_not.ensures ∙ c.in_default.is in
+    subst (λ (o : Option Why). Answers (λ n. n) absorb_fault_view c.net_past.result (net_unless (net_past net c.args.node) o)) (sym none) c.net_past.ensures.made
 
-pub returns-in-None-clause-views : goal.returns-in-None-clause-views
-returns-in-None-clause-views c =
+pub returns-clause-rules : goal.returns-clause-rules
+returns-clause-rules c =
     let net = c.args.net.now in
-    made_keeps (HaveEqualViews (λ x. x) net) net c.in_ok-made.made c.args.node _ c.requires.there c.why_not.ensures c.in_default.is (search rules) (λ n at fit. absorb_keeps_views net c.requires.legal c.args.node n at fit)
+    IfOk-weaker c.net_past.result _ _ (λ made is. made_keeps IsRuledNet net made c.args.node _ c.requires.there c.why_not.ensures c.in_default.is is (λ n at fit. (absorb_keeps_rules net c.requires.legal c.args.node n at fit).0)) c.net_past.ensures.is
+
+pub returns-clause-views : goal.returns-clause-views
+returns-clause-views c =
+    let net = c.args.net.now in
+    IfOk-weaker c.net_past.result _ _ (λ made is. made_keeps (HaveEqualViews (λ x. x) net) net made c.args.node _ c.requires.there c.why_not.ensures c.in_default.is is (λ n at fit. absorb_keeps_views net c.requires.legal c.args.node n at fit)) c.net_past.ensures.is

@@ -1,10 +1,12 @@
 -- How many nodes the split net has, and what it keeps.
-use Rattle.std.proofs.Common.{rules, ◌≡◌, ◌∙◌, ap, sym, subst, length, arith}
-use Rattle.dn_shape.specs.Limits.{value_by_limit}
-use Rattle.dn_shape.specs.Split.{sending_nodes, split_net, split_name, with_accepters}
+use Rattle.std.proofs.Common.{rules, ◌≡◌, ◌∙◌, ◌≤◌, nat_lt, true, ap, sym, subst, length, arith}
+use Rattle.dn_net.specs.Legal.{node_limit}
+use Rattle.dn_shape.specs.Limits.{part_limit, value_by_limit}
+use Rattle.dn_shape.specs.Split.{parts_of_split, sending_nodes, split_net, split_name, with_accepters}
 use Rattle.dn_shape.specs.Views.{HaveEqualViews, IsRuledNet}
 use Rattle.dn_shape.proofs.Divided.{split_length, sending_length}
-use Rattle.dn_shape.proofs.Limited.{many_nodes}
+use Rattle.dn_shape.proofs.Counted.{split_parts}
+use Rattle.dn_shape.proofs.Limited.{many_nodes, many_parts}
 use Rattle.dn_shape.proofs.Renamed.{split_keeps_views}
 use Rattle.dn_shape.proofs.Ruled.{split_keeps_rules}
 use Rattle.dn_shape.proofs.split.split.Goals as goal
@@ -41,3 +43,11 @@ returns-in-None-clause-views c =
     let all : c.add_accepters.new.made ≡ with_accepters c.in_ok-made.made net = search rules in
     let is : c.add_accepters.new.made ≡ split_net net = all ∙ ap (λ l. with_accepters l net) made in
     subst (HaveEqualViews (split_name net) net) (sym is) (split_keeps_views net c.requires.legal)
+
+pub returns-then-many-clause-made : goal.returns-then-many-clause-made
+returns-then-many-clause-made c =
+    let net = c.args.net.now in
+    let size = split_length net in
+    let few : length (split_net net) ≤ node_limit = omega (arith, size, c.if-from-gt-MAX_NODES.false, c.nodes.ensures, c.from.ensures, c.divided_count.ensures, c.from-2.ensures) in
+    let many : nat_lt part_limit (parts_of_split net) ≡ true = search rules in
+    ap (value_by_limit (split_net net)) (many_parts (split_net net) few (ap (nat_lt part_limit) (split_parts net) ∙ many))

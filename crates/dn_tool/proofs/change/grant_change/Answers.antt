@@ -64,11 +64,11 @@ returns-in_ok-grant_refused-in-Err g c =
     let said = grant_said c.in-Err.why no_device no_memory in
     let refused : IsGrantRefused net state.book.grants (id_number state.ids id) rq said.0 = subst (λ n. IsGrantRefused net state.book.grants n rq said.0) number (grant_refused_so net state.book.grants c.grant.new.book.grants c.in_ok-number.number rq c.in-Err.why said.0 said.1 c.in-Err.ensures.turn) in
     let text : c.in_ok-grant_refused-in-Err.field-0 ≡ grant_refused_text id said.0 = subst (λ (o : Option GrantRefusal). IfSome o (λ r. c.in_ok-grant_refused-in-Err.field-0 ≡ grant_refused_text id r)) said.1 c.in_ok-grant_refused-in-Err.ensures in
-    let after : Kept = record { book = c.grant.new.book; ids = c.number.new.self; image = state.image; first = state.first; flats = c.keep_flats.new.flats } in
+    let after : Kept = record { book = c.grant.new.book; ids = c.number.new.self; image = state.image; first = state.first; flats = c.keep_flats.new.flats; unmade = state.unmade } in
     let left : state_with_id s id ≡ state_view after = state_named after s id state.book same.0 refl refl c.in_ok-number.ensures.ids in
     let turned = not_granted_turn kinds net s (state_view after) id rq said.0 (g.D.Tables.log c.args.device.now) (g.D.Tables.log c.grant.new.device) refused (ap g.D.Tables.log same.1) left in
     record {
       changed = subst (λ (t : List ℕ). IsChanged (IsGrantTurn kinds net s id rq) (state_view after) t (g.D.Tables.log c.args.device.now) (g.D.Tables.log c.grant.new.device)) (sym text) turned;
-      ready = record { machine = c.requires.ready.machine; state = state_same kinds net state after c.requires.ready.state same.0 refl c.requires.ready.state.first c.in_ok-keep_flats.ensures.flat; on_device = c.in-Err.ensures.on_device };
+      ready = record { machine = c.requires.ready.machine; state = state_same kinds net state after c.requires.ready.state same.0 refl c.requires.ready.state.first c.in_ok-keep_flats.ensures.flat c.requires.ready.state.unmade; on_device = c.in-Err.ensures.on_device };
       halted = record { no_write = refl; counted = subst (λ d. IsCounted (g.D.Tables.faults c.args.device.now) (g.D.Tables.faults d) false) (sym same.1) (counted_none (g.D.Tables.faults c.args.device.now)) };
     }

@@ -42,7 +42,7 @@ returns-in_ok-refused_reply-in-Err-NoGrant-clause-changed g c =
     let failed : c.revoke.result ≡ Err NoGrant = c.in-Err-NoGrant.is ∙ ap Err c.in-Err-NoGrant.field-0-is in
     let same = c.revoke.ensures.unchanged failed in
     let none : has_id (id_number state.ids id) state.book.grants ≡ false = subst (λ n. has_id n state.book.grants ≡ false) number (c.revoke.ensures.unknown.0 failed) in
-    let after : Kept = record { book = c.revoke.new.self; ids = c.number.new.self; image = state.image; first = state.first; flats = state.flats } in
+    let after : Kept = record { book = c.revoke.new.self; ids = c.number.new.self; image = state.image; first = state.first; flats = state.flats; unmade = state.unmade } in
     let left : state_with_id s id ≡ state_view after = state_named after s id state.book same.0 refl refl c.in_ok-number.ensures.ids in
     subst (λ (t : List ℕ). IsChanged (IsRevokeTurn kinds net s id) (state_view after) t (g.D.Tables.log c.args.device.now) (g.D.Tables.log c.revoke.new.device)) (sym c.in_ok-refused_reply-in-Err-NoGrant.ensures) (not_revoked_turn kinds net s (state_view after) id (g.D.Tables.log c.args.device.now) (g.D.Tables.log c.revoke.new.device) none (ap g.D.Tables.log same.1) left)
 
@@ -51,10 +51,10 @@ returns-in_ok-refused_reply-in-Err-NoGrant-clause-ready g c =
     let kinds : List Meaning = map (λ k. (goal.UnitKind-dyn g (k.vtable, k.value)).meaning k.value) c.args.machine.kinds.now.list.items in
     let state = c.args.state.now in
     let same = c.revoke.ensures.unchanged (c.in-Err-NoGrant.is ∙ ap Err c.in-Err-NoGrant.field-0-is) in
-    let after : Kept = record { book = c.revoke.new.self; ids = c.number.new.self; image = state.image; first = state.first; flats = state.flats } in
+    let after : Kept = record { book = c.revoke.new.self; ids = c.number.new.self; image = state.image; first = state.first; flats = state.flats; unmade = state.unmade } in
     record {
       machine = c.requires.ready.machine;
-      state = state_same kinds c.args.machine.net.now state after c.requires.ready.state same.0 refl c.requires.ready.state.first c.requires.ready.state.flat;
+      state = state_same kinds c.args.machine.net.now state after c.requires.ready.state same.0 refl c.requires.ready.state.first c.requires.ready.state.flat c.requires.ready.state.unmade;
       on_device = c.revoke.ensures.on_device;
     }
 

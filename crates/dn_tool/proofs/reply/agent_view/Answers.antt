@@ -1,5 +1,5 @@
-use Rattle.std.proofs.Common.{◌≡◌, subst, map, List, IfOk}
-use Rattle.std.specs.String.{string_bytes}
+use Rattle.std.proofs.Common.{◌≡◌, subst, map, is_ok, List}
+use Rattle.dn_base.specs.Outside.{IsWritten}
 use Rattle.dn_interval.specs.declared.row.Row.{Row}
 use Rattle.dn_net.specs.declared.node.NodeDecl.{NodeDecl}
 use Rattle.dn_net.proofs.Stops.{agent_there}
@@ -10,6 +10,7 @@ use Rattle.dn_tables.specs.declared.table.NodeTable.{NodeTable}
 use Rattle.dn_tables.specs.Set.{record_kept}
 use Rattle.dn_view.specs.Views.{AreViewed}
 use Rattle.dn_tool.specs.Found.{access_of}
+use Rattle.dn_tool.specs.Halt.{is_write_halt}
 use Rattle.dn_tool.specs.Viewed.{viewed_text}
 use Rattle.dn_tool.proofs.Seen.{fixed_is_owed, seen_is_owed}
 use Rattle.dn_tool.proofs.reply.agent_view.Goals as goal
@@ -17,26 +18,26 @@ use Rattle.dn_tool.proofs.reply.agent_view.Goals as goal
 pub keep_first-requires-clause-there : goal.keep_first-requires-clause-there
 keep_first-requires-clause-there g c = agent_there c.args.machine.net.now c.args.node c.requires.agent
 
-pub returns-in-Some-clause-reply : goal.returns-in-Some-clause-reply
-returns-in-Some-clause-reply g c =
+pub returns-in-Some-clause-written : goal.returns-in-Some-clause-written
+returns-in-Some-clause-written g c =
     fixed_is_owed c.args.machine.net.now _ c.args.state.now (access_of c.args.mode) c.args.node c.in-Some.rows.now
-    (λ r. IfOk c.rows_text.result (λ s. string_bytes s ≡ viewed_text c.args.machine.net.now c.args.text.now c.args.mode r))
-    c.requires.ready.state c.requires.agent c.in-Some.ensures.rows c.rows_text.ensures
+    (λ r. IsWritten (g.K.Sink.written c.args.sink.now) (g.K.Sink.written c.write_view.new.sink) (is_ok c.write_view.result) (is_write_halt c.write_view.result) (viewed_text c.args.machine.net.now c.args.text.now c.args.mode r))
+    c.requires.ready.state c.requires.agent c.in-Some.ensures.rows c.write_view.ensures.written
 
 pub shared_rows-requires-clause-there : goal.shared_rows-requires-clause-there
 shared_rows-requires-clause-there g c = agent_there c.args.machine.net.now c.args.node c.requires.agent
 
-pub returns-in-Some-shared_rows-clause-reply : goal.returns-in-Some-shared_rows-clause-reply
-returns-in-Some-shared_rows-clause-reply g c =
+pub returns-in-Some-shared_rows-clause-written : goal.returns-in-Some-shared_rows-clause-written
+returns-in-Some-shared_rows-clause-written g c =
     fixed_is_owed c.args.machine.net.now _ c.args.state.now (access_of c.args.mode) c.args.node c.in-Some-shared_rows.rows.now
-    (λ r. IfOk c.rows_text-in-Some-shared_rows.result (λ s. string_bytes s ≡ viewed_text c.args.machine.net.now c.args.text.now c.args.mode r))
-    c.requires.ready.state c.requires.agent c.in-Some-shared_rows.ensures.rows c.rows_text-in-Some-shared_rows.ensures
+    (λ r. IsWritten (g.K.Sink.written c.args.sink.now) (g.K.Sink.written c.write_view-in-Some-shared_rows.new.sink) (is_ok c.write_view-in-Some-shared_rows.result) (is_write_halt c.write_view-in-Some-shared_rows.result) (viewed_text c.args.machine.net.now c.args.text.now c.args.mode r))
+    c.requires.ready.state c.requires.agent c.in-Some-shared_rows.ensures.rows c.write_view-in-Some-shared_rows.ensures.written
 
 pub view-requires-clause-there : goal.view-requires-clause-there
 view-requires-clause-there g c = agent_there c.args.machine.net.now c.args.node c.requires.agent
 
-pub returns-clause-reply : goal.returns-clause-reply
-returns-clause-reply g c =
+pub returns-clause-written : goal.returns-clause-written
+returns-clause-written g c =
     let kinds : List Meaning = map (λ k. (goal.UnitKind-dyn g (k.vtable, k.value)).meaning k.value) c.args.machine.kinds.now.list.items in
     let net : List NodeDecl = c.args.machine.net.now in
     let state = c.args.state.now in
@@ -44,4 +45,4 @@ returns-clause-reply g c =
     let rows : List Row = c.in_ok-rows.rows in
     let set : AreViewed net (allowing c.access_of-access.result (record_kept kinds state.book.set)) c.args.node rows = subst (λ (s : List NodeTable). AreViewed net (allowing c.access_of-access.result (record_kept kinds s)) c.args.node rows) c.tables.ensures c.in_ok-rows.ensures.rows in
     let normal : AreViewed net (allowing access (record_kept kinds state.book.set)) c.args.node rows = subst (λ (a : Access). AreViewed net (allowing a (record_kept kinds state.book.set)) c.args.node rows) c.access_of-access.ensures set in
-    seen_is_owed net kinds state access c.args.node rows (λ r. IfOk c.rows_text-2.result (λ s. string_bytes s ≡ viewed_text net c.args.text.now c.args.mode r)) c.requires.ready.state c.requires.agent normal c.rows_text-2.ensures
+    seen_is_owed net kinds state access c.args.node rows (λ r. IsWritten (g.K.Sink.written c.args.sink.now) (g.K.Sink.written c.write_view-2.new.sink) (is_ok c.write_view-2.result) (is_write_halt c.write_view-2.result) (viewed_text net c.args.text.now c.args.mode r)) c.requires.ready.state c.requires.agent normal c.write_view-2.ensures.written

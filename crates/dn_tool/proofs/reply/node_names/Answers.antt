@@ -1,4 +1,4 @@
-use Rattle.std.proofs.Common.{◌≡◌, ◌∙◌, ap, sym, subst, map, length, List, IfOk, IsTrue}
+use Rattle.std.proofs.Common.{rules, ◌≡◌, ◌∙◌, ap, sym, subst, map, length, List, IfOk, IsTrue}
 use Rattle.std.specs.String.{string_bytes}
 use Rattle.dn_net.specs.declared.node.Name.{Name}
 use Rattle.dn_net.specs.declared.node.NodeDecl.{NodeDecl}
@@ -13,22 +13,28 @@ use Rattle.dn_tool.specs.Found.{names_under}
 use Rattle.dn_tool.proofs.Seen.{held_same}
 use Rattle.dn_tool.proofs.reply.node_names.Goals as goal
 
-pub names_of-requires : goal.names_of-requires
-names_of-requires g c =
+pub names_of-2-requires : goal.names_of-2-requires
+names_of-2-requires g c =
     let kinds : List Meaning = map (λ k. (goal.UnitKind-dyn g (k.vtable, k.value)).meaning k.value) c.args.machine.kinds.now.list.items in
     let net : List NodeDecl = c.args.machine.net.now in
     let h : Held = allowing c.args.access (record_kept kinds c.tables.result.now) in
-    let found : c.list.result.now ≡ resolved_names_under net h c.args.name = c.list.ensures.value ∙ c.in_ok-found.ensures.names in
+    let found : c.list-2.result.now ≡ resolved_names_under net h c.args.name = c.list-2.ensures.value ∙ c.in_ok-found-2.ensures.names in
     subst (λ (l : List Name). IsTrue (are_there (length net) l)) (sym found) (resolved_under_there net h c.args.name)
 
-pub returns : goal.returns
-returns g c =
+pub returns-clause-reply : goal.returns-clause-reply
+returns-clause-reply g c =
     let kinds : List Meaning = map (λ k. (goal.UnitKind-dyn g (k.vtable, k.value)).meaning k.value) c.args.machine.kinds.now.list.items in
     let net : List NodeDecl = c.args.machine.net.now in
     let book = c.args.state.now.book in
-    let found : c.list.result.now ≡ names_under net book.grants c.args.access c.args.name =
-    c.list.ensures.value
-    ∙ c.in_ok-found.ensures.names
+    let found : c.list-2.result.now ≡ names_under net book.grants c.args.access c.args.name =
+    c.list-2.ensures.value
+    ∙ c.in_ok-found-2.ensures.names
     ∙ ap (λ (s : List NodeTable). resolved_names_under net (allowing c.args.access (record_kept kinds s)) c.args.name) c.tables.ensures
     ∙ ap (λ (h : Held). resolved_names_under net h c.args.name) (held_same net book.grants c.args.access (record_kept kinds book.set) c.requires.ready.state.kept.held) in
+    subst (λ (l : List Name). IfOk c.names_of-2.result (λ s. string_bytes s ≡ names_text net l)) found c.names_of-2.ensures
+
+pub returns-in-Some-clause-reply : goal.returns-in-Some-clause-reply
+returns-in-Some-clause-reply g c =
+    let net : List NodeDecl = c.args.machine.net.now in
+    let found : c.list.result.now ≡ names_under net c.args.state.now.book.grants c.args.access c.args.name = search rules in
     subst (λ (l : List Name). IfOk c.names_of.result (λ s. string_bytes s ≡ names_text net l)) found c.names_of.ensures

@@ -6,14 +6,14 @@ use Rattle.dn_print.specs.Names.{names_text}
 use Rattle.dn_tool.specs.Found.{access_of, asked_text, names_under, resolved_text}
 use Rattle.dn_tool.proofs.reply.resolve_reply.Goals as goal
 
-pub returns-in_default : goal.returns-in_default
-returns-in_default g c =
+pub returns-in_default-clause-reply : goal.returns-in_default-clause-reply
+returns-in_default-clause-reply g c =
     let q = c.args.question in
     let is : resolved_text c.args.machine.net.now c.args.state.now.book.grants (access_of q.mode) q.target.now.node q.addr ≡ codes "no such node" = search rules in
     subst (λ (t : List ℕ). IfOk c.asked_text.result (λ s. string_bytes s ≡ asked_text q.target.now q.addr q.mode t)) (sym is) c.asked_text.ensures
 
-pub returns : goal.returns
-returns g c =
+pub returns-clause-reply : goal.returns-clause-reply
+returns-clause-reply g c =
     let q = c.args.question in
     let net = c.args.machine.net.now in
     let book = c.args.state.now.book.grants in
@@ -22,6 +22,6 @@ returns g c =
     let is : resolved_text net book (access_of q.mode) q.target.now.node q.addr ≡ c.as_str.result.now =
     ap (λ (o : Option ℕ). resolved_text net book (access_of q.mode) o q.addr) node
     ∙ ap (λ (a : Access). names_text net (names_under net book a name)) (sym c.access_of-access.ensures)
-    ∙ sym c.in_ok-found.ensures
+    ∙ sym c.in_ok-found.ensures.reply
     ∙ sym c.as_str.ensures.value in
     subst (λ (t : List ℕ). IfOk c.asked_text-2.result (λ s. string_bytes s ≡ asked_text q.target.now q.addr q.mode t)) (sym is) c.asked_text-2.ensures

@@ -6,8 +6,8 @@ use Rattle.dn_kind.specs.Units.{has_kind}
 use Rattle.dn_tool.proofs.Shaped.{kinds_fit}
 use Rattle.dn_tool.proofs.run.print_net.Goals as goal
 
-pub net_text-requires-clause-known : goal.net_text-requires-clause-known
-net_text-requires-clause-known g c =
+pub write_net-requires-clause-known : goal.write_net-requires-clause-known
+write_net-requires-clause-known g c =
     let kinds : List Meaning = map (λ k. (goal.UnitKind-dyn g (k.vtable, k.value)).meaning k.value) c.args.machine.kinds.now.list.items in
     let there = kinds_fit kinds c.args.machine.net.now c.requires.machine.legal.shaped in
     subst (λ (n : ℕ). IsTrue (list_all (λ d. has_kind n d.unit) c.args.machine.net.now)) (length-map c.args.machine.kinds.now.list.items _) there

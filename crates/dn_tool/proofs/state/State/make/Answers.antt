@@ -16,6 +16,7 @@ returns-clause-ready g c = record {
     bytes = tt;
     first = tt;
     flat = tt;
+    unmade = c.new-unmade.ensures c.args.machine.net.now;
   };
   on_device = c.in_ok-book.ensures.on_device;
 }

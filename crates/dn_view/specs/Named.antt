@@ -1,0 +1,37 @@
+-- Lists of names to which more are added: those to which a name comes, and those that segments give.
+use Rattle.std.specs.Prelude.{◌≡◌, ℕ, ◌⊎◌, ◌↔◌, Bool, ◌||◌, List}
+use Rattle.std.specs.List.{list_any}
+use Rattle.dn_interval.specs.declared.row.Seg.{Seg}
+use Rattle.dn_interval.specs.Strands.{seg_gives, segs_give}
+use Rattle.dn_net.specs.declared.node.Name.{Name}
+use Rattle.dn_net.specs.declared.node.NodeDecl.{NodeDecl}
+use Rattle.dn_net.specs.Chain.{Member}
+use Rattle.dn_net.specs.Decode.{Resolves, StopsAt}
+use Rattle.dn_net.specs.Names.{name_eq}
+use Rattle.dn_walk.specs.Ends.{end_of}
+
+-- the name stands in the list
+abbrev pub has_name : List Name → Name → Bool
+has_name xs z = list_any (name_eq z) xs
+
+-- the segment begins at the address of the name, and gives the name there
+pub record IsAlone (x : Name) (s : Seg) : Type 0 where
+  pub node : s.node ≡ x.node
+  pub base : s.base ≡ x.addr
+  pub lo : s.span.lo ≡ x.addr
+
+-- the names that were there, and those to which the name resolves in the net
+abbrev pub AddsResolved : List NodeDecl → Name → List Name → List Name → Type 0
+AddsResolved net x old new = (z : Name) → Member z new ↔ (Member z old ⊎ Resolves net x z)
+
+-- the names that were there, and the stops of the name
+abbrev pub AddsStops : List NodeDecl → Name → List Name → List Name → Type 0
+AddsStops net x old new = (z : Name) → Member z new ↔ (Member z old ⊎ StopsAt net x z)
+
+-- the names that were there, and those that the segments give to the address
+abbrev pub AddsGiven : List Seg → ℕ → List Name → List Name → Type 0
+AddsGiven segs a old new = (z : Name) → has_name new z ≡ (has_name old z || segs_give segs a (end_of z))
+
+-- the names that were there, and the one that the segment gives to the address, where it gives one
+abbrev pub AddsOne : Seg → ℕ → List Name → List Name → Type 0
+AddsOne s a old new = (z : Name) → has_name new z ≡ (has_name old z || seg_gives s a (end_of z))
