@@ -1,36 +1,17 @@
--- What is known where a refusal is told, and where none is.
-use Rattle.std.proofs.Common.{◌≡◌, ◌≢◌, ◌∙◌, sym, refl, ℕ, ◌⊎◌, inl, inr, Bool, true, false, if◌then◌else◌, not, nat_le, List, length, slice_get, Option, Some, None, Result, Err}
+-- What is known where a refusal is told.
+use Rattle.std.proofs.Common.{◌≡◌, ◌≢◌, ◌∙◌, sym, refl, ℕ, ◌⊎◌, inl, inr, false, if◌then◌else◌, not, nat_le, List, length, slice_get, Option, Some, None, Result, Err}
 use Rattle.std.specs.Option.{option_map}
 use Rattle.dn_net.specs.declared.node.NodeDecl.{NodeDecl}
 use Rattle.dn_net.specs.Decode.{is_agent_at}
 use Rattle.dn_placement.specs.declared.request.Request.{Request}
 use Rattle.dn_book.specs.declared.grant.Grant.{Grant}
 use Rattle.dn_book.specs.Book.{has_id}
+use Rattle.dn_place.proofs.Told.{one_of, told_by}
 use Rattle.dn_grant.specs.declared.fault.GrantFault.{GrantFault}
 use Rattle.dn_grant.specs.declared.fault.GrantFault.TheVariants.{IdUsed, NoAgent, NoTarget, NotAccepted, BookFull, NoPlacement, Device, OutOfMemory}
 use Rattle.dn_grant.specs.Faults.{grant_answer_view, grant_fault_view, is_grant_fault}
 use Rattle.dn_grant.specs.Grant.{IsGrantOutcome}
 use Rattle.dn_grant.specs.Refusal.{GrantRefusal, id_used, no_agent, no_target, book_full, no_placement, grant_refusal, is_target_at, refusal_by, refused_address}
-
--- no refusal holds where none is told
-pub none_told : (told : Option GrantFault) (found : Option GrantRefusal) →
-    option_map grant_fault_view told ≡ option_map (λ why. Some why) found → told ≡ None → found ≡ None
-none_told None None e none = refl
-none_told None (Some why) e none = cc
-none_told (Some fault) found e none = cc
-
--- the refusal that a fault says, where it is told
-told_by : (fault : GrantFault) (found : Option GrantRefusal) →
-    option_map grant_fault_view (Some fault) ≡ option_map (λ why. Some why) found →
-    (why : GrantRefusal) × (grant_fault_view fault ≡ Some why) × (found ≡ Some why)
-told_by fault None e = cc
-told_by fault (Some why) e = (why, cc, refl)
-
--- the first of two that is found is one of them
-one_of : (b : Bool) (first why : GrantRefusal) (rest : Option GrantRefusal) →
-    (if b then Some first else rest) ≡ Some why → (why ≡ first) ⊎ (rest ≡ Some why)
-one_of true first why rest e = inl cc
-one_of false first why rest e = inr e
 
 -- that no placement serves is no refusal of those that need no search
 needs_search : (net : List NodeDecl) (book : List Grant) (id : ℕ) (rq : Request) →
@@ -78,7 +59,7 @@ pub is_told : (net : List NodeDecl) (book : List Grant) (id : ℕ) (rq : Request
     option_map grant_fault_view (Some fault) ≡ option_map (λ why. Some why) (grant_refusal net book id rq) →
     IsTold net book id rq fault
 is_told net book id rq fault e =
-    let said = told_by fault (grant_refusal net book id rq) e in
+    let said = told_by grant_fault_view fault (grant_refusal net book id rq) e in
     by fault said.0 said.1 said.2
   where
     by : (fault : GrantFault) (why : GrantRefusal) → grant_fault_view fault ≡ Some why →

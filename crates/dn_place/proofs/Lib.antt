@@ -8,6 +8,7 @@ pub mod Pages
 pub mod Proper
 pub mod Readies
 pub mod Stretches
+pub mod Told
 pub mod Tops
 pub mod Toward
 pub mod Units

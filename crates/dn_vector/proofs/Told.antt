@@ -1,36 +1,17 @@
--- What is known where a refusal is told, and where none is.
-use Rattle.std.proofs.Common.{◌≡◌, ◌≢◌, ◌∙◌, sym, refl, ℕ, ◌⊎◌, inl, inr, Bool, true, false, if◌then◌else◌, not, nat_le, List, length, slice_get, Option, Some, None, Result, Err}
+-- What is known where a refusal is told.
+use Rattle.std.proofs.Common.{◌≡◌, ◌≢◌, ◌∙◌, sym, refl, ℕ, ◌⊎◌, inl, inr, false, if◌then◌else◌, not, nat_le, List, length, slice_get, Option, Some, None, Result, Err}
 use Rattle.std.specs.Option.{option_map}
 use Rattle.dn_net.specs.declared.node.NodeDecl.{NodeDecl}
 use Rattle.dn_net.specs.Decode.{is_agent_at}
 use Rattle.dn_placement.specs.Roles.{is_vectors_at}
 use Rattle.dn_book.specs.declared.grant.Grant.{Grant}
 use Rattle.dn_book.specs.Book.{has_id}
+use Rattle.dn_place.proofs.Told.{one_of, told_by}
 use Rattle.dn_vector.specs.declared.fault.RouteFault.{RouteFault}
 use Rattle.dn_vector.specs.declared.fault.RouteFault.TheVariants.{IdUsed, NoAgent, NoTarget, BookFull, NoPlacement, Device, OutOfMemory}
 use Rattle.dn_vector.specs.Faults.{route_answer_view, route_fault_view, is_route_fault}
 use Rattle.dn_vector.specs.Route.{IsRouteOutcome}
 use Rattle.dn_vector.specs.Refusal.{RouteRefusal, id_used, no_agent, no_target, book_full, no_placement, route_refusal}
-
--- no refusal holds where none is told
-pub none_told : (told : Option RouteFault) (found : Option RouteRefusal) →
-    option_map route_fault_view told ≡ option_map (λ why. Some why) found → told ≡ None → found ≡ None
-none_told None None e none = refl
-none_told None (Some why) e none = cc
-none_told (Some fault) found e none = cc
-
--- the refusal that a fault says, where it is told
-told_by : (fault : RouteFault) (found : Option RouteRefusal) →
-    option_map route_fault_view (Some fault) ≡ option_map (λ why. Some why) found →
-    (why : RouteRefusal) × (route_fault_view fault ≡ Some why) × (found ≡ Some why)
-told_by fault None e = cc
-told_by fault (Some why) e = (why, cc, refl)
-
--- the first of two that is found is one of them
-one_of : (b : Bool) (first why : RouteRefusal) (rest : Option RouteRefusal) →
-    (if b then Some first else rest) ≡ Some why → (why ≡ first) ⊎ (rest ≡ Some why)
-one_of true first why rest e = inl cc
-one_of false first why rest e = inr e
 
 -- that no placement serves is no refusal of those that need no search
 needs_search : (net : List NodeDecl) (book : List Grant) (id agent node : ℕ) →
@@ -72,7 +53,7 @@ pub is_told : (net : List NodeDecl) (book : List Grant) (id agent line node : �
     option_map route_fault_view (Some fault) ≡ option_map (λ why. Some why) (route_refusal net book id agent node) →
     IsTold net book id agent line node fault
 is_told net book id agent line node fault e =
-    let said = told_by fault (route_refusal net book id agent node) e in
+    let said = told_by route_fault_view fault (route_refusal net book id agent node) e in
     by fault said.0 said.1 said.2
   where
     by : (fault : RouteFault) (why : RouteRefusal) → route_fault_view fault ≡ Some why →

@@ -2,8 +2,10 @@ use Rattle.std.proofs.Common.{◌∙◌, ap, sym, refl, subst, not, map}
 use Rattle.dn_base.specs.Outside.{IsCounted}
 use Rattle.dn_base.proofs.Counts.{counted_none}
 use Rattle.dn_tables.proofs.Slots.{all_of_map}
+use Rattle.dn_place.proofs.Told.{none_told}
+use Rattle.dn_grant.specs.Faults.{grant_fault_view}
 use Rattle.dn_grant.proofs.Allowed.{allowed_is, allowed_within, allowed_grant, no_addition, still_faithful}
-use Rattle.dn_grant.proofs.Told.{IsTold, is_told, none_told}
+use Rattle.dn_grant.proofs.Told.{IsTold, is_told}
 use Rattle.dn_grant.proofs.grant.grant.Given.{Over}
 use Rattle.dn_grant.proofs.grant.grant.Goals.{In-Some}
 use Rattle.dn_grant.proofs.grant.grant.Goals as goal
@@ -34,41 +36,41 @@ returns-in-Some-clause-counted g c =
 
 pub first_in_book-requires-clause-agent : goal.first_in_book-requires-clause-agent
 first_in_book-requires-clause-agent g c =
-    (allowed_is c.args.system.net.now c.args.book.now.grants c.args.id c.args.request.now (none_told _ _ c.refusal.ensures c.in_default.is)).agent
+    (allowed_is c.args.system.net.now c.args.book.now.grants c.args.id c.args.request.now (none_told grant_fault_view _ _ c.refusal.ensures c.in_default.is)).agent
 
 pub first_in_book-requires-clause-some : goal.first_in_book-requires-clause-some
 first_in_book-requires-clause-some g c =
     (allowed_within c.args.system.net.now c.args.book.now.grants c.args.id c.args.request.now
-    (allowed_is c.args.system.net.now c.args.book.now.grants c.args.id c.args.request.now (none_told _ _ c.refusal.ensures c.in_default.is))).0
+    (allowed_is c.args.system.net.now c.args.book.now.grants c.args.id c.args.request.now (none_told grant_fault_view _ _ c.refusal.ensures c.in_default.is))).0
 
 pub first_in_book-requires-clause-buffer : goal.first_in_book-requires-clause-buffer
 first_in_book-requires-clause-buffer g c =
     (allowed_within c.args.system.net.now c.args.book.now.grants c.args.id c.args.request.now
-    (allowed_is c.args.system.net.now c.args.book.now.grants c.args.id c.args.request.now (none_told _ _ c.refusal.ensures c.in_default.is))).1
+    (allowed_is c.args.system.net.now c.args.book.now.grants c.args.id c.args.request.now (none_told grant_fault_view _ _ c.refusal.ensures c.in_default.is))).1
 
 pub returns-in-Ok-None-clause-turn : goal.returns-in-Ok-None-clause-turn
 returns-in-Ok-None-clause-turn g c =
-    (record { allowed = none_told _ _ c.refusal.ensures c.in_default.is; none = c.in-Ok-None.ensures.none c.in-Ok-None.field-0-is }, refl)
+    (record { allowed = none_told grant_fault_view _ _ c.refusal.ensures c.in_default.is; none = c.in-Ok-None.ensures.none c.in-Ok-None.field-0-is }, refl)
 
 pub returns-in-Err-clause-turn : goal.returns-in-Err-clause-turn
-returns-in-Err-clause-turn g c = (none_told _ _ c.refusal.ensures c.in_default.is, refl)
+returns-in-Err-clause-turn g c = (none_told grant_fault_view _ _ c.refusal.ensures c.in_default.is, refl)
 
 pub returns-in-Err-Device-clause-turn : goal.returns-in-Err-Device-clause-turn
-returns-in-Err-Device-clause-turn g c = (none_told _ _ c.refusal.ensures c.in_default.is, c.in-Err-Device.ensures.refused)
+returns-in-Err-Device-clause-turn g c = (none_told grant_fault_view _ _ c.refusal.ensures c.in_default.is, c.in-Err-Device.ensures.refused)
 
 pub returns-in-Err-OutOfMemory-clause-turn : goal.returns-in-Err-OutOfMemory-clause-turn
-returns-in-Err-OutOfMemory-clause-turn g c = (none_told _ _ c.refusal.ensures c.in_default.is, c.in-Err-OutOfMemory.ensures.refused)
+returns-in-Err-OutOfMemory-clause-turn g c = (none_told grant_fault_view _ _ c.refusal.ensures c.in_default.is, c.in-Err-OutOfMemory.ensures.refused)
 
 pub commit-requires-clause-placed : goal.commit-requires-clause-placed
 commit-requires-clause-placed g c =
     allowed_grant c.args.system.net.now c.args.book.now.grants c.args.id c.args.request.now c.in-Ok-Some.placement
-    (none_told _ _ c.refusal.ensures c.in_default.is) c.requires.rights (rw c.in-Ok-Some.field-0-is at c.in-Ok-Some.ensures.first)
+    (none_told grant_fault_view _ _ c.refusal.ensures c.in_default.is) c.requires.rights (rw c.in-Ok-Some.field-0-is at c.in-Ok-Some.ensures.first)
 
 pub returns-in-Err-Device-clause-stopped : goal.returns-in-Err-Device-clause-stopped
 returns-in-Err-Device-clause-stopped g c =
     λ e. record {
       place = c.in-Ok-Some.placement;
-      placed = record { allowed = none_told _ _ c.refusal.ensures c.in_default.is; first = (rw c.in-Ok-Some.field-0-is at c.in-Ok-Some.ensures.first) };
+      placed = record { allowed = none_told grant_fault_view _ _ c.refusal.ensures c.in_default.is; first = (rw c.in-Ok-Some.field-0-is at c.in-Ok-Some.ensures.first) };
       added = c.in-Err-Device.ensures.added (λ m. let device = c.in-Err-Device.field-0-is in cc);
     }
 
@@ -76,7 +78,7 @@ pub returns-in-Ok-clause-turn : goal.returns-in-Ok-clause-turn
 returns-in-Ok-clause-turn g c =
     record {
       place = c.in-Ok-Some.placement;
-      placed = record { allowed = none_told _ _ c.refusal.ensures c.in_default.is; first = (rw c.in-Ok-Some.field-0-is at c.in-Ok-Some.ensures.first) };
+      placed = record { allowed = none_told grant_fault_view _ _ c.refusal.ensures c.in_default.is; first = (rw c.in-Ok-Some.field-0-is at c.in-Ok-Some.ensures.first) };
       address = c.v-v.ensures;
       appended = c.in-Ok.ensures.granted;
     }
@@ -84,12 +86,12 @@ returns-in-Ok-clause-turn g c =
 pub returns-in-Ok-clause-faithful : goal.returns-in-Ok-clause-faithful
 returns-in-Ok-clause-faithful g c =
     still_faithful c.args.system.net.now c.args.book.now.grants _ c.args.id c.args.request.now c.in-Ok-Some.placement c.requires.system.legal.legal c.requires.kept.sound
-    (none_told _ _ c.refusal.ensures c.in_default.is) c.requires.rights (rw c.in-Ok-Some.field-0-is at c.in-Ok-Some.ensures.first) c.in-Ok.ensures.granted
+    (none_told grant_fault_view _ _ c.refusal.ensures c.in_default.is) c.requires.rights (rw c.in-Ok-Some.field-0-is at c.in-Ok-Some.ensures.first) c.in-Ok.ensures.granted
 
 pub returns-in-Ok-clause-granted : goal.returns-in-Ok-clause-granted
 returns-in-Ok-clause-granted g c = record {
   place = c.in-Ok-Some.placement;
-  placed = record { allowed = none_told _ _ c.refusal.ensures c.in_default.is; first = (rw c.in-Ok-Some.field-0-is at c.in-Ok-Some.ensures.first) };
+  placed = record { allowed = none_told grant_fault_view _ _ c.refusal.ensures c.in_default.is; first = (rw c.in-Ok-Some.field-0-is at c.in-Ok-Some.ensures.first) };
   added = c.in-Ok.ensures.added (λ e. cc);
 }
 
@@ -97,5 +99,5 @@ pub returns-in-Ok-None-clause-complete : goal.returns-in-Ok-None-clause-complete
 returns-in-Ok-None-clause-complete g c =
     let ks = map (λ k. (goal.UnitKind-dyn g (k.vtable, k.value)).meaning k.value) c.args.system.kinds.now.list.items in
     λ e one. no_addition c.args.system.net.now ks c.args.book.now.grants c.args.book.now.set c.args.id c.args.request.now c.requires.system.legal.legal
-    (all_of_map _ c.args.system.kinds.now.list.items c.requires.system.lawful) c.requires.kept (none_told _ _ c.refusal.ensures c.in_default.is) c.requires.rights one
+    (all_of_map _ c.args.system.kinds.now.list.items c.requires.system.lawful) c.requires.kept (none_told grant_fault_view _ _ c.refusal.ensures c.in_default.is) c.requires.rights one
     (c.in-Ok-None.ensures.none c.in-Ok-None.field-0-is)
