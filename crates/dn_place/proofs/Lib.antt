@@ -8,7 +8,6 @@ pub mod Pages
 pub mod Proper
 pub mod Readies
 pub mod Stretches
-pub mod Told
 pub mod Tops
 pub mod Toward
 pub mod Units
