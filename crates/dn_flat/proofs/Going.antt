@@ -1,5 +1,5 @@
 -- Segments and levels whose names go on: the names that they give, each followed by what its node gives.
-use Rattle.std.proofs.Common.{◌≡◌, ℕ, ◌+◌, ◌-◌, inl, inr, Bool, true, false, ◌&&◌, ◌||◌, nat_eq, List, [], ◌∷◌, slice_get, Some, None, sym, ap, ◌∙◌, eqb-true, eq-eqb, refl}
+use Rattle.std.proofs.Common.{◌≡◌, ℕ, ◌+◌, ◌-◌, inl, inr, Bool, true, false, ◌&&◌, ◌||◌, nat_eq, List, [], ◌∷◌, slice_get, Some, None, Result, Ok, Err, OnOk, sym, ap, ◌∙◌, eqb-true, eq-eqb, refl}
 use Rattle.std.proofs.lemmas.Bool.{or_cases, and_parts, and_from, false≢true}
 use Rattle.dn_base.proofs.Booleans.{same_tests, or_left, or_right, and-false}
 use Rattle.dn_interval.specs.declared.row.End.{End}
@@ -44,6 +44,11 @@ or_and_false false q = sym (and-false q)
 
 pub push_none : (part : Part) (nodes : List Reach) (s : Seg) (old : Bool) (a : ℕ) (z : End) → slice_get nodes s.node ≡ None → old ≡ (old || seg_leads (leads_by part nodes) s a z)
 push_none part nodes s old a z at = or_and_false old (in_span s.span a) ∙ ap (λ t. old || (in_span s.span a && t)) (sym (leads_none part nodes s.node at (s.base + (a - s.span.lo)) z))
+
+-- what was added behind the addresses of a segment, told in other words
+pub adds_same : {A E : Type 0} (r : Result A E) (old new : List Seg) (s : Seg) (f g : ℕ → End → Bool) → ((b : ℕ) (z : End) → f b z ≡ g b z) → OnOk r ((a : ℕ) (z : End) → segs_give new a z ≡ (segs_give old a z || (in_span s.span a && f (s.base + (a - s.span.lo)) z))) → OnOk r ((a : ℕ) (z : End) → segs_give new a z ≡ (segs_give old a z || (in_span s.span a && g (s.base + (a - s.span.lo)) z)))
+adds_same (Ok x) old new s f g e h = λ a z. h a z ∙ ap (λ t. segs_give old a z || (in_span s.span a && t)) (e (s.base + (a - s.span.lo)) z)
+adds_same (Err x) old new s f g e h = tt
 
 -- segments
 

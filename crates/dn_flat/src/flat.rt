@@ -5,10 +5,9 @@ ghost use Rattle.dn_interval.specs.Terms.{AreNormal, ends_within};
 ghost use Rattle.dn_walk.specs.Terms.{AreWalksOf};
 ghost use Rattle.dn_flat.specs.Terms.{ResolvesFrom, StopsFrom};
 
-use crate::stage::first_stage;
+use crate::stage::Stage;
 use dn_base::OutOfMemory;
 use dn_interval::Rows;
-use dn_net::checked::CheckedNet;
 use dn_net::net::Net;
 use dn_walk::walks::WalkTable;
 use std::alloc::Global;
@@ -34,11 +33,6 @@ pub fn flatten(alloc: Global, net: &Net, walks: &WalkTable, node: u16) -> Result
     ensures within { IfOk result (λ flat. IsTrue (ends_within (length net.now) flat.accepts)) }
     ensures stops_within { IfOk result (λ flat. IsTrue (ends_within (length net.now) flat.stops)) }
 {
-    let stage = first_stage(
-        alloc,
-        CheckedNet { net },
-        walks.accepted_by_node(),
-        walks.legs(),
-    )?;
+    let stage = Stage::of_walks(alloc, net, walks)?;
     stage.flat(alloc, net, node)
 }

@@ -13,11 +13,10 @@ ghost use Rattle.dn_flat.specs.Terms.{AreFlats, AreLevelsBelow, IsFlat, IsStage,
 
 use crate::levels::{Levels, push_given, push_shown, shown_segs};
 use crate::shared::Shared;
-use crate::stage::{Stage, first_stage};
-use crate::stretches::{alone_segs, led_stretches, near_segs};
+use crate::stage::Stage;
+use crate::stretches::{Buffer, alone_segs, led_stretches, near_segs};
 use dn_base::OutOfMemory;
 use dn_interval::{End, Rows, Seg, strands_of};
-use dn_net::checked::CheckedNet;
 use dn_net::net::Net;
 use dn_walk::walks::WalkTable;
 use std::alloc::Global;
@@ -126,10 +125,11 @@ impl Flats {
     {
         let nodes = self.stage.reaches();
         let levels = self.of(node).reached.as_slice();
-        let near = near_segs(alloc, nodes, levels, first, size)?;
+        let buffer = Buffer { first, size };
+        let near = near_segs(alloc, nodes, levels, buffer)?;
         let strands = strands_of(alloc, &near)?;
         drop(near);
-        let led = led_stretches(alloc, &strands, first, size)?;
+        let led = led_stretches(alloc, &strands, buffer)?;
         drop(strands);
         let alone = alone_segs(alloc, nodes, levels, &led)?;
         Rows::normal(alloc, &alone)
@@ -143,12 +143,7 @@ pub fn flatten_all(alloc: Global, net: &Net, walks: &WalkTable) -> Result<Flats,
     requires { AreWalksOf net.now walks.now }
     ensures { IfOk result (λ flats. AreFlats net.now flats) }
 {
-    let stage = first_stage(
-        alloc,
-        CheckedNet { net },
-        walks.accepted_by_node(),
-        walks.legs(),
-    )?;
+    let stage = Stage::of_walks(alloc, net, walks)?;
     let mut nodes = Shared::new(alloc);
     for node in 0..net.nodes() {
         add(alloc, net, &stage, &mut nodes, node)?;

@@ -70,21 +70,21 @@ pub(crate) fn whole(node: u16) -> Seg
     }
 }
 
-/// Adds what the names of levels come to, by what their nodes come to.
-pub(crate) fn push_levels(
-    segs: &mut Vec<Seg>,
+/// What the names of levels come to, by what their nodes come to.
+pub(crate) fn levels_segs(
+    alloc: Global,
     nodes: &[Reach],
     part: Part,
     levels: &[Rows],
-) -> Result<(), OutOfMemory>
-    ensures { OnOk result ((a : ℕ) (z : End) → segs_give segs.new.items a z
-        ≡ (segs_give segs.old.items a z
-        || levels_lead (leads_by part.entry nodes.now) levels.now a z)) }
+) -> Result<Vec<Seg>, OutOfMemory>
+    ensures { IfOk result (λ segs. (a : ℕ) (z : End) → segs_give segs.items a z
+        ≡ levels_lead (leads_by part.entry nodes.now) levels.now a z) }
 {
+    let mut segs = Vec::new(alloc);
     for level in levels {
-        push_rows(segs, nodes, part, level)?;
+        push_rows(&mut segs, nodes, part, level)?;
     }
-    Ok(())
+    Ok(segs)
 }
 
 /// Adds what the names of rows come to, by what their nodes come to.

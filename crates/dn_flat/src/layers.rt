@@ -7,7 +7,7 @@ ghost use Rattle.std.specs.Prelude.{◌≡◌, ℕ, ◌+◌, ◌-◌, ◌≤◌,
 ghost use Rattle.std.specs.List.{list_any};
 ghost use Rattle.dn_interval.specs.declared.row.End.{End};
 ghost use Rattle.dn_interval.specs.declared.span.TheConstants.{TOP};
-ghost use Rattle.dn_interval.specs.Terms.{is_in_turn, seg_gives, segs_give, strand_gives, strands_give};
+ghost use Rattle.dn_interval.specs.Terms.{seg_gives, segs_give, strand_gives, strands_give};
 ghost use Rattle.dn_flat.specs.Terms.{levels_give};
 ghost use Rattle.dn_flat.specs.declared.layers.Numbered.{Numbered};
 
@@ -15,7 +15,7 @@ use crate::found::whole;
 use dn_base::OutOfMemory;
 use dn_base::items::Items;
 use dn_interval::onward::follow;
-use dn_interval::{Rows, Seg, Span, Strand, TOP, strands_of};
+use dn_interval::{Rows, Seg, Span, Strand, TOP, are_in_turn, strands_of};
 use std::alloc::Global;
 use std::collections::BinaryHeap;
 
@@ -73,20 +73,6 @@ fn seg_of(strand: &Strand) -> Seg
         node: strand.node,
         base: strand.slide + strand.span.lo - TOP,
     }
-}
-
-/// Whether each segment begins behind those before it.
-fn are_in_turn(segs: &[Seg]) -> bool
-    ensures { result ≡ is_in_turn 0 segs.now }
-{
-    let mut from = 0;
-    for seg in segs {
-        if seg.span.lo < from {
-            return false;
-        }
-        from = seg.span.hi + 1;
-    }
-    true
 }
 
 /// Layers that together give what segments give.

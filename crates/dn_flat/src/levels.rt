@@ -5,11 +5,11 @@ ghost use Rattle.dn_interval.specs.declared.row.End.{End};
 ghost use Rattle.dn_interval.specs.declared.span.TheConstants.{TOP};
 ghost use Rattle.dn_interval.specs.Terms.{in_span, rows_go, segs_give};
 ghost use Rattle.dn_net.specs.Terms.{KeepsNodeRules};
-ghost use Rattle.dn_flat.specs.Terms.{AreLevels, AreReaches, IsLevels, StopsFrom, leads_by, levels_give, levels_show, segs_lead};
+ghost use Rattle.dn_flat.specs.Terms.{AreLevels, AreReaches, StopsFrom, leads_by, levels_give, levels_show, segs_lead};
 ghost use Rattle.dn_flat.specs.declared.found.Part.TheVariants.{Accepts, Goes, Stays};
 
-use crate::found::{Part, push_levels, push_segs, whole};
-use crate::layers::{joined, layers_of, push_layers};
+use crate::found::{Part, levels_segs, push_segs, whole};
+use crate::layers::{joined, push_layers};
 use crate::reach::Reach;
 use dn_base::OutOfMemory;
 use dn_base::items::Items;
@@ -35,27 +35,6 @@ pub(crate) struct Reached {
     pub(crate) levels: Items<Rows>,
     /// The names in units.
     pub(crate) stops: Vec<Seg>,
-}
-
-/// What a node of a net reaches, by what each node comes to in one step. Time and memory of the walks that start at
-/// the node.
-pub(crate) fn node_levels(
-    alloc: Global,
-    net: &Net,
-    nodes: &[Reach],
-    node: u16,
-) -> Result<Levels, OutOfMemory>
-    requires rules { KeepsNodeRules net.now }
-    requires nodes { AreReaches net.now 1 nodes.now }
-    requires there { node < length net.now }
-    ensures { IfOk result (λ levels. IsLevels net.now node levels) }
-{
-    let Reached { levels, stops } = node_reached(alloc, net, nodes, node)?;
-    let stops = layers_of(alloc, &stops)?;
-    Ok(Levels {
-        reached: levels,
-        stops,
-    })
 }
 
 /// What a node of a net reaches, by what each node comes to in one step: the names that are reached in so many steps
@@ -134,9 +113,7 @@ pub(crate) fn shown_segs(
     ensures { IfOk result (λ segs. (a : ℕ) (z : End) → segs_give segs.items a z
         ≡ levels_show nodes.now levels.now a z) }
 {
-    let mut segs = Vec::new(alloc);
-    push_levels(&mut segs, nodes, Part::Accepts, levels)?;
-    Ok(segs)
+    levels_segs(alloc, nodes, Part::Accepts, levels)
 }
 
 /// Adds the accepted names to which the names of a segment come by the levels of their node. `mid` is room for names

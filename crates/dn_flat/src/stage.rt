@@ -4,12 +4,13 @@ ghost use Rattle.std.specs.Prelude.{◌≡◌, ◌*◌, ◌<◌, ◌≤◌, Some
 ghost use Rattle.dn_interval.specs.Terms.{AreNormal};
 ghost use Rattle.dn_net.specs.declared.node.NodeDecl.{NodeDecl};
 ghost use Rattle.dn_net.specs.Terms.{IsLegalNet, KeepsNodeRules};
-ghost use Rattle.dn_walk.specs.Terms.{AreAccepted, bare_legs};
+ghost use Rattle.dn_walk.specs.Terms.{AreAccepted, AreWalksOf, bare_legs};
 ghost use Rattle.dn_flat.specs.declared.reach.Reach.{Reach};
 ghost use Rattle.dn_flat.specs.Terms.{GoesIn, IsDone, IsFlat, IsLedTo, IsLevels, IsStage};
 
 use crate::flat::Flat;
-use crate::levels::{Levels, Reached, node_levels, node_reached, shown_segs};
+use crate::layers::layers_of;
+use crate::levels::{Levels, Reached, node_reached, shown_segs};
 use crate::reach::{Reach, first_reach, twice};
 use dn_base::OutOfMemory;
 use dn_interval::{Rows, SpanSet};
@@ -17,6 +18,7 @@ use dn_net::checked::CheckedNet;
 use dn_net::net::Net;
 use dn_walk::accepted::accepted_sets;
 use dn_walk::leg::{Legs, net_legs};
+use dn_walk::walks::WalkTable;
 use std::alloc::Global;
 use std::marker::Model;
 
@@ -46,6 +48,21 @@ impl Stage {
         let accepted = accepted_sets(alloc, checked)?;
         let legs = net_legs(alloc, checked)?;
         first_stage(alloc, checked, &accepted, &legs)
+    }
+
+    /// The stage for one step of a net that has this table of live walks, of which only what the nodes accept and their
+    /// legs are read.
+    pub(crate) fn of_walks(
+        alloc: Global,
+        net: &Net,
+        walks: &WalkTable,
+    ) -> Result<Stage, OutOfMemory>
+        requires { AreWalksOf net.now walks.now }
+        ensures stage { IfOk result (λ stage. IsStage net.now stage) }
+        ensures steps { IfOk result (λ stage. stage.steps ≡ 1) }
+    {
+        let checked = CheckedNet { net };
+        first_stage(alloc, checked, walks.accepted_by_node(), walks.legs())
     }
 
     /// The net's stage for twice as many steps.
@@ -121,7 +138,8 @@ impl Stage {
         self.nodes.as_slice()
     }
 
-    /// What a node of the net reaches, by the net's stage for one step.
+    /// What a node of the net reaches, by the net's stage for one step. Time and memory of the walks that start at the
+    /// node.
     pub(crate) fn levels(&self, alloc: Global, net: &Net, node: u16) -> Result<Levels, OutOfMemory>
         requires rules { KeepsNodeRules net.now }
         requires stage { IsStage net.now self.now }
@@ -129,7 +147,12 @@ impl Stage {
         requires there { node < length net.now }
         ensures { IfOk result (λ levels. IsLevels net.now node levels) }
     {
-        node_levels(alloc, net, self.nodes.as_slice(), node)
+        let Reached { levels, stops } = node_reached(alloc, net, self.nodes.as_slice(), node)?;
+        let stops = layers_of(alloc, &stops)?;
+        Ok(Levels {
+            reached: levels,
+            stops,
+        })
     }
 
     /// What a node of the net sees, by the net's stage for one step: level by level from the node itself, so of the
@@ -152,7 +175,7 @@ impl Stage {
 }
 
 /// The stage of a net for one step, from the addresses that its nodes accept and from their legs.
-pub(crate) fn first_stage(
+fn first_stage(
     alloc: Global,
     checked: CheckedNet,
     accepted: &[SpanSet],

@@ -10,84 +10,90 @@ ghost use Rattle.dn_net.specs.declared.node.NodeDecl.{NodeDecl};
 ghost use Rattle.dn_flat.specs.Terms.{AreLevels, AreReaches, GivesAll, IsAlone, IsStretch, NearFrom, are_led, begins, is_led, is_part, leads_by, seg_leads, segs_lead};
 ghost use Rattle.dn_flat.specs.declared.found.Part.TheVariants.{Accepts};
 
-use crate::found::{Part, push, push_levels};
+use crate::found::{Part, levels_segs, push};
 use crate::reach::{Reach, still};
 use dn_base::OutOfMemory;
 use dn_interval::onward::follow;
 use dn_interval::{End, Rows, Seg, Span, Strand, TOP};
 use std::alloc::Global;
 
-/// The accepted names of so many from one on to which addresses come by the levels of their node.
+/// So many names from one on, which are all within the addresses.
+#[derive(Clone, Copy)]
+pub(crate) struct Buffer {
+    pub(crate) first: End,
+    pub(crate) size: u64,
+    ghost some: { 1 ≤ size },
+    ghost within: { first.base + size ≤ TOP + 1 },
+}
+
+/// Room for names on the way, and for those to which they come.
+#[derive(Drop)]
+struct Room {
+    mid: Vec<Seg>,
+    accepted: Vec<Seg>,
+}
+
+/// The accepted names of a buffer to which addresses come by the levels of their node.
 pub(crate) fn near_segs(
     alloc: Global,
     nodes: &[Reach],
     levels: &[Rows],
-    first: End,
-    size: u64,
+    buffer: Buffer,
 ) -> Result<Vec<Seg>, OutOfMemory>
-    requires some { 1 ≤ size }
-    requires within { first.base + size ≤ TOP + 1 }
     ensures { IfOk result (λ segs. (net : List NodeDecl) (node : ℕ) → AreReaches net 1 nodes.now
         → AreLevels net node levels.now → (a : ℕ) (z : End) → a ≤ TOP
-        → IsTrue (segs_give segs.items a z) ↔ NearFrom net node first size a z) }
+        → IsTrue (segs_give segs.items a z) ↔ NearFrom net node buffer.first buffer.size a z) }
 {
     let mut segs = Vec::new(alloc);
-    let buffer = stretch(first, size, first.base);
-    push(&mut segs, nodes, Part::Accepts, buffer)?;
+    let all = stretch(buffer, buffer.first.base);
+    push(&mut segs, nodes, Part::Accepts, all)?;
     let rows = Rows::normal(alloc, &segs)?;
-    segs.clear();
-    push_levels(&mut segs, nodes, Part::Toward(first.node, &rows), levels)?;
-    Ok(segs)
+    levels_segs(alloc, nodes, Part::Toward(buffer.first.node, &rows), levels)
 }
 
-/// So many names from one on, for as many addresses from one on.
-fn stretch(first: End, size: u64, lo: u64) -> Seg
-    requires some { 1 ≤ size }
-    requires within { first.base + size ≤ TOP + 1 }
-    requires fits { lo + size ≤ TOP + 1 }
-    ensures is { IsStretch first size result }
+/// The names of a buffer, for as many addresses from one on.
+fn stretch(buffer: Buffer, lo: u64) -> Seg
+    requires { lo + buffer.size ≤ TOP + 1 }
+    ensures is { IsStretch buffer.first buffer.size result }
     ensures lo { result.span.lo ≡ lo }
 {
     let span = Span {
         lo,
-        hi: lo + (size - 1),
+        hi: lo + (buffer.size - 1),
     };
     Seg {
         span,
-        node: first.node,
-        base: first.base,
+        node: buffer.first.node,
+        base: buffer.first.base,
     }
 }
 
-/// The stretches of addresses that strands lead to so many names from one on.
+/// The stretches of addresses that strands lead to a buffer.
 pub(crate) fn led_stretches(
     alloc: Global,
     strands: &[Strand],
-    first: End,
-    size: u64,
+    buffer: Buffer,
 ) -> Result<Vec<Seg>, OutOfMemory>
-    requires some { 1 ≤ size }
-    requires within { first.base + size ≤ TOP + 1 }
-    ensures each { IfOk result (λ segs. All (IsStretch first size) segs.items) }
+    ensures each { IfOk result (λ segs. All (IsStretch buffer.first buffer.size) segs.items) }
     ensures led { IfOk result (λ segs. (v : ℕ) → begins segs.items v
-        ≡ are_led first size strands.now v) }
+        ≡ are_led buffer.first buffer.size strands.now v) }
 {
     let mut segs = Vec::new(alloc);
     for strand in strands {
-        push_led(&mut segs, strand, first, size)?;
+        push_led(&mut segs, strand, buffer)?;
     }
     Ok(segs)
 }
 
-/// Adds the stretch that a strand leads to so many names from one on, where it leads one.
-fn push_led(segs: &mut Vec<Seg>, strand: &Strand, first: End, size: u64) -> Result<(), OutOfMemory>
-    requires some { 1 ≤ size }
-    requires within { first.base + size ≤ TOP + 1 }
-    ensures each { OnOk result (All (IsStretch first size) segs.old.items
-        → All (IsStretch first size) segs.new.items) }
+/// Adds the stretch that a strand leads to a buffer, where it leads one.
+fn push_led(segs: &mut Vec<Seg>, strand: &Strand, buffer: Buffer) -> Result<(), OutOfMemory>
+    ensures each { OnOk result (All (IsStretch buffer.first buffer.size) segs.old.items
+        → All (IsStretch buffer.first buffer.size) segs.new.items) }
     ensures led { OnOk result ((v : ℕ) → begins segs.new.items v
-        ≡ (begins segs.old.items v || is_led first size strand.now v)) }
+        ≡ (begins segs.old.items v || is_led buffer.first buffer.size strand.now v)) }
 {
+    let first = buffer.first;
+    let size = buffer.size;
     if strand.node != first.node {
         return Ok(());
     }
@@ -98,7 +104,7 @@ fn push_led(segs: &mut Vec<Seg>, strand: &Strand, first: End, size: u64) -> Resu
     if strand.span.hi < lo + (size - 1) {
         return Ok(());
     }
-    segs.push(stretch(first, size, lo))?;
+    segs.push(stretch(buffer, lo))?;
     Ok(())
 }
 
@@ -114,10 +120,12 @@ pub(crate) fn alone_segs(
         ↔ (Member s segs.now × IsAlone nodes.now levels.now s)) }
 {
     let mut out = Vec::new(alloc);
-    let mut mid = Vec::new(alloc);
-    let mut room = Vec::new(alloc);
+    let mut room = Room {
+        mid: Vec::new(alloc),
+        accepted: Vec::new(alloc),
+    };
     for seg in segs {
-        let alone = is_alone(&mut mid, &mut room, nodes, levels, *seg)?;
+        let alone = is_alone(&mut room, nodes, levels, *seg)?;
         push_where(&mut out, *seg, alone)?;
     }
     Ok(out)
@@ -134,11 +142,9 @@ fn push_where(segs: &mut Vec<Seg>, seg: Seg, test: bool) -> Result<(), OutOfMemo
     Ok(())
 }
 
-/// Whether the addresses of a segment show by the levels of their node no names but those of the segment. `mid` and
-/// `room` are room for names on the way.
+/// Whether the addresses of a segment show by the levels of their node no names but those of the segment.
 fn is_alone(
-    mid: &mut Vec<Seg>,
-    room: &mut Vec<Seg>,
+    room: &mut Room,
     nodes: &[Reach],
     levels: &[Rows],
     seg: Seg,
@@ -146,7 +152,7 @@ fn is_alone(
     ensures { IfOk result (λ alone. IsTrue alone ↔ IsAlone nodes.now levels.now seg) }
 {
     for level in levels {
-        let alone = is_alone_in(mid, room, nodes, level, seg)?;
+        let alone = is_alone_in(room, nodes, level, seg)?;
         if !alone {
             return Ok(false);
         }
@@ -156,8 +162,7 @@ fn is_alone(
 
 /// Whether they show no others by one level.
 fn is_alone_in(
-    mid: &mut Vec<Seg>,
-    room: &mut Vec<Seg>,
+    room: &mut Room,
     nodes: &[Reach],
     level: &Rows,
     seg: Seg,
@@ -165,9 +170,9 @@ fn is_alone_in(
     ensures { IfOk result (λ alone. IsTrue alone ↔ GivesAll (λ a z. in_span seg.span a
         && rows_go (leads_by Accepts nodes.now) level.now a z) seg) }
 {
-    mid.clear();
-    follow(mid, still(0, seg.span), level)?;
-    give_parts(room, nodes, mid.as_slice(), seg)
+    room.mid.clear();
+    follow(&mut room.mid, still(0, seg.span), level)?;
+    give_parts(&mut room.accepted, nodes, room.mid.as_slice(), seg)
 }
 
 /// Whether segments come to no accepted names but those of another.

@@ -1,5 +1,5 @@
 -- What a request for a grant comes to: a refusal, or a grant at the first admissible placement.
-use Rattle.std.specs.Prelude.{◌≡◌, ℕ, Bool, List, [], ◌∷◌, ◌++◌, Option, Some, None, Result, Ok, Err}
+use Rattle.std.specs.Prelude.{◌≡◌, ◌≢◌, ℕ, Bool, false, List, [], ◌∷◌, ◌++◌, Option, Some, None, Result, Ok, Err}
 use Rattle.dn_base.specs.declared.device.TableEvent.{TableEvent}
 use Rattle.dn_net.specs.declared.node.NodeDecl.{NodeDecl}
 use Rattle.dn_kind.specs.Kind.{Meaning}
@@ -11,6 +11,9 @@ use Rattle.dn_view.specs.Addition.{GivesExactly, IsAddition}
 use Rattle.dn_book.specs.declared.grant.Grant.{Grant}
 use Rattle.dn_book.specs.Book.{slots_of}
 use Rattle.dn_book.specs.Writes.{AreAdded, grant_events}
+use Rattle.dn_grant.specs.declared.fault.GrantFault.{GrantFault}
+use Rattle.dn_grant.specs.declared.fault.GrantFault.TheVariants.{NoPlacement, Device}
+use Rattle.dn_grant.specs.Faults.{grant_answer_view, is_grant_fault}
 use Rattle.dn_grant.specs.Refusal.{GrantRefusal, no_placement, grant_refusal}
 
 -- the grant of a request at a placement
@@ -69,3 +72,12 @@ pub record IsGrantLogged (net : List NodeDecl) (kinds : List Meaning) (book : Li
   pub place : Place
   pub placed : IsPlaced net book id rq place
   pub added : AreAdded (grant_events net kinds book cleared (grant_of_request id rq place)) failed log log'
+
+-- what is known of a fault that is told before a placement is sought: it says the first refusal that holds, and comes
+-- neither of the search nor of the device
+pub record IsTold (net : List NodeDecl) (book : List Grant) (id : ℕ) (rq : Request) (fault : GrantFault)
+    : Type 0 where
+  pub outcome : IsGrantOutcome net book id rq (grant_answer_view (Err fault)) book
+  pub no_search : ◌≢◌ {A = Result ℕ GrantFault} (Err fault) (Err NoPlacement)
+  pub no_failure : ◌≢◌ {A = Result ℕ GrantFault} (Err fault) (Err Device)
+  pub no_device : is_grant_fault {A = ℕ} (Err fault) ≡ false

@@ -1,8 +1,8 @@
 //! The refusals of a request that need no search.
 
-ghost use Rattle.std.specs.Prelude.{◌≡◌, ◌<◌, length, slice_get, Some, IsTrue};
+ghost use Rattle.std.specs.Prelude.{◌≡◌, ◌<◌, length, slice_get, Some, None, IfSome, IsTrue};
 ghost use Rattle.std.specs.Option.{option_map};
-ghost use Rattle.dn_grant.specs.Terms.{grant_fault_view, grant_refusal, is_target_at};
+ghost use Rattle.dn_grant.specs.Terms.{IsTold, grant_fault_view, grant_refusal, is_target_at};
 
 use crate::accepted::refused_address;
 use crate::fault::GrantFault;
@@ -17,8 +17,11 @@ const MAX_GRANTS: usize = 4096;
 
 /// The first refusal of a request that holds before a placement is sought. It takes no memory.
 pub fn refusal(book: &Book, checked: CheckedNet, id: u32, request: &Request) -> Option<GrantFault>
-    ensures { option_map grant_fault_view result ≡ option_map (λ why. Some why)
+    ensures same { option_map grant_fault_view result ≡ option_map (λ why. Some why)
         (grant_refusal checked.entry.net.now book.now.grants id request.now) }
+    ensures told { IfSome result (IsTold checked.entry.net.now book.now.grants id request.now) }
+    ensures none { result ≡ None →
+        grant_refusal checked.entry.net.now book.now.grants id request.now ≡ None }
 {
     let net = checked.net;
     if book.has_id(id) {

@@ -20,6 +20,7 @@ pub mod strands;
 
 pub use row::{End, Row, Seg};
 pub use rows::Rows;
+pub use runs::are_in_turn;
 pub use span::{Span, TOP};
 pub use span_set::SpanSet;
 pub use strand::Strand;

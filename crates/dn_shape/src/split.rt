@@ -4,7 +4,7 @@ ghost use Rattle.std.specs.Prelude.{◌≡◌, ◌<◌, ◌≤◌, ◌+◌, ◌+
 ghost use Rattle.dn_base.specs.Terms.{Answers};
 ghost use Rattle.dn_net.specs.declared.node.NodeDecl.{NodeDecl};
 ghost use Rattle.dn_net.specs.Terms.{IsLegalNet, node_limit};
-ghost use Rattle.dn_shape.specs.Terms.{HaveEqualViews, IsRuledNet, accepter, accepter_text, divided_count, entry_onto, free_number, is_divided, new_nodes, part_limit, parts_of_split, parts_when_split, sender_to, sending_node, sending_nodes, split_fault_view, split_name, split_outcome, with_accepter, with_accepters};
+ghost use Rattle.dn_shape.specs.Terms.{HaveEqualViews, IsRuledNet, accepter, accepter_text, divided_count, entry_onto, free_number, is_divided, new_nodes, part_limit, parts_of_split, parts_when_split, sending_node, sending_nodes, split_fault_view, split_name, split_outcome, with_accepter, with_accepters};
 
 use crate::copy::{entries_copy, node_copy, unit_copy};
 use crate::fault::SplitFault;
@@ -115,7 +115,7 @@ fn sending_nodes(alloc: Global, net: &Net) -> Result<Net, OutOfMemory>
     Ok(made)
 }
 
-/// An old node of the split net, which sends to the next new node where it is divided.
+/// An old node of the split net, which sends what it accepts to the next new node where it is divided.
 fn sending_node(
     alloc: Global,
     checked: CheckedNet,
@@ -130,21 +130,6 @@ fn sending_node(
     if !is_divided(net, node) {
         return node_copy(alloc, net, node);
     }
-    sender_to(alloc, checked, node, next)
-}
-
-/// A node that sends what it accepts to a new node.
-fn sender_to(
-    alloc: Global,
-    checked: CheckedNet,
-    node: u16,
-    next: u16,
-) -> Result<NodeDecl, OutOfMemory>
-    requires there { node < length checked.net.now }
-    ensures { IfOk result (λ n. option_map (sender_to next)
-        (slice_get checked.entry.net.now node) ≡ Some n) }
-{
-    let net = checked.net;
     let mut entries = entries_copy(alloc, net.entries(node))?;
     let spans = maximal_accepts(alloc, checked, node)?;
     push_spans(alloc, &mut entries, &spans, next)?;

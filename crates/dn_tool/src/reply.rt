@@ -65,19 +65,13 @@ pub fn reply(
 {
     match command {
         Command::Resolve(target, addr, mode) => {
-            let question = Question {
-                target,
-                addr: *addr,
-                mode: *mode,
-            };
+            let (addr, mode) = (*addr, *mode);
+            let question = Question { target, addr, mode };
             Ok(resolve_reply(alloc, machine, state, question)?.into_bytes())
         }
         Command::Lookup(target, addr, mode) => {
-            let question = Question {
-                target,
-                addr: *addr,
-                mode: *mode,
-            };
+            let (addr, mode) = (*addr, *mode);
+            let question = Question { target, addr, mode };
             Ok(lookup_reply(alloc, machine, state, question)?.into_bytes())
         }
         Command::Split => reshape::split_reply(alloc, machine, &mut state.unmade.split),

@@ -1,6 +1,6 @@
 -- What a route comes to: a refusal, or a grant of the least free vector that has an admissible placement
 -- at the line.
-use Rattle.std.specs.Prelude.{◌≡◌, ℕ, ◌<◌, Bool, true, List, [], ◌∷◌, ◌++◌, map, Option, Some, None, Result, Ok, Err, IsTrue}
+use Rattle.std.specs.Prelude.{◌≡◌, ◌≢◌, ℕ, ◌<◌, Bool, true, false, List, [], ◌∷◌, ◌++◌, map, Option, Some, None, Result, Ok, Err, IsTrue}
 use Rattle.std.specs.declared.alloc.Global.{Global}
 use Rattle.std.specs.declared.dyn_box.DynBox.{DynBox}
 use Rattle.dn_base.specs.declared.device.TableEvent.{TableEvent}
@@ -21,6 +21,9 @@ use Rattle.dn_book.specs.Book.{slots_of}
 use Rattle.dn_book.specs.State.{BookState}
 use Rattle.dn_book.specs.Tables.{IsKept}
 use Rattle.dn_book.specs.Writes.{AreAdded, grant_events}
+use Rattle.dn_vector.specs.declared.fault.RouteFault.{RouteFault}
+use Rattle.dn_vector.specs.declared.fault.RouteFault.TheVariants.{NoPlacement, Device}
+use Rattle.dn_vector.specs.Faults.{route_answer_view, is_route_fault}
 use Rattle.dn_vector.specs.Refusal.{RouteRefusal, no_placement, route_refusal}
 use Rattle.dn_vector.specs.Vectors.{is_free_vector, vector_request}
 
@@ -117,3 +120,13 @@ pub record IsRouteLogged (net : List NodeDecl) (kinds : List Meaning) (book : Li
   pub placed : IsPlacedRoute net book id agent line node vector place
   pub added : AreAdded
       (grant_events net kinds book cleared (grant_of_route id agent node vector place)) failed log log'
+
+-- what is known of a fault that is told before a vector is looked at: it says the first refusal that holds, whatever
+-- the line, and comes neither of the search nor of the device
+pub record IsTold (net : List NodeDecl) (book : List Grant) (id agent node : ℕ) (fault : RouteFault)
+    : Type 0 where
+  pub outcome : (line : ℕ) →
+      IsRouteOutcome net book id agent line node (route_answer_view (Err fault)) book
+  pub no_search : ◌≢◌ {A = Result ℕ RouteFault} (Err fault) (Err NoPlacement)
+  pub no_failure : ◌≢◌ {A = Result ℕ RouteFault} (Err fault) (Err Device)
+  pub no_device : is_route_fault {A = ℕ} (Err fault) ≡ false

@@ -1,8 +1,8 @@
 //! The refusals of a route that need no search.
 
-ghost use Rattle.std.specs.Prelude.{◌≡◌, Some};
+ghost use Rattle.std.specs.Prelude.{◌≡◌, Some, None, IfSome};
 ghost use Rattle.std.specs.Option.{option_map};
-ghost use Rattle.dn_vector.specs.Terms.{route_fault_view, route_refusal};
+ghost use Rattle.dn_vector.specs.Terms.{IsTold, route_fault_view, route_refusal};
 
 use crate::fault::RouteFault;
 use dn_book::book::Book;
@@ -14,8 +14,10 @@ const MAX_GRANTS: usize = 4096;
 
 /// The first refusal of a route that holds before a vector is looked at. It takes no memory.
 pub fn refusal(book: &Book, net: &Net, id: u32, agent: u16, node: u16) -> Option<RouteFault>
-    ensures { option_map route_fault_view result ≡ option_map (λ why. Some why)
+    ensures same { option_map route_fault_view result ≡ option_map (λ why. Some why)
         (route_refusal net.now book.now.grants id agent node) }
+    ensures told { IfSome result (IsTold net.now book.now.grants id agent node) }
+    ensures none { result ≡ None → route_refusal net.now book.now.grants id agent node ≡ None }
 {
     if book.has_id(id) {
         return Some(RouteFault::IdUsed);

@@ -46,8 +46,8 @@ loop-steps-preserved c =
       reached = λ a y t. goes_further net rules_kept nodes are k node c.requires.there segs go (segs_give c.in_ok-reached.reached.items a y) a y t (c.in_ok-reached.ensures a y t);
     }
 
-pub returns-clause-levels : goal.returns-clause-levels
-returns-clause-levels c =
+pub returns : goal.returns
+returns c =
     let net = c.args.net.now in
     let node = c.args.node in
     let k = c.loop-steps.steps in
@@ -57,17 +57,7 @@ returns-clause-levels c =
       | else-loop-steps-test w ↦ λ passes a y t. last_level net passes k node a y (let b = w.loop-steps-test.false in omega arith)
       | then-loop-steps-test+then-is_empty w ↦ λ passes a y t. ended_level net passes k node a y few (none_goes net k node c.loop-steps.reached.items (none_of c.loop-steps.reached.items (search rules)) inv.reached a t)
     ] in
-    all_levels net k node c.loop-steps.levels few all inv.levels
-
-pub returns-clause-stops : goal.returns-clause-stops
-returns-clause-stops c =
-    let net = c.args.net.now in
-    let node = c.args.node in
-    let k = c.loop-steps.steps in
-    let inv = c.loop-steps.invariant in
-    let few : k ≤ 66 = omega arith in
-    let all : (a : ℕ) (y : End) → a ≤ TOP → EndsBefore net (is_stop net) k node a y ↔ Ends (steps net) (is_stop net) step_limit (record { node = node; addr = a }) (name_of_end y) = elim c.loop-steps-test.branch [
-      | else-loop-steps-test w ↦ λ a y t. last_level net (is_stop net) k node a y (let b = w.loop-steps-test.false in omega arith)
-      | then-loop-steps-test+then-is_empty w ↦ λ a y t. ended_level net (is_stop net) k node a y few (none_goes net k node c.loop-steps.reached.items (none_of c.loop-steps.reached.items (search rules)) inv.reached a t)
-    ] in
-    λ a y t. means_then (inv.stops a y t) (all a y t)
+    record {
+      levels = all_levels net k node c.loop-steps.levels few all inv.levels;
+      stops = λ a y t. means_then (inv.stops a y t) (all (is_stop net) a y t);
+    }

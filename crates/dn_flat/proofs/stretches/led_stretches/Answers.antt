@@ -7,8 +7,8 @@ use Rattle.dn_flat.proofs.stretches.led_stretches.Goals as goal
 
 pub loop-strand-preserved : goal.loop-strand-preserved
 loop-strand-preserved c =
-    let first = c.args.first in
-    let size = c.args.size in
+    let first = c.args.buffer.first in
+    let size = c.args.buffer.size in
     let inv = c.loop-strand.invariant in
     record {
       each = c.in_ok-push_led.ensures.each inv.each;

@@ -6,6 +6,6 @@ use Rattle.dn_flat.proofs.stretches.led_stretches.Given as goal
 
 abbrev pub invariant-loop-strand : goal.invariant-loop-strand
 invariant-loop-strand l = record {
-  each : All (IsStretch l.first l.size) l.segs.items;
-  led : (v : ℕ) → begins l.segs.items v ≡ are_led l.first l.size (take l.strand-index l.strands) v;
+  each : All (IsStretch l.buffer.first l.buffer.size) l.segs.items;
+  led : (v : ℕ) → begins l.segs.items v ≡ are_led l.buffer.first l.buffer.size (take l.strand-index l.strands) v;
 }

@@ -7,32 +7,32 @@ use Rattle.dn_grant.specs.declared.fault.GrantFault.{GrantFault}
 use Rattle.dn_grant.specs.declared.fault.GrantFault.TheVariants.{Device, OutOfMemory}
 use Rattle.dn_grant.specs.Grant.{IsGrantLogged, IsGrantRefused}
 use Rattle.dn_grant.specs.Refusal.{GrantRefusal}
-use Rattle.dn_tool.specs.declared.halt.Halt.TheVariants.{DeviceFault, NoMemory}
+use Rattle.dn_tool.specs.declared.halt.Halt.TheVariants.{DeviceFault}
 use Rattle.dn_tool.specs.Changed.{grant_refused_text, granted_text}
 use Rattle.dn_tool.specs.Ids.{id_number}
 use Rattle.dn_tool.specs.State.{IsChanged, state_view}
 use Rattle.dn_tool.specs.declared.state.State.{State as Kept}
 use Rattle.dn_tool.specs.Turn.{IsGrantTurn, State, state_with_id}
 use Rattle.dn_tool.proofs.Changes.{grant_refused_so, grant_said, grant_stopped, halted_after, not_granted_turn, state_granted, state_named, state_same}
+use Rattle.dn_tool.proofs.change.grant_change.Given.{Over}
+use Rattle.dn_tool.proofs.change.grant_change.Goals.{After-renew}
 use Rattle.dn_tool.proofs.change.grant_change.Goals as goal
 
 pub renew-requires-clause-faithful : goal.renew-requires-clause-faithful
 renew-requires-clause-faithful g c = c.in-Ok.ensures.faithful c.requires.ready.state.faithful
 
+-- the turn of the grant that was made
+made : (g : Over) (c : After-renew g) → IsChanged (IsGrantTurn (map (λ k. (goal.UnitKind-dyn g (k.vtable, k.value)).meaning k.value) c.args.machine.kinds.now.list.items) c.args.machine.net.now (state_view c.args.state.now) c.args.id.now c.args.request.now) (state_view c.renew.new.state) (granted_text c.args.id.now c.in-Ok.v) (g.D.Tables.log c.args.device.now) (g.D.Tables.log c.grant.new.device)
+made g c =
+    state_granted (map (λ k. (goal.UnitKind-dyn g (k.vtable, k.value)).meaning k.value) c.args.machine.kinds.now.list.items) c.args.machine.net.now c.args.state.now c.renew.new.state c.args.id.now c.args.request.now c.in_ok-number.number c.in-Ok.v c.grant.new.book _ _ c.in_ok-number.ensures.number c.in-Ok.ensures.turn c.in-Ok.ensures.granted c.renew.ensures.still.book (c.renew.ensures.still.ids ∙ c.in_ok-number.ensures.ids) c.in-Ok.ensures.fenced
+
 pub returns-in_err-granted_reply-in-Ok-clause-changed : goal.returns-in_err-granted_reply-in-Ok-clause-changed
 returns-in_err-granted_reply-in-Ok-clause-changed g c =
-    let kinds : List Meaning = map (λ k. (goal.UnitKind-dyn g (k.vtable, k.value)).meaning k.value) c.args.machine.kinds.now.list.items in
-    let state = c.args.state.now in
-    let ended : c.from_residual-in_err-granted_reply-in-Ok.result ≡ Err NoMemory = search rules in
-    halted_after (IsGrantTurn kinds c.args.machine.net.now (state_view state) c.args.id.now c.args.request.now) c.from_residual-in_err-granted_reply-in-Ok.result (state_view c.renew.new.state) (state_view c.renew.new.state) (granted_text c.args.id.now c.in-Ok.v) _ _ ended
-    (state_granted kinds c.args.machine.net.now state c.renew.new.state c.args.id.now c.args.request.now c.in_ok-number.number c.in-Ok.v c.grant.new.book _ _ c.in_ok-number.ensures.number c.in-Ok.ensures.turn c.in-Ok.ensures.granted c.renew.ensures.still.book (c.renew.ensures.still.ids ∙ c.in_ok-number.ensures.ids) c.in-Ok.ensures.fenced)
+    halted_after _ c.from_residual-in_err-granted_reply-in-Ok.result (state_view c.renew.new.state) _ _ _ _ (search rules) (made g (goal.at.returns-in_err-granted_reply-in-Ok-clause-changed g c).After-renew)
 
 pub returns-in_ok-granted_reply-in-Ok-clause-changed : goal.returns-in_ok-granted_reply-in-Ok-clause-changed
 returns-in_ok-granted_reply-in-Ok-clause-changed g c =
-    let kinds : List Meaning = map (λ k. (goal.UnitKind-dyn g (k.vtable, k.value)).meaning k.value) c.args.machine.kinds.now.list.items in
-    let state = c.args.state.now in
-    subst (λ (t : List ℕ). IsChanged (IsGrantTurn kinds c.args.machine.net.now (state_view state) c.args.id.now c.args.request.now) (state_view c.renew.new.state) t (g.D.Tables.log c.args.device.now) (g.D.Tables.log c.grant.new.device)) (sym c.in_ok-granted_reply-in-Ok.ensures)
-    (state_granted kinds c.args.machine.net.now state c.renew.new.state c.args.id.now c.args.request.now c.in_ok-number.number c.in-Ok.v c.grant.new.book _ _ c.in_ok-number.ensures.number c.in-Ok.ensures.turn c.in-Ok.ensures.granted c.renew.ensures.still.book (c.renew.ensures.still.ids ∙ c.in_ok-number.ensures.ids) c.in-Ok.ensures.fenced)
+    subst (λ (t : List ℕ). IsChanged (IsGrantTurn (map (λ k. (goal.UnitKind-dyn g (k.vtable, k.value)).meaning k.value) c.args.machine.kinds.now.list.items) c.args.machine.net.now (state_view c.args.state.now) c.args.id.now c.args.request.now) (state_view c.renew.new.state) t (g.D.Tables.log c.args.device.now) (g.D.Tables.log c.grant.new.device)) (sym c.in_ok-granted_reply-in-Ok.ensures) (made g (goal.at.returns-in_ok-granted_reply-in-Ok-clause-changed g c).After-renew)
 
 pub returns-in-Err-Device-clause-changed : goal.returns-in-Err-Device-clause-changed
 returns-in-Err-Device-clause-changed g c =

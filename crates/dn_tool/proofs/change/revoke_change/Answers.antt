@@ -4,32 +4,32 @@ use Rattle.dn_net.specs.declared.node.NodeDecl.{NodeDecl}
 use Rattle.dn_kind.specs.Kind.{Meaning}
 use Rattle.dn_book.specs.declared.book.RevokeFault.TheVariants.{Device, NoGrant}
 use Rattle.dn_book.specs.Book.{has_id}
-use Rattle.dn_tool.specs.declared.halt.Halt.TheVariants.{DeviceFault, NoMemory}
+use Rattle.dn_tool.specs.declared.halt.Halt.TheVariants.{DeviceFault}
 use Rattle.dn_tool.specs.Changed.{revoked_text}
 use Rattle.dn_tool.specs.Ids.{id_number}
 use Rattle.dn_tool.specs.State.{IsChanged, state_view}
 use Rattle.dn_tool.specs.declared.state.State.{State as Kept}
 use Rattle.dn_tool.specs.Turn.{IsRevokeTurn, State, state_with_id}
 use Rattle.dn_tool.proofs.Changes.{halted_after, not_revoked_turn, revoke_stopped, state_named, state_revoked, state_same}
+use Rattle.dn_tool.proofs.change.revoke_change.Given.{Over}
+use Rattle.dn_tool.proofs.change.revoke_change.Goals.{After-renew}
 use Rattle.dn_tool.proofs.change.revoke_change.Goals as goal
 
 pub renew-requires-clause-faithful : goal.renew-requires-clause-faithful
 renew-requires-clause-faithful g c = c.in-Ok.ensures.faithful c.requires.ready.state.faithful
 
+-- the turn of the grant that was taken out
+made : (g : Over) (c : After-renew g) → IsChanged (IsRevokeTurn (map (λ k. (goal.UnitKind-dyn g (k.vtable, k.value)).meaning k.value) c.args.machine.kinds.now.list.items) c.args.machine.net.now (state_view c.args.state.now) c.args.id.now) (state_view c.renew.new.state) (revoked_text c.args.id.now) (g.D.Tables.log c.args.device.now) (g.D.Tables.log c.revoke.new.device)
+made g c =
+    state_revoked (map (λ k. (goal.UnitKind-dyn g (k.vtable, k.value)).meaning k.value) c.args.machine.kinds.now.list.items) c.args.machine.net.now c.args.state.now c.renew.new.state c.args.id.now c.in_ok-number.number c.revoke.new.self _ _ c.in_ok-number.ensures.number (λ e. let x = c.in-Ok.ensures.unknown.1 e in cc) c.in-Ok.ensures.added c.in-Ok.ensures.revoked c.renew.ensures.still.book (c.renew.ensures.still.ids ∙ c.in_ok-number.ensures.ids) c.in-Ok.ensures.cleared
+
 pub returns-in_err-revoked_reply-in-Ok-clause-changed : goal.returns-in_err-revoked_reply-in-Ok-clause-changed
 returns-in_err-revoked_reply-in-Ok-clause-changed g c =
-    let kinds : List Meaning = map (λ k. (goal.UnitKind-dyn g (k.vtable, k.value)).meaning k.value) c.args.machine.kinds.now.list.items in
-    let state = c.args.state.now in
-    let ended : c.from_residual-in_err-revoked_reply-in-Ok.result ≡ Err NoMemory = search rules in
-    halted_after (IsRevokeTurn kinds c.args.machine.net.now (state_view state) c.args.id.now) c.from_residual-in_err-revoked_reply-in-Ok.result (state_view c.renew.new.state) (state_view c.renew.new.state) (revoked_text c.args.id.now) _ _ ended
-    (state_revoked kinds c.args.machine.net.now state c.renew.new.state c.args.id.now c.in_ok-number.number c.revoke.new.self _ _ c.in_ok-number.ensures.number (λ e. let x = c.in-Ok.ensures.unknown.1 e in cc) c.in-Ok.ensures.added c.in-Ok.ensures.revoked c.renew.ensures.still.book (c.renew.ensures.still.ids ∙ c.in_ok-number.ensures.ids) c.in-Ok.ensures.cleared)
+    halted_after _ c.from_residual-in_err-revoked_reply-in-Ok.result (state_view c.renew.new.state) _ _ _ _ (search rules) (made g (goal.at.returns-in_err-revoked_reply-in-Ok-clause-changed g c).After-renew)
 
 pub returns-in_ok-revoked_reply-in-Ok-clause-changed : goal.returns-in_ok-revoked_reply-in-Ok-clause-changed
 returns-in_ok-revoked_reply-in-Ok-clause-changed g c =
-    let kinds : List Meaning = map (λ k. (goal.UnitKind-dyn g (k.vtable, k.value)).meaning k.value) c.args.machine.kinds.now.list.items in
-    let state = c.args.state.now in
-    subst (λ (t : List ℕ). IsChanged (IsRevokeTurn kinds c.args.machine.net.now (state_view state) c.args.id.now) (state_view c.renew.new.state) t (g.D.Tables.log c.args.device.now) (g.D.Tables.log c.revoke.new.device)) (sym c.in_ok-revoked_reply-in-Ok.ensures)
-    (state_revoked kinds c.args.machine.net.now state c.renew.new.state c.args.id.now c.in_ok-number.number c.revoke.new.self _ _ c.in_ok-number.ensures.number (λ e. let x = c.in-Ok.ensures.unknown.1 e in cc) c.in-Ok.ensures.added c.in-Ok.ensures.revoked c.renew.ensures.still.book (c.renew.ensures.still.ids ∙ c.in_ok-number.ensures.ids) c.in-Ok.ensures.cleared)
+    subst (λ (t : List ℕ). IsChanged (IsRevokeTurn (map (λ k. (goal.UnitKind-dyn g (k.vtable, k.value)).meaning k.value) c.args.machine.kinds.now.list.items) c.args.machine.net.now (state_view c.args.state.now) c.args.id.now) (state_view c.renew.new.state) t (g.D.Tables.log c.args.device.now) (g.D.Tables.log c.revoke.new.device)) (sym c.in_ok-revoked_reply-in-Ok.ensures) (made g (goal.at.returns-in_ok-revoked_reply-in-Ok-clause-changed g c).After-renew)
 
 pub returns-in_ok-refused_reply-in-Err-NoGrant-clause-changed : goal.returns-in_ok-refused_reply-in-Err-NoGrant-clause-changed
 returns-in_ok-refused_reply-in-Err-NoGrant-clause-changed g c =

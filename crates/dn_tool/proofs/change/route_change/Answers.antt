@@ -7,32 +7,32 @@ use Rattle.dn_vector.specs.declared.fault.RouteFault.{RouteFault}
 use Rattle.dn_vector.specs.declared.fault.RouteFault.TheVariants.{Device, OutOfMemory}
 use Rattle.dn_vector.specs.Refusal.{RouteRefusal}
 use Rattle.dn_vector.specs.Route.{IsRouteLogged, IsRouteRefused}
-use Rattle.dn_tool.specs.declared.halt.Halt.TheVariants.{DeviceFault, NoMemory}
+use Rattle.dn_tool.specs.declared.halt.Halt.TheVariants.{DeviceFault}
 use Rattle.dn_tool.specs.Changed.{route_refused_text, routed_text}
 use Rattle.dn_tool.specs.Ids.{id_number}
 use Rattle.dn_tool.specs.State.{IsChanged, state_view}
 use Rattle.dn_tool.specs.declared.state.State.{State as Kept}
 use Rattle.dn_tool.specs.Turn.{IsRouteTurn, State, state_with_id}
 use Rattle.dn_tool.proofs.Changes.{halted_after, not_routed_turn, route_refused_so, route_said, route_stopped, state_named, state_routed, state_same}
+use Rattle.dn_tool.proofs.change.route_change.Given.{Over}
+use Rattle.dn_tool.proofs.change.route_change.Goals.{After-renew}
 use Rattle.dn_tool.proofs.change.route_change.Goals as goal
 
 pub renew-requires-clause-faithful : goal.renew-requires-clause-faithful
 renew-requires-clause-faithful g c = c.in-Ok.ensures.faithful c.requires.ready.state.faithful
 
+-- the turn of the line that was routed
+made : (g : Over) (c : After-renew g) → IsChanged (IsRouteTurn (map (λ k. (goal.UnitKind-dyn g (k.vtable, k.value)).meaning k.value) c.args.machine.kinds.now.list.items) c.args.machine.net.now (state_view c.args.state.now) c.args.id.now c.args.agent c.args.line c.args.node) (state_view c.renew.new.state) (routed_text c.args.id.now c.in-Ok.vector) (g.D.Tables.log c.args.device.now) (g.D.Tables.log c.route.new.device)
+made g c =
+    state_routed (map (λ k. (goal.UnitKind-dyn g (k.vtable, k.value)).meaning k.value) c.args.machine.kinds.now.list.items) c.args.machine.net.now c.args.state.now c.renew.new.state c.args.id.now c.args.agent c.args.line c.args.node c.in_ok-number.number c.in-Ok.vector c.route.new.book _ _ c.in_ok-number.ensures.number c.in-Ok.ensures.turn c.in-Ok.ensures.routed c.renew.ensures.still.book (c.renew.ensures.still.ids ∙ c.in_ok-number.ensures.ids) c.in-Ok.ensures.fenced
+
 pub returns-in_err-routed_reply-in-Ok-clause-changed : goal.returns-in_err-routed_reply-in-Ok-clause-changed
 returns-in_err-routed_reply-in-Ok-clause-changed g c =
-    let kinds : List Meaning = map (λ k. (goal.UnitKind-dyn g (k.vtable, k.value)).meaning k.value) c.args.machine.kinds.now.list.items in
-    let state = c.args.state.now in
-    let ended : c.from_residual-in_err-routed_reply-in-Ok.result ≡ Err NoMemory = search rules in
-    halted_after (IsRouteTurn kinds c.args.machine.net.now (state_view state) c.args.id.now c.args.agent c.args.line c.args.node) c.from_residual-in_err-routed_reply-in-Ok.result (state_view c.renew.new.state) (state_view c.renew.new.state) (routed_text c.args.id.now c.in-Ok.vector) _ _ ended
-    (state_routed kinds c.args.machine.net.now state c.renew.new.state c.args.id.now c.args.agent c.args.line c.args.node c.in_ok-number.number c.in-Ok.vector c.route.new.book _ _ c.in_ok-number.ensures.number c.in-Ok.ensures.turn c.in-Ok.ensures.routed c.renew.ensures.still.book (c.renew.ensures.still.ids ∙ c.in_ok-number.ensures.ids) c.in-Ok.ensures.fenced)
+    halted_after _ c.from_residual-in_err-routed_reply-in-Ok.result (state_view c.renew.new.state) _ _ _ _ (search rules) (made g (goal.at.returns-in_err-routed_reply-in-Ok-clause-changed g c).After-renew)
 
 pub returns-in_ok-routed_reply-in-Ok-clause-changed : goal.returns-in_ok-routed_reply-in-Ok-clause-changed
 returns-in_ok-routed_reply-in-Ok-clause-changed g c =
-    let kinds : List Meaning = map (λ k. (goal.UnitKind-dyn g (k.vtable, k.value)).meaning k.value) c.args.machine.kinds.now.list.items in
-    let state = c.args.state.now in
-    subst (λ (t : List ℕ). IsChanged (IsRouteTurn kinds c.args.machine.net.now (state_view state) c.args.id.now c.args.agent c.args.line c.args.node) (state_view c.renew.new.state) t (g.D.Tables.log c.args.device.now) (g.D.Tables.log c.route.new.device)) (sym c.in_ok-routed_reply-in-Ok.ensures)
-    (state_routed kinds c.args.machine.net.now state c.renew.new.state c.args.id.now c.args.agent c.args.line c.args.node c.in_ok-number.number c.in-Ok.vector c.route.new.book _ _ c.in_ok-number.ensures.number c.in-Ok.ensures.turn c.in-Ok.ensures.routed c.renew.ensures.still.book (c.renew.ensures.still.ids ∙ c.in_ok-number.ensures.ids) c.in-Ok.ensures.fenced)
+    subst (λ (t : List ℕ). IsChanged (IsRouteTurn (map (λ k. (goal.UnitKind-dyn g (k.vtable, k.value)).meaning k.value) c.args.machine.kinds.now.list.items) c.args.machine.net.now (state_view c.args.state.now) c.args.id.now c.args.agent c.args.line c.args.node) (state_view c.renew.new.state) t (g.D.Tables.log c.args.device.now) (g.D.Tables.log c.route.new.device)) (sym c.in_ok-routed_reply-in-Ok.ensures) (made g (goal.at.returns-in_ok-routed_reply-in-Ok-clause-changed g c).After-renew)
 
 pub returns-in-Err-Device-clause-changed : goal.returns-in-Err-Device-clause-changed
 returns-in-Err-Device-clause-changed g c =

@@ -1,48 +1,21 @@
-use Rattle.std.proofs.Common.{◌∙◌, ap, sym, refl, subst, not, map}
-use Rattle.dn_base.specs.Outside.{IsCounted}
-use Rattle.dn_base.proofs.Counts.{counted_none}
+use Rattle.std.proofs.Common.{refl, map}
 use Rattle.dn_tables.proofs.Slots.{all_of_map}
 use Rattle.dn_vector.specs.Route.{IsPlacedRoute}
 use Rattle.dn_vector.proofs.Allowed.{allowed_is, no_addition, placed_grant, placed_logged, placed_made, still_faithful}
-use Rattle.dn_vector.proofs.Told.{IsTold, is_told, none_told}
 use Rattle.dn_vector.proofs.route.route.Given.{Over}
-use Rattle.dn_vector.proofs.route.route.Goals.{In-Ok-Some, In-Some}
+use Rattle.dn_vector.proofs.route.route.Goals.{In-Ok-Some}
 use Rattle.dn_vector.proofs.route.route.Goals as goal
 
 -- the least free vector that has a placement, and where
 placed : (g : Over) (c : In-Ok-Some g) → IsPlacedRoute c.args.system.net.now c.args.book.now.grants c.args.id c.args.agent c.args.line c.args.node c.in-Ok-Some.found.vector c.in-Ok-Some.found.placement
 placed g c = record {
-  allowed = none_told _ _ c.refusal.ensures c.in_default.is;
+  allowed = c.refusal.ensures.none c.in_default.is;
   placed = (rw c.in-Ok-Some.field-0-is at c.in-Ok-Some.ensures.found);
 }
 
--- what is known of a fault that is told before a vector is looked at
-told : (g : Over) (c : In-Some g) → IsTold c.args.system.net.now c.args.book.now.grants c.args.id c.args.agent c.args.line c.args.node c.in-Some.why
-told g c = is_told c.args.system.net.now c.args.book.now.grants c.args.id c.args.agent c.args.line c.args.node c.in-Some.why (rw c.in-Some.is at c.refusal.ensures)
-
-pub returns-in-Some-clause-turn : goal.returns-in-Some-clause-turn
-returns-in-Some-clause-turn g c = (told g (goal.at.returns-in-Some-clause-turn g c).In-Some).outcome
-
-pub returns-in-Some-clause-complete : goal.returns-in-Some-clause-complete
-returns-in-Some-clause-complete g c =
-    λ e. absurd ((told g (goal.at.returns-in-Some-clause-complete g c).In-Some).no_search e)
-
-pub returns-in-Some-clause-stopped : goal.returns-in-Some-clause-stopped
-returns-in-Some-clause-stopped g c =
-    λ e. absurd ((told g (goal.at.returns-in-Some-clause-stopped g c).In-Some).no_failure e)
-
-pub returns-in-Some-clause-sound : goal.returns-in-Some-clause-sound
-returns-in-Some-clause-sound g c =
-    c.requires.ready.sound ∙ sym (ap not (told g (goal.at.returns-in-Some-clause-sound g c).In-Some).no_device)
-
-pub returns-in-Some-clause-counted : goal.returns-in-Some-clause-counted
-returns-in-Some-clause-counted g c =
-    subst (λ b. IsCounted (g.D.Tables.faults c.args.device.now) (g.D.Tables.faults c.args.device.now) b)
-    (sym (told g (goal.at.returns-in-Some-clause-counted g c).In-Some).no_device) (counted_none (g.D.Tables.faults c.args.device.now))
-
 pub least_vector-requires : goal.least_vector-requires
 least_vector-requires g c =
-    let is = allowed_is c.args.system.net.now c.args.book.now.grants c.args.id c.args.agent c.args.node (none_told _ _ c.refusal.ensures c.in_default.is) in
+    let is = allowed_is c.args.system.net.now c.args.book.now.grants c.args.id c.args.agent c.args.node (c.refusal.ensures.none c.in_default.is) in
     record { asked = record { system = c.requires.ready.is_system; kept = c.requires.ready.kept; agent = is.agent_is; target = is.target } }
 
 pub commit-requires-clause-placed : goal.commit-requires-clause-placed
@@ -52,16 +25,7 @@ commit-requires-clause-placed g c =
 
 pub returns-in-Ok-None-clause-turn : goal.returns-in-Ok-None-clause-turn
 returns-in-Ok-None-clause-turn g c =
-    (record { allowed = none_told _ _ c.refusal.ensures c.in_default.is; none = c.in-Ok-None.ensures.none c.in-Ok-None.field-0-is }, refl)
-
-pub returns-in-Err-clause-turn : goal.returns-in-Err-clause-turn
-returns-in-Err-clause-turn g c = (none_told _ _ c.refusal.ensures c.in_default.is, refl)
-
-pub returns-in-Err-Device-clause-turn : goal.returns-in-Err-Device-clause-turn
-returns-in-Err-Device-clause-turn g c = (none_told _ _ c.refusal.ensures c.in_default.is, c.in-Err-Device.ensures.refused)
-
-pub returns-in-Err-OutOfMemory-clause-turn : goal.returns-in-Err-OutOfMemory-clause-turn
-returns-in-Err-OutOfMemory-clause-turn g c = (none_told _ _ c.refusal.ensures c.in_default.is, c.in-Err-OutOfMemory.ensures.refused)
+    (record { allowed = c.refusal.ensures.none c.in_default.is; none = c.in-Ok-None.ensures.none c.in-Ok-None.field-0-is }, refl)
 
 pub returns-in-Err-Device-clause-stopped : goal.returns-in-Err-Device-clause-stopped
 returns-in-Err-Device-clause-stopped g c =
@@ -91,5 +55,5 @@ pub returns-in-Ok-None-clause-complete : goal.returns-in-Ok-None-clause-complete
 returns-in-Ok-None-clause-complete g c =
     let ks = map (λ k. (goal.UnitKind-dyn g (k.vtable, k.value)).meaning k.value) c.args.system.kinds.now.list.items in
     λ e. no_addition c.args.system.net.now ks c.args.book.now.grants c.args.book.now.set c.args.id c.args.agent c.args.line c.args.node c.requires.ready.is_system.legal.legal
-    (all_of_map _ c.args.system.kinds.now.list.items c.requires.ready.is_system.lawful) c.requires.ready.kept (none_told _ _ c.refusal.ensures c.in_default.is)
+    (all_of_map _ c.args.system.kinds.now.list.items c.requires.ready.is_system.lawful) c.requires.ready.kept (c.refusal.ensures.none c.in_default.is)
     (c.in-Ok-None.ensures.none c.in-Ok-None.field-0-is)

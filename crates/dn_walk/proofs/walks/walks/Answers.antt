@@ -1,9 +1,10 @@
 -- The levels of the code are those of the net, so what they show is the rule that the net breaks.
-use Rattle.std.proofs.Common.{◌≡◌, ◌∙◌, ℕ, Option, option_map, IfSome, get_or, refl, suc, ◌+◌, ◌-◌, ◌<◌, ◌≤◌, ◌⊎◌, inl, inr, List, [], map, drop, length, vec_len, true, false, None, Some, sym, ap, subst, arith, rules}
+use Rattle.std.proofs.Common.{◌≡◌, ◌∙◌, ℕ, Option, option_map, IfSome, get_or, refl, suc, ◌+◌, ◌-◌, ◌<◌, ◌≤◌, ◌⊎◌, inl, inr, List, [], map, drop, length, vec_len, true, false, None, Some, Result, Err, sym, ap, subst, arith, rules}
 use Rattle.std.specs.List.{All, flat_map}
 use Rattle.std.specs.List.Sorted.{IsNonDecreasingBy}
 use Rattle.std.proofs.lemmas.Bool.Decides.{nat_tests}
 use Rattle.std.proofs.lemmas.Result.{err_from_is_err_and}
+use Rattle.dn_base.specs.Answers.{Checks}
 use Rattle.dn_base.proofs.Lists.{nil_from_length}
 use Rattle.dn_net.specs.Decode.{step_limit}
 use Rattle.dn_net.specs.Rules.{KeepsNodeRules}
@@ -11,11 +12,12 @@ use Rattle.dn_net.specs.WalkRules.{Broken, walk_limit, endless_fault, unit_fault
 use Rattle.dn_net.specs.Walks.{live_walks}
 use Rattle.dn_net.specs.declared.node.NodeDecl.{NodeDecl}
 use Rattle.dn_net.specs.declared.node.Name.{Name}
+use Rattle.dn_walk.specs.declared.fault.WalkFault.{WalkFault}
 use Rattle.dn_walk.specs.declared.level.Levels.{Levels}
 use Rattle.dn_walk.specs.declared.walks.WalkRow.{WalkRow}
-use Rattle.dn_walk.specs.Rows.{bare_walk, row_view}
+use Rattle.dn_walk.specs.Rows.{bare_walk, row_view, walk_fault_view}
 use Rattle.dn_walk.specs.Legs.{Leg, bare_legs}
-use Rattle.dn_walk.specs.Levels.{AreWalkLevels, bare_level, bare_levels, bare_walks}
+use Rattle.dn_walk.specs.Levels.{AreWalkLevels, IsWideWhere, bare_level, bare_levels, bare_walks}
 use Rattle.dn_walk.specs.Ways.{least_of, shown_cycle, shown_path, start_names}
 use Rattle.dn_net.proofs.Kept.{none_broken}
 use Rattle.dn_net.proofs.Endless.{no_fault_is_shallow}
@@ -99,6 +101,11 @@ too_wide : (net : List NodeDecl) (legs : List (List Leg)) (k : ℕ) → KeepsNod
 too_wide net legs k rules e acyclic shallow w =
     first_part net is_wide (wide_is net rules k acyclic shallow (subst (λ x. walk_limit < length (bare_walks x (k + 1))) e w))
 
+-- and it is the rule that is told
+wide_told : {T : Type 0} (net : List NodeDecl) (legs : List (List Leg)) (k : ℕ) → KeepsNodeRules net → legs ≡ map bare_legs net → Acyclic net k → k ≤ 64 → (r : Result T WalkFault) (fault : WalkFault) → ((y : WalkFault) × (r ≡ Err y) × (y ≡ fault)) → IsWideWhere (walk_limit < length (bare_walks legs (k + 1))) fault → Checks walk_fault_view r (walk_fault net)
+wide_told net legs k rules e acyclic shallow r fault p wide =
+    rw (p.1, p.2) (wide_broken _ _ _ (too_wide net legs k rules e acyclic shallow) wide)
+
 -- the levels after a turn are those of the net, and there are 64 of them at most
 turned : (c : In_ok-levels-2) → AreWalkLevels (map bare_legs c.args.net.now) c.in_ok-levels-2.levels
 turned c = same_levels c.args.net.now c.in_ok-legs.legs c.in_ok-levels-2.levels c.in_ok-legs.ensures c.in_ok-levels-2.ensures.levels
@@ -154,17 +161,11 @@ levels-preserved c =
 
 pub returns-in_err-levels-2-clause-checks : goal.returns-in_err-levels-2-clause-checks
 returns-in_err-levels-2-clause-checks c =
-    let inv = c.levels.invariant in
-    let wide = too_wide c.args.net.now c.in_ok-legs.legs (length c.levels.levels.sorted.items) c.requires.rules c.in_ok-legs.ensures inv.acyclic inv.shallow in
-    let p = err_from_is_err_and c.from_residual-in_err-levels-2.result c.from_residual-in_err-levels-2.ensures.1 in
-    rw (p.1, p.2) (wide_broken _ _ _ wide c.in_err-levels-2.ensures.wide)
+    wide_told c.args.net.now c.in_ok-legs.legs (length c.levels.levels.sorted.items) c.requires.rules c.in_ok-legs.ensures c.levels.invariant.acyclic c.levels.invariant.shallow _ _ (err_from_is_err_and _ c.from_residual-in_err-levels-2.ensures.1) c.in_err-levels-2.ensures.wide
 
 pub returns-in_err-levels-3-clause-checks : goal.returns-in_err-levels-3-clause-checks
 returns-in_err-levels-3-clause-checks c =
-    let inv = c.levels.invariant in
-    let wide = too_wide c.args.net.now c.in_ok-legs.legs (length c.levels.levels.sorted.items) c.requires.rules c.in_ok-legs.ensures inv.acyclic inv.shallow in
-    let p = err_from_is_err_and c.from_residual-in_err-levels-3.result c.from_residual-in_err-levels-3.ensures.1 in
-    rw (p.1, p.2) (wide_broken _ _ _ wide c.in_err-levels-3.ensures.wide)
+    wide_told c.args.net.now c.in_ok-legs.legs (length c.levels.levels.sorted.items) c.requires.rules c.in_ok-legs.ensures c.levels.invariant.acyclic c.levels.invariant.shallow _ _ (err_from_is_err_and _ c.from_residual-in_err-levels-3.ensures.1) c.in_err-levels-3.ensures.wide
 
 pub check_newest-requires-clause-there : goal.check_newest-requires-clause-there
 check_newest-requires-clause-there c =

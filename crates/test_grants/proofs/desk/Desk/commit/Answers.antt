@@ -2,14 +2,13 @@ use Rattle.std.proofs.Common.{rules, ◌≡◌, None, IsTrue}
 use Rattle.dn_kind.specs.Rights.{are_rights}
 use Rattle.dn_grant.specs.Refusal.{grant_refusal}
 use Rattle.dn_grant.proofs.Allowed.{IsAllowed, allowed_grant, allowed_is, allowed_within}
-use Rattle.dn_grant.proofs.Told.{none_told}
 use Rattle.test_grants.proofs.desk.Desk.commit.Given.{Over}
 use Rattle.test_grants.proofs.desk.Desk.commit.Goals.{In_default}
 use Rattle.test_grants.proofs.desk.Desk.commit.Goals as goal
 
 -- no refusal holds
 none : (g : Over) (c : In_default g) → grant_refusal c.args.self.now.system.net.now c.args.self.now.book.grants c.args.id c.args.request.now ≡ None
-none g c = none_told _ _ c.refusal.ensures c.in_default.is
+none g c = c.refusal.ensures.none c.in_default.is
 
 -- so the request is allowed
 allowed : (g : Over) (c : In_default g) → IsAllowed c.args.self.now.system.net.now c.args.self.now.book.grants c.args.id c.args.request.now

@@ -4,7 +4,7 @@ use Rattle.dn_interval.specs.Strands.{segs_give}
 use Rattle.dn_flat.specs.Levels.{levels_give}
 use Rattle.dn_flat.proofs.Lists.{means_along}
 use Rattle.dn_flat.proofs.Reached.{levels_are}
-use Rattle.dn_flat.proofs.levels.node_levels.Goals as goal
+use Rattle.dn_flat.proofs.stage.Stage.levels.Goals as goal
 
 pub returns : goal.returns
 returns c =
