@@ -7,6 +7,7 @@ pub mod Openings
 pub mod Pages
 pub mod Proper
 pub mod Readies
+pub mod Shut
 pub mod Stretches
 pub mod Tops
 pub mod Toward

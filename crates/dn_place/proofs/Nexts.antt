@@ -1,6 +1,6 @@
 -- The next hop of placements that end with some hops.
 use Rattle.std.proofs.Common.{◌≡◌, ℕ, suc, ◌+◌, ◌-◌, ◌*◌, ◌/◌, ◌%◌, ◌^◌, ◌<◌, ◌≤◌, ◌⊎◌, inl, inr, Bool, false, List, [], ◌∷◌, ◌++◌, length, slice_get, get_or, Option, Some, None, refl, sym, ap, ◌∙◌, subst, arith, append_assoc, length-append}
-use Rattle.std.proofs.lemmas.Bool.{cases_lt, false≢true}
+use Rattle.std.proofs.lemmas.Bool.{cases_lt, cases_order, false≢true}
 use Rattle.std.proofs.lemmas.Option.{slice_get_within, slice_get-get_or, get_or_from_slice_get}
 use Rattle.std.proofs.lemmas.Nat.{pow_pos}
 use Rattle.std.proofs.Math.Nat.{mul-le-mul_left, mul-le-mul_right, add-mod_right, mod-add-div', div-mul-le_self}
@@ -18,7 +18,7 @@ use Rattle.dn_placement.proofs.Keys.{append_none, cancel, one_more}
 use Rattle.dn_place.specs.Slots.{AreBarred, AreShut, AreUsable, slot_of}
 use Rattle.dn_place.specs.Rows.{AreToward, GivesOnly, wanted_name}
 use Rattle.dn_place.specs.Candidates.{IsUnder, NoneUnder, NoneBelow, IsFirstOrNone, IsChosen, key_of_hops, to_unit, to_port, to_output}
-use Rattle.dn_place.proofs.Levels.{begun, leapt, next_one, none_left}
+use Rattle.dn_place.proofs.Levels.{begun, found_first, leapt, next_one, none_left}
 use Rattle.dn_place.proofs.Openings.{Opened, opened}
 use Rattle.dn_place.proofs.Wholes.{whole}
 use Rattle.dn_place.proofs.Meetings.{meets_gives}
@@ -259,7 +259,7 @@ pub port_read : (items ports : List ℕ) (i port : ℕ) → items ≡ ports → 
 port_read items ports i port e f l = slice_get-get_or ports port 0 l ∙ ap (λ n. Some n) (sym (ap (λ l. get_or l i 0) e ∙ ap (λ k. get_or ports k 0) f))
 
 -- a unit that has no mark for the next hop's place
-pub unmarked : (s : Sought) (count : ℕ) (hops : List Hop) (unit place : ℕ) (first second third : List Bool) → IsSearchReady s → AreMarked s first second third → length hops < count → count ≤ 3 → place ≡ count - length hops → mark_at first second third place unit ≡ false → NoneUnder s (to_unit count hops unit)
+pub unmarked : (s : Sought) (count : ℕ) (hops : List Hop) (unit place : ℕ) (first second third : List Bool) → IsSearchReady s → AreMarked s.net s.request.agent first second third → length hops < count → count ≤ 3 → place ≡ count - length hops → mark_at first second third place unit ≡ false → NoneUnder s (to_unit count hops unit)
 unmarked s count hops unit place first second third ready m l most e f = record { none = λ q u. absurd (go q u (next_of s count hops q (unit ∷ []) l u)) }
   where
     key_head : (a d : ℕ) (x y : List ℕ) → (a ∷ x) ≡ (d ∷ y) → a ≡ d
@@ -284,42 +284,85 @@ ends_with s count hops q l u = go (cases_lt (length hops) count)
     go (inl m) = let w = next_of s count hops q [] m (subst (λ f. IsUnder s f q) (sym (append_none (key_of_hops count hops))) u) in (w.opens.before ++ w.opens.hop ∷ [], w.opens.ends ∙ sym (append_assoc w.opens.before (w.opens.hop ∷ []) hops))
     go (inr m) = ([], all (omega arith))
 
--- an input that the address asked for does not reach
-pub not_allowed : (s : Sought) (count : ℕ) (hops : List Hop) (unit port y x : ℕ) (u : UnitPart) (entry : Option End) → IsSearchReady s → IsEntry s entry → length hops < count → count ≡ suc (length hops) → unit_at s.net unit ≡ Some u → (s.at ≡ None → ⊥) → (entry ≡ Some (record { node = unit; base = x }) → ⊥) → NoneUnder s (to_output count hops unit port y ++ x ∷ [])
-not_allowed s count hops unit port y x u entry ready e l one unit_is asked other = record { none = λ q v. absurd (go q v s.at refl) }
+-- where an address is asked for, the first hop from the agent's end has the input that the address reaches
+pub entered : (s : Sought) (count : ℕ) (hops : List Hop) (q : Place) (given : List ℕ) (entry : Option End) → IsSearchReady s → IsEntry s.net s.request.agent s.at entry → count ≡ suc (length hops) → (entry ≡ None → ⊥) → IsUnder s (key_of_hops count hops ++ given) q → (w : Next s count hops q given) → entry ≡ Some (record { node = w.opens.hop.unit; base = w.opens.hop.x })
+entered s count hops q given entry ready e one asked v w = go s.at refl
   where
-    front : List ℕ
-    front = key_of_hops count hops
-
-    heads : (a b c d a' b' c' d' : ℕ) (m r : List ℕ) → (a ∷ b ∷ c ∷ d ∷ m) ≡ (a' ∷ b' ∷ c' ∷ d' ∷ r) → (a ≡ a') × (d ≡ d')
-    heads a b c d a' b' c' d' m r p = (cc, cc)
-
     key_head : (a d : ℕ) (m r : List ℕ) → (a ∷ m) ≡ (d ∷ r) → a ≡ d
     key_head a d m r p = cc
 
-    nested : to_output count hops unit port y ++ x ∷ [] ≡ front ++ (unit ∷ port ∷ y ∷ x ∷ [])
-    nested = one_more (to_port count hops unit port) y (x ∷ []) ∙ one_more (to_unit count hops unit) port (y ∷ x ∷ []) ∙ one_more front unit (port ∷ y ∷ x ∷ [])
-
-    made : (m n b c : ℕ) → m ≡ n → b ≡ c → ◌≡◌ {A = End} (record { node = m; base = b }) (record { node = n; base = c })
-    made m n b c p r = cc
+    plain : (m b : ℕ) → ◌≡◌ {A = End} (record { node = m; base = b + 0 }) (record { node = m; base = b })
+    plain m b = let k : b + 0 ≡ b = omega arith in ap (λ (n : ℕ). record { node = m; base = n }) k
 
     bare : (before : List Hop) → length before ≡ 0 → before ≡ []
     bare [] p = refl
     bare (h ∷ before) p = absurd (omega arith)
 
-    go : (q : Place) → IsUnder s (to_output count hops unit port y ++ x ∷ []) q → (at : Option ℕ) → s.at ≡ at → ⊥
-    go q v None p = asked p
-    go q v (Some at) p =
-        let w = next_of s count hops q (unit ∷ port ∷ y ∷ x ∷ []) l (subst (λ f. IsUnder s f q) nested v) in
-        let same = heads w.opens.hop.unit w.opens.hop.port w.opens.hop.y w.opens.hop.x unit port y x w.opens.rest w.rest w.split in
+    go : (at : Option ℕ) → s.at ≡ at → entry ≡ Some (record { node = w.opens.hop.unit; base = w.opens.hop.x })
+    go None p = absurd (asked (e.unasked p))
+    go (Some at) p =
         let number : length q.hops ≡ count = key_head (length q.hops) count (hops_key q.hops ++ (q.v ∷ hop_page s.net (slice_get q.hops q.own) ∷ (length q.hops - q.own) ∷ [])) (hops_key hops ++ numbers w.opens.hop w.opens.rest) w.opens.key in
         let long : length q.hops ≡ length w.opens.before + suc (length hops) = ap length w.opens.ends ∙ length-append w.opens.before (w.opens.hop ∷ hops) in
         let alone = w.opens.ends ∙ ap (λ (b : List Hop). b ++ (w.opens.hop ∷ hops)) (bare w.opens.before (omega arith)) in
         let here : q.v ≡ at = subst (λ (o : Option ℕ). IsAt o q.v) p v.is.is_at in
         let meets : StopsAt s.net (name_on s.request.agent q.v 0) (name_on w.opens.hop.unit w.opens.hop.x 0) = (subst (λ (h : List Hop). Meets s.net s.request s.request.agent q.v h) alone v.is.is_placement.meets) 0 ready.some in
-        let given = subst (λ (n : ℕ). StopsAt s.net (record { node = s.request.agent; addr = n }) (name_on w.opens.hop.unit w.opens.hop.x 0)) (let k : q.v + 0 ≡ at = omega arith in k) meets in
+        let given_at = subst (λ (n : ℕ). StopsAt s.net (record { node = s.request.agent; addr = n }) (name_on w.opens.hop.unit w.opens.hop.x 0)) (let k : q.v + 0 ≡ at = omega arith in k) meets in
         let low : at ≤ top = omega (arith, v.is.is_placement.fits, ready.some) in
-        other (e at (name_on w.opens.hop.unit w.opens.hop.x 0) p low given ∙ ap (λ (z : End). Some z) (made w.opens.hop.unit unit (w.opens.hop.x + 0) x same.0 (omega (arith, same.1))))
+        e.reached at (name_on w.opens.hop.unit w.opens.hop.x 0) p low given_at ∙ ap (λ (z : End). Some z) (plain w.opens.hop.unit w.opens.hop.x)
+
+-- an input that the address asked for does not reach
+pub not_entered : (s : Sought) (count : ℕ) (hops : List Hop) (unit port y x : ℕ) (entry : Option End) → IsSearchReady s → IsEntry s.net s.request.agent s.at entry → length hops < count → count ≡ suc (length hops) → (entry ≡ None → ⊥) → ((z : End) → entry ≡ Some z → z.base ≡ x → ⊥) → NoneUnder s (to_output count hops unit port y ++ x ∷ [])
+not_entered s count hops unit port y x entry ready e l one asked other = record { none = λ q v. absurd (go q v) }
+  where
+    given : List ℕ
+    given = unit ∷ port ∷ y ∷ x ∷ []
+
+    last : (a b c d a' b' c' d' : ℕ) (m r : List ℕ) → (a ∷ b ∷ c ∷ d ∷ m) ≡ (a' ∷ b' ∷ c' ∷ d' ∷ r) → d ≡ d'
+    last a b c d a' b' c' d' m r p = cc
+
+    nested : to_output count hops unit port y ++ x ∷ [] ≡ key_of_hops count hops ++ given
+    nested = one_more (to_port count hops unit port) y (x ∷ []) ∙ one_more (to_unit count hops unit) port (y ∷ x ∷ []) ∙ one_more (key_of_hops count hops) unit (port ∷ y ∷ x ∷ [])
+
+    go : (q : Place) → IsUnder s (to_output count hops unit port y ++ x ∷ []) q → ⊥
+    go q v =
+        let u = subst (λ f. IsUnder s f q) nested v in
+        let w = next_of s count hops q given l u in
+        other (record { node = w.opens.hop.unit; base = w.opens.hop.x }) (entered s count hops q given entry ready e one asked u w) (last w.opens.hop.unit w.opens.hop.port w.opens.hop.y w.opens.hop.x unit port y x w.opens.rest w.rest w.split)
+
+-- a unit that the address asked for does not reach
+pub unentered : (s : Sought) (count : ℕ) (hops : List Hop) (unit : ℕ) (entry : Option End) → IsSearchReady s → IsEntry s.net s.request.agent s.at entry → length hops < count → count ≡ suc (length hops) → (entry ≡ None → ⊥) → ((x : ℕ) → entry ≡ Some (record { node = unit; base = x }) → ⊥) → NoneUnder s (to_unit count hops unit)
+unentered s count hops unit entry ready e l one asked other = record { none = λ q v. absurd (go q v) }
+  where
+    go : (q : Place) → IsUnder s (to_unit count hops unit) q → ⊥
+    go q v =
+        let w = next_of s count hops q (unit ∷ []) l v in
+        other w.opens.hop.x (entered s count hops q (unit ∷ []) entry ready e one asked v w ∙ ap (λ (n : ℕ). Some (record { node = n; base = w.opens.hop.x })) (unit_of s count hops q unit w))
+
+-- where no other input goes on, the first with an input is the first with the output
+pub only_input : (s : Sought) (count : ℕ) (hops : List Hop) (unit port y x : ℕ) (u : UnitPart) (found : Option Place) → length hops < count → unit_at s.net unit ≡ Some u → ((j : ℕ) → (j ≡ x → ⊥) → NoneUnder s (to_output count hops unit port y ++ j ∷ [])) → IsFirstOrNone s (to_output count hops unit port y ++ x ∷ []) found → IsFirstOrNone s (to_output count hops unit port y) found
+only_input s count hops unit port y x u None l e others a = none_left s (to_output count hops unit port y) (x + 1) (next_one s (to_output count hops unit port y) x (below x) a) goes
+  where
+    below : (x : ℕ) → NoneBelow s (to_output count hops unit port y) x
+    below x = leapt s (to_output count hops unit port y) 0 x (begun s (to_output count hops unit port y)) (λ q j m n v. (others j (λ p. differ j p n)).none q v)
+      where
+        differ : (j : ℕ) → j ≡ x → j < x → ⊥
+        differ j p n = omega arith
+
+    goes : (q : Place) → IsUnder s (to_output count hops unit port y) q → (j : ℕ) × (j < x + 1) × Begins (to_output count hops unit port y ++ j ∷ []) (key_of s.net q)
+    goes q v = let w = through_output s count hops q unit port y u l e v in by w (cases_order w.x x)
+      where
+        by : (w : Output s u hops q unit port y (to_output count hops unit port y)) → (w.x ≡ x) ⊎ ((w.x < x) ⊎ (x < w.x)) → (j : ℕ) × (j < x + 1) × Begins (to_output count hops unit port y ++ j ∷ []) (key_of s.net q)
+        by w (inl p) = (w.x, omega arith, (w.rest, w.key ∙ sym (one_more (to_output count hops unit port y) w.x w.rest)))
+        by w (inr (inl p)) = (w.x, omega arith, (w.rest, w.key ∙ sym (one_more (to_output count hops unit port y) w.x w.rest)))
+        by w (inr (inr p)) = absurd ((others w.x (λ f. omega arith)).none q (record { is = v.is; begins = (w.rest, w.key ∙ sym (one_more (to_output count hops unit port y) w.x w.rest)) }))
+only_input s count hops unit port y x u (Some p) l e others a = found_first s (to_output count hops unit port y) x p (leapt s (to_output count hops unit port y) 0 x (begun s (to_output count hops unit port y)) (λ q j m n v. (others j (λ f. differ j f n)).none q v)) a
+  where
+    differ : (j : ℕ) → j ≡ x → j < x → ⊥
+    differ j f n = omega arith
+
+-- an input that does not agree with the output, or past the unit's end, or whose slots are not usable
+pub not_joined : (s : Sought) (count : ℕ) (hops : List Hop) (unit port y x : ℕ) (u : UnitPart) → length hops < count → unit_at s.net unit ≡ Some u → (JoinsIn s u (record { unit = unit; port = port; x = x; y = y }) hops → ⊥) → NoneUnder s (to_output count hops unit port y ++ x ∷ [])
+not_joined s count hops unit port y x u l e unjoined = record { none = λ q v. absurd (unjoined (x_of s count hops unit port y x u l e q v).joins) }
 
 -- inputs that slots bar
 pub inputs_barred : (s : Sought) (count : ℕ) (hops : List Hop) (unit port y x to : ℕ) (u : UnitPart) → length hops < count → unit_at s.net unit ≡ Some u → x % 2 ^ u.page ≡ y % 2 ^ u.page → AreBarred s u (record { unit = unit; port = port; x = x; y = y }) to → NoneBelow s (to_output count hops unit port y) x → NoneBelow s (to_output count hops unit port y) to
@@ -328,9 +371,6 @@ inputs_barred s count hops unit port y x to u l e agree barred below = leapt s _
 -- the answer for a whole hop is the answer for its input
 pub answered_input : (s : Sought) (count : ℕ) (hops : List Hop) (unit port y x : ℕ) (found : Option Place) → IsFirstOrNone s (key_of_hops count (record { unit = unit; port = port; x = x; y = y } ∷ hops)) found → IsFirstOrNone s (to_output count hops unit port y ++ x ∷ []) found
 answered_input s count hops unit port y x found a = subst (λ f. IsFirstOrNone s f found) (sym (behind count hops unit port y x)) a
-
-pub none_ending : (s : Sought) (count : ℕ) (hops : List Hop) (unit port y x : ℕ) → NoneUnder s (to_output count hops unit port y ++ x ∷ []) → NoneUnder s (key_of_hops count (record { unit = unit; port = port; x = x; y = y } ∷ hops))
-none_ending s count hops unit port y x a = subst (λ f. NoneUnder s f) (behind count hops unit port y x) a
 
 -- where the last slot that is not usable shuts the inputs up to a slot, the hops that begin before it are barred
 pub shut_bars : (s : Sought) (u : UnitPart) (hop : Hop) (q to : ℕ) → 1 ≤ s.request.size → hop.x / 2 ^ u.page ≤ q → q ≤ (hop.x + s.request.size - 1) / 2 ^ u.page → to ≤ q + 1 → AreShut (slot_of s.slots hop.unit q) q (hop.x / 2 ^ u.page) to hop.port (hop.y / 2 ^ u.page) → AreBarred s u hop (to * 2 ^ u.page + hop.x % 2 ^ u.page)

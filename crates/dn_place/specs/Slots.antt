@@ -1,5 +1,7 @@
 -- What a hop meets in the slots of a unit.
-use Rattle.std.specs.Prelude.{◌≡◌, ℕ, ◌+◌, ◌-◌, ◌*◌, ◌/◌, ◌%◌, ◌^◌, ◌<◌, ◌≤◌, Bool, true, false, not, if◌then◌else◌, ◌&&◌, ◌==◌, nat_eq, Option, Some, None, IsTrue}
+use Rattle.std.specs.Prelude.{◌≡◌, ℕ, ◌+◌, ◌-◌, ◌*◌, ◌/◌, ◌%◌, ◌^◌, ◌<◌, ◌≤◌, Bool, true, false, not, if◌then◌else◌, ◌&&◌, ◌==◌, nat_eq, List, Option, Some, None, IsTrue}
+use Rattle.dn_interval.specs.declared.row.End.{End}
+use Rattle.dn_net.specs.declared.node.NodeDecl.{NodeDecl}
 use Rattle.dn_net.specs.declared.node.Unit.{Unit as UnitPart}
 use Rattle.dn_net.specs.Decode.{unit_at}
 use Rattle.dn_kind.specs.declared.unit_kind.Record.{Record}
@@ -58,3 +60,8 @@ abbrev pub AreBarred : Sought → UnitPart → Hop → ℕ → Type 0
 AreBarred s u hop to = (x : ℕ) → hop.x ≤ x → x < to → x % 2 ^ u.page ≡ hop.x % 2 ^ u.page →
     AreUsable s.slots hop.unit (x / 2 ^ u.page) ((x + s.request.size - 1) / 2 ^ u.page) hop.port
     (hop.y / 2 ^ u.page) → ⊥
+
+-- no hop may take the slot of a name, or it is in no slot of a unit
+abbrev pub IsBarred : List NodeDecl → Slots → End → Type 0
+IsBarred net slots name = (u : UnitPart) → unit_at net name.node ≡ Some u →
+    name.base / 2 ^ u.page < u.slots → slot_of slots name.node (name.base / 2 ^ u.page) ≡ Barred

@@ -3,7 +3,7 @@ use Rattle.dn_base.proofs.Lists.{drop_at}
 use Rattle.dn_interval.specs.declared.row.Row.{Row}
 use Rattle.dn_flat.specs.Levels.{levels_give}
 use Rattle.dn_place.proofs.Toward.{level_gives, level_passed}
-use Rattle.dn_place.proofs.marks.stop_of.Goals as goal
+use Rattle.dn_place.proofs.entry.stop_of.Goals as goal
 
 pub returns-in-Some-clause-given : goal.returns-in-Some-clause-given
 returns-in-Some-clause-given c =

@@ -1,6 +1,6 @@
 use Rattle.std.proofs.Common.{sym}
 use Rattle.dn_place.proofs.Marked.{given_there, named, none_given}
-use Rattle.dn_place.proofs.marks.stop_in.Goals as goal
+use Rattle.dn_place.proofs.entry.stop_in.Goals as goal
 
 pub returns-in_err-row-clause-none : goal.returns-in_err-row-clause-none
 returns-in_err-row-clause-none c = rw c.from_residual.ensures (λ z. none_given c.args.rows.now c.args.a z (sym c.in_err-row.ensures.none))
