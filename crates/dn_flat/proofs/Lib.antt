@@ -1,5 +1,6 @@
 pub mod Bounds
 pub mod Chains
+pub mod Crowds
 pub mod Firsts
 pub mod Frontier
 pub mod Going

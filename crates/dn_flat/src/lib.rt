@@ -5,6 +5,7 @@
 //! [`flats::flatten_all`] from every node.
 #![tactic(auto)]
 
+mod crowds;
 pub mod flat;
 pub mod flats;
 mod found;

@@ -1,9 +1,8 @@
 //! The stop of the address that is asked for: the one name that the first hop can enter.
 
-ghost use Rattle.std.specs.Prelude.{◌≡◌, ◌<◌, ◌-◌, ◌/◌, ◌^◌, ℕ, false, true, length, map, Some, IfSome, IfNone, IsTrue};
+ghost use Rattle.std.specs.Prelude.{◌≡◌, ◌<◌, ◌-◌, true, length, map, IfSome, IfNone, IsTrue};
 ghost use Rattle.dn_interval.specs.declared.row.End.{End};
 ghost use Rattle.dn_interval.specs.Terms.{EndsFit, GivenBy, HasEnds, Member, further_end, in_span};
-ghost use Rattle.dn_net.specs.Terms.{StopsAt};
 ghost use Rattle.dn_flat.specs.Terms.{levels_give};
 ghost use Rattle.dn_place.specs.Terms.{IsEntry, ReachOneStop};
 
